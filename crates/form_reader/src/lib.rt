@@ -1,0 +1,6 @@
+//! The forms that a source text spells.
+#![tactic(auto)]
+
+mod forms;
+
+pub use forms::{Forms, Kind, Node};

@@ -1,0 +1,5 @@
+pub mod Apply
+pub mod Merge
+pub mod Table
+pub mod Token
+pub mod Refuses

@@ -1,0 +1,8 @@
+//! Programs, and what they mean.
+#![tactic(auto)]
+
+mod program;
+
+pub use program::{
+    Branch, Def, Expr, ExprKind, Form, FormKind, Label, Pin, Process, Program, Way, What,
+};
