@@ -1,0 +1,35 @@
+-- Forms whose nodes are in text order.
+use Rattle.std.specs.Prelude.{◌≡◌, ℕ, ◌<◌, List, [], ◌∷◌, length, slice_index, slice_index_or}
+use Rattle.form_reader.specs.declared.forms.Kind.{Kind}
+use Rattle.form_reader.specs.declared.forms.Kind.TheVariants.{Number, Group}
+use Rattle.form_reader.specs.declared.forms.Node.{Node}
+use Rattle.form_reader.specs.declared.forms.Forms.{Forms}
+
+-- what stands past the end of the nodes
+abbrev pub no_node : Node
+no_node = record { place = record { offset = 0; line = 0; column = 0 }; kind = Number 0 }
+
+abbrev pub node : Forms → ℕ → Node
+node f i = slice_index_or f.nodes i no_node
+
+abbrev pub kind_at : Forms → ℕ → Kind
+kind_at f i = (node f i).kind
+
+-- the items of a list, and none of a number or symbol
+abbrev pub items_of : Kind → List ℕ
+items_of (Group items) = items
+items_of _ = []
+
+-- node m is the item of node n at j
+abbrev pub IsItem : Forms → ℕ → ℕ → ℕ → Type 0
+IsItem f n j m = (n < length f.nodes) × (j < length (items_of (kind_at f n))) × (m ≡ slice_index (items_of (kind_at f n)) j)
+
+-- items stand behind their list, each node is an item once at most, and the offsets ascend
+pub record IsSound (f : Forms) : Type 0 where
+  pub behind : (n j m : ℕ) → IsItem f n j m → (n < m) × (m < length f.nodes)
+  pub one_list : (a b i j m : ℕ) → IsItem f a i m → IsItem f b j m → a ≡ b
+  pub one_place : (a b i j m : ℕ) → IsItem f a i m → IsItem f b j m → i ≡ j
+  pub first : (r : ℕ) (rs : List ℕ) → f.roots ≡ r ∷ rs → r ≡ 0
+  pub roots : (k : ℕ) → k < length f.roots → slice_index f.roots k < length f.nodes
+  pub apart : (a b : ℕ) (rs : List ℕ) → f.roots ≡ a ∷ b ∷ rs → (a < b) × ((n j m : ℕ) → IsItem f n j m → n < b → m < b)
+  pub ascend : (i j : ℕ) → i < j → j < length f.nodes → (node f i).place.offset < (node f j).place.offset
