@@ -1,7 +1,7 @@
 //! Tables for operators, and files and outputs of which each call fails in turn.
 
 use crate::{
-    Depot, Failed, List, MemDepot, MemSink, Op, ReadError, Sink, Trit, Word, append_all, join,
+    Depot, Failed, List, MemDepot, MemSink, Op, ReadError, Sink, Trit, Word, join,
     read_file, store, write_all,
 };
 use std::alloc::{AllocError, Global};
@@ -118,8 +118,7 @@ fn each_read_fails(rt: HostRuntime) -> Result<(), Fail> {
         assert_eq!(rt; read(alloc, call, name, limit)?, result);
     }
     let mut depot = MemDepot::new(alloc, 2, listed(alloc, 9)?);
-    depot.create("a").map_err(|_| "create")?;
-    append_all(&mut depot, "a", b"hello").map_err(|_| "append")?;
+    depot.put("a", b"hello")?;
     let mut buf = [0; 3];
     assert_eq!(rt; depot.read_at("a", 3, &mut buf), Ok(2));
     assert_eq!(rt; depot.read_at("a", 7, &mut buf), Ok(0));
