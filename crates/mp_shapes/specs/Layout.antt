@@ -56,13 +56,15 @@ three (Number v) what = supply_of (word_of what)
 three (Symbol x) what = stored_of (word_of what)
 three (Group items) what = None
 
+abbrev pub internal : List ℕ → Option Definition
+internal x = cond (bytes_eq x (codes "port")) (Some PortInternal) (when (bytes_eq x (codes "signal")) SignalInternal)
+
 -- (def SYMBOL constant NUMBER), (def SYMBOL port internal), (def SYMBOL signal internal)
 abbrev pub four : Kind → Kind → Kind → Option Definition
-four (Symbol x) what last = cond (bytes_eq (word_of what) (codes "constant")) (when (is_number last) Constant)
-    (cond (bytes_eq (word_of last) (codes "internal"))
-        (cond (bytes_eq (word_of what) (codes "port")) (Some PortInternal) (when (bytes_eq (word_of what) (codes "signal")) SignalInternal))
-        None)
-four _ what last = None
+four name what last = cond (is_symbol name)
+    (cond (bytes_eq (word_of what) (codes "constant")) (when (is_number last) Constant)
+    (cond (bytes_eq (word_of last) (codes "internal")) (internal (word_of what)) None))
+    None
 
 -- the way of a pad: of these two, the one that is named
 abbrev pub way : List ℕ → Definition → Definition → Option Definition
@@ -70,10 +72,11 @@ way x inward outward = cond (bytes_eq x (codes "input")) (Some inward) (when (by
 
 -- (def SYMBOL port input (NUMBER+)), (def SYMBOL signal input NUMBER), and the same with output
 abbrev pub five : Forms → Kind → Kind → Kind → Kind → Option Definition
-five f (Symbol x) what named last = cond (bytes_eq (word_of what) (codes "port"))
-    (cond (is_pins f last) (way (word_of named) PortInput PortOutput) None)
-    (cond (bytes_eq (word_of what) (codes "signal") && is_number last) (way (word_of named) SignalInput SignalOutput) None)
-five f _ what named last = None
+five f name what named last = cond (is_symbol name)
+    (cond (bytes_eq (word_of what) (codes "port")) (cond (is_pins f last) (way (word_of named) PortInput PortOutput) None)
+    (cond (bytes_eq (word_of what) (codes "signal")) (cond (is_number last) (way (word_of named) SignalInput SignalOutput) None)
+    None))
+    None
 
 -- what a def with these items defines
 abbrev pub definition : Forms → List ℕ → Option Definition
@@ -158,19 +161,16 @@ applied None n = None
 abbrev pub value_layout : List ℕ → ℕ → Option Layout
 value_layout x n = cond (bytes_eq x (codes "bit")) (when (n == 3) Bit) (applied (op_of x) n)
 
--- a list with a head, by the bytes of the head and all items
+-- a list that isn't empty, by the bytes of its head and all its items; only a branch has no head
 abbrev pub list_layout : Forms → Class → List ℕ → List ℕ → Option Layout
 list_layout f Whole x items = when (bytes_eq x (codes "program") && nat_le 3 (length items)) Program
 list_layout f Item x items = item_layout f x items
 list_layout f Element x items = form_layout x (length items)
 list_layout f Action x items = form_layout x (length items)
+list_layout f Branch x items = Some Guarded
 list_layout f Value x items = value_layout x (length items)
-list_layout f _ x items = None
-
--- a list that isn't empty: a branch has no head, and every other head is a symbol
-abbrev pub group_layout : Forms → Class → List ℕ → Option Layout
-group_layout f Branch items = Some Guarded
-group_layout f c items = list_layout f c (word_of (kind_at f (slice_index items 0))) items
+list_layout f Word x items = None
+list_layout f Numeral x items = None
 
 abbrev pub number_layout : Class → Option Layout
 number_layout Value = Some Leaf
@@ -187,7 +187,7 @@ symbol_layout _ = None
 abbrev pub layout : Forms → Class → Kind → Option Layout
 layout f c (Number v) = number_layout c
 layout f c (Symbol x) = symbol_layout c
-layout f c (Group items) = cond (length items == 0) None (group_layout f c items)
+layout f c (Group items) = cond (length items == 0) None (list_layout f c (word_of (kind_at f (slice_index items 0))) items)
 
 -- what the items of a list are, by their index
 abbrev pub behind_head : ℕ → Class → Option Class
