@@ -1,8 +1,9 @@
 -- The program that forms spell: one entry for each node that stands for an expression or a form, and one for each item.
-use Rattle.std.specs.Prelude.{◌≡◌, ℕ, ◌+◌, ◌≤◌, List, [], ◌∷◌, Bool, true, false, cond, not, length, map, codes, drop, Option, Some, None, slice_index, slice_index_or}
+use Rattle.std.specs.Prelude.{◌≡◌, ◌⊎◌, ℕ, ◌+◌, ◌<◌, List, [], ◌∷◌, Bool, true, false, cond, not, length, map, codes, drop, Option, Some, None, slice_index, slice_index_or}
 use Rattle.std.specs.List.{filter, filter_map, flat_map, range_with_len}
 use Rattle.std.specs.Str.{bytes_eq}
 use Rattle.mp_base.specs.declared.op.Op.TheVariants as ops
+use Rattle.mp_base.specs.declared.refusal.Place.{Place}
 use Rattle.form_reader.specs.declared.forms.Kind.{Kind}
 use Rattle.form_reader.specs.declared.forms.Kind.TheVariants as kinds
 use Rattle.form_reader.specs.declared.forms.Forms.{Forms}
@@ -14,7 +15,7 @@ use Rattle.mp_shapes.specs.declared.table.Definition.TheVariants as definitions
 use Rattle.mp_shapes.specs.declared.table.Layout.{Layout}
 use Rattle.mp_shapes.specs.declared.table.Layout.TheVariants as layouts
 use Rattle.mp_shapes.specs.Layout.{word_of, is_symbol, layout}
-use Rattle.mp_shapes.specs.Standing.{AreClasses}
+use Rattle.mp_shapes.specs.Standing.{AreClasses, E10, IsFirstE10}
 use Rattle.mp_program.specs.declared.program.ExprKind.{ExprKind}
 use Rattle.mp_program.specs.declared.program.ExprKind.TheVariants as exprs
 use Rattle.mp_program.specs.declared.program.FormKind.{FormKind}
@@ -168,33 +169,42 @@ abbrev pub process_in : Forms → (ℕ → ℕ) → ℕ → Option Layout → Op
 process_in f form n (Some layouts.Process) = Some (process_of f form n (items_of (kind_at f n)))
 process_in f form n _ = None
 
-abbrev pub item_layout : Forms → ℕ → Option Layout
-item_layout f n = layout f classes.Item (kind_at f n)
+abbrev pub def_at : Forms → ℕ → Option Def
+def_at f n = def_in f n (layout f classes.Item (kind_at f n))
 
--- PROGRAM, at its node, where each node has its class
-abbrev pub program_at : Forms → List (Option Class) → ℕ → Program
-program_at f cs n =
-    let items = items_of (kind_at f n) in
-    let count = length f.nodes in
-    let expr = slice_index (ranks (is_expr cs) count) in
-    let form = slice_index (ranks (is_form f cs) count) in
-    record {
-      place = (node f n).place;
-      name = name_at f (slice_index items 1);
-      width = number_at f (slice_index items 2);
-      defs = filter_map (λ i. def_in f i (item_layout f i)) (drop 3 items);
-      exprs = map (expr_at f expr) (nodes_below (is_expr cs) count);
-      forms = map (form_at f expr form) (nodes_below (is_form f cs) count);
-      always = flat_map (λ i. always_in f form i (item_layout f i)) (drop 3 items);
-      processes = filter_map (λ i. process_in f form i (item_layout f i)) (drop 3 items);
-    }
+abbrev pub always_at : Forms → (ℕ → ℕ) → ℕ → List ℕ
+always_at f form n = always_in f form n (layout f classes.Item (kind_at f n))
 
--- one form, in which no node has a defect, and whose word length is 1 to 32
+abbrev pub process_at : Forms → (ℕ → ℕ) → ℕ → Option Process
+process_at f form n = process_in f form n (layout f classes.Item (kind_at f n))
+
+-- the index of the expression and of the form at a node
+abbrev pub expr_index : Forms → List (Option Class) → ℕ → ℕ
+expr_index f cs = slice_index (ranks (is_expr cs) (length f.nodes))
+
+abbrev pub form_index : Forms → List (Option Class) → ℕ → ℕ
+form_index f cs = slice_index (ranks (is_form f cs) (length f.nodes))
+
+-- PROGRAM: one form, in which no node has a defect. Expressions and forms follow the nodes in text order, the rest follows the items.
 pub record IsShape (f : Forms) (p : Program) : Type 0 where
   pub root : ℕ
   pub classes : List (Option Class)
   pub one : f.roots ≡ root ∷ []
-  pub read : AreClasses f classes
-  pub low : 1 ≤ p.width
-  pub high : p.width ≤ 32
-  pub program : p ≡ program_at f classes root
+  pub known : AreClasses f classes
+  pub place : p.place ≡ (node f root).place
+  pub name : p.name ≡ name_at f (slice_index (items_of (kind_at f root)) 1)
+  pub width : p.width ≡ number_at f (slice_index (items_of (kind_at f root)) 2)
+  pub defs : p.defs ≡ filter_map (def_at f) (drop 3 (items_of (kind_at f root)))
+  pub exprs : p.exprs ≡ map (expr_at f (expr_index f classes)) (nodes_below (is_expr classes) (length f.nodes))
+  pub forms : p.forms ≡ map (form_at f (expr_index f classes) (form_index f classes)) (nodes_below (is_form f classes) (length f.nodes))
+  pub always : p.always ≡ flat_map (always_at f (form_index f classes)) (drop 3 (items_of (kind_at f root)))
+  pub processes : p.processes ≡ filter_map (process_at f (form_index f classes)) (drop 3 (items_of (kind_at f root)))
+
+-- rule E11, by the place: the word length is 0 or over 32
+abbrev pub E11 : Forms → Place → Type 0
+E11 f at = (r n v : ℕ) × (rs : List ℕ) × (f.roots ≡ r ∷ rs) × (layout f classes.Whole (kind_at f r) ≡ Some layouts.Program) × (n ≡ slice_index (items_of (kind_at f r)) 2)
+    × (kind_at f n ≡ kinds.Number v) × ((v ≡ 0) ⊎ (32 < v)) × (at ≡ (node f n).place)
+
+-- the first broken rule: E10, by offset, and then E11
+abbrev pub IsFirst : Forms → ℕ → Place → Type 0
+IsFirst f k at = ((k ≡ 10) × IsFirstE10 f at) ⊎ ((k ≡ 11) × E11 f at × ((there : Place) → E10 f there → ⊥))

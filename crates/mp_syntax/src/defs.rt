@@ -3,7 +3,7 @@
 ghost use Rattle.std.specs.Prelude.{◌≡◌, ◌<◌, ℕ, IfOk, length, map, slice_index};
 ghost use Rattle.std.specs.List.{filter_map};
 ghost use Rattle.form_reader.specs.Sound.{IsSound, items_of, kind_at};
-ghost use Rattle.mp_syntax.specs.Shape.{def_in, def_of, item_layout, pin_at, pin_nodes, what_of};
+ghost use Rattle.mp_syntax.specs.Shape.{def_at, def_of, pin_at, pin_nodes, what_of};
 
 use crate::nodes::{item, items_at, name_at, node_at, number_at};
 use form_reader::Forms;
@@ -99,7 +99,7 @@ fn def_of(
 pub fn defs_of(alloc: Global, forms: &Forms, items: &[u32]) -> Result<List<Def>, AllocError>
     requires sound { IsSound forms.now }
     requires inside { (k : ℕ) → k < length items.now → slice_index items.now k < length forms.now.nodes }
-    ensures { IfOk result (λ defs. defs ≡ filter_map (λ n. def_in forms.now n (item_layout forms.now n)) items.now) }
+    ensures { IfOk result (λ defs. defs ≡ filter_map (def_at forms.now) items.now) }
 {
     let mut defs = List::new(alloc);
     for node in items {

@@ -4,7 +4,7 @@ ghost use Rattle.std.specs.Prelude.{◌≡◌, ◌<◌, ◌^◌, ℕ, IfOk, leng
 ghost use Rattle.std.specs.List.{filter, filter_map, flat_map};
 ghost use Rattle.form_reader.specs.Sound.{IsSound, items_of, kind_at};
 ghost use Rattle.mp_shapes.specs.Layout.{is_symbol};
-ghost use Rattle.mp_syntax.specs.Shape.{always_in, item_layout, labels_from, process_in, process_of};
+ghost use Rattle.mp_syntax.specs.Shape.{always_at, labels_from, process_at, process_of};
 
 use crate::exprs::append_entries;
 use crate::nodes::{behind, is_symbol, item, items_at, name_at, node_at, number_at};
@@ -86,7 +86,7 @@ pub fn processes_of(
     requires sound { IsSound forms.now }
     requires inside { (k : ℕ) → k < length items.now → slice_index items.now k < length forms.now.nodes }
     requires small { length forms.now.nodes < 2 ^ 32 }
-    ensures { IfOk result (λ processes. processes ≡ filter_map (λ n. process_in forms.now (slice_index ranks.now) n (item_layout forms.now n)) items.now) }
+    ensures { IfOk result (λ processes. processes ≡ filter_map (process_at forms.now (slice_index ranks.now)) items.now) }
 {
     let mut processes = List::new(alloc);
     for node in items {
@@ -106,7 +106,7 @@ pub fn always_of(
 ) -> Result<List<u32>, AllocError>
     requires sound { IsSound forms.now }
     requires inside { (k : ℕ) → k < length items.now → slice_index items.now k < length forms.now.nodes }
-    ensures { IfOk result (λ list. list ≡ flat_map (λ n. always_in forms.now (slice_index ranks.now) n (item_layout forms.now n)) items.now) }
+    ensures { IfOk result (λ list. list ≡ flat_map (always_at forms.now (slice_index ranks.now)) items.now) }
 {
     let mut list = List::new(alloc);
     for node in items {
