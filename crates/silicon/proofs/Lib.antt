@@ -3,3 +3,5 @@ pub mod Printing
 pub mod Reasons
 pub mod EndsLemmas
 pub mod RunLemmas
+pub mod Determined
+pub mod FirstFault

@@ -6,6 +6,7 @@ mod command;
 mod files;
 mod halt;
 mod language;
+pub mod laws;
 mod line;
 mod top;
 mod trace;
