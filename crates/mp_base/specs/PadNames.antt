@@ -13,9 +13,13 @@ is_run (c ∷ cs) = list_all is_token (c ∷ cs)
 abbrev pub supplies : List (List ℕ)
 supplies = codes "vdd" ∷ codes "gnd" ∷ codes "phia" ∷ codes "phib" ∷ codes "phic" ∷ []
 
+-- the label of a supply or a phase
+abbrev pub is_supply : List ℕ → Bool
+is_supply name = list_any (λ label. bytes_eq name label) supplies
+
 -- a run of token characters that labels no supply and no phase
 abbrev pub is_pad_name : List ℕ → Bool
-is_pad_name name = is_run name && not (list_any (λ label. bytes_eq name label) supplies)
+is_pad_name name = is_run name && not (is_supply name)
 
 -- the names of these pads, inputs first
 abbrev pub names_of : {X : Type 0} → List X → List X → (X → List ℕ) → List (List ℕ)

@@ -8,9 +8,11 @@ mod name;
 mod op;
 mod outside;
 mod pad;
+mod pad_names;
 mod refusal;
 #[cfg(test)]
 mod tests;
+mod token;
 mod transfer;
 mod value;
 
@@ -22,5 +24,6 @@ pub use op::Op;
 pub use outside::{Depot, Failed, Sink};
 pub use pad::{Inputs, Outputs, Pad, Pads, TritOutputs};
 pub use refusal::{Broken, Family, NoMemory, Place, Refusal, Rule, Spot};
+pub use token::is_token;
 pub use transfer::{ReadError, append_all, read_file, store, write_all};
 pub use value::{Trit, TritWord, Word};
