@@ -1,11 +1,11 @@
 -- The steps of a scan, over the bytes passed.
-use Rattle.std.proofs.Common.{◌≡◌, ℕ, zero, suc, ◌+◌, ◌-◌, ◌*◌, ◌^◌, ◌<◌, ◌≤◌, List, [], ◌∷◌, ◌++◌, Bool, true, false, refl, sym, ◌∙◌, ap, length, take, drop, arith, get_or, append_assoc}
-use Rattle.std.specs.Prelude.{slice_range, ◌&&◌, not}
+use Rattle.std.proofs.Common.{◌≡◌, ℕ, ◌+◌, ◌-◌, ◌<◌, ◌≤◌, List, [], ◌∷◌, ◌++◌, Bool, true, false, refl, sym, ◌∙◌, ap, length, take, drop, arith, get_or, append_assoc}
+use Rattle.std.specs.Prelude.{slice_range, ◌&&◌}
 use Rattle.std.specs.List.{list_all}
-use Rattle.std.specs.Str.Parse.{digits_value}
 use Rattle.std.proofs.lemmas.List.{append-nil, take_more, get_or-drop, length-drop}
 use Rattle.std.proofs.lemmas.List.Folds.{list_all-append}
-use Rattle.form_reader.specs.Text.{is_gap, fills_gap, comment_step}
+use Rattle.mp_base.specs.declared.refusal.Place.{Place}
+use Rattle.form_reader.specs.Text.{is_gap, fills_gap, comment_step, place_at}
 
 -- one byte more
 pub range_more : (xs : List ℕ) (a i : ℕ) → a ≤ i → i < length xs → slice_range xs a (i + 1) ≡ slice_range xs a i ++ get_or xs i 0 ∷ []
@@ -41,3 +41,10 @@ not_in_comment false x h = refl
 pub closes : (c : Bool) → is_gap c (10 ∷ []) ≡ true
 closes true = refl
 closes false = refl
+
+-- a place that was reached is that of its offset
+pub own_place : (xs : List ℕ) (p : Place) (o : ℕ) → p ≡ place_at xs o → p ≡ place_at xs p.offset
+own_place xs p o e = let offset : p.offset ≡ o = ap (λ (q : Place). q.offset) e in e ∙ ap (place_at xs) (sym offset)
+
+pub offset_of : (xs : List ℕ) (p : Place) (o : ℕ) → p ≡ place_at xs o → p.offset ≡ o
+offset_of xs p o e = ap (λ (q : Place). q.offset) e

@@ -1,11 +1,11 @@
 -- What the reader keeps between the items of a list.
-use Rattle.std.specs.Prelude.{◌≡◌, ◌≢◌, ℕ, suc, zero, ◌+◌, ◌-◌, ◌<◌, ◌≤◌, List, [], ◌∷◌, ◌++◌, true, false, cond, ◌==◌, length, take, slice_index}
+use Rattle.std.specs.Prelude.{◌≡◌, ℕ, ◌+◌, ◌-◌, ◌<◌, ◌≤◌, List, [], ◌∷◌, ◌++◌, true, false, length, take, slice_index}
 use Rattle.mp_base.specs.Token.{is_token}
 use Rattle.mp_base.specs.declared.refusal.Place.{Place}
 use Rattle.form_reader.specs.declared.forms.Node.{Node}
 use Rattle.form_reader.specs.Text.{comment_after, IsGapBetween, EndsInGap, IsByte, place_at}
 use Rattle.form_reader.specs.Spelling.{Spelled}
-use Rattle.form_reader.specs.Rules.{IsOutside, depth_at, Breaks}
+use Rattle.form_reader.specs.Rules.{IsOpenUpTo, depth_at, Breaks}
 
 -- up to an offset only rule E2 may be broken; a token may begin there, outside comments and inside `depth` lists, of
 -- which the outermost begins at `outer`
@@ -15,11 +15,7 @@ pub record Clean (text : List ℕ) (depth outer at : ℕ) : Type 0 where
   pub depth_is : depth_at text at ≡ depth
   pub fine : (k o : ℕ) → o < at → Breaks text k o → k ≡ 2
   pub fresh : 0 < at → is_token (slice_index text at) ≡ true → is_token (slice_index text (at - 1)) ≡ false
-  pub opened : 0 < depth → IsOutside text outer × (slice_index text outer ≡ 40) × (depth_at text outer ≡ 0) × ((j : ℕ) → outer < j → j ≤ at → 0 < depth_at text j)
-
--- where the outermost list begins, inside one that begins at `start`
-abbrev pub outer_of : {A : Type 0} → ℕ → A → A → A
-outer_of depth outer start = cond (depth == 0) start outer
+  pub opened : 0 < depth → IsOpenUpTo text at outer
 
 -- the same of places
 pub record Reached (text : List ℕ) (depth : ℕ) (outer at : Place) : Type 0 where

@@ -34,9 +34,13 @@ IsDigitRun text s e =
 abbrev pub E1 : List ℕ → ℕ → Type 0
 E1 text o = IsOutside text o × ((is_blank (slice_index text o) || is_mark (slice_index text o) || is_token (slice_index text o)) ≡ false)
 
--- an outermost `(` that is never closed
+-- the list that begins at o, in no other, is open up to n
+abbrev pub IsOpenUpTo : List ℕ → ℕ → ℕ → Type 0
+IsOpenUpTo text n o = IsOutside text o × (slice_index text o ≡ 40) × (depth_at text o ≡ 0) × ((j : ℕ) → o < j → j ≤ n → 0 < depth_at text j)
+
+-- the outermost list that is open at the end
 abbrev pub E2 : List ℕ → ℕ → Type 0
-E2 text o = IsOutside text o × (slice_index text o ≡ 40) × (depth_at text o ≡ 0) × ((j : ℕ) → o < j → j ≤ length text → 0 < depth_at text j)
+E2 text o = IsOpenUpTo text (length text) o
 
 -- a `)` that closes nothing
 abbrev pub E3 : List ℕ → ℕ → Type 0

@@ -1,6 +1,6 @@
 //! Reading forms.
 
-ghost use Rattle.std.specs.Prelude.{◌≡◌, ◌≢◌, ℕ, ◌+◌, ◌<◌, ◌≤◌, ◌^◌, true, false, length, slice_index, IfOk, IfErr, OnOk};
+ghost use Rattle.std.specs.Prelude.{◌≡◌, ◌≢◌, ℕ, ◌+◌, ◌<◌, ◌≤◌, ◌^◌, true, false, length, slice_index, IfOk, IfErr, OnOk, MatchResult};
 ghost use Rattle.std.specs.List.{list_all};
 ghost use Rattle.std.specs.Str.Parse.{digits_value};
 ghost use Rattle.mp_base.specs.Token.{is_digit};
@@ -8,14 +8,15 @@ ghost use Rattle.mp_base.specs.Refuses.{RefusesAt};
 ghost use Rattle.mp_base.specs.declared.refusal.Family.TheVariants.{E};
 ghost use Rattle.mp_base.specs.declared.refusal.Spot.TheVariants.{At};
 ghost use Rattle.mp_base.specs.declared.refusal.Refusal.TheVariants as refusals;
+ghost use Rattle.form_reader.specs.declared.forms.Forms as forms;
 ghost use Rattle.form_reader.specs.Sound.{IsSound};
 ghost use Rattle.form_reader.specs.Spelling.{IsKindOf, Spells};
 ghost use Rattle.form_reader.specs.Rules.{Breaks, RefusesFirst};
 ghost use Rattle.form_reader.specs.Text.{fills_gap, IsByte};
-ghost use Rattle.form_reader.specs.Reading.{Reached, AddsItem, HasListed, outer_of};
+ghost use Rattle.form_reader.specs.Reading.{Reached, AddsItem, HasListed};
 
 use crate::forms::{Forms, Kind, Node};
-use crate::text::{all_digits, behind, is_token, number, run_end, skip, START};
+use crate::text::{START, all_digits, behind, is_token, number, run_end, skip};
 use mp_base::{Broken, Family, List, Name, Place, Refusal, Rule, Spot};
 use std::alloc::Global;
 
@@ -34,7 +35,8 @@ impl Nesting {
     fn inside(self, start: Place) -> Nesting
         requires { self.depth < 64 }
         ensures depth { result.depth ≡ self.depth + 1 }
-        ensures outer { result.outer ≡ outer_of self.depth self.outer start }
+        ensures first { self.depth ≡ 0 → result.outer ≡ start }
+        ensures later { 0 < self.depth → result.outer ≡ self.outer }
     {
         Nesting {
             depth: self.depth + 1,
@@ -200,6 +202,7 @@ pub fn read_forms(alloc: Global, bytes: &[u8]) -> Result<Forms, Refusal>
     ensures sound { IfOk result IsSound }
     ensures whole { OnOk result ((k o : ℕ) → Breaks bytes.now k o → ⊥) }
     ensures first { IfErr result (RefusesFirst bytes.now) }
+    ensures read { (f : forms.Forms) → Spells bytes.now f → MatchResult result (λ r. r ≡ f) (λ e. e ≡ refusals.NoMemory) }
 {
     let mut nodes = List::new(alloc);
     let nesting = Nesting {

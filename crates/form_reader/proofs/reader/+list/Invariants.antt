@@ -1,5 +1,4 @@
-use Rattle.std.proofs.Common.{◌≡◌, ◌-◌, ◌*◌, ◌≤◌, length}
-use Rattle.form_reader.specs.Text.{place_at}
+use Rattle.std.proofs.Common.{◌-◌, ◌*◌, ◌≤◌, length}
 use Rattle.form_reader.specs.Reading.{HasRead, Reached}
 use Rattle.form_reader.proofs.reader.+list.Given as goal
 
