@@ -28,7 +28,11 @@ pub struct Pads {
 }
 
 // The names of pads, inputs first.
-fn names_of<'a>(alloc: Global, inputs: &'a [Pad], outputs: &'a [Pad]) -> Result<Vec<&'a [u8]>, AllocError>
+fn names_of<'a>(
+    alloc: Global,
+    inputs: &'a [Pad],
+    outputs: &'a [Pad],
+) -> Result<Vec<&'a [u8]>, AllocError>
     ensures { IfOk result (λ names. map (λ name. name.now) names.items ≡ names_of inputs.now outputs.now (λ pad. pad.name)) }
 {
     let mut names = Vec::new(alloc);
@@ -52,7 +56,11 @@ fn may_stand(alloc: Global, inputs: &[Pad], outputs: &[Pad]) -> Result<bool, All
 
 impl Pads {
     /// These pads, where their names may stand side by side.
-    pub fn new(alloc: Global, inputs: List<Pad>, outputs: List<Pad>) -> Result<Option<Pads>, NoMemory>
+    pub fn new(
+        alloc: Global,
+        inputs: List<Pad>,
+        outputs: List<Pad>,
+    ) -> Result<Option<Pads>, NoMemory>
         ensures some { IfOk result (λ pads. IsSome pads ↔ ArePadNames (names_of inputs outputs (λ pad. pad.name))) }
         ensures same { IfOk result (λ pads. IfSome pads (λ made. (made.inputs ≡ inputs) × (made.outputs ≡ outputs))) }
     {

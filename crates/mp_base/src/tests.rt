@@ -1,8 +1,8 @@
 //! Tables for operators, and files and outputs of which each call fails in turn.
 
 use crate::{
-    Depot, Failed, List, MemDepot, MemSink, Op, ReadError, Sink, Trit, Word, join,
-    read_file, store, write_all,
+    Depot, Failed, List, MemDepot, MemSink, Op, ReadError, Sink, Trit, Word, join, read_file,
+    store, write_all,
 };
 use std::alloc::{AllocError, Global};
 use std::test::Fail;

@@ -1,4 +1,4 @@
-use Rattle.std.proofs.Common.{◌≡◌, ◌∙◌, ◌<◌, length, arith, map, get_or, Bor, List, [], ℕ, sym}
+use Rattle.std.proofs.Common.{◌∙◌, ◌<◌, length, arith, map, get_or, Bor, List, [], ℕ, sym}
 use Rattle.mp_base.proofs.Names.{seen_more, seen_twice, gained_of, at_map, within_map, unfit, not_true, not_false}
 use Rattle.mp_base.proofs.pad_names.are_pad_names.Goals as goal
 
