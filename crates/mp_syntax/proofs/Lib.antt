@@ -1,1 +1,5 @@
 pub mod Numbering
+pub mod InRange
+pub mod Standing
+pub mod Counts
+pub mod Fitting
