@@ -1,7 +1,7 @@
 -- How many items a list of each shape has, and what may be the name of a definition.
-use Rattle.std.proofs.Common.{◌≡◌, ◌⊎◌, ℕ, suc, ◌+◌, ◌-◌, ◌<◌, ◌≤◌, Bool, true, false, not, cond, List, [], ◌∷◌, refl, sym, ◌∙◌, ap, subst, length, arith, Option, Some, None, slice_index, ◌&&◌, ◌||◌, nat_lt, nat_le, ◌==◌, codes}
+use Rattle.std.proofs.Common.{◌≡◌, ◌≢◌, ◌⊎◌, ℕ, suc, ◌+◌, ◌-◌, ◌<◌, ◌≤◌, Bool, true, false, not, cond, List, [], ◌∷◌, refl, sym, ◌∙◌, ap, subst, length, arith, Option, Some, None, slice_index, ◌&&◌, ◌||◌, nat_lt, nat_le, ◌==◌, codes}
 use Rattle.std.specs.Str.{bytes_eq}
-use Rattle.std.proofs.lemmas.Bool.{and_parts, lt-ltb, eqb-true, eq-eqb, leb-true}
+use Rattle.std.proofs.lemmas.Bool.{and_parts, lt-ltb, eqb-true, eqb-false, eq-eqb, leb-true, ne_eqb}
 use Rattle.mp_base.specs.declared.op.Op.{Op}
 use Rattle.mp_base.specs.declared.op.Op.TheVariants as ops
 use Rattle.form_reader.specs.declared.forms.Kind.{Kind}
@@ -144,7 +144,7 @@ value_counts x n = step n (bytes_eq x (codes "bit")) (n == 3) Bit _ (λ h. eqb-t
     by_op None h = none n
     by_op (Some o) h = last n (shapes.takes o n) (Apply o) (operands o n h.other)
 
-group_counts : (f : Forms) (c : Class) (items : List ℕ) → 0 < length items → HasCounts (length items) (shapes.group_layout f c items)
+group_counts : (f : Forms) (c : Class) (items : List ℕ) → 0 < length items → HasCounts (length items) (shapes.list_layout f c (word_of (kind_at f (slice_index items 0))) items)
 group_counts f Whole items some = last (length items) (bytes_eq (word_of (kind_at f (slice_index items 0))) (codes "program") && nat_le 3 (length items)) Program
     (λ h. leb-true 3 (length items) (and_parts (bytes_eq (word_of (kind_at f (slice_index items 0))) (codes "program")) (nat_le 3 (length items)) h).1)
 group_counts f Item items some = item_counts f (word_of (kind_at f (slice_index items 0))) items
@@ -169,8 +169,18 @@ leaf_counts Branch = (record { count = tt }, record { count = tt })
 pub layout_counts : (f : Forms) (c : Class) (k : Kind) → HasCounts (length (items_of k)) (layout f c k)
 layout_counts f c (Number v) = (leaf_counts c).0
 layout_counts f c (Symbol x) = (leaf_counts c).1
-layout_counts f c (Group []) = none 0
-layout_counts f c (Group (i ∷ is)) = group_counts f c (i ∷ is) (omega arith)
+layout_counts f c (Group items) = by_test (length items == 0) (λ e. group_counts f c items (let other : length items ≢ 0 = eqb-false (length items) 0 e in omega arith))
+  where
+    by_test : (b : Bool) → (b ≡ false → HasCounts (length items) (shapes.list_layout f c (word_of (kind_at f (slice_index items 0))) items))
+        → HasCounts (length items) (cond b None (shapes.list_layout f c (word_of (kind_at f (slice_index items 0))) items))
+    by_test true h = none (length items)
+    by_test false h = h refl
+
+-- the shape of a list that isn't empty
+pub shaped : (f : Forms) (c : Class) (i : ℕ) (is : List ℕ) → layout f c (Group (i ∷ is)) ≡ shapes.list_layout f c (word_of (kind_at f i)) (i ∷ is)
+shaped f c i is =
+    let e : (length (i ∷ is) == 0) ≡ false = ne_eqb (length (i ∷ is)) 0 (λ h. omega (arith, h)) in
+    ap (λ b. cond b None (shapes.list_layout f c (word_of (kind_at f i)) (i ∷ is))) e
 
 -- whether the name of a definition fits it, where the item behind the head has this kind
 abbrev NameFits : Forms → List ℕ → Kind → Definition → Type 0
@@ -226,8 +236,9 @@ five_fits f items (Number v) what named given h = no_name f items (Number v)
 five_fits f items (Symbol x) what named given h =
     pick f items (Symbol x) (bytes_eq (word_of what) (codes "port")) _ _
     (pick f items (Symbol x) (shapes.is_pins f given) _ None (way_fits f items (Symbol x) (word_of named) definitions.PortInput definitions.PortOutput (h x refl) (h x refl)) (no_name f items (Symbol x)))
-    (pick f items (Symbol x) (bytes_eq (word_of what) (codes "signal") && shapes.is_number given) _ None
-    (way_fits f items (Symbol x) (word_of named) definitions.SignalInput definitions.SignalOutput (h x refl) (h x refl)) (no_name f items (Symbol x)))
+    (pick f items (Symbol x) (bytes_eq (word_of what) (codes "signal")) _ None
+    (pick f items (Symbol x) (shapes.is_number given) _ None (way_fits f items (Symbol x) (word_of named) definitions.SignalInput definitions.SignalOutput (h x refl) (h x refl)) (no_name f items (Symbol x)))
+    (no_name f items (Symbol x)))
 
 pub definition_fits : (f : Forms) (items : List ℕ) → ((x : List ℕ) → kind_at f (slice_index items 1) ≡ Symbol x → fits.is_symbol x ≡ true)
     → NamesFit f items (kind_at f (slice_index items 1)) (shapes.definition f items)

@@ -27,7 +27,7 @@ use Rattle.mp_program.specs.declared.program.Label.{Label}
 use Rattle.mp_program.specs.declared.program.Process.{Process}
 use Rattle.mp_program.specs.Fits as fits
 use Rattle.mp_syntax.specs.Shape.{always_at, always_in, branch_at, def_at, def_in, expr_at, expr_index, expr_kind, form_at, form_index, form_kind, is_expr, is_form, labels_from, list_expr, name_at, nodes_below, number_at, number_of, process_at, process_in, process_of, ranks, symbol_expr}
-use Rattle.mp_syntax.proofs.Counts.{Counts, HasCounts, layout_counts, NamesFit, definition_fits}
+use Rattle.mp_syntax.proofs.Counts.{Counts, HasCounts, layout_counts, shaped, NamesFit, definition_fits}
 use Rattle.mp_syntax.proofs.Numbering.{nodes_below_with, nodes_below_without}
 use Rattle.mp_syntax.proofs.Standing.{child, passes_expr, passes_form, passes_element, expr_stands, form_stands, word_fits, in_range, behind_it, less}
 
@@ -67,17 +67,14 @@ fit_push p all none more (x ∷ xs) y i h last =
 fit_entries : {X : Type 0} (p : ℕ → X → Bool) (all : ℕ → List X → Bool) → ((i : ℕ) → all i [] ≡ true) → ((i : ℕ) (x : X) (xs : List X) → all i (x ∷ xs) ≡ (p i x && all (suc i) xs))
     → (entry : ℕ → X) (test : ℕ → Bool) (count : ℕ) → ((m : ℕ) → m < count → test m ≡ true → p (length (nodes_below test m)) (entry m) ≡ true) → all 0 (map entry (nodes_below test count)) ≡ true
 fit_entries p all none more entry test zero each = none 0
-fit_entries {X} p all none more entry test (suc n) each = by_test (test n) refl
+fit_entries {X} p all none more entry test (suc n) each = by_test (test n) refl (fit_entries p all none more entry test n (λ m ml is. each m (omega (arith, ml)) is))
   where
-    rest : all 0 (map entry (nodes_below test n)) ≡ true
-    rest = fit_entries p all none more entry test n (λ m ml is. each m (omega (arith, ml)) is)
-
     next : suc n ≡ n + 1
     next = omega arith
 
-    by_test : (b : Bool) → test n ≡ b → all 0 (map entry (nodes_below test (suc n))) ≡ true
-    by_test false is = ap (λ i. all 0 (map entry (nodes_below test i))) next ∙ ap (λ xs. all 0 (map entry xs)) (nodes_below_without test n is) ∙ rest
-    by_test true is =
+    by_test : (b : Bool) → test n ≡ b → all 0 (map entry (nodes_below test n)) ≡ true → all 0 (map entry (nodes_below test (suc n))) ≡ true
+    by_test false is rest = ap (λ i. all 0 (map entry (nodes_below test i))) next ∙ ap (λ xs. all 0 (map entry xs)) (nodes_below_without test n is) ∙ rest
+    by_test true is rest =
         ap (λ i. all 0 (map entry (nodes_below test i))) next ∙ ap (λ xs. all 0 (map entry xs)) (nodes_below_with test n is)
         ∙ ap (all 0) (map-append entry (nodes_below test n) (n ∷ []))
         ∙ fit_push p all none more (map entry (nodes_below test n)) (entry n) 0 rest
@@ -178,7 +175,7 @@ guarded : (f : Forms) (x : Kind) → (layout f classes.Branch x ≡ None → ⊥
 guarded f (Number v) h = absurd (h refl)
 guarded f (Symbol x) h = absurd (h refl)
 guarded f (Group []) h = absurd (h refl)
-guarded f (Group (i ∷ is)) h = refl
+guarded f (Group (i ∷ is)) h = shaped f classes.Branch i is
 
 branch_fits : (f : Forms) (cs : List (Option Class)) → Known f cs → (n m : ℕ) → is_form f cs n ≡ true → n < m → m < length f.nodes → StandsFor f m classes.Branch
     → (nat_lt (branch_at f (expr_index f cs) (form_index f cs) m).guard (length (nodes_below (is_expr cs) (length f.nodes)))
@@ -237,7 +234,7 @@ def_layout f (Symbol x) d h = absurd (cc)
 def_layout f (Group []) d h = absurd (cc)
 def_layout f (Group (i ∷ is)) d h =
     defines (bytes_eq (word_of (kind_at f i)) (codes "def")) (bytes_eq (word_of (kind_at f i)) (codes "always")) (nat_le 2 (length (i ∷ is)))
-    (bytes_eq (word_of (kind_at f i)) (codes "process") && nat_le 3 (length (i ∷ is))) (shapes.definition f (i ∷ is)) d h
+    (bytes_eq (word_of (kind_at f i)) (codes "process") && nat_le 3 (length (i ∷ is))) (shapes.definition f (i ∷ is)) d (sym (shaped f classes.Item i is) ∙ h)
 
 def_fits : (f : Forms) → HasSymbols f → (m : ℕ) (x : Def) → def_at f m ≡ Some x → fits.def_fits x ≡ true
 def_fits f symbols m x is = by_layout (layout f classes.Item (kind_at f m)) refl is
@@ -288,26 +285,25 @@ symbol_fits f symbols i is = by_kind (kind_at f i) refl is
 labels_fit : (f : Forms) → HasSymbols f → (xs : List ℕ) (before bound : ℕ) → before + length (filter (λ i. not (is_symbol (kind_at f i))) xs) ≤ bound
     → list_all (λ (l : Label). fits.is_symbol l.name && nat_le l.before bound) (labels_from f before xs) ≡ true
 labels_fit f symbols [] before bound h = refl
-labels_fit f symbols (i ∷ is) before bound h = by_test (is_symbol (kind_at f i)) refl h
+labels_fit f symbols (i ∷ is) before bound h = by_test (is_symbol (kind_at f i)) refl h (labels_fit f symbols is before bound) (labels_fit f symbols is (before + 1) bound)
   where
     by_test : (b : Bool) → is_symbol (kind_at f i) ≡ b
         → before + length (cond (not b) (i ∷ filter (λ j. not (is_symbol (kind_at f j))) is) (filter (λ j. not (is_symbol (kind_at f j))) is)) ≤ bound
+        → (before + length (filter (λ j. not (is_symbol (kind_at f j))) is) ≤ bound → list_all (λ (l : Label). fits.is_symbol l.name && nat_le l.before bound) (labels_from f before is) ≡ true)
+        → (before + 1 + length (filter (λ j. not (is_symbol (kind_at f j))) is) ≤ bound → list_all (λ (l : Label). fits.is_symbol l.name && nat_le l.before bound) (labels_from f (before + 1) is) ≡ true)
         → list_all (λ (l : Label). fits.is_symbol l.name && nat_le l.before bound) (cond b (record { place = (node f i).place; name = name_at f i; before = before } ∷ labels_from f before is) (labels_from f (before + 1) is)) ≡ true
-    by_test true e g = and_from _ _ (and_from _ _ (symbol_fits f symbols i e) (le-leb before bound (omega (arith, g)))) (labels_fit f symbols is before bound g)
-    by_test false e g = labels_fit f symbols is (before + 1) bound (omega (arith, g))
+    by_test true e g same more = and_from _ _ (and_from _ _ (symbol_fits f symbols i e) (le-leb before bound (omega (arith, g)))) (same g)
+    by_test false e g same more = more (omega (arith, g))
 
 kept_fit : (f : Forms) (p : ℕ → Bool) (h : ℕ → ℕ) (xs : List ℕ) → ((k : ℕ) → k < length xs → is_symbol (kind_at f (slice_index xs k)) ≡ false → p (h (slice_index xs k)) ≡ true)
     → list_all p (map h (filter (λ i. not (is_symbol (kind_at f i))) xs)) ≡ true
 kept_fit f p h [] each = refl
-kept_fit f p h (i ∷ is) each = by_test (is_symbol (kind_at f i)) refl
+kept_fit f p h (i ∷ is) each = by_test (is_symbol (kind_at f i)) refl (kept_fit f p h is (λ k kl other. each (suc k) (omega (arith, kl)) other))
   where
-    rest : list_all p (map h (filter (λ j. not (is_symbol (kind_at f j))) is)) ≡ true
-    rest = kept_fit f p h is (λ k kl other. each (suc k) (omega (arith, kl)) other)
-
-    by_test : (b : Bool) → is_symbol (kind_at f i) ≡ b
+    by_test : (b : Bool) → is_symbol (kind_at f i) ≡ b → list_all p (map h (filter (λ j. not (is_symbol (kind_at f j))) is)) ≡ true
         → list_all p (map h (cond (not b) (i ∷ filter (λ j. not (is_symbol (kind_at f j))) is) (filter (λ j. not (is_symbol (kind_at f j))) is))) ≡ true
-    by_test true e = rest
-    by_test false e = and_from _ _ (each 0 (omega arith) e) rest
+    by_test true e rest = rest
+    by_test false e rest = and_from _ _ (each 0 (omega arith) e) rest
 
 process_fits : (f : Forms) (cs : List (Option Class)) → Known f cs → (m : ℕ) → m < length f.nodes → StandsFor f m classes.Item → (q : Process) → process_at f (form_index f cs) m ≡ Some q
     → fits.process_fits (length (nodes_below (is_form f cs) (length f.nodes))) q ≡ true
@@ -358,22 +354,23 @@ is_program f cs a r rs is = by_kind (kind_at f r) (λ none. a.clean r (classes.W
     by_kind (Number v) h = absurd (h refl)
     by_kind (Symbol x) h = absurd (h refl)
     by_kind (Group []) h = absurd (h refl)
-    by_kind (Group (i ∷ is)) h = by_test (bytes_eq (word_of (kind_at f i)) (codes "program") && nat_le 3 (length (i ∷ is))) h
+    by_kind (Group (i ∷ is)) h =
+        shaped f classes.Whole i is ∙ by_test (bytes_eq (word_of (kind_at f i)) (codes "program") && nat_le 3 (length (i ∷ is))) (λ none. h (shaped f classes.Whole i is ∙ none))
 
 pub root_inside : (f : Forms) → IsSound f → (r : ℕ) (rs : List ℕ) → f.roots ≡ r ∷ rs → r < length f.nodes
 root_inside f s r rs is = let P : List ℕ → Type 0 = λ xs. (i : ℕ) → i < length xs → slice_index xs i < length f.nodes in subst P is s.roots 0 (omega arith)
 
+width_node : (f : Forms) (cs : List (Option Class)) → Known f cs → (r : ℕ) (rs : List ℕ) → f.roots ≡ r ∷ rs → Inner f r (slice_index (items_of (kind_at f r)) 2) classes.Numeral
+width_node f cs k r rs is =
+    let lay : layout f classes.Whole (kind_at f r) ≡ Some layouts.Program = is_program f cs k.classes r rs is in
+    let three : 3 ≤ length (items_of (kind_at f r)) = counts f r classes.Whole layouts.Program lay in
+    inner f cs k r 2 classes.Whole classes.Numeral layouts.Program (root r rs is) (root_inside f k.sound r rs is) lay refl (omega (arith, three))
+
 -- the word length is a number
 pub is_width : (f : Forms) (cs : List (Option Class)) → Known f cs → (r : ℕ) (rs : List ℕ) → f.roots ≡ r ∷ rs
     → kind_at f (slice_index (items_of (kind_at f r)) 2) ≡ Number (number_at f (slice_index (items_of (kind_at f r)) 2))
-is_width f cs k r rs is = by_kind (kind_at f (slice_index (items_of (kind_at f r)) 2)) (λ none. k.classes.clean _ (classes.Numeral, it.stands, none))
+is_width f cs k r rs is = by_kind (kind_at f (slice_index (items_of (kind_at f r)) 2)) (λ none. k.classes.clean (slice_index (items_of (kind_at f r)) 2) (classes.Numeral, (width_node f cs k r rs is).stands, none))
   where
-    it : Inner f r (slice_index (items_of (kind_at f r)) 2) classes.Numeral
-    it =
-        let lay = is_program f cs k.classes r rs is in
-        let three : 3 ≤ length (items_of (kind_at f r)) = counts f r classes.Whole layouts.Program lay in
-        inner f cs k r 2 classes.Whole classes.Numeral layouts.Program (root r rs is) (root_inside f k.sound r rs is) lay refl (omega (arith, three))
-
     no_shape : (b : Bool) → cond {A = Option Layout} b None None ≡ None
     no_shape true = refl
     no_shape false = refl
@@ -396,6 +393,9 @@ parts_fit w name defs es fs always processes e n he hn low high named defined ex
     let six = and_from _ (list_all (λ x. nat_lt x (length fs)) always) five (ap (λ k. list_all (λ x. nat_lt x k) always) hn ∙ top) in
     and_from _ (list_all (fits.process_fits (length fs)) processes) six (ap (λ k. list_all (fits.process_fits k) processes) hn ∙ processed)
 
+pub width_inside : (f : Forms) (cs : List (Option Class)) → Known f cs → (r : ℕ) (rs : List ℕ) → f.roots ≡ r ∷ rs → slice_index (items_of (kind_at f r)) 2 < length f.nodes
+width_inside f cs k r rs is = (width_node f cs k r rs is).inside
+
 -- all that the type of a program says
 pub all_fits : (f : Forms) (cs : List (Option Class)) → Known f cs → (r : ℕ) (rs : List ℕ) → f.roots ≡ r ∷ rs
     → 1 ≤ number_at f (slice_index (items_of (kind_at f r)) 2) → number_at f (slice_index (items_of (kind_at f r)) 2) ≤ 32
@@ -409,7 +409,7 @@ all_fits f cs k r rs is low high =
     let items : List ℕ = items_of (kind_at f r) in
     let nodes : List ℕ = nodes_below (is_expr cs) (length f.nodes) in
     let form_nodes : List ℕ = nodes_below (is_form f cs) (length f.nodes) in
-    parts_fit _ _ (filter_map (def_at f) (drop 3 items)) (map (expr_at f (expr_index f cs)) nodes) (map (form_at f (expr_index f cs) (form_index f cs)) form_nodes)
+    parts_fit (number_at f (slice_index items 2)) (name_at f (slice_index items 1)) (filter_map (def_at f) (drop 3 items)) (map (expr_at f (expr_index f cs)) nodes) (map (form_at f (expr_index f cs) (form_index f cs)) form_nodes)
     (flat_map (always_at f (form_index f cs)) (drop 3 items)) (filter_map (process_at f (form_index f cs)) (drop 3 items)) (length nodes) (length form_nodes)
     (length-map nodes (expr_at f (expr_index f cs))) (length-map form_nodes (form_at f (expr_index f cs) (form_index f cs))) low high named
     (all_filter_map fits.def_fits (def_at f) (drop 3 items) (λ i x il e. def_fits f k.symbols (slice_index (drop 3 items) i) x e))
@@ -435,3 +435,20 @@ all_fits f cs k r rs is low high =
 
     part : (j : ℕ) → 3 ≤ j → j < length (items_of (kind_at f r)) → Inner f r (slice_index (items_of (kind_at f r)) j) classes.Item
     part j jf jl = inner f cs k r j classes.Whole classes.Item layouts.Program (root r rs is) (root_inside f k.sound r rs is) lay (not_number j classes.Item jf) jl
+
+same_fits : (w v : ℕ) (m n : List ℕ) (c d : List Def) (es xs : List Expr) (fs gs : List Form) (a b : List ℕ) (ps qs : List Process)
+    → w ≡ v → m ≡ n → c ≡ d → es ≡ xs → fs ≡ gs → a ≡ b → ps ≡ qs → fits.program_fits w m c es fs a ps ≡ fits.program_fits v n d xs gs b qs
+same_fits w v m n c d es xs fs gs a b ps qs e1 e2 e3 e4 e5 e6 e7 =
+    ap (λ x. fits.program_fits x m c es fs a ps) e1 ∙ ap (λ x. fits.program_fits v x c es fs a ps) e2 ∙ ap (λ x. fits.program_fits v n x es fs a ps) e3 ∙ ap (λ x. fits.program_fits v n d x fs a ps) e4
+    ∙ ap (λ x. fits.program_fits v n d xs x a ps) e5 ∙ ap (λ x. fits.program_fits v n d xs gs x ps) e6 ∙ ap (λ x. fits.program_fits v n d xs gs b x) e7
+
+-- the same, of lists that are these
+pub fits_at : (f : Forms) (cs : List (Option Class)) → Known f cs → (r : ℕ) (rs : List ℕ) → f.roots ≡ r ∷ rs
+    → 1 ≤ number_at f (slice_index (items_of (kind_at f r)) 2) → number_at f (slice_index (items_of (kind_at f r)) 2) ≤ 32
+    → (w : ℕ) (name : List ℕ) (defs : List Def) (es : List Expr) (fs : List Form) (always : List ℕ) (processes : List Process)
+    → w ≡ number_at f (slice_index (items_of (kind_at f r)) 2) → name ≡ name_at f (slice_index (items_of (kind_at f r)) 1) → defs ≡ filter_map (def_at f) (drop 3 (items_of (kind_at f r)))
+    → es ≡ map (expr_at f (expr_index f cs)) (nodes_below (is_expr cs) (length f.nodes)) → fs ≡ map (form_at f (expr_index f cs) (form_index f cs)) (nodes_below (is_form f cs) (length f.nodes))
+    → always ≡ flat_map (always_at f (form_index f cs)) (drop 3 (items_of (kind_at f r))) → processes ≡ filter_map (process_at f (form_index f cs)) (drop 3 (items_of (kind_at f r)))
+    → fits.program_fits w name defs es fs always processes ≡ true
+fits_at f cs k r rs is low high w name defs es fs always processes e1 e2 e3 e4 e5 e6 e7 =
+    same_fits w _ name _ defs _ es _ fs _ always _ processes _ e1 e2 e3 e4 e5 e6 e7 ∙ all_fits f cs k r rs is low high

@@ -3,3 +3,4 @@ pub mod InRange
 pub mod Standing
 pub mod Counts
 pub mod Fitting
+pub mod Widths

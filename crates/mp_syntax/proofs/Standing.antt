@@ -10,7 +10,7 @@ use Rattle.form_reader.specs.Sound.{IsSound, HasSymbols, kind_at, items_of}
 use Rattle.mp_shapes.specs.declared.table.Class.{Class}
 use Rattle.mp_shapes.specs.declared.table.Class.TheVariants.{Whole, Item, Element, Action, Branch, Value, Word, Numeral}
 use Rattle.mp_shapes.specs.declared.table.Layout.{Layout}
-use Rattle.mp_shapes.specs.Layout.{layout, item_class, group_layout, word_of, behind_number, is_symbol}
+use Rattle.mp_shapes.specs.Layout.{layout, item_class, word_of, is_symbol}
 use Rattle.mp_shapes.specs.Standing.{StandsFor, root, item, AreClasses}
 use Rattle.mp_program.specs.Fits as fits
 use Rattle.mp_syntax.specs.Shape.{nodes_below, ranks, is_expr, is_form, stands_for_expr, stands_for_form, expr_index, form_index, name_at}
@@ -19,14 +19,14 @@ use Rattle.mp_syntax.proofs.Numbering.{nodes_below_with, nodes_below_without}
 -- more nodes below a greater bound
 pub grows : (test : ℕ → Bool) (a k : ℕ) → length (nodes_below test a) ≤ length (nodes_below test (a + k))
 grows test a zero = omega (arith, ap (λ i. length (nodes_below test i)) (let e : a + 0 ≡ a = omega arith in e))
-grows test a (suc k) = by_test (test (a + k)) refl
+grows test a (suc k) = by_test (test (a + k)) refl (grows test a k)
   where
     next : a + suc k ≡ (a + k) + 1
     next = omega arith
 
-    by_test : (b : Bool) → test (a + k) ≡ b → length (nodes_below test a) ≤ length (nodes_below test (a + suc k))
-    by_test true is = omega (arith, grows test a k, ap (λ i. length (nodes_below test i)) next, ap length (nodes_below_with test (a + k) is), length_push (nodes_below test (a + k)) (a + k))
-    by_test false is = omega (arith, grows test a k, ap (λ i. length (nodes_below test i)) next, ap length (nodes_below_without test (a + k) is))
+    by_test : (b : Bool) → test (a + k) ≡ b → length (nodes_below test a) ≤ length (nodes_below test (a + k)) → length (nodes_below test a) ≤ length (nodes_below test (a + suc k))
+    by_test true is h = omega (arith, h, ap (λ i. length (nodes_below test i)) next, ap length (nodes_below_with test (a + k) is), length_push (nodes_below test (a + k)) (a + k))
+    by_test false is h = omega (arith, h, ap (λ i. length (nodes_below test i)) next, ap length (nodes_below_without test (a + k) is))
 
 -- a node that passes counts for all behind it
 pub less : (test : ℕ → Bool) (n m : ℕ) → test n ≡ true → n < m → length (nodes_below test n) < length (nodes_below test m)
