@@ -4,3 +4,4 @@ pub mod Standing
 pub mod Counts
 pub mod Fitting
 pub mod Widths
+pub mod Unique
