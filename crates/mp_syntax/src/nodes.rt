@@ -1,4 +1,4 @@
-//! What nodes hold. No node has a defect here, so what is asked for is there.
+//! What nodes hold: an empty name, 0 or no items where a node is of another kind.
 
 ghost use Rattle.std.specs.Prelude.{◌≡◌, ◌<◌, ◌≤◌, ℕ, IfOk, drop, length, slice_index};
 ghost use Rattle.form_reader.specs.Sound.{IsSound, items_of, kind_at, node};
@@ -9,6 +9,7 @@ use form_reader::{Forms, Kind, Node};
 use mp_base::Name;
 use std::alloc::{AllocError, Global};
 
+/// A node by its index.
 pub fn node_at(forms: &Forms, index: u32) -> &Node
     requires { index < length forms.now.nodes }
     ensures { result.now ≡ node forms.now index }
@@ -40,6 +41,7 @@ pub fn elements_at(forms: &Forms, node: u32) -> &[u32]
     behind(items_at(forms, node), 3)
 }
 
+/// The bytes of a symbol, as a name.
 pub fn name_at(alloc: Global, forms: &Forms, node: u32) -> Result<Name, AllocError>
     requires { node < length forms.now.nodes }
     ensures { IfOk result (λ name. name ≡ name_at forms.now node) }
@@ -50,6 +52,7 @@ pub fn name_at(alloc: Global, forms: &Forms, node: u32) -> Result<Name, AllocErr
     }
 }
 
+/// The value of a number.
 pub fn number_at(forms: &Forms, node: u32) -> u64
     requires { node < length forms.now.nodes }
     ensures { result ≡ number_at forms.now node }
@@ -60,6 +63,7 @@ pub fn number_at(forms: &Forms, node: u32) -> u64
     }
 }
 
+/// Whether a node is a symbol.
 pub fn is_symbol(forms: &Forms, node: u32) -> bool
     requires { node < length forms.now.nodes }
     ensures { result ≡ is_symbol (kind_at forms.now node) }
@@ -70,7 +74,7 @@ pub fn is_symbol(forms: &Forms, node: u32) -> bool
     }
 }
 
-/// The item at an index.
+/// The item at an index, or 0 where there are fewer items.
 pub fn item(items: &[u32], index: usize) -> u32
     ensures { result ≡ slice_index items.now index }
 {
