@@ -1,7 +1,7 @@
-//! What nodes hold. No node has a defect here, so what is asked for is there.
+//! What nodes hold: an empty name, 0 or no items where a node is of another kind.
 
-ghost use Rattle.std.specs.Prelude.{◌≡◌, ◌<◌, IfOk, drop, length, slice_index};
-ghost use Rattle.form_reader.specs.Sound.{items_of, kind_at, node};
+ghost use Rattle.std.specs.Prelude.{◌≡◌, ◌<◌, ◌≤◌, ℕ, IfOk, drop, length, slice_index};
+ghost use Rattle.form_reader.specs.Sound.{IsSound, items_of, kind_at, node};
 ghost use Rattle.mp_shapes.specs.Layout.{is_symbol};
 ghost use Rattle.mp_syntax.specs.Shape.{name_at, number_at};
 
@@ -9,6 +9,7 @@ use form_reader::{Forms, Kind, Node};
 use mp_base::Name;
 use std::alloc::{AllocError, Global};
 
+/// A node by its index.
 pub fn node_at(forms: &Forms, index: u32) -> &Node
     requires { index < length forms.now.nodes }
     ensures { result.now ≡ node forms.now index }
@@ -18,8 +19,10 @@ pub fn node_at(forms: &Forms, index: u32) -> &Node
 
 /// The items of a list, its head included.
 pub fn items_at(forms: &Forms, node: u32) -> &[u32]
-    requires { node < length forms.now.nodes }
-    ensures { result.now ≡ items_of (kind_at forms.now node) }
+    requires sound { IsSound forms.now }
+    requires inside { node < length forms.now.nodes }
+    ensures value { result.now ≡ items_of (kind_at forms.now node) }
+    ensures inside { (k : ℕ) → k < length result.now → slice_index result.now k < length forms.now.nodes }
 {
     match &node_at(forms, node).kind {
         Kind::Group(items) => items.as_slice(),
@@ -27,6 +30,18 @@ pub fn items_at(forms: &Forms, node: u32) -> &[u32]
     }
 }
 
+/// The items of a program or process behind its name and number.
+pub fn elements_at(forms: &Forms, node: u32) -> &[u32]
+    requires sound { IsSound forms.now }
+    requires inside { node < length forms.now.nodes }
+    ensures value { result.now ≡ drop 3 (items_of (kind_at forms.now node)) }
+    ensures inside { (k : ℕ) → k < length result.now → slice_index result.now k < length forms.now.nodes }
+    ensures few { length result.now ≤ length forms.now.nodes }
+{
+    behind(items_at(forms, node), 3)
+}
+
+/// The bytes of a symbol, as a name.
 pub fn name_at(alloc: Global, forms: &Forms, node: u32) -> Result<Name, AllocError>
     requires { node < length forms.now.nodes }
     ensures { IfOk result (λ name. name ≡ name_at forms.now node) }
@@ -37,6 +52,7 @@ pub fn name_at(alloc: Global, forms: &Forms, node: u32) -> Result<Name, AllocErr
     }
 }
 
+/// The value of a number.
 pub fn number_at(forms: &Forms, node: u32) -> u64
     requires { node < length forms.now.nodes }
     ensures { result ≡ number_at forms.now node }
@@ -47,6 +63,7 @@ pub fn number_at(forms: &Forms, node: u32) -> u64
     }
 }
 
+/// Whether a node is a symbol.
 pub fn is_symbol(forms: &Forms, node: u32) -> bool
     requires { node < length forms.now.nodes }
     ensures { result ≡ is_symbol (kind_at forms.now node) }
@@ -57,7 +74,7 @@ pub fn is_symbol(forms: &Forms, node: u32) -> bool
     }
 }
 
-/// The item at an index.
+/// The item at an index, or 0 where there are fewer items.
 pub fn item(items: &[u32], index: usize) -> u32
     ensures { result ≡ slice_index items.now index }
 {

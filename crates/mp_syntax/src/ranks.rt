@@ -17,6 +17,7 @@ pub struct Ranks {
     pub forms: List<u32>,
 }
 
+/// Whether a node of this class stands for an expression.
 pub fn is_expr(class: Option<Class>) -> bool
     ensures { result ≡ stands_for_expr class }
 {
@@ -26,6 +27,7 @@ pub fn is_expr(class: Option<Class>) -> bool
     }
 }
 
+/// Whether a node of this class stands for a form.
 pub fn is_form(forms: &Forms, node: u32, class: Option<Class>) -> bool
     requires { node < length forms.now.nodes }
     ensures { result ≡ stands_for_form (kind_at forms.now node) class }
@@ -37,6 +39,7 @@ pub fn is_form(forms: &Forms, node: u32, class: Option<Class>) -> bool
     }
 }
 
+/// The index of the entry of each node.
 pub fn number(
     alloc: Global,
     forms: &Forms,
