@@ -205,6 +205,7 @@ pub fn read_forms(alloc: Global, bytes: &[u8]) -> Result<Forms, Refusal>
     requires { length bytes.now + 1 < 2 ^ 32 }
     ensures spelled { IfOk result (Spells bytes.now) }
     ensures sound { IfOk result IsSound }
+    ensures few { IfOk result (λ forms. length forms.nodes ≤ length bytes.now) }
     ensures whole { OnOk result ((k o : ℕ) → Breaks bytes.now k o → ⊥) }
     ensures first { IfErr result (RefusesFirst bytes.now) }
     ensures read { (f : forms.Forms) → Spells bytes.now f → MatchResult result (λ r. r ≡ f) (λ e. e ≡ refusals.NoMemory) }
