@@ -1,0 +1,4 @@
+pub mod Quiet
+pub mod Driving
+pub mod Padding
+mod Examples
