@@ -1,0 +1,6 @@
+//! CIF 2.0: the commands of a file, its text, and what it draws (Mead and Conway, chapter 4).
+#![tactic(auto)]
+
+mod command;
+
+pub use command::{Cif, Command, Item, Turn};
