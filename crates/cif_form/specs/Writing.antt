@@ -53,10 +53,10 @@ text_of (Call number turns) = codes "C" ++ ((space ++ signed_decimal number) ++ 
 text_of (User digit words) = (48 + digit) ∷ words
 text_of (Comment words) = 40 ∷ words ++ 41 ∷ []
 
--- the commands in turn, each followed by the text `semi`, and then `E`
-abbrev pub written : List ℕ → List Command → List ℕ
-written semi [] = codes "E"
-written semi (c ∷ cs) = text_of c ++ (semi ++ written semi cs)
+-- the commands in turn, each followed by the text `semi`, and then `E` and the text `last`
+abbrev pub written : List ℕ → List ℕ → List Command → List ℕ
+written semi last [] = 69 ∷ last
+written semi last (c ∷ cs) = text_of c ++ (semi ++ written semi last cs)
 
 -- the commands with their offsets in that text, which begins at an offset
 abbrev pub placed_items : List ℕ → ℕ → List Command → List Item

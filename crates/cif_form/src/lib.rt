@@ -2,5 +2,7 @@
 #![tactic(auto)]
 
 mod command;
+mod law;
 
 pub use command::{Cif, Command, Item, Turn};
+pub use law::written_is_read;
