@@ -47,14 +47,14 @@ is_separator b = not (is_digit b || eqb b 45 || eqb b 40 || eqb b 41 || eqb b 59
 abbrev pub is_blank : ℕ → Bool
 is_blank b = is_separator b && not (is_upper b)
 
-not_equal : (b c : ℕ) → b ≢ c → eqb b c ≡ false
+pub not_equal : (b c : ℕ) → b ≢ c → eqb b c ≡ false
 not_equal b c h = grind arith
 
-no_digit : (b : ℕ) → ¬ IsDigit b → is_digit b ≡ false
+pub no_digit : (b : ℕ) → ¬ IsDigit b → is_digit b ≡ false
 no_digit b h = elim (cases_lt b 48)
     [ inl l ↦ grind arith | inr l ↦ elim (cases_lt 57 b) [ inl k ↦ grind arith | inr k ↦ absurd (h (l, omega arith)) ] ]
 
-no_upper : (b : ℕ) → ¬ IsUpper b → is_upper b ≡ false
+pub no_upper : (b : ℕ) → ¬ IsUpper b → is_upper b ≡ false
 no_upper b h = elim (cases_lt b 65)
     [ inl l ↦ grind arith | inr l ↦ elim (cases_lt 90 b) [ inl k ↦ grind arith | inr k ↦ absurd (h (l, omega arith)) ] ]
 
