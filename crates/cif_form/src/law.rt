@@ -1,7 +1,8 @@
 //! Laws of CIF's text and of what it draws, for the proofs of crates above.
 
-ghost use Rattle.std.specs.Prelude.{ℕ, List, All};
+ghost use Rattle.std.specs.Prelude.{◌≡◌, ℕ, List, All};
 ghost use Rattle.cif_form.specs.declared.command.Command.{Command};
+ghost use Rattle.cif_form.specs.declared.command.Item.{Item};
 ghost use Rattle.cif_form.specs.Text.{◌▹◌, Byte, Blanks, Reads};
 ghost use Rattle.cif_form.specs.Fits.{Fits};
 ghost use Rattle.cif_form.specs.Writing.{written, placed_items};
@@ -11,4 +12,12 @@ ghost use Rattle.cif_form.specs.Writing.{written, placed_items};
 pub fn written_is_read()
     ensures { (semi last : List ℕ) → (Byte 59 ▹ Blanks) semi → Blanks last → (cs : List Command) → All Fits cs
         → (offset : ℕ) → Reads offset (written semi last cs) (placed_items semi offset cs) }
+{}
+
+/// A text has at most one reading as commands with their offsets.
+pub fn reading_is_unique()
+    ensures {
+        (offset : ℕ) (text : List ℕ) (items others : List Item)
+            → Reads offset text items → Reads offset text others → items ≡ others
+    }
 {}
