@@ -5,3 +5,5 @@ pub mod Commands
 pub mod Reading
 pub mod Scaled
 pub mod OneLabel
+pub mod OnePlace
+pub mod OneExpansion

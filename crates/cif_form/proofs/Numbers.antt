@@ -162,8 +162,7 @@ pub signed_digits_read : (z : ℤ) (front rest : List ℕ) → SignedDigits z fr
     → Finds signed_digits_from z front rest × (past (front ++ rest) ≡ front ++ rest)
 signed_digits_read z front rest (n, inl (e, d)) s = (unsigned_reads front rest n d s ∙ ap (λ v. Some (v, rest)) (sym e), digits_past front rest n d)
 signed_digits_read z front rest (n, inr (e, (minus, ds, f, g, d))) s =
-    let k : front ≡ 45 ∷ ds = f ∙ ap (λ m. m ++ ds) g in
-    (
+    let k : front ≡ 45 ∷ ds = f ∙ ap (λ m. m ++ ds) g in (
       ap (λ t. signed_digits_from (t ++ rest)) k ∙ negative_reads ds rest n d s ∙ ap (λ v. Some (v, rest)) (sym e),
       ap (λ t. past (t ++ rest)) k ∙ ap (λ t. t ++ rest) (sym k),
     )

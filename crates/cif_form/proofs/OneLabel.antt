@@ -81,8 +81,16 @@ one_coordinate : (x y : ℤ) (a b : List ℕ) → a ≡ b → Coordinate x a →
 one_coordinate x y a b e (v, f, s, h) (w, g, t, k) = f ∙ ap (λ z. pos 2 *ℤ z) (one_number v w b (subst (SignedDigits v) e h) k) ∙ sym g
 
 layer_of : List ℕ → Layer
-layer_of (a ∷ b ∷ cs) = elim (eqb b 68) [ true ↦ ND | false ↦ elim (eqb b 80) [ true ↦ NP | false ↦ elim (eqb b 67) [ true ↦ NC
-    | false ↦ elim (eqb b 77) [ true ↦ NM | false ↦ elim (eqb b 73) [ true ↦ NI | false ↦ elim (eqb b 66) [ true ↦ NB | false ↦ NG ] ] ] ] ] ]
+layer_of (a ∷ b ∷ cs) = elim (eqb b 68) [
+  | true ↦ ND
+  | false ↦ elim (eqb b 80) [
+    | true ↦ NP
+    | false ↦ elim (eqb b 67) [
+      | true ↦ NC
+      | false ↦ elim (eqb b 77) [ true ↦ NM | false ↦ elim (eqb b 73) [ true ↦ NI | false ↦ elim (eqb b 66) [ true ↦ NB | false ↦ NG ] ] ]
+    ]
+  ]
+]
 layer_of _ = NG
 
 layer_of_its_name : (l : Layer) → layer_of (layer_name l) ≡ l
