@@ -8,3 +8,4 @@ pub mod OneLabel
 pub mod OnePlace
 pub mod OneExpansion
 pub mod OneWalk
+pub mod WalkDraws

@@ -21,9 +21,31 @@ use Rattle.cif_form.proofs.OneExpansion.{head_of, tail_of, one_definition, one_b
 -- ---- rules
 
 abbrev of_number : ℕ → DrawRule
-of_number n = elim (eqb n 1) [ true ↦ F1 | false ↦ elim (eqb n 2) [ true ↦ F2 | false ↦ elim (eqb n 3) [ true ↦ F3 | false ↦ elim (eqb n 4) [ true ↦ F4
-    | false ↦ elim (eqb n 5) [ true ↦ F5 | false ↦ elim (eqb n 6) [ true ↦ F6 | false ↦ elim (eqb n 7) [ true ↦ F7 | false ↦ elim (eqb n 8) [ true ↦ F8
-    | false ↦ elim (eqb n 9) [ true ↦ F9 | false ↦ F10 ] ] ] ] ] ] ] ] ]
+of_number n = elim (eqb n 1) [
+  | true ↦ F1
+  | false ↦ elim (eqb n 2) [
+    | true ↦ F2
+    | false ↦ elim (eqb n 3) [
+      | true ↦ F3
+      | false ↦ elim (eqb n 4) [
+        | true ↦ F4
+        | false ↦ elim (eqb n 5) [
+          | true ↦ F5
+          | false ↦ elim (eqb n 6) [
+            | true ↦ F6
+            | false ↦ elim (eqb n 7) [
+              | true ↦ F7
+              | false ↦ elim (eqb n 8) [
+                | true ↦ F8
+                | false ↦ elim (eqb n 9) [ true ↦ F9 | false ↦ F10 ]
+              ]
+            ]
+          ]
+        ]
+      ]
+    ]
+  ]
+]
 
 of_its_number : (r : DrawRule) → of_number (draw_rule_number r) ≡ r
 of_its_number F1 = refl

@@ -8,6 +8,8 @@ ghost use Rattle.cif_form.specs.declared.command.Item.{Item};
 ghost use Rattle.cif_form.specs.Text.{◌▹◌, Byte, Blanks, Reads};
 ghost use Rattle.cif_form.specs.Fits.{Fits};
 ghost use Rattle.cif_form.specs.Expansion.{Expands};
+ghost use Rattle.cif_form.specs.Walk.{WalkEnd, FileWalks};
+ghost use Rattle.cif_form.specs.Walk.WalkEnd.{Whole};
 ghost use Rattle.cif_form.specs.Writing.{written, placed_items};
 
 /// The law of writing: what is written of commands that fit is read as the same commands, each at the offset where it
@@ -28,4 +30,17 @@ pub fn expansion_is_unique()
     ensures { (items : List Item) (shapes others : List Rect) (labels names : List FlatLabel)
         → Expands [] None items shapes labels → Expands [] None items others names
         → (shapes ≡ others) × (labels ≡ names) }
+{}
+
+/// What a walk draws, its labels and how it ends are determined: there is one first broken rule, or none.
+pub fn walk_is_unique()
+    ensures { (items : List Item) (shapes others : List Rect) (labels names : List FlatLabel) (end last : WalkEnd)
+        → FileWalks items shapes labels end → FileWalks items others names last
+        → (shapes ≡ others) × (labels ≡ names) × (end ≡ last) }
+{}
+
+/// A walk that breaks no rule draws the expansion of its commands.
+pub fn walk_is_expansion()
+    ensures { (items : List Item) (shapes : List Rect) (labels : List FlatLabel)
+        → FileWalks items shapes labels Whole → Expands [] None items shapes labels }
 {}

@@ -5,4 +5,6 @@ mod command;
 mod law;
 
 pub use command::{Cif, Command, Item, Turn};
-pub use law::{expansion_is_unique, reading_is_unique, written_is_read};
+pub use law::{
+    expansion_is_unique, reading_is_unique, walk_is_expansion, walk_is_unique, written_is_read,
+};
