@@ -9,3 +9,4 @@ pub mod OnePlace
 pub mod OneExpansion
 pub mod OneWalk
 pub mod WalkDraws
+pub mod Scanning

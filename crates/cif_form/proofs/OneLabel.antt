@@ -21,11 +21,11 @@ tail_of e = cc
 -- ---- where a run of bytes of one kind ends
 
 -- a first byte is of the kind
-abbrev Heads : (ℕ → Type 0) → List ℕ → Type 0
+abbrev pub Heads : (ℕ → Type 0) → List ℕ → Type 0
 Heads P [] = Unit {0}
 Heads P (b ∷ bs) = P b
 
-one_cut : (P : ℕ → Type 0) (a b c d : List ℕ) → All P a → All P b → Heads (λ x. ¬ P x) c → Heads (λ x. ¬ P x) d → a ++ c ≡ b ++ d → (a ≡ b) × (c ≡ d)
+pub one_cut : (P : ℕ → Type 0) (a b c d : List ℕ) → All P a → All P b → Heads (λ x. ¬ P x) c → Heads (λ x. ¬ P x) d → a ++ c ≡ b ++ d → (a ≡ b) × (c ≡ d)
 one_cut P [] [] c d h k m n e = (refl, e)
 one_cut P [] (y ∷ b) [] d h k m n e = absurd (let f : [] ≡ y ∷ (b ++ d) = e in cc)
 one_cut P [] (y ∷ b) (x ∷ c) d h k m n e = absurd (m (subst P (sym (head_of e)) (All-head P y b k)))

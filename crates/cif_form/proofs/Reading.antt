@@ -47,17 +47,17 @@ semicolon_passed semi offset rest (before, more, e, h, (byte, after, f, k, m)) =
     ap (items_from 0 offset) a ∙ blanks_passed before offset (59 ∷ (after ++ rest)) h ∙ blanks_passed after (offset + length before + 1) rest m ∙ ap (λ o. items_from 0 o rest) b
 
 -- a command begins with a byte that is neither blank, a semicolon nor `E`
-record Begins (front : List ℕ) : Type 0 where
-  byte : ℕ
-  back : List ℕ
-  split : front ≡ byte ∷ back
-  no_blank : (is_blank byte || eqb byte 59) ≡ false
-  no_end : eqb byte 69 ≡ false
+pub record Begins (front : List ℕ) : Type 0 where
+  pub byte : ℕ
+  pub back : List ℕ
+  pub split : front ≡ byte ∷ back
+  pub no_blank : (is_blank byte || eqb byte 59) ≡ false
+  pub no_end : eqb byte 69 ≡ false
 
 by_byte : (b : ℕ) (P : List ℕ → Type 0) (front : List ℕ) → (is_blank b || eqb b 59) ≡ false → eqb b 69 ≡ false → (Byte b ▹ P) front → Begins front
 by_byte b P front h k (byte, back, e, f, m) = record { byte = b; back = back; split = e ∙ ap (λ t. t ++ back) f; no_blank = h; no_end = k }
 
-begins : (c : Command) (front : List ℕ) → Spells c front → Begins front
+pub begins : (c : Command) (front : List ℕ) → Spells c front → Begins front
 begins (Polygon ps) front h = by_byte 80 _ front refl refl h
 begins (Box long wide center direction) front h = by_byte 66 _ front refl refl h
 begins (Round diameter center) front h = by_byte 82 _ front refl refl h
