@@ -10,3 +10,4 @@ pub mod OneExpansion
 pub mod OneWalk
 pub mod WalkDraws
 pub mod Scanning
+pub mod ScanReads

@@ -86,8 +86,7 @@ blank_parts d m o c s u h = (grind arith, grind arith, grind arith, grind arith,
 
 blank_means : (b : ℕ) → is_blank b ≡ true → IsBlank b
 blank_means b h =
-    let p = blank_parts (is_digit b) (eqb b 45) (eqb b 40) (eqb b 41) (eqb b 59) (is_upper b) h in
-    (
+    let p = blank_parts (is_digit b) (eqb b 45) (eqb b 40) (eqb b 41) (eqb b 59) (is_upper b) h in (
       (λ k. between b 48 57 k p.0),
       (λ k. between b 65 90 k p.5),
       apart b 45 p.1,
@@ -98,6 +97,7 @@ blank_means b h =
   where
     between : (b l u : ℕ) → (l ≤ b) × (b ≤ u) → (leb l b && leb b u) ≡ false → ⊥
     between b l u (h, k) e = grind arith
+
     apart : (b c : ℕ) → eqb b c ≡ false → b ≢ c
     apart b c h e = grind arith
 
@@ -124,7 +124,7 @@ kind_read text c size rest r =
 
 -- ---- what a reading says of what is next
 
-abbrev item : ℕ → Command → Item
+abbrev pub item : ℕ → Command → Item
 item offset c = record { offset = offset; command = c }
 
 -- how the reading goes on behind a command
@@ -226,13 +226,13 @@ one_scan _ _ _ _ others _ g (Scans.command {inside = i} {within = w} {offset = o
     elim v [
       | inl a ↦ absurd (a.0 (c, size, rest, r))
       | inr a ↦ one_judged i o c a.0 size a.1 rest a.2 (item o c ∷ is) others e g (one_read text c a.0 size a.1 rest a.2 r a.3)
-      (λ w' ks js x y z.
-        let l : Some w' ≡ Some w = sym x ∙ f in
-        let p : w' ≡ w = cc in
-        let q : is ≡ ks = cc in
-        let t = one_scan w (o + size) rest is js e g s (subst (λ w. Scans w (o + size) rest js g) p z) in
-        (sym q ∙ t.0, t.1))
-      (inr (inr (w, is, n, f, refl, s))) a.4
+          (λ w' ks js x y z.
+          let l : Some w' ≡ Some w = sym x ∙ f in
+          let p : w' ≡ w = cc in
+          let q : is ≡ ks = cc in
+          let t = one_scan w (o + size) rest is js e g s (subst (λ w. Scans w (o + size) rest js g) p z) in
+          (sym q ∙ t.0, t.1))
+          (inr (inr (w, is, n, f, refl, s))) a.4
     ]
 one_scan _ _ _ _ others _ g (Scans.end {offset = o} {after = after} h) k =
     let v = view false o (69 ∷ after) others g k in (sym v.0, one_end false o after Whole g (inl (h, refl)) v.1)
@@ -245,14 +245,14 @@ one_scan _ _ _ _ others _ g (Scans.big {inside = i} {offset = o} {text = text} c
     elim v [
       | inl a ↦ absurd (a.0 (c, size, rest, r))
       | inr a ↦ one_judged i o c a.0 size a.1 rest a.2 [] others (Broken C3 o) g (one_read text c a.0 size a.1 rest a.2 r a.3)
-      (λ w ks js x y z. absurd (let l : [] ≡ item o c ∷ ks = y in cc)) (inl (h, refl, refl)) a.4
+          (λ w ks js x y z. absurd (let l : [] ≡ item o c ∷ ks = y in cc)) (inl (h, refl, refl)) a.4
     ]
 one_scan _ _ _ _ others _ g (Scans.nested {inside = i} {offset = o} {text = text} c size rest r n f) k =
     let v = subst (λ k. View k i o text others g) (kind_read text c size rest r) (view i o text others g k) in
     elim v [
       | inl a ↦ absurd (a.0 (c, size, rest, r))
       | inr a ↦ one_judged i o c a.0 size a.1 rest a.2 [] others (Broken C4 o) g (one_read text c a.0 size a.1 rest a.2 r a.3)
-      (λ w ks js x y z. absurd (let l : [] ≡ item o c ∷ ks = y in cc)) (inr (inl (n, f, refl, refl))) a.4
+          (λ w ks js x y z. absurd (let l : [] ≡ item o c ∷ ks = y in cc)) (inr (inl (n, f, refl, refl))) a.4
     ]
 one_scan _ _ _ _ others _ g (Scans.open_end {offset = o} {after = after}) k =
     let v = view true o (69 ∷ after) others g k in (sym v.0, sym v.1)

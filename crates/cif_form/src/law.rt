@@ -7,6 +7,7 @@ ghost use Rattle.cif_form.specs.declared.command.Command.{Command};
 ghost use Rattle.cif_form.specs.declared.command.Item.{Item};
 ghost use Rattle.cif_form.specs.Text.{◌▹◌, Byte, Blanks, Reads};
 ghost use Rattle.cif_form.specs.Fits.{Fits};
+ghost use Rattle.cif_form.specs.Scans.{TextEnd, FileScans};
 ghost use Rattle.cif_form.specs.Expansion.{Expands};
 ghost use Rattle.cif_form.specs.Walk.{WalkEnd, FileWalks};
 ghost use Rattle.cif_form.specs.Walk.WalkEnd.{Whole};
@@ -43,4 +44,15 @@ pub fn walk_is_unique()
 pub fn walk_is_expansion()
     ensures { (items : List Item) (shapes : List Rect) (labels : List FlatLabel)
         → FileWalks items shapes labels Whole → Expands [] None items shapes labels }
+{}
+
+/// How the reading of a file ends, and with what commands, is determined: there is one first broken rule, or none.
+pub fn scan_is_unique()
+    ensures { (text : List ℕ) (items others : List Item) (end last : TextEnd)
+        → FileScans text items end → FileScans text others last → (items ≡ others) × (end ≡ last) }
+{}
+
+/// A file that breaks no rule of texts reads as its commands.
+pub fn scan_is_reading()
+    ensures { (text : List ℕ) (items : List Item) → FileScans text items TextEnd.Whole → Reads 0 text items }
 {}

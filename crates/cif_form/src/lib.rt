@@ -6,5 +6,6 @@ mod law;
 
 pub use command::{Cif, Command, Item, Turn};
 pub use law::{
-    expansion_is_unique, reading_is_unique, walk_is_expansion, walk_is_unique, written_is_read,
+    expansion_is_unique, reading_is_unique, scan_is_reading, scan_is_unique, walk_is_expansion,
+    walk_is_unique, written_is_read,
 };
