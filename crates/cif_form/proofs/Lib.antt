@@ -11,3 +11,5 @@ pub mod OneWalk
 pub mod WalkDraws
 pub mod Scanning
 pub mod ScanReads
+pub mod Examples
+pub mod WalkExamples

@@ -31,7 +31,7 @@ ends_after (Call n ts) bs rest h u = record { blanks = bs; more = rest; split = 
 ends_after (User digit words) bs rest h u = (rest, ap (λ t. t ++ (59 ∷ rest)) (u digit words refl))
 ends_after (Comment words) bs rest h u = record { blanks = bs; more = rest; split = refl; are_blanks = h }
 
-found : (text : List ℕ) (c : Command) (size : ℕ) (rest : List ℕ) (r : IsReadAs text c size rest) → command_from text ≡ Some (c, r.blanks ++ (59 ∷ rest))
+pub found : (text : List ℕ) (c : Command) (size : ℕ) (rest : List ℕ) (r : IsReadAs text c size rest) → command_from text ≡ Some (c, r.blanks ++ (59 ∷ rest))
 found text c size rest r =
     ap command_from r.split ∙ command_reads c r.spelled (r.blanks ++ (59 ∷ rest)) r.spells (ends_after c r.blanks rest r.are_blanks r.user)
 
