@@ -1,0 +1,15 @@
+pub mod Written
+pub mod Numbers
+pub mod Parts
+pub mod Commands
+pub mod Reading
+pub mod Scaled
+pub mod OneLabel
+pub mod OnePlace
+pub mod OneExpansion
+pub mod OneWalk
+pub mod WalkDraws
+pub mod Scanning
+pub mod ScanReads
+pub mod Examples
+pub mod WalkExamples
