@@ -3,3 +3,8 @@ pub mod Settled
 pub mod Pads
 pub mod Clock
 pub mod Sizes
+pub mod Classes
+pub mod Conductors
+pub mod Labels
+pub mod Drawn
+pub mod Breaks
