@@ -6,21 +6,22 @@ use Rattle.mp_base.specs.declared.refusal.Spot.{Spot}
 use Rattle.mp_base.specs.declared.refusal.Spot.TheVariants.{Offset, Named, Nowhere}
 use Rattle.mp_base.specs.declared.refusal.Broken.{Broken}
 use Rattle.lam_geom.specs.declared.layer.Layer.{Layer}
+use Rattle.lam_geom.specs.declared.label.FlatLabel.{FlatLabel}
 use Rattle.lam_geom.specs.Chains.{Chain}
 use Rattle.lam_geom.specs.Squares.{Square}
 use Rattle.switch_net.specs.declared.network.Tag.{Tag}
 use Rattle.switch_net.specs.declared.network.Network.{Network}
 use Rattle.switch_net.specs.Conductors.{Joined}
-use Rattle.switch_net.specs.Labels.{Label, Names}
+use Rattle.switch_net.specs.Labels.{Names}
 use Rattle.switch_net.specs.Pads.{supply_labels, driver_labels, chip_labels}
 use Rattle.switch_net.specs.Drawn.{AreNodes, AreRegions, IsNetwork}
 
 -- N1: an earlier label of that name is on another node
-pub record IsOnTwoNodes (covers : Layer → ℤ → ℤ → Type 0) (labels : List Label) (i : ℕ) (label : Label) : Type 0 where
+pub record IsOnTwoNodes (covers : Layer → ℤ → ℤ → Type 0) (labels : List FlatLabel) (i : ℕ) (label : FlatLabel) : Type 0 where
   pub at : slice_get labels i ≡ Some label
   pub j : ℕ
   pub before : j < i
-  pub earlier : Label
+  pub earlier : FlatLabel
   pub there : slice_get labels j ≡ Some earlier
   pub name : earlier.name ≡ label.name
   pub s : Square
@@ -30,7 +31,7 @@ pub record IsOnTwoNodes (covers : Layer → ℤ → ℤ → Type 0) (labels : Li
   pub apart : ¬ Chain (Joined covers) t s
 
 -- N2: no conductor is there
-pub record IsOnNothing (covers : Layer → ℤ → ℤ → Type 0) (labels : List Label) (i : ℕ) (label : Label) : Type 0 where
+pub record IsOnNothing (covers : Layer → ℤ → ℤ → Type 0) (labels : List FlatLabel) (i : ℕ) (label : FlatLabel) : Type 0 where
   pub at : slice_get labels i ≡ Some label
   pub none : (s : Square) → ¬ Names covers label s
 
@@ -60,9 +61,9 @@ pub record AreTooMany (covers : Layer → ℤ → ℤ → Type 0) : Type 0 where
   pub over : 16_777_216 < length nodes + length regions
 
 -- the label breaks N1 or N2
-pub data BreaksAt (covers : Layer → ℤ → ℤ → Type 0) (labels : List Label) (i : ℕ) : Type 0 where
-  one : (label : Label) → IsOnTwoNodes covers labels i label → BreaksAt covers labels i
-  two : (label : Label) → IsOnNothing covers labels i label → BreaksAt covers labels i
+pub data BreaksAt (covers : Layer → ℤ → ℤ → Type 0) (labels : List FlatLabel) (i : ℕ) : Type 0 where
+  one : (label : FlatLabel) → IsOnTwoNodes covers labels i label → BreaksAt covers labels i
+  two : (label : FlatLabel) → IsOnNothing covers labels i label → BreaksAt covers labels i
 
 -- a label is on a node of another driver
 abbrev pub MeetsDriver : List (List ℕ) → List Tag → ℕ → Type 0
@@ -72,10 +73,10 @@ abbrev pub broken : ℕ → Spot → Broken
 broken number spot = record { rule = record { family = N; number = number }; spot = spot }
 
 -- the first rule that a mask with labels breaks: N1 and N2 label by label, then N3 among power, ground and phases, then N5
-pub data IsFirstOfMask (covers : Layer → ℤ → ℤ → Type 0) (labels : List Label) : Broken → Type 0 where
-  n1 : (i : ℕ) (label : Label) → IsOnTwoNodes covers labels i label → ((j : ℕ) → j < i → ¬ BreaksAt covers labels j)
+pub data IsFirstOfMask (covers : Layer → ℤ → ℤ → Type 0) (labels : List FlatLabel) : Broken → Type 0 where
+  n1 : (i : ℕ) (label : FlatLabel) → IsOnTwoNodes covers labels i label → ((j : ℕ) → j < i → ¬ BreaksAt covers labels j)
       → IsFirstOfMask covers labels (broken 1 (Offset label.offset))
-  n2 : (i : ℕ) (label : Label) → IsOnNothing covers labels i label → ((j : ℕ) → j < i → ¬ BreaksAt covers labels j)
+  n2 : (i : ℕ) (label : FlatLabel) → IsOnNothing covers labels i label → ((j : ℕ) → j < i → ¬ BreaksAt covers labels j)
       → IsFirstOfMask covers labels (broken 2 (Offset label.offset))
   n3 : (net : Network) → IsNetwork covers labels net → (i : ℕ) (tag : Tag) → IsDrivenTwice supply_labels net.tags i tag
       → ((j : ℕ) → j < i → ¬ MeetsDriver supply_labels net.tags j) → IsFirstOfMask covers labels (broken 3 (Offset tag.offset))
@@ -90,13 +91,13 @@ pub data IsFirstOfCircuit (net : Network) (pads : Pads) : Broken → Type 0 wher
       → ((j : ℕ) (other : List ℕ) → j < i → ¬ IsMissing net (chip_labels pads) j other) → IsFirstOfCircuit net pads (broken 4 (Named name))
 
 -- drivers are on different nodes, and no label of the chip is missing
-pub record FitsPads (net : Network) (pads : Pads) : Type 0 where
+pub record HasPads (net : Network) (pads : Pads) : Type 0 where
   pub apart : (i : ℕ) → ¬ MeetsDriver (driver_labels pads.inputs) net.tags i
   pub labelled : (i : ℕ) (name : List ℕ) → ¬ IsMissing net (chip_labels pads) i name
 
 -- the mask with these labels draws this network, and none of N1 to N5 is broken with these pads
-pub record IsSoundMask (covers : Layer → ℤ → ℤ → Type 0) (labels : List Label) (net : Network) (pads : Pads) : Type 0 where
+pub record IsSoundMask (covers : Layer → ℤ → ℤ → Type 0) (labels : List FlatLabel) (net : Network) (pads : Pads) : Type 0 where
   pub network : IsNetwork covers labels net
   pub labels_fit : (i : ℕ) → ¬ BreaksAt covers labels i
   pub few : ¬ AreTooMany covers
-  pub pads_fit : FitsPads net pads
+  pub has_pads : HasPads net pads

@@ -2,6 +2,7 @@
 use Rattle.std.specs.Prelude.{◌≡◌, ◌↔◌, ℕ, ◌<◌, List, length, ℤ, AllPairs, Contains}
 use Rattle.std.specs.List.{AllZip}
 use Rattle.lam_geom.specs.declared.layer.Layer.{Layer}
+use Rattle.lam_geom.specs.declared.label.FlatLabel.{FlatLabel}
 use Rattle.lam_geom.specs.declared.layer.Layer.TheVariants.{ND, NI}
 use Rattle.lam_geom.specs.Chains.{Chain}
 use Rattle.lam_geom.specs.Squares.{Square, Adjoin, ShareEdge, Before}
@@ -12,7 +13,7 @@ use Rattle.switch_net.specs.declared.network.Tag.{Tag}
 use Rattle.switch_net.specs.declared.network.Network.{Network}
 use Rattle.switch_net.specs.Classes.{AreClasses, IsInClass}
 use Rattle.switch_net.specs.Conductors.{Conducts, Joined, IsChannelSquare}
-use Rattle.switch_net.specs.Labels.{Label, Names}
+use Rattle.switch_net.specs.Labels.{Names}
 
 -- the least squares of the nodes, in order: a node is a class of joined conductors
 abbrev pub AreNodes : (Layer → ℤ → ℤ → Type 0) → List Square → Type 0
@@ -54,7 +55,7 @@ pub record IsChannelAt (covers : Layer → ℤ → ℤ → Type 0) (nodes : List
   pub kind : IsKind covers r c.kind
 
 -- the tag says on which node the conductor is that the label names
-pub record IsTag (covers : Layer → ℤ → ℤ → Type 0) (nodes : List Square) (label : Label) (tag : Tag) : Type 0 where
+pub record IsTag (covers : Layer → ℤ → ℤ → Type 0) (nodes : List Square) (label : FlatLabel) (tag : Tag) : Type 0 where
   pub offset : label.offset ≡ tag.offset
   pub name : label.name ≡ tag.name
   pub square : Square
@@ -63,7 +64,7 @@ pub record IsTag (covers : Layer → ℤ → ℤ → Type 0) (nodes : List Squar
 
 -- the network of what is covered, with these labels: nodes and channels are numbered in the order of their least squares,
 -- and the tags are in the order of the labels
-pub record IsNetwork (covers : Layer → ℤ → ℤ → Type 0) (labels : List Label) (net : Network) : Type 0 where
+pub record IsNetwork (covers : Layer → ℤ → ℤ → Type 0) (labels : List FlatLabel) (net : Network) : Type 0 where
   pub nodes : List Square
   pub regions : List Square
   pub are_nodes : AreNodes covers nodes

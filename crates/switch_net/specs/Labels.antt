@@ -1,16 +1,9 @@
 -- Labels of a mask, and the conductors that they name.
 use Rattle.std.specs.Prelude.{◌≡◌, ◌⊎◌, ℕ, ◌<◌, List, Option, Some, None, ℤ}
 use Rattle.lam_geom.specs.declared.layer.Layer.{Layer}
+use Rattle.lam_geom.specs.declared.label.FlatLabel.{FlatLabel}
 use Rattle.lam_geom.specs.Squares.{Square, rank}
 use Rattle.switch_net.specs.Conductors.{ConductsOn}
-
--- a label: the byte of the file at which it stands, its name, the square that it names, and a layer or none
-pub record Label : Type 0 where
-  pub offset : ℕ
-  pub name : List ℕ
-  pub x : ℤ
-  pub y : ℤ
-  pub layer : Option Layer
 
 -- the first of metal, polysilicon and diffusion that conducts there
 abbrev pub IsFirst : (Layer → ℤ → ℤ → Type 0) → ℤ → ℤ → Layer → Type 0
@@ -22,7 +15,7 @@ IsNamed covers x y (Some m) l = (l ≡ m) × ConductsOn covers m x y ⊎ ¬ Cond
 IsNamed covers x y None l = IsFirst covers x y l
 
 -- the label names this conductor
-pub record Names (covers : Layer → ℤ → ℤ → Type 0) (label : Label) (s : Square) : Type 0 where
+pub record Names (covers : Layer → ℤ → ℤ → Type 0) (label : FlatLabel) (s : Square) : Type 0 where
   pub x : s.x ≡ label.x
   pub y : s.y ≡ label.y
   pub layer : IsNamed covers label.x label.y label.layer s.layer

@@ -8,3 +8,5 @@ pub mod Conductors
 pub mod Labels
 pub mod Drawn
 pub mod Breaks
+pub mod Cutting
+pub mod Laws
