@@ -1,0 +1,10 @@
+mod Reaching
+mod Rounds
+mod Marks
+mod Bounds
+mod Exists
+mod Again
+mod Owners
+mod Flips
+mod Pieces
+mod Unique

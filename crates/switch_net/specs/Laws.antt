@@ -1,12 +1,12 @@
 -- What holds of every mask and every network.
-use Rattle.std.specs.Prelude.{◌≡◌, ℕ, ◌<◌, List, All, AllPairs, ◌≢◌}
+use Rattle.std.specs.Prelude.{◌≡◌, ℕ, List, All, AllPairs, ◌≢◌}
 use Rattle.mp_base.specs.declared.value.Trit.{Trit}
 use Rattle.mp_base.specs.declared.pad.Pads.{Pads}
 use Rattle.lam_geom.specs.declared.rect.Rect.{Rect}
 use Rattle.lam_geom.specs.declared.label.FlatLabel.{FlatLabel}
 use Rattle.lam_geom.specs.Squares.{covered}
 use Rattle.switch_net.specs.declared.network.Network.{Network}
-use Rattle.switch_net.specs.Settled.{Setting, EndsBelow, IsSettled}
+use Rattle.switch_net.specs.Settled.{Setting, IsSettled}
 use Rattle.switch_net.specs.Pads.{Fit, driver_labels}
 use Rattle.switch_net.specs.Clock.{IsCircuitTrace}
 use Rattle.switch_net.specs.Drawn.{IsNetwork}
@@ -17,9 +17,9 @@ abbrev pub OneNetwork : Type 0
 OneNetwork =
     (shapes : List Rect) (labels : List FlatLabel) (n m : Network) → IsNetwork (covered shapes) labels n → IsNetwork (covered shapes) labels m → n ≡ m
 
--- channels whose ends are among so many nodes have settled values, whatever the drivers and the values before
+-- there are settled values, whatever the channels, the drivers and the values before
 abbrev pub SettledExists : Type 0
-SettledExists = (s : Setting) (nodes : ℕ) → EndsBelow nodes s.channels → (v : ℕ → Trit) × IsSettled s v
+SettledExists = (s : Setting) → (v : ℕ → Trit) × IsSettled s v
 
 -- settled values are determined
 abbrev pub SettledOnce : Type 0

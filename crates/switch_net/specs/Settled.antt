@@ -1,5 +1,5 @@
 -- What the values of a settled network are: the least solution over paths.
-use Rattle.std.specs.Prelude.{◌≡◌, ◌≢◌, ◌↔◌, ◌⊎◌, ℕ, ◌<◌, List, [], ◌∷◌, Option, Some, None, IsSome, Contains, All, Any}
+use Rattle.std.specs.Prelude.{◌≡◌, ◌≢◌, ◌↔◌, ◌⊎◌, ℕ, List, [], ◌∷◌, Option, Some, None, IsSome, Contains, All, Any}
 use Rattle.mp_base.specs.declared.value.Trit.{Trit}
 use Rattle.mp_base.specs.declared.value.Trit.TheVariants.{Zero, One, X}
 use Rattle.switch_net.specs.declared.network.ChannelKind.{ChannelKind}
@@ -96,7 +96,3 @@ IsBelow v w = (n : ℕ) → (v n ≡ X) ⊎ (v n ≡ w n)
 pub record IsSettled (s : Setting) (v : ℕ → Trit) : Type 0 where
   pub solution : IsSolution s v
   pub least : (w : ℕ → Trit) → IsSolution s w → IsBelow v w
-
--- each channel has its ends among so many nodes
-abbrev pub EndsBelow : ℕ → List Channel → Type 0
-EndsBelow nodes channels = (c : Channel) (e : ℕ) → Contains channels c → Contains c.ends e → e < nodes
