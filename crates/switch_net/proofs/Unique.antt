@@ -1,6 +1,8 @@
 -- The classes of joined things are determined, and so is the network that a mask draws.
 use Rattle.std.proofs.Common.{ℕ, zero, suc, ◌≡◌, ◌<◌, ◌⊎◌, inl, inr, refl, sym, ◌∙◌, ap, subst, subst₂, arith, List, [], ◌∷◌, length, get_or, Contains}
-use Rattle.std.specs.Prelude.{AllPairs, ℤ, Some, None, Option}
+use Rattle.std.specs.Prelude.{All, AllPairs, ℤ, Some, None, Option}
+use Rattle.std.proofs.Props.{props}
+use mathlib.Core.HLevel.{is_prop→PathP}
 use Rattle.std.specs.List.{AllZip}
 use Rattle.std.proofs.lemmas.Int.{ints, by_lt_z}
 use Rattle.std.proofs.lemmas.Bool.{cases_lt}
@@ -16,6 +18,7 @@ use Rattle.lam_geom.specs.Squares.{Square, Before, rank, covered}
 use Rattle.switch_net.specs.declared.network.Channel.{Channel}
 use Rattle.switch_net.specs.declared.network.Tag.{Tag}
 use Rattle.switch_net.specs.declared.network.Network.{Network}
+use Rattle.switch_net.specs.OneNode.{OneNodeEach}
 use Rattle.switch_net.specs.Classes.{AreClasses, IsInClass}
 use Rattle.switch_net.specs.Conductors.{Joined, IsChannelSquare}
 use Rattle.switch_net.specs.Labels.{Names, IsNamed, IsFirst}
@@ -213,7 +216,14 @@ module _ (covers : Layer → ℤ → ℤ → Type 0) (nodes : List Square) (are 
       λ z. record { offset = o z; name = e z; node = n z }
 
 same_network : (n m : Network) → n.nodes ≡ m.nodes → n.channels ≡ m.channels → n.tags ≡ m.tags → n ≡ m
-same_network n m p q r = ?
+same_network n m p q r =
+    let gates = is_prop→PathP (λ i. All (λ c. c.gate < p i) (q i)) (λ i. hlevel props) n.gates_in m.gates_in in
+    let ends = is_prop→PathP (λ i. All (λ c. All (λ e. e < p i) c.ends) (q i)) (λ i. hlevel props) n.ends_in m.ends_in in
+    let nodes = is_prop→PathP (λ i. All (λ t. t.node < p i) (r i)) (λ i. hlevel props) n.tags_in m.tags_in in
+    let one = is_prop→PathP (λ i. OneNodeEach (r i)) (λ i. hlevel props) n.one_node_each m.one_node_each in
+    λ i. record {
+      nodes = p i; channels = q i; tags = r i; gates_in = gates i; ends_in = ends i; tags_in = nodes i; one_node_each = one i;
+    }
 
 -- The network of what is covered is determined.
 one_network : (covers : Layer → ℤ → ℤ → Type 0) (labels : List FlatLabel) (n m : Network) → IsNetwork covers labels n → IsNetwork covers labels m → n ≡ m
