@@ -19,7 +19,7 @@ Decided P = P ⊎ (P → ⊥)
 all_at : {Y : Type 0} (P : Y → Type 0) (xs : List Y) (x : Y) → All P xs → Contains xs x → P x
 all_at P xs x h in' = subst P in'.2 (h in'.0 x in'.1)
 
-all_or_one : {Y : Type 0} (P Q : Y → Type 0) → ((x : Y) → P x ⊎ Q x) → (xs : List Y) → All P xs ⊎ ((x : Y) × Contains xs x × Q x)
+pub all_or_one : {Y : Type 0} (P Q : Y → Type 0) → ((x : Y) → P x ⊎ Q x) → (xs : List Y) → All P xs ⊎ ((x : Y) × Contains xs x × Q x)
 all_or_one P Q dec [] = inl (λ k d lt. absurd (omega arith))
 all_or_one {Y} P Q dec (x ∷ xs) = step (dec x) (all_or_one P Q dec xs)
   where

@@ -8,3 +8,6 @@ mod Owners
 mod Flips
 mod Pieces
 mod Unique
+mod Determined
+mod Driving
+mod Runs
