@@ -1,3 +1,6 @@
 mod Reading
 mod Drawing
 mod Mask
+mod Chaining
+mod Nodes
+mod Extracted
