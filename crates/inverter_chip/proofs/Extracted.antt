@@ -182,7 +182,7 @@ upper_part : Part 1 (pos 0) (pos 32)
 upper_part = region_of 1 upper (lit< tt)
 
 module _ (joined : RectanglesAreJoined) where
-  pull_down : IsChannelAt mask nodes lower (record { gate = 4; ends = 0 ∷ 5 ∷ []; kind = Enhancement })
+  pub pull_down : IsChannelAt mask nodes lower (record { gate = 4; ends = 0 ∷ 5 ∷ []; kind = Enhancement })
   pull_down = record {
     gate = of_node joined 4 lower (inl (refl, (omega (arith, ints), omega (arith, ints), omega (arith, ints), omega (arith, ints))));
     ascending = ascend_two 0 5 (lit< tt);
@@ -202,7 +202,7 @@ module _ (joined : RectanglesAreJoined) where
       apart : (x y : ℤ) → Part 0 x y → Lies (negsuc 3) (pos 32) (pos 8) (pos 48) x y → ⊥
       apart x y p i = omega (arith, ints)
 
-  pull_up : IsChannelAt mask nodes upper (record { gate = 5; ends = 5 ∷ 6 ∷ []; kind = Depletion })
+  pub pull_up : IsChannelAt mask nodes upper (record { gate = 5; ends = 5 ∷ 6 ∷ []; kind = Depletion })
   pull_up = record {
     gate = of_node joined 5 upper (inr (refl, (omega (arith, ints), omega (arith, ints), omega (arith, ints), omega (arith, ints))));
     ascending = ascend_two 5 6 (lit< tt);
@@ -226,7 +226,7 @@ module _ (joined : RectanglesAreJoined) where
   -- ---- labels
 
   -- a label with a layer of its own
-  on_layer : (offset : ℕ) (name : List ℕ) (l : Layer) (x y : ℤ) (k : ℕ) → Of l k x y → IsTag mask nodes (label offset name x y (Some l)) (tag offset name k)
+  pub on_layer : (offset : ℕ) (name : List ℕ) (l : Layer) (x y : ℤ) (k : ℕ) → Of l k x y → IsTag mask nodes (label offset name x y (Some l)) (tag offset name k)
   on_layer offset name l x y k h = record {
     offset = refl;
     name = refl;
@@ -236,7 +236,7 @@ module _ (joined : RectanglesAreJoined) where
   }
 
   -- a label of metal, with none
-  on_metal : (offset : ℕ) (name : List ℕ) (x y : ℤ) (k : ℕ) → Of NM k x y → IsTag mask nodes (label offset name x y None) (tag offset name k)
+  pub on_metal : (offset : ℕ) (name : List ℕ) (x y : ℤ) (k : ℕ) → Of NM k x y → IsTag mask nodes (label offset name x y None) (tag offset name k)
   on_metal offset name x y k h = record {
     offset = refl;
     name = refl;

@@ -4,3 +4,5 @@ mod Mask
 mod Chaining
 mod Nodes
 mod Extracted
+mod Netlist
+mod Running
