@@ -6,3 +6,4 @@ mod Nodes
 mod Extracted
 mod Netlist
 mod Running
+mod Scanned
