@@ -7,3 +7,4 @@ mod Extracted
 mod Netlist
 mod Running
 mod Scanned
+mod Walked

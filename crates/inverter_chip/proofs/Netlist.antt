@@ -183,7 +183,7 @@ chip_labels_are pads h =
 contains_at : (i : ℕ) (t : Tag) → slice_get tags i ≡ Some t → Contains tags t
 contains_at i t e = (i, slice_get_within tags i t e, get_or_from_slice_get tags i t t e)
 
-has_pads : (pads : Pads) → ArePads pads → HasPads netlist pads
+pub has_pads : (pads : Pads) → ArePads pads → HasPads netlist pads
 has_pads pads h = record {
   apart = λ i d. d.1.names (sym (node_name d.1.earlier (contains_at d.1.j d.1.earlier d.1.there)) ∙ ap name_on d.1.node ∙ node_name d.0 (contains_at i d.0 d.1.at));
   labelled = λ i name m. none i name (subst (λ xs. slice_get xs i ≡ Some name) (chip_labels_are pads h) m.at) m.none;
