@@ -10,4 +10,5 @@ mod Pieces
 mod Unique
 mod Determined
 mod Driving
+mod Labelling
 mod Runs

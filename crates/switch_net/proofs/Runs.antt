@@ -1,6 +1,6 @@
 -- A network that has its pads runs.
 use Rattle.std.proofs.Common.{◌≡◌, ℕ, zero, suc, ◌<◌, ◌⊎◌, inl, inr, List, [], ◌∷◌, ◌++◌, Some, length, get_or, refl, sym, ap, subst, ◌∙◌, arith, map}
-use Rattle.std.specs.Prelude.{◌≢◌, All, AllPairs, Contains, flat_map, slice_get}
+use Rattle.std.specs.Prelude.{◌≢◌, All, Contains, flat_map, slice_get}
 use Rattle.std.specs.List.{AllZip}
 use Rattle.std.proofs.lemmas.Option.{slice_get-get_or}
 use Rattle.std.proofs.lemmas.List.Elements.{Contains-append_left, Contains-append_right}
@@ -15,6 +15,7 @@ use Rattle.switch_net.specs.Breaks.{HasPads}
 use Rattle.switch_net.specs.Laws.{TraceExists}
 use Rattle.switch_net.proofs.Exists.{all_or_one, settled_exists}
 use Rattle.switch_net.proofs.Driving.{same_name, drivers_exist, names_of_drives}
+use Rattle.switch_net.proofs.Labelling.{labels_differ}
 
 -- ---- what is shown
 
@@ -56,34 +57,33 @@ module _ (net : Network) (pads : Pads) (has : HasPads net pads) where
       zip_exists (HasValue net values) (bit_labels pad) (λ name k.
       value_exists values name (Contains-append_right (driver_labels pads.inputs) (flat_map bit_labels pads.outputs) name (in_flat bit_labels pads.outputs pad name c k))))
 
-  module _ (differ : AllPairs ◌≢◌ (driver_labels pads.inputs)) where
-    settles : (phases : Phases) (words : List ℕ) (before : ℕ → Trit) → Fit pads.inputs words → (after : ℕ → Trit) × SettlesTo net (drives phases pads.inputs words) before after
-    settles phases words before f =
-        let d = drivers_exist net (driver_labels pads.inputs) has.apart (drives phases pads.inputs words) (names_of_drives phases pads.inputs words f) differ in
-        let s = settled_exists (record { channels = net.channels; driver = d.0; before = before }) in
-        (s.0, record { driver = d.0; drivers = d.1; settled = s.1 })
+  settles : (phases : Phases) (words : List ℕ) (before : ℕ → Trit) → Fit pads.inputs words → (after : ℕ → Trit) × SettlesTo net (drives phases pads.inputs words) before after
+  settles phases words before f =
+      let d = drivers_exist net (driver_labels pads.inputs) has.apart (drives phases pads.inputs words) (names_of_drives phases pads.inputs words f) (labels_differ pads) in
+      let s = settled_exists (record { channels = net.channels; driver = d.0; before = before }) in
+      (s.0, record { driver = d.0; drivers = d.1; settled = s.1 })
 
-    runs : (ps : List Phases) (words : List ℕ) (before : ℕ → Trit) → Fit pads.inputs words → (after : ℕ → Trit) × RunsTo net pads.inputs words ps before after
-    runs [] words before f = (before, λ n. refl)
-    runs (p ∷ ps) words before f =
-        let s = settles p words before f in
-        let r = runs ps words s.0 f in
-        (r.0, (s.0, s.1, r.1))
+  runs : (ps : List Phases) (words : List ℕ) (before : ℕ → Trit) → Fit pads.inputs words → (after : ℕ → Trit) × RunsTo net pads.inputs words ps before after
+  runs [] words before f = (before, λ n. refl)
+  runs (p ∷ ps) words before f =
+      let s = settles p words before f in
+      let r = runs ps words s.0 f in
+      (r.0, (s.0, s.1, r.1))
 
-    clock : (words : List ℕ) (before : ℕ → Trit) → Fit pads.inputs words → (shown : List (List Trit)) × (after : ℕ → Trit) × IsClock net pads words before shown after
-    clock words before f =
-        let until = runs settings_until_outputs words before f in
-        let rest = runs settings_after_outputs words until.0 f in
-        let shown = shown_exists until.0 in
-        (shown.0, rest.0, record { values = until.0; until = until.1; shows = shown.1; rest = rest.1 })
+  clock : (words : List ℕ) (before : ℕ → Trit) → Fit pads.inputs words → (shown : List (List Trit)) × (after : ℕ → Trit) × IsClock net pads words before shown after
+  clock words before f =
+      let until = runs settings_until_outputs words before f in
+      let rest = runs settings_after_outputs words until.0 f in
+      let shown = shown_exists until.0 in
+      (shown.0, rest.0, record { values = until.0; until = until.1; shows = shown.1; rest = rest.1 })
 
-    trace : (before : ℕ → Trit) (inputs : List (List ℕ)) → All (Fit pads.inputs) inputs
-        → (outputs : List (List (List Trit))) × (after : ℕ → Trit) × IsCircuitTrace net pads before inputs outputs after
-    trace before [] f = ([], before, λ n. refl)
-    trace before (words ∷ inputs) f =
-        let c = clock words before (f 0 words (omega arith)) in
-        let r = trace c.1 inputs (λ k d l. f (suc k) d (omega arith)) in
-        (c.0 ∷ r.0, r.1, (c.1, c.2, r.2))
+  trace : (before : ℕ → Trit) (inputs : List (List ℕ)) → All (Fit pads.inputs) inputs
+      → (outputs : List (List (List Trit))) × (after : ℕ → Trit) × IsCircuitTrace net pads before inputs outputs after
+  trace before [] f = ([], before, λ n. refl)
+  trace before (words ∷ inputs) f =
+      let c = clock words before (f 0 words (omega arith)) in
+      let r = trace c.1 inputs (λ k d l. f (suc k) d (omega arith)) in
+      (c.0 ∷ r.0, r.1, (c.1, c.2, r.2))
 
 pub trace_exists : TraceExists
-trace_exists net pads before inputs has differ f = trace net pads has differ before inputs f
+trace_exists net pads before inputs has f = trace net pads has before inputs f

@@ -1,6 +1,7 @@
 -- The rules of masks and networks, and the first that is broken.
 use Rattle.std.specs.Prelude.{◌≡◌, ◌≢◌, ℕ, ◌<◌, ◌+◌, List, length, Some, ℤ, Contains, slice_get}
 use Rattle.mp_base.specs.declared.pad.Pads.{Pads}
+use Rattle.mp_base.specs.PadNames.{supplies}
 use Rattle.mp_base.specs.declared.refusal.Family.TheVariants.{N}
 use Rattle.mp_base.specs.declared.refusal.Spot.{Spot}
 use Rattle.mp_base.specs.declared.refusal.Spot.TheVariants.{Offset, Named, Nowhere}
@@ -13,7 +14,7 @@ use Rattle.switch_net.specs.declared.network.Tag.{Tag}
 use Rattle.switch_net.specs.declared.network.Network.{Network}
 use Rattle.switch_net.specs.Conductors.{Joined}
 use Rattle.switch_net.specs.Labels.{Names}
-use Rattle.switch_net.specs.Pads.{supply_labels, driver_labels, chip_labels}
+use Rattle.switch_net.specs.Pads.{driver_labels, chip_labels}
 use Rattle.switch_net.specs.Drawn.{AreNodes, AreRegions, IsNetwork}
 
 -- N1: an earlier label of that name is on another node
@@ -78,9 +79,9 @@ pub data IsFirstOfMask (covers : Layer → ℤ → ℤ → Type 0) (labels : Lis
       → IsFirstOfMask covers labels (broken 1 (Offset label.offset))
   n2 : (i : ℕ) (label : FlatLabel) → IsOnNothing covers labels i label → ((j : ℕ) → j < i → ¬ BreaksAt covers labels j)
       → IsFirstOfMask covers labels (broken 2 (Offset label.offset))
-  n3 : (net : Network) → IsNetwork covers labels net → (i : ℕ) (tag : Tag) → IsDrivenTwice supply_labels net.tags i tag
-      → ((j : ℕ) → j < i → ¬ MeetsDriver supply_labels net.tags j) → IsFirstOfMask covers labels (broken 3 (Offset tag.offset))
-  n5 : (net : Network) → IsNetwork covers labels net → ((i : ℕ) → ¬ MeetsDriver supply_labels net.tags i) → AreTooMany covers
+  n3 : (net : Network) → IsNetwork covers labels net → (i : ℕ) (tag : Tag) → IsDrivenTwice supplies net.tags i tag
+      → ((j : ℕ) → j < i → ¬ MeetsDriver supplies net.tags j) → IsFirstOfMask covers labels (broken 3 (Offset tag.offset))
+  n5 : (net : Network) → IsNetwork covers labels net → ((i : ℕ) → ¬ MeetsDriver supplies net.tags i) → AreTooMany covers
       → IsFirstOfMask covers labels (broken 5 Nowhere)
 
 -- the first rule that a network breaks with these pads: N3 with the input pads among the drivers, then N4

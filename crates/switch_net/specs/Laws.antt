@@ -1,5 +1,5 @@
 -- What holds of every mask and every network.
-use Rattle.std.specs.Prelude.{◌≡◌, ℕ, List, All, AllPairs, ◌≢◌}
+use Rattle.std.specs.Prelude.{◌≡◌, ℕ, List, All}
 use Rattle.mp_base.specs.declared.value.Trit.{Trit}
 use Rattle.mp_base.specs.declared.pad.Pads.{Pads}
 use Rattle.lam_geom.specs.declared.rect.Rect.{Rect}
@@ -7,7 +7,7 @@ use Rattle.lam_geom.specs.declared.label.FlatLabel.{FlatLabel}
 use Rattle.lam_geom.specs.Squares.{Square, covered}
 use Rattle.switch_net.specs.declared.network.Network.{Network}
 use Rattle.switch_net.specs.Settled.{Setting, IsSettled}
-use Rattle.switch_net.specs.Pads.{Fit, driver_labels}
+use Rattle.switch_net.specs.Pads.{Fit}
 use Rattle.switch_net.specs.Clock.{IsCircuitTrace}
 use Rattle.switch_net.specs.Drawn.{AreNodes, AreRegions, IsNetwork}
 use Rattle.switch_net.specs.Breaks.{HasPads}
@@ -38,8 +38,7 @@ SettlesAgain = (s : Setting) (v : ℕ → Trit) → IsSettled s v → IsSettled 
 -- a network that has its pads runs from all values before under all inputs that fit
 abbrev pub TraceExists : Type 0
 TraceExists =
-    (net : Network) (pads : Pads) (before : ℕ → Trit) (inputs : List (List ℕ)) → HasPads net pads → AllPairs ◌≢◌ (driver_labels pads.inputs)
-    → All (Fit pads.inputs) inputs
+    (net : Network) (pads : Pads) (before : ℕ → Trit) (inputs : List (List ℕ)) → HasPads net pads → All (Fit pads.inputs) inputs
     → (outputs : List (List (List Trit))) × (after : ℕ → Trit) × IsCircuitTrace net pads before inputs outputs after
 
 -- what is shown, and the values after, are determined

@@ -7,6 +7,7 @@ use Rattle.mp_base.specs.declared.value.Trit.{Trit}
 use Rattle.mp_base.specs.declared.value.Trit.TheVariants.{Zero, One}
 use Rattle.mp_base.specs.declared.pad.Pad.{Pad}
 use Rattle.mp_base.specs.declared.pad.Pads.{Pads}
+use Rattle.mp_base.specs.PadNames.{supplies}
 
 -- how many bits a pad has: a signal, whose width is 0, has one
 abbrev pub bit_count : ℕ → ℕ
@@ -16,7 +17,7 @@ bit_count (suc w) = suc w
 -- p.0 to p.(n-1)
 abbrev pub word_labels : List ℕ → ℕ → List (List ℕ)
 word_labels p zero = []
-word_labels p (suc n) = word_labels p n ++ ((p ++ codes "." ++ decimal n) ∷ [])
+word_labels p (suc n) = word_labels p n ++ ((p ++ (codes "." ++ decimal n)) ∷ [])
 
 -- the labels of a pad's bits, bit 0 first: those of a word by their numbers, and a signal's own name
 abbrev pub labels_of : List ℕ → ℕ → List (List ℕ)
@@ -43,13 +44,9 @@ pad_bits pad word = low_bits (bit_count pad.width) word
 abbrev pub Fit : List Pad → List ℕ → Type 0
 Fit pads words = AllZip (λ (pad : Pad) (word : ℕ). word < 2 ^ bit_count pad.width) pads words
 
--- the labels of power, ground and the phases
-abbrev pub supply_labels : List (List ℕ)
-supply_labels = codes "vdd" ∷ codes "gnd" ∷ codes "phia" ∷ codes "phib" ∷ codes "phic" ∷ []
-
 -- the labels of what is driven from outside
 abbrev pub driver_labels : List Pad → List (List ℕ)
-driver_labels inputs = supply_labels ++ flat_map bit_labels inputs
+driver_labels inputs = supplies ++ flat_map bit_labels inputs
 
 -- the labels that a chip with these pads has
 abbrev pub chip_labels : Pads → List (List ℕ)

@@ -1,7 +1,7 @@
 //! Networks of nodes and channels.
 
-ghost use Rattle.std.specs.Prelude.{◌<◌, All};
-ghost use Rattle.switch_net.specs.OneNode.{OneNodeEach};
+ghost use Rattle.std.specs.Prelude.{◌≡◌, ◌<◌, ◌↔◌, All, IsSome, IfSome};
+ghost use Rattle.switch_net.specs.OneNode.{AreAmong, OneNodeEach};
 
 use mp_base::{List, Name};
 
@@ -39,4 +39,22 @@ pub struct Network {
     pub ghost ends_in: { All (λ c. All (λ e. e < nodes) c.ends) channels },
     pub ghost tags_in: { All (λ t. t.node < nodes) tags },
     pub ghost one_node_each: { OneNodeEach tags },
+}
+
+impl Network {
+    /// The network, where each gate, each end and each labelled node is one of its nodes.
+    pub fn checked(nodes: u32, channels: List<Channel>, tags: List<Tag>) -> Option<Network>
+        requires { OneNodeEach tags }
+        ensures among { IsSome result ↔ AreAmong nodes channels tags }
+        ensures parts { IfSome result (λ net. (net.nodes ≡ nodes) × (net.channels ≡ channels) × (net.tags ≡ tags)) }
+    {
+        let gates_in = channels.as_slice().iter().all(|c| c.gate < nodes);
+        let ends_in = channels.as_slice().iter().all(|c| c.ends.as_slice().iter().all(|e| *e < nodes));
+        let tags_in = tags.as_slice().iter().all(|t| t.node < nodes);
+        if gates_in && ends_in && tags_in {
+            Some(Network { nodes, channels, tags })
+        } else {
+            None
+        }
+    }
 }
