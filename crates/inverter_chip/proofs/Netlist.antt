@@ -206,25 +206,3 @@ has_pads pads h = record {
 
 pub sound : RectanglesAreJoined → OneNumbering → (pads : Pads) → ArePads pads → IsSoundMask mask inverter_labels netlist pads
 sound joined once pads h = record { network = is_network joined; labels_fit = labels_fit joined; few = few joined once; has_pads = has_pads pads h }
-
--- the place of a driver's label, by the sum of its bytes
-abbrev driver_place : List ℕ → ℕ
-driver_place name = cond (eqb (sum name) 318) 0 (cond (eqb (sum name) 313) 1 (cond (eqb (sum name) 418) 2 (cond (eqb (sum name) 419) 3 (cond (eqb (sum name) 420) 4 5))))
-
-abbrev drivers : List (List ℕ)
-drivers = codes "vdd" ∷ codes "gnd" ∷ codes "phia" ∷ codes "phib" ∷ codes "phic" ∷ codes "a" ∷ []
-
-driver_at : (i : ℕ) (d : List ℕ) → i < 6 → driver_place (get_or drivers i d) ≡ i
-driver_at zero d l = refl
-driver_at (suc zero) d l = refl
-driver_at (suc (suc zero)) d l = refl
-driver_at (suc (suc (suc zero))) d l = refl
-driver_at (suc (suc (suc (suc zero)))) d l = refl
-driver_at (suc (suc (suc (suc (suc zero))))) d l = refl
-driver_at (suc (suc (suc (suc (suc (suc i)))))) d l = absurd (omega arith)
-
--- the labels of the drivers differ
-pub differ : (pads : Pads) → ArePads pads → AllPairs ◌≢◌ (driver_labels pads.inputs)
-differ pads h = subst (AllPairs ◌≢◌) (sym (drivers_are pads h)) (λ i j d l k e.
-    let q : i ≡ j = sym (driver_at i d (omega arith)) ∙ ap driver_place e ∙ driver_at j d k in
-    absurd (omega arith))

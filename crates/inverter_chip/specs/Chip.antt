@@ -1,5 +1,5 @@
 -- What it means that a text is that of a chip, and what the chip does.
-use Rattle.std.specs.Prelude.{ℕ, List, [], None, All}
+use Rattle.std.specs.Prelude.{◌≡◌, ℕ, List, [], None, All}
 use Rattle.mp_base.specs.declared.value.Trit.{Trit}
 use Rattle.mp_base.specs.declared.pad.Pads.{Pads}
 use Rattle.lam_geom.specs.declared.rect.Rect.{Rect}
@@ -34,3 +34,7 @@ pub record RunsAs (net : Network) (pads : Pads) (IsShown : List (List ℕ) → L
       → (outputs : List (List (List Trit))) × (after : ℕ → Trit) × IsCircuitTrace net pads before inputs outputs after
   pub shows : (before : ℕ → Trit) (inputs : List (List ℕ)) (outputs : List (List (List Trit))) (after : ℕ → Trit) → All (Fit pads.inputs) inputs
       → IsCircuitTrace net pads before inputs outputs after → IsShown inputs outputs
+
+-- a text has at most one network, whatever the pads
+abbrev pub OneNetworkEach : Type 0
+OneNetworkEach = (text : List ℕ) (p q : Pads) (n m : Network) → IsChipText text p n → IsChipText text q m → n ≡ m

@@ -2,5 +2,7 @@
 #![tactic(auto)]
 
 mod chip;
+mod law;
 
 pub use chip::inverter_chip;
+pub use law::chip_is_determined;

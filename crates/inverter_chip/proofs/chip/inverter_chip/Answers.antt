@@ -8,7 +8,7 @@ use Rattle.inverter_chip.proofs.Reading.{inverter_reads}
 use Rattle.inverter_chip.proofs.Scanned.{inverter_scans}
 use Rattle.inverter_chip.proofs.Drawing.{inverter_expands}
 use Rattle.inverter_chip.proofs.Walked.{inverter_walks}
-use Rattle.inverter_chip.proofs.Netlist.{netlist, is_inverter, sound, has_pads, differ}
+use Rattle.inverter_chip.proofs.Netlist.{netlist, is_inverter, sound, has_pads}
 use Rattle.inverter_chip.proofs.Running.{trace_shows}
 use Rattle.inverter_chip.proofs.chip.inverter_chip.Goals as goal
 
@@ -27,7 +27,7 @@ returns-clause-inverter c = λ pads h. (
   },
   is_inverter,
   record {
-    runs = λ before inputs f. c.circuits_run.ensures.exist netlist pads before inputs (has_pads pads h) (differ pads h) f;
+    runs = λ before inputs f. c.circuits_run.ensures.exist netlist pads before inputs (has_pads pads h) f;
     shows = λ before inputs outputs after f t. trace_shows pads h before inputs outputs after f t;
   },
 )
