@@ -1,10 +1,10 @@
 -- Settled values settle to themselves: the lemma for a settler by events.
-use Rattle.std.proofs.Common.{◌≡◌, ℕ, List, [], ◌∷◌, Option, Some, None, refl, sym, ◌∙◌, ap, subst, inl, inr, ◌⊎◌}
-use Rattle.std.specs.Prelude.{◌≢◌, ◌↔◌, IsSome, Contains}
+use Rattle.std.proofs.Common.{◌≡◌, ℕ, Option, Some, None, refl, sym, ◌∙◌, ap, subst, inl, inr, ◌⊎◌}
+use Rattle.std.specs.Prelude.{◌≢◌, IsSome}
 use Rattle.mp_base.specs.declared.value.Trit.{Trit}
 use Rattle.mp_base.specs.declared.value.Trit.TheVariants.{Zero, One, X}
 use Rattle.switch_net.specs.declared.network.Channel.{Channel}
-use Rattle.switch_net.specs.Settled.{Setting, IsOn, MayBeOn, IsAgainst, Gives, Follows, IsSolution, IsBelow, IsSettled}
+use Rattle.switch_net.specs.Settled.{Setting, IsOn, MayBeOn, IsAgainst, Gives, IsBelow, IsSettled}
 use Rattle.switch_net.proofs.Reaching.{Reach, here, over}
 use Rattle.switch_net.proofs.Rounds.{gives_kept, settled_once}
 use Rattle.switch_net.proofs.Bounds.{IsBound, IsLeastBound, settled_from_bound}
@@ -47,11 +47,13 @@ module _ (s : Setting) (v : ℕ → Trit) (b : Trit) (has : (n : ℕ) → s.driv
       held_before none a r (inr d) = absurd (none (twice s (MayBeOn m) (λ x. x ≡ a) (IsForeign s b) (λ x e. here (subst (IsForeign s b) (sym e) (inl d))) n r))
       held_before none a r (inl free) =
           has a free
-            (gives_kept s m v below a b
-              (gives_from_sets s m a b (by_kept (λ f. none (twice s (MayBeOn m) (λ x. x ≡ a) (IsForeign s b) (λ x e. subst (λ y. Reach s (MayBeOn m) (IsForeign s b) y) (sym e) f) n r)))))
+          (gives_kept s m v below a b
+          (gives_from_sets s m a b (by_kept (λ f. none (twice s (MayBeOn m) (λ x. x ≡ a) (IsForeign s b) (λ x e. subst (λ y. Reach s (MayBeOn m) (IsForeign s b) y) (sym e) f) n r)))))
+
       foreign : (Reach s (MayBeOn m) (IsForeign s b) n → ⊥) → (a : ℕ) → Reach s (MayBeOn m) (λ x. x ≡ a) n → IsForeign (after s v) b a → ⊥
       foreign none a r (inl d) = none (twice s (MayBeOn m) (λ x. x ≡ a) (IsForeign s b) (λ x e. here (subst (IsForeign s b) (sym e) (inl d))) n r)
       foreign none a r (inr ne) = ne (held_before none a r (driver_cases (s.driver a)))
+
       by_sets : GivesBySets s m n b → GivesBySets (after s v) m n b
       by_sets (by_strong r none) =
           by_strong (to_after s v (IsStrongOn m) (IsFor s b) n r) (λ f. none (of_after s v (MayBeStrongOn m) (IsAgainst s b) n f))
@@ -59,8 +61,8 @@ module _ (s : Setting) (v : ℕ → Trit) (b : Trit) (has : (n : ℕ) → s.driv
           by_held (to_after s v (IsOn m) (IsFor s b) n r) (λ f. none (of_after s v (MayBeOn m) (IsAgainst s b) n f))
       by_sets (by_kept none) =
           by_kept (λ f.
-            let o = origin s (MayBeOn m) (IsForeign (after s v) b) n (of_after s v (MayBeOn m) (IsForeign (after s v) b) n f) in
-            foreign none o.0 o.2 o.1)
+          let o = origin s (MayBeOn m) (IsForeign (after s v) b) n (of_after s v (MayBeOn m) (IsForeign (after s v) b) n f) in
+          foreign none o.0 o.2 o.1)
 
   -- and what is given after v, v has
   again_has : (n : ℕ) → s.driver n ≡ None → Gives (after s v) v n b → v n ≡ b
@@ -69,13 +71,14 @@ module _ (s : Setting) (v : ℕ → Trit) (b : Trit) (has : (n : ℕ) → s.driv
       kept : (Reach (after s v) (MayBeOn v) (IsForeign (after s v) b) n → ⊥) → (v n ≡ b) ⊎ (v n ≢ b) → v n ≡ b
       kept none (inl e) = e
       kept none (inr ne) = absurd (none (here (inr ne)))
+
       by_sets : GivesBySets (after s v) v n b → v n ≡ b
       by_sets (by_strong r none) =
           has n free (gives_from_sets s v n b
-            (by_strong (of_after s v (IsStrongOn v) (IsFor s b) n r) (λ f. none (to_after s v (MayBeStrongOn v) (IsAgainst s b) n f))))
+          (by_strong (of_after s v (IsStrongOn v) (IsFor s b) n r) (λ f. none (to_after s v (MayBeStrongOn v) (IsAgainst s b) n f))))
       by_sets (by_held r none) =
           has n free (gives_from_sets s v n b
-            (by_held (of_after s v (IsOn v) (IsFor s b) n r) (λ f. none (to_after s v (MayBeOn v) (IsAgainst s b) n f))))
+          (by_held (of_after s v (IsOn v) (IsFor s b) n r) (λ f. none (to_after s v (MayBeOn v) (IsAgainst s b) n f))))
       by_sets (by_kept none) = kept none (same_trit (v n) b)
 
 abbrev meet : Trit → Trit → Trit
@@ -125,26 +128,32 @@ settles_below s v h = record {
   where
     below_self : IsBelow v v
     below_self n = inr refl
+
     has_zero : (n : ℕ) → s.driver n ≡ None → Gives s v n Zero → v n ≡ Zero
     has_zero n e = (h.solution.zero n e).1
+
     has_one : (n : ℕ) → s.driver n ≡ None → Gives s v n One → v n ≡ One
     has_one n e = (h.solution.one n e).1
+
     below_v : (w : ℕ → Trit) → IsBelow (λ n. meet (v n) (w n)) v
     below_v w n = meet_left (v n) (w n)
+
     below_w : (w : ℕ → Trit) → IsBelow (λ n. meet (v n) (w n)) w
     below_w w n = meet_right (v n) (w n)
+
     bound : (w : ℕ → Trit) → IsBound (after s v) w → IsBound s (λ n. meet (v n) (w n))
     bound w b = record {
       driven = λ n t e. meet_same (v n) (w n) t (h.solution.driven n t e) (b.driven n t e);
       zero = λ n e g.
-        meet_same (v n) (w n) Zero
+          meet_same (v n) (w n) Zero
           (has_zero n e (gives_kept s (λ x. meet (v x) (w x)) v (below_v w) n Zero g))
           (b.zero n e (gives_kept (after s v) (λ x. meet (v x) (w x)) w (below_w w) n Zero (again_given s v Zero has_zero (λ x. meet (v x) (w x)) (below_v w) n g)));
       one = λ n e g.
-        meet_same (v n) (w n) One
+          meet_same (v n) (w n) One
           (has_one n e (gives_kept s (λ x. meet (v x) (w x)) v (below_v w) n One g))
           (b.one n e (gives_kept (after s v) (λ x. meet (v x) (w x)) w (below_w w) n One (again_given s v One has_one (λ x. meet (v x) (w x)) (below_v w) n g)));
     }
+
     under : (w : ℕ → Trit) (n : ℕ) → (v n ≡ X) ⊎ (v n ≡ meet (v n) (w n)) → (v n ≡ X) ⊎ (v n ≡ w n)
     under w n (inl e) = inl e
     under w n (inr e) = by_right (meet_right (v n) (w n))

@@ -1,5 +1,5 @@
 -- Values that have at least what they give: the least of them are the settled values.
-use Rattle.std.proofs.Common.{◌≡◌, ℕ, Option, Some, None, refl, sym, ◌∙◌, inl, inr, ◌⊎◌}
+use Rattle.std.proofs.Common.{◌≡◌, ℕ, Option, Some, None, refl, sym, ◌∙◌, inr, ◌⊎◌}
 use Rattle.mp_base.specs.declared.value.Trit.{Trit}
 use Rattle.mp_base.specs.declared.value.Trit.TheVariants.{Zero, One, X}
 use Rattle.switch_net.specs.Settled.{Setting, Gives, Follows, IsSolution, IsBelow, IsSettled}
@@ -26,8 +26,8 @@ round_below_bound s v v' w below b f n = at (s.driver n) refl
     at : (d : Option Trit) → s.driver n ≡ d → (v' n ≡ X) ⊎ (v' n ≡ w n)
     at None e =
         trit_below (v' n) (w n)
-          (λ z. b.zero n e (gives_kept s v w below n Zero ((f.zero n e).0 z)))
-          (λ o. b.one n e (gives_kept s v w below n One ((f.one n e).0 o)))
+        (λ z. b.zero n e (gives_kept s v w below n Zero ((f.zero n e).0 z)))
+        (λ o. b.one n e (gives_kept s v w below n One ((f.one n e).0 o)))
     at (Some t) e = inr (f.driven n t e ∙ sym (b.driven n t e))
 
 pub settled_from_bound : (s : Setting) (v : ℕ → Trit) → IsLeastBound s v → IsSettled s v

@@ -1,6 +1,5 @@
 -- What a circuit shows is determined.
-use Rattle.std.proofs.Common.{◌≡◌, ℕ, List, [], ◌∷◌, Option, Some, None, refl, sym, ◌∙◌, ap, subst, subst₂}
-use Rattle.std.specs.Prelude.{Contains}
+use Rattle.std.proofs.Common.{◌≡◌, ℕ, List, [], ◌∷◌, Option, Some, None, refl, sym, ◌∙◌, ap, subst}
 use Rattle.std.specs.List.{AllZip}
 use Rattle.mp_base.specs.declared.value.Trit.{Trit}
 use Rattle.mp_base.specs.declared.pad.Pad.{Pad}
@@ -8,7 +7,7 @@ use Rattle.mp_base.specs.declared.pad.Pads.{Pads}
 use Rattle.switch_net.specs.declared.network.Network.{Network}
 use Rattle.switch_net.specs.Settled.{IsSettled}
 use Rattle.switch_net.specs.Pads.{bit_labels}
-use Rattle.switch_net.specs.Clock.{Phases, Drive, drives, IsLabelled, AreDrivers, SettlesTo, RunsTo, HasValue, Shows, IsClock, IsCircuitTrace, settings_until_outputs, settings_after_outputs}
+use Rattle.switch_net.specs.Clock.{Phases, Drive, drives, AreDrivers, SettlesTo, RunsTo, HasValue, Shows, IsClock, IsCircuitTrace, settings_until_outputs, settings_after_outputs}
 use Rattle.switch_net.specs.Laws.{TraceOnce}
 use Rattle.switch_net.proofs.Rounds.{settled_once}
 
@@ -65,9 +64,9 @@ clock_once : (net : Network) (pads : Pads) (words : List ℕ) (before : ℕ → 
 clock_once net pads words before shown other v w h k =
     let e = runs_once net pads.inputs words settings_until_outputs before h.values k.values h.until k.until in (
       zip_once (Shows net k.values) (shows_once net k.values) pads.outputs shown other
-      (subst (λ x. AllZip (Shows net x) pads.outputs shown) e h.shows) k.shows,
+          (subst (λ x. AllZip (Shows net x) pads.outputs shown) e h.shows) k.shows,
       runs_once net pads.inputs words settings_after_outputs k.values v w
-      (subst (λ x. RunsTo net pads.inputs words settings_after_outputs x v) e h.rest) k.rest,
+          (subst (λ x. RunsTo net pads.inputs words settings_after_outputs x v) e h.rest) k.rest,
     )
 
 pub trace_once : TraceOnce

@@ -1,5 +1,5 @@
 -- The drivers of a network whose drivers are on different nodes.
-use Rattle.std.proofs.Common.{◌≡◌, ℕ, zero, suc, ◌+◌, ◌<◌, ◌≤◌, ◌⊎◌, inl, inr, List, [], ◌∷◌, ◌++◌, Option, Some, None, length, map, get_or, refl, sym, ◌∙◌, ap, subst, arith}
+use Rattle.std.proofs.Common.{◌≡◌, ℕ, zero, suc, ◌<◌, ◌≤◌, ◌⊎◌, inl, inr, List, [], ◌∷◌, ◌++◌, Option, Some, None, length, map, get_or, refl, sym, ◌∙◌, ap, subst, arith}
 use Rattle.std.specs.Prelude.{◌≢◌, All, AllPairs, Contains, flat_map, slice_get, codes}
 use Rattle.std.proofs.lemmas.Bool.{cases_lt, cases_eq}
 use Rattle.std.proofs.lemmas.Option.{slice_get-get_or}
@@ -10,7 +10,7 @@ use Rattle.switch_net.specs.declared.network.Tag.{Tag}
 use Rattle.switch_net.specs.declared.network.Network.{Network}
 use Rattle.switch_net.specs.Pads.{bit_count, word_labels, labels_of, bit_labels, low_bits, pad_bits, Fit, driver_labels}
 use Rattle.switch_net.specs.Clock.{Phases, Drive, bit_drives, input_drives, drives, IsLabelled, AreDrivers}
-use Rattle.switch_net.specs.Breaks.{IsDrivenTwice, MeetsDriver}
+use Rattle.switch_net.specs.Breaks.{MeetsDriver}
 use Rattle.switch_net.proofs.Exists.{all_or_one}
 
 -- names are compared byte by byte

@@ -79,7 +79,6 @@ missing_put (suc k) m b lt f = by_case (cases_eq k b) (missing_put k m b)
         omega arith
 
 module _ (s : Setting) (nodes : ℕ) (ends_in : (c : Channel) (e : ℕ) → Contains s.channels c → Contains c.ends e → e < nodes) where
-
   module _ (ok : Channel → Type 0) (dec_ok : (c : Channel) → Decided (ok c)) (from : ℕ → Type 0) (dec_from : (n : ℕ) → Decided (from n)) where
     abbrev Fine : (ℕ → Bool) → ℕ → ℕ → Type 0
     Fine m a b = s.driver b ≡ None → m a ≡ true → m b ≡ true
@@ -105,7 +104,7 @@ module _ (s : Setting) (nodes : ℕ) (ends_in : (c : Channel) (e : ℕ) → Cont
     channel_or_open : (m : ℕ → Bool) (c : Channel) → ChannelFine m c ⊎ ChannelOpen m c
     channel_or_open m c =
         by_ok (dec_ok c)
-          (all_or_one (λ a. All (λ b. Fine m a b) c.ends) (λ a. (b : ℕ) × Contains c.ends b × Open m a b) (λ a. all_or_one (λ b. Fine m a b) (λ b. Open m a b) (fine_or_open m a) c.ends) c.ends)
+        (all_or_one (λ a. All (λ b. Fine m a b) c.ends) (λ a. (b : ℕ) × Contains c.ends b × Open m a b) (λ a. all_or_one (λ b. Fine m a b) (λ b. Open m a b) (fine_or_open m a) c.ends) c.ends)
       where
         by_ok : Decided (ok c) → All (λ a. All (λ b. Fine m a b) c.ends) c.ends ⊎ ((a : ℕ) × Contains c.ends a × ((b : ℕ) × Contains c.ends b × Open m a b)) → ChannelFine m c ⊎ ChannelOpen m c
         by_ok (inr bad) _ = inl (λ okc. absurd (bad okc))
@@ -140,7 +139,7 @@ module _ (s : Setting) (nodes : ℕ) (ends_in : (c : Channel) (e : ℕ) → Cont
             let b : ℕ = o.2.1.2.0 in
             let fewer = missing_put nodes m o.2.1.2.0 (ends_in o.0 o.2.1.2.0 o.1 o.2.1.2.1) o.2.1.2.2.2 in
             by_channels k (put m o.2.1.2.0) (omega (arith, fewer)) (grown m h o.0 o.1 o.2)
-              (all_or_one (ChannelFine (put m o.2.1.2.0)) (ChannelOpen (put m o.2.1.2.0)) (channel_or_open (put m o.2.1.2.0)) s.channels)
+            (all_or_one (ChannelFine (put m o.2.1.2.0)) (ChannelOpen (put m o.2.1.2.0)) (channel_or_open (put m o.2.1.2.0)) s.channels)
 
     abbrev test : {P : Type 0} → Decided P → Bool
     test (inl p) = true
@@ -157,13 +156,13 @@ module _ (s : Setting) (nodes : ℕ) (ends_in : (c : Channel) (e : ℕ) → Cont
     closed : Closed
     closed =
         close (missing nodes (λ n. test (dec_from n))) (λ n. test (dec_from n)) (omega arith)
-          (record { sound = λ n e. here (test_true (dec_from n) e); begun = λ n f. true_test (dec_from n) f })
+        (record { sound = λ n e. here (test_true (dec_from n) e); begun = λ n f. true_test (dec_from n) f })
 
     marked : (n : ℕ) → Reach s ok from n → closed.0 n ≡ true
     marked n (here f) = closed.1.begun n f
     marked n (over {a} c r in' at_a at_n free okc) =
         all_at (λ b. Fine closed.0 a b) c.ends n
-          (all_at (λ x. All (λ b. Fine closed.0 x b) c.ends) c.ends a (all_at (ChannelFine closed.0) s.channels c closed.2 in' okc) at_a) at_n free (marked a r)
+        (all_at (λ x. All (λ b. Fine closed.0 x b) c.ends) c.ends a (all_at (ChannelFine closed.0) s.channels c closed.2 in' okc) at_a) at_n free (marked a r)
 
     pub reach_decided : (n : ℕ) → Decided (Reach s ok from n)
     reach_decided n = by_mark (closed.0 n) refl
@@ -217,6 +216,7 @@ foreign_decided None x b = by_same (same_trit x b)
     neither : x ≡ b → (IsSome {T = Trit} None) ⊎ (x ≢ b) → ⊥
     neither e (inl h) = cc
     neither e (inr ne) = ne e
+
     by_same : Decided (x ≡ b) → Decided ((IsSome {T = Trit} None) ⊎ (x ≢ b))
     by_same (inl e) = inr (neither e)
     by_same (inr ne) = inl (inr ne)
@@ -259,15 +259,19 @@ same_or_fewer (suc k) v w b = step (v k) refl (w k) refl (b k) (same_or_fewer k 
   where
     below_suc : (n : ℕ) → n < suc k → (n < k) ⊎ (n ≡ k)
     below_suc n h = grind arith
+
     upto : v k ≡ w k → ((n : ℕ) → n < k → v n ≡ w n) → (n : ℕ) → (n < k) ⊎ (n ≡ k) → v n ≡ w n
     upto e h n (inl lt) = h n lt
     upto e h n (inr q) = ap v q ∙ e ∙ ap w (sym q)
+
     both : v k ≡ w k → (((n : ℕ) → n < k → v n ≡ w n) × (unsettled k w ≡ unsettled k v)) ⊎ (unsettled k w < unsettled k v) → (((n : ℕ) → n < suc k → v n ≡ w n) × (unsettled (suc k) w ≡ unsettled (suc k) v)) ⊎ (unsettled (suc k) w < unsettled (suc k) v)
     both e (inl h) = let q : weight (v k) ≡ weight (w k) = ap weight e in let r : unsettled k w ≡ unsettled k v = h.1 in inl (λ n lt. upto e h.0 n (below_suc n lt), omega arith)
     both e (inr f) = let q : weight (v k) ≡ weight (w k) = ap weight e in inr (omega arith)
+
     less : weight (v k) ≡ 1 → weight (w k) ≡ 0 → (((n : ℕ) → n < k → v n ≡ w n) × (unsettled k w ≡ unsettled k v)) ⊎ (unsettled k w < unsettled k v) → unsettled (suc k) w < unsettled (suc k) v
     less p q (inl h) = let r : unsettled k w ≡ unsettled k v = h.1 in omega arith
     less p q (inr f) = omega arith
+
     step : (t : Trit) → v k ≡ t → (u : Trit) → w k ≡ u → (v k ≡ X) ⊎ (v k ≡ w k) → (((n : ℕ) → n < k → v n ≡ w n) × (unsettled k w ≡ unsettled k v)) ⊎ (unsettled k w < unsettled k v) → (((n : ℕ) → n < suc k → v n ≡ w n) × (unsettled (suc k) w ≡ unsettled (suc k) v)) ⊎ (unsettled (suc k) w < unsettled (suc k) v)
     step t e u f (inr q) r = both q r
     step t e Zero f (inl q) r = inr (less (ap weight q) (ap weight f) r)
@@ -278,13 +282,13 @@ module _ (s : Setting) (nodes : ℕ) (ends_in : (c : Channel) (e : ℕ) → Cont
   gives_decided : (v : ℕ → Trit) (n : ℕ) (b : Trit) → Decided (Gives s v n b)
   gives_decided v n b =
       by_case
-        (unopposed_decided
-          (reach_decided s nodes ends_in (IsStrongOn v) (λ c. both_decided (strong_decided c.kind) (on_decided c.kind (v c.gate))) (IsFor s b) (λ a. for_decided (s.driver a) b) n)
-          (reach_decided s nodes ends_in (MayBeStrongOn v) (λ c. both_decided (strong_decided c.kind) (maybe_decided c.kind (v c.gate))) (IsAgainst s b) (λ a. against_decided (s.driver a) b) n))
-        (unopposed_decided
-          (reach_decided s nodes ends_in (IsOn v) (λ c. on_decided c.kind (v c.gate)) (IsFor s b) (λ a. for_decided (s.driver a) b) n)
-          (reach_decided s nodes ends_in (MayBeOn v) (λ c. maybe_decided c.kind (v c.gate)) (IsAgainst s b) (λ a. against_decided (s.driver a) b) n))
-        (none_decided (reach_decided s nodes ends_in (MayBeOn v) (λ c. maybe_decided c.kind (v c.gate)) (IsForeign s b) (λ a. foreign_decided (s.driver a) (s.before a) b) n))
+      (unopposed_decided
+      (reach_decided s nodes ends_in (IsStrongOn v) (λ c. both_decided (strong_decided c.kind) (on_decided c.kind (v c.gate))) (IsFor s b) (λ a. for_decided (s.driver a) b) n)
+      (reach_decided s nodes ends_in (MayBeStrongOn v) (λ c. both_decided (strong_decided c.kind) (maybe_decided c.kind (v c.gate))) (IsAgainst s b) (λ a. against_decided (s.driver a) b) n))
+      (unopposed_decided
+      (reach_decided s nodes ends_in (IsOn v) (λ c. on_decided c.kind (v c.gate)) (IsFor s b) (λ a. for_decided (s.driver a) b) n)
+      (reach_decided s nodes ends_in (MayBeOn v) (λ c. maybe_decided c.kind (v c.gate)) (IsAgainst s b) (λ a. against_decided (s.driver a) b) n))
+      (none_decided (reach_decided s nodes ends_in (MayBeOn v) (λ c. maybe_decided c.kind (v c.gate)) (IsForeign s b) (λ a. foreign_decided (s.driver a) (s.before a) b) n))
     where
       by_case : Decided (Reach s (IsStrongOn v) (IsFor s b) n × (Reach s (MayBeStrongOn v) (IsAgainst s b) n → ⊥)) → Decided (Reach s (IsOn v) (IsFor s b) n × (Reach s (MayBeOn v) (IsAgainst s b) n → ⊥)) → Decided (Reach s (MayBeOn v) (IsForeign s b) n → ⊥) → Decided (Gives s v n b)
       by_case (inl h) _ _ = inl (gives_from_sets s v n b (by_strong h.0 h.1))
@@ -316,6 +320,7 @@ module _ (s : Setting) (nodes : ℕ) (ends_in : (c : Channel) (e : ℕ) → Cont
       zero_at n (inl z) o e = (λ _. z, λ _. e)
       zero_at n (inr z) (inl o) e = (λ q. absurd (cc), λ g. absurd (z g))
       zero_at n (inr z) (inr o) e = (λ q. absurd (cc), λ g. absurd (z g))
+
       one_at : (n : ℕ) (z : Decided (Gives s v n Zero)) (o : Decided (Gives s v n One)) {x : Trit} → x ≡ value_of None (test_of z) (test_of o) → (x ≡ One) ↔ Gives s v n One
       one_at n (inl z) o e = (λ q. absurd (cc), λ g. absurd (gives_once s v n Zero One (λ q. cc) z g))
       one_at n (inr z) (inl o) e = (λ _. o, λ _. e)
@@ -340,10 +345,10 @@ module _ (s : Setting) (nodes : ℕ) (ends_in : (c : Channel) (e : ℕ) → Cont
       by_driver (Some t) e = (round_follows v).driven n t e ∙ sym ((round_follows w).driven n t e)
       by_driver None e =
           trit_same (round v n) (round w n)
-            (λ z. ((round_follows w).zero n e).1 (gives_far v w n Zero far (((round_follows v).zero n e).0 z)))
-            (λ z. ((round_follows v).zero n e).1 (gives_far w v n Zero far (((round_follows w).zero n e).0 z)))
-            (λ z. ((round_follows w).one n e).1 (gives_far v w n One far (((round_follows v).one n e).0 z)))
-            (λ z. ((round_follows v).one n e).1 (gives_far w v n One far (((round_follows w).one n e).0 z)))
+          (λ z. ((round_follows w).zero n e).1 (gives_far v w n Zero far (((round_follows v).zero n e).0 z)))
+          (λ z. ((round_follows v).zero n e).1 (gives_far w v n Zero far (((round_follows w).zero n e).0 z)))
+          (λ z. ((round_follows w).one n e).1 (gives_far v w n One far (((round_follows v).one n e).0 z)))
+          (λ z. ((round_follows v).one n e).1 (gives_far w v n One far (((round_follows w).one n e).0 z)))
 
   record Climbs (v : ℕ → Trit) : Type 0 where
     pub below : (w : ℕ → Trit) → IsBound s w → IsBelow v w
@@ -377,13 +382,13 @@ module _ (s : Setting) (nodes : ℕ) (ends_in : (c : Channel) (e : ℕ) → Cont
       by_rounds zero v le h far (inr fewer) = absurd (omega arith)
       by_rounds (suc k) v le h far (inr fewer) =
           by_rounds k (round v) (omega arith) (climbs_round v h) (λ n past. round_far v (round v) n past)
-            (same_or_fewer nodes (round v) (round (round v)) ((climbs_round v h).grows (round (round v)) (round_follows (round v))))
+          (same_or_fewer nodes (round v) (round (round v)) ((climbs_round v h).grows (round (round v)) (round_follows (round v))))
 
   bound_among : (w : ℕ → Trit) × IsLeastBound s w
   bound_among =
       climb (unsettled nodes (round (λ n. X))) (round (λ n. X)) (omega arith)
-        (climbs_round (λ n. X) (record { below = λ w g n. inl refl; grows = λ w g n. inl refl }))
-        (λ n past. round_far (λ m. X) (round (λ m. X)) n past)
+      (climbs_round (λ n. X) (record { below = λ w g n. inl refl; grows = λ w g n. inl refl }))
+      (λ n past. round_far (λ m. X) (round (λ m. X)) n past)
 
 -- a number that is above each of the list
 above_all : (xs : List ℕ) → (n : ℕ) × ((x : ℕ) → Contains xs x → x < n)

@@ -30,9 +30,10 @@ apart_pairs (x ∷ xs) a (suc i) (suc j) d l k = apart_pairs xs a.1 i j d (omega
 
 pairs_apart : (xs : List (List ℕ)) → ((i j : ℕ) → i < j → j < length xs → get_or xs i [] ≢ get_or xs j []) → Apart xs
 pairs_apart [] h = tt
-pairs_apart (x ∷ xs) h =
-    (λ y c. subst (λ z. x ≢ z) (get_or_default xs c.0 [] y c.1 ∙ c.2) (h 0 (suc c.0) (omega arith) (omega (arith, c.1))),
-    pairs_apart xs (λ i j l k. h (suc i) (suc j) (omega arith) (omega arith)))
+pairs_apart (x ∷ xs) h = (
+  λ y c. subst (λ z. x ≢ z) (get_or_default xs c.0 [] y c.1 ∙ c.2) (h 0 (suc c.0) (omega arith) (omega (arith, c.1))),
+  pairs_apart xs (λ i j l k. h (suc i) (suc j) (omega arith) (omega arith)),
+)
 
 apart_prefix : (xs ys : List (List ℕ)) → Apart (xs ++ ys) → Apart xs
 apart_prefix [] ys a = tt

@@ -1,5 +1,5 @@
 -- Where squares are cut into rectangles, they are joined by a chain exactly where their rectangles are linked by one.
-use Rattle.std.proofs.Common.{◌≡◌, ◌⊎◌, inl, inr, refl, sym, ◌∙◌, subst, List, ◌↔◌}
+use Rattle.std.proofs.Common.{◌≡◌, inl, inr, refl, sym, ◌∙◌, subst, List}
 use Rattle.std.specs.Prelude.{ℤ, Contains}
 use Rattle.lam_geom.specs.declared.layer.Layer.{Layer}
 use Rattle.lam_geom.specs.declared.rect.Rect.{Rect}

@@ -6,7 +6,7 @@ use Rattle.mp_base.specs.declared.value.Trit.TheVariants.{Zero, One, X}
 use Rattle.switch_net.specs.declared.network.ChannelKind.{ChannelKind}
 use Rattle.switch_net.specs.declared.network.ChannelKind.TheVariants.{Enhancement, Depletion, Partial}
 use Rattle.switch_net.specs.declared.network.Channel.{Channel}
-use Rattle.switch_net.specs.Settled.{Setting, KindIsOn, KindMayBeOn, IsOn, MayBeOn, IsDefinite, IsPossible, Gives, Follows, IsSolution, IsBelow, IsSettled}
+use Rattle.switch_net.specs.Settled.{Setting, KindIsOn, KindMayBeOn, IsOn, MayBeOn, IsDefinite, IsPossible, Gives, Follows, IsBelow, IsSettled}
 use Rattle.switch_net.proofs.Reaching.{All-then}
 
 one_kept : (t u : Trit) → (t ≡ X) ⊎ (t ≡ u) → t ≡ One → u ≡ One

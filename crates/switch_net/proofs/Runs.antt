@@ -1,6 +1,6 @@
 -- A network that has its pads runs.
-use Rattle.std.proofs.Common.{◌≡◌, ℕ, zero, suc, ◌<◌, ◌⊎◌, inl, inr, List, [], ◌∷◌, ◌++◌, Some, length, get_or, refl, sym, ap, subst, ◌∙◌, arith, map}
-use Rattle.std.specs.Prelude.{◌≢◌, All, Contains, flat_map, slice_get}
+use Rattle.std.proofs.Common.{◌≡◌, ℕ, zero, suc, ◌⊎◌, inl, inr, List, [], ◌∷◌, Some, refl, sym, ap, subst, ◌∙◌, arith}
+use Rattle.std.specs.Prelude.{◌≢◌, All, Contains, flat_map}
 use Rattle.std.specs.List.{AllZip}
 use Rattle.std.proofs.lemmas.Option.{slice_get-get_or}
 use Rattle.std.proofs.lemmas.List.Elements.{Contains-append_left, Contains-append_right}
@@ -10,7 +10,7 @@ use Rattle.mp_base.specs.declared.pad.Pads.{Pads}
 use Rattle.switch_net.specs.declared.network.Tag.{Tag}
 use Rattle.switch_net.specs.declared.network.Network.{Network}
 use Rattle.switch_net.specs.Pads.{bit_labels, Fit, driver_labels, chip_labels}
-use Rattle.switch_net.specs.Clock.{Phases, drives, IsLabelled, SettlesTo, RunsTo, HasValue, Shows, IsClock, IsCircuitTrace, settings_until_outputs, settings_after_outputs}
+use Rattle.switch_net.specs.Clock.{Phases, drives, SettlesTo, RunsTo, HasValue, Shows, IsClock, IsCircuitTrace, settings_until_outputs, settings_after_outputs}
 use Rattle.switch_net.specs.Breaks.{HasPads}
 use Rattle.switch_net.specs.Laws.{TraceExists}
 use Rattle.switch_net.proofs.Exists.{all_or_one, settled_exists}

@@ -222,7 +222,13 @@ same_network n m p q r =
     let nodes = is_prop→PathP (λ i. All (λ t. t.node < p i) (r i)) (λ i. hlevel props) n.tags_in m.tags_in in
     let one = is_prop→PathP (λ i. OneNodeEach (r i)) (λ i. hlevel props) n.one_node_each m.one_node_each in
     λ i. record {
-      nodes = p i; channels = q i; tags = r i; gates_in = gates i; ends_in = ends i; tags_in = nodes i; one_node_each = one i;
+      nodes = p i;
+      channels = q i;
+      tags = r i;
+      gates_in = gates i;
+      ends_in = ends i;
+      tags_in = nodes i;
+      one_node_each = one i;
     }
 
 -- The network of what is covered is determined.

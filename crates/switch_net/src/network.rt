@@ -49,12 +49,63 @@ impl Network {
         ensures parts { IfSome result (λ net. (net.nodes ≡ nodes) × (net.channels ≡ channels) × (net.tags ≡ tags)) }
     {
         let gates_in = channels.as_slice().iter().all(|c| c.gate < nodes);
-        let ends_in = channels.as_slice().iter().all(|c| c.ends.as_slice().iter().all(|e| *e < nodes));
+        let ends_in = channels
+            .as_slice()
+            .iter()
+            .all(|c| c.ends.as_slice().iter().all(|e| *e < nodes));
         let tags_in = tags.as_slice().iter().all(|t| t.node < nodes);
         if gates_in && ends_in && tags_in {
-            Some(Network { nodes, channels, tags })
+            Some(Network {
+                nodes,
+                channels,
+                tags,
+            })
         } else {
             None
         }
+    }
+}
+
+#[cfg(test)]
+mod tests {
+    use super::{Channel, ChannelKind, Network, Tag};
+    use mp_base::{List, Name};
+    use std::alloc::{AllocError, Global};
+    use std::test::Fail;
+
+    // One channel from node 0, and one label.
+    fn inverter(
+        alloc: Global,
+        gate: u32,
+        end: u32,
+        label: u32,
+    ) -> Result<Option<Network>, AllocError> {
+        let mut channels = List::new(alloc);
+        channels.push(Channel {
+            gate,
+            ends: List::from_vec([0, end].to_vec(alloc)?),
+            kind: ChannelKind::Depletion,
+        })?;
+        let mut tags = List::new(alloc);
+        tags.push(Tag {
+            offset: 0,
+            name: Name::from_slice(alloc, b"y")?,
+            node: label,
+        })?;
+        Ok(Network::checked(2, channels, tags))
+    }
+
+    #[test]
+    fn numbers_are_nodes(rt: HostRuntime) -> Result<(), Fail> {
+        for (gate, end, label, fits) in [
+            (1, 1, 1, true),
+            (2, 1, 1, false),
+            (1, 2, 1, false),
+            (1, 1, 2, false),
+        ] {
+            let net = inverter(rt.alloc(), gate, end, label)?;
+            assert_eq!(rt; net.is_some(), fits, "at {gate}, {end}, {label}");
+        }
+        Ok(())
     }
 }
