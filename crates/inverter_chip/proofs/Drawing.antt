@@ -1,25 +1,21 @@
 -- What the commands draw.
 use Rattle.std.proofs.Common.{ℕ, ◌≡◌, ◌<◌, ◌⊎◌, ◌^◌, inl, inr, refl, List, [], ◌∷◌, ◌++◌, length, Some, None, Option, arith, All, true, lit<, not, eqb, ltb, ◌||◌, ◌&&◌}
-use Rattle.std.specs.Prelude.{ℤ, pos, negsuc, neg_ℤ, ◌*ℤ◌, ◌+ℤ◌, ◌-ℤ◌, ◌<ℤ◌, codes, decimal, nat_abs}
+use Rattle.std.specs.Prelude.{ℤ, pos, negsuc, ◌*ℤ◌, ◌+ℤ◌, ◌-ℤ◌, codes, decimal}
 use Rattle.std.proofs.lemmas.Int.{ints}
 use Rattle.std.proofs.lemmas.List.Elements.{All-nil, All-cons}
 use Rattle.lam_geom.specs.declared.layer.Layer.{Layer}
 use Rattle.lam_geom.specs.declared.layer.Layer.TheVariants.{ND, NP, NM, NI, NB}
 use Rattle.lam_geom.specs.declared.rect.Rect.{Rect}
-use Rattle.lam_geom.specs.declared.place.Point.{Point}
 use Rattle.lam_geom.specs.declared.label.FlatLabel.{FlatLabel}
-use Rattle.cif_form.specs.declared.command.Command.{Command}
 use Rattle.cif_form.specs.declared.command.Item.{Item}
-use Rattle.cif_form.specs.declared.command.Command.TheVariants.{Box}
-use Rattle.cif_form.specs.Text.{right, SignedDigits}
 use Rattle.cif_form.specs.Fits.{IsSmall}
 use Rattle.cif_form.specs.Writing.{space, placed_items}
-use Rattle.cif_form.specs.Place.{Scale, IsAround, unit, layer_name}
+use Rattle.cif_form.specs.Place.{IsAround, unit, layer_name}
 use Rattle.cif_form.specs.Labels.{IsLabelText, IsSpace, Spaces, Coordinate, OwnLayer}
 use Rattle.cif_form.specs.Expansion.{Expands, Draws, Definition, item_at}
 use Rattle.inverter_chip.specs.Shapes.{inverter_shapes, inverter_labels, rect, label}
 use Rattle.inverter_chip.specs.Text.{inverter_commands, box}
-use Rattle.inverter_chip.proofs.Reading.{every, and_both, tested, below}
+use Rattle.inverter_chip.proofs.Reading.{every, and_both, tested}
 use Rattle.std.proofs.lemmas.Fmt.{decimal_is_IsNumeral}
 use Rattle.std.specs.Fmt.{digits}
 

@@ -1,25 +1,20 @@
 -- The channels, the labels and the network of the inverter.
-use Rattle.std.proofs.Common.{ℕ, zero, suc, ◌<◌, ◌≡◌, ◌⊎◌, inl, inr, refl, sym, ◌∙◌, subst, arith, List, [], ◌∷◌, length, get_or, Some, None, lit<}
-use Rattle.std.specs.Prelude.{ℤ, pos, negsuc, ◌≤ℤ◌, ◌<ℤ◌, ◌+ℤ◌, ◌↔◌, AllPairs, All, Contains, codes}
+use Rattle.std.proofs.Common.{ℕ, zero, suc, ◌<◌, ◌≡◌, ◌⊎◌, inl, inr, refl, sym, subst, arith, List, [], ◌∷◌, get_or, Some, None, lit<}
+use Rattle.std.specs.Prelude.{ℤ, pos, negsuc, ◌+ℤ◌, AllPairs, Contains}
 use Rattle.std.proofs.lemmas.Int.{ints}
 use Rattle.std.proofs.lemmas.List.{get_or_default}
 use Rattle.lam_geom.specs.declared.layer.Layer.{Layer}
-use Rattle.lam_geom.specs.declared.layer.Layer.TheVariants.{ND, NP, NM, NI}
-use Rattle.lam_geom.specs.declared.rect.Rect.{Rect}
+use Rattle.lam_geom.specs.declared.layer.Layer.TheVariants.{ND, NP, NM}
 use Rattle.lam_geom.specs.Chains.{Chain}
-use Rattle.lam_geom.specs.Chains.Chain.{here}
 use Rattle.lam_geom.specs.Squares.{Square, Adjoin, Before, IsIn, ShareEdge, RectanglesAreJoined}
 use Rattle.switch_net.specs.declared.network.ChannelKind.TheVariants.{Enhancement, Depletion}
-use Rattle.switch_net.specs.declared.network.Channel.{Channel}
-use Rattle.switch_net.specs.declared.network.Network.{Network}
-use Rattle.switch_net.specs.Conductors.{IsChannel, Conducts, ConductsOn, IsChannelSquare}
-use Rattle.switch_net.specs.Labels.{IsNamed}
-use Rattle.switch_net.specs.Drawn.{AreRegions, IsOfChannel, IsEnd, IsOfNode, IsChannelAt, IsTag, IsNetwork}
-use Rattle.inverter_chip.specs.Shapes.{rect, label, inverter_labels}
+use Rattle.switch_net.specs.Conductors.{IsChannel, IsChannelSquare}
+use Rattle.switch_net.specs.Drawn.{AreRegions, IsOfChannel, IsEnd, IsOfNode, IsChannelAt, IsTag}
+use Rattle.inverter_chip.specs.Shapes.{rect, label}
 use Rattle.inverter_chip.specs.Inverter.{tag}
 use Rattle.inverter_chip.proofs.Chaining.{map_chain, keep_along}
 use Rattle.inverter_chip.proofs.Mask.{mask, Lies, Of, channel_lies, lies_channel, implant_lies, lies_implant, conducts_of}
-use Rattle.inverter_chip.proofs.Nodes.{square, nodes, ascending, in_rect, are_nodes, of_node, number_of}
+use Rattle.inverter_chip.proofs.Nodes.{square, nodes, ascending, in_rect, of_node, number_of}
 
 -- ---- the channels
 
@@ -94,9 +89,11 @@ module _ (joined : RectanglesAreJoined) where
         first_part c.0 s.x s.y r p (subst (λ l. Before (square l s.x s.y) (get_or regions c.0 r)) is.0 (subst (Before s) (sym c.2) b));
     all = λ s h.
         let w = part_of s.x s.y h.1 in
-        let l : w.0 < 2 = below_two w.0 s.x s.y w.1 in
-        (get_or regions w.0 s, (w.0, l, get_or_default regions w.0 (get_or regions w.0 s) s l),
-        subst (λ l. Chain (Adjoin (IsChannelSquare mask)) (get_or regions w.0 s) (square l s.x s.y)) (sym h.0) (part_reach w.0 s.x s.y s w.1));
+        let l : w.0 < 2 = below_two w.0 s.x s.y w.1 in (
+          get_or regions w.0 s,
+          (w.0, l, get_or_default regions w.0 (get_or regions w.0 s) s l),
+          subst (λ l. Chain (Adjoin (IsChannelSquare mask)) (get_or regions w.0 s) (square l s.x s.y)) (sym h.0) (part_reach w.0 s.x s.y s w.1),
+        );
   }
     where
       below_two : (k : ℕ) (x y : ℤ) → Part k x y → k < 2
@@ -244,4 +241,3 @@ module _ (joined : RectanglesAreJoined) where
     names = record { x = refl; y = refl; layer = (conducts_of NM k x y h, λ m l c. absurd (omega arith)) };
     node = of_node joined k (square NM x y) h;
   }
-

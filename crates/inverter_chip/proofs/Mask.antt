@@ -5,8 +5,8 @@ use Rattle.std.proofs.lemmas.Int.{ints, by_lt_z}
 use Rattle.lam_geom.specs.declared.layer.Layer.{Layer}
 use Rattle.lam_geom.specs.declared.layer.Layer.TheVariants.{ND, NP, NC, NM, NI, NB, NG}
 use Rattle.lam_geom.specs.declared.rect.Rect.{Rect}
-use Rattle.lam_geom.specs.Squares.{Square, Covers, covered, ShareEdge}
-use Rattle.switch_net.specs.Conductors.{IsChannel, ConductsOn, Conducts, Joined, IsChannelSquare}
+use Rattle.lam_geom.specs.Squares.{Square, Covers, covered}
+use Rattle.switch_net.specs.Conductors.{IsChannel, ConductsOn, Joined}
 use Rattle.switch_net.specs.Conductors.Joined.{beside, contact}
 use Rattle.inverter_chip.specs.Shapes.{inverter_shapes, rect}
 

@@ -1,28 +1,27 @@
 -- The network of the inverter, and its pads.
-use Rattle.std.proofs.Common.{ℕ, zero, suc, ◌<◌, ◌+◌, ◌≡◌, ◌⊎◌, inl, inr, refl, sym, ◌∙◌, ap, subst, subst₂, arith, List, [], ◌∷◌, ◌++◌, length, get_or, Some, None, lit<, map, cond, eqb, Bool}
-use Rattle.std.specs.Prelude.{ℤ, pos, negsuc, ◌≢◌, All, AllPairs, Contains, codes, sum, slice_get, flat_map}
+use Rattle.std.proofs.Common.{ℕ, zero, suc, ◌<◌, ◌+◌, ◌≡◌, inl, inr, refl, sym, ◌∙◌, ap, subst, subst₂, arith, List, [], ◌∷◌, ◌++◌, length, Some, lit<, cond, eqb}
+use Rattle.std.specs.Prelude.{pos, negsuc, ◌≢◌, All, Contains, codes, sum, slice_get, flat_map}
 use Rattle.std.specs.List.{AllZip}
 use Rattle.std.proofs.lemmas.Int.{ints}
 use Rattle.std.proofs.lemmas.Option.{slice_get_within, get_or_from_slice_get}
 use Rattle.std.proofs.lemmas.List.Elements.{All-contains}
 use Rattle.mp_base.specs.declared.pad.Pad.{Pad}
 use Rattle.mp_base.specs.declared.pad.Pads.{Pads}
-use Rattle.lam_geom.specs.declared.layer.Layer.TheVariants.{ND, NP, NM}
+use Rattle.lam_geom.specs.declared.layer.Layer.TheVariants.{ND, NP}
 use Rattle.lam_geom.specs.declared.label.FlatLabel.{FlatLabel}
-use Rattle.lam_geom.specs.Squares.{Square, RectanglesAreJoined}
+use Rattle.lam_geom.specs.Squares.{RectanglesAreJoined}
 use Rattle.switch_net.specs.declared.network.ChannelKind.TheVariants.{Enhancement, Depletion}
 use Rattle.switch_net.specs.declared.network.Channel.{Channel}
 use Rattle.switch_net.specs.declared.network.Tag.{Tag}
 use Rattle.switch_net.specs.declared.network.Network.{Network}
-use Rattle.switch_net.specs.Labels.{Names}
 use Rattle.switch_net.specs.Pads.{labels_of, bit_labels, driver_labels, chip_labels}
 use Rattle.switch_net.specs.Drawn.{IsTag, IsNetwork}
-use Rattle.switch_net.specs.Breaks.{IsOnTwoNodes, IsOnNothing, IsDrivenTwice, MeetsDriver, IsMissing, BreaksAt, HasPads, IsSoundMask, AreTooMany}
+use Rattle.switch_net.specs.Breaks.{BreaksAt, HasPads, IsSoundMask, AreTooMany}
 use Rattle.switch_net.specs.Breaks.BreaksAt.{one, two}
 use Rattle.switch_net.specs.Laws.{OneNumbering}
 use Rattle.inverter_chip.specs.Shapes.{inverter_shapes, inverter_labels}
 use Rattle.inverter_chip.specs.Inverter.{tag, IsSignal, ArePads, IsInverter}
-use Rattle.inverter_chip.proofs.Mask.{mask, Lies}
+use Rattle.inverter_chip.proofs.Mask.{mask}
 use Rattle.inverter_chip.proofs.Nodes.{nodes, are_nodes}
 use Rattle.inverter_chip.proofs.Extracted.{regions, are_regions, pull_down, pull_up, on_layer, on_metal}
 
@@ -98,12 +97,22 @@ module _ (joined : RectanglesAreJoined) where
   tags_are : AllZip (IsTag mask nodes) inverter_labels tags
   tags_are = (
     on_layer joined 127 (codes "gnd") ND (pos 2) (pos 2) 0 (inl (refl, (omega (arith, ints), omega (arith, ints), omega (arith, ints), omega (arith, ints)))),
-    (on_layer joined 142 (codes "vdd") ND (pos 2) (pos 56) 6 (inr (inr (refl, (omega (arith, ints), omega (arith, ints), omega (arith, ints), omega (arith, ints))))),
-    (on_layer joined 158 (codes "a") NP (negsuc 1) (pos 12) 4 (inl (refl, (omega (arith, ints), omega (arith, ints), omega (arith, ints), omega (arith, ints)))),
-    (on_layer joined 172 (codes "y") ND (pos 2) (pos 20) 5 (inr (inl (refl, (omega (arith, ints), omega (arith, ints), omega (arith, ints), omega (arith, ints))))),
-    (on_metal joined 186 (codes "phia") (pos 40) (pos 2) 1 (inl (refl, (omega (arith, ints), omega (arith, ints), omega (arith, ints), omega (arith, ints)))),
-    (on_metal joined 200 (codes "phib") (pos 48) (pos 2) 2 (inr (inl (refl, (omega (arith, ints), omega (arith, ints), omega (arith, ints), omega (arith, ints))))),
-    (on_metal joined 214 (codes "phic") (pos 56) (pos 2) 3 (inr (inr (refl, (omega (arith, ints), omega (arith, ints), omega (arith, ints), omega (arith, ints))))), tt))))))
+    (
+      on_layer joined 142 (codes "vdd") ND (pos 2) (pos 56) 6 (inr (inr (refl, (omega (arith, ints), omega (arith, ints), omega (arith, ints), omega (arith, ints))))),
+      (
+        on_layer joined 158 (codes "a") NP (negsuc 1) (pos 12) 4 (inl (refl, (omega (arith, ints), omega (arith, ints), omega (arith, ints), omega (arith, ints)))),
+        (
+          on_layer joined 172 (codes "y") ND (pos 2) (pos 20) 5 (inr (inl (refl, (omega (arith, ints), omega (arith, ints), omega (arith, ints), omega (arith, ints))))),
+          (
+            on_metal joined 186 (codes "phia") (pos 40) (pos 2) 1 (inl (refl, (omega (arith, ints), omega (arith, ints), omega (arith, ints), omega (arith, ints)))),
+            (
+              on_metal joined 200 (codes "phib") (pos 48) (pos 2) 2 (inr (inl (refl, (omega (arith, ints), omega (arith, ints), omega (arith, ints), omega (arith, ints))))),
+              (on_metal joined 214 (codes "phic") (pos 56) (pos 2) 3 (inr (inr (refl, (omega (arith, ints), omega (arith, ints), omega (arith, ints), omega (arith, ints))))), tt),
+            ),
+          ),
+        ),
+      ),
+    ),
   )
 
   pub is_network : IsNetwork mask inverter_labels netlist

@@ -1,6 +1,6 @@
 -- The nodes of the inverter.
-use Rattle.std.proofs.Common.{ℕ, zero, suc, ◌<◌, ◌≡◌, ◌⊎◌, inl, inr, refl, sym, subst, arith, List, [], ◌∷◌, length, get_or}
-use Rattle.std.specs.Prelude.{ℤ, pos, negsuc, AllPairs, Contains}
+use Rattle.std.proofs.Common.{ℕ, zero, suc, ◌<◌, inl, inr, refl, sym, subst, arith, List, [], ◌∷◌, length, get_or}
+use Rattle.std.specs.Prelude.{ℤ, pos, negsuc, AllPairs}
 use Rattle.std.proofs.lemmas.Int.{ints}
 use Rattle.std.proofs.lemmas.List.{get_or_default}
 use Rattle.lam_geom.specs.declared.layer.Layer.{Layer}
@@ -149,9 +149,16 @@ module _ (joined : RectanglesAreJoined) where
 
   pub are_nodes : AreNodes mask nodes
   are_nodes = record {
-    ascending = ascending nodes
-        (inr (inl (refl, omega (arith, ints))), (inr (inl (refl, omega (arith, ints))), (inr (inl (refl, omega (arith, ints))),
-        (inl (omega (arith, ints)), (inl (omega (arith, ints)), (inl (omega (arith, ints)), tt))))));
+    ascending = ascending nodes (
+      inr (inl (refl, omega (arith, ints))),
+      (
+        inr (inl (refl, omega (arith, ints))),
+        (
+          inr (inl (refl, omega (arith, ints))),
+          (inl (omega (arith, ints)), (inl (omega (arith, ints)), (inl (omega (arith, ints)), tt))),
+        ),
+      ),
+    );
     each = λ k d l. conducts_of (get_or nodes k d).layer k (get_or nodes k d).x (get_or nodes k d).y (root_of k d l);
     first = λ r s c is chain b.
         let o : IsOf c.0 r = subst (IsOf c.0) c.2 (root_of c.0 r c.1) in

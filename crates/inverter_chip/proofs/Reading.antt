@@ -1,12 +1,12 @@
 -- The text is what a writer writes of the commands.
-use Rattle.std.proofs.Common.{ℕ, ◌≡◌, ◌≤◌, ◌<◌, ◌^◌, ◌⊎◌, refl, List, [], ◌∷◌, ◌++◌, subst, sym, true, not, Bool, lit≤, length, All, arith, eqb, leb, ◌&&◌, inr}
+use Rattle.std.proofs.Common.{ℕ, ◌≡◌, ◌≤◌, ◌<◌, ◌^◌, ◌⊎◌, refl, List, [], ◌∷◌, subst, sym, true, not, Bool, lit≤, length, All, arith, eqb, leb, ◌&&◌, inr}
 use Rattle.std.specs.Prelude.{◌≢◌, codes, ℤ, pos, ◌≤ℤ◌, nat_abs}
 use Rattle.std.specs.Fmt.{digits}
 use Rattle.std.proofs.lemmas.Int.{ints}
 use Rattle.std.proofs.lemmas.List.Elements.{All-nil, All-cons}
 use Rattle.cif_form.specs.declared.command.Command.{Command}
-use Rattle.cif_form.specs.declared.command.Command.TheVariants.{Box, Layer, User}
-use Rattle.cif_form.specs.Text.{Reads, ◌▹◌, Byte, Blanks, IsBlank, IsShortName, IsDigit, IsUpper, right}
+use Rattle.cif_form.specs.declared.command.Command.TheVariants.{Layer, User}
+use Rattle.cif_form.specs.Text.{Reads, ◌▹◌, Byte, Blanks, IsBlank, IsShortName, IsDigit, IsUpper}
 use Rattle.cif_form.specs.Fits.{Fits, IsSmall}
 use Rattle.cif_form.specs.Writing.{written, placed_items}
 use Rattle.inverter_chip.specs.Text.{inverter_text, inverter_commands, box}
@@ -68,26 +68,63 @@ all_fit (c ∷ cs) h = All-cons Fits c cs h.0 (all_fit cs h.1)
 
 pub commands_fit : All Fits inverter_commands
 commands_fit = all_fit inverter_commands (
-    (layer_fits (codes "ND") refl refl),
-    ((box_fits 2 30 (pos 1) (pos 15) refl refl),
-    ((layer_fits (codes "NP") refl refl),
-    ((box_fits 6 2 (pos 1) (pos 7) refl refl),
-    ((box_fits 6 10 (pos 1) (pos 19) refl refl),
-    ((layer_fits (codes "NB") refl refl),
-    ((box_fits 2 2 (pos 1) (pos 15) refl refl),
-    ((layer_fits (codes "NI") refl refl),
-    ((box_fits 6 8 (pos 1) (pos 20) refl refl),
-    ((layer_fits (codes "NM") refl refl),
-    ((box_fits 2 2 (pos 20) (pos 1) refl refl),
-    ((box_fits 2 2 (pos 24) (pos 1) refl refl),
-    ((box_fits 2 2 (pos 28) (pos 1) refl refl),
-    ((user_fits (codes "4 gnd 1 1 ND") refl),
-    ((user_fits (codes "4 vdd 1 28 ND") refl),
-    ((user_fits (codes "4 a -1 6 NP") refl),
-    ((user_fits (codes "4 y 1 10 ND") refl),
-    ((user_fits (codes "4 phia 20 1") refl),
-    ((user_fits (codes "4 phib 24 1") refl),
-    ((user_fits (codes "4 phic 28 1") refl), tt))))))))))))))))))))
+  (layer_fits (codes "ND") refl refl),
+  (
+    (box_fits 2 30 (pos 1) (pos 15) refl refl),
+    (
+      (layer_fits (codes "NP") refl refl),
+      (
+        (box_fits 6 2 (pos 1) (pos 7) refl refl),
+        (
+          (box_fits 6 10 (pos 1) (pos 19) refl refl),
+          (
+            (layer_fits (codes "NB") refl refl),
+            (
+              (box_fits 2 2 (pos 1) (pos 15) refl refl),
+              (
+                (layer_fits (codes "NI") refl refl),
+                (
+                  (box_fits 6 8 (pos 1) (pos 20) refl refl),
+                  (
+                    (layer_fits (codes "NM") refl refl),
+                    (
+                      (box_fits 2 2 (pos 20) (pos 1) refl refl),
+                      (
+                        (box_fits 2 2 (pos 24) (pos 1) refl refl),
+                        (
+                          (box_fits 2 2 (pos 28) (pos 1) refl refl),
+                          (
+                            (user_fits (codes "4 gnd 1 1 ND") refl),
+                            (
+                              (user_fits (codes "4 vdd 1 28 ND") refl),
+                              (
+                                (user_fits (codes "4 a -1 6 NP") refl),
+                                (
+                                  (user_fits (codes "4 y 1 10 ND") refl),
+                                  (
+                                    (user_fits (codes "4 phia 20 1") refl),
+                                    (
+                                      (user_fits (codes "4 phib 24 1") refl),
+                                      ((user_fits (codes "4 phic 28 1") refl), tt),
+                                    ),
+                                  ),
+                                ),
+                              ),
+                            ),
+                          ),
+                        ),
+                      ),
+                    ),
+                  ),
+                ),
+              ),
+            ),
+          ),
+        ),
+      ),
+    ),
+  ),
+)
 
 pub space_is_blank : IsBlank 32
 space_is_blank = ((λ h. omega arith), (λ h. omega arith), (λ h. omega arith), (λ h. omega arith), (λ h. omega arith), (λ h. omega arith))

@@ -1,21 +1,21 @@
 -- The inverter as a circuit: in each setting the output settles to the negation of the input.
-use Rattle.std.proofs.Common.{ℕ, zero, suc, ◌<◌, ◌-◌, ◌≡◌, ◌⊎◌, inl, inr, refl, sym, ◌∙◌, ap, subst, subst₂, arith, List, [], ◌∷◌, ◌++◌, length, get_or, Option, Some, None, lit<}
-use Rattle.std.specs.Prelude.{◌≢◌, ◌^◌, All, Any, Contains, codes, slice_index, sum}
+use Rattle.std.proofs.Common.{ℕ, zero, suc, ◌<◌, ◌-◌, ◌≡◌, ◌⊎◌, inl, inr, refl, sym, ◌∙◌, ap, subst, arith, List, [], ◌∷◌, ◌++◌, length, get_or, Option, Some, None, lit<}
+use Rattle.std.specs.Prelude.{◌≢◌, ◌^◌, All, Contains, codes, slice_index, sum}
 use Rattle.std.specs.List.{AllZip}
 use Rattle.std.specs.Int.{bit_at}
 use Rattle.std.proofs.lemmas.List.Elements.{All-nil, All-cons, All-contains}
 use Rattle.mp_base.specs.declared.value.Trit.{Trit}
-use Rattle.mp_base.specs.declared.value.Trit.TheVariants.{Zero, One, X}
+use Rattle.mp_base.specs.declared.value.Trit.TheVariants.{Zero, One}
 use Rattle.mp_base.specs.declared.pad.Pad.{Pad}
 use Rattle.mp_base.specs.declared.pad.Pads.{Pads}
 use Rattle.switch_net.specs.declared.network.ChannelKind.TheVariants.{Enhancement, Depletion}
 use Rattle.switch_net.specs.declared.network.Channel.{Channel}
 use Rattle.switch_net.specs.declared.network.Tag.{Tag}
-use Rattle.switch_net.specs.Settled.{Setting, IsOn, MayBeOn, Path, IsStrong, IsWeak, IsPossible, IsDefinite, IsAgainst, Gives, IsSolution}
-use Rattle.switch_net.specs.Pads.{trit_of, low_bits, bit_count, labels_of, bit_labels, pad_bits, Fit}
-use Rattle.switch_net.specs.Clock.{Phases, Drive, drive, drives, bit_drives, input_drives, AreDrivers, IsLabelled, SettlesTo, RunsTo, HasValue, Shows, IsClock, IsCircuitTrace, settings_until_outputs}
+use Rattle.switch_net.specs.Settled.{Setting, IsOn, MayBeOn, Path, IsAgainst, Gives, IsSolution}
+use Rattle.switch_net.specs.Pads.{trit_of, low_bits, bit_count, labels_of, bit_labels, Fit}
+use Rattle.switch_net.specs.Clock.{Phases, Drive, drive, drives, bit_drives, input_drives, AreDrivers, SettlesTo, HasValue, Shows, IsClock, IsCircuitTrace}
 use Rattle.inverter_chip.specs.Inverter.{tag, IsSignal, ArePads, ShowsNot}
-use Rattle.inverter_chip.proofs.Netlist.{netlist, channels, tags, name_on, node_name, node_named, named_node}
+use Rattle.inverter_chip.proofs.Netlist.{netlist, channels, name_on, node_name, node_named, named_node}
 
 -- ---- the output of one setting
 
@@ -96,9 +96,14 @@ module _ (s : Setting) (v : ℕ → Trit) (d : IsDriven s) where
   low_given : v 4 ≡ One → Gives s v 5 Zero
   low_given on =
       inl (record {
-        held = (0, pull_down ∷ [], d.ground, (0, refl, in_setting pull_down (0, lit< tt, refl), (0, lit< tt, refl), (1, lit< tt, refl), d.output),
-            All-cons (λ (c : Channel). c.kind ≢ Depletion) pull_down [] (λ e. cc) (All-nil (λ (c : Channel). c.kind ≢ Depletion)),
-            All-cons (IsOn v) pull_down [] on (All-nil (IsOn v)));
+        held = (
+          0,
+          pull_down ∷ [],
+          d.ground,
+          (0, refl, in_setting pull_down (0, lit< tt, refl), (0, lit< tt, refl), (1, lit< tt, refl), d.output),
+          All-cons (λ (c : Channel). c.kind ≢ Depletion) pull_down [] (λ e. cc) (All-nil (λ (c : Channel). c.kind ≢ Depletion)),
+          All-cons (IsOn v) pull_down [] on (All-nil (IsOn v)),
+        );
         unopposed = λ a cs o p st po. elim (comes a cs p) [
           | inl e ↦ not_output a Zero e o
           | inr h ↦ elim h [
@@ -111,8 +116,14 @@ module _ (s : Setting) (v : ℕ → Trit) (d : IsDriven s) where
   high_given : v 4 ≡ Zero → Gives s v 5 One
   high_given off =
       inr (inl (record {
-        held = (6, pull_up ∷ [], d.power, (6, refl, in_setting pull_up (1, lit< tt, refl), (1, lit< tt, refl), (0, lit< tt, refl), d.output),
-            (0, pull_up, lit< tt, refl, refl), All-cons (IsOn v) pull_up [] tt (All-nil (IsOn v)));
+        held = (
+          6,
+          pull_up ∷ [],
+          d.power,
+          (6, refl, in_setting pull_up (1, lit< tt, refl), (1, lit< tt, refl), (0, lit< tt, refl), d.output),
+          (0, pull_up, lit< tt, refl, refl),
+          All-cons (IsOn v) pull_up [] tt (All-nil (IsOn v)),
+        );
         unopposed = λ a cs o p po. elim (comes a cs p) [
           | inl e ↦ not_output a One e o
           | inr h ↦ elim h [

@@ -1,17 +1,16 @@
 -- The text breaks no rule of texts.
-use Rattle.std.proofs.Common.{ℕ, suc, ◌≡◌, ◌+◌, ◌<◌, ◌≤◌, ◌^◌, inl, inr, refl, sym, ap, subst, arith, List, [], ◌∷◌, ◌++◌, length, All, Some, true, false, lit≤, not, eqb, leb, ◌&&◌, Bool, lit<}
-use Rattle.std.specs.Prelude.{◌≢◌, ℤ, pos, negsuc, codes, decimal, nat_abs}
+use Rattle.std.proofs.Common.{ℕ, suc, ◌≡◌, ◌+◌, ◌<◌, ◌^◌, inl, inr, refl, sym, subst, arith, List, [], ◌∷◌, ◌++◌, length, Some, true, false, lit≤, not, eqb, leb, ◌&&◌}
+use Rattle.std.specs.Prelude.{ℤ, pos, negsuc, codes, decimal, nat_abs}
 use Rattle.std.specs.Fmt.{signed_decimal}
 use Rattle.std.proofs.lemmas.List.Elements.{All-nil, All-cons, All-append, All-contains}
 use Rattle.std.proofs.lemmas.Fmt.{decimal_is_IsNumeral}
-use Rattle.lam_geom.specs.declared.place.Point.{Point}
 use Rattle.cif_form.specs.declared.command.Command.{Command}
-use Rattle.cif_form.specs.declared.command.Command.TheVariants.{Box, Layer, User}
+use Rattle.cif_form.specs.declared.command.Command.TheVariants.{Layer, User}
 use Rattle.cif_form.specs.declared.command.Item.{Item}
-use Rattle.cif_form.specs.Text.{Byte, IsBlank, IsSeparator, Blanks, Separators, Separator, Digits, Integer, Signed, PointText, IsShortName, right, Spells}
+use Rattle.cif_form.specs.Text.{IsBlank, IsSeparator, Blanks, Separators, Separator, Digits, Integer, Signed, PointText, Spells}
 use Rattle.cif_form.specs.Fits.{Fits, IsSmall, unsigned_numbers, signed_numbers}
 use Rattle.cif_form.specs.Writing.{written, placed_items, text_of, point_text, space}
-use Rattle.cif_form.specs.Scans.{TextEnd, Whole, FileScans, Scans, IsReadAs, IsLateEnd, HasBig, opens}
+use Rattle.cif_form.specs.Scans.{Whole, FileScans, Scans, IsLateEnd, HasBig, opens}
 use Rattle.inverter_chip.specs.Text.{inverter_text, inverter_commands, box}
 use Rattle.inverter_chip.proofs.Reading.{and_both, inverter_written, layer_fits, box_fits, user_fits, every, fine, below, space_is_blank, short, no_semicolon}
 
@@ -118,25 +117,62 @@ user_good words h = record { spelled = (refl, lit≤ tt, no_semicolon words h); 
 all_good : AllGood inverter_commands
 all_good = (
   layer_good (codes "ND") refl refl,
-  (box_good 2 30 (pos 1) (pos 15) refl refl,
-  (layer_good (codes "NP") refl refl,
-  (box_good 6 2 (pos 1) (pos 7) refl refl,
-  (box_good 6 10 (pos 1) (pos 19) refl refl,
-  (layer_good (codes "NB") refl refl,
-  (box_good 2 2 (pos 1) (pos 15) refl refl,
-  (layer_good (codes "NI") refl refl,
-  (box_good 6 8 (pos 1) (pos 20) refl refl,
-  (layer_good (codes "NM") refl refl,
-  (box_good 2 2 (pos 20) (pos 1) refl refl,
-  (box_good 2 2 (pos 24) (pos 1) refl refl,
-  (box_good 2 2 (pos 28) (pos 1) refl refl,
-  (user_good (codes "4 gnd 1 1 ND") refl,
-  (user_good (codes "4 vdd 1 28 ND") refl,
-  (user_good (codes "4 a -1 6 NP") refl,
-  (user_good (codes "4 y 1 10 ND") refl,
-  (user_good (codes "4 phia 20 1") refl,
-  (user_good (codes "4 phib 24 1") refl,
-  (user_good (codes "4 phic 28 1") refl, tt))))))))))))))))))))
+  (
+    box_good 2 30 (pos 1) (pos 15) refl refl,
+    (
+      layer_good (codes "NP") refl refl,
+      (
+        box_good 6 2 (pos 1) (pos 7) refl refl,
+        (
+          box_good 6 10 (pos 1) (pos 19) refl refl,
+          (
+            layer_good (codes "NB") refl refl,
+            (
+              box_good 2 2 (pos 1) (pos 15) refl refl,
+              (
+                layer_good (codes "NI") refl refl,
+                (
+                  box_good 6 8 (pos 1) (pos 20) refl refl,
+                  (
+                    layer_good (codes "NM") refl refl,
+                    (
+                      box_good 2 2 (pos 20) (pos 1) refl refl,
+                      (
+                        box_good 2 2 (pos 24) (pos 1) refl refl,
+                        (
+                          box_good 2 2 (pos 28) (pos 1) refl refl,
+                          (
+                            user_good (codes "4 gnd 1 1 ND") refl,
+                            (
+                              user_good (codes "4 vdd 1 28 ND") refl,
+                              (
+                                user_good (codes "4 a -1 6 NP") refl,
+                                (
+                                  user_good (codes "4 y 1 10 ND") refl,
+                                  (
+                                    user_good (codes "4 phia 20 1") refl,
+                                    (
+                                      user_good (codes "4 phib 24 1") refl,
+                                      (user_good (codes "4 phic 28 1") refl, tt),
+                                    ),
+                                  ),
+                                ),
+                              ),
+                            ),
+                          ),
+                        ),
+                      ),
+                    ),
+                  ),
+                ),
+              ),
+            ),
+          ),
+        ),
+      ),
+    ),
+  ),
+)
 
 -- the text begins with no blank
 not_late : (offset : ℕ) → IsLateEnd inverter_text offset → ⊥

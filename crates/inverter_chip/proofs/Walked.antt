@@ -1,6 +1,6 @@
 -- The drawing breaks no rule of drawings.
-use Rattle.std.proofs.Common.{ℕ, ◌≡◌, ◌+◌, ◌<◌, inl, inr, refl, sym, ap, subst, arith, List, [], ◌∷◌, Option, Some, None, All, true, lit<, leb, ◌&&◌}
-use Rattle.std.specs.Prelude.{ℤ, pos, negsuc, neg_ℤ, ◌*ℤ◌, ◌+ℤ◌, ◌-ℤ◌, ◌≤ℤ◌, ◌≢◌, codes, nat_abs}
+use Rattle.std.proofs.Common.{ℕ, ◌≡◌, ◌+◌, ◌<◌, inl, inr, refl, sym, subst, arith, List, [], ◌∷◌, Option, Some, None, All, true, lit<, leb, ◌&&◌}
+use Rattle.std.specs.Prelude.{ℤ, pos, negsuc, ◌*ℤ◌, ◌+ℤ◌, ◌-ℤ◌, codes, nat_abs}
 use Rattle.std.proofs.lemmas.Int.{ints}
 use Rattle.std.specs.Fmt.{digits}
 use Rattle.std.proofs.lemmas.List.Elements.{All-nil, All-cons}
@@ -17,7 +17,7 @@ use Rattle.cif_form.specs.Writing.{placed_items}
 use Rattle.cif_form.specs.Place.{unit, IsBox, HasEdges, layer_name}
 use Rattle.cif_form.specs.Labels.{IsLabelText}
 use Rattle.cif_form.specs.Expansion.{item_at}
-use Rattle.cif_form.specs.Walk.{State, Frame, Visit, Visits, DrawRule, BreaksNone, IsFarShape, EdgesAt, onward, on_layer, WalkEnd, Whole, Walks, FileWalks}
+use Rattle.cif_form.specs.Walk.{State, Frame, Visit, Visits, BreaksNone, IsFarShape, Whole, Walks, FileWalks}
 use Rattle.cif_form.specs.Walk.DrawRule.{F1, F2, F3, F4, F5, F6, F7, F8, F9, F10}
 use Rattle.inverter_chip.specs.Text.{inverter_commands, box}
 use Rattle.inverter_chip.specs.Shapes.{inverter_shapes, inverter_labels, rect, label}

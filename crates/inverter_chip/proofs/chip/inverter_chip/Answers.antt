@@ -1,9 +1,7 @@
-use Rattle.std.proofs.Common.{refl, sym, subst}
 use Rattle.std.specs.Prelude.{codes}
 use Rattle.cif_form.specs.Writing.{placed_items}
-use Rattle.inverter_chip.specs.Text.{inverter_text, inverter_commands}
+use Rattle.inverter_chip.specs.Text.{inverter_commands}
 use Rattle.inverter_chip.specs.Shapes.{inverter_shapes, inverter_labels}
-use Rattle.inverter_chip.specs.Inverter.{IsInverterText}
 use Rattle.inverter_chip.proofs.Reading.{inverter_reads}
 use Rattle.inverter_chip.proofs.Scanned.{inverter_scans}
 use Rattle.inverter_chip.proofs.Drawing.{inverter_expands}
