@@ -1,0 +1,11 @@
+mod Reading
+mod Drawing
+mod Mask
+mod Chaining
+mod Nodes
+mod Extracted
+mod Netlist
+mod Running
+mod Scanned
+mod Walked
+mod Determined
