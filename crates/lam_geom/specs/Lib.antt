@@ -1,0 +1,3 @@
+pub mod Chains
+pub mod Squares
+pub mod Moves

@@ -1,0 +1,14 @@
+//! Rectangles on the mask layers of nMOS, in half-units.
+#![tactic(auto)]
+
+mod label;
+mod law;
+mod layer;
+mod place;
+mod rect;
+
+pub use label::FlatLabel;
+pub use law::rectangles_are_joined;
+pub use layer::Layer;
+pub use place::{Orient, Point};
+pub use rect::{Rect, Shape};
