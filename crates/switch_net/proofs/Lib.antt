@@ -1,0 +1,13 @@
+mod Reaching
+mod Rounds
+mod Marks
+mod Bounds
+mod Exists
+mod Again
+mod Owners
+mod Flips
+mod Pieces
+mod Unique
+mod Determined
+mod Driving
+mod Runs

@@ -1,0 +1,43 @@
+-- What holds of every mask and every network.
+use Rattle.std.specs.Prelude.{◌≡◌, ℕ, List, All, AllPairs, ◌≢◌}
+use Rattle.mp_base.specs.declared.value.Trit.{Trit}
+use Rattle.mp_base.specs.declared.pad.Pads.{Pads}
+use Rattle.lam_geom.specs.declared.rect.Rect.{Rect}
+use Rattle.lam_geom.specs.declared.label.FlatLabel.{FlatLabel}
+use Rattle.lam_geom.specs.Squares.{covered}
+use Rattle.switch_net.specs.declared.network.Network.{Network}
+use Rattle.switch_net.specs.Settled.{Setting, IsSettled}
+use Rattle.switch_net.specs.Pads.{Fit, driver_labels}
+use Rattle.switch_net.specs.Clock.{IsCircuitTrace}
+use Rattle.switch_net.specs.Drawn.{IsNetwork}
+use Rattle.switch_net.specs.Breaks.{HasPads}
+
+-- shapes with labels draw at most one network
+abbrev pub OneNetwork : Type 0
+OneNetwork =
+    (shapes : List Rect) (labels : List FlatLabel) (n m : Network) → IsNetwork (covered shapes) labels n → IsNetwork (covered shapes) labels m → n ≡ m
+
+-- there are settled values, whatever the channels, the drivers and the values before
+abbrev pub SettledExists : Type 0
+SettledExists = (s : Setting) → (v : ℕ → Trit) × IsSettled s v
+
+-- settled values are determined
+abbrev pub SettledOnce : Type 0
+SettledOnce = (s : Setting) (v w : ℕ → Trit) → IsSettled s v → IsSettled s w → v ≡ w
+
+-- settled values settle to themselves
+abbrev pub SettlesAgain : Type 0
+SettlesAgain = (s : Setting) (v : ℕ → Trit) → IsSettled s v → IsSettled (record s { before = v }) v
+
+-- a network that has its pads runs from all values before under all inputs that fit
+abbrev pub TraceExists : Type 0
+TraceExists =
+    (net : Network) (pads : Pads) (before : ℕ → Trit) (inputs : List (List ℕ)) → HasPads net pads → AllPairs ◌≢◌ (driver_labels pads.inputs)
+    → All (Fit pads.inputs) inputs
+    → (outputs : List (List (List Trit))) × (after : ℕ → Trit) × IsCircuitTrace net pads before inputs outputs after
+
+-- what is shown, and the values after, are determined
+abbrev pub TraceOnce : Type 0
+TraceOnce =
+    (net : Network) (pads : Pads) (before : ℕ → Trit) (inputs : List (List ℕ)) (shown other : List (List (List Trit))) (v w : ℕ → Trit)
+    → IsCircuitTrace net pads before inputs shown v → IsCircuitTrace net pads before inputs other w → (shown ≡ other) × (v ≡ w)

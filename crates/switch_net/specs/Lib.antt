@@ -1,0 +1,12 @@
+pub mod OneNode
+pub mod Settled
+pub mod Pads
+pub mod Clock
+pub mod Sizes
+pub mod Classes
+pub mod Conductors
+pub mod Labels
+pub mod Drawn
+pub mod Breaks
+pub mod Cutting
+pub mod Laws

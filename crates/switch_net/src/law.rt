@@ -1,0 +1,32 @@
+//! Laws of networks, for the proofs of crates above.
+
+ghost use Rattle.switch_net.specs.Cutting.{ChannelsFollowPieces, ConductorsFollowPieces};
+ghost use Rattle.switch_net.specs.Laws.{OneNetwork, SettledExists, SettledOnce, SettlesAgain, TraceExists, TraceOnce};
+
+use lam_geom::rectangles_are_joined;
+
+/// However conductors and channels are cut into rectangles, the rectangles tell what is joined.
+pub fn pieces_tell_nodes()
+    ensures conductors { ConductorsFollowPieces }
+    ensures channels { ChannelsFollowPieces }
+{
+    rectangles_are_joined();
+}
+
+/// A mask with labels draws at most one network.
+pub fn network_is_determined()
+    ensures { OneNetwork }
+{}
+
+/// Each network has settled values in each setting, exactly one each, and they settle to themselves.
+pub fn networks_settle()
+    ensures exist { SettledExists }
+    ensures once { SettledOnce }
+    ensures again { SettlesAgain }
+{}
+
+/// A network that has its pads has a trace from any values along any inputs that fit, exactly one.
+pub fn circuits_run()
+    ensures exist { TraceExists }
+    ensures once { TraceOnce }
+{}

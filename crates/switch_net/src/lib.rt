@@ -1,0 +1,8 @@
+//! The network of switches that a mask draws, and what it means that one is settled.
+#![tactic(auto)]
+
+mod law;
+mod network;
+
+pub use law::{circuits_run, network_is_determined, networks_settle, pieces_tell_nodes};
+pub use network::{Channel, ChannelKind, Network, Tag};
