@@ -33,7 +33,7 @@ next_seat q s (Writes x v ∷ es) = next_seat q s es
 next_seat q s (Goes l ∷ es) = record { place = place_of_label q q.labels l; stack = s.stack }
 next_seat q s (Calls l ∷ es) =
     record { place = place_of_label q q.labels l; stack = take q.depth (wrapped q (s.place + 1) ∷ s.stack) }
-next_seat q s (Returns ∷ es) = record { place = slice_index s.stack 0; stack = drop 1 s.stack ++ 0 ∷ [] }
+next_seat q s (Returns ∷ es) = record { place = slice_index s.stack 0; stack = take q.depth (drop 1 s.stack ++ 0 ∷ []) }
 
 abbrev pub next_seats : Program → List ℕ → List Process → List Seat → List Seat
 next_seats p env [] ss = []
