@@ -1,15 +1,11 @@
 //! Which program is the inverter, and what it shows.
 
 ghost use Rattle.std.specs.Prelude.{◌≡◌, ◌↔◌, ◌<◌, ◌≤◌, [], ◌∷◌, IsTrue, ℕ, List, map, length, codes};
-ghost use Rattle.mp_base.specs.declared.refusal.Place.{Place};
-ghost use Rattle.mp_base.specs.declared.op.Op.TheVariants.{Not};
-ghost use Rattle.mp_program.specs.declared.program.ExprKind.TheVariants as kinds;
-ghost use Rattle.mp_program.specs.declared.program.FormKind.TheVariants.{Set};
 ghost use Rattle.mp_program.specs.declared.program.Program.{Program};
 ghost use Rattle.mp_program.specs.Names.{is_supply};
 ghost use Rattle.mp_program.specs.Trace.{IsTrace};
-ghost use Rattle.inverter_program.specs.Inverter.{IsInverter, inverted, named};
-ghost use Rattle.inverter_program.specs.Wanted.{declared_of, is_wanted};
+ghost use Rattle.inverter_program.specs.Inverter.{IsInverter, inverted};
+ghost use Rattle.inverter_program.specs.Wanted.{is_wanted, declares, negates_second, names_a, sets_y, negates_a, drives_y};
 
 use mp_base::Op;
 use mp_program::{Def, Expr, ExprKind, Form, FormKind, Program, Way, What};
@@ -46,7 +42,7 @@ fn is_wanted(def: &Def, wanted: Wanted) -> bool
 // Whether these are the signals that are declared, in this order.
 fn declares(defs: &[Def], wanted: &[Wanted]) -> bool
     requires { length defs.now ≤ 7 }
-    ensures { IsTrue result ↔ (named defs.now ≡ map declared_of wanted.now) }
+    ensures { result ≡ declares defs.now wanted.now }
 {
     match (defs, wanted) {
         ([], []) => true,
@@ -59,40 +55,53 @@ fn declares(defs: &[Def], wanted: &[Wanted]) -> bool
     }
 }
 
-fn negates_a(exprs: &[Expr]) -> bool
-    ensures { IsTrue result ↔ (map (λ (x : _). x.kind) exprs.now ≡ kinds.Apply Not 0 (1 ∷ []) ∷ kinds.Named (codes "a") ∷ []) }
+fn negates_second(expr: &Expr) -> bool
+    ensures { result ≡ negates_second expr.now.kind }
 {
-    match exprs {
-        [first, second] => {
-            let ExprKind::Apply {
-                op: Op::Not,
-                index: 0,
-                args,
-            } = &first.kind
-            else {
-                return false;
-            };
-            let ExprKind::Named(name) = &second.kind else {
-                return false;
-            };
-            args.as_slice() == [1].as_slice() && name.bytes() == b"a".as_slice()
+    match &expr.kind {
+        ExprKind::Apply { op, index, args } => {
+            matches!(op, Op::Not) && *index == 0 && args.as_slice() == [1].as_slice()
         }
         _ => false,
     }
 }
 
-fn sets_y(forms: &[Form]) -> bool
-    ensures { IsTrue result ↔ ((at : Place) × (map (λ (x : _). x.kind) forms.now ≡ Set (codes "y") at 0 ∷ [])) }
+fn names_a(expr: &Expr) -> bool
+    ensures { result ≡ names_a expr.now.kind }
+{
+    match &expr.kind {
+        ExprKind::Named(name) => name.bytes() == b"a".as_slice(),
+        _ => false,
+    }
+}
+
+fn sets_y(form: &Form) -> bool
+    ensures { result ≡ sets_y form.now.kind }
+{
+    match &form.kind {
+        FormKind::Set {
+            target,
+            at: _,
+            value,
+        } => target.bytes() == b"y".as_slice() && *value == 0,
+        _ => false,
+    }
+}
+
+fn negates_a(exprs: &[Expr]) -> bool
+    ensures { result ≡ negates_a exprs.now }
+{
+    match exprs {
+        [first, second] => negates_second(first) && names_a(second),
+        _ => false,
+    }
+}
+
+fn drives_y(forms: &[Form]) -> bool
+    ensures { result ≡ drives_y forms.now }
 {
     match forms {
-        [form] => match &form.kind {
-            FormKind::Set {
-                target,
-                at: _,
-                value,
-            } => target.bytes() == b"y".as_slice() && *value == 0,
-            _ => false,
-        },
+        [form] => sets_y(form),
         _ => false,
     }
 }
@@ -112,7 +121,7 @@ pub fn is_inverter(program: &Program) -> bool
         return false;
     }
     negates_a(program.exprs.as_slice())
-        && sets_y(program.forms.as_slice())
+        && drives_y(program.forms.as_slice())
         && program.always.as_slice() == [0].as_slice()
 }
 
