@@ -14,7 +14,7 @@ use Rattle.mp_program.specs.declared.program.Def.{Def}
 use Rattle.mp_program.specs.declared.program.Expr.{Expr}
 use Rattle.mp_program.specs.declared.program.Form.{Form}
 use Rattle.mp_program.specs.declared.program.Program.{Program}
-use Rattle.mp_program.specs.Pads.{pads_of}
+use Rattle.mp_program.specs.Pads.{input_pads, output_pads}
 use Rattle.mp_program.specs.State.{State, zero_state}
 use Rattle.mp_program.specs.Environment.{def_value}
 use Rattle.mp_program.specs.Step.{next_state, outputs_of}
@@ -66,11 +66,8 @@ inverter = record {
 inverter_outputs : outputs_from inverter (zero_state inverter) ((0 ∷ []) ∷ (1 ∷ []) ∷ []) ≡ (1 ∷ []) ∷ (0 ∷ []) ∷ []
 inverter_outputs = refl
 
-inverter_pads : pads_of inverter ≡ record {
-  inputs = record { name = codes "a"; width = 0 } ∷ [];
-  outputs = record { name = codes "y"; width = 0 } ∷ [];
-}
-inverter_pads = refl
+inverter_inputs : input_pads inverter ≡ (codes "a", 0) ∷ []
+inverter_inputs = refl
 
 inverter_weight : weight inverter ≡ 10
 inverter_weight = refl
@@ -89,6 +86,9 @@ two_writers = record {
       ∷ record { place = nowhere; name = codes "s"; depth = 0; depth_at = nowhere; labels = []; forms = 2 ∷ [] } ∷ [];
   fits = refl;
 }
+
+two_writers_pads : output_pads two_writers ≡ (codes "q", 4) ∷ []
+two_writers_pads = refl
 
 two_writers_outputs : outputs_from two_writers (zero_state two_writers) ((1 ∷ []) ∷ (0 ∷ []) ∷ (0 ∷ []) ∷ []) ≡ (0 ∷ []) ∷ (0 ∷ []) ∷ (15 ∷ []) ∷ []
 two_writers_outputs = refl
