@@ -1,6 +1,6 @@
 -- The clocks of an inverter.
-use Rattle.std.proofs.Common.{◌≡◌, ◌⊎◌, inl, inr, ℕ, zero, suc, ◌+◌, ◌-◌, ◌<◌, ◌≤◌, List, [], ◌∷◌, ◌++◌, Bool, true, false, cond, ◌&&◌, refl, sym, ap, subst, ◌∙◌, length, take, map, arith}
-use Rattle.std.specs.Prelude.{slice_index, slice_index_or, codes, unwrap_or, drop}
+use Rattle.std.proofs.Common.{◌≡◌, ◌⊎◌, inl, inr, ℕ, ◌-◌, ◌<◌, List, [], ◌∷◌, ◌++◌, true, refl, sym, ap, subst, ◌∙◌, length, map, arith}
+use Rattle.std.specs.Prelude.{slice_index, slice_index_or, codes, unwrap_or}
 use Rattle.std.specs.List.{list_all, flat_map, AllByRecursion}
 use Rattle.std.proofs.lemmas.List.{append-nil, get_or-map, length-map}
 use Rattle.mp_base.specs.Merge.{merged}
@@ -21,12 +21,12 @@ use Rattle.mp_program.specs.declared.program.Program.{Program}
 use Rattle.mp_program.specs.Names.{is_supply, is_input, index_of, pad_number}
 use Rattle.mp_program.specs.Fits.{def_fits}
 use Rattle.mp_program.specs.Values.{kind_value, value_of}
-use Rattle.mp_program.specs.Effects.{Effect, Writes, kind_effects, effects_of, written}
+use Rattle.mp_program.specs.Effects.{Writes, kind_effects, effects_of, written}
 use Rattle.mp_program.specs.State.{State, places_taken}
 use Rattle.mp_program.specs.Environment.{clock_effects, driven_value, def_value, what_value, IsEnvironment}
 use Rattle.mp_program.specs.Step.{outputs_of, next_state}
 use Rattle.mp_program.specs.Trace.{IsClock, IsTraceFrom}
-use Rattle.inverter_program.specs.Inverter.{Declared, IsInverter, named, input_a, output_y, inverted}
+use Rattle.inverter_program.specs.Inverter.{IsInverter, named, input_a, output_y, inverted}
 use Rattle.inverter_program.proofs.Declared.{key, both, Found, found, all_declared, inputs_declared, inputs_named, inputs_before, one_shown}
 
 -- ---- what the form does
@@ -118,11 +118,11 @@ clock_shows p st inputs outputs after is c =
     let ia : ℕ = index_of p.defs (codes "a") in
     let iy : ℕ = index_of p.defs (codes "y") in
     let a : slice_index c.env ia ≡ slice_index inputs 0 = c.environment.values ia w.input.def w.input.within w.input.at
-        ∙ ap (λ k. what_value k (slice_index st.stored ia) (slice_index inputs (pad_number p.defs ia)) (driven_value p st c.env w.input.def)) w.input.what
-        ∙ ap (slice_index inputs) (w.first ia w.input.def w.input.within w.input.at (ap is_input w.input.what)) in
+    ∙ ap (λ k. what_value k (slice_index st.stored ia) (slice_index inputs (pad_number p.defs ia)) (driven_value p st c.env w.input.def)) w.input.what
+    ∙ ap (slice_index inputs) (w.first ia w.input.def w.input.within w.input.at (ap is_input w.input.what)) in
     let y : slice_index c.env iy ≡ 1 - slice_index c.env ia = c.environment.values iy w.output.def w.output.within w.output.at
-        ∙ ap (λ k. what_value k (slice_index st.stored iy) (slice_index inputs (pad_number p.defs iy)) (driven_value p st c.env w.output.def)) w.output.what
-        ∙ driven p st c.env w.output.def is w.output.name in
+    ∙ ap (λ k. what_value k (slice_index st.stored iy) (slice_index inputs (pad_number p.defs iy)) (driven_value p st c.env w.output.def)) w.output.what
+    ∙ driven p st c.env w.output.def is w.output.name in
     c.shown ∙ w.shown c.env c.environment.size ∙ ap (λ v. v ∷ []) (y ∙ ap (λ v. 1 - v) a)
 
 pub trace_alone : (p : Program) → IsInverter p → (st : State) (inputs outputs : List (List ℕ)) → IsTraceFrom p st inputs outputs → outputs ≡ map inverted inputs

@@ -1,8 +1,7 @@
 -- The definitions of an inverter, by what is declared.
-use Rattle.std.proofs.Common.{◌≡◌, ◌⊎◌, inl, inr, ℕ, zero, suc, ◌+◌, ◌<◌, ◌≤◌, List, [], ◌∷◌, ◌++◌, Bool, true, false, cond, ◌&&◌, ◌||◌, not, refl, sym, ap, subst, ◌∙◌, length, take, map, arith}
+use Rattle.std.proofs.Common.{◌≡◌, ◌⊎◌, inl, inr, ℕ, zero, suc, ◌+◌, ◌<◌, ◌≤◌, List, [], ◌∷◌, ◌++◌, Bool, true, false, cond, ◌&&◌, ◌||◌, not, refl, sym, ap, subst, ◌∙◌, length, take, arith}
 use Rattle.std.specs.Prelude.{slice_index, slice_index_or, ◌==◌, drop}
 use Rattle.std.specs.List.{list_all, count_by, AllByRecursion}
-use Rattle.std.specs.Str.{bytes_eq}
 use Rattle.std.proofs.lemmas.Bool.Decides.{nat_tests}
 use Rattle.std.proofs.lemmas.Slice.Eq.{bytes_eq-Decides}
 use Rattle.std.proofs.lemmas.List.Sums.{sum_by-cons}
@@ -82,7 +81,6 @@ found_there x xs n w e f =
       name = f.name;
       what = f.what;
     }
-
 
 abbrev pub OtherNames : List ℕ → List Declared → Type 0
 OtherNames n pre = AllByRecursion (λ d. is_same d.name n ≡ false) pre

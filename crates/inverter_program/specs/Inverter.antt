@@ -6,10 +6,8 @@ use Rattle.mp_program.specs.declared.program.Way.TheVariants.{Input, Output}
 use Rattle.mp_program.specs.declared.program.What.{What}
 use Rattle.mp_program.specs.declared.program.What.TheVariants.{Signal}
 use Rattle.mp_program.specs.declared.program.Def.{Def}
-use Rattle.mp_program.specs.declared.program.ExprKind.{ExprKind}
 use Rattle.mp_program.specs.declared.program.ExprKind.TheVariants.{Named, Apply}
 use Rattle.mp_program.specs.declared.program.Expr.{Expr}
-use Rattle.mp_program.specs.declared.program.FormKind.{FormKind}
 use Rattle.mp_program.specs.declared.program.FormKind.TheVariants.{Set}
 use Rattle.mp_program.specs.declared.program.Form.{Form}
 use Rattle.mp_program.specs.declared.program.Program.{Program}

@@ -1,5 +1,5 @@
 -- The tests by which the code knows the inverter.
-use Rattle.std.specs.Prelude.{ℕ, List, [], ◌∷◌, Bool, true, false, ◌&&◌, ◌==◌, if◌then◌else◌, codes}
+use Rattle.std.specs.Prelude.{ℕ, List, [], ◌∷◌, Bool, true, false, ◌&&◌, ◌||◌, ◌==◌, length, if◌then◌else◌, codes}
 use Rattle.mp_base.specs.declared.op.Op.{Op}
 use Rattle.mp_base.specs.declared.op.Op.TheVariants.{Not}
 use Rattle.mp_program.specs.declared.program.Way.TheVariants.{Input, Output}
@@ -12,6 +12,7 @@ use Rattle.mp_program.specs.declared.program.Expr.{Expr}
 use Rattle.mp_program.specs.declared.program.FormKind.{FormKind}
 use Rattle.mp_program.specs.declared.program.FormKind.TheVariants.{Set}
 use Rattle.mp_program.specs.declared.program.Form.{Form}
+use Rattle.mp_program.specs.declared.program.Program.{Program}
 use Rattle.mp_program.specs.Names.{is_same, is_supply}
 use Rattle.inverter_program.specs.declared.inverter.Wanted.{Wanted}
 use Rattle.inverter_program.specs.declared.inverter.Wanted.TheVariants.{InputA, OutputY}
@@ -67,3 +68,14 @@ negates_a _ = false
 abbrev pub drives_y : List Form → Bool
 drives_y (x ∷ []) = sets_y x.kind
 drives_y _ = false
+
+abbrev pub is_zero : List ℕ → Bool
+is_zero (f ∷ []) = f == 0
+is_zero _ = false
+
+-- in either order
+abbrev pub declares_both : List Def → Bool
+declares_both ds = declares ds (InputA ∷ OutputY ∷ []) || declares ds (OutputY ∷ InputA ∷ [])
+
+abbrev pub passes : Program → Bool
+passes p = (length p.defs == 7) && declares_both p.defs && negates_a p.exprs && drives_y p.forms && is_zero p.always && (length p.processes == 0)

@@ -5,7 +5,7 @@ ghost use Rattle.mp_program.specs.declared.program.Program.{Program};
 ghost use Rattle.mp_program.specs.Names.{is_supply};
 ghost use Rattle.mp_program.specs.Trace.{IsTrace};
 ghost use Rattle.inverter_program.specs.Inverter.{IsInverter, inverted};
-ghost use Rattle.inverter_program.specs.Wanted.{is_wanted, declares, negates_second, names_a, sets_y, negates_a, drives_y};
+ghost use Rattle.inverter_program.specs.Wanted.{is_wanted, declares, negates_second, names_a, sets_y, negates_a, drives_y, is_zero, declares_both, passes};
 
 use mp_base::Op;
 use mp_program::{Def, Expr, ExprKind, Form, FormKind, Program, Way, What};
@@ -106,28 +106,44 @@ fn drives_y(forms: &[Form]) -> bool
     }
 }
 
+fn is_zero(always: &[u32]) -> bool
+    ensures { result ≡ is_zero always.now }
+{
+    match always {
+        [form] => *form == 0,
+        _ => false,
+    }
+}
+
+fn declares_both(defs: &[Def]) -> bool
+    requires { length defs.now ≤ 7 }
+    ensures { result ≡ declares_both defs.now }
+{
+    declares(defs, &[Wanted::InputA, Wanted::OutputY])
+        || declares(defs, &[Wanted::OutputY, Wanted::InputA])
+}
+
+fn passes(program: &Program) -> bool
+    ensures { result ≡ passes program.now }
+{
+    program.defs.len() == 7
+        && declares_both(program.defs.as_slice())
+        && negates_a(program.exprs.as_slice())
+        && drives_y(program.forms.as_slice())
+        && is_zero(program.always.as_slice())
+        && program.processes.len() == 0
+}
+
 /// Whether a program is the inverter: besides power, ground and the phases it defines the input signal `a` and
 /// the output signal `y`, and its one form is `(setq y (not a))`.
 pub fn is_inverter(program: &Program) -> bool
     ensures { IsTrue result ↔ IsInverter program.now }
 {
-    let defs = program.defs.as_slice();
-    if defs.len() != 7 || program.processes.len() != 0 {
-        return false;
-    }
-    if !declares(defs, &[Wanted::InputA, Wanted::OutputY])
-        && !declares(defs, &[Wanted::OutputY, Wanted::InputA])
-    {
-        return false;
-    }
-    negates_a(program.exprs.as_slice())
-        && drives_y(program.forms.as_slice())
-        && program.always.as_slice() == [0].as_slice()
+    passes(program)
 }
 
 /// In each clock an inverter shows its input inverted, and nothing else.
 pub fn inverters_invert()
     ensures shows { (p : Program) (inputs : List (List ℕ)) → IsInverter p → IsTrace p inputs (map inverted inputs) }
     ensures alone { (p : Program) (inputs outputs : List (List ℕ)) → IsInverter p → IsTrace p inputs outputs → outputs ≡ map inverted inputs }
-{
-}
+{}
