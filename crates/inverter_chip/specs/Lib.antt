@@ -1,0 +1,4 @@
+pub mod Text
+pub mod Shapes
+pub mod Chip
+pub mod Inverter
