@@ -71,15 +71,31 @@ abbrev user_of : ℕ → List ℕ × List ℕ → Option (Command × List ℕ)
 user_of digit r = Some (User digit r.0, r.1)
 
 abbrev letter_from : ℕ → Reader Command
-letter_from b bs = elim (eqb b 80) [ true ↦ and_then path_here (gives Polygon) bs
-  | false ↦ elim (eqb b 66) [ true ↦ and_then integer_from box_long bs
-  | false ↦ elim (eqb b 82) [ true ↦ and_then integer_from round_of bs
-  | false ↦ elim (eqb b 87) [ true ↦ and_then integer_from wire_of bs
-  | false ↦ elim (eqb b 76) [ true ↦ layer_from (past_blanks bs)
-  | false ↦ elim (eqb b 68) [ true ↦ definition_from (past_blanks bs)
-  | false ↦ elim (eqb b 67) [ true ↦ and_then integer_from call_of bs
-  | false ↦ elim (eqb b 40) [ true ↦ and_then (comment_from 0) (gives Comment) bs
-  | false ↦ None ] ] ] ] ] ] ] ]
+letter_from b bs = elim (eqb b 80) [
+  | true ↦ and_then path_here (gives Polygon) bs
+  | false ↦ elim (eqb b 66) [
+    | true ↦ and_then integer_from box_long bs
+    | false ↦ elim (eqb b 82) [
+      | true ↦ and_then integer_from round_of bs
+      | false ↦ elim (eqb b 87) [
+        | true ↦ and_then integer_from wire_of bs
+        | false ↦ elim (eqb b 76) [
+          | true ↦ layer_from (past_blanks bs)
+          | false ↦ elim (eqb b 68) [
+            | true ↦ definition_from (past_blanks bs)
+            | false ↦ elim (eqb b 67) [
+              | true ↦ and_then integer_from call_of bs
+              | false ↦ elim (eqb b 40) [
+                | true ↦ and_then (comment_from 0) (gives Comment) bs
+                | false ↦ None
+              ]
+            ]
+          ]
+        ]
+      ]
+    ]
+  ]
+]
 
 -- the command at the front
 abbrev pub command_from : Reader Command

@@ -2,3 +2,8 @@ pub mod Written
 pub mod Numbers
 pub mod Parts
 pub mod Commands
+pub mod Reading
+pub mod Scaled
+pub mod OneLabel
+pub mod OnePlace
+pub mod OneExpansion

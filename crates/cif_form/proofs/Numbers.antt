@@ -106,7 +106,7 @@ integer_from text = and_then natural_from (gives pos) (past text)
 abbrev pub signed_from : Reader ℤ
 signed_from text = signed_digits_from (past text)
 
-digit_reads : (b : ℕ) → digit_value b < 10 → (is_digit b ≡ true) × (digit_value b ≡ b - 48)
+pub digit_reads : (b : ℕ) → digit_value b < 10 → (is_digit b ≡ true) × (digit_value b ≡ b - 48)
 digit_reads b h = (grind arith, grind arith)
 
 digits_read : (ds : List ℕ) (n : ℕ) (rest : List ℕ) → AllDigits 10 ds → Stops rest → digits_from n (ds ++ rest) ≡ (digits_value_after 10 n ds, rest)
@@ -158,12 +158,11 @@ unsigned_reads (b ∷ ds) rest n h s =
 negative_reads : (ds rest : List ℕ) (n : ℕ) → Digits n ds → Stops rest → Finds signed_digits_from (neg_ℤ (pos n)) (45 ∷ ds) rest
 negative_reads ds rest n h s = ap (goes_on (gives (λ n. neg_ℤ (pos n)))) (natural_reads ds rest n h s)
 
-signed_digits_read : (z : ℤ) (front rest : List ℕ) → SignedDigits z front → Stops rest
+pub signed_digits_read : (z : ℤ) (front rest : List ℕ) → SignedDigits z front → Stops rest
     → Finds signed_digits_from z front rest × (past (front ++ rest) ≡ front ++ rest)
 signed_digits_read z front rest (n, inl (e, d)) s = (unsigned_reads front rest n d s ∙ ap (λ v. Some (v, rest)) (sym e), digits_past front rest n d)
 signed_digits_read z front rest (n, inr (e, (minus, ds, f, g, d))) s =
-    let k : front ≡ 45 ∷ ds = f ∙ ap (λ m. m ++ ds) g in
-    (
+    let k : front ≡ 45 ∷ ds = f ∙ ap (λ m. m ++ ds) g in (
       ap (λ t. signed_digits_from (t ++ rest)) k ∙ negative_reads ds rest n d s ∙ ap (λ v. Some (v, rest)) (sym e),
       ap (λ t. past (t ++ rest)) k ∙ ap (λ t. t ++ rest) (sym k),
     )

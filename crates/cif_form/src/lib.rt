@@ -5,4 +5,4 @@ mod command;
 mod law;
 
 pub use command::{Cif, Command, Item, Turn};
-pub use law::written_is_read;
+pub use law::{expansion_is_unique, reading_is_unique, written_is_read};

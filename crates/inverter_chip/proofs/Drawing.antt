@@ -23,7 +23,7 @@ use Rattle.inverter_chip.proofs.Reading.{every, and_both, tested, below}
 use Rattle.std.proofs.lemmas.Fmt.{decimal_is_IsNumeral}
 use Rattle.std.specs.Fmt.{digits}
 
-around : (l : Layer) (a b x y x0 y0 x1 y1 : ℤ) → pos 2 *ℤ x -ℤ a ≡ x0 → pos 2 *ℤ x +ℤ a ≡ x1 → pos 2 *ℤ y -ℤ b ≡ y0 → pos 2 *ℤ y +ℤ b ≡ y1
+pub around : (l : Layer) (a b x y x0 y0 x1 y1 : ℤ) → pos 2 *ℤ x -ℤ a ≡ x0 → pos 2 *ℤ x +ℤ a ≡ x1 → pos 2 *ℤ y -ℤ b ≡ y0 → pos 2 *ℤ y +ℤ b ≡ y1
     → IsAround unit l (record { x = x; y = y }) (record { x = x; y = y }) a b (rect l x0 y0 x1 y1)
 around l a b x y x0 y0 x1 y1 e f g h = record {
   layer = refl;
@@ -115,6 +115,36 @@ label_text o name x y tx ty tl l h hx hy hl =
 own : (l : Layer) → (l ≡ NM) ⊎ (l ≡ NP) ⊎ (l ≡ ND) → OwnLayer (Some l) (space ++ layer_name l)
 own l h = (space, layer_name l, refl, spaces, (refl, h))
 
+-- ---- the labels of the chip
+
+pub gnd_text : IsLabelText (label 127 (codes "gnd") (pos 2) (pos 2) (Some ND)) (codes "4 gnd 1 1 ND")
+unfolding digits
+gnd_text = label_text 127 (codes "gnd") (pos 2) (pos 2) _ _ _ (Some ND) refl (natural 1 refl) (natural 1 refl) (own ND (inr (inr refl)))
+
+pub vdd_text : IsLabelText (label 142 (codes "vdd") (pos 2) (pos 56) (Some ND)) (codes "4 vdd 1 28 ND")
+unfolding digits
+vdd_text = label_text 142 (codes "vdd") (pos 2) (pos 56) _ _ _ (Some ND) refl (natural 1 refl) (natural 28 refl) (own ND (inr (inr refl)))
+
+pub a_text : IsLabelText (label 158 (codes "a") (negsuc 1) (pos 12) (Some NP)) (codes "4 a -1 6 NP")
+unfolding digits
+a_text = label_text 158 (codes "a") (negsuc 1) (pos 12) _ _ _ (Some NP) refl minus_one (natural 6 refl) (own NP (inr (inl refl)))
+
+pub y_text : IsLabelText (label 172 (codes "y") (pos 2) (pos 20) (Some ND)) (codes "4 y 1 10 ND")
+unfolding digits
+y_text = label_text 172 (codes "y") (pos 2) (pos 20) _ _ _ (Some ND) refl (natural 1 refl) (natural 10 refl) (own ND (inr (inr refl)))
+
+pub phia_text : IsLabelText (label 186 (codes "phia") (pos 40) (pos 2) None) (codes "4 phia 20 1")
+unfolding digits
+phia_text = label_text 186 (codes "phia") (pos 40) (pos 2) _ _ _ None refl (natural 20 refl) (natural 1 refl) refl
+
+pub phib_text : IsLabelText (label 200 (codes "phib") (pos 48) (pos 2) None) (codes "4 phib 24 1")
+unfolding digits
+phib_text = label_text 200 (codes "phib") (pos 48) (pos 2) _ _ _ None refl (natural 24 refl) (natural 1 refl) refl
+
+pub phic_text : IsLabelText (label 214 (codes "phic") (pos 56) (pos 2) None) (codes "4 phic 28 1")
+unfolding digits
+phic_text = label_text 214 (codes "phic") (pos 56) (pos 2) _ _ _ None refl (natural 28 refl) (natural 1 refl) refl
+
 pub inverter_expands : Expands [] None (placed_items (codes "; ") 0 inverter_commands) inverter_shapes inverter_labels
 unfolding digits
 inverter_expands =
@@ -131,11 +161,11 @@ inverter_expands =
     box_step NM 2 2 (pos 20) (pos 1) (pos 38) (pos 0) (pos 42) (pos 4) _ refl refl refl refl (
     box_step NM 2 2 (pos 24) (pos 1) (pos 46) (pos 0) (pos 50) (pos 4) _ refl refl refl refl (
     box_step NM 2 2 (pos 28) (pos 1) (pos 54) (pos 0) (pos 58) (pos 4) _ refl refl refl refl (
-    Expands.label _ (label 127 (codes "gnd") (pos 2) (pos 2) (Some ND)) refl (label_text 127 (codes "gnd") (pos 2) (pos 2) _ _ _ (Some ND) refl (natural 1 refl) (natural 1 refl) (own ND (inr (inr refl)))) (
-    Expands.label _ (label 142 (codes "vdd") (pos 2) (pos 56) (Some ND)) refl (label_text 142 (codes "vdd") (pos 2) (pos 56) _ _ _ (Some ND) refl (natural 1 refl) (natural 28 refl) (own ND (inr (inr refl)))) (
-    Expands.label _ (label 158 (codes "a") (negsuc 1) (pos 12) (Some NP)) refl (label_text 158 (codes "a") (negsuc 1) (pos 12) _ _ _ (Some NP) refl minus_one (natural 6 refl) (own NP (inr (inl refl)))) (
-    Expands.label _ (label 172 (codes "y") (pos 2) (pos 20) (Some ND)) refl (label_text 172 (codes "y") (pos 2) (pos 20) _ _ _ (Some ND) refl (natural 1 refl) (natural 10 refl) (own ND (inr (inr refl)))) (
-    Expands.label _ (label 186 (codes "phia") (pos 40) (pos 2) None) refl (label_text 186 (codes "phia") (pos 40) (pos 2) _ _ _ None refl (natural 20 refl) (natural 1 refl) refl) (
-    Expands.label _ (label 200 (codes "phib") (pos 48) (pos 2) None) refl (label_text 200 (codes "phib") (pos 48) (pos 2) _ _ _ None refl (natural 24 refl) (natural 1 refl) refl) (
-    Expands.label _ (label 214 (codes "phic") (pos 56) (pos 2) None) refl (label_text 214 (codes "phic") (pos 56) (pos 2) _ _ _ None refl (natural 28 refl) (natural 1 refl) refl) (
+    Expands.label _ (label 127 (codes "gnd") (pos 2) (pos 2) (Some ND)) refl gnd_text (
+    Expands.label _ (label 142 (codes "vdd") (pos 2) (pos 56) (Some ND)) refl vdd_text (
+    Expands.label _ (label 158 (codes "a") (negsuc 1) (pos 12) (Some NP)) refl a_text (
+    Expands.label _ (label 172 (codes "y") (pos 2) (pos 20) (Some ND)) refl y_text (
+    Expands.label _ (label 186 (codes "phia") (pos 40) (pos 2) None) refl phia_text (
+    Expands.label _ (label 200 (codes "phib") (pos 48) (pos 2) None) refl phib_text (
+    Expands.label _ (label 214 (codes "phic") (pos 56) (pos 2) None) refl phic_text (
     Expands.done))))))))))))))))))))

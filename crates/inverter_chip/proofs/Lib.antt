@@ -1,3 +1,10 @@
 mod Reading
 mod Drawing
 mod Mask
+mod Chaining
+mod Nodes
+mod Extracted
+mod Netlist
+mod Running
+mod Scanned
+mod Walked

@@ -26,10 +26,10 @@ pub tested : {A : Type 0} (P : A → Type 0) (f : A → Bool) → ((a : A) → f
 tested P f means [] h = All-nil P
 tested P f means (x ∷ xs) h = let b = and_both (f x) (every f xs) h in All-cons P x xs (means x b.0) (tested P f means xs b.1)
 
-no_semicolon : (words : List ℕ) → every (λ b. not (eqb b 59)) words ≡ true → All (λ b. b ≢ 59) words
+pub no_semicolon : (words : List ℕ) → every (λ b. not (eqb b 59)) words ≡ true → All (λ b. b ≢ 59) words
 no_semicolon words h = tested (λ b. b ≢ 59) (λ b. not (eqb b 59)) (λ a k e. grind arith) words h
 
-short : (name : List ℕ) → length name ≡ 2 → every (λ b. leb 65 b && leb b 90) name ≡ true → IsShortName name
+pub short : (name : List ℕ) → length name ≡ 2 → every (λ b. leb 65 b && leb b 90) name ≡ true → IsShortName name
 short name e h = (omega arith, omega arith, tested (λ b. IsDigit b ⊎ IsUpper b) (λ b. leb 65 b && leb b 90) (λ a k. inr (upper a k)) name h)
   where
     upper : (b : ℕ) → (leb 65 b && leb b 90) ≡ true → (65 ≤ b) × (b ≤ 90)
@@ -44,7 +44,7 @@ fine z = leb (nat_abs z) 1000
 small : (zs : List ℤ) → every fine zs ≡ true → All IsSmall zs
 small zs h = tested IsSmall fine (λ z k. below (nat_abs z) k) zs h
 
-box_fits : (l w : ℕ) (x y : ℤ) → every fine (pos l ∷ pos w ∷ []) ≡ true → every fine (x ∷ y ∷ pos 1 ∷ pos 0 ∷ []) ≡ true → Fits (box l w x y)
+pub box_fits : (l w : ℕ) (x y : ℤ) → every fine (pos l ∷ pos w ∷ []) ≡ true → every fine (x ∷ y ∷ pos 1 ∷ pos 0 ∷ []) ≡ true → Fits (box l w x y)
 box_fits l w x y h k = record {
   unsigned = All-cons (λ z. (pos 0 ≤ℤ z) × IsSmall z) (pos l) (pos w ∷ []) (omega (arith, ints), below l (and_both (fine (pos l)) (every fine (pos w ∷ [])) h).0)
       (All-cons (λ z. (pos 0 ≤ℤ z) × IsSmall z) (pos w) [] (omega (arith, ints), below w (and_both (fine (pos w)) true (and_both (fine (pos l)) (every fine (pos w ∷ [])) h).1).0) (All-nil (λ z. (pos 0 ≤ℤ z) × IsSmall z)));
@@ -52,10 +52,10 @@ box_fits l w x y h k = record {
   formed = tt;
 }
 
-layer_fits : (name : List ℕ) → length name ≡ 2 → every (λ b. leb 65 b && leb b 90) name ≡ true → Fits (Layer name)
+pub layer_fits : (name : List ℕ) → length name ≡ 2 → every (λ b. leb 65 b && leb b 90) name ≡ true → Fits (Layer name)
 layer_fits name e h = record { unsigned = All-nil (λ z. (pos 0 ≤ℤ z) × IsSmall z); signed = All-nil IsSmall; formed = short name e h }
 
-user_fits : (words : List ℕ) → every (λ b. not (eqb b 59)) words ≡ true → Fits (User 9 words)
+pub user_fits : (words : List ℕ) → every (λ b. not (eqb b 59)) words ≡ true → Fits (User 9 words)
 user_fits words h = record { unsigned = All-nil (λ z. (pos 0 ≤ℤ z) × IsSmall z); signed = All-nil IsSmall; formed = (lit≤ tt, no_semicolon words h) }
 
 abbrev EachFits : List Command → Type 0
@@ -89,7 +89,7 @@ commands_fit = all_fit inverter_commands (
     ((user_fits (codes "4 phib 24 1") refl),
     ((user_fits (codes "4 phic 28 1") refl), tt))))))))))))))))))))
 
-space_is_blank : IsBlank 32
+pub space_is_blank : IsBlank 32
 space_is_blank = ((λ h. omega arith), (λ h. omega arith), (λ h. omega arith), (λ h. omega arith), (λ h. omega arith), (λ h. omega arith))
 
 pub semicolon_space : (Byte 59 ▹ Blanks) (codes "; ")

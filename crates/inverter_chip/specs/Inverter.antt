@@ -20,7 +20,7 @@ pub record ArePads (pads : Pads) : Type 0 where
   pub inputs : IsSignal pads.inputs (codes "a")
   pub outputs : IsSignal pads.outputs (codes "y")
 
-abbrev tag : ℕ → List ℕ → ℕ → Tag
+abbrev pub tag : ℕ → List ℕ → ℕ → Tag
 tag offset name node = record { offset = offset; name = name; node = node }
 
 -- seven nodes: a pull-down from y to ground, whose gate is a, and a pull-up from y to power

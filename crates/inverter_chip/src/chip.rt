@@ -6,7 +6,7 @@ ghost use Rattle.inverter_chip.specs.Inverter.{IsInverterText};
 
 use cif_form::written_is_read;
 use lam_geom::rectangles_are_joined;
-use switch_net::{circuits_run, networks_settle};
+use switch_net::{circuits_run, network_is_determined};
 
 /// The CIF text of an inverter with the input pad `a` and the output pad `y`, both signals. Its rectangles stand on
 /// half-units of CIF, its labels at the corners of squares.
@@ -16,7 +16,7 @@ pub fn inverter_chip() -> &'static [u8]
 {
     rectangles_are_joined();
     written_is_read();
-    networks_settle();
+    network_is_determined();
     circuits_run();
     b"L ND; B 2 30 1 15; L NP; B 6 2 1 7; B 6 10 1 19; L NB; B 2 2 1 15; L NI; B 6 8 1 20; L NM; B 2 2 20 1; B 2 2 24 1; B 2 2 28 1; 94 gnd 1 1 ND; 94 vdd 1 28 ND; 94 a -1 6 NP; 94 y 1 10 ND; 94 phia 20 1; 94 phib 24 1; 94 phic 28 1; E"
 }

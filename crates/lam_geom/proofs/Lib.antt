@@ -1,1 +1,2 @@
 pub mod Rectangles
+pub mod Touching

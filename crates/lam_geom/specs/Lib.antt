@@ -1,3 +1,4 @@
 pub mod Chains
 pub mod Squares
 pub mod Moves
+pub mod Spans

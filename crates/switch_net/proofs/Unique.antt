@@ -23,7 +23,7 @@ use Rattle.switch_net.specs.Classes.{AreClasses, IsInClass}
 use Rattle.switch_net.specs.Conductors.{Joined, IsChannelSquare}
 use Rattle.switch_net.specs.Labels.{Names, IsNamed, IsFirst}
 use Rattle.switch_net.specs.Drawn.{AreNodes, IsNetwork, IsChannelAt, IsTag, IsKind, IsOfChannel}
-use Rattle.switch_net.specs.Laws.{OneNetwork}
+use Rattle.switch_net.specs.Laws.{OneNetwork, OneNumbering}
 use Rattle.switch_net.proofs.Owners.{join_chains, turn_chain}
 use Rattle.switch_net.proofs.Flips.{join_flip, adjoin_flip}
 
@@ -240,3 +240,7 @@ one_network covers labels n m a b =
 
 pub drawn_once : OneNetwork
 drawn_once shapes labels n m a b = one_network (covered shapes) labels n m a b
+
+pub numbered_once : OneNumbering
+numbered_once shapes =
+    (one_classes square_order (join_flip (covered shapes)), one_classes square_order (adjoin_flip (IsChannelSquare (covered shapes))))

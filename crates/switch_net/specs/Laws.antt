@@ -4,13 +4,19 @@ use Rattle.mp_base.specs.declared.value.Trit.{Trit}
 use Rattle.mp_base.specs.declared.pad.Pads.{Pads}
 use Rattle.lam_geom.specs.declared.rect.Rect.{Rect}
 use Rattle.lam_geom.specs.declared.label.FlatLabel.{FlatLabel}
-use Rattle.lam_geom.specs.Squares.{covered}
+use Rattle.lam_geom.specs.Squares.{Square, covered}
 use Rattle.switch_net.specs.declared.network.Network.{Network}
 use Rattle.switch_net.specs.Settled.{Setting, IsSettled}
 use Rattle.switch_net.specs.Pads.{Fit, driver_labels}
 use Rattle.switch_net.specs.Clock.{IsCircuitTrace}
-use Rattle.switch_net.specs.Drawn.{IsNetwork}
+use Rattle.switch_net.specs.Drawn.{AreNodes, AreRegions, IsNetwork}
 use Rattle.switch_net.specs.Breaks.{HasPads}
+
+-- the nodes and the channels of shapes have one numbering
+abbrev pub OneNumbering : Type 0
+OneNumbering = (shapes : List Rect)
+    → ((n m : List Square) → AreNodes (covered shapes) n → AreNodes (covered shapes) m → n ≡ m)
+    × ((n m : List Square) → AreRegions (covered shapes) n → AreRegions (covered shapes) m → n ≡ m)
 
 -- shapes with labels draw at most one network
 abbrev pub OneNetwork : Type 0

@@ -1,7 +1,7 @@
 //! Laws of networks, for the proofs of crates above.
 
 ghost use Rattle.switch_net.specs.Cutting.{ChannelsFollowPieces, ConductorsFollowPieces};
-ghost use Rattle.switch_net.specs.Laws.{OneNetwork, SettledExists, SettledOnce, SettlesAgain, TraceExists, TraceOnce};
+ghost use Rattle.switch_net.specs.Laws.{OneNetwork, OneNumbering, SettledExists, SettledOnce, SettlesAgain, TraceExists, TraceOnce};
 
 use lam_geom::rectangles_are_joined;
 
@@ -13,9 +13,10 @@ pub fn pieces_tell_nodes()
     rectangles_are_joined();
 }
 
-/// A mask with labels draws at most one network.
+/// The nodes and channels of a mask have one numbering, and with labels it draws at most one network.
 pub fn network_is_determined()
-    ensures { OneNetwork }
+    ensures numbering { OneNumbering }
+    ensures network { OneNetwork }
 {}
 
 /// Each network has settled values in each setting, exactly one each, and they settle to themselves.

@@ -1,0 +1,33 @@
+use Rattle.std.proofs.Common.{refl, sym, subst}
+use Rattle.std.specs.Prelude.{codes}
+use Rattle.cif_form.specs.Writing.{placed_items}
+use Rattle.inverter_chip.specs.Text.{inverter_text, inverter_commands}
+use Rattle.inverter_chip.specs.Shapes.{inverter_shapes, inverter_labels}
+use Rattle.inverter_chip.specs.Inverter.{IsInverterText}
+use Rattle.inverter_chip.proofs.Reading.{inverter_reads}
+use Rattle.inverter_chip.proofs.Scanned.{inverter_scans}
+use Rattle.inverter_chip.proofs.Drawing.{inverter_expands}
+use Rattle.inverter_chip.proofs.Walked.{inverter_walks}
+use Rattle.inverter_chip.proofs.Netlist.{netlist, is_inverter, sound, has_pads, differ}
+use Rattle.inverter_chip.proofs.Running.{trace_shows}
+use Rattle.inverter_chip.proofs.chip.inverter_chip.Goals as goal
+
+pub returns-clause-inverter : goal.returns-clause-inverter
+returns-clause-inverter c = λ pads h. (
+  netlist,
+  record {
+    items = placed_items (codes "; ") 0 inverter_commands;
+    shapes = inverter_shapes;
+    labels = inverter_labels;
+    reads = inverter_reads c.written_is_read.ensures;
+    breaks_no_text_rule = inverter_scans;
+    expands = inverter_expands;
+    breaks_no_drawing_rule = inverter_walks;
+    breaks_no_network_rule = sound c.rectangles_are_joined.ensures c.network_is_determined.ensures.numbering pads h;
+  },
+  is_inverter,
+  record {
+    runs = λ before inputs f. c.circuits_run.ensures.exist netlist pads before inputs (has_pads pads h) (differ pads h) f;
+    shows = λ before inputs outputs after f t. trace_shows pads h before inputs outputs after f t;
+  },
+)
