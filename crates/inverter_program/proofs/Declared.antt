@@ -1,7 +1,8 @@
 -- The definitions of an inverter, by what is declared.
 use Rattle.std.proofs.Common.{◌≡◌, ◌⊎◌, inl, inr, ℕ, zero, suc, ◌+◌, ◌<◌, ◌≤◌, List, [], ◌∷◌, ◌++◌, Bool, true, false, cond, ◌&&◌, ◌||◌, not, refl, sym, ap, subst, ◌∙◌, length, take, arith}
-use Rattle.std.specs.Prelude.{slice_index, slice_index_or, ◌==◌, drop}
-use Rattle.std.specs.List.{list_all, count_by, AllByRecursion}
+use Rattle.std.specs.Prelude.{slice_index, slice_index_or, ◌==◌, drop, codes}
+use Rattle.std.specs.Prelude.{map}
+use Rattle.std.specs.List.{filter, list_all, count_by, AllByRecursion}
 use Rattle.std.proofs.lemmas.Bool.Decides.{nat_tests}
 use Rattle.std.proofs.lemmas.Slice.Eq.{bytes_eq-Decides}
 use Rattle.std.proofs.lemmas.List.Sums.{sum_by-cons}
@@ -10,8 +11,10 @@ use Rattle.mp_program.specs.declared.program.What.TheVariants.{Power, Ground, Ph
 use Rattle.mp_program.specs.declared.program.Def.{Def}
 use Rattle.mp_program.specs.Names.{is_same, is_supply, is_input, is_output, index_of}
 use Rattle.mp_program.specs.Fits.{def_fits, is_symbol}
+use Rattle.mp_program.specs.declared.program.Program.{Program}
+use Rattle.mp_program.specs.Pads.{Face, pad_width, input_pads, output_pads}
 use Rattle.mp_program.specs.Step.{outputs_of}
-use Rattle.inverter_program.specs.Inverter.{Declared, named}
+use Rattle.inverter_program.specs.Inverter.{Declared, named, input_a, output_y}
 
 -- ---- supplies have no name
 
@@ -262,3 +265,40 @@ one_shown (x ∷ xs) (v ∷ vs) c cs w pre post size fits e other silent out aft
     let fit : (def_fits x ≡ true) × (list_all def_fits xs ≡ true) = both (def_fits x) (list_all def_fits xs) fits in
     shown_by x xs v vs c cs w pre post (is_supply x.what) refl fit.0 e other silent out after
     (λ front e' other' silent'. one_shown xs vs c cs w front post (omega (arith, size)) fit.1 e' other' silent' out after)
+
+-- ---- the pads
+
+abbrev pub face_of : ℕ → Declared → Face
+face_of w d = (d.name, pad_width w d.what)
+
+abbrev pub faces_declared : (What → Bool) → ℕ → List Declared → List Face
+faces_declared is_wanted w [] = []
+faces_declared is_wanted w (d ∷ ds) = cond (is_wanted d.what) (face_of w d ∷ faces_declared is_wanted w ds) (faces_declared is_wanted w ds)
+
+faces_by : (is_wanted : What → Bool) (w : ℕ) (x : Def) (rest : List Face) (xs : List Def) (supply : Bool) → is_supply x.what ≡ supply
+    → ((k : What) → is_supply k ≡ true → is_wanted k ≡ false) → rest ≡ faces_declared is_wanted w (named xs)
+    → cond (is_wanted x.what) (face_of w (key x) ∷ rest) rest ≡ faces_declared is_wanted w (cond supply (named xs) (key x ∷ named xs))
+faces_by is_wanted w x rest xs true s none same = ap (λ b. cond b (face_of w (key x) ∷ rest) rest) (none x.what s) ∙ same
+faces_by is_wanted w x rest xs false s none same = ap (λ fs. cond (is_wanted x.what) (face_of w (key x) ∷ fs) fs) same
+
+-- a choice of lists goes through a map
+chosen : (b : Bool) (w : ℕ) (x : Def) (xs : List Def) → map (λ (y : Def). (y.name, pad_width w y.what)) (cond b (x ∷ xs) xs)
+    ≡ cond b (face_of w (key x) ∷ map (λ (y : Def). (y.name, pad_width w y.what)) xs) (map (λ (y : Def). (y.name, pad_width w y.what)) xs)
+chosen true w x xs = refl
+chosen false w x xs = refl
+
+-- the pads are those that are declared
+pub faces_named : (is_wanted : What → Bool) (w : ℕ) (ds : List Def) → ((k : What) → is_supply k ≡ true → is_wanted k ≡ false)
+    → map (λ (y : Def). (y.name, pad_width w y.what)) (filter (λ y. is_wanted y.what) ds) ≡ faces_declared is_wanted w (named ds)
+faces_named is_wanted w [] none = refl
+faces_named is_wanted w (x ∷ xs) none =
+    chosen (is_wanted x.what) w x (filter (λ y. is_wanted y.what) xs)
+    ∙ faces_by is_wanted w x _ xs (is_supply x.what) refl none (faces_named is_wanted w xs none)
+
+pub input_faces : (p : Program) → (named p.defs ≡ input_a ∷ output_y ∷ []) ⊎ (named p.defs ≡ output_y ∷ input_a ∷ []) → input_pads p ≡ (codes "a", 0) ∷ []
+input_faces p (inl e) = faces_named is_input p.width p.defs no_input ∙ ap (faces_declared is_input p.width) e
+input_faces p (inr e) = faces_named is_input p.width p.defs no_input ∙ ap (faces_declared is_input p.width) e
+
+pub output_faces : (p : Program) → (named p.defs ≡ input_a ∷ output_y ∷ []) ⊎ (named p.defs ≡ output_y ∷ input_a ∷ []) → output_pads p ≡ (codes "y", 0) ∷ []
+output_faces p (inl e) = faces_named is_output p.width p.defs no_output ∙ ap (faces_declared is_output p.width) e
+output_faces p (inr e) = faces_named is_output p.width p.defs no_output ∙ ap (faces_declared is_output p.width) e

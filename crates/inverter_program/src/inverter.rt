@@ -3,6 +3,7 @@
 ghost use Rattle.std.specs.Prelude.{◌≡◌, ◌↔◌, ◌<◌, ◌≤◌, [], ◌∷◌, IsTrue, ℕ, List, map, length, codes};
 ghost use Rattle.mp_program.specs.declared.program.Program.{Program};
 ghost use Rattle.mp_program.specs.Names.{is_supply};
+ghost use Rattle.mp_program.specs.Pads.{input_pads, output_pads};
 ghost use Rattle.mp_program.specs.Trace.{IsTrace};
 ghost use Rattle.inverter_program.specs.Inverter.{IsInverter, inverted};
 ghost use Rattle.inverter_program.specs.Wanted.{is_wanted, declares, negates_second, names_a, sets_y, negates_a, drives_y, is_zero, declares_both, passes};
@@ -142,8 +143,11 @@ pub fn is_inverter(program: &Program) -> bool
     passes(program)
 }
 
-/// In each clock an inverter shows its input inverted, and nothing else.
+/// An inverter has the input pad `a` and the output pad `y`, and in each clock it shows its input inverted, and
+/// nothing else.
 pub fn inverters_invert()
+    ensures inputs { (p : Program) → IsInverter p → input_pads p ≡ (codes "a", 0) ∷ [] }
+    ensures outputs { (p : Program) → IsInverter p → output_pads p ≡ (codes "y", 0) ∷ [] }
     ensures shows { (p : Program) (inputs : List (List ℕ)) → IsInverter p → IsTrace p inputs (map inverted inputs) }
     ensures alone { (p : Program) (inputs outputs : List (List ℕ)) → IsInverter p → IsTrace p inputs outputs → outputs ≡ map inverted inputs }
 {}
