@@ -8,3 +8,4 @@ mod Netlist
 mod Running
 mod Scanned
 mod Walked
+mod Compiled
