@@ -7,3 +7,4 @@ pub mod Scaled
 pub mod OneLabel
 pub mod OnePlace
 pub mod OneExpansion
+pub mod OneWalk
