@@ -9,3 +9,4 @@ mod Running
 mod Scanned
 mod Walked
 mod Determined
+mod Compiled

@@ -2,3 +2,4 @@ pub mod Text
 pub mod Shapes
 pub mod Chip
 pub mod Inverter
+pub mod Compiled

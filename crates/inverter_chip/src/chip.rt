@@ -3,8 +3,10 @@
 ghost use Rattle.std.specs.Prelude.{◌≡◌};
 ghost use Rattle.inverter_chip.specs.Text.{inverter_text};
 ghost use Rattle.inverter_chip.specs.Inverter.{IsInverterText};
+ghost use Rattle.inverter_chip.specs.Compiled.{IsChipOfInverters};
 
 use cif_form::written_is_read;
+use inverter_program::inverters_invert;
 use lam_geom::rectangles_are_joined;
 use switch_net::{circuits_run, network_is_determined};
 
@@ -13,11 +15,13 @@ use switch_net::{circuits_run, network_is_determined};
 pub fn inverter_chip() -> &'static [u8]
     ensures text { result.now ≡ inverter_text }
     ensures inverter { IsInverterText result.now }
+    ensures chip { IsChipOfInverters result.now }
 {
     rectangles_are_joined();
     written_is_read();
     network_is_determined();
     circuits_run();
+    inverters_invert();
     b"L ND; B 2 30 1 15; L NP; B 6 2 1 7; B 6 10 1 19; L NB; B 2 2 1 15; L NI; B 6 8 1 20; L NM; B 2 2 20 1; B 2 2 24 1; B 2 2 28 1; 94 gnd 1 1 ND; 94 vdd 1 28 ND; 94 a -1 6 NP; 94 y 1 10 ND; 94 phia 20 1; 94 phib 24 1; 94 phic 28 1; E"
 }
 

@@ -8,6 +8,7 @@ use Rattle.inverter_chip.proofs.Drawing.{inverter_expands}
 use Rattle.inverter_chip.proofs.Walked.{inverter_walks}
 use Rattle.inverter_chip.proofs.Netlist.{netlist, is_inverter, sound, has_pads}
 use Rattle.inverter_chip.proofs.Running.{trace_shows}
+use Rattle.inverter_chip.proofs.Compiled.{chip_of}
 use Rattle.inverter_chip.proofs.chip.inverter_chip.Goals as goal
 
 pub returns-clause-inverter : goal.returns-clause-inverter
@@ -29,3 +30,9 @@ returns-clause-inverter c = λ pads h. (
     shows = λ before inputs outputs after f t. trace_shows pads h before inputs outputs after f t;
   },
 )
+
+pub returns-clause-chip : goal.returns-clause-chip
+returns-clause-chip c = λ p pads is are.
+    let ins = c.inverters_invert.ensures.inputs p is in
+    let outs = c.inverters_invert.ensures.outputs p is in
+    chip_of inverter_text p pads (returns-clause-inverter c) are ins outs (λ inputs. c.inverters_invert.ensures.shows p inputs is)

@@ -1,0 +1,3 @@
+pub mod Declared
+pub mod Clocks
+pub mod Tests

@@ -1,0 +1,2 @@
+pub mod Inverter
+pub mod Wanted
