@@ -86,11 +86,19 @@ assigned w a i h lt here after =
     again [] ys = refl
     again (x ∷ xs) ys = ap (λ zs. x ∷ zs) (again xs ys)
 
+-- the same of these bytes, which are the word's
+pub assigned_in : (w : Piece) (a : Assignment) (bytes : List ℕ) (i : ℕ) → bytes ≡ w.bytes → IsAssignment w a → i < length bytes → get_or bytes i 0 ≡ 61
+    → ((k : ℕ) → i < k → k < length bytes → get_or bytes k 0 ≢ 61) → (is_name (take i bytes) ≡ true) × IsNumber (drop (i + 1) bytes) a.value
+assigned_in w a bytes i e =
+    let P : List ℕ → Type 0 = λ bs. IsAssignment w a → i < length bs → get_or bs i 0 ≡ 61 → ((k : ℕ) → i < k → k < length bs → get_or bs k 0 ≢ 61)
+        → (is_name (take i bs) ≡ true) × IsNumber (drop (i + 1) bs) a.value in
+    subst P (sym e) (assigned w a i)
+
 -- a word that gives a value has a `=`
-pub has_equals : (w : Piece) (a : Assignment) → IsAssignment w a → ((k : ℕ) → k < length w.bytes → get_or w.bytes k 0 ≢ 61) → ⊥
-has_equals w a h without =
-    without (length a.name) (omega (arith, ap length h.parts ∙ length-append a.name (61 ∷ h.digits)))
-        (ap (λ ys. get_or ys (length a.name) 0) h.parts ∙ get_or_at a.name 61 h.digits 0 (length a.name) refl)
+pub has_equals : (w : Piece) (a : Assignment) (bytes : List ℕ) → bytes ≡ w.bytes → IsAssignment w a → ((k : ℕ) → k < length bytes → get_or bytes k 0 ≢ 61) → ⊥
+has_equals w a bytes e h without =
+    without (length a.name) (omega (arith, ap length (e ∙ h.parts) ∙ length-append a.name (61 ∷ h.digits)))
+        (ap (λ ys. get_or ys (length a.name) 0) (e ∙ h.parts) ∙ get_or_at a.name 61 h.digits 0 (length a.name) refl)
 
 -- one word more
 pub assignments_push : (ws : List Piece) (w : Piece) (xs : List Assignment) (x : Assignment) → AreAssignments ws xs → IsAssignment w x → AreAssignments (ws ++ w ∷ []) (xs ++ x ∷ [])

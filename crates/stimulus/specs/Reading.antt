@@ -7,7 +7,7 @@ use Rattle.stimulus.specs.declared.given.Stimulus.{Stimulus}
 use Rattle.stimulus.specs.declared.piece.Piece.{Piece}
 use Rattle.stimulus.specs.declared.reading.Reading.{Reading}
 use Rattle.stimulus.specs.Words.{lines}
-use Rattle.stimulus.specs.Rules.{Adds, FirstIn}
+use Rattle.stimulus.specs.Rules.{Adds, FirstIn, pads_of}
 
 -- before the first line
 abbrev pub nothing : Reading
@@ -22,11 +22,6 @@ Reads known r (line ∷ more) t = (s : Reading) × Adds known r line s × Reads 
 abbrev pub FirstBroken : Option Pads → Reading → List (List Piece) → ℕ → ℕ → Type 0
 FirstBroken known r [] k at = ⊥
 FirstBroken known r (line ∷ more) k at = FirstIn known r line k at ⊎ ((s : Reading) × Adds known r line s × FirstBroken known s more k at)
-
--- the pads that are known, or else those of the header
-abbrev pub pads_of : Option Pads → Pads → Pads
-pads_of None header = header
-pads_of (Some known) header = known
 
 -- the text breaks no rule, and spells this stimulus
 pub record IsStimulus (text : List ℕ) (known : Option Pads) (s : Stimulus) : Type 0 where

@@ -10,6 +10,8 @@ use Rattle.stimulus.specs.declared.form.Assignment.{Assignment}
 use Rattle.stimulus.specs.declared.form.Form.{Form}
 use Rattle.stimulus.specs.declared.form.Form.TheVariants.{Input, Output, Clock}
 use Rattle.stimulus.specs.declared.reading.Reading.{Reading}
+use Rattle.stimulus.specs.declared.fault.Fault.{Fault}
+use Rattle.stimulus.specs.declared.fault.Fault.TheVariants.{NoMemory, Breaks}
 use Rattle.stimulus.specs.Forms.{IsForm, is_clock}
 
 -- the names that no pad of a header may have
@@ -48,14 +50,22 @@ abbrev pub is_known : Option Pads → (Pads → List Pad) → Pad → Bool
 is_known None way p = true
 is_known (Some pads) way p = list_any (is_same p) (way pads)
 
+-- the pads that are known, or else those of the header
+abbrev pub pads_of : Option Pads → Pads → Pads
+pads_of None header = header
+pads_of (Some known) header = known
+
 -- the pads that clock lines speak of
 abbrev pub inputs_of : Option Pads → Reading → List Pad
-inputs_of None r = (r.header).inputs
-inputs_of (Some pads) r = pads.inputs
+inputs_of known r = (pads_of known r.header).inputs
+
+-- how many bits a pad has
+abbrev pub bits_of : Pad → ℕ
+bits_of p = cond (p.width == 0) 1 p.width
 
 -- the values of a pad are below this
 abbrev pub bound : Pad → ℕ
-bound p = 2 ^ cond (p.width == 0) 1 p.width
+bound p = 2 ^ bits_of p
 
 -- the first pad of this name
 abbrev pub input_named : List Pad → List ℕ → Option ℕ
@@ -122,3 +132,13 @@ pub data FirstIn (known : Option Pads) (r : Reading) (line : List Piece) (k at :
   full : k ≡ 4 → at ≡ start_of line → IsFull r line → FirstIn known r line k at
   formless : k ≡ 1 → at ≡ start_of line → (IsFull r line → ⊥) → ((f : Form) → IsForm line f → IsInPlace r f → ⊥) → FirstIn known r line k at
   misfit : (f : Form) → (IsFull r line → ⊥) → IsForm line f → IsInPlace r f → Misfits known r line f k at → FirstIn known r line k at
+
+-- why a form can't be added: it is out of place, or it breaks S2 or S3
+pub data FormFault (known : Option Pads) (r : Reading) (line : List Piece) (f : Form) (k at : ℕ) : Type 0 where
+  misplaced : k ≡ 1 → at ≡ start_of line → (IsInPlace r f → ⊥) → FormFault known r line f k at
+  unfit : IsInPlace r f → Misfits known r line f k at → FormFault known r line f k at
+
+-- want of memory, of which nothing is said, or a rule's number and the offset where it is broken
+abbrev pub IsFault : Fault → (ℕ → ℕ → Type 0) → Type 0
+IsFault NoMemory P = Unit {0}
+IsFault (Breaks k at) P = P k at

@@ -1,6 +1,9 @@
 //! What inputs are given.
 
-use mp_base::{List, Pads};
+ghost use Rattle.std.specs.Prelude.{◌≡◌, ◌<◌, ◌^◌, [], IsTrue, EachIndex, length, slice_index, slice_index_or};
+ghost use Rattle.stimulus.specs.Fitting.{are_fitting, value_given};
+
+use mp_base::{Inputs, List, Pads};
 
 /// The value that a clock gives an input, which is an index of the input pads.
 #[derive(Clone, Copy, PartialEq, Eq, Debug)]
@@ -14,4 +17,5 @@ pub struct Given {
 pub struct Stimulus {
     pub pads: Pads,
     pub clocks: List<List<Given>>,
+    pub ghost fits: { IsTrue (are_fitting pads.inputs clocks) },
 }

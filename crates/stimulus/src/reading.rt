@@ -1,7 +1,7 @@
 //! Reading a stimulus line by line.
 
-use mp_base::{List, Pads};
 use crate::given::Given;
+use mp_base::{List, Pads};
 
 /// What the lines so far have given.
 #[derive(Drop)]
