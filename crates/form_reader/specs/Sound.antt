@@ -1,7 +1,9 @@
 -- Forms whose nodes are in text order.
-use Rattle.std.specs.Prelude.{◌≡◌, ℕ, ◌<◌, List, [], ◌∷◌, length, slice_index, slice_index_or}
+use Rattle.std.specs.Prelude.{◌≡◌, ℕ, ◌<◌, List, [], ◌∷◌, ◌&&◌, not, true, length, slice_index, slice_index_or}
+use Rattle.std.specs.List.{list_all}
+use Rattle.mp_base.specs.Token.{is_token, is_digit}
 use Rattle.form_reader.specs.declared.forms.Kind.{Kind}
-use Rattle.form_reader.specs.declared.forms.Kind.TheVariants.{Number, Group}
+use Rattle.form_reader.specs.declared.forms.Kind.TheVariants.{Number, Symbol, Group}
 use Rattle.form_reader.specs.declared.forms.Node.{Node}
 use Rattle.form_reader.specs.declared.forms.Forms.{Forms}
 
@@ -33,3 +35,7 @@ pub record IsSound (f : Forms) : Type 0 where
   pub roots : (k : ℕ) → k < length f.roots → slice_index f.roots k < length f.nodes
   pub apart : (a b : ℕ) (rs : List ℕ) → f.roots ≡ a ∷ b ∷ rs → (a < b) × ((n j m : ℕ) → IsItem f n j m → n < b → m < b)
   pub ascend : (i j : ℕ) → i < j → j < length f.nodes → (node f i).place.offset < (node f j).place.offset
+
+-- a symbol is a run of token characters that is no numeral
+abbrev pub HasSymbols : Forms → Type 0
+HasSymbols f = (n : ℕ) (x : List ℕ) → kind_at f n ≡ Symbol x → (list_all is_token x && not (list_all is_digit x)) ≡ true

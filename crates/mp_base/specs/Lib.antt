@@ -4,3 +4,11 @@ pub mod Merge
 pub mod Table
 pub mod Token
 pub mod Refuses
+pub mod Outside
+pub mod Piece
+pub mod Memory
+pub mod Transfer
+pub mod MemDepot
+pub mod MemSink
+pub mod Meet
+pub mod PadNames

@@ -3,7 +3,7 @@ use Rattle.std.specs.Prelude.{◌≡◌, ℕ}
 use Rattle.mp_base.specs.declared.refusal.Place.{Place}
 use Rattle.mp_base.specs.declared.refusal.Family.{Family}
 use Rattle.mp_base.specs.declared.refusal.Spot.{Spot}
-use Rattle.mp_base.specs.declared.refusal.Spot.TheVariants.{At, Offset, Named}
+use Rattle.mp_base.specs.declared.refusal.Spot.TheVariants.{At}
 use Rattle.mp_base.specs.declared.refusal.Refusal.{Refusal}
 use Rattle.mp_base.specs.declared.refusal.Refusal.TheVariants.{NoMemory, Broken}
 

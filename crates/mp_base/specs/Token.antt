@@ -1,5 +1,5 @@
 -- The bytes of names and numerals, in every text that the program reads.
-use Rattle.std.specs.Prelude.{ℕ, List, [], ◌∷◌, Bool, ◌||◌, ◌&&◌, nat_le, ◌==◌}
+use Rattle.std.specs.Prelude.{ℕ, [], ◌∷◌, Bool, ◌||◌, ◌&&◌, nat_le, ◌==◌}
 use Rattle.std.specs.List.{list_any}
 
 abbrev pub is_digit : ℕ → Bool

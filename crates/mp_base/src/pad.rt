@@ -1,5 +1,8 @@
 //! The pads of a chip, and what they are given and show in one clock.
 
+ghost use Rattle.std.specs.Prelude.{◌≤◌};
+ghost use Rattle.mp_base.specs.PadNames.{ArePadNames, names_of};
+
 use crate::list::List;
 use crate::name::Name;
 use crate::value::TritWord;
@@ -9,13 +12,16 @@ use crate::value::TritWord;
 pub struct Pad {
     pub name: Name,
     pub width: u8,
+    pub ghost narrow: { width ≤ 64 },
 }
 
-/// The pads of a chip, in the order of their definitions.
+/// The pads of a chip, in the order of their definitions. Their names are runs of token characters, all
+/// differ, and none is the label of a supply or a phase.
 #[derive(Drop)]
 pub struct Pads {
     pub inputs: List<Pad>,
     pub outputs: List<Pad>,
+    pub ghost named: { ArePadNames (names_of inputs outputs (λ pad. pad.name)) },
 }
 
 /// One value for each input pad.

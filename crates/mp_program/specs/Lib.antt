@@ -1,0 +1,12 @@
+pub mod Names
+pub mod Fits
+pub mod Sound
+pub mod Pads
+pub mod Values
+pub mod Effects
+pub mod State
+pub mod Environment
+pub mod Step
+pub mod Trace
+pub mod Reads
+pub mod Weight

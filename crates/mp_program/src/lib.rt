@@ -1,6 +1,7 @@
 //! Programs, and what they mean.
 #![tactic(auto)]
 
+pub mod laws;
 mod program;
 
 pub use program::{

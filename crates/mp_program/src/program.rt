@@ -1,5 +1,8 @@
 //! A program, by indices into its lists.
 
+ghost use Rattle.std.specs.Prelude.{IsTrue};
+ghost use Rattle.mp_program.specs.Fits.{program_fits};
+
 use mp_base::{List, Name, Op, Place};
 
 #[derive(Clone, Copy, PartialEq, Eq, Debug)]
@@ -101,4 +104,5 @@ pub struct Program {
     pub forms: List<Form>,
     pub always: List<u32>,
     pub processes: List<Process>,
+    pub ghost fits: { IsTrue (program_fits width name defs exprs forms always processes) },
 }

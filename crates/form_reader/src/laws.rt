@@ -1,0 +1,18 @@
+//! What the spelling of forms determines.
+
+ghost use Rattle.std.specs.Prelude.{◌≡◌, ℕ, List};
+ghost use Rattle.form_reader.specs.declared.forms.Forms.{Forms};
+ghost use Rattle.form_reader.specs.Spelling.{Spells};
+ghost use Rattle.form_reader.specs.Rules.{Breaks};
+
+/// A text spells at most one value of forms.
+pub fn one_spelling()
+    ensures { (text : List ℕ) (f g : Forms) → Spells text f → Spells text g → f ≡ g }
+{
+}
+
+/// A text that spells forms breaks none of the rules E1 to E5.
+pub fn spelled_breaks_nothing()
+    ensures { (text : List ℕ) (f : Forms) (k o : ℕ) → Spells text f → Breaks text k o → ⊥ }
+{
+}

@@ -1,0 +1,32 @@
+-- What a depot in memory is.
+use Rattle.std.specs.Prelude.{◌≡◌, ℕ, ◌==◌, List, Bool}
+use Rattle.std.specs.List.{list_any}
+use Rattle.mp_base.specs.Outside.{Files}
+use Rattle.mp_base.specs.Memory.{files_of, counted}
+use Rattle.mp_base.specs.declared.memory.MemDepot.{MemDepot}
+
+-- what it holds
+abbrev pub files : MemDepot → Files
+files d = files_of d.files.entries
+
+-- the number of its next call
+abbrev pub number : MemDepot → ℕ
+number d = d.calls
+
+-- the numbers of the calls that fail
+abbrev pub listed : MemDepot → List ℕ
+listed d = d.fail
+
+-- how many bytes an append takes at most
+abbrev pub most : MemDepot → ℕ
+most d = d.take
+
+-- whether its next call fails by its number
+abbrev pub next_fails : MemDepot → Bool
+next_fails d = list_any (λ n. n == number d) (listed d)
+
+-- one call was counted
+pub record IsNextCall (old new : MemDepot) : Type 0 where
+  pub counts : number new ≡ counted (number old)
+  pub lists : listed new ≡ listed old
+  pub takes : most new ≡ most old

@@ -1,0 +1,77 @@
+//! Laws of programs: a call of one does nothing, and tells the caller's proof what it ensures.
+
+ghost use Rattle.std.specs.Prelude.{◌≡◌, ℕ, ◌<◌, List, [], true, false, length, slice_index_or};
+ghost use Rattle.mp_program.specs.declared.program.Expr.{Expr};
+ghost use Rattle.mp_program.specs.declared.program.Form.{Form};
+ghost use Rattle.mp_program.specs.declared.program.Def.{Def};
+ghost use Rattle.mp_program.specs.Sound.{IsSound};
+ghost use Rattle.mp_program.specs.Names.{is_driven};
+ghost use Rattle.mp_program.specs.Values.{value_of, kind_value};
+ghost use Rattle.mp_program.specs.Effects.{effects_of, kind_effects, written};
+ghost use Rattle.mp_program.specs.State.{State, IsState, zero_state};
+ghost use Rattle.mp_program.specs.Environment.{IsEnvironment, driven_value};
+ghost use Rattle.mp_program.specs.Step.{next_state};
+ghost use Rattle.mp_program.specs.Trace.{IsTrace};
+ghost use Rattle.mp_program.specs.Reads.{Reads, IsOrder, sets, kind_sets};
+
+use crate::program::Program;
+
+/// The indices of a program are in range, and those of what stands in an expression or form are greater.
+pub fn sound(program: &Program)
+    ensures { IsSound program.now }
+{}
+
+/// The value of an expression is that of its kind on the values of its arguments.
+pub fn values(program: &Program)
+    ensures { (env : List ℕ) (e : ℕ) (x : Expr) → e < length program.now.exprs → x ≡ slice_index_or program.now.exprs e x
+        → value_of program.now env e ≡ kind_value program.now env x.kind (value_of program.now env) }
+{}
+
+/// The effects of a form are those of its kind on the effects of the forms in it.
+pub fn effects(program: &Program)
+    ensures { (env : List ℕ) (f : ℕ) (x : Form) → f < length program.now.forms → x ≡ slice_index_or program.now.forms f x
+        → effects_of program.now env f ≡ kind_effects (value_of program.now env) x.kind (effects_of program.now env) }
+{}
+
+/// A form sets a name as its kind does, by what the forms in it set.
+pub fn sets(program: &Program)
+    ensures { (name : List ℕ) (f : ℕ) (x : Form) → f < length program.now.forms → x ≡ slice_index_or program.now.forms f x
+        → sets program.now name f ≡ kind_sets name x.kind (sets program.now name) }
+{}
+
+/// A form that sets a name nowhere writes nothing to it.
+pub fn silence(program: &Program)
+    ensures { (env name : List ℕ) (f : ℕ) → f < length program.now.forms → sets program.now name f ≡ false
+        → written name (effects_of program.now env f) ≡ [] }
+{}
+
+/// What is driven to a definition depends on the definitions that it reads and on those that are not driven.
+pub fn driven_by_reads(program: &Program)
+    ensures { (st : State) (env other : List ℕ) (a : ℕ) (x : Def) → IsState program.now st
+        → length env ≡ length program.now.defs → length other ≡ length program.now.defs
+        → a < length program.now.defs → x ≡ slice_index_or program.now.defs a x → is_driven x.what ≡ true
+        → ((b : ℕ) (y : Def) → b < length program.now.defs → y ≡ slice_index_or program.now.defs b y → is_driven y.what ≡ false
+        → slice_index_or env b 0 ≡ slice_index_or other b 0)
+        → ((b : ℕ) → Reads program.now a b → slice_index_or env b 0 ≡ slice_index_or other b 0)
+        → driven_value program.now st env x ≡ driven_value program.now st other x }
+{}
+
+/// The state after a clock is a state of the program, if it has one: then each process has a form.
+pub fn next_states(program: &Program)
+    requires { IsState program.now (zero_state program.now) }
+    ensures { (st : State) (inputs env : List ℕ) → IsState program.now st → IsState program.now (next_state program.now st inputs env) }
+{}
+
+/// Where there is an order of evaluation, a state and inputs have at most one environment.
+pub fn one_environment(program: &Program, order: &[u32])
+    requires { IsOrder program.now order.now }
+    ensures { (st : State) (inputs a b : List ℕ) → IsState program.now st → IsEnvironment program.now st inputs a
+        → IsEnvironment program.now st inputs b → a ≡ b }
+{}
+
+/// Where there is an order of evaluation, inputs have at most one trace.
+pub fn one_trace(program: &Program, order: &[u32])
+    requires ordered { IsOrder program.now order.now }
+    requires state { IsState program.now (zero_state program.now) }
+    ensures { (inputs a b : List (List ℕ)) → IsTrace program.now inputs a → IsTrace program.now inputs b → a ≡ b }
+{}

@@ -1,0 +1,111 @@
+//! The definitions of a program.
+
+ghost use Rattle.std.specs.Prelude.{◌≡◌, ◌<◌, ℕ, IfOk, length, map, slice_index};
+ghost use Rattle.std.specs.List.{filter_map};
+ghost use Rattle.form_reader.specs.Sound.{IsSound, items_of, kind_at};
+ghost use Rattle.mp_syntax.specs.Shape.{def_at, def_of, pin_at, pin_nodes, what_of};
+
+use crate::nodes::{item, items_at, name_at, node_at, number_at};
+use form_reader::Forms;
+use mp_base::List;
+use mp_program::{Def, Pin, Way, What};
+use mp_shapes::{Class, Definition, Layout, shape_of};
+use std::alloc::{AllocError, Global};
+
+fn what_of(forms: &Forms, items: &[u32], definition: Definition) -> What
+    requires some { 0 < length forms.now.nodes }
+    requires inside { (k : ℕ) → k < length items.now → slice_index items.now k < length forms.now.nodes }
+    ensures { result ≡ what_of forms.now items.now definition }
+{
+    match definition {
+        Definition::Power => What::Power,
+        Definition::Ground => What::Ground,
+        Definition::Phia => What::Phia,
+        Definition::Phib => What::Phib,
+        Definition::Phic => What::Phic,
+        Definition::Constant => What::Constant(number_at(forms, item(items, 3))),
+        Definition::Register => What::Register,
+        Definition::Flag => What::Flag,
+        Definition::PortInput => What::Port(Way::Input),
+        Definition::PortOutput => What::Port(Way::Output),
+        Definition::PortInternal => What::Port(Way::Internal),
+        Definition::SignalInput => What::Signal(Way::Input),
+        Definition::SignalOutput => What::Signal(Way::Output),
+        Definition::SignalInternal => What::Signal(Way::Internal),
+    }
+}
+
+fn pins_at(alloc: Global, forms: &Forms, nodes: &[u32]) -> Result<List<Pin>, AllocError>
+    requires { (k : ℕ) → k < length nodes.now → slice_index nodes.now k < length forms.now.nodes }
+    ensures { IfOk result (λ pins. pins ≡ map (pin_at forms.now) nodes.now) }
+{
+    let mut pins = List::new(alloc);
+    for node in nodes {
+        pins.push(Pin {
+            place: node_at(forms, *node).place,
+            number: number_at(forms, *node),
+        })?;
+    }
+    Ok(pins)
+}
+
+fn pins_of(
+    alloc: Global,
+    forms: &Forms,
+    items: &[u32],
+    definition: Definition,
+) -> Result<List<Pin>, AllocError>
+    requires sound { IsSound forms.now }
+    requires some { 0 < length forms.now.nodes }
+    requires inside { (k : ℕ) → k < length items.now → slice_index items.now k < length forms.now.nodes }
+    ensures { IfOk result (λ pins. pins ≡ map (pin_at forms.now) (pin_nodes forms.now items.now definition)) }
+{
+    match definition {
+        Definition::Power
+        | Definition::Ground
+        | Definition::Phia
+        | Definition::Phib
+        | Definition::Phic => pins_at(alloc, forms, &[item(items, 1)]),
+        Definition::SignalInput | Definition::SignalOutput => {
+            pins_at(alloc, forms, &[item(items, 4)])
+        }
+        Definition::PortInput | Definition::PortOutput => {
+            pins_at(alloc, forms, items_at(forms, item(items, 4)))
+        }
+        _ => Ok(List::new(alloc)),
+    }
+}
+
+fn def_of(
+    alloc: Global,
+    forms: &Forms,
+    node: u32,
+    definition: Definition,
+) -> Result<Def, AllocError>
+    requires sound { IsSound forms.now }
+    requires inside { node < length forms.now.nodes }
+    ensures { IfOk result (λ def. def ≡ def_of forms.now node (items_of (kind_at forms.now node)) definition) }
+{
+    let items = items_at(forms, node);
+    Ok(Def {
+        place: node_at(forms, node).place,
+        name: name_at(alloc, forms, item(items, 1))?,
+        what: what_of(forms, items, definition),
+        pins: pins_of(alloc, forms, items, definition)?,
+    })
+}
+
+/// The definitions among the items of a program.
+pub fn defs_of(alloc: Global, forms: &Forms, items: &[u32]) -> Result<List<Def>, AllocError>
+    requires sound { IsSound forms.now }
+    requires inside { (k : ℕ) → k < length items.now → slice_index items.now k < length forms.now.nodes }
+    ensures { IfOk result (λ defs. defs ≡ filter_map (def_at forms.now) items.now) }
+{
+    let mut defs = List::new(alloc);
+    for node in items {
+        if let Some(Layout::Def(definition)) = shape_of(forms, Class::Item, *node) {
+            defs.push(def_of(alloc, forms, *node, definition)?)?;
+        }
+    }
+    Ok(defs)
+}

@@ -1,0 +1,81 @@
+//! The program that forms spell, or the first broken rule.
+
+ghost use Rattle.std.specs.Prelude.{◌≡◌, ◌<◌, ◌^◌, ◌⊎◌, IfErr, IfOk, length, slice_index};
+ghost use Rattle.form_reader.specs.Sound.{HasSymbols, IsSound, items_of, kind_at};
+ghost use Rattle.mp_base.specs.Refuses.{RefusesAt};
+ghost use Rattle.mp_base.specs.declared.refusal.Family.TheVariants.{E};
+ghost use Rattle.mp_base.specs.declared.refusal.Place.{Place};
+ghost use Rattle.mp_shapes.specs.Standing.{E10};
+ghost use Rattle.mp_syntax.specs.Shape.{E11, IsFirst, IsShape};
+
+use crate::defs::defs_of;
+use crate::exprs::exprs_of;
+use crate::forms::forms_of;
+use crate::items::{always_of, processes_of};
+use crate::nodes::{behind, item, items_at, name_at, node_at, number_at};
+use crate::ranks::number;
+use form_reader::Forms;
+use mp_base::{Broken, Family, List, Place, Refusal, Rule, Spot};
+use mp_program::Program;
+use mp_shapes::{Class, judge_shapes};
+use std::alloc::{AllocError, Global};
+
+fn wrong_width(place: Place) -> Refusal
+    ensures { result ≡ Refusal.Broken (record { rule = record { family = Family.E; number = 11 }; spot = Spot.At place }) }
+{
+    Refusal::Broken(Broken {
+        rule: Rule {
+            family: Family::E,
+            number: 11,
+        },
+        spot: Spot::At(place),
+    })
+}
+
+fn program_of(
+    alloc: Global,
+    forms: &Forms,
+    classes: &List<Option<Class>>,
+    root: u32,
+) -> Result<Program, AllocError>
+{
+    let ranks = number(alloc, forms, classes)?;
+    let items = items_at(forms, root);
+    let rest = behind(items, 3);
+    Ok(Program {
+        place: node_at(forms, root).place,
+        name: name_at(alloc, forms, item(items, 1))?,
+        width: number_at(forms, item(items, 2)) as u8,
+        defs: defs_of(alloc, forms, rest)?,
+        exprs: exprs_of(alloc, forms, classes, &ranks.exprs)?,
+        forms: forms_of(alloc, forms, classes, &ranks)?,
+        always: always_of(alloc, forms, &ranks.forms, rest)?,
+        processes: processes_of(alloc, forms, &ranks.forms, rest)?,
+    })
+}
+
+/// The program that forms spell. E10 at the first node that has no shape of what it stands for, at a second form, or at
+/// the end where there is no form; then E11 at the word length, where it isn't 1 to 32.
+pub fn parse(alloc: Global, forms: &Forms) -> Result<Program, Refusal>
+    requires sound { IsSound forms.now }
+    requires symbols { HasSymbols forms.now }
+    requires small { length forms.now.nodes < 2 ^ 32 }
+    ensures shape { IfOk result (IsShape forms.now) }
+    ensures whole { IfOk result (λ _. (at : Place) → E10 forms.now at ⊎ E11 forms.now at → ⊥) }
+    ensures err { IfErr result (λ e. RefusesAt E e (IsFirst forms.now)) }
+{
+    let classes = match judge_shapes(alloc, forms) {
+        Ok(classes) => classes,
+        Err(refusal) => return Err(refusal),
+    };
+    let root = *forms.roots.at(0);
+    let width_at = item(items_at(forms, root), 2);
+    let width = number_at(forms, width_at);
+    if width == 0 {
+        return Err(wrong_width(node_at(forms, width_at).place));
+    }
+    if width > 32 {
+        return Err(wrong_width(node_at(forms, width_at).place));
+    }
+    Ok(program_of(alloc, forms, &classes, root)?)
+}

@@ -1,0 +1,7 @@
+pub mod Told
+pub mod Printing
+pub mod Reasons
+pub mod EndsLemmas
+pub mod RunLemmas
+pub mod Determined
+pub mod FirstFault

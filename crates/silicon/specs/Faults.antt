@@ -1,0 +1,32 @@
+-- What a command owes on some files: its first fault in the order of work, or its output.
+use Rattle.std.specs.Prelude.{◌≡◌, ℕ, List, [], Option, Some, None}
+use Rattle.std.specs.FinMap.{get}
+use Rattle.mp_base.specs.Outside.{Files, bytes_of}
+use Rattle.silicon.specs.Command.{Command, Trace}
+use Rattle.silicon.specs.Order.{Fault, Stray, Then, OfFile}
+use Rattle.silicon.specs.Language.{OfSource, OfStimulus, IsTranscript}
+
+-- the faults of the file that holds a source
+abbrev pub SourceFault : List ℕ → Files → Option Fault → Type 0
+SourceFault name files = OfFile 1048576 OfSource name (get files name)
+
+-- the faults of the file that holds a stimulus for a source
+abbrev pub StimulusFault : List ℕ → List ℕ → Files → Option Fault → Type 0
+StimulusFault source name files = OfFile 1048576 (OfStimulus source) name (get files name)
+
+-- the first fault of a command on these files, in the order of work, or that there is none
+abbrev pub IsFirstFault : Command → Files → Option Fault → Type 0
+IsFirstFault (Trace source stimulus) files = Then (SourceFault source files) (StimulusFault (bytes_of files source) stimulus files)
+
+-- the file that a command writes
+abbrev pub target_of : Command → Option (List ℕ)
+target_of (Trace source stimulus) = None
+
+-- the bytes of that file and the text that a command may show
+abbrev pub Shows : Command → Files → List ℕ → List ℕ → Type 0
+Shows (Trace source stimulus) files chip text = (chip ≡ []) × IsTranscript (bytes_of files source) (bytes_of files stimulus) text
+
+-- the files are told, and the first fault is a file that is not held
+abbrev pub IsStrayBy : (Files → Option Fault → Type 0) → Option Files → Type 0
+IsStrayBy First None = ⊥
+IsStrayBy First (Some files) = First files (Some Stray)

@@ -1,0 +1,12 @@
+//! Laws of commands: a call of one does nothing, and tells the caller's proof what it ensures.
+
+ghost use Rattle.std.specs.Prelude.{◌≡◌, Option};
+ghost use Rattle.mp_base.specs.Outside.{Files};
+ghost use Rattle.silicon.specs.Command.{Command};
+ghost use Rattle.silicon.specs.Order.{Fault};
+ghost use Rattle.silicon.specs.Faults.{IsFirstFault};
+
+/// A command has one first fault at most on the same files.
+pub fn one_first_fault()
+    ensures { (command : Command) (files : Files) (a b : Option Fault) → IsFirstFault command files a → IsFirstFault command files b → a ≡ b }
+{}

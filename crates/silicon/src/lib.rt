@@ -1,0 +1,15 @@
+//! The top call: what the words say, done with the files, the output and the parts that are lent.
+#![tactic(auto)]
+
+mod board;
+mod command;
+mod files;
+mod halt;
+mod language;
+pub mod laws;
+mod line;
+mod top;
+mod trace;
+
+pub use board::{NamedPart, Part};
+pub use top::{Status, run};

@@ -1,0 +1,117 @@
+//! The top call.
+
+ghost use Rattle.std.specs.Prelude.{◌≡◌, Some};
+ghost use Rattle.silicon.specs.Command.{command_of, seen};
+ghost use Rattle.silicon.specs.Halt.{Ends, status_of};
+ghost use Rattle.silicon.specs.Run.{IsSaid, IsForWords, world_of, HasCauses, IsStrayFor, IsTold, Leaves, DidCommand, Did, TellsUsage};
+ghost use Rattle.silicon.specs.Line.{line_of};
+
+use crate::board::NamedPart;
+use crate::command::{Command, command_of};
+use crate::halt::Halt;
+use crate::line::line;
+use crate::trace::trace;
+use mp_base::{Broken, Depot, Failed, Sink, write_all};
+use std::alloc::Global;
+
+/// How a run ended. The exit statuses are 0 to 5 in this order.
+#[derive(Clone, Copy, Debug, PartialEq, Eq)]
+pub enum Status {
+    Done,
+    Refused,
+    Usage,
+    ReadFault,
+    WriteFault,
+    NoMemory,
+}
+
+// Prints a text, and answers the status if it could.
+fn say<O: Sink>(out: &mut O, text: &[u8], status: Status) -> Status
+    ensures { IsSaid status text.now (O.held out.old) (O.held out.new) (O.faults out.old) (O.faults out.new) result }
+{
+    match write_all(out, text) {
+        Ok(()) => status,
+        Err(Failed) => Status::WriteFault,
+    }
+}
+
+// Does the work of a command.
+fn perform<D: Depot, O: Sink>(
+    alloc: Global,
+    depot: &mut D,
+    out: &mut O,
+    command: Command<'_>,
+) -> Result<(), Halt>
+    ensures causes { let world = world_of D.held D.read_faults D.write_faults O.held O.faults in
+        HasCauses (status_of result) (IsStrayFor (Some (seen command.entry)) (D.held depot.new)) (world depot.old out.old) (world depot.new out.new) }
+    ensures content { let world = world_of D.held D.read_faults D.write_faults O.held O.faults in
+        Leaves (Ends (seen command.entry) result) (world depot.old out.old) (world depot.new out.new) }
+{
+    match command {
+        Command::Trace(source, stimulus) => trace(alloc, depot, out, source, stimulus),
+    }
+}
+
+// Tells the broken rule.
+fn refuse<O: Sink>(alloc: Global, out: &mut O, broken: &Broken) -> Status
+    ensures { IsTold (line_of broken.now) (O.held out.old) (O.held out.new) (O.faults out.old) (O.faults out.new) result }
+{
+    match line(alloc, broken) {
+        Ok(text) => say(out, &text, Status::Refused),
+        Err(_) => Status::NoMemory,
+    }
+}
+
+// Does the work of a command, and tells a refusal.
+fn run_command<D: Depot, O: Sink>(
+    alloc: Global,
+    depot: &mut D,
+    out: &mut O,
+    command: Command<'_>,
+) -> Status
+    ensures words { IsForWords (Some (seen command.entry)) result }
+    ensures causes { let world = world_of D.held D.read_faults D.write_faults O.held O.faults in
+        HasCauses result (IsStrayFor (Some (seen command.entry)) (D.held depot.new)) (world depot.old out.old) (world depot.new out.new) }
+    ensures content { let world = world_of D.held D.read_faults D.write_faults O.held O.faults in
+        Leaves (DidCommand (seen command.entry) result) (world depot.old out.old) (world depot.new out.new) }
+{
+    match perform(alloc, depot, out, command) {
+        Ok(()) => Status::Done,
+        Err(Halt::Refused(broken)) => refuse(alloc, out, &broken),
+        Err(Halt::ReadFault) => Status::ReadFault,
+        Err(Halt::WriteFault) => Status::WriteFault,
+        Err(Halt::NoMemory) => Status::NoMemory,
+    }
+}
+
+const USAGE: &str = "usage: macpitts trace SRC STIM or compile SRC CIF or replay SRC STIM CIF or sim CIF STIM or net CIF or stats SRC or board SRC CIF N LINK.. or make N CIF\n";
+
+/// Does what the words say, with the files, the output and the parts that are lent.
+pub fn run<D: Depot, O: Sink>(
+    alloc: Global,
+    words: &Vec<String>,
+    depot: &mut D,
+    out: &mut O,
+    parts: &mut Vec<NamedPart>,
+) -> Status
+    // The words are in no form exactly where this is said.
+    ensures words { IsForWords (command_of words.now.items) result }
+
+    // No fault is told without its cause, and none is passed over.
+    ensures causes { let world = world_of D.held D.read_faults D.write_faults O.held O.faults in
+        HasCauses result (IsStrayFor (command_of words.now.items) (D.held depot.new)) (world depot.old out.old) (world depot.new out.new) }
+
+    // What is printed and stored, where the objects tell it.
+    ensures content { let world = world_of D.held D.read_faults D.write_faults O.held O.faults in
+        Leaves (Did (command_of words.now.items) result) (world depot.old out.old) (world depot.new out.new) }
+
+    // The usage line, where the sink tells it.
+    ensures usage { TellsUsage (command_of words.now.items) result (O.held out.old) (O.held out.new) }
+
+    ensures parts { parts.new.items ≡ parts.old.items }
+{
+    match command_of(words) {
+        Some(command) => run_command(alloc, depot, out, command),
+        None => say(out, USAGE.as_bytes(), Status::Usage),
+    }
+}
