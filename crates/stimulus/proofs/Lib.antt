@@ -8,3 +8,4 @@ pub mod Numbers
 pub mod Stepping
 pub mod Unique
 pub mod Values
+pub mod Writing

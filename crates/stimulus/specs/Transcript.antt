@@ -9,12 +9,15 @@ use Rattle.stimulus.specs.Rules.{bound}
 abbrev pub value_text : Pad → TritWord → List ℕ
 value_text p v = cond (v.known == bound p - 1) (decimal v.bits) (88 ∷ [])
 
--- ` NAME=VALUE` for each pad
-abbrev pub values_text : List Pad → List TritWord → List ℕ
-values_text [] vs = []
-values_text (p ∷ ps) [] = []
-values_text (p ∷ ps) (v ∷ vs) = 32 ∷ (p.name ++ 61 ∷ value_text p v) ++ values_text ps vs
+-- ` NAME=VALUE`
+abbrev pub pad_text : Pad → TritWord → List ℕ
+pad_text p v = (32 ∷ []) ++ (p.name ++ ((61 ∷ []) ++ value_text p v))
+
+abbrev pub pad_texts : List Pad → List TritWord → List ℕ
+pad_texts [] vs = []
+pad_texts (p ∷ ps) [] = []
+pad_texts (p ∷ ps) (v ∷ vs) = pad_text p v ++ pad_texts ps vs
 
 -- the number of the clock, the values of the output pads, and a line feed
 abbrev pub line_text : ℕ → Pads → List TritWord → List ℕ
-line_text clock pads values = decimal clock ++ values_text pads.outputs values ++ 10 ∷ []
+line_text clock pads values = decimal clock ++ (pad_texts pads.outputs values ++ (10 ∷ []))

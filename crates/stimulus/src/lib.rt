@@ -9,6 +9,8 @@ mod piece;
 mod read;
 mod reading;
 mod rules;
+mod transcript;
 
 pub use given::{Given, Stimulus};
 pub use read::read_stimulus;
+pub use transcript::line;
