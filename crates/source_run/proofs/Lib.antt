@@ -1,2 +1,4 @@
 pub mod Entries
 pub mod Gathering
+pub mod Settling
+pub mod Targets

@@ -1,2 +1,4 @@
 pub mod Linked
 pub mod Written
+pub mod Remembered
+pub mod Settled

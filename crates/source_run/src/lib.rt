@@ -3,5 +3,6 @@
 
 mod links;
 mod seat;
+mod settle;
 mod value;
 mod written;

@@ -1,17 +1,15 @@
-//! Where a process is.
-
-use mp_base::List;
+//! What lasts from clock to clock.
 
 /// A place of a process, and the places that its calls return to.
 #[derive(Drop)]
 pub(crate) struct Seat {
     pub place: u32,
-    pub stack: List<u32>,
+    pub stack: Vec<u32>,
 }
 
-/// What lasts from clock to clock.
+/// A value for each definition, and a seat for each process.
 #[derive(Drop)]
 pub(crate) struct Memory {
-    pub stored: List<u64>,
-    pub seats: List<Seat>,
+    pub stored: Vec<u64>,
+    pub seats: Vec<Seat>,
 }
