@@ -2,3 +2,4 @@ pub mod Entries
 pub mod Gathering
 pub mod Settling
 pub mod Targets
+pub mod Advancing

@@ -11,7 +11,7 @@ use Rattle.mp_program.specs.declared.program.Form.{Form}
 use Rattle.mp_program.specs.declared.program.Program.{Program}
 use Rattle.mp_program.specs.Names.{index_of, is_reset, pad_number}
 use Rattle.mp_program.specs.Reads.{sets}
-use Rattle.source_run.specs.declared.links.Links.{Links}
+use Rattle.source_run.specs.declared.link.Links.{Links}
 
 -- the definition that an expression names
 abbrev pub named : List Def → ExprKind → ℕ

@@ -1,8 +1,10 @@
 //! Running a program, clock by clock.
 #![tactic(auto)]
 
+mod link;
 mod links;
 mod seat;
 mod settle;
+mod step;
 mod value;
 mod written;

@@ -3,8 +3,8 @@
 /// A place of a process, and the places that its calls return to.
 #[derive(Drop)]
 pub(crate) struct Seat {
-    pub place: u32,
-    pub stack: Vec<u32>,
+    pub place: usize,
+    pub stack: Vec<usize>,
 }
 
 /// A value for each definition, and a seat for each process.

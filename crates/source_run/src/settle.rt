@@ -13,7 +13,7 @@ ghost use Rattle.source_run.specs.Linked.{AreLinks};
 ghost use Rattle.source_run.specs.Remembered.{state_of};
 ghost use Rattle.source_run.specs.Settled.{IsGiven};
 
-use crate::links::Links;
+use crate::link::Links;
 use crate::seat::Memory;
 use crate::written::written_by;
 use mp_base::join;

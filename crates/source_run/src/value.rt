@@ -7,7 +7,7 @@ ghost use Rattle.mp_program.specs.Sound.{AllBetween};
 ghost use Rattle.mp_program.specs.Values.{value_of};
 ghost use Rattle.source_run.specs.Linked.{AreLinks};
 
-use crate::links::Links;
+use crate::link::Links;
 use mp_base::Op;
 use mp_program::{ExprKind, Program, laws};
 

@@ -9,7 +9,7 @@ ghost use Rattle.mp_program.specs.Effects.{effects_of, branch_effects};
 ghost use Rattle.source_run.specs.Linked.{AreLinks};
 ghost use Rattle.source_run.specs.Written.{written_at};
 
-use crate::links::Links;
+use crate::link::Links;
 use crate::value::value;
 use mp_base::join;
 use mp_program::{Branch, FormKind, Program, laws};
