@@ -3,3 +3,4 @@ pub mod Gathering
 pub mod Settling
 pub mod Targets
 pub mod Advancing
+pub mod Showing

@@ -2,3 +2,5 @@ pub mod Linked
 pub mod Written
 pub mod Remembered
 pub mod Settled
+pub mod Running
+pub mod Inside

@@ -3,8 +3,11 @@
 
 mod link;
 mod links;
+mod machine;
 mod seat;
 mod settle;
 mod step;
 mod value;
 mod written;
+
+pub use machine::Machine;
