@@ -1,6 +1,6 @@
 -- The outputs, definition by definition.
 use Rattle.std.proofs.Common.{◌≡◌, ℕ, zero, suc, ◌+◌, ◌<◌, ◌≤◌, List, [], ◌∷◌, ◌++◌, Bool, true, false, cond, refl, sym, ◌∙◌, ap, length, take, drop, arith, get_or}
-use Rattle.std.specs.Prelude.{slice_set as set}
+use Rattle.std.specs.Prelude.{slice_set as set, filter}
 use Rattle.std.proofs.lemmas.List.{length-set}
 use Rattle.mp_program.specs.declared.program.Def.{Def}
 use Rattle.mp_program.specs.Names.{is_output}
@@ -27,6 +27,17 @@ put_suc : (xs : List ℕ) (k v : ℕ) (rest : List ℕ) → k < length xs → ta
 put_suc [] k v rest lt = absurd (omega (arith, lt))
 put_suc (x ∷ xs) zero v rest lt = refl
 put_suc (x ∷ xs) (suc k) v rest lt = ap (λ ys. x ∷ ys) (put_suc xs k v rest (omega (arith, lt)))
+
+-- as many outputs as output pads
+pub length-outputs_of : (defs : List Def) (env : List ℕ) → length env ≡ length defs → length (outputs_of defs env) ≡ length (filter (λ (x : Def). is_output x.what) defs)
+length-outputs_of [] env size = refl
+length-outputs_of (x ∷ xs) [] size = absurd (omega arith)
+length-outputs_of (x ∷ xs) (v ∷ vs) size = either (is_output x.what) (length-outputs_of xs vs (omega (arith, size)))
+  where
+    either : (b : Bool) → length (outputs_of xs vs) ≡ length (filter (λ (y : Def). is_output y.what) xs)
+        → length (cond b (v ∷ outputs_of xs vs) (outputs_of xs vs)) ≡ length (cond b (x ∷ filter (λ (y : Def). is_output y.what) xs) (filter (λ (y : Def). is_output y.what) xs))
+    either true h = ap suc h
+    either false h = h
 
 -- how far the outputs are written
 pub record ShownTo (defs : List Def) (env outputs : List ℕ) (pad i : ℕ) : Type 0 where

@@ -1,10 +1,10 @@
 //! What a clock shows, and what it leaves.
 
-ghost use Rattle.std.specs.Prelude.{◌≡◌, ◌<◌, ◌++◌, length, replicate};
+ghost use Rattle.std.specs.Prelude.{◌≡◌, ◌<◌, ◌++◌, length, filter};
 ghost use Rattle.std.specs.List.{flat_map, AllByRecursion};
+ghost use Rattle.mp_program.specs.declared.program.Def.{Def};
 ghost use Rattle.mp_program.specs.Names.{is_output, is_stored};
 ghost use Rattle.mp_program.specs.Effects.{effects_of};
-ghost use Rattle.mp_program.specs.Pads.{output_pads};
 ghost use Rattle.mp_program.specs.Step.{next_stored, outputs_of, resets};
 ghost use Rattle.source_run.specs.Linked.{AreLinks, reset_pad};
 
@@ -62,7 +62,7 @@ pub(crate) fn resets(defs: &[Def], reset: Option<usize>, inputs: &[u64]) -> bool
 /// Gives each output pad its value.
 pub(crate) fn show(defs: &[Def], env: &[u64], outputs: &mut Outputs)
     requires size { length env.now ≡ length defs.now }
-    requires pads { length outputs.old ≡ length (outputs_of defs.now env.now) }
+    requires pads { length outputs.old ≡ length (filter (λ (x : Def). is_output x.what) defs.now) }
     ensures { outputs.new ≡ outputs_of defs.now env.now }
 {
     let mut pad: usize = 0;

@@ -1,5 +1,5 @@
-use Rattle.std.proofs.Common.{◌≡◌, ◌<◌, ◌+◌, List, ℕ, true, false, sym, ◌∙◌, ap, subst, length, arith, Fits, w64}
-use Rattle.source_run.proofs.Showing.{ShownTo, shown_more, shown_same}
+use Rattle.std.proofs.Common.{◌≡◌, ◌<◌, ◌+◌, List, ℕ, true, false, sym, ◌∙◌, ap, subst, length, drop, arith, refl, Fits, w64}
+use Rattle.source_run.proofs.Showing.{ShownTo, length-outputs_of, shown_more, shown_same}
 use Rattle.source_run.proofs.step.show.Goals as goal
 use Rattle.source_run.proofs.step.show.Goals.{then-is_output, else-is_output}
 
@@ -17,3 +17,13 @@ loop-i-preserved c =
           (shown_same c.args.defs.now c.args.env.now c.loop-i.outputs c.loop-i.pad c.loop-i.i c.index-defs-i.result (omega arith) c.requires.size c.index-defs-i.is
           (sym c.is_output.ensures ∙ w.if-is_output.false) c.loop-i.invariant))
     ]
+
+pub loop-i-init : goal.loop-i-init
+loop-i-init c =
+    let many = length-outputs_of c.args.defs.now c.args.env.now c.requires.size in
+    record {
+      shown = refl;
+      size = c.requires.pads ∙ sym many;
+      left = omega (arith, many, c.requires.pads);
+      few = omega arith;
+    }
