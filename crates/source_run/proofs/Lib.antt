@@ -4,3 +4,4 @@ pub mod Settling
 pub mod Targets
 pub mod Advancing
 pub mod Showing
+pub mod Jumping

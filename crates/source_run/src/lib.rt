@@ -1,6 +1,7 @@
 //! Running a program, clock by clock.
 #![tactic(auto)]
 
+mod jump;
 mod link;
 mod links;
 mod machine;
