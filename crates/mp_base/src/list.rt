@@ -70,6 +70,16 @@ impl<T> List<T> {
         self.vec[index as usize] = value;
     }
 
+    /// The same for an index of any size.
+    pub fn put(&mut self, index: usize, value: T)
+    where
+        T: Drop,
+        requires { index < length self.old }
+        ensures { self.new ≡ slice_set self.old index value }
+    {
+        self.vec[index] = value;
+    }
+
     pub fn push(&mut self, value: T) -> Result<(), AllocError>
     where
         T: Drop,

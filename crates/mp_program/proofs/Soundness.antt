@@ -2,7 +2,7 @@
 use Rattle.std.proofs.Common.{◌≡◌, ℕ, zero, suc, ◌+◌, ◌<◌, List, [], ◌∷◌, Bool, true, false, refl, sym, subst, length, arith, get_or}
 use Rattle.std.specs.Prelude.{◌&&◌, nat_lt, nat_le}
 use Rattle.std.specs.List.{list_all, AllByRecursion}
-use Rattle.std.proofs.lemmas.Bool.{ltb-true}
+use Rattle.std.proofs.lemmas.Bool.{ltb-true, leb-true}
 use Rattle.mp_program.specs.declared.program.ExprKind.{ExprKind}
 use Rattle.mp_program.specs.declared.program.ExprKind.TheVariants.{Number, Named, True, False, Apply}
 use Rattle.mp_program.specs.declared.program.FormKind.{FormKind}
@@ -88,7 +88,11 @@ sound p =
     let t2 = both (nat_le 1 p.width && nat_le p.width 32 && is_symbol p.name && list_all def_fits p.defs && exprs_fit e 0 p.exprs)
     (forms_fit e n 0 p.forms) t1.0 in
     let t3 = both (nat_le 1 p.width && nat_le p.width 32 && is_symbol p.name && list_all def_fits p.defs) (exprs_fit e 0 p.exprs) t2.0 in
+    let t4 = both (nat_le 1 p.width && nat_le p.width 32 && is_symbol p.name) (list_all def_fits p.defs) t3.0 in
+    let t5 = both (nat_le 1 p.width && nat_le p.width 32) (is_symbol p.name) t4.0 in
+    let t6 = both (nat_le 1 p.width) (nat_le p.width 32) t5.0 in
     record {
+      width = (leb-true 1 p.width t6.0, leb-true p.width 32 t6.1);
       exprs = λ i x lt is. let same : 0 + i ≡ i = omega arith in subst (λ j. ArgsFit j e x.kind) same (expr_at e 0 p.exprs t3.1 i x lt is);
       forms = λ i x lt is. let same : 0 + i ≡ i = omega arith in subst (λ j. InnerFit e j n x.kind) same (form_at e n 0 p.forms t2.1 i x lt is);
       always = below n p.always t1.1;

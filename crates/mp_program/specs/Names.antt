@@ -54,10 +54,10 @@ is_supply _ = false
 abbrev pub pad_number : List Def → ℕ → ℕ
 pad_number defs d = count_by (λ x. is_input x.what) (take d defs)
 
+abbrev pub is_input_signal : What → Bool
+is_input_signal (Signal Input) = true
+is_input_signal _ = false
+
 -- the signal input `reset`
 abbrev pub is_reset : Def → Bool
 is_reset x = is_same x.name (codes "reset") && is_input_signal x.what
-  where
-    is_input_signal : What → Bool
-    is_input_signal (Signal Input) = true
-    is_input_signal _ = false

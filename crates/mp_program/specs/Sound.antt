@@ -1,5 +1,5 @@
 -- What a program's type says, index by index.
-use Rattle.std.specs.Prelude.{◌≡◌, ℕ, ◌<◌, List, length, slice_index_or, true}
+use Rattle.std.specs.Prelude.{◌≡◌, ℕ, ◌<◌, ◌≤◌, List, length, slice_index_or, true}
 use Rattle.std.specs.List.{AllByRecursion}
 use Rattle.mp_program.specs.declared.program.ExprKind.{ExprKind}
 use Rattle.mp_program.specs.declared.program.ExprKind.TheVariants.{Apply}
@@ -32,8 +32,9 @@ InnerFit e i n (Cond branches) = BranchesFit e i n branches
 InnerFit e i n (Par forms) = AllBetween i n forms
 InnerFit e i n _ = Unit {0}
 
--- indices are in range, and those of arguments and inner forms are greater than that of what they stand in
+-- the word length is 1 to 32, indices are in range, and those of arguments and inner forms are greater than that of what they stand in
 pub record IsSound (p : Program) : Type 0 where
+  pub width : (1 ≤ p.width) × (p.width ≤ 32)
   pub exprs : (i : ℕ) (x : Expr) → i < length p.exprs → x ≡ slice_index_or p.exprs i x → ArgsFit i (length p.exprs) x.kind
   pub forms : (i : ℕ) (x : Form) → i < length p.forms → x ≡ slice_index_or p.forms i x → InnerFit (length p.exprs) i (length p.forms) x.kind
   pub always : AllByRecursion (λ f. f < length p.forms) p.always

@@ -1,0 +1,39 @@
+-- What the names of a program mean, by index.
+use Rattle.std.specs.Prelude.{◌≡◌, ℕ, List, map, filter, position, Option}
+use Rattle.std.specs.Option.{option_map}
+use Rattle.mp_program.specs.declared.program.ExprKind.{ExprKind}
+use Rattle.mp_program.specs.declared.program.ExprKind.TheVariants.{Named}
+use Rattle.mp_program.specs.declared.program.FormKind.{FormKind}
+use Rattle.mp_program.specs.declared.program.FormKind.TheVariants.{Set}
+use Rattle.mp_program.specs.declared.program.Def.{Def}
+use Rattle.mp_program.specs.declared.program.Expr.{Expr}
+use Rattle.mp_program.specs.declared.program.Form.{Form}
+use Rattle.mp_program.specs.declared.program.Program.{Program}
+use Rattle.mp_program.specs.Names.{index_of, is_reset, pad_number}
+use Rattle.mp_program.specs.Reads.{sets}
+use Rattle.source_run.specs.declared.link.Links.{Links}
+
+-- the definition that an expression names
+abbrev pub named : List Def → ExprKind → ℕ
+named defs (Named x) = index_of defs x
+named defs _ = 0
+
+-- the definition that a form sets
+abbrev pub target : List Def → FormKind → ℕ
+target defs (Set x at value) = index_of defs x
+target defs _ = 0
+
+-- the forms that are always active and set a name
+abbrev pub setters_of : Program → List ℕ → List ℕ
+setters_of p x = filter (sets p x) p.always
+
+-- the input pad of `reset`
+abbrev pub reset_pad : List Def → Option ℕ
+reset_pad defs = option_map (pad_number defs) (position is_reset defs)
+
+pub record AreLinks (p : Program) (links : Links) : Type 0 where
+  pub exprs : links.exprs.items ≡ map (λ (x : Expr). named p.defs x.kind) p.exprs
+  pub forms : links.forms.items ≡ map (λ (x : Form). target p.defs x.kind) p.forms
+  pub defs : links.defs.items ≡ map (λ (x : Def). index_of p.defs x.name) p.defs
+  pub setters : links.setters ≡ map (λ (x : Def). setters_of p x.name) p.defs
+  pub reset : links.reset ≡ reset_pad p.defs

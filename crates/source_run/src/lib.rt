@@ -1,0 +1,14 @@
+//! Running a program, clock by clock.
+#![tactic(auto)]
+
+mod jump;
+mod link;
+mod links;
+mod machine;
+mod seat;
+mod settle;
+mod step;
+mod value;
+mod written;
+
+pub use machine::Machine;

@@ -1,0 +1,14 @@
+//! What the names of a program mean.
+
+use mp_base::List;
+
+/// For each expression the definition that it names, for each form the one that it sets, for each definition the first of
+/// its name, and the forms that are always active and set it; and the pad that resets.
+#[derive(Drop)]
+pub(crate) struct Links {
+    pub exprs: Vec<usize>,
+    pub forms: Vec<usize>,
+    pub defs: Vec<usize>,
+    pub setters: List<List<u32>>,
+    pub reset: Option<usize>,
+}

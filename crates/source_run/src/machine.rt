@@ -1,0 +1,101 @@
+//! The machine: a program, and the state that it is in.
+
+use crate::link::Links;
+use crate::seat::Memory;
+use crate::settle::settle;
+use crate::step::{advance, resets, show};
+use mp_base::{Inputs, List, NoMemory, Outputs};
+use mp_program::{Program, laws};
+use std::alloc::Global;
+use std::marker::Model;
+
+/// A program that runs.
+#[derive(Drop)]
+pub struct Machine<'a> {
+    program: &'a Program,
+    order: &'a List<u32>,
+    links: Links,
+    memory: Memory,
+    env: Vec<u64>,
+}
+
+impl<'a> Model for Machine<'a> {
+    ghost use Rattle.source_run.specs.Running.{Running};
+
+    ghost Value = { Running };
+
+    ghost use Rattle.source_run.specs.Inside.{running_of, IsReady};
+
+    ghost view = { running_of };
+
+    ghost invariant = { IsReady };
+}
+
+impl<'a> Machine<'a> {
+    ghost use Rattle.std.specs.Prelude.{◌≡◌, [], length, IfOk};
+    ghost use Rattle.mp_program.specs.Pads.{input_pads, output_pads, FitsPads};
+    ghost use Rattle.mp_program.specs.State.{IsState, zero_state};
+    ghost use Rattle.mp_program.specs.Trace.{IsClock};
+    ghost use Rattle.mp_program.specs.Reads.{IsOrder};
+
+    /// A machine in the zero state, which evaluates in this order.
+    pub fn open(
+        alloc: Global,
+        program: &'a Program,
+        order: &'a List<u32>,
+    ) -> Result<Machine<'a>, NoMemory>
+        requires ordered { IsOrder program.now order.now }
+        requires start { IsState program.now (zero_state program.now) }
+        requires unprocessed { program.now.processes ≡ [] }
+        ensures program { IfOk result (λ m. m.program ≡ program.now) }
+        ensures state { IfOk result (λ m. m.state ≡ zero_state program.now) }
+    {
+        let links = Links::find(alloc, program)?;
+        let memory = Memory {
+            stored: vec![in alloc; 0; program.defs.len()]?,
+            seats: Vec::new(alloc),
+        };
+        let env = vec![in alloc; 0; program.defs.len()]?;
+        Ok(Machine {
+            program,
+            order,
+            links,
+            memory,
+            env,
+        })
+    }
+
+    /// Runs one clock: gives the values of the input pads, and takes those of the output pads.
+    pub fn clock(&mut self, inputs: &Inputs, outputs: &mut Outputs)
+        requires inputs { FitsPads (input_pads self.old.program) inputs.now }
+        requires outputs { length outputs.old ≡ length (output_pads self.old.program) }
+        ensures program { self.new.program ≡ self.old.program }
+        ensures clock { IsClock self.old.program self.old.state inputs.now outputs.new self.new.state }
+    {
+        laws::sound(self.program);
+        laws::next_states(self.program);
+        settle(
+            self.program,
+            &self.links,
+            self.order.as_slice(),
+            &self.memory,
+            &[],
+            inputs.as_slice(),
+            &mut self.env,
+        );
+        show(self.program.defs.as_slice(), &self.env, outputs);
+        if resets(self.program.defs.as_slice(), self.links.reset, inputs.as_slice()) {
+            self.memory.stored.fill(0);
+        } else {
+            advance(self.program, &self.links, &[], &self.env, &mut self.memory.stored);
+        }
+    }
+
+    /// Returns to the zero state.
+    pub fn clear(&mut self)
+        ensures program { self.new.program ≡ self.old.program }
+        ensures state { self.new.state ≡ zero_state self.old.program }
+    {
+        self.memory.stored.fill(0);
+    }
+}
