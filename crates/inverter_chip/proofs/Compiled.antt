@@ -1,6 +1,6 @@
 -- From what the chip does to what a program asks for.
-use Rattle.std.proofs.Common.{◌≡◌, ℕ, zero, suc, ◌-◌, ◌<◌, List, [], ◌∷◌, refl, sym, ap, subst, ◌∙◌, length, map, arith}
-use Rattle.std.specs.Prelude.{slice_index, slice_index_or, codes, All}
+use Rattle.std.proofs.Common.{◌≡◌, ℕ, zero, suc, ◌-◌, ◌<◌, List, [], ◌∷◌, sym, ap, ◌∙◌, length, map, arith}
+use Rattle.std.specs.Prelude.{slice_index, slice_index_or, codes}
 use Rattle.std.specs.List.{AllZip}
 use Rattle.std.proofs.lemmas.List.{get_or-map}
 use Rattle.mp_base.specs.declared.value.Trit.{Trit}
@@ -9,11 +9,9 @@ use Rattle.mp_base.specs.declared.pad.Pads.{Pads}
 use Rattle.mp_program.specs.declared.program.Program.{Program}
 use Rattle.mp_program.specs.Pads.{Face, face, ArePadsOf, input_pads, output_pads}
 use Rattle.mp_program.specs.Trace.{IsTrace}
-use Rattle.switch_net.specs.declared.network.Network.{Network}
-use Rattle.switch_net.specs.Pads.{Fit, low_bits, bit_count}
-use Rattle.inverter_program.specs.Inverter.{IsInverter, inverted}
-use Rattle.headline.specs.Headline.{Draws, Follows, IsChipOf, bits_of}
-use Rattle.inverter_chip.specs.Chip.{IsChipText, RunsAs}
+use Rattle.switch_net.specs.Pads.{low_bits, bit_count}
+use Rattle.inverter_program.specs.Inverter.{inverted}
+use Rattle.headline.specs.Headline.{IsChipOf, bits_of}
 use Rattle.inverter_chip.specs.Inverter.{ArePads, IsSignal, ShowsNot, IsInverterText}
 
 -- a list with the face of one signal has one pad
@@ -59,19 +57,6 @@ shown_at pads inputs shown k are shows lt =
     ∙ sym (bits_of_signal pads.outputs (codes "y") (1 - slice_index (slice_index_or inputs k []) 0) are.outputs)
     ∙ ap (bits_of pads.outputs) (sym (get_or-map inverted inputs k [] [] lt))
 
-draws_of : (text : List ℕ) (pads : Pads) (net : Network) → IsChipText text pads net → Draws text pads net
-draws_of text pads net chip =
-    record {
-      commands = chip.items;
-      shapes = chip.shapes;
-      labels = chip.labels;
-      read = chip.reads;
-      well_formed = chip.breaks_no_text_rule;
-      drawn = chip.expands;
-      drawable = chip.breaks_no_drawing_rule;
-      mask = chip.breaks_no_network_rule;
-    }
-
 -- an inverter's text is a chip of a program that inverts
 pub chip_of : (text : List ℕ) (p : Program) (pads : Pads) → IsInverterText text → ArePadsOf p pads
     → input_pads p ≡ (codes "a", 0) ∷ [] → output_pads p ≡ (codes "y", 0) ∷ []
@@ -83,7 +68,7 @@ chip_of text p pads is are ins outs traces =
       pads = pads;
       are_pads = are;
       network = all.0;
-      draws = draws_of text pads all.0 all.1;
+      draws = all.1;
       follows = λ inputs fit. record {
         outputs = map inverted inputs;
         program = traces inputs;

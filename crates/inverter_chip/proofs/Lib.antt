@@ -8,5 +8,4 @@ mod Netlist
 mod Running
 mod Scanned
 mod Walked
-mod Determined
 mod Compiled

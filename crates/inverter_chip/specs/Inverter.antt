@@ -8,7 +8,8 @@ use Rattle.switch_net.specs.declared.network.ChannelKind.TheVariants.{Enhancemen
 use Rattle.switch_net.specs.declared.network.Tag.{Tag}
 use Rattle.switch_net.specs.declared.network.Network.{Network}
 use Rattle.switch_net.specs.Pads.{low_bits}
-use Rattle.inverter_chip.specs.Chip.{IsChipText, RunsAs}
+use Rattle.headline.specs.Headline.{Draws}
+use Rattle.inverter_chip.specs.Chip.{RunsAs}
 
 -- the pads are one signal of this name
 pub record IsSignal (pads : List Pad) (name : List ℕ) : Type 0 where
@@ -36,6 +37,6 @@ pub record IsInverter (net : Network) : Type 0 where
 abbrev pub ShowsNot : List (List ℕ) → List (List (List Trit)) → Type 0
 ShowsNot inputs outputs = AllZip (λ words shown. shown ≡ low_bits 1 (1 - slice_index words 0) ∷ []) inputs outputs
 
--- with the pads a and y the text is that of a chip, whose network is an inverter and runs as one
+-- with the pads a and y the text draws a network that is an inverter and runs as one
 abbrev pub IsInverterText : List ℕ → Type 0
-IsInverterText text = (pads : Pads) → ArePads pads → (net : Network) × IsChipText text pads net × IsInverter net × RunsAs net pads ShowsNot
+IsInverterText text = (pads : Pads) → ArePads pads → (net : Network) × Draws text pads net × IsInverter net × RunsAs net pads ShowsNot

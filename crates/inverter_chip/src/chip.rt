@@ -33,6 +33,6 @@ mod tests {
     fn a_text_of_229_bytes(rt: HostRuntime) {
         let text = inverter_chip();
         assert_eq!(rt; text.len(), 229);
-        assert!(rt; text.ends_with(b"94 phic 28 1; E"));
+        assert!(rt; text.ends_with(b"28 1; E"));
     }
 }

@@ -2,7 +2,5 @@
 #![tactic(auto)]
 
 mod chip;
-mod law;
 
 pub use chip::inverter_chip;
-pub use law::chip_is_determined;

@@ -1,6 +1,6 @@
 use Rattle.std.specs.Prelude.{codes}
 use Rattle.cif_form.specs.Writing.{placed_items}
-use Rattle.inverter_chip.specs.Text.{inverter_commands}
+use Rattle.inverter_chip.specs.Text.{inverter_text, inverter_commands}
 use Rattle.inverter_chip.specs.Shapes.{inverter_shapes, inverter_labels}
 use Rattle.inverter_chip.proofs.Reading.{inverter_reads}
 use Rattle.inverter_chip.proofs.Scanned.{inverter_scans}
@@ -15,14 +15,14 @@ pub returns-clause-inverter : goal.returns-clause-inverter
 returns-clause-inverter c = λ pads h. (
   netlist,
   record {
-    items = placed_items (codes "; ") 0 inverter_commands;
+    commands = placed_items (codes "; ") 0 inverter_commands;
     shapes = inverter_shapes;
     labels = inverter_labels;
-    reads = inverter_reads c.written_is_read.ensures;
-    breaks_no_text_rule = inverter_scans;
-    expands = inverter_expands;
-    breaks_no_drawing_rule = inverter_walks;
-    breaks_no_network_rule = sound c.rectangles_are_joined.ensures c.network_is_determined.ensures.numbering pads h;
+    read = inverter_reads c.written_is_read.ensures;
+    well_formed = inverter_scans;
+    drawn = inverter_expands;
+    drawable = inverter_walks;
+    mask = sound c.rectangles_are_joined.ensures c.network_is_determined.ensures.numbering pads h;
   },
   is_inverter,
   record {
