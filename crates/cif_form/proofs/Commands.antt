@@ -1,5 +1,5 @@
 -- A reader of one command that is a function, and finds what the grammar says.
-use Rattle.std.proofs.Common.{ℕ, ◌≡◌, ◌+◌, ◌-◌, ◌<◌, ◌≤◌, ◌⊎◌, inl, inr, refl, sym, ◌∙◌, ap, subst, arith, List, [], ◌∷◌, ◌++◌, length, All, Bool, true, false, eqb, leb, ◌&&◌, Option, Some, None, append_assoc, length-append}
+use Rattle.std.proofs.Common.{ℕ, ◌≡◌, ◌+◌, ◌-◌, ◌≤◌, inl, inr, refl, sym, ◌∙◌, ap, subst, arith, List, [], ◌∷◌, ◌++◌, length, All, true, false, eqb, Option, Some, None, append_assoc, length-append}
 use Rattle.std.specs.Prelude.{◌≢◌, ℤ, pos}
 use Rattle.std.proofs.lemmas.List.{append-nil}
 use Rattle.std.proofs.lemmas.List.Elements.{All-head, All-tail}
@@ -7,7 +7,7 @@ use Rattle.lam_geom.specs.declared.place.Point.{Point}
 use Rattle.cif_form.specs.declared.command.Turn.{Turn}
 use Rattle.cif_form.specs.declared.command.Command.{Command}
 use Rattle.cif_form.specs.declared.command.Command.TheVariants.{Polygon, Box, Round, Wire, Layer, Start, Finish, Delete, Call, User, Comment}
-use Rattle.cif_form.specs.Text.{◌▹◌, Byte, Nothing, Blanks, Separator, Integer, PointText, Path, Turns, Either, IsShortName, IsBalanced, right, Spells}
+use Rattle.cif_form.specs.Text.{◌▹◌, Byte, Blanks, Separator, Integer, PointText, Path, Turns, Either, right, Spells}
 use Rattle.cif_form.proofs.Numbers.{Reader, goes_on, and_then, gives, Finds, finds_both, is_digit, not_equal, Stops, integer_from, integer_reads, integer_follows, separator_from, separator_read, stops_at, point_from, point_reads, point_follows, follows, separator_follows}
 use Rattle.cif_form.proofs.Parts.{Ends, ends_stop, ends_follow, past_blanks, blanks_past, tail_from, tail_left, tail_found, path_from, path_reads, path_size, turns_from, turns_read, turns_stop, turns_size, name_from, name_reads, name_past, comment_from, comment_reads}
 

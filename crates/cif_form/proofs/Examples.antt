@@ -1,16 +1,12 @@
 -- Small files: what is read of them, and the first rule that each breaks.
-use Rattle.std.proofs.Common.{ℕ, ◌≡◌, ◌+◌, ◌<◌, ◌≤◌, ◌⊎◌, inl, inr, refl, sym, ◌∙◌, ap, subst, arith, List, [], ◌∷◌, ◌++◌, length, All, Bool, true, false, Option, Some, None, lit≤}
-use Rattle.std.specs.Prelude.{◌≢◌, ℤ, pos, negsuc, codes}
-use Rattle.std.proofs.lemmas.Int.{ints}
+use Rattle.std.proofs.Common.{ℕ, ◌≡◌, ◌≤◌, inl, inr, refl, sym, ◌∙◌, ap, subst, arith, List, [], ◌∷◌, ◌++◌, length, All, Some, None, lit≤}
+use Rattle.std.specs.Prelude.{◌≢◌, codes}
 use Rattle.std.proofs.lemmas.List.Elements.{All-nil, All-cons, All-head}
-use Rattle.cif_form.specs.declared.command.Command.{Command}
-use Rattle.cif_form.specs.declared.command.Command.TheVariants.{Start, Finish, User}
-use Rattle.cif_form.specs.declared.command.Item.{Item}
-use Rattle.cif_form.specs.Text.{IsBlank, Blanks, Spells, Reads}
+use Rattle.cif_form.specs.declared.command.Command.TheVariants.{Finish, User}
+use Rattle.cif_form.specs.Text.{IsBlank, Blanks, Reads}
 use Rattle.cif_form.specs.Scans.{IsReadAs, IsReadable, HasBig, Scans, IsLateEnd, FileScans}
-use Rattle.cif_form.specs.Scans.TextRule.{C1, C2, C3, C4, C5}
-use Rattle.cif_form.specs.Scans.TextEnd.{Whole, Broken}
-use Rattle.cif_form.proofs.OneLabel.{one_cut}
+use Rattle.cif_form.specs.Scans.TextRule.{C1, C2, C4, C5}
+use Rattle.cif_form.specs.Scans.TextEnd.{Broken}
 use Rattle.cif_form.proofs.Commands.{command_from}
 use Rattle.cif_form.proofs.Scanning.{found}
 
@@ -68,8 +64,10 @@ finish_read rest = record {
 -- a definition's finish with no start
 pub no_start : FileScans (codes "DF;E") [] (Broken C4 0)
 no_start =
-    inr (not_late 68 (codes "F;E") (upper_no_blank 68 (lit≤ tt) (lit≤ tt)),
-    Scans.nested Finish 3 (codes "E") (finish_read (codes "E")) (λ h. nothing_big h) refl)
+    inr (
+      not_late 68 (codes "F;E") (upper_no_blank 68 (lit≤ tt) (lit≤ tt)),
+      Scans.nested Finish 3 (codes "E") (finish_read (codes "E")) (λ h. nothing_big h) refl,
+    )
   where
     nothing_big : HasBig Finish → ⊥
     nothing_big h = grind arith

@@ -1,12 +1,12 @@
 -- A reader of numbers and points that is a function, and finds what the grammar says.
-use Rattle.std.proofs.Common.{ℕ, ◌≡◌, ◌+◌, ◌*◌, ◌-◌, ◌<◌, ◌≤◌, inl, inr, refl, sym, ◌∙◌, ap, subst, arith, List, [], ◌∷◌, ◌++◌, length, Bool, true, false, not, eqb, leb, ◌&&◌, ◌||◌, Option, Some, None, append_assoc}
+use Rattle.std.proofs.Common.{ℕ, ◌≡◌, ◌+◌, ◌*◌, ◌-◌, ◌<◌, inl, inr, refl, sym, ◌∙◌, ap, subst, arith, List, [], ◌∷◌, ◌++◌, Bool, true, false, not, eqb, leb, ◌&&◌, ◌||◌, Option, Some, None, append_assoc}
 use Rattle.std.specs.Prelude.{◌≢◌, ℤ, pos, neg_ℤ}
 use Rattle.std.specs.Str.Parse.{digits_value_after, AllDigits}
 use Rattle.std.specs.Char.{digit_value}
 use Rattle.std.proofs.lemmas.List.Elements.{All-head, All-tail, All-cons, All-nil}
 use Rattle.std.proofs.lemmas.Bool.{cases_lt}
 use Rattle.lam_geom.specs.declared.place.Point.{Point}
-use Rattle.cif_form.specs.Text.{◌▹◌, Byte, IsDigit, IsUpper, IsBlank, IsSeparator, Blanks, Separators, Separator, Digits, SignedDigits, Integer, Signed, PointText}
+use Rattle.cif_form.specs.Text.{IsDigit, IsUpper, IsBlank, IsSeparator, Separators, Separator, Digits, SignedDigits, Integer, Signed, PointText}
 
 -- ---- readers: what is read from the front of a text, and the rest of the text
 

@@ -1,17 +1,14 @@
 -- What commands draw is determined.
-use Rattle.std.proofs.Common.{ℕ, ◌≡◌, ◌⊎◌, inl, inr, refl, sym, ◌∙◌, ap, subst, List, [], ◌∷◌, ◌++◌, Option, Some, None, map, All}
-use Rattle.std.specs.Prelude.{◌≢◌, ℤ, filter, int_lt}
+use Rattle.std.proofs.Common.{ℕ, ◌≡◌, refl, sym, ◌∙◌, ap, subst, List, [], ◌∷◌, ◌++◌, Option, Some, None, map, All}
+use Rattle.std.specs.Prelude.{ℤ, filter, int_lt}
 use Rattle.std.proofs.lemmas.List.Elements.{All-head, All-tail}
 use Rattle.lam_geom.specs.declared.layer.Layer.{Layer}
 use Rattle.lam_geom.specs.declared.rect.Rect.{Rect}
 use Rattle.lam_geom.specs.declared.label.FlatLabel.{FlatLabel}
-use Rattle.cif_form.specs.declared.command.Turn.{Turn}
-use Rattle.cif_form.specs.declared.command.Command.{Command}
-use Rattle.cif_form.specs.declared.command.Command.TheVariants.{Polygon, Box, Round, Wire, Layer as SetLayer, Start, Finish, Delete, Call, User, Comment}
+use Rattle.cif_form.specs.declared.command.Command.TheVariants.{Finish}
 use Rattle.cif_form.specs.declared.command.Item.{Item}
-use Rattle.cif_form.specs.Place.{Scale, unit, HasEdges, Motion, placed, AreMotions, layer_name}
-use Rattle.cif_form.specs.Labels.{IsLabelText}
-use Rattle.cif_form.specs.Expansion.{Definition, Stands, item_at, Draws, IsInside, IsDrawn, Expands}
+use Rattle.cif_form.specs.Place.{Scale, unit, placed}
+use Rattle.cif_form.specs.Expansion.{Definition, Stands, item_at, Draws, IsInside, Expands}
 use Rattle.cif_form.proofs.OneLabel.{one_layer, one_label}
 use Rattle.cif_form.proofs.OnePlace.{one_edges, one_motions}
 

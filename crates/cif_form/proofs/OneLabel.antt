@@ -1,15 +1,15 @@
 -- A text is that of at most one label.
-use Rattle.std.proofs.Common.{ℕ, ◌≡◌, ◌+◌, ◌-◌, ◌<◌, ◌≤◌, ◌⊎◌, inl, inr, refl, sym, ◌∙◌, ap, subst, arith, List, [], ◌∷◌, ◌++◌, length, All, Bool, true, false, eqb, leb, ◌&&◌, Option, Some, None, append_assoc}
-use Rattle.std.specs.Prelude.{◌≢◌, ℤ, pos, ◌*ℤ◌}
+use Rattle.std.proofs.Common.{ℕ, ◌≡◌, ◌<◌, ◌≤◌, inl, inr, refl, sym, ◌∙◌, ap, subst, arith, List, [], ◌∷◌, ◌++◌, length, All, true, false, eqb, leb, ◌&&◌, Option, Some, None, append_assoc}
+use Rattle.std.specs.Prelude.{ℤ, pos, ◌*ℤ◌}
 use Rattle.std.specs.Str.Parse.{AllDigits}
 use Rattle.std.proofs.lemmas.List.{append-nil}
 use Rattle.std.proofs.lemmas.List.Elements.{All-head, All-tail, All-cons, All-nil}
 use Rattle.lam_geom.specs.declared.layer.Layer.{Layer}
 use Rattle.lam_geom.specs.declared.layer.Layer.TheVariants.{ND, NP, NC, NM, NI, NB, NG}
 use Rattle.lam_geom.specs.declared.label.FlatLabel.{FlatLabel}
-use Rattle.cif_form.specs.Text.{◌▹◌, Byte, Digits, SignedDigits}
+use Rattle.cif_form.specs.Text.{◌▹◌, SignedDigits}
 use Rattle.cif_form.specs.Place.{layer_name}
-use Rattle.cif_form.specs.Labels.{IsSpace, Spaces, Solid, Coordinate, OwnLayer, IsLabelText}
+use Rattle.cif_form.specs.Labels.{IsSpace, Spaces, Coordinate, OwnLayer, IsLabelText}
 use Rattle.cif_form.proofs.Numbers.{digit_reads, signed_digits_read}
 
 head_of : {x y : ℕ} {xs ys : List ℕ} → x ∷ xs ≡ y ∷ ys → x ≡ y

@@ -1,6 +1,6 @@
 -- The rectangles and motions of commands are determined.
-use Rattle.std.proofs.Common.{ℕ, ◌≡◌, ◌+◌, ◌<◌, ◌≤◌, ◌⊎◌, inl, inr, refl, sym, ◌∙◌, ap, subst, arith, List, [], ◌∷◌, ◌++◌}
-use Rattle.std.specs.Prelude.{◌≢◌, ℤ, pos, negsuc, neg_ℤ, ◌*ℤ◌, ◌+ℤ◌, ◌-ℤ◌, ◌<ℤ◌, ◌≤ℤ◌}
+use Rattle.std.proofs.Common.{◌≡◌, ◌⊎◌, inl, inr, refl, sym, ◌∙◌, ap, subst, arith, List, [], ◌∷◌, ◌++◌}
+use Rattle.std.specs.Prelude.{ℤ, pos, negsuc, ◌*ℤ◌, ◌<ℤ◌, ◌≤ℤ◌}
 use Rattle.std.proofs.lemmas.Int.{ints}
 use Rattle.lam_geom.specs.declared.layer.Layer.{Layer}
 use Rattle.lam_geom.specs.declared.place.Point.{Point}
@@ -9,8 +9,8 @@ use Rattle.cif_form.specs.declared.command.Turn.{Turn}
 use Rattle.cif_form.specs.declared.command.Turn.TheVariants.{Move, MirrorX, MirrorY, Rotate}
 use Rattle.cif_form.specs.declared.command.Command.{Command}
 use Rattle.cif_form.specs.declared.command.Command.TheVariants.{Polygon, Box, Round, Wire, Layer as SetLayer, Start, Finish, Delete, Call, User, Comment}
-use Rattle.cif_form.specs.Place.{Scale, IsScaled, IsBox, IsAround, IsSegment, AreSegments, segments, HasEdges, Motion, placed, AreMotions, IsMotion}
-use Rattle.cif_form.specs.Place.Motion.{Shift, NegateX, NegateY, Quarter}
+use Rattle.cif_form.specs.Place.{Scale, IsScaled, IsBox, IsAround, IsSegment, AreSegments, segments, HasEdges, Motion, AreMotions, IsMotion}
+use Rattle.cif_form.specs.Place.Motion.{Shift}
 use Rattle.cif_form.proofs.Scaled.{cancel}
 
 -- ---- numbers

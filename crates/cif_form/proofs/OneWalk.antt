@@ -1,6 +1,5 @@
 -- A walk is determined.
-use Rattle.std.proofs.Common.{ℕ, ◌≡◌, ◌+◌, ◌<◌, ◌≤◌, ◌⊎◌, inl, inr, refl, sym, ◌∙◌, ap, subst, arith, List, [], ◌∷◌, ◌++◌, Bool, true, false, eqb, Option, Some, None, map, All}
-use Rattle.std.specs.Prelude.{◌≢◌, ℤ}
+use Rattle.std.proofs.Common.{ℕ, ◌≡◌, inl, inr, refl, sym, ◌∙◌, ap, subst, arith, List, [], ◌∷◌, ◌++◌, true, false, eqb, Option, Some, map}
 use Rattle.std.proofs.lemmas.Bool.{cases_lt}
 use Rattle.lam_geom.specs.declared.layer.Layer.{Layer}
 use Rattle.lam_geom.specs.declared.rect.Rect.{Rect}
@@ -8,12 +7,11 @@ use Rattle.lam_geom.specs.declared.label.FlatLabel.{FlatLabel}
 use Rattle.cif_form.specs.declared.command.Command.{Command}
 use Rattle.cif_form.specs.declared.command.Command.TheVariants.{Polygon, Box, Round, Wire, Layer as SetLayer, Start, Finish, Delete, Call, User, Comment}
 use Rattle.cif_form.specs.declared.command.Item.{Item}
-use Rattle.cif_form.specs.Place.{HasEdges, layer_name}
-use Rattle.cif_form.specs.Labels.{IsLabelText}
+use Rattle.cif_form.specs.Place.{HasEdges}
 use Rattle.cif_form.specs.Expansion.{Definition}
 use Rattle.cif_form.specs.Walk.{Frame, State, Visit, Visits, DrawRule, draw_rule_number, BreaksFirst, BreaksNone, StepsByShape, StepsByUser, StepsBy, Steps, WalkEnd, Walks, on_layer, within, at_top}
 use Rattle.cif_form.specs.Walk.DrawRule.{F1, F2, F3, F4, F5, F6, F7, F8, F9, F10}
-use Rattle.cif_form.specs.Walk.WalkEnd.{Whole, Broken}
+use Rattle.cif_form.specs.Walk.WalkEnd.{Broken}
 use Rattle.cif_form.proofs.OneLabel.{one_layer, one_label}
 use Rattle.cif_form.proofs.OnePlace.{one_edges, one_motions}
 use Rattle.cif_form.proofs.OneExpansion.{head_of, tail_of, one_definition, one_body}

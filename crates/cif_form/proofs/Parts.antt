@@ -1,12 +1,11 @@
 -- A reader of paths, turns, names and comments that is a function, and finds what the grammar says.
-use Rattle.std.proofs.Common.{ℕ, zero, suc, ◌≡◌, ◌+◌, ◌-◌, ◌<◌, ◌≤◌, ◌⊎◌, inl, inr, refl, sym, ◌∙◌, ap, subst, arith, List, [], ◌∷◌, ◌++◌, length, All, Bool, true, false, not, eqb, leb, ◌&&◌, ◌||◌, Option, Some, None, append_assoc, length-append}
-use Rattle.std.specs.Prelude.{◌≢◌}
+use Rattle.std.proofs.Common.{ℕ, zero, suc, ◌≡◌, ◌+◌, ◌-◌, ◌≤◌, ◌⊎◌, inl, inr, refl, sym, ◌∙◌, ap, subst, arith, List, [], ◌∷◌, ◌++◌, length, All, Bool, true, false, eqb, ◌||◌, Option, Some, None, append_assoc, length-append}
 use Rattle.std.proofs.lemmas.List.Elements.{All-head, All-tail, All-cons, All-nil}
 use Rattle.lam_geom.specs.declared.place.Point.{Point}
 use Rattle.cif_form.specs.declared.command.Turn.{Turn}
 use Rattle.cif_form.specs.declared.command.Turn.TheVariants.{Move, MirrorX, MirrorY, Rotate}
-use Rattle.cif_form.specs.Text.{◌▹◌, Byte, Nothing, IsDigit, IsUpper, IsBlank, IsSeparator, Blanks, Separators, Separator, PointText, Path, TurnText, Turns, Either, IsShortName, IsBalanced}
-use Rattle.cif_form.proofs.Numbers.{Reader, goes_on, and_then, gives, Finds, finds_both, is_digit, is_upper, is_blank, blank_reads, not_equal, no_digit, no_upper, Stops, past, separators_past, separator_from, separator_read, separator_stops, stops_at, point_from, point_reads, follows, starts, point_follows, separator_follows}
+use Rattle.cif_form.specs.Text.{◌▹◌, Byte, IsDigit, IsUpper, IsBlank, IsSeparator, Blanks, Separators, Path, TurnText, Turns, IsShortName, IsBalanced}
+use Rattle.cif_form.proofs.Numbers.{Reader, goes_on, and_then, gives, Finds, finds_both, is_digit, is_upper, is_blank, blank_reads, not_equal, no_digit, no_upper, Stops, separators_past, separator_from, separator_read, separator_stops, stops_at, point_from, point_reads, follows, starts, point_follows, separator_follows}
 
 -- ---- the end of a command
 

@@ -1,11 +1,11 @@
 -- A file that breaks no rule of texts reads as its commands.
-use Rattle.std.proofs.Common.{ℕ, ◌≡◌, ◌+◌, ◌<◌, ◌⊎◌, inl, inr, refl, sym, ◌∙◌, ap, subst, arith, List, [], ◌∷◌, ◌++◌, length, All, Bool, true, false, append_assoc, length-append}
+use Rattle.std.proofs.Common.{ℕ, ◌≡◌, ◌+◌, ◌<◌, ◌⊎◌, inl, inr, refl, sym, ◌∙◌, ap, subst, arith, List, [], ◌∷◌, ◌++◌, length, Bool, false, append_assoc, length-append}
 use Rattle.std.proofs.lemmas.List.Elements.{All-nil, All-cons, All-append}
 use Rattle.cif_form.specs.declared.command.Command.{Command}
 use Rattle.cif_form.specs.declared.command.Command.TheVariants.{Polygon, Box, Round, Wire, Layer as SetLayer, Start, Finish, Delete, Call, User, Comment}
 use Rattle.cif_form.specs.declared.command.Item.{Item}
-use Rattle.cif_form.specs.Text.{◌▹◌, Byte, IsBlank, Blanks, Semicolon, After, Reads}
-use Rattle.cif_form.specs.Scans.{TextEnd, IsReadAs, Scans, IsLateEnd, FileScans}
+use Rattle.cif_form.specs.Text.{IsBlank, Blanks, Semicolon, After, Reads}
+use Rattle.cif_form.specs.Scans.{TextEnd, IsReadAs, Scans, FileScans}
 use Rattle.cif_form.specs.Scans.TextEnd.{Whole}
 use Rattle.cif_form.specs.Scans.TextRule.{C1}
 use Rattle.cif_form.proofs.Scanning.{item}

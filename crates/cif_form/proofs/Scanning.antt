@@ -1,17 +1,15 @@
 -- How the reading of a file ends is determined.
-use Rattle.std.proofs.Common.{ℕ, ◌≡◌, ◌+◌, ◌-◌, ◌<◌, ◌≤◌, ◌⊎◌, inl, inr, refl, sym, ◌∙◌, ap, subst, arith, List, [], ◌∷◌, ◌++◌, length, All, Bool, true, false, not, eqb, leb, ◌&&◌, ◌||◌, Option, Some, None, append_assoc, length-append}
+use Rattle.std.proofs.Common.{ℕ, ◌≡◌, ◌+◌, ◌≤◌, ◌⊎◌, inl, inr, refl, sym, ◌∙◌, ap, subst, arith, List, [], ◌∷◌, ◌++◌, length, Bool, true, false, not, eqb, leb, ◌&&◌, ◌||◌, Option, Some, None, length-append}
 use Rattle.std.specs.Prelude.{◌≢◌}
-use Rattle.std.proofs.lemmas.List.{append-nil}
-use Rattle.std.proofs.lemmas.List.Elements.{All-head, All-tail, All-nil}
+use Rattle.std.proofs.lemmas.List.Elements.{All-head, All-tail}
 use Rattle.cif_form.specs.declared.command.Command.{Command}
 use Rattle.cif_form.specs.declared.command.Command.TheVariants.{Polygon, Box, Round, Wire, Layer as SetLayer, Start, Finish, Delete, Call, User, Comment}
 use Rattle.cif_form.specs.declared.command.Item.{Item}
-use Rattle.cif_form.specs.Text.{IsDigit, IsUpper, IsBlank, Blanks, Spells}
-use Rattle.cif_form.specs.Scans.{TextRule, TextEnd, IsReadAs, IsReadable, HasBig, opens, Scans, IsLateEnd, FileScans}
+use Rattle.cif_form.specs.Text.{IsBlank, Blanks}
+use Rattle.cif_form.specs.Scans.{TextEnd, IsReadAs, IsReadable, HasBig, opens, Scans, IsLateEnd, FileScans}
 use Rattle.cif_form.specs.Scans.TextRule.{C1, C2, C3, C4, C5}
 use Rattle.cif_form.specs.Scans.TextEnd.{Whole, Broken}
 use Rattle.cif_form.proofs.Numbers.{is_digit, is_upper, is_blank, blank_reads}
-use Rattle.cif_form.proofs.Parts.{Ends}
 use Rattle.cif_form.proofs.OneLabel.{one_cut}
 use Rattle.cif_form.proofs.Commands.{command_from, command_reads, EndsAfter}
 use Rattle.cif_form.proofs.Reading.{begins}

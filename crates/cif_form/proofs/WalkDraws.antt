@@ -1,6 +1,6 @@
 -- A whole walk draws the expansion of its commands.
-use Rattle.std.proofs.Common.{ℕ, ◌≡◌, ◌<◌, ◌⊎◌, inl, inr, refl, sym, ◌∙◌, ap, subst, List, [], ◌∷◌, ◌++◌, Option, Some, None, map, All, arith, append_assoc}
-use Rattle.std.specs.Prelude.{ℤ, pos, ◌<ℤ◌, filter, int_lt}
+use Rattle.std.proofs.Common.{ℕ, ◌≡◌, inl, inr, refl, sym, ◌∙◌, ap, subst, List, [], ◌∷◌, ◌++◌, Option, Some, None, map, arith, append_assoc}
+use Rattle.std.specs.Prelude.{ℤ, pos, filter, int_lt}
 use Rattle.std.proofs.lemmas.Int.{ints, by_lt_z}
 use Rattle.std.proofs.lemmas.List.{append-nil, map-append, map-id}
 use Rattle.std.proofs.lemmas.Simd.{map-map}
@@ -13,8 +13,8 @@ use Rattle.cif_form.specs.declared.command.Item.{Item}
 use Rattle.cif_form.specs.declared.command.Turn.{Turn}
 use Rattle.cif_form.specs.Place.{Scale, IsScale, unit, Motion, placed, AreMotions, layer_name}
 use Rattle.cif_form.specs.Labels.{IsLabelText}
-use Rattle.cif_form.specs.Expansion.{Definition, Stands, item_at, Draws, IsInside, IsDrawn, Expands}
-use Rattle.cif_form.specs.Walk.{Frame, State, Visit, Visits, DrawRule, BreaksBy, BreaksNone, StepsByShape, StepsBy, WalkEnd, Walks, start, onward, on_layer, within, at_top}
+use Rattle.cif_form.specs.Expansion.{Definition, Stands, item_at, Draws, IsDrawn, Expands}
+use Rattle.cif_form.specs.Walk.{Frame, State, Visit, BreaksBy, BreaksNone, StepsByShape, StepsBy, Walks, start, onward, on_layer, within, at_top}
 use Rattle.cif_form.specs.Walk.DrawRule.{F4}
 use Rattle.cif_form.specs.Walk.WalkEnd.{Whole}
 

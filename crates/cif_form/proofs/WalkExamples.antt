@@ -1,6 +1,6 @@
 -- Small files whose walk breaks a rule, and the first rule that each breaks.
-use Rattle.std.proofs.Common.{ℕ, ◌≡◌, ◌+◌, ◌<◌, ◌⊎◌, inl, inr, refl, sym, ◌∙◌, ap, subst, arith, List, [], ◌∷◌, ◌++◌, Option, Some, None, All}
-use Rattle.std.specs.Prelude.{ℤ, pos, Contains, ◌*ℤ◌, ◌<ℤ◌, ◌-ℤ◌}
+use Rattle.std.proofs.Common.{◌≡◌, ◌<◌, inl, inr, refl, sym, ◌∙◌, ap, subst, arith, List, [], ◌∷◌, Option, Some, None}
+use Rattle.std.specs.Prelude.{ℤ, pos, Contains, ◌*ℤ◌, ◌-ℤ◌}
 use Rattle.std.proofs.lemmas.Int.{ints}
 use Rattle.std.proofs.lemmas.List.Elements.{All-cons, All-nil, Contains-append_left}
 use Rattle.lam_geom.specs.declared.layer.Layer.{Layer}
@@ -75,18 +75,19 @@ own_last = record { definitions = one ∷ []; count = 1; frame = inner own_body;
 pub call_of_itself : FileWalks own_file [] [] (Broken F2 6)
 call_of_itself =
     Walks.step (record { definitions = []; count = 0; frame = top_frame own_file; outer = []; item = item_at 0 (Start (pos 1) (pos 1) (pos 1)); after = item_at 6 (Call (pos 1) []) ∷ item_at 11 Finish ∷ item_at 15 (Call (pos 1) []) ∷ [] }) [] [] (record { definitions = one ∷ []; count = 0; frames = top_frame (item_at 15 (Call (pos 1) []) ∷ []) ∷ [] })
-      (record { definitions = refl; count = refl; frames = refl; left = refl })
-      (each_rule (λ q. ¬ Breaks own_start q) never never never never never never (λ h. omega (arith, h)) never never never)
-      (own_body, item_at 15 (Call (pos 1) []) ∷ [], 11, refl, All-cons (λ i. IsInside i.command) (item_at 6 (Call (pos 1) [])) [] tt (All-nil (λ i. IsInside i.command)), refl, refl, refl, refl)
-      (Walks.step (record { definitions = one ∷ []; count = 0; frame = top_frame (item_at 15 (Call (pos 1) []) ∷ []); outer = []; item = item_at 15 (Call (pos 1) []); after = [] }) [] [] (record { definitions = one ∷ []; count = 1; frames = inner own_body ∷ top_frame [] ∷ [] })
-        (record { definitions = refl; count = refl; frames = refl; left = refl })
-        (no_call_rule own_call refl (Stands.newest refl) (λ d h. is_one [] d refl h) (λ f h. ap (λ f. f.symbol) (only (top_frame (item_at 15 (Call (pos 1) []) ∷ [])) f h)) refl)
-        (one, [], Stands.newest refl, refl, refl, refl, refl)
-        (Walks.broken (record { definitions = one ∷ []; count = 1; frame = inner own_body; outer = top_frame [] ∷ []; item = item_at 6 (Call (pos 1) []); after = [] }) F2
-          (record { definitions = refl; count = refl; frames = refl; left = refl })
-          ((inner own_body, Contains-append_left (inner own_body ∷ []) (top_frame [] ∷ []) (inner own_body) (Contains-one (inner own_body)), refl),
-            each_rule (λ q. draw_rule_number q < 2 → ¬ Breaks own_last q) (λ k h. h one (Stands.newest refl)) (λ k. absurd (omega (arith, k))) (λ k. absurd (omega (arith, k))) (λ k. absurd (omega (arith, k)))
-              (λ k. absurd (omega (arith, k))) (λ k. absurd (omega (arith, k))) (λ k. absurd (omega (arith, k))) (λ k. absurd (omega (arith, k))) (λ k. absurd (omega (arith, k))) (λ k. absurd (omega (arith, k))))))
+    (record { definitions = refl; count = refl; frames = refl; left = refl })
+    (each_rule (λ q. ¬ Breaks own_start q) never never never never never never (λ h. omega (arith, h)) never never never)
+    (own_body, item_at 15 (Call (pos 1) []) ∷ [], 11, refl, All-cons (λ i. IsInside i.command) (item_at 6 (Call (pos 1) [])) [] tt (All-nil (λ i. IsInside i.command)), refl, refl, refl, refl)
+    (Walks.step (record { definitions = one ∷ []; count = 0; frame = top_frame (item_at 15 (Call (pos 1) []) ∷ []); outer = []; item = item_at 15 (Call (pos 1) []); after = [] }) [] [] (record { definitions = one ∷ []; count = 1; frames = inner own_body ∷ top_frame [] ∷ [] })
+    (record { definitions = refl; count = refl; frames = refl; left = refl })
+    (no_call_rule own_call refl (Stands.newest refl) (λ d h. is_one [] d refl h) (λ f h. ap (λ f. f.symbol) (only (top_frame (item_at 15 (Call (pos 1) []) ∷ [])) f h)) refl)
+    (one, [], Stands.newest refl, refl, refl, refl, refl)
+    (Walks.broken (record { definitions = one ∷ []; count = 1; frame = inner own_body; outer = top_frame [] ∷ []; item = item_at 6 (Call (pos 1) []); after = [] }) F2
+    (record { definitions = refl; count = refl; frames = refl; left = refl }) (
+      (inner own_body, Contains-append_left (inner own_body ∷ []) (top_frame [] ∷ []) (inner own_body) (Contains-one (inner own_body)), refl),
+      each_rule (λ q. draw_rule_number q < 2 → ¬ Breaks own_last q) (λ k h. h one (Stands.newest refl)) (λ k. absurd (omega (arith, k))) (λ k. absurd (omega (arith, k))) (λ k. absurd (omega (arith, k)))
+          (λ k. absurd (omega (arith, k))) (λ k. absurd (omega (arith, k))) (λ k. absurd (omega (arith, k))) (λ k. absurd (omega (arith, k))) (λ k. absurd (omega (arith, k))) (λ k. absurd (omega (arith, k))),
+    )))
 
 -- DS 1 1 3; L NM; B 2 2 0 0; DF; C 1; E
 abbrev square : Command
@@ -126,21 +127,22 @@ no_third z h = omega (arith, ints, h)
 pub third_of_a_unit : FileWalks third_file [] [] (Broken F4 16)
 third_of_a_unit =
     Walks.step third_start [] [] (record { definitions = third ∷ []; count = 0; frames = top_frame (item_at 31 (Call (pos 1) []) ∷ []) ∷ [] })
-      (record { definitions = refl; count = refl; frames = refl; left = refl })
-      (each_rule (λ q. ¬ Breaks third_start q) never never never never never never (λ h. omega (arith, h)) never never never)
-      (third_body, item_at 31 (Call (pos 1) []) ∷ [], 27, refl, All-cons (λ i. IsInside i.command) (item_at 10 (SetLayer (layer_name NM))) (item_at 16 square ∷ []) tt (All-cons (λ i. IsInside i.command) (item_at 16 square) [] tt (All-nil (λ i. IsInside i.command))), refl, refl, refl, refl)
-      (Walks.step third_call [] [] (record { definitions = third ∷ []; count = 1; frames = third_frame None third_body ∷ top_frame [] ∷ [] })
-        (record { definitions = refl; count = refl; frames = refl; left = refl })
-        (each_rule (λ q. ¬ Breaks third_call q) (λ h. h third (Stands.newest refl))
-          (λ h. let e : None ≡ Some (pos 1) = sym (ap (λ f. f.symbol) (only (top_frame (item_at 31 (Call (pos 1) []) ∷ [])) h.0 h.1)) ∙ h.2 in cc) (λ h. Contains-none _ h.1)
-          (λ h. elim h [ inl k ↦ k.2 (subst (λ d. IsScale d.scale) (sym (only_third k.0 k.1)) (omega (arith, ints), omega (arith, ints))) | inr k ↦ Contains-none _ k.1 ])
-          never never (λ h. omega (arith, h)) (λ h. Contains-none _ h.1) never never)
-        (third, [], Stands.newest refl, refl, refl, refl, refl)
-        (Walks.step third_layer [] [] (record { definitions = third ∷ []; count = 2; frames = third_frame (Some NM) (item_at 16 square ∷ []) ∷ top_frame [] ∷ [] })
-          (record { definitions = refl; count = refl; frames = refl; left = refl })
-          (each_rule (λ q. ¬ Breaks third_layer q) never never never never never never (λ h. omega (arith, h)) never never (λ h. h NM refl))
-          (NM, refl, refl, refl, refl)
-          (Walks.broken third_last F4 (record { definitions = refl; count = refl; frames = refl; left = refl })
-            ((λ rs h. elim h.2 [ inl k ↦ no_third h.0.x0 k.2.left.1 | inr k ↦ k.1 refl ]),
-              each_rule (λ q. draw_rule_number q < 4 → ¬ Breaks third_last q) (λ k. never) (λ k. never) (λ k h. h (inl (refl, (λ e. omega (arith, ints)))))
-                (λ k. absurd (omega (arith, k))) (λ k. absurd (omega (arith, k))) (λ k. absurd (omega (arith, k))) (λ k. absurd (omega (arith, k))) (λ k. absurd (omega (arith, k))) (λ k. absurd (omega (arith, k))) (λ k. absurd (omega (arith, k)))))))
+    (record { definitions = refl; count = refl; frames = refl; left = refl })
+    (each_rule (λ q. ¬ Breaks third_start q) never never never never never never (λ h. omega (arith, h)) never never never)
+    (third_body, item_at 31 (Call (pos 1) []) ∷ [], 27, refl, All-cons (λ i. IsInside i.command) (item_at 10 (SetLayer (layer_name NM))) (item_at 16 square ∷ []) tt (All-cons (λ i. IsInside i.command) (item_at 16 square) [] tt (All-nil (λ i. IsInside i.command))), refl, refl, refl, refl)
+    (Walks.step third_call [] [] (record { definitions = third ∷ []; count = 1; frames = third_frame None third_body ∷ top_frame [] ∷ [] })
+    (record { definitions = refl; count = refl; frames = refl; left = refl })
+    (each_rule (λ q. ¬ Breaks third_call q) (λ h. h third (Stands.newest refl))
+    (λ h. let e : None ≡ Some (pos 1) = sym (ap (λ f. f.symbol) (only (top_frame (item_at 31 (Call (pos 1) []) ∷ [])) h.0 h.1)) ∙ h.2 in cc) (λ h. Contains-none _ h.1)
+    (λ h. elim h [ inl k ↦ k.2 (subst (λ d. IsScale d.scale) (sym (only_third k.0 k.1)) (omega (arith, ints), omega (arith, ints))) | inr k ↦ Contains-none _ k.1 ])
+    never never (λ h. omega (arith, h)) (λ h. Contains-none _ h.1) never never)
+    (third, [], Stands.newest refl, refl, refl, refl, refl)
+    (Walks.step third_layer [] [] (record { definitions = third ∷ []; count = 2; frames = third_frame (Some NM) (item_at 16 square ∷ []) ∷ top_frame [] ∷ [] })
+    (record { definitions = refl; count = refl; frames = refl; left = refl })
+    (each_rule (λ q. ¬ Breaks third_layer q) never never never never never never (λ h. omega (arith, h)) never never (λ h. h NM refl))
+    (NM, refl, refl, refl, refl)
+    (Walks.broken third_last F4 (record { definitions = refl; count = refl; frames = refl; left = refl }) (
+      (λ rs h. elim h.2 [ inl k ↦ no_third h.0.x0 k.2.left.1 | inr k ↦ k.1 refl ]),
+      each_rule (λ q. draw_rule_number q < 4 → ¬ Breaks third_last q) (λ k. never) (λ k. never) (λ k h. h (inl (refl, (λ e. omega (arith, ints)))))
+          (λ k. absurd (omega (arith, k))) (λ k. absurd (omega (arith, k))) (λ k. absurd (omega (arith, k))) (λ k. absurd (omega (arith, k))) (λ k. absurd (omega (arith, k))) (λ k. absurd (omega (arith, k))) (λ k. absurd (omega (arith, k))),
+    ))))

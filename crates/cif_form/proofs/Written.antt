@@ -1,6 +1,6 @@
 -- What a writer writes is read as the same commands.
-use Rattle.std.proofs.Common.{ℕ, suc, ◌≡◌, ◌+◌, ◌<◌, ◌≤◌, ◌^◌, inl, inr, refl, sym, subst, arith, List, [], ◌∷◌, ◌++◌, length, All, Bool, true, false, ◌&&◌, ap}
-use Rattle.std.specs.Prelude.{◌≢◌, ℤ, pos, negsuc, ◌≤ℤ◌, codes, decimal, ◌==◌, if◌then◌else◌}
+use Rattle.std.proofs.Common.{ℕ, suc, ◌≡◌, ◌+◌, ◌<◌, ◌^◌, inl, inr, refl, sym, subst, arith, List, [], ◌∷◌, ◌++◌, length, All, Bool, true, false, ◌&&◌, ap}
+use Rattle.std.specs.Prelude.{ℤ, pos, negsuc, ◌≤ℤ◌, codes, decimal, if◌then◌else◌}
 use Rattle.std.specs.Fmt.{signed_decimal}
 use Rattle.std.proofs.lemmas.Int.{ints}
 use Rattle.std.proofs.lemmas.List.{append-nil}
@@ -12,10 +12,10 @@ use Rattle.cif_form.specs.declared.command.Turn.TheVariants.{Move, MirrorX, Mirr
 use Rattle.cif_form.specs.declared.command.Command.{Command}
 use Rattle.cif_form.specs.declared.command.Command.TheVariants.{Polygon, Box, Round, Wire, Layer, Start, Finish, Delete, Call, User, Comment}
 use Rattle.cif_form.specs.declared.command.Item.{Item}
-use Rattle.cif_form.specs.Text.{Byte, ◌▹◌, IsBlank, IsSeparator, Blanks, Separators, Separator, Digits, Integer, Signed, SignedDigits, PointText, Path, TurnText, Turns, Either, right, Spells, Semicolon, After, Reads}
+use Rattle.cif_form.specs.Text.{Byte, ◌▹◌, IsBlank, IsSeparator, Blanks, Separators, Separator, Digits, Integer, Signed, SignedDigits, PointText, Path, Turns, Either, right, Spells, Semicolon, After, Reads}
 use Rattle.cif_form.specs.Text.Reads.{finish, command}
 use Rattle.cif_form.specs.Fits.{IsSmall, Fits, point_numbers, turn_numbers}
-use Rattle.cif_form.specs.Writing.{written, text_of, placed_items, point_text, path_text, turn_text, turns_text, is_number, direction_text, space}
+use Rattle.cif_form.specs.Writing.{written, text_of, placed_items, point_text, path_text, turns_text, is_number, direction_text, space}
 use Rattle.std.specs.List.{flat_map}
 
 space_is_blank : IsBlank 32

@@ -1,4 +1,4 @@
--- What the commands of a file draw. Where an F rule but F7 and F8 is broken, they draw nothing at all.
+-- What the commands of a file draw. Where an F rule other than F7 and F8 is broken, there is no expansion.
 use Rattle.std.specs.Prelude.{ℕ, ◌≡◌, ◌≢◌, List, [], ◌∷◌, ◌++◌, map, All, filter, Option, Some, None, ℤ, int_lt}
 use Rattle.lam_geom.specs.declared.layer.Layer.{Layer}
 use Rattle.lam_geom.specs.declared.rect.Rect.{Rect}

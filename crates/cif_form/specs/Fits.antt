@@ -1,11 +1,11 @@
 -- The commands that have a text.
-use Rattle.std.specs.Prelude.{ℕ, ◌<◌, ◌≤◌, ◌≢◌, ◌^◌, List, [], ◌∷◌, ◌++◌, length, All, ℤ, pos, ◌≤ℤ◌, nat_abs}
+use Rattle.std.specs.Prelude.{◌<◌, ◌≤◌, ◌≢◌, ◌^◌, List, [], ◌∷◌, ◌++◌, length, All, ℤ, pos, ◌≤ℤ◌, nat_abs}
 use Rattle.std.specs.List.{flat_map}
 use Rattle.lam_geom.specs.declared.place.Point.{Point}
 use Rattle.cif_form.specs.declared.command.Turn.{Turn}
-use Rattle.cif_form.specs.declared.command.Turn.TheVariants.{Move, MirrorX, MirrorY, Rotate}
+use Rattle.cif_form.specs.declared.command.Turn.TheVariants.{Move, Rotate}
 use Rattle.cif_form.specs.declared.command.Command.{Command}
-use Rattle.cif_form.specs.declared.command.Command.TheVariants.{Polygon, Box, Round, Wire, Layer, Start, Finish, Delete, Call, User, Comment}
+use Rattle.cif_form.specs.declared.command.Command.TheVariants.{Polygon, Box, Round, Wire, Layer, Start, Delete, Call, User, Comment}
 use Rattle.cif_form.specs.Text.{IsShortName, IsBalanced}
 
 abbrev pub point_numbers : Point → List ℤ

@@ -1,5 +1,5 @@
 -- Labels: user commands `94 name x y` and `94 name x y layer`.
-use Rattle.std.specs.Prelude.{ℕ, ◌<◌, ◌≡◌, ◌⊎◌, ◌^◌, List, length, All, Option, Some, None, ℤ, pos, ◌*ℤ◌, nat_abs}
+use Rattle.std.specs.Prelude.{ℕ, ◌<◌, ◌≡◌, ◌⊎◌, List, length, All, Option, Some, None, ℤ, pos, ◌*ℤ◌}
 use Rattle.lam_geom.specs.declared.layer.Layer.{Layer}
 use Rattle.lam_geom.specs.declared.layer.Layer.TheVariants.{ND, NP, NM}
 use Rattle.lam_geom.specs.declared.label.FlatLabel.{FlatLabel}

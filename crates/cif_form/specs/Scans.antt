@@ -1,5 +1,5 @@
 -- The commands of a file up to its end, or up to the first rule of texts that it breaks.
-use Rattle.std.specs.Prelude.{ℕ, ◌+◌, ◌<◌, ◌≡◌, ◌≢◌, ◌⊎◌, ◌^◌, List, [], ◌∷◌, ◌++◌, length, All, Any, Bool, true, false, Option, Some, None}
+use Rattle.std.specs.Prelude.{ℕ, ◌+◌, ◌<◌, ◌≡◌, ◌≢◌, ◌⊎◌, List, [], ◌∷◌, ◌++◌, length, Any, Bool, true, false, Option, Some, None}
 use Rattle.cif_form.specs.declared.command.Command.{Command}
 use Rattle.cif_form.specs.declared.command.Command.TheVariants.{Start, Finish, Delete, User}
 use Rattle.cif_form.specs.declared.command.Item.{Item}

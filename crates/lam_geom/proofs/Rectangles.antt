@@ -1,12 +1,12 @@
 -- The squares of one rectangle are joined.
-use Rattle.std.proofs.Common.{ℕ, zero, suc, ◌≡◌, ◌+◌, ◌-◌, ◌⊎◌, inl, inr, refl, sym, subst, arith, ◌∙◌}
-use Rattle.std.specs.Prelude.{ℤ, pos, negsuc, ◌+ℤ◌, ◌≤ℤ◌, ◌<ℤ◌}
+use Rattle.std.proofs.Common.{ℕ, zero, suc, ◌≡◌, ◌+◌, ◌-◌, inl, inr, refl, sym, subst, arith}
+use Rattle.std.specs.Prelude.{ℤ, pos, negsuc, ◌+ℤ◌, ◌≤ℤ◌}
 use Rattle.std.proofs.lemmas.Int.{ints, by_lt_z}
 use Rattle.lam_geom.specs.declared.layer.Layer.{Layer}
 use Rattle.lam_geom.specs.declared.rect.Rect.{Rect}
 use Rattle.lam_geom.specs.Chains.{Chain}
 use Rattle.lam_geom.specs.Chains.Chain.{here, link}
-use Rattle.lam_geom.specs.Squares.{Square, Adjoin, Covers, IsIn}
+use Rattle.lam_geom.specs.Squares.{Square, Adjoin, IsIn}
 
 join_chains : {S : Type 0} {J : S → S → Type 0} {s t u : S} → Chain J s t → Chain J t u → Chain J s u
 join_chains here d = d

@@ -2,9 +2,8 @@
 use Rattle.std.proofs.Common.{◌≡◌, ◌⊎◌, inl, inr, refl, arith, Bool, true, false, IsTrue, ◌↔◌}
 use Rattle.std.specs.Prelude.{ℤ, pos, ◌+ℤ◌, ◌-ℤ◌, ◌≤ℤ◌, ◌<ℤ◌}
 use Rattle.std.proofs.lemmas.Int.{ints, by_lt_z}
-use Rattle.lam_geom.specs.declared.layer.Layer.{Layer}
 use Rattle.lam_geom.specs.declared.rect.Rect.{Rect}
-use Rattle.lam_geom.specs.Squares.{Square, IsIn, ShareEdge, Touch}
+use Rattle.lam_geom.specs.Squares.{Square, IsIn, Touch}
 use Rattle.lam_geom.specs.Spans.{Overlap, Meet}
 
 abbrev pub OverlapX : Rect → Rect → Type 0
