@@ -1,11 +1,10 @@
 -- The first broken rule is determined.
-use Rattle.std.proofs.Common.{◌≡◌, ℕ, zero, suc, ◌<◌, ◌⊎◌, inl, inr, List, [], ◌∷◌, Some, length, get_or, refl, sym, ◌∙◌, ap, subst, arith}
-use Rattle.std.specs.Prelude.{ℤ, Contains, slice_get}
+use Rattle.std.proofs.Common.{◌≡◌, ℕ, zero, suc, ◌<◌, inl, inr, List, [], ◌∷◌, Some, get_or, refl, sym, ◌∙◌, ap, subst, arith}
+use Rattle.std.specs.Prelude.{Contains, slice_get}
 use Rattle.std.specs.List.{AllZip}
 use Rattle.std.proofs.lemmas.Bool.{cases_lt}
 use Rattle.std.proofs.lemmas.List.{get_or_default}
 use Rattle.mp_base.specs.declared.refusal.Spot.TheVariants.{Offset, Named}
-use Rattle.mp_base.specs.declared.refusal.Broken.{Broken}
 use Rattle.mp_base.specs.PadNames.{supplies}
 use Rattle.lam_geom.specs.declared.label.FlatLabel.{FlatLabel}
 use Rattle.lam_geom.specs.declared.rect.Rect.{Rect}
@@ -17,7 +16,7 @@ use Rattle.switch_net.specs.Pads.{driver_labels, chip_labels}
 use Rattle.switch_net.specs.Conductors.{Joined}
 use Rattle.switch_net.specs.Labels.{Names}
 use Rattle.switch_net.specs.Drawn.{IsNetwork, IsTag, IsOfNode}
-use Rattle.switch_net.specs.Breaks.{IsOnTwoNodes, BreaksAt, MeetsDriver, IsDrivenTwice, IsMissing, IsFirstOfMask, IsFirstOfCircuit, broken}
+use Rattle.switch_net.specs.Breaks.{BreaksAt, MeetsDriver, IsDrivenTwice, IsMissing, IsFirstOfMask, IsFirstOfCircuit, broken}
 use Rattle.switch_net.specs.Breaks.BreaksAt.{one, two}
 use Rattle.switch_net.specs.Laws.{OneFirstOfMask, OneFirstOfCircuit}
 use Rattle.switch_net.proofs.Owners.{join_chains, turn_chain}
