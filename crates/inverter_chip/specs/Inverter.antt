@@ -21,6 +21,7 @@ pub record ArePads (pads : Pads) : Type 0 where
   pub inputs : IsSignal pads.inputs (codes "a")
   pub outputs : IsSignal pads.outputs (codes "y")
 
+-- a label of the file on a node
 abbrev pub tag : ℕ → List ℕ → ℕ → Tag
 tag offset name node = record { offset = offset; name = name; node = node }
 

@@ -8,6 +8,7 @@ mod Owners
 mod Flips
 mod Pieces
 mod Unique
+mod FirstBroken
 mod Determined
 mod Driving
 mod Labelling

@@ -203,7 +203,7 @@ module _ (covers : Layer → ℤ → ℤ → Type 0) (nodes : List Square) (are 
   one_named x y (Some k) l m (inr a) (inl b) = absurd (a.0 b.1)
   one_named x y (Some k) l m (inr a) (inr b) = one_first x y l m a.1 b.1
 
-  one_square : (label : FlatLabel) (s t : Square) → Names covers label s → Names covers label t → s ≡ t
+  pub one_square : (label : FlatLabel) (s t : Square) → Names covers label s → Names covers label t → s ≡ t
   one_square label s t a b =
       same_square s t (one_named label.x label.y label.layer s.layer t.layer a.layer b.layer) (a.x ∙ sym b.x) (a.y ∙ sym b.y)
 

@@ -70,6 +70,7 @@ pub data BreaksAt (covers : Layer → ℤ → ℤ → Type 0) (labels : List Fla
 abbrev pub MeetsDriver : List (List ℕ) → List Tag → ℕ → Type 0
 MeetsDriver drivers tags i = (tag : Tag) × IsDrivenTwice drivers tags i tag
 
+-- rule N of this number is broken at this spot
 abbrev pub broken : ℕ → Spot → Broken
 broken number spot = record { rule = record { family = N; number = number }; spot = spot }
 

@@ -35,6 +35,7 @@ pub record Drive : Type 0 where
   pub name : List ℕ
   pub value : Trit
 
+-- this label is driven to this value
 abbrev pub drive : List ℕ → Trit → Drive
 drive name value = record { name = name; value = value }
 

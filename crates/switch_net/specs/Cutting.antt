@@ -28,6 +28,7 @@ pub record Meeting (covers : Layer → ℤ → ℤ → Type 0) (pieces : List Re
   pub in_other : IsIn q t
   pub contact : Contact covers s t
 
+-- two of the rectangles touch on one layer, or meet at a contact
 pub data Linked (covers : Layer → ℤ → ℤ → Type 0) (pieces : List Rect) (r q : Rect) : Type 0 where
   touch : Touching pieces r q → Linked covers pieces r q
   meet : Meeting covers pieces r q → Linked covers pieces r q

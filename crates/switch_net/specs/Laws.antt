@@ -2,6 +2,7 @@
 use Rattle.std.specs.Prelude.{◌≡◌, ℕ, List, All}
 use Rattle.mp_base.specs.declared.value.Trit.{Trit}
 use Rattle.mp_base.specs.declared.pad.Pads.{Pads}
+use Rattle.mp_base.specs.declared.refusal.Broken.{Broken}
 use Rattle.lam_geom.specs.declared.rect.Rect.{Rect}
 use Rattle.lam_geom.specs.declared.label.FlatLabel.{FlatLabel}
 use Rattle.lam_geom.specs.Squares.{Square, covered}
@@ -10,7 +11,7 @@ use Rattle.switch_net.specs.Settled.{Setting, IsSettled}
 use Rattle.switch_net.specs.Pads.{Fit}
 use Rattle.switch_net.specs.Clock.{IsCircuitTrace}
 use Rattle.switch_net.specs.Drawn.{AreNodes, AreRegions, IsNetwork}
-use Rattle.switch_net.specs.Breaks.{HasPads}
+use Rattle.switch_net.specs.Breaks.{HasPads, IsFirstOfMask, IsFirstOfCircuit}
 
 -- the nodes and the channels of shapes have one numbering
 abbrev pub OneNumbering : Type 0
@@ -22,6 +23,15 @@ OneNumbering = (shapes : List Rect)
 abbrev pub OneNetwork : Type 0
 OneNetwork =
     (shapes : List Rect) (labels : List FlatLabel) (n m : Network) → IsNetwork (covered shapes) labels n → IsNetwork (covered shapes) labels m → n ≡ m
+
+-- at most one rule is the first that a mask with labels breaks
+abbrev pub OneFirstOfMask : Type 0
+OneFirstOfMask =
+    (shapes : List Rect) (labels : List FlatLabel) (a b : Broken) → IsFirstOfMask (covered shapes) labels a → IsFirstOfMask (covered shapes) labels b → a ≡ b
+
+-- at most one rule is the first that a network breaks with these pads
+abbrev pub OneFirstOfCircuit : Type 0
+OneFirstOfCircuit = (net : Network) (pads : Pads) (a b : Broken) → IsFirstOfCircuit net pads a → IsFirstOfCircuit net pads b → a ≡ b
 
 -- there are settled values, whatever the channels, the drivers and the values before
 abbrev pub SettledExists : Type 0

@@ -19,14 +19,16 @@ abbrev pub word_labels : List ℕ → ℕ → List (List ℕ)
 word_labels p zero = []
 word_labels p (suc n) = word_labels p n ++ ((p ++ (codes "." ++ decimal n)) ∷ [])
 
--- the labels of a pad's bits, bit 0 first: those of a word by their numbers, and a signal's own name
+-- the labels of a pad of this name and width: those of a word's bits by their numbers, and a signal's own name
 abbrev pub labels_of : List ℕ → ℕ → List (List ℕ)
 labels_of p zero = p ∷ []
 labels_of p (suc w) = word_labels p (suc w)
 
+-- the labels of a pad's bits, bit 0 first
 abbrev pub bit_labels : Pad → List (List ℕ)
 bit_labels pad = labels_of pad.name pad.width
 
+-- the value of a bit
 abbrev pub trit_of : ℕ → Trit
 trit_of zero = Zero
 trit_of (suc n) = One

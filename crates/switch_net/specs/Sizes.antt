@@ -6,6 +6,7 @@ use Rattle.switch_net.specs.declared.network.ChannelKind.{ChannelKind}
 use Rattle.switch_net.specs.declared.network.ChannelKind.TheVariants.{Enhancement, Depletion, Partial}
 use Rattle.switch_net.specs.declared.network.Network.{Network}
 
+-- whether two kinds are one
 abbrev pub same_kind : ChannelKind → ChannelKind → Bool
 same_kind Enhancement Enhancement = true
 same_kind Depletion Depletion = true
@@ -16,6 +17,7 @@ same_kind _ _ = false
 abbrev pub channels_of : Network → ChannelKind → ℕ
 channels_of net kind = count_by (λ c. same_kind kind c.kind) net.channels
 
+-- whether two values are one
 abbrev pub same_value : Trit → Trit → Bool
 same_value Zero Zero = true
 same_value One One = true

@@ -1,7 +1,7 @@
 //! Laws of networks, for the proofs of crates above.
 
 ghost use Rattle.switch_net.specs.Cutting.{ChannelsFollowPieces, ConductorsFollowPieces};
-ghost use Rattle.switch_net.specs.Laws.{OneNetwork, OneNumbering, SettledExists, SettledOnce, SettlesAgain, TraceExists, TraceOnce};
+ghost use Rattle.switch_net.specs.Laws.{OneFirstOfCircuit, OneFirstOfMask, OneNetwork, OneNumbering, SettledExists, SettledOnce, SettlesAgain, TraceExists, TraceOnce};
 
 use lam_geom::rectangles_are_joined;
 
@@ -17,6 +17,12 @@ pub fn pieces_tell_nodes()
 pub fn network_is_determined()
     ensures numbering { OneNumbering }
     ensures network { OneNetwork }
+{}
+
+/// At most one of the rules N1 to N5 is the first that is broken.
+pub fn first_rule_is_determined()
+    ensures mask { OneFirstOfMask }
+    ensures circuit { OneFirstOfCircuit }
 {}
 
 /// Each network has settled values in each setting, exactly one each, and they settle to themselves.

@@ -4,5 +4,8 @@
 mod law;
 mod network;
 
-pub use law::{circuits_run, network_is_determined, networks_settle, pieces_tell_nodes};
+pub use law::{
+    circuits_run, first_rule_is_determined, network_is_determined, networks_settle,
+    pieces_tell_nodes,
+};
 pub use network::{Channel, ChannelKind, Network, Tag};
