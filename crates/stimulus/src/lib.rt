@@ -4,6 +4,7 @@
 mod fault;
 mod form;
 mod given;
+mod law;
 mod lines;
 mod piece;
 mod read;
@@ -12,5 +13,6 @@ mod rules;
 mod transcript;
 
 pub use given::{Given, Stimulus};
+pub use law::one_stimulus;
 pub use read::read_stimulus;
 pub use transcript::line;
