@@ -50,13 +50,16 @@ reads_once known r s t (l ∷ ls) h k =
 
 fits_no_misfit : (inputs : List Pad) (a : Assignment) (g : Given) (k : ℕ) → IsGiven inputs a g → IsMisfit inputs a k → ⊥
 fits_no_misfit inputs a g k h m = elim m [
-    inl none ↦ clash (sym h.named ∙ none.1)
-  | inr big ↦ large inputs g.input big.1 a.name h.named (some (sym h.named ∙ big.2)) h.value (λ p. h.fits p) big.3 ]
+  | inl none ↦ clash (sym h.named ∙ none.1)
+  | inr big ↦ large inputs g.input big.1 a.name h.named (some (sym h.named ∙ big.2)) h.value (λ p. h.fits p) big.3
+]
   where
     clash : {i : ℕ} → Some i ≡ None → ⊥
     clash e = cc
+
     some : {i j : ℕ} → Some i ≡ Some j → i ≡ j
     some e = cc
+
     large : (ps : List Pad) (i j : ℕ) (n : List ℕ) → input_named ps n ≡ Some i → i ≡ j → g.value ≡ a.value → ((p : Pad) → g.value < bound (get_or ps i p)) → ((p : Pad) → bound (get_or ps j p) ≤ a.value) → ⊥
     large [] i j n named e v less most = cc
     large (p ∷ ps) i j n named e v less most = omega (arith, less p, most p, ap (λ m. bound (get_or (p ∷ ps) m p)) e, v)
@@ -81,10 +84,11 @@ line_no known r line t k at h (misfit f room is here m) =
 pub reads_no : (known : Option Pads) (r t : Reading) (ls : List (List Piece)) (k at : ℕ) → Reads known r ls t → FirstBroken known r ls k at → ⊥
 reads_no known r t [] k at h m = m
 reads_no known r t (l ∷ ls) k at h m = elim m [
-    inl here ↦ line_no known r l h.0 k at h.1 here
+  | inl here ↦ line_no known r l h.0 k at h.1 here
   | inr later ↦
       let P : Reading → Type 0 = λ q. FirstBroken known q ls k at in
-      reads_no known h.0 t ls k at h.2 (subst P (adds_once known r l later.0 h.0 later.1 h.1) later.2) ]
+      reads_no known h.0 t ls k at h.2 (subst P (adds_once known r l later.0 h.0 later.1 h.1) later.2)
+]
 
 pub same_readings : (text : List ℕ) (known : Option Pads) (s t : Stimulus) (h : IsStimulus text known s) (k : IsStimulus text known t) → h.reading ≡ k.reading
 same_readings text known s t h k = reads_once known nothing h.reading k.reading (lines text) h.reads k.reads

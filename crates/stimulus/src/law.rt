@@ -14,5 +14,4 @@ pub fn one_stimulus(text: &[u8], known: Option<&Pads>)
     ensures outputs { (s t : Stimulus) → IsStimulus text.now (option_copied known.entry) s → IsStimulus text.now (option_copied known.entry) t → s.pads.outputs ≡ t.pads.outputs }
     ensures clocks { (s t : Stimulus) → IsStimulus text.now (option_copied known.entry) s → IsStimulus text.now (option_copied known.entry) t → s.clocks ≡ t.clocks }
     ensures whole { (s : Stimulus) (k : ℕ) (at : Place) → IsStimulus text.now (option_copied known.entry) s → IsFirst text.now (option_copied known.entry) k at → ⊥ }
-{
-}
+{}
