@@ -23,8 +23,9 @@ has_name name xs = list_any (λ (a : Assignment). bytes_eq name a.name) xs
 pub place_of : {X : Type 0} (p : X → Bool) (xs : List X) (d : X) → list_any p xs ≡ true → (k : ℕ) × (k < length xs) × (p (get_or xs k d) ≡ true)
 place_of p [] d h = absurd (both_ways false refl h)
 place_of p (x ∷ xs) d h = elim (cases_Bool (p x)) [
-    inl e ↦ (0, omega arith, e)
-  | inr e ↦ let rest = place_of p xs d (sym (ap (λ b. b || list_any p xs) e) ∙ h) in (suc rest.0, omega (arith, rest.1), rest.2) ]
+  | inl e ↦ (0, omega arith, e)
+  | inr e ↦ let rest = place_of p xs d (sym (ap (λ b. b || list_any p xs) e) ∙ h) in (suc rest.0, omega (arith, rest.1), rest.2)
+]
 
 pub fails_at : {X : Type 0} (p : X → Bool) (xs : List X) (k : ℕ) (d : X) → list_any p xs ≡ false → k < length xs → p (get_or xs k d) ≡ false
 fails_at p [] k d h lt = absurd (omega arith)
@@ -38,14 +39,15 @@ apart_more xs n x lt is before new i j d less within same =
     let more : length (take (n + 1) xs) ≡ n + 1 = length-take-le (n + 1) xs (omega arith) in
     let first : (get_or (take (n + 1) xs) i d) ≡ get_or (take n xs) i d = get_or-take (n + 1) xs i d (omega arith) ∙ sym (get_or-take n xs i d (omega arith)) in
     elim (cases_lt j n) [
-      inl early ↦ before i j d less (omega (arith, size))
-        (sym (ap (λ a. a.name) first) ∙ same ∙ ap (λ a. a.name) (get_or-take (n + 1) xs j d (omega arith) ∙ sym (get_or-take n xs j d early)))
-    | inr late ↦
-        let at : j ≡ n = omega arith in
-        let last : get_or (take (n + 1) xs) j d ≡ x =
-            get_or-take (n + 1) xs j d (omega arith) ∙ ap (λ k. get_or xs k d) at ∙ default xs n d x lt ∙ sym is in
-        both_ways _ (fails_at (λ (a : Assignment). bytes_eq x.name a.name) (take n xs) i d new (omega (arith, size)))
-            ((bytes_eq-Decides x.name (get_or (take n xs) i d).name).1 (sym (ap (λ a. a.name) last) ∙ sym same ∙ ap (λ a. a.name) first)) ]
+      | inl early ↦ before i j d less (omega (arith, size))
+          (sym (ap (λ a. a.name) first) ∙ same ∙ ap (λ a. a.name) (get_or-take (n + 1) xs j d (omega arith) ∙ sym (get_or-take n xs j d early)))
+      | inr late ↦
+          let at : j ≡ n = omega arith in
+          let last : get_or (take (n + 1) xs) j d ≡ x =
+          get_or-take (n + 1) xs j d (omega arith) ∙ ap (λ k. get_or xs k d) at ∙ default xs n d x lt ∙ sym is in
+          both_ways _ (fails_at (λ (a : Assignment). bytes_eq x.name a.name) (take n xs) i d new (omega (arith, size)))
+          ((bytes_eq-Decides x.name (get_or (take n xs) i d).name).1 (sym (ap (λ a. a.name) last) ∙ sym same ∙ ap (λ a. a.name) first))
+    ]
   where
     default : (ys : List Assignment) (k : ℕ) (e f : Assignment) → k < length ys → get_or ys k e ≡ get_or ys k f
     default [] k e f h = absurd (omega arith)
@@ -72,6 +74,7 @@ seen_more xs n x q key lt is e =
   where
     turned : (a b : List ℕ) → bytes_eq a b ≡ bytes_eq b a
     turned a b = same_from_decides (bytes_eq a b) (bytes_eq b a) (Decides-like (bytes_eq a b) sym sym (bytes_eq-Decides a b)) (bytes_eq-Decides b a)
+
     either : (b c : Bool) → cond b true c ≡ (c || b)
     either true true = refl
     either true false = refl

@@ -31,8 +31,8 @@ part p xs a e le lt before here =
     let back : a + (e - a) ≡ e = omega arith in
     let next : a + suc (e - a) ≡ e + 1 = omega arith in
     cut p (drop a xs) (e - a) (omega (arith, length-drop a xs))
-        (λ k less. ap p (get_or-drop a xs k 0) ∙ before (a + k) (omega arith) (omega arith))
-        (ap p (get_or-drop a xs (e - a) 0) ∙ ap (λ k. p (get_or xs k 0)) back ∙ here)
+    (λ k less. ap p (get_or-drop a xs k 0) ∙ before (a + k) (omega arith) (omega arith))
+    (ap p (get_or-drop a xs (e - a) 0) ∙ ap (λ k. p (get_or xs k 0)) back ∙ here)
     ∙ ap (λ ys. take (e - a) (drop a xs) ∷ slice_split p ys) (drop-drop (suc (e - a)) a xs ∙ ap (λ k. drop k xs) next)
 
 -- the part from a to the end
@@ -48,7 +48,7 @@ length-range xs a e le within = length-take-le (e - a) (drop a xs) (omega (arith
 -- the words, where the part before the others has this length
 filter_part : (at n : ℕ) (part : List ℕ) (more : List Piece) → length part ≡ n
     → filter (λ (w : Piece). nat_lt 0 (length w.bytes)) (record { at = at; bytes = part } ∷ more)
-      ≡ cond (nat_lt 0 n) (record { at = at; bytes = part } ∷ filter (λ (w : Piece). nat_lt 0 (length w.bytes)) more) (filter (λ (w : Piece). nat_lt 0 (length w.bytes)) more)
+    ≡ cond (nat_lt 0 n) (record { at = at; bytes = part } ∷ filter (λ (w : Piece). nat_lt 0 (length w.bytes)) more) (filter (λ (w : Piece). nat_lt 0 (length w.bytes)) more)
 filter_part at n part more e = ap (λ k. cond (nat_lt 0 k) (record { at = at; bytes = part } ∷ filter (λ (w : Piece). nat_lt 0 (length w.bytes)) more) (filter (λ (w : Piece). nat_lt 0 (length w.bytes)) more)) e
 
 -- a part has a byte
@@ -58,7 +58,7 @@ some_part a e le = elim (cases_lt a e) [ inl less ↦ lt-ltb 0 (e - a) (omega ar
 -- the words from a on, where a part ends at e
 pub words_more : (at : ℕ) (line : List ℕ) (a e : ℕ) → a ≤ e → e < length line → ((k : ℕ) → a ≤ k → k < e → is_blank (get_or line k 0) ≡ false) → is_blank (get_or line e 0) ≡ true
     → words_of (at + a) (drop a line)
-      ≡ cond (nat_lt a e) (record { at = at + a; bytes = slice_range line a e } ∷ words_of (at + (e + 1)) (drop (e + 1) line)) (words_of (at + (e + 1)) (drop (e + 1) line))
+    ≡ cond (nat_lt a e) (record { at = at + a; bytes = slice_range line a e } ∷ words_of (at + (e + 1)) (drop (e + 1) line)) (words_of (at + (e + 1)) (drop (e + 1) line))
 words_more at line a e le lt before here =
     let word : Piece = record { at = at + a; bytes = slice_range line a e } in
     let size : length (slice_range line a e) ≡ e - a = length-range line a e le (omega arith) in
@@ -89,7 +89,7 @@ some_parts p (x ∷ xs) = by_case (p x) (some_parts p xs)
 -- the lines from a on, where a line feed stands at e
 pub lines_more : (text : List ℕ) (a e : ℕ) → a ≤ e → e < length text → ((k : ℕ) → a ≤ k → k < e → is_feed (get_or text k 0) ≡ false) → is_feed (get_or text e 0) ≡ true
     → words_of_lines a (slice_split is_feed (drop a text))
-      ≡ kept_before (words_of a (strip_carriage_return (slice_range text a e))) (words_of_lines (e + 1) (slice_split is_feed (drop (e + 1) text)))
+    ≡ kept_before (words_of a (strip_carriage_return (slice_range text a e))) (words_of_lines (e + 1) (slice_split is_feed (drop (e + 1) text)))
 lines_more text a e le lt before here =
     let size : length (slice_range text a e) ≡ e - a = length-range text a e le (omega arith) in
     let next : a + length (slice_range text a e) + 1 ≡ e + 1 = omega (arith, size) in

@@ -47,8 +47,8 @@ no_other inputs a g [] (j ∷ gs) one all apart = absurd all
 no_other inputs a g (x ∷ xs) [] one all apart = absurd all
 no_other inputs a g (x ∷ xs) (j ∷ gs) one all apart =
     or_from (j.input == g.input) (list_any (λ (h : Given). h.input == g.input) gs)
-        (ne_eqb j.input g.input (λ e. apart 0 x (omega arith) (one_name inputs a.name x.name g.input one.named ((all.0).named ∙ ap Some e))))
-        (no_other inputs a g xs gs one all.1 (λ k d lt. apart (suc k) d (omega arith)))
+    (ne_eqb j.input g.input (λ e. apart 0 x (omega arith) (one_name inputs a.name x.name g.input one.named ((all.0).named ∙ ap Some e))))
+    (no_other inputs a g xs gs one all.1 (λ k d lt. apart (suc k) d (omega arith)))
 
 fits_clock : (inputs : List Pad) (xs : List Assignment) (gs : List Given) → AreGiven inputs xs gs → AreApart xs → is_fitting_clock inputs gs ≡ true
 fits_clock inputs [] [] all apart = refl
@@ -56,8 +56,8 @@ fits_clock inputs [] (g ∷ gs) all apart = absurd all
 fits_clock inputs (x ∷ xs) [] all apart = absurd all
 fits_clock inputs (x ∷ xs) (g ∷ gs) all apart =
     and_from _ _ (fits_one inputs x g all.0)
-        (and_from _ _ (not_from_false _ (no_other inputs x g xs gs all.0 all.1 (λ k d lt. apart 0 (suc k) d (omega arith) (omega arith))))
-            (fits_clock inputs xs gs all.1 (λ i j d less lt. apart (suc i) (suc j) d (omega arith) (omega arith))))
+    (and_from _ _ (not_from_false _ (no_other inputs x g xs gs all.0 all.1 (λ k d lt. apart 0 (suc k) d (omega arith) (omega arith))))
+    (fits_clock inputs xs gs all.1 (λ i j d less lt. apart (suc i) (suc j) d (omega arith) (omega arith))))
 
 no_clocks : (r : Reading) (name : List ℕ) → is_new_pad r name ≡ true → r.clocks ≡ []
 no_clocks r name h = nil_from_length r.clocks (eqb-true (length r.clocks) 0 (and_parts _ _ h).0)

@@ -44,20 +44,21 @@ value_more inputs (x ∷ gs) (suc k) g i h lt is =
     let rest = and_parts (not (list_any (λ (y : Given). y.input == x.input) gs)) (is_fitting_clock inputs gs) (and_parts (is_fitting inputs x) _ h).1 in
     let e : suc k + 1 ≡ suc (k + 1) = omega arith in
     let other : (g.input == x.input) ≡ false =
-        ap (λ (y : Given). y.input == x.input) is ∙ fails_at (λ (y : Given). y.input == x.input) gs k g (not-true _ rest.0) (omega arith) in
+    ap (λ (y : Given). y.input == x.input) is ∙ fails_at (λ (y : Given). y.input == x.input) gs k g (not-true _ rest.0) (omega arith) in
     ap (λ n. value_given (take n (x ∷ gs)) i) e
     ∙ ap (λ v. cond (x.input == i) x.value v) (value_more inputs gs k g i rest.1 (omega arith) is)
     ∙ swap (x.input == i) (g.input == i) x.value g.value (value_given (take k gs) i)
-        (λ a b. eqb-false g.input x.input other (eqb-true g.input i b ∙ sym (eqb-true x.input i a)))
+    (λ a b. eqb-false g.input x.input other (eqb-true g.input i b ∙ sym (eqb-true x.input i a)))
 
 -- a value is written where it is given
 pub written : (xs : List ℕ) (inputs : List Pad) (gs : List Given) (k : ℕ) (g : Given) → is_fitting_clock inputs gs ≡ true → k < length gs → g ≡ get_or gs k g → g.input < length xs
     → ((i : ℕ) → i < length xs → get_or xs i 0 ≡ value_given (take k gs) i) → (i : ℕ) → i < length (set xs g.input g.value) → get_or (set xs g.input g.value) i 0 ≡ value_given (take (k + 1) gs) i
 written xs inputs gs k g h lt is within before i less =
     elim (cases_eq i g.input) [
-      inl same ↦
-        ap (λ j. get_or (set xs g.input g.value) j 0) same ∙ get_or-set_same xs g.input g.value 0 within
-        ∙ sym (value_more inputs gs k g i h lt is ∙ cond-true _ _ _ (eq-eqb g.input i (sym same)))
-    | inr other ↦
-        get_or-set_other xs g.input i g.value 0 other ∙ before i (omega (arith, length-set xs g.input g.value))
-        ∙ sym (value_more inputs gs k g i h lt is ∙ cond-false _ _ _ (ne_eqb g.input i (λ e. other (sym e)))) ]
+      | inl same ↦
+          ap (λ j. get_or (set xs g.input g.value) j 0) same ∙ get_or-set_same xs g.input g.value 0 within
+          ∙ sym (value_more inputs gs k g i h lt is ∙ cond-true _ _ _ (eq-eqb g.input i (sym same)))
+      | inr other ↦
+          get_or-set_other xs g.input i g.value 0 other ∙ before i (omega (arith, length-set xs g.input g.value))
+          ∙ sym (value_more inputs gs k g i h lt is ∙ cond-false _ _ _ (ne_eqb g.input i (λ e. other (sym e))))
+    ]

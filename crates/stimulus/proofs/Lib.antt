@@ -5,6 +5,7 @@ pub mod Fitness
 pub mod Giving
 pub mod Naming
 pub mod Numbers
+pub mod Once
 pub mod Stepping
 pub mod Unique
 pub mod Values

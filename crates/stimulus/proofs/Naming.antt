@@ -35,17 +35,20 @@ differ_more [] ys n d other zero (suc j) less lt e = other j (omega arith) (sym 
 differ_more [] ys n d other (suc i) (suc j) less lt e = d i j (omega arith) (omega arith) e
 differ_more (x ∷ xs) ys n d other i zero less lt e = absurd (omega arith)
 differ_more (x ∷ xs) ys n d other zero (suc j) less lt e = elim (member xs ys n j (omega arith)) [
-    inl f ↦ other 0 (omega arith) (e ∙ f)
-  | inr h ↦ d 0 (suc h.0) (omega arith) (omega (arith, h.1)) (e ∙ h.2) ]
+  | inl f ↦ other 0 (omega arith) (e ∙ f)
+  | inr h ↦ d 0 (suc h.0) (omega arith) (omega (arith, h.1)) (e ∙ h.2)
+]
 differ_more (x ∷ xs) ys n d other (suc i) (suc j) less lt e =
     differ_more xs ys n (λ a b l m. d (suc a) (suc b) (omega arith) (omega arith)) (λ k l. other (suc k) (omega arith)) i j (omega arith) (omega arith) e
 
 named_more : (xs ys : List (List ℕ)) (n : List ℕ) → ArePadNames (xs ++ ys) → is_pad_name n ≡ true → ((k : ℕ) → k < length (xs ++ ys) → get_or (xs ++ ys) k [] ≢ n) → ArePadNames (xs ++ n ∷ ys)
 named_more xs ys n old good other = record {
-    each = λ i lt. elim (member xs ys n i lt) [
-        inl e ↦ ap is_pad_name e ∙ good
-      | inr h ↦ ap is_pad_name h.2 ∙ old.each h.0 h.1 ];
-    differ = differ_more xs ys n old.differ other }
+  each = λ i lt. elim (member xs ys n i lt) [
+    | inl e ↦ ap is_pad_name e ∙ good
+    | inr h ↦ ap is_pad_name h.2 ∙ old.each h.0 h.1
+  ];
+  differ = differ_more xs ys n old.differ other;
+}
 
 run_name : (w : List ℕ) → is_name w ≡ true → is_run w ≡ true
 run_name [] h = h
@@ -68,8 +71,9 @@ new_name r name h =
     let c = and_parts _ _ b.1 in
     let d = and_parts _ _ c.1 in
     record {
-        good = λ run. and_from (is_run name) (not (is_reserved name)) (run_name name run) c.0;
-        other = list_any-append (λ (p : Pad). bytes_eq p.name name) r.inputs r.outputs ∙ or_from _ _ (not-true _ d.0) (not-true _ d.1) }
+      good = λ run. and_from (is_run name) (not (is_reserved name)) (run_name name run) c.0;
+      other = list_any-append (λ (p : Pad). bytes_eq p.name name) r.inputs r.outputs ∙ or_from _ _ (not-true _ d.0) (not-true _ d.1);
+    }
 
 abbrev Named : List Pad → List Pad → Type 0
 Named ins outs = ArePadNames (names_of ins outs (λ (p : Pad). p.name))
@@ -79,7 +83,7 @@ input_named r p run new old =
     let f : Pad → List ℕ = λ p. p.name in
     let before : map f (r.inputs ++ r.outputs) ≡ map f r.inputs ++ map f r.outputs = map-append f r.inputs r.outputs in
     let after : map f ((r.inputs ++ p ∷ []) ++ r.outputs) ≡ map f r.inputs ++ p.name ∷ map f r.outputs =
-        ap (map f) (append_assoc r.inputs (p ∷ []) r.outputs) ∙ map-append f r.inputs (p ∷ r.outputs) in
+    ap (map f) (append_assoc r.inputs (p ∷ []) r.outputs) ∙ map-append f r.inputs (p ∷ r.outputs) in
     let P : List (List ℕ) → Type 0 = λ ns. (k : ℕ) → k < length ns → get_or ns k [] ≢ p.name in
     let other : P (map f (r.inputs ++ r.outputs)) = other_names (r.inputs ++ r.outputs) p.name new.other in
     subst ArePadNames (sym after) (named_more (map f r.inputs) (map f r.outputs) p.name (subst ArePadNames before old) (new.good run) (subst P before other))
@@ -89,7 +93,7 @@ output_named r p run new old =
     let f : Pad → List ℕ = λ p. p.name in
     let before : map f (r.inputs ++ r.outputs) ≡ map f (r.inputs ++ r.outputs) ++ [] = sym (append-nil (map f (r.inputs ++ r.outputs))) in
     let after : map f (r.inputs ++ (r.outputs ++ p ∷ [])) ≡ map f (r.inputs ++ r.outputs) ++ p.name ∷ [] =
-        ap (map f) (sym (append_assoc r.inputs r.outputs (p ∷ []))) ∙ map_push f (r.inputs ++ r.outputs) p in
+    ap (map f) (sym (append_assoc r.inputs r.outputs (p ∷ []))) ∙ map_push f (r.inputs ++ r.outputs) p in
     let P : List (List ℕ) → Type 0 = λ ns. (k : ℕ) → k < length ns → get_or ns k [] ≢ p.name in
     let other : P (map f (r.inputs ++ r.outputs)) = other_names (r.inputs ++ r.outputs) p.name new.other in
     subst ArePadNames (sym after) (named_more (map f (r.inputs ++ r.outputs)) [] p.name (subst ArePadNames before old) (new.good run) (subst P before other))

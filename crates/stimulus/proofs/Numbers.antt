@@ -60,14 +60,16 @@ name_ends w name digits i e all lt here after = elim (cases_order i (length name
   where
     size : length w ≡ length name + suc (length digits)
     size = ap length e ∙ length-append name (61 ∷ digits)
+
     early : i < length name → ⊥
     early less = after (length name) less (omega (arith, size)) (ap (λ ys. get_or ys (length name) 0) e ∙ get_or_at name 61 digits 0 (length name) refl)
+
     late : length name < i → ⊥
     late more =
         let step : i - length name ≡ suc (i - length name - 1) = omega arith in
         let digit = digit_at digits (i - length name - 1) all (omega (arith, size)) in
         let is : get_or digits (i - length name - 1) 0 ≡ 61 =
-            sym (ap (λ k. get_or (61 ∷ digits) k 0) step) ∙ sym (get_or-append_right name (61 ∷ digits) (length name) i 0 refl (omega arith)) ∙ sym (ap (λ ys. get_or ys i 0) e) ∙ here in
+        sym (ap (λ k. get_or (61 ∷ digits) k 0) step) ∙ sym (get_or-append_right name (61 ∷ digits) (length name) i 0 refl (omega arith)) ∙ sym (ap (λ ys. get_or ys i 0) e) ∙ here in
         omega (arith, digit.1, is)
 
 -- what a word gives is what stands round its last `=`
@@ -78,7 +80,7 @@ assigned w a i h lt here after =
     let front : take i w.bytes ≡ a.name = ap (take i) h.parts ∙ take_at a.name (61 ∷ h.digits) i ends in
     let split : a.name ++ 61 ∷ h.digits ≡ (a.name ++ 61 ∷ []) ++ h.digits = again a.name h.digits in
     let back : drop (i + 1) w.bytes ≡ h.digits =
-        ap (drop (i + 1)) (h.parts ∙ split) ∙ drop_at (a.name ++ 61 ∷ []) h.digits (i + 1) (length-append a.name (61 ∷ []) ∙ ap (λ n. n + 1) ends) in
+    ap (drop (i + 1)) (h.parts ∙ split) ∙ drop_at (a.name ++ 61 ∷ []) h.digits (i + 1) (length-append a.name (61 ∷ []) ∙ ap (λ n. n + 1) ends) in
     let P : List ℕ → Type 0 = λ ds. IsNumber ds a.value in
     (ap is_name front ∙ h.name, subst P (sym back) h.number)
   where
@@ -91,14 +93,14 @@ pub assigned_in : (w : Piece) (a : Assignment) (bytes : List ℕ) (i : ℕ) → 
     → ((k : ℕ) → i < k → k < length bytes → get_or bytes k 0 ≢ 61) → (is_name (take i bytes) ≡ true) × IsNumber (drop (i + 1) bytes) a.value
 assigned_in w a bytes i e =
     let P : List ℕ → Type 0 = λ bs. IsAssignment w a → i < length bs → get_or bs i 0 ≡ 61 → ((k : ℕ) → i < k → k < length bs → get_or bs k 0 ≢ 61)
-        → (is_name (take i bs) ≡ true) × IsNumber (drop (i + 1) bs) a.value in
+    → (is_name (take i bs) ≡ true) × IsNumber (drop (i + 1) bs) a.value in
     subst P (sym e) (assigned w a i)
 
 -- a word that gives a value has a `=`
 pub has_equals : (w : Piece) (a : Assignment) (bytes : List ℕ) → bytes ≡ w.bytes → IsAssignment w a → ((k : ℕ) → k < length bytes → get_or bytes k 0 ≢ 61) → ⊥
 has_equals w a bytes e h without =
     without (length a.name) (omega (arith, ap length (e ∙ h.parts) ∙ length-append a.name (61 ∷ h.digits)))
-        (ap (λ ys. get_or ys (length a.name) 0) (e ∙ h.parts) ∙ get_or_at a.name 61 h.digits 0 (length a.name) refl)
+    (ap (λ ys. get_or ys (length a.name) 0) (e ∙ h.parts) ∙ get_or_at a.name 61 h.digits 0 (length a.name) refl)
 
 -- one word more
 pub assignments_push : (ws : List Piece) (w : Piece) (xs : List Assignment) (x : Assignment) → AreAssignments ws xs → IsAssignment w x → AreAssignments (ws ++ w ∷ []) (xs ++ x ∷ [])

@@ -19,7 +19,7 @@ others w a h k more lt same =
     let step : k - length a.name ≡ suc (k - length a.name - 1) = omega arith in
     let digit = digit_at h.digits (k - length a.name - 1) ((h.number).0).1 (omega (arith, size)) in
     let is : get_or h.digits (k - length a.name - 1) 0 ≡ 61 =
-        sym (ap (λ j. get_or (61 ∷ h.digits) j 0) step) ∙ sym (get_or-append_right a.name (61 ∷ h.digits) (length a.name) k 0 refl (omega arith)) ∙ sym (ap (λ ys. get_or ys k 0) h.parts) ∙ same in
+    sym (ap (λ j. get_or (61 ∷ h.digits) j 0) step) ∙ sym (get_or-append_right a.name (61 ∷ h.digits) (length a.name) k 0 refl (omega arith)) ∙ sym (ap (λ ys. get_or ys k 0) h.parts) ∙ same in
     omega (arith, digit.1, is)
 
 same_assignment : (a b : Assignment) → a.at ≡ b.at → a.name ≡ b.name → a.value ≡ b.value → a ≡ b

@@ -33,15 +33,17 @@ take_past (x ∷ xs) ys n =
 -- a text behind what was written
 pub wrote_then : {T E : Type 0} (a b c : Option (List ℕ)) (xs ys : List ℕ) (r : Result T E) → Wrote a b xs → TakesAll {T = T} {E = E} Gains b c ys r → TakesAll {T = T} {E = E} Gains a c (xs ++ ys) r
 wrote_then {T} {E} a b c xs ys r h k = record {
-    count = length xs + k.count;
-    within = omega (arith, length-append xs ys, k.within);
-    all = whole r k.all;
-    cut = part r k.cut;
-    taken = let P : List ℕ → Type 0 = λ t. Wrote a c t in subst P (sym (take_past xs ys k.count)) (wrote_more a b c xs (take k.count ys) h k.taken) }
+  count = length xs + k.count;
+  within = omega (arith, length-append xs ys, k.within);
+  all = whole r k.all;
+  cut = part r k.cut;
+  taken = let P : List ℕ → Type 0 = λ t. Wrote a c t in subst P (sym (take_past xs ys k.count)) (wrote_more a b c xs (take k.count ys) h k.taken);
+}
   where
     whole : (q : Result T E) → OnOk q (k.count ≡ length ys) → OnOk q (length xs + k.count ≡ length (xs ++ ys))
     whole (Ok u) e = omega (arith, e, length-append xs ys)
     whole (Err f) e = e
+
     part : (q : Result T E) → OnErr q (k.count < length ys) → OnErr q (length xs + k.count < length (xs ++ ys))
     part (Ok u) e = e
     part (Err f) e = omega (arith, e, length-append xs ys)
@@ -49,11 +51,12 @@ wrote_then {T} {E} a b c xs ys r h k = record {
 -- a text that was cut short, before another
 pub cut_before : {T E : Type 0} (a b : Option (List ℕ)) (xs ys : List ℕ) (e f : E) → TakesAll {T = T} {E = E} Gains a b xs (Err e) → TakesAll {T = T} {E = E} Gains a b (xs ++ ys) (Err f)
 cut_before a b xs ys e f h = record {
-    count = h.count;
-    within = omega (arith, length-append xs ys, h.within);
-    all = h.all;
-    cut = omega (arith, length-append xs ys, h.cut);
-    taken = let P : List ℕ → Type 0 = λ t. Wrote a b t in subst P (sym (take-append-le h.count xs ys h.within)) h.taken }
+  count = h.count;
+  within = omega (arith, length-append xs ys, h.within);
+  all = h.all;
+  cut = omega (arith, length-append xs ys, h.cut);
+  taken = let P : List ℕ → Type 0 = λ t. Wrote a b t in subst P (sym (take-append-le h.count xs ys h.within)) h.taken;
+}
 
 -- faults behind calls that met none
 pub cause_then : {T E : Type 0} (a b c : ℕ) (e f : E) → b ≡ a → HasCause {T = T} {E = E} b c (Err e) → HasCause {T = T} {E = E} a c (Err f)

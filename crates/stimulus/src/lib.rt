@@ -4,13 +4,17 @@
 mod fault;
 mod form;
 mod given;
+mod law;
 mod lines;
 mod piece;
 mod read;
 mod reading;
 mod rules;
+#[cfg(test)]
+mod tests;
 mod transcript;
 
 pub use given::{Given, Stimulus};
+pub use law::one_stimulus;
 pub use read::read_stimulus;
 pub use transcript::line;

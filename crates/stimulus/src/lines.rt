@@ -7,7 +7,7 @@ ghost use Rattle.stimulus.specs.Rules.{is_new_pad, is_known, IsFull, start_of, s
 ghost use Rattle.stimulus.specs.Reading.{nothing};
 
 use crate::fault::Fault;
-use crate::form::{is_clock, read_form, Assignment, Form};
+use crate::form::{Assignment, Form, is_clock, read_form};
 use crate::given::Given;
 use crate::piece::Piece;
 use crate::reading::Reading;
@@ -16,6 +16,7 @@ use mp_base::{List, Pad, Pads};
 use std::alloc::Global;
 
 const CLOCKS: usize = 65536;
+
 const PADS: usize = 256;
 
 fn start_of(line: &[Piece]) -> u32
@@ -148,7 +149,13 @@ impl Reading {
         Ok(())
     }
 
-    fn add_clock(&mut self, alloc: Global, line: &[Piece], words: List<Assignment>, known: Option<&Pads>) -> Result<(), Fault>
+    fn add_clock(
+        &mut self,
+        alloc: Global,
+        line: &[Piece],
+        words: List<Assignment>,
+        known: Option<&Pads>,
+    ) -> Result<(), Fault>
         requires { length (inputs_of (option_copied known) self.old) < 2 ^ 32 }
         ensures ok { OnOk result (IsInPlace self.old (Clock words) × AddsForm (option_copied known.entry) self.old (Clock words) self.new) }
         ensures err { IfErr result (λ e. IsFault e (FormFault (option_copied known.entry) self.old line.now (Clock words))) }
@@ -162,7 +169,12 @@ impl Reading {
     }
 
     /// Adds what a line of these words says, and says else which rule it breaks first.
-    pub(crate) fn add(&mut self, alloc: Global, line: &[Piece], known: Option<&Pads>) -> Result<(), Fault>
+    pub(crate) fn add(
+        &mut self,
+        alloc: Global,
+        line: &[Piece],
+        known: Option<&Pads>,
+    ) -> Result<(), Fault>
         requires { length (inputs_of (option_copied known) self.old) < 2 ^ 32 }
         ensures ok { OnOk result (Adds (option_copied known.entry) self.old line.now self.new) }
         ensures err { IfErr result (λ e. IsFault e (FirstIn (option_copied known.entry) self.old line.now)) }

@@ -14,7 +14,7 @@ ghost use Rattle.stimulus.specs.Fitting.{are_fitting};
 
 use crate::fault::Fault;
 use crate::given::Stimulus;
-use crate::piece::{is_skipped, line_end, without_return, words_of, Piece};
+use crate::piece::{Piece, is_skipped, line_end, without_return, words_of};
 use crate::reading::Reading;
 use mp_base::{Broken, Family, List, Name, Pad, Pads, Place, Refusal, Rule, Spot};
 use std::alloc::{AllocError, Global};
@@ -26,7 +26,11 @@ fn line_at(text: &[u8], start: usize, end: usize) -> &[u8]
     ensures { result.now ≡ cond (nat_lt end (length text.now)) (strip_carriage_return (slice_range text.now start end)) (slice_range text.now start end) }
 {
     let line = &text[start..end];
-    if end < text.len() { without_return(line) } else { line }
+    if end < text.len() {
+        without_return(line)
+    } else {
+        line
+    }
 }
 
 /// Adds what a line says, unless it is skipped.
@@ -109,14 +113,22 @@ fn copy_pads(alloc: Global, pads: &Pads) -> Result<Pads, AllocError>
 }
 
 /// The stimulus of what was read.
-fn stimulus_of(alloc: Global, reading: Reading, known: Option<&Pads>) -> Result<Stimulus, AllocError>
+fn stimulus_of(
+    alloc: Global,
+    reading: Reading,
+    known: Option<&Pads>,
+) -> Result<Stimulus, AllocError>
     requires named { ArePadNames (names_of reading.inputs reading.outputs (λ pad. pad.name)) }
     requires fitting { are_fitting (inputs_of (option_copied known) reading) reading.clocks ≡ true }
     ensures inputs { IfOk result (λ s. s.pads.inputs ≡ inputs_of (option_copied known.entry) reading) }
     ensures outputs { IfOk result (λ s. s.pads.outputs ≡ outputs_of (option_copied known.entry) reading) }
     ensures clocks { IfOk result (λ s. s.clocks ≡ reading.clocks) }
 {
-    let Reading { inputs, outputs, clocks } = reading;
+    let Reading {
+        inputs,
+        outputs,
+        clocks,
+    } = reading;
     match known {
         Some(pads) => {
             let pads = copy_pads(alloc, pads)?;

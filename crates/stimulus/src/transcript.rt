@@ -41,7 +41,12 @@ fn write_pad<O: Sink>(out: &mut O, pad: &Pad, value: TritWord) -> Result<(), Fai
 
 /// Writes the line of a clock: its number, and ` NAME=VALUE` for each output pad, where the value is `X`
 /// if one of its bits is unknown.
-pub fn line<O: Sink>(clock: u32, pads: &Pads, values: &TritOutputs, out: &mut O) -> Result<(), Failed>
+pub fn line<O: Sink>(
+    clock: u32,
+    pads: &Pads,
+    values: &TritOutputs,
+    out: &mut O,
+) -> Result<(), Failed>
     requires { length values.now ≡ length pads.now.outputs }
     ensures taken { TakesAll Gains (O.held out.old) (O.held out.new) (line_text clock pads.now values.now) result }
     ensures cause { HasCause (O.faults out.old) (O.faults out.new) result }

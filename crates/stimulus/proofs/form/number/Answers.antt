@@ -29,9 +29,10 @@ loop-digit-preserved c =
     let is : is_digit (get_or c.args.digits.now c.loop-digit.digit-index 0) ≡ true = sym c.is_digit.ensures ∙ c.if-not-is_digit.false in
     let value = more_value c.args.digits.now c.loop-digit.digit-index c.loop-digit-test.true is in
     record {
-        digits = more_digits c.args.digits.now c.loop-digit.digit-index c.loop-digit-test.true is c.loop-digit.invariant.digits;
-        number = omega (arith, value, c.in_ok-checked_mul.ensures, c.in_ok-number.ensures, c.loop-digit.invariant.number);
-        below = search rules }
+      digits = more_digits c.args.digits.now c.loop-digit.digit-index c.loop-digit-test.true is c.loop-digit.invariant.digits;
+      number = omega (arith, value, c.in_ok-checked_mul.ensures, c.in_ok-number.ensures, c.loop-digit.invariant.number);
+      below = search rules;
+    }
 
 pub returns : goal.returns
 returns c =

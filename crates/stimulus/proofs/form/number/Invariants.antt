@@ -4,6 +4,7 @@ use Rattle.stimulus.proofs.form.number.Given as goal
 
 abbrev pub invariant-loop-digit : goal.invariant-loop-digit
 invariant-loop-digit l = record {
-    digits : AllDigits 10 (take l.digit-index l.digits);
-    number : l.number ≡ digits_value 10 (take l.digit-index l.digits);
-    below : l.number < 2 ^ 64 }
+  digits : AllDigits 10 (take l.digit-index l.digits);
+  number : l.number ≡ digits_value 10 (take l.digit-index l.digits);
+  below : l.number < 2 ^ 64;
+}

@@ -22,7 +22,7 @@ loop-word-preserved c =
     let here : IsAssignment c.word-item.result c.in-Some.one = subst P c.in-Some.is found in
     let pushed : c.push.new.self ≡ c.loop-word.all ++ c.in-Some.one ∷ [] = c.in_ok-push.ensures.ok in
     let front : take (c.loop-word.word-index + 1) c.args.words.now ≡ take c.loop-word.word-index c.args.words.now ++ c.word-item.result ∷ [] =
-        take_more c.args.words.now c.loop-word.word-index c.word-item.result c.loop-word-test.true ∙ ap (λ w. take c.loop-word.word-index c.args.words.now ++ w ∷ []) (sym c.word-item.is) in
+    take_more c.args.words.now c.loop-word.word-index c.word-item.result c.loop-word-test.true ∙ ap (λ w. take c.loop-word.word-index c.args.words.now ++ w ∷ []) (sym c.word-item.is) in
     let Q : List Piece → Type 0 = λ ws. AreAssignments ws c.push.new.self in
     let R : List Assignment → Type 0 = λ xs. AreAssignments (take c.loop-word.word-index c.args.words.now ++ c.word-item.result ∷ []) xs in
     subst Q (sym front) (subst R (sym pushed) (assignments_push (take c.loop-word.word-index c.args.words.now) c.word-item.result c.loop-word.all c.in-Some.one c.loop-word.invariant here))

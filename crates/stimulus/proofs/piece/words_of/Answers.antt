@@ -28,13 +28,14 @@ returns-then-end-line c =
     let e : ℕ = c.word_end-end.result in
     let word : Piece = record { at = at + a; bytes = slice_range line a e } in
     let new : c.if-start-end.words ≡ cond (nat_lt a e) (c.parts.words ++ word ∷ []) c.parts.words =
-        elim c.if-start-end.branch [
-          then-start-end+in_ok-bytes+in_ok-push w ↦
-            let made : w.push.new.self ≡ c.parts.words ++ record { at = at + a; bytes = w.in_ok-bytes.bytes } ∷ [] = w.in_ok-push.ensures.ok in
-            let bytes : w.in_ok-bytes.bytes ≡ slice_range line a e = w.in_ok-bytes.ensures in
-            pushed_word c.parts.words c.if-start-end.words a e word w.if-start-end.true
-                (w.words-is ∙ made ∙ ap (λ (bs : List ℕ). c.parts.words ++ record { at = at + a; bytes = bs } ∷ []) bytes)
-        | else-start-end w ↦ pushed_none c.parts.words c.if-start-end.words a e word w.if-start-end.false w.words-is ] in
+    elim c.if-start-end.branch [
+      | then-start-end+in_ok-bytes+in_ok-push w ↦
+          let made : w.push.new.self ≡ c.parts.words ++ record { at = at + a; bytes = w.in_ok-bytes.bytes } ∷ [] = w.in_ok-push.ensures.ok in
+          let bytes : w.in_ok-bytes.bytes ≡ slice_range line a e = w.in_ok-bytes.ensures in
+          pushed_word c.parts.words c.if-start-end.words a e word w.if-start-end.true
+          (w.words-is ∙ made ∙ ap (λ (bs : List ℕ). c.parts.words ++ record { at = at + a; bytes = bs } ∷ []) bytes)
+      | else-start-end w ↦ pushed_none c.parts.words c.if-start-end.words a e word w.if-start-end.false w.words-is
+    ] in
     sym (append-nil c.if-start-end.words)
     ∙ pushed c.parts.words c.if-start-end.words [] (nat_lt a e) word new
     ∙ ap (λ ys. c.parts.words ++ ys) (sym (words_last at line a e c.word_end-end.ensures.after c.if-end-line.true c.word_end-end.ensures.part))
@@ -48,17 +49,19 @@ parts-preserved c =
     let e : ℕ = c.word_end-end.result in
     let word : Piece = record { at = at + a; bytes = slice_range line a e } in
     let new : c.if-start-end.words ≡ cond (nat_lt a e) (c.parts.words ++ word ∷ []) c.parts.words =
-        elim c.if-start-end.branch [
-          then-start-end+in_ok-bytes+in_ok-push w ↦
-            let made : w.push.new.self ≡ c.parts.words ++ record { at = at + a; bytes = w.in_ok-bytes.bytes } ∷ [] = w.in_ok-push.ensures.ok in
-            let bytes : w.in_ok-bytes.bytes ≡ slice_range line a e = w.in_ok-bytes.ensures in
-            pushed_word c.parts.words c.if-start-end.words a e word w.if-start-end.true
-                (w.words-is ∙ made ∙ ap (λ (bs : List ℕ). c.parts.words ++ record { at = at + a; bytes = bs } ∷ []) bytes)
-        | else-start-end w ↦ pushed_none c.parts.words c.if-start-end.words a e word w.if-start-end.false w.words-is ] in
+    elim c.if-start-end.branch [
+      | then-start-end+in_ok-bytes+in_ok-push w ↦
+          let made : w.push.new.self ≡ c.parts.words ++ record { at = at + a; bytes = w.in_ok-bytes.bytes } ∷ [] = w.in_ok-push.ensures.ok in
+          let bytes : w.in_ok-bytes.bytes ≡ slice_range line a e = w.in_ok-bytes.ensures in
+          pushed_word c.parts.words c.if-start-end.words a e word w.if-start-end.true
+          (w.words-is ∙ made ∙ ap (λ (bs : List ℕ). c.parts.words ++ record { at = at + a; bytes = bs } ∷ []) bytes)
+      | else-start-end w ↦ pushed_none c.parts.words c.if-start-end.words a e word w.if-start-end.false w.words-is
+    ] in
     let less : e < length line = omega (arith, c.word_end-end.ensures.within, c.if-end-line.false) in
     record {
-        within = omega (arith, less);
-        words =
-            pushed c.parts.words c.if-start-end.words (words_of (at + (e + 1)) (drop (e + 1) line)) (nat_lt a e) word new
-            ∙ ap (λ ys. c.parts.words ++ ys) (sym (words_more at line a e c.word_end-end.ensures.after less c.word_end-end.ensures.part (c.word_end-end.ensures.stop less)))
-            ∙ c.parts.invariant.words }
+      within = omega (arith, less);
+      words =
+          pushed c.parts.words c.if-start-end.words (words_of (at + (e + 1)) (drop (e + 1) line)) (nat_lt a e) word new
+          ∙ ap (λ ys. c.parts.words ++ ys) (sym (words_more at line a e c.word_end-end.ensures.after less c.word_end-end.ensures.part (c.word_end-end.ensures.stop less)))
+          ∙ c.parts.invariant.words;
+    }

@@ -24,17 +24,18 @@ broken_first : (K : Option Pads) (r : Reading) (text : List ℕ) (a e : ℕ) (ws
 broken_first K r text a e ws le within part stop is k at h =
     let P : List (List Piece) → Type 0 = λ ls. FirstBroken K r ls k at in
     elim (cases_lt e (length text)) [
-      inl less ↦
-        let more : List (List Piece) = words_of_lines (e + 1) (slice_split is_feed (drop (e + 1) text)) in
-        let line : ws ≡ words_of a (strip_carriage_return (slice_range text a e)) = is ∙ ap (words_of a) (cond-true _ _ _ (lt-ltb e (length text) less)) in
-        let rest : words_of_lines a (slice_split is_feed (drop a text)) ≡ kept_before ws more =
-            lines_more text a e le less part (stop less) ∙ ap (λ vs. kept_before vs more) (sym line) in
-        subst P (sym rest) (broken_here K r ws more k at h)
-    | inr end ↦
-        let line : ws ≡ words_of a (slice_range text a e) = is ∙ ap (words_of a) (cond-false _ _ _ (le-ltb e (length text) end)) in
-        let rest : words_of_lines a (slice_split is_feed (drop a text)) ≡ kept_before ws [] =
-            lines_last text a e le (omega arith) part ∙ ap (λ vs. kept_before vs []) (sym line) in
-        subst P (sym rest) h ]
+      | inl less ↦
+          let more : List (List Piece) = words_of_lines (e + 1) (slice_split is_feed (drop (e + 1) text)) in
+          let line : ws ≡ words_of a (strip_carriage_return (slice_range text a e)) = is ∙ ap (words_of a) (cond-true _ _ _ (lt-ltb e (length text) less)) in
+          let rest : words_of_lines a (slice_split is_feed (drop a text)) ≡ kept_before ws more =
+          lines_more text a e le less part (stop less) ∙ ap (λ vs. kept_before vs more) (sym line) in
+          subst P (sym rest) (broken_here K r ws more k at h)
+      | inr end ↦
+          let line : ws ≡ words_of a (slice_range text a e) = is ∙ ap (words_of a) (cond-false _ _ _ (le-ltb e (length text) end)) in
+          let rest : words_of_lines a (slice_split is_feed (drop a text)) ≡ kept_before ws [] =
+          lines_last text a e le (omega arith) part ∙ ap (λ vs. kept_before vs []) (sym line) in
+          subst P (sym rest) h
+    ]
 
 -- the pads that are known or read are few
 pub add_line-requires : goal.add_line-requires
@@ -51,7 +52,7 @@ returns-in_err-add_line-clause-err c =
     let words : c.in_ok-words.words ≡ words_of a c.line_at.result.now = c.in_ok-words.ensures in
     let bad : IsFault c.in_err-add_line.field-0.0 (FirstBroken K c.lines.reading (kept_before ws [])) = c.in_err-add_line.ensures.err in
     let here = broken_first K c.lines.reading text a e ws c.line_end-end.ensures.after c.line_end-end.ensures.within c.line_end-end.ensures.part c.line_end-end.ensures.stop
-        (c.as_slice.ensures ∙ words ∙ ap (words_of a) c.line_at.ensures) in
+    (c.as_slice.ensures ∙ words ∙ ap (words_of a) c.line_at.ensures) in
     rw (p.1, p.2) (fault_at c.in_err-add_line.field-0.0 _ _ (λ k at h. c.lines.invariant.breaks k at (here k at h)) bad)
 
 pub returns-then-end-text-clause-ok : goal.returns-then-end-text-clause-ok
@@ -63,8 +64,8 @@ returns-then-end-text-clause-ok c =
     let words : c.in_ok-words.words ≡ words_of a c.line_at.result.now = c.in_ok-words.ensures in
     let this : Reads (option_copied c.args.known) c.lines.reading (kept_before c.as_slice.result.now []) c.add_line.new.reading = c.in_ok-add_line.ensures.ok in
     let rest : words_of_lines a (slice_split is_feed (drop a text)) ≡ kept_before c.as_slice.result.now [] =
-        lines_last text a e c.line_end-end.ensures.after c.if-end-text.true c.line_end-end.ensures.part
-        ∙ ap (λ ws. kept_before ws []) (sym (c.as_slice.ensures ∙ words ∙ ap (words_of a) bytes)) in
+    lines_last text a e c.line_end-end.ensures.after c.if-end-text.true c.line_end-end.ensures.part
+    ∙ ap (λ ws. kept_before ws []) (sym (c.as_slice.ensures ∙ words ∙ ap (words_of a) bytes)) in
     let P : List (List Piece) → Type 0 = λ ls. Reads (option_copied c.args.known) c.lines.reading ls c.add_line.new.reading in
     c.lines.invariant.reads c.add_line.new.reading (subst P (sym rest) this)
 
@@ -80,14 +81,15 @@ lines-preserved c =
     let this : Reads K c.lines.reading (kept_before c.as_slice.result.now []) c.add_line.new.reading = c.in_ok-add_line.ensures.ok in
     let more : List (List Piece) = words_of_lines (e + 1) (slice_split is_feed (drop (e + 1) text)) in
     let rest : words_of_lines a (slice_split is_feed (drop a text)) ≡ kept_before c.as_slice.result.now more =
-        lines_more text a e c.line_end-end.ensures.after less c.line_end-end.ensures.part (c.line_end-end.ensures.stop less)
-        ∙ ap (λ ws. kept_before ws more) (sym (c.as_slice.ensures ∙ words ∙ ap (words_of a) bytes)) in
+    lines_more text a e c.line_end-end.ensures.after less c.line_end-end.ensures.part (c.line_end-end.ensures.stop less)
+    ∙ ap (λ ws. kept_before ws more) (sym (c.as_slice.ensures ∙ words ∙ ap (words_of a) bytes)) in
     record {
-        within = omega (arith, less);
-        few = few_more K c.lines.reading c.add_line.new.reading (kept_before c.as_slice.result.now []) this c.lines.invariant.few;
-        reads = λ t h. c.lines.invariant.reads t
-            (let P : List (List Piece) → Type 0 = λ ls. Reads K c.lines.reading ls t in
-            subst P (sym rest) (reads_more K c.lines.reading c.add_line.new.reading t c.as_slice.result.now more this h));
-        breaks = λ k at h. c.lines.invariant.breaks k at
-            (let P : List (List Piece) → Type 0 = λ ls. FirstBroken K c.lines.reading ls k at in
-            subst P (sym rest) (broken_later K c.lines.reading c.add_line.new.reading c.as_slice.result.now more k at this h)) }
+      within = omega (arith, less);
+      few = few_more K c.lines.reading c.add_line.new.reading (kept_before c.as_slice.result.now []) this c.lines.invariant.few;
+      reads = λ t h. c.lines.invariant.reads t
+          (let P : List (List Piece) → Type 0 = λ ls. Reads K c.lines.reading ls t in
+          subst P (sym rest) (reads_more K c.lines.reading c.add_line.new.reading t c.as_slice.result.now more this h));
+      breaks = λ k at h. c.lines.invariant.breaks k at
+          (let P : List (List Piece) → Type 0 = λ ls. FirstBroken K c.lines.reading ls k at in
+          subst P (sym rest) (broken_later K c.lines.reading c.add_line.new.reading c.as_slice.result.now more k at this h));
+    }

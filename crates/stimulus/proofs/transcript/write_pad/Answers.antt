@@ -33,7 +33,7 @@ returns-in_err-write_all-3-clause-taken g c =
     let P : List ℕ → Type 0 = λ t. Wrote h1 h2 t in
     let named : P name = subst P c.bytes.ensures (wrote_all h1 h2 c.bytes.result.now c.in_ok-write_all-2.field-0 c.in_ok-write_all-2.ensures.taken) in
     rw (p.1) (wrote_then h0 h1 h3 (32 ∷ []) (name ++ 61 ∷ value) (Err p.0) blank
-        (wrote_then h1 h2 h3 name (61 ∷ value) (Err p.0) named (cut_before h2 h3 (61 ∷ []) value c.in_err-write_all-3.field-0.0 p.0 c.in_err-write_all-3.ensures.taken)))
+    (wrote_then h1 h2 h3 name (61 ∷ value) (Err p.0) named (cut_before h2 h3 (61 ∷ []) value c.in_err-write_all-3.field-0.0 p.0 c.in_err-write_all-3.ensures.taken)))
 
 pub returns-clause-taken : goal.returns-clause-taken
 returns-clause-taken g c =
@@ -49,4 +49,4 @@ returns-clause-taken g c =
     let named : P name = subst P c.bytes.ensures (wrote_all h1 h2 c.bytes.result.now c.in_ok-write_all-2.field-0 c.in_ok-write_all-2.ensures.taken) in
     let sign : Wrote h2 h3 (61 ∷ []) = wrote_all h2 h3 (61 ∷ []) c.in_ok-write_all-3.field-0 c.in_ok-write_all-3.ensures.taken in
     wrote_then h0 h1 h4 (32 ∷ []) (name ++ 61 ∷ value) c.write_value.result blank
-        (wrote_then h1 h2 h4 name (61 ∷ value) c.write_value.result named (wrote_then h2 h3 h4 (61 ∷ []) value c.write_value.result sign c.write_value.ensures.taken))
+    (wrote_then h1 h2 h4 name (61 ∷ value) c.write_value.result named (wrote_then h2 h3 h4 (61 ∷ []) value c.write_value.result sign c.write_value.ensures.taken))

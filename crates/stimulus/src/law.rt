@@ -1,0 +1,17 @@
+//! What the definitions say of every text.
+
+ghost use Rattle.std.specs.Prelude.{◌≡◌, ℕ};
+ghost use Rattle.std.specs.Option.{option_copied};
+ghost use Rattle.mp_base.specs.declared.refusal.Place.{Place};
+ghost use Rattle.stimulus.specs.declared.given.Stimulus.{Stimulus};
+ghost use Rattle.stimulus.specs.Reading.{IsStimulus, IsFirst};
+
+use mp_base::Pads;
+
+/// A text spells at most one stimulus, and where it spells one it breaks no rule.
+pub fn one_stimulus(text: &[u8], known: Option<&Pads>)
+    ensures inputs { (s t : Stimulus) → IsStimulus text.now (option_copied known.entry) s → IsStimulus text.now (option_copied known.entry) t → s.pads.inputs ≡ t.pads.inputs }
+    ensures outputs { (s t : Stimulus) → IsStimulus text.now (option_copied known.entry) s → IsStimulus text.now (option_copied known.entry) t → s.pads.outputs ≡ t.pads.outputs }
+    ensures clocks { (s t : Stimulus) → IsStimulus text.now (option_copied known.entry) s → IsStimulus text.now (option_copied known.entry) t → s.clocks ≡ t.clocks }
+    ensures whole { (s : Stimulus) (k : ℕ) (at : Place) → IsStimulus text.now (option_copied known.entry) s → IsFirst text.now (option_copied known.entry) k at → ⊥ }
+{}
