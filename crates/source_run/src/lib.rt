@@ -6,6 +6,7 @@ mod link;
 mod links;
 mod machine;
 mod seat;
+mod seats;
 mod settle;
 mod step;
 mod value;

@@ -1,0 +1,44 @@
+//! The places and moves of all processes.
+
+ghost use Rattle.std.specs.Prelude.{◌≡◌, ◌<◌, length, map};
+ghost use Rattle.std.specs.List.{AllByRecursion};
+ghost use Rattle.mp_program.specs.State.{SeatsFit, places_taken};
+ghost use Rattle.mp_program.specs.Step.{next_seats};
+ghost use Rattle.source_run.specs.Linked.{AreLinks};
+ghost use Rattle.source_run.specs.Remembered.{seat_of};
+
+use crate::jump::jump_of;
+use crate::link::Links;
+use crate::seat::Seat;
+use mp_program::{Process, Program};
+
+/// Gives the active form of each process.
+pub(crate) fn take_places(processes: &[Process], seats: &[Seat], places: &mut [u32])
+    requires seats { SeatsFit processes.now (map seat_of seats.now) }
+    requires size { length places.old ≡ length processes.now }
+    ensures { places.new ≡ places_taken processes.now (map seat_of seats.now) }
+{
+    for (i, process) in processes.iter().enumerate() {
+        places[i] = process.forms.as_slice()[seats[i].place];
+    }
+}
+
+/// Moves each process, which is at one of these forms.
+pub(crate) fn advance_seats(
+    program: &Program,
+    links: &Links,
+    places: &[u32],
+    env: &[u64],
+    seats: &mut [Seat],
+)
+    requires linked { AreLinks program.now links.now }
+    requires seats { SeatsFit program.now.processes (map seat_of seats.old) }
+    requires placed { places.now ≡ places_taken program.now.processes (map seat_of seats.old) }
+    requires inside { AllByRecursion (λ f. f < length program.now.forms) places.now }
+    ensures { map seat_of seats.new ≡ next_seats program.now env.now program.now.processes (map seat_of seats.old) }
+{
+    for (i, process) in program.processes.as_slice().iter().enumerate() {
+        let jump = jump_of(program, links, env, process, places[i]);
+        seats[i].advance(process, jump);
+    }
+}
