@@ -41,7 +41,7 @@ length-taken [] ss fit = refl
 length-taken (q ∷ qs) [] fit = absurd fit
 length-taken (q ∷ qs) (s ∷ ss) fit = ap suc (length-taken qs ss fit.3)
 
-place_in : (n : ℕ) (fs : List ℕ) (k : ℕ) → AllByRecursion (λ f. f < n) fs → k < length fs → slice_index fs k < n
+pub place_in : (n : ℕ) (fs : List ℕ) (k : ℕ) → AllByRecursion (λ f. f < n) fs → k < length fs → slice_index fs k < n
 place_in n [] k fit lt = absurd (omega (arith, lt))
 place_in n (f ∷ fs) zero fit lt = fit.0
 place_in n (f ∷ fs) (suc k) fit lt = place_in n fs k fit.1 (omega (arith, lt))

@@ -1,7 +1,8 @@
 //! The machine: a program, and the state that it is in.
 
 use crate::link::Links;
-use crate::seat::Memory;
+use crate::seat::{Memory, clear_seats, zero_seats};
+use crate::seats::{advance_seats, take_places};
 use crate::settle::settle;
 use crate::step::{advance, resets, show};
 use mp_base::{Inputs, List, NoMemory, Outputs};
@@ -16,6 +17,7 @@ pub struct Machine<'a> {
     order: &'a List<u32>,
     links: Links,
     memory: Memory,
+    places: Vec<u32>,
     env: Vec<u64>,
 }
 
@@ -32,7 +34,7 @@ impl<'a> Model for Machine<'a> {
 }
 
 impl<'a> Machine<'a> {
-    ghost use Rattle.std.specs.Prelude.{◌≡◌, [], length, IfOk};
+    ghost use Rattle.std.specs.Prelude.{◌≡◌, length, IfOk};
     ghost use Rattle.mp_program.specs.Pads.{input_pads, output_pads, FitsPads};
     ghost use Rattle.mp_program.specs.State.{IsState, zero_state};
     ghost use Rattle.mp_program.specs.Trace.{IsClock};
@@ -46,21 +48,22 @@ impl<'a> Machine<'a> {
     ) -> Result<Machine<'a>, NoMemory>
         requires ordered { IsOrder program.now order.now }
         requires start { IsState program.now (zero_state program.now) }
-        requires unprocessed { program.now.processes ≡ [] }
         ensures program { IfOk result (λ m. m.program ≡ program.now) }
         ensures state { IfOk result (λ m. m.state ≡ zero_state program.now) }
     {
         let links = Links::find(alloc, program)?;
         let memory = Memory {
             stored: vec![in alloc; 0; program.defs.len()]?,
-            seats: Vec::new(alloc),
+            seats: zero_seats(alloc, program.processes.as_slice())?,
         };
+        let places = vec![in alloc; 0; program.processes.len()]?;
         let env = vec![in alloc; 0; program.defs.len()]?;
         Ok(Machine {
             program,
             order,
             links,
             memory,
+            places,
             env,
         })
     }
@@ -74,20 +77,39 @@ impl<'a> Machine<'a> {
     {
         laws::sound(self.program);
         laws::next_states(self.program);
+        take_places(
+            self.program.processes.as_slice(),
+            &self.memory.seats,
+            &mut self.places,
+        );
         settle(
             self.program,
             &self.links,
             self.order.as_slice(),
             &self.memory,
-            &[],
+            &self.places,
             inputs.as_slice(),
             &mut self.env,
         );
         show(self.program.defs.as_slice(), &self.env, outputs);
         if resets(self.program.defs.as_slice(), self.links.reset, inputs.as_slice()) {
             self.memory.stored.fill(0);
+            clear_seats(&mut self.memory.seats);
         } else {
-            advance(self.program, &self.links, &[], &self.env, &mut self.memory.stored);
+            advance(
+                self.program,
+                &self.links,
+                &self.places,
+                &self.env,
+                &mut self.memory.stored,
+            );
+            advance_seats(
+                self.program,
+                &self.links,
+                &self.places,
+                &self.env,
+                &mut self.memory.seats,
+            );
         }
     }
 
@@ -97,5 +119,6 @@ impl<'a> Machine<'a> {
         ensures state { self.new.state ≡ zero_state self.old.program }
     {
         self.memory.stored.fill(0);
+        clear_seats(&mut self.memory.seats);
     }
 }

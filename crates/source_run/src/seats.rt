@@ -1,6 +1,6 @@
 //! The places and moves of all processes.
 
-ghost use Rattle.std.specs.Prelude.{◌≡◌, ◌<◌, length, map};
+ghost use Rattle.std.specs.Prelude.{◌≡◌, ◌<◌, length, map, slice_index};
 ghost use Rattle.std.specs.List.{AllByRecursion};
 ghost use Rattle.mp_program.specs.State.{SeatsFit, places_taken};
 ghost use Rattle.mp_program.specs.Step.{next_seats};
@@ -12,6 +12,14 @@ use crate::link::Links;
 use crate::seat::Seat;
 use mp_program::{Process, Program};
 
+/// The form at a seat's place.
+fn form_at(process: &Process, seat: &Seat) -> u32
+    requires { seat.now.place < length process.now.forms }
+    ensures { result ≡ slice_index process.now.forms seat.now.place }
+{
+    process.forms.as_slice()[seat.place]
+}
+
 /// Gives the active form of each process.
 pub(crate) fn take_places(processes: &[Process], seats: &[Seat], places: &mut [u32])
     requires seats { SeatsFit processes.now (map seat_of seats.now) }
@@ -19,7 +27,7 @@ pub(crate) fn take_places(processes: &[Process], seats: &[Seat], places: &mut [u
     ensures { places.new ≡ places_taken processes.now (map seat_of seats.now) }
 {
     for (i, process) in processes.iter().enumerate() {
-        places[i] = process.forms.as_slice()[seats[i].place];
+        places[i] = form_at(process, &seats[i]);
     }
 }
 

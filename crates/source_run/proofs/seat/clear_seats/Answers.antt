@@ -1,5 +1,6 @@
 use Rattle.std.proofs.Common.{◌≡◌, ◌+◌, ◌<◌, ◌≤◌, sym, ◌∙◌, ap, subst, map, length, arith, get_or}
 use Rattle.std.proofs.lemmas.List.{get_or-map}
+use Rattle.source_run.specs.declared.seat.Seat.{Seat}
 use Rattle.source_run.specs.Remembered.{seat_of, emptied}
 use Rattle.source_run.proofs.Making.{MadeTo, made_none, made_more, made_all, map_set, mapped_at, length-mapped}
 use Rattle.source_run.proofs.Seating.{no_seat}
@@ -18,7 +19,7 @@ loop-i-preserved c =
     let here = mapped_at seat_of c.loop-i.seats i c.index-seats-i.result no_seat (omega arith) c.index-seats-i.is ∙ c.loop-i.invariant.rest i (omega arith) in
     subst (λ ss. MadeTo ss (map emptied old) old no_seat (i + 1)) (sym (map_set seat_of c.loop-i.seats i c.clear.new.self))
     (made_more (map seat_of c.loop-i.seats) (map emptied old) old no_seat i (seat_of c.clear.new.self) (omega arith)
-    (c.clear.ensures ∙ ap emptied here ∙ sym (get_or-map emptied old i no_seat no_seat inside)) c.loop-i.invariant)
+    (c.clear.ensures ∙ ap (λ (s : Seat). emptied (seat_of s)) (sym c.index-seats-i.is) ∙ ap emptied here ∙ sym (get_or-map emptied old i no_seat no_seat inside)) c.loop-i.invariant)
 
 pub returns : goal.returns
 returns c =
