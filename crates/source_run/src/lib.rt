@@ -5,6 +5,7 @@ mod jump;
 mod link;
 mod links;
 mod machine;
+mod memory;
 mod seat;
 mod seats;
 mod settle;

@@ -1,12 +1,13 @@
 //! The machine: a program, and the state that it is in.
 
 use crate::link::Links;
-use crate::seat::{Memory, clear_seats, zero_seats};
-use crate::seats::{advance_seats, take_places};
+use crate::memory::{clear, step};
+use crate::seat::{Memory, zero_seats};
+use crate::seats::take_places;
 use crate::settle::settle;
-use crate::step::{advance, resets, show};
+use crate::step::show;
 use mp_base::{Inputs, List, NoMemory, Outputs};
-use mp_program::{Program, laws};
+use mp_program::Program;
 use std::alloc::Global;
 use std::marker::Model;
 
@@ -75,10 +76,8 @@ impl<'a> Machine<'a> {
         ensures program { self.new.program ≡ self.old.program }
         ensures clock { IsClock self.old.program self.old.state inputs.now outputs.new self.new.state }
     {
-        laws::sound(self.program);
-        laws::next_states(self.program);
         take_places(
-            self.program.processes.as_slice(),
+            self.program,
             &self.memory.seats,
             &mut self.places,
         );
@@ -92,25 +91,14 @@ impl<'a> Machine<'a> {
             &mut self.env,
         );
         show(self.program.defs.as_slice(), &self.env, outputs);
-        if resets(self.program.defs.as_slice(), self.links.reset, inputs.as_slice()) {
-            self.memory.stored.fill(0);
-            clear_seats(&mut self.memory.seats);
-        } else {
-            advance(
-                self.program,
-                &self.links,
-                &self.places,
-                &self.env,
-                &mut self.memory.stored,
-            );
-            advance_seats(
-                self.program,
-                &self.links,
-                &self.places,
-                &self.env,
-                &mut self.memory.seats,
-            );
-        }
+        step(
+            self.program,
+            &self.links,
+            &self.places,
+            inputs.as_slice(),
+            &self.env,
+            &mut self.memory,
+        );
     }
 
     /// Returns to the zero state.
@@ -118,7 +106,6 @@ impl<'a> Machine<'a> {
         ensures program { self.new.program ≡ self.old.program }
         ensures state { self.new.state ≡ zero_state self.old.program }
     {
-        self.memory.stored.fill(0);
-        clear_seats(&mut self.memory.seats);
+        clear(self.program, &mut self.memory);
     }
 }

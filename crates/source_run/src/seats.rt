@@ -10,7 +10,7 @@ ghost use Rattle.source_run.specs.Remembered.{seat_of};
 use crate::jump::jump_of;
 use crate::link::Links;
 use crate::seat::Seat;
-use mp_program::{Process, Program};
+use mp_program::{Process, Program, laws};
 
 /// The form at a seat's place.
 fn form_at(process: &Process, seat: &Seat) -> u32
@@ -21,12 +21,14 @@ fn form_at(process: &Process, seat: &Seat) -> u32
 }
 
 /// Gives the active form of each process.
-pub(crate) fn take_places(processes: &[Process], seats: &[Seat], places: &mut [u32])
-    requires seats { SeatsFit processes.now (map seat_of seats.now) }
-    requires size { length places.old ≡ length processes.now }
-    ensures { places.new ≡ places_taken processes.now (map seat_of seats.now) }
+pub(crate) fn take_places(program: &Program, seats: &[Seat], places: &mut [u32])
+    requires seats { SeatsFit program.now.processes (map seat_of seats.now) }
+    requires size { length places.old ≡ length program.now.processes }
+    ensures taken { places.new ≡ places_taken program.now.processes (map seat_of seats.now) }
+    ensures inside { AllByRecursion (λ f. f < length program.now.forms) places.new }
 {
-    for (i, process) in processes.iter().enumerate() {
+    laws::sound(program);
+    for (i, process) in program.processes.as_slice().iter().enumerate() {
         places[i] = form_at(process, &seats[i]);
     }
 }
