@@ -76,11 +76,7 @@ impl<'a> Machine<'a> {
         ensures program { self.new.program ≡ self.old.program }
         ensures clock { IsClock self.old.program self.old.state inputs.now outputs.new self.new.state }
     {
-        take_places(
-            self.program,
-            &self.memory.seats,
-            &mut self.places,
-        );
+        take_places(self.program, &self.memory.seats, &mut self.places);
         settle(
             self.program,
             &self.links,

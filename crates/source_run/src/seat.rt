@@ -28,7 +28,11 @@ pub(crate) struct Memory {
 pub(crate) fn wrapped(process: &Process, place: usize) -> usize
     ensures { result ≡ wrapped process.now place }
 {
-    if place < process.forms.len() { place } else { 0 }
+    if place < process.forms.len() {
+        place
+    } else {
+        0
+    }
 }
 
 /// The place after this one, or 0 after the last.

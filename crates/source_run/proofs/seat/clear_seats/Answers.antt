@@ -1,4 +1,4 @@
-use Rattle.std.proofs.Common.{◌≡◌, ◌+◌, ◌<◌, ◌≤◌, sym, ◌∙◌, ap, subst, map, length, arith, get_or}
+use Rattle.std.proofs.Common.{◌+◌, ◌<◌, sym, ◌∙◌, ap, subst, map, length, arith}
 use Rattle.std.proofs.lemmas.List.{get_or-map}
 use Rattle.source_run.specs.declared.seat.Seat.{Seat}
 use Rattle.source_run.specs.Remembered.{seat_of, emptied}

@@ -1,7 +1,7 @@
 use Rattle.std.proofs.Common.{◌≡◌, ◌+◌, ◌<◌, ◌≤◌, sym, ◌∙◌, ap, subst, map, length, arith, get_or}
 use Rattle.std.specs.Prelude.{slice_index}
 use Rattle.mp_program.specs.Effects.{effects_of}
-use Rattle.mp_program.specs.Step.{next_seat, next_seats}
+use Rattle.mp_program.specs.Step.{next_seats}
 use Rattle.source_run.specs.declared.seat.Seat.{Seat}
 use Rattle.source_run.specs.Remembered.{seat_of}
 use Rattle.source_run.specs.Jumps.{seat_after, jump_from}
