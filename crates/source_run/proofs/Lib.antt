@@ -5,3 +5,5 @@ pub mod Targets
 pub mod Advancing
 pub mod Showing
 pub mod Jumping
+pub mod Making
+pub mod Seating

@@ -1,5 +1,5 @@
 -- Evaluating in an order keeps the equations that were met before.
-use Rattle.std.proofs.Common.{◌≡◌, ◌≢◌, ℕ, zero, suc, ◌+◌, ◌<◌, ◌≤◌, List, [], ◌∷◌, true, false, refl, sym, ◌∙◌, ap, subst, inl, inr, length, arith, get_or}
+use Rattle.std.proofs.Common.{◌≡◌, ◌≢◌, ℕ, ◌+◌, ◌<◌, ◌≤◌, List, true, false, refl, sym, ◌∙◌, ap, subst, inl, inr, length, arith, get_or}
 use Rattle.std.specs.Prelude.{slice_index, slice_set as set}
 use Rattle.std.proofs.lemmas.Bool.{cases_lt}
 use Rattle.std.proofs.lemmas.List.{get_or-set_same, get_or-set_other}
@@ -10,7 +10,7 @@ use Rattle.mp_program.specs.declared.program.Def.{Def}
 use Rattle.mp_program.specs.declared.program.Program.{Program}
 use Rattle.mp_program.specs.Names.{is_driven, pad_number}
 use Rattle.mp_program.specs.Reads.{Reads, IsOrder}
-use Rattle.mp_program.specs.State.{State, IsState}
+use Rattle.mp_program.specs.State.{State}
 use Rattle.mp_program.specs.Environment.{what_value, driven_value, IsEnvironment}
 use Rattle.source_run.specs.Settled.{IsGiven, KeepsGiven, SettledUpTo}
 use Rattle.source_run.proofs.Entries.{by_test, same_element}

@@ -8,7 +8,7 @@ use Rattle.mp_program.specs.Step.{outputs_of}
 
 at_suc : (defs : List Def) (env : List ℕ) (i : ℕ) (x : Def) → i < length defs → i < length env → x ≡ get_or defs i x
     → outputs_of (drop i defs) (drop i env)
-        ≡ cond (is_output x.what) (get_or env i 0 ∷ outputs_of (drop (suc i) defs) (drop (suc i) env)) (outputs_of (drop (suc i) defs) (drop (suc i) env))
+    ≡ cond (is_output x.what) (get_or env i 0 ∷ outputs_of (drop (suc i) defs) (drop (suc i) env)) (outputs_of (drop (suc i) defs) (drop (suc i) env))
 at_suc [] env i x lt le is = absurd (omega (arith, lt))
 at_suc (y ∷ ys) [] i x lt le is = absurd (omega (arith, le))
 at_suc (y ∷ ys) (v ∷ vs) zero x lt le is = ap (λ (z : Def). cond (is_output z.what) (v ∷ outputs_of ys vs) (outputs_of ys vs)) (sym is)
@@ -17,7 +17,7 @@ at_suc (y ∷ ys) (v ∷ vs) (suc i) x lt le is = at_suc ys vs i x (omega (arith
 -- the outputs from an index on
 pub outputs_at : (defs : List Def) (env : List ℕ) (i : ℕ) (x : Def) → i < length defs → i < length env → x ≡ get_or defs i x
     → outputs_of (drop i defs) (drop i env)
-        ≡ cond (is_output x.what) (get_or env i 0 ∷ outputs_of (drop (i + 1) defs) (drop (i + 1) env)) (outputs_of (drop (i + 1) defs) (drop (i + 1) env))
+    ≡ cond (is_output x.what) (get_or env i 0 ∷ outputs_of (drop (i + 1) defs) (drop (i + 1) env)) (outputs_of (drop (i + 1) defs) (drop (i + 1) env))
 outputs_at defs env i x lt le is =
     let e : suc i ≡ i + 1 = omega arith in
     at_suc defs env i x lt le is

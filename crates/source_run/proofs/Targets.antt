@@ -1,5 +1,5 @@
 -- What is written to a definition, by its index and by its name.
-use Rattle.std.proofs.Common.{◌≡◌, ℕ, zero, suc, ◌+◌, ◌<◌, List, [], ◌∷◌, ◌++◌, Bool, true, false, cond, refl, sym, ◌∙◌, ap, subst, length, append_assoc, arith, get_or}
+use Rattle.std.proofs.Common.{◌≡◌, ℕ, zero, suc, ◌<◌, List, [], ◌∷◌, ◌++◌, Bool, true, false, cond, refl, sym, ◌∙◌, ap, subst, length, append_assoc, arith, get_or}
 use Rattle.std.specs.Prelude.{◌==◌, filter}
 use Rattle.std.specs.List.{flat_map, AllByRecursion}
 use Rattle.std.proofs.lemmas.Bool.{eq-eqb, ne_eqb}
@@ -11,7 +11,6 @@ use Rattle.mp_program.specs.Names.{is_same, index_of}
 use Rattle.mp_program.specs.Effects.{Effect, Writes, Goes, Calls, Returns, effects_of, written}
 use Rattle.mp_program.specs.Reads.{sets}
 use Rattle.source_run.specs.Written.{written_at}
-use Rattle.source_run.specs.Linked.{setters_of}
 use Rattle.source_run.proofs.Entries.{by_test, element}
 use Rattle.source_run.proofs.Gathering.{written_at-append, merged-append}
 
@@ -84,7 +83,7 @@ module _ (p : Program) (env n : List ℕ) (silence : Silence p) (defined : index
       chosen : (b : Bool) → (b ≡ false → written n (effects_of p env f) ≡ [])
           → written_at p.defs (index_of p.defs n) (flat_map (effects_of p env) (filter (sets p n) fs)) ≡ written_at p.defs (index_of p.defs n) (flat_map (effects_of p env) fs)
           → written_at p.defs (index_of p.defs n) (flat_map (effects_of p env) (cond b (f ∷ filter (sets p n) fs) (filter (sets p n) fs)))
-              ≡ written_at p.defs (index_of p.defs n) (effects_of p env f) ++ written_at p.defs (index_of p.defs n) (flat_map (effects_of p env) fs)
+          ≡ written_at p.defs (index_of p.defs n) (effects_of p env f) ++ written_at p.defs (index_of p.defs n) (flat_map (effects_of p env) fs)
       chosen true quiet rest =
           written_at-append p.defs (index_of p.defs n) (effects_of p env f) (flat_map (effects_of p env) (filter (sets p n) fs))
           ∙ ap (λ ws. written_at p.defs (index_of p.defs n) (effects_of p env f) ++ ws) rest
@@ -94,8 +93,8 @@ module _ (p : Program) (env n : List ℕ) (silence : Silence p) (defined : index
 
   pub together : (always places setters : List ℕ) → AllByRecursion (λ f. f < length p.forms) always → setters ≡ filter (sets p n) always
       → join (merged (written_at p.defs (index_of p.defs n) (flat_map (effects_of p env) setters)))
-          (merged (written_at p.defs (index_of p.defs n) (flat_map (effects_of p env) places)))
-          ≡ merged (written n (flat_map (effects_of p env) (always ++ places)))
+      (merged (written_at p.defs (index_of p.defs n) (flat_map (effects_of p env) places)))
+      ≡ merged (written n (flat_map (effects_of p env) (always ++ places)))
   together always places setters fit are =
       ap (λ fs. join (merged (written_at p.defs (index_of p.defs n) (flat_map (effects_of p env) fs))) (merged (written_at p.defs (index_of p.defs n) (flat_map (effects_of p env) places)))) are
       ∙ ap (λ ws. join (merged ws) (merged (written_at p.defs (index_of p.defs n) (flat_map (effects_of p env) places)))) (filtered always fit)

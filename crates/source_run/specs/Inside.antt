@@ -1,5 +1,5 @@
 -- The fields of a machine.
-use Rattle.std.specs.Prelude.{◌≡◌, [], length}
+use Rattle.std.specs.Prelude.{◌≡◌, length}
 use Rattle.mp_program.specs.State.{IsState, zero_state}
 use Rattle.mp_program.specs.Reads.{IsOrder}
 use Rattle.source_run.specs.declared.machine.Machine.TheInside.{Inside}
@@ -15,5 +15,5 @@ pub record IsReady (m : Inside) : Type 0 where
   pub ordered : IsOrder m.program.now m.order.now
   pub start : IsState m.program.now (zero_state m.program.now)
   pub state : IsState m.program.now (state_of m.memory)
-  pub unprocessed : m.program.now.processes ≡ []
+  pub places : length m.places.items ≡ length m.program.now.processes
   pub env : length m.env.items ≡ length m.program.now.defs

@@ -1,5 +1,5 @@
 -- The jump that a process takes.
-use Rattle.std.specs.Prelude.{ℕ, ◌+◌, List, [], ◌∷◌, ◌++◌, Option, Some, None, take, drop, slice_index}
+use Rattle.std.specs.Prelude.{◌+◌, List, [], ◌∷◌, ◌++◌, Option, Some, None, take, drop, slice_index}
 use Rattle.mp_program.specs.declared.program.Process.{Process}
 use Rattle.mp_program.specs.Effects.{Effect, Writes, Goes, Calls, Returns}
 use Rattle.mp_program.specs.State.{Seat}

@@ -178,10 +178,7 @@ fn pads_before(defs: &[Def], end: usize) -> usize
     requires { end ≤ length defs.now }
     ensures { result ≡ pad_number defs.now end }
 {
-    defs[..end]
-        .iter()
-        .filter(|def| is_input(def.what))
-        .count()
+    defs[..end].iter().filter(|def| is_input(def.what)).count()
 }
 
 /// The input pad of `reset`.

@@ -1,11 +1,13 @@
 //! The machine: a program, and the state that it is in.
 
 use crate::link::Links;
-use crate::seat::Memory;
+use crate::memory::{clear, step};
+use crate::seat::{Memory, zero_seats};
+use crate::seats::take_places;
 use crate::settle::settle;
-use crate::step::{advance, resets, show};
+use crate::step::show;
 use mp_base::{Inputs, List, NoMemory, Outputs};
-use mp_program::{Program, laws};
+use mp_program::Program;
 use std::alloc::Global;
 use std::marker::Model;
 
@@ -16,6 +18,7 @@ pub struct Machine<'a> {
     order: &'a List<u32>,
     links: Links,
     memory: Memory,
+    places: Vec<u32>,
     env: Vec<u64>,
 }
 
@@ -32,7 +35,7 @@ impl<'a> Model for Machine<'a> {
 }
 
 impl<'a> Machine<'a> {
-    ghost use Rattle.std.specs.Prelude.{◌≡◌, [], length, IfOk};
+    ghost use Rattle.std.specs.Prelude.{◌≡◌, length, IfOk};
     ghost use Rattle.mp_program.specs.Pads.{input_pads, output_pads, FitsPads};
     ghost use Rattle.mp_program.specs.State.{IsState, zero_state};
     ghost use Rattle.mp_program.specs.Trace.{IsClock};
@@ -46,21 +49,22 @@ impl<'a> Machine<'a> {
     ) -> Result<Machine<'a>, NoMemory>
         requires ordered { IsOrder program.now order.now }
         requires start { IsState program.now (zero_state program.now) }
-        requires unprocessed { program.now.processes ≡ [] }
         ensures program { IfOk result (λ m. m.program ≡ program.now) }
         ensures state { IfOk result (λ m. m.state ≡ zero_state program.now) }
     {
         let links = Links::find(alloc, program)?;
         let memory = Memory {
             stored: vec![in alloc; 0; program.defs.len()]?,
-            seats: Vec::new(alloc),
+            seats: zero_seats(alloc, program.processes.as_slice())?,
         };
+        let places = vec![in alloc; 0; program.processes.len()]?;
         let env = vec![in alloc; 0; program.defs.len()]?;
         Ok(Machine {
             program,
             order,
             links,
             memory,
+            places,
             env,
         })
     }
@@ -72,23 +76,25 @@ impl<'a> Machine<'a> {
         ensures program { self.new.program ≡ self.old.program }
         ensures clock { IsClock self.old.program self.old.state inputs.now outputs.new self.new.state }
     {
-        laws::sound(self.program);
-        laws::next_states(self.program);
+        take_places(self.program, &self.memory.seats, &mut self.places);
         settle(
             self.program,
             &self.links,
             self.order.as_slice(),
             &self.memory,
-            &[],
+            &self.places,
             inputs.as_slice(),
             &mut self.env,
         );
         show(self.program.defs.as_slice(), &self.env, outputs);
-        if resets(self.program.defs.as_slice(), self.links.reset, inputs.as_slice()) {
-            self.memory.stored.fill(0);
-        } else {
-            advance(self.program, &self.links, &[], &self.env, &mut self.memory.stored);
-        }
+        step(
+            self.program,
+            &self.links,
+            &self.places,
+            inputs.as_slice(),
+            &self.env,
+            &mut self.memory,
+        );
     }
 
     /// Returns to the zero state.
@@ -96,6 +102,6 @@ impl<'a> Machine<'a> {
         ensures program { self.new.program ≡ self.old.program }
         ensures state { self.new.state ≡ zero_state self.old.program }
     {
-        self.memory.stored.fill(0);
+        clear(self.program, &mut self.memory);
     }
 }

@@ -1,6 +1,6 @@
 //! What lasts from clock to clock.
 
-ghost use Rattle.std.specs.Prelude.{◌≡◌, ◌<◌, ◌∷◌, ◌++◌, [], length, take, drop, replicate, map, slice_index, IfOk};
+ghost use Rattle.std.specs.Prelude.{◌≡◌, ◌+◌, ◌<◌, ◌∷◌, ◌++◌, [], length, take, drop, replicate, map, slice_index, IfOk};
 ghost use Rattle.mp_program.specs.State.{zero_seat};
 ghost use Rattle.mp_program.specs.Step.{wrapped};
 ghost use Rattle.source_run.specs.Remembered.{seat_of, emptied};
@@ -28,7 +28,20 @@ pub(crate) struct Memory {
 pub(crate) fn wrapped(process: &Process, place: usize) -> usize
     ensures { result ≡ wrapped process.now place }
 {
-    if place < process.forms.len() { place } else { 0 }
+    if place < process.forms.len() {
+        place
+    } else {
+        0
+    }
+}
+
+/// The place after this one, or 0 after the last.
+fn next_place(process: &Process, place: usize) -> usize
+    requires { place < length process.now.forms }
+    ensures { result ≡ wrapped process.now (place + 1) }
+{
+    let last = process.forms.len() - 1;
+    if place < last { place + 1 } else { 0 }
 }
 
 /// Puts a place at the front, and drops the last one.
@@ -63,10 +76,10 @@ impl Seat {
         ensures { seat_of self.new ≡ seat_after process.now (seat_of self.old) jump }
     {
         match jump {
-            None => self.place = wrapped(process, self.place + 1),
+            None => self.place = next_place(process, self.place),
             Some(Jump::To(place)) => self.place = place,
             Some(Jump::Into(place)) => {
-                push_front(&mut self.stack, wrapped(process, self.place + 1));
+                push_front(&mut self.stack, next_place(process, self.place));
                 self.place = place;
             }
             Some(Jump::Back) => self.place = pop_front(&mut self.stack),

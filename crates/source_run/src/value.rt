@@ -57,8 +57,16 @@ fn applied(
         Op::Nor => truth_value(all_are(program, links, env, before, args, 0)),
         Op::Nand => truth_value(one_is(program, links, env, before, args, 0)),
         _ => {
-            let first = if args.len() > 0 { value(program, links, env, args[0]) } else { 0 };
-            let second = if args.len() > 1 { value(program, links, env, args[1]) } else { 0 };
+            let first = if args.len() > 0 {
+                value(program, links, env, args[0])
+            } else {
+                0
+            };
+            let second = if args.len() > 1 {
+                value(program, links, env, args[1])
+            } else {
+                0
+            };
             op.apply(program.width, index, &[first, second])
         }
     }

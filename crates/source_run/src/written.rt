@@ -36,13 +36,7 @@ pub(crate) fn written_by(
 
 /// The same for one form.
 #[cycle(gather)]
-fn gather(
-    program: &Program,
-    links: &Links,
-    env: &[u64],
-    form: u32,
-    target: usize,
-) -> Option<u64>
+fn gather(program: &Program, links: &Links, env: &[u64], form: u32, target: usize) -> Option<u64>
     requires linked { AreLinks program.now links.now }
     requires inside { form < length program.now.forms }
     ensures { result ≡ merged (written_at program.now.defs target (effects_of program.now env.now form)) }

@@ -1,4 +1,4 @@
-use Rattle.std.proofs.Common.{◌≡◌, ◌<◌, List, ℕ, sym, ◌∙◌, ap, subst, length}
+use Rattle.std.proofs.Common.{◌<◌, sym, ◌∙◌, ap, subst, length}
 use Rattle.std.specs.List.{flat_map, AllByRecursion}
 use Rattle.mp_base.specs.Merge.{join, merged}
 use Rattle.mp_program.specs.declared.program.Def.{Def}

@@ -1,4 +1,4 @@
-use Rattle.std.proofs.Common.{◌≡◌, ◌<◌, ◌+◌, List, ℕ, true, false, sym, ◌∙◌, ap, subst, length, drop, arith, refl, Fits, w64}
+use Rattle.std.proofs.Common.{◌+◌, sym, ◌∙◌, subst, arith, refl}
 use Rattle.source_run.proofs.Showing.{ShownTo, length-outputs_of, shown_more, shown_same}
 use Rattle.source_run.proofs.step.show.Goals as goal
 use Rattle.source_run.proofs.step.show.Goals.{then-is_output, else-is_output}

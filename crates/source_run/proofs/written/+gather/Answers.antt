@@ -4,7 +4,6 @@ use Rattle.std.specs.List.{flat_map}
 use Rattle.std.proofs.lemmas.Bool.{eq-eqb, ne_eqb}
 use Rattle.mp_base.specs.Merge.{merged}
 use Rattle.mp_program.specs.declared.program.Form.{Form}
-use Rattle.mp_program.specs.Sound.{AllBetween}
 use Rattle.mp_program.specs.Values.{value_of}
 use Rattle.mp_program.specs.Effects.{kind_effects, effects_of, branch_effects}
 use Rattle.source_run.specs.Linked.{target}
