@@ -1,6 +1,6 @@
 //! Whole files and whole texts, through the calls that take a piece.
 
-ghost use Rattle.std.specs.Prelude.{◌≡◌, ◌⊎◌, ◌<◌, ◌+◌, ◌^◌, ℕ, List, length, take, IfSome, IfOk, OnOk, OnErr, IsErrOf, vec_len};
+ghost use Rattle.std.specs.Prelude.{◌≡◌, ◌⊎◌, ◌<◌, ◌≤◌, ◌+◌, ◌^◌, ℕ, List, length, take, IfSome, IfOk, OnOk, OnErr, IsErrOf, vec_len};
 ghost use Rattle.std.specs.FinMap as map;
 ghost use Rattle.mp_base.specs.Outside.{WhereTold, Keeps, HasCause, IsStray, IsHeld, Gains, Grows};
 ghost use Rattle.mp_base.specs.Transfer.{IsReading, AddsPiece, SizeGrows, FileReadHasCause, Holds, HoldsPart};
@@ -110,6 +110,7 @@ pub fn read_file<D: Depot>(
     requires { limit < 2 ^ 32 }
     ensures held { Keeps (D.held depot.old) (D.held depot.new) }
     ensures bytes { IfOk result (λ text. IfSome (D.held depot.new) (λ files. IsReading (map.get files name.now) limit text)) }
+    ensures within { IfOk result (λ text. IfSome text (λ all. vec_len all ≤ limit)) }
     ensures cause { FileReadHasCause (D.read_faults depot.old) (D.read_faults depot.new) (IsStray (D.held depot.new) name.now) result }
     ensures writes { D.write_faults depot.new ≡ D.write_faults depot.old }
 {

@@ -8,6 +8,8 @@ mod halt;
 mod language;
 pub mod laws;
 mod line;
+#[cfg(test)]
+mod tests;
 mod top;
 mod trace;
 

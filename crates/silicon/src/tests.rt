@@ -1,0 +1,72 @@
+//! Whole runs over files and an output in memory.
+
+use crate::{NamedPart, Status, run};
+use mp_base::{List, MemDepot, MemSink};
+use std::alloc::{AllocError, Global};
+use std::test::Fail;
+
+const USAGE: &str = "usage: macpitts trace SRC STIM or compile SRC CIF or replay SRC STIM CIF or sim CIF STIM or net CIF or stats SRC or board SRC CIF N LINK.. or make N CIF\n";
+
+const UNBUILT: &str = "error E99 at 0 line 1 column 1\n";
+
+fn listed(alloc: Global, call: u64) -> Result<List<u64>, AllocError> {
+    Ok(List::from_vec(vec![in alloc; call]?))
+}
+
+// Words that are kept apart by blanks.
+fn words_of(alloc: Global, text: &str) -> Result<Vec<String>, AllocError> {
+    let mut words = Vec::new(alloc);
+    for word in text.split_whitespace() {
+        words.push(String::from_str(alloc, word)?)?;
+    }
+    Ok(words)
+}
+
+// What a run answers and prints, where one call of the output fails.
+fn answer(
+    alloc: Global,
+    words: &str,
+    depot: &mut MemDepot,
+    fail: u64,
+) -> Result<(Status, Vec<u8>), AllocError> {
+    let words = words_of(alloc, words)?;
+    let mut parts: Vec<NamedPart> = Vec::new(alloc);
+    let mut out = MemSink::new(alloc, listed(alloc, fail)?);
+    let status = run(alloc, &words, depot, &mut out, &mut parts);
+    Ok((status, Vec::from_slice(alloc, out.bytes())?))
+}
+
+#[test]
+fn words_and_files(rt: HostRuntime) -> Result<(), Fail> {
+    let alloc = rt.alloc();
+    let mut depot = MemDepot::new(alloc, 1, List::new(alloc));
+    depot.put("bad", b"(program x 33)")?;
+    let rows = [
+        ("", 9, Status::Usage, USAGE),
+        ("", 0, Status::WriteFault, ""),
+        ("trace bad", 9, Status::Usage, USAGE),
+        ("trace bad t t", 9, Status::Usage, USAGE),
+        ("trace -bad t", 9, Status::Usage, USAGE),
+        ("trace absent bad", 9, Status::ReadFault, ""),
+        ("trace bad absent", 9, Status::Refused, UNBUILT),
+        ("trace bad absent", 0, Status::WriteFault, ""),
+    ];
+    for (words, fail, status, text) in rows {
+        let (got, printed) = answer(alloc, words, &mut depot, fail)?;
+        assert_eq!(rt; got, status);
+        assert_eq!(rt; printed.as_slice(), text.as_bytes());
+    }
+    Ok(())
+}
+
+#[test]
+fn a_long_source_is_refused(rt: HostRuntime) -> Result<(), Fail> {
+    let alloc = rt.alloc();
+    let mut depot = MemDepot::new(alloc, 1, List::new(alloc));
+    let blanks = vec![in alloc; b' '; 1_048_577]?;
+    depot.put("s", &blanks)?;
+    let (got, printed) = answer(alloc, "trace s t", &mut depot, 9)?;
+    assert_eq!(rt; got, Status::Refused);
+    assert_eq!(rt; printed.as_slice(), b"error L1 s\n".as_slice());
+    Ok(())
+}
