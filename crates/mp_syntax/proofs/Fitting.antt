@@ -78,8 +78,8 @@ fit_entries {X} p all none more entry test (suc n) each = by_test (test n) refl 
         ap (λ i. all 0 (map entry (nodes_below test i))) next ∙ ap (λ xs. all 0 (map entry xs)) (nodes_below_with test n is)
         ∙ ap (all 0) (map-append entry (nodes_below test n) (n ∷ []))
         ∙ fit_push p all none more (map entry (nodes_below test n)) (entry n) 0 rest
-            (ap (λ k. p k (entry n)) (let e : 0 + length (map entry (nodes_below test n)) ≡ length (nodes_below test n) = omega (arith, length-map (nodes_below test n) entry) in e)
-            ∙ each n (omega arith) is)
+        (ap (λ k. p k (entry n)) (let e : 0 + length (map entry (nodes_below test n)) ≡ length (nodes_below test n) = omega (arith, length-map (nodes_below test n) entry) in e)
+        ∙ each n (omega arith) is)
 
 -- forms without a defect, and the class of each node
 pub record Known (f : Forms) (cs : List (Option Class)) : Type 0 where
@@ -144,8 +144,8 @@ expr_fits f cs k n lt is = by_kind (kind_at f n) refl
         let size : length (map (expr_index f cs) (drop 1 items)) ≡ length (items_of (kind_at f n)) - 1 =
         omega (arith, length-map (drop 1 items) (expr_index f cs), length-drop 1 items, ap length same) in
         and_from _ _ (ap (λ i. fits.takes op i) size ∙ counts f n classes.Value (layouts.Apply op) here)
-            (let P : List ℕ → Type 0 = λ xs. fits.all_behind (length (nodes_below (is_expr cs) n)) (length (nodes_below (is_expr cs) (length f.nodes))) (map (expr_index f cs) (drop 1 xs)) ≡ true in
-            subst P same (operands_fit f cs k n 1 (layouts.Apply op) st lt is here (λ j h. not_head j classes.Value h)))
+        (let P : List ℕ → Type 0 = λ xs. fits.all_behind (length (nodes_below (is_expr cs) n)) (length (nodes_below (is_expr cs) (length f.nodes))) (map (expr_index f cs) (drop 1 xs)) ≡ true in
+        subst P same (operands_fit f cs k n 1 (layouts.Apply op) st lt is here (λ j h. not_head j classes.Value h)))
     by_layout items e (Some layouts.Bit) lay =
         let here : layout f classes.Value (kind_at f n) ≡ Some layouts.Bit = ap (λ x. layout f classes.Value x) e ∙ lay in
         let same : items_of (kind_at f n) ≡ items = ap items_of e in
@@ -153,8 +153,8 @@ expr_fits f cs k n lt is = by_kind (kind_at f n) refl
         let size : length (map (expr_index f cs) (drop 2 items)) ≡ 1 =
         omega (arith, length-map (drop 2 items) (expr_index f cs), length-drop 2 items, ap length same, three) in
         and_from _ _ (ap (λ i. i == 1) size)
-            (let P : List ℕ → Type 0 = λ xs. fits.all_behind (length (nodes_below (is_expr cs) n)) (length (nodes_below (is_expr cs) (length f.nodes))) (map (expr_index f cs) (drop 2 xs)) ≡ true in
-            subst P same (operands_fit f cs k n 2 layouts.Bit st lt is here (λ j h. not_first j classes.Numeral classes.Value h)))
+        (let P : List ℕ → Type 0 = λ xs. fits.all_behind (length (nodes_below (is_expr cs) n)) (length (nodes_below (is_expr cs) (length f.nodes))) (map (expr_index f cs) (drop 2 xs)) ≡ true in
+        subst P same (operands_fit f cs k n 2 layouts.Bit st lt is here (λ j h. not_first j classes.Numeral classes.Value h)))
     by_layout items e _ lay = refl
 
     by_kind : (x : Kind) → kind_at f n ≡ x → fits.expr_fits (length (nodes_below (is_expr cs) (length f.nodes))) (length (nodes_below (is_expr cs) n)) (expr_kind f (expr_index f cs) x) ≡ true
@@ -184,7 +184,7 @@ branch_fits f cs k n m is later lt st =
     let lay : layout f classes.Branch (kind_at f m) ≡ Some layouts.Guarded = guarded f (kind_at f m) (λ none. k.classes.clean m (classes.Branch, st, none)) in
     let it = inner f cs k m 0 classes.Branch classes.Value layouts.Guarded st lt lay refl (counts f m classes.Branch layouts.Guarded lay) in
     and_from _ _ (lt-ltb _ _ (in_range (is_expr cs) (length f.nodes) (slice_index (items_of (kind_at f m)) 0) it.inside (passes_expr f cs k.classes (slice_index (items_of (kind_at f m)) 0) it.stands)))
-        (bodies_fit f cs k n m 1 classes.Branch layouts.Guarded is (omega (arith, later)) st lt lay (λ j h. ap (λ b. cond b (Some classes.Value) (Some classes.Action)) (ne_eqb j 0 (λ e. omega (arith, h, e)))))
+    (bodies_fit f cs k n m 1 classes.Branch layouts.Guarded is (omega (arith, later)) st lt lay (λ j h. ap (λ b. cond b (Some classes.Value) (Some classes.Action)) (ne_eqb j 0 (λ e. omega (arith, h, e)))))
 
 pub form_fits : (f : Forms) (cs : List (Option Class)) → Known f cs → (n : ℕ) → n < length f.nodes → is_form f cs n ≡ true
     → fits.form_fits (length (nodes_below (is_expr cs) (length f.nodes))) (length (nodes_below (is_form f cs) (length f.nodes))) (length (nodes_below (is_form f cs) n))
@@ -199,7 +199,7 @@ form_fits f cs k n lt is = by_class (form_stands f cs k.classes n is)
         let target = inner f cs k n 1 c classes.Word layouts.Setq st lt lay refl (omega (arith, three)) in
         let value = inner f cs k n 2 c classes.Value layouts.Setq st lt lay refl (omega (arith, three)) in
         and_from _ _ (word_fits f cs k.classes k.symbols (slice_index (items_of (kind_at f n)) 1) target.stands)
-            (lt-ltb _ _ (in_range (is_expr cs) (length f.nodes) (slice_index (items_of (kind_at f n)) 2) value.inside (passes_expr f cs k.classes (slice_index (items_of (kind_at f n)) 2) value.stands)))
+        (lt-ltb _ _ (in_range (is_expr cs) (length f.nodes) (slice_index (items_of (kind_at f n)) 2) value.inside (passes_expr f cs k.classes (slice_index (items_of (kind_at f n)) 2) value.stands)))
     by_layout c st (Some layouts.Cond) lay =
         all_dropped _ (branch_at f (expr_index f cs) (form_index f cs)) (items_of (kind_at f n)) 1 (λ j jf jl.
         let it = inner f cs k n j c classes.Branch layouts.Cond st lt lay (not_head j classes.Branch jf) jl in

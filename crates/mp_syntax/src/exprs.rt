@@ -73,12 +73,7 @@ fn list_expr(
     }
 }
 
-fn expr_of(
-    alloc: Global,
-    forms: &Forms,
-    ranks: &List<u32>,
-    node: u32,
-) -> Result<Expr, AllocError>
+fn expr_of(alloc: Global, forms: &Forms, ranks: &List<u32>, node: u32) -> Result<Expr, AllocError>
     requires sound { IsSound forms.now }
     requires inside { node < length forms.now.nodes }
     ensures { IfOk result (λ x. x ≡ expr_at forms.now (slice_index ranks.now) node) }

@@ -13,12 +13,7 @@ use mp_program::{Branch, Form, FormKind};
 use mp_shapes::{Class, Layout, shape_of};
 use std::alloc::{AllocError, Global};
 
-fn branch_of(
-    alloc: Global,
-    forms: &Forms,
-    ranks: &Ranks,
-    node: u32,
-) -> Result<Branch, AllocError>
+fn branch_of(alloc: Global, forms: &Forms, ranks: &Ranks, node: u32) -> Result<Branch, AllocError>
     requires sound { IsSound forms.now }
     requires inside { node < length forms.now.nodes }
     ensures { IfOk result (λ branch. branch ≡ branch_at forms.now (slice_index ranks.now.exprs) (slice_index ranks.now.forms) node) }

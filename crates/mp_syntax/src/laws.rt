@@ -10,11 +10,9 @@ ghost use Rattle.mp_syntax.specs.Shape.{E11, IsShape};
 /// Forms are the shape of one program at most.
 pub fn one_program()
     ensures { (f : Forms) (p q : Program) → IsShape f p → IsShape f q → p ≡ q }
-{
-}
+{}
 
 /// Forms that are the shape of a program break neither E10 nor E11.
 pub fn shaped_is_unbroken()
     ensures { (f : Forms) (p : Program) (at : Place) → IsShape f p → E10 f at ⊎ E11 f at → ⊥ }
-{
-}
+{}

@@ -85,5 +85,9 @@ pub fn item(items: &[u32], index: usize) -> u32
 pub fn behind(items: &[u32], index: usize) -> &[u32]
     ensures { result.now ≡ drop index items.now }
 {
-    if index <= items.len() { &items[index..] } else { &[] }
+    if index <= items.len() {
+        &items[index..]
+    } else {
+        &[]
+    }
 }
