@@ -1,5 +1,5 @@
 -- What a line adds, from what its form adds.
-use Rattle.std.proofs.Common.{◌≡◌, ℕ, zero, suc, ◌+◌, ◌<◌, ◌≤◌, List, [], ◌∷◌, ◌++◌, Bool, true, false, refl, sym, ◌∙◌, ap, subst, inl, inr, length, take, arith, get_or, Option, Result, Ok, Err}
+use Rattle.std.proofs.Common.{◌≡◌, ℕ, zero, suc, ◌<◌, List, [], ◌∷◌, ◌++◌, subst, inl, inr, length, take, arith, get_or, Option, Result, Ok, Err}
 use Rattle.std.specs.Prelude.{IfErr}
 use Rattle.stimulus.specs.declared.fault.Fault.{Fault}
 use Rattle.stimulus.specs.declared.fault.Fault.TheVariants.{NoMemory, Breaks}
@@ -11,7 +11,7 @@ use Rattle.stimulus.specs.declared.form.Assignment.{Assignment}
 use Rattle.stimulus.specs.declared.form.Form.{Form}
 use Rattle.stimulus.specs.declared.reading.Reading.{Reading}
 use Rattle.stimulus.specs.Forms.{IsForm}
-use Rattle.stimulus.specs.Rules.{IsGiven, IsMisfit, AreGiven, FirstMisfit, IsInPlace, IsFull, AddsForm, Adds, FirstIn, FormFault, IsFault, full, formless, misfit, misplaced, unfit}
+use Rattle.stimulus.specs.Rules.{IsGiven, IsMisfit, AreGiven, FirstMisfit, IsInPlace, IsFull, AddsForm, Adds, FirstIn, FormFault, IsFault, formless, misfit, misplaced, unfit}
 use Rattle.stimulus.proofs.Unique.{form_once}
 
 -- one word more

@@ -1,6 +1,6 @@
 -- The parts of a text, from a place on.
-use Rattle.std.proofs.Common.{◌≡◌, ℕ, zero, suc, ◌+◌, ◌-◌, ◌<◌, ◌≤◌, List, [], ◌∷◌, ◌++◌, Bool, true, false, cond, refl, sym, ◌∙◌, ap, length, take, drop, arith, get_or, inl, inr}
-use Rattle.std.specs.Prelude.{slice_range, nat_lt, filter, ◌⊎◌}
+use Rattle.std.proofs.Common.{◌≡◌, ℕ, zero, suc, ◌+◌, ◌-◌, ◌<◌, ◌≤◌, List, [], ◌∷◌, Bool, true, false, cond, refl, sym, ◌∙◌, ap, length, take, drop, arith, get_or, inl, inr}
+use Rattle.std.specs.Prelude.{slice_range, nat_lt, filter}
 use Rattle.std.specs.List.{slice_split, onto_first}
 use Rattle.std.specs.Str.Lines.{strip_carriage_return}
 use Rattle.std.proofs.lemmas.List.{get_or-drop, length-drop, drop-drop, take_all, length-take-le}

@@ -1,8 +1,8 @@
 -- What the values that a clock gives say of an input.
-use Rattle.std.proofs.Common.{◌≡◌, ◌≢◌, ℕ, zero, suc, ◌+◌, ◌<◌, ◌≤◌, List, [], ◌∷◌, ◌++◌, Bool, true, false, cond, refl, sym, ◌∙◌, ap, subst, inl, inr, length, take, set, arith, get_or}
-use Rattle.std.specs.Prelude.{nat_lt, not, ◌==◌, ◌⊎◌}
-use Rattle.std.specs.List.{list_any, list_all}
-use Rattle.std.proofs.lemmas.Bool.{and_parts, not-true, or_parts, ltb-true, eqb-true, eqb-false, eq-eqb, ne_eqb, cases_Bool, cases_eq, both_ways, cond-true, cond-false}
+use Rattle.std.proofs.Common.{◌≡◌, ℕ, zero, suc, ◌+◌, ◌<◌, List, [], ◌∷◌, Bool, true, false, cond, refl, sym, ◌∙◌, ap, inl, inr, length, take, set, arith, get_or}
+use Rattle.std.specs.Prelude.{not, ◌==◌}
+use Rattle.std.specs.List.{list_any}
+use Rattle.std.proofs.lemmas.Bool.{and_parts, not-true, ltb-true, eqb-true, eqb-false, eq-eqb, ne_eqb, cases_eq, cond-true, cond-false}
 use Rattle.std.proofs.lemmas.List.{get_or-set_same, get_or-set_other, length-set}
 use Rattle.mp_base.specs.declared.pad.Pad.{Pad}
 use Rattle.stimulus.specs.declared.given.Given.{Given}

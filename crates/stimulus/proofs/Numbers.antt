@@ -1,14 +1,14 @@
 -- Numerals, and the words that give one to a name.
-use Rattle.std.proofs.Common.{◌≡◌, ◌≢◌, ℕ, zero, suc, ◌+◌, ◌-◌, ◌*◌, ◌<◌, ◌≤◌, ◌^◌, List, [], ◌∷◌, ◌++◌, Bool, true, false, refl, sym, ◌∙◌, ap, subst, inl, inr, length, take, drop, arith, get_or}
+use Rattle.std.proofs.Common.{◌≡◌, ◌≢◌, ℕ, zero, suc, ◌+◌, ◌-◌, ◌*◌, ◌<◌, ◌≤◌, ◌^◌, List, [], ◌∷◌, ◌++◌, true, false, refl, sym, ◌∙◌, ap, subst, inl, inr, length, take, drop, arith, get_or}
 use Rattle.std.specs.Prelude.{decimal}
 use Rattle.std.specs.Char.{digit_value}
 use Rattle.std.specs.Int.{IsInRange}
-use Rattle.std.specs.Str.Parse.{AllDigits, digits_value, IsNumeral}
+use Rattle.std.specs.Str.Parse.{AllDigits, digits_value}
 use Rattle.std.proofs.lemmas.Bool.{and_parts, and_cases, leb-true, leb-false, lt-ltb, le-ltb, cond-true, cond-false, cases_order}
 use Rattle.std.proofs.lemmas.Int.Digits.{digits_value_more, digits_more}
 use Rattle.std.proofs.lemmas.Str.Parse.{digit_at, digits_value-take-le}
 use Rattle.std.proofs.lemmas.Fmt.{decimal_is_IsNumeral, length-decimal-le}
-use Rattle.std.proofs.lemmas.List.{get_or_at, get_or-append_right, length-append, take_at, drop_at, take_all}
+use Rattle.std.proofs.lemmas.List.{get_or_at, get_or-append_right, length-append, take_at, drop_at}
 use Rattle.mp_base.specs.Token.{is_digit}
 use Rattle.stimulus.specs.declared.piece.Piece.{Piece}
 use Rattle.stimulus.specs.declared.form.Assignment.{Assignment}

@@ -1,9 +1,8 @@
 -- A text has at most one outcome.
-use Rattle.std.proofs.Common.{◌≡◌, ◌≢◌, ℕ, zero, suc, ◌<◌, ◌≤◌, List, [], ◌∷◌, ◌++◌, Bool, true, false, refl, sym, ◌∙◌, ap, subst, inl, inr, length, arith, get_or, Option, Some, None}
+use Rattle.std.proofs.Common.{◌≡◌, ℕ, ◌<◌, ◌≤◌, List, [], ◌∷◌, ◌++◌, refl, sym, ◌∙◌, ap, subst, inl, inr, arith, get_or, Option, Some, None}
 use Rattle.std.proofs.lemmas.Bool.{both_ways}
 use Rattle.mp_base.specs.declared.pad.Pad.{Pad}
 use Rattle.mp_base.specs.declared.pad.Pads.{Pads}
-use Rattle.mp_base.specs.declared.refusal.Place.{Place}
 use Rattle.stimulus.specs.declared.given.Given.{Given}
 use Rattle.stimulus.specs.declared.given.Stimulus.{Stimulus}
 use Rattle.stimulus.specs.declared.piece.Piece.{Piece}
@@ -12,8 +11,8 @@ use Rattle.stimulus.specs.declared.form.Form.{Form}
 use Rattle.stimulus.specs.declared.form.Form.TheVariants.{Input, Output, Clock}
 use Rattle.stimulus.specs.declared.reading.Reading.{Reading}
 use Rattle.stimulus.specs.Words.{lines}
-use Rattle.stimulus.specs.Rules.{bound, input_named, inputs_of, outputs_of, is_known, IsGiven, IsMisfit, AreGiven, FirstMisfit, Misfits, AddsForm, Adds, FirstIn, full, formless, misfit}
-use Rattle.stimulus.specs.Reading.{nothing, Reads, FirstBroken, IsStimulus, IsFirst}
+use Rattle.stimulus.specs.Rules.{bound, input_named, inputs_of, IsGiven, IsMisfit, AreGiven, FirstMisfit, Misfits, AddsForm, Adds, FirstIn, full, formless, misfit}
+use Rattle.stimulus.specs.Reading.{nothing, Reads, FirstBroken, IsStimulus}
 use Rattle.stimulus.proofs.Unique.{form_once}
 
 given_once : (inputs : List Pad) (a : Assignment) (g h : Given) → IsGiven inputs a g → IsGiven inputs a h → g ≡ h

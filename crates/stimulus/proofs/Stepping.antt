@@ -1,5 +1,5 @@
 -- Lines one after another.
-use Rattle.std.proofs.Common.{◌≡◌, ℕ, ◌+◌, ◌<◌, ◌≤◌, List, [], ◌∷◌, ◌++◌, Bool, true, false, cond, refl, sym, ◌∙◌, ap, subst, inl, inr, length, arith, Option, Some, None, ◌^◌}
+use Rattle.std.proofs.Common.{ℕ, ◌+◌, ◌<◌, ◌≤◌, List, [], ◌∷◌, Bool, true, false, cond, sym, ap, subst, inl, inr, length, arith, Option, Some, None, ◌^◌}
 use Rattle.std.specs.Prelude.{IfSome}
 use Rattle.std.specs.Borrow.{Bor}
 use Rattle.std.specs.Option.{option_copied}
@@ -11,7 +11,7 @@ use Rattle.stimulus.specs.declared.form.Form.{Form}
 use Rattle.stimulus.specs.declared.form.Form.TheVariants.{Input, Output, Clock}
 use Rattle.stimulus.specs.declared.reading.Reading.{Reading}
 use Rattle.stimulus.specs.Words.{is_skipped, kept_before}
-use Rattle.stimulus.specs.Rules.{is_new_pad, inputs_of, IsInPlace, AddsForm, Adds, FirstIn}
+use Rattle.stimulus.specs.Rules.{inputs_of, IsInPlace, AddsForm}
 use Rattle.stimulus.specs.Reading.{Reads, FirstBroken}
 
 -- a line, and then the others

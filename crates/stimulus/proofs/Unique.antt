@@ -1,5 +1,5 @@
 -- A line has at most one form.
-use Rattle.std.proofs.Common.{◌≡◌, ◌≢◌, ℕ, zero, suc, ◌+◌, ◌-◌, ◌<◌, ◌≤◌, ◌^◌, List, [], ◌∷◌, ◌++◌, Bool, true, false, refl, sym, ◌∙◌, ap, subst, inl, inr, length, take, drop, arith, get_or}
+use Rattle.std.proofs.Common.{◌≡◌, ◌≢◌, ℕ, suc, ◌+◌, ◌-◌, ◌<◌, ◌≤◌, List, [], ◌∷◌, refl, sym, ◌∙◌, ap, subst, length, take, drop, arith, get_or}
 use Rattle.std.proofs.Math.Bridge.{le_prop}
 use Rattle.std.proofs.lemmas.Fmt.{decimal_injective}
 use Rattle.std.proofs.lemmas.Str.Parse.{digit_at}
@@ -9,7 +9,7 @@ use Rattle.stimulus.specs.declared.piece.Piece.{Piece}
 use Rattle.stimulus.specs.declared.form.Assignment.{Assignment}
 use Rattle.stimulus.specs.declared.form.Form.{Form}
 use Rattle.stimulus.specs.declared.form.Form.TheVariants.{Input, Output, Clock}
-use Rattle.stimulus.specs.Forms.{IsNumber, IsWidth, IsAssignment, AreAssignments, IsPad, IsForm}
+use Rattle.stimulus.specs.Forms.{IsAssignment, AreAssignments, IsPad, IsForm}
 use Rattle.stimulus.proofs.Numbers.{number_same, name_ends, assigned}
 
 -- behind the `=` of a name no other stands

@@ -1,10 +1,10 @@
 -- Values below a power of two.
-use Rattle.std.proofs.Common.{◌≡◌, ℕ, zero, suc, ◌+◌, ◌*◌, ◌/◌, ◌<◌, ◌≤◌, ◌^◌, arith, true, ◌↔◌, eqb, eq-eqb, ◌-◌, sym, ap, ◌∙◌}
+use Rattle.std.proofs.Common.{◌≡◌, ℕ, ◌+◌, ◌*◌, ◌/◌, ◌<◌, ◌≤◌, ◌^◌, arith, true, eqb, eq-eqb, ◌-◌, sym, ap, ◌∙◌}
 use Rattle.std.specs.Prelude.{Bool, false, cond, ◌==◌}
 use Rattle.mp_base.specs.declared.pad.Pad.{Pad}
 use Rattle.stimulus.specs.Rules.{bits_of}
 use Rattle.std.proofs.Math.Nat.{div-eq_of_lt, div-lt_iff_lt-mul}
-use Rattle.std.proofs.Math.Pow.{pow_mono, pow-lt}
+use Rattle.std.proofs.Math.Pow.{pow_mono}
 use Rattle.std.proofs.lemmas.Bool.{eqb-true}
 use Rattle.std.proofs.lemmas.Nat.{pow-add, div-mul-add}
 

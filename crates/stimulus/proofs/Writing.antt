@@ -1,5 +1,5 @@
 -- One text written behind another.
-use Rattle.std.proofs.Common.{◌≡◌, ℕ, zero, suc, ◌+◌, ◌<◌, ◌≤◌, List, [], ◌∷◌, ◌++◌, refl, sym, ◌∙◌, ap, subst, length, take, drop, arith, get_or, Option, Some, None, Result, Ok, Err, append_assoc}
+use Rattle.std.proofs.Common.{◌≡◌, ℕ, zero, suc, ◌+◌, ◌<◌, List, [], ◌∷◌, ◌++◌, sym, ◌∙◌, ap, subst, length, take, drop, arith, get_or, Option, Some, None, Result, Ok, Err, append_assoc}
 use Rattle.std.proofs.lemmas.List.{length-append, take_all, take-append-le, append-nil}
 use Rattle.std.specs.Prelude.{OnOk, OnErr}
 use Rattle.mp_base.specs.Outside.{WhereTold, Gains, HasCause}

@@ -1,9 +1,8 @@
-use Rattle.std.proofs.Common.{◌≡◌, ℕ, ◌+◌, ◌-◌, ◌*◌, ◌<◌, ◌^◌, true, take, length, get_or, sym, ◌∙◌, ap, subst, arith, rules}
+use Rattle.std.proofs.Common.{◌≡◌, ◌+◌, ◌-◌, ◌*◌, ◌<◌, ◌^◌, true, get_or, sym, ◌∙◌, ap, subst, arith, rules}
 use Rattle.std.specs.Str.Parse.{digits_value, AllDigits}
 use Rattle.std.proofs.lemmas.List.{take_all}
 use Rattle.mp_base.specs.Token.{is_digit}
-use Rattle.stimulus.specs.Forms.{IsNumber}
-use Rattle.stimulus.proofs.Numbers.{no_digit, digit_range, number_digit, number_front, more_digits, more_value}
+use Rattle.stimulus.proofs.Numbers.{no_digit, number_digit, number_front, more_digits, more_value}
 use Rattle.stimulus.proofs.form.number.Goals as goal
 
 pub returns-then-not-is_digit : goal.returns-then-not-is_digit

@@ -1,9 +1,8 @@
-use Rattle.std.proofs.Common.{◌≡◌, ◌≢◌, ℕ, ◌+◌, ◌<◌, ◌≤◌, true, false, take, drop, length, get_or, sym, ◌∙◌, ap, subst, arith}
+use Rattle.std.proofs.Common.{◌≡◌, true, sym, ◌∙◌, ap, arith}
 use Rattle.std.specs.Prelude.{decimal, not}
 use Rattle.std.specs.Str.{bytes_eq}
 use Rattle.std.proofs.lemmas.Bool.{both_ways, not-true}
 use Rattle.std.proofs.lemmas.Slice.Eq.{bytes_eq-Decides}
-use Rattle.stimulus.specs.Forms.{IsNumber, IsWidth}
 use Rattle.stimulus.proofs.Numbers.{width_number, number_same}
 use Rattle.stimulus.proofs.form.width.Goals as goal
 use Rattle.stimulus.proofs.form.width.Goals.{then-bits-lt1-via-then-bits-lt1, then-bits-lt1-via-else-bits-lt1+then-bits-gt64, then-bits-lt1-via-else-bits-lt1+else-bits-gt64+then-ne}

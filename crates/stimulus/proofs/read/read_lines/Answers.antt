@@ -1,4 +1,4 @@
-use Rattle.std.proofs.Common.{◌≡◌, ℕ, ◌+◌, ◌<◌, ◌≤◌, List, [], ◌∷◌, cond, sym, ◌∙◌, ap, subst, length, drop, arith, Option, true, false, get_or, inl, inr}
+use Rattle.std.proofs.Common.{◌≡◌, ℕ, ◌+◌, ◌<◌, ◌≤◌, List, [], cond, sym, ◌∙◌, ap, subst, length, drop, arith, Option, true, false, get_or, inl, inr}
 use Rattle.std.specs.Prelude.{slice_range, nat_lt}
 use Rattle.std.specs.List.{slice_split}
 use Rattle.std.specs.Option.{option_copied}
@@ -8,9 +8,9 @@ use Rattle.std.proofs.lemmas.Result.{err_from_is_err_and}
 use Rattle.mp_base.specs.declared.pad.Pads.{Pads}
 use Rattle.stimulus.specs.declared.piece.Piece.{Piece}
 use Rattle.stimulus.specs.declared.reading.Reading.{Reading}
-use Rattle.stimulus.specs.Words.{is_feed, lines, words_of, words_of_lines, kept_before}
+use Rattle.stimulus.specs.Words.{is_feed, words_of, words_of_lines, kept_before}
 use Rattle.stimulus.specs.Rules.{IsFault}
-use Rattle.stimulus.specs.Reading.{nothing, Reads, FirstBroken}
+use Rattle.stimulus.specs.Reading.{Reads, FirstBroken}
 use Rattle.stimulus.proofs.Adding.{fault_at}
 use Rattle.stimulus.proofs.Cutting.{lines_more, lines_last}
 use Rattle.stimulus.proofs.Stepping.{reads_more, broken_here, broken_later, few_more, few_inputs}

@@ -1,4 +1,4 @@
-use Rattle.std.proofs.Common.{◌≡◌, ℕ, ◌≤◌, ◌-◌, length, drop}
+use Rattle.std.proofs.Common.{ℕ, ◌≤◌, ◌-◌, length, drop}
 use Rattle.std.specs.List.{slice_split}
 use Rattle.std.specs.Option.{option_copied}
 use Rattle.stimulus.specs.declared.reading.Reading.{Reading}

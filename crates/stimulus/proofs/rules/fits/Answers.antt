@@ -1,7 +1,6 @@
-use Rattle.std.proofs.Common.{rules, arith, ◌≡◌, ◌<◌, ◌≤◌, ◌^◌, ◌/◌, ◌↔◌, ℕ, true, eqb, subst, sym, refl, ap}
+use Rattle.std.proofs.Common.{arith, ◌<◌, ◌≤◌, ◌^◌, ◌/◌, ◌↔◌, ℕ, eqb, subst, refl}
 use Rattle.std.specs.Prelude.{IsTrue}
 use Rattle.std.proofs.Math.Pow.{pow_mono}
-use Rattle.stimulus.specs.Rules.{bound}
 use Rattle.stimulus.proofs.Values.{shifted_out}
 use Rattle.stimulus.proofs.rules.fits.Goals as goal
 

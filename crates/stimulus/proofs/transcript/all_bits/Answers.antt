@@ -1,6 +1,4 @@
-use Rattle.std.proofs.Common.{◌≡◌, ◌-◌, ◌^◌, ◌≤◌, ◌∙◌, ap, arith, cond, ◌<◌, ℕ, zero, suc, refl}
-use Rattle.mp_base.specs.declared.pad.Pad.{Pad}
-use Rattle.stimulus.specs.Rules.{bits_of}
+use Rattle.std.proofs.Common.{◌-◌, ◌^◌, ◌≤◌, ◌∙◌, ap, arith}
 use Rattle.stimulus.proofs.Values.{ones, few_bits}
 use Rattle.stimulus.proofs.transcript.all_bits.Goals as goal
 

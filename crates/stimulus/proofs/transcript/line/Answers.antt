@@ -1,13 +1,13 @@
-use Rattle.std.proofs.Common.{◌≡◌, ℕ, suc, ◌+◌, ◌<◌, ◌≤◌, List, [], ◌∷◌, ◌++◌, Option, Some, Result, Ok, Err, take, drop, length, get_or, sym, ◌∙◌, ap, subst, arith, append_assoc}
+use Rattle.std.proofs.Common.{◌≡◌, ℕ, suc, ◌+◌, ◌≤◌, List, [], ◌∷◌, ◌++◌, Err, take, drop, length, sym, ◌∙◌, ap, subst, arith, append_assoc}
 use Rattle.std.specs.Prelude.{decimal}
-use Rattle.std.proofs.lemmas.List.{take_all, get_or_default}
+use Rattle.std.proofs.lemmas.List.{take_all}
 use Rattle.std.proofs.lemmas.Result.{err_from_is_err_and}
 use Rattle.mp_base.specs.Outside.{Gains}
 use Rattle.mp_base.specs.Piece.{TakesAll}
 use Rattle.mp_base.specs.declared.outside.Failed.{Failed}
 use Rattle.mp_base.specs.declared.pad.Pad.{Pad}
 use Rattle.mp_base.specs.declared.value.TritWord.{TritWord}
-use Rattle.stimulus.specs.Transcript.{pad_text, pad_texts, line_text}
+use Rattle.stimulus.specs.Transcript.{pad_text, pad_texts}
 use Rattle.stimulus.proofs.Writing.{Wrote, wrote_more, wrote_all, wrote_then, cut_before, line_split, texts_more}
 use Rattle.stimulus.proofs.transcript.line.Goals as goal
 

@@ -1,10 +1,10 @@
-use Rattle.std.proofs.Common.{◌≡◌, ℕ, List, [], ◌∷◌, ◌++◌, Option, Some, Result, Ok, Err, sym, ◌∙◌, ap, subst}
+use Rattle.std.proofs.Common.{ℕ, List, [], ◌∷◌, ◌++◌, Err, subst}
 use Rattle.std.proofs.lemmas.Result.{err_from_is_err_and}
 use Rattle.mp_base.specs.Outside.{Gains}
 use Rattle.mp_base.specs.Piece.{TakesAll}
 use Rattle.mp_base.specs.declared.outside.Failed.{Failed}
 use Rattle.stimulus.specs.Transcript.{value_text}
-use Rattle.stimulus.proofs.Writing.{Wrote, wrote_more, wrote_all, wrote_then, cut_before}
+use Rattle.stimulus.proofs.Writing.{Wrote, wrote_all, wrote_then, cut_before}
 use Rattle.stimulus.proofs.transcript.write_pad.Goals as goal
 
 pub returns-in_err-write_all-2-clause-taken : goal.returns-in_err-write_all-2-clause-taken
