@@ -6,7 +6,7 @@ use Rattle.mp_base.specs.declared.op.Op.TheVariants.{Not}
 use Rattle.mp_program.specs.declared.program.ExprKind.{ExprKind}
 use Rattle.mp_program.specs.declared.program.ExprKind.TheVariants.{Number, Named, True, Apply}
 use Rattle.mp_program.specs.declared.program.FormKind.{FormKind}
-use Rattle.mp_program.specs.declared.program.FormKind.TheVariants.{Set, Par, Call, Return}
+use Rattle.mp_program.specs.declared.program.FormKind.TheVariants.{Set, Cond, Par, Call, Return}
 use Rattle.mp_program.specs.declared.program.What.{What}
 use Rattle.mp_program.specs.declared.program.What.TheVariants.{Power, Ground, Phia, Phib, Phic, Register, Port, Signal}
 use Rattle.mp_program.specs.declared.program.Way.TheVariants.{Input, Output}
