@@ -4,9 +4,9 @@ use Rattle.std.specs.Prelude.{replicate, codes}
 use Rattle.mp_base.specs.declared.refusal.Place.{Place}
 use Rattle.mp_base.specs.declared.op.Op.TheVariants.{Not}
 use Rattle.mp_program.specs.declared.program.ExprKind.{ExprKind}
-use Rattle.mp_program.specs.declared.program.ExprKind.TheVariants.{Number, Named, Apply}
+use Rattle.mp_program.specs.declared.program.ExprKind.TheVariants.{Number, Named, True, Apply}
 use Rattle.mp_program.specs.declared.program.FormKind.{FormKind}
-use Rattle.mp_program.specs.declared.program.FormKind.TheVariants.{Set, Par, Call, Return}
+use Rattle.mp_program.specs.declared.program.FormKind.TheVariants.{Set, Cond, Par, Call, Return}
 use Rattle.mp_program.specs.declared.program.What.{What}
 use Rattle.mp_program.specs.declared.program.What.TheVariants.{Power, Ground, Phia, Phib, Phic, Register, Port, Signal}
 use Rattle.mp_program.specs.declared.program.Way.TheVariants.{Input, Output}
@@ -122,3 +122,25 @@ nested_calls = record {
 nested_calls_outputs : outputs_from nested_calls (zero_state nested_calls) ((1 ∷ []) ∷ (0 ∷ []) ∷ (0 ∷ []) ∷ (0 ∷ []) ∷ (0 ∷ []) ∷ (0 ∷ []) ∷ [])
     ≡ (0 ∷ []) ∷ (0 ∷ []) ∷ (2 ∷ []) ∷ (4 ∷ []) ∷ (3 ∷ []) ∷ (0 ∷ []) ∷ []
 nested_calls_outputs = refl
+
+-- (always (setq p n) (cond (e (setq q 5) (setq n 3)) (t (setq q 1))))
+abbrev guarded : Program
+guarded = record {
+  place = nowhere;
+  name = codes "x";
+  width = 4;
+  defs = supplies ++ def (codes "reset") (Signal Input) ∷ def (codes "e") (Signal Input) ∷ def (codes "n") Register
+      ∷ def (codes "q") (Port Output) ∷ def (codes "p") (Port Output) ∷ [];
+  exprs = expr (Named (codes "n")) ∷ expr (Named (codes "e")) ∷ expr (Number 5) ∷ expr (Number 3) ∷ expr True ∷ expr (Number 1) ∷ [];
+  forms = form (Set (codes "p") nowhere 0)
+      ∷ form (Cond (record { guard = 1; body = 2 ∷ 3 ∷ [] } ∷ record { guard = 4; body = 4 ∷ [] } ∷ []))
+      ∷ form (Set (codes "q") nowhere 2) ∷ form (Set (codes "n") nowhere 3) ∷ form (Set (codes "q") nowhere 5) ∷ [];
+  always = 0 ∷ 1 ∷ [];
+  processes = [];
+  fits = refl;
+}
+
+-- n is read as it was, and keeps what was written to it
+guarded_outputs : outputs_from guarded (zero_state guarded) ((1 ∷ 0 ∷ []) ∷ (0 ∷ 1 ∷ []) ∷ (0 ∷ 0 ∷ []) ∷ (1 ∷ 0 ∷ []) ∷ (0 ∷ 0 ∷ []) ∷ [])
+    ≡ (1 ∷ 0 ∷ []) ∷ (5 ∷ 0 ∷ []) ∷ (1 ∷ 3 ∷ []) ∷ (1 ∷ 3 ∷ []) ∷ (1 ∷ 0 ∷ []) ∷ []
+guarded_outputs = refl
