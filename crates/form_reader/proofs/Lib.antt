@@ -5,3 +5,4 @@ pub mod Blocks
 pub mod Reached
 pub mod Order
 pub mod Unique
+pub mod First
