@@ -5,3 +5,5 @@ pub mod EndsLemmas
 pub mod RunLemmas
 pub mod Determined
 pub mod FirstFault
+pub mod Sources
+pub mod Transcripts
