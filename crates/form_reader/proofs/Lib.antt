@@ -6,3 +6,4 @@ pub mod Reached
 pub mod Order
 pub mod Unique
 pub mod First
+pub mod Symbols

@@ -9,7 +9,7 @@ ghost use Rattle.mp_base.specs.declared.refusal.Family.TheVariants.{E};
 ghost use Rattle.mp_base.specs.declared.refusal.Spot.TheVariants.{At};
 ghost use Rattle.mp_base.specs.declared.refusal.Refusal.TheVariants as refusals;
 ghost use Rattle.form_reader.specs.declared.forms.Forms as forms;
-ghost use Rattle.form_reader.specs.Sound.{IsSound};
+ghost use Rattle.form_reader.specs.Sound.{HasSymbols, IsSound};
 ghost use Rattle.form_reader.specs.Spelling.{IsKindOf, Spells};
 ghost use Rattle.form_reader.specs.Rules.{Breaks, RefusesFirst};
 ghost use Rattle.form_reader.specs.Text.{fills_gap, IsByte};
@@ -205,6 +205,8 @@ pub fn read_forms(alloc: Global, bytes: &[u8]) -> Result<Forms, Refusal>
     requires { length bytes.now + 1 < 2 ^ 32 }
     ensures spelled { IfOk result (Spells bytes.now) }
     ensures sound { IfOk result IsSound }
+    ensures symbols { IfOk result HasSymbols }
+    ensures few { IfOk result (λ f. length f.nodes ≤ length bytes.now) }
     ensures whole { OnOk result ((k o : ℕ) → Breaks bytes.now k o → ⊥) }
     ensures first { IfErr result (RefusesFirst bytes.now) }
     ensures read { (f : forms.Forms) → Spells bytes.now f → MatchResult result (λ r. r ≡ f) (λ e. e ≡ refusals.NoMemory) }
