@@ -1,13 +1,19 @@
 -- What a stimulus gives its inputs.
-use Rattle.std.specs.Prelude.{ℕ, List, [], ◌∷◌, Bool, true, cond, not, ◌&&◌, ◌==◌, nat_lt, length, slice_index_or}
+use Rattle.std.specs.Prelude.{ℕ, zero, suc, List, [], ◌∷◌, Bool, true, cond, not, ◌&&◌, ◌==◌, nat_lt}
 use Rattle.std.specs.List.{list_any, list_all}
 use Rattle.mp_base.specs.declared.pad.Pad.{Pad}
 use Rattle.stimulus.specs.declared.given.Given.{Given}
 use Rattle.stimulus.specs.Rules.{bound}
 
+-- what the values of the pad at a place are below; no pad stands past the end
+abbrev pub bound_at : List Pad → ℕ → ℕ
+bound_at [] i = 0
+bound_at (p ∷ ps) zero = bound p
+bound_at (p ∷ ps) (suc i) = bound_at ps i
+
 -- the input is one of these pads, and the value fits it
 abbrev pub is_fitting : List Pad → Given → Bool
-is_fitting inputs g = nat_lt g.input (length inputs) && nat_lt g.value (bound (slice_index_or inputs g.input (record { name = []; width = 0 })))
+is_fitting inputs g = nat_lt g.value (bound_at inputs g.input)
 
 -- each value fits, and no input comes twice
 abbrev pub is_fitting_clock : List Pad → List Given → Bool

@@ -7,11 +7,11 @@ use Rattle.stimulus.specs.declared.given.Stimulus.{Stimulus}
 use Rattle.stimulus.specs.declared.piece.Piece.{Piece}
 use Rattle.stimulus.specs.declared.reading.Reading.{Reading}
 use Rattle.stimulus.specs.Words.{lines}
-use Rattle.stimulus.specs.Rules.{Adds, FirstIn, pads_of}
+use Rattle.stimulus.specs.Rules.{Adds, FirstIn, inputs_of, outputs_of}
 
 -- before the first line
 abbrev pub nothing : Reading
-nothing = record { header = record { inputs = []; outputs = [] }; clocks = [] }
+nothing = record { inputs = []; outputs = []; clocks = [] }
 
 -- line by line, none of which breaks a rule
 abbrev pub Reads : Option Pads → Reading → List (List Piece) → Reading → Type 0
@@ -25,9 +25,11 @@ FirstBroken known r (line ∷ more) k at = FirstIn known r line k at ⊎ ((s : R
 
 -- the text breaks no rule, and spells this stimulus
 pub record IsStimulus (text : List ℕ) (known : Option Pads) (s : Stimulus) : Type 0 where
-  pub header : Pads
-  pub reads : Reads known nothing (lines text) (record { header = header; clocks = s.clocks })
-  pub pads : s.pads ≡ pads_of known header
+  pub reading : Reading
+  pub reads : Reads known nothing (lines text) reading
+  pub inputs : (s.pads).inputs ≡ inputs_of known reading
+  pub outputs : (s.pads).outputs ≡ outputs_of known reading
+  pub clocks : s.clocks ≡ reading.clocks
 
 -- the first rule that the text breaks, and where
 pub record IsFirst (text : List ℕ) (known : Option Pads) (k : ℕ) (at : Place) : Type 0 where

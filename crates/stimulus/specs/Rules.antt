@@ -1,9 +1,10 @@
 -- What a line adds to what was read before it, or which of the rules S1 to S4 it breaks first.
-use Rattle.std.specs.Prelude.{◌≡◌, ◌≢◌, ◌⊎◌, ℕ, ◌+◌, ◌<◌, ◌≤◌, ◌^◌, List, [], ◌∷◌, ◌++◌, Bool, true, false, cond, not, ◌&&◌, ◌==◌, nat_lt, length, codes, position, AllPairs, Option, Some, None, slice_index_or}
+use Rattle.std.specs.Prelude.{◌≡◌, ◌≢◌, ◌⊎◌, ℕ, ◌+◌, ◌<◌, ◌≤◌, ◌^◌, List, [], ◌∷◌, ◌++◌, Bool, true, false, cond, not, ◌&&◌, ◌==◌, nat_lt, length, position, AllPairs, Option, Some, None, slice_index_or}
 use Rattle.std.specs.List.{list_any}
 use Rattle.std.specs.Str.{bytes_eq}
 use Rattle.mp_base.specs.declared.pad.Pad.{Pad}
 use Rattle.mp_base.specs.declared.pad.Pads.{Pads}
+use Rattle.mp_base.specs.PadNames.{supplies}
 use Rattle.stimulus.specs.declared.given.Given.{Given}
 use Rattle.stimulus.specs.declared.piece.Piece.{Piece}
 use Rattle.stimulus.specs.declared.form.Assignment.{Assignment}
@@ -15,11 +16,8 @@ use Rattle.stimulus.specs.declared.fault.Fault.TheVariants.{NoMemory, Breaks}
 use Rattle.stimulus.specs.Forms.{IsForm, is_clock}
 
 -- the names that no pad of a header may have
-abbrev pub reserved : List (List ℕ)
-reserved = codes "vdd" ∷ codes "gnd" ∷ codes "phia" ∷ codes "phib" ∷ codes "phic" ∷ []
-
 abbrev pub is_reserved : List ℕ → Bool
-is_reserved name = list_any (λ r. bytes_eq name r) reserved
+is_reserved name = list_any (λ label. bytes_eq name label) supplies
 
 -- a pad has this name
 abbrev pub has_pad : List ℕ → List Pad → Bool
@@ -28,8 +26,8 @@ has_pad name pads = list_any (λ (p : Pad). bytes_eq p.name name) pads
 -- a header line may have this pad here: no clock line came, the name is new and not reserved, and fewer than 256 came
 abbrev pub is_new_pad : Reading → List ℕ → Bool
 is_new_pad r name =
-    (length r.clocks == 0) && (nat_lt (length (r.header).inputs + length (r.header).outputs) 256
-    && (not (is_reserved name) && (not (has_pad name (r.header).inputs) && not (has_pad name (r.header).outputs))))
+    (length r.clocks == 0) && (nat_lt (length r.inputs + length r.outputs) 256
+    && (not (is_reserved name) && (not (has_pad name r.inputs) && not (has_pad name r.outputs))))
 
 -- the form may stand here; no name twice in a clock line
 abbrev pub IsInPlace : Reading → Form → Type 0
@@ -51,13 +49,13 @@ is_known None way p = true
 is_known (Some pads) way p = list_any (is_same p) (way pads)
 
 -- the pads that are known, or else those of the header
-abbrev pub pads_of : Option Pads → Pads → Pads
-pads_of None header = header
-pads_of (Some known) header = known
-
--- the pads that clock lines speak of
 abbrev pub inputs_of : Option Pads → Reading → List Pad
-inputs_of known r = (pads_of known r.header).inputs
+inputs_of None r = r.inputs
+inputs_of (Some known) r = known.inputs
+
+abbrev pub outputs_of : Option Pads → Reading → List Pad
+outputs_of None r = r.outputs
+outputs_of (Some known) r = known.outputs
 
 -- how many bits a pad has
 abbrev pub bits_of : Pad → ℕ
@@ -113,11 +111,11 @@ Misfits known r line (Clock xs) k at = FirstMisfit (inputs_of known r) xs k at
 abbrev pub AddsForm : Option Pads → Reading → Form → Reading → Type 0
 AddsForm known r (Input p) t =
     (is_known known (λ q. q.inputs) p ≡ true)
-    × (t ≡ record { header = record { inputs = (r.header).inputs ++ p ∷ []; outputs = (r.header).outputs }; clocks = r.clocks })
+    × (t ≡ record { inputs = r.inputs ++ p ∷ []; outputs = r.outputs; clocks = r.clocks })
 AddsForm known r (Output p) t =
     (is_known known (λ q. q.outputs) p ≡ true)
-    × (t ≡ record { header = record { inputs = (r.header).inputs; outputs = (r.header).outputs ++ p ∷ [] }; clocks = r.clocks })
-AddsForm known r (Clock xs) t = (gs : List Given) × AreGiven (inputs_of known r) xs gs × (t ≡ record { header = r.header; clocks = r.clocks ++ gs ∷ [] })
+    × (t ≡ record { inputs = r.inputs; outputs = r.outputs ++ p ∷ []; clocks = r.clocks })
+AddsForm known r (Clock xs) t = (gs : List Given) × AreGiven (inputs_of known r) xs gs × (t ≡ record { inputs = r.inputs; outputs = r.outputs; clocks = r.clocks ++ gs ∷ [] })
 
 -- the line breaks no rule behind r, and then t was read
 pub record Adds (known : Option Pads) (r : Reading) (line : List Piece) (t : Reading) : Type 0 where

@@ -3,7 +3,7 @@
 ghost use Rattle.std.specs.Prelude.{◌≡◌, ◌↔◌, IsTrue, ◌+◌, ◌<◌, ◌≤◌, ◌^◌, List, length, OnOk, IfOk, IfErr};
 ghost use Rattle.std.specs.Option.{option_copied};
 ghost use Rattle.stimulus.specs.declared.form.Form.TheVariants.{Input, Output, Clock};
-ghost use Rattle.stimulus.specs.Rules.{is_new_pad, is_known, IsFull, start_of, second_of, pads_of, IsGiven, IsMisfit, AreGiven, FirstMisfit, IsFault, IsInPlace, AddsForm, FormFault, Adds, FirstIn};
+ghost use Rattle.stimulus.specs.Rules.{is_new_pad, is_known, IsFull, start_of, second_of, inputs_of, IsGiven, IsMisfit, AreGiven, FirstMisfit, IsFault, IsInPlace, AddsForm, FormFault, Adds, FirstIn};
 ghost use Rattle.stimulus.specs.Reading.{nothing};
 
 use crate::fault::Fault;
@@ -33,15 +33,6 @@ fn second_of(line: &[Piece]) -> u32
     match line {
         [] => 0,
         [_, rest @ ..] => start_of(rest),
-    }
-}
-
-fn inputs_of<'a>(known: Option<&'a Pads>, header: &'a Pads) -> &'a [Pad]
-    ensures { result.now ≡ (pads_of (option_copied known.entry) header.now).inputs }
-{
-    match known {
-        Some(pads) => pads.inputs.as_slice(),
-        None => header.inputs.as_slice(),
     }
 }
 
@@ -97,11 +88,18 @@ impl Reading {
         ensures { result ≡ nothing }
     {
         Reading {
-            header: Pads {
-                inputs: List::new(alloc),
-                outputs: List::new(alloc),
-            },
+            inputs: List::new(alloc),
+            outputs: List::new(alloc),
             clocks: List::new(alloc),
+        }
+    }
+
+    fn inputs_of<'a>(&'a self, known: Option<&'a Pads>) -> &'a [Pad]
+        ensures { result.now ≡ inputs_of (option_copied known.entry) self.now }
+    {
+        match known {
+            Some(pads) => pads.inputs.as_slice(),
+            None => self.inputs.as_slice(),
         }
     }
 
@@ -115,11 +113,11 @@ impl Reading {
         ensures { result ≡ is_new_pad self.now name.now }
     {
         self.clocks.len() == 0
-            && self.header.inputs.len() < PADS
-            && self.header.outputs.len() < PADS - self.header.inputs.len()
+            && self.inputs.len() < PADS
+            && self.outputs.len() < PADS - self.inputs.len()
             && !is_reserved(name)
-            && !has_pad(name, self.header.inputs.as_slice())
-            && !has_pad(name, self.header.outputs.as_slice())
+            && !has_pad(name, self.inputs.as_slice())
+            && !has_pad(name, self.outputs.as_slice())
     }
 
     fn add_input(&mut self, line: &[Piece], pad: Pad, known: Option<&Pads>) -> Result<(), Fault>
@@ -132,7 +130,7 @@ impl Reading {
         if !is_known_input(known, &pad) {
             return Err(Fault::Breaks(2, second_of(line)));
         }
-        self.header.inputs.push(pad)?;
+        self.inputs.push(pad)?;
         Ok(())
     }
 
@@ -146,26 +144,26 @@ impl Reading {
         if !is_known_output(known, &pad) {
             return Err(Fault::Breaks(2, second_of(line)));
         }
-        self.header.outputs.push(pad)?;
+        self.outputs.push(pad)?;
         Ok(())
     }
 
     fn add_clock(&mut self, alloc: Global, line: &[Piece], words: List<Assignment>, known: Option<&Pads>) -> Result<(), Fault>
-        requires { length (pads_of (option_copied known) self.old.header).inputs < 2 ^ 32 }
+        requires { length (inputs_of (option_copied known) self.old) < 2 ^ 32 }
         ensures ok { OnOk result (IsInPlace self.old (Clock words) × AddsForm (option_copied known.entry) self.old (Clock words) self.new) }
         ensures err { IfErr result (λ e. IsFault e (FormFault (option_copied known.entry) self.old line.now (Clock words))) }
     {
         if !are_apart(alloc, words.as_slice())? {
             return Err(Fault::Breaks(1, start_of(line)));
         }
-        let given = givens(alloc, inputs_of(known, &self.header), words.as_slice())?;
+        let given = givens(alloc, self.inputs_of(known), words.as_slice())?;
         self.clocks.push(given)?;
         Ok(())
     }
 
     /// Adds what a line of these words says, and says else which rule it breaks first.
     pub(crate) fn add(&mut self, alloc: Global, line: &[Piece], known: Option<&Pads>) -> Result<(), Fault>
-        requires { length (pads_of (option_copied known) self.old.header).inputs < 2 ^ 32 }
+        requires { length (inputs_of (option_copied known) self.old) < 2 ^ 32 }
         ensures ok { OnOk result (Adds (option_copied known.entry) self.old line.now self.new) }
         ensures err { IfErr result (λ e. IsFault e (FirstIn (option_copied known.entry) self.old line.now)) }
     {

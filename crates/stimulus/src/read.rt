@@ -4,10 +4,11 @@ ghost use Rattle.std.specs.Prelude.{◌≡◌, ◌+◌, ◌<◌, ◌≤◌, ◌^
 ghost use Rattle.std.specs.Option.{option_copied};
 ghost use Rattle.std.specs.Str.Lines.{strip_carriage_return};
 ghost use Rattle.mp_base.specs.Lines.{place_at};
+ghost use Rattle.mp_base.specs.PadNames.{ArePadNames, names_of};
 ghost use Rattle.mp_base.specs.Refuses.{RefusesAt};
 ghost use Rattle.mp_base.specs.declared.refusal.Family.TheVariants.{S};
 ghost use Rattle.stimulus.specs.Words.{lines, kept_before};
-ghost use Rattle.stimulus.specs.Rules.{pads_of, IsFault};
+ghost use Rattle.stimulus.specs.Rules.{inputs_of, outputs_of, IsFault};
 ghost use Rattle.stimulus.specs.Reading.{nothing, Reads, FirstBroken, IsStimulus, IsFirst};
 ghost use Rattle.stimulus.specs.Fitting.{are_fitting};
 
@@ -35,7 +36,7 @@ fn add_line(
     words: &[Piece],
     known: Option<&Pads>,
 ) -> Result<(), Fault>
-    requires { length (pads_of (option_copied known) reading.old.header).inputs < 2 ^ 32 }
+    requires { length (inputs_of (option_copied known) reading.old) < 2 ^ 32 }
     ensures ok { OnOk result (Reads (option_copied known.entry) reading.old (kept_before words.now []) reading.new) }
     ensures err { IfErr result (λ e. IsFault e (FirstBroken (option_copied known.entry) reading.old (kept_before words.now []))) }
 {
@@ -100,25 +101,32 @@ fn copy_list(alloc: Global, pads: &[Pad]) -> Result<List<Pad>, AllocError>
 }
 
 fn copy_pads(alloc: Global, pads: &Pads) -> Result<Pads, AllocError>
-    ensures { IfOk result (λ copy. copy ≡ pads.now) }
+    ensures { IfOk result (λ copy. (copy.inputs ≡ pads.now.inputs) × (copy.outputs ≡ pads.now.outputs)) }
 {
-    Ok(Pads {
-        inputs: copy_list(alloc, pads.inputs.as_slice())?,
-        outputs: copy_list(alloc, pads.outputs.as_slice())?,
-    })
+    let inputs = copy_list(alloc, pads.inputs.as_slice())?;
+    let outputs = copy_list(alloc, pads.outputs.as_slice())?;
+    Ok(Pads { inputs, outputs })
 }
 
 /// The stimulus of what was read.
 fn stimulus_of(alloc: Global, reading: Reading, known: Option<&Pads>) -> Result<Stimulus, AllocError>
-    requires { are_fitting (pads_of (option_copied known) reading.header).inputs reading.clocks ≡ true }
-    ensures { IfOk result (λ s. (s.pads ≡ pads_of (option_copied known.entry) reading.header) × (s.clocks ≡ reading.clocks)) }
+    requires named { ArePadNames (names_of reading.inputs reading.outputs (λ pad. pad.name)) }
+    requires fitting { are_fitting (inputs_of (option_copied known) reading) reading.clocks ≡ true }
+    ensures inputs { IfOk result (λ s. s.pads.inputs ≡ inputs_of (option_copied known.entry) reading) }
+    ensures outputs { IfOk result (λ s. s.pads.outputs ≡ outputs_of (option_copied known.entry) reading) }
+    ensures clocks { IfOk result (λ s. s.clocks ≡ reading.clocks) }
 {
-    let Reading { header, clocks } = reading;
-    let pads = match known {
-        Some(pads) => copy_pads(alloc, pads)?,
-        None => header,
-    };
-    Ok(Stimulus { pads, clocks })
+    let Reading { inputs, outputs, clocks } = reading;
+    match known {
+        Some(pads) => {
+            let pads = copy_pads(alloc, pads)?;
+            Ok(Stimulus { pads, clocks })
+        }
+        None => {
+            let pads = Pads { inputs, outputs };
+            Ok(Stimulus { pads, clocks })
+        }
+    }
 }
 
 /// Reads a stimulus file, whose pads are those that are known, or else those of its header.

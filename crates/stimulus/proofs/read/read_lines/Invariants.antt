@@ -9,7 +9,7 @@ use Rattle.stimulus.proofs.read.read_lines.Given as goal
 abbrev pub invariant-lines : goal.invariant-lines
 invariant-lines l = record {
     within : l.start ≤ length l.text;
-    few : length (l.reading.header).inputs ≤ 256;
+    few : length (l.reading).inputs ≤ 256;
     reads : (t : Reading) → Reads (option_copied l.known) l.reading (words_of_lines l.start (slice_split is_feed (drop l.start l.text))) t → Reads (option_copied l.known) nothing (lines l.text) t;
     breaks : (k at : ℕ) → FirstBroken (option_copied l.known) l.reading (words_of_lines l.start (slice_split is_feed (drop l.start l.text))) k at → FirstBroken (option_copied l.known) nothing (lines l.text) k at }
 
