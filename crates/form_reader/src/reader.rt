@@ -205,16 +205,8 @@ pub fn read_forms(alloc: Global, bytes: &[u8]) -> Result<Forms, Refusal>
     requires { length bytes.now + 1 < 2 ^ 32 }
     ensures spelled { IfOk result (Spells bytes.now) }
     ensures sound { IfOk result IsSound }
-<<<<<<< HEAD
-<<<<<<< HEAD
     ensures symbols { IfOk result HasSymbols }
     ensures few { IfOk result (λ f. length f.nodes ≤ length bytes.now) }
-=======
-    ensures few { IfOk result (λ forms. length forms.nodes ≤ length bytes.now) }
->>>>>>> cd268a293be8f28b2d9d14a77b5994649b2f8cbe
-=======
-    ensures few { IfOk result (λ f. length f.nodes ≤ length bytes.now) }
->>>>>>> fe45f5808c33ce78e648835ccf88a27d9a8e952b
     ensures whole { OnOk result ((k o : ℕ) → Breaks bytes.now k o → ⊥) }
     ensures first { IfErr result (RefusesFirst bytes.now) }
     ensures read { (f : forms.Forms) → Spells bytes.now f → MatchResult result (λ r. r ≡ f) (λ e. e ≡ refusals.NoMemory) }
