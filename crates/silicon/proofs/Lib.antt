@@ -6,4 +6,3 @@ pub mod RunLemmas
 pub mod Determined
 pub mod FirstFault
 pub mod Sources
-pub mod Transcripts

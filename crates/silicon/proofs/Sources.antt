@@ -1,7 +1,12 @@
 -- Texts that spell no program of signals.
-use Rattle.std.proofs.Common.{◌≡◌, ◌⊎◌, ◌≤◌, ℕ, List, refl, sym, ap, subst, ◌∙◌, inl, inr, Option, Some, None, Result, Ok, Err, MatchResult, arith}
+use Rattle.std.proofs.Common.{◌≡◌, ◌⊎◌, ◌≤◌, ℕ, List, refl, sym, ap, subst, ◌∙◌, inl, inr, Option, Some, None, Result, Ok, Err, MatchOption, IfOk, arith}
 use Rattle.mp_base.specs.declared.refusal.Place.{Place}
 use Rattle.mp_base.specs.declared.refusal.Broken.{Broken}
+use Rattle.mp_base.specs.declared.refusal.Family.TheVariants.{E}
+use Rattle.mp_base.specs.declared.refusal.Spot.{Spot}
+use Rattle.mp_base.specs.declared.refusal.Spot.TheVariants.{At, Offset, Named, Nowhere}
+use Rattle.mp_base.specs.Refuses.{RefusesAt, SpotIs}
+use Rattle.mp_shapes.specs.Standing.{E10}
 use Rattle.mp_base.specs.declared.refusal.Refusal.{Refusal}
 use Rattle.mp_base.specs.declared.refusal.Refusal.TheVariants as refusal
 use Rattle.form_reader.specs.declared.forms.Forms.{Forms}
@@ -9,8 +14,9 @@ use Rattle.form_reader.specs.Text.{place_at}
 use Rattle.form_reader.specs.Spelling.{Spells}
 use Rattle.form_reader.specs.Rules.{E1, Breaks}
 use Rattle.mp_program.specs.declared.program.Program.{Program}
-use Rattle.mp_syntax.specs.Shape.{IsShape}
+use Rattle.mp_syntax.specs.Shape.{IsShape, IsFirst, E11}
 use Rattle.mp_checker.specs.Signals.{IsSignalProgram}
+use Rattle.mp_checker.specs.Checking.{CheckedProgram}
 use Rattle.silicon.specs.Source.{IsSignalSource, IsFirstStray, OfSource, stray_byte, unbuilt}
 use Rattle.silicon.proofs.Determined.{IsDetermined}
 
@@ -24,19 +30,21 @@ OneProgram = (f : Forms) (p q : Program) → IsShape f p → IsShape f q → p �
 abbrev pub SpelledBreaksNothing : Type 0
 SpelledBreaksNothing = (text : List ℕ) (f : Forms) (k o : ℕ) → Spells text f → Breaks text k o → ⊥
 
--- the text spells no forms
-pub no_forms : (text : List ℕ) → ((f : Forms) → Spells text f → ⊥) → (p : Program) → IsSignalSource text p → ⊥
-no_forms text none p s = none s.forms s.spelled
+-- the program that forms have is judged
+pub checked_in : {E : Type 0} → OneProgram → (f : Forms) (program : Program) → IsShape f program → (result : Result (Option CheckedProgram) E)
+    → IfOk result (λ found. MatchOption found (IsSignalProgram program → ⊥) (λ c. IsSignalProgram program × (c.program ≡ program)))
+    → IfOk result (λ found. MatchOption found ((p : Program) → IsShape f p → IsSignalProgram p → ⊥) (λ c. IsShape f c.program × IsSignalProgram c.program))
+checked_in one f program shape (Ok None) judged = λ p shaped signals. judged (subst IsSignalProgram (one f p program shaped shape) signals)
+checked_in one f program shape (Ok (Some c)) judged = (subst (IsShape f) (sym judged.1) shape, subst IsSignalProgram (sym judged.1) judged.0)
+checked_in one f program shape (Err e) judged = tt
 
--- the forms spell no program
-pub no_shape : OneSpelling → (text : List ℕ) (f : Forms) → Spells text f → ((p : Program) → IsShape f p → ⊥) → (p : Program) → IsSignalSource text p → ⊥
-no_shape one text f spelled none p s = none p (subst (λ g. IsShape g p) (one text s.forms f s.spelled spelled) s.shape)
-
--- the program is none of signals
-pub no_signals : OneSpelling → OneProgram → (text : List ℕ) (f : Forms) (p : Program) → Spells text f → IsShape f p → (IsSignalProgram p → ⊥) → (q : Program) → IsSignalSource text q → ⊥
-no_signals one same text f p spelled shape none q s =
-    let shaped : IsShape f q = subst (λ g. IsShape g q) (one text s.forms f s.spelled spelled) s.shape in
-    none (subst IsSignalProgram (same f q p shaped shape) s.signals)
+-- the forms that a text spells are judged
+pub spelled_in : {E : Type 0} → OneSpelling → (text : List ℕ) (f : Forms) → Spells text f → (result : Result (Option CheckedProgram) E)
+    → IfOk result (λ found. MatchOption found ((p : Program) → IsShape f p → IsSignalProgram p → ⊥) (λ c. IsShape f c.program × IsSignalProgram c.program))
+    → IfOk result (λ found. MatchOption found ((p : Program) → IsSignalSource text p → ⊥) (λ c. IsSignalSource text c.program))
+spelled_in one text f spelled (Ok None) judged = λ p s. judged p (subst (λ g. IsShape g p) (one text s.forms f s.spelled spelled) s.shape) s.signals
+spelled_in one text f spelled (Ok (Some c)) judged = record { forms = f; spelled = spelled; shape = judged.0; signals = judged.1 }
+spelled_in one text f spelled (Err e) judged = tt
 
 pub one_signal_source : OneSpelling → OneProgram → (text : List ℕ) (p q : Program) → IsSignalSource text p → IsSignalSource text q → p ≡ q
 one_signal_source one same text p q s t =
@@ -59,3 +67,16 @@ one_of_source clean text (Some a) (Some b) (inl x) (inl y) = ap Some (x.2 ∙ ap
 one_of_source clean text (Some a) (Some b) (inl x) (inr y) = absurd (y.0 x.0.offset x.1.broken)
 one_of_source clean text (Some a) (Some b) (inr x) (inl y) = absurd (x.0 y.0.offset y.1.broken)
 one_of_source clean text (Some a) (Some b) (inr x) (inr y) = ap Some (x.2 ∙ sym y.2)
+
+-- what the parser says of forms that spell no program
+pub none_is_broken : (f : Forms) (b : Broken) → ((p : Program) (at : Place) → IsShape f p → E10 f at ⊎ E11 f at → ⊥) → RefusesAt E (refusal.Broken b) (IsFirst f) → (p : Program) → IsShape f p → ⊥
+none_is_broken f b unbroken refuses p shape = at_spot b.spot refuses.1
+  where
+    first_is : (k : ℕ) (at : Place) → IsFirst f k at → ⊥
+    first_is k at (inl e) = unbroken p at shape (inl e.1.0)
+    first_is k at (inr e) = unbroken p at shape (inr e.1)
+    at_spot : (s : Spot) → SpotIs s (IsFirst f b.rule.number) → ⊥
+    at_spot (At at) h = first_is b.rule.number at h
+    at_spot (Offset o) h = h
+    at_spot (Named n) h = h
+    at_spot Nowhere h = h

@@ -2,8 +2,6 @@ pub mod Command
 pub mod Order
 pub mod Language
 pub mod Source
-pub mod Stimulus
-pub mod Transcript
 pub mod Faults
 pub mod Outcome
 pub mod Run

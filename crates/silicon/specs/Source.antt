@@ -1,16 +1,24 @@
 -- The rules of a source, while programs of signals alone are built.
-use Rattle.std.specs.Prelude.{◌≡◌, ◌⊎◌, ℕ, ◌≤◌, List, Option, Some, None}
+use Rattle.std.specs.Prelude.{◌≡◌, ◌⊎◌, ℕ, ◌≤◌, ◌<◌, ◌^◌, List, length, Option, Some, None}
 use Rattle.mp_base.specs.declared.refusal.Place.{Place}
 use Rattle.mp_base.specs.declared.refusal.Broken.{Broken}
 use Rattle.mp_base.specs.declared.refusal.Family.TheVariants.{E}
 use Rattle.mp_base.specs.declared.refusal.Spot.TheVariants.{At}
 use Rattle.form_reader.specs.declared.forms.Forms.{Forms}
 use Rattle.form_reader.specs.Text.{place_at}
+use Rattle.form_reader.specs.Sound.{IsSound, HasSymbols}
 use Rattle.form_reader.specs.Spelling.{Spells}
 use Rattle.form_reader.specs.Rules.{E1}
 use Rattle.mp_program.specs.declared.program.Program.{Program}
 use Rattle.mp_syntax.specs.Shape.{IsShape}
 use Rattle.mp_checker.specs.Signals.{IsSignalProgram}
+
+-- what the reader says of the forms that a text spells
+pub record AreForms (text : List ℕ) (forms : Forms) : Type 0 where
+  pub spelled : Spells text forms
+  pub sound : IsSound forms
+  pub symbols : HasSymbols forms
+  pub small : length forms.nodes < 2 ^ 32
 
 -- the text spells a program of signals
 pub record IsSignalSource (text : List ℕ) (program : Program) : Type 0 where
