@@ -5,3 +5,5 @@ pub mod Blocks
 pub mod Reached
 pub mod Order
 pub mod Unique
+pub mod First
+pub mod Symbols

@@ -3,7 +3,7 @@
 ghost use Rattle.std.specs.Prelude.{◌≡◌, ℕ, List};
 ghost use Rattle.form_reader.specs.declared.forms.Forms.{Forms};
 ghost use Rattle.form_reader.specs.Spelling.{Spells};
-ghost use Rattle.form_reader.specs.Rules.{Breaks};
+ghost use Rattle.form_reader.specs.Rules.{Breaks, IsFirst};
 
 /// A text spells at most one value of forms.
 pub fn one_spelling()
@@ -13,4 +13,9 @@ pub fn one_spelling()
 /// A text that spells forms breaks none of the rules E1 to E5.
 pub fn spelled_breaks_nothing()
     ensures { (text : List ℕ) (f : Forms) (k o : ℕ) → Spells text f → Breaks text k o → ⊥ }
+{}
+
+/// A text has at most one first broken rule.
+pub fn one_first_rule()
+    ensures { (text : List ℕ) (k o l q : ℕ) → IsFirst text k o → IsFirst text l q → (k ≡ l) × (o ≡ q) }
 {}

@@ -9,7 +9,7 @@ ghost use Rattle.mp_base.specs.declared.refusal.Family.TheVariants.{E};
 ghost use Rattle.mp_base.specs.declared.refusal.Spot.TheVariants.{At};
 ghost use Rattle.mp_base.specs.declared.refusal.Refusal.TheVariants as refusals;
 ghost use Rattle.form_reader.specs.declared.forms.Forms as forms;
-ghost use Rattle.form_reader.specs.Sound.{IsSound};
+ghost use Rattle.form_reader.specs.Sound.{HasSymbols, IsSound};
 ghost use Rattle.form_reader.specs.Spelling.{IsKindOf, Spells};
 ghost use Rattle.form_reader.specs.Rules.{Breaks, RefusesFirst};
 ghost use Rattle.form_reader.specs.Text.{fills_gap, IsByte};
@@ -52,6 +52,7 @@ struct Listed {
     end: Place,
 }
 
+/// The refusal of rule E `number`.
 fn broken(number: u16, place: Place) -> Refusal
     ensures { result ≡ refusals.Broken (record { rule = record { family = E; number = number }; spot = At place }) }
 {
@@ -195,11 +196,17 @@ fn group(
     Ok(end)
 }
 
-/// The forms that the bytes spell, or the first rule that they break: E1, E3, E4 and E5 from left to right, and then E2.
+/// The forms that a text of less than 4 GB spells. Their nodes are in text order, and each is a root or an item once.
+///
+/// Refuses a text that breaks a rule: E1 (a byte that stands for nothing), E3 (a `)` that closes nothing), E4 (a number
+/// over 2^64 - 1) and E5 (a list inside 64 others), whichever comes first in the text, and if none does, E2 (the
+/// outermost list that is open at the end).
 pub fn read_forms(alloc: Global, bytes: &[u8]) -> Result<Forms, Refusal>
     requires { length bytes.now + 1 < 2 ^ 32 }
     ensures spelled { IfOk result (Spells bytes.now) }
     ensures sound { IfOk result IsSound }
+    ensures symbols { IfOk result HasSymbols }
+    ensures few { IfOk result (λ f. length f.nodes ≤ length bytes.now) }
     ensures whole { OnOk result ((k o : ℕ) → Breaks bytes.now k o → ⊥) }
     ensures first { IfErr result (RefusesFirst bytes.now) }
     ensures read { (f : forms.Forms) → Spells bytes.now f → MatchResult result (λ r. r ≡ f) (λ e. e ≡ refusals.NoMemory) }

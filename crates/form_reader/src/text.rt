@@ -155,7 +155,8 @@ pub(crate) fn number(digits: &[u8]) -> Option<u64>
     Some(number)
 }
 
-/// The place of the first byte outside comments that no source may have there.
+/// The place of the first byte of a text of less than 4 GB that breaks rule E1: outside comments, and no blank,
+/// bracket, `;` or token character.
 pub fn find_stray(bytes: &[u8]) -> Option<Place>
     requires { length bytes.now + 1 < 2 ^ 32 }
     ensures { MatchOption result ((o : ℕ) → E1 bytes.now o → ⊥) (λ at. (at ≡ place_at bytes.now at.offset) × E1 bytes.now at.offset × ((o : ℕ) → E1 bytes.now o → at.offset ≤ o)) }

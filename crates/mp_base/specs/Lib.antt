@@ -1,4 +1,5 @@
 pub mod Apply
+pub mod Lines
 pub mod Merge
 pub mod Table
 pub mod Token

@@ -19,7 +19,8 @@ fn branch_of(
     ranks: &Ranks,
     node: u32,
 ) -> Result<Branch, AllocError>
-    requires { node < length forms.now.nodes }
+    requires sound { IsSound forms.now }
+    requires inside { node < length forms.now.nodes }
     ensures { IfOk result (λ branch. branch ≡ branch_at forms.now (slice_index ranks.now.exprs) (slice_index ranks.now.forms) node) }
 {
     let items = items_at(forms, node);
@@ -34,7 +35,8 @@ fn branches_of(
     ranks: &Ranks,
     nodes: &[u32],
 ) -> Result<List<Branch>, AllocError>
-    requires { (k : ℕ) → k < length nodes.now → slice_index nodes.now k < length forms.now.nodes }
+    requires sound { IsSound forms.now }
+    requires inside { (k : ℕ) → k < length nodes.now → slice_index nodes.now k < length forms.now.nodes }
     ensures { IfOk result (λ branches. branches ≡ map (branch_at forms.now (slice_index ranks.now.exprs) (slice_index ranks.now.forms)) nodes.now) }
 {
     let mut branches = List::new(alloc);
@@ -51,6 +53,7 @@ fn kind_of(
     items: &[u32],
     layout: Option<Layout>,
 ) -> Result<FormKind, AllocError>
+    requires sound { IsSound forms.now }
     requires some { 0 < length forms.now.nodes }
     requires inside { (k : ℕ) → k < length items.now → slice_index items.now k < length forms.now.nodes }
     ensures { IfOk result (λ kind. kind ≡ form_kind forms.now (slice_index ranks.now.exprs) (slice_index ranks.now.forms) items.now layout) }

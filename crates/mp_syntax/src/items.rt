@@ -7,7 +7,7 @@ ghost use Rattle.mp_shapes.specs.Layout.{is_symbol};
 ghost use Rattle.mp_syntax.specs.Shape.{always_at, labels_from, process_at, process_of};
 
 use crate::exprs::append_entries;
-use crate::nodes::{behind, is_symbol, item, items_at, name_at, node_at, number_at};
+use crate::nodes::{behind, elements_at, is_symbol, item, items_at, name_at, node_at, number_at};
 use form_reader::Forms;
 use mp_base::List;
 use mp_program::{Label, Process};
@@ -65,7 +65,7 @@ fn process_of(
     ensures { IfOk result (λ process. process ≡ process_of forms.now (slice_index ranks.now) node (items_of (kind_at forms.now node))) }
 {
     let items = items_at(forms, node);
-    let elements = behind(items, 3);
+    let elements = elements_at(forms, node);
     Ok(Process {
         place: node_at(forms, node).place,
         name: name_at(alloc, forms, item(items, 1))?,

@@ -1,7 +1,7 @@
 //! What nodes hold. No node has a defect here, so what is asked for is there.
 
-ghost use Rattle.std.specs.Prelude.{◌≡◌, ◌<◌, IfOk, drop, length, slice_index};
-ghost use Rattle.form_reader.specs.Sound.{items_of, kind_at, node};
+ghost use Rattle.std.specs.Prelude.{◌≡◌, ◌<◌, ◌≤◌, ℕ, IfOk, drop, length, slice_index};
+ghost use Rattle.form_reader.specs.Sound.{IsSound, items_of, kind_at, node};
 ghost use Rattle.mp_shapes.specs.Layout.{is_symbol};
 ghost use Rattle.mp_syntax.specs.Shape.{name_at, number_at};
 
@@ -18,13 +18,26 @@ pub fn node_at(forms: &Forms, index: u32) -> &Node
 
 /// The items of a list, its head included.
 pub fn items_at(forms: &Forms, node: u32) -> &[u32]
-    requires { node < length forms.now.nodes }
-    ensures { result.now ≡ items_of (kind_at forms.now node) }
+    requires sound { IsSound forms.now }
+    requires inside { node < length forms.now.nodes }
+    ensures value { result.now ≡ items_of (kind_at forms.now node) }
+    ensures inside { (k : ℕ) → k < length result.now → slice_index result.now k < length forms.now.nodes }
 {
     match &node_at(forms, node).kind {
         Kind::Group(items) => items.as_slice(),
         _ => &[],
     }
+}
+
+/// The items of a program or process behind its name and number.
+pub fn elements_at(forms: &Forms, node: u32) -> &[u32]
+    requires sound { IsSound forms.now }
+    requires inside { node < length forms.now.nodes }
+    ensures value { result.now ≡ drop 3 (items_of (kind_at forms.now node)) }
+    ensures inside { (k : ℕ) → k < length result.now → slice_index result.now k < length forms.now.nodes }
+    ensures few { length result.now ≤ length forms.now.nodes }
+{
+    behind(items_at(forms, node), 3)
 }
 
 pub fn name_at(alloc: Global, forms: &Forms, node: u32) -> Result<Name, AllocError>

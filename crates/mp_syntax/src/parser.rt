@@ -1,18 +1,18 @@
 //! The program that forms spell, or the first broken rule.
 
-ghost use Rattle.std.specs.Prelude.{◌≡◌, ◌<◌, ◌^◌, ◌⊎◌, IfErr, IfOk, length, slice_index};
+ghost use Rattle.std.specs.Prelude.{◌≡◌, ◌<◌, ◌≤◌, ◌^◌, ◌⊎◌, [], ◌∷◌, IfErr, IfOk, length, slice_index};
 ghost use Rattle.form_reader.specs.Sound.{HasSymbols, IsSound, items_of, kind_at};
 ghost use Rattle.mp_base.specs.Refuses.{RefusesAt};
 ghost use Rattle.mp_base.specs.declared.refusal.Family.TheVariants.{E};
 ghost use Rattle.mp_base.specs.declared.refusal.Place.{Place};
-ghost use Rattle.mp_shapes.specs.Standing.{E10};
-ghost use Rattle.mp_syntax.specs.Shape.{E11, IsFirst, IsShape};
+ghost use Rattle.mp_shapes.specs.Standing.{AreClasses, E10};
+ghost use Rattle.mp_syntax.specs.Shape.{E11, IsFirst, IsShape, number_at};
 
 use crate::defs::defs_of;
 use crate::exprs::exprs_of;
 use crate::forms::forms_of;
 use crate::items::{always_of, processes_of};
-use crate::nodes::{behind, item, items_at, name_at, node_at, number_at};
+use crate::nodes::{elements_at, item, items_at, name_at, node_at, number_at};
 use crate::ranks::number;
 use form_reader::Forms;
 use mp_base::{Broken, Family, List, Place, Refusal, Rule, Spot};
@@ -38,10 +38,18 @@ fn program_of(
     classes: &List<Option<Class>>,
     root: u32,
 ) -> Result<Program, AllocError>
+    requires sound { IsSound forms.now }
+    requires symbols { HasSymbols forms.now }
+    requires small { length forms.now.nodes < 2 ^ 32 }
+    requires one { forms.now.roots ≡ root ∷ [] }
+    requires known { AreClasses forms.now classes.now }
+    requires low { 1 ≤ number_at forms.now (slice_index (items_of (kind_at forms.now root)) 2) }
+    requires high { number_at forms.now (slice_index (items_of (kind_at forms.now root)) 2) ≤ 32 }
+    ensures { IfOk result (IsShape forms.now) }
 {
     let ranks = number(alloc, forms, classes)?;
     let items = items_at(forms, root);
-    let rest = behind(items, 3);
+    let rest = elements_at(forms, root);
     Ok(Program {
         place: node_at(forms, root).place,
         name: name_at(alloc, forms, item(items, 1))?,

@@ -1,0 +1,3 @@
+pub mod Quiet
+pub mod Driving
+pub mod Padding

@@ -1,0 +1,10 @@
+pub mod Adding
+pub mod Apart
+pub mod Cutting
+pub mod Fitness
+pub mod Giving
+pub mod Naming
+pub mod Numbers
+pub mod Stepping
+pub mod Unique
+pub mod Values

@@ -1,0 +1,155 @@
+//! Reading a stimulus file.
+
+ghost use Rattle.std.specs.Prelude.{◌≡◌, ◌+◌, ◌<◌, ◌≤◌, ◌^◌, List, [], length, OnOk, IfOk, IfErr, IfSome, IsTrue, cond, nat_lt, slice_range, true};
+ghost use Rattle.std.specs.Option.{option_copied};
+ghost use Rattle.std.specs.Str.Lines.{strip_carriage_return};
+ghost use Rattle.mp_base.specs.Lines.{place_at};
+ghost use Rattle.mp_base.specs.PadNames.{ArePadNames, names_of};
+ghost use Rattle.mp_base.specs.Refuses.{RefusesAt};
+ghost use Rattle.mp_base.specs.declared.refusal.Family.TheVariants.{S};
+ghost use Rattle.stimulus.specs.Words.{lines, kept_before};
+ghost use Rattle.stimulus.specs.Rules.{inputs_of, outputs_of, IsFault};
+ghost use Rattle.stimulus.specs.Reading.{nothing, Reads, FirstBroken, IsStimulus, IsFirst};
+ghost use Rattle.stimulus.specs.Fitting.{are_fitting};
+
+use crate::fault::Fault;
+use crate::given::Stimulus;
+use crate::piece::{is_skipped, line_end, without_return, words_of, Piece};
+use crate::reading::Reading;
+use mp_base::{Broken, Family, List, Name, Pad, Pads, Place, Refusal, Rule, Spot};
+use std::alloc::{AllocError, Global};
+
+/// The line from its start to its end, without a carriage return before its line feed.
+fn line_at(text: &[u8], start: usize, end: usize) -> &[u8]
+    requires order { start ≤ end }
+    requires within { end ≤ length text.now }
+    ensures { result.now ≡ cond (nat_lt end (length text.now)) (strip_carriage_return (slice_range text.now start end)) (slice_range text.now start end) }
+{
+    let line = &text[start..end];
+    if end < text.len() { without_return(line) } else { line }
+}
+
+/// Adds what a line says, unless it is skipped.
+fn add_line(
+    reading: &mut Reading,
+    alloc: Global,
+    words: &[Piece],
+    known: Option<&Pads>,
+) -> Result<(), Fault>
+    requires { length (inputs_of (option_copied known) reading.old) < 2 ^ 32 }
+    ensures ok { OnOk result (Reads (option_copied known.entry) reading.old (kept_before words.now []) reading.new) }
+    ensures err { IfErr result (λ e. IsFault e (FirstBroken (option_copied known.entry) reading.old (kept_before words.now []))) }
+{
+    if is_skipped(words) {
+        return Ok(());
+    }
+    reading.add(alloc, words, known)
+}
+
+fn read_lines(alloc: Global, text: &[u8], known: Option<&Pads>) -> Result<Reading, Fault>
+    requires short { length text.now + 1 < 2 ^ 32 }
+    requires few { IfSome known (λ pads. length pads.now.inputs < 2 ^ 32) }
+    ensures ok { IfOk result (Reads (option_copied known.entry) nothing (lines text.now)) }
+    ensures err { IfErr result (λ e. IsFault e (FirstBroken (option_copied known.entry) nothing (lines text.now))) }
+{
+    let mut reading = Reading::new(alloc);
+    let mut start = 0;
+    'lines: loop {
+        let end = line_end(text, start);
+        let words = words_of(alloc, line_at(text, start, end), start as u32)?;
+        add_line(&mut reading, alloc, words.as_slice(), known)?;
+        if end == text.len() {
+            return Ok(reading);
+        }
+        start = end + 1;
+    }
+}
+
+/// The place of an offset.
+fn place_of(text: &[u8], offset: u32) -> Place
+    requires { length text.now + 1 < 2 ^ 32 }
+    ensures { result ≡ place_at text.now offset }
+{
+    let mut line = 1;
+    let mut column = 1;
+    for byte in &text[..text.len().min(offset as usize)] {
+        if *byte == b'\n' {
+            line += 1;
+            column = 1;
+        } else {
+            column += 1;
+        }
+    }
+    Place {
+        offset: u64::from(offset),
+        line,
+        column,
+    }
+}
+
+fn copy_list(alloc: Global, pads: &[Pad]) -> Result<List<Pad>, AllocError>
+    ensures { IfOk result (λ copy. copy ≡ pads.now) }
+{
+    let mut copy = List::new(alloc);
+    for pad in pads {
+        copy.push(Pad {
+            name: Name::from_slice(alloc, pad.name.bytes())?,
+            width: pad.width,
+        })?;
+    }
+    Ok(copy)
+}
+
+fn copy_pads(alloc: Global, pads: &Pads) -> Result<Pads, AllocError>
+    ensures { IfOk result (λ copy. (copy.inputs ≡ pads.now.inputs) × (copy.outputs ≡ pads.now.outputs)) }
+{
+    let inputs = copy_list(alloc, pads.inputs.as_slice())?;
+    let outputs = copy_list(alloc, pads.outputs.as_slice())?;
+    Ok(Pads { inputs, outputs })
+}
+
+/// The stimulus of what was read.
+fn stimulus_of(alloc: Global, reading: Reading, known: Option<&Pads>) -> Result<Stimulus, AllocError>
+    requires named { ArePadNames (names_of reading.inputs reading.outputs (λ pad. pad.name)) }
+    requires fitting { are_fitting (inputs_of (option_copied known) reading) reading.clocks ≡ true }
+    ensures inputs { IfOk result (λ s. s.pads.inputs ≡ inputs_of (option_copied known.entry) reading) }
+    ensures outputs { IfOk result (λ s. s.pads.outputs ≡ outputs_of (option_copied known.entry) reading) }
+    ensures clocks { IfOk result (λ s. s.clocks ≡ reading.clocks) }
+{
+    let Reading { inputs, outputs, clocks } = reading;
+    match known {
+        Some(pads) => {
+            let pads = copy_pads(alloc, pads)?;
+            Ok(Stimulus { pads, clocks })
+        }
+        None => {
+            let pads = Pads { inputs, outputs };
+            Ok(Stimulus { pads, clocks })
+        }
+    }
+}
+
+/// Reads a stimulus file, whose pads are those that are known, or else those of its header.
+///
+/// # Errors
+///
+/// S1 to S4, the first that the text breaks, at its place: line by line, and in a line S4, S1, then S2 and S3 word by word.
+pub fn read_stimulus(alloc: Global, bytes: &[u8], known: Option<&Pads>) -> Result<Stimulus, Refusal>
+    requires short { length bytes.now + 1 < 2 ^ 32 }
+    requires few { IfSome known (λ pads. length pads.now.inputs < 2 ^ 32) }
+    ensures ok { IfOk result (IsStimulus bytes.now (option_copied known.entry)) }
+    ensures err { IfErr result (λ e. RefusesAt S e (IsFirst bytes.now (option_copied known.entry))) }
+{
+    match read_lines(alloc, bytes, known) {
+        Ok(reading) => Ok(stimulus_of(alloc, reading, known)?),
+        Err(Fault::NoMemory) => Err(Refusal::NoMemory),
+        Err(Fault::Breaks(number, offset)) => {
+            let rule = Rule {
+                family: Family::S,
+                number,
+            };
+            let spot = Spot::At(place_of(bytes, offset));
+            Err(Refusal::Broken(Broken { rule, spot }))
+        }
+    }
+}

@@ -1,0 +1,77 @@
+//! What a line may say behind those before it.
+
+ghost use Rattle.std.specs.Prelude.{◌≡◌, ◌≢◌, ℕ, ◌<◌, ◌≤◌, ◌^◌, ◌↔◌, List, length, slice_index, slice_index_or, IfOk, IsTrue, AllPairs};
+ghost use Rattle.std.specs.List.{list_any};
+ghost use Rattle.std.specs.Str.{bytes_eq};
+
+ghost use Rattle.stimulus.specs.Rules.{has_pad, is_reserved, is_same, bits_of, bound, input_named};
+ghost use Rattle.stimulus.specs.declared.form.Assignment.{Assignment as Word};
+
+use crate::form::Assignment;
+use crate::given::Given;
+use mp_base::{List, Pad};
+use std::alloc::{AllocError, Global};
+use std::collections::BTreeSet;
+
+/// Whether one of the pads has this name.
+pub(crate) fn has_pad(name: &[u8], pads: &[Pad]) -> bool
+    ensures { result ≡ has_pad name.now pads.now }
+{
+    pads.iter().any(|pad| pad.name.bytes() == name)
+}
+
+/// Whether no pad of a header may have this name.
+pub(crate) fn is_reserved(name: &[u8]) -> bool
+    ensures { result ≡ is_reserved name.now }
+{
+    match name {
+        b"vdd" | b"gnd" | b"phia" | b"phib" | b"phic" => true,
+        _ => false,
+    }
+}
+
+/// Whether one of these pads has the name and the width of this one.
+pub(crate) fn has_same(pad: &Pad, pads: &[Pad]) -> bool
+    ensures { result ≡ list_any (is_same pad.now) pads.now }
+{
+    let name = pad.name.bytes();
+    pads.iter().any(|other| name == other.name.bytes() && pad.width == other.width)
+}
+
+/// The index of the first pad of this name.
+pub(crate) fn input_named(inputs: &[Pad], name: &[u8]) -> Option<usize>
+    ensures { result ≡ input_named inputs.now name.now }
+{
+    inputs.iter().position(|pad| pad.name.bytes() == name)
+}
+
+/// How many bits a pad has.
+pub(crate) fn bits_of(pad: &Pad) -> u8
+    ensures { result ≡ bits_of pad.now }
+{
+    if pad.width == 0 { 1 } else { pad.width }
+}
+
+/// Whether the value is one of the pad's.
+pub(crate) fn fits(pad: &Pad, value: u64) -> bool
+    ensures { IsTrue result ↔ value < bound pad.now }
+{
+    let bits = bits_of(pad);
+    if bits >= 64 {
+        return true;
+    }
+    value >> bits == 0
+}
+
+/// Whether no name comes twice.
+pub(crate) fn are_apart(alloc: Global, words: &[Assignment]) -> Result<bool, AllocError>
+    ensures { IfOk result (λ apart. IsTrue apart ↔ AllPairs (λ (a b : Word). a.name ≢ b.name) words.now) }
+{
+    let mut names = BTreeSet::new(alloc);
+    for word in words {
+        if !names.insert(word.name.bytes())? {
+            return Ok(false);
+        }
+    }
+    Ok(true)
+}
