@@ -5,3 +5,4 @@ pub mod EndsLemmas
 pub mod RunLemmas
 pub mod Determined
 pub mod FirstFault
+pub mod Sources

@@ -8,6 +8,7 @@ mod halt;
 mod language;
 pub mod laws;
 mod line;
+mod source;
 #[cfg(test)]
 mod tests;
 mod top;
