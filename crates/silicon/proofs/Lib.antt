@@ -6,3 +6,4 @@ pub mod RunLemmas
 pub mod Determined
 pub mod FirstFault
 pub mod Sources
+pub mod Stimuli

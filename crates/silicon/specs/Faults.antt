@@ -4,11 +4,18 @@ use Rattle.std.specs.FinMap.{get}
 use Rattle.mp_base.specs.Outside.{Files, bytes_of}
 use Rattle.silicon.specs.Command.{Command, Trace}
 use Rattle.silicon.specs.Order.{Fault, Stray, Then, OfFile}
-use Rattle.silicon.specs.Language.{OfSource, OfStimulus, IsTranscript}
+use Rattle.mp_base.specs.declared.pad.Pads.{Pads}
+use Rattle.silicon.specs.Source.{OfSource}
+use Rattle.silicon.specs.Stimulus.{OfPads, OfStimulus}
+use Rattle.silicon.specs.Transcript.{IsTranscript}
 
 -- the faults of the file that holds a source
 abbrev pub SourceFault : List ℕ → Files → Option Fault → Type 0
 SourceFault name files = OfFile 1048576 OfSource name (get files name)
+
+-- the faults of the file that holds a stimulus for these pads
+abbrev pub PadsFault : Pads → List ℕ → Files → Option Fault → Type 0
+PadsFault pads name files = OfFile 1048576 (OfPads pads) name (get files name)
 
 -- the faults of the file that holds a stimulus for a source
 abbrev pub StimulusFault : List ℕ → List ℕ → Files → Option Fault → Type 0

@@ -1,7 +1,7 @@
 pub mod Command
 pub mod Order
-pub mod Language
 pub mod Source
+pub mod Stimulus
 pub mod Faults
 pub mod Outcome
 pub mod Run

@@ -5,7 +5,6 @@ mod board;
 mod command;
 mod files;
 mod halt;
-mod language;
 pub mod laws;
 mod line;
 mod source;
