@@ -6,3 +6,5 @@ pub mod RunLemmas
 pub mod Determined
 pub mod FirstFault
 pub mod Sources
+pub mod Transcripts
+pub mod Clocking
