@@ -8,3 +8,4 @@ pub mod FirstFault
 pub mod Sources
 pub mod Transcripts
 pub mod Clocking
+pub mod Clocks
