@@ -182,7 +182,7 @@ not_both defs s i j d e at_i at_j input driven same =
     let k : is_driven e.what ≡ not true = signal_kinds e.what signal ∙ ap not g in
     cc
 
-not_input : (defs : List Def) → AreSignalDefs defs → (b : ℕ) (y : Def) → IsAt defs b y → is_driven y.what ≡ true
+pub not_input : (defs : List Def) → AreSignalDefs defs → (b : ℕ) (y : Def) → IsAt defs b y → is_driven y.what ≡ true
     → (x : List ℕ) → list_any (λ (d : Def). is_input d.what && is_same d.name x) defs ≡ true → is_same x y.name ≡ false
 not_input defs s b y at_b driven x found = not_true (is_same x y.name) taken
   where

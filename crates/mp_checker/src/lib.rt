@@ -2,6 +2,7 @@
 #![tactic(auto)]
 
 mod checked;
+pub mod laws;
 mod signals;
 
 pub use checked::{Checked, check_signals};

@@ -6,3 +6,4 @@ pub mod Effects
 pub mod Environment
 pub mod Soundness
 pub mod States
+pub mod Existence

@@ -11,7 +11,7 @@ ghost use Rattle.mp_program.specs.Effects.{effects_of, kind_effects, written};
 ghost use Rattle.mp_program.specs.State.{State, IsState, zero_state};
 ghost use Rattle.mp_program.specs.Environment.{IsEnvironment, driven_value};
 ghost use Rattle.mp_program.specs.Step.{next_state};
-ghost use Rattle.mp_program.specs.Trace.{IsTrace};
+ghost use Rattle.mp_program.specs.Trace.{IsTrace, IsTraceFrom};
 ghost use Rattle.mp_program.specs.Reads.{Reads, IsOrder, sets, kind_sets};
 
 use crate::program::Program;
@@ -74,4 +74,12 @@ pub fn one_trace(program: &Program, order: &[u32])
     requires ordered { IsOrder program.now order.now }
     requires state { IsState program.now (zero_state program.now) }
     ensures { (inputs a b : List (List ℕ)) → IsTrace program.now inputs a → IsTrace program.now inputs b → a ≡ b }
+{}
+
+/// Where there is an order of evaluation, a state and inputs have a trace.
+pub fn traces_exist(program: &Program, order: &[u32])
+    requires ordered { IsOrder program.now order.now }
+    requires state { IsState program.now (zero_state program.now) }
+    ensures { (st : State) (inputs : List (List ℕ)) → IsState program.now st
+        → (outputs : List (List ℕ)) × IsTraceFrom program.now st inputs outputs }
 {}

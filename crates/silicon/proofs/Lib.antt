@@ -7,3 +7,6 @@ pub mod Determined
 pub mod FirstFault
 pub mod Sources
 pub mod Stimuli
+pub mod Transcripts
+pub mod Clocking
+pub mod Clocks

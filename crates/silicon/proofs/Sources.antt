@@ -75,6 +75,7 @@ none_is_broken f b unbroken refuses p shape = at_spot b.spot refuses.1
     first_is : (k : ℕ) (at : Place) → IsFirst f k at → ⊥
     first_is k at (inl e) = unbroken p at shape (inl e.1.0)
     first_is k at (inr e) = unbroken p at shape (inr e.1)
+
     at_spot : (s : Spot) → SpotIs s (IsFirst f b.rule.number) → ⊥
     at_spot (At at) h = first_is b.rule.number at h
     at_spot (Offset o) h = h

@@ -7,3 +7,4 @@ pub mod Outcome
 pub mod Run
 pub mod Halt
 pub mod Line
+pub mod Transcript

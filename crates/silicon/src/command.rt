@@ -45,5 +45,9 @@ fn form_of(words: &[String]) -> Option<Command<'_>>
 pub fn command_of(words: &[String]) -> Option<Command<'_>>
     ensures { option_map seen result ≡ command_of words.now }
 {
-    if any_dash(words) { None } else { form_of(words) }
+    if any_dash(words) {
+        None
+    } else {
+        form_of(words)
+    }
 }

@@ -5,7 +5,8 @@ use mp_base::{List, MemDepot, MemSink};
 use std::alloc::{AllocError, Global};
 use std::test::Fail;
 
-const USAGE: &str = "usage: macpitts trace SRC STIM or compile SRC CIF or replay SRC STIM CIF or sim CIF STIM or net CIF or stats SRC or board SRC CIF N LINK.. or make N CIF\n";
+const USAGE: &str =
+    "usage: macpitts trace SRC STIM or compile SRC CIF or replay SRC STIM CIF or sim CIF STIM or net CIF or stats SRC or board SRC CIF N LINK.. or make N CIF\n";
 
 const UNBUILT: &str = "error E99 at 0 line 1 column 1\n";
 

@@ -84,7 +84,8 @@ fn run_command<D: Depot, O: Sink>(
     }
 }
 
-const USAGE: &str = "usage: macpitts trace SRC STIM or compile SRC CIF or replay SRC STIM CIF or sim CIF STIM or net CIF or stats SRC or board SRC CIF N LINK.. or make N CIF\n";
+const USAGE: &str =
+    "usage: macpitts trace SRC STIM or compile SRC CIF or replay SRC STIM CIF or sim CIF STIM or net CIF or stats SRC or board SRC CIF N LINK.. or make N CIF\n";
 
 /// Does what the words say, with the files, the output and the parts that are lent.
 pub fn run<D: Depot, O: Sink>(
