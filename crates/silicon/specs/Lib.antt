@@ -8,3 +8,4 @@ pub mod Run
 pub mod Halt
 pub mod Line
 pub mod Transcript
+pub mod Compiled

@@ -7,13 +7,13 @@ ghost use Rattle.mp_program.specs.Pads.{ArePadsOf};
 ghost use Rattle.mp_checker.specs.Signals.{IsSignalProgram};
 ghost use Rattle.stimulus.specs.Reading.{IsStimulus};
 ghost use Rattle.silicon.specs.Order.{OfLength, IsContent, too_long};
-ghost use Rattle.silicon.specs.Source.{IsSignalSource};
+ghost use Rattle.silicon.specs.Source.{IsSignalSource, IsInverterSource};
 ghost use Rattle.silicon.specs.Stimulus.{OfPads};
-ghost use Rattle.silicon.specs.Faults.{SourceFault, PadsFault};
+ghost use Rattle.silicon.specs.Faults.{SourceFault, PadsFault, CompiledFault};
 ghost use Rattle.silicon.specs.Halt.{HasReason, IsJudged};
 
 use crate::halt::Halt;
-use crate::source::check_source;
+use crate::source::{check_inverter, check_source};
 use mp_base::{Broken, Depot, Family, Name, Refusal, Rule, Spot, read_file};
 use mp_checker::Checked;
 use std::alloc::{AllocError, Global};
@@ -92,4 +92,15 @@ pub fn read_stimulus<D: Depot>(
 {
     let text = read_text(alloc, depot, name, LIMIT)?;
     Ok(check_stimulus(alloc, &text, checked)?)
+}
+
+/// Reads a source of `compile` that breaks no rule.
+pub fn read_inverter<D: Depot>(alloc: Global, depot: &mut D, name: &str) -> Result<Checked, Halt>
+    ensures held { Keeps (D.held depot.old) (D.held depot.new) }
+    ensures source { IfOk result (λ checked. IfSome (D.held depot.new) (λ files. IsInverterSource (bytes_of files name.now) checked.program)) }
+    ensures reason { HasReason (CompiledFault name.now) (D.held depot.new) (D.read_faults depot.old) (D.read_faults depot.new) result }
+    ensures writes { D.write_faults depot.new ≡ D.write_faults depot.old }
+{
+    let text = read_text(alloc, depot, name, LIMIT)?;
+    Ok(check_inverter(alloc, &text)?)
 }

@@ -3,6 +3,7 @@
 
 mod board;
 mod command;
+mod compile;
 mod files;
 mod halt;
 pub mod laws;

@@ -8,6 +8,7 @@ ghost use Rattle.silicon.specs.Line.{line_of};
 
 use crate::board::NamedPart;
 use crate::command::{Command, command_of};
+use crate::compile::compile;
 use crate::halt::Halt;
 use crate::line::line;
 use crate::trace::trace;
@@ -49,6 +50,7 @@ fn perform<D: Depot, O: Sink>(
 {
     match command {
         Command::Trace(source, stimulus) => trace(alloc, depot, out, source, stimulus),
+        Command::Compile(source, cif) => compile(alloc, depot, out, source, cif),
     }
 }
 
