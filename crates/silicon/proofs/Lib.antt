@@ -10,3 +10,4 @@ pub mod Stimuli
 pub mod Transcripts
 pub mod Clocking
 pub mod Clocks
+pub mod Shown
