@@ -11,3 +11,4 @@ pub mod Transcripts
 pub mod Clocking
 pub mod Clocks
 pub mod Shown
+pub mod Causes

@@ -4,6 +4,7 @@ use Rattle.silicon.specs.declared.halt.Halt.TheVariants.{NoMemory}
 use Rattle.silicon.specs.Transcript.{lines_text}
 use Rattle.silicon.proofs.Told.{keeps_same}
 use Rattle.silicon.proofs.EndsLemmas.{leaves_halted, leaves_done, leaves_cut}
+use Rattle.silicon.proofs.Causes.{without_memory, print_failed}
 use Rattle.silicon.proofs.Shown.{shows_trace}
 use Rattle.silicon.proofs.trace.trace.Goals as goal
 
@@ -43,3 +44,16 @@ returns-clause-content g c =
     told.held
     (told.reason.1, shows_trace c.args.source.now c.args.stimulus.now ready.checked ready.stimulus _ prints.outputs told.padded told.source told.stimulus prints.trace)
     (keeps_same _) prints.taken
+
+pub returns-in_err-machine-clause-causes : goal.returns-in_err-machine-clause-causes
+returns-in_err-machine-clause-causes g c =
+    without_memory c.from_residual-in_err-machine.result _ _ _ c.from_residual-in_err-machine.ensures.1 c.in_ok-ready.ensures.reason.0 c.in_ok-ready.ensures.writes refl
+
+pub returns-in_err-room-clause-causes : goal.returns-in_err-room-clause-causes
+returns-in_err-room-clause-causes g c =
+    without_memory c.from_residual-in_err-room.result _ _ _ c.from_residual-in_err-room.ensures.1 c.in_ok-ready.ensures.reason.0 c.in_ok-ready.ensures.writes refl
+
+pub returns-in_err-print_transcript-clause-causes : goal.returns-in_err-print_transcript-clause-causes
+returns-in_err-print_transcript-clause-causes g c =
+    print_failed c.from_residual-in_err-print_transcript.result _ _ _ c.from_residual-in_err-print_transcript.ensures.1 c.in_ok-ready.ensures.reason.0 c.in_ok-ready.ensures.writes
+    c.in_err-print_transcript.ensures.cause.later c.in_err-print_transcript.ensures.cause.failed
