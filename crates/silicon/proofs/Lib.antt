@@ -11,3 +11,5 @@ pub mod Transcripts
 pub mod Clocking
 pub mod Clocks
 pub mod Compiling
+pub mod Shown
+pub mod Causes

@@ -32,6 +32,7 @@ use Rattle.std.specs.FinMap.{get}
 use Rattle.std.proofs.lemmas.List.{length-map}
 use Rattle.std.proofs.lemmas.List.Filters.{length-filter_both}
 use Rattle.silicon.proofs.Reasons.{file_map}
+use Rattle.silicon.proofs.Clocks.{few_clocks}
 use Rattle.silicon.proofs.Determined.{IsDetermined}
 
 abbrev make_pad : (name : List ℕ) (width : ℕ) → width ≤ 64 → Pad
@@ -121,16 +122,10 @@ judged_for pads text (Ok given) ok err = (given, ok)
 judged_for pads text (Err (refusal.Broken b)) ok err = err
 judged_for pads text (Err refusal.NoMemory) ok err = tt
 
--- a program of signals has few pads
-inputs_below : (program : Program) (pads : Pads) → ArePadsOf program pads → length pads.inputs ≤ length program.defs
-inputs_below program pads a =
-    let p : Def → Bool = λ d. is_input d.what in
-    let same : length pads.inputs ≡ length (filter p program.defs) = sym (length-map pads.inputs face) ∙ ap length a.inputs ∙ length-map (filter p program.defs) _ in
-    let less = length-filter_both p (λ d. not (p d)) (λ d. refl) program.defs in
-    omega (arith, same, less)
-
-pub few_inputs : (program : Program) (pads : Pads) → ArePadsOf program pads → IsSignalProgram program → length pads.inputs < 2 ^ 32
-few_inputs program pads a s = let less = inputs_below program pads a in let few = (s.defs).few in omega (arith, less, few)
+-- what was read has few clocks
+pub read_clocks : (known : Option Pads) (text : List ℕ) (result : Result Stimulus Refusal) → IfOk result (IsStimulus text known) → IfOk result (λ given. length given.clocks ≤ 65536)
+read_clocks known text (Ok given) read = few_clocks text known given read
+read_clocks known text (Err e) read = tt
 
 -- the pads of what was read
 pub read_pads : (program : Program) (pads : Pads) (text : List ℕ) (result : Result Stimulus Refusal) → ArePadsOf program pads → IfOk result (IsStimulus text (Some pads)) → IfOk result (λ given. ArePadsOf program given.pads)

@@ -72,6 +72,7 @@ fn check_stimulus(alloc: Global, text: &[u8], checked: &Checked) -> Result<Stimu
     ensures judged { IsJudged (OfPads checked.now.pads text.now) result }
     ensures read { IfOk result (IsStimulus text.now (Some checked.now.pads)) }
     ensures padded { IfOk result (λ given. ArePadsOf checked.now.program given.pads) }
+    ensures few { IfOk result (λ given. length given.clocks ≤ 65536) }
 {
     stimulus::read_stimulus(alloc, text, Some(checked.pads()))
 }
@@ -86,6 +87,7 @@ pub fn read_stimulus<D: Depot>(
     requires signals { IsSignalProgram checked.now.program }
     ensures held { Keeps (D.held depot.old) (D.held depot.new) }
     ensures padded { IfOk result (λ given. ArePadsOf checked.now.program given.pads) }
+    ensures few { IfOk result (λ given. length given.clocks ≤ 65536) }
     ensures read { IfOk result (λ given. IfSome (D.held depot.new) (λ files. IsStimulus (bytes_of files name.now) (Some checked.now.pads) given)) }
     ensures reason { HasReason (PadsFault checked.now.pads name.now) (D.held depot.new) (D.read_faults depot.old) (D.read_faults depot.new) result }
     ensures writes { D.write_faults depot.new ≡ D.write_faults depot.old }

@@ -1,6 +1,6 @@
 //! The trace of a source along a stimulus.
 
-ghost use Rattle.std.specs.Prelude.{◌≡◌, Some, IfOk, IfSome};
+ghost use Rattle.std.specs.Prelude.{◌≡◌, ◌≤◌, Some, length, IfOk, IfSome};
 ghost use Rattle.mp_base.specs.Outside.{Keeps, bytes_of};
 ghost use Rattle.mp_program.specs.Pads.{ArePadsOf};
 ghost use Rattle.mp_program.specs.State.{zero_state};
@@ -37,6 +37,7 @@ fn prepare<D: Depot>(
     ensures held { Keeps (D.held depot.old) (D.held depot.new) }
     ensures signals { IfOk result (λ ready. IsSignalProgram ready.checked.program) }
     ensures padded { IfOk result (λ ready. ArePadsOf ready.checked.program ready.stimulus.pads) }
+    ensures few { IfOk result (λ ready. length ready.stimulus.clocks ≤ 65536) }
     ensures source { IfOk result (λ ready. IfSome (D.held depot.new) (λ files. IsSignalSource (bytes_of files source.now) ready.checked.program)) }
     ensures stimulus { IfOk result (λ ready. IfSome (D.held depot.new) (λ files. IsStimulus (bytes_of files stimulus.now) (Some ready.checked.pads) ready.stimulus)) }
     ensures reason { HasReason (IsFirstFault (Trace source.now stimulus.now)) (D.held depot.new) (D.read_faults depot.old) (D.read_faults depot.new) result }
