@@ -1,26 +1,19 @@
 -- A command has one first fault at most.
-use Rattle.std.proofs.Common.{◌≡◌, List, ℕ, refl, sym, ap, ◌∙◌, Option, Some, None}
+use Rattle.std.proofs.Common.{◌≡◌, List, ℕ, Option}
 use Rattle.std.specs.FinMap.{get}
 use Rattle.mp_base.specs.Outside.{Files, bytes_of}
-use Rattle.silicon.specs.Command.{Command, Trace}
-use Rattle.silicon.specs.Faults.{IsFirstFault, SourceFault, StimulusFault}
-use Rattle.silicon.specs.Language.{OfSource, OfStimulus, unbuilt}
+use Rattle.silicon.specs.Command.{Command, Trace, Compile}
+use Rattle.silicon.specs.Source.{OfSource, OfCompiled}
+use Rattle.silicon.specs.Stimulus.{OfStimulus}
+use Rattle.silicon.specs.Faults.{IsFirstFault, SourceFault, StimulusFault, CompiledFault}
 use Rattle.silicon.proofs.Determined.{IsDetermined, one_of_two, one_of_file}
+use Rattle.silicon.proofs.Sources.{OneSpelling, OneProgram, SpelledBreaksNothing, one_of_source, one_signal_source, one_of_compiled}
+use Rattle.silicon.proofs.Stimuli.{OneFirst, ReadBreaksNothing, one_of_stimulus}
 
-one_of_source : (text : List ℕ) → IsDetermined (OfSource text)
-one_of_source text None None x y = refl
-one_of_source text None (Some b) x y = absurd (y.0 x)
-one_of_source text (Some a) None x y = absurd (x.0 y)
-one_of_source text (Some a) (Some b) x y = ap Some (x.1 ∙ sym y.1)
-
-one_of_stimulus : (source text : List ℕ) → IsDetermined (OfStimulus source text)
-one_of_stimulus source text None None x y = refl
-one_of_stimulus source text None (Some b) x y = absurd (y.0 x)
-one_of_stimulus source text (Some a) None x y = absurd (x.0 y)
-one_of_stimulus source text (Some a) (Some b) x y = ap Some (x.1 ∙ sym y.1)
-
-pub one_fault : (command : Command) (files : Files) → IsDetermined (IsFirstFault command files)
-one_fault (Trace source stimulus) files =
+pub one_fault : OneSpelling → OneProgram → SpelledBreaksNothing → OneFirst → ReadBreaksNothing → (command : Command) (files : Files) → IsDetermined (IsFirstFault command files)
+one_fault spelling program clean first read (Trace source stimulus) files =
     one_of_two (SourceFault source files) (StimulusFault (bytes_of files source) stimulus files)
-    (one_of_file 1048576 OfSource source (get files source) (one_of_source (bytes_of files source)))
-    (one_of_file 1048576 (OfStimulus (bytes_of files source)) stimulus (get files stimulus) (one_of_stimulus (bytes_of files source) (bytes_of files stimulus)))
+    (one_of_file 1048576 OfSource source (get files source) (one_of_source clean (bytes_of files source)))
+    (one_of_file 1048576 (OfStimulus (bytes_of files source)) stimulus (get files stimulus)
+    (one_of_stimulus first read (one_signal_source spelling program) (bytes_of files source) (bytes_of files stimulus)))
+one_fault spelling program clean first read (Compile source cif) files = one_of_file 1048576 OfCompiled source (get files source) (one_of_compiled clean (bytes_of files source))

@@ -6,3 +6,10 @@ pub mod RunLemmas
 pub mod Determined
 pub mod FirstFault
 pub mod Sources
+pub mod Stimuli
+pub mod Transcripts
+pub mod Clocking
+pub mod Clocks
+pub mod Compiling
+pub mod Shown
+pub mod Causes

@@ -17,7 +17,8 @@ use Rattle.mp_program.specs.declared.program.Program.{Program}
 use Rattle.mp_syntax.specs.Shape.{IsShape, IsFirst, E11}
 use Rattle.mp_checker.specs.Signals.{IsSignalProgram}
 use Rattle.mp_checker.specs.Checking.{CheckedProgram}
-use Rattle.silicon.specs.Source.{IsSignalSource, IsFirstStray, OfSource, stray_byte, unbuilt}
+use Rattle.inverter_program.specs.Inverter.{IsInverter}
+use Rattle.silicon.specs.Source.{IsSignalSource, IsFirstStray, OfSource, IsInverterSource, OfCompiled, stray_byte, unbuilt}
 use Rattle.silicon.proofs.Determined.{IsDetermined}
 
 -- the laws of the crates below
@@ -75,8 +76,24 @@ none_is_broken f b unbroken refuses p shape = at_spot b.spot refuses.1
     first_is : (k : ℕ) (at : Place) → IsFirst f k at → ⊥
     first_is k at (inl e) = unbroken p at shape (inl e.1.0)
     first_is k at (inr e) = unbroken p at shape (inr e.1)
+
     at_spot : (s : Spot) → SpotIs s (IsFirst f b.rule.number) → ⊥
     at_spot (At at) h = first_is b.rule.number at h
     at_spot (Offset o) h = h
     at_spot (Named n) h = h
     at_spot Nowhere h = h
+
+-- the one program of signals that a text spells is no inverter
+pub no_inverter : OneSpelling → OneProgram → (text : List ℕ) (p : Program) → IsSignalSource text p → (IsInverter p → ⊥) → (q : Program) → IsInverterSource text q → ⊥
+no_inverter one same text p source none q s = none (subst IsInverter (one_signal_source one same text q p s.source source) s.inverter)
+
+pub one_of_compiled : SpelledBreaksNothing → (text : List ℕ) → IsDetermined (OfCompiled text)
+one_of_compiled clean text None None x y = refl
+one_of_compiled clean text None (Some b) x (inl y) = absurd (clean text x.1.source.forms 1 y.0.offset x.1.source.spelled (inl (refl, y.1.broken)))
+one_of_compiled clean text None (Some b) x (inr y) = absurd (y.1 x.0 x.1)
+one_of_compiled clean text (Some a) None (inl x) y = absurd (clean text y.1.source.forms 1 x.0.offset y.1.source.spelled (inl (refl, x.1.broken)))
+one_of_compiled clean text (Some a) None (inr x) y = absurd (x.1 y.0 y.1)
+one_of_compiled clean text (Some a) (Some b) (inl x) (inl y) = ap Some (x.2 ∙ ap stray_byte (one_place text x.0 y.0 x.1 y.1) ∙ sym y.2)
+one_of_compiled clean text (Some a) (Some b) (inl x) (inr y) = absurd (y.0 x.0.offset x.1.broken)
+one_of_compiled clean text (Some a) (Some b) (inr x) (inl y) = absurd (x.0 y.0.offset y.1.broken)
+one_of_compiled clean text (Some a) (Some b) (inr x) (inr y) = ap Some (x.2 ∙ sym y.2)

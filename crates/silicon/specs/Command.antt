@@ -9,6 +9,7 @@ use Rattle.silicon.specs.declared.command.Command.TheVariants as rust_variants
 -- a command, by the names of its files
 pub data Command : Type 0 where
   Trace : (source stimulus : List ℕ) → Command
+  Compile : (source cif : List ℕ) → Command
 
 abbrev pub begins_with_dash : List ℕ → Bool
 begins_with_dash [] = false
@@ -16,7 +17,10 @@ begins_with_dash (b ∷ bs) = b == 45
 
 -- the command that words stand for, where none begins with a dash
 abbrev pub form_of : List (List ℕ) → Option Command
-form_of (name ∷ a ∷ b ∷ []) = if bytes_eq name (codes "trace") then Some (Trace a b) else None
+form_of (name ∷ a ∷ b ∷ []) =
+    if bytes_eq name (codes "trace") then Some (Trace a b)
+    else if bytes_eq name (codes "compile") then Some (Compile a b)
+    else None
 form_of words = None
 
 -- the command that words stand for
@@ -26,3 +30,4 @@ command_of words = if list_any (λ word. begins_with_dash (string_bytes word)) w
 -- a command as the code has it
 abbrev pub seen : rust.Command → Command
 seen (rust_variants.Trace source stimulus) = Trace source.now stimulus.now
+seen (rust_variants.Compile source cif) = Compile source.now cif.now

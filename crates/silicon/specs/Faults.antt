@@ -2,29 +2,44 @@
 use Rattle.std.specs.Prelude.{◌≡◌, ℕ, List, [], Option, Some, None}
 use Rattle.std.specs.FinMap.{get}
 use Rattle.mp_base.specs.Outside.{Files, bytes_of}
-use Rattle.silicon.specs.Command.{Command, Trace}
+use Rattle.silicon.specs.Command.{Command, Trace, Compile}
 use Rattle.silicon.specs.Order.{Fault, Stray, Then, OfFile}
-use Rattle.silicon.specs.Language.{OfSource, OfStimulus, IsTranscript}
+use Rattle.mp_base.specs.declared.pad.Pads.{Pads}
+use Rattle.silicon.specs.Compiled.{IsCompiled}
+use Rattle.silicon.specs.Source.{OfCompiled, OfSource}
+use Rattle.silicon.specs.Stimulus.{OfPads, OfStimulus}
+use Rattle.silicon.specs.Transcript.{IsTranscript}
 
 -- the faults of the file that holds a source
 abbrev pub SourceFault : List ℕ → Files → Option Fault → Type 0
 SourceFault name files = OfFile 1048576 OfSource name (get files name)
 
+-- the faults of the file that holds a stimulus for these pads
+abbrev pub PadsFault : Pads → List ℕ → Files → Option Fault → Type 0
+PadsFault pads name files = OfFile 1048576 (OfPads pads) name (get files name)
+
 -- the faults of the file that holds a stimulus for a source
 abbrev pub StimulusFault : List ℕ → List ℕ → Files → Option Fault → Type 0
 StimulusFault source name files = OfFile 1048576 (OfStimulus source) name (get files name)
 
+-- the faults of the file that holds a source of `compile`
+abbrev pub CompiledFault : List ℕ → Files → Option Fault → Type 0
+CompiledFault name files = OfFile 1048576 OfCompiled name (get files name)
+
 -- the first fault of a command on these files, in the order of work, or that there is none
 abbrev pub IsFirstFault : Command → Files → Option Fault → Type 0
 IsFirstFault (Trace source stimulus) files = Then (SourceFault source files) (StimulusFault (bytes_of files source) stimulus files)
+IsFirstFault (Compile source cif) files = CompiledFault source files
 
 -- the file that a command writes
 abbrev pub target_of : Command → Option (List ℕ)
 target_of (Trace source stimulus) = None
+target_of (Compile source cif) = Some cif
 
 -- the bytes of that file and the text that a command may show
 abbrev pub Shows : Command → Files → List ℕ → List ℕ → Type 0
 Shows (Trace source stimulus) files chip text = (chip ≡ []) × IsTranscript (bytes_of files source) (bytes_of files stimulus) text
+Shows (Compile source cif) files chip text = IsCompiled (bytes_of files source) chip × (text ≡ [])
 
 -- the files are told, and the first fault is a file that is not held
 abbrev pub IsStrayBy : (Files → Option Fault → Type 0) → Option Files → Type 0

@@ -1,9 +1,11 @@
 pub mod Command
 pub mod Order
-pub mod Language
 pub mod Source
+pub mod Stimulus
 pub mod Faults
 pub mod Outcome
 pub mod Run
 pub mod Halt
 pub mod Line
+pub mod Transcript
+pub mod Compiled

@@ -12,6 +12,7 @@ use Rattle.form_reader.specs.Rules.{E1}
 use Rattle.mp_program.specs.declared.program.Program.{Program}
 use Rattle.mp_syntax.specs.Shape.{IsShape}
 use Rattle.mp_checker.specs.Signals.{IsSignalProgram}
+use Rattle.inverter_program.specs.Inverter.{IsInverter}
 
 -- what the reader says of the forms that a text spells
 pub record AreForms (text : List ℕ) (forms : Forms) : Type 0 where
@@ -47,3 +48,15 @@ OfSource text None = (program : Program) × IsSignalSource text program
 OfSource text (Some broken) =
     ((at : Place) × IsFirstStray text at × (broken ≡ stray_byte at))
     ⊎ (((o : ℕ) → E1 text o → ⊥) × ((program : Program) → IsSignalSource text program → ⊥) × (broken ≡ unbuilt))
+
+-- the text spells the inverter
+pub record IsInverterSource (text : List ℕ) (program : Program) : Type 0 where
+  pub source : IsSignalSource text program
+  pub inverter : IsInverter program
+
+-- The first rule that a source of `compile` breaks: E1, or else E99 where it is not the inverter.
+abbrev pub OfCompiled : List ℕ → Option Broken → Type 0
+OfCompiled text None = (program : Program) × IsInverterSource text program
+OfCompiled text (Some broken) =
+    ((at : Place) × IsFirstStray text at × (broken ≡ stray_byte at))
+    ⊎ (((o : ℕ) → E1 text o → ⊥) × ((program : Program) → IsInverterSource text program → ⊥) × (broken ≡ unbuilt))

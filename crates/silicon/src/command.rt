@@ -9,6 +9,7 @@ ghost use Rattle.silicon.specs.Command.{begins_with_dash, form_of, command_of, s
 #[derive(Clone, Copy)]
 pub enum Command<'a> {
     Trace(&'a str, &'a str),
+    Compile(&'a str, &'a str),
 }
 
 fn begins_with_dash(word: &str) -> bool
@@ -33,6 +34,8 @@ fn form_of(words: &[String]) -> Option<Command<'_>>
         [name, first, second] => {
             if name.as_str() == "trace" {
                 Some(Command::Trace(first.as_str(), second.as_str()))
+            } else if name.as_str() == "compile" {
+                Some(Command::Compile(first.as_str(), second.as_str()))
             } else {
                 None
             }
@@ -45,5 +48,9 @@ fn form_of(words: &[String]) -> Option<Command<'_>>
 pub fn command_of(words: &[String]) -> Option<Command<'_>>
     ensures { option_map seen result ≡ command_of words.now }
 {
-    if any_dash(words) { None } else { form_of(words) }
+    if any_dash(words) {
+        None
+    } else {
+        form_of(words)
+    }
 }

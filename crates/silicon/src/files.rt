@@ -1,16 +1,23 @@
 //! Files that are read and judged.
 
-ghost use Rattle.std.specs.Prelude.{◌≡◌, ◌<◌, ◌^◌, IfOk, IfSome};
+ghost use Rattle.std.specs.Prelude.{◌≡◌, ◌≤◌, ◌<◌, ◌^◌, Some, length, IfOk, IfSome};
 ghost use Rattle.std.specs.FinMap.{get};
 ghost use Rattle.mp_base.specs.Outside.{Keeps, bytes_of};
+ghost use Rattle.mp_program.specs.Pads.{ArePadsOf};
+ghost use Rattle.mp_checker.specs.Signals.{IsSignalProgram};
+ghost use Rattle.stimulus.specs.Reading.{IsStimulus};
 ghost use Rattle.silicon.specs.Order.{OfLength, IsContent, too_long};
-ghost use Rattle.silicon.specs.Faults.{SourceFault, StimulusFault};
-ghost use Rattle.silicon.specs.Halt.{HasReason};
+ghost use Rattle.silicon.specs.Source.{IsSignalSource, IsInverterSource};
+ghost use Rattle.silicon.specs.Stimulus.{OfPads};
+ghost use Rattle.silicon.specs.Faults.{SourceFault, PadsFault, CompiledFault};
+ghost use Rattle.silicon.specs.Halt.{HasReason, IsJudged};
 
 use crate::halt::Halt;
-use crate::language::{check_source, check_stimulus};
-use mp_base::{Broken, Depot, Family, Name, Rule, Spot, read_file};
+use crate::source::{check_inverter, check_source};
+use mp_base::{Broken, Depot, Family, Name, Refusal, Rule, Spot, read_file};
+use mp_checker::Checked;
 use std::alloc::{AllocError, Global};
+use stimulus::Stimulus;
 
 fn too_long(alloc: Global, name: &str) -> Result<Broken, AllocError>
     ensures { IfOk result (λ broken. broken ≡ too_long name.now) }
@@ -34,6 +41,7 @@ fn read_text<D: Depot>(
     requires { limit < 2 ^ 32 }
     ensures held { Keeps (D.held depot.old) (D.held depot.new) }
     ensures text { IfOk result (λ text. IfSome (D.held depot.new) (λ files. IsContent limit (get files name.now) text.items)) }
+    ensures small { IfOk result (λ text. length text.items ≤ limit) }
     ensures reason { HasReason (λ files. OfLength limit name.now (get files name.now)) (D.held depot.new) (D.read_faults depot.old) (D.read_faults depot.new) result }
     ensures writes { D.write_faults depot.new ≡ D.write_faults depot.old }
 {
@@ -43,33 +51,58 @@ fn read_text<D: Depot>(
     }
 }
 
-const SOURCE_LIMIT: usize = 1048576;
+const LIMIT: usize = 1048576;
 
 /// Reads a source that breaks no rule.
-pub fn read_source<D: Depot>(alloc: Global, depot: &mut D, name: &str) -> Result<Vec<u8>, Halt>
+pub fn read_source<D: Depot>(alloc: Global, depot: &mut D, name: &str) -> Result<Checked, Halt>
     ensures held { Keeps (D.held depot.old) (D.held depot.new) }
-    ensures text { IfOk result (λ text. IfSome (D.held depot.new) (λ files. bytes_of files name.now ≡ text.items)) }
+    ensures signals { IfOk result (λ checked. IsSignalProgram checked.program) }
+    ensures source { IfOk result (λ checked. IfSome (D.held depot.new) (λ files. IsSignalSource (bytes_of files name.now) checked.program)) }
     ensures reason { HasReason (SourceFault name.now) (D.held depot.new) (D.read_faults depot.old) (D.read_faults depot.new) result }
     ensures writes { D.write_faults depot.new ≡ D.write_faults depot.old }
 {
-    let text = read_text(alloc, depot, name, SOURCE_LIMIT)?;
-    check_source(&text)?;
-    Ok(text)
+    let text = read_text(alloc, depot, name, LIMIT)?;
+    Ok(check_source(alloc, &text)?)
 }
 
-/// Reads a stimulus that breaks no rule for a source.
+// Judges a stimulus for a checked program.
+fn check_stimulus(alloc: Global, text: &[u8], checked: &Checked) -> Result<Stimulus, Refusal>
+    requires small { length text.now ≤ 1048576 }
+    requires signals { IsSignalProgram checked.now.program }
+    ensures judged { IsJudged (OfPads checked.now.pads text.now) result }
+    ensures read { IfOk result (IsStimulus text.now (Some checked.now.pads)) }
+    ensures padded { IfOk result (λ given. ArePadsOf checked.now.program given.pads) }
+    ensures few { IfOk result (λ given. length given.clocks ≤ 65536) }
+{
+    stimulus::read_stimulus(alloc, text, Some(checked.pads()))
+}
+
+/// Reads a stimulus that breaks no rule for a checked program.
 pub fn read_stimulus<D: Depot>(
     alloc: Global,
     depot: &mut D,
     name: &str,
-    source: &[u8],
-) -> Result<Vec<u8>, Halt>
+    checked: &Checked,
+) -> Result<Stimulus, Halt>
+    requires signals { IsSignalProgram checked.now.program }
     ensures held { Keeps (D.held depot.old) (D.held depot.new) }
-    ensures text { IfOk result (λ text. IfSome (D.held depot.new) (λ files. bytes_of files name.now ≡ text.items)) }
-    ensures reason { HasReason (StimulusFault source.now name.now) (D.held depot.new) (D.read_faults depot.old) (D.read_faults depot.new) result }
+    ensures padded { IfOk result (λ given. ArePadsOf checked.now.program given.pads) }
+    ensures few { IfOk result (λ given. length given.clocks ≤ 65536) }
+    ensures read { IfOk result (λ given. IfSome (D.held depot.new) (λ files. IsStimulus (bytes_of files name.now) (Some checked.now.pads) given)) }
+    ensures reason { HasReason (PadsFault checked.now.pads name.now) (D.held depot.new) (D.read_faults depot.old) (D.read_faults depot.new) result }
     ensures writes { D.write_faults depot.new ≡ D.write_faults depot.old }
 {
-    let text = read_text(alloc, depot, name, SOURCE_LIMIT)?;
-    check_stimulus(source, &text)?;
-    Ok(text)
+    let text = read_text(alloc, depot, name, LIMIT)?;
+    Ok(check_stimulus(alloc, &text, checked)?)
+}
+
+/// Reads a source of `compile` that breaks no rule.
+pub fn read_inverter<D: Depot>(alloc: Global, depot: &mut D, name: &str) -> Result<Checked, Halt>
+    ensures held { Keeps (D.held depot.old) (D.held depot.new) }
+    ensures source { IfOk result (λ checked. IfSome (D.held depot.new) (λ files. IsInverterSource (bytes_of files name.now) checked.program)) }
+    ensures reason { HasReason (CompiledFault name.now) (D.held depot.new) (D.read_faults depot.old) (D.read_faults depot.new) result }
+    ensures writes { D.write_faults depot.new ≡ D.write_faults depot.old }
+{
+    let text = read_text(alloc, depot, name, LIMIT)?;
+    Ok(check_inverter(alloc, &text)?)
 }

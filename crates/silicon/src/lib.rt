@@ -3,9 +3,9 @@
 
 mod board;
 mod command;
+mod compile;
 mod files;
 mod halt;
-mod language;
 pub mod laws;
 mod line;
 mod source;
@@ -13,6 +13,7 @@ mod source;
 mod tests;
 mod top;
 mod trace;
+pub(crate) mod transcript;
 
 pub use board::{NamedPart, Part};
 pub use top::{Status, run};

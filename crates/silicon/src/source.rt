@@ -6,11 +6,12 @@ ghost use Rattle.form_reader.specs.declared.forms.Forms as spelled;
 ghost use Rattle.form_reader.specs.Sound.{IsSound, HasSymbols};
 ghost use Rattle.form_reader.specs.Spelling.{Spells};
 ghost use Rattle.mp_syntax.specs.Shape.{IsShape};
-ghost use Rattle.silicon.specs.Source.{AreForms, IsSignalSource, OfSource, stray_byte, unbuilt};
+ghost use Rattle.silicon.specs.Source.{AreForms, IsSignalSource, OfSource, stray_byte, unbuilt, IsInverterSource, OfCompiled};
 ghost use Rattle.mp_checker.specs.Signals.{IsSignalProgram};
 ghost use Rattle.silicon.specs.Halt.{IsJudged};
 
 use form_reader::{Forms, find_stray, one_spelling, read_forms};
+use inverter_program::is_inverter;
 use mp_base::{Broken, Family, NoMemory, Place, Refusal, Rule, Spot};
 use mp_checker::{Checked, check_signals};
 use mp_program::Program;
@@ -109,6 +110,40 @@ pub fn check_source(alloc: Global, text: &[u8]) -> Result<Checked, Refusal>
         return Err(Refusal::Broken(stray_byte(at)));
     }
     match signals_of(alloc, text)? {
+        Some(checked) => Ok(checked),
+        None => Err(Refusal::Broken(unbuilt())),
+    }
+}
+
+// The inverter that a text spells, if it spells it.
+fn inverter_of(alloc: Global, text: &[u8]) -> Result<Option<Checked>, NoMemory>
+    requires { length text.now + 1 < 2 ^ 32 }
+    ensures { IfOk result (λ found. MatchOption found ((program : parsed.Program) → IsInverterSource text.now program → ⊥) (λ checked. IsInverterSource text.now checked.program)) }
+{
+    one_spelling();
+    one_program();
+    match signals_of(alloc, text)? {
+        Some(checked) => {
+            if is_inverter(checked.program()) {
+                Ok(Some(checked))
+            } else {
+                Ok(None)
+            }
+        }
+        None => Ok(None),
+    }
+}
+
+/// Judges a source of `compile`, and gives its program and pads.
+pub fn check_inverter(alloc: Global, text: &[u8]) -> Result<Checked, Refusal>
+    requires { length text.now + 1 < 2 ^ 32 }
+    ensures judged { IsJudged (OfCompiled text.now) result }
+    ensures spelled { IfOk result (λ checked. IsInverterSource text.now checked.program) }
+{
+    if let Some(at) = find_stray(text) {
+        return Err(Refusal::Broken(stray_byte(at)));
+    }
+    match inverter_of(alloc, text)? {
         Some(checked) => Ok(checked),
         None => Err(Refusal::Broken(unbuilt())),
     }

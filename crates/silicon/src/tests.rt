@@ -5,7 +5,14 @@ use mp_base::{List, MemDepot, MemSink};
 use std::alloc::{AllocError, Global};
 use std::test::Fail;
 
-const USAGE: &str = "usage: macpitts trace SRC STIM or compile SRC CIF or replay SRC STIM CIF or sim CIF STIM or net CIF or stats SRC or board SRC CIF N LINK.. or make N CIF\n";
+const USAGE: &str =
+    "usage: macpitts trace SRC STIM or compile SRC CIF or replay SRC STIM CIF or sim CIF STIM or net CIF or stats SRC or board SRC CIF N LINK.. or make N CIF\n";
+
+const INVERTER: &str = "(program inv 1 (def 1 power)(def 2 ground)(def 3 phia)(def 4 phib)(def 5 phic) (def a signal input 6)(def y signal output 7)(always (setq y (not a))))";
+
+const STRAY: &str = "error E1 at 15 line 1 column 16\n";
+
+const HIGH: &str = "error S3 at 6 line 1 column 7\n";
 
 const UNBUILT: &str = "error E99 at 0 line 1 column 1\n";
 
@@ -41,6 +48,10 @@ fn words_and_files(rt: HostRuntime) -> Result<(), Fail> {
     let alloc = rt.alloc();
     let mut depot = MemDepot::new(alloc, 1, List::new(alloc));
     depot.put("bad", b"(program x 33)")?;
+    depot.put("stray", b"(program inv 1 #)")?;
+    depot.put("inv", INVERTER.as_bytes())?;
+    depot.put("two", b"clock a=0\nclock a=1\n")?;
+    depot.put("high", b"clock a=2\n")?;
     let rows = [
         ("", 9, Status::Usage, USAGE),
         ("", 0, Status::WriteFault, ""),
@@ -50,6 +61,12 @@ fn words_and_files(rt: HostRuntime) -> Result<(), Fail> {
         ("trace absent bad", 9, Status::ReadFault, ""),
         ("trace bad absent", 9, Status::Refused, UNBUILT),
         ("trace bad absent", 0, Status::WriteFault, ""),
+        ("trace stray absent", 9, Status::Refused, STRAY),
+        ("compile bad", 9, Status::Usage, USAGE),
+        ("trace inv absent", 9, Status::ReadFault, ""),
+        ("trace inv high", 9, Status::Refused, HIGH),
+        ("trace inv two", 99, Status::Done, "0 y=1\n1 y=0\n"),
+        ("trace inv two", 0, Status::WriteFault, ""),
     ];
     for (words, fail, status, text) in rows {
         let (got, printed) = answer(alloc, words, &mut depot, fail)?;

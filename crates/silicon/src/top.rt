@@ -8,6 +8,7 @@ ghost use Rattle.silicon.specs.Line.{line_of};
 
 use crate::board::NamedPart;
 use crate::command::{Command, command_of};
+use crate::compile::compile;
 use crate::halt::Halt;
 use crate::line::line;
 use crate::trace::trace;
@@ -49,6 +50,7 @@ fn perform<D: Depot, O: Sink>(
 {
     match command {
         Command::Trace(source, stimulus) => trace(alloc, depot, out, source, stimulus),
+        Command::Compile(source, cif) => compile(alloc, depot, out, source, cif),
     }
 }
 
@@ -84,7 +86,8 @@ fn run_command<D: Depot, O: Sink>(
     }
 }
 
-const USAGE: &str = "usage: macpitts trace SRC STIM or compile SRC CIF or replay SRC STIM CIF or sim CIF STIM or net CIF or stats SRC or board SRC CIF N LINK.. or make N CIF\n";
+const USAGE: &str =
+    "usage: macpitts trace SRC STIM or compile SRC CIF or replay SRC STIM CIF or sim CIF STIM or net CIF or stats SRC or board SRC CIF N LINK.. or make N CIF\n";
 
 /// Does what the words say, with the files, the output and the parts that are lent.
 pub fn run<D: Depot, O: Sink>(

@@ -1,25 +1,33 @@
 //! The trace of a source along a stimulus.
 
-ghost use Rattle.std.specs.Prelude.{◌≡◌, ◌++◌, IfOk, IfSome, Some, []};
-ghost use Rattle.mp_base.specs.Outside.{Keeps};
+ghost use Rattle.std.specs.Prelude.{◌≡◌, ◌≤◌, Some, length, IfOk, IfSome};
+ghost use Rattle.mp_base.specs.Outside.{Keeps, bytes_of};
+ghost use Rattle.mp_program.specs.Pads.{ArePadsOf};
+ghost use Rattle.mp_program.specs.State.{zero_state};
+ghost use Rattle.mp_checker.specs.Signals.{IsSignalProgram};
+ghost use Rattle.stimulus.specs.Reading.{IsStimulus};
 ghost use Rattle.silicon.specs.Command.{Trace};
-ghost use Rattle.silicon.specs.Faults.{IsFirstFault, Shows};
+ghost use Rattle.silicon.specs.Source.{IsSignalSource};
+ghost use Rattle.silicon.specs.Faults.{IsFirstFault};
 ghost use Rattle.silicon.specs.Halt.{HasReason, Ends, status_of};
 ghost use Rattle.silicon.specs.Run.{world_of, HasCauses, IsStrayFor, Leaves};
 
 use crate::files::{read_source, read_stimulus};
 use crate::halt::Halt;
-use crate::language::print_transcript;
-use mp_base::{Depot, Sink};
+use crate::transcript::{Room, print_transcript};
+use mp_base::{Depot, NoMemory, Sink};
+use mp_checker::Checked;
+use source_run::Machine;
 use std::alloc::Global;
+use stimulus::Stimulus;
 
 #[derive(Drop)]
 struct Ready {
-    source: Vec<u8>,
-    stimulus: Vec<u8>,
+    checked: Checked,
+    stimulus: Stimulus,
 }
 
-// Reads and judges the files, and takes all memory that the run needs.
+// Reads and judges the files.
 fn prepare<D: Depot>(
     alloc: Global,
     depot: &mut D,
@@ -27,13 +35,26 @@ fn prepare<D: Depot>(
     stimulus: &str,
 ) -> Result<Ready, Halt>
     ensures held { Keeps (D.held depot.old) (D.held depot.new) }
-    ensures shows { IfOk result (λ ready. IfSome (D.held depot.new) (λ files. Shows (Trace source.now stimulus.now) files [] (ready.source.items ++ ready.stimulus.items))) }
+    ensures signals { IfOk result (λ ready. IsSignalProgram ready.checked.program) }
+    ensures padded { IfOk result (λ ready. ArePadsOf ready.checked.program ready.stimulus.pads) }
+    ensures few { IfOk result (λ ready. length ready.stimulus.clocks ≤ 65536) }
+    ensures source { IfOk result (λ ready. IfSome (D.held depot.new) (λ files. IsSignalSource (bytes_of files source.now) ready.checked.program)) }
+    ensures stimulus { IfOk result (λ ready. IfSome (D.held depot.new) (λ files. IsStimulus (bytes_of files stimulus.now) (Some ready.checked.pads) ready.stimulus)) }
     ensures reason { HasReason (IsFirstFault (Trace source.now stimulus.now)) (D.held depot.new) (D.read_faults depot.old) (D.read_faults depot.new) result }
     ensures writes { D.write_faults depot.new ≡ D.write_faults depot.old }
 {
-    let source = read_source(alloc, depot, source)?;
-    let stimulus = read_stimulus(alloc, depot, stimulus, &source)?;
-    Ok(Ready { source, stimulus })
+    let checked = read_source(alloc, depot, source)?;
+    let stimulus = read_stimulus(alloc, depot, stimulus, &checked)?;
+    Ok(Ready { checked, stimulus })
+}
+
+// The machine of a program of signals, in the zero state.
+fn open_machine(alloc: Global, checked: &Checked) -> Result<Machine<'_>, NoMemory>
+    requires { IsSignalProgram checked.now.program }
+    ensures program { IfOk result (λ machine. machine.program ≡ checked.now.program) }
+    ensures state { IfOk result (λ machine. machine.state ≡ zero_state checked.now.program) }
+{
+    Machine::open(alloc, checked.program(), checked.order())
 }
 
 /// Prints the transcript of the source's trace.
@@ -50,6 +71,14 @@ pub fn trace<D: Depot, O: Sink>(
         Leaves (Ends (Trace source.now stimulus.now) result) (world depot.old out.old) (world depot.new out.new) }
 {
     let ready = prepare(alloc, depot, source, stimulus)?;
-    print_transcript(out, &ready.source, &ready.stimulus)?;
+    let mut machine = open_machine(alloc, &ready.checked)?;
+    let mut room = Room::new(alloc, &ready.stimulus.pads)?;
+    print_transcript(
+        &ready.checked,
+        &mut machine,
+        &ready.stimulus,
+        &mut room,
+        out,
+    )?;
     Ok(())
 }

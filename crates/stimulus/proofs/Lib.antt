@@ -10,3 +10,4 @@ pub mod Stepping
 pub mod Unique
 pub mod Values
 pub mod Writing
+pub mod FirstOnce

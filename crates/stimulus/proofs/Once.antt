@@ -36,7 +36,7 @@ form_adds_once known r (Output p) s t h k = h.1 ∙ sym k.1
 form_adds_once known r (Clock xs) s t h k =
     h.2 ∙ ap (λ gs. let x : Reading = record { inputs = r.inputs; outputs = r.outputs; clocks = r.clocks ++ gs ∷ [] } in x) (givens_once (inputs_of known r) xs h.0 k.0 h.1 k.1) ∙ sym k.2
 
-adds_once : (known : Option Pads) (r : Reading) (line : List Piece) (s t : Reading) → Adds known r line s → Adds known r line t → s ≡ t
+pub adds_once : (known : Option Pads) (r : Reading) (line : List Piece) (s t : Reading) → Adds known r line s → Adds known r line t → s ≡ t
 adds_once known r line s t h k =
     let P : Form → Type 0 = λ f. AddsForm known r f t in
     form_adds_once known r h.form s t h.adds (subst P (form_once line k.form h.form k.is h.is) k.adds)
@@ -47,7 +47,7 @@ reads_once known r s t (l ∷ ls) h k =
     let P : Reading → Type 0 = λ q. Reads known q ls t in
     reads_once known h.0 s t ls h.2 (subst P (adds_once known r l k.0 h.0 k.1 h.1) k.2)
 
-fits_no_misfit : (inputs : List Pad) (a : Assignment) (g : Given) (k : ℕ) → IsGiven inputs a g → IsMisfit inputs a k → ⊥
+pub fits_no_misfit : (inputs : List Pad) (a : Assignment) (g : Given) (k : ℕ) → IsGiven inputs a g → IsMisfit inputs a k → ⊥
 fits_no_misfit inputs a g k h m = elim m [
   | inl none ↦ clash (sym h.named ∙ none.1)
   | inr big ↦ large inputs g.input big.1 a.name h.named (some (sym h.named ∙ big.2)) h.value (λ p. h.fits p) big.3
@@ -73,7 +73,7 @@ form_no known r line (Input p) t k at h m = both_ways _ m.2 h.0
 form_no known r line (Output p) t k at h m = both_ways _ m.2 h.0
 form_no known r line (Clock xs) t k at h m = misfits_no (inputs_of known r) xs h.0 k at h.1 m
 
-line_no : (known : Option Pads) (r : Reading) (line : List Piece) (t : Reading) (k at : ℕ) → Adds known r line t → FirstIn known r line k at → ⊥
+pub line_no : (known : Option Pads) (r : Reading) (line : List Piece) (t : Reading) (k at : ℕ) → Adds known r line t → FirstIn known r line k at → ⊥
 line_no known r line t k at h (full rule place more) = h.room more
 line_no known r line t k at h (formless rule place room none) = none h.form h.is h.«in_place»
 line_no known r line t k at h (misfit f room is here m) =

@@ -1,0 +1,15 @@
+use Rattle.std.proofs.Common.{◌≤◌, length, arith, Some}
+use Rattle.silicon.proofs.Clocking.{few_inputs}
+use Rattle.silicon.proofs.Stimuli.{judged_for, read_clocks}
+use Rattle.silicon.proofs.files.check_stimulus.Goals as goal
+
+pub read_stimulus-requires-clause-few : goal.read_stimulus-requires-clause-few
+read_stimulus-requires-clause-few c =
+    let few = few_inputs c.args.checked.now.program c.pads.result.now c.pads.ensures.padded c.requires.signals in omega (arith, few)
+
+pub returns-clause-judged : goal.returns-clause-judged
+returns-clause-judged c =
+    judged_for c.args.checked.now.pads c.args.text.now c.read_stimulus.result (rw c.pads.ensures.same at c.read_stimulus.ensures.ok) (rw c.pads.ensures.same at c.read_stimulus.ensures.err)
+
+pub returns-clause-few : goal.returns-clause-few
+returns-clause-few c = read_clocks (Some c.pads.result.now) c.args.text.now c.read_stimulus.result c.read_stimulus.ensures.ok

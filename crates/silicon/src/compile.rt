@@ -1,0 +1,49 @@
+//! The masks of a source.
+
+ghost use Rattle.std.specs.Prelude.{◌≡◌, IfOk, IfSome, Some, []};
+ghost use Rattle.mp_base.specs.Outside.{Keeps};
+ghost use Rattle.silicon.specs.Command.{Compile};
+ghost use Rattle.silicon.specs.Faults.{IsFirstFault, Shows};
+ghost use Rattle.silicon.specs.Halt.{HasReason, Ends, status_of};
+ghost use Rattle.silicon.specs.Run.{world_of, HasCauses, IsStrayFor, Leaves};
+
+use crate::files::read_inverter;
+use crate::halt::Halt;
+use inverter_chip::inverter_chip;
+use mp_base::{Depot, Sink, store};
+use std::alloc::Global;
+
+// Reads and judges the source, and gives the bytes of its chip.
+fn prepare<D: Depot>(
+    alloc: Global,
+    depot: &mut D,
+    source: &str,
+    cif: &str,
+) -> Result<&'static [u8], Halt>
+    ensures held { Keeps (D.held depot.old) (D.held depot.new) }
+    ensures shows { IfOk result (λ chip. IfSome (D.held depot.new) (λ files. Shows (Compile source.now cif.now) files chip.now [])) }
+    ensures reason { HasReason (IsFirstFault (Compile source.now cif.now)) (D.held depot.new) (D.read_faults depot.old) (D.read_faults depot.new) result }
+    ensures writes { D.write_faults depot.new ≡ D.write_faults depot.old }
+{
+    let checked = read_inverter(alloc, depot, source)?;
+    checked.pads();
+    Ok(inverter_chip())
+}
+
+/// Writes the CIF file of a chip for the source, and prints nothing.
+pub fn compile<D: Depot, O: Sink>(
+    alloc: Global,
+    depot: &mut D,
+    _out: &mut O,
+    source: &str,
+    cif: &str,
+) -> Result<(), Halt>
+    ensures causes { let world = world_of D.held D.read_faults D.write_faults O.held O.faults in
+        HasCauses (status_of result) (IsStrayFor (Some (Compile source.now cif.now)) (D.held depot.new)) (world depot.old _out.old) (world depot.new _out.new) }
+    ensures content { let world = world_of D.held D.read_faults D.write_faults O.held O.faults in
+        Leaves (Ends (Compile source.now cif.now) result) (world depot.old _out.old) (world depot.new _out.new) }
+{
+    let chip = prepare(alloc, depot, source, cif)?;
+    store(depot, cif, chip)?;
+    Ok(())
+}
