@@ -19,14 +19,17 @@ pub shows_trace : (source stimulus : List ℕ) (checked : CheckedProgram) (given
     → IfSome held (λ files. IsSignalSource (bytes_of files source) checked.program) → IfSome held (λ files. IsStimulus (bytes_of files stimulus) (Some checked.pads) given)
     → IsTrace checked.program (inputs_of (length (given.pads).inputs) given.clocks) outputs → IfSome held (λ files. Shows (Trace source stimulus) files [] (lines_text 0 (given.pads).outputs outputs))
 shows_trace source stimulus checked given None outputs a p s t = tt
-shows_trace source stimulus checked given (Some files) outputs a p s t = (refl, record {
-  program = checked.program;
-  pads = checked.pads;
-  given = given;
-  outputs = outputs;
-  is_source = p;
-  padded = pads_for checked (bytes_of files stimulus) given a s;
-  is_stimulus = s;
-  trace = subst (λ pads. IsTrace checked.program (inputs_of (length pads) given.clocks) outputs) s.inputs t;
-  lines = ap (λ pads. lines_text 0 pads outputs) s.outputs;
-})
+shows_trace source stimulus checked given (Some files) outputs a p s t = (
+  refl,
+  record {
+    program = checked.program;
+    pads = checked.pads;
+    given = given;
+    outputs = outputs;
+    is_source = p;
+    padded = pads_for checked (bytes_of files stimulus) given a s;
+    is_stimulus = s;
+    trace = subst (λ pads. IsTrace checked.program (inputs_of (length pads) given.clocks) outputs) s.inputs t;
+    lines = ap (λ pads. lines_text 0 pads outputs) s.outputs;
+  },
+)

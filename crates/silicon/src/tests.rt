@@ -8,7 +8,8 @@ use std::test::Fail;
 const USAGE: &str =
     "usage: macpitts trace SRC STIM or compile SRC CIF or replay SRC STIM CIF or sim CIF STIM or net CIF or stats SRC or board SRC CIF N LINK.. or make N CIF\n";
 
-const INVERTER: &str = "(program inv 1 (def 1 power)(def 2 ground)(def 3 phia)(def 4 phib)(def 5 phic) (def a signal input 6)(def y signal output 7)(always (setq y (not a))))";
+const INVERTER: &str =
+    "(program inv 1 (def 1 power)(def 2 ground)(def 3 phia)(def 4 phib)(def 5 phic) (def a signal input 6)(def y signal output 7)(always (setq y (not a))))";
 
 const STRAY: &str = "error E1 at 15 line 1 column 16\n";
 
