@@ -11,6 +11,12 @@ const USAGE: &str =
 const INVERTER: &str =
     "(program inv 1 (def 1 power)(def 2 ground)(def 3 phia)(def 4 phib)(def 5 phic) (def a signal input 6)(def y signal output 7)(always (setq y (not a))))";
 
+const COUNTER: &str =
+    "(program count 4 (def 1 power)(def 2 ground)(def 3 phia)(def 4 phib)(def 5 phic) (def reset signal input 6)(def q port output (7 8 9 10))(def n register)(always (setq q n)(setq n (1+ n))))";
+
+const MASKS: &str =
+    "L ND; B 2 30 1 15; L NP; B 6 2 1 7; B 6 10 1 19; L NB; B 2 2 1 15; L NI; B 6 8 1 20; L NM; B 2 2 20 1; B 2 2 24 1; B 2 2 28 1; 94 gnd 1 1 ND; 94 vdd 1 28 ND; 94 a -1 6 NP; 94 y 1 10 ND; 94 phia 20 1; 94 phib 24 1; 94 phic 28 1; E";
+
 const STRAY: &str = "error E1 at 15 line 1 column 16\n";
 
 const HIGH: &str = "error S3 at 6 line 1 column 7\n";
@@ -51,6 +57,7 @@ fn words_and_files(rt: HostRuntime) -> Result<(), Fail> {
     depot.put("bad", b"(program x 33)")?;
     depot.put("stray", b"(program inv 1 #)")?;
     depot.put("inv", INVERTER.as_bytes())?;
+    depot.put("count", COUNTER.as_bytes())?;
     depot.put("two", b"clock a=0\nclock a=1\n")?;
     depot.put("high", b"clock a=2\n")?;
     let rows = [
@@ -64,6 +71,9 @@ fn words_and_files(rt: HostRuntime) -> Result<(), Fail> {
         ("trace bad absent", 0, Status::WriteFault, ""),
         ("trace stray absent", 9, Status::Refused, STRAY),
         ("compile bad", 9, Status::Usage, USAGE),
+        ("compile bad c", 9, Status::Refused, UNBUILT),
+        ("compile count c", 9, Status::Refused, UNBUILT),
+        ("compile absent c", 9, Status::ReadFault, ""),
         ("trace inv absent", 9, Status::ReadFault, ""),
         ("trace inv high", 9, Status::Refused, HIGH),
         ("trace inv two", 99, Status::Done, "0 y=1\n1 y=0\n"),
@@ -73,6 +83,58 @@ fn words_and_files(rt: HostRuntime) -> Result<(), Fail> {
         let (got, printed) = answer(alloc, words, &mut depot, fail)?;
         assert_eq!(rt; got, status);
         assert_eq!(rt; printed.as_slice(), text.as_bytes());
+    }
+    assert_eq!(rt; depot.get("c"), None);
+    Ok(())
+}
+
+#[test]
+fn each_call_of_the_files_fails(rt: HostRuntime) -> Result<(), Fail> {
+    let alloc = rt.alloc();
+    // Two reads, a creation, and an append for each hundred bytes.
+    let rows = [
+        (0, Status::ReadFault, None),
+        (1, Status::ReadFault, None),
+        (2, Status::WriteFault, None),
+        (3, Status::WriteFault, Some(0)),
+        (4, Status::WriteFault, Some(100)),
+        (5, Status::WriteFault, Some(200)),
+        (6, Status::Done, Some(229)),
+    ];
+    for (call, status, size) in rows {
+        let mut depot = MemDepot::new(alloc, 100, listed(alloc, call)?);
+        depot.put("inv", INVERTER.as_bytes())?;
+        let (got, printed) = answer(alloc, "compile inv c", &mut depot, 9)?;
+        assert_eq!(rt; got, status);
+        assert_eq!(rt; printed.len(), 0);
+        let held = depot.get("c");
+        assert_eq!(rt; held.map(|bytes| bytes.len()), size);
+        if let Some(bytes) = held {
+            assert!(rt; MASKS.as_bytes().starts_with(bytes));
+        }
+    }
+    Ok(())
+}
+
+#[test]
+fn each_call_of_the_output_fails(rt: HostRuntime) -> Result<(), Fail> {
+    let alloc = rt.alloc();
+    let mut depot = MemDepot::new(alloc, 100, List::new(alloc));
+    depot.put("inv", INVERTER.as_bytes())?;
+    depot.put("two", b"clock a=0\nclock a=1\n")?;
+    let whole = b"0 y=1\n1 y=0\n".as_slice();
+    let mut longest = 0;
+    for call in 0..12 {
+        let (got, printed) = answer(alloc, "trace inv two", &mut depot, call)?;
+        let wanted = if printed.len() < whole.len() {
+            Status::WriteFault
+        } else {
+            Status::Done
+        };
+        assert_eq!(rt; got, wanted);
+        assert!(rt; whole.starts_with(&printed));
+        assert!(rt; longest <= printed.len());
+        longest = printed.len();
     }
     Ok(())
 }
