@@ -13,3 +13,4 @@ pub mod Clocks
 pub mod Compiling
 pub mod Shown
 pub mod Causes
+mod TranscriptExamples

@@ -9,3 +9,4 @@ pub mod Halt
 pub mod Line
 pub mod Transcript
 pub mod Compiled
+pub mod SizeLine
