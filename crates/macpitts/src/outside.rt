@@ -1,6 +1,6 @@
 //! The real files and the real output, which tell nothing of what they hold: the trusted edge.
 
-ghost use Rattle.std.specs.Prelude.{None};
+ghost use Rattle.std.specs.Prelude.{None, ◌<◌};
 ghost use Rattle.std.specs.Io.{ReadsAtMost, WritesAtMost};
 
 use mp_base::{Depot, Failed, Sink};
@@ -79,16 +79,27 @@ impl<'a, R: Files> Depot for FileDepot<'a, R> {
     }
 }
 
-/// An output over any writer.
+const ROOM: usize = 4096;
+
+/// An output over any writer, to which whole lines are given: a call of the system for each piece would cost more
+/// than the pieces.
 #[derive(Drop)]
 pub struct OutSink<W> {
     inner: W,
     faults: u64,
+    room: [u8; 4096],
+    used: usize,
+    ghost within: { used < 4096 },
 }
 
 impl<W: Write> OutSink<W> {
     pub fn new(inner: W) -> Self {
-        OutSink { inner, faults: 0 }
+        OutSink {
+            inner,
+            faults: 0,
+            room: [0; 4096],
+            used: 0,
+        }
     }
 }
 
@@ -98,9 +109,18 @@ impl<W: Write> Sink for OutSink<W> {
     ghost faults = { λ s. s.faults };
 
     fn write(&mut self, bytes: &[u8]) -> Result<usize, Failed> {
-        match self.inner.write(bytes) {
-            Ok(count) if count > 0 || bytes.is_empty() => Ok(count),
-            _ => {
+        let used = self.used;
+        let count = bytes.len().min(ROOM - used);
+        let end = used + count;
+        self.room[used..end].copy_from_slice(&bytes[..count]);
+        if end < ROOM && !bytes[..count].contains(&b'\n') {
+            self.used = end;
+            return Ok(count);
+        }
+        self.used = 0;
+        match self.inner.write_all(&self.room[..end]) {
+            Ok(()) => Ok(count),
+            Err(_) => {
                 self.faults = self.faults.saturating_add(1);
                 Err(Failed)
             }

@@ -24,8 +24,8 @@ fn files_are_made_grown_and_read(rt: HostRuntime) {
 fn an_output_that_takes_nothing_is_a_fault(rt: HostRuntime) {
     let mut room = [0u8; 4];
     let mut out = OutSink::new(room.as_mut_slice());
-    assert_eq!(rt; out.write(b"abc"), Ok(3));
-    assert_eq!(rt; out.write(b"de"), Ok(1));
-    assert_eq!(rt; out.write(b"e"), Err(Failed));
+    assert_eq!(rt; out.write(b"ab"), Ok(2));
+    assert_eq!(rt; out.write(b"c\n"), Ok(2));
+    assert_eq!(rt; out.write(b"d\n"), Err(Failed));
     assert_eq!(rt; out.write(b""), Ok(0));
 }
