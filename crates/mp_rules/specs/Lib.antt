@@ -1,0 +1,7 @@
+pub mod Entries
+pub mod Naming
+pub mod Sorts
+pub mod Standing
+pub mod Rules
+pub mod Breaking
+pub mod Places
