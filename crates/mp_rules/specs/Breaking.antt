@@ -1,5 +1,5 @@
 -- Which rule a program breaks first.
-use Rattle.std.specs.Prelude.{◌≡◌, ◌⊎◌, ℕ, ◌<◌, ◌≤◌, Option, MatchOption}
+use Rattle.std.specs.Prelude.{◌≡◌, ◌⊎◌, ℕ, ◌<◌, ◌≤◌, Option, Some, None, MatchOption, nat_le, if◌then◌else◌}
 use Rattle.mp_base.specs.declared.refusal.Place.{Place}
 use Rattle.mp_base.specs.declared.refusal.Family.TheVariants.{E}
 use Rattle.mp_base.specs.declared.refusal.Refusal.{Refusal}
@@ -31,6 +31,11 @@ pub record IsFirst (p : Program) (k : ℕ) (at : Place) : Type 0 where
 -- the earliest place where this is true, or none where it is true nowhere
 abbrev pub IsEarliest : (Place → Type 0) → Option Place → Type 0
 IsEarliest P found = MatchOption found ((at : Place) → P at → ⊥) (λ at. P at × ((there : Place) → P there → at.offset ≤ there.offset))
+
+-- the earlier of what was found and another place
+abbrev pub earlier : Option Place → Place → Option Place
+earlier None at = Some at
+earlier (Some place) at = if nat_le place.offset at.offset then Some place else Some at
 
 -- want of memory, or the first of the broken rules, at its place
 abbrev pub RefusesFirst : Program → Refusal → Type 0

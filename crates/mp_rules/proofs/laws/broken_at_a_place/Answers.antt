@@ -1,0 +1,6 @@
+use Rattle.std.proofs.Common.{rules, ◌≡◌, ℕ}
+use Rattle.mp_rules.proofs.Places.{broken_place}
+use Rattle.mp_rules.proofs.laws.broken_at_a_place.Goals as goal
+
+pub returns : goal.returns
+returns c = broken_place

@@ -1,0 +1,9 @@
+use Rattle.std.proofs.Common.{rules, ◌≡◌, ℕ, ◌<◌, ◌≤◌}
+use Rattle.mp_rules.specs.Breaking.{Breaks, IsFirst}
+use Rattle.mp_rules.proofs.laws.one_first_rule.Goals as goal
+
+pub returns : goal.returns
+returns c = λ p k l at there first other.
+    let a = first.first l there other.broken in
+    let b = other.first k at first.broken in
+    omega (arith, a, b)
