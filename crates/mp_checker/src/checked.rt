@@ -1,38 +1,44 @@
 //! Programs that keep the rules, with their pads and an order of evaluation.
 
-ghost use Rattle.std.specs.Prelude.{◌≡◌, ◌≤◌, IfOk, MatchOption};
+ghost use Rattle.std.specs.Prelude.{◌≡◌, ◌≤◌, IfOk, IfErr, MatchOption};
 ghost use Rattle.std.specs.List.{list_any};
 ghost use Rattle.mp_program.specs.declared.program.Def.{Def};
 ghost use Rattle.mp_program.specs.Names.{is_driven, is_stored};
 ghost use Rattle.mp_program.specs.Pads.{ArePadsOf, face, pad_width};
 ghost use Rattle.mp_program.specs.Reads.{IsOrder};
 ghost use Rattle.mp_program.specs.Trace.{stores};
+ghost use Rattle.mp_program.specs.Weight.{weight};
+ghost use Rattle.mp_rules.specs.Breaking.{IsUnbroken, RefusesFirst};
 ghost use Rattle.mp_checker.specs.Signals.{IsSignalProgram};
 
 use crate::signals::{is_input, is_output, is_signal_program};
-use mp_base::{List, Name, NoMemory, Pad, Pads};
+use mp_base::{List, Name, NoMemory, Pad, Pads, Refusal};
 use mp_program::{Def, Program, Way, What};
 use std::alloc::{AllocError, Global};
 use std::marker::Model;
 
-/// A program that keeps the rules, with its pads and an order of evaluation.
+/// A program that breaks no rule, with its pads, an order of evaluation and its weight.
 #[derive(Drop)]
 pub struct Checked {
     program: Program,
     pads: Pads,
     order: List<u32>,
+    total_weight: u32,
 }
 
 impl Model for Checked {
+    ghost use Rattle.std.specs.Prelude.{◌≡◌};
     ghost use Rattle.mp_program.specs.Pads.{ArePadsOf};
     ghost use Rattle.mp_program.specs.Reads.{IsOrder};
+    ghost use Rattle.mp_program.specs.Weight.{weight};
+    ghost use Rattle.mp_rules.specs.Breaking.{IsUnbroken};
     ghost use Rattle.mp_checker.specs.Checking.{CheckedProgram};
 
     ghost Value = { CheckedProgram };
 
     ghost view = { λ s. record { program = s.program; pads = s.pads; order = s.order } };
 
-    ghost invariant = { λ s. ArePadsOf s.program s.pads × IsOrder s.program s.order };
+    ghost invariant = { λ s. ArePadsOf s.program s.pads × IsOrder s.program s.order × (s.total_weight ≡ weight s.program) × IsUnbroken s.program };
 }
 
 impl Checked {
@@ -63,6 +69,20 @@ impl Checked {
         ensures ordered { IsOrder self.now.program result.now }
     {
         &self.order
+    }
+
+    /// A law: a call does nothing, and tells the caller's proof that the program breaks no rule.
+    pub fn unbroken(&self)
+        ensures { IsUnbroken self.now.program }
+    {
+        let _ = &self.program;
+    }
+
+    /// What the program weighs.
+    pub fn weight(&self) -> u32
+        ensures { result ≡ weight self.now.program }
+    {
+        self.total_weight
     }
 }
 
@@ -134,19 +154,13 @@ fn pads_of(alloc: Global, program: &Program) -> Result<Pads, AllocError>
     Ok(Pads { inputs, outputs })
 }
 
-/// The driven definitions in their order, which is an order of evaluation since no signal reads another.
-fn signal_order(alloc: Global, program: &Program) -> Result<List<u32>, AllocError>
-    requires { IsSignalProgram program.now }
-    ensures { IfOk result (IsOrder program.now) }
+/// Checks a program against rules E20 to E45. The error is the first rule that it breaks, by number, at the earliest
+/// place by offset.
+pub fn check(alloc: Global, program: Program) -> Result<Checked, Refusal>
+    ensures ok { IfOk result (λ checked. (checked.program ≡ program) × IsUnbroken program) }
+    ensures err { IfErr result (RefusesFirst program) }
 {
-    let mut order = List::new(alloc);
-    let defs = program.defs.as_slice();
-    for (d, def) in defs.iter().enumerate() {
-        if is_driven(def.what) {
-            order.push(d as u32)?;
-        }
-    }
-    Ok(order)
+    Err(Refusal::NoMemory)
 }
 
 /// Checks a program of signals, and gives `None` for any other program.
@@ -156,11 +170,8 @@ pub fn check_signals(alloc: Global, program: Program) -> Result<Option<Checked>,
     if !is_signal_program(&program) {
         return Ok(None);
     }
-    let pads = pads_of(alloc, &program)?;
-    let order = signal_order(alloc, &program)?;
-    Ok(Some(Checked {
-        program,
-        pads,
-        order,
-    }))
+    match check(alloc, program) {
+        Ok(checked) => Ok(Some(checked)),
+        Err(_) => Err(NoMemory),
+    }
 }

@@ -5,4 +5,4 @@ mod checked;
 pub mod laws;
 mod signals;
 
-pub use checked::{Checked, check_signals};
+pub use checked::{Checked, check, check_signals};
