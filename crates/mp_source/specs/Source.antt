@@ -22,7 +22,7 @@ pub record IsSpelled (text : List ℕ) (program : Program) : Type 0 where
 
 -- the text spells this program, which breaks no rule
 pub record IsSource (text : List ℕ) (program : Program) : Type 0 where
-  pub program : IsSpelled text program
+  pub spells : IsSpelled text program
   pub unbroken : IsUnbroken program
 
 -- The first rule, by its number and place: of the text (E1 to E5); or of the forms that it spells (E10, E11); or of the

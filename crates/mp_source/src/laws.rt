@@ -5,7 +5,7 @@ ghost use Rattle.mp_base.specs.declared.refusal.Broken.{Broken};
 ghost use Rattle.mp_program.specs.declared.program.Program.{Program};
 ghost use Rattle.mp_source.specs.Source.{IsSpelled, OfSource};
 
-use form_reader::{one_spelling, one_first_rule as one_first_of_text, spelled_breaks_nothing};
+use form_reader::{one_first_rule as one_first_of_text, one_spelling, spelled_breaks_nothing};
 use mp_rules::laws::one_first_rule as one_first_of_program;
 use mp_syntax::{one_program, shaped_is_unbroken};
 

@@ -1,0 +1,5 @@
+mod Members
+mod Placed
+mod Standing
+mod Judged
+mod Verdict

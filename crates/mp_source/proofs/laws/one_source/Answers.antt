@@ -1,0 +1,5 @@
+use Rattle.mp_source.proofs.Verdict.{one_source}
+use Rattle.mp_source.proofs.laws.one_source.Goals as goal
+
+pub returns : goal.returns
+returns c = one_source c.one_spelling.ensures c.one_program.ensures
