@@ -29,7 +29,7 @@ IsAmong table forms at = (f : ℕ) × Contains forms f × (entry table f ≡ Som
 
 -- at is the entry of one of these forms, and a form before it has an entry too
 abbrev pub IsBehind : List (Option Place) → List ℕ → Place → Type 0
-IsBehind table forms at = (i j g h : ℕ) (first : Place) × IsAt forms i g × IsAt forms j h × (i < j) × (entry table g ≡ Some first) × (entry table h ≡ Some at)
+IsBehind table forms at = (i j g h : ℕ) × (first : Place) × IsAt forms i g × IsAt forms j h × (i < j) × (entry table g ≡ Some first) × (entry table h ≡ Some at)
 
 -- the same in one of these lists
 abbrev pub IsBehindInOne : List (Option Place) → List (List ℕ) → Place → Type 0

@@ -18,7 +18,7 @@ use std::alloc::{AllocError, Global};
 use std::collections::BTreeSet;
 
 /// Whether a form goes to a label that isn't among these.
-fn is_astray(names: &BTreeSet<&[u8]>, kind: &FormKind) -> bool
+fn is_astray<'a>(names: &BTreeSet<&'a [u8]>, kind: &'a FormKind) -> bool
     ensures { (labels : List LabelValue) → ((x : List ℕ) → (has names.now x ≡ true) ↔ IsLabel labels x) → IsTrue result ↔ IsAstray labels kind.now }
 {
     match kind {
@@ -28,10 +28,10 @@ fn is_astray(names: &BTreeSet<&[u8]>, kind: &FormKind) -> bool
 }
 
 /// The earliest of what was found and the forms of this number that go to a label that isn't among these.
-fn astray_in(
-    program: &Program,
+fn astray_in<'a>(
+    program: &'a Program,
     labels: &[Label],
-    names: &BTreeSet<&[u8]>,
+    names: &BTreeSet<&'a [u8]>,
     marks: &[usize],
     number: usize,
     span: Span,
