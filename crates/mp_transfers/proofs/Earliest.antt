@@ -130,3 +130,10 @@ pub upto_all : {X : Type 0} {P : Place → Type 0} {xs : List X} {R : ℕ → X 
 upto_all {P = P} {xs = xs} {R = R} {i = i} {a = a} u all = earliest_same (λ at. P at ⊎ Before xs R i at) (λ at. P at ⊎ InAny xs R at) a u.earliest
     (λ at there. elim there [ inl p ↦ inl p | inr (k, x, lt, is, r) ↦ inr (k, x, is, r) ])
     (λ at there. elim there [ inl p ↦ inl p | inr (k, x, is, r) ↦ inr (k, x, (let l : k < length xs = is.0 in omega (arith, l, all)), is, r) ])
+
+-- nothing was found before
+pub from_none : (Q : Place → Type 0) (found : Option Place) → IsEarliest (λ at. (None ≡ Some at) ⊎ Q at) found → IsEarliest Q found
+from_none Q found h = earliest_same (λ at. (None ≡ Some at) ⊎ Q at) Q found h (λ at there. elim there [ inl e ↦ absurd (cc) | inr q ↦ q ]) (λ at q. inr q)
+
+pub from_nothing : (Q : Place → Type 0) (found : Option Place) → IsEarliest (λ at. ⊥ ⊎ Q at) found → IsEarliest Q found
+from_nothing Q found h = earliest_same (λ at. ⊥ ⊎ Q at) Q found h (λ at there. elim there [ inl e ↦ absurd e | inr q ↦ q ]) (λ at q. inr q)

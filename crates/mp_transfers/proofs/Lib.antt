@@ -1,1 +1,4 @@
 pub mod Earliest
+pub mod Lists
+pub mod Inside
+pub mod Entries
