@@ -7,6 +7,7 @@ use Rattle.mp_program.specs.declared.program.FormKind.{FormKind}
 use Rattle.mp_program.specs.declared.program.FormKind.TheVariants.{Set, Cond, Par, Go, Call, Return}
 use Rattle.mp_program.specs.declared.program.Branch.{Branch}
 use Rattle.mp_program.specs.declared.program.Form.{Form}
+use Rattle.mp_program.specs.declared.program.Process.{Process}
 use Rattle.mp_program.specs.declared.program.Program.{Program}
 use Rattle.mp_program.specs.Weight.{inner}
 use Rattle.mp_program.specs.Sound.{IsSound, InnerFit, BranchesFit, AllBetween}
@@ -64,3 +65,12 @@ in_sequence (Par fs) forms g (suc k, lt, is) c = absurd (omega (arith, lt))
 in_sequence (Go l) forms g (k, lt, is) c = absurd (omega (arith, lt))
 in_sequence (Call l) forms g (k, lt, is) c = absurd (omega (arith, lt))
 in_sequence Return forms g (k, lt, is) c = absurd (omega (arith, lt))
+
+-- top-level forms
+pub always_inside : (p : Program) → IsSound p → All (λ f. f < length p.forms) p.always
+always_inside p s = All-from_recursion (λ f. f < length p.forms) p.always s.always
+
+pub process_inside : (p : Program) → IsSound p → (k : ℕ) (q : Process) → IsAt p.processes k q → All (λ f. f < length p.forms) q.forms
+process_inside p s k q is =
+    let P : Process → Type 0 = λ x. AllByRecursion (λ f. f < length p.forms) x.forms in
+    All-from_recursion (λ f. f < length p.forms) q.forms (All-contains P p.processes q (All-from_recursion P p.processes s.processes) (contains_at p.processes k q is))

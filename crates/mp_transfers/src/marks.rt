@@ -22,23 +22,23 @@ fn mark_forms(forms: &[u32], number: usize, end: usize, marks: &mut List<usize>)
     requires { All (λ f. f < length marks.old) forms.now }
     ensures { IsMarking forms.now number end marks.old marks.new result }
 {
-    let mut end = end;
+    let mut next = end;
     for form in forms {
         marks.set(*form, number);
-        end = end.max(*form as usize + 1);
+        next = next.max(*form as usize + 1);
     }
-    end
+    next
 }
 
 fn mark_branches(branches: &[Branch], number: usize, end: usize, marks: &mut List<usize>) -> usize
     requires { All (λ f. f < length marks.old) (flat_map (λ (b : BranchValue). b.body) branches.now) }
     ensures { IsMarking (flat_map (λ (b : BranchValue). b.body) branches.now) number end marks.old marks.new result }
 {
-    let mut end = end;
+    let mut next = end;
     for branch in branches {
-        end = mark_forms(branch.body.as_slice(), number, end, marks);
+        next = mark_forms(branch.body.as_slice(), number, next, marks);
     }
-    end
+    next
 }
 
 fn mark_inside(kind: &FormKind, number: usize, end: usize, marks: &mut List<usize>) -> usize
