@@ -1,5 +1,5 @@
 -- The earliest of places: of two, and of those found one element of a list after another.
-use Rattle.std.proofs.Common.{◌≡◌, ◌⊎◌, inl, inr, ℕ, ◌+◌, ◌<◌, ◌≤◌, List, length, Option, Some, None, Bool, true, false, refl, sym, ◌∙◌, ap, subst, arith, get_or, slice_index_or, leb}
+use Rattle.std.proofs.Common.{◌≡◌, ◌⊎◌, inl, inr, ℕ, zero, suc, ◌+◌, ◌<◌, ◌≤◌, List, [], ◌∷◌, length, Option, Some, None, Bool, true, false, refl, sym, ◌∙◌, ap, subst, arith, get_or, slice_index_or, leb}
 use Rattle.std.specs.Prelude.{nat_le}
 use Rattle.std.proofs.lemmas.List.{get_or_read, get_or_default}
 use Rattle.std.proofs.lemmas.Bool.{cases_lt, leb-true, leb-false}
@@ -11,6 +11,11 @@ use Rattle.mp_transfers.specs.Tables.{join}
 -- an entry of a list is what stands there
 pub at_index : {X : Type 0} (xs : List X) (i : ℕ) (d : X) → i < length xs → IsAt xs i (get_or xs i d)
 at_index xs i d lt = (lt, get_or_default xs i d (get_or xs i d) lt)
+
+pub some_at : {X : Type 0} (xs : List X) (i : ℕ) → i < length xs → (x : X) × IsAt xs i x
+some_at [] i lt = absurd (omega (arith, lt))
+some_at (x ∷ xs) zero lt = (x, (lt, refl))
+some_at (x ∷ xs) (suc i) lt = let (y, at) = some_at xs i (omega (arith, lt)) in (y, (lt, at.1))
 
 pub at_same : {X : Type 0} (xs : List X) (i : ℕ) (x y : X) → IsAt xs i x → IsAt xs i y → x ≡ y
 at_same xs i x y (lt, is) (_, is') = get_or_read xs i x lt is y ∙ sym is'

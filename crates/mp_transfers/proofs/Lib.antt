@@ -5,3 +5,4 @@ pub mod Entries
 pub mod Broken
 pub mod Naming
 pub mod Marking
+pub mod Astray

@@ -1,9 +1,12 @@
 -- The marks of the forms of a process.
-use Rattle.std.proofs.Common.{◌≡◌, ◌≢◌, ◌⊎◌, inl, inr, ◌∙◌, ℕ, ◌+◌, ◌<◌, ◌≤◌, List, [], ◌∷◌, ◌++◌, length, get_or, refl, sym, ap, subst, arith, slice_set}
+use Rattle.std.proofs.Common.{◌≡◌, ◌≢◌, ◌⊎◌, inl, inr, ◌∙◌, ℕ, ◌+◌, ◌<◌, ◌≤◌, List, [], ◌∷◌, ◌++◌, length, get_or, take, refl, sym, ap, subst, arith, slice_set}
 use Rattle.std.specs.Prelude.{All, Contains, slice_index, max}
-use Rattle.std.proofs.lemmas.List.{get_or-set_same, get_or-set_other, length-set}
+use Rattle.std.proofs.lemmas.List.{get_or-set_same, get_or-set_other, length-set, take_more, take_all, append-nil}
+use Rattle.std.specs.List.{flat_map}
+use Rattle.std.proofs.lemmas.List.Concat.{flat_map-append}
 use Rattle.std.proofs.lemmas.List.Elements.{Contains-append_left, Contains-append_right, Contains-append_cases, Contains-push, Contains-push_cases}
 use Rattle.std.proofs.lemmas.Bool.{cases_lt, cases_eq}
+use Rattle.mp_program.specs.declared.program.Branch.{Branch}
 use Rattle.mp_program.specs.declared.program.Form.{Form}
 use Rattle.mp_program.specs.declared.program.Program.{Program}
 use Rattle.mp_program.specs.Weight.{inner}
@@ -141,3 +144,13 @@ marking_all p roots number marks f from end s m below all = record {
     down : (a g : ℕ) → slice_index marks a ≡ number → Under p a g → slice_index marks g ≡ number
     down a g is itself = is
     down a g is (deeper {g = h} y is_y c u) = down h g (m.complete a h y (let l : a < end = m.behind a is in omega (arith, l, all)) is_y is c) u
+
+-- the forms of one more branch, and of all
+pub bodies_more : (bs : List Branch) (i : ℕ) (b : Branch) → IsAt bs i b → flat_map (λ (x : Branch). x.body) (take (i + 1) bs) ≡ flat_map (λ (x : Branch). x.body) (take i bs) ++ b.body
+bodies_more bs i b (lt, is) =
+    ap (flat_map (λ (x : Branch). x.body)) (take_more bs i b lt)
+    ∙ flat_map-append (λ (x : Branch). x.body) (take i bs) (get_or bs i b ∷ [])
+    ∙ ap (λ xs. flat_map (λ (x : Branch). x.body) (take i bs) ++ xs) (append-nil ((get_or bs i b).body) ∙ ap (λ (x : Branch). x.body) (sym is))
+
+pub bodies_all : (bs : List Branch) (i : ℕ) → length bs ≤ i → flat_map (λ (x : Branch). x.body) (take i bs) ≡ flat_map (λ (x : Branch). x.body) bs
+bodies_all bs i le = ap (flat_map (λ (x : Branch). x.body)) (take_all i bs le)

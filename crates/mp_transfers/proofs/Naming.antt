@@ -9,14 +9,17 @@ use Rattle.std.proofs.lemmas.Map.Text.{is_eq-slice_cmp}
 use Rattle.std.proofs.lemmas.Slice.Eq.{bytes_eq-Decides}
 use Rattle.std.proofs.lemmas.Bool.{cases_lt}
 use Rattle.mp_base.specs.declared.refusal.Place.{Place}
+use Rattle.mp_program.specs.declared.program.FormKind.{FormKind}
+use Rattle.mp_program.specs.declared.program.FormKind.TheVariants.{Go, Call}
 use Rattle.mp_program.specs.declared.program.Label.{Label}
 use Rattle.mp_program.specs.declared.program.Process.{Process}
 use Rattle.mp_program.specs.declared.program.Program.{Program}
 use Rattle.mp_rules.specs.Entries.{IsAt}
+use Rattle.mp_rules.specs.Standing.{label_of}
 use Rattle.mp_rules.specs.Breaking.{IsEarliest, earlier}
 use Rattle.mp_rules.specs.Rules.{E29}
-use Rattle.mp_transfers.specs.Labels.{has, IsLabel, IsRepeated}
-use Rattle.mp_transfers.proofs.Earliest.{at_same, Upto, upto_join, upto_skip, upto_all, InAny, earliest_same, earliest_one}
+use Rattle.mp_transfers.specs.Labels.{has, IsLabel, IsRepeated, IsAstray}
+use Rattle.mp_transfers.proofs.Earliest.{at_index, at_same, Upto, upto_join, upto_skip, upto_all, InAny, earliest_same, earliest_one}
 use Rattle.mp_transfers.proofs.Lists.{at_contains, contains_at}
 
 -- a label before i has the name x
@@ -115,3 +118,30 @@ pub repeated_broken : (p : Program) (found : Option Place) → IsEarliest (λ at
 repeated_broken p found h = earliest_same (λ at. ⊥ ⊎ InAny p.processes (λ k (q : Process) at. IsRepeated q.labels at) at) (E29 p) found h
     (λ at there. elim there [ inl n ↦ absurd n | inr (k, q, is, (i, j, a, b, is_a, is_b, lt, e, same)) ↦ (k, q, i, j, a, b, is, is_a, is_b, lt, e, same) ])
     (λ at (k, q, i, j, a, b, is, is_a, is_b, lt, e, same). inr (k, q, is, (i, j, a, b, is_a, is_b, lt, e, same)))
+
+-- whether a label is among the names
+pub astray_iff : (names : BTreeSet (Bor (List ℕ))) (labels : List Label) (l : List ℕ) (t : Bool) → ((x : List ℕ) → (has names x ≡ true) ↔ IsLabel labels x) → t ≡ not (has names l)
+    → (t ≡ true) ↔ All (λ (x : Label). x.name ≢ l) labels
+astray_iff names labels l t iff e = (λ on k d lt same. fore (has names l) refl (sym on ∙ e) (k, get_or labels k d, at_index labels k d lt, same), λ none. e ∙ back (has names l) refl none)
+  where
+    fore : (h : Bool) → has names l ≡ h → true ≡ not h → IsLabel labels l → ⊥
+    fore true is on found = cc
+    fore false is on found = let h : has names l ≡ true = (iff l).1 found in cc
+
+    back : (h : Bool) → has names l ≡ h → All (λ (x : Label). x.name ≢ l) labels → not h ≡ true
+    back false is none = refl
+    back true is none = let (k, a, at, same) = (iff l).0 is in absurd (none k a at.0 (ap (λ (x : Label). x.name) (sym at.1) ∙ same))
+
+-- a form that names the label l goes to one that isn't there
+pub astray_kind : (names : BTreeSet (Bor (List ℕ))) (labels : List Label) (kind : FormKind) (l : List ℕ) (t : Bool) → (kind ≡ Go l) ⊎ (kind ≡ Call l)
+    → ((x : List ℕ) → (has names x ≡ true) ↔ IsLabel labels x) → t ≡ not (has names l) → (t ≡ true) ↔ IsAstray labels kind
+astray_kind names labels kind l t either iff e = (λ on. (l, named, (astray_iff names labels l t iff e).0 on), λ (m, is, none). back m (sym is ∙ named) none)
+  where
+    named : label_of kind ≡ Some l
+    named = elim either [ inl go ↦ ap label_of go | inr call ↦ ap label_of call ]
+
+    back : (m : List ℕ) → Some m ≡ Some l → All (λ (x : Label). x.name ≢ m) labels → t ≡ true
+    back m is none =
+        let same : m ≡ l = cc in
+        let P : List ℕ → Type 0 = λ n. All (λ (x : Label). x.name ≢ n) labels in
+        (astray_iff names labels l t iff e).1 (subst P same none)
