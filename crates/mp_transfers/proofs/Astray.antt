@@ -1,6 +1,6 @@
 -- Forms that go to labels that aren't there.
-use Rattle.std.proofs.Common.{◌≡◌, ◌⊎◌, inl, inr, ◌∙◌, ℕ, ◌+◌, ◌<◌, ◌≤◌, List, length, refl, sym, arith, Option, Some, None}
-use Rattle.std.specs.Prelude.{slice_index, Contains}
+use Rattle.std.proofs.Common.{◌≡◌, ◌⊎◌, inl, inr, ℕ, ◌<◌, ◌≤◌, List, arith, Option}
+use Rattle.std.specs.Prelude.{slice_index}
 use Rattle.mp_base.specs.declared.refusal.Place.{Place}
 use Rattle.mp_program.specs.declared.program.Form.{Form}
 use Rattle.mp_program.specs.declared.program.Label.{Label}
@@ -13,7 +13,7 @@ use Rattle.mp_rules.specs.Rules.{E28}
 use Rattle.mp_transfers.specs.declared.marks.Span.{Span}
 use Rattle.mp_transfers.specs.Labels.{IsAstray}
 use Rattle.mp_transfers.specs.Marks.{AreMarked}
-use Rattle.mp_transfers.proofs.Earliest.{Upto, InAny, earliest_same, upto_all}
+use Rattle.mp_transfers.proofs.Earliest.{Upto, InAny, earliest_same}
 
 -- at is the place of the form f, which is y, and goes to a label that isn't among these
 abbrev pub Strays : List Label → Form → Place → Type 0

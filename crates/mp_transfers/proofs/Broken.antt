@@ -1,6 +1,6 @@
 -- The rules, from the entries of the tables.
-use Rattle.std.proofs.Common.{◌≡◌, ◌⊎◌, inl, inr, ℕ, ◌<◌, ◌≤◌, List, length, Option, Some, None, true, refl}
-use Rattle.std.specs.Prelude.{Contains, All}
+use Rattle.std.proofs.Common.{◌≡◌, ◌⊎◌, inl, inr, ℕ, ◌<◌, List, length, Option}
+use Rattle.std.specs.Prelude.{Contains}
 use Rattle.mp_rules.specs.Entries.{IsAt}
 use Rattle.std.proofs.lemmas.List.Elements.{All-contains}
 use Rattle.mp_base.specs.declared.refusal.Place.{Place}

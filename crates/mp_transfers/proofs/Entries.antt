@@ -10,7 +10,7 @@ use Rattle.mp_program.specs.declared.program.Program.{Program}
 use Rattle.mp_program.specs.Weight.{inner}
 use Rattle.mp_program.specs.Sound.{IsSound}
 use Rattle.mp_rules.specs.Entries.{IsAt}
-use Rattle.mp_rules.specs.Standing.{Under, itself, deeper, sequences, IsLater}
+use Rattle.mp_rules.specs.Standing.{itself, deeper, sequences}
 use Rattle.mp_rules.specs.Breaking.{IsEarliest, earlier}
 use Rattle.mp_transfers.specs.declared.tables.Sought.{Sought}
 use Rattle.mp_transfers.specs.declared.tables.Sought.TheVariants.{Transfer}

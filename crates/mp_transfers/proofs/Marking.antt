@@ -1,6 +1,6 @@
 -- The marks of the forms of a process.
-use Rattle.std.proofs.Common.{◌≡◌, ◌≢◌, ◌⊎◌, inl, inr, ◌∙◌, ℕ, ◌+◌, ◌<◌, ◌≤◌, List, [], ◌∷◌, ◌++◌, length, get_or, take, refl, sym, ap, subst, arith, slice_set}
-use Rattle.std.specs.Prelude.{All, Contains, slice_index, max}
+use Rattle.std.proofs.Common.{◌≡◌, ◌≢◌, inl, inr, ◌∙◌, ℕ, ◌+◌, ◌<◌, ◌≤◌, List, [], ◌∷◌, ◌++◌, length, get_or, take, refl, sym, ap, subst, arith, slice_set}
+use Rattle.std.specs.Prelude.{Contains, slice_index, max}
 use Rattle.std.proofs.lemmas.List.{get_or-set_same, get_or-set_other, length-set, take_more, take_all, append-nil}
 use Rattle.std.specs.List.{flat_map}
 use Rattle.std.proofs.lemmas.List.Concat.{flat_map-append}
@@ -13,7 +13,6 @@ use Rattle.mp_program.specs.Weight.{inner}
 use Rattle.mp_program.specs.Sound.{IsSound}
 use Rattle.mp_rules.specs.Entries.{IsAt}
 use Rattle.mp_rules.specs.Standing.{Under, itself, deeper}
-use Rattle.mp_transfers.specs.declared.marks.Span.{Span}
 use Rattle.mp_transfers.specs.Marks.{IsMarking, IsBelowAll, AreMarked}
 use Rattle.mp_transfers.proofs.Earliest.{at_same}
 use Rattle.mp_transfers.proofs.Inside.{inner_behind, under_behind}

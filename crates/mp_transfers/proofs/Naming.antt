@@ -1,10 +1,10 @@
 -- The names of labels that were seen.
-use Rattle.std.proofs.Common.{◌≡◌, ◌≢◌, ◌⊎◌, inl, inr, ◌∙◌, ℕ, ◌+◌, ◌<◌, ◌≤◌, List, [], length, get_or, refl, sym, ap, subst, arith, Bool, true, false, not, cond, Bor, Option, Some, None}
+use Rattle.std.proofs.Common.{◌≡◌, ◌≢◌, ◌⊎◌, inl, inr, ◌∙◌, ℕ, ◌+◌, ◌<◌, ◌≤◌, List, length, get_or, refl, sym, ap, subst, arith, Bool, true, false, not, cond, Bor, Option, Some}
 use Rattle.std.specs.Prelude.{All, ◌↔◌}
 use Rattle.std.specs.Ordering.{nat_cmp}
 use Rattle.std.specs.Cmp.Lexicographic.{slice_cmp}
 use Rattle.std.specs.Str.{bytes_eq}
-use Rattle.std.specs.BTreeSet.{BTreeSet, contains_by, UpdatesBy}
+use Rattle.std.specs.BTreeSet.{BTreeSet, UpdatesBy}
 use Rattle.std.proofs.lemmas.Map.Text.{is_eq-slice_cmp}
 use Rattle.std.proofs.lemmas.Slice.Eq.{bytes_eq-Decides}
 use Rattle.std.proofs.lemmas.Bool.{cases_lt}
@@ -20,7 +20,6 @@ use Rattle.mp_rules.specs.Breaking.{IsEarliest, earlier}
 use Rattle.mp_rules.specs.Rules.{E29}
 use Rattle.mp_transfers.specs.Labels.{has, IsLabel, IsRepeated, IsAstray}
 use Rattle.mp_transfers.proofs.Earliest.{at_index, at_same, Upto, upto_join, upto_skip, upto_all, InAny, earliest_same, earliest_one}
-use Rattle.mp_transfers.proofs.Lists.{at_contains, contains_at}
 
 -- a label before i has the name x
 abbrev pub Seen : List Label → ℕ → List ℕ → Type 0

@@ -1,11 +1,11 @@
 -- Tables of the earliest places in each form.
-use Rattle.std.specs.Prelude.{◌≡◌, ℕ, ◌<◌, List, Bool, true, false, length, Option, Some, None, Contains, slice_index_or}
+use Rattle.std.specs.Prelude.{◌≡◌, ℕ, ◌<◌, List, Bool, true, length, Option, Some, None, Contains, slice_index_or}
 use Rattle.mp_base.specs.declared.refusal.Place.{Place}
 use Rattle.mp_program.specs.declared.program.FormKind.{FormKind}
 use Rattle.mp_program.specs.declared.program.Form.{Form}
 use Rattle.mp_program.specs.declared.program.Program.{Program}
 use Rattle.mp_rules.specs.Entries.{IsAt}
-use Rattle.mp_rules.specs.Standing.{Under, is_transfer, uses_stack, sequences, IsLater}
+use Rattle.mp_rules.specs.Standing.{Under, is_transfer, uses_stack, IsLater}
 use Rattle.mp_rules.specs.Breaking.{IsEarliest, earlier}
 use Rattle.mp_transfers.specs.declared.tables.Sought.{Sought}
 use Rattle.mp_transfers.specs.declared.tables.Sought.TheVariants.{Transfer, StackUse}

@@ -1,4 +1,4 @@
-use Rattle.std.proofs.Common.{◌≡◌, ◌⊎◌, ◌+◌, ◌<◌, ◌≤◌, List, ℕ, Option, Some, length, arith, ap, subst}
+use Rattle.std.proofs.Common.{◌≡◌, ◌⊎◌, List, Some, length, arith, ap, subst}
 use Rattle.mp_program.specs.declared.program.Label.{Label}
 use Rattle.mp_program.specs.declared.program.Process.{Process}
 use Rattle.mp_rules.specs.Entries.{IsAt}

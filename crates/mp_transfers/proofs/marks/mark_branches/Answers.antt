@@ -1,4 +1,4 @@
-use Rattle.std.proofs.Common.{◌≡◌, ◌∙◌, ◌+◌, ◌<◌, ◌≤◌, ℕ, List, [], ◌∷◌, ◌++◌, length, get_or, take, arith, sym, ap, subst}
+use Rattle.std.proofs.Common.{◌<◌, ℕ, List, length, take, arith, sym, subst}
 use Rattle.std.specs.Prelude.{All}
 use Rattle.std.specs.List.{flat_map}
 use Rattle.mp_program.specs.declared.program.Branch.{Branch}

@@ -1,5 +1,4 @@
-use Rattle.std.proofs.Common.{◌≡◌, ◌∙◌, ◌+◌, ◌<◌, ◌≤◌, ℕ, List, [], ◌∷◌, ◌++◌, length, get_or, take, arith, sym, subst, slice_set}
-use Rattle.std.specs.Prelude.{max}
+use Rattle.std.proofs.Common.{◌<◌, ℕ, List, [], ◌∷◌, ◌++◌, length, get_or, take, arith, sym, subst, slice_set}
 use Rattle.std.proofs.lemmas.List.{take_more}
 use Rattle.mp_transfers.specs.Marks.{IsMarking}
 use Rattle.mp_transfers.proofs.Marking.{marking_push}

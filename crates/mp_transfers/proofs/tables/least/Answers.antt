@@ -1,5 +1,5 @@
-use Rattle.std.proofs.Common.{◌≡◌, ◌⊎◌, inl, inr, ◌+◌, ◌<◌, ◌≤◌, ℕ, Option, Some, length, get_or, arith, refl, sym, ◌∙◌, ap, subst}
-use Rattle.std.proofs.lemmas.List.{get_or_read, get_or_default}
+use Rattle.std.proofs.Common.{◌≡◌, ◌⊎◌, inl, inr, ◌+◌, ℕ, Option, Some, get_or, arith, sym, ◌∙◌, ap, subst}
+use Rattle.std.proofs.lemmas.List.{get_or_read}
 use Rattle.mp_base.specs.declared.refusal.Place.{Place}
 use Rattle.mp_transfers.specs.Tables.{join, entry, IsAmong}
 use Rattle.mp_transfers.proofs.Earliest.{Upto, at_index, earliest_same, earliest_itself, upto_join, upto_all, InAny}

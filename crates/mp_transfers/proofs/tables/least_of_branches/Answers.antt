@@ -1,10 +1,10 @@
-use Rattle.std.proofs.Common.{◌≡◌, ◌⊎◌, inl, inr, ◌+◌, ◌<◌, ◌≤◌, ℕ, List, Option, Some, None, length, arith, refl, sym, subst}
+use Rattle.std.proofs.Common.{◌≡◌, ◌⊎◌, inl, inr, ◌<◌, ℕ, List, Some, length, arith, sym, subst}
 use Rattle.std.specs.Prelude.{All}
 use Rattle.std.specs.List.{flat_map}
 use Rattle.mp_program.specs.declared.program.Branch.{Branch}
 use Rattle.mp_rules.specs.Breaking.{IsEarliest}
 use Rattle.mp_transfers.specs.Tables.{IsAmong}
-use Rattle.mp_transfers.proofs.Earliest.{upto_none, upto_then, upto_all, InAny, earliest_same}
+use Rattle.mp_transfers.proofs.Earliest.{upto_then, upto_all, InAny, earliest_same}
 use Rattle.mp_transfers.proofs.Lists.{all_flat, flat_in, flat_out}
 use Rattle.mp_transfers.proofs.tables.least_of_branches.Goals as goal
 

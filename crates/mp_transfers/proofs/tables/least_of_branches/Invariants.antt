@@ -1,4 +1,3 @@
-use Rattle.std.proofs.Common.{◌≡◌, Some}
 use Rattle.mp_transfers.specs.Tables.{IsAmong}
 use Rattle.mp_transfers.proofs.Earliest.{Upto}
 use Rattle.mp_transfers.proofs.tables.least_of_branches.Given as goal

@@ -1,4 +1,4 @@
-use Rattle.std.proofs.Common.{◌≡◌, ◌⊎◌, List, ℕ, Option, Some, None, sym, subst}
+use Rattle.std.proofs.Common.{List, ℕ, subst}
 use Rattle.mp_rules.specs.Breaking.{IsEarliest}
 use Rattle.mp_transfers.specs.Tables.{IsAmong}
 use Rattle.mp_transfers.proofs.Earliest.{from_none}

@@ -1,4 +1,4 @@
-use Rattle.std.proofs.Common.{◌≡◌, ◌∙◌, List, ℕ, not, ap}
+use Rattle.std.proofs.Common.{◌∙◌, not, ap}
 use Rattle.mp_transfers.specs.Labels.{has}
 use Rattle.mp_transfers.proofs.Naming.{astray_kind}
 use Rattle.mp_transfers.proofs.unknown.is_astray.Goals as goal
