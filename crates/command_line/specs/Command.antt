@@ -1,0 +1,42 @@
+-- The forms of the words.
+use Rattle.std.specs.Prelude.{ℕ, List, [], ◌∷◌, Bool, false, Option, Some, None, if◌then◌else◌, codes, ◌==◌, String, string_bytes, map}
+use Rattle.std.specs.declared.alloc.Global.{Global}
+use Rattle.std.specs.List.{list_any}
+use Rattle.std.specs.Str.{bytes_eq}
+use Rattle.command_line.specs.declared.command.Command as rust
+use Rattle.command_line.specs.declared.command.Command.TheVariants as rust_variants
+
+-- a command, by the names of its files
+pub data Command : Type 0 where
+  Trace : (source stimulus : List ℕ) → Command
+  Compile : (source cif : List ℕ) → Command
+
+abbrev pub begins_with_dash : List ℕ → Bool
+begins_with_dash [] = false
+begins_with_dash (b ∷ bs) = b == 45
+
+-- a command of exactly two words
+abbrev pub two : (List ℕ → List ℕ → Command) → List (List ℕ) → Option Command
+two make (a ∷ b ∷ []) = Some (make a b)
+two make words = None
+
+-- the command that a name and the words after it stand for
+abbrev pub form_named : List ℕ → List (List ℕ) → Option Command
+form_named name words =
+    if bytes_eq (codes "trace") name then two Trace words
+    else if bytes_eq (codes "compile") name then two Compile words
+    else None
+
+-- the command that words stand for, where none begins with a dash
+abbrev pub form_of : List (List ℕ) → Option Command
+form_of [] = None
+form_of (name ∷ words) = form_named name words
+
+-- the command that words stand for
+abbrev pub command_of : List (String Global) → Option Command
+command_of words = if list_any (λ word. begins_with_dash (string_bytes word)) words then None else form_of (map string_bytes words)
+
+-- a command as the code has it
+abbrev pub seen : rust.Command → Command
+seen (rust_variants.Trace source stimulus) = Trace source.now stimulus.now
+seen (rust_variants.Compile source cif) = Compile source.now cif.now
