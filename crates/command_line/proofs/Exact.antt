@@ -79,8 +79,8 @@ unknown_exact : (name : Text) (words : List Text) → begins_with_dash name ≡ 
 unfolding walk_fault
 unknown_exact name words plain unknown none = (
   ap (λ k. passes (by_walk (or_else k (walk_fault whole.top (names_of whole) (walked whole.top.rules (names_of whole) (walk_from nothing_held) name) words)) (walk whole.top.rules (names_of whole) nothing_held (name ∷ words))))
-  (turn_plain whole.top (names_of whole) (walk_from nothing_held) name plain refl refl unknown)
-  ∙ sym (ap is_some none),
+      (turn_plain whole.top (names_of whole) (walk_from nothing_held) name plain refl refl unknown)
+      ∙ sym (ap is_some none),
   λ e. absurd (true≢false (sym e ∙ ap is_some none)),
 )
 

@@ -1,7 +1,13 @@
--- How a command is read off clap's matches.
-use Rattle.std.specs.Prelude.{List, Option, Some, None, codes, if◌then◌else◌, option_and_then}
+-- How a command is read off clap's answer.
+use Rattle.std.specs.Prelude.{List, Option, Some, None, Result, Ok, Err, alloc_error, codes, if◌then◌else◌, option_and_then}
 use Rattle.std.specs.Str.{bytes_eq}
-use Rattle.clap.specs.Walk.{Row, Text, all_of, first_of}
+use Rattle.std.specs.declared.alloc.AllocError.{AllocError}
+use Rattle.clap.specs.Values.{kind_of}
+use Rattle.clap.specs.Walk.{Row, Text, first_of}
+use Rattle.clap.specs.declared.ArgMatches.{ArgMatches}
+use Rattle.clap.specs.declared.Error.{Error}
+use Rattle.clap.specs.declared.error.ErrorKind.{ErrorKind}
+use Rattle.clap.specs.declared.error.ErrorKind.TheVariants.{OutOfMemory}
 use Rattle.command_line.specs.Command.{Command, Trace, Compile}
 
 -- a command of the words that two ids took
@@ -18,3 +24,13 @@ read_named name rows =
 -- the command of the subcommand that was met
 abbrev pub read_met : Option (Text × List Row) → Option Command
 read_met = option_and_then (λ p. read_named p.0 p.1)
+
+-- only want of memory is an error: for any other the words are in no form
+abbrev pub answer_to : ErrorKind → Result (Option ArgMatches) AllocError
+answer_to OutOfMemory = Err alloc_error
+answer_to kind = Ok None
+
+-- what clap's answer is to a caller
+abbrev pub answer_of : Result ArgMatches Error → Result (Option ArgMatches) AllocError
+answer_of (Ok matches) = Ok (Some matches)
+answer_of (Err error) = answer_to (kind_of error)

@@ -1,20 +1,20 @@
 //! The command that the words stand for.
 
-ghost use Rattle.std.specs.Prelude.{◌≡◌, IfOk, MatchOption, MatchResult, Ok, Err, Some, None, false, map, string_bytes, alloc_error};
+ghost use Rattle.std.specs.Prelude.{◌≡◌, IfOk, MatchOption, None, false, map, string_bytes};
 ghost use Rattle.std.specs.List.{list_any};
 ghost use Rattle.std.specs.Option.{option_map};
 ghost use Rattle.clap.specs.Words.{subcommand_rows_of};
 ghost use Rattle.command_line.specs.Command.{begins_with_dash, form_of, command_of, seen};
-ghost use Rattle.command_line.specs.Read.{read_met};
+ghost use Rattle.command_line.specs.Read.{answer_of, read_met};
 
 use crate::app::app;
 use crate::matched::command_in;
-use clap::ArgMatches;
 use clap::error::ErrorKind;
+use clap::{ArgMatches, Error};
 use std::alloc::{AllocError, Global};
 
 /// A command, by the names of its files.
-#[derive(Clone, Copy)]
+#[derive(Clone, Copy, Debug, PartialEq, Eq)]
 pub enum Command<'a> {
     Trace(&'a str, &'a str),
     Compile(&'a str, &'a str),
@@ -35,19 +35,26 @@ fn any_dash(words: &[String]) -> bool
     words.iter().any(|word| begins_with_dash(word.as_str()))
 }
 
-// The matches, or `None` where clap refuses the words.
-fn parse<'a>(alloc: Global, words: &'a [String]) -> Result<Option<ArgMatches<'a>>, AllocError>
-    requires { list_any begins_with_dash (map string_bytes words.now) ≡ false }
-    ensures { IfOk result (λ found. MatchOption found (form_of (map string_bytes words.now) ≡ None)
-        (λ m. read_met (subcommand_rows_of m) ≡ form_of (map string_bytes words.now))) }
+// What clap answered, where only want of memory stays an error.
+fn answered<'a>(parsed: Result<ArgMatches<'a>, Error>) -> Result<Option<ArgMatches<'a>>, AllocError>
+    ensures { result ≡ answer_of parsed.entry }
 {
-    match app(alloc)?.try_get_matches_from(words) {
+    match parsed {
         Ok(matches) => Ok(Some(matches)),
         Err(error) => match error.kind() {
             ErrorKind::OutOfMemory => Err(AllocError),
             _ => Ok(None),
         },
     }
+}
+
+// The matches, or `None` where clap refuses the words.
+fn parse<'a>(alloc: Global, words: &'a [String]) -> Result<Option<ArgMatches<'a>>, AllocError>
+    requires { list_any begins_with_dash (map string_bytes words.now) ≡ false }
+    ensures { IfOk result (λ found. MatchOption found (form_of (map string_bytes words.now) ≡ None)
+        (λ m. read_met (subcommand_rows_of m) ≡ form_of (map string_bytes words.now))) }
+{
+    answered(app(alloc)?.try_get_matches_from(words))
 }
 
 // The command that clap finds in words without dashes.

@@ -20,19 +20,13 @@ fn text<'a>(matches: &ArgMatches<'a>, id: &str) -> Option<&'a str>
 fn trace<'a>(matches: &ArgMatches<'a>) -> Option<Command<'a>>
     ensures { option_map seen result ≡ read_two spec.Trace (codes "source") (codes "stimulus") (rows_of (found_of matches.now)) }
 {
-    Some(Command::Trace(
-        text(matches, "source")?,
-        text(matches, "stimulus")?,
-    ))
+    Some(Command::Trace(text(matches, "source")?, text(matches, "stimulus")?))
 }
 
 fn compile<'a>(matches: &ArgMatches<'a>) -> Option<Command<'a>>
     ensures { option_map seen result ≡ read_two spec.Compile (codes "source") (codes "cif") (rows_of (found_of matches.now)) }
 {
-    Some(Command::Compile(
-        text(matches, "source")?,
-        text(matches, "cif")?,
-    ))
+    Some(Command::Compile(text(matches, "source")?, text(matches, "cif")?))
 }
 
 /// The command that the matches of a subcommand hold, by its name.

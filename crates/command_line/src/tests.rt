@@ -3,21 +3,57 @@
 use crate::{Command, command_of};
 use std::alloc::{AllocError, Global};
 
-// What words that are kept apart by blanks stand for.
-fn form_of(alloc: Global, text: &str) -> Result<(u8, usize), AllocError> {
-    let mut words = Vec::new(alloc);
-    for word in text.split(' ') {
-        words.push(String::from_str(alloc, word)?)?;
+fn owned(alloc: Global, words: &[&str]) -> Result<Vec<String>, AllocError> {
+    let mut owned = Vec::new(alloc);
+    for word in words {
+        owned.push(String::from_str(alloc, *word)?)?;
     }
-    Ok(match command_of(alloc, &words)? {
-        None => (0, 0),
-        Some(Command::Trace(_, _)) => (1, 0),
-        Some(Command::Compile(_, _)) => (2, 0),
-    })
+    Ok(owned)
 }
 
 #[test]
-fn t(rt: HostRuntime) -> Result<(), AllocError> {
-    assert_eq!(rt; form_of(rt.alloc(), "trace a b")?, (1, 0));
+fn words_in_a_form(rt: HostRuntime) -> Result<(), AllocError> {
+    let alloc = rt.alloc();
+    let rows: [([&str; 3], Command<'_>); 4] = [
+        (["trace", "a", "b"], Command::Trace("a", "b")),
+        (["compile", "a", "b"], Command::Compile("a", "b")),
+        (["trace", "trace", "a b"], Command::Trace("trace", "a b")),
+        (["compile", "", "help"], Command::Compile("", "help")),
+    ];
+    for (words, wanted) in rows {
+        let words = owned(alloc, &words)?;
+        assert_eq!(rt; command_of(alloc, &words)?, Some(wanted));
+    }
+    Ok(())
+}
+
+#[test]
+fn words_in_no_form(rt: HostRuntime) -> Result<(), AllocError> {
+    let alloc = rt.alloc();
+    let rows: [&[&str]; 19] = [
+        &[],
+        &[""],
+        &["a", "b"],
+        &["trac", "a", "b"],
+        &["Trace", "a", "b"],
+        &["macpitts", "trace", "a", "b"],
+        &["trace"],
+        &["trace", "a"],
+        &["trace", "a", "b", "c"],
+        &["compile", "a"],
+        &["compile", "a", "b", ""],
+        &["trace", "-a", "b"],
+        &["compile", "a", "-"],
+        &["trace", "--", "a", "b"],
+        &["-"],
+        &["--help"],
+        &["--version"],
+        &["help"],
+        &["help", "trace"],
+    ];
+    for words in rows {
+        let words = owned(alloc, words)?;
+        assert_eq!(rt; command_of(alloc, &words)?, None);
+    }
     Ok(())
 }

@@ -1,9 +1,8 @@
-use Rattle.std.proofs.Common.{◌∙◌, map, string_bytes}
-use Rattle.command_line.proofs.Parsed.{parsed_ok, parsed_err}
+use Rattle.std.proofs.Common.{map, string_bytes}
+use Rattle.command_line.proofs.Parsed.{parsed}
 use Rattle.command_line.proofs.command.parse.Goals as goal
 
-pub returns-in-Ok : goal.returns-in-Ok
-returns-in-Ok c = parsed_ok _ (map string_bytes c.args.words.now) c.in-Ok.matches c.in_ok-app.ensures c.in-Ok.ensures.kinds c.in-Ok.ensures.matches c.requires
-
 pub returns : goal.returns
-returns c = parsed_err _ (map string_bytes c.args.words.now) c.in-Err.error c.in_ok-app.ensures c.in-Err.ensures.kinds (λ e. c.in_default.not-OutOfMemory (c.kind.ensures ∙ e)) c.requires
+returns c =
+    let called = c.try_get_matches_from.ensures in
+    rw c.answered.ensures (parsed _ (map string_bytes c.args.words.now) c.try_get_matches_from.result c.in_ok-app.ensures called.kinds called.matches c.requires)
