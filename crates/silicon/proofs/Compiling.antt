@@ -5,7 +5,7 @@ use Rattle.mp_base.specs.declared.pad.Pads.{Pads}
 use Rattle.mp_program.specs.declared.program.Program.{Program}
 use Rattle.mp_program.specs.Pads.{ArePadsOf}
 use Rattle.inverter_chip.specs.Compiled.{IsChipOfInverters}
-use Rattle.silicon.specs.Command.{Compile}
+use Rattle.command_line.specs.Command.{Compile}
 use Rattle.silicon.specs.Source.{IsInverterSource}
 use Rattle.silicon.specs.Compiled.{IsCompiled}
 use Rattle.silicon.specs.Faults.{Shows}

@@ -4,7 +4,7 @@ use Rattle.std.specs.Prelude.{IsErrAnd}
 use Rattle.mp_base.specs.Outside.{Files, WhereTold, Keeps, Gains}
 use Rattle.mp_base.specs.Piece.{TakesAll}
 use Rattle.mp_base.specs.declared.outside.Failed.{Failed}
-use Rattle.silicon.specs.Command.{Command}
+use Rattle.command_line.specs.Command.{Command}
 use Rattle.silicon.specs.Order.{Breaks}
 use Rattle.silicon.specs.Faults.{IsFirstFault, target_of, Shows}
 use Rattle.silicon.specs.Outcome.{IsDone, IsCutShort, IsPartOf, Stores, StoresPart}

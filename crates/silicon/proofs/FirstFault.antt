@@ -2,7 +2,7 @@
 use Rattle.std.proofs.Common.{◌≡◌, List, ℕ, Option}
 use Rattle.std.specs.FinMap.{get}
 use Rattle.mp_base.specs.Outside.{Files, bytes_of}
-use Rattle.silicon.specs.Command.{Command, Trace, Compile}
+use Rattle.command_line.specs.Command.{Command, Trace, Compile}
 use Rattle.silicon.specs.Source.{OfSource, OfCompiled}
 use Rattle.silicon.specs.Stimulus.{OfStimulus}
 use Rattle.silicon.specs.Faults.{IsFirstFault, SourceFault, StimulusFault, CompiledFault}

@@ -1,17 +1,17 @@
 -- A run, from the end of its command and the line that it told.
-use Rattle.std.proofs.Common.{◌≡◌, ◌<◌, ℕ, List, [], ◌++◌, take, refl, sym, subst, inl, inr, Option, Some, None, Err}
+use Rattle.std.proofs.Common.{◌≡◌, ℕ, List, [], ◌++◌, refl, sym, subst, inl, inr, Option, Some, None, Err}
 use Rattle.mp_base.specs.Outside.{Files, WhereTold, Gains}
 use Rattle.mp_base.specs.declared.refusal.Broken.{Broken}
-use Rattle.silicon.specs.Command.{Command}
+use Rattle.command_line.specs.Command.{Command}
 use Rattle.silicon.specs.Order.{Breaks}
 use Rattle.silicon.specs.Faults.{IsFirstFault}
 use Rattle.silicon.specs.Outcome.{IsRefused, IsPartOf}
 use Rattle.silicon.specs.Line.{line_of}
-use Rattle.silicon.specs.Run.{World, Leaves, IsSaid, whole, cut, IsTold, DidCommand, Did, IsForWords, TellsUsage, usage_line}
+use Rattle.silicon.specs.Run.{World, Leaves, IsSaid, whole, cut, IsTold, DidCommand, Did, TellsUsage, usage_line}
 use Rattle.silicon.specs.Halt.{Ends}
 use Rattle.silicon.specs.declared.halt.Halt.TheVariants as halt
 use Rattle.silicon.specs.declared.top.Status.{Status}
-use Rattle.silicon.specs.declared.top.Status.TheVariants.{Usage}
+use Rattle.silicon.specs.declared.top.Status.TheVariants.{Usage, NoMemory}
 use Rattle.silicon.proofs.Told.{told_map, keeps_same, gains_twice, gains_nothing}
 
 module _ (command : Command) (broken : Broken) where
@@ -63,3 +63,16 @@ usage_told result x y s s' (cut is le rose part first said) = subst (λ r. Tells
 
 pub tells_usage : (command : Option Command) (result : Status) (x y : Option (List ℕ)) (s s' : ℕ) → None ≡ command → IsSaid Usage usage_line x y s s' result → TellsUsage command result x y
 tells_usage command result x y s s' none said = subst (λ o. TellsUsage o result x y) none (usage_told result x y s s' said)
+
+-- memory was missing before anything was done
+unchanged : (command : Option Command) (files : Option Files) → WhereTold (λ old new. Did command NoMemory old new []) files files
+unchanged command None = tt
+unchanged None (Some files) = refl
+unchanged (Some command) (Some files) = (refl, inl refl)
+
+pub leaves_nothing : (command : Option Command) (world : World) → Leaves (Did command NoMemory) world world
+leaves_nothing command world = record { printed = []; gained = gains_nothing world.text; told = unchanged command world.files }
+
+pub tells_nothing : (command : Option Command) (text : Option (List ℕ)) → TellsUsage command NoMemory text text
+tells_nothing None text = keeps_same text
+tells_nothing (Some command) text = tt

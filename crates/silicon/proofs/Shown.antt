@@ -6,7 +6,7 @@ use Rattle.mp_program.specs.Trace.{IsTrace}
 use Rattle.mp_checker.specs.Checking.{CheckedProgram}
 use Rattle.stimulus.specs.declared.given.Stimulus.{Stimulus}
 use Rattle.stimulus.specs.Reading.{IsStimulus}
-use Rattle.silicon.specs.Command.{Trace}
+use Rattle.command_line.specs.Command.{Trace}
 use Rattle.silicon.specs.Source.{IsSignalSource}
 use Rattle.silicon.specs.Transcript.{IsTranscript, inputs_of, lines_text}
 use Rattle.silicon.specs.Faults.{Shows}

@@ -2,7 +2,7 @@
 use Rattle.std.specs.Prelude.{◌≡◌, ℕ, List, [], Option, Some, None}
 use Rattle.std.specs.FinMap.{get}
 use Rattle.mp_base.specs.Outside.{Files, bytes_of}
-use Rattle.silicon.specs.Command.{Command, Trace, Compile}
+use Rattle.command_line.specs.Command.{Command, Trace, Compile}
 use Rattle.silicon.specs.Order.{Fault, Stray, Then, OfFile}
 use Rattle.mp_base.specs.declared.pad.Pads.{Pads}
 use Rattle.silicon.specs.Compiled.{IsCompiled}

@@ -6,7 +6,7 @@ use Rattle.mp_base.specs.declared.refusal.Refusal.{Refusal}
 use Rattle.mp_base.specs.declared.refusal.Refusal.TheVariants as refusal
 use Rattle.mp_base.specs.declared.transfer.ReadError.{ReadError}
 use Rattle.mp_base.specs.declared.transfer.ReadError.TheVariants as read_error
-use Rattle.silicon.specs.Command.{Command}
+use Rattle.command_line.specs.Command.{Command}
 use Rattle.silicon.specs.Order.{Fault, Breaks}
 use Rattle.silicon.specs.Faults.{IsFirstFault, IsStrayBy}
 use Rattle.silicon.specs.Outcome.{IsDone, IsCutShort}

@@ -1,4 +1,3 @@
-pub mod Command
 pub mod Order
 pub mod Source
 pub mod Stimulus

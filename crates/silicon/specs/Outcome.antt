@@ -3,7 +3,7 @@ use Rattle.std.specs.Prelude.{◌≡◌, ◌⊎◌, ℕ, ◌<◌, List, [], leng
 use Rattle.mp_base.specs.Outside.{Files}
 use Rattle.mp_base.specs.Transfer.{Holds, HoldsPart}
 use Rattle.mp_base.specs.declared.refusal.Broken.{Broken}
-use Rattle.silicon.specs.Command.{Command}
+use Rattle.command_line.specs.Command.{Command}
 use Rattle.silicon.specs.Order.{Breaks}
 use Rattle.silicon.specs.Faults.{IsFirstFault, target_of, Shows}
 

@@ -1,7 +1,7 @@
 -- What a run did, by its status.
 use Rattle.std.specs.Prelude.{◌≡◌, ◌⊎◌, ℕ, ◌≤◌, List, [], ◌∷◌, ◌++◌, ⊤, Option, Some, None, codes}
 use Rattle.mp_base.specs.Outside.{Files, Rose, WhereTold, Keeps, Gains}
-use Rattle.silicon.specs.Command.{Command}
+use Rattle.command_line.specs.Command.{Command}
 use Rattle.silicon.specs.Faults.{IsFirstFault, IsStrayBy}
 use Rattle.silicon.specs.Outcome.{IsPartOf, IsDone, IsCutShort, IsRefused}
 use Rattle.silicon.specs.Line.{line_of}

@@ -2,7 +2,7 @@
 
 ghost use Rattle.std.specs.Prelude.{◌≡◌, IfOk, IfSome, Some, []};
 ghost use Rattle.mp_base.specs.Outside.{Keeps};
-ghost use Rattle.silicon.specs.Command.{Compile};
+ghost use Rattle.command_line.specs.Command.{Compile};
 ghost use Rattle.silicon.specs.Faults.{IsFirstFault, Shows};
 ghost use Rattle.silicon.specs.Halt.{HasReason, Ends, status_of};
 ghost use Rattle.silicon.specs.Run.{world_of, HasCauses, IsStrayFor, Leaves};

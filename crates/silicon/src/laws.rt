@@ -2,7 +2,7 @@
 
 ghost use Rattle.std.specs.Prelude.{◌≡◌, Option};
 ghost use Rattle.mp_base.specs.Outside.{Files};
-ghost use Rattle.silicon.specs.Command.{Command};
+ghost use Rattle.command_line.specs.Command.{Command};
 ghost use Rattle.silicon.specs.Order.{Fault};
 ghost use Rattle.silicon.specs.Faults.{IsFirstFault};
 

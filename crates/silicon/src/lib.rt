@@ -2,7 +2,6 @@
 #![tactic(auto)]
 
 mod board;
-mod command;
 mod compile;
 mod files;
 mod halt;

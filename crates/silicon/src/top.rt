@@ -1,19 +1,19 @@
 //! The top call.
 
 ghost use Rattle.std.specs.Prelude.{◌≡◌, Some};
-ghost use Rattle.silicon.specs.Command.{command_of, seen};
+ghost use Rattle.command_line.specs.Command.{command_of, seen};
 ghost use Rattle.silicon.specs.Halt.{Ends, status_of};
 ghost use Rattle.silicon.specs.Run.{IsSaid, IsForWords, world_of, HasCauses, IsStrayFor, IsTold, Leaves, DidCommand, Did, TellsUsage};
 ghost use Rattle.silicon.specs.Line.{line_of};
 
 use crate::board::NamedPart;
-use crate::command::{Command, command_of};
 use crate::compile::compile;
 use crate::halt::Halt;
 use crate::line::line;
 use crate::trace::trace;
+use command_line::{Command, command_of};
 use mp_base::{Broken, Depot, Failed, Sink, write_all};
-use std::alloc::Global;
+use std::alloc::{AllocError, Global};
 
 /// How a run ended. The exit statuses are 0 to 5 in this order.
 #[derive(Clone, Copy, Debug, PartialEq, Eq)]
@@ -113,8 +113,9 @@ pub fn run<D: Depot, O: Sink>(
 
     ensures parts { parts.new.items ≡ parts.old.items }
 {
-    match command_of(words) {
-        Some(command) => run_command(alloc, depot, out, command),
-        None => say(out, USAGE.as_bytes(), Status::Usage),
+    match command_of(alloc, words) {
+        Ok(Some(command)) => run_command(alloc, depot, out, command),
+        Ok(None) => say(out, USAGE.as_bytes(), Status::Usage),
+        Err(AllocError) => Status::NoMemory,
     }
 }

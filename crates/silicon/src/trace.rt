@@ -6,7 +6,7 @@ ghost use Rattle.mp_program.specs.Pads.{ArePadsOf};
 ghost use Rattle.mp_program.specs.State.{zero_state};
 ghost use Rattle.mp_checker.specs.Signals.{IsSignalProgram};
 ghost use Rattle.stimulus.specs.Reading.{IsStimulus};
-ghost use Rattle.silicon.specs.Command.{Trace};
+ghost use Rattle.command_line.specs.Command.{Trace};
 ghost use Rattle.silicon.specs.Source.{IsSignalSource};
 ghost use Rattle.silicon.specs.Faults.{IsFirstFault};
 ghost use Rattle.silicon.specs.Halt.{HasReason, Ends, status_of};

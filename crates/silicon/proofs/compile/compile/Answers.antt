@@ -1,5 +1,5 @@
 use Rattle.std.proofs.Common.{refl, []}
-use Rattle.silicon.specs.Command.{Compile}
+use Rattle.command_line.specs.Command.{Compile}
 use Rattle.silicon.proofs.EndsLemmas.{leaves_halted, leaves_done, leaves_stored_in_part, nothing_printed}
 use Rattle.silicon.proofs.compile.compile.Goals as goal
 

@@ -1,14 +1,22 @@
 use Rattle.std.proofs.Common.{◌∙◌, ap, refl}
-use Rattle.silicon.specs.Command.{command_of}
-use Rattle.silicon.proofs.RunLemmas.{leaves_no_command, tells_usage}
+use Rattle.command_line.specs.Command.{command_of}
+use Rattle.silicon.proofs.RunLemmas.{leaves_no_command, leaves_nothing, tells_usage, tells_nothing}
 use Rattle.silicon.proofs.top.run.Goals as goal
 
-pub returns-in-None-clause-content : goal.returns-in-None-clause-content
-returns-in-None-clause-content g c =
-    leaves_no_command (command_of c.args.words.now.items) c.say.result _ _ _ _ (c.in-None.ensures ∙ ap command_of c.deref.ensures.value)
+pub returns-in-Ok-None-clause-content : goal.returns-in-Ok-None-clause-content
+returns-in-Ok-None-clause-content g c =
+    leaves_no_command (command_of c.args.words.now.items) c.say.result _ _ _ _
+    ((rw c.in-Ok-None.field-0-is at c.in-Ok-None.ensures) ∙ ap command_of c.deref.ensures.value)
     (rw c.as_bytes.ensures.value at c.say.ensures) refl
 
-pub returns-in-None-clause-usage : goal.returns-in-None-clause-usage
-returns-in-None-clause-usage g c =
-    tells_usage (command_of c.args.words.now.items) c.say.result _ _ _ _ (c.in-None.ensures ∙ ap command_of c.deref.ensures.value)
+pub returns-in-Ok-None-clause-usage : goal.returns-in-Ok-None-clause-usage
+returns-in-Ok-None-clause-usage g c =
+    tells_usage (command_of c.args.words.now.items) c.say.result _ _ _ _
+    ((rw c.in-Ok-None.field-0-is at c.in-Ok-None.ensures) ∙ ap command_of c.deref.ensures.value)
     (rw c.as_bytes.ensures.value at c.say.ensures)
+
+pub returns-in-Err-clause-content : goal.returns-in-Err-clause-content
+returns-in-Err-clause-content g c = leaves_nothing (command_of c.args.words.now.items) _
+
+pub returns-in-Err-clause-usage : goal.returns-in-Err-clause-usage
+returns-in-Err-clause-usage g c = tells_nothing (command_of c.args.words.now.items) _

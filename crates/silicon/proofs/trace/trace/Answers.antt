@@ -1,5 +1,5 @@
 use Rattle.std.proofs.Common.{refl, []}
-use Rattle.silicon.specs.Command.{Trace}
+use Rattle.command_line.specs.Command.{Trace}
 use Rattle.silicon.specs.declared.halt.Halt.TheVariants.{NoMemory}
 use Rattle.silicon.specs.Transcript.{lines_text}
 use Rattle.silicon.proofs.Told.{keeps_same}

@@ -3,8 +3,8 @@ use Rattle.std.specs.Prelude.{ℕ, List, [], ◌∷◌, Bool, false, Option, Som
 use Rattle.std.specs.declared.alloc.Global.{Global}
 use Rattle.std.specs.List.{list_any}
 use Rattle.std.specs.Str.{bytes_eq}
-use Rattle.silicon.specs.declared.command.Command as rust
-use Rattle.silicon.specs.declared.command.Command.TheVariants as rust_variants
+use Rattle.command_line.specs.declared.command.Command as rust
+use Rattle.command_line.specs.declared.command.Command.TheVariants as rust_variants
 
 -- a command, by the names of its files
 pub data Command : Type 0 where
@@ -15,13 +15,22 @@ abbrev pub begins_with_dash : List ℕ → Bool
 begins_with_dash [] = false
 begins_with_dash (b ∷ bs) = b == 45
 
+-- a command of exactly two words
+abbrev pub two : (List ℕ → List ℕ → Command) → List (List ℕ) → Option Command
+two make (a ∷ b ∷ []) = Some (make a b)
+two make words = None
+
+-- the command that a name and the words after it stand for
+abbrev pub form_named : List ℕ → List (List ℕ) → Option Command
+form_named name words =
+    if bytes_eq (codes "trace") name then two Trace words
+    else if bytes_eq (codes "compile") name then two Compile words
+    else None
+
 -- the command that words stand for, where none begins with a dash
 abbrev pub form_of : List (List ℕ) → Option Command
-form_of (name ∷ a ∷ b ∷ []) =
-    if bytes_eq name (codes "trace") then Some (Trace a b)
-    else if bytes_eq name (codes "compile") then Some (Compile a b)
-    else None
-form_of words = None
+form_of [] = None
+form_of (name ∷ words) = form_named name words
 
 -- the command that words stand for
 abbrev pub command_of : List (String Global) → Option Command

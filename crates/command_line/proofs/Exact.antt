@@ -1,0 +1,114 @@
+-- clap finds no fault exactly at the forms.
+use Rattle.std.proofs.Common.{◌≡◌, ◌∙◌, true, false, refl, sym, ap, ap₂, subst, inl, inr, List, [], ◌∷◌, Option, Some, None, is_some, codes, true≢false}
+use Rattle.std.specs.List.{fold, list_any, find}
+use Rattle.std.specs.Str.{bytes_eq}
+use Rattle.std.specs.Option.{option_map, option_map_or}
+use Rattle.std.proofs.lemmas.Bool.{cases_Bool}
+use Rattle.std.proofs.lemmas.Slice.Eq.{bytes_eq-Decides}
+use Rattle.clap.specs.Kinds.{Kinds, or_else}
+use Rattle.clap.specs.Faults.{check_fault, defaults_fault, entered_fault, fault_of, level_fault, other_fault, settle_fault, step_fault, walk_fault}
+use Rattle.clap.specs.Simple.{App, Shape, built, entered, label_of, names_of, rows_at, subcommand_of}
+use Rattle.clap.specs.Walk.{Text, Walk, after_step, answers_to, finished, idle, nothing_held, settled, subcommand_met, subcommand_or_other, walk, walk_from, walked}
+use Rattle.clap.proofs.FaultLemmas.{stopped_fault}
+use Rattle.clap.proofs.OnLiterals.{clap_on_literals}
+use Rattle.command_line.specs.Command.{Command, begins_with_dash, form_named, form_of}
+use Rattle.command_line.specs.App as app
+use Rattle.command_line.specs.Read.{read_met, read_named}
+use Rattle.command_line.proofs.Plain.{fed_level, level_plain, neither, rows_plain, turn_plain, walk_stopped}
+use Rattle.command_line.proofs.Levels.{IsLevel, passes, read_at, ready, trace_level, compile_level}
+
+abbrev whole : App
+whole = built app.app
+
+-- the name of a subcommand stops the walk
+named_walk : (name label : Text) (words : List Text) → subcommand_met (names_of whole) idle name ≡ Some label → walk whole.top.rules (names_of whole) nothing_held (name ∷ words) ≡ record (walk_from nothing_held) { stopped = Some (label, words) }
+unfolding walked
+named_walk name label words known =
+    ap (λ o. fold (walked whole.top.rules (names_of whole)) (after_step whole.top.rules name (walk_from nothing_held) (subcommand_or_other whole.top.rules o idle 1 name nothing_held).0 (subcommand_or_other whole.top.rules o idle 1 name nothing_held).1) words) known
+    ∙ walk_stopped whole.top.rules (names_of whole) (walk_from nothing_held) (label, []) words
+
+-- and is no fault
+named_fault : (name label : Text) (words : List Text) → subcommand_met (names_of whole) idle name ≡ Some label → other_fault whole.top (Some label) name nothing_held ≡ [] → walk_fault whole.top (names_of whole) (walk_from nothing_held) (name ∷ words) ≡ []
+unfolding walk_fault walked
+named_fault name label words known fine =
+    let after : walked whole.top.rules (names_of whole) (walk_from nothing_held) name ≡ record (walk_from nothing_held) { stopped = Some (label, []) } = named_walk name label [] known in
+    ap₂ or_else
+    (ap (λ o. or_else (other_fault whole.top o name nothing_held) (step_fault whole.top 1 (subcommand_or_other whole.top.rules o idle 1 name nothing_held).0 (subcommand_or_other whole.top.rules o idle 1 name nothing_held).1)) known ∙ ap (λ k. or_else k []) fine)
+    (ap (λ v. walk_fault whole.top (names_of whole) v words) after ∙ stopped_fault whole.top (names_of whole) (walk_from nothing_held) (label, []) words)
+
+-- the faults of the whole, by those of the program's own walk and where it ended
+abbrev by_walk : Kinds → Walk → Kinds
+by_walk k w = or_else k (or_else (entered_fault whole w.stopped) (or_else (settle_fault whole.top.rules whole.top.args_override_self w.held) (or_else (defaults_fault (settled whole.top.rules w.held).rows whole.top.rules) (check_fault whole.top (finished whole.top.rules w.held) (is_some (entered whole w.stopped))))))
+
+passes_nil : (k : Kinds) → passes (or_else k []) ≡ passes k
+passes_nil [] = refl
+passes_nil (x ∷ xs) = refl
+
+-- clap finds no fault exactly at the forms, and the command is read off its matches
+abbrev pub IsExact : List Text → Type 0
+IsExact words = (passes (fault_of app.app words) ≡ is_some (form_of words)) × (is_some (form_of words) ≡ true → read_met (subcommand_of app.app words) ≡ form_of words)
+
+abbrev known_as : Text → Option Shape
+known_as name = find (λ s. answers_to name (label_of s)) whole.subs
+
+-- the faults and the matches, by the subcommand that is entered
+abbrev found_fault : List Text → Option Shape → Kinds
+found_fault words o = or_else (option_map_or (λ s. level_fault s [] nothing_held words false []) o []) (check_fault whole.top [] (is_some (option_map (λ s. rows_at s words) o)))
+
+abbrev found_command : List Text → Option Shape → Option Command
+found_command words o = read_met (option_map (λ s. rows_at s words) o)
+
+-- a name of a form
+module _ (s : Shape) (name : Text) (words : List Text) (known : subcommand_met (names_of whole) idle name ≡ Some name) (fine : other_fault whole.top (Some name) name nothing_held ≡ []) (found : known_as name ≡ Some s) (plain : list_any begins_with_dash words ≡ false) (level : IsLevel s words (form_named name words)) where
+  named_faults : passes (fault_of app.app (name ∷ words)) ≡ passes (fed_level s words)
+  unfolding clap_on_literals
+  named_faults =
+      ap passes (ap₂ by_walk (named_fault name name words known fine) (named_walk name name words known))
+      ∙ (ap (λ o. passes (found_fault words o)) found ∙ (passes_nil (level_fault s [] nothing_held words false []) ∙ ap passes (level_plain s words plain)))
+
+  named_read : read_met (subcommand_of app.app (name ∷ words)) ≡ read_at s words
+  named_read =
+      ap (λ (w : Walk). read_met (entered whole w.stopped)) (named_walk name name words known)
+      ∙ (ap (found_command words) found ∙ ap (read_named s.name) (rows_plain s.rules words plain))
+
+  named_exact : IsExact (name ∷ words)
+  named_exact = (named_faults ∙ level.0, λ e. named_read ∙ level.1 e)
+
+-- a name of no form
+unknown_exact : (name : Text) (words : List Text) → begins_with_dash name ≡ false → subcommand_met (names_of whole) idle name ≡ None → form_named name words ≡ None → IsExact (name ∷ words)
+unfolding walk_fault
+unknown_exact name words plain unknown none = (
+  ap (λ k. passes (by_walk (or_else k (walk_fault whole.top (names_of whole) (walked whole.top.rules (names_of whole) (walk_from nothing_held) name) words)) (walk whole.top.rules (names_of whole) nothing_held (name ∷ words))))
+      (turn_plain whole.top (names_of whole) (walk_from nothing_held) name plain refl refl unknown)
+      ∙ sym (ap is_some none),
+  λ e. absurd (true≢false (sym e ∙ ap is_some none)),
+)
+
+none_exact : IsExact []
+unfolding clap_on_literals
+none_exact = (refl, λ e. absurd (true≢false (sym e)))
+
+trace_exact : (words : List Text) → list_any begins_with_dash words ≡ false → IsExact (codes "trace" ∷ words)
+trace_exact words plain = named_exact (ready app.trace) (codes "trace") words refl refl refl plain (trace_level words)
+
+compile_exact : (words : List Text) → list_any begins_with_dash words ≡ false → IsExact (codes "compile" ∷ words)
+compile_exact words plain = named_exact (ready app.compile) (codes "compile") words refl refl refl plain (compile_level words)
+
+-- a name is this one, or what holds of the others holds of it
+either : (this name : Text) (words : List Text) → IsExact (this ∷ words) → (bytes_eq this name ≡ false → IsExact (name ∷ words)) → IsExact (name ∷ words)
+either this name words here others = elim (cases_Bool (bytes_eq this name)) [
+  | inl e ↦ subst (λ t. IsExact (t ∷ words)) ((bytes_eq-Decides this name).0 e) here
+  | inr e ↦ others e
+]
+
+each_name : (name : Text) (words : List Text) → begins_with_dash name ≡ false → list_any begins_with_dash words ≡ false → IsExact (name ∷ words)
+each_name name words first plain =
+    either (codes "trace") name words (trace_exact words plain) (λ e0.
+    either (codes "compile") name words (compile_exact words plain) (λ e1.
+    unknown_exact name words first (rw (e0, e1) refl) (rw (e0, e1) refl)))
+
+pub exact : (words : List Text) → list_any begins_with_dash words ≡ false → IsExact words
+exact [] plain = none_exact
+exact (name ∷ words) plain =
+    let p = neither (begins_with_dash name) _ plain in
+    each_name name words p.0 p.1

@@ -1,0 +1,4 @@
+pub mod Plain
+pub mod Levels
+pub mod Exact
+pub mod Parsed

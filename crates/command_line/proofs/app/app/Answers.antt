@@ -1,0 +1,10 @@
+use Rattle.std.proofs.Common.{◌∙◌, ap}
+use Rattle.std.proofs.lemmas.Result.{IfOk-weaker}
+use Rattle.clap.specs.Words.{App, with_subcommand}
+use Rattle.command_line.specs.App as spec
+use Rattle.command_line.proofs.app.app.Goals as goal
+
+pub returns : goal.returns
+returns c =
+    let trace = c.in_ok-trace.ensures ∙ ap (λ (a : App). with_subcommand a spec.trace) c.top.ensures in
+    IfOk-weaker c.with_form-2.result _ _ (λ r h. h ∙ ap (λ (a : App). with_subcommand a spec.compile) trace) c.with_form-2.ensures

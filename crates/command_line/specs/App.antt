@@ -1,0 +1,39 @@
+-- The command that clap is given.
+use Rattle.std.specs.Prelude.{true, false, List, [], ◌∷◌, codes, map}
+use Rattle.clap.specs.Simple.{App, Shape, new_rule, new_shape}
+use Rattle.clap.specs.Walk.{Rule, Text}
+
+-- a word that has to be there
+abbrev pub word : Text → Rule
+word id = record (new_rule id) { required = true }
+
+-- a form: a name, and a word for each id
+abbrev pub form : Text → List Text → Shape
+form name ids = record (new_shape name) { rules = map word ids }
+
+abbrev pub trace : Shape
+trace = form (codes "trace") (codes "source" ∷ codes "stimulus" ∷ [])
+
+abbrev pub compile : Shape
+compile = form (codes "compile") (codes "source" ∷ codes "cif" ∷ [])
+
+-- a command without subcommands
+abbrev pub alone : Shape → App
+alone shape = record { top = shape; subs = [] }
+
+-- the program, which has no words of its own
+abbrev pub bare_top : Shape
+bare_top = record (new_shape (codes "macpitts")) {
+  no_binary_name = true;
+  disable_help_flag = true;
+  disable_help_subcommand = true;
+  disable_version_flag = true;
+  subcommand_required = true;
+}
+
+abbrev pub top : Shape
+top = record bare_top { is_leaf = false }
+
+-- the program with its forms
+abbrev pub app : App
+app = record { top = top; subs = trace ∷ compile ∷ [] }

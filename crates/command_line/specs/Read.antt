@@ -1,0 +1,36 @@
+-- How a command is read off clap's answer.
+use Rattle.std.specs.Prelude.{List, Option, Some, None, Result, Ok, Err, alloc_error, codes, if◌then◌else◌, option_and_then}
+use Rattle.std.specs.Str.{bytes_eq}
+use Rattle.std.specs.declared.alloc.AllocError.{AllocError}
+use Rattle.clap.specs.Values.{kind_of}
+use Rattle.clap.specs.Walk.{Row, Text, first_of}
+use Rattle.clap.specs.declared.ArgMatches.{ArgMatches}
+use Rattle.clap.specs.declared.Error.{Error}
+use Rattle.clap.specs.declared.error.ErrorKind.{ErrorKind}
+use Rattle.clap.specs.declared.error.ErrorKind.TheVariants.{OutOfMemory}
+use Rattle.command_line.specs.Command.{Command, Trace, Compile}
+
+-- a command of the words that two ids took
+abbrev pub read_two : (Text → Text → Command) → Text → Text → List Row → Option Command
+read_two make x y rows = option_and_then (λ a. option_and_then (λ b. Some (make a b)) (first_of y rows)) (first_of x rows)
+
+-- the command that a subcommand's name and rows hold
+abbrev pub read_named : Text → List Row → Option Command
+read_named name rows =
+    if bytes_eq name (codes "trace") then read_two Trace (codes "source") (codes "stimulus") rows
+    else if bytes_eq name (codes "compile") then read_two Compile (codes "source") (codes "cif") rows
+    else None
+
+-- the command of the subcommand that was met
+abbrev pub read_met : Option (Text × List Row) → Option Command
+read_met = option_and_then (λ p. read_named p.0 p.1)
+
+-- only want of memory is an error: for any other the words are in no form
+abbrev pub answer_to : ErrorKind → Result (Option ArgMatches) AllocError
+answer_to OutOfMemory = Err alloc_error
+answer_to kind = Ok None
+
+-- what clap's answer is to a caller
+abbrev pub answer_of : Result ArgMatches Error → Result (Option ArgMatches) AllocError
+answer_of (Ok matches) = Ok (Some matches)
+answer_of (Err error) = answer_to (kind_of error)

@@ -1,0 +1,61 @@
+//! The command that clap is given.
+
+ghost use Rattle.std.specs.Prelude.{◌≡◌, IfOk, false, map};
+ghost use Rattle.clap.specs.Words.{app_of, rule_of, with_subcommand};
+ghost use Rattle.clap.specs.declared.builder.command.Command.TheViews.{out-Command as fields_of};
+ghost use Rattle.command_line.specs.App as spec;
+
+use clap::{Arg, Command};
+use std::alloc::{AllocError, Global};
+
+// A word that has to be there.
+fn word<'a>(alloc: Global, id: &'a str) -> Arg<'a>
+    ensures rule { rule_of result ≡ spec.word id.entry.now }
+    ensures local { result.global ≡ false }
+{
+    Arg::new(alloc, id).required(true)
+}
+
+// A subcommand that takes a word for each id.
+fn form<'a>(alloc: Global, name: &'a str, ids: &[&'a str]) -> Result<Command<'a>, AllocError>
+    ensures app { IfOk result (λ c. app_of c ≡ spec.alone (spec.form name.entry.now (map (λ id. id.now) ids.now))) }
+    ensures local { IfOk result (λ c. (fields_of c).has_globals ≡ false) }
+{
+    let mut form = Command::new(alloc, name);
+    for id in ids {
+        form = form.arg(word(alloc, *id))?;
+    }
+    Ok(form)
+}
+
+// The program before its forms.
+fn top<'a>(alloc: Global) -> Command<'a>
+    ensures { app_of result ≡ spec.alone spec.bare_top }
+{
+    Command::new(alloc, "macpitts")
+        .no_binary_name(true)
+        .disable_help_flag(true)
+        .disable_help_subcommand(true)
+        .disable_version_flag(true)
+        .subcommand_required(true)
+}
+
+// The command with one more form.
+fn with_form<'a>(
+    alloc: Global,
+    command: Command<'a>,
+    name: &'a str,
+    ids: &[&'a str],
+) -> Result<Command<'a>, AllocError>
+    ensures { IfOk result (λ c. app_of c ≡ with_subcommand (app_of command.entry) (spec.form name.entry.now (map (λ id. id.now) ids.now))) }
+{
+    command.subcommand(form(alloc, name, ids)?)
+}
+
+/// The program with its forms.
+pub fn app<'a>(alloc: Global) -> Result<Command<'a>, AllocError>
+    ensures { IfOk result (λ c. app_of c ≡ spec.app) }
+{
+    let trace = with_form(alloc, top(alloc), "trace", &["source", "stimulus"])?;
+    with_form(alloc, trace, "compile", &["source", "cif"])
+}

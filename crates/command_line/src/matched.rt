@@ -1,0 +1,43 @@
+//! The command that clap's matches hold.
+
+ghost use Rattle.std.specs.Prelude.{◌≡◌, codes};
+ghost use Rattle.std.specs.Option.{option_map};
+ghost use Rattle.clap.specs.Words.{first_of, found_of, rows_of};
+ghost use Rattle.command_line.specs.Command as spec;
+ghost use Rattle.command_line.specs.Command.{seen};
+ghost use Rattle.command_line.specs.Read.{read_named, read_two};
+
+use crate::command::Command;
+use clap::ArgMatches;
+
+// The word that an argument took.
+fn text<'a>(matches: &ArgMatches<'a>, id: &str) -> Option<&'a str>
+    ensures { option_map (λ s. s.now) result ≡ first_of id.now (rows_of (found_of matches.now)) }
+{
+    matches.get_str(id)
+}
+
+fn trace<'a>(matches: &ArgMatches<'a>) -> Option<Command<'a>>
+    ensures { option_map seen result ≡ read_two spec.Trace (codes "source") (codes "stimulus") (rows_of (found_of matches.now)) }
+{
+    Some(Command::Trace(text(matches, "source")?, text(matches, "stimulus")?))
+}
+
+fn compile<'a>(matches: &ArgMatches<'a>) -> Option<Command<'a>>
+    ensures { option_map seen result ≡ read_two spec.Compile (codes "source") (codes "cif") (rows_of (found_of matches.now)) }
+{
+    Some(Command::Compile(text(matches, "source")?, text(matches, "cif")?))
+}
+
+/// The command that the matches of a subcommand hold, by its name.
+pub fn command_in<'a>(name: &str, matches: &ArgMatches<'a>) -> Option<Command<'a>>
+    ensures { option_map seen result ≡ read_named name.now (rows_of (found_of matches.now)) }
+{
+    if name == "trace" {
+        trace(matches)
+    } else if name == "compile" {
+        compile(matches)
+    } else {
+        None
+    }
+}
