@@ -7,22 +7,18 @@ use Rattle.std.proofs.Math.Pow.{pow_mono}
 use Rattle.std.proofs.lemmas.Nat.{and_mask}
 use Rattle.std.proofs.lemmas.Nat.Bits.{ones_shr}
 use Rattle.std.proofs.lemmas.Bool.{and_parts, ltb-true, eq-eqb, ne_eqb, cases_eq, cond-true, cond-false}
-use Rattle.std.proofs.lemmas.List.{length-map, length-replicate, append-nil}
-use Rattle.std.proofs.lemmas.List.Filters.{length-filter_both}
+use Rattle.std.proofs.lemmas.List.{length-map, length-append, append-nil}
 use Rattle.std.proofs.lemmas.List.FromFn.{fill_by_all}
 use Rattle.mp_base.specs.declared.pad.Pad.{Pad}
 use Rattle.mp_base.specs.declared.pad.Pads.{Pads}
 use Rattle.mp_base.specs.declared.value.TritWord.{TritWord}
 use Rattle.mp_program.specs.declared.program.Def.{Def}
 use Rattle.mp_program.specs.declared.program.Program.{Program}
-use Rattle.mp_program.specs.Names.{is_input}
+use Rattle.mp_program.specs.declared.program.What.{What}
+use Rattle.mp_program.specs.declared.program.What.TheVariants.{Power, Ground, Phia, Phib, Phic, Constant, Register, Flag, Port, Signal}
+use Rattle.mp_program.specs.Names.{is_input, is_supply}
 use Rattle.mp_program.specs.Pads.{ArePadsOf, Face, face, pad_width, pad_limit, input_pads, output_pads, FitsPads}
-use Rattle.mp_program.specs.declared.program.Process.{Process}
-use Rattle.mp_program.specs.Environment.{IsEnvironment}
-use Rattle.mp_program.specs.State.{State, IsState, SeatsFit, zero_seat, zero_state}
-use Rattle.mp_program.specs.Step.{outputs_of}
-use Rattle.mp_program.specs.Trace.{IsClock}
-use Rattle.mp_checker.specs.Signals.{IsSignalProgram}
+use Rattle.mp_rules.specs.Naming.{namings, def_naming, process_naming}
 use Rattle.stimulus.specs.declared.given.Given.{Given}
 use Rattle.stimulus.specs.Rules.{bits_of, bound}
 use Rattle.stimulus.specs.Fitting.{bound_at, is_fitting, is_fitting_clock, are_fitting, value_given}
@@ -107,14 +103,40 @@ outputs_fit p pads values padded fits k lt =
 pub many_outputs : (p : Program) (pads : Pads) → ArePadsOf p pads → length pads.outputs ≡ length (output_pads p)
 many_outputs p pads padded = sym (length-map pads.outputs face) ∙ ap length padded.outputs
 
-pub few_inputs : (p : Program) (pads : Pads) → ArePadsOf p pads → IsSignalProgram p → length pads.inputs ≤ 21
-few_inputs p pads padded signals =
+no_supply : (w : What) → is_input w ≡ true → not (is_supply w) ≡ true
+no_supply Power h = absurd (cc)
+no_supply Ground h = absurd (cc)
+no_supply Phia h = absurd (cc)
+no_supply Phib h = absurd (cc)
+no_supply Phic h = absurd (cc)
+no_supply (Constant c) h = refl
+no_supply Register h = refl
+no_supply Flag h = refl
+no_supply (Port way) h = refl
+no_supply (Signal way) h = refl
+
+-- inputs are named
+fewer_inputs : (ds : List Def) → length (filter (λ (x : Def). is_input x.what) ds) ≤ length (filter (λ (x : Def). not (is_supply x.what)) ds)
+fewer_inputs [] = omega arith
+fewer_inputs (d ∷ ds) = by (is_input d.what) (not (is_supply d.what)) (no_supply d.what) (fewer_inputs ds)
+  where
+    by : (i n : Bool) → (i ≡ true → n ≡ true) → length (filter (λ (x : Def). is_input x.what) ds) ≤ length (filter (λ (x : Def). not (is_supply x.what)) ds)
+        → length (cond i (d ∷ filter (λ (x : Def). is_input x.what) ds) (filter (λ (x : Def). is_input x.what) ds))
+        ≤ length (cond n (d ∷ filter (λ (x : Def). not (is_supply x.what)) ds) (filter (λ (x : Def). not (is_supply x.what)) ds))
+    by true true implies rest = omega (arith, rest)
+    by true false implies rest = absurd (let e = implies refl in cc)
+    by false true implies rest = omega (arith, rest)
+    by false false implies rest = rest
+
+pub few_inputs : (p : Program) (pads : Pads) → ArePadsOf p pads → length (namings p) ≤ 256 → length pads.inputs ≤ 256
+few_inputs p pads padded few =
     let same = sym (length-map pads.inputs face) ∙ ap length padded.inputs in
     let made : length (input_pads p) ≡ length (filter (λ (x : Def). is_input x.what) p.defs) =
     length-map {B = Face} (filter (λ (x : Def). is_input x.what) p.defs) (λ (x : Def). (x.name, pad_width p.width x.what)) in
-    let kept = length-filter_both (λ (x : Def). is_input x.what) (λ (x : Def). not (is_input x.what)) (λ x. refl) p.defs in
-    let few = (signals.defs).few in
-    omega (arith, same, made, kept, few)
+    let fewer = fewer_inputs p.defs in
+    let all = length-append (map def_naming (filter (λ (x : Def). not (is_supply x.what)) p.defs)) (map process_naming p.processes) in
+    let named = length-map (filter (λ (x : Def). not (is_supply x.what)) p.defs) def_naming in
+    omega (arith, same, made, fewer, all, named, few)
 
 some_at : (ps : List Pad) (i : ℕ) → i < length ps → 0 < bound_at ps i
 some_at [] i lt = absurd (omega (arith, lt))
@@ -160,21 +182,3 @@ inputs_fit p pads clocks k values padded fitting lt size are =
 -- and is what the transcript's trace has
 pub inputs_are : (gs : List Given) (n : ℕ) (values : List ℕ) → length values ≡ n → ((i : ℕ) → i < length values → get_or values i 0 ≡ value_given gs i) → values ≡ inputs_at n gs
 inputs_are gs n values size are = fill_by_all (value_given gs) values n 0 size (λ i lt. are i (omega (arith, lt, size)))
-
--- the law that outputs of signals fit
-abbrev pub SignalsFit : Type 0
-SignalsFit = (p : Program) (st : State) (inputs env : List ℕ) → IsSignalProgram p → IsEnvironment p st inputs env → FitsPads (input_pads p) inputs → FitsPads (output_pads p) (outputs_of p.defs env)
-
--- what a clock shows fits
-pub shown_fit : (p : Program) (st after : State) (inputs outputs : List ℕ) → SignalsFit → IsSignalProgram p → FitsPads (input_pads p) inputs → IsClock p st inputs outputs after → FitsPads (output_pads p) outputs
-shown_fit p st after inputs outputs law signals fits c =
-    let P : List ℕ → Type 0 = λ os. FitsPads (output_pads p) os in
-    subst P (sym c.shown) (law p st inputs c.env signals c.environment fits)
-
-no_seats : (qs : List Process) → length qs ≡ 0 → SeatsFit qs (map zero_seat qs)
-no_seats [] none = tt
-no_seats (q ∷ qs) none = absurd (omega (arith, none))
-
--- a program of signals has a state
-pub zero_fits : (p : Program) → IsSignalProgram p → IsState p (zero_state p)
-zero_fits p signals = record { size = length-replicate (length p.defs) 0; seats = no_seats p.processes signals.no_process }

@@ -16,10 +16,8 @@ pub shows_chip : (source cif chip : List ℕ) (program : Program) (pads : Pads) 
 shows_chip source cif chip program pads None is are spelled = tt
 shows_chip source cif chip program pads (Some files) is are spelled = (
   record {
-    forms = spelled.source.forms;
     program = program;
-    spelled = spelled.source.spelled;
-    shape = spelled.source.shape;
+    is_source = spelled.source;
     masks = is program pads spelled.inverter are;
   },
   refl,

@@ -8,7 +8,8 @@ use Rattle.mp_base.specs.declared.refusal.Refusal.{Refusal}
 use Rattle.mp_base.specs.declared.refusal.Refusal.TheVariants as refusal
 use Rattle.silicon.specs.Order.{Fault, Stray, Breaks, Then, OfFile, OfLength, OfRule, IsContent}
 use Rattle.silicon.specs.Faults.{IsStrayBy}
-use Rattle.silicon.specs.Halt.{EndsBy, HasReason, IsJudged, halt_of}
+use Rattle.silicon.specs.Halt.{EndsBy, HasReason, halt_of}
+use Rattle.mp_source.specs.Source.{IsJudged}
 use Rattle.silicon.specs.declared.halt.Halt.{Halt}
 use Rattle.silicon.specs.declared.halt.Halt.TheVariants.{Refused, ReadFault, WriteFault, NoMemory}
 

@@ -7,7 +7,7 @@ use Rattle.mp_checker.specs.Checking.{CheckedProgram}
 use Rattle.stimulus.specs.declared.given.Stimulus.{Stimulus}
 use Rattle.stimulus.specs.Reading.{IsStimulus}
 use Rattle.command_line.specs.Command.{Trace}
-use Rattle.silicon.specs.Source.{IsSignalSource}
+use Rattle.mp_source.specs.Source.{IsSource}
 use Rattle.silicon.specs.Transcript.{IsTranscript, inputs_of, lines_text}
 use Rattle.silicon.specs.Faults.{Shows}
 
@@ -16,7 +16,7 @@ pads_for : (checked : CheckedProgram) (text : List ℕ) (given : Stimulus) → A
 pads_for checked text given a s = record { inputs = ap (map face) (sym s.inputs) ∙ a.inputs; outputs = ap (map face) (sym s.outputs) ∙ a.outputs }
 
 pub shows_trace : (source stimulus : List ℕ) (checked : CheckedProgram) (given : Stimulus) (held : Option Files) (outputs : List (List ℕ)) → ArePadsOf checked.program (given.pads)
-    → IfSome held (λ files. IsSignalSource (bytes_of files source) checked.program) → IfSome held (λ files. IsStimulus (bytes_of files stimulus) (Some checked.pads) given)
+    → IfSome held (λ files. IsSource (bytes_of files source) checked.program) → IfSome held (λ files. IsStimulus (bytes_of files stimulus) (Some checked.pads) given)
     → IsTrace checked.program (inputs_of (length (given.pads).inputs) given.clocks) outputs → IfSome held (λ files. Shows (Trace source stimulus) files [] (lines_text 0 (given.pads).outputs outputs))
 shows_trace source stimulus checked given None outputs a p s t = tt
 shows_trace source stimulus checked given (Some files) outputs a p s t = (

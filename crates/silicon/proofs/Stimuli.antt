@@ -18,12 +18,11 @@ use Rattle.mp_program.specs.declared.program.Program.{Program}
 use Rattle.mp_program.specs.declared.program.Def.{Def}
 use Rattle.mp_program.specs.Names.{is_input}
 use Rattle.mp_program.specs.Pads.{ArePadsOf, Face, face}
-use Rattle.mp_checker.specs.Signals.{IsSignalProgram}
 use Rattle.stimulus.specs.declared.given.Stimulus.{Stimulus}
 use Rattle.stimulus.specs.Reading.{IsStimulus, IsFirst}
-use Rattle.silicon.specs.Source.{IsSignalSource}
+use Rattle.mp_source.specs.Source.{IsSource}
 use Rattle.silicon.specs.Stimulus.{OfPads, OfStimulus}
-use Rattle.silicon.specs.Halt.{IsJudged}
+use Rattle.mp_source.specs.Source.{IsJudged}
 use Rattle.silicon.specs.Order.{Fault}
 use Rattle.silicon.specs.Faults.{PadsFault, StimulusFault}
 use Rattle.mp_base.specs.Outside.{Files, bytes_of}
@@ -109,7 +108,7 @@ one_of_pads one clean pads text (Some a) (Some b) x y =
     let same = one text (Some pads) a.rule.number b.rule.number p.0 q.0 p.2 q.2 in
     ap Some (same_broken a b (x.0 ∙ sym y.0) same.0 (p.1 ∙ ap At same.1 ∙ sym q.1))
 
-pub one_of_stimulus : OneFirst → ReadBreaksNothing → ((text : List ℕ) (p q : Program) → IsSignalSource text p → IsSignalSource text q → p ≡ q)
+pub one_of_stimulus : OneFirst → ReadBreaksNothing → ((text : List ℕ) (p q : Program) → IsSource text p → IsSource text q → p ≡ q)
     → (source text : List ℕ) → IsDetermined (OfStimulus source text)
 one_of_stimulus one clean same source text a b x y =
     let program : y.program ≡ x.program = same source y.program x.program y.is_source x.is_source in
@@ -133,7 +132,7 @@ read_pads program pads text (Ok given) a read = record { inputs = ap (map face) 
 read_pads program pads text (Err e) a read = tt
 
 -- the faults of a stimulus for the pads of a source are those for the source
-pub for_source : (checked : CheckedProgram) (name : List ℕ) (held : Option Files) → ArePadsOf checked.program checked.pads → (origin : List ℕ) → IfSome held (λ files. IsSignalSource (bytes_of files origin) checked.program)
+pub for_source : (checked : CheckedProgram) (name : List ℕ) (held : Option Files) → ArePadsOf checked.program checked.pads → (origin : List ℕ) → IfSome held (λ files. IsSource (bytes_of files origin) checked.program)
     → IfSome held (λ files. (fault : Option Fault) → PadsFault checked.pads name files fault → StimulusFault (bytes_of files origin) name files fault)
 for_source checked name None a origin is = tt
 for_source checked name (Some files) a origin is = file_map 1048576 (OfPads checked.pads) (OfStimulus (bytes_of files origin)) name (get files name)

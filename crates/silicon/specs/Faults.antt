@@ -6,7 +6,8 @@ use Rattle.command_line.specs.Command.{Command, Trace, Compile}
 use Rattle.silicon.specs.Order.{Fault, Stray, Then, OfFile}
 use Rattle.mp_base.specs.declared.pad.Pads.{Pads}
 use Rattle.silicon.specs.Compiled.{IsCompiled}
-use Rattle.silicon.specs.Source.{OfCompiled, OfSource}
+use Rattle.silicon.specs.Source.{OfCompiled}
+use Rattle.mp_source.specs.Source.{OfSource}
 use Rattle.silicon.specs.Stimulus.{OfPads, OfStimulus}
 use Rattle.silicon.specs.Transcript.{IsTranscript}
 

@@ -31,12 +31,6 @@ abbrev pub halt_of_read : ReadError → Halt
 halt_of_read read_error.Failed = ReadFault
 halt_of_read read_error.NoMemory = NoMemory
 
--- a refusal names the first broken rule, and Ok comes only where none is broken
-abbrev pub IsJudged : {T : Type 0} → (Option Broken → Type 0) → Result T Refusal → Type 0
-IsJudged Rules (Ok value) = Rules None
-IsJudged Rules (Err (refusal.Broken broken)) = Rules (Some broken)
-IsJudged Rules (Err refusal.NoMemory) = ⊤
-
 -- why reading and judging ended, by the first fault of its stage and the count of read faults
 abbrev pub EndsBy : (Files → Option Fault → Type 0) → Option Files → ℕ → ℕ → Halt → Type 0
 EndsBy First files before now (Refused broken) = (now ≡ before) × IfSome files (λ f. First f (Some (Breaks broken)))

@@ -8,7 +8,7 @@ use Rattle.mp_program.specs.declared.program.Program.{Program}
 use Rattle.mp_program.specs.Pads.{ArePadsOf}
 use Rattle.stimulus.specs.declared.given.Stimulus.{Stimulus}
 use Rattle.stimulus.specs.Reading.{IsStimulus, IsFirst}
-use Rattle.silicon.specs.Source.{IsSignalSource}
+use Rattle.mp_source.specs.Source.{IsSource}
 
 -- the text is a stimulus for these pads, or this is the first rule that it breaks
 abbrev pub OfPads : Pads → List ℕ → Option Broken → Type 0
@@ -19,6 +19,6 @@ OfPads pads text (Some broken) = (broken.rule.family ≡ S) × SpotIs broken.spo
 pub record OfStimulus (source text : List ℕ) (first : Option Broken) : Type 0 where
   pub program : Program
   pub pads : Pads
-  pub is_source : IsSignalSource source program
+  pub is_source : IsSource source program
   pub padded : ArePadsOf program pads
   pub rules : OfPads pads text first

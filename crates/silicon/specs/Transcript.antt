@@ -12,7 +12,7 @@ use Rattle.stimulus.specs.declared.given.Given.{Given}
 use Rattle.stimulus.specs.declared.given.Stimulus.{Stimulus}
 use Rattle.stimulus.specs.Reading.{IsStimulus}
 use Rattle.stimulus.specs.Fitting.{value_given}
-use Rattle.silicon.specs.Source.{IsSignalSource}
+use Rattle.mp_source.specs.Source.{IsSource}
 use Rattle.silicon.specs.declared.transcript.Room.{Room}
 
 -- ` NAME=VALUE`
@@ -48,7 +48,7 @@ pub record IsTranscript (source stimulus text : List ℕ) : Type 0 where
   pub pads : Pads
   pub given : Stimulus
   pub outputs : List (List ℕ)
-  pub is_source : IsSignalSource source program
+  pub is_source : IsSource source program
   pub padded : ArePadsOf program pads
   pub is_stimulus : IsStimulus stimulus (Some pads) given
   pub trace : IsTrace program (inputs_of (length pads.inputs) given.clocks) outputs

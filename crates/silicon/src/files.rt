@@ -4,18 +4,20 @@ ghost use Rattle.std.specs.Prelude.{◌≡◌, ◌≤◌, ◌<◌, ◌^◌, Some
 ghost use Rattle.std.specs.FinMap.{get};
 ghost use Rattle.mp_base.specs.Outside.{Keeps, bytes_of};
 ghost use Rattle.mp_program.specs.Pads.{ArePadsOf};
-ghost use Rattle.mp_checker.specs.Signals.{IsSignalProgram};
 ghost use Rattle.stimulus.specs.Reading.{IsStimulus};
 ghost use Rattle.silicon.specs.Order.{OfLength, IsContent, too_long};
-ghost use Rattle.silicon.specs.Source.{IsSignalSource, IsInverterSource};
+ghost use Rattle.silicon.specs.Source.{IsInverterSource};
 ghost use Rattle.silicon.specs.Stimulus.{OfPads};
 ghost use Rattle.silicon.specs.Faults.{SourceFault, PadsFault, CompiledFault};
-ghost use Rattle.silicon.specs.Halt.{HasReason, IsJudged};
+ghost use Rattle.silicon.specs.Halt.{HasReason};
+ghost use Rattle.mp_source.specs.Source.{IsJudged};
 
 use crate::halt::Halt;
-use crate::source::{check_inverter, check_source};
+use crate::source::check_inverter;
 use mp_base::{Broken, Depot, Family, Name, Refusal, Rule, Spot, read_file};
 use mp_checker::Checked;
+use mp_rules::laws::few_namings;
+use mp_source::check_source;
 use std::alloc::{AllocError, Global};
 use stimulus::Stimulus;
 
@@ -56,8 +58,7 @@ const LIMIT: usize = 1048576;
 /// Reads a source that breaks no rule.
 pub fn read_source<D: Depot>(alloc: Global, depot: &mut D, name: &str) -> Result<Checked, Halt>
     ensures held { Keeps (D.held depot.old) (D.held depot.new) }
-    ensures signals { IfOk result (λ checked. IsSignalProgram checked.program) }
-    ensures source { IfOk result (λ checked. IfSome (D.held depot.new) (λ files. IsSignalSource (bytes_of files name.now) checked.program)) }
+    ensures source { IfOk result (λ checked. IfSome (D.held depot.new) (λ files. IsSource (bytes_of files name.now) checked.program)) }
     ensures reason { HasReason (SourceFault name.now) (D.held depot.new) (D.read_faults depot.old) (D.read_faults depot.new) result }
     ensures writes { D.write_faults depot.new ≡ D.write_faults depot.old }
 {
@@ -68,12 +69,13 @@ pub fn read_source<D: Depot>(alloc: Global, depot: &mut D, name: &str) -> Result
 // Judges a stimulus for a checked program.
 fn check_stimulus(alloc: Global, text: &[u8], checked: &Checked) -> Result<Stimulus, Refusal>
     requires small { length text.now ≤ 1048576 }
-    requires signals { IsSignalProgram checked.now.program }
     ensures judged { IsJudged (OfPads checked.now.pads text.now) result }
     ensures read { IfOk result (IsStimulus text.now (Some checked.now.pads)) }
     ensures padded { IfOk result (λ given. ArePadsOf checked.now.program given.pads) }
     ensures few { IfOk result (λ given. length given.clocks ≤ 65536) }
 {
+    checked.unbroken();
+    few_namings();
     stimulus::read_stimulus(alloc, text, Some(checked.pads()))
 }
 
@@ -84,7 +86,6 @@ pub fn read_stimulus<D: Depot>(
     name: &str,
     checked: &Checked,
 ) -> Result<Stimulus, Halt>
-    requires signals { IsSignalProgram checked.now.program }
     ensures held { Keeps (D.held depot.old) (D.held depot.new) }
     ensures padded { IfOk result (λ given. ArePadsOf checked.now.program given.pads) }
     ensures few { IfOk result (λ given. length given.clocks ≤ 65536) }

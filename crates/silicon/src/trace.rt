@@ -4,10 +4,9 @@ ghost use Rattle.std.specs.Prelude.{◌≡◌, ◌≤◌, Some, length, IfOk, If
 ghost use Rattle.mp_base.specs.Outside.{Keeps, bytes_of};
 ghost use Rattle.mp_program.specs.Pads.{ArePadsOf};
 ghost use Rattle.mp_program.specs.State.{zero_state};
-ghost use Rattle.mp_checker.specs.Signals.{IsSignalProgram};
 ghost use Rattle.stimulus.specs.Reading.{IsStimulus};
 ghost use Rattle.command_line.specs.Command.{Trace};
-ghost use Rattle.silicon.specs.Source.{IsSignalSource};
+ghost use Rattle.mp_source.specs.Source.{IsSource};
 ghost use Rattle.silicon.specs.Faults.{IsFirstFault};
 ghost use Rattle.silicon.specs.Halt.{HasReason, Ends, status_of};
 ghost use Rattle.silicon.specs.Run.{world_of, HasCauses, IsStrayFor, Leaves};
@@ -17,6 +16,7 @@ use crate::halt::Halt;
 use crate::transcript::{Room, print_transcript};
 use mp_base::{Depot, NoMemory, Sink};
 use mp_checker::Checked;
+use mp_fitting::zero_is_a_state;
 use source_run::Machine;
 use std::alloc::Global;
 use stimulus::Stimulus;
@@ -35,10 +35,9 @@ fn prepare<D: Depot>(
     stimulus: &str,
 ) -> Result<Ready, Halt>
     ensures held { Keeps (D.held depot.old) (D.held depot.new) }
-    ensures signals { IfOk result (λ ready. IsSignalProgram ready.checked.program) }
     ensures padded { IfOk result (λ ready. ArePadsOf ready.checked.program ready.stimulus.pads) }
     ensures few { IfOk result (λ ready. length ready.stimulus.clocks ≤ 65536) }
-    ensures source { IfOk result (λ ready. IfSome (D.held depot.new) (λ files. IsSignalSource (bytes_of files source.now) ready.checked.program)) }
+    ensures source { IfOk result (λ ready. IfSome (D.held depot.new) (λ files. IsSource (bytes_of files source.now) ready.checked.program)) }
     ensures stimulus { IfOk result (λ ready. IfSome (D.held depot.new) (λ files. IsStimulus (bytes_of files stimulus.now) (Some ready.checked.pads) ready.stimulus)) }
     ensures reason { HasReason (IsFirstFault (Trace source.now stimulus.now)) (D.held depot.new) (D.read_faults depot.old) (D.read_faults depot.new) result }
     ensures writes { D.write_faults depot.new ≡ D.write_faults depot.old }
@@ -48,12 +47,13 @@ fn prepare<D: Depot>(
     Ok(Ready { checked, stimulus })
 }
 
-// The machine of a program of signals, in the zero state.
+// The machine of a program, in the zero state.
 fn open_machine(alloc: Global, checked: &Checked) -> Result<Machine<'_>, NoMemory>
-    requires { IsSignalProgram checked.now.program }
     ensures program { IfOk result (λ machine. machine.program ≡ checked.now.program) }
     ensures state { IfOk result (λ machine. machine.state ≡ zero_state checked.now.program) }
 {
+    checked.unbroken();
+    zero_is_a_state(checked.program());
     Machine::open(alloc, checked.program(), checked.order())
 }
 

@@ -3,10 +3,10 @@
 ghost use Rattle.std.specs.Prelude.{◌≡◌, ℕ, ◌<◌, ◌-◌, ◌^◌, [], length, slice_index, slice_index_or, IfOk};
 ghost use Rattle.mp_base.specs.Outside.{HasCause, Gains};
 ghost use Rattle.mp_base.specs.Piece.{TakesAll};
-ghost use Rattle.mp_program.specs.Pads.{ArePadsOf};
-ghost use Rattle.mp_program.specs.State.{zero_state};
+ghost use Rattle.mp_program.specs.Pads.{ArePadsOf, input_pads, output_pads, FitsPads};
+ghost use Rattle.mp_program.specs.State.{State, IsState, zero_state};
 ghost use Rattle.mp_program.specs.Trace.{IsClock};
-ghost use Rattle.mp_checker.specs.Signals.{IsSignalProgram};
+ghost use Rattle.mp_fitting.specs.Fitting.{StateFits};
 ghost use Rattle.stimulus.specs.Rules.{bits_of, bound};
 ghost use Rattle.stimulus.specs.Fitting.{bound_at};
 ghost use Rattle.stimulus.specs.Transcript.{pad_text, pad_texts};
@@ -14,8 +14,9 @@ ghost use Rattle.silicon.specs.Transcript.{HasRoom, PrintsTrace, inputs_at, valu
 
 use mp_base::{Failed, Inputs, List, NoMemory, Outputs, Pad, Pads, Sink, TritOutputs, TritWord};
 use mp_checker::Checked;
-use mp_checker::laws::signals_fit;
+use mp_fitting::{environments_fit, next_states_fit, outputs_fit, zero_is_a_state, zero_state_fits};
 use mp_program::laws;
+use mp_rules::laws::few_namings;
 use source_run::Machine;
 use std::alloc::{AllocError, Global};
 use stimulus::{Stimulus, line};
@@ -90,18 +91,45 @@ fn fill_words(pads: &[Pad], outputs: &[u64], words: &mut TritOutputs)
     }
 }
 
+// A law: where the state and what a clock is given fit the program, so do what it shows and the next state.
+fn clocks_fit(checked: &Checked)
+    ensures { (st after : State) (inputs outputs : List ℕ) → IsState checked.now.program st → StateFits checked.now.program st
+        → FitsPads (input_pads checked.now.program) inputs → IsClock checked.now.program st inputs outputs after
+        → FitsPads (output_pads checked.now.program) outputs × IsState checked.now.program after × StateFits checked.now.program after }
+{
+    let program = checked.program();
+    checked.unbroken();
+    zero_is_a_state(program);
+    environments_fit(program, checked.order().as_slice());
+    outputs_fit(program);
+    next_states_fit(program);
+    laws::next_states(program);
+}
+
 // Runs one clock.
-fn run_clock(machine: &mut Machine<'_>, stimulus: &Stimulus, clock: u32, room: &mut Room)
-    requires signals { IsSignalProgram machine.old.program }
-    requires padded { ArePadsOf machine.old.program stimulus.now.pads }
+fn run_clock(
+    checked: &Checked,
+    machine: &mut Machine<'_>,
+    stimulus: &Stimulus,
+    clock: u32,
+    room: &mut Room,
+)
+    requires program { machine.old.program ≡ checked.now.program }
+    requires state { IsState checked.now.program machine.old.state }
+    requires fits { StateFits checked.now.program machine.old.state }
+    requires padded { ArePadsOf checked.now.program stimulus.now.pads }
     requires room { HasRoom stimulus.now.pads room.old }
     requires clock { clock < length stimulus.now.clocks }
-    ensures program { machine.new.program ≡ machine.old.program }
+    ensures program { machine.new.program ≡ checked.now.program }
+    ensures state { IsState checked.now.program machine.new.state }
+    ensures fits { StateFits checked.now.program machine.new.state }
     ensures room { HasRoom stimulus.now.pads room.new }
-    ensures clock { IsClock machine.old.program machine.old.state (inputs_at (length stimulus.now.pads.inputs) (slice_index_or stimulus.now.clocks clock [])) room.new.outputs machine.new.state }
+    ensures clock { IsClock checked.now.program machine.old.state (inputs_at (length stimulus.now.pads.inputs) (slice_index_or stimulus.now.clocks clock [])) room.new.outputs machine.new.state }
     ensures text { pad_texts stimulus.now.pads.outputs room.new.values ≡ values_text stimulus.now.pads.outputs room.new.outputs }
 {
-    signals_fit();
+    checked.unbroken();
+    few_namings();
+    clocks_fit(checked);
     stimulus.inputs(clock, &mut room.inputs);
     machine.clock(&room.inputs, &mut room.outputs);
     fill_words(
@@ -113,23 +141,28 @@ fn run_clock(machine: &mut Machine<'_>, stimulus: &Stimulus, clock: u32, room: &
 
 // Runs one clock, and prints its line.
 fn print_clock<O: Sink>(
+    checked: &Checked,
     machine: &mut Machine<'_>,
     stimulus: &Stimulus,
     clock: u32,
     room: &mut Room,
     out: &mut O,
 ) -> Result<(), Failed>
-    requires signals { IsSignalProgram machine.old.program }
-    requires padded { ArePadsOf machine.old.program stimulus.now.pads }
+    requires program { machine.old.program ≡ checked.now.program }
+    requires state { IsState checked.now.program machine.old.state }
+    requires fits { StateFits checked.now.program machine.old.state }
+    requires padded { ArePadsOf checked.now.program stimulus.now.pads }
     requires room { HasRoom stimulus.now.pads room.old }
     requires clock { clock < length stimulus.now.clocks }
-    ensures program { machine.new.program ≡ machine.old.program }
+    ensures program { machine.new.program ≡ checked.now.program }
+    ensures state { IsState checked.now.program machine.new.state }
+    ensures fits { StateFits checked.now.program machine.new.state }
     ensures room { HasRoom stimulus.now.pads room.new }
-    ensures clock { IsClock machine.old.program machine.old.state (inputs_at (length stimulus.now.pads.inputs) (slice_index_or stimulus.now.clocks clock [])) room.new.outputs machine.new.state }
+    ensures clock { IsClock checked.now.program machine.old.state (inputs_at (length stimulus.now.pads.inputs) (slice_index_or stimulus.now.clocks clock [])) room.new.outputs machine.new.state }
     ensures taken { TakesAll Gains (O.held out.old) (O.held out.new) (line_text clock stimulus.now.pads.outputs room.new.outputs) result }
     ensures cause { HasCause (O.faults out.old) (O.faults out.new) result }
 {
-    run_clock(machine, stimulus, clock, room);
+    run_clock(checked, machine, stimulus, clock, room);
     line(clock, &stimulus.pads, &room.values, out)
 }
 
@@ -143,17 +176,20 @@ pub fn print_transcript<O: Sink>(
 ) -> Result<(), Failed>
     requires program { machine.old.program ≡ checked.now.program }
     requires zero { machine.old.state ≡ zero_state checked.now.program }
-    requires signals { IsSignalProgram checked.now.program }
     requires padded { ArePadsOf checked.now.program stimulus.now.pads }
     requires room { HasRoom stimulus.now.pads room.old }
     requires few { length stimulus.now.clocks < 2 ^ 32 }
     ensures taken { PrintsTrace checked.now.program stimulus.now (O.held out.old) (O.held out.new) result }
     ensures cause { HasCause (O.faults out.old) (O.faults out.new) result }
 {
-    laws::traces_exist(checked.program(), checked.order().as_slice());
-    laws::next_states(checked.program());
+    let program = checked.program();
+    checked.unbroken();
+    zero_is_a_state(program);
+    zero_state_fits(program);
+    laws::traces_exist(program, checked.order().as_slice());
+    laws::next_states(program);
     for clock in 0..stimulus.clocks.len() as u32 {
-        print_clock(machine, stimulus, clock, room, out)?;
+        print_clock(checked, machine, stimulus, clock, room, out)?;
     }
     Ok(())
 }

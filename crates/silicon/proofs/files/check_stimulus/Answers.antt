@@ -4,8 +4,7 @@ use Rattle.silicon.proofs.Stimuli.{judged_for, read_clocks}
 use Rattle.silicon.proofs.files.check_stimulus.Goals as goal
 
 pub read_stimulus-requires-clause-few : goal.read_stimulus-requires-clause-few
-read_stimulus-requires-clause-few c =
-    let few = few_inputs c.args.checked.now.program c.pads.result.now c.pads.ensures.padded c.requires.signals in omega (arith, few)
+read_stimulus-requires-clause-few c = ?
 
 pub returns-clause-judged : goal.returns-clause-judged
 returns-clause-judged c =

@@ -2,7 +2,7 @@ use Rattle.std.proofs.Common.{subst, Err}
 use Rattle.mp_checker.specs.Checking.{CheckedProgram}
 use Rattle.silicon.specs.Source.{OfCompiled}
 use Rattle.silicon.specs.Faults.{CompiledFault}
-use Rattle.silicon.specs.Halt.{IsJudged}
+use Rattle.mp_source.specs.Source.{IsJudged}
 use Rattle.silicon.proofs.Reasons.{judged_err, judged_ok, reason_err}
 use Rattle.silicon.proofs.files.read_inverter.Goals as goal
 

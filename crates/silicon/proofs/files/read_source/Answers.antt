@@ -1,8 +1,8 @@
 use Rattle.std.proofs.Common.{subst, Err}
 use Rattle.mp_checker.specs.Checking.{CheckedProgram}
-use Rattle.silicon.specs.Source.{OfSource}
+use Rattle.mp_source.specs.Source.{OfSource}
 use Rattle.silicon.specs.Faults.{SourceFault}
-use Rattle.silicon.specs.Halt.{IsJudged}
+use Rattle.mp_source.specs.Source.{IsJudged}
 use Rattle.silicon.proofs.Reasons.{judged_err, judged_ok, reason_err}
 use Rattle.silicon.proofs.files.read_source.Goals as goal
 

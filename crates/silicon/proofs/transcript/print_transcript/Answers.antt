@@ -4,7 +4,6 @@ use Rattle.mp_base.specs.declared.outside.Failed.{Failed}
 use Rattle.mp_program.specs.declared.program.Program.{Program}
 use Rattle.mp_program.specs.Trace.{IsClock}
 use Rattle.silicon.specs.Transcript.{inputs_at}
-use Rattle.silicon.proofs.Clocking.{zero_fits}
 use Rattle.silicon.proofs.Transcripts.{Lasts, HasTraces, printed_none, printed_more, printed_all, printed_cut}
 use Rattle.silicon.proofs.transcript.print_transcript.Goals as goal
 
@@ -12,7 +11,7 @@ pub loop-clock-init : goal.loop-clock-init
 loop-clock-init g c = record {
   program = c.requires.program;
   room = c.requires.room;
-  printed = printed_none c.args.checked.now.program c.args.stimulus.now c.args.machine.now.state (g.O.Sink.held c.args.out.now) c.requires.zero (zero_fits c.args.checked.now.program c.requires.signals);
+  printed = printed_none c.args.checked.now.program c.args.stimulus.now c.args.machine.now.state (g.O.Sink.held c.args.out.now) c.requires.zero ?;
   faults = refl;
 }
 
