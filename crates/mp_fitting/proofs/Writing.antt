@@ -25,9 +25,10 @@ use Rattle.mp_program.specs.Effects.{Effect, Writes, Goes, Calls, Returns, branc
 use Rattle.mp_program.specs.State.{State, active}
 use Rattle.mp_program.specs.Environment.{clock_effects}
 use Rattle.mp_rules.specs.Entries.{IsAt}
+use Rattle.mp_rules.specs.Naming.{OwnNames}
 use Rattle.mp_rules.specs.Rules.{E22, E23}
 use Rattle.mp_rules.specs.Sorts.{Sort, IsWord, IsBit, name_sort, operand_sort, expr_sort, IsWanted}
-use Rattle.mp_fitting.specs.Fitting.{def_limit, ValuesFit, NamesDiffer}
+use Rattle.mp_fitting.specs.Fitting.{def_limit, ValuesFit}
 use Rattle.mp_fitting.proofs.Sizes.{sort_limit, limit_positive, limit_is, sort_of, or_fits}
 use Rattle.mp_fitting.proofs.Operators.{apply_fits}
 use Rattle.mp_fitting.proofs.Naming.{meaning_sort, named_fits}
@@ -106,7 +107,7 @@ pub record Fitting (p : Program) : Type 0 where
   pub sound : IsSound p
   pub values : (env : List ℕ) (e : ℕ) (x : Expr) → e < length p.exprs → x ≡ slice_index_or p.exprs e x → value_of p env e ≡ kind_value p env x.kind (value_of p env)
   pub effects : (env : List ℕ) (f : ℕ) (x : Form) → f < length p.forms → x ≡ slice_index_or p.forms f x → effects_of p env f ≡ kind_effects (value_of p env) x.kind (effects_of p env)
-  pub names : NamesDiffer p
+  pub names : OwnNames p
   pub sorts : (at : Place) → E22 p at → ⊥
   pub sizes : (at : Place) → E23 p at → ⊥
 

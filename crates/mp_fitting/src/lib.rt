@@ -9,11 +9,12 @@ ghost use Rattle.mp_program.specs.Pads.{input_pads, output_pads, FitsPads};
 ghost use Rattle.mp_program.specs.Reads.{IsOrder};
 ghost use Rattle.mp_program.specs.State.{State, IsState, zero_state};
 ghost use Rattle.mp_program.specs.Step.{next_state, outputs_of};
-ghost use Rattle.mp_rules.specs.Rules.{E22, E23, E36};
-ghost use Rattle.mp_fitting.specs.Fitting.{ValuesFit, StateFits, NamesDiffer};
+ghost use Rattle.mp_rules.specs.Rules.{E20, E22, E23, E36};
+ghost use Rattle.mp_fitting.specs.Fitting.{ValuesFit, StateFits};
 
 use mp_program::Program;
 use mp_program::laws::{driven_by_reads, effects, sound, values};
+use mp_rules::laws::own_names;
 
 /// The state of zeros is a state of a program in which each process has a form.
 pub fn zero_is_a_state(program: &Program)
@@ -29,7 +30,7 @@ pub fn zero_state_fits(program: &Program)
 /// Where the state and the inputs fit, so do all values of the clock, since there is an order of evaluation.
 pub fn environments_fit(program: &Program, order: &[u32])
     requires ordered { IsOrder program.now order.now }
-    requires names { NamesDiffer program.now }
+    requires names { (at : Place) → E20 program.now at → ⊥ }
     requires sorts { (at : Place) → E22 program.now at → ⊥ }
     requires sizes { (at : Place) → E23 program.now at → ⊥ }
     ensures { (st : State) (inputs env : List ℕ) → IsState program.now st → StateFits program.now st
@@ -38,6 +39,7 @@ pub fn environments_fit(program: &Program, order: &[u32])
     sound(program);
     values(program);
     effects(program);
+    own_names(program);
     driven_by_reads(program);
 }
 
@@ -50,7 +52,7 @@ pub fn outputs_fit(program: &Program)
 
 /// Where the state and all values of the clock fit, so does the next state.
 pub fn next_states_fit(program: &Program)
-    requires names { NamesDiffer program.now }
+    requires names { (at : Place) → E20 program.now at → ⊥ }
     requires sorts { (at : Place) → E22 program.now at → ⊥ }
     requires sizes { (at : Place) → E23 program.now at → ⊥ }
     ensures { (st : State) (inputs env : List ℕ) → StateFits program.now st → ValuesFit program.now env
@@ -59,4 +61,5 @@ pub fn next_states_fit(program: &Program)
     sound(program);
     values(program);
     effects(program);
+    own_names(program);
 }
