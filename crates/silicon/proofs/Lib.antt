@@ -14,3 +14,4 @@ pub mod Compiling
 pub mod Shown
 pub mod Causes
 mod TranscriptExamples
+mod Unbroken

@@ -1,10 +1,14 @@
 use Rattle.std.proofs.Common.{◌≤◌, length, arith, Some}
 use Rattle.silicon.proofs.Clocking.{few_inputs}
 use Rattle.silicon.proofs.Stimuli.{judged_for, read_clocks}
+use Rattle.silicon.proofs.Unbroken.{keeps_40}
 use Rattle.silicon.proofs.files.check_stimulus.Goals as goal
 
 pub read_stimulus-requires-clause-few : goal.read_stimulus-requires-clause-few
-read_stimulus-requires-clause-few c = ?
+read_stimulus-requires-clause-few c =
+    let p = c.args.checked.now.program in
+    let few = few_inputs p c.pads.result.now c.pads.ensures.padded (c.few_namings.ensures p (keeps_40 p c.unbroken.ensures)) in
+    omega (arith, few)
 
 pub returns-clause-judged : goal.returns-clause-judged
 returns-clause-judged c =

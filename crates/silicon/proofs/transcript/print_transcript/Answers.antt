@@ -11,7 +11,7 @@ pub loop-clock-init : goal.loop-clock-init
 loop-clock-init g c = record {
   program = c.requires.program;
   room = c.requires.room;
-  printed = printed_none c.args.checked.now.program c.args.stimulus.now c.args.machine.now.state (g.O.Sink.held c.args.out.now) c.requires.zero ?;
+  printed = printed_none c.args.checked.now.program c.args.stimulus.now c.args.machine.now.state (g.O.Sink.held c.args.out.now) c.requires.zero (rw c.program.ensures at c.zero_is_a_state.ensures);
   faults = refl;
 }
 
