@@ -18,6 +18,11 @@ use Rattle.mp_program.specs.declared.program.What.{What}
 use Rattle.mp_program.specs.declared.program.What.TheVariants.{Power, Ground, Phia, Phib, Phic, Constant, Register, Flag, Port, Signal}
 use Rattle.mp_program.specs.Names.{is_input, is_supply}
 use Rattle.mp_program.specs.Pads.{ArePadsOf, Face, face, pad_width, pad_limit, input_pads, output_pads, FitsPads}
+use Rattle.mp_program.specs.Environment.{IsEnvironment}
+use Rattle.mp_program.specs.State.{State, IsState}
+use Rattle.mp_program.specs.Step.{next_state, outputs_of}
+use Rattle.mp_program.specs.Trace.{IsClock}
+use Rattle.mp_fitting.specs.Fitting.{ValuesFit, StateFits}
 use Rattle.mp_rules.specs.Naming.{namings, def_naming, process_naming}
 use Rattle.stimulus.specs.declared.given.Given.{Given}
 use Rattle.stimulus.specs.Rules.{bits_of, bound}
@@ -182,3 +187,20 @@ inputs_fit p pads clocks k values padded fitting lt size are =
 -- and is what the transcript's trace has
 pub inputs_are : (gs : List Given) (n : ℕ) (values : List ℕ) → length values ≡ n → ((i : ℕ) → i < length values → get_or values i 0 ≡ value_given gs i) → values ≡ inputs_at n gs
 inputs_are gs n values size are = fill_by_all (value_given gs) values n 0 size (λ i lt. are i (omega (arith, lt, size)))
+
+-- where the state and the inputs fit, so do what a clock shows and the next state
+abbrev pub ClocksFit : Program → Type 0
+ClocksFit p = (st after : State) (inputs outputs : List ℕ) → IsState p st → StateFits p st → FitsPads (input_pads p) inputs → IsClock p st inputs outputs after
+    → FitsPads (output_pads p) outputs × IsState p after × StateFits p after
+
+pub clocks_fit : (p : Program)
+    → ((st : State) (inputs env : List ℕ) → IsState p st → StateFits p st → FitsPads (input_pads p) inputs → IsEnvironment p st inputs env → ValuesFit p env)
+    → ((env : List ℕ) → ValuesFit p env → FitsPads (output_pads p) (outputs_of p.defs env))
+    → ((st : State) (inputs env : List ℕ) → StateFits p st → ValuesFit p env → StateFits p (next_state p st inputs env))
+    → ((st : State) (inputs env : List ℕ) → IsState p st → IsState p (next_state p st inputs env)) → ClocksFit p
+clocks_fit p environments shown nexts states st after inputs outputs is fits given clock =
+    let values = environments st inputs clock.env is fits given clock.environment in (
+      subst (FitsPads (output_pads p)) (sym clock.shown) (shown clock.env values),
+      subst (IsState p) (sym clock.next) (states st inputs clock.env is),
+      subst (StateFits p) (sym clock.next) (nexts st inputs clock.env fits values),
+    )

@@ -10,7 +10,7 @@ ghost use Rattle.silicon.specs.Source.{IsInverterSource};
 ghost use Rattle.silicon.specs.Stimulus.{OfPads};
 ghost use Rattle.silicon.specs.Faults.{SourceFault, PadsFault, CompiledFault};
 ghost use Rattle.silicon.specs.Halt.{HasReason};
-ghost use Rattle.mp_source.specs.Source.{IsJudged};
+ghost use Rattle.mp_source.specs.Source.{IsJudged, IsSource};
 
 use crate::halt::Halt;
 use crate::source::check_inverter;

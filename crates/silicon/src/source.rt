@@ -37,8 +37,9 @@ pub fn check_inverter(alloc: Global, text: &[u8]) -> Result<Checked, Refusal>
         Ok(checked) => checked,
         Err(refusal) => return Err(refusal),
     };
-    if !is_inverter(checked.program()) {
-        return Err(Refusal::Broken(unbuilt()));
+    if is_inverter(checked.program()) {
+        Ok(checked)
+    } else {
+        Err(Refusal::Broken(unbuilt()))
     }
-    Ok(checked)
 }
