@@ -3,3 +3,5 @@ pub mod Driving
 pub mod Padding
 mod Examples
 pub mod Fitting
+pub mod Scans
+pub mod Wide
