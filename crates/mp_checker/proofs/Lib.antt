@@ -5,3 +5,6 @@ mod Examples
 pub mod Fitting
 pub mod Scans
 pub mod Wide
+pub mod Present
+pub mod Limited
+pub mod Seen

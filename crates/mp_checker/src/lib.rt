@@ -2,8 +2,12 @@
 #![tactic(auto)]
 
 mod checked;
+mod kinds;
 pub mod laws;
+mod limits;
 mod numbers;
+mod pins;
+mod presence;
 mod signals;
 
 pub use checked::{Checked, check, check_signals};
