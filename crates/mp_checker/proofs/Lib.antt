@@ -8,3 +8,4 @@ pub mod Wide
 pub mod Present
 pub mod Limited
 pub mod Seen
+pub mod Crowded

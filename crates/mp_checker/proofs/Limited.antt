@@ -32,6 +32,7 @@ far_found forms q at h = by_index (slice_get q.forms 256) refl h
         → (f : ℕ) × (y : Form) × IsAt q.forms 256 f × IsAt forms f y × (at ≡ y.place)
     by_form f is None e h = absurd (cc)
     by_form f is (Some y) e h = (f, y, entry q.forms 256 f is, entry forms f y e, (let s : y.place ≡ at = cc in sym s))
+
     by_index : (o : Option ℕ) → slice_get q.forms 256 ≡ o → option_and_then (λ f. option_map (λ (y : Form). y.place) (slice_get forms f)) o ≡ Some at
         → (f : ℕ) × (y : Form) × IsAt q.forms 256 f × IsAt forms f y × (at ≡ y.place)
     by_index None e h = absurd (cc)
@@ -42,6 +43,7 @@ long_earliest p found e = rw e (earliest_same (IsFoundIn (far_form p.forms) p.pr
   where
     to : (at : Place) → IsFoundIn (far_form p.forms) p.processes at → E42 p at
     to at (k, q, is, f) = let h = far_found p.forms q at f in (k, q, h.0, h.1, is, h.2, h.3, h.4)
+
     from : (at : Place) → E42 p at → IsFoundIn (far_form p.forms) p.processes at
     from at (k, q, f, y, is, far, form, e) =
         let far_is : slice_get q.forms 256 ≡ Some f = read q.forms 256 f far in
@@ -54,5 +56,6 @@ deep_earliest p found e = rw e (earliest_same (IsFoundIn (place_that depth_place
   where
     to : (at : Place) → IsFoundIn (place_that depth_place (λ (q : Process). nat_lt 8 q.depth)) p.processes at → E43 p at
     to at (k, q, is, f) = let h = passes depth_place (λ (q : Process). nat_lt 8 q.depth) q at f in (k, q, is, ltb-true 8 q.depth h.0, h.1)
+
     from : (at : Place) → E43 p at → IsFoundIn (place_that depth_place (λ (q : Process). nat_lt 8 q.depth)) p.processes at
     from at (k, q, is, deep, e) = (k, q, is, passed depth_place (λ (q : Process). nat_lt 8 q.depth) q at (lt-ltb 8 q.depth deep) e)

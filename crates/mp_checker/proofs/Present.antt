@@ -46,6 +46,7 @@ stored_earliest p found none e = rw e (earliest_same (λ at. IsFoundIn (place_th
     to : (at : Place) → IsFoundIn (place_that def_place (λ (d : Def). is_stored d.what)) p.defs at ⊎ IsFoundIn (λ (q : Process). Some q.place) p.processes at → E34 p at
     to at (inl (k, x, is, f)) = let h = passes def_place (λ (d : Def). is_stored d.what) x at f in (none_passes is_reset p.defs none, inl (k, x, is, h.0, h.1))
     to at (inr (k, q, is, f)) = (none_passes is_reset p.defs none, inr (k, q, is, (let s : q.place ≡ at = cc in sym s)))
+
     from : (at : Place) → E34 p at → IsFoundIn (place_that def_place (λ (d : Def). is_stored d.what)) p.defs at ⊎ IsFoundIn (λ (q : Process). Some q.place) p.processes at
     from at (all, inl (k, x, is, st, e)) = inl (k, x, is, passed def_place (λ (d : Def). is_stored d.what) x at st e)
     from at (all, inr (k, q, is, e)) = inr (k, q, is, ap Some (sym e))
@@ -56,8 +57,10 @@ empty_earliest p found e = rw e (earliest_same (IsFoundIn (place_that process_pl
     nothing : (xs : List ℕ) → length xs ≡ 0 → xs ≡ []
     nothing [] h = refl
     nothing (x ∷ xs) h = absurd (omega (arith, h))
+
     to : (at : Place) → IsFoundIn (place_that process_place (λ (q : Process). length q.forms == 0)) p.processes at → E36 p at
     to at (k, q, is, f) = let h = passes process_place (λ (q : Process). length q.forms == 0) q at f in (k, q, is, nothing q.forms (eqb-true (length q.forms) 0 h.0), h.1)
+
     from : (at : Place) → E36 p at → IsFoundIn (place_that process_place (λ (q : Process). length q.forms == 0)) p.processes at
     from at (k, q, is, none, e) = (k, q, is, passed process_place (λ (q : Process). length q.forms == 0) q at (eq-eqb (length q.forms) 0 (ap length none)) e)
 

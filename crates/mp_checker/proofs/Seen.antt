@@ -81,11 +81,11 @@ repeated_push ps y at (j, k, a, b, aj, bk, jk, same, is) = elim (at_push_cases p
   | inl late ↦ elim (at_push_cases ps y j a aj) [
     | inl early ↦ inl (j, k, a, b, early, late, jk, same, is)
     | inr last ↦ let kl = late.0 in absurd (omega (arith, last.0, kl, jk))
-    ]
+  ]
   | inr now ↦ elim (at_push_cases ps y j a aj) [
     | inl early ↦ inr (is ∙ ap (λ (z : Pin). z.place) now.1, j, a, early, same ∙ ap (λ (z : Pin). z.number) now.1)
     | inr last ↦ absurd (omega (arith, last.0, now.0, jk))
-    ]
+  ]
 ]
 
 repeated_kept : (ps : List Pin) (y : Pin) (at : Place) → IsRepeatedIn ps at → IsRepeatedIn (ps ++ y ∷ []) at
@@ -111,7 +111,7 @@ grows k old new h n = h n ∙ elim (cases_order k n) [
   | inr ne ↦ elim ne [
     | inl l ↦ either (is_eq (nat_cmp k n)) (k == n) (contains nat_cmp old n) (ap is_eq (sym (nat_cmp_is k n Less l)) ∙ sym (ne_eqb k n (λ e. omega (arith, e, l))))
     | inr g ↦ either (is_eq (nat_cmp k n)) (k == n) (contains nat_cmp old n) (ap is_eq (sym (nat_cmp_is k n Greater g)) ∙ sym (ne_eqb k n (λ e. omega (arith, e, g))))
-    ]
+  ]
 ]
   where
     either : (a c b : Bool) → a ≡ c → cond a true b ≡ (b || c)
@@ -171,6 +171,7 @@ uneven_found w x at h = by_test (is_padded_port x.what && not (length x.pins == 
     by_pin t None e h = absurd (cc)
     by_pin t (Some y) e h = let parts = and_parts (is_padded_port x.what) (not (length x.pins == w)) t in
         (y, port_ways x.what parts.0, eqb-false (length x.pins) w (not-true (length x.pins == w) parts.1), entry x.pins 0 y e, (let s : y.place ≡ at = cc in sym s))
+
     by_test : (b : Bool) → (is_padded_port x.what && not (length x.pins == w)) ≡ b → cond b (option_map (λ (y : Pin). y.place) (slice_get x.pins 0)) None ≡ Some at
         → (first : Pin) × ((x.what ≡ Port Input) ⊎ (x.what ≡ Port Output)) × (length x.pins ≡ w → ⊥) × IsAt x.pins 0 first × (at ≡ first.place)
     by_test true t h = by_pin t (slice_get x.pins 0) refl h
@@ -181,6 +182,7 @@ uneven_earliest p found e = rw e (earliest_same (IsFoundIn (uneven_port p.width)
   where
     to : (at : Place) → IsFoundIn (uneven_port p.width) p.defs at → E26 p at
     to at (k, x, is, f) = let h = uneven_found p.width x at f in (k, x, h.0, is, h.1, h.2, h.3, h.4)
+
     from : (at : Place) → E26 p at → IsFoundIn (uneven_port p.width) p.defs at
     from at (k, x, first, is, way, other, pin, e) =
         let port : is_padded_port x.what ≡ true = elim way [ inl i ↦ ap is_padded_port i | inr o ↦ ap is_padded_port o ] in

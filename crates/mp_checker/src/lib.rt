@@ -2,6 +2,7 @@
 #![tactic(auto)]
 
 mod checked;
+mod crowds;
 mod kinds;
 pub mod laws;
 mod limits;

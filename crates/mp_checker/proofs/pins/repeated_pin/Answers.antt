@@ -17,6 +17,6 @@ pub returns : goal.returns
 returns c =
     let end : c.loop-index.index ≡ length c.as_slice-defs.result.now = omega arith in
     let whole : pins_before c.as_slice-defs.result.now c.loop-index.index ≡ pins c.args.program.now =
-        ap (pins_before c.as_slice-defs.result.now) end ∙ ap (flat_map (λ (d : Def). d.pins)) (take_whole c.as_slice-defs.result.now ∙ c.as_slice-defs.ensures) in
+    ap (pins_before c.as_slice-defs.result.now) end ∙ ap (flat_map (λ (d : Def). d.pins)) (take_whole c.as_slice-defs.result.now ∙ c.as_slice-defs.ensures) in
     let P : List Pin → Type 0 = λ ps. IsEarliest (IsRepeatedIn ps) c.loop-index.found in
     subst P whole c.loop-index.invariant.earliest

@@ -38,5 +38,5 @@ returns c =
     let end : c.loop-pin.pin-index ≡ length c.as_slice-pin-items.result.now = omega arith in
     let P : List Pin → Type 0 = λ ps. SeenPins ps c.loop-pin.seen c.loop-pin.found in
     subst P (ap (λ k. pins_before c.args.defs.now c.args.index ++ take k c.as_slice-pin-items.result.now) end
-        ∙ ap (λ ps. pins_before c.args.defs.now c.args.index ++ ps) (take_whole c.as_slice-pin-items.result.now ∙ c.as_slice-pin-items.ensures)
-        ∙ sym (pins_more c.args.defs.now c.args.index c.index-defs-index.result c.requires.inside)) c.loop-pin.invariant
+    ∙ ap (λ ps. pins_before c.args.defs.now c.args.index ++ ps) (take_whole c.as_slice-pin-items.result.now ∙ c.as_slice-pin-items.ensures)
+    ∙ sym (pins_more c.args.defs.now c.args.index c.index-defs-index.result c.requires.inside)) c.loop-pin.invariant
