@@ -9,3 +9,4 @@ pub mod Present
 pub mod Limited
 pub mod Seen
 pub mod Crowded
+pub mod Ruled
