@@ -1,1 +1,4 @@
 pub mod Meaning
+pub mod Named
+pub mod Keys
+pub mod Table

@@ -1,6 +1,18 @@
 //! The names in a program: rules E20 to E22 and E27, and what each name means.
 #![tactic(auto)]
 
+pub mod laws;
 mod meaning;
+mod named;
+mod repeated;
+mod sorts;
+mod table;
+mod unset;
+mod uses;
 
-pub use meaning::Meanings;
+pub use meaning::{Meanings, meanings_of};
+pub use repeated::repeated_name;
+pub use sorts::wrong_sort;
+pub use table::NameTable;
+pub use unset::set_input;
+pub use uses::undefined_name;
