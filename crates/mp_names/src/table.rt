@@ -1,8 +1,6 @@
 //! The table of names.
 
 ghost use Rattle.std.specs.Prelude.{◌≡◌, ℕ, List, [], IfOk, OnOk};
-ghost use Rattle.mp_program.specs.Names.{index_of};
-ghost use Rattle.mp_names.specs.Named.{named_of};
 ghost use Rattle.mp_names.specs.Keys.{known_in, HoldsNames};
 
 use indexmap::IndexMap;
@@ -57,7 +55,7 @@ pub struct NameTable<'a> {
 }
 
 impl<'a> NameTable<'a> {
-    ghost use Rattle.mp_names.specs.Table.{IsNameTable};
+    ghost use Rattle.mp_names.specs.Table.{IsNameTable, known, index_in};
 
     /// The names of a program. Errors: want of memory, also where there are 2^32 definitions.
     pub fn of(alloc: Global, program: &'a Program) -> Result<NameTable<'a>, AllocError>
@@ -71,19 +69,17 @@ impl<'a> NameTable<'a> {
         Ok(NameTable { names, defs: count })
     }
 
-    // What is known of a name.
-    pub(crate) fn named(&self, program: &Program, name: &[u8]) -> Named
-        requires { IsNameTable program.now self.now }
-        ensures { result ≡ named_of program.now name.now }
+    /// What is known of a name.
+    pub(crate) fn named(&self, name: &[u8]) -> Named
+        ensures { result ≡ known self.now name.now }
     {
         known(&self.names, name)
     }
 
-    // The index of the first definition of a name, or the number of definitions where there is none.
-    pub(crate) fn index_of(&self, program: &Program, name: &[u8]) -> u32
-        requires { IsNameTable program.now self.now }
-        ensures { result ≡ index_of program.now.defs name.now }
+    /// The index of the first definition of a name, or the number of definitions where there is none.
+    pub(crate) fn index_of(&self, name: &[u8]) -> u32
+        ensures { result ≡ index_in self.now name.now }
     {
-        self.named(program, name).first.unwrap_or(self.defs)
+        self.named(name).first.unwrap_or(self.defs)
     }
 }
