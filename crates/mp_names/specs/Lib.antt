@@ -4,3 +4,6 @@ pub mod Keys
 pub mod Table
 pub mod Finding
 pub mod Misuse
+pub mod Repeats
+pub mod Sorting
+pub mod Meant
