@@ -1,0 +1,4 @@
+mod Entries
+mod Earliest
+mod Misuses
+mod Naming
