@@ -2,3 +2,5 @@ mod Entries
 mod Earliest
 mod Misuses
 mod Naming
+mod Rules
+mod Supplies
