@@ -4,3 +4,5 @@ mod Misuses
 mod Naming
 mod Rules
 mod Supplies
+mod Noting
+mod Sorting

@@ -1,6 +1,6 @@
 -- Second definitions of one kind.
 use Rattle.std.proofs.Common.{◌≡◌, ◌≢◌, ◌⊎◌, ℕ, zero, suc, ◌<◌, ◌≤◌, List, [], ◌∷◌, ◌++◌, Bool, true, false, refl, sym, ap, ◌∙◌, subst, inl, inr, arith, Option, Some, None, length, get_or, take, ◌+◌}
-use Rattle.std.proofs.lemmas.List.{take_more, take-all}
+use Rattle.std.proofs.lemmas.List.{take_more, take_all}
 use Rattle.mp_base.specs.declared.refusal.Place.{Place}
 use Rattle.mp_program.specs.declared.program.What.{What}
 use Rattle.mp_program.specs.declared.program.What.TheVariants.{Power, Ground, Phia, Phib, Phic, Constant, Register, Flag, Port, Signal}
@@ -118,7 +118,7 @@ watched_again ds i d w found seen lt is same old h = rw (one_more ds i d lt is) 
 
 pub all_watched : (ds : List Def) (i : ℕ) (w : What) (found : Option Place) (seen : Bool) → length ds ≤ i → Watched (take i ds) w found seen
     → IsEarliest (Repeats ds w) found
-all_watched ds i w found seen le h = rw (take-all ds i le) at h.repeat
+all_watched ds i w found seen le h = rw (take_all i ds le) at h.repeat
 
 supply_repeats : (ds : List Def) (w : What) (at : Place) → is_supply w ≡ true → Repeats ds w at → RepeatsSupply ds at
 supply_repeats ds w at supply (j, k, a, b, first, second, lt, kind, same, is) =
