@@ -6,3 +6,4 @@ mod Rules
 mod Supplies
 mod Noting
 mod Sorting
+mod Definitions

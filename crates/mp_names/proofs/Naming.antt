@@ -40,6 +40,16 @@ an_offset (n ∷ ns) x found = cases (an_offset ns x) (is_same n.name x) refl (f
     cases rest false e (inl now) = let same = true_same n.name x now in cc
     cases rest false e (inr later) = rest later
 
+-- so something has it
+pub offset_found : (ns : List Naming) (x : List ℕ) → is_some (least_offset ns x) ≡ true → Found ns (λ (n : Naming). n.name ≡ x)
+offset_found [] x h = cc
+offset_found (n ∷ ns) x h = cases (offset_found ns x) (is_same n.name x) refl h
+  where
+    cases : (is_some (least_offset ns x) ≡ true → Found ns (λ (m : Naming). m.name ≡ x)) → (b : Bool) → is_same n.name x ≡ b
+        → is_some (cond b (lesser (least_offset ns x) (n.place).offset) (least_offset ns x)) ≡ true → Found (n ∷ ns) (λ (m : Naming). m.name ≡ x)
+    cases rest true e g = here (λ (m : Naming). m.name ≡ x) n ns (same_true n.name x e)
+    cases rest false e g = behind (λ (m : Naming). m.name ≡ x) n ns (rest g)
+
 -- something of a name stands before an offset
 abbrev pub Before : List ℕ → ℕ → Naming → Type 0
 Before x at m = (m.name ≡ x) × ((m.place).offset < at)

@@ -9,7 +9,7 @@ use Rattle.mp_program.specs.declared.program.Form.{Form}
 use Rattle.mp_program.specs.declared.program.Program.{Program}
 use Rattle.mp_program.specs.Names.{is_same, is_supply}
 use Rattle.mp_rules.specs.Entries.{IsAt}
-use Rattle.mp_rules.specs.Rules.{E20, E21, E27, is_unset}
+use Rattle.mp_rules.specs.Rules.{E20, E21, E22, E27, is_unset}
 use Rattle.mp_rules.specs.Naming.{Naming, namings, def_naming, process_naming, is_reserved, IsBefore, Uses}
 use Rattle.mp_rules.specs.Breaking.{IsEarliest}
 use Rattle.mp_names.specs.declared.named.Named.{Named}
@@ -21,9 +21,11 @@ use Rattle.mp_names.specs.Table.{IsNameTable, known}
 use Rattle.mp_names.specs.Finding.{earlier_of, earliest}
 use Rattle.mp_names.specs.Misuse.{is_misuse, target_misuse, earliest_misuse}
 use Rattle.mp_names.specs.Repeats.{is_below, is_repeated, repeated_def, repeated_process, RepeatsSupply}
+use Rattle.mp_names.specs.Sorting.{earliest_misfit}
 use Rattle.mp_names.proofs.Entries.{Found, any_found, found_any, both, and_true, weaken, Passing}
 use Rattle.mp_names.proofs.Earliest.{like, either, when, in_list}
 use Rattle.mp_names.proofs.Misuses.{Misuses, misuses, TargetMisuses, target_misuses}
+use Rattle.mp_names.proofs.Sorting.{WrongSort, earliest_wrong_sort}
 use Rattle.mp_names.proofs.Naming.{same_true, true_same, no_offset, an_offset, Before, before_found, found_before, has_name, of_namings, in_namings}
 
 -- whether a name is misused, in a program's words
@@ -111,6 +113,22 @@ earliest_name p t holds = like (λ at. Found p.defs (DefsRepeat t at) ⊎ Found 
       | inr (j, m, before, same, lt) ↦ right_true (is_reserved n.name) (is_below (known t n.name).offset (n.place).offset)
           (rw (offset_of p t n.name holds) (found_before (namings p) n.name (n.place).offset (j, m, before, (same, lt))))
     ], is))
+
+-- the name of a process is used
+abbrev UsesProcess : Program → Place → Type 0
+UsesProcess p at = (k : ℕ) × (q : Process) × IsAt p.processes k q × Uses p q.name at
+
+earliest_process : (p : Program) (t : NameTable) → IsNameTable p t → IsEarliest (UsesProcess p) (earliest_misuse t OfProcess p)
+earliest_process p t holds = like (Misuses p t OfProcess) (UsesProcess p)
+    (λ at (x, uses, bad). let (k, q, there, same) = any_found (λ (q : Process). is_same q.name x) p.processes (sym (misused p t OfProcess x holds) ∙ bad) in
+      (k, q, there, subst (λ y. Uses p y at) (sym (same_true q.name x same)) uses))
+    (λ at (k, q, there, uses). (q.name, uses, misused p t OfProcess q.name holds
+      ∙ found_any (λ (r : Process). is_same r.name q.name) p.processes (k, q, there, true_same q.name q.name refl)))
+    (earliest_misuse t OfProcess p) (misuses p t OfProcess)
+
+pub earliest_wrong : (p : Program) (t : NameTable) → IsNameTable p t → IsEarliest (E22 p) (earlier_of (earliest_misfit p t) (earliest_misuse t OfProcess p))
+earliest_wrong p t holds = either (WrongSort p) (UsesProcess p) (earliest_misfit p t) (earliest_misuse t OfProcess p)
+    (earliest_wrong_sort p t holds) (earliest_process p t holds)
 
 -- the earliest name that is repeated, or second definition of a supply
 pub earliest_repeated : (p : Program) (t : NameTable) (s : Option Place) → IsNameTable p t → IsEarliest (RepeatsSupply p.defs) s

@@ -2,7 +2,7 @@
 use Rattle.std.proofs.Common.{◌≡◌, ◌≢◌, ◌⊎◌, ℕ, zero, suc, ◌<◌, List, [], ◌∷◌, Bool, true, false, not, cond, refl, sym, ap, ◌∙◌, subst, inl, inr, arith, Option, Some, None, map, length}
 use Rattle.std.specs.Prelude.{slice_get, Contains}
 use Rattle.std.specs.Option.{option_map, option_and_then}
-use Rattle.std.proofs.lemmas.Option.{slice_get_within, get_or_from_slice_get, slice_get-get_or}
+use Rattle.std.proofs.lemmas.Option.{same_Some, slice_get_within, get_or_from_slice_get, slice_get-get_or}
 use Rattle.mp_base.specs.declared.refusal.Place.{Place}
 use Rattle.mp_base.specs.declared.op.Op.{Op}
 use Rattle.mp_program.specs.declared.program.ExprKind.{ExprKind}
@@ -81,12 +81,9 @@ misfits p t s e holds = found (slice_get p.exprs e) refl
     found None none = λ at (x, other, there, is, differs, same). let some = get_at p.exprs e x there in cc
     found (Some x) some = like (Other s x.place (kind_sort p.defs t x.kind)) (Misfits p s e)
         (λ at (other, is, differs, same). (x, other, at_get p.exprs e x some, sym (expr_sorts p t x.kind holds) ∙ is, differs, same))
-        (λ at (y, other, there, is, differs, same). let one : y ≡ x = same_some y x (sym (get_at p.exprs e y there) ∙ some) in
+        (λ at (y, other, there, is, differs, same). let one : y ≡ x = same_Some y x (sym (get_at p.exprs e y there) ∙ some) in
           (other, ap (λ (z : Expr). kind_sort p.defs t z.kind) (sym one) ∙ expr_sorts p t y.kind holds ∙ is, differs, same ∙ ap (λ (z : Expr). z.place) one))
         (unless_same s x.place (kind_sort p.defs t x.kind)) (others s x.place (kind_sort p.defs t x.kind))
-
-    same_some : (y x : Expr) → Some y ≡ Some x → y ≡ x
-    same_some y x h = cc
 
 -- an operand of an expression of this kind doesn't fit
 abbrev OperandMisfits : Program → ExprKind → Place → Type 0
