@@ -1,14 +1,11 @@
 -- What names mean.
-use Rattle.std.proofs.Common.{◌≡◌, ◌⊎◌, ℕ, zero, suc, ◌<◌, List, [], ◌∷◌, Bool, true, false, not, cond, refl, sym, ap, ◌∙◌, subst, inl, inr, arith, Option, Some, None, unwrap_or, is_some, map, length, slice_index}
+use Rattle.std.proofs.Common.{◌≡◌, ◌⊎◌, ℕ, zero, suc, ◌<◌, List, [], ◌∷◌, Bool, true, false, cond, refl, sym, ap, ◌∙◌, subst, inl, inr, arith, Option, Some, None, unwrap_or, is_some, map, length, slice_index}
 use Rattle.std.specs.Option.{option_map}
 use Rattle.std.proofs.lemmas.List.{length-map}
 use Rattle.mp_base.specs.declared.refusal.Place.{Place}
-use Rattle.mp_program.specs.declared.program.ExprKind.TheVariants.{Named}
-use Rattle.mp_program.specs.declared.program.FormKind.TheVariants.{Set}
 use Rattle.mp_program.specs.declared.program.Def.{Def}
 use Rattle.mp_program.specs.declared.program.Expr.{Expr}
 use Rattle.mp_program.specs.declared.program.Form.{Form}
-use Rattle.mp_program.specs.declared.program.Process.{Process}
 use Rattle.mp_program.specs.declared.program.Program.{Program}
 use Rattle.mp_program.specs.Names.{is_same, index_of}
 use Rattle.mp_rules.specs.Entries.{IsAt}
@@ -18,7 +15,7 @@ use Rattle.mp_names.specs.declared.named.Named as known_names
 use Rattle.mp_names.specs.declared.table.NameTable.{NameTable}
 use Rattle.mp_names.specs.declared.meaning.Meanings.{Meanings}
 use Rattle.mp_names.specs.Named.{first_of, least_offset}
-use Rattle.mp_names.specs.Table.{IsNameTable, known, index_in}
+use Rattle.mp_names.specs.Table.{IsNameTable, index_in}
 use Rattle.mp_names.specs.Meant.{expr_meaning, target_meaning}
 use Rattle.mp_names.specs.Meaning.{AreMeanings, NamesDefinitions}
 use Rattle.mp_names.proofs.Entries.{Found, nothing_in, first_or_behind}
@@ -48,9 +45,9 @@ are_meanings p t m holds exprs targets = record {
   as_many_exprs = ap length exprs ∙ length-map p.exprs (λ (x : Expr). expr_meaning t x.kind);
   as_many_targets = ap length targets ∙ length-map p.forms (λ (y : Form). target_meaning t y.kind);
   exprs = λ e x name there is. ap (λ l. slice_index l e) exprs ∙ map_at (λ (x : Expr). expr_meaning t x.kind) p.exprs e x there
-    ∙ ap (expr_meaning t) is ∙ index_told p t name holds;
+      ∙ ap (expr_meaning t) is ∙ index_told p t name holds;
   targets = λ f y name at v there is. ap (λ l. slice_index l f) targets ∙ map_at (λ (y : Form). target_meaning t y.kind) p.forms f y there
-    ∙ ap (target_meaning t) is ∙ index_told p t name holds;
+      ∙ ap (target_meaning t) is ∙ index_told p t name holds;
 }
 
 -- a name that a definition has means a definition

@@ -1,8 +1,8 @@
 -- The earliest of places.
-use Rattle.std.proofs.Common.{◌≡◌, ◌⊎◌, ℕ, ◌<◌, ◌≤◌, List, [], ◌∷◌, Bool, true, false, cond, leb, refl, sym, ap, ◌∙◌, subst, inl, inr, arith, Option, Some, None, fold}
+use Rattle.std.proofs.Common.{◌≡◌, ◌⊎◌, ℕ, ◌<◌, ◌≤◌, List, [], ◌∷◌, Bool, true, false, cond, leb, refl, ap, inl, inr, arith, Option, Some, None, fold}
 use Rattle.std.proofs.lemmas.Bool.Decides.{nat_tests}
 use Rattle.mp_base.specs.declared.refusal.Place.{Place}
-use Rattle.mp_rules.specs.Breaking.{IsEarliest, earlier}
+use Rattle.mp_rules.specs.Breaking.{IsEarliest}
 use Rattle.mp_names.specs.Finding.{earlier_of, earliest}
 use Rattle.mp_names.proofs.Entries.{Found, nothing_in, here, behind, first_or_behind}
 

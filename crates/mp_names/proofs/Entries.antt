@@ -1,5 +1,5 @@
 -- Entries of lists of which something is true.
-use Rattle.std.proofs.Common.{◌≡◌, ◌⊎◌, ℕ, zero, suc, List, [], ◌∷◌, ◌++◌, Bool, true, false, not, cond, refl, sym, subst, inl, inr, arith, map, filter, ◌&&◌, ◌||◌}
+use Rattle.std.proofs.Common.{◌≡◌, ◌⊎◌, ℕ, zero, suc, List, [], ◌∷◌, ◌++◌, Bool, true, false, cond, refl, subst, inl, inr, arith, map, filter, ◌&&◌, ◌||◌}
 use Rattle.std.specs.List.{list_any}
 use Rattle.mp_rules.specs.Entries.{IsAt}
 

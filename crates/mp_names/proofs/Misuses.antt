@@ -1,5 +1,5 @@
 -- Names that are misused.
-use Rattle.std.proofs.Common.{◌≡◌, ◌⊎◌, ℕ, ◌<◌, List, [], ◌∷◌, Bool, true, false, not, cond, refl, sym, ap, ◌∙◌, subst, inl, inr, arith, Option, Some, None, is_some}
+use Rattle.std.proofs.Common.{◌≡◌, ◌⊎◌, ℕ, List, true, cond, refl, sym, ap, inl, inr, Some, None}
 use Rattle.mp_base.specs.declared.refusal.Place.{Place}
 use Rattle.mp_program.specs.declared.program.ExprKind.{ExprKind}
 use Rattle.mp_program.specs.declared.program.ExprKind.TheVariants as kinds
@@ -8,13 +8,12 @@ use Rattle.mp_program.specs.declared.program.FormKind.TheVariants.{Set, Cond, Pa
 use Rattle.mp_program.specs.declared.program.Expr.{Expr}
 use Rattle.mp_program.specs.declared.program.Form.{Form}
 use Rattle.mp_program.specs.declared.program.Program.{Program}
-use Rattle.mp_rules.specs.Entries.{IsAt}
 use Rattle.mp_rules.specs.Naming.{Uses}
 use Rattle.mp_rules.specs.Breaking.{IsEarliest}
 use Rattle.mp_names.specs.declared.table.NameTable.{NameTable}
 use Rattle.mp_names.specs.declared.uses.Misuse.{Misuse}
 use Rattle.mp_names.specs.Table.{known}
-use Rattle.mp_names.specs.Finding.{earlier_of, earliest}
+use Rattle.mp_names.specs.Finding.{earliest}
 use Rattle.mp_names.specs.Misuse.{is_misuse, misuse_at, target_misuse, earliest_misuse}
 use Rattle.mp_names.proofs.Entries.{Found}
 use Rattle.mp_names.proofs.Earliest.{like, either, when, in_list}
@@ -62,6 +61,6 @@ misuses p t w = like (λ at. Found p.exprs (λ (x : Expr). KindMisuses t w x.pla
     ])
     (earliest_misuse t w p)
     (either (λ at. Found p.exprs (λ (x : Expr). KindMisuses t w x.place x.kind at)) (λ at. Found p.forms (λ (y : Form). TargetMisuses t w y.kind at))
-      (earliest (λ (x : Expr). misuse_at t w x.place x.kind) p.exprs) (earliest (λ (y : Form). target_misuse t w y.kind) p.forms)
-      (in_list (λ (x : Expr). KindMisuses t w x.place x.kind) (λ (x : Expr). misuse_at t w x.place x.kind) (λ (x : Expr). expr_misuse t w x.place x.kind) p.exprs)
-      (in_list (λ (y : Form). TargetMisuses t w y.kind) (λ (y : Form). target_misuse t w y.kind) (λ (y : Form). target_misuses t w y.kind) p.forms))
+    (earliest (λ (x : Expr). misuse_at t w x.place x.kind) p.exprs) (earliest (λ (y : Form). target_misuse t w y.kind) p.forms)
+    (in_list (λ (x : Expr). KindMisuses t w x.place x.kind) (λ (x : Expr). misuse_at t w x.place x.kind) (λ (x : Expr). expr_misuse t w x.place x.kind) p.exprs)
+    (in_list (λ (y : Form). TargetMisuses t w y.kind) (λ (y : Form). target_misuse t w y.kind) (λ (y : Form). target_misuses t w y.kind) p.forms))

@@ -1,5 +1,5 @@
 -- What a map of names says once a definition or process is put into it.
-use Rattle.std.proofs.Common.{◌≡◌, ℕ, suc, ◌+◌, ◌<◌, ◌≤◌, List, [], ◌∷◌, ◌++◌, Bool, true, false, not, cond, nat_eq, min, refl, sym, ap, ◌∙◌, subst, arith, Option, Some, None, unwrap_or, length, get_or, take, map, filter, ◌&&◌, ◌||◌, append_assoc}
+use Rattle.std.proofs.Common.{◌≡◌, ℕ, suc, ◌+◌, ◌<◌, ◌≤◌, List, [], ◌∷◌, ◌++◌, Bool, true, false, not, cond, nat_eq, refl, sym, ap, ◌∙◌, arith, Option, Some, None, unwrap_or, length, get_or, take, map, filter, ◌&&◌, ◌||◌, append_assoc}
 use Rattle.std.specs.Option.{option_map}
 use Rattle.std.specs.List.{list_any}
 use Rattle.std.specs.Cmp.Lexicographic.{pointwise}
@@ -16,7 +16,7 @@ use Rattle.mp_rules.specs.Rules.{is_unset}
 use Rattle.mp_names.specs.declared.named.Named.{Named}
 use Rattle.mp_names.specs.Named.{first_of, lesser, least_offset, namings_in, named_in, unnamed, with_def, with_process}
 use Rattle.mp_names.specs.Keys.{known_in, HoldsNames}
-use Rattle.mp_names.proofs.Naming.{same_true, true_same, has_name}
+use Rattle.mp_names.proofs.Naming.{same_true, has_name}
 
 -- the keys of the map, as it compares them
 abbrev pub same_key : Bor (List ℕ) → Bor (List ℕ) → Bool
@@ -68,7 +68,7 @@ least_push (m ∷ ms) n x = turn (is_same m.name x) (is_same n.name x) (m.place)
 -- the same of the definitions that have a name
 def_least : (ds : List Def) (d : Def) (x : List ℕ)
     → least_offset (namings_in (ds ++ d ∷ []) []) x
-      ≡ cond (is_same d.name x) (cond (is_supply d.what) (least_offset (namings_in ds []) x) (lesser (least_offset (namings_in ds []) x) (d.place).offset)) (least_offset (namings_in ds []) x)
+    ≡ cond (is_same d.name x) (cond (is_supply d.what) (least_offset (namings_in ds []) x) (lesser (least_offset (namings_in ds []) x) (d.place).offset)) (least_offset (namings_in ds []) x)
 def_least [] d x = turn (is_supply d.what)
   where
     no_name : (b : Bool) → let none : Option ℕ = None in none ≡ cond b none none
@@ -89,11 +89,11 @@ def_least (e ∷ es) d x = turn (is_supply e.what) (filter has_name es) (filter 
 
     turn : (supply : Bool) (ks ls : List Def)
         → least_offset (map def_naming ls ++ []) x ≡ cond (is_same d.name x)
-            (cond (is_supply d.what) (least_offset (map def_naming ks ++ []) x) (lesser (least_offset (map def_naming ks ++ []) x) (d.place).offset)) (least_offset (map def_naming ks ++ []) x)
+        (cond (is_supply d.what) (least_offset (map def_naming ks ++ []) x) (lesser (least_offset (map def_naming ks ++ []) x) (d.place).offset)) (least_offset (map def_naming ks ++ []) x)
         → least_offset (map def_naming (cond (not supply) (e ∷ ls) ls) ++ []) x ≡ cond (is_same d.name x)
-            (cond (is_supply d.what) (least_offset (map def_naming (cond (not supply) (e ∷ ks) ks) ++ []) x)
-              (lesser (least_offset (map def_naming (cond (not supply) (e ∷ ks) ks) ++ []) x) (d.place).offset))
-            (least_offset (map def_naming (cond (not supply) (e ∷ ks) ks) ++ []) x)
+        (cond (is_supply d.what) (least_offset (map def_naming (cond (not supply) (e ∷ ks) ks) ++ []) x)
+        (lesser (least_offset (map def_naming (cond (not supply) (e ∷ ks) ks) ++ []) x) (d.place).offset))
+        (least_offset (map def_naming (cond (not supply) (e ∷ ks) ks) ++ []) x)
     turn true ks ls h = h
     turn false ks ls h = before (is_same e.name x) (is_same d.name x) (is_supply d.what) (e.place).offset (d.place).offset
         (least_offset (map def_naming ks ++ []) x) (least_offset (map def_naming ls ++ []) x) h
@@ -128,7 +128,7 @@ process_push : (ds : List Def) (qs : List Process) (q : Process) (x : List ℕ)
 process_push ds qs q x = turn (is_same q.name x) (first_of ds x) (least_offset (namings_in ds qs) x) (least_offset (namings_in ds (qs ++ q ∷ [])) x)
     (list_any (λ (r : Process). is_same r.name x) qs) (list_any (λ (r : Process). is_same r.name x) (qs ++ q ∷ [])) (list_any (unset_as x) ds)
     (ap (λ ns. least_offset ns x) (ap (λ ns. map def_naming (filter has_name ds) ++ ns) (map-append process_naming qs (q ∷ []))
-      ∙ sym (append_assoc (map def_naming (filter has_name ds)) (map process_naming qs) (process_naming q ∷ []))) ∙ least_push (namings_in ds qs) (process_naming q) x)
+    ∙ sym (append_assoc (map def_naming (filter has_name ds)) (map process_naming qs) (process_naming q ∷ []))) ∙ least_push (namings_in ds qs) (process_naming q) x)
     (list_any-append (λ (r : Process). is_same r.name x) qs (q ∷ []))
   where
     turn : (b : Bool) (f o l : Option ℕ) (p r u : Bool) → l ≡ cond b (lesser o (q.place).offset) o → r ≡ (p || (b || false))

@@ -1,5 +1,5 @@
 -- Expressions of a sort that isn't wanted.
-use Rattle.std.proofs.Common.{◌≡◌, ◌≢◌, ◌⊎◌, ℕ, zero, suc, ◌<◌, List, [], ◌∷◌, Bool, true, false, not, cond, refl, sym, ap, ◌∙◌, subst, inl, inr, arith, Option, Some, None, map, length}
+use Rattle.std.proofs.Common.{◌≡◌, ◌≢◌, ◌⊎◌, ℕ, suc, List, [], ◌∷◌, Bool, true, false, cond, refl, sym, ap, ◌∙◌, subst, inl, inr, arith, Option, Some, None, map}
 use Rattle.std.specs.Prelude.{slice_get, Contains}
 use Rattle.std.specs.Option.{option_map, option_and_then}
 use Rattle.std.proofs.lemmas.Option.{same_Some, slice_get_within, get_or_from_slice_get, slice_get-get_or}
@@ -16,15 +16,15 @@ use Rattle.mp_program.specs.declared.program.Form.{Form}
 use Rattle.mp_program.specs.declared.program.Program.{Program}
 use Rattle.mp_program.specs.Names.{is_same}
 use Rattle.mp_rules.specs.Entries.{IsAt}
-use Rattle.mp_rules.specs.Sorts.{Sort, IsWord, IsBit, what_sort, name_sort, operand_sort, result_sort, expr_sort, IsWanted}
+use Rattle.mp_rules.specs.Sorts.{Sort, IsWord, IsBit, what_sort, name_sort, operand_sort, expr_sort, IsWanted}
 use Rattle.mp_rules.specs.Breaking.{IsEarliest}
 use Rattle.mp_names.specs.declared.named.Named as known_names
 use Rattle.mp_names.specs.declared.table.NameTable.{NameTable}
 use Rattle.mp_names.specs.Named.{first_of}
-use Rattle.mp_names.specs.Table.{IsNameTable, known}
-use Rattle.mp_names.specs.Finding.{earlier_of, earliest}
-use Rattle.mp_names.specs.Sorting.{is_same_sort, sort_in, kind_sort, unless_same, misfit, operand_misfit, value_misfit, form_misfit, earliest_misfit}
-use Rattle.mp_names.proofs.Entries.{Found, here, behind, first_or_behind, nothing_in, of_map, in_map}
+use Rattle.mp_names.specs.Table.{IsNameTable}
+use Rattle.mp_names.specs.Finding.{earliest}
+use Rattle.mp_names.specs.Sorting.{sort_in, kind_sort, unless_same, misfit, operand_misfit, value_misfit, form_misfit, earliest_misfit}
+use Rattle.mp_names.proofs.Entries.{Found, of_map, in_map}
 use Rattle.mp_names.proofs.Earliest.{like, either, in_list}
 
 -- the sort of a name, by the index of its first definition
@@ -82,7 +82,7 @@ misfits p t s e holds = found (slice_get p.exprs e) refl
     found (Some x) some = like (Other s x.place (kind_sort p.defs t x.kind)) (Misfits p s e)
         (λ at (other, is, differs, same). (x, other, at_get p.exprs e x some, sym (expr_sorts p t x.kind holds) ∙ is, differs, same))
         (λ at (y, other, there, is, differs, same). let one : y ≡ x = same_Some y x (sym (get_at p.exprs e y there) ∙ some) in
-          (other, ap (λ (z : Expr). kind_sort p.defs t z.kind) (sym one) ∙ expr_sorts p t y.kind holds ∙ is, differs, same ∙ ap (λ (z : Expr). z.place) one))
+        (other, ap (λ (z : Expr). kind_sort p.defs t z.kind) (sym one) ∙ expr_sorts p t y.kind holds ∙ is, differs, same ∙ ap (λ (z : Expr). z.place) one))
         (unless_same s x.place (kind_sort p.defs t x.kind)) (others s x.place (kind_sort p.defs t x.kind))
 
 -- an operand of an expression of this kind doesn't fit
@@ -97,7 +97,7 @@ operand_misfits p t False holds = λ at (op, index, args, is, found). cc
 operand_misfits p t (Apply op k args) holds = like (λ at. Found args (λ e. Misfits p (operand_sort op) e at)) (OperandMisfits p (Apply op k args))
     (λ at found. (op, k, args, refl, found))
     (λ at (other, index, list, is, found). let same : args ≡ list = cc in let one : op ≡ other = cc in
-      subst (λ (o : Op). Found args (λ e. Misfits p (operand_sort o) e at)) (sym one) (subst (λ (l : List ℕ). Found l (λ e. Misfits p (operand_sort other) e at)) (sym same) found))
+    subst (λ (o : Op). Found args (λ e. Misfits p (operand_sort o) e at)) (sym one) (subst (λ (l : List ℕ). Found l (λ e. Misfits p (operand_sort other) e at)) (sym same) found))
     (earliest (misfit p t (operand_sort op)) args)
     (in_list (λ e at. Misfits p (operand_sort op) e at) (misfit p t (operand_sort op)) (λ e. misfits p t (operand_sort op) e holds) args)
 
@@ -182,8 +182,18 @@ back p at (e, x, s, other, there, wanted, sort, differs, is) = stands p at s e (
         (let (k, g, found, same) = contains_at (map (λ (c : Branch). c.guard) bs) e has in (k, g, found, subst (λ g. Misfits p IsBit g at) (sym same) fault))
 
     stands : (p : Program) (at : Place) (s : Sort) (e : ℕ) → Misfits p s e at → IsWanted p e (Some s) → Standing p at
-    stands p at s e fault (inl (i, y, op, k, args, there, kind, (j, lt, has), want)) = inl (i, y, there, (op, k, args, kind,
-        (j, e, (lt, sym has), subst (λ r. Misfits p r e at) (same_sort s (operand_sort op) want) fault)))
+    stands p at s e fault (inl (i, y, op, k, args, there, kind, (j, lt, has), want)) = inl (
+      i,
+      y,
+      there,
+      (
+        op,
+        k,
+        args,
+        kind,
+        (j, e, (lt, sym has), subst (λ r. Misfits p r e at) (same_sort s (operand_sort op) want) fault),
+      ),
+    )
     stands p at s e fault (inr (inl (f, y, bs, there, kind, has, want))) =
         inr (f, y, there, inl (bs, kind, guards p at e bs (subst (λ r. Misfits p r e at) (same_sort s IsBit want) fault) has))
     stands p at s e fault (inr (inr (f, y, name, place, there, kind, want))) = inr (f, y, there, inr (name, place, e, s, kind, sym want, fault))
@@ -191,6 +201,6 @@ back p at (e, x, s, other, there, wanted, sort, differs, is) = stands p at s e (
 pub earliest_wrong_sort : (p : Program) (t : NameTable) → IsNameTable p t → IsEarliest (WrongSort p) (earliest_misfit p t)
 earliest_wrong_sort p t holds = like (Standing p) (WrongSort p) (told p) (back p) (earliest_misfit p t)
     (either (λ at. Found p.exprs (λ (x : Expr). OperandMisfits p x.kind at)) (λ at. Found p.forms (λ (y : Form). FormMisfits p y.kind at))
-      (earliest (λ (x : Expr). operand_misfit p t x.kind) p.exprs) (earliest (λ (y : Form). form_misfit p t y.kind) p.forms)
-      (in_list (λ (x : Expr) at. OperandMisfits p x.kind at) (λ (x : Expr). operand_misfit p t x.kind) (λ (x : Expr). operand_misfits p t x.kind holds) p.exprs)
-      (in_list (λ (y : Form) at. FormMisfits p y.kind at) (λ (y : Form). form_misfit p t y.kind) (λ (y : Form). form_misfits p t y.kind holds) p.forms))
+    (earliest (λ (x : Expr). operand_misfit p t x.kind) p.exprs) (earliest (λ (y : Form). form_misfit p t y.kind) p.forms)
+    (in_list (λ (x : Expr) at. OperandMisfits p x.kind at) (λ (x : Expr). operand_misfit p t x.kind) (λ (x : Expr). operand_misfits p t x.kind holds) p.exprs)
+    (in_list (λ (y : Form) at. FormMisfits p y.kind at) (λ (y : Form). form_misfit p t y.kind) (λ (y : Form). form_misfits p t y.kind holds) p.forms))

@@ -1,5 +1,5 @@
 -- Second definitions of one kind.
-use Rattle.std.proofs.Common.{◌≡◌, ◌≢◌, ◌⊎◌, ℕ, zero, suc, ◌<◌, ◌≤◌, List, [], ◌∷◌, ◌++◌, Bool, true, false, refl, sym, ap, ◌∙◌, subst, inl, inr, arith, Option, Some, None, length, get_or, take, ◌+◌}
+use Rattle.std.proofs.Common.{◌≡◌, ◌⊎◌, ℕ, zero, suc, ◌<◌, ◌≤◌, List, [], ◌∷◌, ◌++◌, Bool, true, false, refl, sym, ap, ◌∙◌, inl, inr, arith, Option, Some, None, length, get_or, take, ◌+◌}
 use Rattle.std.proofs.lemmas.List.{take_more, take_all}
 use Rattle.mp_base.specs.declared.refusal.Place.{Place}
 use Rattle.mp_program.specs.declared.program.What.{What}
@@ -10,7 +10,6 @@ use Rattle.mp_rules.specs.Entries.{IsAt}
 use Rattle.mp_rules.specs.Breaking.{IsEarliest, earlier}
 use Rattle.mp_names.specs.Finding.{earlier_of}
 use Rattle.mp_names.specs.Repeats.{Defines, Repeats, RepeatsSupply}
-use Rattle.mp_names.proofs.Entries.{Found, in_left, in_right, in_either, here, first_or_behind, nothing_in}
 use Rattle.mp_names.proofs.Earliest.{like, either}
 
 -- an entry of a list with one more is one of the list, or the last
@@ -155,5 +154,5 @@ of_five ds a b c d e power ground phia phib phic = like (OneOfFive ds) (RepeatsS
     (λ at (j, k, x, y, first, second, lt, supply, same, is). which ds x.what at supply (j, k, x, y, first, second, lt, refl, sym same, is))
     (earlier_of (earlier_of (earlier_of (earlier_of a b) c) d) e)
     (either (λ at. ((Repeats ds Power at ⊎ Repeats ds Ground at) ⊎ Repeats ds Phia at) ⊎ Repeats ds Phib at) (Repeats ds Phic) (earlier_of (earlier_of (earlier_of a b) c) d) e
-      (either (λ at. (Repeats ds Power at ⊎ Repeats ds Ground at) ⊎ Repeats ds Phia at) (Repeats ds Phib) (earlier_of (earlier_of a b) c) d
-        (either (λ at. Repeats ds Power at ⊎ Repeats ds Ground at) (Repeats ds Phia) (earlier_of a b) c (either (Repeats ds Power) (Repeats ds Ground) a b power ground) phia) phib) phic)
+    (either (λ at. (Repeats ds Power at ⊎ Repeats ds Ground at) ⊎ Repeats ds Phia at) (Repeats ds Phib) (earlier_of (earlier_of a b) c) d
+    (either (λ at. Repeats ds Power at ⊎ Repeats ds Ground at) (Repeats ds Phia) (earlier_of a b) c (either (Repeats ds Power) (Repeats ds Ground) a b power ground) phia) phib) phic)

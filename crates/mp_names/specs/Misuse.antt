@@ -1,5 +1,5 @@
 -- Names that are misused.
-use Rattle.std.specs.Prelude.{◌≡◌, ℕ, List, Bool, not, Option, Some, None, is_some, if◌then◌else◌}
+use Rattle.std.specs.Prelude.{Bool, not, Option, Some, None, is_some, if◌then◌else◌}
 use Rattle.mp_base.specs.declared.refusal.Place.{Place}
 use Rattle.mp_program.specs.declared.program.ExprKind.{ExprKind}
 use Rattle.mp_program.specs.declared.program.ExprKind.TheVariants as kinds

@@ -1,13 +1,12 @@
 -- What is known of a name.
-use Rattle.std.specs.Prelude.{◌≡◌, ℕ, List, [], ◌∷◌, ◌++◌, Bool, true, false, not, ◌||◌, ◌&&◌, Option, Some, None, unwrap_or, min, map, filter, suc, if◌then◌else◌}
+use Rattle.std.specs.Prelude.{ℕ, List, [], ◌∷◌, ◌++◌, true, false, not, ◌||◌, ◌&&◌, Option, Some, None, unwrap_or, min, map, filter, suc, if◌then◌else◌}
 use Rattle.std.specs.Option.{option_map}
 use Rattle.std.specs.List.{list_any}
-use Rattle.mp_base.specs.declared.refusal.Place.{Place}
 use Rattle.mp_program.specs.declared.program.Def.{Def}
 use Rattle.mp_program.specs.declared.program.Process.{Process}
 use Rattle.mp_program.specs.declared.program.Program.{Program}
 use Rattle.mp_program.specs.Names.{is_same, is_supply}
-use Rattle.mp_rules.specs.Naming.{Naming, def_naming, process_naming, is_reserved}
+use Rattle.mp_rules.specs.Naming.{Naming, def_naming, process_naming}
 use Rattle.mp_rules.specs.Rules.{is_unset}
 use Rattle.mp_names.specs.declared.named.Named.{Named}
 
@@ -32,10 +31,11 @@ namings_in defs processes = map def_naming (filter (λ (d : Def). not (is_supply
 -- what is known of a name, by these
 abbrev pub named_in : List Def → List Process → List ℕ → Named
 named_in defs processes x = record {
-    first = first_of defs x;
-    offset = least_offset (namings_in defs processes) x;
-    process = list_any (λ (q : Process). is_same q.name x) processes;
-    unset = list_any (λ (d : Def). is_same d.name x && is_unset d.what) defs }
+  first = first_of defs x;
+  offset = least_offset (namings_in defs processes) x;
+  process = list_any (λ (q : Process). is_same q.name x) processes;
+  unset = list_any (λ (d : Def). is_same d.name x && is_unset d.what) defs;
+}
 
 -- what is known of a name in a program
 abbrev pub named_of : Program → List ℕ → Named
@@ -48,10 +48,11 @@ unnamed = record { first = None; offset = None; process = false; unset = false }
 -- what is known of a name of a further definition, of this index
 abbrev pub with_def : Named → ℕ → Def → Named
 with_def n k d = record {
-    first = Some (unwrap_or n.first k);
-    offset = if is_supply d.what then n.offset else lesser n.offset (d.place).offset;
-    process = n.process;
-    unset = n.unset || is_unset d.what }
+  first = Some (unwrap_or n.first k);
+  offset = if is_supply d.what then n.offset else lesser n.offset (d.place).offset;
+  process = n.process;
+  unset = n.unset || is_unset d.what;
+}
 
 -- what is known of a name of a further process
 abbrev pub with_process : Named → Process → Named

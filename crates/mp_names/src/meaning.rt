@@ -7,11 +7,10 @@ ghost use Rattle.mp_names.specs.Table.{IsNameTable};
 ghost use Rattle.mp_names.specs.Meaning.{AreMeanings};
 ghost use Rattle.mp_names.specs.Meant.{expr_meaning, target_meaning};
 
+use crate::table::NameTable;
 use mp_base::List;
 use mp_program::{Expr, ExprKind, Form, FormKind, Program};
 use std::alloc::{AllocError, Global};
-
-use crate::table::NameTable;
 
 /// The definitions that are named, by their indices: by each expression that is a name, and by each `setq`. The
 /// entries of other expressions and forms mean nothing.
@@ -42,7 +41,11 @@ fn target_meaning(names: &NameTable<'_>, form: &Form) -> u32
 }
 
 // The definitions that expressions name.
-fn expr_meanings(alloc: Global, names: &NameTable<'_>, exprs: &[Expr]) -> Result<Vec<u32>, AllocError>
+fn expr_meanings(
+    alloc: Global,
+    names: &NameTable<'_>,
+    exprs: &[Expr],
+) -> Result<Vec<u32>, AllocError>
     ensures { IfOk result (λ v. v.items ≡ map (λ (x : Expr). expr_meaning names.now x.kind) exprs.now) }
 {
     exprs
@@ -52,7 +55,11 @@ fn expr_meanings(alloc: Global, names: &NameTable<'_>, exprs: &[Expr]) -> Result
 }
 
 // The definitions that forms set.
-fn target_meanings(alloc: Global, names: &NameTable<'_>, forms: &[Form]) -> Result<Vec<u32>, AllocError>
+fn target_meanings(
+    alloc: Global,
+    names: &NameTable<'_>,
+    forms: &[Form],
+) -> Result<Vec<u32>, AllocError>
     ensures { IfOk result (λ v. v.items ≡ map (λ (y : Form). target_meaning names.now y.kind) forms.now) }
 {
     forms
@@ -62,7 +69,11 @@ fn target_meanings(alloc: Global, names: &NameTable<'_>, forms: &[Form]) -> Resu
 }
 
 /// What the names in a program mean. Errors: want of memory.
-pub fn meanings_of(alloc: Global, program: &Program, names: &NameTable<'_>) -> Result<Meanings, AllocError>
+pub fn meanings_of(
+    alloc: Global,
+    program: &Program,
+    names: &NameTable<'_>,
+) -> Result<Meanings, AllocError>
     requires { IsNameTable program.now names.now }
     ensures { IfOk result (AreMeanings program.now) }
 {

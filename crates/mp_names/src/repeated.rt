@@ -8,13 +8,12 @@ ghost use Rattle.mp_names.specs.Finding.{earliest};
 ghost use Rattle.mp_names.specs.Table.{IsNameTable};
 ghost use Rattle.mp_names.specs.Repeats.{is_repeated, repeated_def, repeated_process, Repeats, RepeatsSupply};
 
-use mp_base::Place;
-use mp_program::{Def, Process, Program, What};
-use mp_rules::earlier;
-
 use crate::find::earlier_of;
 use crate::named::is_supply;
 use crate::table::NameTable;
+use mp_base::Place;
+use mp_program::{Def, Process, Program, What};
+use mp_rules::earlier;
 
 // Whether nothing may have this name.
 fn is_reserved(name: &[u8]) -> bool
@@ -66,8 +65,10 @@ fn repeated_process(names: &NameTable<'_>, process: &Process) -> Option<Place>
 fn repeated_defs(names: &NameTable<'_>, defs: &[Def]) -> Option<Place>
     ensures { result ≡ earliest (repeated_def names.now) defs.now }
 {
-    defs.iter()
-        .fold(None, |found, def| earlier_of(found, repeated_def(names, def)))
+    defs.iter().fold(
+        None,
+        |found, def| earlier_of(found, repeated_def(names, def)),
+    )
 }
 
 // The earliest of these processes whose name is repeated.

@@ -12,12 +12,11 @@ ghost use Rattle.mp_names.specs.Finding.{earliest};
 ghost use Rattle.mp_names.specs.Table.{IsNameTable};
 ghost use Rattle.mp_names.specs.Sorting.{meant, sort_in, kind_sort, misfit, operand_misfit, form_misfit, earliest_misfit};
 
-use mp_base::{Op, Place};
-use mp_program::{Branch, Expr, ExprKind, Form, FormKind, Program, What};
-
 use crate::find::earlier_of;
 use crate::table::NameTable;
 use crate::uses::Misuse;
+use mp_base::{Op, Place};
+use mp_program::{Branch, Expr, ExprKind, Form, FormKind, Program, What};
 
 /// What an expression is.
 #[derive(Clone, Copy, PartialEq, Eq)]

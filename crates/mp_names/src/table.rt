@@ -3,11 +3,10 @@
 ghost use Rattle.std.specs.Prelude.{◌≡◌, ℕ, List, [], IfOk, OnOk};
 ghost use Rattle.mp_names.specs.Keys.{known_in, HoldsNames};
 
+use crate::named::Named;
 use indexmap::IndexMap;
 use mp_program::{Def, Process, Program};
 use std::alloc::{AllocError, Global};
-
-use crate::named::Named;
 
 type Names<'a> = IndexMap<&'a [u8], Named>;
 
@@ -35,7 +34,11 @@ fn names_of_defs<'a>(alloc: Global, defs: &'a [Def]) -> Result<Names<'a>, AllocE
 }
 
 // The names of these definitions, and of processes.
-fn names_of_all<'a>(alloc: Global, defs: &'a [Def], processes: &'a [Process]) -> Result<Names<'a>, AllocError>
+fn names_of_all<'a>(
+    alloc: Global,
+    defs: &'a [Def],
+    processes: &'a [Process],
+) -> Result<Names<'a>, AllocError>
     ensures { IfOk result (HoldsNames defs.now processes.now) }
 {
     let mut names = names_of_defs(alloc, defs)?;

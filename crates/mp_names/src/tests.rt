@@ -1,13 +1,11 @@
-use crate::{
-    NameTable, meanings_of, repeated_name, set_input, undefined_name, wrong_sort,
-};
+ghost use Rattle.std.specs.Prelude.{◌≡◌, IfOk};
+ghost use Rattle.mp_program.specs.declared.program.What.TheVariants.{Constant};
+
+use crate::{NameTable, meanings_of, repeated_name, set_input, undefined_name, wrong_sort};
 use mp_base::{List, Name, Place};
 use mp_program::{Def, Expr, ExprKind, Form, FormKind, Program, What};
 use std::alloc::{AllocError, Global};
 use std::test::Fail;
-
-ghost use Rattle.std.specs.Prelude.{◌≡◌, IfOk};
-ghost use Rattle.mp_program.specs.declared.program.What.TheVariants.{Constant};
 
 fn at(offset: u64) -> Place {
     Place {

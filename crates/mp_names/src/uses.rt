@@ -7,12 +7,11 @@ ghost use Rattle.mp_program.specs.declared.program.Expr.{Expr};
 ghost use Rattle.mp_program.specs.declared.program.Form.{Form};
 ghost use Rattle.mp_names.specs.Table.{IsNameTable};
 
-use mp_base::Place;
-use mp_program::{Expr, ExprKind, Form, FormKind, Program};
-
 use crate::find::earlier_of;
 use crate::named::Named;
 use crate::table::NameTable;
+use mp_base::Place;
+use mp_program::{Expr, ExprKind, Form, FormKind, Program};
 
 /// A misuse of a name: of one that nothing has, of one of a process, or of one that no form may set.
 #[derive(Clone, Copy)]
@@ -73,18 +72,20 @@ impl Misuse {
     fn in_exprs(self, names: &NameTable<'_>, exprs: &[Expr]) -> Option<Place>
         ensures { result ≡ earliest (λ (x : Expr). misuse_at names.now self x.place x.kind) exprs.now }
     {
-        exprs
-            .iter()
-            .fold(None, |found, expr| earlier_of(found, self.in_expr(names, expr)))
+        exprs.iter().fold(
+            None,
+            |found, expr| earlier_of(found, self.in_expr(names, expr)),
+        )
     }
 
     // The earliest target in these forms that is misused.
     fn of_targets(self, names: &NameTable<'_>, forms: &[Form]) -> Option<Place>
         ensures { result ≡ earliest (λ (y : Form). target_misuse names.now self y.kind) forms.now }
     {
-        forms
-            .iter()
-            .fold(None, |found, form| earlier_of(found, self.of_target(names, form)))
+        forms.iter().fold(
+            None,
+            |found, form| earlier_of(found, self.of_target(names, form)),
+        )
     }
 
     // The earliest place where a name is misused.
