@@ -27,7 +27,7 @@ use Rattle.mp_rules.specs.Standing.{StandsIn, is_transfer, uses_stack, label_of,
 abbrev pub E20 : Program → Place → Type 0
 E20 p at =
     ((k : ℕ) × (n : Naming) × IsAt (namings p) k n × (at ≡ n.place)
-        × ((is_reserved n.name ≡ true) ⊎ ((j : ℕ) × (m : Naming) × IsAt (namings p) j m × (m.name ≡ n.name) × IsBefore m.place n.place)))
+    × ((is_reserved n.name ≡ true) ⊎ ((j : ℕ) × (m : Naming) × IsAt (namings p) j m × (m.name ≡ n.name) × IsBefore m.place n.place)))
     ⊎ ((j k : ℕ) × (a b : Def) × IsAt p.defs j a × IsAt p.defs k b × (j < k) × (is_supply a.what ≡ true) × (a.what ≡ b.what) × (at ≡ b.place))
 
 -- a name in a `setq` or expression that nothing has

@@ -1,4 +1,3 @@
-use Rattle.std.proofs.Common.{rules, ◌≡◌, ℕ}
 use Rattle.mp_rules.proofs.Places.{broken_place}
 use Rattle.mp_rules.proofs.laws.broken_at_a_place.Goals as goal
 

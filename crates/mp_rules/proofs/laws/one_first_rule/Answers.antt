@@ -1,5 +1,4 @@
-use Rattle.std.proofs.Common.{rules, ◌≡◌, ℕ, ◌<◌, ◌≤◌}
-use Rattle.mp_rules.specs.Breaking.{Breaks, IsFirst}
+use Rattle.std.proofs.Common.{arith}
 use Rattle.mp_rules.proofs.laws.one_first_rule.Goals as goal
 
 pub returns : goal.returns
