@@ -1,3 +1,7 @@
 pub mod Tables
+pub mod Names
 pub mod Branches
 pub mod Marks
+pub mod Asking
+pub mod Mentions
+pub mod Reading

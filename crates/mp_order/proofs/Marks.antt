@@ -135,7 +135,7 @@ pub record Marking (p : Program) (tops : List ℕ) (n : ℕ) (marks : List ℕ) 
   pub rooted : (f : ℕ) → Contains (roots p) f → 0 < get_or marks f 0
   pub done : (f g k : ℕ) (y : Form) → f < n → IsAt p.forms f y → 0 < get_or marks f 0 → Gives tops y.kind (get_or marks f 0) g k → k ≤ get_or marks g 0
 
-pub zero_at : (n i : ℕ) → get_or (replicate n 0) i 0 ≡ 0
+pub zero_at : (n i : ℕ) → get_or {A = ℕ} (replicate n 0) i 0 ≡ 0
 zero_at n i = elim (cases_lt i n) [
   | inl lt ↦ get_or-replicate n i 0 0 lt
   | inr ge ↦ get_or_past (replicate n 0) i 0 (omega (arith, ge, length-replicate {A = ℕ} n 0))
