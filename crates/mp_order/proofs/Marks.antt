@@ -76,6 +76,12 @@ all_at P [] k x all at = absurd (omega (arith, at.0))
 all_at P (y ∷ ys) zero x all at = subst P (sym at.1) all.0
 all_at P (y ∷ ys) (suc k) x all (lt, e) = all_at P ys k x all.1 (omega (arith, lt), e)
 
+-- the element at an index
+pub element : {X : Type 0} (xs : List X) (i : ℕ) → i < length xs → (x : X) × (x ≡ get_or xs i x)
+element [] i h = absurd (omega (arith, h))
+element (x ∷ xs) zero h = (x, refl)
+element (x ∷ xs) (suc i) h = element xs i (omega (arith, h))
+
 pub entry : {X : Type 0} (xs : List X) (x : X) (inside : Contains xs x) → IsAt xs inside.0 x
 entry xs x (k, lt, e) = (lt, sym e)
 
