@@ -5,3 +5,4 @@ pub mod Marks
 pub mod Asking
 pub mod Mentions
 pub mod Reading
+pub mod Demanding

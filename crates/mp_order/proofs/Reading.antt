@@ -38,7 +38,7 @@ or_right : (a b : Bool) → b ≡ true → (a || b) ≡ true
 or_right true b h = refl
 or_right false b h = h
 
-and_both : (a b : Bool) → a ≡ true → b ≡ true → (a && b) ≡ true
+pub and_both : (a b : Bool) → a ≡ true → b ≡ true → (a && b) ≡ true
 and_both a b h k = ap (λ x. x && b) h ∙ k
 
 -- ---- branches
@@ -48,7 +48,7 @@ abbrev ReadIn : (ℕ → Bool) → (ℕ → Bool) → Bool → List Branch → (
 ReadIn m s before bs r = (j : ℕ) × (b : Branch) × (c : ℕ) × IsAt bs j b × Contains b.body c
     × ((r c ≡ true) ⊎ ((s c ≡ true) × ((before ≡ true) ⊎ ((i : ℕ) × (g : Branch) × IsAt bs i g × (i ≤ j) × (m g.guard ≡ true)))))
 
-pub read_in : (m s : ℕ → Bool) (before : Bool) (bs : List Branch) (r : ℕ → Bool) → branches_read m s before bs r ≡ true → ReadIn m s before bs r
+read_in : (m s : ℕ → Bool) (before : Bool) (bs : List Branch) (r : ℕ → Bool) → branches_read m s before bs r ≡ true → ReadIn m s before bs r
 read_in m s before [] r h = absurd (cc)
 read_in m s before (b ∷ bs) r h =
     by_part (either ((before || m b.guard) && list_any s b.body) (list_any r b.body || branches_read m s (before || m b.guard) bs r) h)
@@ -147,11 +147,11 @@ set_down p s law tops x (suc m) f k y le at marked set =
     by_kind Return is h step = absurd (cc)
 
 -- a `setq` of x that reads n, of weight w, in its value or by its mark
-abbrev ReadMarked : Program → List ℕ → List ℕ → List ℕ → ℕ → Type 0
+abbrev pub ReadMarked : Program → List ℕ → List ℕ → List ℕ → ℕ → Type 0
 ReadMarked p tops x n w = (g : ℕ) × (y : Form) × (t : List ℕ) × (at : Place) × (v k : ℕ) × IsAt p.forms g y × (y.kind ≡ Set t at v) × (is_same t x ≡ true) × Marked p tops g k
     × ((mentions p n v ≡ true) ⊎ (w < k))
 
-read_down : (p : Program) → IsSound p → SetsLaw p → ReadsLaw p → (tops x n : List ℕ) (w : ℕ) → ((e : ℕ) → e < length p.exprs → mentions p n e ≡ true → w ≤ slice_index tops e)
+pub read_down : (p : Program) → IsSound p → SetsLaw p → ReadsLaw p → (tops x n : List ℕ) (w : ℕ) → ((e : ℕ) → e < length p.exprs → mentions p n e ≡ true → w ≤ slice_index tops e)
     → (m f k : ℕ) (y : Form) → length p.forms ≤ f + m → IsAt p.forms f y → Marked p tops f k → form_reads p x n f ≡ true → ReadMarked p tops x n w
 read_down p s sl rl tops x n w top zero f k y le at marked reads = absurd (omega (arith, le, at.0))
 read_down p s sl rl tops x n w top (suc m) f k y le at marked reads =
@@ -200,17 +200,17 @@ kind_up tops x m s r (Go l) mark g k none t = absurd none
 kind_up tops x m s r (Call l) mark g k none t = absurd none
 kind_up tops x m s r Return mark g k none t = absurd none
 
-read_up : (p : Program) → ReadsLaw p → (tops x n : List ℕ) (f k : ℕ) → Marked p tops f k → form_reads p x n f ≡ true → list_any (form_reads p x n) (roots p) ≡ true
+pub read_up : (p : Program) → ReadsLaw p → (tops x n : List ℕ) (f k : ℕ) → Marked p tops f k → form_reads p x n f ≡ true → list_any (form_reads p x n) (roots p) ≡ true
 read_up p law tops x n f k (root h) t = any_at (form_reads p x n) (roots p) f h t
 read_up p law tops x n f k (inner {f = c} {mark = mark} y up at gives) t =
     read_up p law tops x n c mark up (law x n c y at.0 at.1 ∙ kind_up tops x (mentions p n) (sets p x) (form_reads p x n) y.kind mark f k gives t)
 
 -- a driven definition of weight k - 1 that top-level forms read for x
-abbrev ReadWeight : Program → List ℕ → List ℕ → ℕ → Type 0
+abbrev pub ReadWeight : Program → List ℕ → List ℕ → ℕ → Type 0
 ReadWeight p weights x k = (b : ℕ) × (z : Def) × IsDriven p b z × (slice_index weights b + 1 ≡ k) × (list_any (form_reads p x z.name) (roots p) ≡ true)
 
 -- where the mark of a form comes from
-mark_up : (p : Program) → IsSound p → SetsLaw p → ReadsLaw p → (weights tops x : List ℕ) → AreTops p weights 0 tops → (f k : ℕ) → Marked p tops f k → 1 < k → sets p x f ≡ true → ReadWeight p weights x k
+pub mark_up : (p : Program) → IsSound p → SetsLaw p → ReadsLaw p → (weights tops x : List ℕ) → AreTops p weights 0 tops → (f k : ℕ) → Marked p tops f k → 1 < k → sets p x f ≡ true → ReadWeight p weights x k
 mark_up p s sl rl weights tops x t f k (root h) more set = absurd (omega (arith, more))
 mark_up p s sl rl weights tops x t f k (inner {f = c} {mark = mark} y up at gives) more set =
     by_kind y.kind refl gives (λ some h. mark_up p s sl rl weights tops x t c mark up some (sl x c y at.0 at.1 ∙ h))
