@@ -60,7 +60,6 @@ branches_more tops bs mark n high b old mid new at h first second =
     worth k e (inl m) = inl (e ∙ m)
     worth k e (inr (i, c, ci, lt, m)) = inr (i, c, ci, omega (arith, lt), e ∙ m)
 
-
     most : (j k : ℕ) → j < n + 1 → Worth tops bs mark j k → k ≤ high
     most j k lt (inl e) = omega (arith, e, h.around)
     most j k lt (inr (i, c, ci, le, e)) = omega (arith, e, h.guards i c (omega (arith, lt, le)) ci)

@@ -50,8 +50,11 @@ are_demands p m weights tops marks zeros demands s sl rl means own t mk none l =
 
         by_why : (mentions p y.name v ≡ true) ⊎ (slice_index weights b < k) → slice_index weights b ≤ slice_index demands a
         by_why (inl mention) =
-            omega (arith, t.bound v b y (omega arith) (value_inside p s g z name at v zg kind) dy mention,
-            l.bound a (slice_index tops v) inside (g, z, name, at, v, zg.0, zg, kind, target, some, inl refl))
+            omega (
+              arith,
+              t.bound v b y (omega arith) (value_inside p s g z name at v zg kind) dy mention,
+              l.bound a (slice_index tops v) inside (g, z, name, at, v, zg.0, zg, kind, target, some, inl refl),
+            )
         by_why (inr lt) =
             let e : (slice_index marks g - 1) + 1 ≡ slice_index marks g = omega (arith, some) in
             omega (arith, lt, mk.bound g k marked, l.bound a (slice_index marks g - 1) inside (g, z, name, at, v, zg.0, zg, kind, target, some, inr e))

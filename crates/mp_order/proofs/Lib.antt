@@ -6,3 +6,4 @@ pub mod Asking
 pub mod Mentions
 pub mod Reading
 pub mod Demanding
+pub mod Reaching

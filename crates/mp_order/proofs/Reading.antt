@@ -157,9 +157,9 @@ read_down p s sl rl tops x n w top zero f k y le at marked reads = absurd (omega
 read_down p s sl rl tops x n w top (suc m) f k y le at marked reads =
     by_kind y.kind refl (sym (rl x n f y at.0 at.1) ∙ reads)
     (λ c l gives t. let b = given_inside p s tops f y k c l at gives in let z = element p.forms c b.1 in
-        read_down p s sl rl tops x n w top m c l z.0 (omega (arith, le, b.0)) (b.1, z.1) (inner y marked at gives) t)
+    read_down p s sl rl tops x n w top m c l z.0 (omega (arith, le, b.0)) (b.1, z.1) (inner y marked at gives) t)
     (λ c l gives t. let b = given_inside p s tops f y k c l at gives in let z = element p.forms c b.1 in
-        set_down p s sl tops x m c l z.0 (omega (arith, le, b.0)) (b.1, z.1) (inner y marked at gives) t)
+    set_down p s sl tops x m c l z.0 (omega (arith, le, b.0)) (b.1, z.1) (inner y marked at gives) t)
   where
     by_guard : (k : ℕ) → w < k → SetMarked p tops x k → ReadMarked p tops x n w
     by_guard k lt (g, z, t, there, v, zg, kind, same, marked) = (g, z, t, there, v, k, zg, kind, same, marked, inr lt)
@@ -225,10 +225,14 @@ mark_up p s sl rl weights tops x t f k (inner {f = c} {mark = mark} y up at give
         let Q : FormKind → Type 0 = λ kind. InnerFit (length p.exprs) c (length p.forms) kind in
         let fit : Q (Cond bs) = subst Q is (s.forms c y at.0 at.1) in
         let lt = (all_at (λ (x : Branch). (x.guard < length p.exprs) × AllBetween c (length p.forms) x.body) bs i g fit gi).0 in
-        let (d, z, driven, m, w) = t.met g.guard (omega arith) lt (omega (arith, e, more)) in
-        (d, z, driven, omega (arith, w, e),
-            read_up p rl tops x z.name c mark up (rl x z.name c y at.0 at.1 ∙ ap (λ kind. kind_reads (mentions p z.name) (sets p x) x kind (form_reads p x z.name)) is
-            ∙ in_reads (mentions p z.name) (sets p x) false bs (form_reads p x z.name) (j, b, f, bj, inside, inr (set, inr (i, g, gi, under, m)))))
+        let (d, z, driven, m, w) = t.met g.guard (omega arith) lt (omega (arith, e, more)) in (
+          d,
+          z,
+          driven,
+          omega (arith, w, e),
+          read_up p rl tops x z.name c mark up (rl x z.name c y at.0 at.1 ∙ ap (λ kind. kind_reads (mentions p z.name) (sets p x) x kind (form_reads p x z.name)) is
+              ∙ in_reads (mentions p z.name) (sets p x) false bs (form_reads p x z.name) (j, b, f, bj, inside, inr (set, inr (i, g, gi, under, m)))),
+        )
     by_kind (Par fs) is (inside, e) step =
         same e (step (omega (arith, e, more)) (ap (λ kind. kind_sets x kind (sets p x)) is ∙ any_at (sets p x) fs f inside set))
     by_kind (Set y at v) is none step = absurd none

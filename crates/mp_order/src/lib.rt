@@ -2,4 +2,10 @@
 #![tactic(auto)]
 
 mod demands;
+mod driven;
+mod earliest;
+mod evaluation;
+mod search;
 mod table;
+
+pub use evaluation::Evaluation;

@@ -19,9 +19,10 @@ pub loop-expr-init : goal.loop-expr-init
 loop-expr-init c =
     let e : c.in_ok-tops.tops ≡ replicate (length c.as_slice-exprs.result.now) 0 = c.in_ok-tops.ensures in
     let same : length c.as_slice-exprs.result.now ≡ length c.args.program.now.exprs = ap (length {A = Expr}) c.as_slice-exprs.ensures in
-    let P : ℕ → Type 0 = λ n. AreTops c.args.program.now c.args.weights.now n c.in_ok-tops.tops in
-    (subst P (sym same) (tops_none c.args.program.now c.args.weights.now c.in_ok-tops.tops (ap (length {A = ℕ}) e ∙ length-replicate {A = ℕ} (length c.as_slice-exprs.result.now) 0 ∙ same)),
-        omega arith)
+    let P : ℕ → Type 0 = λ n. AreTops c.args.program.now c.args.weights.now n c.in_ok-tops.tops in (
+      subst P (sym same) (tops_none c.args.program.now c.args.weights.now c.in_ok-tops.tops (ap (length {A = ℕ}) e ∙ length-replicate {A = ℕ} (length c.as_slice-exprs.result.now) 0 ∙ same)),
+      omega arith,
+    )
 
 pub loop-expr-preserved : goal.loop-expr-preserved
 loop-expr-preserved c =
@@ -41,15 +42,16 @@ loop-expr-preserved c =
           (λ name. same name ∙ ap (λ k. kind_mentions name k (mentions c.args.program.now name)) (read ∙ w.in-Apply.is))
           (top_apply c.args.program.now c.args.weights.now c.loop-expr.tops c.loop-expr.expr (c.loop-expr.expr - 1) w.in-Apply.args c.match-exprs-expr.top c.loop-expr.invariant.0 next
           (let F : ExprKind → Type 0 = λ k. ArgsFit (c.loop-expr.expr - 1) (length c.args.program.now.exprs) k in
-              let f : F (Apply w.in-Apply.op w.in-Apply.index w.in-Apply.args) = subst F (read ∙ w.in-Apply.is) (c.sound.ensures.exprs (c.loop-expr.expr - 1) c.index-exprs-expr.result at.0 at.1) in f.1)
+          let f : F (Apply w.in-Apply.op w.in-Apply.index w.in-Apply.args) = subst F (read ∙ w.in-Apply.is) (c.sound.ensures.exprs (c.loop-expr.expr - 1) c.index-exprs-expr.result at.0 at.1) in f.1)
           (let N : List ℕ → Type 0 = λ xs. Greatest xs w.in-Apply.args c.match-exprs-expr.top in
-              let I : List ℕ → Type 0 = λ xs. Greatest w.as_slice-in-Apply.result.now xs c.match-exprs-expr.top in
-              let R : ℕ → Type 0 = λ r. Greatest w.as_slice-in-Apply.result.now w.as_slice-in-Apply-2.result.now r in
-              subst N w.as_slice-in-Apply.ensures (subst I w.as_slice-in-Apply-2.ensures (subst R (sym w.top-is) (w.greatest-top.ensures.bound, w.greatest-top.ensures.met)))))
+          let I : List ℕ → Type 0 = λ xs. Greatest w.as_slice-in-Apply.result.now xs c.match-exprs-expr.top in
+          let R : ℕ → Type 0 = λ r. Greatest w.as_slice-in-Apply.result.now w.as_slice-in-Apply-2.result.now r in
+          subst N w.as_slice-in-Apply.ensures (subst I w.as_slice-in-Apply-2.ensures (subst R (sym w.top-is) (w.greatest-top.ensures.bound, w.greatest-top.ensures.met)))))
       | in_default w ↦ top_as c.args.program.now c.args.weights.now (λ name. mentions c.args.program.now name (c.loop-expr.expr - 1)) (λ name. false) c.match-exprs-expr.top
           (λ name. same name ∙ mentions_none c.index-exprs-expr.result.kind name (mentions c.args.program.now name) (λ x e. w.in_default.not-Named x (sym read ∙ e)) (λ op k args e. w.in_default.not-Apply op k args (sym read ∙ e)))
           (top_zero c.args.program.now c.args.weights.now c.match-exprs-expr.top w.top-is)
     ] in
-    let P : List ℕ → Type 0 = λ xs. AreTops c.args.program.now c.args.weights.now (c.loop-expr.expr - 1) xs in
-    (subst P (sym c.put.ensures) (tops_more c.args.program.now c.args.weights.now c.loop-expr.tops c.loop-expr.expr (c.loop-expr.expr - 1) c.match-exprs-expr.top c.loop-expr.invariant.0 next at.0 top),
-        omega (arith, c.loop-expr.invariant.1))
+    let P : List ℕ → Type 0 = λ xs. AreTops c.args.program.now c.args.weights.now (c.loop-expr.expr - 1) xs in (
+      subst P (sym c.put.ensures) (tops_more c.args.program.now c.args.weights.now c.loop-expr.tops c.loop-expr.expr (c.loop-expr.expr - 1) c.match-exprs-expr.top c.loop-expr.invariant.0 next at.0 top),
+      omega (arith, c.loop-expr.invariant.1),
+    )
