@@ -7,3 +7,4 @@ pub mod Mentions
 pub mod Reading
 pub mod Demanding
 pub mod Reaching
+pub mod Settings
