@@ -8,3 +8,5 @@ pub mod Reading
 pub mod Demanding
 pub mod Reaching
 pub mod Settings
+pub mod Closing
+pub mod Ordering

@@ -1,3 +1,4 @@
 pub mod Tables
 pub mod Demands
 pub mod Chains
+pub mod Evaluation

@@ -5,13 +5,16 @@ ghost use Rattle.mp_program.specs.declared.program.Def.{Def};
 ghost use Rattle.mp_names.specs.Meaning.{AreMeanings};
 ghost use Rattle.mp_order.specs.Demands.{OwnNames, IsDriven};
 ghost use Rattle.mp_order.specs.Chains.{Widened, blanks, AreReachers, Placed};
+ghost use Rattle.mp_order.specs.Evaluation.{IsEvaluation};
 
 use crate::demands::demands;
 use crate::driven::is_driven;
+use crate::earliest::earliest;
+use crate::evaluation::Evaluation;
 use crate::table::{read, read_wide, zeros};
 use mp_base::List;
 use mp_names::Meanings;
-use mp_program::Program;
+use mp_program::{Program, laws};
 use std::alloc::{AllocError, Global};
 
 /// Gives the weight 1 to each driven definition that has none and reads one that has; whether there is any.
@@ -74,4 +77,32 @@ fn place(order: &mut Vec<u32>, reach: &List<u64>, d: u32) -> Result<(), AllocErr
     let at = first_reacher(order.as_slice(), reach);
     order.insert(at, d)?;
     Ok(())
+}
+
+/// How the driven definitions can be evaluated, by a search for each of them: quadratic.
+pub fn search(alloc: Global, program: &Program, meanings: &Meanings, count: u32) -> Result<Evaluation, AllocError>
+    requires meant { AreMeanings program.now meanings.now }
+    requires own { OwnNames program.now }
+    requires counted { count ≡ length program.now.defs }
+    ensures { IfOk result (IsEvaluation program.now) }
+{
+    laws::sound(program);
+    laws::sets(program);
+    laws::reads(program);
+    let mut closed = zeros(alloc, program.defs.len())?;
+    let mut order = Vec::new(alloc);
+    for d in 0..count {
+        if is_driven(program.defs.at(d).what) {
+            let reach = reachers(alloc, program, meanings, d)?;
+            if read_wide(&reach, d as usize) > 0 {
+                closed.set(d, 1);
+            } else {
+                place(&mut order, &reach, d)?;
+            }
+        }
+    }
+    match earliest(program, meanings, closed.as_slice()) {
+        Some(setting) => Ok(Evaluation::Closed(setting.place)),
+        None => Ok(Evaluation::Order(List::from_vec(order))),
+    }
 }
