@@ -3,7 +3,7 @@
 ghost use Rattle.std.specs.Prelude.{◌≡◌};
 ghost use Rattle.mp_program.specs.Names.{is_driven};
 
-use mp_program::{Way, What};
+use mp_program::{Program, Way, What};
 
 /// Whether forms set the value of what is defined in each clock.
 pub fn is_driven(what: What) -> bool
@@ -13,4 +13,9 @@ pub fn is_driven(what: What) -> bool
         what,
         What::Port(Way::Output | Way::Internal) | What::Signal(Way::Output | Way::Internal)
     )
+}
+
+/// The same of what stands at an index; false past the last definition.
+pub fn is_driven_at(program: &Program, index: u32) -> bool {
+    (index as usize) < program.defs.len() && is_driven(program.defs.at(index).what)
 }

@@ -5,6 +5,9 @@ mod demands;
 mod driven;
 mod earliest;
 mod evaluation;
+mod graph;
+mod hint;
+mod judge;
 mod search;
 mod table;
 
