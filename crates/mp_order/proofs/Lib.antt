@@ -10,3 +10,4 @@ pub mod Reaching
 pub mod Settings
 pub mod Closing
 pub mod Ordering
+pub mod Judging

@@ -16,6 +16,6 @@ pub fn is_driven(what: What) -> bool
 }
 
 /// The same of what stands at an index; false past the last definition.
-pub fn is_driven_at(program: &Program, index: u32) -> bool {
-    (index as usize) < program.defs.len() && is_driven(program.defs.at(index).what)
+pub fn is_driven_at(program: &Program, index: usize) -> bool {
+    index < program.defs.len() && is_driven(program.defs.as_slice()[index].what)
 }

@@ -97,9 +97,9 @@ impl Graph {
             let node = self.exprs.saturating_add(n);
             match &expr.kind {
                 ExprKind::Named(_) => {
-                    let d = read(meanings.exprs.as_slice(), n);
+                    let d = read(meanings.exprs.as_slice(), n) as usize;
                     if is_driven_at(program, d) {
-                        self.link(node, d as usize)?;
+                        self.link(node, d)?;
                     }
                 }
                 ExprKind::Apply { args, .. } => self.link_args(node, args.as_slice())?,

@@ -107,7 +107,7 @@ impl Walk {
         let loose = self.stack.last() != Some(&first);
         while let Some(node) = self.stack.pop() {
             put(&mut self.done, node, 1);
-            if node < program.defs.len() && is_driven_at(program, node as u32) {
+            if is_driven_at(program, node) {
                 self.rank = rank;
                 write(&mut self.found.ranks, node, rank);
                 write(&mut self.found.loose, node, u32::from(loose));

@@ -11,4 +11,4 @@ mod judge;
 mod search;
 mod table;
 
-pub use evaluation::Evaluation;
+pub use evaluation::{Evaluation, evaluation_order};
