@@ -81,3 +81,6 @@ climbs_closed p target weights demands w h c =
       | inl same ↦ (let P : ℕ → Type 0 = λ i. Reads p target i in link (subst P same reads))
       | inr chain ↦ more reads chain
     ]
+
+pub zero_from : (k : ℕ) → (0 < k → ⊥) → k ≡ 0
+zero_from k none = elim (cases_lt 0 k) [ inl some ↦ absurd (none some) | inr le ↦ omega (arith, le) ]
