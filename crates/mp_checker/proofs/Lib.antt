@@ -10,3 +10,4 @@ pub mod Limited
 pub mod Seen
 pub mod Crowded
 pub mod Ruled
+pub mod Keeping

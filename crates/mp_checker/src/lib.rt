@@ -3,6 +3,8 @@
 
 mod checked;
 mod crowds;
+mod groups;
+mod judge;
 mod kinds;
 pub mod laws;
 mod limits;
