@@ -1,12 +1,17 @@
 -- Rules that are kept, one after another.
-use Rattle.std.proofs.Common.{◌≡◌, ◌⊎◌, inl, inr, ℕ, ◌+◌, ◌<◌, ◌≤◌, refl, sym, subst, arith, Option, Some, None}
+use Rattle.std.proofs.Common.{◌≡◌, ◌⊎◌, inl, inr, ℕ, ◌+◌, ◌<◌, ◌≤◌, refl, sym, ap, subst, arith, Option, Some, None}
 use Rattle.std.proofs.lemmas.Bool.{cases_order}
 use Rattle.mp_base.specs.declared.refusal.Place.{Place}
+use Rattle.mp_base.specs.declared.refusal.Family.TheVariants.{E}
+use Rattle.mp_base.specs.declared.refusal.Spot.TheVariants.{At}
+use Rattle.mp_base.specs.declared.refusal.Refusal.{Refusal}
+use Rattle.mp_base.specs.declared.refusal.Refusal.TheVariants.{Broken}
 use Rattle.mp_program.specs.declared.program.Program.{Program}
-use Rattle.mp_rules.specs.Breaking.{Breaks, IsEarliest, IsFirst, IsUnbroken}
+use Rattle.mp_program.specs.Weight.{weight}
+use Rattle.mp_rules.specs.Breaking.{Breaks, IsEarliest, IsFirst, IsUnbroken, RefusesFirst}
 use Rattle.mp_rules.specs.Rules.{E20}
 use Rattle.mp_checker.specs.Kept.{KeepsBelow}
-use Rattle.mp_checker.proofs.Ruled.{told}
+use Rattle.mp_checker.proofs.Ruled.{told, rule_44}
 
 pub keeps_first : (p : Program) → KeepsBelow p 20
 keeps_first p = record { kept = λ l at lt b. omega (arith, lt, (told p l at b).low) }
@@ -46,3 +51,15 @@ first_broken p k at below h = record { broken = h.0; first = λ l there b. elim 
 -- E20 is kept
 pub no_repeated_name : (p : Program) (k : ℕ) → 20 < k → KeepsBelow p k → (at : Place) → E20 p at → ⊥
 no_repeated_name p k lt below at b = below.kept 20 at lt (inl (refl, b))
+
+-- a refusal by the first broken rule
+pub refuses_first : (p : Program) (k : ℕ) (at : Place) (e : Refusal) → e ≡ Broken (record { rule = record { family = E; number = k }; spot = At at })
+    → KeepsBelow p k → IsEarliest (Breaks p k) (Some at) → RefusesFirst p e
+refuses_first p k at e is below h = subst (RefusesFirst p) (sym is) (refl, first_broken p k at below h)
+
+-- a weight within the limit
+pub light : (p : Program) → weight p ≤ 1024 → KeepsBelow p 44 → KeepsBelow p 45
+light p le below = keeps_more p 44 None below refl (rule_44 p None (λ at b. omega (arith, le, b.0)))
+
+pub heavy : (p : Program) → 1024 < weight p → IsEarliest (Breaks p 44) (Some p.place)
+heavy p lt = rule_44 p (Some p.place) ((lt, refl), λ there b. omega (arith, ap (λ (z : Place). z.offset) b.1))

@@ -11,3 +11,4 @@ pub mod Seen
 pub mod Crowded
 pub mod Ruled
 pub mod Keeping
+pub mod Padded

@@ -1,5 +1,5 @@
 -- Places where rules are broken, found in a list.
-use Rattle.std.specs.Prelude.{ℕ, ◌≡◌, ◌<◌, Bool, true, false, take, ◌^◌, ◌&&◌, not, ◌==◌, List, [], ◌∷◌, Option, Some, None, length, if◌then◌else◌, nat_le, nat_lt, slice_get, option_and_then}
+use Rattle.std.specs.Prelude.{ℕ, ◌≡◌, ◌<◌, Bool, true, false, take, ◌^◌, ◌&&◌, not, ◌==◌, List, [], ◌∷◌, Option, Some, None, length, if◌then◌else◌, nat_le, slice_get, option_and_then}
 use Rattle.std.specs.Option.{option_map}
 use Rattle.std.specs.List.{filter_map, flat_map, fold, list_any}
 use Rattle.std.specs.BTreeSet.{BTreeSet, contains}
@@ -87,11 +87,11 @@ pub record SeenPins (ps : List Pin) (seen : BTreeSet ℕ) (found : Option Place)
   pub numbers : (n : ℕ) → contains nat_cmp seen n ≡ list_any (λ (y : Pin). y.number == n) ps
   pub earliest : IsEarliest (IsRepeatedIn ps) found
 
--- a definition that has a name and stands behind an offset
-abbrev pub is_beyond : ℕ → Def → Bool
-is_beyond offset d = not (is_supply d.what) && nat_lt offset (d.place).offset
+-- a definition that has a name and doesn't stand before an offset
+abbrev pub is_from : ℕ → Def → Bool
+is_from offset d = not (is_supply d.what) && nat_le offset (d.place).offset
 
--- the earliest of definitions with a name, and processes, behind an offset
-abbrev pub named_beyond : Program → ℕ → Option Place
-named_beyond p offset = earliest_in (place_that (λ (q : Process). q.place) (λ (q : Process). nat_lt offset (q.place).offset))
-    (earliest_in (place_that (λ (d : Def). d.place) (is_beyond offset)) None p.defs) p.processes
+-- the earliest of definitions with a name, and processes, that don't stand before an offset
+abbrev pub named_from : Program → ℕ → Option Place
+named_from p offset = earliest_in (place_that (λ (q : Process). q.place) (λ (q : Process). nat_le offset (q.place).offset))
+    (earliest_in (place_that (λ (d : Def). d.place) (is_from offset)) None p.defs) p.processes

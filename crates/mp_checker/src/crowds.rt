@@ -1,12 +1,12 @@
 //! How many names a program may have: rule E40.
 
-ghost use Rattle.std.specs.Prelude.{◌≡◌, ◌++◌, ◌&&◌, IfOk, map, filter, nat_lt, not, None};
+ghost use Rattle.std.specs.Prelude.{◌≡◌, ◌++◌, ◌&&◌, IfOk, map, filter, not, None};
 ghost use Rattle.mp_program.specs.declared.program.Def.{Def};
 ghost use Rattle.mp_program.specs.declared.program.Process.{Process};
 ghost use Rattle.mp_program.specs.Names.{is_supply};
 ghost use Rattle.mp_rules.specs.Breaking.{IsEarliest};
 ghost use Rattle.mp_rules.specs.Rules.{E40};
-ghost use Rattle.mp_checker.specs.Finding.{named_beyond};
+ghost use Rattle.mp_checker.specs.Finding.{named_from};
 
 use crate::kinds::is_supply;
 use mp_base::Place;
@@ -33,32 +33,32 @@ fn offsets(alloc: Global, program: &Program) -> Result<Vec<u64>, AllocError>
     defs.chain(processes).collect(alloc)
 }
 
-/// The earliest of all that has a name and stands behind an offset.
-fn named_beyond(program: &Program, offset: u64) -> Option<Place>
-    ensures { result ≡ named_beyond program.now offset }
+/// The earliest of all that has a name and doesn't stand before an offset.
+fn named_from(program: &Program, offset: u64) -> Option<Place>
+    ensures { result ≡ named_from program.now offset }
 {
     let found = program
         .defs
         .as_slice()
         .iter()
-        .filter_map(|def| (!is_supply(def.what) && offset < def.place.offset).then_some(def.place))
+        .filter_map(|def| (!is_supply(def.what) && offset <= def.place.offset).then_some(def.place))
         .fold(None, |found, at| earlier(found, at));
     program
         .processes
         .as_slice()
         .iter()
-        .filter_map(|process| (offset < process.place.offset).then_some(process.place))
+        .filter_map(|process| (offset <= process.place.offset).then_some(process.place))
         .fold(found, |found, at| earlier(found, at))
 }
 
-/// Rule E40: the earliest of all that has a name and 256 others before it.
+/// Rule E40: the earliest of all that has a name and 256 others that don't stand after it.
 pub fn crowded_name(alloc: Global, program: &Program) -> Result<Option<Place>, AllocError>
     ensures { IfOk result (IsEarliest (E40 program.now)) }
 {
     let mut offsets = offsets(alloc, program)?;
     offsets.sort_unstable();
-    if offsets.len() < 256 {
+    if offsets.len() <= 256 {
         return Ok(None);
     }
-    Ok(named_beyond(program, offsets[255]))
+    Ok(named_from(program, offsets[256]))
 }

@@ -4,13 +4,13 @@ ghost use Rattle.std.specs.Prelude.{◌≡◌, OnOk, IfOk, IfErr};
 ghost use Rattle.mp_program.specs.Reads.{IsOrder};
 ghost use Rattle.mp_program.specs.Weight.{weight};
 ghost use Rattle.mp_rules.specs.Breaking.{RefusesFirst, IsUnbroken};
+ghost use Rattle.mp_rules.specs.Naming.{OwnNames};
 ghost use Rattle.mp_names.specs.Meaning.{AreMeanings};
 ghost use Rattle.mp_names.specs.Table.{IsNameTable};
-ghost use Rattle.mp_weight.specs.Weighing.{OwnNames};
 ghost use Rattle.mp_checker.specs.Kept.{KeepsBelow};
 
 use crate::crowds::crowded_name;
-use crate::judge::judge;
+use crate::judge::{judge, refusal};
 use crate::limits::{deep_process, far_process, long_process, many_exprs};
 use crate::numbers::{bit_past_word, wide_number};
 use crate::pins::{repeated_pin, uneven_pins};
@@ -83,14 +83,8 @@ pub fn judge_order(
     ensures err { IfErr result (RefusesFirst program.now) }
 {
     match evaluation_order(alloc, program, meanings)? {
-        Evaluation::Order(order) => {
-            judge(program, 33, None)?;
-            Ok(order)
-        }
-        Evaluation::Closed(at) => {
-            judge(program, 33, Some(at))?;
-            Ok(List::new(alloc))
-        }
+        Evaluation::Order(order) => Ok(order),
+        Evaluation::Closed(at) => Err(refusal(33, at)),
     }
 }
 
@@ -129,11 +123,11 @@ pub fn judge_weight(
     ensures ok { IfOk result (λ found. (found ≡ weight program.now) × IsUnbroken program.now) }
     ensures err { IfErr result (RefusesFirst program.now) }
 {
-    let Some(weight) = weight_within(alloc, program, meanings, WEIGHT_LIMIT)? else {
-        judge(program, 44, Some(program.place))?;
-        return Ok(0);
-    };
-    judge(program, 44, None)?;
-    judge(program, 45, many_exprs(program))?;
-    Ok(weight)
+    match weight_within(alloc, program, meanings, WEIGHT_LIMIT)? {
+        None => Err(refusal(44, program.place)),
+        Some(weight) => {
+            judge(program, 45, many_exprs(program))?;
+            Ok(weight)
+        }
+    }
 }

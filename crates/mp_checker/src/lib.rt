@@ -9,6 +9,7 @@ mod kinds;
 pub mod laws;
 mod limits;
 mod numbers;
+mod pads;
 mod pins;
 mod presence;
 mod signals;

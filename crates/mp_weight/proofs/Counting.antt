@@ -17,7 +17,8 @@ use Rattle.mp_program.specs.Names.{is_same, index_of, is_supply}
 use Rattle.mp_program.specs.Weight.{is_set_of, sets_of, def_weight}
 use Rattle.mp_rules.specs.Entries.{IsAt}
 use Rattle.mp_weight.proofs.Capping.{take_whole, zeros}
-use Rattle.mp_weight.specs.Weighing.{OwnNames, AreSetCounts, counted}
+use Rattle.mp_rules.specs.Naming.{OwnNames}
+use Rattle.mp_weight.specs.Weighing.{AreSetCounts, counted}
 
 pub same_name : (x y : List ℕ) → is_same x y ≡ true → x ≡ y
 same_name x y h = (bytes_eq-Decides x y).0 h

@@ -11,13 +11,9 @@ use Rattle.mp_program.specs.declared.program.Def.{Def}
 use Rattle.mp_program.specs.declared.program.Form.{Form}
 use Rattle.mp_program.specs.declared.program.Process.{Process}
 use Rattle.mp_program.specs.declared.program.Program.{Program}
-use Rattle.mp_program.specs.Names.{index_of, is_supply}
+use Rattle.mp_program.specs.Names.{is_supply}
 use Rattle.mp_program.specs.Weight.{is_set_of, op_weight, is_constant, inner, is_call}
 use Rattle.mp_rules.specs.Entries.{IsAt}
-
--- no definition before one that has a name has that name
-abbrev pub OwnNames : Program → Type 0
-OwnNames p = (d : ℕ) (x : Def) → IsAt p.defs d x → is_supply x.what ≡ false → index_of p.defs x.name ≡ d
 
 -- for each definition that has a name, how many of the first n forms are a `setq` of it
 pub record AreSetCounts (p : Program) (n : ℕ) (counts : List ℕ) : Type 0 where

@@ -5,7 +5,8 @@ ghost use Rattle.std.specs.List.{sum_by};
 ghost use Rattle.mp_program.specs.declared.program.Def.{Def};
 ghost use Rattle.mp_program.specs.Weight.{def_weight, sets_of};
 ghost use Rattle.mp_names.specs.Meaning.{AreMeanings};
-ghost use Rattle.mp_weight.specs.Weighing.{OwnNames, AreSetCounts, counted};
+ghost use Rattle.mp_rules.specs.Naming.{OwnNames};
+ghost use Rattle.mp_weight.specs.Weighing.{AreSetCounts, counted};
 
 use crate::capped::{linear, plus};
 use mp_base::List;

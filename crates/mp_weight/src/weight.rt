@@ -5,7 +5,8 @@ ghost use Rattle.std.specs.List.{sum_by};
 ghost use Rattle.mp_program.specs.declared.program.Form.{Form};
 ghost use Rattle.mp_program.specs.Weight.{calls_in, form_weight, process_weight, weight};
 ghost use Rattle.mp_names.specs.Meaning.{AreMeanings};
-ghost use Rattle.mp_weight.specs.Weighing.{OwnNames, process_weight_of};
+ghost use Rattle.mp_rules.specs.Naming.{OwnNames};
+ghost use Rattle.mp_weight.specs.Weighing.{process_weight_of};
 
 use crate::calls::{calls, sum_at};
 use crate::capped::{linear, plus, times};

@@ -1,29 +1,18 @@
-use Rattle.std.proofs.Common.{rules, ◌≡◌, OnOk, IfOk, IfErr, ℕ, ◌+◌, ◌-◌, ◌*◌, ◌<◌, ◌≤◌, length, ◌/◌, ◌%◌, Bool, true, false, nat_eq, nat_lt, List, [], ◌∷◌, ◌++◌, slice_index_or, slice_set, bit_and, bit_or, Fits, w8, w32, w64, Bor, MutBor}
-use Rattle.mp_program.specs.Reads.{IsOrder}
-use Rattle.mp_program.specs.Weight.{weight}
-use Rattle.mp_rules.specs.Breaking.{RefusesFirst, IsUnbroken}
-use Rattle.mp_names.specs.Meaning.{AreMeanings}
-use Rattle.mp_names.specs.Table.{IsNameTable}
-use Rattle.mp_weight.specs.Weighing.{OwnNames}
-use Rattle.mp_checker.specs.Kept.{KeepsBelow}
+use Rattle.mp_checker.proofs.Keeping.{keeps_gap}
+use Rattle.mp_checker.proofs.Ruled.{rule_40, rule_41, rule_42, rule_43}
 use Rattle.mp_checker.proofs.groups.judge_counts.Goals as goal
 
--- src/groups.rt:114:5
-pub judge-requires-clause-below : goal.judge-requires-clause-below
-judge-requires-clause-below c = ?
-
--- src/groups.rt:114:5
 pub judge-requires-clause-earliest : goal.judge-requires-clause-earliest
-judge-requires-clause-earliest c = ?
+judge-requires-clause-earliest c = rule_40 c.args.program.now _ c.in_ok-crowded_name.ensures
 
--- src/groups.rt:115:5
 pub judge-requires-2-clause-earliest : goal.judge-requires-2-clause-earliest
-judge-requires-2-clause-earliest c = ?
+judge-requires-2-clause-earliest c = rule_41 c.args.program.now _ c.far_process.ensures
 
--- src/groups.rt:116:5
 pub judge-requires-3-clause-earliest : goal.judge-requires-3-clause-earliest
-judge-requires-3-clause-earliest c = ?
+judge-requires-3-clause-earliest c = rule_42 c.args.program.now _ c.long_process.ensures
 
--- src/groups.rt:117:5
 pub judge-requires-4-clause-earliest : goal.judge-requires-4-clause-earliest
-judge-requires-4-clause-earliest c = ?
+judge-requires-4-clause-earliest c = rule_43 c.args.program.now _ c.deep_process.ensures
+
+pub judge-requires-clause-below : goal.judge-requires-clause-below
+judge-requires-clause-below c = keeps_gap c.args.program.now c.requires

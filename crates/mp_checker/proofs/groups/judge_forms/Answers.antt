@@ -1,33 +1,20 @@
-use Rattle.std.proofs.Common.{rules, ◌≡◌, OnOk, IfOk, IfErr, ℕ, ◌+◌, ◌-◌, ◌*◌, ◌<◌, ◌≤◌, length, ◌/◌, ◌%◌, Bool, true, false, nat_eq, nat_lt, List, [], ◌∷◌, ◌++◌, slice_index_or, slice_set, bit_and, bit_or, Fits, w8, w32, w64, Bor, MutBor}
-use Rattle.mp_program.specs.Reads.{IsOrder}
-use Rattle.mp_program.specs.Weight.{weight}
-use Rattle.mp_rules.specs.Breaking.{RefusesFirst, IsUnbroken}
-use Rattle.mp_names.specs.Meaning.{AreMeanings}
-use Rattle.mp_names.specs.Table.{IsNameTable}
-use Rattle.mp_weight.specs.Weighing.{OwnNames}
-use Rattle.mp_checker.specs.Kept.{KeepsBelow}
+use Rattle.mp_checker.proofs.Ruled.{rule_27, rule_28, rule_29, rule_30, rule_31, rule_32}
 use Rattle.mp_checker.proofs.groups.judge_forms.Goals as goal
 
--- src/groups.rt:65:5
 pub judge-requires-clause-earliest : goal.judge-requires-clause-earliest
-judge-requires-clause-earliest c = ?
+judge-requires-clause-earliest c = rule_27 c.args.program.now _ c.set_input.ensures
 
--- src/groups.rt:66:5
 pub judge-requires-2-clause-earliest : goal.judge-requires-2-clause-earliest
-judge-requires-2-clause-earliest c = ?
+judge-requires-2-clause-earliest c = rule_28 c.args.program.now _ c.in_ok-unknown_label.ensures
 
--- src/groups.rt:67:5
 pub judge-requires-3-clause-earliest : goal.judge-requires-3-clause-earliest
-judge-requires-3-clause-earliest c = ?
+judge-requires-3-clause-earliest c = rule_29 c.args.program.now _ c.in_ok-repeated_label.ensures
 
--- src/groups.rt:68:5
 pub judge-requires-4-clause-earliest : goal.judge-requires-4-clause-earliest
-judge-requires-4-clause-earliest c = ?
+judge-requires-4-clause-earliest c = rule_30 c.args.program.now _ c.in_ok-transfer_in_always.ensures
 
--- src/groups.rt:69:5
 pub judge-requires-5-clause-earliest : goal.judge-requires-5-clause-earliest
-judge-requires-5-clause-earliest c = ?
+judge-requires-5-clause-earliest c = rule_31 c.args.program.now _ c.in_ok-missing_stack.ensures
 
--- src/groups.rt:70:5
 pub judge-requires-6-clause-earliest : goal.judge-requires-6-clause-earliest
-judge-requires-6-clause-earliest c = ?
+judge-requires-6-clause-earliest c = rule_32 c.args.program.now _ c.in_ok-second_transfer.ensures

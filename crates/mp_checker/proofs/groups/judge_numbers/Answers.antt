@@ -1,25 +1,14 @@
-use Rattle.std.proofs.Common.{rules, ◌≡◌, OnOk, IfOk, IfErr, ℕ, ◌+◌, ◌-◌, ◌*◌, ◌<◌, ◌≤◌, length, ◌/◌, ◌%◌, Bool, true, false, nat_eq, nat_lt, List, [], ◌∷◌, ◌++◌, slice_index_or, slice_set, bit_and, bit_or, Fits, w8, w32, w64, Bor, MutBor}
-use Rattle.mp_program.specs.Reads.{IsOrder}
-use Rattle.mp_program.specs.Weight.{weight}
-use Rattle.mp_rules.specs.Breaking.{RefusesFirst, IsUnbroken}
-use Rattle.mp_names.specs.Meaning.{AreMeanings}
-use Rattle.mp_names.specs.Table.{IsNameTable}
-use Rattle.mp_weight.specs.Weighing.{OwnNames}
-use Rattle.mp_checker.specs.Kept.{KeepsBelow}
+use Rattle.mp_checker.proofs.Ruled.{rule_23, rule_24, rule_25, rule_26}
 use Rattle.mp_checker.proofs.groups.judge_numbers.Goals as goal
 
--- src/groups.rt:48:5
 pub judge-requires-clause-earliest : goal.judge-requires-clause-earliest
-judge-requires-clause-earliest c = ?
+judge-requires-clause-earliest c = rule_23 c.args.program.now _ c.wide_number.ensures
 
--- src/groups.rt:49:5
 pub judge-requires-2-clause-earliest : goal.judge-requires-2-clause-earliest
-judge-requires-2-clause-earliest c = ?
+judge-requires-2-clause-earliest c = rule_24 c.args.program.now _ c.bit_past_word.ensures
 
--- src/groups.rt:50:5
 pub judge-requires-3-clause-earliest : goal.judge-requires-3-clause-earliest
-judge-requires-3-clause-earliest c = ?
+judge-requires-3-clause-earliest c = rule_25 c.args.program.now _ c.in_ok-repeated_pin.ensures
 
--- src/groups.rt:51:5
 pub judge-requires-4-clause-earliest : goal.judge-requires-4-clause-earliest
-judge-requires-4-clause-earliest c = ?
+judge-requires-4-clause-earliest c = rule_26 c.args.program.now _ c.uneven_pins.ensures

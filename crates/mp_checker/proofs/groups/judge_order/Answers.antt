@@ -1,21 +1,19 @@
-use Rattle.std.proofs.Common.{rules, ◌≡◌, OnOk, IfOk, IfErr, ℕ, ◌+◌, ◌-◌, ◌*◌, ◌<◌, ◌≤◌, length, ◌/◌, ◌%◌, Bool, true, false, nat_eq, nat_lt, List, [], ◌∷◌, ◌++◌, slice_index_or, slice_set, bit_and, bit_or, Fits, w8, w32, w64, Bor, MutBor}
-use Rattle.mp_program.specs.Reads.{IsOrder}
-use Rattle.mp_program.specs.Weight.{weight}
-use Rattle.mp_rules.specs.Breaking.{RefusesFirst, IsUnbroken}
-use Rattle.mp_names.specs.Meaning.{AreMeanings}
-use Rattle.mp_names.specs.Table.{IsNameTable}
-use Rattle.mp_weight.specs.Weighing.{OwnNames}
-use Rattle.mp_checker.specs.Kept.{KeepsBelow}
+use Rattle.std.proofs.Common.{Some, None, refl, subst}
+use Rattle.mp_order.specs.declared.evaluation.Evaluation.{Evaluation}
+use Rattle.mp_order.specs.Evaluation.{IsEvaluation}
+use Rattle.mp_checker.proofs.Keeping.{keeps_more, refuses_first}
+use Rattle.mp_checker.proofs.Ruled.{rule_33}
 use Rattle.mp_checker.proofs.groups.judge_order.Goals as goal
 
--- src/groups.rt:87:13
-pub judge-requires-clause-earliest : goal.judge-requires-clause-earliest
-judge-requires-clause-earliest c = ?
+pub returns-in-Order-clause-ok : goal.returns-in-Order-clause-ok
+returns-in-Order-clause-ok c =
+    let found = subst (IsEvaluation c.args.program.now) c.in-Order.is c.in_ok-order.ensures in
+    (found.0, keeps_more c.args.program.now 33 None c.requires.kept refl (rule_33 c.args.program.now None found.1))
 
--- src/groups.rt:91:13
-pub judge-requires-in-Closed-clause-earliest : goal.judge-requires-in-Closed-clause-earliest
-judge-requires-in-Closed-clause-earliest c = ?
+pub returns-in-Closed-clause-err : goal.returns-in-Closed-clause-err
+returns-in-Closed-clause-err c =
+    refuses_first c.args.program.now 33 c.in-Closed.at c.refusal.result c.refusal.ensures c.requires.kept
+    (rule_33 c.args.program.now (Some c.in-Closed.at) (subst (IsEvaluation c.args.program.now) c.in-Closed.is c.in_ok-order.ensures))
 
--- src/groups.rt:74:1
-pub returns-in_ok-judge-in-Closed-clause-ok : goal.returns-in_ok-judge-in-Closed-clause-ok
-returns-in_ok-judge-in-Closed-clause-ok c = ?
+pub evaluation_order-requires : goal.evaluation_order-requires
+evaluation_order-requires c = ?

@@ -1,21 +1,11 @@
-use Rattle.std.proofs.Common.{rules, ◌≡◌, OnOk, IfOk, IfErr, ℕ, ◌+◌, ◌-◌, ◌*◌, ◌<◌, ◌≤◌, length, ◌/◌, ◌%◌, Bool, true, false, nat_eq, nat_lt, List, [], ◌∷◌, ◌++◌, slice_index_or, slice_set, bit_and, bit_or, Fits, w8, w32, w64, Bor, MutBor}
-use Rattle.mp_program.specs.Reads.{IsOrder}
-use Rattle.mp_program.specs.Weight.{weight}
-use Rattle.mp_rules.specs.Breaking.{RefusesFirst, IsUnbroken}
-use Rattle.mp_names.specs.Meaning.{AreMeanings}
-use Rattle.mp_names.specs.Table.{IsNameTable}
-use Rattle.mp_weight.specs.Weighing.{OwnNames}
-use Rattle.mp_checker.specs.Kept.{KeepsBelow}
+use Rattle.mp_checker.proofs.Ruled.{rule_34, rule_35, rule_36}
 use Rattle.mp_checker.proofs.groups.judge_presence.Goals as goal
 
--- src/groups.rt:103:5
 pub judge-requires-clause-earliest : goal.judge-requires-clause-earliest
-judge-requires-clause-earliest c = ?
+judge-requires-clause-earliest c = rule_34 c.args.program.now _ c.without_reset.ensures
 
--- src/groups.rt:104:5
 pub judge-requires-2-clause-earliest : goal.judge-requires-2-clause-earliest
-judge-requires-2-clause-earliest c = ?
+judge-requires-2-clause-earliest c = rule_35 c.args.program.now _ c.missing_supply.ensures
 
--- src/groups.rt:105:5
 pub judge-requires-3-clause-earliest : goal.judge-requires-3-clause-earliest
-judge-requires-3-clause-earliest c = ?
+judge-requires-3-clause-earliest c = rule_36 c.args.program.now _ c.empty_process.ensures

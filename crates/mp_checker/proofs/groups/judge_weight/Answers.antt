@@ -1,17 +1,7 @@
-use Rattle.std.proofs.Common.{rules, ◌≡◌, OnOk, IfOk, IfErr, ℕ, ◌+◌, ◌-◌, ◌*◌, ◌<◌, ◌≤◌, length, ◌/◌, ◌%◌, Bool, true, false, nat_eq, nat_lt, List, [], ◌∷◌, ◌++◌, slice_index_or, slice_set, bit_and, bit_or, Fits, w8, w32, w64, Bor, MutBor}
-use Rattle.mp_program.specs.Reads.{IsOrder}
-use Rattle.mp_program.specs.Weight.{weight}
-use Rattle.mp_rules.specs.Breaking.{RefusesFirst, IsUnbroken}
-use Rattle.mp_names.specs.Meaning.{AreMeanings}
-use Rattle.mp_names.specs.Table.{IsNameTable}
-use Rattle.mp_weight.specs.Weighing.{OwnNames}
-use Rattle.mp_checker.specs.Kept.{KeepsBelow}
+use Rattle.std.proofs.Common.{Some, None, refl, subst}
+use Rattle.mp_checker.proofs.Keeping.{keeps_all, light, heavy, refuses_first}
+use Rattle.mp_checker.proofs.Ruled.{rule_45}
 use Rattle.mp_checker.proofs.groups.judge_weight.Goals as goal
 
--- src/groups.rt:134:9
-pub returns-in_default-clause-ok : goal.returns-in_default-clause-ok
-returns-in_default-clause-ok c = ?
-
--- src/groups.rt:121:1
-pub returns-clause-ok : goal.returns-clause-ok
-returns-clause-ok c = ?
+pub judge-requires-clause-earliest : goal.judge-requires-clause-earliest
+judge-requires-clause-earliest c = rule_45 c.args.program.now _ c.many_exprs.ensures

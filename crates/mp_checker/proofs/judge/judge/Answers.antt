@@ -1,12 +1,13 @@
-use Rattle.std.proofs.Common.{rules, ◌+◌, OnOk, IfErr, ◌≡◌, ℕ, ◌-◌, ◌*◌, ◌<◌, ◌≤◌, length, ◌/◌, ◌%◌, Bool, true, false, nat_eq, nat_lt, List, [], ◌∷◌, ◌++◌, slice_index_or, slice_set, bit_and, bit_or, Fits, w8, w32, w64, Bor, MutBor}
+use Rattle.std.proofs.Common.{subst, sym}
+use Rattle.mp_base.specs.declared.refusal.Family.TheVariants.{E}
+use Rattle.mp_base.specs.declared.refusal.Refusal.{Refusal}
 use Rattle.mp_rules.specs.Breaking.{Breaks, IsEarliest, RefusesFirst}
-use Rattle.mp_checker.specs.Kept.{KeepsBelow}
+use Rattle.mp_checker.proofs.Keeping.{keeps_more, refuses_first}
 use Rattle.mp_checker.proofs.judge.judge.Goals as goal
 
--- src/judge.rt:11:1
 pub returns-in-None-clause-ok : goal.returns-in-None-clause-ok
-returns-in-None-clause-ok c = ?
+returns-in-None-clause-ok c = keeps_more c.args.program.now c.args.number c.args.found c.requires.below c.in-None.is c.requires.earliest
 
--- src/judge.rt:11:1
 pub returns-in-Some-clause-err : goal.returns-in-Some-clause-err
-returns-in-Some-clause-err c = ?
+returns-in-Some-clause-err c = refuses_first c.args.program.now c.args.number c.in-Some.at c.refusal.result c.refusal.ensures c.requires.below
+    (let P = λ o. IsEarliest (Breaks c.args.program.now c.args.number) o in subst P c.in-Some.is c.requires.earliest)
