@@ -1,5 +1,5 @@
 -- Names: which ones a program defines, and where it uses them.
-use Rattle.std.specs.Prelude.{◌≡◌, ◌⊎◌, ℕ, ◌<◌, List, [], ◌∷◌, ◌++◌, Bool, not, map, filter, codes}
+use Rattle.std.specs.Prelude.{◌≡◌, ◌⊎◌, ℕ, false, List, [], ◌∷◌, ◌++◌, Bool, not, map, filter, codes}
 use Rattle.std.specs.List.{list_any}
 use Rattle.mp_base.specs.declared.refusal.Place.{Place}
 use Rattle.mp_program.specs.declared.program.ExprKind.TheVariants.{Named}
@@ -11,7 +11,7 @@ use Rattle.mp_program.specs.declared.program.Expr.{Expr}
 use Rattle.mp_program.specs.declared.program.Form.{Form}
 use Rattle.mp_program.specs.declared.program.Process.{Process}
 use Rattle.mp_program.specs.declared.program.Program.{Program}
-use Rattle.mp_program.specs.Names.{is_same, is_supply}
+use Rattle.mp_program.specs.Names.{is_same, is_supply, index_of}
 use Rattle.mp_rules.specs.Entries.{IsAt}
 
 -- a name, and the place of what it is the name of
@@ -29,10 +29,6 @@ process_naming q = record { place = q.place; name = q.name }
 abbrev pub namings : Program → List Naming
 namings p = map def_naming (filter (λ (d : Def). not (is_supply d.what)) p.defs) ++ map process_naming p.processes
 
--- a stands before b in the text
-abbrev pub IsBefore : Place → Place → Type 0
-IsBefore a b = a.offset < b.offset
-
 -- names that nothing may have
 abbrev pub reserved : List (List ℕ)
 reserved = codes "t" ∷ codes "f" ∷ codes "vdd" ∷ codes "gnd" ∷ codes "phia" ∷ codes "phib" ∷ codes "phic" ∷ []
@@ -49,3 +45,7 @@ abbrev pub Uses : Program → List ℕ → Place → Type 0
 Uses p x at =
     ((e : ℕ) × (y : Expr) × IsAt p.exprs e y × (y.kind ≡ Named x) × (at ≡ y.place))
     ⊎ ((f : ℕ) × (y : Form) × (v : ℕ) × IsAt p.forms f y × (y.kind ≡ Set x at v))
+
+-- no definition stands before one of its name
+abbrev pub OwnNames : Program → Type 0
+OwnNames p = (d : ℕ) (x : Def) → IsAt p.defs d x → is_supply x.what ≡ false → index_of p.defs x.name ≡ d

@@ -1,5 +1,5 @@
 -- Rules E20 to E45: where each is broken.
-use Rattle.std.specs.Prelude.{◌≡◌, ◌≢◌, ◌⊎◌, ℕ, ◌<◌, ◌≤◌, ◌^◌, List, [], Bool, true, false, Some, length, Contains, All, count_by, nat_lt}
+use Rattle.std.specs.Prelude.{◌≡◌, ◌≢◌, ◌⊎◌, ℕ, ◌<◌, ◌≤◌, ◌^◌, List, [], Bool, true, false, Some, length, Contains, All, count_by, nat_le}
 use Rattle.std.specs.List.{flat_map}
 use Rattle.mp_base.specs.declared.refusal.Place.{Place}
 use Rattle.mp_base.specs.declared.op.Op.TheVariants.{Bit}
@@ -19,15 +19,15 @@ use Rattle.mp_program.specs.Names.{is_input, is_stored, is_supply, is_reset}
 use Rattle.mp_program.specs.Reads.{Chain}
 use Rattle.mp_program.specs.Weight.{weight}
 use Rattle.mp_rules.specs.Entries.{IsAt}
-use Rattle.mp_rules.specs.Naming.{Naming, namings, IsBefore, is_reserved, supplies, Uses}
+use Rattle.mp_rules.specs.Naming.{Naming, namings, is_reserved, supplies, Uses}
 use Rattle.mp_rules.specs.Sorts.{Sort, expr_sort, IsWanted}
 use Rattle.mp_rules.specs.Standing.{StandsIn, is_transfer, uses_stack, label_of, IsLater}
 
--- a name that is reserved or that an earlier definition or process has, or a second definition of the same supply
+-- a name that is reserved or that another naming has which doesn't stand after it, or a second definition of the same supply
 abbrev pub E20 : Program → Place → Type 0
 E20 p at =
     ((k : ℕ) × (n : Naming) × IsAt (namings p) k n × (at ≡ n.place)
-    × ((is_reserved n.name ≡ true) ⊎ ((j : ℕ) × (m : Naming) × IsAt (namings p) j m × (m.name ≡ n.name) × IsBefore m.place n.place)))
+    × ((is_reserved n.name ≡ true) ⊎ ((j : ℕ) × (m : Naming) × IsAt (namings p) j m × (j ≢ k) × (m.name ≡ n.name) × ((m.place).offset ≤ (n.place).offset))))
     ⊎ ((j k : ℕ) × (a b : Def) × IsAt p.defs j a × IsAt p.defs k b × (j < k) × (is_supply a.what ≡ true) × (a.what ≡ b.what) × (at ≡ b.place))
 
 -- a name in a `setq` or expression that nothing has
@@ -113,13 +113,13 @@ E35 p at = (w : What) × Contains supplies w × All (λ (d : Def). d.what ≢ w)
 abbrev pub E36 : Program → Place → Type 0
 E36 p at = (k : ℕ) × (q : Process) × IsAt p.processes k q × (q.forms ≡ []) × (at ≡ q.place)
 
--- how many named definitions and processes stand before a place
-abbrev pub namings_before : Program → Place → ℕ
-namings_before p at = count_by (λ (n : Naming). nat_lt (n.place).offset at.offset) (namings p)
+-- how many named definitions and processes don't stand after a place
+abbrev pub namings_up_to : Program → Place → ℕ
+namings_up_to p at = count_by (λ (n : Naming). nat_le (n.place).offset at.offset) (namings p)
 
--- a named definition or process with 256 others before it
+-- the 257th named definition or process, or a later one
 abbrev pub E40 : Program → Place → Type 0
-E40 p at = (k : ℕ) × (n : Naming) × IsAt (namings p) k n × (256 ≤ namings_before p n.place) × (at ≡ n.place)
+E40 p at = (k : ℕ) × (n : Naming) × IsAt (namings p) k n × (257 ≤ namings_up_to p n.place) × (at ≡ n.place)
 
 -- the 17th process
 abbrev pub E41 : Program → Place → Type 0
