@@ -8,7 +8,8 @@ ghost use Rattle.mp_names.specs.Seconds.{lesser, second_with};
 use mp_program::{Def, Process, Way, What};
 
 /// What is known of a name: the index of its first definition, the least and the second least offset of what has it,
-/// whether a process has it, and whether it has a definition that no form may set.
+/// whether a process has it, and whether it has a definition that no form may set. The second least tells whether
+/// two that have the name don't stand after a place.
 #[derive(Clone, Copy)]
 pub struct Named {
     pub first: Option<u32>,
