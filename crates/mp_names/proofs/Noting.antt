@@ -1,9 +1,10 @@
 -- What a map of names says once a definition or process is put into it.
-use Rattle.std.proofs.Common.{◌≡◌, ℕ, suc, ◌+◌, ◌<◌, ◌≤◌, List, [], ◌∷◌, ◌++◌, Bool, true, false, not, cond, nat_eq, refl, sym, ap, ◌∙◌, arith, Option, Some, None, unwrap_or, length, get_or, take, map, filter, ◌&&◌, ◌||◌, append_assoc}
+use Rattle.std.proofs.Common.{◌≡◌, ℕ, suc, ◌+◌, ◌<◌, ◌≤◌, List, [], ◌∷◌, ◌++◌, Bool, true, false, not, cond, nat_eq, refl, sym, ap, ◌∙◌, arith, Option, Some, None, unwrap_or, min, max, length, get_or, take, map, filter, ◌&&◌, ◌||◌, append_assoc}
 use Rattle.std.specs.Option.{option_map}
 use Rattle.std.specs.List.{list_any}
 use Rattle.std.specs.Cmp.Lexicographic.{pointwise}
-use Rattle.std.proofs.lemmas.List.{take_more, take_all, map-append, length-take}
+use Rattle.std.proofs.lemmas.List.{take_more, take_all, map-append, append-nil, length-take}
+use Rattle.std.proofs.lemmas.List.Elements.{filter-append}
 use Rattle.std.proofs.lemmas.List.Folds.{list_any-append}
 use Rattle.std.proofs.lemmas.Map.Text.{hash_map_updates_str}
 use Rattle.indexmap.specs.IndexMap.{IndexMap, get_by, Updates}
@@ -14,7 +15,8 @@ use Rattle.mp_program.specs.Names.{is_same, is_supply}
 use Rattle.mp_rules.specs.Naming.{Naming, def_naming, process_naming}
 use Rattle.mp_rules.specs.Rules.{is_unset}
 use Rattle.mp_names.specs.declared.named.Named.{Named}
-use Rattle.mp_names.specs.Named.{first_of, lesser, least_offset, namings_in, named_in, unnamed, with_def, with_process}
+use Rattle.mp_names.specs.Named.{first_of, least_offset, second_offset, namings_in, named_in, unnamed, with_def, with_process}
+use Rattle.mp_names.specs.Seconds.{lesser, second_with}
 use Rattle.mp_names.specs.Keys.{known_in, HoldsNames}
 use Rattle.mp_names.proofs.Naming.{same_true, has_name}
 
@@ -58,49 +60,88 @@ least_push : (ns : List Naming) (n : Naming) (x : List ℕ)
 least_push [] n x = refl
 least_push (m ∷ ms) n x = turn (is_same m.name x) (is_same n.name x) (m.place).offset (n.place).offset (least_offset ms x) (least_offset (ms ++ n ∷ []) x) (least_push ms n x)
   where
-    turn : (a b : Bool) (i j : ℕ) (f g : Option ℕ) → g ≡ cond b (lesser f j) f
-        → cond a (lesser g i) g ≡ cond b (lesser (cond a (lesser f i) f) j) (cond a (lesser f i) f)
+    turn : (a b : Bool) (i j : ℕ) (f g : Option ℕ) → g ≡ cond b (lesser f j) f → cond a (lesser g i) g ≡ cond b (lesser (cond a (lesser f i) f) j) (cond a (lesser f i) f)
     turn true true i j f g e = ap (λ o. lesser o i) e ∙ lesser_twice f j i
     turn true false i j f g e = ap (λ o. lesser o i) e
     turn false true i j f g e = e
     turn false false i j f g e = e
 
--- the same of the definitions that have a name
-def_least : (ds : List Def) (d : Def) (x : List ℕ)
-    → least_offset (namings_in (ds ++ d ∷ []) []) x
+median : (l i j : ℕ) → min (max l j) (max (min l j) i) ≡ min (max l i) (max (min l i) j)
+median l i j = omega arith
+
+min_same : (a : ℕ) → min a a ≡ a
+min_same a = omega arith
+
+min_thrice : (a b c : ℕ) → min (min a b) c ≡ min a (min b c)
+min_thrice a b c = omega arith
+
+second_twice : (f g : Option ℕ) (i j : ℕ) → second_with (lesser f j) (second_with f g j) i ≡ second_with (lesser f i) (second_with f g i) j
+second_twice None None i j = ap Some (same i j)
+  where
+    same : (i j : ℕ) → min (max (min j j) i) (max (min j j) i) ≡ min (max (min i i) j) (max (min i i) j)
+    same i j = min_same (max (min j j) i) ∙ ap (λ a. max a i) (min_same j) ∙ (let e : max j i ≡ max i j = omega arith in e)
+        ∙ sym (ap (λ a. max a j) (min_same i)) ∙ sym (min_same (max (min i i) j))
+second_twice None (Some s) i j = ap (λ a. Some (min s a)) (same i j)
+  where
+    same : (i j : ℕ) → max (min j j) i ≡ max (min i i) j
+    same i j = ap (λ a. max a i) (min_same j) ∙ (let e : max j i ≡ max i j = omega arith in e) ∙ sym (ap (λ a. max a j) (min_same i))
+second_twice (Some l) None i j = ap Some (ap (λ a. min a (max (min l j) i)) (min_same (max l j)) ∙ median l i j ∙ sym (ap (λ a. min a (max (min l i) j)) (min_same (max l i))))
+second_twice (Some l) (Some s) i j = ap Some (min_thrice s (max l j) (max (min l j) i) ∙ ap (min s) (median l i j) ∙ sym (min_thrice s (max l i) (max (min l i) j)))
+
+second_push : (ns : List Naming) (n : Naming) (x : List ℕ)
+    → second_offset (ns ++ n ∷ []) x ≡ cond (is_same n.name x) (second_with (least_offset ns x) (second_offset ns x) (n.place).offset) (second_offset ns x)
+second_push [] n x = turn (is_same n.name x)
+  where
+    turn : (b : Bool) → cond b (second_with None None (n.place).offset) None ≡ cond b (second_with None None (n.place).offset) None
+    turn b = refl
+second_push (m ∷ ms) n x = turn (is_same m.name x) (is_same n.name x) (m.place).offset (n.place).offset (least_offset ms x) (least_offset (ms ++ n ∷ []) x)
+    (second_offset ms x) (second_offset (ms ++ n ∷ []) x) (least_push ms n x) (second_push ms n x)
+  where
+    turn : (a b : Bool) (i j : ℕ) (f g s t : Option ℕ) → g ≡ cond b (lesser f j) f → t ≡ cond b (second_with f s j) s
+        → cond a (second_with g t i) t ≡ cond b (second_with (cond a (lesser f i) f) (cond a (second_with f s i) s) j) (cond a (second_with f s i) s)
+    turn true true i j f g s t e h = rw (e, h) (second_twice f s i j)
+    turn true false i j f g s t e h = rw (e, h) refl
+    turn false true i j f g s t e h = h
+    turn false false i j f g s t e h = h
+
+-- a further definition has a name, or is a supply
+namings_push : (ds : List Def) (d : Def) → namings_in (ds ++ d ∷ []) [] ≡ cond (is_supply d.what) (namings_in ds []) (namings_in ds [] ++ def_naming d ∷ [])
+namings_push ds d = append-nil (map def_naming (filter has_name (ds ++ d ∷ []))) ∙ ap (map def_naming) (filter-append has_name ds (d ∷ []))
+    ∙ map-append def_naming (filter has_name ds) (filter has_name (d ∷ [])) ∙ turn (is_supply d.what) (map def_naming (filter has_name ds))
+  where
+    turn : (s : Bool) (ns : List Naming) → ns ++ map def_naming (cond (not s) (d ∷ []) []) ≡ cond s (ns ++ []) ((ns ++ []) ++ def_naming d ∷ [])
+    turn true ns = refl
+    turn false ns = ap (λ l. l ++ def_naming d ∷ []) (sym (append-nil ns))
+
+unchanged : (b : Bool) (o : Option ℕ) → o ≡ cond b o o
+unchanged true o = refl
+unchanged false o = refl
+
+def_least : (ds : List Def) (d : Def) (x : List ℕ) → least_offset (namings_in (ds ++ d ∷ []) []) x
     ≡ cond (is_same d.name x) (cond (is_supply d.what) (least_offset (namings_in ds []) x) (lesser (least_offset (namings_in ds []) x) (d.place).offset)) (least_offset (namings_in ds []) x)
-def_least [] d x = turn (is_supply d.what)
+def_least ds d x = ap (λ ns. least_offset ns x) (namings_push ds d) ∙ turn (is_supply d.what)
   where
-    no_name : (b : Bool) → let none : Option ℕ = None in none ≡ cond b none none
-    no_name true = refl
-    no_name false = refl
+    turn : (s : Bool) → least_offset (cond s (namings_in ds []) (namings_in ds [] ++ def_naming d ∷ [])) x
+        ≡ cond (is_same d.name x) (cond s (least_offset (namings_in ds []) x) (lesser (least_offset (namings_in ds []) x) (d.place).offset)) (least_offset (namings_in ds []) x)
+    turn true = unchanged (is_same d.name x) (least_offset (namings_in ds []) x)
+    turn false = least_push (namings_in ds []) (def_naming d) x
 
-    turn : (s : Bool) → least_offset (map def_naming (cond (not s) (d ∷ []) []) ++ []) x ≡ cond (is_same d.name x) (cond s None (lesser None (d.place).offset)) None
-    turn true = no_name (is_same d.name x)
-    turn false = refl
-def_least (e ∷ es) d x = turn (is_supply e.what) (filter has_name es) (filter has_name (es ++ d ∷ [])) (def_least es d x)
+def_second : (ds : List Def) (d : Def) (x : List ℕ) → second_offset (namings_in (ds ++ d ∷ []) []) x
+    ≡ cond (is_same d.name x)
+    (cond (is_supply d.what) (second_offset (namings_in ds []) x) (second_with (least_offset (namings_in ds []) x) (second_offset (namings_in ds []) x) (d.place).offset))
+    (second_offset (namings_in ds []) x)
+def_second ds d x = ap (λ ns. second_offset ns x) (namings_push ds d) ∙ turn (is_supply d.what)
   where
-    before : (a b s : Bool) (i j : ℕ) (f g : Option ℕ) → g ≡ cond b (cond s f (lesser f j)) f
-        → cond a (lesser g i) g ≡ cond b (cond s (cond a (lesser f i) f) (lesser (cond a (lesser f i) f) j)) (cond a (lesser f i) f)
-    before true true true i j f g h = ap (λ o. lesser o i) h
-    before true true false i j f g h = ap (λ o. lesser o i) h ∙ lesser_twice f j i
-    before true false s i j f g h = ap (λ o. lesser o i) h
-    before false b s i j f g h = h
-
-    turn : (supply : Bool) (ks ls : List Def)
-        → least_offset (map def_naming ls ++ []) x ≡ cond (is_same d.name x)
-        (cond (is_supply d.what) (least_offset (map def_naming ks ++ []) x) (lesser (least_offset (map def_naming ks ++ []) x) (d.place).offset)) (least_offset (map def_naming ks ++ []) x)
-        → least_offset (map def_naming (cond (not supply) (e ∷ ls) ls) ++ []) x ≡ cond (is_same d.name x)
-        (cond (is_supply d.what) (least_offset (map def_naming (cond (not supply) (e ∷ ks) ks) ++ []) x)
-        (lesser (least_offset (map def_naming (cond (not supply) (e ∷ ks) ks) ++ []) x) (d.place).offset))
-        (least_offset (map def_naming (cond (not supply) (e ∷ ks) ks) ++ []) x)
-    turn true ks ls h = h
-    turn false ks ls h = before (is_same e.name x) (is_same d.name x) (is_supply d.what) (e.place).offset (d.place).offset
-        (least_offset (map def_naming ks ++ []) x) (least_offset (map def_naming ls ++ []) x) h
+    turn : (s : Bool) → second_offset (cond s (namings_in ds []) (namings_in ds [] ++ def_naming d ∷ [])) x
+        ≡ cond (is_same d.name x)
+        (cond s (second_offset (namings_in ds []) x) (second_with (least_offset (namings_in ds []) x) (second_offset (namings_in ds []) x) (d.place).offset))
+        (second_offset (namings_in ds []) x)
+    turn true = unchanged (is_same d.name x) (second_offset (namings_in ds []) x)
+    turn false = second_push (namings_in ds []) (def_naming d) x
 
 -- what is known of a name, part by part
-abbrev parts : Option ℕ → Option ℕ → Bool → Bool → Named
-parts f o p u = record { first = f; offset = o; process = p; unset = u }
+abbrev parts : Option ℕ → Option ℕ → Option ℕ → Bool → Bool → Named
+parts f o s p u = record { first = f; least = o; second = s; process = p; unset = u }
 
 or_false : (b : Bool) → (b || false) ≡ b
 or_false true = refl
@@ -114,27 +155,34 @@ or_true false = refl
 def_push : (ds : List Def) (d : Def) (x : List ℕ)
     → named_in (ds ++ d ∷ []) [] x ≡ cond (is_same d.name x) (with_def (named_in ds [] x) (length ds) d) (named_in ds [] x)
 def_push ds d x = turn (is_same d.name x) (first_of ds x) (first_of (ds ++ d ∷ []) x) (least_offset (namings_in ds []) x) (least_offset (namings_in (ds ++ d ∷ []) []) x)
-    (list_any (unset_as x) ds) (list_any (unset_as x) (ds ++ d ∷ [])) (first_push ds d x) (def_least ds d x) (list_any-append (unset_as x) ds (d ∷ []))
+    (second_offset (namings_in ds []) x) (second_offset (namings_in (ds ++ d ∷ []) []) x) (list_any (unset_as x) ds) (list_any (unset_as x) (ds ++ d ∷ []))
+    (first_push ds d x) (def_least ds d x) (def_second ds d x) (list_any-append (unset_as x) ds (d ∷ []))
   where
-    turn : (b : Bool) (f g o l : Option ℕ) (u w : Bool) → g ≡ cond b (Some (unwrap_or f (length ds))) f
-        → l ≡ cond b (cond (is_supply d.what) o (lesser o (d.place).offset)) o → w ≡ (u || ((b && is_unset d.what) || false))
-        → parts g l false w ≡ cond b (with_def (parts f o false u) (length ds) d) (parts f o false u)
-    turn true f g o l u w first least unset = let e : w ≡ (u || is_unset d.what) = unset ∙ ap (λ a. u || a) (or_false (is_unset d.what)) in cc
-    turn false f g o l u w first least unset = let e : w ≡ u = unset ∙ or_false u in cc
+    turn : (b : Bool) (f g o l s t : Option ℕ) (u w : Bool) → g ≡ cond b (Some (unwrap_or f (length ds))) f
+        → l ≡ cond b (cond (is_supply d.what) o (lesser o (d.place).offset)) o → t ≡ cond b (cond (is_supply d.what) s (second_with o s (d.place).offset)) s
+        → w ≡ (u || ((b && is_unset d.what) || false))
+        → parts g l t false w ≡ cond b (with_def (parts f o s false u) (length ds) d) (parts f o s false u)
+    turn true f g o l s t u w first least next unset = let e : w ≡ (u || is_unset d.what) = unset ∙ ap (λ a. u || a) (or_false (is_unset d.what)) in cc
+    turn false f g o l s t u w first least next unset = let e : w ≡ u = unset ∙ or_false u in cc
 
 -- and once there is a further process
 process_push : (ds : List Def) (qs : List Process) (q : Process) (x : List ℕ)
     → named_in ds (qs ++ q ∷ []) x ≡ cond (is_same q.name x) (with_process (named_in ds qs x) q) (named_in ds qs x)
 process_push ds qs q x = turn (is_same q.name x) (first_of ds x) (least_offset (namings_in ds qs) x) (least_offset (namings_in ds (qs ++ q ∷ [])) x)
+    (second_offset (namings_in ds qs) x) (second_offset (namings_in ds (qs ++ q ∷ [])) x)
     (list_any (λ (r : Process). is_same r.name x) qs) (list_any (λ (r : Process). is_same r.name x) (qs ++ q ∷ [])) (list_any (unset_as x) ds)
-    (ap (λ ns. least_offset ns x) (ap (λ ns. map def_naming (filter has_name ds) ++ ns) (map-append process_naming qs (q ∷ []))
-    ∙ sym (append_assoc (map def_naming (filter has_name ds)) (map process_naming qs) (process_naming q ∷ []))) ∙ least_push (namings_in ds qs) (process_naming q) x)
+    (ap (λ ns. least_offset ns x) one_more ∙ least_push (namings_in ds qs) (process_naming q) x)
+    (ap (λ ns. second_offset ns x) one_more ∙ second_push (namings_in ds qs) (process_naming q) x)
     (list_any-append (λ (r : Process). is_same r.name x) qs (q ∷ []))
   where
-    turn : (b : Bool) (f o l : Option ℕ) (p r u : Bool) → l ≡ cond b (lesser o (q.place).offset) o → r ≡ (p || (b || false))
-        → parts f l r u ≡ cond b (with_process (parts f o p u) q) (parts f o p u)
-    turn true f o l p r u least process = let e : r ≡ true = process ∙ or_true p in cc
-    turn false f o l p r u least process = let e : r ≡ p = process ∙ or_false p in cc
+    one_more : namings_in ds (qs ++ q ∷ []) ≡ namings_in ds qs ++ process_naming q ∷ []
+    one_more = ap (λ ns. map def_naming (filter has_name ds) ++ ns) (map-append process_naming qs (q ∷ []))
+        ∙ sym (append_assoc (map def_naming (filter has_name ds)) (map process_naming qs) (process_naming q ∷ []))
+
+    turn : (b : Bool) (f o l s t : Option ℕ) (p r u : Bool) → l ≡ cond b (lesser o (q.place).offset) o → t ≡ cond b (second_with o s (q.place).offset) s
+        → r ≡ (p || (b || false)) → parts f l t r u ≡ cond b (with_process (parts f o s p u) q) (parts f o s p u)
+    turn true f o l s t p r u least next process = let e : r ≡ true = process ∙ or_true p in cc
+    turn false f o l s t p r u least next process = let e : r ≡ p = process ∙ or_false p in cc
 
 -- a definition is put into a map
 pub def_noted : {S : Type 0} (ds : List Def) (i : ℕ) (d : Def) (m n : IndexMap (Bor (List ℕ)) Named S) (key : Bor (List ℕ)) (v : Named)

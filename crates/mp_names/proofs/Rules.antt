@@ -1,5 +1,6 @@
 -- The earliest places where the rules of names are broken.
-use Rattle.std.proofs.Common.{◌≡◌, ◌⊎◌, ℕ, List, Bool, true, false, not, ◌&&◌, ◌||◌, refl, sym, ap, ◌∙◌, subst, inl, inr, Option, is_some}
+use Rattle.std.proofs.Common.{◌≡◌, ◌≢◌, ◌⊎◌, ℕ, ◌≤◌, List, Bool, true, false, not, ◌&&◌, ◌||◌, refl, sym, ap, ◌∙◌, subst, inl, inr, arith, Option, is_some}
+use Rattle.std.proofs.lemmas.Bool.{cases_eq, cases_lt}
 use Rattle.mp_base.specs.declared.refusal.Place.{Place}
 use Rattle.mp_program.specs.declared.program.Def.{Def}
 use Rattle.mp_program.specs.declared.program.Process.{Process}
@@ -8,23 +9,23 @@ use Rattle.mp_program.specs.declared.program.Program.{Program}
 use Rattle.mp_program.specs.Names.{is_same}
 use Rattle.mp_rules.specs.Entries.{IsAt}
 use Rattle.mp_rules.specs.Rules.{E20, E21, E22, E27, is_unset}
-use Rattle.mp_rules.specs.Naming.{Naming, namings, def_naming, process_naming, is_reserved, IsBefore, Uses}
+use Rattle.mp_rules.specs.Naming.{Naming, namings, def_naming, process_naming, is_reserved, Uses}
 use Rattle.mp_rules.specs.Breaking.{IsEarliest}
 use Rattle.mp_names.specs.declared.named.Named.{Named}
 use Rattle.mp_names.specs.declared.table.NameTable.{NameTable}
 use Rattle.mp_names.specs.declared.uses.Misuse.{Misuse}
 use Rattle.mp_names.specs.declared.uses.Misuse.TheVariants.{Undefined, OfProcess, OfUnset}
-use Rattle.mp_names.specs.Named.{named_of, least_offset}
+use Rattle.mp_names.specs.Named.{named_of, least_offset, second_offset}
 use Rattle.mp_names.specs.Table.{IsNameTable, known}
 use Rattle.mp_names.specs.Finding.{earlier_of, earliest}
 use Rattle.mp_names.specs.Misuse.{is_misuse, target_misuse, earliest_misuse}
-use Rattle.mp_names.specs.Repeats.{is_below, is_repeated, repeated_def, repeated_process, RepeatsSupply}
+use Rattle.mp_names.specs.Repeats.{is_up_to, is_repeated, repeated_def, repeated_process, RepeatsSupply}
 use Rattle.mp_names.specs.Sorting.{earliest_misfit}
 use Rattle.mp_names.proofs.Entries.{Found, any_found, found_any, both, and_true, Passing}
 use Rattle.mp_names.proofs.Earliest.{like, either, when, in_list}
 use Rattle.mp_names.proofs.Misuses.{Misuses, misuses, TargetMisuses, target_misuses}
 use Rattle.mp_names.proofs.Sorting.{WrongSort, earliest_wrong_sort}
-use Rattle.mp_names.proofs.Naming.{same_true, true_same, no_offset, an_offset, before_found, found_before, has_name, of_namings, in_namings}
+use Rattle.mp_names.proofs.Naming.{same_true, true_same, no_offset, an_offset, TwoUpTo, two_found, found_two, has_name, of_namings, in_namings}
 
 -- whether a name is misused, in a program's words
 misused : (p : Program) (t : NameTable) (w : Misuse) (x : List ℕ) → IsNameTable p t → is_misuse w (known t x) ≡ is_misuse w (named_of p x)
@@ -66,7 +67,7 @@ earliest_unset p t holds = like (λ at. Found p.forms (λ (y : Form). TargetMisu
     (earliest (λ (y : Form). target_misuse t OfUnset y.kind) p.forms)
     (in_list (λ (y : Form). TargetMisuses t OfUnset y.kind) (λ (y : Form). target_misuse t OfUnset y.kind) (λ (y : Form). target_misuses t OfUnset y.kind) p.forms)
 
--- a name is reserved, or something before it has it
+-- a name is reserved, or another that has it does not stand after it
 abbrev Repeated : NameTable → Naming → Place → Type 0
 Repeated t n at = (is_repeated t n.name n.place ≡ true) × (at ≡ n.place)
 
@@ -91,10 +92,26 @@ def_repeated t d = like (λ at. ((has_name d && is_repeated t d.name d.place) �
 -- a name in the namings of a program is repeated
 abbrev RepeatsName : Program → Place → Type 0
 RepeatsName p at = (k : ℕ) × (n : Naming) × IsAt (namings p) k n × (at ≡ n.place)
-    × ((is_reserved n.name ≡ true) ⊎ ((j : ℕ) × (m : Naming) × IsAt (namings p) j m × (m.name ≡ n.name) × IsBefore m.place n.place))
+    × ((is_reserved n.name ≡ true) ⊎ ((j : ℕ) × (m : Naming) × IsAt (namings p) j m × (j ≢ k) × (m.name ≡ n.name) × ((m.place).offset ≤ (n.place).offset)))
 
-offset_of : (p : Program) (t : NameTable) (x : List ℕ) → IsNameTable p t → (known t x).offset ≡ least_offset (namings p) x
-offset_of p t x holds = ap (λ (n : Named). n.offset) (holds.names x)
+second_of : (p : Program) (t : NameTable) (x : List ℕ) → IsNameTable p t → (known t x).second ≡ second_offset (namings p) x
+second_of p t x holds = ap (λ (n : Named). n.second) (holds.names x)
+
+-- another naming of a name
+abbrev Another : List Naming → ℕ → List ℕ → ℕ → Type 0
+Another ns k x at = (j : ℕ) × (m : Naming) × IsAt ns j m × (j ≢ k) × (m.name ≡ x) × ((m.place).offset ≤ at)
+
+another : (ns : List Naming) (k : ℕ) (x : List ℕ) (at : ℕ) → TwoUpTo ns x at → Another ns k x at
+another ns k x at (i, j, a, b, first, second, lt, here, there) = elim (cases_eq i k) [
+  | inl same ↦ (j, b, second, (λ e. omega (arith, e, same, lt)), there.0, there.1)
+  | inr apart ↦ (i, a, first, apart, here.0, here.1)
+]
+
+two : (ns : List Naming) (k : ℕ) (n : Naming) (at : ℕ) → IsAt ns k n → (n.place).offset ≤ at → Another ns k n.name at → TwoUpTo ns n.name at
+two ns k n at there le (j, m, found, apart, same, low) = elim (cases_lt j k) [
+  | inl lt ↦ (j, k, m, n, found, there, lt, (same, low), (refl, le))
+  | inr ge ↦ (k, j, n, m, there, found, omega (arith, ge, apart), (refl, le), (same, low))
+]
 
 abbrev DefsRepeat : NameTable → Place → Def → Type 0
 DefsRepeat t at = Passing has_name (λ (d : Def). Repeated t (def_naming d) at)
@@ -117,9 +134,9 @@ earliest_name p t holds = like (λ at. Found p.defs (DefsRepeat t at) ⊎ Found 
       n,
       found,
       is,
-      elim (one_of (is_reserved n.name) (is_below (known t n.name).offset (n.place).offset) repeated) [
+      elim (one_of (is_reserved n.name) (is_up_to (known t n.name).second (n.place).offset) repeated) [
         | inl taken ↦ inl taken
-        | inr below ↦ inr (let (j, m, before, (same, lt)) = before_found (namings p) n.name (n.place).offset (rw (← offset_of p t n.name holds) below) in (j, m, before, same, lt))
+        | inr below ↦ inr (another (namings p) k n.name (n.place).offset (two_found (namings p) n.name (n.place).offset (rw (← second_of p t n.name holds) below)))
       ],
     )
 
@@ -130,9 +147,9 @@ earliest_name p t holds = like (λ at. Found p.defs (DefsRepeat t at) ⊎ Found 
       found,
       (
         elim why [
-          | inl taken ↦ left_true (is_reserved n.name) (is_below (known t n.name).offset (n.place).offset) taken
-          | inr (j, m, before, same, lt) ↦ right_true (is_reserved n.name) (is_below (known t n.name).offset (n.place).offset)
-              (rw (offset_of p t n.name holds) (found_before (namings p) n.name (n.place).offset (j, m, before, (same, lt))))
+          | inl taken ↦ left_true (is_reserved n.name) (is_up_to (known t n.name).second (n.place).offset) taken
+          | inr other ↦ right_true (is_reserved n.name) (is_up_to (known t n.name).second (n.place).offset)
+              (rw (second_of p t n.name holds) (found_two (namings p) n.name (n.place).offset (two (namings p) k n (n.place).offset found (omega arith) other)))
         ],
         is,
       ),

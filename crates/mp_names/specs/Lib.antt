@@ -1,4 +1,5 @@
 pub mod Meaning
+pub mod Seconds
 pub mod Named
 pub mod Keys
 pub mod Table

@@ -17,7 +17,7 @@ use Rattle.mp_names.specs.Finding.{earlier_of, earliest}
 
 -- to use a name of which this is known is such a misuse
 abbrev pub is_misuse : Misuse → Named → Bool
-is_misuse Undefined n = not (is_some n.offset)
+is_misuse Undefined n = not (is_some n.least)
 is_misuse OfProcess n = n.process
 is_misuse OfUnset n = n.unset
 

@@ -1,5 +1,5 @@
 -- Names that are repeated.
-use Rattle.std.specs.Prelude.{◌≡◌, ◌<◌, ℕ, List, Bool, true, false, not, ◌||◌, ◌&&◌, nat_lt, Option, Some, None, if◌then◌else◌}
+use Rattle.std.specs.Prelude.{◌≡◌, ◌<◌, ℕ, List, Bool, true, false, not, ◌||◌, ◌&&◌, nat_le, Option, Some, None, if◌then◌else◌}
 use Rattle.mp_base.specs.declared.refusal.Place.{Place}
 use Rattle.mp_program.specs.declared.program.What.{What}
 use Rattle.mp_program.specs.declared.program.Def.{Def}
@@ -10,14 +10,14 @@ use Rattle.mp_rules.specs.Naming.{is_reserved}
 use Rattle.mp_names.specs.declared.table.NameTable.{NameTable}
 use Rattle.mp_names.specs.Table.{known}
 
--- an offset was found below another
-abbrev pub is_below : Option ℕ → ℕ → Bool
-is_below None at = false
-is_below (Some first) at = nat_lt first at
+-- an offset was found that isn't above another
+abbrev pub is_up_to : Option ℕ → ℕ → Bool
+is_up_to None at = false
+is_up_to (Some found) at = nat_le found at
 
--- a name is reserved, or stands before a place
+-- a name is reserved, or two that have it don't stand after a place
 abbrev pub is_repeated : NameTable → List ℕ → Place → Bool
-is_repeated t x at = is_reserved x || is_below (known t x).offset at.offset
+is_repeated t x at = is_reserved x || is_up_to (known t x).second at.offset
 
 -- the place of a definition whose name is repeated
 abbrev pub repeated_def : NameTable → Def → Option Place

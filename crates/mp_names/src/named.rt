@@ -3,15 +3,18 @@
 ghost use Rattle.std.specs.Prelude.{◌≡◌};
 ghost use Rattle.mp_program.specs.Names.{is_supply};
 ghost use Rattle.mp_rules.specs.Rules.{is_unset};
+ghost use Rattle.mp_names.specs.Seconds.{lesser, second_with};
 
 use mp_program::{Def, Process, Way, What};
 
-/// What is known of a name: the index of its first definition, the least offset of what has it, whether a process has
-/// it, and whether it has a definition that no form may set.
+/// What is known of a name: the index of its first definition, the least and the second least offset of what has it,
+/// whether a process has it, and whether it has a definition that no form may set. The second least tells whether
+/// two that have the name don't stand after a place.
 #[derive(Clone, Copy)]
 pub struct Named {
     pub first: Option<u32>,
-    pub offset: Option<u64>,
+    pub least: Option<u64>,
+    pub second: Option<u64>,
     pub process: bool,
     pub unset: bool,
 }
@@ -36,6 +39,23 @@ fn is_unset(what: What) -> bool
     )
 }
 
+// The lesser of what was found and another offset.
+fn lesser(found: Option<u64>, at: u64) -> Option<u64>
+    ensures { result ≡ lesser found at }
+{
+    Some(found.unwrap_or(at).min(at))
+}
+
+// The second least offset once there is another, by the least and the second least.
+fn second_with(least: Option<u64>, next: Option<u64>, at: u64) -> Option<u64>
+    ensures { result ≡ second_with least next at }
+{
+    match least {
+        Some(least) => lesser(next, least.max(at)),
+        None => next,
+    }
+}
+
 impl Named {
     ghost use Rattle.mp_names.specs.Named.{unnamed, with_def, with_process};
 
@@ -45,7 +65,8 @@ impl Named {
     {
         Named {
             first: None,
-            offset: None,
+            least: None,
+            second: None,
             process: false,
             unset: false,
         }
@@ -56,12 +77,18 @@ impl Named {
         ensures { result ≡ with_def self index def.now }
     {
         let at = def.place.offset;
+        let supply = is_supply(def.what);
         Named {
             first: Some(self.first.unwrap_or(index)),
-            offset: if is_supply(def.what) {
-                self.offset
+            least: if supply {
+                self.least
             } else {
-                Some(self.offset.unwrap_or(at).min(at))
+                lesser(self.least, at)
+            },
+            second: if supply {
+                self.second
+            } else {
+                second_with(self.least, self.second, at)
             },
             process: self.process,
             unset: self.unset || is_unset(def.what),
@@ -75,7 +102,8 @@ impl Named {
         let at = process.place.offset;
         Named {
             first: self.first,
-            offset: Some(self.offset.unwrap_or(at).min(at)),
+            least: lesser(self.least, at),
+            second: second_with(self.least, self.second, at),
             process: true,
             unset: self.unset,
         }

@@ -28,13 +28,13 @@ fn is_reserved(name: &[u8]) -> bool
         || name == b"phic".as_slice()
 }
 
-// Whether a name is reserved, or stands before a place.
+// Whether a name is reserved, or two that have it don't stand after a place.
 fn is_repeated(names: &NameTable<'_>, name: &[u8], place: Place) -> bool
     ensures { result ≡ is_repeated names.now name.now place }
 {
     is_reserved(name)
-        || match names.named(name).offset {
-            Some(first) => first < place.offset,
+        || match names.named(name).second {
+            Some(second) => second <= place.offset,
             None => false,
         }
 }
@@ -117,7 +117,7 @@ fn repeated_supply(defs: &[Def]) -> Option<Place>
     earlier_of(found, repeated_kind(defs, What::Phic))
 }
 
-/// Rule E20: the earliest name that is reserved or stands earlier too, or second definition of a supply.
+/// Rule E20: the earliest name that is reserved or that another has before it, or second definition of a supply.
 pub fn repeated_name(program: &Program, names: &NameTable<'_>) -> Option<Place>
     requires { IsNameTable program.now names.now }
     ensures { IsEarliest (E20 program.now) result }

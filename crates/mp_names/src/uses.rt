@@ -30,7 +30,7 @@ impl Misuse {
         ensures { result ≡ is_misuse self named }
     {
         match self {
-            Misuse::Undefined => !named.offset.is_some(),
+            Misuse::Undefined => !named.least.is_some(),
             Misuse::OfProcess => named.process,
             Misuse::OfUnset => named.unset,
         }
