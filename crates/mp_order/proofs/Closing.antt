@@ -1,6 +1,6 @@
 -- Closed chains and rule E33.
-use Rattle.std.proofs.Common.{◌≡◌, ◌⊎◌, inl, inr, ℕ, ◌+◌, ◌<◌, ◌≤◌, List, [], Option, Some, None, Bool, true, refl, sym, ◌∙◌, ap, subst, length, arith, get_or}
-use Rattle.std.specs.Prelude.{slice_index, MatchOption, Contains}
+use Rattle.std.proofs.Common.{◌≡◌, ℕ, ◌<◌, ◌≤◌, List, [], Some, true, refl, sym, ◌∙◌, ap, length, arith}
+use Rattle.std.specs.Prelude.{slice_index}
 use Rattle.mp_base.specs.declared.refusal.Place.{Place}
 use Rattle.mp_program.specs.declared.program.FormKind.TheVariants.{Set}
 use Rattle.mp_program.specs.declared.program.Def.{Def}
@@ -8,14 +8,14 @@ use Rattle.mp_program.specs.declared.program.Form.{Form}
 use Rattle.mp_program.specs.declared.program.Program.{Program}
 use Rattle.mp_program.specs.Names.{is_driven, index_of}
 use Rattle.mp_program.specs.Sound.{IsSound}
-use Rattle.mp_program.specs.Reads.{Reads, Chain, link, more, form_reads, roots, mentions}
+use Rattle.mp_program.specs.Reads.{Reads, Chain, link, more, form_reads, roots}
 use Rattle.mp_names.specs.declared.meaning.Meanings.{Meanings}
 use Rattle.mp_names.specs.Meaning.{AreMeanings}
 use Rattle.mp_rules.specs.Entries.{IsAt}
 use Rattle.mp_rules.specs.Breaking.{IsEarliest}
 use Rattle.mp_rules.specs.Rules.{E33}
 use Rattle.mp_order.specs.declared.earliest.Setting.{Setting}
-use Rattle.mp_order.specs.Demands.{IsDriven, OwnNames, Marked, root}
+use Rattle.mp_order.specs.Demands.{IsDriven, OwnNames, root}
 use Rattle.mp_order.specs.Chains.{SetsFlagged, FlaggedSet}
 use Rattle.mp_order.proofs.Tables.{one_entry}
 use Rattle.mp_order.proofs.Mentions.{any_of}

@@ -1,5 +1,5 @@
 -- The greatest weights of what expressions mention.
-use Rattle.std.proofs.Common.{◌≡◌, ◌≢◌, ◌⊎◌, inl, inr, ℕ, zero, suc, ◌+◌, ◌<◌, ◌≤◌, List, [], ◌∷◌, Bool, true, false, refl, sym, ◌∙◌, ap, subst, length, arith, get_or}
+use Rattle.std.proofs.Common.{◌≡◌, ◌≢◌, inl, inr, ℕ, suc, ◌+◌, ◌<◌, ◌≤◌, List, [], ◌∷◌, Bool, true, false, refl, sym, ◌∙◌, ap, length, arith, get_or}
 use Rattle.std.specs.Prelude.{◌||◌, slice_index, slice_set, Contains}
 use Rattle.std.specs.List.{list_any}
 use Rattle.std.proofs.lemmas.Bool.{cases_eq}
@@ -13,12 +13,11 @@ use Rattle.mp_program.specs.declared.program.Expr.{Expr}
 use Rattle.mp_program.specs.declared.program.Program.{Program}
 use Rattle.mp_program.specs.Names.{is_same, index_of}
 use Rattle.mp_program.specs.Reads.{mentions, kind_mentions}
-use Rattle.mp_program.specs.Sound.{IsSound, ArgsFit, AllBetween}
+use Rattle.mp_program.specs.Sound.{AllBetween}
 use Rattle.mp_names.specs.declared.meaning.Meanings.{Meanings}
 use Rattle.mp_names.specs.Meaning.{AreMeanings}
 use Rattle.mp_rules.specs.Entries.{IsAt}
 use Rattle.mp_order.specs.Demands.{IsDriven, OwnNames, WeighsDriven, AreTops}
-use Rattle.mp_order.proofs.Tables.{one_entry}
 use Rattle.mp_order.proofs.Names.{same_names, names_same, meant}
 use Rattle.mp_order.proofs.Marks.{all_at, entry}
 

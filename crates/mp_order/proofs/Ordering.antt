@@ -1,5 +1,5 @@
 -- Orders that grow by one definition at a time.
-use Rattle.std.proofs.Common.{◌≡◌, ◌≢◌, ◌⊎◌, inl, inr, ℕ, zero, suc, ◌+◌, ◌-◌, ◌<◌, ◌≤◌, List, [], ◌∷◌, replicate, true, refl, sym, ◌∙◌, ap, subst, length, arith, get_or}
+use Rattle.std.proofs.Common.{◌≡◌, ◌≢◌, ◌⊎◌, inl, inr, ℕ, ◌+◌, ◌-◌, ◌<◌, ◌≤◌, List, [], replicate, refl, sym, ◌∙◌, ap, subst, length, arith, get_or}
 use Rattle.std.specs.Prelude.{slice_index, slice_set}
 use Rattle.std.specs.List.{insert}
 use Rattle.std.proofs.lemmas.Bool.{cases_eq, cases_lt}
@@ -7,9 +7,7 @@ use Rattle.std.proofs.lemmas.List.{get_or-set_same, get_or-set_other, length-set
 use Rattle.std.proofs.lemmas.List.Edits.{get_or-insert_at, get_or-insert_below, get_or-insert_above, length-insert}
 use Rattle.mp_program.specs.declared.program.Def.{Def}
 use Rattle.mp_program.specs.declared.program.Program.{Program}
-use Rattle.mp_program.specs.Names.{is_driven}
-use Rattle.mp_program.specs.Reads.{Reads, Chain, link, more, IsOrder}
-use Rattle.mp_rules.specs.Entries.{IsAt}
+use Rattle.mp_program.specs.Reads.{Reads, Chain, link, IsOrder}
 use Rattle.mp_order.specs.Demands.{IsDriven}
 use Rattle.mp_order.specs.Chains.{AreReachers, Placed}
 use Rattle.mp_order.proofs.Closing.{FlagsClosed, read_driven, start_driven, join}
@@ -24,10 +22,14 @@ source : (xs : List ℕ) (at y k : ℕ) → at ≤ length xs → k < length (ins
 source xs at y k le lt = elim (cases_lt k at) [
   | inl below ↦ inl (k, omega (arith, below, le), inl (below, refl), get_or-insert_below xs at y 0 k below le)
   | inr above ↦ elim (cases_eq k at) [
-      | inl same ↦ inr (same, ap (λ i. get_or (insert xs at y) i 0) same ∙ get_or-insert_at xs at y 0 le)
-      | inr ne ↦ inl (k - 1, omega (arith, lt, length-insert xs at y le, above, ne), inr (omega (arith, above, ne), omega (arith, above, ne)),
-          (let e : k ≡ (k - 1) + 1 = omega (arith, above, ne) in ap (λ i. get_or (insert xs at y) i 0) e ∙ get_or-insert_above xs at y 0 (k - 1) (omega (arith, above, ne)) le))
-    ]
+    | inl same ↦ inr (same, ap (λ i. get_or (insert xs at y) i 0) same ∙ get_or-insert_at xs at y 0 le)
+    | inr ne ↦ inl (
+      k - 1,
+      omega (arith, lt, length-insert xs at y le, above, ne),
+      inr (omega (arith, above, ne), omega (arith, above, ne)),
+      (let e : k ≡ (k - 1) + 1 = omega (arith, above, ne) in ap (λ i. get_or (insert xs at y) i 0) e ∙ get_or-insert_above xs at y 0 (k - 1) (omega (arith, above, ne)) le),
+    )
+  ]
 ]
 
 -- what was found out of the definitions before n: those on closed chains, and an order of the others

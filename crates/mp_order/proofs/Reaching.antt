@@ -1,17 +1,14 @@
 -- What reaches a definition through chains of reads.
-use Rattle.std.proofs.Common.{◌≡◌, ◌≢◌, ◌⊎◌, inl, inr, ℕ, ◌+◌, ◌-◌, ◌<◌, ◌≤◌, List, replicate, false, true, refl, sym, ◌∙◌, ap, subst, length, arith, get_or}
+use Rattle.std.proofs.Common.{◌≡◌, ◌⊎◌, inl, inr, ℕ, ◌+◌, ◌-◌, ◌<◌, List, replicate, refl, sym, ◌∙◌, ap, subst, length, arith, get_or}
 use Rattle.std.specs.Prelude.{slice_index, slice_set}
 use Rattle.std.proofs.lemmas.Bool.{cases_eq, cases_lt}
 use Rattle.std.proofs.lemmas.List.{get_or-set_same, get_or-set_other, length-set, length-replicate}
 use Rattle.std.proofs.lemmas.List.Sums.{sum_by-set}
 use Rattle.mp_program.specs.declared.program.Def.{Def}
 use Rattle.mp_program.specs.declared.program.Program.{Program}
-use Rattle.mp_program.specs.Names.{is_driven}
 use Rattle.mp_program.specs.Reads.{Reads, Chain, link, more}
-use Rattle.mp_rules.specs.Entries.{IsAt}
 use Rattle.mp_order.specs.Demands.{IsDriven, WeighsDriven, AreDemands}
 use Rattle.mp_order.specs.Chains.{Widened, blanks, AreReachers}
-use Rattle.mp_order.proofs.Tables.{one_entry}
 use Rattle.mp_order.proofs.Marks.{zero_at}
 
 pub widened_none : (p : Program) (demands xs : List ℕ) → Widened p demands 0 xs xs

@@ -9,17 +9,13 @@ use Rattle.mp_program.specs.declared.program.Branch.{Branch}
 use Rattle.mp_program.specs.declared.program.Def.{Def}
 use Rattle.mp_program.specs.declared.program.Form.{Form}
 use Rattle.mp_program.specs.declared.program.Program.{Program}
-use Rattle.mp_program.specs.Names.{is_same, is_driven, index_of}
-use Rattle.mp_program.specs.Reads.{mentions, sets, kind_sets, branches_set, form_reads, kind_reads, branches_read, roots, Reads}
+use Rattle.mp_program.specs.Names.{is_same}
+use Rattle.mp_program.specs.Reads.{mentions, sets, kind_sets, branches_set, form_reads, kind_reads, branches_read, roots}
 use Rattle.mp_program.specs.Sound.{IsSound, InnerFit, AllBetween}
-use Rattle.mp_names.specs.declared.meaning.Meanings.{Meanings}
-use Rattle.mp_names.specs.Meaning.{AreMeanings}
 use Rattle.mp_rules.specs.Entries.{IsAt}
-use Rattle.mp_order.specs.Tables.{Lifted}
-use Rattle.mp_order.specs.Demands.{IsDriven, OwnNames, WeighsDriven, AreTops, Gives, Marked, root, inner, AreMarks, Asks, AreDemands}
+use Rattle.mp_order.specs.Demands.{IsDriven, AreTops, Gives, Marked, root, inner}
 use Rattle.mp_order.proofs.Mentions.{any_of, any_at}
-use Rattle.mp_order.proofs.Names.{same_names, names_same, meant}
-use Rattle.mp_order.proofs.Marks.{all_at, entry, element, given_inside, marked_inside, marked_some}
+use Rattle.mp_order.proofs.Marks.{all_at, entry, element, given_inside}
 
 -- ---- tests
 

@@ -1,9 +1,8 @@
 -- The earliest `setq` of a definition with a flag.
-use Rattle.std.proofs.Common.{◌≡◌, ◌⊎◌, inl, inr, ℕ, ◌+◌, ◌<◌, ◌≤◌, List, Option, Some, None, Bool, true, false, refl, sym, ◌∙◌, ap, subst, length, arith, get_or}
+use Rattle.std.proofs.Common.{◌≡◌, ◌⊎◌, inl, inr, ℕ, ◌+◌, ◌<◌, ◌≤◌, List, Option, Some, None, Bool, true, false, refl, sym, ◌∙◌, ap, subst, length, arith}
 use Rattle.std.specs.Prelude.{◌↔◌, slice_index, MatchOption}
 use Rattle.std.proofs.lemmas.Bool.{cases_lt}
 use Rattle.mp_base.specs.declared.refusal.Place.{Place}
-use Rattle.mp_program.specs.declared.program.FormKind.{FormKind}
 use Rattle.mp_program.specs.declared.program.FormKind.TheVariants.{Set}
 use Rattle.mp_program.specs.declared.program.Form.{Form}
 use Rattle.mp_program.specs.declared.program.Program.{Program}
@@ -39,7 +38,7 @@ below_more p m flags n at (f, y, name, there, v, lt, yf, is, flag, e) = elim (ca
 
 pub below_all : (p : Program) (m : Meanings) (flags : List ℕ) (n : ℕ) (found : Option Setting) → length p.forms ≤ n → EarliestBelow p m flags n found
     → MatchOption found ((at : Place) → FlaggedSet p m flags at → ⊥)
-        (λ s. SetsFlagged p m flags s.target s.place × ((at : Place) → FlaggedSet p m flags at → (s.place).offset ≤ at.offset))
+    (λ s. SetsFlagged p m flags s.target s.place × ((at : Place) → FlaggedSet p m flags at → (s.place).offset ≤ at.offset))
 below_all p m flags n None le none = λ at h. none at (narrow at h)
   where
     narrow : (at : Place) → FlaggedSet p m flags at → FlaggedBelow p m flags n at
@@ -56,23 +55,31 @@ found_skip p m flags n x None xn none late = λ at h. elim (below_more p m flags
   | inl before ↦ none at before
   | inr (y, yn, set, flag, e) ↦ (let P : Form → Type 0 = λ z. IsSet z.kind in late (subst P (one_entry p.forms n n y x refl yn xn) set) flag)
 ]
-found_skip p m flags n x (Some s) xn (sets, first) late = (sets, λ at h. elim (below_more p m flags n at h) [
-  | inl before ↦ first at before
-  | inr (y, yn, set, flag, e) ↦
-      let same : y ≡ x = one_entry p.forms n n y x refl yn xn in
-      let P : Form → Type 0 = λ z. IsSet z.kind in
-      let le : (s.place).offset ≤ (x.place).offset = late (subst P same set) flag in
-      let at_x : at.offset ≡ (x.place).offset = ap (λ (q : Place). q.offset) e ∙ ap (λ (z : Form). (z.place).offset) same in
-      omega (arith, le, at_x)
-])
+found_skip p m flags n x (Some s) xn (sets, first) late = (
+  sets,
+  λ at h. elim (below_more p m flags n at h) [
+    | inl before ↦ first at before
+    | inr (y, yn, set, flag, e) ↦
+        let same : y ≡ x = one_entry p.forms n n y x refl yn xn in
+        let P : Form → Type 0 = λ z. IsSet z.kind in
+        let le : (s.place).offset ≤ (x.place).offset = late (subst P same set) flag in
+        let at_x : at.offset ≡ (x.place).offset = ap (λ (q : Place). q.offset) e ∙ ap (λ (z : Form). (z.place).offset) same in
+        omega (arith, le, at_x)
+  ],
+)
 
 pub found_set : (p : Program) (m : Meanings) (flags : List ℕ) (n : ℕ) (x : Form) (s : Setting) (found : Option Setting) → IsAt p.forms n x → EarliestBelow p m flags n found
     → IsSet x.kind → 0 < slice_index flags s.target → s.target ≡ slice_index m.targets n → s.place ≡ x.place → MatchOption found (Unit {0}) (λ old. (x.place).offset < (old.place).offset)
     → EarliestBelow p m flags (n + 1) (Some s)
-found_set p m flags n x s found xn h (name, there, v, is) flag target placed before =
-    ((n, x, name, there, v, xn, is, sym target, flag, placed), λ at late. elim (below_more p m flags n at late) [ inl early ↦ older found h before at early | inr (y, yn, set, f, e) ↦
+found_set p m flags n x s found xn h (name, there, v, is) flag target placed before = (
+  (n, x, name, there, v, xn, is, sym target, flag, placed),
+  λ at late. elim (below_more p m flags n at late) [
+    | inl early ↦ older found h before at early
+    | inr (y, yn, set, f, e) ↦
         let same : y ≡ x = one_entry p.forms n n y x refl yn xn in
-        omega (arith, ap (λ (q : Place). q.offset) placed, ap (λ (q : Place). q.offset) e, ap (λ (z : Form). (z.place).offset) same) ])
+        omega (arith, ap (λ (q : Place). q.offset) placed, ap (λ (q : Place). q.offset) e, ap (λ (z : Form). (z.place).offset) same)
+  ],
+)
   where
     older : (found : Option Setting) → EarliestBelow p m flags n found → MatchOption found (Unit {0}) (λ old. (x.place).offset < (old.place).offset) → (at : Place) → FlaggedBelow p m flags n at → (s.place).offset ≤ at.offset
     older None none u at early = absurd (none at early)

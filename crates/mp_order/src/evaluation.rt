@@ -27,7 +27,12 @@ pub enum Evaluation {
 }
 
 /// A list of the definitions by their ranks, if there is one.
-fn list_by(alloc: Global, program: &Program, ranks: &[u32], count: u32) -> Result<Option<List<u32>>, AllocError>
+fn list_by(
+    alloc: Global,
+    program: &Program,
+    ranks: &[u32],
+    count: u32,
+) -> Result<Option<List<u32>>, AllocError>
     ensures { IfOk result (λ list. MatchOption list (Unit {0}) (IsListing program.now ranks.now)) }
 {
     let length = ranks.iter().filter(|rank| **rank > 0).count();
@@ -46,7 +51,12 @@ fn list_by(alloc: Global, program: &Program, ranks: &[u32], count: u32) -> Resul
 }
 
 /// The same by a guess, where that stands the test: linear.
-fn guess(alloc: Global, program: &Program, meanings: &Meanings, count: u32) -> Result<Option<Evaluation>, AllocError>
+fn guess(
+    alloc: Global,
+    program: &Program,
+    meanings: &Meanings,
+    count: u32,
+) -> Result<Option<Evaluation>, AllocError>
     requires meant { AreMeanings program.now meanings.now }
     requires own { OwnNames program.now }
     ensures { IfOk result (λ guess. MatchOption guess (Unit {0}) (IsEvaluation program.now)) }
@@ -83,7 +93,11 @@ fn guess(alloc: Global, program: &Program, meanings: &Meanings, count: u32) -> R
 ///
 /// # Errors
 /// Want of memory.
-pub fn evaluation_order(alloc: Global, program: &Program, meanings: &Meanings) -> Result<Evaluation, AllocError>
+pub fn evaluation_order(
+    alloc: Global,
+    program: &Program,
+    meanings: &Meanings,
+) -> Result<Evaluation, AllocError>
     requires meant { AreMeanings program.now meanings.now }
     requires own { OwnNames program.now }
     ensures { IfOk result (IsEvaluation program.now) }

@@ -179,7 +179,12 @@ fn search_ways(alloc: Global, graph: &Graph, start: usize) -> Result<Ways, Alloc
 }
 
 /// Guesses weights by which a closed chain goes up to a definition.
-pub fn climb(alloc: Global, graph: &Graph, program: &Program, target: u32) -> Result<Vec<u32>, AllocError> {
+pub fn climb(
+    alloc: Global,
+    graph: &Graph,
+    program: &Program,
+    target: u32,
+) -> Result<Vec<u32>, AllocError> {
     let start = target as usize;
     let ways = search_ways(alloc, graph, start)?;
     let mut weights = Vec::from_elem(alloc, 0, program.defs.len())?;

@@ -17,7 +17,11 @@ use mp_program::{Def, Program};
 use std::alloc::{AllocError, Global};
 
 /// The numbers of the driven definitions, and 0 for each other one.
-pub fn keep_driven(alloc: Global, program: &Program, numbers: &[u32]) -> Result<List<u32>, AllocError>
+pub fn keep_driven(
+    alloc: Global,
+    program: &Program,
+    numbers: &[u32],
+) -> Result<List<u32>, AllocError>
     ensures { IfOk result (WeighsDriven program.now) }
 {
     let mut kept = zeros(alloc, program.defs.len())?;
@@ -51,7 +55,13 @@ fn falls(program: &Program, demands: &List<u64>, ranks: &[u32], loose: &[u32]) -
 }
 
 /// Whether ranks don't rise from a definition to those that it reads, and fall unless it is loose.
-pub fn is_ranking(alloc: Global, program: &Program, meanings: &Meanings, ranks: &[u32], loose: &[u32]) -> Result<bool, AllocError>
+pub fn is_ranking(
+    alloc: Global,
+    program: &Program,
+    meanings: &Meanings,
+    ranks: &[u32],
+    loose: &[u32],
+) -> Result<bool, AllocError>
     requires meant { AreMeanings program.now meanings.now }
     requires own { OwnNames program.now }
     requires driven { WeighsDriven program.now ranks.now }
@@ -141,7 +151,13 @@ fn climbs(demands: &List<u64>, weights: &[u32], target: u32) -> bool
 }
 
 /// Whether weights show that a definition is on a closed chain.
-pub fn is_closed(alloc: Global, program: &Program, meanings: &Meanings, weights: &[u32], target: u32) -> Result<bool, AllocError>
+pub fn is_closed(
+    alloc: Global,
+    program: &Program,
+    meanings: &Meanings,
+    weights: &[u32],
+    target: u32,
+) -> Result<bool, AllocError>
     requires meant { AreMeanings program.now meanings.now }
     requires own { OwnNames program.now }
     requires driven { WeighsDriven program.now weights.now }

@@ -80,7 +80,12 @@ fn place(order: &mut Vec<u32>, reach: &List<u64>, d: u32) -> Result<(), AllocErr
 }
 
 /// How the driven definitions can be evaluated, by a search for each of them: quadratic.
-pub fn search(alloc: Global, program: &Program, meanings: &Meanings, count: u32) -> Result<Evaluation, AllocError>
+pub fn search(
+    alloc: Global,
+    program: &Program,
+    meanings: &Meanings,
+    count: u32,
+) -> Result<Evaluation, AllocError>
     requires meant { AreMeanings program.now meanings.now }
     requires own { OwnNames program.now }
     requires counted { count ≡ length program.now.defs }

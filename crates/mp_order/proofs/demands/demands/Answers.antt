@@ -1,5 +1,4 @@
 use Rattle.std.proofs.Common.{◌≡◌, ◌∙◌, ap, subst, List, ℕ, length, replicate}
-use Rattle.mp_program.specs.declared.program.Def.{Def}
 use Rattle.mp_order.specs.Tables.{Lifted}
 use Rattle.mp_order.specs.Demands.{Asks, AreTops, AreMarks}
 use Rattle.mp_order.proofs.Demanding.{are_demands}

@@ -1,4 +1,4 @@
-use Rattle.std.proofs.Common.{◌≡◌, ◌⊎◌, inl, inr, ◌+◌, ◌<◌, ◌≤◌, length, ℕ, List, sym, subst, ap, arith, get_or}
+use Rattle.std.proofs.Common.{◌≡◌, inl, inr, length, ℕ, List, subst, ap, arith}
 use Rattle.std.specs.Prelude.{Contains}
 use Rattle.mp_program.specs.declared.program.Process.{Process}
 use Rattle.mp_rules.specs.Entries.{IsAt}

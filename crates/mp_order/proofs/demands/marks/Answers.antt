@@ -1,4 +1,4 @@
-use Rattle.std.proofs.Common.{◌≡◌, ◌+◌, ◌<◌, ℕ, List, sym, ◌∙◌, ap, subst, refl, length, replicate, arith, get_or}
+use Rattle.std.proofs.Common.{◌≡◌, ◌+◌, ◌<◌, ℕ, List, sym, ◌∙◌, ap, subst, length, replicate, arith, get_or}
 use Rattle.mp_program.specs.declared.program.Form.{Form}
 use Rattle.mp_rules.specs.Entries.{IsAt}
 use Rattle.mp_order.specs.Tables.{Lifted}

@@ -1,4 +1,4 @@
-use Rattle.std.proofs.Common.{◌≡◌, ◌+◌, ◌-◌, ◌<◌, ◌≤◌, ℕ, List, sym, ◌∙◌, ap, subst, refl, length, replicate, arith, get_or}
+use Rattle.std.proofs.Common.{◌≡◌, ◌+◌, ◌-◌, ℕ, List, sym, ◌∙◌, ap, subst, length, replicate, arith, get_or}
 use Rattle.std.proofs.lemmas.List.{length-replicate}
 use Rattle.mp_program.specs.declared.program.Expr.{Expr}
 use Rattle.mp_program.specs.Reads.{mentions, kind_mentions}
@@ -7,7 +7,6 @@ use Rattle.std.specs.List.{list_any}
 use Rattle.mp_program.specs.declared.program.ExprKind.{ExprKind}
 use Rattle.mp_program.specs.declared.program.ExprKind.TheVariants.{Apply}
 use Rattle.mp_program.specs.Sound.{ArgsFit}
-use Rattle.std.specs.Prelude.{Contains}
 use Rattle.mp_program.specs.Names.{is_same}
 use Rattle.mp_rules.specs.Entries.{IsAt}
 use Rattle.mp_order.specs.Demands.{AreTops}

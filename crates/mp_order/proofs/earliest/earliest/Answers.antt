@@ -1,5 +1,4 @@
-use Rattle.std.proofs.Common.{◌≡◌, ◌+◌, ◌<◌, ◌≤◌, ℕ, List, Option, Some, None, Bool, true, false, sym, ◌∙◌, ap, subst, refl, arith, get_or, length}
-use Rattle.std.specs.Prelude.{MatchOption}
+use Rattle.std.proofs.Common.{◌≡◌, ◌+◌, List, Option, true, false, sym, ◌∙◌, ap, subst, refl, arith, get_or, length}
 use Rattle.mp_program.specs.declared.program.Form.{Form}
 use Rattle.mp_rules.specs.Entries.{IsAt}
 use Rattle.mp_order.specs.declared.earliest.Setting.{Setting}

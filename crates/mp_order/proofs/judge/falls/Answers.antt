@@ -1,6 +1,5 @@
-use Rattle.std.proofs.Common.{◌≡◌, ◌<◌, ◌≤◌, ℕ, List, true, sym, ◌∙◌, subst, arith, length, get_or}
+use Rattle.std.proofs.Common.{◌≡◌, ◌<◌, ◌≤◌, List, ◌∙◌, subst, arith, get_or}
 use Rattle.mp_program.specs.declared.program.Def.{Def}
-use Rattle.mp_program.specs.Names.{is_driven}
 use Rattle.mp_rules.specs.Entries.{IsAt}
 use Rattle.mp_order.proofs.Judging.{driven_more}
 use Rattle.mp_order.proofs.judge.falls.Goals as goal
@@ -13,4 +12,4 @@ loop-d-preserved c =
     (λ e. (get_or c.args.demands.now e 0 ≤ get_or c.args.ranks.now e 0) × (get_or c.args.loose.now e 0 ≡ 0 → get_or c.args.demands.now e 0 < get_or c.args.ranks.now e 0))
     c.loop-d.d c.def-item.result at c.loop-d.invariant
     (λ driven. let h = c.falls_at.ensures c.if-not-falls_at.false driven in
-        (omega (arith, h.0, c.read_wide.ensures, c.read.ensures), λ zero. omega (arith, h.1 (c.read-in-loop-d.ensures ∙ zero), c.read_wide.ensures, c.read.ensures)))
+    (omega (arith, h.0, c.read_wide.ensures, c.read.ensures), λ zero. omega (arith, h.1 (c.read-in-loop-d.ensures ∙ zero), c.read_wide.ensures, c.read.ensures)))

@@ -1,4 +1,4 @@
-use Rattle.std.proofs.Common.{◌≡◌, ◌+◌, ◌<◌, ℕ, List, true, sym, ◌∙◌, subst, arith, length, get_or}
+use Rattle.std.proofs.Common.{◌≡◌, ◌+◌, ◌<◌, ℕ, List, sym, ◌∙◌, subst, length, get_or}
 use Rattle.mp_program.specs.declared.program.Def.{Def}
 use Rattle.mp_rules.specs.Entries.{IsAt}
 use Rattle.mp_order.proofs.Judging.{driven_more}

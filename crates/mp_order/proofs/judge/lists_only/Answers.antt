@@ -1,4 +1,4 @@
-use Rattle.std.proofs.Common.{◌≡◌, ◌+◌, ◌<◌, ℕ, List, below_more, sym, ◌∙◌, subst, arith, length, get_or}
+use Rattle.std.proofs.Common.{below_more, arith}
 use Rattle.mp_order.proofs.judge.lists_only.Goals as goal
 
 pub loop-k-preserved : goal.loop-k-preserved

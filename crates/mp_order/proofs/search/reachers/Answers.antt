@@ -1,8 +1,6 @@
-use Rattle.std.proofs.Common.{◌≡◌, subst, List, ℕ}
+use Rattle.std.proofs.Common.{subst, List, ℕ}
 use Rattle.mp_order.specs.Demands.{AreDemands}
-use Rattle.mp_order.proofs.Reaching.{reaching_start, reaching_more, reaching_done}
-use Rattle.std.proofs.Common.{sym, ◌∙◌, ap, replicate}
-use Rattle.mp_order.proofs.Reaching.{Reaching}
+use Rattle.mp_order.proofs.Reaching.{reaching_more, reaching_done}
 use Rattle.mp_order.proofs.search.reachers.Goals as goal
 
 pub spread-preserved : goal.spread-preserved

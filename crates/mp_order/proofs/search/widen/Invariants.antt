@@ -1,4 +1,4 @@
-use Rattle.std.proofs.Common.{◌≡◌, ◌+◌, ◌≤◌, false, if◌then◌else◌, length}
+use Rattle.std.proofs.Common.{◌≡◌, ◌+◌, ◌≤◌, false, if◌then◌else◌}
 use Rattle.mp_order.specs.Chains.{Widened, blanks}
 use Rattle.mp_order.proofs.search.widen.Given as goal
 

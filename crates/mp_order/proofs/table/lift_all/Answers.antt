@@ -1,4 +1,4 @@
-use Rattle.std.proofs.Common.{◌≡◌, ◌⊎◌, inl, inr, ℕ, ◌+◌, ◌<◌, ◌≤◌, List, refl, length, arith, get_or, subst, sym}
+use Rattle.std.proofs.Common.{◌≡◌, inl, inr, ℕ, ◌+◌, ◌<◌, List, length, arith, get_or, sym}
 use Rattle.std.specs.Prelude.{Contains}
 use Rattle.mp_order.specs.Tables.{Lifted}
 use Rattle.mp_order.proofs.Tables.{Among, among_all, among_more, among_cases, contains, lifted_none, lifted_as, lifted_join}
