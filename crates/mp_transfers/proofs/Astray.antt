@@ -15,11 +15,7 @@ use Rattle.mp_transfers.specs.Labels.{IsAstray}
 use Rattle.mp_transfers.specs.Marks.{AreMarked}
 use Rattle.mp_transfers.proofs.Earliest.{Upto, InAny, earliest_same}
 
--- at is the place of the form f, which is y, and goes to a label that isn't among these
-abbrev pub Strays : List Label → Form → Place → Type 0
-Strays labels y at = IsAstray labels y.kind × (at ≡ y.place)
-
--- the same of a form that is marked and in a span
+-- at is the place of the form f, which is y, is marked and in a span, and goes to a label that isn't among these
 abbrev pub StraysAt : Span → List ℕ → ℕ → List Label → ℕ → Form → Place → Type 0
 StraysAt span marks number labels f y at = (span.from ≤ f) × (f < span.end) × (slice_index marks f ≡ number) × IsAstray labels y.kind × (at ≡ y.place)
 

@@ -139,6 +139,3 @@ upto_all {P = P} {xs = xs} {R = R} {i = i} {a = a} u all = earliest_same (λ at.
 -- nothing was found before
 pub from_none : (Q : Place → Type 0) (found : Option Place) → IsEarliest (λ at. (None ≡ Some at) ⊎ Q at) found → IsEarliest Q found
 from_none Q found h = earliest_same (λ at. (None ≡ Some at) ⊎ Q at) Q found h (λ at there. elim there [ inl e ↦ absurd (cc) | inr q ↦ q ]) (λ at q. inr q)
-
-pub from_nothing : (Q : Place → Type 0) (found : Option Place) → IsEarliest (λ at. ⊥ ⊎ Q at) found → IsEarliest Q found
-from_nothing Q found h = earliest_same (λ at. ⊥ ⊎ Q at) Q found h (λ at there. elim there [ inl e ↦ absurd e | inr q ↦ q ]) (λ at q. inr q)

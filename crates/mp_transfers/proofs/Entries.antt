@@ -15,7 +15,7 @@ use Rattle.mp_rules.specs.Breaking.{IsEarliest, earlier}
 use Rattle.mp_transfers.specs.declared.tables.Sought.{Sought}
 use Rattle.mp_transfers.specs.declared.tables.Sought.TheVariants.{Transfer}
 use Rattle.mp_transfers.specs.Tables.{is_sought, join, entry, IsAmong, IsBehind, IsBehindInOne, IsFound, IsSecond, AreFirsts}
-use Rattle.mp_transfers.proofs.Earliest.{at_same, earliest_through, earliest_same, earliest_join, earliest_then, earliest_itself, earliest_one, found_is, found_covers, Upto, upto_none, upto_join, upto_skip, upto_all, InAny}
+use Rattle.mp_transfers.proofs.Earliest.{at_same, earliest_through, earliest_same, earliest_join, earliest_then, earliest_itself, earliest_one, found_is, found_covers, Upto, upto_join, upto_skip, upto_all, InAny}
 use Rattle.mp_transfers.proofs.Lists.{contains_at}
 use Rattle.mp_transfers.proofs.Inside.{inner_behind, under_cases, in_sequence}
 
@@ -96,10 +96,6 @@ done_more p P f table v lt d h = record {
         let R : Option Place → Type 0 = IsEarliest (P f) in
         subst Q e (subst R (sym (get_or-set_same table f v None (let n : length table ≡ length p.forms = d.size in omega (arith, lt, n)))) h)
 
--- the start
-pub done_none : (p : Program) (P : ℕ → Place → Type 0) (table : List (Option Place)) → length table ≡ length p.forms → Done p P (length p.forms) table
-done_none p P table e = record { size = e; entries = λ g le lt. absurd (omega (arith, le, lt)) }
-
 -- a form before j has an entry
 abbrev pub HasBegun : List (Option Place) → List ℕ → ℕ → Type 0
 HasBegun table forms j = (i g : ℕ) × (first : Place) × (i < j) × IsAt forms i g × (entry table g ≡ Some first)
@@ -113,13 +109,6 @@ pub record Run (P : Place → Type 0) (table : List (Option Place)) (forms : Lis
   pub upto : Upto P forms (IsNext table forms) j found
   pub begun_is : begun ≡ true → HasBegun table forms j
   pub is_begun : HasBegun table forms j → begun ≡ true
-
-pub run_none : (P : Place → Type 0) (table : List (Option Place)) (forms : List ℕ) (found : Option Place) → IsEarliest P found → Run P table forms 0 false found
-run_none P table forms found h = record {
-  upto = upto_none P forms (IsNext table forms) found h;
-  begun_is = λ e. absurd (cc);
-  is_begun = λ (i, g, first, lt, rest, e). absurd (omega (arith, lt));
-}
 
 -- a form behind one that has an entry
 pub run_on : {P : Place → Type 0} {table : List (Option Place)} {forms : List ℕ} {j : ℕ} {begun : Bool} {found : Option Place} → Run P table forms j begun found → (h : ℕ) → IsAt forms j h → begun ≡ true

@@ -27,12 +27,9 @@ map_out f [] k x (lt, is) = absurd (omega (arith, lt))
 map_out f (y ∷ xs) zero x (lt, is) = (0, omega arith, ap f (sym is))
 map_out f (y ∷ xs) (suc k) x (lt, is) = let (j, l, same) = map_out f xs k x (omega (arith, lt), is) in (suc j, omega (arith, l), same)
 
--- an element by its index, and the other way round
+-- an element by its index
 pub contains_at : {X : Type 0} (xs : List X) (k : ℕ) (x : X) → IsAt xs k x → Contains xs x
 contains_at xs k x (lt, is) = (k, lt, sym is)
-
-pub at_contains : {X : Type 0} (xs : List X) (x : X) → Contains xs x → (k : ℕ) × IsAt xs k x
-at_contains xs x (k, lt, is) = (k, (lt, sym is))
 
 -- what holds of all that stands in joined lists holds of all that stands in one
 pub all_flat : {X A : Type 0} (P : A → Type 0) (f : X → List A) (xs : List X) (k : ℕ) (x : X) → All P (flat_map f xs) → IsAt xs k x → All P (f x)

@@ -1,5 +1,5 @@
 -- The marks of the forms of a process.
-use Rattle.std.proofs.Common.{◌≡◌, ◌≢◌, inl, inr, ◌∙◌, ℕ, ◌+◌, ◌<◌, ◌≤◌, List, [], ◌∷◌, ◌++◌, length, get_or, take, refl, sym, ap, subst, arith, slice_set}
+use Rattle.std.proofs.Common.{◌≡◌, ◌≢◌, inl, inr, ◌∙◌, ℕ, ◌+◌, ◌<◌, ◌≤◌, List, [], ◌∷◌, ◌++◌, length, get_or, take, sym, ap, subst, arith, slice_set}
 use Rattle.std.specs.Prelude.{Contains, slice_index, max}
 use Rattle.std.proofs.lemmas.List.{get_or-set_same, get_or-set_other, length-set, take_more, take_all, append-nil}
 use Rattle.std.specs.List.{flat_map}
@@ -16,16 +16,6 @@ use Rattle.mp_rules.specs.Standing.{Under, itself, deeper}
 use Rattle.mp_transfers.specs.Marks.{IsMarking, IsBelowAll, AreMarked}
 use Rattle.mp_transfers.proofs.Earliest.{at_same}
 use Rattle.mp_transfers.proofs.Inside.{inner_behind, under_behind}
-
-pub marking_none : (number end : ℕ) (marks : List ℕ) → IsMarking [] number end marks marks end
-marking_none number end marks = record {
-  size = refl;
-  set = λ f (k, lt, is). absurd (omega (arith, lt));
-  kept = λ f. inl refl;
-  behind = λ f (k, lt, is). absurd (omega (arith, lt));
-  grows = omega arith;
-  within = λ le. le;
-}
 
 -- one more form
 pub marking_push : (forms : List ℕ) (number end : ℕ) (old new : List ℕ) (next f : ℕ) → IsMarking forms number end old new next → f < length new

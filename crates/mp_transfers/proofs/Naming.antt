@@ -64,13 +64,6 @@ names_more old new labels i a n is updates = record {
         let P : ℕ → Type 0 = λ j. IsAt labels j b in
         ap (λ (l : Label). l.name) (at_same labels i a b is (subst P e is_b)) ∙ s
 
--- all names
-pub names_all : (names : BTreeSet (Bor (List ℕ))) (labels : List Label) (i : ℕ) → Names names labels i → length labels ≤ i → (x : List ℕ) → (has names x ≡ true) ↔ IsLabel labels x
-names_all names labels i n all x = (
-  λ h. let (k, a, lt, is, e) = n.only x h in (k, a, is, e),
-  λ (k, a, is, e). n.all x (k, a, (let l : k < length labels = is.0 in omega (arith, l, all)), is, e),
-)
-
 -- at is the place of the label b, and a label before it has its name
 abbrev pub IsAgain : List Label → ℕ → Label → Place → Type 0
 IsAgain labels j b at = Seen labels j b.name × (at ≡ b.place)

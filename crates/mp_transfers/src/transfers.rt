@@ -101,7 +101,8 @@ pub fn missing_stack(alloc: Global, program: &Program) -> Result<Option<Place>, 
     let firsts = firsts(alloc, program, Sought::StackUse)?;
     let mut found = None;
     for process in program.processes.as_slice() {
-        if process.depth == 0 {
+        let is_stackless = process.depth == 0;
+        if is_stackless {
             found = least(&firsts, process.forms.as_slice(), found);
         }
     }
