@@ -149,6 +149,7 @@ sorted_count o (x ∷ xs) k up lt = elim (cases_lt o x) [
     over : o < x → (k < count_by (up_to o) (x ∷ xs) → get_or (x ∷ xs) k 0 ≤ o) × (get_or (x ∷ xs) k 0 ≤ o → k < count_by (up_to o) (x ∷ xs))
     over g = let none = none_up_to o (x ∷ xs) (λ j jl. omega (arith, g, up 0 j 0 (omega arith) jl)) in
         (λ c. absurd (omega (arith, none, c)), λ s. absurd (omega (arith, s, g, up 0 k 0 (omega arith) lt)))
+
     under : ((j : ℕ) → j < length xs → (j < count_by (up_to o) xs → get_or xs j 0 ≤ o) × (get_or xs j 0 ≤ o → j < count_by (up_to o) xs))
         → (j : ℕ) → j < length (x ∷ xs) → x ≤ o → (j < count_by (up_to o) (x ∷ xs) → get_or (x ∷ xs) j 0 ≤ o) × (get_or (x ∷ xs) j 0 ≤ o → j < count_by (up_to o) (x ∷ xs))
     under each zero jl l = let one = sum_by-cons (λ y. cond (up_to o y) 1 0) x xs ∙ ap (λ b. cond b 1 0 + count_by (up_to o) xs) (le-leb x o l) in (λ c. l, λ s. omega (arith, one))
@@ -168,14 +169,19 @@ from_earliest p s found up same long e = rw e (earliest_same (λ at. IsFoundIn i
   where
     in_defs : Def → Option Place
     in_defs = place_that def_place (is_from (get_or s 256 0))
+
     in_processes : Process → Option Place
     in_processes = place_that process_place (λ (q : Process). nat_le (get_or s 256 0) (q.place).offset)
+
     counted : (o : ℕ) → count_by (up_to o) s ≡ count_by (up_to o) (offsets_of p)
     counted o = sum_by-IsPermutation (λ x. cond (up_to o x) 1 0) (offsets_of p) s same
+
     many : (n : Naming) → get_or s 256 0 ≤ (n.place).offset → 257 ≤ namings_up_to p n.place
     many n lt = let more = (sorted_count (n.place).offset s 256 up (omega (arith, long))).1 lt in omega (arith, more, counted (n.place).offset, before_is p n.place)
+
     past : (n : Naming) → 257 ≤ namings_up_to p n.place → get_or s 256 0 ≤ (n.place).offset
     past n le = (sorted_count (n.place).offset s 256 up (omega (arith, long))).0 (omega (arith, le, counted (n.place).offset, before_is p n.place))
+
     to : (at : Place) → IsFoundIn in_defs p.defs at ⊎ IsFoundIn in_processes p.processes at → E40 p at
     to at (inl (k, x, is, f)) =
         let h = passes def_place (is_from (get_or s 256 0)) x at f in
@@ -186,10 +192,21 @@ from_earliest p s found up same long e = rw e (earliest_same (λ at. IsFoundIn i
         let h = passes process_place (λ (q : Process). nat_le (get_or s 256 0) (q.place).offset) q at f in
         let n = process_named p q (k, is.0, is.1) in
         (n.0, process_naming q, (n.1, n.2), many (process_naming q) (leb-true _ _ h.0), h.1)
+
     from : (at : Place) → E40 p at → IsFoundIn in_defs p.defs at ⊎ IsFoundIn in_processes p.processes at
     from at (k, n, is, le, e) = elim (named p n (k, is.0, is.1)) [
-      | inl (x, (j, jl, there), h, same_n) ↦ inl (j, x, (jl, there), passed def_place (is_from (get_or s 256 0)) x at
-          (and_from _ _ h (le-leb _ _ (let P : Naming → Type 0 = λ m. get_or s 256 0 ≤ (m.place).offset in subst P same_n (past n le)))) (e ∙ ap (λ (m : Naming). m.place) same_n))
-      | inr (q, (j, jl, there), same_n) ↦ inr (j, q, (jl, there), passed process_place (λ (q : Process). nat_le (get_or s 256 0) (q.place).offset) q at
-          (le-leb _ _ (let P : Naming → Type 0 = λ m. get_or s 256 0 ≤ (m.place).offset in subst P same_n (past n le))) (e ∙ ap (λ (m : Naming). m.place) same_n))
+      | inl (x, (j, jl, there), h, same_n) ↦ inl (
+        j,
+        x,
+        (jl, there),
+        passed def_place (is_from (get_or s 256 0)) x at
+            (and_from _ _ h (le-leb _ _ (let P : Naming → Type 0 = λ m. get_or s 256 0 ≤ (m.place).offset in subst P same_n (past n le)))) (e ∙ ap (λ (m : Naming). m.place) same_n),
+      )
+      | inr (q, (j, jl, there), same_n) ↦ inr (
+        j,
+        q,
+        (jl, there),
+        passed process_place (λ (q : Process). nat_le (get_or s 256 0) (q.place).offset) q at
+            (le-leb _ _ (let P : Naming → Type 0 = λ m. get_or s 256 0 ≤ (m.place).offset in subst P same_n (past n le))) (e ∙ ap (λ (m : Naming). m.place) same_n),
+      )
     ]

@@ -1,5 +1,4 @@
 pub mod Quiet
-pub mod Driving
 pub mod Padding
 mod Examples
 pub mod Fitting

@@ -127,7 +127,7 @@ abbrev IsIn : List Def → Def → Type 0
 IsIn defs x = (i : ℕ) × IsAt defs i x
 
 all_in : (kind : What → Bool) (defs : List Def) → All (IsIn defs) (filter (λ (x : Def). kind x.what) defs)
-all_in kind defs = All-filter (λ (x : Def). kind x.what) (IsIn defs) defs (λ k d lt. (k, (lt, get_or_default defs k (get_or defs k d) d lt)))
+all_in kind defs = All-filter (λ (x : Def). kind x.what) (IsIn defs) defs (λ k d lt. (k, (lt, get_or_default defs k d (get_or defs k d) lt)))
 
 -- both pads have different names
 abbrev Differ : Def → Def → Type 0
@@ -159,7 +159,7 @@ differing : (p : Program) → Names p → (kind : What → Bool) → ((w : What)
 differing p s kind pad i j d ij jl =
     AllPairs-filter (λ (x y : Def). kind x.what ≡ true → kind y.what ≡ true → Differ x y) (λ (x : Def). kind x.what) p.defs
     (λ a b e ab bl ka kb. apart p s a b (get_or p.defs a e) (get_or p.defs b e) (omega (arith, ab, bl), get_or_default p.defs a e (get_or p.defs a e) (omega (arith, ab, bl)))
-        (bl, get_or_default p.defs b e (get_or p.defs b e) bl) (pad (get_or p.defs a e).what ka) (pad (get_or p.defs b e).what kb) (λ same. omega (arith, same, ab)))
+    (bl, get_or_default p.defs b e (get_or p.defs b e) bl) (pad (get_or p.defs a e).what ka) (pad (get_or p.defs b e).what kb) (λ same. omega (arith, same, ab)))
     i j d ij jl (filter_passes (λ (x : Def). kind x.what) p.defs i d (omega (arith, ij, jl))) (filter_passes (λ (x : Def). kind x.what) p.defs j d jl)
 
 -- the pads of a program have names that fit
@@ -184,7 +184,7 @@ pad_names p own kept inputs outputs in_faces out_faces =
         let output = filter_passes (λ (x : Def). is_output x.what) p.defs m e ml in
         apart p s i j (get_or (of_kind is_input p.defs) k d) (get_or (of_kind is_output p.defs) m e) at_i at_j (inl input) (inr output)
         (λ same. not_both (get_or (of_kind is_input p.defs) k d).what input
-            (let P : Def → Type 0 = λ x. is_output x.what ≡ true in subst P (sym (here i j at_i at_j same)) output))
+        (let P : Def → Type 0 = λ x. is_output x.what ≡ true in subst P (sym (here i j at_i at_j same)) output))
       where
         here : (i j : ℕ) → IsAt p.defs i (get_or (of_kind is_input p.defs) k d) → IsAt p.defs j (get_or (of_kind is_output p.defs) m e) → i ≡ j
             → get_or (of_kind is_input p.defs) k d ≡ get_or (of_kind is_output p.defs) m e

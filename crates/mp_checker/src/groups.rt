@@ -52,11 +52,7 @@ pub fn judge_numbers(alloc: Global, program: &Program) -> Result<(), Refusal>
 }
 
 /// Rules E27 to E32.
-pub fn judge_forms(
-    alloc: Global,
-    program: &Program,
-    names: &NameTable<'_>,
-) -> Result<(), Refusal>
+pub fn judge_forms(alloc: Global, program: &Program, names: &NameTable<'_>) -> Result<(), Refusal>
     requires names { IsNameTable program.now names.now }
     requires kept { KeepsBelow program.now 27 }
     ensures ok { OnOk result (KeepsBelow program.now 33) }
@@ -112,11 +108,7 @@ pub fn judge_counts(alloc: Global, program: &Program) -> Result<(), Refusal>
 }
 
 /// Rules E44 and E45, and the weight.
-pub fn judge_weight(
-    alloc: Global,
-    program: &Program,
-    meanings: &Meanings,
-) -> Result<u32, Refusal>
+pub fn judge_weight(alloc: Global, program: &Program, meanings: &Meanings) -> Result<u32, Refusal>
     requires meant { AreMeanings program.now meanings.now }
     requires own { OwnNames program.now }
     requires kept { KeepsBelow program.now 44 }

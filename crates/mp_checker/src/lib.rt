@@ -13,5 +13,7 @@ mod pads;
 mod pins;
 mod presence;
 mod signals;
+#[cfg(test)]
+mod tests;
 
 pub use checked::{Checked, check, check_signals};

@@ -5,6 +5,8 @@ mod calls;
 mod capped;
 mod defs;
 mod exprs;
+#[cfg(test)]
+mod tests;
 mod weight;
 
 pub use weight::weight_within;

@@ -1,7 +1,7 @@
 use Rattle.std.proofs.Common.{Some, None, refl, subst}
 use Rattle.mp_order.specs.declared.evaluation.Evaluation.{Evaluation}
 use Rattle.mp_order.specs.Evaluation.{IsEvaluation}
-use Rattle.mp_checker.proofs.Keeping.{keeps_more, refuses_first}
+use Rattle.mp_checker.proofs.Keeping.{keeps_more, refuses_first, driven_named}
 use Rattle.mp_checker.proofs.Ruled.{rule_33}
 use Rattle.mp_checker.proofs.groups.judge_order.Goals as goal
 
@@ -16,4 +16,4 @@ returns-in-Closed-clause-err c =
     (rule_33 c.args.program.now (Some c.in-Closed.at) (subst (IsEvaluation c.args.program.now) c.in-Closed.is c.in_ok-order.ensures))
 
 pub evaluation_order-requires : goal.evaluation_order-requires
-evaluation_order-requires c = ?
+evaluation_order-requires c = record { meant = c.requires.meant; own = λ d x (at, driven). c.requires.own d x at (driven_named x.what driven) }

@@ -1,7 +1,6 @@
-use Rattle.std.proofs.Common.{subst, sym}
-use Rattle.mp_base.specs.declared.refusal.Family.TheVariants.{E}
-use Rattle.mp_base.specs.declared.refusal.Refusal.{Refusal}
-use Rattle.mp_rules.specs.Breaking.{Breaks, IsEarliest, RefusesFirst}
+use Rattle.std.proofs.Common.{subst, Option}
+use Rattle.mp_base.specs.declared.refusal.Place.{Place}
+use Rattle.mp_rules.specs.Breaking.{Breaks, IsEarliest}
 use Rattle.mp_checker.proofs.Keeping.{keeps_more, refuses_first}
 use Rattle.mp_checker.proofs.judge.judge.Goals as goal
 
@@ -10,4 +9,4 @@ returns-in-None-clause-ok c = keeps_more c.args.program.now c.args.number c.args
 
 pub returns-in-Some-clause-err : goal.returns-in-Some-clause-err
 returns-in-Some-clause-err c = refuses_first c.args.program.now c.args.number c.in-Some.at c.refusal.result c.refusal.ensures c.requires.below
-    (let P = λ o. IsEarliest (Breaks c.args.program.now c.args.number) o in subst P c.in-Some.is c.requires.earliest)
+    (let P : Option Place → Type 0 = λ o. IsEarliest (Breaks c.args.program.now c.args.number) o in subst P c.in-Some.is c.requires.earliest)

@@ -2,8 +2,8 @@ use Rattle.std.proofs.Common.{◌≡◌, take}
 use Rattle.std.specs.Prelude.{map}
 use Rattle.mp_program.specs.Names.{is_input, is_output}
 use Rattle.mp_program.specs.Pads.{face}
-use Rattle.mp_checker.proofs.Padding.{faces}
-use Rattle.mp_checker.proofs.checked.pads_of.Given as goal
+use Rattle.mp_checker.proofs.Padded.{faces}
+use Rattle.mp_checker.proofs.pads.pads_of.Given as goal
 
 abbrev pub invariant-loop-def : goal.invariant-loop-def
 invariant-loop-def l = record {
