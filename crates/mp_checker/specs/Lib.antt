@@ -1,2 +1,4 @@
 pub mod Signals
 pub mod Checking
+pub mod Finding
+pub mod Kept

@@ -1,20 +1,29 @@
 //! Programs that keep the rules, with their pads and an order of evaluation.
 
-ghost use Rattle.std.specs.Prelude.{◌≡◌, ◌≤◌, IfOk, IfErr, MatchOption};
+ghost use Rattle.std.specs.Prelude.{◌≡◌, IfOk, IfErr, MatchOption};
 ghost use Rattle.std.specs.List.{list_any};
 ghost use Rattle.mp_program.specs.declared.program.Def.{Def};
-ghost use Rattle.mp_program.specs.Names.{is_driven, is_stored};
-ghost use Rattle.mp_program.specs.Pads.{ArePadsOf, face, pad_width};
+ghost use Rattle.mp_program.specs.Names.{is_stored};
+ghost use Rattle.mp_program.specs.Pads.{ArePadsOf};
 ghost use Rattle.mp_program.specs.Reads.{IsOrder};
 ghost use Rattle.mp_program.specs.Trace.{stores};
 ghost use Rattle.mp_program.specs.Weight.{weight};
 ghost use Rattle.mp_rules.specs.Breaking.{IsUnbroken, RefusesFirst};
+ghost use Rattle.mp_checker.specs.Checking.{AreFindings};
 ghost use Rattle.mp_checker.specs.Signals.{IsSignalProgram};
 
-use crate::signals::{is_input, is_output, is_signal_program};
-use mp_base::{List, Name, NoMemory, Pad, Pads, Refusal};
-use mp_program::{Def, Program, Way, What};
-use std::alloc::{AllocError, Global};
+use crate::groups::{
+    judge_counts, judge_forms, judge_names, judge_numbers, judge_order, judge_presence,
+    judge_weight,
+};
+use crate::kinds::is_stored;
+use crate::pads::pads_of;
+use crate::signals::is_signal_program;
+use mp_base::{List, NoMemory, Pads, Refusal};
+use mp_names::{NameTable, meanings_of};
+use mp_program::{Def, Program};
+use mp_rules::laws::own_names;
+use std::alloc::Global;
 use std::marker::Model;
 
 /// A program that breaks no rule, with its pads, an order of evaluation and its weight.
@@ -27,18 +36,13 @@ pub struct Checked {
 }
 
 impl Model for Checked {
-    ghost use Rattle.std.specs.Prelude.{◌≡◌};
-    ghost use Rattle.mp_program.specs.Pads.{ArePadsOf};
-    ghost use Rattle.mp_program.specs.Reads.{IsOrder};
-    ghost use Rattle.mp_program.specs.Weight.{weight};
-    ghost use Rattle.mp_rules.specs.Breaking.{IsUnbroken};
-    ghost use Rattle.mp_checker.specs.Checking.{CheckedProgram};
+    ghost use Rattle.mp_checker.specs.Checking.{AreFindings, CheckedProgram};
 
     ghost Value = { CheckedProgram };
 
     ghost view = { λ s. record { program = s.program; pads = s.pads; order = s.order } };
 
-    ghost invariant = { λ s. ArePadsOf s.program s.pads × IsOrder s.program s.order × (s.total_weight ≡ weight s.program) × IsUnbroken s.program };
+    ghost invariant = { λ s. AreFindings s.program s.pads s.order s.total_weight };
 }
 
 impl Checked {
@@ -86,15 +90,6 @@ impl Checked {
     }
 }
 
-fn is_stored(what: What) -> bool
-    ensures { result ≡ is_stored what }
-{
-    match what {
-        What::Register | What::Flag => true,
-        _ => false,
-    }
-}
-
 fn any_stored(defs: &[Def]) -> bool
     ensures { result ≡ list_any (λ (x : Def). is_stored x.what) defs.now }
 {
@@ -107,60 +102,52 @@ fn stores(program: &Program) -> bool
     any_stored(program.defs.as_slice()) || program.processes.len() > 0
 }
 
-fn is_driven(what: What) -> bool
-    ensures { result ≡ is_driven what }
-{
-    match what {
-        What::Port(Way::Output) | What::Port(Way::Internal) => true,
-        What::Signal(Way::Output) | What::Signal(Way::Internal) => true,
-        _ => false,
-    }
+/// What is found of a program that breaks no rule.
+struct Findings {
+    pads: Pads,
+    order: List<u32>,
+    weight: u32,
 }
 
-fn pad_width(width: u8, what: What) -> u8
-    ensures { result ≡ pad_width width what }
+fn findings_of(alloc: Global, program: &Program) -> Result<Findings, Refusal>
+    ensures ok { IfOk result (λ found. AreFindings program.now found.pads found.order found.weight) }
+    ensures err { IfErr result (RefusesFirst program.now) }
 {
-    match what {
-        What::Port(_) => width,
-        _ => 0,
-    }
-}
-
-fn pad_of(alloc: Global, width: u8, def: &Def) -> Result<Pad, AllocError>
-    requires { width ≤ 64 }
-    ensures { IfOk result (λ pad. face pad ≡ (def.now.name, pad_width width def.now.what)) }
-{
-    Ok(Pad {
-        name: Name::from_slice(alloc, def.name.bytes())?,
-        width: pad_width(width, def.what),
+    let names = NameTable::of(alloc, program)?;
+    judge_names(program, &names)?;
+    judge_numbers(alloc, program)?;
+    judge_forms(alloc, program, &names)?;
+    own_names(program);
+    let meanings = meanings_of(alloc, program, &names)?;
+    let order = judge_order(alloc, program, &meanings)?;
+    judge_presence(program)?;
+    judge_counts(alloc, program)?;
+    let weight = judge_weight(alloc, program, &meanings)?;
+    let pads = pads_of(alloc, program)?;
+    Ok(Findings {
+        pads,
+        order,
+        weight,
     })
 }
 
-fn pads_of(alloc: Global, program: &Program) -> Result<Pads, AllocError>
-    requires { IsSignalProgram program.now }
-    ensures { IfOk result (ArePadsOf program.now) }
-{
-    let mut inputs = List::new(alloc);
-    let mut outputs = List::new(alloc);
-    let defs = program.defs.as_slice();
-    for def in defs {
-        if is_input(def.what) {
-            inputs.push(pad_of(alloc, program.width, def)?)?;
-        }
-        if is_output(def.what) {
-            outputs.push(pad_of(alloc, program.width, def)?)?;
-        }
-    }
-    Ok(Pads { inputs, outputs })
-}
-
 /// Checks a program against rules E20 to E45. The error is the first rule that it breaks, by number, at the earliest
-/// place by offset.
+/// place by offset, or want of memory.
 pub fn check(alloc: Global, program: Program) -> Result<Checked, Refusal>
     ensures ok { IfOk result (λ checked. (checked.program ≡ program) × IsUnbroken program) }
     ensures err { IfErr result (RefusesFirst program) }
 {
-    Err(Refusal::NoMemory)
+    let Findings {
+        pads,
+        order,
+        weight,
+    } = findings_of(alloc, &program)?;
+    Ok(Checked {
+        program,
+        pads,
+        order,
+        total_weight: weight,
+    })
 }
 
 /// Checks a program of signals, and gives `None` for any other program.

@@ -6,38 +6,12 @@ ghost use Rattle.mp_program.specs.declared.program.Def.{Def};
 ghost use Rattle.mp_program.specs.declared.program.Pin.{Pin};
 ghost use Rattle.mp_program.specs.declared.program.Form.{Form};
 ghost use Rattle.mp_program.specs.declared.program.Expr.{Expr};
-ghost use Rattle.mp_program.specs.Names.{is_input, is_output, is_supply, is_same};
+ghost use Rattle.mp_program.specs.Names.{is_input, is_output, is_same};
 ghost use Rattle.mp_checker.specs.Signals.{is_reserved, is_signal, is_same_supply, has_one, are_supplied, share_pin, clash, is_plain, AreSignalDefs, sets_output, is_gate, IsSignalProgram};
 
+use crate::kinds::{is_input, is_output, is_supply};
 use mp_base::Op;
 use mp_program::{Def, Expr, ExprKind, Form, FormKind, Pin, Program, Way, What};
-
-pub fn is_input(what: What) -> bool
-    ensures { result ≡ is_input what }
-{
-    match what {
-        What::Port(Way::Input) | What::Signal(Way::Input) => true,
-        _ => false,
-    }
-}
-
-pub fn is_output(what: What) -> bool
-    ensures { result ≡ is_output what }
-{
-    match what {
-        What::Port(Way::Output) | What::Signal(Way::Output) => true,
-        _ => false,
-    }
-}
-
-fn is_supply(what: What) -> bool
-    ensures { result ≡ is_supply what }
-{
-    match what {
-        What::Power | What::Ground | What::Phia | What::Phib | What::Phic => true,
-        _ => false,
-    }
-}
 
 fn is_signal(what: What) -> bool
     ensures { result ≡ is_signal what }

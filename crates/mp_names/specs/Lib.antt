@@ -1,1 +1,10 @@
 pub mod Meaning
+pub mod Seconds
+pub mod Named
+pub mod Keys
+pub mod Table
+pub mod Finding
+pub mod Misuse
+pub mod Repeats
+pub mod Sorting
+pub mod Meant

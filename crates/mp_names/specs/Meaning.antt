@@ -1,5 +1,5 @@
 -- What the names in a program mean.
-use Rattle.std.specs.Prelude.{◌≡◌, ℕ, List, length, slice_index}
+use Rattle.std.specs.Prelude.{◌≡◌, ℕ, ◌<◌, List, length, slice_index}
 use Rattle.mp_base.specs.declared.refusal.Place.{Place}
 use Rattle.mp_program.specs.declared.program.ExprKind.TheVariants.{Named}
 use Rattle.mp_program.specs.declared.program.FormKind.TheVariants.{Set}
@@ -17,3 +17,9 @@ pub record AreMeanings (p : Program) (m : Meanings) : Type 0 where
   pub exprs : (e : ℕ) (x : Expr) (name : List ℕ) → IsAt p.exprs e x → x.kind ≡ Named name → slice_index m.exprs e ≡ index_of p.defs name
   pub targets : (f : ℕ) (y : Form) (name : List ℕ) (at : Place) (v : ℕ) → IsAt p.forms f y → y.kind ≡ Set name at v
       → slice_index m.targets f ≡ index_of p.defs name
+
+-- what is named by an expression or a `setq` is a definition
+pub record NamesDefinitions (p : Program) (m : Meanings) : Type 0 where
+  pub exprs : (e : ℕ) (x : Expr) (name : List ℕ) → IsAt p.exprs e x → x.kind ≡ Named name → slice_index m.exprs e < length p.defs
+  pub targets : (f : ℕ) (y : Form) (name : List ℕ) (at : Place) (v : ℕ) → IsAt p.forms f y → y.kind ≡ Set name at v
+      → slice_index m.targets f < length p.defs

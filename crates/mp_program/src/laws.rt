@@ -12,7 +12,7 @@ ghost use Rattle.mp_program.specs.State.{State, IsState, zero_state};
 ghost use Rattle.mp_program.specs.Environment.{IsEnvironment, driven_value};
 ghost use Rattle.mp_program.specs.Step.{next_state};
 ghost use Rattle.mp_program.specs.Trace.{IsTrace, IsTraceFrom};
-ghost use Rattle.mp_program.specs.Reads.{Reads, IsOrder, sets, kind_sets};
+ghost use Rattle.mp_program.specs.Reads.{Reads, IsOrder, mentions, kind_mentions, sets, kind_sets, form_reads, kind_reads};
 
 use crate::program::Program;
 
@@ -37,6 +37,19 @@ pub fn effects(program: &Program)
 pub fn sets(program: &Program)
     ensures { (name : List ℕ) (f : ℕ) (x : Form) → f < length program.now.forms → x ≡ slice_index_or program.now.forms f x
         → sets program.now name f ≡ kind_sets name x.kind (sets program.now name) }
+{}
+
+/// An expression mentions a name as its kind does, by what its arguments mention.
+pub fn mentions(program: &Program)
+    ensures { (name : List ℕ) (e : ℕ) (x : Expr) → e < length program.now.exprs → x ≡ slice_index_or program.now.exprs e x
+        → mentions program.now name e ≡ kind_mentions name x.kind (mentions program.now name) }
+{}
+
+/// A form reads for a name as its kind does, by what the forms in it read.
+pub fn reads(program: &Program)
+    ensures { (name other : List ℕ) (f : ℕ) (x : Form) → f < length program.now.forms → x ≡ slice_index_or program.now.forms f x
+        → form_reads program.now name other f
+        ≡ kind_reads (mentions program.now other) (sets program.now name) name x.kind (form_reads program.now name other) }
 {}
 
 /// A form that sets a name nowhere writes nothing to it.

@@ -1,0 +1,9 @@
+mod Entries
+mod Earliest
+mod Misuses
+mod Naming
+mod Rules
+mod Supplies
+mod Noting
+mod Sorting
+mod Definitions

@@ -1,0 +1,13 @@
+pub mod Tables
+pub mod Names
+pub mod Branches
+pub mod Marks
+pub mod Asking
+pub mod Mentions
+pub mod Reading
+pub mod Demanding
+pub mod Reaching
+pub mod Settings
+pub mod Closing
+pub mod Ordering
+pub mod Judging

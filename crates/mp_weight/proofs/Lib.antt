@@ -1,0 +1,4 @@
+pub mod Capping
+pub mod Counting
+pub mod Terms
+pub mod Calling
