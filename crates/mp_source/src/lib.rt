@@ -3,5 +3,7 @@
 
 mod judge;
 pub mod laws;
+#[cfg(test)]
+mod tests;
 
 pub use judge::check_source;

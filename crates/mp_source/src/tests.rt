@@ -1,0 +1,80 @@
+//! Broken sources, one for each rule.
+
+use crate::check_source;
+use mp_base::{Broken, Place, Refusal, Rule, Spot};
+use std::alloc::Global;
+use std::test::Fail;
+
+/// Rules, the offsets where they are broken first, and sources of one line.
+const BROKEN: [(u16, u64, &str); 37] = [
+    (20, 98, "(program x 1 (def 1 power)(def 2 ground)(def 3 phia)(def 4 phib)(def 5 phic)(def a signal input 6)(def a flag))"),
+    (20, 76, "(program x 1 (def 1 power)(def 2 ground)(def 3 phia)(def 4 phib)(def 5 phic)(def t flag))"),
+    (20, 76, "(program x 1 (def 1 power)(def 2 ground)(def 3 phia)(def 4 phib)(def 5 phic)(def 6 power))"),
+    (20, 88, "(program x 1 (def 1 power)(def 2 ground)(def 3 phia)(def 4 phib)(def 5 phic)(def p flag)(process p 0))"),
+    (20, 89, "(program x 1 (def 1 power)(def 2 ground)(def 3 phia)(def 4 phib)(def 5 phic)(process p 0)(def p flag))"),
+    (20, 107, "(program x 1 (def 1 power)(def 2 ground)(def 3 phia)(def 4 phib)(def 5 phic)(always (setq y z))(def y flag)(def y flag))"),
+    (21, 115, "(program x 1 (def 1 power)(def 2 ground)(def 3 phia)(def 4 phib)(def 5 phic)(def y signal output 6)(always (setq y z)))"),
+    (21, 90, "(program x 1 (def 1 power)(def 2 ground)(def 3 phia)(def 4 phib)(def 5 phic)(always (setq z t)))"),
+    (22, 115, "(program x 4 (def 1 power)(def 2 ground)(def 3 phia)(def 4 phib)(def 5 phic)(def y signal output 6)(always (setq y 3)))"),
+    (22, 112, "(program x 4 (def 1 power)(def 2 ground)(def 3 phia)(def 4 phib)(def 5 phic)(def q port internal)(always (cond (q (setq q 1)))))"),
+    (22, 118, "(program x 4 (def 1 power)(def 2 ground)(def 3 phia)(def 4 phib)(def 5 phic)(def q port internal)(always (setq q (+ q t))))"),
+    (22, 115, "(program x 1 (def 1 power)(def 2 ground)(def 3 phia)(def 4 phib)(def 5 phic)(def y signal output 6)(always (setq y p))(process p 0 (setq y t)))"),
+    (23, 76, "(program x 4 (def 1 power)(def 2 ground)(def 3 phia)(def 4 phib)(def 5 phic)(def k constant 16))"),
+    (23, 113, "(program x 4 (def 1 power)(def 2 ground)(def 3 phia)(def 4 phib)(def 5 phic)(def q port internal)(always (setq q 16)))"),
+    (24, 136, "(program x 4 (def 1 power)(def 2 ground)(def 3 phia)(def 4 phib)(def 5 phic)(def r port internal)(def y signal output 6)(always (setq y (bit 4 r))))"),
+    (25, 96, "(program x 1 (def 1 power)(def 2 ground)(def 3 phia)(def 4 phib)(def 5 phic)(def a signal input 5))"),
+    (26, 96, "(program x 4 (def 1 power)(def 2 ground)(def 3 phia)(def 4 phib)(def 5 phic)(def q port output (6 7 8)))"),
+    (27, 112, "(program x 1 (def 1 power)(def 2 ground)(def 3 phia)(def 4 phib)(def 5 phic)(def a signal input 6)(always (setq a t)))"),
+    (28, 115, "(program x 1 (def 1 power)(def 2 ground)(def 3 phia)(def 4 phib)(def 5 phic)(def reset signal input 6)(process p 0 (go away)))"),
+    (29, 124, "(program x 1 (def 1 power)(def 2 ground)(def 3 phia)(def 4 phib)(def 5 phic)(def reset signal input 6)(process p 0 l (go l) l (go l)))"),
+    (30, 84, "(program x 1 (def 1 power)(def 2 ground)(def 3 phia)(def 4 phib)(def 5 phic)(always (return)))"),
+    (31, 117, "(program x 1 (def 1 power)(def 2 ground)(def 3 phia)(def 4 phib)(def 5 phic)(def reset signal input 6)(process p 0 l (call l)))"),
+    (32, 129, "(program x 1 (def 1 power)(def 2 ground)(def 3 phia)(def 4 phib)(def 5 phic)(def reset signal input 6)(process p 0 l (par (go l) (go l))))"),
+    (33, 130, "(program x 1 (def 1 power)(def 2 ground)(def 3 phia)(def 4 phib)(def 5 phic)(def a signal internal)(def b signal internal)(always (setq a b)(setq b a)))"),
+    (33, 116, "(program x 1 (def 1 power)(def 2 ground)(def 3 phia)(def 4 phib)(def 5 phic)(def a signal internal)(always (cond (a (setq a t)))))"),
+    (33, 154, "(program x 1 (def 1 power)(def 2 ground)(def 3 phia)(def 4 phib)(def 5 phic)(def a signal internal)(def b signal internal)(always (cond (a (setq b t)) (t (setq a t)))))"),
+    (34, 76, "(program x 1 (def 1 power)(def 2 ground)(def 3 phia)(def 4 phib)(def 5 phic)(def f flag))"),
+    (34, 13, "(program x 1 (def f flag))"),
+    (35, 0, "(program x 1)"),
+    (36, 102, "(program x 1 (def 1 power)(def 2 ground)(def 3 phia)(def 4 phib)(def 5 phic)(def reset signal input 6)(process p 0))"),
+    (41, 498, "(program x 1 (def 1 power)(def 2 ground)(def 3 phia)(def 4 phib)(def 5 phic)(def reset signal input 6)(def f flag)(process a 0 (setq f t))(process b 0 (setq f t))(process c 0 (setq f t))(process d 0 (setq f t))(process e 0 (setq f t))(process g 0 (setq f t))(process h 0 (setq f t))(process i 0 (setq f t))(process j 0 (setq f t))(process k 0 (setq f t))(process l 0 (setq f t))(process m 0 (setq f t))(process n 0 (setq f t))(process o 0 (setq f t))(process p 0 (setq f t))(process q 0 (setq f t))(process r 0 (setq f t)))"),
+    (43, 113, "(program x 1 (def 1 power)(def 2 ground)(def 3 phia)(def 4 phib)(def 5 phic)(def reset signal input 6)(process p 9 l (go l)))"),
+    (11, 11, "(program x 33 (def t flag))"),
+    (10, 14, "(program x 33 3)"),
+    (1, 16, "(program x 33 3 #)"),
+    (2, 0, "(program x"),
+    (3, 0, ")(program x 33 3)"),
+];
+
+/// The number of the broken rule, and its place.
+fn refused(alloc: Global, text: &[u8]) -> Option<(u16, Place)> {
+    if text.len() > 10000 {
+        return None;
+    }
+    match check_source(alloc, text) {
+        Err(
+            Refusal::Broken(
+                Broken {
+                    rule: Rule { number, .. },
+                    spot: Spot::At(place),
+                },
+            ),
+        ) => Some((number, place)),
+        _ => None,
+    }
+}
+
+#[test]
+fn each_rule(rt: HostRuntime) -> Result<(), Fail> {
+    let alloc = rt.alloc();
+    for (number, offset, source) in BROKEN {
+        let column = offset as u32 + 1;
+        let place = Place {
+            offset,
+            line: 1,
+            column,
+        };
+        assert_eq!(rt; refused(alloc, source.as_bytes()), Some((number, place)));
+    }
+    Ok(())
+}
