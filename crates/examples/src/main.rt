@@ -6,12 +6,17 @@ use silicon::run;
 use std::alloc::{AllocError, Global};
 use std::{fs, io};
 
-const EXAMPLES: [&str; 6] = [
+const EXAMPLES: [&str; 11] = [
     "inverter",
     "half_adder",
     "multiplexer",
     "decoder",
     "voter",
+    "counter",
+    "gcd",
+    "swap",
+    "subroutines",
+    "traffic",
     "broken",
 ];
 

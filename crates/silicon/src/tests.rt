@@ -21,6 +21,8 @@ const STRAY: &str = "error E1 at 15 line 1 column 16\n";
 
 const HIGH: &str = "error S3 at 6 line 1 column 7\n";
 
+const WIDE: &str = "error E11 at 11 line 1 column 12\n";
+
 const UNBUILT: &str = "error E99 at 0 line 1 column 1\n";
 
 fn listed(alloc: Global, call: u64) -> Result<List<u64>, AllocError> {
@@ -67,11 +69,11 @@ fn words_and_files(rt: HostRuntime) -> Result<(), Fail> {
         ("trace bad t t", 9, Status::Usage, USAGE),
         ("trace -bad t", 9, Status::Usage, USAGE),
         ("trace absent bad", 9, Status::ReadFault, ""),
-        ("trace bad absent", 9, Status::Refused, UNBUILT),
+        ("trace bad absent", 9, Status::Refused, WIDE),
         ("trace bad absent", 0, Status::WriteFault, ""),
         ("trace stray absent", 9, Status::Refused, STRAY),
         ("compile bad", 9, Status::Usage, USAGE),
-        ("compile bad c", 9, Status::Refused, UNBUILT),
+        ("compile bad c", 9, Status::Refused, WIDE),
         ("compile count c", 9, Status::Refused, UNBUILT),
         ("compile absent c", 9, Status::ReadFault, ""),
         ("trace inv absent", 9, Status::ReadFault, ""),
