@@ -1,7 +1,3 @@
-pub mod Quiet
-pub mod Padding
-mod Examples
-pub mod Fitting
 pub mod Scans
 pub mod Wide
 pub mod Present

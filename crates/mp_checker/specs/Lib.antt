@@ -1,4 +1,3 @@
-pub mod Signals
 pub mod Checking
 pub mod Finding
 pub mod Kept

@@ -1,6 +1,6 @@
 //! Programs that keep the rules, with their pads and an order of evaluation.
 
-ghost use Rattle.std.specs.Prelude.{◌≡◌, IfOk, IfErr, MatchOption};
+ghost use Rattle.std.specs.Prelude.{◌≡◌, IfOk, IfErr};
 ghost use Rattle.std.specs.List.{list_any};
 ghost use Rattle.mp_program.specs.declared.program.Def.{Def};
 ghost use Rattle.mp_program.specs.Names.{is_stored};
@@ -10,7 +10,6 @@ ghost use Rattle.mp_program.specs.Trace.{stores};
 ghost use Rattle.mp_program.specs.Weight.{weight};
 ghost use Rattle.mp_rules.specs.Breaking.{IsUnbroken, RefusesFirst};
 ghost use Rattle.mp_checker.specs.Checking.{AreFindings};
-ghost use Rattle.mp_checker.specs.Signals.{IsSignalProgram};
 
 use crate::groups::{
     judge_counts, judge_forms, judge_names, judge_numbers, judge_order, judge_presence,
@@ -18,8 +17,7 @@ use crate::groups::{
 };
 use crate::kinds::is_stored;
 use crate::pads::pads_of;
-use crate::signals::is_signal_program;
-use mp_base::{List, NoMemory, Pads, Refusal};
+use mp_base::{List, Pads, Refusal};
 use mp_names::{NameTable, meanings_of};
 use mp_program::{Def, Program};
 use mp_rules::laws::own_names;
@@ -148,17 +146,4 @@ pub fn check(alloc: Global, program: Program) -> Result<Checked, Refusal>
         order,
         total_weight: weight,
     })
-}
-
-/// Checks a program of signals, and gives `None` for any other program.
-pub fn check_signals(alloc: Global, program: Program) -> Result<Option<Checked>, NoMemory>
-    ensures { IfOk result (λ found. MatchOption found (IsSignalProgram program → ⊥) (λ c. IsSignalProgram program × (c.program ≡ program))) }
-{
-    if !is_signal_program(&program) {
-        return Ok(None);
-    }
-    match check(alloc, program) {
-        Ok(checked) => Ok(Some(checked)),
-        Err(_) => Err(NoMemory),
-    }
 }
