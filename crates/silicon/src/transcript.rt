@@ -14,7 +14,9 @@ ghost use Rattle.silicon.specs.Transcript.{HasRoom, PrintsTrace, inputs_at, valu
 
 use mp_base::{Failed, Inputs, List, NoMemory, Outputs, Pad, Pads, Sink, TritOutputs, TritWord};
 use mp_checker::Checked;
-use mp_fitting::{environments_fit, next_states_fit, outputs_fit, zero_is_a_state, zero_state_fits};
+use mp_fitting::{
+    environments_fit, next_states_fit, outputs_fit, zero_is_a_state, zero_state_fits,
+};
 use mp_program::laws;
 use mp_rules::laws::few_namings;
 use source_run::Machine;

@@ -17,7 +17,12 @@ returns-then-is_inverter-clause-judged c = (c.in-Ok.checked.program, returns-the
 pub returns-else-is_inverter-clause-judged : goal.returns-else-is_inverter-clause-judged
 returns-else-is_inverter-clause-judged c =
     let source : IsSource c.args.text.now c.in-Ok.checked.program = c.in-Ok.ensures.source in
-    inr (c.in-Ok.checked.program, source, (λ is.
-    let yes = c.is_inverter.ensures.1 (subst IsInverter (sym c.program.ensures) is) in
-    let no = c.if-is_inverter.false in
-    cc), c.unbuilt.ensures)
+    inr (
+      c.in-Ok.checked.program,
+      source,
+      (λ is.
+          let yes = c.is_inverter.ensures.1 (subst IsInverter (sym c.program.ensures) is) in
+          let no = c.if-is_inverter.false in
+          cc),
+      c.unbuilt.ensures,
+    )
