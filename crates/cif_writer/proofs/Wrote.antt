@@ -1,5 +1,5 @@
 -- One text written behind another.
-use Rattle.std.proofs.Common.{◌≡◌, ℕ, zero, suc, ◌+◌, ◌<◌, List, [], ◌∷◌, ◌++◌, sym, ◌∙◌, ap, subst, length, take, drop, get_or, drop-cons, arith, refl, Option, Some, None, Result, Ok, Err, append_assoc}
+use Rattle.std.proofs.Common.{◌≡◌, ℕ, suc, ◌+◌, ◌<◌, List, [], ◌∷◌, ◌++◌, sym, ◌∙◌, ap, subst, length, take, drop, get_or, drop-cons, arith, refl, Option, Some, None, Result, Ok, Err, append_assoc}
 use Rattle.std.proofs.lemmas.List.{length-append, take_all, take-append-le, append-nil}
 use Rattle.std.proofs.Math.Seq.{take-append-add}
 use Rattle.std.specs.Prelude.{OnOk, OnErr}

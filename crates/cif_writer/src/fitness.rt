@@ -1,6 +1,6 @@
 //! The commands that have a text.
 
-ghost use Rattle.std.specs.Prelude.{◌≡◌, ◌≢◌, ◌<◌, ◌≤◌, ◌⊎◌, ◌↔◌, pos, ◌≤ℤ◌, All, IsTrue, length};
+ghost use Rattle.std.specs.Prelude.{◌≡◌, ◌≢◌, ◌<◌, ◌≤◌, ◌⊎◌, ◌↔◌, pos, ◌≤ℤ◌, [], ◌∷◌, ◌++◌, All, IsTrue, length};
 ghost use Rattle.std.specs.List.{flat_map};
 ghost use Rattle.cif_form.specs.Text.{IsDigit, IsUpper, IsShortName, IsBalanced};
 ghost use Rattle.cif_form.specs.Fits.{IsSmall, point_numbers, turn_numbers, Fits};
@@ -23,10 +23,22 @@ fn is_unsigned(number: i64) -> bool
     0 <= number && number < LIMIT
 }
 
+fn are_unsigned(first: i64, second: i64) -> bool
+    ensures { IsTrue result ↔ All (λ z. (pos 0 ≤ℤ z) × IsSmall z) (first ∷ second ∷ []) }
+{
+    is_unsigned(first) && is_unsigned(second)
+}
+
 fn is_near(point: Point) -> bool
     ensures { IsTrue result ↔ All IsSmall (point_numbers point) }
 {
     is_small(point.x) && is_small(point.y)
+}
+
+fn are_both_near(first: Point, second: Point) -> bool
+    ensures { IsTrue result ↔ All IsSmall (point_numbers first ++ point_numbers second) }
+{
+    is_near(first) && is_near(second)
 }
 
 fn are_near(points: &[Point]) -> bool
@@ -112,15 +124,11 @@ pub fn fits(command: &Command) -> bool
             width,
             center,
             direction,
-        } => {
-            is_unsigned(*length) && is_unsigned(*width) && is_near(*center) && is_near(*direction)
-        }
+        } => are_unsigned(*length, *width) && are_both_near(*center, *direction),
         Command::Round { diameter, center } => is_unsigned(*diameter) && is_near(*center),
         Command::Wire { width, path } => is_unsigned(*width) && is_path(path.as_slice()),
         Command::Layer(name) => is_short_name(name.bytes()),
-        Command::Start { number, a, b } => {
-            is_unsigned(*number) && is_unsigned(*a) && is_unsigned(*b)
-        }
+        Command::Start { number, a, b } => is_unsigned(*number) && are_unsigned(*a, *b),
         Command::Finish => true,
         Command::Delete(number) => is_unsigned(*number),
         Command::Call { number, turns } => is_unsigned(*number) && are_turns(turns.as_slice()),

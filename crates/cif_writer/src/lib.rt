@@ -2,6 +2,8 @@
 #![tactic(auto)]
 
 mod fitness;
+#[cfg(test)]
+mod tests;
 mod text;
 mod write;
 

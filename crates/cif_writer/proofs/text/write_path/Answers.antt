@@ -1,4 +1,4 @@
-use Rattle.std.proofs.Common.{refl, sym, ◌∙◌, ap, ◌+◌, ◌≡◌, ◌++◌, drop, List, ℕ, get_or, append_assoc}
+use Rattle.std.proofs.Common.{sym, ◌∙◌, ◌+◌, ◌++◌, drop, List, ℕ, append_assoc}
 use Rattle.std.specs.Prelude.{pos}
 use Rattle.std.proofs.lemmas.Result.{err_from_is_err_and}
 use Rattle.lam_geom.specs.declared.place.Point.{Point}

@@ -1,7 +1,6 @@
-use Rattle.std.proofs.Common.{refl, sym, ◌∙◌, ap, ◌+◌, ◌≡◌, ◌++◌, drop, List, ℕ, get_or, append_assoc}
+use Rattle.std.proofs.Common.{refl, ◌∙◌, ◌+◌, drop, List, ℕ}
 use Rattle.std.specs.Prelude.{pos}
 use Rattle.std.proofs.lemmas.Result.{err_from_is_err_and}
-use Rattle.lam_geom.specs.declared.place.Point.{Point}
 use Rattle.cif_form.specs.declared.command.Turn.{Turn}
 use Rattle.cif_form.specs.declared.command.Turn.TheVariants.{Move}
 use Rattle.cif_form.specs.Writing.{turn_text, turns_text}

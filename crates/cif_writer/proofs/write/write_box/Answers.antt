@@ -1,13 +1,10 @@
-use Rattle.std.proofs.Common.{◌≡◌, ℕ, List, [], ◌∷◌, ◌++◌, refl, sym, ◌∙◌, ap, subst, arith, true, false, w64, to_z, of_z, Result}
-use Rattle.std.specs.Prelude.{ℤ, pos}
+use Rattle.std.proofs.Common.{◌≡◌, ℕ, List, [], ◌∷◌, ◌++◌, sym, ◌∙◌, ap, subst, arith, true, false, w64, to_z, of_z}
 use Rattle.std.proofs.lemmas.Int.{ints}
 use Rattle.std.specs.List.{flat_map}
-use Rattle.lam_geom.specs.declared.place.Point.{Point}
 use Rattle.mp_base.specs.Outside.{Gains}
 use Rattle.mp_base.specs.Piece.{TakesAll}
 use Rattle.mp_base.specs.declared.outside.Failed.{Failed}
-use Rattle.cif_form.specs.Text.{right}
-use Rattle.cif_form.specs.Writing.{space, point_text, direction_text}
+use Rattle.cif_form.specs.Writing.{space, point_text}
 use Rattle.cif_writer.specs.Texts.{number_text}
 use Rattle.cif_writer.proofs.Numbers.{plain_box, directed_box, direction_is}
 use Rattle.cif_writer.proofs.write.write_box.Goals as goal
