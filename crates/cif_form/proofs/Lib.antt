@@ -3,6 +3,7 @@ pub mod Numbers
 pub mod Parts
 pub mod Commands
 pub mod Reading
+pub mod Small
 pub mod Scaled
 pub mod OneLabel
 pub mod OnePlace

@@ -1,3 +1,2 @@
 pub mod Wrote
 pub mod Numbers
-pub mod Small

@@ -1,6 +1,6 @@
-//! The text of each command, and commands without one.
+//! The text of each command.
 
-use crate::{fits, write_command, write_end};
+use crate::{write_command, write_end};
 use cif_form::{Command, Turn};
 use lam_geom::Point;
 use mp_base::{List, MemSink, Name};
@@ -18,7 +18,7 @@ fn path(alloc: Global, points: &[Point]) -> Result<List<Point>, AllocError> {
 // Whether this is what is written of a command.
 fn is_text(alloc: Global, command: Command, text: &[u8]) -> bool {
     let mut sink = MemSink::new(alloc, List::new(alloc));
-    fits(&command) && write_command(&command, &mut sink).is_ok() && sink.bytes() == text
+    command.fits() && write_command(&command, &mut sink).is_ok() && sink.bytes() == text
 }
 
 #[test]
@@ -94,30 +94,5 @@ fn boxes_and_calls_have_their_texts(rt: HostRuntime) -> Result<(), Fail> {
     assert!(rt; is_text(alloc, comment, b"(a (nested) one);\n"));
     let mut sink = MemSink::new(alloc, List::new(alloc));
     assert!(rt; write_end(&mut sink).is_ok() && sink.bytes() == b"E\n".as_slice());
-    Ok(())
-}
-
-#[test]
-fn some_commands_have_no_text(rt: HostRuntime) -> Result<(), Fail> {
-    let alloc = rt.alloc();
-    assert!(rt; !fits(&Command::Delete(1 << 31)));
-    assert!(rt; !fits(&Command::Delete(-1)));
-    assert!(rt; !fits(&Command::Polygon(List::new(alloc))));
-    assert!(rt; !fits(&Command::Layer(Name::from_slice(alloc, b"METAL")?)));
-    assert!(rt; !fits(&Command::Layer(Name::from_slice(alloc, b"nm")?)));
-    assert!(rt;
-        !fits(&Command::User {
-            digit: 10,
-            text: Name::from_slice(alloc, b"")?
-        })
-    );
-    assert!(rt;
-        !fits(&Command::User {
-            digit: 9,
-            text: Name::from_slice(alloc, b"a;b")?
-        })
-    );
-    assert!(rt; !fits(&Command::Comment(Name::from_slice(alloc, b"(")?)));
-    assert!(rt; !fits(&Command::Comment(Name::from_slice(alloc, b")(")?)));
     Ok(())
 }

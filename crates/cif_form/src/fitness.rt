@@ -5,7 +5,7 @@ ghost use Rattle.std.specs.List.{flat_map};
 ghost use Rattle.cif_form.specs.Text.{IsDigit, IsUpper, IsShortName, IsBalanced};
 ghost use Rattle.cif_form.specs.Fits.{IsSmall, point_numbers, turn_numbers, Fits};
 
-use cif_form::{Command, Turn};
+use crate::command::{Command, Turn};
 use lam_geom::Point;
 
 const LIMIT: i64 = 1 << 31;
@@ -111,28 +111,30 @@ fn is_balanced(text: &[u8]) -> bool
     depth == 0
 }
 
-/// Whether a command has a text: its numbers are at most 2^31 - 1 in size, those without a sign aren't negative, a path
-/// has a point, a layer's name has one to four digits or upper-case letters, a user command's digit is at most 9 and its
-/// text has no `;`, and the parentheses of a comment are balanced.
-pub fn fits(command: &Command) -> bool
-    ensures { IsTrue result ↔ Fits command.now }
-{
-    match command {
-        Command::Polygon(path) => is_path(path.as_slice()),
-        Command::Box {
-            length,
-            width,
-            center,
-            direction,
-        } => are_unsigned(*length, *width) && are_both_near(*center, *direction),
-        Command::Round { diameter, center } => is_unsigned(*diameter) && is_near(*center),
-        Command::Wire { width, path } => is_unsigned(*width) && is_path(path.as_slice()),
-        Command::Layer(name) => is_short_name(name.bytes()),
-        Command::Start { number, a, b } => is_unsigned(*number) && are_unsigned(*a, *b),
-        Command::Finish => true,
-        Command::Delete(number) => is_unsigned(*number),
-        Command::Call { number, turns } => is_unsigned(*number) && are_turns(turns.as_slice()),
-        Command::User { digit, text } => *digit <= 9 && is_user_text(text.bytes()),
-        Command::Comment(text) => is_balanced(text.bytes()),
+impl Command {
+    /// Whether the command has a text: its numbers are at most 2^31 - 1 in size, those without a sign aren't negative, a path
+    /// has a point, a layer's name has one to four digits or upper-case letters, a user command's digit is at most 9 and its
+    /// text has no `;`, and the parentheses of a comment are balanced.
+    pub fn fits(&self) -> bool
+        ensures { IsTrue result ↔ Fits self.now }
+    {
+        match self {
+            Command::Polygon(path) => is_path(path.as_slice()),
+            Command::Box {
+                length,
+                width,
+                center,
+                direction,
+            } => are_unsigned(*length, *width) && are_both_near(*center, *direction),
+            Command::Round { diameter, center } => is_unsigned(*diameter) && is_near(*center),
+            Command::Wire { width, path } => is_unsigned(*width) && is_path(path.as_slice()),
+            Command::Layer(name) => is_short_name(name.bytes()),
+            Command::Start { number, a, b } => is_unsigned(*number) && are_unsigned(*a, *b),
+            Command::Finish => true,
+            Command::Delete(number) => is_unsigned(*number),
+            Command::Call { number, turns } => is_unsigned(*number) && are_turns(turns.as_slice()),
+            Command::User { digit, text } => *digit <= 9 && is_user_text(text.bytes()),
+            Command::Comment(text) => is_balanced(text.bytes()),
+        }
     }
 }

@@ -3,7 +3,7 @@ use Rattle.std.specs.Prelude.{ℤ, pos, ◌≤ℤ◌}
 use Rattle.std.proofs.lemmas.Int.{ints}
 use Rattle.std.proofs.lemmas.List.Elements.{All-nil, All-cons, All-tail}
 use Rattle.cif_form.specs.Fits.{IsSmall, Fits}
-use Rattle.cif_writer.proofs.fitness.fits.Goals as goal
+use Rattle.cif_form.proofs.command.Command.fits.Goals as goal
 
 abbrev IsUnsigned : ℤ → Type 0
 IsUnsigned z = (pos 0 ≤ℤ z) × IsSmall z

@@ -2,8 +2,8 @@ use Rattle.std.proofs.Common.{refl, sym, subst, ◌≡◌, true, false, IsTrue}
 use Rattle.std.specs.Prelude.{pos}
 use Rattle.cif_form.specs.declared.command.Turn.TheVariants.{Move}
 use Rattle.cif_form.specs.Fits.{turn_numbers}
-use Rattle.cif_writer.proofs.Small.{small_on, small_at}
-use Rattle.cif_writer.proofs.fitness.are_turns.Goals as goal
+use Rattle.cif_form.proofs.Small.{small_on, small_at}
+use Rattle.cif_form.proofs.fitness.are_turns.Goals as goal
 
 pub returns-then-not-is_turn : goal.returns-then-not-is_turn
 returns-then-not-is_turn c = (

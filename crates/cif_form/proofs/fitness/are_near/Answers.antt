@@ -1,8 +1,8 @@
 use Rattle.std.proofs.Common.{refl, sym, subst, ◌≡◌, true, false, IsTrue}
 use Rattle.std.specs.Prelude.{pos}
 use Rattle.cif_form.specs.Fits.{point_numbers}
-use Rattle.cif_writer.proofs.Small.{small_on, small_at}
-use Rattle.cif_writer.proofs.fitness.are_near.Goals as goal
+use Rattle.cif_form.proofs.Small.{small_on, small_at}
+use Rattle.cif_form.proofs.fitness.are_near.Goals as goal
 
 pub returns-then-not-is_near : goal.returns-then-not-is_near
 returns-then-not-is_near c = (
