@@ -1,0 +1,11 @@
+//! Reading CIF.
+#![tactic(auto)]
+
+mod bytes;
+mod found;
+mod numbers;
+mod words;
+mod command;
+
+
+
