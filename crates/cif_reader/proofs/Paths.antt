@@ -11,11 +11,11 @@ use Rattle.cif_reader.specs.Finding.{IsFound}
 abbrev pub behind : {X : Type 0} → List X → Option (List X × List ℕ) → Option (List X × List ℕ)
 behind before r = goes_on (gives (λ xs. before ++ xs)) r
 
-behind_nothing : {X : Type 0} (r : Option (List X × List ℕ)) → r ≡ behind [] r
+pub behind_nothing : {X : Type 0} (r : Option (List X × List ℕ)) → r ≡ behind [] r
 behind_nothing None = refl
 behind_nothing (Some r) = refl
 
-behind_one : {X : Type 0} (before : List X) (x : X) (r : Option (List X × List ℕ)) → behind before (goes_on (gives (λ xs. x ∷ xs)) r) ≡ behind (before ++ x ∷ []) r
+pub behind_one : {X : Type 0} (before : List X) (x : X) (r : Option (List X × List ℕ)) → behind before (goes_on (gives (λ xs. x ∷ xs)) r) ≡ behind (before ++ x ∷ []) r
 behind_one before x None = refl
 behind_one before x (Some r) = ap (λ xs. Some (xs, r.1)) (sym (append_assoc before (x ∷ []) r.0))
 

@@ -1,11 +1,12 @@
 //! The names, texts and comments in commands.
 
-ghost use Rattle.std.specs.Prelude.{◌≡◌, ℕ, ◌≤◌, ◌<◌, ◌∷◌, length, drop, slice_range, Some, MatchOption};
+ghost use Rattle.std.specs.Prelude.{◌≡◌, ℕ, ◌+◌, ◌≤◌, ◌<◌, length, drop, slice_range, Some, MatchOption};
 ghost use Rattle.cif_form.specs.Readers.{is_name_byte, name_from, words_from, comment_from};
 
 use crate::bytes::{is_digit, is_upper};
 
 /// Where the name ends that begins here.
+#[tactic(auto, using(crate::proofs::Runs::name_begins, crate::proofs::Runs::name_goes_on, crate::proofs::Runs::name_stops, crate::proofs::Runs::name_ends))]
 pub(crate) fn name_end(bytes: &[u8], at: usize) -> usize
     requires { at ≤ length bytes.now }
     ensures name { name_from (drop at bytes.now) ≡ (slice_range bytes.now at result, drop result bytes.now) }
@@ -21,6 +22,7 @@ pub(crate) fn name_end(bytes: &[u8], at: usize) -> usize
 }
 
 /// Where the next semicolon stands, or the end.
+#[tactic(auto, using(crate::proofs::Runs::words_begin, crate::proofs::Runs::words_go_on, crate::proofs::Runs::words_stop, crate::proofs::Runs::words_end))]
 pub(crate) fn words_end(bytes: &[u8], at: usize) -> usize
     requires { at ≤ length bytes.now }
     ensures words { words_from (drop at bytes.now) ≡ (slice_range bytes.now at result, drop result bytes.now) }
@@ -36,6 +38,7 @@ pub(crate) fn words_end(bytes: &[u8], at: usize) -> usize
 }
 
 /// Where the parenthesis stands that closes the comment whose text begins here.
+#[tactic(auto, using(crate::proofs::Runs::comment_begins, crate::proofs::Runs::comment_opens, crate::proofs::Runs::comment_closes, crate::proofs::Runs::comment_goes_on, crate::proofs::Runs::comment_ends, crate::proofs::Runs::comment_lacks))]
 pub(crate) fn comment_end(bytes: &[u8], at: usize) -> Option<usize>
     requires { at ≤ length bytes.now }
     ensures { MatchOption result (comment_from 0 (drop at bytes.now) ≡ None)
