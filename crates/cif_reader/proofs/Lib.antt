@@ -1,3 +1,4 @@
 pub mod Stepping
 pub mod Paths
 pub mod Runs
+pub mod Sound
