@@ -2,3 +2,4 @@ pub mod Stepping
 pub mod Paths
 pub mod Runs
 pub mod Sound
+pub mod SoundParts
