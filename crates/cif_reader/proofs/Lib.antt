@@ -3,3 +3,4 @@ pub mod Paths
 pub mod Runs
 pub mod Sound
 pub mod SoundParts
+pub mod SoundCommands

@@ -62,7 +62,7 @@ apart b c h e = grind arith
 none_of : (d m o c s : Bool) → not (d || m || o || c || s) ≡ true → (d ≡ false) × (m ≡ false) × (o ≡ false) × (c ≡ false) × (s ≡ false)
 none_of d m o c s h = (grind arith, grind arith, grind arith, grind arith, grind arith)
 
-both_true : (a b : Bool) → (a && b) ≡ true → (a ≡ true) × (b ≡ true)
+pub both_true : (a b : Bool) → (a && b) ≡ true → (a ≡ true) × (b ≡ true)
 both_true true true e = (refl, refl)
 both_true true false e = absurd (let f : false ≡ true = e in cc)
 both_true false b e = absurd (let f : false ≡ true = e in cc)

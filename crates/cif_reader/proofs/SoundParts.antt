@@ -43,7 +43,7 @@ path_here_sound text = path_sound (length text) text
 
 -- ---- turns
 
-by_byte : (b c : ℕ) → eqb b c ≡ true → b ≡ c
+pub by_byte : (b c : ℕ) → eqb b c ≡ true → b ≡ c
 by_byte b c h = grind arith
 
 -- a byte, and what is found behind it
