@@ -4,3 +4,4 @@ pub mod Runs
 pub mod Sound
 pub mod SoundParts
 pub mod SoundCommands
+pub mod Cutting
