@@ -5,3 +5,4 @@ pub mod Sound
 pub mod SoundParts
 pub mod SoundCommands
 pub mod Cutting
+pub mod Readable
