@@ -6,3 +6,4 @@ pub mod SoundParts
 pub mod SoundCommands
 pub mod Cutting
 pub mod Readable
+pub mod Scanned

@@ -155,7 +155,7 @@ start_sound = sound_as (and_then integer_from start_of) (λ c front. (n : ℤ) �
 delete_sound : Sound (and_then integer_from (gives Delete)) (λ c front. Defines c (68 ∷ front))
 delete_sound = sound_as (and_then integer_from (gives Delete)) (λ c front. (n : ℤ) × (c ≡ Delete n) × Integer n front) (λ c front. Defines c (68 ∷ front))
     (λ c front (n, e, h) blanks b. subst (λ c. Spells c (68 ∷ (blanks ++ (68 ∷ front)))) (sym e)
-        (68 ∷ [], blanks ++ (68 ∷ front), refl, refl, (blanks, 68 ∷ front, refl, b, (68 ∷ [], front, refl, refl, h))))
+    (68 ∷ [], blanks ++ (68 ∷ front), refl, refl, (blanks, 68 ∷ front, refl, b, (68 ∷ [], front, refl, refl, h))))
     (sound_map integer_from Delete Integer integer_sound)
 
 -- a byte in front of what is found

@@ -2,10 +2,10 @@
 #![tactic(auto)]
 
 mod bytes;
+mod command;
 mod found;
 mod numbers;
+mod read;
 mod words;
-mod command;
 
-
-
+pub use read::read_cif;

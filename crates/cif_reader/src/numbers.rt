@@ -183,11 +183,7 @@ fn turn(bytes: &[u8], at: usize) -> Option<Found<Turn>>
 
 /// The turns of a call.
 #[tactic(auto, using(crate::proofs::Paths::turns_begin, crate::proofs::Paths::turns_go_on, crate::proofs::Paths::turns_end))]
-pub(crate) fn turns(
-    alloc: Global,
-    bytes: &[u8],
-    at: usize,
-) -> Result<Found<List<Turn>>, AllocError>
+pub(crate) fn turns(alloc: Global, bytes: &[u8], at: usize) -> Result<Found<List<Turn>>, AllocError>
     requires { at ≤ length bytes.now }
     ensures { IfOk result (λ r. IsFound cut_turns (turns_here (drop at bytes.now)) bytes.now at r.value r.end) }
 {
