@@ -11,6 +11,7 @@ pub mod OneExpansion
 pub mod OneWalk
 pub mod WalkDraws
 pub mod Scanning
+pub mod Fitting
 pub mod ScanReads
 pub mod Examples
 pub mod WalkExamples

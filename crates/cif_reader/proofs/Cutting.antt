@@ -142,47 +142,7 @@ command_same (Call n ts) h k = let e = cut_small n (head n [] h) in let f = turn
 command_same (User d words) h k = refl
 command_same (Comment words) h k = refl
 
--- ---- what is read fits but for big numbers
-
-abbrev IsUnsigned : ℤ → Type 0
-IsUnsigned z = (pos 0 ≤ℤ z) × IsSmall z
-
-natural : (z : ℤ) (text : List ℕ) → Integer z text → pos 0 ≤ℤ z
-natural z text (seps, ds, e, h, (n, f, d)) = omega (arith, ints, f)
-
-one : (z : ℤ) (zs : List ℤ) (text : List ℕ) → Integer z text → All IsSmall (z ∷ zs) → All IsUnsigned zs → All IsUnsigned (z ∷ zs)
-one z zs text h k r = All-cons IsUnsigned z zs (natural z text h, head z zs k) r
-
-none : All IsUnsigned []
-none = All-nil IsUnsigned
-
-some_point : (ps : List Point) (text : List ℕ) → Path ps text → 0 < length ps
-some_point [] text h = absurd h
-some_point (p ∷ ps) text h = omega arith
-
-scaled : (a b : ℤ) (text : List ℕ) → Either ((a ≡ pos 1) × (b ≡ pos 1)) (Separator ▹ Integer a ▹ Separator ▹ Integer b) text → All IsSmall (a ∷ b ∷ [])
-    → All IsUnsigned (a ∷ b ∷ [])
-scaled a b text (inl ((e, f), n)) k =
-    let g : pos 0 ≤ℤ a = omega (arith, ints, e) in
-    let h : pos 0 ≤ℤ b = omega (arith, ints, f) in
-    All-cons IsUnsigned a (b ∷ []) (g, head a (b ∷ []) k) (All-cons IsUnsigned b [] (h, head b [] (tail a (b ∷ []) k)) none)
-scaled a b text (inr (sep, more, f, hs, (fa, m2, g, ha, (sep2, fb, k2, h2, hb)))) k = one a (b ∷ []) fa ha k (one b [] fb hb (tail a (b ∷ []) k) none)
-
-read_fits : (c : Command) (front : List ℕ) → Spells c front → All IsSmall (unsigned_numbers c) → All IsSmall (signed_numbers c) → Fits c
-read_fits (Polygon ps) front (byte, back, f, b, h) u s = record { unsigned = none; signed = s; formed = some_point ps back h }
-read_fits (Box l w c d) front (byte, back, f, b, (fl, m1, e1, hl, (s1, m2, e2, h1, (fw, m3, e3, hw, r)))) u s =
-    record { unsigned = one l (w ∷ []) fl hl u (one w [] fw hw (tail l (w ∷ []) u) none); signed = s; formed = tt }
-read_fits (Round d c) front (byte, back, f, b, (fd, m, e, hd, r)) u s = record { unsigned = one d [] fd hd u none; signed = s; formed = tt }
-read_fits (Wire w ps) front (byte, back, f, b, (fw, m, e, hw, (sep, fp, g, hs, hp))) u s =
-    record { unsigned = one w [] fw hw u none; signed = s; formed = some_point ps fp hp }
-read_fits (Layer name) front (byte, back, f, b, (bs, fn, g, hb, (k, hn))) u s = record { unsigned = none; signed = s; formed = hn }
-read_fits (Start n a c) front (byte, back, f, b, (bs, m1, g, hb, (s1, m2, e1, h1, (fn, ft, e2, hn, ht)))) u s =
-    record { unsigned = one n (a ∷ c ∷ []) fn hn u (scaled a c ft ht (tail n (a ∷ c ∷ []) u)); signed = s; formed = tt }
-read_fits Finish front h u s = record { unsigned = none; signed = s; formed = tt }
-read_fits (Delete n) front (byte, back, f, b, (bs, m1, g, hb, (s1, fn, e1, h1, hn))) u s = record { unsigned = one n [] fn hn u none; signed = s; formed = tt }
-read_fits (Call n ts) front (byte, back, f, b, (fn, ft, e, hn, ht)) u s = record { unsigned = one n [] fn hn u none; signed = s; formed = tt }
-read_fits (User digit words) front (f, h, k) u s = record { unsigned = none; signed = s; formed = (h, k) }
-read_fits (Comment words) front (f, h) u s = record { unsigned = none; signed = s; formed = h }
+-- ---- what fits
 
 front_part : (xs ys : List ℤ) → All IsSmall (xs ++ ys) → All IsSmall xs
 front_part [] ys h = All-nil IsSmall
@@ -191,6 +151,9 @@ front_part (x ∷ xs) ys h = All-cons IsSmall x xs (head x (xs ++ ys) h) (front_
 back_part : (xs ys : List ℤ) → All IsSmall (xs ++ ys) → All IsSmall ys
 back_part [] ys h = h
 back_part (x ∷ xs) ys h = back_part xs ys (tail x (xs ++ ys) h)
+
+abbrev IsUnsigned : ℤ → Type 0
+IsUnsigned z = (pos 0 ≤ℤ z) × IsSmall z
 
 small_of_unsigned : (zs : List ℤ) → All IsUnsigned zs → All IsSmall zs
 small_of_unsigned [] h = All-nil IsSmall
@@ -203,13 +166,13 @@ fits_small c f =
     let s = all_were_small (signed_numbers c) (subst (All IsSmall) (signed_cut c) f.signed) in
     ((λ b. none_is_big (unsigned_numbers c ++ signed_numbers c) (All-append IsSmall (unsigned_numbers c) (signed_numbers c) u s) b), command_same c u s)
 
--- and one that doesn't, has a big number
-pub unfit_big : (c : Command) (front : List ℕ) → Spells c front → ¬ Fits (cut_command c) → HasBig c
-unfit_big c front h no_fit = at (small_or_big (unsigned_numbers c ++ signed_numbers c))
+-- and one that doesn't, has a big number, if a command without fits
+pub unfit_big : (c : Command) → (¬ HasBig c → Fits c) → ¬ Fits (cut_command c) → HasBig c
+unfit_big c fits no_fit = at (small_or_big (unsigned_numbers c ++ signed_numbers c))
   where
     at : All IsSmall (unsigned_numbers c ++ signed_numbers c) ⊎ Any IsBig (unsigned_numbers c ++ signed_numbers c) → HasBig c
     at (inr b) = b
     at (inl a) =
         let u = front_part (unsigned_numbers c) (signed_numbers c) a in
         let s = back_part (unsigned_numbers c) (signed_numbers c) a in
-        absurd (no_fit (subst Fits (sym (command_same c u s)) (read_fits c front h u s)))
+        absurd (no_fit (subst Fits (sym (command_same c u s)) (fits (λ b. none_is_big (unsigned_numbers c ++ signed_numbers c) a b))))

@@ -42,9 +42,14 @@ unread bytes at inside h b s e n =
     subst (λ t. Scans inside at t [] (Broken C1 at)) (sym (next bytes at h))
     (Scans.unread (get_or bytes at 0) (not_blank (get_or bytes at 0) b) s e (subst P (next bytes at h) n))
 
-pub too_big : (bytes : List ℕ) (at end : ℕ) (inside : Bool) (value : Command) → IsRead bytes at value end → ¬ Fits value → Scans inside at (drop at bytes) [] (Broken C3 at)
-too_big bytes at end inside value r n =
-    Scans.big r.exact (end - at) (drop end bytes) r.read (unfit_big r.exact r.read.spelled r.read.spells (λ f. n (subst Fits (sym r.cut_is) f)))
+-- the law of commands that are read
+abbrev IsFitLaw : Type 0
+IsFitLaw = (text : List ℕ) (c : Command) (size : ℕ) (rest : List ℕ) → IsReadAs text c size rest → ¬ HasBig c → Fits c
+
+pub too_big : IsFitLaw → (bytes : List ℕ) (at end : ℕ) (inside : Bool) (value : Command) → IsRead bytes at value end → ¬ Fits value → Scans inside at (drop at bytes) [] (Broken C3 at)
+too_big law bytes at end inside value r n =
+    Scans.big r.exact (end - at) (drop end bytes) r.read
+    (unfit_big r.exact (law (drop at bytes) r.exact (end - at) (drop end bytes) r.read) (λ f. n (subst Fits (sym r.cut_is) f)))
 
 -- the command that fits, and what is known of it
 pub record IsFit (bytes : List ℕ) (at end : ℕ) (value : Command) : Type 0 where

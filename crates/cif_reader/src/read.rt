@@ -13,7 +13,7 @@ ghost use Rattle.cif_reader.specs.Refusing.{Refuses, RefusesAt, IsRead, IsStep};
 use crate::bytes::{is_blank, past_blanks};
 use crate::command::command;
 use crate::found::Found;
-use cif_form::{Cif, Command, Item, command_is_found};
+use cif_form::{Cif, Command, Item, command_is_found, read_command_fits};
 use mp_base::{Broken, Family, List, Refusal, Rule, Spot};
 use std::alloc::{AllocError, Global};
 
@@ -86,6 +86,7 @@ fn next_step(alloc: Global, bytes: &[u8], at: usize, inside: bool) -> Result<Ste
     ensures ok { IfOk result (λ s. IsStep bytes.now at inside s.command s.end s.inside) }
     ensures err { IfErr result (RefusesAt inside bytes.now at) }
 {
+    read_command_fits();
     let Some(Found { value, end }) = whole_command(alloc, bytes, at)? else {
         return Err(broken(1, at));
     };

@@ -13,7 +13,7 @@ pub returns-then-not-fits-clause-err : goal.returns-then-not-fits-clause-err
 returns-then-not-fits-clause-err c =
     let f = rw c.in-Some.is at c.in_ok-value.ensures in
     refused_at c.args.bytes.now c.args.at c.args.inside C3 c.args.at c.broken-then-not-fits.result c.broken-then-not-fits.ensures
-    (too_big c.args.bytes.now c.args.at c.in-Some.field-0.end c.args.inside c.in-Some.field-0.value f
+    (too_big c.read_command_fits.ensures c.args.bytes.now c.args.at c.in-Some.field-0.end c.args.inside c.in-Some.field-0.value f
     (λ k. absurd (let e : false ≡ true = sym c.if-not-fits.true ∙ c.fits.ensures.1 k in cc)))
 
 pub returns-in_default-opens-clause-err : goal.returns-in_default-opens-clause-err
