@@ -1,5 +1,5 @@
 -- What is read of a file fits, and may stand where it does.
-use Rattle.std.proofs.Common.{◌≡◌, ℕ, suc, ◌+◌, ◌<◌, ◌⊎◌, inl, inr, map, List, [], ◌∷◌, ◌++◌, refl, arith, length, All, Bool, false, Option, Some, ◌≤◌, ◌^◌, subst, get_or}
+use Rattle.std.proofs.Common.{◌≡◌, ℕ, suc, ◌+◌, ◌<◌, ◌⊎◌, inl, inr, map, List, [], ◌∷◌, ◌++◌, refl, arith, length, All, Bool, false, ◌≤◌, ◌^◌}
 use Rattle.std.specs.Prelude.{ℤ, pos, ◌≤ℤ◌, nat_abs, Any}
 use Rattle.std.proofs.lemmas.Bool.{cases_lt}
 use Rattle.std.proofs.lemmas.Int.{ints}
@@ -10,7 +10,7 @@ use Rattle.cif_form.specs.declared.command.Command.TheVariants.{Polygon, Box, Ro
 use Rattle.cif_form.specs.declared.command.Item.{Item}
 use Rattle.cif_form.specs.Text.{◌▹◌, Separator, Integer, Path, Either, Spells}
 use Rattle.cif_form.specs.Fits.{IsSmall, unsigned_numbers, signed_numbers, Fits}
-use Rattle.cif_form.specs.Scans.{TextEnd, IsReadAs, HasBig, opens, Scans, FileScans, Nests}
+use Rattle.cif_form.specs.Scans.{TextEnd, IsReadAs, HasBig, Scans, FileScans, Nests}
 use Rattle.cif_form.specs.Scans.TextEnd.{Whole}
 
 head : (z : ℤ) (zs : List ℤ) → All IsSmall (z ∷ zs) → IsSmall z

@@ -1,5 +1,5 @@
 -- A reader of numbers and points that is a function, and finds what the grammar says.
-use Rattle.std.proofs.Common.{ℕ, ◌≡◌, ◌+◌, ◌*◌, ◌-◌, ◌<◌, inl, inr, refl, sym, ◌∙◌, ap, subst, arith, List, [], ◌∷◌, ◌++◌, Bool, true, false, not, eqb, leb, ◌&&◌, ◌||◌, Option, Some, None, append_assoc}
+use Rattle.std.proofs.Common.{ℕ, ◌≡◌, ◌+◌, ◌*◌, ◌-◌, ◌<◌, inl, inr, refl, sym, ◌∙◌, ap, subst, arith, List, [], ◌∷◌, ◌++◌, true, false, eqb, Some, append_assoc}
 use Rattle.std.specs.Prelude.{◌≢◌, ℤ, pos, neg_ℤ}
 use Rattle.std.specs.Str.Parse.{digits_value_after, AllDigits}
 use Rattle.std.specs.Char.{digit_value}

@@ -1,11 +1,11 @@
 -- A reader of paths, turns, names and comments that is a function, and finds what the grammar says.
-use Rattle.std.proofs.Common.{ℕ, zero, suc, ◌≡◌, ◌+◌, ◌-◌, ◌≤◌, ◌⊎◌, inl, inr, refl, sym, ◌∙◌, ap, subst, arith, List, [], ◌∷◌, ◌++◌, length, All, Bool, true, false, eqb, ◌||◌, Option, Some, None, append_assoc, length-append}
+use Rattle.std.proofs.Common.{ℕ, zero, suc, ◌≡◌, ◌+◌, ◌-◌, ◌≤◌, ◌⊎◌, inl, inr, refl, sym, ◌∙◌, ap, subst, arith, List, [], ◌∷◌, ◌++◌, length, All, true, false, eqb, Some, None, append_assoc, length-append}
 use Rattle.std.proofs.lemmas.List.Elements.{All-head, All-tail, All-cons, All-nil}
 use Rattle.lam_geom.specs.declared.place.Point.{Point}
 use Rattle.cif_form.specs.declared.command.Turn.{Turn}
 use Rattle.cif_form.specs.declared.command.Turn.TheVariants.{Move, MirrorX, MirrorY, Rotate}
 use Rattle.cif_form.specs.Text.{◌▹◌, Byte, IsDigit, IsUpper, IsBlank, IsSeparator, Blanks, Separators, Path, TurnText, Turns, IsShortName, IsBalanced}
-use Rattle.cif_form.specs.Readers.{Reader, goes_on, and_then, gives, is_digit, is_upper, is_blank, past_blanks, separator_from, point_from, starts, follows, tail_from, others, path_on, path_from, mirror_from, turn_from, turns_on, turns_from, is_name_byte, name_from, prefixed, comment_from}
+use Rattle.cif_form.specs.Readers.{Reader, goes_on, and_then, gives, is_blank, past_blanks, separator_from, point_from, starts, follows, tail_from, others, path_on, path_from, mirror_from, turn_from, turns_on, turns_from, is_name_byte, name_from, prefixed, comment_from}
 use Rattle.cif_form.proofs.Numbers.{Finds, finds_both, blank_reads, not_equal, no_digit, no_upper, Stops, separators_past, separator_read, separator_stops, stops_at, point_reads, point_follows, separator_follows}
 
 -- ---- the end of a command

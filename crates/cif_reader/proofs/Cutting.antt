@@ -1,8 +1,7 @@
 -- Commands with their numbers cut: they fit where the numbers weren't too big.
-use Rattle.std.proofs.Common.{◌≡◌, ℕ, zero, suc, ◌+◌, ◌-◌, ◌^◌, ◌<◌, ◌≤◌, ◌⊎◌, inl, inr, min, map, List, [], ◌∷◌, ◌++◌, refl, sym, ◌∙◌, ap, subst, arith, length, get_or, All}
+use Rattle.std.proofs.Common.{◌≡◌, ℕ, zero, suc, ◌^◌, ◌<◌, ◌≤◌, ◌⊎◌, inl, inr, min, map, List, [], ◌∷◌, ◌++◌, refl, sym, ap, subst, arith, All}
 use Rattle.std.specs.Prelude.{ℤ, pos, negsuc, neg_ℤ, nat_abs, ◌≤ℤ◌, Any}
 use Rattle.std.proofs.lemmas.Bool.{cases_lt}
-use Rattle.std.proofs.lemmas.Int.{ints}
 use Rattle.std.proofs.lemmas.List.Elements.{All-nil, All-cons, All-head, All-tail, All-append, All-get_or}
 use Rattle.std.specs.List.{flat_map}
 use Rattle.lam_geom.specs.declared.place.Point.{Point}
@@ -10,10 +9,9 @@ use Rattle.cif_form.specs.declared.command.Turn.{Turn}
 use Rattle.cif_form.specs.declared.command.Turn.TheVariants.{Move, MirrorX, MirrorY, Rotate}
 use Rattle.cif_form.specs.declared.command.Command.{Command}
 use Rattle.cif_form.specs.declared.command.Command.TheVariants.{Polygon, Box, Round, Wire, Layer, Start, Finish, Delete, Call, User, Comment}
-use Rattle.cif_form.specs.Text.{◌▹◌, Separator, Integer, Path, Either, right, Spells}
-use Rattle.cif_form.specs.Fits.{IsSmall, point_numbers, turn_numbers, unsigned_numbers, signed_numbers, IsFormed, Fits}
+use Rattle.cif_form.specs.Fits.{IsSmall, point_numbers, turn_numbers, unsigned_numbers, signed_numbers, Fits}
 use Rattle.cif_form.specs.Scans.{HasBig}
-use Rattle.cif_reader.specs.Capped.{cut, cut_number, cut_point, cut_path, cut_turn, cut_turns, cut_command}
+use Rattle.cif_reader.specs.Capped.{cut, cut_number, cut_point, cut_turn, cut_command}
 
 -- ---- numbers
 

@@ -1,6 +1,6 @@
 -- The points of a path and the turns of a call, one after another.
-use Rattle.std.proofs.Common.{◌≡◌, ℕ, zero, suc, ◌+◌, ◌-◌, ◌<◌, ◌≤◌, map, List, [], ◌∷◌, ◌++◌, refl, sym, ◌∙◌, ap, subst, arith, length, drop, length-drop, append_assoc, Bool, true, false, Option, Some, None}
-use Rattle.std.proofs.lemmas.List.{append-nil, drop_all}
+use Rattle.std.proofs.Common.{◌≡◌, ℕ, zero, suc, ◌+◌, ◌-◌, ◌<◌, ◌≤◌, map, List, [], ◌∷◌, ◌++◌, refl, sym, ◌∙◌, ap, arith, length, drop, length-drop, append_assoc, true, false, Option, Some, None}
+use Rattle.std.proofs.lemmas.List.{append-nil}
 use Rattle.lam_geom.specs.declared.place.Point.{Point}
 use Rattle.cif_form.specs.declared.command.Turn.{Turn}
 use Rattle.cif_form.specs.Readers.{Reader, goes_on, and_then, gives, past_blanks, separator_from, point_from, follows, tail_from, path_on, path_from, path_here, others, turn_from, turns_on, turns_from, turns_here}

@@ -1,9 +1,8 @@
 -- A command up to its semicolon.
-use Rattle.std.proofs.Common.{◌≡◌, ◌≢◌, ℕ, suc, ◌+◌, ◌-◌, ◌<◌, ◌≤◌, List, [], ◌∷◌, ◌++◌, refl, sym, ◌∙◌, ap, subst, arith, length, drop, get_or, length-append, length-drop, append_assoc, Bool, true, false, eqb, Option, Some, None}
+use Rattle.std.proofs.Common.{◌≡◌, ◌≢◌, ℕ, suc, ◌+◌, ◌<◌, ◌≤◌, List, [], ◌∷◌, ◌++◌, refl, sym, ◌∙◌, ap, subst, arith, length, drop, get_or, length-append, length-drop, Bool, true, false, eqb, Some, None}
 use Rattle.std.proofs.lemmas.List.{drop_all}
 use Rattle.std.proofs.lemmas.List.Elements.{All-head, All-tail}
 use Rattle.cif_form.specs.declared.command.Command.{Command}
-use Rattle.cif_form.specs.declared.command.Command.TheVariants.{User}
 use Rattle.cif_form.specs.Text.{IsDigit, IsUpper, IsBlank, Blanks}
 use Rattle.cif_form.specs.Readers.{is_digit, is_upper, is_blank, past_blanks, command_from}
 use Rattle.cif_form.specs.Scans.{IsReadAs, IsReadable}
@@ -13,7 +12,7 @@ use Rattle.cif_reader.specs.Refusing.{IsRead}
 use Rattle.cif_reader.proofs.Stepping.{next}
 use Rattle.cif_reader.proofs.Sound.{no_some, same_some, digit_is, upper_is, blanks_split}
 use Rattle.cif_reader.proofs.SoundParts.{Stops}
-use Rattle.cif_reader.proofs.SoundCommands.{IsSpelled, command_sound}
+use Rattle.cif_reader.proofs.SoundCommands.{command_sound}
 
 -- ---- blanks, and what is none
 

@@ -1,5 +1,5 @@
 -- A file, command by command.
-use Rattle.std.proofs.Common.{◌≡◌, ◌≢◌, ℕ, suc, ◌+◌, ◌-◌, ◌<◌, ◌≤◌, ◌⊎◌, inl, inr, List, [], ◌∷◌, ◌++◌, refl, sym, ◌∙◌, ap, subst, arith, length, drop, get_or, length-append, length-drop, append_assoc, Bool, true, false, eqb, Option, Some, None}
+use Rattle.std.proofs.Common.{◌≡◌, ◌≢◌, ℕ, suc, ◌+◌, ◌-◌, ◌<◌, ◌≤◌, inl, inr, List, [], ◌∷◌, ◌++◌, refl, sym, ◌∙◌, ap, subst, arith, length, drop, get_or, length-append, length-drop, append_assoc, Bool, true, false, Some, None}
 use Rattle.std.proofs.lemmas.List.{drop_all, append-nil}
 use Rattle.mp_base.specs.declared.refusal.Family.TheVariants.{C}
 use Rattle.mp_base.specs.declared.refusal.Spot.TheVariants.{Offset}
@@ -13,7 +13,6 @@ use Rattle.cif_form.specs.Readers.{is_blank, past_blanks}
 use Rattle.cif_form.specs.Scans.{TextRule, TextEnd, text_rule_number, IsReadAs, IsReadable, HasBig, opens, Scans, IsLateEnd, FileScans}
 use Rattle.cif_form.specs.Scans.TextRule.{C1, C2, C3, C4, C5}
 use Rattle.cif_form.specs.Scans.TextEnd.{Whole, Broken}
-use Rattle.cif_reader.specs.Capped.{cut_command}
 use Rattle.cif_reader.specs.Refusing.{RefusesBy, Refuses, RefusesAt, IsRead, IsStep}
 use Rattle.cif_reader.proofs.Stepping.{next}
 use Rattle.cif_reader.proofs.Sound.{blank_is, blanks_split}

@@ -1,12 +1,10 @@
 -- What the reader of numbers and points finds, stands in front of the text as the grammar says.
-use Rattle.std.proofs.Common.{◌≡◌, ℕ, zero, suc, ◌+◌, ◌*◌, ◌-◌, ◌<◌, ◌≤◌, ◌⊎◌, inl, inr, List, [], ◌∷◌, ◌++◌, refl, sym, ◌∙◌, ap, subst, arith, length, append_assoc, All, Bool, true, false, eqb, leb, not, ◌&&◌, ◌||◌, Option, Some, None}
-use Rattle.std.specs.Prelude.{◌≢◌, ℤ, pos, neg_ℤ}
+use Rattle.std.proofs.Common.{◌≡◌, ℕ, ◌+◌, ◌*◌, ◌-◌, ◌<◌, ◌≤◌, ◌⊎◌, inl, inr, List, [], ◌∷◌, ◌++◌, refl, sym, ◌∙◌, ap, subst, arith, length, append_assoc, Bool, true, false, eqb, leb, not, ◌&&◌, ◌||◌, Option, Some, None}
+use Rattle.std.specs.Prelude.{◌≢◌, pos, neg_ℤ}
 use Rattle.std.specs.Char.{digit_value}
 use Rattle.std.specs.Str.Parse.{AllDigits, digits_value_after}
-use Rattle.std.proofs.lemmas.List.{append-nil}
 use Rattle.std.proofs.lemmas.List.Elements.{All-nil, All-cons}
-use Rattle.lam_geom.specs.declared.place.Point.{Point}
-use Rattle.cif_form.specs.Text.{◌▹◌, Nothing, Byte, IsDigit, IsUpper, IsBlank, IsSeparator, Blanks, Separators, Separator, Digits, SignedDigits, Integer, Signed, PointText}
+use Rattle.cif_form.specs.Text.{◌▹◌, Nothing, IsDigit, IsUpper, IsBlank, IsSeparator, Blanks, Separators, Separator, Digits, SignedDigits, Integer, Signed, PointText}
 use Rattle.cif_form.specs.Readers.{Reader, goes_on, and_then, gives, is_digit, is_upper, is_separator, is_blank, past, past_blanks, separator_from, then_separator, digits_from, natural_from, signed_digits_from, integer_from, signed_from, point_from, follows, tail_from}
 
 -- ---- readers that find what P says of the front

@@ -1,5 +1,5 @@
 -- One byte of a run.
-use Rattle.std.proofs.Common.{◌≡◌, ℕ, suc, ◌+◌, ◌<◌, ◌≤◌, List, [], ◌∷◌, refl, sym, ◌∙◌, ap, arith, length, drop, get_or, drop-cons, Bool, true, false}
+use Rattle.std.proofs.Common.{◌≡◌, ℕ, suc, ◌+◌, ◌<◌, ◌≤◌, List, [], ◌∷◌, refl, sym, ◌∙◌, ap, arith, length, drop, get_or, drop-cons, true, false}
 use Rattle.std.proofs.lemmas.List.{drop_all}
 use Rattle.cif_form.specs.Readers.{is_separator, is_blank, past, past_blanks}
 

@@ -1,5 +1,5 @@
 -- Commands whose numbers are cut at 2^31.
-use Rattle.std.specs.Prelude.{ℕ, suc, ◌+◌, ◌^◌, min, map, ℤ, pos, negsuc, neg_ℤ, List}
+use Rattle.std.specs.Prelude.{ℕ, suc, min, map, ℤ, pos, negsuc, neg_ℤ, List}
 use Rattle.lam_geom.specs.declared.place.Point.{Point}
 use Rattle.cif_form.specs.declared.command.Turn.{Turn}
 use Rattle.cif_form.specs.declared.command.Turn.TheVariants.{Move, MirrorX, MirrorY, Rotate}

@@ -1,5 +1,5 @@
 -- What the reader finds at a place of the bytes.
-use Rattle.std.specs.Prelude.{◌≡◌, ℕ, ◌≤◌, ◌<◌, List, length, drop, Option, Some, None, MatchOption}
+use Rattle.std.specs.Prelude.{◌≡◌, ℕ, ◌≤◌, List, length, drop, Option, Some, None, MatchOption}
 use Rattle.cif_form.specs.Readers.{Reader}
 use Rattle.cif_reader.specs.declared.found.Found.{Found}
 

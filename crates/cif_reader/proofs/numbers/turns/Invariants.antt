@@ -1,4 +1,4 @@
-use Rattle.std.proofs.Common.{◌≡◌, ◌≤◌, ◌-◌, length}
+use Rattle.std.proofs.Common.{◌≤◌, ◌-◌, length}
 use Rattle.cif_reader.proofs.Paths.{TurnsSoFar}
 use Rattle.cif_reader.proofs.numbers.turns.Given as goal
 

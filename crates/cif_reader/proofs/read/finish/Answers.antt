@@ -1,4 +1,4 @@
-use Rattle.std.proofs.Common.{◌≡◌, ℕ, sym, subst, arith, drop, Bool, true, false, List, []}
+use Rattle.std.proofs.Common.{ℕ, sym, subst, drop, List, []}
 use Rattle.cif_form.specs.Scans.{Scans}
 use Rattle.cif_form.specs.Scans.TextRule.{C4, C5}
 use Rattle.cif_form.specs.Scans.TextEnd.{Whole, Broken}

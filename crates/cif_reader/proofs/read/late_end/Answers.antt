@@ -1,4 +1,4 @@
-use Rattle.std.proofs.Common.{◌≡◌, ◌≢◌, ◌<◌, length, get_or, arith, List}
+use Rattle.std.proofs.Common.{◌≢◌, ◌<◌, length, get_or, arith}
 use Rattle.cif_reader.proofs.Scanned.{late, never_late}
 use Rattle.cif_reader.proofs.read.late_end.Goals as goal
 use Rattle.cif_reader.proofs.read.late_end.Goals.{else-start-gt0-via-then-start-gt0+then-start-bytes+else-bytes-start-eq69, else-start-gt0-via-then-start-gt0+else-start-bytes, else-start-gt0-via-else-start-gt0}

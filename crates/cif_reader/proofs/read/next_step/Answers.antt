@@ -1,4 +1,4 @@
-use Rattle.std.proofs.Common.{◌≡◌, ◌∙◌, sym, subst, arith, true, false, IsTrue}
+use Rattle.std.proofs.Common.{◌≡◌, ◌∙◌, sym, true, false}
 use Rattle.cif_form.specs.Scans.TextRule.{C1, C3, C4}
 use Rattle.cif_reader.proofs.Scanned.{refused_at, unread, too_big, misplaced, steps}
 use Rattle.cif_reader.proofs.read.next_step.Goals as goal

@@ -1,4 +1,4 @@
-use Rattle.std.proofs.Common.{◌≡◌, ◌≤◌, length, ◌∙◌, sym, subst, arith, true, false}
+use Rattle.std.proofs.Common.{◌≤◌, length, sym, subst, arith}
 use Rattle.cif_form.specs.Scans.TextRule.{C2}
 use Rattle.cif_reader.proofs.Scanned.{Reached, reached_start, reached_next, reached_break, refused_at, short}
 use Rattle.cif_reader.proofs.read.read_cif.Goals as goal

@@ -1,4 +1,4 @@
-use Rattle.std.proofs.Common.{◌≡◌, true, false, sym, ◌∙◌, get_or}
+use Rattle.std.proofs.Common.{sym, ◌∙◌}
 use Rattle.cif_reader.proofs.Scanned.{skips_blank, skips_empty}
 use Rattle.cif_reader.proofs.read.skip.Goals as goal
 use Rattle.cif_reader.proofs.read.skip.Goals.{else-not-is_blank-via-then-not-is_blank+else-bytes-end-ne59, else-not-is_blank-via-else-not-is_blank}

@@ -1,4 +1,4 @@
-use Rattle.std.proofs.Common.{◌≡◌, List, Bool, drop}
+use Rattle.std.proofs.Common.{List, Bool, drop}
 use Rattle.cif_form.specs.declared.command.Item.{Item}
 use Rattle.cif_form.specs.Scans.{TextEnd, Scans}
 use Rattle.cif_reader.proofs.read.skip.Given as goal

@@ -1,7 +1,4 @@
-use Rattle.std.proofs.Common.{◌<◌, ◌≤◌, length, arith, drop}
-use Rattle.cif_form.specs.Readers.{command_from}
-use Rattle.cif_reader.specs.Capped.{cut_command}
-use Rattle.cif_reader.specs.Finding.{IsFound}
+use Rattle.std.proofs.Common.{◌<◌, ◌≤◌, length, arith}
 use Rattle.cif_reader.proofs.Readable.{command_read}
 use Rattle.cif_reader.proofs.read.whole_command.Goals as goal
 
