@@ -1,5 +1,5 @@
 -- A file, command by command.
-use Rattle.std.proofs.Common.{◌≡◌, ◌≢◌, ℕ, suc, ◌+◌, ◌-◌, ◌<◌, ◌≤◌, inl, inr, List, [], ◌∷◌, ◌++◌, refl, sym, ◌∙◌, ap, subst, arith, length, drop, get_or, length-append, length-drop, append_assoc, Bool, true, false, Some, None}
+use Rattle.std.proofs.Common.{◌≡◌, ◌≢◌, ℕ, suc, ◌+◌, ◌-◌, ◌<◌, ◌≤◌, inr, List, [], ◌∷◌, ◌++◌, refl, sym, ◌∙◌, ap, subst, arith, length, drop, get_or, length-append, length-drop, append_assoc, Bool, true, false, Some, None}
 use Rattle.std.proofs.lemmas.List.{drop_all, append-nil}
 use Rattle.mp_base.specs.declared.refusal.Family.TheVariants.{C}
 use Rattle.mp_base.specs.declared.refusal.Spot.TheVariants.{Offset}
@@ -166,11 +166,6 @@ reached_next bytes items inside within at start end command r skipped s = record
       (r.owed (item ∷ more) e (skipped inside (item ∷ more) e (Scans.command command (end - start) s.read s.small s.stands k'))));
 }
 
-pub reached_end : (bytes : List ℕ) (items : List Item) (inside : Bool) (at start : ℕ) → Reached bytes items inside at
-    → ((inside : Bool) (items : List Item) (e : TextEnd) → Scans inside start (drop start bytes) items e → Scans inside at (drop at bytes) items e)
-    → Scans inside start (drop start bytes) [] Whole → FileScans bytes items Whole
-reached_end bytes items inside at start r skipped s = subst (λ t. FileScans bytes t Whole) (append-nil items) (r.owed [] Whole (skipped inside [] Whole s))
-
 pub reached_break : (bytes : List ℕ) (items : List Item) (inside : Bool) (at start : ℕ) (e : Refusal) → Reached bytes items inside at
     → ((inside : Bool) (items : List Item) (e : TextEnd) → Scans inside start (drop start bytes) items e → Scans inside at (drop at bytes) items e)
     → RefusesAt inside bytes start e → Refuses bytes e
@@ -184,7 +179,7 @@ pub refused : (P : TextRule → ℕ → Type 0) (rule : TextRule) (offset : ℕ)
     → e ≡ refusals.Broken (record { rule = record { family = C; number = text_rule_number rule }; spot = Offset offset }) → P rule offset → RefusesBy P e
 refused P rule offset e h p = subst (RefusesBy P) (sym h) (rule, offset, refl, refl, p)
 
--- the same at a place, and of a file that ends there
+-- the same at a place
 pub refused_at : (bytes : List ℕ) (at : ℕ) (inside : Bool) (rule : TextRule) (offset : ℕ) (e : Refusal)
     → e ≡ refusals.Broken (record { rule = record { family = C; number = text_rule_number rule }; spot = Offset offset })
     → Scans inside at (drop at bytes) [] (Broken rule offset) → RefusesAt inside bytes at e
@@ -192,8 +187,3 @@ refused_at bytes at inside rule offset e h s = refused (λ rule offset. Scans in
 
 pub short : (bytes : List ℕ) (start : ℕ) (inside : Bool) → length bytes ≤ start → Scans inside start (drop start bytes) [] (Broken C2 start)
 short bytes start inside h = subst (λ t. Scans inside start t [] (Broken C2 start)) (sym (drop_all start bytes h)) Scans.short
-
-pub refused_late : (bytes : List ℕ) (offset : ℕ) (e : Refusal) → e ≡ refusals.Broken (record { rule = record { family = C; number = 1 }; spot = Offset offset })
-    → IsLateEnd bytes offset → Refuses bytes e
-refused_late bytes offset e h l =
-    refused (λ rule offset. (items : List Item) × FileScans bytes items (Broken rule offset)) C1 offset e h ([], inl (offset, l, refl, refl))

@@ -28,7 +28,6 @@ pub(crate) fn is_blank(byte: u8) -> bool
 }
 
 /// Where the blanks end that begin here.
-#[tactic(auto, using(crate::proofs::Stepping::blanks_step, crate::proofs::Stepping::blanks_stop))]
 pub(crate) fn past_blanks(bytes: &[u8], at: usize) -> usize
     requires { at ≤ length bytes.now }
     ensures rest { drop result bytes.now ≡ past_blanks (drop at bytes.now) }

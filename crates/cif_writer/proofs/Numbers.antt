@@ -11,9 +11,6 @@ use Rattle.lam_geom.specs.declared.place.Point.{Point}
 use Rattle.cif_form.specs.Writing.{space, point_text, direction_text, is_number}
 use Rattle.cif_writer.specs.Texts.{number_text}
 
-pub numbers_texts : (xs ys : List ℤ) → xs ≡ ys → flat_map number_text xs ≡ flat_map number_text ys
-numbers_texts xs ys e = ap (flat_map number_text) e
-
 pub one_text : (y z : ℤ) → y ≡ z → flat_map number_text (y ∷ []) ≡ number_text z
 one_text y z e = append-nil (number_text y) ∙ ap number_text e
 

@@ -1,6 +1,6 @@
 -- One text written behind another.
-use Rattle.std.proofs.Common.{◌≡◌, ℕ, suc, ◌+◌, ◌<◌, List, [], ◌∷◌, ◌++◌, sym, ◌∙◌, ap, subst, length, take, drop, get_or, drop-cons, arith, refl, Option, Some, None, Result, Ok, Err, append_assoc}
-use Rattle.std.proofs.lemmas.List.{length-append, take_all, take-append-le, append-nil}
+use Rattle.std.proofs.Common.{◌≡◌, ℕ, suc, ◌+◌, ◌<◌, List, ◌∷◌, ◌++◌, sym, ◌∙◌, ap, subst, length, take, drop, get_or, drop-cons, arith, Option, Some, None, Result, Ok, Err, append_assoc}
+use Rattle.std.proofs.lemmas.List.{length-append, take_all, take-append-le}
 use Rattle.std.proofs.Math.Seq.{take-append-add}
 use Rattle.std.specs.Prelude.{OnOk, OnErr}
 use Rattle.mp_base.specs.Outside.{WhereTold, Gains}
@@ -68,13 +68,6 @@ pub record Going (a b : Option (List ℕ)) (whole rest : List ℕ) : Type 0 wher
   pub wrote : Wrote a b front
   pub split : whole ≡ front ++ rest
 
-pub going_start : (a : Option (List ℕ)) (whole : List ℕ) → Going a a whole whole
-going_start a whole = record { front = []; wrote = nothing a; split = refl }
-  where
-    nothing : (a : Option (List ℕ)) → Wrote a a []
-    nothing None = tt
-    nothing (Some x) = sym (append-nil x)
-
 pub going_on : {T E : Type 0} (a b c : Option (List ℕ)) (whole rest xs more : List ℕ) (u : T) → rest ≡ xs ++ more → Going a b whole rest
     → TakesAll {T = T} {E = E} Gains b c xs (Ok u) → Going a c whole more
 going_on a b c whole rest xs more u e g h = record {
@@ -90,17 +83,6 @@ going_cut {S} {T} {E} {F} a b c whole rest xs more e f r split is g h =
     let Q : Result T F → Type 0 = λ q. TakesAll {T = T} {E = F} Gains b c (xs ++ more) q in
     subst P (sym (g.split ∙ ap (λ t. g.front ++ t) split))
     (wrote_then a b c g.front (xs ++ more) r g.wrote (subst Q (sym is) (cut_before {S = S} {T = T} b c xs more e f h)))
-
-pub going_end : {T E : Type 0} (a b : Option (List ℕ)) (whole rest : List ℕ) (u : T) → rest ≡ [] → Going a b whole rest → TakesAll {T = T} {E = E} Gains a b whole (Ok u)
-going_end a b whole rest u e g =
-    let same : g.front ≡ whole = sym (append-nil g.front) ∙ ap (λ t. g.front ++ t) (sym e) ∙ sym g.split in
-    record {
-      count = length whole;
-      within = omega arith;
-      all = refl;
-      cut = tt;
-      taken = let P : List ℕ → Type 0 = λ t. Wrote a b t in subst P (same ∙ sym (take_all (length whole) whole (omega arith))) g.wrote;
-    }
 
 -- what a function writes of a list's rest is what it writes of the element there, and of the rest behind it
 pub next_of : {X : Type 0} (texts : List X → List ℕ) (text : X → List ℕ) (xs : List X) (i : ℕ) (d : X) → ((x : X) (ys : List X) → texts (x ∷ ys) ≡ text x ++ texts ys)
