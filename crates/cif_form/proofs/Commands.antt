@@ -1,5 +1,5 @@
 -- A reader of one command that is a function, and finds what the grammar says.
-use Rattle.std.proofs.Common.{ℕ, ◌≡◌, ◌+◌, ◌-◌, ◌≤◌, inl, inr, refl, sym, ◌∙◌, ap, subst, arith, List, [], ◌∷◌, ◌++◌, length, All, true, false, eqb, Option, Some, None, append_assoc, length-append}
+use Rattle.std.proofs.Common.{ℕ, ◌≡◌, ◌+◌, ◌-◌, ◌≤◌, inl, inr, refl, sym, ◌∙◌, ap, subst, arith, List, [], ◌∷◌, ◌++◌, length, All, true, leb, Some, append_assoc, length-append}
 use Rattle.std.specs.Prelude.{◌≢◌, ℤ, pos}
 use Rattle.std.proofs.lemmas.List.{append-nil}
 use Rattle.std.proofs.lemmas.List.Elements.{All-head, All-tail}
@@ -7,100 +7,12 @@ use Rattle.lam_geom.specs.declared.place.Point.{Point}
 use Rattle.cif_form.specs.declared.command.Turn.{Turn}
 use Rattle.cif_form.specs.declared.command.Command.{Command}
 use Rattle.cif_form.specs.declared.command.Command.TheVariants.{Polygon, Box, Round, Wire, Layer, Start, Finish, Delete, Call, User, Comment}
-use Rattle.cif_form.specs.Text.{◌▹◌, Byte, Blanks, Separator, Integer, PointText, Path, Turns, Either, right, Spells}
-use Rattle.cif_form.proofs.Numbers.{Reader, goes_on, and_then, gives, Finds, finds_both, is_digit, not_equal, Stops, integer_from, integer_reads, integer_follows, separator_from, separator_read, stops_at, point_from, point_reads, point_follows, follows, separator_follows}
-use Rattle.cif_form.proofs.Parts.{Ends, ends_stop, ends_follow, past_blanks, blanks_past, tail_from, tail_left, tail_found, path_from, path_reads, path_size, turns_from, turns_read, turns_stop, turns_size, name_from, name_reads, name_past, comment_from, comment_reads}
+use Rattle.cif_form.specs.Text.{◌▹◌, Byte, Blanks, Separator, Integer, PointText, Path, Turns, Either, right, IsShortName, Spells}
+use Rattle.cif_form.specs.Readers.{Reader, goes_on, and_then, gives, is_digit, past_blanks, separator_from, then_separator, integer_from, point_from, follows, tail_from, path_here, turns_here, words_from, box_at, box_sized, box_long, round_of, wire_of, call_of, scale_under, scale_from, start_of, definition_from, layer_named, layer_from, user_of, command_from}
+use Rattle.cif_form.proofs.Numbers.{Finds, finds_both, not_equal, Stops, integer_reads, integer_follows, separator_read, stops_at, point_reads, point_follows, separator_follows}
+use Rattle.cif_form.proofs.Parts.{Ends, ends_stop, ends_follow, blanks_past, tail_left, tail_found, path_reads, path_size, turns_read, turns_stop, turns_size, name_reads, name_past, comment_reads}
 
 -- ---- the pieces, each with a function of what it finds
-
-abbrev then_separator : {A : Type 0} → Reader A → Reader A
-then_separator p = and_then separator_from (λ _. p)
-
-abbrev path_here : Reader (List Point)
-path_here text = path_from (length text) text
-
-abbrev turns_here : Reader (List Turn)
-turns_here text = turns_from (length text) text
-
-abbrev box_at : ℤ → ℤ → Point → Reader Command
-box_at long wide center = and_then (tail_from right (then_separator point_from)) (gives (Box long wide center))
-
-abbrev box_sized : ℤ → ℤ → Reader Command
-box_sized long wide = then_separator (and_then point_from (box_at long wide))
-
-abbrev box_long : ℤ → Reader Command
-box_long long = then_separator (and_then integer_from (box_sized long))
-
-abbrev round_of : ℤ → Reader Command
-round_of diameter = then_separator (and_then point_from (gives (Round diameter)))
-
-abbrev wire_of : ℤ → Reader Command
-wire_of wide = then_separator (and_then path_here (gives (Wire wide)))
-
-abbrev call_of : ℤ → Reader Command
-call_of number = and_then turns_here (gives (Call number))
-
-abbrev scale_under : ℤ → Reader (ℤ × ℤ)
-scale_under a = then_separator (and_then integer_from (gives (λ b. (a, b))))
-
-abbrev scale_from : Reader (ℤ × ℤ)
-scale_from = tail_from (pos 1, pos 1) (then_separator (and_then integer_from scale_under))
-
-abbrev start_of : ℤ → Reader Command
-start_of number = and_then scale_from (gives (λ s. Start number s.0 s.1))
-
-abbrev definition_from : Reader Command
-definition_from [] = None
-definition_from (b ∷ bs) = elim (eqb b 83) [
-  | true ↦ and_then integer_from start_of bs
-  | false ↦ elim (eqb b 70) [ true ↦ Some (Finish, bs) | false ↦ elim (eqb b 68) [ true ↦ and_then integer_from (gives Delete) bs | false ↦ None ] ]
-]
-
-abbrev layer_named : List ℕ × List ℕ → Option (Command × List ℕ)
-layer_named r = Some (Layer r.0, r.1)
-
-abbrev layer_from : Reader Command
-layer_from text = layer_named (name_from text)
-
--- the words up to the semicolon, and the rest
-abbrev words_from : List ℕ → List ℕ × List ℕ
-words_from [] = ([], [])
-words_from (b ∷ bs) = elim (eqb b 59) [ true ↦ ([], b ∷ bs) | false ↦ (b ∷ (words_from bs).0, (words_from bs).1) ]
-
-abbrev user_of : ℕ → List ℕ × List ℕ → Option (Command × List ℕ)
-user_of digit r = Some (User digit r.0, r.1)
-
-abbrev letter_from : ℕ → Reader Command
-letter_from b bs = elim (eqb b 80) [
-  | true ↦ and_then path_here (gives Polygon) bs
-  | false ↦ elim (eqb b 66) [
-    | true ↦ and_then integer_from box_long bs
-    | false ↦ elim (eqb b 82) [
-      | true ↦ and_then integer_from round_of bs
-      | false ↦ elim (eqb b 87) [
-        | true ↦ and_then integer_from wire_of bs
-        | false ↦ elim (eqb b 76) [
-          | true ↦ layer_from (past_blanks bs)
-          | false ↦ elim (eqb b 68) [
-            | true ↦ definition_from (past_blanks bs)
-            | false ↦ elim (eqb b 67) [
-              | true ↦ and_then integer_from call_of bs
-              | false ↦ elim (eqb b 40) [
-                | true ↦ and_then (comment_from 0) (gives Comment) bs
-                | false ↦ None
-              ]
-            ]
-          ]
-        ]
-      ]
-    ]
-  ]
-]
-
--- the command at the front
-abbrev pub command_from : Reader Command
-command_from [] = None
-command_from (b ∷ bs) = elim (is_digit b) [ true ↦ user_of (b - 48) (words_from bs) | false ↦ letter_from b bs ]
 
 -- ---- laws
 
@@ -161,6 +73,12 @@ words_read (b ∷ words) rest h =
     rw (not_equal b 59 (All-head (λ b. b ≢ 59) b words h), words_from) refl in
     e ∙ ap (λ r. (b ∷ r.0, r.1)) (words_read words rest (All-tail (λ b. b ≢ 59) b words h))
 
+named : (name rest : List ℕ) → IsShortName name → layer_named (name, rest) ≡ Some (Layer name, rest)
+named name rest h =
+    let a : leb 1 (length name) ≡ true = grind (arith, h.0) in
+    let b : leb (length name) 4 ≡ true = grind (arith, h.1) in
+    rw (a, b, layer_named) refl
+
 -- the first byte of a text
 first : (b : ℕ) (text byte back rest : List ℕ) → text ≡ byte ++ back → Byte b byte → text ++ rest ≡ b ∷ (back ++ rest)
 first b text byte back rest e h = ap (λ t. t ++ rest) (e ∙ ap (λ t. t ++ back) h)
@@ -201,7 +119,7 @@ command_reads (Layer name) front rest (byte, back, f, h, (bs, fn, g, hb, (k, hn)
     let p : past_blanks (back ++ rest) ≡ name ++ rest =
     ap (λ t. past_blanks (t ++ rest)) g ∙ ap past_blanks (append_assoc bs fn rest) ∙ blanks_past bs (fn ++ rest) hb
     ∙ ap (λ t. past_blanks (t ++ rest)) k ∙ name_past name rest hn in
-    ap command_from (first 76 front byte back rest f h) ∙ ap layer_from p ∙ ap layer_named (name_reads name rest hn.2 e)
+    ap command_from (first 76 front byte back rest f h) ∙ ap layer_from p ∙ ap layer_named (name_reads name rest hn.2 e) ∙ named name rest hn
 command_reads (Start n a b) front rest (byte, back, f, h, (bs, more, g, hb, (s, more', g', hs, (fn, ft, g'', hn, ht)))) e =
     let stop : Stops (ft ++ rest) = either_stops ((a ≡ pos 1) × (b ≡ pos 1)) (Integer a ▹ Separator ▹ Integer b) ft rest ht e in
     ap command_from (first 68 front byte back rest f h) ∙ ap definition_from (after_d 83 back bs more s more' rest refl g hb g' hs)

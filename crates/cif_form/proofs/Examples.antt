@@ -7,7 +7,7 @@ use Rattle.cif_form.specs.Text.{IsBlank, Blanks, Reads}
 use Rattle.cif_form.specs.Scans.{IsReadAs, IsReadable, HasBig, Scans, IsLateEnd, FileScans}
 use Rattle.cif_form.specs.Scans.TextRule.{C1, C2, C4, C5}
 use Rattle.cif_form.specs.Scans.TextEnd.{Broken}
-use Rattle.cif_form.proofs.Commands.{command_from}
+use Rattle.cif_form.specs.Readers.{command_from}
 use Rattle.cif_form.proofs.Scanning.{found}
 
 space_is_blank : IsBlank 32

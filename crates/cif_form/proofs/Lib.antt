@@ -3,6 +3,7 @@ pub mod Numbers
 pub mod Parts
 pub mod Commands
 pub mod Reading
+pub mod Small
 pub mod Scaled
 pub mod OneLabel
 pub mod OnePlace
@@ -10,6 +11,7 @@ pub mod OneExpansion
 pub mod OneWalk
 pub mod WalkDraws
 pub mod Scanning
+pub mod Fitting
 pub mod ScanReads
 pub mod Examples
 pub mod WalkExamples

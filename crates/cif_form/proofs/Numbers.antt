@@ -1,5 +1,5 @@
 -- A reader of numbers and points that is a function, and finds what the grammar says.
-use Rattle.std.proofs.Common.{ℕ, ◌≡◌, ◌+◌, ◌*◌, ◌-◌, ◌<◌, inl, inr, refl, sym, ◌∙◌, ap, subst, arith, List, [], ◌∷◌, ◌++◌, Bool, true, false, not, eqb, leb, ◌&&◌, ◌||◌, Option, Some, None, append_assoc}
+use Rattle.std.proofs.Common.{ℕ, ◌≡◌, ◌+◌, ◌*◌, ◌-◌, ◌<◌, inl, inr, refl, sym, ◌∙◌, ap, subst, arith, List, [], ◌∷◌, ◌++◌, true, false, eqb, Some, append_assoc}
 use Rattle.std.specs.Prelude.{◌≢◌, ℤ, pos, neg_ℤ}
 use Rattle.std.specs.Str.Parse.{digits_value_after, AllDigits}
 use Rattle.std.specs.Char.{digit_value}
@@ -7,18 +7,9 @@ use Rattle.std.proofs.lemmas.List.Elements.{All-head, All-tail, All-cons, All-ni
 use Rattle.std.proofs.lemmas.Bool.{cases_lt}
 use Rattle.lam_geom.specs.declared.place.Point.{Point}
 use Rattle.cif_form.specs.Text.{IsDigit, IsUpper, IsBlank, IsSeparator, Separators, Separator, Digits, SignedDigits, Integer, Signed, PointText}
+use Rattle.cif_form.specs.Readers.{Reader, goes_on, and_then, gives, is_digit, is_upper, is_separator, is_blank, past, separator_from, digits_from, natural_from, signed_digits_from, integer_from, signed_from, point_from, starts, follows}
 
 -- ---- readers: what is read from the front of a text, and the rest of the text
-
-abbrev pub Reader : Type 0 → Type 0
-Reader A = List ℕ → Option (A × List ℕ)
-
-abbrev pub goes_on : {A B : Type 0} → (A → Reader B) → Option (A × List ℕ) → Option (B × List ℕ)
-goes_on q None = None
-goes_on q (Some r) = q r.0 r.1
-
-abbrev pub and_then : {A B : Type 0} → Reader A → (A → Reader B) → Reader B
-and_then p q text = goes_on q (p text)
 
 -- the reader finds `a` where the text is `front`, and leaves the rest
 abbrev pub Finds : {A : Type 0} → Reader A → A → List ℕ → List ℕ → Type 0
@@ -30,22 +21,7 @@ finds_both p q a b text front back rest e h k =
     let f : text ++ rest ≡ front ++ (back ++ rest) = ap (λ t. t ++ rest) e ∙ append_assoc front back rest in
     ap (and_then p q) f ∙ ap (goes_on q) h ∙ k
 
-abbrev pub gives : {A B : Type 0} → (A → B) → A → Reader B
-gives f a text = Some (f a, text)
-
 -- ---- bytes
-
-abbrev pub is_digit : ℕ → Bool
-is_digit b = leb 48 b && leb b 57
-
-abbrev pub is_upper : ℕ → Bool
-is_upper b = leb 65 b && leb b 90
-
-abbrev pub is_separator : ℕ → Bool
-is_separator b = not (is_digit b || eqb b 45 || eqb b 40 || eqb b 41 || eqb b 59)
-
-abbrev pub is_blank : ℕ → Bool
-is_blank b = is_separator b && not (is_upper b)
 
 pub not_equal : (b c : ℕ) → b ≢ c → eqb b c ≡ false
 not_equal b c h = grind arith
@@ -79,32 +55,6 @@ Stops (b ∷ bs) = is_digit b ≡ false
 pub separator_stops : (b : ℕ) (rest : List ℕ) → IsSeparator b → Stops (b ∷ rest)
 separator_stops b rest (inl h) = no_digit b (λ k. omega arith)
 separator_stops b rest (inr h) = no_digit b h.0
-
--- the value of the digits in front, after n, and the rest
-abbrev digits_from : ℕ → List ℕ → ℕ × List ℕ
-digits_from n [] = (n, [])
-digits_from n (b ∷ bs) = elim (is_digit b) [ true ↦ digits_from (n * 10 + (b - 48)) bs | false ↦ (n, b ∷ bs) ]
-
--- digits in front, one at least
-abbrev natural_from : Reader ℕ
-natural_from [] = None
-natural_from (b ∷ bs) = elim (is_digit b) [ true ↦ Some (digits_from 0 (b ∷ bs)) | false ↦ None ]
-
--- what follows the separators in front
-abbrev pub past : List ℕ → List ℕ
-past [] = []
-past (b ∷ bs) = elim (is_separator b) [ true ↦ past bs | false ↦ b ∷ bs ]
-
-abbrev signed_digits_from : Reader ℤ
-signed_digits_from [] = None
-signed_digits_from (b ∷ bs) = elim (eqb b 45)
-    [ true ↦ and_then natural_from (gives (λ n. neg_ℤ (pos n))) bs | false ↦ and_then natural_from (gives pos) (b ∷ bs) ]
-
-abbrev pub integer_from : Reader ℤ
-integer_from text = and_then natural_from (gives pos) (past text)
-
-abbrev pub signed_from : Reader ℤ
-signed_from text = signed_digits_from (past text)
 
 pub digit_reads : (b : ℕ) → digit_value b < 10 → (is_digit b ≡ true) × (digit_value b ≡ b - 48)
 digit_reads b h = (grind arith, grind arith)
@@ -176,11 +126,6 @@ signed_reads z front rest (seps, ds, e, h, d) s =
 
 -- ---- points, and whether numbers follow
 
--- one separator
-abbrev pub separator_from : Reader (Unit {0})
-separator_from [] = None
-separator_from (b ∷ bs) = elim (is_separator b) [ true ↦ Some (tt, bs) | false ↦ None ]
-
 pub separator_read : (front rest : List ℕ) → Separator front → Finds separator_from tt front rest
 separator_read front rest (b, e, h) =
     let f : separator_from (b ∷ rest) ≡ Some (tt, rest) = rw (separator_reads b h, separator_from) refl in
@@ -190,23 +135,12 @@ separator_read front rest (b, e, h) =
 pub stops_at : (front back rest : List ℕ) → Separator front → Stops ((front ++ back) ++ rest)
 stops_at front back rest (b, e, h) = subst (λ t. Stops ((t ++ back) ++ rest)) (sym e) (separator_stops b (back ++ rest) h)
 
-abbrev pub point_from : Reader Point
-point_from = and_then signed_from (λ x. and_then separator_from (λ _. and_then signed_from (gives (λ y. record { x = x; y = y }))))
-
 pub point_reads : (p : Point) (front rest : List ℕ) → PointText p front → Stops rest → Finds point_from p front rest
 point_reads p front rest (fx, more, e, hx, (sep, fy, f, hs, hy)) s =
     let stop : Stops (more ++ rest) = subst (λ t. Stops (t ++ rest)) (sym f) (stops_at sep fy rest hs) in
     finds_both signed_from _ p.x p front fx more rest e (signed_reads p.x fx (more ++ rest) hx stop)
     (finds_both separator_from _ tt p more sep fy rest f (separator_read sep (fy ++ rest) hs)
     (ap (goes_on (gives (λ y. record { x = p.x; y = y }))) (signed_reads p.y fy rest hy s)))
-
--- behind separators a digit or a `-` follows
-abbrev pub starts : List ℕ → Bool
-starts [] = false
-starts (b ∷ bs) = is_digit b || eqb b 45
-
-abbrev pub follows : List ℕ → Bool
-follows text = starts (past text)
 
 digits_start : (ds rest : List ℕ) (n : ℕ) → Digits n ds → starts (ds ++ rest) ≡ true
 digits_start [] rest n h = absurd (omega (arith, h.0.0))

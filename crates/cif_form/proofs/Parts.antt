@@ -1,11 +1,12 @@
 -- A reader of paths, turns, names and comments that is a function, and finds what the grammar says.
-use Rattle.std.proofs.Common.{ℕ, zero, suc, ◌≡◌, ◌+◌, ◌-◌, ◌≤◌, ◌⊎◌, inl, inr, refl, sym, ◌∙◌, ap, subst, arith, List, [], ◌∷◌, ◌++◌, length, All, Bool, true, false, eqb, ◌||◌, Option, Some, None, append_assoc, length-append}
+use Rattle.std.proofs.Common.{ℕ, zero, suc, ◌≡◌, ◌+◌, ◌-◌, ◌≤◌, ◌⊎◌, inl, inr, refl, sym, ◌∙◌, ap, subst, arith, List, [], ◌∷◌, ◌++◌, length, All, true, false, eqb, Some, None, append_assoc, length-append}
 use Rattle.std.proofs.lemmas.List.Elements.{All-head, All-tail, All-cons, All-nil}
 use Rattle.lam_geom.specs.declared.place.Point.{Point}
 use Rattle.cif_form.specs.declared.command.Turn.{Turn}
 use Rattle.cif_form.specs.declared.command.Turn.TheVariants.{Move, MirrorX, MirrorY, Rotate}
 use Rattle.cif_form.specs.Text.{◌▹◌, Byte, IsDigit, IsUpper, IsBlank, IsSeparator, Blanks, Separators, Path, TurnText, Turns, IsShortName, IsBalanced}
-use Rattle.cif_form.proofs.Numbers.{Reader, goes_on, and_then, gives, Finds, finds_both, is_digit, is_upper, is_blank, blank_reads, not_equal, no_digit, no_upper, Stops, separators_past, separator_from, separator_read, separator_stops, stops_at, point_from, point_reads, follows, starts, point_follows, separator_follows}
+use Rattle.cif_form.specs.Readers.{Reader, goes_on, and_then, gives, is_blank, past_blanks, separator_from, point_from, starts, follows, tail_from, others, path_on, path_from, mirror_from, turn_from, turns_on, turns_from, is_name_byte, name_from, prefixed, comment_from}
+use Rattle.cif_form.proofs.Numbers.{Finds, finds_both, blank_reads, not_equal, no_digit, no_upper, Stops, separators_past, separator_read, separator_stops, stops_at, point_reads, point_follows, separator_follows}
 
 -- ---- the end of a command
 
@@ -30,11 +31,6 @@ ends_stop rest e = subst Stops (sym e.split) (blanks_stop e.blanks (59 ∷ e.mor
 pub ends_follow : (rest : List ℕ) → Ends rest → follows rest ≡ false
 ends_follow rest e = ap follows e.split ∙ ap starts (separators_past e.blanks (59 ∷ e.more) (blanks_separate e.blanks e.are_blanks))
 
--- what follows the blanks in front
-abbrev pub past_blanks : List ℕ → List ℕ
-past_blanks [] = []
-past_blanks (b ∷ bs) = elim (is_blank b) [ true ↦ past_blanks bs | false ↦ b ∷ bs ]
-
 pub blanks_past : (bs rest : List ℕ) → Blanks bs → past_blanks (bs ++ rest) ≡ past_blanks rest
 blanks_past [] rest h = refl
 blanks_past (b ∷ bs) rest h =
@@ -46,9 +42,6 @@ ends_past rest e = ap past_blanks e.split ∙ blanks_past e.blanks (59 ∷ e.mor
 
 -- ---- what may be left out
 
-abbrev pub tail_from : {A : Type 0} → A → Reader A → Reader A
-tail_from usual p text = elim (follows text) [ true ↦ p text | false ↦ Some (usual, text) ]
-
 pub tail_left : {A : Type 0} (usual : A) (p : Reader A) (rest : List ℕ) → follows rest ≡ false → Finds (tail_from usual p) usual [] rest
 tail_left usual p rest h = rw (h, tail_from) refl
 
@@ -57,18 +50,6 @@ pub tail_found : {A : Type 0} (usual : A) (p : Reader A) (a : A) (front rest : L
 tail_found usual p a front rest h k = rw (h, tail_from) k
 
 -- ---- paths
-
--- the other points of a path, behind a separator, with this one in front
-abbrev pub others : Reader (List Point) → Point → Unit {0} → Reader (List Point)
-others more p u = and_then more (gives (λ ps. p ∷ ps))
-
-abbrev pub path_on : Reader (List Point) → Point → Reader (List Point)
-path_on more p = tail_from (p ∷ []) (and_then separator_from (others more p))
-
--- a path of at most n points
-abbrev pub path_from : ℕ → Reader (List Point)
-path_from zero = λ text. None
-path_from (suc n) = and_then point_from (path_on (path_from n))
 
 path_follows : (ps : List Point) (front rest : List ℕ) → Path ps front → follows (front ++ rest) ≡ true
 path_follows [] front rest h = absurd h
@@ -105,26 +86,6 @@ path_size (p ∷ q ∷ ps) front (fp, more, e, hp, (sep, fq, f, (b, g, hb), hq))
     omega arith
 
 -- ---- turns
-
-abbrev mirror_from : Reader Turn
-mirror_from [] = None
-mirror_from (b ∷ bs) = elim (eqb b 88) [ true ↦ Some (MirrorX, bs) | false ↦ elim (eqb b 89) [ true ↦ Some (MirrorY, bs) | false ↦ None ] ]
-
-abbrev turn_from : Reader Turn
-turn_from [] = None
-turn_from (b ∷ bs) = elim (eqb b 84) [
-  | true ↦ and_then point_from (gives Move) bs
-  | false ↦ elim (eqb b 82) [ true ↦ and_then point_from (gives Rotate) bs | false ↦ elim (eqb b 77) [ true ↦ mirror_from (past_blanks bs) | false ↦ None ] ]
-]
-
--- the turns of a call, at most n, behind a point where one may begin
-abbrev turns_on : List ℕ → Reader (List Turn) → Option (Turn × List ℕ) → Option (List Turn × List ℕ)
-turns_on text more None = Some ([], text)
-turns_on text more (Some r) = and_then more (gives (λ ts. r.0 ∷ ts)) r.1
-
-abbrev pub turns_from : ℕ → Reader (List Turn)
-turns_from zero = λ text. Some ([], text)
-turns_from (suc n) = λ text. turns_on text (turns_from n) (turn_from (past_blanks text))
 
 byte_and : (b : ℕ) (front byte back rest : List ℕ) → front ≡ byte ++ back → Byte b byte → front ++ rest ≡ b ∷ (back ++ rest)
 byte_and b front byte back rest e h = ap (λ t. t ++ rest) (e ∙ ap (λ t. t ++ back) h)
@@ -193,14 +154,6 @@ turns_size (t ∷ ts) front (bs, more, e, h, (ft, fts, f, k, m)) =
 
 -- ---- names and comments
 
-abbrev is_name_byte : ℕ → Bool
-is_name_byte b = is_digit b || is_upper b
-
--- the bytes of a name in front, and the rest
-abbrev pub name_from : List ℕ → List ℕ × List ℕ
-name_from [] = ([], [])
-name_from (b ∷ bs) = elim (is_name_byte b) [ true ↦ (b ∷ (name_from bs).0, (name_from bs).1) | false ↦ ([], b ∷ bs) ]
-
 name_byte : (b : ℕ) → IsDigit b ⊎ IsUpper b → (is_name_byte b ≡ true) × (is_blank b ≡ false)
 name_byte b (inl h) = (grind arith, grind arith)
 name_byte b (inr h) = (grind arith, grind arith)
@@ -222,21 +175,6 @@ name_reads (b ∷ name) rest h e =
 pub name_past : (name rest : List ℕ) → IsShortName name → past_blanks (name ++ rest) ≡ name ++ rest
 name_past [] rest h = absurd (omega (arith, h.0))
 name_past (b ∷ name) rest h = rw ((name_byte b (All-head (λ b. IsDigit b ⊎ IsUpper b) b name h.2)).1, past_blanks) refl
-
-abbrev prefixed : ℕ → Option (List ℕ × List ℕ) → Option (List ℕ × List ℕ)
-prefixed b None = None
-prefixed b (Some r) = Some (b ∷ r.0, r.1)
-
--- the words of a comment up to the parenthesis that closes it, where so many more are open
-abbrev pub comment_from : ℕ → Reader (List ℕ)
-comment_from depth [] = None
-comment_from depth (b ∷ bs) = elim (eqb b 40) [
-  | true ↦ prefixed b (comment_from (depth + 1) bs)
-  | false ↦ elim (eqb b 41) [
-    | true ↦ elim (eqb depth 0) [ true ↦ Some ([], bs) | false ↦ prefixed b (comment_from (depth - 1) bs) ]
-    | false ↦ prefixed b (comment_from depth bs)
-  ]
-]
 
 pub comment_reads : (words : List ℕ) (depth : ℕ) (rest : List ℕ) → IsBalanced depth words → comment_from depth (words ++ (41 ∷ rest)) ≡ Some (words, rest)
 comment_reads [] depth rest h = ap (λ d. comment_from d (41 ∷ rest)) h

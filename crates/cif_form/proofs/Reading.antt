@@ -5,9 +5,10 @@ use Rattle.cif_form.specs.declared.command.Command.{Command}
 use Rattle.cif_form.specs.declared.command.Command.TheVariants.{Polygon, Box, Round, Wire, Layer, Start, Finish, Delete, Call, User, Comment}
 use Rattle.cif_form.specs.declared.command.Item.{Item}
 use Rattle.cif_form.specs.Text.{◌▹◌, Byte, IsBlank, Blanks, Spells, Semicolon, After, Reads}
-use Rattle.cif_form.proofs.Numbers.{blank_reads, is_blank}
+use Rattle.cif_form.specs.Readers.{is_blank, command_from}
+use Rattle.cif_form.proofs.Numbers.{blank_reads}
 use Rattle.cif_form.proofs.Parts.{Ends}
-use Rattle.cif_form.proofs.Commands.{command_from, command_reads, EndsAfter}
+use Rattle.cif_form.proofs.Commands.{command_reads, EndsAfter}
 
 abbrev with_item : ℕ → Command → Option (List Item) → Option (List Item)
 with_item offset c None = None

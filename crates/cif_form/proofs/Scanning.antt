@@ -9,9 +9,10 @@ use Rattle.cif_form.specs.Text.{IsBlank, Blanks}
 use Rattle.cif_form.specs.Scans.{TextEnd, IsReadAs, IsReadable, HasBig, opens, Scans, IsLateEnd, FileScans}
 use Rattle.cif_form.specs.Scans.TextRule.{C1, C2, C3, C4, C5}
 use Rattle.cif_form.specs.Scans.TextEnd.{Whole, Broken}
-use Rattle.cif_form.proofs.Numbers.{is_digit, is_upper, is_blank, blank_reads}
+use Rattle.cif_form.specs.Readers.{is_digit, is_upper, is_blank, command_from}
+use Rattle.cif_form.proofs.Numbers.{blank_reads}
 use Rattle.cif_form.proofs.OneLabel.{one_cut}
-use Rattle.cif_form.proofs.Commands.{command_from, command_reads, EndsAfter}
+use Rattle.cif_form.proofs.Commands.{command_reads, EndsAfter}
 use Rattle.cif_form.proofs.Reading.{begins}
 
 -- ---- one command

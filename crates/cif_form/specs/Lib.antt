@@ -2,6 +2,7 @@ pub mod Text
 pub mod Fits
 pub mod Writing
 pub mod Scans
+pub mod Readers
 pub mod Place
 pub mod Labels
 pub mod Expansion

@@ -53,6 +53,11 @@ opens false Finish = None
 opens true (Delete number) = None
 opens inside _ = Some inside
 
+-- each command may stand where it does, and no definition is open behind the last
+abbrev pub Nests : Bool → List Command → Type 0
+Nests inside [] = inside ≡ false
+Nests inside (c ∷ cs) = (within : Bool) × (opens inside c ≡ Some within) × Nests within cs
+
 -- The text from an offset on, its commands, and how its reading ends. `inside`: a definition is open.
 pub data Scans : Bool → ℕ → List ℕ → List Item → TextEnd → Type 0 where
   blank : {inside : Bool} {offset : ℕ} {rest : List ℕ} {items : List Item} {e : TextEnd} (b : ℕ) → IsBlank b

@@ -1,13 +1,14 @@
 //! Laws of CIF's text and of what it draws, for the proofs of crates above.
 
-ghost use Rattle.std.specs.Prelude.{◌≡◌, ℕ, List, [], All, None};
+ghost use Rattle.std.specs.Prelude.{◌≡◌, ℕ, List, [], ◌∷◌, ◌++◌, All, None, Some, map, false};
 ghost use Rattle.lam_geom.specs.declared.rect.Rect.{Rect};
 ghost use Rattle.lam_geom.specs.declared.label.FlatLabel.{FlatLabel};
 ghost use Rattle.cif_form.specs.declared.command.Command.{Command};
 ghost use Rattle.cif_form.specs.declared.command.Item.{Item};
 ghost use Rattle.cif_form.specs.Text.{◌▹◌, Byte, Blanks, Reads};
 ghost use Rattle.cif_form.specs.Fits.{Fits};
-ghost use Rattle.cif_form.specs.Scans.{TextEnd, FileScans};
+ghost use Rattle.cif_form.specs.Scans.{TextEnd, IsReadAs, HasBig, FileScans, Nests};
+ghost use Rattle.cif_form.specs.Readers.{command_from};
 ghost use Rattle.cif_form.specs.Expansion.{Expands};
 ghost use Rattle.cif_form.specs.Walk.{WalkEnd, FileWalks};
 ghost use Rattle.cif_form.specs.Walk.WalkEnd.{Whole};
@@ -50,6 +51,23 @@ pub fn walk_is_expansion()
 pub fn scan_is_unique()
     ensures { (text : List ℕ) (items others : List Item) (end last : TextEnd)
         → FileScans text items end → FileScans text others last → (items ≡ others) × (end ≡ last) }
+{}
+
+/// The reader that is a function finds each command that the grammar reads.
+pub fn command_is_found()
+    ensures { (text : List ℕ) (c : Command) (size : ℕ) (rest : List ℕ) (r : IsReadAs text c size rest)
+        → command_from text ≡ Some (c, r.blanks ++ (59 ∷ rest)) }
+{}
+
+/// A command that is read fits, if none of its numbers is too big.
+pub fn read_command_fits()
+    ensures { (text : List ℕ) (c : Command) (size : ℕ) (rest : List ℕ) → IsReadAs text c size rest → ¬ HasBig c → Fits c }
+{}
+
+/// The commands of a file that breaks no rule of texts fit, and each may stand where it does.
+pub fn scanned_commands_fit()
+    ensures { (text : List ℕ) (items : List Item) → FileScans text items TextEnd.Whole
+        → All Fits (map (λ i. i.command) items) × Nests false (map (λ i. i.command) items) }
 {}
 
 /// A file that breaks no rule of texts reads as its commands.

@@ -1,0 +1,13 @@
+//! Reading CIF.
+#![tactic(auto)]
+
+mod bytes;
+mod command;
+mod found;
+mod numbers;
+mod read;
+#[cfg(test)]
+mod tests;
+mod words;
+
+pub use read::read_cif;

@@ -1,0 +1,9 @@
+//! Writing CIF: which commands have a text, and their texts.
+#![tactic(auto)]
+
+#[cfg(test)]
+mod tests;
+mod text;
+mod write;
+
+pub use write::{write_command, write_end};
