@@ -1,0 +1,8 @@
+//! The flattening of CIF: calls expanded, moved and scaled.
+#![tactic(auto)]
+
+mod edges;
+mod fault;
+mod placement;
+mod ratio;
+
