@@ -4,6 +4,7 @@ use Rattle.std.specs.Prelude.{ℤ, pos, negsuc, neg_ℤ, ◌*ℤ◌, ◌<ℤ◌}
 use Rattle.std.specs.Int.RustNames.{unsigned_abs, int_rem}
 use Rattle.std.proofs.lemmas.Int.{ints, unsigned_abs-mul}
 use Rattle.std.proofs.Math.Nat.{mul-mod_right}
+use Rattle.cif_form.specs.Place.{Scale, IsScaled}
 use Rattle.cif_flat.specs.Placing.{IsWithin}
 
 abs_within : (n : ℕ) (z : ℤ) → IsWithin n z → unsigned_abs z ≤ n
@@ -35,3 +36,6 @@ rem_multiple (pos d) z (negsuc a) above e =
     let m : suc a ≡ d * unsigned_abs z = sym (ap unsigned_abs e) ∙ unsigned_abs-mul (pos d) z in
     ap (λ n. neg_ℤ (pos (n % d))) m ∙ ap (λ n. neg_ℤ (pos n)) (mul-mod_right d (unsigned_abs z))
 rem_multiple (negsuc d) z p above e = absurd (omega (arith, ints, above))
+
+pub scaled_same : (s : Scale) (w v y z : ℤ) → w ≡ v → z ≡ y → IsScaled s w y → IsScaled s v z
+scaled_same s w v y z e f h = (h.0, ap (λ k. s.b *ℤ k) f ∙ h.1 ∙ ap (λ k. s.a *ℤ k) e)

@@ -1,6 +1,7 @@
 //! Rectangles before they are known to be near.
 
 ghost use Rattle.std.specs.Prelude.{◌≡◌, ◌^◌, ◌↔◌, IsTrue, IfSome, IfNone};
+ghost use Rattle.std.specs.Bool.{OnTrue, OnFalse};
 ghost use Rattle.lam_geom.specs.declared.layer.Layer.{Layer};
 ghost use Rattle.lam_geom.specs.declared.rect.Rect.{Rect};
 ghost use Rattle.lam_geom.specs.Moves.{IsNearRect};
@@ -81,9 +82,19 @@ impl Edges {
     }
 
     pub(crate) fn are_near(self) -> bool
-        ensures { IsTrue result ↔ ((l : Layer) → IsNearRect (rect_of l self)) }
+        ensures near { OnTrue result ((l : Layer) → IsNearRect (rect_of l self)) }
+        ensures far { OnFalse result ((l : Layer) → ¬ IsNearRect (rect_of l self)) }
     {
-        is_near(self.left) && is_near(self.bottom) && is_near(self.right) && is_near(self.top)
+        if !is_near(self.left) {
+            return false;
+        }
+        if !is_near(self.bottom) {
+            return false;
+        }
+        if !is_near(self.right) {
+            return false;
+        }
+        is_near(self.top)
     }
 
     pub(crate) fn rect(self, layer: Layer) -> Rect

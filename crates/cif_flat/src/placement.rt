@@ -2,7 +2,7 @@
 
 ghost use Rattle.std.specs.Prelude.{◌≡◌, ◌^◌, ◌+ℤ◌};
 ghost use Rattle.lam_geom.specs.declared.layer.Layer.{Layer};
-ghost use Rattle.cif_flat.specs.Placing.{IsWithin, IsHeld, AreSmall, rect_of, either, flipped, low_end, high_end, place_of, switched_if, after};
+ghost use Rattle.cif_flat.specs.Placing.{IsWithin, IsHeld, AreSmall, rect_of, either, flipped, low_end, high_end, laid, place_of, switched_if, after};
 
 use crate::edges::Edges;
 
@@ -90,18 +90,25 @@ impl Placement {
         }
     }
 
-    /// Edges where they are laid.
-    pub(crate) fn place(self, edges: Edges) -> Edges
+    fn lay(self, turned: Edges) -> Edges
         requires held { IsHeld (2 ^ 126) self }
-        requires small { AreSmall edges }
-        ensures { (l : Layer) → rect_of l result ≡ place_of self (rect_of l edges) }
+        requires small { AreSmall turned }
+        ensures { (l : Layer) → rect_of l result ≡ laid self.flips_x self.flips_y self.dx self.dy (rect_of l turned) }
     {
-        let turned = edges.exchanged_if(self.swaps);
         Edges {
             left: low_end(self.flips_x, self.dx, turned.left, turned.right),
             bottom: low_end(self.flips_y, self.dy, turned.bottom, turned.top),
             right: high_end(self.flips_x, self.dx, turned.left, turned.right),
             top: high_end(self.flips_y, self.dy, turned.bottom, turned.top),
         }
+    }
+
+    /// Edges where they are laid.
+    pub(crate) fn place(self, edges: Edges) -> Edges
+        requires held { IsHeld (2 ^ 126) self }
+        requires small { AreSmall edges }
+        ensures { (l : Layer) → rect_of l result ≡ place_of self (rect_of l edges) }
+    {
+        self.lay(edges.exchanged_if(self.swaps))
     }
 }
