@@ -3,6 +3,8 @@ use Rattle.std.proofs.Common.{ℕ, suc, ◌≡◌, ◌≢◌, ◌+◌, ◌*◌, 
 use Rattle.std.specs.Prelude.{ℤ, pos, negsuc, neg_ℤ, ◌*ℤ◌, ◌<ℤ◌}
 use Rattle.std.specs.Int.RustNames.{unsigned_abs, int_rem}
 use Rattle.std.proofs.lemmas.Int.{ints, unsigned_abs-mul}
+use Rattle.std.proofs.lemmas.Bool.{cases_lt}
+use lib.IntN.{pos-*ℤ-negsuc}
 use Rattle.std.proofs.Math.Nat.{mul-mod_right}
 use Rattle.cif_form.specs.Place.{Scale, IsScaled}
 use Rattle.cif_flat.specs.Placing.{IsWithin}
@@ -39,3 +41,36 @@ rem_multiple (negsuc d) z p above e = absurd (omega (arith, ints, above))
 
 pub scaled_same : (s : Scale) (w v y z : ℤ) → w ≡ v → z ≡ y → IsScaled s w y → IsScaled s v z
 scaled_same s w v y z e f h = (h.0, ap (λ k. s.b *ℤ k) f ∙ h.1 ∙ ap (λ k. s.a *ℤ k) e)
+
+-- ---- a scaled number is determined
+
+below_times : (b x y : ℕ) → 0 < b → x < y → b * x < b * y
+below_times b x y h k = grind arith
+
+cancel_nat : (b x y : ℕ) → 0 < b → b * x ≡ b * y → x ≡ y
+cancel_nat b x y h e = elim (cases_lt x y) [
+  | inl l ↦ (let k = below_times b x y h l in absurd (omega arith))
+  | inr l ↦ elim (cases_lt y x) [ inl m ↦ (let k = below_times b y x h m in absurd (omega arith)) | inr m ↦ omega arith ]
+]
+
+cancel : (b : ℕ) (z v : ℤ) → 0 < b → pos b *ℤ z ≡ pos b *ℤ v → z ≡ v
+cancel b (pos x) (pos y) h e = ap pos (cancel_nat b x y h (omega (arith, ints)))
+cancel b (negsuc x) (negsuc y) h e =
+    let m : neg_ℤ (pos (b * suc x)) ≡ neg_ℤ (pos (b * suc y)) = sym (pos-*ℤ-negsuc b x) ∙ e ∙ pos-*ℤ-negsuc b y in
+    let k : suc x ≡ suc y = cancel_nat b (suc x) (suc y) h (omega (arith, ints)) in
+    ap negsuc (omega arith)
+cancel b (pos x) (negsuc y) h e =
+    let m : pos (b * x) ≡ neg_ℤ (pos (b * suc y)) = e ∙ pos-*ℤ-negsuc b y in
+    let k = below_times b 0 (suc y) h (omega arith) in
+    absurd (omega (arith, ints))
+cancel b (negsuc x) (pos y) h e =
+    let m : neg_ℤ (pos (b * suc x)) ≡ pos (b * y) = sym (pos-*ℤ-negsuc b x) ∙ e in
+    let k = below_times b 0 (suc x) h (omega arith) in
+    absurd (omega (arith, ints))
+
+by_scale : (b z v : ℤ) → pos 0 <ℤ b → b *ℤ z ≡ b *ℤ v → z ≡ v
+by_scale (pos b) z v h e = cancel b z v (omega (arith, ints)) e
+by_scale (negsuc b) z v h e = absurd (omega (arith, ints))
+
+pub one_scaled : (s : Scale) (w z v : ℤ) → IsScaled s w z → IsScaled s w v → z ≡ v
+one_scaled s w z v h k = by_scale s.b z v h.0 (h.1 ∙ sym k.1)

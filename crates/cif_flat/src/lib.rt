@@ -5,4 +5,5 @@ mod edges;
 mod fault;
 mod placement;
 mod ratio;
+mod turned;
 
