@@ -6,6 +6,7 @@ use Rattle.lam_geom.specs.declared.rect.Rect.{Rect}
 use Rattle.cif_form.specs.Place.{Scale}
 use Rattle.cif_flat.specs.declared.ratio.Ratio.{Ratio}
 use Rattle.cif_flat.specs.declared.edges.Edges.{Edges}
+use Rattle.cif_flat.specs.declared.edges.Extent.{Extent}
 use Rattle.cif_flat.specs.declared.placement.Placement.{Placement}
 
 -- at most n in size
@@ -28,6 +29,9 @@ pub record IsFitRatio (r : Ratio) : Type 0 where
   pub b : pos 0 <ℤ r.b
   pub short_a : r.a ≤ℤ pos 2_147_483_647
   pub short_b : r.b ≤ℤ pos 2_147_483_647
+
+abbrev pub turned : Extent → Extent
+turned e = record { across = e.up; up = e.across }
 
 -- the rectangle with these edges
 abbrev pub rect_of : Layer → Edges → Rect

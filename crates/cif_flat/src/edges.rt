@@ -6,7 +6,7 @@ ghost use Rattle.lam_geom.specs.declared.layer.Layer.{Layer};
 ghost use Rattle.lam_geom.specs.declared.rect.Rect.{Rect};
 ghost use Rattle.lam_geom.specs.Moves.{IsNearRect};
 ghost use Rattle.cif_form.specs.Place.{IsAround};
-ghost use Rattle.cif_flat.specs.Placing.{IsWithin, IsShort, IsShortPoint, IsFitRatio, AreSmall, scale_of, rect_of, exchanged_if};
+ghost use Rattle.cif_flat.specs.Placing.{IsWithin, IsShort, IsShortPoint, IsFitRatio, AreSmall, scale_of, rect_of, turned, exchanged_if};
 
 use crate::ratio::{Ratio, twice_less, twice_more};
 use lam_geom::{Layer, Point, Rect};
@@ -27,6 +27,17 @@ pub(crate) struct Edges {
 pub(crate) struct Extent {
     pub across: i64,
     pub up: i64,
+}
+
+impl Extent {
+    pub(crate) fn turned(self) -> Extent
+        ensures { result ≡ turned self }
+    {
+        Extent {
+            across: self.up,
+            up: self.across,
+        }
+    }
 }
 
 fn is_near(edge: i128) -> bool

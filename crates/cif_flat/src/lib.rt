@@ -5,5 +5,6 @@ mod edges;
 mod fault;
 mod placement;
 mod ratio;
+mod shape;
 mod turned;
 
