@@ -30,6 +30,15 @@ pub(crate) struct Extent {
 }
 
 impl Extent {
+    pub(crate) fn square(width: i64) -> Extent
+        ensures { result ≡ record { across = width; up = width } }
+    {
+        Extent {
+            across: width,
+            up: width,
+        }
+    }
+
     pub(crate) fn turned(self) -> Extent
         ensures { result ≡ turned self }
     {

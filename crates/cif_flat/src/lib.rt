@@ -3,6 +3,7 @@
 
 mod edges;
 mod fault;
+mod level;
 mod placement;
 mod ratio;
 mod shape;

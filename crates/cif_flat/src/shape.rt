@@ -1,16 +1,16 @@
 //! Boxes and wires.
 
-ghost use Rattle.std.specs.Prelude.{◌≡◌, ◌+◌, ◌<◌, length, slice_index_or, All, IfOk, IfErr, IfSome, IfNone};
+ghost use Rattle.std.specs.Prelude.{◌≡◌, ◌^◌, ◌<◌, length, slice_index_or, All, IfOk, IfErr, IfSome, IfNone};
 ghost use Rattle.std.specs.Bool.{OnTrue, OnFalse};
 ghost use Rattle.lam_geom.specs.declared.layer.Layer.{Layer};
 ghost use Rattle.lam_geom.specs.declared.rect.Rect.{Rect};
 ghost use Rattle.cif_form.specs.Place.{segments, IsSegment};
 ghost use Rattle.cif_flat.specs.Placing.{IsShort, IsShortPoint, IsFitRatio, AreSmall, IsHeld, scale_of, rect_of};
-ghost use Rattle.cif_flat.specs.Shaping.{IsAroundCenter, IsUneven, IsBoxEdges, IsBoxFault, IsStraight, HasAskewSegment};
+ghost use Rattle.cif_flat.specs.Shaping.{IsAroundCenter, IsUneven, IsBoxEdges, IsBoxFault, IsStraight, HasAskewSegment, IsDrawnIfNear, IsWired};
 
 use crate::edges::{Edges, Extent};
 use crate::fault::Fault;
-use crate::placement::Placement;
+use crate::level::Level;
 use crate::ratio::Ratio;
 use lam_geom::{Layer, Point, Rect};
 use mp_base::List;
@@ -96,4 +96,65 @@ pub(crate) fn are_straight(path: &[Point]) -> bool
         }
     }
     true
+}
+
+fn segment_edges(ratio: Ratio, extent: Extent, segment: Segment) -> Option<Edges>
+    requires fit { IsFitRatio ratio }
+    requires extent { IsShort extent.across × (extent.up ≡ extent.across) }
+    requires from { IsShortPoint segment.from }
+    requires to { IsShortPoint segment.to }
+    requires straight { IsStraight (segment.from, segment.to) }
+    ensures whole { IfSome result (λ e. (l : Layer) → IsSegment (scale_of ratio) l extent.across segment.from segment.to (rect_of l e)) }
+    ensures small { IfSome result AreSmall }
+    ensures uneven { IfNone result ((l : Layer) (r : Rect) → ¬ IsSegment (scale_of ratio) l extent.across segment.from segment.to r) }
+{
+    if segment.from.x <= segment.to.x {
+        if segment.from.y <= segment.to.y {
+            return Edges::around(ratio, segment.from, segment.to, extent);
+        }
+    }
+    Edges::around(ratio, segment.to, segment.from, extent)
+}
+
+/// Draws a rectangle if it is near, and says whether it is and others were.
+pub(crate) fn draw(shapes: &mut List<Rect>, others: bool, layer: Layer, edges: Edges) -> Result<bool, AllocError>
+    ensures { IfOk result (IsDrawnIfNear others layer edges shapes.old shapes.new) }
+{
+    if !edges.are_near() {
+        return Ok(false);
+    }
+    shapes.push(edges.rect(layer))?;
+    Ok(others)
+}
+
+/// What becomes of a wire: some edge isn't whole, or some rectangle isn't near, or it is drawn.
+#[derive(Clone, Copy, Drop)]
+pub(crate) enum Wired {
+    Uneven,
+    Far,
+    Drawn,
+}
+
+/// Draws a wire, if its rectangles are near.
+pub(crate) fn draw_wire(shapes: &mut List<Rect>, level: Level, layer: Layer, extent: Extent, path: &[Point]) -> Result<Wired, AllocError>
+    requires fit { IsFitRatio level.ratio }
+    requires held { IsHeld (2 ^ 126) level.placement }
+    requires extent { IsShort extent.across × (extent.up ≡ extent.across) }
+    requires some { 0 < length path.now }
+    requires short { All IsShortPoint path.now }
+    requires straight { All IsStraight (segments path.now) }
+    ensures { IfOk result (IsWired (scale_of level.ratio) level.placement layer extent.across (segments path.now) shapes.old shapes.new) }
+{
+    let mut near = true;
+    for index in 0..segment_count(path) {
+        let segment = segment_at(path, index);
+        let Some(edges) = segment_edges(level.ratio, extent, segment) else {
+            return Ok(Wired::Uneven);
+        };
+        near = draw(shapes, near, layer, level.placement.place(edges))?;
+    }
+    if near {
+        return Ok(Wired::Drawn);
+    }
+    Ok(Wired::Far)
 }

@@ -1,0 +1,5 @@
+use Rattle.cif_flat.proofs.Shapes.{drawn_others}
+use Rattle.cif_flat.proofs.shape.draw.Goals as goal
+
+pub rect-requires : goal.rect-requires
+rect-requires c = c.if-not-are_near.ensures.near c.args.layer
