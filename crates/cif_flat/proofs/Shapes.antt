@@ -15,6 +15,8 @@ use Rattle.cif_flat.specs.declared.fault.Fault.{Fault}
 use Rattle.cif_flat.specs.declared.placement.Placement.{Placement}
 use Rattle.cif_flat.specs.declared.ratio.Ratio.{Ratio}
 use Rattle.cif_flat.specs.Placing.{IsShortPoint, scale_of, rect_of, turned, place_of}
+use Rattle.cif_flat.proofs.Numbers.{one_scaled}
+use Rattle.cif_flat.proofs.Placements.{same_rect}
 use Rattle.cif_flat.specs.Shaping.{IsAroundCenter, IsUneven, IsBoxEdges, IsBoxFault, IsStraight, IsNearAt, IsFarAt, IsDrawnIfNear, HaveEdges, drawn, IsWired, IsWiredSoFar}
 
 -- ---- boxes
@@ -188,3 +190,34 @@ pub no_segment : (s : Scale) (l : Layer) (wide : ℤ) (segs : List (Point × Poi
     → ((r : Rect) → ¬ IsSegment s l wide p.0 p.1 r) → ¬ AreSegments s l wide segs rs
 no_segment s l wide segs rs k p h e n a =
     let b = segments_at s l wide segs rs k p a h in n b.0 (subst (λ q. IsSegment s l wide q.0 q.1 b.0) (sym e) b.1)
+
+-- ---- edges are determined
+
+one_around : (s : Scale) (l : Layer) (p o : Point) (a u : ℤ) (r q : Rect) → IsAround s l p o a u r → IsAround s l p o a u q → r ≡ q
+one_around s l p o a u r q h k = same_rect _ _ _ _ _ _ _ _ _ _ (h.layer ∙ sym k.layer) (one_scaled s _ _ _ h.left k.left) (one_scaled s _ _ _ h.bottom k.bottom)
+    (one_scaled s _ _ _ h.right k.right) (one_scaled s _ _ _ h.top k.top)
+
+pub one_box : (s : Scale) (l : Layer) (a b : ℤ) (c d : Point) (r q : Rect) → IsBox s l a b c d r → IsBox s l a b c d q → r ≡ q
+one_box s l a b c d r q (inl h) (inl k) = one_around s l c c a b r q h.2 k.2
+one_box s l a b c d r q (inr h) (inr k) = one_around s l c c b a r q h.2 k.2
+one_box s l a b c d r q (inl h) (inr k) = absurd (h.1 k.0)
+one_box s l a b c d r q (inr h) (inl k) = absurd (k.1 h.0)
+
+one_segment : (s : Scale) (l : Layer) (w : ℤ) (p q : Point) (r o : Rect) → IsSegment s l w p q r → IsSegment s l w p q o → r ≡ o
+one_segment s l w p q r o h k =
+    let flip : (h.low ≡ p) × (h.high ≡ q) ⊎ (h.low ≡ q) × (h.high ≡ p) → (k.low ≡ h.low) × (k.high ≡ h.high) ⊎ (k.low ≡ h.high) × (k.high ≡ h.low) =
+    λ e. elim e [
+      | inl a ↦ elim k.ends [ inl b ↦ inl (b.0 ∙ sym a.0, b.1 ∙ sym a.1) | inr b ↦ inr (b.0 ∙ sym a.1, b.1 ∙ sym a.0) ]
+      | inr a ↦ elim k.ends [ inl b ↦ inr (b.0 ∙ sym a.1, b.1 ∙ sym a.0) | inr b ↦ inl (b.0 ∙ sym a.0, b.1 ∙ sym a.1) ]
+    ] in
+    let e = one_low h.low h.high k.low k.high (flip h.ends) k.across k.upward h.across h.upward in
+    one_around s l h.low h.high w w r o h.around
+    (subst (λ a. IsAround s l a h.high w w o) e.0 (subst (λ a. IsAround s l k.low a w w o) e.1 k.around))
+
+pub one_wire : (s : Scale) (l : Layer) (w : ℤ) (ps : List (Point × Point)) (rs qs : List Rect) → AreSegments s l w ps rs → AreSegments s l w ps qs → rs ≡ qs
+one_wire s l w [] [] [] h k = refl
+one_wire s l w (p ∷ ps) (r ∷ rs) (q ∷ qs) h k = λ i. one_segment s l w p.0 p.1 r q h.0 k.0 i ∷ one_wire s l w ps rs qs h.1 k.1 i
+one_wire s l w [] (r ∷ rs) qs h k = absurd h
+one_wire s l w [] [] (q ∷ qs) h k = absurd k
+one_wire s l w (p ∷ ps) [] qs h k = absurd h
+one_wire s l w (p ∷ ps) (r ∷ rs) [] h k = absurd k

@@ -1,3 +1,6 @@
 pub mod Placing
 pub mod Turning
 pub mod Shaping
+pub mod Sound
+pub mod Refusing
+pub mod Walking

@@ -30,12 +30,12 @@ pub(crate) struct Extent {
 }
 
 impl Extent {
-    pub(crate) fn square(width: i64) -> Extent
-        ensures { result ≡ record { across = width; up = width } }
+    pub(crate) fn of(across: &i64, up: &i64) -> Extent
+        ensures { result ≡ record { across = across.now; up = up.now } }
     {
         Extent {
-            across: width,
-            up: width,
+            across: *across,
+            up: *up,
         }
     }
 

@@ -1,5 +1,7 @@
 //! Lists of commands that are being walked.
 
+ghost use Rattle.std.specs.Prelude.{◌≡◌, ◌+◌, ◌<◌};
+
 use crate::placement::Placement;
 use crate::ratio::Ratio;
 use lam_geom::Layer;
@@ -8,10 +10,27 @@ use lam_geom::Layer;
 /// from `next` on and before `end` are left.
 #[derive(Clone, Copy, Drop)]
 pub(crate) struct Level {
-    pub symbol: Option<u32>,
+    pub symbol: Option<u64>,
     pub ratio: Ratio,
     pub layer: Option<Layer>,
     pub placement: Placement,
     pub next: usize,
     pub end: usize,
+}
+
+impl Level {
+    /// Behind its next command, with a layer set or none.
+    pub(crate) fn onward(self, layer: Option<Layer>) -> Level
+        requires { self.next < self.end }
+        ensures { result ≡ record self { layer = layer; next = self.next + 1 } }
+    {
+        Level {
+            symbol: self.symbol,
+            ratio: self.ratio,
+            layer,
+            placement: self.placement,
+            next: self.next + 1,
+            end: self.end,
+        }
+    }
 }

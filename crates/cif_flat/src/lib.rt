@@ -1,11 +1,15 @@
 //! The flattening of CIF: calls expanded, moved and scaled.
 #![tactic(auto)]
 
+mod called;
 mod edges;
 mod fault;
+mod layer;
 mod level;
 mod placement;
 mod ratio;
 mod shape;
+mod symbol;
+mod table;
 mod turned;
-
+mod walker;

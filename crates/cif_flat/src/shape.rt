@@ -117,7 +117,7 @@ fn segment_edges(ratio: Ratio, extent: Extent, segment: Segment) -> Option<Edges
 }
 
 /// Draws a rectangle if it is near, and says whether it is and others were.
-pub(crate) fn draw(shapes: &mut List<Rect>, others: bool, layer: Layer, edges: Edges) -> Result<bool, AllocError>
+fn draw(shapes: &mut List<Rect>, others: bool, layer: Layer, edges: Edges) -> Result<bool, AllocError>
     ensures { IfOk result (IsDrawnIfNear others layer edges shapes.old shapes.new) }
 {
     if !edges.are_near() {

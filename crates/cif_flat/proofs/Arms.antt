@@ -1,0 +1,179 @@
+-- What is met at each kind of command.
+use Rattle.std.proofs.Common.{ℕ, ◌≡◌, ◌+◌, ◌<◌, ◌≤◌, refl, sym, ◌∙◌, ap, subst, arith, inl, inr, List, [], ◌∷◌, ◌++◌, length, map, All, append-nil, Option, Some, None}
+use Rattle.std.specs.Prelude.{◌≢◌, ℤ, Contains}
+use Rattle.std.proofs.lemmas.List.Elements.{All-nil, All-cons, All-head, All-tail, All-contains, All-map, All-weaker}
+use Rattle.lam_geom.specs.declared.layer.Layer.{Layer}
+use Rattle.lam_geom.specs.declared.layer.Layer.TheVariants.{ND}
+use Rattle.lam_geom.specs.declared.place.Point.{Point}
+use Rattle.lam_geom.specs.Moves.{IsNearRect}
+use Rattle.lam_geom.specs.declared.rect.Rect.{Rect}
+use Rattle.cif_form.specs.declared.command.Command.TheVariants.{Box, Wire, Comment, Layer as SetLayer}
+use Rattle.cif_form.specs.declared.command.Item.{Item}
+use Rattle.cif_form.specs.Place.{layer_name, HasEdges, segments, AreSegments}
+use Rattle.cif_form.specs.Walk.{Visit, Breaks}
+use Rattle.cif_form.specs.Walk.DrawRule.{F3, F4, F7, F8}
+use Rattle.cif_form.specs.Expansion.{item_at}
+use Rattle.cif_flat.specs.declared.edges.Edges.{Edges}
+use Rattle.cif_flat.specs.declared.edges.Extent.{Extent}
+use Rattle.cif_flat.specs.declared.fault.Fault.{Fault}
+use Rattle.cif_flat.specs.declared.fault.Fault.TheVariants as faults
+use Rattle.cif_flat.specs.declared.placement.Placement.{Placement}
+use Rattle.cif_flat.specs.declared.level.Level.{Level}
+use Rattle.cif_flat.specs.declared.walker.Walker.{Walker}
+use Rattle.cif_flat.specs.Placing.{scale_of, rect_of, place_of}
+use Rattle.cif_flat.specs.Shaping.{IsBoxEdges, IsBoxFault, IsNearAt, IsFarAt, IsStraight, HasAskewSegment, HaveEdges, drawn}
+use Rattle.cif_flat.specs.Refusing.{RefusesWalk, refusal_of}
+use Rattle.cif_flat.specs.Walking.{IsVisit, IsAfter}
+use Rattle.cif_flat.proofs.Rules.{never, none, first3, first4, first7, first8, first9, first10}
+use Rattle.cif_flat.proofs.Walks.{visit_at, stops, onward, arrive, arrive_quiet}
+use Rattle.cif_flat.proofs.Shapes.{one_box, one_wire}
+
+near_edges : (p : Placement) (es : List Edges) → All (λ r. IsNearRect (place_of p r)) (map (rect_of ND) es) → All (λ e. IsNearRect (place_of p (rect_of ND e))) es
+near_edges p [] h = All-nil (λ e. IsNearRect (place_of p (rect_of ND e)))
+near_edges p (e ∷ es) h = All-cons (λ e. IsNearRect (place_of p (rect_of ND e))) e es (All-head (λ r. IsNearRect (place_of p r)) (rect_of ND e) (map (rect_of ND) es) h)
+    (near_edges p es (All-tail (λ r. IsNearRect (place_of p r)) (rect_of ND e) (map (rect_of ND) es) h))
+
+map_twice : (p : Placement) (l : Layer) (es : List Edges) → drawn p l es ≡ map (place_of p) (map (rect_of l) es)
+map_twice p l [] = refl
+map_twice p l (e ∷ es) = ap (λ rs. place_of p (rect_of l e) ∷ rs) (map_twice p l es)
+
+some_segments : (path : List Point) → 0 < length path → 0 < length (segments path)
+some_segments [] h = absurd (omega arith)
+some_segments (p ∷ []) h = omega arith
+some_segments (p ∷ q ∷ []) h = omega arith
+some_segments (p ∷ q ∷ o ∷ ps) h = omega arith
+
+module _ (items : List Item) (w : Walker) (v : Level) (o : ℕ) where
+  -- ---- layers
+
+  module _ (name : List ℕ) (h : IsVisit items w v (item_at o (SetLayer name))) where
+    pub layer_counted : 4_000_000 ≤ w.count → RefusesWalk items (refusal_of faults.F7 o)
+    layer_counted k = stops items w v (item_at o (SetLayer name)) h faults.F7 (first7 (visit_at items w v (item_at o (SetLayer name)) h) (omega arith) never never never never never never)
+
+    pub layer_unknown : w.count < 4_000_000 → ((l : Layer) → name ≢ layer_name l) → RefusesWalk items (refusal_of faults.F10 o)
+    layer_unknown k u = stops items w v (item_at o (SetLayer name)) h faults.F10
+        (first10 (visit_at items w v (item_at o (SetLayer name)) h) u never never never never never never (λ b. omega (arith, b)) never never)
+
+    pub layer_set : w.count < 4_000_000 → (l : Layer) → name ≡ layer_name l → (new : Walker) → new ≡ record w { count = w.count + 1; levels = new.levels }
+        → new.levels.items ≡ w.levels.items ++ (onward v (Some l) ∷ []) → IsAfter items w v new
+    layer_set k l e new = arrive_quiet items w v (item_at o (SetLayer name)) h (Some l) new refl (omega arith)
+        (none (visit_at items w v (item_at o (SetLayer name)) h) never never never never never never (λ b. omega (arith, b)) never never (λ b. b l e)) (l, e, refl, refl, refl) (λ b e. cc)
+
+  -- ---- comments
+
+  module _ (text : List ℕ) (h : IsVisit items w v (item_at o (Comment text))) where
+    pub comment_counted : 4_000_000 ≤ w.count → RefusesWalk items (refusal_of faults.F7 o)
+    comment_counted k = stops items w v (item_at o (Comment text)) h faults.F7 (first7 (visit_at items w v (item_at o (Comment text)) h) (omega arith) never never never never never never)
+
+    pub comment_passed : w.count < 4_000_000 → (new : Walker) → new ≡ record w { count = w.count + 1; levels = new.levels }
+        → new.levels.items ≡ w.levels.items ++ (onward v v.layer ∷ []) → IsAfter items w v new
+    comment_passed k new = arrive_quiet items w v (item_at o (Comment text)) h v.layer new refl (omega arith)
+        (none (visit_at items w v (item_at o (Comment text)) h) never never never never never never (λ b. omega (arith, b)) never never never) (refl, refl, refl) (λ b e. cc)
+
+  -- ---- boxes
+
+  module _ (extent : Extent) (center direction : Point) (h : IsVisit items w v (item_at o (Box extent.across extent.up center direction))) where
+    abbrev box_item : Item
+    box_item = item_at o (Box extent.across extent.up center direction)
+
+    abbrev box_visit : Visit
+    box_visit = visit_at items w v box_item h
+
+    pub box_fault : (f : Fault) → IsBoxFault v.ratio extent center direction f → RefusesWalk items (refusal_of f o)
+    box_fault faults.F3 a = stops items w v box_item h faults.F3 (first3 box_visit a never never)
+    box_fault faults.F4 a = stops items w v box_item h faults.F4 (first4 box_visit (λ rs e. a.1 ND e.0 e.2) never never (λ b. b a.0))
+    box_fault faults.F1 a = absurd a
+    box_fault faults.F2 a = absurd a
+    box_fault faults.F5 a = absurd a
+    box_fault faults.F6 a = absurd a
+    box_fault faults.F7 a = absurd a
+    box_fault faults.F8 a = absurd a
+    box_fault faults.F9 a = absurd a
+    box_fault faults.F10 a = absurd a
+
+    module _ (e : Edges) (a : IsBoxEdges v.ratio extent center direction e) where
+      edges_of_box : (l : Layer) → HasEdges (scale_of v.ratio) l (Box extent.across extent.up center direction) (rect_of l e ∷ [])
+      edges_of_box l = (rect_of l e, refl, a.1 l)
+
+      no_f3 : ¬ Breaks box_visit F3
+      no_f3 b = b a.0
+
+      no_f4 : ¬ Breaks box_visit F4
+      no_f4 b = b (rect_of ND e ∷ []) (edges_of_box ND)
+
+      pub box_counted : 4_000_000 ≤ w.count → RefusesWalk items (refusal_of faults.F7 o)
+      box_counted k = stops items w v box_item h faults.F7 (first7 box_visit (omega arith) never never no_f3 no_f4 never never)
+
+      module _ (k : w.count < 4_000_000) where
+        no_f7 : ¬ Breaks box_visit F7
+        no_f7 b = omega (arith, b)
+
+        pub box_far : IsFarAt v.placement e → RefusesWalk items (refusal_of faults.F8 o)
+        box_far far = stops items w v box_item h faults.F8 (first8 box_visit (rect_of ND e ∷ [], edges_of_box ND, λ n. far ND (All-head (λ r. IsNearRect (place_of v.placement r)) (rect_of ND e) [] n))
+            never never no_f3 no_f4 never never no_f7)
+
+        module _ (near : IsNearAt v.placement e) where
+          no_f8 : ¬ Breaks box_visit F8
+          no_f8 (rs, (r, is, b), far) =
+              let same = one_box (scale_of v.ratio) ND extent.across extent.up center direction (rect_of ND e) r (a.1 ND) b in
+              far (subst (All (λ r. IsNearRect (place_of v.placement r))) ((λ i. same i ∷ []) ∙ sym is)
+                  (All-cons (λ r. IsNearRect (place_of v.placement r)) (rect_of ND e) [] (near ND) (All-nil (λ r. IsNearRect (place_of v.placement r)))))
+
+          pub box_unset : v.layer ≡ None → RefusesWalk items (refusal_of faults.F9 o)
+          box_unset n = stops items w v box_item h faults.F9 (first9 box_visit n never never no_f3 no_f4 never never no_f7 no_f8)
+
+          pub box_drawn : (l : Layer) → v.layer ≡ Some l → (shapes : List Rect) → shapes ≡ w.shapes ++ (place_of v.placement (rect_of l e) ∷ []) → (new : Walker)
+              → new ≡ record w { shapes = shapes; count = w.count + 1; levels = new.levels } → new.levels.items ≡ w.levels.items ++ (onward v v.layer ∷ []) → IsAfter items w v new
+          box_drawn l s shapes es new is pushed = arrive items w v box_item h v.layer (place_of v.placement (rect_of l e) ∷ []) [] 1 shapes w.labels new refl (omega arith) (omega arith)
+              (none box_visit never never no_f3 no_f4 never never no_f7 no_f8 (λ n. let d : None ≡ Some l = sym n ∙ s in cc) never)
+              ((l, rect_of l e ∷ [], s, edges_of_box l, refl, refl), refl) (λ b e. cc) es (sym (append-nil w.labels)) is pushed
+
+  -- ---- wires
+
+  module _ (wide : ℤ) (path : List Point) (some : 0 < length path) (h : IsVisit items w v (item_at o (Wire wide path))) where
+    abbrev wire_item : Item
+    wire_item = item_at o (Wire wide path)
+
+    abbrev wire_visit : Visit
+    wire_visit = visit_at items w v wire_item h
+
+    pub wire_askew : HasAskewSegment path → RefusesWalk items (refusal_of faults.F3 o)
+    wire_askew a = stops items w v wire_item h faults.F3 (first3 wire_visit a never never)
+
+    module _ (straight : All IsStraight (segments path)) where
+      no_askew_segment : ¬ Breaks wire_visit F3
+      no_askew_segment (p, c, x, y) = elim (All-contains IsStraight (segments path) p straight c) [ inl e ↦ x e | inr e ↦ y e ]
+
+      pub wire_uneven : ((l : Layer) (rs : List Rect) → ¬ AreSegments (scale_of v.ratio) l wide (segments path) rs) → RefusesWalk items (refusal_of faults.F4 o)
+      wire_uneven u = stops items w v wire_item h faults.F4 (first4 wire_visit (λ rs e. u ND rs e) never never no_askew_segment)
+
+      module _ (es : List Edges) (are : HaveEdges (scale_of v.ratio) wide (segments path) es) where
+        no_uneven : ¬ Breaks wire_visit F4
+        no_uneven b = b (map (rect_of ND) es) (are ND)
+
+        pub wire_counted : 4_000_000 < w.count + length (segments path) → RefusesWalk items (refusal_of faults.F7 o)
+        wire_counted k = stops items w v wire_item h faults.F7 (first7 wire_visit k never never no_askew_segment no_uneven never never)
+
+        module _ (k : w.count + length (segments path) ≤ 4_000_000) where
+          in_limit : ¬ Breaks wire_visit F7
+          in_limit b = omega (arith, b)
+
+          pub wire_far : (e : Edges) → Contains es e → IsFarAt v.placement e → RefusesWalk items (refusal_of faults.F8 o)
+          wire_far e c far = stops items w v wire_item h faults.F8 (first8 wire_visit (map (rect_of ND) es, are ND, λ n. far ND (All-contains (λ e. IsNearRect (place_of v.placement (rect_of ND e))) es e (near_edges v.placement es n) c))
+              never never no_askew_segment no_uneven never never in_limit)
+
+          module _ (near : All (IsNearAt v.placement) es) where
+            no_far : ¬ Breaks wire_visit F8
+            no_far (rs, b, far) =
+                let same = one_wire (scale_of v.ratio) ND wide (segments path) (map (rect_of ND) es) rs (are ND) b in
+                far (subst (All (λ r. IsNearRect (place_of v.placement r))) same (All-map (λ r. IsNearRect (place_of v.placement r)) (rect_of ND) es
+                    (All-weaker (IsNearAt v.placement) (λ e. IsNearRect (place_of v.placement (rect_of ND e))) (λ e n. n ND) es near)))
+
+            pub wire_unset : v.layer ≡ None → RefusesWalk items (refusal_of faults.F9 o)
+            wire_unset n = stops items w v wire_item h faults.F9 (first9 wire_visit n never never no_askew_segment no_uneven never never in_limit no_far)
+
+            pub wire_drawn : (l : Layer) → v.layer ≡ Some l → (shapes : List Rect) → shapes ≡ w.shapes ++ drawn v.placement l es → (new : Walker)
+                → new ≡ record w { shapes = shapes; count = w.count + length (segments path); levels = new.levels } → new.levels.items ≡ w.levels.items ++ (onward v v.layer ∷ []) → IsAfter items w v new
+            wire_drawn l s shapes is new kept pushed = arrive items w v wire_item h v.layer (drawn v.placement l es) [] (length (segments path)) shapes w.labels new refl (some_segments path some) k
+                (none wire_visit never never no_askew_segment no_uneven never never in_limit no_far (λ n. let d : None ≡ Some l = sym n ∙ s in cc) never)
+                ((l, map (rect_of l) es, s, are l, map_twice v.placement l es, refl), refl) (λ b e. cc) is (sym (append-nil w.labels)) kept pushed

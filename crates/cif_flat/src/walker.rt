@@ -1,0 +1,136 @@
+//! The walk.
+
+ghost use Rattle.std.specs.Prelude.{◌≡◌, ◌+◌, ◌≤◌, ◌++◌, ◌∷◌, [], IfErr, OnOk};
+ghost use Rattle.cif_form.specs.Expansion.{item_at};
+ghost use Rattle.cif_form.specs.declared.command.Command.TheVariants as commands;
+ghost use Rattle.cif_flat.specs.Walking.{IsVisit, IsAfter};
+ghost use Rattle.cif_flat.specs.Refusing.{RefusesWalk};
+
+use crate::edges::Extent;
+use crate::fault::{Fault, broken};
+use crate::layer::layer_named;
+use crate::level::Level;
+use crate::shape::{Wired, are_straight, box_edges, draw_wire, segment_count};
+use crate::symbol::Symbol;
+use crate::table::Table;
+use crate::called::Composed;
+use cif_form::Item;
+use lam_geom::{FlatLabel, Layer, Point, Rect};
+use mp_base::{List, Name, Refusal};
+use std::alloc::AllocError;
+
+const WALK_LIMIT: u64 = 4_000_000;
+
+/// A walk of the items of a file: the definitions that stand, by number; the depth where each number was opened last; the
+/// turns of calls that were composed, by the index of the call; the lists of commands that are being walked, the innermost
+/// last; and what was counted and drawn.
+#[derive(Drop)]
+pub(crate) struct Walker {
+    pub symbols: Table<Symbol>,
+    pub opened: Table<usize>,
+    pub calls: Table<Composed>,
+    pub levels: Vec<Level>,
+    pub count: u64,
+    pub shapes: List<Rect>,
+    pub labels: List<FlatLabel>,
+}
+
+impl Walker {
+    /// Goes on in a list of commands.
+    fn go_on(&mut self, level: Level, weight: u64) -> Result<(), AllocError>
+        requires { self.old.count + weight ≤ 4_000_000 }
+        ensures kept { OnOk result (self.new ≡ record self.old { count = self.old.count + weight; levels = self.new.levels }) }
+        ensures pushed { OnOk result (self.new.levels.items ≡ self.old.levels.items ++ level ∷ []) }
+    {
+        self.count += weight;
+        self.levels.push(level)?;
+        Ok(())
+    }
+
+    fn set_layer(&mut self, items: &[Item], level: Level, offset: u64, name: &Name) -> Result<(), Refusal>
+        requires { IsVisit items.now self.old level (item_at offset (commands.Layer name.now)) }
+        ensures ok { OnOk result (IsAfter items.now self.old level self.new) }
+        ensures err { IfErr result (RefusesWalk items.now) }
+    {
+        if self.count >= WALK_LIMIT {
+            return Err(broken(Fault::F7, offset));
+        }
+        let Some(layer) = layer_named(name.bytes()) else {
+            return Err(broken(Fault::F10, offset));
+        };
+        self.go_on(level.onward(Some(layer)), 1)?;
+        Ok(())
+    }
+
+    fn comment(&mut self, items: &[Item], level: Level, offset: u64, text: &Name) -> Result<(), Refusal>
+        requires { IsVisit items.now self.old level (item_at offset (commands.Comment text.now)) }
+        ensures ok { OnOk result (IsAfter items.now self.old level self.new) }
+        ensures err { IfErr result (RefusesWalk items.now) }
+    {
+        if self.count >= WALK_LIMIT {
+            return Err(broken(Fault::F7, offset));
+        }
+        self.go_on(level.onward(level.layer), 1)?;
+        Ok(())
+    }
+
+    fn draw_box(
+        &mut self,
+        items: &[Item],
+        level: Level,
+        offset: u64,
+        extent: Extent,
+        center: &Point,
+        direction: &Point,
+    ) -> Result<(), Refusal>
+        requires { IsVisit items.now self.old level (item_at offset (commands.Box extent.across extent.up center.now direction.now)) }
+        ensures ok { OnOk result (IsAfter items.now self.old level self.new) }
+        ensures err { IfErr result (RefusesWalk items.now) }
+    {
+        let edges = match box_edges(level.ratio, extent, *center, *direction) {
+            Ok(edges) => edges,
+            Err(fault) => return Err(broken(fault, offset)),
+        };
+        if self.count >= WALK_LIMIT {
+            return Err(broken(Fault::F7, offset));
+        }
+        let placed = level.placement.place(edges);
+        if !placed.are_near() {
+            return Err(broken(Fault::F8, offset));
+        }
+        let Some(layer) = level.layer else {
+            return Err(broken(Fault::F9, offset));
+        };
+        self.shapes.push(placed.rect(layer))?;
+        self.go_on(level.onward(level.layer), 1)?;
+        Ok(())
+    }
+
+    fn draw_wire(&mut self, items: &[Item], level: Level, offset: u64, extent: Extent, path: &[Point]) -> Result<(), Refusal>
+        requires square { extent.up ≡ extent.across }
+        requires visit { IsVisit items.now self.old level (item_at offset (commands.Wire extent.across path.now)) }
+        ensures ok { OnOk result (IsAfter items.now self.old level self.new) }
+        ensures err { IfErr result (RefusesWalk items.now) }
+    {
+        if !are_straight(path) {
+            return Err(broken(Fault::F3, offset));
+        }
+        let layer = level.layer.unwrap_or(Layer::ND);
+        let wired = draw_wire(&mut self.shapes, level, layer, extent, path)?;
+        if let Wired::Uneven = wired {
+            return Err(broken(Fault::F4, offset));
+        }
+        let weight = segment_count(path) as u64;
+        if weight > WALK_LIMIT - self.count {
+            return Err(broken(Fault::F7, offset));
+        }
+        if let Wired::Far = wired {
+            return Err(broken(Fault::F8, offset));
+        }
+        if level.layer.is_none() {
+            return Err(broken(Fault::F9, offset));
+        }
+        self.go_on(level.onward(level.layer), weight)?;
+        Ok(())
+    }
+}
