@@ -1,6 +1,9 @@
 -- What is met at each kind of command.
-use Rattle.std.proofs.Common.{ℕ, ◌≡◌, ◌+◌, ◌<◌, ◌≤◌, refl, sym, ◌∙◌, ap, subst, arith, inl, inr, List, [], ◌∷◌, ◌++◌, length, map, All, append-nil, Option, Some, None}
-use Rattle.std.specs.Prelude.{◌≢◌, ℤ, Contains}
+use Rattle.std.proofs.Common.{ℕ, ◌≡◌, ◌+◌, ◌*◌, ◌^◌, ◌<◌, ◌≤◌, refl, sym, ◌∙◌, ap, subst, arith, inl, inr, List, [], ◌∷◌, ◌++◌, length, map, All, append-nil, Option, Some, None}
+use Rattle.std.specs.Prelude.{◌≢◌, ℤ, pos, negsuc, ◌≤ℤ◌, Contains, slice_get}
+use Rattle.std.specs.List.{flat_map}
+use Rattle.std.proofs.lemmas.Int.{ints}
+use Rattle.std.proofs.lemmas.Option.{get_or_from_slice_get, slice_get_cases}
 use Rattle.std.proofs.lemmas.List.Elements.{All-nil, All-cons, All-head, All-tail, All-contains, All-map, All-weaker}
 use Rattle.lam_geom.specs.declared.layer.Layer.{Layer}
 use Rattle.lam_geom.specs.declared.layer.Layer.TheVariants.{ND}
@@ -12,6 +15,7 @@ use Rattle.cif_form.specs.declared.command.Item.{Item}
 use Rattle.cif_form.specs.Place.{layer_name, HasEdges, segments, AreSegments}
 use Rattle.cif_form.specs.Walk.{Visit, Breaks}
 use Rattle.cif_form.specs.Walk.DrawRule.{F3, F4, F7, F8}
+use Rattle.cif_form.specs.Fits.{Fits, IsSmall, point_numbers}
 use Rattle.cif_form.specs.Expansion.{item_at}
 use Rattle.cif_flat.specs.declared.edges.Edges.{Edges}
 use Rattle.cif_flat.specs.declared.edges.Extent.{Extent}
@@ -20,13 +24,57 @@ use Rattle.cif_flat.specs.declared.fault.Fault.TheVariants as faults
 use Rattle.cif_flat.specs.declared.placement.Placement.{Placement}
 use Rattle.cif_flat.specs.declared.level.Level.{Level}
 use Rattle.cif_flat.specs.declared.walker.Walker.{Walker}
-use Rattle.cif_flat.specs.Placing.{scale_of, rect_of, place_of}
+use Rattle.cif_flat.specs.Placing.{IsShort, IsShortPoint, IsFitRatio, IsHeld, scale_of, rect_of, place_of}
 use Rattle.cif_flat.specs.Shaping.{IsBoxEdges, IsBoxFault, IsNearAt, IsFarAt, IsStraight, HasAskewSegment, HaveEdges, drawn}
 use Rattle.cif_flat.specs.Refusing.{RefusesWalk, refusal_of}
 use Rattle.cif_flat.specs.Walking.{IsVisit, IsAfter}
 use Rattle.cif_flat.proofs.Rules.{never, none, first3, first4, first7, first8, first9, first10}
-use Rattle.cif_flat.proofs.Walks.{visit_at, stops, onward, arrive, arrive_quiet}
+use Rattle.cif_flat.proofs.Walks.{visit_at, stops, onward, level_of, arrive, arrive_quiet}
+use Rattle.cif_flat.proofs.Numbers.{within_more}
 use Rattle.cif_flat.proofs.Shapes.{one_box, one_wire}
+
+-- ---- what a visit shows
+
+small_short : (z : ℤ) → IsSmall z → IsShort z
+small_short (pos n) h = (omega (arith, ints, h), omega (arith, ints, h))
+small_short (negsuc n) h = (omega (arith, ints, h), omega (arith, ints, h))
+
+pub fits_here : (items : List Item) (w : Walker) (v : Level) (i : Item) → IsVisit items w v i → Fits i.command
+fits_here items w v i h =
+    let lt : v.next < length items = elim (slice_get_cases items v.next).1 [ inl a ↦ a.1 | inr a ↦ absurd (let e : None ≡ Some i = sym a.1 ∙ h.here in cc) ] in
+    subst (λ j. Fits j.command) (get_or_from_slice_get items v.next i i h.here) (h.fit v.next i lt)
+
+abbrev pub Unsigned : ℤ → Type 0
+Unsigned z = (pos 0 ≤ℤ z) × IsSmall z
+
+pub box_short : (long wide : ℤ) (center direction : Point) → Fits (Box long wide center direction) → (IsShort long × IsShort wide) × IsShortPoint center
+box_short long wide center direction f =
+    let l = All-head Unsigned long (wide ∷ []) f.unsigned in
+    let m = All-head Unsigned wide [] (All-tail Unsigned long (wide ∷ []) f.unsigned) in
+    let t = All-tail IsSmall center.x (center.y ∷ direction.x ∷ direction.y ∷ []) f.signed in
+    ((small_short long l.1, small_short wide m.1),
+      (small_short center.x (All-head IsSmall center.x (center.y ∷ direction.x ∷ direction.y ∷ []) f.signed), small_short center.y (All-head IsSmall center.y (direction.x ∷ direction.y ∷ []) t)))
+
+short_points : (ps : List Point) → All IsSmall (flat_map point_numbers ps) → All IsShortPoint ps
+short_points [] h = All-nil IsShortPoint
+short_points (p ∷ ps) h =
+    let t = All-tail IsSmall p.x (p.y ∷ flat_map point_numbers ps) h in
+    All-cons IsShortPoint p ps (small_short p.x (All-head IsSmall p.x (p.y ∷ flat_map point_numbers ps) h), small_short p.y (All-head IsSmall p.y (flat_map point_numbers ps) t))
+    (short_points ps (All-tail IsSmall p.y (flat_map point_numbers ps) t))
+
+pub wire_short : (wide : ℤ) (path : List Point) → Fits (Wire wide path) → IsShort wide × All IsShortPoint path
+wire_short wide path f = (small_short wide (All-head Unsigned wide [] f.unsigned).1, short_points path f.signed)
+
+pub held_here : (items : List Item) (w : Walker) (v : Level) (i : Item) → IsVisit items w v i → IsHeld (2 ^ 126) v.placement
+held_here items w v i h =
+    let l = level_of items w v i h in
+    let m = h.walking.limit in
+    (within_more _ _ v.placement.dx (omega (arith, m)) l.held.0, within_more _ _ v.placement.dy (omega (arith, m)) l.held.1)
+
+pub ratio_here : (items : List Item) (w : Walker) (v : Level) (i : Item) → IsVisit items w v i → IsFitRatio v.ratio
+ratio_here items w v i h = (level_of items w v i h).ratio
+
+-- ---- arms
 
 near_edges : (p : Placement) (es : List Edges) → All (λ r. IsNearRect (place_of p r)) (map (rect_of ND) es) → All (λ e. IsNearRect (place_of p (rect_of ND e))) es
 near_edges p [] h = All-nil (λ e. IsNearRect (place_of p (rect_of ND e)))

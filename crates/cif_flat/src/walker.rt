@@ -117,20 +117,25 @@ impl Walker {
         }
         let layer = level.layer.unwrap_or(Layer::ND);
         let wired = draw_wire(&mut self.shapes, level, layer, extent, path)?;
-        if let Wired::Uneven = wired {
-            return Err(broken(Fault::F4, offset));
-        }
         let weight = segment_count(path) as u64;
-        if weight > WALK_LIMIT - self.count {
-            return Err(broken(Fault::F7, offset));
+        match wired {
+            Wired::Uneven => Err(broken(Fault::F4, offset)),
+            Wired::Far => {
+                if weight > WALK_LIMIT - self.count {
+                    return Err(broken(Fault::F7, offset));
+                }
+                Err(broken(Fault::F8, offset))
+            }
+            Wired::Drawn => {
+                if weight > WALK_LIMIT - self.count {
+                    return Err(broken(Fault::F7, offset));
+                }
+                let Some(set) = level.layer else {
+                    return Err(broken(Fault::F9, offset));
+                };
+                self.go_on(level.onward(Some(set)), weight)?;
+                Ok(())
+            }
         }
-        if let Wired::Far = wired {
-            return Err(broken(Fault::F8, offset));
-        }
-        if level.layer.is_none() {
-            return Err(broken(Fault::F9, offset));
-        }
-        self.go_on(level.onward(level.layer), weight)?;
-        Ok(())
     }
 }
