@@ -5,3 +5,4 @@ pub mod Shapes
 pub mod Rules
 pub mod Walks
 pub mod Arms
+pub mod Calls

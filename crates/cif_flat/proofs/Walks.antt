@@ -106,7 +106,7 @@ leads_step items w v item h qs ms t n s = λ rs ls e k.
       (h.walking.leads (qs ++ rs) (ms ++ ls) e
         (Walks.step (visit_at items w v item h) qs ms t (visits items h.walking.definitions w.count w.levels.items v item h.more h.here) n s k)))
 
-level_onward : (items : List Item) (m n : ℕ) (opened : BTreeMap ℕ ℕ) (k : ℕ) (v : Level) (l : Option Layer) (i : Item) → m ≤ n → v.next < v.end → left_of items v ≡ i ∷ slice_range items (v.next + 1) v.end
+pub level_onward : (items : List Item) (m n : ℕ) (opened : BTreeMap ℕ ℕ) (k : ℕ) (v : Level) (l : Option Layer) (i : Item) → m ≤ n → v.next < v.end → left_of items v ≡ i ∷ slice_range items (v.next + 1) v.end
     → ((within : Bool) → opens false i.command ≡ Some within → within ≡ false) → IsLevel items m opened k v → IsLevel items n opened k (onward v l)
 level_onward items m n opened k v l i h more e o a = record {
   ratio = a.ratio;
@@ -117,7 +117,7 @@ level_onward items m n opened k v l i h more e o a = record {
   number = a.number;
 }
 
-rest_less : (vs : List Level) (u v : Level) → u.end - u.next ≤ v.end - v.next → rest (vs ++ (u ∷ [])) ≤ rest (vs ++ (v ∷ []))
+pub rest_less : (vs : List Level) (u v : Level) → u.end - u.next ≤ v.end - v.next → rest (vs ++ (u ∷ [])) ≤ rest (vs ++ (v ∷ []))
 rest_less [] u v h = h
 rest_less (w ∷ vs) u v h = omega arith
 

@@ -3,4 +3,5 @@ pub mod Turning
 pub mod Shaping
 pub mod Sound
 pub mod Refusing
+pub mod Calling
 pub mod Walking

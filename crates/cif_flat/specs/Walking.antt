@@ -1,23 +1,21 @@
 -- What the code's walk stands for.
-use Rattle.std.specs.Prelude.{ℕ, zero, suc, ◌+◌, ◌*◌, ◌-◌, ◌<◌, ◌≤◌, ◌≡◌, ◌^◌, List, [], ◌∷◌, ◌++◌, length, All, false, Option, Some, None, ℤ, pos, ◌≤ℤ◌, slice_range, slice_get, slice_index_or}
+use Rattle.std.specs.Prelude.{ℕ, zero, suc, ◌+◌, ◌*◌, ◌-◌, ◌<◌, ◌≤◌, ◌≡◌, ◌^◌, List, [], ◌∷◌, ◌++◌, length, All, Contains, false, Option, Some, None, ℤ, pos, ◌≤ℤ◌, slice_range, slice_get, slice_index_or}
 use Rattle.std.specs.BTreeMap.{BTreeMap, get}
 use Rattle.std.specs.Ordering.{nat_cmp}
 use Rattle.lam_geom.specs.declared.rect.Rect.{Rect}
 use Rattle.lam_geom.specs.declared.label.FlatLabel.{FlatLabel}
 use Rattle.lam_geom.specs.declared.layer.Layer.{Layer}
-use Rattle.cif_form.specs.declared.command.Turn.{Turn}
-use Rattle.cif_form.specs.declared.command.Command.TheVariants.{Call}
 use Rattle.cif_form.specs.declared.command.Item.{Item}
 use Rattle.cif_form.specs.Fits.{Fits}
 use Rattle.cif_form.specs.Expansion.{Definition, Stands, IsInside}
 use Rattle.cif_form.specs.Walk.{Frame, State, Visit, WalkEnd, Walks, FileWalks}
-use Rattle.cif_flat.specs.declared.called.Composed.{Composed}
 use Rattle.cif_flat.specs.declared.level.Level.{Level}
+use Rattle.cif_flat.specs.declared.placement.Placement.{Placement}
 use Rattle.cif_flat.specs.declared.symbol.Symbol.{Symbol}
 use Rattle.cif_flat.specs.declared.walker.Walker.{Walker}
 use Rattle.cif_flat.specs.declared.ratio.Ratio.{Ratio}
-use Rattle.cif_flat.specs.Placing.{IsFitRatio, scale_of, place_of, IsHeld}
-use Rattle.cif_flat.specs.Turning.{IsTurned, IsHeldTurned}
+use Rattle.cif_flat.specs.Placing.{IsFitRatio, scale_of, place_of, after, IsHeld}
+use Rattle.cif_flat.specs.Calling.{AreCalls}
 use Rattle.cif_flat.specs.Sound.{AreClosed}
 
 -- ---- frames
@@ -80,14 +78,6 @@ pub record IsTable (items : List Item) (ds : List Definition) (symbols : BTreeMa
   pub missing : (n : ℕ) → get nat_cmp symbols n ≡ None → (d : Definition) → ¬ Stands ds (pos n) d
   pub fits : (n : ℕ) (s : Symbol) → get nat_cmp symbols n ≡ Some s → IsSymbol items s
 
--- the turns of the call are those composed
-abbrev pub IsCallOf : Item → Composed → Type 0
-IsCallOf i c = (offset : ℕ) (n : ℤ) (ts : List Turn) → i ≡ record { offset = offset; command = Call n ts }
-    → IsTurned (scale_of c.ratio) ts c.turned × IsHeldTurned (2 ^ 104) c.turned
-
-abbrev pub AreCalls : List Item → BTreeMap ℕ Composed → Type 0
-AreCalls items calls = (k : ℕ) (c : Composed) → get nat_cmp calls k ≡ Some c → (i : Item) → slice_get items k ≡ Some i → IsCallOf i c
-
 -- ---- levels
 
 -- what is left at the top level, or in a definition
@@ -106,6 +96,25 @@ pub record IsLevel (items : List Item) (count : ℕ) (opened : BTreeMap ℕ ℕ)
 -- this is true of each level and its depth
 abbrev pub EachLevel : (ℕ → Level → Type 0) → List Level → Type 0
 EachLevel P vs = (k : ℕ) (d : Level) → k < length vs → P k (slice_index_or vs k d)
+
+-- its number was opened last at its depth
+abbrev pub IsNumbered : BTreeMap ℕ ℕ → ℕ → Level → Type 0
+IsNumbered opened depth v = (n : ℕ) → v.symbol ≡ Some n → get nat_cmp opened n ≡ Some depth
+
+-- a definition of the number is being expanded
+abbrev pub IsOpen : List Level → ℕ → Type 0
+IsOpen vs n = (v : Level) × Contains vs v × (v.symbol ≡ Some n)
+
+-- the level of a called definition
+abbrev pub entered : Level → ℕ → Symbol → Placement → Level
+entered v n s p = record {
+  symbol = Some n;
+  ratio = s.ratio;
+  layer = None;
+  placement = after v.placement p;
+  next = s.first;
+  end = s.end;
+}
 
 -- ---- the walk
 

@@ -1,6 +1,7 @@
 //! Lists of commands that are being walked.
 
-ghost use Rattle.std.specs.Prelude.{◌≡◌, ◌+◌, ◌<◌};
+ghost use Rattle.std.specs.Prelude.{◌≡◌, ◌+◌, ◌<◌, Some};
+ghost use Rattle.std.specs.Bool.{OnTrue, OnFalse};
 
 use crate::placement::Placement;
 use crate::ratio::Ratio;
@@ -31,6 +32,17 @@ impl Level {
             placement: self.placement,
             next: self.next + 1,
             end: self.end,
+        }
+    }
+
+    /// Whether it is the body of a definition of this number.
+    pub(crate) fn is_of(self, number: u64) -> bool
+        ensures yes { OnTrue result (self.symbol ≡ Some number) }
+        ensures no { OnFalse result (self.symbol ≡ Some number → ⊥) }
+    {
+        match self.symbol {
+            Some(symbol) => symbol == number,
+            None => false,
         }
     }
 }

@@ -1,7 +1,8 @@
 //! Scales.
 
 ghost use Rattle.std.specs.Prelude.{◌≡◌, ◌≢◌, ◌^◌, ℤ, ◌+ℤ◌, ◌-ℤ◌, ◌*ℤ◌, ◌<ℤ◌, pos, IfSome, IfNone};
-ghost use Rattle.cif_form.specs.Place.{IsScaled};
+ghost use Rattle.cif_form.specs.Place.{IsScale, IsScaled};
+ghost use Rattle.std.specs.Bool.{OnTrue, OnFalse};
 ghost use Rattle.cif_flat.specs.Placing.{IsWithin, IsShort, IsFitRatio, scale_of};
 
 /// The scale a/b of a definition.
@@ -36,6 +37,32 @@ fn quotient(product: i128, divisor: i64) -> Option<i128>
 }
 
 impl Ratio {
+    pub(crate) fn of(a: &i64, b: &i64) -> Ratio
+        ensures { result ≡ record { a = a.now; b = b.now } }
+    {
+        Ratio { a: *a, b: *b }
+    }
+
+    /// Whether it has no 0 or less in it.
+    pub(crate) fn is_scale(self) -> bool
+        ensures yes { OnTrue result (IsScale (scale_of self)) }
+        ensures no { OnFalse result (¬ IsScale (scale_of self)) }
+    {
+        if self.a <= 0 {
+            return false;
+        }
+        self.b > 0
+    }
+
+    pub(crate) fn is_same(self, other: Ratio) -> bool
+        ensures { OnTrue result (self ≡ other) }
+    {
+        if self.a != other.a {
+            return false;
+        }
+        self.b == other.b
+    }
+
     /// A distance scaled, or nothing where it isn't whole.
     pub(crate) fn scaled(self, distance: i64) -> Option<i128>
         requires fit { IsFitRatio self }

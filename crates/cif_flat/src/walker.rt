@@ -1,20 +1,25 @@
 //! The walk.
 
-ghost use Rattle.std.specs.Prelude.{◌≡◌, ◌+◌, ◌≤◌, ◌++◌, ◌∷◌, [], IfErr, OnOk};
+ghost use Rattle.std.specs.Prelude.{◌≡◌, ◌≢◌, ◌+◌, ◌^◌, ◌<◌, ◌≤◌, ◌++◌, ◌∷◌, [], ℕ, pos, ◌≤ℤ◌, length, Some, IfErr, OnOk};
+ghost use Rattle.std.specs.Bool.{OnTrue, OnFalse};
+ghost use Rattle.std.specs.BTreeMap.{get};
+ghost use Rattle.std.specs.Ordering.{nat_cmp};
+ghost use Rattle.cif_flat.specs.Placing.{IsHeld};
 ghost use Rattle.cif_form.specs.Expansion.{item_at};
 ghost use Rattle.cif_form.specs.declared.command.Command.TheVariants as commands;
-ghost use Rattle.cif_flat.specs.Walking.{IsVisit, IsAfter};
+ghost use Rattle.cif_flat.specs.Walking.{EachLevel, IsNumbered, IsOpen, entered, IsVisit, IsAfter};
 ghost use Rattle.cif_flat.specs.Refusing.{RefusesWalk};
 
+use crate::called::{Composed, placement_of, turned_at};
 use crate::edges::Extent;
 use crate::fault::{Fault, broken};
 use crate::layer::layer_named;
 use crate::level::Level;
+use crate::placement::Placement;
 use crate::shape::{Wired, are_straight, box_edges, draw_wire, segment_count};
 use crate::symbol::Symbol;
-use crate::table::Table;
-use crate::called::Composed;
-use cif_form::Item;
+use crate::table::{Table, found, set};
+use cif_form::{Item, Turn};
 use lam_geom::{FlatLabel, Layer, Point, Rect};
 use mp_base::{List, Name, Refusal};
 use std::alloc::AllocError;
@@ -138,4 +143,78 @@ impl Walker {
             }
         }
     }
+
+    /// Whether a definition of a number is being expanded.
+    fn is_open(&self, level: Level, number: u64) -> bool
+        requires { EachLevel (IsNumbered self.now.opened) (self.now.levels.items ++ level ∷ []) }
+        ensures open { OnTrue result (IsOpen (self.now.levels.items ++ level ∷ []) number) }
+        ensures closed { OnFalse result (¬ IsOpen (self.now.levels.items ++ level ∷ []) number) }
+    {
+        if level.is_of(number) {
+            return true;
+        }
+        let Some(depth) = found(&self.opened, number) else {
+            return false;
+        };
+        if depth >= self.levels.len() {
+            return false;
+        }
+        self.levels[depth].is_of(number)
+    }
+
+    /// Goes into a definition that is called.
+    fn enter(&mut self, level: Level, number: u64, symbol: Symbol, placement: Placement) -> Result<(), AllocError>
+        requires count { self.old.count < 4_000_000 }
+        requires more { level.next < level.end }
+        requires outer { IsHeld (2 ^ 126) level.placement }
+        requires inner { IsHeld (2 ^ 104) placement }
+        ensures kept { OnOk result (self.new ≡ record self.old { opened = self.new.opened; count = self.old.count + 1; levels = self.new.levels }) }
+        ensures pushed { OnOk result (self.new.levels.items ≡ (self.old.levels.items ++ (record level { next = level.next + 1 } ∷ [])) ++ entered level number symbol placement ∷ []) }
+        ensures here { OnOk result (get nat_cmp self.new.opened number ≡ Some (length self.old.levels.items + 1)) }
+        ensures others { OnOk result ((k : ℕ) → k ≢ number → get nat_cmp self.new.opened k ≡ get nat_cmp self.old.opened k) }
+    {
+        let depth = self.levels.len() + 1;
+        set(&mut self.opened, number, depth)?;
+        self.count += 1;
+        self.levels.push(level.onward(level.layer))?;
+        self.levels.push(Level {
+            symbol: Some(number),
+            ratio: symbol.ratio,
+            layer: None,
+            placement: level.placement.after(placement),
+            next: symbol.first,
+            end: symbol.end,
+        })?;
+        Ok(())
+    }
+
+    fn call(&mut self, items: &[Item], level: Level, offset: u64, number: &i64, turns: &[Turn]) -> Result<(), Refusal>
+        requires { IsVisit items.now self.old level (item_at offset (commands.Call number.now turns.now)) }
+        ensures ok { OnOk result (IsAfter items.now self.old level self.new) }
+        ensures err { IfErr result (RefusesWalk items.now) }
+    {
+        let number = key_of(number);
+        let Some(symbol) = found(&self.symbols, number) else {
+            return Err(broken(Fault::F1, offset));
+        };
+        if self.is_open(level, number) {
+            return Err(broken(Fault::F2, offset));
+        }
+        let turned = turned_at(&mut self.calls, items, level.next, level.ratio, turns)?;
+        match placement_of(turned, symbol.ratio, self.count) {
+            Err(fault) => Err(broken(fault, offset)),
+            Ok(placement) => {
+                self.enter(level, number, symbol, placement)?;
+                Ok(())
+            }
+        }
+    }
+}
+
+/// A number of a definition.
+fn key_of(number: &i64) -> u64
+    requires { pos 0 ≤ℤ number.now }
+    ensures { pos result ≡ number.now }
+{
+    *number as u64
 }
