@@ -10,12 +10,15 @@ use Rattle.lam_geom.specs.declared.layer.Layer.TheVariants.{ND}
 use Rattle.lam_geom.specs.declared.place.Point.{Point}
 use Rattle.lam_geom.specs.Moves.{IsNearRect}
 use Rattle.lam_geom.specs.declared.rect.Rect.{Rect}
+use Rattle.cif_form.specs.declared.command.Turn.{Turn}
+use Rattle.cif_form.specs.declared.command.Turn.TheVariants.{Move, MirrorX, MirrorY, Rotate}
+use Rattle.cif_flat.specs.Turning.{IsShortTurn}
 use Rattle.cif_form.specs.declared.command.Command.TheVariants.{Box, Wire, Comment, Layer as SetLayer}
 use Rattle.cif_form.specs.declared.command.Item.{Item}
 use Rattle.cif_form.specs.Place.{layer_name, HasEdges, segments, AreSegments}
 use Rattle.cif_form.specs.Walk.{Visit, Breaks}
 use Rattle.cif_form.specs.Walk.DrawRule.{F3, F4, F7, F8}
-use Rattle.cif_form.specs.Fits.{Fits, IsSmall, point_numbers}
+use Rattle.cif_form.specs.Fits.{Fits, IsSmall, point_numbers, turn_numbers}
 use Rattle.cif_form.specs.Expansion.{item_at}
 use Rattle.cif_flat.specs.declared.edges.Edges.{Edges}
 use Rattle.cif_flat.specs.declared.edges.Extent.{Extent}
@@ -64,6 +67,19 @@ short_points (p ∷ ps) h =
 
 pub wire_short : (wide : ℤ) (path : List Point) → Fits (Wire wide path) → IsShort wide × All IsShortPoint path
 wire_short wide path f = (small_short wide (All-head Unsigned wide [] f.unsigned).1, short_points path f.signed)
+
+pub short_turns : (ts : List Turn) → All IsSmall (flat_map turn_numbers ts) → All IsShortTurn ts
+short_turns [] h = All-nil IsShortTurn
+short_turns (Move p ∷ ts) h =
+    let t = All-tail IsSmall p.x (p.y ∷ flat_map turn_numbers ts) h in
+    All-cons IsShortTurn (Move p) ts (small_short p.x (All-head IsSmall p.x (p.y ∷ flat_map turn_numbers ts) h), small_short p.y (All-head IsSmall p.y (flat_map turn_numbers ts) t))
+    (short_turns ts (All-tail IsSmall p.y (flat_map turn_numbers ts) t))
+short_turns (Rotate p ∷ ts) h =
+    let t = All-tail IsSmall p.x (p.y ∷ flat_map turn_numbers ts) h in
+    All-cons IsShortTurn (Rotate p) ts (small_short p.x (All-head IsSmall p.x (p.y ∷ flat_map turn_numbers ts) h), small_short p.y (All-head IsSmall p.y (flat_map turn_numbers ts) t))
+    (short_turns ts (All-tail IsSmall p.y (flat_map turn_numbers ts) t))
+short_turns (MirrorX ∷ ts) h = All-cons IsShortTurn MirrorX ts tt (short_turns ts h)
+short_turns (MirrorY ∷ ts) h = All-cons IsShortTurn MirrorY ts tt (short_turns ts h)
 
 pub held_here : (items : List Item) (w : Walker) (v : Level) (i : Item) → IsVisit items w v i → IsHeld (2 ^ 126) v.placement
 held_here items w v i h =

@@ -1,13 +1,14 @@
 -- What the code's walk stands for.
-use Rattle.std.specs.Prelude.{ℕ, zero, suc, ◌+◌, ◌*◌, ◌-◌, ◌<◌, ◌≤◌, ◌≡◌, ◌^◌, List, [], ◌∷◌, ◌++◌, length, All, Contains, false, Option, Some, None, ℤ, pos, ◌≤ℤ◌, slice_range, slice_get, slice_index_or}
+use Rattle.std.specs.Prelude.{ℕ, zero, suc, ◌+◌, ◌*◌, ◌-◌, ◌<◌, ◌≤◌, ◌≡◌, ◌^◌, List, [], ◌∷◌, ◌++◌, length, take, drop, All, Contains, false, Option, Some, None, ℤ, pos, ◌≤ℤ◌, slice_range, slice_get, slice_index_or}
 use Rattle.std.specs.BTreeMap.{BTreeMap, get}
 use Rattle.std.specs.Ordering.{nat_cmp}
 use Rattle.lam_geom.specs.declared.rect.Rect.{Rect}
 use Rattle.lam_geom.specs.declared.label.FlatLabel.{FlatLabel}
 use Rattle.lam_geom.specs.declared.layer.Layer.{Layer}
+use Rattle.cif_form.specs.declared.command.Command.TheVariants.{Finish}
 use Rattle.cif_form.specs.declared.command.Item.{Item}
 use Rattle.cif_form.specs.Fits.{Fits}
-use Rattle.cif_form.specs.Expansion.{Definition, Stands, IsInside}
+use Rattle.cif_form.specs.Expansion.{Definition, Stands, IsInside, item_at}
 use Rattle.cif_form.specs.Walk.{Frame, State, Visit, WalkEnd, Walks, FileWalks}
 use Rattle.cif_flat.specs.declared.level.Level.{Level}
 use Rattle.cif_flat.specs.declared.placement.Placement.{Placement}
@@ -77,6 +78,13 @@ pub record IsTable (items : List Item) (ds : List Definition) (symbols : BTreeMa
   pub stands : (n : ℕ) (s : Symbol) → get nat_cmp symbols n ≡ Some s → Stands ds (pos n) (definition_of items n s)
   pub missing : (n : ℕ) → get nat_cmp symbols n ≡ None → (d : Definition) → ¬ Stands ds (pos n) d
   pub fits : (n : ℕ) (s : Symbol) → get nat_cmp symbols n ≡ Some s → IsSymbol items s
+
+-- so many commands stand before the finish of an open definition
+pub record IsBodySize (rest : List Item) (n : ℕ) : Type 0 where
+  pub offset : ℕ
+  pub finish : slice_get rest n ≡ Some (item_at offset Finish)
+  pub inside : All (λ i. IsInside i.command) (take n rest)
+  pub closed : AreClosed false (drop (n + 1) rest)
 
 -- ---- levels
 

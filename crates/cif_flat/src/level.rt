@@ -45,4 +45,18 @@ impl Level {
             None => false,
         }
     }
+
+    /// At a later command.
+    pub(crate) fn resumed(self, next: usize) -> Level
+        ensures { result ≡ record self { next = next } }
+    {
+        Level {
+            symbol: self.symbol,
+            ratio: self.ratio,
+            layer: self.layer,
+            placement: self.placement,
+            next,
+            end: self.end,
+        }
+    }
 }

@@ -1,13 +1,14 @@
 //! The walk.
 
-ghost use Rattle.std.specs.Prelude.{◌≡◌, ◌≢◌, ◌+◌, ◌^◌, ◌<◌, ◌≤◌, ◌++◌, ◌∷◌, [], ℕ, pos, ◌≤ℤ◌, length, Some, IfErr, OnOk};
+ghost use Rattle.std.specs.Prelude.{◌≡◌, ◌≢◌, ◌+◌, ◌^◌, ◌<◌, ◌≤◌, ◌++◌, ◌∷◌, [], ℕ, true, pos, ◌≤ℤ◌, length, Some, IfErr, OnOk};
 ghost use Rattle.std.specs.Bool.{OnTrue, OnFalse};
 ghost use Rattle.std.specs.BTreeMap.{get};
 ghost use Rattle.std.specs.Ordering.{nat_cmp};
 ghost use Rattle.cif_flat.specs.Placing.{IsHeld};
 ghost use Rattle.cif_form.specs.Expansion.{item_at};
 ghost use Rattle.cif_form.specs.declared.command.Command.TheVariants as commands;
-ghost use Rattle.cif_flat.specs.Walking.{EachLevel, IsNumbered, IsOpen, entered, IsVisit, IsAfter};
+ghost use Rattle.cif_flat.specs.Sound.{AreClosed};
+ghost use Rattle.cif_flat.specs.Walking.{EachLevel, IsNumbered, IsOpen, entered, IsBodySize, IsVisit, IsAfter};
 ghost use Rattle.cif_flat.specs.Refusing.{RefusesWalk};
 
 use crate::called::{Composed, placement_of, turned_at};
@@ -16,10 +17,11 @@ use crate::fault::{Fault, broken};
 use crate::layer::layer_named;
 use crate::level::Level;
 use crate::placement::Placement;
+use crate::ratio::Ratio;
 use crate::shape::{Wired, are_straight, box_edges, draw_wire, segment_count};
 use crate::symbol::Symbol;
-use crate::table::{Table, found, set};
-use cif_form::{Item, Turn};
+use crate::table::{Table, cut, found, set};
+use cif_form::{Command, Item, Turn};
 use lam_geom::{FlatLabel, Layer, Point, Rect};
 use mp_base::{List, Name, Refusal};
 use std::alloc::AllocError;
@@ -209,6 +211,45 @@ impl Walker {
             }
         }
     }
+
+    fn define(&mut self, items: &[Item], level: Level, offset: u64, number: &i64, a: &i64, b: &i64) -> Result<(), Refusal>
+        requires { IsVisit items.now self.old level (item_at offset (commands.Start number.now a.now b.now)) }
+        ensures ok { OnOk result (IsAfter items.now self.old level self.new) }
+        ensures err { IfErr result (RefusesWalk items.now) }
+    {
+        let first = level.next + 1;
+        let end = first + body_size(&items[first..level.end]);
+        let ratio = Ratio::of(a, b);
+        set(&mut self.symbols, key_of(number), Symbol { ratio, first, end })?;
+        self.go_on(level.resumed(end + 1), 0)?;
+        Ok(())
+    }
+
+    fn delete(&mut self, items: &[Item], level: Level, offset: u64, number: &i64) -> Result<(), Refusal>
+        requires { IsVisit items.now self.old level (item_at offset (commands.Delete number.now)) }
+        ensures ok { OnOk result (IsAfter items.now self.old level self.new) }
+        ensures err { IfErr result (RefusesWalk items.now) }
+    {
+        if self.count >= WALK_LIMIT {
+            return Err(broken(Fault::F7, offset));
+        }
+        cut(&mut self.symbols, key_of(number))?;
+        self.go_on(level.onward(level.layer), 1)?;
+        Ok(())
+    }
+}
+
+/// How many commands stand before the finish of an open definition.
+fn body_size(rest: &[Item]) -> usize
+    requires { AreClosed true rest.now }
+    ensures { IsBodySize rest.now result }
+{
+    for (index, item) in rest.iter().enumerate() {
+        if let Command::Finish = item.command {
+            return index;
+        }
+    }
+    rest.len()
 }
 
 /// A number of a definition.
