@@ -38,7 +38,7 @@ use Rattle.cif_flat.proofs.Shapes.{one_box, one_wire}
 
 -- ---- what a visit shows
 
-small_short : (z : ℤ) → IsSmall z → IsShort z
+pub small_short : (z : ℤ) → IsSmall z → IsShort z
 small_short (pos n) h = (omega (arith, ints, h), omega (arith, ints, h))
 small_short (negsuc n) h = (omega (arith, ints, h), omega (arith, ints, h))
 

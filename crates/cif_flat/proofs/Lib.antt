@@ -6,3 +6,4 @@ pub mod Rules
 pub mod Walks
 pub mod Arms
 pub mod Calls
+pub mod Defines
