@@ -7,7 +7,7 @@ use Rattle.std.proofs.Math.Seq.{drop-cons}
 use Rattle.std.proofs.lemmas.Bool.{cases_lt, cases_order, lt-ltb, ltb-true}
 use Rattle.std.proofs.lemmas.Int.{ints}
 use Rattle.std.proofs.lemmas.Option.{get_or_from_slice_get, slice_get_cases}
-use Rattle.std.proofs.lemmas.List.{length-append, take-append-drop, take-take, drop-take, drop-drop}
+use Rattle.std.proofs.lemmas.List.{length-append, take-append-drop, length-take, take-take, drop-take, drop-drop}
 use Rattle.std.proofs.lemmas.List.Elements.{All-head, All-tail}
 use Rattle.cif_form.specs.declared.command.Command.{Command}
 use Rattle.cif_form.specs.declared.command.Command.TheVariants.{Polygon, Box, Round, Wire, Layer as SetLayer, Start, Finish, Delete, Call, User, Comment}
@@ -222,3 +222,104 @@ module _ (items : List Item) (w : Walker) (v : Level) (o : ℕ) (n : ℤ) (h : I
       (subst (λ m. IsTable items (filter (λ d. int_lt d.number m) ds) symbols) is table)
       (level_onward items w.count (w.count + 1) w.opened (length w.levels.items) v v.layer delete_item (omega arith) h.more left (λ b e. let f : Some b ≡ Some false = sym e in cc) l)
       (omega arith) t leads refl new kept pushed (omega (arith, room, h.more))
+
+-- ---- definitions
+
+pub body_within : (rest : List Item) (n : ℕ) → IsBodySize rest n → n < length rest
+body_within rest n b = elim (slice_get_cases rest n).1 [ inl a ↦ a.1 | inr a ↦ absurd (let e : None ≡ Some (item_at b.offset Finish) = sym a.1 ∙ b.finish in cc) ]
+
+module _ (items : List Item) (w : Walker) (v : Level) (o : ℕ) (number a b : ℤ) (h : IsVisit items w v (item_at o (Start number a b))) where
+  abbrev start_item : Item
+  start_item = item_at o (Start number a b)
+
+  abbrev start_visit : Visit
+  start_visit = visit_at items w v start_item h
+
+  abbrev after : List Item
+  after = slice_range items (v.next + 1) v.end
+
+  start_top : w.levels.items ≡ []
+  start_top = at_top_level items w v o (Start number a b) h (λ x. x)
+
+  start_left : left_of items v ≡ start_item ∷ after
+  start_left = left_next items v start_item h.more h.here
+
+  pub start_closed : AreClosed true after
+  start_closed =
+      let l = level_of items w v start_item h in
+      let c : AreClosed false (start_item ∷ after) = subst (λ k. IsNested k (start_item ∷ after)) (ap length start_top) (subst (IsNested (length w.levels.items)) start_left l.nested) in
+      subst (λ x. AreClosed x after) (same_bool c.1) c.2
+
+  module _ (n : ℕ) (s : IsBodySize after n) where
+    abbrev first : ℕ
+    first = v.next + 1
+
+    pub body_room : first + n + 1 ≤ v.end
+    body_room = let k = body_within after n s in let l = length-take (v.end - first) (drop first items) in omega (arith, k, l)
+
+    body_is : take n after ≡ slice_range items first (first + n)
+    body_is = take-take n (v.end - first) (drop first items) (omega (arith, body_room)) ∙ ap (λ k. take k (drop first items)) (omega arith)
+
+    rest_is : drop (n + 1) after ≡ slice_range items (first + n + 1) v.end
+    rest_is =
+        let m : v.end - first ≡ (n + 1) + (v.end - (first + n + 1)) = omega (arith, body_room) in
+        ap (λ k. drop (n + 1) (take k (drop first items))) m ∙ drop-take (n + 1) (v.end - (first + n + 1)) (drop first items)
+        ∙ ap (take (v.end - (first + n + 1))) (drop-drop (n + 1) first items ∙ ap (λ k. drop k items) (omega arith))
+
+    after_is : after ≡ slice_range items first (first + n) ++ (item_at s.offset Finish ∷ slice_range items (first + n + 1) v.end)
+    after_is =
+        let f = item_at s.offset Finish in
+        let d = at_drop after n f (body_within after n s) (sym (get_or_from_slice_get after n f f s.finish)) in
+        sym (take-append-drop n after) ∙ (λ i. body_is i ++ d i) ∙ ap (λ xs. slice_range items first (first + n) ++ (f ∷ xs)) rest_is
+
+    abbrev resumed : Level
+    resumed = record v { next = first + n + 1 }
+
+    module _ (key : ℕ) (is : pos key ≡ number) (ratio : Ratio) (er : ratio ≡ record { a = a; b = b }) where
+      abbrev symbol : Symbol
+      symbol = record { ratio = ratio; first = first; end = first + n }
+
+      start_ratio : IsAnyRatio ratio
+      start_ratio =
+          let f = (fits_here items w v start_item h).unsigned in
+          let t = All-tail Unsigned number (a ∷ b ∷ []) f in
+          let x = All-head Unsigned a (b ∷ []) t in
+          let y = All-head Unsigned b [] (All-tail Unsigned a (b ∷ []) t) in
+          let r : IsAnyRatio (record { a = a; b = b }) = record { a = x.0; b = y.0; short_a = (small_short a x.1).1; short_b = (small_short b y.1).1 } in
+          subst IsAnyRatio (sym er) r
+
+      start_symbol : IsSymbol items symbol
+      start_symbol =
+          let l = level_of items w v start_item h in
+          record { ratio = start_ratio; forward = omega arith; within = omega (arith, body_room, l.within); inside = subst (All (λ i. IsInside i.command)) body_is s.inside }
+
+      pub defined : (symbols : BTreeMap ℕ Symbol) → get nat_cmp symbols key ≡ Some symbol → ((k : ℕ) → k ≢ key → get nat_cmp symbols k ≡ get nat_cmp w.symbols k)
+          → (new : Walker) → new ≡ record w { symbols = symbols; count = w.count + 0; levels = new.levels } → new.levels.items ≡ w.levels.items ++ (resumed ∷ []) → IsAfter items w v new
+      defined symbols here others new kept pushed =
+          let ds = h.walking.definitions in
+          let l = level_of items w v start_item h in
+          let m = level_later items w.count (w.count + 0) w.opened (length w.levels.items) v (omega arith) l in
+          let d : Definition = record { number = number; scale = record { a = a; b = b }; body = slice_range items first (first + n) } in
+          let same : d ∷ ds ≡ definition_of items key symbol ∷ ds = (λ i. record { number = sym is i; scale = scale_of (sym er i); body = slice_range items first (first + n) } ∷ ds) in
+          let t = at_top start_visit (d ∷ ds) (slice_range items (first + n + 1) v.end) in
+          let limit = h.walking.limit in
+          let leads = leads_step items w v start_item h [] [] t (none start_visit never never never never never never (λ k. omega (arith, k, limit)) never never never)
+              (slice_range items first (first + n), slice_range items (first + n + 1) v.end, s.offset, ap (λ vs. onto items vs []) start_top,
+                subst (All (λ i. IsInside i.command)) body_is s.inside, after_is, refl, refl, refl) in
+          let closed : IsNested (length w.levels.items) (slice_range items (first + n + 1) v.end) =
+              subst (λ k. IsNested k (slice_range items (first + n + 1) v.end)) (sym (ap length start_top)) (subst (AreClosed false) rest_is s.closed) in
+          let level : IsLevel items (w.count + 0) w.opened (length w.levels.items) resumed = record {
+              ratio = m.ratio;
+              held = m.held;
+              forward = body_room;
+              within = m.within;
+              nested = closed;
+              number = m.number;
+            } in
+          came_top items w v start_item h start_top resumed 0 symbols (definition_of items key symbol ∷ ds)
+          (table_set items ds w.symbols symbols key symbol h.walking.table start_symbol here others) level (omega (arith, limit)) t leads
+          (λ i. record { definitions = same i; count = w.count + 0; frames = frame_of items resumed ∷ [] }) new kept pushed (omega (arith, body_room, h.more))
+
+-- a definition's number isn't negative
+pub start_number : (items : List Item) (w : Walker) (v : Level) (o : ℕ) (number a b : ℤ) → IsVisit items w v (item_at o (Start number a b)) → pos 0 ≤ℤ number
+start_number items w v o number a b h = (All-head Unsigned number (a ∷ b ∷ []) (fits_here items w v (item_at o (Start number a b)) h).unsigned).0
