@@ -13,10 +13,12 @@ use Rattle.lam_geom.specs.declared.rect.Rect.{Rect}
 use Rattle.cif_form.specs.declared.command.Turn.{Turn}
 use Rattle.cif_form.specs.declared.command.Turn.TheVariants.{Move, MirrorX, MirrorY, Rotate}
 use Rattle.cif_flat.specs.Turning.{IsShortTurn}
-use Rattle.cif_form.specs.declared.command.Command.TheVariants.{Box, Wire, Comment, Layer as SetLayer}
+use Rattle.cif_form.specs.declared.command.Command.TheVariants.{Polygon, Round, Box, Wire, User, Comment, Layer as SetLayer}
 use Rattle.cif_form.specs.declared.command.Item.{Item}
 use Rattle.cif_form.specs.Place.{layer_name, HasEdges, segments, AreSegments}
-use Rattle.cif_form.specs.Walk.{Visit, Breaks}
+use Rattle.cif_form.specs.Walk.{Frame, Visit, Breaks}
+use Rattle.cif_form.specs.Labels.{IsLabelText, IsNoLabel}
+use Rattle.lam_geom.specs.declared.label.FlatLabel.{FlatLabel}
 use Rattle.cif_form.specs.Walk.DrawRule.{F3, F4, F7, F8}
 use Rattle.cif_form.specs.Fits.{Fits, IsSmall, point_numbers, turn_numbers}
 use Rattle.cif_form.specs.Expansion.{item_at}
@@ -30,8 +32,8 @@ use Rattle.cif_flat.specs.declared.walker.Walker.{Walker}
 use Rattle.cif_flat.specs.Placing.{IsShort, IsShortPoint, IsFitRatio, IsHeld, scale_of, rect_of, place_of}
 use Rattle.cif_flat.specs.Shaping.{IsBoxEdges, IsBoxFault, IsNearAt, IsFarAt, IsStraight, HasAskewSegment, HaveEdges, drawn}
 use Rattle.cif_flat.specs.Refusing.{RefusesWalk, refusal_of}
-use Rattle.cif_flat.specs.Walking.{IsVisit, IsAfter}
-use Rattle.cif_flat.proofs.Rules.{never, none, first3, first4, first7, first8, first9, first10}
+use Rattle.cif_flat.specs.Walking.{frame_of, onto, IsVisit, IsAfter}
+use Rattle.cif_flat.proofs.Rules.{never, none, first3, first4, first5, first6, first7, first8, first9, first10}
 use Rattle.cif_flat.proofs.Walks.{visit_at, stops, onward, level_of, arrive, arrive_quiet}
 use Rattle.cif_flat.proofs.Numbers.{within_more}
 use Rattle.cif_flat.proofs.Shapes.{one_box, one_wire}
@@ -91,6 +93,14 @@ pub ratio_here : (items : List Item) (w : Walker) (v : Level) (i : Item) → IsV
 ratio_here items w v i h = (level_of items w v i h).ratio
 
 -- ---- arms
+
+length_onto : (items : List Item) (vs : List Level) (fs : List Frame) → length (onto items vs fs) ≡ length vs + length fs
+length_onto items [] fs = omega arith
+length_onto items (v ∷ vs) fs = omega (arith, length_onto items vs (frame_of items v ∷ fs))
+
+no_frames : (items : List Item) (vs : List Level) (fs : List Frame) → onto items vs fs ≡ [] → vs ≡ []
+no_frames items [] fs e = refl
+no_frames items (v ∷ vs) fs e = absurd (omega (arith, length_onto items vs (frame_of items v ∷ fs), ap length e))
 
 near_edges : (p : Placement) (es : List Edges) → All (λ r. IsNearRect (place_of p r)) (map (rect_of ND) es) → All (λ e. IsNearRect (place_of p (rect_of ND e))) es
 near_edges p [] h = All-nil (λ e. IsNearRect (place_of p (rect_of ND e)))
@@ -241,3 +251,35 @@ module _ (items : List Item) (w : Walker) (v : Level) (o : ℕ) where
             wire_drawn l s shapes is new kept pushed = arrive items w v wire_item h v.layer (drawn v.placement l es) [] (length (segments path)) shapes w.labels new refl (some_segments path some) k
                 (none wire_visit never never no_askew_segment no_uneven never never in_limit no_far (λ n. let d : None ≡ Some l = sym n ∙ s in cc) never)
                 ((l, map (rect_of l) es, s, are l, map_twice v.placement l es, refl), refl) (λ b e. cc) is (sym (append-nil w.labels)) kept pushed
+
+  -- ---- user commands
+
+  module _ (digit : ℕ) (text : List ℕ) (h : IsVisit items w v (item_at o (User digit text))) where
+    abbrev user_item : Item
+    user_item = item_at o (User digit text)
+
+    abbrev user_visit : Visit
+    user_visit = visit_at items w v user_item h
+
+    pub user_counted : 4_000_000 ≤ w.count → RefusesWalk items (refusal_of faults.F7 o)
+    user_counted k = stops items w v user_item h faults.F7 (first7 user_visit (omega (arith, k)) never never never never never never)
+
+    pub user_passed : w.count < 4_000_000 → (w.levels.items ≡ [] → digit ≡ 9 → IsNoLabel text) → (new : Walker) → new ≡ record w { count = w.count + 1; levels = new.levels }
+        → new.levels.items ≡ w.levels.items ++ (onward v v.layer ∷ []) → IsAfter items w v new
+    user_passed k n new = arrive_quiet items w v user_item h v.layer new refl (omega arith)
+        (none user_visit never never never never never never (λ b. omega (arith, b)) never never never) (inr ((λ e d. n (no_frames items w.levels.items [] e) d), refl), refl, refl) (λ b e. cc)
+
+    pub user_labelled : w.count < 4_000_000 → w.levels.items ≡ [] → digit ≡ 9 → (label : FlatLabel) → IsLabelText label text → label.offset ≡ o
+        → (labels : List FlatLabel) → labels ≡ w.labels ++ (label ∷ []) → (new : Walker)
+        → new ≡ record w { labels = labels; count = w.count + 1; levels = new.levels } → new.levels.items ≡ w.levels.items ++ (onward v v.layer ∷ []) → IsAfter items w v new
+    user_labelled k top nine label is at labels el new = arrive items w v user_item h v.layer [] (label ∷ []) 1 w.shapes labels new refl (omega arith) (omega arith)
+        (none user_visit never never never never never never (λ b. omega (arith, b)) never never never)
+        (inl (label, (ap (λ vs. onto items vs []) top, nine, at, is), refl), refl, refl) (λ b e. cc) (sym (append-nil w.shapes)) el
+
+  -- ---- polygons and round flashes
+
+  pub polygon : (path : List Point) → IsVisit items w v (item_at o (Polygon path)) → RefusesWalk items (refusal_of faults.F6 o)
+  polygon path h = stops items w v (item_at o (Polygon path)) h faults.F6 (first6 (visit_at items w v (item_at o (Polygon path)) h) tt never never never never never)
+
+  pub round : (diameter : ℤ) (center : Point) → IsVisit items w v (item_at o (Round diameter center)) → RefusesWalk items (refusal_of faults.F5 o)
+  round diameter center h = stops items w v (item_at o (Round diameter center)) h faults.F5 (first5 (visit_at items w v (item_at o (Round diameter center)) h) tt never never never never)

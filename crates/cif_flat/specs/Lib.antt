@@ -5,3 +5,4 @@ pub mod Sound
 pub mod Refusing
 pub mod Calling
 pub mod Walking
+pub mod Labelling

@@ -101,3 +101,7 @@ after p q = record {
 -- it shifts by at most n
 abbrev pub IsHeld : ℕ → Placement → Type 0
 IsHeld n p = IsWithin n p.dx × IsWithin n p.dy
+
+-- the placement that leaves shapes where they are
+abbrev pub here : Placement
+here = record { swaps = false; flips_x = false; flips_y = false; dx = pos 0; dy = pos 0 }

@@ -15,7 +15,7 @@ use Rattle.cif_flat.specs.declared.placement.Placement.{Placement}
 use Rattle.cif_flat.specs.declared.symbol.Symbol.{Symbol}
 use Rattle.cif_flat.specs.declared.walker.Walker.{Walker}
 use Rattle.cif_flat.specs.declared.ratio.Ratio.{Ratio}
-use Rattle.cif_flat.specs.Placing.{IsFitRatio, scale_of, place_of, after, IsHeld}
+use Rattle.cif_flat.specs.Placing.{IsFitRatio, scale_of, place_of, after, here, IsHeld}
 use Rattle.cif_flat.specs.Calling.{AreCalls}
 use Rattle.cif_flat.specs.Sound.{AreClosed}
 
@@ -100,6 +100,10 @@ pub record IsLevel (items : List Item) (count : ℕ) (opened : BTreeMap ℕ ℕ)
   pub within : v.end ≤ length items
   pub nested : IsNested depth (left_of items v)
   pub number : (n : ℕ) → v.symbol ≡ Some n → get nat_cmp opened n ≡ Some depth
+
+-- the top level of a file with so many commands
+abbrev pub top : ℕ → Level
+top size = record { symbol = None; ratio = record { a = pos 1; b = pos 1 }; layer = None; placement = here; next = 0; end = size }
 
 -- this is true of each level and its depth
 abbrev pub EachLevel : (ℕ → Level → Type 0) → List Level → Type 0

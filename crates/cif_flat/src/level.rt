@@ -1,6 +1,7 @@
 //! Lists of commands that are being walked.
 
 ghost use Rattle.std.specs.Prelude.{◌≡◌, ◌+◌, ◌<◌, Some};
+ghost use Rattle.cif_flat.specs.Walking.{top};
 ghost use Rattle.std.specs.Bool.{OnTrue, OnFalse};
 
 use crate::placement::Placement;
@@ -20,6 +21,20 @@ pub(crate) struct Level {
 }
 
 impl Level {
+    /// The top level of a file with so many commands.
+    pub(crate) fn top(size: usize) -> Level
+        ensures { result ≡ top size }
+    {
+        Level {
+            symbol: None,
+            ratio: Ratio::unit(),
+            layer: None,
+            placement: Placement::here(),
+            next: 0,
+            end: size,
+        }
+    }
+
     /// Behind its next command, with a layer set or none.
     pub(crate) fn onward(self, layer: Option<Layer>) -> Level
         requires { self.next < self.end }

@@ -4,6 +4,7 @@
 mod called;
 mod edges;
 mod fault;
+mod label;
 mod layer;
 mod level;
 mod placement;

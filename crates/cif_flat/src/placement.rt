@@ -2,7 +2,7 @@
 
 ghost use Rattle.std.specs.Prelude.{◌≡◌, ◌^◌, ◌+ℤ◌};
 ghost use Rattle.lam_geom.specs.declared.layer.Layer.{Layer};
-ghost use Rattle.cif_flat.specs.Placing.{IsWithin, IsHeld, AreSmall, rect_of, either, flipped, low_end, high_end, laid, place_of, switched_if, after};
+ghost use Rattle.cif_flat.specs.Placing.{IsWithin, IsHeld, AreSmall, rect_of, either, flipped, low_end, high_end, here, laid, place_of, switched_if, after};
 
 use crate::edges::Edges;
 
@@ -58,6 +58,19 @@ fn shifted(base: i128, flips: bool, shift: i128) -> i128
 }
 
 impl Placement {
+    /// Where a shape is written.
+    pub(crate) fn here() -> Placement
+        ensures { result ≡ here }
+    {
+        Placement {
+            swaps: false,
+            flips_x: false,
+            flips_y: false,
+            dx: 0,
+            dy: 0,
+        }
+    }
+
     fn switched_if(self, swaps: bool) -> Placement
         ensures { result ≡ switched_if swaps self }
     {

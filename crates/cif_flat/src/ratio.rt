@@ -37,6 +37,13 @@ fn quotient(product: i128, divisor: i64) -> Option<i128>
 }
 
 impl Ratio {
+    /// The scale of the top level.
+    pub(crate) fn unit() -> Ratio
+        ensures { result ≡ record { a = pos 1; b = pos 1 } }
+    {
+        Ratio { a: 1, b: 1 }
+    }
+
     pub(crate) fn of(a: &i64, b: &i64) -> Ratio
         ensures { result ≡ record { a = a.now; b = b.now } }
     {

@@ -1,19 +1,23 @@
 //! The walk.
 
-ghost use Rattle.std.specs.Prelude.{◌≡◌, ◌≢◌, ◌+◌, ◌^◌, ◌<◌, ◌≤◌, ◌++◌, ◌∷◌, [], ℕ, true, pos, ◌≤ℤ◌, length, Some, IfErr, OnOk};
+ghost use Rattle.std.specs.Prelude.{◌≡◌, ◌≢◌, ◌+◌, ◌^◌, ◌<◌, ◌≤◌, ◌++◌, ◌∷◌, [], ℕ, All, true, false, pos, ◌≤ℤ◌, length, Some, IfOk, IfErr, OnOk};
 ghost use Rattle.std.specs.Bool.{OnTrue, OnFalse};
 ghost use Rattle.std.specs.BTreeMap.{get};
 ghost use Rattle.std.specs.Ordering.{nat_cmp};
 ghost use Rattle.cif_flat.specs.Placing.{IsHeld};
+ghost use Rattle.cif_form.specs.Fits.{Fits};
+ghost use Rattle.cif_form.specs.Walk.{FileWalks};
+ghost use Rattle.cif_form.specs.Walk.WalkEnd.{Whole};
 ghost use Rattle.cif_form.specs.Expansion.{item_at};
 ghost use Rattle.cif_form.specs.declared.command.Command.TheVariants as commands;
 ghost use Rattle.cif_flat.specs.Sound.{AreClosed};
-ghost use Rattle.cif_flat.specs.Walking.{EachLevel, IsNumbered, IsOpen, entered, IsBodySize, IsVisit, IsAfter};
+ghost use Rattle.cif_flat.specs.Walking.{EachLevel, IsNumbered, IsOpen, entered, IsBodySize, IsWalking, IsVisit, IsAfter};
 ghost use Rattle.cif_flat.specs.Refusing.{RefusesWalk};
 
 use crate::called::{Composed, placement_of, turned_at};
 use crate::edges::Extent;
 use crate::fault::{Fault, broken};
+use crate::label::label_of;
 use crate::layer::layer_named;
 use crate::level::Level;
 use crate::placement::Placement;
@@ -24,7 +28,7 @@ use crate::table::{Table, cut, found, set};
 use cif_form::{Command, Item, Turn};
 use lam_geom::{FlatLabel, Layer, Point, Rect};
 use mp_base::{List, Name, Refusal};
-use std::alloc::AllocError;
+use std::alloc::{AllocError, Global};
 
 const WALK_LIMIT: u64 = 4_000_000;
 
@@ -236,6 +240,96 @@ impl Walker {
         cut(&mut self.symbols, key_of(number))?;
         self.go_on(level.onward(level.layer), 1)?;
         Ok(())
+    }
+
+    fn user(&mut self, alloc: Global, items: &[Item], level: Level, offset: u64, digit: &u8, text: &Name) -> Result<(), Refusal>
+        requires { IsVisit items.now self.old level (item_at offset (commands.User digit.now text.now)) }
+        ensures ok { OnOk result (IsAfter items.now self.old level self.new) }
+        ensures err { IfErr result (RefusesWalk items.now) }
+    {
+        if self.count >= WALK_LIMIT {
+            return Err(broken(Fault::F7, offset));
+        }
+        if *digit != 9 {
+            self.go_on(level.onward(level.layer), 1)?;
+            return Ok(());
+        }
+        if self.levels.len() > 0 {
+            self.go_on(level.onward(level.layer), 1)?;
+            return Ok(());
+        }
+        let Some(label) = label_of(alloc, offset, text.bytes())? else {
+            self.go_on(level.onward(level.layer), 1)?;
+            return Ok(());
+        };
+        self.labels.push(label)?;
+        self.go_on(level.onward(level.layer), 1)?;
+        Ok(())
+    }
+
+    /// Walks the next command of the innermost list.
+    fn visit(&mut self, alloc: Global, items: &[Item], level: Level) -> Result<(), Refusal>
+        requires fit { All (λ i. Fits i.command) items.now }
+        requires walking { IsWalking items.now self.old (self.old.levels.items ++ level ∷ []) }
+        requires more { level.next < level.end }
+        ensures ok { OnOk result (IsAfter items.now self.old level self.new) }
+        ensures err { IfErr result (RefusesWalk items.now) }
+    {
+        let item = &items[level.next];
+        let offset = item.offset;
+        match &item.command {
+            Command::Polygon(_) => Err(broken(Fault::F6, offset)),
+            Command::Box {
+                length,
+                width,
+                center,
+                direction,
+            } => self.draw_box(items, level, offset, Extent::of(length, width), center, direction),
+            Command::Round { .. } => Err(broken(Fault::F5, offset)),
+            Command::Wire { width, path } => {
+                self.draw_wire(items, level, offset, Extent::of(width, width), path.as_slice())
+            }
+            Command::Layer(name) => self.set_layer(items, level, offset, name),
+            Command::Start { number, a, b } => self.define(items, level, offset, number, a, b),
+            Command::Finish => unreachable!(),
+            Command::Delete(number) => self.delete(items, level, offset, number),
+            Command::Call { number, turns } => self.call(items, level, offset, number, turns.as_slice()),
+            Command::User { digit, text } => self.user(alloc, items, level, offset, digit, text),
+            Command::Comment(text) => self.comment(items, level, offset, text),
+        }
+    }
+
+    fn new(alloc: Global, items: &[Item]) -> Result<Walker, AllocError>
+        requires { AreClosed false items.now }
+        ensures { IfOk result (λ w. IsWalking items.now w w.levels.items) }
+    {
+        let mut levels = Vec::new(alloc);
+        levels.push(Level::top(items.len()))?;
+        Ok(Walker {
+            symbols: Table::new(alloc),
+            opened: Table::new(alloc),
+            calls: Table::new(alloc),
+            levels,
+            count: 0,
+            shapes: List::new(alloc),
+            labels: List::new(alloc),
+        })
+    }
+
+    /// Walks the items of a file.
+    pub(crate) fn walk(alloc: Global, items: &[Item]) -> Result<Walker, Refusal>
+        requires fit { All (λ i. Fits i.command) items.now }
+        requires closed { AreClosed false items.now }
+        ensures ok { IfOk result (λ w. FileWalks items.now w.shapes w.labels Whole) }
+        ensures err { IfErr result (RefusesWalk items.now) }
+    {
+        let mut walker = Walker::new(alloc, items)?;
+        while let Some(level) = walker.levels.pop() {
+            if level.next < level.end {
+                walker.visit(alloc, items, level)?;
+            }
+        }
+        Ok(walker)
     }
 }
 
