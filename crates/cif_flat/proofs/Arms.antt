@@ -1,9 +1,9 @@
 -- What is met at each kind of command.
-use Rattle.std.proofs.Common.{ℕ, ◌≡◌, ◌+◌, ◌*◌, ◌^◌, ◌<◌, ◌≤◌, refl, sym, ◌∙◌, ap, subst, arith, inl, inr, List, [], ◌∷◌, ◌++◌, length, map, All, append-nil, Option, Some, None}
-use Rattle.std.specs.Prelude.{◌≢◌, ℤ, pos, negsuc, ◌≤ℤ◌, Contains, slice_get}
+use Rattle.std.proofs.Common.{ℕ, ◌≡◌, ◌+◌, ◌*◌, ◌^◌, ◌<◌, ◌≤◌, refl, sym, ◌∙◌, ap, subst, arith, inl, inr, List, [], ◌∷◌, ◌++◌, zero, suc, get_or, length, map, All, append-nil, Option, Some, None}
+use Rattle.std.specs.Prelude.{◌≢◌, ℤ, pos, negsuc, ◌≤ℤ◌, Contains, slice_get, slice_range}
 use Rattle.std.specs.List.{flat_map}
 use Rattle.std.proofs.lemmas.Int.{ints}
-use Rattle.std.proofs.lemmas.Option.{get_or_from_slice_get, slice_get_cases}
+use Rattle.std.proofs.lemmas.Option.{get_or_from_slice_get, slice_get_cases, slice_get_read}
 use Rattle.std.proofs.lemmas.List.Elements.{All-nil, All-cons, All-head, All-tail, All-contains, All-map, All-weaker}
 use Rattle.lam_geom.specs.declared.layer.Layer.{Layer}
 use Rattle.lam_geom.specs.declared.layer.Layer.TheVariants.{ND}
@@ -13,7 +13,8 @@ use Rattle.lam_geom.specs.declared.rect.Rect.{Rect}
 use Rattle.cif_form.specs.declared.command.Turn.{Turn}
 use Rattle.cif_form.specs.declared.command.Turn.TheVariants.{Move, MirrorX, MirrorY, Rotate}
 use Rattle.cif_flat.specs.Turning.{IsShortTurn}
-use Rattle.cif_form.specs.declared.command.Command.TheVariants.{Polygon, Round, Box, Wire, User, Comment, Layer as SetLayer}
+use Rattle.cif_form.specs.declared.command.Command.{Command}
+use Rattle.cif_form.specs.declared.command.Command.TheVariants.{Finish, Polygon, Round, Box, Wire, User, Comment, Layer as SetLayer}
 use Rattle.cif_form.specs.declared.command.Item.{Item}
 use Rattle.cif_form.specs.Place.{layer_name, HasEdges, segments, AreSegments}
 use Rattle.cif_form.specs.Walk.{Frame, Visit, Breaks}
@@ -21,7 +22,7 @@ use Rattle.cif_form.specs.Labels.{IsLabelText, IsNoLabel}
 use Rattle.lam_geom.specs.declared.label.FlatLabel.{FlatLabel}
 use Rattle.cif_form.specs.Walk.DrawRule.{F3, F4, F7, F8}
 use Rattle.cif_form.specs.Fits.{Fits, IsSmall, point_numbers, turn_numbers}
-use Rattle.cif_form.specs.Expansion.{item_at}
+use Rattle.cif_form.specs.Expansion.{IsInside, item_at}
 use Rattle.cif_flat.specs.declared.edges.Edges.{Edges}
 use Rattle.cif_flat.specs.declared.edges.Extent.{Extent}
 use Rattle.cif_flat.specs.declared.fault.Fault.{Fault}
@@ -32,9 +33,9 @@ use Rattle.cif_flat.specs.declared.walker.Walker.{Walker}
 use Rattle.cif_flat.specs.Placing.{IsShort, IsShortPoint, IsFitRatio, IsHeld, scale_of, rect_of, place_of}
 use Rattle.cif_flat.specs.Shaping.{IsBoxEdges, IsBoxFault, IsNearAt, IsFarAt, IsStraight, HasAskewSegment, HaveEdges, drawn}
 use Rattle.cif_flat.specs.Refusing.{RefusesWalk, refusal_of}
-use Rattle.cif_flat.specs.Walking.{frame_of, onto, IsVisit, IsAfter}
+use Rattle.cif_flat.specs.Walking.{frame_of, onto, IsNested, IsLevel, IsWalking, IsVisit, IsAfter}
 use Rattle.cif_flat.proofs.Rules.{never, none, first3, first4, first5, first6, first7, first8, first9, first10}
-use Rattle.cif_flat.proofs.Walks.{visit_at, stops, onward, level_of, arrive, arrive_quiet}
+use Rattle.cif_flat.proofs.Walks.{visit_at, stops, onward, each_last, left_next, level_of, arrive, arrive_quiet}
 use Rattle.cif_flat.proofs.Numbers.{within_more}
 use Rattle.cif_flat.proofs.Shapes.{one_box, one_wire}
 
@@ -51,6 +52,24 @@ fits_here items w v i h =
 
 abbrev pub Unsigned : ℤ → Type 0
 Unsigned z = (pos 0 ≤ℤ z) × IsSmall z
+
+-- the next command of the innermost level
+pub visiting : (items : List Item) (w : Walker) (v : Level) (i : Item) (c : Command) → All (λ i. Fits i.command) items → IsWalking items w (w.levels.items ++ (v ∷ [])) → v.next < v.end
+    → i ≡ get_or items v.next i → i.command ≡ c → IsVisit items w v (item_at i.offset c)
+visiting items w v i c fit walking more e f =
+    let l = each_last (IsLevel items w.count w.opened) w.levels.items v walking.stack in
+    let lt : v.next < length items = omega (arith, more, l.within) in
+    let same : i ≡ item_at i.offset c = λ j. record { offset = i.offset; command = f j } in
+    record { fit = fit; walking = walking; more = more; here = slice_get_read items (length items) v.next i refl lt e ∙ ap (λ j. Some j) same }
+
+no_finish_in : (k : ℕ) (o : ℕ) (is : List Item) → IsNested k (item_at o Finish ∷ is) → ⊥
+no_finish_in zero o is (b, e, k) = let f : None ≡ Some b = e in cc
+no_finish_in (suc k) o is h = All-head (λ i. IsInside i.command) (item_at o Finish) is h
+
+-- no finish is met: that of a definition is passed with it
+pub no_finish : (items : List Item) (w : Walker) (v : Level) (o : ℕ) → IsVisit items w v (item_at o Finish) → ⊥
+no_finish items w v o h = no_finish_in (length w.levels.items) o (slice_range items (v.next + 1) v.end)
+    (subst (IsNested (length w.levels.items)) (left_next items v (item_at o Finish) h.more h.here) (level_of items w v (item_at o Finish) h).nested)
 
 pub box_short : (long wide : ℤ) (center direction : Point) → Fits (Box long wide center direction) → (IsShort long × IsShort wide) × IsShortPoint center
 box_short long wide center direction f =

@@ -7,3 +7,4 @@ pub mod Walks
 pub mod Arms
 pub mod Calls
 pub mod Defines
+pub mod Loop

@@ -27,7 +27,7 @@ only x y h = grind arith
 the_one : {X : Type 0} (x : X) → Contains (x ∷ []) x
 the_one x = grind arith
 
-still : (r : Rect) → placed [] r ≡ place_of (turn_of false false false) r
+pub still : (r : Rect) → placed [] r ≡ place_of (turn_of false false false) r
 still r = same_rect _ _ _ _ _ _ _ _ _ _ refl (omega (arith, ints)) (omega (arith, ints)) (omega (arith, ints)) (omega (arith, ints))
 
 quarter : (r : Rect) → placed (Quarter ∷ []) r ≡ place_of (turn_of true true false) r
