@@ -69,6 +69,13 @@ module _ (items : List Item) (w : Walker) (closed : AreClosed false items) (symb
 
 -- ---- a level that is done
 
+-- the walker's own levels don't matter
+pub same_walking : (items : List Item) (w : Walker) (vs : List Level) (new : Walker) → new ≡ record w { levels = new.levels } → IsWalking items w vs → IsWalking items new vs
+same_walking items w vs new e h =
+    let mid : Walker = record w { levels = new.levels } in
+    let k : IsWalking items mid vs = record { definitions = h.definitions; table = h.table; calls = h.calls; leads = h.leads; limit = h.limit; stack = h.stack } in
+    subst (λ x. IsWalking items x vs) (sym e) k
+
 module _ (items : List Item) (w : Walker) (vs : List Level) (v : Level) (h : IsWalking items w (vs ++ (v ∷ []))) where
   pub walking_back : v.end ≤ v.next → IsWalking items w vs
   walking_back done = record {
