@@ -8,3 +8,4 @@ pub mod Arms
 pub mod Calls
 pub mod Defines
 pub mod Loop
+pub mod Words
