@@ -10,7 +10,7 @@ use Rattle.std.proofs.lemmas.Int.Digits.{digits_value_more, digits_more}
 use Rattle.std.proofs.lemmas.Str.Parse.{digit_at}
 use Rattle.std.proofs.lemmas.Int.{ints}
 use Rattle.std.proofs.lemmas.List.{take-append-drop, take_all, length-drop, length-take}
-use Rattle.std.proofs.lemmas.List.Elements.{All-head, All-tail, All-cons, All-nil, All-append}
+use Rattle.std.proofs.lemmas.List.Elements.{All-head, All-tail, All-cons, All-nil, All-from_get_or}
 use Rattle.mp_base.specs.Token.{is_digit}
 use Rattle.lam_geom.specs.declared.layer.Layer.{Layer}
 use Rattle.lam_geom.specs.declared.layer.Layer.TheVariants.{ND, NP, NC, NM, NI, NB, NG}
@@ -18,6 +18,7 @@ use Rattle.lam_geom.specs.declared.label.FlatLabel.{FlatLabel}
 use Rattle.cif_form.specs.Text.{SignedDigits, Digits}
 use Rattle.cif_form.specs.Place.{layer_name}
 use Rattle.cif_form.specs.Labels.{IsSpace, Spaces, Coordinate, OwnLayer, IsLabelText}
+use Rattle.cif_flat.specs.Placing.{IsWithin}
 use Rattle.cif_flat.specs.Labelling.{Begins, IsNextWord, Tail, IsLabelLayer}
 
 head_of : {x y : ℕ} {xs ys : List ℕ} → x ∷ xs ≡ y ∷ ys → x ≡ y
@@ -95,6 +96,14 @@ next_word_is text n m l p q k a b c = record {
   stops = c;
 }
 
+-- the same of a rest that is cut off
+pub next_word_of : (text : List ℕ) (n m : ℕ) (rest : List ℕ) → rest ≡ drop n text → n ≤ length text → 0 < n → 0 < m → m ≤ length rest → All IsSpace (take n text) → All Word (take m rest)
+    → Begins IsSpace (drop m rest) → IsNextWord text (take m rest) (take (length rest - m) (drop m rest))
+next_word_of text n m rest e l p q k a b c =
+    subst (λ end. IsNextWord text (take m rest) end) (sym (rest_of rest m))
+    (subst (λ t. IsNextWord text (take m t) (drop m t)) (sym e)
+      (next_word_is text n m l p q (subst (λ t. m ≤ length t) e k) a (subst (λ t. All Word (take m t)) e b) (subst (λ t. Begins IsSpace (drop m t)) e c)))
+
 -- ---- numbers
 
 digit_range : (c : ℕ) → is_digit c ≡ true → IsInRange 48 57 c
@@ -127,10 +136,7 @@ small_negative zero h = omega arith
 small_negative (suc n) h = h
 
 digits_word : (ds : List ℕ) → AllDigits 10 ds → All Word ds
-digits_word ds h k d l = digit_word (get_or ds k d) (digit_at' ds k d l h)
-  where
-    digit_at' : (ds : List ℕ) (k d : ℕ) → k < length ds → AllDigits 10 ds → IsInRange 48 57 (get_or ds k d)
-    digit_at' ds k d l h = ?
+digits_word ds h = All-from_get_or Word ds 0 (λ i l. digit_word (get_or ds i 0) (digit_at ds i h l))
 
 number_word : (z : ℤ) (text : List ℕ) → SignedDigits z text → (0 < length text) × All Word text
 number_word z text (n, inl (e, d)) = (d.0.0, digits_word text d.0.1)
@@ -221,3 +227,30 @@ words_label text l h =
     (52 ∷ [], h.body, h.four, refl, (h.name.spaces, l.name ++ h.after_name, h.name.split, h.name.are_spaces, (l.name, h.after_name, refl, (refl, h.name.some, h.name.solid),
       (h.x_word.spaces, h.across ++ h.after_x, h.x_word.split, h.x_word.are_spaces, (h.across, h.after_x, refl, h.x,
         (h.y_word.spaces, h.up ++ h.end, h.y_word.split, h.y_word.are_spaces, (h.up, h.end, refl, h.y, h.layer)))))))
+
+-- what is read of a label, step by step
+module _ (text rest : List ℕ) (first : ℕ) (e : text ≡ first ∷ rest) (l : FlatLabel) (h : IsLabelOf text l) where
+  pub the_name : IsNextWord rest l.name h.after_name
+  the_name = subst (λ t. IsNextWord t l.name h.after_name) (tail_of (sym h.four ∙ e)) h.name
+
+  module _ (name r2 : List ℕ) (n : IsNextWord rest name r2) where
+    pub the_x : IsNextWord r2 h.across h.after_x
+    the_x = subst (λ t. IsNextWord t h.across h.after_x) (sym (one_word rest name l.name r2 h.after_name n the_name).1) h.x_word
+
+    module _ (xw r3 : List ℕ) (x : IsNextWord r2 xw r3) where
+      pub the_y : IsNextWord r3 h.up h.end
+      the_y = subst (λ t. IsNextWord t h.up h.end) (sym (one_word r2 xw h.across r3 h.after_x x the_x).1) h.y_word
+
+      pub the_across : Coordinate l.x xw
+      the_across = subst (Coordinate l.x) (sym (one_word r2 xw h.across r3 h.after_x x the_x).0) h.x
+
+      module _ (yw r4 : List ℕ) (y : IsNextWord r3 yw r4) where
+        pub the_up : Coordinate l.y yw
+        the_up = subst (Coordinate l.y) (sym (one_word r3 yw h.up r4 h.end y the_y).0) h.y
+
+        pub the_tail : Tail l.layer r4
+        the_tail = subst (Tail l.layer) (sym (one_word r3 yw h.up r4 h.end y the_y).1) h.layer
+
+pub coordinate_within : (half : ℤ) (text : List ℕ) → Coordinate half text → IsWithin (2 ^ 33) half
+coordinate_within half text (pos n, e, s, d) = (omega (arith, ints, e, s), omega (arith, ints, e, s))
+coordinate_within half text (negsuc n, e, s, d) = (omega (arith, ints, e, s), omega (arith, ints, e, s))

@@ -4,6 +4,7 @@
 mod called;
 mod edges;
 mod fault;
+mod flat;
 mod label;
 mod layer;
 mod level;
@@ -14,3 +15,5 @@ mod symbol;
 mod table;
 mod turned;
 mod walker;
+
+pub use flat::{Flat, flatten};

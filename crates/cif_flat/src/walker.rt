@@ -17,6 +17,7 @@ ghost use Rattle.cif_flat.specs.Refusing.{RefusesWalk};
 use crate::called::{Composed, placement_of, turned_at};
 use crate::edges::Extent;
 use crate::fault::{Fault, broken};
+use crate::flat::Flat;
 use crate::label::label_of;
 use crate::layer::layer_named;
 use crate::level::Level;
@@ -314,6 +315,16 @@ impl Walker {
             shapes: List::new(alloc),
             labels: List::new(alloc),
         })
+    }
+
+    /// What was drawn.
+    pub(crate) fn into_flat(self) -> Flat
+        ensures { result ≡ record { shapes = self.shapes; labels = self.labels } }
+    {
+        Flat {
+            shapes: self.shapes,
+            labels: self.labels,
+        }
     }
 
     /// Walks the items of a file.
