@@ -1,6 +1,6 @@
 -- What is met at each kind of command.
-use Rattle.std.proofs.Common.{ℕ, ◌≡◌, ◌+◌, ◌*◌, ◌^◌, ◌<◌, ◌≤◌, refl, sym, ◌∙◌, ap, subst, arith, inl, inr, List, [], ◌∷◌, ◌++◌, zero, suc, get_or, length, map, All, append-nil, Option, Some, None}
-use Rattle.std.specs.Prelude.{◌≢◌, ℤ, pos, negsuc, ◌≤ℤ◌, Contains, slice_get, slice_range}
+use Rattle.std.proofs.Common.{ℕ, ◌≡◌, ◌+◌, ◌^◌, ◌<◌, ◌≤◌, refl, sym, ◌∙◌, ap, subst, arith, inl, inr, List, [], ◌∷◌, ◌++◌, zero, suc, get_or, length, map, All, append-nil, Some, None}
+use Rattle.std.specs.Prelude.{◌≢◌, ℤ, pos, negsuc, ◌≤ℤ◌, Contains, slice_range}
 use Rattle.std.specs.List.{flat_map}
 use Rattle.std.proofs.lemmas.Int.{ints}
 use Rattle.std.proofs.lemmas.Option.{get_or_from_slice_get, slice_get_cases, slice_get_read}
@@ -75,9 +75,10 @@ pub box_short : (long wide : ℤ) (center direction : Point) → Fits (Box long 
 box_short long wide center direction f =
     let l = All-head Unsigned long (wide ∷ []) f.unsigned in
     let m = All-head Unsigned wide [] (All-tail Unsigned long (wide ∷ []) f.unsigned) in
-    let t = All-tail IsSmall center.x (center.y ∷ direction.x ∷ direction.y ∷ []) f.signed in
-    ((small_short long l.1, small_short wide m.1),
-      (small_short center.x (All-head IsSmall center.x (center.y ∷ direction.x ∷ direction.y ∷ []) f.signed), small_short center.y (All-head IsSmall center.y (direction.x ∷ direction.y ∷ []) t)))
+    let t = All-tail IsSmall center.x (center.y ∷ direction.x ∷ direction.y ∷ []) f.signed in (
+      (small_short long l.1, small_short wide m.1),
+      (small_short center.x (All-head IsSmall center.x (center.y ∷ direction.x ∷ direction.y ∷ []) f.signed), small_short center.y (All-head IsSmall center.y (direction.x ∷ direction.y ∷ []) t)),
+    )
 
 short_points : (ps : List Point) → All IsSmall (flat_map point_numbers ps) → All IsShortPoint ps
 short_points [] h = All-nil IsShortPoint
@@ -210,7 +211,7 @@ module _ (items : List Item) (w : Walker) (v : Level) (o : ℕ) where
           no_f8 (rs, (r, is, b), far) =
               let same = one_box (scale_of v.ratio) ND extent.across extent.up center direction (rect_of ND e) r (a.1 ND) b in
               far (subst (All (λ r. IsNearRect (place_of v.placement r))) ((λ i. same i ∷ []) ∙ sym is)
-                  (All-cons (λ r. IsNearRect (place_of v.placement r)) (rect_of ND e) [] (near ND) (All-nil (λ r. IsNearRect (place_of v.placement r)))))
+              (All-cons (λ r. IsNearRect (place_of v.placement r)) (rect_of ND e) [] (near ND) (All-nil (λ r. IsNearRect (place_of v.placement r)))))
 
           pub box_unset : v.layer ≡ None → RefusesWalk items (refusal_of faults.F9 o)
           box_unset n = stops items w v box_item h faults.F9 (first9 box_visit n never never no_f3 no_f4 never never no_f7 no_f8)
@@ -260,7 +261,7 @@ module _ (items : List Item) (w : Walker) (v : Level) (o : ℕ) where
             no_far (rs, b, far) =
                 let same = one_wire (scale_of v.ratio) ND wide (segments path) (map (rect_of ND) es) rs (are ND) b in
                 far (subst (All (λ r. IsNearRect (place_of v.placement r))) same (All-map (λ r. IsNearRect (place_of v.placement r)) (rect_of ND) es
-                    (All-weaker (IsNearAt v.placement) (λ e. IsNearRect (place_of v.placement (rect_of ND e))) (λ e n. n ND) es near)))
+                (All-weaker (IsNearAt v.placement) (λ e. IsNearRect (place_of v.placement (rect_of ND e))) (λ e n. n ND) es near)))
 
             pub wire_unset : v.layer ≡ None → RefusesWalk items (refusal_of faults.F9 o)
             wire_unset n = stops items w v wire_item h faults.F9 (first9 wire_visit n never never no_askew_segment no_uneven never never in_limit no_far)

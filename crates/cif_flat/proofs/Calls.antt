@@ -1,22 +1,19 @@
 -- What is met at calls.
-use Rattle.std.proofs.Common.{ℕ, zero, suc, ◌≡◌, ◌+◌, ◌*◌, ◌^◌, ◌<◌, ◌≤◌, ◌⊎◌, refl, sym, ◌∙◌, ap, subst, arith, inl, inr, List, [], ◌∷◌, ◌++◌, length, All, get_or, append-nil, Bool, true, false, Option, Some, None}
-use Rattle.std.specs.Prelude.{◌≢◌, ℤ, pos, ◌≤ℤ◌, Contains, slice_get, slice_range, Result, Ok, Err}
+use Rattle.std.proofs.Common.{ℕ, suc, ◌≡◌, ◌+◌, ◌*◌, ◌^◌, ◌<◌, ◌⊎◌, refl, sym, ◌∙◌, ap, subst, arith, inl, inr, List, [], ◌∷◌, ◌++◌, length, get_or, append-nil, Option, Some, None}
+use Rattle.std.specs.Prelude.{◌≢◌, ℤ, pos, Contains, slice_get, slice_range, Ok, Err}
 use Rattle.std.specs.BTreeMap.{BTreeMap, get}
 use Rattle.std.specs.Ordering.{nat_cmp}
 use Rattle.std.proofs.lemmas.Bool.{cases_order}
 use Rattle.std.proofs.lemmas.Int.{ints}
 use Rattle.std.proofs.lemmas.List.{length-append}
-use Rattle.std.proofs.lemmas.List.Elements.{Contains-append_left, Contains-append_right, Contains-append_cases, Contains-push, Contains-push_cases, Contains-get_or}
-use Rattle.lam_geom.specs.declared.layer.Layer.{Layer}
-use Rattle.lam_geom.specs.declared.rect.Rect.{Rect}
+use Rattle.std.proofs.lemmas.List.Elements.{Contains-append_left, Contains-append_right, Contains-append_cases, Contains-push, Contains-get_or}
 use Rattle.cif_form.specs.declared.command.Turn.{Turn}
-use Rattle.cif_form.specs.declared.command.Command.{Command}
 use Rattle.cif_form.specs.declared.command.Command.TheVariants.{Call}
 use Rattle.cif_form.specs.declared.command.Item.{Item}
-use Rattle.cif_form.specs.Place.{Scale, IsScale, Motion, placed}
-use Rattle.cif_form.specs.Expansion.{Definition, Stands, IsInside, item_at}
-use Rattle.cif_form.specs.Walk.{Frame, State, Visit, Breaks, within}
-use Rattle.cif_form.specs.Walk.DrawRule.{F1, F2, F3, F4, F7, F8}
+use Rattle.cif_form.specs.Place.{IsScale}
+use Rattle.cif_form.specs.Expansion.{Definition, Stands, item_at}
+use Rattle.cif_form.specs.Walk.{Frame, Visit, Breaks, within}
+use Rattle.cif_form.specs.Walk.DrawRule.{F1, F2, F4}
 use Rattle.cif_flat.specs.declared.called.Composed.{Composed}
 use Rattle.cif_flat.specs.declared.fault.Fault.{Fault}
 use Rattle.cif_flat.specs.declared.fault.Fault.TheVariants as faults
@@ -26,14 +23,14 @@ use Rattle.cif_flat.specs.declared.ratio.Ratio.{Ratio}
 use Rattle.cif_flat.specs.declared.symbol.Symbol.{Symbol}
 use Rattle.cif_flat.specs.declared.turned.Turned.{Turned}
 use Rattle.cif_flat.specs.declared.walker.Walker.{Walker}
-use Rattle.cif_flat.specs.Placing.{IsFitRatio, IsHeld, scale_of, place_of, after}
-use Rattle.cif_flat.specs.Turning.{IsTurned, IsHeldTurned, HasUneven, AreTurns}
+use Rattle.cif_flat.specs.Placing.{IsHeld, scale_of, place_of, after}
+use Rattle.cif_flat.specs.Turning.{IsTurned, IsHeldTurned, HasUneven}
 use Rattle.cif_flat.specs.Calling.{IsCallOf, AreCalls, IsCallAt, IsCalled}
 use Rattle.cif_flat.specs.Refusing.{RefusesWalk, refusal_of}
-use Rattle.cif_flat.specs.Walking.{frame_of, symbol_of, onto, state_of, definition_of, IsNested, IsLevel, EachLevel, IsOpen, entered, IsTable, Leads, IsWalking, IsVisit, rest, distance, IsAfter}
+use Rattle.cif_flat.specs.Walking.{frame_of, symbol_of, onto, state_of, definition_of, IsNested, IsLevel, EachLevel, IsOpen, entered, Leads, IsWalking, IsVisit, rest, distance, IsAfter}
 use Rattle.cif_flat.proofs.Placements.{place_after, held_after}
 use Rattle.cif_flat.proofs.Rules.{never, none, first1, first2, first3, first4, first7, first8}
-use Rattle.cif_flat.proofs.Walks.{visit_at, stops, onward, onto_push, each_push, each_weaker, level_later, level_onward, left_next, stack_of, level_of, leads_step, rest_less}
+use Rattle.cif_flat.proofs.Walks.{visit_at, stops, onward, onto_push, each_push, level_later, level_onward, left_next, stack_of, level_of, leads_step, rest_less}
 
 -- ---- composed turns
 
@@ -210,7 +207,7 @@ module _ (items : List Item) (w : Walker) (v : Level) (o : ℕ) (n : ℤ) (ts : 
         stack_in : EachLevel (IsLevel items (w.count + 1) opened) (outer_levels ++ (inner ∷ []))
         stack_in = each_push (IsLevel items (w.count + 1) opened) outer_levels inner
             (each_push (IsLevel items (w.count + 1) opened) w.levels.items (onward v v.layer)
-              (λ k d m. level_kept k (get_or w.levels.items k d) (Contains-append_left w.levels.items (v ∷ []) (get_or w.levels.items k d) (Contains-get_or w.levels.items k d m)) (stack_of items w v call_item h k d m)) level_out)
+            (λ k d m. level_kept k (get_or w.levels.items k d) (Contains-append_left w.levels.items (v ∷ []) (get_or w.levels.items k d) (Contains-get_or w.levels.items k d m)) (stack_of items w v call_item h k d m)) level_out)
             level_in
 
         came_in : (let t = within call_visit (definition_of items key s) a.5.0 in t ≡ state_of items h.walking.definitions (w.count + 1) (outer_levels ++ (inner ∷ [])))
@@ -228,24 +225,24 @@ module _ (items : List Item) (w : Walker) (v : Level) (o : ℕ) (n : ℤ) (ts : 
             → new.levels.items ≡ outer_levels ++ (inner ∷ []) → IsAfter items w v new
         call_entered new calls ac kept pushed =
             let leads = leads_step items w v call_item h [] [] (within call_visit (definition_of items key s) a.5.0)
-                (none call_visit no_f1 no_f2 a.0 (no_f4 a.1 a.2) never never (λ k. omega (arith, k, a.3)) a.4 never never)
-                (definition_of items key s, a.5.0, stands, a.5.1, refl, refl, refl) in
+            (none call_visit no_f1 no_f2 a.0 (no_f4 a.1 a.2) never never (λ k. omega (arith, k, a.3)) a.4 never never)
+            (definition_of items key s, a.5.0, stands, a.5.1, refl, refl, refl) in
             let mid : Walker = record w { opened = opened; calls = calls; count = w.count + 1; levels = new.levels } in
             let walking : IsWalking items mid (outer_levels ++ (inner ∷ [])) = record {
-                definitions = h.walking.definitions;
-                table = h.walking.table;
-                calls = ac;
-                leads = subst (λ xs. Leads items xs w.labels (state_of items h.walking.definitions (w.count + 1) (outer_levels ++ (inner ∷ [])))) (append-nil w.shapes)
-                    (subst (λ ys. Leads items (w.shapes ++ []) ys (state_of items h.walking.definitions (w.count + 1) (outer_levels ++ (inner ∷ [])))) (append-nil w.labels)
-                      (subst (Leads items (w.shapes ++ []) (w.labels ++ [])) came_in leads));
-                limit = omega (arith, a.3);
-                stack = stack_in;
-              } in
+              definitions = h.walking.definitions;
+              table = h.walking.table;
+              calls = ac;
+              leads = subst (λ xs. Leads items xs w.labels (state_of items h.walking.definitions (w.count + 1) (outer_levels ++ (inner ∷ [])))) (append-nil w.shapes)
+                  (subst (λ ys. Leads items (w.shapes ++ []) ys (state_of items h.walking.definitions (w.count + 1) (outer_levels ++ (inner ∷ [])))) (append-nil w.labels)
+                  (subst (Leads items (w.shapes ++ []) (w.labels ++ [])) came_in leads));
+              limit = omega (arith, a.3);
+              stack = stack_in;
+            } in
             let count : new.count ≡ w.count + 1 = ap (λ x. x.count) kept in
             let less = rest_less w.levels.items (onward v v.layer) v (omega arith) in
             let deeper = rest_deeper outer_levels inner (omega (arith, length-append w.levels.items (onward v v.layer ∷ []))) in
             let size : length (outer_levels ++ (inner ∷ [])) ≡ length (w.levels.items ++ (v ∷ [])) + 1 =
-                omega (arith, length-append outer_levels (inner ∷ []), length-append w.levels.items (onward v v.layer ∷ []), length-append w.levels.items (v ∷ [])) in
+            omega (arith, length-append outer_levels (inner ∷ []), length-append w.levels.items (onward v v.layer ∷ []), length-append w.levels.items (v ∷ [])) in
             record {
               walking = subst (λ x. IsWalking items x new.levels.items) (sym kept) (subst (IsWalking items mid) (sym pushed) walking);
               closer = subst (λ c. distance c new.levels.items < distance w.count (w.levels.items ++ (v ∷ []))) (sym count)

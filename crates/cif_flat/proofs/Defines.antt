@@ -1,6 +1,6 @@
 -- What is met at definitions and deletions.
-use Rattle.std.proofs.Common.{ℕ, zero, suc, ◌≡◌, ◌+◌, ◌-◌, ◌*◌, ◌<◌, ◌≤◌, ◌⊎◌, refl, sym, ◌∙◌, ap, subst, arith, inl, inr, List, [], ◌∷◌, ◌++◌, length, take, drop, get_or, All, append-nil, Bool, true, false, cond, Option, Some, None}
-use Rattle.std.specs.Prelude.{◌≢◌, ℤ, pos, ◌≤ℤ◌, slice_get, slice_range, filter, int_lt}
+use Rattle.std.proofs.Common.{ℕ, suc, ◌≡◌, ◌+◌, ◌-◌, ◌*◌, ◌<◌, ◌≤◌, ◌⊎◌, refl, sym, ◌∙◌, ap, subst, arith, inl, inr, List, [], ◌∷◌, ◌++◌, length, take, drop, get_or, All, append-nil, Bool, true, false, cond, Some, None}
+use Rattle.std.specs.Prelude.{◌≢◌, ℤ, pos, ◌≤ℤ◌, slice_range, filter, int_lt}
 use Rattle.std.specs.BTreeMap.{BTreeMap, get}
 use Rattle.std.specs.Ordering.{nat_cmp}
 use Rattle.std.proofs.Math.Seq.{drop-cons}
@@ -12,10 +12,9 @@ use Rattle.std.proofs.lemmas.List.Elements.{All-head, All-tail}
 use Rattle.cif_form.specs.declared.command.Command.{Command}
 use Rattle.cif_form.specs.declared.command.Command.TheVariants.{Polygon, Box, Round, Wire, Layer as SetLayer, Start, Finish, Delete, Call, User, Comment}
 use Rattle.cif_form.specs.declared.command.Item.{Item}
-use Rattle.cif_form.specs.Fits.{Fits, IsSmall}
 use Rattle.cif_form.specs.Scans.{opens}
 use Rattle.cif_form.specs.Expansion.{Definition, Stands, IsInside, item_at}
-use Rattle.cif_form.specs.Walk.{Frame, State, Visit, at_top}
+use Rattle.cif_form.specs.Walk.{State, Visit, at_top}
 use Rattle.cif_flat.specs.declared.fault.Fault.TheVariants as faults
 use Rattle.cif_flat.specs.declared.level.Level.{Level}
 use Rattle.cif_flat.specs.declared.ratio.Ratio.{Ratio}
@@ -24,10 +23,10 @@ use Rattle.cif_flat.specs.declared.walker.Walker.{Walker}
 use Rattle.cif_flat.specs.Placing.{scale_of}
 use Rattle.cif_flat.specs.Sound.{AreClosed}
 use Rattle.cif_flat.specs.Refusing.{RefusesWalk, refusal_of}
-use Rattle.cif_flat.specs.Walking.{frame_of, left_of, onto, state_of, visit_of, definition_of, IsAnyRatio, IsSymbol, IsTable, IsBodySize, IsNested, IsLevel, EachLevel, Leads, IsWalking, IsVisit, rest, distance, IsAfter}
+use Rattle.cif_flat.specs.Walking.{frame_of, left_of, onto, state_of, definition_of, IsAnyRatio, IsSymbol, IsTable, IsBodySize, IsNested, IsLevel, Leads, IsWalking, IsVisit, rest, distance, IsAfter}
 use Rattle.cif_flat.proofs.Arms.{Unsigned, small_short, fits_here}
 use Rattle.cif_flat.proofs.Rules.{never, none, first7}
-use Rattle.cif_flat.proofs.Walks.{visit_at, stops, onward, onto_push, each_push, each_weaker, level_later, level_onward, left_next, stack_of, level_of, leads_step, rest_less}
+use Rattle.cif_flat.proofs.Walks.{visit_at, stops, onward, onto_push, each_push, each_weaker, level_later, level_onward, left_next, stack_of, level_of, leads_step}
 
 -- ---- the body of a definition
 
@@ -174,23 +173,23 @@ module _ (items : List Item) (w : Walker) (v : Level) (item : Item) (h : IsVisit
       let at : t ≡ state_of items ds (w.count + n) us = e ∙ (λ i. record { definitions = ds; count = w.count + n; frames = sym (one_frame items w.levels.items u top) i }) in
       let mid : Walker = record w { symbols = symbols; count = w.count + n; levels = new.levels } in
       let walking : IsWalking items mid us = record {
-          definitions = ds;
-          table = table;
-          calls = h.walking.calls;
-          leads = subst (λ xs. Leads items xs w.labels (state_of items ds (w.count + n) us)) (append-nil w.shapes)
-              (subst (λ ys. Leads items (w.shapes ++ []) ys (state_of items ds (w.count + n) us)) (append-nil w.labels) (subst (Leads items (w.shapes ++ []) (w.labels ++ [])) at leads));
-          limit = room;
-          stack = each_push (IsLevel items (w.count + n) w.opened) w.levels.items u
-              (each_weaker (IsLevel items w.count w.opened) (IsLevel items (w.count + n) w.opened) w.levels.items (λ k x a. level_later items w.count (w.count + n) w.opened k x (omega arith) a) (stack_of items w v item h))
-              level;
-        } in
+        definitions = ds;
+        table = table;
+        calls = h.walking.calls;
+        leads = subst (λ xs. Leads items xs w.labels (state_of items ds (w.count + n) us)) (append-nil w.shapes)
+            (subst (λ ys. Leads items (w.shapes ++ []) ys (state_of items ds (w.count + n) us)) (append-nil w.labels) (subst (Leads items (w.shapes ++ []) (w.labels ++ [])) at leads));
+        limit = room;
+        stack = each_push (IsLevel items (w.count + n) w.opened) w.levels.items u
+            (each_weaker (IsLevel items w.count w.opened) (IsLevel items (w.count + n) w.opened) w.levels.items (λ k x a. level_later items w.count (w.count + n) w.opened k x (omega arith) a) (stack_of items w v item h))
+            level;
+      } in
       let count : new.count ≡ w.count + n = ap (λ x. x.count) is in
       let size : length us ≡ length (w.levels.items ++ (v ∷ [])) = length-append w.levels.items (u ∷ []) ∙ sym (length-append w.levels.items (v ∷ [])) in
       record {
         walking = subst (λ x. IsWalking items x new.levels.items) (sym is) (subst (IsWalking items mid) (sym pushed) walking);
         closer = subst (λ c. distance c new.levels.items < distance w.count (w.levels.items ++ (v ∷ []))) (sym count)
             (subst (λ xs. distance (w.count + n) xs < distance w.count (w.levels.items ++ (v ∷ []))) (sym pushed)
-              (omega (arith, closer, size, rest_top w.levels.items u top, rest_top w.levels.items v top)));
+            (omega (arith, closer, size, rest_top w.levels.items u top, rest_top w.levels.items v top)));
       }
 
 -- ---- deletions
@@ -215,7 +214,7 @@ module _ (items : List Item) (w : Walker) (v : Level) (o : ℕ) (n : ℤ) (h : I
       let t = at_top delete_visit (filter (λ d. int_lt d.number n) ds) after in
       let left = left_next items v delete_item h.more h.here in
       let leads = leads_step items w v delete_item h [] [] t (none delete_visit never never never never never never (λ k. omega (arith, k, room)) never never never)
-          (ap (λ vs. onto items vs []) top, refl, refl, refl) in
+      (ap (λ vs. onto items vs []) top, refl, refl, refl) in
       let l = level_of items w v delete_item h in
       let table = table_cut items ds w.symbols symbols key h.walking.table below above in
       came_top items w v delete_item h top (onward v v.layer) 1 symbols (filter (λ d. int_lt d.number n) ds)
@@ -303,19 +302,27 @@ module _ (items : List Item) (w : Walker) (v : Level) (o : ℕ) (number a b : �
           let same : d ∷ ds ≡ definition_of items key symbol ∷ ds = (λ i. record { number = sym is i; scale = scale_of (sym er i); body = slice_range items first (first + n) } ∷ ds) in
           let t = at_top start_visit (d ∷ ds) (slice_range items (first + n + 1) v.end) in
           let limit = h.walking.limit in
-          let leads = leads_step items w v start_item h [] [] t (none start_visit never never never never never never (λ k. omega (arith, k, limit)) never never never)
-              (slice_range items first (first + n), slice_range items (first + n + 1) v.end, s.offset, ap (λ vs. onto items vs []) start_top,
-                subst (All (λ i. IsInside i.command)) body_is s.inside, after_is, refl, refl, refl) in
+          let leads = leads_step items w v start_item h [] [] t (none start_visit never never never never never never (λ k. omega (arith, k, limit)) never never never) (
+            slice_range items first (first + n),
+            slice_range items (first + n + 1) v.end,
+            s.offset,
+            ap (λ vs. onto items vs []) start_top,
+            subst (All (λ i. IsInside i.command)) body_is s.inside,
+            after_is,
+            refl,
+            refl,
+            refl,
+          ) in
           let closed : IsNested (length w.levels.items) (slice_range items (first + n + 1) v.end) =
-              subst (λ k. IsNested k (slice_range items (first + n + 1) v.end)) (sym (ap length start_top)) (subst (AreClosed false) rest_is s.closed) in
+          subst (λ k. IsNested k (slice_range items (first + n + 1) v.end)) (sym (ap length start_top)) (subst (AreClosed false) rest_is s.closed) in
           let level : IsLevel items (w.count + 0) w.opened (length w.levels.items) resumed = record {
-              ratio = m.ratio;
-              held = m.held;
-              forward = body_room;
-              within = m.within;
-              nested = closed;
-              number = m.number;
-            } in
+            ratio = m.ratio;
+            held = m.held;
+            forward = body_room;
+            within = m.within;
+            nested = closed;
+            number = m.number;
+          } in
           came_top items w v start_item h start_top resumed 0 symbols (definition_of items key symbol ∷ ds)
           (table_set items ds w.symbols symbols key symbol h.walking.table start_symbol here others) level (omega (arith, limit)) t leads
           (λ i. record { definitions = same i; count = w.count + 0; frames = frame_of items resumed ∷ [] }) new kept pushed (omega (arith, body_room, h.more))

@@ -9,3 +9,4 @@ pub mod Calls
 pub mod Defines
 pub mod Loop
 pub mod Words
+pub mod Reading

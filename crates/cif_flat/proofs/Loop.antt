@@ -1,23 +1,19 @@
 -- The walk begins, goes back from a level that is done, and ends.
-use Rattle.std.proofs.Common.{ℕ, ◌≡◌, ◌+◌, ◌-◌, ◌*◌, ◌<◌, ◌≤◌, refl, sym, ◌∙◌, ap, subst, arith, List, [], ◌∷◌, ◌++◌, length, take, drop, append-nil, false, Option, Some, None}
-use Rattle.std.specs.Prelude.{ℤ, pos, slice_range}
+use Rattle.std.proofs.Common.{ℕ, ◌≡◌, ◌-◌, ◌<◌, ◌≤◌, sym, ◌∙◌, ap, subst, arith, List, [], ◌∷◌, ◌++◌, length, append-nil, false, Some, None}
+use Rattle.std.specs.Prelude.{slice_range}
 use Rattle.std.specs.BTreeMap.{BTreeMap, get, is_at}
 use Rattle.std.specs.Map.{lookup}
 use Rattle.std.specs.Ordering.{nat_cmp}
 use Rattle.std.proofs.lemmas.Int.{ints}
 use Rattle.std.proofs.lemmas.List.{length-append, take_all}
-use Rattle.lam_geom.specs.declared.rect.Rect.{Rect}
-use Rattle.lam_geom.specs.declared.label.FlatLabel.{FlatLabel}
 use Rattle.cif_form.specs.declared.command.Item.{Item}
 use Rattle.cif_form.specs.Place.{unit}
-use Rattle.cif_form.specs.Expansion.{Definition}
-use Rattle.cif_form.specs.Walk.{Frame, State, WalkEnd, Walks, FileWalks, start}
+use Rattle.cif_form.specs.Walk.{Walks, FileWalks, start}
 use Rattle.cif_form.specs.Walk.WalkEnd.{Whole}
 use Rattle.cif_flat.specs.declared.level.Level.{Level}
 use Rattle.cif_flat.specs.declared.walker.Walker.{Walker}
-use Rattle.cif_flat.specs.Placing.{place_of, here}
 use Rattle.cif_flat.specs.Sound.{AreClosed}
-use Rattle.cif_flat.specs.Walking.{frame_of, left_of, onto, state_of, top, IsTable, IsLevel, EachLevel, Leads, IsWalking, rest, distance}
+use Rattle.cif_flat.specs.Walking.{frame_of, onto, state_of, top, IsLevel, Leads, IsWalking, distance}
 use Rattle.cif_flat.proofs.Turns.{still}
 use Rattle.cif_flat.proofs.Walks.{onto_push, left_none, each_nil, each_front, each_push}
 
@@ -56,10 +52,10 @@ module _ (items : List Item) (w : Walker) (closed : AreClosed false items) (symb
       subst (IsWalking items w) (sym is) (record {
         definitions = [];
         table = record {
-            stands = λ n s g. absurd (let f : None ≡ Some s = sym (empty_table w.symbols symbols n) ∙ g in cc);
-            missing = λ n g d s. elim s [ ];
-            fits = λ n s g. absurd (let f : None ≡ Some s = sym (empty_table w.symbols symbols n) ∙ g in cc);
-          };
+          stands = λ n s g. absurd (let f : None ≡ Some s = sym (empty_table w.symbols symbols n) ∙ g in cc);
+          missing = λ n g d s. elim s [ ];
+          fits = λ n s g. absurd (let f : None ≡ Some s = sym (empty_table w.symbols symbols n) ∙ g in cc);
+        };
         calls = λ k c g i s. absurd (let f : None ≡ Some c = sym (empty_table w.calls calls k) ∙ g in cc);
         leads = subst (λ n. Leads items w.shapes w.labels (state_of items [] n (level ∷ []))) (sym count)
             (subst (λ xs. Leads items xs w.labels (state_of items [] 0 (level ∷ []))) (sym shapes) (subst (λ ys. Leads items [] ys (state_of items [] 0 (level ∷ []))) (sym labels) leads));

@@ -34,28 +34,46 @@ module _ (v : Visit) where
   below n m a b c d e f g h i = each_rule (λ q. draw_rule_number q < n → ¬ Breaks v q) a b c d e f g h i (λ k. absurd (omega arith))
 
   pub first1 : Breaks v F1 → BreaksFirst v F1
-  first1 x = (x, below 1 (omega arith) (λ k. absurd (omega arith)) (λ k. absurd (omega arith)) (λ k. absurd (omega arith)) (λ k. absurd (omega arith)) (λ k. absurd (omega arith))
-      (λ k. absurd (omega arith)) (λ k. absurd (omega arith)) (λ k. absurd (omega arith)) (λ k. absurd (omega arith)))
+  first1 x = (
+    x,
+    below 1 (omega arith) (λ k. absurd (omega arith)) (λ k. absurd (omega arith)) (λ k. absurd (omega arith)) (λ k. absurd (omega arith)) (λ k. absurd (omega arith))
+        (λ k. absurd (omega arith)) (λ k. absurd (omega arith)) (λ k. absurd (omega arith)) (λ k. absurd (omega arith)),
+  )
 
   pub first2 : Breaks v F2 → ¬ Breaks v F1 → BreaksFirst v F2
-  first2 x a = (x, below 2 (omega arith) (λ k. a) (λ k. absurd (omega arith)) (λ k. absurd (omega arith)) (λ k. absurd (omega arith)) (λ k. absurd (omega arith))
-      (λ k. absurd (omega arith)) (λ k. absurd (omega arith)) (λ k. absurd (omega arith)) (λ k. absurd (omega arith)))
+  first2 x a = (
+    x,
+    below 2 (omega arith) (λ k. a) (λ k. absurd (omega arith)) (λ k. absurd (omega arith)) (λ k. absurd (omega arith)) (λ k. absurd (omega arith))
+        (λ k. absurd (omega arith)) (λ k. absurd (omega arith)) (λ k. absurd (omega arith)) (λ k. absurd (omega arith)),
+  )
 
   pub first3 : Breaks v F3 → ¬ Breaks v F1 → ¬ Breaks v F2 → BreaksFirst v F3
-  first3 x a b = (x, below 3 (omega arith) (λ k. a) (λ k. b) (λ k. absurd (omega arith)) (λ k. absurd (omega arith)) (λ k. absurd (omega arith))
-      (λ k. absurd (omega arith)) (λ k. absurd (omega arith)) (λ k. absurd (omega arith)) (λ k. absurd (omega arith)))
+  first3 x a b = (
+    x,
+    below 3 (omega arith) (λ k. a) (λ k. b) (λ k. absurd (omega arith)) (λ k. absurd (omega arith)) (λ k. absurd (omega arith))
+        (λ k. absurd (omega arith)) (λ k. absurd (omega arith)) (λ k. absurd (omega arith)) (λ k. absurd (omega arith)),
+  )
 
   pub first4 : Breaks v F4 → ¬ Breaks v F1 → ¬ Breaks v F2 → ¬ Breaks v F3 → BreaksFirst v F4
-  first4 x a b c = (x, below 4 (omega arith) (λ k. a) (λ k. b) (λ k. c) (λ k. absurd (omega arith)) (λ k. absurd (omega arith))
-      (λ k. absurd (omega arith)) (λ k. absurd (omega arith)) (λ k. absurd (omega arith)) (λ k. absurd (omega arith)))
+  first4 x a b c = (
+    x,
+    below 4 (omega arith) (λ k. a) (λ k. b) (λ k. c) (λ k. absurd (omega arith)) (λ k. absurd (omega arith))
+        (λ k. absurd (omega arith)) (λ k. absurd (omega arith)) (λ k. absurd (omega arith)) (λ k. absurd (omega arith)),
+  )
 
   pub first5 : Breaks v F5 → ¬ Breaks v F1 → ¬ Breaks v F2 → ¬ Breaks v F3 → ¬ Breaks v F4 → BreaksFirst v F5
-  first5 x a b c d = (x, below 5 (omega arith) (λ k. a) (λ k. b) (λ k. c) (λ k. d) (λ k. absurd (omega arith))
-      (λ k. absurd (omega arith)) (λ k. absurd (omega arith)) (λ k. absurd (omega arith)) (λ k. absurd (omega arith)))
+  first5 x a b c d = (
+    x,
+    below 5 (omega arith) (λ k. a) (λ k. b) (λ k. c) (λ k. d) (λ k. absurd (omega arith))
+        (λ k. absurd (omega arith)) (λ k. absurd (omega arith)) (λ k. absurd (omega arith)) (λ k. absurd (omega arith)),
+  )
 
   pub first6 : Breaks v F6 → ¬ Breaks v F1 → ¬ Breaks v F2 → ¬ Breaks v F3 → ¬ Breaks v F4 → ¬ Breaks v F5 → BreaksFirst v F6
-  first6 x a b c d e = (x, below 6 (omega arith) (λ k. a) (λ k. b) (λ k. c) (λ k. d) (λ k. e)
-      (λ k. absurd (omega arith)) (λ k. absurd (omega arith)) (λ k. absurd (omega arith)) (λ k. absurd (omega arith)))
+  first6 x a b c d e = (
+    x,
+    below 6 (omega arith) (λ k. a) (λ k. b) (λ k. c) (λ k. d) (λ k. e)
+        (λ k. absurd (omega arith)) (λ k. absurd (omega arith)) (λ k. absurd (omega arith)) (λ k. absurd (omega arith)),
+  )
 
   pub first7 : Breaks v F7 → ¬ Breaks v F1 → ¬ Breaks v F2 → ¬ Breaks v F3 → ¬ Breaks v F4 → ¬ Breaks v F5 → ¬ Breaks v F6 → BreaksFirst v F7
   first7 x a b c d e f = (x, below 7 (omega arith) (λ k. a) (λ k. b) (λ k. c) (λ k. d) (λ k. e) (λ k. f) (λ k. absurd (omega arith)) (λ k. absurd (omega arith)) (λ k. absurd (omega arith)))

@@ -1,5 +1,5 @@
 -- Laws of boxes and wires.
-use Rattle.std.proofs.Common.{ℕ, zero, suc, ◌≡◌, ◌+◌, ◌-◌, ◌<◌, ◌≤◌, ◌⊎◌, inl, inr, refl, sym, ◌∙◌, ap, subst, arith, List, [], ◌∷◌, ◌++◌, length, get_or, map, append_assoc, append-nil, Bool, true, false}
+use Rattle.std.proofs.Common.{ℕ, zero, suc, ◌≡◌, ◌-◌, ◌<◌, ◌⊎◌, inl, inr, refl, sym, ◌∙◌, ap, subst, arith, List, [], ◌∷◌, ◌++◌, length, get_or, map, append_assoc, append-nil, Bool, true, false}
 use Rattle.std.specs.Prelude.{◌≢◌, ℤ, pos, ◌≤ℤ◌, All, Result, Ok, Err, IfOk, IfErr, Option, Some, None, IfSome, IfNone}
 use Rattle.std.proofs.lemmas.Int.{ints, by_lt_z}
 use Rattle.std.proofs.lemmas.List.{map-append}
@@ -8,16 +8,16 @@ use Rattle.lam_geom.specs.Moves.{IsNearRect}
 use Rattle.lam_geom.specs.declared.layer.Layer.{Layer}
 use Rattle.lam_geom.specs.declared.place.Point.{Point}
 use Rattle.lam_geom.specs.declared.rect.Rect.{Rect}
-use Rattle.cif_form.specs.Place.{Scale, IsOnAxis, IsAround, IsBox, IsSegment, AreSegments, segments}
+use Rattle.cif_form.specs.Place.{Scale, IsAround, IsBox, IsSegment, AreSegments, segments}
 use Rattle.cif_flat.specs.declared.edges.Edges.{Edges}
 use Rattle.cif_flat.specs.declared.edges.Extent.{Extent}
 use Rattle.cif_flat.specs.declared.fault.Fault.{Fault}
 use Rattle.cif_flat.specs.declared.placement.Placement.{Placement}
 use Rattle.cif_flat.specs.declared.ratio.Ratio.{Ratio}
-use Rattle.cif_flat.specs.Placing.{IsShortPoint, scale_of, rect_of, turned, place_of}
+use Rattle.cif_flat.specs.Placing.{IsShortPoint, rect_of, turned, place_of}
 use Rattle.cif_flat.proofs.Numbers.{one_scaled}
 use Rattle.cif_flat.proofs.Placements.{same_rect}
-use Rattle.cif_flat.specs.Shaping.{IsAroundCenter, IsUneven, IsBoxEdges, IsBoxFault, IsStraight, IsNearAt, IsFarAt, IsDrawnIfNear, HaveEdges, drawn, IsWired, IsWiredSoFar}
+use Rattle.cif_flat.specs.Shaping.{IsAroundCenter, IsUneven, IsBoxEdges, IsBoxFault, IsStraight, IsNearAt, IsDrawnIfNear, HaveEdges, drawn, IsWiredSoFar}
 
 -- ---- boxes
 

@@ -1,6 +1,6 @@
 -- Laws of the turns of a call.
-use Rattle.std.proofs.Common.{ℕ, ◌≡◌, ◌+◌, ◌^◌, ◌≤◌, ◌⊎◌, inl, inr, refl, sym, ◌∙◌, ap, subst, arith, Bool, true, false, List, [], ◌∷◌, ◌++◌, append_assoc, append-nil}
-use Rattle.std.specs.Prelude.{ℤ, pos, neg_ℤ, ◌+ℤ◌, ◌-ℤ◌, ◌*ℤ◌, ◌<ℤ◌, Contains}
+use Rattle.std.proofs.Common.{ℕ, ◌≡◌, ◌+◌, ◌^◌, ◌≤◌, inl, inr, refl, sym, ◌∙◌, ap, subst, arith, true, false, List, [], ◌∷◌, ◌++◌, append_assoc, append-nil}
+use Rattle.std.specs.Prelude.{ℤ, pos, ◌*ℤ◌, ◌<ℤ◌, Contains}
 use Rattle.std.proofs.lemmas.Int.{ints}
 use Rattle.std.proofs.lemmas.List.Elements.{Contains-append_left, Contains-append_right, Contains-append_cases}
 use Rattle.lam_geom.specs.declared.place.Point.{Point}
@@ -119,8 +119,12 @@ moved_turned s by dx dy Far hx hy (inl far) =
 moved_turned s by dx dy Far hx hy (inr far) =
     ((no_rotation by, even s by ((dx, hx), (dy, hy)), (by, the_one (Move by), (dy, inr hy, far))), tt)
 moved_turned s by dx dy (Placed p) hx hy (e, nx, ny) = (
-  (no_rotation by, even s by ((dx, hx), (dy, hy)), near,
-    subst (AreTurns s (Move by ∷ [])) (sym e) (are_turns s (Move by) (shift dx dy) (Shift dx dy ∷ []) (dx, dy, hx, hy, refl) (shift_by dx dy))),
+  (
+    no_rotation by,
+    even s by ((dx, hx), (dy, hy)),
+    near,
+    subst (AreTurns s (Move by ∷ [])) (sym e) (are_turns s (Move by) (shift dx dy) (Shift dx dy ∷ []) (dx, dy, hx, hy, refl) (shift_by dx dy)),
+  ),
   subst (IsHeld (2 ^ 40)) (sym e) (nx, ny),
 )
   where

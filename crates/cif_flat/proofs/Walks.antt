@@ -1,8 +1,7 @@
 -- The code's walk is a walk.
-use Rattle.std.proofs.Common.{ℕ, zero, suc, ◌≡◌, ◌+◌, ◌-◌, ◌*◌, ◌<◌, ◌≤◌, ◌^◌, ◌⊎◌, inl, inr, refl, sym, ◌∙◌, ap, subst, arith, List, [], ◌∷◌, ◌++◌, length, take, drop, get_or, append_assoc, append-nil, All, Bool, false, Option, Some, None}
+use Rattle.std.proofs.Common.{ℕ, zero, suc, ◌≡◌, ◌+◌, ◌-◌, ◌*◌, ◌<◌, ◌≤◌, ◌^◌, inl, inr, refl, sym, ◌∙◌, ap, subst, arith, List, [], ◌∷◌, ◌++◌, length, take, drop, get_or, append_assoc, append-nil, Bool, false, Option, Some, None}
 use Rattle.std.specs.Prelude.{slice_range, slice_get}
-use Rattle.std.specs.BTreeMap.{BTreeMap, get}
-use Rattle.std.specs.Ordering.{nat_cmp}
+use Rattle.std.specs.BTreeMap.{BTreeMap}
 use Rattle.std.proofs.Math.Seq.{drop-cons}
 use Rattle.std.proofs.lemmas.Bool.{cases_lt}
 use Rattle.std.proofs.lemmas.Option.{get_or_from_slice_get, slice_get_cases}
@@ -15,8 +14,8 @@ use Rattle.lam_geom.specs.declared.layer.Layer.{Layer}
 use Rattle.cif_form.specs.declared.command.Item.{Item}
 use Rattle.cif_form.specs.Scans.{opens}
 use Rattle.cif_form.specs.Expansion.{Definition, IsInside}
-use Rattle.cif_form.specs.Walk.{Frame, State, Visit, Visits, WalkEnd, Walks, BreaksFirst, BreaksNone, Steps, weight, on_layer, start, top_frame}
-use Rattle.cif_form.specs.Walk.WalkEnd.{Whole, Broken}
+use Rattle.cif_form.specs.Walk.{Frame, State, Visit, Visits, Walks, BreaksFirst, BreaksNone, Steps, weight, on_layer, start}
+use Rattle.cif_form.specs.Walk.WalkEnd.{Broken}
 use Rattle.cif_flat.specs.declared.fault.Fault.{Fault}
 use Rattle.cif_flat.specs.declared.level.Level.{Level}
 use Rattle.cif_flat.specs.declared.walker.Walker.{Walker}
@@ -92,10 +91,17 @@ visit_at items w v item h = visit_of items h.walking.definitions w.count w.level
 -- a command breaks a rule
 pub stops : (items : List Item) (w : Walker) (v : Level) (item : Item) (h : IsVisit items w v item) (fault : Fault) → BreaksFirst (visit_at items w v item h) (rule_of fault)
     → RefusesWalk items (refusal_of fault item.offset)
-stops items w v item h fault b =
-    (refl, (rule_of fault, w.shapes ++ [], w.labels ++ [], refl,
-      h.walking.leads [] [] (Broken (rule_of fault) item.offset)
-      (Walks.broken (visit_at items w v item h) (rule_of fault) (visits items h.walking.definitions w.count w.levels.items v item h.more h.here) b)))
+stops items w v item h fault b = (
+  refl,
+  (
+    rule_of fault,
+    w.shapes ++ [],
+    w.labels ++ [],
+    refl,
+    h.walking.leads [] [] (Broken (rule_of fault) item.offset)
+        (Walks.broken (visit_at items w v item h) (rule_of fault) (visits items h.walking.definitions w.count w.levels.items v item h.more h.here) b),
+  ),
+)
 
 -- a command breaks no rule
 pub leads_step : (items : List Item) (w : Walker) (v : Level) (item : Item) (h : IsVisit items w v item) (qs : List Rect) (ms : List FlatLabel) (t : State)
@@ -103,8 +109,8 @@ pub leads_step : (items : List Item) (w : Walker) (v : Level) (item : Item) (h :
 leads_step items w v item h qs ms t n s = λ rs ls e k.
     subst (λ xs. Walks (start items) xs ((w.labels ++ ms) ++ ls) e) (sym (append_assoc w.shapes qs rs))
     (subst (λ xs. Walks (start items) (w.shapes ++ (qs ++ rs)) xs e) (sym (append_assoc w.labels ms ls))
-      (h.walking.leads (qs ++ rs) (ms ++ ls) e
-        (Walks.step (visit_at items w v item h) qs ms t (visits items h.walking.definitions w.count w.levels.items v item h.more h.here) n s k)))
+    (h.walking.leads (qs ++ rs) (ms ++ ls) e
+    (Walks.step (visit_at items w v item h) qs ms t (visits items h.walking.definitions w.count w.levels.items v item h.more h.here) n s k)))
 
 pub level_onward : (items : List Item) (m n : ℕ) (opened : BTreeMap ℕ ℕ) (k : ℕ) (v : Level) (l : Option Layer) (i : Item) → m ≤ n → v.next < v.end → left_of items v ≡ i ∷ slice_range items (v.next + 1) v.end
     → ((within : Bool) → opens false i.command ≡ Some within → within ≡ false) → IsLevel items m opened k v → IsLevel items n opened k (onward v l)
@@ -151,14 +157,14 @@ module _ (items : List Item) (w : Walker) (v : Level) (item : Item) (h : IsVisit
       let leads = leads_step items w v item h qs ms (on_layer (visit_at items w v item h) l) none steps in
       let mid : Walker = record w { shapes = shapes; labels = labels; count = w.count + n; levels = new.levels } in
       let walking : IsWalking items mid vs = record {
-          definitions = h.walking.definitions;
-          table = h.walking.table;
-          calls = h.walking.calls;
-          leads = subst (λ xs. Leads items xs labels (state_of items h.walking.definitions (w.count + n) vs)) (sym es)
-              (subst (λ ys. Leads items (w.shapes ++ qs) ys (state_of items h.walking.definitions (w.count + n) vs)) (sym el) (subst (Leads items (w.shapes ++ qs) (w.labels ++ ms)) (came wn) leads));
-          limit = room;
-          stack = stack plain;
-        } in
+        definitions = h.walking.definitions;
+        table = h.walking.table;
+        calls = h.walking.calls;
+        leads = subst (λ xs. Leads items xs labels (state_of items h.walking.definitions (w.count + n) vs)) (sym es)
+            (subst (λ ys. Leads items (w.shapes ++ qs) ys (state_of items h.walking.definitions (w.count + n) vs)) (sym el) (subst (Leads items (w.shapes ++ qs) (w.labels ++ ms)) (came wn) leads));
+        limit = room;
+        stack = stack plain;
+      } in
       let count : new.count ≡ w.count + n = ap (λ x. x.count) is in
       let less = rest_less w.levels.items (onward v l) v (omega arith) in
       let size : length vs ≡ length (w.levels.items ++ (v ∷ [])) = length-append w.levels.items (onward v l ∷ []) ∙ sym (length-append w.levels.items (v ∷ [])) in

@@ -1,6 +1,6 @@
 -- Words of labels.
-use Rattle.std.proofs.Common.{ℕ, zero, suc, ◌≡◌, ◌+◌, ◌-◌, ◌*◌, ◌<◌, ◌≤◌, ◌^◌, ◌⊎◌, inl, inr, refl, sym, ◌∙◌, ap, subst, arith, List, [], ◌∷◌, ◌++◌, length, take, drop, get_or, All, true, false, Option, Some, None, append_assoc, append-nil}
-use Rattle.std.specs.Prelude.{ℤ, pos, negsuc, neg_ℤ, ◌*ℤ◌, nat_abs}
+use Rattle.std.proofs.Common.{ℕ, zero, suc, ◌≡◌, ◌+◌, ◌-◌, ◌*◌, ◌<◌, ◌≤◌, ◌^◌, inl, inr, refl, sym, ◌∙◌, ap, subst, arith, List, [], ◌∷◌, ◌++◌, length, take, drop, get_or, All, true, false, Option, Some, None, append_assoc}
+use Rattle.std.specs.Prelude.{ℤ, pos, negsuc, neg_ℤ, nat_abs}
 use Rattle.std.specs.Int.{IsInRange}
 use Rattle.std.specs.Char.{digit_value}
 use Rattle.std.specs.Str.Parse.{AllDigits, digits_value}
@@ -15,9 +15,9 @@ use Rattle.mp_base.specs.Token.{is_digit}
 use Rattle.lam_geom.specs.declared.layer.Layer.{Layer}
 use Rattle.lam_geom.specs.declared.layer.Layer.TheVariants.{ND, NP, NC, NM, NI, NB, NG}
 use Rattle.lam_geom.specs.declared.label.FlatLabel.{FlatLabel}
-use Rattle.cif_form.specs.Text.{SignedDigits, Digits}
+use Rattle.cif_form.specs.Text.{SignedDigits}
 use Rattle.cif_form.specs.Place.{layer_name}
-use Rattle.cif_form.specs.Labels.{IsSpace, Spaces, Coordinate, OwnLayer, IsLabelText}
+use Rattle.cif_form.specs.Labels.{IsSpace, Coordinate, IsLabelText}
 use Rattle.cif_flat.specs.Placing.{IsWithin}
 use Rattle.cif_flat.specs.Labelling.{Begins, IsNextWord, Tail, IsLabelLayer}
 
@@ -102,7 +102,7 @@ pub next_word_of : (text : List ℕ) (n m : ℕ) (rest : List ℕ) → rest ≡ 
 next_word_of text n m rest e l p q k a b c =
     subst (λ end. IsNextWord text (take m rest) end) (sym (rest_of rest m))
     (subst (λ t. IsNextWord text (take m t) (drop m t)) (sym e)
-      (next_word_is text n m l p q (subst (λ t. m ≤ length t) e k) a (subst (λ t. All Word (take m t)) e b) (subst (λ t. Begins IsSpace (drop m t)) e c)))
+    (next_word_is text n m l p q (subst (λ t. m ≤ length t) e k) a (subst (λ t. All Word (take m t)) e b) (subst (λ t. Begins IsSpace (drop m t)) e c)))
 
 -- ---- numbers
 
@@ -211,22 +211,60 @@ label_words text l (b, t1, e1, f1, (s1, t2, e2, h1, (n, t3, e3, (g, kn, hn), (s2
     let nx = number_word hx.0 x hx.3 in
     let ny = number_word hy.0 y hy.3 in
     record {
-      body = t1; after_name = t3; across = x; after_x = t5; up = y; end = t;
+      body = t1;
+      after_name = t3;
+      across = x;
+      after_x = t5;
+      up = y;
+      end = t;
       four = e1 ∙ ap (λ c. c ++ t1) f1;
       name = record {
-          spaces = s1; split = e2 ∙ ap (λ c. s1 ++ c) (e3 ∙ ap (λ c. c ++ t3) g); are_spaces = h1; some = kn; solid = hn;
-          stops = subst (Begins IsSpace) (sym e4) (begins_front IsSpace s2 t4 h2.0 h2.1);
-        };
+        spaces = s1;
+        split = e2 ∙ ap (λ c. s1 ++ c) (e3 ∙ ap (λ c. c ++ t3) g);
+        are_spaces = h1;
+        some = kn;
+        solid = hn;
+        stops = subst (Begins IsSpace) (sym e4) (begins_front IsSpace s2 t4 h2.0 h2.1);
+      };
       x_word = record { spaces = s2; split = e4 ∙ ap (λ c. s2 ++ c) e5; are_spaces = h2; some = nx.0; solid = nx.1; stops = subst (Begins IsSpace) (sym e6) (begins_front IsSpace s3 t6 h3.0 h3.1) };
       y_word = record { spaces = s3; split = e6 ∙ ap (λ c. s3 ++ c) e7; are_spaces = h3; some = ny.0; solid = ny.1; stops = tail_stops l.layer t ht };
-      x = hx; y = hy; layer = ht;
+      x = hx;
+      y = hy;
+      layer = ht;
     }
 
 pub words_label : (text : List ℕ) (l : FlatLabel) → IsLabelOf text l → IsLabelText l text
-words_label text l h =
-    (52 ∷ [], h.body, h.four, refl, (h.name.spaces, l.name ++ h.after_name, h.name.split, h.name.are_spaces, (l.name, h.after_name, refl, (refl, h.name.some, h.name.solid),
-      (h.x_word.spaces, h.across ++ h.after_x, h.x_word.split, h.x_word.are_spaces, (h.across, h.after_x, refl, h.x,
-        (h.y_word.spaces, h.up ++ h.end, h.y_word.split, h.y_word.are_spaces, (h.up, h.end, refl, h.y, h.layer)))))))
+words_label text l h = (
+  52 ∷ [],
+  h.body,
+  h.four,
+  refl,
+  (
+    h.name.spaces,
+    l.name ++ h.after_name,
+    h.name.split,
+    h.name.are_spaces,
+    (
+      l.name,
+      h.after_name,
+      refl,
+      (refl, h.name.some, h.name.solid),
+      (
+        h.x_word.spaces,
+        h.across ++ h.after_x,
+        h.x_word.split,
+        h.x_word.are_spaces,
+        (
+          h.across,
+          h.after_x,
+          refl,
+          h.x,
+          (h.y_word.spaces, h.up ++ h.end, h.y_word.split, h.y_word.are_spaces, (h.up, h.end, refl, h.y, h.layer)),
+        ),
+      ),
+    ),
+  ),
+)
 
 -- what is read of a label, step by step
 module _ (text rest : List ℕ) (first : ℕ) (e : text ≡ first ∷ rest) (l : FlatLabel) (h : IsLabelOf text l) where

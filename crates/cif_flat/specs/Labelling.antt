@@ -1,10 +1,10 @@
 -- What is found of user commands.
-use Rattle.std.specs.Prelude.{ℕ, ◌<◌, ◌≡◌, ◌⊎◌, ◌^◌, List, [], ◌∷◌, ◌++◌, length, All, Option, Some, None}
+use Rattle.std.specs.Prelude.{ℕ, ◌<◌, ◌≡◌, ◌⊎◌, List, [], ◌∷◌, ◌++◌, length, All, Option, Some, None}
 use Rattle.lam_geom.specs.declared.layer.Layer.{Layer}
 use Rattle.lam_geom.specs.declared.layer.Layer.TheVariants.{ND, NP, NM}
 use Rattle.lam_geom.specs.declared.label.FlatLabel.{FlatLabel}
 use Rattle.cif_form.specs.Text.{◌▹◌}
-use Rattle.cif_form.specs.Labels.{IsSpace, Spaces, Coordinate, OwnLayer, IsLabelText, IsNoLabel}
+use Rattle.cif_form.specs.Labels.{IsSpace, Spaces, OwnLayer, IsLabelText, IsNoLabel}
 
 -- the label of the text of a user command at this offset, if it is one
 abbrev pub IsLabelled : ℕ → List ℕ → Option FlatLabel → Type 0

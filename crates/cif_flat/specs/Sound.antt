@@ -1,5 +1,5 @@
 -- Items that a reader gives.
-use Rattle.std.specs.Prelude.{◌≡◌, List, [], ◌∷◌, All, Bool, true, false, Some}
+use Rattle.std.specs.Prelude.{◌≡◌, List, [], ◌∷◌, All, Bool, false, Some}
 use Rattle.cif_form.specs.declared.command.Item.{Item}
 use Rattle.cif_form.specs.Fits.{Fits}
 use Rattle.cif_form.specs.Scans.{opens}

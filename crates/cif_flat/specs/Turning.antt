@@ -1,10 +1,10 @@
 -- What the turns of a call come to.
-use Rattle.std.specs.Prelude.{ℕ, ◌≡◌, ◌⊎◌, ◌^◌, Bool, true, false, List, [], ◌∷◌, Contains, ℤ, pos}
+use Rattle.std.specs.Prelude.{ℕ, ◌≡◌, ◌⊎◌, Bool, false, List, Contains, ℤ, pos}
 use Rattle.lam_geom.specs.declared.place.Point.{Point}
 use Rattle.lam_geom.specs.declared.rect.Rect.{Rect}
 use Rattle.lam_geom.specs.Moves.{IsNear}
 use Rattle.cif_form.specs.declared.command.Turn.{Turn}
-use Rattle.cif_form.specs.declared.command.Turn.TheVariants.{Move, MirrorX, MirrorY, Rotate}
+use Rattle.cif_form.specs.declared.command.Turn.TheVariants.{Move, Rotate}
 use Rattle.cif_form.specs.Place.{Scale, IsOnAxis, Motion, placed, AreMotions}
 use Rattle.cif_form.specs.Walk.{IsWholePoint, IsFarPoint}
 use Rattle.cif_flat.specs.declared.placement.Placement.{Placement}

@@ -25,7 +25,13 @@ pub(crate) struct Composed {
 }
 
 /// What the turns of the call at an index come to, composed anew only where they weren't before.
-pub(crate) fn turned_at(calls: &mut Table<Composed>, items: &[Item], at: usize, ratio: Ratio, turns: &[Turn]) -> Result<Turned, AllocError>
+pub(crate) fn turned_at(
+    calls: &mut Table<Composed>,
+    items: &[Item],
+    at: usize,
+    ratio: Ratio,
+    turns: &[Turn],
+) -> Result<Turned, AllocError>
     requires calls { AreCalls items.now calls.old }
     requires at { IsCallAt items.now at turns.now }
     requires fit { IsFitRatio ratio }

@@ -138,7 +138,11 @@ fn tail(text: &[u8]) -> Option<Option<Layer>>
 }
 
 /// The label of the text of a user command, if it is one.
-pub(crate) fn label_of(alloc: Global, offset: u64, text: &[u8]) -> Result<Option<FlatLabel>, AllocError>
+pub(crate) fn label_of(
+    alloc: Global,
+    offset: u64,
+    text: &[u8],
+) -> Result<Option<FlatLabel>, AllocError>
     ensures { IfOk result (IsLabelled offset text.now) }
 {
     let Some((first, rest)) = text.split_first() else {

@@ -6,6 +6,7 @@ mod edges;
 mod fault;
 mod flat;
 mod label;
+mod law;
 mod layer;
 mod level;
 mod placement;
@@ -17,3 +18,4 @@ mod turned;
 mod walker;
 
 pub use flat::{Flat, flatten};
+pub use law::read_is_well_formed;

@@ -30,7 +30,12 @@ fn edges_around(ratio: Ratio, center: Point, extent: Extent) -> Result<Edges, Fa
 }
 
 /// The edges of a box whose length lies along its direction, or the first rule of its direction and edges that is broken.
-pub(crate) fn box_edges(ratio: Ratio, extent: Extent, center: Point, direction: Point) -> Result<Edges, Fault>
+pub(crate) fn box_edges(
+    ratio: Ratio,
+    extent: Extent,
+    center: Point,
+    direction: Point,
+) -> Result<Edges, Fault>
     requires fit { IsFitRatio ratio }
     requires center { IsShortPoint center }
     requires extent { IsShort extent.across × IsShort extent.up }
@@ -117,7 +122,12 @@ fn segment_edges(ratio: Ratio, extent: Extent, segment: Segment) -> Option<Edges
 }
 
 /// Draws a rectangle if it is near, and says whether it is and others were.
-fn draw(shapes: &mut List<Rect>, others: bool, layer: Layer, edges: Edges) -> Result<bool, AllocError>
+fn draw(
+    shapes: &mut List<Rect>,
+    others: bool,
+    layer: Layer,
+    edges: Edges,
+) -> Result<bool, AllocError>
     ensures { IfOk result (IsDrawnIfNear others layer edges shapes.old shapes.new) }
 {
     if !edges.are_near() {
@@ -136,7 +146,13 @@ pub(crate) enum Wired {
 }
 
 /// Draws a wire, if its rectangles are near.
-pub(crate) fn draw_wire(shapes: &mut List<Rect>, level: Level, layer: Layer, extent: Extent, path: &[Point]) -> Result<Wired, AllocError>
+pub(crate) fn draw_wire(
+    shapes: &mut List<Rect>,
+    level: Level,
+    layer: Layer,
+    extent: Extent,
+    path: &[Point],
+) -> Result<Wired, AllocError>
     requires fit { IsFitRatio level.ratio }
     requires held { IsHeld (2 ^ 126) level.placement }
     requires extent { IsShort extent.across × (extent.up ≡ extent.across) }

@@ -17,7 +17,11 @@ pub(crate) fn found<V: Copy>(table: &BTreeMap<u64, V>, number: u64) -> Option<V>
 }
 
 /// Sets the entry of a number.
-pub(crate) fn set<V: Drop>(table: &mut BTreeMap<u64, V>, number: u64, entry: V) -> Result<(), AllocError>
+pub(crate) fn set<V: Drop>(
+    table: &mut BTreeMap<u64, V>,
+    number: u64,
+    entry: V,
+) -> Result<(), AllocError>
     ensures here { OnOk result (get nat_cmp table.new number ≡ Some entry) }
     ensures others { OnOk result ((k : ℕ) → k ≢ number → get nat_cmp table.new k ≡ get nat_cmp table.old k) }
 {

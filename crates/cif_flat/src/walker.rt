@@ -59,7 +59,13 @@ impl Walker {
         Ok(())
     }
 
-    fn set_layer(&mut self, items: &[Item], level: Level, offset: u64, name: &Name) -> Result<(), Refusal>
+    fn set_layer(
+        &mut self,
+        items: &[Item],
+        level: Level,
+        offset: u64,
+        name: &Name,
+    ) -> Result<(), Refusal>
         requires { IsVisit items.now self.old level (item_at offset (commands.Layer name.now)) }
         ensures ok { OnOk result (IsAfter items.now self.old level self.new) }
         ensures err { IfErr result (RefusesWalk items.now) }
@@ -74,7 +80,13 @@ impl Walker {
         Ok(())
     }
 
-    fn comment(&mut self, items: &[Item], level: Level, offset: u64, text: &Name) -> Result<(), Refusal>
+    fn comment(
+        &mut self,
+        items: &[Item],
+        level: Level,
+        offset: u64,
+        text: &Name,
+    ) -> Result<(), Refusal>
         requires { IsVisit items.now self.old level (item_at offset (commands.Comment text.now)) }
         ensures ok { OnOk result (IsAfter items.now self.old level self.new) }
         ensures err { IfErr result (RefusesWalk items.now) }
@@ -118,7 +130,14 @@ impl Walker {
         Ok(())
     }
 
-    fn draw_wire(&mut self, items: &[Item], level: Level, offset: u64, extent: Extent, path: &[Point]) -> Result<(), Refusal>
+    fn draw_wire(
+        &mut self,
+        items: &[Item],
+        level: Level,
+        offset: u64,
+        extent: Extent,
+        path: &[Point],
+    ) -> Result<(), Refusal>
         requires square { extent.up ≡ extent.across }
         requires visit { IsVisit items.now self.old level (item_at offset (commands.Wire extent.across path.now)) }
         ensures ok { OnOk result (IsAfter items.now self.old level self.new) }
@@ -170,7 +189,13 @@ impl Walker {
     }
 
     /// Goes into a definition that is called.
-    fn enter(&mut self, level: Level, number: u64, symbol: Symbol, placement: Placement) -> Result<(), AllocError>
+    fn enter(
+        &mut self,
+        level: Level,
+        number: u64,
+        symbol: Symbol,
+        placement: Placement,
+    ) -> Result<(), AllocError>
         requires count { self.old.count < 4_000_000 }
         requires more { level.next < level.end }
         requires outer { IsHeld (2 ^ 126) level.placement }
@@ -195,7 +220,14 @@ impl Walker {
         Ok(())
     }
 
-    fn call(&mut self, items: &[Item], level: Level, offset: u64, number: &i64, turns: &[Turn]) -> Result<(), Refusal>
+    fn call(
+        &mut self,
+        items: &[Item],
+        level: Level,
+        offset: u64,
+        number: &i64,
+        turns: &[Turn],
+    ) -> Result<(), Refusal>
         requires { IsVisit items.now self.old level (item_at offset (commands.Call number.now turns.now)) }
         ensures ok { OnOk result (IsAfter items.now self.old level self.new) }
         ensures err { IfErr result (RefusesWalk items.now) }
@@ -217,7 +249,15 @@ impl Walker {
         }
     }
 
-    fn define(&mut self, items: &[Item], level: Level, offset: u64, number: &i64, a: &i64, b: &i64) -> Result<(), Refusal>
+    fn define(
+        &mut self,
+        items: &[Item],
+        level: Level,
+        offset: u64,
+        number: &i64,
+        a: &i64,
+        b: &i64,
+    ) -> Result<(), Refusal>
         requires { IsVisit items.now self.old level (item_at offset (commands.Start number.now a.now b.now)) }
         ensures ok { OnOk result (IsAfter items.now self.old level self.new) }
         ensures err { IfErr result (RefusesWalk items.now) }
@@ -225,12 +265,22 @@ impl Walker {
         let first = level.next + 1;
         let end = first + body_size(&items[first..level.end]);
         let ratio = Ratio::of(a, b);
-        set(&mut self.symbols, key_of(number), Symbol { ratio, first, end })?;
+        set(
+            &mut self.symbols,
+            key_of(number),
+            Symbol { ratio, first, end },
+        )?;
         self.go_on(level.resumed(end + 1), 0)?;
         Ok(())
     }
 
-    fn delete(&mut self, items: &[Item], level: Level, offset: u64, number: &i64) -> Result<(), Refusal>
+    fn delete(
+        &mut self,
+        items: &[Item],
+        level: Level,
+        offset: u64,
+        number: &i64,
+    ) -> Result<(), Refusal>
         requires { IsVisit items.now self.old level (item_at offset (commands.Delete number.now)) }
         ensures ok { OnOk result (IsAfter items.now self.old level self.new) }
         ensures err { IfErr result (RefusesWalk items.now) }
@@ -243,7 +293,15 @@ impl Walker {
         Ok(())
     }
 
-    fn user(&mut self, alloc: Global, items: &[Item], level: Level, offset: u64, digit: &u8, text: &Name) -> Result<(), Refusal>
+    fn user(
+        &mut self,
+        alloc: Global,
+        items: &[Item],
+        level: Level,
+        offset: u64,
+        digit: &u8,
+        text: &Name,
+    ) -> Result<(), Refusal>
         requires { IsVisit items.now self.old level (item_at offset (commands.User digit.now text.now)) }
         ensures ok { OnOk result (IsAfter items.now self.old level self.new) }
         ensures err { IfErr result (RefusesWalk items.now) }
@@ -285,16 +343,35 @@ impl Walker {
                 width,
                 center,
                 direction,
-            } => self.draw_box(items, level, offset, Extent::of(length, width), center, direction),
+            } => self.draw_box(
+                items,
+                level,
+                offset,
+                Extent::of(length, width),
+                center,
+                direction,
+            ),
             Command::Round { .. } => Err(broken(Fault::F5, offset)),
             Command::Wire { width, path } => {
-                self.draw_wire(items, level, offset, Extent::of(width, width), path.as_slice())
+                self.draw_wire(
+                    items,
+                    level,
+                    offset,
+                    Extent::of(width, width),
+                    path.as_slice(),
+                )
             }
             Command::Layer(name) => self.set_layer(items, level, offset, name),
             Command::Start { number, a, b } => self.define(items, level, offset, number, a, b),
             Command::Finish => unreachable!(),
             Command::Delete(number) => self.delete(items, level, offset, number),
-            Command::Call { number, turns } => self.call(items, level, offset, number, turns.as_slice()),
+            Command::Call { number, turns } => self.call(
+                items,
+                level,
+                offset,
+                number,
+                turns.as_slice(),
+            ),
             Command::User { digit, text } => self.user(alloc, items, level, offset, digit, text),
             Command::Comment(text) => self.comment(items, level, offset, text),
         }

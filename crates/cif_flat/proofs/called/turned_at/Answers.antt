@@ -1,4 +1,4 @@
-use Rattle.std.proofs.Common.{◌≡◌, ◌∙◌, sym, subst}
+use Rattle.std.proofs.Common.{◌∙◌, sym, subst}
 use Rattle.cif_flat.specs.Placing.{scale_of}
 use Rattle.cif_flat.specs.Turning.{IsTurned}
 use Rattle.cif_flat.proofs.Calls.{calls_set, call_found}

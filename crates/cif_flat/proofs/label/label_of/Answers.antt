@@ -39,18 +39,18 @@ returns c =
     let ey : to_z w64 (of_z w64 y) ≡ y = omega (arith, ints, by.0, by.1) in
     let label : FlatLabel = record { offset = c.args.offset; name = c.in_ok-name.name; x = to_z w64 (of_z w64 x); y = to_z w64 (of_z w64 y); layer = c.in-Some-tail.layer } in
     let read : IsLabelOf c.args.text.now label = record {
-        body = c.in-Some.rest.now;
-        after_name = n.rest.now;
-        across = u.across.now;
-        after_x = u.rest.now;
-        up = v.up.now;
-        end = v.rest.now;
-        four = c.in-Some.ensures.cases.0 ∙ ap (λ b. b ∷ c.in-Some.rest.now) c.if-first-ne52.false;
-        name = subst (λ w. IsNextWord c.in-Some.rest.now w n.rest.now) (sym c.in_ok-name.ensures) n.ensures.some;
-        x_word = u.ensures.some;
-        y_word = v.ensures.some;
-        x = subst (λ z. Coordinate z u.across.now) (sym ex) cx;
-        y = subst (λ z. Coordinate z v.up.now) (sym ey) cy;
-        layer = c.in-Some-tail.ensures.some;
-      } in
+      body = c.in-Some.rest.now;
+      after_name = n.rest.now;
+      across = u.across.now;
+      after_x = u.rest.now;
+      up = v.up.now;
+      end = v.rest.now;
+      four = c.in-Some.ensures.cases.0 ∙ ap (λ b. b ∷ c.in-Some.rest.now) c.if-first-ne52.false;
+      name = subst (λ w. IsNextWord c.in-Some.rest.now w n.rest.now) (sym c.in_ok-name.ensures) n.ensures.some;
+      x_word = u.ensures.some;
+      y_word = v.ensures.some;
+      x = subst (λ z. Coordinate z u.across.now) (sym ex) cx;
+      y = subst (λ z. Coordinate z v.up.now) (sym ey) cy;
+      layer = c.in-Some-tail.ensures.some;
+    } in
     (words_label c.args.text.now label read, refl)

@@ -1,5 +1,4 @@
-use Rattle.std.proofs.Common.{◌≡◌, ◌+◌, ◌-◌, ◌*◌, ◌<◌, ◌^◌, true, get_or, sym, ◌∙◌, ap, subst, arith, rules}
-use Rattle.std.specs.Str.Parse.{digits_value, AllDigits}
+use Rattle.std.proofs.Common.{◌≡◌, ◌+◌, true, get_or, sym, ◌∙◌, arith}
 use Rattle.std.proofs.lemmas.Str.Parse.{digit_at, digits_value-take-le}
 use Rattle.mp_base.specs.Token.{is_digit}
 use Rattle.cif_flat.proofs.Words.{no_digit, more_digits, more_value}

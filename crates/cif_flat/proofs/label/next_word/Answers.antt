@@ -1,6 +1,6 @@
-use Rattle.std.proofs.Common.{◌≡◌, ◌-◌, ◌≤◌, ◌<◌, sym, ◌∙◌, ap, subst, arith, drop, take, length}
+use Rattle.std.proofs.Common.{◌-◌, subst, arith, drop, take, length}
 use Rattle.cif_form.specs.Labels.{IsSpace}
-use Rattle.cif_flat.specs.Labelling.{Begins, IsNextWord}
+use Rattle.cif_flat.specs.Labelling.{Begins}
 use Rattle.cif_flat.proofs.Words.{rest_of, no_spaces, no_word, next_word_of}
 use Rattle.cif_flat.proofs.label.next_word.Goals as goal
 

@@ -1,7 +1,7 @@
-use Rattle.std.proofs.Common.{◌≡◌, ◌<◌, ◌≤◌, ◌∙◌, length, sym, ap, subst, arith, Option, Some, None, All}
+use Rattle.std.proofs.Common.{sym, subst, arith, Some, None, All}
 use Rattle.cif_form.specs.Place.{layer_name}
 use Rattle.cif_form.specs.Labels.{IsSpace}
-use Rattle.cif_flat.specs.Labelling.{Tail, IsNextWord}
+use Rattle.cif_flat.specs.Labelling.{Tail}
 use Rattle.cif_flat.proofs.Words.{one_word, tail_spaces, tail_word, word_tail, not_all, all_spaces}
 use Rattle.cif_flat.proofs.label.tail.Goals as goal
 

@@ -1,4 +1,3 @@
-use Rattle.cif_flat.proofs.Shapes.{drawn_others}
 use Rattle.cif_flat.proofs.shape.draw.Goals as goal
 
 pub rect-requires : goal.rect-requires

@@ -1,5 +1,5 @@
 use Rattle.std.proofs.Common.{arith, ◌+◌, ◌<◌, ◌≡◌, ◌++◌, ◌∷◌, [], length, sym, ◌∙◌, ap, subst, take}
-use Rattle.std.proofs.lemmas.List.{take_more, take_all}
+use Rattle.std.proofs.lemmas.List.{take_more}
 use Rattle.cif_form.specs.Place.{segments}
 use Rattle.cif_flat.specs.Placing.{scale_of}
 use Rattle.cif_flat.specs.Shaping.{IsWiredSoFar}
@@ -17,7 +17,7 @@ loop-index-preserved c =
     m ∙ ap (λ p. take c.loop-index.index segs ++ p ∷ []) (sym c.segment_at-segment.ensures) in
     subst (λ ps. IsWiredSoFar s c.args.level.placement c.args.layer c.args.extent.across ps c.args.shapes.now c.draw.new.shapes c.in_ok-near.near) (sym here)
     (wired_more s c.args.level.placement c.args.layer c.args.extent.across (take c.loop-index.index segs) (g.from, g.to) _ _ _ _ _ _ _
-      c.loop-index.invariant c.in-Some.ensures.whole c.place.ensures c.in_ok-near.ensures)
+    c.loop-index.invariant c.in-Some.ensures.whole c.place.ensures c.in_ok-near.ensures)
 
 pub loop-index-init : goal.loop-index-init
 loop-index-init c = wired_none (scale_of c.args.level.ratio) c.args.level.placement c.args.layer c.args.extent.across c.args.shapes.now

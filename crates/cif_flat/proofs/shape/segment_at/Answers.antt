@@ -1,7 +1,7 @@
-use Rattle.std.proofs.Common.{ℕ, ◌≡◌, ◌+◌, ◌<◌, List, length, suc, sym, subst, arith, rules}
+use Rattle.std.proofs.Common.{ℕ, ◌≡◌, ◌+◌, ◌<◌, List, length, suc, sym, arith, rules}
 use Rattle.cif_form.specs.Place.{segments}
 use Rattle.lam_geom.specs.declared.place.Point.{Point}
-use Rattle.cif_flat.proofs.Shapes.{segments_one, segments_more, the_segment, a_segment}
+use Rattle.cif_flat.proofs.Shapes.{segments_more, the_segment, a_segment}
 use Rattle.cif_flat.proofs.shape.segment_at.Goals as goal
 
 within : (ps : List Point) (k : ℕ) → 0 < length ps → (length ps ≡ 1 → ⊥) → k < length (segments ps) → suc k < length ps

@@ -1,12 +1,11 @@
-use Rattle.std.proofs.Common.{◌≡◌, sym, subst, arith, inl, inr, false, true, [], ◌∷◌}
-use Rattle.std.specs.Prelude.{pos}
+use Rattle.std.proofs.Common.{◌≡◌, sym, subst, arith, inl, inr, [], ◌∷◌}
 use Rattle.std.proofs.lemmas.Int.{ints}
 use Rattle.cif_form.specs.declared.command.Turn.TheVariants.{Rotate}
 use Rattle.cif_form.specs.Place.{Scale}
 use Rattle.cif_flat.specs.declared.placement.Placement.{Placement}
 use Rattle.cif_flat.specs.declared.turned.Turned.TheVariants.{Placed}
 use Rattle.lam_geom.specs.declared.place.Point.{Point}
-use Rattle.cif_flat.specs.Turning.{IsTurned, turn_of}
+use Rattle.cif_flat.specs.Turning.{IsTurned}
 use Rattle.cif_flat.proofs.Turns.{east, west, north, south, askew}
 use Rattle.cif_flat.proofs.turned.rotated.Goals as goal
 

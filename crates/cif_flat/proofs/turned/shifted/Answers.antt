@@ -4,7 +4,6 @@ use Rattle.std.specs.Prelude.{pos, ◌*ℤ◌}
 use Rattle.std.proofs.lemmas.Int.{ints}
 use Rattle.cif_form.specs.Place.{IsScaled}
 use Rattle.cif_flat.specs.Placing.{scale_of}
-use Rattle.cif_flat.specs.Turning.{IsMoved}
 use Rattle.cif_flat.proofs.Numbers.{scaled_same}
 use Rattle.cif_flat.proofs.Turns.{uneven, moved_turned}
 use Rattle.cif_flat.proofs.turned.shifted.Goals as goal

@@ -1,9 +1,7 @@
-use Rattle.std.proofs.Common.{◌≡◌, ◌+◌, ◌<◌, refl, sym, ◌∙◌, ap, subst, arith, true, drop, length, Some}
-use Rattle.std.specs.Prelude.{slice_get}
+use Rattle.std.proofs.Common.{◌≡◌, ◌+◌, refl, ◌∙◌, ap, subst, true, drop, length, Some}
 use Rattle.std.proofs.lemmas.List.{drop_all}
 use Rattle.std.proofs.lemmas.List.Elements.{All-more}
 use Rattle.std.proofs.lemmas.Option.{slice_get_read}
-use Rattle.cif_form.specs.declared.command.Item.{Item}
 use Rattle.cif_form.specs.Expansion.{IsInside, item_at}
 use Rattle.cif_form.specs.declared.command.Command.TheVariants.{Finish}
 use Rattle.cif_flat.specs.Sound.{AreClosed}

@@ -1,4 +1,4 @@
-use Rattle.std.proofs.Common.{◌≡◌, ◌∙◌, ap, sym, subst}
+use Rattle.std.proofs.Common.{◌∙◌, ap, sym, subst}
 use Rattle.cif_flat.specs.Placing.{AreSmall, rect_of, laid}
 use Rattle.cif_flat.proofs.Placements.{small_exchanged, rect_exchanged}
 use Rattle.cif_flat.proofs.placement.Placement.place.Goals as goal

@@ -1,7 +1,6 @@
-use Rattle.std.proofs.Common.{◌≡◌, ◌+◌, ◌*◌, ◌^◌, sym, ◌∙◌, ap, subst, arith, take, ◌++◌, ◌∷◌, []}
+use Rattle.std.proofs.Common.{◌≡◌, ◌+◌, ◌*◌, ◌^◌, sym, subst, arith}
 use Rattle.std.proofs.lemmas.List.{take_more, take_all}
 use Rattle.cif_flat.specs.Placing.{scale_of}
-use Rattle.cif_flat.specs.declared.turned.Turned.{Turned}
 use Rattle.cif_flat.specs.Turning.{IsTurned, IsHeldTurned, joined}
 use Rattle.cif_flat.proofs.Turns.{joined_turned, held_joined, held_more}
 use Rattle.cif_flat.proofs.turned.Turned.of_all.Goals as goal

@@ -1,4 +1,4 @@
-use Rattle.std.proofs.Common.{◌∙◌, ◌≡◌, ◌++◌, ◌∷◌, [], sym, ap, subst, arith}
+use Rattle.std.proofs.Common.{◌∙◌, ◌++◌, ◌∷◌, [], sym, ap, subst, arith}
 use Rattle.cif_flat.specs.Refusing.{RefusesWalk}
 use Rattle.cif_flat.proofs.Arms.{comment_counted, comment_passed}
 use Rattle.cif_flat.proofs.walker.Walker.comment.Goals as goal

@@ -1,4 +1,4 @@
-use Rattle.std.proofs.Common.{◌≡◌, ◌+◌, ◌<◌, ◌∙◌, ◌++◌, ◌∷◌, [], length, sym, ap, subst, arith, rules}
+use Rattle.std.proofs.Common.{◌+◌, ◌<◌, ◌∙◌, ◌++◌, ◌∷◌, [], length, ap, arith, rules}
 use Rattle.cif_flat.proofs.Walks.{level_of}
 use Rattle.cif_flat.proofs.Defines.{start_closed, start_number, body_room, defined}
 use Rattle.cif_flat.proofs.walker.Walker.define.Goals as goal

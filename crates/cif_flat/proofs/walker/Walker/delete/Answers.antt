@@ -1,6 +1,5 @@
 use Rattle.std.proofs.Common.{◌∙◌, ◌++◌, ◌∷◌, [], sym, ap, subst, arith}
 use Rattle.cif_flat.specs.Refusing.{RefusesWalk}
-use Rattle.cif_flat.proofs.Arms.{fits_here}
 use Rattle.cif_flat.proofs.Defines.{delete_counted, deleted}
 use Rattle.cif_flat.proofs.walker.Walker.delete.Goals as goal
 

@@ -1,6 +1,4 @@
-use Rattle.std.proofs.Common.{◌∙◌, ◌≡◌, ◌++◌, ◌∷◌, [], sym, ap, subst, arith}
-use Rattle.lam_geom.specs.declared.layer.Layer.{Layer}
-use Rattle.lam_geom.specs.declared.rect.Rect.{Rect}
+use Rattle.std.proofs.Common.{◌∙◌, ◌++◌, ◌∷◌, [], sym, ap, subst, arith}
 use Rattle.lam_geom.specs.Moves.{IsNearRect}
 use Rattle.cif_flat.specs.Refusing.{RefusesWalk}
 use Rattle.cif_flat.proofs.Arms.{fits_here, box_short, held_here, ratio_here, box_fault, box_counted, box_far, box_unset, box_drawn}

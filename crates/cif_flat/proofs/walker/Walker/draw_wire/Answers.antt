@@ -1,4 +1,4 @@
-use Rattle.std.proofs.Common.{◌∙◌, ◌≡◌, ◌<◌, ◌≤◌, ◌+◌, ◌++◌, ◌∷◌, [], length, sym, ap, subst, arith}
+use Rattle.std.proofs.Common.{◌∙◌, ◌≡◌, ◌+◌, ◌++◌, ◌∷◌, [], sym, ap, subst, arith}
 use Rattle.cif_form.specs.Place.{segments}
 use Rattle.cif_flat.specs.Placing.{scale_of}
 use Rattle.cif_flat.specs.Shaping.{IsWired, drawn}

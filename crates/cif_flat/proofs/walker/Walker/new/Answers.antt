@@ -1,4 +1,4 @@
-use Rattle.std.proofs.Common.{◌≡◌, ◌∙◌, refl, ◌++◌, ◌∷◌, []}
+use Rattle.std.proofs.Common.{◌∙◌, refl, ◌++◌, ◌∷◌, []}
 use Rattle.cif_flat.proofs.Loop.{walking_start}
 use Rattle.cif_flat.proofs.walker.Walker.new.Goals as goal
 

@@ -1,4 +1,4 @@
-use Rattle.std.proofs.Common.{◌∙◌, ◌≡◌, ◌++◌, ◌∷◌, [], sym, ap, subst, arith}
+use Rattle.std.proofs.Common.{◌∙◌, ◌++◌, ◌∷◌, [], sym, ap, subst, arith}
 use Rattle.cif_flat.specs.Refusing.{RefusesWalk}
 use Rattle.cif_flat.proofs.Arms.{layer_counted, layer_unknown, layer_set}
 use Rattle.cif_flat.proofs.walker.Walker.set_layer.Goals as goal

@@ -1,5 +1,4 @@
 use Rattle.std.proofs.Common.{◌∙◌, ◌≡◌, ◌++◌, ◌∷◌, [], List, length, refl, sym, ap, subst, arith, Some, None}
-use Rattle.cif_form.specs.Labels.{IsNoLabel, IsLabelText}
 use Rattle.cif_flat.specs.Labelling.{IsLabelled}
 use Rattle.cif_flat.specs.Refusing.{RefusesWalk}
 use Rattle.cif_flat.proofs.Arms.{user_counted, user_passed, user_labelled}

@@ -1,4 +1,4 @@
-use Rattle.std.proofs.Common.{◌≡◌, ◌∙◌, sym, ap, subst, Some}
+use Rattle.std.proofs.Common.{◌∙◌, sym, ap, subst}
 use Rattle.cif_form.specs.declared.command.Command.TheVariants.{Polygon, Box, Round, Wire, Layer, Start, Finish, Delete, Call, User, Comment}
 use Rattle.cif_form.specs.Expansion.{item_at}
 use Rattle.cif_flat.specs.Refusing.{RefusesWalk}
@@ -22,20 +22,20 @@ pub delete-requires : goal.delete-requires
 delete-requires c = visiting c.args.items.now c.args.self.now c.args.level c.index-items-level.result (Delete c.in-Delete.number) c.requires.fit c.requires.walking c.requires.more c.index-items-level.is c.in-Delete.is
 
 pub call-requires : goal.call-requires
-call-requires c = 
+call-requires c =
     subst (λ ts. IsVisit c.args.items.now c.args.self.now c.args.level (item_at c.index-items-level.result.offset (Call c.in-Call.number ts))) (sym c.as_slice-in-Call.ensures)
     (visiting c.args.items.now c.args.self.now c.args.level c.index-items-level.result (Call c.in-Call.number c.in-Call.turns) c.requires.fit c.requires.walking c.requires.more c.index-items-level.is c.in-Call.is)
 
 pub draw_box-requires : goal.draw_box-requires
-draw_box-requires c = 
+draw_box-requires c =
     subst (λ e. IsVisit c.args.items.now c.args.self.now c.args.level (item_at c.index-items-level.result.offset (Box e.across e.up c.in-Box.center c.in-Box.direction))) (sym c.of.ensures)
     (visiting c.args.items.now c.args.self.now c.args.level c.index-items-level.result (Box c.in-Box.length c.in-Box.width c.in-Box.center c.in-Box.direction) c.requires.fit c.requires.walking c.requires.more c.index-items-level.is c.in-Box.is)
 
 pub draw_wire-requires-clause-visit : goal.draw_wire-requires-clause-visit
-draw_wire-requires-clause-visit c = 
+draw_wire-requires-clause-visit c =
     subst (λ e. IsVisit c.args.items.now c.args.self.now c.args.level (item_at c.index-items-level.result.offset (Wire e.across c.as_slice.result.now))) (sym c.of-in-Wire.ensures)
     (subst (λ ps. IsVisit c.args.items.now c.args.self.now c.args.level (item_at c.index-items-level.result.offset (Wire c.in-Wire.width ps))) (sym c.as_slice.ensures)
-      (visiting c.args.items.now c.args.self.now c.args.level c.index-items-level.result (Wire c.in-Wire.width c.in-Wire.path) c.requires.fit c.requires.walking c.requires.more c.index-items-level.is c.in-Wire.is))
+    (visiting c.args.items.now c.args.self.now c.args.level c.index-items-level.result (Wire c.in-Wire.width c.in-Wire.path) c.requires.fit c.requires.walking c.requires.more c.index-items-level.is c.in-Wire.is))
 
 pub draw_wire-requires-clause-square : goal.draw_wire-requires-clause-square
 draw_wire-requires-clause-square c = ap (λ e. e.up) c.of-in-Wire.ensures ∙ sym (ap (λ e. e.across) c.of-in-Wire.ensures)

@@ -1,8 +1,7 @@
-use Rattle.std.proofs.Common.{◌≡◌, refl, sym, subst, arith, [], ◌∷◌, ◌++◌, List}
+use Rattle.std.proofs.Common.{◌≡◌, refl, subst, arith, []}
 use Rattle.std.proofs.lemmas.Grind.{common_steps}
-use Rattle.cif_flat.specs.declared.level.Level.{Level}
 use Rattle.cif_flat.specs.Walking.{IsWalking}
-use Rattle.cif_flat.proofs.Loop.{same_walking, walking_back, closer_back, walked}
+use Rattle.cif_flat.proofs.Loop.{same_walking, walking_back, walked}
 use Rattle.cif_flat.proofs.walker.Walker.walk.Goals as goal
 
 pub visit-requires : goal.visit-requires
