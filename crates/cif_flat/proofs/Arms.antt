@@ -32,6 +32,7 @@ use Rattle.cif_flat.specs.declared.level.Level.{Level}
 use Rattle.cif_flat.specs.declared.walker.Walker.{Walker}
 use Rattle.cif_flat.specs.Placing.{IsShort, IsShortPoint, IsFitRatio, IsHeld, scale_of, rect_of, place_of}
 use Rattle.cif_flat.specs.Shaping.{IsBoxEdges, IsBoxFault, IsNearAt, IsFarAt, IsStraight, HasAskewSegment, HaveEdges, drawn}
+use Rattle.cif_flat.specs.Sound.{Unsigned}
 use Rattle.cif_flat.specs.Refusing.{RefusesWalk, refusal_of}
 use Rattle.cif_flat.specs.Walking.{frame_of, onto, IsNested, IsLevel, IsWalking, IsVisit, IsAfter}
 use Rattle.cif_flat.proofs.Rules.{never, none, first3, first4, first5, first6, first7, first8, first9, first10}
@@ -49,9 +50,6 @@ pub fits_here : (items : List Item) (w : Walker) (v : Level) (i : Item) → IsVi
 fits_here items w v i h =
     let lt : v.next < length items = elim (slice_get_cases items v.next).1 [ inl a ↦ a.1 | inr a ↦ absurd (let e : None ≡ Some i = sym a.1 ∙ h.here in cc) ] in
     subst (λ j. Fits j.command) (get_or_from_slice_get items v.next i i h.here) (h.fit v.next i lt)
-
-abbrev pub Unsigned : ℤ → Type 0
-Unsigned z = (pos 0 ≤ℤ z) × IsSmall z
 
 -- the next command of the innermost level
 pub visiting : (items : List Item) (w : Walker) (v : Level) (i : Item) (c : Command) → All (λ i. Fits i.command) items → IsWalking items w (w.levels.items ++ (v ∷ [])) → v.next < v.end

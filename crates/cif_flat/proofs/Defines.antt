@@ -21,10 +21,10 @@ use Rattle.cif_flat.specs.declared.ratio.Ratio.{Ratio}
 use Rattle.cif_flat.specs.declared.symbol.Symbol.{Symbol}
 use Rattle.cif_flat.specs.declared.walker.Walker.{Walker}
 use Rattle.cif_flat.specs.Placing.{scale_of}
-use Rattle.cif_flat.specs.Sound.{AreClosed}
+use Rattle.cif_flat.specs.Sound.{AreClosed, Unsigned}
 use Rattle.cif_flat.specs.Refusing.{RefusesWalk, refusal_of}
 use Rattle.cif_flat.specs.Walking.{frame_of, left_of, onto, state_of, definition_of, IsAnyRatio, IsSymbol, IsTable, IsBodySize, IsNested, IsLevel, Leads, IsWalking, IsVisit, rest, distance, IsAfter}
-use Rattle.cif_flat.proofs.Arms.{Unsigned, small_short, fits_here}
+use Rattle.cif_flat.proofs.Arms.{small_short, fits_here}
 use Rattle.cif_flat.proofs.Rules.{never, none, first7}
 use Rattle.cif_flat.proofs.Walks.{visit_at, stops, onward, onto_push, each_push, each_weaker, level_later, level_onward, left_next, stack_of, level_of, leads_step}
 

@@ -1,7 +1,7 @@
 -- Items that a reader gives.
-use Rattle.std.specs.Prelude.{◌≡◌, List, [], ◌∷◌, All, Bool, false, Some}
+use Rattle.std.specs.Prelude.{◌≡◌, ◌≤ℤ◌, ℤ, pos, List, [], ◌∷◌, All, Bool, false, Some}
 use Rattle.cif_form.specs.declared.command.Item.{Item}
-use Rattle.cif_form.specs.Fits.{Fits}
+use Rattle.cif_form.specs.Fits.{Fits, IsSmall}
 use Rattle.cif_form.specs.Scans.{opens}
 
 -- definitions are flat, and each is closed; `inside`: one is open before the items
@@ -13,3 +13,7 @@ AreClosed inside (i ∷ is) = (within : Bool) × (opens inside i.command ≡ Som
 pub record IsWellFormed (items : List Item) : Type 0 where
   pub fit : All (λ i. Fits i.command) items
   pub closed : AreClosed false items
+
+-- neither negative nor large
+abbrev pub Unsigned : ℤ → Type 0
+Unsigned z = (pos 0 ≤ℤ z) × IsSmall z

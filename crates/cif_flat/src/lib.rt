@@ -14,6 +14,8 @@ mod ratio;
 mod shape;
 mod symbol;
 mod table;
+#[cfg(test)]
+mod tests;
 mod turned;
 mod walker;
 
