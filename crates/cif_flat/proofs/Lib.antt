@@ -1,0 +1,12 @@
+pub mod Numbers
+pub mod Placements
+pub mod Turns
+pub mod Shapes
+pub mod Rules
+pub mod Walks
+pub mod Arms
+pub mod Calls
+pub mod Defines
+pub mod Loop
+pub mod Words
+pub mod Reading

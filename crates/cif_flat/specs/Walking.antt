@@ -1,0 +1,164 @@
+-- What the code's walk stands for.
+use Rattle.std.specs.Prelude.{ℕ, zero, suc, ◌+◌, ◌*◌, ◌-◌, ◌<◌, ◌≤◌, ◌≡◌, ◌^◌, List, [], ◌∷◌, ◌++◌, length, take, drop, All, Contains, false, Option, Some, None, ℤ, pos, ◌≤ℤ◌, slice_range, slice_get, slice_index_or}
+use Rattle.std.specs.BTreeMap.{BTreeMap, get}
+use Rattle.std.specs.Ordering.{nat_cmp}
+use Rattle.lam_geom.specs.declared.rect.Rect.{Rect}
+use Rattle.lam_geom.specs.declared.label.FlatLabel.{FlatLabel}
+use Rattle.cif_form.specs.declared.command.Command.TheVariants.{Finish}
+use Rattle.cif_form.specs.declared.command.Item.{Item}
+use Rattle.cif_form.specs.Fits.{Fits}
+use Rattle.cif_form.specs.Expansion.{Definition, Stands, IsInside, item_at}
+use Rattle.cif_form.specs.Walk.{Frame, State, Visit, WalkEnd, Walks, FileWalks}
+use Rattle.cif_flat.specs.declared.level.Level.{Level}
+use Rattle.cif_flat.specs.declared.placement.Placement.{Placement}
+use Rattle.cif_flat.specs.declared.symbol.Symbol.{Symbol}
+use Rattle.cif_flat.specs.declared.walker.Walker.{Walker}
+use Rattle.cif_flat.specs.declared.ratio.Ratio.{Ratio}
+use Rattle.cif_flat.specs.Placing.{IsFitRatio, scale_of, place_of, after, here, IsHeld}
+use Rattle.cif_flat.specs.Calling.{AreCalls}
+use Rattle.cif_flat.specs.Sound.{AreClosed}
+
+-- ---- frames
+
+abbrev pub symbol_of : Option ℕ → Option ℤ
+symbol_of None = None
+symbol_of (Some n) = Some (pos n)
+
+abbrev pub left_of : List Item → Level → List Item
+left_of items v = slice_range items v.next v.end
+
+abbrev pub frame_of : List Item → Level → Frame
+frame_of items v = record {
+  symbol = symbol_of v.symbol;
+  scale = scale_of v.ratio;
+  layer = v.layer;
+  place = place_of v.placement;
+  left = left_of items v;
+}
+
+-- the frames of levels, the last of them first, on top of others
+abbrev pub onto : List Item → List Level → List Frame → List Frame
+onto items [] fs = fs
+onto items (v ∷ vs) fs = onto items vs (frame_of items v ∷ fs)
+
+abbrev pub state_of : List Item → List Definition → ℕ → List Level → State
+state_of items ds count vs = record { definitions = ds; count = count; frames = onto items vs [] }
+
+abbrev pub visit_of : List Item → List Definition → ℕ → List Level → Level → Item → Visit
+visit_of items ds count vs v item = record {
+  definitions = ds;
+  count = count;
+  frame = frame_of items v;
+  outer = onto items vs [];
+  item = item;
+  after = slice_range items (v.next + 1) v.end;
+}
+
+-- ---- tables
+
+abbrev pub definition_of : List Item → ℕ → Symbol → Definition
+definition_of items n s = record { number = pos n; scale = scale_of s.ratio; body = slice_range items s.first s.end }
+
+-- neither number is negative, and both are small
+pub record IsAnyRatio (r : Ratio) : Type 0 where
+  pub a : pos 0 ≤ℤ r.a
+  pub b : pos 0 ≤ℤ r.b
+  pub short_a : r.a ≤ℤ pos 2_147_483_647
+  pub short_b : r.b ≤ℤ pos 2_147_483_647
+
+pub record IsSymbol (items : List Item) (s : Symbol) : Type 0 where
+  pub ratio : IsAnyRatio s.ratio
+  pub forward : s.first ≤ s.end
+  pub within : s.end ≤ length items
+  pub inside : All (λ i. IsInside i.command) (slice_range items s.first s.end)
+
+-- the table has the newest definition of each number
+pub record IsTable (items : List Item) (ds : List Definition) (symbols : BTreeMap ℕ Symbol) : Type 0 where
+  pub stands : (n : ℕ) (s : Symbol) → get nat_cmp symbols n ≡ Some s → Stands ds (pos n) (definition_of items n s)
+  pub missing : (n : ℕ) → get nat_cmp symbols n ≡ None → (d : Definition) → ¬ Stands ds (pos n) d
+  pub fits : (n : ℕ) (s : Symbol) → get nat_cmp symbols n ≡ Some s → IsSymbol items s
+
+-- so many commands stand before the finish of an open definition
+pub record IsBodySize (rest : List Item) (n : ℕ) : Type 0 where
+  pub offset : ℕ
+  pub finish : slice_get rest n ≡ Some (item_at offset Finish)
+  pub inside : All (λ i. IsInside i.command) (take n rest)
+  pub closed : AreClosed false (drop (n + 1) rest)
+
+-- ---- levels
+
+-- what is left at the top level, or in a definition
+abbrev pub IsNested : ℕ → List Item → Type 0
+IsNested zero left = AreClosed false left
+IsNested (suc depth) left = All (λ i. IsInside i.command) left
+
+pub record IsLevel (items : List Item) (count : ℕ) (opened : BTreeMap ℕ ℕ) (depth : ℕ) (v : Level) : Type 0 where
+  pub ratio : IsFitRatio v.ratio
+  pub held : IsHeld (2 ^ 104 * count) v.placement
+  pub forward : v.next ≤ v.end
+  pub within : v.end ≤ length items
+  pub nested : IsNested depth (left_of items v)
+  pub number : (n : ℕ) → v.symbol ≡ Some n → get nat_cmp opened n ≡ Some depth
+
+-- the top level of a file with so many commands
+abbrev pub top : ℕ → Level
+top size = record { symbol = None; ratio = record { a = pos 1; b = pos 1 }; layer = None; placement = here; next = 0; end = size }
+
+-- this is true of each level and its depth
+abbrev pub EachLevel : (ℕ → Level → Type 0) → List Level → Type 0
+EachLevel P vs = (k : ℕ) (d : Level) → k < length vs → P k (slice_index_or vs k d)
+
+-- its number was opened last at its depth
+abbrev pub IsNumbered : BTreeMap ℕ ℕ → ℕ → Level → Type 0
+IsNumbered opened depth v = (n : ℕ) → v.symbol ≡ Some n → get nat_cmp opened n ≡ Some depth
+
+-- a definition of the number is being expanded
+abbrev pub IsOpen : List Level → ℕ → Type 0
+IsOpen vs n = (v : Level) × Contains vs v × (v.symbol ≡ Some n)
+
+-- the level of a called definition
+abbrev pub entered : Level → ℕ → Symbol → Placement → Level
+entered v n s p = record {
+  symbol = Some n;
+  ratio = s.ratio;
+  layer = None;
+  placement = after v.placement p;
+  next = s.first;
+  end = s.end;
+}
+
+-- ---- the walk
+
+-- a walk from this state on is one of the file, which draws these shapes and labels first
+abbrev pub Leads : List Item → List Rect → List FlatLabel → State → Type 0
+Leads items shapes labels t = (rs : List Rect) (ls : List FlatLabel) (e : WalkEnd) → Walks t rs ls e → FileWalks items (shapes ++ rs) (labels ++ ls) e
+
+-- the walk has come to these levels
+pub record IsWalking (items : List Item) (w : Walker) (vs : List Level) : Type 0 where
+  pub definitions : List Definition
+  pub table : IsTable items definitions w.symbols
+  pub calls : AreCalls items w.calls
+  pub leads : Leads items w.shapes w.labels (state_of items definitions w.count vs)
+  pub limit : w.count ≤ 4_000_000
+  pub stack : EachLevel (IsLevel items w.count w.opened) vs
+
+-- the item is the next of the level, which is the innermost
+pub record IsVisit (items : List Item) (w : Walker) (v : Level) (item : Item) : Type 0 where
+  pub fit : All (λ i. Fits i.command) items
+  pub walking : IsWalking items w (w.levels.items ++ v ∷ [])
+  pub more : v.next < v.end
+  pub here : slice_get items v.next ≡ Some item
+
+-- how many items are left at the top level
+abbrev pub rest : List Level → ℕ
+rest [] = 0
+rest (v ∷ vs) = v.end - v.next
+
+-- how far the end of a walk is at most
+abbrev pub distance : ℕ → List Level → ℕ
+distance count vs = 2 * (4_000_000 - count) + length vs + rest vs
+
+-- the walk has gone on from the level
+pub record IsAfter (items : List Item) (w : Walker) (v : Level) (new : Walker) : Type 0 where
+  pub walking : IsWalking items new new.levels.items
+  pub closer : distance new.count new.levels.items < distance w.count (w.levels.items ++ v ∷ [])

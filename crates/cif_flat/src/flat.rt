@@ -1,0 +1,31 @@
+//! The flattening of a file.
+
+ghost use Rattle.std.specs.Prelude.{IfOk, IfErr};
+ghost use Rattle.cif_form.specs.Walk.{FileWalks};
+ghost use Rattle.cif_form.specs.Walk.WalkEnd.{Whole};
+ghost use Rattle.cif_flat.specs.Sound.{IsWellFormed};
+ghost use Rattle.cif_flat.specs.Refusing.{RefusesWalk};
+
+use crate::walker::Walker;
+use cif_form::Cif;
+use lam_geom::{FlatLabel, Shape};
+use mp_base::{List, Refusal};
+use std::alloc::Global;
+
+/// What the commands of a file draw, all calls expanded, and its labels in the order of the file.
+#[derive(Drop)]
+pub struct Flat {
+    pub shapes: Shape,
+    pub labels: List<FlatLabel>,
+}
+
+/// Expands, moves and scales the commands of a file. The first broken rule F in the order of the walk is refused, at the
+/// offset of its command.
+pub fn flatten(alloc: Global, cif: &Cif) -> Result<Flat, Refusal>
+    requires { IsWellFormed cif.now.items }
+    ensures ok { IfOk result (λ flat. FileWalks cif.now.items flat.shapes flat.labels Whole) }
+    ensures err { IfErr result (RefusesWalk cif.now.items) }
+{
+    let walker = Walker::walk(alloc, cif.items.as_slice())?;
+    Ok(walker.into_flat())
+}

@@ -1,0 +1,77 @@
+//! Lists of commands that are being walked.
+
+ghost use Rattle.std.specs.Prelude.{◌≡◌, ◌+◌, ◌<◌, Some};
+ghost use Rattle.cif_flat.specs.Walking.{top};
+ghost use Rattle.std.specs.Bool.{OnTrue, OnFalse};
+
+use crate::placement::Placement;
+use crate::ratio::Ratio;
+use lam_geom::Layer;
+
+/// A list of commands that is being walked: the body of a symbol, or the top level, which has no symbol. Its commands
+/// from `next` on and before `end` are left.
+#[derive(Clone, Copy, Drop)]
+pub(crate) struct Level {
+    pub symbol: Option<u64>,
+    pub ratio: Ratio,
+    pub layer: Option<Layer>,
+    pub placement: Placement,
+    pub next: usize,
+    pub end: usize,
+}
+
+impl Level {
+    /// The top level of a file with so many commands.
+    pub(crate) fn top(size: usize) -> Level
+        ensures { result ≡ top size }
+    {
+        Level {
+            symbol: None,
+            ratio: Ratio::unit(),
+            layer: None,
+            placement: Placement::here(),
+            next: 0,
+            end: size,
+        }
+    }
+
+    /// Behind its next command, with a layer set or none.
+    pub(crate) fn onward(self, layer: Option<Layer>) -> Level
+        requires { self.next < self.end }
+        ensures { result ≡ record self { layer = layer; next = self.next + 1 } }
+    {
+        Level {
+            symbol: self.symbol,
+            ratio: self.ratio,
+            layer,
+            placement: self.placement,
+            next: self.next + 1,
+            end: self.end,
+        }
+    }
+
+    /// Whether it is the body of a definition of this number.
+    pub(crate) fn is_of(self, number: u64) -> bool
+        ensures yes { OnTrue result (self.symbol ≡ Some number) }
+        ensures no { OnFalse result (self.symbol ≡ Some number → ⊥) }
+    {
+        match self.symbol {
+            Some(symbol) => symbol == number,
+            None => false,
+        }
+    }
+
+    /// At a later command.
+    pub(crate) fn resumed(self, next: usize) -> Level
+        ensures { result ≡ record self { next = next } }
+    {
+        Level {
+            symbol: self.symbol,
+            ratio: self.ratio,
+            layer: self.layer,
+            placement: self.placement,
+            next,
+            end: self.end,
+        }
+    }
+}

@@ -1,0 +1,443 @@
+//! The walk.
+
+ghost use Rattle.std.specs.Prelude.{◌≡◌, ◌≢◌, ◌+◌, ◌^◌, ◌<◌, ◌≤◌, ◌++◌, ◌∷◌, [], ℕ, All, true, false, pos, ◌≤ℤ◌, length, Some, IfOk, IfErr, OnOk};
+ghost use Rattle.std.specs.Bool.{OnTrue, OnFalse};
+ghost use Rattle.std.specs.BTreeMap.{get};
+ghost use Rattle.std.specs.Ordering.{nat_cmp};
+ghost use Rattle.cif_flat.specs.Placing.{IsHeld};
+ghost use Rattle.cif_form.specs.Fits.{Fits};
+ghost use Rattle.cif_form.specs.Walk.{FileWalks};
+ghost use Rattle.cif_form.specs.Walk.WalkEnd.{Whole};
+ghost use Rattle.cif_form.specs.Expansion.{item_at};
+ghost use Rattle.cif_form.specs.declared.command.Command.TheVariants as commands;
+ghost use Rattle.cif_flat.specs.Sound.{AreClosed};
+ghost use Rattle.cif_flat.specs.Walking.{EachLevel, IsNumbered, IsOpen, entered, IsBodySize, IsWalking, IsVisit, IsAfter};
+ghost use Rattle.cif_flat.specs.Refusing.{RefusesWalk};
+
+use crate::called::{Composed, placement_of, turned_at};
+use crate::edges::Extent;
+use crate::fault::{Fault, broken};
+use crate::flat::Flat;
+use crate::label::label_of;
+use crate::layer::layer_named;
+use crate::level::Level;
+use crate::placement::Placement;
+use crate::ratio::Ratio;
+use crate::shape::{Wired, are_straight, box_edges, draw_wire, segment_count};
+use crate::symbol::Symbol;
+use crate::table::{Table, cut, found, set};
+use cif_form::{Command, Item, Turn};
+use lam_geom::{FlatLabel, Layer, Point, Rect};
+use mp_base::{List, Name, Refusal};
+use std::alloc::{AllocError, Global};
+
+const WALK_LIMIT: u64 = 4_000_000;
+
+/// A walk of the items of a file: the definitions that stand, by number; the depth where each number was opened last; the
+/// turns of calls that were composed, by the index of the call; the lists of commands that are being walked, the innermost
+/// last; and what was counted and drawn.
+#[derive(Drop)]
+pub(crate) struct Walker {
+    pub symbols: Table<Symbol>,
+    pub opened: Table<usize>,
+    pub calls: Table<Composed>,
+    pub levels: Vec<Level>,
+    pub count: u64,
+    pub shapes: List<Rect>,
+    pub labels: List<FlatLabel>,
+}
+
+impl Walker {
+    /// Goes on in a list of commands.
+    fn go_on(&mut self, level: Level, weight: u64) -> Result<(), AllocError>
+        requires { self.old.count + weight ≤ 4_000_000 }
+        ensures kept { OnOk result (self.new ≡ record self.old { count = self.old.count + weight; levels = self.new.levels }) }
+        ensures pushed { OnOk result (self.new.levels.items ≡ self.old.levels.items ++ level ∷ []) }
+    {
+        self.count += weight;
+        self.levels.push(level)?;
+        Ok(())
+    }
+
+    fn set_layer(
+        &mut self,
+        items: &[Item],
+        level: Level,
+        offset: u64,
+        name: &Name,
+    ) -> Result<(), Refusal>
+        requires { IsVisit items.now self.old level (item_at offset (commands.Layer name.now)) }
+        ensures ok { OnOk result (IsAfter items.now self.old level self.new) }
+        ensures err { IfErr result (RefusesWalk items.now) }
+    {
+        if self.count >= WALK_LIMIT {
+            return Err(broken(Fault::F7, offset));
+        }
+        let Some(layer) = layer_named(name.bytes()) else {
+            return Err(broken(Fault::F10, offset));
+        };
+        self.go_on(level.onward(Some(layer)), 1)?;
+        Ok(())
+    }
+
+    fn comment(
+        &mut self,
+        items: &[Item],
+        level: Level,
+        offset: u64,
+        text: &Name,
+    ) -> Result<(), Refusal>
+        requires { IsVisit items.now self.old level (item_at offset (commands.Comment text.now)) }
+        ensures ok { OnOk result (IsAfter items.now self.old level self.new) }
+        ensures err { IfErr result (RefusesWalk items.now) }
+    {
+        if self.count >= WALK_LIMIT {
+            return Err(broken(Fault::F7, offset));
+        }
+        self.go_on(level.onward(level.layer), 1)?;
+        Ok(())
+    }
+
+    fn draw_box(
+        &mut self,
+        items: &[Item],
+        level: Level,
+        offset: u64,
+        extent: Extent,
+        center: &Point,
+        direction: &Point,
+    ) -> Result<(), Refusal>
+        requires { IsVisit items.now self.old level (item_at offset (commands.Box extent.across extent.up center.now direction.now)) }
+        ensures ok { OnOk result (IsAfter items.now self.old level self.new) }
+        ensures err { IfErr result (RefusesWalk items.now) }
+    {
+        let edges = match box_edges(level.ratio, extent, *center, *direction) {
+            Ok(edges) => edges,
+            Err(fault) => return Err(broken(fault, offset)),
+        };
+        if self.count >= WALK_LIMIT {
+            return Err(broken(Fault::F7, offset));
+        }
+        let placed = level.placement.place(edges);
+        if !placed.are_near() {
+            return Err(broken(Fault::F8, offset));
+        }
+        let Some(layer) = level.layer else {
+            return Err(broken(Fault::F9, offset));
+        };
+        self.shapes.push(placed.rect(layer))?;
+        self.go_on(level.onward(level.layer), 1)?;
+        Ok(())
+    }
+
+    fn draw_wire(
+        &mut self,
+        items: &[Item],
+        level: Level,
+        offset: u64,
+        extent: Extent,
+        path: &[Point],
+    ) -> Result<(), Refusal>
+        requires square { extent.up ≡ extent.across }
+        requires visit { IsVisit items.now self.old level (item_at offset (commands.Wire extent.across path.now)) }
+        ensures ok { OnOk result (IsAfter items.now self.old level self.new) }
+        ensures err { IfErr result (RefusesWalk items.now) }
+    {
+        if !are_straight(path) {
+            return Err(broken(Fault::F3, offset));
+        }
+        let layer = level.layer.unwrap_or(Layer::ND);
+        let wired = draw_wire(&mut self.shapes, level, layer, extent, path)?;
+        let weight = segment_count(path) as u64;
+        match wired {
+            Wired::Uneven => Err(broken(Fault::F4, offset)),
+            Wired::Far => {
+                if weight > WALK_LIMIT - self.count {
+                    return Err(broken(Fault::F7, offset));
+                }
+                Err(broken(Fault::F8, offset))
+            }
+            Wired::Drawn => {
+                if weight > WALK_LIMIT - self.count {
+                    return Err(broken(Fault::F7, offset));
+                }
+                let Some(set) = level.layer else {
+                    return Err(broken(Fault::F9, offset));
+                };
+                self.go_on(level.onward(Some(set)), weight)?;
+                Ok(())
+            }
+        }
+    }
+
+    /// Whether a definition of a number is being expanded.
+    fn is_open(&self, level: Level, number: u64) -> bool
+        requires { EachLevel (IsNumbered self.now.opened) (self.now.levels.items ++ level ∷ []) }
+        ensures open { OnTrue result (IsOpen (self.now.levels.items ++ level ∷ []) number) }
+        ensures closed { OnFalse result (¬ IsOpen (self.now.levels.items ++ level ∷ []) number) }
+    {
+        if level.is_of(number) {
+            return true;
+        }
+        let Some(depth) = found(&self.opened, number) else {
+            return false;
+        };
+        if depth >= self.levels.len() {
+            return false;
+        }
+        self.levels[depth].is_of(number)
+    }
+
+    /// Goes into a definition that is called.
+    fn enter(
+        &mut self,
+        level: Level,
+        number: u64,
+        symbol: Symbol,
+        placement: Placement,
+    ) -> Result<(), AllocError>
+        requires count { self.old.count < 4_000_000 }
+        requires more { level.next < level.end }
+        requires outer { IsHeld (2 ^ 126) level.placement }
+        requires inner { IsHeld (2 ^ 104) placement }
+        ensures kept { OnOk result (self.new ≡ record self.old { opened = self.new.opened; count = self.old.count + 1; levels = self.new.levels }) }
+        ensures pushed { OnOk result (self.new.levels.items ≡ (self.old.levels.items ++ (record level { next = level.next + 1 } ∷ [])) ++ entered level number symbol placement ∷ []) }
+        ensures here { OnOk result (get nat_cmp self.new.opened number ≡ Some (length self.old.levels.items + 1)) }
+        ensures others { OnOk result ((k : ℕ) → k ≢ number → get nat_cmp self.new.opened k ≡ get nat_cmp self.old.opened k) }
+    {
+        let depth = self.levels.len() + 1;
+        set(&mut self.opened, number, depth)?;
+        self.count += 1;
+        self.levels.push(level.onward(level.layer))?;
+        self.levels.push(Level {
+            symbol: Some(number),
+            ratio: symbol.ratio,
+            layer: None,
+            placement: level.placement.after(placement),
+            next: symbol.first,
+            end: symbol.end,
+        })?;
+        Ok(())
+    }
+
+    fn call(
+        &mut self,
+        items: &[Item],
+        level: Level,
+        offset: u64,
+        number: &i64,
+        turns: &[Turn],
+    ) -> Result<(), Refusal>
+        requires { IsVisit items.now self.old level (item_at offset (commands.Call number.now turns.now)) }
+        ensures ok { OnOk result (IsAfter items.now self.old level self.new) }
+        ensures err { IfErr result (RefusesWalk items.now) }
+    {
+        let number = key_of(number);
+        let Some(symbol) = found(&self.symbols, number) else {
+            return Err(broken(Fault::F1, offset));
+        };
+        if self.is_open(level, number) {
+            return Err(broken(Fault::F2, offset));
+        }
+        let turned = turned_at(&mut self.calls, items, level.next, level.ratio, turns)?;
+        match placement_of(turned, symbol.ratio, self.count) {
+            Err(fault) => Err(broken(fault, offset)),
+            Ok(placement) => {
+                self.enter(level, number, symbol, placement)?;
+                Ok(())
+            }
+        }
+    }
+
+    fn define(
+        &mut self,
+        items: &[Item],
+        level: Level,
+        offset: u64,
+        number: &i64,
+        a: &i64,
+        b: &i64,
+    ) -> Result<(), Refusal>
+        requires { IsVisit items.now self.old level (item_at offset (commands.Start number.now a.now b.now)) }
+        ensures ok { OnOk result (IsAfter items.now self.old level self.new) }
+        ensures err { IfErr result (RefusesWalk items.now) }
+    {
+        let first = level.next + 1;
+        let end = first + body_size(&items[first..level.end]);
+        let ratio = Ratio::of(a, b);
+        set(
+            &mut self.symbols,
+            key_of(number),
+            Symbol { ratio, first, end },
+        )?;
+        self.go_on(level.resumed(end + 1), 0)?;
+        Ok(())
+    }
+
+    fn delete(
+        &mut self,
+        items: &[Item],
+        level: Level,
+        offset: u64,
+        number: &i64,
+    ) -> Result<(), Refusal>
+        requires { IsVisit items.now self.old level (item_at offset (commands.Delete number.now)) }
+        ensures ok { OnOk result (IsAfter items.now self.old level self.new) }
+        ensures err { IfErr result (RefusesWalk items.now) }
+    {
+        if self.count >= WALK_LIMIT {
+            return Err(broken(Fault::F7, offset));
+        }
+        cut(&mut self.symbols, key_of(number))?;
+        self.go_on(level.onward(level.layer), 1)?;
+        Ok(())
+    }
+
+    fn user(
+        &mut self,
+        alloc: Global,
+        items: &[Item],
+        level: Level,
+        offset: u64,
+        digit: &u8,
+        text: &Name,
+    ) -> Result<(), Refusal>
+        requires { IsVisit items.now self.old level (item_at offset (commands.User digit.now text.now)) }
+        ensures ok { OnOk result (IsAfter items.now self.old level self.new) }
+        ensures err { IfErr result (RefusesWalk items.now) }
+    {
+        if self.count >= WALK_LIMIT {
+            return Err(broken(Fault::F7, offset));
+        }
+        if *digit != 9 {
+            self.go_on(level.onward(level.layer), 1)?;
+            return Ok(());
+        }
+        if self.levels.len() > 0 {
+            self.go_on(level.onward(level.layer), 1)?;
+            return Ok(());
+        }
+        let Some(label) = label_of(alloc, offset, text.bytes())? else {
+            self.go_on(level.onward(level.layer), 1)?;
+            return Ok(());
+        };
+        self.labels.push(label)?;
+        self.go_on(level.onward(level.layer), 1)?;
+        Ok(())
+    }
+
+    /// Walks the next command of the innermost list.
+    fn visit(&mut self, alloc: Global, items: &[Item], level: Level) -> Result<(), Refusal>
+        requires fit { All (λ i. Fits i.command) items.now }
+        requires walking { IsWalking items.now self.old (self.old.levels.items ++ level ∷ []) }
+        requires more { level.next < level.end }
+        ensures ok { OnOk result (IsAfter items.now self.old level self.new) }
+        ensures err { IfErr result (RefusesWalk items.now) }
+    {
+        let item = &items[level.next];
+        let offset = item.offset;
+        match &item.command {
+            Command::Polygon(_) => Err(broken(Fault::F6, offset)),
+            Command::Box {
+                length,
+                width,
+                center,
+                direction,
+            } => self.draw_box(
+                items,
+                level,
+                offset,
+                Extent::of(length, width),
+                center,
+                direction,
+            ),
+            Command::Round { .. } => Err(broken(Fault::F5, offset)),
+            Command::Wire { width, path } => {
+                self.draw_wire(
+                    items,
+                    level,
+                    offset,
+                    Extent::of(width, width),
+                    path.as_slice(),
+                )
+            }
+            Command::Layer(name) => self.set_layer(items, level, offset, name),
+            Command::Start { number, a, b } => self.define(items, level, offset, number, a, b),
+            Command::Finish => unreachable!(),
+            Command::Delete(number) => self.delete(items, level, offset, number),
+            Command::Call { number, turns } => self.call(
+                items,
+                level,
+                offset,
+                number,
+                turns.as_slice(),
+            ),
+            Command::User { digit, text } => self.user(alloc, items, level, offset, digit, text),
+            Command::Comment(text) => self.comment(items, level, offset, text),
+        }
+    }
+
+    fn new(alloc: Global, items: &[Item]) -> Result<Walker, AllocError>
+        requires { AreClosed false items.now }
+        ensures { IfOk result (λ w. IsWalking items.now w w.levels.items) }
+    {
+        let mut levels = Vec::new(alloc);
+        levels.push(Level::top(items.len()))?;
+        Ok(Walker {
+            symbols: Table::new(alloc),
+            opened: Table::new(alloc),
+            calls: Table::new(alloc),
+            levels,
+            count: 0,
+            shapes: List::new(alloc),
+            labels: List::new(alloc),
+        })
+    }
+
+    /// What was drawn.
+    pub(crate) fn into_flat(self) -> Flat
+        ensures { result ≡ record { shapes = self.shapes; labels = self.labels } }
+    {
+        Flat {
+            shapes: self.shapes,
+            labels: self.labels,
+        }
+    }
+
+    /// Walks the items of a file.
+    pub(crate) fn walk(alloc: Global, items: &[Item]) -> Result<Walker, Refusal>
+        requires fit { All (λ i. Fits i.command) items.now }
+        requires closed { AreClosed false items.now }
+        ensures ok { IfOk result (λ w. FileWalks items.now w.shapes w.labels Whole) }
+        ensures err { IfErr result (RefusesWalk items.now) }
+    {
+        let mut walker = Walker::new(alloc, items)?;
+        while let Some(level) = walker.levels.pop() {
+            if level.next < level.end {
+                walker.visit(alloc, items, level)?;
+            }
+        }
+        Ok(walker)
+    }
+}
+
+/// How many commands stand before the finish of an open definition.
+fn body_size(rest: &[Item]) -> usize
+    requires { AreClosed true rest.now }
+    ensures { IsBodySize rest.now result }
+{
+    for (index, item) in rest.iter().enumerate() {
+        if let Command::Finish = item.command {
+            return index;
+        }
+    }
+    rest.len()
+}
+
+/// A number of a definition.
+fn key_of(number: &i64) -> u64
+    requires { pos 0 ≤ℤ number.now }
+    ensures { pos result ≡ number.now }
+{
+    *number as u64
+}
