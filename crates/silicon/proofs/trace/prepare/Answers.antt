@@ -18,7 +18,7 @@ returns-in_err-stimulus-clause-reason g c =
     let kept = c.in_err-stimulus.ensures.held in
     let source = if_kept _ _ _ kept c.in_ok-checked.ensures.source in
     reason_second S G _ _ _ _ _ c.from_residual-in_err-stimulus.result kept c.in_ok-checked.ensures.reason.0 c.in_ok-checked.ensures.reason.1
-    (reason_map F G _ _ _ c.from_residual-in_err-stimulus.result (for_source c.in_ok-checked.checked c.args.stimulus.now _ (subst (λ (x : CheckedProgram). ArePadsOf x.program x.pads) c.checked.view_is c.checked.invariant.0) c.args.source.now source)
+    (reason_map F G _ _ _ c.from_residual-in_err-stimulus.result (for_source c.in_ok-checked.checked c.args.stimulus.now _ (subst (λ (x : CheckedProgram). ArePadsOf x.program x.pads) c.checked.view_is c.checked.invariant.padded) c.args.source.now source)
     (reason_err F _ _ _ _ c.from_residual-in_err-stimulus.result c.from_residual-in_err-stimulus.ensures.1 c.in_err-stimulus.ensures.reason))
 
 pub returns-clause-reason : goal.returns-clause-reason
@@ -30,4 +30,4 @@ returns-clause-reason g c =
     let kept = c.in_ok-stimulus.ensures.held in
     let source = if_kept _ _ _ kept c.in_ok-checked.ensures.source in
     reason_second S G _ _ _ _ _ ok kept c.in_ok-checked.ensures.reason.0 c.in_ok-checked.ensures.reason.1
-    (reason_map F G _ _ _ ok (for_source c.in_ok-checked.checked c.args.stimulus.now _ (subst (λ (x : CheckedProgram). ArePadsOf x.program x.pads) c.checked.view_is c.checked.invariant.0) c.args.source.now source) c.in_ok-stimulus.ensures.reason)
+    (reason_map F G _ _ _ ok (for_source c.in_ok-checked.checked c.args.stimulus.now _ (subst (λ (x : CheckedProgram). ArePadsOf x.program x.pads) c.checked.view_is c.checked.invariant.padded) c.args.source.now source) c.in_ok-stimulus.ensures.reason)
