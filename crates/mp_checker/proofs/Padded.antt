@@ -4,7 +4,7 @@ use Rattle.std.specs.Prelude.{map, filter, not, ◌&&◌, ◌||◌, ◌==◌}
 use Rattle.std.specs.List.{All, AllPairs, list_all, list_any}
 use Rattle.std.specs.Str.{bytes_eq}
 use Rattle.std.proofs.lemmas.List.{map-append, get_or-map, get_or_default, length-map}
-use Rattle.std.proofs.lemmas.Bool.{leb-true, and_parts, not-true, false≢true, true≢false, cases_Bool}
+use Rattle.std.proofs.lemmas.Bool.{leb-true, and_parts, false≢true, true≢false}
 use Rattle.std.proofs.lemmas.List.Elements.{All-append, All-filter, filter_passes}
 use Rattle.std.proofs.lemmas.List.Kept.{AllPairs-cons, AllPairs-filter}
 use Rattle.std.proofs.lemmas.List.Sums.{AllPass-from_list_all}
@@ -12,7 +12,7 @@ use Rattle.mp_base.specs.declared.refusal.Place.{Place}
 use Rattle.mp_base.specs.declared.pad.Pad.{Pad}
 use Rattle.mp_base.specs.PadNames.{ArePadNames, is_pad_name, names_of, supplies}
 use Rattle.mp_base.specs.Token.{is_token, is_digit}
-use Rattle.mp_program.specs.declared.program.Way.TheVariants.{Input, Output}
+use Rattle.mp_program.specs.declared.program.Way.TheVariants.{Input}
 use Rattle.mp_program.specs.declared.program.What.{What}
 use Rattle.mp_program.specs.declared.program.What.TheVariants.{Power, Port, Signal}
 use Rattle.mp_program.specs.declared.program.Def.{Def}

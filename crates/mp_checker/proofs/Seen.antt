@@ -1,13 +1,13 @@
 -- Rules E25 and E26: pins that were seen, and ports with too few or too many.
-use Rattle.std.proofs.Common.{◌≡◌, ◌⊎◌, inl, inr, ℕ, zero, suc, ◌+◌, ◌<◌, ◌≤◌, List, [], ◌∷◌, ◌++◌, refl, sym, ◌∙◌, ap, subst, arith, length, get_or, take, append_assoc, Bool, true, false, Option, Some, None, cond}
-use Rattle.std.specs.Prelude.{◌==◌, ◌||◌, ◌&&◌, not, slice_get, eqb}
+use Rattle.std.proofs.Common.{◌≡◌, ◌⊎◌, inl, inr, ℕ, zero, suc, ◌+◌, ◌<◌, List, [], ◌∷◌, ◌++◌, refl, sym, ◌∙◌, ap, arith, length, get_or, take, append_assoc, Bool, true, false, Option, Some, None, cond}
+use Rattle.std.specs.Prelude.{◌==◌, ◌||◌, ◌&&◌, not, slice_get}
 use Rattle.std.specs.Option.{option_map}
 use Rattle.std.specs.Ordering.{nat_cmp, is_eq}
 use Rattle.std.specs.List.{list_any, flat_map}
 use Rattle.std.specs.Cmp.{nat_cmp_is}
 use Rattle.std.specs.declared.cmp.Ordering.TheVariants.{Less, Equal, Greater}
 use Rattle.std.specs.BTreeSet.{BTreeSet, contains}
-use Rattle.std.proofs.lemmas.Bool.{eqb-true, eqb-false, eq-eqb, and_parts, and_from, not-true, ne_eqb, or_cases, true≢false, false≢true, cases_Bool, cases_order}
+use Rattle.std.proofs.lemmas.Bool.{eqb-true, eqb-false, eq-eqb, and_parts, and_from, not-true, ne_eqb, or_cases, true≢false, false≢true, cases_order}
 use Rattle.std.proofs.lemmas.List.{take_more}
 use Rattle.std.proofs.lemmas.List.Concat.{flat_map-append}
 use Rattle.mp_base.specs.declared.refusal.Place.{Place}
@@ -19,7 +19,7 @@ use Rattle.mp_program.specs.declared.program.Def.{Def}
 use Rattle.mp_program.specs.declared.program.Program.{Program}
 use Rattle.mp_rules.specs.Entries.{IsAt}
 use Rattle.mp_rules.specs.Breaking.{IsEarliest, earlier}
-use Rattle.mp_rules.specs.Rules.{E25, E26, pins}
+use Rattle.mp_rules.specs.Rules.{E26}
 use Rattle.mp_checker.specs.Finding.{earliest_in, is_padded_port, uneven_port, IsRepeatedIn, SeenPins, pins_before}
 use Rattle.mp_checker.proofs.Scans.{IsFoundIn, earliest_same, earliest_more, earliest_one}
 use Rattle.mp_checker.proofs.Limited.{entry, read}
