@@ -115,7 +115,7 @@ count_map f o [] = refl
 count_map f o (x ∷ xs) = sum_by-cons (λ y. cond (up_to o y) 1 0) (f x) (map f xs) ∙ ap (λ n. cond (nat_le (f x) o) 1 0 + n) (count_map f o xs)
     ∙ sym (sum_by-cons (λ y. cond (nat_le (f y) o) 1 0) x xs)
 
-map_map : {X Y Z : Type 0} (f : X → Y) (g : Y → Z) (xs : List X) → map g (map f xs) ≡ map (λ x. g (f x)) xs
+pub map_map : {X Y Z : Type 0} (f : X → Y) (g : Y → Z) (xs : List X) → map g (map f xs) ≡ map (λ x. g (f x)) xs
 map_map f g [] = refl
 map_map f g (x ∷ xs) = ap (λ ys. g (f x) ∷ ys) (map_map f g xs)
 
