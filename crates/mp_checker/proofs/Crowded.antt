@@ -1,10 +1,10 @@
 -- Rule E40 by the 257th least of the offsets of all that has a name.
-use Rattle.std.proofs.Common.{◌≡◌, ◌⊎◌, inl, inr, ℕ, zero, suc, ◌+◌, ◌<◌, ◌≤◌, List, [], ◌∷◌, ◌++◌, refl, sym, ◌∙◌, ap, subst, arith, length, get_or, length-append, zero-add, Bool, true, false, cond, Option, None}
-use Rattle.std.specs.Prelude.{map, filter, not, nat_le, ◌&&◌}
-use Rattle.std.specs.List.{count_by, sum_by}
+use Rattle.std.proofs.Common.{◌≡◌, ◌⊎◌, inl, inr, ℕ, zero, suc, ◌+◌, ◌<◌, ◌≤◌, List, [], ◌∷◌, ◌++◌, refl, sym, ◌∙◌, ap, subst, arith, length, get_or, zero-add, Bool, true, false, cond, Option}
+use Rattle.std.specs.Prelude.{map, filter, not, nat_le}
+use Rattle.std.specs.List.{count_by}
 use Rattle.std.specs.List.Sorted.{IsNonDecreasing, IsPermutation}
 use Rattle.std.proofs.lemmas.Bool.{leb-true, le-leb, lt-leb, cases_lt, and_parts, and_from}
-use Rattle.std.proofs.lemmas.List.{map-append, length-map}
+use Rattle.std.proofs.lemmas.List.{map-append}
 use Rattle.std.proofs.lemmas.List.Sorted.{sum_by-IsPermutation}
 use Rattle.std.proofs.lemmas.List.Sums.{count_by-le-length, sum_by-cons}
 use Rattle.mp_base.specs.declared.refusal.Place.{Place}
@@ -12,7 +12,6 @@ use Rattle.mp_program.specs.declared.program.Def.{Def}
 use Rattle.mp_program.specs.declared.program.Process.{Process}
 use Rattle.mp_program.specs.declared.program.Program.{Program}
 use Rattle.mp_program.specs.Names.{is_supply}
-use Rattle.mp_rules.specs.Entries.{IsAt}
 use Rattle.mp_rules.specs.Naming.{Naming, namings, def_naming, process_naming}
 use Rattle.mp_rules.specs.Breaking.{IsEarliest}
 use Rattle.mp_rules.specs.Rules.{E40, namings_up_to}
@@ -116,7 +115,7 @@ count_map f o [] = refl
 count_map f o (x ∷ xs) = sum_by-cons (λ y. cond (up_to o y) 1 0) (f x) (map f xs) ∙ ap (λ n. cond (nat_le (f x) o) 1 0 + n) (count_map f o xs)
     ∙ sym (sum_by-cons (λ y. cond (nat_le (f y) o) 1 0) x xs)
 
-map_map : {X Y Z : Type 0} (f : X → Y) (g : Y → Z) (xs : List X) → map g (map f xs) ≡ map (λ x. g (f x)) xs
+pub map_map : {X Y Z : Type 0} (f : X → Y) (g : Y → Z) (xs : List X) → map g (map f xs) ≡ map (λ x. g (f x)) xs
 map_map f g [] = refl
 map_map f g (x ∷ xs) = ap (λ ys. g (f x) ∷ ys) (map_map f g xs)
 

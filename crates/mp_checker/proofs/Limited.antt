@@ -1,5 +1,5 @@
 -- Rules E42 and E43 by what is found in processes.
-use Rattle.std.proofs.Common.{◌≡◌, ℕ, ◌<◌, List, refl, sym, ◌∙◌, ap, Bool, true, false, Option, Some, None}
+use Rattle.std.proofs.Common.{◌≡◌, ℕ, List, refl, sym, ◌∙◌, ap, Option, Some, None}
 use Rattle.std.specs.Prelude.{nat_lt, option_and_then, slice_get}
 use Rattle.std.specs.Option.{option_map}
 use Rattle.std.proofs.lemmas.Bool.{ltb-true, lt-ltb}

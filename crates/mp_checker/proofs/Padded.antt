@@ -4,7 +4,7 @@ use Rattle.std.specs.Prelude.{map, filter, not, ◌&&◌, ◌||◌, ◌==◌}
 use Rattle.std.specs.List.{All, AllPairs, list_all, list_any}
 use Rattle.std.specs.Str.{bytes_eq}
 use Rattle.std.proofs.lemmas.List.{map-append, get_or-map, get_or_default, length-map}
-use Rattle.std.proofs.lemmas.Bool.{leb-true, and_parts, not-true, false≢true, true≢false, cases_Bool}
+use Rattle.std.proofs.lemmas.Bool.{leb-true, and_parts, false≢true, true≢false}
 use Rattle.std.proofs.lemmas.List.Elements.{All-append, All-filter, filter_passes}
 use Rattle.std.proofs.lemmas.List.Kept.{AllPairs-cons, AllPairs-filter}
 use Rattle.std.proofs.lemmas.List.Sums.{AllPass-from_list_all}
@@ -12,7 +12,7 @@ use Rattle.mp_base.specs.declared.refusal.Place.{Place}
 use Rattle.mp_base.specs.declared.pad.Pad.{Pad}
 use Rattle.mp_base.specs.PadNames.{ArePadNames, is_pad_name, names_of, supplies}
 use Rattle.mp_base.specs.Token.{is_token, is_digit}
-use Rattle.mp_program.specs.declared.program.Way.TheVariants.{Input, Output}
+use Rattle.mp_program.specs.declared.program.Way.TheVariants.{Input}
 use Rattle.mp_program.specs.declared.program.What.{What}
 use Rattle.mp_program.specs.declared.program.What.TheVariants.{Power, Port, Signal}
 use Rattle.mp_program.specs.declared.program.Def.{Def}
@@ -23,7 +23,7 @@ use Rattle.mp_program.specs.Pads.{Face, face, pad_width}
 use Rattle.mp_rules.specs.Entries.{IsAt}
 use Rattle.mp_rules.specs.Naming.{OwnNames, is_reserved, def_naming}
 use Rattle.mp_rules.specs.Rules.{E20}
-use Rattle.mp_checker.proofs.Crowded.{def_named}
+use Rattle.mp_checker.proofs.Crowded.{def_named, map_map}
 
 -- the pads of definitions of a kind
 abbrev pub faces : (What → Bool) → ℕ → List Def → List Face
@@ -111,10 +111,6 @@ pairs_append R [] ys hx hy across = hy
 pairs_append R (x ∷ xs) ys hx hy across =
     AllPairs-cons R x (xs ++ ys) (All-append (R x) xs ys (λ k d lt. hx 0 (suc k) d (omega arith) (omega (arith, lt))) (across 0 x (omega arith)))
     (pairs_append R xs ys (λ i j d ij jl. hx (suc i) (suc j) d (omega (arith, ij)) (omega (arith, jl))) hy (λ k d lt. across (suc k) d (omega (arith, lt))))
-
-map_map : {X Y Z : Type 0} (f : X → Y) (g : Y → Z) (xs : List X) → map g (map f xs) ≡ map (λ x. g (f x)) xs
-map_map f g [] = refl
-map_map f g (x ∷ xs) = ap (λ ys. g (f x) ∷ ys) (map_map f g xs)
 
 names_from : (kind : What → Bool) (w : ℕ) (defs : List Def) (pads : List Pad) → map face pads ≡ faces kind w defs
     → map (λ (p : Pad). p.name) pads ≡ map (λ (x : Def). x.name) (filter (λ (x : Def). kind x.what) defs)

@@ -1,5 +1,5 @@
 -- Rules by their numbers.
-use Rattle.std.proofs.Common.{◌≡◌, ◌⊎◌, inl, inr, ℕ, ◌+◌, ◌<◌, ◌≤◌, refl, sym, ap, subst, arith, Option, Some, None}
+use Rattle.std.proofs.Common.{◌≡◌, inl, inr, ℕ, ◌≤◌, refl, sym, subst, arith, Option}
 use Rattle.std.specs.Prelude.{◌==◌, MatchBool}
 use Rattle.mp_base.specs.declared.refusal.Place.{Place}
 use Rattle.mp_program.specs.declared.program.Program.{Program}

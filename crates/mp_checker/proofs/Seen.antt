@@ -1,14 +1,14 @@
 -- Rules E25 and E26: pins that were seen, and ports with too few or too many.
-use Rattle.std.proofs.Common.{◌≡◌, ◌⊎◌, inl, inr, ℕ, zero, suc, ◌+◌, ◌<◌, ◌≤◌, List, [], ◌∷◌, ◌++◌, refl, sym, ◌∙◌, ap, subst, arith, length, get_or, take, append_assoc, Bool, true, false, Option, Some, None, cond}
-use Rattle.std.specs.Prelude.{◌==◌, ◌||◌, ◌&&◌, not, slice_get, eqb}
+use Rattle.std.proofs.Common.{◌≡◌, ◌⊎◌, inl, inr, ℕ, zero, suc, ◌+◌, ◌<◌, List, [], ◌∷◌, ◌++◌, refl, sym, ◌∙◌, ap, arith, length, get_or, take, append_assoc, append-nil, Bool, true, false, Option, Some, None, cond}
+use Rattle.std.specs.Prelude.{◌==◌, ◌||◌, ◌&&◌, not, slice_get}
 use Rattle.std.specs.Option.{option_map}
 use Rattle.std.specs.Ordering.{nat_cmp, is_eq}
 use Rattle.std.specs.List.{list_any, flat_map}
 use Rattle.std.specs.Cmp.{nat_cmp_is}
 use Rattle.std.specs.declared.cmp.Ordering.TheVariants.{Less, Equal, Greater}
 use Rattle.std.specs.BTreeSet.{BTreeSet, contains}
-use Rattle.std.proofs.lemmas.Bool.{eqb-true, eqb-false, eq-eqb, and_parts, and_from, not-true, ne_eqb, or_cases, true≢false, false≢true, cases_Bool, cases_order}
-use Rattle.std.proofs.lemmas.List.{take_more}
+use Rattle.std.proofs.lemmas.Bool.{eqb-true, eqb-false, eq-eqb, and_parts, and_from, not-true, ne_eqb, or_cases, true≢false, false≢true, cases_order}
+use Rattle.std.proofs.lemmas.List.{take_all, take_more}
 use Rattle.std.proofs.lemmas.List.Concat.{flat_map-append}
 use Rattle.mp_base.specs.declared.refusal.Place.{Place}
 use Rattle.mp_program.specs.declared.program.Way.TheVariants.{Input, Output}
@@ -19,7 +19,7 @@ use Rattle.mp_program.specs.declared.program.Def.{Def}
 use Rattle.mp_program.specs.declared.program.Program.{Program}
 use Rattle.mp_rules.specs.Entries.{IsAt}
 use Rattle.mp_rules.specs.Breaking.{IsEarliest, earlier}
-use Rattle.mp_rules.specs.Rules.{E25, E26, pins}
+use Rattle.mp_rules.specs.Rules.{E26}
 use Rattle.mp_checker.specs.Finding.{earliest_in, is_padded_port, uneven_port, IsRepeatedIn, SeenPins, pins_before}
 use Rattle.mp_checker.proofs.Scans.{IsFoundIn, earliest_same, earliest_more, earliest_one}
 use Rattle.mp_checker.proofs.Limited.{entry, read}
@@ -91,13 +91,8 @@ repeated_push ps y at (j, k, a, b, aj, bk, jk, same, is) = elim (at_push_cases p
 repeated_kept : (ps : List Pin) (y : Pin) (at : Place) → IsRepeatedIn ps at → IsRepeatedIn (ps ++ y ∷ []) at
 repeated_kept ps y at (j, k, a, b, aj, bk, jk, same, is) = (j, k, a, b, at_push ps y j a aj, at_push ps y k b bk, jk, same, is)
 
-pub append_none : {X : Type 0} (xs : List X) → xs ++ [] ≡ xs
-append_none [] = refl
-append_none (x ∷ xs) = ap (λ ys. x ∷ ys) (append_none xs)
-
 pub take_whole : {X : Type 0} (xs : List X) → take (length xs) xs ≡ xs
-take_whole [] = refl
-take_whole (x ∷ xs) = ap (λ ys. x ∷ ys) (take_whole xs)
+take_whole xs = take_all (length xs) xs (omega arith)
 
 -- one more element of a part of a list
 pub pushed : {X : Type 0} (front xs : List X) (i : ℕ) (d : X) → i < length xs → front ++ take (i + 1) xs ≡ (front ++ take i xs) ++ get_or xs i d ∷ []
@@ -154,7 +149,7 @@ seen_none seen empty = record { numbers = empty; earliest = λ at (j, k, a, b, (
 -- the pins before an index and those of the definition there
 pub pins_more : (defs : List Def) (k : ℕ) (x : Def) → k < length defs → pins_before defs (k + 1) ≡ pins_before defs k ++ (get_or defs k x).pins
 pins_more defs k x lt = ap (flat_map (λ (d : Def). d.pins)) (take_more defs k x lt) ∙ flat_map-append (λ (d : Def). d.pins) (take k defs) (get_or defs k x ∷ [])
-    ∙ ap (λ ys. pins_before defs k ++ ys) (append_none (get_or defs k x).pins)
+    ∙ ap (λ ys. pins_before defs k ++ ys) (append-nil (get_or defs k x).pins)
 
 -- the first pin of an uneven port
 port_ways : (w : What) → is_padded_port w ≡ true → (w ≡ Port Input) ⊎ (w ≡ Port Output)

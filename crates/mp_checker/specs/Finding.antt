@@ -1,5 +1,5 @@
 -- Places where rules are broken, found in a list.
-use Rattle.std.specs.Prelude.{ℕ, ◌≡◌, ◌<◌, Bool, true, false, take, ◌^◌, ◌&&◌, not, ◌==◌, List, [], ◌∷◌, Option, Some, None, length, if◌then◌else◌, nat_le, slice_get, option_and_then}
+use Rattle.std.specs.Prelude.{ℕ, ◌≡◌, ◌<◌, Bool, true, false, take, ◌^◌, ◌&&◌, not, ◌==◌, List, Option, Some, None, length, if◌then◌else◌, nat_le, slice_get, option_and_then}
 use Rattle.std.specs.Option.{option_map}
 use Rattle.std.specs.List.{filter_map, flat_map, fold, list_any}
 use Rattle.std.specs.BTreeSet.{BTreeSet, contains}
@@ -13,7 +13,6 @@ use Rattle.mp_program.specs.declared.program.What.TheVariants.{Power, Ground, Ph
 use Rattle.mp_program.specs.declared.program.Way.TheVariants.{Input, Output}
 use Rattle.mp_program.specs.declared.program.Pin.{Pin}
 use Rattle.mp_program.specs.declared.program.Def.{Def}
-use Rattle.mp_program.specs.declared.program.Expr.{Expr}
 use Rattle.mp_program.specs.declared.program.Form.{Form}
 use Rattle.mp_program.specs.declared.program.Process.{Process}
 use Rattle.mp_program.specs.declared.program.Program.{Program}

@@ -25,7 +25,7 @@ fn supply(alloc: Global, what: What, number: u64) -> Result<Def, AllocError>
 {
     let mut pins = List::new(alloc);
     pins.push(Pin {
-        place: at(number + 10),
+        place: at(number),
         number,
     })?;
     Ok(Def {
@@ -71,15 +71,24 @@ fn supplies_alone(rt: HostRuntime) -> Result<(), Fail> {
     }
 }
 
-#[test]
-fn ground_twice(rt: HostRuntime) -> Result<(), Fail> {
-    let refused = match check(rt.alloc(), supplies(rt.alloc(), What::Ground)?) {
-        Err(Refusal::Broken(broken)) => match broken.spot {
-            Spot::At(place) => broken.rule.number == 20 && place == at(2),
+// Whether the rule of a number is broken at an offset.
+fn is_broken_at(refusal: &Refusal, number: u16, offset: u64) -> bool {
+    match refusal {
+        Refusal::Broken(broken) => match &broken.spot {
+            Spot::At(place) => broken.rule.number == number && place.offset == offset,
             _ => false,
         },
-        _ => false,
-    };
-    assert!(rt; refused);
-    Ok(())
+        Refusal::NoMemory => false,
+    }
+}
+
+#[test]
+fn ground_twice(rt: HostRuntime) -> Result<(), Fail> {
+    match check(rt.alloc(), supplies(rt.alloc(), What::Ground)?) {
+        Ok(_checked) => Err(Fail::from("passed")),
+        Err(refusal) => {
+            assert!(rt; is_broken_at(&refusal, 20, 2));
+            Ok(())
+        }
+    }
 }

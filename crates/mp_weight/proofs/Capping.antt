@@ -1,9 +1,9 @@
 -- Sums and products up to a cap.
-use Rattle.std.proofs.Common.{◌≡◌, ◌⊎◌, inl, inr, ℕ, zero, suc, ◌+◌, ◌*◌, ◌<◌, ◌≤◌, List, [], ◌∷◌, ◌++◌, refl, sym, ◌∙◌, ap, arith, length, get_or, take, replicate, slice_index, min}
+use Rattle.std.proofs.Common.{append-nil, ◌≡◌, inl, inr, ℕ, zero, suc, ◌+◌, ◌*◌, ◌<◌, ◌≤◌, List, [], ◌∷◌, ◌++◌, refl, ◌∙◌, ap, arith, length, get_or, take, replicate, slice_index, min}
 use Rattle.std.specs.List.{sum_by, flat_map, AllByRecursion}
 use Rattle.std.proofs.lemmas.Bool.{cases_lt}
 use Rattle.std.proofs.lemmas.List.Sums.{sum_by-cons, sum_by_more, sum_by-append}
-use Rattle.std.proofs.lemmas.List.{take_more, get_or-replicate, get_or_past, length-replicate}
+use Rattle.std.proofs.lemmas.List.{take_all, take_more, get_or-replicate, get_or_past, length-replicate}
 use Rattle.std.proofs.lemmas.List.Concat.{flat_map-append}
 use Rattle.mp_program.specs.declared.program.Branch.{Branch}
 use Rattle.std.proofs.Math.Nat.{mul-le-mul, mul-zero, zero-mul}
@@ -12,8 +12,7 @@ pub min_add : (c a b : ℕ) → min c (min c a + min c b) ≡ min c (a + b)
 min_add c a b = omega arith
 
 pub take_whole : {X : Type 0} (xs : List X) → take (length xs) xs ≡ xs
-take_whole [] = refl
-take_whole (x ∷ xs) = ap (λ ys. x ∷ ys) (take_whole xs)
+take_whole xs = take_all (length xs) xs (omega arith)
 
 pub zeros : (n k : ℕ) → slice_index (replicate n 0) k ≡ 0
 zeros n k = elim (cases_lt k n) [ inl lt ↦ get_or-replicate n k 0 0 lt | inr ge ↦ get_or_past (replicate n 0) k 0 (omega (arith, ge, length-replicate {A = ℕ} n 0)) ]
@@ -67,9 +66,5 @@ bodies_more f cap bs i d sum new lt before is =
     ap (λ xs. sum_by f (flat_map (λ (b : Branch). b.body) xs)) (take_more bs i d lt)
     ∙ ap (sum_by f) (flat_map-append (λ (b : Branch). b.body) (take i bs) (get_or bs i d ∷ []))
     ∙ sum_by-append f (flat_map (λ (b : Branch). b.body) (take i bs)) ((get_or bs i d).body ++ [])
-    ∙ ap (λ xs. sum_by f (flat_map (λ (b : Branch). b.body) (take i bs)) + sum_by f xs) (append_none (get_or bs i d).body) in
+    ∙ ap (λ xs. sum_by f (flat_map (λ (b : Branch). b.body) (take i bs)) + sum_by f xs) (append-nil (get_or bs i d).body) in
     omega (arith, longer, before, is)
-  where
-    append_none : (xs : List ℕ) → xs ++ [] ≡ xs
-    append_none [] = refl
-    append_none (x ∷ xs) = ap (λ ys. x ∷ ys) (append_none xs)

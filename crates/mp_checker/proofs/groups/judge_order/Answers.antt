@@ -1,5 +1,4 @@
 use Rattle.std.proofs.Common.{Some, None, refl, subst}
-use Rattle.mp_order.specs.declared.evaluation.Evaluation.{Evaluation}
 use Rattle.mp_order.specs.Evaluation.{IsEvaluation}
 use Rattle.mp_checker.proofs.Keeping.{keeps_more, refuses_first, driven_named}
 use Rattle.mp_checker.proofs.Ruled.{rule_33}

@@ -1,4 +1,4 @@
-use Rattle.std.proofs.Common.{◌≡◌, ◌<◌, ◌≤◌, ℕ, Option, Some, None, refl, subst, MatchOption}
+use Rattle.std.proofs.Common.{◌≡◌, ◌<◌, ◌≤◌, ℕ, Option, subst, MatchOption}
 use Rattle.mp_program.specs.Weight.{weight}
 use Rattle.mp_checker.proofs.Keeping.{keeps_all, light, heavy, refuses_first}
 use Rattle.mp_checker.proofs.Ruled.{rule_45}

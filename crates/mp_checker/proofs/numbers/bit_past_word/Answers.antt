@@ -1,9 +1,9 @@
-use Rattle.std.proofs.Common.{◌≡◌, None, rules, tests}
+use Rattle.std.proofs.Common.{rules, tests}
 use Rattle.std.proofs.lemmas.Iterator.{YieldsList-from_slice}
 use Rattle.std.proofs.lemmas.Iterator.Consumers.{YieldsList-from_filter_map, fold_from_yields_List}
 use Rattle.mp_program.specs.declared.program.Expr.{Expr}
 use Rattle.mp_rules.specs.Breaking.{earlier}
-use Rattle.mp_checker.specs.Finding.{earliest_in, place_that, is_past_word}
+use Rattle.mp_checker.specs.Finding.{place_that, is_past_word}
 use Rattle.mp_checker.proofs.Wide.{expr_place, past_earliest}
 use Rattle.mp_checker.proofs.numbers.bit_past_word.Goals as goal
 

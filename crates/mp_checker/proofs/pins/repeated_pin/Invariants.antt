@@ -1,4 +1,3 @@
-use Rattle.std.proofs.Common.{◌≡◌}
 use Rattle.mp_checker.specs.Finding.{SeenPins, pins_before}
 use Rattle.mp_checker.proofs.pins.repeated_pin.Given as goal
 

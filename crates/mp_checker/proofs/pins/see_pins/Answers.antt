@@ -1,16 +1,16 @@
-use Rattle.std.proofs.Common.{◌≡◌, ◌+◌, ◌++◌, ◌∷◌, [], List, length, get_or, take, refl, sym, ◌∙◌, ap, subst, arith, Option, Bool, not}
+use Rattle.std.proofs.Common.{append-nil, ◌≡◌, ◌+◌, ◌++◌, ◌∷◌, [], List, length, get_or, take, sym, ◌∙◌, ap, subst, arith, Option}
 use Rattle.std.proofs.lemmas.Bool.{not-true, not-false}
 use Rattle.mp_base.specs.declared.refusal.Place.{Place}
 use Rattle.mp_program.specs.declared.program.Pin.{Pin}
 use Rattle.mp_checker.specs.Finding.{SeenPins, pins_before}
-use Rattle.mp_checker.proofs.Seen.{append_none, grows, pushed, seen_new, seen_again, pins_more, take_whole}
+use Rattle.mp_checker.proofs.Seen.{grows, pushed, seen_new, seen_again, pins_more, take_whole}
 use Rattle.mp_checker.proofs.pins.see_pins.Goals.{then-not-branch, else-not-branch}
 use Rattle.mp_checker.proofs.pins.see_pins.Goals as goal
 
 pub loop-pin-init : goal.loop-pin-init
 loop-pin-init c =
     let P : List Pin → Type 0 = λ ps. SeenPins ps c.args.seen.now c.args.found in
-    subst P (sym (append_none (pins_before c.args.defs.now c.args.index))) c.requires.seen
+    subst P (sym (append-nil (pins_before c.args.defs.now c.args.index))) c.requires.seen
 
 none : Pin
 none = record { place = record { offset = 0; line = 0; column = 0 }; number = 0 }

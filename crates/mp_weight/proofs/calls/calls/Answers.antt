@@ -1,7 +1,6 @@
-use Rattle.std.proofs.Common.{◌≡◌, ◌+◌, ◌-◌, ◌<◌, ℕ, suc, List, length, get_or, drop, replicate, refl, ap, sym, ◌∙◌, subst, arith, slice_index, slice_set, min}
+use Rattle.std.proofs.Common.{◌≡◌, ◌+◌, ◌-◌, ◌<◌, ℕ, suc, List, length, get_or, drop, sym, ◌∙◌, subst, arith, slice_index, min}
 use Rattle.std.specs.List.{sum_by}
 use Rattle.mp_program.specs.declared.program.Form.{Form}
-use Rattle.mp_program.specs.Sound.{AllBetween}
 use Rattle.mp_program.specs.Weight.{inner, is_call}
 use Rattle.mp_weight.specs.Weighing.{AreCalls, calls_from}
 use Rattle.mp_weight.proofs.Calling.{no_calls, more_calls, all_calls, inner_behind}

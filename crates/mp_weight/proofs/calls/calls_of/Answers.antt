@@ -1,4 +1,4 @@
-use Rattle.std.proofs.Common.{◌≡◌, ◌+◌, ℕ, length, get_or, take, refl, ap, sym, ◌∙◌, arith, slice_index, min, zero-add}
+use Rattle.std.proofs.Common.{◌≡◌, ◌+◌, length, take, ap, sym, ◌∙◌, arith, slice_index, min, zero-add}
 use Rattle.std.specs.List.{sum_by, flat_map}
 use Rattle.mp_program.specs.declared.program.FormKind.{FormKind}
 use Rattle.mp_program.specs.declared.program.Branch.{Branch}

@@ -1,4 +1,4 @@
-use Rattle.std.proofs.Common.{◌≡◌, ◌+◌, length, get_or, take, refl, ap, sym, ◌∙◌, arith, slice_index, min, zero-add}
+use Rattle.std.proofs.Common.{◌≡◌, ◌+◌, length, take, ap, ◌∙◌, arith, slice_index, min}
 use Rattle.std.specs.List.{sum_by}
 use Rattle.mp_weight.proofs.Capping.{sum_more_from, take_whole}
 use Rattle.mp_weight.proofs.calls.sum_at.Goals as goal

@@ -1,6 +1,6 @@
-use Rattle.std.proofs.Common.{◌≡◌, ◌+◌, ◌<◌, ℕ, List, length, get_or, replicate, refl, ap, sym, ◌∙◌, subst, arith, slice_index}
+use Rattle.std.proofs.Common.{◌≡◌, ◌+◌, ◌<◌, ℕ, List, length, get_or, replicate, ap, sym, ◌∙◌, subst, arith}
 use Rattle.mp_program.specs.declared.program.Form.{Form}
-use Rattle.mp_weight.specs.Weighing.{AreSetCounts, counted}
+use Rattle.mp_weight.specs.Weighing.{AreSetCounts}
 use Rattle.mp_weight.proofs.Counting.{none_counted, form_counted}
 use Rattle.mp_weight.proofs.defs.set_counts.Goals as goal
 

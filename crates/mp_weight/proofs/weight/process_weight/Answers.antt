@@ -1,4 +1,4 @@
-use Rattle.std.proofs.Common.{◌≡◌, ◌+◌, ◌*◌, ℕ, List, length, ap, sym, ◌∙◌, arith, slice_index, min, zero-add}
+use Rattle.std.proofs.Common.{◌≡◌, ◌+◌, ◌*◌, ℕ, List, length, ap, ◌∙◌, slice_index, min, zero-add}
 use Rattle.std.specs.List.{sum_by}
 use Rattle.mp_weight.proofs.Capping.{min_add, min_mul}
 use Rattle.mp_weight.proofs.weight.process_weight.Goals as goal

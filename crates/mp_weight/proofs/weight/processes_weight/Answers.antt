@@ -1,6 +1,5 @@
-use Rattle.std.proofs.Common.{◌≡◌, ℕ, length, get_or, take, ap, sym, ◌∙◌, arith, min}
+use Rattle.std.proofs.Common.{◌≡◌, length, get_or, take, ap, ◌∙◌, arith, min}
 use Rattle.std.specs.List.{sum_by}
-use Rattle.mp_program.specs.declared.program.Process.{Process}
 use Rattle.mp_program.specs.Weight.{process_weight}
 use Rattle.mp_weight.proofs.Capping.{sum_more, take_whole}
 use Rattle.mp_weight.proofs.Terms.{process_term}
