@@ -1,6 +1,9 @@
 //! Runs each example over files in memory, and prints what it prints.
 #![tactic(auto)]
 
+#[cfg(test)]
+mod tests;
+
 use mp_base::{List, MemDepot, MemSink, NoMemory};
 use silicon::run;
 use std::alloc::{AllocError, Global};
