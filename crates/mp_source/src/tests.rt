@@ -6,7 +6,7 @@ use std::alloc::Global;
 use std::test::Fail;
 
 /// Rules, the offsets where they are broken first, and sources of one line.
-const BROKEN: [(u16, u64, &str); 37] = [
+const BROKEN: [(u16, u32, &str); 37] = [
     (
         20,
         98,
@@ -188,11 +188,10 @@ fn refused(alloc: Global, text: &[u8]) -> Option<(u16, Place)> {
 fn each_rule(rt: HostRuntime) -> Result<(), Fail> {
     let alloc = rt.alloc();
     for (number, offset, source) in BROKEN {
-        let column = offset as u32 + 1;
         let place = Place {
-            offset,
+            offset: u64::from(offset),
             line: 1,
-            column,
+            column: offset.saturating_add(1),
         };
         assert_eq!(rt; refused(alloc, source.as_bytes()), Some((number, place)));
     }
