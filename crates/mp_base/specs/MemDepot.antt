@@ -21,6 +21,10 @@ listed d = d.fail
 abbrev pub most : MemDepot → ℕ
 most d = d.take
 
+-- how many reads and writes have failed
+abbrev pub faults : MemDepot → ℕ × ℕ
+faults d = (d.read_faults, d.write_faults)
+
 -- whether its next call fails by its number
 abbrev pub next_fails : MemDepot → Bool
 next_fails d = list_any (λ n. n == number d) (listed d)

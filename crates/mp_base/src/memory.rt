@@ -63,7 +63,7 @@ pub struct MemDepot {
 }
 
 impl MemDepot {
-    ghost use Rattle.mp_base.specs.MemDepot.{files, number, listed, most};
+    ghost use Rattle.mp_base.specs.MemDepot.{files, number, listed, most, faults};
 
     /// No files yet. An append takes at most `take` bytes, and the calls that `fail` lists fail.
     pub fn new(alloc: Global, take: usize, fail: List<u64>) -> MemDepot
@@ -72,6 +72,7 @@ impl MemDepot {
         ensures number { number result ≡ 0 }
         ensures listed { listed result ≡ fail }
         ensures most { most result ≡ take }
+        ensures faults { faults result ≡ (0, 0) }
     {
         MemDepot {
             alloc,
@@ -91,6 +92,7 @@ impl MemDepot {
         ensures number { number self.new ≡ number self.old }
         ensures listed { listed self.new ≡ listed self.old }
         ensures most { most self.new ≡ most self.old }
+        ensures faults { faults self.new ≡ faults self.old }
     {
         let text = Vec::from_slice(self.alloc, bytes)?;
         set_text(&mut self.files, self.alloc, name, text)?;
@@ -219,6 +221,7 @@ impl MemSink {
         ensures empty { sink_bytes result ≡ [] }
         ensures number { number result ≡ 0 }
         ensures listed { listed result ≡ fail }
+        ensures faults { result.faults ≡ 0 }
     {
         MemSink {
             bytes: Vec::new(alloc),

@@ -1,8 +1,8 @@
 //! Tables for operators, and files and outputs of which each call fails in turn.
 
 use crate::{
-    Depot, Failed, List, MemDepot, MemSink, Op, ReadError, Sink, Trit, Word, join, read_file,
-    store, write_all,
+    Depot, Failed, List, MemDepot, MemSink, Name, Op, Pad, Pads, ReadError, Sink, Trit, Word, join,
+    read_file, store, write_all,
 };
 use std::alloc::{AllocError, Global};
 use std::test::Fail;
@@ -123,5 +123,29 @@ fn each_read_fails(rt: HostRuntime) -> Result<(), Fail> {
     assert_eq!(rt; depot.read_at("a", 3, &mut buf), Ok(2));
     assert_eq!(rt; depot.read_at("a", 7, &mut buf), Ok(0));
     assert_eq!(rt; depot.read_at("b", 0, &mut buf), Err(Failed));
+    Ok(())
+}
+
+// A list of one pad, a signal.
+fn one_pad(alloc: Global, name: &[u8]) -> Result<List<Pad>, Fail> {
+    let name = Name::from_slice(alloc, name)?;
+    Ok(List::from_vec(vec![in alloc; Pad { name, width: 0 }]?))
+}
+
+#[test]
+fn names_of_pads_differ(rt: HostRuntime) -> Result<(), Fail> {
+    let alloc = rt.alloc();
+    let rows = [
+        ("a", "y", true),
+        ("a", "a", false),
+        ("phia", "y", false),
+        ("a", "b c", false),
+    ];
+    for (input, output, stand) in rows {
+        let inputs = one_pad(alloc, input.as_bytes())?;
+        let outputs = one_pad(alloc, output.as_bytes())?;
+        let pads = Pads::new(alloc, inputs, outputs)?;
+        assert_eq!(rt; pads.is_some(), stand, "{input} {output}");
+    }
     Ok(())
 }
