@@ -197,3 +197,90 @@ fn each_rule(rt: HostRuntime) -> Result<(), Fail> {
     }
     Ok(())
 }
+
+/// Sources that break no rule.
+const KEPT: [&str; 8] = [
+    "(program x 1 (def 1 power)(def 2 ground)(def 3 phia)(def 4 phib)(def 5 phic)(def reset signal input 6)(process p 0 l (cond (reset (go l)) (t (go l)))))",
+    "(program x 1 (def 1 power)(def 2 ground)(def 3 phia)(def 4 phib)(def 5 phic)(def reset signal input 6)(process p 1 m (call s) (go m) s (return)))",
+    "(program x 1 (def 1 power)(def 2 ground)(def 3 phia)(def 4 phib)(def 5 phic)(def reset signal input 6)(process p 0 l (go l))(process q 0 l (go l)))",
+    "(program x 1 (def 1 power)(def 2 ground)(def 3 phia)(def 4 phib)(def 5 phic)(def a signal internal)(def b signal internal)(def c signal input 6)(always (setq a b)(setq b c)))",
+    "(program x 1 (def 1 power)(def 2 ground)(def 3 phia)(def 4 phib)(def 5 phic)(def reset signal input 6)(def r register)(process p 0 (setq r (1+ r))))",
+    "(program x 1 (def 1 power)(def 2 ground)(def 3 phia)(def 4 phib)(def 5 phic)(def reset signal input 6)(def g flag)(process p 0 l (par (setq g t)(go l))))",
+    "(program x 1 (def 1 power)(def 2 ground)(def 3 phia)(def 4 phib)(def 5 phic)(def k constant 1)(def q port output (6))(always (setq q k)))",
+    "(program x 1 (def 1 power)(def 2 ground)(def 3 phia)(def 4 phib)(def 5 phic)(def reset signal input 6)(process p 8 l (call l)))",
+];
+
+#[test]
+fn kept_sources(rt: HostRuntime) -> Result<(), Fail> {
+    for source in KEPT {
+        if source.len() <= 10000 {
+            let checked = check_source(rt.alloc(), source.as_bytes());
+            assert!(rt; checked.is_ok(), "{source}");
+        }
+    }
+    Ok(())
+}
+
+const HEAD: &str = "(program x 1 (def 1 power)(def 2 ground)(def 3 phia)(def 4 phib)(def 5 phic)";
+
+/// A source with an item again and again, numbered from 100, between a head and a tail.
+fn repeated(
+    alloc: Global,
+    head: &str,
+    item: &str,
+    close: &str,
+    tail: &str,
+    count: u32,
+) -> Result<Vec<u8>, Fail> {
+    let mut text = Vec::from_slice(alloc, head.as_bytes())?;
+    for k in 100..count.saturating_add(100) {
+        let one = format!(in alloc; "{item}{k}{close}")?;
+        text.extend_from_slice(one.as_bytes())?;
+    }
+    text.extend_from_slice(tail.as_bytes())?;
+    Ok(text)
+}
+
+/// The rule that is broken, by its number, and the offset where.
+fn found(alloc: Global, text: &[u8]) -> Option<(u16, u64)> {
+    refused(alloc, text).map(|(number, place)| (number, place.offset))
+}
+
+/// At most 256 names: the next one is refused, where it stands.
+#[test]
+fn names_at_the_limit(rt: HostRuntime) -> Result<(), Fail> {
+    let alloc = rt.alloc();
+    let full = repeated(alloc, HEAD, "(def a", " signal internal)", ")", 256)?;
+    assert_eq!(rt; found(alloc, &full), None);
+    let over = repeated(alloc, HEAD, "(def a", " signal internal)", ")", 257)?;
+    assert_eq!(rt; found(alloc, &over), Some((40, 76 + 256 * 26)));
+    Ok(())
+}
+
+/// At most 256 forms in a process: the next one is refused, where it stands. So many weigh too much besides.
+#[test]
+fn forms_at_the_limit(rt: HostRuntime) -> Result<(), Fail> {
+    let alloc = rt.alloc();
+    let head = format!(in alloc; "{HEAD}(def reset signal input 6)(process p 0")?;
+    let full = repeated(alloc, &head, " l", " (go l100)", "))", 256)?;
+    assert_eq!(rt; found(alloc, &full), Some((44, 0)));
+    let over = repeated(alloc, &head, " l", " (go l100)", "))", 257)?;
+    assert_eq!(rt; found(alloc, &over), Some((42, 114 + 256 * 15 + 6)));
+    Ok(())
+}
+
+/// Each expression adds to the weight, so over 4096 of them weigh too much.
+#[test]
+fn expressions_at_the_limit(rt: HostRuntime) -> Result<(), Fail> {
+    let alloc = rt.alloc();
+    let head = format!(in alloc;
+        "{HEAD}(def y signal internal)(def a signal input 6)(always (setq y (or"
+    )?;
+    let mut text = Vec::from_slice(alloc, head.as_bytes())?;
+    for _ in 0..4097 {
+        text.extend_from_slice(b" a")?;
+    }
+    text.extend_from_slice(b"))))")?;
+    assert_eq!(rt; found(alloc, &text), Some((44, 0)));
+    Ok(())
+}

@@ -1,8 +1,9 @@
 //! The line that tells a broken rule.
 
-ghost use Rattle.std.specs.Prelude.{◌≡◌, IfOk};
-ghost use Rattle.silicon.specs.Line.{line_of, letter_of};
+ghost use Rattle.std.specs.Prelude.{◌≡◌, ◌++◌, decimal, IfOk};
+ghost use Rattle.silicon.specs.Line.{line_of, letter_of, spot_text};
 
+use itoa::Buffer;
 use mp_base::{Broken, Family, Spot};
 use std::alloc::{AllocError, Global};
 
@@ -21,32 +22,45 @@ fn letter(family: Family) -> &'static str
     }
 }
 
+fn push_number(text: &mut Vec<u8>, number: u64) -> Result<(), AllocError>
+    ensures { IfOk result (λ u. text.new.items ≡ text.old.items ++ decimal number) }
+{
+    let mut buffer = Buffer::new();
+    text.extend_from_slice(buffer.format(number).as_bytes())
+}
+
+fn push_spot(text: &mut Vec<u8>, spot: &Spot) -> Result<(), AllocError>
+    ensures { IfOk result (λ u. text.new.items ≡ text.old.items ++ spot_text spot.now) }
+{
+    match spot {
+        Spot::At(place) => {
+            text.extend_from_slice(b" at ")?;
+            push_number(text, place.offset)?;
+            text.extend_from_slice(b" line ")?;
+            push_number(text, place.line as u64)?;
+            text.extend_from_slice(b" column ")?;
+            push_number(text, place.column as u64)
+        }
+        Spot::Offset(offset) => {
+            text.extend_from_slice(b" at ")?;
+            push_number(text, *offset)
+        }
+        Spot::Named(name) => {
+            text.push(b' ')?;
+            text.extend_from_slice(name.bytes())
+        }
+        Spot::Nowhere => Ok(()),
+    }
+}
+
 /// The line that tells a broken rule, with its line feed.
 pub fn line(alloc: Global, broken: &Broken) -> Result<Vec<u8>, AllocError>
     ensures { IfOk result (λ text. text.items ≡ line_of broken.now) }
 {
-    let letter = letter(broken.rule.family);
-    let number = broken.rule.number;
-    let head = format!(in alloc; "error {letter}{number}")?;
-    let mut text = Vec::from_slice(alloc, head.as_bytes())?;
-    match &broken.spot {
-        Spot::At(place) => {
-            let offset = place.offset;
-            let line = place.line;
-            let column = place.column;
-            let tail = format!(in alloc; " at {offset} line {line} column {column}")?;
-            text.extend_from_slice(tail.as_bytes())?;
-        }
-        Spot::Offset(offset) => {
-            let tail = format!(in alloc; " at {offset}")?;
-            text.extend_from_slice(tail.as_bytes())?;
-        }
-        Spot::Named(name) => {
-            text.push(b' ')?;
-            text.extend_from_slice(name.bytes())?;
-        }
-        Spot::Nowhere => {}
-    }
+    let mut text = Vec::from_slice(alloc, b"error ")?;
+    text.extend_from_slice(letter(broken.rule.family).as_bytes())?;
+    push_number(&mut text, broken.rule.number as u64)?;
+    push_spot(&mut text, &broken.spot)?;
     text.push(b'\n')?;
     Ok(text)
 }

@@ -3,7 +3,6 @@
 ghost use Rattle.std.specs.Prelude.{◌≡◌, ◌≤◌, Some, length, IfOk, IfSome};
 ghost use Rattle.mp_base.specs.Outside.{Keeps, bytes_of};
 ghost use Rattle.mp_program.specs.Pads.{ArePadsOf};
-ghost use Rattle.mp_program.specs.State.{zero_state};
 ghost use Rattle.stimulus.specs.Reading.{IsStimulus};
 ghost use Rattle.command_line.specs.Command.{Trace};
 ghost use Rattle.mp_source.specs.Source.{IsSource};
@@ -14,9 +13,8 @@ ghost use Rattle.silicon.specs.Run.{world_of, HasCauses, IsStrayFor, Leaves};
 use crate::files::{read_source, read_stimulus};
 use crate::halt::Halt;
 use crate::transcript::{Room, print_transcript};
-use mp_base::{Depot, NoMemory, Sink};
+use mp_base::{Depot, Sink};
 use mp_checker::Checked;
-use mp_fitting::zero_is_a_state;
 use source_run::Machine;
 use std::alloc::Global;
 use stimulus::Stimulus;
@@ -47,16 +45,6 @@ fn prepare<D: Depot>(
     Ok(Ready { checked, stimulus })
 }
 
-// The machine of a program, in the zero state.
-fn open_machine(alloc: Global, checked: &Checked) -> Result<Machine<'_>, NoMemory>
-    ensures program { IfOk result (λ machine. machine.program ≡ checked.now.program) }
-    ensures state { IfOk result (λ machine. machine.state ≡ zero_state checked.now.program) }
-{
-    checked.unbroken();
-    zero_is_a_state(checked.program());
-    Machine::open(alloc, checked.program(), checked.order())
-}
-
 /// Prints the transcript of the source's trace.
 pub fn trace<D: Depot, O: Sink>(
     alloc: Global,
@@ -71,7 +59,7 @@ pub fn trace<D: Depot, O: Sink>(
         Leaves (Ends (Trace source.now stimulus.now) result) (world depot.old out.old) (world depot.new out.new) }
 {
     let ready = prepare(alloc, depot, source, stimulus)?;
-    let mut machine = open_machine(alloc, &ready.checked)?;
+    let mut machine = Machine::open(alloc, &ready.checked)?;
     let mut room = Room::new(alloc, &ready.stimulus.pads)?;
     print_transcript(
         &ready.checked,

@@ -110,3 +110,30 @@ module _ (p : Program) (env n : List ℕ) (silence : Silence p) (defined : index
           ∙ ap (λ ws. written_at p.defs (index_of p.defs n) (effects_of p env f) ++ ws) (split fs)
           ∙ sym (append_assoc (written_at p.defs (index_of p.defs n) (effects_of p env f)) _ _)
           ∙ ap (λ ws. ws ++ written_at p.defs (index_of p.defs n) (flat_map (effects_of p env) places)) (sym (written_at-append p.defs (index_of p.defs n) (effects_of p env f) (flat_map (effects_of p env) fs)))
+
+-- where nothing is written to its name, nothing is written to a definition
+pub quiet_at : (ds : List Def) (d : ℕ) (x : Def) (es : List Effect) → d < length ds → x ≡ get_or ds d x → written x.name es ≡ [] → written_at ds d es ≡ []
+quiet_at ds d x [] lt is none = refl
+quiet_at ds d x (Goes l ∷ es) lt is none = quiet_at ds d x es lt is none
+quiet_at ds d x (Calls l ∷ es) lt is none = quiet_at ds d x es lt is none
+quiet_at ds d x (Returns ∷ es) lt is none = quiet_at ds d x es lt is none
+quiet_at ds d x (Writes y v ∷ es) lt is none =
+    by_test (is_same y x.name)
+    (λ h.
+    let some : v ∷ written x.name es ≡ [] = sym (ap (λ b. cond b (v ∷ written x.name es) (written x.name es)) h) ∙ none in
+    cc)
+    (λ h.
+    let apart : (index_of ds y == d) ≡ false = ne_eqb _ _ (λ e.
+    let there : index_of ds y < length ds = subst (λ k. k < length ds) (sym e) lt in
+    let same = named ds y x there (is ∙ ap (λ k. get_or ds k x) (sym e)) in
+    let yes = (bytes_eq-Decides y x.name).1 (sym same) in
+    let clash : true ≡ false = sym yes ∙ h in
+    cc) in
+    ap (λ b. cond b (v ∷ written_at ds d es) (written_at ds d es)) apart
+    ∙ quiet_at ds d x es lt is (sym (ap (λ b. cond b (v ∷ written x.name es) (written x.name es)) h) ∙ none))
+
+-- a mark that stands is in one of the rows
+pub marked_inside : (rows : List (List Bool)) (d f : ℕ) → get_or (get_or rows d []) f false ≡ true → d < length rows
+marked_inside [] d f h = let clash : false ≡ true = h in cc
+marked_inside (r ∷ rows) zero f h = omega arith
+marked_inside (r ∷ rows) (suc d) f h = let lt = marked_inside rows d f h in omega (arith, lt)

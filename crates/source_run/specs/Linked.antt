@@ -1,5 +1,5 @@
 -- What the names of a program mean, by index.
-use Rattle.std.specs.Prelude.{◌≡◌, ℕ, List, map, filter, position, Option}
+use Rattle.std.specs.Prelude.{◌≡◌, ℕ, ◌<◌, List, [], Bool, true, false, length, map, filter, position, slice_index_or, Option}
 use Rattle.std.specs.Option.{option_map}
 use Rattle.mp_program.specs.declared.program.ExprKind.{ExprKind}
 use Rattle.mp_program.specs.declared.program.ExprKind.TheVariants.{Named}
@@ -27,6 +27,15 @@ target defs _ = 0
 abbrev pub setters_of : Program → List ℕ → List ℕ
 setters_of p x = filter (sets p x) p.always
 
+-- a form that is marked doesn't set the name
+abbrev pub AreQuiet : Program → List ℕ → List Bool → Type 0
+AreQuiet p x marks = (f : ℕ) → f < length p.forms → slice_index_or marks f false ≡ true → sets p x f ≡ false
+
+-- the same for each definition
+pub record AllQuiet (p : Program) (marks : List (List Bool)) : Type 0 where
+  pub size : length marks ≡ length p.defs
+  pub each : (d : ℕ) (x : Def) → d < length p.defs → x ≡ slice_index_or p.defs d x → AreQuiet p x.name (slice_index_or marks d [])
+
 -- the input pad of `reset`
 abbrev pub reset_pad : List Def → Option ℕ
 reset_pad defs = option_map (pad_number defs) (position is_reset defs)
@@ -36,4 +45,5 @@ pub record AreLinks (p : Program) (links : Links) : Type 0 where
   pub forms : links.forms.items ≡ map (λ (x : Form). target p.defs x.kind) p.forms
   pub defs : links.defs.items ≡ map (λ (x : Def). index_of p.defs x.name) p.defs
   pub setters : links.setters ≡ map (λ (x : Def). setters_of p x.name) p.defs
+  pub quiet : AllQuiet p links.quiet
   pub reset : links.reset ≡ reset_pad p.defs

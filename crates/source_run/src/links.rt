@@ -1,6 +1,6 @@
 //! What the names of a program mean, found once.
 
-ghost use Rattle.std.specs.Prelude.{◌≡◌, ◌<◌, ◌≤◌, length, map, position, IfOk, IfSome};
+ghost use Rattle.std.specs.Prelude.{◌≡◌, ◌<◌, ◌≤◌, [], false, length, map, position, slice_index_or, IfOk, IfSome};
 ghost use Rattle.std.specs.List.{list_any};
 ghost use Rattle.mp_program.specs.declared.program.Def.{Def};
 ghost use Rattle.mp_program.specs.declared.program.Expr.{Expr};
@@ -8,7 +8,7 @@ ghost use Rattle.mp_program.specs.declared.program.Form.{Form};
 ghost use Rattle.mp_program.specs.Names.{index_of, is_input, is_reset, pad_number};
 ghost use Rattle.mp_program.specs.Sound.{AllBetween, BranchesFit};
 ghost use Rattle.mp_program.specs.Reads.{sets, branches_set};
-ghost use Rattle.source_run.specs.Linked.{AreLinks, named, target, setters_of, reset_pad};
+ghost use Rattle.source_run.specs.Linked.{AreLinks, AreQuiet, AllQuiet, named, target, setters_of, reset_pad};
 
 use crate::link::Links;
 use mp_base::List;
@@ -154,6 +154,31 @@ fn setters(alloc: Global, program: &Program) -> Result<List<List<u32>>, AllocErr
     Ok(list)
 }
 
+/// Which forms don't set a name.
+fn quiet_for(alloc: Global, program: &Program, name: &[u8]) -> Result<List<bool>, AllocError>
+    ensures { IfOk result (AreQuiet program.now name.now) }
+{
+    let mut marks = List::new(alloc);
+    for (i, _) in program.forms.as_slice().iter().enumerate() {
+        let quiet = match u32::try_from(i) {
+            Ok(form) => !sets(program, name, form),
+            Err(_) => false,
+        };
+        marks.push(quiet)?;
+    }
+    Ok(marks)
+}
+
+fn quiet(alloc: Global, program: &Program) -> Result<List<List<bool>>, AllocError>
+    ensures { IfOk result (AllQuiet program.now) }
+{
+    let mut list = List::new(alloc);
+    for def in program.defs.as_slice() {
+        list.push(quiet_for(alloc, program, def.name.bytes())?)?;
+    }
+    Ok(list)
+}
+
 fn is_input(what: What) -> bool
     ensures { result ≡ is_input what }
 {
@@ -201,7 +226,21 @@ impl Links {
             forms: set_by(alloc, program)?,
             defs: firsts(alloc, program)?,
             setters: setters(alloc, program)?,
+            quiet: quiet(alloc, program)?,
             reset: reset_pad(program.defs.as_slice()),
         })
+    }
+
+    /// Whether it is known that a form doesn't set a definition.
+    pub(crate) fn is_quiet(&self, target: usize, form: u32) -> bool
+        ensures { result ≡ slice_index_or (slice_index_or self.now.quiet target []) form false }
+    {
+        match self.quiet.as_slice().get(target) {
+            Some(marks) => match marks.as_slice().get(form as usize) {
+                Some(mark) => *mark,
+                None => false,
+            },
+            None => false,
+        }
     }
 }

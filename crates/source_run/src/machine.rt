@@ -7,6 +7,8 @@ use crate::seats::take_places;
 use crate::settle::settle;
 use crate::step::show;
 use mp_base::{Inputs, List, NoMemory, Outputs};
+use mp_checker::Checked;
+use mp_fitting::zero_is_a_state;
 use mp_program::Program;
 use std::alloc::Global;
 use std::marker::Model;
@@ -37,21 +39,18 @@ impl<'a> Model for Machine<'a> {
 impl<'a> Machine<'a> {
     ghost use Rattle.std.specs.Prelude.{◌≡◌, length, IfOk};
     ghost use Rattle.mp_program.specs.Pads.{input_pads, output_pads, FitsPads};
-    ghost use Rattle.mp_program.specs.State.{IsState, zero_state};
+    ghost use Rattle.mp_program.specs.State.{zero_state};
     ghost use Rattle.mp_program.specs.Trace.{IsClock};
-    ghost use Rattle.mp_program.specs.Reads.{IsOrder};
 
-    /// A machine in the zero state, which evaluates in this order.
-    pub fn open(
-        alloc: Global,
-        program: &'a Program,
-        order: &'a List<u32>,
-    ) -> Result<Machine<'a>, NoMemory>
-        requires ordered { IsOrder program.now order.now }
-        requires start { IsState program.now (zero_state program.now) }
-        ensures program { IfOk result (λ m. m.program ≡ program.now) }
-        ensures state { IfOk result (λ m. m.state ≡ zero_state program.now) }
+    /// A machine in the zero state.
+    pub fn open(alloc: Global, checked: &'a Checked) -> Result<Machine<'a>, NoMemory>
+        ensures program { IfOk result (λ m. m.program ≡ checked.now.program) }
+        ensures state { IfOk result (λ m. m.state ≡ zero_state checked.now.program) }
     {
+        let program = checked.program();
+        let order = checked.order();
+        checked.unbroken();
+        zero_is_a_state(program);
         let links = Links::find(alloc, program)?;
         let memory = Memory {
             stored: vec![in alloc; 0; program.defs.len()]?,

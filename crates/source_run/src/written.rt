@@ -41,6 +41,10 @@ fn gather(program: &Program, links: &Links, env: &[u64], form: u32, target: usiz
     requires inside { form < length program.now.forms }
     ensures { result ≡ merged (written_at program.now.defs target (effects_of program.now env.now form)) }
 {
+    if links.is_quiet(target, form) {
+        laws::silence(program);
+        return None;
+    }
     laws::sound(program);
     laws::effects(program);
     let found = program.forms.at(form);

@@ -1,4 +1,4 @@
-use Rattle.std.proofs.Common.{true, false, sym, ◌∙◌, ap, arith}
+use Rattle.std.proofs.Common.{◌<◌, true, false, sym, ◌∙◌, ap, subst, arith}
 use Rattle.std.specs.Prelude.{Some}
 use Rattle.std.specs.List.{flat_map}
 use Rattle.std.proofs.lemmas.Bool.{eq-eqb, ne_eqb}
@@ -8,9 +8,22 @@ use Rattle.mp_program.specs.Values.{value_of}
 use Rattle.mp_program.specs.Effects.{kind_effects, effects_of, branch_effects}
 use Rattle.source_run.specs.Linked.{target}
 use Rattle.source_run.specs.Written.{written_at}
-use Rattle.source_run.proofs.Entries.{made_at}
+use Rattle.source_run.proofs.Entries.{made_at, element}
+use Rattle.source_run.proofs.Targets.{quiet_at, marked_inside}
 use Rattle.source_run.proofs.Gathering.{more, set_merged}
 use Rattle.source_run.proofs.written.+gather.Goals as goal
+
+pub gather-returns-then-is_quiet : goal.gather-returns-then-is_quiet
+gather-returns-then-is_quiet t c =
+    let p = c.args.program.now in
+    let env = c.args.env.now in
+    let marks = c.args.links.now.quiet in
+    let marked = sym c.is_quiet.ensures ∙ c.if-is_quiet.true in
+    let inside = subst (λ n. c.args.target < n) c.requires.linked.quiet.size (marked_inside marks c.args.target c.args.form marked) in
+    let x = element p.defs c.args.target inside in
+    let quiet = c.requires.linked.quiet.each c.args.target x.0 inside x.1 c.args.form c.requires.inside marked in
+    sym (ap merged (quiet_at p.defs c.args.target x.0 (effects_of p env c.args.form) inside x.1
+    (c.silence.ensures env (x.0).name c.args.form c.requires.inside quiet)))
 
 pub gather-returns-then-index-target : goal.gather-returns-then-index-target
 gather-returns-then-index-target t c =
