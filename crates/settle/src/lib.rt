@@ -1,0 +1,4 @@
+//! Settling a network: the least solution, by events.
+#![tactic(auto)]
+
+mod node_set;
