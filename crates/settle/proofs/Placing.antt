@@ -10,9 +10,11 @@ module _ (count : ℕ) (order place : List ℕ) (h : IsPlaced count order place)
   pub contains_from : n < length order → get_or place n 0 < count → Contains (take count order) n
   contains_from in' lt =
       let within : get_or place n 0 < length order = h.places n in' in
-      let fits : count ≤ length order = h.counted in
-      (get_or place n 0, omega (arith, length-take count order),
-      get_or-take count order (get_or place n 0) n lt ∙ get_or_default order (get_or place n 0) n 0 within ∙ h.at_place n in')
+      let fits : count ≤ length order = h.counted in (
+        get_or place n 0,
+        omega (arith, length-take count order),
+        get_or-take count order (get_or place n 0) n lt ∙ get_or_default order (get_or place n 0) n 0 within ∙ h.at_place n in',
+      )
 
   pub place_from : Contains (take count order) n → get_or place n 0 < count
   place_from c =
