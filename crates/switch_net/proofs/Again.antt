@@ -5,11 +5,11 @@ use Rattle.mp_base.specs.declared.value.Trit.{Trit}
 use Rattle.mp_base.specs.declared.value.Trit.TheVariants.{Zero, One, X}
 use Rattle.switch_net.specs.declared.network.Channel.{Channel}
 use Rattle.switch_net.specs.Settled.{Setting, IsOn, MayBeOn, IsAgainst, Gives, IsBelow, IsSettled}
-use Rattle.switch_net.proofs.Reaching.{Reach, here, over}
+use Rattle.switch_net.specs.Reaching.{Reach, here, over, IsStrongOn, MayBeStrongOn, IsFor, IsForeign}
 use Rattle.switch_net.proofs.Rounds.{gives_kept, settled_once}
 use Rattle.switch_net.proofs.Bounds.{IsBound, IsLeastBound, settled_from_bound}
 use Rattle.switch_net.proofs.Exists.{least_bound_exists}
-use Rattle.switch_net.proofs.Marks.{IsStrongOn, MayBeStrongOn, IsFor, IsForeign, GivesBySets, by_strong, by_held, by_kept, gives_from_sets, sets_from_gives, same_trit}
+use Rattle.switch_net.proofs.Marks.{GivesBySets, by_strong, by_held, by_kept, gives_from_sets, sets_from_gives, same_trit}
 
 -- where a reach begins
 origin : (s : Setting) (ok : Channel → Type 0) (from : ℕ → Type 0) (n : ℕ) → Reach s ok from n → (a : ℕ) × from a × Reach s ok (λ x. x ≡ a) n

@@ -8,10 +8,10 @@ use Rattle.switch_net.specs.declared.network.ChannelKind.{ChannelKind}
 use Rattle.switch_net.specs.declared.network.ChannelKind.TheVariants.{Enhancement, Depletion, Partial}
 use Rattle.switch_net.specs.declared.network.Channel.{Channel}
 use Rattle.switch_net.specs.Settled.{Setting, KindIsOn, KindMayBeOn, IsOn, MayBeOn, IsAgainst, Gives, Follows, IsBelow, IsSettled}
-use Rattle.switch_net.proofs.Reaching.{Reach, here, over}
+use Rattle.switch_net.specs.Reaching.{Reach, here, over, IsStrongOn, MayBeStrongOn, IsFor, IsForeign}
 use Rattle.switch_net.proofs.Rounds.{follows_kept, gives_once}
 use Rattle.switch_net.proofs.Bounds.{IsBound, IsLeastBound, round_below_bound, settled_from_bound}
-use Rattle.switch_net.proofs.Marks.{IsStrongOn, MayBeStrongOn, IsFor, IsForeign, GivesBySets, by_strong, by_held, by_kept, gives_from_sets, sets_from_gives, same_trit}
+use Rattle.switch_net.proofs.Marks.{GivesBySets, by_strong, by_held, by_kept, gives_from_sets, sets_from_gives, same_trit}
 
 abbrev Decided : Type 0 → Type 0
 Decided P = P ⊎ (P → ⊥)

@@ -1,26 +1,14 @@
 -- The three cases by sets of nodes that are reached.
-use Rattle.std.proofs.Common.{◌≡◌, ℕ, List, [], ◌∷◌, Some, refl, inl, inr, ◌⊎◌, arith, suc}
-use Rattle.std.specs.Prelude.{◌≢◌, IsSome, Any}
+use Rattle.std.proofs.Common.{◌≡◌, ℕ, List, [], ◌∷◌, refl, inl, inr, ◌⊎◌, arith, suc}
+use Rattle.std.specs.Prelude.{◌≢◌, ◌↔◌, Any}
 use Rattle.mp_base.specs.declared.value.Trit.{Trit}
 use Rattle.mp_base.specs.declared.value.Trit.TheVariants.{Zero, One, X}
 use Rattle.switch_net.specs.declared.network.ChannelKind.{ChannelKind}
 use Rattle.switch_net.specs.declared.network.ChannelKind.TheVariants.{Enhancement, Depletion, Partial}
 use Rattle.switch_net.specs.declared.network.Channel.{Channel}
 use Rattle.switch_net.specs.Settled.{Setting, IsOn, MayBeOn, Path, IsStrong, IsWeak, IsPossible, IsAgainst, Gives}
-use Rattle.switch_net.proofs.Reaching.{Reach, HasPath, All-cons, path_from_reach, reach_from_path, reach_then}
-
-abbrev pub IsStrongOn : (ℕ → Trit) → Channel → Type 0
-IsStrongOn v c = (c.kind ≢ Depletion) × IsOn v c
-
-abbrev pub MayBeStrongOn : (ℕ → Trit) → Channel → Type 0
-MayBeStrongOn v c = (c.kind ≢ Depletion) × MayBeOn v c
-
-abbrev pub IsFor : Setting → Trit → ℕ → Type 0
-IsFor s b a = s.driver a ≡ Some b
-
--- a node that keeps what it reaches from keeping b
-abbrev pub IsForeign : Setting → Trit → ℕ → Type 0
-IsForeign s b a = (IsSome (s.driver a)) ⊎ (s.before a ≢ b)
+use Rattle.switch_net.specs.Reaching.{Reach, IsStrongOn, MayBeStrongOn, IsFor, IsForeign, GivesByReach}
+use Rattle.switch_net.proofs.Reaching.{HasPath, All-cons, path_from_reach, reach_from_path, reach_then}
 
 pub same_trit : (t u : Trit) → (t ≡ u) ⊎ (t ≢ u)
 same_trit Zero Zero = inl refl
@@ -138,3 +126,16 @@ module _ (s : Setting) (v : ℕ → Trit) (n : ℕ) (b : Trit) where
       foreign : (a : ℕ) (cs : List Channel) → IsForeign s b a → Path s a cs n → IsPossible v cs → ⊥
       foreign a cs (inl d) path po = h.alone a cs d path po
       foreign a cs (inr e) path po = e (h.charged a cs path po)
+
+  by_reach : GivesBySets → GivesByReach s v n b
+  by_reach (by_strong h none) = inl (h, none)
+  by_reach (by_held h none) = inr (inl (h, none))
+  by_reach (by_kept none) = inr (inr none)
+
+  from_reach : GivesByReach s v n b → Gives s v n b
+  from_reach (inl h) = gives_from_strong h.0 h.1
+  from_reach (inr (inl h)) = gives_from_held h.0 h.1
+  from_reach (inr (inr none)) = gives_from_kept none
+
+  pub gives_by_reach : Gives s v n b ↔ GivesByReach s v n b
+  gives_by_reach = (λ g. by_reach (sets_from_gives g), from_reach)

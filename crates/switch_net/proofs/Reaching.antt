@@ -1,13 +1,9 @@
--- Paths as an inductive family, and what a path keeps when values grow.
-use Rattle.std.proofs.Common.{◌≡◌, ℕ, List, [], ◌∷◌, None, get_or, refl, subst, arith, zero, suc}
-use Rattle.std.specs.Prelude.{Contains, All}
+-- Paths as an inductive family.
+use Rattle.std.proofs.Common.{ℕ, List, [], ◌∷◌, get_or, refl, subst, arith, zero, suc}
+use Rattle.std.specs.Prelude.{All}
 use Rattle.switch_net.specs.declared.network.Channel.{Channel}
 use Rattle.switch_net.specs.Settled.{Setting, Path}
-
--- n is reached from a node of which `from` holds, over channels that are allowed
-pub data Reach (s : Setting) (allowed : Channel → Type 0) (from : ℕ → Type 0) : ℕ → Type 0 where
-  here : {n : ℕ} → from n → Reach s allowed from n
-  over : {a b : ℕ} → (c : Channel) → Reach s allowed from a → Contains s.channels c → Contains c.ends a → Contains c.ends b → s.driver b ≡ None → allowed c → Reach s allowed from b
+use Rattle.switch_net.specs.Reaching.{Reach, here, over}
 
 -- a path of allowed channels from a node of which `from` holds
 abbrev pub HasPath : Setting → (Channel → Type 0) → (ℕ → Type 0) → ℕ → Type 0

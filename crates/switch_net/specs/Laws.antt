@@ -1,5 +1,5 @@
 -- What holds of every mask and every network.
-use Rattle.std.specs.Prelude.{◌≡◌, ℕ, List, All}
+use Rattle.std.specs.Prelude.{◌≡◌, ◌↔◌, ℕ, List, All}
 use Rattle.mp_base.specs.declared.value.Trit.{Trit}
 use Rattle.mp_base.specs.declared.pad.Pads.{Pads}
 use Rattle.mp_base.specs.declared.refusal.Broken.{Broken}
@@ -7,7 +7,8 @@ use Rattle.lam_geom.specs.declared.rect.Rect.{Rect}
 use Rattle.lam_geom.specs.declared.label.FlatLabel.{FlatLabel}
 use Rattle.lam_geom.specs.Squares.{Square, covered}
 use Rattle.switch_net.specs.declared.network.Network.{Network}
-use Rattle.switch_net.specs.Settled.{Setting, IsSettled}
+use Rattle.switch_net.specs.Settled.{Setting, Gives, IsBelow, IsSettled}
+use Rattle.switch_net.specs.Reaching.{GivesByReach}
 use Rattle.switch_net.specs.Pads.{Fit}
 use Rattle.switch_net.specs.Clock.{IsCircuitTrace}
 use Rattle.switch_net.specs.Drawn.{AreNodes, AreRegions, IsNetwork}
@@ -32,6 +33,18 @@ OneFirstOfMask =
 -- at most one rule is the first that a network breaks with these pads
 abbrev pub OneFirstOfCircuit : Type 0
 OneFirstOfCircuit = (net : Network) (pads : Pads) (a b : Broken) → IsFirstOfCircuit net pads a → IsFirstOfCircuit net pads b → a ≡ b
+
+-- what is given stays given as values grow
+abbrev pub GivesGrow : Type 0
+GivesGrow = (s : Setting) (v w : ℕ → Trit) → IsBelow v w → (n : ℕ) (b : Trit) → Gives s v n b → Gives s w n b
+
+-- at most one value is given
+abbrev pub GivesOnce : Type 0
+GivesOnce = (s : Setting) (v : ℕ → Trit) (n : ℕ) (b c : Trit) → Gives s v n b → Gives s v n c → b ≡ c
+
+-- what is given is told by what is reached
+abbrev pub GivesAlongReach : Type 0
+GivesAlongReach = (s : Setting) (v : ℕ → Trit) (n : ℕ) (b : Trit) → Gives s v n b ↔ GivesByReach s v n b
 
 -- there are settled values, whatever the channels, the drivers and the values before
 abbrev pub SettledExists : Type 0

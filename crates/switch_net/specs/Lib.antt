@@ -1,5 +1,6 @@
 pub mod OneNode
 pub mod Settled
+pub mod Reaching
 pub mod Pads
 pub mod Clock
 pub mod Sizes

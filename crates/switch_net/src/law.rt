@@ -1,7 +1,7 @@
 //! Laws of networks, for the proofs of crates above.
 
 ghost use Rattle.switch_net.specs.Cutting.{ChannelsFollowPieces, ConductorsFollowPieces};
-ghost use Rattle.switch_net.specs.Laws.{OneFirstOfCircuit, OneFirstOfMask, OneNetwork, OneNumbering, SettledExists, SettledOnce, SettlesAgain, TraceExists, TraceOnce};
+ghost use Rattle.switch_net.specs.Laws.{GivesAlongReach, GivesGrow, GivesOnce, OneFirstOfCircuit, OneFirstOfMask, OneNetwork, OneNumbering, SettledExists, SettledOnce, SettlesAgain, TraceExists, TraceOnce};
 
 use lam_geom::rectangles_are_joined;
 
@@ -23,6 +23,13 @@ pub fn network_is_determined()
 pub fn first_rule_is_determined()
     ensures mask { OneFirstOfMask }
     ensures circuit { OneFirstOfCircuit }
+{}
+
+/// What nodes are given grows with the values, is at most one value a node, and is told by what is reached.
+pub fn nodes_are_given()
+    ensures grow { GivesGrow }
+    ensures once { GivesOnce }
+    ensures reach { GivesAlongReach }
 {}
 
 /// Each network has settled values in each setting, exactly one each, and they settle to themselves.

@@ -6,6 +6,6 @@ mod network;
 
 pub use law::{
     circuits_run, first_rule_is_determined, network_is_determined, networks_settle,
-    pieces_tell_nodes,
+    nodes_are_given, pieces_tell_nodes,
 };
 pub use network::{Channel, ChannelKind, Network, Tag};

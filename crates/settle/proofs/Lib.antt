@@ -1,0 +1,9 @@
+pub mod Placing
+pub mod Listing
+pub mod Linking
+pub mod Adding
+pub mod Spreading
+pub mod Picking
+pub mod Giving
+pub mod Climbing
+pub mod Passing

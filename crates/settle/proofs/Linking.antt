@@ -1,0 +1,102 @@
+-- Channels that are listed at their ends.
+use Rattle.std.proofs.Common.{◌≡◌, ◌<◌, ◌≤◌, ◌+◌, ◌++◌, ◌∷◌, [], ℕ, List, length, get_or, take, refl, sym, ◌∙◌, ap, subst, inl, inr, ◌⊎◌, arith}
+use Rattle.std.specs.Prelude.{Contains, ◌↔◌, ◌≢◌, replicate}
+use Rattle.std.proofs.Math.ListN.{set}
+use Rattle.std.proofs.lemmas.Bool.{cases_eq}
+use Rattle.std.proofs.lemmas.List.{get_or_default, get_or-set_same, get_or-set_other}
+use Rattle.switch_net.specs.declared.network.Channel.{Channel}
+use Rattle.settle.specs.Links.{listed, AddsLink, AreLinked}
+use Rattle.settle.proofs.Listing.{below_suc, contains_push, contains_more, contains_nothing, replicate_at}
+
+pub adds_link_none : (nodes : List ℕ) (j : ℕ) (lists : List (List ℕ)) → AddsLink (take 0 nodes) j lists lists
+adds_link_none nodes j lists n i = (inl, back)
+  where
+    back : Contains (listed lists n) i ⊎ ((i ≡ j) × Contains [] n) → Contains (listed lists n) i
+    back (inl h) = h
+    back (inr h) = absurd (contains_nothing n h.1)
+
+pub adds_link_more : (nodes : List ℕ) (k j : ℕ) (old mid : List (List ℕ)) (e : ℕ) (list : List ℕ) → k < length nodes → e ≡ get_or nodes k e → e < length mid → list ≡ listed mid e ++ j ∷ []
+    → AddsLink (take k nodes) j old mid → AddsLink (take (k + 1) nodes) j old (set mid e list)
+adds_link_more nodes k j old mid e list lt is in' pushed h n i = by_node (cases_eq n e)
+  where
+    more : Contains (take (k + 1) nodes) n ↔ (Contains (take k nodes) n ⊎ (e ≡ n))
+    more = contains_more nodes k e n lt is
+
+    wider : Contains (listed old n) i ⊎ ((i ≡ j) × Contains (take k nodes) n) → (Contains (listed old n) i ⊎ ((i ≡ j) × Contains (take (k + 1) nodes) n))
+    wider (inl q) = inl q
+    wider (inr q) = inr (q.0, more.1 (inl q.1))
+
+    by_node : (n ≡ e) ⊎ (n ≢ e) → (Contains (listed (set mid e list) n) i) ↔ (Contains (listed old n) i ⊎ ((i ≡ j) × Contains (take (k + 1) nodes) n))
+    by_node (inl same) = (forth, back)
+      where
+        at : listed (set mid e list) n ≡ listed mid n ++ j ∷ []
+        at = ap (λ m. listed (set mid e list) m) same ∙ get_or-set_same mid e list [] in' ∙ pushed ∙ ap (λ m. listed mid m ++ j ∷ []) (sym same)
+
+        forth : Contains (listed (set mid e list) n) i → (Contains (listed old n) i ⊎ ((i ≡ j) × Contains (take (k + 1) nodes) n))
+        forth q = from ((contains_push (listed mid n) j i).0 (subst (λ (xs : List ℕ). Contains xs i) at q))
+          where
+            from : Contains (listed mid n) i ⊎ (j ≡ i) → (Contains (listed old n) i ⊎ ((i ≡ j) × Contains (take (k + 1) nodes) n))
+            from (inl r) = wider ((h n i).0 r)
+            from (inr r) = inr (sym r, more.1 (inr (sym same)))
+
+        back : (Contains (listed old n) i ⊎ ((i ≡ j) × Contains (take (k + 1) nodes) n)) → Contains (listed (set mid e list) n) i
+        back t = subst (λ (xs : List ℕ). Contains xs i) (sym at) ((contains_push (listed mid n) j i).1 (to t))
+          where
+            to : (Contains (listed old n) i ⊎ ((i ≡ j) × Contains (take (k + 1) nodes) n)) → Contains (listed mid n) i ⊎ (j ≡ i)
+            to (inl q) = inl ((h n i).1 (inl q))
+            to (inr q) = inr (sym q.0)
+    by_node (inr other) = (forth, back)
+      where
+        at : listed (set mid e list) n ≡ listed mid n
+        at = get_or-set_other mid e n list [] other
+
+        forth : Contains (listed (set mid e list) n) i → (Contains (listed old n) i ⊎ ((i ≡ j) × Contains (take (k + 1) nodes) n))
+        forth q = wider ((h n i).0 (subst (λ (xs : List ℕ). Contains xs i) at q))
+
+        back : (Contains (listed old n) i ⊎ ((i ≡ j) × Contains (take (k + 1) nodes) n)) → Contains (listed (set mid e list) n) i
+        back t = subst (λ (xs : List ℕ). Contains xs i) (sym at) ((h n i).1 (to t))
+          where
+            narrow : i ≡ j → Contains (take k nodes) n ⊎ (e ≡ n) → (i ≡ j) × Contains (take k nodes) n
+            narrow p (inl r) = (p, r)
+            narrow p (inr r) = absurd (other (sym r))
+
+            to : (Contains (listed old n) i ⊎ ((i ≡ j) × Contains (take (k + 1) nodes) n)) → Contains (listed old n) i ⊎ ((i ≡ j) × Contains (take k nodes) n)
+            to (inl q) = inl q
+            to (inr q) = inr (narrow q.0 (more.0 q.1))
+
+pub adds_link_all : (nodes : List ℕ) (k j : ℕ) (old new : List (List ℕ)) → take k nodes ≡ nodes → AddsLink (take k nodes) j old new → AddsLink nodes j old new
+adds_link_all nodes k j old new e h = subst (λ (xs : List ℕ). AddsLink xs j old new) e h
+
+pub linked_none : (channels : List Channel) (nodes : ℕ) (lists : List (List ℕ)) → lists ≡ replicate nodes [] → AreLinked channels 0 lists
+linked_none channels nodes lists e = record {
+  inside = λ n j h. absurd (nothing n j h);
+  ends = λ n j c h. absurd (nothing n j h);
+  all = λ n j c lt. absurd (omega arith);
+}
+  where
+    nothing : (n j : ℕ) → Contains (listed lists n) j → ⊥
+    nothing n j h =
+        let empty : listed lists n ≡ [] = ap (λ (x : List (List ℕ)). listed x n) e ∙ replicate_at nodes n [] in
+        contains_nothing j (subst (λ (xs : List ℕ). Contains xs j) empty h)
+
+pub linked_more : (channels : List Channel) (j : ℕ) (mid new : List (List ℕ)) (ch : Channel) → j < length channels → ch ≡ get_or channels j ch → AddsLink ch.ends j mid new → AreLinked channels j mid → AreLinked channels (j + 1) new
+linked_more channels j mid new ch lt is adds h = record {
+  inside = λ n i q. inside n i ((adds n i).0 q);
+  ends = λ n i c q. ends n i c ((adds n i).0 q);
+  all = λ n i c below q. all n i c q (below_suc i j below);
+}
+  where
+    at : (c : Channel) → get_or channels j c ≡ ch
+    at c = get_or_default channels j c ch lt ∙ sym is
+
+    inside : (n i : ℕ) → Contains (listed mid n) i ⊎ ((i ≡ j) × Contains ch.ends n) → i < j + 1
+    inside n i (inl q) = let b = h.inside n i q in omega arith
+    inside n i (inr q) = let e = q.0 in omega arith
+
+    ends : (n i : ℕ) (c : Channel) → Contains (listed mid n) i ⊎ ((i ≡ j) × Contains ch.ends n) → Contains (get_or channels i c).ends n
+    ends n i c (inl q) = h.ends n i c q
+    ends n i c (inr q) = subst (λ (x : Channel). Contains x.ends n) (sym (ap (λ k. get_or channels k c) q.0 ∙ at c)) q.1
+
+    all : (n i : ℕ) (c : Channel) → Contains (get_or channels i c).ends n → (i < j) ⊎ (i ≡ j) → Contains (listed new n) i
+    all n i c q (inl below) = (adds n i).1 (inl (h.all n i c below q))
+    all n i c q (inr same) = (adds n i).1 (inr (same, subst (λ (x : Channel). Contains x.ends n) (ap (λ k. get_or channels k c) same ∙ at c) q))

@@ -1,0 +1,141 @@
+//! One look at a cluster: its nodes get what they are given.
+
+ghost use Rattle.std.specs.Prelude.{◌≡◌, ◌≢◌, ◌<◌, ◌≤◌, ◌↔◌, ◌⊎◌, ℕ, None, IfOk, IsTrue, IsFalse, Contains, length};
+ghost use Rattle.mp_base.specs.declared.value.Trit.TheVariants.{X};
+ghost use Rattle.settle.specs.Values.{value_at, driver_at, IsMarked};
+ghost use Rattle.settle.specs.Board.{setting_of, nodes_of, IsMoment};
+ghost use Rattle.settle.specs.Climb.{unknown, Steps, IsStuck, Writes};
+ghost use Rattle.settle.specs.Rooms.{HaveRoom};
+
+use crate::board::Board;
+use crate::give::{gather, give};
+use crate::node_set::NodeSet;
+use crate::queue::Queue;
+use mp_base::Trit;
+use std::alloc::{AllocError, Global};
+
+/// The sets that a look at a cluster fills.
+#[derive(Drop)]
+pub(crate) struct Sets {
+    pub cluster: NodeSet,
+    pub held: NodeSet,
+    pub against: NodeSet,
+    pub zeros: NodeSet,
+    pub ones: NodeSet,
+}
+
+impl Sets {
+    pub(crate) fn new(alloc: Global, nodes: u32) -> Result<Sets, AllocError>
+        ensures { IfOk result (HaveRoom nodes) }
+    {
+        Ok(Sets {
+            cluster: NodeSet::new(alloc, nodes)?,
+            held: NodeSet::new(alloc, nodes)?,
+            against: NodeSet::new(alloc, nodes)?,
+            zeros: NodeSet::new(alloc, nodes)?,
+            ones: NodeSet::new(alloc, nodes)?,
+        })
+    }
+}
+
+/// Lets the ends of the channels that a node gates wait.
+fn wake(board: &Board<'_>, node: u32, queue: &mut Queue) {
+    let channels = board.network.channels.as_slice();
+    if let Some(numbers) = board.gated.get(node as usize) {
+        for number in numbers.as_slice() {
+            if let Some(channel) = channels.get(*number) {
+                for end in channel.ends.as_slice() {
+                    queue.push(*end);
+                }
+            }
+        }
+    }
+}
+
+fn is_unknown(value: Trit) -> bool
+    ensures { IsTrue result ↔ (value ≡ X) }
+{
+    matches!(value, Trit::X)
+}
+
+/// Gives the nodes at X among these a value. Says whether there was one.
+fn write(
+    board: &Board<'_>,
+    given: &NodeSet,
+    value: Trit,
+    values: &mut [Trit],
+    queue: &mut Queue,
+) -> bool
+    requires room { given.now.room ≡ length values.old }
+    requires value { value ≢ X }
+    ensures writes { Writes given.now.members value (value_at values.old) (value_at values.new) }
+    ensures more { IsTrue result → unknown values.new < unknown values.old }
+    ensures same { IsFalse result → values.new ≡ values.old }
+    ensures none { IsFalse result → (n : ℕ) → Contains given.now.members n → value_at values.old n ≢ X }
+{
+    let mut changed = false;
+    for node in given.as_slice() {
+        if is_unknown(values[*node as usize]) {
+            values[*node as usize] = value;
+            changed = true;
+            wake(board, *node, queue);
+        }
+    }
+    changed
+}
+
+fn mark(set: &NodeSet, marks: &mut [bool])
+    requires { set.now.room ≡ length marks.old }
+    ensures { (n : ℕ) → IsMarked marks.new n → IsMarked marks.old n ⊎ Contains set.now.members n }
+{
+    for node in set.as_slice() {
+        marks[*node as usize] = true;
+    }
+}
+
+/// Gives the cluster of a node what it is given, and marks its nodes. Says whether a value changed.
+pub(crate) fn evaluate(
+    board: &Board<'_>,
+    node: u32,
+    values: &mut [Trit],
+    sets: &mut Sets,
+    looked: &mut [bool],
+    queue: &mut Queue,
+) -> bool
+    requires moment { IsMoment board.now values.old }
+    requires node { node < nodes_of board.now }
+    requires undriven { driver_at board.now.drive.now node ≡ None }
+    requires sets { HaveRoom (nodes_of board.now) sets.old }
+    requires looked { length looked.old ≡ nodes_of board.now }
+    ensures sets { HaveRoom (nodes_of board.now) sets.new }
+    ensures steps { Steps (setting_of board.now) (value_at values.old) (value_at values.new) }
+    ensures more { IsTrue result → unknown values.new < unknown values.old }
+    ensures fewer { unknown values.new ≤ unknown values.old }
+    ensures same { IsFalse result → values.new ≡ values.old }
+    ensures stuck { IsFalse result → IsStuck (setting_of board.now) (value_at values.old) node }
+    ensures marked { IsFalse result → (n : ℕ) → IsMarked looked.new n → IsMarked looked.old n ⊎ IsStuck (setting_of board.now) (value_at values.old) n }
+{
+    gather(board, values, node, &mut sets.cluster);
+    give(
+        board,
+        values,
+        Trit::Zero,
+        &sets.cluster,
+        &mut sets.held,
+        &mut sets.against,
+        &mut sets.zeros,
+    );
+    give(
+        board,
+        values,
+        Trit::One,
+        &sets.cluster,
+        &mut sets.held,
+        &mut sets.against,
+        &mut sets.ones,
+    );
+    mark(&sets.cluster, looked);
+    let low = write(board, &sets.zeros, Trit::Zero, values, queue);
+    let high = write(board, &sets.ones, Trit::One, values, queue);
+    low || high
+}

@@ -1,0 +1,109 @@
+//! A network and its values.
+
+ghost use Rattle.std.specs.Prelude.{◌≡◌, length, IfOk, replicate};
+ghost use Rattle.mp_base.specs.declared.value.Trit.TheVariants.{X};
+ghost use Rattle.switch_net.specs.Settled.{IsSettled};
+ghost use Rattle.settle.specs.Values.{value_at, driver_at};
+
+use crate::board::Board;
+use crate::evaluate::Sets;
+use crate::links::{links_at_ends, links_at_gates};
+use crate::queue::Queue;
+use crate::solve::solve;
+use mp_base::{List, NoMemory, Trit};
+use std::alloc::Global;
+use std::marker::Model;
+use switch_net::Network;
+
+/// A network with a value at each of its nodes, and all the memory that settling takes.
+#[derive(Drop)]
+pub struct Settler {
+    network: Network,
+    at: Vec<List<usize>>,
+    gated: Vec<List<usize>>,
+    values: Vec<Trit>,
+    before: Vec<Trit>,
+    sets: Sets,
+    looked: Vec<bool>,
+    queue: Queue,
+}
+
+impl Model for Settler {
+    ghost use Rattle.settle.specs.Settler.{Settling};
+
+    ghost Value = { Settling };
+
+    ghost use Rattle.settle.specs.Sizes.{AreSized};
+
+    ghost view = { λ s. record { network = s.network; values = s.values.items } };
+
+    ghost invariant = { λ s. AreSized s.network s.at.items s.values.items s.before.items s.sets s.looked.items };
+}
+
+impl Settler {
+    /// A network all of whose nodes are X. It is dropped where memory is wanting.
+    pub fn open(alloc: Global, network: Network) -> Result<Settler, NoMemory>
+        ensures network { IfOk result (λ s. s.network ≡ network) }
+        ensures unknown { IfOk result (λ s. s.values ≡ replicate network.nodes X) }
+    {
+        let at = links_at_ends(alloc, &network)?;
+        let gated = links_at_gates(alloc, &network)?;
+        let nodes = network.nodes as usize;
+        Ok(Settler {
+            at,
+            gated,
+            values: vec![in alloc; Trit::X; nodes]?,
+            before: vec![in alloc; Trit::X; nodes]?,
+            sets: Sets::new(alloc, network.nodes)?,
+            looked: vec![in alloc; false; nodes]?,
+            queue: Queue::new(alloc, network.nodes)?,
+            network,
+        })
+    }
+
+    /// The network.
+    pub fn network(&self) -> &Network
+        ensures { result.now ≡ self.now.network }
+    {
+        &self.network
+    }
+
+    /// The value of each node.
+    pub fn values(&self) -> &[Trit]
+        ensures { result.now ≡ self.now.values }
+    {
+        self.values.as_slice()
+    }
+
+    /// Sets the value of each node, as the charge that the next settling starts from.
+    pub fn charge(&mut self, values: &[Trit])
+        requires { length values.now ≡ self.old.network.nodes }
+        ensures network { self.new.network ≡ self.old.network }
+        ensures values { self.new.values ≡ values.now }
+    {
+        self.values.copy_from_slice(values);
+    }
+
+    /// Settles the network from the values that it has, where these nodes are driven to these values.
+    pub fn settle(&mut self, drive: &[Option<Trit>])
+        requires { length drive.now ≡ self.old.network.nodes }
+        ensures network { self.new.network ≡ self.old.network }
+        ensures settled { IsSettled (record { channels = self.old.network.channels; driver = driver_at drive.now; before = value_at self.old.values }) (value_at self.new.values) }
+    {
+        self.before.copy_from_slice(&self.values);
+        let board = Board {
+            network: &self.network,
+            at: self.at.as_slice(),
+            gated: self.gated.as_slice(),
+            drive,
+            before: self.before.as_slice(),
+        };
+        solve(
+            &board,
+            &mut self.values,
+            &mut self.sets,
+            &mut self.looked,
+            &mut self.queue,
+        );
+    }
+}
