@@ -14,8 +14,6 @@ mod ratio;
 mod shape;
 mod symbol;
 mod table;
-#[cfg(test)]
-mod tests;
 mod turned;
 mod walker;
 

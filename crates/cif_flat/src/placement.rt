@@ -72,7 +72,9 @@ impl Placement {
     }
 
     fn switched_if(self, swaps: bool) -> Placement
-        ensures { result ≡ switched_if swaps self }
+        requires { IsHeld (2 ^ 104) self }
+        ensures value { result ≡ switched_if swaps self }
+        ensures held { IsHeld (2 ^ 104) result }
     {
         if swaps {
             Placement {

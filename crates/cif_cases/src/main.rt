@@ -1,0 +1,73 @@
+//! CIF files, read and flattened: what is drawn of each, or the rule that it breaks and where.
+#![tactic(auto)]
+
+mod answer;
+mod limits;
+
+use answer::answer;
+use limits::{doubled, nearly_full};
+use std::{fs, io};
+
+/// Files of which each line is a text.
+const LISTS: [&str; 5] = ["texts", "rules", "several", "shapes", "labels"];
+
+/// What follows nearly as many items as are walked.
+const LAST: [&str; 8] = [
+    "();E",
+    "();();E",
+    "W 1 0 0 1 0;E",
+    "W 1 0 0 1 0 1 1;E",
+    "();B 1 1 0 0;E",
+    "();B 1 1 0 0 1 1;E",
+    "();L XX;E",
+    "();C 3;E",
+];
+
+fn show(rt: &HostRuntime, name: &str, text: &[u8]) -> io::Result<()> {
+    let words = answer(rt.alloc(), text)?;
+    println!(rt; "{name}\n    {words}")
+}
+
+fn show_list(rt: &HostRuntime, name: &str) -> io::Result<()> {
+    let path = format!(in rt.alloc(); "{name}.txt")?;
+    let texts = fs::read(rt, path.as_str())?;
+    for text in texts.split(|byte| *byte == b'\n') {
+        if !text.is_empty() {
+            let name = String::from_utf8_lossy(rt.alloc(), text)?;
+            show(rt, name.as_str(), text)?;
+        }
+    }
+    Ok(())
+}
+
+/// The fronts of a file that are refused by another rule than C1.
+fn show_fronts(rt: &HostRuntime, text: &[u8]) -> io::Result<()> {
+    for size in 0..text.len() {
+        let words = answer(rt.alloc(), &text[..size])?;
+        if !words.starts_with("C1 at ") {
+            println!(rt; "{size} {words}")?;
+        }
+    }
+    Ok(())
+}
+
+fn show_last(rt: &HostRuntime) -> io::Result<()> {
+    for rest in LAST {
+        let text = nearly_full(rt.alloc(), rest)?;
+        show(rt, rest, text.as_bytes())?;
+    }
+    Ok(())
+}
+
+fn main(rt: HostRuntime) -> io::Result<()> {
+    for name in LISTS {
+        show_list(&rt, name)?;
+    }
+    show(&rt, "an empty file", b"")?;
+    let inverter = fs::read(&rt, "inverter.cif")?;
+    show(&rt, "an inverter", &inverter)?;
+    show_fronts(&rt, &inverter)?;
+    show_last(&rt)?;
+    let text = doubled(rt.alloc())?;
+    show(&rt, "calls, doubled 40 times", text.as_bytes())
+}
