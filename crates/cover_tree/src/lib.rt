@@ -2,6 +2,8 @@
 #![tactic(auto)]
 
 mod collect;
+mod look;
+mod nearest;
 mod node;
 mod part;
 mod raise;
