@@ -1,6 +1,6 @@
 -- Nodes that come into a set one by one.
 use Rattle.std.proofs.Common.{◌≡◌, ◌<◌, ◌≤◌, ◌+◌, ◌++◌, ◌∷◌, [], ℕ, List, Option, None, length, get_or, take, refl, sym, ◌∙◌, ap, subst, inl, inr, ◌⊎◌, arith}
-use Rattle.std.specs.Prelude.{Contains, Any, ◌↔◌}
+use Rattle.std.specs.Prelude.{Contains, Any}
 use Rattle.std.proofs.lemmas.List.{get_or_default, get_or_append_left, length_push, take_all}
 use Rattle.mp_base.specs.declared.value.Trit.{Trit}
 use Rattle.switch_net.specs.declared.network.Channel.{Channel}

@@ -1,16 +1,16 @@
 -- Values that climb to the least solution by justified steps.
 use Rattle.std.proofs.Common.{◌≡◌, ◌<◌, ◌≤◌, ◌+◌, ℕ, zero, suc, List, [], ◌∷◌, Option, Some, None, Bool, true, false, length, get_or, take, refl, sym, ◌∙◌, ap, subst, inl, inr, ◌⊎◌, arith}
-use Rattle.std.specs.Prelude.{Contains, ◌↔◌, ◌≢◌, All, unwrap_or}
+use Rattle.std.specs.Prelude.{Contains, ◌≢◌, All, unwrap_or}
 use Rattle.std.proofs.Math.ListN.{set}
-use Rattle.std.proofs.lemmas.Bool.{cases_eq, cases_lt}
-use Rattle.std.proofs.lemmas.List.{get_or_past, get_or_default, get_or-set_same, get_or-set_other, length-set, take_all}
+use Rattle.std.proofs.lemmas.Bool.{cases_eq}
+use Rattle.std.proofs.lemmas.List.{get_or-set_same, get_or-set_other, take_all}
 use Rattle.mp_base.specs.declared.value.Trit.{Trit}
 use Rattle.mp_base.specs.declared.value.Trit.TheVariants.{Zero, One, X}
 use Rattle.switch_net.specs.declared.network.Channel.{Channel}
-use Rattle.switch_net.specs.Settled.{Setting, MayBeOn, IsAgainst, Gives, IsSolution, IsBelow, IsSettled}
-use Rattle.switch_net.specs.Reaching.{Reach, here, over, IsFor, IsForeign, GivesByReach}
+use Rattle.switch_net.specs.Settled.{Setting, Gives, IsSolution, IsBelow, IsSettled}
+use Rattle.switch_net.specs.Reaching.{Reach, here, over, IsFor, GivesByReach}
 use Rattle.switch_net.specs.Laws.{GivesGrow, GivesOnce, GivesAlongReach}
-use Rattle.settle.specs.Values.{value_at, driver_at, IsMarked}
+use Rattle.settle.specs.Values.{value_at, IsMarked}
 use Rattle.settle.specs.Spread.{Picks}
 use Rattle.settle.specs.Climb.{unknown, Climbs, Steps, IsStuck, Writes}
 use Rattle.settle.proofs.Listing.{contains_more, contains_nothing}

@@ -1,16 +1,16 @@
 -- What a cluster is given, by the sources that it meets.
-use Rattle.std.proofs.Common.{◌≡◌, ◌++◌, ◌∷◌, [], ℕ, List, Option, Some, None, refl, sym, ◌∙◌, ap, subst, inl, inr, ◌⊎◌, arith}
+use Rattle.std.proofs.Common.{◌≡◌, ◌++◌, ◌∷◌, [], ℕ, List, Option, Some, None, refl, sym, ◌∙◌, ap, subst, inl, inr, ◌⊎◌}
 use Rattle.std.specs.Prelude.{Contains, ◌↔◌, ◌≢◌, IsSome}
 use Rattle.mp_base.specs.declared.value.Trit.{Trit}
 use Rattle.mp_base.specs.declared.value.Trit.TheVariants.{Zero, One, X}
 use Rattle.switch_net.specs.declared.network.Channel.{Channel}
-use Rattle.switch_net.specs.Settled.{Setting, IsOn, MayBeOn, IsAgainst, Gives}
-use Rattle.switch_net.specs.Reaching.{Reach, here, over, IsStrongOn, MayBeStrongOn, IsFor, IsForeign, GivesByReach}
+use Rattle.switch_net.specs.Settled.{Setting, IsOn, MayBeOn}
+use Rattle.switch_net.specs.Reaching.{Reach, here, over, IsStrongOn, IsFor, IsForeign, GivesByReach}
 use Rattle.switch_net.specs.Laws.{GivesAlongReach}
-use Rattle.settle.specs.declared.route.Route.TheVariants.{StrongOn, StrongMaybe, On, Maybe}
+use Rattle.settle.specs.declared.route.Route.TheVariants.{StrongOn, StrongMaybe, On}
 use Rattle.settle.specs.declared.route.Source.{Source}
 use Rattle.settle.specs.declared.route.Source.TheVariants.{For, Against, Any}
-use Rattle.settle.specs.Spread.{Uses, IsSource, IsSourceOf, Borders, Adjoins, Spreads, HoldsReached}
+use Rattle.settle.specs.Spread.{Uses, IsSource, Borders, Spreads, HoldsReached}
 use Rattle.settle.specs.Give.{IsCluster, TellGiven}
 use Rattle.settle.proofs.Listing.{contains_nothing, contains_push}
 use Rattle.settle.proofs.Spreading.{reach_then, driven_at, on_may}

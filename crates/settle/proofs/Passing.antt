@@ -1,13 +1,11 @@
 -- One pass over the nodes.
-use Rattle.std.proofs.Common.{◌≡◌, ◌<◌, ◌≤◌, ◌+◌, ℕ, List, Bool, true, false, length, refl, sym, ◌∙◌, ap, subst, inl, inr, ◌⊎◌, arith}
-use Rattle.std.specs.Prelude.{◌≢◌}
+use Rattle.std.proofs.Common.{◌≡◌, ◌<◌, ◌≤◌, ◌+◌, ℕ, List, Bool, true, false, length, sym, ◌∙◌, subst, inl, inr, ◌⊎◌, arith}
 use Rattle.mp_base.specs.declared.value.Trit.{Trit}
-use Rattle.switch_net.specs.Settled.{Setting}
 use Rattle.settle.specs.declared.board.Board.{Board}
 use Rattle.settle.specs.declared.evaluate.Sets.{Sets}
-use Rattle.settle.specs.Values.{value_at, driver_at, IsMarked}
+use Rattle.settle.specs.Values.{value_at, IsMarked}
 use Rattle.settle.specs.Board.{setting_of, nodes_of, IsMoment}
-use Rattle.settle.specs.Climb.{unknown, Climbs, Steps, IsStuck}
+use Rattle.settle.specs.Climb.{unknown, Climbs, IsStuck}
 use Rattle.settle.specs.Rooms.{HaveRoom}
 use Rattle.settle.proofs.Listing.{below_suc}
 

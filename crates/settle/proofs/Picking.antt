@@ -1,6 +1,6 @@
 -- Nodes of a list that are picked one by one.
 use Rattle.std.proofs.Common.{◌≡◌, ◌<◌, ◌≤◌, ◌+◌, ◌++◌, ◌∷◌, [], ℕ, List, length, get_or, take, sym, subst, inl, inr, ◌⊎◌, arith}
-use Rattle.std.specs.Prelude.{Contains, ◌↔◌}
+use Rattle.std.specs.Prelude.{Contains}
 use Rattle.std.proofs.lemmas.List.{take_all}
 use Rattle.settle.specs.Spread.{Picks}
 use Rattle.settle.proofs.Listing.{below_suc, contains_push, contains_more, contains_nothing, index_of}

@@ -1,9 +1,9 @@
 -- Sets of nodes by the places of all nodes.
-use Rattle.std.proofs.Common.{◌≡◌, ◌<◌, ◌≤◌, ◌+◌, ◌++◌, ◌∷◌, [], ℕ, List, length, get_or, take, refl, sym, ◌∙◌, ap, subst, inl, inr, ◌⊎◌, arith}
+use Rattle.std.proofs.Common.{◌≡◌, ◌<◌, ◌≤◌, ◌+◌, ◌++◌, ◌∷◌, [], ℕ, List, length, get_or, take, refl, sym, ◌∙◌, ap, inl, inr, ◌⊎◌, arith}
 use Rattle.std.specs.Prelude.{Contains, ◌≢◌}
 use Rattle.std.proofs.Math.ListN.{set}
 use Rattle.std.proofs.lemmas.Bool.{cases_eq, cases_lt}
-use Rattle.std.proofs.lemmas.List.{length-take, length-set, get_or-take, get_or_default, get_or-set_same, get_or-set_other, take_more, take-set-le, take_more_set}
+use Rattle.std.proofs.lemmas.List.{length-take, length-set, get_or-take, get_or_default, get_or-set_same, get_or-set_other, take-set-le, take_more_set}
 use Rattle.settle.specs.Nodes.{IsPlaced}
 
 module _ (count : ℕ) (order place : List ℕ) (h : IsPlaced count order place) (n : ℕ) where

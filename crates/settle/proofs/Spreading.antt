@@ -1,17 +1,17 @@
 -- What spreads inside a cluster is what the whole network reaches.
-use Rattle.std.proofs.Common.{◌≡◌, ◌++◌, ◌∷◌, [], ℕ, List, Option, Some, None, refl, sym, ◌∙◌, ap, subst, inl, inr, ◌⊎◌, arith}
-use Rattle.std.specs.Prelude.{Contains, ◌↔◌, ◌≢◌, IsSome}
+use Rattle.std.proofs.Common.{◌≡◌, ℕ, List, Option, Some, None, refl}
+use Rattle.std.specs.Prelude.{Contains}
 use Rattle.mp_base.specs.declared.value.Trit.{Trit}
 use Rattle.switch_net.specs.declared.network.ChannelKind.{ChannelKind}
 use Rattle.switch_net.specs.declared.network.ChannelKind.TheVariants.{Enhancement, Depletion, Partial}
 use Rattle.switch_net.specs.declared.network.Channel.{Channel}
-use Rattle.switch_net.specs.Settled.{Setting, KindIsOn, KindMayBeOn, IsOn, MayBeOn}
+use Rattle.switch_net.specs.Settled.{Setting, KindIsOn, KindMayBeOn}
 use Rattle.switch_net.specs.Reaching.{Reach, here, over}
 use Rattle.settle.specs.declared.route.Route.{Route}
 use Rattle.settle.specs.declared.route.Route.TheVariants.{StrongOn, StrongMaybe, On, Maybe}
 use Rattle.settle.specs.declared.route.Source.{Source}
 use Rattle.settle.specs.declared.route.Source.TheVariants.{For, Against, Any}
-use Rattle.settle.specs.Spread.{Uses, KindUses, IsSource, IsSourceOf, Borders, Adjoins, Spreads, Picks, HoldsReached}
+use Rattle.settle.specs.Spread.{Uses, KindUses, IsSource, IsSourceOf, Borders, Spreads, Picks, HoldsReached}
 use Rattle.settle.specs.Give.{IsCluster}
 
 pub reach_then : (s : Setting) (P Q : Channel → Type 0) (F G : ℕ → Type 0) (n : ℕ) → ((c : Channel) → P c → Q c) → ((a : ℕ) → F a → Reach s Q G a) → Reach s P F n → Reach s Q G n

@@ -135,6 +135,7 @@ pub(crate) fn evaluate(
         &mut sets.ones,
     );
     mark(&sets.cluster, looked);
+    queue.see(&sets.cluster);
     let low = write(board, &sets.zeros, Trit::Zero, values, queue);
     let high = write(board, &sets.ones, Trit::One, values, queue);
     low || high

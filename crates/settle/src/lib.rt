@@ -13,3 +13,8 @@ mod solve;
 mod spread;
 
 pub use settler::Settler;
+
+#[cfg(test)]
+mod tests;
+#[cfg(test)]
+mod twin;

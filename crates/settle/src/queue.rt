@@ -1,56 +1,121 @@
 //! Nodes that wait to be looked at.
 
+use crate::node_set::NodeSet;
 use std::alloc::{AllocError, Global};
 
-/// Nodes that wait in a ring, each at most once. They are hints alone: one that finds no room is left out.
+/// Clusters of more nodes wait until no node of a smaller one does.
+const SMALL: u32 = 16;
+
 #[derive(Drop)]
-pub(crate) struct Queue {
-    ring: Vec<u32>,
-    waits: Vec<bool>,
+struct Ring {
+    nodes: Vec<u32>,
     first: usize,
     count: usize,
 }
 
-impl Queue {
-    pub(crate) fn new(alloc: Global, room: u32) -> Result<Queue, AllocError> {
-        Ok(Queue {
-            ring: vec![in alloc; 0; room as usize]?,
-            waits: vec![in alloc; false; room as usize]?,
+/// Nodes that wait, each at most once. They are hints alone: what finds no room is left out.
+#[derive(Drop)]
+pub(crate) struct Queue {
+    soon: Ring,
+    later: Ring,
+    waits: Vec<bool>,
+    inside: Vec<bool>,
+    large: Vec<bool>,
+}
+
+impl Ring {
+    fn new(alloc: Global, room: usize) -> Result<Ring, AllocError> {
+        Ok(Ring {
+            nodes: vec![in alloc; 0; room]?,
             first: 0,
             count: 0,
         })
     }
 
-    pub(crate) fn push(&mut self, node: u32) {
-        let room = self.ring.len();
-        let at = node as usize;
-        if at < self.waits.len() && !self.waits[at] && self.count < room && self.first < room {
+    fn push(&mut self, node: u32) {
+        let room = self.nodes.len();
+        if self.count < room && self.first < room {
             let left = room - self.first;
             let last = if self.count < left {
                 self.first + self.count
             } else {
                 self.count - left
             };
-            self.ring[last] = node;
-            self.waits[at] = true;
+            self.nodes[last] = node;
             self.count += 1;
         }
     }
 
-    pub(crate) fn pop(&mut self) -> Option<u32> {
-        let room = self.ring.len();
+    fn pop(&mut self) -> Option<u32> {
+        let room = self.nodes.len();
         if self.count == 0 || self.first >= room {
             return None;
         }
-        let node = self.ring[self.first];
+        let node = self.nodes[self.first];
         self.count -= 1;
         self.first += 1;
         if self.first == room {
             self.first = 0;
         }
-        if (node as usize) < self.waits.len() {
-            self.waits[node as usize] = false;
-        }
         Some(node)
+    }
+}
+
+impl Queue {
+    pub(crate) fn new(alloc: Global, nodes: u32) -> Result<Queue, AllocError> {
+        let room = nodes as usize;
+        Ok(Queue {
+            soon: Ring::new(alloc, room)?,
+            later: Ring::new(alloc, room)?,
+            waits: vec![in alloc; false; room]?,
+            inside: vec![in alloc; false; room]?,
+            large: vec![in alloc; false; room]?,
+        })
+    }
+
+    pub(crate) fn push(&mut self, node: u32) {
+        let at = node as usize;
+        if at < self.waits.len() {
+            self.waits[at] = true;
+        }
+        if at < self.inside.len() && !self.inside[at] {
+            self.inside[at] = true;
+            if at < self.large.len() && self.large[at] {
+                self.later.push(node);
+            } else {
+                self.soon.push(node);
+            }
+        }
+    }
+
+    /// Takes the next node from a ring, and says whether it still waits.
+    pub(crate) fn pop(&mut self) -> Option<(u32, bool)> {
+        let node = match self.soon.pop() {
+            Some(node) => node,
+            None => self.later.pop()?,
+        };
+        let at = node as usize;
+        if at < self.inside.len() {
+            self.inside[at] = false;
+        }
+        if at < self.waits.len() && self.waits[at] {
+            self.waits[at] = false;
+            return Some((node, true));
+        }
+        Some((node, false))
+    }
+
+    /// The nodes of a cluster that is looked at now wait no longer.
+    pub(crate) fn see(&mut self, cluster: &NodeSet) {
+        let large = cluster.len() > SMALL;
+        for node in cluster.as_slice() {
+            let at = *node as usize;
+            if at < self.waits.len() {
+                self.waits[at] = false;
+            }
+            if at < self.large.len() {
+                self.large[at] = large;
+            }
+        }
     }
 }

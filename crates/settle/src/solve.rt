@@ -59,8 +59,8 @@ fn drain(
     for _round in 0..u64::MAX {
         match queue.pop() {
             None => return,
-            Some(node) => {
-                if node < board.network.nodes && is_open(board, values, node) {
+            Some((node, waits)) => {
+                if waits && node < board.network.nodes && is_open(board, values, node) {
                     evaluate(board, node, values, sets, looked, queue);
                 }
             }

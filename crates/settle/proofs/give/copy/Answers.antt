@@ -1,7 +1,5 @@
 use Rattle.std.proofs.Common.{◌≡◌, ◌∙◌, ◌+◌, ℕ, List, take, get_or, length, refl, sym, ap, subst, arith}
-use Rattle.std.specs.Prelude.{Contains}
 use Rattle.std.proofs.lemmas.List.{get_or_default}
-use Rattle.std.proofs.lemmas.Bool.{iff_false}
 use Rattle.settle.specs.Nodes.{Nodes}
 use Rattle.settle.specs.Spread.{Picks}
 use Rattle.settle.proofs.Picking.{picks_none, picks_more, picks_skip, picks_all}

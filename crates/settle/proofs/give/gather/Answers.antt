@@ -1,4 +1,4 @@
-use Rattle.std.proofs.Common.{◌≡◌, ◌∙◌, ◌++◌, ◌∷◌, [], ℕ, List, ap}
+use Rattle.std.proofs.Common.{◌∙◌, ◌++◌, ◌∷◌, [], ℕ, List, ap}
 use Rattle.settle.specs.Values.{value_at}
 use Rattle.settle.specs.Board.{setting_of}
 use Rattle.settle.proofs.Giving.{cluster_from}

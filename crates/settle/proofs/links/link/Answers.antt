@@ -1,7 +1,6 @@
-use Rattle.std.proofs.Common.{◌≡◌, ◌∙◌, ◌++◌, ◌∷◌, [], ℕ, List, ap, get_or, arith}
+use Rattle.std.proofs.Common.{◌∙◌, ◌++◌, ◌∷◌, [], ℕ, List, ap, get_or, arith}
 use Rattle.std.proofs.lemmas.List.{get_or_default, take_all}
-use Rattle.settle.specs.Links.{listed}
-use Rattle.settle.proofs.Linking.{adds_link_none, adds_link_more, adds_link_all}
+use Rattle.settle.proofs.Linking.{adds_link_more, adds_link_all}
 use Rattle.settle.proofs.links.link.Goals as goal
 
 pub loop-node-preserved : goal.loop-node-preserved

@@ -2,7 +2,7 @@ use Rattle.std.proofs.Common.{◌≡◌, ◌∙◌, ◌+◌, ◌++◌, ℕ, List
 use Rattle.std.proofs.lemmas.List.{take_at}
 use Rattle.switch_net.specs.declared.network.Channel.{Channel}
 use Rattle.settle.specs.Links.{AreLinked, AddsLink}
-use Rattle.settle.proofs.Linking.{linked_none, linked_more}
+use Rattle.settle.proofs.Linking.{linked_more}
 use Rattle.settle.proofs.links.links_at_ends.Goals as goal
 
 pub loop-channel-preserved : goal.loop-channel-preserved

@@ -1,10 +1,9 @@
-use Rattle.std.proofs.Common.{◌≡◌, ◌<◌, ◌≤◌, ◌⊎◌, ℕ, inl, inr, None, arith}
+use Rattle.std.proofs.Common.{inl, inr, None, arith}
 use Rattle.std.proofs.lemmas.Bool.{cases_lt}
 use Rattle.std.proofs.lemmas.List.{get_or_past}
 use Rattle.mp_base.specs.declared.value.Trit.TheVariants.{X}
-use Rattle.settle.specs.Values.{value_at, driver_at}
+use Rattle.settle.specs.Values.{value_at}
 use Rattle.settle.specs.Board.{setting_of}
-use Rattle.settle.specs.Climb.{IsStuck}
 use Rattle.settle.proofs.Climbing.{climbs_start, settled_from, past_stuck}
 use Rattle.settle.proofs.solve.solve.Goals as goal
 

@@ -1,7 +1,5 @@
-use Rattle.std.proofs.Common.{◌≡◌, ◌∙◌, ◌+◌, ◌++◌, ◌∷◌, [], ℕ, List, take, get_or, sym, ap, subst, arith}
-use Rattle.std.specs.Prelude.{Contains}
+use Rattle.std.proofs.Common.{◌∙◌, ◌+◌, ℕ, List, take, get_or, sym, ap, subst, arith}
 use Rattle.std.proofs.lemmas.List.{get_or_default}
-use Rattle.std.proofs.lemmas.Bool.{iff_false}
 use Rattle.settle.specs.Values.{driver_at}
 use Rattle.settle.specs.Nodes.{Nodes}
 use Rattle.settle.specs.Spread.{AddsEnds}

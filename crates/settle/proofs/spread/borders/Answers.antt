@@ -1,4 +1,4 @@
-use Rattle.std.proofs.Common.{◌≡◌, ◌<◌, ◌∙◌, ℕ, List, Bool, [], length, get_or, refl, sym, ap, subst, arith, rules, inl, inr, ◌⊎◌}
+use Rattle.std.proofs.Common.{◌≡◌, ◌<◌, ◌∙◌, ℕ, List, [], length, get_or, refl, sym, ap, subst, arith, rules}
 use Rattle.std.specs.Prelude.{All, Any}
 use Rattle.std.proofs.lemmas.List.{get_or_default}
 use Rattle.std.proofs.lemmas.Bool.{iff_false}
@@ -7,7 +7,7 @@ use Rattle.settle.specs.Values.{value_at}
 use Rattle.settle.specs.Board.{setting_of}
 use Rattle.settle.specs.Links.{listed}
 use Rattle.settle.specs.Spread.{Uses, IsSource}
-use Rattle.settle.proofs.Adding.{NoBorder, borders_here, borders_none, no_border_more, number_in, number_in_items, channel_at, channel_at_listed, number_listed}
+use Rattle.settle.proofs.Adding.{borders_here, borders_none, no_border_more, number_in, number_in_items, channel_at, channel_at_listed, number_listed}
 use Rattle.settle.proofs.spread.borders.Goals as goal
 use Rattle.settle.proofs.spread.borders.Goals.{else-uses-via-then-uses+else-has_source, else-uses-via-else-uses}
 

@@ -1,4 +1,4 @@
-use Rattle.std.proofs.Common.{◌≡◌, ◌∙◌, refl, arith}
+use Rattle.std.proofs.Common.{◌∙◌, refl, arith}
 use Rattle.settle.specs.Values.{value_at}
 use Rattle.settle.specs.Board.{setting_of}
 use Rattle.settle.specs.Spread.{Uses}
