@@ -13,7 +13,7 @@ pub struct Strip {
     pub colour: u8,
 }
 
-/// Strips in the order of their lower left cells, lower rows first, and the pairs of their numbers that touch.
+/// Strips in the order of their lower left cells, lower rows first, and the numbers of each two that touch, once.
 #[derive(Drop)]
 pub struct Strips {
     pub strips: Vec<Strip>,
