@@ -130,22 +130,7 @@ module _ (row : ℕ → ℕ) (runs : List Run) (last : Run) (b : IsBuilt row run
     | inr n ↦ rw (ne_eqb last.colour 0 n) (closed_some (omega arith))
   ]
 
--- cells of the open run's colour make it longer
-pub goes_on : (runs : List Run) (last : Run) (end : ℕ) → last.right < end
-    → Continues (λ _. last.colour) runs runs last (record { left = last.left; right = end; colour = last.colour }) end
-goes_on runs last end h = record {
-  right = refl;
-  built = λ row f b. let o = b.order in record {
-    complete = b.complete;
-    order = omega arith;
-    some = λ _. omega arith;
-    wide = λ _. omega arith;
-    each = λ c k l. elim (cases_lt c last.right) [ inl m ↦ b.each c k m | inr m ↦ f c m l ];
-    before = b.before;
-  };
-}
-
--- and those of another colour begin the next
+-- cells of another colour than the open run has begin the next
 pub begins : (runs : List Run) (last : Run) (end colour : ℕ) → last.right < end → last.colour ≢ colour
     → Continues (λ _. colour) runs (closed runs last) last (record { left = last.right; right = end; colour = colour }) end
 begins runs last end colour h n = record {
@@ -159,9 +144,6 @@ begins runs last end colour h n = record {
     before = λ c k e. let w = b.wide (omega arith) in n (sym (b.each c (omega arith) (omega arith)) ∙ e);
   };
 }
-
-pub stays : (colour : ℕ → ℕ) (runs : List Run) (last : Run) (end : ℕ) → last.right ≡ end → Continues colour runs runs last last end
-stays colour runs last end e = record { right = e; built = λ row f b. b }
 
 pub in_turn : (colour : ℕ → ℕ) (old mid now : List Run) (last middle next : Run) (half end : ℕ) → last.right ≤ half → half ≤ end
     → Continues colour old mid last middle half → Continues colour mid now middle next end → Continues colour old now last next end

@@ -1,5 +1,5 @@
 -- What a part covers after its halves, or it as a whole, are raised.
-use Rattle.std.proofs.Common.{◌≡◌, ℕ, ◌+◌, ◌-◌, ◌*◌, ◌/◌, ◌<◌, ◌≤◌, ◌⊎◌, inl, inr, List, set, length, refl, ◌∙◌, ap, max, arith}
+use Rattle.std.proofs.Common.{◌≡◌, ℕ, ◌+◌, ◌-◌, ◌*◌, ◌/◌, ◌<◌, ◌≤◌, ◌⊎◌, inl, inr, List, set, length, ◌∙◌, ap, max, arith}
 use Rattle.std.proofs.lemmas.Bool.{cases_lt}
 use Rattle.std.proofs.lemmas.List.{get_or-set_same, get_or-set_other}
 use Rattle.cover_tree.specs.declared.node.Node.{Node}
@@ -14,16 +14,6 @@ node_same s k n h = get_or-set_same s k n empty h
 
 node_other : (s : List Node) (j k : ℕ) (n : Node) → (k ≡ j → ⊥) → node (set s j n) k ≡ node s k
 node_other s j k n h = get_or-set_other s j k n empty h
-
--- a span beside the part raises nothing
-pub raised_none : (s : List Node) (p : Part) (span : Span) (row : ℕ) → clamped span p.base ≡ clamped span (p.base + p.width) → Sound s p
-    → IsPartRaised s s p span row
-raised_none s p span row e v = record {
-  inside = λ c i h k. let i0 = i.from in let i1 = i.to in absurd (omega arith);
-  beside = λ c i h. refl;
-  sound = v;
-  outside = record { before = λ k l. refl; after = λ k l. refl };
-}
 
 set_left : (s : List Node) (p : Part) (n : Node) → SamePart s (set s p.at n) (left_half p)
 set_left s p n = record { same = λ k l m. node_other s p.at k n (omega arith) }

@@ -3,7 +3,7 @@ use Rattle.std.proofs.Common.{◌≡◌, ℕ, zero, suc, ◌+◌, ◌-◌, ◌*�
 use Rattle.std.proofs.lemmas.Bool.{cases_lt, lt-ltb, le-ltb}
 use Rattle.cover_tree.specs.declared.node.Node.{Node}
 use Rattle.cover_tree.specs.declared.part.Part.{Part}
-use Rattle.cover_tree.specs.Parts.{node, left_half, right_half, top_to, top_of, InPart, Within, Sound}
+use Rattle.cover_tree.specs.Parts.{node, left_half, right_half, top_to, top_of, InPart, Within, Sound, IsSmall}
 use Rattle.cover_tree.specs.Parts.Within.{here, left, right}
 
 pub at_leaf : (depth : ℕ) (s : List Node) (p : Part) (c : ℕ) → p.width < 2 → top_to depth s p c ≡ (node s p.at).top
@@ -126,3 +126,9 @@ sound_whole s p a f g = record {
   low = λ q w c i. ((bounds s p q a f g w).each c i).0;
   high = λ q w c i. ((bounds s p q a f g w).each c i).1;
 }
+
+pub small_left : (p : Part) → 2 ≤ p.width → IsSmall p → IsSmall (left_half p)
+small_left p h s = let a = s.places in let b = s.cells in record { some = omega arith; places = omega arith; cells = omega arith }
+
+pub small_right : (p : Part) → 2 ≤ p.width → IsSmall p → IsSmall (right_half p)
+small_right p h s = let a = s.places in let b = s.cells in record { some = omega arith; places = omega arith; cells = omega arith }

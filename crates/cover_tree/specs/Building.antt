@@ -7,7 +7,7 @@ use Rattle.mask_runs.specs.Runs.{AreRuns}
 abbrev pub upto : ℕ → (ℕ → ℕ) → ℕ → ℕ
 upto end row c = if nat_lt c end then row c else 0
 
--- the runs of the row up to the open run, which the colour of no cell to its left goes on in
+-- the complete runs are those of the row up to the open one, whose cells have its colour, and the cell before them another
 pub record IsBuilt (row : ℕ → ℕ) (runs : List Run) (last : Run) : Type 0 where
   pub complete : AreRuns (upto last.left row) runs
   pub order : last.left ≤ last.right
@@ -20,7 +20,7 @@ pub record IsBuilt (row : ℕ → ℕ) (runs : List Run) (last : Run) : Type 0 w
 abbrev pub closed : List Run → Run → List Run
 closed runs last = if last.colour == 0 then runs else runs ++ last ∷ []
 
--- in any row that has these colours up to a cell, the runs are built up to there
+-- the runs are built up to a cell in any row that has these colours there, where they were built before in that row
 pub record Continues (colour : ℕ → ℕ) (old now : List Run) (last next : Run) (end : ℕ) : Type 0 where
   pub right : next.right ≡ end
   pub built : (row : ℕ → ℕ) → ((c : ℕ) → last.right ≤ c → c < end → row c ≡ colour c) → IsBuilt row old last → IsBuilt row now next

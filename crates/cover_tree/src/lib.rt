@@ -7,6 +7,8 @@ mod nearest;
 mod node;
 mod part;
 mod raise;
+#[cfg(test)]
+mod tests;
 mod tree;
 mod trees;
 

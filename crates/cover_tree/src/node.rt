@@ -1,7 +1,7 @@
 //! Nodes of a tree.
 
-/// What a tree knows of a part of its cells: the part as a whole is covered below the row `top`, and each cell of it up to
-/// a row from `low` to `high`.
+/// What a tree knows of a part of its cells: the part as a whole is covered in the rows below `top`, and each cell of it, in
+/// its parts too, up to a row from `low` to `high`.
 #[derive(Clone, Copy, Drop)]
 pub(crate) struct Node {
     pub top: u32,

@@ -12,7 +12,8 @@ use mask_runs::{Layers, Mask, Run};
 use mp_base::NoMemory;
 use std::alloc::Global;
 
-/// How far up the layers of a mask cover each cell of a row.
+/// Up to which row the layers of a mask cover each of a row of cells: a tree of halves for each layer that the mask uses,
+/// of 24 bytes a cell. What covers a part of the cells as a whole is kept at the part.
 #[derive(Drop)]
 pub struct CoverTree {
     mask: Mask,
@@ -38,7 +39,8 @@ impl CoverTree {
         Ok(CoverTree { mask, cells, trees })
     }
 
-    /// Covers the cells from `from` up to `to` with a layer in the rows below `row` besides.
+    /// Covers the cells from `from` up to `to` with a layer in the rows below `row` besides. Its time is the logarithm of the
+    /// cells.
     pub fn raise(&mut self, layer: Layer, from: u32, to: u32, row: u32)
         requires used { uses (cover_of self.old).mask layer ≡ true }
         requires within { to ≤ (cover_of self.old).cells }
@@ -48,7 +50,9 @@ impl CoverTree {
         self.trees.raise(layer, root, Span { from, to }, row);
     }
 
-    /// The runs of a row among the cells from `from` up to `to`, from left to right; a run ends where these cells end.
+    /// The runs of a row among the cells from `from` up to `to`, from left to right, in place of those that the list has; a
+    /// run ends where these cells end. Its time is that of the places where one of the mask's layers begins or ends there,
+    /// times the logarithm of the cells. Where memory is wanting the list may hold any of the runs.
     pub fn collect(&self, row: u32, from: u32, to: u32, runs: &mut Vec<Run>) -> Result<(), NoMemory>
         requires { to ≤ (cover_of self.now).cells }
         ensures { IfOk result (λ _. AreRuns (windowed from to (row_colour (cover_of self.now) row)) runs.new.items) }

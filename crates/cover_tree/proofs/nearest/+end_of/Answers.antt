@@ -1,26 +1,26 @@
 use Rattle.std.proofs.Common.{◌≡◌, ◌+◌, ◌/◌, ◌≤◌, arith, ap}
 use Rattle.cover_tree.specs.Layered.{tree}
-use Rattle.cover_tree.proofs.Tops.{sound_left, sound_right}
+use Rattle.cover_tree.proofs.Tops.{sound_left, sound_right, small_left, small_right}
 use Rattle.cover_tree.proofs.Going.{ends_right}
 use Rattle.cover_tree.proofs.nearest.+end_of.Goals as goal
 
--- src/nearest.rt:56:17
+-- src/nearest.rt
 pub end_of-middle-requires : goal.end_of-middle-requires
 end_of-middle-requires t c =
     let m : c.right-right.result.base ≡ c.args.part.base + c.args.part.width / 2 = ap (λ p. p.base) c.right-right.ensures in
     let h : 2 ≤ c.args.part.width = c.in-Many.ensures.wide in
     rw c.left.ensures
-    (omega arith, (record { some = omega arith; places = omega arith; cells = omega arith }, (λ l. sound_left (tree c.args.trees.now l) c.args.part h (c.requires.sound l), c.requires.from)))
+    (omega arith, (small_left c.args.part h c.requires.small, (λ l. sound_left (tree c.args.trees.now l) c.args.part h (c.requires.sound l), c.requires.from)))
 
--- src/nearest.rt:60:13
+-- src/nearest.rt
 pub end_of-requires : goal.end_of-requires
 end_of-requires t c =
     let m : c.right-right.result.base ≡ c.args.part.base + c.args.part.width / 2 = ap (λ p. p.base) c.right-right.ensures in
     let h : 2 ≤ c.args.part.width = c.in-Many.ensures.wide in
     rw c.right-right.ensures
-    (omega arith, (record { some = omega arith; places = omega arith; cells = omega arith }, (λ l. sound_right (tree c.args.trees.now l) c.args.part h (c.requires.sound l), omega arith)))
+    (omega arith, (small_right c.args.part h c.requires.small, (λ l. sound_right (tree c.args.trees.now l) c.args.part h (c.requires.sound l), omega arith)))
 
--- src/nearest.rt:35:1
+-- src/nearest.rt
 pub returns-else-middle-right : goal.returns-else-middle-right
 returns-else-middle-right t c =
     let m : c.right-right.result.base ≡ c.args.part.base + c.args.part.width / 2 = ap (λ p. p.base) c.right-right.ensures in

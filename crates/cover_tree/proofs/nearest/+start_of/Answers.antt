@@ -1,27 +1,27 @@
 use Rattle.std.proofs.Common.{◌≡◌, ◌+◌, ◌/◌, ◌≤◌, arith, ap}
 use Rattle.cover_tree.specs.Layered.{tree}
-use Rattle.cover_tree.proofs.Tops.{sound_left, sound_right}
+use Rattle.cover_tree.proofs.Tops.{sound_left, sound_right, small_left, small_right}
 use Rattle.cover_tree.proofs.Going.{starts_left}
 use Rattle.cover_tree.proofs.nearest.+start_of.Goals as goal
 
--- src/nearest.rt:87:17
+-- src/nearest.rt
 pub start_of-middle-requires : goal.start_of-middle-requires
 start_of-middle-requires t c =
     let m : c.right-right.result.base ≡ c.args.part.base + c.args.part.width / 2 = ap (λ p. p.base) c.right-right.ensures in
     let h : 2 ≤ c.args.part.width = c.in-Many.ensures.wide in
     let to = c.requires.to in
     rw c.right-right.ensures
-    (omega arith, (record { some = omega arith; places = omega arith; cells = omega arith }, (λ l. sound_right (tree c.args.trees.now l) c.args.part h (c.requires.sound l), omega arith)))
+    (omega arith, (small_right c.args.part h c.requires.small, (λ l. sound_right (tree c.args.trees.now l) c.args.part h (c.requires.sound l), omega arith)))
 
--- src/nearest.rt:91:13
+-- src/nearest.rt
 pub start_of-requires : goal.start_of-requires
 start_of-requires t c =
     let m : c.right-right.result.base ≡ c.args.part.base + c.args.part.width / 2 = ap (λ p. p.base) c.right-right.ensures in
     let h : 2 ≤ c.args.part.width = c.in-Many.ensures.wide in
     rw c.left.ensures
-    (omega arith, (record { some = omega arith; places = omega arith; cells = omega arith }, (λ l. sound_left (tree c.args.trees.now l) c.args.part h (c.requires.sound l), omega arith)))
+    (omega arith, (small_left c.args.part h c.requires.small, (λ l. sound_left (tree c.args.trees.now l) c.args.part h (c.requires.sound l), omega arith)))
 
--- src/nearest.rt:66:1
+-- src/nearest.rt
 pub returns-else-right-middle : goal.returns-else-right-middle
 returns-else-right-middle t c =
     let m : c.right-right.result.base ≡ c.args.part.base + c.args.part.width / 2 = ap (λ p. p.base) c.right-right.ensures in

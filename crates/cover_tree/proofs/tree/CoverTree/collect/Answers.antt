@@ -3,7 +3,7 @@ use Rattle.cover_tree.specs.Trees.{cover_of}
 use Rattle.cover_tree.proofs.Collecting.{collected}
 use Rattle.cover_tree.proofs.tree.CoverTree.collect.Goals as goal
 
--- src/tree.rt:50:5
+-- src/tree.rt
 pub returns : goal.returns
 unfolding cover_of
 returns c =

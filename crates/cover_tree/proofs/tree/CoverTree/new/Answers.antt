@@ -7,7 +7,7 @@ use Rattle.cover_tree.specs.Trees.{cover_of}
 use Rattle.cover_tree.proofs.Covering.{bare_sound, bare_cover}
 use Rattle.cover_tree.proofs.tree.CoverTree.new.Goals as goal
 
--- src/tree.rt:35:9
+-- src/tree.rt
 pub invariant_of-result : goal.invariant_of-result
 invariant_of-result c = record {
   sound = record {
@@ -18,7 +18,7 @@ invariant_of-result c = record {
   };
 }
 
--- src/tree.rt:29:5
+-- src/tree.rt
 pub returns : goal.returns
 unfolding cover_of
 returns c = bare_cover c.args.mask c.args.cells c.in_ok-trees.trees (λ l. if uses c.args.mask l then 2 * c.args.cells else 0) c.in_ok-trees.ensures

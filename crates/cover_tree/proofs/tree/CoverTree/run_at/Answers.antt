@@ -4,12 +4,12 @@ use Rattle.cover_tree.specs.Trees.{cover_of}
 use Rattle.cover_tree.proofs.Found.{root_colour, found}
 use Rattle.cover_tree.proofs.tree.CoverTree.run_at.Goals as goal
 
--- src/tree.rt:79:13
+-- src/tree.rt
 pub colour_at-colour-requires-clause-cell : goal.colour_at-colour-requires-clause-cell
 unfolding cover_of
 colour_at-colour-requires-clause-cell c = let h : c.args.cell < c.args.self.now.cells = c.requires in rw c.root-root.ensures (record { from = omega arith; to = omega arith })
 
--- src/tree.rt:81:13
+-- src/tree.rt
 pub returns-then-colour-eq0-clause-none : goal.returns-then-colour-eq0-clause-none
 unfolding cover_of
 returns-then-colour-eq0-clause-none c = (
@@ -18,12 +18,12 @@ returns-then-colour-eq0-clause-none c = (
   λ _. refl,
 )
 
--- src/tree.rt:84:19
+-- src/tree.rt
 pub start_of-requires-clause-to : goal.start_of-requires-clause-to
 unfolding cover_of
 start_of-requires-clause-to c = let h : c.args.cell < c.args.self.now.cells = c.requires in rw c.root-root.ensures (omega arith)
 
--- src/tree.rt:71:5
+-- src/tree.rt
 pub returns-clause-some : goal.returns-clause-some
 unfolding cover_of
 returns-clause-some c =
@@ -31,7 +31,7 @@ returns-clause-some c =
     c.requires (omega arith) (rw (c.root-root.ensures, c.none-bare.ensures) at c.colour_at-colour.ensures)
     (rw (c.root-root.ensures, c.none-bare.ensures) at c.start_of.ensures) (rw (c.root-root.ensures, c.none-bare.ensures) at c.end_of.ensures)
 
--- src/tree.rt:71:5
+-- src/tree.rt
 pub returns-clause-none : goal.returns-clause-none
 unfolding cover_of
 returns-clause-none c = (
