@@ -1,6 +1,7 @@
 //! The tiles of a mask: its squares of one colour, cut into rectangles along the rows.
 #![tactic(auto)]
 
+mod axis;
 mod swept;
 mod tile;
 

@@ -1,0 +1,2 @@
+mod Axes
+mod Blocks
