@@ -1,5 +1,5 @@
 -- The law of a place and its cell.
-use Rattle.std.proofs.Common.{ℕ, zero, suc, ◌≡◌, ◌+◌, ◌-◌, ◌<◌, ◌≤◌, ◌⊎◌, ◌↔◌, List, [], ◌∷◌, cond, true, false, Bool, inl, inr, refl, sym, ap, ◌∙◌, subst, arith, length, get_or, eq-or-lt_of_le}
+use Rattle.std.proofs.Common.{ℕ, zero, suc, ◌≡◌, ◌+◌, ◌-◌, ◌<◌, ◌≤◌, ◌⊎◌, ◌↔◌, List, [], ◌∷◌, true, false, inl, inr, sym, ◌∙◌, subst, arith, length, get_or, eq-or-lt_of_le}
 use Rattle.std.proofs.lemmas.List.{get_or_default}
 use Rattle.std.proofs.lemmas.List.Elements.{All-from_recursion}
 use Rattle.std.proofs.lemmas.List.Kept.{AllPairs-cons, Contains-dedup, Contains-from_dedup, IsStrictlySortedBy-dedup}
@@ -11,7 +11,7 @@ use Rattle.std.specs.List.Sorted.{IsPartitionPoint, IsPartitionedBy, IsSorted, I
 use Rattle.std.specs.Ordering.{int_cmp, int_eq}
 use Rattle.std.proofs.Common.{Less}
 use Rattle.std.proofs.lemmas.Bool.{cases_order, cases_lt}
-use Rattle.std.specs.Prelude.{ℤ, pos, negsuc, ◌+ℤ◌, ◌≤ℤ◌, ◌<ℤ◌, int_le, Contains, AllPairs}
+use Rattle.std.specs.Prelude.{ℤ, pos, negsuc, ◌+ℤ◌, ◌≤ℤ◌, ◌<ℤ◌, int_le, Contains}
 use Rattle.std.proofs.lemmas.Int.{ints, by_lt_z}
 use Rattle.region_sweep.specs.Grid.{Ascending, cell_of, start_of}
 
@@ -55,11 +55,11 @@ in_cell ms z up = record {
   within = within ms z;
   below = below ms z;
   above = λ k h l.
-    let f = first_after ms z (omega arith) in
-    elim (eq-or-lt_of_le h) [
-      | inl e ↦ subst (λ j. z <ℤ get_or ms j (pos 0)) e f
-      | inr m ↦ let u = up (cell_of ms z) k (pos 0) m l in omega (arith, ints)
-    ];
+      let f = first_after ms z (omega arith) in
+      elim (eq-or-lt_of_le h) [
+        | inl e ↦ subst (λ j. z <ℤ get_or ms j (pos 0)) e f
+        | inr m ↦ let u = up (cell_of ms z) k (pos 0) m l in omega (arith, ints)
+      ];
 }
 
 -- a place is in one cell
@@ -87,13 +87,13 @@ cells_rise ms x z up l =
 -- a mark is the start of its cell
 pub mark_starts : (ms : List ℤ) (k : ℕ) → Ascending ms → k < length ms → cell_of ms (get_or ms k (pos 0)) ≡ k + 1
 mark_starts ms k up l = cell_is ms (get_or ms k (pos 0)) (k + 1) up (record {
-    within = omega arith;
-    below = λ j h. elim (eq-or-lt_of_le {n = j} {m = k} (omega arith)) [
-      | inl e ↦ rw e (omega (arith, ints))
-      | inr m ↦ let u = up j k (pos 0) m l in omega (arith, ints)
-    ];
-    above = λ j h g. up k j (pos 0) (omega arith) g;
-  })
+  within = omega arith;
+  below = λ j h. elim (eq-or-lt_of_le {n = j} {m = k} (omega arith)) [
+    | inl e ↦ rw e (omega (arith, ints))
+    | inr m ↦ let u = up j k (pos 0) m l in omega (arith, ints)
+  ];
+  above = λ j h g. up k j (pos 0) (omega arith) g;
+})
 
 pub start_is_in : (ms : List ℤ) (c : ℕ) → Ascending ms → 0 < c → c ≤ length ms → cell_of ms (start_of ms c) ≡ c
 start_is_in ms c up h l = let e = mark_starts ms (c - 1) up (omega arith) in omega arith
@@ -103,20 +103,20 @@ pub mark_before : (ms : List ℤ) (m z : ℤ) → Ascending ms → Contains ms m
 mark_before ms m z up has = (
   cells_rise ms m z up,
   λ l.
-    let k = has.0 in
-    let same : get_or ms k (pos 0) ≡ m = get_or_default ms k (pos 0) m has.1 ∙ has.2 in
-    let e : cell_of ms m ≡ k + 1 = subst (λ x. cell_of ms x ≡ k + 1) same (mark_starts ms k up has.1) in
-    let b = (in_cell ms z up).below k (omega arith) in
-    subst (λ x. x ≤ℤ z) same b,
+      let k = has.0 in
+      let same : get_or ms k (pos 0) ≡ m = get_or_default ms k (pos 0) m has.1 ∙ has.2 in
+      let e : cell_of ms m ≡ k + 1 = subst (λ x. cell_of ms x ≡ k + 1) same (mark_starts ms k up has.1) in
+      let b = (in_cell ms z up).below k (omega arith) in
+      subst (λ x. x ≤ℤ z) same b,
 )
 
 at_cell : (ms : List ℤ) (z : ℤ) → Ascending ms → (c : ℕ) → InCell ms z c
     → (cell_of ms (z +ℤ negsuc 0) ≡ c) ⊎ (0 < c) × (cell_of ms (z +ℤ negsuc 0) + 1 ≡ c) × (start_of ms c ≡ z)
 at_cell ms z up zero h = inl (cell_is ms (z +ℤ negsuc 0) 0 up (record {
-    within = omega arith;
-    below = λ k l. absurd (omega arith);
-    above = λ k l m. let a = h.above k l m in omega (arith, ints);
-  }))
+  within = omega arith;
+  below = λ k l. absurd (omega arith);
+  above = λ k l m. let a = h.above k l m in omega (arith, ints);
+}))
 at_cell ms z up (suc k) h = by_lt_z {P = (cell_of ms (z +ℤ negsuc 0) ≡ suc k) ⊎ (0 < suc k) × (cell_of ms (z +ℤ negsuc 0) + 1 ≡ suc k) × (start_of ms (suc k) ≡ z)} (get_or ms k (pos 0)) z
     (λ l. inl (cell_is ms (z +ℤ negsuc 0) (suc k) up (record {
       within = h.within;
@@ -127,18 +127,18 @@ at_cell ms z up (suc k) h = by_lt_z {P = (cell_of ms (z +ℤ negsuc 0) ≡ suc k
       above = λ j g m. let a = h.above j g m in omega (arith, ints);
     })))
     (λ l. let b = h.below k (omega arith) in
-      let e : get_or ms k (pos 0) ≡ z = omega (arith, ints) in
-      let w = h.within in
-      let c : cell_of ms (z +ℤ negsuc 0) ≡ k = cell_is ms (z +ℤ negsuc 0) k up (record {
-        within = omega arith;
-        below = λ j g. let u = up j k (pos 0) g (omega arith) in omega (arith, ints);
-        above = λ j g m. elim (eq-or-lt_of_le {n = k} {m = j} g) [
-          | inl q ↦ subst (λ i. (z +ℤ negsuc 0) <ℤ get_or ms i (pos 0)) q (omega (arith, ints))
-          | inr q ↦ let u = up k j (pos 0) q m in omega (arith, ints)
-        ];
-      }) in
-      let back : k ≡ suc k - 1 = omega arith in
-      inr (omega arith, omega arith, subst (λ j. get_or ms j (pos 0) ≡ z) back e))
+    let e : get_or ms k (pos 0) ≡ z = omega (arith, ints) in
+    let w = h.within in
+    let c : cell_of ms (z +ℤ negsuc 0) ≡ k = cell_is ms (z +ℤ negsuc 0) k up (record {
+      within = omega arith;
+      below = λ j g. let u = up j k (pos 0) g (omega arith) in omega (arith, ints);
+      above = λ j g m. elim (eq-or-lt_of_le {n = k} {m = j} g) [
+        | inl q ↦ subst (λ i. (z +ℤ negsuc 0) <ℤ get_or ms i (pos 0)) q (omega (arith, ints))
+        | inr q ↦ let u = up k j (pos 0) q m in omega (arith, ints)
+      ];
+    }) in
+    let back : k ≡ suc k - 1 = omega arith in
+    inr (omega arith, omega arith, subst (λ j. get_or ms j (pos 0) ≡ z) back e))
 
 -- the place before has the same cell, or the place is a mark and begins the next
 pub step_back : (ms : List ℤ) (z : ℤ) → Ascending ms
@@ -149,16 +149,16 @@ step_back ms z up = at_cell ms z up (cell_of ms z) (in_cell ms z up)
 pub cell_from_point : (ms : List ℤ) (z : ℤ) (i : ℕ) → Ascending ms → i ≤ length ms
     → IsPartitionPoint (λ m. int_le m z ≡ true) (λ m. int_le m z ≡ false) ms i → i ≡ cell_of ms z
 cell_from_point ms z i up l h = sym (cell_is ms z i up (record {
-    within = l;
-    below = λ k m. let e = h.0 k (pos 0) (omega arith) m in grind (arith, ints);
-    above = λ k m n. let e = h.1 k (pos 0) m n in grind (arith, ints);
-  }))
+  within = l;
+  below = λ k m. let e = h.0 k (pos 0) (omega arith) m in grind (arith, ints);
+  above = λ k m n. let e = h.1 k (pos 0) m n in grind (arith, ints);
+}))
 
 pub parted : (ms : List ℤ) (z : ℤ) → Ascending ms → IsPartitionedBy (λ m. int_le m z) ms
 parted ms z up i j d l m e = elim (eq-or-lt_of_le l) [
-    | inl q ↦ subst (λ k. int_le (get_or ms k d) z ≡ true) (sym q) e
-    | inr q ↦ let u = up i j d q m in grind (arith, ints)
-  ]
+  | inl q ↦ subst (λ k. int_le (get_or ms k d) z ≡ true) (sym q) e
+  | inr q ↦ let u = up i j d q m in grind (arith, ints)
+]
 
 weaker : (x : ℤ) (xs : List ℤ) → AllByRecursion (λ y. int_cmp x y ≡ Less) xs → AllByRecursion (λ b. x <ℤ b) xs
 weaker x [] h = h

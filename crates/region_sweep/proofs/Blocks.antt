@@ -1,10 +1,10 @@
 -- Longest stretches of places and longest stretches of cells.
-use Rattle.std.proofs.Common.{ℕ, zero, suc, ◌≡◌, ◌+◌, ◌-◌, ◌<◌, ◌≤◌, ◌⊎◌, ◌↔◌, List, inl, inr, refl, sym, ap, ◌∙◌, subst, arith, length, get_or}
-use Rattle.std.specs.Prelude.{ℤ, pos, negsuc, ◌+ℤ◌, ◌≤ℤ◌, ◌<ℤ◌, Contains}
+use Rattle.std.proofs.Common.{ℕ, ◌≡◌, ◌+◌, ◌-◌, ◌<◌, ◌≤◌, ◌↔◌, List, inl, inr, sym, subst, arith, length}
+use Rattle.std.specs.Prelude.{ℤ, negsuc, ◌+ℤ◌, ◌≤ℤ◌, ◌<ℤ◌}
 use Rattle.std.proofs.lemmas.Int.{ints, by_lt_z}
 use Rattle.region_sweep.specs.Tiles.{IsLongest}
 use Rattle.region_sweep.specs.Grid.{Ascending, cell_of, start_of}
-use Rattle.region_sweep.proofs.Axes.{InCell, in_cell, cells_rise, start_is_in, step_back}
+use Rattle.region_sweep.proofs.Axes.{in_cell, cells_rise, start_is_in, step_back}
 
 -- a longest stretch of cells of one kind, from l up to r, which is outside
 pub record Stretch (Is : ℕ → Type 0) (l r : ℕ) : Type 0 where
@@ -39,7 +39,7 @@ cut_left ms P D a b by h = cut_where ms P D a by
 pub cut_right : (ms : List ℤ) (P : ℤ → Type 0) (D : ℕ → Type 0) (a b : ℤ) → ByCell ms P D → IsLongest P a b → IsCut ms b
 cut_right ms P D a b by h = cut_where ms P D b by
     (λ e. h.after ((by.same b).1 (subst D e ((by.same (b +ℤ negsuc 0)).0
-      (h.each (b +ℤ negsuc 0) (let s = h.some in omega (arith, ints)) (let s = h.some in omega (arith, ints)))))))
+    (h.each (b +ℤ negsuc 0) (let s = h.some in omega (arith, ints)) (let s = h.some in omega (arith, ints)))))))
 
 -- the place is before the end exactly where its cell is before the end's
 before_cut : (ms : List ℤ) (z b : ℤ) → Ascending ms → IsCut ms b → z <ℤ b → cell_of ms z < cell_of ms b
@@ -61,13 +61,13 @@ stretch_from_places ms P D a b by h =
     record {
       wide = before_cut ms a b up right h.some;
       each = λ c l m.
-        let n = (in_cell ms b up).within in
-        let e = start_is_in ms c up (let s = left.some in omega arith) (omega arith) in
-        subst D e ((by.same (start_of ms c)).0 (h.each (start_of ms c)
+          let n = (in_cell ms b up).within in
+          let e = start_is_in ms c up (let s = left.some in omega arith) (omega arith) in
+          subst D e ((by.same (start_of ms c)).0 (h.each (start_of ms c)
           (at_or_after ms a c up left l (omega arith))
           (by_lt_z (start_of ms c) b (λ x. x) (λ x. let r = cells_rise ms b (start_of ms c) up x in absurd (omega arith)))));
       before = λ c e d. let k = left.before in let same : cell_of ms (a +ℤ negsuc 0) ≡ c = omega arith in
-        h.before ((by.same (a +ℤ negsuc 0)).1 (subst D (sym same) d));
+          h.before ((by.same (a +ℤ negsuc 0)).1 (subst D (sym same) d));
       after = λ d. h.after ((by.same b).1 d);
     }
 
@@ -77,8 +77,8 @@ start_cuts ms c up some l =
     let e = start_is_in ms c up some l in
     elim (step_back ms (start_of ms c) up) [
       | inl q ↦
-        let b = (in_cell ms (start_of ms c +ℤ negsuc 0) up).below (c - 1) (omega arith) in
-        absurd (omega (arith, ints))
+          let b = (in_cell ms (start_of ms c +ℤ negsuc 0) up).below (c - 1) (omega arith) in
+          absurd (omega (arith, ints))
       | inr h ↦ record { some = h.0; before = h.1; start = h.2 }
     ]
 
@@ -94,8 +94,8 @@ places_from_stretch ms P D l r by some in' h =
     record {
       some = by_lt_z (start_of ms l) (start_of ms r) (λ x. x) (λ x. let c = cells_rise ms (start_of ms r) (start_of ms l) up x in absurd (omega arith));
       each = λ z a b. (by.same z).1 (h.each (cell_of ms z)
-        (let c = cells_rise ms (start_of ms l) z up a in omega arith)
-        (let c = before_cut ms z (start_of ms r) up right b in omega arith));
+          (let c = cells_rise ms (start_of ms l) z up a in omega arith)
+          (let c = before_cut ms z (start_of ms r) up right b in omega arith));
       before = λ p. h.before (cell_of ms (start_of ms l +ℤ negsuc 0)) (let k = left.before in omega arith) ((by.same (start_of ms l +ℤ negsuc 0)).0 p);
       after = λ p. h.after (subst D er ((by.same (start_of ms r)).0 p));
     }

@@ -1,11 +1,6 @@
 -- The grid that the coordinates of rectangles draw. Of n marks in order there are n + 1 cells: cell 0 is before the
 -- first mark, and each other cell begins at its mark.
-use Rattle.std.specs.Prelude.{◌≡◌, ℕ, suc, ◌-◌, ◌<◌, ◌≤◌, ℤ, pos, ◌<ℤ◌, List, [], ◌∷◌, All, AllPairs, Contains, cond, int_le, slice_index_or, true, IsTrue, nat_le, nat_lt, ◌&&◌, ◌||◌, Bool, false}
-use Rattle.lam_geom.specs.declared.layer.Layer.{Layer}
-use Rattle.lam_geom.specs.declared.rect.Rect.{Rect}
-use Rattle.mask_runs.specs.declared.mask.Mask.{Mask}
-use Rattle.mask_runs.specs.declared.mask.Layers.{Layers}
-use Rattle.mask_runs.specs.Colours.{uses, colour_of}
+use Rattle.std.specs.Prelude.{ℕ, suc, ◌-◌, ℤ, pos, ◌<ℤ◌, List, [], ◌∷◌, AllPairs, cond, int_le, slice_index_or}
 
 -- the marks stand in order, each once
 abbrev pub Ascending : List ℤ → Type 0

@@ -6,4 +6,5 @@ mod swept;
 mod tile;
 
 pub use swept::{Swept, sweep};
-pub use tile::{Pair, Tile};
+pub use tile::Tile;
+pub use union_find::Pair;

@@ -2,7 +2,7 @@
 use Rattle.std.proofs.Common.{rules, ◌≡◌, sym, subst}
 use Rattle.std.specs.Prelude.{int_le}
 use Rattle.std.proofs.lemmas.List.Sorted.{IsPartitionPoint-from_clause}
-use Rattle.region_sweep.specs.Grid.{Ascending, cell_of}
+use Rattle.region_sweep.specs.Grid.{Ascending}
 use Rattle.region_sweep.proofs.Axes.{cell_from_point, parted}
 use Rattle.region_sweep.proofs.axis.Axis.cell.Goals as goal
 
