@@ -72,7 +72,7 @@ stretch_from_places ms P D a b by h =
     }
 
 -- a start that is a mark is a cut
-start_cuts : (ms : List ℤ) (c : ℕ) → Ascending ms → 0 < c → c ≤ length ms → IsCut ms (start_of ms c)
+pub start_cuts : (ms : List ℤ) (c : ℕ) → Ascending ms → 0 < c → c ≤ length ms → IsCut ms (start_of ms c)
 start_cuts ms c up some l =
     let e = start_is_in ms c up some l in
     elim (step_back ms (start_of ms c) up) [

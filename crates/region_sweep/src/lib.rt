@@ -2,6 +2,8 @@
 #![tactic(auto)]
 
 mod axis;
+mod block;
+mod spot;
 mod swept;
 mod tile;
 
