@@ -3,6 +3,7 @@
 
 mod axis;
 mod block;
+mod grid;
 mod spot;
 mod swept;
 mod tile;
