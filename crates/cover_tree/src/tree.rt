@@ -1,7 +1,12 @@
 //! The tree.
 
+ghost use Rattle.cover_tree.specs.Layered.{AreSound};
+
+use crate::collect::{Query, close, collect_part};
+use crate::part::{Part, Span};
+use crate::trees::Trees;
 use lam_geom::Layer;
-use mask_runs::{Mask, Run};
+use mask_runs::{Layers, Mask, Run};
 use mp_base::NoMemory;
 use std::alloc::Global;
 
@@ -10,13 +15,14 @@ use std::alloc::Global;
 pub struct CoverTree {
     mask: Mask,
     cells: u32,
-    ghost sound: { ⊥ },
+    trees: Trees,
+    ghost sound: { AreSound mask cells trees },
 }
 
 impl CoverTree {
-    ghost use Rattle.std.specs.Prelude.{◌≡◌, ◌↔◌, ◌<◌, ◌≤◌, ◌^◌, true, IfOk, IfSome, IsNone};
+    ghost use Rattle.std.specs.Prelude.{◌≡◌, ◌<◌, ◌≤◌, ◌^◌, true, IfOk};
     ghost use Rattle.mask_runs.specs.Colours.{uses};
-    ghost use Rattle.mask_runs.specs.Runs.{IsRun, AreRuns};
+    ghost use Rattle.mask_runs.specs.Runs.{AreRuns};
     ghost use Rattle.cover_tree.specs.Covers.{IsBare, IsRaised, row_colour, windowed};
     ghost use Rattle.cover_tree.specs.Trees.{cover_of};
 
@@ -26,8 +32,8 @@ impl CoverTree {
         requires small { cells < 2 ^ 31 }
         ensures { IfOk result (λ t. IsBare mask cells (cover_of t)) }
     {
-        let _ = (alloc, mask, cells);
-        Err(NoMemory)
+        let trees = Trees::new(alloc, mask, cells)?;
+        Ok(CoverTree { mask, cells, trees })
     }
 
     /// Covers the cells from `from` up to `to` with a layer in the rows below `row` besides.
@@ -36,7 +42,8 @@ impl CoverTree {
         requires within { to ≤ (cover_of self.old).cells }
         ensures { IsRaised (cover_of self.old) (cover_of self.new) layer from to row }
     {
-        let _ = (layer, from, to, row);
+        let root = Part::root(self.cells);
+        self.trees.raise(layer, root, Span { from, to }, row);
     }
 
     /// The runs of a row among the cells from `from` up to `to`, from left to right; a run ends where these cells end.
@@ -44,17 +51,20 @@ impl CoverTree {
         requires { to ≤ (cover_of self.now).cells }
         ensures { IfOk result (λ _. AreRuns (windowed from to (row_colour (cover_of self.now) row)) runs.new.items) }
     {
-        let _ = (row, from, to, runs.len());
-        Err(NoMemory)
-    }
-
-    /// The run of a row that has a cell, or none where the cell has no colour.
-    pub fn run_at(&self, row: u32, cell: u32) -> Option<Run>
-        requires { cell < (cover_of self.now).cells }
-        ensures some { IfSome result (λ r. IsRun (row_colour (cover_of self.now) row) r × (r.left ≤ cell) × (cell < r.right)) }
-        ensures none { IsNone result ↔ row_colour (cover_of self.now) row cell ≡ 0 }
-    {
-        let _ = (row, cell);
-        None
+        runs.clear();
+        let query = Query {
+            mask: self.mask,
+            row,
+            span: Span { from, to },
+        };
+        let blank = Run {
+            left: 0,
+            right: from,
+            colour: 0,
+        };
+        let root = Part::root(self.cells);
+        let last = collect_part(&self.trees, query, root, Layers::none(), blank, runs)?;
+        close(runs, last)?;
+        Ok(())
     }
 }
