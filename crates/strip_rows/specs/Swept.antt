@@ -1,5 +1,5 @@
 -- What is known when rows have been swept up to one.
-use Rattle.std.specs.Prelude.{◌≡◌, ℕ, ◌+◌, ◌<◌, ◌≤◌, ◌==◌, ◌⊎◌, List, All, AllPairs, Contains, length, slice_index, if◌then◌else◌}
+use Rattle.std.specs.Prelude.{◌≡◌, ℕ, ◌+◌, ◌<◌, ◌≤◌, ◌==◌, List, All, AllPairs, Contains, length, slice_index, if◌then◌else◌}
 use Rattle.mask_runs.specs.declared.run.Run.{Run}
 use Rattle.mask_runs.specs.Runs.{IsRun}
 use Rattle.strip_rows.specs.declared.strip.Strip.{Strip}
@@ -14,7 +14,7 @@ strips_of s = s.strips.items
 
 -- how many cells a row has
 abbrev pub cells_of : StripRows → ℕ
-cells_of s = length s.open.items
+cells_of s = length s.numbers.items
 
 -- row y is one of the strip, which begins where it says
 pub record IsSince (colour : ℕ → ℕ → ℕ) (y : ℕ) (s : Strip) : Type 0 where
@@ -49,7 +49,7 @@ pub record IsSwept (colour : ℕ → ℕ → ℕ) (y : ℕ) (s : StripRows) : Ty
   pub row : s.row ≡ y
   pub each : All (HasBegun colour y) (strips_of s)
   pub all : (t : Strip) → IsStrip colour t → t.high ≤ y → Contains (strips_of s) t
-  pub open_ : (r : Run) → IsRun (colour y) r → IsOpenAt colour y (strips_of s) (slice_index s.open.items r.left) r
+  pub open_ : (r : Run) → IsRun (colour y) r → IsOpenAt colour y (strips_of s) (slice_index s.numbers.items r.left) r
   pub ascending : AllPairs IsBefore (strips_of s)
   pub touching : All (IsTouchingUpto y (strips_of s)) s.pairs.items
   pub touch : (p : Pair) → IsTouchingUpto y (strips_of s) p → Contains s.pairs.items p

@@ -1,5 +1,5 @@
 -- Strips that touch.
-use Rattle.std.specs.Prelude.{◌≡◌, ◌≢◌, ℕ, ◌<◌, ◌⊎◌, List, All, AllPairs, Contains, length}
+use Rattle.std.specs.Prelude.{◌≡◌, ◌<◌, ◌⊎◌, List, All, Contains, length}
 use Rattle.strip_rows.specs.declared.strip.Strip.{Strip}
 use Rattle.union_find.specs.declared.pair.Pair.{Pair}
 use Rattle.strip_rows.specs.Strips.{strip}
