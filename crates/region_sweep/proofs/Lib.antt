@@ -7,3 +7,4 @@ mod Tilings
 mod Answering
 mod Edges
 mod Gridding
+mod Rowwise
