@@ -4,6 +4,7 @@
 mod axis;
 mod block;
 mod grid;
+mod rows;
 mod spot;
 mod swept;
 mod tile;
