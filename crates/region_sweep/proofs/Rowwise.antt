@@ -287,3 +287,33 @@ front_next law mask cells rows blocks row strips runs st e swept are = record {
   first = blank_left law mask cells rows blocks row st;
   last = λ c l. blank_right law mask cells rows blocks row c st (omega arith);
 }
+
+pub lie_in : ColoursByLayers → (mask : Mask) (cells rows : ℕ) (blocks : List Block) (row wide : ℕ) (runs : List Run) → AreStacked mask cells rows blocks
+    → wide ≡ cells → AreRuns (painted mask blocks row) runs → LieInRow wide runs
+lie_in law mask cells rows blocks row wide runs st e are =
+    subst (λ n. LieInRow n runs) (sym e) (runs_lie (painted mask blocks row) cells runs are (λ c l. blank_right law mask cells rows blocks row c st (omega arith)))
+
+pub nothing_lies : (cells : ℕ) (runs : List Run) → runs ≡ [] → LieInRow cells runs
+nothing_lies cells runs e = subst (LieInRow cells) (sym e)
+    (record { wide = λ k d l. absurd (omega arith); within = λ k d l. absurd (omega arith); ascending = λ i j d l m. absurd (omega arith) })
+
+pub nothing_answered : (colour : ℕ → ℕ → ℕ) (strips : List Strip) (spots : List Spot) (found : List (Option ℕ)) → AreAnswered colour strips spots 0 found
+nothing_answered colour strips spots found = record { within = omega arith; each = λ j l. absurd (omega arith) }
+
+pub fit_tree : (mask m : Mask) (cells n rows : ℕ) (blocks : List Block) → m ≡ mask → n ≡ cells → AreStacked mask cells rows blocks → AreFit m n blocks
+fit_tree mask m cells n rows blocks e f st = rw (e, f) (fits mask cells rows blocks st)
+
+-- the runs that the tree has for the next row, once its blocks are raised
+pub runs_above : ColoursByLayers → (mask : Mask) (cells rows : ℕ) (blocks : List Block) (row raised : ℕ) (old cover : Cover) (runs : List Run)
+    → cover.mask ≡ old.mask → old.mask ≡ mask → AreStacked mask cells rows blocks → AreRaised blocks row raised cover
+    → ((k : ℕ) → raised ≤ k → k < length blocks → row < (block blocks k).low)
+    → AreRuns (windowed 0 cells (row_colour cover row)) runs → AreRuns (painted mask blocks row) runs
+runs_above law mask cells rows blocks row raised old cover runs e f = row_runs law mask cells rows blocks row raised cover runs (e ∙ f)
+
+-- all spots are answered when all rows are swept
+pub all_answered : (spots : List Spot) (rows below answered : ℕ) → All (λ s. s.row < rows) spots → rows ≤ below + 1 → answered ≤ length spots
+    → ((j : ℕ) → answered ≤ j → j < length spots → below < (spot spots j).row) → answered ≡ length spots
+all_answered spots rows below answered h l m waiting = elim (cases_lt answered (length spots)) [
+    | inr k ↦ omega arith
+    | inl k ↦ let a = waiting answered (omega arith) k in let b = h answered no_spot k in absurd (omega arith)
+  ]

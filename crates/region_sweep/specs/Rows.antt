@@ -11,7 +11,9 @@ use Rattle.cover_tree.specs.Covers.{Cover}
 use Rattle.strip_rows.specs.declared.rows.StripRows.{StripRows}
 use Rattle.strip_rows.specs.Swept.{cells_of, IsSwept}
 use Rattle.strip_rows.specs.declared.strip.Strip.{Strip}
-use Rattle.strip_rows.specs.Strips.{run_of, strip}
+use Rattle.strip_rows.specs.declared.strip.Strips.{Strips}
+use Rattle.strip_rows.specs.Strips.{run_of, strip, AreStrips}
+use Rattle.strip_rows.specs.Touching.{AreTouching}
 use Rattle.region_sweep.specs.declared.block.Block.{Block}
 use Rattle.region_sweep.specs.declared.spot.Spot.{Spot}
 
@@ -76,3 +78,9 @@ IsAnswer colour strips p None = colour p.row p.cell ≡ 0
 pub record AreAnswered (colour : ℕ → ℕ → ℕ) (strips : List Strip) (spots : List Spot) (answered : ℕ) (found : List (Option ℕ)) : Type 0 where
   pub within : answered ≤ length spots
   pub each : (j : ℕ) → j < answered → IsAnswer colour strips (spot spots j) (slice_index_or found (spot spots j).index None)
+
+-- all strips, the pairs that touch, and all answers
+pub record IsSweep (colour : ℕ → ℕ → ℕ) (spots : List Spot) (swept : Strips) (found : List (Option ℕ)) : Type 0 where
+  pub strips : AreStrips colour swept.strips.items
+  pub touching : AreTouching swept.strips.items swept.pairs.items
+  pub answers : AreAnswered colour swept.strips.items spots (length spots) found

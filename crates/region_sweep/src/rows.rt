@@ -2,13 +2,11 @@
 
 ghost use Rattle.std.specs.Prelude.{◌≡◌, ℕ, ◌+◌, ◌<◌, ◌≤◌, ◌^◌, All, IfOk, length};
 ghost use Rattle.cover_tree.specs.Trees.{cover_of};
-ghost use Rattle.strip_rows.specs.Strips.{AreStrips};
-ghost use Rattle.strip_rows.specs.Touching.{AreTouching};
 ghost use Rattle.strip_rows.specs.Changes.{LieInRow};
 ghost use Rattle.strip_rows.specs.Swept.{strips_of, cells_of};
 ghost use Rattle.region_sweep.specs.Blocks.{painted, AreStacked};
 ghost use Rattle.region_sweep.specs.declared.spot.Spot.{Spot};
-ghost use Rattle.region_sweep.specs.Rows.{block, spot, AreFit, AreRaised, AreAsked, IsFront, IsAnswer, AreAnswered};
+ghost use Rattle.region_sweep.specs.Rows.{block, spot, AreFit, AreRaised, AreAsked, IsFront, IsAnswer, AreAnswered, IsSweep};
 
 use crate::block::Block;
 use crate::spot::Spot;
@@ -42,12 +40,24 @@ pub(crate) fn sweep_rows(
     requires stacked { AreStacked mask size.cells size.rows blocks.now }
     requires asked { AreAsked (length found.old) spots.now }
     requires spots { All (λ s. s.row < size.rows) spots.now }
-    ensures strips { IfOk result (λ s. AreStrips (painted mask blocks.now) s.strips.items) }
-    ensures touching { IfOk result (λ s. AreTouching s.strips.items s.pairs.items) }
-    ensures found { IfOk result (λ s. AreAnswered (painted mask blocks.now) s.strips.items spots.now (length spots.now) found.new) }
+    ensures { IfOk result (λ s. IsSweep (painted mask blocks.now) spots.now s found.new) }
 {
-    let _ = (alloc, mask, size.cells, blocks.len(), spots.len(), found.len());
-    Err(NoMemory)
+    colours_by_layers();
+    let mut tree = CoverTree::new(alloc, mask, size.cells)?;
+    let mut strips = StripRows::new(alloc, size.cells)?;
+    let mut runs = Vec::new(alloc);
+    let mut last = Vec::new(alloc);
+    let mut raised = 0;
+    let mut answered = answer(&strips, runs.as_slice(), spots, 0, 0, found);
+    for below in 0..size.rows - 1 {
+        let row = below + 1;
+        mem::swap(&mut last, &mut runs);
+        raised = raise(&mut tree, blocks, raised, row);
+        tree.collect(row, 0, size.cells, &mut runs)?;
+        strips.step(last.as_slice(), runs.as_slice())?;
+        answered = answer(&strips, runs.as_slice(), spots, answered, row, found);
+    }
+    Ok(strips.finish())
 }
 
 // Raises the blocks that begin in the row.
