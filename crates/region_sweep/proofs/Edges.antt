@@ -1,27 +1,27 @@
 -- Strips that share an edge are tiles that do.
-use Rattle.std.proofs.Common.{ℕ, zero, suc, ◌≡◌, ◌≢◌, ◌+◌, ◌-◌, ◌<◌, ◌≤◌, ◌⊎◌, ◌↔◌, List, [], ◌∷◌, map, Some, None, Option, inl, inr, refl, sym, ap, ◌∙◌, subst, arith, length, get_or, eq-or-lt_of_le}
-use Rattle.std.specs.Prelude.{ℤ, pos, negsuc, ◌+ℤ◌, ◌≤ℤ◌, ◌<ℤ◌, All, AllPairs, Contains, slice_get}
+use Rattle.std.proofs.Common.{ℕ, ◌≡◌, ◌<◌, ◌≤◌, ◌⊎◌, ◌↔◌, List, map, Some, Option, inl, inr, refl, sym, ap, ◌∙◌, subst, arith, length, eq-or-lt_of_le}
+use Rattle.std.specs.Prelude.{ℤ, pos, negsuc, ◌+ℤ◌, ◌≤ℤ◌, ◌<ℤ◌, slice_get}
 use Rattle.std.proofs.lemmas.Int.{ints, by_lt_z}
 use Rattle.std.proofs.lemmas.Bool.{cases_lt}
-use Rattle.std.proofs.lemmas.List.{get_or-map, length-map, get_or_default}
+use Rattle.std.proofs.lemmas.List.{get_or-map, length-map}
 use Rattle.std.proofs.lemmas.Option.{slice_get-get_or, slice_get_cases}
 use Rattle.std.proofs.lemmas.List.Elements.{All-weaker}
 use Rattle.lam_geom.specs.declared.rect.Rect.{Rect}
 use Rattle.mask_runs.specs.declared.mask.Mask.{Mask}
 use Rattle.union_find.specs.declared.pair.Pair.{Pair}
 use Rattle.strip_rows.specs.declared.strip.Strip.{Strip}
-use Rattle.strip_rows.specs.Strips.{run_of, strip, no_strip, IsStrip, AreStrips}
+use Rattle.strip_rows.specs.Strips.{strip, no_strip, AreStrips}
 use Rattle.strip_rows.specs.Touching as cells
 use Rattle.strip_rows.specs.Touching.Touch.{beside, upon}
 use Rattle.region_sweep.specs.declared.block.Block.{Block}
 use Rattle.region_sweep.specs.declared.tile.Tile.{Tile}
 use Rattle.region_sweep.specs.Tiles.{InTile}
-use Rattle.region_sweep.specs.Touching.{Beside, Touch, TouchAt, AreTouching}
-use Rattle.region_sweep.specs.Grid.{Ascending, cell_of, start_of, tile_of}
+use Rattle.region_sweep.specs.Touching.{Touch, TouchAt, AreTouching}
+use Rattle.region_sweep.specs.Grid.{Ascending, cell_of, start_of, tile_of, IsFit}
 use Rattle.region_sweep.specs.Blocks.{painted}
 use Rattle.region_sweep.proofs.Axes.{start_is_in}
-use Rattle.region_sweep.proofs.Stretches.{HasCell, one_strip}
-use Rattle.region_sweep.proofs.Tilings.{IsLaid, IsWithin, strip_within, starts_rise, in_tile}
+use Rattle.region_sweep.proofs.Stretches.{one_strip}
+use Rattle.region_sweep.proofs.Tilings.{IsLaid, strip_within, starts_rise, in_tile}
 
 -- the tile has squares
 record Fills (t : Tile) : Type 0 where
@@ -46,13 +46,19 @@ touch_from_meet s t f g (sides e p q) =
     let z = common s.y0 s.y1 t.y0 t.y1 f.tall g.tall p q in
     elim e [
       | inl x ↦ record {
-        x = t.x0 +ℤ negsuc 0; y = z.0; u = t.x0; v = z.0;
+        x = t.x0 +ℤ negsuc 0;
+        y = z.0;
+        u = t.x0;
+        v = z.0;
         in_first = record { left = omega (arith, ints); right = omega (arith, ints); bottom = z.1; top = z.2 };
         in_second = record { left = omega (arith, ints); right = omega (arith, ints); bottom = z.3; top = z.4 };
         beside = inl (refl, inl (omega (arith, ints)));
       }
       | inr x ↦ record {
-        x = s.x0; y = z.0; u = s.x0 +ℤ negsuc 0; v = z.0;
+        x = s.x0;
+        y = z.0;
+        u = s.x0 +ℤ negsuc 0;
+        v = z.0;
         in_first = record { left = omega (arith, ints); right = omega (arith, ints); bottom = z.1; top = z.2 };
         in_second = record { left = omega (arith, ints); right = omega (arith, ints); bottom = z.3; top = z.4 };
         beside = inl (refl, inr (omega (arith, ints)));
@@ -64,13 +70,19 @@ touch_from_meet s t f g (ends e p q) =
     let z = common s.x0 s.x1 t.x0 t.x1 f.wide g.wide p q in
     elim e [
       | inl x ↦ record {
-        x = z.0; y = t.y0 +ℤ negsuc 0; u = z.0; v = t.y0;
+        x = z.0;
+        y = t.y0 +ℤ negsuc 0;
+        u = z.0;
+        v = t.y0;
         in_first = record { left = z.1; right = z.2; bottom = omega (arith, ints); top = omega (arith, ints) };
         in_second = record { left = z.3; right = z.4; bottom = omega (arith, ints); top = omega (arith, ints) };
         beside = inr (refl, inl (omega (arith, ints)));
       }
       | inr x ↦ record {
-        x = z.0; y = s.y0; u = z.0; v = s.y0 +ℤ negsuc 0;
+        x = z.0;
+        y = s.y0;
+        u = z.0;
+        v = s.y0 +ℤ negsuc 0;
         in_first = record { left = z.1; right = z.2; bottom = omega (arith, ints); top = omega (arith, ints) };
         in_second = record { left = z.3; right = z.4; bottom = omega (arith, ints); top = omega (arith, ints) };
         beside = inr (refl, inr (omega (arith, ints)));
@@ -89,43 +101,37 @@ meet_from_touch s t apart h =
       | inl (e, inl f) ↦ elim (edge s.x0 s.x1 t.x0 t.x1 h.x h.u i.left i.right j.left j.right f) [
         | inl q ↦ sides (inl q) (let a = i.bottom in let b = j.top in omega (arith, ints)) (let a = j.bottom in let b = i.top in omega (arith, ints))
         | inr (inl l) ↦ absurd (apart h.u h.v
-          (record { left = let a = i.left in omega (arith, ints); right = l; bottom = let a = i.bottom in omega (arith, ints); top = let a = i.top in omega (arith, ints) }) j)
+            (record { left = let a = i.left in omega (arith, ints); right = l; bottom = let a = i.bottom in omega (arith, ints); top = let a = i.top in omega (arith, ints) }) j)
         | inr (inr l) ↦ absurd (apart h.x h.y i
-          (record { left = l; right = let a = j.right in omega (arith, ints); bottom = let a = j.bottom in omega (arith, ints); top = let a = j.top in omega (arith, ints) }))
+            (record { left = l; right = let a = j.right in omega (arith, ints); bottom = let a = j.bottom in omega (arith, ints); top = let a = j.top in omega (arith, ints) }))
       ]
       | inl (e, inr f) ↦ elim (edge t.x0 t.x1 s.x0 s.x1 h.u h.x j.left j.right i.left i.right f) [
         | inl q ↦ sides (inr q) (let a = i.bottom in let b = j.top in omega (arith, ints)) (let a = j.bottom in let b = i.top in omega (arith, ints))
         | inr (inl l) ↦ absurd (apart h.x h.y i
-          (record { left = let a = j.left in omega (arith, ints); right = l; bottom = let a = j.bottom in omega (arith, ints); top = let a = j.top in omega (arith, ints) }))
+            (record { left = let a = j.left in omega (arith, ints); right = l; bottom = let a = j.bottom in omega (arith, ints); top = let a = j.top in omega (arith, ints) }))
         | inr (inr l) ↦ absurd (apart h.u h.v
-          (record { left = l; right = let a = i.right in omega (arith, ints); bottom = let a = i.bottom in omega (arith, ints); top = let a = i.top in omega (arith, ints) }) j)
+            (record { left = l; right = let a = i.right in omega (arith, ints); bottom = let a = i.bottom in omega (arith, ints); top = let a = i.top in omega (arith, ints) }) j)
       ]
       | inr (e, inl f) ↦ elim (edge s.y0 s.y1 t.y0 t.y1 h.y h.v i.bottom i.top j.bottom j.top f) [
         | inl q ↦ ends (inl q) (let a = i.left in let b = j.right in omega (arith, ints)) (let a = j.left in let b = i.right in omega (arith, ints))
         | inr (inl l) ↦ absurd (apart h.u h.v
-          (record { left = let a = i.left in omega (arith, ints); right = let a = i.right in omega (arith, ints); bottom = let a = i.bottom in omega (arith, ints); top = l }) j)
+            (record { left = let a = i.left in omega (arith, ints); right = let a = i.right in omega (arith, ints); bottom = let a = i.bottom in omega (arith, ints); top = l }) j)
         | inr (inr l) ↦ absurd (apart h.x h.y i
-          (record { left = let a = j.left in omega (arith, ints); right = let a = j.right in omega (arith, ints); bottom = l; top = let a = j.top in omega (arith, ints) }))
+            (record { left = let a = j.left in omega (arith, ints); right = let a = j.right in omega (arith, ints); bottom = l; top = let a = j.top in omega (arith, ints) }))
       ]
       | inr (e, inr f) ↦ elim (edge t.y0 t.y1 s.y0 s.y1 h.v h.y j.bottom j.top i.bottom i.top f) [
         | inl q ↦ ends (inr q) (let a = i.left in let b = j.right in omega (arith, ints)) (let a = j.left in let b = i.right in omega (arith, ints))
         | inr (inl l) ↦ absurd (apart h.x h.y i
-          (record { left = let a = j.left in omega (arith, ints); right = let a = j.right in omega (arith, ints); bottom = let a = j.bottom in omega (arith, ints); top = l }))
+            (record { left = let a = j.left in omega (arith, ints); right = let a = j.right in omega (arith, ints); bottom = let a = j.bottom in omega (arith, ints); top = l }))
         | inr (inr l) ↦ absurd (apart h.u h.v
-          (record { left = let a = i.left in omega (arith, ints); right = let a = i.right in omega (arith, ints); bottom = l; top = let a = i.top in omega (arith, ints) }) j)
+            (record { left = let a = i.left in omega (arith, ints); right = let a = i.right in omega (arith, ints); bottom = l; top = let a = i.top in omega (arith, ints) }) j)
       ]
     ]
 
--- the strip has cells, inside the grid
-record IsFit (xs ys : List ℤ) (s : Strip) : Type 0 where
-  within : IsWithin xs ys s
-  wide : s.left < s.right
-  tall : s.low < s.high
-
 fills : (xs ys : List ℤ) (s : Strip) → Ascending xs → Ascending ys → IsFit xs ys s → Fills (tile_of xs ys s)
 fills xs ys s upx upy f = record {
-  wide = starts_rise xs s.left s.right upx f.within.left f.within.right f.wide;
-  tall = starts_rise ys s.low s.high upy f.within.low f.within.high f.tall;
+  wide = starts_rise xs s.left s.right upx f.left f.right f.wide;
+  tall = starts_rise ys s.low s.high upy f.low f.high f.tall;
 }
 
 starts_are_one : (ms : List ℤ) (a b : ℕ) → Ascending ms → 0 < a → a ≤ length ms → 0 < b → b ≤ length ms → start_of ms a ≡ start_of ms b → a ≡ b
@@ -133,29 +139,29 @@ starts_are_one ms a b up p q r s e = sym (start_is_in ms a up p q) ∙ ap (cell_
 
 starts_fall : (ms : List ℤ) (a b : ℕ) → Ascending ms → 0 < b → a ≤ length ms → start_of ms a <ℤ start_of ms b → a < b
 starts_fall ms a b up some l m = elim (cases_lt a b) [
-    | inl h ↦ h
-    | inr h ↦ elim (eq-or-lt_of_le h) [
-      | inl e ↦ let q = ap (start_of ms) e in absurd (omega (arith, ints))
-      | inr k ↦ let r = starts_rise ms b a up some l k in absurd (omega (arith, ints))
-    ]
+  | inl h ↦ h
+  | inr h ↦ elim (eq-or-lt_of_le h) [
+    | inl e ↦ let q = ap (start_of ms) e in absurd (omega (arith, ints))
+    | inr k ↦ let r = starts_rise ms b a up some l k in absurd (omega (arith, ints))
   ]
+]
 
 meet_from_cells : (xs ys : List ℤ) (s t : Strip) → Ascending xs → Ascending ys → IsFit xs ys s → IsFit xs ys t → cells.Touch s t
     → Meet (tile_of xs ys s) (tile_of xs ys t)
 meet_from_cells xs ys s t upx upy f g (beside e p q) = sides
     (elim e [ inl h ↦ inl (ap (start_of xs) h) | inr h ↦ inr (ap (start_of xs) h) ])
-    (starts_rise ys s.low t.high upy f.within.low g.within.high p)
-    (starts_rise ys t.low s.high upy g.within.low f.within.high q)
+    (starts_rise ys s.low t.high upy f.low g.high p)
+    (starts_rise ys t.low s.high upy g.low f.high q)
 meet_from_cells xs ys s t upx upy f g (upon e p q) = ends
     (elim e [ inl h ↦ inl (ap (start_of ys) h) | inr h ↦ inr (ap (start_of ys) h) ])
-    (starts_rise xs s.left t.right upx f.within.left g.within.right p)
-    (starts_rise xs t.left s.right upx g.within.left f.within.right q)
+    (starts_rise xs s.left t.right upx f.left g.right p)
+    (starts_rise xs t.left s.right upx g.left f.right q)
 
 cells_from_meet : (xs ys : List ℤ) (s t : Strip) → Ascending xs → Ascending ys → IsFit xs ys s → IsFit xs ys t
     → Meet (tile_of xs ys s) (tile_of xs ys t) → cells.Touch s t
 cells_from_meet xs ys s t upx upy f g (sides e p q) =
-    let a = f.within in
-    let b = g.within in
+    let a = f in
+    let b = g in
     beside
     (elim e [
       | inl h ↦ inl (starts_are_one xs s.right t.left upx (let l = a.left in let w = f.wide in omega arith) a.right b.left (let l = b.right in let w = g.wide in omega arith) h)
@@ -164,8 +170,8 @@ cells_from_meet xs ys s t upx upy f g (sides e p q) =
     (starts_fall ys s.low t.high upy (let l = b.low in let w = g.tall in omega arith) (let l = a.high in let w = f.tall in omega arith) p)
     (starts_fall ys t.low s.high upy (let l = a.low in let w = f.tall in omega arith) (let l = b.high in let w = g.tall in omega arith) q)
 cells_from_meet xs ys s t upx upy f g (ends e p q) =
-    let a = f.within in
-    let b = g.within in
+    let a = f in
+    let b = g in
     upon
     (elim e [
       | inl h ↦ inl (starts_are_one ys s.high t.low upy (let l = a.low in let w = f.tall in omega arith) a.high b.low (let l = b.high in let w = g.tall in omega arith) h)
@@ -173,14 +179,6 @@ cells_from_meet xs ys s t upx upy f g (ends e p q) =
     ])
     (starts_fall xs s.left t.right upx (let l = b.left in let w = g.wide in omega arith) (let l = a.right in let w = f.wide in omega arith) p)
     (starts_fall xs t.left s.right upx (let l = a.left in let w = f.wide in omega arith) (let l = b.right in let w = g.wide in omega arith) q)
-
-strip_fits : (xs ys : List ℤ) (mask : Mask) (shapes : List Rect) (blocks : List Block) (s : Strip) → IsLaid xs ys mask shapes blocks
-    → IsStrip (painted mask blocks) s → IsFit xs ys s
-strip_fits xs ys mask shapes blocks s h is = record {
-  within = strip_within xs ys mask shapes blocks s h is;
-  wide = (is.each s.low (omega arith) is.tall).wide;
-  tall = is.tall;
-}
 
 -- different strips have no common square
 strips_apart : (xs ys : List ℤ) (mask : Mask) (shapes : List Rect) (blocks : List Block) (strips : List Strip) (a b : ℕ) → IsLaid xs ys mask shapes blocks
@@ -191,11 +189,11 @@ strips_apart xs ys mask shapes blocks strips a b h are l m x y i j =
     let t = strip strips b in
     let p = are.each a no_strip (omega arith) in
     let q = are.each b no_strip m in
-    let f = strip_fits xs ys mask shapes blocks s h p in
-    let g = strip_fits xs ys mask shapes blocks t h q in
+    let f = strip_within xs ys mask shapes blocks s h p in
+    let g = strip_within xs ys mask shapes blocks t h q in
     let e = one_strip (painted mask blocks) s t (cell_of ys y) (cell_of xs x) p q
-      ((in_tile xs ys s x y h.grid.columns h.grid.rows f.within f.wide f.tall).1 i)
-      ((in_tile xs ys t x y h.grid.columns h.grid.rows g.within g.wide g.tall).1 j) in
+    ((in_tile xs ys s x y h.grid.columns h.grid.rows f f.wide f.tall).1 i)
+    ((in_tile xs ys t x y h.grid.columns h.grid.rows g g.wide g.tall).1 j) in
     let low = ap (λ u. u.low) e in
     let left = ap (λ u. u.left) e in
     elim (are.ascending a b no_strip l m) [ inl k ↦ omega arith | inr k ↦ let w = k.1 in omega arith ]
@@ -215,37 +213,37 @@ some_tile s t e = cc
 touch_at : (xs ys : List ℤ) (mask : Mask) (shapes : List Rect) (blocks : List Block) (strips : List Strip) (p : Pair) → IsLaid xs ys mask shapes blocks
     → AreStrips (painted mask blocks) strips → cells.IsTouching strips p ↔ TouchAt (map (tile_of xs ys) strips) p.a p.b
 touch_at xs ys mask shapes blocks strips p h are =
-    let fit = λ (n : ℕ) (l : n < length strips). strip_fits xs ys mask shapes blocks (strip strips n) h (are.each n no_strip l) in
+    let fit = λ (n : ℕ) (l : n < length strips). strip_within xs ys mask shapes blocks (strip strips n) h (are.each n no_strip l) in
     let tile = λ (n : ℕ). tile_of xs ys (strip strips n) in
     let upx = h.grid.columns in
     let upy = h.grid.rows in (
       λ t.
-        let o = t.ordered in
-        let w = t.within in
-        let f = fit p.a (omega arith) in
-        let g = fit p.b w in
-        record {
-          order = o;
-          first = tile p.a;
-          second = tile p.b;
-          at_first = tile_there xs ys strips p.a (omega arith);
-          at_second = tile_there xs ys strips p.b w;
-          touch = touch_from_meet (tile p.a) (tile p.b) (fills xs ys (strip strips p.a) upx upy f) (fills xs ys (strip strips p.b) upx upy g)
-            (meet_from_cells xs ys (strip strips p.a) (strip strips p.b) upx upy f g t.touch);
-        },
+          let o = t.ordered in
+          let w = t.within in
+          let f = fit p.a (omega arith) in
+          let g = fit p.b w in
+          record {
+            order = o;
+            first = tile p.a;
+            second = tile p.b;
+            at_first = tile_there xs ys strips p.a (omega arith);
+            at_second = tile_there xs ys strips p.b w;
+            touch = touch_from_meet (tile p.a) (tile p.b) (fills xs ys (strip strips p.a) upx upy f) (fills xs ys (strip strips p.b) upx upy g)
+                (meet_from_cells xs ys (strip strips p.a) (strip strips p.b) upx upy f g t.touch);
+          },
       λ t.
-        let o = t.order in
-        let w : p.b < length strips = simp length-map at (there (map (tile_of xs ys) strips) p.b t.second t.at_second) in
-        let v : p.a < length strips = omega arith in
-        let a : t.first ≡ tile p.a = some_tile t.first (tile p.a) (sym t.at_first ∙ tile_there xs ys strips p.a v) in
-        let b : t.second ≡ tile p.b = some_tile t.second (tile p.b) (sym t.at_second ∙ tile_there xs ys strips p.b w) in
-        let touch : Touch (tile p.a) (tile p.b) = subst (λ u. Touch u (tile p.b)) a (subst (λ u. Touch t.first u) b t.touch) in
-        record {
-          ordered = o;
-          within = w;
-          touch = cells_from_meet xs ys (strip strips p.a) (strip strips p.b) upx upy (fit p.a v) (fit p.b w)
-            (meet_from_touch (tile p.a) (tile p.b) (strips_apart xs ys mask shapes blocks strips p.a p.b h are o w) touch);
-        },
+          let o = t.order in
+          let w : p.b < length strips = simp length-map at (there (map (tile_of xs ys) strips) p.b t.second t.at_second) in
+          let v : p.a < length strips = omega arith in
+          let a : t.first ≡ tile p.a = some_tile t.first (tile p.a) (sym t.at_first ∙ tile_there xs ys strips p.a v) in
+          let b : t.second ≡ tile p.b = some_tile t.second (tile p.b) (sym t.at_second ∙ tile_there xs ys strips p.b w) in
+          let touch : Touch (tile p.a) (tile p.b) = subst (λ u. Touch u (tile p.b)) a (subst (λ u. Touch t.first u) b t.touch) in
+          record {
+            ordered = o;
+            within = w;
+            touch = cells_from_meet xs ys (strip strips p.a) (strip strips p.b) upx upy (fit p.a v) (fit p.b w)
+                (meet_from_touch (tile p.a) (tile p.b) (strips_apart xs ys mask shapes blocks strips p.a p.b h are o w) touch);
+          },
     )
 
 pub are_touching : (xs ys : List ℤ) (mask : Mask) (shapes : List Rect) (blocks : List Block) (strips : List Strip) (pairs : List Pair)
@@ -253,6 +251,6 @@ pub are_touching : (xs ys : List ℤ) (mask : Mask) (shapes : List Rect) (blocks
     → AreTouching (map (tile_of xs ys) strips) pairs
 are_touching xs ys mask shapes blocks strips pairs h are t = record {
   each = All-weaker (cells.IsTouching strips) (λ p. TouchAt (map (tile_of xs ys) strips) p.a p.b)
-    (λ p. (touch_at xs ys mask shapes blocks strips p h are).0) pairs t.each;
+      (λ p. (touch_at xs ys mask shapes blocks strips p h are).0) pairs t.each;
   all = λ p u. t.all p ((touch_at xs ys mask shapes blocks strips p h are).1 u);
 }

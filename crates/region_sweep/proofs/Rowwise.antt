@@ -1,14 +1,11 @@
 -- From one row to the next.
-use Rattle.std.proofs.Common.{ℕ, zero, suc, ◌≡◌, ◌≢◌, ◌+◌, ◌-◌, ◌<◌, ◌≤◌, ◌⊎◌, ◌↔◌, List, [], ◌∷◌, ◌++◌, true, false, Some, None, Option, inl, inr, refl, sym, ap, ◌∙◌, subst, arith, length, get_or, set, max, eq-or-lt_of_le, get_or-set_other, get_or-set_same, leb}
-use Rattle.std.specs.Prelude.{All, AllPairs, Contains}
+use Rattle.std.proofs.Common.{ℕ, ◌≡◌, ◌+◌, ◌-◌, ◌<◌, ◌≤◌, ◌⊎◌, List, [], true, false, Some, None, Option, inl, inr, refl, sym, ap, ◌∙◌, subst, arith, length, get_or, set, max, eq-or-lt_of_le, get_or-set_other, get_or-set_same, leb}
+use Rattle.std.specs.Prelude.{All}
 use Rattle.std.specs.List.Sorted.{IsNonDecreasingBy, IsPartitionPoint, IsPartitionedBy}
 use Rattle.std.proofs.lemmas.Bool.{cases_lt, cases_eq, cases_order}
-use Rattle.std.proofs.lemmas.Bool.Decides.{nat_tests}
 use Rattle.std.proofs.lemmas.List.{get_or_default}
 use Rattle.std.proofs.lemmas.List.Sorted.{IsPartitionedBy-leb}
 use Rattle.std.proofs.Common.{leb-true, leb-false}
-use Rattle.std.proofs.lemmas.List.Elements.{All-contains, All-weaker, Contains-get_or}
-use Rattle.lam_geom.specs.declared.layer.Layer.{Layer}
 use Rattle.mask_runs.specs.declared.mask.Mask.{Mask}
 use Rattle.mask_runs.specs.declared.run.Run.{Run}
 use Rattle.mask_runs.specs.Runs.{IsRun, AreRuns}
@@ -16,15 +13,14 @@ use Rattle.mask_runs.specs.Laws.{ColoursByLayers}
 use Rattle.cover_tree.specs.Covers.{Cover, IsBare, IsRaised, row_colour, windowed}
 use Rattle.strip_rows.specs.declared.rows.StripRows.{StripRows}
 use Rattle.strip_rows.specs.declared.strip.Strip.{Strip}
-use Rattle.strip_rows.specs.Strips.{run_of, strip}
 use Rattle.strip_rows.specs.Missing.{run, no_run}
 use Rattle.strip_rows.specs.Changes.{LieInRow, IsChange}
 use Rattle.strip_rows.specs.Swept.{strips_of, cells_of, IsOpenAt, IsSwept, KeepNumbers}
 use Rattle.region_sweep.specs.declared.block.Block.{Block}
 use Rattle.region_sweep.specs.declared.spot.Spot.{Spot}
 use Rattle.region_sweep.specs.Blocks.{painted, AreStacked}
-use Rattle.region_sweep.specs.Rows.{block, no_block, spot, no_spot, ReachesOver, AreFit, AreRaised, AreAsked, IsFront, Holds, IsAnswer, AreAnswered}
-use Rattle.region_sweep.proofs.Painting.{row_painted, whole_window, blank_left, blank_right, blank_below, blank_above}
+use Rattle.region_sweep.specs.Rows.{block, no_block, spot, no_spot, ReachesOver, AreFit, AreRaised, AreAsked, IsFront, IsAnswer, AreAnswered}
+use Rattle.region_sweep.proofs.Painting.{row_painted, whole_window, blank_left, blank_right, blank_below}
 use Rattle.region_sweep.proofs.Squares.{layer_or_not}
 use Rattle.region_sweep.proofs.Stretches.{run_around}
 
@@ -41,9 +37,9 @@ pub record IsAt (mask : Mask) (cells : ℕ) (blocks : List Block) (row : ℕ) (c
 
 in_or_out : (a b c : ℕ) → (a ≤ c) × (c < b) ⊎ ((c < a) ⊎ (b ≤ c))
 in_or_out a b c = elim (cases_lt c a) [
-    | inl l ↦ inr (inl l)
-    | inr l ↦ elim (cases_lt c b) [ inl m ↦ inl (l, m) | inr m ↦ inr (inr m) ]
-  ]
+  | inl l ↦ inr (inl l)
+  | inr l ↦ elim (cases_lt c b) [ inl m ↦ inl (l, m) | inr m ↦ inr (inr m) ]
+]
 
 -- one more block is raised
 pub raised_more : (blocks : List Block) (row n : ℕ) (old now : Cover) → AreRaised blocks row n old → n < length blocks → (block blocks n).low ≤ row
@@ -58,34 +54,34 @@ raised_more blocks row n old now h l m r =
           | inr other ↦ let e = r.others l c other in let g = (h.tops l c z).0 (omega arith) in (g.0, omega arith, g.2)
           | inl e ↦ elim (in_or_out b.left b.right c) [
             | inr out ↦
-              let q : now.top l c ≡ old.top l c = subst (λ x. now.top x c ≡ old.top x c) (sym e) (r.beside c out) in
-              let g = (h.tops l c z).0 (omega arith) in (g.0, omega arith, g.2)
+                let q : now.top l c ≡ old.top l c = subst (λ x. now.top x c ≡ old.top x c) (sym e) (r.beside c out) in
+                let g = (h.tops l c z).0 (omega arith) in (g.0, omega arith, g.2)
             | inl in' ↦
-              let q : now.top l c ≡ max (old.top l c) b.high = subst (λ x. now.top x c ≡ max (old.top x c) b.high) (sym e) (r.within c in'.0 in'.1) in
-              elim (cases_lt z (old.top l c)) [
-                | inl p ↦ let g = (h.tops l c z).0 p in (g.0, omega arith, g.2)
-                | inr p ↦ (n, omega arith, record { same = sym e; left = in'.0; right = in'.1; high = omega arith })
-              ]
+                let q : now.top l c ≡ max (old.top l c) b.high = subst (λ x. now.top x c ≡ max (old.top x c) b.high) (sym e) (r.within c in'.0 in'.1) in
+                elim (cases_lt z (old.top l c)) [
+                  | inl p ↦ let g = (h.tops l c z).0 p in (g.0, omega arith, g.2)
+                  | inr p ↦ (n, omega arith, record { same = sym e; left = in'.0; right = in'.1; high = omega arith })
+                ]
           ]
         ],
         λ g. elim (eq-or-lt_of_le {n = g.0} {m = n} (let q = g.1 in omega arith)) [
           | inl e ↦
-            let o = subst (λ k. ReachesOver (block blocks k) l c z) e g.2 in
-            let q : now.top l c ≡ max (old.top l c) b.high =
-            subst (λ x. now.top x c ≡ max (old.top x c) b.high) o.same (r.within c o.left o.right) in
-            let high = o.high in
-            omega arith
+              let o = subst (λ k. ReachesOver (block blocks k) l c z) e g.2 in
+              let q : now.top l c ≡ max (old.top l c) b.high =
+              subst (λ x. now.top x c ≡ max (old.top x c) b.high) o.same (r.within c o.left o.right) in
+              let high = o.high in
+              omega arith
           | inr p ↦
-            let t = (h.tops l c z).1 (g.0, p, g.2) in
-            elim (layer_or_not l b.layer) [
-              | inr other ↦ let e = r.others l c other in omega arith
-              | inl e ↦ elim (in_or_out b.left b.right c) [
-                | inr out ↦ let q : now.top l c ≡ old.top l c = subst (λ x. now.top x c ≡ old.top x c) (sym e) (r.beside c out) in omega arith
-                | inl in' ↦
-                  let q : now.top l c ≡ max (old.top l c) b.high = subst (λ x. now.top x c ≡ max (old.top x c) b.high) (sym e) (r.within c in'.0 in'.1) in
-                  omega arith
+              let t = (h.tops l c z).1 (g.0, p, g.2) in
+              elim (layer_or_not l b.layer) [
+                | inr other ↦ let e = r.others l c other in omega arith
+                | inl e ↦ elim (in_or_out b.left b.right c) [
+                  | inr out ↦ let q : now.top l c ≡ old.top l c = subst (λ x. now.top x c ≡ old.top x c) (sym e) (r.beside c out) in omega arith
+                  | inl in' ↦
+                      let q : now.top l c ≡ max (old.top l c) b.high = subst (λ x. now.top x c ≡ max (old.top x c) b.high) (sym e) (r.within c in'.0 in'.1) in
+                      omega arith
+                ]
               ]
-            ]
         ],
       );
     }
@@ -121,17 +117,17 @@ pub runs_lie : (colour : ℕ → ℕ) (cells : ℕ) (runs : List Run) → AreRun
 runs_lie colour cells runs h last = record {
   wide = λ k d l. (h.each k d l).wide;
   within = λ k d l.
-    let r = get_or runs k d in
-    let is = h.each k d l in
-    let w = is.wide in
-    elim (cases_lt cells r.right) [
-      | inr m ↦ m
-      | inl m ↦
-        let e = is.each (r.right - 1) (omega arith) (omega arith) in
-        let z = last (r.right - 1) (omega arith) in
-        let s = is.some in
-        absurd (omega arith)
-    ];
+      let r = get_or runs k d in
+      let is = h.each k d l in
+      let w = is.wide in
+      elim (cases_lt cells r.right) [
+        | inr m ↦ m
+        | inl m ↦
+            let e = is.each (r.right - 1) (omega arith) (omega arith) in
+            let z = last (r.right - 1) (omega arith) in
+            let s = is.some in
+            absurd (omega arith)
+      ];
   ascending = h.ascending;
 }
 
@@ -155,7 +151,7 @@ row_runs law mask cells rows blocks row raised cover runs e st h rest are =
     let same : (c : ℕ) → row_colour cover row c ≡ painted mask blocks row c = λ c.
     subst (λ m. row_colour cover row c ≡ painted m blocks row c) e (row_painted law blocks row raised cover c h rest) in
     let w = whole_window cells (row_colour cover row) (painted mask blocks row) same
-      (λ c l. blank_right law mask cells rows blocks row c st (omega arith)) in
+    (λ c l. blank_right law mask cells rows blocks row c st (omega arith)) in
     subst (λ f. AreRuns f runs) w are
 
 no_runs : (colour : ℕ → ℕ) → ((c : ℕ) → colour c ≡ 0) → AreRuns colour []
@@ -186,13 +182,15 @@ still_answer colour old new p k (Some n) h =
     let low = same.low in
     let a = h.1.left in
     let b = h.1.right in
-    let c = h.1.low in
-    (let m = h.0 in omega arith, record {
-      left = omega arith;
-      right = omega arith;
-      low = omega arith;
-      each = λ z l m. subst (IsRun (colour z)) same.run (h.1.each z (omega arith) m);
-    })
+    let c = h.1.low in (
+      let m = h.0 in omega arith,
+      record {
+        left = omega arith;
+        right = omega arith;
+        low = omega arith;
+        each = λ z l m. subst (IsRun (colour z)) same.run (h.1.each z (omega arith) m);
+      },
+    )
 
 -- answers stay while strips keep their numbers
 pub still_answered : (colour : ℕ → ℕ → ℕ) (old new : List Strip) (spots : List Spot) (n : ℕ) (found : List (Option ℕ)) → KeepNumbers old new
@@ -209,28 +207,28 @@ pub answered_more : (colour : ℕ → ℕ → ℕ) (strips : List Strip) (spots 
 answered_more colour strips spots n found a asked l h is = record {
   within = omega arith;
   each = λ j m.
-    let i = (spot spots n).index in
-    elim (cases_eq (spot spots j).index i) [
-      | inl e ↦
-        let same = asked.one n j l (omega arith) (sym e) in
-        let at : get_or (set found i a) i None ≡ a = get_or-set_same found i a None (asked.within n no_spot l) in
-        subst (λ p. IsAnswer colour strips p (get_or (set found i a) p.index None)) same
-        (subst (IsAnswer colour strips (spot spots n)) (sym at) is)
-      | inr other ↦
-        let at : get_or (set found i a) (spot spots j).index None ≡ get_or found (spot spots j).index None = get_or-set_other found i _ a None other in
-        subst (IsAnswer colour strips (spot spots j)) (sym at) (elim (eq-or-lt_of_le {n = j} {m = n} (omega arith)) [
-          | inl e ↦ absurd (other (ap (λ k. (spot spots k).index) e))
-          | inr p ↦ h.each j p
-        ])
-    ];
+      let i = (spot spots n).index in
+      elim (cases_eq (spot spots j).index i) [
+        | inl e ↦
+            let same = asked.one n j l (omega arith) (sym e) in
+            let at : get_or (set found i a) i None ≡ a = get_or-set_same found i a None (asked.within n no_spot l) in
+            subst (λ p. IsAnswer colour strips p (get_or (set found i a) p.index None)) same
+            (subst (IsAnswer colour strips (spot spots n)) (sym at) is)
+        | inr other ↦
+            let at : get_or (set found i a) (spot spots j).index None ≡ get_or found (spot spots j).index None = get_or-set_other found i _ a None other in
+            subst (IsAnswer colour strips (spot spots j)) (sym at) (elim (eq-or-lt_of_le {n = j} {m = n} (omega arith)) [
+              | inl e ↦ absurd (other (ap (λ k. (spot spots k).index) e))
+              | inr p ↦ h.each j p
+            ])
+      ];
 }
 
 -- the run that ends first after a cell has it, or none has
 right_rises : (cells : ℕ) (runs : List Run) → LieInRow cells runs → IsNonDecreasingBy (λ r. r.right) runs
 right_rises cells runs h i j d l m = elim (eq-or-lt_of_le l) [
-    | inl e ↦ let q = ap (λ k. (get_or runs k d).right) e in omega arith
-    | inr p ↦ let a = h.ascending i j d p m in let w = h.wide j d m in omega arith
-  ]
+  | inl e ↦ let q = ap (λ k. (get_or runs k d).right) e in omega arith
+  | inr p ↦ let a = h.ascending i j d p m in let w = h.wide j d m in omega arith
+]
 
 pub parted_at : (cells : ℕ) (runs : List Run) (cell : ℕ) → LieInRow cells runs → IsPartitionedBy (λ r. leb r.right cell) runs
 parted_at cells runs cell h = IsPartitionedBy-leb (λ r. r.right) runs cell (right_rises cells runs h)
@@ -239,8 +237,8 @@ pub none_there : (colour : ℕ → ℕ → ℕ) (strips : StripRows) (runs : Lis
     → IsPartitionPoint (λ r. leb r.right p.cell ≡ true) (λ r. leb r.right p.cell ≡ false) runs place
     → (place < length runs → p.cell < (run runs place).left) → IsFront colour p.row strips runs → colour p.row p.cell ≡ 0
 none_there colour strips runs p place lie point beyond front = elim (cases_lt 0 (colour p.row p.cell)) [
-    | inr z ↦ omega arith
-    | inl some ↦
+  | inr z ↦ omega arith
+  | inl some ↦
       let r = run_around (colour p.row) (cells_of strips) p.cell front.first front.last some in
       let has = front.runs.all r.0 r.1 in
       let k = has.0 in
@@ -250,25 +248,25 @@ none_there colour strips runs p place lie point beyond front = elim (cases_lt 0 
       let b = r.3 in
       absurd (elim (cases_order k place) [
         | inl e ↦
-          let c = beyond (omega arith) in
-          let at : (run runs k).left ≡ r.0.left = ap (λ (q : Run). q.left) (get_or_default runs k no_run r.0 has.1 ∙ has.2) in
-          let q = ap (λ j. (run runs j).left) e in
-          omega arith
+            let c = beyond (omega arith) in
+            let at : (run runs k).left ≡ r.0.left = ap (λ (q : Run). q.left) (get_or_default runs k no_run r.0 has.1 ∙ has.2) in
+            let q = ap (λ j. (run runs j).left) e in
+            omega arith
         | inr (inl l) ↦ let t = leb-true _ _ (point.0 k r.0 (omega arith) l) in omega arith
         | inr (inr l) ↦
-          let c = beyond (omega arith) in
-          let at : (run runs k).left ≡ r.0.left = ap (λ (q : Run). q.left) (get_or_default runs k no_run r.0 has.1 ∙ has.2) in
-          let q = lie.ascending place k no_run l has.1 in
-          let w = lie.wide place no_run (omega arith) in
-          omega arith
+            let c = beyond (omega arith) in
+            let at : (run runs k).left ≡ r.0.left = ap (λ (q : Run). q.left) (get_or_default runs k no_run r.0 has.1 ∙ has.2) in
+            let q = lie.ascending place k no_run l has.1 in
+            let w = lie.wide place no_run (omega arith) in
+            omega arith
       ])
-  ]
+]
 
 pub one_there : (colour : ℕ → ℕ → ℕ) (strips : StripRows) (runs : List Run) (p : Spot) (place n : ℕ)
     → IsPartitionPoint (λ r. leb r.right p.cell ≡ true) (λ r. leb r.right p.cell ≡ false) runs place
     → place < length runs → (run runs place).left ≤ p.cell → IsFront colour p.row strips runs
     → ((colour : ℕ → ℕ → ℕ) (y : ℕ) → IsSwept colour y strips → (r : Run) → r.left ≡ (run runs place).left → IsRun (colour y) r
-      → IsOpenAt colour y (strips_of strips) n r) → IsAnswer colour (strips_of strips) p (Some n)
+    → IsOpenAt colour y (strips_of strips) n r) → IsAnswer colour (strips_of strips) p (Some n)
 one_there colour strips runs p place n point l m front at =
     let r = run runs place in
     let is = front.runs.each place no_run l in
@@ -314,6 +312,6 @@ runs_above law mask cells rows blocks row raised old cover runs e f = row_runs l
 pub all_answered : (spots : List Spot) (rows below answered : ℕ) → All (λ s. s.row < rows) spots → rows ≤ below + 1 → answered ≤ length spots
     → ((j : ℕ) → answered ≤ j → j < length spots → below < (spot spots j).row) → answered ≡ length spots
 all_answered spots rows below answered h l m waiting = elim (cases_lt answered (length spots)) [
-    | inr k ↦ omega arith
-    | inl k ↦ let a = waiting answered (omega arith) k in let b = h answered no_spot k in absurd (omega arith)
-  ]
+  | inr k ↦ omega arith
+  | inl k ↦ let a = waiting answered (omega arith) k in let b = h answered no_spot k in absurd (omega arith)
+]

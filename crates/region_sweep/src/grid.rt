@@ -1,17 +1,20 @@
 //! The grid of a mask.
 
-ghost use Rattle.std.specs.Prelude.{◌≡◌, ◌+◌, ◌∷◌, ◌++◌, [], IfOk, OnOk, length};
-ghost use Rattle.region_sweep.specs.Grid.{block_of, spot_of, AreDrawn, AreBlocks, AreSpots};
+ghost use Rattle.std.specs.Prelude.{◌≡◌, ◌+◌, ◌∷◌, ◌++◌, [], All, map, IfOk, OnOk, length};
+ghost use Rattle.region_sweep.specs.Grid.{block_of, spot_of, tile_of, IsFit, AreDrawn, AreBlocks, AreSpots};
 ghost use Rattle.region_sweep.specs.Blocks.{AreStacked};
 ghost use Rattle.std.specs.List.Sorted.{IsNonDecreasingBy};
 
 use crate::axis::Axis;
 use crate::block::Block;
+use crate::rows::Size;
 use crate::spot::Spot;
+use crate::tile::Tile;
 use lam_geom::{Point, Rect};
 use mask_runs::Mask;
 use mp_base::{List, NoMemory};
 use std::alloc::Global;
+use strip_rows::Strip;
 
 /// The columns and rows of cells between the sides of rectangles.
 #[derive(Drop)]
@@ -68,6 +71,42 @@ impl Grid {
             right: self.columns.cell(shape.x1),
             low: self.rows.cell(shape.y0),
             high: self.rows.cell(shape.y1),
+        }
+    }
+
+    /// How many cells and rows there are.
+    pub(crate) fn size(&self) -> Size
+        ensures cells { result.cells ≡ length self.now.columns.marks.items + 1 }
+        ensures rows { result.rows ≡ length self.now.rows.marks.items + 1 }
+    {
+        Size {
+            cells: self.columns.cells(),
+            rows: self.rows.cells(),
+        }
+    }
+
+    /// The tiles of strips.
+    pub(crate) fn tiles(&self, alloc: Global, strips: &[Strip]) -> Result<List<Tile>, NoMemory>
+        requires { All (IsFit self.now.columns.marks.items self.now.rows.marks.items) strips.now }
+        ensures { IfOk result (λ v. v ≡ map (tile_of self.now.columns.marks.items self.now.rows.marks.items) strips.now) }
+    {
+        let mut tiles = List::new(alloc);
+        for strip in strips {
+            tiles.push(self.tile(strip))?;
+        }
+        Ok(tiles)
+    }
+
+    fn tile(&self, strip: &Strip) -> Tile
+        requires { IsFit self.now.columns.marks.items self.now.rows.marks.items strip.now }
+        ensures { result ≡ tile_of self.now.columns.marks.items self.now.rows.marks.items strip.now }
+    {
+        Tile {
+            x0: self.columns.start(strip.left),
+            y0: self.rows.start(strip.low),
+            x1: self.columns.start(strip.right),
+            y1: self.rows.start(strip.high),
+            colour: strip.colour,
         }
     }
 

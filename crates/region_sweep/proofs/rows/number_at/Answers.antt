@@ -1,5 +1,5 @@
 -- The run that ends first after the cell has it, or none has.
-use Rattle.std.proofs.Common.{ℕ, ◌≡◌, ◌≤◌, ◌<◌, sym, subst, leb, true, false, arith, length, rules}
+use Rattle.std.proofs.Common.{◌≡◌, ◌≤◌, ◌<◌, sym, subst, leb, true, false, arith, length, rules}
 use Rattle.std.specs.List.Sorted.{IsPartitionPoint}
 use Rattle.std.proofs.lemmas.List.Sorted.{IsPartitionPoint-from_clause}
 use Rattle.mask_runs.specs.declared.run.Run.{Run}
@@ -15,7 +15,7 @@ returns-then-runs-place c = λ colour p front e.
     let cell = c.args.cell in
     let place = c.partition_point-place.result in
     let point = IsPartitionPoint-from_clause (λ r. leb r.right cell) _ _ c.partition_point-place.ensures.partitioned
-      (parted_at (cells_of c.args.strips.now) runs cell c.requires) (λ a r q k. search rules) in
+    (parted_at (cells_of c.args.strips.now) runs cell c.requires) (λ a r q k. search rules) in
     one_there colour c.args.strips.now runs p place c.strip_at.result
     (subst (λ z. IsPartitionPoint (λ (r : Run). leb r.right z ≡ true) (λ (r : Run). leb r.right z ≡ false) runs place) (sym e) point)
     c.if-place-runs.true (let t = c.if-runs-place.true in subst (λ z. (run runs place).left ≤ z) (sym e) t) front c.strip_at.ensures
@@ -26,7 +26,7 @@ returns-else-place-runs c = λ colour p front e.
     let cell = c.args.cell in
     let place = c.partition_point-place.result in
     let point = IsPartitionPoint-from_clause (λ r. leb r.right cell) _ _ c.partition_point-place.ensures.partitioned
-      (parted_at (cells_of c.args.strips.now) runs cell c.requires) (λ a r q k. search rules) in
+    (parted_at (cells_of c.args.strips.now) runs cell c.requires) (λ a r q k. search rules) in
     let beyond : place < length runs → cell < (run runs place).left = elim c.else-place-runs.branch [
       | else-place-runs-via-then-place-runs+else-runs-place w ↦ λ l. w.if-runs-place.false
       | else-place-runs-via-else-place-runs w ↦ λ l. let f = w.if-place-runs.false in absurd (omega arith)

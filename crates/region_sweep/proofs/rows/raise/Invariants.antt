@@ -8,7 +8,7 @@ abbrev pub invariant-loop-next : goal.invariant-loop-next
 invariant-loop-next l = record {
   mask : (cover_of l.tree).mask ≡ (cover_of l.initial.tree).mask;
   cells : (cover_of l.tree).cells ≡ (cover_of l.initial.tree).cells;
-  raised : AreRaised l.blocks l.row l.next (cover_of l.tree)
+  raised : AreRaised l.blocks l.row l.next (cover_of l.tree);
 }
 
 abbrev pub decreases-loop-next : goal.decreases-loop-next

@@ -1,13 +1,13 @@
 -- Row by row.
-use Rattle.std.proofs.Common.{ℕ, ◌≡◌, ◌+◌, ◌-◌, ◌≤◌, ◌<◌, sym, ◌∙◌, ap, subst, arith, length, List, Vec}
+use Rattle.std.proofs.Common.{ℕ, ◌≡◌, ◌+◌, ◌≤◌, sym, ◌∙◌, ap, subst, arith, length}
 use Rattle.cover_tree.specs.Trees.{cover_of}
 use Rattle.mask_runs.specs.Runs.{AreRuns}
-use Rattle.strip_rows.specs.Changes.{LieInRow, IsChange}
+use Rattle.strip_rows.specs.Changes.{LieInRow}
 use Rattle.strip_rows.specs.Swept.{strips_of, cells_of}
 use Rattle.region_sweep.specs.Blocks.{painted}
 use Rattle.region_sweep.specs.Rows.{AreAsked, IsFront, AreAnswered}
 use Rattle.region_sweep.proofs.Painting.{blank_above}
-use Rattle.region_sweep.proofs.Rowwise.{IsAt, nothing_raised, nothing_swept, nothing_lies, nothing_answered, raised_later, fit_tree, runs_above, lie_in, whole_change, still_answered, front_next, all_answered}
+use Rattle.region_sweep.proofs.Rowwise.{nothing_raised, nothing_swept, nothing_lies, nothing_answered, raised_later, fit_tree, runs_above, lie_in, whole_change, still_answered, front_next, all_answered}
 use Rattle.region_sweep.proofs.rows.sweep_rows.Goals as goal
 
 pub answer-answered-requires-clause-runs : goal.answer-answered-requires-clause-runs
@@ -25,7 +25,7 @@ loop-below-init c =
     let blocks = c.args.blocks.now in
     let strips = c.in_ok-strips.strips in
     let front = nothing_swept c.colours_by_layers.ensures mask c.args.size.cells c.args.size.rows blocks strips c.requires.stacked
-      c.in_ok-strips.ensures.cells c.in_ok-strips.ensures.strips in
+    c.in_ok-strips.ensures.cells c.in_ok-strips.ensures.strips in
     record {
       mask_same = c.in_ok-tree.ensures.of_mask;
       wide = c.in_ok-tree.ensures.wide;
@@ -33,8 +33,8 @@ loop-below-init c =
       raised_are = nothing_raised mask c.args.size.cells blocks (cover_of c.in_ok-tree.tree) c.in_ok-tree.ensures;
       front = subst (IsFront (painted mask blocks) 0 strips) (sym c.new-runs.ensures.items) front;
       answers = c.answer-answered.ensures.answers (painted mask blocks)
-        (subst (IsFront (painted mask blocks) 0 strips) (sym (c.as_slice.ensures.value ∙ c.new-runs.ensures.items)) front)
-        (nothing_answered (painted mask blocks) (strips_of strips) c.args.spots.now c.args.found.now);
+          (subst (IsFront (painted mask blocks) 0 strips) (sym (c.as_slice.ensures.value ∙ c.new-runs.ensures.items)) front)
+          (nothing_answered (painted mask blocks) (strips_of strips) c.args.spots.now c.args.found.now);
       waiting = c.answer-answered.ensures.waiting;
     }
 
@@ -57,27 +57,27 @@ step-requires-clause-old c =
     let is : c.as_slice-in-loop-below.result.now ≡ c.loop-below.runs.items = c.as_slice-in-loop-below.ensures.value ∙ ap (λ v. v.items) c.swap.ensures.x_after in
     subst (LieInRow (cells_of c.loop-below.strips)) (sym is)
     (lie_in c.colours_by_layers.ensures c.args.mask c.args.size.cells c.args.size.rows c.args.blocks.now c.loop-below.below _ c.loop-below.runs.items
-      c.requires.stacked inv.as_wide inv.front.runs)
+    c.requires.stacked inv.as_wide inv.front.runs)
 
 pub step-requires-clause-new : goal.step-requires-clause-new
 step-requires-clause-new c =
     let inv = c.loop-below.invariant in
     let are = runs_above c.colours_by_layers.ensures c.args.mask c.args.size.cells c.args.size.rows c.args.blocks.now (c.loop-below.below + 1) c.raise-raised.result
-      (cover_of c.loop-below.tree) (cover_of c.raise-raised.new.tree) c.collect.new.runs.items c.raise-raised.ensures.mask inv.mask_same c.requires.stacked
-      c.raise-raised.ensures.raised c.raise-raised.ensures.waiting c.in_ok-collect.ensures in
+    (cover_of c.loop-below.tree) (cover_of c.raise-raised.new.tree) c.collect.new.runs.items c.raise-raised.ensures.mask inv.mask_same c.requires.stacked
+    c.raise-raised.ensures.raised c.raise-raised.ensures.waiting c.in_ok-collect.ensures in
     subst (LieInRow (cells_of c.loop-below.strips)) (sym c.as_slice-in-loop-below-2.ensures.value)
     (lie_in c.colours_by_layers.ensures c.args.mask c.args.size.cells c.args.size.rows c.args.blocks.now (c.loop-below.below + 1) _ c.collect.new.runs.items
-      c.requires.stacked inv.as_wide are)
+    c.requires.stacked inv.as_wide are)
 
 pub answer-answered-requires-in-loop-below-clause-runs : goal.answer-answered-requires-in-loop-below-clause-runs
 answer-answered-requires-in-loop-below-clause-runs c =
     let inv = c.loop-below.invariant in
     let are = runs_above c.colours_by_layers.ensures c.args.mask c.args.size.cells c.args.size.rows c.args.blocks.now (c.loop-below.below + 1) c.raise-raised.result
-      (cover_of c.loop-below.tree) (cover_of c.raise-raised.new.tree) c.collect.new.runs.items c.raise-raised.ensures.mask inv.mask_same c.requires.stacked
-      c.raise-raised.ensures.raised c.raise-raised.ensures.waiting c.in_ok-collect.ensures in
+    (cover_of c.loop-below.tree) (cover_of c.raise-raised.new.tree) c.collect.new.runs.items c.raise-raised.ensures.mask inv.mask_same c.requires.stacked
+    c.raise-raised.ensures.raised c.raise-raised.ensures.waiting c.in_ok-collect.ensures in
     subst (LieInRow (cells_of c.step.new.self)) (sym c.as_slice-in-loop-below-3.ensures.value)
     (lie_in c.colours_by_layers.ensures c.args.mask c.args.size.cells c.args.size.rows c.args.blocks.now (c.loop-below.below + 1) _ c.collect.new.runs.items
-      c.requires.stacked (c.in_ok-step.ensures.cells ∙ inv.as_wide) are)
+    c.requires.stacked (c.in_ok-step.ensures.cells ∙ inv.as_wide) are)
 
 pub answer-answered-requires-in-loop-below-clause-spots : goal.answer-answered-requires-in-loop-below-clause-spots
 answer-answered-requires-in-loop-below-clause-spots c = subst (λ n. AreAsked n c.args.spots.now) (sym (c.loop-below.auto.found ∙ c.answer-answered.auto.found)) c.requires.asked
@@ -99,12 +99,12 @@ loop-below-preserved c =
     let row = c.loop-below.below + 1 in
     let colour = painted mask blocks in
     let are = runs_above law mask cells rows blocks row c.raise-raised.result
-      (cover_of c.loop-below.tree) (cover_of c.raise-raised.new.tree) c.collect.new.runs.items c.raise-raised.ensures.mask inv.mask_same c.requires.stacked
-      c.raise-raised.ensures.raised c.raise-raised.ensures.waiting c.in_ok-collect.ensures in
+    (cover_of c.loop-below.tree) (cover_of c.raise-raised.new.tree) c.collect.new.runs.items c.raise-raised.ensures.mask inv.mask_same c.requires.stacked
+    c.raise-raised.ensures.raised c.raise-raised.ensures.waiting c.in_ok-collect.ensures in
     let old : c.as_slice-in-loop-below.result.now ≡ c.loop-below.runs.items = c.as_slice-in-loop-below.ensures.value ∙ ap (λ v. v.items) c.swap.ensures.x_after in
     let swept = c.in_ok-step.ensures.swept colour c.loop-below.below inv.front.swept
-      (whole_change colour c.loop-below.below _ _ (subst (AreRuns (colour c.loop-below.below)) (sym old) inv.front.runs)
-        (subst (AreRuns (colour row)) (sym c.as_slice-in-loop-below-2.ensures.value) are)) in
+    (whole_change colour c.loop-below.below _ _ (subst (AreRuns (colour c.loop-below.below)) (sym old) inv.front.runs)
+    (subst (AreRuns (colour row)) (sym c.as_slice-in-loop-below-2.ensures.value) are)) in
     let wide = c.in_ok-step.ensures.cells ∙ inv.as_wide in
     let front = front_next law mask cells rows blocks row c.step.new.self c.collect.new.runs.items c.requires.stacked wide swept are in
     record {
@@ -114,8 +114,8 @@ loop-below-preserved c =
       raised_are = c.raise-raised.ensures.raised;
       front = front;
       answers = c.answer-answered-in-loop-below.ensures.answers colour
-        (subst (IsFront colour row c.step.new.self) (sym c.as_slice-in-loop-below-3.ensures.value) front)
-        (still_answered colour (strips_of c.loop-below.strips) (strips_of c.step.new.self) c.args.spots.now c.loop-below.answered c.loop-below.found
+          (subst (IsFront colour row c.step.new.self) (sym c.as_slice-in-loop-below-3.ensures.value) front)
+          (still_answered colour (strips_of c.loop-below.strips) (strips_of c.step.new.self) c.args.spots.now c.loop-below.answered c.loop-below.found
           c.in_ok-step.ensures.numbers inv.answers);
       waiting = c.answer-answered-in-loop-below.ensures.waiting;
     }
@@ -130,12 +130,12 @@ returns c =
     let blocks = c.args.blocks.now in
     let colour = painted mask blocks in
     let above = λ (z x : ℕ) (l : c.loop-below.below ≤ z). blank_above law mask cells rows blocks z x c.requires.stacked
-      (let t = c.loop-below-test.false in let r = c.requires.rows in omega arith) in
+    (let t = c.loop-below-test.false in let r = c.requires.rows in omega arith) in
     let all = all_answered c.args.spots.now rows c.loop-below.below c.loop-below.answered c.requires.spots
-      (let t = c.loop-below-test.false in let r = c.requires.rows in omega arith) inv.answers.within inv.waiting in
+    (let t = c.loop-below-test.false in let r = c.requires.rows in omega arith) inv.answers.within inv.waiting in
     record {
       strips = c.finish.ensures.strips colour c.loop-below.below inv.front.swept above;
       touching = c.finish.ensures.touching colour c.loop-below.below inv.front.swept above;
       answers = subst (λ s. AreAnswered colour s c.args.spots.now (length c.args.spots.now) c.loop-below.found) (sym c.finish.ensures.numbers)
-        (subst (λ n. AreAnswered colour (strips_of c.loop-below.strips) c.args.spots.now n c.loop-below.found) all inv.answers);
+          (subst (λ n. AreAnswered colour (strips_of c.loop-below.strips) c.args.spots.now n c.loop-below.found) all inv.answers);
     }

@@ -1,5 +1,4 @@
 -- The rows up to `below` are swept.
-use Rattle.std.proofs.Common.{ℕ, ◌≡◌, length}
 use Rattle.cover_tree.specs.Trees.{cover_of}
 use Rattle.region_sweep.proofs.Rowwise.{IsAt}
 use Rattle.region_sweep.proofs.rows.sweep_rows.Given as goal

@@ -1,7 +1,7 @@
 -- Rectangle by rectangle.
-use Rattle.std.proofs.Common.{◌≡◌, sym, ◌∙◌, subst, take, ◌+◌, ap, ◌∷◌, [], ◌++◌, rules}
+use Rattle.std.proofs.Common.{sym, ◌∙◌, subst, take, ◌+◌, ap, ◌∷◌, [], ◌++◌, rules}
 use Rattle.std.proofs.lemmas.List.Sorted.{IsNonDecreasingBy-from_sort_by_key}
-use Rattle.region_sweep.specs.Grid.{AreBlocks, block_of}
+use Rattle.region_sweep.specs.Grid.{AreBlocks}
 use Rattle.region_sweep.proofs.Gridding.{no_rect, blocks_more, blocks_same, blocks_sorted, all_inside}
 use Rattle.region_sweep.proofs.grid.Grid.blocks.Goals as goal
 use Rattle.region_sweep.proofs.grid.Grid.blocks.Goals.{then-uses+in_ok-push, else-uses}
@@ -15,12 +15,12 @@ loop-shape-preserved c =
     let ys = grid.rows.marks.items in
     elim c.if-uses.branch [
       | then-uses+in_ok-push w ↦
-        let e = w.blocks-is ∙ w.in_ok-push.ensures.ok ∙ ap (λ b. c.loop-shape.blocks ++ b ∷ []) w.block.ensures in
-        subst (λ bs. AreBlocks xs ys c.args.mask (take (i + 1) shapes) bs) (sym e)
-        (blocks_more xs ys c.args.mask shapes c.loop-shape.blocks i no_rect c.loop-shape-test.true (sym c.uses.ensures ∙ w.if-uses.true) c.loop-shape.invariant)
+          let e = w.blocks-is ∙ w.in_ok-push.ensures.ok ∙ ap (λ b. c.loop-shape.blocks ++ b ∷ []) w.block.ensures in
+          subst (λ bs. AreBlocks xs ys c.args.mask (take (i + 1) shapes) bs) (sym e)
+          (blocks_more xs ys c.args.mask shapes c.loop-shape.blocks i no_rect c.loop-shape-test.true (sym c.uses.ensures ∙ w.if-uses.true) c.loop-shape.invariant)
       | else-uses w ↦
-        subst (λ bs. AreBlocks xs ys c.args.mask (take (i + 1) shapes) bs) (sym w.blocks-is)
-        (blocks_same xs ys c.args.mask shapes c.loop-shape.blocks i no_rect c.loop-shape-test.true (sym c.uses.ensures ∙ w.if-uses.false) c.loop-shape.invariant)
+          subst (λ bs. AreBlocks xs ys c.args.mask (take (i + 1) shapes) bs) (sym w.blocks-is)
+          (blocks_same xs ys c.args.mask shapes c.loop-shape.blocks i no_rect c.loop-shape-test.true (sym c.uses.ensures ∙ w.if-uses.false) c.loop-shape.invariant)
     ]
 
 blocks_are : goal.returns-clause-blocks

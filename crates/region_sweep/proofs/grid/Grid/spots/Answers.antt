@@ -1,8 +1,6 @@
 -- Place by place.
-use Rattle.std.proofs.Common.{◌≡◌, sym, ◌∙◌, subst, take, ◌+◌, ap, ◌∷◌, [], ◌++◌, rules, get_or, arith}
+use Rattle.std.proofs.Common.{sym, ◌∙◌, subst, ◌+◌, ap, ◌∷◌, [], ◌++◌, rules, arith}
 use Rattle.std.proofs.lemmas.List.Sorted.{IsNonDecreasingBy-from_sort_by_key}
-use Rattle.region_sweep.specs.declared.spot.Spot.{Spot}
-use Rattle.region_sweep.specs.Grid.{AreSpots, spot_of}
 use Rattle.region_sweep.proofs.Gridding.{no_place, AreSpotsSoFar, spots_more, spots_sorted}
 use Rattle.region_sweep.proofs.grid.Grid.spots.Goals as goal
 
