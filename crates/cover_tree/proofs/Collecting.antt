@@ -1,55 +1,49 @@
 -- The runs of a part, by those of its halves.
-use Rattle.std.proofs.Common.{◌≡◌, ℕ, ◌+◌, ◌-◌, ◌/◌, ◌<◌, ◌≤◌, inl, inr, List, [], refl, sym, ◌∙◌, ap, subst, max, min, arith}
+use Rattle.std.proofs.Common.{◌≡◌, ℕ, ◌+◌, ◌-◌, ◌/◌, ◌<◌, ◌≤◌, inl, inr, List, [], refl, sym, ◌∙◌, subst, max, min, arith}
 use Rattle.std.specs.Prelude.{nat_lt, nat_le}
 use Rattle.std.proofs.lemmas.Bool.{cases_lt, lt-ltb, le-ltb, le-leb, lt-leb, and_right}
-use Rattle.lam_geom.specs.declared.layer.Layer.{Layer}
 use Rattle.mask_runs.specs.declared.mask.Layers.{Layers}
 use Rattle.mask_runs.specs.declared.mask.Mask.{Mask}
 use Rattle.mask_runs.specs.declared.run.Run.{Run}
-use Rattle.mask_runs.specs.Colours.{bare, colour_of}
+use Rattle.mask_runs.specs.Colours.{bare}
 use Rattle.mask_runs.specs.Runs.{AreRuns}
 use Rattle.cover_tree.specs.declared.part.Part.{Part}
 use Rattle.cover_tree.specs.declared.part.Span.{Span}
 use Rattle.cover_tree.specs.declared.trees.Trees.{Trees}
 use Rattle.cover_tree.specs.Covers.{row_colour, windowed}
-use Rattle.cover_tree.specs.Parts.{root, left_half, right_half, InPart, Sound, clamped}
-use Rattle.cover_tree.specs.Layered.{tree, cover}
-use Rattle.cover_tree.specs.Looking.{full_at, mixed_at, part_colour}
+use Rattle.cover_tree.specs.Parts.{root, left_half, right_half, InPart, clamped}
+use Rattle.cover_tree.specs.Layered.{cover}
+use Rattle.cover_tree.specs.Looking.{part_colour, IsHalved}
 use Rattle.cover_tree.specs.Building.{upto, IsBuilt, closed, Continues}
-use Rattle.cover_tree.proofs.Looking.{seen_left, seen_right, seen_leaf, seen_sure}
 use Rattle.cover_tree.proofs.Building.{alike, in_turn, closed_runs, upto_in, upto_out}
 
 -- a cell between the clamped ends of a part is in it
 in_part : (p : Part) (span : Span) (c : ℕ) → clamped span p.base ≤ c → c < clamped span (p.base + p.width) → InPart p c
 in_part p span c h k = record { from = omega arith; to = omega arith }
 
-module _ (mask : Mask) (t : Trees) (row : ℕ) (p : Part) (span : Span) (known : Layers) (old now : List Run) (last next : Run)
-    (v : (l : Layer) → Sound (tree t l) p) (e : last.right ≡ clamped span p.base) where
-  pub whole_leaf : p.width < 2 → Continues (λ _. colour_of mask (full_at t p.at row known)) old now last next (clamped span (p.base + p.width))
-      → Continues (part_colour mask t row p known) old now last next (clamped span (p.base + p.width))
-  whole_leaf h = alike (λ _. colour_of mask (full_at t p.at row known)) (part_colour mask t row p known) old now last next (clamped span (p.base + p.width))
-      (λ c j k. ap (colour_of mask) (sym (seen_leaf t p row known c v (in_part p span c (omega arith) k) h)))
+-- all cells of the part have one colour
+pub whole : (g : ℕ → ℕ) (p : Part) (span : Span) (colour : ℕ) (old now : List Run) (last next : Run) → ((c : ℕ) → InPart p c → g c ≡ colour)
+    → last.right ≡ clamped span p.base → Continues (λ _. colour) old now last next (clamped span (p.base + p.width))
+    → Continues g old now last next (clamped span (p.base + p.width))
+whole g p span colour old now last next f e = alike (λ _. colour) g old now last next (clamped span (p.base + p.width))
+    (λ c j k. f c (in_part p span c (omega arith) k))
 
-  pub whole_sure : mixed_at t p.at row known ≡ bare → Continues (λ _. colour_of mask (full_at t p.at row known)) old now last next (clamped span (p.base + p.width))
-      → Continues (part_colour mask t row p known) old now last next (clamped span (p.base + p.width))
-  whole_sure h = alike (λ _. colour_of mask (full_at t p.at row known)) (part_colour mask t row p known) old now last next (clamped span (p.base + p.width))
-      (λ c j k. ap (colour_of mask) (sym (seen_sure t p row known c v (in_part p span c (omega arith) k) h)))
-
-pub both_halves : (mask : Mask) (t : Trees) (row : ℕ) (p : Part) (span : Span) (known : Layers) (old mid now : List Run) (last middle next : Run)
-    → ((l : Layer) → Sound (tree t l) p) → 2 ≤ p.width → last.right ≡ clamped span p.base
-    → Continues (part_colour mask t row (left_half p) (full_at t p.at row known)) old mid last middle (clamped span (p.base + p.width / 2))
-    → Continues (part_colour mask t row (right_half p) (full_at t p.at row known)) mid now middle next (clamped span (p.base + p.width / 2 + (p.width - p.width / 2)))
+pub both_halves : (mask : Mask) (t : Trees) (row : ℕ) (p : Part) (span : Span) (known full : Layers) (old mid now : List Run) (last middle next : Run)
+    → IsHalved mask t row p known full → last.right ≡ clamped span p.base
+    → Continues (part_colour mask t row (left_half p) full) old mid last middle (clamped span (p.base + p.width / 2))
+    → Continues (part_colour mask t row (right_half p) full) mid now middle next (clamped span (p.base + p.width / 2 + (p.width - p.width / 2)))
     → Continues (part_colour mask t row p known) old now last next (clamped span (p.base + p.width))
-both_halves mask t row p span known old mid now last middle next v h e a b =
+both_halves mask t row p span known full old mid now last middle next h e a b =
     let g : ℕ → ℕ = part_colour mask t row p known in
+    let w = h.wide in
     let f : p.base + p.width / 2 + (p.width - p.width / 2) ≡ p.base + p.width = omega arith in
     let d : middle.right ≡ clamped span (p.base + p.width / 2) = a.right in
-    let b2 : Continues (part_colour mask t row (right_half p) (full_at t p.at row known)) mid now middle next (clamped span (p.base + p.width)) = rw f at b in
+    let b2 : Continues (part_colour mask t row (right_half p) full) mid now middle next (clamped span (p.base + p.width)) = rw f at b in
     in_turn g old mid now last middle next (clamped span (p.base + p.width / 2)) (clamped span (p.base + p.width)) (omega arith) (omega arith)
-    (alike (part_colour mask t row (left_half p) (full_at t p.at row known)) g old mid last middle (clamped span (p.base + p.width / 2))
-    (λ c j k. ap (colour_of mask) (sym (seen_left t p row known c v (record { from = omega arith; to = omega arith }) h (omega arith)))) a)
-    (alike (part_colour mask t row (right_half p) (full_at t p.at row known)) g mid now middle next (clamped span (p.base + p.width))
-    (λ c j k. ap (colour_of mask) (sym (seen_right t p row known c v (record { from = omega arith; to = omega arith }) h (omega arith)))) b2)
+    (alike (part_colour mask t row (left_half p) full) g old mid last middle (clamped span (p.base + p.width / 2))
+    (λ c j k. sym (h.left c (record { from = omega arith; to = omega arith }))) a)
+    (alike (part_colour mask t row (right_half p) full) g mid now middle next (clamped span (p.base + p.width))
+    (λ c j k. sym (h.right c (record { from = omega arith; to = omega arith }))) b2)
 
 -- the colours in a window
 window_in : (from to : ℕ) (f : ℕ → ℕ) (c : ℕ) → from ≤ c → c < to → windowed from to f c ≡ f c

@@ -4,3 +4,6 @@ pub mod Covering
 pub mod Building
 pub mod Looking
 pub mod Collecting
+pub mod Alike
+pub mod Going
+pub mod Found

@@ -2,9 +2,13 @@
 #![tactic(auto)]
 
 mod collect;
+mod look;
+mod nearest;
 mod node;
 mod part;
 mod raise;
+#[cfg(test)]
+mod tests;
 mod tree;
 mod trees;
 

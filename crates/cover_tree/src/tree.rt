@@ -2,7 +2,9 @@
 
 ghost use Rattle.cover_tree.specs.Layered.{AreSound};
 
-use crate::collect::{Query, close, collect_part};
+use crate::collect::{close, collect_part};
+use crate::look::Line;
+use crate::nearest::{colour_at, end_of, start_of};
 use crate::part::{Part, Span};
 use crate::trees::Trees;
 use lam_geom::Layer;
@@ -20,9 +22,9 @@ pub struct CoverTree {
 }
 
 impl CoverTree {
-    ghost use Rattle.std.specs.Prelude.{◌≡◌, ◌<◌, ◌≤◌, ◌^◌, true, IfOk};
+    ghost use Rattle.std.specs.Prelude.{◌≡◌, ◌↔◌, ◌<◌, ◌≤◌, ◌^◌, true, IfOk, IfSome, IsNone};
     ghost use Rattle.mask_runs.specs.Colours.{uses};
-    ghost use Rattle.mask_runs.specs.Runs.{AreRuns};
+    ghost use Rattle.mask_runs.specs.Runs.{IsRun, AreRuns};
     ghost use Rattle.cover_tree.specs.Covers.{IsBare, IsRaised, row_colour, windowed};
     ghost use Rattle.cover_tree.specs.Trees.{cover_of};
 
@@ -52,19 +54,42 @@ impl CoverTree {
         ensures { IfOk result (λ _. AreRuns (windowed from to (row_colour (cover_of self.now) row)) runs.new.items) }
     {
         runs.clear();
-        let query = Query {
+        let line = Line {
             mask: self.mask,
             row,
-            span: Span { from, to },
         };
+        let span = Span { from, to };
         let blank = Run {
             left: 0,
             right: from,
             colour: 0,
         };
         let root = Part::root(self.cells);
-        let last = collect_part(&self.trees, query, root, Layers::none(), blank, runs)?;
+        let last = collect_part(&self.trees, line, span, root, Layers::none(), blank, runs)?;
         close(runs, last)?;
         Ok(())
+    }
+
+    /// The run of a row that has a cell, or none where the cell has no colour.
+    pub fn run_at(&self, row: u32, cell: u32) -> Option<Run>
+        requires { cell < (cover_of self.now).cells }
+        ensures some { IfSome result (λ r. IsRun (row_colour (cover_of self.now) row) r × (r.left ≤ cell) × (cell < r.right)) }
+        ensures none { IsNone result ↔ row_colour (cover_of self.now) row cell ≡ 0 }
+    {
+        let line = Line {
+            mask: self.mask,
+            row,
+        };
+        let root = Part::root(self.cells);
+        let bare = Layers::none();
+        let colour = colour_at(&self.trees, line, root, bare, cell);
+        if colour == 0 {
+            return None;
+        }
+        Some(Run {
+            left: start_of(&self.trees, line, root, bare, cell, colour),
+            right: end_of(&self.trees, line, root, bare, cell, colour),
+            colour,
+        })
     }
 }
