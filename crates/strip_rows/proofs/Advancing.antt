@@ -12,7 +12,7 @@ use Rattle.strip_rows.specs.Missing.{run, no_run, AreMissing}
 use Rattle.strip_rows.specs.Steps.{AreEnded, HaveBegun, AreUpon, AreBeside}
 use Rattle.strip_rows.proofs.Turning.{IsStepped, turned}
 use Rattle.strip_rows.proofs.Stepping.{all_begun, all_ended, open_now, ascending_now}
-use Rattle.strip_rows.proofs.Meeting.{IsPaired, each_touches, all_paired}
+use Rattle.strip_rows.proofs.Meeting.{IsPaired, each_touches, all_paired, paired_once}
 
 -- runs that another list lacks lie in the row
 pub lost_within : (cells : ℕ) (runs among lost : List Run) → LieInRow cells runs → AreMissing runs among lost → All (λ r. r.left < cells) lost
@@ -75,4 +75,5 @@ advanced colour y row w v olds news lost fresh mid first half sw ch cells lie e 
       touching = λ k d i. each_touches colour y w olds news lost fresh mid (strips_of v) v.numbers.items first half v.pairs.items (get_or v.pairs.items k d) x
           (Contains-get_or v.pairs.items k d i);
       touch = λ p h. all_paired colour y w olds news lost fresh mid (strips_of v) v.numbers.items first half v.pairs.items p x h;
+      once = paired_once colour y w olds news lost fresh mid (strips_of v) v.numbers.items first half v.pairs.items l.apart x;
     }

@@ -64,4 +64,5 @@ are_touching colour y s w blank = record {
     touch = subst (λ b. Touch (upto y (strip (strips_of s) p.a)) b) (sym (upto_is colour y s w blank p.b i))
         (subst (λ a. Touch a (strip (strips_of s) p.b)) (sym (upto_is colour y s w blank p.a (omega arith))) t.touch);
   });
+  once = w.once;
 }

@@ -10,11 +10,11 @@ use Rattle.union_find.specs.declared.pair.Pair.{Pair}
 use Rattle.strip_rows.specs.declared.strip.Strip.{Strip}
 use Rattle.strip_rows.specs.declared.rows.StripRows.{StripRows}
 use Rattle.strip_rows.specs.Strips.{run_of, strip}
-use Rattle.strip_rows.specs.Touching.{Touch, beside, upon}
+use Rattle.strip_rows.specs.Touching.{Touch, beside, upon, AreOnce}
 use Rattle.strip_rows.specs.Changes.{IsChange}
 use Rattle.strip_rows.specs.Swept.{IsSince, IsOpenAt, strips_of, upto, IsTouchingUpto}
 use Rattle.strip_rows.specs.Missing.{run, no_run, AreApart}
-use Rattle.strip_rows.specs.Steps.{number, ended_at, begun_at, Overlap, upon as upon_pair, AreUpon, in_order, AreNew, AreBeside}
+use Rattle.strip_rows.specs.Steps.{number, ended_at, begun_at, Overlap, HaveOwn, upon as upon_pair, AreUpon, in_order, AreNew, IsBeside, AreBeside}
 use Rattle.strip_rows.proofs.Merging.{further}
 use Rattle.strip_rows.proofs.Turning.{IsStepped, Fate, ends, over, goes, fate, newer, place_of, has_run, one_open}
 use Rattle.strip_rows.proofs.Stepping.{since_begun, since_more, open_now, ascending_now, older}
@@ -227,17 +227,18 @@ each_touches colour y w olds news lost fresh mid now next first half pairs p x c
     let t = x.stepped in
     elim (x.beside.only p c) [
       | inl d ↦ elim (x.upon.only p d) [
-        | inl o ↦ old_forward colour y w lost fresh mid now next p t (All-contains (IsTouchingUpto y (strips_of w)) w.pairs.items p t.swept.touching o)
-        | inr o ↦ subst (IsTouchingUpto (y + 1) now) o.5
-            (upon_pairs colour y w olds news lost fresh mid now next first half pairs o.0 o.1 x o.2 o.3 o.4)
+        | inl o ↦ old_forward colour y w lost fresh mid now next p t
+            (All-contains (IsTouchingUpto y (strips_of w)) w.pairs.items p t.swept.touching o)
+        | inr o ↦ subst (IsTouchingUpto (y + 1) now) o.is
+            (upon_pairs colour y w olds news lost fresh mid now next first half pairs o.a o.b x o.below o.above o.overlap)
       ]
-      | inr d ↦ let k : ℕ = d.0 in let l = d.1 in
-          let r : Run = run news k in let q : Run = run news (k + 1) in
-          let hr = All-contains (IsRun (colour (y + 1))) news r x.change.firsts (has_run news k (omega arith)) in
-          let hq = All-contains (IsRun (colour (y + 1))) news q x.change.firsts (has_run news (k + 1) l) in
-          subst (IsTouchingUpto (y + 1) now) d.3
+      | inr d ↦ let l = d.within in
+          let r : Run = run news d.k in let q : Run = run news (d.k + 1) in
+          let hr = All-contains (IsRun (colour (y + 1))) news r x.change.firsts (has_run news d.k (omega arith)) in
+          let hq = All-contains (IsRun (colour (y + 1))) news q x.change.firsts (has_run news (d.k + 1) l) in
+          subst (IsTouchingUpto (y + 1) now) d.is
           (beside_pairs colour (y + 1) now (number next r) (number next q) r q (open_now colour y w lost fresh mid now next r t hr)
-          (open_now colour y w lost fresh mid now next q t hq) d.2.0 hr.wide)
+          (open_now colour y w lost fresh mid now next q t hq) d.new.0 hr.wide)
     ]
 
 -- how a strip touches one that begins in row y + 1, as far as that row
@@ -252,10 +253,10 @@ pairs_found : (colour : ℕ → ℕ → ℕ) (y : ℕ) (w : StripRows) (olds new
     → r.right ≡ q.left → first ≤ max (number next r) (number next q) → Contains pairs (in_order (number next r) (number next q))
 pairs_found colour y w olds news lost fresh mid now next first half pairs r q x c d e l =
     let n = neighbours news r q x.apart c d e in
-    let f = n.2 in let g = n.3 in
     let P : Run → Run → Type 0 = λ u v. AreNew next first u v → Contains pairs (in_order (number next u) (number next v)) in
-    let h : P (run news n.0) (run news (n.0 + 1)) = x.beside.all n.0 n.1 in
-    let k : P r q = subst (λ v. P r v) g (subst (λ u. P u (run news (n.0 + 1))) f h) in
+    let h : P (run news n.0) (run news (n.0 + 1)) = λ new. x.beside.all (in_order (number next (run news n.0)) (number next (run news (n.0 + 1))))
+    (record { k = n.0; behind = n.1; within = n.1; new = new; is = λ i. in_order (number next (run news n.0)) (number next (run news (n.0 + 1))) }) in
+    let k : P r q = subst (λ v. P r v) n.3 (subst (λ u. P u (run news (n.0 + 1))) n.2 h) in
     k (e, l)
 
 -- an open strip and one that begins beside it are paired
@@ -295,7 +296,7 @@ paired_upon : (colour : ℕ → ℕ → ℕ) (y : ℕ) (w : StripRows) (olds new
 paired_upon colour y w olds news lost fresh mid now next first half pairs p i m x li lm ea eb o =
     let f = x.first_is in let g : first + m ≡ p.b = omega arith in
     let e : upon_pair w.numbers.items first lost i m ≡ p = λ j. record { a = ea j; b = g j } in
-    subst (Contains pairs) e (x.beside.kept _ (x.upon.all i m li lm (inl li) o))
+    x.beside.kept p (x.upon.all p (record { a = i; b = m; below = li; above = lm; behind = inl li; overlap = o; is = e }))
 
 paired_old : (colour : ℕ → ℕ → ℕ) (y : ℕ) (w : StripRows) (olds news lost fresh : List Run) (mid now : List Strip) (next : List ℕ) (first : ℕ)
     (half pairs : List Pair) (p : Pair) (m : ℕ) → IsPaired colour y w olds news lost fresh mid now next first half pairs → p.a < p.b → p.b < length now
@@ -366,3 +367,61 @@ all_paired colour y w olds news lost fresh mid now next first half pairs p x h =
       | inl k ↦ x.beside.kept p (x.upon.kept p (t.swept.touch p (old_back colour y w lost fresh mid now next p t h k)))
       | inr k ↦ paired_new colour y w olds news lost fresh mid now next first half pairs p x h k
     ]
+
+-- runs that have strips of their own have numbers of their own
+own_numbers : (colour : ℕ → ℕ → ℕ) (y : ℕ) (strips : List Strip) (numbers : List ℕ) (runs : List Run) → AreApart runs
+    → ((m : ℕ) → m < length runs → IsOpenAt colour y strips (number numbers (run runs m)) (run runs m)) → HaveOwn numbers runs
+own_numbers colour y strips numbers runs up o = λ a b l m e.
+    let oa = o a (omega arith) in let ob = o b m in
+    let f : run runs a ≡ run runs b = sym oa.run ∙ ap (λ n. run_of (strip strips n)) e ∙ ob.run in
+    let g : (run runs a).left ≡ (run runs b).left = ap (λ (r : Run). r.left) f in
+    let h = further runs a b up l m in omega arith
+
+-- the lower number of a pair of neighbours has an open strip
+low_open : (colour : ℕ → ℕ → ℕ) (y : ℕ) (strips : List Strip) (m n : ℕ) (r q : Run) → IsOpenAt colour y strips m r → IsOpenAt colour y strips n q
+    → (strip strips (min m n)).high ≡ 0
+low_open colour y strips m n r q a b = elim (cases_lt m n) [
+  | inl l ↦ let e : min m n ≡ m = omega arith in rw e a.open_
+  | inr l ↦ let e : min m n ≡ n = omega arith in rw e b.open_
+]
+
+-- a pair of neighbours has not been paired before
+not_before : (colour : ℕ → ℕ → ℕ) (y : ℕ) (w : StripRows) (olds news lost fresh : List Run) (mid now : List Strip) (next : List ℕ) (first : ℕ)
+    (half pairs : List Pair) (p : Pair) → IsPaired colour y w olds news lost fresh mid now next first half pairs → IsBeside next first news (length news) p
+    → Contains half p → ⊥
+not_before colour y w olds news lost fresh mid now next first half pairs p x h c =
+    let t = x.stepped in let fe = x.first_is in let l = h.within in
+    let r : Run = run news h.k in let q : Run = run news (h.k + 1) in
+    let hr = All-contains (IsRun (colour (y + 1))) news r x.change.firsts (has_run news h.k (omega arith)) in
+    let hq = All-contains (IsRun (colour (y + 1))) news q x.change.firsts (has_run news (h.k + 1) l) in
+    let or = open_now colour y w lost fresh mid now next r t hr in let oq = open_now colour y w lost fresh mid now next q t hq in
+    let pa : min (number next r) (number next q) ≡ p.a = ap (λ (k : Pair). k.a) h.is in
+    let pb : max (number next r) (number next q) ≡ p.b = ap (λ (k : Pair). k.b) h.is in
+    let new = h.new.1 in
+    elim (x.upon.only p c) [
+      | inl o ↦ let i = All-contains (IsTouchingUpto y (strips_of w)) w.pairs.items p t.swept.touching o in let iw = i.within in omega arith
+      | inr o ↦
+          let zero : (strip now p.a).high ≡ 0 = subst (λ n. (strip now n).high ≡ 0) pa (low_open colour (y + 1) now (number next r) (number next q) r q or oq) in
+          let s : Run = run lost o.a in
+          let e : number w.numbers.items s ≡ p.a = ap (λ (k : Pair). k.a) o.is in
+          let d = t.turn.ends s (has_run lost o.a o.below) in
+          let k : IsOpenAt colour y (strips_of w) p.a s = subst (λ n. IsOpenAt colour y (strips_of w) n s) e (t.swept.open_ s d.0) in
+          let ended : strip now p.a ≡ ended_at (y + 1) (strip (strips_of w) p.a) =
+          must_end colour y p.a w.numbers.items lost (strip (strips_of w) p.a) (strip now p.a) (fate colour y w lost fresh mid now next p.a t k.among) k.open_
+          (subst (λ n. ¬ IsRun (colour (y + 1)) n) (sym k.run) d.1) in
+          let high : (strip now p.a).high ≡ y + 1 = ap (λ (n : Strip). n.high) ended in omega arith
+    ]
+
+-- each pair is there once
+pub paired_once : (colour : ℕ → ℕ → ℕ) (y : ℕ) (w : StripRows) (olds news lost fresh : List Run) (mid now : List Strip) (next : List ℕ) (first : ℕ)
+    (half pairs : List Pair) → AreApart lost → IsPaired colour y w olds news lost fresh mid now next first half pairs → AreOnce pairs
+paired_once colour y w olds news lost fresh mid now next first half pairs up x =
+    let t = x.stepped in let fe = x.first_is in
+    x.beside.once
+    (own_numbers colour (y + 1) now next news x.apart (λ m l. open_now colour y w lost fresh mid now next (run news m) t
+    (All-contains (IsRun (colour (y + 1))) news (run news m) x.change.firsts (has_run news m l))))
+    (λ p h c. not_before colour y w olds news lost fresh mid now next first half pairs p x h c)
+    (x.upon.once
+    (own_numbers colour y (strips_of w) w.numbers.items lost up (λ m l. t.swept.open_ (run lost m) (t.turn.ends (run lost m) (has_run lost m l)).0))
+    (λ k d l. let i = (t.swept.touching k d l).within in omega arith)
+    t.swept.once)

@@ -1,10 +1,11 @@
 -- What one step does to strips and pairs, by their numbers. `numbers` has at the left cell of a run the number of its strip.
-use Rattle.std.specs.Prelude.{◌≡◌, ◌≢◌, ℕ, ◌+◌, ◌<◌, ◌≤◌, ◌⊎◌, List, [], ◌∷◌, ◌++◌, Contains, length, slice_index, min, max}
+use Rattle.std.specs.Prelude.{◌≡◌, ◌≢◌, ℕ, ◌+◌, ◌<◌, ◌≤◌, ◌⊎◌, List, [], ◌∷◌, ◌++◌, All, Contains, length, slice_index, min, max}
 use Rattle.mask_runs.specs.declared.run.Run.{Run}
 use Rattle.union_find.specs.declared.pair.Pair.{Pair}
 use Rattle.strip_rows.specs.declared.strip.Strip.{Strip}
 use Rattle.strip_rows.specs.Strips.{strip}
 use Rattle.strip_rows.specs.Missing.{run}
+use Rattle.strip_rows.specs.Touching.{AreOnce}
 
 abbrev pub number : List ℕ → Run → ℕ
 number numbers r = slice_index numbers r.left
@@ -56,13 +57,26 @@ pub record IsAddedIf (P : Type 0) (p : Pair) (old now : List Pair) : Type 0 wher
 abbrev pub upon : List ℕ → ℕ → List Run → ℕ → ℕ → Pair
 upon numbers first lost a b = record { a = number numbers (run lost a); b = first + b }
 
--- exactly the pairs of a lost run and a fresh one above it have been added of which one stands before its place
+-- the runs have numbers of their own
+abbrev pub HaveOwn : List ℕ → List Run → Type 0
+HaveOwn numbers runs = (a b : ℕ) → a < b → b < length runs → number numbers (run runs a) ≢ number numbers (run runs b)
+
+-- the pair of a lost run and a fresh one above it, of which one stands before its place
+pub record IsUpon (numbers : List ℕ) (first : ℕ) (lost fresh : List Run) (i j : ℕ) (p : Pair) : Type 0 where
+  pub a : ℕ
+  pub b : ℕ
+  pub below : a < length lost
+  pub above : b < length fresh
+  pub behind : (a < i) ⊎ (b < j)
+  pub overlap : Overlap (run lost a) (run fresh b)
+  pub is : upon numbers first lost a b ≡ p
+
+-- exactly those pairs have been added, each once
 pub record AreUpon (numbers : List ℕ) (first : ℕ) (lost fresh : List Run) (i j : ℕ) (old now : List Pair) : Type 0 where
   pub kept : (p : Pair) → Contains old p → Contains now p
-  pub all : (a b : ℕ) → a < length lost → b < length fresh → (a < i) ⊎ (b < j) → Overlap (run lost a) (run fresh b)
-      → Contains now (upon numbers first lost a b)
-  pub only : (p : Pair) → Contains now p → Contains old p
-      ⊎ (a : ℕ) × (b : ℕ) × (a < length lost) × (b < length fresh) × Overlap (run lost a) (run fresh b) × (upon numbers first lost a b ≡ p)
+  pub all : (p : Pair) → IsUpon numbers first lost fresh i j p → Contains now p
+  pub only : (p : Pair) → Contains now p → Contains old p ⊎ IsUpon numbers first lost fresh i j p
+  pub once : HaveOwn numbers lost → All (λ p. p.b < first) old → AreOnce old → AreOnce now
 
 -- the two numbers, the lower first
 abbrev pub in_order : ℕ → ℕ → Pair
@@ -72,11 +86,17 @@ in_order a b = record { a = min a b; b = max a b }
 abbrev pub AreNew : List ℕ → ℕ → Run → Run → Type 0
 AreNew numbers first p q = (p.right ≡ q.left) × (first ≤ max (number numbers p) (number numbers q))
 
--- exactly the pairs of neighbours before the place have been added of which one has begun its strip
+-- the pair of neighbours before the place of which one has begun its strip
+pub record IsBeside (numbers : List ℕ) (first : ℕ) (runs : List Run) (n : ℕ) (p : Pair) : Type 0 where
+  pub k : ℕ
+  pub behind : k + 1 < n
+  pub within : k + 1 < length runs
+  pub new : AreNew numbers first (run runs k) (run runs (k + 1))
+  pub is : in_order (number numbers (run runs k)) (number numbers (run runs (k + 1))) ≡ p
+
+-- exactly those pairs have been added, each once
 pub record AreBeside (numbers : List ℕ) (first : ℕ) (runs : List Run) (n : ℕ) (old now : List Pair) : Type 0 where
   pub kept : (p : Pair) → Contains old p → Contains now p
-  pub all : (k : ℕ) → k + 1 < n → AreNew numbers first (run runs k) (run runs (k + 1))
-      → Contains now (in_order (number numbers (run runs k)) (number numbers (run runs (k + 1))))
-  pub only : (p : Pair) → Contains now p → Contains old p
-      ⊎ (k : ℕ) × (k + 1 < length runs) × AreNew numbers first (run runs k) (run runs (k + 1))
-      × (in_order (number numbers (run runs k)) (number numbers (run runs (k + 1))) ≡ p)
+  pub all : (p : Pair) → IsBeside numbers first runs n p → Contains now p
+  pub only : (p : Pair) → Contains now p → Contains old p ⊎ IsBeside numbers first runs n p
+  pub once : HaveOwn numbers runs → ((p : Pair) → IsBeside numbers first runs (length runs) p → ¬ Contains old p) → AreOnce old → AreOnce now

@@ -6,7 +6,7 @@ use Rattle.strip_rows.specs.declared.strip.Strip.{Strip}
 use Rattle.union_find.specs.declared.pair.Pair.{Pair}
 use Rattle.strip_rows.specs.declared.rows.StripRows.{StripRows}
 use Rattle.strip_rows.specs.Strips.{run_of, IsStrip, IsBefore, strip}
-use Rattle.strip_rows.specs.Touching.{Touch}
+use Rattle.strip_rows.specs.Touching.{Touch, AreOnce}
 
 -- the strips that have begun, by number: those that haven't ended have `high` 0
 abbrev pub strips_of : StripRows → List Strip
@@ -53,6 +53,7 @@ pub record IsSwept (colour : ℕ → ℕ → ℕ) (y : ℕ) (s : StripRows) : Ty
   pub ascending : AllPairs IsBefore (strips_of s)
   pub touching : All (IsTouchingUpto y (strips_of s)) s.pairs.items
   pub touch : (p : Pair) → IsTouchingUpto y (strips_of s) p → Contains s.pairs.items p
+  pub once : AreOnce s.pairs.items
 
 -- the same strip, whether or not it has ended since
 pub record IsSameStrip (s t : Strip) : Type 0 where

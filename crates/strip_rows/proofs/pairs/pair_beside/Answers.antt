@@ -1,6 +1,10 @@
 use Rattle.std.proofs.Common.{arith}
-use Rattle.strip_rows.proofs.Pairing.{beside_more, beside_all}
+use Rattle.strip_rows.proofs.Pairing.{beside_none, beside_more, beside_all}
 use Rattle.strip_rows.proofs.pairs.pair_beside.Goals as goal
+
+-- src/pairs.rt
+pub loop-i-init : goal.loop-i-init
+loop-i-init c = beside_none c.args.numbers.now c.args.first c.args.runs.now c.args.pairs.now.items
 
 -- src/pairs.rt
 pub loop-i-preserved : goal.loop-i-preserved
