@@ -252,5 +252,6 @@ pub are_touching : (xs ys : List ℤ) (mask : Mask) (shapes : List Rect) (blocks
 are_touching xs ys mask shapes blocks strips pairs h are t = record {
   each = All-weaker (cells.IsTouching strips) (λ p. TouchAt (map (tile_of xs ys) strips) p.a p.b)
       (λ p. (touch_at xs ys mask shapes blocks strips p h are).0) pairs t.each;
+  once = t.once;
   all = λ p u. t.all p ((touch_at xs ys mask shapes blocks strips p h are).1 u);
 }

@@ -7,6 +7,8 @@ mod grid;
 mod rows;
 mod spot;
 mod swept;
+#[cfg(test)]
+mod tests;
 mod tile;
 
 pub use swept::{Swept, sweep};
