@@ -1,0 +1,10 @@
+mod Axes
+mod Blocks
+mod Painting
+mod Squares
+mod Stretches
+mod Tilings
+mod Answering
+mod Edges
+mod Gridding
+mod Rowwise
