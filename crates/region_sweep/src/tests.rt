@@ -137,9 +137,7 @@ fn is_span(shapes: &[Rect], mask: Mask, tile: &Tile, y: i64) -> bool {
 }
 
 fn has_pair(pairs: &[Pair], a: u32, b: u32) -> bool {
-    pairs
-        .iter()
-        .any(|pair| pair.a == a && pair.b == b || pair.a == b && pair.b == a)
+    pairs.iter().any(|pair| pair.a == a && pair.b == b || pair.a == b && pair.b == a)
 }
 
 fn check(rt: &impl Abort, shapes: &[Rect], mask: Mask, swept: &Swept) {
@@ -221,7 +219,10 @@ fn agrees_with_squares(rt: HostRuntime) -> Result<(), Fail> {
             let swept = sweep(rt.alloc(), shapes.as_slice(), mask, places.as_slice())?;
             check(&rt, shapes.as_slice(), mask, &swept);
             for (place, found) in places.iter().zip(swept.found.as_slice()) {
-                assert_eq!(rt; tile_at(&rt, swept.tiles.as_slice(), place.x, place.y), *found);
+                assert_eq!(rt;
+                    tile_at(&rt, swept.tiles.as_slice(), place.x, place.y),
+                    *found
+                );
             }
         }
     }
