@@ -1,0 +1,4 @@
+pub mod Strips
+pub mod Touching
+pub mod Changes
+pub mod Swept
