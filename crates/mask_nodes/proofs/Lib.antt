@@ -1,5 +1,6 @@
 pub mod Classes
 pub mod Seeing
 pub mod Tiling
-pub mod Cutting
+pub mod CutUp
 pub mod Owning
+pub mod Listing

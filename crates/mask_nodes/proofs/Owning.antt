@@ -18,7 +18,7 @@ use Rattle.mask_nodes.specs.declared.piece.Part.TheVariants.{Conductor}
 use Rattle.mask_nodes.specs.declared.piece.Piece.{Piece}
 use Rattle.mask_nodes.specs.Pieces.{corner_on, on, IsBefore, HasConductor, HasChannel, ArePieces, AreLinks, first_conductor, first_channel}
 use Rattle.mask_nodes.proofs.Classes.{AreOwners}
-use Rattle.mask_nodes.proofs.Cutting.{pairs_at}
+use Rattle.mask_nodes.proofs.CutUp.{pairs_at}
 
 pub map_chain : {S : Type 0} {J K : S → S → Type 0} → ((s t : S) → J s t → K s t) → {s t : S} → Chain J s t → Chain K s t
 map_chain f here = here

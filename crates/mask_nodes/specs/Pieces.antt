@@ -1,5 +1,5 @@
 -- The pieces that conductors and channels are cut into, and what joins them.
-use Rattle.std.specs.Prelude.{◌≡◌, ◌≢◌, ◌⊎◌, ℕ, ◌<◌, if◌then◌else◌, ◌==◌, List, AllPairs, Contains, Option, Some, ℤ, pos, slice_get, slice_index_or}
+use Rattle.std.specs.Prelude.{◌≡◌, ◌≢◌, ◌⊎◌, ℕ, ◌<◌, if◌then◌else◌, ◌==◌, Bool, true, false, List, length, get_or, AllPairs, Contains, Option, Some, ℤ, pos, slice_get, slice_index_or}
 use Rattle.lam_geom.specs.declared.layer.Layer.{Layer}
 use Rattle.lam_geom.specs.declared.layer.Layer.TheVariants.{ND, NP, NC, NM, NI, NB, NG}
 use Rattle.lam_geom.specs.declared.rect.Rect.{Rect}
@@ -17,6 +17,12 @@ use Rattle.mask_nodes.specs.declared.piece.Piece.{Piece}
 abbrev pub part_of : ℕ → Part
 part_of k = if k == 1 then Conductor else if k == 2 then Plain else Implanted
 
+-- whether it is that of a conductor
+abbrev pub is_conductor : Part → Bool
+is_conductor Conductor = true
+is_conductor Plain = false
+is_conductor Implanted = false
+
 -- the piece of the tile with this number, on this layer
 abbrev pub piece_of : Layer → ℕ → Tile → Piece
 piece_of l n t = record { rect = record { layer = l; x0 = t.x0; y0 = t.y0; x1 = t.x1; y1 = t.y1 }; tile = n; part = part_of t.colour }
@@ -28,6 +34,21 @@ corner_on l r = record { layer = l; x = r.x0; y = r.y0 }
 -- in the order of their first squares
 abbrev pub IsBefore : Piece → Piece → Type 0
 IsBefore p q = Before (corner_on p.rect.layer p.rect) (corner_on q.rect.layer q.rect)
+
+-- no layer has pieces of both lists
+abbrev pub AreApart : List Piece → List Piece → Type 0
+AreApart a b = (p q : Piece) → Contains a p → Contains b q → p.rect.layer ≢ q.rect.layer
+
+-- the pieces are those of the tiles, each at its tile's number
+pub record AreTilePieces (layer : Layer) (tiles : List Tile) (pieces : List Piece) : Type 0 where
+  pub as_many : length pieces ≡ length tiles
+  pub each : (n : ℕ) (t : Tile) → slice_get tiles n ≡ Some t → slice_get pieces n ≡ Some (piece_of layer n t)
+
+-- for each of the first pieces that is on the layer, the number at its tile is that of a piece of the same tile
+pub record AreTileNumbers (layer : Layer) (count : ℕ) (pieces : List Piece) (place : ℕ) (numbers : List ℕ) : Type 0 where
+  pub as_many : length numbers ≡ count
+  pub each : (k : ℕ) (p : Piece) → k < place → slice_get pieces k ≡ Some p → p.rect.layer ≡ layer
+      → (q : Piece) × (slice_get pieces (get_or numbers p.tile 0) ≡ Some q) × (q.rect.layer ≡ layer) × (q.tile ≡ p.tile)
 
 -- the pieces of this layer are those of these tiles
 pub record AreOfTiles (layer : Layer) (tiles : List Tile) (pieces : List Piece) : Type 0 where
@@ -62,7 +83,7 @@ pub record HasChannel (pieces : List Piece) (k : ℕ) (s : Square) : Type 0 wher
 
 -- a piece that stands where a list has none
 abbrev pub no_piece : Piece
-no_piece = record { rect = record { layer = NM; x0 = pos 0; y0 = pos 0; x1 = pos 0; y1 = pos 0 }; tile = 0; part = Conductor }
+no_piece = record { rect = record { layer = ND; x0 = pos 0; y0 = pos 0; x1 = pos 0; y1 = pos 0 }; tile = 0; part = Conductor }
 
 -- the first square of the piece with this number, as a conductor and as a square of a channel
 abbrev pub first_conductor : List Piece → ℕ → Square

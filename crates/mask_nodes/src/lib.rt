@@ -1,7 +1,9 @@
 //! The nodes and the channels that a mask draws, by their numbers.
 #![tactic(auto)]
 
-mod numbering;
+mod cutting;
+mod merging;
 mod piece;
+mod tile_numbers;
 
 pub use piece::{Part, Piece};
