@@ -60,7 +60,7 @@ module _ {S : Type 0} {Is : S → Type 0} {J B : S → S → Type 0} {Has : ℕ 
   pub turned : {i j : ℕ} → Chain (Paired pairs) i j → Chain (Paired pairs) j i
   turned c = turn_chain (turn_pair pairs) c
 
-  module _ (least roots : List ℕ) (leasts : AreLeasts count pairs least) (are : AreRoots (λ k. Has k (first k)) least roots) where
+  module _ (least roots : List ℕ) (leasts : AreLeasts count pairs least) (are : AreRoots (λ k. Has k (first k)) least count roots) where
     -- the least of an owner's class is a root
     pub rooted : (k : ℕ) (s : S) → Has k s → Has (get_or least k 0) (first (get_or least k 0)) × Contains roots (get_or least k 0)
     rooted k s h =
@@ -73,7 +73,7 @@ module _ {S : Type 0} {Is : S → Type 0} {J B : S → S → Type 0} {Has : ℕ 
         let b = leasts.below k l in
         (r, are.all (get_or least k 0) (omega arith) r e)
 
-    root_at : (k d : ℕ) → k < length roots → (get_or roots k d < length least) × Has (get_or roots k d) (first (get_or roots k d)) × (get_or least (get_or roots k d) 0 ≡ get_or roots k d)
+    root_at : (k d : ℕ) → k < length roots → (get_or roots k d < count) × Has (get_or roots k d) (first (get_or roots k d)) × (get_or least (get_or roots k d) 0 ≡ get_or roots k d)
     root_at k d l = are.each k d l
 
     first_at : (k : ℕ) (d : S) → k < length roots → get_or (map first roots) k d ≡ first (get_or roots k 0)
@@ -133,7 +133,7 @@ module _ {S : Type 0} {Is : S → Type 0} {J B : S → S → Type 0} {Has : ℕ 
           (first p, (m.0, omega arith, at), joined (turned c) (first p) s r.0 o.1);
     }
 
-    module _ (numbers : List ℕ) (num : AreNumbers (λ k. Has k (first k)) least roots numbers) where
+    module _ (numbers : List ℕ) (num : AreNumbers (λ k. Has k (first k)) least count roots numbers) where
       -- a thing is in the class with its owner's number
       pub in_class : (k : ℕ) (s : S) → Has k s → IsInClass J (map first roots) (get_or numbers k 0) s
       in_class k s h =

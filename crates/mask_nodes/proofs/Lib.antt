@@ -4,3 +4,6 @@ pub mod Tiling
 pub mod CutUp
 pub mod Owning
 pub mod Listing
+pub mod Gaining
+pub mod Numbered
+pub mod Assembling

@@ -1,6 +1,7 @@
 -- Lists that grow, place by place.
 use Rattle.std.proofs.Common.{◌≡◌, ◌≢◌, ℕ, zero, suc, ◌+◌, ◌<◌, ◌≤◌, ◌⊎◌, inl, inr, List, [], ◌∷◌, ◌++◌, length, get_or, set, refl, sym, ◌∙◌, ap, subst, subst₂, arith}
-use Rattle.std.specs.Prelude.{ℤ, AllPairs, Contains, Option, Some, None, slice_get, Bool, true, false, IsTrue, ◌↔◌, MatchBool}
+use mathlib.Core.Bool.{beq}
+use Rattle.std.specs.Prelude.{ℤ, pos, not, AllPairs, Contains, Option, Some, None, slice_get, Bool, true, false, IsTrue, ◌↔◌, MatchBool}
 use Rattle.std.proofs.lemmas.Bool.{cases_eq, cases_lt}
 use Rattle.std.proofs.lemmas.Int.{ints, by_lt_z}
 use Rattle.std.proofs.lemmas.List.{get_or-set_same, get_or-set_other, length-set, length-append}
@@ -47,6 +48,30 @@ contains_last xs y = at_contains (xs ++ y ∷ []) (length xs) y (slice_get-appen
 pub only_one : {X : Type 0} (x y : X) → Contains (x ∷ []) y → x ≡ y
 only_one x y (zero, l, e) = e
 only_one x y (suc k, l, e) = absurd (omega arith)
+
+-- the tile that stands where a list has none
+abbrev pub no_tile : Tile
+no_tile = record { x0 = pos 0; y0 = pos 0; x1 = pos 0; y1 = pos 0; colour = 0 }
+
+pub beq_true : (a b : Bool) → beq a b ≡ true → a ≡ b
+beq_true true true h = refl
+beq_true false false h = refl
+beq_true true false h = absurd (cc)
+beq_true false true h = absurd (cc)
+
+pub beq_false : (a b : Bool) → beq a b ≡ false → a ≢ b
+beq_false true true h e = cc
+beq_false false false h e = cc
+beq_false true false h e = cc
+beq_false false true h e = cc
+
+pub not_true : (b : Bool) → not b ≡ true → b ≡ false
+not_true true h = absurd (cc)
+not_true false h = refl
+
+pub not_false : (b : Bool) → not b ≡ false → b ≡ true
+not_false true h = refl
+not_false false h = absurd (cc)
 
 -- ---- the pieces of tiles
 

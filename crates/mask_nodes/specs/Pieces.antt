@@ -50,6 +50,11 @@ pub record AreTileNumbers (layer : Layer) (count : ℕ) (pieces : List Piece) (p
   pub each : (k : ℕ) (p : Piece) → k < place → slice_get pieces k ≡ Some p → p.rect.layer ≡ layer
       → (q : Piece) × (slice_get pieces (get_or numbers p.tile 0) ≡ Some q) × (q.rect.layer ≡ layer) × (q.tile ≡ p.tile)
 
+-- the number at each tile is that of its piece
+pub record AreNumbersOf (layer : Layer) (tiles : List Tile) (pieces : List Piece) (numbers : List ℕ) : Type 0 where
+  pub as_many : length numbers ≡ length tiles
+  pub each : (n : ℕ) (t : Tile) → slice_get tiles n ≡ Some t → slice_get pieces (get_or numbers n 0) ≡ Some (piece_of layer n t)
+
 -- the pieces of this layer are those of these tiles
 pub record AreOfTiles (layer : Layer) (tiles : List Tile) (pieces : List Piece) : Type 0 where
   pub each : (p : Piece) → Contains pieces p → p.rect.layer ≡ layer → (t : Tile) × (slice_get tiles p.tile ≡ Some t) × (p ≡ piece_of layer p.tile t)

@@ -1,8 +1,10 @@
 //! Pieces of tiles.
 
-ghost use Rattle.std.specs.Prelude.{◌≡◌, ◌<◌, ◌^◌, length, Some, IfOk, slice_get};
-ghost use Rattle.mask_nodes.specs.Pieces.{AreTilePieces};
+ghost use Rattle.std.specs.Prelude.{AllPairs, IfOk};
+ghost use Rattle.region_sweep.specs.Tiles.{Before};
+ghost use Rattle.mask_nodes.specs.Pieces.{AreTilePieces, AreCutUp};
 
+use crate::merging::merge;
 use crate::piece::Piece;
 use lam_geom::Layer;
 use mp_base::{List, NoMemory};
@@ -25,4 +27,23 @@ pub(crate) fn pieces_of(
         pieces.push(Piece::of_tile(layer, number, tile))?;
     }
     Ok(pieces)
+}
+
+/// The pieces of these tiles of metal, polysilicon and diffusion, in order.
+pub(crate) fn cut_up(
+    alloc: Global,
+    metal: &[Tile],
+    polysilicon: &[Tile],
+    diffusion: &[Tile],
+) -> Result<List<Piece>, NoMemory>
+    requires metal { AllPairs Before metal.now }
+    requires polysilicon { AllPairs Before polysilicon.now }
+    requires diffusion { AllPairs Before diffusion.now }
+    ensures { IfOk result (λ v. AreCutUp metal.now polysilicon.now diffusion.now v) }
+{
+    let upper = pieces_of(alloc, Layer::NM, metal)?;
+    let middle = pieces_of(alloc, Layer::NP, polysilicon)?;
+    let lower = pieces_of(alloc, Layer::ND, diffusion)?;
+    let both = merge(alloc, upper.as_slice(), middle.as_slice())?;
+    merge(alloc, both.as_slice(), lower.as_slice())
 }
