@@ -24,7 +24,7 @@ pub map_chain : {S : Type 0} {J K : S → S → Type 0} → ((s t : S) → J s t
 map_chain f here = here
 map_chain f (link {s = s} {t = t} j c) = link (f s t j) (map_chain f c)
 
-same_chain : {pairs : List Pair} (i j : ℕ) → i ≡ j → Chain (Paired pairs) i j
+pub same_chain : {pairs : List Pair} (i j : ℕ) → i ≡ j → Chain (Paired pairs) i j
 same_chain {pairs = pairs} i j e = subst (λ k. Chain (Paired pairs) i k) e here
 
 -- what stands in a rectangle is not before the first square of one that begins earlier
@@ -55,6 +55,21 @@ on_one_layer : (l : Layer) (p q : Piece) → p.rect.layer ≡ q.rect.layer → I
 on_one_layer l p q e (inl a) = inl a
 on_one_layer l p q e (inr (inl a)) = inr (inl a)
 on_one_layer l p q e (inr (inr a)) = let k : rank p.rect.layer ≡ rank q.rect.layer = ap rank e in let b = a.2 in absurd (omega arith)
+
+module _ (joined : RectanglesAreJoined) (shapes : List Rect) (pieces : List Piece) (are : ArePieces shapes pieces) where
+  pub channel_one : (k : ℕ) (s t : Square) → HasChannel pieces k s → HasChannel pieces k t → Chain (Adjoin (IsChannelSquare (covered shapes))) s t
+  channel_one k s t h g =
+      let e : h.piece ≡ g.piece = same_Some h.piece g.piece (sym h.at ∙ g.at) in
+      let has : (u : Square) → IsIn (on NP h.piece.rect) u → IsChannelSquare (covered shapes) u = λ u i. are.channels k u (record { piece = h.piece; at = h.at; part = h.part; is = i }) in
+      map_chain (λ u v j. record { from = has u j.from; to = has v j.to; same = j.same; beside = j.beside })
+      (joined (on NP h.piece.rect) s t h.is (subst (λ (p : Piece). IsIn (on NP p.rect) t) (sym e) g.is))
+
+  pub conductor_one : (k : ℕ) (s t : Square) → HasConductor pieces k s → HasConductor pieces k t → Chain (Joined (covered shapes)) s t
+  conductor_one k s t h g =
+      let e : h.piece ≡ g.piece = same_Some h.piece g.piece (sym h.at ∙ g.at) in
+      let has : (u : Square) → IsIn h.piece.rect u → Conducts (covered shapes) u = λ u i. are.conducts k u (record { piece = h.piece; at = h.at; part = h.part; is = i }) in
+      map_chain (λ u v j. beside (record { from = has u j.from; to = has v j.to; same = j.same; beside = j.beside }))
+      (joined h.piece.rect s t h.is (subst (λ (p : Piece). IsIn p.rect t) (sym e) g.is))
 
 module _ (joined : RectanglesAreJoined) (shapes : List Rect) (pieces : List Piece) (links : List Pair) (up : AllPairs IsBefore pieces) (are : ArePieces shapes pieces) (linked : AreLinks shapes pieces links) where
   conductor_first : (k : ℕ) (s : Square) (h : HasConductor pieces k s) → first_conductor pieces k ≡ corner_on h.piece.rect.layer h.piece.rect
@@ -97,13 +112,6 @@ module _ (joined : RectanglesAreJoined) (shapes : List Rect) (pieces : List Piec
           (subst (Before s) (channel_first i (first_channel pieces i) h) b)
     ]
 
-    channel_one : (k : ℕ) (s t : Square) → HasChannel pieces k s → HasChannel pieces k t → Chain (Adjoin (IsChannelSquare (covered shapes))) s t
-    channel_one k s t h g =
-        let e : h.piece ≡ g.piece = same_Some h.piece g.piece (sym h.at ∙ g.at) in
-        let has : (u : Square) → IsIn (on NP h.piece.rect) u → IsChannelSquare (covered shapes) u = λ u i. are.channels k u (record { piece = h.piece; at = h.at; part = h.part; is = i }) in
-        map_chain (λ u v j. record { from = has u j.from; to = has v j.to; same = j.same; beside = j.beside })
-        (joined (on NP h.piece.rect) s t h.is (subst (λ (p : Piece). IsIn (on NP p.rect) t) (sym e) g.is))
-
     pub channel_owners : AreOwners (IsChannelSquare (covered shapes)) (Adjoin (IsChannelSquare (covered shapes))) Before (HasChannel pieces) (first_channel pieces) (length pieces) links
     channel_owners = record {
       owner = are.channel;
@@ -116,15 +124,8 @@ module _ (joined : RectanglesAreJoined) (shapes : List Rect) (pieces : List Piec
       step = λ s t i j a h g. linked.channels i j s t a h g;
       shared = λ s i j h g. same_chain i j (are.one_channel i j s h g);
       back = linked.channels_back;
-      one = channel_one;
+      one = channel_one joined shapes pieces are;
     }
-
-  conductor_one : (k : ℕ) (s t : Square) → HasConductor pieces k s → HasConductor pieces k t → Chain (Joined (covered shapes)) s t
-  conductor_one k s t h g =
-      let e : h.piece ≡ g.piece = same_Some h.piece g.piece (sym h.at ∙ g.at) in
-      let has : (u : Square) → IsIn h.piece.rect u → Conducts (covered shapes) u = λ u i. are.conducts k u (record { piece = h.piece; at = h.at; part = h.part; is = i }) in
-      map_chain (λ u v j. beside (record { from = has u j.from; to = has v j.to; same = j.same; beside = j.beside }))
-      (joined h.piece.rect s t h.is (subst (λ (p : Piece). IsIn p.rect t) (sym e) g.is))
 
   conductor_to : (s t : Square) → Joined (covered shapes) s t → Conducts (covered shapes) t
   conductor_to s t (beside j) = j.to
@@ -142,5 +143,5 @@ module _ (joined : RectanglesAreJoined) (shapes : List Rect) (pieces : List Piec
     step = λ s t i j a h g. linked.conductors i j s t a h g;
     shared = λ s i j h g. same_chain i j (are.one_conductor i j s h g);
     back = linked.conductors_back;
-    one = conductor_one;
+    one = conductor_one joined shapes pieces are;
   }
