@@ -1,2 +1,5 @@
 pub mod Tiles
 pub mod Touching
+pub mod Grid
+pub mod Blocks
+pub mod Rows

@@ -1,4 +1,4 @@
--- The tiles of a mask. `Is x y` says that a square, by its lower left corner, is of one kind.
+-- The tiles of a mask.
 use Rattle.std.specs.Prelude.{◌≡◌, ◌⊎◌, ℕ, ◌<◌, ℤ, negsuc, ◌+ℤ◌, ◌<ℤ◌, ◌≤ℤ◌, List, All, AllPairs, Contains, Option, Some, None, slice_get}
 use Rattle.lam_geom.specs.declared.rect.Rect.{Rect}
 use Rattle.lam_geom.specs.declared.place.Point.{Point}
@@ -6,24 +6,21 @@ use Rattle.mask_runs.specs.declared.mask.Mask.{Mask}
 use Rattle.mask_runs.specs.Colours.{HasColour}
 use Rattle.region_sweep.specs.declared.tile.Tile.{Tile}
 
--- a longest row of squares of one kind, from x0 up to x1, which is outside
-pub record IsSpan (Is : ℤ → ℤ → Type 0) (x0 x1 y : ℤ) : Type 0 where
-  pub wide : x0 <ℤ x1
-  pub each : (x : ℤ) → x0 ≤ℤ x → x <ℤ x1 → Is x y
-  pub left : ¬ Is (x0 +ℤ negsuc 0) y
-  pub right : ¬ Is x1 y
+-- a longest stretch of places of one kind, from a up to b, which is outside
+pub record IsLongest (Is : ℤ → Type 0) (a b : ℤ) : Type 0 where
+  pub some : a <ℤ b
+  pub each : (z : ℤ) → a ≤ℤ z → z <ℤ b → Is z
+  pub before : ¬ Is (a +ℤ negsuc 0)
+  pub after : ¬ Is b
 
--- a longest stack of such rows, one the width of the next
-pub record IsStack (Is : ℤ → ℤ → Type 0) (x0 y0 x1 y1 : ℤ) : Type 0 where
-  pub high : y0 <ℤ y1
-  pub each : (y : ℤ) → y0 ≤ℤ y → y <ℤ y1 → IsSpan Is x0 x1 y
-  pub below : ¬ IsSpan Is x0 x1 (y0 +ℤ negsuc 0)
-  pub above : ¬ IsSpan Is x0 x1 y1
+-- a longest row of squares of one colour, each by its lower left corner
+abbrev pub IsSpan : List Rect → Mask → ℕ → ℤ → ℤ → ℤ → Type 0
+IsSpan shapes mask k x0 x1 y = IsLongest (λ x. HasColour shapes mask k x y) x0 x1
 
--- a stack of squares of one colour above 0
+-- a longest stack of rows, of which each is such a longest row between the same ends
 pub record IsTile (shapes : List Rect) (mask : Mask) (t : Tile) : Type 0 where
   pub some : 0 < t.colour
-  pub stack : IsStack (HasColour shapes mask t.colour) t.x0 t.y0 t.x1 t.y1
+  pub stack : IsLongest (IsSpan shapes mask t.colour t.x0 t.x1) t.y0 t.y1
 
 -- its lowest row is lower, or as low and further to the left
 abbrev pub Before : Tile → Tile → Type 0

@@ -1,8 +1,12 @@
 //! The tiles of a mask: its squares of one colour, cut into rectangles along the rows.
 #![tactic(auto)]
 
+mod axis;
+mod block;
+mod spot;
 mod swept;
 mod tile;
 
 pub use swept::{Swept, sweep};
-pub use tile::{Pair, Tile};
+pub use tile::Tile;
+pub use union_find::Pair;

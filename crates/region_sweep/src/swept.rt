@@ -5,11 +5,12 @@ ghost use Rattle.std.specs.List.{AllZip};
 ghost use Rattle.region_sweep.specs.Tiles.{AreTiles, AreWhole, IsTileOf};
 ghost use Rattle.region_sweep.specs.Touching.{AreTouching};
 
-use crate::tile::{Pair, Tile};
+use crate::tile::Tile;
 use lam_geom::{Point, Rect};
 use mask_runs::Mask;
 use mp_base::{List, NoMemory};
 use std::alloc::Global;
+use union_find::Pair;
 
 /// What a sweep finds: the tiles of the mask in the order of their lower left squares, by y and then by x; the numbers
 /// of those that share an edge; and for each place in its turn the number of the tile that has its square.

@@ -1,0 +1,6 @@
+mod Axes
+mod Blocks
+mod Painting
+mod Squares
+mod Stretches
+mod Tilings

@@ -1,0 +1,168 @@
+-- The colour of a square is that of its cell.
+use Rattle.std.proofs.Common.{ℕ, zero, suc, ◌≡◌, ◌≢◌, ◌+◌, ◌-◌, ◌<◌, ◌≤◌, ◌⊎◌, ◌↔◌, List, [], ◌∷◌, Bool, true, false, true≢false, inl, inr, refl, sym, ap, ◌∙◌, subst, arith, length, get_or}
+use Rattle.std.specs.Prelude.{ℤ, pos, negsuc, ◌+ℤ◌, ◌≤ℤ◌, ◌<ℤ◌, All, Contains}
+use Rattle.std.proofs.lemmas.Int.{ints, by_lt_z}
+use Rattle.std.proofs.lemmas.Bool.{cases_lt}
+use Rattle.std.proofs.lemmas.List.{get_or_default}
+use Rattle.std.proofs.lemmas.List.Elements.{All-contains}
+use Rattle.std.proofs.Common.{add-one}
+use Rattle.lam_geom.specs.declared.layer.Layer.{Layer}
+use Rattle.lam_geom.specs.declared.layer.Layer.TheVariants.{ND, NP, NC, NM, NI, NB, NG}
+use Rattle.lam_geom.specs.declared.rect.Rect.{Rect}
+use Rattle.lam_geom.specs.Squares.{Covers, covered}
+use Rattle.mask_runs.specs.declared.mask.Layers.{Layers}
+use Rattle.mask_runs.specs.declared.mask.Mask.{Mask}
+use Rattle.mask_runs.specs.declared.mask.Mask.TheVariants.{Only}
+use Rattle.mask_runs.specs.Colours.{has, uses, colour_of, Sees, HasColour}
+use Rattle.mask_runs.specs.Laws.{ColoursByLayers}
+use Rattle.region_sweep.specs.declared.block.Block.{Block}
+use Rattle.region_sweep.specs.Blocks.{is_covered, painted}
+use Rattle.region_sweep.specs.Rows.{block, no_block}
+use Rattle.region_sweep.specs.Grid.{Ascending, cell_of, start_of, IsDrawn, AreDrawn, AreBlocks, block_of}
+use Rattle.region_sweep.proofs.Axes.{mark_before}
+use Rattle.region_sweep.proofs.Painting.{CoversCell, Covered, covered_decides, painted_is, same_layer}
+
+-- the grid of a mask, and its blocks
+pub record IsGrid (xs ys : List ℤ) (mask : Mask) (shapes : List Rect) (blocks : List Block) : Type 0 where
+  pub columns : Ascending xs
+  pub rows : Ascending ys
+  pub drawn : AreDrawn xs ys mask shapes
+  pub made : AreBlocks xs ys mask shapes blocks
+
+later : (r : Rect) (rs : List Rect) (d : Rect) (k : ℕ) → get_or (r ∷ rs) (k + 1) d ≡ get_or rs k d
+later r rs d k = rw add-one refl
+
+-- a rectangle of the list
+pub covered_by : (shapes : List Rect) (l : Layer) (x y : ℤ) → covered shapes l x y → (r : Rect) × Contains shapes r × Covers r l x y
+covered_by (r ∷ rs) l x y (inl h) = (r, (0, omega arith, refl), h)
+covered_by (r ∷ rs) l x y (inr h) = let g = covered_by rs l x y h in (g.0, (g.1.0 + 1, omega arith, later r rs g.0 g.1.0 ∙ g.1.2), g.2)
+covered_by [] l x y h = absurd h
+
+covers_at : (shapes : List Rect) (l : Layer) (x y : ℤ) (k : ℕ) (d : Rect) → k < length shapes → Covers (get_or shapes k d) l x y → covered shapes l x y
+covers_at [] l x y k d m h = absurd (omega arith)
+covers_at (r ∷ rs) l x y zero d m h = inl h
+covers_at (r ∷ rs) l x y (suc k) d m h = inr (covers_at rs l x y k d (omega arith) h)
+
+pub covers_all : (shapes : List Rect) (l : Layer) (x y : ℤ) (r : Rect) → Contains shapes r → Covers r l x y → covered shapes l x y
+covers_all shapes l x y r has h = covers_at shapes l x y has.0 r has.1 (subst (λ q. Covers q l x y) (sym has.2) h)
+
+pub before_mark : (ms : List ℤ) (m z : ℤ) → Ascending ms → Contains ms m → (z <ℤ m) ↔ (cell_of ms z < cell_of ms m)
+before_mark ms m z up has =
+    let b = mark_before ms m z up has in (
+      λ l. elim (cases_lt (cell_of ms z) (cell_of ms m)) [ inl a ↦ a | inr a ↦ let c = b.1 a in absurd (omega (arith, ints)) ],
+      λ l. by_lt_z z m (λ a. a) (λ a. let c = b.0 a in absurd (omega arith)),
+    )
+
+-- a rectangle covers the square exactly where its block covers the cell
+block_covers : (xs ys : List ℤ) (r : Rect) (l : Layer) (x y : ℤ) → Ascending xs → Ascending ys → IsDrawn xs ys r
+    → Covers r l x y ↔ CoversCell (block_of xs ys r) l (cell_of ys y) (cell_of xs x)
+block_covers xs ys r l x y upx upy d = (
+  λ h. record {
+    same = h.same;
+    left = (mark_before xs r.x0 x upx d.x0).0 h.left;
+    right = (before_mark xs r.x1 x upx d.x1).0 h.right;
+    low = (mark_before ys r.y0 y upy d.y0).0 h.bottom;
+    high = (before_mark ys r.y1 y upy d.y1).0 h.top;
+  },
+  λ h. record {
+    same = h.same;
+    left = (mark_before xs r.x0 x upx d.x0).1 h.left;
+    right = (before_mark xs r.x1 x upx d.x1).1 h.right;
+    bottom = (mark_before ys r.y0 y upy d.y0).1 h.low;
+    top = (before_mark ys r.y1 y upy d.y1).1 h.high;
+  },
+)
+
+pub square_covered : (xs ys : List ℤ) (mask : Mask) (shapes : List Rect) (blocks : List Block) (l : Layer) (x y : ℤ) → IsGrid xs ys mask shapes blocks
+    → uses mask l ≡ true → covered shapes l x y ↔ Covered blocks l (cell_of ys y) (cell_of xs x)
+square_covered xs ys mask shapes blocks l x y g u = (
+  λ h.
+    let a = covered_by shapes l x y h in
+    let v : uses mask a.0.layer ≡ true = subst (λ m. uses mask m ≡ true) (sym a.2.same) u in
+    let d = All-contains (λ r. uses mask r.layer ≡ true → IsDrawn xs ys r) shapes a.0 g.drawn a.1 v in
+    let c = g.made.all a.0 a.1 v in
+    let at : block blocks c.0 ≡ block_of xs ys a.0 = get_or_default blocks c.0 no_block (block_of xs ys a.0) c.1 ∙ c.2 in
+    (c.0, c.1, subst (λ b. CoversCell b l (cell_of ys y) (cell_of xs x)) (sym at) ((block_covers xs ys a.0 l x y g.columns g.rows d).0 a.2)),
+  λ h.
+    let e = g.made.each h.0 no_block h.1 in
+    let d = All-contains (λ r. uses mask r.layer ≡ true → IsDrawn xs ys r) shapes e.0 g.drawn e.1 e.2 in
+    covers_all shapes l x y e.0 e.1 ((block_covers xs ys e.0 l x y g.columns g.rows d).1
+      (subst (λ b. CoversCell b l (cell_of ys y) (cell_of xs x)) e.3 h.2)),
+)
+
+true_or_false : (b : Bool) → (b ≡ true) ⊎ (b ≡ false)
+true_or_false true = inl refl
+true_or_false false = inr refl
+
+pub layer_or_not : (a b : Layer) → (a ≡ b) ⊎ (a ≢ b)
+layer_or_not a b = elim (true_or_false (uses (Only a) b)) [
+    | inl t ↦ inl ((same_layer a b).0 t)
+    | inr f ↦ inr (λ e. true≢false (sym ((same_layer a b).1 e) ∙ f))
+  ]
+
+covers_or_not : (r : Rect) (l : Layer) (x y : ℤ) → Covers r l x y ⊎ (¬ Covers r l x y)
+covers_or_not r l x y = elim (layer_or_not r.layer l) [
+    | inr n ↦ inr (λ h. n h.same)
+    | inl e ↦ by_lt_z x r.x0 (λ m. inr (λ h. let g = h.left in omega (arith, ints)))
+      (λ a. by_lt_z x r.x1 (λ b. by_lt_z y r.y0 (λ m. inr (λ h. let g = h.bottom in omega (arith, ints)))
+        (λ c. by_lt_z y r.y1 (λ d. inl (record { same = e; left = a; right = b; bottom = c; top = d }))
+          (λ m. inr (λ h. let g = h.top in omega (arith, ints)))))
+        (λ m. inr (λ h. let g = h.right in omega (arith, ints))))
+  ]
+
+
+-- whether the layer covers the square
+seen : (shapes : List Rect) (l : Layer) (x y : ℤ) → (b : Bool) × ((b ≡ true) ↔ covered shapes l x y)
+seen [] l x y = (false, (λ e. absurd (true≢false (sym e)), λ h. absurd h))
+seen (r ∷ rs) l x y = elim (covers_or_not r l x y) [
+    | inl h ↦ (true, (λ e. inl h, λ g. refl))
+    | inr n ↦ let s = seen rs l x y in (s.0, (λ e. inr (s.1.0 e), λ g. elim g [ inl h ↦ absurd (n h) | inr h ↦ s.1.1 h ]))
+  ]
+
+same_test : {P : Type 0} (a b : Bool) → (a ≡ true) ↔ P → (b ≡ true) ↔ P → a ≡ b
+same_test true true f g = refl
+same_test false false f g = refl
+same_test true false f g = sym (g.1 (f.0 refl))
+same_test false true f g = f.1 (g.0 refl)
+
+pub square_painted : ColoursByLayers → (xs ys : List ℤ) (mask : Mask) (shapes : List Rect) (blocks : List Block) (x y : ℤ)
+    → IsGrid xs ys mask shapes blocks → (s : Layers) → Sees shapes x y s → colour_of mask s ≡ painted mask blocks (cell_of ys y) (cell_of xs x)
+square_painted law xs ys mask shapes blocks x y g s h = painted_is law mask blocks (cell_of ys y) (cell_of xs x) s
+    (λ l u.
+      let c = square_covered xs ys mask shapes blocks l x y g u in
+      let d = covered_decides blocks l (cell_of ys y) (cell_of xs x) in
+      same_test (has s l) (is_covered blocks l (cell_of ys y) (cell_of xs x)) (h.each l)
+      (λ e. c.1 (d.0 e), λ k. d.1 (c.0 k)))
+
+layers_by : (Layer → Bool) → Layers
+layers_by t = record { nd = t ND; np = t NP; nc = t NC; nm = t NM; ni = t NI; nb = t NB; ng = t NG }
+
+has_by : (t : Layer → Bool) (l : Layer) → has (layers_by t) l ≡ t l
+unfolding layers_by
+has_by t ND = refl
+has_by t NP = refl
+has_by t NC = refl
+has_by t NM = refl
+has_by t NI = refl
+has_by t NB = refl
+has_by t NG = refl
+
+sees_some : (shapes : List Rect) (x y : ℤ) → Sees shapes x y (layers_by (λ l. (seen shapes l x y).0))
+sees_some shapes x y = record {
+  each = λ l.
+    let e = has_by (λ m. (seen shapes m x y).0) l in
+    let s = (seen shapes l x y).1 in
+    (λ h. s.0 (sym e ∙ h), λ h. e ∙ s.1 h);
+}
+
+-- a square has a colour exactly where its cell has it
+pub has_colour : ColoursByLayers → (xs ys : List ℤ) (mask : Mask) (shapes : List Rect) (blocks : List Block) (k : ℕ) (x y : ℤ)
+    → IsGrid xs ys mask shapes blocks → HasColour shapes mask k x y ↔ (painted mask blocks (cell_of ys y) (cell_of xs x) ≡ k)
+has_colour law xs ys mask shapes blocks k x y g = (
+  λ h. sym (square_painted law xs ys mask shapes blocks x y g h.layers h.sees) ∙ h.same,
+  λ e. record {
+    layers = layers_by (λ l. (seen shapes l x y).0);
+    sees = sees_some shapes x y;
+    same = square_painted law xs ys mask shapes blocks x y g (layers_by (λ l. (seen shapes l x y).0)) (sees_some shapes x y) ∙ e;
+  },
+)

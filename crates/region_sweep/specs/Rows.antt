@@ -1,0 +1,55 @@
+-- What is known of the rows up to one.
+use Rattle.std.specs.Prelude.{◌≡◌, ◌↔◌, ℕ, ◌<◌, ◌≤◌, List, Option, Some, None, length, slice_index_or}
+use Rattle.lam_geom.specs.declared.layer.Layer.{Layer}
+use Rattle.lam_geom.specs.declared.layer.Layer.TheVariants.{ND}
+use Rattle.mask_runs.specs.declared.mask.Mask.{Mask}
+use Rattle.mask_runs.specs.declared.run.Run.{Run}
+use Rattle.mask_runs.specs.Runs.{IsRun, AreRuns}
+use Rattle.cover_tree.specs.Covers.{Cover}
+use Rattle.strip_rows.specs.declared.strip.Strip.{Strip}
+use Rattle.strip_rows.specs.Strips.{run_of, strip}
+use Rattle.region_sweep.specs.declared.block.Block.{Block}
+use Rattle.region_sweep.specs.declared.spot.Spot.{Spot}
+
+abbrev pub no_block : Block
+no_block = record { layer = ND; left = 0; right = 0; low = 0; high = 0 }
+
+-- the block at this place
+abbrev pub block : List Block → ℕ → Block
+block blocks k = slice_index_or blocks k no_block
+
+-- the block covers cell c of the layer up to a row above z, if it begins low enough
+pub record ReachesOver (b : Block) (l : Layer) (c z : ℕ) : Type 0 where
+  pub same : b.layer ≡ l
+  pub left : b.left ≤ c
+  pub right : c < b.right
+  pub high : z < b.high
+
+-- the tree covers what the first `raised` blocks cover, which begin at the row or below
+pub record AreRaised (blocks : List Block) (row raised : ℕ) (cover : Cover) : Type 0 where
+  pub within : raised ≤ length blocks
+  pub begun : (k : ℕ) → k < raised → (block blocks k).low ≤ row
+  pub tops : (l : Layer) (c z : ℕ) → (z < cover.top l c) ↔ ((k : ℕ) × (k < raised) × ReachesOver (block blocks k) l c z)
+
+abbrev pub no_spot : Spot
+no_spot = record { row = 0; cell = 0; index = 0 }
+
+abbrev pub spot : List Spot → ℕ → Spot
+spot spots j = slice_index_or spots j no_spot
+
+-- the strip has the cell of the row, and each of its rows up to there has its run
+pub record Holds (colour : ℕ → ℕ → ℕ) (s : Strip) (row cell : ℕ) : Type 0 where
+  pub left : s.left ≤ cell
+  pub right : cell < s.right
+  pub low : s.low ≤ row
+  pub each : (z : ℕ) → s.low ≤ z → z ≤ row → IsRun (colour z) (run_of s)
+
+-- the number of a strip that has the spot, or none where the spot has no colour
+abbrev pub IsAnswer : (ℕ → ℕ → ℕ) → List Strip → Spot → Option ℕ → Type 0
+IsAnswer colour strips p (Some n) = (n < length strips) × Holds colour (strip strips n) p.row p.cell
+IsAnswer colour strips p None = colour p.row p.cell ≡ 0
+
+-- the first `answered` spots have their answers
+pub record AreAnswered (colour : ℕ → ℕ → ℕ) (strips : List Strip) (spots : List Spot) (answered : ℕ) (found : List (Option ℕ)) : Type 0 where
+  pub within : answered ≤ length spots
+  pub each : (j : ℕ) → j < answered → IsAnswer colour strips (spot spots j) (slice_index_or found (spot spots j).index None)

@@ -1,0 +1,54 @@
+//! The marks that cut an axis into cells.
+
+ghost use Rattle.std.specs.Prelude.{◌≡◌, ◌↔◌, ◌+◌, ◌<◌, ◌≤◌, ◌^◌, ℤ, IfOk, Contains, length, vec_len};
+ghost use Rattle.region_sweep.specs.Grid.{Ascending, cell_of, start_of};
+
+use mp_base::NoMemory;
+
+const MOST_CELLS: usize = (1 << 31) - 1;
+
+/// Different coordinates in order, so few that there are less than 2^31 cells. They cut the axis into cells, each from its mark up to the next;
+/// cell 0 is before the first mark.
+#[derive(Drop)]
+pub(crate) struct Axis {
+    marks: Vec<i64>,
+    ghost ascending: { Ascending marks.items },
+    ghost few: { vec_len marks + 1 < 2 ^ 31 },
+}
+
+impl Axis {
+    /// The axis with these marks.
+    pub(crate) fn new(mut coordinates: Vec<i64>) -> Result<Axis, NoMemory>
+        ensures { IfOk result (λ axis. (z : ℤ) → Contains coordinates.items z ↔ Contains axis.marks.items z) }
+    {
+        coordinates.sort_unstable();
+        coordinates.dedup();
+        if coordinates.len() >= MOST_CELLS {
+            return Err(NoMemory);
+        }
+        Ok(Axis { marks: coordinates })
+    }
+
+    /// How many cells there are.
+    pub(crate) fn cells(&self) -> u32
+        ensures { result ≡ vec_len self.now.marks + 1 }
+    {
+        self.marks.len() as u32 + 1
+    }
+
+    /// The cell of a place.
+    pub(crate) fn cell(&self, place: i64) -> u32
+        ensures { result ≡ cell_of self.now.marks.items place }
+    {
+        self.marks.as_slice().partition_point(|mark| *mark <= place) as u32
+    }
+
+    /// Where a cell above 0 begins.
+    pub(crate) fn start(&self, cell: u32) -> i64
+        requires some { 0 < cell }
+        requires within { cell ≤ vec_len self.now.marks }
+        ensures { result ≡ start_of self.now.marks.items cell }
+    {
+        self.marks[cell as usize - 1]
+    }
+}
