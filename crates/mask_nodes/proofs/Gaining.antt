@@ -7,7 +7,7 @@ use Rattle.std.proofs.lemmas.Option.{same_Some}
 use Rattle.lam_geom.specs.declared.layer.Layer.{Layer}
 use Rattle.lam_geom.specs.declared.layer.Layer.TheVariants.{ND, NP, NM}
 use Rattle.region_sweep.specs.declared.tile.Tile.{Tile}
-use Rattle.region_sweep.specs.declared.tile.Pair as tiles
+
 use Rattle.union_find.specs.declared.pair.Pair.{Pair}
 use Rattle.mask_nodes.specs.declared.piece.Piece.{Piece}
 use Rattle.mask_nodes.specs.Linking.{Gains, conducts_at, IsTouchLink, joins, AreTwo, AreBoth, column_of, IsContactLink}
@@ -41,24 +41,24 @@ gains_none old P n = record { each = λ x. (λ c. inl c, λ c. elim c [ inl u �
 
 -- ---- tiles that touch
 
-touch_wider : (touching : List tiles.Pair) (numbers : List ℕ) (pieces : List Piece) (place : ℕ) (x : Pair) → IsTouchLink touching numbers pieces place x → IsTouchLink touching numbers pieces (place + 1) x
+touch_wider : (touching : List Pair) (numbers : List ℕ) (pieces : List Piece) (place : ℕ) (x : Pair) → IsTouchLink touching numbers pieces place x → IsTouchLink touching numbers pieces (place + 1) x
 touch_wider touching numbers pieces place x t =
     let b = t.before in
     record { at = t.at; before = omega arith; pair = t.pair; is = t.is; first = t.first; second = t.second; alike = t.alike }
 
-touch_narrower : (touching : List tiles.Pair) (numbers : List ℕ) (pieces : List Piece) (place : ℕ) (x : Pair) (t : IsTouchLink touching numbers pieces (place + 1) x) → t.at ≢ place
+touch_narrower : (touching : List Pair) (numbers : List ℕ) (pieces : List Piece) (place : ℕ) (x : Pair) (t : IsTouchLink touching numbers pieces (place + 1) x) → t.at ≢ place
     → IsTouchLink touching numbers pieces place x
 touch_narrower touching numbers pieces place x t n =
     let b = t.before in
     record { at = t.at; before = omega arith; pair = t.pair; is = t.is; first = t.first; second = t.second; alike = t.alike }
 
-module _ (touching : List tiles.Pair) (numbers : List ℕ) (pieces : List Piece) (place : ℕ) (p : tiles.Pair) (at : slice_get touching place ≡ Some p) (l : Pair)
+module _ (touching : List Pair) (numbers : List ℕ) (pieces : List Piece) (place : ℕ) (p : Pair) (at : slice_get touching place ≡ Some p) (l : Pair)
     (first : l.a ≡ get_or numbers p.a 0) (second : l.b ≡ get_or numbers p.b 0) where
   same_link : (x : Pair) (t : IsTouchLink touching numbers pieces (place + 1) x) → t.at ≡ place → l ≡ x
   same_link x t e =
       let f : p ≡ t.pair = same_Some p t.pair (sym at ∙ ap (slice_get touching) (sym e) ∙ t.is) in
-      let a : l.a ≡ x.a = first ∙ ap (λ (q : tiles.Pair). get_or numbers q.a 0) f ∙ sym t.first in
-      let b : l.b ≡ x.b = second ∙ ap (λ (q : tiles.Pair). get_or numbers q.b 0) f ∙ sym t.second in
+      let a : l.a ≡ x.a = first ∙ ap (λ (q : Pair). get_or numbers q.a 0) f ∙ sym t.first in
+      let b : l.b ≡ x.b = second ∙ ap (λ (q : Pair). get_or numbers q.b 0) f ∙ sym t.second in
       λ i. record { a = a i; b = b i }
 
   pub touch_added : conducts_at pieces l.a ≡ conducts_at pieces l.b → (x : Pair) → IsTouchLink touching numbers pieces (place + 1) x ↔ (IsTouchLink touching numbers pieces place x ⊎ (l ≡ x))

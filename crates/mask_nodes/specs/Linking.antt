@@ -3,7 +3,7 @@ use Rattle.std.specs.Prelude.{◌≡◌, ◌↔◌, ◌⊎◌, ℕ, ◌<◌, ◌
 use Rattle.lam_geom.specs.declared.layer.Layer.{Layer}
 use Rattle.lam_geom.specs.declared.layer.Layer.TheVariants.{ND, NP, NC, NM, NI, NB, NG}
 use Rattle.region_sweep.specs.declared.tile.Tile.{Tile}
-use Rattle.region_sweep.specs.declared.tile.Pair as tiles
+
 use Rattle.union_find.specs.declared.pair.Pair.{Pair}
 use Rattle.mask_nodes.specs.declared.piece.Piece.{Piece}
 use Rattle.mask_nodes.specs.Pieces.{is_conductor, no_piece}
@@ -17,10 +17,10 @@ abbrev pub conducts_at : List Piece → ℕ → Bool
 conducts_at pieces k = is_conductor (get_or pieces k no_piece).part
 
 -- the pieces of two tiles that touch, a pair of the first ones, where both conduct or neither does
-pub record IsTouchLink (touching : List tiles.Pair) (numbers : List ℕ) (pieces : List Piece) (place : ℕ) (l : Pair) : Type 0 where
+pub record IsTouchLink (touching : List Pair) (numbers : List ℕ) (pieces : List Piece) (place : ℕ) (l : Pair) : Type 0 where
   pub at : ℕ
   pub before : at < place
-  pub pair : tiles.Pair
+  pub pair : Pair
   pub is : slice_get touching at ≡ Some pair
   pub first : l.a ≡ get_or numbers pair.a 0
   pub second : l.b ≡ get_or numbers pair.b 0

@@ -5,11 +5,11 @@ ghost use Rattle.mask_nodes.specs.Linking.{Gains, IsTouchLink};
 
 use crate::piece::Piece;
 use mp_base::{List, NoMemory};
-use region_sweep::Pair;
+use union_find::Pair;
 
 /// Links the pieces of each two tiles that touch, where both conduct or neither does.
 pub(crate) fn link_touching(
-    links: &mut List<union_find::Pair>,
+    links: &mut List<Pair>,
     touching: &[Pair],
     numbers: &[u32],
     pieces: &[Piece],
@@ -22,7 +22,7 @@ pub(crate) fn link_touching(
         let a = numbers[pair.a as usize];
         let b = numbers[pair.b as usize];
         if pieces[a as usize].part.conducts() == pieces[b as usize].part.conducts() {
-            links.push(union_find::Pair { a, b })?;
+            links.push(Pair { a, b })?;
         }
     }
     Ok(())

@@ -1,6 +1,6 @@
 use Rattle.std.proofs.Common.{◌≡◌, ◌≢◌, ℕ, ◌+◌, List, [], ◌∷◌, ◌++◌, get_or, sym, ◌∙◌, subst, rules, refl}
 use Rattle.std.proofs.lemmas.Option.{slice_get-get_or}
-use Rattle.region_sweep.specs.declared.tile.Pair as tiles
+
 use Rattle.union_find.specs.declared.pair.Pair.{Pair}
 use Rattle.mask_nodes.specs.Linking.{Gains, IsTouchLink, conducts_at}
 use Rattle.mask_nodes.proofs.Gaining.{gains_one, gains_then, touch_added, touch_left}
@@ -10,12 +10,12 @@ use Rattle.mask_nodes.proofs.touching.link_touching.Goals.{then-conducts+in_ok-p
 
 pub loop-pair-preserved : goal.loop-pair-preserved
 loop-pair-preserved c =
-    let touching : List tiles.Pair = c.args.touching.now in
+    let touching : List Pair = c.args.touching.now in
     let numbers : List ℕ = c.args.numbers.now in
     let pieces = c.args.pieces.now in
     let i : ℕ = c.loop-pair.pair-index in
-    let none : tiles.Pair = record { a = 0; b = 0 } in
-    let p : tiles.Pair = get_or touching i none in
+    let none : Pair = record { a = 0; b = 0 } in
+    let p : Pair = get_or touching i none in
     let at = slice_get-get_or touching i none c.loop-pair-test.true in
     let l : Pair = record { a = get_or numbers p.a 0; b = get_or numbers p.b 0 } in
     let old = c.args.links.now in
