@@ -7,3 +7,4 @@ pub mod Listing
 pub mod Gaining
 pub mod Numbered
 pub mod Assembling
+pub mod Linked

@@ -2,3 +2,4 @@ pub mod Numbers
 pub mod Pieces
 pub mod Merging
 pub mod Linking
+pub mod Columns
