@@ -144,10 +144,10 @@ module _ (one : OneColour) (shapes : List Rect) (metal polysilicon diffusion : L
   of_diffusion k p x y e w i = (on_diffusion shapes w.tile.colour x y (tile_colour shapes Diffusion w.tile x y w.is i), ap (λ (q : Piece). q.part) w.same)
 
   -- the tile of a conductor has its square
-  conductor_in : (k : ℕ) (s : Square) (h : HasConductor pieces k s) (layer : Layer) (mask : Mask) (tiles : List Tile) → (w : Tiled shapes layer mask tiles h.piece) → InTile w.tile s.x s.y
+  pub conductor_in : (k : ℕ) (s : Square) (h : HasConductor pieces k s) (layer : Layer) (mask : Mask) (tiles : List Tile) → (w : Tiled shapes layer mask tiles h.piece) → InTile w.tile s.x s.y
   conductor_in k s h layer mask tiles w = in_tile layer h.piece.tile w.tile h.piece s.layer s.x s.y w.same (record { same = refl; left = h.is.left; right = h.is.right; bottom = h.is.bottom; top = h.is.top })
 
-  channel_in : (k : ℕ) (s : Square) (h : HasChannel pieces k s) (layer : Layer) (mask : Mask) (tiles : List Tile) → (w : Tiled shapes layer mask tiles h.piece) → InTile w.tile s.x s.y
+  pub channel_in : (k : ℕ) (s : Square) (h : HasChannel pieces k s) (layer : Layer) (mask : Mask) (tiles : List Tile) → (w : Tiled shapes layer mask tiles h.piece) → InTile w.tile s.x s.y
   channel_in k s h layer mask tiles w = in_tile layer h.piece.tile w.tile h.piece NP s.x s.y w.same (record { same = refl; left = h.is.left; right = h.is.right; bottom = h.is.bottom; top = h.is.top })
 
   single : (l : Layer) (x y : ℤ) (t : Tile) → IsTile shapes (Only l) t → InTile t x y → covered shapes l x y × (t.colour ≡ 1)

@@ -8,3 +8,4 @@ pub mod Gaining
 pub mod Numbered
 pub mod Assembling
 pub mod Linked
+pub mod LinksMade

@@ -61,7 +61,7 @@ pub record EdgeLink (pieces : List Piece) (i j : ℕ) : Type 0 where
   pub alike : is_conductor first.part ≡ is_conductor second.part
   pub edge : Edge first second
 
-link_turned : (pieces : List Piece) (i j : ℕ) → EdgeLink pieces i j → EdgeLink pieces j i
+pub link_turned : (pieces : List Piece) (i j : ℕ) → EdgeLink pieces i j → EdgeLink pieces j i
 link_turned pieces i j e = record { first = e.second; second = e.first; at_first = e.at_second; at_second = e.at_first; alike = sym e.alike; edge = edge_turned e.first e.second e.edge }
 
 conductor_part : (p : Part) → is_conductor p ≡ true → p ≡ Conductor
@@ -199,14 +199,14 @@ module _ (joined : RectanglesAreJoined) (shapes : List Rect) (pieces : List Piec
 abbrev pub corner_point : Tile → Point
 corner_point t = record { x = t.x0; y = t.y0 }
 
-in_corner : (shapes : List Rect) (mask : Mask) (t : Tile) → IsTile shapes mask t → InTile t t.x0 t.y0
+pub in_corner : (shapes : List Rect) (mask : Mask) (t : Tile) → IsTile shapes mask t → InTile t t.x0 t.y0
 in_corner shapes mask t h =
     let a = h.stack.some in
     let b = (h.stack.each t.y0 (omega (arith, ints)) a).some in
     record { left = omega (arith, ints); right = b; bottom = omega (arith, ints); top = a }
 
 -- where two conduct, they are one layer or two
-conducting_layer : (shapes : List Rect) (l : Layer) (x y : ℤ) → ConductsOn (covered shapes) l x y → (l ≡ NM) ⊎ (l ≡ NP) ⊎ (l ≡ ND)
+pub conducting_layer : (shapes : List Rect) (l : Layer) (x y : ℤ) → ConductsOn (covered shapes) l x y → (l ≡ NM) ⊎ (l ≡ NP) ⊎ (l ≡ ND)
 conducting_layer shapes NM x y c = inl refl
 conducting_layer shapes NP x y c = inr (inl refl)
 conducting_layer shapes ND x y c = inr (inr refl)
@@ -215,7 +215,7 @@ conducting_layer shapes NI x y c = absurd c
 conducting_layer shapes NB x y c = absurd c
 conducting_layer shapes NG x y c = absurd c
 
-two_layers : (l m : Layer) → (l ≡ NM) ⊎ (l ≡ NP) ⊎ (l ≡ ND) → (m ≡ NM) ⊎ (m ≡ NP) ⊎ (m ≡ ND) → (l ≡ m) ⊎ AreTwo l m ⊎ AreTwo m l
+pub two_layers : (l m : Layer) → (l ≡ NM) ⊎ (l ≡ NP) ⊎ (l ≡ ND) → (m ≡ NM) ⊎ (m ≡ NP) ⊎ (m ≡ ND) → (l ≡ m) ⊎ AreTwo l m ⊎ AreTwo m l
 two_layers l m (inl e) (inl f) = inl (e ∙ sym f)
 two_layers l m (inl e) (inr (inl f)) = inr (inl (subst₂ AreTwo (sym e) (sym f) upper))
 two_layers l m (inl e) (inr (inr f)) = inr (inl (subst₂ AreTwo (sym e) (sym f) outer))
