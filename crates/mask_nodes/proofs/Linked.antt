@@ -195,10 +195,6 @@ module _ (joined : RectanglesAreJoined) (shapes : List Rect) (pieces : List Piec
   pub no_channel_through : (i j : ℕ) (s : Square) → Through i j → HasChannel pieces i s → ⊥
   no_channel_through i j s w h = h.part (ap (λ (p : Piece). p.part) (same_Some h.piece w.in_first.piece (sym h.at ∙ w.in_first.at)) ∙ w.in_first.part)
 
--- the first square of a tile
-abbrev pub corner_point : Tile → Point
-corner_point t = record { x = t.x0; y = t.y0 }
-
 pub in_corner : (shapes : List Rect) (mask : Mask) (t : Tile) → IsTile shapes mask t → InTile t t.x0 t.y0
 in_corner shapes mask t h =
     let a = h.stack.some in

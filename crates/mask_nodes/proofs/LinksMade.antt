@@ -26,12 +26,12 @@ use Rattle.mask_nodes.specs.declared.piece.Piece.{Piece}
 use Rattle.mask_nodes.specs.Pieces.{is_conductor, AreNumbersOf, AreCutUp, HasConductor, HasChannel, ArePieces, AreLinks}
 use Rattle.mask_nodes.specs.Linking.{IsTouchLink, joins, AreTwo, column_of, IsContactLink}
 use Rattle.mask_nodes.specs.Linking.AreTwo.{upper, outer, lower}
-use Rattle.mask_nodes.specs.Columns.{square_at, IsPieceOver, AreOver}
+use Rattle.mask_nodes.specs.Columns.{corner_point, square_at, IsPieceOver, AreOver}
 use Rattle.mask_nodes.proofs.Classes.{join_chains, one_link, turn_chain, turn_pair}
 use Rattle.mask_nodes.proofs.Seeing.{IsBy, joined_by, contact_coloured}
 use Rattle.mask_nodes.proofs.CutUp.{contains_at, at_contains, all_at, Tiled, tile_colour, tiled_metal, tiled_polysilicon, tiled_diffusion, conductor_in, channel_in, channel_layer, are_pieces}
 use Rattle.mask_nodes.proofs.Owning.{map_chain, same_chain}
-use Rattle.mask_nodes.proofs.Linked.{EdgeLink, link_turned, edge_link, edge_chain, Through, through_turned, conductors_over_edge, channels_over_edge, conductors_through, no_channel_through, corner_point, in_corner, conducting_layer, two_layers}
+use Rattle.mask_nodes.proofs.Linked.{EdgeLink, link_turned, edge_link, edge_chain, Through, through_turned, conductors_over_edge, channels_over_edge, conductors_through, no_channel_through, in_corner, conducting_layer, two_layers}
 
 not_conductor : (p : Part) → p ≢ Conductor → is_conductor p ≡ false
 not_conductor Conductor n = absurd (n refl)

@@ -4,9 +4,14 @@ use Rattle.lam_geom.specs.declared.layer.Layer.{Layer}
 use Rattle.lam_geom.specs.declared.place.Point.{Point}
 use Rattle.lam_geom.specs.declared.rect.Rect.{Rect}
 use Rattle.lam_geom.specs.Squares.{Square, covered}
+use Rattle.region_sweep.specs.declared.tile.Tile.{Tile}
 use Rattle.switch_net.specs.Conductors.{ConductsOn}
 use Rattle.mask_nodes.specs.declared.piece.Piece.{Piece}
 use Rattle.mask_nodes.specs.Pieces.{HasConductor}
+
+-- the first square of a tile
+abbrev pub corner_point : Tile → Point
+corner_point t = record { x = t.x0; y = t.y0 }
 
 -- the square of a layer at a place
 abbrev pub square_at : Layer → Point → Square

@@ -3,3 +3,4 @@ pub mod Pieces
 pub mod Merging
 pub mod Linking
 pub mod Columns
+pub mod Masks

@@ -1,12 +1,14 @@
 //! The nodes and the channels that a mask draws, by their numbers.
 #![tactic(auto)]
 
-mod numbering;
 mod contacts;
 mod cutting;
+mod masks;
 mod merging;
+mod numbering;
 mod over;
 mod piece;
+mod spots;
 mod tile_numbers;
 mod touching;
 
