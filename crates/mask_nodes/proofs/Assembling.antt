@@ -109,3 +109,6 @@ numbers_of layer ts pieces numbers of h = record {
       let f : t ≡ v.0 = same_Some t v.0 (sym e ∙ ap (slice_get ts) (sym w.3) ∙ v.1) in
       w.1 ∙ ap (λ x. Some x) (v.2 ∙ ap (λ x. piece_of layer x v.0) w.3 ∙ ap (piece_of layer n) (sym f));
 }
+
+pub numbers_from : (layer : Layer) (ts : List Tile) (pieces : List Piece) (numbers : List ℕ) (count : ℕ) → count ≡ length ts → AreOfTiles layer ts pieces → AreTileNumbers layer count pieces (length pieces) numbers → AreNumbersOf layer ts pieces numbers
+numbers_from layer ts pieces numbers count e of h = numbers_of layer ts pieces numbers of (subst (λ n. AreTileNumbers layer n pieces (length pieces) numbers) e h)

@@ -1,5 +1,5 @@
 -- Links that are added.
-use Rattle.std.proofs.Common.{◌≡◌, ◌≢◌, ℕ, ◌+◌, ◌<◌, ◌≤◌, ◌⊎◌, inl, inr, List, [], ◌∷◌, ◌++◌, length, get_or, refl, sym, ◌∙◌, ap, subst, arith}
+use Rattle.std.proofs.Common.{◌≡◌, ◌≢◌, ℕ, ◌+◌, ◌<◌, ◌≤◌, ◌⊎◌, inl, inr, List, [], ◌∷◌, ◌++◌, length, get_or, refl, sym, ◌∙◌, ap, subst, subst₂, arith}
 use Rattle.std.specs.Prelude.{◌↔◌, Bool, true, false, Contains, Option, Some, None, slice_get, if◌then◌else◌}
 use Rattle.std.proofs.lemmas.Bool.{cases_eq}
 use Rattle.std.proofs.lemmas.List.Elements.{Contains-append_left, Contains-append_cases}
@@ -10,7 +10,7 @@ use Rattle.region_sweep.specs.declared.tile.Tile.{Tile}
 
 use Rattle.union_find.specs.declared.pair.Pair.{Pair}
 use Rattle.mask_nodes.specs.declared.piece.Piece.{Piece}
-use Rattle.mask_nodes.specs.Linking.{Gains, conducts_at, IsTouchLink, joins, AreTwo, AreBoth, column_of, IsContactLink}
+use Rattle.mask_nodes.specs.Linking.{Gains, conducts_at, IsTouchLink, joins, AreTwo, AreBoth, column_of, IsContactLink, AreAllLinks}
 use Rattle.mask_nodes.specs.Linking.AreTwo.{upper, outer, lower}
 use Rattle.mask_nodes.proofs.Listing.{only_one, contains_last}
 
@@ -174,3 +174,41 @@ module _ (contacts : List Tile) (metal polysilicon diffusion : List (Option ℕ)
         λ t. elim ((contact_added x).0 t) [ inl u ↦ inl (inl (inl u)) | inr (inl u) ↦ inl (inl (inr u)) | inr (inr (inl u)) ↦ inl (inr u) | inr (inr (inr u)) ↦ inr u ],
         λ w. (contact_added x).1 (elim w [ inl (inl (inl u)) ↦ inl u | inl (inl (inr u)) ↦ inr (inl u) | inl (inr u) ↦ inr (inr (inl u)) | inr u ↦ inr (inr (inr u)) ]),
       ))
+
+-- ---- all links
+
+pub touch_same : (old new : List Pair) (ts us : List Pair) (ns ms : List ℕ) (pieces : List Piece) → ts ≡ us → ns ≡ ms → Gains old new (IsTouchLink ts ns pieces (length ts)) → Gains old new (IsTouchLink us ms pieces (length us))
+touch_same old new ts us ns ms pieces e f g = subst₂ (λ t n. Gains old new (IsTouchLink t n pieces (length t))) e f g
+
+pub contact_same : (old new : List Pair) (cs ds : List Tile) (m n p q d e : List (Option ℕ)) → cs ≡ ds → m ≡ n → p ≡ q → d ≡ e → Gains old new (IsContactLink cs m p d (length cs)) → Gains old new (IsContactLink ds n q e (length ds))
+contact_same old new cs ds m n p q d e ec em ep ed g =
+    subst₂ (λ x y. Gains old new (IsContactLink ds n x y (length ds))) ep ed (subst₂ (λ x y. Gains old new (IsContactLink x y p d (length x))) ec em g)
+
+pub all_links : (metal polysilicon diffusion : List Pair) (contacts : List Tile) (pieces : List Piece) (nm np nd : List ℕ) (cm cp cd : List (Option ℕ)) (start a b e new : List Pair) → start ≡ []
+    → Gains start a (IsTouchLink metal nm pieces (length metal)) → Gains a b (IsTouchLink polysilicon np pieces (length polysilicon)) → Gains b e (IsTouchLink diffusion nd pieces (length diffusion))
+    → Gains e new (IsContactLink contacts cm cp cd (length contacts)) → AreAllLinks metal polysilicon diffusion contacts pieces nm np nd cm cp cd new
+all_links metal polysilicon diffusion contacts pieces nm np nd cm cp cd start a b e new none g1 g2 g3 g4 = record { each = each }
+  where
+    empty : (l : Pair) → Contains start l → ⊥
+    empty l c = let k = subst (λ xs. Contains xs l) none c in absurd (omega (arith, k.1))
+
+    each : (l : Pair) → Contains new l ↔ (((IsTouchLink metal nm pieces (length metal) l ⊎ IsTouchLink polysilicon np pieces (length polysilicon) l) ⊎ IsTouchLink diffusion nd pieces (length diffusion) l)
+        ⊎ IsContactLink contacts cm cp cd (length contacts) l)
+    each l = (
+      λ c. elim ((g4.each l).0 c) [
+        | inr u ↦ inr u
+        | inl v ↦ elim ((g3.each l).0 v) [
+          | inr u ↦ inl (inr u)
+          | inl w ↦ elim ((g2.each l).0 w) [
+            | inr u ↦ inl (inl (inr u))
+            | inl x ↦ elim ((g1.each l).0 x) [ inr u ↦ inl (inl (inl u)) | inl y ↦ absurd (empty l y) ]
+          ]
+        ]
+      ],
+      λ c. elim c [
+        | inl (inl (inl u)) ↦ (g4.each l).1 (inl ((g3.each l).1 (inl ((g2.each l).1 (inl ((g1.each l).1 (inr u)))))))
+        | inl (inl (inr u)) ↦ (g4.each l).1 (inl ((g3.each l).1 (inl ((g2.each l).1 (inr u)))))
+        | inl (inr u) ↦ (g4.each l).1 (inl ((g3.each l).1 (inr u)))
+        | inr u ↦ (g4.each l).1 (inr u)
+      ],
+    )

@@ -9,3 +9,6 @@ pub mod Numbered
 pub mod Assembling
 pub mod Linked
 pub mod LinksMade
+pub mod Covering
+pub mod Together
+pub mod CutLemmas

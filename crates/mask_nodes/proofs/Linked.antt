@@ -64,7 +64,7 @@ pub record EdgeLink (pieces : List Piece) (i j : ℕ) : Type 0 where
 pub link_turned : (pieces : List Piece) (i j : ℕ) → EdgeLink pieces i j → EdgeLink pieces j i
 link_turned pieces i j e = record { first = e.second; second = e.first; at_first = e.at_second; at_second = e.at_first; alike = sym e.alike; edge = edge_turned e.first e.second e.edge }
 
-conductor_part : (p : Part) → is_conductor p ≡ true → p ≡ Conductor
+pub conductor_part : (p : Part) → is_conductor p ≡ true → p ≡ Conductor
 conductor_part Conductor e = refl
 conductor_part Plain e = absurd (cc)
 conductor_part Implanted e = absurd (cc)

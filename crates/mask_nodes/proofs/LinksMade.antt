@@ -33,7 +33,7 @@ use Rattle.mask_nodes.proofs.CutUp.{contains_at, at_contains, all_at, Tiled, til
 use Rattle.mask_nodes.proofs.Owning.{map_chain, same_chain}
 use Rattle.mask_nodes.proofs.Linked.{EdgeLink, link_turned, edge_link, edge_chain, Through, through_turned, conductors_over_edge, channels_over_edge, conductors_through, no_channel_through, in_corner, conducting_layer, two_layers}
 
-not_conductor : (p : Part) → p ≢ Conductor → is_conductor p ≡ false
+pub not_conductor : (p : Part) → p ≢ Conductor → is_conductor p ≡ false
 not_conductor Conductor n = absurd (n refl)
 not_conductor Plain n = refl
 not_conductor Implanted n = refl
@@ -52,10 +52,10 @@ module _ (one : OneColour) (joined : RectanglesAreJoined) (shapes : List Rect) (
     (over_m : AreOver shapes pieces NM places cm) (over_p : AreOver shapes pieces NP places cp) (over_d : AreOver shapes pieces ND places cd)
     (has : (l : Pair) → Contains links l ↔ (((IsTouchLink pm nm pieces (length pm) l ⊎ IsTouchLink pp np pieces (length pp) l) ⊎ IsTouchLink pd nd pieces (length pd) l)
         ⊎ IsContactLink contacts cm cp cd (length contacts) l)) where
-  are : ArePieces shapes pieces
+  pub are : ArePieces shapes pieces
   are = are_pieces one shapes metal polysilicon diffusion pieces cut tm wm tp wp td wd
 
-  abbrev Crossing : ℕ → ℕ → Type 0
+  abbrev pub Crossing : ℕ → ℕ → Type 0
   Crossing i j = Through joined shapes pieces are i j
 
   -- the contact at a number, and its colour at its first square
@@ -88,7 +88,7 @@ module _ (one : OneColour) (joined : RectanglesAreJoined) (shapes : List Rect) (
   crossing_of lower n c e jl jm a b fa fb = crossing NP ND cp cd over_p over_d lower n c e jl jm a b fa fb
 
   -- each link is one over an edge or through a contact
-  kind : (l : Pair) → Contains links l → EdgeLink pieces l.a l.b ⊎ Crossing l.a l.b
+  pub kind : (l : Pair) → Contains links l → EdgeLink pieces l.a l.b ⊎ Crossing l.a l.b
   kind l c = elim ((has l).0 c) [
     | inl (inl (inl t)) ↦ inl (edge_link NM metal pm nm pieces touch_m num_m l t)
     | inl (inl (inr t)) ↦ inl (edge_link NP polysilicon pp np pieces touch_p num_p l t)

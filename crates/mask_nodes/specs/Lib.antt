@@ -4,3 +4,5 @@ pub mod Merging
 pub mod Linking
 pub mod Columns
 pub mod Masks
+pub mod Classed
+pub mod CutOf

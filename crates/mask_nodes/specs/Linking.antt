@@ -1,5 +1,5 @@
 -- Links between pieces.
-use Rattle.std.specs.Prelude.{◌≡◌, ◌↔◌, ◌⊎◌, ℕ, ◌<◌, ◌==◌, ◌||◌, Bool, true, false, List, [], get_or, Contains, Option, Some, None, slice_get, if◌then◌else◌}
+use Rattle.std.specs.Prelude.{◌≡◌, ◌↔◌, ◌⊎◌, ℕ, ◌<◌, ◌==◌, ◌||◌, Bool, true, false, List, [], length, get_or, All, Contains, Option, Some, None, slice_get, if◌then◌else◌}
 use Rattle.lam_geom.specs.declared.layer.Layer.{Layer}
 use Rattle.lam_geom.specs.declared.layer.Layer.TheVariants.{ND, NP, NC, NM, NI, NB, NG}
 use Rattle.region_sweep.specs.declared.tile.Tile.{Tile}
@@ -74,3 +74,13 @@ pub record IsContactLink (contacts : List Tile) (metal polysilicon diffusion : L
   pub joins_other : joins contact.colour other ≡ true
   pub first : slice_get (column_of metal polysilicon diffusion one) at ≡ Some (Some l.a)
   pub second : slice_get (column_of metal polysilicon diffusion other) at ≡ Some (Some l.b)
+
+-- these have exactly the links of metal, of polysilicon, of diffusion and of contacts
+pub record AreAllLinks (metal polysilicon diffusion : List Pair) (contacts : List Tile) (pieces : List Piece) (nm np nd : List ℕ) (cm cp cd : List (Option ℕ)) (links : List Pair) : Type 0 where
+  pub each : (l : Pair) → Contains links l ↔ (((IsTouchLink metal nm pieces (length metal) l ⊎ IsTouchLink polysilicon np pieces (length polysilicon) l) ⊎ IsTouchLink diffusion nd pieces (length diffusion) l)
+      ⊎ IsContactLink contacts cm cp cd (length contacts) l)
+
+-- pairs are of tiles that have numbers, and these are numbers of pieces
+pub record AreInside (touching : List Pair) (numbers : List ℕ) (pieces : List Piece) : Type 0 where
+  pub tiles : All (λ p. (p.a < length numbers) × (p.b < length numbers)) touching
+  pub pieces_in : All (λ k. k < length pieces) numbers

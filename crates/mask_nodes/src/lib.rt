@@ -2,7 +2,10 @@
 #![tactic(auto)]
 
 mod contacts;
+mod cut;
 mod cutting;
+mod layered;
+mod linking;
 mod masks;
 mod merging;
 mod numbering;
