@@ -12,3 +12,4 @@ pub mod LinksMade
 pub mod Covering
 pub mod Together
 pub mod CutLemmas
+pub mod Classing

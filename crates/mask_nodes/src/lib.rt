@@ -1,6 +1,7 @@
 //! The nodes and the channels that a mask draws, by their numbers.
 #![tactic(auto)]
 
+mod classify;
 mod contacts;
 mod cut;
 mod cutting;
