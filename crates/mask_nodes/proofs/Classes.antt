@@ -92,9 +92,9 @@ module _ {S : Type 0} {Is : S → Type 0} {J B : S → S → Type 0} {Has : ℕ 
         let b : B (first p) (first q) = elim (own.strict p q lt rp.1 rq.1) [
           | inl b ↦ b
           | inr e ↦
-            let c : Chain (Paired pairs) p q = own.shared (first p) p q rp.1 (subst (Has q) (sym e) rq.1) in
-            let same : p ≡ q = sym rp.2 ∙ leasts.one p q c ∙ rq.2 in
-            absurd (omega arith)
+              let c : Chain (Paired pairs) p q = own.shared (first p) p q rp.1 (subst (Has q) (sym e) rq.1) in
+              let same : p ≡ q = sym rp.2 ∙ leasts.one p q c ∙ rq.2 in
+              absurd (omega arith)
         ] in
         subst₂ B (sym (first_at i d hi)) (sym (first_at j d hj)) b
 

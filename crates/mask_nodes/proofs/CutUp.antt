@@ -130,13 +130,15 @@ module _ (one : OneColour) (shapes : List Rect) (metal polysilicon diffusion : L
     where
       go : (c : ℕ) → 0 < c → HasColour shapes Diffusion c x y → part_of c ≢ Conductor → (k : ℕ) × HasChannel pieces k (record { layer = NP; x = x; y = y })
       go c l h n =
-          let w = piece_at ND Diffusion diffusion wd cut.of_diffusion c x y l h in
-          (w.0, record {
-            piece = piece_of ND w.1 w.2;
-            at = w.3;
-            part = λ f. n (ap part_of (sym w.4) ∙ f);
-            is = record { same = refl; left = w.5.left; right = w.5.right; bottom = w.5.bottom; top = w.5.top };
-          })
+          let w = piece_at ND Diffusion diffusion wd cut.of_diffusion c x y l h in (
+            w.0,
+            record {
+              piece = piece_of ND w.1 w.2;
+              at = w.3;
+              part = λ f. n (ap part_of (sym w.4) ∙ f);
+              is = record { same = refl; left = w.5.left; right = w.5.right; bottom = w.5.bottom; top = w.5.top };
+            },
+          )
 
   -- what a piece of diffusion has at a square of its own
   pub of_diffusion : (k : ℕ) (p : Piece) (x y : ℤ) → slice_get pieces k ≡ Some p → (w : Tiled shapes ND Diffusion diffusion p) → InTile w.tile x y
@@ -159,34 +161,34 @@ module _ (one : OneColour) (shapes : List Rect) (metal polysilicon diffusion : L
   conducts_at : (k : ℕ) (s : Square) → HasConductor pieces k s → Conducts (covered shapes) s
   conducts_at k s h = elim (cut.layers h.piece (at_contains pieces k h.piece h.at)) [
     | inl e ↦
-      let w = tiled_metal k h.piece h.at e in
-      subst (λ l. ConductsOn (covered shapes) l s.x s.y) (sym e ∙ h.is.same) (single NM s.x s.y w.tile w.is (conductor_in k s h NM (Only NM) metal w)).0
+        let w = tiled_metal k h.piece h.at e in
+        subst (λ l. ConductsOn (covered shapes) l s.x s.y) (sym e ∙ h.is.same) (single NM s.x s.y w.tile w.is (conductor_in k s h NM (Only NM) metal w)).0
     | inr (inl e) ↦
-      let w = tiled_polysilicon k h.piece h.at e in
-      subst (λ l. ConductsOn (covered shapes) l s.x s.y) (sym e ∙ h.is.same) (single NP s.x s.y w.tile w.is (conductor_in k s h NP (Only NP) polysilicon w)).0
+        let w = tiled_polysilicon k h.piece h.at e in
+        subst (λ l. ConductsOn (covered shapes) l s.x s.y) (sym e ∙ h.is.same) (single NP s.x s.y w.tile w.is (conductor_in k s h NP (Only NP) polysilicon w)).0
     | inr (inr e) ↦
-      let w = tiled_diffusion k h.piece h.at e in
-      let i = of_diffusion k h.piece s.x s.y h.at w (conductor_in k s h ND Diffusion diffusion w) in
-      let f : part_of w.tile.colour ≡ Conductor = sym i.1 ∙ h.part in
-      subst (λ l. ConductsOn (covered shapes) l s.x s.y) (sym e ∙ h.is.same) (elim i.0 [
-        | none n u ↦ let g = w.is.some in absurd (omega arith)
-        | conductor d n u ↦ (d, n)
-        | plain d n u ↦ let g : part_of 2 ≡ Conductor = ap part_of (sym u) ∙ f in absurd (cc)
-        | implant d n u ↦ let g : part_of 3 ≡ Conductor = ap part_of (sym u) ∙ f in absurd (cc)
-      ])
+        let w = tiled_diffusion k h.piece h.at e in
+        let i = of_diffusion k h.piece s.x s.y h.at w (conductor_in k s h ND Diffusion diffusion w) in
+        let f : part_of w.tile.colour ≡ Conductor = sym i.1 ∙ h.part in
+        subst (λ l. ConductsOn (covered shapes) l s.x s.y) (sym e ∙ h.is.same) (elim i.0 [
+          | none n u ↦ let g = w.is.some in absurd (omega arith)
+          | conductor d n u ↦ (d, n)
+          | plain d n u ↦ let g : part_of 2 ≡ Conductor = ap part_of (sym u) ∙ f in absurd (cc)
+          | implant d n u ↦ let g : part_of 3 ≡ Conductor = ap part_of (sym u) ∙ f in absurd (cc)
+        ])
   ]
 
   -- a piece of a channel is on diffusion
   pub channel_layer : (k : ℕ) (s : Square) (h : HasChannel pieces k s) → h.piece.rect.layer ≡ ND
   channel_layer k s h = elim (cut.layers h.piece (at_contains pieces k h.piece h.at)) [
     | inl e ↦
-      let w = tiled_metal k h.piece h.at e in
-      let c = single NM s.x s.y w.tile w.is (channel_in k s h NM (Only NM) metal w) in
-      absurd (h.part (ap (λ (q : Piece). q.part) w.same ∙ ap part_of c.1))
+        let w = tiled_metal k h.piece h.at e in
+        let c = single NM s.x s.y w.tile w.is (channel_in k s h NM (Only NM) metal w) in
+        absurd (h.part (ap (λ (q : Piece). q.part) w.same ∙ ap part_of c.1))
     | inr (inl e) ↦
-      let w = tiled_polysilicon k h.piece h.at e in
-      let c = single NP s.x s.y w.tile w.is (channel_in k s h NP (Only NP) polysilicon w) in
-      absurd (h.part (ap (λ (q : Piece). q.part) w.same ∙ ap part_of c.1))
+        let w = tiled_polysilicon k h.piece h.at e in
+        let c = single NP s.x s.y w.tile w.is (channel_in k s h NP (Only NP) polysilicon w) in
+        absurd (h.part (ap (λ (q : Piece). q.part) w.same ∙ ap part_of c.1))
     | inr (inr e) ↦ e
   ]
 
@@ -213,17 +215,17 @@ module _ (one : OneColour) (shapes : List Rect) (metal polysilicon diffusion : L
   one_conductor_at : (i j : ℕ) (s : Square) → HasConductor pieces i s → HasConductor pieces j s → i ≡ j
   one_conductor_at i j s h g = elim (cut.layers h.piece (at_contains pieces i h.piece h.at)) [
     | inl e ↦
-      let u = tiled_metal i h.piece h.at e in
-      let v = tiled_metal j g.piece g.at (g.is.same ∙ sym h.is.same ∙ e) in
-      same_piece NM (Only NM) metal i j h.piece g.piece s.x s.y h.at g.at u v (conductor_in i s h NM (Only NM) metal u) (conductor_in j s g NM (Only NM) metal v)
+        let u = tiled_metal i h.piece h.at e in
+        let v = tiled_metal j g.piece g.at (g.is.same ∙ sym h.is.same ∙ e) in
+        same_piece NM (Only NM) metal i j h.piece g.piece s.x s.y h.at g.at u v (conductor_in i s h NM (Only NM) metal u) (conductor_in j s g NM (Only NM) metal v)
     | inr (inl e) ↦
-      let u = tiled_polysilicon i h.piece h.at e in
-      let v = tiled_polysilicon j g.piece g.at (g.is.same ∙ sym h.is.same ∙ e) in
-      same_piece NP (Only NP) polysilicon i j h.piece g.piece s.x s.y h.at g.at u v (conductor_in i s h NP (Only NP) polysilicon u) (conductor_in j s g NP (Only NP) polysilicon v)
+        let u = tiled_polysilicon i h.piece h.at e in
+        let v = tiled_polysilicon j g.piece g.at (g.is.same ∙ sym h.is.same ∙ e) in
+        same_piece NP (Only NP) polysilicon i j h.piece g.piece s.x s.y h.at g.at u v (conductor_in i s h NP (Only NP) polysilicon u) (conductor_in j s g NP (Only NP) polysilicon v)
     | inr (inr e) ↦
-      let u = tiled_diffusion i h.piece h.at e in
-      let v = tiled_diffusion j g.piece g.at (g.is.same ∙ sym h.is.same ∙ e) in
-      same_piece ND Diffusion diffusion i j h.piece g.piece s.x s.y h.at g.at u v (conductor_in i s h ND Diffusion diffusion u) (conductor_in j s g ND Diffusion diffusion v)
+        let u = tiled_diffusion i h.piece h.at e in
+        let v = tiled_diffusion j g.piece g.at (g.is.same ∙ sym h.is.same ∙ e) in
+        same_piece ND Diffusion diffusion i j h.piece g.piece s.x s.y h.at g.at u v (conductor_in i s h ND Diffusion diffusion u) (conductor_in j s g ND Diffusion diffusion v)
   ]
 
   one_channel_at : (i j : ℕ) (s : Square) → HasChannel pieces i s → HasChannel pieces j s → i ≡ j

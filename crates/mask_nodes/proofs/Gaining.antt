@@ -7,7 +7,6 @@ use Rattle.std.proofs.lemmas.Option.{same_Some}
 use Rattle.lam_geom.specs.declared.layer.Layer.{Layer}
 use Rattle.lam_geom.specs.declared.layer.Layer.TheVariants.{ND, NP, NM}
 use Rattle.region_sweep.specs.declared.tile.Tile.{Tile}
-
 use Rattle.union_find.specs.declared.pair.Pair.{Pair}
 use Rattle.mask_nodes.specs.declared.piece.Piece.{Piece}
 use Rattle.mask_nodes.specs.Linking.{Gains, conducts_at, IsTouchLink, joins, AreTwo, AreBoth, column_of, IsContactLink, AreAllLinks}

@@ -148,9 +148,12 @@ module _ (joined : RectanglesAreJoined) (shapes : List Rect) (pieces : List Piec
       let u : Square = record { layer = e.first.rect.layer; x = e.edge.s.x; y = e.edge.s.y } in
       let t : Square = record { layer = e.second.rect.layer; x = e.edge.t.x; y = e.edge.t.y } in
       let hu : HasConductor pieces i u = record { piece = e.first; at = e.at_first; part = part; is = e.edge.in_first e.first.rect.layer } in
-      let ht : HasConductor pieces j t = record { piece = e.second; at = e.at_second; part = other; is = e.edge.in_second e.second.rect.layer } in
-      (t, ht, join_chains (conductor_one joined shapes pieces are i s u h hu)
-      (one_link (beside (record { from = are.conducts i u hu; to = are.conducts j t ht; same = e.edge.same; beside = e.edge.beside }))))
+      let ht : HasConductor pieces j t = record { piece = e.second; at = e.at_second; part = other; is = e.edge.in_second e.second.rect.layer } in (
+        t,
+        ht,
+        join_chains (conductor_one joined shapes pieces are i s u h hu)
+            (one_link (beside (record { from = are.conducts i u hu; to = are.conducts j t ht; same = e.edge.same; beside = e.edge.beside }))),
+      )
 
   pub channels_over_edge : (i j : ℕ) (s : Square) → EdgeLink pieces i j → HasChannel pieces i s → (t : Square) × HasChannel pieces j t × Chain (Adjoin (IsChannelSquare (covered shapes))) s t
   channels_over_edge i j s e h =
@@ -160,9 +163,12 @@ module _ (joined : RectanglesAreJoined) (shapes : List Rect) (pieces : List Piec
       let u : Square = record { layer = NP; x = e.edge.s.x; y = e.edge.s.y } in
       let t : Square = record { layer = NP; x = e.edge.t.x; y = e.edge.t.y } in
       let hu : HasChannel pieces i u = record { piece = e.first; at = e.at_first; part = part; is = e.edge.in_first NP } in
-      let ht : HasChannel pieces j t = record { piece = e.second; at = e.at_second; part = other; is = e.edge.in_second NP } in
-      (t, ht, join_chains (channel_one joined shapes pieces are i s u h hu)
-      (one_link (record { from = are.channels i u hu; to = are.channels j t ht; same = refl; beside = e.edge.beside })))
+      let ht : HasChannel pieces j t = record { piece = e.second; at = e.at_second; part = other; is = e.edge.in_second NP } in (
+        t,
+        ht,
+        join_chains (channel_one joined shapes pieces are i s u h hu)
+            (one_link (record { from = are.channels i u hu; to = are.channels j t ht; same = refl; beside = e.edge.beside })),
+      )
 
   -- ---- contacts
 

@@ -51,7 +51,7 @@ module _ (one : OneColour) (joined : RectanglesAreJoined) (shapes : List Rect) (
     (corners : (n : ℕ) (t : Tile) → slice_get contacts n ≡ Some t → slice_get places n ≡ Some (corner_point t))
     (over_m : AreOver shapes pieces NM places cm) (over_p : AreOver shapes pieces NP places cp) (over_d : AreOver shapes pieces ND places cd)
     (has : (l : Pair) → Contains links l ↔ (((IsTouchLink pm nm pieces (length pm) l ⊎ IsTouchLink pp np pieces (length pp) l) ⊎ IsTouchLink pd nd pieces (length pd) l)
-        ⊎ IsContactLink contacts cm cp cd (length contacts) l)) where
+    ⊎ IsContactLink contacts cm cp cd (length contacts) l)) where
   pub are : ArePieces shapes pieces
   are = are_pieces one shapes metal polysilicon diffusion pieces cut tm wm tp wp td wd
 
@@ -134,20 +134,20 @@ module _ (one : OneColour) (joined : RectanglesAreJoined) (shapes : List Rect) (
       let layer : g.piece.rect.layer ≡ h.piece.rect.layer = g.is.same ∙ sym same ∙ sym h.is.same in
       elim (cut.layers h.piece (at_contains pieces i h.piece h.at)) [
         | inl e ↦
-          let v = tiled_metal one shapes metal polysilicon diffusion pieces cut tm wm tp wp td wd i h.piece h.at e in
-          let w = tiled_metal one shapes metal polysilicon diffusion pieces cut tm wm tp wp td wd j g.piece g.at (layer ∙ e) in
-          edge_chain NM metal pm nm pieces touch_m num_m shapes (Only NM) cut.ascending links has_metal i j h.piece g.piece v w h.at g.at alike s.x s.y t.x t.y
-              (conductor_in one shapes metal polysilicon diffusion pieces cut tm wm tp wp td wd i s h NM (Only NM) metal v) (conductor_in one shapes metal polysilicon diffusion pieces cut tm wm tp wp td wd j t g NM (Only NM) metal w) b
+            let v = tiled_metal one shapes metal polysilicon diffusion pieces cut tm wm tp wp td wd i h.piece h.at e in
+            let w = tiled_metal one shapes metal polysilicon diffusion pieces cut tm wm tp wp td wd j g.piece g.at (layer ∙ e) in
+            edge_chain NM metal pm nm pieces touch_m num_m shapes (Only NM) cut.ascending links has_metal i j h.piece g.piece v w h.at g.at alike s.x s.y t.x t.y
+            (conductor_in one shapes metal polysilicon diffusion pieces cut tm wm tp wp td wd i s h NM (Only NM) metal v) (conductor_in one shapes metal polysilicon diffusion pieces cut tm wm tp wp td wd j t g NM (Only NM) metal w) b
         | inr (inl e) ↦
-          let v = tiled_polysilicon one shapes metal polysilicon diffusion pieces cut tm wm tp wp td wd i h.piece h.at e in
-          let w = tiled_polysilicon one shapes metal polysilicon diffusion pieces cut tm wm tp wp td wd j g.piece g.at (layer ∙ e) in
-          edge_chain NP polysilicon pp np pieces touch_p num_p shapes (Only NP) cut.ascending links has_polysilicon i j h.piece g.piece v w h.at g.at alike s.x s.y t.x t.y
-              (conductor_in one shapes metal polysilicon diffusion pieces cut tm wm tp wp td wd i s h NP (Only NP) polysilicon v) (conductor_in one shapes metal polysilicon diffusion pieces cut tm wm tp wp td wd j t g NP (Only NP) polysilicon w) b
+            let v = tiled_polysilicon one shapes metal polysilicon diffusion pieces cut tm wm tp wp td wd i h.piece h.at e in
+            let w = tiled_polysilicon one shapes metal polysilicon diffusion pieces cut tm wm tp wp td wd j g.piece g.at (layer ∙ e) in
+            edge_chain NP polysilicon pp np pieces touch_p num_p shapes (Only NP) cut.ascending links has_polysilicon i j h.piece g.piece v w h.at g.at alike s.x s.y t.x t.y
+            (conductor_in one shapes metal polysilicon diffusion pieces cut tm wm tp wp td wd i s h NP (Only NP) polysilicon v) (conductor_in one shapes metal polysilicon diffusion pieces cut tm wm tp wp td wd j t g NP (Only NP) polysilicon w) b
         | inr (inr e) ↦
-          let v = tiled_diffusion one shapes metal polysilicon diffusion pieces cut tm wm tp wp td wd i h.piece h.at e in
-          let w = tiled_diffusion one shapes metal polysilicon diffusion pieces cut tm wm tp wp td wd j g.piece g.at (layer ∙ e) in
-          edge_chain ND diffusion pd nd pieces touch_d num_d shapes Diffusion cut.ascending links has_diffusion i j h.piece g.piece v w h.at g.at alike s.x s.y t.x t.y
-              (conductor_in one shapes metal polysilicon diffusion pieces cut tm wm tp wp td wd i s h ND Diffusion diffusion v) (conductor_in one shapes metal polysilicon diffusion pieces cut tm wm tp wp td wd j t g ND Diffusion diffusion w) b
+            let v = tiled_diffusion one shapes metal polysilicon diffusion pieces cut tm wm tp wp td wd i h.piece h.at e in
+            let w = tiled_diffusion one shapes metal polysilicon diffusion pieces cut tm wm tp wp td wd j g.piece g.at (layer ∙ e) in
+            edge_chain ND diffusion pd nd pieces touch_d num_d shapes Diffusion cut.ascending links has_diffusion i j h.piece g.piece v w h.at g.at alike s.x s.y t.x t.y
+            (conductor_in one shapes metal polysilicon diffusion pieces cut tm wm tp wp td wd i s h ND Diffusion diffusion v) (conductor_in one shapes metal polysilicon diffusion pieces cut tm wm tp wp td wd j t g ND Diffusion diffusion w) b
       ]
 
   channels_beside : (i j : ℕ) (s t : Square) → Adjoin (IsChannelSquare (covered shapes)) s t → HasChannel pieces i s → HasChannel pieces j t → Chain (Paired links) i j

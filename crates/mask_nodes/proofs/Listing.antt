@@ -87,8 +87,8 @@ listed_more layer tiles place n t p pieces h e en ep =
       as_many = omega (arith, length-append pieces (p ∷ []));
       each = λ m u l f. elim (cases_eq m place) [
         | inl g ↦
-          let same : t ≡ u = same_Some t u (sym e ∙ ap (slice_get tiles) (sym g) ∙ f) in
-          push_at pieces p m (g ∙ sym h.as_many) ∙ ap (λ q. Some q) (ep ∙ ap (λ k. piece_of layer k t) (en ∙ sym g) ∙ ap (piece_of layer m) same)
+            let same : t ≡ u = same_Some t u (sym e ∙ ap (slice_get tiles) (sym g) ∙ f) in
+            push_at pieces p m (g ∙ sym h.as_many) ∙ ap (λ q. Some q) (ep ∙ ap (λ k. piece_of layer k t) (en ∙ sym g) ∙ ap (piece_of layer m) same)
         | inr g ↦ slice_get-append_left pieces (p ∷ []) m (omega arith) ∙ h.each m u (omega arith) f
       ];
     }
@@ -130,11 +130,11 @@ first_or_second a b i j p q true apart ep eq tells = record {
 first_or_second a b i j p q false apart ep eq tells = record {
   there = slice_get_within b j q eq;
   before = λ y x ey ex. subst₂ IsBefore (same_Some q y (sym eq ∙ ey)) (same_Some p x (sym ep ∙ ex))
-  (elim (before_or_same (corner_on p.rect.layer p.rect) (corner_on q.rect.layer q.rect)) [
-    | inl u ↦ absurd (let t : IsTrue false = tells.1 u in cc)
-    | inr (inl u) ↦ absurd (apart p q (at_contains a i p ep) (at_contains b j q eq) u)
-    | inr (inr u) ↦ u
-  ]);
+      (elim (before_or_same (corner_on p.rect.layer p.rect) (corner_on q.rect.layer q.rect)) [
+        | inl u ↦ absurd (let t : IsTrue false = tells.1 u in cc)
+        | inr (inl u) ↦ absurd (apart p q (at_contains a i p ep) (at_contains b j q eq) u)
+        | inr (inr u) ↦ u
+      ]);
 }
 
 pub record IsMerged (a b : List Piece) (i j : ℕ) (m : List Piece) : Type 0 where
@@ -186,10 +186,10 @@ merged_more a b i j m p upa upb h c e = record {
     | inr w ↦ subst (λ z. IsBefore z q) w.1 (elim (cases_eq n j) [
       | inl g ↦ c.before p q e (ap (slice_get b) (sym g) ∙ eq)
       | inr g ↦
-        let u = slice_get_within b n q eq in
-        let y : Piece = get_or b j p in
-        let ey : slice_get b j ≡ Some y = slice_get-get_or b j p (omega arith) in
-        before_trans (corner_on p.rect.layer p.rect) (corner_on y.rect.layer y.rect) (corner_on q.rect.layer q.rect) (c.before p y e ey) (pairs_at IsBefore b upb j n y q (omega arith) ey eq)
+          let u = slice_get_within b n q eq in
+          let y : Piece = get_or b j p in
+          let ey : slice_get b j ≡ Some y = slice_get-get_or b j p (omega arith) in
+          before_trans (corner_on p.rect.layer p.rect) (corner_on y.rect.layer y.rect) (corner_on q.rect.layer q.rect) (c.before p y e ey) (pairs_at IsBefore b upb j n y q (omega arith) ey eq)
     ])
   ];
   from = λ x w. elim (Contains-append_cases m (p ∷ []) x w) [
@@ -204,10 +204,13 @@ merged_more a b i j m p upa upb h c e = record {
 }
 
 pub merged_all : (a b : List Piece) (i j : ℕ) (m : List Piece) → IsMerged a b i j m → length a ≤ i → length b ≤ j → (p : Piece) → Contains m p ↔ (Contains a p ⊎ Contains b p)
-merged_all a b i j m h la lb p = (h.from p, λ c. elim c [
-  | inl u ↦ let w = contains_at a p u in let l = slice_get_within a w.0 p w.1 in h.has_first w.0 p (omega arith) w.1
-  | inr u ↦ let w = contains_at b p u in let l = slice_get_within b w.0 p w.1 in h.has_second w.0 p (omega arith) w.1
-])
+merged_all a b i j m h la lb p = (
+  h.from p,
+  λ c. elim c [
+    | inl u ↦ let w = contains_at a p u in let l = slice_get_within a w.0 p w.1 in h.has_first w.0 p (omega arith) w.1
+    | inr u ↦ let w = contains_at b p u in let l = slice_get_within b w.0 p w.1 in h.has_second w.0 p (omega arith) w.1
+  ],
+)
 
 -- ---- the numbers of tiles
 
@@ -220,8 +223,8 @@ numbers_more layer count pieces place n p numbers h e l en inside = record {
     | inr g ↦ elim (cases_eq k place) [
       | inl f ↦ absurd (g (ap (λ (x : Piece). x.tile) (same_Some q p (sym eq ∙ ap (slice_get pieces) f ∙ e))))
       | inr f ↦
-        let w = h.each k q (omega arith) eq lq in
-        (w.0, ap (slice_get pieces) (get_or-set_other numbers p.tile q.tile n 0 g) ∙ w.1, w.2, w.3)
+          let w = h.each k q (omega arith) eq lq in
+          (w.0, ap (slice_get pieces) (get_or-set_other numbers p.tile q.tile n 0 g) ∙ w.1, w.2, w.3)
     ]
   ];
 }

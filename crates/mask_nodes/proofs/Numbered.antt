@@ -40,14 +40,14 @@ module _ (Is : ℕ → Type 0) (least : List ℕ) (k : ℕ) (roots numbers : Lis
         as_many = omega (arith, length-append numbers (n ∷ []));
         each = λ j l i. elim (cases_eq j k) [
           | inl f ↦
-            let e : get_or (numbers ++ n ∷ []) j 0 ≡ n = get_or_push numbers n 0 j (many ∙ sym f) in
-            let w = last (subst Is f i) in
-            (subst (λ x. x < length roots') (sym e) w.0, ap (λ x. get_or roots' x 0) e ∙ w.1 ∙ ap (λ x. get_or least x 0) (sym f))
+              let e : get_or (numbers ++ n ∷ []) j 0 ≡ n = get_or_push numbers n 0 j (many ∙ sym f) in
+              let w = last (subst Is f i) in
+              (subst (λ x. x < length roots') (sym e) w.0, ap (λ x. get_or roots' x 0) e ∙ w.1 ∙ ap (λ x. get_or least x 0) (sym f))
           | inr f ↦
-            let e : get_or (numbers ++ n ∷ []) j 0 ≡ get_or numbers j 0 = get_or_append_left numbers (n ∷ []) 0 j (omega arith) in
-            let w = h.are_numbers.each j (omega arith) i in
-            let s = same (get_or numbers j 0) w.0 in
-            (subst (λ x. x < length roots') (sym e) s.0, ap (λ x. get_or roots' x 0) e ∙ s.1 ∙ w.1)
+              let e : get_or (numbers ++ n ∷ []) j 0 ≡ get_or numbers j 0 = get_or_append_left numbers (n ∷ []) 0 j (omega arith) in
+              let w = h.are_numbers.each j (omega arith) i in
+              let s = same (get_or numbers j 0) w.0 in
+              (subst (λ x. x < length roots') (sym e) s.0, ap (λ x. get_or roots' x 0) e ∙ s.1 ∙ w.1)
         ];
       }
 
@@ -83,6 +83,6 @@ module _ (Is : ℕ → Type 0) (least : List ℕ) (k : ℕ) (roots numbers : Lis
   numbered_same n stay l still en = record {
     are_roots = roots_kept (λ i e. absurd (omega arith));
     are_numbers = numbers_pushed roots n (λ j u. (u, refl)) (λ i.
-      let w = h.are_numbers.each (get_or least k 0) l (stay i) in
-      (subst (λ x. x < length roots) (sym en) w.0, ap (λ x. get_or roots x 0) en ∙ w.1 ∙ still));
+        let w = h.are_numbers.each (get_or least k 0) l (stay i) in
+        (subst (λ x. x < length roots) (sym en) w.0, ap (λ x. get_or roots x 0) en ∙ w.1 ∙ still));
   }

@@ -248,10 +248,12 @@ module _ (shapes : List Rect) (x y : ℤ) (s : Layers) (sees : Sees shapes x y s
   diffusion_conducts : diffusion ≡ true → ConductsOn (covered shapes) ND x y
   diffusion_conducts h =
       let b = both_true s.nd (not (is_channel s)) h in
-      let f : is_channel s ≡ false = unless (is_channel s) b.1 in
-      (yes ND b.0, λ c.
-        let e : is_channel s ≡ true = rw (set ND c.diffusion, set NP c.gate, no_more s.nb (λ t. c.unburied (yes NB t))) refl in
-        absurd (cc))
+      let f : is_channel s ≡ false = unless (is_channel s) b.1 in (
+        yes ND b.0,
+        λ c.
+            let e : is_channel s ≡ true = rw (set ND c.diffusion, set NP c.gate, no_more s.nb (λ t. c.unburied (yes NB t))) refl in
+            absurd (cc),
+      )
 
   conducts_diffusion : ConductsOn (covered shapes) ND x y → diffusion ≡ true
   conducts_diffusion c = go (true_or_false s.np) (true_or_false s.nb)

@@ -86,16 +86,18 @@ module _ (one : OneColour) (joined : RectanglesAreJoined) (shapes : List Rect) (
   conductor_is : (k : ℕ) → k < length pieces → numbers.Conducts pieces true k ↔ HasConductor pieces k (first_conductor pieces k)
   conductor_is k l =
       let p : Piece = get_or pieces k no_piece in
-      let e : slice_get pieces k ≡ Some p = slice_get-get_or pieces k no_piece l in
-      (λ h. record { piece = p; at = e; part = conductor_part p.part h; is = first_in p.rect.layer p.rect (solid k p e) },
-        λ h. ap (λ (q : Piece). is_conductor q.part) (same_Some p h.piece (sym e ∙ h.at)) ∙ ap is_conductor h.part)
+      let e : slice_get pieces k ≡ Some p = slice_get-get_or pieces k no_piece l in (
+        λ h. record { piece = p; at = e; part = conductor_part p.part h; is = first_in p.rect.layer p.rect (solid k p e) },
+        λ h. ap (λ (q : Piece). is_conductor q.part) (same_Some p h.piece (sym e ∙ h.at)) ∙ ap is_conductor h.part,
+      )
 
   channel_is : (k : ℕ) → k < length pieces → numbers.Conducts pieces false k ↔ HasChannel pieces k (first_channel pieces k)
   channel_is k l =
       let p : Piece = get_or pieces k no_piece in
-      let e : slice_get pieces k ≡ Some p = slice_get-get_or pieces k no_piece l in
-      (λ h. record { piece = p; at = e; part = λ f. let g : is_conductor p.part ≡ true = ap is_conductor f in absurd (cc); is = first_in NP p.rect (solid k p e) },
-        λ h. ap (λ (q : Piece). is_conductor q.part) (same_Some p h.piece (sym e ∙ h.at)) ∙ not_conductor h.piece.part h.part)
+      let e : slice_get pieces k ≡ Some p = slice_get-get_or pieces k no_piece l in (
+        λ h. record { piece = p; at = e; part = λ f. let g : is_conductor p.part ≡ true = ap is_conductor f in absurd (cc); is = first_in NP p.rect (solid k p e) },
+        λ h. ap (λ (q : Piece). is_conductor q.part) (same_Some p h.piece (sym e ∙ h.at)) ∙ not_conductor h.piece.part h.part,
+      )
 
   module _ (all : AreAllLinks metal.pairs polysilicon.pairs diffusion.pairs contacts.tiles pieces nm np nd cm cp cd links) where
     fewer : AreOver shapes pieces NP (asked contacts.tiles places) cp
@@ -111,9 +113,9 @@ module _ (one : OneColour) (joined : RectanglesAreJoined) (shapes : List Rect) (
         masks.metal_swept.tiles masks.metal_swept.whole masks.polysilicon_swept.tiles masks.polysilicon_swept.whole masks.diffusion_swept.tiles masks.diffusion_swept.whole masks.contacts_swept.tiles masks.contacts_swept.whole
         masks.metal_swept.pairs masks.polysilicon_swept.pairs masks.diffusion_swept.pairs num_m num_p num_d (corner_at contacts.tiles places) over_metal fewer over_diffusion all.each (get_or links n d)
         (at_contains links n (get_or links n d) (slice_get-get_or links n d l))) [
-      | inl e ↦ (slice_get_within pieces (get_or links n d).a e.first e.at_first, slice_get_within pieces (get_or links n d).b e.second e.at_second)
-      | inr e ↦ (slice_get_within pieces (get_or links n d).a e.in_first.piece e.in_first.at, slice_get_within pieces (get_or links n d).b e.in_second.piece e.in_second.at)
-    ]
+          | inl e ↦ (slice_get_within pieces (get_or links n d).a e.first e.at_first, slice_get_within pieces (get_or links n d).b e.second e.at_second)
+          | inr e ↦ (slice_get_within pieces (get_or links n d).a e.in_first.piece e.in_first.at, slice_get_within pieces (get_or links n d).b e.in_second.piece e.in_second.at)
+        ]
 
     conductors : AreOwners (Conducts (covered shapes)) (Joined (covered shapes)) Before (HasConductor pieces) (first_conductor pieces) (length pieces) links
     conductors = conductor_owners joined shapes pieces links cut.ascending pieces_are linked

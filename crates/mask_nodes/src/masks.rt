@@ -31,7 +31,12 @@ pub(crate) fn sweep_masks(
     let asked = spots(alloc, contacts.tiles.as_slice(), places, &[])?;
     let metal = sweep(alloc, shapes, Mask::Only(Layer::NM), asked.as_slice())?;
     let diffusion = sweep(alloc, shapes, Mask::Diffusion, asked.as_slice())?;
-    let asked = spots(alloc, contacts.tiles.as_slice(), places, diffusion.tiles.as_slice())?;
+    let asked = spots(
+        alloc,
+        contacts.tiles.as_slice(),
+        places,
+        diffusion.tiles.as_slice(),
+    )?;
     let polysilicon = sweep(alloc, shapes, Mask::Only(Layer::NP), asked.as_slice())?;
     Ok(Masks {
         contacts,

@@ -14,14 +14,14 @@ loop-i-preserved c =
     let at = slice_get-get_or ps i no_piece c.loop-i-test.true in
     elim c.if-eq.branch [
       | then-eq w ↦
-        let e : p.rect.layer ≡ c.args.layer = search rules in
-        let items : c.if-eq.numbers.items ≡ set c.loop-i.numbers.items p.tile c.in-Ok.number = ap (λ v. v.items) w.numbers-is in
-        let inside : p.tile < c.args.count = c.requires i p at e in
-        let many = c.loop-i.invariant.as_many in
-        subst (AreTileNumbers c.args.layer c.args.count ps (i + 1)) (sym items)
-        (numbers_more c.args.layer c.args.count ps i c.in-Ok.number p c.loop-i.numbers.items c.loop-i.invariant at e c.in-Ok.ensures.1 (omega arith))
+          let e : p.rect.layer ≡ c.args.layer = search rules in
+          let items : c.if-eq.numbers.items ≡ set c.loop-i.numbers.items p.tile c.in-Ok.number = ap (λ v. v.items) w.numbers-is in
+          let inside : p.tile < c.args.count = c.requires i p at e in
+          let many = c.loop-i.invariant.as_many in
+          subst (AreTileNumbers c.args.layer c.args.count ps (i + 1)) (sym items)
+          (numbers_more c.args.layer c.args.count ps i c.in-Ok.number p c.loop-i.numbers.items c.loop-i.invariant at e c.in-Ok.ensures.1 (omega arith))
       | else-eq w ↦
-        let e : p.rect.layer ≢ c.args.layer = search rules in
-        subst (AreTileNumbers c.args.layer c.args.count ps (i + 1)) (sym (ap (λ v. v.items) w.numbers-is))
-        (numbers_kept c.args.layer c.args.count ps i p c.loop-i.numbers.items c.loop-i.invariant at e)
+          let e : p.rect.layer ≢ c.args.layer = search rules in
+          subst (AreTileNumbers c.args.layer c.args.count ps (i + 1)) (sym (ap (λ v. v.items) w.numbers-is))
+          (numbers_kept c.args.layer c.args.count ps i p c.loop-i.numbers.items c.loop-i.invariant at e)
     ]
