@@ -1,0 +1,8 @@
+pub mod Numbers
+pub mod Pieces
+pub mod Merging
+pub mod Linking
+pub mod Columns
+pub mod Masks
+pub mod Classed
+pub mod CutOf

@@ -1,0 +1,19 @@
+//! The nodes and the channels that a mask draws, by their numbers.
+#![tactic(auto)]
+
+mod classify;
+mod contacts;
+mod cut;
+mod cutting;
+mod layered;
+mod linking;
+mod masks;
+mod merging;
+mod numbering;
+mod over;
+mod piece;
+mod spots;
+mod tile_numbers;
+mod touching;
+
+pub use piece::{Part, Piece};
