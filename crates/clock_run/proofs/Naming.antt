@@ -34,9 +34,10 @@ name_pushed names old new key number n gained x = by_test (bytes_eq key x) refl
         let has : number_of new x ≡ Some number = gained x ∙ ap (λ t. cond t (Some number) (number_of old x)) e in
         (λ _. subst (λ z. Contains (names ++ key ∷ []) z) is (Contains-push names key), λ _. subst IsSome (sym has) refl)
     by_test false e =
-        let same : number_of new x ≡ number_of old x = gained x ∙ ap (λ t. cond t (Some number) (number_of old x)) e in
-        (λ h. Contains-append_left names (key ∷ []) x ((n x).0 (subst IsSome same h)),
-          λ c. subst IsSome (sym same) ((n x).1 (earlier (Contains-push_cases names key x c))))
+        let same : number_of new x ≡ number_of old x = gained x ∙ ap (λ t. cond t (Some number) (number_of old x)) e in (
+          λ h. Contains-append_left names (key ∷ []) x ((n x).0 (subst IsSome same h)),
+          λ c. subst IsSome (sym same) ((n x).1 (earlier (Contains-push_cases names key x c))),
+        )
       where
         earlier : Contains names x ⊎ (key ≡ x) → Contains names x
         earlier (inl h) = h

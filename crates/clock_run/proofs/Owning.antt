@@ -115,7 +115,12 @@ module _ (drivers : List (List ℕ)) (tags : List Tag) (i : ℕ) (t : Tag) (at :
       let h = o.held t.node j own in
       let e : h.1.tag ≡ first = same_some (slice_get tags j) h.1.tag first h.1.at there in
       record {
-        at = at; driver = driver; j = j; before = h.0; earlier = first; there = there;
+        at = at;
+        driver = driver;
+        j = j;
+        before = h.0;
+        earlier = first;
+        there = there;
         another = subst (λ (x : Tag). Contains drivers x.name) e h.1.driver;
         names = differ;
         node = sym (ap (λ (x : Tag). x.node) e) ∙ h.1.node;

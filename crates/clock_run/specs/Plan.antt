@@ -1,7 +1,6 @@
 -- The nodes of pads.
-use Rattle.std.specs.Prelude.{◌≡◌, ℕ, List, length, Option}
+use Rattle.std.specs.Prelude.{ℕ, List}
 use Rattle.std.specs.List.{AllZip}
-use Rattle.mp_base.specs.declared.value.Trit.{Trit}
 use Rattle.mp_base.specs.declared.pad.Pad.{Pad}
 use Rattle.mp_base.specs.declared.pad.Pads.{Pads}
 use Rattle.mp_base.specs.PadNames.{supplies}

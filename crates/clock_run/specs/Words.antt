@@ -1,11 +1,23 @@
 -- Words of bits that may be unknown.
-use Rattle.std.specs.Prelude.{ℕ, zero, suc, ◌==◌, List, [], ◌∷◌, ◌++◌, if◌then◌else◌}
+use Rattle.std.specs.Prelude.{ℕ, zero, suc, Bool, true, false, ◌==◌, List, [], ◌∷◌, ◌++◌, if◌then◌else◌}
 use Rattle.std.specs.Int.{bit_at}
 use Rattle.mp_base.specs.declared.value.Trit.{Trit}
-use Rattle.mp_base.specs.declared.value.Trit.TheVariants.{X}
+use Rattle.mp_base.specs.declared.value.Trit.TheVariants.{Zero, One, X}
 use Rattle.mp_base.specs.declared.value.TritWord.{TritWord}
 use Rattle.mp_base.specs.declared.pad.Pad.{Pad}
 use Rattle.switch_net.specs.Pads.{bit_count, trit_of}
+
+-- whether the value is 0 or 1
+abbrev pub is_known : Trit → Bool
+is_known Zero = true
+is_known One = true
+is_known X = false
+
+-- whether the value is 1
+abbrev pub is_one : Trit → Bool
+is_one One = true
+is_one Zero = false
+is_one X = false
 
 -- the bit of this number
 abbrev pub trit_at : TritWord → ℕ → Trit

@@ -78,31 +78,31 @@ loop-i-preserved c =
     let read = λ (o : Option ℕ) (v : Option ℕ) (is : o ≡ get_or owners t.node o) (e : o ≡ v). read_at owners t.node o v (omega (arith, inside, sized)) is e in
     elim c.if-is_driver.branch [
       | then-is_driver+in-None w ↦
-        let now : c.if-is_driver.owners.items ≡ set owners t.node (Some i) = ap (λ (v : Vec (Option ℕ) Global). v.items) w.owners-is in
-        let driver = (c.in_ok-names.ensures t.name).0 (sym c.is_driver.ensures ∙ w.if-is_driver.true) in
-        record {
-          sized = ap (λ (xs : List (Option ℕ)). length xs) now ∙ length-set owners t.node (Some i) ∙ sized;
-          owners = subst (λ (xs : List (Option ℕ)). Owners drivers net.tags xs (i + 1)) (sym now)
-              (owners_new drivers net.tags i t at owners o (omega (arith, inside, sized)) driver (read w.index.result.now None w.index.ensures w.in-None.is));
-        }
+          let now : c.if-is_driver.owners.items ≡ set owners t.node (Some i) = ap (λ (v : Vec (Option ℕ) Global). v.items) w.owners-is in
+          let driver = (c.in_ok-names.ensures t.name).0 (sym c.is_driver.ensures ∙ w.if-is_driver.true) in
+          record {
+            sized = ap (λ (xs : List (Option ℕ)). length xs) now ∙ length-set owners t.node (Some i) ∙ sized;
+            owners = subst (λ (xs : List (Option ℕ)). Owners drivers net.tags xs (i + 1)) (sym now)
+                (owners_new drivers net.tags i t at owners o (omega (arith, inside, sized)) driver (read w.index.result.now None w.index.ensures w.in-None.is));
+          }
       | then-is_driver+in-Some+else-not-same_name w ↦
-        let j = w.in-Some.first in
-        let first = w.index-tags-first.result in
-        let now : c.if-is_driver.owners.items ≡ owners = ap (λ (v : Vec (Option ℕ) Global). v.items) w.owners-is in
-        let own = read w.index.result.now (Some j) w.index.ensures w.in-Some.is in
-        let lt : j < i = (o.held t.node j own).0 in
-        let there = stands_at net.tags j first (omega (arith, l, lt, c.loop-i-test.true)) (w.index-tags-first.is ∙ ap (λ (xs : List Tag). get_or xs j first) e) in
-        let name = (bytes_eq-Decides first.name t.name).0 (sym w.same_name.ensures ∙ w.if-not-same_name.false) in
-        record {
-          sized = ap (λ (xs : List (Option ℕ)). length xs) now ∙ sized;
-          owners = subst (λ (xs : List (Option ℕ)). Owners drivers net.tags xs (i + 1)) (sym now) (owners_same drivers net.tags i t at owners j first o own there name);
-        }
+          let j = w.in-Some.first in
+          let first = w.index-tags-first.result in
+          let now : c.if-is_driver.owners.items ≡ owners = ap (λ (v : Vec (Option ℕ) Global). v.items) w.owners-is in
+          let own = read w.index.result.now (Some j) w.index.ensures w.in-Some.is in
+          let lt : j < i = (o.held t.node j own).0 in
+          let there = stands_at net.tags j first (omega (arith, l, lt, c.loop-i-test.true)) (w.index-tags-first.is ∙ ap (λ (xs : List Tag). get_or xs j first) e) in
+          let name = (bytes_eq-Decides first.name t.name).0 (sym w.same_name.ensures ∙ w.if-not-same_name.false) in
+          record {
+            sized = ap (λ (xs : List (Option ℕ)). length xs) now ∙ sized;
+            owners = subst (λ (xs : List (Option ℕ)). Owners drivers net.tags xs (i + 1)) (sym now) (owners_same drivers net.tags i t at owners j first o own there name);
+          }
       | else-is_driver w ↦
-        let now : c.if-is_driver.owners.items ≡ owners = ap (λ (v : Vec (Option ℕ) Global). v.items) w.owners-is in
-        record {
-          sized = ap (λ (xs : List (Option ℕ)). length xs) now ∙ sized;
-          owners = subst (λ (xs : List (Option ℕ)). Owners drivers net.tags xs (i + 1)) (sym now)
-              (owners_skip drivers net.tags i t at owners o
-              (λ k. let yes = (c.in_ok-names.ensures t.name).1 k in let no = sym c.is_driver.ensures ∙ w.if-is_driver.false in cc));
-        }
+          let now : c.if-is_driver.owners.items ≡ owners = ap (λ (v : Vec (Option ℕ) Global). v.items) w.owners-is in
+          record {
+            sized = ap (λ (xs : List (Option ℕ)). length xs) now ∙ sized;
+            owners = subst (λ (xs : List (Option ℕ)). Owners drivers net.tags xs (i + 1)) (sym now)
+                (owners_skip drivers net.tags i t at owners o
+                (λ k. let yes = (c.in_ok-names.ensures t.name).1 k in let no = sym c.is_driver.ensures ∙ w.if-is_driver.false in cc));
+          }
     ]

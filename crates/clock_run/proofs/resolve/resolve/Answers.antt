@@ -15,11 +15,12 @@ returns-in-None-clause-err c =
     let net = c.args.network.now in
     let number : None ≡ number_of c.in_ok-numbers.numbers name = c.in-None.ensures ∙ ap (number_of c.in_ok-numbers.numbers) c.bytes.ensures in
     let none : IsNumberOf c.as_slice.result.now name None = subst (IsNumberOf c.as_slice.result.now name) (sym number) (c.in_ok-numbers.ensures name) in
-    let copied : c.in_ok-from_slice-in-None.field-0 ≡ name = c.in_ok-from_slice-in-None.ensures ∙ c.bytes-in-None.ensures in
-    (name,
+    let copied : c.in_ok-from_slice-in-None.field-0 ≡ name = c.in_ok-from_slice-in-None.ensures ∙ c.bytes-in-None.ensures in (
+      name,
       missing_here net c.args.labels.now c.loop-name.name-index name c.loop-name.nodes (omega arith) c.name-item.is c.loop-name.invariant
           (subst (λ (ts : List Tag). IsNumberOf ts name None) c.as_slice.ensures none),
-      ap (λ (x : List ℕ). broken 4 (Named x)) copied)
+      ap (λ (x : List ℕ). broken 4 (Named x)) copied,
+    )
 
 pub loop-name-preserved : goal.loop-name-preserved
 loop-name-preserved c =
