@@ -1,0 +1,19 @@
+-- Numbers by name.
+use Rattle.std.specs.Prelude.{◌≡◌, ◌≢◌, ℕ, List, Option, Some, None, All, Contains, MatchOption}
+use Rattle.std.specs.Ordering.{nat_cmp}
+use Rattle.std.specs.Cmp.Lexicographic.{slice_cmp}
+use Rattle.std.specs.BTreeMap.{BTreeMap, get_by}
+use denote.Ref.{Bor}
+use Rattle.switch_net.specs.declared.network.Tag.{Tag}
+
+-- the number of a name
+abbrev pub number_of : BTreeMap (Bor (List ℕ)) ℕ → List ℕ → Option ℕ
+number_of numbers x = get_by (λ k. slice_cmp nat_cmp x k.now) numbers
+
+-- one of these tags puts the name on this node
+abbrev pub IsTagged : List Tag → List ℕ → ℕ → Type 0
+IsTagged tags x node = (t : Tag) × Contains tags t × (t.name ≡ x) × (t.node ≡ node)
+
+-- the names of tags have the numbers of their nodes, and other names have none
+abbrev pub NumberNodes : List Tag → BTreeMap (Bor (List ℕ)) ℕ → Type 0
+NumberNodes tags numbers = (x : List ℕ) → MatchOption (number_of numbers x) ((t : Tag) → Contains tags t → t.name ≢ x) (IsTagged tags x)
