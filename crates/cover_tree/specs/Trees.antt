@@ -1,7 +1,8 @@
 -- What a tree covers.
 use Rattle.cover_tree.specs.declared.tree.CoverTree.{CoverTree}
 use Rattle.cover_tree.specs.Covers.{Cover}
+use Rattle.cover_tree.specs.Layered.{cover}
 
--- up to which row the tree's layers cover its cells
+-- up to which row the layers cover the cells
 unfoldable pub cover_of : CoverTree → Cover
-cover_of tree = record { mask = tree.mask; cells = tree.cells; top = λ l c. 0 }
+cover_of t = cover t.mask t.cells t.trees

@@ -1,6 +1,15 @@
 //! Cells of a row that layers cover up to some row above, and the runs of one colour that the layers of a mask make.
 #![tactic(auto)]
 
+mod collect;
+mod look;
+mod nearest;
+mod node;
+mod part;
+mod raise;
+#[cfg(test)]
+mod tests;
 mod tree;
+mod trees;
 
 pub use tree::CoverTree;

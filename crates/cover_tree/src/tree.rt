@@ -1,7 +1,14 @@
 //! The tree.
 
+ghost use Rattle.cover_tree.specs.Layered.{AreSound};
+
+use crate::collect::{close, collect_part};
+use crate::look::Line;
+use crate::nearest::{colour_at, end_of, start_of};
+use crate::part::{Part, Span};
+use crate::trees::Trees;
 use lam_geom::Layer;
-use mask_runs::{Mask, Run};
+use mask_runs::{Layers, Mask, Run};
 use mp_base::NoMemory;
 use std::alloc::Global;
 
@@ -10,7 +17,8 @@ use std::alloc::Global;
 pub struct CoverTree {
     mask: Mask,
     cells: u32,
-    ghost sound: { ⊥ },
+    trees: Trees,
+    ghost sound: { AreSound mask cells trees },
 }
 
 impl CoverTree {
@@ -26,8 +34,8 @@ impl CoverTree {
         requires small { cells < 2 ^ 31 }
         ensures { IfOk result (λ t. IsBare mask cells (cover_of t)) }
     {
-        let _ = (alloc, mask, cells);
-        Err(NoMemory)
+        let trees = Trees::new(alloc, mask, cells)?;
+        Ok(CoverTree { mask, cells, trees })
     }
 
     /// Covers the cells from `from` up to `to` with a layer in the rows below `row` besides.
@@ -36,7 +44,8 @@ impl CoverTree {
         requires within { to ≤ (cover_of self.old).cells }
         ensures { IsRaised (cover_of self.old) (cover_of self.new) layer from to row }
     {
-        let _ = (layer, from, to, row);
+        let root = Part::root(self.cells);
+        self.trees.raise(layer, root, Span { from, to }, row);
     }
 
     /// The runs of a row among the cells from `from` up to `to`, from left to right; a run ends where these cells end.
@@ -44,8 +53,21 @@ impl CoverTree {
         requires { to ≤ (cover_of self.now).cells }
         ensures { IfOk result (λ _. AreRuns (windowed from to (row_colour (cover_of self.now) row)) runs.new.items) }
     {
-        let _ = (row, from, to, runs.len());
-        Err(NoMemory)
+        runs.clear();
+        let line = Line {
+            mask: self.mask,
+            row,
+        };
+        let span = Span { from, to };
+        let blank = Run {
+            left: 0,
+            right: from,
+            colour: 0,
+        };
+        let root = Part::root(self.cells);
+        let last = collect_part(&self.trees, line, span, root, Layers::none(), blank, runs)?;
+        close(runs, last)?;
+        Ok(())
     }
 
     /// The run of a row that has a cell, or none where the cell has no colour.
@@ -54,7 +76,20 @@ impl CoverTree {
         ensures some { IfSome result (λ r. IsRun (row_colour (cover_of self.now) row) r × (r.left ≤ cell) × (cell < r.right)) }
         ensures none { IsNone result ↔ row_colour (cover_of self.now) row cell ≡ 0 }
     {
-        let _ = (row, cell);
-        None
+        let line = Line {
+            mask: self.mask,
+            row,
+        };
+        let root = Part::root(self.cells);
+        let bare = Layers::none();
+        let colour = colour_at(&self.trees, line, root, bare, cell);
+        if colour == 0 {
+            return None;
+        }
+        Some(Run {
+            left: start_of(&self.trees, line, root, bare, cell, colour),
+            right: end_of(&self.trees, line, root, bare, cell, colour),
+            colour,
+        })
     }
 }

@@ -4,3 +4,7 @@ mod Painting
 mod Squares
 mod Stretches
 mod Tilings
+mod Answering
+mod Edges
+mod Gridding
+mod Rowwise

@@ -1,9 +1,8 @@
 -- The colours that blocks make.
-use Rattle.std.proofs.Common.{ℕ, zero, suc, ◌≡◌, ◌≢◌, ◌+◌, ◌-◌, ◌<◌, ◌≤◌, ◌⊎◌, ◌↔◌, List, [], ◌∷◌, Bool, true, false, true≢false, inl, inr, refl, sym, ap, ◌∙◌, subst, arith, length, get_or, leb, ltb}
-use Rattle.std.specs.Prelude.{nat_le, nat_lt, ◌&&◌, All, if◌then◌else◌}
+use Rattle.std.proofs.Common.{ℕ, ◌≡◌, ◌+◌, ◌<◌, ◌≤◌, List, Bool, true, false, true≢false, inl, inr, refl, sym, ◌∙◌, subst, arith, length}
+use Rattle.std.specs.Prelude.{nat_le, nat_lt, ◌&&◌}
 use Rattle.std.specs.Bool.{Decides}
-use Rattle.std.specs.List.{HoldsAt}
-use Rattle.std.proofs.lemmas.Bool.Decides.{Decides-and, Decides-like, Decides-ltb, Decides-by_or, Decides-at, same_from_decides, nat_tests}
+use Rattle.std.proofs.lemmas.Bool.Decides.{Decides-and, Decides-like, Decides-ltb, Decides-by_or, same_from_decides, nat_tests}
 use Rattle.std.proofs.lemmas.Bool.{cases_lt}
 use Rattle.std.proofs.lemmas.List.{get_or_default}
 use Rattle.lam_geom.specs.declared.layer.Layer.{Layer}
@@ -16,7 +15,7 @@ use Rattle.mask_runs.specs.Laws.{ColoursByLayers}
 use Rattle.cover_tree.specs.Covers.{Cover, layers_at, row_colour, windowed}
 use Rattle.region_sweep.specs.declared.block.Block.{Block}
 use Rattle.region_sweep.specs.Blocks.{covers, is_covered, layers_over, painted, IsInside, AreStacked}
-use Rattle.region_sweep.specs.Rows.{block, no_block, ReachesOver, AreRaised}
+use Rattle.region_sweep.specs.Rows.{block, no_block, AreRaised}
 
 pub layer_itself : (a : Layer) → uses (Only a) a ≡ true
 layer_itself ND = refl
@@ -62,7 +61,7 @@ covers_decides b l y c = Decides-like (covers b l y c)
     (λ h. record { same = h.0.0.0.0; left = h.0.0.0.1; right = h.0.0.1; low = h.0.1; high = h.1 })
     (λ h. ((((h.same, h.left), h.right), h.low), h.high))
     (Decides-and _ _ (Decides-and _ _ (Decides-and _ _ (Decides-and _ _ (same_layer b.layer l) (at_most b.left c)) (Decides-ltb c b.right))
-      (at_most b.low y)) (Decides-ltb y b.high))
+    (at_most b.low y)) (Decides-ltb y b.high))
 
 -- some block does
 abbrev pub Covered : List Block → Layer → ℕ → ℕ → Type 0
@@ -159,7 +158,7 @@ tops_tell : (blocks : List Block) (row raised : ℕ) (cover : Cover) (l : Layer)
     → ((k : ℕ) → raised ≤ k → k < length blocks → row < (block blocks k).low) → Decides (nat_lt row (cover.top l c)) (Covered blocks l row c)
 tops_tell blocks row raised cover l c h rest = Decides-like (nat_lt row (cover.top l c))
     (λ t. let g = (h.tops l c row).0 t in let w = h.within in
-      (g.0, omega arith, record { same = g.2.same; left = g.2.left; right = g.2.right; low = h.begun g.0 g.1; high = g.2.high }))
+    (g.0, omega arith, record { same = g.2.same; left = g.2.left; right = g.2.right; low = h.begun g.0 g.1; high = g.2.high }))
     (λ g. elim (cases_lt g.0 raised) [
       | inl k ↦ (h.tops l c row).1 (g.0, k, record { same = g.2.same; left = g.2.left; right = g.2.right; high = g.2.high })
       | inr k ↦ let a = rest g.0 k g.1 in let b = g.2.low in absurd (omega arith)
@@ -173,9 +172,9 @@ row_painted law blocks row raised cover c h rest = painted_is law cover.mask blo
 
 window_at : (cells : ℕ) (f g : ℕ → ℕ) (c : ℕ) → f c ≡ g c → (cells ≤ c → g c ≡ 0) → windowed 0 cells f c ≡ g c
 window_at cells f g c same blank = elim (cases_lt c cells) [
-    | inl l ↦ let e : (nat_le 0 c && nat_lt c cells) ≡ true = grind (arith, nat_tests) in rw e same
-    | inr l ↦ let e : (nat_le 0 c && nat_lt c cells) ≡ false = grind (arith, nat_tests) in rw e (sym (blank l))
-  ]
+  | inl l ↦ let e : (nat_le 0 c && nat_lt c cells) ≡ true = grind (arith, nat_tests) in rw e same
+  | inr l ↦ let e : (nat_le 0 c && nat_lt c cells) ≡ false = grind (arith, nat_tests) in rw e (sym (blank l))
+]
 
 -- all cells of the row are in the window
 pub whole_window : (cells : ℕ) (f g : ℕ → ℕ) → ((c : ℕ) → f c ≡ g c) → ((c : ℕ) → cells ≤ c → g c ≡ 0) → windowed 0 cells f ≡ g

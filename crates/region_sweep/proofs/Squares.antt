@@ -1,6 +1,6 @@
 -- The colour of a square is that of its cell.
-use Rattle.std.proofs.Common.{ℕ, zero, suc, ◌≡◌, ◌≢◌, ◌+◌, ◌-◌, ◌<◌, ◌≤◌, ◌⊎◌, ◌↔◌, List, [], ◌∷◌, Bool, true, false, true≢false, inl, inr, refl, sym, ap, ◌∙◌, subst, arith, length, get_or}
-use Rattle.std.specs.Prelude.{ℤ, pos, negsuc, ◌+ℤ◌, ◌≤ℤ◌, ◌<ℤ◌, All, Contains}
+use Rattle.std.proofs.Common.{ℕ, zero, suc, ◌≡◌, ◌≢◌, ◌+◌, ◌<◌, ◌⊎◌, ◌↔◌, List, [], ◌∷◌, Bool, true, false, true≢false, inl, inr, refl, sym, ◌∙◌, subst, arith, length, get_or}
+use Rattle.std.specs.Prelude.{ℤ, ◌<ℤ◌, Contains}
 use Rattle.std.proofs.lemmas.Int.{ints, by_lt_z}
 use Rattle.std.proofs.lemmas.Bool.{cases_lt}
 use Rattle.std.proofs.lemmas.List.{get_or_default}
@@ -18,7 +18,7 @@ use Rattle.mask_runs.specs.Laws.{ColoursByLayers}
 use Rattle.region_sweep.specs.declared.block.Block.{Block}
 use Rattle.region_sweep.specs.Blocks.{is_covered, painted}
 use Rattle.region_sweep.specs.Rows.{block, no_block}
-use Rattle.region_sweep.specs.Grid.{Ascending, cell_of, start_of, IsDrawn, AreDrawn, AreBlocks, block_of}
+use Rattle.region_sweep.specs.Grid.{Ascending, cell_of, IsDrawn, AreDrawn, AreBlocks, block_of}
 use Rattle.region_sweep.proofs.Axes.{mark_before}
 use Rattle.region_sweep.proofs.Painting.{CoversCell, Covered, covered_decides, painted_is, same_layer}
 
@@ -77,16 +77,16 @@ pub square_covered : (xs ys : List ℤ) (mask : Mask) (shapes : List Rect) (bloc
     → uses mask l ≡ true → covered shapes l x y ↔ Covered blocks l (cell_of ys y) (cell_of xs x)
 square_covered xs ys mask shapes blocks l x y g u = (
   λ h.
-    let a = covered_by shapes l x y h in
-    let v : uses mask a.0.layer ≡ true = subst (λ m. uses mask m ≡ true) (sym a.2.same) u in
-    let d = All-contains (λ r. uses mask r.layer ≡ true → IsDrawn xs ys r) shapes a.0 g.drawn a.1 v in
-    let c = g.made.all a.0 a.1 v in
-    let at : block blocks c.0 ≡ block_of xs ys a.0 = get_or_default blocks c.0 no_block (block_of xs ys a.0) c.1 ∙ c.2 in
-    (c.0, c.1, subst (λ b. CoversCell b l (cell_of ys y) (cell_of xs x)) (sym at) ((block_covers xs ys a.0 l x y g.columns g.rows d).0 a.2)),
+      let a = covered_by shapes l x y h in
+      let v : uses mask a.0.layer ≡ true = subst (λ m. uses mask m ≡ true) (sym a.2.same) u in
+      let d = All-contains (λ r. uses mask r.layer ≡ true → IsDrawn xs ys r) shapes a.0 g.drawn a.1 v in
+      let c = g.made.all a.0 a.1 v in
+      let at : block blocks c.0 ≡ block_of xs ys a.0 = get_or_default blocks c.0 no_block (block_of xs ys a.0) c.1 ∙ c.2 in
+      (c.0, c.1, subst (λ b. CoversCell b l (cell_of ys y) (cell_of xs x)) (sym at) ((block_covers xs ys a.0 l x y g.columns g.rows d).0 a.2)),
   λ h.
-    let e = g.made.each h.0 no_block h.1 in
-    let d = All-contains (λ r. uses mask r.layer ≡ true → IsDrawn xs ys r) shapes e.0 g.drawn e.1 e.2 in
-    covers_all shapes l x y e.0 e.1 ((block_covers xs ys e.0 l x y g.columns g.rows d).1
+      let e = g.made.each h.0 no_block h.1 in
+      let d = All-contains (λ r. uses mask r.layer ≡ true → IsDrawn xs ys r) shapes e.0 g.drawn e.1 e.2 in
+      covers_all shapes l x y e.0 e.1 ((block_covers xs ys e.0 l x y g.columns g.rows d).1
       (subst (λ b. CoversCell b l (cell_of ys y) (cell_of xs x)) e.3 h.2)),
 )
 
@@ -96,28 +96,27 @@ true_or_false false = inr refl
 
 pub layer_or_not : (a b : Layer) → (a ≡ b) ⊎ (a ≢ b)
 layer_or_not a b = elim (true_or_false (uses (Only a) b)) [
-    | inl t ↦ inl ((same_layer a b).0 t)
-    | inr f ↦ inr (λ e. true≢false (sym ((same_layer a b).1 e) ∙ f))
-  ]
+  | inl t ↦ inl ((same_layer a b).0 t)
+  | inr f ↦ inr (λ e. true≢false (sym ((same_layer a b).1 e) ∙ f))
+]
 
 covers_or_not : (r : Rect) (l : Layer) (x y : ℤ) → Covers r l x y ⊎ (¬ Covers r l x y)
 covers_or_not r l x y = elim (layer_or_not r.layer l) [
-    | inr n ↦ inr (λ h. n h.same)
-    | inl e ↦ by_lt_z x r.x0 (λ m. inr (λ h. let g = h.left in omega (arith, ints)))
+  | inr n ↦ inr (λ h. n h.same)
+  | inl e ↦ by_lt_z x r.x0 (λ m. inr (λ h. let g = h.left in omega (arith, ints)))
       (λ a. by_lt_z x r.x1 (λ b. by_lt_z y r.y0 (λ m. inr (λ h. let g = h.bottom in omega (arith, ints)))
-        (λ c. by_lt_z y r.y1 (λ d. inl (record { same = e; left = a; right = b; bottom = c; top = d }))
-          (λ m. inr (λ h. let g = h.top in omega (arith, ints)))))
-        (λ m. inr (λ h. let g = h.right in omega (arith, ints))))
-  ]
-
+      (λ c. by_lt_z y r.y1 (λ d. inl (record { same = e; left = a; right = b; bottom = c; top = d }))
+      (λ m. inr (λ h. let g = h.top in omega (arith, ints)))))
+      (λ m. inr (λ h. let g = h.right in omega (arith, ints))))
+]
 
 -- whether the layer covers the square
 seen : (shapes : List Rect) (l : Layer) (x y : ℤ) → (b : Bool) × ((b ≡ true) ↔ covered shapes l x y)
 seen [] l x y = (false, (λ e. absurd (true≢false (sym e)), λ h. absurd h))
 seen (r ∷ rs) l x y = elim (covers_or_not r l x y) [
-    | inl h ↦ (true, (λ e. inl h, λ g. refl))
-    | inr n ↦ let s = seen rs l x y in (s.0, (λ e. inr (s.1.0 e), λ g. elim g [ inl h ↦ absurd (n h) | inr h ↦ s.1.1 h ]))
-  ]
+  | inl h ↦ (true, (λ e. inl h, λ g. refl))
+  | inr n ↦ let s = seen rs l x y in (s.0, (λ e. inr (s.1.0 e), λ g. elim g [ inl h ↦ absurd (n h) | inr h ↦ s.1.1 h ]))
+]
 
 same_test : {P : Type 0} (a b : Bool) → (a ≡ true) ↔ P → (b ≡ true) ↔ P → a ≡ b
 same_test true true f g = refl
@@ -129,10 +128,10 @@ pub square_painted : ColoursByLayers → (xs ys : List ℤ) (mask : Mask) (shape
     → IsGrid xs ys mask shapes blocks → (s : Layers) → Sees shapes x y s → colour_of mask s ≡ painted mask blocks (cell_of ys y) (cell_of xs x)
 square_painted law xs ys mask shapes blocks x y g s h = painted_is law mask blocks (cell_of ys y) (cell_of xs x) s
     (λ l u.
-      let c = square_covered xs ys mask shapes blocks l x y g u in
-      let d = covered_decides blocks l (cell_of ys y) (cell_of xs x) in
-      same_test (has s l) (is_covered blocks l (cell_of ys y) (cell_of xs x)) (h.each l)
-      (λ e. c.1 (d.0 e), λ k. d.1 (c.0 k)))
+    let c = square_covered xs ys mask shapes blocks l x y g u in
+    let d = covered_decides blocks l (cell_of ys y) (cell_of xs x) in
+    same_test (has s l) (is_covered blocks l (cell_of ys y) (cell_of xs x)) (h.each l)
+    (λ e. c.1 (d.0 e), λ k. d.1 (c.0 k)))
 
 layers_by : (Layer → Bool) → Layers
 layers_by t = record { nd = t ND; np = t NP; nc = t NC; nm = t NM; ni = t NI; nb = t NB; ng = t NG }
@@ -150,9 +149,9 @@ has_by t NG = refl
 sees_some : (shapes : List Rect) (x y : ℤ) → Sees shapes x y (layers_by (λ l. (seen shapes l x y).0))
 sees_some shapes x y = record {
   each = λ l.
-    let e = has_by (λ m. (seen shapes m x y).0) l in
-    let s = (seen shapes l x y).1 in
-    (λ h. s.0 (sym e ∙ h), λ h. e ∙ s.1 h);
+      let e = has_by (λ m. (seen shapes m x y).0) l in
+      let s = (seen shapes l x y).1 in
+      (λ h. s.0 (sym e ∙ h), λ h. e ∙ s.1 h);
 }
 
 -- a square has a colour exactly where its cell has it

@@ -1,6 +1,6 @@
 -- The grid that coordinates draw. Of n marks in order there are n + 1 cells: cell 0 is before the first mark, and each
 -- other cell begins at its mark.
-use Rattle.std.specs.Prelude.{◌≡◌, ℕ, suc, ◌-◌, ◌<◌, ℤ, pos, ◌<ℤ◌, List, [], ◌∷◌, All, AllPairs, Contains, cond, int_le, slice_index_or, length, true}
+use Rattle.std.specs.Prelude.{◌≡◌, ℕ, suc, ◌-◌, ◌<◌, ◌≤◌, ℤ, pos, ◌<ℤ◌, List, [], ◌∷◌, All, AllPairs, Contains, cond, int_le, slice_index_or, length, true}
 use Rattle.lam_geom.specs.declared.rect.Rect.{Rect}
 use Rattle.lam_geom.specs.declared.place.Point.{Point}
 use Rattle.mask_runs.specs.declared.mask.Mask.{Mask}
@@ -43,6 +43,15 @@ block_of xs ys r = record {
   low = cell_of ys r.y0;
   high = cell_of ys r.y1;
 }
+
+-- the strip has cells, and keeps off the first and the last cell and row
+pub record IsFit (xs ys : List ℤ) (s : Strip) : Type 0 where
+  pub left : 0 < s.left
+  pub wide : s.left < s.right
+  pub right : s.right ≤ length xs
+  pub low : 0 < s.low
+  pub tall : s.low < s.high
+  pub high : s.high ≤ length ys
 
 -- the squares of a strip's cells
 abbrev pub tile_of : List ℤ → List ℤ → Strip → Tile

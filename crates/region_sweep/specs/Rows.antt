@@ -1,13 +1,19 @@
 -- What is known of the rows up to one.
-use Rattle.std.specs.Prelude.{◌≡◌, ◌↔◌, ℕ, ◌<◌, ◌≤◌, List, Option, Some, None, length, slice_index_or}
+use Rattle.std.specs.Prelude.{◌≡◌, ◌↔◌, ℕ, ◌<◌, ◌≤◌, List, All, Option, Some, None, length, slice_index_or, true}
+use Rattle.std.specs.List.Sorted.{IsNonDecreasingBy}
 use Rattle.lam_geom.specs.declared.layer.Layer.{Layer}
 use Rattle.lam_geom.specs.declared.layer.Layer.TheVariants.{ND}
 use Rattle.mask_runs.specs.declared.mask.Mask.{Mask}
 use Rattle.mask_runs.specs.declared.run.Run.{Run}
 use Rattle.mask_runs.specs.Runs.{IsRun, AreRuns}
+use Rattle.mask_runs.specs.Colours.{uses}
 use Rattle.cover_tree.specs.Covers.{Cover}
+use Rattle.strip_rows.specs.declared.rows.StripRows.{StripRows}
+use Rattle.strip_rows.specs.Swept.{cells_of, IsSwept}
 use Rattle.strip_rows.specs.declared.strip.Strip.{Strip}
-use Rattle.strip_rows.specs.Strips.{run_of, strip}
+use Rattle.strip_rows.specs.declared.strip.Strips.{Strips}
+use Rattle.strip_rows.specs.Strips.{run_of, strip, AreStrips}
+use Rattle.strip_rows.specs.Touching.{AreTouching}
 use Rattle.region_sweep.specs.declared.block.Block.{Block}
 use Rattle.region_sweep.specs.declared.spot.Spot.{Spot}
 
@@ -31,11 +37,30 @@ pub record AreRaised (blocks : List Block) (row raised : ℕ) (cover : Cover) : 
   pub begun : (k : ℕ) → k < raised → (block blocks k).low ≤ row
   pub tops : (l : Layer) (c z : ℕ) → (z < cover.top l c) ↔ ((k : ℕ) × (k < raised) × ReachesOver (block blocks k) l c z)
 
+-- the mask uses the blocks, which lie in so many cells
+pub record AreFit (mask : Mask) (cells : ℕ) (blocks : List Block) : Type 0 where
+  pub used : All (λ b. uses mask b.layer ≡ true) blocks
+  pub within : All (λ b. b.right ≤ cells) blocks
+  pub ascending : IsNonDecreasingBy (λ b. b.low) blocks
+
 abbrev pub no_spot : Spot
 no_spot = record { row = 0; cell = 0; index = 0 }
 
 abbrev pub spot : List Spot → ℕ → Spot
 spot spots j = slice_index_or spots j no_spot
+
+-- spots in the order of their rows, of which each index has one
+pub record AreAsked (places : ℕ) (spots : List Spot) : Type 0 where
+  pub within : All (λ s. s.index < places) spots
+  pub ascending : IsNonDecreasingBy (λ s. s.row) spots
+  pub one : (i j : ℕ) → i < length spots → j < length spots → (spot spots i).index ≡ (spot spots j).index → spot spots i ≡ spot spots j
+
+-- the strips up to a row, the runs of that row, and nothing beside them
+pub record IsFront (colour : ℕ → ℕ → ℕ) (row : ℕ) (strips : StripRows) (current : List Run) : Type 0 where
+  pub swept : IsSwept colour row strips
+  pub runs : AreRuns (colour row) current
+  pub first : colour row 0 ≡ 0
+  pub last : (c : ℕ) → cells_of strips ≤ c → colour row c ≡ 0
 
 -- the strip has the cell of the row, and each of its rows up to there has its run
 pub record Holds (colour : ℕ → ℕ → ℕ) (s : Strip) (row cell : ℕ) : Type 0 where
@@ -53,3 +78,9 @@ IsAnswer colour strips p None = colour p.row p.cell ≡ 0
 pub record AreAnswered (colour : ℕ → ℕ → ℕ) (strips : List Strip) (spots : List Spot) (answered : ℕ) (found : List (Option ℕ)) : Type 0 where
   pub within : answered ≤ length spots
   pub each : (j : ℕ) → j < answered → IsAnswer colour strips (spot spots j) (slice_index_or found (spot spots j).index None)
+
+-- all strips, the pairs that touch, and all answers
+pub record IsSweep (colour : ℕ → ℕ → ℕ) (spots : List Spot) (swept : Strips) (found : List (Option ℕ)) : Type 0 where
+  pub strips : AreStrips colour swept.strips.items
+  pub touching : AreTouching swept.strips.items swept.pairs.items
+  pub answers : AreAnswered colour swept.strips.items spots (length spots) found

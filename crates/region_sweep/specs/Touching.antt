@@ -1,5 +1,5 @@
 -- Tiles that share an edge.
-use Rattle.std.specs.Prelude.{◌≡◌, ◌⊎◌, ℕ, ◌<◌, ℤ, pos, ◌+ℤ◌, List, All, Contains, Some, slice_get}
+use Rattle.std.specs.Prelude.{◌≡◌, ◌≢◌, ◌⊎◌, ℕ, ◌<◌, ℤ, pos, ◌+ℤ◌, List, All, AllPairs, Contains, Some, slice_get}
 use Rattle.region_sweep.specs.declared.tile.Tile.{Tile}
 use Rattle.union_find.specs.declared.pair.Pair.{Pair}
 use Rattle.region_sweep.specs.Tiles.{InTile}
@@ -27,7 +27,8 @@ pub record TouchAt (tiles : List Tile) (a b : ℕ) : Type 0 where
   pub at_second : slice_get tiles b ≡ Some second
   pub touch : Touch first second
 
--- the list has exactly the pairs of numbers of tiles that touch
+-- the list has exactly the pairs of numbers of tiles that touch, each once
 pub record AreTouching (tiles : List Tile) (pairs : List Pair) : Type 0 where
   pub each : All (λ p. TouchAt tiles p.a p.b) pairs
   pub all : (p : Pair) → TouchAt tiles p.a p.b → Contains pairs p
+  pub once : AllPairs (λ p q. p ≢ q) pairs

@@ -1,19 +1,19 @@
 //! The marks that cut an axis into cells.
 
-ghost use Rattle.std.specs.Prelude.{◌≡◌, ◌↔◌, ◌+◌, ◌<◌, ◌≤◌, ◌^◌, ℤ, IfOk, Contains, length, vec_len};
+ghost use Rattle.std.specs.Prelude.{◌≡◌, ◌↔◌, ◌+◌, ◌<◌, ◌≤◌, ◌^◌, ℤ, IfOk, Contains, length};
 ghost use Rattle.region_sweep.specs.Grid.{Ascending, cell_of, start_of};
 
 use mp_base::NoMemory;
 
 const MOST_CELLS: usize = (1 << 31) - 1;
 
-/// Different coordinates in order, so few that there are less than 2^31 cells. They cut the axis into cells, each from its mark up to the next;
-/// cell 0 is before the first mark.
+/// Different coordinates in order, so few that there are less than 2^31 cells. They cut the axis into cells, each from its
+/// mark up to the next; cell 0 is before the first mark.
 #[derive(Drop)]
 pub(crate) struct Axis {
     marks: Vec<i64>,
     ghost ascending: { Ascending marks.items },
-    ghost few: { vec_len marks + 1 < 2 ^ 31 },
+    ghost few: { length marks.items + 1 < 2 ^ 31 },
 }
 
 impl Axis {
@@ -31,7 +31,7 @@ impl Axis {
 
     /// How many cells there are.
     pub(crate) fn cells(&self) -> u32
-        ensures { result ≡ vec_len self.now.marks + 1 }
+        ensures { result ≡ length self.now.marks.items + 1 }
     {
         self.marks.len() as u32 + 1
     }
@@ -46,7 +46,7 @@ impl Axis {
     /// Where a cell above 0 begins.
     pub(crate) fn start(&self, cell: u32) -> i64
         requires some { 0 < cell }
-        requires within { cell ≤ vec_len self.now.marks }
+        requires within { cell ≤ length self.now.marks.items }
         ensures { result ≡ start_of self.now.marks.items cell }
     {
         self.marks[cell as usize - 1]

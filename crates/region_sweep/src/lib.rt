@@ -3,8 +3,12 @@
 
 mod axis;
 mod block;
+mod grid;
+mod rows;
 mod spot;
 mod swept;
+#[cfg(test)]
+mod tests;
 mod tile;
 
 pub use swept::{Swept, sweep};

@@ -5,9 +5,11 @@ ghost use Rattle.std.specs.List.{AllZip};
 ghost use Rattle.region_sweep.specs.Tiles.{AreTiles, AreWhole, IsTileOf};
 ghost use Rattle.region_sweep.specs.Touching.{AreTouching};
 
+use crate::grid::Grid;
+use crate::rows::sweep_rows;
 use crate::tile::Tile;
 use lam_geom::{Point, Rect};
-use mask_runs::Mask;
+use mask_runs::{Mask, colours_by_layers};
 use mp_base::{List, NoMemory};
 use std::alloc::Global;
 use union_find::Pair;
@@ -35,9 +37,23 @@ pub fn sweep(
     ensures pairs { IfOk result (λ s. AreTouching s.tiles s.pairs) }
     ensures found { IfOk result (λ s. AllZip (IsTileOf shapes.now mask s.tiles) places.now s.found) }
 {
-    let _ = alloc;
-    let _ = shapes;
-    let _ = mask;
-    let _ = places;
-    Err(NoMemory)
+    colours_by_layers();
+    let grid = Grid::new(alloc, shapes, mask)?;
+    let blocks = grid.blocks(alloc, shapes, mask)?;
+    let spots = grid.spots(alloc, places)?;
+    let mut found = vec![in alloc; None; places.len()]?;
+    let swept = sweep_rows(
+        alloc,
+        mask,
+        grid.size(),
+        blocks.as_slice(),
+        spots.as_slice(),
+        found.as_mut_slice(),
+    )?;
+    let tiles = grid.tiles(alloc, swept.strips.as_slice())?;
+    Ok(Swept {
+        tiles,
+        pairs: List::from_vec(swept.pairs),
+        found: List::from_vec(found),
+    })
 }

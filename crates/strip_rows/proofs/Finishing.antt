@@ -1,16 +1,15 @@
 -- What has been swept when all rows above are blank is all.
-use Rattle.std.proofs.Common.{◌≡◌, ℕ, ◌+◌, ◌<◌, ◌≤◌, List, length, get_or, arith, sym, subst, ap, ◌∙◌, inl, inr, cond, eqb, Bool, true, false}
-use Rattle.std.specs.Prelude.{All, AllPairs, Contains}
-use Rattle.std.proofs.lemmas.Bool.{cases_lt, cases_eq}
+use Rattle.std.proofs.Common.{◌≡◌, ℕ, ◌+◌, ◌<◌, ◌≤◌, length, get_or, arith, sym, subst, inl, inr, cond, eqb}
+use Rattle.std.proofs.lemmas.Bool.{cases_lt}
 use Rattle.std.proofs.lemmas.Bool.Decides.{nat_tests}
 use Rattle.mask_runs.specs.declared.run.Run.{Run}
 use Rattle.mask_runs.specs.Runs.{IsRun}
 use Rattle.strip_rows.specs.declared.strip.Strip.{Strip}
 use Rattle.union_find.specs.declared.pair.Pair.{Pair}
 use Rattle.strip_rows.specs.declared.rows.StripRows.{StripRows}
-use Rattle.strip_rows.specs.Strips.{run_of, IsStrip, IsBefore, AreStrips, strip, no_strip}
-use Rattle.strip_rows.specs.Touching.{Touch, IsTouching, AreTouching}
-use Rattle.strip_rows.specs.Swept.{HasBegun, ended, open_, IsSwept, upto, IsTouchingUpto, strips_of}
+use Rattle.strip_rows.specs.Strips.{run_of, IsStrip, AreStrips, strip, no_strip}
+use Rattle.strip_rows.specs.Touching.{Touch, AreTouching}
+use Rattle.strip_rows.specs.Swept.{HasBegun, ended, open_, IsSwept, upto, strips_of}
 
 -- a blank row has no run
 pub no_run : (colour : ℕ → ℕ) → ((c : ℕ) → colour c ≡ 0) → (r : Run) → IsRun colour r → ⊥
@@ -65,4 +64,5 @@ are_touching colour y s w blank = record {
     touch = subst (λ b. Touch (upto y (strip (strips_of s) p.a)) b) (sym (upto_is colour y s w blank p.b i))
         (subst (λ a. Touch a (strip (strips_of s) p.b)) (sym (upto_is colour y s w blank p.a (omega arith))) t.touch);
   });
+  once = w.once;
 }

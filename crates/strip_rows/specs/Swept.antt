@@ -1,12 +1,12 @@
 -- What is known when rows have been swept up to one.
-use Rattle.std.specs.Prelude.{◌≡◌, ℕ, ◌+◌, ◌<◌, ◌≤◌, ◌==◌, ◌⊎◌, List, All, AllPairs, Contains, length, slice_index, if◌then◌else◌}
+use Rattle.std.specs.Prelude.{◌≡◌, ℕ, ◌+◌, ◌<◌, ◌≤◌, ◌==◌, List, All, AllPairs, Contains, length, slice_index, if◌then◌else◌}
 use Rattle.mask_runs.specs.declared.run.Run.{Run}
 use Rattle.mask_runs.specs.Runs.{IsRun}
 use Rattle.strip_rows.specs.declared.strip.Strip.{Strip}
 use Rattle.union_find.specs.declared.pair.Pair.{Pair}
 use Rattle.strip_rows.specs.declared.rows.StripRows.{StripRows}
 use Rattle.strip_rows.specs.Strips.{run_of, IsStrip, IsBefore, strip}
-use Rattle.strip_rows.specs.Touching.{Touch}
+use Rattle.strip_rows.specs.Touching.{Touch, AreOnce}
 
 -- the strips that have begun, by number: those that haven't ended have `high` 0
 abbrev pub strips_of : StripRows → List Strip
@@ -14,7 +14,7 @@ strips_of s = s.strips.items
 
 -- how many cells a row has
 abbrev pub cells_of : StripRows → ℕ
-cells_of s = length s.open.items
+cells_of s = length s.numbers.items
 
 -- row y is one of the strip, which begins where it says
 pub record IsSince (colour : ℕ → ℕ → ℕ) (y : ℕ) (s : Strip) : Type 0 where
@@ -49,10 +49,11 @@ pub record IsSwept (colour : ℕ → ℕ → ℕ) (y : ℕ) (s : StripRows) : Ty
   pub row : s.row ≡ y
   pub each : All (HasBegun colour y) (strips_of s)
   pub all : (t : Strip) → IsStrip colour t → t.high ≤ y → Contains (strips_of s) t
-  pub open_ : (r : Run) → IsRun (colour y) r → IsOpenAt colour y (strips_of s) (slice_index s.open.items r.left) r
+  pub open_ : (r : Run) → IsRun (colour y) r → IsOpenAt colour y (strips_of s) (slice_index s.numbers.items r.left) r
   pub ascending : AllPairs IsBefore (strips_of s)
   pub touching : All (IsTouchingUpto y (strips_of s)) s.pairs.items
   pub touch : (p : Pair) → IsTouchingUpto y (strips_of s) p → Contains s.pairs.items p
+  pub once : AreOnce s.pairs.items
 
 -- the same strip, whether or not it has ended since
 pub record IsSameStrip (s t : Strip) : Type 0 where

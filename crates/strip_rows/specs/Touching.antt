@@ -1,5 +1,5 @@
 -- Strips that touch.
-use Rattle.std.specs.Prelude.{◌≡◌, ◌≢◌, ℕ, ◌<◌, ◌⊎◌, List, All, AllPairs, Contains, length}
+use Rattle.std.specs.Prelude.{◌≡◌, ◌≢◌, ◌<◌, ◌⊎◌, List, All, AllPairs, Contains, length}
 use Rattle.strip_rows.specs.declared.strip.Strip.{Strip}
 use Rattle.union_find.specs.declared.pair.Pair.{Pair}
 use Rattle.strip_rows.specs.Strips.{strip}
@@ -16,7 +16,12 @@ pub record IsTouching (strips : List Strip) (p : Pair) : Type 0 where
   pub within : p.b < length strips
   pub touch : Touch (strip strips p.a) (strip strips p.b)
 
--- the list has exactly the pairs of strips that touch
+-- no pair stands in the list twice
+abbrev pub AreOnce : List Pair → Type 0
+AreOnce pairs = AllPairs (λ p q. p ≢ q) pairs
+
+-- the list has exactly the pairs of strips that touch, each once
 pub record AreTouching (strips : List Strip) (pairs : List Pair) : Type 0 where
   pub each : All (IsTouching strips) pairs
   pub all : (p : Pair) → IsTouching strips p → Contains pairs p
+  pub once : AreOnce pairs

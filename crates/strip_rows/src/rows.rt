@@ -8,6 +8,9 @@ ghost use Rattle.strip_rows.specs.Touching.{AreTouching};
 ghost use Rattle.strip_rows.specs.Changes.{LieInRow, IsChange};
 ghost use Rattle.strip_rows.specs.Swept.{strips_of, cells_of, IsOpenAt, IsSwept, KeepNumbers};
 
+use crate::ends::{begin_strips, end_strips};
+use crate::missing::missing;
+use crate::pairs::{next, pair_beside, pair_upon};
 use crate::strip::{Strip, Strips};
 use mask_runs::Run;
 use mp_base::NoMemory;
@@ -19,8 +22,10 @@ use union_find::Pair;
 pub struct StripRows {
     row: u32,
     strips: Vec<Strip>,
-    open: Vec<u32>,
+    numbers: Vec<u32>,
     pairs: Vec<Pair>,
+    lost: Vec<Run>,
+    fresh: Vec<Run>,
 }
 
 impl StripRows {
@@ -29,7 +34,14 @@ impl StripRows {
         ensures cells { IfOk result (λ s. cells_of s ≡ cells) }
         ensures strips { IfOk result (λ s. (colour : ℕ → ℕ → ℕ) → ((c : ℕ) → colour 0 c ≡ 0) → IsSwept colour 0 s) }
     {
-        Err(NoMemory)
+        Ok(StripRows {
+            row: 0,
+            strips: Vec::new(alloc),
+            numbers: vec![in alloc; 0; cells as usize]?,
+            pairs: Vec::new(alloc),
+            lost: Vec::new(alloc),
+            fresh: Vec::new(alloc),
+        })
     }
 
     /// Goes up one row, with runs of the row that was last and of the new one: at least those that only one of them has and
@@ -42,7 +54,19 @@ impl StripRows {
             → IsSwept colour (y + 1) self.new) }
         ensures numbers { OnOk result (KeepNumbers (strips_of self.old) (strips_of self.new)) }
     {
-        Err(NoMemory)
+        let row = next(self.row)?;
+        let Ok(first) = u32::try_from(self.strips.len()) else {
+            return Err(NoMemory);
+        };
+        missing(old, new, &mut self.lost)?;
+        missing(new, old, &mut self.fresh)?;
+        let numbers = &mut self.numbers;
+        pair_upon(numbers, first, &self.lost, &self.fresh, &mut self.pairs)?;
+        end_strips(&mut self.strips, &self.lost, numbers, row);
+        begin_strips(&mut self.strips, &self.fresh, numbers, row)?;
+        pair_beside(numbers, first, new, &mut self.pairs)?;
+        self.row = row;
+        Ok(())
     }
 
     /// The number of the strip to which the run belongs that begins at this cell of the last row.
@@ -51,7 +75,7 @@ impl StripRows {
         ensures { (colour : ℕ → ℕ → ℕ) (y : ℕ) → IsSwept colour y self.now
             → (r : Run) → r.left ≡ left → IsRun (colour y) r → IsOpenAt colour y (strips_of self.now) result r }
     {
-        self.open[left as usize]
+        self.numbers[left as usize]
     }
 
     /// The strips and the pairs of them that touch, where the last row and all above it have no runs.
@@ -65,8 +89,10 @@ impl StripRows {
         let StripRows {
             row: _,
             strips,
-            open: _,
+            numbers: _,
             pairs,
+            lost: _,
+            fresh: _,
         } = self;
         Strips { strips, pairs }
     }

@@ -1,0 +1,9 @@
+pub mod Tops
+pub mod Raising
+pub mod Covering
+pub mod Building
+pub mod Looking
+pub mod Collecting
+pub mod Alike
+pub mod Going
+pub mod Found

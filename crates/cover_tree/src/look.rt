@@ -1,0 +1,117 @@
+//! What the trees tell of a part at once.
+
+ghost use Rattle.std.specs.Prelude.{◌≡◌};
+ghost use Rattle.lam_geom.specs.declared.layer.Layer.{Layer};
+ghost use Rattle.cover_tree.specs.Parts.{Sound, node};
+ghost use Rattle.cover_tree.specs.Layered.{tree};
+ghost use Rattle.cover_tree.specs.Looking.{IsSight, is_blank, is_full, is_possible, full_at, possible_at};
+
+use crate::node::Node;
+use crate::part::Part;
+use crate::trees::Trees;
+use mask_runs::{Layers, Mask};
+
+/// A row of a mask.
+#[derive(Clone, Copy)]
+pub(crate) struct Line {
+    pub mask: Mask,
+    pub row: u32,
+}
+
+/// The colour of all cells of a part, or the layers that cover it as a whole.
+#[derive(Clone, Copy)]
+pub(crate) enum Sight {
+    One(u8),
+    Many(Layers),
+}
+
+/// Looks at a part which the layers in `known` cover as a whole.
+pub(crate) fn look(trees: &Trees, line: Line, part: Part, known: Layers) -> Sight
+    requires { (l : Layer) → Sound (tree trees.now l) part }
+    ensures { IsSight line.mask trees.now line.row part known result }
+{
+    let bounds = look_down(trees, part.at, line.row, known);
+    if part.width < 2 {
+        return Sight::One(line.mask.colour(bounds.full));
+    }
+    if bounds.full == bounds.possible {
+        return Sight::One(line.mask.colour(bounds.full));
+    }
+    if is_blank(line.mask, bounds.possible) {
+        return Sight::One(0);
+    }
+    Sight::Many(bounds.full)
+}
+
+// Whether these layers, and any of them, have no colour.
+fn is_blank(mask: Mask, possible: Layers) -> bool
+    ensures { result ≡ is_blank mask possible }
+{
+    match mask {
+        Mask::Only(_) => false,
+        Mask::Diffusion => !possible.nd,
+        Mask::Contacts => !possible.nc && !possible.nb,
+    }
+}
+
+// The layers that cover a part as a whole, and those that cover any of it.
+#[derive(Clone, Copy)]
+struct Bounds {
+    full: Layers,
+    possible: Layers,
+}
+
+// The same for one layer.
+#[derive(Clone, Copy)]
+struct Bound {
+    full: bool,
+    possible: bool,
+}
+
+fn look_down(trees: &Trees, at: usize, row: u32, known: Layers) -> Bounds
+    ensures full { result.full ≡ full_at trees.now at row known }
+    ensures possible { result.possible ≡ possible_at trees.now at row known }
+{
+    let nd = look_at(&trees.nd, at, row, known.nd);
+    let np = look_at(&trees.np, at, row, known.np);
+    let nc = look_at(&trees.nc, at, row, known.nc);
+    let nm = look_at(&trees.nm, at, row, known.nm);
+    let ni = look_at(&trees.ni, at, row, known.ni);
+    let nb = look_at(&trees.nb, at, row, known.nb);
+    let ng = look_at(&trees.ng, at, row, known.ng);
+    Bounds {
+        full: Layers {
+            nd: nd.full,
+            np: np.full,
+            nc: nc.full,
+            nm: nm.full,
+            ni: ni.full,
+            nb: nb.full,
+            ng: ng.full,
+        },
+        possible: Layers {
+            nd: nd.possible,
+            np: np.possible,
+            nc: nc.possible,
+            nm: nm.possible,
+            ni: ni.possible,
+            nb: nb.possible,
+            ng: ng.possible,
+        },
+    }
+}
+
+fn look_at(nodes: &[Node], at: usize, row: u32, known: bool) -> Bound
+    ensures full { result.full ≡ is_full (node nodes.now at) row known }
+    ensures possible { result.possible ≡ is_possible (node nodes.now at) row known }
+{
+    let node = match nodes.get(at) {
+        Some(node) => *node,
+        None => Node::empty(),
+    };
+    let full = known || row < node.top || row < node.low;
+    Bound {
+        full,
+        possible: full || row < node.high,
+    }
+}

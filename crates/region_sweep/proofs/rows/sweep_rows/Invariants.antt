@@ -1,0 +1,8 @@
+-- The rows up to `below` are swept.
+use Rattle.cover_tree.specs.Trees.{cover_of}
+use Rattle.region_sweep.proofs.Rowwise.{IsAt}
+use Rattle.region_sweep.proofs.rows.sweep_rows.Given as goal
+
+abbrev pub invariant-loop-below : goal.invariant-loop-below
+invariant-loop-below l =
+    IsAt l.fn.mask l.size.cells l.blocks l.below (cover_of l.tree) l.strips l.runs.items l.raised l.spots l.answered l.found

@@ -1,0 +1,120 @@
+//! The sweep over rows of cells.
+
+ghost use Rattle.std.specs.Prelude.{◌≡◌, ℕ, ◌+◌, ◌<◌, ◌≤◌, ◌^◌, All, IfOk, length};
+ghost use Rattle.cover_tree.specs.Trees.{cover_of};
+ghost use Rattle.strip_rows.specs.Changes.{LieInRow};
+ghost use Rattle.strip_rows.specs.Swept.{strips_of, cells_of};
+ghost use Rattle.region_sweep.specs.Blocks.{painted, AreStacked};
+ghost use Rattle.region_sweep.specs.declared.spot.Spot.{Spot};
+ghost use Rattle.region_sweep.specs.Rows.{block, spot, AreFit, AreRaised, AreAsked, IsFront, IsAnswer, AreAnswered, IsSweep};
+
+use crate::block::Block;
+use crate::spot::Spot;
+use cover_tree::CoverTree;
+use mask_runs::{Mask, Run, colours_by_layers};
+use mp_base::NoMemory;
+use std::alloc::Global;
+use std::mem;
+use strip_rows::{StripRows, Strips};
+
+/// How many cells and rows a grid has.
+#[derive(Clone, Copy)]
+pub(crate) struct Size {
+    pub cells: u32,
+    pub rows: u32,
+}
+
+/// The strips of the colours that the blocks make on the mask, the pairs that touch, and in `found` the answers for the
+/// spots.
+pub(crate) fn sweep_rows(
+    alloc: Global,
+    mask: Mask,
+    size: Size,
+    blocks: &[Block],
+    spots: &[Spot],
+    found: &mut [Option<u32>],
+) -> Result<Strips, NoMemory>
+    requires cells { 0 < size.cells }
+    requires small { size.cells < 2 ^ 31 }
+    requires rows { 0 < size.rows }
+    requires stacked { AreStacked mask size.cells size.rows blocks.now }
+    requires asked { AreAsked (length found.old) spots.now }
+    requires spots { All (λ s. s.row < size.rows) spots.now }
+    ensures { IfOk result (λ s. IsSweep (painted mask blocks.now) spots.now s found.new) }
+{
+    colours_by_layers();
+    let mut tree = CoverTree::new(alloc, mask, size.cells)?;
+    let mut strips = StripRows::new(alloc, size.cells)?;
+    let mut runs = Vec::new(alloc);
+    let mut last = Vec::new(alloc);
+    let mut raised = 0;
+    let mut answered = answer(&strips, runs.as_slice(), spots, 0, 0, found);
+    for below in 0..size.rows - 1 {
+        let row = below + 1;
+        mem::swap(&mut last, &mut runs);
+        raised = raise(&mut tree, blocks, raised, row);
+        tree.collect(row, 0, size.cells, &mut runs)?;
+        strips.step(last.as_slice(), runs.as_slice())?;
+        answered = answer(&strips, runs.as_slice(), spots, answered, row, found);
+    }
+    Ok(strips.finish())
+}
+
+// Raises the blocks that begin in the row.
+fn raise(tree: &mut CoverTree, blocks: &[Block], raised: usize, row: u32) -> usize
+    requires fit { AreFit (cover_of tree.old).mask (cover_of tree.old).cells blocks.now }
+    requires raised { AreRaised blocks.now row raised (cover_of tree.old) }
+    ensures mask { (cover_of tree.new).mask ≡ (cover_of tree.old).mask }
+    ensures cells { (cover_of tree.new).cells ≡ (cover_of tree.old).cells }
+    ensures raised { AreRaised blocks.now row result (cover_of tree.new) }
+    ensures waiting { (k : ℕ) → result ≤ k → k < length blocks.now → row < (block blocks.now k).low }
+{
+    let mut next = raised;
+    while next < blocks.len() && blocks[next].low <= row {
+        let block = blocks[next];
+        tree.raise(block.layer, block.left, block.right, block.high);
+        next += 1;
+    }
+    next
+}
+
+// Answers the spots of the row.
+fn answer(
+    strips: &StripRows,
+    runs: &[Run],
+    spots: &[Spot],
+    answered: usize,
+    row: u32,
+    found: &mut [Option<u32>],
+) -> usize
+    requires runs { LieInRow (cells_of strips.now) runs.now }
+    requires spots { AreAsked (length found.old) spots.now }
+    requires within { answered ≤ length spots.now }
+    requires waiting { (j : ℕ) → answered ≤ j → j < length spots.now → row ≤ (spot spots.now j).row }
+    ensures answers { (colour : ℕ → ℕ → ℕ) → IsFront colour row strips.now runs.now → AreAnswered colour (strips_of strips.now) spots.now answered found.old
+        → AreAnswered colour (strips_of strips.now) spots.now result found.new }
+    ensures within { result ≤ length spots.now }
+    ensures waiting { (j : ℕ) → result ≤ j → j < length spots.now → row < (spot spots.now j).row }
+{
+    let mut next = answered;
+    while next < spots.len() && spots[next].row == row {
+        let spot = spots[next];
+        found[spot.index] = number_at(strips, runs, spot.cell);
+        next += 1;
+    }
+    next
+}
+
+// The number of the strip that has a cell of the row.
+fn number_at(strips: &StripRows, runs: &[Run], cell: u32) -> Option<u32>
+    requires { LieInRow (cells_of strips.now) runs.now }
+    ensures { (colour : ℕ → ℕ → ℕ) (p : Spot) → IsFront colour p.row strips.now runs.now → p.cell ≡ cell
+        → IsAnswer colour (strips_of strips.now) p result }
+{
+    let place = runs.partition_point(|run| run.right <= cell);
+    if place < runs.len() && runs[place].left <= cell {
+        Some(strips.strip_at(runs[place].left))
+    } else {
+        None
+    }
+}
