@@ -6,3 +6,4 @@ pub mod Columns
 pub mod Masks
 pub mod Classed
 pub mod CutOf
+pub mod Drawn

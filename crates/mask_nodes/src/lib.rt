@@ -5,6 +5,7 @@ mod classify;
 mod contacts;
 mod cut;
 mod cutting;
+mod drawing;
 mod layered;
 mod linking;
 mod masks;
@@ -16,4 +17,5 @@ mod spots;
 mod tile_numbers;
 mod touching;
 
+pub use drawing::{Drawing, draw};
 pub use piece::{Part, Piece};
