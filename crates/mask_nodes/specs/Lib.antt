@@ -7,3 +7,4 @@ pub mod Masks
 pub mod Classed
 pub mod CutOf
 pub mod Drawn
+pub mod Ends
