@@ -13,3 +13,7 @@ pub mod Covering
 pub mod Together
 pub mod CutLemmas
 pub mod Classing
+pub mod Placing
+pub mod Ending
+pub mod Bordering
+pub mod ChannelsMade

@@ -165,6 +165,10 @@ module _ (one : OneColour) (joined : RectanglesAreJoined) (shapes : List Rect) (
         pub classed : AreClassed shapes pieces cn cc_
         classed = record {
           pieces_are = pieces_are;
+          as_many = numbers_n.as_many;
+          as_many_channels = numbers_c.as_many;
+          has_channel = λ k l. (channel_is k l).0;
+          roots_are = All-weaker (λ k. (k < length pieces) × HasChannel pieces k (first_channel pieces k) × (get_or least k 0 ≡ k)) (λ k. HasChannel pieces k (first_channel pieces k)) (λ k w. w.1) cc_.roots roots_c.each;
           are_nodes = classes conductors least cn.roots leasts roots_n;
           are_regions = classes channels least cc_.roots leasts roots_c;
           node_of = in_class conductors least cn.roots leasts roots_n cn.numbers numbers_n;

@@ -6,3 +6,5 @@ pub mod Columns
 pub mod Masks
 pub mod Classed
 pub mod CutOf
+pub mod Drawn
+pub mod Ends

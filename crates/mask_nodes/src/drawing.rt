@@ -1,0 +1,91 @@
+//! What a mask draws.
+
+ghost use Rattle.std.specs.Prelude.{◌≡◌, length, IfOk, List};
+ghost use Rattle.lam_geom.specs.declared.place.Point.{Point};
+ghost use Rattle.lam_geom.specs.declared.rect.Rect.{Rect};
+ghost use Rattle.mask_nodes.specs.Masks.{AreMasks};
+ghost use Rattle.mask_nodes.specs.CutOf.{IsCutOf};
+ghost use Rattle.mask_nodes.specs.Classed.{AreClassed};
+ghost use Rattle.mask_nodes.specs.Drawn.{IsDrawn};
+
+use crate::channels::channels;
+use crate::classify::{Classed, classify};
+use crate::columns::{Columns, node_columns};
+use crate::cut::{Cut, cut_masks};
+use crate::masks::{Masks, sweep_masks};
+use lam_geom::{Point, Rect};
+use mp_base::{List, NoMemory};
+use std::alloc::Global;
+use switch_net::Channel;
+
+/// How many nodes a mask draws, its channels, and for each of the places that were asked for the number of the node
+/// whose conductor is there, layer by layer. Nodes and channels are numbered from 0 in the order of their first
+/// squares.
+#[derive(Drop)]
+pub struct Drawing {
+    pub nodes: usize,
+    pub channels: List<Channel>,
+    pub metal: List<Option<u32>>,
+    pub polysilicon: List<Option<u32>>,
+    pub diffusion: List<Option<u32>>,
+}
+
+/// The nodes and channels that these rectangles draw (Mead and Conway, chapter 4). A place names the square of which it
+/// is the lower left corner.
+pub fn draw(alloc: Global, shapes: &[Rect], places: &[Point]) -> Result<Drawing, NoMemory>
+    ensures { IfOk result (IsDrawn shapes.now places.now) }
+{
+    let masks = sweep_masks(alloc, shapes, places)?;
+    let cut = cut_masks(alloc, &masks.metal, &masks.polysilicon, &masks.diffusion)?;
+    let drawing = finish(alloc, shapes, places, &masks, &cut)?;
+    Ok(drawing)
+}
+
+// What is drawn, from the pieces. The rectangles are those of the contract alone.
+fn finish(
+    alloc: Global,
+    shapes: &[Rect],
+    places: &[Point],
+    masks: &Masks,
+    cut: &Cut,
+) -> Result<Drawing, NoMemory>
+    ghost drawn: { List Rect × List Point }
+    requires masks { AreMasks drawn.0 drawn.1 masks.now.contacts masks.now.metal masks.now.polysilicon masks.now.diffusion }
+    requires cut { IsCutOf masks.now.metal masks.now.polysilicon masks.now.diffusion cut.now }
+    requires places { places.now ≡ drawn.1 }
+    ensures { IfOk result (IsDrawn drawn.0 drawn.1) }
+{
+    let classes = classify(alloc, masks, cut)?;
+    let drawing = assemble(alloc, places.len(), masks, cut, &classes)?;
+    Ok(drawing)
+}
+
+// What is drawn, from the classes of pieces. So many places were asked for.
+fn assemble(
+    alloc: Global,
+    count: usize,
+    masks: &Masks,
+    cut: &Cut,
+    classes: &Classed,
+) -> Result<Drawing, NoMemory>
+    ghost drawn: { List Rect × List Point }
+    requires masks { AreMasks drawn.0 drawn.1 masks.now.contacts masks.now.metal masks.now.polysilicon masks.now.diffusion }
+    requires cut { IsCutOf masks.now.metal masks.now.polysilicon masks.now.diffusion cut.now }
+    requires classed { AreClassed drawn.0 cut.now.pieces classes.now.nodes classes.now.channels }
+    requires count { count ≡ length drawn.1 }
+    ensures { IfOk result (IsDrawn drawn.0 drawn.1) }
+{
+    let Columns {
+        metal,
+        polysilicon,
+        diffusion,
+    } = node_columns(alloc, count, masks, cut, classes)?;
+    let channels = channels(alloc, masks, cut, classes)?;
+    Ok(Drawing {
+        nodes: classes.nodes.roots.len(),
+        channels,
+        metal,
+        polysilicon,
+        diffusion,
+    })
+}
