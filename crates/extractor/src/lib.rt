@@ -1,0 +1,4 @@
+//! The network of switches that a mask with labels draws.
+#![tactic(auto)]
+
+mod over;
