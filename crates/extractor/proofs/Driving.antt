@@ -1,9 +1,9 @@
 -- The first drivers of nodes, one label further.
 use Rattle.std.proofs.Common.{◌≡◌, ℕ, ◌+◌, ◌<◌, ◌≤◌, ◌⊎◌, length, inl, inr, List, [], ◌∷◌, Bool, true, false, refl, ◌∙◌, ap, sym, subst, arith}
-use Rattle.std.specs.Prelude.{◌≢◌, Option, Some, None, Contains, slice_get}
+use Rattle.std.specs.Prelude.{◌≢◌, not, Option, Some, None, Contains, slice_get}
 use Rattle.std.specs.List.{list_any}
 use Rattle.std.specs.Str.{bytes_eq}
-use Rattle.std.proofs.lemmas.Bool.{cases_lt, cases_eq}
+use Rattle.std.proofs.lemmas.Bool.{cases_lt, cases_eq, false≢true, not-false}
 use Rattle.std.proofs.lemmas.List.Folds.{Any-from_list_any, list_any-from_Any}
 use Rattle.std.proofs.lemmas.Option.{same_Some, slice_get_within}
 use Rattle.std.proofs.lemmas.Slice.Eq.{bytes_eq-Decides}
@@ -132,3 +132,12 @@ first_goes_on now tags i false h e = h
 
 pub none_meets : (find : ℕ → Option ℕ) (tags : List Tag) (n : ℕ) → AreFirst find tags n → length tags ≤ n → (i : ℕ) → MeetsDriver supplies tags i → ⊥
 none_meets find tags n first l i m = let k = slice_get_within tags i m.0 m.1.at in first.apart i (omega arith) m
+
+-- what a comparison of the names tells
+pub told : (find : ℕ → Option ℕ) (tags : List Tag) (i : ℕ) (first : AreFirst find tags i) (tag : Tag) → slice_get tags i ≡ Some tag → Contains supplies tag.name
+    → (p : ℕ) (other : Tag) → find tag.node ≡ Some p → slice_get tags p ≡ Some other → (a b : List ℕ) (r : Bool) → r ≡ not (bytes_eq a b) → a ≡ other.name → b ≡ tag.name
+    → TellsMeeting find tags i r
+told find tags i first tag at driver p other known there a b true e x y =
+    (tag, meets_first tags find i first tag at p other known there (λ q. false≢true (sym (e ∙ ap not ((bytes_eq-Decides a b).1 (x ∙ q ∙ sym y))))) driver)
+told find tags i first tag at driver p other known there a b false e x y =
+    first_again tags find i first tag at p other known there (sym x ∙ (bytes_eq-Decides a b).0 (not-false _ (sym e)) ∙ y)
