@@ -1,0 +1,6 @@
+mod Naming
+mod Tagging
+mod Driving
+mod Nodes
+mod Overs
+mod Extracting

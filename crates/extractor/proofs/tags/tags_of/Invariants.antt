@@ -1,0 +1,5 @@
+use Rattle.extractor.specs.Tagging.{AreSeen, AreTagged, found}
+use Rattle.extractor.proofs.tags.tags_of.Given as goal
+
+abbrev pub invariant-loop-n : goal.invariant-loop-n
+invariant-loop-n l = AreTagged l.labels l.nodes l.n l.tags × AreSeen (found l.seen) l.tags

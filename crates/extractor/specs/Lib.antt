@@ -1,0 +1,4 @@
+pub mod Naming
+pub mod Tagging
+pub mod Driving
+pub mod Extracted
