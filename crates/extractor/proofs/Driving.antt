@@ -55,9 +55,9 @@ module _ (tags : List Tag) where
       here = λ j t l is driver. elim (cases_lt j i) [
         | inl k ↦ first.here j t k is driver
         | inr k ↦ (
-          let e = same_at tags i j tag t (omega arith) at is in
-          (p, other, ap (λ (x : Tag). find x.node) (sym e) ∙ known, there, same ∙ ap (λ (x : Tag). x.name) e)
-        )
+            let e = same_at tags i j tag t (omega arith) at is in
+            (p, other, ap (λ (x : Tag). find x.node) (sym e) ∙ known, there, same ∙ ap (λ (x : Tag). x.name) e)
+            )
       ];
       apart = λ j l m. elim (cases_lt j i) [ inl k ↦ first.apart j k m | inr k ↦ alone j (omega arith) m ];
     }
@@ -77,17 +77,17 @@ module _ (tags : List Tag) where
     first_here now none driver set others = record {
       from = λ node place e. elim (cases_eq node tag.node) [
         | inl k ↦ (
-          let p : i ≡ place = same_Some i place (sym set ∙ ap now (sym k) ∙ e) in
-          (tag, omega arith, ap (slice_get tags) (sym p) ∙ at, driver, sym k)
-        )
+            let p : i ≡ place = same_Some i place (sym set ∙ ap now (sym k) ∙ e) in
+            (tag, omega arith, ap (slice_get tags) (sym p) ∙ at, driver, sym k)
+            )
         | inr k ↦ (let f = first.from node place (sym (others node k) ∙ e) in (f.0, omega (arith, f.1), f.2, f.3, f.4))
       ];
       here = λ j t l is d. elim (cases_lt j i) [
         | inl k ↦ (let f = first.here j t k is d in (f.0, f.1, others t.node (new t.node f.0 f.2) ∙ f.2, f.3, f.4))
         | inr k ↦ (
-          let e = same_at tags i j tag t (omega arith) at is in
-          (i, tag, ap (λ (x : Tag). now x.node) (sym e) ∙ set, at, ap (λ (x : Tag). x.name) e)
-        )
+            let e = same_at tags i j tag t (omega arith) at is in
+            (i, tag, ap (λ (x : Tag). now x.node) (sym e) ∙ set, at, ap (λ (x : Tag). x.name) e)
+            )
       ];
       apart = λ j l m. elim (cases_lt j i) [ inl k ↦ first.apart j k m | inr k ↦ alone j (omega arith) m ];
     }

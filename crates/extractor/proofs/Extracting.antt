@@ -56,10 +56,10 @@ module _ (shapes : List Rect) (labels : List FlatLabel) (d : Drawing) (drawn : I
   named_is n label at =
       let l = slice_get_within labels n label at in
       subst (IsNodeNamed shapes drawn.nodes label) (sym (are.each n label l at))
-        (node_named shapes drawn.nodes drawn.are_nodes label (over_at d.metal d.polysilicon d.diffusion n)
-          (entry shapes drawn.nodes labels NM d.metal drawn.on_metal n label at)
-          (entry shapes drawn.nodes labels NP d.polysilicon drawn.on_polysilicon n label at)
-          (entry shapes drawn.nodes labels ND d.diffusion drawn.on_diffusion n label at))
+      (node_named shapes drawn.nodes drawn.are_nodes label (over_at d.metal d.polysilicon d.diffusion n)
+      (entry shapes drawn.nodes labels NM d.metal drawn.on_metal n label at)
+      (entry shapes drawn.nodes labels NP d.polysilicon drawn.on_polysilicon n label at)
+      (entry shapes drawn.nodes labels ND d.diffusion drawn.on_diffusion n label at))
 
   on_node : (n : ℕ) (label : FlatLabel) (k : ℕ) → slice_get labels n ≡ Some label → get_or named n None ≡ Some k → IsOnNode shapes drawn.nodes label k
   on_node n label k at e = let P : Option ℕ → Type 0 = IsNodeNamed shapes drawn.nodes label in subst P e (named_is n label at)

@@ -32,11 +32,11 @@ module _ (labels : List FlatLabel) (metal polysilicon diffusion : List (Option �
         elim (cases_lt n i) [
           | inl k ↦ at_push nodes node none n (omega (arith, h.long)) ∙ h.each n other k there
           | inr k ↦ (
-            let e : n ≡ i = omega arith in
-            let same : label ≡ other = same_Some label other (sym at ∙ ap (slice_get labels) (sym e) ∙ there) in
-            at_push_last nodes node none n (omega (arith, h.long)) ∙ is
-                ∙ ap (λ k. named_node (over_at metal polysilicon diffusion k) label.layer) (sym e)
-                ∙ ap (λ (x : FlatLabel). named_node (over_at metal polysilicon diffusion n) x.layer) same
-          )
+              let e : n ≡ i = omega arith in
+              let same : label ≡ other = same_Some label other (sym at ∙ ap (slice_get labels) (sym e) ∙ there) in
+              at_push_last nodes node none n (omega (arith, h.long)) ∙ is
+              ∙ ap (λ k. named_node (over_at metal polysilicon diffusion k) label.layer) (sym e)
+              ∙ ap (λ (x : FlatLabel). named_node (over_at metal polysilicon diffusion n) x.layer) same
+              )
         ];
   }

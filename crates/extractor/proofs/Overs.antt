@@ -135,11 +135,11 @@ module _ (shapes : List Rect) (nodes : List Square) (labels : List FlatLabel) (l
   pub column_long : length labels ≤ length column
   column_long = elim (cases_lt (length column) (length labels)) [
     | inl k ↦ (
-      let n : ℕ = length column in
-      let at = slice_get-get_or labels n no_label k in
-      let w = over.each n (point_of (get_or labels n no_label)) (slice_get-map point_of labels n ∙ ap (option_map point_of) at) in
-      let m = slice_get_within column n w.0 w.1 in
-      absurd (omega arith)
-    )
+        let n : ℕ = length column in
+        let at = slice_get-get_or labels n no_label k in
+        let w = over.each n (point_of (get_or labels n no_label)) (slice_get-map point_of labels n ∙ ap (option_map point_of) at) in
+        let m = slice_get_within column n w.0 w.1 in
+        absurd (omega arith)
+        )
     | inr k ↦ k
   ]

@@ -94,14 +94,13 @@ module _ (labels : List FlatLabel) (nodes : List (Option ℕ)) where
             elim (push_cases tags tag n t tag_there) [
               | inl a ↦ tagged.each n other t (omega (arith, a.0, tagged.long)) there a.1
               | inr a ↦ (
-                let e : n ≡ i = a.0 ∙ tagged.long in
-                let same : label ≡ other = same_Some label other (sym at ∙ ap (slice_get labels) (sym e) ∙ there) in
-                (
-                  ap (λ (x : FlatLabel). x.offset) (sym same) ∙ is.offset ∙ ap (λ (x : Tag). x.offset) a.1,
-                  ap (λ (x : FlatLabel). x.name) (sym same) ∙ is.name ∙ ap (λ (x : Tag). x.name) a.1,
-                  ap (λ k. get_or nodes k None) e ∙ is.node_is ∙ ap (λ (x : Tag). Some x.node) a.1,
-                )
-              )
+                  let e : n ≡ i = a.0 ∙ tagged.long in
+                  let same : label ≡ other = same_Some label other (sym at ∙ ap (slice_get labels) (sym e) ∙ there) in (
+                    ap (λ (x : FlatLabel). x.offset) (sym same) ∙ is.offset ∙ ap (λ (x : Tag). x.offset) a.1,
+                    ap (λ (x : FlatLabel). x.name) (sym same) ∙ is.name ∙ ap (λ (x : Tag). x.name) a.1,
+                    ap (λ k. get_or nodes k None) e ∙ is.node_is ∙ ap (λ (x : Tag). Some x.node) a.1,
+                  )
+                  )
             ];
         one_node_each = one_each;
       }
@@ -114,9 +113,9 @@ module _ (labels : List FlatLabel) (nodes : List (Option ℕ)) where
             | inr u ↦ u ∙ seen.here t k
           ])
           | inr k ↦ (
-            let e = only_one tag t k in
-            changed t.name ∙ at_set find label.name t.name (Some tag.node) (is.name ∙ ap (λ (x : Tag). x.name) e) ∙ ap (λ (x : Tag). Some x.node) e
-          )
+              let e = only_one tag t k in
+              changed t.name ∙ at_set find label.name t.name (Some tag.node) (is.name ∙ ap (λ (x : Tag). x.name) e) ∙ ap (λ (x : Tag). Some x.node) e
+              )
         ];
         from = λ q node f. elim (at_update find label.name q (Some tag.node) (now q) (changed q)) [
           | inl u ↦ (tag, Contains-append_right tags (tag ∷ []) tag (0, omega arith, refl), sym is.name ∙ u.0, same_Some tag.node node (sym u.1 ∙ f))

@@ -34,11 +34,7 @@ fn found(seen: &BTreeMap<&[u8], u32>, name: &[u8]) -> Option<u32>
 }
 
 // Sets the node of a name.
-fn note<'a>(
-    seen: &mut BTreeMap<&'a [u8], u32>,
-    name: &'a [u8],
-    node: u32,
-) -> Result<(), AllocError>
+fn note<'a>(seen: &mut BTreeMap<&'a [u8], u32>, name: &'a [u8], node: u32) -> Result<(), AllocError>
     ensures { OnOk result ((q : List ℕ) → found seen.new q ≡ update bytes_eq (found seen.old) name.now (Some node) q) }
 {
     seen.insert(name, node)?;

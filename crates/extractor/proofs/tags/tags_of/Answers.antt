@@ -29,11 +29,10 @@ loop-n-preserved c =
     let P : List Tag → Type 0 = AreTagged labels nodes (i + 1) in
     let Q : List Tag → Type 0 = AreSeen (found c.tag_of.new.seen) in
     let one = c.loop-n.invariant.0 in
-    let two = c.loop-n.invariant.1 in
-    (
+    let two = c.loop-n.invariant.1 in (
       subst P (sym c.in_ok-push.ensures.ok) (tagged_more labels nodes i tags find one two label at tag is),
       subst Q (sym c.in_ok-push.ensures.ok)
-        (seen_more labels nodes i tags find one two label at tag is (found c.tag_of.new.seen) (c.in_ok-tag.ensures.seen tag.node is.node_is)),
+          (seen_more labels nodes i tags find one two label at tag is (found c.tag_of.new.seen) (c.in_ok-tag.ensures.seen tag.node is.node_is)),
     )
 
 pub returns-in_err-tag-clause-refused : goal.returns-in_err-tag-clause-refused
