@@ -24,3 +24,6 @@ mod touching;
 
 pub use drawing::{Drawing, draw};
 pub use piece::{Part, Piece};
+
+#[cfg(test)]
+mod tests;
