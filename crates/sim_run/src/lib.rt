@@ -1,0 +1,6 @@
+//! A circuit along a stimulus, and its transcript.
+#![tactic(auto)]
+
+mod simulation;
+
+pub use simulation::Simulation;
