@@ -36,11 +36,12 @@ fits_from : (pads : List Pad) (f : ℕ → ℕ) (a : ℕ) → ((i : ℕ) → i <
 fits_from [] f a below = tt
 fits_from (p ∷ ps) f a below =
     let P : ℕ → Type 0 = λ n. f a < 2 ^ n in
-    let Q : ℕ → Type 0 = λ n. f n < bound p in
-    (subst P (same_count p.width) (subst Q (let e : a + 0 ≡ a = omega arith in e) (below 0 (omega arith))),
-    fits_from ps f (a + 1) (λ i lt.
-        let R : ℕ → Type 0 = λ n. f n < bound_at ps i in
-        subst R (let e : a + suc i ≡ a + 1 + i = omega arith in e) (below (suc i) (omega (arith, lt)))))
+    let Q : ℕ → Type 0 = λ n. f n < bound p in (
+      subst P (same_count p.width) (subst Q (let e : a + 0 ≡ a = omega arith in e) (below 0 (omega arith))),
+      fits_from ps f (a + 1) (λ i lt.
+          let R : ℕ → Type 0 = λ n. f n < bound_at ps i in
+          subst R (let e : a + suc i ≡ a + 1 + i = omega arith in e) (below (suc i) (omega (arith, lt)))),
+    )
 
 clock_fits : (pads : List Pad) (gs : List Given) → is_fitting_clock pads gs ≡ true → Fit pads (inputs_at (length pads) gs)
 clock_fits pads gs h = fits_from pads (value_given gs) 0 (λ i lt.

@@ -17,9 +17,9 @@ returns-in_err-step-clause-printed g c =
     let L : Simulating → Type 0 = λ m. k < length (m.given).clocks in
     let H : Simulating → Type 0 = λ m. HasPads m.network (m.given).pads in
     let N : Network → Type 0 = λ net. PrintsClock net c.loop-clock.self.given k (value_at c.loop-clock.self.values) (value_at c.step.new.self.values)
-        (g.O.Sink.held c.loop-clock.out) (g.O.Sink.held c.step.new.out) (Err c.in_err-step.field-0.0) in
+    (g.O.Sink.held c.loop-clock.out) (g.O.Sink.held c.step.new.out) (Err c.in_err-step.field-0.0) in
     let S : Stimulus → Type 0 = λ s. PrintsClock old.network s k (value_at c.loop-clock.self.values) (value_at c.step.new.self.values)
-        (g.O.Sink.held c.loop-clock.out) (g.O.Sink.held c.step.new.out) (Err c.in_err-step.field-0.0) in
+    (g.O.Sink.held c.loop-clock.out) (g.O.Sink.held c.step.new.out) (Err c.in_err-step.field-0.0) in
     rw (q.1) (printed_cut old.network old.given k (value_at old.values) (value_at c.loop-clock.self.values) (value_at c.step.new.self.values)
     (g.O.Sink.held c.args.out.now) (g.O.Sink.held c.loop-clock.out) (g.O.Sink.held c.step.new.out) c.in_err-step.field-0.0 q.0
     c.circuits_run.ensures.exist (subst H c.self.view_is c.self.invariant.has_pads)
@@ -32,9 +32,9 @@ loop-clock-preserved g c =
     let k : ℕ = c.loop-clock.clock in
     let L : Simulating → Type 0 = λ m. k < length (m.given).clocks in
     let N : Network → Type 0 = λ net. PrintsClock {E = Failed} net c.loop-clock.self.given k (value_at c.loop-clock.self.values) (value_at c.step.new.self.values)
-        (g.O.Sink.held c.loop-clock.out) (g.O.Sink.held c.step.new.out) (Ok c.in_ok-step.field-0) in
+    (g.O.Sink.held c.loop-clock.out) (g.O.Sink.held c.step.new.out) (Ok c.in_ok-step.field-0) in
     let S : Stimulus → Type 0 = λ s. PrintsClock {E = Failed} old.network s k (value_at c.loop-clock.self.values) (value_at c.step.new.self.values)
-        (g.O.Sink.held c.loop-clock.out) (g.O.Sink.held c.step.new.out) (Ok c.in_ok-step.field-0) in
+    (g.O.Sink.held c.loop-clock.out) (g.O.Sink.held c.step.new.out) (Ok c.in_ok-step.field-0) in
     record {
       network = c.in_ok-step.ensures.network ∙ c.loop-clock.invariant.network;
       given = c.in_ok-step.ensures.given ∙ c.loop-clock.invariant.given;

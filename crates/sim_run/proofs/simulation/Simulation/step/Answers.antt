@@ -42,7 +42,7 @@ pub returns-clause-printed : goal.returns-clause-printed
 returns-clause-printed g c =
     let s = c.self.inside.given.now in
     let P : Simulating → Type 0 = λ m. PrintsClock m.network m.given c.args.clock (value_at m.values) (value_at c.clock.new.self.values)
-        (g.O.Sink.held c.args.out.now) (g.O.Sink.held c.line.new.out) c.line.result in
+    (g.O.Sink.held c.args.out.now) (g.O.Sink.held c.line.new.out) c.line.result in
     subst P c.self.view_is (step_prints c.self.inside.circuit.network c.self.inside.circuit.pads s c.args.clock c.inputs.new.into c.clock.new.outputs
     (value_at c.self.inside.circuit.values) (value_at c.clock.new.self.values) (g.O.Sink.held c.args.out.now) (g.O.Sink.held c.line.new.out) c.line.result
     c.self.invariant.pads (values_are _ _ c.inputs.new.into (c.inputs.ensures.len ∙ c.self.invariant.input_room) c.inputs.ensures.values)
