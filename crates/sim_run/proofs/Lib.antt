@@ -3,3 +3,4 @@ pub mod Inputs
 pub mod Printing
 pub mod Transcripts
 pub mod Stepping
+mod Examples
