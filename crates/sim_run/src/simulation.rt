@@ -9,7 +9,7 @@ ghost use Rattle.clock_run.specs.Refused.{IsRefused};
 ghost use Rattle.sim_run.specs.Simulation.{PrintsClock, PrintsTranscript};
 
 use clock_run::Circuit;
-use mp_base::{Failed, Inputs, List, Refusal, Sink, TritOutputs, TritWord};
+use mp_base::{Failed, Inputs, List, Refusal, Sink, Trit, TritOutputs, TritWord};
 use std::alloc::Global;
 use std::marker::Model;
 use stimulus::{Stimulus, line};
@@ -63,6 +63,13 @@ impl<'a> Simulation<'a> {
             inputs: List::from_vec(inputs),
             outputs: List::from_vec(outputs),
         })
+    }
+
+    /// The value of each node.
+    pub fn values(&self) -> &[Trit]
+        ensures { result.now ≡ self.now.values }
+    {
+        self.circuit.values()
     }
 
     /// Runs one clock, and prints its line.
