@@ -18,7 +18,8 @@ some_at [] i lt = absurd (omega (arith, lt))
 some_at (p ∷ ps) zero lt = let e = pow_mono {i = 0} {j = bits_of p} (omega arith) in omega (arith, e)
 some_at (p ∷ ps) (suc i) lt = some_at ps i (omega (arith, lt))
 
-value_fits : (pads : List Pad) (gs : List Given) (i : ℕ) → is_fitting_clock pads gs ≡ true → i < length pads → value_given gs i < bound_at pads i
+value_fits : (pads : List Pad) (gs : List Given) (i : ℕ) → is_fitting_clock pads gs ≡ true → i < length pads
+    → value_given gs i < bound_at pads i
 value_fits pads [] i h lt = some_at pads i lt
 value_fits pads (g ∷ gs) i h lt =
     let parts = and_parts (is_fitting pads g) _ h in
@@ -49,7 +50,8 @@ clock_fits pads gs h = fits_from pads (value_given gs) 0 (λ i lt.
     subst P (let e : i ≡ 0 + i = omega arith in e) (value_fits pads gs i h lt))
 
 -- each clock from one on
-pub clocks_fit : (pads : List Pad) (clocks : List (List Given)) (k : ℕ) → are_fitting pads clocks ≡ true → All (Fit pads) (map (inputs_at (length pads)) (drop k clocks))
+pub clocks_fit : (pads : List Pad) (clocks : List (List Given)) (k : ℕ) → are_fitting pads clocks ≡ true
+    → All (Fit pads) (map (inputs_at (length pads)) (drop k clocks))
 clocks_fit pads [] zero h i d lt = absurd (omega (arith, lt))
 clocks_fit pads [] (suc k) h i d lt = absurd (omega (arith, lt))
 clocks_fit pads (c ∷ cs) zero h zero d lt = clock_fits pads c (and_parts (is_fitting_clock pads c) (are_fitting pads cs) h).0
@@ -57,11 +59,13 @@ clocks_fit pads (c ∷ cs) zero h (suc i) d lt = clocks_fit pads cs zero (and_pa
 clocks_fit pads (c ∷ cs) (suc k) h i d lt = clocks_fit pads cs k (and_parts (is_fitting_clock pads c) (are_fitting pads cs) h).1 i d lt
 
 -- one clock
-pub given_fits : (pads : List Pad) (clocks : List (List Given)) (k : ℕ) → are_fitting pads clocks ≡ true → k < length clocks → Fit pads (inputs_at (length pads) (get_or clocks k []))
+pub given_fits : (pads : List Pad) (clocks : List (List Given)) (k : ℕ) → are_fitting pads clocks ≡ true → k < length clocks
+    → Fit pads (inputs_at (length pads) (get_or clocks k []))
 given_fits pads [] k h lt = absurd (omega (arith, lt))
 given_fits pads (c ∷ cs) zero h lt = clock_fits pads c (and_parts (is_fitting_clock pads c) (are_fitting pads cs) h).0
 given_fits pads (c ∷ cs) (suc k) h lt = given_fits pads cs k (and_parts (is_fitting_clock pads c) (are_fitting pads cs) h).1 (omega (arith, lt))
 
 -- the values that were read are those that the clock gives
-pub values_are : (gs : List Given) (n : ℕ) (values : List ℕ) → length values ≡ n → ((i : ℕ) → i < length values → get_or values i 0 ≡ value_given gs i) → values ≡ inputs_at n gs
+pub values_are : (gs : List Given) (n : ℕ) (values : List ℕ) → length values ≡ n
+    → ((i : ℕ) → i < length values → get_or values i 0 ≡ value_given gs i) → values ≡ inputs_at n gs
 values_are gs n values size are = fill_by_all (value_given gs) values n 0 size (λ i lt. are i (omega (arith, lt, size)))

@@ -29,7 +29,8 @@ step_fits pads s k values same lt are =
 -- the line of the words that it shows is its line
 pub step_prints : {T E : Type 0} (net : Network) (pads : Pads) (s : Stimulus) (k : ℕ) (values : List ℕ) (ws : List TritWord) (before after : ℕ → Trit)
     (old new : Option (List ℕ)) (r : Result T E) → pads ≡ s.pads → values ≡ inputs_at (length (s.pads).inputs) (get_or s.clocks k [])
-    → IsClock net pads values before (trits_of pads.outputs ws) after → AllZip (λ (pad : Pad) (word : TritWord). word.known < 2 ^ bit_count pad.width) pads.outputs ws
+    → IsClock net pads values before (trits_of pads.outputs ws) after
+    → AllZip (λ (pad : Pad) (word : TritWord). word.known < 2 ^ bit_count pad.width) pads.outputs ws
     → TakesAll Gains old new (words.line_text k s.pads ws) r → PrintsClock net s k before after old new r
 step_prints net pads s k values ws before after old new r same are clock narrow taken =
     let C : Pads → Type 0 = λ p. IsClock net p values before (trits_of p.outputs ws) after in

@@ -31,7 +31,8 @@ all_unknown n = λ i k. at k (cases_lt k n) i
 
 -- a trace, and another from its end
 trace_then : (net : Network) (pads : Pads) (before mid after : ℕ → Trit) (is js : List (List ℕ)) (os us : List (List (List Trit)))
-    → IsCircuitTrace net pads before is os mid → IsCircuitTrace net pads mid js us after → IsCircuitTrace net pads before (is ++ js) (os ++ us) after
+    → IsCircuitTrace net pads before is os mid → IsCircuitTrace net pads mid js us after
+    → IsCircuitTrace net pads before (is ++ js) (os ++ us) after
 trace_then net pads before mid after [] js [] us h k =
     let same : mid ≡ before = λ i n. h n i in
     let P : (ℕ → Trit) → Type 0 = λ v. IsCircuitTrace net pads v js us after in subst P same k
@@ -39,13 +40,15 @@ trace_then net pads before mid after [] js (o ∷ os) us h k = absurd h
 trace_then net pads before mid after (w ∷ is) js [] us h k = absurd h
 trace_then net pads before mid after (w ∷ is) js (o ∷ os) us h k = (h.0, h.1, trace_then net pads h.0 mid after is js os us h.2 k)
 
-lines_more : (k n : ℕ) (pads : List Pad) (os us : List (List (List Trit))) → n ≡ k + length os → lines_text k pads (os ++ us) ≡ lines_text k pads os ++ lines_text n pads us
+lines_more : (k n : ℕ) (pads : List Pad) (os us : List (List (List Trit))) → n ≡ k + length os
+    → lines_text k pads (os ++ us) ≡ lines_text k pads os ++ lines_text n pads us
 lines_more k n pads [] us is = ap (λ m. lines_text m pads us) (let e : k ≡ n = omega arith in e)
 lines_more k n pads (o ∷ os) us is =
     ap (λ text. line_text k pads o ++ text) (lines_more (suc k) n pads os us (omega arith))
     ∙ sym (append_assoc (line_text k pads o) (lines_text (suc k) pads os) (lines_text n pads us))
 
-inputs_more : (n k : ℕ) (cs : List (List Given)) → k < length cs → map (inputs_at n) (take (suc k) cs) ≡ map (inputs_at n) (take k cs) ++ inputs_at n (get_or cs k []) ∷ []
+inputs_more : (n k : ℕ) (cs : List (List Given)) → k < length cs
+    → map (inputs_at n) (take (suc k) cs) ≡ map (inputs_at n) (take k cs) ++ inputs_at n (get_or cs k []) ∷ []
 inputs_more n k [] lt = absurd (omega (arith, lt))
 inputs_more n zero (c ∷ cs) lt = refl
 inputs_more n (suc k) (c ∷ cs) lt = ap (λ is. inputs_at n c ∷ is) (inputs_more n k cs (omega (arith, lt)))
@@ -67,7 +70,8 @@ pub printed_none : (net : Network) (s : Stimulus) (v : ℕ → Trit) (x : Option
 printed_none net s v x = record { shown = []; trace = λ n. refl; long = refl; held = gains_nothing x }
 
 pub printed_more : {T E : Type 0} (net : Network) (s : Stimulus) (k : ℕ) (before now after : ℕ → Trit) (x y z : Option (List ℕ)) (u : T)
-    → k < length s.clocks → PrintedTo net s k before now x y → PrintsClock {T = T} {E = E} net s k now after y z (Ok u) → PrintedTo net s (k + 1) before after x z
+    → k < length s.clocks → PrintedTo net s k before now x y → PrintsClock {T = T} {E = E} net s k now after y z (Ok u)
+    → PrintedTo net s (k + 1) before after x z
 printed_more {T} {E} net s k before now after x y z u lt so_far c =
     let n = length (s.pads).inputs in
     let pads = (s.pads).outputs in
@@ -104,7 +108,8 @@ printed_all {T} {E} net s k before now x y u le so_far =
     }
 
 pub printed_cut : {T E : Type 0} (net : Network) (s : Stimulus) (k : ℕ) (before now after : ℕ → Trit) (x y z : Option (List ℕ)) (e f : E)
-    → TraceExists → HasPads net s.pads → k < length s.clocks → PrintedTo net s k before now x y → PrintsClock {T = T} {E = E} net s k now after y z (Err e)
+    → TraceExists → HasPads net s.pads → k < length s.clocks → PrintedTo net s k before now x y
+    → PrintsClock {T = T} {E = E} net s k now after y z (Err e)
     → PrintsTranscript {T = T} {E = E} net s before after x z (Err f)
 printed_cut {T} {E} net s k before now after x y z e f exist has lt so_far c =
     let n = length (s.pads).inputs in
@@ -120,10 +125,12 @@ printed_cut {T} {E} net s k before now after x y z e f exist has lt so_far c =
       transcript = record {
         shown = so_far.shown ++ c.shown ∷ rest.0;
         trace = subst R (inputs_split n k s.clocks lt)
-            (trace_then net s.pads before now rest.1 _ (inputs_at n (get_or s.clocks k []) ∷ js) so_far.shown (c.shown ∷ rest.0) so_far.trace (after, c.clocks, rest.2));
+            (trace_then net s.pads before now rest.1 _ (inputs_at n (get_or s.clocks k []) ∷ js) so_far.shown (c.shown ∷ rest.0)
+            so_far.trace (after, c.clocks, rest.2));
         lines = refl;
       };
       ends = tt;
       taken = subst P (sym (lines_more 0 k pads so_far.shown (c.shown ∷ rest.0) long))
-          (cut_short {T = T} e f x y z (lines_text 0 pads so_far.shown) (line_text k pads c.shown) (lines_text (suc k) pads rest.0) so_far.held c.taken);
+          (cut_short {T = T} e f x y z (lines_text 0 pads so_far.shown) (line_text k pads c.shown) (lines_text (suc k) pads rest.0)
+          so_far.held c.taken);
     }

@@ -99,7 +99,8 @@ are_known (suc n) word none k lt =
       | inr d ↦ absurd (let f = ne_eqb b 1 d in cc)
     ]
 
-text_of_bits : (n : ℕ) (word : TritWord) → word.known < 2 ^ n → cond (eqb word.known (2 ^ n - 1)) (decimal word.bits) (88 ∷ []) ≡ bits_text (low_trits n word)
+text_of_bits : (n : ℕ) (word : TritWord) → word.known < 2 ^ n
+    → cond (eqb word.known (2 ^ n - 1)) (decimal word.bits) (88 ∷ []) ≡ bits_text (low_trits n word)
 text_of_bits n word narrow = elim (cases_eq word.known (2 ^ n - 1)) [
   | inl all ↦
       let known : AreKnown word n = λ k lt. ap (λ w. bit_at w k) all ∙ bit_at_ones n k lt in
@@ -120,11 +121,13 @@ text_of_bits n word narrow = elim (cases_eq word.known (2 ^ n - 1)) [
         let most : 2 ^ n - 1 < 2 ^ n = let p = pow_pos n in omega (arith, p) in
         absurd (other (same_from_bits_below n word.known (2 ^ n - 1) narrow most (λ k lt. known k lt ∙ sym (bit_at_ones n k lt))))
 
-text_of_word : (pad : Pad) (word : TritWord) → word.known < 2 ^ bit_count pad.width → words.value_text pad word ≡ bits_text (pad_trits pad word)
+text_of_word : (pad : Pad) (word : TritWord) → word.known < 2 ^ bit_count pad.width
+    → words.value_text pad word ≡ bits_text (pad_trits pad word)
 text_of_word pad word narrow =
     ap (λ n. cond (eqb word.known (2 ^ n - 1)) (decimal word.bits) (88 ∷ [])) (same_count pad.width) ∙ text_of_bits (bit_count pad.width) word narrow
 
-texts_of_words : (pads : List Pad) (ws : List TritWord) → AllZip (λ (pad : Pad) (word : TritWord). word.known < 2 ^ bit_count pad.width) pads ws
+texts_of_words : (pads : List Pad) (ws : List TritWord)
+    → AllZip (λ (pad : Pad) (word : TritWord). word.known < 2 ^ bit_count pad.width) pads ws
     → words.pad_texts pads ws ≡ pad_texts pads (trits_of pads ws)
 texts_of_words [] [] narrow = refl
 texts_of_words [] (w ∷ ws) narrow = absurd narrow
@@ -134,6 +137,7 @@ texts_of_words (p ∷ ps) (w ∷ ws) narrow =
     ∙ ap (λ text. (32 ∷ (p.name ++ 61 ∷ bits_text (pad_trits p w))) ++ text) (texts_of_words ps ws narrow.1)
 
 -- the line of words is that of their bits
-pub line_of_words : (clock : ℕ) (pads : Pads) (ws : List TritWord) → AllZip (λ (pad : Pad) (word : TritWord). word.known < 2 ^ bit_count pad.width) pads.outputs ws
+pub line_of_words : (clock : ℕ) (pads : Pads) (ws : List TritWord)
+    → AllZip (λ (pad : Pad) (word : TritWord). word.known < 2 ^ bit_count pad.width) pads.outputs ws
     → words.line_text clock pads ws ≡ line_text clock pads.outputs (trits_of pads.outputs ws)
 line_of_words clock pads ws narrow = ap (λ text. decimal clock ++ (text ++ 10 ∷ [])) (texts_of_words pads.outputs ws narrow)

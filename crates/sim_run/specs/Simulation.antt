@@ -27,7 +27,8 @@ pub record IsReady (circuit : Running) (given : Stimulus) (inputs : List ℕ) (o
   pub few_clocks : length given.clocks < 2 ^ 32
 
 -- the transcript from these values was printed, all of it at `Ok`, with those values after, and else a first part, but not all
-pub record PrintsTranscript {T E : Type 0} (net : Network) (given : Stimulus) (before after : ℕ → Trit) (old new : Option (List ℕ)) (result : Result T E) : Type 0 where
+pub record PrintsTranscript {T E : Type 0} (net : Network) (given : Stimulus) (before after : ℕ → Trit)
+    (old new : Option (List ℕ)) (result : Result T E) : Type 0 where
   pub end : ℕ → Trit
   pub text : List ℕ
   pub transcript : IsTranscript net given before end text
@@ -35,7 +36,8 @@ pub record PrintsTranscript {T E : Type 0} (net : Network) (given : Stimulus) (b
   pub taken : TakesAll Gains old new text result
 
 -- one clock was run from these values to those, and its line was printed
-pub record PrintsClock {T E : Type 0} (net : Network) (given : Stimulus) (clock : ℕ) (before after : ℕ → Trit) (old new : Option (List ℕ)) (result : Result T E) : Type 0 where
+pub record PrintsClock {T E : Type 0} (net : Network) (given : Stimulus) (clock : ℕ) (before after : ℕ → Trit)
+    (old new : Option (List ℕ)) (result : Result T E) : Type 0 where
   pub shown : List (List Trit)
   pub clocks : IsClock net given.pads (inputs_at (length (given.pads).inputs) (slice_index_or given.clocks clock [])) before shown after
   pub taken : TakesAll Gains old new (line_text clock (given.pads).outputs shown) result
