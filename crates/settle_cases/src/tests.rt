@@ -1,8 +1,8 @@
 ghost use Rattle.std.specs.Prelude.{◌<◌};
 
-use crate::settler::Settler;
 use crate::twin::{Given, NODES, least};
 use mp_base::{List, NoMemory, Trit};
+use settle::Settler;
 use std::alloc::{AllocError, Global};
 use std::test::Fail;
 use switch_net::{Channel, ChannelKind, Network};
