@@ -97,8 +97,7 @@ module _ (windows : List Window) (f : ℕ → ℕ) (firm : AreFirm f windows) wh
       let w = is.wide in
       let at = λ (c : ℕ) (a : r.left ≤ c) (b : c < r.right). seen_some windows f c r.colour (is.each c a b) some in
       let first = at r.left (omega arith) w in
-      let last = at (r.right - 1) (omega arith) (omega arith) in
-      (
+      let last = at (r.right - 1) (omega arith) (omega arith) in (
         first.0,
         record {
           some = some;

@@ -203,7 +203,7 @@ module _ (cells : ℕ) (windows : List Window) (i : ℕ) (f : ℕ → ℕ) (apar
         after = λ c m. elim (cases_lt c w.to) [
           | inl k ↦
               seen_in (take (i + 1) windows) f c (first_in windows (i + 1) (omega arith) c (record { place = i; among = omega arith; from = m; to = k }))
-                  ∙ sym (windowed_in w.from w.to f c m k)
+              ∙ sym (windowed_in w.from w.to f c m k)
           | inr k ↦ seen_out (take (i + 1) windows) f c (more_out c (past c (omega arith)) (inr k)) ∙ sym (windowed_out w.from w.to f c (inr k))
         ];
         gap = λ c e. seen_out (take (i + 1) windows) f c (more_out c (past c (omega arith)) (inl (omega arith)));
