@@ -61,7 +61,7 @@ set_more driver nodes bits k n b first a lt is ib inside z h =
     subst (λ ns. AreSet driver ns first (set a n (Some b))) (sym (take_push nodes k n lt is))
     (set_then driver (take k nodes) (n ∷ []) first a (set a n (Some b)) h (set_one driver n b a inside e))
 
-length_bits : (n word : ℕ) → length (low_bits n word) ≡ n
+pub length_bits : (n word : ℕ) → length (low_bits n word) ≡ n
 length_bits zero word = refl
 length_bits (suc n) word = length_push_one (low_bits n word) (trit_of (bit_at word n)) ∙ ap suc (length_bits n word)
   where
