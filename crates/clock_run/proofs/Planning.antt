@@ -1,8 +1,8 @@
 -- The nodes of a plan, and why there is none.
-use Rattle.std.proofs.Common.{◌≡◌, ◌∙◌, ℕ, zero, suc, ◌+◌, ◌-◌, ◌<◌, ◌≤◌, List, [], ◌∷◌, ◌++◌, length, get_or, take, drop, refl, sym, ap, subst, arith, Some, None}
-use Rattle.std.specs.Prelude.{Contains, flat_map, slice_get, All}
+use Rattle.std.proofs.Common.{◌≡◌, ◌∙◌, ℕ, zero, suc, ◌+◌, ◌-◌, ◌<◌, ◌≤◌, List, [], ◌∷◌, ◌++◌, length, get_or, take, drop, refl, sym, ap, subst, arith, Option, Some, None}
+use Rattle.std.specs.Prelude.{flat_map, slice_get, MatchOption}
 use Rattle.std.specs.List.{AllZip}
-use Rattle.std.proofs.lemmas.List.{append-nil, length-append}
+use Rattle.std.proofs.lemmas.List.{append-nil, length-append, length-drop, take_all}
 use Rattle.mp_base.specs.declared.refusal.Refusal.{Refusal}
 use Rattle.mp_base.specs.declared.refusal.Refusal.TheVariants.{NoMemory, Broken}
 use Rattle.mp_base.specs.declared.refusal.Spot.TheVariants.{Offset}
@@ -57,3 +57,23 @@ module _ (net : Network) (pads : Pads) (nodes : List ℕ) (z : AllZip (IsLabelle
   -- there are as many nodes as labels
   pub node_count : length nodes ≡ 5 + length inner + length outer
   node_count = sym (zip_length (IsLabelled net) (chip_labels pads) nodes z) ∙ length-append (driver_labels pads.inputs) outer ∙ omega arith
+
+pub drivers_are : (pads : Pads) (ins : List Pad) (drivers shown : List (List ℕ)) → ins ≡ pads.inputs → drivers ≡ driver_labels ins → shown ≡ drivers → shown ≡ driver_labels pads.inputs
+drivers_are pads ins drivers shown i d s = s ∙ d ∙ ap (λ ps. driver_labels ps) i
+
+pub chip_is : (pads : Pads) (ins outs : List Pad) (drivers labels shown : List (List ℕ)) → ins ≡ pads.inputs → outs ≡ pads.outputs → drivers ≡ driver_labels ins
+    → labels ≡ drivers ++ flat_map bit_labels outs → shown ≡ labels → shown ≡ chip_labels pads
+chip_is pads ins outs drivers labels shown i o d l s =
+    s ∙ l ∙ ap (λ xs. xs ++ flat_map bit_labels outs) (drivers_are pads ins drivers drivers i d refl)
+    ∙ ap (λ ps. driver_labels pads.inputs ++ flat_map bit_labels ps) o
+
+pub none_met : {A : Type 0} (o : Option ℕ) (P : ℕ → Type 0) → MatchOption o A P → ((x : ℕ) → o ≡ Some x → ⊥) → A
+none_met None P h n = h
+none_met (Some x) P h n = absurd (n x refl)
+
+pub one_met : (A : Type 0) (o : Option ℕ) (P : ℕ → Type 0) (x : ℕ) → MatchOption o A P → o ≡ Some x → P x
+one_met A o P x h e = subst (λ p. MatchOption p A P) e h
+
+-- what is left behind the last bits of inputs
+pub rest_is : (nodes : List ℕ) (n : ℕ) → take (length nodes - n) (drop n nodes) ≡ drop n nodes
+rest_is nodes n = take_all (length nodes - n) (drop n nodes) (let e = length-drop n nodes in omega arith)

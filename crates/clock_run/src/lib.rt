@@ -6,7 +6,7 @@ mod drive;
 mod labels;
 mod numbers;
 mod owners;
-// mod plan;
+mod plan;
 mod resolve;
 mod setting;
 mod split;
