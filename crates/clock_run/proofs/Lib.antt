@@ -9,3 +9,4 @@ pub mod Splitting
 pub mod Planned
 pub mod Showing
 pub mod Planning
+pub mod Clocking

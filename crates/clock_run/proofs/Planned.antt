@@ -10,6 +10,7 @@ use Rattle.mp_base.specs.declared.pad.Pad.{Pad}
 use Rattle.mp_base.specs.declared.pad.Pads.{Pads}
 use Rattle.mp_base.specs.PadNames.{supplies}
 use Rattle.settle.specs.Values.{driver_at}
+use Rattle.switch_net.specs.declared.network.Tag.{Tag}
 use Rattle.switch_net.specs.declared.network.Network.{Network}
 use Rattle.switch_net.specs.Pads.{Fit, bit_count, bit_labels, low_bits, pad_bits}
 use Rattle.switch_net.specs.Clock.{Phases, Drive, drive, bit_drives, input_drives, drives, IsLabelled, AreDrivers}
@@ -66,14 +67,16 @@ among_inputs : (net : Network) (pads : List Pad) (words : List ℕ) (own : List 
 among_inputs net [] words own z d c = absurd (omega (arith, c.1))
 among_inputs net (p ∷ ps) [] own z d c = absurd (omega (arith, c.1))
 among_inputs net (p ∷ ps) (w ∷ ws) [] z d c = absurd z
-among_inputs net (p ∷ ps) (w ∷ ws) (ns ∷ own) z d c = by_part (Contains-append_cases (bit_drives (bit_labels p) (pad_bits p w)) (input_drives ps ws) d c)
+among_inputs net (p ∷ ps) (w ∷ ws) (ns ∷ own) z d c =
+    by_part (λ k. among_inputs net ps ws own z.1 d k) (Contains-append_cases (bit_drives (bit_labels p) (pad_bits p w)) (input_drives ps ws) d c)
   where
-    by_part : Contains (bit_drives (bit_labels p) (pad_bits p w)) d ⊎ Contains (input_drives ps ws) d → Among net (ns ++ flat_map (λ xs. xs) own) d.name
-    by_part (inl k) =
+    by_part : (Contains (input_drives ps ws) d → Among net (flat_map (λ xs. xs) own) d.name)
+        → Contains (bit_drives (bit_labels p) (pad_bits p w)) d ⊎ Contains (input_drives ps ws) d → Among net (ns ++ flat_map (λ xs. xs) own) d.name
+    by_part later (inl k) =
         let m = among_bits net (bit_labels p) (pad_bits p w) ns (as_many p w) z.0 d k in
         (m.0, Contains-append_left ns (flat_map (λ xs. xs) own) m.0 m.1, m.2)
-    by_part (inr k) =
-        let m = among_inputs net ps ws own z.1 d k in
+    by_part later (inr k) =
+        let m = later k in
         (m.0, Contains-append_right ns (flat_map (λ xs. xs) own) m.0 m.1, m.2)
 
 follow_inputs : (net : Network) (driver : ℕ → Option Trit) (pads : List Pad) (words : List ℕ) (own : List (List ℕ)) → Fit pads words
@@ -97,7 +100,7 @@ undriven size n = by_place (cases_lt n size)
     by_place : (n < size) ⊎ (size ≤ n) → driver_at (replicate size None) n ≡ None
     by_place (inl lt) = get_or-replicate size n None None lt
     by_place (inr le) =
-        let l : length (replicate size (None {A = Trit})) ≡ size = length-replicate size None in
+        let l : length (replicate {A = Option Trit} size None) ≡ size = length-replicate size None in
         get_or_past (replicate size None) n None (omega (arith, l, le))
 
 module _ (net : Network) (pads : Pads) (supply : List ℕ) (inputs outputs : List (List ℕ)) (plan : IsPlan net pads supply inputs outputs) (words : List ℕ)
@@ -142,3 +145,36 @@ module _ (net : Network) (pads : Pads) (supply : List ℕ) (inputs outputs : Lis
           let w = drivers.only n b e in
           let m = among w.0 w.1 in
           set.these n (subst (λ x. Contains nodes x) (one_node net w.0.name m.0 n m.2 w.2) m.1)
+
+few_bits : (width : ℕ) → width ≤ 64 → bit_count width ≤ 64
+few_bits zero h = omega arith
+few_bits (suc w) h = h
+
+-- a pad has at most 64 nodes
+pub nodes_few : (net : Network) (pads : List Pad) (own : List (List ℕ)) → AllZip (AreNodesOf net) pads own → All (λ ns. length ns ≤ 64) own
+nodes_few net [] [] z k d lt = absurd (omega (arith, lt))
+nodes_few net [] (ns ∷ own) z k d lt = absurd z
+nodes_few net (p ∷ ps) [] z k d lt = absurd z
+nodes_few net (p ∷ ps) (ns ∷ own) z zero d lt =
+    let l = zip_length (IsLabelled net) (bit_labels p) ns z.0 in
+    let w = length_labels p in
+    let f = few_bits p.width p.narrow in
+    omega (arith, l, w, f)
+nodes_few net (p ∷ ps) (ns ∷ own) z (suc k) d lt = nodes_few net ps own z.1 k d (omega (arith, lt))
+
+-- nodes that have labels are among the network's
+pub labelled_inside : (net : Network) (names : List (List ℕ)) (nodes : List ℕ) → AllZip (IsLabelled net) names nodes → All (λ n. n < net.nodes) nodes
+labelled_inside net [] [] z k d lt = absurd (omega (arith, lt))
+labelled_inside net [] (n ∷ ns) z k d lt = absurd z
+labelled_inside net (x ∷ xs) [] z k d lt = absurd z
+labelled_inside net (x ∷ xs) (n ∷ ns) z zero d lt =
+    let t = z.0 in
+    subst (λ m. m < net.nodes) (ap (λ (u : Tag). u.node) t.1.2 ∙ t.3) (net.tags_in t.1.0 t.0 t.1.1)
+labelled_inside net (x ∷ xs) (n ∷ ns) z (suc k) d lt = labelled_inside net xs ns z.1 k d (omega (arith, lt))
+
+pub nodes_inside : (net : Network) (pads : List Pad) (own : List (List ℕ)) → AllZip (AreNodesOf net) pads own → All (λ ns. All (λ n. n < net.nodes) ns) own
+nodes_inside net [] [] z k d lt = absurd (omega (arith, lt))
+nodes_inside net [] (ns ∷ own) z k d lt = absurd z
+nodes_inside net (p ∷ ps) [] z k d lt = absurd z
+nodes_inside net (p ∷ ps) (ns ∷ own) z zero d lt = labelled_inside net (bit_labels p) ns z.0
+nodes_inside net (p ∷ ps) (ns ∷ own) z (suc k) d lt = nodes_inside net ps own z.1 k d (omega (arith, lt))

@@ -1,7 +1,8 @@
 -- What output pads show, pad by pad.
-use Rattle.std.proofs.Common.{◌≡◌, ◌∙◌, ℕ, zero, suc, ◌+◌, ◌<◌, ◌^◌, List, [], ◌∷◌, ◌++◌, length, get_or, map, set, take, refl, sym, ap, subst, arith}
+use Rattle.std.proofs.Common.{◌≡◌, ◌∙◌, ℕ, zero, suc, ◌+◌, ◌<◌, ◌≤◌, ◌^◌, List, [], ◌∷◌, ◌++◌, length, get_or, map, set, take, refl, sym, ap, subst, arith}
 use Rattle.std.specs.List.{AllZip}
 use Rattle.std.proofs.Math.Seq.{take-suc-set}
+use Rattle.std.proofs.lemmas.List.{take_all}
 use Rattle.mp_base.specs.declared.value.Trit.{Trit}
 use Rattle.mp_base.specs.declared.value.TritWord.{TritWord}
 use Rattle.mp_base.specs.declared.pad.Pad.{Pad}
@@ -60,6 +61,12 @@ shown_more net values pads own words k nodes word lt room is z narrow bits h =
     here pad at inside =
         subst (λ ns. AreNodesOf net pad ns) (sym is)
         (subst (λ (p : Pad). AreNodesOf net p (get_or own k nodes)) (sym at) (zip_at (AreNodesOf net) pads own z k pad nodes inside))
+
+-- all of them
+pub all_shown : (net : Network) (values : ℕ → Trit) (pads : List Pad) (words : List TritWord) (k : ℕ) → length pads ≤ k → length words ≤ k
+    → AllZip (IsShown net values) (take k pads) (take k words) → AllZip (IsShown net values) pads words
+all_shown net values pads words k l r h =
+    subst (λ ps. AllZip (IsShown net values) ps words) (take_all k pads l) (subst (λ ws. AllZip (IsShown net values) (take k pads) ws) (take_all k words r) h)
 
 -- what all pads show
 pub all_show : (net : Network) (values : ℕ → Trit) (pads : List Pad) (words : List TritWord) → AllZip (IsShown net values) pads words

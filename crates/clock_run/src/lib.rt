@@ -1,7 +1,7 @@
 //! The circuit, clock by clock.
 #![tactic(auto)]
 
-// mod circuit;
+mod circuit;
 mod drive;
 mod labels;
 mod numbers;
@@ -12,4 +12,4 @@ mod setting;
 mod split;
 mod word;
 
-// pub use circuit::Circuit;
+pub use circuit::Circuit;
