@@ -60,7 +60,7 @@ pub settles_to : TraceExists → (net : Network) (pads : Pads) (supply : List �
 settles_to law net pads supply inputs outputs plan words fit setting size new set before after h =
     let d = drivers_in law net pads words before plan.has_pads fit setting in
     let s = set d.0 (supplies_driven net pads supply inputs outputs plan words fit (phases_of setting) d.0 d.1)
-        (inputs_driven net pads supply inputs outputs plan words fit (phases_of setting) d.0 d.1) in
+    (inputs_driven net pads supply inputs outputs plan words fit (phases_of setting) d.0 d.1) in
     let e : driver_at new ≡ d.0 = plan_drives net pads supply inputs outputs plan words fit (phases_of setting) d.0 d.1 size new s in
     record { driver = driver_at new; drivers = subst (λ f. AreDrivers net (drives (phases_of setting) pads.inputs words) f) (sym e) d.1; settled = h }
 

@@ -1,5 +1,5 @@
 -- A plan's nodes are the ones that are driven.
-use Rattle.std.proofs.Common.{◌≡◌, ◌⊎◌, inl, inr, ◌∙◌, ℕ, zero, suc, ◌+◌, ◌<◌, ◌≤◌, ◌^◌, List, [], ◌∷◌, ◌++◌, length, get_or, replicate, refl, sym, ap, subst, arith, Option, Some, None}
+use Rattle.std.proofs.Common.{◌≡◌, ◌⊎◌, inl, inr, ◌∙◌, ℕ, zero, suc, ◌<◌, ◌≤◌, List, [], ◌∷◌, ◌++◌, length, replicate, refl, sym, ap, subst, arith, Option, Some, None}
 use Rattle.std.specs.Prelude.{Contains, flat_map, All}
 use Rattle.std.specs.List.{AllZip}
 use Rattle.std.proofs.lemmas.Bool.{cases_lt}
@@ -54,9 +54,9 @@ follow_bits net driver [] (b ∷ bs) nodes l z f = absurd (omega (arith, l))
 follow_bits net driver (x ∷ xs) [] nodes l z f = absurd (omega (arith, l))
 follow_bits net driver (x ∷ xs) (b ∷ bs) [] l z f = absurd z
 follow_bits net driver (x ∷ xs) (b ∷ bs) (n ∷ ns) l z f = (
-      f (drive x b) n (0, omega arith, refl) z.0,
-      follow_bits net driver xs bs ns (omega (arith, l)) z.1 (λ d m c k. f d m (after (drive x b) (bit_drives xs bs) d c) k),
-    )
+  f (drive x b) n (0, omega arith, refl) z.0,
+  follow_bits net driver xs bs ns (omega (arith, l)) z.1 (λ d m c k. f d m (after (drive x b) (bit_drives xs bs) d c) k),
+)
 
 -- a pad has as many labels as bits
 as_many : (pad : Pad) (word : ℕ) → length (bit_labels pad) ≡ length (pad_bits pad word)

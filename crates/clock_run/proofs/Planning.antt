@@ -1,5 +1,5 @@
 -- The nodes of a plan, and why there is none.
-use Rattle.std.proofs.Common.{◌≡◌, ◌∙◌, ℕ, zero, suc, ◌+◌, ◌-◌, ◌<◌, ◌≤◌, List, [], ◌∷◌, ◌++◌, length, get_or, take, drop, refl, sym, ap, subst, arith, Option, Some, None}
+use Rattle.std.proofs.Common.{◌≡◌, ◌∙◌, ℕ, ◌+◌, ◌-◌, List, [], ◌++◌, length, take, drop, refl, sym, ap, subst, arith, Option, Some, None}
 use Rattle.std.specs.Prelude.{flat_map, slice_get, MatchOption}
 use Rattle.std.specs.List.{AllZip}
 use Rattle.std.proofs.lemmas.List.{append-nil, length-append, length-drop, take_all}
@@ -11,22 +11,20 @@ use Rattle.mp_base.specs.declared.pad.Pad.{Pad}
 use Rattle.mp_base.specs.declared.pad.Pads.{Pads}
 use Rattle.mp_base.specs.PadNames.{supplies}
 use Rattle.switch_net.specs.declared.network.Network.{Network}
-use Rattle.switch_net.specs.Pads.{bit_count, bit_labels, driver_labels, chip_labels}
+use Rattle.switch_net.specs.Pads.{bit_labels, driver_labels, chip_labels}
 use Rattle.switch_net.specs.Clock.{IsLabelled}
-use Rattle.switch_net.specs.Breaks.{HasPads, MeetsDriver, IsMissing, IsFirstOfCircuit, broken}
+use Rattle.switch_net.specs.Breaks.{MeetsDriver, IsMissing, IsFirstOfCircuit, broken}
 use Rattle.switch_net.specs.Breaks.IsFirstOfCircuit.{n3, n4}
 use Rattle.clock_run.specs.Owners.{IsFirstMeeting}
-use Rattle.clock_run.specs.Plan.{AreNodesOf, IsPlan}
 use Rattle.clock_run.specs.Refused.{IsMissingFirst, IsRefused}
 use Rattle.clock_run.proofs.Missing.{partner, place_inside}
-use Rattle.clock_run.proofs.Splitting.{length_labels}
 use Rattle.clock_run.proofs.Zips.{zip_parts, zip_length}
 
 -- no label is missing where each has a node
 pub none_missing : (net : Network) (labels : List (List ℕ)) (nodes : List ℕ) → AllZip (IsLabelled net) labels nodes → (i : ℕ) (name : List ℕ) → ¬ IsMissing net labels i name
 none_missing net labels nodes z i name m =
     let w = partner (IsLabelled net) labels [] nodes z i name (place_inside labels i name m.at)
-        (subst (λ xs. slice_get xs i ≡ Some name) (sym (append-nil labels)) m.at) in
+    (subst (λ xs. slice_get xs i ≡ Some name) (sym (append-nil labels)) m.at) in
     m.none w.1.0 w.1.1 w.1.2
 
 pub refused_n3 : (net : Network) (pads : Pads) (offset : ℕ) → IsFirstMeeting (driver_labels pads.inputs) net.tags offset → IsFirstOfCircuit net pads (broken 3 (Offset offset))

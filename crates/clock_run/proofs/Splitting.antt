@@ -40,7 +40,7 @@ module _ (pads : List Pad) (i : ℕ) (pad : Pad) (lt : i < length pads) (is : pa
   end_more start end s e =
       let more : flat (take i pads) ++ bit_labels pad ≡ flat (take i pads ++ pad ∷ []) = flat_map_more bit_labels [] (take i pads) pad in
       let l : length (flat (take i pads)) + length (bit_labels pad) ≡ length (flat (take (i + 1) pads)) =
-          sym (length-append (flat (take i pads)) (bit_labels pad)) ∙ ap (λ xs. length xs) more ∙ ap (λ ps. length (flat ps)) (sym (take_push pads i pad lt is)) in
+      sym (length-append (flat (take i pads)) (bit_labels pad)) ∙ ap (λ xs. length xs) more ∙ ap (λ ps. length (flat ps)) (sym (take_push pads i pad lt is)) in
       let w = length_labels pad in
       omega (arith, s, e, l, w)
 
@@ -58,7 +58,7 @@ module _ (pads : List Pad) (i : ℕ) (pad : Pad) (lt : i < length pads) (is : pa
       let w = length_labels pad in
       let n : length (bit_labels pad) ≡ end - start = omega (arith, e, w) in
       let parts = zip_parts (IsLabelled net) (flat (take i pads)) (bit_labels pad ++ flat (drop (suc i) pads)) nodes start (sym s)
-          (subst (λ xs. AllZip (IsLabelled net) xs nodes) in_parts z) in
+      (subst (λ xs. AllZip (IsLabelled net) xs nodes) in_parts z) in
       let here = zip_parts (IsLabelled net) (bit_labels pad) (flat (drop (suc i) pads)) (drop start nodes) (end - start) n parts.1 in
       subst (λ ps. AllZip (AreNodesOf net) ps (own ++ take (end - start) (drop start nodes) ∷ [])) (sym (take_push pads i pad lt is))
       (all_zipped_more (AreNodesOf net) (take i pads) own pad (take (end - start) (drop start nodes)) h here.0)

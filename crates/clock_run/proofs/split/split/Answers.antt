@@ -1,8 +1,5 @@
-use Rattle.std.proofs.Common.{◌≡◌, ◌∙◌, ◌+◌, ◌-◌, ◌≤◌, ℕ, List, [], ◌∷◌, ◌++◌, length, take, drop, sym, ap, subst, refl, arith, rules}
-use Rattle.std.specs.Prelude.{flat_map}
+use Rattle.std.proofs.Common.{◌∙◌, ◌+◌, ◌≤◌, ℕ, List, [], ◌∷◌, ◌++◌, length, take, sym, ap, subst, arith, rules}
 use Rattle.std.specs.List.{AllZip}
-use Rattle.std.proofs.lemmas.List.{take_all}
-use Rattle.switch_net.specs.Pads.{bit_labels}
 use Rattle.clock_run.specs.Plan.{AreNodesOf}
 use Rattle.clock_run.proofs.Splitting.{end_more, end_inside, own_more}
 use Rattle.clock_run.proofs.split.split.Goals as goal

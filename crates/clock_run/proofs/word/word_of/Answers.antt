@@ -1,4 +1,4 @@
-use Rattle.std.proofs.Common.{◌≡◌, ◌∙◌, ◌<◌, ◌^◌, ℕ, length, subst, refl, arith}
+use Rattle.std.proofs.Common.{◌≡◌, ◌∙◌, ◌<◌, ◌^◌, length, subst, refl, arith}
 use Rattle.settle.specs.Values.{value_at}
 use Rattle.clock_run.proofs.Trits.{word_more, word_all}
 use Rattle.clock_run.proofs.word.word_of.Goals as goal

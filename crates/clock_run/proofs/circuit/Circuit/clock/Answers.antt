@@ -1,14 +1,10 @@
-use Rattle.std.proofs.Common.{◌∙◌, List, subst}
+use Rattle.std.proofs.Common.{◌∙◌, subst}
 use Rattle.std.specs.List.{AllZip}
-use Rattle.mp_base.specs.declared.value.Trit.{Trit}
 use Rattle.mp_base.specs.declared.pad.Pads.{Pads}
 use Rattle.settle.specs.Values.{value_at}
 use Rattle.switch_net.specs.Clock.{Shows}
 use Rattle.clock_run.specs.Words.{trits_of}
-use Rattle.clock_run.specs.Circuit.{Running}
-use Rattle.clock_run.specs.declared.setting.Setting.{Setting}
-use Rattle.clock_run.specs.declared.setting.Setting.TheVariants.{Quiet, PhiA, PhiB, PhiC}
-use Rattle.clock_run.proofs.Clocking.{Stepped, six_settings}
+use Rattle.clock_run.proofs.Clocking.{six_settings}
 use Rattle.clock_run.proofs.circuit.Circuit.clock.Goals as goal
 
 pub returns-clause-clock : goal.returns-clause-clock
@@ -18,7 +14,7 @@ returns-clause-clock c =
     let b = c.set.new.self in
     let d = c.set-2.new.self in
     let shown : AllZip (Shows d.network (value_at d.values)) d.pads.outputs (trits_of a.pads.outputs c.show.new.outputs) =
-        subst (λ (x : Pads). AllZip (Shows d.network (value_at d.values)) d.pads.outputs (trits_of x.outputs c.show.new.outputs)) (c.set-2.ensures.pads ∙ c.set.ensures.pads) c.show.ensures.shown in
+    subst (λ (x : Pads). AllZip (Shows d.network (value_at d.values)) d.pads.outputs (trits_of x.outputs c.show.new.outputs)) (c.set-2.ensures.pads ∙ c.set.ensures.pads) c.show.ensures.shown in
     six_settings words a b d c.set-3.new.self c.set-4.new.self c.set-5.new.self c.set-6.new.self (trits_of a.pads.outputs c.show.new.outputs)
     (record { network = c.set.ensures.network; pads = c.set.ensures.pads; settled = c.set.ensures.settled })
     (record { network = c.set-2.ensures.network; pads = c.set-2.ensures.pads; settled = c.set-2.ensures.settled })

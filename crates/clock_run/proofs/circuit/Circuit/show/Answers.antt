@@ -1,9 +1,8 @@
-use Rattle.std.proofs.Common.{◌≡◌, ◌∙◌, ◌+◌, ◌<◌, ◌≤◌, ◌^◌, ℕ, List, length, get_or, map, set, take, sym, ap, subst, arith, refl}
+use Rattle.std.proofs.Common.{◌≡◌, ◌∙◌, ◌+◌, ◌<◌, ◌≤◌, ℕ, List, length, get_or, map, take, sym, ap, subst, arith}
 use Rattle.std.specs.List.{AllZip}
-use Rattle.std.proofs.lemmas.List.{get_or_default, length-set, take_all}
+use Rattle.std.proofs.lemmas.List.{get_or_default, length-set}
 use Rattle.mp_base.specs.declared.value.Trit.{Trit}
 use Rattle.mp_base.specs.declared.value.TritWord.{TritWord}
-use Rattle.mp_base.specs.declared.pad.Pad.{Pad}
 use Rattle.settle.specs.Values.{value_at}
 use Rattle.clock_run.specs.Circuit.{Running}
 use Rattle.clock_run.specs.Words.{low_trits}
@@ -57,7 +56,6 @@ loop-k-preserved c =
           (subst (λ (ws : List TritWord). AllZip (IsShown net (value_at c.self.inside.settler.values)) (take (k + 1) pads) (take (k + 1) ws)) (sym c.put.ensures)
           (shown_more net (value_at c.self.inside.settler.values) pads own outputs k nodes word lt room at c.self.invariant.planned.output c.word_of.ensures.narrow bits shown));
     }
-
 
 pub returns-clause-shown : goal.returns-clause-shown
 returns-clause-shown c =

@@ -1,9 +1,8 @@
-use Rattle.std.proofs.Common.{◌≡◌, ◌∙◌, ℕ, List, Option, Some, None, ◌++◌, replicate, length, refl, sym, ap, subst, arith, rules}
+use Rattle.std.proofs.Common.{◌≡◌, ℕ, List, Option, None, replicate, length, sym, subst, rules}
 use Rattle.std.specs.Prelude.{flat_map}
 use Rattle.std.specs.List.{AllZip}
 use Rattle.mp_base.specs.declared.value.Trit.{Trit}
 use Rattle.clock_run.specs.Driving.{IsDriven, AreDriven, AreSet}
-use Rattle.clock_run.specs.Settings.{levels, phases_of}
 use Rattle.clock_run.proofs.Driven.{set_then}
 use Rattle.clock_run.proofs.plan.Plan.drive.Goals as goal
 
