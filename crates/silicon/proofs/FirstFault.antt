@@ -1,5 +1,4 @@
 -- A command has one first fault at most.
-use Rattle.std.proofs.Common.{◌≡◌, List, ℕ, Option}
 use Rattle.std.specs.FinMap.{get}
 use Rattle.mp_base.specs.Outside.{Files, bytes_of}
 use Rattle.command_line.specs.Command.{Command, Trace, Compile, Net}
@@ -8,7 +7,7 @@ use Rattle.mask_net.specs.Masks.{OfMask}
 use Rattle.mask_net.specs.Laws.{OneVerdict as OneOfMasks}
 use Rattle.silicon.specs.Source.{OfCompiled}
 use Rattle.silicon.specs.Stimulus.{OfStimulus}
-use Rattle.silicon.specs.Faults.{IsFirstFault, SourceFault, StimulusFault, CompiledFault}
+use Rattle.silicon.specs.Faults.{IsFirstFault, SourceFault, StimulusFault}
 use Rattle.silicon.proofs.Determined.{IsDetermined, one_of_two, one_of_file}
 use Rattle.silicon.proofs.Sources.{OneSource, OneVerdict, one_program, one_of_compiled}
 use Rattle.silicon.proofs.Stimuli.{OneFirst, ReadBreaksNothing, one_of_stimulus}

@@ -58,6 +58,7 @@ fn read_text<D: Depot>(
 
 // The longest source and stimulus, and the longest file of masks, in bytes.
 const LIMIT: usize = 1048576;
+
 const MASK_LIMIT: usize = 268_435_456;
 
 /// Reads a source that breaks no rule.

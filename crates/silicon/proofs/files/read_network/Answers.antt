@@ -1,7 +1,7 @@
 use Rattle.switch_net.specs.declared.network.Network.{Network}
 use Rattle.mask_net.specs.Masks.{OfMask}
 use Rattle.silicon.specs.Faults.{MaskFault}
-use Rattle.silicon.proofs.Reasons.{judged_err, judged_ok, reason_err, of_content}
+use Rattle.silicon.proofs.Reasons.{judged_err, judged_ok, reason_err}
 use Rattle.silicon.proofs.Nets.{judged_masks}
 use Rattle.silicon.proofs.files.read_network.Goals as goal
 
