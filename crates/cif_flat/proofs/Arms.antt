@@ -1,6 +1,6 @@
 -- What is met at each kind of command.
 use Rattle.std.proofs.Common.{ℕ, ◌≡◌, ◌+◌, ◌^◌, ◌<◌, ◌≤◌, refl, sym, ◌∙◌, ap, subst, arith, inl, inr, List, [], ◌∷◌, ◌++◌, zero, suc, get_or, length, map, All, append-nil, Some, None}
-use Rattle.std.specs.Prelude.{◌≢◌, ℤ, pos, negsuc, ◌≤ℤ◌, Contains, slice_range}
+use Rattle.std.specs.Prelude.{◌≢◌, ℤ, pos, negsuc, Contains, slice_range}
 use Rattle.std.specs.List.{flat_map}
 use Rattle.std.proofs.lemmas.Int.{ints}
 use Rattle.std.proofs.lemmas.Option.{get_or_from_slice_get, slice_get_cases, slice_get_read}
@@ -12,33 +12,31 @@ use Rattle.lam_geom.specs.Moves.{IsNearRect}
 use Rattle.lam_geom.specs.declared.rect.Rect.{Rect}
 use Rattle.cif_form.specs.declared.command.Turn.{Turn}
 use Rattle.cif_form.specs.declared.command.Turn.TheVariants.{Move, MirrorX, MirrorY, Rotate}
-use Rattle.cif_flat.specs.Turning.{IsShortTurn}
+use Rattle.cif_place.specs.Turning.{IsShortTurn}
 use Rattle.cif_form.specs.declared.command.Command.{Command}
 use Rattle.cif_form.specs.declared.command.Command.TheVariants.{Finish, Polygon, Round, Box, Wire, User, Comment, Layer as SetLayer}
 use Rattle.cif_form.specs.declared.command.Item.{Item}
-use Rattle.cif_form.specs.Place.{layer_name, HasEdges, segments, AreSegments}
+use Rattle.cif_form.specs.Place.{layer_name, HasEdges, IsOnAxis, IsBox, segments, AreSegments}
 use Rattle.cif_form.specs.Walk.{Frame, Visit, Breaks}
 use Rattle.cif_form.specs.Labels.{IsLabelText, IsNoLabel}
 use Rattle.lam_geom.specs.declared.label.FlatLabel.{FlatLabel}
 use Rattle.cif_form.specs.Walk.DrawRule.{F3, F4, F7, F8}
 use Rattle.cif_form.specs.Fits.{Fits, IsSmall, point_numbers, turn_numbers}
 use Rattle.cif_form.specs.Expansion.{IsInside, item_at}
-use Rattle.cif_flat.specs.declared.edges.Edges.{Edges}
-use Rattle.cif_flat.specs.declared.edges.Extent.{Extent}
-use Rattle.cif_flat.specs.declared.fault.Fault.{Fault}
+use Rattle.cif_place.specs.declared.edges.Edges.{Edges}
+use Rattle.cif_place.specs.declared.edges.Extent.{Extent}
 use Rattle.cif_flat.specs.declared.fault.Fault.TheVariants as faults
-use Rattle.cif_flat.specs.declared.placement.Placement.{Placement}
+use Rattle.cif_place.specs.declared.placement.Placement.{Placement}
 use Rattle.cif_flat.specs.declared.level.Level.{Level}
 use Rattle.cif_flat.specs.declared.walker.Walker.{Walker}
-use Rattle.cif_flat.specs.Placing.{IsShort, IsShortPoint, IsFitRatio, IsHeld, scale_of, rect_of, place_of}
-use Rattle.cif_flat.specs.Shaping.{IsBoxEdges, IsBoxFault, IsNearAt, IsFarAt, IsStraight, HasAskewSegment, HaveEdges, drawn}
+use Rattle.cif_place.specs.Placing.{IsShort, IsShortPoint, IsFitRatio, IsHeld, scale_of, rect_of, place_of}
+use Rattle.cif_place.specs.Shaping.{IsBoxEdges, IsNearAt, IsFarAt, IsStraight, HasAskewSegment, HaveEdges, drawn}
 use Rattle.cif_flat.specs.Sound.{Unsigned}
 use Rattle.cif_flat.specs.Refusing.{RefusesWalk, refusal_of}
 use Rattle.cif_flat.specs.Walking.{frame_of, onto, IsNested, IsLevel, IsWalking, IsVisit, IsAfter}
 use Rattle.cif_flat.proofs.Rules.{never, none, first3, first4, first5, first6, first7, first8, first9, first10}
-use Rattle.cif_flat.proofs.Walks.{visit_at, stops, onward, each_last, left_next, level_of, arrive, arrive_quiet}
-use Rattle.cif_flat.proofs.Numbers.{within_more}
-use Rattle.cif_flat.proofs.Shapes.{one_box, one_wire}
+use Rattle.cif_flat.proofs.Walks.{visit_at, stops, onward, each_last, within_more, left_next, level_of, arrive, arrive_quiet}
+use Rattle.cif_place.specs.Laws.{OneBox, OneWire}
 
 -- ---- what a visit shows
 
@@ -171,17 +169,11 @@ module _ (items : List Item) (w : Walker) (v : Level) (o : ℕ) where
     abbrev box_visit : Visit
     box_visit = visit_at items w v box_item h
 
-    pub box_fault : (f : Fault) → IsBoxFault v.ratio extent center direction f → RefusesWalk items (refusal_of f o)
-    box_fault faults.F3 a = stops items w v box_item h faults.F3 (first3 box_visit a never never)
-    box_fault faults.F4 a = stops items w v box_item h faults.F4 (first4 box_visit (λ rs e. a.1 ND e.0 e.2) never never (λ b. b a.0))
-    box_fault faults.F1 a = absurd a
-    box_fault faults.F2 a = absurd a
-    box_fault faults.F5 a = absurd a
-    box_fault faults.F6 a = absurd a
-    box_fault faults.F7 a = absurd a
-    box_fault faults.F8 a = absurd a
-    box_fault faults.F9 a = absurd a
-    box_fault faults.F10 a = absurd a
+    pub box_askew : ¬ IsOnAxis direction → RefusesWalk items (refusal_of faults.F3 o)
+    box_askew a = stops items w v box_item h faults.F3 (first3 box_visit a never never)
+
+    pub box_uneven : IsOnAxis direction → ((l : Layer) (r : Rect) → ¬ IsBox (scale_of v.ratio) l extent.across extent.up center direction r) → RefusesWalk items (refusal_of faults.F4 o)
+    box_uneven a n = stops items w v box_item h faults.F4 (first4 box_visit (λ rs e. n ND e.0 e.2) never never (λ b. b a))
 
     module _ (e : Edges) (a : IsBoxEdges v.ratio extent center direction e) where
       edges_of_box : (l : Layer) → HasEdges (scale_of v.ratio) l (Box extent.across extent.up center direction) (rect_of l e ∷ [])
@@ -204,10 +196,10 @@ module _ (items : List Item) (w : Walker) (v : Level) (o : ℕ) where
         box_far far = stops items w v box_item h faults.F8 (first8 box_visit (rect_of ND e ∷ [], edges_of_box ND, λ n. far ND (All-head (λ r. IsNearRect (place_of v.placement r)) (rect_of ND e) [] n))
             never never no_f3 no_f4 never never no_f7)
 
-        module _ (near : IsNearAt v.placement e) where
+        module _ (near : IsNearAt v.placement e) (one : OneBox) where
           no_f8 : ¬ Breaks box_visit F8
           no_f8 (rs, (r, is, b), far) =
-              let same = one_box (scale_of v.ratio) ND extent.across extent.up center direction (rect_of ND e) r (a.1 ND) b in
+              let same = one (scale_of v.ratio) ND extent.across extent.up center direction (rect_of ND e) r (a.1 ND) b in
               far (subst (All (λ r. IsNearRect (place_of v.placement r))) ((λ i. same i ∷ []) ∙ sym is)
               (All-cons (λ r. IsNearRect (place_of v.placement r)) (rect_of ND e) [] (near ND) (All-nil (λ r. IsNearRect (place_of v.placement r)))))
 
@@ -254,10 +246,10 @@ module _ (items : List Item) (w : Walker) (v : Level) (o : ℕ) where
           wire_far e c far = stops items w v wire_item h faults.F8 (first8 wire_visit (map (rect_of ND) es, are ND, λ n. far ND (All-contains (λ e. IsNearRect (place_of v.placement (rect_of ND e))) es e (near_edges v.placement es n) c))
               never never no_askew_segment no_uneven never never in_limit)
 
-          module _ (near : All (IsNearAt v.placement) es) where
+          module _ (near : All (IsNearAt v.placement) es) (one : OneWire) where
             no_far : ¬ Breaks wire_visit F8
             no_far (rs, b, far) =
-                let same = one_wire (scale_of v.ratio) ND wide (segments path) (map (rect_of ND) es) rs (are ND) b in
+                let same = one (scale_of v.ratio) ND wide (segments path) (map (rect_of ND) es) rs (are ND) b in
                 far (subst (All (λ r. IsNearRect (place_of v.placement r))) same (All-map (λ r. IsNearRect (place_of v.placement r)) (rect_of ND) es
                 (All-weaker (IsNearAt v.placement) (λ e. IsNearRect (place_of v.placement (rect_of ND e))) (λ e n. n ND) es near)))
 

@@ -18,17 +18,17 @@ use Rattle.cif_flat.specs.declared.called.Composed.{Composed}
 use Rattle.cif_flat.specs.declared.fault.Fault.{Fault}
 use Rattle.cif_flat.specs.declared.fault.Fault.TheVariants as faults
 use Rattle.cif_flat.specs.declared.level.Level.{Level}
-use Rattle.cif_flat.specs.declared.placement.Placement.{Placement}
-use Rattle.cif_flat.specs.declared.ratio.Ratio.{Ratio}
+use Rattle.cif_place.specs.declared.placement.Placement.{Placement}
+use Rattle.cif_place.specs.declared.ratio.Ratio.{Ratio}
 use Rattle.cif_flat.specs.declared.symbol.Symbol.{Symbol}
-use Rattle.cif_flat.specs.declared.turned.Turned.{Turned}
+use Rattle.cif_place.specs.declared.turned.Turned.{Turned}
 use Rattle.cif_flat.specs.declared.walker.Walker.{Walker}
-use Rattle.cif_flat.specs.Placing.{IsHeld, scale_of, place_of, after}
-use Rattle.cif_flat.specs.Turning.{IsTurned, IsHeldTurned, HasUneven}
+use Rattle.cif_place.specs.Placing.{IsHeld, scale_of, place_of, after}
+use Rattle.cif_place.specs.Turning.{IsTurned, IsHeldTurned, HasUneven}
 use Rattle.cif_flat.specs.Calling.{IsCallOf, AreCalls, IsCallAt, IsCalled}
 use Rattle.cif_flat.specs.Refusing.{RefusesWalk, refusal_of}
 use Rattle.cif_flat.specs.Walking.{frame_of, symbol_of, onto, state_of, definition_of, IsNested, IsLevel, EachLevel, IsOpen, entered, Leads, IsWalking, IsVisit, rest, distance, IsAfter}
-use Rattle.cif_flat.proofs.Placements.{place_after, held_after}
+use Rattle.cif_place.specs.Laws.{AfterPlaces, AfterHolds}
 use Rattle.cif_flat.proofs.Rules.{never, none, first1, first2, first3, first4, first7, first8}
 use Rattle.cif_flat.proofs.Walks.{visit_at, stops, onward, onto_push, each_push, level_later, level_onward, left_next, stack_of, level_of, leads_step, rest_less}
 
@@ -164,7 +164,7 @@ module _ (items : List Item) (w : Walker) (v : Level) (o : ℕ) (n : ℤ) (ts : 
       call_fault faults.F10 a = absurd a
 
       module _ (p : Placement) (a : IsCalled (scale_of v.ratio) ts s.ratio w.count (Ok p)) (held : IsHeld (2 ^ 104) p) (opened : BTreeMap ℕ ℕ)
-          (here : get nat_cmp opened key ≡ Some (length w.levels.items + 1)) (others : (k : ℕ) → k ≢ key → get nat_cmp opened k ≡ get nat_cmp w.opened k) where
+          (here : get nat_cmp opened key ≡ Some (length w.levels.items + 1)) (others : (k : ℕ) → k ≢ key → get nat_cmp opened k ≡ get nat_cmp w.opened k) (places : AfterPlaces) (holds : AfterHolds) where
         abbrev outer_levels : List Level
         outer_levels = w.levels.items ++ (onward v v.layer ∷ [])
 
@@ -188,7 +188,7 @@ module _ (items : List Item) (w : Walker) (v : Level) (o : ℕ) (n : ℤ) (ts : 
             let b = a.1 in
             record {
               ratio = record { a = b.0; b = b.1; short_a = f.ratio.short_a; short_b = f.ratio.short_b };
-              held = subst (λ n. IsHeld n (after v.placement p)) (omega arith) (held_after (2 ^ 104 * w.count) (2 ^ 104) v.placement p l.held held);
+              held = subst (λ n. IsHeld n (after v.placement p)) (omega arith) (holds (2 ^ 104 * w.count) (2 ^ 104) v.placement p l.held held);
               forward = f.forward;
               within = f.within;
               nested = subst (λ k. IsNested k (slice_range items s.first s.end)) deep f.inside;
@@ -217,7 +217,7 @@ module _ (items : List Item) (w : Walker) (v : Level) (o : ℕ) (n : ℤ) (ts : 
             (λ i. record {
               definitions = h.walking.definitions;
               count = w.count + 1;
-              frames = record { symbol = Some (pos key); scale = scale_of s.ratio; layer = None; place = λ r. (ap (place_of v.placement) (a.5.2 r) ∙ sym (place_after v.placement p r)) i; left = slice_range items s.first s.end }
+              frames = record { symbol = Some (pos key); scale = scale_of s.ratio; layer = None; place = λ r. (ap (place_of v.placement) (a.5.2 r) ∙ sym (places v.placement p r)) i; left = slice_range items s.first s.end }
                   ∷ frame_of items (onward v v.layer) ∷ onto items w.levels.items [];
             }) ∙ (λ i. record { definitions = h.walking.definitions; count = w.count + 1; frames = same i })
 

@@ -17,10 +17,10 @@ use Rattle.cif_form.specs.Expansion.{Definition, Stands, IsInside, item_at}
 use Rattle.cif_form.specs.Walk.{State, Visit, at_top}
 use Rattle.cif_flat.specs.declared.fault.Fault.TheVariants as faults
 use Rattle.cif_flat.specs.declared.level.Level.{Level}
-use Rattle.cif_flat.specs.declared.ratio.Ratio.{Ratio}
+use Rattle.cif_place.specs.declared.ratio.Ratio.{Ratio}
 use Rattle.cif_flat.specs.declared.symbol.Symbol.{Symbol}
 use Rattle.cif_flat.specs.declared.walker.Walker.{Walker}
-use Rattle.cif_flat.specs.Placing.{scale_of}
+use Rattle.cif_place.specs.Placing.{scale_of}
 use Rattle.cif_flat.specs.Sound.{AreClosed, Unsigned}
 use Rattle.cif_flat.specs.Refusing.{RefusesWalk, refusal_of}
 use Rattle.cif_flat.specs.Walking.{frame_of, left_of, onto, state_of, definition_of, IsAnyRatio, IsSymbol, IsTable, IsBodySize, IsNested, IsLevel, Leads, IsWalking, IsVisit, rest, distance, IsAfter}

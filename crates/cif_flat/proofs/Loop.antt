@@ -14,7 +14,7 @@ use Rattle.cif_flat.specs.declared.level.Level.{Level}
 use Rattle.cif_flat.specs.declared.walker.Walker.{Walker}
 use Rattle.cif_flat.specs.Sound.{AreClosed}
 use Rattle.cif_flat.specs.Walking.{frame_of, onto, state_of, top, IsLevel, Leads, IsWalking, distance}
-use Rattle.cif_flat.proofs.Turns.{still}
+use Rattle.cif_place.specs.Laws.{HereLeaves}
 use Rattle.cif_flat.proofs.Walks.{onto_push, left_none, each_nil, each_front, each_push}
 
 -- ---- the start
@@ -25,7 +25,7 @@ empty_table m e k = ap (lookup (is_at (nat_cmp k))) e
 all_items : (items : List Item) → slice_range items 0 (length items) ≡ items
 all_items items = take_all (length items - 0) items (omega arith)
 
-module _ (items : List Item) (w : Walker) (closed : AreClosed false items) (symbols : w.symbols.entries ≡ []) (calls : w.calls.entries ≡ []) (count : w.count ≡ 0) (shapes : w.shapes ≡ []) (labels : w.labels ≡ []) where
+module _ (items : List Item) (w : Walker) (closed : AreClosed false items) (symbols : w.symbols.entries ≡ []) (calls : w.calls.entries ≡ []) (count : w.count ≡ 0) (shapes : w.shapes ≡ []) (labels : w.labels ≡ []) (leaves : HereLeaves) where
   abbrev level : Level
   level = top (length items)
 
@@ -33,7 +33,7 @@ module _ (items : List Item) (w : Walker) (closed : AreClosed false items) (symb
   began = λ i. record {
     definitions = [];
     count = 0;
-    frames = record { symbol = None; scale = unit; layer = None; place = λ r. sym (still r) i; left = all_items items i } ∷ [];
+    frames = record { symbol = None; scale = unit; layer = None; place = λ r. leaves r i; left = all_items items i } ∷ [];
   }
 
   first_level : IsLevel items 0 w.opened 0 level

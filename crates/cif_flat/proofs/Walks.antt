@@ -1,6 +1,7 @@
 -- The code's walk is a walk.
 use Rattle.std.proofs.Common.{ℕ, zero, suc, ◌≡◌, ◌+◌, ◌-◌, ◌*◌, ◌<◌, ◌≤◌, ◌^◌, inl, inr, refl, sym, ◌∙◌, ap, subst, arith, List, [], ◌∷◌, ◌++◌, length, take, drop, get_or, append_assoc, append-nil, Bool, false, Option, Some, None}
-use Rattle.std.specs.Prelude.{slice_range, slice_get}
+use Rattle.std.specs.Prelude.{ℤ, slice_range, slice_get}
+use Rattle.std.proofs.lemmas.Int.{ints}
 use Rattle.std.specs.BTreeMap.{BTreeMap}
 use Rattle.std.proofs.Math.Seq.{drop-cons}
 use Rattle.std.proofs.lemmas.Bool.{cases_lt}
@@ -19,11 +20,10 @@ use Rattle.cif_form.specs.Walk.WalkEnd.{Broken}
 use Rattle.cif_flat.specs.declared.fault.Fault.{Fault}
 use Rattle.cif_flat.specs.declared.level.Level.{Level}
 use Rattle.cif_flat.specs.declared.walker.Walker.{Walker}
-use Rattle.cif_flat.specs.Placing.{IsHeld}
+use Rattle.cif_place.specs.Placing.{IsWithin, IsHeld}
 use Rattle.cif_flat.specs.Sound.{AreClosed}
 use Rattle.cif_flat.specs.Refusing.{RefusesWalk, rule_of, refusal_of}
 use Rattle.cif_flat.specs.Walking.{frame_of, left_of, onto, state_of, visit_of, IsNested, IsLevel, EachLevel, Leads, IsWalking, IsVisit, rest, distance, IsAfter}
-use Rattle.cif_flat.proofs.Numbers.{within_more}
 
 -- ---- frames
 
@@ -66,6 +66,9 @@ each_push P vs v h p k d m = elim (cases_lt k (length vs)) [
 
 pub each_weaker : (P Q : ℕ → Level → Type 0) (vs : List Level) → ((k : ℕ) (v : Level) → P k v → Q k v) → EachLevel P vs → EachLevel Q vs
 each_weaker P Q vs f h k d m = f k (get_or vs k d) (h k d m)
+
+pub within_more : (m n : ℕ) (z : ℤ) → m ≤ n → IsWithin m z → IsWithin n z
+within_more m n z l h = (omega (arith, ints, h.0), omega (arith, ints, h.1))
 
 held_later : (m n : ℕ) (v : Level) → m ≤ n → IsHeld (2 ^ 104 * m) v.placement → IsHeld (2 ^ 104 * n) v.placement
 held_later m n v l h = (within_more _ _ v.placement.dx (omega arith) h.0, within_more _ _ v.placement.dy (omega arith) h.1)

@@ -18,7 +18,7 @@ use Rattle.lam_geom.specs.declared.label.FlatLabel.{FlatLabel}
 use Rattle.cif_form.specs.Text.{SignedDigits}
 use Rattle.cif_form.specs.Place.{layer_name}
 use Rattle.cif_form.specs.Labels.{IsSpace, Coordinate, IsLabelText}
-use Rattle.cif_flat.specs.Placing.{IsWithin}
+use Rattle.cif_place.specs.Placing.{IsWithin}
 use Rattle.cif_flat.specs.Labelling.{Begins, IsNextWord, Tail, IsLabelLayer}
 
 head_of : {x y : ℕ} {xs ys : List ℕ} → x ∷ xs ≡ y ∷ ys → x ≡ y

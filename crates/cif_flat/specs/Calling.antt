@@ -9,10 +9,10 @@ use Rattle.cif_form.specs.Place.{Scale, IsScale}
 use Rattle.cif_flat.specs.declared.called.Composed.{Composed}
 use Rattle.cif_flat.specs.declared.fault.Fault.{Fault}
 use Rattle.cif_flat.specs.declared.fault.Fault.TheVariants.{F3, F4, F7, F8}
-use Rattle.cif_flat.specs.declared.placement.Placement.{Placement}
-use Rattle.cif_flat.specs.declared.ratio.Ratio.{Ratio}
-use Rattle.cif_flat.specs.Placing.{scale_of}
-use Rattle.cif_flat.specs.Turning.{IsTurned, IsHeldTurned, HasAskew, HasUneven, HasFar, AreTurns}
+use Rattle.cif_place.specs.declared.placement.Placement.{Placement}
+use Rattle.cif_place.specs.declared.ratio.Ratio.{Ratio}
+use Rattle.cif_place.specs.Placing.{scale_of}
+use Rattle.cif_place.specs.Turning.{IsTurned, IsHeldTurned, HasAskew, HasUneven, HasFar, AreTurns}
 
 -- the turns of the call are those composed
 abbrev pub IsCallOf : Item → Composed → Type 0

@@ -1,6 +1,3 @@
-pub mod Placing
-pub mod Turning
-pub mod Shaping
 pub mod Sound
 pub mod Refusing
 pub mod Calling

@@ -10,11 +10,11 @@ use Rattle.cif_form.specs.Fits.{Fits}
 use Rattle.cif_form.specs.Expansion.{Definition, Stands, IsInside, item_at}
 use Rattle.cif_form.specs.Walk.{Frame, State, Visit, WalkEnd, Walks, FileWalks}
 use Rattle.cif_flat.specs.declared.level.Level.{Level}
-use Rattle.cif_flat.specs.declared.placement.Placement.{Placement}
+use Rattle.cif_place.specs.declared.placement.Placement.{Placement}
 use Rattle.cif_flat.specs.declared.symbol.Symbol.{Symbol}
 use Rattle.cif_flat.specs.declared.walker.Walker.{Walker}
-use Rattle.cif_flat.specs.declared.ratio.Ratio.{Ratio}
-use Rattle.cif_flat.specs.Placing.{IsFitRatio, scale_of, place_of, after, here, IsHeld}
+use Rattle.cif_place.specs.declared.ratio.Ratio.{Ratio}
+use Rattle.cif_place.specs.Placing.{IsFitRatio, scale_of, place_of, after, here, IsHeld}
 use Rattle.cif_flat.specs.Calling.{AreCalls}
 use Rattle.cif_flat.specs.Sound.{AreClosed}
 

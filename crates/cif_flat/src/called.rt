@@ -3,16 +3,14 @@
 ghost use Rattle.std.specs.Prelude.{◌≡◌, ◌^◌, ℕ, List, All, IfOk, OnOk};
 ghost use Rattle.cif_form.specs.declared.command.Turn.{Turn};
 ghost use Rattle.cif_form.specs.Place.{Scale};
-ghost use Rattle.cif_flat.specs.Placing.{IsFitRatio, IsHeld, scale_of};
-ghost use Rattle.cif_flat.specs.Turning.{IsShortTurn, IsTurned, IsHeldTurned};
+ghost use Rattle.cif_place.specs.Placing.{IsFitRatio, IsHeld, scale_of};
+ghost use Rattle.cif_place.specs.Turning.{IsShortTurn, IsTurned, IsHeldTurned};
 ghost use Rattle.cif_flat.specs.Calling.{AreCalls, IsCallAt, IsCalled};
 
 use crate::fault::Fault;
-use crate::placement::Placement;
-use crate::ratio::Ratio;
 use crate::table::{Table, found, set};
-use crate::turned::Turned;
 use cif_form::{Item, Turn};
+use cif_place::{Placement, Ratio, Turned};
 use std::alloc::AllocError;
 
 const WALK_LIMIT: u64 = 4_000_000;

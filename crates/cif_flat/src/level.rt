@@ -4,8 +4,7 @@ ghost use Rattle.std.specs.Prelude.{◌≡◌, ◌+◌, ◌<◌, Some};
 ghost use Rattle.cif_flat.specs.Walking.{top};
 ghost use Rattle.std.specs.Bool.{OnTrue, OnFalse};
 
-use crate::placement::Placement;
-use crate::ratio::Ratio;
+use cif_place::{Placement, Ratio};
 use lam_geom::Layer;
 
 /// A list of commands that is being walked: the body of a symbol, or the top level, which has no symbol. Its commands

@@ -1,20 +1,15 @@
-//! The flattening of CIF: calls expanded, moved and scaled.
+//! The flattening of CIF: definitions, calls, layers and labels, command by command.
 #![tactic(auto)]
 
 mod called;
-mod edges;
 mod fault;
 mod flat;
 mod label;
 mod law;
 mod layer;
 mod level;
-mod placement;
-mod ratio;
-mod shape;
 mod symbol;
 mod table;
-mod turned;
 mod walker;
 
 pub use flat::{Flat, flatten};

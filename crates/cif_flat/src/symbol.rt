@@ -1,6 +1,6 @@
 //! Definitions.
 
-use crate::ratio::Ratio;
+use cif_place::Ratio;
 
 /// A definition: its scale, and where its commands stand.
 #[derive(Clone, Copy, Drop)]

@@ -4,7 +4,7 @@ ghost use Rattle.std.specs.Prelude.{◌≡◌, ◌≢◌, ◌+◌, ◌^◌, ◌<
 ghost use Rattle.std.specs.Bool.{OnTrue, OnFalse};
 ghost use Rattle.std.specs.BTreeMap.{get};
 ghost use Rattle.std.specs.Ordering.{nat_cmp};
-ghost use Rattle.cif_flat.specs.Placing.{IsHeld};
+ghost use Rattle.cif_place.specs.Placing.{IsHeld};
 ghost use Rattle.cif_form.specs.Fits.{Fits};
 ghost use Rattle.cif_form.specs.Walk.{FileWalks};
 ghost use Rattle.cif_form.specs.Walk.WalkEnd.{Whole};
@@ -15,18 +15,18 @@ ghost use Rattle.cif_flat.specs.Walking.{EachLevel, IsNumbered, IsOpen, entered,
 ghost use Rattle.cif_flat.specs.Refusing.{RefusesWalk};
 
 use crate::called::{Composed, placement_of, turned_at};
-use crate::edges::Extent;
 use crate::fault::{Fault, broken};
 use crate::flat::Flat;
 use crate::label::label_of;
 use crate::layer::layer_named;
 use crate::level::Level;
-use crate::placement::Placement;
-use crate::ratio::Ratio;
-use crate::shape::{Wired, are_straight, box_edges, draw_wire, segment_count};
 use crate::symbol::Symbol;
 use crate::table::{Table, cut, found, set};
 use cif_form::{Command, Item, Turn};
+use cif_place::{
+    BoxFault, Extent, Placement, Ratio, Wired, are_straight, box_edges, draw_wire,
+    placements_compose, rectangles_are_determined, segment_count,
+};
 use lam_geom::{FlatLabel, Layer, Point, Rect};
 use mp_base::{List, Name, Refusal};
 use std::alloc::{AllocError, Global};
@@ -111,9 +111,11 @@ impl Walker {
         ensures ok { OnOk result (IsAfter items.now self.old level self.new) }
         ensures err { IfErr result (RefusesWalk items.now) }
     {
+        rectangles_are_determined();
         let edges = match box_edges(level.ratio, extent, *center, *direction) {
             Ok(edges) => edges,
-            Err(fault) => return Err(broken(fault, offset)),
+            Err(BoxFault::Askew) => return Err(broken(Fault::F3, offset)),
+            Err(BoxFault::Uneven) => return Err(broken(Fault::F4, offset)),
         };
         if self.count >= WALK_LIMIT {
             return Err(broken(Fault::F7, offset));
@@ -143,11 +145,19 @@ impl Walker {
         ensures ok { OnOk result (IsAfter items.now self.old level self.new) }
         ensures err { IfErr result (RefusesWalk items.now) }
     {
+        rectangles_are_determined();
         if !are_straight(path) {
             return Err(broken(Fault::F3, offset));
         }
         let layer = level.layer.unwrap_or(Layer::ND);
-        let wired = draw_wire(&mut self.shapes, level, layer, extent, path)?;
+        let wired = draw_wire(
+            &mut self.shapes,
+            level.ratio,
+            level.placement,
+            layer,
+            extent,
+            path,
+        )?;
         let weight = segment_count(path) as u64;
         match wired {
             Wired::Uneven => Err(broken(Fault::F4, offset)),
@@ -243,6 +253,7 @@ impl Walker {
         match placement_of(turned, symbol.ratio, self.count) {
             Err(fault) => Err(broken(fault, offset)),
             Ok(placement) => {
+                placements_compose();
                 self.enter(level, number, symbol, placement)?;
                 Ok(())
             }
@@ -381,6 +392,7 @@ impl Walker {
         requires { AreClosed false items.now }
         ensures { IfOk result (λ w. IsWalking items.now w w.levels.items) }
     {
+        placements_compose();
         let mut levels = Vec::new(alloc);
         levels.push(Level::top(items.len()))?;
         Ok(Walker {

@@ -15,7 +15,7 @@ use Rattle.command_line.specs.Command.{Command, begins_with_dash, form_named, fo
 use Rattle.command_line.specs.App as app
 use Rattle.command_line.specs.Read.{read_met, read_named}
 use Rattle.command_line.proofs.Plain.{fed_level, level_plain, neither, rows_plain, turn_plain, walk_stopped}
-use Rattle.command_line.proofs.Levels.{IsLevel, passes, read_at, ready, trace_level, compile_level}
+use Rattle.command_line.proofs.Levels.{IsLevel, passes, read_at, ready, trace_level, compile_level, net_level}
 
 abbrev whole : App
 whole = built app.app
@@ -94,6 +94,9 @@ trace_exact words plain = named_exact (ready app.trace) (codes "trace") words re
 compile_exact : (words : List Text) → list_any begins_with_dash words ≡ false → IsExact (codes "compile" ∷ words)
 compile_exact words plain = named_exact (ready app.compile) (codes "compile") words refl refl refl plain (compile_level words)
 
+net_exact : (words : List Text) → list_any begins_with_dash words ≡ false → IsExact (codes "net" ∷ words)
+net_exact words plain = named_exact (ready app.net) (codes "net") words refl refl refl plain (net_level words)
+
 -- a name is this one, or what holds of the others holds of it
 either : (this name : Text) (words : List Text) → IsExact (this ∷ words) → (bytes_eq this name ≡ false → IsExact (name ∷ words)) → IsExact (name ∷ words)
 either this name words here others = elim (cases_Bool (bytes_eq this name)) [
@@ -105,7 +108,8 @@ each_name : (name : Text) (words : List Text) → begins_with_dash name ≡ fals
 each_name name words first plain =
     either (codes "trace") name words (trace_exact words plain) (λ e0.
     either (codes "compile") name words (compile_exact words plain) (λ e1.
-    unknown_exact name words first (rw (e0, e1) refl) (rw (e0, e1) refl)))
+    either (codes "net") name words (net_exact words plain) (λ e2.
+    unknown_exact name words first (rw (e0, e1, e2) refl) (rw (e0, e1, e2) refl))))
 
 pub exact : (words : List Text) → list_any begins_with_dash words ≡ false → IsExact words
 exact [] plain = none_exact

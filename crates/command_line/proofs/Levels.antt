@@ -4,7 +4,7 @@ use Rattle.clap.specs.Kinds.{Kinds}
 use Rattle.clap.specs.Simple.{Shape, built_leaf, inherited}
 use Rattle.clap.specs.Walk.{Text, finished}
 use Rattle.clap.proofs.OnLiterals.{clap_on_literals}
-use Rattle.command_line.specs.Command.{Command, Trace, Compile, two}
+use Rattle.command_line.specs.Command.{Command, Trace, Compile, Net, one, two}
 use Rattle.command_line.specs.App as app
 use Rattle.command_line.specs.Read.{read_named}
 use Rattle.command_line.proofs.Plain.{fed_end, fed_level}
@@ -42,3 +42,9 @@ compile_level [] = (refl, no)
 compile_level (a ∷ []) = (refl, no)
 compile_level (a ∷ b ∷ []) = (refl, λ e. refl)
 compile_level (a ∷ b ∷ c ∷ rest) = (refl, no)
+
+pub net_level : (words : List Text) → IsLevel (ready app.net) words (one Net words)
+unfolding clap_on_literals
+net_level [] = (refl, no)
+net_level (a ∷ []) = (refl, λ e. refl)
+net_level (a ∷ b ∷ rest) = (refl, no)

@@ -17,6 +17,9 @@ trace = form (codes "trace") (codes "source" ∷ codes "stimulus" ∷ [])
 abbrev pub compile : Shape
 compile = form (codes "compile") (codes "source" ∷ codes "cif" ∷ [])
 
+abbrev pub net : Shape
+net = form (codes "net") (codes "cif" ∷ [])
+
 -- a command without subcommands
 abbrev pub alone : Shape → App
 alone shape = record { top = shape; subs = [] }
@@ -36,4 +39,4 @@ top = record bare_top { is_leaf = false }
 
 -- the program with its forms
 abbrev pub app : App
-app = record { top = top; subs = trace ∷ compile ∷ [] }
+app = record { top = top; subs = trace ∷ compile ∷ net ∷ [] }

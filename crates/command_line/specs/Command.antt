@@ -10,10 +10,16 @@ use Rattle.command_line.specs.declared.command.Command.TheVariants as rust_varia
 pub data Command : Type 0 where
   Trace : (source stimulus : List ℕ) → Command
   Compile : (source cif : List ℕ) → Command
+  Net : (cif : List ℕ) → Command
 
 abbrev pub begins_with_dash : List ℕ → Bool
 begins_with_dash [] = false
 begins_with_dash (b ∷ bs) = b == 45
+
+-- a command of exactly one word
+abbrev pub one : (List ℕ → Command) → List (List ℕ) → Option Command
+one make (a ∷ []) = Some (make a)
+one make words = None
 
 -- a command of exactly two words
 abbrev pub two : (List ℕ → List ℕ → Command) → List (List ℕ) → Option Command
@@ -25,6 +31,7 @@ abbrev pub form_named : List ℕ → List (List ℕ) → Option Command
 form_named name words =
     if bytes_eq (codes "trace") name then two Trace words
     else if bytes_eq (codes "compile") name then two Compile words
+    else if bytes_eq (codes "net") name then one Net words
     else None
 
 -- the command that words stand for, where none begins with a dash
@@ -40,3 +47,4 @@ command_of words = if list_any (λ word. begins_with_dash (string_bytes word)) w
 abbrev pub seen : rust.Command → Command
 seen (rust_variants.Trace source stimulus) = Trace source.now stimulus.now
 seen (rust_variants.Compile source cif) = Compile source.now cif.now
+seen (rust_variants.Net cif) = Net cif.now

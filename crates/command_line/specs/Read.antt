@@ -8,7 +8,11 @@ use Rattle.clap.specs.declared.ArgMatches.{ArgMatches}
 use Rattle.clap.specs.declared.Error.{Error}
 use Rattle.clap.specs.declared.error.ErrorKind.{ErrorKind}
 use Rattle.clap.specs.declared.error.ErrorKind.TheVariants.{OutOfMemory}
-use Rattle.command_line.specs.Command.{Command, Trace, Compile}
+use Rattle.command_line.specs.Command.{Command, Trace, Compile, Net}
+
+-- a command of the word that an id took
+abbrev pub read_one : (Text → Command) → Text → List Row → Option Command
+read_one make x rows = option_and_then (λ a. Some (make a)) (first_of x rows)
 
 -- a command of the words that two ids took
 abbrev pub read_two : (Text → Text → Command) → Text → Text → List Row → Option Command
@@ -19,6 +23,7 @@ abbrev pub read_named : Text → List Row → Option Command
 read_named name rows =
     if bytes_eq name (codes "trace") then read_two Trace (codes "source") (codes "stimulus") rows
     else if bytes_eq name (codes "compile") then read_two Compile (codes "source") (codes "cif") rows
+    else if bytes_eq name (codes "net") then read_one Net (codes "cif") rows
     else None
 
 -- the command of the subcommand that was met

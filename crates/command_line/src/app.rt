@@ -57,5 +57,6 @@ pub fn app<'a>(alloc: Global) -> Result<Command<'a>, AllocError>
     ensures { IfOk result (λ c. app_of c ≡ spec.app) }
 {
     let trace = with_form(alloc, top(alloc), "trace", &["source", "stimulus"])?;
-    with_form(alloc, trace, "compile", &["source", "cif"])
+    let compile = with_form(alloc, trace, "compile", &["source", "cif"])?;
+    with_form(alloc, compile, "net", &["cif"])
 }

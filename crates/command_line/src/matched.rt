@@ -5,7 +5,7 @@ ghost use Rattle.std.specs.Option.{option_map};
 ghost use Rattle.clap.specs.Words.{first_of, found_of, rows_of};
 ghost use Rattle.command_line.specs.Command as spec;
 ghost use Rattle.command_line.specs.Command.{seen};
-ghost use Rattle.command_line.specs.Read.{read_named, read_two};
+ghost use Rattle.command_line.specs.Read.{read_named, read_one, read_two};
 
 use crate::command::Command;
 use clap::ArgMatches;
@@ -29,6 +29,12 @@ fn compile<'a>(matches: &ArgMatches<'a>) -> Option<Command<'a>>
     Some(Command::Compile(text(matches, "source")?, text(matches, "cif")?))
 }
 
+fn net<'a>(matches: &ArgMatches<'a>) -> Option<Command<'a>>
+    ensures { option_map seen result ≡ read_one spec.Net (codes "cif") (rows_of (found_of matches.now)) }
+{
+    Some(Command::Net(text(matches, "cif")?))
+}
+
 /// The command that the matches of a subcommand hold, by its name.
 pub fn command_in<'a>(name: &str, matches: &ArgMatches<'a>) -> Option<Command<'a>>
     ensures { option_map seen result ≡ read_named name.now (rows_of (found_of matches.now)) }
@@ -37,6 +43,8 @@ pub fn command_in<'a>(name: &str, matches: &ArgMatches<'a>) -> Option<Command<'a
         trace(matches)
     } else if name == "compile" {
         compile(matches)
+    } else if name == "net" {
+        net(matches)
     } else {
         None
     }

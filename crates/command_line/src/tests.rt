@@ -14,14 +14,16 @@ fn owned(alloc: Global, words: &[&str]) -> Result<Vec<String>, AllocError> {
 #[test]
 fn words_in_a_form(rt: HostRuntime) -> Result<(), AllocError> {
     let alloc = rt.alloc();
-    let rows: [([&str; 3], Command<'_>); 4] = [
-        (["trace", "a", "b"], Command::Trace("a", "b")),
-        (["compile", "a", "b"], Command::Compile("a", "b")),
-        (["trace", "trace", "a b"], Command::Trace("trace", "a b")),
-        (["compile", "", "help"], Command::Compile("", "help")),
+    let rows: [(&[&str], Command<'_>); 6] = [
+        (&["trace", "a", "b"], Command::Trace("a", "b")),
+        (&["compile", "a", "b"], Command::Compile("a", "b")),
+        (&["trace", "trace", "a b"], Command::Trace("trace", "a b")),
+        (&["compile", "", "help"], Command::Compile("", "help")),
+        (&["net", "a"], Command::Net("a")),
+        (&["net", "net"], Command::Net("net")),
     ];
     for (words, wanted) in rows {
-        let words = owned(alloc, &words)?;
+        let words = owned(alloc, words)?;
         assert_eq!(rt; command_of(alloc, &words)?, Some(wanted));
     }
     Ok(())
@@ -30,7 +32,7 @@ fn words_in_a_form(rt: HostRuntime) -> Result<(), AllocError> {
 #[test]
 fn words_in_no_form(rt: HostRuntime) -> Result<(), AllocError> {
     let alloc = rt.alloc();
-    let rows: [&[&str]; 19] = [
+    let rows: [&[&str]; 21] = [
         &[],
         &[""],
         &["a", "b"],
@@ -42,6 +44,8 @@ fn words_in_no_form(rt: HostRuntime) -> Result<(), AllocError> {
         &["trace", "a", "b", "c"],
         &["compile", "a"],
         &["compile", "a", "b", ""],
+        &["net"],
+        &["net", "a", "b"],
         &["trace", "-a", "b"],
         &["compile", "a", "-"],
         &["trace", "--", "a", "b"],

@@ -1,7 +1,6 @@
 -- The first drivers of nodes, one label further.
-use Rattle.std.proofs.Common.{◌≡◌, ℕ, ◌+◌, ◌<◌, ◌≤◌, ◌⊎◌, length, inl, inr, List, [], ◌∷◌, Bool, true, false, refl, ◌∙◌, ap, sym, subst, arith}
+use Rattle.std.proofs.Common.{◌≡◌, ℕ, ◌+◌, ◌≤◌, length, inl, inr, List, Bool, true, false, refl, ◌∙◌, ap, sym, subst, arith}
 use Rattle.std.specs.Prelude.{◌≢◌, not, Option, Some, None, Contains, slice_get}
-use Rattle.std.specs.List.{list_any}
 use Rattle.std.specs.Str.{bytes_eq}
 use Rattle.std.proofs.lemmas.Bool.{cases_lt, cases_eq, false≢true, not-false}
 use Rattle.std.proofs.lemmas.List.Folds.{Any-from_list_any, list_any-from_Any}

@@ -1,10 +1,8 @@
 -- From tags of labels to the network that is drawn, or the first label that breaks a rule.
-use Rattle.std.proofs.Common.{◌≡◌, ℕ, zero, suc, ◌+◌, ◌<◌, ◌≤◌, ◌⊎◌, inl, inr, List, [], ◌∷◌, length, get_or, map, refl, sym, ◌∙◌, ap, subst, arith}
-use Rattle.std.specs.Prelude.{◌≢◌, ℤ, All, Option, Some, None, MatchOption, Contains, slice_get}
+use Rattle.std.proofs.Common.{◌≡◌, ℕ, zero, suc, ◌<◌, inl, inr, List, [], ◌∷◌, length, get_or, map, refl, sym, ◌∙◌, ap, subst, arith}
+use Rattle.std.specs.Prelude.{All, Option, Some, None, Contains, slice_get}
 use Rattle.std.specs.List.{AllZip}
-use Rattle.std.proofs.lemmas.Bool.{cases_lt}
-use Rattle.std.proofs.lemmas.Option.{same_Some, slice_get-get_or, slice_get_within, get_or_from_slice_get}
-use Rattle.mp_base.specs.PadNames.{supplies}
+use Rattle.std.proofs.lemmas.Option.{slice_get-get_or, slice_get_within, get_or_from_slice_get}
 use Rattle.mp_base.specs.declared.refusal.Broken.{Broken}
 use Rattle.mp_base.specs.declared.refusal.Refusal.{Refusal}
 use Rattle.mp_base.specs.declared.refusal.Refusal.TheVariants as refusals
@@ -17,7 +15,7 @@ use Rattle.switch_net.specs.declared.network.Channel.{Channel}
 use Rattle.switch_net.specs.declared.network.Tag.{Tag}
 use Rattle.switch_net.specs.declared.network.Network.{Network}
 use Rattle.switch_net.specs.Conductors.{Joined}
-use Rattle.switch_net.specs.Drawn.{IsChannelAt, IsEnd, IsNetwork, IsOfNode, IsTag}
+use Rattle.switch_net.specs.Drawn.{IsChannelAt, IsOfNode, IsTag}
 use Rattle.switch_net.specs.Breaks.{BreaksAt, IsFirstOfMask, IsOnTwoNodes}
 use Rattle.switch_net.specs.Breaks.BreaksAt.{one, two}
 use Rattle.switch_net.specs.Breaks.IsFirstOfMask.{n1, n2}
@@ -26,7 +24,7 @@ use Rattle.switch_net.specs.OneNode.{AreAmong}
 use Rattle.std.proofs.lemmas.List.{get_or_default}
 use Rattle.mask_nodes.specs.declared.drawing.Drawing.{Drawing}
 use Rattle.mask_nodes.specs.Drawn.{IsDrawn}
-use Rattle.extractor.specs.Naming.{AreNamed, named_node, over_at, point_of}
+use Rattle.extractor.specs.Naming.{AreNamed, over_at, point_of}
 use Rattle.extractor.specs.Tagging.{AreTagged, IsTwice, IsUnnamed, RefusesFirst}
 use Rattle.extractor.specs.Extracted.{IsLabelled, RefusesMask}
 use Rattle.extractor.proofs.Naming.{no_label}

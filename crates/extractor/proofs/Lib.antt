@@ -4,3 +4,4 @@ mod Driving
 mod Nodes
 mod Overs
 mod Extracting
+mod Finishing

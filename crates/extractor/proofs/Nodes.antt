@@ -1,6 +1,6 @@
 -- Squares of nodes, and the squares that labels name.
 use Rattle.std.proofs.Common.{◌≡◌, ℕ, zero, suc, ◌<◌, ◌⊎◌, inl, inr, List, length, get_or, refl, sym, ◌∙◌, ap, subst, subst₂, arith}
-use Rattle.std.specs.Prelude.{◌≢◌, ℤ, All, Option, Some, None, Contains}
+use Rattle.std.specs.Prelude.{◌≢◌, ℤ, Option, Some, None, Contains}
 use Rattle.std.proofs.lemmas.Bool.{cases_lt}
 use Rattle.std.proofs.lemmas.List.{get_or_default}
 use Rattle.lam_geom.specs.declared.layer.Layer.{Layer}
@@ -8,7 +8,7 @@ use Rattle.lam_geom.specs.declared.layer.Layer.TheVariants.{ND, NP, NC, NM, NI, 
 use Rattle.lam_geom.specs.declared.label.FlatLabel.{FlatLabel}
 use Rattle.lam_geom.specs.Chains.{Chain}
 use Rattle.lam_geom.specs.Chains.Chain.{here, link}
-use Rattle.lam_geom.specs.Squares.{Square, Adjoin, Before, rank}
+use Rattle.lam_geom.specs.Squares.{Square, Adjoin, rank}
 use Rattle.switch_net.specs.Conductors.{Conducts, Contact, Joined}
 use Rattle.switch_net.specs.Conductors.Joined.{beside, contact}
 use Rattle.switch_net.specs.Drawn.{AreNodes, IsOfNode}

@@ -1,6 +1,6 @@
 -- The node that a label names, from the nodes over its place.
 use Rattle.std.proofs.Common.{◌≡◌, ℕ, ◌<◌, ◌≤◌, inl, inr, List, length, get_or, map, refl, sym, ◌∙◌, ap, subst, arith}
-use Rattle.std.specs.Prelude.{ℤ, Option, Some, None, MatchOption, slice_get}
+use Rattle.std.specs.Prelude.{Option, Some, None, MatchOption, slice_get}
 use Rattle.std.proofs.lemmas.Bool.{cases_lt}
 use Rattle.std.proofs.lemmas.Option.{slice_get-map, slice_get-get_or, slice_get_within, get_or_from_slice_get}
 use Rattle.std.specs.Option.{option_map}

@@ -2,5 +2,10 @@
 #![tactic(auto)]
 
 mod drivers;
+mod extraction;
 mod over;
 mod tags;
+#[cfg(test)]
+mod tests;
+
+pub use extraction::extract;

@@ -206,6 +206,14 @@ rows_are_in xs ys places spots n e up h = λ k d l.
     let w = (in_cell ys (get_or places s.index no_place).y up).within in
     omega arith
 
+pub cells_are_in : (xs ys : List ℤ) (places : List Point) (spots : List Spot) (n : ℕ) → n ≡ length xs + 1 → Ascending xs → AreSpots xs ys places spots
+    → All (λ s. s.cell < n) spots
+cells_are_in xs ys places spots n e up h = λ k d l.
+    let s = get_or spots k d in
+    let a = ap (λ (q : Spot). q.cell) ((h.each k d l).1 no_place) in
+    let w = (in_cell xs (get_or places s.index no_place).x up).within in
+    omega arith
+
 pub tiles_more : (xs ys : List ℤ) (strips : List Strip) (i : ℕ) (d : Strip) (tiles : List Tile) (t : Tile) → i < length strips
     → tiles ≡ map (tile_of xs ys) (take i strips) → t ≡ tile_of xs ys (get_or strips i d)
     → tiles ++ t ∷ [] ≡ map (tile_of xs ys) (take (i + 1) strips)

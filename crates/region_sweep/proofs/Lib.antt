@@ -1,6 +1,7 @@
 mod Axes
 mod Blocks
 mod Painting
+mod Siding
 mod Squares
 mod Stretches
 mod Tilings

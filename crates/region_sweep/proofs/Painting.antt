@@ -1,6 +1,6 @@
 -- The colours that blocks make.
 use Rattle.std.proofs.Common.{ℕ, ◌≡◌, ◌+◌, ◌<◌, ◌≤◌, List, Bool, true, false, true≢false, inl, inr, refl, sym, ◌∙◌, subst, arith, length}
-use Rattle.std.specs.Prelude.{nat_le, nat_lt, ◌&&◌}
+use Rattle.std.specs.Prelude.{nat_le, nat_lt}
 use Rattle.std.specs.Bool.{Decides}
 use Rattle.std.proofs.lemmas.Bool.Decides.{Decides-and, Decides-like, Decides-ltb, Decides-by_or, same_from_decides, nat_tests}
 use Rattle.std.proofs.lemmas.Bool.{cases_lt}
@@ -12,7 +12,7 @@ use Rattle.mask_runs.specs.declared.mask.Mask.{Mask}
 use Rattle.mask_runs.specs.declared.mask.Mask.TheVariants.{Only, Diffusion, Contacts}
 use Rattle.mask_runs.specs.Colours.{bare, has, uses, colour_of}
 use Rattle.mask_runs.specs.Laws.{ColoursByLayers}
-use Rattle.cover_tree.specs.Covers.{Cover, layers_at, row_colour, windowed}
+use Rattle.cover_tree.specs.Covers.{Cover, layers_at, row_colour}
 use Rattle.region_sweep.specs.declared.block.Block.{Block}
 use Rattle.region_sweep.specs.Blocks.{covers, is_covered, layers_over, painted, IsInside, AreStacked}
 use Rattle.region_sweep.specs.Rows.{block, no_block, AreRaised}
@@ -74,7 +74,7 @@ covered_decides blocks l y c = Decides-like (is_covered blocks l y c)
     (λ h. (h.0, h.1, λ d. subst (λ b. CoversCell b l y c) (get_or_default blocks h.0 no_block d h.1) h.2))
     (Decides-by_or (λ b. covers b l y c) (λ b. CoversCell b l y c) (λ bs. is_covered bs l y c) (λ b. covers_decides b l y c) refl (λ _ _. refl) blocks)
 
-has_over : (blocks : List Block) (y c : ℕ) (l : Layer) → has (layers_over blocks y c) l ≡ is_covered blocks l y c
+pub has_over : (blocks : List Block) (y c : ℕ) (l : Layer) → has (layers_over blocks y c) l ≡ is_covered blocks l y c
 has_over blocks y c ND = refl
 has_over blocks y c NP = refl
 has_over blocks y c NC = refl
@@ -169,13 +169,3 @@ pub row_painted : ColoursByLayers → (blocks : List Block) (row raised : ℕ) (
     → ((k : ℕ) → raised ≤ k → k < length blocks → row < (block blocks k).low) → row_colour cover row c ≡ painted cover.mask blocks row c
 row_painted law blocks row raised cover c h rest = painted_is law cover.mask blocks row c (layers_at cover row c)
     (λ l u. has_at cover row c l ∙ same_from_decides _ _ (tops_tell blocks row raised cover l c h rest) (covered_decides blocks l row c))
-
-window_at : (cells : ℕ) (f g : ℕ → ℕ) (c : ℕ) → f c ≡ g c → (cells ≤ c → g c ≡ 0) → windowed 0 cells f c ≡ g c
-window_at cells f g c same blank = elim (cases_lt c cells) [
-  | inl l ↦ let e : (nat_le 0 c && nat_lt c cells) ≡ true = grind (arith, nat_tests) in rw e same
-  | inr l ↦ let e : (nat_le 0 c && nat_lt c cells) ≡ false = grind (arith, nat_tests) in rw e (sym (blank l))
-]
-
--- all cells of the row are in the window
-pub whole_window : (cells : ℕ) (f g : ℕ → ℕ) → ((c : ℕ) → f c ≡ g c) → ((c : ℕ) → cells ≤ c → g c ≡ 0) → windowed 0 cells f ≡ g
-whole_window cells f g same blank = λ i c. window_at cells f g c (same c) (blank c) i

@@ -1,37 +1,41 @@
 -- From one row to the next.
-use Rattle.std.proofs.Common.{ℕ, ◌≡◌, ◌+◌, ◌-◌, ◌<◌, ◌≤◌, ◌⊎◌, List, [], true, false, Some, None, Option, inl, inr, refl, sym, ap, ◌∙◌, subst, arith, length, get_or, set, max, eq-or-lt_of_le, get_or-set_other, get_or-set_same, leb}
+use Rattle.std.proofs.Common.{ℕ, ◌≡◌, ◌+◌, ◌-◌, ◌<◌, ◌≤◌, ◌⊎◌, List, Some, None, Option, inl, inr, refl, sym, ap, ◌∙◌, subst, arith, length, get_or, set, max, eq-or-lt_of_le, get_or-set_other, get_or-set_same}
 use Rattle.std.specs.Prelude.{All}
-use Rattle.std.specs.List.Sorted.{IsNonDecreasingBy, IsPartitionPoint, IsPartitionedBy}
-use Rattle.std.proofs.lemmas.Bool.{cases_lt, cases_eq, cases_order}
-use Rattle.std.proofs.lemmas.List.{get_or_default}
-use Rattle.std.proofs.lemmas.List.Sorted.{IsPartitionedBy-leb}
-use Rattle.std.proofs.Common.{leb-true, leb-false}
+use Rattle.std.specs.List.Sorted.{IsNonDecreasingBy}
+use Rattle.std.proofs.lemmas.Bool.{cases_lt, cases_eq, cases_Bool}
+use Rattle.row_windows.specs.declared.edge.Edge.{Edge}
+use Rattle.row_windows.specs.declared.window.Window.{Window}
+use Rattle.row_windows.specs.Windows.{edge, seen, in_windows, IsGuarded, ChangeAt, TellChange}
+use Rattle.region_sweep.specs.Sides.{AreSides}
+use Rattle.region_sweep.proofs.Siding.{IsRow, part, same_paint}
 use Rattle.mask_runs.specs.declared.mask.Mask.{Mask}
 use Rattle.mask_runs.specs.declared.run.Run.{Run}
 use Rattle.mask_runs.specs.Runs.{IsRun, AreRuns}
 use Rattle.mask_runs.specs.Laws.{ColoursByLayers}
-use Rattle.cover_tree.specs.Covers.{Cover, IsBare, IsRaised, row_colour, windowed}
+use Rattle.cover_tree.specs.Covers.{Cover, IsBare, IsRaised, row_colour}
 use Rattle.strip_rows.specs.declared.rows.StripRows.{StripRows}
 use Rattle.strip_rows.specs.declared.strip.Strip.{Strip}
-use Rattle.strip_rows.specs.Missing.{run, no_run}
 use Rattle.strip_rows.specs.Changes.{LieInRow, IsChange}
 use Rattle.strip_rows.specs.Swept.{strips_of, cells_of, IsOpenAt, IsSwept, KeepNumbers}
 use Rattle.region_sweep.specs.declared.block.Block.{Block}
 use Rattle.region_sweep.specs.declared.spot.Spot.{Spot}
 use Rattle.region_sweep.specs.Blocks.{painted, AreStacked}
 use Rattle.region_sweep.specs.Rows.{block, no_block, spot, no_spot, ReachesOver, AreFit, AreRaised, AreAsked, IsFront, IsAnswer, AreAnswered}
-use Rattle.region_sweep.proofs.Painting.{row_painted, whole_window, blank_left, blank_right, blank_below}
+use Rattle.region_sweep.proofs.Painting.{row_painted, blank_right, blank_below}
 use Rattle.region_sweep.proofs.Squares.{layer_or_not}
-use Rattle.region_sweep.proofs.Stretches.{run_around}
 
 -- what is known of the rows up to one, in the middle of the loop
-pub record IsAt (mask : Mask) (cells : ℕ) (blocks : List Block) (row : ℕ) (cover : Cover) (strips : StripRows) (runs : List Run) (raised : ℕ)
+pub record IsAt (mask : Mask) (cells : ℕ) (blocks : List Block) (row : ℕ) (cover : Cover) (strips : StripRows) (raised : ℕ) (sides : List Edge) (begun : ℕ)
     (spots : List Spot) (answered : ℕ) (found : List (Option ℕ)) : Type 0 where
   pub mask_same : cover.mask ≡ mask
   pub wide : cover.cells ≡ cells
   pub as_wide : cells_of strips ≡ cells
   pub raised_are : AreRaised blocks row raised cover
-  pub front : IsFront (painted mask blocks) row strips runs
+  pub rest : (k : ℕ) → raised ≤ k → k < length blocks → row < (block blocks k).low
+  pub swept : IsSwept (painted mask blocks) row strips
+  pub begun_in : begun ≤ length sides
+  pub past : (k : ℕ) → k < begun → (edge sides k).row ≤ row
+  pub ahead : (k : ℕ) → begun ≤ k → k < length sides → row < (edge sides k).row
   pub answers : AreAnswered (painted mask blocks) (strips_of strips) spots answered found
   pub waiting : (j : ℕ) → answered ≤ j → j < length spots → row < (spot spots j).row
 
@@ -131,46 +135,41 @@ runs_lie colour cells runs h last = record {
   ascending = h.ascending;
 }
 
--- all runs of a row and of the next are a change
-pub whole_change : (colour : ℕ → ℕ → ℕ) (y : ℕ) (old new : List Run) → AreRuns (colour y) old → AreRuns (colour (y + 1)) new → IsChange colour y old new
-whole_change colour y old new h g = record {
-  lasts = h.each;
-  firsts = g.each;
-  goes = λ r is. inl (h.all r is);
-  comes = λ r is. inl (g.all r is);
-  stays = λ r a b. (λ _. g.all r b, λ _. h.all r a);
-  beside = λ p q a b e n. g.all p a;
-}
+-- the tree has the colours of the row whose blocks are raised
+pub tree_tells : ColoursByLayers → (mask : Mask) (blocks : List Block) (row raised : ℕ) (cover : Cover) → cover.mask ≡ mask → AreRaised blocks row raised cover
+    → ((k : ℕ) → raised ≤ k → k < length blocks → row < (block blocks k).low) → (c : ℕ) → painted mask blocks row c ≡ row_colour cover row c
+tree_tells law mask blocks row raised cover e h rest c =
+    sym (subst (λ m. row_colour cover row c ≡ painted m blocks row c) e (row_painted law blocks row raised cover c h rest))
 
--- what the tree tells of the row are the runs of the row
-pub row_runs : ColoursByLayers → (mask : Mask) (cells rows : ℕ) (blocks : List Block) (row raised : ℕ) (cover : Cover) (runs : List Run) → cover.mask ≡ mask
-    → AreStacked mask cells rows blocks → AreRaised blocks row raised cover
-    → ((k : ℕ) → raised ≤ k → k < length blocks → row < (block blocks k).low)
-    → AreRuns (windowed 0 cells (row_colour cover row)) runs → AreRuns (painted mask blocks row) runs
-row_runs law mask cells rows blocks row raised cover runs e st h rest are =
-    let same : (c : ℕ) → row_colour cover row c ≡ painted mask blocks row c = λ c.
-    subst (λ m. row_colour cover row c ≡ painted m blocks row c) e (row_painted law blocks row raised cover c h rest) in
-    let w = whole_window cells (row_colour cover row) (painted mask blocks row) same
-    (λ c l. blank_right law mask cells rows blocks row c st (omega arith)) in
-    subst (λ f. AreRuns f runs) w are
+pub front_at : ColoursByLayers → (mask : Mask) (blocks : List Block) (row raised : ℕ) (cover : Cover) (strips : StripRows) → cover.mask ≡ mask
+    → AreRaised blocks row raised cover → ((k : ℕ) → raised ≤ k → k < length blocks → row < (block blocks k).low)
+    → IsSwept (painted mask blocks) row strips → IsFront (painted mask blocks) row strips cover
+front_at law mask blocks row raised cover strips e h rest swept = record { swept = swept; same = tree_tells law mask blocks row raised cover e h rest }
 
-no_runs : (colour : ℕ → ℕ) → ((c : ℕ) → colour c ≡ 0) → AreRuns colour []
-no_runs colour blank = record {
-  each = λ k d l. absurd (omega arith);
-  all = λ r is. let e = is.each r.left (omega arith) is.wide in let z = blank r.left in let s = is.some in absurd (omega arith);
-  ascending = λ i j d l m. absurd (omega arith);
-}
+-- the last cell has no colour in the tree
+pub guarded : ColoursByLayers → (mask : Mask) (cells rows : ℕ) (blocks : List Block) (row raised : ℕ) (cover : Cover) → AreStacked mask cells rows blocks
+    → cover.mask ≡ mask → cover.cells ≡ cells → AreRaised blocks row raised cover
+    → ((k : ℕ) → raised ≤ k → k < length blocks → row < (block blocks k).low) → IsGuarded cover row
+guarded law mask cells rows blocks row raised cover st e w h rest = λ c l.
+    sym (tree_tells law mask blocks row raised cover e h rest c) ∙ blank_right law mask cells rows blocks row c st (omega arith)
 
-pub nothing_swept : ColoursByLayers → (mask : Mask) (cells rows : ℕ) (blocks : List Block) (strips : StripRows) → AreStacked mask cells rows blocks
-    → cells_of strips ≡ cells → ((colour : ℕ → ℕ → ℕ) → ((c : ℕ) → colour 0 c ≡ 0) → IsSwept colour 0 strips) → IsFront (painted mask blocks) 0 strips []
-nothing_swept law mask cells rows blocks strips st e h =
-    let blank = λ (c : ℕ). blank_below law mask cells rows blocks c st in
-    record {
-      swept = h (painted mask blocks) blank;
-      runs = no_runs (painted mask blocks 0) blank;
-      first = blank 0;
-      last = λ c l. blank c;
-    }
+-- runs in windows as those of the row that is painted
+pub runs_painted : ColoursByLayers → (mask : Mask) (blocks : List Block) (row raised : ℕ) (cover : Cover) (windows : List Window) (runs : List Run)
+    → cover.mask ≡ mask → AreRaised blocks row raised cover → ((k : ℕ) → raised ≤ k → k < length blocks → row < (block blocks k).low)
+    → AreRuns (seen windows (row_colour cover row)) runs → AreRuns (seen windows (painted mask blocks row)) runs
+runs_painted law mask blocks row raised cover windows runs e h rest are =
+    let same : row_colour cover row ≡ painted mask blocks row = λ i c. sym (tree_tells law mask blocks row raised cover e h rest c) i in
+    subst (λ f. AreRuns (seen windows f) runs) same are
+
+seen_blank : (windows : List Window) (f : ℕ → ℕ) (c : ℕ) → f c ≡ 0 → seen windows f c ≡ 0
+seen_blank windows f c e = elim (cases_Bool (in_windows windows c)) [ inl t ↦ rw t e | inr t ↦ rw t refl ]
+
+-- and they lie in the row
+pub lie_in : ColoursByLayers → (mask : Mask) (cells rows : ℕ) (blocks : List Block) (row wide : ℕ) (windows : List Window) (runs : List Run)
+    → AreStacked mask cells rows blocks → wide ≡ cells → AreRuns (seen windows (painted mask blocks row)) runs → LieInRow wide runs
+lie_in law mask cells rows blocks row wide windows runs st e are =
+    subst (λ n. LieInRow n runs) (sym e) (runs_lie (seen windows (painted mask blocks row)) cells runs are
+    (λ c l. seen_blank windows (painted mask blocks row) c (blank_right law mask cells rows blocks row c st (omega arith))))
 
 still_answer : (colour : ℕ → ℕ → ℕ) (old new : List Strip) (p : Spot) → KeepNumbers old new → (a : Option ℕ) → IsAnswer colour old p a → IsAnswer colour new p a
 still_answer colour old new p k None h = h
@@ -223,77 +222,23 @@ answered_more colour strips spots n found a asked l h is = record {
       ];
 }
 
--- the run that ends first after a cell has it, or none has
-right_rises : (cells : ℕ) (runs : List Run) → LieInRow cells runs → IsNonDecreasingBy (λ r. r.right) runs
-right_rises cells runs h i j d l m = elim (eq-or-lt_of_le l) [
-  | inl e ↦ let q = ap (λ k. (get_or runs k d).right) e in omega arith
-  | inr p ↦ let a = h.ascending i j d p m in let w = h.wide j d m in omega arith
-]
-
-pub parted_at : (cells : ℕ) (runs : List Run) (cell : ℕ) → LieInRow cells runs → IsPartitionedBy (λ r. leb r.right cell) runs
-parted_at cells runs cell h = IsPartitionedBy-leb (λ r. r.right) runs cell (right_rises cells runs h)
-
-pub none_there : (colour : ℕ → ℕ → ℕ) (strips : StripRows) (runs : List Run) (p : Spot) (place : ℕ) → LieInRow (cells_of strips) runs
-    → IsPartitionPoint (λ r. leb r.right p.cell ≡ true) (λ r. leb r.right p.cell ≡ false) runs place
-    → (place < length runs → p.cell < (run runs place).left) → IsFront colour p.row strips runs → colour p.row p.cell ≡ 0
-none_there colour strips runs p place lie point beyond front = elim (cases_lt 0 (colour p.row p.cell)) [
-  | inr z ↦ omega arith
-  | inl some ↦
-      let r = run_around (colour p.row) (cells_of strips) p.cell front.first front.last some in
-      let has = front.runs.all r.0 r.1 in
-      let k = has.0 in
-      let left = ap (λ (q : Run). q.left) has.2 in
-      let right = ap (λ (q : Run). q.right) has.2 in
-      let a = r.2 in
-      let b = r.3 in
-      absurd (elim (cases_order k place) [
-        | inl e ↦
-            let c = beyond (omega arith) in
-            let at : (run runs k).left ≡ r.0.left = ap (λ (q : Run). q.left) (get_or_default runs k no_run r.0 has.1 ∙ has.2) in
-            let q = ap (λ j. (run runs j).left) e in
-            omega arith
-        | inr (inl l) ↦ let t = leb-true _ _ (point.0 k r.0 (omega arith) l) in omega arith
-        | inr (inr l) ↦
-            let c = beyond (omega arith) in
-            let at : (run runs k).left ≡ r.0.left = ap (λ (q : Run). q.left) (get_or_default runs k no_run r.0 has.1 ∙ has.2) in
-            let q = lie.ascending place k no_run l has.1 in
-            let w = lie.wide place no_run (omega arith) in
-            omega arith
-      ])
-]
-
-pub one_there : (colour : ℕ → ℕ → ℕ) (strips : StripRows) (runs : List Run) (p : Spot) (place n : ℕ)
-    → IsPartitionPoint (λ r. leb r.right p.cell ≡ true) (λ r. leb r.right p.cell ≡ false) runs place
-    → place < length runs → (run runs place).left ≤ p.cell → IsFront colour p.row strips runs
-    → ((colour : ℕ → ℕ → ℕ) (y : ℕ) → IsSwept colour y strips → (r : Run) → r.left ≡ (run runs place).left → IsRun (colour y) r
-    → IsOpenAt colour y (strips_of strips) n r) → IsAnswer colour (strips_of strips) p (Some n)
-one_there colour strips runs p place n point l m front at =
-    let r = run runs place in
-    let is = front.runs.each place no_run l in
-    let o = at colour p.row front.swept r refl is in
+-- the run that has the cell is of a strip that has the spot
+pub answer_run : (colour : ℕ → ℕ → ℕ) (row n : ℕ) (strips : StripRows) (cover : Cover) (p : Spot) (r : Run) → IsFront colour row strips cover
+    → IsRun (row_colour cover row) r → r.left ≤ p.cell → p.cell < r.right → p.row ≡ row
+    → ((colour : ℕ → ℕ → ℕ) (y : ℕ) → IsSwept colour y strips → (q : Run) → q.left ≡ r.left → IsRun (colour y) q
+    → IsOpenAt colour y (strips_of strips) n q) → IsAnswer colour (strips_of strips) p (Some n)
+answer_run colour row n strips cover p r front is a b e at =
+    let same : row_colour cover row ≡ colour row = λ i c. sym (front.same c) i in
+    let o = at colour row front.swept r refl (subst (λ f. IsRun f r) same is) in
     let left = ap (λ (q : Run). q.left) o.run in
     let right = ap (λ (q : Run). q.right) o.run in
-    let past = leb-false _ _ (point.1 place no_run (omega arith) l) in
-    (o.among, record { left = omega arith; right = omega arith; low = o.since.start; each = o.since.each })
+    let low = o.since.start in
+    (o.among, record { left = omega arith; right = omega arith; low = omega arith; each = λ z x y. o.since.each z x (omega arith) })
 
-pub front_next : ColoursByLayers → (mask : Mask) (cells rows : ℕ) (blocks : List Block) (row : ℕ) (strips : StripRows) (runs : List Run)
-    → AreStacked mask cells rows blocks → cells_of strips ≡ cells → IsSwept (painted mask blocks) row strips → AreRuns (painted mask blocks row) runs
-    → IsFront (painted mask blocks) row strips runs
-front_next law mask cells rows blocks row strips runs st e swept are = record {
-  swept = swept;
-  runs = are;
-  first = blank_left law mask cells rows blocks row st;
-  last = λ c l. blank_right law mask cells rows blocks row c st (omega arith);
-}
-
-pub lie_in : ColoursByLayers → (mask : Mask) (cells rows : ℕ) (blocks : List Block) (row wide : ℕ) (runs : List Run) → AreStacked mask cells rows blocks
-    → wide ≡ cells → AreRuns (painted mask blocks row) runs → LieInRow wide runs
-lie_in law mask cells rows blocks row wide runs st e are =
-    subst (λ n. LieInRow n runs) (sym e) (runs_lie (painted mask blocks row) cells runs are (λ c l. blank_right law mask cells rows blocks row c st (omega arith)))
-
-pub nothing_lies : (cells : ℕ) (runs : List Run) → runs ≡ [] → LieInRow cells runs
-nothing_lies cells runs e = subst (LieInRow cells) (sym e)
-    (record { wide = λ k d l. absurd (omega arith); within = λ k d l. absurd (omega arith); ascending = λ i j d l m. absurd (omega arith) })
+-- and where no run has it there is no colour
+pub answer_none : (colour : ℕ → ℕ → ℕ) (row cell : ℕ) (strips : StripRows) (cover : Cover) (p : Spot) → IsFront colour row strips cover
+    → row_colour cover row cell ≡ 0 → p.row ≡ row → p.cell ≡ cell → colour p.row p.cell ≡ 0
+answer_none colour row cell strips cover p front z e f = rw (e, f) (front.same cell ∙ z)
 
 pub nothing_answered : (colour : ℕ → ℕ → ℕ) (strips : List Strip) (spots : List Spot) (found : List (Option ℕ)) → AreAnswered colour strips spots 0 found
 nothing_answered colour strips spots found = record { within = omega arith; each = λ j l. absurd (omega arith) }
@@ -301,12 +246,54 @@ nothing_answered colour strips spots found = record { within = omega arith; each
 pub fit_tree : (mask m : Mask) (cells n rows : ℕ) (blocks : List Block) → m ≡ mask → n ≡ cells → AreStacked mask cells rows blocks → AreFit m n blocks
 fit_tree mask m cells n rows blocks e f st = rw (e, f) (fits mask cells rows blocks st)
 
--- the runs that the tree has for the next row, once its blocks are raised
-pub runs_above : ColoursByLayers → (mask : Mask) (cells rows : ℕ) (blocks : List Block) (row raised : ℕ) (old cover : Cover) (runs : List Run)
-    → cover.mask ≡ old.mask → old.mask ≡ mask → AreStacked mask cells rows blocks → AreRaised blocks row raised cover
-    → ((k : ℕ) → raised ≤ k → k < length blocks → row < (block blocks k).low)
-    → AreRuns (windowed 0 cells (row_colour cover row)) runs → AreRuns (painted mask blocks row) runs
-runs_above law mask cells rows blocks row raised old cover runs e f = row_runs law mask cells rows blocks row raised cover runs (e ∙ f)
+-- the sides of the next row
+module _ (sides same : List Edge) (begun end below : ℕ) (e : same ≡ sides) (here : (k : ℕ) → begun ≤ k → k < end → (edge same k).row ≤ below + 1) where
+  here_at : (k : ℕ) → begun ≤ k → k < end → (edge sides k).row ≤ below + 1
+  here_at = subst (λ s. (k : ℕ) → begun ≤ k → k < end → (edge s k).row ≤ below + 1) e here
+
+  pub next_row : begun ≤ end → end ≤ length same → ((k : ℕ) → k < begun → (edge sides k).row ≤ below)
+      → ((k : ℕ) → begun ≤ k → k < length sides → below < (edge sides k).row)
+      → ((k : ℕ) → end ≤ k → k < length same → below + 1 < (edge same k).row) → IsRow sides begun end (below + 1)
+  next_row o w past ahead beyond =
+      let n = ap length e in
+      record {
+        order = o;
+        within = omega arith;
+        past = λ k l. let a = past k l in omega arith;
+        here = λ k l m. let a = ahead k l (omega arith) in let b = here_at k l m in omega arith;
+        ahead = subst (λ s. (k : ℕ) → end ≤ k → k < length s → below + 1 < (edge s k).row) e beyond;
+      }
+
+  pub past_next : ((k : ℕ) → k < begun → (edge sides k).row ≤ below) → (k : ℕ) → k < end → (edge sides k).row ≤ below + 1
+  past_next past k l = elim (cases_lt k begun) [ inl m ↦ let a = past k m in omega arith | inr m ↦ here_at k m l ]
+
+-- what windows tell is told of the rows that are painted
+pub whole_step : ColoursByLayers → (mask : Mask) (blocks : List Block) (below raised more : ℕ) (cover now : Cover) (sides same : List Edge) (begun end : ℕ)
+    (windows first second : List Window) (olds news : List Run) → cover.mask ≡ mask → now.mask ≡ mask → AreRaised blocks below raised cover
+    → ((k : ℕ) → raised ≤ k → k < length blocks → below < (block blocks k).low) → AreRaised blocks (below + 1) more now
+    → ((k : ℕ) → more ≤ k → k < length blocks → below + 1 < (block blocks k).low)
+    → AreSides blocks (length blocks) sides → IsRow sides begun end (below + 1) → same ≡ sides → first ≡ windows → second ≡ windows
+    → ((colour : ℕ → ℕ → ℕ) (y : ℕ) → ((c : ℕ) → colour y c ≡ row_colour cover below c)
+    → ChangeAt (part same begun end) (colour y) (colour (y + 1)) → TellChange colour y windows)
+    → AreRuns (seen first (row_colour cover below)) olds → AreRuns (seen second (row_colour now (below + 1))) news
+    → IsChange (painted mask blocks) below olds news
+whole_step law mask blocks below raised more cover now sides same begun end windows first second olds news e f r rest s rest_s are row g a b tell h k =
+    tell (painted mask blocks) below (tree_tells law mask blocks below raised cover e r rest)
+    (subst (λ ss. ChangeAt (part ss begun end) (painted mask blocks below) (painted mask blocks (below + 1))) (sym g)
+    (λ c n. same_paint law mask blocks sides begun end below row are c n)) olds news
+    (subst (λ ws. AreRuns (seen ws (painted mask blocks below)) olds) a (runs_painted law mask blocks below raised cover first olds e r rest h))
+    (subst (λ ws. AreRuns (seen ws (painted mask blocks (below + 1))) news) b (runs_painted law mask blocks (below + 1) more now second news f s rest_s k))
+
+-- nothing waits in row 0
+pub rest_above : (mask : Mask) (cells rows : ℕ) (blocks : List Block) → AreStacked mask cells rows blocks → (k : ℕ) → k < length blocks → 0 < (block blocks k).low
+rest_above mask cells rows blocks st k l = (st.each k no_block l).low
+
+pub right_within : (mask : Mask) (cells rows : ℕ) (blocks : List Block) → AreStacked mask cells rows blocks → (k : ℕ) → k < length blocks → (block blocks k).right < cells
+right_within mask cells rows blocks st k l = (st.each k no_block l).right
+
+pub swept_first : ColoursByLayers → (mask : Mask) (cells rows : ℕ) (blocks : List Block) (strips : StripRows) → AreStacked mask cells rows blocks
+    → ((colour : ℕ → ℕ → ℕ) → ((c : ℕ) → colour 0 c ≡ 0) → IsSwept colour 0 strips) → IsSwept (painted mask blocks) 0 strips
+swept_first law mask cells rows blocks strips st h = h (painted mask blocks) (λ c. blank_below law mask cells rows blocks c st)
 
 -- all spots are answered when all rows are swept
 pub all_answered : (spots : List Spot) (rows below answered : ℕ) → All (λ s. s.row < rows) spots → rows ≤ below + 1 → answered ≤ length spots

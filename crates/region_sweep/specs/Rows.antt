@@ -4,12 +4,11 @@ use Rattle.std.specs.List.Sorted.{IsNonDecreasingBy}
 use Rattle.lam_geom.specs.declared.layer.Layer.{Layer}
 use Rattle.lam_geom.specs.declared.layer.Layer.TheVariants.{ND}
 use Rattle.mask_runs.specs.declared.mask.Mask.{Mask}
-use Rattle.mask_runs.specs.declared.run.Run.{Run}
-use Rattle.mask_runs.specs.Runs.{IsRun, AreRuns}
+use Rattle.mask_runs.specs.Runs.{IsRun}
 use Rattle.mask_runs.specs.Colours.{uses}
-use Rattle.cover_tree.specs.Covers.{Cover}
+use Rattle.cover_tree.specs.Covers.{Cover, row_colour}
 use Rattle.strip_rows.specs.declared.rows.StripRows.{StripRows}
-use Rattle.strip_rows.specs.Swept.{cells_of, IsSwept}
+use Rattle.strip_rows.specs.Swept.{IsSwept}
 use Rattle.strip_rows.specs.declared.strip.Strip.{Strip}
 use Rattle.strip_rows.specs.declared.strip.Strips.{Strips}
 use Rattle.strip_rows.specs.Strips.{run_of, strip, AreStrips}
@@ -55,12 +54,10 @@ pub record AreAsked (places : ℕ) (spots : List Spot) : Type 0 where
   pub ascending : IsNonDecreasingBy (λ s. s.row) spots
   pub one : (i j : ℕ) → i < length spots → j < length spots → (spot spots i).index ≡ (spot spots j).index → spot spots i ≡ spot spots j
 
--- the strips up to a row, the runs of that row, and nothing beside them
-pub record IsFront (colour : ℕ → ℕ → ℕ) (row : ℕ) (strips : StripRows) (current : List Run) : Type 0 where
+-- the strips up to a row, and a tree with the colours of that row
+pub record IsFront (colour : ℕ → ℕ → ℕ) (row : ℕ) (strips : StripRows) (cover : Cover) : Type 0 where
   pub swept : IsSwept colour row strips
-  pub runs : AreRuns (colour row) current
-  pub first : colour row 0 ≡ 0
-  pub last : (c : ℕ) → cells_of strips ≤ c → colour row c ≡ 0
+  pub same : (c : ℕ) → colour row c ≡ row_colour cover row c
 
 -- the strip has the cell of the row, and each of its rows up to there has its run
 pub record Holds (colour : ℕ → ℕ → ℕ) (s : Strip) (row cell : ℕ) : Type 0 where

@@ -5,10 +5,9 @@ mod axis;
 mod block;
 mod grid;
 mod rows;
+mod sides;
 mod spot;
 mod swept;
-#[cfg(test)]
-mod tests;
 mod tile;
 
 pub use swept::{Swept, sweep};

@@ -2,19 +2,19 @@
 
 ghost use Rattle.std.specs.Prelude.{◌≡◌, ℕ, ◌+◌, ◌<◌, ◌≤◌, ◌^◌, All, IfOk, length};
 ghost use Rattle.cover_tree.specs.Trees.{cover_of};
-ghost use Rattle.strip_rows.specs.Changes.{LieInRow};
 ghost use Rattle.strip_rows.specs.Swept.{strips_of, cells_of};
 ghost use Rattle.region_sweep.specs.Blocks.{painted, AreStacked};
 ghost use Rattle.region_sweep.specs.declared.spot.Spot.{Spot};
 ghost use Rattle.region_sweep.specs.Rows.{block, spot, AreFit, AreRaised, AreAsked, IsFront, IsAnswer, AreAnswered, IsSweep};
 
 use crate::block::Block;
+use crate::sides::{end_of_row, sides};
 use crate::spot::Spot;
 use cover_tree::CoverTree;
-use mask_runs::{Mask, Run, colours_by_layers};
+use mask_runs::{Mask, colours_by_layers};
 use mp_base::NoMemory;
+use row_windows::{collect_windows, find_windows};
 use std::alloc::Global;
-use std::mem;
 use strip_rows::{StripRows, Strips};
 
 /// How many cells and rows a grid has.
@@ -40,22 +40,31 @@ pub(crate) fn sweep_rows(
     requires stacked { AreStacked mask size.cells size.rows blocks.now }
     requires asked { AreAsked (length found.old) spots.now }
     requires spots { All (λ s. s.row < size.rows) spots.now }
+    requires places { All (λ s. s.cell < size.cells) spots.now }
     ensures { IfOk result (λ s. IsSweep (painted mask blocks.now) spots.now s found.new) }
 {
     colours_by_layers();
+    let sides = sides(alloc, blocks)?;
     let mut tree = CoverTree::new(alloc, mask, size.cells)?;
     let mut strips = StripRows::new(alloc, size.cells)?;
-    let mut runs = Vec::new(alloc);
-    let mut last = Vec::new(alloc);
+    let mut windows = Vec::new(alloc);
+    let mut piece = Vec::new(alloc);
+    let mut old = Vec::new(alloc);
+    let mut new = Vec::new(alloc);
+    let mut begun = end_of_row(&sides, 0, 0);
     let mut raised = 0;
-    let mut answered = answer(&strips, runs.as_slice(), spots, 0, 0, found);
+    let mut answered = answer(&strips, &tree, spots, 0, 0, found);
     for below in 0..size.rows - 1 {
         let row = below + 1;
-        mem::swap(&mut last, &mut runs);
+        let end = end_of_row(&sides, begun, row);
+        let changes = &sides[begun..end];
+        find_windows(&tree, below, changes, &mut windows)?;
+        collect_windows(&tree, below, &windows, &mut piece, &mut old)?;
         raised = raise(&mut tree, blocks, raised, row);
-        tree.collect(row, 0, size.cells, &mut runs)?;
-        strips.step(last.as_slice(), runs.as_slice())?;
-        answered = answer(&strips, runs.as_slice(), spots, answered, row, found);
+        collect_windows(&tree, row, &windows, &mut piece, &mut new)?;
+        strips.step(&old, &new)?;
+        answered = answer(&strips, &tree, spots, answered, row, found);
+        begun = end;
     }
     Ok(strips.finish())
 }
@@ -81,17 +90,18 @@ fn raise(tree: &mut CoverTree, blocks: &[Block], raised: usize, row: u32) -> usi
 // Answers the spots of the row.
 fn answer(
     strips: &StripRows,
-    runs: &[Run],
+    tree: &CoverTree,
     spots: &[Spot],
     answered: usize,
     row: u32,
     found: &mut [Option<u32>],
 ) -> usize
-    requires runs { LieInRow (cells_of strips.now) runs.now }
+    requires cells { (cover_of tree.now).cells ≤ cells_of strips.now }
     requires spots { AreAsked (length found.old) spots.now }
+    requires places { All (λ s. s.cell < (cover_of tree.now).cells) spots.now }
     requires within { answered ≤ length spots.now }
     requires waiting { (j : ℕ) → answered ≤ j → j < length spots.now → row ≤ (spot spots.now j).row }
-    ensures answers { (colour : ℕ → ℕ → ℕ) → IsFront colour row strips.now runs.now → AreAnswered colour (strips_of strips.now) spots.now answered found.old
+    ensures answers { (colour : ℕ → ℕ → ℕ) → IsFront colour row strips.now (cover_of tree.now) → AreAnswered colour (strips_of strips.now) spots.now answered found.old
         → AreAnswered colour (strips_of strips.now) spots.now result found.new }
     ensures within { result ≤ length spots.now }
     ensures waiting { (j : ℕ) → result ≤ j → j < length spots.now → row < (spot spots.now j).row }
@@ -99,22 +109,21 @@ fn answer(
     let mut next = answered;
     while next < spots.len() && spots[next].row == row {
         let spot = spots[next];
-        found[spot.index] = number_at(strips, runs, spot.cell);
+        found[spot.index] = number_at(strips, tree, row, spot.cell);
         next += 1;
     }
     next
 }
 
 // The number of the strip that has a cell of the row.
-fn number_at(strips: &StripRows, runs: &[Run], cell: u32) -> Option<u32>
-    requires { LieInRow (cells_of strips.now) runs.now }
-    ensures { (colour : ℕ → ℕ → ℕ) (p : Spot) → IsFront colour p.row strips.now runs.now → p.cell ≡ cell
+fn number_at(strips: &StripRows, tree: &CoverTree, row: u32, cell: u32) -> Option<u32>
+    requires cells { (cover_of tree.now).cells ≤ cells_of strips.now }
+    requires cell { cell < (cover_of tree.now).cells }
+    ensures { (colour : ℕ → ℕ → ℕ) (p : Spot) → IsFront colour row strips.now (cover_of tree.now) → p.row ≡ row → p.cell ≡ cell
         → IsAnswer colour (strips_of strips.now) p result }
 {
-    let place = runs.partition_point(|run| run.right <= cell);
-    if place < runs.len() && runs[place].left <= cell {
-        Some(strips.strip_at(runs[place].left))
-    } else {
-        None
+    match tree.run_at(row, cell) {
+        Some(run) => Some(strips.strip_at(run.left)),
+        None => None,
     }
 }

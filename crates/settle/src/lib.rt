@@ -13,8 +13,3 @@ mod solve;
 mod spread;
 
 pub use settler::Settler;
-
-#[cfg(test)]
-mod tests;
-#[cfg(test)]
-mod twin;

@@ -1,5 +1,5 @@
 -- Why no fault is told without its cause.
-use Rattle.std.proofs.Common.{◌≡◌, ◌≤◌, ℕ, refl, sym, subst, inr, Result, Ok, Err, arith}
+use Rattle.std.proofs.Common.{◌≡◌, ◌≤◌, sym, subst, inr, Result, Ok, Err, arith}
 use Rattle.std.specs.Prelude.{IsErrAnd}
 use Rattle.mp_base.specs.Outside.{Rose}
 use Rattle.silicon.specs.Run.{World, HasCauses}

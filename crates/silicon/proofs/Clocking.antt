@@ -1,5 +1,5 @@
 -- What a clock gives and shows, pad by pad.
-use Rattle.std.proofs.Common.{◌≡◌, ℕ, zero, suc, ◌+◌, ◌-◌, ◌^◌, ◌/◌, ◌<◌, ◌≤◌, List, [], ◌∷◌, ◌++◌, append_assoc, Bool, true, false, cond, refl, sym, ◌∙◌, ap, subst, inl, inr, length, map, take, get_or, set, arith, bit_and, decimal}
+use Rattle.std.proofs.Common.{◌≡◌, ℕ, zero, suc, ◌+◌, ◌-◌, ◌^◌, ◌/◌, ◌<◌, ◌≤◌, List, [], ◌∷◌, ◌++◌, append_assoc, Bool, true, false, cond, refl, sym, ◌∙◌, ap, subst, inl, inr, length, map, take, get_or, set, arith, bit_and}
 use Rattle.std.specs.Prelude.{not, ◌==◌, filter}
 use Rattle.std.specs.List.{list_any}
 use Rattle.std.proofs.Math.Nat.{mod-eq_of_lt}

@@ -1,5 +1,5 @@
 -- A stimulus has at most 65536 clocks.
-use Rattle.std.proofs.Common.{◌≡◌, ℕ, suc, ◌+◌, ◌<◌, ◌≤◌, List, [], ◌∷◌, ◌++◌, Bool, true, Option, codes, length, refl, sym, ◌∙◌, ap, subst, inl, inr, arith}
+use Rattle.std.proofs.Common.{◌≡◌, ℕ, ◌≤◌, List, [], ◌∷◌, true, Option, codes, length, refl, sym, ap, subst, inl, inr, arith}
 use Rattle.std.proofs.lemmas.List.{length-append}
 use Rattle.std.proofs.lemmas.Bool.{cases_lt}
 use Rattle.std.specs.Str.{bytes_eq}
@@ -12,7 +12,7 @@ use Rattle.stimulus.specs.declared.form.Form.TheVariants.{Input, Output, Clock}
 use Rattle.stimulus.specs.declared.reading.Reading.{Reading}
 use Rattle.stimulus.specs.Words.{lines}
 use Rattle.stimulus.specs.Forms.{IsForm, is_clock}
-use Rattle.stimulus.specs.Rules.{Adds, AddsForm, IsFull}
+use Rattle.stimulus.specs.Rules.{AddsForm, IsFull}
 use Rattle.stimulus.specs.Reading.{IsStimulus, Reads, nothing}
 
 clock_line : (line : List Piece) (xs : _) → IsForm line (Clock xs) → is_clock line ≡ true

@@ -1,5 +1,5 @@
 -- A source that `compile` takes, and the chip that it gets.
-use Rattle.std.proofs.Common.{◌≡◌, List, ℕ, [], refl, sym, subst, Option, Some, None, IfSome, unwrap_or}
+use Rattle.std.proofs.Common.{List, ℕ, [], refl, Option, Some, None, IfSome}
 use Rattle.mp_base.specs.Outside.{Files, bytes_of}
 use Rattle.mp_base.specs.declared.pad.Pads.{Pads}
 use Rattle.mp_program.specs.declared.program.Program.{Program}
@@ -7,7 +7,6 @@ use Rattle.mp_program.specs.Pads.{ArePadsOf}
 use Rattle.inverter_chip.specs.Compiled.{IsChipOfInverters}
 use Rattle.command_line.specs.Command.{Compile}
 use Rattle.silicon.specs.Source.{IsInverterSource}
-use Rattle.silicon.specs.Compiled.{IsCompiled}
 use Rattle.silicon.specs.Faults.{Shows}
 
 -- the chip of inverters is a chip of the program that the source spells

@@ -1,8 +1,6 @@
 -- Stages have one first fault at most.
-use Rattle.std.proofs.Common.{◌≡◌, ℕ, ◌≤◌, ◌<◌, List, length, [], refl, sym, ap, ◌∙◌, inl, inr, Option, Some, None, arith, unwrap_or}
+use Rattle.std.proofs.Common.{◌≡◌, ℕ, List, [], refl, sym, ap, ◌∙◌, inl, inr, Option, Some, None, arith, unwrap_or}
 use Rattle.std.specs.Option.{option_map}
-use Rattle.std.specs.FinMap.{get}
-use Rattle.mp_base.specs.Outside.{Files, bytes_of}
 use Rattle.mp_base.specs.declared.refusal.Broken.{Broken}
 use Rattle.silicon.specs.Order.{Fault, Stray, Breaks, Then, OfRule, OfLength, OfFile}
 

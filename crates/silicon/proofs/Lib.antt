@@ -11,6 +11,7 @@ pub mod Transcripts
 pub mod Clocking
 pub mod Clocks
 pub mod Compiling
+pub mod Nets
 pub mod Shown
 pub mod Causes
 mod TranscriptExamples

@@ -1,5 +1,5 @@
 -- The text that a trace shows.
-use Rattle.std.proofs.Common.{◌≡◌, ℕ, List, [], length, map, refl, sym, ap, subst, ◌∙◌, Option, Some, None, IfSome}
+use Rattle.std.proofs.Common.{ℕ, List, [], length, map, refl, sym, ap, subst, ◌∙◌, Option, Some, None, IfSome}
 use Rattle.mp_base.specs.Outside.{Files, bytes_of}
 use Rattle.mp_program.specs.Pads.{ArePadsOf, face}
 use Rattle.mp_program.specs.Trace.{IsTrace}
@@ -8,7 +8,7 @@ use Rattle.stimulus.specs.declared.given.Stimulus.{Stimulus}
 use Rattle.stimulus.specs.Reading.{IsStimulus}
 use Rattle.command_line.specs.Command.{Trace}
 use Rattle.mp_source.specs.Source.{IsSource}
-use Rattle.silicon.specs.Transcript.{IsTranscript, inputs_of, lines_text}
+use Rattle.silicon.specs.Transcript.{inputs_of, lines_text}
 use Rattle.silicon.specs.Faults.{Shows}
 
 -- the pads of a stimulus are those it was read for

@@ -1,8 +1,7 @@
 -- A stimulus breaks at most one rule first.
-use Rattle.std.proofs.Common.{◌≡◌, ◌<◌, ◌≤◌, ◌^◌, ℕ, List, [], ◌∷◌, length, map, filter, refl, sym, ap, subst, ◌∙◌, Option, Some, None, Result, Ok, Err, IfOk, IfErr, IfSome, Bool, not, arith}
+use Rattle.std.proofs.Common.{◌≡◌, ◌≤◌, ℕ, List, [], ◌∷◌, length, map, refl, sym, ap, subst, ◌∙◌, Option, Some, None, Result, Ok, Err, IfOk, IfErr, IfSome}
 use Rattle.std.proofs.Props.{props}
 use Rattle.mp_base.specs.declared.refusal.Place.{Place}
-use Rattle.mp_base.specs.declared.refusal.Rule.{Rule}
 use Rattle.mp_base.specs.declared.refusal.Broken.{Broken}
 use Rattle.mp_base.specs.declared.refusal.Family.{Family}
 use Rattle.mp_base.specs.declared.refusal.Family.TheVariants.{S}
@@ -15,8 +14,6 @@ use Rattle.mp_base.specs.declared.pad.Pads.{Pads}
 use Rattle.mp_base.specs.PadNames.{ArePadNames, names_of}
 use Rattle.mp_base.specs.Refuses.{RefusesAt, SpotIs}
 use Rattle.mp_program.specs.declared.program.Program.{Program}
-use Rattle.mp_program.specs.declared.program.Def.{Def}
-use Rattle.mp_program.specs.Names.{is_input}
 use Rattle.mp_program.specs.Pads.{ArePadsOf, Face, face}
 use Rattle.stimulus.specs.declared.given.Stimulus.{Stimulus}
 use Rattle.stimulus.specs.Reading.{IsStimulus, IsFirst}
@@ -28,8 +25,6 @@ use Rattle.silicon.specs.Faults.{PadsFault, StimulusFault}
 use Rattle.mp_base.specs.Outside.{Files, bytes_of}
 use Rattle.mp_checker.specs.Checking.{CheckedProgram}
 use Rattle.std.specs.FinMap.{get}
-use Rattle.std.proofs.lemmas.List.{length-map}
-use Rattle.std.proofs.lemmas.List.Filters.{length-filter_both}
 use Rattle.silicon.proofs.Reasons.{file_map}
 use Rattle.silicon.proofs.Clocks.{few_clocks}
 use Rattle.silicon.proofs.Determined.{IsDetermined}

@@ -1,5 +1,5 @@
 -- Steps of what is told, one after another.
-use Rattle.std.proofs.Common.{◌≡◌, List, [], ℕ, ◌++◌, refl, sym, ap, ◌∙◌, append_assoc, Option, Some, None}
+use Rattle.std.proofs.Common.{List, [], ℕ, ◌++◌, refl, sym, ap, ◌∙◌, append_assoc, Option, Some, None}
 use Rattle.std.proofs.lemmas.List.{append-nil}
 use Rattle.mp_base.specs.Outside.{WhereTold, Keeps, Gains}
 

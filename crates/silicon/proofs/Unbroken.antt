@@ -1,5 +1,5 @@
 -- The rules that a program keeps, one by one.
-use Rattle.std.proofs.Common.{ℕ, refl, inl, inr}
+use Rattle.std.proofs.Common.{refl, inl, inr}
 use Rattle.mp_base.specs.declared.refusal.Place.{Place}
 use Rattle.mp_program.specs.declared.program.Program.{Program}
 use Rattle.mp_rules.specs.Rules.{E20, E22, E23, E36, E40}

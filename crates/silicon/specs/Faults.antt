@@ -2,12 +2,13 @@
 use Rattle.std.specs.Prelude.{◌≡◌, ℕ, List, [], Option, Some, None}
 use Rattle.std.specs.FinMap.{get}
 use Rattle.mp_base.specs.Outside.{Files, bytes_of}
-use Rattle.command_line.specs.Command.{Command, Trace, Compile}
+use Rattle.command_line.specs.Command.{Command, Trace, Compile, Net}
 use Rattle.silicon.specs.Order.{Fault, Stray, Then, OfFile}
 use Rattle.mp_base.specs.declared.pad.Pads.{Pads}
-use Rattle.silicon.specs.Compiled.{IsCompiled}
+use Rattle.silicon.specs.Compiled.{IsCompiled, IsSizeOf}
 use Rattle.silicon.specs.Source.{OfCompiled}
 use Rattle.mp_source.specs.Source.{OfSource}
+use Rattle.mask_net.specs.Masks.{OfMask}
 use Rattle.silicon.specs.Stimulus.{OfPads, OfStimulus}
 use Rattle.silicon.specs.Transcript.{IsTranscript}
 
@@ -27,20 +28,27 @@ StimulusFault source name files = OfFile 1048576 (OfStimulus source) name (get f
 abbrev pub CompiledFault : List ℕ → Files → Option Fault → Type 0
 CompiledFault name files = OfFile 1048576 OfCompiled name (get files name)
 
+-- the faults of the file that holds masks
+abbrev pub MaskFault : List ℕ → Files → Option Fault → Type 0
+MaskFault name files = OfFile 268_435_456 OfMask name (get files name)
+
 -- the first fault of a command on these files, in the order of work, or that there is none
 abbrev pub IsFirstFault : Command → Files → Option Fault → Type 0
 IsFirstFault (Trace source stimulus) files = Then (SourceFault source files) (StimulusFault (bytes_of files source) stimulus files)
 IsFirstFault (Compile source cif) files = CompiledFault source files
+IsFirstFault (Net cif) files = MaskFault cif files
 
 -- the file that a command writes
 abbrev pub target_of : Command → Option (List ℕ)
 target_of (Trace source stimulus) = None
 target_of (Compile source cif) = Some cif
+target_of (Net cif) = None
 
 -- the bytes of that file and the text that a command may show
 abbrev pub Shows : Command → Files → List ℕ → List ℕ → Type 0
 Shows (Trace source stimulus) files chip text = (chip ≡ []) × IsTranscript (bytes_of files source) (bytes_of files stimulus) text
 Shows (Compile source cif) files chip text = IsCompiled (bytes_of files source) chip × (text ≡ [])
+Shows (Net cif) files chip text = (chip ≡ []) × IsSizeOf (bytes_of files cif) text
 
 -- the files are told, and the first fault is a file that is not held
 abbrev pub IsStrayBy : (Files → Option Fault → Type 0) → Option Files → Type 0

@@ -8,4 +8,3 @@ pub mod Halt
 pub mod Line
 pub mod Transcript
 pub mod Compiled
-pub mod SizeLine

@@ -8,18 +8,21 @@ ghost use Rattle.stimulus.specs.Reading.{IsStimulus};
 ghost use Rattle.silicon.specs.Order.{OfLength, IsContent, too_long};
 ghost use Rattle.silicon.specs.Source.{IsInverterSource};
 ghost use Rattle.silicon.specs.Stimulus.{OfPads};
-ghost use Rattle.silicon.specs.Faults.{SourceFault, PadsFault, CompiledFault};
+ghost use Rattle.silicon.specs.Faults.{SourceFault, PadsFault, CompiledFault, MaskFault};
 ghost use Rattle.silicon.specs.Halt.{HasReason};
 ghost use Rattle.mp_source.specs.Source.{IsJudged, IsSource};
+ghost use Rattle.mask_net.specs.Masks.{IsNetOf};
 
 use crate::halt::Halt;
 use crate::source::check_inverter;
+use mask_net::network_of;
 use mp_base::{Broken, Depot, Family, Name, Refusal, Rule, Spot, read_file};
 use mp_checker::Checked;
 use mp_rules::laws::few_namings;
 use mp_source::check_source;
 use std::alloc::{AllocError, Global};
 use stimulus::Stimulus;
+use switch_net::Network;
 
 fn too_long(alloc: Global, name: &str) -> Result<Broken, AllocError>
     ensures { IfOk result (λ broken. broken ≡ too_long name.now) }
@@ -53,7 +56,10 @@ fn read_text<D: Depot>(
     }
 }
 
+// The longest source and stimulus, and the longest file of masks, in bytes.
 const LIMIT: usize = 1048576;
+
+const MASK_LIMIT: usize = 268_435_456;
 
 /// Reads a source that breaks no rule.
 pub fn read_source<D: Depot>(alloc: Global, depot: &mut D, name: &str) -> Result<Checked, Halt>
@@ -106,4 +112,15 @@ pub fn read_inverter<D: Depot>(alloc: Global, depot: &mut D, name: &str) -> Resu
 {
     let text = read_text(alloc, depot, name, LIMIT)?;
     Ok(check_inverter(alloc, &text)?)
+}
+
+/// Reads the network of a file of masks that breaks no rule.
+pub fn read_network<D: Depot>(alloc: Global, depot: &mut D, name: &str) -> Result<Network, Halt>
+    ensures held { Keeps (D.held depot.old) (D.held depot.new) }
+    ensures drawn { IfOk result (λ net. IfSome (D.held depot.new) (λ files. IsNetOf (bytes_of files name.now) net)) }
+    ensures reason { HasReason (MaskFault name.now) (D.held depot.new) (D.read_faults depot.old) (D.read_faults depot.new) result }
+    ensures writes { D.write_faults depot.new ≡ D.write_faults depot.old }
+{
+    let bytes = read_text(alloc, depot, name, MASK_LIMIT)?;
+    Ok(network_of(alloc, bytes)?)
 }

@@ -6,6 +6,7 @@ ghost use Rattle.command_line.specs.Command.{Command};
 ghost use Rattle.silicon.specs.Order.{Fault};
 ghost use Rattle.silicon.specs.Faults.{IsFirstFault};
 
+use mask_net::laws::one_verdict as one_of_masks;
 use mp_source::laws::{one_source, one_verdict};
 use stimulus::one_first_rule;
 
@@ -16,4 +17,5 @@ pub fn one_first_fault()
     one_source();
     one_verdict();
     one_first_rule();
+    one_of_masks();
 }

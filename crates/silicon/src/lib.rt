@@ -7,6 +7,7 @@ mod files;
 mod halt;
 pub mod laws;
 mod line;
+mod net;
 mod source;
 #[cfg(test)]
 mod tests;

@@ -1,14 +1,19 @@
 -- The jump of a list of forms.
-use Rattle.std.proofs.Common.{◌≡◌, ℕ, zero, suc, ◌+◌, ◌<◌, List, [], ◌∷◌, ◌++◌, refl, ◌∙◌, ap, length, drop, arith, get_or}
+use Rattle.std.proofs.Common.{◌≡◌, ℕ, zero, suc, ◌+◌, ◌<◌, List, [], ◌∷◌, ◌++◌, refl, ◌∙◌, ap, length, drop, map, sym, arith, get_or}
 use Rattle.std.specs.Prelude.{Option, Some, None}
 use Rattle.std.specs.List.{flat_map}
+use Rattle.std.proofs.lemmas.List.{get_or-map}
+use Rattle.mp_program.specs.declared.program.Form.{Form}
 use Rattle.mp_program.specs.declared.program.Process.{Process}
 use Rattle.mp_program.specs.declared.program.Program.{Program}
 use Rattle.mp_program.specs.Effects.{Effect, Writes, Goes, Calls, Returns, effects_of}
 use Rattle.mp_program.specs.State.{Seat}
 use Rattle.mp_program.specs.Step.{next_seat}
 use Rattle.source_run.specs.declared.jump.Jump.{Jump}
+use Rattle.source_run.specs.declared.link.Links.{Links}
+use Rattle.source_run.specs.Linked.{no_process, process_at, landing_place, landings_in}
 use Rattle.source_run.specs.Jumps.{jump_from, seat_after}
+use Rattle.source_run.proofs.Making.{mapped_at}
 
 -- the next seat is that after the first jump
 pub next_seat-jump : (q : Process) (s : Seat) (es : List Effect) → seat_after q s (jump_from q es) ≡ next_seat q s es
@@ -54,3 +59,12 @@ pub jump_here : (p : Program) (env : List ℕ) (q : Process) (fs : List ℕ) (i 
     → jump_from q (flat_map (effects_of p env) (drop i fs)) ≡ Some jump
 unfolding first
 jump_here p env q fs i jump lt some = front p env q fs i lt ∙ ap (λ j. first j (jump_from q (flat_map (effects_of p env) (drop (i + 1) fs)))) some
+
+-- the place to which a form jumps in a process, by index
+pub landed : (p : Program) (links : Links) (k f : ℕ) (x : Form) → links.landings ≡ map (landings_in p) p.processes
+    → k < length p.processes → f < length p.forms → x ≡ get_or p.forms f x
+    → get_or (get_or links.landings k []) f 0 ≡ landing_place (process_at p k) x.kind
+landed p links k f x are there inside is =
+    ap (λ rows. get_or (get_or rows k []) f 0) are
+    ∙ ap (λ row. get_or row f 0) (get_or-map (landings_in p) p.processes k no_process [] there)
+    ∙ sym (mapped_at (λ (y : Form). landing_place (process_at p k) y.kind) p.forms f x 0 inside is)

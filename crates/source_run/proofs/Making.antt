@@ -2,7 +2,7 @@
 use Rattle.std.proofs.Common.{◌≡◌, ◌≢◌, ℕ, zero, suc, ◌+◌, ◌<◌, ◌≤◌, List, [], ◌∷◌, refl, sym, ◌∙◌, ap, inl, inr, length, map, arith, get_or}
 use Rattle.std.specs.Prelude.{slice_set as set}
 use Rattle.std.proofs.lemmas.Bool.{cases_lt}
-use Rattle.std.proofs.lemmas.List.{get_or-set_same, get_or-set_other}
+use Rattle.std.proofs.lemmas.List.{get_or-map, get_or-set_same, get_or-set_other}
 
 -- below i a list is as it is to be, and from i on as it was
 pub record MadeTo {X : Type 0} (now target old : List X) (d : X) (i : ℕ) : Type 0 where
@@ -41,9 +41,7 @@ map_set f (y ∷ ys) zero x = refl
 map_set f (y ∷ ys) (suc i) x = ap (λ zs. f y ∷ zs) (map_set f ys i x)
 
 pub mapped_at : {X Y : Type 0} (f : X → Y) (xs : List X) (i : ℕ) (x : X) (d : Y) → i < length xs → x ≡ get_or xs i x → f x ≡ get_or (map f xs) i d
-mapped_at f [] i x d lt is = absurd (omega (arith, lt))
-mapped_at f (y ∷ ys) zero x d lt is = ap f is
-mapped_at f (y ∷ ys) (suc i) x d lt is = mapped_at f ys i x d (omega (arith, lt)) is
+mapped_at f xs i x d lt is = ap f is ∙ sym (get_or-map f xs i x d lt)
 
 pub length-mapped : {X Y : Type 0} (f : X → Y) (xs : List X) → length (map f xs) ≡ length xs
 length-mapped f [] = refl

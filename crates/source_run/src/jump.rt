@@ -5,14 +5,12 @@ ghost use Rattle.std.specs.List.{flat_map};
 ghost use Rattle.mp_program.specs.Sound.{AllBetween, BranchesFit};
 ghost use Rattle.mp_program.specs.Values.{value_of};
 ghost use Rattle.mp_program.specs.Effects.{effects_of, branch_effects};
-ghost use Rattle.mp_program.specs.Step.{place_of_label};
-ghost use Rattle.source_run.specs.Linked.{AreLinks};
+ghost use Rattle.source_run.specs.Linked.{AreLinks, process_at};
 ghost use Rattle.source_run.specs.Jumps.{jump_from};
 
 use crate::link::Links;
-use crate::seat::wrapped;
 use crate::value::value;
-use mp_program::{Branch, FormKind, Process, Program, laws};
+use mp_program::{Branch, FormKind, Program, laws};
 
 /// A move of a process: to a place, into one with a place to return to, or back.
 #[derive(Clone, Copy, PartialEq, Eq, Debug)]
@@ -22,29 +20,19 @@ pub(crate) enum Jump {
     Back,
 }
 
-fn label_place(process: &Process, label: &[u8]) -> usize
-    ensures { result ≡ place_of_label process.now process.now.labels label.now }
-{
-    for found in process.labels.as_slice() {
-        if found.name.bytes() == label {
-            return wrapped(process, found.before as usize);
-        }
-    }
-    0
-}
-
-/// The first jump of an active form, in a process.
+/// The first jump of an active form, in the process at an index.
 #[cycle(jump)]
 pub(crate) fn jump_of(
     program: &Program,
     links: &Links,
     env: &[u64],
-    process: &Process,
+    index: usize,
     form: u32,
 ) -> Option<Jump>
     requires linked { AreLinks program.now links.now }
+    requires process { index < length program.now.processes }
     requires inside { form < length program.now.forms }
-    ensures { result ≡ jump_from process.now (effects_of program.now env.now form) }
+    ensures { result ≡ jump_from (process_at program.now index) (effects_of program.now env.now form) }
 {
     laws::sound(program);
     laws::effects(program);
@@ -59,13 +47,13 @@ pub(crate) fn jump_of(
             program,
             links,
             env,
-            process,
+            index,
             form,
             branches.as_slice(),
         ),
-        FormKind::Par(forms) => jump_first(program, links, env, process, form, forms.as_slice()),
-        FormKind::Go(label) => Some(Jump::To(label_place(process, label.bytes()))),
-        FormKind::Call(label) => Some(Jump::Into(label_place(process, label.bytes()))),
+        FormKind::Par(forms) => jump_first(program, links, env, index, form, forms.as_slice()),
+        FormKind::Go(_) => Some(Jump::To(links.landing(index, form))),
+        FormKind::Call(_) => Some(Jump::Into(links.landing(index, form))),
         FormKind::Return => Some(Jump::Back),
     }
 }
@@ -76,17 +64,18 @@ fn jump_chosen(
     program: &Program,
     links: &Links,
     env: &[u64],
-    process: &Process,
+    index: usize,
     before: u32,
     branches: &[Branch],
 ) -> Option<Jump>
     requires linked { AreLinks program.now links.now }
+    requires process { index < length program.now.processes }
     requires fit { BranchesFit (length program.now.exprs) before (length program.now.forms) branches.now }
-    ensures { result ≡ jump_from process.now (branch_effects (value_of program.now env.now) branches.now (effects_of program.now env.now)) }
+    ensures { result ≡ jump_from (process_at program.now index) (branch_effects (value_of program.now env.now) branches.now (effects_of program.now env.now)) }
 {
     for branch in branches {
         if value(program, links, env, branch.guard) == 1 {
-            return jump_first(program, links, env, process, before, branch.body.as_slice());
+            return jump_first(program, links, env, index, before, branch.body.as_slice());
         }
     }
     None
@@ -98,16 +87,17 @@ fn jump_first(
     program: &Program,
     links: &Links,
     env: &[u64],
-    process: &Process,
+    index: usize,
     before: u32,
     forms: &[u32],
 ) -> Option<Jump>
     requires linked { AreLinks program.now links.now }
+    requires process { index < length program.now.processes }
     requires behind { AllBetween before (length program.now.forms) forms.now }
-    ensures { result ≡ jump_from process.now (flat_map (effects_of program.now env.now) forms.now) }
+    ensures { result ≡ jump_from (process_at program.now index) (flat_map (effects_of program.now env.now) forms.now) }
 {
     for form in forms {
-        if let Some(jump) = jump_of(program, links, env, process, *form) {
+        if let Some(jump) = jump_of(program, links, env, index, *form) {
             return Some(jump);
         }
     }

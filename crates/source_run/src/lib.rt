@@ -2,6 +2,7 @@
 #![tactic(auto)]
 
 mod jump;
+mod landing;
 mod link;
 mod links;
 mod machine;

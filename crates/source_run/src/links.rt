@@ -1,6 +1,6 @@
 //! What the names of a program mean, found once.
 
-ghost use Rattle.std.specs.Prelude.{◌≡◌, ◌<◌, ◌≤◌, [], false, length, map, position, slice_index_or, IfOk, IfSome};
+ghost use Rattle.std.specs.Prelude.{◌≡◌, ◌<◌, ◌≤◌, [], false, length, map, position, slice_index, slice_index_or, IfOk, IfSome};
 ghost use Rattle.std.specs.List.{list_any};
 ghost use Rattle.mp_program.specs.declared.program.Def.{Def};
 ghost use Rattle.mp_program.specs.declared.program.Expr.{Expr};
@@ -10,6 +10,7 @@ ghost use Rattle.mp_program.specs.Sound.{AllBetween, BranchesFit};
 ghost use Rattle.mp_program.specs.Reads.{sets, branches_set};
 ghost use Rattle.source_run.specs.Linked.{AreLinks, AreQuiet, AllQuiet, named, target, setters_of, reset_pad};
 
+use crate::landing::landings;
 use crate::link::Links;
 use mp_base::List;
 use mp_program::{Branch, Def, ExprKind, FormKind, Program, Way, What, laws};
@@ -224,11 +225,25 @@ impl Links {
         Ok(Links {
             exprs: named_by(alloc, program)?,
             forms: set_by(alloc, program)?,
+            landings: landings(alloc, program)?,
             defs: firsts(alloc, program)?,
             setters: setters(alloc, program)?,
             quiet: quiet(alloc, program)?,
             reset: reset_pad(program.defs.as_slice()),
         })
+    }
+
+    /// The place to which a form jumps in the process at an index.
+    pub(crate) fn landing(&self, index: usize, form: u32) -> usize
+        ensures { result ≡ slice_index (slice_index_or self.now.landings index []) form }
+    {
+        match self.landings.as_slice().get(index) {
+            Some(places) => match places.as_slice().get(form as usize) {
+                Some(place) => *place,
+                None => 0,
+            },
+            None => 0,
+        }
     }
 
     /// Whether it is known that a form doesn't set a definition.

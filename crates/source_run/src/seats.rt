@@ -48,7 +48,7 @@ pub(crate) fn advance_seats(
     ensures { map seat_of seats.new ≡ next_seats program.now env.now program.now.processes (map seat_of seats.old) }
 {
     for (i, process) in program.processes.as_slice().iter().enumerate() {
-        let jump = jump_of(program, links, env, process, places[i]);
+        let jump = jump_of(program, links, env, i, places[i]);
         seats[i].advance(process, jump);
     }
 }

@@ -1,6 +1,6 @@
 use Rattle.std.proofs.Common.{◌∙◌, sym, subst}
-use Rattle.cif_flat.specs.Placing.{scale_of}
-use Rattle.cif_flat.specs.Turning.{IsTurned}
+use Rattle.cif_place.specs.Placing.{scale_of}
+use Rattle.cif_place.specs.Turning.{IsTurned}
 use Rattle.cif_flat.proofs.Calls.{calls_set, call_found}
 use Rattle.cif_flat.proofs.called.turned_at.Goals as goal
 

@@ -1,6 +1,5 @@
-use Rattle.std.proofs.Common.{◌≡◌, ◌∙◌, ℕ, List, ◌<◌, get_or, length, sym, ap, arith}
+use Rattle.std.proofs.Common.{◌<◌, get_or, length, arith}
 use Rattle.std.proofs.lemmas.List.{get_or_default}
-use Rattle.mp_base.specs.declared.value.Trit.{Trit}
 use Rattle.clock_run.proofs.Driven.{set_more}
 use Rattle.clock_run.proofs.drive.drive_levels.Goals as goal
 
@@ -13,4 +12,5 @@ loop-k-preserved c = λ driver z.
     let inside : n < length c.args.drive.now = c.requires.inside k 0 lt in
     let l = c.requires.as_many in
     set_more driver nodes c.args.levels.now k n _ c.args.drive.now c.loop-k.drive lt (get_or_default nodes k 0 n lt)
-    (get_or_default c.args.levels.now k _ _ (omega (arith, lt, l))) (omega (arith, inside, c.loop-k.auto.drive)) z (c.loop-k.invariant driver z)
+    (get_or_default c.args.levels.now k _ _ (omega (arith, lt, l))) (omega (arith, inside, c.loop-k.auto.drive)) z
+    (c.loop-k.invariant driver z)

@@ -7,4 +7,5 @@ use Rattle.command_line.proofs.app.app.Goals as goal
 pub returns : goal.returns
 returns c =
     let trace = c.in_ok-trace.ensures ∙ ap (λ (a : App). with_subcommand a spec.trace) c.top.ensures in
-    IfOk-weaker c.with_form-2.result _ _ (λ r h. h ∙ ap (λ (a : App). with_subcommand a spec.compile) trace) c.with_form-2.ensures
+    let compile = c.in_ok-compile.ensures ∙ ap (λ (a : App). with_subcommand a spec.compile) trace in
+    IfOk-weaker c.with_form-3.result _ _ (λ r h. h ∙ ap (λ (a : App). with_subcommand a spec.net) compile) c.with_form-3.ensures

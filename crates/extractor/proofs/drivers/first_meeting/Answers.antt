@@ -1,11 +1,8 @@
-use Rattle.std.proofs.Common.{◌≡◌, ℕ, List, Bool, subst, refl, arith}
-use Rattle.std.specs.Prelude.{Option, Some, None, slice_get}
 use Rattle.std.specs.BTreeMap.{get, is_at}
 use Rattle.std.specs.Map.{lookup}
 use Rattle.std.specs.Ordering.{nat_cmp}
 use Rattle.std.proofs.Common.{ap}
-use Rattle.switch_net.specs.declared.network.Tag.{Tag}
-use Rattle.extractor.proofs.Driving.{first_goes_on, first_meets, first_none, none_meets}
+use Rattle.extractor.proofs.Driving.{first_goes_on, first_none}
 use Rattle.extractor.proofs.drivers.first_meeting.Goals as goal
 
 pub loop-place-init : goal.loop-place-init

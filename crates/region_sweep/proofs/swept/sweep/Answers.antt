@@ -6,7 +6,7 @@ use Rattle.region_sweep.specs.Touching.{AreTouching}
 use Rattle.region_sweep.specs.Grid.{IsFit, tile_of}
 use Rattle.region_sweep.specs.Blocks.{painted}
 use Rattle.region_sweep.specs.Rows.{IsSweep, AreAsked, AreAnswered}
-use Rattle.region_sweep.proofs.Gridding.{asked_are, rows_are_in}
+use Rattle.region_sweep.proofs.Gridding.{asked_are, rows_are_in, cells_are_in}
 use Rattle.region_sweep.proofs.Tilings.{IsLaid, strips_within, are_tiles, are_whole}
 use Rattle.region_sweep.proofs.Edges.{are_touching}
 use Rattle.region_sweep.proofs.Answering.{put_back, are_found}
@@ -28,6 +28,13 @@ sweep_rows-requires-clause-spots c =
     subst (λ ss. All (λ s. s.row < c.size.result.rows) ss) (sym c.as_slice-2.ensures.value)
     (rows_are_in grid.columns.marks.items grid.rows.marks.items c.args.places.now c.in_ok-spots.spots.items c.size.result.rows c.size.ensures.rows grid.rows.ascending
     c.in_ok-spots.ensures.spots)
+
+pub sweep_rows-requires-clause-places : goal.sweep_rows-requires-clause-places
+sweep_rows-requires-clause-places c =
+    let grid = c.in_ok-grid.grid in
+    subst (λ ss. All (λ s. s.cell < c.size.result.cells) ss) (sym c.as_slice-2.ensures.value)
+    (cells_are_in grid.columns.marks.items grid.rows.marks.items c.args.places.now c.in_ok-spots.spots.items c.size.result.cells c.size.ensures.cells
+    grid.columns.ascending c.in_ok-spots.ensures.spots)
 
 pub tiles-requires : goal.tiles-requires
 tiles-requires c =

@@ -1,4 +1,4 @@
-use Rattle.std.proofs.Common.{◌≤◌, length, arith, Some}
+use Rattle.std.proofs.Common.{arith, Some}
 use Rattle.silicon.proofs.Clocking.{few_inputs}
 use Rattle.silicon.proofs.Stimuli.{judged_for, read_clocks}
 use Rattle.silicon.proofs.Unbroken.{keeps_40}

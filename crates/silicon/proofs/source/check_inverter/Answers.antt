@@ -1,8 +1,6 @@
-use Rattle.std.proofs.Common.{◌≡◌, inl, inr, sym, subst}
+use Rattle.std.proofs.Common.{inr, sym, subst}
 use Rattle.inverter_program.specs.Inverter.{IsInverter}
-use Rattle.mp_checker.specs.Checking.{CheckedProgram}
-use Rattle.mp_source.specs.Source.{IsSource, OfSource, IsJudged}
-use Rattle.silicon.proofs.Sources.{judged_compiled}
+use Rattle.mp_source.specs.Source.{IsSource}
 use Rattle.silicon.proofs.source.check_inverter.Goals as goal
 
 pub returns-then-is_inverter-clause-spelled : goal.returns-then-is_inverter-clause-spelled

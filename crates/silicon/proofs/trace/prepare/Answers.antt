@@ -1,4 +1,4 @@
-use Rattle.std.proofs.Common.{◌≡◌, Option, Result, Ok, subst}
+use Rattle.std.proofs.Common.{Option, Result, Ok, subst}
 use Rattle.mp_program.specs.Pads.{ArePadsOf}
 use Rattle.mp_checker.specs.Checking.{CheckedProgram}
 use Rattle.mp_base.specs.Outside.{Files, bytes_of}

@@ -1,10 +1,8 @@
-use Rattle.std.proofs.Common.{◌≡◌, ℕ, [], List, ◌<◌, ◌≤◌, length, get_or, sym, ◌∙◌, ap, subst, arith}
+use Rattle.std.proofs.Common.{ℕ, [], List, ◌<◌, length, get_or, sym, ◌∙◌, ap, subst, arith}
 use Rattle.mp_base.specs.declared.pad.Pad.{Pad}
 use Rattle.mp_program.specs.declared.program.Program.{Program}
-use Rattle.mp_program.specs.Pads.{input_pads, output_pads, FitsPads}
-use Rattle.mp_program.specs.State.{State, IsState}
+use Rattle.mp_program.specs.Pads.{input_pads, FitsPads}
 use Rattle.mp_program.specs.Trace.{IsClock}
-use Rattle.mp_fitting.specs.Fitting.{StateFits}
 use Rattle.stimulus.specs.Fitting.{bound_at}
 use Rattle.stimulus.specs.Transcript.{pad_texts}
 use Rattle.silicon.specs.Transcript.{values_text}

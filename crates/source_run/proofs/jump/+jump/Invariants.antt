@@ -2,6 +2,7 @@ use Rattle.std.proofs.Common.{◌≡◌, ◌+◌, ◌-◌, ◌*◌, length, drop
 use Rattle.std.specs.List.{flat_map}
 use Rattle.mp_program.specs.Values.{value_of}
 use Rattle.mp_program.specs.Effects.{effects_of, branch_effects}
+use Rattle.source_run.specs.Linked.{process_at}
 use Rattle.source_run.specs.Jumps.{jump_from}
 use Rattle.source_run.proofs.jump.+jump.Given as goal
 
@@ -21,4 +22,4 @@ invariant-jump_chosen-loop-branch l =
 
 abbrev pub invariant-jump_first-loop-form : goal.invariant-jump_first-loop-form
 invariant-jump_first-loop-form l =
-    jump_from l.process (flat_map (effects_of l.program l.env) l.forms) ≡ jump_from l.process (flat_map (effects_of l.program l.env) (drop l.form-index l.forms))
+    jump_from (process_at l.program l.index) (flat_map (effects_of l.program l.env) l.forms) ≡ jump_from (process_at l.program l.index) (flat_map (effects_of l.program l.env) (drop l.form-index l.forms))

@@ -1,8 +1,10 @@
 use Rattle.std.proofs.Common.{◌≡◌, ◌+◌, ◌<◌, ◌≤◌, sym, ◌∙◌, ap, subst, map, length, arith, get_or}
 use Rattle.std.specs.Prelude.{slice_index}
+use Rattle.std.proofs.lemmas.List.{get_or_default}
 use Rattle.mp_program.specs.Effects.{effects_of}
 use Rattle.mp_program.specs.Step.{next_seats}
 use Rattle.source_run.specs.declared.seat.Seat.{Seat}
+use Rattle.source_run.specs.Linked.{no_process, process_at}
 use Rattle.source_run.specs.Remembered.{seat_of}
 use Rattle.source_run.specs.Jumps.{seat_after, jump_from}
 use Rattle.source_run.proofs.Jumping.{next_seat-jump}
@@ -79,7 +81,8 @@ loop-i-preserved c =
     let size = length-mapped seat_of c.loop-i.seats in
     let here = mapped_at seat_of c.loop-i.seats i c.index-seats-i.result no_seat (omega arith) c.index-seats-i.is ∙ c.loop-i.invariant.rest i (omega arith) in
     let form : get_or c.args.places.now i 0 ≡ slice_index q.forms s.place = ap (λ fs. get_or fs i 0) c.requires.placed ∙ taken_at qs ss i q c.requires.seats lt is in
-    let jump = c.jump_of-jump.ensures ∙ ap (λ f. jump_from q (effects_of p env f)) form in
+    let mine : process_at p i ≡ q = get_or_default p.processes i no_process q lt ∙ sym is in
+    let jump = c.jump_of-jump.ensures ∙ ap (λ z. jump_from z (effects_of p env (get_or c.args.places.now i 0))) mine ∙ ap (λ f. jump_from q (effects_of p env f)) form in
     subst (λ zs. MadeTo zs (next_seats p env qs ss) ss no_seat (i + 1)) (sym (map_set seat_of c.loop-i.seats i c.advance.new.self))
     (made_more (map seat_of c.loop-i.seats) (next_seats p env qs ss) ss no_seat i (seat_of c.advance.new.self) (omega arith)
     (c.advance.ensures

@@ -1,5 +1,5 @@
 use Rattle.std.proofs.Common.{◌∙◌, sym, subst}
-use Rattle.cif_flat.specs.Placing.{scale_of}
+use Rattle.cif_place.specs.Placing.{scale_of}
 use Rattle.cif_flat.specs.Refusing.{RefusesWalk}
 use Rattle.cif_flat.proofs.Arms.{fits_here, short_turns, held_here, ratio_here}
 use Rattle.cif_flat.proofs.Calls.{call_unknown, call_open, call_fault, call_entered}
@@ -33,4 +33,4 @@ returns-in_ok-enter-in-Ok-clause-ok c =
     let a = c.in-Ok.ensures.called (scale_of c.args.level.ratio) c.args.turns.now c.in_ok-turned.ensures.turned in
     let e = c.in_ok-enter-in-Ok.ensures in
     call_entered c.args.items.now c.args.self.now c.args.level c.args.offset c.args.number.now c.args.turns.now c.requires c.key_of-number.result c.key_of-number.ensures c.in-Some.symbol (sym c.found.ensures ∙ c.in-Some.is) c.if-is_open.ensures.closed c.in-Ok.placement a (c.in-Ok.ensures.held c.in_ok-turned.ensures.held)
-    c.enter.new.self.opened e.here e.others c.enter.new.self c.turned_at.new.calls c.in_ok-turned.ensures.calls e.kept e.pushed
+    c.enter.new.self.opened e.here e.others c.placements_compose.ensures.after c.placements_compose.ensures.held c.enter.new.self c.turned_at.new.calls c.in_ok-turned.ensures.calls e.kept e.pushed

@@ -1,7 +1,7 @@
 use Rattle.std.proofs.Common.{◌∙◌, ◌≡◌, ◌+◌, ◌++◌, ◌∷◌, [], sym, ap, subst, arith}
 use Rattle.cif_form.specs.Place.{segments}
-use Rattle.cif_flat.specs.Placing.{scale_of}
-use Rattle.cif_flat.specs.Shaping.{IsWired, drawn}
+use Rattle.cif_place.specs.Placing.{scale_of}
+use Rattle.cif_place.specs.Shaping.{IsWired, drawn}
 use Rattle.cif_flat.proofs.Walks.{onward}
 use Rattle.lam_geom.specs.declared.layer.Layer.TheVariants.{ND}
 use Rattle.std.specs.Prelude.{unwrap_or}
@@ -68,7 +68,7 @@ returns-in_default-clause-err c =
     let d = subst (IsWired (scale_of c.args.level.ratio) c.args.level.placement c.unwrap_or-layer.result c.args.extent.across (segments c.args.path.now) c.args.self.now.shapes c.draw_wire.new.shapes) c.in-Drawn.is c.in_ok-wired.ensures in
     let n = c.segment_count-weight.ensures in
     let m = c.requires.visit.walking.limit in
-    subst (RefusesWalk c.args.items.now) (sym c.broken-in_default.ensures) (wire_unset c.args.items.now c.args.self.now c.args.level c.args.offset c.args.extent.across c.args.path.now some c.requires.visit c.if-not-are_straight.ensures.straight d.0 d.1 (omega (arith, n, m)) d.2 c.in_default.is)
+    subst (RefusesWalk c.args.items.now) (sym c.broken-in_default.ensures) (wire_unset c.args.items.now c.args.self.now c.args.level c.args.offset c.args.extent.across c.args.path.now some c.requires.visit c.if-not-are_straight.ensures.straight d.0 d.1 (omega (arith, n, m)) d.2 c.rectangles_are_determined.ensures.wires c.in_default.is)
 
 pub returns-in_ok-go_on-in-Drawn-clause-ok : goal.returns-in_ok-go_on-in-Drawn-clause-ok
 returns-in_ok-go_on-in-Drawn-clause-ok c =
@@ -78,7 +78,7 @@ returns-in_ok-go_on-in-Drawn-clause-ok c =
     let m = c.requires.visit.walking.limit in
     let set : c.unwrap_or-layer.result ≡ c.in-Some.set = c.unwrap_or-layer.ensures ∙ ap (λ o. unwrap_or o ND) c.in-Some.is in
     let old = c.args.self.now in
-    wire_drawn c.args.items.now c.args.self.now c.args.level c.args.offset c.args.extent.across c.args.path.now some c.requires.visit c.if-not-are_straight.ensures.straight d.0 d.1 (omega (arith, n, m)) d.2 c.in-Some.set c.in-Some.is c.draw_wire.new.shapes
+    wire_drawn c.args.items.now c.args.self.now c.args.level c.args.offset c.args.extent.across c.args.path.now some c.requires.visit c.if-not-are_straight.ensures.straight d.0 d.1 (omega (arith, n, m)) d.2 c.rectangles_are_determined.ensures.wires c.in-Some.set c.in-Some.is c.draw_wire.new.shapes
     (d.3 ∙ ap (λ l. old.shapes ++ drawn c.args.level.placement l d.0) set) c.go_on.new.self
     (subst (λ k. c.go_on.new.self ≡ record old { shapes = c.draw_wire.new.shapes; count = old.count + k; levels = c.go_on.new.self.levels }) n c.in_ok-go_on-in-Drawn.ensures.kept)
     (c.in_ok-go_on-in-Drawn.ensures.pushed ∙ ap (λ u. old.levels.items ++ u ∷ []) c.onward.ensures ∙ ap (λ l. old.levels.items ++ onward c.args.level l ∷ []) (sym c.in-Some.is))

@@ -1,0 +1,118 @@
+"""CIF files to measure `net` and `sim` with."""
+import random
+
+PHASES = "L NM;B 2 2 -21 1;B 2 2 -25 1;B 2 2 -29 1;94 phia -21 1;94 phib -25 1;94 phic -29 1;"
+
+
+def box(left, bottom, right, top):
+    """The rectangle with these edges, which are even."""
+    return "B %d %d %d %d;" % (right - left, top - bottom, (left + right) // 2, (bottom + top) // 2)
+
+
+# ---- for the extractor
+
+def transistors(count):
+    """An array of crosses of diffusion and polysilicon, so many rectangles."""
+    side = int((count // 2) ** 0.5)
+    spots = [(8 * i, 8 * j) for j in range(side) for i in range(side)]
+    return "L ND;%sL NP;%sE\n" % ("".join("B 2 6 %d %d;" % spot for spot in spots),
+                                  "".join("B 6 2 %d %d;" % spot for spot in spots))
+
+
+def overlaps(count):
+    """Rectangles of one layer at random: some islands, many of them joined."""
+    draw = random.Random(1)
+    side = int((100 * count) ** 0.5)
+    return "L NM;%sE\n" % "".join(
+        "B %d %d %d %d;" % (2 * draw.randrange(1, 8), 2 * draw.randrange(1, 8), draw.randrange(side), draw.randrange(side))
+        for _ in range(count))
+
+
+def called(count):
+    """The array of transistors by calls of calls: each definition calls the one before it ten times."""
+    text, depth, step = "DS 1;L ND;B 2 6 0 0;L NP;B 6 2 0 0;DF;", 1, 8
+    width = [8, 8]
+    held = 2
+    while held * 10 <= count:
+        along = depth % 2
+        text += "DS %d;%sDF;" % (depth + 1, "".join(
+            "C %d T %d %d;" % ((depth, k * width[0], 0) if along else (depth, 0, k * width[1])) for k in range(10)))
+        width[0 if along else 1] *= 10
+        depth, held = depth + 1, held * 10
+    times = count // held
+    return text + "".join("C %d T %d %d;" % (depth, 0, k * width[1] * 10) for k in range(times)) + "E\n"
+
+
+def combs(count):
+    """A comb of metal against a comb of polysilicon: teeth of two layers, half of them upright, half level."""
+    teeth = count // 2
+    return "L NP;%sL NM;%sE\n" % ("".join("B 2 %d %d 0;" % (4 * teeth, 4 * k) for k in range(teeth)),
+                                  "".join("B %d 2 %d %d;" % (2, 4 * (k % teeth) + 2, 4 * k) for k in range(teeth)))
+
+
+def spanned(count):
+    """A tall rectangle beside a column of small ones, and a wide one below a row of small ones."""
+    half = count // 2
+    return "L NM;B 2 %d -4 %d;B %d 2 %d -4;%s%sE\n" % (
+        8 * half, 4 * half, 8 * half, 4 * half,
+        "".join("B 2 2 0 %d;" % (8 * k) for k in range(half)), "".join("B 2 2 %d 0;" % (8 * k + 8) for k in range(half)))
+
+
+def fence(count):
+    """Tall rectangles side by side, and beside them a column of small ones: each small one begins a new row."""
+    half = count // 2
+    return "L NM;%s%sE\n" % ("".join("B 2 %d %d %d;" % (8 * half, 4 * k, 4 * half) for k in range(half)),
+                             "".join("B 2 2 -8 %d;" % (8 * k) for k in range(half)))
+
+
+def copies(count):
+    """One rectangle again and again."""
+    return "L NM;%sE\n" % ("B 1000 1000 0 0;" * count)
+
+
+def stairs(count):
+    """Rectangles of which each begins where the one before is still open: no two have an edge in common."""
+    return "L NM;%sE\n" % "".join("B %d %d %d %d;" % (2 * count, 2 * count, 4 * k, 4 * k) for k in range(count))
+
+
+# ---- for the simulator
+
+def inverters(count):
+    """A chain of inverters between two rails of diffusion."""
+    text = ["L ND;", box(-2, 0, 12 * count, 2), box(-2, 28, 12 * count, 30)]
+    text += [box(12 * k, 0, 12 * k + 2, 30) for k in range(count)]
+    text.append("L NP;")
+    for k in range(count):
+        x = 12 * k
+        text += [box(x - 2, 6, x + 4, 8), box(x - 2, 14, x + 4, 24), box(x + 4, 14, x + 8, 16), box(x + 6, 8, x + 8, 14), box(x + 6, 6, x + 10, 8)]
+    text.append("L NB;")
+    text += [box(12 * k, 14, 12 * k + 2, 16) for k in range(count)]
+    text.append("L NI;")
+    text += [box(12 * k - 2, 16, 12 * k + 4, 24) for k in range(count)]
+    labels = "94 gnd -2 0 ND;94 vdd -2 28 ND;94 a -2 6 NP;94 y %d 10 ND;" % (12 * count - 12)
+    return "%s%s%sE\n" % (PHASES, labels, "".join(text))
+
+
+def lattice(side, columns, teeth_alone):
+    """Lines of diffusion, with a pass transistor on each edge of the lattice; or the first upright line alone, with teeth."""
+    uprights = 1 if teeth_alone else columns
+    text = ["L ND;"] + [box(0, 8 * j, 8 * columns + 2, 8 * j + 2) for j in range(side)]
+    text += [box(8 * i, 0, 8 * i + 2, 8 * side - 6) for i in range(uprights)]
+    text.append("L NP;" + box(-4, -4, -2, 8 * side))
+    text += [box(8 * i + 4, -4, 8 * i + 6, 8 * side) for i in range(columns)]
+    text += [box(-2, 8 * j + 4, 8 * (uprights - 1) + 4, 8 * j + 6) for j in range(side - 1)]
+    text.append(box(-4, -4, 8 * columns + 2, -2))
+    labels = "94 g -4 -4 NP;94 d 0 0 ND;94 q %d %d ND;B 2 2 -21 9;B 2 2 -25 9;94 gnd -21 9;94 vdd -25 9;" % (8 * columns, 8 * side - 8)
+    return "%s%s%sE\n" % (PHASES, labels, "".join(text))
+
+
+def grid(channels):
+    """A square grid of pass transistors, with one input for all gates and one for a corner."""
+    side = int((channels // 2) ** 0.5)
+    return lattice(side, side, False)
+
+
+def tree(channels):
+    """A stem of pass transistors with branches of pass transistors."""
+    side = int(channels ** 0.5)
+    return lattice(side, side, True)

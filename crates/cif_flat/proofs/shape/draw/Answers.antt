@@ -1,4 +1,0 @@
-use Rattle.cif_flat.proofs.shape.draw.Goals as goal
-
-pub rect-requires : goal.rect-requires
-rect-requires c = c.if-not-are_near.ensures.near c.args.layer

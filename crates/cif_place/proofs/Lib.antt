@@ -1,0 +1,4 @@
+pub mod Numbers
+pub mod Placements
+pub mod Turns
+pub mod Shapes

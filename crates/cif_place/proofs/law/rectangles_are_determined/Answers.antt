@@ -1,0 +1,8 @@
+use Rattle.cif_place.proofs.Shapes.{one_box, one_wire}
+use Rattle.cif_place.proofs.law.rectangles_are_determined.Goals as goal
+
+pub returns-clause-boxes : goal.returns-clause-boxes
+returns-clause-boxes c = one_box
+
+pub returns-clause-wires : goal.returns-clause-wires
+returns-clause-wires c = one_wire

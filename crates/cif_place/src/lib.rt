@@ -1,0 +1,16 @@
+//! Where the shapes of CIF are laid: distances scaled, calls turned and moved, boxes and wires as rectangles.
+#![tactic(auto)]
+
+mod edges;
+mod law;
+mod placement;
+mod ratio;
+mod shape;
+mod turned;
+
+pub use edges::{Edges, Extent};
+pub use law::{placements_compose, rectangles_are_determined};
+pub use placement::Placement;
+pub use ratio::Ratio;
+pub use shape::{BoxFault, Wired, are_straight, box_edges, draw_wire, segment_count};
+pub use turned::Turned;

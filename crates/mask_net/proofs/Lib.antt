@@ -1,0 +1,2 @@
+mod Verdict
+mod Steps

@@ -1,0 +1,45 @@
+//! From the bytes of a file to its network.
+
+ghost use Rattle.std.specs.Prelude.{IfOk, IfErr};
+ghost use Rattle.mask_net.specs.Masks.{IsCif, IsDrawing, IsNetOf, RefusesBytes};
+
+use cif_flat::{Flat, flatten, read_is_well_formed};
+use cif_form::{Cif, scan_is_reading, walk_is_expansion};
+use cif_reader::read_cif;
+use extractor::extract;
+use mp_base::Refusal;
+use std::alloc::Global;
+use switch_net::Network;
+
+// The commands, for which the bytes are let go.
+fn commands_of(alloc: Global, bytes: Vec<u8>) -> Result<Cif, Refusal>
+    ensures ok { IfOk result (λ cif. IsCif bytes.items cif.items) }
+    ensures err { IfErr result (RefusesBytes bytes.items) }
+{
+    scan_is_reading();
+    read_cif(alloc, &bytes)
+}
+
+// The shapes and labels, for which the commands are let go.
+fn drawing_of(alloc: Global, bytes: Vec<u8>) -> Result<Flat, Refusal>
+    ensures ok { IfOk result (λ flat. IsDrawing bytes.items flat.shapes flat.labels) }
+    ensures err { IfErr result (RefusesBytes bytes.items) }
+{
+    read_is_well_formed();
+    walk_is_expansion();
+    let cif = commands_of(alloc, bytes)?;
+    flatten(alloc, &cif)
+}
+
+/// The network of switches that the bytes of a CIF file draw. They are taken, and let go once they are read, as the
+/// commands are once they are drawn.
+///
+/// Errors: the first broken rule, at the offset of its command or label; those of texts, C1 to C5, come before those of
+/// drawing, F1 to F10, and these before those of masks: N1 and N2, then N3, then N5. `NoMemory` is want of memory.
+pub fn network_of(alloc: Global, bytes: Vec<u8>) -> Result<Network, Refusal>
+    ensures ok { IfOk result (IsNetOf bytes.items) }
+    ensures err { IfErr result (RefusesBytes bytes.items) }
+{
+    let flat = drawing_of(alloc, bytes)?;
+    extract(alloc, flat.shapes.as_slice(), flat.labels.as_slice())
+}

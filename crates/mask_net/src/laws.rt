@@ -1,0 +1,30 @@
+//! Laws of CIF files and their networks: a call of one does nothing, and tells the caller's proof what it ensures.
+
+ghost use Rattle.mask_net.specs.Laws.{OneNetwork, OneVerdict, SoundWithPads};
+
+use cif_form::{scan_is_unique, walk_is_unique};
+use switch_net::{first_rule_is_determined, network_is_determined};
+
+/// A file draws at most one network.
+pub fn one_network()
+    ensures { OneNetwork }
+{
+    scan_is_unique();
+    walk_is_unique();
+    network_is_determined();
+}
+
+/// A file breaks no rule of texts, drawing and masks, or has one first broken rule at one place.
+pub fn one_verdict()
+    ensures { OneVerdict }
+{
+    scan_is_unique();
+    walk_is_unique();
+    network_is_determined();
+    first_rule_is_determined();
+}
+
+/// A file whose mask is sound with some pads draws the mask's network.
+pub fn sound_with_pads()
+    ensures { SoundWithPads }
+{}

@@ -1,0 +1,55 @@
+//! The line that tells the size of a network.
+
+ghost use Rattle.std.specs.Prelude.{◌≡◌, ◌++◌, IfOk};
+ghost use Rattle.std.specs.Fmt.{decimal};
+ghost use Rattle.switch_net.specs.Sizes.{channels_of, same_kind};
+ghost use Rattle.mask_net.specs.SizeLine.{size_line};
+
+use itoa::Buffer;
+use std::alloc::{AllocError, Global};
+use switch_net::{ChannelKind, Network};
+
+fn same_kind(a: ChannelKind, b: ChannelKind) -> bool
+    ensures { result ≡ same_kind a b }
+{
+    matches!(
+        (a, b),
+        (ChannelKind::Enhancement, ChannelKind::Enhancement)
+            | (ChannelKind::Depletion, ChannelKind::Depletion)
+            | (ChannelKind::Partial, ChannelKind::Partial)
+    )
+}
+
+// How many channels are of a kind.
+fn channels_of(net: &Network, kind: ChannelKind) -> usize
+    ensures { result ≡ channels_of net.now kind }
+{
+    net.channels
+        .as_slice()
+        .iter()
+        .filter(|channel| same_kind(kind, channel.kind))
+        .count()
+}
+
+fn push_number(text: &mut Vec<u8>, number: u64) -> Result<(), AllocError>
+    ensures { IfOk result (λ u. text.new.items ≡ text.old.items ++ decimal number) }
+{
+    let mut buffer = Buffer::new();
+    text.extend_from_slice(buffer.format(number).as_bytes())
+}
+
+/// The size line of a network, `nodes N enhancement N depletion N partial N`, with its line feed.
+pub fn size_line(alloc: Global, net: &Network) -> Result<Vec<u8>, AllocError>
+    ensures { IfOk result (λ text. text.items ≡ size_line net.now) }
+{
+    let mut text = Vec::from_slice(alloc, b"nodes ")?;
+    push_number(&mut text, net.nodes as u64)?;
+    text.extend_from_slice(b" enhancement ")?;
+    push_number(&mut text, channels_of(net, ChannelKind::Enhancement) as u64)?;
+    text.extend_from_slice(b" depletion ")?;
+    push_number(&mut text, channels_of(net, ChannelKind::Depletion) as u64)?;
+    text.extend_from_slice(b" partial ")?;
+    push_number(&mut text, channels_of(net, ChannelKind::Partial) as u64)?;
+    text.push(b'\n')?;
+    Ok(text)
+}

@@ -1,0 +1,5 @@
+mod Reaching
+mod Cutting
+mod Finding
+mod Telling
+mod Joining

@@ -1,0 +1,96 @@
+//! The windows around the cells that may change.
+
+ghost use Rattle.std.specs.Prelude.{◌≡◌, ℕ, ◌+◌, ◌<◌, [], ◌∷◌, ◌++◌, IfOk, OnOk};
+ghost use Rattle.cover_tree.specs.Covers.{row_colour};
+ghost use Rattle.cover_tree.specs.Trees.{cover_of};
+ghost use Rattle.row_windows.specs.Windows.{AreFit, AreApart, ChangeAt, TellChange, IsGuarded};
+ghost use Rattle.row_windows.specs.Reaching.{IsOpened, IsRightOf};
+
+use crate::edge::Edge;
+use crate::reach::{left_of, right_of};
+use crate::window::Window;
+use cover_tree::CoverTree;
+use mp_base::NoMemory;
+use std::alloc::AllocError;
+
+/// The windows of a row, from left to right, around the cells that these edges have, from left to right too. Each window
+/// reaches over two runs beside such cells, if they lie next to one another, so that the runs in the windows, in this row
+/// and in the next, tell all that changes. Its time is that of the edges times the logarithm of the cells, where the mask
+/// has one layer.
+pub fn find_windows(
+    tree: &CoverTree,
+    row: u32,
+    edges: &[Edge],
+    windows: &mut Vec<Window>,
+) -> Result<(), NoMemory>
+    requires fit { AreFit (cover_of tree.now).cells edges.now }
+    requires guarded { IsGuarded (cover_of tree.now) row }
+    ensures apart { IfOk result (λ _. AreApart (cover_of tree.now).cells windows.new.items) }
+    ensures tell { IfOk result (λ _. (colour : ℕ → ℕ → ℕ) (y : ℕ) → ((c : ℕ) → colour y c ≡ row_colour (cover_of tree.now) row c)
+        → ChangeAt edges.now (colour y) (colour (y + 1)) → TellChange colour y windows.new.items) }
+{
+    windows.clear();
+    if edges.is_empty() {
+        return Ok(());
+    }
+    let mut current = Window {
+        from: left_of(tree, row, edges[0].from),
+        to: edges[0].to,
+    };
+    for next in 1..edges.len() {
+        current = add_edge(tree, row, current, edges[next], windows)?;
+    }
+    add(windows, closed(tree, row, current))?;
+    Ok(())
+}
+
+// Adds the current window if the edge lies beyond it, and gives the current one then, whose `to` is where the edges end that
+// it has.
+fn add_edge(
+    tree: &CoverTree,
+    row: u32,
+    current: Window,
+    edge: Edge,
+    windows: &mut Vec<Window>,
+) -> Result<Window, NoMemory>
+    requires current { current.to < (cover_of tree.now).cells }
+    requires edge { edge.from < (cover_of tree.now).cells }
+    requires guarded { IsGuarded (cover_of tree.now) row }
+    ensures { IfOk result (λ next. IsOpened (row_colour (cover_of tree.now) row) (cover_of tree.now).cells current edge windows.old.items windows.new.items next) }
+{
+    let joined = Window {
+        from: current.from,
+        to: current.to.max(edge.to),
+    };
+    if edge.from <= current.to {
+        return Ok(joined);
+    }
+    let window = closed(tree, row, current);
+    let from = left_of(tree, row, edge.from);
+    if from <= window.to {
+        return Ok(joined);
+    }
+    add(windows, window)?;
+    Ok(Window { from, to: edge.to })
+}
+
+// The window with the runs to the right of its edges.
+fn closed(tree: &CoverTree, row: u32, current: Window) -> Window
+    requires current { current.to < (cover_of tree.now).cells }
+    requires guarded { IsGuarded (cover_of tree.now) row }
+    ensures from { result.from ≡ current.from }
+    ensures to { IsRightOf (row_colour (cover_of tree.now) row) current.to result.to }
+    ensures within { result.to < (cover_of tree.now).cells }
+{
+    Window {
+        from: current.from,
+        to: right_of(tree, row, current.to),
+    }
+}
+
+fn add(windows: &mut Vec<Window>, window: Window) -> Result<(), AllocError>
+    ensures { OnOk result (windows.new.items ≡ windows.old.items ++ window ∷ []) }
+{
+    windows.push(window)?;
+    Ok(())
+}

@@ -1,0 +1,33 @@
+//! Sweeps over masks that are drawn by hand, over random ones against their squares one by one, and over large ones.
+#![tactic(auto)]
+
+mod dice;
+mod drawn;
+mod large;
+mod show;
+mod squares;
+
+use drawn::{cross, cross_places, transistor, transistor_places};
+use lam_geom::Layer;
+use large::{comb, stairs};
+use mask_runs::Mask;
+use show::{show, show_random, show_size};
+use std::io;
+
+fn main(rt: HostRuntime) -> io::Result<()> {
+    let metal = Mask::Only(Layer::NM);
+    show(&rt, "a cross", &cross(), metal, &cross_places())?;
+    show(
+        &rt,
+        "a transistor",
+        &transistor(),
+        Mask::Diffusion,
+        &transistor_places(),
+    )?;
+    show(&rt, "nothing", &[], Mask::Contacts, &transistor_places())?;
+    show_random(&rt)?;
+    let stairs = stairs(rt.alloc(), 30_000)?;
+    show_size(&rt, "stairs", stairs.as_slice(), metal)?;
+    let comb = comb(rt.alloc(), 30_000)?;
+    show_size(&rt, "a comb over a comb", comb.as_slice(), metal)
+}
