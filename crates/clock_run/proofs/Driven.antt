@@ -1,9 +1,9 @@
 -- Nodes that are set to what drives them.
-use Rattle.std.proofs.Common.{◌≡◌, ◌≢◌, ◌⊎◌, inl, inr, ◌∙◌, ℕ, zero, suc, ◌+◌, ◌<◌, ◌≤◌, List, [], ◌∷◌, ◌++◌, length, get_or, set, take, refl, sym, ap, subst, arith, Option, Some, None}
+use Rattle.std.proofs.Common.{◌≡◌, ◌⊎◌, inl, inr, ◌∙◌, ℕ, zero, suc, ◌+◌, ◌<◌, ◌≤◌, List, [], ◌∷◌, ◌++◌, length, get_or, set, take, refl, sym, ap, subst, arith, Option, Some, None}
 use Rattle.std.specs.Prelude.{Contains, flat_map}
 use Rattle.std.specs.List.{AllZip}
 use Rattle.std.proofs.lemmas.Bool.{cases_lt, cases_eq}
-use Rattle.std.proofs.lemmas.List.{get_or_default, get_or-set_same, get_or-set_other, get_or_append_left, get_or_push}
+use Rattle.std.proofs.lemmas.List.{get_or-set_same, get_or-set_other, get_or_append_left, get_or_push}
 use Rattle.std.proofs.lemmas.List.Elements.{Contains-append_cases}
 use Rattle.std.proofs.lemmas.Grind.{flat_map-append}
 use Rattle.mp_base.specs.declared.value.Trit.{Trit}
@@ -61,7 +61,7 @@ set_more driver nodes bits k n b first a lt is ib inside z h =
     subst (λ ns. AreSet driver ns first (set a n (Some b))) (sym (take_push nodes k n lt is))
     (set_then driver (take k nodes) (n ∷ []) first a (set a n (Some b)) h (set_one driver n b a inside e))
 
-length_bits : (n word : ℕ) → length (low_bits n word) ≡ n
+pub length_bits : (n word : ℕ) → length (low_bits n word) ≡ n
 length_bits zero word = refl
 length_bits (suc n) word = length_push_one (low_bits n word) (trit_of (bit_at word n)) ∙ ap suc (length_bits n word)
   where

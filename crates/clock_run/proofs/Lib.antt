@@ -2,5 +2,11 @@ pub mod Naming
 pub mod Missing
 pub mod Owning
 pub mod Bits
+pub mod Trits
 pub mod Zips
 pub mod Driven
+pub mod Splitting
+pub mod Planned
+pub mod Showing
+pub mod Planning
+pub mod Clocking

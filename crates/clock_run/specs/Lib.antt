@@ -5,3 +5,4 @@ pub mod Words
 pub mod Settings
 pub mod Driving
 pub mod Plan
+pub mod Circuit

@@ -1,6 +1,5 @@
-use Rattle.std.proofs.Common.{◌≡◌, ◌∙◌, ℕ, List, ◌<◌, get_or, length, sym, ap, arith}
+use Rattle.std.proofs.Common.{◌<◌, get_or, length, arith}
 use Rattle.std.proofs.lemmas.List.{get_or_default}
-use Rattle.mp_base.specs.declared.value.Trit.{Trit}
 use Rattle.clock_run.proofs.Driven.{set_more}
 use Rattle.clock_run.proofs.drive.drive_levels.Goals as goal
 

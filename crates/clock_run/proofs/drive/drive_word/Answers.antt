@@ -1,4 +1,4 @@
-use Rattle.std.proofs.Common.{◌≡◌, ◌∙◌, ℕ, List, ◌<◌, get_or, length, sym, ap, arith}
+use Rattle.std.proofs.Common.{◌∙◌, ◌<◌, get_or, length, sym, arith}
 use Rattle.std.proofs.lemmas.List.{get_or_default}
 use Rattle.switch_net.specs.Pads.{low_bits}
 use Rattle.clock_run.proofs.Driven.{set_more, low_bit}

@@ -1,4 +1,4 @@
-use Rattle.std.proofs.Common.{◌≡◌, ◌∙◌, ℕ, List, Option, ◌<◌, get_or, length, sym, ap, subst, arith}
+use Rattle.std.proofs.Common.{ℕ, List, ◌<◌, get_or, length, subst, arith}
 use Rattle.std.proofs.lemmas.List.{get_or_default}
 use Rattle.clock_run.specs.Driving.{AreDriven, AreSet}
 use Rattle.clock_run.proofs.Driven.{set_more_words}

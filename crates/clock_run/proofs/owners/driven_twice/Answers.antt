@@ -1,4 +1,4 @@
-use Rattle.std.proofs.Common.{◌≡◌, ◌≢◌, ◌∙◌, ℕ, ◌<◌, List, refl, ap, sym, subst, arith, ◌+◌, length, get_or, set, true, false, Option, Some, None, rules, Vec, Global}
+use Rattle.std.proofs.Common.{◌≡◌, ◌≢◌, ◌∙◌, ℕ, ◌<◌, List, refl, ap, sym, subst, arith, ◌+◌, length, get_or, set, Option, Some, None, rules, Vec, Global}
 use Rattle.std.proofs.lemmas.Slice.Eq.{bytes_eq-Decides}
 use Rattle.std.proofs.lemmas.List.{length-set}
 use Rattle.switch_net.specs.declared.network.Tag.{Tag}

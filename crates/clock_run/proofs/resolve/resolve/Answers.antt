@@ -1,4 +1,4 @@
-use Rattle.std.proofs.Common.{◌≡◌, ◌∙◌, ℕ, List, ap, sym, subst, arith, ◌++◌, ◌∷◌, [], refl, Option, Some, None, take, ◌+◌}
+use Rattle.std.proofs.Common.{◌≡◌, ◌∙◌, ℕ, List, ap, sym, subst, arith, Some, None, take, ◌+◌}
 use Rattle.std.specs.List.{AllZip}
 use Rattle.mp_base.specs.declared.refusal.Spot.TheVariants.{Named}
 use Rattle.switch_net.specs.declared.network.Tag.{Tag}

@@ -1,4 +1,4 @@
-use Rattle.std.proofs.Common.{◌≡◌, ◌∙◌, ◌<◌, ◌^◌, ◌+◌, ℕ, Bool, cond, ap, sym, subst}
+use Rattle.std.proofs.Common.{◌≡◌, ◌∙◌, ◌<◌, ◌^◌, ◌+◌, ℕ, Bool, ap, sym, subst}
 use Rattle.std.specs.Prelude.{bit_and, bit_or}
 use Rattle.clock_run.specs.Words.{is_known, is_one}
 use Rattle.clock_run.proofs.Bits.{trit, flag, flagged_narrow, trit_below, trit_here, bits_small, still_masked}

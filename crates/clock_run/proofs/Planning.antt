@@ -1,0 +1,77 @@
+-- The nodes of a plan, and why there is none.
+use Rattle.std.proofs.Common.{◌≡◌, ◌∙◌, ℕ, ◌+◌, ◌-◌, List, [], ◌++◌, length, take, drop, refl, sym, ap, subst, arith, Option, Some, None}
+use Rattle.std.specs.Prelude.{flat_map, slice_get, MatchOption}
+use Rattle.std.specs.List.{AllZip}
+use Rattle.std.proofs.lemmas.List.{append-nil, length-append, length-drop, take_all}
+use Rattle.mp_base.specs.declared.refusal.Refusal.{Refusal}
+use Rattle.mp_base.specs.declared.refusal.Refusal.TheVariants.{NoMemory, Broken}
+use Rattle.mp_base.specs.declared.refusal.Spot.TheVariants.{Offset}
+use Rattle.mp_base.specs.declared.refusal.Broken.{Broken as BrokenRule}
+use Rattle.mp_base.specs.declared.pad.Pad.{Pad}
+use Rattle.mp_base.specs.declared.pad.Pads.{Pads}
+use Rattle.mp_base.specs.PadNames.{supplies}
+use Rattle.switch_net.specs.declared.network.Network.{Network}
+use Rattle.switch_net.specs.Pads.{bit_labels, driver_labels, chip_labels}
+use Rattle.switch_net.specs.Clock.{IsLabelled}
+use Rattle.switch_net.specs.Breaks.{MeetsDriver, IsMissing, IsFirstOfCircuit, broken}
+use Rattle.switch_net.specs.Breaks.IsFirstOfCircuit.{n3, n4}
+use Rattle.clock_run.specs.Owners.{IsFirstMeeting}
+use Rattle.clock_run.specs.Refused.{IsMissingFirst, IsRefused}
+use Rattle.clock_run.proofs.Missing.{partner, place_inside}
+use Rattle.clock_run.proofs.Zips.{zip_parts, zip_length}
+
+-- no label is missing where each has a node
+pub none_missing : (net : Network) (labels : List (List ℕ)) (nodes : List ℕ) → AllZip (IsLabelled net) labels nodes → (i : ℕ) (name : List ℕ) → ¬ IsMissing net labels i name
+none_missing net labels nodes z i name m =
+    let w = partner (IsLabelled net) labels [] nodes z i name (place_inside labels i name m.at)
+    (subst (λ xs. slice_get xs i ≡ Some name) (sym (append-nil labels)) m.at) in
+    m.none w.1.0 w.1.1 w.1.2
+
+pub refused_n3 : (net : Network) (pads : Pads) (offset : ℕ) → IsFirstMeeting (driver_labels pads.inputs) net.tags offset → IsFirstOfCircuit net pads (broken 3 (Offset offset))
+refused_n3 net pads offset m =
+    subst (λ o. IsFirstOfCircuit net pads (broken 3 (Offset o))) (sym m.offset_is) (n3 m.i m.tag m.twice m.first)
+
+pub refused_n4 : (net : Network) (pads : Pads) (r : Refusal) → ((i : ℕ) → ¬ MeetsDriver (driver_labels pads.inputs) net.tags i) → IsMissingFirst net (chip_labels pads) r → IsRefused net pads r
+refused_n4 net pads NoMemory apart m = tt
+refused_n4 net pads (Broken b) apart m =
+    subst (λ (x : BrokenRule). IsFirstOfCircuit net pads x) (sym m.2) (n4 apart m.1.i m.0 m.1.missing m.1.first)
+
+module _ (net : Network) (pads : Pads) (nodes : List ℕ) (z : AllZip (IsLabelled net) (chip_labels pads) nodes) where
+  abbrev outer : List (List ℕ)
+  outer = flat_map bit_labels pads.outputs
+
+  abbrev inner : List (List ℕ)
+  inner = flat_map bit_labels pads.inputs
+
+  pub supply_nodes : AllZip (IsLabelled net) supplies (take 5 nodes)
+  supply_nodes = (zip_parts (IsLabelled net) supplies (inner ++ outer) nodes 5 refl z).0
+
+  pub input_nodes : (n : ℕ) → length inner ≡ n → AllZip (IsLabelled net) inner (take n (drop 5 nodes))
+  input_nodes n e = (zip_parts (IsLabelled net) inner outer (drop 5 nodes) n e (zip_parts (IsLabelled net) supplies (inner ++ outer) nodes 5 refl z).1).0
+
+  pub output_nodes : (n : ℕ) → length (driver_labels pads.inputs) ≡ n → AllZip (IsLabelled net) outer (drop n nodes)
+  output_nodes n e = (zip_parts (IsLabelled net) (driver_labels pads.inputs) outer nodes n e z).1
+
+  -- there are as many nodes as labels
+  pub node_count : length nodes ≡ 5 + length inner + length outer
+  node_count = sym (zip_length (IsLabelled net) (chip_labels pads) nodes z) ∙ length-append (driver_labels pads.inputs) outer ∙ omega arith
+
+pub drivers_are : (pads : Pads) (ins : List Pad) (drivers shown : List (List ℕ)) → ins ≡ pads.inputs → drivers ≡ driver_labels ins → shown ≡ drivers → shown ≡ driver_labels pads.inputs
+drivers_are pads ins drivers shown i d s = s ∙ d ∙ ap (λ ps. driver_labels ps) i
+
+pub chip_is : (pads : Pads) (ins outs : List Pad) (drivers labels shown : List (List ℕ)) → ins ≡ pads.inputs → outs ≡ pads.outputs → drivers ≡ driver_labels ins
+    → labels ≡ drivers ++ flat_map bit_labels outs → shown ≡ labels → shown ≡ chip_labels pads
+chip_is pads ins outs drivers labels shown i o d l s =
+    s ∙ l ∙ ap (λ xs. xs ++ flat_map bit_labels outs) (drivers_are pads ins drivers drivers i d refl)
+    ∙ ap (λ ps. driver_labels pads.inputs ++ flat_map bit_labels ps) o
+
+pub none_met : {A : Type 0} (o : Option ℕ) (P : ℕ → Type 0) → MatchOption o A P → ((x : ℕ) → o ≡ Some x → ⊥) → A
+none_met None P h n = h
+none_met (Some x) P h n = absurd (n x refl)
+
+pub one_met : (A : Type 0) (o : Option ℕ) (P : ℕ → Type 0) (x : ℕ) → MatchOption o A P → o ≡ Some x → P x
+one_met A o P x h e = subst (λ p. MatchOption p A P) e h
+
+-- what is left behind the last bits of inputs
+pub rest_is : (nodes : List ℕ) (n : ℕ) → take (length nodes - n) (drop n nodes) ≡ drop n nodes
+rest_is nodes n = take_all (length nodes - n) (drop n nodes) (let e = length-drop n nodes in omega arith)

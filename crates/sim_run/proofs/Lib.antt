@@ -1,0 +1,6 @@
+pub mod Words
+pub mod Inputs
+pub mod Printing
+pub mod Transcripts
+pub mod Stepping
+mod Examples
