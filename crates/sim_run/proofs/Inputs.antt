@@ -1,12 +1,12 @@
 -- What a clock gives the input pads fits them.
-use Rattle.std.proofs.Common.{◌≡◌, ◌∙◌, ℕ, zero, suc, ◌+◌, ◌<◌, ◌^◌, List, [], ◌∷◌, Bool, true, inl, inr, length, map, drop, get_or, refl, sym, ap, subst, arith}
+use Rattle.std.proofs.Common.{◌≡◌, ℕ, zero, suc, ◌+◌, ◌<◌, ◌^◌, List, [], ◌∷◌, true, inl, inr, length, map, drop, get_or, sym, subst, arith}
 use Rattle.std.specs.Prelude.{not, ◌==◌, All}
-use Rattle.std.specs.List.{AllZip, list_any, range_with_len}
+use Rattle.std.specs.List.{list_any, range_with_len}
 use Rattle.std.proofs.Math.Pow.{pow_mono}
 use Rattle.std.proofs.lemmas.Bool.{and_parts, ltb-true, eq-eqb, ne_eqb, cases_eq, cond-true, cond-false}
 use Rattle.std.proofs.lemmas.List.FromFn.{fill_by_all}
 use Rattle.mp_base.specs.declared.pad.Pad.{Pad}
-use Rattle.switch_net.specs.Pads.{bit_count, Fit}
+use Rattle.switch_net.specs.Pads.{Fit}
 use Rattle.stimulus.specs.declared.given.Given.{Given}
 use Rattle.stimulus.specs.Rules.{bits_of, bound}
 use Rattle.stimulus.specs.Fitting.{bound_at, is_fitting, is_fitting_clock, are_fitting, value_given}

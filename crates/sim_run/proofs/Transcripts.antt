@@ -1,6 +1,6 @@
 -- Traces and transcripts, clock by clock.
 use Rattle.std.proofs.Common.{◌≡◌, ◌∙◌, ℕ, zero, suc, ◌+◌, ◌<◌, ◌≤◌, List, [], ◌∷◌, ◌++◌, append_assoc, Option, Ok, Err, length, map, take, drop, get_or, refl, sym, ap, subst, inl, inr, arith}
-use Rattle.std.specs.Prelude.{◌⊎◌, All, replicate}
+use Rattle.std.specs.Prelude.{◌⊎◌, replicate}
 use Rattle.std.proofs.lemmas.Bool.{cases_lt}
 use Rattle.std.proofs.lemmas.List.{append-nil, length-append, take_all, get_or-replicate, get_or_past, length-replicate}
 use Rattle.mp_base.specs.declared.value.Trit.{Trit}
@@ -11,12 +11,12 @@ use Rattle.mp_base.specs.Outside.{WhereTold, Gains}
 use Rattle.mp_base.specs.Piece.{TakesAll}
 use Rattle.switch_net.specs.declared.network.Network.{Network}
 use Rattle.switch_net.specs.Breaks.{HasPads}
-use Rattle.switch_net.specs.Clock.{IsClock, IsCircuitTrace}
+use Rattle.switch_net.specs.Clock.{IsCircuitTrace}
 use Rattle.switch_net.specs.Laws.{TraceExists}
 use Rattle.settle.specs.Values.{value_at}
 use Rattle.stimulus.specs.declared.given.Given.{Given}
 use Rattle.stimulus.specs.declared.given.Stimulus.{Stimulus}
-use Rattle.sim_run.specs.Transcript.{line_text, lines_text, inputs_at, inputs_of}
+use Rattle.sim_run.specs.Transcript.{line_text, lines_text, inputs_at}
 use Rattle.sim_run.specs.Simulation.{PrintsTranscript, PrintsClock}
 use Rattle.sim_run.proofs.Inputs.{clocks_fit}
 use Rattle.sim_run.proofs.Printing.{gains_nothing, gains_twice, gained, printed, cut_short}

@@ -1,5 +1,5 @@
 -- The text of a word is that of its bits.
-use Rattle.std.proofs.Common.{◌≡◌, ◌∙◌, ℕ, zero, suc, ◌+◌, ◌-◌, ◌*◌, ◌<◌, ◌≤◌, ◌^◌, ◌/◌, ◌%◌, List, [], ◌∷◌, ◌++◌, Bool, true, false, cond, eqb, length, decimal, inl, inr, refl, sym, ap, subst, arith}
+use Rattle.std.proofs.Common.{◌≡◌, ◌∙◌, ℕ, zero, suc, ◌+◌, ◌-◌, ◌*◌, ◌<◌, ◌≤◌, ◌^◌, ◌%◌, List, [], ◌∷◌, ◌++◌, Bool, true, false, cond, eqb, length, decimal, inl, inr, refl, sym, ap, arith}
 use Rattle.std.specs.Prelude.{bit_and, not, ◌||◌}
 use Rattle.std.specs.Int.{bit_at}
 use Rattle.std.specs.List.{AllZip, list_any}
@@ -16,7 +16,6 @@ use Rattle.mp_base.specs.declared.value.TritWord.{TritWord}
 use Rattle.mp_base.specs.declared.pad.Pad.{Pad}
 use Rattle.mp_base.specs.declared.pad.Pads.{Pads}
 use Rattle.switch_net.specs.Pads.{bit_count, trit_of}
-use Rattle.stimulus.specs.Rules.{bits_of, bound}
 use Rattle.stimulus.specs.Transcript as words
 use Rattle.clock_run.specs.Words.{trit_at, low_trits, pad_trits, trits_of}
 use Rattle.sim_run.specs.Transcript.{is_unknown, weight, number_of, bits_text, pad_texts, line_text}

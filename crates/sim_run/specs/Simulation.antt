@@ -2,7 +2,6 @@
 use Rattle.std.specs.Prelude.{◌≡◌, ℕ, ◌<◌, ◌^◌, List, [], Option, Result, OnOk, length, slice_index_or}
 use Rattle.mp_base.specs.declared.value.Trit.{Trit}
 use Rattle.mp_base.specs.declared.value.TritWord.{TritWord}
-use Rattle.mp_base.specs.declared.pad.Pads.{Pads}
 use Rattle.mp_base.specs.Outside.{Gains}
 use Rattle.mp_base.specs.Piece.{TakesAll}
 use Rattle.switch_net.specs.declared.network.Network.{Network}
