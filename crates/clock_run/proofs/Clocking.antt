@@ -23,11 +23,13 @@ use Rattle.clock_run.proofs.Planned.{supplies_driven, inputs_driven, plan_drives
 abbrev HasDrivers : Network → Pads → List ℕ → Phases → Type 0
 HasDrivers net pads words phases = (driver : ℕ → Option Trit) × AreDrivers net (drives phases pads.inputs words) driver
 
-some : (net : Network) (pads : Pads) (words : List ℕ) (phases : Phases) (before after : ℕ → Trit) → SettlesTo net (drives phases pads.inputs words) before after
+some : (net : Network) (pads : Pads) (words : List ℕ) (phases : Phases) (before after : ℕ → Trit)
+    → SettlesTo net (drives phases pads.inputs words) before after
     → HasDrivers net pads words phases
 some net pads words phases before after s = (s.driver, s.drivers)
 
-in_clock : (net : Network) (pads : Pads) (words : List ℕ) (before : ℕ → Trit) (shown : List (List Trit)) (after : ℕ → Trit) → IsClock net pads words before shown after
+in_clock : (net : Network) (pads : Pads) (words : List ℕ) (before : ℕ → Trit) (shown : List (List Trit)) (after : ℕ → Trit)
+    → IsClock net pads words before shown after
     → (setting : Setting) → HasDrivers net pads words (phases_of setting)
 in_clock net pads words before shown after k PhiC = some net pads words (phases_of PhiC) before k.until.0 k.until.1
 in_clock net pads words before shown after k Quiet = some net pads words (phases_of Quiet) k.until.0 k.until.2.0 k.until.2.1
@@ -51,7 +53,8 @@ drivers_in law net pads words before has fit setting =
     all (suc k) d lt = absurd (omega (arith, lt))
 
 -- where a plan has set what drives the network, it settles as the setting says
-pub settles_to : TraceExists → (net : Network) (pads : Pads) (supply : List ℕ) (inputs outputs : List (List ℕ)) → IsPlan net pads supply inputs outputs
+pub settles_to : TraceExists → (net : Network) (pads : Pads) (supply : List ℕ) (inputs outputs : List (List ℕ))
+    → IsPlan net pads supply inputs outputs
     → (words : List ℕ) → Fit pads.inputs words → (setting : Setting) (size : ℕ) (new : List (Option Trit))
     → ((driver : ℕ → Option Trit) → AllZip (IsDriven driver) supply (levels (phases_of setting)) → AllZip (AreDriven driver) inputs words
     → AreSet driver (supply ++ flat_map (λ ns. ns) inputs) (replicate size None) new)
@@ -62,7 +65,11 @@ settles_to law net pads supply inputs outputs plan words fit setting size new se
     let s = set d.0 (supplies_driven net pads supply inputs outputs plan words fit (phases_of setting) d.0 d.1)
     (inputs_driven net pads supply inputs outputs plan words fit (phases_of setting) d.0 d.1) in
     let e : driver_at new ≡ d.0 = plan_drives net pads supply inputs outputs plan words fit (phases_of setting) d.0 d.1 size new s in
-    record { driver = driver_at new; drivers = subst (λ f. AreDrivers net (drives (phases_of setting) pads.inputs words) f) (sym e) d.1; settled = h }
+    record {
+      driver = driver_at new;
+      drivers = subst (λ f. AreDrivers net (drives (phases_of setting) pads.inputs words) f) (sym e) d.1;
+      settled = h;
+    }
 
 -- a circuit settled in one setting
 pub record Stepped (setting : Setting) (words : List ℕ) (a b : Running) : Type 0 where
@@ -70,14 +77,17 @@ pub record Stepped (setting : Setting) (words : List ℕ) (a b : Running) : Type
   pub pads : b.pads ≡ a.pads
   pub settled : SettlesTo a.network (drives (phases_of setting) a.pads.inputs words) (value_at a.values) (value_at b.values)
 
-settled_at : (setting : Setting) (words : List ℕ) (net : Network) (pads : Pads) (a b : Running) → a.network ≡ net → a.pads ≡ pads → Stepped setting words a b
+settled_at : (setting : Setting) (words : List ℕ) (net : Network) (pads : Pads) (a b : Running) → a.network ≡ net → a.pads ≡ pads
+    → Stepped setting words a b
     → SettlesTo net (drives (phases_of setting) pads.inputs words) (value_at a.values) (value_at b.values)
 settled_at setting words net pads a b n p s =
     subst (λ (x : Network). SettlesTo x (drives (phases_of setting) pads.inputs words) (value_at a.values) (value_at b.values)) n
-    (subst (λ (x : Pads). SettlesTo a.network (drives (phases_of setting) x.inputs words) (value_at a.values) (value_at b.values)) p s.settled)
+    (subst (λ (x : Pads). SettlesTo a.network (drives (phases_of setting) x.inputs words) (value_at a.values) (value_at b.values)) p
+    s.settled)
 
 pub six_settings : (words : List ℕ) (a b c d e f g : Running) (shown : List (List Trit)) → Stepped PhiC words a b → Stepped Quiet words b c
-    → AllZip (Shows c.network (value_at c.values)) c.pads.outputs shown → Stepped PhiA words c d → Stepped Quiet words d e → Stepped PhiB words e f → Stepped Quiet words f g
+    → AllZip (Shows c.network (value_at c.values)) c.pads.outputs shown → Stepped PhiA words c d → Stepped Quiet words d e
+    → Stepped PhiB words e f → Stepped Quiet words f g
     → IsClock a.network a.pads words (value_at a.values) shown (value_at g.values)
 six_settings words a b c d e f g shown ab bc s cd de ef fg =
     let nc = bc.network ∙ ab.network in
@@ -97,6 +107,10 @@ six_settings words a b c d e f g shown ab bc s cd de ef fg =
       rest = (
         value_at d.values,
         at PhiA c d nc pc cd,
-        (value_at e.values, at Quiet d e nd pd de, (value_at f.values, at PhiB e f ne pe ef, (value_at g.values, at Quiet f g nf pf fg, λ n. refl))),
+        (
+          value_at e.values,
+          at Quiet d e nd pd de,
+          (value_at f.values, at PhiB e f ne pe ef, (value_at g.values, at Quiet f g nf pf fg, λ n. refl)),
+        ),
       );
     }

@@ -18,7 +18,8 @@ pub set_none : (driver : ℕ → Option Trit) (drive : List (Option Trit)) → A
 set_none driver drive = record { these = λ n c. absurd (omega (arith, c.1)); others = λ n. inl refl }
 
 -- setting more nodes after some
-pub set_then : (driver : ℕ → Option Trit) (ns ms : List ℕ) (a b c : List (Option Trit)) → AreSet driver ns a b → AreSet driver ms b c → AreSet driver (ns ++ ms) a c
+pub set_then : (driver : ℕ → Option Trit) (ns ms : List ℕ) (a b c : List (Option Trit)) → AreSet driver ns a b → AreSet driver ms b c
+    → AreSet driver (ns ++ ms) a c
 set_then driver ns ms a b c h k = record {
   these = λ n m. these n (Contains-append_cases ns ms n m);
   others = λ n. either n (k.others n) (h.others n);
@@ -32,12 +33,14 @@ set_then driver ns ms a b c h k = record {
     these n (inl m) = kept n (h.these n m) (k.others n)
     these n (inr m) = k.these n m
 
-    either : (n : ℕ) → (driver_at c n ≡ driver_at b n) ⊎ (driver_at c n ≡ driver n) → (driver_at b n ≡ driver_at a n) ⊎ (driver_at b n ≡ driver n) → (driver_at c n ≡ driver_at a n) ⊎ (driver_at c n ≡ driver n)
+    either : (n : ℕ) → (driver_at c n ≡ driver_at b n) ⊎ (driver_at c n ≡ driver n)
+        → (driver_at b n ≡ driver_at a n) ⊎ (driver_at b n ≡ driver n) → (driver_at c n ≡ driver_at a n) ⊎ (driver_at c n ≡ driver n)
     either n (inr e) _ = inr e
     either n (inl e) (inl f) = inl (e ∙ f)
     either n (inl e) (inr f) = inr (e ∙ f)
 
-pub set_one : (driver : ℕ → Option Trit) (n : ℕ) (b : Trit) (a : List (Option Trit)) → n < length a → driver n ≡ Some b → AreSet driver (n ∷ []) a (set a n (Some b))
+pub set_one : (driver : ℕ → Option Trit) (n : ℕ) (b : Trit) (a : List (Option Trit)) → n < length a → driver n ≡ Some b
+    → AreSet driver (n ∷ []) a (set a n (Some b))
 set_one driver n b a lt e = record { these = λ m c. these m c; others = λ m. others m (cases_eq m n) }
   where
     here : driver_at (set a n (Some b)) n ≡ driver n
@@ -52,7 +55,8 @@ set_one driver n b a lt e = record { these = λ m c. these m c; others = λ m. o
     others m (inr d) = inl (get_or-set_other a n m (Some b) None d)
 
 -- one more node of a list
-pub set_more : (driver : ℕ → Option Trit) (nodes : List ℕ) (bits : List Trit) (k n : ℕ) (b : Trit) (first a : List (Option Trit)) → k < length nodes → n ≡ get_or nodes k n
+pub set_more : (driver : ℕ → Option Trit) (nodes : List ℕ) (bits : List Trit) (k n : ℕ) (b : Trit) (first a : List (Option Trit))
+    → k < length nodes → n ≡ get_or nodes k n
     → b ≡ get_or bits k b → n < length a → AllZip (IsDriven driver) nodes bits → AreSet driver (take k nodes) first a
     → AreSet driver (take (k + 1) nodes) first (set a n (Some b))
 set_more driver nodes bits k n b first a lt is ib inside z h =
@@ -69,7 +73,8 @@ length_bits (suc n) word = length_push_one (low_bits n word) (trit_of (bit_at wo
     length_push_one [] x = refl
     length_push_one (y ∷ ys) x = ap suc (length_push_one ys x)
 
-last_or_before : (n word k : ℕ) (d : Trit) → k < suc n → (k < n → get_or (low_bits n word) k d ≡ trit_of (bit_at word k)) → get_or (low_bits (suc n) word) k d ≡ trit_of (bit_at word k)
+last_or_before : (n word k : ℕ) (d : Trit) → k < suc n → (k < n → get_or (low_bits n word) k d ≡ trit_of (bit_at word k))
+    → get_or (low_bits (suc n) word) k d ≡ trit_of (bit_at word k)
 last_or_before n word k d lt before = by_place (cases_lt k n)
   where
     by_place : (k < n) ⊎ (n ≤ k) → get_or (low_bits n word ++ trit_of (bit_at word n) ∷ []) k d ≡ trit_of (bit_at word k)
@@ -85,15 +90,20 @@ pub low_bit : (n word k : ℕ) (d : Trit) → k < n → get_or (low_bits n word)
 low_bit zero word k d lt = absurd (omega (arith, lt))
 low_bit (suc n) word k d lt = last_or_before n word k d lt (λ h. low_bit n word k d h)
 
-pub set_more_words : (driver : ℕ → Option Trit) (nodes : List (List ℕ)) (words : List ℕ) (k : ℕ) (ns : List ℕ) (word : ℕ) (first a b : List (Option Trit)) → k < length nodes
-    → ns ≡ get_or nodes k ns → word ≡ get_or words k word → AllZip (AreDriven driver) nodes words → (AreDriven driver ns word → AreSet driver ns a b)
+pub set_more_words : (driver : ℕ → Option Trit) (nodes : List (List ℕ)) (words : List ℕ) (k : ℕ) (ns : List ℕ) (word : ℕ)
+    (first a b : List (Option Trit)) → k < length nodes
+    → ns ≡ get_or nodes k ns → word ≡ get_or words k word → AllZip (AreDriven driver) nodes words
+    → (AreDriven driver ns word → AreSet driver ns a b)
     → AreSet driver (flat_map (λ xs. xs) (take k nodes)) first a → AreSet driver (flat_map (λ xs. xs) (take (k + 1) nodes)) first b
 set_more_words driver nodes words k ns word first a b lt is iw z f h =
     let d : AreDriven driver (get_or nodes k ns) (get_or words k word) = zip_at (AreDriven driver) nodes words z k ns word lt in
-    let d2 : AreDriven driver ns word = subst (λ x. AreDriven driver x word) (sym is) (subst (λ x. AreDriven driver (get_or nodes k ns) x) (sym iw) d) in
-    let all : AreSet driver (flat_map (λ xs. xs) (take k nodes) ++ ns) first b = set_then driver (flat_map (λ xs. xs) (take k nodes)) ns first a b h (f d2) in
+    let d2 : AreDriven driver ns word = subst (λ x. AreDriven driver x word) (sym is)
+    (subst (λ x. AreDriven driver (get_or nodes k ns) x) (sym iw) d) in
+    let all : AreSet driver (flat_map (λ xs. xs) (take k nodes) ++ ns) first b = set_then driver (flat_map (λ xs. xs) (take k nodes)) ns
+    first a b h (f d2) in
     let flat : flat_map (λ xs. xs) (take k nodes) ++ ns ≡ flat_map (λ xs. xs) (take (k + 1) nodes) =
-    ap (λ xs. flat_map (λ ys. ys) (take k nodes) ++ xs) (sym (one_list ns)) ∙ sym (flat_map-append (λ xs. xs) (take k nodes) (ns ∷ [])) ∙ ap (λ xs. flat_map (λ ys. ys) xs) (sym (take_push nodes k ns lt is)) in
+    ap (λ xs. flat_map (λ ys. ys) (take k nodes) ++ xs) (sym (one_list ns)) ∙ sym (flat_map-append (λ xs. xs) (take k nodes) (ns ∷ []))
+    ∙ ap (λ xs. flat_map (λ ys. ys) xs) (sym (take_push nodes k ns lt is)) in
     subst (λ xs. AreSet driver xs first b) flat all
   where
     one_list : (xs : List ℕ) → xs ++ [] ≡ xs

@@ -31,20 +31,24 @@ partner R (x ∷ xs) rest [] h j z lt e = absurd h
 partner R (x ∷ xs) rest (y ∷ ys) h zero z lt e = (y, subst (λ w. R w y) (same_some (slice_get (x ∷ (xs ++ rest)) 0) x z refl e) h.0)
 partner R (x ∷ xs) rest (y ∷ ys) h (suc j) z lt e = partner R xs rest ys h.1 j z (omega (arith, lt)) e
 
-pub missing_here : (net : Network) (labels : List (List ℕ)) (i : ℕ) (name : List ℕ) (nodes : List ℕ) → i < length labels → name ≡ get_or labels i name
+pub missing_here : (net : Network) (labels : List (List ℕ)) (i : ℕ) (name : List ℕ) (nodes : List ℕ) → i < length labels
+    → name ≡ get_or labels i name
     → AllZip (IsLabelled net) (take i labels) nodes → ((t : Tag) → Contains net.tags t → t.name ≢ name) → IsMissingLabel net labels name
 missing_here net labels i name nodes lt is h none = record {
   i = i;
   missing = record { at = stands_at labels i name lt is; none = none };
   first = λ j other before m.
       let l : length (take i labels) ≡ i = length-take i labels ∙ omega arith in
-      let there : slice_get (take i labels ++ drop i labels) j ≡ Some other = subst (λ xs. slice_get xs j ≡ Some other) (sym (take-append-drop i labels)) m.at in
+      let there : slice_get (take i labels ++ drop i labels) j ≡ Some other = subst (λ xs. slice_get xs j ≡ Some other)
+      (sym (take-append-drop i labels)) m.at in
       let w = partner (IsLabelled net) (take i labels) (drop i labels) nodes h j other (omega (arith, l, before)) there in
       m.none w.1.0 w.1.1 w.1.2;
 }
 
-pub labelled_more : (net : Network) (labels : List (List ℕ)) (i : ℕ) (name : List ℕ) (nodes : List ℕ) (node : ℕ) → i < length labels → name ≡ get_or labels i name
-    → AllZip (IsLabelled net) (take i labels) nodes → IsLabelled net name node → AllZip (IsLabelled net) (take (i + 1) labels) (nodes ++ node ∷ [])
+pub labelled_more : (net : Network) (labels : List (List ℕ)) (i : ℕ) (name : List ℕ) (nodes : List ℕ) (node : ℕ) → i < length labels
+    → name ≡ get_or labels i name
+    → AllZip (IsLabelled net) (take i labels) nodes → IsLabelled net name node
+    → AllZip (IsLabelled net) (take (i + 1) labels) (nodes ++ node ∷ [])
 labelled_more net labels i name nodes node lt is h l =
     subst (λ xs. AllZip (IsLabelled net) xs (nodes ++ node ∷ [])) (sym (take_push labels i name lt is))
     (all_zipped_more (IsLabelled net) (take i labels) nodes name node h l)

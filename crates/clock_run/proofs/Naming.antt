@@ -25,7 +25,8 @@ Number names numbers = (x : List ℕ) → IsSome (number_of numbers x) ↔ Conta
 pub take_push : {A : Type 0} (xs : List A) (i : ℕ) (y : A) → i < length xs → y ≡ get_or xs i y → take (i + 1) xs ≡ take i xs ++ y ∷ []
 take_push {A} xs i y lt is = take_more xs i y lt ∙ ap (λ (z : A). take i xs ++ z ∷ []) (sym is)
 
-name_pushed : (names : List (List ℕ)) (old new : Numbers) (key : List ℕ) (number : ℕ) → Number names old → Gained old new key number → Number (names ++ key ∷ []) new
+name_pushed : (names : List (List ℕ)) (old new : Numbers) (key : List ℕ) (number : ℕ) → Number names old → Gained old new key number
+    → Number (names ++ key ∷ []) new
 name_pushed names old new key number n gained x = by_test (bytes_eq key x) refl
   where
     by_test : (b : Bool) → bytes_eq key x ≡ b → IsSome (number_of new x) ↔ Contains (names ++ key ∷ []) x
@@ -52,7 +53,8 @@ names_more names i old new key number lt is n gained =
 abbrev pub IsNumberOf : List Tag → List ℕ → Option ℕ → Type 0
 IsNumberOf tags x o = MatchOption o ((u : Tag) → Contains tags u → u.name ≢ x) (IsTagged tags x)
 
-tag_pushed : (tags : List Tag) (old new : Numbers) (t : Tag) → NumberNodes tags old → Gained old new t.name t.node → NumberNodes (tags ++ t ∷ []) new
+tag_pushed : (tags : List Tag) (old new : Numbers) (t : Tag) → NumberNodes tags old → Gained old new t.name t.node
+    → NumberNodes (tags ++ t ∷ []) new
 tag_pushed tags old new t n gained x = by_test (bytes_eq t.name x) refl
   where
     other : bytes_eq t.name x ≡ false → (u : Tag) → Contains tags u ⊎ (t ≡ u) → (Contains tags u → u.name ≢ x) → u.name ≢ x
@@ -61,14 +63,17 @@ tag_pushed tags old new t n gained x = by_test (bytes_eq t.name x) refl
         let yes : bytes_eq t.name x ≡ true = (bytes_eq-Decides t.name x).1 (ap (λ (v : Tag). v.name) s ∙ q) in
         absurd (cc)
 
-    kept : bytes_eq t.name x ≡ false → (o : Option ℕ) → MatchOption o ((u : Tag) → Contains tags u → u.name ≢ x) (IsTagged tags x) → IsNumberOf (tags ++ t ∷ []) x o
+    kept : bytes_eq t.name x ≡ false → (o : Option ℕ) → MatchOption o ((u : Tag) → Contains tags u → u.name ≢ x) (IsTagged tags x)
+        → IsNumberOf (tags ++ t ∷ []) x o
     kept e None h = λ u c. other e u (Contains-push_cases tags t u c) (h u)
     kept e (Some node) h = (h.0, Contains-append_left tags (t ∷ []) h.0 h.1, h.2, h.3)
 
     by_test : (b : Bool) → bytes_eq t.name x ≡ b → IsNumberOf (tags ++ t ∷ []) x (number_of new x)
     by_test true e =
-        subst (IsNumberOf (tags ++ t ∷ []) x) (sym (gained x ∙ ap (λ b. cond b (Some t.node) (number_of old x)) e)) (t, Contains-push tags t, (bytes_eq-Decides t.name x).0 e, refl)
-    by_test false e = subst (IsNumberOf (tags ++ t ∷ []) x) (sym (gained x ∙ ap (λ b. cond b (Some t.node) (number_of old x)) e)) (kept e (number_of old x) (n x))
+        subst (IsNumberOf (tags ++ t ∷ []) x) (sym (gained x ∙ ap (λ b. cond b (Some t.node) (number_of old x)) e))
+        (t, Contains-push tags t, (bytes_eq-Decides t.name x).0 e, refl)
+    by_test false e = subst (IsNumberOf (tags ++ t ∷ []) x) (sym (gained x ∙ ap (λ b. cond b (Some t.node) (number_of old x)) e))
+        (kept e (number_of old x) (n x))
 
 pub tags_more : (tags : List Tag) (i : ℕ) (old new : Numbers) (t : Tag) → i < length tags → t ≡ get_or tags i t
     → NumberNodes (take i tags) old → Gained old new t.name t.node → NumberNodes (take (i + 1) tags) new

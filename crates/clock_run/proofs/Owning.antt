@@ -37,19 +37,22 @@ module _ (drivers : List (List ℕ)) (tags : List Tag) (i : ℕ) (t : Tag) (at :
   here k u e h = same_some (slice_get tags i) u t (subst (λ n. slice_get tags n ≡ Some u) e h) at
 
   -- no earlier label of a driver on the node has another name
-  agree : ((k : ℕ) (u : Tag) → k < i → slice_get tags k ≡ Some u → Contains drivers u.name → u.node ≡ t.node → u.name ≡ t.name) → ¬ MeetsDriver drivers tags i
+  agree : ((k : ℕ) (u : Tag) → k < i → slice_get tags k ≡ Some u → Contains drivers u.name → u.node ≡ t.node → u.name ≡ t.name)
+      → ¬ MeetsDriver drivers tags i
   agree h (tag, d) =
       let e = here i tag refl d.at in
       d.names (h d.j d.earlier d.before d.there d.another (d.node ∙ ap (λ (x : Tag). x.node) e) ∙ sym (ap (λ (x : Tag). x.name) e))
 
-  none_more : (owners : List (Option ℕ)) → Owners drivers tags owners i → ¬ MeetsDriver drivers tags i → (k : ℕ) → k < i + 1 → ¬ MeetsDriver drivers tags k
+  none_more : (owners : List (Option ℕ)) → Owners drivers tags owners i → ¬ MeetsDriver drivers tags i → (k : ℕ) → k < i + 1
+      → ¬ MeetsDriver drivers tags k
   none_more owners o n k lt m = by_place (below_suc k i lt)
     where
       by_place : (k < i) ⊎ (k ≡ i) → ⊥
       by_place (inl l) = o.none k l m
       by_place (inr e) = n (subst (λ x. MeetsDriver drivers tags x) e m)
 
-  pub owners_skip : (owners : List (Option ℕ)) → Owners drivers tags owners i → (Contains drivers t.name → ⊥) → Owners drivers tags owners (i + 1)
+  pub owners_skip : (owners : List (Option ℕ)) → Owners drivers tags owners i → (Contains drivers t.name → ⊥)
+      → Owners drivers tags owners (i + 1)
   owners_skip owners o not = record {
     held = λ n j e. let h = o.held n j e in (omega (arith, h.0), h.1);
     each = λ k u lt s d. each k u s d (below_suc k i lt);
@@ -79,7 +82,8 @@ module _ (drivers : List (List ℕ)) (tags : List Tag) (i : ℕ) (t : Tag) (at :
           let f : h.tag ≡ first = same_some (slice_get tags j) h.tag first (subst (λ n. slice_get tags n ≡ Some h.tag) e h.at) there in
           sym h.name ∙ ap (λ (x : Tag). x.name) f ∙ name
 
-  pub owners_new : (owners : List (Option ℕ)) → Owners drivers tags owners i → t.node < length owners → Contains drivers t.name → get_or owners t.node None ≡ None
+  pub owners_new : (owners : List (Option ℕ)) → Owners drivers tags owners i → t.node < length owners → Contains drivers t.name
+      → get_or owners t.node None ≡ None
       → Owners drivers tags (set owners t.node (Some i)) (i + 1)
   owners_new owners o inside driver free = record {
     held = λ n j e. held n j e (cases_eq n t.node);
@@ -96,20 +100,24 @@ module _ (drivers : List (List ℕ)) (tags : List Tag) (i : ℕ) (t : Tag) (at :
       other_set : (n : ℕ) → (n ≡ t.node → ⊥) → get_or (set owners t.node (Some i)) n None ≡ get_or owners n None
       other_set n d = get_or-set_other owners t.node n (Some i) None d
 
-      held : (n j : ℕ) → get_or (set owners t.node (Some i)) n None ≡ Some j → (n ≡ t.node) ⊎ (n ≡ t.node → ⊥) → (j < i + 1) × IsOwner drivers tags n j
+      held : (n j : ℕ) → get_or (set owners t.node (Some i)) n None ≡ Some j → (n ≡ t.node) ⊎ (n ≡ t.node → ⊥)
+          → (j < i + 1) × IsOwner drivers tags n j
       held n j e (inl is) =
           let f : i ≡ j = same_some (get_or (set owners t.node (Some i)) n None) i j (here_set n is) e in
           (omega (arith, f), subst (λ k. IsOwner drivers tags n k) f (record { tag = t; at = at; driver = driver; node = sym is }))
       held n j e (inr d) = let h = o.held n j (sym (other_set n d) ∙ e) in (omega (arith, h.0), h.1)
 
-      each : (k : ℕ) (u : Tag) → slice_get tags k ≡ Some u → Contains drivers u.name → (k < i) ⊎ (k ≡ i) → HasOwner tags (set owners t.node (Some i)) u
+      each : (k : ℕ) (u : Tag) → slice_get tags k ≡ Some u → Contains drivers u.name → (k < i) ⊎ (k ≡ i)
+          → HasOwner tags (set owners t.node (Some i)) u
       each k u s d (inl l) =
           let h = o.each k u l s d in
           record { j = h.j; tag = h.tag; held = other_set u.node (λ same. clash u same h) ∙ h.held; at = h.at; name = h.name }
       each k u s d (inr e) =
-          subst (HasOwner tags (set owners t.node (Some i))) (sym (here k u e s)) (record { j = i; tag = t; held = here_set t.node refl; at = at; name = refl })
+          subst (HasOwner tags (set owners t.node (Some i))) (sym (here k u e s))
+          (record { j = i; tag = t; held = here_set t.node refl; at = at; name = refl })
 
-  pub owners_meet : (owners : List (Option ℕ)) (j : ℕ) (first : Tag) → Owners drivers tags owners i → Contains drivers t.name → get_or owners t.node None ≡ Some j
+  pub owners_meet : (owners : List (Option ℕ)) (j : ℕ) (first : Tag) → Owners drivers tags owners i → Contains drivers t.name
+      → get_or owners t.node None ≡ Some j
       → slice_get tags j ≡ Some first → first.name ≢ t.name → IsDrivenTwice drivers tags i t
   owners_meet owners j first o driver own there differ =
       let h = o.held t.node j own in
@@ -127,7 +135,8 @@ module _ (drivers : List (List ℕ)) (tags : List Tag) (i : ℕ) (t : Tag) (at :
       }
 
 -- what was read of a node's owner
-pub read_at : (owners : List (Option ℕ)) (n : ℕ) (o v : Option ℕ) → n < length owners → o ≡ get_or owners n o → o ≡ v → get_or owners n None ≡ v
+pub read_at : (owners : List (Option ℕ)) (n : ℕ) (o v : Option ℕ) → n < length owners → o ≡ get_or owners n o → o ≡ v
+    → get_or owners n None ≡ v
 read_at owners n o v lt is e = get_or_default owners n None o lt ∙ sym is ∙ e
 
 pub node_inside : (net : Network) (i : ℕ) (t : Tag) → i < length net.tags → t ≡ get_or net.tags i t → t.node < net.nodes

@@ -36,17 +36,20 @@ Among net nodes name = (m : ℕ) × Contains nodes m × IsLabelled net name m
 abbrev Followed : Network → (ℕ → Option Trit) → List Drive → Type 0
 Followed net driver ds = (d : Drive) (n : ℕ) → Contains ds d → IsLabelled net d.name n → driver n ≡ Some d.value
 
-among_bits : (net : Network) (names : List (List ℕ)) (bits : List Trit) (nodes : List ℕ) → length names ≡ length bits → AllZip (IsLabelled net) names nodes
+among_bits : (net : Network) (names : List (List ℕ)) (bits : List Trit) (nodes : List ℕ) → length names ≡ length bits
+    → AllZip (IsLabelled net) names nodes
     → (d : Drive) → Contains (bit_drives names bits) d → Among net nodes d.name
 among_bits net [] bits nodes l z d c = absurd (omega (arith, c.1))
 among_bits net (x ∷ xs) [] nodes l z d c = absurd (omega (arith, l))
 among_bits net (x ∷ xs) (b ∷ bs) [] l z d c = absurd z
-among_bits net (x ∷ xs) (b ∷ bs) (n ∷ ns) l z d (zero, lt, e) = (n, (0, omega arith, refl), subst (λ (y : Drive). IsLabelled net y.name n) e z.0)
+among_bits net (x ∷ xs) (b ∷ bs) (n ∷ ns) l z d (zero, lt, e) =
+    (n, (0, omega arith, refl), subst (λ (y : Drive). IsLabelled net y.name n) e z.0)
 among_bits net (x ∷ xs) (b ∷ bs) (n ∷ ns) l z d (suc k, lt, e) =
     let w = among_bits net xs bs ns (omega (arith, l)) z.1 d (k, omega (arith, lt), e) in
     (w.0, after n ns w.0 w.1, w.2)
 
-follow_bits : (net : Network) (driver : ℕ → Option Trit) (names : List (List ℕ)) (bits : List Trit) (nodes : List ℕ) → length names ≡ length bits
+follow_bits : (net : Network) (driver : ℕ → Option Trit) (names : List (List ℕ)) (bits : List Trit) (nodes : List ℕ)
+    → length names ≡ length bits
     → AllZip (IsLabelled net) names nodes → Followed net driver (bit_drives names bits) → AllZip (IsDriven driver) nodes bits
 follow_bits net driver [] [] [] l z f = tt
 follow_bits net driver [] [] (n ∷ ns) l z f = absurd z
@@ -68,10 +71,12 @@ among_inputs net [] words own z d c = absurd (omega (arith, c.1))
 among_inputs net (p ∷ ps) [] own z d c = absurd (omega (arith, c.1))
 among_inputs net (p ∷ ps) (w ∷ ws) [] z d c = absurd z
 among_inputs net (p ∷ ps) (w ∷ ws) (ns ∷ own) z d c =
-    by_part (λ k. among_inputs net ps ws own z.1 d k) (Contains-append_cases (bit_drives (bit_labels p) (pad_bits p w)) (input_drives ps ws) d c)
+    by_part (λ k. among_inputs net ps ws own z.1 d k)
+    (Contains-append_cases (bit_drives (bit_labels p) (pad_bits p w)) (input_drives ps ws) d c)
   where
     by_part : (Contains (input_drives ps ws) d → Among net (flat_map (λ xs. xs) own) d.name)
-        → Contains (bit_drives (bit_labels p) (pad_bits p w)) d ⊎ Contains (input_drives ps ws) d → Among net (ns ++ flat_map (λ xs. xs) own) d.name
+        → Contains (bit_drives (bit_labels p) (pad_bits p w)) d ⊎ Contains (input_drives ps ws) d
+        → Among net (ns ++ flat_map (λ xs. xs) own) d.name
     by_part later (inl k) =
         let m = among_bits net (bit_labels p) (pad_bits p w) ns (as_many p w) z.0 d k in
         (m.0, Contains-append_left ns (flat_map (λ xs. xs) own) m.0 m.1, m.2)
@@ -103,8 +108,10 @@ undriven size n = by_place (cases_lt n size)
         let l : length (replicate {A = Option Trit} size None) ≡ size = length-replicate size None in
         get_or_past (replicate size None) n None (omega (arith, l, le))
 
-module _ (net : Network) (pads : Pads) (supply : List ℕ) (inputs outputs : List (List ℕ)) (plan : IsPlan net pads supply inputs outputs) (words : List ℕ)
-    (fit : Fit pads.inputs words) (phases : Phases) (driver : ℕ → Option Trit) (drivers : AreDrivers net (drives phases pads.inputs words) driver) where
+module _ (net : Network) (pads : Pads) (supply : List ℕ) (inputs outputs : List (List ℕ)) (plan : IsPlan net pads supply inputs outputs)
+    (words : List ℕ)
+    (fit : Fit pads.inputs words) (phases : Phases) (driver : ℕ → Option Trit)
+    (drivers : AreDrivers net (drives phases pads.inputs words) driver) where
   abbrev first : List Drive
   first = bit_drives supplies (levels phases)
 
@@ -112,10 +119,12 @@ module _ (net : Network) (pads : Pads) (supply : List ℕ) (inputs outputs : Lis
   rest = input_drives pads.inputs words
 
   pub supplies_driven : AllZip (IsDriven driver) supply (levels phases)
-  supplies_driven = follow_bits net driver supplies (levels phases) supply refl plan.supply (λ d m c k. drivers.each d m (Contains-append_left first rest d c) k)
+  supplies_driven = follow_bits net driver supplies (levels phases) supply refl plan.supply
+      (λ d m c k. drivers.each d m (Contains-append_left first rest d c) k)
 
   pub inputs_driven : AllZip (AreDriven driver) inputs words
-  inputs_driven = follow_inputs net driver pads.inputs words inputs fit plan.input (λ d m c k. drivers.each d m (Contains-append_right first rest d c) k)
+  inputs_driven = follow_inputs net driver pads.inputs words inputs fit plan.input
+      (λ d m c k. drivers.each d m (Contains-append_right first rest d c) k)
 
   abbrev nodes : List ℕ
   nodes = supply ++ flat_map (λ ns. ns) inputs
@@ -135,7 +144,8 @@ module _ (net : Network) (pads : Pads) (supply : List ℕ) (inputs outputs : Lis
   pub plan_drives : (size : ℕ) (new : List (Option Trit)) → AreSet driver nodes (replicate size None) new → driver_at new ≡ driver
   plan_drives size new set = λ i n. by_driver n (driver n) refl i
     where
-      by_other : (n : ℕ) → driver n ≡ None → (driver_at new n ≡ driver_at (replicate size None) n) ⊎ (driver_at new n ≡ driver n) → driver_at new n ≡ driver n
+      by_other : (n : ℕ) → driver n ≡ None → (driver_at new n ≡ driver_at (replicate size None) n) ⊎ (driver_at new n ≡ driver n)
+          → driver_at new n ≡ driver n
       by_other n e (inl q) = q ∙ undriven size n ∙ sym e
       by_other n e (inr q) = q
 
@@ -163,7 +173,8 @@ nodes_few net (p ∷ ps) (ns ∷ own) z zero d lt =
 nodes_few net (p ∷ ps) (ns ∷ own) z (suc k) d lt = nodes_few net ps own z.1 k d (omega (arith, lt))
 
 -- nodes that have labels are among the network's
-pub labelled_inside : (net : Network) (names : List (List ℕ)) (nodes : List ℕ) → AllZip (IsLabelled net) names nodes → All (λ n. n < net.nodes) nodes
+pub labelled_inside : (net : Network) (names : List (List ℕ)) (nodes : List ℕ) → AllZip (IsLabelled net) names nodes
+    → All (λ n. n < net.nodes) nodes
 labelled_inside net [] [] z k d lt = absurd (omega (arith, lt))
 labelled_inside net [] (n ∷ ns) z k d lt = absurd z
 labelled_inside net (x ∷ xs) [] z k d lt = absurd z
@@ -172,7 +183,8 @@ labelled_inside net (x ∷ xs) (n ∷ ns) z zero d lt =
     subst (λ m. m < net.nodes) (ap (λ (u : Tag). u.node) t.1.2 ∙ t.3) (net.tags_in t.1.0 t.0 t.1.1)
 labelled_inside net (x ∷ xs) (n ∷ ns) z (suc k) d lt = labelled_inside net xs ns z.1 k d (omega (arith, lt))
 
-pub nodes_inside : (net : Network) (pads : List Pad) (own : List (List ℕ)) → AllZip (AreNodesOf net) pads own → All (λ ns. All (λ n. n < net.nodes) ns) own
+pub nodes_inside : (net : Network) (pads : List Pad) (own : List (List ℕ)) → AllZip (AreNodesOf net) pads own
+    → All (λ ns. All (λ n. n < net.nodes) ns) own
 nodes_inside net [] [] z k d lt = absurd (omega (arith, lt))
 nodes_inside net [] (ns ∷ own) z k d lt = absurd z
 nodes_inside net (p ∷ ps) [] z k d lt = absurd z

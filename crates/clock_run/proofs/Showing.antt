@@ -45,10 +45,12 @@ zip_next R (x ∷ xs) (z ∷ ys) y zero lt h f = absurd h
 zip_next R (x ∷ xs) [] y (suc k) lt h f = absurd h
 zip_next R (x ∷ xs) (z ∷ ys) y (suc k) lt h f = (h.0, zip_next R xs ys y k (omega (arith, lt)) h.1 f)
 
-pub shown_more : (net : Network) (values : ℕ → Trit) (pads : List Pad) (own : List (List ℕ)) (words : List TritWord) (k : ℕ) (nodes : List ℕ) (word : TritWord)
+pub shown_more : (net : Network) (values : ℕ → Trit) (pads : List Pad) (own : List (List ℕ)) (words : List TritWord) (k : ℕ)
+    (nodes : List ℕ) (word : TritWord)
     → k < length own → k < length words → nodes ≡ get_or own k nodes → AllZip (AreNodesOf net) pads own
     → word.known < 2 ^ length nodes → low_trits (length nodes) word ≡ map values nodes
-    → AllZip (IsShown net values) (take k pads) (take k words) → AllZip (IsShown net values) (take (k + 1) pads) (take (k + 1) (set words k word))
+    → AllZip (IsShown net values) (take k pads) (take k words)
+    → AllZip (IsShown net values) (take (k + 1) pads) (take (k + 1) (set words k word))
 shown_more net values pads own words k nodes word lt room is z narrow bits h =
     let e : suc k ≡ k + 1 = omega arith in
     let l : length pads ≡ length own = zip_length (AreNodesOf net) pads own z in
@@ -66,7 +68,8 @@ shown_more net values pads own words k nodes word lt room is z narrow bits h =
 pub all_shown : (net : Network) (values : ℕ → Trit) (pads : List Pad) (words : List TritWord) (k : ℕ) → length pads ≤ k → length words ≤ k
     → AllZip (IsShown net values) (take k pads) (take k words) → AllZip (IsShown net values) pads words
 all_shown net values pads words k l r h =
-    subst (λ ps. AllZip (IsShown net values) ps words) (take_all k pads l) (subst (λ ws. AllZip (IsShown net values) (take k pads) ws) (take_all k words r) h)
+    subst (λ ps. AllZip (IsShown net values) ps words) (take_all k pads l)
+    (subst (λ ws. AllZip (IsShown net values) (take k pads) ws) (take_all k words r) h)
 
 -- what all pads show
 pub all_show : (net : Network) (values : ℕ → Trit) (pads : List Pad) (words : List TritWord) → AllZip (IsShown net values) pads words

@@ -36,29 +36,35 @@ module _ (pads : List Pad) (i : ℕ) (pad : Pad) (lt : i < length pads) (is : pa
       ∙ ap (λ ps. flat (take i pads) ++ flat ps) (drop-cons pads i pad lt)
       ∙ ap (λ p. flat (take i pads) ++ (bit_labels p ++ flat (drop (suc i) pads))) (sym is)
 
-  pub end_more : (start end : ℕ) → start ≡ length (flat (take i pads)) → end ≡ start + bit_count pad.width → end ≡ length (flat (take (i + 1) pads))
-  end_more start end s e =
+  pub end_more : (start width : ℕ) → start ≡ length (flat (take i pads)) → width ≡ bit_count pad.width
+      → start + width ≡ length (flat (take (i + 1) pads))
+  end_more start width s e =
       let more : flat (take i pads) ++ bit_labels pad ≡ flat (take i pads ++ pad ∷ []) = flat_map_more bit_labels [] (take i pads) pad in
       let l : length (flat (take i pads)) + length (bit_labels pad) ≡ length (flat (take (i + 1) pads)) =
-      sym (length-append (flat (take i pads)) (bit_labels pad)) ∙ ap (λ xs. length xs) more ∙ ap (λ ps. length (flat ps)) (sym (take_push pads i pad lt is)) in
+      sym (length-append (flat (take i pads)) (bit_labels pad)) ∙ ap (λ xs. length xs) more
+      ∙ ap (λ ps. length (flat ps)) (sym (take_push pads i pad lt is)) in
       let w = length_labels pad in
       omega (arith, s, e, l, w)
 
-  pub end_inside : (start end : ℕ) → start ≡ length (flat (take i pads)) → end ≡ start + bit_count pad.width → end ≤ length (flat pads)
-  end_inside start end s e =
+  pub end_inside : (start width size : ℕ) → start ≡ length (flat (take i pads)) → width ≡ bit_count pad.width → size ≡ length (flat pads)
+      → start + width ≤ size
+  end_inside start width size s e z =
       let l = ap (λ xs. length xs) in_parts ∙ length-append (flat (take i pads)) (bit_labels pad ++ flat (drop (suc i) pads)) in
       let m = length-append (bit_labels pad) (flat (drop (suc i) pads)) in
       let w = length_labels pad in
-      omega (arith, s, e, l, m, w)
+      omega (arith, s, e, z, l, m, w)
 
-  pub own_more : (net : Network) (nodes : List ℕ) (own : List (List ℕ)) (start end : ℕ) → start ≡ length (flat (take i pads)) → end ≡ start + bit_count pad.width
+  pub own_more : (net : Network) (nodes : List ℕ) (own : List (List ℕ)) (start width : ℕ) → start ≡ length (flat (take i pads))
+      → width ≡ bit_count pad.width
       → AllZip (IsLabelled net) (flat pads) nodes → AllZip (AreNodesOf net) (take i pads) own
-      → AllZip (AreNodesOf net) (take (i + 1) pads) (own ++ take (end - start) (drop start nodes) ∷ [])
-  own_more net nodes own start end s e z h =
+      → AllZip (AreNodesOf net) (take (i + 1) pads) (own ++ take (start + width - start) (drop start nodes) ∷ [])
+  own_more net nodes own start width s e z h =
       let w = length_labels pad in
-      let n : length (bit_labels pad) ≡ end - start = omega (arith, e, w) in
+      let n : length (bit_labels pad) ≡ start + width - start = omega (arith, e, w) in
       let parts = zip_parts (IsLabelled net) (flat (take i pads)) (bit_labels pad ++ flat (drop (suc i) pads)) nodes start (sym s)
       (subst (λ xs. AllZip (IsLabelled net) xs nodes) in_parts z) in
-      let here = zip_parts (IsLabelled net) (bit_labels pad) (flat (drop (suc i) pads)) (drop start nodes) (end - start) n parts.1 in
-      subst (λ ps. AllZip (AreNodesOf net) ps (own ++ take (end - start) (drop start nodes) ∷ [])) (sym (take_push pads i pad lt is))
-      (all_zipped_more (AreNodesOf net) (take i pads) own pad (take (end - start) (drop start nodes)) h here.0)
+      let here = zip_parts (IsLabelled net) (bit_labels pad) (flat (drop (suc i) pads)) (drop start nodes) (start + width - start) n
+      parts.1 in
+      subst (λ ps. AllZip (AreNodesOf net) ps (own ++ take (start + width - start) (drop start nodes) ∷ []))
+      (sym (take_push pads i pad lt is))
+      (all_zipped_more (AreNodesOf net) (take i pads) own pad (take (start + width - start) (drop start nodes)) h here.0)

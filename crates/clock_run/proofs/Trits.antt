@@ -13,7 +13,8 @@ pub record IsWordOf (value : ℕ → Trit) (nodes : List ℕ) (k known bits : �
   pub narrow : known < 2 ^ k
   pub each : (j : ℕ) → j < k → trit known bits j ≡ value (get_or nodes j 0)
 
-low_from : (value : ℕ → Trit) (nodes : List ℕ) (word : TritWord) (k : ℕ) → k < suc (length nodes) → ((j : ℕ) → j < k → trit_at word j ≡ value (get_or nodes j 0))
+low_from : (value : ℕ → Trit) (nodes : List ℕ) (word : TritWord) (k : ℕ) → k < suc (length nodes)
+    → ((j : ℕ) → j < k → trit_at word j ≡ value (get_or nodes j 0))
     → low_trits k word ≡ map value (take k nodes)
 low_from value nodes word zero lt h = refl
 low_from value nodes word (suc k) lt h =
@@ -25,10 +26,13 @@ low_from value nodes word (suc k) lt h =
 
 low_all : (value : ℕ → Trit) (nodes : List ℕ) (word : TritWord) → ((j : ℕ) → j < length nodes → trit_at word j ≡ value (get_or nodes j 0))
     → low_trits (length nodes) word ≡ map value nodes
-low_all value nodes word h = low_from value nodes word (length nodes) (omega arith) h ∙ ap (λ ns. map value ns) (take_all (length nodes) nodes (omega arith))
+low_all value nodes word h = low_from value nodes word (length nodes) (omega arith) h ∙ ap (λ ns. map value ns)
+    (take_all (length nodes) nodes (omega arith))
 
-pub word_more : (value : ℕ → Trit) (nodes : List ℕ) (k known bits : ℕ) (new : TritWord) → IsWordOf value nodes k known bits → new.known < 2 ^ (k + 1)
-    → ((j : ℕ) → j < k → trit_at new j ≡ trit known bits j) → trit_at new k ≡ value (get_or nodes k 0) → IsWordOf value nodes (k + 1) new.known new.bits
+pub word_more : (value : ℕ → Trit) (nodes : List ℕ) (k known bits : ℕ) (new : TritWord) → IsWordOf value nodes k known bits
+    → new.known < 2 ^ (k + 1)
+    → ((j : ℕ) → j < k → trit_at new j ≡ trit known bits j) → trit_at new k ≡ value (get_or nodes k 0)
+    → IsWordOf value nodes (k + 1) new.known new.bits
 word_more value nodes k known bits new h narrow below here = record {
   masked = new.masked;
   narrow = narrow;
@@ -36,5 +40,6 @@ word_more value nodes k known bits new h narrow below here = record {
 }
 
 -- the word of all nodes
-pub word_all : (value : ℕ → Trit) (nodes : List ℕ) (k : ℕ) (word : TritWord) → IsWordOf value nodes k word.known word.bits → length nodes ≤ k → low_trits (length nodes) word ≡ map value nodes
+pub word_all : (value : ℕ → Trit) (nodes : List ℕ) (k : ℕ) (word : TritWord) → IsWordOf value nodes k word.known word.bits
+    → length nodes ≤ k → low_trits (length nodes) word ≡ map value nodes
 word_all value nodes k word h le = low_all value nodes word (λ j lt. h.each j (omega (arith, lt, le)))

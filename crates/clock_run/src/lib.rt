@@ -10,6 +10,8 @@ mod plan;
 mod resolve;
 mod setting;
 mod split;
+#[cfg(test)]
+mod tests;
 mod word;
 
 pub use circuit::Circuit;

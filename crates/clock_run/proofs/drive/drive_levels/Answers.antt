@@ -12,4 +12,5 @@ loop-k-preserved c = λ driver z.
     let inside : n < length c.args.drive.now = c.requires.inside k 0 lt in
     let l = c.requires.as_many in
     set_more driver nodes c.args.levels.now k n _ c.args.drive.now c.loop-k.drive lt (get_or_default nodes k 0 n lt)
-    (get_or_default c.args.levels.now k _ _ (omega (arith, lt, l))) (omega (arith, inside, c.loop-k.auto.drive)) z (c.loop-k.invariant driver z)
+    (get_or_default c.args.levels.now k _ _ (omega (arith, lt, l))) (omega (arith, inside, c.loop-k.auto.drive)) z
+    (c.loop-k.invariant driver z)

@@ -6,4 +6,5 @@ use Rattle.clock_run.specs.Driving.{AreDriven, AreSet}
 use Rattle.clock_run.proofs.drive.drive_words.Given as goal
 
 abbrev pub invariant-loop-k : goal.invariant-loop-k
-invariant-loop-k l = (driver : ℕ → Option Trit) → AllZip (AreDriven driver) l.nodes l.words → AreSet driver (flat_map (λ ns. ns) (take l.k l.nodes)) l.initial.drive l.drive
+invariant-loop-k l = (driver : ℕ → Option Trit) → AllZip (AreDriven driver) l.nodes l.words → AreSet driver
+    (flat_map (λ ns. ns) (take l.k l.nodes)) l.initial.drive l.drive

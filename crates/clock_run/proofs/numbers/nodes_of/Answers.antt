@@ -13,4 +13,5 @@ loop-tag-preserved c =
     (subst P c.bytes.ensures c.in_ok-set.ensures)
 
 pub returns : goal.returns
-returns c = subst (λ (xs : List Tag). NumberNodes xs c.loop-tag.numbers) (take_all c.loop-tag.tag-index c.args.tags.now (omega arith)) c.loop-tag.invariant
+returns c = subst (λ (xs : List Tag). NumberNodes xs c.loop-tag.numbers) (take_all c.loop-tag.tag-index c.args.tags.now (omega arith))
+    c.loop-tag.invariant

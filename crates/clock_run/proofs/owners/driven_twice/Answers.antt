@@ -16,7 +16,8 @@ offset_bounds-tags-first c =
     let l : length c.as_slice-tags.result.now ≡ length net.tags = ap (λ (xs : List Tag). length xs) e in
     let is = c.index-tags-i.is ∙ ap (λ (xs : List Tag). get_or xs i t) e in
     let inside = node_inside net i t (omega (arith, l, c.loop-i-test.true)) is in
-    let own = read_at c.loop-i.owners.items t.node c.index.result.now (Some c.in-Some.first) (omega (arith, inside, c.loop-i.invariant.sized)) c.index.ensures c.in-Some.is in
+    let own = read_at c.loop-i.owners.items t.node c.index.result.now (Some c.in-Some.first)
+    (omega (arith, inside, c.loop-i.invariant.sized)) c.index.ensures c.in-Some.is in
     let lt : c.in-Some.first < i = (c.loop-i.invariant.owners.held t.node c.in-Some.first own).0 in
     let below : c.in-Some.first < length c.as_slice-tags.result.now = omega (arith, lt, c.loop-i-test.true) in
     search rules
@@ -30,7 +31,8 @@ bounds-tags-first c =
     let l : length c.as_slice-tags.result.now ≡ length net.tags = ap (λ (xs : List Tag). length xs) e in
     let is = c.index-tags-i.is ∙ ap (λ (xs : List Tag). get_or xs i t) e in
     let inside = node_inside net i t (omega (arith, l, c.loop-i-test.true)) is in
-    let own = read_at c.loop-i.owners.items t.node c.index.result.now (Some c.in-Some.first) (omega (arith, inside, c.loop-i.invariant.sized)) c.index.ensures c.in-Some.is in
+    let own = read_at c.loop-i.owners.items t.node c.index.result.now (Some c.in-Some.first)
+    (omega (arith, inside, c.loop-i.invariant.sized)) c.index.ensures c.in-Some.is in
     let lt : c.in-Some.first < i = (c.loop-i.invariant.owners.held t.node c.in-Some.first own).0 in
     omega (arith, lt, c.loop-i-test.true)
 
@@ -48,18 +50,28 @@ returns-then-not-same_name c =
     let is = c.index-tags-i.is ∙ ap (λ (xs : List Tag). get_or xs i t) e in
     let inside = node_inside net i t (omega (arith, l, c.loop-i-test.true)) is in
     let o = c.loop-i.invariant.owners in
-    let own = read_at owners t.node c.index.result.now (Some j) (omega (arith, inside, c.loop-i.invariant.sized)) c.index.ensures c.in-Some.is in
+    let own = read_at owners t.node c.index.result.now (Some j) (omega (arith, inside, c.loop-i.invariant.sized)) c.index.ensures
+    c.in-Some.is in
     let lt : j < i = (o.held t.node j own).0 in
     let at = stands_at net.tags i t (omega (arith, l, c.loop-i-test.true)) is in
-    let there = stands_at net.tags j first (omega (arith, l, lt, c.loop-i-test.true)) (c.index-tags-first.is ∙ ap (λ (xs : List Tag). get_or xs j first) e) in
+    let there = stands_at net.tags j first (omega (arith, l, lt, c.loop-i-test.true))
+    (c.index-tags-first.is ∙ ap (λ (xs : List Tag). get_or xs j first) e) in
     let driver = (c.in_ok-names.ensures t.name).0 (sym c.is_driver.ensures ∙ c.if-is_driver.true) in
-    let differ : first.name ≢ t.name = λ q. let yes = (bytes_eq-Decides first.name t.name).1 q in let no = sym c.same_name.ensures ∙ c.if-not-same_name.true in cc in
-    record { i = i; tag = t; twice = owners_meet drivers net.tags i t at owners j first o driver own there differ; first = o.none; offset_is = refl }
+    let differ : first.name ≢ t.name = λ q. let yes = (bytes_eq-Decides first.name t.name).1 q in let no = sym c.same_name.ensures
+    ∙ c.if-not-same_name.true in cc in
+    record {
+      i = i;
+      tag = t;
+      twice = owners_meet drivers net.tags i t at owners j first o driver own there differ;
+      first = o.none;
+      offset_is = refl;
+    }
 
 pub returns : goal.returns
 returns c = λ i m.
     let l : length c.as_slice-tags.result.now ≡ length c.args.network.now.tags = ap (λ (xs : List Tag). length xs) c.as_slice-tags.ensures in
-    c.loop-i.invariant.owners.none i (let lt = place_inside c.args.network.now.tags i m.0 m.1.at in omega (arith, l, lt, c.loop-i-test.false)) m
+    c.loop-i.invariant.owners.none i
+    (let lt = place_inside c.args.network.now.tags i m.0 m.1.at in omega (arith, l, lt, c.loop-i-test.false)) m
 
 pub loop-i-preserved : goal.loop-i-preserved
 loop-i-preserved c =
@@ -75,7 +87,8 @@ loop-i-preserved c =
     let at = stands_at net.tags i t (omega (arith, l, c.loop-i-test.true)) is in
     let o = c.loop-i.invariant.owners in
     let sized = c.loop-i.invariant.sized in
-    let read = λ (o : Option ℕ) (v : Option ℕ) (is : o ≡ get_or owners t.node o) (e : o ≡ v). read_at owners t.node o v (omega (arith, inside, sized)) is e in
+    let read = λ (o : Option ℕ) (v : Option ℕ) (is : o ≡ get_or owners t.node o) (e : o ≡ v). read_at owners t.node o v
+    (omega (arith, inside, sized)) is e in
     elim c.if-is_driver.branch [
       | then-is_driver+in-None w ↦
           let now : c.if-is_driver.owners.items ≡ set owners t.node (Some i) = ap (λ (v : Vec (Option ℕ) Global). v.items) w.owners-is in
@@ -83,7 +96,8 @@ loop-i-preserved c =
           record {
             sized = ap (λ (xs : List (Option ℕ)). length xs) now ∙ length-set owners t.node (Some i) ∙ sized;
             owners = subst (λ (xs : List (Option ℕ)). Owners drivers net.tags xs (i + 1)) (sym now)
-                (owners_new drivers net.tags i t at owners o (omega (arith, inside, sized)) driver (read w.index.result.now None w.index.ensures w.in-None.is));
+                (owners_new drivers net.tags i t at owners o (omega (arith, inside, sized)) driver
+                (read w.index.result.now None w.index.ensures w.in-None.is));
           }
       | then-is_driver+in-Some+else-not-same_name w ↦
           let j = w.in-Some.first in
@@ -91,11 +105,13 @@ loop-i-preserved c =
           let now : c.if-is_driver.owners.items ≡ owners = ap (λ (v : Vec (Option ℕ) Global). v.items) w.owners-is in
           let own = read w.index.result.now (Some j) w.index.ensures w.in-Some.is in
           let lt : j < i = (o.held t.node j own).0 in
-          let there = stands_at net.tags j first (omega (arith, l, lt, c.loop-i-test.true)) (w.index-tags-first.is ∙ ap (λ (xs : List Tag). get_or xs j first) e) in
+          let there = stands_at net.tags j first (omega (arith, l, lt, c.loop-i-test.true))
+          (w.index-tags-first.is ∙ ap (λ (xs : List Tag). get_or xs j first) e) in
           let name = (bytes_eq-Decides first.name t.name).0 (sym w.same_name.ensures ∙ w.if-not-same_name.false) in
           record {
             sized = ap (λ (xs : List (Option ℕ)). length xs) now ∙ sized;
-            owners = subst (λ (xs : List (Option ℕ)). Owners drivers net.tags xs (i + 1)) (sym now) (owners_same drivers net.tags i t at owners j first o own there name);
+            owners = subst (λ (xs : List (Option ℕ)). Owners drivers net.tags xs (i + 1)) (sym now)
+                (owners_same drivers net.tags i t at owners j first o own there name);
           }
       | else-is_driver w ↦
           let now : c.if-is_driver.owners.items ≡ owners = ap (λ (v : Vec (Option ℕ) Global). v.items) w.owners-is in

@@ -14,7 +14,8 @@ returns-in-None-clause-err c =
     let name : List ℕ = c.name-item.result in
     let net = c.args.network.now in
     let number : None ≡ number_of c.in_ok-numbers.numbers name = c.in-None.ensures ∙ ap (number_of c.in_ok-numbers.numbers) c.bytes.ensures in
-    let none : IsNumberOf c.as_slice.result.now name None = subst (IsNumberOf c.as_slice.result.now name) (sym number) (c.in_ok-numbers.ensures name) in
+    let none : IsNumberOf c.as_slice.result.now name None = subst (IsNumberOf c.as_slice.result.now name) (sym number)
+    (c.in_ok-numbers.ensures name) in
     let copied : c.in_ok-from_slice-in-None.field-0 ≡ name = c.in_ok-from_slice-in-None.ensures ∙ c.bytes-in-None.ensures in (
       name,
       missing_here net c.args.labels.now c.loop-name.name-index name c.loop-name.nodes (omega arith) c.name-item.is c.loop-name.invariant
@@ -27,8 +28,11 @@ loop-name-preserved c =
     let name : List ℕ = c.name-item.result in
     let net = c.args.network.now in
     let node = c.in-Some.node in
-    let number : Some node ≡ number_of c.in_ok-numbers.numbers name = c.in-Some.ensures ∙ ap (number_of c.in_ok-numbers.numbers) c.bytes.ensures in
-    let there : IsNumberOf c.as_slice.result.now name (Some node) = subst (IsNumberOf c.as_slice.result.now name) (sym number) (c.in_ok-numbers.ensures name) in
-    subst (λ (ns : List ℕ). AllZip (IsLabelled net) (take (c.loop-name.name-index + 1) c.args.labels.now) ns) (sym c.in_ok-push-in-Some.ensures.ok)
+    let number : Some node ≡ number_of c.in_ok-numbers.numbers name = c.in-Some.ensures ∙ ap (number_of c.in_ok-numbers.numbers)
+    c.bytes.ensures in
+    let there : IsNumberOf c.as_slice.result.now name (Some node) = subst (IsNumberOf c.as_slice.result.now name) (sym number)
+    (c.in_ok-numbers.ensures name) in
+    subst (λ (ns : List ℕ). AllZip (IsLabelled net) (take (c.loop-name.name-index + 1) c.args.labels.now) ns)
+    (sym c.in_ok-push-in-Some.ensures.ok)
     (labelled_more net c.args.labels.now c.loop-name.name-index name c.loop-name.nodes node (omega arith) c.name-item.is c.loop-name.invariant
     (subst (λ (ts : List Tag). IsNumberOf ts name (Some node)) c.as_slice.ensures there))

@@ -10,5 +10,6 @@ use Rattle.clock_run.proofs.split.split.Given as goal
 abbrev pub invariant-loop-pad : goal.invariant-loop-pad
 invariant-loop-pad l = record {
   place : l.start ≡ length (flat_map bit_labels (take l.pad-index l.pads));
-  own : (net : Network) → AllZip (IsLabelled net) (flat_map bit_labels l.pads) l.nodes → AllZip (AreNodesOf net) (take l.pad-index l.pads) l.own;
+  own : (net : Network) → AllZip (IsLabelled net) (flat_map bit_labels l.pads) l.nodes
+      → AllZip (AreNodesOf net) (take l.pad-index l.pads) l.own;
 }

@@ -13,7 +13,10 @@ invariant_of-result c =
     let e : c.flag.result ≡ flag (is_known v) k = c.flag.ensures ∙ ap (λ (b : Bool). flag b k) c.is_known.ensures in
     let h : c.flag-2.result ≡ flag (is_one v) k = c.flag-2.ensures ∙ ap (λ (b : Bool). flag b k) c.is_one.ensures in
     let P : ℕ → ℕ → Type 0 = λ f g. bit_and (bit_or bits g) (bit_or known f) ≡ bit_or bits g in
-    record { masked = subst (λ f. P f c.flag-2.result) (sym e) (subst (λ g. P (flag (is_known v) k) g) (sym h) (still_masked known bits k v c.args.word.masked)) }
+    record {
+      masked = subst (λ f. P f c.flag-2.result) (sym e)
+          (subst (λ g. P (flag (is_known v) k) g) (sym h) (still_masked known bits k v c.args.word.masked));
+    }
 
 pub returns-clause-narrow : goal.returns-clause-narrow
 returns-clause-narrow c =

@@ -9,7 +9,8 @@ loop-k-init c = record { masked = refl; narrow = omega arith; each = λ j lt. ab
 pub loop-k-preserved : goal.loop-k-preserved
 loop-k-preserved c =
     let w = c.with_bit-word in
-    word_more (value_at c.args.values.now) c.args.nodes.now c.loop-k.k c.loop-k.word.0 c.loop-k.word.1.0 w.result c.loop-k.invariant w.ensures.narrow w.ensures.below (w.ensures.bit ∙ c.value_at.ensures)
+    word_more (value_at c.args.values.now) c.args.nodes.now c.loop-k.k c.loop-k.word.0 c.loop-k.word.1.0 w.result c.loop-k.invariant
+    w.ensures.narrow w.ensures.below (w.ensures.bit ∙ c.value_at.ensures)
 
 pub invariant_of-word : goal.invariant_of-word
 invariant_of-word c = record { masked = c.loop-k.invariant.masked }
