@@ -1,5 +1,5 @@
 -- A command has one first fault at most.
-use Rattle.std.proofs.Common.{◌≡◌, List, ℕ, Option, None}
+use Rattle.std.proofs.Common.{List, ℕ, None}
 use Rattle.std.specs.FinMap.{get}
 use Rattle.mp_base.specs.Outside.{Files, bytes_of}
 use Rattle.command_line.specs.Command.{Command, Trace, Compile, Sim, Net}

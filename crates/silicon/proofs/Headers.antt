@@ -1,9 +1,8 @@
 -- A stimulus with pads of its own has at most 256 of them.
-use Rattle.std.proofs.Common.{◌≡◌, ◌&&◌, ◌==◌, refl, ℕ, ◌+◌, ◌<◌, ◌≤◌, List, [], ◌∷◌, ◌++◌, Bool, true, false, nat_lt, None, length, sym, ap, arith, Result, Ok, Err, IfOk}
+use Rattle.std.proofs.Common.{◌≡◌, ◌&&◌, ◌==◌, refl, ℕ, ◌+◌, ◌<◌, ◌≤◌, List, [], ◌∷◌, Bool, true, false, nat_lt, None, length, ap, arith}
 use Rattle.std.proofs.lemmas.List.{length-append}
 use Rattle.std.proofs.lemmas.Bool.{ltb-true}
 use Rattle.mp_base.specs.declared.pad.Pad.{Pad}
-use Rattle.mp_base.specs.declared.refusal.Refusal.{Refusal}
 use Rattle.stimulus.specs.declared.given.Stimulus.{Stimulus}
 use Rattle.stimulus.specs.declared.piece.Piece.{Piece}
 use Rattle.stimulus.specs.declared.form.Form.{Form}
@@ -38,12 +37,8 @@ reads_few r t (line ∷ more) reads few =
     let first = reads.1 in
     reads_few reads.0 t more reads.2 (form_few r reads.0 first.form first.«in_place» first.adds few)
 
-few_inputs : (text : List ℕ) (s : Stimulus) → IsStimulus text None s → length (s.pads).inputs ≤ 256
+pub few_inputs : (text : List ℕ) (s : Stimulus) → IsStimulus text None s → length (s.pads).inputs ≤ 256
 few_inputs text s is =
     let e = ap (λ (pads : List Pad). length pads) is.inputs in
     let few = reads_few nothing is.reading (lines text) is.reads (omega arith) in
     omega (arith, e, few)
-
-pub read_inputs : (text : List ℕ) (result : Result Stimulus Refusal) → IfOk result (IsStimulus text None) → IfOk result (λ given. length (given.pads).inputs ≤ 256)
-read_inputs text (Ok given) read = few_inputs text given read
-read_inputs text (Err e) read = tt

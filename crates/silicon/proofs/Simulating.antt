@@ -1,5 +1,5 @@
 -- A circuit that runs along a stimulus: how it is refused, and what it shows.
-use Rattle.std.proofs.Common.{◌≡◌, ◌≤◌, ℕ, List, [], refl, subst, inr, Option, Some, None, IfSome}
+use Rattle.std.proofs.Common.{◌≡◌, ℕ, List, [], refl, subst, Option, Some, None, IfSome}
 use Rattle.mp_base.specs.declared.value.Trit.{Trit}
 use Rattle.mp_base.specs.declared.value.Trit.TheVariants.{X}
 use Rattle.mp_base.specs.declared.pad.Pads.{Pads}
@@ -21,9 +21,9 @@ use Rattle.silicon.specs.Order.{Fault, OfRule}
 use Rattle.silicon.specs.Faults.{IsFirstFault, SetUpFault, Shows}
 use Rattle.silicon.specs.Halt.{EndsBy, halt_of}
 use Rattle.silicon.specs.Simulated.{IsSetUp, OfCircuit}
+use Rattle.silicon.specs.declared.halt.Halt.{Halt}
 use Rattle.silicon.proofs.Determined.{IsDetermined}
-use Rattle.silicon.proofs.Reasons.{ends_second, if_second}
-use Rattle.silicon.proofs.Stimuli.{same_pads}
+use Rattle.silicon.proofs.Reasons.{ends_first, ends_second, if_second}
 
 -- a stimulus of a text has the same pads everywhere
 abbrev pub SamePads : Type 0
@@ -45,16 +45,20 @@ module _ (network : OneNetwork) (same : SamePads) (first : OneFirstOfCircuit) (m
   one_of_circuit (Some a) (Some b) (n, s, x, broken) (m, t, y, other) =
       let e = first m t.pads a b (again (λ net pads. IsFirstOfCircuit net pads a) n m s t x y broken) other in cc
 
+-- the files were refused
+pub ends_set_up : (cif stimulus : List ℕ) (held : Option Files) (r m : ℕ) (halt : Halt) → EndsBy (SetUpFault cif stimulus) held r m halt → EndsBy (IsFirstFault (Sim cif stimulus)) held r m halt
+ends_set_up cif stimulus held r m halt e = ends_first (SetUpFault cif stimulus) (λ files. OfRule (OfCircuit (bytes_of files cif) (bytes_of files stimulus))) held r m halt e
+
 module _ (cif stimulus : List ℕ) (net : Network) (given : Stimulus) (held : Option Files) (r m : ℕ)
-  (set_up : IfSome held (λ files. IsSetUp (bytes_of files cif) (bytes_of files stimulus) net given))
-  (fits : (m ≡ r) × IfSome held (λ files. SetUpFault cif stimulus files None)) where
+    (set_up : IfSome held (λ files. IsSetUp (bytes_of files cif) (bytes_of files stimulus) net given))
+    (fits : (m ≡ r) × IfSome held (λ files. SetUpFault cif stimulus files None)) where
   abbrev Rest : Files → Option Fault → Type 0
   Rest files = OfRule (OfCircuit (bytes_of files cif) (bytes_of files stimulus))
 
   refused_end : (held : Option Files) → IfSome held (λ files. IsSetUp (bytes_of files cif) (bytes_of files stimulus) net given) → (e : Refusal) → IsRefused net given.pads e → EndsBy Rest held m m (halt_of e)
   refused_end held is refusals.NoMemory h = refl
   refused_end None is (refusals.Broken b) h = (refl, tt)
-  refused_end (Some files) is (refusals.Broken b) h = (refl, net, given, is, h)
+  refused_end (Some files) is (refusals.Broken b) h = (refl, (net, given, is, h))
 
   -- the circuit was refused
   pub ends_refused : (e : Refusal) → IsRefused net given.pads e → EndsBy (IsFirstFault (Sim cif stimulus)) held r m (halt_of e)

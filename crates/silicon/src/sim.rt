@@ -23,12 +23,7 @@ struct SetUp {
 }
 
 // Reads and judges the files.
-fn prepare<D: Depot>(
-    alloc: Global,
-    depot: &mut D,
-    cif: &str,
-    stimulus: &str,
-) -> Result<SetUp, Halt>
+fn prepare<D: Depot>(alloc: Global, depot: &mut D, cif: &str, stimulus: &str) -> Result<SetUp, Halt>
     ensures held { Keeps (D.held depot.old) (D.held depot.new) }
     ensures few_inputs { IfOk result (λ s. length s.given.pads.inputs ≤ 256) }
     ensures few_clocks { IfOk result (λ s. length s.given.clocks ≤ 65536) }

@@ -90,7 +90,12 @@ fn words_and_files(rt: HostRuntime) -> Result<(), Fail> {
         ("sim absent inv", 9, Status::ReadFault, ""),
         ("sim masks absent", 9, Status::ReadFault, ""),
         ("sim short absent", 9, Status::Refused, "error N3 at 31\n"),
-        ("sim metal high", 9, Status::Refused, "error S2 at 6 line 1 column 7\n"),
+        (
+            "sim metal high",
+            9,
+            Status::Refused,
+            "error S2 at 6 line 1 column 7\n",
+        ),
         ("sim metal pads", 9, Status::Refused, "error N4 vdd\n"),
         ("sim masks pads", 99, Status::Done, "0 y=1\n1 y=0\n"),
         ("sim masks pads", 0, Status::WriteFault, ""),

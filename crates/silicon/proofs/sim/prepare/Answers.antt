@@ -3,10 +3,15 @@ use Rattle.mp_base.specs.Outside.{Files}
 use Rattle.stimulus.specs.declared.given.Stimulus.{Stimulus}
 use Rattle.silicon.specs.declared.halt.Halt.{Halt}
 use Rattle.silicon.specs.Order.{Fault}
-use Rattle.silicon.specs.Faults.{MaskFault, PadsFault}
-use Rattle.silicon.proofs.Reasons.{reason_second, reason_err, if_kept}
+use Rattle.silicon.specs.Faults.{MaskFault, PadsFault, SetUpFault}
+use Rattle.silicon.proofs.Reasons.{ends_first, reason_second, reason_err, if_kept}
 use Rattle.silicon.proofs.Simulating.{is_set_up}
 use Rattle.silicon.proofs.sim.prepare.Goals as goal
+
+pub returns-in_err-network-clause-reason : goal.returns-in_err-network-clause-reason
+returns-in_err-network-clause-reason g c =
+    reason_err (SetUpFault c.args.cif.now c.args.stimulus.now) _ _ _ _ c.from_residual.result c.from_residual.ensures.1
+    (ends_first (MaskFault c.args.cif.now) (PadsFault None c.args.stimulus.now) _ _ _ c.in_err-network.field-0.0 c.in_err-network.ensures.reason)
 
 pub returns-in_err-given-clause-reason : goal.returns-in_err-given-clause-reason
 returns-in_err-given-clause-reason g c =
