@@ -17,6 +17,9 @@ trace = form (codes "trace") (codes "source" ∷ codes "stimulus" ∷ [])
 abbrev pub compile : Shape
 compile = form (codes "compile") (codes "source" ∷ codes "cif" ∷ [])
 
+abbrev pub sim : Shape
+sim = form (codes "sim") (codes "cif" ∷ codes "stimulus" ∷ [])
+
 abbrev pub net : Shape
 net = form (codes "net") (codes "cif" ∷ [])
 
@@ -39,4 +42,4 @@ top = record bare_top { is_leaf = false }
 
 -- the program with its forms
 abbrev pub app : App
-app = record { top = top; subs = trace ∷ compile ∷ net ∷ [] }
+app = record { top = top; subs = trace ∷ compile ∷ sim ∷ net ∷ [] }

@@ -10,6 +10,7 @@ use Rattle.command_line.specs.declared.command.Command.TheVariants as rust_varia
 pub data Command : Type 0 where
   Trace : (source stimulus : List ℕ) → Command
   Compile : (source cif : List ℕ) → Command
+  Sim : (cif stimulus : List ℕ) → Command
   Net : (cif : List ℕ) → Command
 
 abbrev pub begins_with_dash : List ℕ → Bool
@@ -31,6 +32,7 @@ abbrev pub form_named : List ℕ → List (List ℕ) → Option Command
 form_named name words =
     if bytes_eq (codes "trace") name then two Trace words
     else if bytes_eq (codes "compile") name then two Compile words
+    else if bytes_eq (codes "sim") name then two Sim words
     else if bytes_eq (codes "net") name then one Net words
     else None
 
@@ -47,4 +49,5 @@ command_of words = if list_any (λ word. begins_with_dash (string_bytes word)) w
 abbrev pub seen : rust.Command → Command
 seen (rust_variants.Trace source stimulus) = Trace source.now stimulus.now
 seen (rust_variants.Compile source cif) = Compile source.now cif.now
+seen (rust_variants.Sim cif stimulus) = Sim cif.now stimulus.now
 seen (rust_variants.Net cif) = Net cif.now

@@ -8,7 +8,7 @@ use Rattle.clap.specs.declared.ArgMatches.{ArgMatches}
 use Rattle.clap.specs.declared.Error.{Error}
 use Rattle.clap.specs.declared.error.ErrorKind.{ErrorKind}
 use Rattle.clap.specs.declared.error.ErrorKind.TheVariants.{OutOfMemory}
-use Rattle.command_line.specs.Command.{Command, Trace, Compile, Net}
+use Rattle.command_line.specs.Command.{Command, Trace, Compile, Sim, Net}
 
 -- a command of the word that an id took
 abbrev pub read_one : (Text → Command) → Text → List Row → Option Command
@@ -23,6 +23,7 @@ abbrev pub read_named : Text → List Row → Option Command
 read_named name rows =
     if bytes_eq name (codes "trace") then read_two Trace (codes "source") (codes "stimulus") rows
     else if bytes_eq name (codes "compile") then read_two Compile (codes "source") (codes "cif") rows
+    else if bytes_eq name (codes "sim") then read_two Sim (codes "cif") (codes "stimulus") rows
     else if bytes_eq name (codes "net") then read_one Net (codes "cif") rows
     else None
 

@@ -58,5 +58,6 @@ pub fn app<'a>(alloc: Global) -> Result<Command<'a>, AllocError>
 {
     let trace = with_form(alloc, top(alloc), "trace", &["source", "stimulus"])?;
     let compile = with_form(alloc, trace, "compile", &["source", "cif"])?;
-    with_form(alloc, compile, "net", &["cif"])
+    let sim = with_form(alloc, compile, "sim", &["cif", "stimulus"])?;
+    with_form(alloc, sim, "net", &["cif"])
 }

@@ -29,6 +29,12 @@ fn compile<'a>(matches: &ArgMatches<'a>) -> Option<Command<'a>>
     Some(Command::Compile(text(matches, "source")?, text(matches, "cif")?))
 }
 
+fn sim<'a>(matches: &ArgMatches<'a>) -> Option<Command<'a>>
+    ensures { option_map seen result ≡ read_two spec.Sim (codes "cif") (codes "stimulus") (rows_of (found_of matches.now)) }
+{
+    Some(Command::Sim(text(matches, "cif")?, text(matches, "stimulus")?))
+}
+
 fn net<'a>(matches: &ArgMatches<'a>) -> Option<Command<'a>>
     ensures { option_map seen result ≡ read_one spec.Net (codes "cif") (rows_of (found_of matches.now)) }
 {
@@ -43,6 +49,8 @@ pub fn command_in<'a>(name: &str, matches: &ArgMatches<'a>) -> Option<Command<'a
         trace(matches)
     } else if name == "compile" {
         compile(matches)
+    } else if name == "sim" {
+        sim(matches)
     } else if name == "net" {
         net(matches)
     } else {

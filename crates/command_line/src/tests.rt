@@ -14,11 +14,12 @@ fn owned(alloc: Global, words: &[&str]) -> Result<Vec<String>, AllocError> {
 #[test]
 fn words_in_a_form(rt: HostRuntime) -> Result<(), AllocError> {
     let alloc = rt.alloc();
-    let rows: [(&[&str], Command<'_>); 6] = [
+    let rows: [(&[&str], Command<'_>); 7] = [
         (&["trace", "a", "b"], Command::Trace("a", "b")),
         (&["compile", "a", "b"], Command::Compile("a", "b")),
         (&["trace", "trace", "a b"], Command::Trace("trace", "a b")),
         (&["compile", "", "help"], Command::Compile("", "help")),
+        (&["sim", "a", "b"], Command::Sim("a", "b")),
         (&["net", "a"], Command::Net("a")),
         (&["net", "net"], Command::Net("net")),
     ];
@@ -32,7 +33,7 @@ fn words_in_a_form(rt: HostRuntime) -> Result<(), AllocError> {
 #[test]
 fn words_in_no_form(rt: HostRuntime) -> Result<(), AllocError> {
     let alloc = rt.alloc();
-    let rows: [&[&str]; 21] = [
+    let rows: [&[&str]; 22] = [
         &[],
         &[""],
         &["a", "b"],
@@ -44,6 +45,7 @@ fn words_in_no_form(rt: HostRuntime) -> Result<(), AllocError> {
         &["trace", "a", "b", "c"],
         &["compile", "a"],
         &["compile", "a", "b", ""],
+        &["sim", "a"],
         &["net"],
         &["net", "a", "b"],
         &["trace", "-a", "b"],

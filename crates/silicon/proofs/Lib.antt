@@ -12,6 +12,8 @@ pub mod Clocking
 pub mod Clocks
 pub mod Compiling
 pub mod Nets
+pub mod Headers
+pub mod Simulating
 pub mod Shown
 pub mod Causes
 mod TranscriptExamples

@@ -43,7 +43,7 @@ module _ (F G : Files → Option Fault → Type 0) where
   ends_first held r r' WriteFault e = absurd e
   ends_first held r r' NoMemory e = e
 
-  if_second : (held : Option Files) (fault : Option Fault) → IfSome held (λ files. F files None) → IfSome held (λ files. G files fault) → IfSome held (λ files. Both files fault)
+  pub if_second : (held : Option Files) (fault : Option Fault) → IfSome held (λ files. F files None) → IfSome held (λ files. G files fault) → IfSome held (λ files. Both files fault)
   if_second None fault p q = tt
   if_second (Some files) None p q = (p, q)
   if_second (Some files) (Some fault) p q = inr (p, q)

@@ -47,6 +47,9 @@ gains_some : (status result : Status) (text : List ℕ) (x y : Option (List ℕ)
 gains_some status result text x y s s' (whole is same said) = (text, said)
 gains_some status result text x y s s' (cut is le rose part first said) = (part, said)
 
+pub leaves_command : (command : Option Command) (seen : Command) (result : Status) (before after : World) → Some seen ≡ command → Leaves (DidCommand seen result) before after → Leaves (Did command result) before after
+leaves_command command seen result before after is leaves = subst (λ o. Leaves (Did o result) before after) is leaves
+
 pub leaves_no_command : (command : Option Command) (result : Status) (before after : World) (s s' : ℕ) → None ≡ command → IsSaid Usage usage_line before.text after.text s s' result → after.files ≡ before.files → Leaves (Did command result) before after
 leaves_no_command command result before after s s' none said same =
     let some = gains_some Usage result usage_line before.text after.text s s' said in

@@ -2,8 +2,8 @@
 use Rattle.std.specs.Prelude.{◌≡◌, ℕ, List, [], Option, Some, None}
 use Rattle.std.specs.FinMap.{get}
 use Rattle.mp_base.specs.Outside.{Files, bytes_of}
-use Rattle.command_line.specs.Command.{Command, Trace, Compile, Net}
-use Rattle.silicon.specs.Order.{Fault, Stray, Then, OfFile}
+use Rattle.command_line.specs.Command.{Command, Trace, Compile, Sim, Net}
+use Rattle.silicon.specs.Order.{Fault, Stray, Then, OfFile, OfRule}
 use Rattle.mp_base.specs.declared.pad.Pads.{Pads}
 use Rattle.silicon.specs.Compiled.{IsCompiled, IsSizeOf}
 use Rattle.silicon.specs.Source.{OfCompiled}
@@ -11,14 +11,15 @@ use Rattle.mp_source.specs.Source.{OfSource}
 use Rattle.mask_net.specs.Masks.{OfMask}
 use Rattle.silicon.specs.Stimulus.{OfPads, OfStimulus}
 use Rattle.silicon.specs.Transcript.{IsTranscript}
+use Rattle.silicon.specs.Simulated.{OfCircuit, IsSimulation}
 
 -- the faults of the file that holds a source
 abbrev pub SourceFault : List ℕ → Files → Option Fault → Type 0
 SourceFault name files = OfFile 1048576 OfSource name (get files name)
 
--- the faults of the file that holds a stimulus for these pads
-abbrev pub PadsFault : Pads → List ℕ → Files → Option Fault → Type 0
-PadsFault pads name files = OfFile 1048576 (OfPads pads) name (get files name)
+-- the faults of the file that holds a stimulus for the pads that are known, or else for its own
+abbrev pub PadsFault : Option Pads → List ℕ → Files → Option Fault → Type 0
+PadsFault known name files = OfFile 1048576 (OfPads known) name (get files name)
 
 -- the faults of the file that holds a stimulus for a source
 abbrev pub StimulusFault : List ℕ → List ℕ → Files → Option Fault → Type 0
@@ -32,22 +33,29 @@ CompiledFault name files = OfFile 1048576 OfCompiled name (get files name)
 abbrev pub MaskFault : List ℕ → Files → Option Fault → Type 0
 MaskFault name files = OfFile 268_435_456 OfMask name (get files name)
 
+-- the faults of the files that hold masks and a stimulus
+abbrev pub SetUpFault : List ℕ → List ℕ → Files → Option Fault → Type 0
+SetUpFault cif stimulus files = Then (MaskFault cif files) (PadsFault None stimulus files)
+
 -- the first fault of a command on these files, in the order of work, or that there is none
 abbrev pub IsFirstFault : Command → Files → Option Fault → Type 0
 IsFirstFault (Trace source stimulus) files = Then (SourceFault source files) (StimulusFault (bytes_of files source) stimulus files)
 IsFirstFault (Compile source cif) files = CompiledFault source files
+IsFirstFault (Sim cif stimulus) files = Then (SetUpFault cif stimulus files) (OfRule (OfCircuit (bytes_of files cif) (bytes_of files stimulus)))
 IsFirstFault (Net cif) files = MaskFault cif files
 
 -- the file that a command writes
 abbrev pub target_of : Command → Option (List ℕ)
 target_of (Trace source stimulus) = None
 target_of (Compile source cif) = Some cif
+target_of (Sim cif stimulus) = None
 target_of (Net cif) = None
 
 -- the bytes of that file and the text that a command may show
 abbrev pub Shows : Command → Files → List ℕ → List ℕ → Type 0
 Shows (Trace source stimulus) files chip text = (chip ≡ []) × IsTranscript (bytes_of files source) (bytes_of files stimulus) text
 Shows (Compile source cif) files chip text = IsCompiled (bytes_of files source) chip × (text ≡ [])
+Shows (Sim cif stimulus) files chip text = (chip ≡ []) × IsSimulation (bytes_of files cif) (bytes_of files stimulus) text
 Shows (Net cif) files chip text = (chip ≡ []) × IsSizeOf (bytes_of files cif) text
 
 -- the files are told, and the first fault is a file that is not held

@@ -8,3 +8,4 @@ pub mod Halt
 pub mod Line
 pub mod Transcript
 pub mod Compiled
+pub mod Simulated

@@ -10,10 +10,10 @@ use Rattle.stimulus.specs.declared.given.Stimulus.{Stimulus}
 use Rattle.stimulus.specs.Reading.{IsStimulus, IsFirst}
 use Rattle.mp_source.specs.Source.{IsSource}
 
--- the text is a stimulus for these pads, or this is the first rule that it breaks
-abbrev pub OfPads : Pads → List ℕ → Option Broken → Type 0
-OfPads pads text None = (given : Stimulus) × IsStimulus text (Some pads) given
-OfPads pads text (Some broken) = (broken.rule.family ≡ S) × SpotIs broken.spot (IsFirst text (Some pads) broken.rule.number)
+-- the text is a stimulus for the pads that are known, or else for those of its header, or this is the first rule that it breaks
+abbrev pub OfPads : Option Pads → List ℕ → Option Broken → Type 0
+OfPads known text None = (given : Stimulus) × IsStimulus text known given
+OfPads known text (Some broken) = (broken.rule.family ≡ S) × SpotIs broken.spot (IsFirst text known broken.rule.number)
 
 -- The first rule that a stimulus breaks, for the pads of a source.
 pub record OfStimulus (source text : List ℕ) (first : Option Broken) : Type 0 where
@@ -21,4 +21,4 @@ pub record OfStimulus (source text : List ℕ) (first : Option Broken) : Type 0 
   pub pads : Pads
   pub is_source : IsSource source program
   pub padded : ArePadsOf program pads
-  pub rules : OfPads pads text first
+  pub rules : OfPads (Some pads) text first

@@ -1,6 +1,6 @@
 //! Files that are read and judged.
 
-ghost use Rattle.std.specs.Prelude.{◌≡◌, ◌≤◌, ◌<◌, ◌^◌, Some, length, IfOk, IfSome};
+ghost use Rattle.std.specs.Prelude.{◌≡◌, ◌≤◌, ◌<◌, ◌^◌, None, Some, length, IfOk, IfSome};
 ghost use Rattle.std.specs.FinMap.{get};
 ghost use Rattle.mp_base.specs.Outside.{Keeps, bytes_of};
 ghost use Rattle.mp_program.specs.Pads.{ArePadsOf};
@@ -75,7 +75,7 @@ pub fn read_source<D: Depot>(alloc: Global, depot: &mut D, name: &str) -> Result
 // Judges a stimulus for a checked program.
 fn check_stimulus(alloc: Global, text: &[u8], checked: &Checked) -> Result<Stimulus, Refusal>
     requires small { length text.now ≤ 1048576 }
-    ensures judged { IsJudged (OfPads checked.now.pads text.now) result }
+    ensures judged { IsJudged (OfPads (Some checked.now.pads) text.now) result }
     ensures read { IfOk result (IsStimulus text.now (Some checked.now.pads)) }
     ensures padded { IfOk result (λ given. ArePadsOf checked.now.program given.pads) }
     ensures few { IfOk result (λ given. length given.clocks ≤ 65536) }
@@ -96,11 +96,33 @@ pub fn read_stimulus<D: Depot>(
     ensures padded { IfOk result (λ given. ArePadsOf checked.now.program given.pads) }
     ensures few { IfOk result (λ given. length given.clocks ≤ 65536) }
     ensures read { IfOk result (λ given. IfSome (D.held depot.new) (λ files. IsStimulus (bytes_of files name.now) (Some checked.now.pads) given)) }
-    ensures reason { HasReason (PadsFault checked.now.pads name.now) (D.held depot.new) (D.read_faults depot.old) (D.read_faults depot.new) result }
+    ensures reason { HasReason (PadsFault (Some checked.now.pads) name.now) (D.held depot.new) (D.read_faults depot.old) (D.read_faults depot.new) result }
     ensures writes { D.write_faults depot.new ≡ D.write_faults depot.old }
 {
     let text = read_text(alloc, depot, name, LIMIT)?;
     Ok(check_stimulus(alloc, &text, checked)?)
+}
+
+// Judges a stimulus that has pads of its own.
+fn check_headed(alloc: Global, text: &[u8]) -> Result<Stimulus, Refusal>
+    requires small { length text.now ≤ 1048576 }
+    ensures judged { IsJudged (OfPads None text.now) result }
+    ensures read { IfOk result (IsStimulus text.now None) }
+{
+    stimulus::read_stimulus(alloc, text, None)
+}
+
+/// Reads a stimulus with pads of its own that breaks no rule.
+pub fn read_headed<D: Depot>(alloc: Global, depot: &mut D, name: &str) -> Result<Stimulus, Halt>
+    ensures held { Keeps (D.held depot.old) (D.held depot.new) }
+    ensures few_inputs { IfOk result (λ given. length given.pads.inputs ≤ 256) }
+    ensures few_clocks { IfOk result (λ given. length given.clocks ≤ 65536) }
+    ensures read { IfOk result (λ given. IfSome (D.held depot.new) (λ files. IsStimulus (bytes_of files name.now) None given)) }
+    ensures reason { HasReason (PadsFault None name.now) (D.held depot.new) (D.read_faults depot.old) (D.read_faults depot.new) result }
+    ensures writes { D.write_faults depot.new ≡ D.write_faults depot.old }
+{
+    let text = read_text(alloc, depot, name, LIMIT)?;
+    Ok(check_headed(alloc, &text)?)
 }
 
 /// Reads a source of `compile` that breaks no rule.

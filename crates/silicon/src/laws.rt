@@ -6,9 +6,10 @@ ghost use Rattle.command_line.specs.Command.{Command};
 ghost use Rattle.silicon.specs.Order.{Fault};
 ghost use Rattle.silicon.specs.Faults.{IsFirstFault};
 
-use mask_net::laws::one_verdict as one_of_masks;
+use mask_net::laws::{one_network, one_verdict as one_of_masks};
 use mp_source::laws::{one_source, one_verdict};
-use stimulus::one_first_rule;
+use stimulus::{one_first_rule, one_stimulus};
+use switch_net::first_rule_is_determined;
 
 /// A command has one first fault at most on the same files.
 pub fn one_first_fault()
@@ -18,4 +19,7 @@ pub fn one_first_fault()
     one_verdict();
     one_first_rule();
     one_of_masks();
+    one_network();
+    one_stimulus();
+    first_rule_is_determined();
 }

@@ -8,6 +8,7 @@ mod halt;
 pub mod laws;
 mod line;
 mod net;
+mod sim;
 mod source;
 #[cfg(test)]
 mod tests;

@@ -62,6 +62,8 @@ fn words_and_files(rt: HostRuntime) -> Result<(), Fail> {
     depot.put("stray", b"(program inv 1 #)")?;
     depot.put("inv", INVERTER.as_bytes())?;
     depot.put("count", COUNTER.as_bytes())?;
+    depot.put("masks", MASKS.as_bytes())?;
+    depot.put("pads", b"in a\nout y\nclock a=0\nclock a=1\n")?;
     depot.put("metal", b"L NM; B 3 1 0 0; E")?;
     depot.put("short", b"L NM; B 10 10 0 0; 94 vdd 0 0; 94 gnd 1 1; E")?;
     depot.put("two", b"clock a=0\nclock a=1\n")?;
@@ -84,6 +86,19 @@ fn words_and_files(rt: HostRuntime) -> Result<(), Fail> {
         ("trace inv high", 9, Status::Refused, HIGH),
         ("trace inv two", 99, Status::Done, "0 y=1\n1 y=0\n"),
         ("trace inv two", 0, Status::WriteFault, ""),
+        ("sim masks", 9, Status::Usage, USAGE),
+        ("sim absent inv", 9, Status::ReadFault, ""),
+        ("sim masks absent", 9, Status::ReadFault, ""),
+        ("sim short absent", 9, Status::Refused, "error N3 at 31\n"),
+        (
+            "sim metal high",
+            9,
+            Status::Refused,
+            "error S2 at 6 line 1 column 7\n",
+        ),
+        ("sim metal pads", 9, Status::Refused, "error N4 vdd\n"),
+        ("sim masks pads", 99, Status::Done, "0 y=1\n1 y=0\n"),
+        ("sim masks pads", 0, Status::WriteFault, ""),
         ("net", 9, Status::Usage, USAGE),
         ("net absent", 9, Status::ReadFault, ""),
         ("net stray", 9, Status::Refused, "error C1 at 0\n"),

@@ -11,6 +11,7 @@ use crate::compile::compile;
 use crate::halt::Halt;
 use crate::line::line;
 use crate::net::net;
+use crate::sim::sim;
 use crate::trace::trace;
 use command_line::{Command, command_of};
 use mp_base::{Broken, Depot, Failed, Sink, write_all};
@@ -52,6 +53,7 @@ fn perform<D: Depot, O: Sink>(
     match command {
         Command::Trace(source, stimulus) => trace(alloc, depot, out, source, stimulus),
         Command::Compile(source, cif) => compile(alloc, depot, out, source, cif),
+        Command::Sim(cif, stimulus) => sim(alloc, depot, out, cif, stimulus),
         Command::Net(cif) => net(alloc, depot, out, cif),
     }
 }

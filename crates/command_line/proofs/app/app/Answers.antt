@@ -8,4 +8,5 @@ pub returns : goal.returns
 returns c =
     let trace = c.in_ok-trace.ensures ∙ ap (λ (a : App). with_subcommand a spec.trace) c.top.ensures in
     let compile = c.in_ok-compile.ensures ∙ ap (λ (a : App). with_subcommand a spec.compile) trace in
-    IfOk-weaker c.with_form-3.result _ _ (λ r h. h ∙ ap (λ (a : App). with_subcommand a spec.net) compile) c.with_form-3.ensures
+    let sim = c.in_ok-sim.ensures ∙ ap (λ (a : App). with_subcommand a spec.sim) compile in
+    IfOk-weaker c.with_form-4.result _ _ (λ r h. h ∙ ap (λ (a : App). with_subcommand a spec.net) sim) c.with_form-4.ensures

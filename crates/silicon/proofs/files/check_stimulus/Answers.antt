@@ -12,7 +12,7 @@ read_stimulus-requires-clause-few c =
 
 pub returns-clause-judged : goal.returns-clause-judged
 returns-clause-judged c =
-    judged_for c.args.checked.now.pads c.args.text.now c.read_stimulus.result (rw c.pads.ensures.same at c.read_stimulus.ensures.ok) (rw c.pads.ensures.same at c.read_stimulus.ensures.err)
+    judged_for (Some c.args.checked.now.pads) c.args.text.now c.read_stimulus.result (rw c.pads.ensures.same at c.read_stimulus.ensures.ok) (rw c.pads.ensures.same at c.read_stimulus.ensures.err)
 
 pub returns-clause-few : goal.returns-clause-few
 returns-clause-few c = read_clocks (Some c.pads.result.now) c.args.text.now c.read_stimulus.result c.read_stimulus.ensures.ok

@@ -13,12 +13,12 @@ pub returns-in_err-write_all-clause-content : goal.returns-in_err-write_all-clau
 returns-in_err-write_all-clause-content g c =
     let told = c.in_ok-text.ensures in
     leaves_cut (Net c.args.cif.now) [] c.in_ok-text.text.items c.in_err-write_all.field-0.0 c.from_residual-in_err-write_all.result _ _ (g.D.Depot.held c.prepare.new.depot)
-    c.from_residual-in_err-write_all.ensures.1 told.held (told.reason.1, told.shows) (keeps_same _)
+    c.from_residual-in_err-write_all.ensures.1 told.held (told.reason.1, told.shows) (keeps_same (g.D.Depot.held c.prepare.new.depot))
     (rw c.deref.ensures.value at c.in_err-write_all.ensures.taken)
 
 pub returns-clause-content : goal.returns-clause-content
 returns-clause-content g c =
     let told = c.in_ok-text.ensures in
     leaves_done (Net c.args.cif.now) [] c.in_ok-text.text.items c.in_ok-write_all.field-0 tt _ _ (g.D.Depot.held c.prepare.new.depot)
-    told.held (told.reason.1, told.shows) (keeps_same _)
+    told.held (told.reason.1, told.shows) (keeps_same (g.D.Depot.held c.prepare.new.depot))
     (rw c.deref.ensures.value at c.in_ok-write_all.ensures.taken)

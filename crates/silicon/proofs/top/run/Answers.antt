@@ -1,7 +1,12 @@
 use Rattle.std.proofs.Common.{◌∙◌, ap, refl}
-use Rattle.command_line.specs.Command.{command_of}
-use Rattle.silicon.proofs.RunLemmas.{leaves_no_command, leaves_nothing, tells_usage, tells_nothing}
+use Rattle.command_line.specs.Command.{command_of, seen}
+use Rattle.silicon.proofs.RunLemmas.{leaves_command, leaves_no_command, leaves_nothing, tells_usage, tells_nothing}
 use Rattle.silicon.proofs.top.run.Goals as goal
+
+pub returns-in-Ok-Some-clause-content : goal.returns-in-Ok-Some-clause-content
+returns-in-Ok-Some-clause-content g c =
+    leaves_command (command_of c.args.words.now.items) (seen c.in-Ok-Some.command) c.run_command.result _ _
+    ((rw (c.in-Ok-Some.field-0-is, c.in-Ok-Some.command-is) at c.in-Ok-Some.ensures) ∙ ap command_of c.deref.ensures.value) c.run_command.ensures.content
 
 pub returns-in-Ok-None-clause-content : goal.returns-in-Ok-None-clause-content
 returns-in-Ok-None-clause-content g c =

@@ -1,4 +1,4 @@
-use Rattle.std.proofs.Common.{Option, Result, Ok, subst}
+use Rattle.std.proofs.Common.{Option, Some, Result, Ok, subst}
 use Rattle.mp_program.specs.Pads.{ArePadsOf}
 use Rattle.mp_checker.specs.Checking.{CheckedProgram}
 use Rattle.mp_base.specs.Outside.{Files, bytes_of}
@@ -13,7 +13,7 @@ use Rattle.silicon.proofs.trace.prepare.Goals as goal
 pub returns-in_err-stimulus-clause-reason : goal.returns-in_err-stimulus-clause-reason
 returns-in_err-stimulus-clause-reason g c =
     let S : Files → Option Fault → Type 0 = SourceFault c.args.source.now in
-    let F : Files → Option Fault → Type 0 = PadsFault c.in_ok-checked.checked.pads c.args.stimulus.now in
+    let F : Files → Option Fault → Type 0 = PadsFault (Some c.in_ok-checked.checked.pads) c.args.stimulus.now in
     let G : Files → Option Fault → Type 0 = λ files. StimulusFault (bytes_of files c.args.source.now) c.args.stimulus.now files in
     let kept = c.in_err-stimulus.ensures.held in
     let source = if_kept _ _ _ kept c.in_ok-checked.ensures.source in
@@ -24,7 +24,7 @@ returns-in_err-stimulus-clause-reason g c =
 pub returns-clause-reason : goal.returns-clause-reason
 returns-clause-reason g c =
     let S : Files → Option Fault → Type 0 = SourceFault c.args.source.now in
-    let F : Files → Option Fault → Type 0 = PadsFault c.in_ok-checked.checked.pads c.args.stimulus.now in
+    let F : Files → Option Fault → Type 0 = PadsFault (Some c.in_ok-checked.checked.pads) c.args.stimulus.now in
     let G : Files → Option Fault → Type 0 = λ files. StimulusFault (bytes_of files c.args.source.now) c.args.stimulus.now files in
     let ok : Result Stimulus Halt = Ok c.in_ok-stimulus.stimulus in
     let kept = c.in_ok-stimulus.ensures.held in

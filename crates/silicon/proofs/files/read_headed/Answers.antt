@@ -1,0 +1,17 @@
+use Rattle.std.proofs.Common.{None}
+use Rattle.silicon.specs.Stimulus.{OfPads}
+use Rattle.silicon.proofs.Clocks.{few_clocks}
+use Rattle.silicon.proofs.Headers.{few_inputs}
+use Rattle.silicon.proofs.Reasons.{judged_ok}
+use Rattle.silicon.proofs.files.read_headed.Goals as goal
+
+pub returns-clause-reason : goal.returns-clause-reason
+returns-clause-reason g c =
+    judged_ok 1048576 (OfPads None) c.args.name.now c.in_ok-text.text.items _ _ _ c.in_ok-text.ensures.text c.in_ok-text.ensures.reason
+    (rw c.deref.ensures.value at c.in_ok-check_headed.ensures.judged)
+
+pub returns-clause-few_inputs : goal.returns-clause-few_inputs
+returns-clause-few_inputs g c = few_inputs _ c.in_ok-check_headed.field-0 c.in_ok-check_headed.ensures.read
+
+pub returns-clause-few_clocks : goal.returns-clause-few_clocks
+returns-clause-few_clocks g c = few_clocks _ None c.in_ok-check_headed.field-0 c.in_ok-check_headed.ensures.read

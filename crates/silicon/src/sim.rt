@@ -1,0 +1,56 @@
+//! The run of the circuit that masks draw, along a stimulus.
+
+ghost use Rattle.std.specs.Prelude.{◌≡◌, ◌≤◌, Some, length, IfOk, IfSome};
+ghost use Rattle.mp_base.specs.Outside.{Keeps, bytes_of};
+ghost use Rattle.command_line.specs.Command.{Sim};
+ghost use Rattle.silicon.specs.Simulated.{IsSetUp};
+ghost use Rattle.silicon.specs.Faults.{SetUpFault};
+ghost use Rattle.silicon.specs.Halt.{HasReason, Ends, status_of};
+ghost use Rattle.silicon.specs.Run.{world_of, HasCauses, IsStrayFor, Leaves};
+
+use crate::files::{read_headed, read_network};
+use crate::halt::Halt;
+use mp_base::{Depot, Sink};
+use sim_run::Simulation;
+use std::alloc::Global;
+use stimulus::Stimulus;
+use switch_net::Network;
+
+#[derive(Drop)]
+struct SetUp {
+    network: Network,
+    given: Stimulus,
+}
+
+// Reads and judges the files.
+fn prepare<D: Depot>(alloc: Global, depot: &mut D, cif: &str, stimulus: &str) -> Result<SetUp, Halt>
+    ensures held { Keeps (D.held depot.old) (D.held depot.new) }
+    ensures few_inputs { IfOk result (λ s. length s.given.pads.inputs ≤ 256) }
+    ensures few_clocks { IfOk result (λ s. length s.given.clocks ≤ 65536) }
+    ensures set_up { IfOk result (λ s. IfSome (D.held depot.new) (λ files. IsSetUp (bytes_of files cif.now) (bytes_of files stimulus.now) s.network s.given)) }
+    ensures reason { HasReason (SetUpFault cif.now stimulus.now) (D.held depot.new) (D.read_faults depot.old) (D.read_faults depot.new) result }
+    ensures writes { D.write_faults depot.new ≡ D.write_faults depot.old }
+{
+    let network = read_network(alloc, depot, cif)?;
+    let given = read_headed(alloc, depot, stimulus)?;
+    Ok(SetUp { network, given })
+}
+
+/// Prints the transcript of the circuit, from unknown values.
+pub fn sim<D: Depot, O: Sink>(
+    alloc: Global,
+    depot: &mut D,
+    out: &mut O,
+    cif: &str,
+    stimulus: &str,
+) -> Result<(), Halt>
+    ensures causes { let world = world_of D.held D.read_faults D.write_faults O.held O.faults in
+        HasCauses (status_of result) (IsStrayFor (Some (Sim cif.now stimulus.now)) (D.held depot.new)) (world depot.old out.old) (world depot.new out.new) }
+    ensures content { let world = world_of D.held D.read_faults D.write_faults O.held O.faults in
+        Leaves (Ends (Sim cif.now stimulus.now) result) (world depot.old out.old) (world depot.new out.new) }
+{
+    let SetUp { network, given } = prepare(alloc, depot, cif, stimulus)?;
+    let mut simulation = Simulation::open(alloc, network, &given)?;
+    simulation.run(out)?;
+    Ok(())
+}
