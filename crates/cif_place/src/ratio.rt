@@ -64,7 +64,8 @@ impl Ratio {
 
     /// Whether it has the same two numbers.
     pub fn is_same(self, other: Ratio) -> bool
-        ensures { OnTrue result (self ≡ other) }
+        ensures same { OnTrue result (self ≡ other) }
+        ensures other { OnFalse result (self ≢ other) }
     {
         if self.a != other.a {
             return false;

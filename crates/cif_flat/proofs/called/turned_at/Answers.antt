@@ -7,7 +7,7 @@ use Rattle.cif_flat.proofs.called.turned_at.Goals as goal
 pub returns-then-is_same-clause-turned : goal.returns-then-is_same-clause-turned
 returns-then-is_same-clause-turned c =
     let f = call_found c.args.items.now c.args.calls.now c.args.at c.args.turns.now c.in-Some.composed c.requires.calls c.requires.at (sym c.found.ensures ∙ c.in-Some.is) in
-    subst (λ r. IsTurned (scale_of r) c.args.turns.now c.in-Some.composed.turned) c.if-is_same.ensures f.0
+    subst (λ r. IsTurned (scale_of r) c.args.turns.now c.in-Some.composed.turned) c.if-is_same.ensures.same f.0
 
 pub returns-then-is_same-clause-held : goal.returns-then-is_same-clause-held
 returns-then-is_same-clause-held c =
