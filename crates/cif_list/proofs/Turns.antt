@@ -7,7 +7,7 @@ use Rattle.std.proofs.lemmas.List.Elements.{All-nil, All-cons, All-head, All-tai
 use Rattle.cif_form.specs.declared.command.Turn.{Turn}
 use Rattle.cif_form.specs.Fits.{IsSmall, turn_numbers}
 use Rattle.cif_list.specs.declared.turn.ShortTurn.{ShortTurn}
-use Rattle.cif_list.specs.Turning.{turn_of}
+use Rattle.cif_list.specs.Turning.{wide_turn}
 
 front : (xs ys : List ℤ) → All IsSmall (xs ++ ys) → All IsSmall xs
 front [] ys h = All-nil IsSmall
@@ -27,12 +27,12 @@ small_turn (t ∷ ts) (suc i) d h a = small_turn ts i d (omega arith) (back (tur
 pub record IsAdded (old new : List ShortTurn) (ts : List Turn) (count : ℕ) : Type 0 where
   pub more : List ShortTurn
   pub new_is : new ≡ old ++ more
-  pub same : map turn_of more ≡ take count ts
+  pub same : map wide_turn more ≡ take count ts
 
 pub one_added : (old new newer : List ShortTurn) (ts : List Turn) (k : ℕ) (t : ShortTurn) (d : Turn) → k < length ts → IsAdded old new ts k
-    → newer ≡ new ++ t ∷ [] → turn_of t ≡ get_or ts k d → IsAdded old newer ts (k + 1)
+    → newer ≡ new ++ t ∷ [] → wide_turn t ≡ get_or ts k d → IsAdded old newer ts (k + 1)
 one_added old new newer ts k t d h a e f = record {
   more = a.more ++ t ∷ [];
   new_is = e ∙ ap (λ xs. xs ++ t ∷ []) a.new_is ∙ append_assoc old a.more (t ∷ []);
-  same = map-append turn_of a.more (t ∷ []) ∙ ap₂ (λ xs x. xs ++ x ∷ []) a.same f ∙ sym (take_more ts k d h);
+  same = map-append wide_turn a.more (t ∷ []) ∙ ap₂ (λ xs x. xs ++ x ∷ []) a.same f ∙ sym (take_more ts k d h);
 }

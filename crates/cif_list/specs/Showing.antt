@@ -6,7 +6,7 @@ use Rattle.cif_form.specs.declared.command.Item.{Item}
 use Rattle.cif_list.specs.declared.view.CommandView.{CommandView}
 use Rattle.cif_list.specs.declared.view.CommandView.TheVariants.{Polygon, Box, Round, Wire, Layer, Start, Finish, Delete, Call, User, Comment}
 use Rattle.cif_list.specs.declared.view.ItemView.{ItemView}
-use Rattle.cif_list.specs.Turning.{turn_of}
+use Rattle.cif_list.specs.Turning.{wide_turn}
 
 -- the command
 abbrev pub command_shown : CommandView → Command
@@ -18,7 +18,7 @@ command_shown (Layer name) = commands.Layer name.now
 command_shown (Start number a b) = commands.Start number a b
 command_shown Finish = commands.Finish
 command_shown (Delete number) = commands.Delete number
-command_shown (Call number turns) = commands.Call number (map turn_of turns.now)
+command_shown (Call number turns) = commands.Call number (map wide_turn turns.now)
 command_shown (User digit text) = commands.User digit text.now
 command_shown (Comment text) = commands.Comment text.now
 

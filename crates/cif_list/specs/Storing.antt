@@ -7,7 +7,7 @@ use Rattle.cif_list.specs.declared.store.Head.{Head}
 use Rattle.cif_list.specs.declared.store.Head.TheVariants.{Polygon, Box, Round, Wire, Layer, Start, Finish, Delete, Plain, Call, User, Comment}
 use Rattle.cif_list.specs.declared.store.Store.{Store}
 use Rattle.cif_list.specs.Growing.{IsGrown, IsPart, part}
-use Rattle.cif_list.specs.Turning.{turn_of}
+use Rattle.cif_list.specs.Turning.{wide_turn}
 
 -- the command of a head
 abbrev pub command_of : Store → Head → Command
@@ -20,7 +20,7 @@ command_of s (Start k) = option_map_or (λ p. commands.Start p.number p.a p.b) (
 command_of s Finish = commands.Finish
 command_of s (Delete number) = commands.Delete number
 command_of s (Plain number) = commands.Call number []
-command_of s (Call k) = option_map_or (λ p. commands.Call p.number (map turn_of (part s.turns.items p.turns))) (slice_get s.calls.items k) commands.Finish
+command_of s (Call k) = option_map_or (λ p. commands.Call p.number (map wide_turn (part s.turns.items p.turns))) (slice_get s.calls.items k) commands.Finish
 command_of s (User digit text) = commands.User digit (part s.texts.items text)
 command_of s (Comment text) = commands.Comment (part s.texts.items text)
 

@@ -6,13 +6,13 @@ use Rattle.cif_list.specs.declared.turn.ShortPoint.{ShortPoint}
 use Rattle.cif_list.specs.declared.turn.ShortTurn.{ShortTurn}
 use Rattle.cif_list.specs.declared.turn.ShortTurn.TheVariants.{Move, MirrorX, MirrorY, Rotate}
 
--- the same point
-abbrev pub point_of : ShortPoint → Point
-point_of p = record { x = p.x; y = p.y }
+-- the same point, as CIF has it
+abbrev pub wide_point : ShortPoint → Point
+wide_point p = record { x = p.x; y = p.y }
 
--- the same turn
-abbrev pub turn_of : ShortTurn → Turn
-turn_of (Move p) = turns.Move (point_of p)
-turn_of MirrorX = turns.MirrorX
-turn_of MirrorY = turns.MirrorY
-turn_of (Rotate p) = turns.Rotate (point_of p)
+-- the same turn, as CIF has it
+abbrev pub wide_turn : ShortTurn → Turn
+wide_turn (Move p) = turns.Move (wide_point p)
+wide_turn MirrorX = turns.MirrorX
+wide_turn MirrorY = turns.MirrorY
+wide_turn (Rotate p) = turns.Rotate (wide_point p)

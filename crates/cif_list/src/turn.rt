@@ -4,7 +4,7 @@ ghost use Rattle.std.specs.Prelude.{◌≡◌, All, IfOk, map};
 ghost use Rattle.std.specs.List.{flat_map};
 ghost use Rattle.cif_form.specs.Fits.{IsSmall, point_numbers, turn_numbers};
 ghost use Rattle.cif_list.specs.Growing.{IsGrown, IsPart, part};
-ghost use Rattle.cif_list.specs.Turning.{point_of, turn_of};
+ghost use Rattle.cif_list.specs.Turning.{wide_point, wide_turn};
 
 use crate::arena::{Span, push, span_behind};
 use cif_form::Turn;
@@ -37,7 +37,7 @@ pub(crate) fn short(number: i64) -> i32
 
 fn short_point(point: Point) -> ShortPoint
     requires { All IsSmall (point_numbers point) }
-    ensures { point_of result ≡ point }
+    ensures { wide_point result ≡ point }
 {
     ShortPoint {
         x: short(point.x),
@@ -47,7 +47,7 @@ fn short_point(point: Point) -> ShortPoint
 
 fn short_turn(turn: Turn) -> ShortTurn
     requires { All IsSmall (turn_numbers turn) }
-    ensures { turn_of result ≡ turn }
+    ensures { wide_turn result ≡ turn }
 {
     match turn {
         Turn::Move(point) => ShortTurn::Move(short_point(point)),
@@ -59,7 +59,7 @@ fn short_turn(turn: Turn) -> ShortTurn
 
 impl ShortPoint {
     fn point(self) -> Point
-        ensures { result ≡ point_of self }
+        ensures { result ≡ wide_point self }
     {
         Point {
             x: self.x as i64,
@@ -71,7 +71,7 @@ impl ShortPoint {
 impl ShortTurn {
     /// The turn, as the form of CIF has it.
     pub fn turn(self) -> Turn
-        ensures { result ≡ turn_of self }
+        ensures { result ≡ wide_turn self }
     {
         match self {
             ShortTurn::Move(point) => Turn::Move(point.point()),
@@ -87,7 +87,7 @@ pub(crate) fn append_turns(arena: &mut Vec<ShortTurn>, turns: &[Turn]) -> Result
     requires { All IsSmall (flat_map turn_numbers turns.now) }
     ensures grown { IsGrown arena.old.items arena.new.items }
     ensures within { IfOk result (IsPart arena.new.items) }
-    ensures same { IfOk result (λ span. map turn_of (part arena.new.items span) ≡ turns.now) }
+    ensures same { IfOk result (λ span. map wide_turn (part arena.new.items span) ≡ turns.now) }
 {
     let span = span_behind(arena.len(), turns.len())?;
     for turn in turns {
