@@ -18,6 +18,7 @@ use cif_form::{Command, command_is_found, read_command_fits};
 use cif_list::Cif;
 use mp_base::{Broken, Family, Refusal, Rule, Spot};
 use std::alloc::{AllocError, Global};
+use std::mem::drop;
 
 /// The refusal of rule C `number`.
 fn broken(number: u16, offset: usize) -> Refusal
@@ -182,5 +183,6 @@ pub fn read_cif(alloc: Global, bytes: &[u8]) -> Result<Cif, Refusal>
         cif.push(start as u64, &next.command)?;
         inside = next.inside;
         at = next.end;
+        drop(next);
     }
 }
