@@ -348,7 +348,7 @@ impl Walker {
     {
         let item = items.at(level.next);
         let offset = item.offset;
-        match item.command {
+        match &item.command {
             CommandView::Polygon(_) => Err(broken(Fault::F6, offset)),
             CommandView::Box {
                 length,
@@ -359,23 +359,21 @@ impl Walker {
                 items,
                 level,
                 offset,
-                Extent::of(&length, &width),
-                &center,
-                &direction,
+                Extent::of(length, width),
+                center,
+                direction,
             ),
             CommandView::Round { .. } => Err(broken(Fault::F5, offset)),
             CommandView::Wire { width, path } => {
-                self.draw_wire(items, level, offset, Extent::of(&width, &width), path)
+                self.draw_wire(items, level, offset, Extent::of(width, width), path)
             }
             CommandView::Layer(name) => self.set_layer(items, level, offset, name),
-            CommandView::Start { number, a, b } => {
-                self.define(items, level, offset, &number, &a, &b)
-            }
+            CommandView::Start { number, a, b } => self.define(items, level, offset, number, a, b),
             CommandView::Finish => unreachable!(),
-            CommandView::Delete(number) => self.delete(items, level, offset, &number),
-            CommandView::Call { number, turns } => self.call(items, level, offset, &number, turns),
+            CommandView::Delete(number) => self.delete(items, level, offset, number),
+            CommandView::Call { number, turns } => self.call(items, level, offset, number, turns),
             CommandView::User { digit, text } => {
-                self.user(alloc, items, level, offset, &digit, text)
+                self.user(alloc, items, level, offset, digit, text)
             }
             CommandView::Comment(text) => self.comment(items, level, offset, text),
         }

@@ -7,7 +7,7 @@ use Rattle.cif_form.specs.Expansion.{IsInside, item_at}
 use Rattle.cif_form.specs.declared.command.Command.TheVariants.{Finish}
 use Rattle.cif_list.specs.Showing.{command_shown, item_shown}
 use Rattle.cif_flat.specs.Sound.{AreClosed}
-use Rattle.cif_flat.proofs.Defines.{in_body, at_drop, one_more_inside, finished, no_end}
+use Rattle.cif_flat.proofs.Defines.{in_body, shown_finish, at_drop, one_more_inside, finished, no_end}
 use Rattle.cif_flat.proofs.walker.body_size.Goals as goal
 
 pub returns-in-Finish : goal.returns-in-Finish
@@ -33,7 +33,7 @@ loop-size-preserved c =
     let k = c.loop-size.size in
     let here = in_body c.args.items.now c.args.first c.args.end k i c.requires.forward c.requires.within c.loop-size-test.true c.at.ensures in
     let d = at_drop body k i here.0 here.1 in
-    let m = one_more_inside i (drop (k + 1) body) (subst (AreClosed true) d c.loop-size.invariant.closed) ? in
+    let m = one_more_inside i (drop (k + 1) body) (subst (AreClosed true) d c.loop-size.invariant.closed) (λ f. c.in_default.not-Finish (shown_finish c.at.result.command f)) in
     record {
       closed = m.1;
       inside = All-more (λ i. IsInside i.command) body k i here.0 c.loop-size.invariant.inside (subst (λ j. IsInside j.command) here.1 m.0);
