@@ -1,9 +1,9 @@
 -- What is met at each kind of command.
 use Rattle.std.proofs.Common.{ℕ, ◌≡◌, ◌+◌, ◌^◌, ◌<◌, ◌≤◌, refl, sym, ◌∙◌, ap, subst, arith, inl, inr, List, [], ◌∷◌, ◌++◌, zero, suc, get_or, length, map, All, append-nil, Some, None}
-use Rattle.std.specs.Prelude.{◌≢◌, ℤ, pos, negsuc, Contains, slice_range}
+use Rattle.std.specs.Prelude.{◌≢◌, ℤ, pos, negsuc, Contains, slice_get, slice_range}
 use Rattle.std.specs.List.{flat_map}
 use Rattle.std.proofs.lemmas.Int.{ints}
-use Rattle.std.proofs.lemmas.Option.{get_or_from_slice_get, slice_get_cases, slice_get_read}
+use Rattle.std.proofs.lemmas.Option.{get_or_from_slice_get, slice_get_cases}
 use Rattle.std.proofs.lemmas.List.Elements.{All-nil, All-cons, All-head, All-tail, All-contains, All-map, All-weaker}
 use Rattle.lam_geom.specs.declared.layer.Layer.{Layer}
 use Rattle.lam_geom.specs.declared.layer.Layer.TheVariants.{ND}
@@ -51,12 +51,15 @@ fits_here items w v i h =
 
 -- the next command of the innermost level
 pub visiting : (items : List Item) (w : Walker) (v : Level) (i : Item) (c : Command) → All (λ i. Fits i.command) items → IsWalking items w (w.levels.items ++ (v ∷ [])) → v.next < v.end
-    → i ≡ get_or items v.next i → i.command ≡ c → IsVisit items w v (item_at i.offset c)
+    → slice_get items v.next ≡ Some i → i.command ≡ c → IsVisit items w v (item_at i.offset c)
 visiting items w v i c fit walking more e f =
-    let l = each_last (IsLevel items w.count w.opened) w.levels.items v walking.stack in
-    let lt : v.next < length items = omega (arith, more, l.within) in
     let same : i ≡ item_at i.offset c = λ j. record { offset = i.offset; command = f j } in
-    record { fit = fit; walking = walking; more = more; here = slice_get_read items (length items) v.next i refl lt e ∙ ap (λ j. Some j) same }
+    record { fit = fit; walking = walking; more = more; here = e ∙ ap (λ j. Some j) same }
+
+pub visit_within : (items : List Item) (w : Walker) (v : Level) → IsWalking items w (w.levels.items ++ (v ∷ [])) → v.next < v.end → v.next < length items
+visit_within items w v walking more =
+    let l = each_last (IsLevel items w.count w.opened) w.levels.items v walking.stack in
+    omega (arith, more, l.within)
 
 no_finish_in : (k : ℕ) (o : ℕ) (is : List Item) → IsNested k (item_at o Finish ∷ is) → ⊥
 no_finish_in zero o is (b, e, k) = let f : None ≡ Some b = e in cc

@@ -1,18 +1,22 @@
 -- What is met at definitions and deletions.
-use Rattle.std.proofs.Common.{ℕ, suc, ◌≡◌, ◌+◌, ◌-◌, ◌*◌, ◌<◌, ◌≤◌, ◌⊎◌, refl, sym, ◌∙◌, ap, subst, arith, inl, inr, List, [], ◌∷◌, ◌++◌, length, take, drop, get_or, All, append-nil, Bool, true, false, cond, Some, None}
-use Rattle.std.specs.Prelude.{◌≢◌, ℤ, pos, ◌≤ℤ◌, slice_range, filter, int_lt}
+use Rattle.std.proofs.Common.{ℕ, suc, ◌≡◌, ◌+◌, ◌-◌, ◌*◌, ◌<◌, ◌≤◌, ◌⊎◌, refl, sym, ◌∙◌, ap, subst, arith, inl, inr, List, [], ◌∷◌, ◌++◌, length, take, drop, get_or, map, All, append-nil, Bool, true, false, cond, Some, None}
+use Rattle.std.specs.Prelude.{◌≢◌, ℤ, pos, ◌≤ℤ◌, slice_get, slice_range, filter, int_lt}
 use Rattle.std.specs.BTreeMap.{BTreeMap, get}
 use Rattle.std.specs.Ordering.{nat_cmp}
 use Rattle.std.proofs.Math.Seq.{drop-cons}
 use Rattle.std.proofs.lemmas.Bool.{cases_lt, cases_order, lt-ltb, ltb-true}
 use Rattle.std.proofs.lemmas.Int.{ints}
 use Rattle.std.proofs.lemmas.Option.{get_or_from_slice_get, slice_get_cases}
-use Rattle.std.proofs.lemmas.List.{length-append, take-append-drop, length-take, take-take, drop-take, drop-drop}
+use Rattle.std.proofs.lemmas.List.{length-append, length-drop, take-append-drop, length-take, take-take, drop-take, drop-drop, get_or-take, get_or-drop}
 use Rattle.std.proofs.lemmas.List.Elements.{All-head, All-tail}
 use Rattle.cif_form.specs.declared.command.Command.{Command}
 use Rattle.cif_form.specs.declared.command.Command.TheVariants.{Polygon, Box, Round, Wire, Layer as SetLayer, Start, Finish, Delete, Call, User, Comment}
 use Rattle.cif_form.specs.declared.command.Item.{Item}
 use Rattle.cif_form.specs.Scans.{opens}
+use Rattle.cif_list.specs.declared.view.CommandView.{CommandView}
+use Rattle.cif_list.specs.declared.view.CommandView.TheVariants as views
+use Rattle.cif_list.specs.Showing.{command_shown}
+use Rattle.cif_list.specs.Turning.{wide_turn}
 use Rattle.cif_form.specs.Expansion.{Definition, Stands, IsInside, item_at}
 use Rattle.cif_form.specs.Walk.{State, Visit, at_top}
 use Rattle.cif_flat.specs.declared.fault.Fault.TheVariants as faults
@@ -32,6 +36,28 @@ use Rattle.cif_flat.proofs.Walks.{visit_at, stops, onward, onto_push, each_push,
 
 pub at_drop : {X : Type 0} (xs : List X) (k : ℕ) (x : X) → k < length xs → x ≡ get_or xs k x → drop k xs ≡ x ∷ drop (k + 1) xs
 at_drop xs k x h e = let s : suc k ≡ k + 1 = omega arith in drop-cons xs k x h ∙ (λ j. sym e j ∷ drop (s j) xs)
+
+-- an item of the body stands behind its first
+pub in_body : (items : List Item) (first end k : ℕ) (i : Item) → first ≤ end → end ≤ length items → k < end - first → slice_get items (first + k) ≡ Some i
+    → (k < length (slice_range items first end)) × (i ≡ get_or (slice_range items first end) k i)
+in_body items first end k i forward within less here =
+    let t = get_or-take (end - first) (drop first items) k i less in
+    let l = length-take (end - first) (drop first items) in
+    let m = length-drop first items in
+    (omega (arith, l, m, forward, within, less), sym (t ∙ get_or-drop first items k i ∙ get_or_from_slice_get items (first + k) i i here))
+
+pub shown_finish : (v : CommandView) → command_shown v ≡ Finish → v ≡ views.Finish
+shown_finish (views.Polygon p) e = let f : Polygon p.now ≡ Finish = e in cc
+shown_finish (views.Box a x y z) e = let f : Box a x y z ≡ Finish = e in cc
+shown_finish (views.Round a x) e = let f : Round a x ≡ Finish = e in cc
+shown_finish (views.Wire a x) e = let f : Wire a x.now ≡ Finish = e in cc
+shown_finish (views.Layer a) e = let f : SetLayer a.now ≡ Finish = e in cc
+shown_finish (views.Start a x y) e = let f : Start a x y ≡ Finish = e in cc
+shown_finish views.Finish e = refl
+shown_finish (views.Delete a) e = let f : Delete a ≡ Finish = e in cc
+shown_finish (views.Call a x) e = let f : Call a (map wide_turn x.now) ≡ Finish = e in cc
+shown_finish (views.User a x) e = let f : User a x.now ≡ Finish = e in cc
+shown_finish (views.Comment a) e = let f : Comment a.now ≡ Finish = e in cc
 
 same_bool : {a b : Bool} → Some a ≡ Some b → b ≡ a
 same_bool e = cc

@@ -1,15 +1,16 @@
 //! Calls: their turns, composed once, and where they lead.
 
-ghost use Rattle.std.specs.Prelude.{◌≡◌, ◌^◌, ℕ, List, All, IfOk, OnOk};
+ghost use Rattle.std.specs.Prelude.{◌≡◌, ◌^◌, ℕ, List, All, map, IfOk, OnOk};
 ghost use Rattle.cif_form.specs.declared.command.Turn.{Turn};
 ghost use Rattle.cif_form.specs.Place.{Scale};
+ghost use Rattle.cif_list.specs.Turning.{wide_turn};
 ghost use Rattle.cif_place.specs.Placing.{IsFitRatio, IsHeld, scale_of};
 ghost use Rattle.cif_place.specs.Turning.{IsShortTurn, IsTurned, IsHeldTurned};
 ghost use Rattle.cif_flat.specs.Calling.{AreCalls, IsCallAt, IsCalled};
 
 use crate::fault::Fault;
 use crate::table::{Table, found, set};
-use cif_form::{Item, Turn};
+use cif_list::{Cif, ShortTurn};
 use cif_place::{Placement, Ratio, Turned};
 use std::alloc::AllocError;
 
@@ -25,16 +26,16 @@ pub(crate) struct Composed {
 /// What the turns of the call at an index come to, composed anew only where they weren't before.
 pub(crate) fn turned_at(
     calls: &mut Table<Composed>,
-    items: &[Item],
+    items: &Cif,
     at: usize,
     ratio: Ratio,
-    turns: &[Turn],
+    turns: &[ShortTurn],
 ) -> Result<Turned, AllocError>
     requires calls { AreCalls items.now calls.old }
-    requires at { IsCallAt items.now at turns.now }
+    requires at { IsCallAt items.now at (map wide_turn turns.now) }
     requires fit { IsFitRatio ratio }
-    requires short { All IsShortTurn turns.now }
-    ensures turned { IfOk result (IsTurned (scale_of ratio) turns.now) }
+    requires short { All IsShortTurn (map wide_turn turns.now) }
+    ensures turned { IfOk result (IsTurned (scale_of ratio) (map wide_turn turns.now)) }
     ensures held { IfOk result (IsHeldTurned (2 ^ 104)) }
     ensures calls { OnOk result (AreCalls items.now calls.new) }
 {

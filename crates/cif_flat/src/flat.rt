@@ -7,7 +7,7 @@ ghost use Rattle.cif_flat.specs.Sound.{IsWellFormed};
 ghost use Rattle.cif_flat.specs.Refusing.{RefusesWalk};
 
 use crate::walker::Walker;
-use cif_form::Cif;
+use cif_list::Cif;
 use lam_geom::{FlatLabel, Shape};
 use mp_base::{List, Refusal};
 use std::alloc::Global;
@@ -22,10 +22,10 @@ pub struct Flat {
 /// Expands, moves and scales the commands of a file. The first broken rule F in the order of the walk is refused, at the
 /// offset of its command.
 pub fn flatten(alloc: Global, cif: &Cif) -> Result<Flat, Refusal>
-    requires { IsWellFormed cif.now.items }
-    ensures ok { IfOk result (λ flat. FileWalks cif.now.items flat.shapes flat.labels Whole) }
-    ensures err { IfErr result (RefusesWalk cif.now.items) }
+    requires { IsWellFormed cif.now }
+    ensures ok { IfOk result (λ flat. FileWalks cif.now flat.shapes flat.labels Whole) }
+    ensures err { IfErr result (RefusesWalk cif.now) }
 {
-    let walker = Walker::walk(alloc, cif.items.as_slice())?;
+    let walker = Walker::walk(alloc, cif)?;
     Ok(walker.into_flat())
 }

@@ -1,6 +1,6 @@
 //! The walk.
 
-ghost use Rattle.std.specs.Prelude.{◌≡◌, ◌≢◌, ◌+◌, ◌^◌, ◌<◌, ◌≤◌, ◌++◌, ◌∷◌, [], ℕ, All, true, false, pos, ◌≤ℤ◌, length, Some, IfOk, IfErr, OnOk};
+ghost use Rattle.std.specs.Prelude.{◌≡◌, ◌≢◌, ◌+◌, ◌^◌, ◌<◌, ◌≤◌, ◌++◌, ◌∷◌, [], ℕ, All, true, false, pos, ◌≤ℤ◌, length, map, slice_range, Some, IfOk, IfErr, OnOk};
 ghost use Rattle.std.specs.Bool.{OnTrue, OnFalse};
 ghost use Rattle.std.specs.BTreeMap.{get};
 ghost use Rattle.std.specs.Ordering.{nat_cmp};
@@ -10,6 +10,7 @@ ghost use Rattle.cif_form.specs.Walk.{FileWalks};
 ghost use Rattle.cif_form.specs.Walk.WalkEnd.{Whole};
 ghost use Rattle.cif_form.specs.Expansion.{item_at};
 ghost use Rattle.cif_form.specs.declared.command.Command.TheVariants as commands;
+ghost use Rattle.cif_list.specs.Turning.{wide_turn};
 ghost use Rattle.cif_flat.specs.Sound.{AreClosed};
 ghost use Rattle.cif_flat.specs.Walking.{EachLevel, IsNumbered, IsOpen, entered, IsBodySize, IsWalking, IsVisit, IsAfter};
 ghost use Rattle.cif_flat.specs.Refusing.{RefusesWalk};
@@ -22,13 +23,13 @@ use crate::layer::layer_named;
 use crate::level::Level;
 use crate::symbol::Symbol;
 use crate::table::{Table, cut, found, set};
-use cif_form::{Command, Item, Turn};
+use cif_list::{Cif, CommandView, ShortTurn};
 use cif_place::{
     BoxFault, Extent, Placement, Ratio, Wired, are_straight, box_edges, draw_wire,
     placements_compose, rectangles_are_determined, segment_count,
 };
 use lam_geom::{FlatLabel, Layer, Point, Rect};
-use mp_base::{List, Name, Refusal};
+use mp_base::{List, Refusal};
 use std::alloc::{AllocError, Global};
 
 const WALK_LIMIT: u64 = 4_000_000;
@@ -61,10 +62,10 @@ impl Walker {
 
     fn set_layer(
         &mut self,
-        items: &[Item],
+        items: &Cif,
         level: Level,
         offset: u64,
-        name: &Name,
+        name: &[u8],
     ) -> Result<(), Refusal>
         requires { IsVisit items.now self.old level (item_at offset (commands.Layer name.now)) }
         ensures ok { OnOk result (IsAfter items.now self.old level self.new) }
@@ -73,7 +74,7 @@ impl Walker {
         if self.count >= WALK_LIMIT {
             return Err(broken(Fault::F7, offset));
         }
-        let Some(layer) = layer_named(name.bytes()) else {
+        let Some(layer) = layer_named(name) else {
             return Err(broken(Fault::F10, offset));
         };
         self.go_on(level.onward(Some(layer)), 1)?;
@@ -82,10 +83,10 @@ impl Walker {
 
     fn comment(
         &mut self,
-        items: &[Item],
+        items: &Cif,
         level: Level,
         offset: u64,
-        text: &Name,
+        text: &[u8],
     ) -> Result<(), Refusal>
         requires { IsVisit items.now self.old level (item_at offset (commands.Comment text.now)) }
         ensures ok { OnOk result (IsAfter items.now self.old level self.new) }
@@ -100,7 +101,7 @@ impl Walker {
 
     fn draw_box(
         &mut self,
-        items: &[Item],
+        items: &Cif,
         level: Level,
         offset: u64,
         extent: Extent,
@@ -134,7 +135,7 @@ impl Walker {
 
     fn draw_wire(
         &mut self,
-        items: &[Item],
+        items: &Cif,
         level: Level,
         offset: u64,
         extent: Extent,
@@ -232,13 +233,13 @@ impl Walker {
 
     fn call(
         &mut self,
-        items: &[Item],
+        items: &Cif,
         level: Level,
         offset: u64,
         number: &i64,
-        turns: &[Turn],
+        turns: &[ShortTurn],
     ) -> Result<(), Refusal>
-        requires { IsVisit items.now self.old level (item_at offset (commands.Call number.now turns.now)) }
+        requires { IsVisit items.now self.old level (item_at offset (commands.Call number.now (map wide_turn turns.now))) }
         ensures ok { OnOk result (IsAfter items.now self.old level self.new) }
         ensures err { IfErr result (RefusesWalk items.now) }
     {
@@ -262,7 +263,7 @@ impl Walker {
 
     fn define(
         &mut self,
-        items: &[Item],
+        items: &Cif,
         level: Level,
         offset: u64,
         number: &i64,
@@ -274,7 +275,7 @@ impl Walker {
         ensures err { IfErr result (RefusesWalk items.now) }
     {
         let first = level.next + 1;
-        let end = first + body_size(&items[first..level.end]);
+        let end = first + body_size(items, first, level.end);
         let ratio = Ratio::of(a, b);
         set(
             &mut self.symbols,
@@ -287,7 +288,7 @@ impl Walker {
 
     fn delete(
         &mut self,
-        items: &[Item],
+        items: &Cif,
         level: Level,
         offset: u64,
         number: &i64,
@@ -307,11 +308,11 @@ impl Walker {
     fn user(
         &mut self,
         alloc: Global,
-        items: &[Item],
+        items: &Cif,
         level: Level,
         offset: u64,
         digit: &u8,
-        text: &Name,
+        text: &[u8],
     ) -> Result<(), Refusal>
         requires { IsVisit items.now self.old level (item_at offset (commands.User digit.now text.now)) }
         ensures ok { OnOk result (IsAfter items.now self.old level self.new) }
@@ -328,7 +329,7 @@ impl Walker {
             self.go_on(level.onward(level.layer), 1)?;
             return Ok(());
         }
-        let Some(label) = label_of(alloc, offset, text.bytes())? else {
+        let Some(label) = label_of(alloc, offset, text)? else {
             self.go_on(level.onward(level.layer), 1)?;
             return Ok(());
         };
@@ -338,18 +339,18 @@ impl Walker {
     }
 
     /// Walks the next command of the innermost list.
-    fn visit(&mut self, alloc: Global, items: &[Item], level: Level) -> Result<(), Refusal>
+    fn visit(&mut self, alloc: Global, items: &Cif, level: Level) -> Result<(), Refusal>
         requires fit { All (λ i. Fits i.command) items.now }
         requires walking { IsWalking items.now self.old (self.old.levels.items ++ level ∷ []) }
         requires more { level.next < level.end }
         ensures ok { OnOk result (IsAfter items.now self.old level self.new) }
         ensures err { IfErr result (RefusesWalk items.now) }
     {
-        let item = &items[level.next];
+        let item = items.at(level.next);
         let offset = item.offset;
         match &item.command {
-            Command::Polygon(_) => Err(broken(Fault::F6, offset)),
-            Command::Box {
+            CommandView::Polygon(_) => Err(broken(Fault::F6, offset)),
+            CommandView::Box {
                 length,
                 width,
                 center,
@@ -362,33 +363,23 @@ impl Walker {
                 center,
                 direction,
             ),
-            Command::Round { .. } => Err(broken(Fault::F5, offset)),
-            Command::Wire { width, path } => {
-                self.draw_wire(
-                    items,
-                    level,
-                    offset,
-                    Extent::of(width, width),
-                    path.as_slice(),
-                )
+            CommandView::Round { .. } => Err(broken(Fault::F5, offset)),
+            CommandView::Wire { width, path } => {
+                self.draw_wire(items, level, offset, Extent::of(width, width), path)
             }
-            Command::Layer(name) => self.set_layer(items, level, offset, name),
-            Command::Start { number, a, b } => self.define(items, level, offset, number, a, b),
-            Command::Finish => unreachable!(),
-            Command::Delete(number) => self.delete(items, level, offset, number),
-            Command::Call { number, turns } => self.call(
-                items,
-                level,
-                offset,
-                number,
-                turns.as_slice(),
-            ),
-            Command::User { digit, text } => self.user(alloc, items, level, offset, digit, text),
-            Command::Comment(text) => self.comment(items, level, offset, text),
+            CommandView::Layer(name) => self.set_layer(items, level, offset, name),
+            CommandView::Start { number, a, b } => self.define(items, level, offset, number, a, b),
+            CommandView::Finish => unreachable!(),
+            CommandView::Delete(number) => self.delete(items, level, offset, number),
+            CommandView::Call { number, turns } => self.call(items, level, offset, number, turns),
+            CommandView::User { digit, text } => {
+                self.user(alloc, items, level, offset, digit, text)
+            }
+            CommandView::Comment(text) => self.comment(items, level, offset, text),
         }
     }
 
-    fn new(alloc: Global, items: &[Item]) -> Result<Walker, AllocError>
+    fn new(alloc: Global, items: &Cif) -> Result<Walker, AllocError>
         requires { AreClosed false items.now }
         ensures { IfOk result (λ w. IsWalking items.now w w.levels.items) }
     {
@@ -417,7 +408,7 @@ impl Walker {
     }
 
     /// Walks the items of a file.
-    pub(crate) fn walk(alloc: Global, items: &[Item]) -> Result<Walker, Refusal>
+    pub(crate) fn walk(alloc: Global, items: &Cif) -> Result<Walker, Refusal>
         requires fit { All (λ i. Fits i.command) items.now }
         requires closed { AreClosed false items.now }
         ensures ok { IfOk result (λ w. FileWalks items.now w.shapes w.labels Whole) }
@@ -433,17 +424,19 @@ impl Walker {
     }
 }
 
-/// How many commands stand before the finish of an open definition.
-fn body_size(rest: &[Item]) -> usize
-    requires { AreClosed true rest.now }
-    ensures { IsBodySize rest.now result }
+/// How many commands stand before the finish of an open definition, whose commands begin at an index.
+fn body_size(items: &Cif, first: usize, end: usize) -> usize
+    requires forward { first ≤ end }
+    requires within { end ≤ length items.now }
+    requires closed { AreClosed true (slice_range items.now first end) }
+    ensures { IsBodySize (slice_range items.now first end) result }
 {
-    for (index, item) in rest.iter().enumerate() {
-        if let Command::Finish = item.command {
-            return index;
+    for size in 0..end - first {
+        if let CommandView::Finish = items.at(first + size).command {
+            return size;
         }
     }
-    rest.len()
+    end - first
 }
 
 /// A number of a definition.

@@ -55,9 +55,3 @@ pub struct Item {
     pub offset: u64,
     pub command: Command,
 }
-
-/// The commands of a file, in its order.
-#[derive(Drop)]
-pub struct Cif {
-    pub items: List<Item>,
-}

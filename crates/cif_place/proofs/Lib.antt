@@ -2,3 +2,4 @@ pub mod Numbers
 pub mod Placements
 pub mod Turns
 pub mod Shapes
+pub mod Held

@@ -1,14 +1,16 @@
 //! The turns of a call.
 
-ghost use Rattle.std.specs.Prelude.{◌≡◌, ◌^◌, [], ◌∷◌, All};
+ghost use Rattle.std.specs.Prelude.{◌≡◌, ◌^◌, [], ◌∷◌, All, map};
 ghost use Rattle.cif_form.specs.declared.command.Turn.TheVariants.{Move, Rotate};
 ghost use Rattle.cif_form.specs.Place.{Scale};
+ghost use Rattle.cif_list.specs.Turning.{wide_turn};
 ghost use Rattle.cif_place.specs.Placing.{IsShortPoint, IsWithin, IsFitRatio, scale_of};
 ghost use Rattle.cif_place.specs.Turning.{IsShortTurn, IsTurned, IsHeldTurned, IsMoved, joined, turn_of};
 
 use crate::placement::Placement;
 use crate::ratio::{Ratio, twice_more};
 use cif_form::Turn;
+use cif_list::ShortTurn;
 use lam_geom::Point;
 
 const FAR: i128 = 1_099_511_627_776;
@@ -128,15 +130,15 @@ impl Turned {
     }
 
     /// What the turns of a call come to, in the order of the call.
-    pub fn of_all(ratio: Ratio, turns: &[Turn]) -> Turned
+    pub fn of_all(ratio: Ratio, turns: &[ShortTurn]) -> Turned
         requires fit { IsFitRatio ratio }
-        requires short { All IsShortTurn turns.now }
-        ensures turned { IsTurned (scale_of ratio) turns.now result }
+        requires short { All IsShortTurn (map wide_turn turns.now) }
+        ensures turned { IsTurned (scale_of ratio) (map wide_turn turns.now) result }
         ensures held { IsHeldTurned (2 ^ 104) result }
     {
         let mut all = Turned::Placed(turn(false, false, false));
         for turn in turns {
-            all = all.and(Turned::of(ratio, turn));
+            all = all.and(Turned::of(ratio, &turn.turn()));
         }
         all
     }

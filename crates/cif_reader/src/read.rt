@@ -5,6 +5,7 @@ ghost use Rattle.mp_base.specs.declared.refusal.Family.TheVariants.{C};
 ghost use Rattle.mp_base.specs.declared.refusal.Spot.TheVariants.{Offset};
 ghost use Rattle.mp_base.specs.declared.refusal.Refusal.TheVariants as refusals;
 ghost use Rattle.cif_form.specs.declared.command.Item.{Item};
+ghost use Rattle.cif_form.specs.Fits.{Fits};
 ghost use Rattle.cif_form.specs.Readers.{is_blank};
 ghost use Rattle.cif_form.specs.Scans.{TextEnd, IsReadable, IsLateEnd, opens, Scans, FileScans};
 ghost use Rattle.cif_form.specs.Scans.TextEnd.{Whole};
@@ -13,9 +14,11 @@ ghost use Rattle.cif_reader.specs.Refusing.{Refuses, RefusesAt, IsRead, IsStep};
 use crate::bytes::{is_blank, past_blanks};
 use crate::command::command;
 use crate::found::Found;
-use cif_form::{Cif, Command, Item, command_is_found, read_command_fits};
-use mp_base::{Broken, Family, List, Refusal, Rule, Spot};
+use cif_form::{Command, command_is_found, read_command_fits};
+use cif_list::Cif;
+use mp_base::{Broken, Family, Refusal, Rule, Spot};
 use std::alloc::{AllocError, Global};
+use std::mem::drop;
 
 /// The refusal of rule C `number`.
 fn broken(number: u16, offset: usize) -> Refusal
@@ -84,6 +87,7 @@ fn next_step(alloc: Global, bytes: &[u8], at: usize, inside: bool) -> Result<Ste
     requires empty { slice_index bytes.now at ≢ 59 }
     requires end { slice_index bytes.now at ≢ 69 }
     ensures ok { IfOk result (λ s. IsStep bytes.now at inside s.command s.end s.inside) }
+    ensures fits { IfOk result (λ s. Fits s.command) }
     ensures err { IfErr result (RefusesAt inside bytes.now at) }
 {
     read_command_fits();
@@ -157,13 +161,13 @@ fn late_end(bytes: &[u8]) -> Option<usize>
 /// over 2^31 - 1 in size), C4 (a start, a deletion or the end inside a definition, or a finish outside one), C5 (more
 /// than blanks behind the `E`).
 pub fn read_cif(alloc: Global, bytes: &[u8]) -> Result<Cif, Refusal>
-    ensures whole { IfOk result (λ cif. FileScans bytes.now cif.items Whole) }
+    ensures whole { IfOk result (λ cif. FileScans bytes.now cif Whole) }
     ensures first { IfErr result (Refuses bytes.now) }
 {
     if let Some(offset) = late_end(bytes) {
         return Err(broken(1, offset));
     }
-    let mut items = List::new(alloc);
+    let mut cif = Cif::new(alloc);
     let mut inside = false;
     let mut at = 0;
     'commands: loop {
@@ -173,14 +177,12 @@ pub fn read_cif(alloc: Global, bytes: &[u8]) -> Result<Cif, Refusal>
         }
         if bytes[start] == b'E' {
             finish(bytes, start, inside)?;
-            return Ok(Cif { items });
+            return Ok(cif);
         }
         let next = next_step(alloc, bytes, start, inside)?;
-        items.push(Item {
-            offset: start as u64,
-            command: next.command,
-        })?;
+        cif.push(start as u64, &next.command)?;
         inside = next.inside;
         at = next.end;
+        drop(next);
     }
 }

@@ -1,7 +1,8 @@
 //! Files that break rules of texts, and one that breaks none.
 
 use crate::read::read_cif;
-use cif_form::{Command, Turn};
+use cif_form::Turn;
+use cif_list::CommandView;
 use lam_geom::Point;
 use mp_base::{Broken, Refusal, Spot};
 use std::alloc::Global;
@@ -20,7 +21,7 @@ fn breaks(alloc: Global, text: &[u8], number: u16, offset: u64) -> bool {
 
 fn reads(alloc: Global, text: &[u8], count: usize) -> bool {
     match read_cif(alloc, text) {
-        Ok(cif) => cif.items.len() == count,
+        Ok(cif) => cif.len() == count,
         Err(_) => false,
     }
 }
@@ -65,12 +66,13 @@ fn texts_are_read(rt: HostRuntime) -> Result<(), Fail> {
     assert!(rt; reads(alloc, b"(a(b)c);94 a ;D S 1;D F;C1R0 1MXT2 -3 ;E", 5));
     let text = b"L NM;\nC 2 T 1 -2;E".as_slice();
     if let Ok(cif) = read_cif(alloc, text) {
-        assert_eq!(rt; cif.items.len(), 2);
-        assert_eq!(rt; cif.items.at(1).offset, 6);
-        match &cif.items.at(1).command {
-            Command::Call { number, turns } => {
-                assert_eq!(rt; *number, 2);
-                assert!(rt; turns.as_slice() == [Turn::Move(Point { x: 1, y: -2 })].as_slice());
+        assert_eq!(rt; cif.len(), 2);
+        assert_eq!(rt; cif.at(1).offset, 6);
+        match cif.at(1).command {
+            CommandView::Call { number, turns } => {
+                assert_eq!(rt; number, 2);
+                assert_eq!(rt; turns.len(), 1);
+                assert_eq!(rt; turns[0].turn(), Turn::Move(Point { x: 1, y: -2 }));
             }
             _ => assert!(rt; false),
         }

@@ -4,7 +4,8 @@ ghost use Rattle.std.specs.Prelude.{IfOk, IfErr};
 ghost use Rattle.mask_net.specs.Masks.{IsCif, IsDrawing, IsNetOf, RefusesBytes};
 
 use cif_flat::{Flat, flatten, read_is_well_formed};
-use cif_form::{Cif, scan_is_reading, walk_is_expansion};
+use cif_form::{scan_is_reading, walk_is_expansion};
+use cif_list::Cif;
 use cif_reader::read_cif;
 use extractor::extract;
 use mp_base::Refusal;
@@ -13,7 +14,7 @@ use switch_net::Network;
 
 // The commands, for which the bytes are let go.
 fn commands_of(alloc: Global, bytes: Vec<u8>) -> Result<Cif, Refusal>
-    ensures ok { IfOk result (λ cif. IsCif bytes.items cif.items) }
+    ensures ok { IfOk result (λ cif. IsCif bytes.items cif) }
     ensures err { IfErr result (RefusesBytes bytes.items) }
 {
     scan_is_reading();

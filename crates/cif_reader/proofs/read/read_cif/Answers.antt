@@ -4,14 +4,14 @@ use Rattle.cif_reader.proofs.Scanned.{Reached, reached_start, reached_next, reac
 use Rattle.cif_reader.proofs.read.read_cif.Goals as goal
 
 pub commands-init : goal.commands-init
-commands-init c = reached_start c.args.bytes.now c.new-items.result c.new-items.ensures c.in_default.ensures
+commands-init c = reached_start c.args.bytes.now c.new-cif.result c.new-cif.ensures c.in_default.ensures
 
 pub returns-then-start-bytes-clause-first : goal.returns-then-start-bytes-clause-first
 returns-then-start-bytes-clause-first c =
     let bytes = c.args.bytes.now in
     let start = c.skip-start.result in
     let end : length bytes ≤ start = omega arith in
-    reached_break bytes c.commands.items c.commands.inside c.commands.at start c.broken-then-start-bytes.result c.commands.invariant c.skip-start.ensures.skipped
+    reached_break bytes c.commands.cif c.commands.inside c.commands.at start c.broken-then-start-bytes.result c.commands.invariant c.skip-start.ensures.skipped
     (refused_at bytes start c.commands.inside C2 start c.broken-then-start-bytes.result c.broken-then-start-bytes.ensures (short bytes start c.commands.inside end))
 
 pub commands-preserved : goal.commands-preserved
@@ -19,5 +19,5 @@ commands-preserved c =
     let bytes = c.args.bytes.now in
     let next = c.in_ok-next.next in
     subst (λ items. Reached bytes items next.inside next.end) (sym c.in_ok-push.ensures.ok)
-    (reached_next bytes c.commands.items c.commands.inside next.inside c.commands.at c.skip-start.result next.end next.command c.commands.invariant c.skip-start.ensures.skipped
+    (reached_next bytes c.commands.cif c.commands.inside next.inside c.commands.at c.skip-start.result next.end next.command c.commands.invariant c.skip-start.ensures.skipped
     c.in_ok-next.ensures.ok)

@@ -3,7 +3,7 @@ use Rattle.cif_reader.proofs.Scanned.{Reached}
 use Rattle.cif_reader.proofs.read.read_cif.Given as goal
 
 abbrev pub invariant-commands : goal.invariant-commands
-invariant-commands l = Reached l.bytes l.items l.inside l.at
+invariant-commands l = Reached l.bytes l.cif l.inside l.at
 
 abbrev pub decreases-commands : goal.decreases-commands
 decreases-commands l = length l.bytes - l.at

@@ -3,8 +3,11 @@ use Rattle.cif_flat.proofs.Walks.{level_of}
 use Rattle.cif_flat.proofs.Defines.{start_closed, start_number, body_room, defined}
 use Rattle.cif_flat.proofs.walker.Walker.define.Goals as goal
 
-pub body_size-requires : goal.body_size-requires
-body_size-requires c = start_closed c.args.items.now c.args.self.now c.args.level c.args.offset c.args.number.now c.args.a.now c.args.b.now c.requires
+pub body_size-requires-clause-closed : goal.body_size-requires-clause-closed
+body_size-requires-clause-closed c = start_closed c.args.items.now c.args.self.now c.args.level c.args.offset c.args.number.now c.args.a.now c.args.b.now c.requires
+
+pub body_size-requires-clause-within : goal.body_size-requires-clause-within
+body_size-requires-clause-within c = (level_of c.args.items.now c.args.self.now c.args.level _ c.requires).within
 
 pub key_of-requires : goal.key_of-requires
 key_of-requires c = start_number c.args.items.now c.args.self.now c.args.level c.args.offset c.args.number.now c.args.a.now c.args.b.now c.requires

@@ -24,13 +24,13 @@ returns-then-len-gt0-clause-ok c =
 
 pub returns-in_default-clause-ok : goal.returns-in_default-clause-ok
 returns-in_default-clause-ok c =
-    let no : IsLabelled c.args.offset c.args.text.now None = subst (λ t. IsLabelled c.args.offset t None) c.bytes.ensures (subst (IsLabelled c.args.offset c.bytes.result.now) c.in_default.is c.in_ok-label.ensures) in
+    let no : IsLabelled c.args.offset c.args.text.now None = subst (IsLabelled c.args.offset c.args.text.now) c.in_default.is c.in_ok-label.ensures in
     user_passed c.args.items.now c.args.self.now c.args.level c.args.offset c.args.digit.now c.args.text.now c.requires (omega arith) (λ e d. no) c.go_on-in_default.new.self
     c.in_ok-go_on-3.ensures.kept (c.in_ok-go_on-3.ensures.pushed ∙ ap (λ u. c.args.self.now.levels.items ++ u ∷ []) c.onward-in_default.ensures)
 
 pub returns-clause-ok : goal.returns-clause-ok
 returns-clause-ok c =
     let n = c.len.ensures in
-    let is : IsLabelled c.args.offset c.args.text.now (Some c.in-Some.label) = subst (λ t. IsLabelled c.args.offset t (Some c.in-Some.label)) c.bytes.ensures (subst (IsLabelled c.args.offset c.bytes.result.now) c.in-Some.is c.in_ok-label.ensures) in
+    let is : IsLabelled c.args.offset c.args.text.now (Some c.in-Some.label) = subst (IsLabelled c.args.offset c.args.text.now) c.in-Some.is c.in_ok-label.ensures in
     user_labelled c.args.items.now c.args.self.now c.args.level c.args.offset c.args.digit.now c.args.text.now c.requires (omega arith) (empty c.args.self.now.levels.items (omega (arith, n))) (omega arith) c.in-Some.label is.0 is.1 c.push.new.self c.in_ok-push.ensures.ok c.go_on-2.new.self
     c.in_ok-go_on-4.ensures.kept (c.in_ok-go_on-4.ensures.pushed ∙ ap (λ u. c.args.self.now.levels.items ++ u ∷ []) c.onward-2.ensures)

@@ -1,0 +1,5 @@
+pub mod Growing
+pub mod Turning
+pub mod Storing
+pub mod Showing
+pub mod Entries
