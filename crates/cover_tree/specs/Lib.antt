@@ -5,3 +5,6 @@ pub mod Trees
 pub mod Building
 pub mod Going
 pub mod Looking
+pub mod Kinds
+pub mod Telling
+pub mod Changing

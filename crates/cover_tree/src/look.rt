@@ -4,6 +4,7 @@ ghost use Rattle.std.specs.Prelude.{◌≡◌};
 ghost use Rattle.lam_geom.specs.declared.layer.Layer.{Layer};
 ghost use Rattle.cover_tree.specs.Parts.{Sound, node};
 ghost use Rattle.cover_tree.specs.Layered.{tree};
+ghost use Rattle.cover_tree.specs.Kinds.{IsHandedDown};
 ghost use Rattle.cover_tree.specs.Looking.{IsSight, is_blank, is_full, is_possible, full_at, possible_at};
 
 use crate::node::Node;
@@ -41,6 +42,14 @@ pub(crate) fn look(trees: &Trees, line: Line, part: Part, known: Layers) -> Sigh
         return Sight::One(0);
     }
     Sight::Many(bounds.full)
+}
+
+/// The layers in `known`, and those that cover the part as a whole by its nodes.
+pub(crate) fn known_down(trees: &Trees, part: Part, row: u32, known: Layers) -> Layers
+    requires { (l : Layer) → Sound (tree trees.now l) part }
+    ensures { IsHandedDown trees.now row part known result }
+{
+    look_down(trees, part.at, row, known).full
 }
 
 // Whether these layers, and any of them, have no colour.
