@@ -7,3 +7,5 @@ pub mod Collecting
 pub mod Alike
 pub mod Going
 pub mod Found
+pub mod Telling
+pub mod Changing
