@@ -1,6 +1,7 @@
 -- The changes of a part's cells, by those of its halves, and what is told of all cells.
 use Rattle.std.proofs.Common.{◌≡◌, ◌≢◌, ℕ, ◌+◌, ◌-◌, ◌/◌, ◌<◌, ◌≤◌, Bool, true, List, refl, sym, ◌∙◌, ap, arith}
 use Rattle.std.specs.Prelude.{◌&&◌, ◌==◌, not, nat_lt, nat_le}
+use Rattle.std.proofs.Math.Bool.{or_comm}
 use Rattle.std.proofs.lemmas.Bool.{lt-ltb, ltb-true, le-leb, leb-true, and_parts, eq-eqb, ne_eqb, not-true, not_from_true, not_from_false, false≢true}
 use Rattle.lam_geom.specs.declared.layer.Layer.{Layer}
 use Rattle.lam_geom.specs.declared.layer.Layer.TheVariants.{ND, NP, NC, NM, NI, NB, NG}
@@ -10,18 +11,18 @@ use Rattle.mask_runs.specs.Colours.{bare, with, colour_of}
 use Rattle.cover_tree.specs.declared.changes.Known.{Known}
 use Rattle.cover_tree.specs.declared.changes.Step.{Step}
 use Rattle.cover_tree.specs.declared.kinds.Effect.{Effect}
-use Rattle.cover_tree.specs.declared.kinds.Effect.TheVariants.{None, All, Some}
+use Rattle.cover_tree.specs.declared.kinds.Effect.TheVariants.{Nowhere, Everywhere, Somewhere}
 use Rattle.cover_tree.specs.declared.kinds.Kinds.{Kinds}
 use Rattle.cover_tree.specs.declared.part.Part.{Part}
 use Rattle.cover_tree.specs.declared.part.Span.{Span}
 use Rattle.cover_tree.specs.declared.stretch.Stretch.{Stretch}
 use Rattle.cover_tree.specs.declared.trees.Trees.{Trees}
 use Rattle.cover_tree.specs.Covers.{layers_at}
-use Rattle.cover_tree.specs.Parts.{InPart, root, left_half, right_half}
+use Rattle.cover_tree.specs.Parts.{InPart, root, left_half, right_half, top_of}
 use Rattle.cover_tree.specs.Layered.{cover}
 use Rattle.cover_tree.specs.Looking.{seen, part_colour}
 use Rattle.cover_tree.specs.Kinds.{both, AreKinds, IsSteady, IsEffect, IsChange, IsHandedDown}
-use Rattle.cover_tree.specs.Telling.{Gains, Turns, IsTold}
+use Rattle.cover_tree.specs.Telling.{Gains, Turns, TurnsUnder, IsTold}
 use Rattle.cover_tree.specs.Changing.{Tells, differs, differs_in}
 use Rattle.cover_tree.proofs.Found.{root_colour}
 use Rattle.cover_tree.proofs.Telling.{alike, in_turn, told_same}
@@ -60,15 +61,15 @@ module _ (t : Trees) (step : Step) (span : Span) (p : Part) (known down : Known)
 pub effect_change : (t : Trees) (step : Step) (p : Part) (known : Known) (kinds : Kinds) (e : Effect) → 2 ≤ p.width
     → IsSteady t step.row step.next p → AreKinds step.mask t step.row p kinds → IsEffect step.mask kinds known.before known.after e
     → IsChange (differs t step p known) p e
-effect_change t step p known kinds None w s k f = λ c i.
+effect_change t step p known kinds Nowhere w s k f = λ c i.
     not_from_true (part_colour step.mask t step.row p known.before c == part_colour step.mask t step.next p known.after c)
     (eq-eqb (part_colour step.mask t step.row p known.before c) (part_colour step.mask t step.next p known.after c)
     (f (seen t step.row p bare c) (k.each c i) ∙ ap (λ l. colour_of step.mask (both known.after l)) (s.each c i)))
-effect_change t step p known kinds All w s k f = λ c i.
+effect_change t step p known kinds Everywhere w s k f = λ c i.
     not_from_false (part_colour step.mask t step.row p known.before c == part_colour step.mask t step.next p known.after c)
     (ne_eqb (part_colour step.mask t step.row p known.before c) (part_colour step.mask t step.next p known.after c)
     (λ q. f (seen t step.row p bare c) (k.each c i) (q ∙ sym (ap (λ l. colour_of step.mask (both known.after l)) (s.each c i)))))
-effect_change t step p known kinds Some w s k f = w
+effect_change t step p known kinds Somewhere w s k f = w
 
 module _ (span : Span) (t : Trees) (step : Step) (p : Part) (known : Known) (c : ℕ) where
   differs_parts : differs_in span t step p known c ≡ true
@@ -125,3 +126,31 @@ module _ (mask : Mask) (cells : ℕ) (t : Trees) (row : ℕ) where
       (λ c g. let h = g.within in
       (h, differs_whole span t step (root cells) known c (omega arith) h
       (λ q. g.another (root_colour mask cells t (row + 1) c h ∙ sym q ∙ sym (root_colour mask cells t row c h)))))
+
+  under_layers : (gained : Layers) (c : ℕ) → c < cells
+      → both (layers_at (cover mask cells t) (row + 1) c) gained ≡ seen t (row + 1) (root cells) gained c
+  under_layers gained c h = rw (lt-ltb c cells h) (λ i. record {
+    nd = or_comm (nat_lt (row + 1) (top_of t.nd.items (root cells) c)) gained.nd i;
+    np = or_comm (nat_lt (row + 1) (top_of t.np.items (root cells) c)) gained.np i;
+    nc = or_comm (nat_lt (row + 1) (top_of t.nc.items (root cells) c)) gained.nc i;
+    nm = or_comm (nat_lt (row + 1) (top_of t.nm.items (root cells) c)) gained.nm i;
+    ni = or_comm (nat_lt (row + 1) (top_of t.ni.items (root cells) c)) gained.ni i;
+    nb = or_comm (nat_lt (row + 1) (top_of t.nb.items (root cells) c)) gained.nb i;
+    ng = or_comm (nat_lt (row + 1) (top_of t.ng.items (root cells) c)) gained.ng i;
+  })
+
+  pub turns_under : (gained : Layers) (span : Span) (old now : List Stretch) → span.to ≤ cells
+      → IsTold old now (λ c. (c < cells) × (differs_in span t (record { mask = mask; row = row; next = row + 1 }) (root cells) (record { before = bare; after = gained }) c ≡ true))
+      → IsTold old now (TurnsUnder (cover mask cells t) gained span.from span.to row)
+  turns_under gained span old now w =
+      let step : Step = record { mask = mask; row = row; next = row + 1 } in
+      let known : Known = record { before = bare; after = gained } in
+      told_same (λ c. (c < cells) × (differs_in span t step (root cells) known c ≡ true)) (TurnsUnder (cover mask cells t) gained span.from span.to row) old now
+      (λ c p. let d = differs_parts span t step (root cells) known c p.1 in record {
+        order = d.0;
+        within = d.1;
+        another = λ q. d.2 (sym (root_colour mask cells t row c p.0) ∙ sym q ∙ ap (colour_of mask) (under_layers gained c p.0));
+      })
+      (λ c g. let h = g.within in let m : c < cells = omega arith in
+      (m, differs_whole span t step (root cells) known c g.order g.within
+      (λ q. g.another (ap (colour_of mask) (under_layers gained c m) ∙ sym q ∙ sym (root_colour mask cells t row c m)))))

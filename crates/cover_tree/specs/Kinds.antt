@@ -4,7 +4,7 @@ use Rattle.mask_runs.specs.declared.mask.Layers.{Layers}
 use Rattle.mask_runs.specs.declared.mask.Mask.{Mask}
 use Rattle.mask_runs.specs.Colours.{bare, colour_of}
 use Rattle.cover_tree.specs.declared.kinds.Effect.{Effect}
-use Rattle.cover_tree.specs.declared.kinds.Effect.TheVariants.{None, All, Some}
+use Rattle.cover_tree.specs.declared.kinds.Effect.TheVariants.{Nowhere, Everywhere, Somewhere}
 use Rattle.cover_tree.specs.declared.kinds.Kinds.{Kinds}
 use Rattle.cover_tree.specs.declared.part.Part.{Part}
 use Rattle.cover_tree.specs.declared.trees.Trees.{Trees}
@@ -36,15 +36,15 @@ pub record IsSteady (t : Trees) (row next : ℕ) (p : Part) : Type 0 where
 
 -- under no kind or under all of them the colour is another where the other layers cover the part
 abbrev pub IsEffect : Mask → Kinds → Layers → Layers → Effect → Type 0
-IsEffect mask kinds old new None = (s : Layers) → HasKind mask kinds s → colour_of mask (both old s) ≡ colour_of mask (both new s)
-IsEffect mask kinds old new All = (s : Layers) → HasKind mask kinds s → colour_of mask (both old s) ≢ colour_of mask (both new s)
-IsEffect mask kinds old new Some = Unit {0}
+IsEffect mask kinds old new Nowhere = (s : Layers) → HasKind mask kinds s → colour_of mask (both old s) ≡ colour_of mask (both new s)
+IsEffect mask kinds old new Everywhere = (s : Layers) → HasKind mask kinds s → colour_of mask (both old s) ≢ colour_of mask (both new s)
+IsEffect mask kinds old new Somewhere = Unit {0}
 
 -- whether no cell of the part is so, or each, or neither is told and it has halves
 abbrev pub IsChange : (ℕ → Bool) → Part → Effect → Type 0
-IsChange is p None = (c : ℕ) → InPart p c → is c ≡ false
-IsChange is p All = (c : ℕ) → InPart p c → is c ≡ true
-IsChange is p Some = 2 ≤ p.width
+IsChange is p Nowhere = (c : ℕ) → InPart p c → is c ≡ false
+IsChange is p Everywhere = (c : ℕ) → InPart p c → is c ≡ true
+IsChange is p Somewhere = 2 ≤ p.width
 
 -- the cells of the halves, or of a part of one cell, have these layers where those cover the part as a whole
 pub record IsHandedDown (t : Trees) (row : ℕ) (p : Part) (known full : Layers) : Type 0 where

@@ -49,9 +49,9 @@ pub(crate) fn tell_part(
     ensures { IfOk result (λ next. Tells (differs_in span trees.now step part known) told.old.items told.new.items last next part.base (part.base + part.width)) }
 {
     match change_in(trees, step, span, part, known) {
-        Effect::None => Ok(last),
-        Effect::All => extend(told, last, part.base, part.end()),
-        Effect::Some => {
+        Effect::Nowhere => Ok(last),
+        Effect::Everywhere => extend(told, last, part.base, part.end()),
+        Effect::Somewhere => {
             let down = handed_down(trees, step, part, known);
             let middle = tell_part(trees, step, span, part.left(), down, last, told)?;
             tell_part(trees, step, span, part.right(), down, middle, told)
@@ -95,10 +95,10 @@ fn change_in(trees: &Trees, step: Step, span: Span, part: Part, known: Known) ->
     let from = span.clamped(part.base);
     let to = span.clamped(part.end());
     if from == to {
-        return Effect::None;
+        return Effect::Nowhere;
     }
     if to - from < part.width {
-        return Effect::Some;
+        return Effect::Somewhere;
     }
     change_of(trees, step, part, known)
 }
@@ -111,12 +111,12 @@ fn change_of(trees: &Trees, step: Step, part: Part, known: Known) -> Effect
     if part.width < 2 {
         let down = handed_down(trees, step, part, known);
         if step.mask.colour(down.before) == step.mask.colour(down.after) {
-            return Effect::None;
+            return Effect::Nowhere;
         }
-        return Effect::All;
+        return Effect::Everywhere;
     }
     if !stays(trees, step, part) {
-        return Effect::Some;
+        return Effect::Somewhere;
     }
     let line = Line {
         mask: step.mask,

@@ -18,9 +18,9 @@ pub(crate) struct Kinds {}
 /// Under which of the kinds the colour changes.
 #[derive(Clone, Copy)]
 pub(crate) enum Effect {
-    None,
-    All,
-    Some,
+    Nowhere,
+    Everywhere,
+    Somewhere,
 }
 
 impl Kinds {
@@ -29,9 +29,9 @@ impl Kinds {
         ensures { IsEffect mask self old new result }
     {
         if old == new {
-            return Effect::None;
+            return Effect::Nowhere;
         }
-        Effect::Some
+        Effect::Somewhere
     }
 }
 

@@ -29,7 +29,7 @@ impl CoverTree {
     ghost use Rattle.mask_runs.specs.Colours.{uses};
     ghost use Rattle.mask_runs.specs.Runs.{IsRun, AreRuns};
     ghost use Rattle.cover_tree.specs.Covers.{IsBare, IsRaised, row_colour, windowed};
-    ghost use Rattle.cover_tree.specs.Telling.{IsTold, Gains, Turns};
+    ghost use Rattle.cover_tree.specs.Telling.{IsTold, Gains, Turns, TurnsUnder};
     ghost use Rattle.cover_tree.specs.Parts.{root};
     ghost use Rattle.cover_tree.specs.Changing.{differs_in};
     ghost use Rattle.cover_tree.specs.Trees.{cover_of};
@@ -132,6 +132,33 @@ impl CoverTree {
             after: bare,
         };
         self.tell(step, all, known, changed)
+    }
+
+    /// Adds the stretches of the cells from `from` up to `to` whose colour in the next row is another than in this one, if
+    /// these layers cover them all there besides, from left to right. Where memory is wanting the list may have any
+    /// stretches more.
+    pub fn tell_changes(
+        &self,
+        row: u32,
+        gained: Layers,
+        from: u32,
+        to: u32,
+        changed: &mut Vec<Stretch>,
+    ) -> Result<(), NoMemory>
+        requires room { row + 1 < 2 ^ 32 }
+        requires within { to ≤ (cover_of self.now).cells }
+        ensures { IfOk result (λ _. IsTold changed.old.items changed.new.items (TurnsUnder (cover_of self.now) gained from to row)) }
+    {
+        let step = Step {
+            mask: self.mask,
+            row,
+            next: row + 1,
+        };
+        let known = Known {
+            before: Layers::none(),
+            after: gained,
+        };
+        self.tell(step, Span { from, to }, known, changed)
     }
 
     // Adds the stretches of the cells in the span whose colours differ.
