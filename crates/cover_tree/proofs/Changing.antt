@@ -21,9 +21,9 @@ use Rattle.cover_tree.specs.Covers.{layers_at}
 use Rattle.cover_tree.specs.Parts.{InPart, root, left_half, right_half, top_of}
 use Rattle.cover_tree.specs.Layered.{cover}
 use Rattle.cover_tree.specs.Looking.{seen, part_colour}
-use Rattle.cover_tree.specs.Kinds.{both, AreKinds, IsSteady, IsEffect, IsChange, IsHandedDown}
+use Rattle.cover_tree.specs.Kinds.{both, HasKind, IsEffect}
 use Rattle.cover_tree.specs.Telling.{Gains, Turns, TurnsUnder, IsTold}
-use Rattle.cover_tree.specs.Changing.{Tells, differs, differs_in}
+use Rattle.cover_tree.specs.Changing.{IsSteady, IsChange, IsHandedDown, Tells, differs, differs_in}
 use Rattle.cover_tree.proofs.Found.{root_colour}
 use Rattle.cover_tree.proofs.Telling.{alike, in_turn, told_same}
 
@@ -57,19 +57,19 @@ module _ (t : Trees) (step : Step) (span : Span) (p : Part) (known down : Known)
       (alike (differs_in span t step (left_half p) down) own old mid last middle p.base (p.base + p.width / 2) (λ c h k. left_differs c w h k) l)
       (alike (differs_in span t step (right_half p) down) own mid now middle next (p.base + p.width / 2) (p.base + p.width) (λ c h k. right_differs c w h k) r2)
 
--- what the kinds tell of a part that stays as it is
-pub effect_change : (t : Trees) (step : Step) (p : Part) (known : Known) (kinds : Kinds) (e : Effect) → 2 ≤ p.width
-    → IsSteady t step.row step.next p → AreKinds step.mask t step.row p kinds → IsEffect step.mask kinds known.before known.after e
-    → IsChange (differs t step p known) p e
-effect_change t step p known kinds Nowhere w s k f = λ c i.
-    not_from_true (part_colour step.mask t step.row p known.before c == part_colour step.mask t step.next p known.after c)
-    (eq-eqb (part_colour step.mask t step.row p known.before c) (part_colour step.mask t step.next p known.after c)
-    (f (seen t step.row p bare c) (k.each c i) ∙ ap (λ l. colour_of step.mask (both known.after l)) (s.each c i)))
-effect_change t step p known kinds Everywhere w s k f = λ c i.
-    not_from_false (part_colour step.mask t step.row p known.before c == part_colour step.mask t step.next p known.after c)
-    (ne_eqb (part_colour step.mask t step.row p known.before c) (part_colour step.mask t step.next p known.after c)
-    (λ q. f (seen t step.row p bare c) (k.each c i) (q ∙ sym (ap (λ l. colour_of step.mask (both known.after l)) (s.each c i)))))
-effect_change t step p known kinds Somewhere w s k f = w
+-- a part whose layers are the same in both rows: all depends on those that cover it as a whole
+module _ (t : Trees) (step : Step) (p : Part) (known : Known) (s : IsSteady t step.row step.next p) where
+  same_differs : (c : ℕ) → InPart p c → differs t step p known c ≡ unlike step.mask (both known.before (seen t step.row p bare c)) (both known.after (seen t step.row p bare c))
+  same_differs c i = ap (λ l. unlike step.mask (seen t step.row p known.before c) (both known.after l)) (sym (s.each c i))
+
+  pub alike_change : known.before ≡ known.after → IsChange (differs t step p known) p Nowhere
+  alike_change e = λ c i. same_differs c i ∙ not_from_true _ (eq-eqb _ _ (ap (λ k. colour_of step.mask (both k (seen t step.row p bare c))) e))
+
+  pub effect_change : (kinds : Kinds) (e : Effect) → 2 ≤ p.width → ((c : ℕ) → InPart p c → HasKind step.mask kinds (seen t step.row p bare c))
+      → IsEffect step.mask kinds known.before known.after e → IsChange (differs t step p known) p e
+  effect_change kinds Nowhere w k f = λ c i. same_differs c i ∙ not_from_true _ (eq-eqb _ _ (f.each (seen t step.row p bare c) (k c i)))
+  effect_change kinds Everywhere w k f = λ c i. same_differs c i ∙ not_from_false _ (ne_eqb _ _ (f.each (seen t step.row p bare c) (k c i)))
+  effect_change kinds Somewhere w k f = w
 
 module _ (span : Span) (t : Trees) (step : Step) (p : Part) (known : Known) (c : ℕ) where
   differs_parts : differs_in span t step p known c ≡ true

@@ -14,7 +14,6 @@ use Rattle.cover_tree.specs.declared.trees.Trees.{Trees}
 use Rattle.cover_tree.specs.Parts.{node, left_half, right_half, top_of, InPart, Sound}
 use Rattle.cover_tree.specs.Parts.Within.{here}
 use Rattle.cover_tree.specs.Layered.{tree}
-use Rattle.cover_tree.specs.Kinds.{IsHandedDown}
 use Rattle.cover_tree.specs.Looking.{is_full, is_possible, full_at, possible_at, is_seen, seen, part_colour, is_blank, IsHalved}
 use Rattle.cover_tree.proofs.Tops.{top_leaf, top_left, top_right}
 
@@ -152,11 +151,3 @@ module _ (mask : Mask) (t : Trees) (p : Part) (row : ℕ) (known : Layers) (v : 
     left = λ c i. let a = i.from in let b = i.to in ap (colour_of mask) (seen_left t p row known c v (record { from = omega arith; to = omega arith }) h b);
     right = λ c i. let a = i.from in let b = i.to in ap (colour_of mask) (seen_right t p row known c v (record { from = omega arith; to = omega arith }) h a);
   }
-
-pub handed_down : (t : Trees) (p : Part) (row : ℕ) (known : Layers) → ((l : Layer) → Sound (tree t l) p)
-    → IsHandedDown t row p known (full_at t p.at row known)
-handed_down t p row known v = record {
-  left = λ c h i. let a = i.from in let b = i.to in seen_left t p row known c v (record { from = omega arith; to = omega arith }) h b;
-  right = λ c h i. let a = i.from in let b = i.to in seen_right t p row known c v (record { from = omega arith; to = omega arith }) h a;
-  leaf = λ c h i. seen_leaf t p row known c v i h;
-}

@@ -2,11 +2,16 @@
 use Rattle.std.specs.Prelude.{◌≡◌, ◌==◌, ◌&&◌, ℕ, ◌+◌, ◌<◌, ◌≤◌, Bool, true, false, not, List, [], ◌∷◌, ◌++◌, All, nat_lt, nat_le, if◌then◌else◌}
 use Rattle.cover_tree.specs.declared.changes.Known.{Known}
 use Rattle.cover_tree.specs.declared.changes.Step.{Step}
+use Rattle.mask_runs.specs.declared.mask.Layers.{Layers}
+use Rattle.mask_runs.specs.Colours.{bare}
+use Rattle.cover_tree.specs.declared.kinds.Effect.{Effect}
+use Rattle.cover_tree.specs.declared.kinds.Effect.TheVariants.{Nowhere, Everywhere, Somewhere}
 use Rattle.cover_tree.specs.declared.part.Part.{Part}
 use Rattle.cover_tree.specs.declared.part.Span.{Span}
 use Rattle.cover_tree.specs.declared.stretch.Stretch.{Stretch}
 use Rattle.cover_tree.specs.declared.trees.Trees.{Trees}
-use Rattle.cover_tree.specs.Looking.{part_colour}
+use Rattle.cover_tree.specs.Parts.{InPart, left_half, right_half}
+use Rattle.cover_tree.specs.Looking.{seen, part_colour}
 use Rattle.cover_tree.specs.Telling.{IsTold}
 
 -- whether the colour of the part's cell is another in the next row
@@ -16,6 +21,22 @@ differs t step p known c = not (part_colour step.mask t step.row p known.before 
 -- whether it is, and the cell is in the span
 abbrev pub differs_in : Span → Trees → Step → Part → Known → ℕ → Bool
 differs_in span t step p known c = nat_le span.from c && nat_lt c span.to && differs t step p known c
+
+-- the layers over each cell of the part are the same in both rows
+pub record IsSteady (t : Trees) (row next : ℕ) (p : Part) : Type 0 where
+  pub each : (c : ℕ) → InPart p c → seen t row p bare c ≡ seen t next p bare c
+
+-- whether no cell of the part is so, or each, or neither is told and it has halves
+abbrev pub IsChange : (ℕ → Bool) → Part → Effect → Type 0
+IsChange is p Nowhere = (c : ℕ) → InPart p c → is c ≡ false
+IsChange is p Everywhere = (c : ℕ) → InPart p c → is c ≡ true
+IsChange is p Somewhere = 2 ≤ p.width
+
+-- the cells of the halves, or of a part of one cell, have these layers where those cover the part as a whole
+pub record IsHandedDown (t : Trees) (row : ℕ) (p : Part) (known full : Layers) : Type 0 where
+  pub left : (c : ℕ) → 2 ≤ p.width → InPart (left_half p) c → seen t row (left_half p) full c ≡ seen t row p known c
+  pub right : (c : ℕ) → 2 ≤ p.width → InPart (right_half p) c → seen t row (right_half p) full c ≡ seen t row p known c
+  pub leaf : (c : ℕ) → p.width < 2 → InPart p c → seen t row p known c ≡ full
 
 -- the stretches with the open one
 abbrev pub with_last : List Stretch → Stretch → List Stretch

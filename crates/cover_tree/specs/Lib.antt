@@ -6,5 +6,6 @@ pub mod Building
 pub mod Going
 pub mod Looking
 pub mod Kinds
+pub mod Notes
 pub mod Telling
 pub mod Changing

@@ -2,15 +2,12 @@
 
 ghost use Rattle.std.specs.Bool.{OnTrue};
 ghost use Rattle.std.specs.Prelude.{◌≡◌, ◌+◌, ◌<◌, ◌≤◌, true, IfOk};
-ghost use Rattle.lam_geom.specs.declared.layer.Layer.{Layer};
-ghost use Rattle.cover_tree.specs.Parts.{IsSmall, Sound};
-ghost use Rattle.cover_tree.specs.Layered.{tree};
-ghost use Rattle.cover_tree.specs.Kinds.{IsChange, IsHandedDown, IsSteady};
-ghost use Rattle.cover_tree.specs.Changing.{Tells, differs, differs_in, with_last};
+ghost use Rattle.cover_tree.specs.Parts.{IsSmall};
+ghost use Rattle.cover_tree.specs.Notes.{AreNoted};
+ghost use Rattle.cover_tree.specs.Changing.{IsChange, IsHandedDown, IsSteady, Tells, differs, differs_in, with_last};
 
-use crate::kinds::{Effect, kinds_at};
-use crate::look::{Line, known_down};
-use crate::note::is_steady;
+use crate::kinds::{Effect, both};
+use crate::look::{Line, is_steady, kinds_at};
 use crate::part::{Part, Span};
 use crate::stretch::Stretch;
 use crate::trees::Trees;
@@ -45,7 +42,7 @@ pub(crate) fn tell_part(
     told: &mut Vec<Stretch>,
 ) -> Result<Stretch, NoMemory>
     requires small { IsSmall part }
-    requires sound { (l : Layer) → Sound (tree trees.now l) part }
+    requires noted { AreNoted step.mask trees.now part }
     ensures { IfOk result (λ next. Tells (differs_in span trees.now step part known) told.old.items told.new.items last next part.base (part.base + part.width)) }
 {
     match change_in(trees, step, span, part, known) {
@@ -89,7 +86,7 @@ fn extend(
 // Whether none or all of the part's cells are in the span and have colours that differ.
 fn change_in(trees: &Trees, step: Step, span: Span, part: Part, known: Known) -> Effect
     requires small { IsSmall part }
-    requires sound { (l : Layer) → Sound (tree trees.now l) part }
+    requires noted { AreNoted step.mask trees.now part }
     ensures { IsChange (differs_in span trees.now step part known) part result }
 {
     let from = span.clamped(part.base);
@@ -105,7 +102,7 @@ fn change_in(trees: &Trees, step: Step, span: Span, part: Part, known: Known) ->
 
 // Whether none or all of the part's cells have colours that differ.
 fn change_of(trees: &Trees, step: Step, part: Part, known: Known) -> Effect
-    requires { (l : Layer) → Sound (tree trees.now l) part }
+    requires { AreNoted step.mask trees.now part }
     ensures { IsChange (differs trees.now step part known) part result }
 {
     if part.width < 2 {
@@ -118,6 +115,9 @@ fn change_of(trees: &Trees, step: Step, part: Part, known: Known) -> Effect
     if !stays(trees, step, part) {
         return Effect::Somewhere;
     }
+    if known.before == known.after {
+        return Effect::Nowhere;
+    }
     let line = Line {
         mask: step.mask,
         row: step.row,
@@ -127,23 +127,22 @@ fn change_of(trees: &Trees, step: Step, part: Part, known: Known) -> Effect
 
 // Whether it is known that the layers over the part's cells are the same in both rows.
 fn stays(trees: &Trees, step: Step, part: Part) -> bool
-    requires { (l : Layer) → Sound (tree trees.now l) part }
+    requires { AreNoted step.mask trees.now part }
     ensures { OnTrue result (IsSteady trees.now step.row step.next part) }
 {
     if step.row < step.next && step.next - step.row == 1 {
-        return is_steady(trees, part, step.row);
+        return is_steady(trees, step.mask, part, step.row);
     }
     step.row == step.next
 }
 
 // The layers that cover the part as a whole, by its nodes too.
 fn handed_down(trees: &Trees, step: Step, part: Part, known: Known) -> Known
-    requires { (l : Layer) → Sound (tree trees.now l) part }
     ensures before { IsHandedDown trees.now step.row part known.before result.before }
     ensures after { IsHandedDown trees.now step.next part known.after result.after }
 {
     Known {
-        before: known_down(trees, part, step.row, known.before),
-        after: known_down(trees, part, step.next, known.after),
+        before: both(known.before, trees.own_at(step.row, part.at)),
+        after: both(known.after, trees.own_at(step.next, part.at)),
     }
 }

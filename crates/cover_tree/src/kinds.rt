@@ -1,14 +1,8 @@
 //! The sets of layers over the cells of a part.
 
-ghost use Rattle.std.specs.Prelude.{◌≡◌, true};
-ghost use Rattle.lam_geom.specs.declared.layer.Layer.{Layer};
-ghost use Rattle.cover_tree.specs.Parts.{Sound};
-ghost use Rattle.cover_tree.specs.Layered.{tree};
-ghost use Rattle.cover_tree.specs.Kinds.{AreKinds, IsEffect};
+ghost use Rattle.std.specs.Prelude.{◌≡◌};
+ghost use Rattle.cover_tree.specs.Kinds.{both, IsEffect};
 
-use crate::look::Line;
-use crate::part::Part;
-use crate::trees::Trees;
 use mask_runs::{Layers, Mask};
 
 /// Sets of layers.
@@ -35,10 +29,17 @@ impl Kinds {
     }
 }
 
-/// The sets of layers over the part's cells, by its nodes.
-pub(crate) fn kinds_at(trees: &Trees, line: Line, part: Part) -> Kinds
-    requires { (l : Layer) → Sound (tree trees.now l) part }
-    ensures { AreKinds line.mask trees.now line.row part result }
+/// The layers of either set.
+pub(crate) fn both(left: Layers, right: Layers) -> Layers
+    ensures { result ≡ both left right }
 {
-    Kinds {}
+    Layers {
+        nd: left.nd || right.nd,
+        np: left.np || right.np,
+        nc: left.nc || right.nc,
+        nm: left.nm || right.nm,
+        ni: left.ni || right.ni,
+        nb: left.nb || right.nb,
+        ng: left.ng || right.ng,
+    }
 }

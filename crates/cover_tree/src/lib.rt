@@ -7,7 +7,6 @@ mod kinds;
 mod look;
 mod nearest;
 mod node;
-mod note;
 mod part;
 mod raise;
 mod stretch;

@@ -1,8 +1,8 @@
 use Rattle.std.proofs.Common.{◌≤◌, ◌+◌, true, arith}
 use Rattle.std.proofs.lemmas.Result.{IfOk-weaker}
-use Rattle.cover_tree.specs.Layered.{tree}
 use Rattle.cover_tree.specs.Changing.{differs_in}
-use Rattle.cover_tree.proofs.Tops.{sound_left, sound_right, small_left, small_right}
+use Rattle.cover_tree.proofs.Tops.{small_left, small_right}
+use Rattle.cover_tree.proofs.Noting.{noted_left, noted_right}
 use Rattle.cover_tree.proofs.Telling.{stays, alike}
 use Rattle.cover_tree.proofs.Changing.{both_halves}
 use Rattle.cover_tree.proofs.changes.+tell_part.Goals as goal
@@ -12,14 +12,14 @@ pub tell_part-requires : goal.tell_part-requires
 tell_part-requires t c =
     let h : 2 ≤ c.args.part.width = c.in-Somewhere.ensures in
     rw c.left.ensures
-    (omega arith, (small_left c.args.part h c.requires.small, λ l. sound_left (tree c.args.trees.now l) c.args.part h (c.requires.sound l)))
+    (omega arith, (small_left c.args.part h c.requires.small, noted_left c.args.step.mask c.args.trees.now c.args.part h c.requires.noted))
 
 -- src/changes.rt
 pub tell_part-requires-in-Somewhere : goal.tell_part-requires-in-Somewhere
 tell_part-requires-in-Somewhere t c =
     let h : 2 ≤ c.args.part.width = c.in-Somewhere.ensures in
     rw c.right.ensures
-    (omega arith, (small_right c.args.part h c.requires.small, λ l. sound_right (tree c.args.trees.now l) c.args.part h (c.requires.sound l)))
+    (omega arith, (small_right c.args.part h c.requires.small, noted_right c.args.step.mask c.args.trees.now c.args.part h c.requires.noted))
 
 -- src/changes.rt
 pub returns-in-Nowhere : goal.returns-in-Nowhere

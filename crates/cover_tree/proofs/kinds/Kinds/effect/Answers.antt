@@ -6,4 +6,4 @@ use Rattle.cover_tree.proofs.kinds.Kinds.effect.Goals as goal
 
 -- src/kinds.rt
 pub returns-then-eq : goal.returns-then-eq
-returns-then-eq c = λ s _. ap (λ l. colour_of c.args.mask (both l s)) (same_layers _ _ (sym c.eq.ensures ∙ c.if-eq.true))
+returns-then-eq c = record { each = λ s _. ap (λ l. colour_of c.args.mask (both l s)) (same_layers _ _ (sym c.eq.ensures ∙ c.if-eq.true)) }
