@@ -23,7 +23,7 @@ use Rattle.cover_tree.specs.Layered.{cover}
 use Rattle.cover_tree.specs.Looking.{seen, part_colour}
 use Rattle.cover_tree.specs.Kinds.{both, HasKind, IsEffect}
 use Rattle.cover_tree.specs.Telling.{Gains, Turns, TurnsUnder, IsTold}
-use Rattle.cover_tree.specs.Changing.{IsSteady, IsChange, IsHandedDown, Tells, differs, differs_in}
+use Rattle.cover_tree.specs.Changing.{IsSteady, IsChange, IsHandedDown, IsDifferent, Tells, differs, differs_in}
 use Rattle.cover_tree.proofs.Found.{root_colour}
 use Rattle.cover_tree.proofs.Telling.{alike, in_turn, told_same}
 
@@ -31,19 +31,20 @@ use Rattle.cover_tree.proofs.Telling.{alike, in_turn, told_same}
 abbrev pub unlike : Mask → Layers → Layers → Bool
 unlike mask a b = not (colour_of mask a == colour_of mask b)
 
+abbrev pub stepped : Mask → ℕ → ℕ → Step
+stepped mask row next = record { mask = mask; row = row; next = next }
+
 module _ (t : Trees) (step : Step) (span : Span) (p : Part) (known down : Known)
     (a : IsHandedDown t step.row p known.before down.before) (b : IsHandedDown t step.next p known.after down.after) where
-  left_differs : (c : ℕ) → 2 ≤ p.width → p.base ≤ c → c < p.base + p.width / 2
-      → differs_in span t step p known c ≡ differs_in span t step (left_half p) down c
-  left_differs c w h k = let i : InPart (left_half p) c = record { from = h; to = k } in
-      ap (λ v. nat_le span.from c && nat_lt c span.to && unlike step.mask v (seen t step.next p known.after c)) (sym (a.left c w i))
-      ∙ ap (λ v. nat_le span.from c && nat_lt c span.to && unlike step.mask (seen t step.row (left_half p) down.before c) v) (sym (b.left c w i))
+  left_differs : (c : ℕ) → 2 ≤ p.width → InPart (left_half p) c → differs_in span t step p known c ≡ differs_in span t step (left_half p) down c
+  left_differs c w i = ap (λ b. nat_le span.from c && nat_lt c span.to && b)
+      (ap (λ l. unlike step.mask l (seen t step.next p known.after c)) (sym (a.left c w i))
+      ∙ ap (unlike step.mask (seen t step.row (left_half p) down.before c)) (sym (b.left c w i)))
 
-  right_differs : (c : ℕ) → 2 ≤ p.width → p.base + p.width / 2 ≤ c → c < p.base + p.width
-      → differs_in span t step p known c ≡ differs_in span t step (right_half p) down c
-  right_differs c w h k = let i : InPart (right_half p) c = record { from = h; to = omega arith } in
-      ap (λ v. nat_le span.from c && nat_lt c span.to && unlike step.mask v (seen t step.next p known.after c)) (sym (a.right c w i))
-      ∙ ap (λ v. nat_le span.from c && nat_lt c span.to && unlike step.mask (seen t step.row (right_half p) down.before c) v) (sym (b.right c w i))
+  right_differs : (c : ℕ) → 2 ≤ p.width → InPart (right_half p) c → differs_in span t step p known c ≡ differs_in span t step (right_half p) down c
+  right_differs c w i = ap (λ b. nat_le span.from c && nat_lt c span.to && b)
+      (ap (λ l. unlike step.mask l (seen t step.next p known.after c)) (sym (a.right c w i))
+      ∙ ap (unlike step.mask (seen t step.row (right_half p) down.before c)) (sym (b.right c w i)))
 
   pub both_halves : (old mid now : List Stretch) (last middle next : Stretch) → 2 ≤ p.width
       → Tells (differs_in span t step (left_half p) down) old mid last middle p.base (p.base + p.width / 2)
@@ -51,11 +52,13 @@ module _ (t : Trees) (step : Step) (span : Span) (p : Part) (known down : Known)
       → Tells (differs_in span t step p known) old now last next p.base (p.base + p.width)
   both_halves old mid now last middle next w l r =
       let own : ℕ → Bool = differs_in span t step p known in
+      let half = p.base + p.width / 2 in
+      let end = p.base + p.width in
       let e : p.base + p.width / 2 + (p.width - p.width / 2) ≡ p.base + p.width = omega arith in
-      let r2 : Tells (differs_in span t step (right_half p) down) mid now middle next (p.base + p.width / 2) (p.base + p.width) = rw e at r in
-      in_turn own old mid now last middle next p.base (p.base + p.width / 2) (p.base + p.width) (omega arith) (omega arith)
-      (alike (differs_in span t step (left_half p) down) own old mid last middle p.base (p.base + p.width / 2) (λ c h k. left_differs c w h k) l)
-      (alike (differs_in span t step (right_half p) down) own mid now middle next (p.base + p.width / 2) (p.base + p.width) (λ c h k. right_differs c w h k) r2)
+      let r2 : Tells (differs_in span t step (right_half p) down) mid now middle next half end = rw e at r in
+      in_turn own old mid now last middle next p.base half end (omega arith) (omega arith)
+      (alike _ own old mid last middle p.base half (λ c h k. left_differs c w (record { from = h; to = k })) l)
+      (alike _ own mid now middle next half end (λ c h k. right_differs c w (record { from = h; to = omega arith })) r2)
 
 -- a part whose layers are the same in both rows: all depends on those that cover it as a whole
 module _ (t : Trees) (step : Step) (p : Part) (known : Known) (s : IsSteady t step.row step.next p) where
@@ -71,18 +74,19 @@ module _ (t : Trees) (step : Step) (p : Part) (known : Known) (s : IsSteady t st
   effect_change kinds Everywhere w k f = λ c i. same_differs c i ∙ not_from_false _ (ne_eqb _ _ (f.each (seen t step.row p bare c) (k c i)))
   effect_change kinds Somewhere w k f = w
 
-module _ (span : Span) (t : Trees) (step : Step) (p : Part) (known : Known) (c : ℕ) where
-  differs_parts : differs_in span t step p known c ≡ true
-      → (span.from ≤ c) × (c < span.to) × (part_colour step.mask t step.row p known.before c ≢ part_colour step.mask t step.next p known.after c)
-  differs_parts e =
-      let a = and_parts (nat_le span.from c && nat_lt c span.to) (differs t step p known c) e in
+-- what is told of all cells
+module _ (mask : Mask) (cells : ℕ) (t : Trees) (row next : ℕ) (before after : Layers) (span : Span) (c : ℕ) where
+  different_parts : IsDifferent cells span t (stepped mask row next) (record { before = before; after = after }) c
+      → (c < cells) × (span.from ≤ c) × (c < span.to) × (part_colour mask t row (root cells) before c ≢ part_colour mask t next (root cells) after c)
+  different_parts d =
+      let a = and_parts (nat_le span.from c && nat_lt c span.to) (unlike mask (seen t row (root cells) before c) (seen t next (root cells) after c)) d.1 in
       let b = and_parts (nat_le span.from c) (nat_lt c span.to) a.0 in
-      let n = not-true (part_colour step.mask t step.row p known.before c == part_colour step.mask t step.next p known.after c) a.1 in
-      (leb-true span.from c b.0, ltb-true c span.to b.1, λ q. false≢true (sym n ∙ eq-eqb _ _ q))
+      let n = not-true _ a.1 in
+      (d.0, leb-true span.from c b.0, ltb-true c span.to b.1, λ q. false≢true (sym n ∙ eq-eqb _ _ q))
 
-  differs_whole : span.from ≤ c → c < span.to → part_colour step.mask t step.row p known.before c ≢ part_colour step.mask t step.next p known.after c
-      → differs_in span t step p known c ≡ true
-  differs_whole h k n = rw (le-leb span.from c h, lt-ltb c span.to k, ne_eqb _ _ n) refl
+  different_whole : c < cells → span.from ≤ c → c < span.to → part_colour mask t row (root cells) before c ≢ part_colour mask t next (root cells) after c
+      → IsDifferent cells span t (stepped mask row next) (record { before = before; after = after }) c
+  different_whole m h k n = (m, rw (le-leb span.from c h, lt-ltb c span.to k, ne_eqb _ _ n) refl)
 
 module _ (mask : Mask) (cells : ℕ) (t : Trees) (row : ℕ) where
   gain_colour : (layer : Layer) (c : ℕ) → c < cells
@@ -96,36 +100,32 @@ module _ (mask : Mask) (cells : ℕ) (t : Trees) (row : ℕ) where
   gain_colour NG c h = rw (lt-ltb c cells h) refl
 
   pub gains : (layer : Layer) (span : Span) (old now : List Stretch) → span.to ≤ cells
-      → IsTold old now (λ c. (c < cells) × (differs_in span t (record { mask = mask; row = row; next = row }) (root cells) (record { before = bare; after = with bare layer }) c ≡ true))
+      → IsTold old now (IsDifferent cells span t (stepped mask row row) (record { before = bare; after = with bare layer }))
       → IsTold old now (Gains (cover mask cells t) layer span.from span.to row)
   gains layer span old now w =
-      let step : Step = record { mask = mask; row = row; next = row } in
-      let known : Known = record { before = bare; after = with bare layer } in
-      told_same (λ c. (c < cells) × (differs_in span t step (root cells) known c ≡ true)) (Gains (cover mask cells t) layer span.from span.to row) old now
-      (λ c p. let d = differs_parts span t step (root cells) known c p.1 in record {
-        order = d.0;
-        within = d.1;
-        another = λ q. d.2 (sym (root_colour mask cells t row c p.0) ∙ sym q ∙ gain_colour layer c p.0);
+      told_same _ (Gains (cover mask cells t) layer span.from span.to row) old now
+      (λ c p. let d = different_parts mask cells t row row bare (with bare layer) span c p in record {
+        order = d.1;
+        within = d.2;
+        another = λ q. d.3 (sym (root_colour mask cells t row c d.0) ∙ sym q ∙ gain_colour layer c d.0);
       })
       (λ c g. let h = g.within in let m : c < cells = omega arith in
-      (m, differs_whole span t step (root cells) known c g.order g.within
-      (λ q. g.another (gain_colour layer c m ∙ sym q ∙ sym (root_colour mask cells t row c m)))))
+      different_whole mask cells t row row bare (with bare layer) span c m g.order h
+      (λ q. g.another (gain_colour layer c m ∙ sym q ∙ sym (root_colour mask cells t row c m))))
 
   pub turns : (old now : List Stretch)
-      → IsTold old now (λ c. (c < cells) × (differs_in (record { from = 0; to = cells }) t (record { mask = mask; row = row; next = row + 1 }) (root cells) (record { before = bare; after = bare }) c ≡ true))
+      → IsTold old now (IsDifferent cells (record { from = 0; to = cells }) t (stepped mask row (row + 1)) (record { before = bare; after = bare }))
       → IsTold old now (Turns (cover mask cells t) row)
   turns old now =
-      let span : Span = record { from = 0; to = cells } in
-      let step : Step = record { mask = mask; row = row; next = row + 1 } in
-      let known : Known = record { before = bare; after = bare } in
-      told_same (λ c. (c < cells) × (differs_in span t step (root cells) known c ≡ true)) (Turns (cover mask cells t) row) old now
-      (λ c p. let d = differs_parts span t step (root cells) known c p.1 in record {
-        within = p.0;
-        another = λ q. d.2 (sym (root_colour mask cells t row c p.0) ∙ sym q ∙ root_colour mask cells t (row + 1) c p.0);
+      let all : Span = record { from = 0; to = cells } in
+      told_same _ (Turns (cover mask cells t) row) old now
+      (λ c p. let d = different_parts mask cells t row (row + 1) bare bare all c p in record {
+        within = d.0;
+        another = λ q. d.3 (sym (root_colour mask cells t row c d.0) ∙ sym q ∙ root_colour mask cells t (row + 1) c d.0);
       })
       (λ c g. let h = g.within in
-      (h, differs_whole span t step (root cells) known c (omega arith) h
-      (λ q. g.another (root_colour mask cells t (row + 1) c h ∙ sym q ∙ sym (root_colour mask cells t row c h)))))
+      different_whole mask cells t row (row + 1) bare bare all c h (omega arith) h
+      (λ q. g.another (root_colour mask cells t (row + 1) c h ∙ sym q ∙ sym (root_colour mask cells t row c h))))
 
   under_layers : (gained : Layers) (c : ℕ) → c < cells
       → both (layers_at (cover mask cells t) (row + 1) c) gained ≡ seen t (row + 1) (root cells) gained c
@@ -140,17 +140,15 @@ module _ (mask : Mask) (cells : ℕ) (t : Trees) (row : ℕ) where
   })
 
   pub turns_under : (gained : Layers) (span : Span) (old now : List Stretch) → span.to ≤ cells
-      → IsTold old now (λ c. (c < cells) × (differs_in span t (record { mask = mask; row = row; next = row + 1 }) (root cells) (record { before = bare; after = gained }) c ≡ true))
+      → IsTold old now (IsDifferent cells span t (stepped mask row (row + 1)) (record { before = bare; after = gained }))
       → IsTold old now (TurnsUnder (cover mask cells t) gained span.from span.to row)
   turns_under gained span old now w =
-      let step : Step = record { mask = mask; row = row; next = row + 1 } in
-      let known : Known = record { before = bare; after = gained } in
-      told_same (λ c. (c < cells) × (differs_in span t step (root cells) known c ≡ true)) (TurnsUnder (cover mask cells t) gained span.from span.to row) old now
-      (λ c p. let d = differs_parts span t step (root cells) known c p.1 in record {
-        order = d.0;
-        within = d.1;
-        another = λ q. d.2 (sym (root_colour mask cells t row c p.0) ∙ sym q ∙ ap (colour_of mask) (under_layers gained c p.0));
+      told_same _ (TurnsUnder (cover mask cells t) gained span.from span.to row) old now
+      (λ c p. let d = different_parts mask cells t row (row + 1) bare gained span c p in record {
+        order = d.1;
+        within = d.2;
+        another = λ q. d.3 (sym (root_colour mask cells t row c d.0) ∙ sym q ∙ ap (colour_of mask) (under_layers gained c d.0));
       })
       (λ c g. let h = g.within in let m : c < cells = omega arith in
-      (m, differs_whole span t step (root cells) known c g.order g.within
-      (λ q. g.another (ap (colour_of mask) (under_layers gained c m) ∙ sym q ∙ sym (root_colour mask cells t row c m)))))
+      different_whole mask cells t row (row + 1) bare gained span c m g.order h
+      (λ q. g.another (ap (colour_of mask) (under_layers gained c m) ∙ sym q ∙ sym (root_colour mask cells t row c m))))

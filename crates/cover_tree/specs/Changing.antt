@@ -10,7 +10,7 @@ use Rattle.cover_tree.specs.declared.part.Part.{Part}
 use Rattle.cover_tree.specs.declared.part.Span.{Span}
 use Rattle.cover_tree.specs.declared.stretch.Stretch.{Stretch}
 use Rattle.cover_tree.specs.declared.trees.Trees.{Trees}
-use Rattle.cover_tree.specs.Parts.{InPart, left_half, right_half}
+use Rattle.cover_tree.specs.Parts.{InPart, root, left_half, right_half}
 use Rattle.cover_tree.specs.Looking.{seen, part_colour}
 use Rattle.cover_tree.specs.Telling.{IsTold}
 
@@ -21,6 +21,10 @@ differs t step p known c = not (part_colour step.mask t step.row p known.before 
 -- whether it is, and the cell is in the span
 abbrev pub differs_in : Span → Trees → Step → Part → Known → ℕ → Bool
 differs_in span t step p known c = nat_le span.from c && nat_lt c span.to && differs t step p known c
+
+-- it is so of one of these cells
+abbrev pub IsDifferent : ℕ → Span → Trees → Step → Known → ℕ → Type 0
+IsDifferent cells span t step known c = (c < cells) × (differs_in span t step (root cells) known c ≡ true)
 
 -- the layers over each cell of the part are the same in both rows
 pub record IsSteady (t : Trees) (row next : ℕ) (p : Part) : Type 0 where

@@ -30,8 +30,7 @@ impl CoverTree {
     ghost use Rattle.mask_runs.specs.Runs.{IsRun, AreRuns};
     ghost use Rattle.cover_tree.specs.Covers.{IsBare, IsRaised, row_colour, windowed};
     ghost use Rattle.cover_tree.specs.Telling.{IsTold, Gains, Turns, TurnsUnder};
-    ghost use Rattle.cover_tree.specs.Parts.{root};
-    ghost use Rattle.cover_tree.specs.Changing.{differs_in};
+    ghost use Rattle.cover_tree.specs.Changing.{IsDifferent};
     ghost use Rattle.cover_tree.specs.Trees.{cover_of};
 
     /// A tree over a number of cells, of which none is covered.
@@ -163,7 +162,7 @@ impl CoverTree {
 
     // Adds the stretches of the cells in the span whose colours differ.
     fn tell(&self, step: Step, span: Span, known: Known, changed: &mut Vec<Stretch>) -> Result<(), NoMemory>
-        ensures { IfOk result (λ _. IsTold changed.old.items changed.new.items (λ c. (c < self.now.cells) × (differs_in span self.now.trees step (root self.now.cells) known c ≡ true))) }
+        ensures { IfOk result (λ _. IsTold changed.old.items changed.new.items (IsDifferent self.now.cells span self.now.trees step known)) }
     {
         let root = Part::root(self.cells);
         let blank = Stretch { from: 0, to: 0 };
