@@ -7,3 +7,7 @@ pub mod Collecting
 pub mod Alike
 pub mod Going
 pub mod Found
+pub mod Noting
+pub mod Handing
+pub mod Telling
+pub mod Changing

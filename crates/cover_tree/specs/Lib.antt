@@ -5,3 +5,7 @@ pub mod Trees
 pub mod Building
 pub mod Going
 pub mod Looking
+pub mod Kinds
+pub mod Notes
+pub mod Telling
+pub mod Changing

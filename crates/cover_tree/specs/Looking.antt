@@ -30,6 +30,18 @@ seen t row p known c = record {
 abbrev pub part_colour : Mask → Trees → ℕ → Part → Layers → ℕ → ℕ
 part_colour mask t row p known c = colour_of mask (seen t row p known c)
 
+-- the layers that cover the part whose nodes are at this place as a whole, by these nodes
+abbrev pub own_at : Trees → ℕ → ℕ → Layers
+own_at t row k = record {
+  nd = nat_lt row (node t.nd.items k).top;
+  np = nat_lt row (node t.np.items k).top;
+  nc = nat_lt row (node t.nc.items k).top;
+  nm = nat_lt row (node t.nm.items k).top;
+  ni = nat_lt row (node t.ni.items k).top;
+  nb = nat_lt row (node t.nb.items k).top;
+  ng = nat_lt row (node t.ng.items k).top;
+}
+
 -- whether a layer covers the node's part as a whole, and whether it covers any of it
 abbrev pub is_full : Node → ℕ → Bool → Bool
 is_full n row known = known || nat_lt row n.top || nat_lt row n.low

@@ -1,11 +1,15 @@
 //! What the trees tell of a part at once.
 
-ghost use Rattle.std.specs.Prelude.{◌≡◌};
+ghost use Rattle.std.specs.Prelude.{◌≡◌, ◌+◌, ℕ, IsTrue};
 ghost use Rattle.lam_geom.specs.declared.layer.Layer.{Layer};
-ghost use Rattle.cover_tree.specs.Parts.{Sound, node};
+ghost use Rattle.cover_tree.specs.Parts.{InPart, Sound, node};
 ghost use Rattle.cover_tree.specs.Layered.{tree};
-ghost use Rattle.cover_tree.specs.Looking.{IsSight, is_blank, is_full, is_possible, full_at, possible_at};
+ghost use Rattle.mask_runs.specs.Colours.{bare};
+ghost use Rattle.cover_tree.specs.Kinds.{HasKind};
+ghost use Rattle.cover_tree.specs.Notes.{AreNoted};
+ghost use Rattle.cover_tree.specs.Looking.{seen, IsSight, is_blank, is_full, is_possible, full_at, possible_at};
 
+use crate::kinds::Kinds;
 use crate::node::Node;
 use crate::part::Part;
 use crate::trees::Trees;
@@ -41,6 +45,22 @@ pub(crate) fn look(trees: &Trees, line: Line, part: Part, known: Layers) -> Sigh
         return Sight::One(0);
     }
     Sight::Many(bounds.full)
+}
+
+/// Sets of layers among which are those over each cell of the part, by the part's nodes.
+pub(crate) fn kinds_at(trees: &Trees, line: Line, part: Part) -> Kinds
+    requires { AreNoted line.mask trees.now part }
+    ensures all { (c : ℕ) → InPart part c → HasKind line.mask result (seen trees.now line.row part bare c) }
+{
+    Kinds {}
+}
+
+/// Whether the part's note says that nothing changes there from a row to the next.
+pub(crate) fn is_steady(trees: &Trees, mask: Mask, part: Part, row: u32) -> bool
+    requires { AreNoted mask trees.now part }
+    ensures { IsTrue result → (c : ℕ) → InPart part c → seen trees.now row part bare c ≡ seen trees.now (row + 1) part bare c }
+{
+    false
 }
 
 // Whether these layers, and any of them, have no colour.

@@ -3,13 +3,13 @@
 ghost use Rattle.std.specs.Prelude.{◌≡◌, ◌≢◌, ◌*◌, ◌<◌, ◌^◌, IfOk, replicate, if◌then◌else◌};
 ghost use Rattle.lam_geom.specs.declared.layer.Layer.{Layer};
 ghost use Rattle.mask_runs.specs.Colours.{uses};
-ghost use Rattle.cover_tree.specs.Parts.{IsSmall, Sound, IsPartRaised, empty, root};
+ghost use Rattle.cover_tree.specs.Parts.{IsSmall, Sound, IsPartRaised, empty, node, root};
 
 use crate::node::Node;
 use crate::part::{Part, Span};
 use crate::raise::raise_part;
 use lam_geom::Layer;
-use mask_runs::Mask;
+use mask_runs::{Layers, Mask};
 use mp_base::NoMemory;
 use std::alloc::Global;
 
@@ -27,6 +27,7 @@ pub(crate) struct Trees {
 
 impl Trees {
     ghost use Rattle.cover_tree.specs.Layered.{tree, HasRoom};
+    ghost use Rattle.cover_tree.specs.Looking.{own_at};
 
     /// Trees over a number of cells, of which none is covered.
     pub fn new(alloc: Global, mask: Mask, cells: u32) -> Result<Trees, NoMemory>
@@ -63,6 +64,30 @@ impl Trees {
             Layer::NB => raise_part(self.nb.as_mut_slice(), part, span, row),
             Layer::NG => raise_part(self.ng.as_mut_slice(), part, span, row),
         }
+    }
+
+    /// The layers that cover a part as a whole, by its own nodes.
+    pub fn own_at(&self, row: u32, at: usize) -> Layers
+        ensures { result ≡ own_at self.now row at }
+    {
+        Layers {
+            nd: row < top_at(&self.nd, at),
+            np: row < top_at(&self.np, at),
+            nc: row < top_at(&self.nc, at),
+            nm: row < top_at(&self.nm, at),
+            ni: row < top_at(&self.ni, at),
+            nb: row < top_at(&self.nb, at),
+            ng: row < top_at(&self.ng, at),
+        }
+    }
+}
+
+fn top_at(nodes: &[Node], at: usize) -> u32
+    ensures { result ≡ (node nodes.now at).top }
+{
+    match nodes.get(at) {
+        Some(node) => node.top,
+        None => 0,
     }
 }
 
