@@ -50,10 +50,10 @@ changes_more old new from to Is changed now order is back h told =
     let more = told.more in
     let a = told.added in
     let within = λ (s : Stretch) (w : s.from < s.to) (e : (c : ℕ) → s.from ≤ c → c < s.to → Is c). (
-      let p = (is s.from (e s.from (omega arith) w)).0 in
-      let q = (is (s.to - 1) (e (s.to - 1) (omega arith) (omega arith))).1 in
-      let r : (from ≤ s.from) × (s.to ≤ to) = (p, omega arith) in
-      r
+    let p = (is s.from (e s.from (omega arith) w)).0 in
+    let q = (is (s.to - 1) (e (s.to - 1) (omega arith) (omega arith))).1 in
+    let r : (from ≤ s.from) × (s.to ≤ to) = (p, omega arith) in
+    r
     ) in
     subst (AreChanges old new to) (sym told.behind) (record {
       wide = All-append (λ s. s.from < s.to) changed more h.wide a.wide;
@@ -74,9 +74,9 @@ changes_more old new from to Is changed now order is back h told =
       ascending = pairs_append (λ s t. s.to ≤ t.from) changed more h.ascending
           (λ i j d l m. let p = a.apart i j d l m in omega arith)
           (λ i j d l m.
-              let p = h.within i d l in
-              let q = (within (get_or more j d) (a.wide j d m) (a.each j d m)).0 in
-              omega arith);
+          let p = h.within i d l in
+          let q = (within (get_or more j d) (a.wide j d m) (a.each j d m)).0 in
+          omega arith);
     })
 
 -- what isn't told is alike in both rows

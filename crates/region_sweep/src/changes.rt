@@ -39,7 +39,9 @@ pub(crate) fn find_changes(
     let mut from = 0;
     while from < cells {
         begun = begin(blocks, row, from, begun);
-        let to = begun.reach.end(from, next_left(blocks, row, begun.next, from, cells));
+        let to = begun
+            .reach
+            .end(from, next_left(blocks, row, begun.next, from, cells));
         tree.tell_changes(below, begun.reach.layers(from), from, to, changed)?;
         from = to;
     }
@@ -64,7 +66,10 @@ fn begin(blocks: &[Block], row: u32, cell: u32, begun: Begun) -> Begun
     ensures reached { (first : ℕ) → AreReached blocks.now first row cell begun → AreReached blocks.now first row cell result }
 {
     let mut begun = begun;
-    while begun.next < blocks.len() && blocks[begun.next].low <= row && blocks[begun.next].left <= cell {
+    while begun.next < blocks.len()
+        && blocks[begun.next].low <= row
+        && blocks[begun.next].left <= cell
+    {
         let block = blocks[begun.next];
         begun = Begun {
             next: begun.next + 1,

@@ -69,7 +69,10 @@ fn add_stretch(
         return Ok(joined);
     }
     add(windows, window)?;
-    Ok(Window { from, to: stretch.to })
+    Ok(Window {
+        from,
+        to: stretch.to,
+    })
 }
 
 // The window with the runs to the right of its stretches.

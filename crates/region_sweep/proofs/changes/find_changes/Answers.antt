@@ -38,6 +38,6 @@ loop-from-preserved c =
                 z t.order t.within t,
           ))
           (λ z a b n. turns law blocks c.args.cells below c.args.raised from to cover begun gained c.requires.up_to reached later c.end-to.ensures.all
-              c.layers.ensures z a b n)
+          c.layers.ensures z a b n)
           inv.told c.in_ok-tell_changes.ensures;
     }
