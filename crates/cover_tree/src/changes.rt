@@ -67,12 +67,7 @@ pub(crate) fn tell_last(told: &mut Vec<Stretch>, last: Stretch) -> Result<(), Al
 }
 
 // Takes in the cells from `from` up to `to`, and gives the next open stretch.
-fn extend(
-    told: &mut Vec<Stretch>,
-    last: Stretch,
-    from: u32,
-    to: u32,
-) -> Result<Stretch, NoMemory>
+fn extend(told: &mut Vec<Stretch>, last: Stretch, from: u32, to: u32) -> Result<Stretch, NoMemory>
     requires { from < to }
     ensures { IfOk result (λ next. Tells (λ _. true) told.old.items told.new.items last next from to) }
 {

@@ -161,7 +161,13 @@ impl CoverTree {
     }
 
     // Adds the stretches of the cells in the span whose colours differ.
-    fn tell(&self, step: Step, span: Span, known: Known, changed: &mut Vec<Stretch>) -> Result<(), NoMemory>
+    fn tell(
+        &self,
+        step: Step,
+        span: Span,
+        known: Known,
+        changed: &mut Vec<Stretch>,
+    ) -> Result<(), NoMemory>
         ensures { IfOk result (λ _. IsTold changed.old.items changed.new.items (IsDifferent self.now.cells span self.now.trees step known)) }
     {
         let root = Part::root(self.cells);
