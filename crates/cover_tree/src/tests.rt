@@ -90,25 +90,26 @@ fn changes(rt: HostRuntime) -> Result<(), Fail> {
     tree.raise(Layer::ND, 5, 7, 2);
     tree.raise(Layer::NP, 2, 9, 3);
     let mut told = vec![in rt.alloc(); stretch(0, 3)]?;
-    tree.tell_gains(Layer::NP, 0, 12, 0, &mut told)?;
-    tree.tell_gains(Layer::NI, 0, 6, 0, &mut told)?;
-    tree.tell_gains(Layer::ND, 2, 12, 1, &mut told)?;
-    let gains = [
+    let none = Layers::none();
+    tree.tell_changes(0, none.with(Layer::NP), 0, 12, &mut told)?;
+    tree.tell_changes(0, none.with(Layer::NI), 0, 6, &mut told)?;
+    tree.tell_changes(0, none.with(Layer::ND), 2, 12, &mut told)?;
+    tree.advance(1);
+    tree.tell_changes(1, none, 0, 12, &mut told)?;
+    tree.tell_changes(1, none.with(Layer::NB), 0, 6, &mut told)?;
+    tree.tell_changes(2, none, 0, 12, &mut told)?;
+    let changed = [
         stretch(0, 3),
         stretch(1, 2),
         stretch(2, 3),
         stretch(5, 6),
         stretch(3, 5),
         stretch(7, 12),
+        stretch(5, 7),
+        stretch(2, 3),
+        stretch(5, 6),
+        stretch(2, 3),
     ];
-    assert_eq!(rt; told.as_slice(), gains.as_slice());
-    told.clear();
-    tree.advance(1);
-    tree.tell_losses(1, &mut told)?;
-    tree.tell_losses(2, &mut told)?;
-    let buried = Layers::none().with(Layer::NB);
-    tree.tell_changes(1, buried, 0, 6, &mut told)?;
-    let losses = [stretch(5, 7), stretch(2, 3), stretch(2, 3), stretch(5, 6)];
-    assert_eq!(rt; told.as_slice(), losses.as_slice());
+    assert_eq!(rt; told.as_slice(), changed.as_slice());
     Ok(())
 }
