@@ -52,11 +52,11 @@ module _ (is : ℕ → Bool) (base told : List Stretch) (last : Stretch) (end st
             (λ c i j. (omega arith, b.each c i j));
         all = λ c p. elim (cases_lt c last.from) [
           | inl h ↦ let q = b.before.added.all c (h, p.1) in record {
-              stretch = q.stretch;
-              listed = Contains-append_left b.before.more (last ∷ []) q.stretch q.listed;
-              order = q.order;
-              within = q.within;
-            }
+            stretch = q.stretch;
+            listed = Contains-append_left b.before.more (last ∷ []) q.stretch q.listed;
+            order = q.order;
+            within = q.within;
+          }
           | inr h ↦ elim (cases_lt c last.to) [
             | inl k ↦ record { stretch = last; listed = Contains-push b.before.more last; order = h; within = k }
             | inr k ↦ absurd (false≢true (sym (none_after c k p.0) ∙ p.1))

@@ -1,34 +1,25 @@
 -- The changes of the colours of a part's cells, from a row to the next, and what is told of them on the way.
 use Rattle.std.specs.Prelude.{◌≡◌, ◌==◌, ◌&&◌, ℕ, ◌+◌, ◌<◌, ◌≤◌, Bool, true, false, not, List, [], ◌∷◌, ◌++◌, All, nat_lt, nat_le, if◌then◌else◌}
 use Rattle.cover_tree.specs.declared.changes.Known.{Known}
-use Rattle.cover_tree.specs.declared.changes.Step.{Step}
+use Rattle.cover_tree.specs.declared.look.Line.{Line}
 use Rattle.mask_runs.specs.declared.mask.Layers.{Layers}
-use Rattle.mask_runs.specs.Colours.{bare}
 use Rattle.cover_tree.specs.declared.kinds.Effect.{Effect}
 use Rattle.cover_tree.specs.declared.kinds.Effect.TheVariants.{Nowhere, Everywhere, Somewhere}
 use Rattle.cover_tree.specs.declared.part.Part.{Part}
 use Rattle.cover_tree.specs.declared.part.Span.{Span}
 use Rattle.cover_tree.specs.declared.stretch.Stretch.{Stretch}
 use Rattle.cover_tree.specs.declared.trees.Trees.{Trees}
-use Rattle.cover_tree.specs.Parts.{InPart, root, left_half, right_half}
+use Rattle.cover_tree.specs.Parts.{InPart, left_half, right_half}
 use Rattle.cover_tree.specs.Looking.{seen, part_colour}
 use Rattle.cover_tree.specs.Telling.{IsTold}
 
 -- whether the colour of the part's cell is another in the next row
-abbrev pub differs : Trees → Step → Part → Known → ℕ → Bool
-differs t step p known c = not (part_colour step.mask t step.row p known.before c == part_colour step.mask t step.next p known.after c)
+abbrev pub differs : Trees → Line → Part → Known → ℕ → Bool
+differs t line p known c = not (part_colour line.mask t line.row p known.before c == part_colour line.mask t (line.row + 1) p known.after c)
 
 -- whether it is, and the cell is in the span
-abbrev pub differs_in : Span → Trees → Step → Part → Known → ℕ → Bool
-differs_in span t step p known c = nat_le span.from c && nat_lt c span.to && differs t step p known c
-
--- it is so of one of these cells
-abbrev pub IsDifferent : ℕ → Span → Trees → Step → Known → ℕ → Type 0
-IsDifferent cells span t step known c = (c < cells) × (differs_in span t step (root cells) known c ≡ true)
-
--- the layers over each cell of the part are the same in both rows
-pub record IsSteady (t : Trees) (row next : ℕ) (p : Part) : Type 0 where
-  pub each : (c : ℕ) → InPart p c → seen t row p bare c ≡ seen t next p bare c
+abbrev pub differs_in : Span → Trees → Line → Part → Known → ℕ → Bool
+differs_in span t line p known c = nat_le span.from c && nat_lt c span.to && differs t line p known c
 
 -- whether no cell of the part is so, or each, or neither is told and it has halves
 abbrev pub IsChange : (ℕ → Bool) → Part → Effect → Type 0

@@ -1,22 +1,10 @@
 -- Cells whose colours change, told as stretches.
 use Rattle.std.specs.Prelude.{◌≡◌, ◌≢◌, ℕ, ◌+◌, ◌<◌, ◌≤◌, List, ◌++◌, All, AllPairs, Contains}
-use Rattle.lam_geom.specs.declared.layer.Layer.{Layer}
 use Rattle.mask_runs.specs.declared.mask.Layers.{Layers}
-use Rattle.mask_runs.specs.Colours.{with, colour_of}
+use Rattle.mask_runs.specs.Colours.{colour_of}
 use Rattle.cover_tree.specs.declared.stretch.Stretch.{Stretch}
 use Rattle.cover_tree.specs.Covers.{Cover, layers_at, row_colour}
 use Rattle.cover_tree.specs.Kinds.{both}
-
--- a cell from `from` up to `to` would have another colour in the row, if the layer covered it too
-pub record Gains (cover : Cover) (layer : Layer) (from to row c : ℕ) : Type 0 where
-  pub order : from ≤ c
-  pub within : c < to
-  pub another : colour_of cover.mask (with (layers_at cover row c) layer) ≢ row_colour cover row c
-
--- the cell's colour in the next row is another than in this one
-pub record Turns (cover : Cover) (row c : ℕ) : Type 0 where
-  pub within : c < cover.cells
-  pub another : row_colour cover (row + 1) c ≢ row_colour cover row c
 
 -- a cell from `from` up to `to` has another colour in the next row than in this one, if these layers cover it there too
 pub record TurnsUnder (cover : Cover) (gained : Layers) (from to row c : ℕ) : Type 0 where

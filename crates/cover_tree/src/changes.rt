@@ -1,27 +1,18 @@
 //! The cells of a part whose colours change.
 
-ghost use Rattle.std.specs.Bool.{OnTrue};
-ghost use Rattle.std.specs.Prelude.{◌≡◌, ◌+◌, ◌<◌, ◌≤◌, true, IfOk};
+ghost use Rattle.std.specs.Prelude.{◌≡◌, ◌+◌, ◌<◌, ◌^◌, true, IfOk};
 ghost use Rattle.cover_tree.specs.Parts.{IsSmall};
 ghost use Rattle.cover_tree.specs.Notes.{AreNoted};
-ghost use Rattle.cover_tree.specs.Changing.{IsChange, IsHandedDown, IsSteady, Tells, differs, differs_in, with_last};
+ghost use Rattle.cover_tree.specs.Changing.{IsChange, IsHandedDown, Tells, differs, differs_in, with_last};
 
 use crate::kinds::{Effect, both};
 use crate::look::{Line, is_steady, kinds_at};
 use crate::part::{Part, Span};
 use crate::stretch::Stretch;
 use crate::trees::Trees;
-use mask_runs::{Layers, Mask};
+use mask_runs::Layers;
 use mp_base::NoMemory;
 use std::alloc::AllocError;
-
-/// Two rows of a mask that are compared: `next` is the row itself or the one after it.
-#[derive(Clone, Copy)]
-pub(crate) struct Step {
-    pub mask: Mask,
-    pub row: u32,
-    pub next: u32,
-}
 
 /// The layers that cover a part as a whole, in the row and in the next.
 #[derive(Clone, Copy)]
@@ -30,11 +21,11 @@ pub(crate) struct Known {
     pub after: Layers,
 }
 
-/// Adds the stretches of the part's cells in the span whose colours differ, of which `last` is open, and gives the next
-/// open one.
+/// Adds the stretches of the part's cells in the span whose colours change from the row to the next, of which `last` is open,
+/// and gives the next open one.
 pub(crate) fn tell_part(
     trees: &Trees,
-    step: Step,
+    line: Line,
     span: Span,
     part: Part,
     known: Known,
@@ -42,16 +33,17 @@ pub(crate) fn tell_part(
     told: &mut Vec<Stretch>,
 ) -> Result<Stretch, NoMemory>
     requires small { IsSmall part }
-    requires noted { AreNoted step.mask trees.now part }
-    ensures { IfOk result (λ next. Tells (differs_in span trees.now step part known) told.old.items told.new.items last next part.base (part.base + part.width)) }
+    requires room { line.row + 1 < 2 ^ 32 }
+    requires noted { AreNoted line.mask trees.now part }
+    ensures { IfOk result (λ next. Tells (differs_in span trees.now line part known) told.old.items told.new.items last next part.base (part.base + part.width)) }
 {
-    match change_in(trees, step, span, part, known) {
+    match change_in(trees, line, span, part, known) {
         Effect::Nowhere => Ok(last),
         Effect::Everywhere => extend(told, last, part.base, part.end()),
         Effect::Somewhere => {
-            let down = handed_down(trees, step, part, known);
-            let middle = tell_part(trees, step, span, part.left(), down, last, told)?;
-            tell_part(trees, step, span, part.right(), down, middle, told)
+            let down = handed_down(trees, line, part, known);
+            let middle = tell_part(trees, line, span, part.left(), down, last, told)?;
+            tell_part(trees, line, span, part.right(), down, middle, told)
         }
     }
 }
@@ -67,12 +59,7 @@ pub(crate) fn tell_last(told: &mut Vec<Stretch>, last: Stretch) -> Result<(), Al
 }
 
 // Takes in the cells from `from` up to `to`, and gives the next open stretch.
-fn extend(
-    told: &mut Vec<Stretch>,
-    last: Stretch,
-    from: u32,
-    to: u32,
-) -> Result<Stretch, NoMemory>
+fn extend(told: &mut Vec<Stretch>, last: Stretch, from: u32, to: u32) -> Result<Stretch, NoMemory>
     requires { from < to }
     ensures { IfOk result (λ next. Tells (λ _. true) told.old.items told.new.items last next from to) }
 {
@@ -83,11 +70,12 @@ fn extend(
     Ok(Stretch { from, to })
 }
 
-// Whether none or all of the part's cells are in the span and have colours that differ.
-fn change_in(trees: &Trees, step: Step, span: Span, part: Part, known: Known) -> Effect
+// Whether none or all of the part's cells are in the span and change their colours.
+fn change_in(trees: &Trees, line: Line, span: Span, part: Part, known: Known) -> Effect
     requires small { IsSmall part }
-    requires noted { AreNoted step.mask trees.now part }
-    ensures { IsChange (differs_in span trees.now step part known) part result }
+    requires room { line.row + 1 < 2 ^ 32 }
+    requires noted { AreNoted line.mask trees.now part }
+    ensures { IsChange (differs_in span trees.now line part known) part result }
 {
     let from = span.clamped(part.base);
     let to = span.clamped(part.end());
@@ -97,52 +85,39 @@ fn change_in(trees: &Trees, step: Step, span: Span, part: Part, known: Known) ->
     if to - from < part.width {
         return Effect::Somewhere;
     }
-    change_of(trees, step, part, known)
+    change_of(trees, line, part, known)
 }
 
-// Whether none or all of the part's cells have colours that differ.
-fn change_of(trees: &Trees, step: Step, part: Part, known: Known) -> Effect
-    requires { AreNoted step.mask trees.now part }
-    ensures { IsChange (differs trees.now step part known) part result }
+// Whether none or all of the part's cells change their colours.
+fn change_of(trees: &Trees, line: Line, part: Part, known: Known) -> Effect
+    requires room { line.row + 1 < 2 ^ 32 }
+    requires noted { AreNoted line.mask trees.now part }
+    ensures { IsChange (differs trees.now line part known) part result }
 {
     if part.width < 2 {
-        let down = handed_down(trees, step, part, known);
-        if step.mask.colour(down.before) == step.mask.colour(down.after) {
+        let down = handed_down(trees, line, part, known);
+        if line.mask.colour(down.before) == line.mask.colour(down.after) {
             return Effect::Nowhere;
         }
         return Effect::Everywhere;
     }
-    if !stays(trees, step, part) {
+    if !is_steady(trees, line.mask, part, line.row) {
         return Effect::Somewhere;
     }
     if known.before == known.after {
         return Effect::Nowhere;
     }
-    let line = Line {
-        mask: step.mask,
-        row: step.row,
-    };
-    kinds_at(trees, line, part).effect(step.mask, known.before, known.after)
-}
-
-// Whether it is known that the layers over the part's cells are the same in both rows.
-fn stays(trees: &Trees, step: Step, part: Part) -> bool
-    requires { AreNoted step.mask trees.now part }
-    ensures { OnTrue result (IsSteady trees.now step.row step.next part) }
-{
-    if step.row < step.next && step.next - step.row == 1 {
-        return is_steady(trees, step.mask, part, step.row);
-    }
-    step.row == step.next
+    kinds_at(trees, line, part).effect(line.mask, known.before, known.after)
 }
 
 // The layers that cover the part as a whole, by its nodes too.
-fn handed_down(trees: &Trees, step: Step, part: Part, known: Known) -> Known
-    ensures before { IsHandedDown trees.now step.row part known.before result.before }
-    ensures after { IsHandedDown trees.now step.next part known.after result.after }
+fn handed_down(trees: &Trees, line: Line, part: Part, known: Known) -> Known
+    requires { line.row + 1 < 2 ^ 32 }
+    ensures before { IsHandedDown trees.now line.row part known.before result.before }
+    ensures after { IsHandedDown trees.now (line.row + 1) part known.after result.after }
 {
     Known {
-        before: both(known.before, trees.own_at(step.row, part.at)),
-        after: both(known.after, trees.own_at(step.next, part.at)),
+        before: both(known.before, trees.own_at(line.row, part.at)),
+        after: both(known.after, trees.own_at(line.row + 1, part.at)),
     }
 }

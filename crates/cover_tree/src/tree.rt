@@ -2,7 +2,7 @@
 
 ghost use Rattle.cover_tree.specs.Layered.{AreSound};
 
-use crate::changes::{Known, Step, tell_last, tell_part};
+use crate::changes::{Known, tell_last, tell_part};
 use crate::collect::{close, collect_part};
 use crate::look::Line;
 use crate::nearest::{colour_at, end_of, start_of};
@@ -29,8 +29,7 @@ impl CoverTree {
     ghost use Rattle.mask_runs.specs.Colours.{uses};
     ghost use Rattle.mask_runs.specs.Runs.{IsRun, AreRuns};
     ghost use Rattle.cover_tree.specs.Covers.{IsBare, IsRaised, row_colour, windowed};
-    ghost use Rattle.cover_tree.specs.Telling.{IsTold, Gains, Turns, TurnsUnder};
-    ghost use Rattle.cover_tree.specs.Changing.{IsDifferent};
+    ghost use Rattle.cover_tree.specs.Telling.{IsTold, TurnsUnder};
     ghost use Rattle.cover_tree.specs.Trees.{cover_of};
 
     /// A tree over a number of cells, of which none is covered.
@@ -84,57 +83,9 @@ impl CoverTree {
         ensures { cover_of self.new ≡ cover_of self.old }
     {}
 
-    /// Adds the stretches of the cells from `from` up to `to` whose colour in the row would be another if the layer covered
-    /// them all, from left to right. Where memory is wanting the list may have any stretches more.
-    pub fn tell_gains(
-        &self,
-        layer: Layer,
-        from: u32,
-        to: u32,
-        row: u32,
-        changed: &mut Vec<Stretch>,
-    ) -> Result<(), NoMemory>
-        requires { to ≤ (cover_of self.now).cells }
-        ensures { IfOk result (λ _. IsTold changed.old.items changed.new.items (Gains (cover_of self.now) layer from to row)) }
-    {
-        let step = Step {
-            mask: self.mask,
-            row,
-            next: row,
-        };
-        let bare = Layers::none();
-        let known = Known {
-            before: bare,
-            after: bare.with(layer),
-        };
-        self.tell(step, Span { from, to }, known, changed)
-    }
-
-    /// Adds the stretches of the cells whose colour in the next row is another than in this one, from left to right. Where
-    /// memory is wanting the list may have any stretches more.
-    pub fn tell_losses(&self, row: u32, changed: &mut Vec<Stretch>) -> Result<(), NoMemory>
-        requires { row + 1 < 2 ^ 32 }
-        ensures { IfOk result (λ _. IsTold changed.old.items changed.new.items (Turns (cover_of self.now) row)) }
-    {
-        let step = Step {
-            mask: self.mask,
-            row,
-            next: row + 1,
-        };
-        let all = Span {
-            from: 0,
-            to: self.cells,
-        };
-        let bare = Layers::none();
-        let known = Known {
-            before: bare,
-            after: bare,
-        };
-        self.tell(step, all, known, changed)
-    }
-
     /// Adds the stretches of the cells from `from` up to `to` whose colour in the next row is another than in this one, if
-    /// these layers cover them all there besides, from left to right. Where memory is wanting the list may have any
+    /// these layers cover them all there besides, from left to right. Its time is that of these stretches and of the places
+    /// where a layer ends above the row, times the logarithm of the cells. Where memory is wanting the list may have any
     /// stretches more.
     pub fn tell_changes(
         &self,
@@ -148,25 +99,18 @@ impl CoverTree {
         requires within { to ≤ (cover_of self.now).cells }
         ensures { IfOk result (λ _. IsTold changed.old.items changed.new.items (TurnsUnder (cover_of self.now) gained from to row)) }
     {
-        let step = Step {
+        let line = Line {
             mask: self.mask,
             row,
-            next: row + 1,
         };
+        let span = Span { from, to };
         let known = Known {
             before: Layers::none(),
             after: gained,
         };
-        self.tell(step, Span { from, to }, known, changed)
-    }
-
-    // Adds the stretches of the cells in the span whose colours differ.
-    fn tell(&self, step: Step, span: Span, known: Known, changed: &mut Vec<Stretch>) -> Result<(), NoMemory>
-        ensures { IfOk result (λ _. IsTold changed.old.items changed.new.items (IsDifferent self.now.cells span self.now.trees step known)) }
-    {
         let root = Part::root(self.cells);
         let blank = Stretch { from: 0, to: 0 };
-        let last = tell_part(&self.trees, step, span, root, known, blank, changed)?;
+        let last = tell_part(&self.trees, line, span, root, known, blank, changed)?;
         tell_last(changed, last)?;
         Ok(())
     }

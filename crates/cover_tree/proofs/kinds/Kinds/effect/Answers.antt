@@ -1,4 +1,4 @@
-use Rattle.std.proofs.Common.{◌≡◌, sym, ◌∙◌, ap}
+use Rattle.std.proofs.Common.{sym, ◌∙◌, ap}
 use Rattle.mask_runs.specs.Colours.{colour_of}
 use Rattle.cover_tree.specs.Kinds.{both}
 use Rattle.cover_tree.proofs.Alike.{same_layers}
