@@ -1,5 +1,5 @@
 -- The layers that begin in a row.
-use Rattle.std.proofs.Common.{ℕ, ◌≡◌, ◌≢◌, ◌+◌, ◌<◌, ◌≤◌, ◌⊎◌, ◌||◌, List, inl, inr, refl, sym, ◌∙◌, ap, subst, arith, length, eq-or-lt_of_le, max}
+use Rattle.std.proofs.Common.{ℕ, ◌≡◌, ◌≢◌, ◌+◌, ◌<◌, ◌≤◌, ◌⊎◌, ◌||◌, List, inl, inr, refl, sym, ◌∙◌, ap, subst, arith, length, eq-or-lt_of_le}
 use Rattle.std.specs.Prelude.{nat_lt}
 use Rattle.std.specs.Bool.{Decides}
 use Rattle.std.proofs.lemmas.Bool.Decides.{Decides-like, Decides-or, Decides-ltb, same_from_decides}
@@ -12,15 +12,12 @@ use Rattle.mask_runs.specs.Laws.{ColoursByLayers}
 use Rattle.cover_tree.specs.Covers.{Cover, layers_at, row_colour}
 use Rattle.cover_tree.specs.Kinds.{both}
 use Rattle.cover_tree.specs.Telling.{TurnsUnder}
-use Rattle.cover_tree.specs.declared.stretch.Stretch.{Stretch}
 use Rattle.region_sweep.specs.declared.block.Block.{Block}
 use Rattle.region_sweep.specs.declared.changes.Begun.{Begun}
-use Rattle.region_sweep.specs.declared.reach.Reach.{Reach}
-use Rattle.region_sweep.specs.Blocks.{painted, is_covered}
+use Rattle.region_sweep.specs.Blocks.{painted}
 use Rattle.region_sweep.specs.Rows.{block, IsUpTo}
 use Rattle.region_sweep.specs.Begins.{reach_of, ReachesPast, IsReached, AreReached}
 use Rattle.region_sweep.proofs.Painting.{Covered, covered_decides, has_at, painted_is, row_painted}
-use Rattle.region_sweep.proofs.Squares.{layer_or_not}
 
 has_both : (a b : Layers) (l : Layer) → has (both a b) l ≡ (has a l || has b l)
 has_both a b ND = refl

@@ -1,11 +1,11 @@
 -- The stretches of cells whose colours change.
-use Rattle.std.proofs.Common.{ℕ, ◌≡◌, ◌≢◌, ◌+◌, ◌-◌, ◌<◌, ◌≤◌, List, [], ◌++◌, inl, inr, sym, ◌∙◌, subst, arith, length, get_or, length-append, refl}
-use Rattle.std.specs.Prelude.{All, AllPairs, Contains}
+use Rattle.std.proofs.Common.{ℕ, ◌≡◌, ◌≢◌, ◌+◌, ◌-◌, ◌<◌, ◌≤◌, List, ◌++◌, inl, inr, sym, ◌∙◌, subst, arith, length, get_or, length-append, refl}
+use Rattle.std.specs.Prelude.{AllPairs, Contains}
 use Rattle.std.proofs.lemmas.Bool.{cases_lt, cases_eq}
 use Rattle.std.proofs.lemmas.List.{get_or_default, get_or_append_left, get_or-append_right}
 use Rattle.std.proofs.lemmas.List.Elements.{All-append, All-weaker, Contains-append_right}
 use Rattle.cover_tree.specs.declared.stretch.Stretch.{Stretch}
-use Rattle.cover_tree.specs.Telling.{IsTold, AreStretches}
+use Rattle.cover_tree.specs.Telling.{IsTold}
 use Rattle.row_windows.specs.Windows.{stretch, no_stretch, Touches, ChangeAt, AreFit}
 use Rattle.region_sweep.specs.Begins.{AreChanges}
 

@@ -1,5 +1,5 @@
 -- One stretch of cells with the same layers after another.
-use Rattle.std.proofs.Common.{ℕ, ◌≡◌, ◌≢◌, ◌+◌, ◌<◌, ◌≤◌, arith, length}
+use Rattle.std.proofs.Common.{ℕ, ◌+◌, ◌<◌, ◌≤◌, arith, length}
 use Rattle.cover_tree.specs.Covers.{Cover}
 use Rattle.cover_tree.specs.Telling.{TurnsUnder}
 use Rattle.cover_tree.specs.Trees.{cover_of}

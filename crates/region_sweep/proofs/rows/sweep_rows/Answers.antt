@@ -1,9 +1,9 @@
 -- Row by row.
-use Rattle.std.proofs.Common.{ℕ, ◌≡◌, ◌+◌, ◌≤◌, ◌<◌, sym, ◌∙◌, subst, arith, length}
+use Rattle.std.proofs.Common.{ℕ, ◌+◌, ◌≤◌, ◌<◌, sym, ◌∙◌, subst, arith, length}
 use Rattle.cover_tree.specs.Trees.{cover_of}
 use Rattle.strip_rows.specs.Changes.{LieInRow, IsChange}
 use Rattle.strip_rows.specs.Swept.{strips_of, cells_of}
-use Rattle.row_windows.specs.Windows.{AreFit, ChangeAt}
+use Rattle.row_windows.specs.Windows.{AreFit}
 use Rattle.region_sweep.specs.Begins.{AreChanges}
 use Rattle.region_sweep.specs.Blocks.{painted}
 use Rattle.region_sweep.specs.Rows.{AreAnswered, IsUpTo}
