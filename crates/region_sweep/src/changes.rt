@@ -14,7 +14,8 @@ use mask_runs::colours_by_layers;
 use mp_base::NoMemory;
 
 /// The cells whose colours change from the row `below` to the next one, in place of the stretches that the list has, from
-/// left to right. The tree has the row `below`, up to which the first `raised` blocks begin.
+/// left to right. The tree has the row `below`, up to which the first `raised` blocks begin. The time is that of the blocks
+/// that begin or end in the next row and of the stretches, times the logarithm of the cells.
 pub(crate) fn find_changes(
     tree: &CoverTree,
     cells: u32,
