@@ -2,9 +2,10 @@
 #![tactic(auto)]
 
 mod collect;
+mod kinds;
 mod look;
 mod nearest;
-mod node;
+mod note;
 mod part;
 mod raise;
 #[cfg(test)]

@@ -1,11 +1,12 @@
 //! The tree.
 
-ghost use Rattle.cover_tree.specs.Layered.{AreSound};
+ghost use Rattle.cover_tree.specs.Notes.{AreSound};
 
 use crate::collect::{close, collect_part};
 use crate::look::Line;
 use crate::nearest::{colour_at, end_of, start_of};
 use crate::part::{Part, Span};
+use crate::raise::raise_part;
 use crate::trees::Trees;
 use lam_geom::Layer;
 use mask_runs::{Layers, Mask, Run};
@@ -13,7 +14,7 @@ use mp_base::NoMemory;
 use std::alloc::Global;
 
 /// Up to which row the layers of a mask cover each of a row of cells: a tree of halves for each layer that the mask uses,
-/// of 24 bytes a cell. What covers a part of the cells as a whole is kept at the part.
+/// of 8 bytes a cell, and notes of 16. What covers a part of the cells as a whole is kept at the part.
 #[derive(Drop)]
 pub struct CoverTree {
     mask: Mask,
@@ -47,7 +48,17 @@ impl CoverTree {
         ensures { IsRaised (cover_of self.old) (cover_of self.new) layer from to row }
     {
         let root = Part::root(self.cells);
-        self.trees.raise(layer, root, Span { from, to }, row);
+        let span = Span { from, to };
+        raise_part(&mut self.trees, self.mask, layer, root, span, row);
+    }
+
+    /// Makes the rows from this one on those that are quick to look at, until the next call. Its time is that of the ends that
+    /// lie between this row and that of the last call, times the logarithm of the cells.
+    pub fn advance(&mut self, row: u32)
+        ensures { cover_of self.new ≡ cover_of self.old }
+    {
+        let root = Part::root(self.cells);
+        self.trees.advance(self.mask, root, row);
     }
 
     /// The runs of a row among the cells from `from` up to `to`, from left to right, in place of those that the list has; a
