@@ -42,6 +42,12 @@ index mask s = bit s.nd + 2 * bit s.np + 4 * bit s.nb + 8 * bit (has s (further 
 pub record HasKind (mask : Mask) (kinds : Kinds) (s : Layers) : Type 0 where
   pub set : bit_at kinds.bits (index mask s) ≡ 1
 
+-- the set is one of the kinds with these layers besides
+pub record IsWith (mask : Mask) (kinds : Kinds) (own s : Layers) : Type 0 where
+  pub kind : Layers
+  pub has : HasKind mask kinds kind
+  pub same : index mask s ≡ index mask (both own kind)
+
 -- the kinds are the first one and the rest
 pub record IsSplit (mask : Mask) (kinds : Kinds) (first : Layers) (rest : Kinds) : Type 0 where
   pub less : rest.bits < kinds.bits

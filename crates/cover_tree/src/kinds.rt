@@ -5,7 +5,7 @@ ghost use Rattle.lam_geom.specs.declared.layer.Layer.{Layer};
 ghost use Rattle.mask_runs.specs.declared.mask.Layers.{Layers};
 ghost use Rattle.mask_runs.specs.declared.mask.Mask.{Mask};
 ghost use Rattle.mask_runs.specs.Colours.{colour_of};
-ghost use Rattle.cover_tree.specs.Kinds.{bit, both, further, index, HasKind, IsSplit, IsEffect, AreOneColour, IsKept, Keeps};
+ghost use Rattle.cover_tree.specs.Kinds.{bit, both, further, index, HasKind, IsWith, IsSplit, IsEffect, AreOneColour, IsKept, Keeps};
 
 use lam_geom::Layer;
 use mask_runs::{Layers, Mask};
@@ -53,7 +53,7 @@ impl Kinds {
 
     /// The sets with these layers besides.
     pub fn with(self, mask: Mask, own: Layers) -> Kinds
-        ensures { (s : Layers) → HasKind mask self s → HasKind mask result (both own s) }
+        ensures { (s : Layers) → HasKind mask result s ↔ IsWith mask self own s }
     {
         match self.split_first(mask) {
             None => self,

@@ -1,4 +1,3 @@
-use Rattle.std.proofs.Common.{sym, ◌∙◌, ◌≤◌, arith}
 use Rattle.cover_tree.proofs.Looking.{leaf_colour, halved}
 use Rattle.cover_tree.proofs.look.look.Goals as goal
 

@@ -1,4 +1,4 @@
-use Rattle.std.proofs.Common.{◌≡◌, refl, sym, ◌∙◌}
+use Rattle.std.proofs.Common.{◌≡◌, refl, sym}
 use Rattle.mask_runs.specs.Colours.{colour_of}
 use Rattle.cover_tree.specs.Kinds.{both, IsSplit}
 use Rattle.cover_tree.proofs.Sets.{all_colour}

@@ -1,4 +1,4 @@
-use Rattle.std.proofs.Common.{refl, sym, ◌∙◌, true, false, Bool}
+use Rattle.std.proofs.Common.{refl, true, false, Bool}
 use Rattle.std.proofs.lemmas.Bool.{both_ways}
 use Rattle.cover_tree.specs.Kinds.{IsSplit, Keeps}
 use Rattle.cover_tree.proofs.Sets.{all_keep, mixed}

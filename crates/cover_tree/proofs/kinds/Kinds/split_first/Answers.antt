@@ -1,4 +1,4 @@
-use Rattle.std.proofs.Common.{◌<◌, w32, arith}
+use Rattle.std.proofs.Common.{w32, arith}
 use Rattle.std.specs.Int.{trailing_zeros}
 use Rattle.std.proofs.lemmas.Nat.{and_le_l}
 use Rattle.std.proofs.lemmas.Nat.Bits.{bit_at-trailing_zeros, bit_at_clear_same, bit_at_clear_other}
