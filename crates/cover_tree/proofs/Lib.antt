@@ -8,3 +8,6 @@ pub mod Going
 pub mod Found
 pub mod Sets
 pub mod Noting
+pub mod Telling
+pub mod Changing
+pub mod Alike

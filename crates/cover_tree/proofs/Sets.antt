@@ -65,9 +65,9 @@ same_digits a b c d e f g h i j k l m n o p q r s t u = record {
 same_layers : (mask : Mask) (s r : Layers) → index mask s ≡ index mask r → IsSame mask s r
 same_layers mask s r e =
     let d = same_digits (bit s.nd) (bit s.np) (bit s.nb) (bit (has s (further mask))) (bit s.nm)
-        (bit r.nd) (bit r.np) (bit r.nb) (bit (has r (further mask))) (bit r.nm)
-        (bit_small s.nd) (bit_small s.np) (bit_small s.nb) (bit_small (has s (further mask))) (bit_small s.nm)
-        (bit_small r.nd) (bit_small r.np) (bit_small r.nb) (bit_small (has r (further mask))) (bit_small r.nm) e in
+    (bit r.nd) (bit r.np) (bit r.nb) (bit (has r (further mask))) (bit r.nm)
+    (bit_small s.nd) (bit_small s.np) (bit_small s.nb) (bit_small (has s (further mask))) (bit_small s.nm)
+    (bit_small r.nd) (bit_small r.np) (bit_small r.nb) (bit_small (has r (further mask))) (bit_small r.nm) e in
     record {
       nd = same_bit s.nd r.nd d.first;
       np = same_bit s.np r.np d.second;

@@ -7,3 +7,5 @@ pub mod Going
 pub mod Kinds
 pub mod Looking
 pub mod Notes
+pub mod Telling
+pub mod Changing

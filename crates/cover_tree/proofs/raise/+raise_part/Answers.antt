@@ -33,9 +33,16 @@ raise_part-requires t c =
     let h : 2 ≤ c.args.part.width = omega arith in
     let a = c.requires.room.tops in
     let b = c.requires.room.notes in
-    rw c.left.ensures
-    (omega arith, (small_left c.args.part h c.requires.small, (record { tops = omega arith; notes = omega arith },
-    noted_left c.args.mask c.args.trees.now c.args.part h c.requires.noted)))
+    rw c.left.ensures (
+      omega arith,
+      (
+        small_left c.args.part h c.requires.small,
+        (
+          record { tops = omega arith; notes = omega arith },
+          noted_left c.args.mask c.args.trees.now c.args.part h c.requires.noted,
+        ),
+      ),
+    )
 
 -- src/raise.rt
 pub raise_part-requires-2 : goal.raise_part-requires-2
@@ -46,9 +53,16 @@ raise_part-requires-2 t c =
     let l : IsOnlyIn (left_half c.args.part) c.args.trees.now c.raise_part.new.trees = rw (← c.left.ensures) c.raise_part.ensures.only in
     let m = l.as_many c.args.layer in
     let n = l.as_many_notes in
-    rw c.right.ensures
-    (omega arith, (small_right c.args.part h c.requires.small, (record { tops = omega arith; notes = omega arith },
-    right_noted c.args.trees.now c.raise_part.new.trees c.args.part h l c.args.mask c.requires.noted)))
+    rw c.right.ensures (
+      omega arith,
+      (
+        small_right c.args.part h c.requires.small,
+        (
+          record { tops = omega arith; notes = omega arith },
+          right_noted c.args.trees.now c.raise_part.new.trees c.args.part h l c.args.mask c.requires.noted,
+        ),
+      ),
+    )
 
 -- src/raise.rt
 pub sum_up-requires-2-clause-halves : goal.sum_up-requires-2-clause-halves

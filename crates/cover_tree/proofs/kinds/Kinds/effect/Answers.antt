@@ -9,7 +9,7 @@ pub returns-then-not-keep : goal.returns-then-not-keep
 returns-then-not-keep c =
     let d : IsSplit c.args.mask c.args.self c.in-Some.first c.in-Some.rest = rw (← c.in-Some.first-is, ← c.in-Some.rest-is) c.in-Some.ensures.some in
     let n : (same : Bool) → ¬ Keeps c.args.mask c.args.self c.args.old c.args.new same = mixed c.args.mask c.args.self c.in-Some.rest c.in-Some.first
-        c.args.old c.args.new c.is_kept-same.result d c.is_kept-same.ensures (λ h. both_ways false refl (c.if-not-keep.ensures.1 h)) in
+    c.args.old c.args.new c.is_kept-same.result d c.is_kept-same.ensures (λ h. both_ways false refl (c.if-not-keep.ensures.1 h)) in
     (n true, n false)
 
 -- src/kinds.rt

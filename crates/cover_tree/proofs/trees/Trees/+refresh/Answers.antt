@@ -21,9 +21,16 @@ refresh-requires-2 t c =
     let b = c.requires.room in
     let l : IsOnlyIn (left_half c.args.part) c.args.self.now c.refresh.new.self = rw (← c.left.ensures) c.refresh.ensures.only in
     let n = l.as_many_notes in
-    rw c.right.ensures
-    (omega arith, (small_right c.args.part h c.requires.small, (omega arith,
-    right_noted c.args.self.now c.refresh.new.self c.args.part h l c.args.mask c.requires.noted)))
+    rw c.right.ensures (
+      omega arith,
+      (
+        small_right c.args.part h c.requires.small,
+        (
+          omega arith,
+          right_noted c.args.self.now c.refresh.new.self c.args.part h l c.args.mask c.requires.noted,
+        ),
+      ),
+    )
 
 -- src/trees.rt
 pub sum_up-requires-2-clause-halves : goal.sum_up-requires-2-clause-halves

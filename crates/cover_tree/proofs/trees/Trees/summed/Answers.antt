@@ -16,7 +16,7 @@ pub returns : goal.returns
 returns c =
     let h : 2 ≤ c.args.part.width = c.if-part-lt2.false in
     let has = λ (s : Layers) (k : HasKind c.args.mask c.union.result s).
-        rw c.own_at-own.ensures at ((c.with.ensures (both c.own_at-own.result s)).1 (record { kind = s; has = k; same = refl })) in
+    rw c.own_at-own.ensures at ((c.with.ensures (both c.own_at-own.result s)).1 (record { kind = s; has = k; same = refl })) in
     halves_note c.args.mask c.args.self.now c.args.part _ c.note_at-left.result c.note_at-right.result h
     (λ row i j. c.own_until-until.ensures row i (omega arith))
     (rw (c.note_at-left.ensures, c.left.ensures) ((c.requires.halves.left h).each (left_half c.args.part) here))
