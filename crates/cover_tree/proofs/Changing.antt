@@ -18,11 +18,12 @@ use Rattle.cover_tree.specs.declared.trees.Trees.{Trees}
 use Rattle.cover_tree.specs.Covers.{layers_at}
 use Rattle.cover_tree.specs.Parts.{InPart, root, left_half, right_half, top_of}
 use Rattle.cover_tree.specs.Layered.{cover}
-use Rattle.cover_tree.specs.Looking.{seen}
+use Rattle.cover_tree.specs.Looking.{seen, own_at}
 use Rattle.cover_tree.specs.Kinds.{both, HasKind, IsEffect}
 use Rattle.cover_tree.specs.Telling.{TurnsUnder, IsTold}
 use Rattle.cover_tree.specs.Changing.{IsChange, IsHandedDown, Tells, differs, differs_in, with_last}
 use Rattle.cover_tree.proofs.Found.{root_colour}
+use Rattle.cover_tree.proofs.Looking.{seen_leaf, seen_left, seen_right}
 use Rattle.cover_tree.proofs.Telling.{alike, in_turn, told_same, blank, all_told}
 
 -- whether two sets of layers have other colours
@@ -54,6 +55,14 @@ module _ (t : Trees) (line : Line) (span : Span) (p : Part) (known down : Known)
       in_turn own old mid now last middle next p.base half end (omega arith) (omega arith)
       (alike _ own old mid last middle p.base half (λ c h k. left_differs c w (record { from = h; to = k })) l)
       (alike _ own mid now middle next half end (λ c h k. right_differs c w (record { from = h; to = omega arith })) r2)
+
+-- the layers over the halves of a part
+pub handed_down : (t : Trees) (p : Part) (row : ℕ) (known : Layers) → IsHandedDown t row p known (both known (own_at t row p.at))
+handed_down t p row known = record {
+  left = λ c h i. let k = i.to in sym (seen_left t p row known c h k);
+  right = λ c h i. let k = i.from in sym (seen_right t p row known c h k);
+  leaf = λ c h i. seen_leaf t p row known c h;
+}
 
 -- a part whose layers are the same in both rows: all depends on those that cover it as a whole
 module _ (t : Trees) (line : Line) (p : Part) (known : Known) (s : (c : ℕ) → InPart p c → seen t line.row p bare c ≡ seen t (line.row + 1) p bare c) where

@@ -1,12 +1,13 @@
 //! The tree.
 
-ghost use Rattle.cover_tree.specs.Layered.{AreSound};
+ghost use Rattle.cover_tree.specs.Notes.{AreSound};
 
 use crate::changes::{Known, tell_last, tell_part};
 use crate::collect::{close, collect_part};
 use crate::look::Line;
 use crate::nearest::{colour_at, end_of, start_of};
 use crate::part::{Part, Span};
+use crate::raise::raise_part;
 use crate::stretch::Stretch;
 use crate::trees::Trees;
 use lam_geom::Layer;
@@ -15,7 +16,7 @@ use mp_base::NoMemory;
 use std::alloc::Global;
 
 /// Up to which row the layers of a mask cover each of a row of cells: a tree of halves for each layer that the mask uses,
-/// of 24 bytes a cell. What covers a part of the cells as a whole is kept at the part.
+/// of 8 bytes a cell, and notes of 16. What covers a part of the cells as a whole is kept at the part.
 #[derive(Drop)]
 pub struct CoverTree {
     mask: Mask,
@@ -50,12 +51,23 @@ impl CoverTree {
         ensures { IsRaised (cover_of self.old) (cover_of self.new) layer from to row }
     {
         let root = Part::root(self.cells);
-        self.trees.raise(layer, root, Span { from, to }, row);
+        let span = Span { from, to };
+        raise_part(&mut self.trees, self.mask, layer, root, span, row);
+    }
+
+    /// Takes the rows before this one as past: from now on those from it on are quick to look at. The cells stay covered as they
+    /// are. Its time is that of the places where a layer ends since the last call, times the logarithm of the cells.
+    pub fn advance(&mut self, row: u32)
+        ensures { cover_of self.new ≡ cover_of self.old }
+    {
+        let root = Part::root(self.cells);
+        self.trees.advance(self.mask, root, row);
     }
 
     /// The runs of a row among the cells from `from` up to `to`, from left to right, in place of those that the list has; a
-    /// run ends where these cells end. Its time is that of the places where one of the mask's layers begins or ends there,
-    /// times the logarithm of the cells. Where memory is wanting the list may hold any of the runs.
+    /// run ends where these cells end. Its time is that of the places where the colour changes there, times the logarithm of the
+    /// cells, if the row isn't past and no layer ends between it and the one advanced to. Where memory is wanting the list may
+    /// hold any of the runs.
     pub fn collect(&self, row: u32, from: u32, to: u32, runs: &mut Vec<Run>) -> Result<(), NoMemory>
         requires { to ≤ (cover_of self.now).cells }
         ensures { IfOk result (λ _. AreRuns (windowed from to (row_colour (cover_of self.now) row)) runs.new.items) }
@@ -76,12 +88,6 @@ impl CoverTree {
         close(runs, last)?;
         Ok(())
     }
-
-    /// Takes rows up to `row` as past: what is asked of that row and later ones takes least time. The cells stay covered as
-    /// they are.
-    pub fn advance(&mut self, row: u32)
-        ensures { cover_of self.new ≡ cover_of self.old }
-    {}
 
     /// Adds the stretches of the cells from `from` up to `to` whose colour in the next row is another than in this one, if
     /// these layers cover them all there besides, from left to right. Its time is that of these stretches and of the places

@@ -1,5 +1,5 @@
 use Rattle.std.proofs.Common.{◌+◌}
-use Rattle.cover_tree.proofs.Handing.{handed_down}
+use Rattle.cover_tree.proofs.Changing.{handed_down}
 use Rattle.cover_tree.proofs.changes.handed_down.Goals as goal
 
 -- src/changes.rt
