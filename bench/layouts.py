@@ -75,6 +75,54 @@ def stairs(count):
     return "L NM;%sE\n" % "".join("B %d %d %d %d;" % (2 * count, 2 * count, 4 * k, 4 * k) for k in range(count))
 
 
+def upright(layer, count, pitch=8, shift=0):
+    """Wires of a layer side by side, as tall as they are many."""
+    return "L %s;%s" % (layer, "".join("B 2 %d %d %d;" % (pitch * count, pitch * k + shift, pitch * count // 2) for k in range(count)))
+
+
+def level(layer, count, pitch=8, height=2):
+    """Bars of a layer one above the other, as wide as they are many."""
+    return "L %s;%s" % (layer, "".join("B %d %d %d %d;" % (pitch * count, height, pitch * count // 2, pitch * k) for k in range(count)))
+
+
+def plane(layer, count, pitch=8):
+    return "L %s;B %d %d %d %d;" % (layer, pitch * count + 16, pitch * count + 16, pitch * count // 2, pitch * count // 2)
+
+
+def implanted(count):
+    """Wires of diffusion under bars of implant, which change nothing."""
+    return upright("ND", count // 2) + level("NI", count // 2) + "E\n"
+
+
+def implanted_beside(count):
+    """The same with wires of polysilicon between those of diffusion."""
+    third = count // 3
+    return upright("ND", third) + upright("NP", third, shift=4) + level("NI", third) + "E\n"
+
+
+def cuts_on_metal(count):
+    """Bars of contact over wires of metal, with nothing below that they could join."""
+    return upright("NM", count // 2) + level("NC", count // 2) + "E\n"
+
+
+def cuts_and_metal(count):
+    """Bars of contact and of metal in turn, each on the one before, over wires of polysilicon: nowhere are there all three."""
+    third = count // 3
+    return upright("NP", third) + "L NC;%sL NM;%sE\n" % tuple(
+        "".join("B %d 4 %d %d;" % (8 * third, 4 * third, 8 * k + shift) for k in range(third)) for shift in (0, 4))
+
+
+def buried(count):
+    """Wires of diffusion in a plane of buried contact, under bars of implant."""
+    half = count // 2
+    return upright("ND", half) + plane("NB", half) + level("NI", half) + "E\n"
+
+
+def under_polysilicon(count):
+    """A plane of polysilicon and one of buried contact over wires of diffusion and bars of implant."""
+    return buried(count)[:-2] + plane("NP", count // 2) + "E\n"
+
+
 # ---- for the simulator
 
 def inverters(count):

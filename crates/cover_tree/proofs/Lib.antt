@@ -4,6 +4,10 @@ pub mod Covering
 pub mod Building
 pub mod Looking
 pub mod Collecting
-pub mod Alike
 pub mod Going
 pub mod Found
+pub mod Sets
+pub mod Noting
+pub mod Telling
+pub mod Changing
+pub mod Alike

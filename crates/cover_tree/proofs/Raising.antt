@@ -1,33 +1,72 @@
 -- What a part covers after its halves, or it as a whole, are raised.
-use Rattle.std.proofs.Common.{◌≡◌, ℕ, ◌+◌, ◌-◌, ◌*◌, ◌/◌, ◌<◌, ◌≤◌, ◌⊎◌, inl, inr, List, set, length, ◌∙◌, ap, max, arith}
-use Rattle.std.proofs.lemmas.Bool.{cases_lt}
+use Rattle.std.proofs.Common.{◌≡◌, ◌≢◌, ℕ, zero, suc, ◌+◌, ◌-◌, ◌*◌, ◌/◌, ◌<◌, ◌≤◌, ◌⊎◌, inl, inr, List, set, length, refl, sym, ◌∙◌, ap, max, arith}
+use Rattle.std.proofs.lemmas.Bool.{cases_lt, cases_eq}
 use Rattle.std.proofs.lemmas.List.{get_or-set_same, get_or-set_other}
-use Rattle.cover_tree.specs.declared.node.Node.{Node}
+use Rattle.std.proofs.Math.ListN.{length-set}
+use Rattle.lam_geom.specs.declared.layer.Layer.{Layer}
+use Rattle.lam_geom.specs.declared.layer.Layer.TheVariants.{ND, NP, NC, NM, NI, NB, NG}
+use Rattle.mask_runs.specs.declared.mask.Mask.{Mask}
 use Rattle.cover_tree.specs.declared.part.Part.{Part}
 use Rattle.cover_tree.specs.declared.part.Span.{Span}
-use Rattle.cover_tree.specs.Parts.{empty, node, left_half, right_half, top_of, InPart, Sound, IsPartRaised, clamped, lifted, mended}
-use Rattle.cover_tree.specs.Parts.Within.{here}
-use Rattle.cover_tree.proofs.Tops.{top_leaf, top_left, top_right, SamePart, same_top, sound_same, sound_left, sound_right, IsBound, sound_whole}
+use Rattle.cover_tree.specs.declared.trees.Trees.{Trees}
+use Rattle.cover_tree.specs.Parts.{left_half, right_half, top_at, top_of, InPart, IsPartRaised, clamped}
+use Rattle.cover_tree.specs.Layered.{tree}
+use Rattle.cover_tree.specs.Notes.{note_at, AreNoted, AreHalvesNoted, HasPart, Beside, IsOnlyIn}
+use Rattle.cover_tree.proofs.Tops.{top_leaf, top_left, top_right, SamePart, same_top}
+use Rattle.cover_tree.proofs.Noting.{SameIn, noted_left, noted_right, are_noted_same}
 
-node_same : (s : List Node) (k : ℕ) (n : Node) → k < length s → node (set s k n) k ≡ n
-node_same s k n h = get_or-set_same s k n empty h
+-- layers by numbers
+abbrev number : Layer → ℕ
+number ND = 0
+number NP = 1
+number NC = 2
+number NM = 3
+number NI = 4
+number NB = 5
+number NG = 6
 
-node_other : (s : List Node) (j k : ℕ) (n : Node) → (k ≡ j → ⊥) → node (set s j n) k ≡ node s k
-node_other s j k n h = get_or-set_other s j k n empty h
+abbrev numbered : ℕ → Layer
+numbered zero = ND
+numbered (suc zero) = NP
+numbered (suc (suc zero)) = NC
+numbered (suc (suc (suc zero))) = NM
+numbered (suc (suc (suc (suc zero)))) = NI
+numbered (suc (suc (suc (suc (suc zero))))) = NB
+numbered (suc (suc (suc (suc (suc (suc n)))))) = NG
 
-set_left : (s : List Node) (p : Part) (n : Node) → SamePart s (set s p.at n) (left_half p)
-set_left s p n = record { same = λ k l m. node_other s p.at k n (omega arith) }
+number_back : (l : Layer) → numbered (number l) ≡ l
+number_back ND = refl
+number_back NP = refl
+number_back NC = refl
+number_back NM = refl
+number_back NI = refl
+number_back NB = refl
+number_back NG = refl
 
-set_right : (s : List Node) (p : Part) (n : Node) → 2 ≤ p.width → SamePart s (set s p.at n) (right_half p)
-set_right s p n h = record { same = λ k l m. node_other s p.at k n (omega arith) }
+cases_layer : (l m : Layer) → (l ≡ m) ⊎ (l ≢ m)
+cases_layer l m = elim (cases_eq (number l) (number m)) [
+  | inl e ↦ inl (sym (number_back l) ∙ ap numbered e ∙ number_back m)
+  | inr n ↦ inr (λ e. n (ap number e))
+]
+
+top_same : (s : List ℕ) (k n : ℕ) → k < length s → top_at (set s k n) k ≡ n
+top_same s k n h = get_or-set_same s k n 0 h
+
+top_other : (s : List ℕ) (j k n : ℕ) → k ≢ j → top_at (set s j n) k ≡ top_at s k
+top_other s j k n h = get_or-set_other s j k n 0 h
+
+set_left : (s : List ℕ) (p : Part) (n : ℕ) → SamePart s (set s p.at n) (left_half p)
+set_left s p n = record { same = λ k l m. top_other s p.at k n (omega arith) }
+
+set_right : (s : List ℕ) (p : Part) (n : ℕ) → 2 ≤ p.width → SamePart s (set s p.at n) (right_half p)
+set_right s p n h = record { same = λ k l m. top_other s p.at k n (omega arith) }
 
 -- the part as a whole is raised
-lifted_top : (s : List Node) (p : Part) (row c : ℕ) → 0 < p.width → p.at < length s
-    → top_of (set s p.at (lifted row (node s p.at))) p c ≡ max (top_of s p c) row
+lifted_top : (s : List ℕ) (p : Part) (row c : ℕ) → 0 < p.width → p.at < length s → top_of (set s p.at (max (top_at s p.at) row)) p c ≡ max (top_of s p c) row
 lifted_top s p row c v i =
-    let m : Node = lifted row (node s p.at) in
-    let new : List Node = set s p.at m in
-    let e : (node new p.at).top ≡ max (node s p.at).top row = ap (λ n. n.top) (node_same s p.at m i) in
+    let m : ℕ = max (top_at s p.at) row in
+    let new : List ℕ = set s p.at m in
+    let e : top_at new p.at ≡ max (top_at s p.at) row = top_same s p.at m i in
     elim (cases_lt p.width 2) [
       | inl l ↦ let a = top_leaf new p c l in let b = top_leaf s p c l in omega arith
       | inr l ↦ elim (cases_lt c (p.base + p.width / 2)) [
@@ -44,139 +83,139 @@ lifted_top s p row c v i =
       ]
     ]
 
-pub raised_all : (s : List Node) (p : Part) (span : Span) (row : ℕ) → 0 < p.width → p.at < length s → Sound s p
+pub raised_all : (s : List ℕ) (p : Part) (span : Span) (row : ℕ) → 0 < p.width → p.at < length s
     → clamped span (p.base + p.width) - clamped span p.base ≡ p.width
-    → IsPartRaised s (set s p.at (lifted row (node s p.at))) p span row
-raised_all s p span row v i u f =
-    let m : Node = lifted row (node s p.at) in
-    let new : List Node = set s p.at m in
-    let e : node new p.at ≡ m = node_same s p.at m i in
-    record {
-      inside = λ c h k l. lifted_top s p row c v i;
-      beside = λ c h k. let h0 = h.from in let h1 = h.to in elim k [ inl l ↦ absurd (omega arith) | inr l ↦ absurd (omega arith) ];
-      sound = sound_whole new p
-          (record {
-            each = λ c h.
-                let t = lifted_top s p row c v i in
-                let a = u.low p here c h in
-                let b = u.high p here c h in
-                rw e (omega arith, omega arith);
-          })
-          (λ h. sound_same s new (left_half p) (omega arith) (set_left s p m) (sound_left s p h u))
-          (λ h. sound_same s new (right_half p) (omega arith) (set_right s p m h) (sound_right s p h u));
-      outside = record { before = λ k l. node_other s p.at k m (omega arith); after = λ k l. node_other s p.at k m (omega arith) };
-    }
+    → IsPartRaised s (set s p.at (max (top_at s p.at) row)) p span row
+raised_all s p span row v i f = record {
+  inside = λ c h k l. lifted_top s p row c v i;
+  beside = λ c h k. let h0 = h.from in let h1 = h.to in elim k [ inl l ↦ absurd (omega arith) | inr l ↦ absurd (omega arith) ];
+}
 
--- the right half is as sound as before
-pub right_after : (old one : List Node) (p : Part) (span : Span) (row : ℕ) → 2 ≤ p.width → Sound old p → IsPartRaised old one (left_half p) span row
-    → Sound one (right_half p)
-right_after old one p span row h s l =
-    sound_same old one (right_half p) (omega arith) (record { same = λ k u v. l.outside.after k (omega arith) }) (sound_right old p h s)
+beside_own : (p : Part) (k at : ℕ) → 0 < p.width → p.at ≡ at → Beside p k → k ≢ at
+beside_own p k at v e b f = elim b [ inl h ↦ absurd (omega arith) | inr h ↦ absurd (omega arith) ]
 
--- both halves are raised
-abbrev pub sewn : List Node → Part → Node
-sewn s p = mended (node s p.at) (node s (p.at + 1)) (node s (p.at + 2 * (p.width / 2)))
+-- trees of which one has another top at one place
+module _ (t u : Trees) (layer : Layer) (at top : ℕ) (own : tree u layer ≡ set (tree t layer) at top)
+    (others : (l : Layer) → l ≢ layer → tree u l ≡ tree t l) (notes : u.notes.items ≡ t.notes.items) (since : u.since ≡ t.since) where
+  lifted_other : (l : Layer) (k : ℕ) → k ≢ at → top_at (tree u l) k ≡ top_at (tree t l) k
+  lifted_other l k n = elim (cases_layer l layer) [
+    | inl e ↦ ap (λ m. top_at (tree u m) k) e ∙ ap (λ s. top_at s k) own ∙ top_other (tree t layer) at k top n ∙ ap (λ m. top_at (tree t m) k) (sym e)
+    | inr e ↦ ap (λ s. top_at s k) (others l e)
+  ]
 
-module _ (old one two : List Node) (p : Part) (span : Span) (row : ℕ) (h : 2 ≤ p.width) (j : p.at < length two)
-    (l : IsPartRaised old one (left_half p) span row) (r : IsPartRaised one two (right_half p) span row) where
-  own_node : node (set two p.at (sewn two p)) p.at ≡ sewn two p
-  own_node = node_same two p.at (sewn two p) j
+  lifted_many : (l : Layer) → length (tree u l) ≡ length (tree t l)
+  lifted_many l = elim (cases_layer l layer) [
+    | inl e ↦ ap (λ m. length (tree u m)) e ∙ ap length own ∙ length-set (tree t layer) at top ∙ ap (λ m. length (tree t m)) (sym e)
+    | inr e ↦ ap length (others l e)
+  ]
 
-  own_top : (node (set two p.at (sewn two p)) p.at).top ≡ (node old p.at).top
-  own_top = ap (λ n. n.top) own_node ∙ ap (λ n. n.top) (r.outside.before p.at (omega arith) ∙ l.outside.before p.at (omega arith))
+  pub lifted_in : (p : Part) → at < p.at → SameIn p t u
+  lifted_in p h = record {
+    tops = λ l. record { same = λ k i j. lifted_other l k (omega arith) };
+    notes = λ k i j. ap (λ s. note_at s k) notes;
+    since = since;
+  }
 
-  left_same : SamePart one (set two p.at (sewn two p)) (left_half p)
-  left_same = record { same = λ k u v. node_other two p.at k (sewn two p) (omega arith) ∙ r.outside.before k (omega arith) }
+  pub lifted_only : (p : Part) → p.at ≡ at → 0 < p.width → IsOnlyIn p t u
+  lifted_only p h v = record {
+    tops = λ l k b. lifted_other l k (beside_own p k at v h b);
+    notes = λ k b. ap (λ s. note_at s k) notes;
+    as_many = lifted_many;
+    as_many_notes = ap length notes;
+    since = since;
+  }
 
-  right_same : SamePart two (set two p.at (sewn two p)) (right_half p)
-  right_same = set_right two p (sewn two p) h
+  pub lifted_halves : (mask : Mask) (p : Part) → p.at ≡ at → 0 < p.width → AreNoted mask t p → AreHalvesNoted mask u p
+  lifted_halves mask p h v k = record {
+    left = λ w. are_noted_same mask (left_half p) t u (omega arith) (lifted_in (left_half p) (omega arith)) (noted_left mask t p w k);
+    right = λ w. are_noted_same mask (right_half p) t u (omega arith) (lifted_in (right_half p) (omega arith)) (noted_right mask t p w k);
+  }
 
-  right_was : SamePart old one (right_half p)
-  right_was = record { same = λ k u v. l.outside.after k (omega arith) }
+-- the right half is as before after the left one has changed, and the left one as then after the right one has
+beside_left : (p : Part) (k : ℕ) → 2 ≤ p.width → Beside p k → Beside (left_half p) k
+beside_left p k h b = elim b [ inl i ↦ inl (omega arith) | inr i ↦ inr (omega arith) ]
 
-  inside_both : (c : ℕ) → InPart p c → span.from ≤ c → c < span.to → top_of (set two p.at (sewn two p)) p c ≡ max (top_of old p c) row
-  inside_both c i f t =
-      let i0 = i.from in
-      let i1 = i.to in
-      let o = own_top in
-      elim (cases_lt c (p.base + p.width / 2)) [
-        | inl k ↦
-            let a = top_left (set two p.at (sewn two p)) p c h k in
-            let b = top_left old p c h k in
-            let d = same_top one (set two p.at (sewn two p)) (left_half p) c (omega arith) left_same in
-            let e = l.inside c (record { from = omega arith; to = omega arith }) f t in
-            omega arith
-        | inr k ↦
-            let a = top_right (set two p.at (sewn two p)) p c h k in
-            let b = top_right old p c h k in
-            let d = same_top two (set two p.at (sewn two p)) (right_half p) c (omega arith) right_same in
-            let g = same_top old one (right_half p) c (omega arith) right_was in
-            let e = r.inside c (record { from = omega arith; to = omega arith }) f t in
-            omega arith
-      ]
+beside_right : (p : Part) (k : ℕ) → 2 ≤ p.width → Beside p k → Beside (right_half p) k
+beside_right p k h b = elim b [ inl i ↦ inl (omega arith) | inr i ↦ inr (omega arith) ]
 
-  beside_both : (c : ℕ) → InPart p c → (c < span.from) ⊎ (span.to ≤ c) → top_of (set two p.at (sewn two p)) p c ≡ top_of old p c
-  beside_both c i f =
-      let i0 = i.from in
-      let i1 = i.to in
-      let o = own_top in
-      elim (cases_lt c (p.base + p.width / 2)) [
-        | inl k ↦
-            let a = top_left (set two p.at (sewn two p)) p c h k in
-            let b = top_left old p c h k in
-            let d = same_top one (set two p.at (sewn two p)) (left_half p) c (omega arith) left_same in
-            let e = l.beside c (record { from = omega arith; to = omega arith }) f in
-            omega arith
-        | inr k ↦
-            let a = top_right (set two p.at (sewn two p)) p c h k in
-            let b = top_right old p c h k in
-            let d = same_top two (set two p.at (sewn two p)) (right_half p) c (omega arith) right_same in
-            let g = same_top old one (right_half p) c (omega arith) right_was in
-            let e = r.beside c (record { from = omega arith; to = omega arith }) f in
-            omega arith
-      ]
+right_was : (t u : Trees) (p : Part) → 2 ≤ p.width → IsOnlyIn (left_half p) t u → SameIn (right_half p) t u
+right_was t u p h o = record {
+  tops = λ l. record { same = λ k i j. o.tops l k (inr (omega arith)) };
+  notes = λ k i j. o.notes k (inr (omega arith));
+  since = o.since;
+}
 
-  left_sound : Sound (set two p.at (sewn two p)) (left_half p)
-  left_sound = sound_same one (set two p.at (sewn two p)) (left_half p) (omega arith) left_same l.sound
+left_was : (t u : Trees) (p : Part) → 2 ≤ p.width → IsOnlyIn (right_half p) t u → SameIn (left_half p) t u
+left_was t u p h o = record {
+  tops = λ l. record { same = λ k i j. o.tops l k (inl (omega arith)) };
+  notes = λ k i j. o.notes k (inl (omega arith));
+  since = o.since;
+}
 
-  right_sound : Sound (set two p.at (sewn two p)) (right_half p)
-  right_sound = sound_same two (set two p.at (sewn two p)) (right_half p) (omega arith) right_same r.sound
+pub right_noted : (t u : Trees) (p : Part) → 2 ≤ p.width → IsOnlyIn (left_half p) t u → (mask : Mask) → AreNoted mask t p → AreNoted mask u (right_half p)
+right_noted t u p h o mask k = are_noted_same mask (right_half p) t u (omega arith) (right_was t u p h o) (noted_right mask t p h k)
 
-  own_bounds : IsBound (set two p.at (sewn two p)) p
-  own_bounds = record {
-    each = λ c i.
-        let i0 = i.from in
-        let i1 = i.to in
-        let o = ap (λ n. n.top) own_node in
-        let x = ap (λ n. n.low) own_node in
-        let y = ap (λ n. n.high) own_node in
-        elim (cases_lt c (p.base + p.width / 2)) [
+pub both_noted : (t u : Trees) (p : Part) → 2 ≤ p.width → IsOnlyIn (right_half p) t u → (mask : Mask) → AreNoted mask t (left_half p)
+    → AreNoted mask u (right_half p) → AreHalvesNoted mask u p
+both_noted t u p h o mask a b = record { left = λ _. are_noted_same mask (left_half p) t u (omega arith) (left_was t u p h o) a; right = λ _. b }
+
+module _ (old one two : Trees) (p : Part) (h : 2 ≤ p.width)
+    (lo : IsOnlyIn (left_half p) old one) (ro : IsOnlyIn (right_half p) one two) where
+  own_top : (l : Layer) → top_at (tree two l) p.at ≡ top_at (tree old l) p.at
+  own_top l = ro.tops l p.at (inl (omega arith)) ∙ lo.tops l p.at (inl (omega arith))
+
+  pub both_raised : (layer : Layer) (span : Span) (row : ℕ) → IsPartRaised (tree old layer) (tree one layer) (left_half p) span row
+      → IsPartRaised (tree one layer) (tree two layer) (right_half p) span row → IsPartRaised (tree old layer) (tree two layer) p span row
+  both_raised layer span row a b =
+      let o = own_top layer in
+      let left_top = λ (c : ℕ). same_top (tree one layer) (tree two layer) (left_half p) c (omega arith) ((left_was one two p h ro).tops layer) in
+      let right_top = λ (c : ℕ). same_top (tree old layer) (tree one layer) (right_half p) c (omega arith) ((right_was old one p h lo).tops layer) in
+      record {
+        inside = λ c i f g. let i0 = i.from in let i1 = i.to in elim (cases_lt c (p.base + p.width / 2)) [
           | inl k ↦
-              let a = top_left (set two p.at (sewn two p)) p c h k in
-              let u : InPart (left_half p) c = record { from = omega arith; to = omega arith } in
-              let s = left_sound.low (left_half p) here c u in
-              let t = left_sound.high (left_half p) here c u in
-              let e = ap (λ n. n.low) (node_other two p.at (p.at + 1) (sewn two p) (omega arith)) in
-              let f = ap (λ n. n.high) (node_other two p.at (p.at + 1) (sewn two p) (omega arith)) in
-              (omega arith, omega arith)
+              let x = top_left (tree two layer) p c h k in
+              let y = top_left (tree old layer) p c h k in
+              let z = left_top c in
+              let w = a.inside c (record { from = omega arith; to = omega arith }) f g in
+              omega arith
           | inr k ↦
-              let a = top_right (set two p.at (sewn two p)) p c h k in
-              let u : InPart (right_half p) c = record { from = omega arith; to = omega arith } in
-              let s = right_sound.low (right_half p) here c u in
-              let t = right_sound.high (right_half p) here c u in
-              let e = ap (λ n. n.low) (node_other two p.at (p.at + 2 * (p.width / 2)) (sewn two p) (omega arith)) in
-              let f = ap (λ n. n.high) (node_other two p.at (p.at + 2 * (p.width / 2)) (sewn two p) (omega arith)) in
-              (omega arith, omega arith)
+              let x = top_right (tree two layer) p c h k in
+              let y = top_right (tree old layer) p c h k in
+              let z = right_top c in
+              let w = b.inside c (record { from = omega arith; to = omega arith }) f g in
+              omega arith
         ];
+        beside = λ c i f. let i0 = i.from in let i1 = i.to in elim (cases_lt c (p.base + p.width / 2)) [
+          | inl k ↦
+              let x = top_left (tree two layer) p c h k in
+              let y = top_left (tree old layer) p c h k in
+              let z = left_top c in
+              let w = a.beside c (record { from = omega arith; to = omega arith }) f in
+              omega arith
+          | inr k ↦
+              let x = top_right (tree two layer) p c h k in
+              let y = top_right (tree old layer) p c h k in
+              let z = right_top c in
+              let w = b.beside c (record { from = omega arith; to = omega arith }) f in
+              omega arith
+        ];
+      }
+
+  pub both_only : (new : Trees) → IsOnlyIn p two new → IsOnlyIn p old new
+  both_only new n = record {
+    tops = λ l k b. n.tops l k b ∙ ro.tops l k (beside_right p k h b) ∙ lo.tops l k (beside_left p k h b);
+    notes = λ k b. n.notes k b ∙ ro.notes k (beside_right p k h b) ∙ lo.notes k (beside_left p k h b);
+    as_many = λ l. n.as_many l ∙ ro.as_many l ∙ lo.as_many l;
+    as_many_notes = n.as_many_notes ∙ ro.as_many_notes ∙ lo.as_many_notes;
+    since = n.since ∙ ro.since ∙ lo.since;
   }
 
-  pub raised_both : IsPartRaised old (set two p.at (sewn two p)) p span row
-  raised_both = record {
-    inside = inside_both;
-    beside = beside_both;
-    sound = sound_whole (set two p.at (sewn two p)) p own_bounds (λ _. left_sound) (λ _. right_sound);
-    outside = record {
-      before = λ k u. node_other two p.at k (sewn two p) (omega arith) ∙ (r.outside.before k (omega arith) ∙ l.outside.before k (omega arith));
-      after = λ k u. node_other two p.at k (sewn two p) (omega arith) ∙ (r.outside.after k (omega arith) ∙ l.outside.after k (omega arith));
-    };
-  }
+-- a change in the same part in turn
+pub only_in_turn : (p : Part) (old one new : Trees) → IsOnlyIn p old one → IsOnlyIn p one new → IsOnlyIn p old new
+only_in_turn p old one new a b = record {
+  tops = λ l k i. b.tops l k i ∙ a.tops l k i;
+  notes = λ k i. b.notes k i ∙ a.notes k i;
+  as_many = λ l. b.as_many l ∙ a.as_many l;
+  as_many_notes = b.as_many_notes ∙ a.as_many_notes;
+  since = b.since ∙ a.since;
+}

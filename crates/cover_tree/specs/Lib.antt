@@ -4,4 +4,8 @@ pub mod Layered
 pub mod Trees
 pub mod Building
 pub mod Going
+pub mod Kinds
 pub mod Looking
+pub mod Notes
+pub mod Telling
+pub mod Changing

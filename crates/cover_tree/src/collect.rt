@@ -1,9 +1,8 @@
 //! The runs of one colour among the cells of a part.
 
 ghost use Rattle.std.specs.Prelude.{◌≡◌, ◌+◌, ◌<◌, IfOk};
-ghost use Rattle.lam_geom.specs.declared.layer.Layer.{Layer};
-ghost use Rattle.cover_tree.specs.Parts.{IsSmall, Sound, clamped};
-ghost use Rattle.cover_tree.specs.Layered.{tree};
+ghost use Rattle.cover_tree.specs.Parts.{IsSmall, clamped};
+ghost use Rattle.cover_tree.specs.Notes.{AreNoted};
 ghost use Rattle.cover_tree.specs.Looking.{part_colour};
 ghost use Rattle.cover_tree.specs.Building.{Continues, closed};
 
@@ -26,7 +25,7 @@ pub(crate) fn collect_part(
     runs: &mut Vec<Run>,
 ) -> Result<Run, NoMemory>
     requires small { IsSmall part }
-    requires sound { (l : Layer) → Sound (tree trees.now l) part }
+    requires noted { AreNoted line.mask trees.now part }
     requires last { last.right ≡ clamped span part.base }
     ensures { IfOk result (λ next. Continues (part_colour line.mask trees.now line.row part known) runs.old.items runs.new.items last next (clamped span (part.base + part.width))) }
 {

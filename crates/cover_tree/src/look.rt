@@ -1,12 +1,14 @@
 //! What the trees tell of a part at once.
 
-ghost use Rattle.std.specs.Prelude.{◌≡◌};
-ghost use Rattle.lam_geom.specs.declared.layer.Layer.{Layer};
-ghost use Rattle.cover_tree.specs.Parts.{Sound, node};
-ghost use Rattle.cover_tree.specs.Layered.{tree};
-ghost use Rattle.cover_tree.specs.Looking.{IsSight, is_blank, is_full, is_possible, full_at, possible_at};
+ghost use Rattle.std.specs.Prelude.{ℕ, ◌≡◌, ◌+◌, ◌<◌, ◌≤◌, IsTrue, IfSome};
+ghost use Rattle.mask_runs.specs.declared.mask.Layers.{Layers};
+ghost use Rattle.mask_runs.specs.Colours.{bare};
+ghost use Rattle.cover_tree.specs.Parts.{InPart};
+ghost use Rattle.cover_tree.specs.Kinds.{HasKind, index};
+ghost use Rattle.cover_tree.specs.Looking.{IsSight, seen};
+ghost use Rattle.cover_tree.specs.Notes.{AreNoted};
 
-use crate::node::Node;
+use crate::kinds::{Kinds, both};
 use crate::part::Part;
 use crate::trees::Trees;
 use mask_runs::{Layers, Mask};
@@ -27,91 +29,59 @@ pub(crate) enum Sight {
 
 /// Looks at a part which the layers in `known` cover as a whole.
 pub(crate) fn look(trees: &Trees, line: Line, part: Part, known: Layers) -> Sight
-    requires { (l : Layer) → Sound (tree trees.now l) part }
+    requires { AreNoted line.mask trees.now part }
     ensures { IsSight line.mask trees.now line.row part known result }
 {
-    let bounds = look_down(trees, part.at, line.row, known);
+    if let Some(kinds) = noted_at(trees, line, part) {
+        if let Some(colour) = kinds.colour(line.mask, known) {
+            return Sight::One(colour);
+        }
+    }
+    let full = both(known, trees.own_at(line.row, part.at));
     if part.width < 2 {
-        return Sight::One(line.mask.colour(bounds.full));
+        return Sight::One(line.mask.colour(full));
     }
-    if bounds.full == bounds.possible {
-        return Sight::One(line.mask.colour(bounds.full));
-    }
-    if is_blank(line.mask, bounds.possible) {
-        return Sight::One(0);
-    }
-    Sight::Many(bounds.full)
+    Sight::Many(full)
 }
 
-// Whether these layers, and any of them, have no colour.
-fn is_blank(mask: Mask, possible: Layers) -> bool
-    ensures { result ≡ is_blank mask possible }
+/// Sets of layers among which are those over each cell of the part, by the part's nodes. A single cell has one.
+pub(crate) fn kinds_at(trees: &Trees, line: Line, part: Part) -> Kinds
+    requires { AreNoted line.mask trees.now part }
+    ensures all { (c : ℕ) → InPart part c → HasKind line.mask result (seen trees.now line.row part bare c) }
+    ensures one { part.width < 2 → (c : ℕ) (s : Layers) → InPart part c → HasKind line.mask result s → index line.mask s ≡ index line.mask (seen trees.now line.row part bare c) }
 {
-    match mask {
-        Mask::Only(_) => false,
-        Mask::Diffusion => !possible.nd,
-        Mask::Contacts => !possible.nc && !possible.nb,
+    if part.width < 2 {
+        return Kinds::one(line.mask, trees.own_at(line.row, part.at));
+    }
+    match noted_at(trees, line, part) {
+        Some(kinds) => kinds,
+        None => Kinds::all(),
     }
 }
 
-// The layers that cover a part as a whole, and those that cover any of it.
-#[derive(Clone, Copy)]
-struct Bounds {
-    full: Layers,
-    possible: Layers,
-}
-
-// The same for one layer.
-#[derive(Clone, Copy)]
-struct Bound {
-    full: bool,
-    possible: bool,
-}
-
-fn look_down(trees: &Trees, at: usize, row: u32, known: Layers) -> Bounds
-    ensures full { result.full ≡ full_at trees.now at row known }
-    ensures possible { result.possible ≡ possible_at trees.now at row known }
+/// Whether the part's note says that nothing changes there from a row to the next.
+pub(crate) fn is_steady(trees: &Trees, mask: Mask, part: Part, row: u32) -> bool
+    requires { AreNoted mask trees.now part }
+    ensures { IsTrue result → (c : ℕ) → InPart part c → seen trees.now row part bare c ≡ seen trees.now (row + 1) part bare c }
 {
-    let nd = look_at(&trees.nd, at, row, known.nd);
-    let np = look_at(&trees.np, at, row, known.np);
-    let nc = look_at(&trees.nc, at, row, known.nc);
-    let nm = look_at(&trees.nm, at, row, known.nm);
-    let ni = look_at(&trees.ni, at, row, known.ni);
-    let nb = look_at(&trees.nb, at, row, known.nb);
-    let ng = look_at(&trees.ng, at, row, known.ng);
-    Bounds {
-        full: Layers {
-            nd: nd.full,
-            np: np.full,
-            nc: nc.full,
-            nm: nm.full,
-            ni: ni.full,
-            nb: nb.full,
-            ng: ng.full,
-        },
-        possible: Layers {
-            nd: nd.possible,
-            np: np.possible,
-            nc: nc.possible,
-            nm: nm.possible,
-            ni: ni.possible,
-            nb: nb.possible,
-            ng: ng.possible,
-        },
+    let until = trees.note_at(part.at).until;
+    if row < trees.since {
+        return false;
     }
+    if until <= row {
+        return false;
+    }
+    row + 1 < until
 }
 
-fn look_at(nodes: &[Node], at: usize, row: u32, known: bool) -> Bound
-    ensures full { result.full ≡ is_full (node nodes.now at) row known }
-    ensures possible { result.possible ≡ is_possible (node nodes.now at) row known }
+// The kinds of a part, where its note speaks of this row.
+fn noted_at(trees: &Trees, line: Line, part: Part) -> Option<Kinds>
+    requires { AreNoted line.mask trees.now part }
+    ensures { IfSome result (λ k. (c : ℕ) → InPart part c → HasKind line.mask k (seen trees.now line.row part bare c)) }
 {
-    let node = match nodes.get(at) {
-        Some(node) => *node,
-        None => Node::empty(),
-    };
-    let full = known || row < node.top || row < node.low;
-    Bound {
-        full,
-        possible: full || row < node.high,
+    let note = trees.note_at(part.at);
+    if trees.since <= line.row && line.row < note.until {
+        return Some(note.kinds);
     }
+    None
 }

@@ -1,9 +1,8 @@
 //! The colour of a cell, and how far it goes on.
 
 ghost use Rattle.std.specs.Prelude.{◌≡◌, ◌+◌, ◌≤◌};
-ghost use Rattle.lam_geom.specs.declared.layer.Layer.{Layer};
-ghost use Rattle.cover_tree.specs.Parts.{IsSmall, Sound, InPart};
-ghost use Rattle.cover_tree.specs.Layered.{tree};
+ghost use Rattle.cover_tree.specs.Parts.{IsSmall, InPart};
+ghost use Rattle.cover_tree.specs.Notes.{AreNoted};
 ghost use Rattle.cover_tree.specs.Looking.{part_colour};
 ghost use Rattle.cover_tree.specs.Going.{EndsAt, StartsAt};
 
@@ -15,7 +14,7 @@ use mask_runs::Layers;
 /// The colour of a cell of the part.
 pub(crate) fn colour_at(trees: &Trees, line: Line, part: Part, known: Layers, cell: u32) -> u8
     requires small { IsSmall part }
-    requires sound { (l : Layer) → Sound (tree trees.now l) part }
+    requires noted { AreNoted line.mask trees.now part }
     requires cell { InPart part cell }
     ensures { result ≡ part_colour line.mask trees.now line.row part known cell }
 {
@@ -41,7 +40,7 @@ pub(crate) fn end_of(
     colour: u8,
 ) -> u32
     requires small { IsSmall part }
-    requires sound { (l : Layer) → Sound (tree trees.now l) part }
+    requires noted { AreNoted line.mask trees.now part }
     requires from { part.base ≤ from }
     ensures { EndsAt (part_colour line.mask trees.now line.row part known) colour from (part.base + part.width) result }
 {
@@ -72,7 +71,7 @@ pub(crate) fn start_of(
     colour: u8,
 ) -> u32
     requires small { IsSmall part }
-    requires sound { (l : Layer) → Sound (tree trees.now l) part }
+    requires noted { AreNoted line.mask trees.now part }
     requires to { to ≤ part.base + part.width }
     ensures { StartsAt (part_colour line.mask trees.now line.row part known) colour part.base to result }
 {

@@ -1,17 +1,32 @@
 //! The raising of a part.
 
-ghost use Rattle.std.specs.Prelude.{◌≡◌, ◌+◌, ◌*◌, ◌<◌, ◌≤◌, length, set};
-ghost use Rattle.cover_tree.specs.Parts.{IsSmall, Sound, IsPartRaised, lifted, mended, node};
+ghost use Rattle.std.specs.Prelude.{◌≡◌, ◌≢◌};
+ghost use Rattle.lam_geom.specs.declared.layer.Layer.{Layer};
+ghost use Rattle.cover_tree.specs.Parts.{IsSmall, IsPartRaised};
+ghost use Rattle.cover_tree.specs.Layered.{tree};
+ghost use Rattle.cover_tree.specs.Notes.{HasPart, AreNoted, IsOnlyIn};
 
-use crate::node::Node;
 use crate::part::{Part, Span};
+use crate::trees::Trees;
+use lam_geom::Layer;
+use mask_runs::Mask;
 
-/// Covers the part's cells in the span in the rows below `row` besides.
-pub(crate) fn raise_part(nodes: &mut [Node], part: Part, span: Span, row: u32)
+/// Covers the part's cells in the span with a layer in the rows below `row` besides.
+pub(crate) fn raise_part(
+    trees: &mut Trees,
+    mask: Mask,
+    layer: Layer,
+    part: Part,
+    span: Span,
+    row: u32,
+)
     requires small { IsSmall part }
-    requires inside { part.at + 2 * part.width ≤ length nodes.old + 1 }
-    requires sound { Sound nodes.old part }
-    ensures { IsPartRaised nodes.old nodes.new part span row }
+    requires room { HasPart trees.old layer part }
+    requires noted { AreNoted mask trees.old part }
+    ensures raised { IsPartRaised (tree trees.old layer) (tree trees.new layer) part span row }
+    ensures others { (l : Layer) → l ≢ layer → tree trees.new l ≡ tree trees.old l }
+    ensures noted { AreNoted mask trees.new part }
+    ensures only { IsOnlyIn part trees.old trees.new }
 {
     let from = span.clamped(part.base);
     let to = span.clamped(part.end());
@@ -19,22 +34,11 @@ pub(crate) fn raise_part(nodes: &mut [Node], part: Part, span: Span, row: u32)
         return;
     }
     if to - from == part.width {
-        nodes[part.at] = nodes[part.at].lifted(row);
+        trees.lift(layer, part.at, row);
+        trees.sum_up(mask, part);
         return;
     }
-    let left = part.left();
-    let right = part.right();
-    raise_part(nodes, left, span, row);
-    raise_part(nodes, right, span, row);
-    mend(nodes, part.at, left.at, right.at);
-}
-
-// Sums up the two halves.
-fn mend(nodes: &mut [Node], at: usize, left: usize, right: usize)
-    requires inside { at < length nodes.old }
-    requires left_in { left < length nodes.old }
-    requires right_in { right < length nodes.old }
-    ensures { nodes.new ≡ set nodes.old at (mended (node nodes.old at) (node nodes.old left) (node nodes.old right)) }
-{
-    nodes[at] = nodes[at].mended(nodes[left], nodes[right]);
+    raise_part(trees, mask, layer, part.left(), span, row);
+    raise_part(trees, mask, layer, part.right(), span, row);
+    trees.sum_up(mask, part);
 }

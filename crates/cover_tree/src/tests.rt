@@ -3,9 +3,10 @@
 ghost use Rattle.std.specs.Prelude.{◌≤◌};
 ghost use Rattle.cover_tree.specs.Trees.{cover_of};
 
+use crate::stretch::Stretch;
 use crate::tree::CoverTree;
 use lam_geom::Layer;
-use mask_runs::{Mask, Run};
+use mask_runs::{Layers, Mask, Run};
 use std::alloc::Global;
 use std::process::Abort;
 use std::test::Fail;
@@ -75,5 +76,40 @@ fn contacts(rt: HostRuntime) -> Result<(), Fail> {
     let runs = [run(3, 4, 3), run(6, 7, 6)];
     expect_runs(&rt, rt.alloc(), &tree, 0, (0, 8), &runs)?;
     assert_eq!(rt; tree.run_at(0, 5), None);
+    Ok(())
+}
+
+fn stretch(from: u32, to: u32) -> Stretch {
+    Stretch { from, to }
+}
+
+#[test]
+fn changes(rt: HostRuntime) -> Result<(), Fail> {
+    let mut tree = CoverTree::new(rt.alloc(), Mask::Diffusion, 12)?;
+    tree.raise(Layer::ND, 1, 3, 5);
+    tree.raise(Layer::ND, 5, 7, 2);
+    tree.raise(Layer::NP, 2, 9, 3);
+    let mut told = vec![in rt.alloc(); stretch(0, 3)]?;
+    let none = Layers::none();
+    tree.tell_changes(0, none.with(Layer::NP), 0, 12, &mut told)?;
+    tree.tell_changes(0, none.with(Layer::NI), 0, 6, &mut told)?;
+    tree.tell_changes(0, none.with(Layer::ND), 2, 12, &mut told)?;
+    tree.advance(1);
+    tree.tell_changes(1, none, 0, 12, &mut told)?;
+    tree.tell_changes(1, none.with(Layer::NB), 0, 6, &mut told)?;
+    tree.tell_changes(2, none, 0, 12, &mut told)?;
+    let changed = [
+        stretch(0, 3),
+        stretch(1, 2),
+        stretch(2, 3),
+        stretch(5, 6),
+        stretch(3, 5),
+        stretch(7, 12),
+        stretch(5, 7),
+        stretch(2, 3),
+        stretch(5, 6),
+        stretch(2, 3),
+    ];
+    assert_eq!(rt; told.as_slice(), changed.as_slice());
     Ok(())
 }

@@ -1,11 +1,14 @@
 //! The tree.
 
-ghost use Rattle.cover_tree.specs.Layered.{AreSound};
+ghost use Rattle.cover_tree.specs.Notes.{AreSound};
 
+use crate::changes::{Known, tell_last, tell_part};
 use crate::collect::{close, collect_part};
 use crate::look::Line;
 use crate::nearest::{colour_at, end_of, start_of};
 use crate::part::{Part, Span};
+use crate::raise::raise_part;
+use crate::stretch::Stretch;
 use crate::trees::Trees;
 use lam_geom::Layer;
 use mask_runs::{Layers, Mask, Run};
@@ -13,7 +16,7 @@ use mp_base::NoMemory;
 use std::alloc::Global;
 
 /// Up to which row the layers of a mask cover each of a row of cells: a tree of halves for each layer that the mask uses,
-/// of 24 bytes a cell. What covers a part of the cells as a whole is kept at the part.
+/// of 8 bytes a cell, and notes of 16. What covers a part of the cells as a whole is kept at the part.
 #[derive(Drop)]
 pub struct CoverTree {
     mask: Mask,
@@ -23,10 +26,11 @@ pub struct CoverTree {
 }
 
 impl CoverTree {
-    ghost use Rattle.std.specs.Prelude.{◌≡◌, ◌↔◌, ◌<◌, ◌≤◌, ◌^◌, true, IfOk, IfSome, IsNone};
+    ghost use Rattle.std.specs.Prelude.{◌≡◌, ◌↔◌, ◌+◌, ◌<◌, ◌≤◌, ◌^◌, true, IfOk, IfSome, IsNone};
     ghost use Rattle.mask_runs.specs.Colours.{uses};
     ghost use Rattle.mask_runs.specs.Runs.{IsRun, AreRuns};
     ghost use Rattle.cover_tree.specs.Covers.{IsBare, IsRaised, row_colour, windowed};
+    ghost use Rattle.cover_tree.specs.Telling.{IsTold, TurnsUnder};
     ghost use Rattle.cover_tree.specs.Trees.{cover_of};
 
     /// A tree over a number of cells, of which none is covered.
@@ -47,12 +51,23 @@ impl CoverTree {
         ensures { IsRaised (cover_of self.old) (cover_of self.new) layer from to row }
     {
         let root = Part::root(self.cells);
-        self.trees.raise(layer, root, Span { from, to }, row);
+        let span = Span { from, to };
+        raise_part(&mut self.trees, self.mask, layer, root, span, row);
+    }
+
+    /// Takes the rows before this one as past: from now on those from it on are quick to look at. The cells stay covered as they
+    /// are. Its time is that of the places where a layer ends since the last call, times the logarithm of the cells.
+    pub fn advance(&mut self, row: u32)
+        ensures { cover_of self.new ≡ cover_of self.old }
+    {
+        let root = Part::root(self.cells);
+        self.trees.advance(self.mask, root, row);
     }
 
     /// The runs of a row among the cells from `from` up to `to`, from left to right, in place of those that the list has; a
-    /// run ends where these cells end. Its time is that of the places where one of the mask's layers begins or ends there,
-    /// times the logarithm of the cells. Where memory is wanting the list may hold any of the runs.
+    /// run ends where these cells end. Its time is that of the places where the colour changes there, times the logarithm of the
+    /// cells, if the row isn't past and no layer ends between it and the one advanced to. Where memory is wanting the list may
+    /// hold any of the runs.
     pub fn collect(&self, row: u32, from: u32, to: u32, runs: &mut Vec<Run>) -> Result<(), NoMemory>
         requires { to ≤ (cover_of self.now).cells }
         ensures { IfOk result (λ _. AreRuns (windowed from to (row_colour (cover_of self.now) row)) runs.new.items) }
@@ -71,6 +86,38 @@ impl CoverTree {
         let root = Part::root(self.cells);
         let last = collect_part(&self.trees, line, span, root, Layers::none(), blank, runs)?;
         close(runs, last)?;
+        Ok(())
+    }
+
+    /// Adds the stretches of the cells from `from` up to `to` whose colour in the next row is another than in this one, if
+    /// these layers cover them all there besides, from left to right. Its time is that of these stretches and of the places
+    /// where a layer ends above the row, times the logarithm of the cells. Where memory is wanting the list may have any
+    /// stretches more.
+    pub fn tell_changes(
+        &self,
+        row: u32,
+        gained: Layers,
+        from: u32,
+        to: u32,
+        changed: &mut Vec<Stretch>,
+    ) -> Result<(), NoMemory>
+        requires room { row + 1 < 2 ^ 32 }
+        requires within { to ≤ (cover_of self.now).cells }
+        ensures { IfOk result (λ _. IsTold changed.old.items changed.new.items (TurnsUnder (cover_of self.now) gained from to row)) }
+    {
+        let line = Line {
+            mask: self.mask,
+            row,
+        };
+        let span = Span { from, to };
+        let known = Known {
+            before: Layers::none(),
+            after: gained,
+        };
+        let root = Part::root(self.cells);
+        let blank = Stretch { from: 0, to: 0 };
+        let last = tell_part(&self.trees, line, span, root, known, blank, changed)?;
+        tell_last(changed, last)?;
         Ok(())
     }
 

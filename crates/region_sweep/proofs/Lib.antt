@@ -1,7 +1,8 @@
 mod Axes
 mod Blocks
 mod Painting
-mod Siding
+mod Beginning
+mod Changing
 mod Squares
 mod Stretches
 mod Tilings

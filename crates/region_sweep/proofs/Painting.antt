@@ -83,7 +83,7 @@ has_over blocks y c NI = refl
 has_over blocks y c NB = refl
 has_over blocks y c NG = refl
 
-has_at : (cover : Cover) (y c : ℕ) (l : Layer) → has (layers_at cover y c) l ≡ nat_lt y (cover.top l c)
+pub has_at : (cover : Cover) (y c : ℕ) (l : Layer) → has (layers_at cover y c) l ≡ nat_lt y (cover.top l c)
 has_at cover y c ND = refl
 has_at cover y c NP = refl
 has_at cover y c NC = refl

@@ -1,13 +1,10 @@
 -- From one row to the next.
 use Rattle.std.proofs.Common.{ℕ, ◌≡◌, ◌+◌, ◌-◌, ◌<◌, ◌≤◌, ◌⊎◌, List, Some, None, Option, inl, inr, refl, sym, ap, ◌∙◌, subst, arith, length, get_or, set, max, eq-or-lt_of_le, get_or-set_other, get_or-set_same}
 use Rattle.std.specs.Prelude.{All}
-use Rattle.std.specs.List.Sorted.{IsNonDecreasingBy}
 use Rattle.std.proofs.lemmas.Bool.{cases_lt, cases_eq, cases_Bool}
-use Rattle.row_windows.specs.declared.edge.Edge.{Edge}
+use Rattle.cover_tree.specs.declared.stretch.Stretch.{Stretch}
 use Rattle.row_windows.specs.declared.window.Window.{Window}
-use Rattle.row_windows.specs.Windows.{edge, seen, in_windows, IsGuarded, ChangeAt, TellChange}
-use Rattle.region_sweep.specs.Sides.{AreSides}
-use Rattle.region_sweep.proofs.Siding.{IsRow, part, same_paint}
+use Rattle.row_windows.specs.Windows.{seen, in_windows, IsGuarded, ChangeAt, TellChange}
 use Rattle.mask_runs.specs.declared.mask.Mask.{Mask}
 use Rattle.mask_runs.specs.declared.run.Run.{Run}
 use Rattle.mask_runs.specs.Runs.{IsRun, AreRuns}
@@ -20,22 +17,16 @@ use Rattle.strip_rows.specs.Swept.{strips_of, cells_of, IsOpenAt, IsSwept, KeepN
 use Rattle.region_sweep.specs.declared.block.Block.{Block}
 use Rattle.region_sweep.specs.declared.spot.Spot.{Spot}
 use Rattle.region_sweep.specs.Blocks.{painted, AreStacked}
-use Rattle.region_sweep.specs.Rows.{block, no_block, spot, no_spot, ReachesOver, AreFit, AreRaised, AreAsked, IsFront, IsAnswer, AreAnswered}
+use Rattle.region_sweep.specs.Rows.{block, no_block, spot, no_spot, ReachesOver, AreInOrder, AreWithin, AreRaised, IsUpTo, AreAsked, IsFront, IsAnswer, AreAnswered}
 use Rattle.region_sweep.proofs.Painting.{row_painted, blank_right, blank_below}
 use Rattle.region_sweep.proofs.Squares.{layer_or_not}
 
 -- what is known of the rows up to one, in the middle of the loop
-pub record IsAt (mask : Mask) (cells : ℕ) (blocks : List Block) (row : ℕ) (cover : Cover) (strips : StripRows) (raised : ℕ) (sides : List Edge) (begun : ℕ)
-    (spots : List Spot) (answered : ℕ) (found : List (Option ℕ)) : Type 0 where
-  pub mask_same : cover.mask ≡ mask
-  pub wide : cover.cells ≡ cells
+pub record IsAt (mask : Mask) (cells : ℕ) (blocks : List Block) (row : ℕ) (cover : Cover) (strips : StripRows) (raised : ℕ) (spots : List Spot)
+    (answered : ℕ) (found : List (Option ℕ)) : Type 0 where
+  pub up_to : IsUpTo mask cells blocks row raised cover
   pub as_wide : cells_of strips ≡ cells
-  pub raised_are : AreRaised blocks row raised cover
-  pub rest : (k : ℕ) → raised ≤ k → k < length blocks → row < (block blocks k).low
   pub swept : IsSwept (painted mask blocks) row strips
-  pub begun_in : begun ≤ length sides
-  pub past : (k : ℕ) → k < begun → (edge sides k).row ≤ row
-  pub ahead : (k : ℕ) → begun ≤ k → k < length sides → row < (edge sides k).row
   pub answers : AreAnswered (painted mask blocks) (strips_of strips) spots answered found
   pub waiting : (j : ℕ) → answered ≤ j → j < length spots → row < (spot spots j).row
 
@@ -91,9 +82,9 @@ raised_more blocks row n old now h l m r =
     }
 
 -- those that begin above the row wait
-pub rest_waits : (blocks : List Block) (row n : ℕ) → IsNonDecreasingBy (λ b. b.low) blocks → (n < length blocks → row < (block blocks n).low)
+pub rest_waits : (blocks : List Block) (row n : ℕ) → AreInOrder blocks → (n < length blocks → row < (block blocks n).low)
     → (k : ℕ) → n ≤ k → k < length blocks → row < (block blocks k).low
-rest_waits blocks row n up h k l m = let a = up n k no_block l m in let b = h (omega arith) in omega arith
+rest_waits blocks row n up h k l m = let a = up.rows n k no_block l m in let b = h (omega arith) in omega arith
 
 pub nothing_raised : (mask : Mask) (cells : ℕ) (blocks : List Block) (cover : Cover) → IsBare mask cells cover → AreRaised blocks 0 0 cover
 nothing_raised mask cells blocks cover h = record {
@@ -109,11 +100,11 @@ raised_later blocks row next n cover l h = record {
   tops = h.tops;
 }
 
-pub fits : (mask : Mask) (cells rows : ℕ) (blocks : List Block) → AreStacked mask cells rows blocks → AreFit mask cells blocks
+pub fits : (mask : Mask) (cells rows : ℕ) (blocks : List Block) → AreStacked mask cells rows blocks → AreWithin mask cells blocks
 fits mask cells rows blocks h = record {
   used = λ k d l. (h.each k d l).used;
-  within = λ k d l. let r = (h.each k d l).right in omega arith;
-  ascending = h.ascending;
+  within = λ k d l. (h.each k d l).right;
+  order = h.order;
 }
 
 -- runs of a row lie in it
@@ -243,53 +234,35 @@ answer_none colour row cell strips cover p front z e f = rw (e, f) (front.same c
 pub nothing_answered : (colour : ℕ → ℕ → ℕ) (strips : List Strip) (spots : List Spot) (found : List (Option ℕ)) → AreAnswered colour strips spots 0 found
 nothing_answered colour strips spots found = record { within = omega arith; each = λ j l. absurd (omega arith) }
 
-pub fit_tree : (mask m : Mask) (cells n rows : ℕ) (blocks : List Block) → m ≡ mask → n ≡ cells → AreStacked mask cells rows blocks → AreFit m n blocks
+pub fit_tree : (mask m : Mask) (cells n rows : ℕ) (blocks : List Block) → m ≡ mask → n ≡ cells → AreStacked mask cells rows blocks → AreWithin m n blocks
 fit_tree mask m cells n rows blocks e f st = rw (e, f) (fits mask cells rows blocks st)
 
--- the sides of the next row
-module _ (sides same : List Edge) (begun end below : ℕ) (e : same ≡ sides) (here : (k : ℕ) → begun ≤ k → k < end → (edge same k).row ≤ below + 1) where
-  here_at : (k : ℕ) → begun ≤ k → k < end → (edge sides k).row ≤ below + 1
-  here_at = subst (λ s. (k : ℕ) → begun ≤ k → k < end → (edge s k).row ≤ below + 1) e here
-
-  pub next_row : begun ≤ end → end ≤ length same → ((k : ℕ) → k < begun → (edge sides k).row ≤ below)
-      → ((k : ℕ) → begun ≤ k → k < length sides → below < (edge sides k).row)
-      → ((k : ℕ) → end ≤ k → k < length same → below + 1 < (edge same k).row) → IsRow sides begun end (below + 1)
-  next_row o w past ahead beyond =
-      let n = ap length e in
-      record {
-        order = o;
-        within = omega arith;
-        past = λ k l. let a = past k l in omega arith;
-        here = λ k l m. let a = ahead k l (omega arith) in let b = here_at k l m in omega arith;
-        ahead = subst (λ s. (k : ℕ) → end ≤ k → k < length s → below + 1 < (edge s k).row) e beyond;
-      }
-
-  pub past_next : ((k : ℕ) → k < begun → (edge sides k).row ≤ below) → (k : ℕ) → k < end → (edge sides k).row ≤ below + 1
-  past_next past k l = elim (cases_lt k begun) [ inl m ↦ let a = past k m in omega arith | inr m ↦ here_at k m l ]
-
 -- what windows tell is told of the rows that are painted
-pub whole_step : ColoursByLayers → (mask : Mask) (blocks : List Block) (below raised more : ℕ) (cover now : Cover) (sides same : List Edge) (begun end : ℕ)
-    (windows first second : List Window) (olds news : List Run) → cover.mask ≡ mask → now.mask ≡ mask → AreRaised blocks below raised cover
-    → ((k : ℕ) → raised ≤ k → k < length blocks → below < (block blocks k).low) → AreRaised blocks (below + 1) more now
-    → ((k : ℕ) → more ≤ k → k < length blocks → below + 1 < (block blocks k).low)
-    → AreSides blocks (length blocks) sides → IsRow sides begun end (below + 1) → same ≡ sides → first ≡ windows → second ≡ windows
+pub whole_step : ColoursByLayers → (mask : Mask) (cells : ℕ) (blocks : List Block) (below raised more : ℕ) (cover now : Cover) (changed same : List Stretch)
+    (windows first second : List Window) (olds news : List Run) → IsUpTo mask cells blocks below raised cover
+    → IsUpTo mask cells blocks (below + 1) more now → ChangeAt changed (painted mask blocks below) (painted mask blocks (below + 1))
+    → same ≡ changed → first ≡ windows → second ≡ windows
     → ((colour : ℕ → ℕ → ℕ) (y : ℕ) → ((c : ℕ) → colour y c ≡ row_colour cover below c)
-    → ChangeAt (part same begun end) (colour y) (colour (y + 1)) → TellChange colour y windows)
+    → ChangeAt same (colour y) (colour (y + 1)) → TellChange colour y windows)
     → AreRuns (seen first (row_colour cover below)) olds → AreRuns (seen second (row_colour now (below + 1))) news
     → IsChange (painted mask blocks) below olds news
-whole_step law mask blocks below raised more cover now sides same begun end windows first second olds news e f r rest s rest_s are row g a b tell h k =
-    tell (painted mask blocks) below (tree_tells law mask blocks below raised cover e r rest)
-    (subst (λ ss. ChangeAt (part ss begun end) (painted mask blocks below) (painted mask blocks (below + 1))) (sym g)
-    (λ c n. same_paint law mask blocks sides begun end below row are c n)) olds news
-    (subst (λ ws. AreRuns (seen ws (painted mask blocks below)) olds) a (runs_painted law mask blocks below raised cover first olds e r rest h))
-    (subst (λ ws. AreRuns (seen ws (painted mask blocks (below + 1))) news) b (runs_painted law mask blocks (below + 1) more now second news f s rest_s k))
+whole_step law mask cells blocks below raised more cover now changed same windows first second olds news up upper at g a b tell h k =
+    tell (painted mask blocks) below (tree_tells law mask blocks below raised cover up.of_mask up.are up.waiting)
+    (subst (λ ss. ChangeAt ss (painted mask blocks below) (painted mask blocks (below + 1))) (sym g) at) olds news
+    (subst (λ ws. AreRuns (seen ws (painted mask blocks below)) olds) a
+    (runs_painted law mask blocks below raised cover first olds up.of_mask up.are up.waiting h))
+    (subst (λ ws. AreRuns (seen ws (painted mask blocks (below + 1))) news) b
+    (runs_painted law mask blocks (below + 1) more now second news upper.of_mask upper.are upper.waiting k))
+
+-- the last cell has no colour in either row
+pub last_alike : ColoursByLayers → (mask : Mask) (cells rows : ℕ) (blocks : List Block) (below : ℕ) → AreStacked mask cells rows blocks
+    → (c : ℕ) → cells ≤ c + 1 → painted mask blocks below c ≡ painted mask blocks (below + 1) c
+last_alike law mask cells rows blocks below st c l =
+    blank_right law mask cells rows blocks below c st l ∙ sym (blank_right law mask cells rows blocks (below + 1) c st l)
 
 -- nothing waits in row 0
 pub rest_above : (mask : Mask) (cells rows : ℕ) (blocks : List Block) → AreStacked mask cells rows blocks → (k : ℕ) → k < length blocks → 0 < (block blocks k).low
 rest_above mask cells rows blocks st k l = (st.each k no_block l).low
-
-pub right_within : (mask : Mask) (cells rows : ℕ) (blocks : List Block) → AreStacked mask cells rows blocks → (k : ℕ) → k < length blocks → (block blocks k).right < cells
-right_within mask cells rows blocks st k l = (st.each k no_block l).right
 
 pub swept_first : ColoursByLayers → (mask : Mask) (cells rows : ℕ) (blocks : List Block) (strips : StripRows) → AreStacked mask cells rows blocks
     → ((colour : ℕ → ℕ → ℕ) → ((c : ℕ) → colour 0 c ≡ 0) → IsSwept colour 0 strips) → IsSwept (painted mask blocks) 0 strips

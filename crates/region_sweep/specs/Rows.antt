@@ -36,11 +36,23 @@ pub record AreRaised (blocks : List Block) (row raised : ℕ) (cover : Cover) : 
   pub begun : (k : ℕ) → k < raised → (block blocks k).low ≤ row
   pub tops : (l : Layer) (c z : ℕ) → (z < cover.top l c) ↔ ((k : ℕ) × (k < raised) × ReachesOver (block blocks k) l c z)
 
--- the mask uses the blocks, which lie in so many cells
-pub record AreFit (mask : Mask) (cells : ℕ) (blocks : List Block) : Type 0 where
+-- those that begin in lower rows stand first, and those of a row from left to right
+pub record AreInOrder (blocks : List Block) : Type 0 where
+  pub rows : IsNonDecreasingBy (λ b. b.low) blocks
+  pub ties : (j k : ℕ) → j ≤ k → k < length blocks → (block blocks j).low ≡ (block blocks k).low → (block blocks j).left ≤ (block blocks k).left
+
+-- the mask uses the blocks, which lie before the last of so many cells
+pub record AreWithin (mask : Mask) (cells : ℕ) (blocks : List Block) : Type 0 where
   pub used : All (λ b. uses mask b.layer ≡ true) blocks
-  pub within : All (λ b. b.right ≤ cells) blocks
-  pub ascending : IsNonDecreasingBy (λ b. b.low) blocks
+  pub within : All (λ b. b.right < cells) blocks
+  pub order : AreInOrder blocks
+
+-- the tree covers what the blocks cover that begin at the row or below, which are the first `raised` ones
+pub record IsUpTo (mask : Mask) (cells : ℕ) (blocks : List Block) (row raised : ℕ) (cover : Cover) : Type 0 where
+  pub of_mask : cover.mask ≡ mask
+  pub wide : cover.cells ≡ cells
+  pub are : AreRaised blocks row raised cover
+  pub waiting : (k : ℕ) → raised ≤ k → k < length blocks → row < (block blocks k).low
 
 abbrev pub no_spot : Spot
 no_spot = record { row = 0; cell = 0; index = 0 }

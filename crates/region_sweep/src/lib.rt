@@ -3,9 +3,10 @@
 
 mod axis;
 mod block;
+mod changes;
 mod grid;
+mod reach;
 mod rows;
-mod sides;
 mod spot;
 mod swept;
 mod tile;

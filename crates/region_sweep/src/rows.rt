@@ -5,10 +5,10 @@ ghost use Rattle.cover_tree.specs.Trees.{cover_of};
 ghost use Rattle.strip_rows.specs.Swept.{strips_of, cells_of};
 ghost use Rattle.region_sweep.specs.Blocks.{painted, AreStacked};
 ghost use Rattle.region_sweep.specs.declared.spot.Spot.{Spot};
-ghost use Rattle.region_sweep.specs.Rows.{block, spot, AreFit, AreRaised, AreAsked, IsFront, IsAnswer, AreAnswered, IsSweep};
+ghost use Rattle.region_sweep.specs.Rows.{spot, AreWithin, AreRaised, IsUpTo, AreAsked, IsFront, IsAnswer, AreAnswered, IsSweep};
 
 use crate::block::Block;
-use crate::sides::{end_of_row, sides};
+use crate::changes::find_changes;
 use crate::spot::Spot;
 use cover_tree::CoverTree;
 use mask_runs::{Mask, colours_by_layers};
@@ -44,39 +44,33 @@ pub(crate) fn sweep_rows(
     ensures { IfOk result (λ s. IsSweep (painted mask blocks.now) spots.now s found.new) }
 {
     colours_by_layers();
-    let sides = sides(alloc, blocks)?;
     let mut tree = CoverTree::new(alloc, mask, size.cells)?;
     let mut strips = StripRows::new(alloc, size.cells)?;
+    let mut changed = Vec::new(alloc);
     let mut windows = Vec::new(alloc);
     let mut piece = Vec::new(alloc);
     let mut old = Vec::new(alloc);
     let mut new = Vec::new(alloc);
-    let mut begun = end_of_row(&sides, 0, 0);
     let mut raised = 0;
     let mut answered = answer(&strips, &tree, spots, 0, 0, found);
     for below in 0..size.rows - 1 {
         let row = below + 1;
-        let end = end_of_row(&sides, begun, row);
-        let changes = &sides[begun..end];
-        find_windows(&tree, below, changes, &mut windows)?;
+        find_changes(&tree, size.cells, blocks, raised, below, &mut changed)?;
+        find_windows(&tree, below, &changed, &mut windows)?;
         collect_windows(&tree, below, &windows, &mut piece, &mut old)?;
         raised = raise(&mut tree, blocks, raised, row);
         collect_windows(&tree, row, &windows, &mut piece, &mut new)?;
         strips.step(&old, &new)?;
         answered = answer(&strips, &tree, spots, answered, row, found);
-        begun = end;
     }
     Ok(strips.finish())
 }
 
 // Raises the blocks that begin in the row.
 fn raise(tree: &mut CoverTree, blocks: &[Block], raised: usize, row: u32) -> usize
-    requires fit { AreFit (cover_of tree.old).mask (cover_of tree.old).cells blocks.now }
+    requires within { AreWithin (cover_of tree.old).mask (cover_of tree.old).cells blocks.now }
     requires raised { AreRaised blocks.now row raised (cover_of tree.old) }
-    ensures mask { (cover_of tree.new).mask ≡ (cover_of tree.old).mask }
-    ensures cells { (cover_of tree.new).cells ≡ (cover_of tree.old).cells }
-    ensures raised { AreRaised blocks.now row result (cover_of tree.new) }
-    ensures waiting { (k : ℕ) → result ≤ k → k < length blocks.now → row < (block blocks.now k).low }
+    ensures { IsUpTo (cover_of tree.old).mask (cover_of tree.old).cells blocks.now row result (cover_of tree.new) }
 {
     let mut next = raised;
     while next < blocks.len() && blocks[next].low <= row {
@@ -84,6 +78,7 @@ fn raise(tree: &mut CoverTree, blocks: &[Block], raised: usize, row: u32) -> usi
         tree.raise(block.layer, block.left, block.right, block.high);
         next += 1;
     }
+    tree.advance(row);
     next
 }
 

@@ -25,7 +25,7 @@ pub struct Swept {
 
 /// Cuts the mask that these rectangles draw into tiles. A rectangle without squares draws nothing. A place names the
 /// square of which it is the lower left corner. More than 2^31 different coordinates of one axis, or tiles, count as
-/// want of memory.
+/// want of memory. The time is that of the rectangles, tiles, pairs and places, times the logarithm of their number.
 pub fn sweep(
     alloc: Global,
     shapes: &[Rect],

@@ -1,4 +1,4 @@
--- Edge by edge, from left to right.
+-- Stretch by stretch, from left to right.
 use Rattle.std.proofs.Common.{ℕ, ◌≡◌, ◌+◌, ◌-◌, ◌<◌, ◌≤◌, ◌⊎◌, List, [], ◌∷◌, ◌++◌, inl, inr, refl, sym, ◌∙◌, ap, subst, arith, length}
 use Rattle.std.specs.Prelude.{All}
 use Rattle.std.proofs.lemmas.Bool.{cases_lt, cases_eq}
@@ -7,58 +7,58 @@ use Rattle.std.proofs.lemmas.List.Elements.{All-push, Contains-append_left, Cont
 use Rattle.std.proofs.lemmas.List.Quantifiers.{all_pairs_push}
 use Rattle.mask_runs.specs.declared.run.Run.{Run}
 use Rattle.mask_runs.specs.Runs.{IsRun}
-use Rattle.row_windows.specs.declared.edge.Edge.{Edge}
+use Rattle.cover_tree.specs.declared.stretch.Stretch.{Stretch}
 use Rattle.row_windows.specs.declared.window.Window.{Window}
-use Rattle.row_windows.specs.Windows.{edge, no_edge, Touches, ChangeAt, AreFit, AreApart, TellChange}
+use Rattle.row_windows.specs.Windows.{stretch, no_stretch, Touches, ChangeAt, AreFit, AreApart, TellChange}
 use Rattle.row_windows.specs.Reaching.{IsLeftOf, IsRightOf, IsJoined, IsBegun, IsOpened}
 use Rattle.row_windows.proofs.Cutting.{window, no_window, IsFirm}
 use Rattle.row_windows.proofs.Telling.{AreWindows, tell_change}
 
--- the cell before has no colour and no edge has it
-pub record IsFreeBefore (colour : ℕ → ℕ) (edges : List Edge) (a : ℕ) : Type 0 where
+-- the cell before has no colour and no stretch has it
+pub record IsFreeBefore (colour : ℕ → ℕ) (stretches : List Stretch) (a : ℕ) : Type 0 where
   pub blank : (c : ℕ) → c + 1 ≡ a → colour c ≡ 0
-  pub free : (c : ℕ) → c + 1 ≡ a → ¬ Touches edges c
+  pub free : (c : ℕ) → c + 1 ≡ a → ¬ Touches stretches c
 
--- a run begins there, and no edge has a cell of it nor one of the two beside it
-pub record IsFreeRun (colour : ℕ → ℕ) (edges : List Edge) (r : Run) : Type 0 where
+-- a run begins there, and no stretch has a cell of it nor one of the two beside it
+pub record IsFreeRun (colour : ℕ → ℕ) (stretches : List Stretch) (r : Run) : Type 0 where
   pub is : IsRun colour r
-  pub free : (c : ℕ) → r.left ≤ c + 1 → c ≤ r.right → ¬ Touches edges c
+  pub free : (c : ℕ) → r.left ≤ c + 1 → c ≤ r.right → ¬ Touches stretches c
 
-pub data IsStart (colour : ℕ → ℕ) (edges : List Edge) (a : ℕ) : Type 0 where
-  blank_before : IsFreeBefore colour edges a → IsStart colour edges a
-  run_from : (r : Run) → IsFreeRun colour edges r → r.left ≡ a → IsStart colour edges a
+pub data IsStart (colour : ℕ → ℕ) (stretches : List Stretch) (a : ℕ) : Type 0 where
+  blank_before : IsFreeBefore colour stretches a → IsStart colour stretches a
+  run_from : (r : Run) → IsFreeRun colour stretches r → r.left ≡ a → IsStart colour stretches a
 
-pub data IsStop (colour : ℕ → ℕ) (edges : List Edge) (b : ℕ) : Type 0 where
-  blank_after : colour b ≡ 0 → (¬ Touches edges b) → IsStop colour edges b
-  run_upto : (r : Run) → IsFreeRun colour edges r → r.right ≡ b → IsStop colour edges b
+pub data IsStop (colour : ℕ → ℕ) (stretches : List Stretch) (b : ℕ) : Type 0 where
+  blank_after : colour b ≡ 0 → (¬ Touches stretches b) → IsStop colour stretches b
+  run_upto : (r : Run) → IsFreeRun colour stretches r → r.right ≡ b → IsStop colour stretches b
 
--- the windows so far, and the edges before the n-th, which are in them or in the open window
-pub record IsFinding (colour : ℕ → ℕ) (cells : ℕ) (edges : List Edge) (n : ℕ) (out : List Window) (current : Window) : Type 0 where
-  pub ahead : (k : ℕ) → n ≤ k → k < length edges → current.from ≤ (edge edges k).from
-  pub behind : (k : ℕ) → k < n → (edge edges k).to ≤ current.to
+-- the windows so far, and the stretches before the n-th, which are in them or in the open window
+pub record IsFinding (colour : ℕ → ℕ) (cells : ℕ) (stretches : List Stretch) (n : ℕ) (out : List Window) (current : Window) : Type 0 where
+  pub ahead : (k : ℕ) → n ≤ k → k < length stretches → current.from ≤ (stretch stretches k).from
+  pub behind : (k : ℕ) → k < n → (stretch stretches k).to ≤ current.to
   pub order : current.from ≤ current.to
   pub within : current.to < cells
-  pub held : (k : ℕ) → k < n → (current.from ≤ (edge edges k).from)
-      ⊎ ((j : ℕ) × (j < length out) × ((window out j).from ≤ (edge edges k).from) × ((edge edges k).to ≤ (window out j).to))
-  pub first : IsStart colour edges current.from
-  pub starts : All (λ w. IsStart colour edges w.from) out
-  pub stops : All (λ w. IsStop colour edges w.to) out
+  pub held : (k : ℕ) → k < n → (current.from ≤ (stretch stretches k).from)
+      ⊎ ((j : ℕ) × (j < length out) × ((window out j).from ≤ (stretch stretches k).from) × ((stretch stretches k).to ≤ (window out j).to))
+  pub first : IsStart colour stretches current.from
+  pub starts : All (λ w. IsStart colour stretches w.from) out
+  pub stops : All (λ w. IsStop colour stretches w.to) out
   pub apart : AreApart cells out
   pub before : All (λ w. w.to < current.from) out
 
--- no edge has a cell between those that end by it and those that begin after it
-free_at : (edges : List Edge) (n c : ℕ) → ((k : ℕ) → k < n → (edge edges k).to ≤ c) → ((k : ℕ) → n ≤ k → k < length edges → c < (edge edges k).from)
-    → ¬ Touches edges c
-free_at edges n c h g = λ t. let a = t.from in let b = t.to in elim (cases_lt t.place n) [
+-- no stretch has a cell between those that end by it and those that begin after it
+free_at : (stretches : List Stretch) (n c : ℕ) → ((k : ℕ) → k < n → (stretch stretches k).to ≤ c) → ((k : ℕ) → n ≤ k → k < length stretches → c < (stretch stretches k).from)
+    → ¬ Touches stretches c
+free_at stretches n c h g = λ t. let a = t.from in let b = t.to in elim (cases_lt t.place n) [
   | inl l ↦ let x = h t.place l in absurd (omega arith)
   | inr l ↦ let x = g t.place l t.among in absurd (omega arith)
 ]
 
-start_at : (colour : ℕ → ℕ) (edges : List Edge) (n bound cell a : ℕ) → ((k : ℕ) → k < n → (edge edges k).to ≤ bound)
-    → ((k : ℕ) → n ≤ k → k < length edges → cell ≤ (edge edges k).from) → (bound < a ⊎ (n ≡ 0)) → IsLeftOf colour cell a → IsStart colour edges a
-start_at colour edges n bound cell a h g low l =
+start_at : (colour : ℕ → ℕ) (stretches : List Stretch) (n bound cell a : ℕ) → ((k : ℕ) → k < n → (stretch stretches k).to ≤ bound)
+    → ((k : ℕ) → n ≤ k → k < length stretches → cell ≤ (stretch stretches k).from) → (bound < a ⊎ (n ≡ 0)) → IsLeftOf colour cell a → IsStart colour stretches a
+start_at colour stretches n bound cell a h g low l =
     let o = l.order in
-    let free = λ (c : ℕ) (x : a ≤ c + 1) (y : c < cell). free_at edges n c
+    let free = λ (c : ℕ) (x : a ≤ c + 1) (y : c < cell). free_at stretches n c
     (λ k m. let z = h k m in elim low [ inl w ↦ omega arith | inr w ↦ absurd (omega arith) ])
     (λ k m p. let z = g k m p in omega arith) in
     elim l.by [
@@ -69,11 +69,11 @@ start_at colour edges n bound cell a h g low l =
           run_from e.run (record { is = e.is; free = λ c x y. free c (omega arith) (omega arith) }) e.left
     ]
 
-stop_at : (colour : ℕ → ℕ) (edges : List Edge) (n cell b : ℕ) → ((k : ℕ) → k < n → (edge edges k).to ≤ cell)
-    → ((k : ℕ) → n ≤ k → k < length edges → b < (edge edges k).from) → IsRightOf colour cell b → IsStop colour edges b
-stop_at colour edges n cell b h g r =
+stop_at : (colour : ℕ → ℕ) (stretches : List Stretch) (n cell b : ℕ) → ((k : ℕ) → k < n → (stretch stretches k).to ≤ cell)
+    → ((k : ℕ) → n ≤ k → k < length stretches → b < (stretch stretches k).from) → IsRightOf colour cell b → IsStop colour stretches b
+stop_at colour stretches n cell b h g r =
     let o = r.order in
-    let free = λ (c : ℕ) (x : cell ≤ c) (y : c ≤ b). free_at edges n c
+    let free = λ (c : ℕ) (x : cell ≤ c) (y : c ≤ b). free_at stretches n c
     (λ k m. let z = h k m in omega arith) (λ k m p. let z = g k m p in omega arith) in
     elim r.by [
       | inl z ↦ blank_after z (free b o (omega arith))
@@ -83,52 +83,52 @@ stop_at colour edges n cell b h g r =
           run_upto e.run (record { is = e.is; free = λ c x y. free c (omega arith) (omega arith) }) e.right
     ]
 
-rises : (cells : ℕ) (edges : List Edge) (j k : ℕ) → AreFit cells edges → j ≤ k → k < length edges → (edge edges j).from ≤ (edge edges k).from
-rises cells edges j k fit l m = fit.ascending j k no_edge l m
+rises : (cells : ℕ) (stretches : List Stretch) (j k : ℕ) → AreFit cells stretches → j ≤ k → k < length stretches → (stretch stretches j).from ≤ (stretch stretches k).from
+rises cells stretches j k fit l m = fit.ascending j k no_stretch l m
 
-pub none_found : (colour : ℕ → ℕ) (cells : ℕ) (edges : List Edge) (out : List Window) (current : Window) → AreFit cells edges → 0 < length edges → out ≡ []
-    → IsLeftOf colour (edge edges 0).from current.from → current.to ≡ (edge edges 0).to → IsFinding colour cells edges 1 out current
-none_found colour cells edges out current fit some none l e =
+pub none_found : (colour : ℕ → ℕ) (cells : ℕ) (stretches : List Stretch) (out : List Window) (current : Window) → AreFit cells stretches → 0 < length stretches → out ≡ []
+    → IsLeftOf colour (stretch stretches 0).from current.from → current.to ≡ (stretch stretches 0).to → IsFinding colour cells stretches 1 out current
+none_found colour cells stretches out current fit some none l e =
     let o = l.order in
-    let w = fit.within 0 no_edge some in
+    let w = fit.within 0 no_stretch some in
     let empty : length out ≡ 0 = ap length none in
     record {
-      ahead = λ k a b. let r = rises cells edges 0 k fit (omega arith) b in omega arith;
-      behind = λ k a. let z : k ≡ 0 = omega arith in let q = ap (λ j. (edge edges j).to) z in omega arith;
-      order = let x = fit.wide 0 no_edge some in omega arith;
+      ahead = λ k a b. let r = rises cells stretches 0 k fit (omega arith) b in omega arith;
+      behind = λ k a. let z : k ≡ 0 = omega arith in let q = ap (λ j. (stretch stretches j).to) z in omega arith;
+      order = let x = fit.wide 0 no_stretch some in omega arith;
       within = omega arith;
-      held = λ k a. let z : k ≡ 0 = omega arith in let q = ap (λ j. (edge edges j).from) z in inl (omega arith);
-      first = start_at colour edges 0 0 (edge edges 0).from current.from (λ k a. absurd (omega arith))
-          (λ k a b. rises cells edges 0 k fit (omega arith) b) (inr refl) l;
+      held = λ k a. let z : k ≡ 0 = omega arith in let q = ap (λ j. (stretch stretches j).from) z in inl (omega arith);
+      first = start_at colour stretches 0 0 (stretch stretches 0).from current.from (λ k a. absurd (omega arith))
+          (λ k a b. rises cells stretches 0 k fit (omega arith) b) (inr refl) l;
       starts = λ k d a. absurd (omega arith);
       stops = λ k d a. absurd (omega arith);
       apart = record { within = λ k d a. absurd (omega arith); ascending = λ i j d a b. absurd (omega arith) };
       before = λ k d a. absurd (omega arith);
     }
 
-joined_more : (colour : ℕ → ℕ) (cells : ℕ) (edges : List Edge) (n : ℕ) (out now : List Window) (current next : Window) → AreFit cells edges → n < length edges
-    → IsFinding colour cells edges n out current → IsJoined current (edge edges n) out now next → IsFinding colour cells edges (n + 1) now next
-joined_more colour cells edges n out now current next fit l h j =
+joined_more : (colour : ℕ → ℕ) (cells : ℕ) (stretches : List Stretch) (n : ℕ) (out now : List Window) (current next : Window) → AreFit cells stretches → n < length stretches
+    → IsFinding colour cells stretches n out current → IsJoined current (stretch stretches n) out now next → IsFinding colour cells stretches (n + 1) now next
+joined_more colour cells stretches n out now current next fit l h j =
     let f = j.from in
     let t = j.to in
     let w = h.within in
-    let v = fit.within n no_edge l in
+    let v = fit.within n no_stretch l in
     record {
       ahead = λ k a b. let z = h.ahead k (omega arith) b in omega arith;
       behind = λ k a. elim (cases_eq k n) [
-        | inl e ↦ let q = ap (λ j. (edge edges j).to) e in omega arith
+        | inl e ↦ let q = ap (λ j. (stretch stretches j).to) e in omega arith
         | inr e ↦ let z = h.behind k (omega arith) in omega arith
       ];
       order = let x = h.order in omega arith;
       within = omega arith;
       held = λ k a. elim (cases_eq k n) [
-        | inl e ↦ let z = h.ahead n (omega arith) l in let q = ap (λ j. (edge edges j).from) e in inl (omega arith)
+        | inl e ↦ let z = h.ahead n (omega arith) l in let q = ap (λ j. (stretch stretches j).from) e in inl (omega arith)
         | inr e ↦ elim (h.held k (omega arith)) [
           | inl z ↦ inl (omega arith)
           | inr z ↦ inr (rw j.same z)
         ]
       ];
-      first = subst (IsStart colour edges) (sym j.from) h.first;
+      first = subst (IsStart colour stretches) (sym j.from) h.first;
       starts = rw j.same h.starts;
       stops = rw j.same h.stops;
       apart = rw j.same h.apart;
@@ -136,18 +136,18 @@ joined_more colour cells edges n out now current next fit l h j =
     }
 
 -- what windows hold with the one that is added
-record IsClosed (colour : ℕ → ℕ) (cells : ℕ) (edges : List Edge) (n : ℕ) (out : List Window) (end : ℕ) : Type 0 where
-  pub held : (k : ℕ) → k < n → (j : ℕ) × (j < length out) × ((window out j).from ≤ (edge edges k).from) × ((edge edges k).to ≤ (window out j).to)
-  pub starts : All (λ w. IsStart colour edges w.from) out
-  pub stops : All (λ w. IsStop colour edges w.to) out
+record IsClosed (colour : ℕ → ℕ) (cells : ℕ) (stretches : List Stretch) (n : ℕ) (out : List Window) (end : ℕ) : Type 0 where
+  pub held : (k : ℕ) → k < n → (j : ℕ) × (j < length out) × ((window out j).from ≤ (stretch stretches k).from) × ((stretch stretches k).to ≤ (window out j).to)
+  pub starts : All (λ w. IsStart colour stretches w.from) out
+  pub stops : All (λ w. IsStop colour stretches w.to) out
   pub apart : AreApart cells out
   pub before : All (λ w. w.to ≤ end) out
 
-close : (colour : ℕ → ℕ) (cells : ℕ) (edges : List Edge) (n : ℕ) (out : List Window) (current : Window) (end : ℕ)
-    → IsFinding colour cells edges n out current → IsRightOf colour current.to end → end < cells
-    → ((k : ℕ) → n ≤ k → k < length edges → end < (edge edges k).from)
-    → IsClosed colour cells edges n (out ++ record { from = current.from; to = end } ∷ []) end
-close colour cells edges n out current end h r m g =
+close : (colour : ℕ → ℕ) (cells : ℕ) (stretches : List Stretch) (n : ℕ) (out : List Window) (current : Window) (end : ℕ)
+    → IsFinding colour cells stretches n out current → IsRightOf colour current.to end → end < cells
+    → ((k : ℕ) → n ≤ k → k < length stretches → end < (stretch stretches k).from)
+    → IsClosed colour cells stretches n (out ++ record { from = current.from; to = end } ∷ []) end
+close colour cells stretches n out current end h r m g =
     let w : Window = record { from = current.from; to = end } in
     let o = r.order in
     let u = h.order in
@@ -169,8 +169,8 @@ close colour cells edges n out current end h r m g =
             let a2 = z.3 in
             (p.0, p.1, omega arith, omega arith)
       ];
-      starts = All-push (λ v. IsStart colour edges v.from) out w h.starts h.first;
-      stops = All-push (λ v. IsStop colour edges v.to) out w h.stops (stop_at colour edges n current.to end h.behind g r);
+      starts = All-push (λ v. IsStart colour stretches v.from) out w h.starts h.first;
+      stops = All-push (λ v. IsStop colour stretches v.to) out w h.stops (stop_at colour stretches n current.to end h.behind g r);
       apart = record {
         within = All-push (λ v. v.to ≤ cells) out w h.apart.within (omega arith);
         ascending = all_pairs_push (λ v u. v.to < u.from) out w h.apart.ascending h.before;
@@ -178,44 +178,44 @@ close colour cells edges n out current end h r m g =
       before = All-push (λ v. v.to ≤ end) out w (λ k d l. let z = h.before k d l in omega arith) (omega arith);
     }
 
-begun_more : (colour : ℕ → ℕ) (cells : ℕ) (edges : List Edge) (n : ℕ) (out now : List Window) (current next : Window) → AreFit cells edges → n < length edges
-    → IsFinding colour cells edges n out current → IsBegun colour cells current (edge edges n) out now next → IsFinding colour cells edges (n + 1) now next
-begun_more colour cells edges n out now current next fit l h b =
+begun_more : (colour : ℕ → ℕ) (cells : ℕ) (stretches : List Stretch) (n : ℕ) (out now : List Window) (current next : Window) → AreFit cells stretches → n < length stretches
+    → IsFinding colour cells stretches n out current → IsBegun colour cells current (stretch stretches n) out now next → IsFinding colour cells stretches (n + 1) now next
+begun_more colour cells stretches n out now current next fit l h b =
     let r = b.right.order in
     let f = b.left.order in
     let t = b.to in
     let a = b.apart in
-    let wide = fit.wide n no_edge l in
-    let v = fit.within n no_edge l in
-    let c = close colour cells edges n out current b.end h b.right b.within (λ k x y. let z = rises cells edges n k fit x y in omega arith) in
+    let wide = fit.wide n no_stretch l in
+    let v = fit.within n no_stretch l in
+    let c = close colour cells stretches n out current b.end h b.right b.within (λ k x y. let z = rises cells stretches n k fit x y in omega arith) in
     record {
-      ahead = λ k x y. let z = rises cells edges n k fit (omega arith) y in omega arith;
+      ahead = λ k x y. let z = rises cells stretches n k fit (omega arith) y in omega arith;
       behind = λ k x. elim (cases_eq k n) [
-        | inl e ↦ let q = ap (λ j. (edge edges j).to) e in omega arith
+        | inl e ↦ let q = ap (λ j. (stretch stretches j).to) e in omega arith
         | inr e ↦ let z = h.behind k (omega arith) in omega arith
       ];
       order = omega arith;
       within = omega arith;
       held = λ k x. elim (cases_eq k n) [
-        | inl e ↦ let q = ap (λ j. (edge edges j).from) e in inl (omega arith)
+        | inl e ↦ let q = ap (λ j. (stretch stretches j).from) e in inl (omega arith)
         | inr e ↦ inr (rw b.added (c.held k (omega arith)))
       ];
-      first = start_at colour edges n b.end (edge edges n).from next.from (λ k x. let z = h.behind k x in omega arith)
-          (λ k x y. rises cells edges n k fit x y) (inl a) b.left;
+      first = start_at colour stretches n b.end (stretch stretches n).from next.from (λ k x. let z = h.behind k x in omega arith)
+          (λ k x y. rises cells stretches n k fit x y) (inl a) b.left;
       starts = rw b.added c.starts;
       stops = rw b.added c.stops;
       apart = rw b.added c.apart;
       before = rw b.added (λ k d x. let z = c.before k d x in omega arith);
     }
 
-pub finding_more : (colour : ℕ → ℕ) (cells : ℕ) (edges : List Edge) (n : ℕ) (out now : List Window) (current next : Window) → AreFit cells edges → n < length edges
-    → IsFinding colour cells edges n out current → IsOpened colour cells current (edge edges n) out now next → IsFinding colour cells edges (n + 1) now next
-finding_more colour cells edges n out now current next fit l h (inl j) = joined_more colour cells edges n out now current next fit l h j
-finding_more colour cells edges n out now current next fit l h (inr b) = begun_more colour cells edges n out now current next fit l h b
+pub finding_more : (colour : ℕ → ℕ) (cells : ℕ) (stretches : List Stretch) (n : ℕ) (out now : List Window) (current next : Window) → AreFit cells stretches → n < length stretches
+    → IsFinding colour cells stretches n out current → IsOpened colour cells current (stretch stretches n) out now next → IsFinding colour cells stretches (n + 1) now next
+finding_more colour cells stretches n out now current next fit l h (inl j) = joined_more colour cells stretches n out now current next fit l h j
+finding_more colour cells stretches n out now current next fit l h (inr b) = begun_more colour cells stretches n out now current next fit l h b
 
--- a run that both rows have, since no edge changes it
-free_run : (old new : ℕ → ℕ) (edges : List Edge) (r : Run) → ChangeAt edges old new → IsFreeRun old edges r → IsRun new r
-free_run old new edges r change f =
+-- a run that both rows have, since no stretch changes it
+free_run : (old new : ℕ → ℕ) (stretches : List Stretch) (r : Run) → ChangeAt stretches old new → IsFreeRun old stretches r → IsRun new r
+free_run old new stretches r change f =
     let w = f.is.wide in
     let same = λ (c : ℕ) (a : r.left ≤ c + 1) (b : c ≤ r.right). change c (f.free c a b) in
     record {
@@ -255,7 +255,7 @@ one_upto f p q a b e =
       ]
     ]) e k
 
-module _ (old new : ℕ → ℕ) (edges : List Edge) (change : ChangeAt edges old new) where
+module _ (old new : ℕ → ℕ) (stretches : List Stretch) (change : ChangeAt stretches old new) where
   -- no run goes on over the left end of a run
   firm_from : (f : ℕ → ℕ) (r : Run) (a : ℕ) → IsRun f r → r.left ≡ a → IsFirm f a
   firm_from f r a is e = record { ends = λ c h s k. is.before c (omega arith) (k ∙ ap f (sym e) ∙ is.each r.left (omega arith) is.wide) }
@@ -270,34 +270,34 @@ module _ (old new : ℕ → ℕ) (edges : List Edge) (change : ChangeAt edges ol
   firm_stop : (f : ℕ → ℕ) (b : ℕ) → f b ≡ 0 → IsFirm f b
   firm_stop f b z = record { ends = λ c h s k. absurd (omega arith) }
 
-  start_old : (a : ℕ) → IsStart old edges a → IsFirm old a
+  start_old : (a : ℕ) → IsStart old stretches a → IsFirm old a
   start_old a (blank_before p) = firm_blank old a p.blank
   start_old a (run_from r f e) = firm_from old r a f.is e
 
-  start_new : (a : ℕ) → IsStart old edges a → IsFirm new a
+  start_new : (a : ℕ) → IsStart old stretches a → IsFirm new a
   start_new a (blank_before p) = firm_blank new a (λ c e. sym (change c (p.free c e)) ∙ p.blank c e)
-  start_new a (run_from r f e) = firm_from new r a (free_run old new edges r change f) e
+  start_new a (run_from r f e) = firm_from new r a (free_run old new stretches r change f) e
 
-  start_first : (a : ℕ) → IsStart old edges a → (q : Run) → IsRun new q → q.left ≡ a → (c : ℕ) → c + 1 ≡ q.left → 0 < new c → IsRun old q
+  start_first : (a : ℕ) → IsStart old stretches a → (q : Run) → IsRun new q → q.left ≡ a → (c : ℕ) → c + 1 ≡ q.left → 0 < new c → IsRun old q
   start_first a (blank_before p) q is e c h s =
       let z = change c (p.free c (h ∙ e)) in let b = p.blank c (h ∙ e) in absurd (omega arith)
   start_first a (run_from r f g) q is e c h s =
-      subst (IsRun old) (one_from new r q (free_run old new edges r change f) is (g ∙ sym e)) f.is
+      subst (IsRun old) (one_from new r q (free_run old new stretches r change f) is (g ∙ sym e)) f.is
 
-  stop_old : (b : ℕ) → IsStop old edges b → IsFirm old b
+  stop_old : (b : ℕ) → IsStop old stretches b → IsFirm old b
   stop_old b (blank_after z n) = firm_stop old b z
   stop_old b (run_upto r f e) = firm_upto old r b f.is e
 
-  stop_new : (b : ℕ) → IsStop old edges b → IsFirm new b
+  stop_new : (b : ℕ) → IsStop old stretches b → IsFirm new b
   stop_new b (blank_after z n) = firm_stop new b (sym (change b n) ∙ z)
-  stop_new b (run_upto r f e) = firm_upto new r b (free_run old new edges r change f) e
+  stop_new b (run_upto r f e) = firm_upto new r b (free_run old new stretches r change f) e
 
-  stop_last : (b : ℕ) → IsStop old edges b → (q : Run) → IsRun new q → q.right ≡ b → 0 < new q.right → IsRun old q
+  stop_last : (b : ℕ) → IsStop old stretches b → (q : Run) → IsRun new q → q.right ≡ b → 0 < new q.right → IsRun old q
   stop_last b (blank_after z n) q is e s = let x = change b n in let y = ap new e in absurd (omega arith)
   stop_last b (run_upto r f g) q is e s =
-      subst (IsRun old) (one_upto new r q (free_run old new edges r change f) is (g ∙ sym e)) f.is
+      subst (IsRun old) (one_upto new r q (free_run old new stretches r change f) is (g ∙ sym e)) f.is
 
-  are_windows : (cells : ℕ) (windows : List Window) (end : ℕ) → IsClosed old cells edges (length edges) windows end → AreWindows old new windows
+  are_windows : (cells : ℕ) (windows : List Window) (end : ℕ) → IsClosed old cells stretches (length stretches) windows end → AreWindows old new windows
   are_windows cells windows end h = record {
     same = λ c n. change c (λ t.
         let g = h.held t.place t.among in
@@ -318,33 +318,33 @@ module _ (old new : ℕ → ℕ) (edges : List Edge) (change : ChangeAt edges ol
     last = λ k l. stop_last (window windows k).to (h.stops k no_window l);
   }
 
--- all edges are in the windows with the one that is open
-module _ (row : ℕ → ℕ) (cells : ℕ) (edges : List Edge) (n : ℕ) (out now : List Window) (current w : Window) (h : IsFinding row cells edges n out current)
-    (all : n ≡ length edges) (from : w.from ≡ current.from) (right : IsRightOf row current.to w.to) (within : w.to < cells) (added : now ≡ out ++ w ∷ []) where
-  complete : IsClosed row cells edges n now w.to
+-- all stretches are in the windows with the one that is open
+module _ (row : ℕ → ℕ) (cells : ℕ) (stretches : List Stretch) (n : ℕ) (out now : List Window) (current w : Window) (h : IsFinding row cells stretches n out current)
+    (all : n ≡ length stretches) (from : w.from ≡ current.from) (right : IsRightOf row current.to w.to) (within : w.to < cells) (added : now ≡ out ++ w ∷ []) where
+  complete : IsClosed row cells stretches n now w.to
   complete =
       let e : record { from = current.from; to = w.to } ≡ w = λ i. record { from = sym from i; to = w.to } in
-      subst (λ v. IsClosed row cells edges n v w.to) (ap (λ (v : Window). out ++ v ∷ []) e ∙ sym added)
-      (close row cells edges n out current w.to h right within (λ k a b. absurd (omega arith)))
+      subst (λ v. IsClosed row cells stretches n v w.to) (ap (λ (v : Window). out ++ v ∷ []) e ∙ sym added)
+      (close row cells stretches n out current w.to h right within (λ k a b. absurd (omega arith)))
 
   pub found_apart : AreApart cells now
   found_apart = complete.apart
 
-  pub found_tell : (colour : ℕ → ℕ → ℕ) (y : ℕ) → ((c : ℕ) → colour y c ≡ row c) → ChangeAt edges (colour y) (colour (y + 1)) → TellChange colour y now
+  pub found_tell : (colour : ℕ → ℕ → ℕ) (y : ℕ) → ((c : ℕ) → colour y c ≡ row c) → ChangeAt stretches (colour y) (colour (y + 1)) → TellChange colour y now
   found_tell colour y same change =
       let e : colour y ≡ row = λ i c. same c i in
-      let c = subst (λ f. IsClosed f cells edges n now w.to) (sym e) complete in
-      tell_change colour y now (are_windows (colour y) (colour (y + 1)) edges change cells now w.to
-      (subst (λ m. IsClosed (colour y) cells edges m now w.to) all c))
+      let c = subst (λ f. IsClosed f cells stretches n now w.to) (sym e) complete in
+      tell_change colour y now (are_windows (colour y) (colour (y + 1)) stretches change cells now w.to
+      (subst (λ m. IsClosed (colour y) cells stretches m now w.to) all c))
 
--- where there are no edges nothing changes
+-- where there are no stretches nothing changes
 pub nothing_apart : (cells : ℕ) (windows : List Window) → windows ≡ [] → AreApart cells windows
 nothing_apart cells windows e = subst (AreApart cells) (sym e) (record { within = λ k d a. absurd (omega arith); ascending = λ i j d a b. absurd (omega arith) })
 
-pub nothing_tells : (colour : ℕ → ℕ → ℕ) (y : ℕ) (edges : List Edge) (windows : List Window) → length edges ≡ 0 → windows ≡ []
-    → ChangeAt edges (colour y) (colour (y + 1)) → TellChange colour y windows
-nothing_tells colour y edges windows none e change = subst (TellChange colour y) (sym e)
-    (tell_change colour y [] (are_windows (colour y) (colour (y + 1)) edges change 0 [] 0 (record {
+pub nothing_tells : (colour : ℕ → ℕ → ℕ) (y : ℕ) (stretches : List Stretch) (windows : List Window) → length stretches ≡ 0 → windows ≡ []
+    → ChangeAt stretches (colour y) (colour (y + 1)) → TellChange colour y windows
+nothing_tells colour y stretches windows none e change = subst (TellChange colour y) (sym e)
+    (tell_change colour y [] (are_windows (colour y) (colour (y + 1)) stretches change 0 [] 0 (record {
       held = λ k a. absurd (omega arith);
       starts = λ k d a. absurd (omega arith);
       stops = λ k d a. absurd (omega arith);

@@ -2,7 +2,7 @@
 use Rattle.std.specs.Prelude.{◌≡◌, ◌⊎◌, ℕ, ◌+◌, ◌<◌, ◌≤◌, List, [], ◌∷◌, ◌++◌, max}
 use Rattle.mask_runs.specs.declared.run.Run.{Run}
 use Rattle.mask_runs.specs.Runs.{IsRun}
-use Rattle.row_windows.specs.declared.edge.Edge.{Edge}
+use Rattle.cover_tree.specs.declared.stretch.Stretch.{Stretch}
 use Rattle.row_windows.specs.declared.window.Window.{Window}
 
 -- the cell before has no colour
@@ -55,14 +55,14 @@ pub record IsRightOf (colour : ℕ → ℕ) (cell reached : ℕ) : Type 0 where
   pub order : cell ≤ reached
   pub by : (colour reached ≡ 0) ⊎ BeginsAfter colour cell reached
 
--- the open window goes on over the edge
-pub record IsJoined (current : Window) (e : Edge) (old now : List Window) (next : Window) : Type 0 where
+-- the open window goes on over the stretch
+pub record IsJoined (current : Window) (e : Stretch) (old now : List Window) (next : Window) : Type 0 where
   pub same : now ≡ old
   pub from : next.from ≡ current.from
   pub to : next.to ≡ max current.to e.to
 
--- it has been added, and the next one opens at the edge
-pub record IsBegun (colour : ℕ → ℕ) (cells : ℕ) (current : Window) (e : Edge) (old now : List Window) (next : Window) : Type 0 where
+-- it has been added, and the next one opens at the stretch
+pub record IsBegun (colour : ℕ → ℕ) (cells : ℕ) (current : Window) (e : Stretch) (old now : List Window) (next : Window) : Type 0 where
   pub end : ℕ
   pub right : IsRightOf colour current.to end
   pub within : end < cells
@@ -71,5 +71,5 @@ pub record IsBegun (colour : ℕ → ℕ) (cells : ℕ) (current : Window) (e : 
   pub to : next.to ≡ e.to
   pub apart : end < next.from
 
-abbrev pub IsOpened : (ℕ → ℕ) → ℕ → Window → Edge → List Window → List Window → Window → Type 0
+abbrev pub IsOpened : (ℕ → ℕ) → ℕ → Window → Stretch → List Window → List Window → Window → Type 0
 IsOpened colour cells current e old now next = IsJoined current e old now next ⊎ IsBegun colour cells current e old now next

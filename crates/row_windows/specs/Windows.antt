@@ -5,32 +5,32 @@ use Rattle.mask_runs.specs.declared.run.Run.{Run}
 use Rattle.mask_runs.specs.Runs.{AreRuns}
 use Rattle.cover_tree.specs.Covers.{Cover, row_colour}
 use Rattle.strip_rows.specs.Changes.{IsChange}
-use Rattle.row_windows.specs.declared.edge.Edge.{Edge}
+use Rattle.cover_tree.specs.declared.stretch.Stretch.{Stretch}
 use Rattle.row_windows.specs.declared.window.Window.{Window}
 
-abbrev pub no_edge : Edge
-no_edge = record { row = 0; from = 0; to = 0 }
+abbrev pub no_stretch : Stretch
+no_stretch = record { from = 0; to = 0 }
 
--- the edge at this place
-abbrev pub edge : List Edge → ℕ → Edge
-edge edges k = slice_index_or edges k no_edge
+-- the stretch at this place
+abbrev pub stretch : List Stretch → ℕ → Stretch
+stretch stretches k = slice_index_or stretches k no_stretch
 
--- one of the edges has the cell
-pub record Touches (edges : List Edge) (c : ℕ) : Type 0 where
+-- one of the stretches has the cell
+pub record Touches (stretches : List Stretch) (c : ℕ) : Type 0 where
   pub place : ℕ
-  pub among : place < length edges
-  pub from : (edge edges place).from ≤ c
-  pub to : c < (edge edges place).to
+  pub among : place < length stretches
+  pub from : (stretch stretches place).from ≤ c
+  pub to : c < (stretch stretches place).to
 
--- cells that no edge has are of one colour in both rows
-abbrev pub ChangeAt : List Edge → (ℕ → ℕ) → (ℕ → ℕ) → Type 0
-ChangeAt edges old new = (c : ℕ) → (¬ Touches edges c) → old c ≡ new c
+-- cells that no stretch has are of one colour in both rows
+abbrev pub ChangeAt : List Stretch → (ℕ → ℕ) → (ℕ → ℕ) → Type 0
+ChangeAt stretches old new = (c : ℕ) → (¬ Touches stretches c) → old c ≡ new c
 
--- each edge has cells, before the last one of so many, and they stand from left to right
-pub record AreFit (cells : ℕ) (edges : List Edge) : Type 0 where
-  pub wide : All (λ e. e.from < e.to) edges
-  pub within : All (λ e. e.to < cells) edges
-  pub ascending : IsNonDecreasingBy (λ e. e.from) edges
+-- each stretch has cells, before the last one of so many, and they stand from left to right
+pub record AreFit (cells : ℕ) (stretches : List Stretch) : Type 0 where
+  pub wide : All (λ e. e.from < e.to) stretches
+  pub within : All (λ e. e.to < cells) stretches
+  pub ascending : IsNonDecreasingBy (λ e. e.from) stretches
 
 -- the last cell of the row has no colour, nor has any past it
 abbrev pub IsGuarded : Cover → ℕ → Type 0

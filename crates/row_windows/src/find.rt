@@ -6,75 +6,76 @@ ghost use Rattle.cover_tree.specs.Trees.{cover_of};
 ghost use Rattle.row_windows.specs.Windows.{AreFit, AreApart, ChangeAt, TellChange, IsGuarded};
 ghost use Rattle.row_windows.specs.Reaching.{IsOpened, IsRightOf};
 
-use crate::edge::Edge;
 use crate::reach::{left_of, right_of};
 use crate::window::Window;
-use cover_tree::CoverTree;
+use cover_tree::{CoverTree, Stretch};
 use mp_base::NoMemory;
 use std::alloc::AllocError;
 
-/// The windows of a row, from left to right, around the cells that these edges have, from left to right too. Each window
-/// reaches over two runs beside such cells, if they lie next to one another, so that the runs in the windows, in this row
-/// and in the next, tell all that changes. Its time is that of the edges times the logarithm of the cells, where the mask
-/// has one layer.
+/// The windows of a row, from left to right, around the cells that these stretches have, from left to right too. Each
+/// window reaches over two runs beside such cells, if they lie next to one another, so that the runs in the windows, in
+/// this row and in the next, tell all that changes. Its time is that of the stretches times the logarithm of the cells.
 pub fn find_windows(
     tree: &CoverTree,
     row: u32,
-    edges: &[Edge],
+    stretches: &[Stretch],
     windows: &mut Vec<Window>,
 ) -> Result<(), NoMemory>
-    requires fit { AreFit (cover_of tree.now).cells edges.now }
+    requires fit { AreFit (cover_of tree.now).cells stretches.now }
     requires guarded { IsGuarded (cover_of tree.now) row }
     ensures apart { IfOk result (λ _. AreApart (cover_of tree.now).cells windows.new.items) }
     ensures tell { IfOk result (λ _. (colour : ℕ → ℕ → ℕ) (y : ℕ) → ((c : ℕ) → colour y c ≡ row_colour (cover_of tree.now) row c)
-        → ChangeAt edges.now (colour y) (colour (y + 1)) → TellChange colour y windows.new.items) }
+        → ChangeAt stretches.now (colour y) (colour (y + 1)) → TellChange colour y windows.new.items) }
 {
     windows.clear();
-    if edges.is_empty() {
+    if stretches.is_empty() {
         return Ok(());
     }
     let mut current = Window {
-        from: left_of(tree, row, edges[0].from),
-        to: edges[0].to,
+        from: left_of(tree, row, stretches[0].from),
+        to: stretches[0].to,
     };
-    for next in 1..edges.len() {
-        current = add_edge(tree, row, current, edges[next], windows)?;
+    for next in 1..stretches.len() {
+        current = add_stretch(tree, row, current, stretches[next], windows)?;
     }
     add(windows, closed(tree, row, current))?;
     Ok(())
 }
 
-// Adds the current window if the edge lies beyond it, and gives the current one then, whose `to` is where the edges end that
+// Adds the current window if the stretch lies beyond it, and gives the current one then, whose `to` is where the stretches end that
 // it has.
-fn add_edge(
+fn add_stretch(
     tree: &CoverTree,
     row: u32,
     current: Window,
-    edge: Edge,
+    stretch: Stretch,
     windows: &mut Vec<Window>,
 ) -> Result<Window, NoMemory>
     requires current { current.to < (cover_of tree.now).cells }
-    requires edge { edge.from < (cover_of tree.now).cells }
+    requires stretch { stretch.from < (cover_of tree.now).cells }
     requires guarded { IsGuarded (cover_of tree.now) row }
-    ensures { IfOk result (λ next. IsOpened (row_colour (cover_of tree.now) row) (cover_of tree.now).cells current edge windows.old.items windows.new.items next) }
+    ensures { IfOk result (λ next. IsOpened (row_colour (cover_of tree.now) row) (cover_of tree.now).cells current stretch windows.old.items windows.new.items next) }
 {
     let joined = Window {
         from: current.from,
-        to: current.to.max(edge.to),
+        to: current.to.max(stretch.to),
     };
-    if edge.from <= current.to {
+    if stretch.from <= current.to {
         return Ok(joined);
     }
     let window = closed(tree, row, current);
-    let from = left_of(tree, row, edge.from);
+    let from = left_of(tree, row, stretch.from);
     if from <= window.to {
         return Ok(joined);
     }
     add(windows, window)?;
-    Ok(Window { from, to: edge.to })
+    Ok(Window {
+        from,
+        to: stretch.to,
+    })
 }
 
-// The window with the runs to the right of its edges.
+// The window with the runs to the right of its stretches.
 fn closed(tree: &CoverTree, row: u32, current: Window) -> Window
     requires current { current.to < (cover_of tree.now).cells }
     requires guarded { IsGuarded (cover_of tree.now) row }

@@ -2,12 +2,10 @@
 #![tactic(auto)]
 
 mod collect;
-mod edge;
 mod find;
 mod reach;
 mod window;
 
 pub use collect::collect_windows;
-pub use edge::Edge;
 pub use find::find_windows;
 pub use window::Window;

@@ -1,6 +1,6 @@
 use Rattle.std.proofs.Common.{◌≡◌, ◌+◌, ◌/◌, ◌≤◌, arith, ap}
-use Rattle.cover_tree.specs.Layered.{tree}
-use Rattle.cover_tree.proofs.Tops.{sound_left, sound_right, small_left, small_right}
+use Rattle.cover_tree.proofs.Tops.{small_left, small_right}
+use Rattle.cover_tree.proofs.Noting.{noted_left, noted_right}
 use Rattle.cover_tree.proofs.nearest.+colour_at.Goals as goal
 
 -- src/nearest.rt
@@ -9,7 +9,7 @@ colour_at-requires t c =
     let m : c.right-right.result.base ≡ c.args.part.base + c.args.part.width / 2 = ap (λ p. p.base) c.right-right.ensures in
     let h : 2 ≤ c.args.part.width = c.in-Many.ensures.wide in
     rw c.left.ensures
-    (omega arith, (small_left c.args.part h c.requires.small, (λ l. sound_left (tree c.args.trees.now l) c.args.part h (c.requires.sound l), record { from = omega arith; to = omega arith })))
+    (omega arith, (small_left c.args.part h c.requires.small, (noted_left c.args.line.mask c.args.trees.now c.args.part h c.requires.noted, record { from = omega arith; to = omega arith })))
 
 -- src/nearest.rt
 pub colour_at-requires-in-Many : goal.colour_at-requires-in-Many
@@ -17,4 +17,4 @@ colour_at-requires-in-Many t c =
     let m : c.right-right.result.base ≡ c.args.part.base + c.args.part.width / 2 = ap (λ p. p.base) c.right-right.ensures in
     let h : 2 ≤ c.args.part.width = c.in-Many.ensures.wide in
     rw c.right-right.ensures
-    (omega arith, (small_right c.args.part h c.requires.small, (λ l. sound_right (tree c.args.trees.now l) c.args.part h (c.requires.sound l), record { from = omega arith; to = omega arith })))
+    (omega arith, (small_right c.args.part h c.requires.small, (noted_right c.args.line.mask c.args.trees.now c.args.part h c.requires.noted, record { from = omega arith; to = omega arith })))

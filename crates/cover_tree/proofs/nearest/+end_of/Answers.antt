@@ -1,6 +1,6 @@
 use Rattle.std.proofs.Common.{◌≡◌, ◌+◌, ◌/◌, ◌≤◌, arith, ap}
-use Rattle.cover_tree.specs.Layered.{tree}
-use Rattle.cover_tree.proofs.Tops.{sound_left, sound_right, small_left, small_right}
+use Rattle.cover_tree.proofs.Tops.{small_left, small_right}
+use Rattle.cover_tree.proofs.Noting.{noted_left, noted_right}
 use Rattle.cover_tree.proofs.Going.{ends_right}
 use Rattle.cover_tree.proofs.nearest.+end_of.Goals as goal
 
@@ -10,7 +10,7 @@ end_of-middle-requires t c =
     let m : c.right-right.result.base ≡ c.args.part.base + c.args.part.width / 2 = ap (λ p. p.base) c.right-right.ensures in
     let h : 2 ≤ c.args.part.width = c.in-Many.ensures.wide in
     rw c.left.ensures
-    (omega arith, (small_left c.args.part h c.requires.small, (λ l. sound_left (tree c.args.trees.now l) c.args.part h (c.requires.sound l), c.requires.from)))
+    (omega arith, (small_left c.args.part h c.requires.small, (noted_left c.args.line.mask c.args.trees.now c.args.part h c.requires.noted, c.requires.from)))
 
 -- src/nearest.rt
 pub end_of-requires : goal.end_of-requires
@@ -18,7 +18,7 @@ end_of-requires t c =
     let m : c.right-right.result.base ≡ c.args.part.base + c.args.part.width / 2 = ap (λ p. p.base) c.right-right.ensures in
     let h : 2 ≤ c.args.part.width = c.in-Many.ensures.wide in
     rw c.right-right.ensures
-    (omega arith, (small_right c.args.part h c.requires.small, (λ l. sound_right (tree c.args.trees.now l) c.args.part h (c.requires.sound l), omega arith)))
+    (omega arith, (small_right c.args.part h c.requires.small, (noted_right c.args.line.mask c.args.trees.now c.args.part h c.requires.noted, omega arith)))
 
 -- src/nearest.rt
 pub returns-else-middle-right : goal.returns-else-middle-right

@@ -1,38 +1,91 @@
-use Rattle.std.proofs.Common.{rules, ◌≡◌, ◌≤◌, length, arith}
+use Rattle.std.proofs.Common.{◌≡◌, ◌≤◌, ◌<◌, refl, length, arith}
 use Rattle.cover_tree.specs.Parts.{IsPartRaised, left_half, right_half}
-use Rattle.cover_tree.proofs.Tops.{sound_left, small_left, small_right}
-use Rattle.cover_tree.proofs.Raising.{raised_all, raised_both, right_after}
+use Rattle.cover_tree.specs.Layered.{tree}
+use Rattle.cover_tree.specs.Notes.{IsOnlyIn}
+use Rattle.cover_tree.proofs.Tops.{small_left, small_right}
+use Rattle.cover_tree.proofs.Noting.{noted_left}
+use Rattle.cover_tree.proofs.Raising.{raised_all, lifted_halves, lifted_only, only_in_turn, right_noted, both_noted, both_raised, both_only}
 use Rattle.cover_tree.proofs.raise.+raise_part.Goals as goal
 
 -- src/raise.rt
-pub returns-then-to-from : goal.returns-then-to-from
-returns-then-to-from t c =
-    rw c.lifted.ensures
-    (raised_all c.args.nodes.now c.args.part c.args.span c.args.row c.requires.small.some (omega arith) c.requires.sound (omega arith))
+pub sum_up-requires-clause-halves : goal.sum_up-requires-clause-halves
+sum_up-requires-clause-halves t c =
+    lifted_halves c.args.trees.now c.lift.new.self c.args.layer c.args.part.at _ c.lift.ensures.own c.lift.ensures.others c.lift.ensures.notes c.lift.ensures.since
+    c.args.mask c.args.part refl c.requires.small.some c.requires.noted
+
+-- src/raise.rt
+pub returns-then-to-from-clause-raised : goal.returns-then-to-from-clause-raised
+returns-then-to-from-clause-raised t c =
+    let room = c.requires.room.tops in
+    rw (c.sum_up.ensures.tops c.args.layer, c.lift.ensures.own)
+    (raised_all (tree c.args.trees.now c.args.layer) c.args.part c.args.span c.args.row c.requires.small.some (omega arith) (omega arith))
+
+-- src/raise.rt
+pub returns-then-to-from-clause-only : goal.returns-then-to-from-clause-only
+returns-then-to-from-clause-only t c =
+    only_in_turn c.args.part c.args.trees.now c.lift.new.self c.sum_up.new.self
+    (lifted_only c.args.trees.now c.lift.new.self c.args.layer c.args.part.at _ c.lift.ensures.own c.lift.ensures.others c.lift.ensures.notes c.lift.ensures.since
+    c.args.part refl c.requires.small.some) c.sum_up.ensures.only
 
 -- src/raise.rt
 pub raise_part-requires : goal.raise_part-requires
 raise_part-requires t c =
     let h : 2 ≤ c.args.part.width = omega arith in
-    rw c.left-left.ensures
-    (omega arith, (small_left c.args.part h c.requires.small, (omega arith, sound_left c.args.nodes.now c.args.part h c.requires.sound)))
+    let a = c.requires.room.tops in
+    let b = c.requires.room.notes in
+    rw c.left.ensures (
+      omega arith,
+      (
+        small_left c.args.part h c.requires.small,
+        (
+          record { tops = omega arith; notes = omega arith },
+          noted_left c.args.mask c.args.trees.now c.args.part h c.requires.noted,
+        ),
+      ),
+    )
 
 -- src/raise.rt
 pub raise_part-requires-2 : goal.raise_part-requires-2
 raise_part-requires-2 t c =
     let h : 2 ≤ c.args.part.width = omega arith in
-    let l : IsPartRaised c.args.nodes.now c.raise_part.new.nodes (left_half c.args.part) c.args.span c.args.row = rw (← c.left-left.ensures) c.raise_part.ensures in
-    let n : length c.raise_part.new.nodes ≡ length c.args.nodes.now = search rules in
-    rw c.right-right.ensures
-    (omega arith, (small_right c.args.part h c.requires.small, (omega arith, right_after c.args.nodes.now c.raise_part.new.nodes c.args.part c.args.span c.args.row h c.requires.sound l)))
+    let a = c.requires.room.tops in
+    let b = c.requires.room.notes in
+    let l : IsOnlyIn (left_half c.args.part) c.args.trees.now c.raise_part.new.trees = rw (← c.left.ensures) c.raise_part.ensures.only in
+    let m = l.as_many c.args.layer in
+    let n = l.as_many_notes in
+    rw c.right.ensures (
+      omega arith,
+      (
+        small_right c.args.part h c.requires.small,
+        (
+          record { tops = omega arith; notes = omega arith },
+          right_noted c.args.trees.now c.raise_part.new.trees c.args.part h l c.args.mask c.requires.noted,
+        ),
+      ),
+    )
 
 -- src/raise.rt
-pub returns : goal.returns
-returns t c =
+pub sum_up-requires-2-clause-halves : goal.sum_up-requires-2-clause-halves
+sum_up-requires-2-clause-halves t c =
     let h : 2 ≤ c.args.part.width = omega arith in
-    let l : IsPartRaised c.args.nodes.now c.raise_part.new.nodes (left_half c.args.part) c.args.span c.args.row = rw (← c.left-left.ensures) c.raise_part.ensures in
-    let r : IsPartRaised c.raise_part.new.nodes c.raise_part-2.new.nodes (right_half c.args.part) c.args.span c.args.row = rw (← c.right-right.ensures) c.raise_part-2.ensures in
-    let n : length c.raise_part.new.nodes ≡ length c.args.nodes.now = search rules in
-    let m : length c.raise_part-2.new.nodes ≡ length c.raise_part.new.nodes = search rules in
-    rw (c.mend.ensures, c.left-left.ensures, c.right-right.ensures)
-    (raised_both c.args.nodes.now c.raise_part.new.nodes c.raise_part-2.new.nodes c.args.part c.args.span c.args.row h (omega arith) l r)
+    let r : IsOnlyIn (right_half c.args.part) c.raise_part.new.trees c.raise_part-2.new.trees = rw (← c.right.ensures) c.raise_part-2.ensures.only in
+    both_noted c.raise_part.new.trees c.raise_part-2.new.trees c.args.part h r c.args.mask
+    (rw (← c.left.ensures) c.raise_part.ensures.noted) (rw (← c.right.ensures) c.raise_part-2.ensures.noted)
+
+-- src/raise.rt
+pub returns-clause-raised : goal.returns-clause-raised
+returns-clause-raised t c =
+    let h : 2 ≤ c.args.part.width = omega arith in
+    let l : IsOnlyIn (left_half c.args.part) c.args.trees.now c.raise_part.new.trees = rw (← c.left.ensures) c.raise_part.ensures.only in
+    let r : IsOnlyIn (right_half c.args.part) c.raise_part.new.trees c.raise_part-2.new.trees = rw (← c.right.ensures) c.raise_part-2.ensures.only in
+    rw (c.sum_up-2.ensures.tops c.args.layer)
+    (both_raised c.args.trees.now c.raise_part.new.trees c.raise_part-2.new.trees c.args.part h l r c.args.layer c.args.span c.args.row
+    (rw (← c.left.ensures) c.raise_part.ensures.raised) (rw (← c.right.ensures) c.raise_part-2.ensures.raised))
+
+-- src/raise.rt
+pub returns-clause-only : goal.returns-clause-only
+returns-clause-only t c =
+    let h : 2 ≤ c.args.part.width = omega arith in
+    let l : IsOnlyIn (left_half c.args.part) c.args.trees.now c.raise_part.new.trees = rw (← c.left.ensures) c.raise_part.ensures.only in
+    let r : IsOnlyIn (right_half c.args.part) c.raise_part.new.trees c.raise_part-2.new.trees = rw (← c.right.ensures) c.raise_part-2.ensures.only in
+    both_only c.args.trees.now c.raise_part.new.trees c.raise_part-2.new.trees c.args.part h l r c.sum_up-2.new.self c.sum_up-2.ensures.only

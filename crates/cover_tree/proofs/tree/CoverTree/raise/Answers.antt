@@ -1,14 +1,18 @@
 use Rattle.cover_tree.specs.Trees.{cover_of}
+use Rattle.std.proofs.Common.{arith}
 use Rattle.cover_tree.proofs.Covering.{raised_cover}
 use Rattle.cover_tree.proofs.tree.CoverTree.raise.Goals as goal
 
 -- src/tree.rt
-pub raise-requires-clause-room : goal.raise-requires-clause-room
+pub raise_part-requires-clause-room : goal.raise_part-requires-clause-room
 unfolding cover_of
-raise-requires-clause-room c = rw c.root-root.ensures (c.args.self.now.sound.room c.args.layer c.requires.used)
+raise_part-requires-clause-room c =
+    let a = (c.args.self.now.sound.room c.args.layer c.requires.used).room in
+    let b = c.args.self.now.sound.noted_room in
+    rw c.root-root.ensures (record { tops = omega arith; notes = omega arith })
 
 -- src/tree.rt
 pub returns : goal.returns
 unfolding cover_of
-returns c = raised_cover c.args.self.now.mask c.args.self.now.cells c.args.self.now.trees c.raise.new.self c.args.layer (record { from = c.args.from; to = c.args.to }) c.args.row
-    c.requires.within (rw (← c.root-root.ensures) c.raise.ensures.raised) c.raise.ensures.others
+returns c = raised_cover c.args.self.now.mask c.args.self.now.cells c.args.self.now.trees c.raise_part.new.trees c.args.layer (record { from = c.args.from; to = c.args.to }) c.args.row
+    c.requires.within (rw (← c.root-root.ensures) c.raise_part.ensures.raised) c.raise_part.ensures.others
