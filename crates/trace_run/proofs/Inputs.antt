@@ -1,5 +1,5 @@
 -- What a clock gives and shows fits the pads.
-use Rattle.std.proofs.Common.{◌≡◌, ℕ, zero, suc, ◌+◌, ◌^◌, ◌<◌, ◌≤◌, List, [], ◌∷◌, Bool, true, false, cond, refl, sym, ◌∙◌, ap, subst, inl, inr, length, map, get_or, arith}
+use Rattle.std.proofs.Common.{◌≡◌, ℕ, zero, suc, ◌^◌, ◌<◌, List, [], ◌∷◌, Bool, true, false, cond, refl, sym, ◌∙◌, ap, subst, inl, inr, length, map, get_or, arith}
 use Rattle.std.specs.Prelude.{not, ◌==◌}
 use Rattle.std.specs.List.{list_any}
 use Rattle.std.proofs.Math.Pow.{pow_mono}
@@ -11,7 +11,7 @@ use Rattle.mp_base.specs.declared.pad.Pads.{Pads}
 use Rattle.mp_program.specs.declared.program.Program.{Program}
 use Rattle.mp_program.specs.Pads.{ArePadsOf, Face, face, pad_limit, input_pads, output_pads, FitsPads}
 use Rattle.stimulus.specs.declared.given.Given.{Given}
-use Rattle.stimulus.specs.Rules.{bits_of, bound}
+use Rattle.stimulus.specs.Rules.{bits_of}
 use Rattle.stimulus.specs.Fitting.{bound_at, is_fitting, is_fitting_clock, are_fitting, value_given}
 use Rattle.trace_run.specs.Transcript.{inputs_at}
 
