@@ -7,8 +7,7 @@ pub mod Determined
 pub mod FirstFault
 pub mod Sources
 pub mod Stimuli
-pub mod Transcripts
-pub mod Clocking
+pub mod ProgramPads
 pub mod Clocks
 pub mod Compiling
 pub mod Nets
@@ -16,5 +15,3 @@ pub mod Headers
 pub mod Simulating
 pub mod Shown
 pub mod Causes
-mod TranscriptExamples
-mod Unbroken

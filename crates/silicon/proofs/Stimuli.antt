@@ -1,5 +1,5 @@
 -- A stimulus breaks at most one rule first.
-use Rattle.std.proofs.Common.{◌≡◌, ◌≤◌, ℕ, List, [], ◌∷◌, length, map, refl, sym, ap, subst, ◌∙◌, Option, Some, None, Result, Ok, Err, IfOk, IfErr, IfSome}
+use Rattle.std.proofs.Common.{◌≡◌, ◌≤◌, ℕ, List, [], ◌∷◌, length, map, refl, sym, ap, subst, ◌∙◌, Option, Some, None, Result, Ok, Err, IfOk, IfErr, IfSome, arith}
 use Rattle.std.proofs.Props.{props}
 use Rattle.mp_base.specs.declared.refusal.Place.{Place}
 use Rattle.mp_base.specs.declared.refusal.Broken.{Broken}
@@ -120,6 +120,11 @@ judged_for known text (Err refusal.NoMemory) ok err = tt
 pub read_clocks : (known : Option Pads) (text : List ℕ) (result : Result Stimulus Refusal) → IfOk result (IsStimulus text known) → IfOk result (λ given. length given.clocks ≤ 65536)
 read_clocks known text (Ok given) read = few_clocks text known given read
 read_clocks known text (Err e) read = tt
+
+-- what was read for few pads has few
+pub few_pads : (pads : Pads) (text : List ℕ) (result : Result Stimulus Refusal) → length pads.inputs ≤ 256 → IfOk result (IsStimulus text (Some pads)) → IfOk result (λ given. length (given.pads).inputs ≤ 256)
+few_pads pads text (Ok given) few read = let e = ap (λ (ps : List Pad). length ps) read.inputs in omega (arith, e, few)
+few_pads pads text (Err e) few read = tt
 
 -- the pads of what was read
 pub read_pads : (program : Program) (pads : Pads) (text : List ℕ) (result : Result Stimulus Refusal) → ArePadsOf program pads → IfOk result (IsStimulus text (Some pads)) → IfOk result (λ given. ArePadsOf program given.pads)

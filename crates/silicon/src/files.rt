@@ -78,7 +78,8 @@ fn check_stimulus(alloc: Global, text: &[u8], checked: &Checked) -> Result<Stimu
     ensures judged { IsJudged (OfPads (Some checked.now.pads) text.now) result }
     ensures read { IfOk result (IsStimulus text.now (Some checked.now.pads)) }
     ensures padded { IfOk result (λ given. ArePadsOf checked.now.program given.pads) }
-    ensures few { IfOk result (λ given. length given.clocks ≤ 65536) }
+    ensures few_inputs { IfOk result (λ given. length given.pads.inputs ≤ 256) }
+    ensures few_clocks { IfOk result (λ given. length given.clocks ≤ 65536) }
 {
     checked.unbroken();
     few_namings();
@@ -94,7 +95,8 @@ pub fn read_stimulus<D: Depot>(
 ) -> Result<Stimulus, Halt>
     ensures held { Keeps (D.held depot.old) (D.held depot.new) }
     ensures padded { IfOk result (λ given. ArePadsOf checked.now.program given.pads) }
-    ensures few { IfOk result (λ given. length given.clocks ≤ 65536) }
+    ensures few_inputs { IfOk result (λ given. length given.pads.inputs ≤ 256) }
+    ensures few_clocks { IfOk result (λ given. length given.clocks ≤ 65536) }
     ensures read { IfOk result (λ given. IfSome (D.held depot.new) (λ files. IsStimulus (bytes_of files name.now) (Some checked.now.pads) given)) }
     ensures reason { HasReason (PadsFault (Some checked.now.pads) name.now) (D.held depot.new) (D.read_faults depot.old) (D.read_faults depot.new) result }
     ensures writes { D.write_faults depot.new ≡ D.write_faults depot.old }

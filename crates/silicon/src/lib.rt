@@ -14,7 +14,6 @@ mod source;
 mod tests;
 mod top;
 mod trace;
-pub(crate) mod transcript;
 
 pub use board::{NamedPart, Part};
 pub use top::{Status, run};

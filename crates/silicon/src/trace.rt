@@ -12,12 +12,11 @@ ghost use Rattle.silicon.specs.Run.{world_of, HasCauses, IsStrayFor, Leaves};
 
 use crate::files::{read_source, read_stimulus};
 use crate::halt::Halt;
-use crate::transcript::{Room, print_transcript};
 use mp_base::{Depot, Sink};
 use mp_checker::Checked;
-use source_run::Machine;
 use std::alloc::Global;
 use stimulus::Stimulus;
+use trace_run::Tracer;
 
 #[derive(Drop)]
 struct Ready {
@@ -34,7 +33,8 @@ fn prepare<D: Depot>(
 ) -> Result<Ready, Halt>
     ensures held { Keeps (D.held depot.old) (D.held depot.new) }
     ensures padded { IfOk result (λ ready. ArePadsOf ready.checked.program ready.stimulus.pads) }
-    ensures few { IfOk result (λ ready. length ready.stimulus.clocks ≤ 65536) }
+    ensures few_inputs { IfOk result (λ ready. length ready.stimulus.pads.inputs ≤ 256) }
+    ensures few_clocks { IfOk result (λ ready. length ready.stimulus.clocks ≤ 65536) }
     ensures source { IfOk result (λ ready. IfSome (D.held depot.new) (λ files. IsSource (bytes_of files source.now) ready.checked.program)) }
     ensures stimulus { IfOk result (λ ready. IfSome (D.held depot.new) (λ files. IsStimulus (bytes_of files stimulus.now) (Some ready.checked.pads) ready.stimulus)) }
     ensures reason { HasReason (IsFirstFault (Trace source.now stimulus.now)) (D.held depot.new) (D.read_faults depot.old) (D.read_faults depot.new) result }
@@ -59,14 +59,7 @@ pub fn trace<D: Depot, O: Sink>(
         Leaves (Ends (Trace source.now stimulus.now) result) (world depot.old out.old) (world depot.new out.new) }
 {
     let ready = prepare(alloc, depot, source, stimulus)?;
-    let mut machine = Machine::open(alloc, &ready.checked)?;
-    let mut room = Room::new(alloc, &ready.stimulus.pads)?;
-    print_transcript(
-        &ready.checked,
-        &mut machine,
-        &ready.stimulus,
-        &mut room,
-        out,
-    )?;
+    let mut tracer = Tracer::open(alloc, &ready.checked, &ready.stimulus)?;
+    tracer.run(out)?;
     Ok(())
 }
