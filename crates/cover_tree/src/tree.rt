@@ -91,8 +91,8 @@ impl CoverTree {
 
     /// Adds the stretches of the cells from `from` up to `to` whose colour in the next row is another than in this one, if
     /// these layers cover them all there besides, from left to right. Its time is that of these stretches and of the places
-    /// where a layer ends above the row, times the logarithm of the cells. Where memory is wanting the list may have any
-    /// stretches more.
+    /// where a layer ends with the row, times the logarithm of the cells, if the row is the one advanced to. Where memory is
+    /// wanting the list may have any stretches more.
     pub fn tell_changes(
         &self,
         row: u32,
