@@ -1,12 +1,11 @@
 -- What is held stays as it was, whatever is added.
-use Rattle.std.proofs.Common.{◌≡◌, ℕ, zero, suc, ◌+◌, ◌-◌, ◌≤◌, ◌<◌, List, [], ◌∷◌, ◌++◌, refl, sym, ◌∙◌, ap, ap₂, subst, arith, length, take, drop, get_or, map, All, append-nil, Option, Some, None, Result, Ok, Err}
+use Rattle.std.proofs.Common.{◌≡◌, ℕ, zero, suc, ◌-◌, ◌≤◌, List, [], ◌∷◌, ◌++◌, refl, sym, ◌∙◌, ap, ap₂, subst, arith, length, take, drop, map, All, append-nil, Option, Some, None, Result, Ok, Err}
 use Rattle.std.specs.Prelude.{slice_get, OnErr}
 use Rattle.std.specs.Option.{IsSomeAnd, option_map_or}
 use Rattle.std.proofs.lemmas.List.{drop-append-le, take-append-le, length-append, length-drop, map-append}
 use Rattle.std.proofs.lemmas.List.Elements.{All-nil, All-cons, All-head, All-tail, All-append}
 use Rattle.cif_form.specs.declared.command.Command.{Command}
 use Rattle.cif_form.specs.declared.command.Command.TheVariants as commands
-use Rattle.cif_form.specs.declared.command.Item.{Item}
 use Rattle.cif_list.specs.declared.arena.Span.{Span}
 use Rattle.cif_list.specs.declared.cif.Entry.{Entry}
 use Rattle.cif_list.specs.declared.store.Head.{Head}

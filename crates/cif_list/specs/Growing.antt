@@ -1,5 +1,5 @@
 -- Lists to which things are only added.
-use Rattle.std.specs.Prelude.{ℕ, ◌≡◌, ◌≤◌, List, ◌++◌, length, slice_range}
+use Rattle.std.specs.Prelude.{◌≡◌, ◌≤◌, List, ◌++◌, length, slice_range}
 use Rattle.cif_list.specs.declared.arena.Span.{Span}
 
 -- ys is xs and what was added

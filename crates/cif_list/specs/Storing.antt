@@ -1,5 +1,5 @@
 -- Commands that are held.
-use Rattle.std.specs.Prelude.{◌≡◌, List, [], map, slice_get}
+use Rattle.std.specs.Prelude.{◌≡◌, [], map, slice_get}
 use Rattle.std.specs.Option.{IsSomeAnd, option_map_or}
 use Rattle.cif_form.specs.declared.command.Command.{Command}
 use Rattle.cif_form.specs.declared.command.Command.TheVariants as commands

@@ -11,6 +11,7 @@ use cif_form::Command;
 use mp_base::NoMemory;
 use std::alloc::Global;
 use std::marker::Model;
+use std::mem::size_of;
 
 /// A command, and the offset of its first byte in the file.
 #[derive(Clone, Copy, Drop)]
@@ -18,6 +19,8 @@ pub(crate) struct Entry {
     pub offset: u32,
     pub head: Head,
 }
+
+const _: () = prove!(size_of::<Entry>() == 16);
 
 /// The commands of a file, in its order, which contracts see as a list of items.
 #[derive(Drop)]
