@@ -1,5 +1,5 @@
 -- Texts that were printed.
-use Rattle.std.proofs.Common.{◌≡◌, ℕ, List, length, take, ap, subst, ◌∙◌, Option, Ok}
+use Rattle.std.proofs.Common.{ℕ, List, take, ap, subst, ◌∙◌, Option, Ok}
 use Rattle.std.proofs.Math.Seq.{take-length}
 use Rattle.mp_base.specs.Outside.{WhereTold, Gains}
 use Rattle.mp_base.specs.Piece.{TakesAll}

@@ -22,7 +22,9 @@ TranscriptOnce p =
 
 -- inputs have a trace from each state of the program
 abbrev pub TraceExists : Program → Type 0
-TraceExists p = (st : State) (inputs : List (List ℕ)) → IsState p st → (outputs : List (List ℕ)) × (after : State) × IsTraceTo p st inputs outputs after
+TraceExists p =
+    (st : State) (inputs : List (List ℕ)) → IsState p st
+    → (outputs : List (List ℕ)) × (after : State) × IsTraceTo p st inputs outputs after
 
 -- the trace, and the state after, are determined
 abbrev pub TraceOnce : Program → Type 0

@@ -20,7 +20,8 @@ pub record Tracing : Type 0 where
 
 -- a machine of the program is in a state that fits it, the stimulus has the program's pads, and there is room for what a clock
 -- gives and shows
-pub record IsReady (p : Program) (machine : Running) (given : Stimulus) (inputs outputs : List ℕ) (words : List TritWord) : Type 0 where
+pub record IsReady (p : Program) (machine : Running) (given : Stimulus) (inputs outputs : List ℕ)
+    (words : List TritWord) : Type 0 where
   pub program : machine.program ≡ p
   pub state : IsState p machine.state
   pub fits : StateFits p machine.state

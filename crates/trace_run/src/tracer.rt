@@ -39,6 +39,10 @@ impl<'a> Model for Tracer<'a> {
 
 impl<'a> Tracer<'a> {
     /// A checked program in the zero state, with a stimulus for its pads.
+    ///
+    /// # Errors
+    ///
+    /// Want of memory.
     pub fn open(
         alloc: Global,
         checked: &'a Checked,
