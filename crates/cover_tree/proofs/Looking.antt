@@ -1,5 +1,5 @@
 -- The layers over the cells of a part, by those over its halves and by its nodes.
-use Rattle.std.proofs.Common.{◌≡◌, ℕ, ◌+◌, ◌/◌, ◌<◌, ◌≤◌, inl, inr, List, Bool, true, false, refl, sym, ◌∙◌, ap, max, arith}
+use Rattle.std.proofs.Common.{◌≡◌, ℕ, ◌+◌, ◌/◌, ◌<◌, ◌≤◌, inl, inr, List, Bool, true, false, refl, sym, ap, max, arith}
 use Rattle.std.specs.Prelude.{nat_lt, ◌||◌}
 use Rattle.std.proofs.lemmas.Bool.{cases_lt, lt-ltb, le-ltb}
 use Rattle.mask_runs.specs.declared.mask.Layers.{Layers}

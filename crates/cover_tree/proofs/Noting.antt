@@ -1,7 +1,7 @@
 -- Notes, as the trees change.
-use Rattle.std.proofs.Common.{◌≡◌, ◌≢◌, ℕ, ◌+◌, ◌*◌, ◌/◌, ◌<◌, ◌≤◌, ◌⊎◌, inl, inr, List, get_or, set, length, refl, sym, ◌∙◌, ap, arith}
+use Rattle.std.proofs.Common.{◌≡◌, ◌≢◌, ℕ, ◌+◌, ◌*◌, ◌/◌, ◌<◌, ◌≤◌, inl, inr, set, length, sym, ◌∙◌, ap, arith}
 use Rattle.std.specs.Prelude.{nat_lt, ◌||◌}
-use Rattle.std.proofs.lemmas.Bool.{cases_lt, cases_eq}
+use Rattle.std.proofs.lemmas.Bool.{cases_lt}
 use Rattle.std.proofs.lemmas.List.{get_or-set_same, get_or-set_other}
 use Rattle.std.proofs.Math.ListN.{length-set}
 use Rattle.lam_geom.specs.declared.layer.Layer.{Layer}
@@ -9,7 +9,6 @@ use Rattle.lam_geom.specs.declared.layer.Layer.TheVariants.{ND, NP, NC, NM, NI, 
 use Rattle.mask_runs.specs.declared.mask.Layers.{Layers}
 use Rattle.mask_runs.specs.declared.mask.Mask.{Mask}
 use Rattle.mask_runs.specs.Colours.{bare}
-use Rattle.cover_tree.specs.declared.kinds.Kinds.{Kinds}
 use Rattle.cover_tree.specs.declared.note.Note.{Note}
 use Rattle.cover_tree.specs.declared.part.Part.{Part}
 use Rattle.cover_tree.specs.declared.trees.Trees.{Trees}
@@ -17,7 +16,7 @@ use Rattle.cover_tree.specs.Parts.{left_half, right_half, top_at, InPart, Within
 use Rattle.cover_tree.specs.Parts.Within.{here, left, right}
 use Rattle.cover_tree.specs.Kinds.{both, HasKind}
 use Rattle.cover_tree.specs.Layered.{tree}
-use Rattle.cover_tree.specs.Looking.{is_seen, seen, own_at}
+use Rattle.cover_tree.specs.Looking.{seen, own_at}
 use Rattle.cover_tree.specs.Notes.{stale, note_at, IsNoted, AreNoted, AreHalvesNoted, Beside, IsOnlyIn}
 use Rattle.cover_tree.proofs.Tops.{SamePart, same_left, same_right, same_top}
 use Rattle.cover_tree.proofs.Looking.{seen_leaf, seen_left, seen_right}

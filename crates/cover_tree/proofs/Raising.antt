@@ -1,5 +1,5 @@
 -- What a part covers after its halves, or it as a whole, are raised.
-use Rattle.std.proofs.Common.{◌≡◌, ◌≢◌, ℕ, zero, suc, ◌+◌, ◌-◌, ◌*◌, ◌/◌, ◌<◌, ◌≤◌, ◌⊎◌, inl, inr, List, set, length, refl, sym, ◌∙◌, ap, max, arith}
+use Rattle.std.proofs.Common.{◌≡◌, ◌≢◌, ℕ, zero, suc, ◌+◌, ◌-◌, ◌/◌, ◌<◌, ◌≤◌, ◌⊎◌, inl, inr, List, set, length, refl, sym, ◌∙◌, ap, max, arith}
 use Rattle.std.proofs.lemmas.Bool.{cases_lt, cases_eq}
 use Rattle.std.proofs.lemmas.List.{get_or-set_same, get_or-set_other}
 use Rattle.std.proofs.Math.ListN.{length-set}
@@ -9,9 +9,9 @@ use Rattle.mask_runs.specs.declared.mask.Mask.{Mask}
 use Rattle.cover_tree.specs.declared.part.Part.{Part}
 use Rattle.cover_tree.specs.declared.part.Span.{Span}
 use Rattle.cover_tree.specs.declared.trees.Trees.{Trees}
-use Rattle.cover_tree.specs.Parts.{left_half, right_half, top_at, top_of, InPart, IsPartRaised, clamped}
+use Rattle.cover_tree.specs.Parts.{left_half, right_half, top_at, top_of, IsPartRaised, clamped}
 use Rattle.cover_tree.specs.Layered.{tree}
-use Rattle.cover_tree.specs.Notes.{note_at, AreNoted, AreHalvesNoted, HasPart, Beside, IsOnlyIn}
+use Rattle.cover_tree.specs.Notes.{note_at, AreNoted, AreHalvesNoted, Beside, IsOnlyIn}
 use Rattle.cover_tree.proofs.Tops.{top_leaf, top_left, top_right, SamePart, same_top}
 use Rattle.cover_tree.proofs.Noting.{SameIn, noted_left, noted_right, are_noted_same}
 

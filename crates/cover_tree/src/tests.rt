@@ -57,11 +57,35 @@ fn diffusion(rt: HostRuntime) -> Result<(), Fail> {
     tree.raise(Layer::NB, 5, 6, 1);
     let first = [run(1, 3, 1), run(3, 4, 2), run(4, 5, 3), run(5, 9, 1)];
     let second = [run(1, 3, 1), run(3, 4, 2), run(4, 6, 3), run(6, 9, 1)];
+    let last = [
+        run(1, 3, 1),
+        run(3, 4, 2),
+        run(4, 6, 3),
+        run(6, 8, 1),
+        run(8, 9, 2),
+    ];
     expect_runs(&rt, rt.alloc(), &tree, 0, (0, 10), &first)?;
     expect_runs(&rt, rt.alloc(), &tree, 1, (0, 10), &second)?;
     expect_runs(&rt, rt.alloc(), &tree, 4, (2, 10), &[run(2, 9, 1)])?;
     assert_eq!(rt; tree.run_at(1, 5), Some(run(4, 6, 3)));
     assert_eq!(rt; tree.run_at(4, 9), None);
+    tree.advance(4);
+    tree.raise(Layer::NB, 7, 8, 5);
+    tree.raise(Layer::NP, 7, 9, 5);
+    expect_runs(&rt, rt.alloc(), &tree, 1, (0, 10), &last)?;
+    expect_runs(
+        &rt,
+        rt.alloc(),
+        &tree,
+        4,
+        (0, 10),
+        &[run(1, 8, 1), run(8, 9, 2)],
+    )?;
+    assert_eq!(rt;
+        (tree.run_start(1, 5), tree.run_end(1, 5)),
+        (Some(4), Some(6))
+    );
+    assert_eq!(rt; (tree.run_start(5, 5), tree.run_end(5, 5)), (None, None));
     Ok(())
 }
 

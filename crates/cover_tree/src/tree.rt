@@ -29,7 +29,7 @@ impl CoverTree {
     ghost use Rattle.std.specs.Prelude.{◌≡◌, ◌↔◌, ◌+◌, ◌<◌, ◌≤◌, ◌^◌, true, IfOk, IfSome, IsNone};
     ghost use Rattle.mask_runs.specs.Colours.{uses};
     ghost use Rattle.mask_runs.specs.Runs.{IsRun, AreRuns};
-    ghost use Rattle.cover_tree.specs.Covers.{IsBare, IsRaised, row_colour, windowed};
+    ghost use Rattle.cover_tree.specs.Covers.{IsBare, IsRaised, IsRunStart, IsRunEnd, row_colour, windowed};
     ghost use Rattle.cover_tree.specs.Telling.{IsTold, TurnsUnder};
     ghost use Rattle.cover_tree.specs.Trees.{cover_of};
 
@@ -91,8 +91,8 @@ impl CoverTree {
 
     /// Adds the stretches of the cells from `from` up to `to` whose colour in the next row is another than in this one, if
     /// these layers cover them all there besides, from left to right. Its time is that of these stretches and of the places
-    /// where a layer ends above the row, times the logarithm of the cells. Where memory is wanting the list may have any
-    /// stretches more.
+    /// where a layer ends with the row, times the logarithm of the cells, if the row is the one advanced to. Where memory is
+    /// wanting the list may have any stretches more.
     pub fn tell_changes(
         &self,
         row: u32,
@@ -142,5 +142,43 @@ impl CoverTree {
             right: end_of(&self.trees, line, root, bare, cell, colour),
             colour,
         })
+    }
+
+    /// Where the run of a row begins that has a cell, or none where the cell has no colour.
+    pub fn run_start(&self, row: u32, cell: u32) -> Option<u32>
+        requires { cell < (cover_of self.now).cells }
+        ensures some { IfSome result (λ start. IsRunStart (row_colour (cover_of self.now) row) cell start) }
+        ensures none { IsNone result ↔ row_colour (cover_of self.now) row cell ≡ 0 }
+    {
+        let line = Line {
+            mask: self.mask,
+            row,
+        };
+        let root = Part::root(self.cells);
+        let bare = Layers::none();
+        let colour = colour_at(&self.trees, line, root, bare, cell);
+        if colour == 0 {
+            return None;
+        }
+        Some(start_of(&self.trees, line, root, bare, cell, colour))
+    }
+
+    /// Where the run of a row ends that has a cell, or none where the cell has no colour.
+    pub fn run_end(&self, row: u32, cell: u32) -> Option<u32>
+        requires { cell < (cover_of self.now).cells }
+        ensures some { IfSome result (λ end. IsRunEnd (row_colour (cover_of self.now) row) cell end) }
+        ensures none { IsNone result ↔ row_colour (cover_of self.now) row cell ≡ 0 }
+    {
+        let line = Line {
+            mask: self.mask,
+            row,
+        };
+        let root = Part::root(self.cells);
+        let bare = Layers::none();
+        let colour = colour_at(&self.trees, line, root, bare, cell);
+        if colour == 0 {
+            return None;
+        }
+        Some(end_of(&self.trees, line, root, bare, cell, colour))
     }
 }

@@ -166,6 +166,7 @@ impl Trees {
         ensures noted { AreNoted mask self.new part }
         ensures tops { (l : Layer) → tree self.new l ≡ tree self.old l }
         ensures as_many { length self.new.notes.items ≡ length self.old.notes.items }
+        ensures since { self.new.since ≡ max self.old.since row }
     {
         if row <= self.since {
             return;

@@ -1,5 +1,5 @@
-use Rattle.std.proofs.Common.{◌≡◌, ◌≤◌, ◌<◌, refl, length, arith}
-use Rattle.cover_tree.specs.Parts.{IsPartRaised, left_half, right_half}
+use Rattle.std.proofs.Common.{◌≤◌, refl, arith}
+use Rattle.cover_tree.specs.Parts.{left_half, right_half}
 use Rattle.cover_tree.specs.Layered.{tree}
 use Rattle.cover_tree.specs.Notes.{IsOnlyIn}
 use Rattle.cover_tree.proofs.Tops.{small_left, small_right}

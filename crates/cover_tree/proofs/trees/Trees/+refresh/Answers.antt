@@ -1,8 +1,8 @@
-use Rattle.std.proofs.Common.{◌≡◌, ◌≤◌, ◌∙◌, arith}
+use Rattle.std.proofs.Common.{◌≤◌, arith}
 use Rattle.cover_tree.specs.Parts.{left_half, right_half}
 use Rattle.cover_tree.specs.Notes.{IsOnlyIn}
 use Rattle.cover_tree.proofs.Tops.{small_left, small_right}
-use Rattle.cover_tree.proofs.Noting.{noted_left, halves_noted}
+use Rattle.cover_tree.proofs.Noting.{noted_left}
 use Rattle.cover_tree.proofs.Raising.{right_noted, both_noted, both_only}
 use Rattle.cover_tree.proofs.trees.Trees.+refresh.Goals as goal
 

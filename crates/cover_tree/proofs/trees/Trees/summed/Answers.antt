@@ -1,4 +1,4 @@
-use Rattle.std.proofs.Common.{◌≡◌, ◌≤◌, ◌∙◌, inl, inr, refl, arith}
+use Rattle.std.proofs.Common.{◌≤◌, inl, inr, refl, arith}
 use Rattle.mask_runs.specs.declared.mask.Layers.{Layers}
 use Rattle.cover_tree.specs.Kinds.{both, HasKind}
 use Rattle.cover_tree.specs.Parts.{left_half, right_half}
