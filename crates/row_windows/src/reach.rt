@@ -37,10 +37,7 @@ fn reach_left(tree: &CoverTree, row: u32, cell: u32) -> u32
     if cell == 0 {
         return 0;
     }
-    match tree.run_at(row, cell - 1) {
-        Some(run) => run.left,
-        None => cell,
-    }
+    tree.run_start(row, cell - 1).unwrap_or(cell)
 }
 
 // Where the run ends that has the cell, or the cell if no run has it.
@@ -50,8 +47,5 @@ fn reach_right(tree: &CoverTree, row: u32, cell: u32) -> u32
     ensures right { ReachesRight (row_colour (cover_of tree.now) row) cell result }
     ensures within { result < (cover_of tree.now).cells }
 {
-    match tree.run_at(row, cell) {
-        Some(run) => run.right,
-        None => cell,
-    }
+    tree.run_end(row, cell).unwrap_or(cell)
 }

@@ -9,7 +9,7 @@ mod squares;
 
 use drawn::{cross, cross_places, transistor, transistor_places};
 use lam_geom::Layer;
-use large::{comb, stairs};
+use large::{comb, stairs, woven};
 use mask_runs::Mask;
 use show::{show, show_random, show_size};
 use std::io;
@@ -29,5 +29,19 @@ fn main(rt: HostRuntime) -> io::Result<()> {
     let stairs = stairs(rt.alloc(), 30_000)?;
     show_size(&rt, "stairs", stairs.as_slice(), metal)?;
     let comb = comb(rt.alloc(), 30_000)?;
-    show_size(&rt, "a comb over a comb", comb.as_slice(), metal)
+    show_size(&rt, "a comb over a comb", comb.as_slice(), metal)?;
+    let implanted = woven(rt.alloc(), 30_000, Layer::ND, Layer::NI, Layer::NB)?;
+    show_size(
+        &rt,
+        "implant and buried contact over diffusion",
+        implanted.as_slice(),
+        Mask::Diffusion,
+    )?;
+    let cut = woven(rt.alloc(), 30_000, Layer::NP, Layer::NC, Layer::NM)?;
+    show_size(
+        &rt,
+        "contact and metal over polysilicon",
+        cut.as_slice(),
+        Mask::Contacts,
+    )
 }
