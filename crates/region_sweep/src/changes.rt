@@ -27,8 +27,8 @@ pub(crate) fn find_changes(
     requires room { below + 1 < 2 ^ 32 }
     requires within { AreWithin (cover_of tree.now).mask cells blocks.now }
     requires up_to { IsUpTo (cover_of tree.now).mask cells blocks.now below raised (cover_of tree.now) }
-    ensures { IfOk result (λ _. AreChanges (painted (cover_of tree.now).mask blocks.now below) (painted (cover_of tree.now).mask blocks.now (below + 1)) cells
-        changed.new.items) }
+    ensures { IfOk result (λ _. let colour = painted (cover_of tree.now).mask blocks.now in
+        AreChanges (colour below) (colour (below + 1)) cells changed.new.items) }
 {
     colours_by_layers();
     changed.clear();
