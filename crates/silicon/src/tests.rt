@@ -144,6 +144,29 @@ fn each_call_of_the_files_fails(rt: HostRuntime) -> Result<(), Fail> {
 }
 
 #[test]
+fn each_call_of_the_output_fails(rt: HostRuntime) -> Result<(), Fail> {
+    let alloc = rt.alloc();
+    let mut depot = MemDepot::new(alloc, 100, List::new(alloc));
+    depot.put("inv", INVERTER.as_bytes())?;
+    depot.put("two", b"clock a=0\nclock a=1\n")?;
+    let whole = b"0 y=1\n1 y=0\n".as_slice();
+    let mut longest = 0;
+    for call in 0..12 {
+        let (got, printed) = answer(alloc, "trace inv two", &mut depot, call)?;
+        let wanted = if printed.len() < whole.len() {
+            Status::WriteFault
+        } else {
+            Status::Done
+        };
+        assert_eq!(rt; got, wanted);
+        assert!(rt; whole.starts_with(&printed));
+        assert!(rt; longest <= printed.len());
+        longest = printed.len();
+    }
+    Ok(())
+}
+
+#[test]
 fn a_long_source_is_refused(rt: HostRuntime) -> Result<(), Fail> {
     let alloc = rt.alloc();
     let mut depot = MemDepot::new(alloc, 1, List::new(alloc));
