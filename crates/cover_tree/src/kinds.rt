@@ -55,6 +55,9 @@ impl Kinds {
     pub fn with(self, mask: Mask, own: Layers) -> Kinds
         ensures { (s : Layers) → HasKind mask result s ↔ IsWith mask self own s }
     {
+        if own == Layers::none() {
+            return self;
+        }
         match self.split_first(mask) {
             None => self,
             Some((first, rest)) => Kinds::one(mask, both(own, first)).union(rest.with(mask, own)),

@@ -1,7 +1,17 @@
-use Rattle.std.proofs.Common.{◌∙◌, inl, inr}
-use Rattle.cover_tree.specs.Kinds.{both, IsSplit}
+use Rattle.std.proofs.Common.{◌≡◌, ◌∙◌, ap, sym, inl, inr}
+use Rattle.mask_runs.specs.Colours.{bare}
+use Rattle.cover_tree.specs.Kinds.{both, index, IsSplit}
+use Rattle.cover_tree.proofs.Alike.{same_layers}
 use Rattle.cover_tree.proofs.Sets.{same_both, same_kind}
 use Rattle.cover_tree.proofs.kinds.Kinds.+with.Goals as goal
+
+-- src/kinds.rt
+pub returns-then-eq : goal.returns-then-eq
+returns-then-eq t c = λ s.
+    let e : c.args.own ≡ bare = same_layers _ _ (sym c.eq.ensures ∙ c.if-eq.true) ∙ c.none.ensures in (
+      λ h. record { kind = s; has = h; same = ap (λ own. index c.args.mask (both own s)) (sym e) },
+      λ h. same_kind c.args.mask c.args.self s h.kind (h.same ∙ ap (λ own. index c.args.mask (both own h.kind)) e) h.has,
+    )
 
 -- src/kinds.rt
 pub returns-in-None : goal.returns-in-None
