@@ -61,7 +61,7 @@ impl Cif {
     }
 
     /// Adds a copy of a command. `NoMemory`, which leaves the list as it was, is also for an offset of 2^32 or more, and
-    /// for what would make 2^32 of one kind: points, turns, bytes or commands.
+    /// for what would make 2^32 of one kind of part: points, turns, bytes, boxes and so on.
     pub fn push(&mut self, offset: u64, command: &Command) -> Result<(), NoMemory>
         requires { Fits command.now }
         ensures ok { OnOk result (self.new ≡ self.old ++ record { offset = offset; command = command.now } ∷ []) }
