@@ -5,7 +5,7 @@ use mathlib.Core.Bool.{beq}
 use Rattle.std.proofs.lemmas.Bool.{and_parts, both_ways}
 use Rattle.mask_runs.specs.declared.mask.Layers.{Layers}
 
-same_bool : (a b : Bool) → beq a b ≡ true → a ≡ b
+pub same_bool : (a b : Bool) → beq a b ≡ true → a ≡ b
 same_bool true true e = refl
 same_bool false false e = refl
 same_bool true false e = absurd (both_ways false refl e)

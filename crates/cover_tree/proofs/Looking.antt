@@ -4,7 +4,7 @@ use Rattle.std.specs.Prelude.{nat_lt, ◌||◌}
 use Rattle.std.proofs.lemmas.Bool.{cases_lt, lt-ltb, le-ltb}
 use Rattle.mask_runs.specs.declared.mask.Layers.{Layers}
 use Rattle.mask_runs.specs.declared.mask.Mask.{Mask}
-use Rattle.mask_runs.specs.Colours.{bare, colour_of}
+use Rattle.mask_runs.specs.Colours.{colour_of}
 use Rattle.cover_tree.specs.declared.part.Part.{Part}
 use Rattle.cover_tree.specs.declared.trees.Trees.{Trees}
 use Rattle.cover_tree.specs.Parts.{top_at, left_half, right_half, top_of, InPart}
@@ -34,10 +34,6 @@ module _ (s : List ℕ) (p : Part) (row : ℕ) (known : Bool) (c : ℕ) where
   one_right h k = joint_tests known row (top_at s p.at) (top_of s (right_half p) c) (top_of s p c) (top_right s p c h k)
 
 module _ (t : Trees) (p : Part) (row : ℕ) (known : Layers) (c : ℕ) where
-  -- what is known covers the cell besides what the part's nodes tell
-  pub seen_known : seen t row p known c ≡ both known (seen t row p bare c)
-  seen_known = refl
-
   pub seen_leaf : p.width < 2 → seen t row p known c ≡ both known (own_at t row p.at)
   seen_leaf h = λ j. record {
     nd = one_leaf t.nd.items p row known.nd c h j;

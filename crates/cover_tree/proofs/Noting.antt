@@ -80,9 +80,6 @@ noted_left mask t p h k = record { each = λ q w. k.each q (left h w) }
 pub noted_right : (mask : Mask) (t : Trees) (p : Part) → 2 ≤ p.width → AreNoted mask t p → AreNoted mask t (right_half p)
 noted_right mask t p h k = record { each = λ q w. k.each q (right h w) }
 
-pub halves_noted : (mask : Mask) (t : Trees) (p : Part) → AreNoted mask t p → AreHalvesNoted mask t p
-halves_noted mask t p k = record { left = λ h. noted_left mask t p h k; right = λ h. noted_right mask t p h k }
-
 whole : (mask : Mask) (t : Trees) (p q : Part) → IsNoted mask t p (note_at t.notes.items p.at) → AreHalvesNoted mask t p → Within q p
     → IsNoted mask t q (note_at t.notes.items q.at)
 whole mask t p q a h here = a

@@ -14,6 +14,7 @@ use Rattle.mask_runs.specs.declared.mask.Mask.TheVariants.{Only, Diffusion, Cont
 use Rattle.mask_runs.specs.Colours.{has, colour_of}
 use Rattle.cover_tree.specs.declared.kinds.Kinds.{Kinds}
 use Rattle.cover_tree.specs.Kinds.{bit, both, further, index, HasKind, IsSplit, AreOneColour, IsKept, Keeps}
+use Rattle.cover_tree.proofs.Alike.{same_bool}
 
 both_bits : {n : ℕ} → n ≡ 1 → n ≡ 0 → ⊥
 both_bits e f = absurd (omega arith)
@@ -123,9 +124,6 @@ module _ (mask : Mask) (kinds : Kinds) (first : Layers) (rest : Kinds) (d : IsSp
     each = λ s i. elim (d.each s i) [ inl f ↦ same_colour mask known s first f ∙ e | inr f ↦ h.each s f ];
   }
 
-  pub first_colour : (known : Layers) (k : ℕ) → AreOneColour mask kinds known k → colour_of mask (both known first) ≡ k
-  first_colour known k h = h.each first d.has
-
   pub rest_colour : (known : Layers) (k : ℕ) → AreOneColour mask kinds known k → AreOneColour mask rest known k
   rest_colour known k h = record { each = λ s i. h.each s (d.only s i) }
 
@@ -200,12 +198,6 @@ pub mixed : (mask : Mask) (kinds rest : Kinds) (first old new : Layers) (same : 
 mixed mask kinds rest first old new same d e n other h =
     let f : other ≡ same = kept_once mask old new first other same (first_keeps mask kinds first rest d old new other h) e in
     n (rest_keeps mask kinds first rest d old new same (subst (λ b. Keeps mask kinds old new b) f h))
-
-pub same_bool : (a b : Bool) → beq a b ≡ true → a ≡ b
-same_bool true true e = refl
-same_bool false false e = refl
-same_bool true false e = absurd (both_ways false refl e)
-same_bool false true e = absurd (both_ways false refl e)
 
 not_same : (a b : Bool) → beq a b ≡ false → a ≢ b
 not_same true true e f = both_ways true e refl

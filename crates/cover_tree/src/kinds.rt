@@ -1,10 +1,8 @@
 //! Sets of sets of layers.
 
-ghost use Rattle.std.specs.Prelude.{◌≡◌, ◌↔◌, ◌<◌, ◌+◌, ◌/◌, ◌%◌, ◌⊎◌, ℕ, IsTrue, IfSome, IfNone};
-ghost use Rattle.lam_geom.specs.declared.layer.Layer.{Layer};
+ghost use Rattle.std.specs.Prelude.{◌≡◌, ◌↔◌, ◌<◌, ◌/◌, ◌%◌, ◌⊎◌, ℕ, IsTrue, IfSome, IfNone};
 ghost use Rattle.mask_runs.specs.declared.mask.Layers.{Layers};
 ghost use Rattle.mask_runs.specs.declared.mask.Mask.{Mask};
-ghost use Rattle.mask_runs.specs.Colours.{colour_of};
 ghost use Rattle.cover_tree.specs.Kinds.{bit, both, further, index, HasKind, IsWith, IsSplit, IsEffect, AreOneColour, IsKept, Keeps};
 
 use lam_geom::Layer;

@@ -1,10 +1,9 @@
 //! What the trees tell of a part at once.
 
-ghost use Rattle.std.specs.Prelude.{ℕ, ◌≡◌, ◌+◌, ◌<◌, ◌≤◌, IsTrue, IfSome};
-ghost use Rattle.mask_runs.specs.declared.mask.Layers.{Layers};
+ghost use Rattle.std.specs.Prelude.{ℕ, ◌≡◌, ◌+◌, IsTrue, IfSome};
 ghost use Rattle.mask_runs.specs.Colours.{bare};
 ghost use Rattle.cover_tree.specs.Parts.{InPart};
-ghost use Rattle.cover_tree.specs.Kinds.{HasKind, index};
+ghost use Rattle.cover_tree.specs.Kinds.{HasKind};
 ghost use Rattle.cover_tree.specs.Looking.{IsSight, seen};
 ghost use Rattle.cover_tree.specs.Notes.{AreNoted};
 
@@ -44,15 +43,11 @@ pub(crate) fn look(trees: &Trees, line: Line, part: Part, known: Layers) -> Sigh
     Sight::Many(full)
 }
 
-/// Sets of layers among which are those over each cell of the part, by the part's nodes. A single cell has one.
+/// Sets of layers among which are those over each cell of the part, by the part's nodes.
 pub(crate) fn kinds_at(trees: &Trees, line: Line, part: Part) -> Kinds
     requires { AreNoted line.mask trees.now part }
-    ensures all { (c : ℕ) → InPart part c → HasKind line.mask result (seen trees.now line.row part bare c) }
-    ensures one { part.width < 2 → (c : ℕ) (s : Layers) → InPart part c → HasKind line.mask result s → index line.mask s ≡ index line.mask (seen trees.now line.row part bare c) }
+    ensures { (c : ℕ) → InPart part c → HasKind line.mask result (seen trees.now line.row part bare c) }
 {
-    if part.width < 2 {
-        return Kinds::one(line.mask, trees.own_at(line.row, part.at));
-    }
     match noted_at(trees, line, part) {
         Some(kinds) => kinds,
         None => Kinds::all(),

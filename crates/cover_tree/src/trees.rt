@@ -1,11 +1,11 @@
 //! The trees of the layers.
 
-ghost use Rattle.std.specs.Prelude.{ℕ, ◌≡◌, ◌≢◌, ◌*◌, ◌+◌, ◌<◌, ◌≤◌, ◌^◌, IfOk, IfSome, IsTrue, max, nat_lt, length, replicate, set, if◌then◌else◌};
+ghost use Rattle.std.specs.Prelude.{ℕ, ◌≡◌, ◌≢◌, ◌*◌, ◌+◌, ◌<◌, ◌≤◌, ◌^◌, IfOk, max, nat_lt, length, replicate, set, if◌then◌else◌};
 ghost use Rattle.lam_geom.specs.declared.layer.Layer.{Layer};
 ghost use Rattle.mask_runs.specs.Colours.{bare, uses};
-ghost use Rattle.cover_tree.specs.Parts.{IsSmall, InPart, left_half, right_half, top_at};
+ghost use Rattle.cover_tree.specs.Parts.{IsSmall, top_at};
 ghost use Rattle.cover_tree.specs.Layered.{tree};
-ghost use Rattle.cover_tree.specs.Looking.{own_at, seen};
+ghost use Rattle.cover_tree.specs.Looking.{own_at};
 ghost use Rattle.cover_tree.specs.Kinds.{HasKind};
 ghost use Rattle.cover_tree.specs.Notes.{IsNoted, AreNoted, AreHalvesNoted, IsOnlyIn, note_at};
 

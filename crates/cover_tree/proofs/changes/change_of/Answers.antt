@@ -12,4 +12,4 @@ returns-then-eq c =
 pub returns : goal.returns
 returns c =
     effect_change c.args.trees.now c.args.line c.args.part c.args.known (c.if-not-is_steady.ensures refl) c.kinds_at.result c.effect.result (omega arith)
-    c.kinds_at.ensures.all c.effect.ensures
+    c.kinds_at.ensures c.effect.ensures
