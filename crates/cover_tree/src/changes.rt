@@ -1,5 +1,6 @@
 //! The cells of a part whose colours change.
 
+ghost use Rattle.std.specs.Bool.{OnTrue};
 ghost use Rattle.std.specs.Prelude.{◌≡◌, ◌+◌, ◌<◌, ◌^◌, true, IfOk};
 ghost use Rattle.cover_tree.specs.Parts.{IsSmall};
 ghost use Rattle.cover_tree.specs.Notes.{AreNoted};
@@ -82,10 +83,22 @@ fn change_in(trees: &Trees, line: Line, span: Span, part: Part, known: Known) ->
     if from == to {
         return Effect::Nowhere;
     }
-    if to - from < part.width {
-        return Effect::Somewhere;
+    if to - from == part.width {
+        return change_of(trees, line, part, known);
     }
-    change_of(trees, line, part, known)
+    if stays(trees, line, part, known) {
+        return Effect::Nowhere;
+    }
+    Effect::Somewhere
+}
+
+// Whether it is known that no cell of the part changes its colour.
+fn stays(trees: &Trees, line: Line, part: Part, known: Known) -> bool
+    requires room { line.row + 1 < 2 ^ 32 }
+    requires noted { AreNoted line.mask trees.now part }
+    ensures { OnTrue result (IsChange (differs trees.now line part known) part Effect.Nowhere) }
+{
+    known.before == known.after && is_steady(trees, line.mask, part, line.row)
 }
 
 // Whether none or all of the part's cells change their colours.
