@@ -2,6 +2,8 @@
 #![tactic(auto)]
 
 #[cfg(test)]
+mod runs;
+#[cfg(test)]
 mod tests;
 
 use mp_base::{List, MemDepot, MemSink, NoMemory};

@@ -10,8 +10,6 @@ mod line;
 mod net;
 mod sim;
 mod source;
-#[cfg(test)]
-mod tests;
 mod top;
 mod trace;
 

@@ -1,7 +1,7 @@
 //! Whole runs over files and an output in memory.
 
-use crate::{NamedPart, Status, run};
 use mp_base::{List, MemDepot, MemSink};
+use silicon::{NamedPart, Status, run};
 use std::alloc::{AllocError, Global};
 use std::test::Fail;
 
@@ -26,6 +26,10 @@ const WIDE: &str = "error E11 at 11 line 1 column 12\n";
 const ONE_NODE: &str = "nodes 1 enhancement 0 depletion 0 partial 0\n";
 
 const UNBUILT: &str = "error E99 at 0 line 1 column 1\n";
+
+const TWO_CLOCKS: &[u8] = b"clock a=0\nclock a=1\n";
+
+const TRANSCRIPT: &str = "0 y=1\n1 y=0\n";
 
 fn listed(alloc: Global, call: u64) -> Result<List<u64>, AllocError> {
     Ok(List::from_vec(vec![in alloc; call]?))
@@ -66,7 +70,7 @@ fn words_and_files(rt: HostRuntime) -> Result<(), Fail> {
     depot.put("pads", b"in a\nout y\nclock a=0\nclock a=1\n")?;
     depot.put("metal", b"L NM; B 3 1 0 0; E")?;
     depot.put("short", b"L NM; B 10 10 0 0; 94 vdd 0 0; 94 gnd 1 1; E")?;
-    depot.put("two", b"clock a=0\nclock a=1\n")?;
+    depot.put("two", TWO_CLOCKS)?;
     depot.put("high", b"clock a=2\n")?;
     let rows = [
         ("", 9, Status::Usage, USAGE),
@@ -84,7 +88,7 @@ fn words_and_files(rt: HostRuntime) -> Result<(), Fail> {
         ("compile absent c", 9, Status::ReadFault, ""),
         ("trace inv absent", 9, Status::ReadFault, ""),
         ("trace inv high", 9, Status::Refused, HIGH),
-        ("trace inv two", 99, Status::Done, "0 y=1\n1 y=0\n"),
+        ("trace inv two", 99, Status::Done, TRANSCRIPT),
         ("trace inv two", 0, Status::WriteFault, ""),
         ("sim masks", 9, Status::Usage, USAGE),
         ("sim absent inv", 9, Status::ReadFault, ""),
@@ -97,7 +101,7 @@ fn words_and_files(rt: HostRuntime) -> Result<(), Fail> {
             "error S2 at 6 line 1 column 7\n",
         ),
         ("sim metal pads", 9, Status::Refused, "error N4 vdd\n"),
-        ("sim masks pads", 99, Status::Done, "0 y=1\n1 y=0\n"),
+        ("sim masks pads", 99, Status::Done, TRANSCRIPT),
         ("sim masks pads", 0, Status::WriteFault, ""),
         ("net", 9, Status::Usage, USAGE),
         ("net absent", 9, Status::ReadFault, ""),
@@ -116,7 +120,51 @@ fn words_and_files(rt: HostRuntime) -> Result<(), Fail> {
 }
 
 #[test]
-fn each_call_of_the_files_fails(rt: HostRuntime) -> Result<(), Fail> {
+fn each_read_of_a_trace_fails(rt: HostRuntime) -> Result<(), Fail> {
+    let alloc = rt.alloc();
+    // Two reads of each file, of which the second finds its end.
+    let rows = [
+        (0, Status::ReadFault, ""),
+        (1, Status::ReadFault, ""),
+        (2, Status::ReadFault, ""),
+        (3, Status::ReadFault, ""),
+        (4, Status::Done, TRANSCRIPT),
+    ];
+    for (call, status, text) in rows {
+        let mut depot = MemDepot::new(alloc, 1, listed(alloc, call)?);
+        depot.put("inv", INVERTER.as_bytes())?;
+        depot.put("two", TWO_CLOCKS)?;
+        let (got, printed) = answer(alloc, "trace inv two", &mut depot, 99)?;
+        assert_eq!(rt; got, status);
+        assert_eq!(rt; printed.as_slice(), text.as_bytes());
+    }
+    Ok(())
+}
+
+#[test]
+fn each_write_of_a_trace_fails(rt: HostRuntime) -> Result<(), Fail> {
+    let alloc = rt.alloc();
+    let mut depot = MemDepot::new(alloc, 1, List::new(alloc));
+    depot.put("inv", INVERTER.as_bytes())?;
+    depot.put("two", TWO_CLOCKS)?;
+    let whole = TRANSCRIPT.as_bytes();
+    // Each of the twelve bytes is a piece of its own here.
+    for call in 0..13 {
+        let (got, printed) = answer(alloc, "trace inv two", &mut depot, call)?;
+        let wanted = if call < 12 {
+            Status::WriteFault
+        } else {
+            Status::Done
+        };
+        assert_eq!(rt; got, wanted);
+        assert!(rt; whole.starts_with(&printed));
+        assert_eq!(rt; printed.len() as u64, call.min(12));
+    }
+    Ok(())
+}
+
+#[test]
+fn each_call_of_the_files_of_a_compile_fails(rt: HostRuntime) -> Result<(), Fail> {
     let alloc = rt.alloc();
     // Two reads, a creation, and an append for each hundred bytes.
     let rows = [
@@ -139,29 +187,6 @@ fn each_call_of_the_files_fails(rt: HostRuntime) -> Result<(), Fail> {
         if let Some(bytes) = held {
             assert!(rt; MASKS.as_bytes().starts_with(bytes));
         }
-    }
-    Ok(())
-}
-
-#[test]
-fn each_call_of_the_output_fails(rt: HostRuntime) -> Result<(), Fail> {
-    let alloc = rt.alloc();
-    let mut depot = MemDepot::new(alloc, 100, List::new(alloc));
-    depot.put("inv", INVERTER.as_bytes())?;
-    depot.put("two", b"clock a=0\nclock a=1\n")?;
-    let whole = b"0 y=1\n1 y=0\n".as_slice();
-    let mut longest = 0;
-    for call in 0..12 {
-        let (got, printed) = answer(alloc, "trace inv two", &mut depot, call)?;
-        let wanted = if printed.len() < whole.len() {
-            Status::WriteFault
-        } else {
-            Status::Done
-        };
-        assert_eq!(rt; got, wanted);
-        assert!(rt; whole.starts_with(&printed));
-        assert!(rt; longest <= printed.len());
-        longest = printed.len();
     }
     Ok(())
 }
