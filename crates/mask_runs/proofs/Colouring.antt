@@ -1,4 +1,4 @@
--- Colours rest on the layers that a mask uses, and a square has one.
+-- Colours rest on the layers that a mask uses and needs, and a square has one.
 use Rattle.std.proofs.Common.{refl, sym, ap, ◌∙◌, ◌≡◌, Bool, true, false, List}
 use Rattle.std.specs.Prelude.{◌↔◌, ℤ, if◌then◌else◌}
 use Rattle.lam_geom.specs.declared.layer.Layer.{Layer}
@@ -7,7 +7,7 @@ use Rattle.lam_geom.specs.declared.rect.Rect.{Rect}
 use Rattle.mask_runs.specs.declared.mask.Layers.{Layers}
 use Rattle.mask_runs.specs.declared.mask.Mask.TheVariants.{Only, Diffusion, Contacts}
 use Rattle.mask_runs.specs.Colours.{has, colour_of, Sees}
-use Rattle.mask_runs.specs.Laws.{ColoursByLayers, OneColour}
+use Rattle.mask_runs.specs.Laws.{BlankWithoutNeeded, ColoursByLayers, OneColour}
 
 pub by_layers : ColoursByLayers
 by_layers (Only ND) a b h = ap (λ t. if t then 1 else 0) (h ND refl)
@@ -19,6 +19,17 @@ by_layers (Only NB) a b h = ap (λ t. if t then 1 else 0) (h NB refl)
 by_layers (Only NG) a b h = ap (λ t. if t then 1 else 0) (h NG refl)
 by_layers Diffusion a b h = rw (h ND refl, h NP refl, h NB refl, h NI refl) refl
 by_layers Contacts a b h = rw (h ND refl, h NP refl, h NC refl, h NM refl, h NB refl) refl
+
+pub without_needed : BlankWithoutNeeded
+without_needed (Only ND) s h = ap (λ t. if t then 1 else 0) (h ND refl)
+without_needed (Only NP) s h = ap (λ t. if t then 1 else 0) (h NP refl)
+without_needed (Only NC) s h = ap (λ t. if t then 1 else 0) (h NC refl)
+without_needed (Only NM) s h = ap (λ t. if t then 1 else 0) (h NM refl)
+without_needed (Only NI) s h = ap (λ t. if t then 1 else 0) (h NI refl)
+without_needed (Only NB) s h = ap (λ t. if t then 1 else 0) (h NB refl)
+without_needed (Only NG) s h = ap (λ t. if t then 1 else 0) (h NG refl)
+without_needed Diffusion s h = rw (h ND refl) refl
+without_needed Contacts s h = rw (h NC refl, h NB refl) refl
 
 same_test : {P : Type 0} (a b : Bool) → (a ≡ true) ↔ P → (b ≡ true) ↔ P → a ≡ b
 same_test true true f g = refl

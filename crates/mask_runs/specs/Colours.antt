@@ -74,6 +74,15 @@ uses Contacts NI = false
 uses Contacts NG = false
 uses Contacts _ = true
 
+-- whether the layer is one of those of which each square with a colour has one
+abbrev pub needs : Mask → Layer → Bool
+needs (Only own) l = uses (Only own) l
+needs Diffusion ND = true
+needs Diffusion _ = false
+needs Contacts NC = true
+needs Contacts NB = true
+needs Contacts _ = false
+
 -- these are the layers that cover the square
 pub record Sees (shapes : List Rect) (x y : ℤ) (layers : Layers) : Type 0 where
   pub each : (l : Layer) → (has layers l ≡ true) ↔ covered shapes l x y

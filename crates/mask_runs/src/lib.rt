@@ -5,6 +5,6 @@ mod law;
 mod mask;
 mod run;
 
-pub use law::{colours_by_layers, one_colour};
+pub use law::{blank_without_needed, colours_by_layers, one_colour};
 pub use mask::{Layers, Mask};
 pub use run::Run;

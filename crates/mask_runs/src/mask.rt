@@ -1,7 +1,7 @@
 //! Layers over a square, and the masks that they make.
 
 ghost use Rattle.std.specs.Prelude.{◌≡◌};
-ghost use Rattle.mask_runs.specs.Colours.{bare, has, with, uses, joined, colour_of};
+ghost use Rattle.mask_runs.specs.Colours.{bare, has, with, uses, needs, joined, colour_of};
 
 use lam_geom::Layer;
 
@@ -97,6 +97,17 @@ impl Mask {
             Mask::Only(own) => own == layer,
             Mask::Diffusion => matches!(layer, Layer::ND | Layer::NP | Layer::NB | Layer::NI),
             Mask::Contacts => !matches!(layer, Layer::NI | Layer::NG),
+        }
+    }
+
+    /// Whether the layer is one of those of which each square with a colour has one.
+    pub fn needs(self, layer: Layer) -> bool
+        ensures { result ≡ needs self layer }
+    {
+        match self {
+            Mask::Only(own) => own == layer,
+            Mask::Diffusion => layer == Layer::ND,
+            Mask::Contacts => matches!(layer, Layer::NC | Layer::NB),
         }
     }
 }

@@ -1,4 +1,5 @@
 mod Axes
+mod Blank
 mod Blocks
 mod Painting
 mod Beginning

@@ -118,7 +118,7 @@ pub painted_is : ColoursByLayers → (mask : Mask) (blocks : List Block) (y c : 
 unfolding painted
 painted_is law mask blocks y c s h = law mask s (layers_over blocks y c) (λ l u. h l u ∙ sym (has_over blocks y c l))
 
-not_true : (b : Bool) → (b ≡ true → ⊥) → b ≡ false
+pub not_true : (b : Bool) → (b ≡ true → ⊥) → b ≡ false
 not_true true h = absurd (h refl)
 not_true false h = refl
 

@@ -154,14 +154,16 @@ sees_some shapes x y = record {
       (λ h. s.0 (sym e ∙ h), λ h. e ∙ s.1 h);
 }
 
+-- the layers that cover a square
+pub layers_of : (shapes : List Rect) (x y : ℤ) → (s : Layers) × Sees shapes x y s
+layers_of shapes x y = (layers_by (λ l. (seen shapes l x y).0), sees_some shapes x y)
+
 -- a square has a colour exactly where its cell has it
 pub has_colour : ColoursByLayers → (xs ys : List ℤ) (mask : Mask) (shapes : List Rect) (blocks : List Block) (k : ℕ) (x y : ℤ)
     → IsGrid xs ys mask shapes blocks → HasColour shapes mask k x y ↔ (painted mask blocks (cell_of ys y) (cell_of xs x) ≡ k)
 has_colour law xs ys mask shapes blocks k x y g = (
   λ h. sym (square_painted law xs ys mask shapes blocks x y g h.layers h.sees) ∙ h.same,
-  λ e. record {
-    layers = layers_by (λ l. (seen shapes l x y).0);
-    sees = sees_some shapes x y;
-    same = square_painted law xs ys mask shapes blocks x y g (layers_by (λ l. (seen shapes l x y).0)) (sees_some shapes x y) ∙ e;
-  },
+  λ e.
+      let s = layers_of shapes x y in
+      record { layers = s.0; sees = s.1; same = square_painted law xs ys mask shapes blocks x y g s.0 s.1 ∙ e },
 )

@@ -1,7 +1,8 @@
 //! The sweep over the rows of a mask.
 
-ghost use Rattle.std.specs.Prelude.{IfOk};
+ghost use Rattle.std.specs.Prelude.{◌≡◌, [], All, IfOk, None, true, false};
 ghost use Rattle.std.specs.List.{AllZip};
+ghost use Rattle.mask_runs.specs.Colours.{needs};
 ghost use Rattle.region_sweep.specs.Tiles.{AreTiles, AreWhole, IsTileOf};
 ghost use Rattle.region_sweep.specs.Touching.{AreTouching};
 
@@ -9,7 +10,7 @@ use crate::grid::Grid;
 use crate::rows::sweep_rows;
 use crate::tile::Tile;
 use lam_geom::{Point, Rect};
-use mask_runs::{Mask, colours_by_layers};
+use mask_runs::{Mask, blank_without_needed, colours_by_layers};
 use mp_base::{List, NoMemory};
 use std::alloc::Global;
 use union_find::Pair;
@@ -37,6 +38,10 @@ pub fn sweep(
     ensures pairs { IfOk result (λ s. AreTouching s.tiles s.pairs) }
     ensures found { IfOk result (λ s. AllZip (IsTileOf shapes.now mask s.tiles) places.now s.found) }
 {
+    blank_without_needed();
+    if is_blank(shapes, mask) {
+        return blank(alloc, places);
+    }
     colours_by_layers();
     let grid = Grid::new(alloc, shapes, mask)?;
     let blocks = grid.blocks(alloc, shapes, mask)?;
@@ -54,6 +59,27 @@ pub fn sweep(
     Ok(Swept {
         tiles,
         pairs: List::from_vec(swept.pairs),
+        found: List::from_vec(found),
+    })
+}
+
+// Whether no rectangle has a layer that the mask needs, so that there is nothing to sweep.
+fn is_blank(shapes: &[Rect], mask: Mask) -> bool
+    ensures { result ≡ true → All (λ r. needs mask r.layer ≡ false) shapes.now }
+{
+    !shapes.iter().any(|shape| mask.needs(shape.layer))
+}
+
+// What a sweep finds where no square has a colour.
+fn blank(alloc: Global, places: &[Point]) -> Result<Swept, NoMemory>
+    ensures tiles { IfOk result (λ s. s.tiles ≡ []) }
+    ensures pairs { IfOk result (λ s. s.pairs ≡ []) }
+    ensures found { IfOk result (λ s. AllZip (λ _ f. f ≡ None) places.now s.found) }
+{
+    let found = vec![in alloc; None; places.len()]?;
+    Ok(Swept {
+        tiles: List::new(alloc),
+        pairs: List::new(alloc),
         found: List::from_vec(found),
     })
 }

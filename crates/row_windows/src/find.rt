@@ -12,6 +12,10 @@ use cover_tree::{CoverTree, Stretch};
 use mp_base::NoMemory;
 use std::alloc::AllocError;
 
+// How many cells the next stretch may lie behind the current window's stretches without a window of its own: these cells
+// are collected sooner than the ends of two windows are looked up.
+const NEAR: u32 = 32;
+
 /// The windows of a row, from left to right, around the cells that these stretches have, from left to right too. Each
 /// window reaches over two runs beside such cells, if they lie next to one another, so that the runs in the windows, in
 /// this row and in the next, tell all that changes. Its time is that of the stretches times the logarithm of the cells.
@@ -42,7 +46,7 @@ pub fn find_windows(
     Ok(())
 }
 
-// Adds the current window if the stretch lies beyond it, and gives the current one then, whose `to` is where the stretches end that
+// Adds the current window if the stretch lies well beyond it, and gives the current one then, whose `to` is where the stretches end that
 // it has.
 fn add_stretch(
     tree: &CoverTree,
@@ -60,7 +64,7 @@ fn add_stretch(
         from: current.from,
         to: current.to.max(stretch.to),
     };
-    if stretch.from <= current.to {
+    if stretch.from.saturating_sub(current.to) <= NEAR {
         return Ok(joined);
     }
     let window = closed(tree, row, current);

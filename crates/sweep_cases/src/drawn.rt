@@ -51,3 +51,13 @@ pub(crate) fn transistor() -> [Rect; 3] {
 pub(crate) fn transistor_places() -> [Point; 2] {
     [Point { x: 4, y: 0 }, Point { x: 4, y: 4 }]
 }
+
+/// A rectangle of one layer.
+pub(crate) fn alone(layer: Layer) -> [Rect; 1] {
+    [rect(layer, 0, 0, 4, 4)]
+}
+
+/// Its lower left square.
+pub(crate) fn alone_place() -> [Point; 1] {
+    [Point { x: 0, y: 0 }]
+}

@@ -7,7 +7,7 @@ mod large;
 mod show;
 mod squares;
 
-use drawn::{cross, cross_places, transistor, transistor_places};
+use drawn::{alone, alone_place, cross, cross_places, transistor, transistor_places};
 use lam_geom::Layer;
 use large::{comb, stairs, woven};
 use mask_runs::Mask;
@@ -25,6 +25,9 @@ fn main(rt: HostRuntime) -> io::Result<()> {
         &transistor_places(),
     )?;
     show(&rt, "nothing", &[], Mask::Contacts, &transistor_places())?;
+    show_alone(&rt, "cuts alone", Layer::NC, Mask::Contacts)?;
+    show_alone(&rt, "metal alone", Layer::NM, Mask::Contacts)?;
+    show_alone(&rt, "polysilicon alone", Layer::NP, Mask::Diffusion)?;
     show_random(&rt)?;
     let stairs = stairs(rt.alloc(), 30_000)?;
     show_size(&rt, "stairs", stairs.as_slice(), metal)?;
@@ -44,4 +47,9 @@ fn main(rt: HostRuntime) -> io::Result<()> {
         cut.as_slice(),
         Mask::Contacts,
     )
+}
+
+// One layer without those that make a colour with it.
+fn show_alone(rt: &HostRuntime, name: &str, layer: Layer, mask: Mask) -> io::Result<()> {
+    show(rt, name, &alone(layer), mask, &alone_place())
 }

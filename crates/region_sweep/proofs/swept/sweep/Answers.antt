@@ -1,6 +1,7 @@
 -- Strips as tiles.
 use Rattle.std.proofs.Common.{◌∙◌, ◌<◌, sym, ap, subst, map, length, All}
 use Rattle.std.specs.List.{AllZip}
+use Rattle.std.proofs.lemmas.Result.{IfOk-weaker}
 use Rattle.region_sweep.specs.Tiles.{AreTiles, AreWhole, IsTileOf}
 use Rattle.region_sweep.specs.Touching.{AreTouching}
 use Rattle.region_sweep.specs.Grid.{IsFit, tile_of}
@@ -8,9 +9,23 @@ use Rattle.region_sweep.specs.Blocks.{painted}
 use Rattle.region_sweep.specs.Rows.{IsSweep, AreAsked, AreAnswered}
 use Rattle.region_sweep.proofs.Gridding.{asked_are, rows_are_in, cells_are_in}
 use Rattle.region_sweep.proofs.Tilings.{IsLaid, strips_within, are_tiles, are_whole}
+use Rattle.region_sweep.proofs.Blank.{blank_tiles, blank_whole, blank_found}
 use Rattle.region_sweep.proofs.Edges.{are_touching}
 use Rattle.region_sweep.proofs.Answering.{put_back, are_found}
 use Rattle.region_sweep.proofs.swept.sweep.Goals as goal
+
+pub returns-then-is_blank-clause-tiles : goal.returns-then-is_blank-clause-tiles
+returns-then-is_blank-clause-tiles c = IfOk-weaker c.blank.result _ _
+    (λ s e. blank_tiles c.blank_without_needed.ensures c.args.mask c.args.shapes.now s.tiles (c.is_blank.ensures c.if-is_blank.true) e) c.blank.ensures.tiles
+
+pub returns-then-is_blank-clause-whole : goal.returns-then-is_blank-clause-whole
+returns-then-is_blank-clause-whole c = IfOk-weaker c.blank.result _ _
+    (λ s e. blank_whole c.blank_without_needed.ensures c.args.mask c.args.shapes.now s.tiles (c.is_blank.ensures c.if-is_blank.true)) c.blank.ensures.tiles
+
+pub returns-then-is_blank-clause-found : goal.returns-then-is_blank-clause-found
+returns-then-is_blank-clause-found c = IfOk-weaker c.blank.result _ _
+    (λ s e. blank_found c.blank_without_needed.ensures c.args.mask c.args.shapes.now s.tiles c.args.places.now s.found (c.is_blank.ensures c.if-is_blank.true) e)
+    c.blank.ensures.found
 
 pub blocks-requires : goal.blocks-requires
 blocks-requires c = c.in_ok-grid.ensures
