@@ -4,6 +4,7 @@ pub mod Parts
 pub mod Commands
 pub mod Reading
 pub mod Small
+pub mod Turning
 pub mod Scaled
 pub mod OneLabel
 pub mod OnePlace

@@ -13,19 +13,19 @@ back : (xs ys : List ℤ) → All IsSmall (xs ++ ys) → All IsSmall ys
 back [] ys h = h
 back (x ∷ xs) ys h = back xs ys (All-tail IsSmall x (xs ++ ys) h)
 
-next : {X : Type 0} (f : X → List ℤ) (xs : List X) (i : ℕ) (d : X) → i < length xs → flat_map f (drop i xs) ≡ f (get_or xs i d) ++ flat_map f (drop (i + 1) xs)
-next f xs i d h =
+-- the rest of a list is its next element and those behind
+pub next : {X : Type 0} (xs : List X) (i : ℕ) (d : X) → i < length xs → drop i xs ≡ get_or xs i d ∷ drop (i + 1) xs
+next xs i d h =
     let e : suc i ≡ i + 1 = omega arith in
-    ap (flat_map f) (drop-cons xs i d h) ∙ ap (λ k. f (get_or xs i d) ++ flat_map f (drop k xs)) e
+    drop-cons xs i d h ∙ ap (λ k. get_or xs i d ∷ drop k xs) e
 
--- those of the rest are small where those of an element are, and those behind it
-pub small_on : {X : Type 0} (f : X → List ℤ) (xs : List X) (i : ℕ) (d : X) → i < length xs → All IsSmall (f (get_or xs i d))
-    → All IsSmall (flat_map f (drop i xs)) ↔ All IsSmall (flat_map f xs) → All IsSmall (flat_map f (drop (i + 1) xs)) ↔ All IsSmall (flat_map f xs)
-small_on f xs i d h small same = (
-  (λ k. same.0 (subst (All IsSmall) (sym (next f xs i d h)) (All-append IsSmall (f (get_or xs i d)) (flat_map f (drop (i + 1) xs)) small k))),
-  (λ k. back (f (get_or xs i d)) (flat_map f (drop (i + 1) xs)) (subst (All IsSmall) (next f xs i d h) (same.1 k))),
+-- the numbers of the others are small where those of all are, if those of the first are
+pub small_on : {X : Type 0} (f : X → List ℤ) (xs others : List X) (x : X) (P : Type 0) → xs ≡ x ∷ others → All IsSmall (f x)
+    → All IsSmall (flat_map f xs) ↔ P → All IsSmall (flat_map f others) ↔ P
+small_on f xs others x P e small same = (
+  (λ k. same.0 (subst (All IsSmall) (sym (ap (flat_map f) e)) (All-append IsSmall (f x) (flat_map f others) small k))),
+  (λ p. back (f x) (flat_map f others) (subst (All IsSmall) (ap (flat_map f) e) (same.1 p))),
 )
 
-pub small_at : {X : Type 0} (f : X → List ℤ) (xs : List X) (i : ℕ) (d : X) → i < length xs → All IsSmall (flat_map f (drop i xs)) ↔ All IsSmall (flat_map f xs)
-    → All IsSmall (flat_map f xs) → All IsSmall (f (get_or xs i d))
-small_at f xs i d h same k = front (f (get_or xs i d)) (flat_map f (drop (i + 1) xs)) (subst (All IsSmall) (next f xs i d h) (same.1 k))
+pub small_at : {X : Type 0} (f : X → List ℤ) (xs others : List X) (x : X) (P : Type 0) → xs ≡ x ∷ others → All IsSmall (flat_map f xs) ↔ P → P → All IsSmall (f x)
+small_at f xs others x P e same p = front (f x) (flat_map f others) (subst (All IsSmall) (ap (flat_map f) e) (same.1 p))

@@ -1,4 +1,5 @@
 pub mod Text
+pub mod Turning
 pub mod Fits
 pub mod Writing
 pub mod Scans

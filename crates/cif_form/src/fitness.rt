@@ -6,6 +6,7 @@ ghost use Rattle.cif_form.specs.Text.{IsDigit, IsUpper, IsShortName, IsBalanced}
 ghost use Rattle.cif_form.specs.Fits.{IsSmall, point_numbers, turn_numbers, Fits};
 
 use crate::command::{Command, Turn};
+use crate::turns::Turns;
 use lam_geom::Point;
 
 const LIMIT: i64 = 1 << 31;
@@ -67,11 +68,11 @@ fn is_turn(turn: Turn) -> bool
     }
 }
 
-fn are_turns(turns: &[Turn]) -> bool
+fn are_turns(turns: &Turns) -> bool
     ensures { IsTrue result ↔ All IsSmall (flat_map turn_numbers turns.now) }
 {
-    for turn in turns {
-        if !is_turn(*turn) {
+    for turn in turns.iter() {
+        if !is_turn(turn) {
             return false;
         }
     }
@@ -132,7 +133,7 @@ impl Command {
             Command::Start { number, a, b } => is_unsigned(*number) && are_unsigned(*a, *b),
             Command::Finish => true,
             Command::Delete(number) => is_unsigned(*number),
-            Command::Call { number, turns } => is_unsigned(*number) && are_turns(turns.as_slice()),
+            Command::Call { number, turns } => is_unsigned(*number) && are_turns(turns),
             Command::User { digit, text } => *digit <= 9 && is_user_text(text.bytes()),
             Command::Comment(text) => is_balanced(text.bytes()),
         }

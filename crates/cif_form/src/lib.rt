@@ -6,9 +6,11 @@ mod fitness;
 mod law;
 #[cfg(test)]
 mod tests;
+mod turns;
 
 pub use command::{Command, Item, Turn};
 pub use law::{
     command_is_found, expansion_is_unique, read_command_fits, reading_is_unique, scan_is_reading,
     scan_is_unique, scanned_commands_fit, walk_is_expansion, walk_is_unique, written_is_read,
 };
+pub use turns::{Turns, TurnsIter};

@@ -10,7 +10,7 @@ ghost use Rattle.cif_list.specs.Showing.{command_shown};
 use crate::arena::{Span, add, append, part_of};
 use crate::turn::{ShortTurn, append_turns, short};
 use crate::view::CommandView;
-use cif_form::{Command, Turn};
+use cif_form::{Command, Turns};
 use lam_geom::Point;
 use mp_base::NoMemory;
 use std::alloc::Global;
@@ -142,7 +142,7 @@ impl Store {
         Ok(Head::Start(index))
     }
 
-    fn put_call(&mut self, number: i64, turns: &[Turn]) -> Result<Head, NoMemory>
+    fn put_call(&mut self, number: i64, turns: &Turns) -> Result<Head, NoMemory>
         requires { Fits (commands.Call number turns.now) }
         ensures grows { Grows self.old self.new }
         ensures ok { IfOk result (λ head. Holds self.new head (commands.Call number turns.now)) }
@@ -204,7 +204,7 @@ impl Store {
             }),
             Command::Finish => Ok(Head::Finish),
             Command::Delete(number) => Ok(Head::Delete(short(*number))),
-            Command::Call { number, turns } => self.put_call(*number, turns.as_slice()),
+            Command::Call { number, turns } => self.put_call(*number, turns),
             Command::User { digit, text } => self.put_user(*digit, text.bytes()),
             Command::Comment(text) => self.put_comment(text.bytes()),
         }

@@ -7,7 +7,7 @@ ghost use Rattle.cif_list.specs.Growing.{IsGrown, IsPart, part};
 ghost use Rattle.cif_list.specs.Turning.{wide_point, wide_turn};
 
 use crate::arena::{Span, push, span_behind};
-use cif_form::Turn;
+use cif_form::{Turn, Turns};
 use lam_geom::Point;
 use mp_base::NoMemory;
 
@@ -83,15 +83,15 @@ impl ShortTurn {
 }
 
 /// Adds all of these turns, and says which part they are.
-pub(crate) fn append_turns(arena: &mut Vec<ShortTurn>, turns: &[Turn]) -> Result<Span, NoMemory>
+pub(crate) fn append_turns(arena: &mut Vec<ShortTurn>, turns: &Turns) -> Result<Span, NoMemory>
     requires { All IsSmall (flat_map turn_numbers turns.now) }
     ensures grown { IsGrown arena.old.items arena.new.items }
     ensures within { IfOk result (IsPart arena.new.items) }
     ensures same { IfOk result (λ span. map wide_turn (part arena.new.items span) ≡ turns.now) }
 {
     let span = span_behind(arena.len(), turns.len())?;
-    for turn in turns {
-        push(arena, short_turn(*turn))?;
+    for turn in turns.iter() {
+        push(arena, short_turn(turn))?;
     }
     Ok(span)
 }

@@ -7,7 +7,7 @@ ghost use Rattle.cif_reader.specs.Finding.{Answers, IsFound};
 
 use crate::bytes::{is_digit, number_follows, past_blanks, past_separators, separator};
 use crate::found::Found;
-use cif_form::Turn;
+use cif_form::{Turn, Turns};
 use lam_geom::Point;
 use mp_base::List;
 use std::alloc::{AllocError, Global};
@@ -183,11 +183,11 @@ fn turn(bytes: &[u8], at: usize) -> Option<Found<Turn>>
 
 /// The turns of a call.
 #[tactic(auto, using(crate::proofs::Paths::turns_begin, crate::proofs::Paths::turns_go_on, crate::proofs::Paths::turns_end))]
-pub(crate) fn turns(alloc: Global, bytes: &[u8], at: usize) -> Result<Found<List<Turn>>, AllocError>
+pub(crate) fn turns(alloc: Global, bytes: &[u8], at: usize) -> Result<Found<Turns>, AllocError>
     requires { at ≤ length bytes.now }
     ensures { IfOk result (λ r. IsFound cut_turns (turns_here (drop at bytes.now)) bytes.now at r.value r.end) }
 {
-    let mut turns = List::new(alloc);
+    let mut turns = Turns::new(alloc);
     let mut from = at;
     'turns: loop {
         let Some(Found { value, end }) = turn(bytes, past_blanks(bytes, from)) else {

@@ -1,7 +1,7 @@
 //! The text of each command.
 
 use crate::{write_command, write_end};
-use cif_form::{Command, Turn};
+use cif_form::{Command, Turn, Turns};
 use lam_geom::Point;
 use mp_base::{List, MemSink, Name};
 use std::alloc::{AllocError, Global};
@@ -71,13 +71,11 @@ fn boxes_and_calls_have_their_texts(rt: HostRuntime) -> Result<(), Fail> {
         direction: point(0, -1),
     };
     assert!(rt; is_text(alloc, turned, b"B 25 60 80 40 0 -1;\n"));
-    let moved = [
-        Turn::Rotate(point(0, 1)),
-        Turn::MirrorX,
-        Turn::Move(point(3, -4)),
-        Turn::MirrorY,
-    ];
-    let turns = List::from_vec(Vec::from_slice(alloc, &moved)?);
+    let mut turns = Turns::new(alloc);
+    turns.push(Turn::Rotate(point(0, 1)))?;
+    turns.push(Turn::MirrorX)?;
+    turns.push(Turn::Move(point(3, -4)))?;
+    turns.push(Turn::MirrorY)?;
     assert!(rt;
         is_text(
             alloc,

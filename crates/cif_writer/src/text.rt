@@ -7,7 +7,7 @@ ghost use Rattle.mp_base.specs.Piece.{TakesAll};
 ghost use Rattle.cif_form.specs.Writing.{space, point_text, path_text, turn_text, turns_text};
 ghost use Rattle.cif_writer.specs.Texts.{number_text};
 
-use cif_form::Turn;
+use cif_form::{Turn, Turns};
 use itoa::Buffer;
 use lam_geom::Point;
 use mp_base::{Failed, Sink, write_all};
@@ -85,12 +85,12 @@ fn write_turn<O: Sink>(out: &mut O, turn: Turn) -> Result<(), Failed>
 }
 
 /// Writes the turns of a call.
-pub(crate) fn write_turns<O: Sink>(out: &mut O, turns: &[Turn]) -> Result<(), Failed>
+pub(crate) fn write_turns<O: Sink>(out: &mut O, turns: &Turns) -> Result<(), Failed>
     ensures taken { TakesAll Gains (O.held out.old) (O.held out.new) (turns_text turns.now) result }
     ensures cause { HasCause (O.faults out.old) (O.faults out.new) result }
 {
-    for turn in turns {
-        write_turn(out, *turn)?;
+    for turn in turns.iter() {
+        write_turn(out, turn)?;
     }
     Ok(())
 }

@@ -8,7 +8,7 @@ ghost use Rattle.cif_form.specs.Writing.{path_text, turns_text, text_of};
 ghost use Rattle.cif_writer.specs.Texts.{number_text};
 
 use crate::text::{write_both, write_path, write_tagged, write_turns};
-use cif_form::{Command, Turn};
+use cif_form::{Command, Turns};
 use lam_geom::Point;
 use mp_base::{Failed, Sink, write_all};
 
@@ -49,7 +49,7 @@ fn write_wire<O: Sink>(out: &mut O, width: i64, path: &[Point]) -> Result<(), Fa
     write_path(out, path)
 }
 
-fn write_call<O: Sink>(out: &mut O, number: i64, turns: &[Turn]) -> Result<(), Failed>
+fn write_call<O: Sink>(out: &mut O, number: i64, turns: &Turns) -> Result<(), Failed>
     ensures taken { TakesAll Gains (O.held out.old) (O.held out.new) (codes "C" ++ (number_text number ++ turns_text turns.now)) result }
     ensures cause { HasCause (O.faults out.old) (O.faults out.new) result }
 {
@@ -86,7 +86,7 @@ fn write_text<O: Sink>(command: &Command, out: &mut O) -> Result<(), Failed>
         Command::Start { number, a, b } => write_tagged(out, b"DS", &[*number, *a, *b]),
         Command::Finish => write_all(out, b"DF"),
         Command::Delete(number) => write_tagged(out, b"DD", &[*number]),
-        Command::Call { number, turns } => write_call(out, *number, turns.as_slice()),
+        Command::Call { number, turns } => write_call(out, *number, turns),
         Command::User { digit, text } => write_both(out, &[b'0' + *digit], text.bytes()),
         Command::Comment(text) => write_comment(out, text.bytes()),
     }
