@@ -7,6 +7,7 @@ pub mod Collecting
 pub mod Going
 pub mod Found
 pub mod Sets
+pub mod Colours
 pub mod Noting
 pub mod Telling
 pub mod Changing

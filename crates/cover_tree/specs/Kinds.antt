@@ -1,5 +1,5 @@
 -- Sets of sets of layers, as the bits of a number.
-use Rattle.std.specs.Prelude.{◌≡◌, ◌≢◌, ◌||◌, ◌⊎◌, ℕ, ◌+◌, ◌*◌, ◌<◌, Bool, true, false, if◌then◌else◌}
+use Rattle.std.specs.Prelude.{◌≡◌, ◌≢◌, ◌||◌, ◌&&◌, ◌==◌, ℕ, ◌+◌, ◌*◌, ◌<◌, Bool, true, false, if◌then◌else◌}
 use Rattle.std.specs.Int.{bit_at}
 use Rattle.lam_geom.specs.declared.layer.Layer.{Layer}
 use Rattle.lam_geom.specs.declared.layer.Layer.TheVariants.{NC, NI, NG}
@@ -38,6 +38,10 @@ further Contacts = NC
 abbrev pub index : Mask → Layers → ℕ
 index mask s = bit s.nd + 2 * bit s.np + 4 * bit s.nb + 8 * bit (has s (further mask)) + 16 * bit s.nm
 
+-- the number of a set with a layer besides, if it is to be there: `holders` has the bits of all sets that have it
+abbrev pub raised : Bool → ℕ → ℕ → ℕ → ℕ
+raised own holders weight place = if own && bit_at holders place == 0 then place + weight else place
+
 -- the set is one of the kinds, as far as the mask uses its layers
 pub record HasKind (mask : Mask) (kinds : Kinds) (s : Layers) : Type 0 where
   pub set : bit_at kinds.bits (index mask s) ≡ 1
@@ -48,12 +52,16 @@ pub record IsWith (mask : Mask) (kinds : Kinds) (own s : Layers) : Type 0 where
   pub has : HasKind mask kinds kind
   pub same : index mask s ≡ index mask (both own kind)
 
--- the kinds are the first one and the rest
-pub record IsSplit (mask : Mask) (kinds : Kinds) (first : Layers) (rest : Kinds) : Type 0 where
-  pub less : rest.bits < kinds.bits
-  pub has : HasKind mask kinds first
-  pub each : (s : Layers) → HasKind mask kinds s → (index mask s ≡ index mask first) ⊎ HasKind mask rest s
-  pub only : (s : Layers) → HasKind mask rest s → HasKind mask kinds s
+-- the number is that of a kind with a layer besides
+pub record IsBeside (kinds : Kinds) (own : Bool) (holders weight i : ℕ) : Type 0 where
+  pub place : ℕ
+  pub small : place < 32
+  pub has : bit_at kinds.bits place ≡ 1
+  pub same : i ≡ raised own holders weight place
+
+-- all kinds have this bit in the plane
+pub record Share (kinds : Kinds) (plane b : ℕ) : Type 0 where
+  pub each : (i : ℕ) → bit_at kinds.bits i ≡ 1 → bit_at plane i ≡ b
 
 -- all kinds have this colour with the known layers
 pub record AreOneColour (mask : Mask) (kinds : Kinds) (known : Layers) (colour : ℕ) : Type 0 where

@@ -5,6 +5,7 @@ pub mod Trees
 pub mod Building
 pub mod Going
 pub mod Kinds
+pub mod Planes
 pub mod Looking
 pub mod Notes
 pub mod Telling

@@ -1,10 +1,12 @@
 //! Sets of sets of layers.
 
-ghost use Rattle.std.specs.Prelude.{◌≡◌, ◌↔◌, ◌<◌, ◌/◌, ◌%◌, ◌⊎◌, ℕ, IsTrue, IfSome, IfNone};
+ghost use Rattle.std.specs.Prelude.{◌≡◌, ◌↔◌, ◌<◌, ◌⊎◌, ℕ, IfSome, IfNone};
+ghost use Rattle.std.specs.Int.{bit_at};
 ghost use Rattle.mask_runs.specs.declared.mask.Layers.{Layers};
 ghost use Rattle.mask_runs.specs.declared.mask.Mask.{Mask};
-ghost use Rattle.cover_tree.specs.Kinds.{bit, both, further, index, HasKind, IsWith, IsSplit, IsEffect, AreOneColour, IsKept, Keeps};
+ghost use Rattle.cover_tree.specs.Kinds.{bit, both, further, index, HasKind, IsWith, IsBeside, IsEffect, AreOneColour, Share};
 
+use crate::planes::{FURTHER, NB, ND, NM, NP, Planes};
 use lam_geom::Layer;
 use mask_runs::{Layers, Mask};
 
@@ -53,13 +55,11 @@ impl Kinds {
     pub fn with(self, mask: Mask, own: Layers) -> Kinds
         ensures { (s : Layers) → HasKind mask result s ↔ IsWith mask self own s }
     {
-        if own == Layers::none() {
-            return self;
-        }
-        match self.split_first(mask) {
-            None => self,
-            Some((first, rest)) => Kinds::one(mask, both(own, first)).union(rest.with(mask, own)),
-        }
+        self.besides(own.nd, ND, 1)
+            .besides(own.np, NP, 2)
+            .besides(own.nb, NB, 4)
+            .besides(own.has(further(mask)), FURTHER, 8)
+            .besides(own.nm, NM, 16)
     }
 
     /// The one colour of all these sets with the layers known besides, if they have one.
@@ -67,74 +67,51 @@ impl Kinds {
         ensures some { IfSome result (λ k. AreOneColour mask self known k) }
         ensures none { IfNone result ((k : ℕ) → ¬ AreOneColour mask self known k) }
     {
-        match self.split_first(mask) {
-            None => Some(0),
-            Some((first, rest)) => {
-                let colour = mask.colour(both(known, first));
-                if rest.are_all(mask, known, colour) {
-                    return Some(colour);
-                }
-                None
-            }
-        }
+        let planes = Planes::new(mask, known);
+        let low = self.shared(planes.low)?;
+        let middle = self.shared(planes.middle)?;
+        let high = self.shared(planes.high)?;
+        Some(low as u8 + 2 * middle as u8 + 4 * high as u8)
     }
 
     /// What becomes of the sets' colours where they lie with the layers `new` in place of `old`.
     pub fn effect(self, mask: Mask, old: Layers, new: Layers) -> Effect
         ensures { IsEffect mask self old new result }
     {
-        match self.split_first(mask) {
-            None => Effect::Nowhere,
-            Some((first, rest)) => {
-                let same = is_kept(mask, old, new, first);
-                if !rest.keep(mask, old, new, same) {
-                    return Effect::Somewhere;
-                }
-                if same {
-                    return Effect::Nowhere;
-                }
-                Effect::Everywhere
-            }
+        let differing = Planes::new(mask, old).differing(Planes::new(mask, new));
+        match self.shared(differing) {
+            Some(false) => Effect::Nowhere,
+            Some(true) => Effect::Everywhere,
+            None => Effect::Somewhere,
         }
     }
 
-    // Whether all sets have this colour with the layers known besides.
-    fn are_all(self, mask: Mask, known: Layers, colour: u8) -> bool
-        ensures { IsTrue result ↔ AreOneColour mask self known colour }
+    // The sets with a layer besides, if it is to be there. All `holders` have it, and their indexes are larger by `weight` for it.
+    fn besides(self, own: bool, holders: u32, weight: u32) -> Kinds
+        requires { weight < 32 }
+        ensures { (i : ℕ) → i < 32 → (bit_at result.bits i ≡ 1) ↔ IsBeside self own holders weight i }
     {
-        match self.split_first(mask) {
-            None => true,
-            Some((first, rest)) => {
-                mask.colour(both(known, first)) == colour && rest.are_all(mask, known, colour)
-            }
+        if !own {
+            return self;
+        }
+        Kinds {
+            bits: (self.bits & holders) | (self.bits & !holders) << weight,
         }
     }
 
-    // Whether each set has the same colour with the layers `new` in place of `old`, or each has another.
-    fn keep(self, mask: Mask, old: Layers, new: Layers, same: bool) -> bool
-        ensures { IsTrue result ↔ Keeps mask self old new same }
+    // The bit that all these sets have in a plane, if it is the same.
+    fn shared(self, plane: u32) -> Option<bool>
+        ensures some { IfSome result (λ b. Share self plane (bit b)) }
+        ensures none { IfNone result ((b : ℕ) → ¬ Share self plane b) }
     {
-        match self.split_first(mask) {
-            None => true,
-            Some((first, rest)) => {
-                is_kept(mask, old, new, first) == same && rest.keep(mask, old, new, same)
-            }
+        let set = self.bits & plane;
+        if set == 0 {
+            return Some(false);
         }
-    }
-
-    // One of the sets, and the others.
-    fn split_first(self, mask: Mask) -> Option<(Layers, Kinds)>
-        ensures some { IfSome result (λ r. IsSplit mask self r.0 r.1) }
-        ensures none { IfNone result ((s : Layers) → ¬ HasKind mask self s) }
-    {
-        if self.bits == 0 {
-            return None;
+        if set == self.bits {
+            return Some(true);
         }
-        let place = self.bits.trailing_zeros();
-        let rest = Kinds {
-            bits: self.bits & !(1 << place),
-        };
-        Some((set_at(mask, place), rest))
+        None
     }
 }
 
@@ -153,15 +130,8 @@ pub(crate) fn both(left: Layers, right: Layers) -> Layers
     }
 }
 
-// Whether a set has the same colour with the layers `new` in place of `old`.
-fn is_kept(mask: Mask, old: Layers, new: Layers, layers: Layers) -> bool
-    ensures { IsKept mask old new result layers }
-{
-    mask.colour(both(old, layers)) == mask.colour(both(new, layers))
-}
-
-// The layer that the mask may use besides ND, NP, NB and NM.
-fn further(mask: Mask) -> Layer
+/// The layer that the mask may use besides ND, NP, NB and NM.
+pub(crate) fn further(mask: Mask) -> Layer
     ensures { result ≡ further mask }
 {
     match mask {
@@ -178,32 +148,4 @@ fn index(mask: Mask, layers: Layers) -> u32
 {
     let low = layers.nd as u32 + 2 * layers.np as u32 + 4 * layers.nb as u32;
     low + 8 * layers.has(further(mask)) as u32 + 16 * layers.nm as u32
-}
-
-// The set of this index.
-fn set_at(mask: Mask, place: u32) -> Layers
-    requires { place < 32 }
-    ensures { index mask result ≡ place }
-{
-    let low = Layers {
-        nd: digit(place, 1),
-        np: digit(place, 2),
-        nb: digit(place, 4),
-        nm: digit(place, 16),
-        ..Layers::none()
-    };
-    let own = digit(place, 8);
-    match further(mask) {
-        Layer::NC => Layers { nc: own, ..low },
-        Layer::NG => Layers { ng: own, ..low },
-        _ => Layers { ni: own, ..low },
-    }
-}
-
-// A binary digit of a number, by its weight.
-fn digit(number: u32, weight: u32) -> bool
-    requires { 0 < weight }
-    ensures { bit result ≡ number / weight % 2 }
-{
-    number / weight % 2 == 1
 }

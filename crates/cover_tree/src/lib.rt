@@ -8,6 +8,7 @@ mod look;
 mod nearest;
 mod note;
 mod part;
+mod planes;
 mod raise;
 mod stretch;
 #[cfg(test)]

@@ -1,12 +1,37 @@
-use Rattle.std.proofs.Common.{◌≡◌, refl, sym}
-use Rattle.mask_runs.specs.Colours.{colour_of}
-use Rattle.cover_tree.specs.Kinds.{both, IsSplit}
-use Rattle.cover_tree.proofs.Sets.{all_colour}
+use Rattle.std.proofs.Common.{◌≡◌, ◌∙◌, ◌/◌, ◌%◌, ◌<◌, ◌^◌, Bool, true, false, refl, arith}
+use mir.Val.{bool_byte}
+use Rattle.cover_tree.specs.Kinds.{bit, index}
+use Rattle.cover_tree.proofs.Colours.{low_shared, middle_shared, high_shared}
 use Rattle.cover_tree.proofs.kinds.Kinds.colour.Goals as goal
 
+same_byte : (b : Bool) → bool_byte b ≡ bit b
+same_byte true = refl
+same_byte false = refl
+
 -- src/kinds.rt
-pub returns-then-are_all-clause-some : goal.returns-then-are_all-clause-some
-returns-then-are_all-clause-some c =
-    let d : IsSplit c.args.mask c.args.self c.in-Some.first c.in-Some.rest = rw (← c.in-Some.first-is, ← c.in-Some.rest-is) c.in-Some.ensures.some in
-    let e : colour_of c.args.mask (both c.args.known c.in-Some.first) ≡ c.colour-colour.result = rw (← c.both.ensures) (sym c.colour-colour.ensures) in
-    all_colour c.args.mask c.args.self c.in-Some.first c.in-Some.rest d c.args.known c.colour-colour.result e (c.if-are_all.ensures.0 refl)
+pub returns-in_err-low-clause-none : goal.returns-in_err-low-clause-none
+returns-in_err-low-clause-none c = rw c.from_residual.ensures (λ k h.
+    let small : c.args.self.bits < 2 ^ 32 = omega arith in
+    c.in_err-low.ensures.none (k % 2) (low_shared c.args.mask c.args.self small c.args.known c.new-planes.result c.new-planes.ensures k h))
+
+-- src/kinds.rt
+pub returns-in_err-middle-clause-none : goal.returns-in_err-middle-clause-none
+returns-in_err-middle-clause-none c = rw c.from_residual-in_err-middle.ensures (λ k h.
+    let small : c.args.self.bits < 2 ^ 32 = omega arith in
+    c.in_err-middle.ensures.none (k / 2 % 2) (middle_shared c.args.mask c.args.self small c.args.known c.new-planes.result c.new-planes.ensures k h))
+
+-- src/kinds.rt
+pub returns-in_err-high-clause-none : goal.returns-in_err-high-clause-none
+returns-in_err-high-clause-none c = rw c.from_residual-in_err-high.ensures (λ k h.
+    let small : c.args.self.bits < 2 ^ 32 = omega arith in
+    c.in_err-high.ensures.none (k / 4) (high_shared c.args.mask c.args.self small c.args.known c.new-planes.result c.new-planes.ensures k h))
+
+-- src/kinds.rt
+pub returns-clause-some : goal.returns-clause-some
+returns-clause-some c = record {
+  each = λ s h.
+      let e = c.in_ok-low.ensures.some.each (index c.args.mask s) h.set in
+      let f = c.in_ok-middle.ensures.some.each (index c.args.mask s) h.set in
+      let g = c.in_ok-high.ensures.some.each (index c.args.mask s) h.set in
+      c.new-planes.ensures s ∙ rw (e, f, g, same_byte c.in_ok-low.low, same_byte c.in_ok-middle.middle, same_byte c.in_ok-high.high) refl;
+}

@@ -1,4 +1,0 @@
-use Rattle.cover_tree.proofs.kinds.Kinds.+are_all.Given as goal
-
-abbrev pub decreases-are_all : goal.decreases-are_all
-decreases-are_all l = l.self.bits
