@@ -18,6 +18,7 @@ use Rattle.cover_tree.specs.Layered.{tree, cover}
 use Rattle.cover_tree.specs.Kinds.{HasKind}
 use Rattle.cover_tree.specs.Looking.{is_seen, seen}
 use Rattle.cover_tree.specs.Notes.{stale, note_at, IsNoted, AreNoted}
+use Rattle.cover_tree.proofs.Noting.{stale_note}
 use Rattle.cover_tree.proofs.Tops.{zero_top, at_leaf, at_left, at_right}
 
 bare_at : (n k : ℕ) → top_at (replicate n 0) k ≡ 0
@@ -57,9 +58,6 @@ bare_note mask t count f n k q = record {
   steady = λ row c i j h. bare_layers t count f row q c ∙ sym (bare_layers t count f t.since q c);
   kinds = λ c i h. rw (bare_layers t count f t.since q c) k;
 }
-
-stale_note : (mask : Mask) (t : Trees) (q : Part) → IsNoted mask t q stale
-stale_note mask t q = record { steady = λ row c i j h. absurd (omega arith); kinds = λ c i h. absurd (omega arith) }
 
 note_in : (t : Trees) (m : ℕ) (n : Note) (at : ℕ) → t.notes.items ≡ replicate m n → at < m → note_at t.notes.items at ≡ n
 note_in t m n at e h = ap (λ s. note_at s at) e ∙ get_or-replicate m at n stale h

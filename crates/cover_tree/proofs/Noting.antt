@@ -90,7 +90,7 @@ pub noted_whole : (mask : Mask) (t : Trees) (p : Part) → IsNoted mask t p (not
 noted_whole mask t p a h = record { each = λ q w. whole mask t p q a h w }
 
 -- a part is noted anew over its halves
-module _ (mask : Mask) (t u : Trees) (p : Part) (n : Note) (v : 0 < p.width) (i : p.at < length t.notes.items) (tops : (l : Layer) → tree u l ≡ tree t l)
+module _ (t u : Trees) (p : Part) (n : Note) (v : 0 < p.width) (i : p.at < length t.notes.items) (tops : (l : Layer) → tree u l ≡ tree t l)
     (notes : u.notes.items ≡ set t.notes.items p.at n) (since : u.since ≡ t.since) where
   other_note : (k : ℕ) → k ≢ p.at → note_at u.notes.items k ≡ note_at t.notes.items k
   other_note k f = ap (λ s. note_at s k) notes ∙ get_or-set_other t.notes.items p.at k n stale f
@@ -104,8 +104,8 @@ module _ (mask : Mask) (t u : Trees) (p : Part) (n : Note) (v : 0 < p.width) (i 
   same_behind : (q : Part) → p.at < q.at → SameIn q t u
   same_behind q h = record { tops = same_tops q; notes = λ k a b. other_note k (omega arith); since = since }
 
-  pub noted_anew : IsNoted mask t p n → AreHalvesNoted mask t p → AreNoted mask u p
-  noted_anew h a = noted_whole mask u p (rw own_note (noted_same mask p t u n v (same_tops p) since h)) (record {
+  pub noted_anew : (mask : Mask) → IsNoted mask t p n → AreHalvesNoted mask t p → AreNoted mask u p
+  noted_anew mask h a = noted_whole mask u p (rw own_note (noted_same mask p t u n v (same_tops p) since h)) (record {
     left = λ w. are_noted_same mask (left_half p) t u (omega arith) (same_behind (left_half p) (omega arith)) (a.left w);
     right = λ w. are_noted_same mask (right_half p) t u (omega arith) (same_behind (right_half p) (omega arith)) (a.right w);
   })
@@ -121,6 +121,10 @@ module _ (mask : Mask) (t u : Trees) (p : Part) (n : Note) (v : 0 < p.width) (i 
     as_many_notes = ap length notes ∙ length-set t.notes.items p.at n;
     since = since;
   }
+
+-- a note of no row is true
+pub stale_note : (mask : Mask) (t : Trees) (q : Part) → IsNoted mask t q stale
+stale_note mask t q = record { steady = λ row c i j h. absurd (omega arith); kinds = λ c i h. absurd (omega arith) }
 
 -- what a note says of the rows before its end
 module _ (mask : Mask) (t : Trees) (p : Part) (n : Note) (h : IsNoted mask t p n) (row : ℕ) (i : t.since ≤ row) where

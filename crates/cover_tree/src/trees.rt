@@ -2,6 +2,7 @@
 
 ghost use Rattle.std.specs.Prelude.{ℕ, ◌≡◌, ◌≢◌, ◌*◌, ◌+◌, ◌<◌, ◌≤◌, ◌^◌, IfOk, max, nat_lt, length, replicate, set, if◌then◌else◌};
 ghost use Rattle.lam_geom.specs.declared.layer.Layer.{Layer};
+ghost use Rattle.mask_runs.specs.declared.mask.Mask.{Mask};
 ghost use Rattle.mask_runs.specs.Colours.{bare, uses};
 ghost use Rattle.cover_tree.specs.Parts.{IsSmall, top_at};
 ghost use Rattle.cover_tree.specs.Layered.{tree};
@@ -100,8 +101,8 @@ impl Trees {
         }
     }
 
-    /// Notes anew what lies over a part, by its own nodes and the notes of its halves.
-    pub fn sum_up(&mut self, mask: Mask, part: Part)
+    // Notes anew what lies over a part, by its own nodes and the notes of its halves.
+    fn sum_up(&mut self, mask: Mask, part: Part)
         requires small { IsSmall part }
         requires room { part.at + 2 * part.width ≤ length self.old.notes.items + 1 }
         requires halves { AreHalvesNoted mask self.old part }
@@ -111,6 +112,17 @@ impl Trees {
     {
         let note = self.summed(mask, part);
         self.set_note(part.at, note);
+    }
+
+    /// Forgets the note of a part, so that it's noted anew when the trees advance.
+    pub fn forget(&mut self, part: Part)
+        requires small { IsSmall part }
+        requires room { part.at + 2 * part.width ≤ length self.old.notes.items + 1 }
+        ensures noted { (mask : Mask) → AreHalvesNoted mask self.old part → AreNoted mask self.new part }
+        ensures only { IsOnlyIn part self.old self.new }
+        ensures tops { (l : Layer) → tree self.new l ≡ tree self.old l }
+    {
+        self.set_note(part.at, Note::stale());
     }
 
     fn set_note(&mut self, at: usize, note: Note)
@@ -158,7 +170,8 @@ impl Trees {
             .min(next(&self.ng, at, now))
     }
 
-    /// Lets the notes speak of the rows from this one on, and notes anew what has changed, if they don't begin there yet.
+    /// Lets the notes speak of the rows from this one on, if they don't begin later, and notes anew what has changed or was
+    /// forgotten.
     pub fn advance(&mut self, mask: Mask, part: Part, row: u32)
         requires small { IsSmall part }
         requires room { part.at + 2 * part.width ≤ length self.old.notes.items + 1 }
@@ -168,14 +181,11 @@ impl Trees {
         ensures as_many { length self.new.notes.items ≡ length self.old.notes.items }
         ensures since { self.new.since ≡ max self.old.since row }
     {
-        if row <= self.since {
-            return;
-        }
-        self.since = row;
+        self.since = self.since.max(row);
         self.refresh(mask, part);
     }
 
-    // Notes anew what lies over a part where its note has come to its end.
+    // Notes anew what lies over a part where its note has come to its end, as a stale one always has.
     fn refresh(&mut self, mask: Mask, part: Part)
         requires small { IsSmall part }
         requires room { part.at + 2 * part.width ≤ length self.old.notes.items + 1 }
