@@ -2,7 +2,6 @@
 use Rattle.std.proofs.Common.{◌≡◌, ◌≢◌, ℕ, zero, suc, ◌+◌, ◌-◌, ◌/◌, ◌<◌, ◌≤◌, ◌⊎◌, inl, inr, List, set, length, refl, sym, ◌∙◌, ap, max, arith}
 use Rattle.std.proofs.lemmas.Bool.{cases_lt, cases_eq}
 use Rattle.std.proofs.lemmas.List.{get_or-set_same, get_or-set_other}
-use Rattle.std.proofs.Math.ListN.{length-set}
 use Rattle.lam_geom.specs.declared.layer.Layer.{Layer}
 use Rattle.lam_geom.specs.declared.layer.Layer.TheVariants.{ND, NP, NC, NM, NI, NB, NG}
 use Rattle.mask_runs.specs.declared.mask.Mask.{Mask}
@@ -96,32 +95,27 @@ beside_own p k at v e b f = elim b [ inl h ↦ absurd (omega arith) | inr h ↦ 
 
 -- trees of which one has another top at one place
 module _ (t u : Trees) (layer : Layer) (at top : ℕ) (own : tree u layer ≡ set (tree t layer) at top)
-    (others : (l : Layer) → l ≢ layer → tree u l ≡ tree t l) (notes : u.notes.items ≡ t.notes.items) (since : u.since ≡ t.since) where
+    (others : (l : Layer) → l ≢ layer → tree u l ≡ tree t l) (notes : (k : ℕ) → note_at u k ≡ note_at t k)
+    (many : length u.nodes.items ≡ length t.nodes.items) (further : u.further ≡ t.further) (since : u.since ≡ t.since) where
   lifted_other : (l : Layer) (k : ℕ) → k ≢ at → top_at (tree u l) k ≡ top_at (tree t l) k
   lifted_other l k n = elim (cases_layer l layer) [
     | inl e ↦ ap (λ m. top_at (tree u m) k) e ∙ ap (λ s. top_at s k) own ∙ top_other (tree t layer) at k top n ∙ ap (λ m. top_at (tree t m) k) (sym e)
     | inr e ↦ ap (λ s. top_at s k) (others l e)
   ]
 
-  lifted_many : (l : Layer) → length (tree u l) ≡ length (tree t l)
-  lifted_many l = elim (cases_layer l layer) [
-    | inl e ↦ ap (λ m. length (tree u m)) e ∙ ap length own ∙ length-set (tree t layer) at top ∙ ap (λ m. length (tree t m)) (sym e)
-    | inr e ↦ ap length (others l e)
-  ]
-
   pub lifted_in : (p : Part) → at < p.at → SameIn p t u
   lifted_in p h = record {
     tops = λ l. record { same = λ k i j. lifted_other l k (omega arith) };
-    notes = λ k i j. ap (λ s. note_at s k) notes;
+    notes = λ k i j. notes k;
     since = since;
   }
 
   pub lifted_only : (p : Part) → p.at ≡ at → 0 < p.width → IsOnlyIn p t u
   lifted_only p h v = record {
     tops = λ l k b. lifted_other l k (beside_own p k at v h b);
-    notes = λ k b. ap (λ s. note_at s k) notes;
-    as_many = lifted_many;
-    as_many_notes = ap length notes;
+    notes = λ k b. notes k;
+    as_many = many;
+    further = further;
     since = since;
   }
 
@@ -205,8 +199,8 @@ module _ (old one two : Trees) (p : Part) (h : 2 ≤ p.width)
   both_only new n = record {
     tops = λ l k b. n.tops l k b ∙ ro.tops l k (beside_right p k h b) ∙ lo.tops l k (beside_left p k h b);
     notes = λ k b. n.notes k b ∙ ro.notes k (beside_right p k h b) ∙ lo.notes k (beside_left p k h b);
-    as_many = λ l. n.as_many l ∙ ro.as_many l ∙ lo.as_many l;
-    as_many_notes = n.as_many_notes ∙ ro.as_many_notes ∙ lo.as_many_notes;
+    as_many = n.as_many ∙ ro.as_many ∙ lo.as_many;
+    further = n.further ∙ ro.further ∙ lo.further;
     since = n.since ∙ ro.since ∙ lo.since;
   }
 
@@ -215,7 +209,7 @@ pub only_in_turn : (p : Part) (old one new : Trees) → IsOnlyIn p old one → I
 only_in_turn p old one new a b = record {
   tops = λ l k i. b.tops l k i ∙ a.tops l k i;
   notes = λ k i. b.notes k i ∙ a.notes k i;
-  as_many = λ l. b.as_many l ∙ a.as_many l;
-  as_many_notes = b.as_many_notes ∙ a.as_many_notes;
+  as_many = b.as_many ∙ a.as_many;
+  further = b.further ∙ a.further;
   since = b.since ∙ a.since;
 }

@@ -160,8 +160,8 @@ fn is_kept(mask: Mask, old: Layers, new: Layers, layers: Layers) -> bool
     mask.colour(both(old, layers)) == mask.colour(both(new, layers))
 }
 
-// The layer that the mask may use besides ND, NP, NB and NM.
-fn further(mask: Mask) -> Layer
+/// The layer that the mask may use besides ND, NP, NB and NM.
+pub(crate) fn further(mask: Mask) -> Layer
     ensures { result ≡ further mask }
 {
     match mask {

@@ -15,8 +15,8 @@ use mask_runs::{Layers, Mask, Run};
 use mp_base::NoMemory;
 use std::alloc::Global;
 
-/// Up to which row the layers of a mask cover each of a row of cells: a tree of halves for each layer that the mask uses,
-/// of 8 bytes a cell, and notes of 16. What covers a part of the cells as a whole is kept at the part.
+/// Up to which row the layers of a mask cover each of a row of cells: a tree of halves, whose nodes take 56 bytes a cell. What
+/// covers a part of the cells as a whole is kept at the part.
 #[derive(Drop)]
 pub struct CoverTree {
     mask: Mask,

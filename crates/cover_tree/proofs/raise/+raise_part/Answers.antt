@@ -2,6 +2,7 @@ use Rattle.std.proofs.Common.{◌≤◌, refl, arith}
 use Rattle.cover_tree.specs.Parts.{left_half, right_half}
 use Rattle.cover_tree.specs.Layered.{tree}
 use Rattle.cover_tree.specs.Notes.{AreNoted, IsOnlyIn}
+use Rattle.cover_tree.proofs.Nodes.{tree_length}
 use Rattle.cover_tree.proofs.Tops.{small_left, small_right}
 use Rattle.cover_tree.proofs.Noting.{noted_left}
 use Rattle.cover_tree.proofs.Raising.{raised_all, lifted_halves, lifted_only, only_in_turn, right_noted, both_noted, both_raised, both_only}
@@ -11,12 +12,13 @@ use Rattle.cover_tree.proofs.raise.+raise_part.Goals as goal
 pub returns-then-to-from-clause-noted : goal.returns-then-to-from-clause-noted
 returns-then-to-from-clause-noted t c = λ mask h.
     c.forget.ensures.noted mask (lifted_halves c.args.trees.now c.lift.new.self c.args.layer c.args.part.at _
-    c.lift.ensures.own c.lift.ensures.others c.lift.ensures.notes c.lift.ensures.since mask c.args.part refl c.requires.small.some h)
+    c.lift.ensures.own c.lift.ensures.others c.lift.ensures.notes c.lift.ensures.as_many c.lift.ensures.further c.lift.ensures.since mask c.args.part refl c.requires.small.some h)
 
 -- src/raise.rt
 pub returns-then-to-from-clause-raised : goal.returns-then-to-from-clause-raised
 returns-then-to-from-clause-raised t c =
-    let room = c.requires.room.tops in
+    let room = c.requires.room.room in
+    let many = tree_length c.args.trees.now c.args.layer in
     rw (c.forget.ensures.tops c.args.layer, c.lift.ensures.own)
     (raised_all (tree c.args.trees.now c.args.layer) c.args.part c.args.span c.args.row c.requires.small.some (omega arith) (omega arith))
 
@@ -24,32 +26,29 @@ returns-then-to-from-clause-raised t c =
 pub returns-then-to-from-clause-only : goal.returns-then-to-from-clause-only
 returns-then-to-from-clause-only t c =
     only_in_turn c.args.part c.args.trees.now c.lift.new.self c.forget.new.self
-    (lifted_only c.args.trees.now c.lift.new.self c.args.layer c.args.part.at _ c.lift.ensures.own c.lift.ensures.others c.lift.ensures.notes c.lift.ensures.since
+    (lifted_only c.args.trees.now c.lift.new.self c.args.layer c.args.part.at _ c.lift.ensures.own c.lift.ensures.others c.lift.ensures.notes c.lift.ensures.as_many c.lift.ensures.further c.lift.ensures.since
     c.args.part refl c.requires.small.some) c.forget.ensures.only
 
 -- src/raise.rt
 pub raise_part-requires : goal.raise_part-requires
 raise_part-requires t c =
     let h : 2 ≤ c.args.part.width = omega arith in
-    let a = c.requires.room.tops in
-    let b = c.requires.room.notes in
+    let a = c.requires.room.room in
     rw c.left.ensures (
       omega arith,
-      (small_left c.args.part h c.requires.small, record { tops = omega arith; notes = omega arith }),
+      (small_left c.args.part h c.requires.small, record { kept = c.requires.room.kept; room = omega arith }),
     )
 
 -- src/raise.rt
 pub raise_part-requires-2 : goal.raise_part-requires-2
 raise_part-requires-2 t c =
     let h : 2 ≤ c.args.part.width = omega arith in
-    let a = c.requires.room.tops in
-    let b = c.requires.room.notes in
+    let a = c.requires.room.room in
     let l : IsOnlyIn (left_half c.args.part) c.args.trees.now c.raise_part.new.trees = rw (← c.left.ensures) c.raise_part.ensures.only in
-    let m = l.as_many c.args.layer in
-    let n = l.as_many_notes in
+    let n = l.as_many in
     rw c.right.ensures (
       omega arith,
-      (small_right c.args.part h c.requires.small, record { tops = omega arith; notes = omega arith }),
+      (small_right c.args.part h c.requires.small, record { kept = rw l.further c.requires.room.kept; room = omega arith }),
     )
 
 -- src/raise.rt
