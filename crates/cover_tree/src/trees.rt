@@ -81,6 +81,7 @@ impl Trees {
         ensures own { tree self.new layer ≡ set (tree self.old layer) at (max (top_at (tree self.old layer) at) row) }
         ensures others { (l : Layer) → l ≢ layer → tree self.new l ≡ tree self.old l }
         ensures notes { (k : ℕ) → note_at self.new k ≡ note_at self.old k }
+        ensures beside { (k : ℕ) → k ≢ at → node_at self.new k ≡ node_at self.old k }
         ensures as_many { length self.new.nodes.items ≡ length self.old.nodes.items }
         ensures further { self.new.further ≡ self.old.further }
         ensures since { self.new.since ≡ self.old.since }

@@ -29,6 +29,7 @@ returns c =
             ∙ ap (λ i. (node_at t i).note) (sym e)
         | inr d ↦ ap (λ m. m.note) (node_other t u at n s.nodes s.further k d)
       ];
+      beside = node_other t u at n s.nodes s.further;
       as_many = as_many t u at n s.nodes s.further;
       further = s.further;
       since = s.since;
