@@ -3,6 +3,7 @@ use Rattle.std.proofs.Common.{◌≡◌, ◌≢◌, ℕ, ◌+◌, ◌-◌, ◌/�
 use Rattle.std.specs.Prelude.{◌&&◌, ◌==◌, not, nat_lt, nat_le}
 use Rattle.std.proofs.Math.Bool.{or_comm}
 use Rattle.std.proofs.lemmas.Bool.{lt-ltb, ltb-true, le-leb, leb-true, and_parts, eq-eqb, ne_eqb, not-true, not_from_true, not_from_false, false≢true}
+use Rattle.lam_geom.specs.declared.layer.Layer.TheVariants.{ND, NP, NC, NM, NI, NB, NG}
 use Rattle.mask_runs.specs.declared.mask.Layers.{Layers}
 use Rattle.mask_runs.specs.declared.mask.Mask.{Mask}
 use Rattle.mask_runs.specs.Colours.{bare, colour_of}
@@ -17,7 +18,7 @@ use Rattle.cover_tree.specs.declared.stretch.Stretch.{Stretch}
 use Rattle.cover_tree.specs.declared.trees.Trees.{Trees}
 use Rattle.cover_tree.specs.Covers.{layers_at}
 use Rattle.cover_tree.specs.Parts.{InPart, root, left_half, right_half, top_of}
-use Rattle.cover_tree.specs.Layered.{cover}
+use Rattle.cover_tree.specs.Layered.{cover, tree}
 use Rattle.cover_tree.specs.Looking.{seen, own_at}
 use Rattle.cover_tree.specs.Kinds.{both, HasKind, IsEffect}
 use Rattle.cover_tree.specs.Telling.{TurnsUnder, IsTold}
@@ -82,13 +83,13 @@ module _ (t : Trees) (line : Line) (p : Part) (known : Known) (s : (c : ℕ) →
 module _ (mask : Mask) (cells : ℕ) (t : Trees) (row : ℕ) (gained : Layers) (span : Span) where
   under_layers : (c : ℕ) → c < cells → both (layers_at (cover mask cells t) (row + 1) c) gained ≡ seen t (row + 1) (root cells) gained c
   under_layers c h = rw (lt-ltb c cells h) (λ i. record {
-    nd = or_comm (nat_lt (row + 1) (top_of t.nd.items (root cells) c)) gained.nd i;
-    np = or_comm (nat_lt (row + 1) (top_of t.np.items (root cells) c)) gained.np i;
-    nc = or_comm (nat_lt (row + 1) (top_of t.nc.items (root cells) c)) gained.nc i;
-    nm = or_comm (nat_lt (row + 1) (top_of t.nm.items (root cells) c)) gained.nm i;
-    ni = or_comm (nat_lt (row + 1) (top_of t.ni.items (root cells) c)) gained.ni i;
-    nb = or_comm (nat_lt (row + 1) (top_of t.nb.items (root cells) c)) gained.nb i;
-    ng = or_comm (nat_lt (row + 1) (top_of t.ng.items (root cells) c)) gained.ng i;
+    nd = or_comm (nat_lt (row + 1) (top_of (tree t ND) (root cells) c)) gained.nd i;
+    np = or_comm (nat_lt (row + 1) (top_of (tree t NP) (root cells) c)) gained.np i;
+    nc = or_comm (nat_lt (row + 1) (top_of (tree t NC) (root cells) c)) gained.nc i;
+    nm = or_comm (nat_lt (row + 1) (top_of (tree t NM) (root cells) c)) gained.nm i;
+    ni = or_comm (nat_lt (row + 1) (top_of (tree t NI) (root cells) c)) gained.ni i;
+    nb = or_comm (nat_lt (row + 1) (top_of (tree t NB) (root cells) c)) gained.nb i;
+    ng = or_comm (nat_lt (row + 1) (top_of (tree t NG) (root cells) c)) gained.ng i;
   })
 
   abbrev is_different : ℕ → Type 0

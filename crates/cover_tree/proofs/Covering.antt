@@ -1,5 +1,5 @@
 -- What new and raised trees cover.
-use Rattle.std.proofs.Common.{◌≡◌, ◌≢◌, ℕ, zero, suc, ◌+◌, ◌/◌, ◌<◌, ◌≤◌, inl, inr, replicate, false, refl, sym, ◌∙◌, ap, arith}
+use Rattle.std.proofs.Common.{◌≡◌, ◌≢◌, ℕ, zero, suc, ◌+◌, ◌/◌, ◌<◌, ◌≤◌, inl, inr, List, get_or, length, replicate, false, refl, sym, ◌∙◌, ap, subst, arith}
 use Rattle.std.specs.Prelude.{nat_lt, if◌then◌else◌}
 use Rattle.std.proofs.lemmas.Bool.{cases_lt, lt-ltb, le-ltb}
 use Rattle.std.proofs.lemmas.List.{get_or-replicate, get_or_past}
@@ -8,73 +8,80 @@ use Rattle.lam_geom.specs.declared.layer.Layer.{Layer}
 use Rattle.lam_geom.specs.declared.layer.Layer.TheVariants.{ND, NP, NC, NM, NI, NB, NG}
 use Rattle.mask_runs.specs.declared.mask.Mask.{Mask}
 use Rattle.mask_runs.specs.Colours.{bare}
+use Rattle.cover_tree.specs.declared.node.Node.{Node}
 use Rattle.cover_tree.specs.declared.note.Note.{Note}
 use Rattle.cover_tree.specs.declared.part.Part.{Part}
 use Rattle.cover_tree.specs.declared.part.Span.{Span}
 use Rattle.cover_tree.specs.declared.trees.Trees.{Trees}
 use Rattle.cover_tree.specs.Covers.{IsBare, IsRaised}
 use Rattle.cover_tree.specs.Parts.{top_at, root, left_half, right_half, top_to, top_of, IsPartRaised}
-use Rattle.cover_tree.specs.Layered.{tree, cover}
+use Rattle.cover_tree.specs.Nodes.{layer_top, no_tops, blank}
+use Rattle.cover_tree.specs.Layered.{node_at, tree, cover}
 use Rattle.cover_tree.specs.Kinds.{HasKind}
 use Rattle.cover_tree.specs.Looking.{is_seen, seen}
-use Rattle.cover_tree.specs.Notes.{stale, note_at, IsNoted, AreNoted}
+use Rattle.cover_tree.specs.Notes.{IsNoted, AreNoted}
+use Rattle.cover_tree.proofs.Nodes.{no_top, node_top}
+use Rattle.cover_tree.proofs.Noting.{stale_note}
 use Rattle.cover_tree.proofs.Tops.{zero_top, at_leaf, at_left, at_right}
 
-bare_at : (n k : ℕ) → top_at (replicate n 0) k ≡ 0
-bare_at n k = elim (cases_lt k n) [
-  | inl h ↦ get_or-replicate n k 0 0 h
-  | inr h ↦ get_or_past (replicate n 0) k 0 (omega (arith, length-replicate {A = ℕ} n 0))
-]
+-- trees of which no part is covered as a whole
+abbrev pub AreBare : Trees → Type 0
+AreBare t = (l : Layer) (k : ℕ) → top_at (tree t l) k ≡ 0
 
-bare_top : (depth n : ℕ) (p : Part) (c : ℕ) → top_to depth (replicate n 0) p c ≡ 0
-bare_top zero n p c = zero_top (replicate n 0) p c ∙ bare_at n p.at
-bare_top (suc depth) n p c = let e = bare_at n p.at in elim (cases_lt p.width 2) [
-  | inl l ↦ at_leaf (suc depth) (replicate n 0) p c l ∙ e
+bare_top : (depth : ℕ) (s : List ℕ) (p : Part) (c : ℕ) → ((k : ℕ) → top_at s k ≡ 0) → top_to depth s p c ≡ 0
+bare_top zero s p c h = zero_top s p c ∙ h p.at
+bare_top (suc depth) s p c h = let e = h p.at in elim (cases_lt p.width 2) [
+  | inl l ↦ at_leaf (suc depth) s p c l ∙ e
   | inr l ↦ elim (cases_lt c (p.base + p.width / 2)) [
-    | inl m ↦ let a = at_left depth (replicate n 0) p c l m in let b = bare_top depth n (left_half p) c in omega arith
-    | inr m ↦ let a = at_right depth (replicate n 0) p c l m in let b = bare_top depth n (right_half p) c in omega arith
+    | inl m ↦ let a = at_left depth s p c l m in let b = bare_top depth s (left_half p) c h in omega arith
+    | inr m ↦ let a = at_right depth s p c l m in let b = bare_top depth s (right_half p) c h in omega arith
   ]
 ]
 
-bare_seen : (n row : ℕ) (p : Part) (c : ℕ) → is_seen (replicate n 0) row p false c ≡ false
-bare_seen n row p c = le-ltb row (top_of (replicate n 0) p c) (omega (arith, bare_top p.width n p c))
+bare_seen : (s : List ℕ) (row : ℕ) (p : Part) (c : ℕ) → ((k : ℕ) → top_at s k ≡ 0) → is_seen s row p false c ≡ false
+bare_seen s row p c h = le-ltb row (top_of s p c) (omega (arith, bare_top p.width s p c h))
 
-pub bare_layers : (t : Trees) (count : Layer → ℕ) → ((l : Layer) → tree t l ≡ replicate (count l) 0)
-    → (row : ℕ) (p : Part) (c : ℕ) → seen t row p bare c ≡ bare
-bare_layers t count f row p c = λ j. record {
-  nd = (ap (λ s. is_seen s row p false c) (f ND) ∙ bare_seen (count ND) row p c) j;
-  np = (ap (λ s. is_seen s row p false c) (f NP) ∙ bare_seen (count NP) row p c) j;
-  nc = (ap (λ s. is_seen s row p false c) (f NC) ∙ bare_seen (count NC) row p c) j;
-  nm = (ap (λ s. is_seen s row p false c) (f NM) ∙ bare_seen (count NM) row p c) j;
-  ni = (ap (λ s. is_seen s row p false c) (f NI) ∙ bare_seen (count NI) row p c) j;
-  nb = (ap (λ s. is_seen s row p false c) (f NB) ∙ bare_seen (count NB) row p c) j;
-  ng = (ap (λ s. is_seen s row p false c) (f NG) ∙ bare_seen (count NG) row p c) j;
+bare_layers : (t : Trees) → AreBare t → (row : ℕ) (p : Part) (c : ℕ) → seen t row p bare c ≡ bare
+bare_layers t f row p c = λ j. record {
+  nd = bare_seen (tree t ND) row p c (f ND) j;
+  np = bare_seen (tree t NP) row p c (f NP) j;
+  nc = bare_seen (tree t NC) row p c (f NC) j;
+  nm = bare_seen (tree t NM) row p c (f NM) j;
+  ni = bare_seen (tree t NI) row p c (f NI) j;
+  nb = bare_seen (tree t NB) row p c (f NB) j;
+  ng = bare_seen (tree t NG) row p c (f NG) j;
 }
 
-bare_note : (mask : Mask) (t : Trees) (count : Layer → ℕ) → ((l : Layer) → tree t l ≡ replicate (count l) 0)
-    → (n : Note) → HasKind mask n.kinds bare → (q : Part) → IsNoted mask t q n
-bare_note mask t count f n k q = record {
-  steady = λ row c i j h. bare_layers t count f row q c ∙ sym (bare_layers t count f t.since q c);
-  kinds = λ c i h. rw (bare_layers t count f t.since q c) k;
+bare_note : (mask : Mask) (t : Trees) → AreBare t → (n : Note) → HasKind mask n.kinds bare → (q : Part) → IsNoted mask t q n
+bare_note mask t f n k q = record {
+  steady = λ row c i j h. bare_layers t f row q c ∙ sym (bare_layers t f t.since q c);
+  kinds = λ c i h. rw (bare_layers t f t.since q c) k;
 }
 
-stale_note : (mask : Mask) (t : Trees) (q : Part) → IsNoted mask t q stale
-stale_note mask t q = record { steady = λ row c i j h. absurd (omega arith); kinds = λ c i h. absurd (omega arith) }
+-- new trees
+module _ (t : Trees) (count : ℕ) (n : Note) (e : t.nodes.items ≡ replicate count (record { tops = no_tops; note = n })) where
+  pub new_room : length t.nodes.items ≡ count
+  new_room = ap length e ∙ length-replicate count _
 
-note_in : (t : Trees) (m : ℕ) (n : Note) (at : ℕ) → t.notes.items ≡ replicate m n → at < m → note_at t.notes.items at ≡ n
-note_in t m n at e h = ap (λ s. note_at s at) e ∙ get_or-replicate m at n stale h
+  node_in : (k : ℕ) → k < count → node_at t k ≡ record { tops = no_tops; note = n }
+  node_in k h = ap (λ s. get_or s k blank) e ∙ get_or-replicate count k _ blank h
 
-note_out : (t : Trees) (m : ℕ) (n : Note) (at : ℕ) → t.notes.items ≡ replicate m n → m ≤ at → note_at t.notes.items at ≡ stale
-note_out t m n at e h = ap (λ s. note_at s at) e ∙ get_or_past (replicate m n) at stale (omega (arith, length-replicate m n))
+  node_out : (k : ℕ) → count ≤ k → node_at t k ≡ blank
+  node_out k h = ap (λ s. get_or s k blank) e ∙ get_or_past (replicate count _) k blank (omega (arith, length-replicate {A = Node} count (record { tops = no_tops; note = n })))
 
-pub bare_noted : (mask : Mask) (t : Trees) (count : Layer → ℕ) → ((l : Layer) → tree t l ≡ replicate (count l) 0)
-    → (m : ℕ) (n : Note) → t.notes.items ≡ replicate m n → HasKind mask n.kinds bare → (p : Part) → AreNoted mask t p
-bare_noted mask t count f m n e k p = record {
-  each = λ q w. elim (cases_lt q.at m) [
-    | inl h ↦ rw (note_in t m n q.at e h) (bare_note mask t count f n k q)
-    | inr h ↦ rw (note_out t m n q.at e h) (stale_note mask t q)
-  ];
-}
+  new_tops : (k : ℕ) → (node_at t k).tops ≡ no_tops
+  new_tops k = elim (cases_lt k count) [ inl h ↦ ap (λ m. m.tops) (node_in k h) | inr h ↦ ap (λ m. m.tops) (node_out k h) ]
+
+  pub new_bare : AreBare t
+  new_bare l k = node_top t l k ∙ ap (layer_top l t.further) (new_tops k) ∙ no_top l t.further
+
+  pub new_noted : (mask : Mask) → HasKind mask n.kinds bare → (p : Part) → AreNoted mask t p
+  new_noted mask k p = record {
+    each = λ q w. elim (cases_lt q.at count) [
+      | inl h ↦ subst (λ m. IsNoted mask t q m.note) (sym (node_in q.at h)) (bare_note mask t new_bare n k q)
+      | inr h ↦ subst (λ m. IsNoted mask t q m.note) (sym (node_out q.at h)) (stale_note mask t q)
+    ];
+  }
 
 pub top_in : (own : Mask) (cells : ℕ) (trees : Trees) (l : Layer) (c : ℕ) → c < cells → (cover own cells trees).top l c ≡ top_of (tree trees l) (root cells) c
 top_in own cells trees l c h = rw (lt-ltb c cells h) refl
@@ -82,13 +89,12 @@ top_in own cells trees l c h = rw (lt-ltb c cells h) refl
 pub top_out : (own : Mask) (cells : ℕ) (trees : Trees) (l : Layer) (c : ℕ) → cells ≤ c → (cover own cells trees).top l c ≡ 0
 top_out own cells trees l c h = rw (le-ltb c cells h) refl
 
-pub bare_cover : (own : Mask) (cells : ℕ) (trees : Trees) (count : Layer → ℕ) → ((l : Layer) → tree trees l ≡ replicate (count l) 0)
-    → IsBare own cells (cover own cells trees)
-bare_cover own cells trees count f = record {
+pub bare_cover : (own : Mask) (cells : ℕ) (trees : Trees) → AreBare trees → IsBare own cells (cover own cells trees)
+bare_cover own cells trees f = record {
   of_mask = refl;
   wide = refl;
   none = λ l c. elim (cases_lt c cells) [
-    | inl h ↦ top_in own cells trees l c h ∙ ap (λ s. top_of s (root cells) c) (f l) ∙ bare_top cells (count l) (root cells) c
+    | inl h ↦ top_in own cells trees l c h ∙ bare_top cells (tree trees l) (root cells) c (f l)
     | inr h ↦ top_out own cells trees l c h
   ];
 }

@@ -1,3 +1,4 @@
+pub mod Nodes
 pub mod Tops
 pub mod Raising
 pub mod Covering

@@ -2,6 +2,7 @@
 use Rattle.std.proofs.Common.{◌≡◌, ℕ, ◌+◌, ◌/◌, ◌<◌, ◌≤◌, inl, inr, List, Bool, true, false, refl, sym, ap, max, arith}
 use Rattle.std.specs.Prelude.{nat_lt, ◌||◌}
 use Rattle.std.proofs.lemmas.Bool.{cases_lt, lt-ltb, le-ltb}
+use Rattle.lam_geom.specs.declared.layer.Layer.TheVariants.{ND, NP, NC, NM, NI, NB, NG}
 use Rattle.mask_runs.specs.declared.mask.Layers.{Layers}
 use Rattle.mask_runs.specs.declared.mask.Mask.{Mask}
 use Rattle.mask_runs.specs.Colours.{colour_of}
@@ -9,6 +10,7 @@ use Rattle.cover_tree.specs.declared.part.Part.{Part}
 use Rattle.cover_tree.specs.declared.trees.Trees.{Trees}
 use Rattle.cover_tree.specs.Parts.{top_at, left_half, right_half, top_of, InPart}
 use Rattle.cover_tree.specs.Kinds.{both}
+use Rattle.cover_tree.specs.Layered.{tree}
 use Rattle.cover_tree.specs.Looking.{own_at, is_seen, seen, part_colour, IsHalved}
 use Rattle.cover_tree.proofs.Tops.{top_leaf, top_left, top_right}
 
@@ -36,35 +38,35 @@ module _ (s : List ℕ) (p : Part) (row : ℕ) (known : Bool) (c : ℕ) where
 module _ (t : Trees) (p : Part) (row : ℕ) (known : Layers) (c : ℕ) where
   pub seen_leaf : p.width < 2 → seen t row p known c ≡ both known (own_at t row p.at)
   seen_leaf h = λ j. record {
-    nd = one_leaf t.nd.items p row known.nd c h j;
-    np = one_leaf t.np.items p row known.np c h j;
-    nc = one_leaf t.nc.items p row known.nc c h j;
-    nm = one_leaf t.nm.items p row known.nm c h j;
-    ni = one_leaf t.ni.items p row known.ni c h j;
-    nb = one_leaf t.nb.items p row known.nb c h j;
-    ng = one_leaf t.ng.items p row known.ng c h j;
+    nd = one_leaf (tree t ND) p row known.nd c h j;
+    np = one_leaf (tree t NP) p row known.np c h j;
+    nc = one_leaf (tree t NC) p row known.nc c h j;
+    nm = one_leaf (tree t NM) p row known.nm c h j;
+    ni = one_leaf (tree t NI) p row known.ni c h j;
+    nb = one_leaf (tree t NB) p row known.nb c h j;
+    ng = one_leaf (tree t NG) p row known.ng c h j;
   }
 
   pub seen_left : 2 ≤ p.width → c < p.base + p.width / 2 → seen t row p known c ≡ seen t row (left_half p) (both known (own_at t row p.at)) c
   seen_left h k = λ j. record {
-    nd = one_left t.nd.items p row known.nd c h k j;
-    np = one_left t.np.items p row known.np c h k j;
-    nc = one_left t.nc.items p row known.nc c h k j;
-    nm = one_left t.nm.items p row known.nm c h k j;
-    ni = one_left t.ni.items p row known.ni c h k j;
-    nb = one_left t.nb.items p row known.nb c h k j;
-    ng = one_left t.ng.items p row known.ng c h k j;
+    nd = one_left (tree t ND) p row known.nd c h k j;
+    np = one_left (tree t NP) p row known.np c h k j;
+    nc = one_left (tree t NC) p row known.nc c h k j;
+    nm = one_left (tree t NM) p row known.nm c h k j;
+    ni = one_left (tree t NI) p row known.ni c h k j;
+    nb = one_left (tree t NB) p row known.nb c h k j;
+    ng = one_left (tree t NG) p row known.ng c h k j;
   }
 
   pub seen_right : 2 ≤ p.width → p.base + p.width / 2 ≤ c → seen t row p known c ≡ seen t row (right_half p) (both known (own_at t row p.at)) c
   seen_right h k = λ j. record {
-    nd = one_right t.nd.items p row known.nd c h k j;
-    np = one_right t.np.items p row known.np c h k j;
-    nc = one_right t.nc.items p row known.nc c h k j;
-    nm = one_right t.nm.items p row known.nm c h k j;
-    ni = one_right t.ni.items p row known.ni c h k j;
-    nb = one_right t.nb.items p row known.nb c h k j;
-    ng = one_right t.ng.items p row known.ng c h k j;
+    nd = one_right (tree t ND) p row known.nd c h k j;
+    np = one_right (tree t NP) p row known.np c h k j;
+    nc = one_right (tree t NC) p row known.nc c h k j;
+    nm = one_right (tree t NM) p row known.nm c h k j;
+    ni = one_right (tree t NI) p row known.ni c h k j;
+    nb = one_right (tree t NB) p row known.nb c h k j;
+    ng = one_right (tree t NG) p row known.ng c h k j;
   }
 
 module _ (mask : Mask) (t : Trees) (p : Part) (row : ℕ) (known : Layers) where

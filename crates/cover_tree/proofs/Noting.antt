@@ -1,9 +1,7 @@
 -- Notes, as the trees change.
-use Rattle.std.proofs.Common.{◌≡◌, ◌≢◌, ℕ, ◌+◌, ◌*◌, ◌/◌, ◌<◌, ◌≤◌, inl, inr, set, length, sym, ◌∙◌, ap, arith}
+use Rattle.std.proofs.Common.{◌≡◌, ◌≢◌, ℕ, ◌+◌, ◌*◌, ◌/◌, ◌<◌, ◌≤◌, inl, inr, set, length, refl, sym, ◌∙◌, ap, arith}
 use Rattle.std.specs.Prelude.{nat_lt, ◌||◌}
 use Rattle.std.proofs.lemmas.Bool.{cases_lt}
-use Rattle.std.proofs.lemmas.List.{get_or-set_same, get_or-set_other}
-use Rattle.std.proofs.Math.ListN.{length-set}
 use Rattle.lam_geom.specs.declared.layer.Layer.{Layer}
 use Rattle.lam_geom.specs.declared.layer.Layer.TheVariants.{ND, NP, NC, NM, NI, NB, NG}
 use Rattle.mask_runs.specs.declared.mask.Layers.{Layers}
@@ -15,16 +13,18 @@ use Rattle.cover_tree.specs.declared.trees.Trees.{Trees}
 use Rattle.cover_tree.specs.Parts.{left_half, right_half, top_at, InPart, Within}
 use Rattle.cover_tree.specs.Parts.Within.{here, left, right}
 use Rattle.cover_tree.specs.Kinds.{both, HasKind}
-use Rattle.cover_tree.specs.Layered.{tree}
+use Rattle.cover_tree.specs.Nodes.{stale}
+use Rattle.cover_tree.specs.Layered.{tree, node_at}
 use Rattle.cover_tree.specs.Looking.{seen, own_at}
-use Rattle.cover_tree.specs.Notes.{stale, note_at, IsNoted, AreNoted, AreHalvesNoted, Beside, IsOnlyIn}
+use Rattle.cover_tree.specs.Notes.{note_at, IsNoted, AreNoted, AreHalvesNoted, Beside, IsOnlyIn}
+use Rattle.cover_tree.proofs.Nodes.{tree_same, node_other, node_own, as_many}
 use Rattle.cover_tree.proofs.Tops.{SamePart, same_left, same_right, same_top}
 use Rattle.cover_tree.proofs.Looking.{seen_leaf, seen_left, seen_right}
 
 -- the trees are the same at the part's places
 pub record SameIn (p : Part) (t u : Trees) : Type 0 where
   pub tops : (l : Layer) → SamePart (tree t l) (tree u l) p
-  pub notes : (k : ℕ) → p.at ≤ k → k + 1 < p.at + 2 * p.width → note_at u.notes.items k ≡ note_at t.notes.items k
+  pub notes : (k : ℕ) → p.at ≤ k → k + 1 < p.at + 2 * p.width → note_at u k ≡ note_at t k
   pub since : u.since ≡ t.since
 
 in_left : (p : Part) (t u : Trees) → 2 ≤ p.width → SameIn p t u → SameIn (left_half p) t u
@@ -49,13 +49,13 @@ in_within q p t u v (right h w) e = in_within q (right_half p) t u (omega arith)
 seen_same : (p : Part) (t u : Trees) → 0 < p.width → ((l : Layer) → SamePart (tree t l) (tree u l) p)
     → (row : ℕ) (known : Layers) (c : ℕ) → seen u row p known c ≡ seen t row p known c
 seen_same p t u v e row known c = λ j. record {
-  nd = known.nd || nat_lt row (same_top t.nd.items u.nd.items p c v (e ND) j);
-  np = known.np || nat_lt row (same_top t.np.items u.np.items p c v (e NP) j);
-  nc = known.nc || nat_lt row (same_top t.nc.items u.nc.items p c v (e NC) j);
-  nm = known.nm || nat_lt row (same_top t.nm.items u.nm.items p c v (e NM) j);
-  ni = known.ni || nat_lt row (same_top t.ni.items u.ni.items p c v (e NI) j);
-  nb = known.nb || nat_lt row (same_top t.nb.items u.nb.items p c v (e NB) j);
-  ng = known.ng || nat_lt row (same_top t.ng.items u.ng.items p c v (e NG) j);
+  nd = known.nd || nat_lt row (same_top (tree t ND) (tree u ND) p c v (e ND) j);
+  np = known.np || nat_lt row (same_top (tree t NP) (tree u NP) p c v (e NP) j);
+  nc = known.nc || nat_lt row (same_top (tree t NC) (tree u NC) p c v (e NC) j);
+  nm = known.nm || nat_lt row (same_top (tree t NM) (tree u NM) p c v (e NM) j);
+  ni = known.ni || nat_lt row (same_top (tree t NI) (tree u NI) p c v (e NI) j);
+  nb = known.nb || nat_lt row (same_top (tree t NB) (tree u NB) p c v (e NB) j);
+  ng = known.ng || nat_lt row (same_top (tree t NG) (tree u NG) p c v (e NG) j);
 }
 
 pub noted_same : (mask : Mask) (p : Part) (t u : Trees) (n : Note) → 0 < p.width → ((l : Layer) → SamePart (tree t l) (tree u l) p) → u.since ≡ t.since
@@ -71,7 +71,7 @@ are_noted_same mask p t u v e h = record {
       let m = in_within q p t u v w e in
       let n = m.0 in
       let o = m.1 in
-      rw (o.notes q.at (omega arith) (omega arith)) (noted_same mask q t u (note_at t.notes.items q.at) n o.tops o.since (h.each q w));
+      rw (o.notes q.at (omega arith) (omega arith)) (noted_same mask q t u (note_at t q.at) n o.tops o.since (h.each q w));
 }
 
 pub noted_left : (mask : Mask) (t : Trees) (p : Part) → 2 ≤ p.width → AreNoted mask t p → AreNoted mask t (left_half p)
@@ -80,32 +80,36 @@ noted_left mask t p h k = record { each = λ q w. k.each q (left h w) }
 pub noted_right : (mask : Mask) (t : Trees) (p : Part) → 2 ≤ p.width → AreNoted mask t p → AreNoted mask t (right_half p)
 noted_right mask t p h k = record { each = λ q w. k.each q (right h w) }
 
-whole : (mask : Mask) (t : Trees) (p q : Part) → IsNoted mask t p (note_at t.notes.items p.at) → AreHalvesNoted mask t p → Within q p
-    → IsNoted mask t q (note_at t.notes.items q.at)
+whole : (mask : Mask) (t : Trees) (p q : Part) → IsNoted mask t p (note_at t p.at) → AreHalvesNoted mask t p → Within q p
+    → IsNoted mask t q (note_at t q.at)
 whole mask t p q a h here = a
 whole mask t p q a h (left i w) = (h.left i).each q w
 whole mask t p q a h (right i w) = (h.right i).each q w
 
-pub noted_whole : (mask : Mask) (t : Trees) (p : Part) → IsNoted mask t p (note_at t.notes.items p.at) → AreHalvesNoted mask t p → AreNoted mask t p
+pub noted_whole : (mask : Mask) (t : Trees) (p : Part) → IsNoted mask t p (note_at t p.at) → AreHalvesNoted mask t p → AreNoted mask t p
 noted_whole mask t p a h = record { each = λ q w. whole mask t p q a h w }
 
 -- a part is noted anew over its halves
-module _ (mask : Mask) (t u : Trees) (p : Part) (n : Note) (v : 0 < p.width) (i : p.at < length t.notes.items) (tops : (l : Layer) → tree u l ≡ tree t l)
-    (notes : u.notes.items ≡ set t.notes.items p.at n) (since : u.since ≡ t.since) where
-  other_note : (k : ℕ) → k ≢ p.at → note_at u.notes.items k ≡ note_at t.notes.items k
-  other_note k f = ap (λ s. note_at s k) notes ∙ get_or-set_other t.notes.items p.at k n stale f
+module _ (t u : Trees) (p : Part) (n : Note) (v : 0 < p.width) (i : p.at < length t.nodes.items)
+    (nodes : u.nodes.items ≡ set t.nodes.items p.at (record { tops = (node_at t p.at).tops; note = n })) (further : u.further ≡ t.further)
+    (since : u.since ≡ t.since) where
+  other_note : (k : ℕ) → k ≢ p.at → note_at u k ≡ note_at t k
+  other_note k f = ap (λ m. m.note) (node_other t u p.at _ nodes further k f)
 
-  own_note : note_at u.notes.items p.at ≡ n
-  own_note = ap (λ s. note_at s p.at) notes ∙ get_or-set_same t.notes.items p.at n stale i
+  own_note : note_at u p.at ≡ n
+  own_note = ap (λ m. m.note) (node_own t u p.at _ nodes further i)
+
+  pub anew_tops : (l : Layer) → tree u l ≡ tree t l
+  anew_tops l = tree_same t u p.at _ nodes further l refl
 
   same_tops : (q : Part) (l : Layer) → SamePart (tree t l) (tree u l) q
-  same_tops q l = record { same = λ k a b. ap (λ s. top_at s k) (tops l) }
+  same_tops q l = record { same = λ k a b. ap (λ s. top_at s k) (anew_tops l) }
 
   same_behind : (q : Part) → p.at < q.at → SameIn q t u
   same_behind q h = record { tops = same_tops q; notes = λ k a b. other_note k (omega arith); since = since }
 
-  pub noted_anew : IsNoted mask t p n → AreHalvesNoted mask t p → AreNoted mask u p
-  noted_anew h a = noted_whole mask u p (rw own_note (noted_same mask p t u n v (same_tops p) since h)) (record {
+  pub noted_anew : (mask : Mask) → IsNoted mask t p n → AreHalvesNoted mask t p → AreNoted mask u p
+  noted_anew mask h a = noted_whole mask u p (rw own_note (noted_same mask p t u n v (same_tops p) since h)) (record {
     left = λ w. are_noted_same mask (left_half p) t u (omega arith) (same_behind (left_half p) (omega arith)) (a.left w);
     right = λ w. are_noted_same mask (right_half p) t u (omega arith) (same_behind (right_half p) (omega arith)) (a.right w);
   })
@@ -115,12 +119,16 @@ module _ (mask : Mask) (t u : Trees) (p : Part) (n : Note) (v : 0 < p.width) (i 
 
   pub anew_only : IsOnlyIn p t u
   anew_only = record {
-    tops = λ l k b. ap (λ s. top_at s k) (tops l);
+    tops = λ l k b. ap (λ s. top_at s k) (anew_tops l);
     notes = λ k b. other_note k (beside_other k b);
-    as_many = λ l. ap length (tops l);
-    as_many_notes = ap length notes ∙ length-set t.notes.items p.at n;
+    as_many = as_many t u p.at _ nodes further;
+    further = further;
     since = since;
   }
+
+-- a note of no row is true
+pub stale_note : (mask : Mask) (t : Trees) (q : Part) → IsNoted mask t q stale
+stale_note mask t q = record { steady = λ row c i j h. absurd (omega arith); kinds = λ c i h. absurd (omega arith) }
 
 -- what a note says of the rows before its end
 module _ (mask : Mask) (t : Trees) (p : Part) (n : Note) (h : IsNoted mask t p n) (row : ℕ) (i : t.since ≤ row) where

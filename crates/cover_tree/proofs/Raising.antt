@@ -1,53 +1,19 @@
 -- What a part covers after its halves, or it as a whole, are raised.
-use Rattle.std.proofs.Common.{◌≡◌, ◌≢◌, ℕ, zero, suc, ◌+◌, ◌-◌, ◌/◌, ◌<◌, ◌≤◌, ◌⊎◌, inl, inr, List, set, length, refl, sym, ◌∙◌, ap, max, arith}
-use Rattle.std.proofs.lemmas.Bool.{cases_lt, cases_eq}
+use Rattle.std.proofs.Common.{◌≡◌, ◌≢◌, ℕ, ◌+◌, ◌-◌, ◌/◌, ◌<◌, ◌≤◌, inl, inr, List, set, length, sym, ◌∙◌, max, arith}
+use Rattle.std.proofs.lemmas.Bool.{cases_lt}
 use Rattle.std.proofs.lemmas.List.{get_or-set_same, get_or-set_other}
-use Rattle.std.proofs.Math.ListN.{length-set}
 use Rattle.lam_geom.specs.declared.layer.Layer.{Layer}
-use Rattle.lam_geom.specs.declared.layer.Layer.TheVariants.{ND, NP, NC, NM, NI, NB, NG}
 use Rattle.mask_runs.specs.declared.mask.Mask.{Mask}
 use Rattle.cover_tree.specs.declared.part.Part.{Part}
 use Rattle.cover_tree.specs.declared.part.Span.{Span}
 use Rattle.cover_tree.specs.declared.trees.Trees.{Trees}
 use Rattle.cover_tree.specs.Parts.{left_half, right_half, top_at, top_of, IsPartRaised, clamped}
-use Rattle.cover_tree.specs.Layered.{tree}
+use Rattle.cover_tree.specs.Nodes.{layer_top}
+use Rattle.cover_tree.specs.Layered.{node_at, tree}
 use Rattle.cover_tree.specs.Notes.{note_at, AreNoted, AreHalvesNoted, Beside, IsOnlyIn}
+use Rattle.cover_tree.proofs.Nodes.{node_top}
 use Rattle.cover_tree.proofs.Tops.{top_leaf, top_left, top_right, SamePart, same_top}
 use Rattle.cover_tree.proofs.Noting.{SameIn, noted_left, noted_right, are_noted_same}
-
--- layers by numbers
-abbrev number : Layer → ℕ
-number ND = 0
-number NP = 1
-number NC = 2
-number NM = 3
-number NI = 4
-number NB = 5
-number NG = 6
-
-abbrev numbered : ℕ → Layer
-numbered zero = ND
-numbered (suc zero) = NP
-numbered (suc (suc zero)) = NC
-numbered (suc (suc (suc zero))) = NM
-numbered (suc (suc (suc (suc zero)))) = NI
-numbered (suc (suc (suc (suc (suc zero))))) = NB
-numbered (suc (suc (suc (suc (suc (suc n)))))) = NG
-
-number_back : (l : Layer) → numbered (number l) ≡ l
-number_back ND = refl
-number_back NP = refl
-number_back NC = refl
-number_back NM = refl
-number_back NI = refl
-number_back NB = refl
-number_back NG = refl
-
-cases_layer : (l m : Layer) → (l ≡ m) ⊎ (l ≢ m)
-cases_layer l m = elim (cases_eq (number l) (number m)) [
-  | inl e ↦ inl (sym (number_back l) ∙ ap numbered e ∙ number_back m)
-  | inr n ↦ inr (λ e. n (ap number e))
-]
 
 top_same : (s : List ℕ) (k n : ℕ) → k < length s → top_at (set s k n) k ≡ n
 top_same s k n h = get_or-set_same s k n 0 h
@@ -94,34 +60,25 @@ raised_all s p span row v i f = record {
 beside_own : (p : Part) (k at : ℕ) → 0 < p.width → p.at ≡ at → Beside p k → k ≢ at
 beside_own p k at v e b f = elim b [ inl h ↦ absurd (omega arith) | inr h ↦ absurd (omega arith) ]
 
--- trees of which one has another top at one place
-module _ (t u : Trees) (layer : Layer) (at top : ℕ) (own : tree u layer ≡ set (tree t layer) at top)
-    (others : (l : Layer) → l ≢ layer → tree u l ≡ tree t l) (notes : u.notes.items ≡ t.notes.items) (since : u.since ≡ t.since) where
+-- trees of which one has another node at one place, with the same note
+module _ (t u : Trees) (at : ℕ) (beside : (k : ℕ) → k ≢ at → node_at u k ≡ node_at t k) (notes : (k : ℕ) → note_at u k ≡ note_at t k)
+    (many : length u.nodes.items ≡ length t.nodes.items) (further : u.further ≡ t.further) (since : u.since ≡ t.since) where
   lifted_other : (l : Layer) (k : ℕ) → k ≢ at → top_at (tree u l) k ≡ top_at (tree t l) k
-  lifted_other l k n = elim (cases_layer l layer) [
-    | inl e ↦ ap (λ m. top_at (tree u m) k) e ∙ ap (λ s. top_at s k) own ∙ top_other (tree t layer) at k top n ∙ ap (λ m. top_at (tree t m) k) (sym e)
-    | inr e ↦ ap (λ s. top_at s k) (others l e)
-  ]
-
-  lifted_many : (l : Layer) → length (tree u l) ≡ length (tree t l)
-  lifted_many l = elim (cases_layer l layer) [
-    | inl e ↦ ap (λ m. length (tree u m)) e ∙ ap length own ∙ length-set (tree t layer) at top ∙ ap (λ m. length (tree t m)) (sym e)
-    | inr e ↦ ap length (others l e)
-  ]
+  lifted_other l k n = node_top u l k ∙ (λ i. layer_top l (further i) (beside k n i).tops) ∙ sym (node_top t l k)
 
   pub lifted_in : (p : Part) → at < p.at → SameIn p t u
   lifted_in p h = record {
     tops = λ l. record { same = λ k i j. lifted_other l k (omega arith) };
-    notes = λ k i j. ap (λ s. note_at s k) notes;
+    notes = λ k i j. notes k;
     since = since;
   }
 
   pub lifted_only : (p : Part) → p.at ≡ at → 0 < p.width → IsOnlyIn p t u
   lifted_only p h v = record {
     tops = λ l k b. lifted_other l k (beside_own p k at v h b);
-    notes = λ k b. ap (λ s. note_at s k) notes;
-    as_many = lifted_many;
-    as_many_notes = ap length notes;
+    notes = λ k b. notes k;
+    as_many = many;
+    further = further;
     since = since;
   }
 
@@ -205,8 +162,8 @@ module _ (old one two : Trees) (p : Part) (h : 2 ≤ p.width)
   both_only new n = record {
     tops = λ l k b. n.tops l k b ∙ ro.tops l k (beside_right p k h b) ∙ lo.tops l k (beside_left p k h b);
     notes = λ k b. n.notes k b ∙ ro.notes k (beside_right p k h b) ∙ lo.notes k (beside_left p k h b);
-    as_many = λ l. n.as_many l ∙ ro.as_many l ∙ lo.as_many l;
-    as_many_notes = n.as_many_notes ∙ ro.as_many_notes ∙ lo.as_many_notes;
+    as_many = n.as_many ∙ ro.as_many ∙ lo.as_many;
+    further = n.further ∙ ro.further ∙ lo.further;
     since = n.since ∙ ro.since ∙ lo.since;
   }
 
@@ -215,7 +172,7 @@ pub only_in_turn : (p : Part) (old one new : Trees) → IsOnlyIn p old one → I
 only_in_turn p old one new a b = record {
   tops = λ l k i. b.tops l k i ∙ a.tops l k i;
   notes = λ k i. b.notes k i ∙ a.notes k i;
-  as_many = λ l. b.as_many l ∙ a.as_many l;
-  as_many_notes = b.as_many_notes ∙ a.as_many_notes;
+  as_many = b.as_many ∙ a.as_many;
+  further = b.further ∙ a.further;
   since = b.since ∙ a.since;
 }

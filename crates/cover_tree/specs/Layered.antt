@@ -1,24 +1,20 @@
 -- The trees of the layers.
-use Rattle.std.specs.Prelude.{◌≡◌, ℕ, ◌*◌, List, length, nat_lt, if◌then◌else◌}
+use Rattle.std.specs.Prelude.{ℕ, List, get_or, map, nat_lt, if◌then◌else◌}
 use Rattle.lam_geom.specs.declared.layer.Layer.{Layer}
-use Rattle.lam_geom.specs.declared.layer.Layer.TheVariants.{ND, NP, NC, NM, NI, NB, NG}
 use Rattle.mask_runs.specs.declared.mask.Mask.{Mask}
+use Rattle.cover_tree.specs.declared.node.Node.{Node}
 use Rattle.cover_tree.specs.declared.trees.Trees.{Trees}
+use Rattle.cover_tree.specs.Nodes.{blank, layer_top}
 use Rattle.cover_tree.specs.Parts.{root, top_of}
 use Rattle.cover_tree.specs.Covers.{Cover}
 
-abbrev pub tree : Trees → Layer → List ℕ
-tree trees ND = trees.nd.items
-tree trees NP = trees.np.items
-tree trees NC = trees.nc.items
-tree trees NM = trees.nm.items
-tree trees NI = trees.ni.items
-tree trees NB = trees.nb.items
-tree trees NG = trees.ng.items
+-- the node at a place
+abbrev pub node_at : Trees → ℕ → Node
+node_at trees k = get_or trees.nodes.items k blank
 
--- the tree has all nodes of a root
-pub record HasRoom (tops : List ℕ) (cells : ℕ) : Type 0 where
-  pub room : length tops ≡ 2 * cells
+-- the tops of a layer
+abbrev pub tree : Trees → Layer → List ℕ
+tree trees l = map (λ n. layer_top l trees.further n.tops) trees.nodes.items
 
 -- up to which row the trees cover the cells
 abbrev pub cover : Mask → ℕ → Trees → Cover

@@ -1,5 +1,6 @@
 pub mod Covers
 pub mod Parts
+pub mod Nodes
 pub mod Layered
 pub mod Trees
 pub mod Building

@@ -1,5 +1,6 @@
 -- The layers over the cells of a part in a row, where some are known to cover it as a whole.
 use Rattle.std.specs.Prelude.{◌≡◌, ◌≤◌, ◌||◌, ℕ, Bool, List, nat_lt}
+use Rattle.lam_geom.specs.declared.layer.Layer.TheVariants.{ND, NP, NC, NM, NI, NB, NG}
 use Rattle.mask_runs.specs.declared.mask.Layers.{Layers}
 use Rattle.mask_runs.specs.declared.mask.Mask.{Mask}
 use Rattle.mask_runs.specs.Colours.{colour_of}
@@ -7,6 +8,7 @@ use Rattle.cover_tree.specs.declared.look.Sight.{Sight}
 use Rattle.cover_tree.specs.declared.look.Sight.TheVariants.{One, Many}
 use Rattle.cover_tree.specs.declared.part.Part.{Part}
 use Rattle.cover_tree.specs.declared.trees.Trees.{Trees}
+use Rattle.cover_tree.specs.Layered.{tree}
 use Rattle.cover_tree.specs.Parts.{top_at, top_of, left_half, right_half, InPart}
 
 -- whether a layer covers the part's cell
@@ -15,13 +17,13 @@ is_seen tops row p known c = known || nat_lt row (top_of tops p c)
 
 abbrev pub seen : Trees → ℕ → Part → Layers → ℕ → Layers
 seen t row p known c = record {
-  nd = is_seen t.nd.items row p known.nd c;
-  np = is_seen t.np.items row p known.np c;
-  nc = is_seen t.nc.items row p known.nc c;
-  nm = is_seen t.nm.items row p known.nm c;
-  ni = is_seen t.ni.items row p known.ni c;
-  nb = is_seen t.nb.items row p known.nb c;
-  ng = is_seen t.ng.items row p known.ng c;
+  nd = is_seen (tree t ND) row p known.nd c;
+  np = is_seen (tree t NP) row p known.np c;
+  nc = is_seen (tree t NC) row p known.nc c;
+  nm = is_seen (tree t NM) row p known.nm c;
+  ni = is_seen (tree t NI) row p known.ni c;
+  nb = is_seen (tree t NB) row p known.nb c;
+  ng = is_seen (tree t NG) row p known.ng c;
 }
 
 -- the colours of the part's cells
@@ -31,13 +33,13 @@ part_colour mask t row p known c = colour_of mask (seen t row p known c)
 -- the layers that cover the part whose nodes are at this place as a whole, by these nodes
 abbrev pub own_at : Trees → ℕ → ℕ → Layers
 own_at t row k = record {
-  nd = nat_lt row (top_at t.nd.items k);
-  np = nat_lt row (top_at t.np.items k);
-  nc = nat_lt row (top_at t.nc.items k);
-  nm = nat_lt row (top_at t.nm.items k);
-  ni = nat_lt row (top_at t.ni.items k);
-  nb = nat_lt row (top_at t.nb.items k);
-  ng = nat_lt row (top_at t.ng.items k);
+  nd = nat_lt row (top_at (tree t ND) k);
+  np = nat_lt row (top_at (tree t NP) k);
+  nc = nat_lt row (top_at (tree t NC) k);
+  nm = nat_lt row (top_at (tree t NM) k);
+  ni = nat_lt row (top_at (tree t NI) k);
+  nb = nat_lt row (top_at (tree t NB) k);
+  ng = nat_lt row (top_at (tree t NG) k);
 }
 
 -- the halves of the part have its colours where these layers cover them as wholes

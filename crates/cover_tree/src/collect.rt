@@ -33,7 +33,7 @@ pub(crate) fn collect_part(
     if last.right == end {
         return Ok(last);
     }
-    match look(trees, line, part, known) {
+    match look(trees, line, span, part, known) {
         Sight::One(colour) => add(runs, last, end, colour),
         Sight::Many(full) => {
             let middle = collect_part(trees, line, span, part.left(), full, last, runs)?;

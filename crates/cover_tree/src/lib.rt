@@ -6,6 +6,7 @@ mod collect;
 mod kinds;
 mod look;
 mod nearest;
+mod node;
 mod note;
 mod part;
 mod planes;

@@ -2,13 +2,13 @@
 
 ghost use Rattle.std.specs.Prelude.{ℕ, ◌≡◌, ◌+◌, IsTrue, IfSome};
 ghost use Rattle.mask_runs.specs.Colours.{bare};
-ghost use Rattle.cover_tree.specs.Parts.{InPart};
+ghost use Rattle.cover_tree.specs.Parts.{IsSmall, InPart};
 ghost use Rattle.cover_tree.specs.Kinds.{HasKind};
 ghost use Rattle.cover_tree.specs.Looking.{IsSight, seen};
 ghost use Rattle.cover_tree.specs.Notes.{AreNoted};
 
 use crate::kinds::{Kinds, both};
-use crate::part::Part;
+use crate::part::{Part, Span};
 use crate::trees::Trees;
 use mask_runs::{Layers, Mask};
 
@@ -26,14 +26,18 @@ pub(crate) enum Sight {
     Many(Layers),
 }
 
-/// Looks at a part which the layers in `known` cover as a whole.
-pub(crate) fn look(trees: &Trees, line: Line, part: Part, known: Layers) -> Sight
-    requires { AreNoted line.mask trees.now part }
+/// Looks at a part, which the layers in `known` cover as a whole, for the cells of a span. Whether its cells have one colour
+/// is asked only where all of them are in the span, since it seldom helps else.
+pub(crate) fn look(trees: &Trees, line: Line, span: Span, part: Part, known: Layers) -> Sight
+    requires small { IsSmall part }
+    requires noted { AreNoted line.mask trees.now part }
     ensures { IsSight line.mask trees.now line.row part known result }
 {
-    if let Some(kinds) = noted_at(trees, line, part) {
-        if let Some(colour) = kinds.colour(line.mask, known) {
-            return Sight::One(colour);
+    if span.has(part) {
+        if let Some(kinds) = noted_at(trees, line, part) {
+            if let Some(colour) = kinds.colour(line.mask, known) {
+                return Sight::One(colour);
+            }
         }
     }
     let full = both(known, trees.own_at(line.row, part.at));

@@ -6,28 +6,27 @@ ghost use Rattle.cover_tree.specs.Notes.{AreNoted};
 ghost use Rattle.cover_tree.specs.Looking.{part_colour};
 ghost use Rattle.cover_tree.specs.Going.{EndsAt, StartsAt};
 
+use crate::kinds::both;
 use crate::look::{Line, Sight, look};
-use crate::part::Part;
+use crate::part::{Part, Span};
 use crate::trees::Trees;
 use mask_runs::Layers;
 
 /// The colour of a cell of the part.
 pub(crate) fn colour_at(trees: &Trees, line: Line, part: Part, known: Layers, cell: u32) -> u8
     requires small { IsSmall part }
-    requires noted { AreNoted line.mask trees.now part }
     requires cell { InPart part cell }
     ensures { result ≡ part_colour line.mask trees.now line.row part known cell }
 {
-    match look(trees, line, part, known) {
-        Sight::One(colour) => colour,
-        Sight::Many(full) => {
-            let right = part.right();
-            if cell < right.base {
-                return colour_at(trees, line, part.left(), full, cell);
-            }
-            colour_at(trees, line, right, full, cell)
-        }
+    let full = both(known, trees.own_at(line.row, part.at));
+    if part.width < 2 {
+        return line.mask.colour(full);
     }
+    let right = part.right();
+    if cell < right.base {
+        return colour_at(trees, line, part.left(), full, cell);
+    }
+    colour_at(trees, line, right, full, cell)
 }
 
 /// How far the colour goes on in the part to the right, from a cell on.
@@ -47,7 +46,8 @@ pub(crate) fn end_of(
     if part.end() <= from {
         return from;
     }
-    match look(trees, line, part, known) {
+    let rest = Span { from, to: u32::MAX };
+    match look(trees, line, rest, part, known) {
         Sight::One(own) if own == colour => part.end(),
         Sight::One(_) => from,
         Sight::Many(full) => {
@@ -78,7 +78,8 @@ pub(crate) fn start_of(
     if to <= part.base {
         return to;
     }
-    match look(trees, line, part, known) {
+    let rest = Span { from: 0, to };
+    match look(trees, line, rest, part, known) {
         Sight::One(own) if own == colour => part.base,
         Sight::One(_) => to,
         Sight::Many(full) => {

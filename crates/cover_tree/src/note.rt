@@ -12,7 +12,7 @@ pub(crate) struct Note {
 
 impl Note {
     ghost use Rattle.std.specs.Prelude.{◌≡◌};
-    ghost use Rattle.cover_tree.specs.Notes.{stale};
+    ghost use Rattle.cover_tree.specs.Nodes.{stale};
 
     /// A note of no row.
     pub fn stale() -> Note

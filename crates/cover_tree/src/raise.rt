@@ -2,6 +2,7 @@
 
 ghost use Rattle.std.specs.Prelude.{◌≡◌, ◌≢◌};
 ghost use Rattle.lam_geom.specs.declared.layer.Layer.{Layer};
+ghost use Rattle.mask_runs.specs.declared.mask.Mask.{Mask};
 ghost use Rattle.cover_tree.specs.Parts.{IsSmall, IsPartRaised};
 ghost use Rattle.cover_tree.specs.Layered.{tree};
 ghost use Rattle.cover_tree.specs.Notes.{HasPart, AreNoted, IsOnlyIn};
@@ -9,23 +10,15 @@ ghost use Rattle.cover_tree.specs.Notes.{HasPart, AreNoted, IsOnlyIn};
 use crate::part::{Part, Span};
 use crate::trees::Trees;
 use lam_geom::Layer;
-use mask_runs::Mask;
 
-/// Covers the part's cells in the span with a layer in the rows below `row` besides.
-pub(crate) fn raise_part(
-    trees: &mut Trees,
-    mask: Mask,
-    layer: Layer,
-    part: Part,
-    span: Span,
-    row: u32,
-)
+/// Covers the part's cells in the span with a layer in the rows below `row` besides. The notes of the parts on the way are
+/// forgotten: where many raises come before the next row, each part is noted anew but once.
+pub(crate) fn raise_part(trees: &mut Trees, layer: Layer, part: Part, span: Span, row: u32)
     requires small { IsSmall part }
     requires room { HasPart trees.old layer part }
-    requires noted { AreNoted mask trees.old part }
     ensures raised { IsPartRaised (tree trees.old layer) (tree trees.new layer) part span row }
     ensures others { (l : Layer) → l ≢ layer → tree trees.new l ≡ tree trees.old l }
-    ensures noted { AreNoted mask trees.new part }
+    ensures noted { (mask : Mask) → AreNoted mask trees.old part → AreNoted mask trees.new part }
     ensures only { IsOnlyIn part trees.old trees.new }
 {
     let from = span.clamped(part.base);
@@ -35,10 +28,10 @@ pub(crate) fn raise_part(
     }
     if to - from == part.width {
         trees.lift(layer, part.at, row);
-        trees.sum_up(mask, part);
+        trees.forget(part);
         return;
     }
-    raise_part(trees, mask, layer, part.left(), span, row);
-    raise_part(trees, mask, layer, part.right(), span, row);
-    trees.sum_up(mask, part);
+    raise_part(trees, layer, part.left(), span, row);
+    raise_part(trees, layer, part.right(), span, row);
+    trees.forget(part);
 }

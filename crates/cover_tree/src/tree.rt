@@ -15,8 +15,8 @@ use mask_runs::{Layers, Mask, Run};
 use mp_base::NoMemory;
 use std::alloc::Global;
 
-/// Up to which row the layers of a mask cover each of a row of cells: a tree of halves for each layer that the mask uses,
-/// of 8 bytes a cell, and notes of 16. What covers a part of the cells as a whole is kept at the part.
+/// Up to which row the layers of a mask cover each of a row of cells: a tree of halves, whose nodes take 56 bytes a cell. What
+/// covers a part of the cells as a whole is kept at the part.
 #[derive(Drop)]
 pub struct CoverTree {
     mask: Mask,
@@ -44,7 +44,7 @@ impl CoverTree {
     }
 
     /// Covers the cells from `from` up to `to` with a layer in the rows below `row` besides. Its time is the logarithm of the
-    /// cells.
+    /// cells. What is raised is quick to look at from the next `advance` on.
     pub fn raise(&mut self, layer: Layer, from: u32, to: u32, row: u32)
         requires used { uses (cover_of self.old).mask layer ≡ true }
         requires within { to ≤ (cover_of self.old).cells }
@@ -52,11 +52,12 @@ impl CoverTree {
     {
         let root = Part::root(self.cells);
         let span = Span { from, to };
-        raise_part(&mut self.trees, self.mask, layer, root, span, row);
+        raise_part(&mut self.trees, layer, root, span, row);
     }
 
-    /// Takes the rows before this one as past: from now on those from it on are quick to look at. The cells stay covered as they
-    /// are. Its time is that of the places where a layer ends since the last call, times the logarithm of the cells.
+    /// Takes the rows before this one as past, if it isn't past itself: from now on those from it on are quick to look at, also
+    /// where layers were raised. The cells stay covered as they are. Its time is that of the places where a layer was raised or
+    /// ends since the last call, times the logarithm of the cells.
     pub fn advance(&mut self, row: u32)
         ensures { cover_of self.new ≡ cover_of self.old }
     {

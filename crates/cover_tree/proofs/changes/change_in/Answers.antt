@@ -1,6 +1,5 @@
-use Rattle.std.proofs.Common.{ℕ, ◌≡◌, ◌&&◌, Bool, true, false, refl, sym, ◌∙◌, ap}
+use Rattle.std.proofs.Common.{◌≡◌, ◌&&◌, Bool, true, false, refl}
 use Rattle.std.specs.Prelude.{nat_le, nat_lt}
-use Rattle.cover_tree.specs.Changing.{differs}
 use Rattle.cover_tree.proofs.changes.change_in.Goals as goal
 
 and_false : (a b : Bool) → b ≡ false → (a && b) ≡ false

@@ -1,76 +1,68 @@
 use Rattle.std.proofs.Common.{◌≤◌, refl, arith}
 use Rattle.cover_tree.specs.Parts.{left_half, right_half}
 use Rattle.cover_tree.specs.Layered.{tree}
-use Rattle.cover_tree.specs.Notes.{IsOnlyIn}
+use Rattle.cover_tree.specs.Notes.{AreNoted, IsOnlyIn}
+use Rattle.cover_tree.proofs.Nodes.{tree_length}
 use Rattle.cover_tree.proofs.Tops.{small_left, small_right}
 use Rattle.cover_tree.proofs.Noting.{noted_left}
 use Rattle.cover_tree.proofs.Raising.{raised_all, lifted_halves, lifted_only, only_in_turn, right_noted, both_noted, both_raised, both_only}
 use Rattle.cover_tree.proofs.raise.+raise_part.Goals as goal
 
 -- src/raise.rt
-pub sum_up-requires-clause-halves : goal.sum_up-requires-clause-halves
-sum_up-requires-clause-halves t c =
-    lifted_halves c.args.trees.now c.lift.new.self c.args.layer c.args.part.at _ c.lift.ensures.own c.lift.ensures.others c.lift.ensures.notes c.lift.ensures.since
-    c.args.mask c.args.part refl c.requires.small.some c.requires.noted
+pub returns-then-to-from-clause-noted : goal.returns-then-to-from-clause-noted
+returns-then-to-from-clause-noted t c = λ mask h.
+    c.forget.ensures.noted mask (lifted_halves c.args.trees.now c.lift.new.self c.args.part.at
+    c.lift.ensures.beside c.lift.ensures.notes c.lift.ensures.as_many c.lift.ensures.further c.lift.ensures.since mask c.args.part refl c.requires.small.some h)
 
 -- src/raise.rt
 pub returns-then-to-from-clause-raised : goal.returns-then-to-from-clause-raised
 returns-then-to-from-clause-raised t c =
-    let room = c.requires.room.tops in
-    rw (c.sum_up.ensures.tops c.args.layer, c.lift.ensures.own)
+    let room = c.requires.room.room in
+    let many = tree_length c.args.trees.now c.args.layer in
+    rw (c.forget.ensures.tops c.args.layer, c.lift.ensures.own)
     (raised_all (tree c.args.trees.now c.args.layer) c.args.part c.args.span c.args.row c.requires.small.some (omega arith) (omega arith))
 
 -- src/raise.rt
 pub returns-then-to-from-clause-only : goal.returns-then-to-from-clause-only
 returns-then-to-from-clause-only t c =
-    only_in_turn c.args.part c.args.trees.now c.lift.new.self c.sum_up.new.self
-    (lifted_only c.args.trees.now c.lift.new.self c.args.layer c.args.part.at _ c.lift.ensures.own c.lift.ensures.others c.lift.ensures.notes c.lift.ensures.since
-    c.args.part refl c.requires.small.some) c.sum_up.ensures.only
+    only_in_turn c.args.part c.args.trees.now c.lift.new.self c.forget.new.self
+    (lifted_only c.args.trees.now c.lift.new.self c.args.part.at c.lift.ensures.beside c.lift.ensures.notes c.lift.ensures.as_many c.lift.ensures.further c.lift.ensures.since
+    c.args.part refl c.requires.small.some) c.forget.ensures.only
 
 -- src/raise.rt
 pub raise_part-requires : goal.raise_part-requires
 raise_part-requires t c =
     let h : 2 ≤ c.args.part.width = omega arith in
-    let a = c.requires.room.tops in
-    let b = c.requires.room.notes in
+    let a = c.requires.room.room in
     rw c.left.ensures (
       omega arith,
-      (
-        small_left c.args.part h c.requires.small,
-        (
-          record { tops = omega arith; notes = omega arith },
-          noted_left c.args.mask c.args.trees.now c.args.part h c.requires.noted,
-        ),
-      ),
+      (small_left c.args.part h c.requires.small, record { kept = c.requires.room.kept; room = omega arith }),
     )
 
 -- src/raise.rt
 pub raise_part-requires-2 : goal.raise_part-requires-2
 raise_part-requires-2 t c =
     let h : 2 ≤ c.args.part.width = omega arith in
-    let a = c.requires.room.tops in
-    let b = c.requires.room.notes in
+    let a = c.requires.room.room in
     let l : IsOnlyIn (left_half c.args.part) c.args.trees.now c.raise_part.new.trees = rw (← c.left.ensures) c.raise_part.ensures.only in
-    let m = l.as_many c.args.layer in
-    let n = l.as_many_notes in
+    let n = l.as_many in
     rw c.right.ensures (
       omega arith,
-      (
-        small_right c.args.part h c.requires.small,
-        (
-          record { tops = omega arith; notes = omega arith },
-          right_noted c.args.trees.now c.raise_part.new.trees c.args.part h l c.args.mask c.requires.noted,
-        ),
-      ),
+      (small_right c.args.part h c.requires.small, record { kept = rw l.further c.requires.room.kept; room = omega arith }),
     )
 
 -- src/raise.rt
-pub sum_up-requires-2-clause-halves : goal.sum_up-requires-2-clause-halves
-sum_up-requires-2-clause-halves t c =
+pub returns-clause-noted : goal.returns-clause-noted
+returns-clause-noted t c = λ mask n.
     let h : 2 ≤ c.args.part.width = omega arith in
+    let l : IsOnlyIn (left_half c.args.part) c.args.trees.now c.raise_part.new.trees = rw (← c.left.ensures) c.raise_part.ensures.only in
     let r : IsOnlyIn (right_half c.args.part) c.raise_part.new.trees c.raise_part-2.new.trees = rw (← c.right.ensures) c.raise_part-2.ensures.only in
-    both_noted c.raise_part.new.trees c.raise_part-2.new.trees c.args.part h r c.args.mask
-    (rw (← c.left.ensures) c.raise_part.ensures.noted) (rw (← c.right.ensures) c.raise_part-2.ensures.noted)
+    let a : AreNoted mask c.args.trees.now (left_half c.args.part) → AreNoted mask c.raise_part.new.trees (left_half c.args.part)
+    = rw (← c.left.ensures) (c.raise_part.ensures.noted mask) in
+    let b : AreNoted mask c.raise_part.new.trees (right_half c.args.part) → AreNoted mask c.raise_part-2.new.trees (right_half c.args.part)
+    = rw (← c.right.ensures) (c.raise_part-2.ensures.noted mask) in
+    c.forget-2.ensures.noted mask (both_noted c.raise_part.new.trees c.raise_part-2.new.trees c.args.part h r mask
+    (a (noted_left mask c.args.trees.now c.args.part h n)) (b (right_noted c.args.trees.now c.raise_part.new.trees c.args.part h l mask n)))
 
 -- src/raise.rt
 pub returns-clause-raised : goal.returns-clause-raised
@@ -78,7 +70,7 @@ returns-clause-raised t c =
     let h : 2 ≤ c.args.part.width = omega arith in
     let l : IsOnlyIn (left_half c.args.part) c.args.trees.now c.raise_part.new.trees = rw (← c.left.ensures) c.raise_part.ensures.only in
     let r : IsOnlyIn (right_half c.args.part) c.raise_part.new.trees c.raise_part-2.new.trees = rw (← c.right.ensures) c.raise_part-2.ensures.only in
-    rw (c.sum_up-2.ensures.tops c.args.layer)
+    rw (c.forget-2.ensures.tops c.args.layer)
     (both_raised c.args.trees.now c.raise_part.new.trees c.raise_part-2.new.trees c.args.part h l r c.args.layer c.args.span c.args.row
     (rw (← c.left.ensures) c.raise_part.ensures.raised) (rw (← c.right.ensures) c.raise_part-2.ensures.raised))
 
@@ -88,4 +80,4 @@ returns-clause-only t c =
     let h : 2 ≤ c.args.part.width = omega arith in
     let l : IsOnlyIn (left_half c.args.part) c.args.trees.now c.raise_part.new.trees = rw (← c.left.ensures) c.raise_part.ensures.only in
     let r : IsOnlyIn (right_half c.args.part) c.raise_part.new.trees c.raise_part-2.new.trees = rw (← c.right.ensures) c.raise_part-2.ensures.only in
-    both_only c.args.trees.now c.raise_part.new.trees c.raise_part-2.new.trees c.args.part h l r c.sum_up-2.new.self c.sum_up-2.ensures.only
+    both_only c.args.trees.now c.raise_part.new.trees c.raise_part-2.new.trees c.args.part h l r c.forget-2.new.self c.forget-2.ensures.only

@@ -1,5 +1,6 @@
 use Rattle.cover_tree.specs.Trees.{cover_of}
 use Rattle.std.proofs.Common.{arith}
+use Rattle.cover_tree.proofs.Nodes.{uses_kept}
 use Rattle.cover_tree.proofs.Covering.{raised_cover}
 use Rattle.cover_tree.proofs.tree.CoverTree.raise.Goals as goal
 
@@ -7,9 +8,9 @@ use Rattle.cover_tree.proofs.tree.CoverTree.raise.Goals as goal
 pub raise_part-requires-clause-room : goal.raise_part-requires-clause-room
 unfolding cover_of
 raise_part-requires-clause-room c =
-    let a = (c.args.self.now.sound.room c.args.layer c.requires.used).room in
-    let b = c.args.self.now.sound.noted_room in
-    rw c.root-root.ensures (record { tops = omega arith; notes = omega arith })
+    let s = c.args.self.now.sound in
+    let a = s.room in
+    rw c.root-root.ensures (record { kept = rw s.kept (uses_kept c.args.self.now.mask c.args.layer c.requires.used); room = omega arith })
 
 -- src/tree.rt
 pub returns : goal.returns

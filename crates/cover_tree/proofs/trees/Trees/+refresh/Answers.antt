@@ -20,7 +20,7 @@ refresh-requires-2 t c =
     let h : 2 ≤ c.args.part.width = omega arith in
     let b = c.requires.room in
     let l : IsOnlyIn (left_half c.args.part) c.args.self.now c.refresh.new.self = rw (← c.left.ensures) c.refresh.ensures.only in
-    let n = l.as_many_notes in
+    let n = l.as_many in
     rw c.right.ensures (
       omega arith,
       (
