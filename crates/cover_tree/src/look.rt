@@ -27,7 +27,7 @@ pub(crate) enum Sight {
 }
 
 /// Looks at a part, which the layers in `known` cover as a whole, for the cells of a span. Whether its cells have one colour
-/// is asked only where all of them are in the span: else it seldom helps, and costs more than to look at the halves.
+/// is asked only where all of them are in the span, since it seldom helps else.
 pub(crate) fn look(trees: &Trees, line: Line, span: Span, part: Part, known: Layers) -> Sight
     requires small { IsSmall part }
     requires noted { AreNoted line.mask trees.now part }
