@@ -3,7 +3,7 @@
 
     bench/cif.py FOLDER [--only WORD]
 
-Each case is one file in FOLDER. All of them take about 900 MB.
+Each case is one file in FOLDER. All of them take about 1,100 MB.
 """
 import argparse
 import os
@@ -92,6 +92,8 @@ def cases():
     yield "calls_doubled", [doubled(40)]
     yield "calls_chained", [chained(MILLION)]
     yield "calls_turned", [turned(MILLION, MILLION)]
+    for name, turn in [("mirrors", "MX"), ("moves", "T0 0"), ("rotations", "R1 0")]:
+        yield "call_of_" + name, ["DS1;DF;C1", turn * (16 * MILLION), ";E"]
     yield "deletions", [deleted(MILLION, MILLION)]
 
 
