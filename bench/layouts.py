@@ -50,6 +50,14 @@ def combs(count):
                                   "".join("B %d 2 %d %d;" % (2, 4 * (k % teeth) + 2, 4 * k) for k in range(teeth)))
 
 
+def crossings(bars):
+    """Bars of polysilicon across as many of diffusion: a transistor at each crossing."""
+    length = 8 * bars + 16
+    middle = length // 2 - 8
+    return "L ND;%sL NP;%sE\n" % ("".join("B 2 %d %d %d;" % (length, 8 * k, middle) for k in range(bars)),
+                                  "".join("B %d 2 %d %d;" % (length, middle, 8 * k) for k in range(bars)))
+
+
 def spanned(count):
     """A tall rectangle beside a column of small ones, and a wide one below a row of small ones."""
     half = count // 2
