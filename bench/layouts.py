@@ -50,6 +50,14 @@ def combs(count):
                                   "".join("B %d 2 %d %d;" % (2, 4 * (k % teeth) + 2, 4 * k) for k in range(teeth)))
 
 
+def contacts(count):
+    """An array of contacts of metal with diffusion, three rectangles each."""
+    side = int((count // 3) ** 0.5)
+    spots = [(8 * i, 8 * j) for j in range(side) for i in range(side)]
+    return "L ND;%sL NM;%sL NC;%sE\n" % tuple(
+        "".join("B %d %d %d %d;" % (size + spot) for spot in spots) for size in [(6, 4), (4, 6), (2, 2)])
+
+
 def crossings(bars):
     """Bars of polysilicon across as many of diffusion: a transistor at each crossing."""
     length = 8 * bars + 16
