@@ -1,6 +1,7 @@
 //! Running a program, clock by clock.
 #![tactic(auto)]
 
+mod fit;
 mod jump;
 mod landing;
 mod link;

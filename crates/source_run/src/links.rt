@@ -5,7 +5,7 @@ ghost use Rattle.std.specs.List.{list_any};
 ghost use Rattle.mp_program.specs.declared.program.Def.{Def};
 ghost use Rattle.mp_program.specs.declared.program.Expr.{Expr};
 ghost use Rattle.mp_program.specs.declared.program.Form.{Form};
-ghost use Rattle.mp_program.specs.Names.{index_of, is_input, is_reset, pad_number};
+ghost use Rattle.mp_program.specs.Names.{index_of, is_reset, pad_number};
 ghost use Rattle.mp_program.specs.Sound.{AllBetween, BranchesFit};
 ghost use Rattle.mp_program.specs.Reads.{sets, branches_set};
 ghost use Rattle.source_run.specs.Linked.{AreLinks, AreQuiet, AllQuiet, named, target, setters_of, reset_pad};
@@ -13,7 +13,7 @@ ghost use Rattle.source_run.specs.Linked.{AreLinks, AreQuiet, AllQuiet, named, t
 use crate::landing::landings;
 use crate::link::Links;
 use mp_base::List;
-use mp_program::{Branch, Def, ExprKind, FormKind, Program, Way, What, laws};
+use mp_program::{Branch, Def, ExprKind, FormKind, Program, laws};
 use std::alloc::{AllocError, Global};
 
 /// The index of the first definition of a name, or the number of definitions where there is none.
@@ -180,31 +180,19 @@ fn quiet(alloc: Global, program: &Program) -> Result<List<List<bool>>, AllocErro
     Ok(list)
 }
 
-fn is_input(what: What) -> bool
-    ensures { result ≡ is_input what }
-{
-    matches!(what, What::Port(Way::Input) | What::Signal(Way::Input))
-}
-
-fn is_reset(def: &Def) -> bool
-    ensures { result ≡ is_reset def.now }
-{
-    def.name.bytes() == b"reset".as_slice() && matches!(def.what, What::Signal(Way::Input))
-}
-
 /// The first definition that is the signal input `reset`.
 fn reset_at(defs: &[Def]) -> Option<usize>
     ensures found { result ≡ position is_reset defs.now }
     ensures inside { IfSome result (λ d. d < length defs.now) }
 {
-    defs.iter().position(is_reset)
+    defs.iter().position(Def::is_reset)
 }
 
 fn pads_before(defs: &[Def], end: usize) -> usize
     requires { end ≤ length defs.now }
     ensures { result ≡ pad_number defs.now end }
 {
-    defs[..end].iter().filter(|def| is_input(def.what)).count()
+    defs[..end].iter().filter(|def| def.what.is_input()).count()
 }
 
 /// The input pad of `reset`.

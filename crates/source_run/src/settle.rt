@@ -4,7 +4,6 @@ ghost use Rattle.std.specs.Prelude.{◌≡◌, ◌<◌, ◌++◌, length, slice_
 ghost use Rattle.std.specs.List.{flat_map, AllByRecursion};
 ghost use Rattle.mp_base.specs.Merge.{merged};
 ghost use Rattle.mp_program.specs.declared.program.Def.{Def};
-ghost use Rattle.mp_program.specs.Names.{is_input};
 ghost use Rattle.mp_program.specs.Effects.{effects_of, written};
 ghost use Rattle.mp_program.specs.State.{IsState, places_taken};
 ghost use Rattle.mp_program.specs.Environment.{what_value, IsEnvironment};
@@ -42,12 +41,6 @@ pub(crate) fn written_to(
     join(always, processes)
 }
 
-fn is_input(what: What) -> bool
-    ensures { result ≡ is_input what }
-{
-    matches!(what, What::Port(Way::Input) | What::Signal(Way::Input))
-}
-
 /// The value of a definition to which nothing is driven.
 fn given_value(what: What, stored: u64, given: u64) -> u64
     ensures { result ≡ what_value what stored given 0 }
@@ -70,7 +63,7 @@ fn give(defs: &[Def], stored: &[u64], inputs: &[u64], env: &mut [u64])
     for (i, def) in defs.iter().enumerate() {
         let given = if pads < inputs.len() { inputs[pads] } else { 0 };
         env[i] = given_value(def.what, stored[i], given);
-        if is_input(def.what) {
+        if def.what.is_input() {
             pads += 1;
         }
     }

@@ -3,7 +3,7 @@
 ghost use Rattle.std.specs.Prelude.{◌≡◌, ◌<◌, ◌++◌, length, filter};
 ghost use Rattle.std.specs.List.{flat_map, AllByRecursion};
 ghost use Rattle.mp_program.specs.declared.program.Def.{Def};
-ghost use Rattle.mp_program.specs.Names.{is_output, is_stored};
+ghost use Rattle.mp_program.specs.Names.{is_output};
 ghost use Rattle.mp_program.specs.Effects.{effects_of};
 ghost use Rattle.mp_program.specs.Step.{next_stored, outputs_of, resets};
 ghost use Rattle.source_run.specs.Linked.{AreLinks, reset_pad};
@@ -11,19 +11,7 @@ ghost use Rattle.source_run.specs.Linked.{AreLinks, reset_pad};
 use crate::link::Links;
 use crate::settle::written_to;
 use mp_base::Outputs;
-use mp_program::{Def, Program, Way, What};
-
-fn is_stored(what: What) -> bool
-    ensures { result ≡ is_stored what }
-{
-    matches!(what, What::Register | What::Flag)
-}
-
-fn is_output(what: What) -> bool
-    ensures { result ≡ is_output what }
-{
-    matches!(what, What::Port(Way::Output) | What::Signal(Way::Output))
-}
+use mp_program::{Def, Program};
 
 /// Gives each register and flag its value for the next clock.
 pub(crate) fn advance(
@@ -39,7 +27,7 @@ pub(crate) fn advance(
     ensures { stored.new ≡ next_stored (flat_map (effects_of program.now env.now) (program.now.always ++ places.now)) 0 program.now.defs stored.old }
 {
     for (i, def) in program.defs.as_slice().iter().enumerate() {
-        let next = if is_stored(def.what) {
+        let next = if def.what.is_stored() {
             written_to(program, links, places, env, i).unwrap_or(stored[i])
         } else {
             0
@@ -67,7 +55,7 @@ pub(crate) fn show(defs: &[Def], env: &[u64], outputs: &mut Outputs)
 {
     let mut pad: usize = 0;
     for (i, def) in defs.iter().enumerate() {
-        if is_output(def.what) {
+        if def.what.is_output() {
             outputs.put(pad, env[i]);
             pad += 1;
         }
