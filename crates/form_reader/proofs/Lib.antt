@@ -4,6 +4,8 @@ pub mod Clean
 pub mod Blocks
 pub mod Reached
 pub mod Order
+mod Nesting
+pub mod Soundness
 pub mod Unique
 pub mod First
 pub mod Symbols

@@ -12,19 +12,19 @@ use Rattle.form_reader.specs.Text.{place_at}
 use Rattle.form_reader.specs.Spelling.{IsKindOf, IsNode, Spelled, none, token, list, Spells}
 
 -- m stands in these items at p
-abbrev At : List ℕ → ℕ → ℕ → Type 0
+abbrev pub At : List ℕ → ℕ → ℕ → Type 0
 At items p m = (p < length items) × (m ≡ slice_index items p)
 
 -- node m is the item of node n at p
-abbrev Holds : List Node → ℕ → ℕ → ℕ → Type 0
+abbrev pub Holds : List Node → ℕ → ℕ → ℕ → Type 0
 Holds xs n p m = At (items_of (get_or xs n no_node).kind) p m
 
 -- the offset of a node
-abbrev offset : List Node → ℕ → ℕ
+abbrev pub offset : List Node → ℕ → ℕ
 offset xs n = (get_or xs n no_node).place.offset
 
 -- what is known of the nodes of some items, which are those from i up to j
-record IsOrdered (xs : List Node) (at i : ℕ) (items : List ℕ) (to j : ℕ) : Type 0 where
+pub record IsOrdered (xs : List Node) (at i : ℕ) (items : List ℕ) (to j : ℕ) : Type 0 where
   pub le : i ≤ j
   pub offsets_le : at ≤ to
   pub top : (p m : ℕ) → At items p m → (i ≤ m) × (m < j)
@@ -188,7 +188,7 @@ nothing xs at i to le = record {
   ascend = λ a b lo lt hi. absurd (omega (arith, lo, lt, hi));
 }
 
-no_items : (run : List ℕ) (kind : Kind) → IsKindOf run kind → items_of kind ≡ []
+pub no_items : (run : List ℕ) (kind : Kind) → IsKindOf run kind → items_of kind ≡ []
 no_items run (Number n) is = refl
 no_items run (Symbol x) is = refl
 no_items run (Group items) is = absurd is
@@ -196,7 +196,7 @@ no_items run (Group items) is = absurd is
 place_of : (text : List ℕ) (xs : List Node) (i s : ℕ) (kind : Kind) → IsNode xs i (place_at text s) kind → offset xs i ≡ s
 place_of text xs i s kind is = ap (λ (x : Node). x.place.offset) is.1
 
-ordered : {text : List ℕ} {xs : List Node} {depth at i to j : ℕ} {items : List ℕ} → Spelled text xs depth at i items to j → IsOrdered xs at i items to j
+pub ordered : {text : List ℕ} {xs : List Node} {depth at i to j : ℕ} {items : List ℕ} → Spelled text xs depth at i items to j → IsOrdered xs at i items to j
 ordered {xs = xs} (none {at = at} {i = i}) = nothing xs at i at (omega arith)
 ordered {text = text} {xs = xs} (token {at = at} {i = i} {to = to} {j = j} {items = items} s e kind gap run is node rest) =
     let here = place_of text xs i s kind node in
@@ -208,16 +208,16 @@ ordered {text = text} {xs = xs} (list {at = at} {i = i} {to = to} {j = j} {items
     (λ p m h. holds_here xs i (place_at text s) (Group inner) p m node.1 h) (omega (arith, here, gap.0)) (omega (arith, here)) (omega (arith, gap2.0))
 
 -- the first item is the first node
-first_root : {text : List ℕ} {xs : List Node} {depth at i to j r : ℕ} {rs : List ℕ} → Spelled text xs depth at i (r ∷ rs) to j → r ≡ i
+pub first_root : {text : List ℕ} {xs : List Node} {depth at i to j r : ℕ} {rs : List ℕ} → Spelled text xs depth at i (r ∷ rs) to j → r ≡ i
 first_root (token s e kind gap run is node rest) = refl
 first_root (list s e c k inner gap byte shallow node within gap2 byte2 rest) = refl
 
 -- the nodes before the second item keep their items before it
-record IsCut (xs : List Node) (i b : ℕ) : Type 0 where
+pub record IsCut (xs : List Node) (i b : ℕ) : Type 0 where
   pub lt : i < b
   pub kept : (n p m : ℕ) → i ≤ n → n < b → Holds xs n p m → m < b
 
-cut : {text : List ℕ} {xs : List Node} {depth at i to j a b : ℕ} {rs : List ℕ} → Spelled text xs depth at i (a ∷ b ∷ rs) to j → IsCut xs i b
+pub cut : {text : List ℕ} {xs : List Node} {depth at i to j a b : ℕ} {rs : List ℕ} → Spelled text xs depth at i (a ∷ b ∷ rs) to j → IsCut xs i b
 cut {text = text} {xs = xs} (token {i = i} s e kind gap run is node rest) =
     let second = first_root rest in
     record {
@@ -238,22 +238,4 @@ cut {text = text} {xs = xs} (list {i = i} s e c k inner gap byte shallow node wi
             let same : n ≡ i = omega (arith, here, lo) in
             let r = o.top p m (holds_here xs i (place_at text s) (Group inner) p m node.1 (subst (λ z. Holds xs z p m) same h)) in omega (arith, r.1, second)
       ];
-    }
-
-pub sound : (text : List ℕ) (f : Forms) → Spells text f → IsSound f
-sound text f spells =
-    let o = ordered spells.items in
-    record {
-      behind = λ n j m is. o.behind n j m (omega arith) is.0 (is.1, is.2);
-      one_list = λ a b i j m is it. o.one_list a b i j m (omega arith) is.0 (omega arith) it.0 (is.1, is.2) (it.1, it.2);
-      one_place = λ a b i j m is it.
-          let same : a ≡ b = o.one_list a b i j m (omega arith) is.0 (omega arith) it.0 (is.1, is.2) (it.1, it.2) in
-          o.one_place b i j m (omega arith) it.0 (subst (λ z. Holds f.nodes z i m) same (is.1, is.2)) (it.1, it.2);
-      first = λ r rs is. first_root (subst (λ z. Spelled text f.nodes 0 0 0 z spells.to (length f.nodes)) is spells.items);
-      roots = λ k lt. (o.top k (slice_index f.roots k) (lt, refl)).1;
-      apart = λ a b rs is.
-          let two = subst (λ z. Spelled text f.nodes 0 0 0 z spells.to (length f.nodes)) is spells.items in
-          let c = cut two in
-          (omega (arith, first_root two, c.lt), λ n j m item lt. c.kept n j m (omega arith) lt (item.1, item.2));
-      ascend = λ i j lt hi. o.ascend i j (omega arith) lt hi;
     }

@@ -1,5 +1,5 @@
 -- Forms whose nodes are in text order.
-use Rattle.std.specs.Prelude.{◌≡◌, ℕ, ◌<◌, List, [], ◌∷◌, ◌&&◌, not, true, length, slice_index, slice_index_or}
+use Rattle.std.specs.Prelude.{◌≡◌, ℕ, suc, ◌<◌, List, [], ◌∷◌, ◌&&◌, not, true, length, slice_index, slice_index_or}
 use Rattle.std.specs.List.{list_all}
 use Rattle.mp_base.specs.Token.{is_token, is_digit}
 use Rattle.form_reader.specs.declared.forms.Kind.{Kind}
@@ -26,11 +26,17 @@ items_of _ = []
 abbrev pub IsItem : Forms → ℕ → ℕ → ℕ → Type 0
 IsItem f n j m = (n < length f.nodes) × (j < length (items_of (kind_at f n))) × (m ≡ slice_index (items_of (kind_at f n)) j)
 
--- items stand behind their list, each node is an item once at most, and the offsets ascend
+-- at most d nodes stand one inside another, of which the outermost is n
+pub data NestsIn (f : Forms) : (d n : ℕ) → Type 0 where
+  nests : (d n : ℕ) → ((j m : ℕ) → IsItem f n j m → NestsIn f d m) → NestsIn f (suc d) n
+
+-- items stand behind their list, each node is an item once at most, lists are nested 64 deep at most, and the offsets
+-- ascend
 pub record IsSound (f : Forms) : Type 0 where
   pub behind : (n j m : ℕ) → IsItem f n j m → (n < m) × (m < length f.nodes)
   pub one_list : (a b i j m : ℕ) → IsItem f a i m → IsItem f b j m → a ≡ b
   pub one_place : (a b i j m : ℕ) → IsItem f a i m → IsItem f b j m → i ≡ j
+  pub shallow : (n : ℕ) → n < length f.nodes → NestsIn f 65 n
   pub first : (r : ℕ) (rs : List ℕ) → f.roots ≡ r ∷ rs → r ≡ 0
   pub roots : (k : ℕ) → k < length f.roots → slice_index f.roots k < length f.nodes
   pub apart : (a b : ℕ) (rs : List ℕ) → f.roots ≡ a ∷ b ∷ rs → (a < b) × ((n j m : ℕ) → IsItem f n j m → n < b → m < b)

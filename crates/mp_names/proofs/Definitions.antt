@@ -8,6 +8,7 @@ use Rattle.mp_program.specs.declared.program.Expr.{Expr}
 use Rattle.mp_program.specs.declared.program.Form.{Form}
 use Rattle.mp_program.specs.declared.program.Program.{Program}
 use Rattle.mp_program.specs.Names.{is_same, index_of}
+use Rattle.mp_program.proofs.Definitions.{is_same_of}
 use Rattle.mp_rules.specs.Entries.{IsAt}
 use Rattle.mp_rules.specs.Naming.{Naming, namings, Uses}
 use Rattle.mp_rules.specs.Rules.{E21, E22}
@@ -19,7 +20,7 @@ use Rattle.mp_names.specs.Table.{IsNameTable, index_in}
 use Rattle.mp_names.specs.Meant.{expr_meaning, target_meaning}
 use Rattle.mp_names.specs.Meaning.{AreMeanings, NamesDefinitions}
 use Rattle.mp_names.proofs.Entries.{Found, nothing_in, first_or_behind}
-use Rattle.mp_names.proofs.Naming.{true_same, an_offset, offset_found, of_namings}
+use Rattle.mp_names.proofs.Naming.{an_offset, offset_found, of_namings}
 
 map_at : {X : Type 0} (f : X → ℕ) (xs : List X) (k : ℕ) (x : X) → IsAt xs k x → slice_index (map f xs) k ≡ f x
 map_at f [] k x (lt, is) = absurd (omega (arith, lt))
@@ -58,7 +59,7 @@ index_below (d ∷ ds) x found = turn (index_below ds x) (is_same d.name x) refl
     turn : (Found ds (λ (e : Def). e.name ≡ x) → index_of ds x < length ds) → (b : Bool) → is_same d.name x ≡ b
         → (d.name ≡ x) ⊎ Found ds (λ (e : Def). e.name ≡ x) → cond b 0 (suc (index_of ds x)) < suc (length ds)
     turn rest true e h = omega arith
-    turn rest false e (inl now) = absurd (let same = true_same d.name x now in cc)
+    turn rest false e (inl now) = absurd (let same = is_same_of d.name x now in cc)
     turn rest false e (inr later) = let below = rest later in omega (arith, below)
 
 -- where a name that nothing has, or a process, isn't used

@@ -6,18 +6,13 @@ use Rattle.mp_program.specs.declared.program.Def.{Def}
 use Rattle.mp_program.specs.declared.program.Process.{Process}
 use Rattle.mp_program.specs.declared.program.Program.{Program}
 use Rattle.mp_program.specs.Names.{is_same, is_supply}
+use Rattle.mp_program.proofs.Definitions.{is_same_of, same_is}
 use Rattle.mp_rules.specs.Entries.{IsAt}
 use Rattle.mp_rules.specs.Naming.{Naming, namings, def_naming, process_naming}
 use Rattle.mp_names.specs.Named.{least_offset, second_offset}
 use Rattle.mp_names.specs.Seconds.{lesser, second_with}
 use Rattle.mp_names.specs.Repeats.{is_up_to}
 use Rattle.mp_names.proofs.Entries.{Found, nothing_in, here, behind, first_or_behind, in_left, in_right, in_either, in_map, of_map, in_filter, of_filter, Passing}
-
-pub same_true : (x y : List ℕ) → is_same x y ≡ true → x ≡ y
-same_true x y h = (bytes_eq-Decides x y).0 h
-
-pub true_same : (x y : List ℕ) → x ≡ y → is_same x y ≡ true
-true_same x y e = (bytes_eq-Decides x y).1 e
 
 -- a name has no least offset where nothing has it
 pub no_offset : (ns : List Naming) (x : List ℕ) → ((k : ℕ) (n : Naming) → IsAt ns k n → n.name ≡ x → ⊥) → is_some (least_offset ns x) ≡ false
@@ -26,7 +21,7 @@ no_offset (n ∷ ns) x none = cases (is_same n.name x) refl (no_offset ns x (λ 
   where
     cases : (b : Bool) → is_same n.name x ≡ b → is_some (least_offset ns x) ≡ false
         → is_some (cond b (lesser (least_offset ns x) (n.place).offset) (least_offset ns x)) ≡ false
-    cases true e rest = absurd (none 0 n (omega arith, refl) (same_true n.name x e))
+    cases true e rest = absurd (none 0 n (omega arith, refl) (same_is n.name x e))
     cases false e rest = rest
 
 -- and has one where something has it
@@ -37,7 +32,7 @@ an_offset (n ∷ ns) x found = cases (an_offset ns x) (is_same n.name x) refl (f
     cases : (Found ns (λ (m : Naming). m.name ≡ x) → is_some (least_offset ns x) ≡ true) → (b : Bool) → is_same n.name x ≡ b
         → (n.name ≡ x) ⊎ Found ns (λ (m : Naming). m.name ≡ x) → is_some (cond b (lesser (least_offset ns x) (n.place).offset) (least_offset ns x)) ≡ true
     cases rest true e h = refl
-    cases rest false e (inl now) = let same = true_same n.name x now in cc
+    cases rest false e (inl now) = let same = is_same_of n.name x now in cc
     cases rest false e (inr later) = rest later
 
 -- so something has it
@@ -47,7 +42,7 @@ offset_found (n ∷ ns) x h = cases (offset_found ns x) (is_same n.name x) refl 
   where
     cases : (is_some (least_offset ns x) ≡ true → Found ns (λ (m : Naming). m.name ≡ x)) → (b : Bool) → is_same n.name x ≡ b
         → is_some (cond b (lesser (least_offset ns x) (n.place).offset) (least_offset ns x)) ≡ true → Found (n ∷ ns) (λ (m : Naming). m.name ≡ x)
-    cases rest true e g = here (λ (m : Naming). m.name ≡ x) n ns (same_true n.name x e)
+    cases rest true e g = here (λ (m : Naming). m.name ≡ x) n ns (same_is n.name x e)
     cases rest false e g = behind (λ (m : Naming). m.name ≡ x) n ns (rest g)
 
 -- something of a name doesn't stand after an offset
@@ -104,7 +99,7 @@ one_found (n ∷ ns) x at h = cases (one_found ns x at) (is_same n.name x) refl 
     cases : (is_up_to (least_offset ns x) at ≡ true → Found ns (UpTo x at)) → (b : Bool) → is_same n.name x ≡ b
         → is_up_to (cond b (lesser (least_offset ns x) (n.place).offset) (least_offset ns x)) at ≡ true → Found (n ∷ ns) (UpTo x at)
     cases rest true e g = elim (up_to_lesser (least_offset ns x) (n.place).offset at g) [
-      | inl le ↦ here (UpTo x at) n ns (same_true n.name x e, le)
+      | inl le ↦ here (UpTo x at) n ns (same_is n.name x e, le)
       | inr later ↦ behind (UpTo x at) n ns (rest later)
     ]
     cases rest false e g = behind (UpTo x at) n ns (rest g)
@@ -117,7 +112,7 @@ found_one (n ∷ ns) x at h = cases (found_one ns x at) (is_same n.name x) refl 
         → is_up_to (cond b (lesser (least_offset ns x) (n.place).offset) (least_offset ns x)) at ≡ true
     cases rest true e (inl now) = lesser_up_to (least_offset ns x) (n.place).offset at (inl now.1)
     cases rest true e (inr later) = lesser_up_to (least_offset ns x) (n.place).offset at (inr (rest later))
-    cases rest false e (inl now) = let same = true_same n.name x now.0 in cc
+    cases rest false e (inl now) = let same = is_same_of n.name x now.0 in cc
     cases rest false e (inr later) = rest later
 
 two_here : (n : Naming) (ns : List Naming) (x : List ℕ) (at : ℕ) → UpTo x at n → Found ns (UpTo x at) → TwoUpTo (n ∷ ns) x at
@@ -142,7 +137,7 @@ two_found (n ∷ ns) x at h = cases (two_found ns x at) (is_same n.name x) refl 
     cases : (is_up_to (second_offset ns x) at ≡ true → TwoUpTo ns x at) → (b : Bool) → is_same n.name x ≡ b
         → is_up_to (cond b (second_with (least_offset ns x) (second_offset ns x) (n.place).offset) (second_offset ns x)) at ≡ true → TwoUpTo (n ∷ ns) x at
     cases rest true e g = elim (up_to_second (least_offset ns x) (second_offset ns x) (n.place).offset at g) [
-      | inl (le, one) ↦ two_here n ns x at (same_true n.name x e, le) (one_found ns x at one)
+      | inl (le, one) ↦ two_here n ns x at (same_is n.name x e, le) (one_found ns x at one)
       | inr later ↦ two_behind n ns x at (rest later)
     ]
     cases rest false e g = two_behind n ns x at (rest g)
@@ -156,7 +151,7 @@ found_two (n ∷ ns) x at h = cases (found_two ns x at) (is_same n.name x) refl 
         → is_up_to (cond b (second_with (least_offset ns x) (second_offset ns x) (n.place).offset) (second_offset ns x)) at ≡ true
     cases rest true e (inl (now, later)) = second_up_to (least_offset ns x) (second_offset ns x) (n.place).offset at (inl (now.1, found_one ns x at later))
     cases rest true e (inr later) = second_up_to (least_offset ns x) (second_offset ns x) (n.place).offset at (inr (rest later))
-    cases rest false e (inl (now, later)) = let same = true_same n.name x now.0 in cc
+    cases rest false e (inl (now, later)) = let same = is_same_of n.name x now.0 in cc
     cases rest false e (inr later) = rest later
 
 -- a definition that has a name

@@ -12,13 +12,14 @@ use denote.Ref.{Bor}
 use Rattle.mp_program.specs.declared.program.Def.{Def}
 use Rattle.mp_program.specs.declared.program.Process.{Process}
 use Rattle.mp_program.specs.Names.{is_same, is_supply}
+use Rattle.mp_program.proofs.Definitions.{same_is}
 use Rattle.mp_rules.specs.Naming.{Naming, def_naming, process_naming}
 use Rattle.mp_rules.specs.Rules.{is_unset}
 use Rattle.mp_names.specs.declared.named.Named.{Named}
 use Rattle.mp_names.specs.Named.{first_of, least_offset, second_offset, namings_in, named_in, unnamed, with_def, with_process}
 use Rattle.mp_names.specs.Seconds.{lesser, second_with}
 use Rattle.mp_names.specs.Keys.{known_in, HoldsNames}
-use Rattle.mp_names.proofs.Naming.{same_true, has_name}
+use Rattle.mp_names.proofs.Naming.{has_name}
 
 -- the keys of the map, as it compares them
 abbrev pub same_key : Bor (List ℕ) → Bor (List ℕ) → Bool
@@ -195,7 +196,7 @@ def_noted {S} ds i d m n key v lt is named value updates holds x =
   where
     turn : (b : Bool) → is_same key.now x ≡ b
         → cond b v (known_in m x) ≡ cond b (with_def (named_in (take i ds) [] x) (length (take i ds)) d) (named_in (take i ds) [] x)
-    turn true e = value ∙ ap (λ a. with_def a i d) (holds key.now ∙ ap (named_in (take i ds) []) (same_true key.now x e))
+    turn true e = value ∙ ap (λ a. with_def a i d) (holds key.now ∙ ap (named_in (take i ds) []) (same_is key.now x e))
         ∙ ap (λ k. with_def (named_in (take i ds) [] x) k d) (let size = length-take i ds in omega (arith, size))
     turn false e = holds x
 
@@ -210,7 +211,7 @@ process_noted {S} ds qs i q m n key v lt is named value updates holds x =
   where
     turn : (b : Bool) → is_same key.now x ≡ b
         → cond b v (known_in m x) ≡ cond b (with_process (named_in ds (take i qs) x) q) (named_in ds (take i qs) x)
-    turn true e = value ∙ ap (λ a. with_process a q) (holds key.now ∙ ap (named_in ds (take i qs)) (same_true key.now x e))
+    turn true e = value ∙ ap (λ a. with_process a q) (holds key.now ∙ ap (named_in ds (take i qs)) (same_is key.now x e))
     turn false e = holds x
 
 pub all_noted : {S : Type 0} (ds : List Def) (qs : List Process) (i : ℕ) (m : IndexMap (Bor (List ℕ)) Named S) → length qs ≤ i

@@ -7,6 +7,7 @@ use Rattle.mp_program.specs.declared.program.Process.{Process}
 use Rattle.mp_program.specs.declared.program.Form.{Form}
 use Rattle.mp_program.specs.declared.program.Program.{Program}
 use Rattle.mp_program.specs.Names.{is_same}
+use Rattle.mp_program.proofs.Definitions.{is_same_of, same_is}
 use Rattle.mp_rules.specs.Entries.{IsAt}
 use Rattle.mp_rules.specs.Rules.{E20, E21, E22, E27, is_unset}
 use Rattle.mp_rules.specs.Naming.{Naming, namings, def_naming, process_naming, is_reserved, Uses}
@@ -25,7 +26,7 @@ use Rattle.mp_names.proofs.Entries.{Found, any_found, found_any, both, and_true,
 use Rattle.mp_names.proofs.Earliest.{like, either, when, in_list}
 use Rattle.mp_names.proofs.Misuses.{Misuses, misuses, TargetMisuses, target_misuses}
 use Rattle.mp_names.proofs.Sorting.{WrongSort, earliest_wrong_sort}
-use Rattle.mp_names.proofs.Naming.{same_true, true_same, no_offset, an_offset, TwoUpTo, two_found, found_two, has_name, of_namings, in_namings}
+use Rattle.mp_names.proofs.Naming.{no_offset, an_offset, TwoUpTo, two_found, found_two, has_name, of_namings, in_namings}
 
 -- whether a name is misused, in a program's words
 misused : (p : Program) (t : NameTable) (w : Misuse) (x : List ℕ) → IsNameTable p t → is_misuse w (known t x) ≡ is_misuse w (named_of p x)
@@ -51,7 +52,7 @@ earliest_unset p t holds = like (λ at. Found p.forms (λ (y : Form). TargetMisu
     (λ at (f, y, there, (x, v, is, bad)).
     let (d, z, found, passes) = any_found (λ (d : Def). is_same d.name x && is_unset d.what) p.defs (sym (misused p t OfUnset x holds) ∙ bad) in
     let parts = both (is_same z.name x) (is_unset z.what) passes in
-    (f, y, x, v, d, z, there, is, found, same_true z.name x parts.0, parts.1))
+    (f, y, x, v, d, z, there, is, found, same_is z.name x parts.0, parts.1))
     (λ at (f, y, x, v, d, z, there, is, found, same, unset). (
       f,
       y,
@@ -61,7 +62,7 @@ earliest_unset p t holds = like (λ at. Found p.forms (λ (y : Form). TargetMisu
         v,
         is,
         misused p t OfUnset x holds
-            ∙ found_any (λ (d : Def). is_same d.name x && is_unset d.what) p.defs (d, z, found, and_true (is_same z.name x) (is_unset z.what) (true_same z.name x same) unset),
+            ∙ found_any (λ (d : Def). is_same d.name x && is_unset d.what) p.defs (d, z, found, and_true (is_same z.name x) (is_unset z.what) (is_same_of z.name x same) unset),
       ),
     ))
     (earliest (λ (y : Form). target_misuse t OfUnset y.kind) p.forms)
@@ -162,12 +163,12 @@ UsesProcess p at = (k : ℕ) × (q : Process) × IsAt p.processes k q × Uses p 
 earliest_process : (p : Program) (t : NameTable) → IsNameTable p t → IsEarliest (UsesProcess p) (earliest_misuse t OfProcess p)
 earliest_process p t holds = like (Misuses p t OfProcess) (UsesProcess p)
     (λ at (x, uses, bad). let (k, q, there, same) = any_found (λ (q : Process). is_same q.name x) p.processes (sym (misused p t OfProcess x holds) ∙ bad) in
-    (k, q, there, subst (λ y. Uses p y at) (sym (same_true q.name x same)) uses))
+    (k, q, there, subst (λ y. Uses p y at) (sym (same_is q.name x same)) uses))
     (λ at (k, q, there, uses). (
       q.name,
       uses,
       misused p t OfProcess q.name holds
-          ∙ found_any (λ (r : Process). is_same r.name q.name) p.processes (k, q, there, true_same q.name q.name refl),
+          ∙ found_any (λ (r : Process). is_same r.name q.name) p.processes (k, q, there, is_same_of q.name q.name refl),
     ))
     (earliest_misuse t OfProcess p) (misuses p t OfProcess)
 

@@ -9,6 +9,7 @@ use Rattle.mp_program.specs.declared.program.Program.{Program}
 use Rattle.mp_program.specs.Names.{is_driven, index_of}
 use Rattle.mp_program.specs.Sound.{IsSound}
 use Rattle.mp_program.specs.Reads.{Reads, Chain, link, more, form_reads, roots}
+use Rattle.mp_program.proofs.Definitions.{same_is}
 use Rattle.mp_names.specs.declared.meaning.Meanings.{Meanings}
 use Rattle.mp_names.specs.Meaning.{AreMeanings}
 use Rattle.mp_rules.specs.Entries.{IsAt}
@@ -19,7 +20,7 @@ use Rattle.mp_order.specs.Demands.{IsDriven, OwnNames, root}
 use Rattle.mp_order.specs.Chains.{SetsFlagged, FlaggedSet}
 use Rattle.mp_order.proofs.Tables.{one_entry}
 use Rattle.mp_order.proofs.Mentions.{any_of}
-use Rattle.mp_order.proofs.Names.{same_names, meant}
+use Rattle.mp_order.proofs.Names.{meant}
 use Rattle.mp_order.proofs.Marks.{element, marked_inside}
 use Rattle.mp_order.proofs.Reading.{SetsLaw, ReadsLaw, read_down}
 
@@ -48,7 +49,7 @@ reader_set p m s sl rl means own a b (x, y, al, bl, xa, yb, dx, dy, any) =
     let lt : r < length p.forms = marked_inside p s [] r 1 (root rooted) in
     let z = element p.forms r lt in
     let (g, w, t, at, v, k, wg, kind, same, marked, why) = read_down p s sl rl [] x.name y.name 0 (λ e el mention. omega arith) (length p.forms) r 1 z.0 (omega arith) (lt, z.1) (root rooted) reads in
-    (g, w, t, at, v, wg, kind, means.targets g w t at v wg kind ∙ ap (index_of p.defs) (same_names t x.name same) ∙ own a x ((al, xa), dx))
+    (g, w, t, at, v, wg, kind, means.targets g w t at v wg kind ∙ ap (index_of p.defs) (same_is t x.name same) ∙ own a x ((al, xa), dx))
 
 pub start_set : (p : Program) (m : Meanings) → IsSound p → SetsLaw p → ReadsLaw p → AreMeanings p m → OwnNames p → (a b : ℕ) → Chain p a b → IsSetBy p m a
 start_set p m s sl rl means own a b (link reads) = reader_set p m s sl rl means own a b reads

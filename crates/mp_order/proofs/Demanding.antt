@@ -12,13 +12,14 @@ use Rattle.mp_program.specs.declared.program.Program.{Program}
 use Rattle.mp_program.specs.Names.{is_same, index_of}
 use Rattle.mp_program.specs.Reads.{mentions, sets, kind_sets, form_reads, kind_reads, roots, Reads}
 use Rattle.mp_program.specs.Sound.{IsSound, InnerFit}
+use Rattle.mp_program.proofs.Definitions.{is_same_of, same_is}
 use Rattle.mp_names.specs.declared.meaning.Meanings.{Meanings}
 use Rattle.mp_names.specs.Meaning.{AreMeanings}
 use Rattle.mp_rules.specs.Entries.{IsAt}
 use Rattle.mp_order.specs.Tables.{Lifted}
 use Rattle.mp_order.specs.Demands.{IsDriven, OwnNames, AreTops, Marked, root, AreMarks, Asks, AreDemands}
 use Rattle.mp_order.proofs.Mentions.{any_of}
-use Rattle.mp_order.proofs.Names.{same_names, names_same, meant}
+use Rattle.mp_order.proofs.Names.{meant}
 use Rattle.mp_order.proofs.Marks.{element, zero_at, marked_inside, marked_some}
 use Rattle.mp_order.proofs.Reading.{SetsLaw, ReadsLaw, ReadMarked, ReadWeight, read_down, read_up, mark_up, and_both}
 
@@ -40,7 +41,7 @@ are_demands p m weights tops marks zeros demands s sl rl means own t mk none l =
     worth a b x y dx dy (g, z, name, at, v, k, zg, kind, same, marked, why) = by_why why
       where
         target : slice_index m.targets g ≡ a
-        target = means.targets g z name at v zg kind ∙ ap (index_of p.defs) (same_names name x.name same) ∙ own a x dx
+        target = means.targets g z name at v zg kind ∙ ap (index_of p.defs) (same_is name x.name same) ∙ own a x dx
 
         some : 0 < slice_index marks g
         some = omega (arith, marked_some p tops g k marked, mk.bound g k marked)
@@ -79,7 +80,7 @@ are_demands p m weights tops marks zeros demands s sl rl means own t mk none l =
     from_ask a x dx some (f, y, name, at, v, lt, yf, kind, target, live, why) = by_why why
       where
         same : is_same name x.name ≡ true
-        same = names_same name x.name (sym (meant p.defs name a x dx.0 (sym (means.targets f y name at v yf kind) ∙ target)))
+        same = is_same_of name x.name (sym (meant p.defs name a x dx.0 (sym (means.targets f y name at v yf kind) ∙ target)))
 
         marked : Marked p tops f (slice_index marks f)
         marked = elim (mk.met f) [ inl zero ↦ absurd (omega (arith, zero, live)) | inr h ↦ h ]

@@ -14,11 +14,12 @@ use Rattle.mp_program.specs.declared.program.Program.{Program}
 use Rattle.mp_program.specs.Names.{is_same, index_of}
 use Rattle.mp_program.specs.Reads.{mentions, kind_mentions}
 use Rattle.mp_program.specs.Sound.{AllBetween}
+use Rattle.mp_program.proofs.Definitions.{is_same_of, same_is}
 use Rattle.mp_names.specs.declared.meaning.Meanings.{Meanings}
 use Rattle.mp_names.specs.Meaning.{AreMeanings}
 use Rattle.mp_rules.specs.Entries.{IsAt}
 use Rattle.mp_order.specs.Demands.{IsDriven, OwnNames, WeighsDriven, AreTops}
-use Rattle.mp_order.proofs.Names.{same_names, names_same, meant}
+use Rattle.mp_order.proofs.Names.{meant}
 use Rattle.mp_order.proofs.Marks.{all_at, entry}
 
 -- what mentions and sums of tests say
@@ -71,10 +72,10 @@ pub top_named : (p : Program) (m : Meanings) (weights : List ℕ) (e : ℕ) (x :
     → IsAt p.exprs e x → x.kind ≡ Named name → top ≡ slice_index weights (slice_index m.exprs e) → IsTop p weights (λ n. is_same name n) top
 top_named p m weights e x name top means own only at kind is = record {
   bound = λ d y driven same.
-      let h : slice_index m.exprs e ≡ d = here ∙ ap (index_of p.defs) (same_names name y.name same) ∙ own d y driven in
+      let h : slice_index m.exprs e ≡ d = here ∙ ap (index_of p.defs) (same_is name y.name same) ∙ own d y driven in
       omega (arith, is ∙ ap (slice_index weights) h);
   met = λ some. let (y, driven) = only (slice_index m.exprs e) (omega (arith, some, is)) in
-      (slice_index m.exprs e, y, driven, names_same name y.name (sym (meant p.defs name (slice_index m.exprs e) y driven.0 (sym here))), sym is);
+      (slice_index m.exprs e, y, driven, is_same_of name y.name (sym (meant p.defs name (slice_index m.exprs e) y driven.0 (sym here))), sym is);
 }
   where
     here : slice_index m.exprs e ≡ index_of p.defs name

@@ -3,13 +3,8 @@ use Rattle.std.proofs.Common.{◌≡◌, ℕ, suc, List, [], ◌∷◌, Bool, tr
 use Rattle.std.proofs.lemmas.Slice.Eq.{bytes_eq-Decides}
 use Rattle.mp_program.specs.declared.program.Def.{Def}
 use Rattle.mp_program.specs.Names.{is_same, index_of}
+use Rattle.mp_program.proofs.Definitions.{same_is}
 use Rattle.mp_rules.specs.Entries.{IsAt}
-
-pub same_names : (x y : List ℕ) → is_same x y ≡ true → x ≡ y
-same_names x y h = (bytes_eq-Decides x y).0 h
-
-pub names_same : (x y : List ℕ) → x ≡ y → is_same x y ≡ true
-names_same x y h = (bytes_eq-Decides x y).1 h
 
 -- the definition that a name means has that name
 pub meant : (ds : List Def) (x : List ℕ) (d : ℕ) (y : Def) → IsAt ds d y → index_of ds x ≡ d → y.name ≡ x
@@ -20,7 +15,7 @@ meant (z ∷ ds) x d y at is = by_name (is_same z.name x) refl is (λ k h. meant
     by_name true same e rest =
         let P : ℕ → Type 0 = λ k. y ≡ get_or (z ∷ ds) k y in
         let h : y ≡ z = subst P (sym e) at.1 in
-        ap (λ (w : Def). w.name) h ∙ same_names z.name x same
+        ap (λ (w : Def). w.name) h ∙ same_is z.name x same
     by_name false other e rest =
         let P : ℕ → Type 0 = λ k. IsAt (z ∷ ds) k y in
         let h : IsAt (z ∷ ds) (suc (index_of ds x)) y = subst P (sym e) at in

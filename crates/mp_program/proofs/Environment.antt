@@ -20,6 +20,7 @@ use Rattle.mp_program.specs.Effects.{effects_of, written}
 use Rattle.mp_program.specs.Environment.{clock_effects, what_value, driven_value, IsEnvironment}
 use Rattle.mp_base.specs.Merge.{merged}
 use Rattle.mp_program.specs.Reads.{form_reads, process_roots, roots, Reads, IsOrder}
+use Rattle.mp_program.proofs.Definitions.{named, what_value-given}
 use Rattle.mp_program.proofs.Walks.{element, or_left, or_right, by_test}
 use Rattle.mp_program.proofs.Values.{Agrees}
 use Rattle.mp_program.proofs.Effects.{written-append, writes_agree}
@@ -92,34 +93,6 @@ clock_agrees p st env env' x sound fits same =
     roots_agree p env env' x sound (active p st) (active_inside p st sound fits) (λ n h. same n (active_any p st (form_reads p x n) fits h))
 
 -- ---- one environment
-
--- a definition that isn't driven has a value that no write changes
-pub what_value-given : (w : What) (a b c c' : ℕ) → is_driven w ≡ false → what_value w a b c ≡ what_value w a b c'
-what_value-given Power a b c c' h = refl
-what_value-given Ground a b c c' h = refl
-what_value-given Phia a b c c' h = refl
-what_value-given Phib a b c c' h = refl
-what_value-given Phic a b c c' h = refl
-what_value-given (Constant n) a b c c' h = refl
-what_value-given Register a b c c' h = refl
-what_value-given Flag a b c c' h = refl
-what_value-given (Port Input) a b c c' h = refl
-what_value-given (Port Output) a b c c' h = absurd (cc)
-what_value-given (Port Internal) a b c c' h = absurd (cc)
-what_value-given (Signal Input) a b c c' h = refl
-what_value-given (Signal Output) a b c c' h = absurd (cc)
-what_value-given (Signal Internal) a b c c' h = absurd (cc)
-
--- the definition that a name has
-pub named : (ds : List Def) (n : List ℕ) (d : Def) → index_of ds n < length ds → d ≡ get_or ds (index_of ds n) d → d.name ≡ n
-named [] n d lt is = absurd (omega (arith, lt))
-named (x ∷ xs) n d lt is =
-    by_test (is_same x.name n)
-    (λ h. ap (λ (z : Def). z.name) (is ∙ ap (λ k. get_or (x ∷ xs) k d) (ap (λ b. cond b 0 (suc (index_of xs n))) h)) ∙ (bytes_eq-Decides x.name n).0 h)
-    (λ h.
-    let at : index_of (x ∷ xs) n ≡ suc (index_of xs n) = ap (λ b. cond b 0 (suc (index_of xs n))) h in
-    let there : suc (index_of xs n) < suc (length xs) = subst (λ k. k < suc (length xs)) at lt in
-    named xs n d (omega (arith, there)) (is ∙ ap (λ k. get_or (x ∷ xs) k d) at))
 
 -- what holds at k where it holds below k, holds everywhere
 up_by : (P : ℕ → Type 0) → ((k : ℕ) → ((j : ℕ) → j < k → P j) → P k) → (m k : ℕ) → k < m → P k

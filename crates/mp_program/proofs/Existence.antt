@@ -16,25 +16,9 @@ use Rattle.mp_program.specs.Trace.{IsTraceFrom}
 use Rattle.mp_program.specs.Reads.{IsOrder}
 use Rattle.mp_program.proofs.Walks.{by_test}
 use Rattle.mp_program.proofs.Soundness.{sound}
-use Rattle.mp_program.proofs.Environment.{driven_agrees, what_value-given}
+use Rattle.mp_program.proofs.Definitions.{what_value-driven, what_value-given}
+use Rattle.mp_program.proofs.Environment.{driven_agrees}
 use Rattle.mp_program.proofs.States.{state_kept}
-
--- a driven definition has what is driven to it
-what_value-driven : (w : What) (a b c : ℕ) → is_driven w ≡ true → what_value w a b c ≡ c
-what_value-driven Power a b c h = absurd (cc)
-what_value-driven Ground a b c h = absurd (cc)
-what_value-driven Phia a b c h = absurd (cc)
-what_value-driven Phib a b c h = absurd (cc)
-what_value-driven Phic a b c h = absurd (cc)
-what_value-driven (Constant n) a b c h = absurd (cc)
-what_value-driven Register a b c h = absurd (cc)
-what_value-driven Flag a b c h = absurd (cc)
-what_value-driven (Port Input) a b c h = absurd (cc)
-what_value-driven (Port Output) a b c h = refl
-what_value-driven (Port Internal) a b c h = refl
-what_value-driven (Signal Input) a b c h = absurd (cc)
-what_value-driven (Signal Output) a b c h = refl
-what_value-driven (Signal Internal) a b c h = refl
 
 -- the value of a definition to which nothing is driven
 abbrev given_value : List Def → (stored inputs : List ℕ) → ℕ → Def → ℕ

@@ -61,6 +61,7 @@ inverter = record {
   always = 0 ∷ [];
   processes = [];
   fits = refl;
+  tree = refl;
 }
 
 inverter_outputs : outputs_from inverter (zero_state inverter) ((0 ∷ []) ∷ (1 ∷ []) ∷ []) ≡ (1 ∷ []) ∷ (0 ∷ []) ∷ []
@@ -85,6 +86,7 @@ two_writers = record {
   processes = record { place = nowhere; name = codes "p"; depth = 0; depth_at = nowhere; labels = []; forms = 1 ∷ [] }
       ∷ record { place = nowhere; name = codes "s"; depth = 0; depth_at = nowhere; labels = []; forms = 2 ∷ [] } ∷ [];
   fits = refl;
+  tree = refl;
 }
 
 two_writers_pads : output_pads two_writers ≡ (codes "q", 4) ∷ []
@@ -116,6 +118,7 @@ nested_calls = record {
     forms = 0 ∷ 3 ∷ 4 ∷ 7 ∷ 10 ∷ [];
   } ∷ [];
   fits = refl;
+  tree = refl;
 }
 
 -- the stack has one place, so the return from f goes to place 0
@@ -138,6 +141,7 @@ guarded = record {
   always = 0 ∷ 1 ∷ [];
   processes = [];
   fits = refl;
+  tree = refl;
 }
 
 -- n is read as it was, and keeps what was written to it

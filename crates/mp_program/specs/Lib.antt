@@ -1,5 +1,6 @@
 pub mod Names
 pub mod Fits
+pub mod Tree
 pub mod Sound
 pub mod Pads
 pub mod Values

@@ -1,5 +1,5 @@
 -- What a program's type says, index by index.
-use Rattle.std.specs.Prelude.{◌≡◌, ℕ, ◌<◌, ◌≤◌, List, length, slice_index_or, true}
+use Rattle.std.specs.Prelude.{◌≡◌, ℕ, ◌<◌, ◌≤◌, List, length, slice_index, slice_index_or, true}
 use Rattle.std.specs.List.{AllByRecursion}
 use Rattle.mp_program.specs.declared.program.ExprKind.{ExprKind}
 use Rattle.mp_program.specs.declared.program.ExprKind.TheVariants.{Apply}
@@ -11,6 +11,8 @@ use Rattle.mp_program.specs.declared.program.Form.{Form}
 use Rattle.mp_program.specs.declared.program.Process.{Process}
 use Rattle.mp_program.specs.declared.program.Program.{Program}
 use Rattle.mp_program.specs.Fits.{takes}
+use Rattle.mp_program.specs.Tree.{expr_places, form_places, height_limit}
+use Rattle.mp_program.specs.Tree.{expr_heights, form_heights}
 
 -- each index is greater than i and below n
 abbrev pub AllBetween : ℕ → ℕ → List ℕ → Type 0
@@ -31,6 +33,17 @@ InnerFit e i n (Set x at value) = value < e
 InnerFit e i n (Cond branches) = BranchesFit e i n branches
 InnerFit e i n (Par forms) = AllBetween i n forms
 InnerFit e i n _ = Unit {0}
+
+-- the numbers in a list differ
+abbrev pub AreApart : List ℕ → Type 0
+AreApart xs = (j k : ℕ) → j < k → k < length xs → slice_index xs j ≡ slice_index xs k → ⊥
+
+-- each expression and each form stands in one place at most, and none is higher than the limit
+pub record IsTree (p : Program) : Type 0 where
+  pub exprs : AreApart (expr_places p.exprs p.forms)
+  pub forms : AreApart (form_places p.forms p.always p.processes)
+  pub expr_heights : (e : ℕ) → slice_index (expr_heights p.exprs) e ≤ height_limit
+  pub form_heights : (f : ℕ) → slice_index (form_heights p.forms) f ≤ height_limit
 
 -- the word length is 1 to 32, indices are in range, and those of arguments and inner forms are greater than that of what they stand in
 pub record IsSound (p : Program) : Type 0 where

@@ -18,6 +18,7 @@ use Rattle.mp_program.specs.declared.program.Process.{Process}
 use Rattle.mp_program.specs.declared.program.Program.{Program}
 use Rattle.mp_base.specs.Table.{table}
 use Rattle.mp_program.specs.Names.{is_same}
+pub use Rattle.mp_program.specs.Tree.{inner}
 
 -- a `setq` of x
 abbrev pub is_set_of : List ℕ → FormKind → Bool
@@ -86,12 +87,6 @@ form_weight (Set x at v) = 0
 form_weight (Cond bs) = 1 + 4 * length bs
 form_weight (Par fs) = 0
 form_weight _ = 2
-
--- the forms directly in a form
-abbrev pub inner : FormKind → List ℕ
-inner (Par fs) = fs
-inner (Cond bs) = flat_map (λ (b : Branch). b.body) bs
-inner _ = []
 
 -- 1 for a `call`
 abbrev pub is_call : FormKind → ℕ

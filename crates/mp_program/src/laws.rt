@@ -4,7 +4,7 @@ ghost use Rattle.std.specs.Prelude.{◌≡◌, ℕ, ◌<◌, List, [], true, fal
 ghost use Rattle.mp_program.specs.declared.program.Expr.{Expr};
 ghost use Rattle.mp_program.specs.declared.program.Form.{Form};
 ghost use Rattle.mp_program.specs.declared.program.Def.{Def};
-ghost use Rattle.mp_program.specs.Sound.{IsSound};
+ghost use Rattle.mp_program.specs.Sound.{IsSound, IsTree};
 ghost use Rattle.mp_program.specs.Names.{is_driven};
 ghost use Rattle.mp_program.specs.Values.{value_of, kind_value};
 ghost use Rattle.mp_program.specs.Effects.{effects_of, kind_effects, written};
@@ -19,6 +19,11 @@ use crate::program::Program;
 /// The indices of a program are in range, and those of what stands in an expression or form are greater.
 pub fn sound(program: &Program)
     ensures { IsSound program.now }
+{}
+
+/// A program is a tree: each expression and form stands in one place at most, and none is nested deep.
+pub fn tree(program: &Program)
+    ensures { IsTree program.now }
 {}
 
 /// The value of an expression is that of its kind on the values of its arguments.

@@ -2,6 +2,7 @@
 
 ghost use Rattle.std.specs.Prelude.{IsTrue};
 ghost use Rattle.mp_program.specs.Fits.{program_fits};
+ghost use Rattle.mp_program.specs.Tree.{is_tree};
 
 use mp_base::{List, Name, Op, Place};
 
@@ -94,6 +95,8 @@ pub struct Process {
     pub forms: List<u32>,
 }
 
+/// A program. By its type its indices are in range, and it is a tree: no expression and no form stands in two places,
+/// and none is nested more than 1024 deep.
 #[derive(Drop)]
 pub struct Program {
     pub place: Place,
@@ -105,4 +108,5 @@ pub struct Program {
     pub always: List<u32>,
     pub processes: List<Process>,
     pub ghost fits: { IsTrue (program_fits width name defs exprs forms always processes) },
+    pub ghost tree: { IsTrue (is_tree exprs forms always processes) },
 }

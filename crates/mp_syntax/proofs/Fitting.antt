@@ -88,30 +88,30 @@ pub record Known (f : Forms) (cs : List (Option Class)) : Type 0 where
   pub classes : AreClasses f cs
 
 -- the items of a node whose shape gives them a class
-record Inner (f : Forms) (n m : ℕ) (d : Class) : Type 0 where
-  later : n < m
-  inside : m < length f.nodes
-  stands : StandsFor f m d
+pub record Inner (f : Forms) (n m : ℕ) (d : Class) : Type 0 where
+  pub later : n < m
+  pub inside : m < length f.nodes
+  pub stands : StandsFor f m d
 
-inner : (f : Forms) (cs : List (Option Class)) → Known f cs → (n j : ℕ) (c d : Class) (l : Layout) → StandsFor f n c → n < length f.nodes → layout f c (kind_at f n) ≡ Some l
+pub inner : (f : Forms) (cs : List (Option Class)) → Known f cs → (n j : ℕ) (c d : Class) (l : Layout) → StandsFor f n c → n < length f.nodes → layout f c (kind_at f n) ≡ Some l
     → item_class l j ≡ Some d → j < length (items_of (kind_at f n)) → Inner f n (slice_index (items_of (kind_at f n)) j) d
 inner f cs k n j c d l st lt lay is jl =
     let it = k.sound.behind n j (slice_index (items_of (kind_at f n)) j) (lt, jl, refl) in
     record { later = it.0; inside = it.1; stands = child f n j c d l st lt jl lay is }
 
-not_head : (j : ℕ) (d : Class) → 1 ≤ j → cond (j == 0) None (Some d) ≡ Some d
+pub not_head : (j : ℕ) (d : Class) → 1 ≤ j → cond (j == 0) None (Some d) ≡ Some d
 not_head j d h = ap (λ b. cond b None (Some d)) (ne_eqb j 0 (λ e. omega (arith, h, e)))
 
-not_first : (j : ℕ) (c d : Class) → 2 ≤ j → cond (j == 0) None (cond (j == 1) (Some c) (Some d)) ≡ Some d
+pub not_first : (j : ℕ) (c d : Class) → 2 ≤ j → cond (j == 0) None (cond (j == 1) (Some c) (Some d)) ≡ Some d
 not_first j c d h = ap (λ b. cond b None (cond (j == 1) (Some c) (Some d))) (ne_eqb j 0 (λ e. omega (arith, h, e))) ∙ ap (λ b. cond b (Some c) (Some d)) (ne_eqb j 1 (λ e. omega (arith, h, e)))
 
-not_number : (j : ℕ) (d : Class) → 3 ≤ j → behind_number j d ≡ Some d
+pub not_number : (j : ℕ) (d : Class) → 3 ≤ j → behind_number j d ≡ Some d
 not_number j d h =
     ap (λ b. cond b None (cond (j == 1) (Some classes.Word) (cond (j == 2) (Some classes.Numeral) (Some d)))) (ne_eqb j 0 (λ e. omega (arith, h, e)))
     ∙ ap (λ b. cond b (Some classes.Word) (cond (j == 2) (Some classes.Numeral) (Some d))) (ne_eqb j 1 (λ e. omega (arith, h, e)))
     ∙ ap (λ b. cond b (Some classes.Numeral) (Some d)) (ne_eqb j 2 (λ e. omega (arith, h, e)))
 
-counts : (f : Forms) (n : ℕ) (c : Class) (l : Layout) → layout f c (kind_at f n) ≡ Some l → Counts (length (items_of (kind_at f n))) (Some l)
+pub counts : (f : Forms) (n : ℕ) (c : Class) (l : Layout) → layout f c (kind_at f n) ≡ Some l → Counts (length (items_of (kind_at f n))) (Some l)
 counts f n c l lay = let P : Option Layout → Type 0 = λ o. Counts (length (items_of (kind_at f n))) o in subst P lay (layout_counts f c (kind_at f n)).count
 
 -- the operands of an expression stand behind it
@@ -171,7 +171,7 @@ bodies_fit f cs k n m from c l is le st lt lay are =
     let it = inner f cs k m j c classes.Action l st lt lay (are j jf) jl in
     behind_it (is_form f cs) (length f.nodes) n (slice_index (items_of (kind_at f m)) j) (omega (arith, le, it.later)) it.inside is (passes_form f cs k.classes (slice_index (items_of (kind_at f m)) j) it.stands))
 
-guarded : (f : Forms) (x : Kind) → (layout f classes.Branch x ≡ None → ⊥) → layout f classes.Branch x ≡ Some layouts.Guarded
+pub guarded : (f : Forms) (x : Kind) → (layout f classes.Branch x ≡ None → ⊥) → layout f classes.Branch x ≡ Some layouts.Guarded
 guarded f (Number v) h = absurd (h refl)
 guarded f (Symbol x) h = absurd (h refl)
 guarded f (Group []) h = absurd (h refl)

@@ -15,6 +15,7 @@ use Rattle.mp_program.specs.declared.program.Form.{Form}
 use Rattle.mp_program.specs.declared.program.Process.{Process}
 use Rattle.mp_program.specs.declared.program.Program.{Program}
 use Rattle.mp_program.specs.Fits as fits
+use Rattle.mp_program.specs.Tree.{is_tree}
 use Rattle.mp_syntax.specs.Shape.{always_at, def_at, expr_at, expr_index, form_at, form_index, is_expr, is_form, name_at, nodes_below, number_at, process_at, E11, IsShape}
 use Rattle.mp_syntax.proofs.Widths.{form_kept, width_kept}
 
@@ -31,10 +32,10 @@ abbrev Parts : Type 0
 Parts = Place × List ℕ × ℕ × List Def × List Expr × List Form × List ℕ × List Process
 
 abbrev Fit : Parts → Type 0
-Fit t = fits.program_fits t.2 t.1 t.3 t.4 t.5 t.6 t.7 ≡ true
+Fit t = (fits.program_fits t.2 t.1 t.3 t.4 t.5 t.6 t.7 ≡ true) × (is_tree t.4 t.5 t.6 t.7 ≡ true)
 
 abbrev made : (t : Parts) → Fit t → Program
-made t h = record { place = t.0; name = t.1; width = t.2; defs = t.3; exprs = t.4; forms = t.5; always = t.6; processes = t.7; fits = h }
+made t h = record { place = t.0; name = t.1; width = t.2; defs = t.3; exprs = t.4; forms = t.5; always = t.6; processes = t.7; fits = h.0; tree = h.1 }
 
 abbrev parts : Program → Parts
 parts p = (p.place, p.name, p.width, p.defs, p.exprs, p.forms, p.always, p.processes)
@@ -45,7 +46,14 @@ one_proof b = hlevel (Bool-set)
 same_made : (s t : Parts) → s ≡ t → (h : Fit s) (g : Fit t) → made s h ≡ made t g
 same_made s t e =
     let P : Parts → Type 0 = λ x. (h : Fit s) (g : Fit x) → made s h ≡ made x g in
-    subst P e (λ h g. ap (made s) (one_proof (fits.program_fits s.2 s.1 s.3 s.4 s.5 s.6 s.7) h g))
+    subst P e one_made
+  where
+    one_made : (h g : Fit s) → made s h ≡ made s g
+    one_made h g =
+        let first : Fit s → (fits.program_fits s.2 s.1 s.3 s.4 s.5 s.6 s.7 ≡ true) → Fit s = λ x y. (y, x.1) in
+        let second : Fit s → (is_tree s.4 s.5 s.6 s.7 ≡ true) → Fit s = λ x y. (x.0, y) in
+        ap (λ y. made s (first h y)) (one_proof (fits.program_fits s.2 s.1 s.3 s.4 s.5 s.6 s.7) h.0 g.0)
+        ∙ ap (λ y. made s (second g y)) (one_proof (is_tree s.4 s.5 s.6 s.7) h.1 g.1)
 
 same_parts : (s t : Parts) → s.0 ≡ t.0 → s.1 ≡ t.1 → s.2 ≡ t.2 → s.3 ≡ t.3 → s.4 ≡ t.4 → s.5 ≡ t.5 → s.6 ≡ t.6 → s.7 ≡ t.7 → s ≡ t
 same_parts s t e0 e1 e2 e3 e4 e5 e6 e7 =
@@ -80,7 +88,7 @@ one_program f p q s t =
     let root : s.root ≡ t.root = ap (λ xs. slice_index xs 0) (sym s.one ∙ t.one) in
     let classes : s.classes ≡ t.classes = same_classes f s.classes t.classes s.known t.known in
     let e : parts p ≡ parts q = parts_are f p s ∙ ap (λ r. spelled f r s.classes) root ∙ ap (spelled f t.root) classes ∙ sym (parts_are f q t) in
-    same_made (parts p) (parts q) e p.fits q.fits
+    same_made (parts p) (parts q) e (p.fits, p.tree) (q.fits, q.tree)
 
 -- the word length of a program
 fronts : (a b c d e g h i : Bool) → (a && b && c && d && e && g && h && i) ≡ true → (a ≡ true) × (b ≡ true)

@@ -16,25 +16,10 @@ use Rattle.mp_program.specs.declared.program.Program.{Program}
 use Rattle.mp_program.specs.Names.{is_same, index_of, is_supply}
 use Rattle.mp_program.specs.Weight.{is_set_of, sets_of, def_weight}
 use Rattle.mp_rules.specs.Entries.{IsAt}
+use Rattle.mp_program.proofs.Definitions.{is_same_of, named as index_named, same_is}
 use Rattle.mp_weight.proofs.Capping.{take_whole, zeros}
 use Rattle.mp_rules.specs.Naming.{OwnNames}
 use Rattle.mp_weight.specs.Weighing.{AreSetCounts, counted}
-
-pub same_name : (x y : List ℕ) → is_same x y ≡ true → x ≡ y
-same_name x y h = (bytes_eq-Decides x y).0 h
-
-pub name_same : (x y : List ℕ) → x ≡ y → is_same x y ≡ true
-name_same x y h = (bytes_eq-Decides x y).1 h
-
--- the definition at the index of a name has that name
-index_named : (defs : List Def) (x : List ℕ) (d : Def) → index_of defs x < length defs → d ≡ get_or defs (index_of defs x) d → d.name ≡ x
-index_named [] x d lt is = absurd (omega (arith, lt))
-index_named (y ∷ ys) x d lt is = by_test (λ l i. index_named ys x d l i) (is_same y.name x) refl lt is
-  where
-    by_test : (index_of ys x < length ys → d ≡ get_or ys (index_of ys x) d → d.name ≡ x) → (b : Bool) → is_same y.name x ≡ b
-        → cond b 0 (suc (index_of ys x)) < length (y ∷ ys) → d ≡ get_or (y ∷ ys) (cond b 0 (suc (index_of ys x))) d → d.name ≡ x
-    by_test rest true e lt is = ap (λ (z : Def). z.name) is ∙ same_name y.name x e
-    by_test rest false e lt is = rest (omega (arith, lt)) is
 
 pub none_counted : (p : Program) (counts : List ℕ) → counts ≡ replicate (length p.defs) 0 → AreSetCounts p 0 counts
 none_counted p counts e = record {
@@ -80,7 +65,7 @@ set_counted p n t y x at v counts own h (lt, is) kind target = record {
         → slice_index (slice_set counts t (slice_index counts t + 1)) d ≡ count_by (λ (f : Form). is_set_of z.name f.kind) (take (n + 1) p.forms)
     counts_each d z at_d named = elim (cases_Bool (is_same x z.name)) [
       | inl same ↦
-          let here : t ≡ d = target ∙ ap (index_of p.defs) (same_name x z.name same) ∙ own d z at_d named in
+          let here : t ≡ d = target ∙ ap (index_of p.defs) (same_is x z.name same) ∙ own d z at_d named in
           let dl : d < length counts = omega (arith, at_d.0, h.size) in
           ap (λ i. slice_index (slice_set counts i (slice_index counts i + 1)) d) here ∙ get_or-set_same counts d (slice_index counts d + 1) 0 dl
           ∙ ap (λ k. k + 1) (h.each d z at_d named) ∙ sym (count_by_more_yes (λ (f : Form). is_set_of z.name f.kind) p.forms n y lt (test z ∙ same))
@@ -93,7 +78,7 @@ set_counted p n t y x at v counts own h (lt, is) kind target = record {
         apart d z (dl, is_z) other e =
             let P : ℕ → Type 0 = λ i. (i < length p.defs) × (z ≡ get_or p.defs i z) in
             let there : P (index_of p.defs x) = subst P e (dl, is_z) in
-            true≢false (sym (name_same x z.name (sym (index_named p.defs x z there.0 there.1))) ∙ other)
+            true≢false (sym (is_same_of x z.name (sym (index_named p.defs x z there.0 there.1))) ∙ other)
 
 pub form_counted : (p : Program) (n t : ℕ) (y : Form) (counts : List ℕ) → OwnNames p → AreSetCounts p n counts → IsAt p.forms n y
     → ((x : List ℕ) (at : Place) (v : ℕ) → y.kind ≡ Set x at v → t ≡ index_of p.defs x) → AreSetCounts p (n + 1) (counted y.kind t counts)

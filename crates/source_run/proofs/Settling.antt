@@ -12,6 +12,7 @@ use Rattle.mp_program.specs.Names.{is_driven, pad_number}
 use Rattle.mp_program.specs.Reads.{Reads, IsOrder}
 use Rattle.mp_program.specs.State.{State}
 use Rattle.mp_program.specs.Environment.{what_value, driven_value, IsEnvironment}
+use Rattle.mp_program.proofs.Definitions.{what_value-driven, what_value-given}
 use Rattle.source_run.specs.Settled.{IsGiven, KeepsGiven, SettledUpTo}
 use Rattle.source_run.proofs.Entries.{by_test, same_element}
 
@@ -27,40 +28,6 @@ given_more defs stored inputs env i x v fits inside is value given d y lt within
           ∙ ap (λ k. what_value x.what (slice_index stored k) (slice_index inputs (pad_number defs k)) 0) e
           ∙ ap (λ (z : Def). what_value z.what (slice_index stored d) (slice_index inputs (pad_number defs d)) 0) (sym same)
     ]
-
--- a definition that isn't driven has a value that nothing driven changes
-what_value-given : (w : What) (a b c c' : ℕ) → is_driven w ≡ false → what_value w a b c ≡ what_value w a b c'
-what_value-given Power a b c c' h = refl
-what_value-given Ground a b c c' h = refl
-what_value-given Phia a b c c' h = refl
-what_value-given Phib a b c c' h = refl
-what_value-given Phic a b c c' h = refl
-what_value-given (Constant n) a b c c' h = refl
-what_value-given Register a b c c' h = refl
-what_value-given Flag a b c c' h = refl
-what_value-given (Port Input) a b c c' h = refl
-what_value-given (Port Output) a b c c' h = absurd (cc)
-what_value-given (Port Internal) a b c c' h = absurd (cc)
-what_value-given (Signal Input) a b c c' h = refl
-what_value-given (Signal Output) a b c c' h = absurd (cc)
-what_value-given (Signal Internal) a b c c' h = absurd (cc)
-
--- a driven definition has what is driven to it
-what_value-driven : (w : What) (a b c : ℕ) → is_driven w ≡ true → what_value w a b c ≡ c
-what_value-driven Power a b c h = absurd (cc)
-what_value-driven Ground a b c h = absurd (cc)
-what_value-driven Phia a b c h = absurd (cc)
-what_value-driven Phib a b c h = absurd (cc)
-what_value-driven Phic a b c h = absurd (cc)
-what_value-driven (Constant n) a b c h = absurd (cc)
-what_value-driven Register a b c h = absurd (cc)
-what_value-driven Flag a b c h = absurd (cc)
-what_value-driven (Port Input) a b c h = absurd (cc)
-what_value-driven (Port Output) a b c h = refl
-what_value-driven (Port Internal) a b c h = refl
-what_value-driven (Signal Input) a b c h = absurd (cc)
-what_value-driven (Signal Output) a b c h = refl
-what_value-driven (Signal Internal) a b c h = refl
 
 -- what is driven depends on what is read and on what is not driven
 abbrev pub Agreement : Program → State → Type 0

@@ -10,32 +10,10 @@ use Rattle.mp_program.specs.declared.program.Program.{Program}
 use Rattle.mp_program.specs.Names.{is_same, index_of}
 use Rattle.mp_program.specs.Effects.{Effect, Writes, Goes, Calls, Returns, effects_of, written}
 use Rattle.mp_program.specs.Reads.{sets}
+use Rattle.mp_program.proofs.Definitions.{named}
 use Rattle.source_run.specs.Written.{written_at}
 use Rattle.source_run.proofs.Entries.{by_test, element}
 use Rattle.source_run.proofs.Gathering.{written_at-append, merged-append}
-
--- the definition that a name has
-named : (ds : List Def) (n : List ℕ) (d : Def) → index_of ds n < length ds → d ≡ get_or ds (index_of ds n) d → d.name ≡ n
-named [] n d lt is = absurd (omega (arith, lt))
-named (x ∷ xs) n d lt is =
-    by_test (is_same x.name n)
-    (λ h. ap (λ (z : Def). z.name) (is ∙ ap (λ k. get_or (x ∷ xs) k d) (ap (λ b. cond b 0 (suc (index_of xs n))) h)) ∙ (bytes_eq-Decides x.name n).0 h)
-    (λ h.
-    let at : index_of (x ∷ xs) n ≡ suc (index_of xs n) = ap (λ b. cond b 0 (suc (index_of xs n))) h in
-    let there : suc (index_of xs n) < suc (length xs) = subst (λ k. k < suc (length xs)) at lt in
-    named xs n d (omega (arith, there)) (is ∙ ap (λ k. get_or (x ∷ xs) k d) at))
-
--- a definition's name has a first definition
-pub first_inside : (ds : List Def) (d : ℕ) (x : Def) → d < length ds → x ≡ get_or ds d x → index_of ds x.name < length ds
-first_inside [] d x lt is = absurd (omega (arith, lt))
-first_inside (y ∷ ys) zero x lt is =
-    let same : is_same y.name x.name ≡ true = (bytes_eq-Decides y.name x.name).1 (ap (λ (z : Def). z.name) (sym is)) in
-    subst (λ b. cond b 0 (suc (index_of ys x.name)) < suc (length ys)) (sym same) (omega arith)
-first_inside (y ∷ ys) (suc d) x lt is = either (is_same y.name x.name) (first_inside ys d x (omega (arith, lt)) is)
-  where
-    either : (b : Bool) → index_of ys x.name < length ys → cond b 0 (suc (index_of ys x.name)) < suc (length ys)
-    either true h = omega arith
-    either false h = omega (arith, h)
 
 -- names are the same where their first definitions are
 same_index : (ds : List Def) (y n : List ℕ) → index_of ds n < length ds → (index_of ds y == index_of ds n) ≡ is_same y n

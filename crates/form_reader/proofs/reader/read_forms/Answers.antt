@@ -1,5 +1,5 @@
 use Rattle.std.proofs.Common.{refl, rules}
-use Rattle.form_reader.proofs.Order.{sound}
+use Rattle.form_reader.proofs.Soundness.{sound}
 use Rattle.form_reader.proofs.Reached.{spells_all}
 use Rattle.form_reader.proofs.Symbols.{has_symbols}
 use Rattle.form_reader.proofs.Unique.{one_value, refused_for_memory}

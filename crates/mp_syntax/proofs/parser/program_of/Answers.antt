@@ -3,6 +3,7 @@ use Rattle.std.specs.List.{filter_map, flat_map}
 use Rattle.form_reader.specs.Sound.{kind_at, items_of}
 use Rattle.mp_syntax.specs.Shape.{number_at, name_at, def_at, always_at, process_at, expr_at, form_at, expr_index, form_index, is_expr, is_form, nodes_below}
 use Rattle.mp_syntax.proofs.Fitting.{Known, fits_at}
+use Rattle.mp_syntax.proofs.Trees.{tree_at}
 use Rattle.mp_syntax.proofs.parser.program_of.Goals as goal
 
 pub invariant_of-result : goal.invariant_of-result
@@ -28,4 +29,6 @@ invariant_of-result c =
     record {
       fits = fits_at f cs known c.args.root [] c.requires.one c.requires.low c.requires.high c.number_at.result c.in_ok-name_at.field-0 c.in_ok-defs_of.field-0 c.in_ok-exprs_of.field-0
           c.in_ok-forms_of.field-0 c.in_ok-always_of.field-0 c.in_ok-processes_of.field-0 width name defs exprs forms always processes;
+      tree = tree_at f cs known c.args.root [] c.requires.one c.in_ok-exprs_of.field-0 c.in_ok-forms_of.field-0 c.in_ok-always_of.field-0
+          c.in_ok-processes_of.field-0 exprs forms always processes;
     }

@@ -8,7 +8,8 @@ use Rattle.mp_program.specs.Reads.{sets}
 use Rattle.source_run.specs.Linked.{setters_of}
 use Rattle.source_run.specs.Written.{written_at}
 use Rattle.source_run.proofs.Entries.{made_at, element}
-use Rattle.source_run.proofs.Targets.{all_filter, first_inside, together}
+use Rattle.mp_program.proofs.Definitions.{first_inside}
+use Rattle.source_run.proofs.Targets.{all_filter, together}
 use Rattle.source_run.proofs.settle.written_to.Goals as goal
 
 pub written_by-always-requires-clause-inside : goal.written_by-always-requires-clause-inside
