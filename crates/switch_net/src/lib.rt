@@ -1,10 +1,10 @@
 //! The network of switches that a mask draws, and what it means that one is settled.
 #![tactic(auto)]
 
-mod law;
+pub mod laws;
 mod network;
 
-pub use law::{
+pub use laws::{
     circuits_run, first_rule_is_determined, network_is_determined, networks_settle,
     nodes_are_given, pieces_tell_nodes,
 };

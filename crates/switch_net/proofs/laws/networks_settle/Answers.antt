@@ -1,7 +1,7 @@
 use Rattle.switch_net.proofs.Rounds.{settled_once}
 use Rattle.switch_net.proofs.Exists.{settled_exists}
 use Rattle.switch_net.proofs.Again.{settles_again}
-use Rattle.switch_net.proofs.law.networks_settle.Goals as goal
+use Rattle.switch_net.proofs.laws.networks_settle.Goals as goal
 
 pub returns-clause-exist : goal.returns-clause-exist
 returns-clause-exist c = settled_exists

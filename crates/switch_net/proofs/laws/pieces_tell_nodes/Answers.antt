@@ -1,5 +1,5 @@
 use Rattle.switch_net.proofs.Pieces.{conductors_follow, channels_follow}
-use Rattle.switch_net.proofs.law.pieces_tell_nodes.Goals as goal
+use Rattle.switch_net.proofs.laws.pieces_tell_nodes.Goals as goal
 
 pub returns-clause-conductors : goal.returns-clause-conductors
 returns-clause-conductors c = conductors_follow c.rectangles_are_joined.ensures

@@ -1,7 +1,7 @@
 use Rattle.std.proofs.Common.{inl, inr}
 use Rattle.switch_net.proofs.Rounds.{gives_kept, gives_once}
 use Rattle.switch_net.proofs.Marks.{same_trit, gives_by_reach}
-use Rattle.switch_net.proofs.law.nodes_are_given.Goals as goal
+use Rattle.switch_net.proofs.laws.nodes_are_given.Goals as goal
 
 pub returns-clause-grow : goal.returns-clause-grow
 returns-clause-grow c = gives_kept

@@ -1,4 +1,4 @@
-//! Laws of networks, for the proofs of crates above.
+//! Laws of networks, for the proofs of crates above. A call of one does nothing.
 
 ghost use Rattle.switch_net.specs.Cutting.{ChannelsFollowPieces, ConductorsFollowPieces};
 ghost use Rattle.switch_net.specs.Laws.{GivesAlongReach, GivesGrow, GivesOnce, OneFirstOfCircuit, OneFirstOfMask, OneNetwork, OneNumbering, SettledExists, SettledOnce, SettlesAgain, TraceExists, TraceOnce};
