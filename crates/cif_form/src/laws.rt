@@ -1,4 +1,4 @@
-//! Laws of CIF's text and of what it draws, for the proofs of crates above.
+//! Laws of CIF's text and of what it draws, for the proofs of crates above. A call of one does nothing.
 
 ghost use Rattle.std.specs.Prelude.{◌≡◌, ℕ, List, [], ◌∷◌, ◌++◌, All, None, Some, map, false};
 ghost use Rattle.lam_geom.specs.declared.rect.Rect.{Rect};
@@ -13,12 +13,19 @@ ghost use Rattle.cif_form.specs.Expansion.{Expands};
 ghost use Rattle.cif_form.specs.Walk.{WalkEnd, FileWalks};
 ghost use Rattle.cif_form.specs.Walk.WalkEnd.{Whole};
 ghost use Rattle.cif_form.specs.Writing.{written, placed_items};
+ghost use Rattle.cif_form.specs.Counts.{WalkIsCounted, CountKeepsLimit};
 
 /// The law of writing: what is written of commands that fit is read as the same commands, each at the offset where it
 /// was written, whatever blanks follow each semicolon and the end.
 pub fn written_is_read()
     ensures { (semi last : List ℕ) → (Byte 59 ▹ Blanks) semi → Blanks last → (cs : List Command) → All Fits cs
         → (offset : ℕ) → Reads offset (written semi last cs) (placed_items semi offset cs) }
+{}
+
+/// The law of whole files: what is written of commands that fit, each where it may stand, breaks no rule of texts.
+pub fn written_is_whole()
+    ensures { (semi last : List ℕ) → (Byte 59 ▹ Blanks) semi → Blanks last → (cs : List Command) → All Fits cs → Nests false cs
+        → FileScans (written semi last cs) (placed_items semi 0 cs) TextEnd.Whole }
 {}
 
 /// A text has at most one reading as commands with their offsets.
@@ -73,4 +80,11 @@ pub fn scanned_commands_fit()
 /// A file that breaks no rule of texts reads as its commands.
 pub fn scan_is_reading()
     ensures { (text : List ℕ) (items : List Item) → FileScans text items TextEnd.Whole → Reads 0 text items }
+{}
+
+/// A walk that breaks no rule counts what its commands count, which is within the limit; and commands that count no
+/// more than the limit don't break F7.
+pub fn walk_is_counted()
+    ensures whole { WalkIsCounted }
+    ensures limit { CountKeepsLimit }
 {}
