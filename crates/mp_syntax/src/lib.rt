@@ -12,5 +12,5 @@ mod ranks;
 #[cfg(test)]
 mod tests;
 
-pub use laws::{one_program, shaped_is_unbroken};
+pub use laws::{forms_verdict, one_program, shaped_is_unbroken};
 pub use parser::parse;
