@@ -2,7 +2,7 @@
 
 use crate::transcript;
 use mp_base::NoMemory;
-use mp_checker::Checked;
+use mp_checker::{Checked, weight};
 use mp_source::check_source;
 use std::alloc::Global;
 use std::test::Fail;
@@ -64,7 +64,7 @@ fn weights(rt: HostRuntime) -> Result<(), Fail> {
     let alloc = rt.alloc();
     let source = heavy(alloc, 338, b"")?;
     assert_eq!(rt;
-        checked(alloc, &source).map(|found| found.weight()),
+        checked(alloc, &source).map(|found| weight(&found)),
         Some(1024)
     );
     let source = heavy(alloc, 337, b"(setq y t)")?;

@@ -1,6 +1,6 @@
 //! Programs that keep the rules, with their pads and an order of evaluation.
 
-ghost use Rattle.std.specs.Prelude.{◌≡◌, IfOk, IfErr};
+ghost use Rattle.std.specs.Prelude.{◌≡◌, ◌≤◌, IfOk, IfErr};
 ghost use Rattle.std.specs.List.{list_any};
 ghost use Rattle.mp_program.specs.declared.program.Def.{Def};
 ghost use Rattle.mp_program.specs.Names.{is_stored};
@@ -15,7 +15,6 @@ use crate::groups::{
     judge_counts, judge_forms, judge_names, judge_numbers, judge_order, judge_presence,
     judge_weight,
 };
-use crate::kinds::is_stored;
 use crate::pads::pads_of;
 use mp_base::{List, Pads, Refusal};
 use mp_names::{NameTable, meanings_of};
@@ -80,18 +79,27 @@ impl Checked {
         let _ = &self.program;
     }
 
-    /// What the program weighs.
-    pub fn weight(&self) -> u32
-        ensures { result ≡ weight self.now.program }
+    // What the program weighs, which breaks no rule.
+    fn weighed(&self) -> u32
+        ensures weight { result ≡ weight self.now.program }
+        ensures unbroken { IsUnbroken self.now.program }
     {
         self.total_weight
     }
 }
 
+/// What a program weighs: at most 1024.
+pub fn weight(checked: &Checked) -> u32
+    ensures weight { result ≡ weight checked.now.program }
+    ensures light { result ≤ 1024 }
+{
+    checked.weighed()
+}
+
 fn any_stored(defs: &[Def]) -> bool
     ensures { result ≡ list_any (λ (x : Def). is_stored x.what) defs.now }
 {
-    defs.iter().any(|def| is_stored(def.what))
+    defs.iter().any(|def| def.what.is_stored())
 }
 
 fn stores(program: &Program) -> bool

@@ -8,7 +8,6 @@ ghost use Rattle.mp_rules.specs.Breaking.{IsEarliest};
 ghost use Rattle.mp_rules.specs.Rules.{E40};
 ghost use Rattle.mp_checker.specs.Finding.{named_from};
 
-use crate::kinds::is_supply;
 use mp_base::Place;
 use mp_program::Program;
 use mp_rules::earlier;
@@ -23,7 +22,7 @@ fn offsets(alloc: Global, program: &Program) -> Result<Vec<u64>, AllocError>
         .defs
         .as_slice()
         .iter()
-        .filter(|def| !is_supply(def.what))
+        .filter(|def| !def.what.is_supply())
         .map(|def| def.place.offset);
     let processes = program
         .processes
@@ -41,7 +40,9 @@ fn named_from(program: &Program, offset: u64) -> Option<Place>
         .defs
         .as_slice()
         .iter()
-        .filter_map(|def| (!is_supply(def.what) && offset <= def.place.offset).then_some(def.place))
+        .filter_map(|def| (!def.what.is_supply() && offset <= def.place.offset).then_some(
+            def.place,
+        ))
         .fold(None, |found, at| earlier(found, at));
     program
         .processes

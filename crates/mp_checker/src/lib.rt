@@ -5,7 +5,6 @@ mod checked;
 mod crowds;
 mod groups;
 mod judge;
-mod kinds;
 mod limits;
 mod numbers;
 mod pads;
@@ -14,4 +13,4 @@ mod presence;
 #[cfg(test)]
 mod tests;
 
-pub use checked::{Checked, check};
+pub use checked::{Checked, check, weight};

@@ -6,7 +6,6 @@ ghost use Rattle.mp_program.specs.Pads.{ArePadsOf, face, pad_width};
 ghost use Rattle.mp_rules.specs.Naming.{OwnNames};
 ghost use Rattle.mp_rules.specs.Rules.{E20};
 
-use crate::kinds::{is_input, is_output};
 use mp_base::{List, Name, Pad, Pads};
 use mp_program::{Def, Program, What};
 use std::alloc::{AllocError, Global};
@@ -40,10 +39,10 @@ pub fn pads_of(alloc: Global, program: &Program) -> Result<Pads, AllocError>
     let mut outputs = List::new(alloc);
     let defs = program.defs.as_slice();
     for def in defs {
-        if is_input(def.what) {
+        if def.what.is_input() {
             inputs.push(pad_of(alloc, program.width, def)?)?;
         }
-        if is_output(def.what) {
+        if def.what.is_output() {
             outputs.push(pad_of(alloc, program.width, def)?)?;
         }
     }

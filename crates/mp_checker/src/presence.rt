@@ -8,7 +8,6 @@ ghost use Rattle.mp_rules.specs.Naming.{supplies};
 ghost use Rattle.mp_rules.specs.Rules.{E34, E35, E36};
 ghost use Rattle.mp_checker.specs.Finding.{defines, is_same_supply, stored_in};
 
-use crate::kinds::{is_reset, is_stored};
 use mp_base::Place;
 use mp_program::{Def, Program, What};
 use mp_rules::earlier;
@@ -16,7 +15,7 @@ use mp_rules::earlier;
 fn has_reset(defs: &[Def]) -> bool
     ensures { result ≡ list_any is_reset defs.now }
 {
-    defs.iter().any(is_reset)
+    defs.iter().any(Def::is_reset)
 }
 
 /// The earliest of registers, flags and processes.
@@ -27,7 +26,7 @@ fn stored(program: &Program) -> Option<Place>
         .defs
         .as_slice()
         .iter()
-        .filter_map(|def| is_stored(def.what).then_some(def.place))
+        .filter_map(|def| def.what.is_stored().then_some(def.place))
         .fold(None, |found, at| earlier(found, at));
     program
         .processes

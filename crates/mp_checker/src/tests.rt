@@ -3,7 +3,7 @@
 ghost use Rattle.std.specs.Prelude.{◌≡◌, [], true, IfOk};
 ghost use Rattle.mp_program.specs.Names.{is_supply};
 
-use crate::check;
+use crate::{check, weight};
 use mp_base::{List, Name, Place, Refusal, Spot};
 use mp_program::{Def, Pin, Program, What};
 use std::alloc::{AllocError, Global};
@@ -62,7 +62,7 @@ fn supplies(alloc: Global, first: What) -> Result<Program, AllocError>
 fn supplies_alone(rt: HostRuntime) -> Result<(), Fail> {
     match check(rt.alloc(), supplies(rt.alloc(), What::Power)?) {
         Ok(checked) => {
-            assert_eq!(rt; checked.weight(), 0);
+            assert_eq!(rt; weight(&checked), 0);
             assert_eq!(rt; checked.order().len(), 0);
             assert!(rt; !checked.stores());
             Ok(())

@@ -162,6 +162,26 @@ module _ (p : Program) (a : Fitting p) (env : List ℕ) (f : ValuesFit p env) wh
       let P : ℕ → Type 0 = λ v. v < sort_limit p.width (expr_sort p.defs x.kind) in
       subst P (sym (a.values env e x is.0 is.1)) (kind_fit e x is (λ b y lt at. fit_from m b y (omega (arith, le, lt)) at) x.kind refl)
 
+  guard_in : (g n : ℕ) (bs : List Branch) (b : Branch) → BranchesFit (length p.exprs) g n bs → Contains bs b
+      → (b.guard < length p.exprs) × Contains (map (λ (x : Branch). x.guard) bs) b.guard
+  guard_in g n [] b fit (k, lt, same) = absurd (omega (arith, lt))
+  guard_in g n (x ∷ xs) b fit (zero, lt, same) =
+      let inside = subst (λ (y : Branch). y.guard < length p.exprs) same fit.0.0 in
+      (inside, (zero, omega arith, ap (λ (y : Branch). y.guard) same))
+  guard_in g n (x ∷ xs) b fit (suc k, lt, same) =
+      let (inside, (j, below, e)) = guard_in g n xs b fit.1 (k, omega (arith, lt), same) in
+      (inside, (suc j, omega (arith, below), e))
+
+  -- the guard of a branch is a bit
+  pub guard_fit : (g : ℕ) (y : Form) (bs : List Branch) (b : Branch) → IsAt p.forms g y → y.kind ≡ Cond bs
+      → Contains bs b → value_of p env b.guard < 2
+  guard_fit g y bs b is same among =
+      let P : FormKind → Type 0 = InnerFit (length p.exprs) g (length p.forms) in
+      let (inside, guarded) = guard_in g (length p.forms) bs b (subst P same (a.sound.forms g y is.0 is.1)) among in
+      let (x, at) = some_at p.exprs b.guard inside in
+      wanted b.guard x IsBit at (inr (inl (g, y, bs, is, same, guarded, refl)))
+      (fit_from (length p.exprs) b.guard x (omega arith) at)
+
   -- what a form writes, where what those behind it write fits
   form_fit : (g : ℕ) (y : Form) → IsAt p.forms g y → ((j : ℕ) → g < j → j < length p.forms → WritesFit p (effects_of p env j)) → (k : FormKind) → y.kind ≡ k
       → WritesFit p (kind_effects (value_of p env) k (effects_of p env))

@@ -2,13 +2,18 @@
 //! the caller's proof what it ensures.
 #![tactic(auto)]
 
-ghost use Rattle.std.specs.Prelude.{ℕ, List};
+ghost use Rattle.std.specs.Prelude.{◌≡◌, ◌<◌, ℕ, List, Contains};
 ghost use Rattle.mp_base.specs.declared.refusal.Place.{Place};
+ghost use Rattle.mp_program.specs.declared.program.Branch.{Branch};
+ghost use Rattle.mp_program.specs.declared.program.Form.{Form};
+ghost use Rattle.mp_program.specs.declared.program.FormKind.TheVariants.{Cond};
 ghost use Rattle.mp_program.specs.Environment.{IsEnvironment};
 ghost use Rattle.mp_program.specs.Pads.{input_pads, output_pads, FitsPads};
 ghost use Rattle.mp_program.specs.Reads.{IsOrder};
 ghost use Rattle.mp_program.specs.State.{State, IsState, zero_state};
 ghost use Rattle.mp_program.specs.Step.{next_state, outputs_of};
+ghost use Rattle.mp_program.specs.Values.{value_of};
+ghost use Rattle.mp_rules.specs.Entries.{IsAt};
 ghost use Rattle.mp_rules.specs.Rules.{E20, E22, E23, E36};
 ghost use Rattle.mp_fitting.specs.Fitting.{ValuesFit, StateFits};
 
@@ -41,6 +46,21 @@ pub fn environments_fit(program: &Program, order: &[u32])
     effects(program);
     own_names(program);
     driven_by_reads(program);
+}
+
+/// Where all values of the clock fit, the guards of branches are bits.
+pub fn guards_fit(program: &Program)
+    requires names { (at : Place) → E20 program.now at → ⊥ }
+    requires sorts { (at : Place) → E22 program.now at → ⊥ }
+    requires sizes { (at : Place) → E23 program.now at → ⊥ }
+    ensures { (env : List ℕ) (f : ℕ) (form : Form) (branches : List Branch) (branch : Branch)
+        → ValuesFit program.now env → IsAt program.now.forms f form → form.kind ≡ Cond branches
+        → Contains branches branch → value_of program.now env branch.guard < 2 }
+{
+    sound(program);
+    values(program);
+    effects(program);
+    own_names(program);
 }
 
 /// Where all values of the clock fit, so do the outputs.

@@ -1,7 +1,6 @@
 //! What is known of a name.
 
 ghost use Rattle.std.specs.Prelude.{◌≡◌};
-ghost use Rattle.mp_program.specs.Names.{is_supply};
 ghost use Rattle.mp_rules.specs.Rules.{is_unset};
 ghost use Rattle.mp_names.specs.Seconds.{lesser, second_with};
 
@@ -17,16 +16,6 @@ pub struct Named {
     pub second: Option<u64>,
     pub process: bool,
     pub unset: bool,
-}
-
-/// Whether this is power, ground or a phase of the clock.
-pub fn is_supply(what: What) -> bool
-    ensures { result ≡ is_supply what }
-{
-    matches!(
-        what,
-        What::Power | What::Ground | What::Phia | What::Phib | What::Phic
-    )
 }
 
 // Whether this is an input or a constant.
@@ -77,7 +66,7 @@ impl Named {
         ensures { result ≡ with_def self index def.now }
     {
         let at = def.place.offset;
-        let supply = is_supply(def.what);
+        let supply = def.what.is_supply();
         Named {
             first: Some(self.first.unwrap_or(index)),
             least: if supply {

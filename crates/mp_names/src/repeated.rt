@@ -9,7 +9,6 @@ ghost use Rattle.mp_names.specs.Table.{IsNameTable};
 ghost use Rattle.mp_names.specs.Repeats.{is_repeated, repeated_def, repeated_process, Repeats, RepeatsSupply};
 
 use crate::find::earlier_of;
-use crate::named::is_supply;
 use crate::table::NameTable;
 use mp_base::Place;
 use mp_program::{Def, Process, Program, What};
@@ -43,7 +42,7 @@ fn is_repeated(names: &NameTable<'_>, name: &[u8], place: Place) -> bool
 fn repeated_def(names: &NameTable<'_>, def: &Def) -> Option<Place>
     ensures { result ≡ repeated_def names.now def.now }
 {
-    if !is_supply(def.what) && is_repeated(names, def.name.bytes(), def.place) {
+    if !def.what.is_supply() && is_repeated(names, def.name.bytes(), def.place) {
         Some(def.place)
     } else {
         None

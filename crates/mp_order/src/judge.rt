@@ -9,7 +9,6 @@ ghost use Rattle.mp_order.specs.Demands.{OwnNames, WeighsDriven, IsDriven};
 ghost use Rattle.mp_order.specs.Ranks.{IsRanking, IsListing, Climbs};
 
 use crate::demands::demands;
-use crate::driven::is_driven;
 use crate::table::{read, read_wide, zeros};
 use mp_base::List;
 use mp_names::Meanings;
@@ -26,7 +25,7 @@ pub fn keep_driven(
 {
     let mut kept = zeros(alloc, program.defs.len())?;
     for (d, def) in program.defs.as_slice().iter().enumerate() {
-        if is_driven(def.what) {
+        if def.what.is_driven() {
             kept.put(d, read(numbers, d));
         }
     }
@@ -38,7 +37,7 @@ fn falls_at(def: &Def, demand: u64, rank: u32, loose: u32) -> bool
     ensures { result ≡ true → is_driven def.now.what ≡ true → (demand ≤ rank) × (loose ≡ 0 → demand < rank) }
 {
     let rank = u64::from(rank);
-    !is_driven(def.what) || demand < rank || (loose > 0 && demand == rank)
+    !def.what.is_driven() || demand < rank || (loose > 0 && demand == rank)
 }
 
 /// Whether each driven definition demands no more than its rank, and less unless it is loose.
@@ -98,7 +97,7 @@ fn stands_at(order: &[u32], d: usize, rank: u32) -> bool
 fn stands(def: &Def, order: &[u32], d: usize, rank: u32) -> bool
     ensures { result ≡ true → is_driven def.now.what ≡ true → (k : ℕ) × (k < length order.now) × (slice_index order.now k ≡ d) × (rank ≡ k + 1) }
 {
-    !is_driven(def.what) || stands_at(order, d, rank)
+    !def.what.is_driven() || stands_at(order, d, rank)
 }
 
 /// Whether a definition is driven and has a rank.
@@ -108,7 +107,7 @@ fn has_rank(program: &Program, ranks: &[u32], d: u32, rank: usize) -> bool
     if d as usize >= program.defs.len() {
         return false;
     }
-    is_driven(program.defs.at(d).what) && read(ranks, d as usize) as usize == rank
+    program.defs.at(d).what.is_driven() && read(ranks, d as usize) as usize == rank
 }
 
 /// Whether each entry of a list is a driven definition at its rank.

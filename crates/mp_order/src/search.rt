@@ -8,7 +8,6 @@ ghost use Rattle.mp_order.specs.Chains.{Widened, blanks, AreReachers, Placed};
 ghost use Rattle.mp_order.specs.Evaluation.{IsEvaluation};
 
 use crate::demands::demands;
-use crate::driven::is_driven;
 use crate::earliest::earliest;
 use crate::evaluation::Evaluation;
 use crate::table::{read, read_wide, zeros};
@@ -26,7 +25,7 @@ fn widen(program: &Program, demands: &List<u64>, weights: &mut List<u32>) -> boo
 {
     let mut grown = false;
     for (d, def) in program.defs.as_slice().iter().enumerate() {
-        if is_driven(def.what) && read_wide(demands, d) > 0 && read(weights.as_slice(), d) == 0 {
+        if def.what.is_driven() && read_wide(demands, d) > 0 && read(weights.as_slice(), d) == 0 {
             weights.put(d, 1);
             grown = true;
         }
@@ -97,7 +96,7 @@ pub fn search(
     let mut closed = zeros(alloc, program.defs.len())?;
     let mut order = Vec::new(alloc);
     for d in 0..count {
-        if is_driven(program.defs.at(d).what) {
+        if program.defs.at(d).what.is_driven() {
             let reach = reachers(alloc, program, meanings, d)?;
             if read_wide(&reach, d as usize) > 0 {
                 closed.set(d, 1);

@@ -1,6 +1,7 @@
 //! Programs, and what they mean.
 #![tactic(auto)]
 
+mod kinds;
 pub mod laws;
 mod program;
 

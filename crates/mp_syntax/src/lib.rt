@@ -13,4 +13,7 @@ mod ranks;
 mod tests;
 
 pub use laws::{forms_verdict, one_program, shaped_is_unbroken};
+pub use mp_program::{
+    Branch, Def, Expr, ExprKind, Form, FormKind, Label, Pin, Process, Program, Way, What,
+};
 pub use parser::parse;

@@ -1,0 +1,7 @@
+use Rattle.std.proofs.Common.{subst}
+use Rattle.mp_rules.specs.Breaking.{IsUnbroken}
+use Rattle.mp_checker.specs.Checking.{CheckedProgram}
+use Rattle.mp_checker.proofs.checked.Checked.weighed.Goals as goal
+
+pub returns-clause-unbroken : goal.returns-clause-unbroken
+returns-clause-unbroken c = let P : CheckedProgram → Type 0 = λ v. IsUnbroken v.program in subst P c.self.view_is c.self.invariant.unbroken
