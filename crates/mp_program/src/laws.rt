@@ -113,5 +113,6 @@ pub fn exactly_one_environment(program: &Program)
 /// Where there is an order of evaluation, inputs have exactly one trace.
 pub fn exactly_one_trace(program: &Program)
     requires { IsState program.now (zero_state program.now) }
-    ensures { (order : List ℕ) → IsOrder program.now order → (inputs : List (List ℕ)) → ExactlyOne (IsTrace program.now inputs) }
+    ensures { (order : List ℕ) → IsOrder program.now order
+        → (inputs : List (List ℕ)) → ExactlyOne (IsTrace program.now inputs) }
 {}

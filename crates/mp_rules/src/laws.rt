@@ -60,5 +60,6 @@ pub fn no_move(program: &Program)
 
 /// Where a process is next doesn't depend on the order of effects of which at most one moves it.
 pub fn seat_in_any_order()
-    ensures { (q : Process) (s : Seat) (es fs : List Effect) → moves es ≤ 1 → IsPermutation es fs → next_seat q s es ≡ next_seat q s fs }
+    ensures { (q : Process) (s : Seat) (es fs : List Effect) → moves es ≤ 1 → IsPermutation es fs
+        → next_seat q s es ≡ next_seat q s fs }
 {}
