@@ -7,3 +7,4 @@ pub mod Order
 pub mod Unique
 pub mod First
 pub mod Symbols
+pub mod Verdict

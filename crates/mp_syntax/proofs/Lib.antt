@@ -5,3 +5,4 @@ pub mod Counts
 pub mod Fitting
 pub mod Widths
 pub mod Unique
+pub mod Verdict
