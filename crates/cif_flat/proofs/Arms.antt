@@ -17,7 +17,7 @@ use Rattle.cif_form.specs.declared.command.Command.{Command}
 use Rattle.cif_form.specs.declared.command.Command.TheVariants.{Finish, Polygon, Round, Box, Wire, User, Comment, Layer as SetLayer}
 use Rattle.cif_form.specs.declared.command.Item.{Item}
 use Rattle.cif_form.specs.Place.{layer_name, HasEdges, IsOnAxis, IsBox, segments, AreSegments}
-use Rattle.cif_form.specs.Walk.{Frame, Visit, Breaks}
+use Rattle.cif_form.specs.Walk.{Frame, Visit, Breaks, walk_limit}
 use Rattle.cif_form.specs.Labels.{IsLabelText, IsNoLabel}
 use Rattle.lam_geom.specs.declared.label.FlatLabel.{FlatLabel}
 use Rattle.cif_form.specs.Walk.DrawRule.{F3, F4, F7, F8}
@@ -140,14 +140,14 @@ module _ (items : List Item) (w : Walker) (v : Level) (o : ℕ) where
   -- ---- layers
 
   module _ (name : List ℕ) (h : IsVisit items w v (item_at o (SetLayer name))) where
-    pub layer_counted : 4_000_000 ≤ w.count → RefusesWalk items (refusal_of faults.F7 o)
+    pub layer_counted : walk_limit ≤ w.count → RefusesWalk items (refusal_of faults.F7 o)
     layer_counted k = stops items w v (item_at o (SetLayer name)) h faults.F7 (first7 (visit_at items w v (item_at o (SetLayer name)) h) (omega arith) never never never never never never)
 
-    pub layer_unknown : w.count < 4_000_000 → ((l : Layer) → name ≢ layer_name l) → RefusesWalk items (refusal_of faults.F10 o)
+    pub layer_unknown : w.count < walk_limit → ((l : Layer) → name ≢ layer_name l) → RefusesWalk items (refusal_of faults.F10 o)
     layer_unknown k u = stops items w v (item_at o (SetLayer name)) h faults.F10
         (first10 (visit_at items w v (item_at o (SetLayer name)) h) u never never never never never never (λ b. omega (arith, b)) never never)
 
-    pub layer_set : w.count < 4_000_000 → (l : Layer) → name ≡ layer_name l → (new : Walker) → new ≡ record w { count = w.count + 1; levels = new.levels }
+    pub layer_set : w.count < walk_limit → (l : Layer) → name ≡ layer_name l → (new : Walker) → new ≡ record w { count = w.count + 1; levels = new.levels }
         → new.levels.items ≡ w.levels.items ++ (onward v (Some l) ∷ []) → IsAfter items w v new
     layer_set k l e new = arrive_quiet items w v (item_at o (SetLayer name)) h (Some l) new refl (omega arith)
         (none (visit_at items w v (item_at o (SetLayer name)) h) never never never never never never (λ b. omega (arith, b)) never never (λ b. b l e)) (l, e, refl, refl, refl) (λ b e. cc)
@@ -155,10 +155,10 @@ module _ (items : List Item) (w : Walker) (v : Level) (o : ℕ) where
   -- ---- comments
 
   module _ (text : List ℕ) (h : IsVisit items w v (item_at o (Comment text))) where
-    pub comment_counted : 4_000_000 ≤ w.count → RefusesWalk items (refusal_of faults.F7 o)
+    pub comment_counted : walk_limit ≤ w.count → RefusesWalk items (refusal_of faults.F7 o)
     comment_counted k = stops items w v (item_at o (Comment text)) h faults.F7 (first7 (visit_at items w v (item_at o (Comment text)) h) (omega arith) never never never never never never)
 
-    pub comment_passed : w.count < 4_000_000 → (new : Walker) → new ≡ record w { count = w.count + 1; levels = new.levels }
+    pub comment_passed : w.count < walk_limit → (new : Walker) → new ≡ record w { count = w.count + 1; levels = new.levels }
         → new.levels.items ≡ w.levels.items ++ (onward v v.layer ∷ []) → IsAfter items w v new
     comment_passed k new = arrive_quiet items w v (item_at o (Comment text)) h v.layer new refl (omega arith)
         (none (visit_at items w v (item_at o (Comment text)) h) never never never never never never (λ b. omega (arith, b)) never never never) (refl, refl, refl) (λ b e. cc)
@@ -188,10 +188,10 @@ module _ (items : List Item) (w : Walker) (v : Level) (o : ℕ) where
       no_f4 : ¬ Breaks box_visit F4
       no_f4 b = b (rect_of ND e ∷ []) (edges_of_box ND)
 
-      pub box_counted : 4_000_000 ≤ w.count → RefusesWalk items (refusal_of faults.F7 o)
+      pub box_counted : walk_limit ≤ w.count → RefusesWalk items (refusal_of faults.F7 o)
       box_counted k = stops items w v box_item h faults.F7 (first7 box_visit (omega arith) never never no_f3 no_f4 never never)
 
-      module _ (k : w.count < 4_000_000) where
+      module _ (k : w.count < walk_limit) where
         no_f7 : ¬ Breaks box_visit F7
         no_f7 b = omega (arith, b)
 
@@ -238,10 +238,10 @@ module _ (items : List Item) (w : Walker) (v : Level) (o : ℕ) where
         no_uneven : ¬ Breaks wire_visit F4
         no_uneven b = b (map (rect_of ND) es) (are ND)
 
-        pub wire_counted : 4_000_000 < w.count + length (segments path) → RefusesWalk items (refusal_of faults.F7 o)
+        pub wire_counted : walk_limit < w.count + length (segments path) → RefusesWalk items (refusal_of faults.F7 o)
         wire_counted k = stops items w v wire_item h faults.F7 (first7 wire_visit k never never no_askew_segment no_uneven never never)
 
-        module _ (k : w.count + length (segments path) ≤ 4_000_000) where
+        module _ (k : w.count + length (segments path) ≤ walk_limit) where
           in_limit : ¬ Breaks wire_visit F7
           in_limit b = omega (arith, b)
 
@@ -274,15 +274,15 @@ module _ (items : List Item) (w : Walker) (v : Level) (o : ℕ) where
     abbrev user_visit : Visit
     user_visit = visit_at items w v user_item h
 
-    pub user_counted : 4_000_000 ≤ w.count → RefusesWalk items (refusal_of faults.F7 o)
+    pub user_counted : walk_limit ≤ w.count → RefusesWalk items (refusal_of faults.F7 o)
     user_counted k = stops items w v user_item h faults.F7 (first7 user_visit (omega (arith, k)) never never never never never never)
 
-    pub user_passed : w.count < 4_000_000 → (w.levels.items ≡ [] → digit ≡ 9 → IsNoLabel text) → (new : Walker) → new ≡ record w { count = w.count + 1; levels = new.levels }
+    pub user_passed : w.count < walk_limit → (w.levels.items ≡ [] → digit ≡ 9 → IsNoLabel text) → (new : Walker) → new ≡ record w { count = w.count + 1; levels = new.levels }
         → new.levels.items ≡ w.levels.items ++ (onward v v.layer ∷ []) → IsAfter items w v new
     user_passed k n new = arrive_quiet items w v user_item h v.layer new refl (omega arith)
         (none user_visit never never never never never never (λ b. omega (arith, b)) never never never) (inr ((λ e d. n (no_frames items w.levels.items [] e) d), refl), refl, refl) (λ b e. cc)
 
-    pub user_labelled : w.count < 4_000_000 → w.levels.items ≡ [] → digit ≡ 9 → (label : FlatLabel) → IsLabelText label text → label.offset ≡ o
+    pub user_labelled : w.count < walk_limit → w.levels.items ≡ [] → digit ≡ 9 → (label : FlatLabel) → IsLabelText label text → label.offset ≡ o
         → (labels : List FlatLabel) → labels ≡ w.labels ++ (label ∷ []) → (new : Walker)
         → new ≡ record w { labels = labels; count = w.count + 1; levels = new.levels } → new.levels.items ≡ w.levels.items ++ (onward v v.layer ∷ []) → IsAfter items w v new
     user_labelled k top nine label is at labels el new = arrive items w v user_item h v.layer [] (label ∷ []) 1 w.shapes labels new refl (omega arith) (omega arith)

@@ -18,7 +18,7 @@ use Rattle.cif_list.specs.declared.view.CommandView.TheVariants as views
 use Rattle.cif_list.specs.Showing.{command_shown}
 use Rattle.cif_list.specs.Turning.{wide_turn}
 use Rattle.cif_form.specs.Expansion.{Definition, Stands, IsInside, item_at}
-use Rattle.cif_form.specs.Walk.{State, Visit, at_top}
+use Rattle.cif_form.specs.Walk.{State, Visit, at_top, walk_limit}
 use Rattle.cif_flat.specs.declared.fault.Fault.TheVariants as faults
 use Rattle.cif_flat.specs.declared.level.Level.{Level}
 use Rattle.cif_place.specs.declared.ratio.Ratio.{Ratio}
@@ -188,13 +188,13 @@ rest_top : (vs : List Level) (u : Level) → vs ≡ [] → rest (vs ++ (u ∷ []
 rest_top vs u e = ap (λ ws. rest (ws ++ (u ∷ []))) e
 
 module _ (items : List Item) (w : Walker) (v : Level) (item : Item) (h : IsVisit items w v item) (top : w.levels.items ≡ []) (u : Level) (n : ℕ) (symbols : BTreeMap ℕ Symbol) (ds : List Definition)
-    (table : IsTable items ds symbols) (level : IsLevel items (w.count + n) w.opened (length w.levels.items) u) (room : w.count + n ≤ 4_000_000) where
+    (table : IsTable items ds symbols) (level : IsLevel items (w.count + n) w.opened (length w.levels.items) u) (room : w.count + n ≤ walk_limit) where
   abbrev us : List Level
   us = w.levels.items ++ (u ∷ [])
 
   pub came_top : (t : State) → Leads items (w.shapes ++ []) (w.labels ++ []) t → t ≡ record { definitions = ds; count = w.count + n; frames = frame_of items u ∷ [] }
       → (new : Walker) → new ≡ record w { symbols = symbols; count = w.count + n; levels = new.levels } → new.levels.items ≡ us
-      → 2 * (4_000_000 - (w.count + n)) + (u.end - u.next) < 2 * (4_000_000 - w.count) + (v.end - v.next) → IsAfter items w v new
+      → 2 * (walk_limit - (w.count + n)) + (u.end - u.next) < 2 * (walk_limit - w.count) + (v.end - v.next) → IsAfter items w v new
   came_top t leads e new is pushed closer =
       let at : t ≡ state_of items ds (w.count + n) us = e ∙ (λ i. record { definitions = ds; count = w.count + n; frames = sym (one_frame items w.levels.items u top) i }) in
       let mid : Walker = record w { symbols = symbols; count = w.count + n; levels = new.levels } in
@@ -227,10 +227,10 @@ module _ (items : List Item) (w : Walker) (v : Level) (o : ℕ) (n : ℤ) (h : I
   abbrev delete_visit : Visit
   delete_visit = visit_at items w v delete_item h
 
-  pub delete_counted : 4_000_000 ≤ w.count → RefusesWalk items (refusal_of faults.F7 o)
+  pub delete_counted : walk_limit ≤ w.count → RefusesWalk items (refusal_of faults.F7 o)
   delete_counted k = stops items w v delete_item h faults.F7 (first7 delete_visit (omega (arith, k)) never never never never never never)
 
-  pub deleted : w.count < 4_000_000 → (key : ℕ) → pos key ≡ n → (symbols : BTreeMap ℕ Symbol) → ((k : ℕ) → k < key → get nat_cmp symbols k ≡ get nat_cmp w.symbols k)
+  pub deleted : w.count < walk_limit → (key : ℕ) → pos key ≡ n → (symbols : BTreeMap ℕ Symbol) → ((k : ℕ) → k < key → get nat_cmp symbols k ≡ get nat_cmp w.symbols k)
       → ((k : ℕ) → key ≤ k → get nat_cmp symbols k ≡ None) → (new : Walker) → new ≡ record w { symbols = symbols; count = w.count + 1; levels = new.levels }
       → new.levels.items ≡ w.levels.items ++ (onward v v.layer ∷ []) → IsAfter items w v new
   deleted room key is symbols below above new kept pushed =

@@ -15,7 +15,7 @@ use Rattle.lam_geom.specs.declared.layer.Layer.{Layer}
 use Rattle.cif_form.specs.declared.command.Item.{Item}
 use Rattle.cif_form.specs.Scans.{opens}
 use Rattle.cif_form.specs.Expansion.{Definition, IsInside}
-use Rattle.cif_form.specs.Walk.{Frame, State, Visit, Visits, Walks, BreaksFirst, BreaksNone, Steps, weight, on_layer, start}
+use Rattle.cif_form.specs.Walk.{Frame, State, Visit, Visits, Walks, BreaksFirst, BreaksNone, Steps, weight, on_layer, start, walk_limit}
 use Rattle.cif_form.specs.Walk.WalkEnd.{Broken}
 use Rattle.cif_flat.specs.declared.fault.Fault.{Fault}
 use Rattle.cif_flat.specs.declared.level.Level.{Level}
@@ -152,7 +152,7 @@ module _ (items : List Item) (w : Walker) (v : Level) (item : Item) (h : IsVisit
       (each_weaker (IsLevel items w.count w.opened) (IsLevel items (w.count + n) w.opened) w.levels.items (λ k u a. level_later items w.count (w.count + n) w.opened k u (omega arith) a) (stack_of items w v item h))
       (level_onward items w.count (w.count + n) w.opened (length w.levels.items) v l item (omega arith) h.more (left_next items v item h.more h.here) plain (level_of items w v item h))
 
-  pub arrive : (shapes : List Rect) (labels : List FlatLabel) (new : Walker) → n ≡ weight item.command → 0 < n → w.count + n ≤ 4_000_000
+  pub arrive : (shapes : List Rect) (labels : List FlatLabel) (new : Walker) → n ≡ weight item.command → 0 < n → w.count + n ≤ walk_limit
       → BreaksNone (visit_at items w v item h) → Steps (visit_at items w v item h) qs ms (on_layer (visit_at items w v item h) l) → IsPlain
       → shapes ≡ w.shapes ++ qs → labels ≡ w.labels ++ ms
       → new ≡ record w { shapes = shapes; labels = labels; count = w.count + n; levels = new.levels } → new.levels.items ≡ vs → IsAfter items w v new
@@ -178,7 +178,7 @@ module _ (items : List Item) (w : Walker) (v : Level) (item : Item) (h : IsVisit
       }
 
 -- nothing is drawn
-pub arrive_quiet : (items : List Item) (w : Walker) (v : Level) (item : Item) (h : IsVisit items w v item) (l : Option Layer) (new : Walker) → weight item.command ≡ 1 → w.count + 1 ≤ 4_000_000
+pub arrive_quiet : (items : List Item) (w : Walker) (v : Level) (item : Item) (h : IsVisit items w v item) (l : Option Layer) (new : Walker) → weight item.command ≡ 1 → w.count + 1 ≤ walk_limit
     → BreaksNone (visit_at items w v item h) → Steps (visit_at items w v item h) [] [] (on_layer (visit_at items w v item h) l)
     → ((within : Bool) → opens false item.command ≡ Some within → within ≡ false)
     → new ≡ record w { count = w.count + 1; levels = new.levels } → new.levels.items ≡ w.levels.items ++ (onward v l ∷ []) → IsAfter items w v new

@@ -13,6 +13,7 @@ use Rattle.cif_place.specs.declared.placement.Placement.{Placement}
 use Rattle.cif_place.specs.declared.ratio.Ratio.{Ratio}
 use Rattle.cif_place.specs.Placing.{scale_of}
 use Rattle.cif_place.specs.Turning.{IsTurned, IsHeldTurned, HasAskew, HasUneven, HasFar, AreTurns}
+use Rattle.cif_form.specs.Walk.{walk_limit}
 
 -- the turns of the call are those composed
 abbrev pub IsCallOf : Item → Composed → Type 0
@@ -30,9 +31,9 @@ IsCallAt items at ts = (offset : ℕ) × (n : ℤ) × (slice_get items at ≡ So
 -- scale and of the count
 abbrev pub IsCalled : Scale → List Turn → Ratio → ℕ → Result Placement Fault → Type 0
 IsCalled s ts ratio count (Ok p) =
-    ¬ HasAskew ts × IsScale (scale_of ratio) × ¬ HasUneven s ts × (count < 4_000_000) × ¬ HasFar s ts × AreTurns s ts p
+    ¬ HasAskew ts × IsScale (scale_of ratio) × ¬ HasUneven s ts × (count < walk_limit) × ¬ HasFar s ts × AreTurns s ts p
 IsCalled s ts ratio count (Err F3) = HasAskew ts
 IsCalled s ts ratio count (Err F4) = ¬ HasAskew ts × (¬ IsScale (scale_of ratio) ⊎ HasUneven s ts)
-IsCalled s ts ratio count (Err F7) = ¬ HasAskew ts × IsScale (scale_of ratio) × ¬ HasUneven s ts × (4_000_000 ≤ count)
-IsCalled s ts ratio count (Err F8) = ¬ HasAskew ts × IsScale (scale_of ratio) × ¬ HasUneven s ts × (count < 4_000_000) × HasFar s ts
+IsCalled s ts ratio count (Err F7) = ¬ HasAskew ts × IsScale (scale_of ratio) × ¬ HasUneven s ts × (walk_limit ≤ count)
+IsCalled s ts ratio count (Err F8) = ¬ HasAskew ts × IsScale (scale_of ratio) × ¬ HasUneven s ts × (count < walk_limit) × HasFar s ts
 IsCalled s ts ratio count (Err _) = ⊥

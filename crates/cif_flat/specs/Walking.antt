@@ -8,7 +8,7 @@ use Rattle.cif_form.specs.declared.command.Command.TheVariants.{Finish}
 use Rattle.cif_form.specs.declared.command.Item.{Item}
 use Rattle.cif_form.specs.Fits.{Fits}
 use Rattle.cif_form.specs.Expansion.{Definition, Stands, IsInside, item_at}
-use Rattle.cif_form.specs.Walk.{Frame, State, Visit, WalkEnd, Walks, FileWalks}
+use Rattle.cif_form.specs.Walk.{Frame, State, Visit, WalkEnd, Walks, FileWalks, walk_limit}
 use Rattle.cif_flat.specs.declared.level.Level.{Level}
 use Rattle.cif_place.specs.declared.placement.Placement.{Placement}
 use Rattle.cif_flat.specs.declared.symbol.Symbol.{Symbol}
@@ -139,7 +139,7 @@ pub record IsWalking (items : List Item) (w : Walker) (vs : List Level) : Type 0
   pub table : IsTable items definitions w.symbols
   pub calls : AreCalls items w.calls
   pub leads : Leads items w.shapes w.labels (state_of items definitions w.count vs)
-  pub limit : w.count ≤ 4_000_000
+  pub limit : w.count ≤ walk_limit
   pub stack : EachLevel (IsLevel items w.count w.opened) vs
 
 -- the item is the next of the level, which is the innermost
@@ -156,7 +156,7 @@ rest (v ∷ vs) = v.end - v.next
 
 -- how far the end of a walk is at most
 abbrev pub distance : ℕ → List Level → ℕ
-distance count vs = 2 * (4_000_000 - count) + length vs + rest vs
+distance count vs = 2 * (walk_limit - count) + length vs + rest vs
 
 -- the walk has gone on from the level
 pub record IsAfter (items : List Item) (w : Walker) (v : Level) (new : Walker) : Type 0 where

@@ -10,11 +10,10 @@ ghost use Rattle.cif_flat.specs.Calling.{AreCalls, IsCallAt, IsCalled};
 
 use crate::fault::Fault;
 use crate::table::{Table, found, set};
+use cif_form::WALK_LIMIT;
 use cif_list::{Cif, ShortTurn};
 use cif_place::{Placement, Ratio, Turned};
 use std::alloc::AllocError;
-
-const WALK_LIMIT: u64 = 4_000_000;
 
 /// What the turns of a call come to at a scale.
 #[derive(Clone, Copy, Drop)]

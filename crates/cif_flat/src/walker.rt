@@ -6,7 +6,7 @@ ghost use Rattle.std.specs.BTreeMap.{get};
 ghost use Rattle.std.specs.Ordering.{nat_cmp};
 ghost use Rattle.cif_place.specs.Placing.{IsHeld};
 ghost use Rattle.cif_form.specs.Fits.{Fits};
-ghost use Rattle.cif_form.specs.Walk.{FileWalks};
+ghost use Rattle.cif_form.specs.Walk.{FileWalks, walk_limit};
 ghost use Rattle.cif_form.specs.Walk.WalkEnd.{Whole};
 ghost use Rattle.cif_form.specs.Expansion.{item_at};
 ghost use Rattle.cif_form.specs.declared.command.Command.TheVariants as commands;
@@ -23,6 +23,7 @@ use crate::layer::layer_named;
 use crate::level::Level;
 use crate::symbol::Symbol;
 use crate::table::{Table, cut, found, set};
+use cif_form::WALK_LIMIT;
 use cif_list::{Cif, CommandView, ShortTurn};
 use cif_place::{
     BoxFault, Extent, Placement, Ratio, Wired, are_straight, box_edges, draw_wire,
@@ -31,8 +32,6 @@ use cif_place::{
 use lam_geom::{FlatLabel, Layer, Point, Rect};
 use mp_base::{List, Refusal};
 use std::alloc::{AllocError, Global};
-
-const WALK_LIMIT: u64 = 4_000_000;
 
 /// A walk of the items of a file: the definitions that stand, by number; the depth where each number was opened last; the
 /// turns of calls that were composed, by the index of the call; the lists of commands that are being walked, the innermost
@@ -51,7 +50,7 @@ pub(crate) struct Walker {
 impl Walker {
     /// Goes on in a list of commands.
     fn go_on(&mut self, level: Level, weight: u64) -> Result<(), AllocError>
-        requires { self.old.count + weight ≤ 4_000_000 }
+        requires { self.old.count + weight ≤ walk_limit }
         ensures kept { OnOk result (self.new ≡ record self.old { count = self.old.count + weight; levels = self.new.levels }) }
         ensures pushed { OnOk result (self.new.levels.items ≡ self.old.levels.items ++ level ∷ []) }
     {
@@ -207,7 +206,7 @@ impl Walker {
         symbol: Symbol,
         placement: Placement,
     ) -> Result<(), AllocError>
-        requires count { self.old.count < 4_000_000 }
+        requires count { self.old.count < walk_limit }
         requires more { level.next < level.end }
         requires outer { IsHeld (2 ^ 126) level.placement }
         requires inner { IsHeld (2 ^ 104) placement }

@@ -3,12 +3,13 @@ use Rattle.std.proofs.Common.{ℕ, ◌≡◌, ◌+◌, ◌-◌, ◌≤◌, inl, 
 use Rattle.std.specs.Prelude.{◌≢◌, ℤ, pos}
 use Rattle.std.proofs.lemmas.List.{append-nil}
 use Rattle.std.proofs.lemmas.List.Elements.{All-head, All-tail}
+use Rattle.mp_base.specs.Token.{is_digit}
 use Rattle.lam_geom.specs.declared.place.Point.{Point}
 use Rattle.cif_form.specs.declared.command.Turn.{Turn}
 use Rattle.cif_form.specs.declared.command.Command.{Command}
 use Rattle.cif_form.specs.declared.command.Command.TheVariants.{Polygon, Box, Round, Wire, Layer, Start, Finish, Delete, Call, User, Comment}
 use Rattle.cif_form.specs.Text.{◌▹◌, Byte, Blanks, Separator, Integer, PointText, Path, Turns, Either, right, IsShortName, Spells}
-use Rattle.cif_form.specs.Readers.{Reader, goes_on, and_then, gives, is_digit, past_blanks, separator_from, then_separator, integer_from, point_from, follows, tail_from, path_here, turns_here, words_from, box_at, box_sized, box_long, round_of, wire_of, call_of, scale_under, scale_from, start_of, definition_from, layer_named, layer_from, user_of, command_from}
+use Rattle.cif_form.specs.Readers.{Reader, goes_on, and_then, gives, past_blanks, separator_from, then_separator, integer_from, point_from, follows, tail_from, path_here, turns_here, words_from, box_at, box_sized, box_long, round_of, wire_of, call_of, scale_under, scale_from, start_of, definition_from, layer_named, layer_from, user_of, command_from}
 use Rattle.cif_form.proofs.Numbers.{Finds, finds_both, not_equal, Stops, integer_reads, integer_follows, separator_read, stops_at, point_reads, point_follows, separator_follows}
 use Rattle.cif_form.proofs.Parts.{Ends, ends_stop, ends_follow, blanks_past, tail_left, tail_found, path_reads, path_size, turns_read, turns_stop, turns_size, name_reads, name_past, comment_reads}
 

@@ -14,5 +14,7 @@ pub mod WalkDraws
 pub mod Scanning
 pub mod Fitting
 pub mod ScanReads
+pub mod Whole
 pub mod Examples
 pub mod WalkExamples
+pub mod Counted

@@ -5,9 +5,10 @@ use Rattle.std.specs.Str.Parse.{digits_value_after, AllDigits}
 use Rattle.std.specs.Char.{digit_value}
 use Rattle.std.proofs.lemmas.List.Elements.{All-head, All-tail, All-cons, All-nil}
 use Rattle.std.proofs.lemmas.Bool.{cases_lt}
+use Rattle.mp_base.specs.Token.{is_digit}
 use Rattle.lam_geom.specs.declared.place.Point.{Point}
 use Rattle.cif_form.specs.Text.{IsDigit, IsUpper, IsBlank, IsSeparator, Separators, Separator, Digits, SignedDigits, Integer, Signed, PointText}
-use Rattle.cif_form.specs.Readers.{Reader, goes_on, and_then, gives, is_digit, is_upper, is_separator, is_blank, past, separator_from, digits_from, natural_from, signed_digits_from, integer_from, signed_from, point_from, starts, follows}
+use Rattle.cif_form.specs.Readers.{Reader, goes_on, and_then, gives, is_upper, is_separator, is_blank, past, separator_from, digits_from, natural_from, signed_digits_from, integer_from, signed_from, point_from, starts, follows}
 
 -- ---- readers: what is read from the front of a text, and the rest of the text
 

@@ -2,6 +2,7 @@
 use Rattle.std.proofs.Common.{ℕ, ◌≡◌, ◌+◌, ◌≤◌, ◌⊎◌, inl, inr, refl, sym, ◌∙◌, ap, subst, arith, List, [], ◌∷◌, ◌++◌, length, Bool, true, false, not, eqb, leb, ◌&&◌, ◌||◌, Option, Some, None, length-append}
 use Rattle.std.specs.Prelude.{◌≢◌}
 use Rattle.std.proofs.lemmas.List.Elements.{All-head, All-tail}
+use Rattle.mp_base.specs.Token.{is_digit}
 use Rattle.cif_form.specs.declared.command.Command.{Command}
 use Rattle.cif_form.specs.declared.command.Command.TheVariants.{Polygon, Box, Round, Wire, Layer as SetLayer, Start, Finish, Delete, Call, User, Comment}
 use Rattle.cif_form.specs.declared.command.Item.{Item}
@@ -9,7 +10,7 @@ use Rattle.cif_form.specs.Text.{IsBlank, Blanks}
 use Rattle.cif_form.specs.Scans.{TextEnd, IsReadAs, IsReadable, HasBig, opens, Scans, IsLateEnd, FileScans}
 use Rattle.cif_form.specs.Scans.TextRule.{C1, C2, C3, C4, C5}
 use Rattle.cif_form.specs.Scans.TextEnd.{Whole, Broken}
-use Rattle.cif_form.specs.Readers.{is_digit, is_upper, is_blank, command_from}
+use Rattle.cif_form.specs.Readers.{is_upper, is_blank, command_from}
 use Rattle.cif_form.proofs.Numbers.{blank_reads}
 use Rattle.cif_form.proofs.OneLabel.{one_cut}
 use Rattle.cif_form.proofs.Commands.{command_reads, EndsAfter}

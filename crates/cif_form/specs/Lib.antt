@@ -8,3 +8,4 @@ pub mod Place
 pub mod Labels
 pub mod Expansion
 pub mod Walk
+pub mod Counts

@@ -11,6 +11,7 @@ use Rattle.cif_form.specs.declared.command.Command.{Command}
 use Rattle.cif_form.specs.declared.command.Command.TheVariants as commands
 use Rattle.cif_form.specs.declared.command.Command.TheVariants.{Polygon, Box, Round, Wire, Start, Finish, Delete, Call, User, Comment}
 use Rattle.cif_form.specs.declared.command.Item.{Item}
+use Rattle.cif_form.specs.declared.limits.TheConstants.{WALK_LIMIT}
 use Rattle.cif_form.specs.Place.{Scale, IsScale, unit, IsScaled, IsOnAxis, segments, HasEdges, Motion, placed, AreMotions, layer_name}
 use Rattle.cif_form.specs.Labels.{IsLabelText, IsNoLabel}
 use Rattle.cif_form.specs.Expansion.{Definition, Stands, IsInside, item_at}
@@ -82,8 +83,9 @@ draw_rule_number F8 = 8
 draw_rule_number F9 = 9
 draw_rule_number F10 = 10
 
+-- how many items a walk may have at most
 abbrev pub walk_limit : ℕ
-walk_limit = 4_000_000
+walk_limit = WALK_LIMIT
 
 -- how many walked items a command is: a wire counts its segments, and a definition nothing where it is written
 abbrev pub weight : Command → ℕ

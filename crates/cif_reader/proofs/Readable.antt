@@ -2,9 +2,10 @@
 use Rattle.std.proofs.Common.{◌≡◌, ◌≢◌, ℕ, suc, ◌+◌, ◌<◌, ◌≤◌, List, [], ◌∷◌, ◌++◌, refl, sym, ◌∙◌, ap, subst, arith, length, drop, get_or, length-append, length-drop, Bool, true, false, eqb, Some, None}
 use Rattle.std.proofs.lemmas.List.{drop_all}
 use Rattle.std.proofs.lemmas.List.Elements.{All-head, All-tail}
+use Rattle.mp_base.specs.Token.{is_digit}
 use Rattle.cif_form.specs.declared.command.Command.{Command}
 use Rattle.cif_form.specs.Text.{IsDigit, IsUpper, IsBlank, Blanks}
-use Rattle.cif_form.specs.Readers.{is_digit, is_upper, is_blank, past_blanks, command_from}
+use Rattle.cif_form.specs.Readers.{is_upper, is_blank, past_blanks, command_from}
 use Rattle.cif_form.specs.Scans.{IsReadAs, IsReadable}
 use Rattle.cif_reader.specs.Capped.{cut_command}
 use Rattle.cif_reader.specs.Finding.{IsFound}

@@ -4,8 +4,9 @@ use Rattle.std.specs.Prelude.{◌≢◌, pos, neg_ℤ}
 use Rattle.std.specs.Char.{digit_value}
 use Rattle.std.specs.Str.Parse.{AllDigits, digits_value_after}
 use Rattle.std.proofs.lemmas.List.Elements.{All-nil, All-cons}
+use Rattle.mp_base.specs.Token.{is_digit}
 use Rattle.cif_form.specs.Text.{◌▹◌, Nothing, IsDigit, IsUpper, IsBlank, IsSeparator, Blanks, Separators, Separator, Digits, SignedDigits, Integer, Signed, PointText}
-use Rattle.cif_form.specs.Readers.{Reader, goes_on, and_then, gives, is_digit, is_upper, is_separator, is_blank, past, past_blanks, separator_from, then_separator, digits_from, natural_from, signed_digits_from, integer_from, signed_from, point_from, follows, tail_from}
+use Rattle.cif_form.specs.Readers.{Reader, goes_on, and_then, gives, is_upper, is_separator, is_blank, past, past_blanks, separator_from, then_separator, digits_from, natural_from, signed_digits_from, integer_from, signed_from, point_from, follows, tail_from}
 
 -- ---- readers that find what P says of the front
 

@@ -1,12 +1,13 @@
 -- The command that the reader finds, stands in front of the text as the grammar says.
 use Rattle.std.proofs.Common.{◌≡◌, ℕ, ◌+◌, ◌-◌, ◌<◌, ◌≤◌, ◌⊎◌, inl, inr, List, [], ◌∷◌, ◌++◌, refl, sym, ◌∙◌, ap, subst, arith, length, append_assoc, Bool, true, false, eqb, leb, ◌&&◌, Some, None}
 use Rattle.std.specs.Prelude.{ℤ, pos}
+use Rattle.mp_base.specs.Token.{is_digit}
 use Rattle.lam_geom.specs.declared.place.Point.{Point}
 use Rattle.cif_form.specs.declared.command.Turn.{Turn}
 use Rattle.cif_form.specs.declared.command.Command.{Command}
 use Rattle.cif_form.specs.declared.command.Command.TheVariants.{Polygon, Box, Round, Wire, Layer, Start, Finish, Delete, Call, User, Comment}
 use Rattle.cif_form.specs.Text.{◌▹◌, Nothing, Blanks, Separator, Integer, PointText, Path, Turns, Either, right, IsBalanced, Spells}
-use Rattle.cif_form.specs.Readers.{Reader, and_then, gives, is_digit, past_blanks, then_separator, integer_from, point_from, tail_from, path_here, turns_here, name_from, words_from, comment_from, box_at, box_sized, box_long, round_of, wire_of, call_of, scale_under, scale_from, start_of, definition_from, layer_named, layer_from, user_of, letter_from, command_from}
+use Rattle.cif_form.specs.Readers.{Reader, and_then, gives, past_blanks, then_separator, integer_from, point_from, tail_from, path_here, turns_here, name_from, words_from, comment_from, box_at, box_sized, box_long, round_of, wire_of, call_of, scale_under, scale_from, start_of, definition_from, layer_named, layer_from, user_of, letter_from, command_from}
 use Rattle.cif_reader.proofs.Sound.{Sound, no_some, same_some, sound_both, sound_map, sound_as, integer_sound, point_sound, tail_sound, then_sound, behind_blanks, both_true}
 use Rattle.cif_reader.proofs.SoundParts.{by_byte, path_here_sound, turns_here_sound, name_split, words_split, comment_split, Stops}
 

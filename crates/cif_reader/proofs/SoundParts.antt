@@ -3,11 +3,12 @@ use Rattle.std.proofs.Common.{◌≡◌, ℕ, zero, suc, ◌+◌, ◌-◌, ◌�
 use Rattle.std.specs.Prelude.{◌≢◌}
 use Rattle.std.proofs.lemmas.List.{append-nil}
 use Rattle.std.proofs.lemmas.List.Elements.{All-nil, All-cons}
+use Rattle.mp_base.specs.Token.{is_digit}
 use Rattle.lam_geom.specs.declared.place.Point.{Point}
 use Rattle.cif_form.specs.declared.command.Turn.{Turn}
 use Rattle.cif_form.specs.declared.command.Turn.TheVariants.{Move, MirrorX, MirrorY, Rotate}
 use Rattle.cif_form.specs.Text.{◌▹◌, Nothing, Byte, IsDigit, IsUpper, Blanks, Separator, PointText, Path, TurnText, Turns, IsBalanced}
-use Rattle.cif_form.specs.Readers.{Reader, and_then, gives, is_digit, is_upper, past_blanks, separator_from, point_from, others, path_on, path_from, path_here, mirror_from, turn_from, turns_on, turns_from, turns_here, is_name_byte, name_from, words_from, prefixed, comment_from}
+use Rattle.cif_form.specs.Readers.{Reader, and_then, gives, is_upper, past_blanks, separator_from, point_from, others, path_on, path_from, path_here, mirror_from, turn_from, turns_on, turns_from, turns_here, is_name_byte, name_from, words_from, prefixed, comment_from}
 use Rattle.cif_reader.proofs.Sound.{Sound, no_some, same_some, sound_both, sound_map, digit_is, upper_is, separator_sound, point_sound, tail_sound, behind_blanks}
 
 -- ---- paths

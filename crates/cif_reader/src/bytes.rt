@@ -1,13 +1,9 @@
 //! Bytes, and runs of them.
 
 ghost use Rattle.std.specs.Prelude.{◌≡◌, ℕ, ◌+◌, ◌<◌, ◌≤◌, length, drop, Some, None, MatchOption};
-ghost use Rattle.cif_form.specs.Readers.{is_digit, is_upper, is_separator, is_blank, past, past_blanks, separator_from, follows};
+ghost use Rattle.cif_form.specs.Readers.{is_upper, is_separator, is_blank, past, past_blanks, separator_from, follows};
 
-pub(crate) fn is_digit(byte: u8) -> bool
-    ensures { result ≡ is_digit byte }
-{
-    b'0' <= byte && byte <= b'9'
-}
+use mp_base::is_digit;
 
 pub(crate) fn is_upper(byte: u8) -> bool
     ensures { result ≡ is_upper byte }

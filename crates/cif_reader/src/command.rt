@@ -7,13 +7,13 @@ ghost use Rattle.cif_form.specs.Readers.{and_then, gives, integer_from, point_fr
 ghost use Rattle.cif_reader.specs.Capped.{cut_command, cut_point, cut_number, cut_scale};
 ghost use Rattle.cif_reader.specs.Finding.{Answers};
 
-use crate::bytes::{is_digit, number_follows, past_blanks, separator};
+use crate::bytes::{number_follows, past_blanks, separator};
 use crate::found::Found;
 use crate::numbers::{integer, path, then_integer, then_point, turns};
 use crate::words::{comment_end, name_end, words_end};
 use cif_form::Command;
 use lam_geom::Point;
-use mp_base::Name;
+use mp_base::{Name, is_digit};
 use std::alloc::{AllocError, Global};
 
 type Read = Result<Option<Found<Command>>, AllocError>;

@@ -5,11 +5,11 @@ ghost use Rattle.cif_form.specs.Readers.{natural_from, integer_from, signed_from
 ghost use Rattle.cif_reader.specs.Capped.{cut, cut_number, cut_point, cut_path, cut_turn, cut_turns};
 ghost use Rattle.cif_reader.specs.Finding.{Answers, IsFound};
 
-use crate::bytes::{is_digit, number_follows, past_blanks, past_separators, separator};
+use crate::bytes::{number_follows, past_blanks, past_separators, separator};
 use crate::found::Found;
 use cif_form::{Turn, Turns};
 use lam_geom::Point;
-use mp_base::List;
+use mp_base::{List, is_digit};
 use std::alloc::{AllocError, Global};
 
 // The least size that is too much for a number.

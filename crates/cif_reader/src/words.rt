@@ -3,7 +3,8 @@
 ghost use Rattle.std.specs.Prelude.{◌≡◌, ℕ, ◌+◌, ◌≤◌, ◌<◌, length, drop, slice_range, Some, MatchOption};
 ghost use Rattle.cif_form.specs.Readers.{is_name_byte, name_from, words_from, comment_from};
 
-use crate::bytes::{is_digit, is_upper};
+use crate::bytes::is_upper;
+use mp_base::is_digit;
 
 /// Where the name ends that begins here.
 #[tactic(auto, using(crate::proofs::Runs::name_begins, crate::proofs::Runs::name_goes_on, crate::proofs::Runs::name_stops, crate::proofs::Runs::name_ends))]

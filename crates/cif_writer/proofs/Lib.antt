@@ -1,2 +1,3 @@
 pub mod Wrote
 pub mod Numbers
+pub mod Files

@@ -4,6 +4,8 @@
 #[cfg(test)]
 mod tests;
 mod text;
+mod view;
 mod write;
 
+pub use view::{write_file, write_view};
 pub use write::{write_command, write_end};

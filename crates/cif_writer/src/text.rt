@@ -72,7 +72,8 @@ pub(crate) fn write_path<O: Sink>(out: &mut O, points: &[Point]) -> Result<(), F
     Ok(())
 }
 
-fn write_turn<O: Sink>(out: &mut O, turn: Turn) -> Result<(), Failed>
+/// Writes a turn of a call.
+pub(crate) fn write_turn<O: Sink>(out: &mut O, turn: Turn) -> Result<(), Failed>
     ensures taken { TakesAll Gains (O.held out.old) (O.held out.new) (turn_text turn) result }
     ensures cause { HasCause (O.faults out.old) (O.faults out.new) result }
 {

@@ -12,7 +12,7 @@ use cif_form::{Command, Turns};
 use lam_geom::Point;
 use mp_base::{Failed, Sink, write_all};
 
-fn write_box<O: Sink>(
+pub(crate) fn write_box<O: Sink>(
     out: &mut O,
     length: i64,
     width: i64,
@@ -33,7 +33,7 @@ fn write_box<O: Sink>(
     }
 }
 
-fn write_polygon<O: Sink>(out: &mut O, path: &[Point]) -> Result<(), Failed>
+pub(crate) fn write_polygon<O: Sink>(out: &mut O, path: &[Point]) -> Result<(), Failed>
     ensures taken { TakesAll Gains (O.held out.old) (O.held out.new) (codes "P" ++ path_text path.now) result }
     ensures cause { HasCause (O.faults out.old) (O.faults out.new) result }
 {
@@ -41,7 +41,7 @@ fn write_polygon<O: Sink>(out: &mut O, path: &[Point]) -> Result<(), Failed>
     write_path(out, path)
 }
 
-fn write_wire<O: Sink>(out: &mut O, width: i64, path: &[Point]) -> Result<(), Failed>
+pub(crate) fn write_wire<O: Sink>(out: &mut O, width: i64, path: &[Point]) -> Result<(), Failed>
     ensures taken { TakesAll Gains (O.held out.old) (O.held out.new) (codes "W" ++ (number_text width ++ path_text path.now)) result }
     ensures cause { HasCause (O.faults out.old) (O.faults out.new) result }
 {
@@ -57,7 +57,7 @@ fn write_call<O: Sink>(out: &mut O, number: i64, turns: &Turns) -> Result<(), Fa
     write_turns(out, turns)
 }
 
-fn write_comment<O: Sink>(out: &mut O, text: &[u8]) -> Result<(), Failed>
+pub(crate) fn write_comment<O: Sink>(out: &mut O, text: &[u8]) -> Result<(), Failed>
     ensures taken { TakesAll Gains (O.held out.old) (O.held out.new) (40 ∷ text.now ++ 41 ∷ []) result }
     ensures cause { HasCause (O.faults out.old) (O.faults out.new) result }
 {

@@ -63,9 +63,24 @@ impl<'a> Circuit<'a> {
         })
     }
 
+    /// The network.
+    pub fn network(&self) -> &Network
+        ensures { result.now ≡ self.now.network }
+    {
+        self.settler.network()
+    }
+
+    /// The pads.
+    pub fn pads(&self) -> &Pads
+        ensures { result.now ≡ self.now.pads }
+    {
+        self.pads
+    }
+
     /// The value of each node.
     pub fn values(&self) -> &[Trit]
-        ensures { result.now ≡ self.now.values }
+        ensures same { result.now ≡ self.now.values }
+        ensures sized { length result.now ≡ self.now.network.nodes }
     {
         self.settler.values()
     }
@@ -75,6 +90,7 @@ impl<'a> Circuit<'a> {
         requires { Fit self.old.pads.inputs inputs.now }
         ensures network { self.new.network ≡ self.old.network }
         ensures pads { self.new.pads ≡ self.old.pads }
+        ensures sized { length self.new.values ≡ self.old.network.nodes }
         ensures settled { SettlesTo self.old.network (drives (phases_of setting) self.old.pads.inputs inputs.now) (value_at self.old.values) (value_at self.new.values) }
     {
         circuits_run();
@@ -102,6 +118,7 @@ impl<'a> Circuit<'a> {
         requires as_many { length outputs.old ≡ length self.old.pads.outputs }
         ensures network { self.new.network ≡ self.old.network }
         ensures pads { self.new.pads ≡ self.old.pads }
+        ensures sized { length self.new.values ≡ self.old.network.nodes }
         ensures clock { IsClock self.old.network self.old.pads inputs.now (value_at self.old.values) (trits_of self.old.pads.outputs outputs.new) (value_at self.new.values) }
         ensures narrow { AllZip (λ (pad : PadValue) (word : TritWordValue). word.known < 2 ^ bit_count pad.width) self.old.pads.outputs outputs.new }
     {

@@ -9,3 +9,4 @@ pub mod Soundness
 pub mod Unique
 pub mod First
 pub mod Symbols
+pub mod Verdict

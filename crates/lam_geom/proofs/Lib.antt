@@ -1,2 +1,6 @@
-pub mod Rectangles
-pub mod Touching
+pub mod Chains
+pub mod Adjoins
+pub mod SquareOrder
+mod Rectangles
+mod Touching
+mod Extents

@@ -1,5 +1,5 @@
 -- The squares of one rectangle are joined.
-use Rattle.std.proofs.Common.{ℕ, zero, suc, ◌≡◌, ◌+◌, ◌-◌, inl, inr, refl, sym, subst, arith}
+use Rattle.std.proofs.Common.{ℕ, zero, suc, ◌≡◌, ◌+◌, ◌-◌, inl, inr, refl, subst, arith}
 use Rattle.std.specs.Prelude.{ℤ, pos, negsuc, ◌+ℤ◌, ◌≤ℤ◌}
 use Rattle.std.proofs.lemmas.Int.{ints, by_lt_z}
 use Rattle.lam_geom.specs.declared.layer.Layer.{Layer}
@@ -7,29 +7,11 @@ use Rattle.lam_geom.specs.declared.rect.Rect.{Rect}
 use Rattle.lam_geom.specs.Chains.{Chain}
 use Rattle.lam_geom.specs.Chains.Chain.{here, link}
 use Rattle.lam_geom.specs.Squares.{Square, Adjoin, IsIn}
-
-join_chains : {S : Type 0} {J : S → S → Type 0} {s t u : S} → Chain J s t → Chain J t u → Chain J s u
-join_chains here d = d
-join_chains (link j c) d = link j (join_chains c d)
-
-turn_chain : {S : Type 0} {J : S → S → Type 0} → ((a b : S) → J a b → J b a) → {s t : S} → Chain J s t → Chain J t s
-turn_chain flip here = here
-turn_chain flip (link {s = s} {t = t} j c) = join_chains (turn_chain flip c) (link (flip s t j) here)
+use Rattle.lam_geom.proofs.Chains.{join_chains, turn_chain}
+use Rattle.lam_geom.proofs.Adjoins.{adjoin_flip}
 
 square : Layer → ℤ → ℤ → Square
 square l x y = record { layer = l; x = x; y = y }
-
--- a join goes both ways
-adjoin_flip : (Is : Square → Type 0) (s t : Square) → Adjoin Is s t → Adjoin Is t s
-adjoin_flip Is s t j = record {
-  from = j.to;
-  to = j.from;
-  same = sym j.same;
-  beside = elim j.beside [
-    | inl a ↦ inl (sym a.0, elim a.1 [ inl e ↦ inr e | inr e ↦ inl e ])
-    | inr a ↦ inr (sym a.0, elim a.1 [ inl e ↦ inr e | inr e ↦ inl e ])
-  ];
-}
 
 distance : (x x' : ℤ) → x ≤ℤ x' → (n : ℕ) × (x' ≡ x +ℤ pos n)
 distance (pos a) (pos b) h = (b - a, omega (arith, ints))
@@ -71,24 +53,28 @@ upward r x (suc n) y y' e h k =
 
 along_x : (r : Rect) (x x' y : ℤ) → IsIn r (at r x y) → IsIn r (at r x' y) → Joined r (at r x y) (at r x' y)
 along_x r x x' y h k = by_lt_z x' x
-    (λ l. let d = distance x' x (omega (arith, ints)) in turn_chain (adjoin_flip (IsIn r)) (to_right r y d.0 x' x d.1 k h))
+    (λ l. let d = distance x' x (omega (arith, ints)) in
+    turn_chain (adjoin_flip (IsIn r)) (to_right r y d.0 x' x d.1 k h))
     (λ l. let d = distance x x' l in to_right r y d.0 x x' d.1 h k)
 
 along_y : (r : Rect) (x y y' : ℤ) → IsIn r (at r x y) → IsIn r (at r x y') → Joined r (at r x y) (at r x y')
 along_y r x y y' h k = by_lt_z y' y
-    (λ l. let d = distance y' y (omega (arith, ints)) in turn_chain (adjoin_flip (IsIn r)) (upward r x d.0 y' y d.1 k h))
+    (λ l. let d = distance y' y (omega (arith, ints)) in
+    turn_chain (adjoin_flip (IsIn r)) (upward r x d.0 y' y d.1 k h))
     (λ l. let d = distance y y' l in upward r x d.0 y y' d.1 h k)
 
 -- over the corner in the row of the one and the column of the other
 on_layer : (r : Rect) (x y x' y' : ℤ) → IsIn r (at r x y) → IsIn r (at r x' y') → Joined r (at r x y) (at r x' y')
 on_layer r x y x' y' h k =
-    let m : IsIn r (at r x' y) = record { same = refl; left = k.left; right = k.right; bottom = h.bottom; top = h.top } in
+    let m : IsIn r (at r x' y) =
+    record { same = refl; left = k.left; right = k.right; bottom = h.bottom; top = h.top } in
     join_chains (along_x r x x' y h m) (along_y r x' y y' m k)
 
 pub rectangles_joined : (r : Rect) (s t : Square) → IsIn r s → IsIn r t → Chain (Adjoin (IsIn r)) s t
 rectangles_joined r s t h k =
     let place : Layer → Square → Square = λ l u. record { layer = l; x = u.x; y = u.y } in
-    let move : (u : Square) → IsIn r u → IsIn r (at r u.x u.y) = λ u i. record { same = refl; left = i.left; right = i.right; bottom = i.bottom; top = i.top } in
+    let move : (u : Square) → IsIn r u → IsIn r (at r u.x u.y) =
+    λ u i. record { same = refl; left = i.left; right = i.right; bottom = i.bottom; top = i.top } in
     let back : Joined r (place s.layer s) (place t.layer t) =
     subst (λ l. Joined r (place l s) (place t.layer t)) h.same
     (subst (λ l. Joined r (place r.layer s) (place l t)) k.same (on_layer r s.x s.y t.x t.y (move s h) (move t k))) in

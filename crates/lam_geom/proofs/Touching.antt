@@ -34,8 +34,16 @@ common a0 a1 b0 b1 o =
     let b = o.below in
     let c = o.above in
     by_lt_z a0 b0
-    (λ h. (b0, record { low = omega (arith, ints); high = omega (arith, ints) }, record { low = omega (arith, ints); high = omega (arith, ints) }))
-    (λ h. (a0, record { low = omega (arith, ints); high = omega (arith, ints) }, record { low = omega (arith, ints); high = omega (arith, ints) }))
+    (λ h. (
+      b0,
+      record { low = omega (arith, ints); high = omega (arith, ints) },
+      record { low = omega (arith, ints); high = omega (arith, ints) },
+    ))
+    (λ h. (
+      a0,
+      record { low = omega (arith, ints); high = omega (arith, ints) },
+      record { low = omega (arith, ints); high = omega (arith, ints) },
+    ))
 
 neighbours : (a0 a1 b0 b1 : ℤ) → Meet a0 a1 b0 b1 → (x y : ℤ) × In a0 a1 x × In b0 b1 y × Near x y
 neighbours a0 a1 b0 b1 m =
@@ -64,7 +72,12 @@ same_place a0 a1 b0 b1 x y e h k =
     let b = h.high in
     let c = k.low in
     let d = k.high in
-    record { first = omega (arith, ints); second = omega (arith, ints); below = omega (arith, ints); above = omega (arith, ints) }
+    record {
+      first = omega (arith, ints);
+      second = omega (arith, ints);
+      below = omega (arith, ints);
+      above = omega (arith, ints);
+    }
 
 near_place : (a0 a1 b0 b1 x y : ℤ) → Near x y → In a0 a1 x → In b0 b1 y → Overlap a0 a1 b0 b1 ⊎ Meet a0 a1 b0 b1
 near_place a0 a1 b0 b1 x y (inl e) h k =
@@ -73,7 +86,12 @@ near_place a0 a1 b0 b1 x y (inl e) h k =
     let c = k.low in
     let d = k.high in
     by_lt_z b0 a1
-    (λ l. inl (record { first = omega (arith, ints); second = omega (arith, ints); below = omega (arith, ints); above = omega (arith, ints) }))
+    (λ l. inl (record {
+      first = omega (arith, ints);
+      second = omega (arith, ints);
+      below = omega (arith, ints);
+      above = omega (arith, ints);
+    }))
     (λ l. inr (record { first = omega (arith, ints); second = omega (arith, ints); ends = inl (omega (arith, ints)) }))
 near_place a0 a1 b0 b1 x y (inr e) h k =
     let a = h.low in
@@ -81,10 +99,16 @@ near_place a0 a1 b0 b1 x y (inr e) h k =
     let c = k.low in
     let d = k.high in
     by_lt_z a0 b1
-    (λ l. inl (record { first = omega (arith, ints); second = omega (arith, ints); below = omega (arith, ints); above = omega (arith, ints) }))
+    (λ l. inl (record {
+      first = omega (arith, ints);
+      second = omega (arith, ints);
+      below = omega (arith, ints);
+      above = omega (arith, ints);
+    }))
     (λ l. inr (record { first = omega (arith, ints); second = omega (arith, ints); ends = inr (omega (arith, ints)) }))
 
-square : (r : Rect) (x y : ℤ) → In r.x0 r.x1 x → In r.y0 r.y1 y → (let s : Square = record { layer = r.layer; x = x; y = y } in IsIn r s)
+square : (r : Rect) (x y : ℤ) → In r.x0 r.x1 x → In r.y0 r.y1 y
+    → (let s : Square = record { layer = r.layer; x = x; y = y } in IsIn r s)
 square r x y h k = record { same = refl; left = h.low; right = h.high; bottom = k.low; top = k.high }
 
 pub overlap_touch : (r q : Rect) → OverlapX r q → OverlapY r q → Touch r q
@@ -124,10 +148,14 @@ above_touch r q h k =
     }
 
 -- the spans of rectangles that touch
-pub touch_spans : (r q : Rect) → Touch r q → OverlapY r q × (OverlapX r q ⊎ MeetX r q) ⊎ OverlapX r q × (OverlapY r q ⊎ MeetY r q)
+pub touch_spans : (r q : Rect) → Touch r q
+    → OverlapY r q × (OverlapX r q ⊎ MeetX r q) ⊎ OverlapX r q × (OverlapY r q ⊎ MeetY r q)
 touch_spans r q t = elim t.meet [
   | inl e ↦ inl (at_y e.1, inl (at_x e.0))
-  | inr h ↦ elim h [ inl e ↦ inl (at_y e.0, near_place r.x0 r.x1 q.x0 q.x1 t.s.x t.t.x e.1 rx qx) | inr e ↦ inr (at_x e.0, near_place r.y0 r.y1 q.y0 q.y1 t.s.y t.t.y e.1 ry qy) ]
+  | inr h ↦ elim h [
+    | inl e ↦ inl (at_y e.0, near_place r.x0 r.x1 q.x0 q.x1 t.s.x t.t.x e.1 rx qx)
+    | inr e ↦ inr (at_x e.0, near_place r.y0 r.y1 q.y0 q.y1 t.s.y t.t.y e.1 ry qy)
+  ]
 ]
   where
     rx : In r.x0 r.x1 t.s.x
@@ -161,25 +189,36 @@ module _ (r q : Rect) (x y z : Bool) where
   pub both_overlap : (IsTrue x ↔ OverlapX r q) → x ≡ true → (IsTrue y ↔ OverlapY r q) → y ≡ true → IsTrue y ↔ Touch r q
   both_overlap h e k f = ((λ p. overlap_touch r q (h.0 e) (k.0 f)), (λ t. f))
 
-  pub rows_meet : (IsTrue x ↔ OverlapX r q) → x ≡ true → (IsTrue y ↔ OverlapY r q) → y ≡ false → (IsTrue z ↔ MeetY r q) → IsTrue z ↔ Touch r q
+  pub rows_meet : (IsTrue x ↔ OverlapX r q) → x ≡ true → (IsTrue y ↔ OverlapY r q) → y ≡ false → (IsTrue z ↔ MeetY r q)
+      → IsTrue z ↔ Touch r q
   unfolding Says
   rows_meet h e k f m = (
     (λ p. above_touch r q (h.0 e) (m.0 p)),
-    (λ t. elim (touch_spans r q t) [ inl a ↦ absurd (denied y (OverlapY r q) k f a.0) | inr a ↦ elim a.1 [ inl o ↦ absurd (denied y (OverlapY r q) k f o) | inr o ↦ m.1 o ] ]),
+    (λ t. elim (touch_spans r q t) [
+      | inl a ↦ absurd (denied y (OverlapY r q) k f a.0)
+      | inr a ↦ elim a.1 [ inl o ↦ absurd (denied y (OverlapY r q) k f o) | inr o ↦ m.1 o ]
+    ]),
   )
 
-  pub columns_meet : (IsTrue x ↔ OverlapX r q) → x ≡ false → (IsTrue y ↔ OverlapY r q) → y ≡ true → (IsTrue z ↔ MeetX r q) → IsTrue z ↔ Touch r q
+  pub columns_meet : (IsTrue x ↔ OverlapX r q) → x ≡ false → (IsTrue y ↔ OverlapY r q) → y ≡ true
+      → (IsTrue z ↔ MeetX r q) → IsTrue z ↔ Touch r q
   unfolding Says
   columns_meet h e k f m = (
     (λ p. beside_touch r q (m.0 p) (k.0 f)),
-    (λ t. elim (touch_spans r q t) [ inl a ↦ elim a.1 [ inl o ↦ absurd (denied x (OverlapX r q) h e o) | inr o ↦ m.1 o ] | inr a ↦ absurd (denied x (OverlapX r q) h e a.0) ]),
+    (λ t. elim (touch_spans r q t) [
+      | inl a ↦ elim a.1 [ inl o ↦ absurd (denied x (OverlapX r q) h e o) | inr o ↦ m.1 o ]
+      | inr a ↦ absurd (denied x (OverlapX r q) h e a.0)
+    ]),
   )
 
   pub no_overlap : (IsTrue x ↔ OverlapX r q) → x ≡ false → (IsTrue y ↔ OverlapY r q) → y ≡ false → IsTrue y ↔ Touch r q
   unfolding Says
   no_overlap h e k f = (
     (λ p. let g : y ≡ true = p in absurd (false_true g)),
-    (λ t. elim (touch_spans r q t) [ inl a ↦ absurd (denied y (OverlapY r q) k f a.0) | inr a ↦ absurd (denied x (OverlapX r q) h e a.0) ]),
+    (λ t. elim (touch_spans r q t) [
+      | inl a ↦ absurd (denied y (OverlapY r q) k f a.0)
+      | inr a ↦ absurd (denied x (OverlapX r q) h e a.0)
+    ]),
   )
     where
       false_true : y ≡ true → ⊥

@@ -2,3 +2,4 @@ pub mod Chains
 pub mod Squares
 pub mod Moves
 pub mod Spans
+pub mod Extent

@@ -1,5 +1,5 @@
 -- The squares that rectangles cover.
-use Rattle.std.specs.Prelude.{ℕ, ◌<◌, ◌≡◌, ◌⊎◌, List, [], ◌∷◌, ℤ, pos, ◌+ℤ◌, ◌≤ℤ◌, ◌<ℤ◌}
+use Rattle.std.specs.Prelude.{ℕ, ◌<◌, ◌≡◌, ◌↔◌, ◌⊎◌, List, [], ◌∷◌, ℤ, pos, ◌+ℤ◌, ◌≤ℤ◌, ◌<ℤ◌}
 use Rattle.lam_geom.specs.declared.layer.Layer.{Layer}
 use Rattle.lam_geom.specs.declared.layer.Layer.TheVariants.{ND, NP, NC, NM, NI, NB, NG}
 use Rattle.lam_geom.specs.declared.rect.Rect.{Rect}
@@ -23,6 +23,10 @@ pub record Covers (r : Rect) (l : Layer) (x y : ℤ) : Type 0 where
 abbrev pub covered : List Rect → Layer → ℤ → ℤ → Type 0
 covered [] l x y = ⊥
 covered (r ∷ rs) l x y = Covers r l x y ⊎ covered rs l x y
+
+-- both cover the same squares of each layer
+abbrev pub SameSquares : (Layer → ℤ → ℤ → Type 0) → (Layer → ℤ → ℤ → Type 0) → Type 0
+SameSquares c d = (l : Layer) (x y : ℤ) → c l x y ↔ d l x y
 
 -- the square is one of the rectangle's
 abbrev pub IsIn : Rect → Square → Type 0

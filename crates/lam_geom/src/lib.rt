@@ -2,13 +2,13 @@
 #![tactic(auto)]
 
 mod label;
-mod law;
+pub mod laws;
 mod layer;
 mod place;
 mod rect;
 
 pub use label::FlatLabel;
-pub use law::rectangles_are_joined;
+pub use laws::rectangles_are_joined;
 pub use layer::Layer;
 pub use place::{Orient, Point};
 pub use rect::{Rect, Shape};

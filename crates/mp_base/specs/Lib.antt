@@ -11,4 +11,9 @@ pub mod Transfer
 pub mod MemDepot
 pub mod MemSink
 pub mod Meet
+pub mod Quiet
+pub mod QuietSink
+pub mod QuietLog
+pub mod QuietReading
+pub mod QuietDepot
 pub mod PadNames

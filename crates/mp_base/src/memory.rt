@@ -1,6 +1,6 @@
 //! Files and an output in memory. A call whose number is in a list fails.
 
-ghost use Rattle.std.specs.Prelude.{◌≡◌, ◌+◌, ◌-◌, ◌^◌, ◌<◌, ◌≤◌, ◌==◌, ℕ, List, [], length, take, min, Some, OnOk, OnErr, IfOk, IfSome, IsErr, IsSome, IsTrue};
+ghost use Rattle.std.specs.Prelude.{◌≡◌, ◌⊎◌, ◌+◌, ◌-◌, ◌^◌, ◌<◌, ◌≤◌, ◌==◌, ℕ, List, [], length, take, min, Some, OnOk, OnErr, IfOk, IfSome, IsErr, IsSome, IsTrue};
 ghost use Rattle.std.specs.List.{list_any};
 ghost use Rattle.std.specs.Option.{option_copied};
 ghost use Rattle.std.specs.Io.{ReadsAtMost};
@@ -155,6 +155,7 @@ impl Depot for MemDepot {
         ensures cause { ReadHasCause self.old.read_faults self.new.read_faults (map.get (files self.new) name.now ≡ None) result }
         ensures writes { self.new.write_faults ≡ self.old.write_faults }
         ensures listed { IsTrue (next_fails self.old) → IsErr result }
+        ensures failed { OnErr result (IsTrue (next_fails self.old) ⊎ (map.get (files self.old) name.now ≡ None)) }
         ensures numbered { IsNextCall self.old self.new }
     {
         let fails = next_fails(&self.fail, &mut self.calls);

@@ -1,8 +1,8 @@
 //! Tables for operators, and files and outputs of which each call fails in turn.
 
 use crate::{
-    Depot, Failed, List, MemDepot, MemSink, Name, Op, Pad, Pads, ReadError, Sink, Trit, Word, join,
-    read_file, store, write_all,
+    Depot, Failed, List, MemDepot, MemSink, Name, NoMemory, Op, Pad, Pads, QuietDepot, QuietSink,
+    ReadError, Sink, Trit, Word, join, read_file, store, write_all,
 };
 use std::alloc::{AllocError, Global};
 use std::test::Fail;
@@ -123,6 +123,40 @@ fn each_read_fails(rt: HostRuntime) -> Result<(), Fail> {
     assert_eq!(rt; depot.read_at("a", 3, &mut buf), Ok(2));
     assert_eq!(rt; depot.read_at("a", 7, &mut buf), Ok(0));
     assert_eq!(rt; depot.read_at("b", 0, &mut buf), Err(Failed));
+    Ok(())
+}
+
+// Stores 5 bytes in a depot with this room, and reads a file that is held and one that isn't.
+fn quiet(
+    alloc: Global,
+    room: usize,
+) -> Result<(Result<usize, Failed>, Result<usize, Failed>), NoMemory> {
+    let mut depot = QuietDepot::new(alloc, room)?;
+    depot.put("b", b"kept")?;
+    let _ = store(&mut depot, "a", b"hello");
+    let mut buf = [0; 9];
+    let held = depot.read_at("b", 1, &mut buf);
+    let stray = depot.read_at("c", 0, &mut buf);
+    Ok((held, stray))
+}
+
+#[test]
+fn quiet_calls_fit_or_end_the_telling(rt: HostRuntime) -> Result<(), Fail> {
+    let alloc = rt.alloc();
+    let rows = [(134, Err(Failed)), (133, Ok(0)), (65, Ok(0)), (64, Ok(0))];
+    for (room, stray) in rows {
+        assert_eq!(rt; quiet(alloc, room)?, (Ok(3), stray), "{room}");
+    }
+    let mut depot = QuietDepot::new(alloc, 134)?;
+    assert_eq!(rt; store(&mut depot, "a", b"hello"), Ok(()));
+    let text = read_file(alloc, &mut depot, "a", 9);
+    assert_eq!(rt; text.map(|text| text.map(|text| text.len())), Ok(Some(5)));
+    let mut out = QuietSink::new(alloc, 6)?;
+    assert_eq!(rt; write_all(&mut out, b"one"), Ok(()));
+    assert_eq!(rt; out.write(b"two"), Ok(3));
+    assert_eq!(rt; out.bytes().map(|bytes| bytes.len()), Some(6));
+    assert_eq!(rt; out.write(b"!"), Ok(1));
+    assert_eq!(rt; out.bytes().map(|bytes| bytes.len()), None);
     Ok(())
 }
 

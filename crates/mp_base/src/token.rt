@@ -3,7 +3,8 @@
 ghost use Rattle.std.specs.Prelude.{◌≡◌};
 ghost use Rattle.mp_base.specs.Token.{is_token, is_letter, is_digit};
 
-fn is_digit(byte: u8) -> bool
+/// Whether numerals may have this byte.
+pub fn is_digit(byte: u8) -> bool
     ensures { result ≡ is_digit byte }
 {
     matches!(byte, b'0'..=b'9')

@@ -8,6 +8,7 @@ ghost use Rattle.mp_base.specs.declared.transfer.ReadError.TheVariants.{Failed, 
 ghost use Rattle.mp_base.specs.Piece.{TakesAll};
 
 use crate::outside::{Depot, Failed, Sink};
+use crate::refusal::NoMemory;
 use std::alloc::{AllocError, Global};
 
 /// Writes all the bytes.
@@ -71,6 +72,43 @@ impl From<AllocError> for ReadError {
 
     fn from(_: AllocError) -> Self {
         ReadError::NoMemory
+    }
+}
+
+/// Why a text was not written: a call failed, or memory was wanting.
+#[derive(Clone, Copy, Debug, PartialEq, Eq)]
+pub enum Fault {
+    Write,
+    NoMemory,
+}
+
+impl From<Failed> for Fault {
+    ghost use Rattle.mp_base.specs.declared.transfer.Fault.TheVariants.{Write};
+
+    ghost from_gives = { λ _ e. e ≡ Write };
+
+    fn from(_: Failed) -> Self {
+        Fault::Write
+    }
+}
+
+impl From<AllocError> for Fault {
+    ghost use Rattle.mp_base.specs.declared.transfer.Fault.TheVariants as faults;
+
+    ghost from_gives = { λ _ e. e ≡ faults.NoMemory };
+
+    fn from(_: AllocError) -> Self {
+        Fault::NoMemory
+    }
+}
+
+impl From<NoMemory> for Fault {
+    ghost use Rattle.mp_base.specs.declared.transfer.Fault.TheVariants as faults;
+
+    ghost from_gives = { λ _ e. e ≡ faults.NoMemory };
+
+    fn from(_: NoMemory) -> Self {
+        Fault::NoMemory
     }
 }
 

@@ -11,3 +11,5 @@ pub mod Settings
 pub mod Closing
 pub mod Ordering
 pub mod Judging
+pub mod Paths
+pub mod Existing

@@ -8,6 +8,7 @@ mod evaluation;
 mod graph;
 mod hint;
 mod judge;
+pub mod laws;
 mod search;
 mod table;
 

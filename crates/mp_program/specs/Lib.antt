@@ -11,3 +11,4 @@ pub mod Step
 pub mod Trace
 pub mod Reads
 pub mod Weight
+pub mod Exactly

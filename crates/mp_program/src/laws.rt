@@ -4,12 +4,14 @@ ghost use Rattle.std.specs.Prelude.{◌≡◌, ℕ, ◌<◌, List, [], true, fal
 ghost use Rattle.mp_program.specs.declared.program.Expr.{Expr};
 ghost use Rattle.mp_program.specs.declared.program.Form.{Form};
 ghost use Rattle.mp_program.specs.declared.program.Def.{Def};
+ghost use Rattle.mp_program.specs.declared.program.Program as spec;
 ghost use Rattle.mp_program.specs.Sound.{IsSound, IsTree};
 ghost use Rattle.mp_program.specs.Names.{is_driven};
 ghost use Rattle.mp_program.specs.Values.{value_of, kind_value};
 ghost use Rattle.mp_program.specs.Effects.{effects_of, kind_effects, written};
 ghost use Rattle.mp_program.specs.State.{State, IsState, zero_state};
 ghost use Rattle.mp_program.specs.Environment.{IsEnvironment, driven_value};
+ghost use Rattle.mp_program.specs.Exactly.{ExactlyOne};
 ghost use Rattle.mp_program.specs.Step.{next_state};
 ghost use Rattle.mp_program.specs.Trace.{IsTrace, IsTraceFrom};
 ghost use Rattle.mp_program.specs.Reads.{Reads, IsOrder, mentions, kind_mentions, sets, kind_sets, form_reads, kind_reads};
@@ -19,6 +21,11 @@ use crate::program::Program;
 /// The indices of a program are in range, and those of what stands in an expression or form are greater.
 pub fn sound(program: &Program)
     ensures { IsSound program.now }
+{}
+
+/// The same of all programs.
+pub fn all_sound()
+    ensures { (p : spec.Program) → IsSound p }
 {}
 
 /// A program is a tree: each expression and form stands in one place at most, and none is nested deep.
@@ -100,4 +107,17 @@ pub fn traces_exist(program: &Program, order: &[u32])
     requires state { IsState program.now (zero_state program.now) }
     ensures { (st : State) (inputs : List (List ℕ)) → IsState program.now st
         → (outputs : List (List ℕ)) × IsTraceFrom program.now st inputs outputs }
+{}
+
+/// Where there is an order of evaluation, a state and inputs have exactly one environment.
+pub fn exactly_one_environment(program: &Program)
+    ensures { (order : List ℕ) → IsOrder program.now order → (st : State) (inputs : List ℕ) → IsState program.now st
+        → ExactlyOne (IsEnvironment program.now st inputs) }
+{}
+
+/// Where there is an order of evaluation, inputs have exactly one trace.
+pub fn exactly_one_trace(program: &Program)
+    requires { IsState program.now (zero_state program.now) }
+    ensures { (order : List ℕ) → IsOrder program.now order
+        → (inputs : List (List ℕ)) → ExactlyOne (IsTrace program.now inputs) }
 {}

@@ -1,3 +1,4 @@
 mod Places
 mod Own
 mod Few
+mod Moving

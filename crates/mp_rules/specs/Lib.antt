@@ -5,3 +5,4 @@ pub mod Standing
 pub mod Rules
 pub mod Breaking
 pub mod Places
+pub mod Moves

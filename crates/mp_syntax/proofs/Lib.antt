@@ -10,3 +10,4 @@ mod Heights
 mod Trees
 pub mod Widths
 pub mod Unique
+pub mod Verdict

@@ -12,7 +12,7 @@ mod ranks;
 #[cfg(test)]
 mod tests;
 
-pub use laws::{one_program, shaped_is_unbroken};
+pub use laws::{forms_verdict, one_program, shaped_is_unbroken};
 pub use mp_program::{
     Branch, Def, Expr, ExprKind, Form, FormKind, Label, Pin, Process, Program, Way, What,
 };

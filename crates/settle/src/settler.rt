@@ -70,7 +70,8 @@ impl Settler {
 
     /// The value of each node.
     pub fn values(&self) -> &[Trit]
-        ensures { result.now ≡ self.now.values }
+        ensures same { result.now ≡ self.now.values }
+        ensures sized { length result.now ≡ self.now.network.nodes }
     {
         self.values.as_slice()
     }
@@ -88,6 +89,7 @@ impl Settler {
     pub fn settle(&mut self, drive: &[Option<Trit>])
         requires { length drive.now ≡ self.old.network.nodes }
         ensures network { self.new.network ≡ self.old.network }
+        ensures sized { length self.new.values ≡ self.old.network.nodes }
         ensures settled { IsSettled (record { channels = self.old.network.channels; driver = driver_at drive.now; before = value_at self.old.values }) (value_at self.new.values) }
     {
         self.before.copy_from_slice(&self.values);

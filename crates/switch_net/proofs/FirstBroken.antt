@@ -19,9 +19,10 @@ use Rattle.switch_net.specs.Drawn.{IsNetwork, IsTag, IsOfNode}
 use Rattle.switch_net.specs.Breaks.{BreaksAt, MeetsDriver, IsDrivenTwice, IsMissing, IsFirstOfMask, IsFirstOfCircuit, broken}
 use Rattle.switch_net.specs.Breaks.BreaksAt.{one, two}
 use Rattle.switch_net.specs.Laws.{OneFirstOfMask, OneFirstOfCircuit}
-use Rattle.switch_net.proofs.Owners.{join_chains, turn_chain}
-use Rattle.switch_net.proofs.Flips.{join_flip}
-use Rattle.switch_net.proofs.Unique.{drawn_once, one_square}
+use Rattle.lam_geom.proofs.Chains.{join_chains, turn_chain}
+use Rattle.switch_net.proofs.Joins.{join_flip}
+use Rattle.switch_net.proofs.Naming.{one_square}
+use Rattle.switch_net.proofs.Unique.{drawn_once}
 
 -- two that are first are one
 one_first : (P : ℕ → Type 0) (i j : ℕ) → P i → P j → ((k : ℕ) → k < i → ¬ P k) → ((k : ℕ) → k < j → ¬ P k) → i ≡ j
@@ -61,8 +62,8 @@ module _ (shapes : List Rect) (labels : List FlatLabel) (net : Network) (drawn :
       let t = tag_of i label h.at in
       let u = tag_of h.j h.earlier h.there in
       let k : u.0.node ≡ t.0.node = net.one_node_each u.0 t.0 u.1 t.1 (sym u.2.name ∙ h.name ∙ t.2.name) in
-      let s : t.2.square ≡ h.s = one_square (covered shapes) drawn.nodes drawn.are_nodes label t.2.square h.s t.2.names h.names in
-      let r : u.2.square ≡ h.t = one_square (covered shapes) drawn.nodes drawn.are_nodes h.earlier u.2.square h.t u.2.names h.named in
+      let s : t.2.square ≡ h.s = one_square (covered shapes) label t.2.square h.s t.2.names h.names in
+      let r : u.2.square ≡ h.t = one_square (covered shapes) h.earlier u.2.square h.t u.2.names h.named in
       let c = joined t.0.node u.2.square t.2.square (subst (λ n. IsOfNode (covered shapes) drawn.nodes n u.2.square) k u.2.node) t.2.node in
       h.apart (subst (λ x. Chain (Joined (covered shapes)) x h.s) r (subst (Chain (Joined (covered shapes)) u.2.square) s c))
 

@@ -5,7 +5,8 @@ mod Bounds
 mod Exists
 mod Again
 mod Owners
-mod Flips
+pub mod Joins
+pub mod Naming
 mod Pieces
 mod Unique
 mod FirstBroken

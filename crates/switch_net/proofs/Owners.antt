@@ -1,17 +1,7 @@
 -- Chains of joins, and of what owns the joined things.
 use Rattle.lam_geom.specs.Chains.{Chain}
 use Rattle.lam_geom.specs.Chains.Chain.{here, link}
-
-pub join_chains : {S : Type 0} {J : S → S → Type 0} {s t u : S} → Chain J s t → Chain J t u → Chain J s u
-join_chains here d = d
-join_chains (link j c) d = link j (join_chains c d)
-
-pub one_link : {S : Type 0} {J : S → S → Type 0} {s t : S} → J s t → Chain J s t
-one_link j = link j here
-
-pub turn_chain : {S : Type 0} {J : S → S → Type 0} → ((a b : S) → J a b → J b a) → {s t : S} → Chain J s t → Chain J t s
-turn_chain flip here = here
-turn_chain flip (link {s = s} {t = t} j c) = join_chains (turn_chain flip c) (one_link (flip s t j))
+use Rattle.lam_geom.proofs.Chains.{join_chains}
 
 -- Joins of S that lead from what o owns to what p owns are followed by chains among the owners.
 pub follow : {S O : Type 0} {J : S → S → Type 0} {L : O → O → Type 0} (Owns : O → S → Type 0)
@@ -55,7 +45,3 @@ pub things_from_owners : {S O : Type 0} {J : S → S → Type 0} {L : O → O �
 things_from_owners {J = J} {Owns = Owns} f {s = s} {t = t} {p = p} hs ht c =
     let a = follow_back Owns (λ o q u l h. let b = f.bridge o q l in (b.1, b.3, join_chains (f.one o u b.0 h b.2) b.4)) c s hs in
     join_chains a.2 (f.one p a.0 t a.1 ht)
-
-pub map_chain : {S : Type 0} {J K : S → S → Type 0} → ((s t : S) → J s t → K s t) → {s t : S} → Chain J s t → Chain K s t
-map_chain f here = here
-map_chain f (link {s = s} {t = t} j c) = link (f s t j) (map_chain f c)

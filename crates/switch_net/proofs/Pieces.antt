@@ -10,15 +10,14 @@ use Rattle.switch_net.specs.Conductors.{Conducts, Joined, IsChannelSquare}
 use Rattle.switch_net.specs.Conductors.Joined.{beside, contact}
 use Rattle.switch_net.specs.Cutting.{AreCut, Touching, Linked, ConductorsFollowPieces, ChannelsFollowPieces}
 use Rattle.switch_net.specs.Cutting.Linked.{touch, meet}
-use Rattle.switch_net.proofs.Owners.{one_link, map_chain, Follows, owners_from_things, things_from_owners}
+use Rattle.lam_geom.proofs.Chains.{one_link, map_chain}
+use Rattle.lam_geom.proofs.SquareOrder.{same_square}
+use Rattle.switch_net.proofs.Owners.{Follows, owners_from_things, things_from_owners}
 
 -- one of the rectangles has the square
 record Owns (pieces : List Rect) (r : Rect) (s : Square) : Type 0 where
   pub in_ : Contains pieces r
   pub is : IsIn r s
-
-same_square : (s t : Square) → s.layer ≡ t.layer → s.x ≡ t.x → s.y ≡ t.y → s ≡ t
-same_square s t e f g = λ i. record { layer = e i; x = f i; y = g i }
 
 -- a square of each of two rectangles, joined
 record Bridge (Is : Square → Type 0) (pieces : List Rect) (r q : Rect) : Type 0 where

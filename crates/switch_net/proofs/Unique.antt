@@ -1,31 +1,31 @@
 -- The classes of joined things are determined, and so is the network that a mask draws.
 use Rattle.std.proofs.Common.{ℕ, zero, suc, ◌≡◌, ◌<◌, ◌⊎◌, inl, inr, refl, sym, ◌∙◌, ap, subst, subst₂, arith, List, [], ◌∷◌, length, get_or, Contains}
-use Rattle.std.specs.Prelude.{All, AllPairs, ℤ, Some, None, Option}
+use Rattle.std.specs.Prelude.{All, AllPairs, ℤ}
 use Rattle.std.proofs.Props.{props}
 use mathlib.Core.HLevel.{is_prop→PathP}
 use Rattle.std.specs.List.{AllZip}
-use Rattle.std.proofs.lemmas.Int.{ints, by_lt_z}
 use Rattle.std.proofs.lemmas.Bool.{cases_lt}
 use Rattle.std.proofs.lemmas.List.{get_or_default}
 use Rattle.std.proofs.lemmas.List.Elements.{All-contains}
 use Rattle.lam_geom.specs.declared.layer.Layer.{Layer}
-use Rattle.lam_geom.specs.declared.layer.Layer.TheVariants.{ND, NP, NC, NM, NI, NB, NG}
 use Rattle.switch_net.specs.declared.network.ChannelKind.{ChannelKind}
 use Rattle.switch_net.specs.declared.network.ChannelKind.TheVariants.{Enhancement, Depletion, Partial}
 use Rattle.lam_geom.specs.declared.label.FlatLabel.{FlatLabel}
 use Rattle.lam_geom.specs.Chains.Chain.{here}
-use Rattle.lam_geom.specs.Squares.{Square, Before, rank, covered}
+use Rattle.lam_geom.specs.Squares.{Square, Before, covered}
 use Rattle.switch_net.specs.declared.network.Channel.{Channel}
 use Rattle.switch_net.specs.declared.network.Tag.{Tag}
 use Rattle.switch_net.specs.declared.network.Network.{Network}
 use Rattle.switch_net.specs.OneNode.{OneNodeEach}
 use Rattle.switch_net.specs.Classes.{AreClasses, IsInClass}
 use Rattle.switch_net.specs.Conductors.{Joined, IsChannelSquare}
-use Rattle.switch_net.specs.Labels.{Names, IsNamed, IsFirst}
 use Rattle.switch_net.specs.Drawn.{AreNodes, IsNetwork, IsChannelAt, IsTag, IsKind, IsOfChannel}
 use Rattle.switch_net.specs.Laws.{OneNetwork, OneNumbering}
-use Rattle.switch_net.proofs.Owners.{join_chains, turn_chain}
-use Rattle.switch_net.proofs.Flips.{join_flip, adjoin_flip}
+use Rattle.lam_geom.proofs.Chains.{join_chains, turn_chain}
+use Rattle.lam_geom.proofs.Adjoins.{adjoin_flip}
+use Rattle.lam_geom.proofs.SquareOrder.{before_asymmetric, before_total}
+use Rattle.switch_net.proofs.Joins.{join_flip}
+use Rattle.switch_net.proofs.Naming.{one_square}
 
 abbrev Member : {A : Type 0} → List A → A → Type 0
 Member [] a = ⊥
@@ -110,46 +110,8 @@ one_class {S = S} {Is = Is} {J = J} {B = B} o flip xs a j k s h i = elim (cases_
         a.first (get_or xs k s) (get_or xs j s) (k, i.0, get_or_default xs k (get_or xs k s) s i.0) (a.each j s h.0)
         (join_chains i.1 (turn_chain flip h.1)) (a.ascending j k s l i.0)
 
-rank_of : ℕ → Layer
-rank_of zero = NM
-rank_of (suc zero) = NP
-rank_of (suc (suc zero)) = ND
-rank_of (suc (suc (suc zero))) = NC
-rank_of (suc (suc (suc (suc zero)))) = NI
-rank_of (suc (suc (suc (suc (suc zero))))) = NB
-rank_of (suc (suc (suc (suc (suc (suc n)))))) = NG
-
-rank_back : (l : Layer) → rank_of (rank l) ≡ l
-unfolding rank_of
-rank_back ND = refl
-rank_back NP = refl
-rank_back NC = refl
-rank_back NM = refl
-rank_back NI = refl
-rank_back NB = refl
-rank_back NG = refl
-
-same_square : (s t : Square) → s.layer ≡ t.layer → s.x ≡ t.x → s.y ≡ t.y → s ≡ t
-same_square s t e f g = λ i. record { layer = e i; x = f i; y = g i }
-
 square_order : IsStrictTotal Before
-square_order = record {
-  asymmetric = λ s t a b. omega (arith, ints);
-  total = λ s t. by_lt_z s.y t.y (λ a. inl (inl a)) (λ a. by_lt_z t.y s.y (λ b. inr (inr (inl b))) (λ b. row s t (omega (arith, ints))));
-}
-  where
-    column : (s t : Square) → s.y ≡ t.y → s.x ≡ t.x → Before s t ⊎ (s ≡ t) ⊎ Before t s
-    column s t e f = elim (cases_lt (rank s.layer) (rank t.layer)) [
-      | inl a ↦ inl (inr (inr (e, f, a)))
-      | inr a ↦ elim (cases_lt (rank t.layer) (rank s.layer)) [
-        | inl b ↦ inr (inr (inr (inr (sym e, sym f, b))))
-        | inr b ↦ (let k : rank s.layer ≡ rank t.layer = omega arith in
-            inr (inl (same_square s t (sym (rank_back s.layer) ∙ ap rank_of k ∙ rank_back t.layer) f e)))
-      ]
-    ]
-
-    row : (s t : Square) → s.y ≡ t.y → Before s t ⊎ (s ≡ t) ⊎ Before t s
-    row s t e = by_lt_z s.x t.x (λ a. inl (inr (inl (e, a)))) (λ a. by_lt_z t.x s.x (λ b. inr (inr (inr (inl (sym e, b))))) (λ b. column s t e (omega (arith, ints))))
+square_order = record { asymmetric = before_asymmetric; total = before_total }
 
 -- ---- the parts of a network
 
@@ -187,29 +149,9 @@ module _ (covers : Layer → ℤ → ℤ → Type 0) (nodes : List Square) (are 
       let g : c.kind ≡ d.kind = one_kind r c.kind d.kind (record { is = i; chain = here }) a.kind b.kind in
       λ z. record { gate = e z; ends = f z; kind = g z }
 
-  one_first : (x y : ℤ) (l m : Layer) → IsFirst covers x y l → IsFirst covers x y m → l ≡ m
-  one_first x y l m a b = elim (cases_lt (rank l) (rank m)) [
-    | inl h ↦ absurd (b.1 l h a.0)
-    | inr h ↦ elim (cases_lt (rank m) (rank l)) [
-      | inl k ↦ absurd (a.1 m k b.0)
-      | inr k ↦ (let e : rank l ≡ rank m = omega arith in sym (rank_back l) ∙ ap rank_of e ∙ rank_back m)
-    ]
-  ]
-
-  one_named : (x y : ℤ) (o : Option Layer) (l m : Layer) → IsNamed covers x y o l → IsNamed covers x y o m → l ≡ m
-  one_named x y None l m a b = one_first x y l m a b
-  one_named x y (Some k) l m (inl a) (inl b) = a.0 ∙ sym b.0
-  one_named x y (Some k) l m (inl a) (inr b) = absurd (b.0 a.1)
-  one_named x y (Some k) l m (inr a) (inl b) = absurd (a.0 b.1)
-  one_named x y (Some k) l m (inr a) (inr b) = one_first x y l m a.1 b.1
-
-  pub one_square : (label : FlatLabel) (s t : Square) → Names covers label s → Names covers label t → s ≡ t
-  one_square label s t a b =
-      same_square s t (one_named label.x label.y label.layer s.layer t.layer a.layer b.layer) (a.x ∙ sym b.x) (a.y ∙ sym b.y)
-
   one_tag : (label : FlatLabel) (t u : Tag) → IsTag covers nodes label t → IsTag covers nodes label u → t ≡ u
   one_tag label t u a b =
-      let s : a.square ≡ b.square = one_square label a.square b.square a.names b.names in
+      let s : a.square ≡ b.square = one_square covers label a.square b.square a.names b.names in
       let n : t.node ≡ u.node = one_node t.node u.node b.square (subst (IsInClass (Joined covers) nodes t.node) s a.node) b.node in
       let o : t.offset ≡ u.offset = sym a.offset ∙ b.offset in
       let e : t.name ≡ u.name = sym a.name ∙ b.name in

@@ -10,6 +10,7 @@ use Rattle.lam_geom.specs.declared.layer.Layer.{Layer}
 use Rattle.lam_geom.specs.declared.label.FlatLabel.{FlatLabel}
 use Rattle.lam_geom.specs.Chains.{Chain}
 use Rattle.lam_geom.specs.Squares.{Square}
+use Rattle.switch_net.specs.declared.limits.TheConstants.{MOST_NODES_AND_CHANNELS}
 use Rattle.switch_net.specs.declared.network.Tag.{Tag}
 use Rattle.switch_net.specs.declared.network.Network.{Network}
 use Rattle.switch_net.specs.Conductors.{Joined}
@@ -53,13 +54,13 @@ pub record IsMissing (net : Network) (wanted : List (List ℕ)) (i : ℕ) (name 
   pub at : slice_get wanted i ≡ Some name
   pub none : (t : Tag) → Contains net.tags t → t.name ≢ name
 
--- N5: nodes and channels together are over 16,777,216
+-- N5: nodes and channels together are too many
 pub record AreTooMany (covers : Layer → ℤ → ℤ → Type 0) : Type 0 where
   pub nodes : List Square
   pub regions : List Square
   pub are_nodes : AreNodes covers nodes
   pub are_regions : AreRegions covers regions
-  pub over : 16_777_216 < length nodes + length regions
+  pub over : MOST_NODES_AND_CHANNELS < length nodes + length regions
 
 -- the label breaks N1 or N2
 pub data BreaksAt (covers : Layer → ℤ → ℤ → Type 0) (labels : List FlatLabel) (i : ℕ) : Type 0 where

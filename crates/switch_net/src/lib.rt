@@ -1,11 +1,13 @@
 //! The network of switches that a mask draws, and what it means that one is settled.
 #![tactic(auto)]
 
-mod law;
+pub mod laws;
+mod limits;
 mod network;
 
-pub use law::{
+pub use laws::{
     circuits_run, first_rule_is_determined, network_is_determined, networks_settle,
     nodes_are_given, pieces_tell_nodes,
 };
+pub use limits::MOST_NODES_AND_CHANNELS;
 pub use network::{Channel, ChannelKind, Network, Tag};

@@ -48,7 +48,7 @@ loop-k-preserved c =
     c.as_slice-pads.ensures in
     let at : nodes ≡ get_or own k nodes = is ∙ get_or_default own k c.index-pads-k.result nodes lt in
     let bits : low_trits (length nodes) word ≡ map values nodes =
-    c.word_of.ensures.bits ∙ ap (λ (vs : List Trit). map (value_at vs) nodes) c.values-values.ensures in
+    c.word_of.ensures.bits ∙ ap (λ (vs : List Trit). map (value_at vs) nodes) c.values-values.ensures.same in
     let shown : AllZip (IsShown net values) (take k pads) (take k outputs) =
     subst (λ (r : Running). AllZip (IsShown r.network (value_at r.values)) (take k r.pads.outputs) (take k outputs)) (sym c.self.view_is)
     c.loop-k.invariant.shown in

@@ -1,6 +1,0 @@
--- The law of what is read.
-use Rattle.cif_form.proofs.Fitting.{command_fits}
-use Rattle.cif_form.proofs.law.read_command_fits.Goals as goal
-
-pub returns : goal.returns
-returns c = command_fits

@@ -1,0 +1,11 @@
+pub mod Plan
+pub mod Room
+pub mod Shape
+pub mod Drawing
+pub mod Switches
+pub mod Numbers
+pub mod Places
+pub mod Same
+pub mod Theorem
+pub mod Counted
+pub mod Even

@@ -1,0 +1,15 @@
+//! Fabrics: segments of metal in rows, lines of diffusion in columns, and tiles where they cross.
+#![tactic(auto)]
+
+mod chip;
+mod drawing;
+mod fabric;
+pub mod laws;
+mod numbers;
+mod places;
+mod switches;
+mod thing;
+
+pub use chip::{Chip, ChipLabel};
+pub use fabric::Fabric;
+pub use thing::{Line, Mark, Segment, Side};

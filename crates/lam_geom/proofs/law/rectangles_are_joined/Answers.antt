@@ -1,6 +1,0 @@
--- The law of a rectangle's squares.
-use Rattle.lam_geom.proofs.Rectangles.{rectangles_joined}
-use Rattle.lam_geom.proofs.law.rectangles_are_joined.Goals as goal
-
-pub returns : goal.returns
-returns c = rectangles_joined

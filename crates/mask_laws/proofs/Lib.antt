@@ -1,0 +1,7 @@
+mod Decided
+mod Ordered
+mod Classes
+mod Squares
+mod Networks
+mod SameSquares
+mod Judged

@@ -1,0 +1,4 @@
+use Rattle.mp_order.proofs.laws.one_environment.Goals as goal
+
+pub returns : goal.returns
+returns c = let (order, ordered) = c.order_exists.ensures in c.exactly_one_environment.ensures order ordered

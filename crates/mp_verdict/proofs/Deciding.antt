@@ -1,0 +1,179 @@
+-- Decided claims, and the earliest place where a claim on places holds.
+use Rattle.std.proofs.Common.{◌≡◌, ◌⊎◌, inl, inr, ℕ, zero, suc, ◌<◌, ◌≤◌, List, [], ◌∷◌, Bool, true, false, length, refl, sym, ◌∙◌, ap, subst, arith, get_or}
+use Rattle.std.specs.Prelude.{All, Contains}
+use Rattle.std.specs.Str.{bytes_eq}
+use Rattle.std.proofs.lemmas.Bool.{cases_lt, cases_eq}
+use Rattle.std.proofs.lemmas.List.Elements.{All-contains}
+use Rattle.std.proofs.lemmas.Slice.Eq.{bytes_eq-Decides}
+use Rattle.mp_base.specs.declared.refusal.Place.{Place}
+use Rattle.mp_rules.specs.Entries.{IsAt}
+
+-- ---- claims
+
+abbrev pub Decided : Type 0 → Type 0
+Decided A = A ⊎ (A → ⊥)
+
+pub same_claim : {A B : Type 0} → Decided A → (A → B) → (B → A) → Decided B
+same_claim (inl a) f g = inl (f a)
+same_claim (inr none) f g = inr (λ b. none (g b))
+
+pub both_of : {A B : Type 0} → Decided A → Decided B → Decided (A × B)
+both_of (inl a) (inl b) = inl (a, b)
+both_of (inl a) (inr none) = inr (λ (x, y). none y)
+both_of (inr none) other = inr (λ (x, y). none x)
+
+pub one_of : {A B : Type 0} → Decided A → Decided B → Decided (A ⊎ B)
+one_of (inl a) other = inl (inl a)
+one_of (inr none) (inl b) = inl (inr b)
+one_of (inr none) (inr nor) = inr (λ h. elim h [ inl a ↦ none a | inr b ↦ nor b ])
+
+pub not_so : {A : Type 0} → Decided A → Decided (A → ⊥)
+not_so (inl a) = inr (λ none. none a)
+not_so (inr none) = inl none
+
+pub is_bit : (b : Bool) → Decided (b ≡ true)
+is_bit true = inl refl
+is_bit false = inr (λ e. absurd (cc))
+
+pub is_number : (m n : ℕ) → Decided (m ≡ n)
+is_number m n = elim (cases_eq m n) [ inl same ↦ inl same | inr other ↦ inr other ]
+
+pub is_below : (m n : ℕ) → Decided (m < n)
+is_below m n = elim (cases_lt m n) [ inl lt ↦ inl lt | inr ge ↦ inr (λ lt. omega (arith, lt, ge)) ]
+
+pub is_within : (m n : ℕ) → Decided (m ≤ n)
+is_within m n = elim (cases_lt n m) [ inl lt ↦ inr (λ le. omega (arith, lt, le)) | inr ge ↦ inl ge ]
+
+pub is_name : (x y : List ℕ) → Decided (x ≡ y)
+is_name x y = same_claim (is_bit (bytes_eq x y)) (bytes_eq-Decides x y).0 (bytes_eq-Decides x y).1
+
+-- ---- entries of lists
+
+pub one_entry : {X : Type 0} (xs : List X) (k : ℕ) (x y : X) → IsAt xs k x → IsAt xs k y → x ≡ y
+one_entry [] k x y (lt, is) other = absurd (omega (arith, lt))
+one_entry (z ∷ zs) zero x y (lt, is) (below, also) = is ∙ sym also
+one_entry (z ∷ zs) (suc k) x y (lt, is) (below, also) = one_entry zs k x y (omega (arith, lt), is)
+    (omega (arith, below), also)
+
+pub some_entry : {X : Type 0} (xs : List X) (k : ℕ) → k < length xs → (x : X) × IsAt xs k x
+some_entry [] k lt = absurd (omega (arith, lt))
+some_entry (x ∷ xs) zero lt = (x, (lt, refl))
+some_entry (x ∷ xs) (suc k) lt = let (y, at) = some_entry xs k (omega (arith, lt)) in (y, (lt, at.1))
+
+-- an entry with a property
+abbrev pub Entry : {X : Type 0} → List X → (ℕ → X → Type 0) → Type 0
+Entry {X} xs R = (k : ℕ) × (x : X) × IsAt xs k x × R k x
+
+pub some_at : {X : Type 0} (xs : List X) (R : ℕ → X → Type 0) → ((k : ℕ) (x : X) → IsAt xs k x → Decided (R k x))
+    → Decided (Entry xs R)
+some_at [] R known = inr (λ (k, x, (lt, is), h). omega (arith, lt))
+some_at {X} (y ∷ ys) R known = by (known 0 y (omega arith, refl))
+    (some_at ys (λ k x. R (suc k) x) (λ k x at. known (suc k) x (let lt = at.0 in omega (arith, lt), at.1)))
+  where
+    by : Decided (R 0 y) → Decided (Entry ys (λ k x. R (suc k) x)) → Decided (Entry (y ∷ ys) R)
+    by (inl h) rest = inl (0, y, (omega arith, refl), h)
+    by (inr none) (inl (k, x, (lt, is), h)) = inl (suc k, x, (omega (arith, lt), is), h)
+    by (inr none) (inr nor) = inr neither
+      where
+        neither : Entry (y ∷ ys) R → ⊥
+        neither (zero, x, (lt, is), h) = none (subst (λ z. R 0 z) is h)
+        neither (suc k, x, (lt, is), h) = nor (k, x, (omega (arith, lt), is), h)
+
+-- a member with a property
+pub some_in : {X : Type 0} (xs : List X) (R : X → Type 0) → ((x : X) → Contains xs x → Decided (R x))
+    → Decided ((x : X) × Contains xs x × R x)
+some_in xs R known = same_claim (some_at xs (λ k x. R x) (λ k x (lt, is). known x (k, lt, sym is)))
+    (λ (k, x, (lt, is), h). (x, (k, lt, sym is), h)) (λ (x, (k, lt, is), h). (k, x, (lt, sym is), h))
+
+pub is_in : {X : Type 0} (xs : List X) (x : X) → ((y : X) → Decided (y ≡ x)) → Decided (Contains xs x)
+is_in {X} xs x known = same_claim (some_at xs (λ k y. y ≡ x) (λ k y at. known y)) fore back
+  where
+    fore : Entry xs (λ k y. y ≡ x) → Contains xs x
+    fore (k, y, (lt, is), e) = subst (λ z. Contains xs z) e (k, lt, sym is)
+
+    back : Contains xs x → Entry xs (λ k y. y ≡ x)
+    back (k, lt, is) = (k, x, (lt, sym is), refl)
+
+pub holds_of_all : {X : Type 0} (P : X → Type 0) → ((x : X) → Decided (P x)) → (xs : List X) → Decided (All P xs)
+holds_of_all {X} P known xs = by (some_in xs (λ x. P x → ⊥) (λ x c. not_so (known x)))
+  where
+    by : Decided ((x : X) × Contains xs x × (P x → ⊥)) → Decided (All P xs)
+    by (inl (x, c, not)) = inr (λ all. not (All-contains P xs x all c))
+    by (inr none) = inl (λ k d lt. elim (known (get_or xs k d)) [
+      | inl h ↦ h
+      | inr not ↦ (let (x, at) = some_entry xs k lt in absurd (none (get_or xs k d, (k, lt, again xs k d lt), not)))
+    ])
+      where
+        again : (ys : List X) (k : ℕ) (d : X) → k < length ys → get_or ys k (get_or ys k d) ≡ get_or ys k d
+        again [] k d lt = absurd (omega (arith, lt))
+        again (y ∷ ys) zero d lt = refl
+        again (y ∷ ys) (suc k) d lt = again ys k d (omega (arith, lt))
+
+-- ---- places
+
+-- a claim holds at no place, or at one that no other precedes
+pub data First (P : Place → Type 0) : Type 0 where
+  nowhere : ((at : Place) → P at → ⊥) → First P
+  earliest : (at : Place) → P at → ((there : Place) → P there → at.offset ≤ there.offset) → First P
+
+pub same_places : {P Q : Place → Type 0} → First P → ((at : Place) → P at → Q at) → ((at : Place) → Q at → P at)
+    → First Q
+same_places (nowhere none) f g = nowhere (λ at h. none at (g at h))
+same_places (earliest at h least) f g = earliest at (f at h) (λ there k. least there (g there k))
+
+pub either_place : {P Q : Place → Type 0} → First P → First Q → First (λ at. P at ⊎ Q at)
+either_place (nowhere none) (nowhere nor) = nowhere (λ at h. elim h [ inl p ↦ none at p | inr q ↦ nor at q ])
+either_place (nowhere none) (earliest at h least) = earliest at (inr h)
+    (λ there k. elim k [ inl p ↦ absurd (none there p) | inr q ↦ least there q ])
+either_place (earliest at h least) (nowhere nor) = earliest at (inl h)
+    (λ there k. elim k [ inl p ↦ least there p | inr q ↦ absurd (nor there q) ])
+either_place {P} {Q} (earliest a h first) (earliest b k second) = by (cases_lt b.offset a.offset)
+  where
+    by : (b.offset < a.offset) ⊎ (a.offset ≤ b.offset) → First (λ at. P at ⊎ Q at)
+    by (inl lt) = earliest b (inr k) (λ there t. elim t [
+      | inl p ↦ (let le = first there p in omega (arith, le, lt))
+      | inr q ↦ second there q
+    ])
+    by (inr le) = earliest a (inl h) (λ there t. elim t [
+      | inl p ↦ first there p
+      | inr q ↦
+          (let more = second there q in omega (arith, le, more))
+    ])
+
+pub this_place : (A : Type 0) (place : Place) → Decided A → First (λ at. A × (at ≡ place))
+this_place A place (inl a) = earliest place (a, refl) (λ there (h, e). let o = ap Place.offset e in omega (arith, o))
+this_place A place (inr none) = nowhere (λ at (a, e). none a)
+
+pub where_so : {A : Type 0} {P : Place → Type 0} → Decided A → First P → First (λ at. A × P at)
+where_so (inl a) h = same_places h (λ at p. (a, p)) (λ at (b, p). p)
+where_so (inr none) h = nowhere (λ at (a, p). none a)
+
+-- the earliest of the places of a list's entries
+abbrev pub Entries : {X : Type 0} → List X → (ℕ → X → Place → Type 0) → Place → Type 0
+Entries {X} xs R at = (k : ℕ) × (x : X) × IsAt xs k x × R k x at
+
+pub first_of_all : {X : Type 0} (xs : List X) (R : ℕ → X → Place → Type 0)
+    → ((k : ℕ) (x : X) → IsAt xs k x → First (R k x)) → First (Entries xs R)
+first_of_all [] R known = nowhere (λ at (k, x, (lt, is), h). omega (arith, lt))
+first_of_all {X} (y ∷ ys) R known = same_places (either_place (known 0 y (omega arith, refl))
+    (first_of_all ys (λ k x. R (suc k) x) (λ k x at. known (suc k) x (let lt = at.0 in omega (arith, lt), at.1))))
+    fore back
+  where
+    fore : (at : Place) → R 0 y at ⊎ Entries ys (λ k x. R (suc k) x) at → Entries (y ∷ ys) R at
+    fore at (inl h) = (0, y, (omega arith, refl), h)
+    fore at (inr (k, x, (lt, is), h)) = (suc k, x, (omega (arith, lt), is), h)
+
+    back : (at : Place) → Entries (y ∷ ys) R at → R 0 y at ⊎ Entries ys (λ k x. R (suc k) x) at
+    back at (zero, x, (lt, is), h) = inl (subst (λ z. R 0 z at) is h)
+    back at (suc k, x, (lt, is), h) = inr (k, x, (omega (arith, lt), is), h)
+
+-- the same of the entry at an index, if there is one
+pub first_of_entry : {X : Type 0} (xs : List X) (k : ℕ) (R : X → Place → Type 0)
+    → ((x : X) → IsAt xs k x → First (R x)) → First (λ at. (x : X) × IsAt xs k x × R x at)
+first_of_entry {X} xs k R known = by (cases_lt k (length xs))
+  where
+    by : (k < length xs) ⊎ (length xs ≤ k) → First (λ at. (x : X) × IsAt xs k x × R x at)
+    by (inr past) = nowhere (λ at (x, (lt, is), h). omega (arith, lt, past))
+    by (inl lt) = let (x, at_k) = some_entry xs k lt in
+        same_places (known x at_k) (λ at h. (x, at_k, h)) (λ at (y, also, h). subst (λ z. R z at)
+        (one_entry xs k y x also at_k) h)

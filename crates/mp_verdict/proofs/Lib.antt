@@ -1,0 +1,5 @@
+mod Deciding
+mod Forms
+mod Words
+mod Ruled
+mod Verdict

@@ -1,0 +1,11 @@
+pub mod Values
+pub mod Solving
+pub mod Exists
+pub mod Runs
+pub mod Adding
+pub mod Machines
+pub mod Loosening
+pub mod Climbing
+pub mod Passing
+pub mod Counting
+pub mod Starting

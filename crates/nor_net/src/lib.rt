@@ -1,0 +1,9 @@
+//! Nets of NOR gates and latches, and what it means that one is settled.
+#![tactic(auto)]
+
+pub mod laws;
+mod net;
+mod setting;
+
+pub use net::{Net, NetId, NetKind, Part, Phase};
+pub use setting::settle_net;

@@ -1,0 +1,4 @@
+pub mod Composing
+mod Paths
+mod Settling
+mod Running

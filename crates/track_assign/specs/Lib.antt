@@ -1,0 +1,2 @@
+pub mod Density
+pub mod Rows
