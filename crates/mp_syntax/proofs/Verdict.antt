@@ -14,6 +14,7 @@ use Rattle.mp_shapes.specs.Standing.{AreClasses, E10, IsFirstE10}
 use Rattle.mp_program.specs.declared.program.Program.{Program}
 use Rattle.mp_syntax.specs.Shape.{IsShape, IsFirst, number_at, name_at, def_at, always_at, process_at, expr_at, form_at, expr_index, form_index, is_expr, is_form, nodes_below}
 use Rattle.mp_syntax.proofs.Fitting.{Known, fits_at}
+use Rattle.mp_syntax.proofs.Trees.{whole_tree}
 use Rattle.mp_syntax.proofs.Widths.{one_form, width_refused}
 
 -- what is known of all forms
@@ -36,6 +37,7 @@ program_of f cs known r one low high = (
     always = flat_map (always_at f (form_index f cs)) (drop 3 (items_of (kind_at f r)));
     processes = filter_map (process_at f (form_index f cs)) (drop 3 (items_of (kind_at f r)));
     fits = fits_at f cs known r [] one low high _ _ _ _ _ _ _ refl refl refl refl refl refl refl;
+    tree = whole_tree f cs known r [] one;
   },
   record {
     root = r;

@@ -1,4 +1,4 @@
-use Rattle.form_reader.proofs.Order.{sound}
+use Rattle.form_reader.proofs.Soundness.{sound}
 use Rattle.form_reader.proofs.Symbols.{has_symbols}
 use Rattle.form_reader.proofs.laws.spelled_is_sound.Goals as goal
 
