@@ -10,7 +10,5 @@ mod numbers;
 mod pads;
 mod pins;
 mod presence;
-#[cfg(test)]
-mod tests;
 
 pub use checked::{Checked, check, weight};

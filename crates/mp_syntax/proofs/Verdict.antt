@@ -58,7 +58,7 @@ program_of f cs known r one low high = (
 wrong_width : (f : Forms) (cs : List (Option Class)) → Known f cs → (r : ℕ) → f.roots ≡ r ∷ []
     → ((at : Place) → E10 f at → ⊥)
     → (number_at f (slice_index (items_of (kind_at f r)) 2) ≡ 0)
-        ⊎ (32 < number_at f (slice_index (items_of (kind_at f r)) 2)) → (k : ℕ) × (at : Place) × IsFirst f k at
+    ⊎ (32 < number_at f (slice_index (items_of (kind_at f r)) 2)) → (k : ℕ) × (at : Place) × IsFirst f k at
 wrong_width f cs known r one whole bad =
     let n = slice_index (items_of (kind_at f r)) 2 in
     let at = (node f n).place in

@@ -9,8 +9,6 @@ mod laws;
 mod nodes;
 mod parser;
 mod ranks;
-#[cfg(test)]
-mod tests;
 
 pub use laws::{forms_verdict, one_program, shaped_is_unbroken};
 pub use mp_program::{
