@@ -34,7 +34,7 @@ use Rattle.fabric.proofs.Zones.{row_at, are_together, mark_stands}
 use Rattle.fabric.proofs.Conductors.{follows, at_channel, all_things, all_rows, layer_is, one_layer, they_meet}
 use Rattle.fabric.proofs.Conductors.{drawn_larger, crossing_is, crossing_of}
 use Rattle.fabric.proofs.Joins.{Owns, is_right_of, is_upon}
-use Rattle.fabric.proofs.Chains.{map_chain}
+use Rattle.lam_geom.proofs.Chains.{map_chain}
 use Rattle.fabric.proofs.Tables.{Part, Kind, Row, parts, channels, things, rows_all, all_ends, all_implants, is_beside}
 use Rattle.fabric.proofs.Tables.{is_inner, is_bare, is_implanted, is_pull_up, ends_at, right_of, upon, together}
 use Rattle.fabric.proofs.Tables.{is_layer, lies_in, meets, is_beside_passes, is_inner_passes, is_bare_passes}

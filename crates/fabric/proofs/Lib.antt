@@ -11,7 +11,7 @@ mod Zones
 mod Conductors
 mod Owners
 mod Joins
-mod Chains
+mod Following
 mod Together
 mod Marks
 mod Nodes

@@ -25,7 +25,8 @@ use Rattle.fabric.proofs.Local.{some_rows, crossing, passing, segment_lies}
 use Rattle.fabric.proofs.Back.{drawn_at}
 use Rattle.fabric.proofs.Zones.{mark_stands}
 use Rattle.fabric.proofs.Owners.{owner_conducts}
-use Rattle.fabric.proofs.Chains.{join_chains, join_flip}
+use Rattle.lam_geom.proofs.Chains.{join_chains}
+use Rattle.switch_net.proofs.Joins.{join_flip}
 use Rattle.fabric.proofs.Together.{square, spot, J, Reached, in_rectangle, owner_at, reach_rail, reach_segment}
 use Rattle.fabric.proofs.Together.{reach_line}
 use Rattle.fabric.proofs.Tables.{Part, part, parts}

@@ -35,7 +35,9 @@ use Rattle.fabric.proofs.Heights.{bands_lie}
 use Rattle.fabric.proofs.Local.{some_rows, segment_lies, line_lies, trunk_at, power_at, segment_at, line_at}
 use Rattle.fabric.proofs.Owners.{owner_conducts}
 use Rattle.fabric.proofs.Joins.{Owns, owned, owns_net}
-use Rattle.fabric.proofs.Chains.{join_chains, turn_chain, join_flip, adjoin_flip}
+use Rattle.lam_geom.proofs.Chains.{join_chains, turn_chain}
+use Rattle.switch_net.proofs.Joins.{join_flip}
+use Rattle.lam_geom.proofs.Adjoins.{adjoin_flip}
 use Rattle.fabric.proofs.Together.{anchor, some_height}
 use Rattle.fabric.proofs.Nodes.{nodes_are_nets}
 use Rattle.fabric.proofs.Channels.{OfMark, IsSwitchTile, has_channel, mark_of, of_mark, one_mark_of, chain_mark}

@@ -27,7 +27,9 @@ use Rattle.fabric.proofs.Local.{some_rows, crossing, passing}
 use Rattle.fabric.proofs.Zones.{mark_stands}
 use Rattle.fabric.proofs.Nets.{NetAt}
 use Rattle.fabric.proofs.Joins.{Owns, one_net_here, square_net, join_nets, owned}
-use Rattle.fabric.proofs.Chains.{join_chains, turn_chain, join_flip, follow}
+use Rattle.lam_geom.proofs.Chains.{join_chains, turn_chain}
+use Rattle.switch_net.proofs.Joins.{join_flip}
+use Rattle.fabric.proofs.Following.{follow}
 use Rattle.fabric.proofs.Together.{spot, anchor, J, Reached, owner_at, reach_trunk, reach_power, reach_ground}
 use Rattle.fabric.proofs.Together.{reach_rail, reach_segment, reach_line}
 use Rattle.fabric.proofs.Marks.{inside, by_cut, gate_high, gate_low, stub_left, stub_right, foot, plate, neck, gate}

@@ -32,7 +32,8 @@ use Rattle.fabric.specs.Numbers.{IsNumbered, is_tap, IsTapPair, AreClassNumbers}
 use Rattle.fabric.specs.Numbers.IsNumbered.{a_segment, a_line, the_ground, the_power}
 use Rattle.fabric.proofs.Local.{segment_lies, line_lies}
 use Rattle.fabric.proofs.Nets.{one_segment, one_line}
-use Rattle.fabric.proofs.Chains.{join_chains, one_link, turn_chain, follow}
+use Rattle.lam_geom.proofs.Chains.{join_chains, one_link, turn_chain}
+use Rattle.fabric.proofs.Following.{follow}
 use Rattle.fabric.proofs.Lists.{Member, member_contains, contains_member}
 use Rattle.fabric.proofs.Filters.{filter_has, filter_had, zip_at, zip_length}
 

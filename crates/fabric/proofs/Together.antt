@@ -25,7 +25,7 @@ use Rattle.fabric.proofs.Heights.{bands_lie}
 use Rattle.fabric.proofs.Local.{some_rows, line_lies, trunk_at, power_at, ground_at, rail_at, segment_at, line_at}
 use Rattle.fabric.proofs.Back.{drawn_at}
 use Rattle.fabric.proofs.Owners.{owner_conducts}
-use Rattle.fabric.proofs.Chains.{join_chains, map_chain}
+use Rattle.lam_geom.proofs.Chains.{join_chains, map_chain}
 use Rattle.fabric.proofs.Tables.{Part, part, parts}
 use Rattle.fabric.proofs.Tables.Kind.{of_line}
 
