@@ -9,6 +9,8 @@ mod tests;
 mod text;
 
 pub use forms::{Forms, Kind, Node};
-pub use laws::{one_first_rule, one_spelling, spelled_breaks_nothing, spelled_is_sound, text_verdict};
+pub use laws::{
+    one_first_rule, one_spelling, spelled_breaks_nothing, spelled_is_sound, text_verdict,
+};
 pub use reader::read_forms;
 pub use text::find_stray;

@@ -1,7 +1,7 @@
 -- Forms have the shape of a program, or break rule E10 or E11 first.
 use Rattle.std.proofs.Common.{◌≡◌, ◌⊎◌, inl, inr, ℕ, ◌<◌, ◌≤◌, List, [], ◌∷◌, Option, refl, arith, drop, map, length, slice_index}
 use Rattle.std.specs.List.{filter_map, flat_map}
-use Rattle.std.proofs.lemmas.Bool.{cases_lt, cases_eq}
+use Rattle.std.proofs.lemmas.Bool.{cases_lt}
 use Rattle.mp_base.specs.declared.refusal.Place.{Place}
 use Rattle.mp_base.specs.declared.refusal.Family.TheVariants.{E}
 use Rattle.mp_base.specs.declared.refusal.Spot.TheVariants.{At}
@@ -56,7 +56,7 @@ program_of f cs known r one low high = (
 wrong_width : (f : Forms) (cs : List (Option Class)) → Known f cs → (r : ℕ) → f.roots ≡ r ∷ []
     → ((at : Place) → E10 f at → ⊥)
     → (number_at f (slice_index (items_of (kind_at f r)) 2) ≡ 0)
-        ⊎ (32 < number_at f (slice_index (items_of (kind_at f r)) 2)) → (k : ℕ) × (at : Place) × IsFirst f k at
+    ⊎ (32 < number_at f (slice_index (items_of (kind_at f r)) 2)) → (k : ℕ) × (at : Place) × IsFirst f k at
 wrong_width f cs known r one whole bad =
     let n = slice_index (items_of (kind_at f r)) 2 in
     let at = (node f n).place in
