@@ -22,7 +22,8 @@ pub fn shaped_is_unbroken()
 
 /// Forms have the shape of a program, or break rule E10 or E11 first, at a place.
 pub fn forms_verdict()
-    ensures { (f : Forms) → IsSound f → HasSymbols f → ((p : Program) × IsShape f p) ⊎ ((k : ℕ) × (at : Place) × IsFirst f k at) }
+    ensures { (f : Forms) → IsSound f → HasSymbols f
+        → ((p : Program) × IsShape f p) ⊎ ((k : ℕ) × (at : Place) × IsFirst f k at) }
 {
     shapes_verdict();
 }
