@@ -4,8 +4,6 @@
 mod command;
 mod fitness;
 mod law;
-#[cfg(test)]
-mod tests;
 mod turns;
 
 pub use command::{Command, Item, Turn};

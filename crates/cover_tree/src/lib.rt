@@ -12,8 +12,6 @@ mod part;
 mod planes;
 mod raise;
 mod stretch;
-#[cfg(test)]
-mod tests;
 mod tree;
 mod trees;
 

@@ -5,7 +5,5 @@ mod drivers;
 mod extraction;
 mod over;
 mod tags;
-#[cfg(test)]
-mod tests;
 
 pub use extraction::extract;

@@ -4,8 +4,6 @@
 mod forms;
 mod laws;
 mod reader;
-#[cfg(test)]
-mod tests;
 mod text;
 
 pub use forms::{Forms, Kind, Node};

@@ -8,8 +8,6 @@ mod live;
 mod pairs;
 mod part;
 mod strips;
-#[cfg(test)]
-mod tests;
 
 pub use cutting::regions;
 pub use found::Regions;

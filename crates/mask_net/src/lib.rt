@@ -4,8 +4,6 @@
 mod file;
 pub mod laws;
 mod size;
-#[cfg(test)]
-mod tests;
 
 pub use file::network_of;
 pub use size::size_line;

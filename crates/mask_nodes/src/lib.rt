@@ -25,5 +25,3 @@ mod touching;
 pub use drawing::{Drawing, draw};
 pub use piece::{Part, Piece};
 
-#[cfg(test)]
-mod tests;

@@ -11,7 +11,5 @@ mod numbers;
 mod pads;
 mod pins;
 mod presence;
-#[cfg(test)]
-mod tests;
 
 pub use checked::{Checked, check};

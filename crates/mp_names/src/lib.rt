@@ -8,8 +8,6 @@ mod named;
 mod repeated;
 mod sorts;
 mod table;
-#[cfg(test)]
-mod tests;
 mod uses;
 
 pub use meaning::{Meanings, meanings_of};

@@ -4,8 +4,6 @@
 mod classes;
 mod layouts;
 mod table;
-#[cfg(test)]
-mod tests;
 
 pub use classes::judge_shapes;
 pub use layouts::{item_class, items_of, op_of, shape_of};

@@ -3,7 +3,5 @@
 
 mod judge;
 pub mod laws;
-#[cfg(test)]
-mod tests;
 
 pub use judge::check_source;

@@ -9,8 +9,6 @@ mod laws;
 mod nodes;
 mod parser;
 mod ranks;
-#[cfg(test)]
-mod tests;
 
 pub use laws::{one_program, shaped_is_unbroken};
 pub use parser::parse;

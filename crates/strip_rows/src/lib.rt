@@ -6,8 +6,6 @@ mod missing;
 mod pairs;
 mod rows;
 mod strip;
-#[cfg(test)]
-mod tests;
 
 pub use rows::StripRows;
 pub use strip::{Strip, Strips};
