@@ -1,12 +1,16 @@
-//! CIF files, read and flattened: what is drawn of each, or the rule that it breaks and where.
+//! CIF files, read and flattened: what is drawn of each, or the rule that it breaks and where; and commands written.
 #![tactic(auto)]
 
 mod answer;
 mod limits;
+mod unfit;
+mod written;
 
 use answer::answer;
 use limits::{doubled, nearly_full};
 use std::{fs, io};
+use unfit::show_unfit;
+use written::written;
 
 /// Files of which each line is a text.
 const LISTS: [&str; 5] = ["texts", "rules", "several", "shapes", "labels"];
@@ -26,6 +30,19 @@ const LAST: [&str; 8] = [
 fn show(rt: &HostRuntime, name: &str, text: &[u8]) -> io::Result<()> {
     let words = answer(rt.alloc(), text)?;
     println!(rt; "{name}\n    {words}")
+}
+
+/// Texts of which the commands are written again.
+fn show_written(rt: &HostRuntime) -> io::Result<()> {
+    let texts = fs::read(rt, "written.txt")?;
+    for text in texts.split(|byte| *byte == b'\n') {
+        if !text.is_empty() {
+            let name = String::from_utf8_lossy(rt.alloc(), text)?;
+            let words = written(rt.alloc(), text)?;
+            println!(rt; "{name}\n    {words}")?;
+        }
+    }
+    Ok(())
 }
 
 fn show_list(rt: &HostRuntime, name: &str) -> io::Result<()> {
@@ -64,10 +81,13 @@ fn main(rt: HostRuntime) -> io::Result<()> {
         show_list(&rt, name)?;
     }
     show(&rt, "an empty file", b"")?;
+    show(&rt, "a blank file", b" \n ")?;
     let inverter = fs::read(&rt, "inverter.cif")?;
     show(&rt, "an inverter", &inverter)?;
     show_fronts(&rt, &inverter)?;
     show_last(&rt)?;
     let text = doubled(rt.alloc())?;
-    show(&rt, "calls, doubled 40 times", text.as_bytes())
+    show(&rt, "calls, doubled 40 times", text.as_bytes())?;
+    show_written(&rt)?;
+    show_unfit(&rt)
 }

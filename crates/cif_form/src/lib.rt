@@ -5,8 +5,6 @@ mod command;
 mod fitness;
 pub mod laws;
 mod limits;
-#[cfg(test)]
-mod tests;
 mod turns;
 
 pub use command::{Command, Item, Turn};

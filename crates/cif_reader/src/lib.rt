@@ -6,8 +6,6 @@ mod command;
 mod found;
 mod numbers;
 mod read;
-#[cfg(test)]
-mod tests;
 mod words;
 
 pub use read::read_cif;

@@ -1,8 +1,6 @@
 //! Writing CIF: which commands have a text, and their texts.
 #![tactic(auto)]
 
-#[cfg(test)]
-mod tests;
 mod text;
 mod view;
 mod write;

@@ -10,8 +10,6 @@ mod plan;
 mod resolve;
 mod setting;
 mod split;
-#[cfg(test)]
-mod tests;
 mod word;
 
 pub use circuit::Circuit;

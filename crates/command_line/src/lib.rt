@@ -4,7 +4,5 @@
 mod app;
 mod command;
 mod matched;
-#[cfg(test)]
-mod tests;
 
 pub use command::{Command, command_of};

@@ -1,6 +1,6 @@
 //! Sources that break a rule, over whole runs.
 
-use crate::transcript;
+use crate::printed;
 use mp_base::NoMemory;
 use mp_checker::{Checked, weight};
 use mp_source::check_source;
@@ -35,7 +35,7 @@ const REFUSED: [(&str, &str); 6] = [
 #[test]
 fn refusals(rt: HostRuntime) -> Result<(), Fail> {
     for (source, line) in REFUSED {
-        let out = transcript(rt.alloc(), source.as_bytes(), b"")?;
+        let out = printed(rt.alloc(), "trace", source.as_bytes(), b"")?;
         assert_eq!(rt; out.bytes(), line.as_bytes());
     }
     Ok(())
@@ -68,7 +68,7 @@ fn weights(rt: HostRuntime) -> Result<(), Fail> {
         Some(1024)
     );
     let source = heavy(alloc, 337, b"(setq y t)")?;
-    let out = transcript(alloc, &source, b"")?;
+    let out = printed(alloc, "trace", &source, b"")?;
     assert_eq!(rt; out.bytes(), b"error E44 at 0 line 1 column 1\n".as_slice());
     Ok(())
 }

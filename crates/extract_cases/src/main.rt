@@ -2,9 +2,11 @@
 #![tactic(auto)]
 
 mod answer;
+mod whole;
 
 use answer::answer;
 use std::{fs, io};
+use whole::size;
 
 // Each line of this file is a text.
 fn show_texts(rt: &HostRuntime, name: &str) -> io::Result<()> {
@@ -19,7 +21,19 @@ fn show_texts(rt: &HostRuntime, name: &str) -> io::Result<()> {
     Ok(())
 }
 
+// The same of whole files, by their sizes alone.
+fn show_sizes(rt: &HostRuntime, name: &str) -> io::Result<()> {
+    let texts = fs::read(rt, name)?;
+    for text in texts.split(|byte| *byte == b'\n') {
+        let cif = String::from_utf8_lossy(rt.alloc(), text)?;
+        let words = size(rt.alloc(), text)?;
+        println!(rt; "{cif}\n    {words}")?;
+    }
+    Ok(())
+}
+
 fn main(rt: HostRuntime) -> io::Result<()> {
     show_texts(&rt, "worked.txt")?;
-    show_texts(&rt, "random.txt")
+    show_texts(&rt, "random.txt")?;
+    show_sizes(&rt, "whole.txt")
 }

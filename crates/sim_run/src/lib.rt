@@ -3,8 +3,6 @@
 
 mod law;
 mod simulation;
-#[cfg(test)]
-mod tests;
 
 pub use law::transcripts_exist;
 pub use simulation::Simulation;

@@ -10,8 +10,6 @@ mod piece;
 mod read;
 mod reading;
 mod rules;
-#[cfg(test)]
-mod tests;
 mod transcript;
 
 pub use given::{Given, Stimulus};

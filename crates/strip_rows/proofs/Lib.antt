@@ -6,4 +6,3 @@ pub mod Turning
 pub mod Stepping
 pub mod Meeting
 pub mod Advancing
-pub mod Rowing

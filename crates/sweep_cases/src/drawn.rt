@@ -1,6 +1,8 @@
-//! Masks that are drawn by hand.
+//! Drawings as they are written in the tables: rectangles by their layer, left, lower, right and upper edges; places by their
+//! left and lower edges; `;` ends each.
 
 use lam_geom::{Layer, Point, Rect};
+use std::alloc::{AllocError, Global};
 
 pub(crate) const fn rect(layer: Layer, x0: i64, y0: i64, x1: i64, y1: i64) -> Rect {
     Rect {
@@ -12,52 +14,62 @@ pub(crate) const fn rect(layer: Layer, x0: i64, y0: i64, x1: i64, y1: i64) -> Re
     }
 }
 
-/// A cross of two bars; a corner that touches nothing; a rectangle without squares; another layer.
-pub(crate) fn cross() -> [Rect; 5] {
-    [
-        rect(Layer::NM, -4, 2, 8, 5),
-        rect(Layer::NM, 0, -3, 3, 9),
-        rect(Layer::NM, 8, 5, 9, 6),
-        rect(Layer::NM, 20, 0, 20, 9),
-        rect(Layer::NP, -50, -50, 50, 50),
-    ]
+// The layer whose second letter this is.
+fn layer(letter: u8) -> Layer {
+    match letter {
+        b'D' => Layer::ND,
+        b'P' => Layer::NP,
+        b'C' => Layer::NC,
+        b'M' => Layer::NM,
+        b'I' => Layer::NI,
+        b'B' => Layer::NB,
+        _ => Layer::NG,
+    }
 }
 
-pub(crate) fn cross_places() -> [Point; 10] {
-    [
-        (0, -3),
-        (2, -3),
-        (3, -3),
-        (-4, 2),
-        (7, 4),
-        (0, 5),
-        (8, 5),
-        (8, 4),
-        (20, 1),
-        (i64::MIN, i64::MAX),
-    ]
-    .map(|(x, y)| Point { x, y })
+fn number(text: &[u8]) -> i64 {
+    let (is_negative, digits) = match text {
+        [b'-', digits @ ..] => (true, digits),
+        _ => (false, text),
+    };
+    let mut value = 0i64;
+    for digit in digits {
+        let digit = i64::from(digit.wrapping_sub(b'0'));
+        value = value.wrapping_mul(10).wrapping_add(digit);
+    }
+    if is_negative {
+        value.wrapping_neg()
+    } else {
+        value
+    }
 }
 
-/// A transistor with implant, of which the polysilicon crosses the diffusion: two ends and a channel, each beside the next.
-pub(crate) fn transistor() -> [Rect; 3] {
-    [
-        rect(Layer::ND, 0, 0, 12, 4),
-        rect(Layer::NP, 4, -4, 8, 8),
-        rect(Layer::NI, 2, -2, 10, 6),
-    ]
+fn numbers(alloc: Global, text: &[u8]) -> Result<Vec<i64>, AllocError> {
+    let mut numbers = Vec::new(alloc);
+    for word in text.split(|byte| *byte == b' ') {
+        numbers.push(number(word))?;
+    }
+    Ok(numbers)
 }
 
-pub(crate) fn transistor_places() -> [Point; 2] {
-    [Point { x: 4, y: 0 }, Point { x: 4, y: 4 }]
+pub(crate) fn shapes(alloc: Global, text: &[u8]) -> Result<Vec<Rect>, AllocError> {
+    let mut shapes = Vec::new(alloc);
+    for part in text.split(|byte| *byte == b';') {
+        if let [b'N', letter, b' ', edges @ ..] = part {
+            if let [x0, y0, x1, y1] = numbers(alloc, edges)?.as_slice() {
+                shapes.push(rect(layer(*letter), *x0, *y0, *x1, *y1))?;
+            }
+        }
+    }
+    Ok(shapes)
 }
 
-/// A rectangle of one layer.
-pub(crate) fn alone(layer: Layer) -> [Rect; 1] {
-    [rect(layer, 0, 0, 4, 4)]
-}
-
-/// Its lower left square.
-pub(crate) fn alone_place() -> [Point; 1] {
-    [Point { x: 0, y: 0 }]
+pub(crate) fn places(alloc: Global, text: &[u8]) -> Result<Vec<Point>, AllocError> {
+    let mut places = Vec::new(alloc);
+    for part in text.split(|byte| *byte == b';') {
+        if let [x, y] = numbers(alloc, part)?.as_slice() {
+            places.push(Point { x: *x, y: *y })?;
+        }
+    }
+    Ok(places)
 }

@@ -1,0 +1,19 @@
+//! Small networks that settle, and small circuits along stimuli.
+#![tactic(auto)]
+
+mod circuits;
+mod lines;
+mod long;
+mod network;
+mod settled;
+
+use lines::{Case, show_list};
+use long::show_rows;
+use std::io;
+
+fn main(rt: HostRuntime) -> io::Result<()> {
+    show_list(&rt, "settled.txt", Case::Settled)?;
+    show_list(&rt, "random.txt", Case::Settled)?;
+    show_list(&rt, "circuits.txt", Case::Circuit)?;
+    show_rows(&rt)
+}

@@ -1,0 +1,33 @@
+//! Small sources, with what becomes of each at every step from its text to the checked program; and small stimuli.
+#![tactic(auto)]
+
+mod forms;
+mod limits;
+mod names;
+mod shapes;
+mod sources;
+mod stimuli;
+mod syntax;
+mod table;
+mod words;
+
+use limits::show_limits;
+use std::io;
+use table::{Step, show_list};
+
+fn main(rt: HostRuntime) -> io::Result<()> {
+    show_list(&rt, "forms.txt", Step::Forms)?;
+    show_list(&rt, "nodes.txt", Step::Nodes)?;
+    show_list(&rt, "strays.txt", Step::Stray)?;
+    show_list(&rt, "operators.txt", Step::Operator)?;
+    show_list(&rt, "shapes.txt", Step::Shapes)?;
+    show_list(&rt, "classes.txt", Step::Classes)?;
+    show_list(&rt, "programs.txt", Step::Program)?;
+    show_list(&rt, "names.txt", Step::Names)?;
+    show_list(&rt, "weights.txt", Step::Weight)?;
+    show_list(&rt, "sources.txt", Step::Source)?;
+    show_list(&rt, "stimuli.txt", Step::Stimulus)?;
+    show_list(&rt, "known.txt", Step::Known)?;
+    show_list(&rt, "clocks.txt", Step::Clocks)?;
+    show_limits(&rt)
+}
