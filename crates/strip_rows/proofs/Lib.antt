@@ -6,3 +6,4 @@ pub mod Turning
 pub mod Stepping
 pub mod Meeting
 pub mod Advancing
+pub mod Rowing
