@@ -5,33 +5,71 @@ mod outside;
 #[cfg(test)]
 mod tests;
 
+use mp_base::Failed;
 use outside::{FileDepot, OutSink};
 use silicon::{Status, run};
+use std::alloc::Global;
+use std::env::{self, Args};
+use std::io::{self, ErrorKind, Write};
 use std::process::ExitCode;
-use std::{env, io};
+use std::rt::Files;
 
-fn words(rt: &HostRuntime) -> io::Result<Vec<String>> {
-    let mut words = Vec::new(rt.alloc());
-    for word in env::args(rt)?.skip(1) {
-        words.push(word)?;
+// The words after the program's name. Words that are no text are in no form, and nor are no words: `run` answers both
+// with the usage line.
+fn words_of(alloc: Global, args: io::Result<Args>) -> Result<Vec<String>, Status> {
+    let args = match args {
+        Ok(args) => args,
+        Err(error) => {
+            return if error.kind() == ErrorKind::OutOfMemory {
+                Err(Status::NoMemory)
+            } else {
+                Ok(Vec::new(alloc))
+            };
+        }
+    };
+    let mut words = Vec::new(alloc);
+    for word in args.skip(1) {
+        if words.push(word).is_err() {
+            return Err(Status::NoMemory);
+        }
     }
     Ok(words)
 }
 
-fn main(rt: HostRuntime) -> ExitCode {
-    let alloc = rt.alloc();
-    // Words that are no text are in no form, and nor are no words: `run` answers both with the usage line.
-    let words = words(&rt).unwrap_or(Vec::new(alloc));
-    let mut depot = FileDepot::new(&rt);
-    let mut out = OutSink::new(io::writer(&rt));
+// Does what the words say, with these files and this output.
+fn perform<R: Files, W: Write + Drop>(
+    alloc: Global,
+    files: &R,
+    output: W,
+    args: io::Result<Args>,
+) -> Status {
+    let words = match words_of(alloc, args) {
+        Ok(words) => words,
+        Err(status) => return status,
+    };
+    let mut depot = FileDepot::new(files);
+    let mut out = OutSink::new(output);
     let mut parts = Vec::new(alloc);
     let status = run(alloc, &words, &mut depot, &mut out, &mut parts);
-    ExitCode::from(match status {
+    match out.flush() {
+        Ok(()) => status,
+        Err(Failed) => Status::WriteFault,
+    }
+}
+
+// The exit status.
+fn number(status: Status) -> u8 {
+    match status {
         Status::Done => 0,
         Status::Refused => 1,
         Status::Usage => 2,
         Status::ReadFault => 3,
         Status::WriteFault => 4,
         Status::NoMemory => 5,
-    })
+    }
+}
+
+fn main(rt: HostRuntime) -> ExitCode {
+    let status = perform(rt.alloc(), &rt, io::writer(&rt), env::args(&rt));
+    ExitCode::from(number(status))
 }

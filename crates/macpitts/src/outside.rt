@@ -1,7 +1,8 @@
 //! The real files and the real output, which tell nothing of what they hold: the trusted edge.
 
-ghost use Rattle.std.specs.Prelude.{None, ◌<◌};
+ghost use Rattle.std.specs.Prelude.{None, ◌<◌, ◌≤◌};
 ghost use Rattle.std.specs.Io.{ReadsAtMost, WritesAtMost};
+ghost use Rattle.mp_base.specs.Outside.{HasCause};
 
 use mp_base::{Depot, Failed, Sink};
 use std::fs::{self, OpenOptions};
@@ -101,6 +102,28 @@ impl<W: Write> OutSink<W> {
             used: 0,
         }
     }
+
+    // Gives out the first bytes of the room, which is then free.
+    fn give_out(&mut self, size: usize) -> Result<(), Failed>
+        requires { size ≤ 4096 }
+        ensures { HasCause self.old.faults self.new.faults result }
+    {
+        self.used = 0;
+        match self.inner.write_all(&self.room[..size]) {
+            Ok(()) => Ok(()),
+            Err(_) => {
+                self.faults = self.faults.saturating_add(1);
+                Err(Failed)
+            }
+        }
+    }
+
+    /// Gives out what was kept back.
+    pub fn flush(&mut self) -> Result<(), Failed>
+        ensures { HasCause self.old.faults self.new.faults result }
+    {
+        self.give_out(self.used)
+    }
 }
 
 impl<W: Write> Sink for OutSink<W> {
@@ -117,13 +140,9 @@ impl<W: Write> Sink for OutSink<W> {
             self.used = end;
             return Ok(count);
         }
-        self.used = 0;
-        match self.inner.write_all(&self.room[..end]) {
+        match self.give_out(end) {
             Ok(()) => Ok(count),
-            Err(_) => {
-                self.faults = self.faults.saturating_add(1);
-                Err(Failed)
-            }
+            Err(Failed) => Err(Failed),
         }
     }
 }

@@ -7,10 +7,16 @@ use Rattle.silicon.specs.Halt.{status_of}
 use Rattle.silicon.specs.declared.halt.Halt.{Halt}
 use Rattle.silicon.specs.declared.halt.Halt.TheVariants.{WriteFault, NoMemory}
 
-pub without_memory : (result : Result (Unit {0}) Halt) (stray : Type 0) (before after : World) → IsErrAnd result (λ e. e ≡ NoMemory) → after.reads ≡ before.reads → after.writes ≡ before.writes → after.prints ≡ before.prints → HasCauses (status_of result) stray before after
+pub without_memory : (result : Result (Unit {0}) Halt) (stray : Type 0) (before after : World)
+    → IsErrAnd result (λ e. e ≡ NoMemory) → after.reads ≡ before.reads → after.writes ≡ before.writes → after.prints
+    ≡ before.prints → HasCauses (status_of result) stray before after
 without_memory (Ok v) stray before after is r w p = absurd is
-without_memory (Err e) stray before after is r w p = subst (λ h. HasCauses (status_of {T = Unit {0}} (Err h)) stray before after) (sym is) (r, w, p)
+without_memory (Err e) stray before after is r w p = subst
+    (λ h. HasCauses (status_of {T = Unit {0}} (Err h)) stray before after) (sym is) (r, w, p)
 
-pub print_failed : (result : Result (Unit {0}) Halt) (stray : Type 0) (before after : World) → IsErrAnd result (λ e. e ≡ WriteFault) → after.reads ≡ before.reads → after.writes ≡ before.writes → before.prints ≤ after.prints → Rose before.prints after.prints → HasCauses (status_of result) stray before after
+pub print_failed : (result : Result (Unit {0}) Halt) (stray : Type 0) (before after : World)
+    → IsErrAnd result (λ e. e ≡ WriteFault) → after.reads ≡ before.reads → after.writes ≡ before.writes
+    → before.prints ≤ after.prints → Rose before.prints after.prints → HasCauses (status_of result) stray before after
 print_failed (Ok v) stray before after is r w p rose = absurd is
-print_failed (Err e) stray before after is r w p rose = subst (λ h. HasCauses (status_of {T = Unit {0}} (Err h)) stray before after) (sym is) (r, (omega (arith, w)), p, inr rose)
+print_failed (Err e) stray before after is r w p rose = subst
+    (λ h. HasCauses (status_of {T = Unit {0}} (Err h)) stray before after) (sym is) (r, (omega (arith, w)), p, inr rose)

@@ -10,8 +10,10 @@ use Rattle.silicon.specs.Source.{IsInverterSource}
 use Rattle.silicon.specs.Faults.{Shows}
 
 -- the chip of inverters is a chip of the program that the source spells
-pub shows_chip : (source cif chip : List ℕ) (program : Program) (pads : Pads) (held : Option Files) → IsChipOfInverters chip → ArePadsOf program pads
-    → IfSome held (λ files. IsInverterSource (bytes_of files source) program) → IfSome held (λ files. Shows (Compile source cif) files chip [])
+pub shows_chip : (source cif chip : List ℕ) (program : Program) (pads : Pads) (held : Option Files)
+    → IsChipOfInverters chip → ArePadsOf program pads
+    → IfSome held (λ files. IsInverterSource (bytes_of files source) program)
+    → IfSome held (λ files. Shows (Compile source cif) files chip [])
 shows_chip source cif chip program pads None is are spelled = tt
 shows_chip source cif chip program pads (Some files) is are spelled = (
   record {

@@ -35,5 +35,6 @@ one_of_length limit name (Some bytes) None (Some b) x y = absurd (omega arith)
 one_of_length limit name (Some bytes) (Some a) None x y = absurd (omega arith)
 one_of_length limit name (Some bytes) (Some a) (Some b) x y = ap Some (x.1 ∙ sym y.1)
 
-pub one_of_file : (limit : ℕ) (Rules : List ℕ → Option Broken → Type 0) (name : List ℕ) (content : Option (List ℕ)) → IsDetermined (Rules (unwrap_or content [])) → IsDetermined (OfFile limit Rules name content)
+pub one_of_file : (limit : ℕ) (Rules : List ℕ → Option Broken → Type 0) (name : List ℕ) (content : Option (List ℕ))
+    → IsDetermined (Rules (unwrap_or content [])) → IsDetermined (OfFile limit Rules name content)
 one_of_file limit Rules name content one = one_of_two _ _ (one_of_length limit name content) (one_of_rule _ one)

@@ -12,14 +12,17 @@ use Rattle.silicon.specs.Run.{World, Leaves}
 use Rattle.silicon.specs.Halt.{EndsBy, Ends}
 use Rattle.silicon.specs.declared.halt.Halt.{Halt}
 use Rattle.silicon.specs.declared.halt.Halt.TheVariants.{Refused, ReadFault, WriteFault, NoMemory}
-use Rattle.silicon.proofs.Told.{gains_nothing}
-use Rattle.silicon.proofs.Printing.{gained_whole}
+use Rattle.mp_base.proofs.Told.{gains_nothing}
+use Rattle.mp_base.proofs.Written.{gained}
 
 -- ended while it read and judged
-halted_told : (command : Command) (halt : Halt) (x y : Option Files) (r r' : ℕ) → Keeps x y → EndsBy (IsFirstFault command) y r r' halt → WhereTold (λ old new. Ends {T = Unit {0}} command (Err halt) old new []) x y
+halted_told : (command : Command) (halt : Halt) (x y : Option Files) (r r' : ℕ) → Keeps x y
+    → EndsBy (IsFirstFault command) y r r' halt
+    → WhereTold (λ old new. Ends {T = Unit {0}} command (Err halt) old new []) x y
 halted_told command halt x None r r' kept e = tt
 halted_told command halt None (Some b) r r' kept e = absurd kept
-halted_told command (Refused broken) (Some a) (Some b) r r' kept e = (subst (λ files. IsFirstFault command files (Some (Breaks broken))) kept e.1, kept, refl)
+halted_told command (Refused broken) (Some a) (Some b) r r' kept e =
+    (subst (λ files. IsFirstFault command files (Some (Breaks broken))) kept e.1, kept, refl)
 halted_told command ReadFault (Some a) (Some b) r r' kept e = (kept, refl)
 halted_told command WriteFault (Some a) (Some b) r r' kept e = absurd e
 halted_told command NoMemory (Some a) (Some b) r r' kept e = (refl, inl kept)
@@ -29,20 +32,25 @@ err_is : (result : Result (Unit {0}) Halt) (halt : Halt) → IsErrAnd result (λ
 err_is (Ok v) halt h = absurd h
 err_is (Err e) halt h = ap Err h
 
-pub leaves_halted : (command : Command) (halt : Halt) (result : Result (Unit {0}) Halt) (before after : World) (r r' : ℕ) → IsErrAnd result (λ e. e ≡ halt) → Keeps before.files after.files → after.text ≡ before.text → EndsBy (IsFirstFault command) after.files r r' halt → Leaves (Ends command result) before after
-leaves_halted command halt result before after r r' is kept same e = subst (λ res. Leaves (Ends command res) before after) (sym (err_is result halt is)) (record {
-  printed = [];
-  gained = subst (λ text. WhereTold (Gains []) before.text text) (sym same) (gains_nothing before.text);
-  told = halted_told command halt before.files after.files r r' kept e;
-})
+pub leaves_halted : (command : Command) (halt : Halt) (result : Result (Unit {0}) Halt) (before after : World)
+    (r r' : ℕ) → IsErrAnd result (λ e. e ≡ halt) → Keeps before.files after.files → after.text ≡ before.text
+    → EndsBy (IsFirstFault command) after.files r r' halt → Leaves (Ends command result) before after
+leaves_halted command halt result before after r r' is kept same e = subst
+    (λ res. Leaves (Ends command res) before after) (sym (err_is result halt is)) (record {
+      printed = [];
+      gained = subst (λ text. WhereTold (Gains []) before.text text) (sym same) (gains_nothing before.text);
+      told = halted_told command halt before.files after.files r r' kept e;
+    })
 
 -- what was found of the files as they were read, m, holds of those at entry, x; the target was then stored
 module _ (command : Command) (chip text : List ℕ) where
   -- no rule is broken, and this is the output
   abbrev Finds : Option Files → Type 0
-  Finds held = IfSome held (λ files. IsFirstFault command files None) × IfSome held (λ files. Shows command files chip text)
+  Finds held = IfSome held (λ files. IsFirstFault command files None)
+      × IfSome held (λ files. Shows command files chip text)
 
-  done_told : (x m y : Option Files) → Keeps x m → Finds m → WhereTold (Stores (target_of command) chip) m y → WhereTold (λ old new. IsDone command old new text) x y
+  done_told : (x m y : Option Files) → Keeps x m → Finds m → WhereTold (Stores (target_of command) chip) m y
+      → WhereTold (λ old new. IsDone command old new text) x y
   done_told x m None kept finds stored = tt
   done_told x None (Some c) kept finds stored = absurd stored
   done_told None (Some b) (Some c) kept finds stored = absurd kept
@@ -53,7 +61,8 @@ module _ (command : Command) (chip text : List ℕ) where
     stored = subst (λ files. Stores (target_of command) chip files c) kept stored;
   }
 
-  cut_told : (part : List ℕ) (x m y : Option Files) → Keeps x m → Finds m → IsPartOf part text → WhereTold (Stores (target_of command) chip) m y → WhereTold (λ old new. IsCutShort command old new part) x y
+  cut_told : (part : List ℕ) (x m y : Option Files) → Keeps x m → Finds m → IsPartOf part text
+      → WhereTold (Stores (target_of command) chip) m y → WhereTold (λ old new. IsCutShort command old new part) x y
   cut_told part x m None kept finds first stored = tt
   cut_told part x None (Some c) kept finds first stored = absurd stored
   cut_told part None (Some b) (Some c) kept finds first stored = absurd kept
@@ -65,7 +74,8 @@ module _ (command : Command) (chip text : List ℕ) where
     part = inr (first, subst (λ files. Stores (target_of command) chip files c) kept stored);
   }
 
-  stored_in_part : (x m y : Option Files) → Keeps x m → Finds m → WhereTold (StoresPart (target_of command) chip) m y → WhereTold (λ old new. IsCutShort command old new []) x y
+  stored_in_part : (x m y : Option Files) → Keeps x m → Finds m → WhereTold (StoresPart (target_of command) chip) m y
+      → WhereTold (λ old new. IsCutShort command old new []) x y
   stored_in_part x m None kept finds stored = tt
   stored_in_part x None (Some c) kept finds stored = absurd stored
   stored_in_part None (Some b) (Some c) kept finds stored = absurd kept
@@ -78,28 +88,38 @@ module _ (command : Command) (chip text : List ℕ) where
   }
 
   -- the whole text was printed
-  pub leaves_done : {T E : Type 0} (v : T) (w : Unit {0}) (before after : World) (m : Option Files) → Keeps before.files m → Finds m → WhereTold (Stores (target_of command) chip) m after.files → TakesAll {T = T} {E = E} Gains before.text after.text text (Ok v) → Leaves (Ends command (Ok w)) before after
+  pub leaves_done : {T E : Type 0} (v : T) (w : Unit {0}) (before after : World) (m : Option Files)
+      → Keeps before.files m → Finds m → WhereTold (Stores (target_of command) chip) m after.files
+      → TakesAll {T = T} {E = E} Gains before.text after.text text (Ok v) → Leaves (Ends command (Ok w)) before after
   leaves_done v w before after m kept finds stored taken = record {
     printed = text;
-    gained = gained_whole v before.text after.text text taken;
+    gained = gained v before.text after.text text taken;
     told = done_told before.files m after.files kept finds stored;
   }
 
   -- a part of the text was printed
-  pub leaves_cut : {T E : Type 0} (e : E) (result : Result (Unit {0}) Halt) (before after : World) (m : Option Files) → IsErrAnd result (λ h. h ≡ WriteFault) → Keeps before.files m → Finds m → WhereTold (Stores (target_of command) chip) m after.files → TakesAll {T = T} Gains before.text after.text text (Err e) → Leaves (Ends command result) before after
-  leaves_cut e result before after m is kept finds stored taken = subst (λ res. Leaves (Ends command res) before after) (sym (err_is result WriteFault is)) (record {
-    printed = take taken.count text;
-    gained = taken.taken;
-    told = cut_told (take taken.count text) before.files m after.files kept finds (taken.count, taken.cut, refl) stored;
-  })
+  pub leaves_cut : {T E : Type 0} (e : E) (result : Result (Unit {0}) Halt) (before after : World) (m : Option Files)
+      → IsErrAnd result (λ h. h ≡ WriteFault) → Keeps before.files m → Finds m
+      → WhereTold (Stores (target_of command) chip) m after.files
+      → TakesAll {T = T} Gains before.text after.text text (Err e) → Leaves (Ends command result) before after
+  leaves_cut e result before after m is kept finds stored taken = subst (λ res. Leaves (Ends command res) before after)
+      (sym (err_is result WriteFault is)) (record {
+        printed = take taken.count text;
+        gained = taken.taken;
+        told = cut_told (take taken.count text) before.files m after.files kept finds (taken.count, taken.cut, refl) stored;
+      })
 
   -- a part of the file was stored
-  pub leaves_stored_in_part : (result : Result (Unit {0}) Halt) (before after : World) (m : Option Files) → IsErrAnd result (λ h. h ≡ WriteFault) → Keeps before.files m → Finds m → WhereTold (StoresPart (target_of command) chip) m after.files → after.text ≡ before.text → Leaves (Ends command result) before after
-  leaves_stored_in_part result before after m is kept finds stored same = subst (λ res. Leaves (Ends command res) before after) (sym (err_is result WriteFault is)) (record {
-    printed = [];
-    gained = subst (λ text. WhereTold (Gains []) before.text text) (sym same) (gains_nothing before.text);
-    told = stored_in_part before.files m after.files kept finds stored;
-  })
+  pub leaves_stored_in_part : (result : Result (Unit {0}) Halt) (before after : World) (m : Option Files)
+      → IsErrAnd result (λ h. h ≡ WriteFault) → Keeps before.files m → Finds m
+      → WhereTold (StoresPart (target_of command) chip) m after.files → after.text ≡ before.text
+      → Leaves (Ends command result) before after
+  leaves_stored_in_part result before after m is kept finds stored same = subst
+      (λ res. Leaves (Ends command res) before after) (sym (err_is result WriteFault is)) (record {
+        printed = [];
+        gained = subst (λ text. WhereTold (Gains []) before.text text) (sym same) (gains_nothing before.text);
+        told = stored_in_part before.files m after.files kept finds stored;
+      })
 
 pub nothing_printed : (x : Option (List ℕ)) → TakesAll {T = Unit {0}} {E = Failed} Gains x x [] (Ok tt)
 nothing_printed x = record { count = 0; within = omega arith; all = refl; cut = tt; taken = gains_nothing x }

@@ -33,17 +33,21 @@ module _ (laws : Laws) (files : Files) where
   one_of_masks cif = one_of_file 268_435_456 OfMask cif (get files cif) (laws.masks (bytes_of files cif))
 
   one_of_headed : (stimulus : List ℕ) → IsDetermined (PadsFault None stimulus files)
-  one_of_headed stimulus = one_of_file 1048576 (OfPads None) stimulus (get files stimulus) (one_of_pads laws.first laws.whole None (bytes_of files stimulus))
+  one_of_headed stimulus = one_of_file 1048576 (OfPads None) stimulus (get files stimulus)
+      (one_of_pads laws.first laws.whole None (bytes_of files stimulus))
 
   pub one_fault : (command : Command) → IsDetermined (IsFirstFault command files)
   one_fault (Trace source stimulus) =
       one_of_two (SourceFault source files) (StimulusFault (bytes_of files source) stimulus files)
       (one_of_file 1048576 OfSource source (get files source) (laws.verdict (bytes_of files source)))
       (one_of_file 1048576 (OfStimulus (bytes_of files source)) stimulus (get files stimulus)
-      (one_of_stimulus laws.first laws.whole (one_program laws.source) (bytes_of files source) (bytes_of files stimulus)))
-  one_fault (Compile source cif) = one_of_file 1048576 OfCompiled source (get files source) (one_of_compiled laws.source laws.verdict (bytes_of files source))
+      (one_of_stimulus laws.first laws.whole (one_program laws.source) (bytes_of files source)
+      (bytes_of files stimulus)))
+  one_fault (Compile source cif) = one_of_file 1048576 OfCompiled source (get files source)
+      (one_of_compiled laws.source laws.verdict (bytes_of files source))
   one_fault (Sim cif stimulus) =
       one_of_two (SetUpFault cif stimulus files) (OfRule (OfCircuit (bytes_of files cif) (bytes_of files stimulus)))
       (one_of_two (MaskFault cif files) (PadsFault None stimulus files) (one_of_masks cif) (one_of_headed stimulus))
-      (one_of_rule _ (one_of_circuit laws.network laws.same_pads laws.circuit (bytes_of files cif) (bytes_of files stimulus)))
+      (one_of_rule _ (one_of_circuit laws.network laws.same_pads laws.circuit (bytes_of files cif)
+      (bytes_of files stimulus)))
   one_fault (Net cif) = one_of_masks cif

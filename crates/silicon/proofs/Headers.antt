@@ -27,8 +27,10 @@ has_room r name h =
     ltb-true (pads_in r) 256 (both_true (nat_lt (pads_in r) 256) _ rest).0
 
 form_few : (r t : Reading) (f : Form) → IsInPlace r f → AddsForm None r f t → pads_in r ≤ 256 → pads_in t ≤ 256
-form_few r t (Input p) place adds few = let e = ap pads_in adds.1 in let more = length-append r.inputs (p ∷ []) in let room = has_room r p.name place in omega (arith, e, more, room)
-form_few r t (Output p) place adds few = let e = ap pads_in adds.1 in let more = length-append r.outputs (p ∷ []) in let room = has_room r p.name place in omega (arith, e, more, room)
+form_few r t (Input p) place adds few = let e = ap pads_in adds.1 in let more = length-append r.inputs (p ∷ []) in
+    let room = has_room r p.name place in omega (arith, e, more, room)
+form_few r t (Output p) place adds few = let e = ap pads_in adds.1 in let more = length-append r.outputs (p ∷ []) in
+    let room = has_room r p.name place in omega (arith, e, more, room)
 form_few r t (Clock xs) place adds few = let e = ap pads_in adds.2 in omega (arith, e, few)
 
 reads_few : (r t : Reading) (ls : List (List Piece)) → Reads None r ls t → pads_in r ≤ 256 → pads_in t ≤ 256

@@ -1,5 +1,3 @@
-pub mod Told
-pub mod Printing
 pub mod Reasons
 pub mod EndsLemmas
 pub mod RunLemmas
@@ -15,3 +13,5 @@ pub mod Headers
 pub mod Simulating
 pub mod Shown
 pub mod Causes
+pub mod Silence
+pub mod Completeness

@@ -14,6 +14,7 @@ pub judged_masks : (bytes : List ℕ) (e : Refusal) → RefusesBytes bytes e →
 judged_masks bytes (refusals.Broken b) h = h
 judged_masks bytes refusals.NoMemory h = tt
 
-pub shows_size : (cif text : List ℕ) (net : Network) (held : Option Files) → text ≡ size_line net → IfSome held (λ files. IsNetOf (bytes_of files cif) net) → IfSome held (λ files. Shows (Net cif) files [] text)
+pub shows_size : (cif text : List ℕ) (net : Network) (held : Option Files) → text ≡ size_line net
+    → IfSome held (λ files. IsNetOf (bytes_of files cif) net) → IfSome held (λ files. Shows (Net cif) files [] text)
 shows_size cif text net None line drawn = tt
 shows_size cif text net (Some files) line drawn = (refl, record { network = net; drawn = drawn; line = line })

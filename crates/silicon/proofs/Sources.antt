@@ -31,11 +31,14 @@ one_of_compiled one verdict text None (Some b) x (inr y) = absurd (y.2 (inverter
 one_of_compiled one verdict text (Some a) None (inl x) y = verdict text (Some a) None x (y.0, y.1.source)
 one_of_compiled one verdict text (Some a) None (inr x) y = absurd (x.2 (inverter_is one text y.0 x.0 y.1 x.1))
 one_of_compiled one verdict text (Some a) (Some b) (inl x) (inl y) = verdict text (Some a) (Some b) x y
-one_of_compiled one verdict text (Some a) (Some b) (inl x) (inr y) = (let e : Some a ≡ None = verdict text (Some a) None x (y.0, y.1) in cc)
-one_of_compiled one verdict text (Some a) (Some b) (inr x) (inl y) = (let e : None ≡ Some b = verdict text None (Some b) (x.0, x.1) y in cc)
+one_of_compiled one verdict text (Some a) (Some b) (inl x) (inr y) = (let e : Some a
+    ≡ None = verdict text (Some a) None x (y.0, y.1) in cc)
+one_of_compiled one verdict text (Some a) (Some b) (inr x) (inl y) = (let e : None
+    ≡ Some b = verdict text None (Some b) (x.0, x.1) y in cc)
 one_of_compiled one verdict text (Some a) (Some b) (inr x) (inr y) = ap Some (x.3 ∙ sym y.3)
 
 -- what is broken in a source is broken in that of a chip
-pub judged_compiled : (text : List ℕ) (e : Refusal) → IsJudged {T = CheckedProgram} (OfSource text) (Err e) → IsJudged {T = CheckedProgram} (OfCompiled text) (Err e)
+pub judged_compiled : (text : List ℕ) (e : Refusal) → IsJudged {T = CheckedProgram} (OfSource text) (Err e)
+    → IsJudged {T = CheckedProgram} (OfCompiled text) (Err e)
 judged_compiled text (refusals.Broken b) h = inl h
 judged_compiled text refusals.NoMemory h = tt

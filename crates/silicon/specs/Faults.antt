@@ -39,9 +39,11 @@ SetUpFault cif stimulus files = Then (MaskFault cif files) (PadsFault None stimu
 
 -- the first fault of a command on these files, in the order of work, or that there is none
 abbrev pub IsFirstFault : Command → Files → Option Fault → Type 0
-IsFirstFault (Trace source stimulus) files = Then (SourceFault source files) (StimulusFault (bytes_of files source) stimulus files)
+IsFirstFault (Trace source stimulus) files = Then (SourceFault source files)
+    (StimulusFault (bytes_of files source) stimulus files)
 IsFirstFault (Compile source cif) files = CompiledFault source files
-IsFirstFault (Sim cif stimulus) files = Then (SetUpFault cif stimulus files) (OfRule (OfCircuit (bytes_of files cif) (bytes_of files stimulus)))
+IsFirstFault (Sim cif stimulus) files = Then (SetUpFault cif stimulus files)
+    (OfRule (OfCircuit (bytes_of files cif) (bytes_of files stimulus)))
 IsFirstFault (Net cif) files = MaskFault cif files
 
 -- the file that a command writes
@@ -51,11 +53,18 @@ target_of (Compile source cif) = Some cif
 target_of (Sim cif stimulus) = None
 target_of (Net cif) = None
 
+-- the file that words name to be written, where they are in a form that has one
+abbrev pub target_for : Option Command → Option (List ℕ)
+target_for None = None
+target_for (Some command) = target_of command
+
 -- the bytes of that file and the text that a command may show
 abbrev pub Shows : Command → Files → List ℕ → List ℕ → Type 0
-Shows (Trace source stimulus) files chip text = (chip ≡ []) × IsTranscript (bytes_of files source) (bytes_of files stimulus) text
+Shows (Trace source stimulus) files chip text = (chip ≡ [])
+    × IsTranscript (bytes_of files source) (bytes_of files stimulus) text
 Shows (Compile source cif) files chip text = IsCompiled (bytes_of files source) chip × (text ≡ [])
-Shows (Sim cif stimulus) files chip text = (chip ≡ []) × IsSimulation (bytes_of files cif) (bytes_of files stimulus) text
+Shows (Sim cif stimulus) files chip text = (chip ≡ [])
+    × IsSimulation (bytes_of files cif) (bytes_of files stimulus) text
 Shows (Net cif) files chip text = (chip ≡ []) × IsSizeOf (bytes_of files cif) text
 
 -- the files are told, and the first fault is a file that is not held

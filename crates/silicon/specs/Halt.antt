@@ -1,5 +1,5 @@
 -- How a command ends before its line or its status is told.
-use Rattle.std.specs.Prelude.{◌≡◌, ◌⊎◌, ℕ, ◌≤◌, List, [], Option, Some, None, Result, Ok, Err, IfSome, MatchResult}
+use Rattle.std.specs.Prelude.{◌≡◌, ◌⊎◌, ℕ, ◌≤◌, List, [], ⊤, Option, Some, None, Result, Ok, Err, IfSome, MatchResult}
 use Rattle.mp_base.specs.Outside.{Files, Rose}
 use Rattle.mp_base.specs.declared.refusal.Refusal.{Refusal}
 use Rattle.mp_base.specs.declared.refusal.Refusal.TheVariants as refusal
@@ -42,10 +42,19 @@ abbrev pub HasReason : {T : Type 0} → (Files → Option Fault → Type 0) → 
 HasReason First files before now result =
     MatchResult result (λ _. (now ≡ before) × IfSome files (λ f. First f None)) (EndsBy First files before now)
 
+-- a command that ended early has printed nothing, but for one whose write failed
+abbrev pub IsQuiet : {T : Type 0} → Result T Halt → Option (List ℕ) → Option (List ℕ) → Type 0
+IsQuiet (Ok done) before after = ⊤
+IsQuiet (Err (Refused broken)) before after = after ≡ before
+IsQuiet (Err ReadFault) before after = after ≡ before
+IsQuiet (Err WriteFault) before after = ⊤
+IsQuiet (Err NoMemory) before after = after ≡ before
+
 -- what a command did by its end, where it has printed only its output
 abbrev pub Ends : {T : Type 0} → Command → Result T Halt → Files → Files → List ℕ → Type 0
 Ends command (Ok done) old new printed = IsDone command old new printed
-Ends command (Err (Refused broken)) old new printed = IsFirstFault command old (Some (Breaks broken)) × (new ≡ old) × (printed ≡ [])
+Ends command (Err (Refused broken)) old new printed = IsFirstFault command old (Some (Breaks broken)) × (new ≡ old)
+    × (printed ≡ [])
 Ends command (Err ReadFault) old new printed = (new ≡ old) × (printed ≡ [])
 Ends command (Err WriteFault) old new printed = IsCutShort command old new printed
 Ends command (Err NoMemory) old new printed = (printed ≡ []) × ((new ≡ old) ⊎ IsCutShort command old new printed)

@@ -4,6 +4,7 @@ pub mod Stimulus
 pub mod Faults
 pub mod Outcome
 pub mod Run
+pub mod Complete
 pub mod Halt
 pub mod Line
 pub mod Transcript

@@ -17,11 +17,13 @@ letter_of L = codes "L"
 letter_of P = codes "P"
 
 abbrev pub spot_text : Spot → List ℕ
-spot_text (At place) = codes " at " ++ decimal place.offset ++ codes " line " ++ decimal place.line ++ codes " column " ++ decimal place.column
+spot_text (At place) = codes " at " ++ decimal place.offset ++ codes " line " ++ decimal place.line ++ codes " column "
+    ++ decimal place.column
 spot_text (Offset offset) = codes " at " ++ decimal offset
 spot_text (Named name) = 32 ∷ name
 spot_text Nowhere = []
 
 -- such as `error E2 at 0 line 1 column 1` and a line feed
 abbrev pub line_of : Broken → List ℕ
-line_of broken = codes "error " ++ letter_of broken.rule.family ++ decimal broken.rule.number ++ spot_text broken.spot ++ 10 ∷ []
+line_of broken = codes "error " ++ letter_of broken.rule.family ++ decimal broken.rule.number ++ spot_text broken.spot
+    ++ 10 ∷ []

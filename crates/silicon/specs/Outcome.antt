@@ -28,13 +28,15 @@ pub record IsDone (command : Command) (old new : Files) (printed : List ℕ) : T
   pub shows : Shows command old chip printed
   pub stored : Stores (target_of command) chip old new
 
--- no rule is broken; a part of the file was stored and nothing printed, or the file was stored and a part of the text printed
+-- no rule is broken; a part of the file was stored and nothing printed, or the file was stored and a part of the text
+-- printed
 pub record IsCutShort (command : Command) (old new : Files) (printed : List ℕ) : Type 0 where
   pub fault : IsFirstFault command old None
   pub chip : List ℕ
   pub text : List ℕ
   pub shows : Shows command old chip text
-  pub part : ((printed ≡ []) × StoresPart (target_of command) chip old new) ⊎ (IsPartOf printed text × Stores (target_of command) chip old new)
+  pub part : ((printed ≡ []) × StoresPart (target_of command) chip old new)
+      ⊎ (IsPartOf printed text × Stores (target_of command) chip old new)
 
 -- a rule is the first that is broken, and this is true of its line; no file changes
 pub record IsRefused (command : Command) (Line : Broken → Type 0) (old new : Files) : Type 0 where

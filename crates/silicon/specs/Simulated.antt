@@ -17,9 +17,11 @@ pub record IsSetUp (masks text : List ℕ) (network : Network) (given : Stimulus
 
 -- the network has the pads of the stimulus, or this is the first rule that it breaks with them
 abbrev pub OfCircuit : List ℕ → List ℕ → Option Broken → Type 0
-OfCircuit masks text None = (network : Network) × (given : Stimulus) × IsSetUp masks text network given × HasPads network given.pads
+OfCircuit masks text None = (network : Network) × (given : Stimulus) × IsSetUp masks text network given
+    × HasPads network given.pads
 OfCircuit masks text (Some broken) =
-    (network : Network) × (given : Stimulus) × IsSetUp masks text network given × IsFirstOfCircuit network given.pads broken
+    (network : Network) × (given : Stimulus) × IsSetUp masks text network given
+    × IsFirstOfCircuit network given.pads broken
 
 -- every clock in full, from all values X
 pub record IsSimulation (masks stimulus text : List ℕ) : Type 0 where

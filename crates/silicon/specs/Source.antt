@@ -18,4 +18,5 @@ pub record IsInverterSource (text : List ℕ) (program : Program) : Type 0 where
 abbrev pub OfCompiled : List ℕ → Option Broken → Type 0
 OfCompiled text None = (program : Program) × IsInverterSource text program
 OfCompiled text (Some broken) =
-    OfSource text (Some broken) ⊎ ((program : Program) × IsSource text program × ¬ IsInverter program × (broken ≡ unbuilt))
+    OfSource text (Some broken)
+    ⊎ ((program : Program) × IsSource text program × ¬ IsInverter program × (broken ≡ unbuilt))

@@ -10,7 +10,8 @@ use Rattle.stimulus.specs.declared.given.Stimulus.{Stimulus}
 use Rattle.stimulus.specs.Reading.{IsStimulus, IsFirst}
 use Rattle.mp_source.specs.Source.{IsSource}
 
--- the text is a stimulus for the pads that are known, or else for those of its header, or this is the first rule that it breaks
+-- the text is a stimulus for the pads that are known, or else for those of its header, or this is the first rule that
+-- it breaks
 abbrev pub OfPads : Option Pads → List ℕ → Option Broken → Type 0
 OfPads known text None = (given : Stimulus) × IsStimulus text known given
 OfPads known text (Some broken) = (broken.rule.family ≡ S) × SpotIs broken.spot (IsFirst text known broken.rule.number)

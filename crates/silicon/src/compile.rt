@@ -4,7 +4,7 @@ ghost use Rattle.std.specs.Prelude.{◌≡◌, IfOk, IfSome, Some, []};
 ghost use Rattle.mp_base.specs.Outside.{Keeps};
 ghost use Rattle.command_line.specs.Command.{Compile};
 ghost use Rattle.silicon.specs.Faults.{IsFirstFault, Shows};
-ghost use Rattle.silicon.specs.Halt.{HasReason, Ends, status_of};
+ghost use Rattle.silicon.specs.Halt.{HasReason, Ends, IsQuiet, status_of};
 ghost use Rattle.silicon.specs.Run.{world_of, HasCauses, IsStrayFor, Leaves};
 
 use crate::files::read_inverter;
@@ -21,8 +21,10 @@ fn prepare<D: Depot>(
     cif: &str,
 ) -> Result<&'static [u8], Halt>
     ensures held { Keeps (D.held depot.old) (D.held depot.new) }
-    ensures shows { IfOk result (λ chip. IfSome (D.held depot.new) (λ files. Shows (Compile source.now cif.now) files chip.now [])) }
-    ensures reason { HasReason (IsFirstFault (Compile source.now cif.now)) (D.held depot.new) (D.read_faults depot.old) (D.read_faults depot.new) result }
+    ensures shows { IfOk result (λ chip. IfSome (D.held depot.new)
+        (λ files. Shows (Compile source.now cif.now) files chip.now [])) }
+    ensures reason { HasReason (IsFirstFault (Compile source.now cif.now)) (D.held depot.new)
+        (D.read_faults depot.old) (D.read_faults depot.new) result }
     ensures writes { D.write_faults depot.new ≡ D.write_faults depot.old }
 {
     let checked = read_inverter(alloc, depot, source)?;
@@ -39,9 +41,11 @@ pub fn compile<D: Depot, O: Sink>(
     cif: &str,
 ) -> Result<(), Halt>
     ensures causes { let world = world_of D.held D.read_faults D.write_faults O.held O.faults in
-        HasCauses (status_of result) (IsStrayFor (Some (Compile source.now cif.now)) (D.held depot.new)) (world depot.old _out.old) (world depot.new _out.new) }
+        HasCauses (status_of result) (IsStrayFor (Some (Compile source.now cif.now)) (D.held depot.new))
+        (world depot.old _out.old) (world depot.new _out.new) }
     ensures content { let world = world_of D.held D.read_faults D.write_faults O.held O.faults in
         Leaves (Ends (Compile source.now cif.now) result) (world depot.old _out.old) (world depot.new _out.new) }
+    ensures silent { IsQuiet result (O.held _out.old) (O.held _out.new) }
 {
     let chip = prepare(alloc, depot, source, cif)?;
     store(depot, cif, chip)?;

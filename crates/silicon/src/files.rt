@@ -45,9 +45,11 @@ fn read_text<D: Depot>(
 ) -> Result<Vec<u8>, Halt>
     requires { limit < 2 ^ 32 }
     ensures held { Keeps (D.held depot.old) (D.held depot.new) }
-    ensures text { IfOk result (λ text. IfSome (D.held depot.new) (λ files. IsContent limit (get files name.now) text.items)) }
+    ensures text { IfOk result (λ text. IfSome (D.held depot.new)
+        (λ files. IsContent limit (get files name.now) text.items)) }
     ensures small { IfOk result (λ text. length text.items ≤ limit) }
-    ensures reason { HasReason (λ files. OfLength limit name.now (get files name.now)) (D.held depot.new) (D.read_faults depot.old) (D.read_faults depot.new) result }
+    ensures reason { HasReason (λ files. OfLength limit name.now (get files name.now)) (D.held depot.new)
+        (D.read_faults depot.old) (D.read_faults depot.new) result }
     ensures writes { D.write_faults depot.new ≡ D.write_faults depot.old }
 {
     match read_file(alloc, depot, name, limit)? {
@@ -64,8 +66,10 @@ const MASK_LIMIT: usize = 268_435_456;
 /// Reads a source that breaks no rule.
 pub fn read_source<D: Depot>(alloc: Global, depot: &mut D, name: &str) -> Result<Checked, Halt>
     ensures held { Keeps (D.held depot.old) (D.held depot.new) }
-    ensures source { IfOk result (λ checked. IfSome (D.held depot.new) (λ files. IsSource (bytes_of files name.now) checked.program)) }
-    ensures reason { HasReason (SourceFault name.now) (D.held depot.new) (D.read_faults depot.old) (D.read_faults depot.new) result }
+    ensures source { IfOk result (λ checked. IfSome (D.held depot.new)
+        (λ files. IsSource (bytes_of files name.now) checked.program)) }
+    ensures reason { HasReason (SourceFault name.now) (D.held depot.new)
+        (D.read_faults depot.old) (D.read_faults depot.new) result }
     ensures writes { D.write_faults depot.new ≡ D.write_faults depot.old }
 {
     let text = read_text(alloc, depot, name, LIMIT)?;
@@ -97,8 +101,10 @@ pub fn read_stimulus<D: Depot>(
     ensures padded { IfOk result (λ given. ArePadsOf checked.now.program given.pads) }
     ensures few_inputs { IfOk result (λ given. length given.pads.inputs ≤ 256) }
     ensures few_clocks { IfOk result (λ given. length given.clocks ≤ 65536) }
-    ensures read { IfOk result (λ given. IfSome (D.held depot.new) (λ files. IsStimulus (bytes_of files name.now) (Some checked.now.pads) given)) }
-    ensures reason { HasReason (PadsFault (Some checked.now.pads) name.now) (D.held depot.new) (D.read_faults depot.old) (D.read_faults depot.new) result }
+    ensures read { IfOk result (λ given. IfSome (D.held depot.new)
+        (λ files. IsStimulus (bytes_of files name.now) (Some checked.now.pads) given)) }
+    ensures reason { HasReason (PadsFault (Some checked.now.pads) name.now) (D.held depot.new)
+        (D.read_faults depot.old) (D.read_faults depot.new) result }
     ensures writes { D.write_faults depot.new ≡ D.write_faults depot.old }
 {
     let text = read_text(alloc, depot, name, LIMIT)?;
@@ -119,8 +125,10 @@ pub fn read_headed<D: Depot>(alloc: Global, depot: &mut D, name: &str) -> Result
     ensures held { Keeps (D.held depot.old) (D.held depot.new) }
     ensures few_inputs { IfOk result (λ given. length given.pads.inputs ≤ 256) }
     ensures few_clocks { IfOk result (λ given. length given.clocks ≤ 65536) }
-    ensures read { IfOk result (λ given. IfSome (D.held depot.new) (λ files. IsStimulus (bytes_of files name.now) None given)) }
-    ensures reason { HasReason (PadsFault None name.now) (D.held depot.new) (D.read_faults depot.old) (D.read_faults depot.new) result }
+    ensures read { IfOk result (λ given. IfSome (D.held depot.new)
+        (λ files. IsStimulus (bytes_of files name.now) None given)) }
+    ensures reason { HasReason (PadsFault None name.now) (D.held depot.new)
+        (D.read_faults depot.old) (D.read_faults depot.new) result }
     ensures writes { D.write_faults depot.new ≡ D.write_faults depot.old }
 {
     let text = read_text(alloc, depot, name, LIMIT)?;
@@ -130,8 +138,10 @@ pub fn read_headed<D: Depot>(alloc: Global, depot: &mut D, name: &str) -> Result
 /// Reads a source of `compile` that breaks no rule.
 pub fn read_inverter<D: Depot>(alloc: Global, depot: &mut D, name: &str) -> Result<Checked, Halt>
     ensures held { Keeps (D.held depot.old) (D.held depot.new) }
-    ensures source { IfOk result (λ checked. IfSome (D.held depot.new) (λ files. IsInverterSource (bytes_of files name.now) checked.program)) }
-    ensures reason { HasReason (CompiledFault name.now) (D.held depot.new) (D.read_faults depot.old) (D.read_faults depot.new) result }
+    ensures source { IfOk result (λ checked. IfSome (D.held depot.new)
+        (λ files. IsInverterSource (bytes_of files name.now) checked.program)) }
+    ensures reason { HasReason (CompiledFault name.now) (D.held depot.new)
+        (D.read_faults depot.old) (D.read_faults depot.new) result }
     ensures writes { D.write_faults depot.new ≡ D.write_faults depot.old }
 {
     let text = read_text(alloc, depot, name, LIMIT)?;
@@ -142,7 +152,8 @@ pub fn read_inverter<D: Depot>(alloc: Global, depot: &mut D, name: &str) -> Resu
 pub fn read_network<D: Depot>(alloc: Global, depot: &mut D, name: &str) -> Result<Network, Halt>
     ensures held { Keeps (D.held depot.old) (D.held depot.new) }
     ensures drawn { IfOk result (λ net. IfSome (D.held depot.new) (λ files. IsNetOf (bytes_of files name.now) net)) }
-    ensures reason { HasReason (MaskFault name.now) (D.held depot.new) (D.read_faults depot.old) (D.read_faults depot.new) result }
+    ensures reason { HasReason (MaskFault name.now) (D.held depot.new)
+        (D.read_faults depot.old) (D.read_faults depot.new) result }
     ensures writes { D.write_faults depot.new ≡ D.write_faults depot.old }
 {
     let bytes = read_text(alloc, depot, name, MASK_LIMIT)?;

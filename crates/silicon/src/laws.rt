@@ -1,10 +1,14 @@
 //! Laws of commands: a call of one does nothing, and tells the caller's proof what it ensures.
 
-ghost use Rattle.std.specs.Prelude.{◌≡◌, Option};
+ghost use Rattle.std.specs.Prelude.{◌≡◌, ◌⊎◌, Option, Some, None};
 ghost use Rattle.mp_base.specs.Outside.{Files};
 ghost use Rattle.command_line.specs.Command.{Command};
 ghost use Rattle.silicon.specs.Order.{Fault};
 ghost use Rattle.silicon.specs.Faults.{IsFirstFault};
+ghost use Rattle.silicon.specs.Run.{World};
+ghost use Rattle.silicon.specs.Complete.{IsRun, AnyRose, AnyGreater, status_by};
+ghost use Rattle.silicon.specs.declared.top.Status.{Status};
+ghost use Rattle.silicon.specs.declared.top.Status.TheVariants.{Usage, ReadFault, WriteFault, NoMemory};
 
 use mask_net::laws::{one_network, one_verdict as one_of_masks};
 use mp_source::laws::{one_source, one_verdict};
@@ -13,7 +17,8 @@ use switch_net::first_rule_is_determined;
 
 /// A command has one first fault at most on the same files.
 pub fn one_first_fault()
-    ensures { (command : Command) (files : Files) (a b : Option Fault) → IsFirstFault command files a → IsFirstFault command files b → a ≡ b }
+    ensures { (command : Command) (files : Files) (a b : Option Fault) → IsFirstFault command files a
+        → IsFirstFault command files b → a ≡ b }
 {
     one_source();
     one_verdict();
@@ -22,4 +27,25 @@ pub fn one_first_fault()
     one_network();
     one_stimulus();
     first_rule_is_determined();
+}
+
+/// What the clauses `words`, `causes` and `content` of a run leave no choice of. Where no count of faults rose, a
+/// command on files that are told ends as their first fault says, or wants memory: it is done where no rule is broken
+/// and each file is held, it refuses where a rule is broken first, and it tells a read fault where a file isn't held.
+/// Words in no form end with the usage line, or want memory. Over files that aren't told no fault is answered, and
+/// where a count is greater a fault is.
+pub fn completeness()
+    ensures owed { (command : Command) (status : Status) (before after : World) (old new : Files) (fault : Option Fault)
+        → IsRun (Some command) status before after → before.files ≡ Some old → after.files ≡ Some new
+        → (AnyRose before after → ⊥) → IsFirstFault command old fault
+        → (status ≡ status_by fault) ⊎ (status ≡ NoMemory) }
+    ensures usage { (status : Status) (before after : World) → IsRun None status before after
+        → (AnyRose before after → ⊥) → (status ≡ Usage) ⊎ (status ≡ NoMemory) }
+    ensures untold { (words : Option Command) (status : Status) (before after : World)
+        → IsRun words status before after → after.files ≡ None → (AnyRose before after → ⊥)
+        → (status ≡ ReadFault → ⊥) × (status ≡ WriteFault → ⊥) }
+    ensures faults { (words : Option Command) (status : Status) (before after : World)
+        → IsRun words status before after → AnyGreater before after → (status ≡ ReadFault) ⊎ (status ≡ WriteFault) }
+{
+    one_first_fault();
 }

@@ -1,10 +1,9 @@
 //! The line that tells a broken rule.
 
-ghost use Rattle.std.specs.Prelude.{◌≡◌, ◌++◌, decimal, IfOk};
+ghost use Rattle.std.specs.Prelude.{◌≡◌, ◌++◌, IfOk};
 ghost use Rattle.silicon.specs.Line.{line_of, letter_of, spot_text};
 
-use itoa::Buffer;
-use mp_base::{Broken, Family, Spot};
+use mp_base::{Broken, Family, Spot, push_number};
 use std::alloc::{AllocError, Global};
 
 fn letter(family: Family) -> &'static str
@@ -20,13 +19,6 @@ fn letter(family: Family) -> &'static str
         Family::L => "L",
         Family::P => "P",
     }
-}
-
-fn push_number(text: &mut Vec<u8>, number: u64) -> Result<(), AllocError>
-    ensures { IfOk result (λ u. text.new.items ≡ text.old.items ++ decimal number) }
-{
-    let mut buffer = Buffer::new();
-    text.extend_from_slice(buffer.format(number).as_bytes())
 }
 
 fn push_spot(text: &mut Vec<u8>, spot: &Spot) -> Result<(), AllocError>

@@ -5,7 +5,7 @@ ghost use Rattle.mp_base.specs.Outside.{Keeps, bytes_of};
 ghost use Rattle.command_line.specs.Command.{Sim};
 ghost use Rattle.silicon.specs.Simulated.{IsSetUp};
 ghost use Rattle.silicon.specs.Faults.{SetUpFault};
-ghost use Rattle.silicon.specs.Halt.{HasReason, Ends, status_of};
+ghost use Rattle.silicon.specs.Halt.{HasReason, Ends, IsQuiet, status_of};
 ghost use Rattle.silicon.specs.Run.{world_of, HasCauses, IsStrayFor, Leaves};
 
 use crate::files::{read_headed, read_network};
@@ -27,8 +27,10 @@ fn prepare<D: Depot>(alloc: Global, depot: &mut D, cif: &str, stimulus: &str) ->
     ensures held { Keeps (D.held depot.old) (D.held depot.new) }
     ensures few_inputs { IfOk result (λ s. length s.given.pads.inputs ≤ 256) }
     ensures few_clocks { IfOk result (λ s. length s.given.clocks ≤ 65536) }
-    ensures set_up { IfOk result (λ s. IfSome (D.held depot.new) (λ files. IsSetUp (bytes_of files cif.now) (bytes_of files stimulus.now) s.network s.given)) }
-    ensures reason { HasReason (SetUpFault cif.now stimulus.now) (D.held depot.new) (D.read_faults depot.old) (D.read_faults depot.new) result }
+    ensures set_up { IfOk result (λ s. IfSome (D.held depot.new)
+        (λ files. IsSetUp (bytes_of files cif.now) (bytes_of files stimulus.now) s.network s.given)) }
+    ensures reason { HasReason (SetUpFault cif.now stimulus.now) (D.held depot.new)
+        (D.read_faults depot.old) (D.read_faults depot.new) result }
     ensures writes { D.write_faults depot.new ≡ D.write_faults depot.old }
 {
     let network = read_network(alloc, depot, cif)?;
@@ -45,9 +47,13 @@ pub fn sim<D: Depot, O: Sink>(
     stimulus: &str,
 ) -> Result<(), Halt>
     ensures causes { let world = world_of D.held D.read_faults D.write_faults O.held O.faults in
-        HasCauses (status_of result) (IsStrayFor (Some (Sim cif.now stimulus.now)) (D.held depot.new)) (world depot.old out.old) (world depot.new out.new) }
+        HasCauses (status_of result) (IsStrayFor (Some (Sim cif.now stimulus.now)) (D.held depot.new))
+        (world depot.old out.old) (world depot.new out.new) }
     ensures content { let world = world_of D.held D.read_faults D.write_faults O.held O.faults in
         Leaves (Ends (Sim cif.now stimulus.now) result) (world depot.old out.old) (world depot.new out.new) }
+    ensures silent { IsQuiet result (O.held out.old) (O.held out.new) }
+    ensures held { Keeps (D.held depot.old) (D.held depot.new) }
+    ensures writes { D.write_faults depot.new ≡ D.write_faults depot.old }
 {
     let SetUp { network, given } = prepare(alloc, depot, cif, stimulus)?;
     let mut simulation = Simulation::open(alloc, network, &given)?;

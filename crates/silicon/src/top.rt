@@ -2,8 +2,9 @@
 
 ghost use Rattle.std.specs.Prelude.{◌≡◌, Some};
 ghost use Rattle.command_line.specs.Command.{command_of, seen};
-ghost use Rattle.silicon.specs.Halt.{Ends, status_of};
-ghost use Rattle.silicon.specs.Run.{IsSaid, IsForWords, world_of, HasCauses, IsStrayFor, IsTold, Leaves, DidCommand, Did, TellsUsage};
+ghost use Rattle.silicon.specs.Faults.{target_of, target_for};
+ghost use Rattle.silicon.specs.Halt.{Ends, IsQuiet, status_of};
+ghost use Rattle.silicon.specs.Run.{IsSaid, IsForWords, world_of, HasCauses, IsStrayFor, IsTold, Leaves, DidCommand, Did, SparesFiles, IsSilent, TellsUsage};
 ghost use Rattle.silicon.specs.Line.{line_of};
 
 use crate::board::NamedPart;
@@ -46,9 +47,13 @@ fn perform<D: Depot, O: Sink>(
     command: Command<'_>,
 ) -> Result<(), Halt>
     ensures causes { let world = world_of D.held D.read_faults D.write_faults O.held O.faults in
-        HasCauses (status_of result) (IsStrayFor (Some (seen command.entry)) (D.held depot.new)) (world depot.old out.old) (world depot.new out.new) }
+        HasCauses (status_of result) (IsStrayFor (Some (seen command.entry)) (D.held depot.new))
+        (world depot.old out.old) (world depot.new out.new) }
     ensures content { let world = world_of D.held D.read_faults D.write_faults O.held O.faults in
         Leaves (Ends (seen command.entry) result) (world depot.old out.old) (world depot.new out.new) }
+    ensures silent { IsQuiet result (O.held out.old) (O.held out.new) }
+    ensures spares { SparesFiles (target_of (seen command.entry)) (D.held depot.old) (D.held depot.new)
+        (D.write_faults depot.old) (D.write_faults depot.new) }
 {
     match command {
         Command::Trace(source, stimulus) => trace(alloc, depot, out, source, stimulus),
@@ -60,7 +65,8 @@ fn perform<D: Depot, O: Sink>(
 
 // Tells the broken rule.
 fn refuse<O: Sink>(alloc: Global, out: &mut O, broken: &Broken) -> Status
-    ensures { IsTold (line_of broken.now) (O.held out.old) (O.held out.new) (O.faults out.old) (O.faults out.new) result }
+    ensures { IsTold (line_of broken.now) (O.held out.old) (O.held out.new)
+        (O.faults out.old) (O.faults out.new) result }
 {
     match line(alloc, broken) {
         Ok(text) => say(out, &text, Status::Refused),
@@ -77,9 +83,13 @@ fn run_command<D: Depot, O: Sink>(
 ) -> Status
     ensures words { IsForWords (Some (seen command.entry)) result }
     ensures causes { let world = world_of D.held D.read_faults D.write_faults O.held O.faults in
-        HasCauses result (IsStrayFor (Some (seen command.entry)) (D.held depot.new)) (world depot.old out.old) (world depot.new out.new) }
+        HasCauses result (IsStrayFor (Some (seen command.entry)) (D.held depot.new))
+        (world depot.old out.old) (world depot.new out.new) }
     ensures content { let world = world_of D.held D.read_faults D.write_faults O.held O.faults in
         Leaves (DidCommand (seen command.entry) result) (world depot.old out.old) (world depot.new out.new) }
+    ensures silent { IsSilent result (O.held out.old) (O.held out.new) }
+    ensures spares { SparesFiles (target_of (seen command.entry)) (D.held depot.old) (D.held depot.new)
+        (D.write_faults depot.old) (D.write_faults depot.new) }
 {
     match perform(alloc, depot, out, command) {
         Ok(()) => Status::Done,
@@ -106,11 +116,19 @@ pub fn run<D: Depot, O: Sink>(
 
     // No fault is told without its cause, and none is passed over.
     ensures causes { let world = world_of D.held D.read_faults D.write_faults O.held O.faults in
-        HasCauses result (IsStrayFor (command_of words.now.items) (D.held depot.new)) (world depot.old out.old) (world depot.new out.new) }
+        HasCauses result (IsStrayFor (command_of words.now.items) (D.held depot.new))
+        (world depot.old out.old) (world depot.new out.new) }
 
     // What is printed and stored, where the objects tell it.
     ensures content { let world = world_of D.held D.read_faults D.write_faults O.held O.faults in
         Leaves (Did (command_of words.now.items) result) (world depot.old out.old) (world depot.new out.new) }
+
+    // A fault of a read, or want of memory, comes before anything is printed.
+    ensures silent { IsSilent result (O.held out.old) (O.held out.new) }
+
+    // Without a target no file is written, and no write fails.
+    ensures spares { SparesFiles (target_for (command_of words.now.items)) (D.held depot.old) (D.held depot.new)
+        (D.write_faults depot.old) (D.write_faults depot.new) }
 
     // The usage line, where the sink tells it.
     ensures usage { TellsUsage (command_of words.now.items) result (O.held out.old) (O.held out.new) }

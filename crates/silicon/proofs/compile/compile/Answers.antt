@@ -1,6 +1,7 @@
 use Rattle.std.proofs.Common.{refl, []}
 use Rattle.command_line.specs.Command.{Compile}
 use Rattle.silicon.proofs.EndsLemmas.{leaves_halted, leaves_done, leaves_stored_in_part, nothing_printed}
+use Rattle.silicon.proofs.Silence.{quiet_same}
 use Rattle.silicon.proofs.compile.compile.Goals as goal
 
 pub returns-in_err-chip-clause-content : goal.returns-in_err-chip-clause-content
@@ -12,11 +13,23 @@ pub returns-in_err-store-clause-content : goal.returns-in_err-store-clause-conte
 returns-in_err-store-clause-content g c =
     leaves_stored_in_part (Compile c.args.source.now c.args.cif.now) c.in_ok-chip.chip.now []
     c.from_residual-in_err-store.result _ _ (g.D.Depot.held c.prepare.new.depot)
-    c.from_residual-in_err-store.ensures.1 c.in_ok-chip.ensures.held (c.in_ok-chip.ensures.reason.1, c.in_ok-chip.ensures.shows)
+    c.from_residual-in_err-store.ensures.1 c.in_ok-chip.ensures.held (
+      c.in_ok-chip.ensures.reason.1,
+      c.in_ok-chip.ensures.shows,
+    )
     c.in_err-store.ensures.cut refl
 
 pub returns-clause-content : goal.returns-clause-content
 returns-clause-content g c =
     leaves_done (Compile c.args.source.now c.args.cif.now) c.in_ok-chip.chip.now []
     tt tt _ _ (g.D.Depot.held c.prepare.new.depot)
-    c.in_ok-chip.ensures.held (c.in_ok-chip.ensures.reason.1, c.in_ok-chip.ensures.shows) c.in_ok-store.ensures.stored (nothing_printed _)
+    c.in_ok-chip.ensures.held (
+      c.in_ok-chip.ensures.reason.1,
+      c.in_ok-chip.ensures.shows,
+    ) c.in_ok-store.ensures.stored (nothing_printed _)
+
+pub returns-in_err-chip-clause-silent : goal.returns-in_err-chip-clause-silent
+returns-in_err-chip-clause-silent g c = quiet_same c.from_residual.result _
+
+pub returns-in_err-store-clause-silent : goal.returns-in_err-store-clause-silent
+returns-in_err-store-clause-silent g c = quiet_same c.from_residual-in_err-store.result _

@@ -7,7 +7,8 @@ use Rattle.silicon.proofs.files.read_headed.Goals as goal
 
 pub returns-clause-reason : goal.returns-clause-reason
 returns-clause-reason g c =
-    judged_ok 1048576 (OfPads None) c.args.name.now c.in_ok-text.text.items _ _ _ c.in_ok-text.ensures.text c.in_ok-text.ensures.reason
+    judged_ok 1048576 (OfPads None) c.args.name.now c.in_ok-text.text.items _ _ _ c.in_ok-text.ensures.text
+    c.in_ok-text.ensures.reason
     (rw c.deref.ensures.value at c.in_ok-check_headed.ensures.judged)
 
 pub returns-clause-few_inputs : goal.returns-clause-few_inputs

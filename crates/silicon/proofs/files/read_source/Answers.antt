@@ -8,10 +8,15 @@ use Rattle.silicon.proofs.files.read_source.Goals as goal
 
 pub returns-in_err-check_source-clause-reason : goal.returns-in_err-check_source-clause-reason
 returns-in_err-check_source-clause-reason g c =
-    reason_err (SourceFault c.args.name.now) _ _ _ _ c.from_residual-in_err-check_source.result c.from_residual-in_err-check_source.ensures.1
-    (judged_err 1048576 OfSource c.args.name.now c.in_ok-text.text.items _ _ _ c.in_ok-text.ensures.text c.in_ok-text.ensures.reason CheckedProgram c.in_err-check_source.field-0.0 (subst (λ text. IsJudged {T = CheckedProgram} (OfSource text) (Err c.in_err-check_source.field-0.0)) c.deref.ensures.value c.in_err-check_source.ensures.judged))
+    reason_err (SourceFault c.args.name.now) _ _ _ _ c.from_residual-in_err-check_source.result
+    c.from_residual-in_err-check_source.ensures.1
+    (judged_err 1048576 OfSource c.args.name.now c.in_ok-text.text.items _ _ _ c.in_ok-text.ensures.text
+    c.in_ok-text.ensures.reason CheckedProgram c.in_err-check_source.field-0.0
+    (subst (λ text. IsJudged {T = CheckedProgram} (OfSource text) (Err c.in_err-check_source.field-0.0))
+    c.deref.ensures.value c.in_err-check_source.ensures.judged))
 
 pub returns-clause-reason : goal.returns-clause-reason
 returns-clause-reason g c =
-    judged_ok 1048576 OfSource c.args.name.now c.in_ok-text.text.items _ _ _ c.in_ok-text.ensures.text c.in_ok-text.ensures.reason
+    judged_ok 1048576 OfSource c.args.name.now c.in_ok-text.text.items _ _ _ c.in_ok-text.ensures.text
+    c.in_ok-text.ensures.reason
     (rw c.deref.ensures.value at c.in_ok-check_source.ensures.judged)

@@ -9,7 +9,8 @@ returns c = λ command files. one_fault (record {
   verdict = c.one_verdict.ensures;
   first = c.one_first_rule.ensures.first;
   whole = c.one_first_rule.ensures.whole;
-  same_pads = λ text s t a b. same_pads s.pads t.pads (c.one_stimulus.ensures.inputs text None s t a b) (c.one_stimulus.ensures.outputs text None s t a b);
+  same_pads = λ text s t a b. same_pads s.pads t.pads (c.one_stimulus.ensures.inputs text None s t a b)
+      (c.one_stimulus.ensures.outputs text None s t a b);
   masks = c.one_verdict-2.ensures;
   network = c.one_network.ensures;
   circuit = c.first_rule_is_determined.ensures.circuit;

@@ -11,21 +11,25 @@ use Rattle.silicon.proofs.sim.prepare.Goals as goal
 pub returns-in_err-network-clause-reason : goal.returns-in_err-network-clause-reason
 returns-in_err-network-clause-reason g c =
     reason_err (SetUpFault c.args.cif.now c.args.stimulus.now) _ _ _ _ c.from_residual.result c.from_residual.ensures.1
-    (ends_first (MaskFault c.args.cif.now) (PadsFault None c.args.stimulus.now) _ _ _ c.in_err-network.field-0.0 c.in_err-network.ensures.reason)
+    (ends_first (MaskFault c.args.cif.now)
+    (PadsFault None c.args.stimulus.now) _ _ _ c.in_err-network.field-0.0 c.in_err-network.ensures.reason)
 
 pub returns-in_err-given-clause-reason : goal.returns-in_err-given-clause-reason
 returns-in_err-given-clause-reason g c =
     let F : Files → Option Fault → Type 0 = MaskFault c.args.cif.now in
     let G : Files → Option Fault → Type 0 = PadsFault None c.args.stimulus.now in
-    reason_second F G _ _ _ _ _ c.from_residual-in_err-given.result c.in_err-given.ensures.held c.in_ok-network.ensures.reason.0 c.in_ok-network.ensures.reason.1
-    (reason_err G _ _ _ _ c.from_residual-in_err-given.result c.from_residual-in_err-given.ensures.1 c.in_err-given.ensures.reason)
+    reason_second F G _ _ _ _ _ c.from_residual-in_err-given.result c.in_err-given.ensures.held
+    c.in_ok-network.ensures.reason.0 c.in_ok-network.ensures.reason.1
+    (reason_err G _ _ _ _ c.from_residual-in_err-given.result c.from_residual-in_err-given.ensures.1
+    c.in_err-given.ensures.reason)
 
 pub returns-clause-reason : goal.returns-clause-reason
 returns-clause-reason g c =
     let F : Files → Option Fault → Type 0 = MaskFault c.args.cif.now in
     let G : Files → Option Fault → Type 0 = PadsFault None c.args.stimulus.now in
     let ok : Result Stimulus Halt = Ok c.in_ok-given.given in
-    reason_second F G _ _ _ _ _ ok c.in_ok-given.ensures.held c.in_ok-network.ensures.reason.0 c.in_ok-network.ensures.reason.1 c.in_ok-given.ensures.reason
+    reason_second F G _ _ _ _ _ ok c.in_ok-given.ensures.held c.in_ok-network.ensures.reason.0
+    c.in_ok-network.ensures.reason.1 c.in_ok-given.ensures.reason
 
 pub returns-clause-set_up : goal.returns-clause-set_up
 returns-clause-set_up g c =

@@ -1,9 +1,10 @@
 use Rattle.std.proofs.Common.{refl, []}
 use Rattle.command_line.specs.Command.{Sim}
 use Rattle.silicon.specs.Halt.{halt_of}
-use Rattle.silicon.proofs.Told.{keeps_same}
+use Rattle.mp_base.proofs.Told.{keeps_same}
 use Rattle.silicon.proofs.EndsLemmas.{leaves_halted, leaves_done, leaves_cut}
 use Rattle.silicon.proofs.Simulating.{ends_set_up, ends_refused, no_fault, shows_simulation}
+use Rattle.silicon.proofs.Silence.{quiet_same, quiet_cut}
 use Rattle.silicon.proofs.sim.sim.Goals as goal
 
 pub returns-in_err-network-clause-content : goal.returns-in_err-network-clause-content
@@ -15,9 +16,11 @@ returns-in_err-network-clause-content g c =
 pub returns-in_err-simulation-clause-content : goal.returns-in_err-simulation-clause-content
 returns-in_err-simulation-clause-content g c =
     let told = c.in_ok-network.ensures in
-    leaves_halted (Sim c.args.cif.now c.args.stimulus.now) (halt_of c.in_err-simulation.field-0.0) c.from_residual-in_err-simulation.result _ _ _ _
+    leaves_halted (Sim c.args.cif.now c.args.stimulus.now)
+    (halt_of c.in_err-simulation.field-0.0) c.from_residual-in_err-simulation.result _ _ _ _
     c.from_residual-in_err-simulation.ensures.1 told.held refl
-    (ends_refused c.args.cif.now c.args.stimulus.now c.in_ok-network.field-0.network c.in_ok-network.field-0.given (g.D.Depot.held c.prepare.new.depot) _ _ told.set_up told.reason
+    (ends_refused c.args.cif.now c.args.stimulus.now c.in_ok-network.field-0.network c.in_ok-network.field-0.given
+    (g.D.Depot.held c.prepare.new.depot) _ _ told.set_up told.reason
     c.in_err-simulation.field-0.0 c.in_err-simulation.ensures.refused)
 
 pub returns-in_err-run-clause-content : goal.returns-in_err-run-clause-content
@@ -25,10 +28,13 @@ returns-in_err-run-clause-content g c =
     let told = c.in_ok-network.ensures in
     let opened = c.in_ok-simulation.ensures in
     let prints = c.in_err-run.ensures.printed in
-    leaves_cut (Sim c.args.cif.now c.args.stimulus.now) [] prints.text c.in_err-run.field-0.0 c.from_residual-in_err-run.result _ _ (g.D.Depot.held c.prepare.new.depot)
+    leaves_cut (Sim c.args.cif.now c.args.stimulus.now) [] prints.text c.in_err-run.field-0.0
+    c.from_residual-in_err-run.result _ _ (g.D.Depot.held c.prepare.new.depot)
     c.from_residual-in_err-run.ensures.1 told.held (
-      no_fault c.args.cif.now c.args.stimulus.now c.in_ok-network.field-0.network c.in_ok-network.field-0.given (g.D.Depot.held c.prepare.new.depot) _ _ told.set_up told.reason opened.has_pads,
-      shows_simulation c.args.cif.now c.args.stimulus.now prints.text c.in_ok-network.field-0.network c.in_ok-network.field-0.given prints.end (g.D.Depot.held c.prepare.new.depot) told.set_up
+      no_fault c.args.cif.now c.args.stimulus.now c.in_ok-network.field-0.network c.in_ok-network.field-0.given
+          (g.D.Depot.held c.prepare.new.depot) _ _ told.set_up told.reason opened.has_pads,
+      shows_simulation c.args.cif.now c.args.stimulus.now prints.text c.in_ok-network.field-0.network
+          c.in_ok-network.field-0.given prints.end (g.D.Depot.held c.prepare.new.depot) told.set_up
           (rw (opened.network, opened.given, opened.unknown) at prints.transcript),
     )
     (keeps_same (g.D.Depot.held c.prepare.new.depot)) prints.taken
@@ -38,10 +44,23 @@ returns-clause-content g c =
     let told = c.in_ok-network.ensures in
     let opened = c.in_ok-simulation.ensures in
     let prints = c.in_ok-run.ensures.printed in
-    leaves_done (Sim c.args.cif.now c.args.stimulus.now) [] prints.text c.in_ok-run.field-0 tt _ _ (g.D.Depot.held c.prepare.new.depot)
+    leaves_done (Sim c.args.cif.now c.args.stimulus.now) [] prints.text c.in_ok-run.field-0 tt _ _
+    (g.D.Depot.held c.prepare.new.depot)
     told.held (
-      no_fault c.args.cif.now c.args.stimulus.now c.in_ok-network.field-0.network c.in_ok-network.field-0.given (g.D.Depot.held c.prepare.new.depot) _ _ told.set_up told.reason opened.has_pads,
-      shows_simulation c.args.cif.now c.args.stimulus.now prints.text c.in_ok-network.field-0.network c.in_ok-network.field-0.given prints.end (g.D.Depot.held c.prepare.new.depot) told.set_up
+      no_fault c.args.cif.now c.args.stimulus.now c.in_ok-network.field-0.network c.in_ok-network.field-0.given
+          (g.D.Depot.held c.prepare.new.depot) _ _ told.set_up told.reason opened.has_pads,
+      shows_simulation c.args.cif.now c.args.stimulus.now prints.text c.in_ok-network.field-0.network
+          c.in_ok-network.field-0.given prints.end (g.D.Depot.held c.prepare.new.depot) told.set_up
           (rw (opened.network, opened.given, opened.unknown) at prints.transcript),
     )
     (keeps_same (g.D.Depot.held c.prepare.new.depot)) prints.taken
+
+pub returns-in_err-network-clause-silent : goal.returns-in_err-network-clause-silent
+returns-in_err-network-clause-silent g c = quiet_same c.from_residual.result _
+
+pub returns-in_err-simulation-clause-silent : goal.returns-in_err-simulation-clause-silent
+returns-in_err-simulation-clause-silent g c = quiet_same c.from_residual-in_err-simulation.result _
+
+pub returns-in_err-run-clause-silent : goal.returns-in_err-run-clause-silent
+returns-in_err-run-clause-silent g c = quiet_cut c.from_residual-in_err-run.result _ _
+    c.from_residual-in_err-run.ensures.1

@@ -5,4 +5,8 @@ use Rattle.silicon.proofs.top.say.Goals as goal
 pub returns-in-Err : goal.returns-in-Err
 returns-in-Err g c =
     let taken = c.in-Err.ensures.taken in
-    cut refl c.in-Err.ensures.cause.later c.in-Err.ensures.cause.failed (take taken.count c.args.text.now) (taken.count, taken.cut, refl) taken.taken
+    cut refl c.in-Err.ensures.cause.later c.in-Err.ensures.cause.failed (take taken.count c.args.text.now) (
+      taken.count,
+      taken.cut,
+      refl,
+    ) taken.taken

@@ -1,10 +1,11 @@
 use Rattle.std.proofs.Common.{refl, []}
 use Rattle.command_line.specs.Command.{Trace}
 use Rattle.silicon.specs.declared.halt.Halt.TheVariants.{NoMemory}
-use Rattle.silicon.proofs.Told.{keeps_same}
+use Rattle.mp_base.proofs.Told.{keeps_same}
 use Rattle.silicon.proofs.EndsLemmas.{leaves_halted, leaves_done, leaves_cut}
 use Rattle.silicon.proofs.Causes.{without_memory, print_failed}
 use Rattle.silicon.proofs.Shown.{shows_trace}
+use Rattle.silicon.proofs.Silence.{quiet_same, quiet_cut}
 use Rattle.silicon.proofs.trace.trace.Goals as goal
 
 pub returns-in_err-ready-clause-content : goal.returns-in_err-ready-clause-content
@@ -23,10 +24,12 @@ returns-in_err-run-clause-content g c =
     let told = c.in_ok-ready.ensures in
     let opened = c.in_ok-tracer.ensures in
     let prints = c.in_err-run.ensures.printed in
-    leaves_cut (Trace c.args.source.now c.args.stimulus.now) [] prints.text c.in_err-run.field-0.0 c.from_residual-in_err-run.result _ _ (g.D.Depot.held c.prepare.new.depot)
+    leaves_cut (Trace c.args.source.now c.args.stimulus.now) [] prints.text c.in_err-run.field-0.0
+    c.from_residual-in_err-run.result _ _ (g.D.Depot.held c.prepare.new.depot)
     c.from_residual-in_err-run.ensures.1 told.held (
       told.reason.1,
-      shows_trace c.args.source.now c.args.stimulus.now prints.text ready.checked ready.stimulus prints.end (g.D.Depot.held c.prepare.new.depot) told.padded told.source told.stimulus
+      shows_trace c.args.source.now c.args.stimulus.now prints.text ready.checked ready.stimulus prints.end
+          (g.D.Depot.held c.prepare.new.depot) told.padded told.source told.stimulus
           (rw (opened.program, opened.given, opened.zero) at prints.transcript),
     )
     (keeps_same (g.D.Depot.held c.prepare.new.depot)) prints.taken
@@ -37,19 +40,33 @@ returns-clause-content g c =
     let told = c.in_ok-ready.ensures in
     let opened = c.in_ok-tracer.ensures in
     let prints = c.in_ok-run.ensures.printed in
-    leaves_done (Trace c.args.source.now c.args.stimulus.now) [] prints.text c.in_ok-run.field-0 tt _ _ (g.D.Depot.held c.prepare.new.depot)
+    leaves_done (Trace c.args.source.now c.args.stimulus.now) [] prints.text c.in_ok-run.field-0 tt _ _
+    (g.D.Depot.held c.prepare.new.depot)
     told.held (
       told.reason.1,
-      shows_trace c.args.source.now c.args.stimulus.now prints.text ready.checked ready.stimulus prints.end (g.D.Depot.held c.prepare.new.depot) told.padded told.source told.stimulus
+      shows_trace c.args.source.now c.args.stimulus.now prints.text ready.checked ready.stimulus prints.end
+          (g.D.Depot.held c.prepare.new.depot) told.padded told.source told.stimulus
           (rw (opened.program, opened.given, opened.zero) at prints.transcript),
     )
     (keeps_same (g.D.Depot.held c.prepare.new.depot)) prints.taken
 
 pub returns-in_err-tracer-clause-causes : goal.returns-in_err-tracer-clause-causes
 returns-in_err-tracer-clause-causes g c =
-    without_memory c.from_residual-in_err-tracer.result _ _ _ c.from_residual-in_err-tracer.ensures.1 c.in_ok-ready.ensures.reason.0 c.in_ok-ready.ensures.writes refl
+    without_memory c.from_residual-in_err-tracer.result _ _ _ c.from_residual-in_err-tracer.ensures.1
+    c.in_ok-ready.ensures.reason.0 c.in_ok-ready.ensures.writes refl
 
 pub returns-in_err-run-clause-causes : goal.returns-in_err-run-clause-causes
 returns-in_err-run-clause-causes g c =
-    print_failed c.from_residual-in_err-run.result _ _ _ c.from_residual-in_err-run.ensures.1 c.in_ok-ready.ensures.reason.0 c.in_ok-ready.ensures.writes
+    print_failed c.from_residual-in_err-run.result _ _ _ c.from_residual-in_err-run.ensures.1
+    c.in_ok-ready.ensures.reason.0 c.in_ok-ready.ensures.writes
     c.in_err-run.ensures.cause.later c.in_err-run.ensures.cause.failed
+
+pub returns-in_err-ready-clause-silent : goal.returns-in_err-ready-clause-silent
+returns-in_err-ready-clause-silent g c = quiet_same c.from_residual.result _
+
+pub returns-in_err-tracer-clause-silent : goal.returns-in_err-tracer-clause-silent
+returns-in_err-tracer-clause-silent g c = quiet_same c.from_residual-in_err-tracer.result _
+
+pub returns-in_err-run-clause-silent : goal.returns-in_err-run-clause-silent
+returns-in_err-run-clause-silent g c = quiet_cut c.from_residual-in_err-run.result _ _
+    c.from_residual-in_err-run.ensures.1

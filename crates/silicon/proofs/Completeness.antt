@@ -1,0 +1,104 @@
+-- What the clauses of a run leave no choice of.
+use Rattle.std.proofs.Common.{◌≡◌, ◌⊎◌, ◌<◌, ℕ, List, refl, ap, subst, inl, inr, Option, Some, None, arith}
+use Rattle.mp_base.specs.Outside.{Files, WhereTold, Rose}
+use Rattle.command_line.specs.Command.{Command}
+use Rattle.silicon.specs.Order.{Fault, Stray, Breaks}
+use Rattle.silicon.specs.Faults.{IsFirstFault}
+use Rattle.silicon.specs.Run.{World, IsStrayFor, DidCommand}
+use Rattle.silicon.specs.Complete.{IsRun, AnyRose, AnyGreater, status_by}
+use Rattle.silicon.specs.declared.top.Status.{Status}
+use Rattle.silicon.specs.declared.top.Status.TheVariants.{Done, Refused, Usage, ReadFault, WriteFault, NoMemory}
+
+-- what is told of files that are told
+told_of : {X : Type 0} (R : X → X → Type 0) (x y : Option X) (old new : X) → x ≡ Some old → y ≡ Some new
+    → WhereTold R x y → R old new
+told_of R x y old new e f told = subst (λ z. WhereTold R z (Some new)) e (subst (λ z. WhereTold R x z) f told)
+
+-- a command has one first fault
+abbrev pub OneFault : Type 0
+OneFault = (command : Command) (files : Files) (a b : Option Fault) → IsFirstFault command files a
+    → IsFirstFault command files b → a ≡ b
+
+-- a write or a print failed
+written : {R W P : Type 0} → W ⊎ P → R ⊎ W ⊎ P
+written w = inr w
+
+module _ (one : OneFault) (command : Command) (before after : World) (old new : Files) (fault : Option Fault)
+    (first : IsFirstFault command old fault) (still : AnyRose before after → ⊥) where
+  -- this fault and no other is the first
+  by_fault : (other : Option Fault) → IsFirstFault command old other → status_by other ≡ status_by fault
+  by_fault other is = ap status_by (one command old other fault is first)
+
+  -- the reads failed since a file is not held
+  by_stray : Rose before.reads after.reads ⊎ IsStrayFor (Some command) after.files → after.files ≡ Some new
+      → new ≡ old → status_by (Some Stray) ≡ status_by fault
+  by_stray (inl rose) is kept = absurd (still (inl rose))
+  by_stray (inr stray) is kept =
+      let there : IsFirstFault command new (Some Stray) =
+      subst (λ files. IsStrayFor (Some command) files) is stray in
+      by_fault (Some Stray) (subst (λ files. IsFirstFault command files (Some Stray)) kept there)
+
+  pub owed : (status : Status) → IsRun (Some command) status before after → before.files ≡ Some old
+      → after.files ≡ Some new → (status ≡ status_by fault) ⊎ (status ≡ NoMemory)
+  owed Done run e f =
+      let did = told_of (λ a b. DidCommand command Done a b run.content.printed) _ _ old new e f run.content.told in
+      inl (by_fault None did.fault)
+  owed Refused run e f =
+      let did = told_of (λ a b. DidCommand command Refused a b run.content.printed) _ _ old new e f run.content.told in
+      inl (by_fault (Some (Breaks did.broken)) did.fault)
+  owed Usage run e f = absurd run.form
+  owed ReadFault run e f =
+      let did = told_of (λ a b. DidCommand command ReadFault a b run.content.printed) _ _ old new e f
+      run.content.told in
+      inl (by_stray run.causes.1 f did.0)
+  owed WriteFault run e f = absurd (still (written run.causes.3))
+  owed NoMemory run e f = inr refl
+
+-- words in no form
+pub no_form : (status : Status) (before after : World) → IsRun None status before after
+    → (AnyRose before after → ⊥) → (status ≡ Usage) ⊎ (status ≡ NoMemory)
+no_form Done before after run still = absurd run.form
+no_form Refused before after run still = absurd run.form
+no_form Usage before after run still = inl refl
+no_form ReadFault before after run still = absurd run.form
+no_form WriteFault before after run still = absurd (still (written run.causes.3))
+no_form NoMemory before after run still = inr refl
+
+-- no file is stray where nothing is told
+stray_untold : (words : Option Command) (files : Option Files) → files ≡ None → IsStrayFor words files → ⊥
+stray_untold None files e stray = stray
+stray_untold (Some command) files e stray = subst (λ f. IsStrayFor (Some command) f) e stray
+
+pub no_read_fault : (words : Option Command) (status : Status) (before after : World)
+    → IsRun words status before after → after.files ≡ None → (AnyRose before after → ⊥) → status ≡ ReadFault → ⊥
+no_read_fault words status before after run untold still is =
+    let failed : IsRun words ReadFault before after = subst (λ s. IsRun words s before after) is run in
+    read failed.causes.1
+  where
+    read : Rose before.reads after.reads ⊎ IsStrayFor words after.files → ⊥
+    read (inl rose) = still (inl rose)
+    read (inr stray) = stray_untold words after.files untold stray
+
+pub no_write_fault : (words : Option Command) (status : Status) (before after : World)
+    → IsRun words status before after → (AnyRose before after → ⊥) → status ≡ WriteFault → ⊥
+no_write_fault words status before after run still is =
+    let failed : IsRun words WriteFault before after = subst (λ s. IsRun words s before after) is run in
+    still (written failed.causes.3)
+
+-- equal counts are not greater
+same_counts : (a b c d e f : ℕ) → b ≡ a → d ≡ c → f ≡ e → (a < b) ⊎ (c < d) ⊎ (e < f) → ⊥
+same_counts a b c d e f p q r (inl less) = omega (arith, p, less)
+same_counts a b c d e f p q r (inr (inl less)) = omega (arith, q, less)
+same_counts a b c d e f p q r (inr (inr less)) = omega (arith, r, less)
+
+pub greater : (words : Option Command) (status : Status) (before after : World)
+    → IsRun words status before after → AnyGreater before after → (status ≡ ReadFault) ⊎ (status ≡ WriteFault)
+greater words Done before after run more = absurd (same_counts _ _ _ _ _ _ run.causes.0 run.causes.1 run.causes.2 more)
+greater words Refused before after run more =
+    absurd (same_counts _ _ _ _ _ _ run.causes.0 run.causes.1 run.causes.2 more)
+greater words Usage before after run more =
+    absurd (same_counts _ _ _ _ _ _ run.causes.0 run.causes.1 run.causes.2 more)
+greater words ReadFault before after run more = inl refl
+greater words WriteFault before after run more = inr refl
+greater words NoMemory before after run more =
+    absurd (same_counts _ _ _ _ _ _ run.causes.0 run.causes.1 run.causes.2 more)

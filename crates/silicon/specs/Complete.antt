@@ -1,0 +1,30 @@
+-- What the clauses of a run leave no choice of.
+use Rattle.std.specs.Prelude.{◌≡◌, ◌⊎◌, ◌<◌, Option, Some, None}
+use Rattle.mp_base.specs.Outside.{Rose}
+use Rattle.command_line.specs.Command.{Command}
+use Rattle.silicon.specs.Order.{Fault, Stray, Breaks}
+use Rattle.silicon.specs.Run.{World, IsForWords, HasCauses, IsStrayFor, Leaves, Did}
+use Rattle.silicon.specs.declared.top.Status.{Status}
+use Rattle.silicon.specs.declared.top.Status.TheVariants.{Done, Refused, ReadFault}
+
+-- what a run promises of its words and its status, in the worlds before and after it
+pub record IsRun (words : Option Command) (status : Status) (before after : World) : Type 0 where
+  pub form : IsForWords words status
+  pub causes : HasCauses status (IsStrayFor words after.files) before after
+  pub content : Leaves (Did words status) before after
+
+-- a call failed, by the counts of faults
+abbrev pub AnyRose : World → World → Type 0
+AnyRose before after =
+    Rose before.reads after.reads ⊎ Rose before.writes after.writes ⊎ Rose before.prints after.prints
+
+-- a count of faults is greater
+abbrev pub AnyGreater : World → World → Type 0
+AnyGreater before after =
+    (before.reads < after.reads) ⊎ (before.writes < after.writes) ⊎ (before.prints < after.prints)
+
+-- the status of a command on files with this first fault
+abbrev pub status_by : Option Fault → Status
+status_by None = Done
+status_by (Some Stray) = ReadFault
+status_by (Some (Breaks broken)) = Refused
