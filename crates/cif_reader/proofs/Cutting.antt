@@ -32,13 +32,13 @@ all_were_small [] h = All-nil IsSmall
 all_were_small (z ∷ zs) h =
     All-cons IsSmall z zs (was_small z (All-head IsSmall (cut_number z) (map cut_number zs) h)) (all_were_small zs (All-tail IsSmall (cut_number z) (map cut_number zs) h))
 
-abbrev IsBig : ℤ → Type 0
+abbrev pub IsBig : ℤ → Type 0
 IsBig z = ¬ IsSmall z
 
 big_later : (z : ℤ) (zs : List ℤ) → Any IsBig zs → Any IsBig (z ∷ zs)
 big_later z zs (k, x, l, e, h) = (suc k, x, omega (arith, l), e, h)
 
-small_or_big : (zs : List ℤ) → All IsSmall zs ⊎ Any IsBig zs
+pub small_or_big : (zs : List ℤ) → All IsSmall zs ⊎ Any IsBig zs
 small_or_big [] = inl (All-nil IsSmall)
 small_or_big (z ∷ zs) = at (cases_lt (nat_abs z) (2 ^ 31)) (small_or_big zs)
   where
@@ -47,7 +47,7 @@ small_or_big (z ∷ zs) = at (cases_lt (nat_abs z) (2 ^ 31)) (small_or_big zs)
     at (inl h) (inl r) = inl (All-cons IsSmall z zs h r)
     at (inl h) (inr r) = inr (big_later z zs r)
 
-none_is_big : (zs : List ℤ) → All IsSmall zs → Any IsBig zs → ⊥
+pub none_is_big : (zs : List ℤ) → All IsSmall zs → Any IsBig zs → ⊥
 none_is_big zs h (k, x, l, e, b) = b (subst IsSmall e (All-get_or IsSmall zs k x l h))
 
 -- ---- the numbers of a command

@@ -7,3 +7,4 @@ pub mod SoundCommands
 pub mod Cutting
 pub mod Readable
 pub mod Scanned
+pub mod Existing

@@ -52,7 +52,7 @@ IsLaw = (text : List ℕ) (c : Command) (size : ℕ) (rest : List ℕ) (r : IsRe
 pub unread_lacks : IsLaw → (text : List ℕ) → command_from text ≡ None → IsReadable text → ⊥
 unread_lacks law text h (c, size, rest, r) = no_some (c, r.blanks ++ (59 ∷ rest)) (sym h ∙ law text c size rest r)
 
-unread_open : IsLaw → (text : List ℕ) (c : Command) (rest : List ℕ) → command_from text ≡ Some (c, rest) → ((more : List ℕ) → past_blanks rest ≡ 59 ∷ more → ⊥) → IsReadable text → ⊥
+pub unread_open : IsLaw → (text : List ℕ) (c : Command) (rest : List ℕ) → command_from text ≡ Some (c, rest) → ((more : List ℕ) → past_blanks rest ≡ 59 ∷ more → ⊥) → IsReadable text → ⊥
 unread_open law text c rest h no_end (d, size, more, r) =
     let e = (same_some c d rest (r.blanks ++ (59 ∷ more)) (sym h ∙ law text d size more r)).1 in
     no_end more (ap past_blanks e ∙ blanks_over r.blanks (59 ∷ more) r.are_blanks)
@@ -70,7 +70,7 @@ unread_other law bytes at semi end value f e h n =
 
 -- ---- what is read
 
-no_blanks : (blanks rest : List ℕ) → Blanks blanks → Stops (blanks ++ (59 ∷ rest)) → blanks ≡ []
+pub no_blanks : (blanks rest : List ℕ) → Blanks blanks → Stops (blanks ++ (59 ∷ rest)) → blanks ≡ []
 no_blanks [] rest h s = refl
 no_blanks (b ∷ bs) rest h s = absurd ((All-head IsBlank b bs h).5 s)
 

@@ -31,7 +31,7 @@ pub skips_empty : (bytes : List ℕ) (i : ℕ) → i < length bytes → get_or b
 skips_empty bytes i h t inside items e s =
     subst (λ t. Scans inside i t items e) (sym (next bytes i h ∙ ap (λ b. b ∷ drop (i + 1) bytes) t)) (Scans.nothing s)
 
-not_blank : (b : ℕ) → is_blank b ≡ false → ¬ IsBlank b
+pub not_blank : (b : ℕ) → is_blank b ≡ false → ¬ IsBlank b
 not_blank b h k = let e : true ≡ false = sym (blank_reads b k) ∙ h in absurd (cc)
 
 pub unread : (bytes : List ℕ) (at : ℕ) (inside : Bool) → at < length bytes → is_blank (get_or bytes at 0) ≡ false → get_or bytes at 0 ≢ 59 → get_or bytes at 0 ≢ 69
@@ -74,7 +74,7 @@ steps bytes at end inside within value r f h =
 -- ---- the end
 
 -- the byte behind blanks is none
-stopped : (text : List ℕ) (c : ℕ) (rest : List ℕ) → past_blanks text ≡ c ∷ rest → is_blank c ≡ false
+pub stopped : (text : List ℕ) (c : ℕ) (rest : List ℕ) → past_blanks text ≡ c ∷ rest → is_blank c ≡ false
 stopped [] c rest h = absurd (cc)
 stopped (b ∷ bs) c rest h = at (is_blank b) refl (stopped bs c rest)
   where

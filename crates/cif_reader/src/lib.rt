@@ -4,6 +4,7 @@
 mod bytes;
 mod command;
 mod found;
+pub mod laws;
 mod numbers;
 mod read;
 mod words;

@@ -26,7 +26,7 @@ below_bound [] i v lt h = absurd (omega arith)
 below_bound (p ∷ ps) zero v lt h = h p
 below_bound (p ∷ ps) (suc i) v lt h = below_bound ps i v (omega arith) h
 
-in_range : (inputs : List Pad) (name : List ℕ) (i : ℕ) → input_named inputs name ≡ Some i → i < length inputs
+pub in_range : (inputs : List Pad) (name : List ℕ) (i : ℕ) → input_named inputs name ≡ Some i → i < length inputs
 in_range [] name i h = absurd (cc)
 in_range (p ∷ ps) name i h = (position-Some (λ (q : Pad). bytes_eq q.name name) (p ∷ ps) i p h).0
 

@@ -11,3 +11,4 @@ pub mod Unique
 pub mod Values
 pub mod Writing
 pub mod FirstOnce
+pub mod Verdict

@@ -13,6 +13,6 @@ mod rules;
 mod transcript;
 
 pub use given::{Given, Stimulus};
-pub use law::{one_first_rule, one_stimulus};
+pub use law::{one_first_rule, one_stimulus, stimulus_verdict};
 pub use read::read_stimulus;
 pub use transcript::line;
