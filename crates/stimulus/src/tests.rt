@@ -116,7 +116,7 @@ fn inputs_and_lines(rt: HostRuntime) -> Result<(), Fail> {
     assert_eq!(rt; inputs.as_slice(), [0, 9].as_slice());
 
     let mut values = List::new(rt.alloc());
-    values.push(TritWord { known: 1, bits: 1 })?;
+    values.push(TritWord { known: 3, bits: 3 })?;
     values.push(TritWord { known: 7, bits: 2 })?;
     let mut sink = MemSink::new(rt.alloc(), List::new(rt.alloc()));
     assert_eq!(rt; stimulus.pads.outputs.len(), 2);
