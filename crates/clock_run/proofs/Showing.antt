@@ -9,7 +9,7 @@ use Rattle.mp_base.specs.declared.pad.Pad.{Pad}
 use Rattle.switch_net.specs.declared.network.Network.{Network}
 use Rattle.switch_net.specs.Pads.{bit_count, bit_labels}
 use Rattle.switch_net.specs.Clock.{IsLabelled, HasValue, Shows}
-use Rattle.clock_run.specs.Words.{low_trits, pad_trits, trits_of}
+use Rattle.stimulus.specs.Bits.{low_trits, pad_trits, trits_of}
 use Rattle.clock_run.specs.Plan.{AreNodesOf}
 use Rattle.clock_run.proofs.Splitting.{length_labels}
 use Rattle.clock_run.proofs.Zips.{zip_at, zip_length}

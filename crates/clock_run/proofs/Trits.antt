@@ -4,7 +4,7 @@ use Rattle.std.specs.Prelude.{bit_and}
 use Rattle.std.proofs.lemmas.List.{map_more, take_all}
 use Rattle.mp_base.specs.declared.value.Trit.{Trit}
 use Rattle.mp_base.specs.declared.value.TritWord.{TritWord}
-use Rattle.clock_run.specs.Words.{trit_at, low_trits}
+use Rattle.stimulus.specs.Bits.{trit_at, low_trits}
 use Rattle.clock_run.proofs.Bits.{trit}
 
 -- the bits below k are the values of nodes, and the rest are 0

@@ -6,3 +6,4 @@ pub mod Settings
 pub mod Driving
 pub mod Plan
 pub mod Circuit
+pub mod Device

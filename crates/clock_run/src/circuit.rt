@@ -9,7 +9,7 @@ ghost use Rattle.settle.specs.Values.{value_at};
 ghost use Rattle.switch_net.specs.Pads.{Fit, bit_count};
 ghost use Rattle.switch_net.specs.Breaks.{HasPads};
 ghost use Rattle.switch_net.specs.Clock.{SettlesTo, Shows, IsClock, drives};
-ghost use Rattle.clock_run.specs.Words.{trits_of};
+ghost use Rattle.stimulus.specs.Bits.{trits_of};
 ghost use Rattle.clock_run.specs.Settings.{phases_of};
 ghost use Rattle.clock_run.specs.Refused.{IsRefused};
 

@@ -2,6 +2,7 @@
 #![tactic(auto)]
 
 mod circuit;
+mod device;
 mod drive;
 mod labels;
 mod numbers;

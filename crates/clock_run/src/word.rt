@@ -2,7 +2,8 @@
 
 ghost use Rattle.std.specs.Prelude.{◌≡◌, ◌+◌, ◌<◌, ◌≤◌, ◌^◌, ℕ, length, map, if◌then◌else◌};
 ghost use Rattle.settle.specs.Values.{value_at};
-ghost use Rattle.clock_run.specs.Words.{trit_at, low_trits, is_known, is_one};
+ghost use Rattle.stimulus.specs.Bits.{trit_at, low_trits};
+ghost use Rattle.clock_run.specs.Words.{is_known, is_one};
 
 use mp_base::{Trit, TritWord};
 

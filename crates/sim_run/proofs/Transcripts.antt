@@ -1,25 +1,26 @@
--- Traces and transcripts, clock by clock.
-use Rattle.std.proofs.Common.{◌≡◌, ◌∙◌, ℕ, zero, suc, ◌+◌, ◌<◌, ◌≤◌, List, [], ◌∷◌, ◌++◌, append_assoc, Option, Ok, Err, length, map, take, drop, get_or, refl, sym, ap, subst, inl, inr, arith}
-use Rattle.std.specs.Prelude.{◌⊎◌, replicate}
+-- Runs of a circuit, by the laws of its clocks.
+use Rattle.std.proofs.Common.{◌≡◌, ◌∙◌, ℕ, zero, suc, ◌<◌, ◌≤◌, List, [], ◌∷◌, Option, Result, length, drop, refl, sym, subst, inl, inr, arith}
+use Rattle.std.specs.Prelude.{◌⊎◌, All, replicate}
 use Rattle.std.proofs.lemmas.Bool.{cases_lt}
-use Rattle.std.proofs.lemmas.List.{append-nil, length-append, take_all, get_or-replicate, get_or_past, length-replicate}
+use Rattle.std.proofs.lemmas.List.{drop-map, get_or-replicate, get_or_past, length-replicate}
 use Rattle.mp_base.specs.declared.value.Trit.{Trit}
 use Rattle.mp_base.specs.declared.value.Trit.TheVariants.{X}
-use Rattle.mp_base.specs.declared.pad.Pad.{Pad}
 use Rattle.mp_base.specs.declared.pad.Pads.{Pads}
-use Rattle.mp_base.specs.Outside.{WhereTold, Gains}
-use Rattle.mp_base.specs.Piece.{TakesAll}
 use Rattle.switch_net.specs.declared.network.Network.{Network}
 use Rattle.switch_net.specs.Breaks.{HasPads}
-use Rattle.switch_net.specs.Clock.{IsCircuitTrace}
-use Rattle.switch_net.specs.Laws.{TraceExists}
+use Rattle.switch_net.specs.Clock.{IsClock, IsCircuitTrace}
+use Rattle.switch_net.specs.Laws.{TraceExists, TraceOnce}
 use Rattle.settle.specs.Values.{value_at}
-use Rattle.stimulus.specs.declared.given.Given.{Given}
 use Rattle.stimulus.specs.declared.given.Stimulus.{Stimulus}
-use Rattle.sim_run.specs.Transcript.{line_text, lines_text, inputs_at}
-use Rattle.sim_run.specs.Simulation.{PrintsTranscript, PrintsClock}
-use Rattle.sim_run.proofs.Inputs.{clocks_fit}
-use Rattle.sim_run.proofs.Printing.{gains_nothing, gains_twice, gained, printed, cut_short}
+use Rattle.stimulus.specs.Inputs.{Fit, inputs_at, inputs_of}
+use Rattle.transcript.specs.Transcript.{RunsAlong}
+use Rattle.transcript.specs.Running.{PrintsClocks, PrintsTranscript}
+use Rattle.transcript.specs.Laws.{IsDetermined, CanStep, StepsOn}
+use Rattle.transcript.proofs.Inputs.{clocks_fit}
+use Rattle.transcript.proofs.Transcripts.{runs_exist, runs_keep, prints_as, completes}
+use Rattle.clock_run.specs.Circuit.{Running}
+use Rattle.clock_run.specs.Device.{CircuitSteps}
+use Rattle.sim_run.specs.Transcript.{NetworkSteps}
 
 -- values that are X everywhere
 pub all_unknown : (n : ℕ) → value_at (replicate n X) ≡ (λ (node : ℕ). X)
@@ -27,110 +28,77 @@ all_unknown n = λ i k. at k (cases_lt k n) i
   where
     at : (k : ℕ) → (k < n) ⊎ (n ≤ k) → value_at (replicate n X) k ≡ X
     at k (inl lt) = get_or-replicate n k X X lt
-    at k (inr le) = get_or_past (replicate n X) k X (let l : length (replicate n X) ≡ n = length-replicate n X in omega arith)
+    at k (inr le) =
+        get_or_past (replicate n X) k X (let l : length (replicate n X) ≡ n = length-replicate n X in omega arith)
 
--- a trace, and another from its end
-trace_then : (net : Network) (pads : Pads) (before mid after : ℕ → Trit) (is js : List (List ℕ)) (os us : List (List (List Trit)))
-    → IsCircuitTrace net pads before is os mid → IsCircuitTrace net pads mid js us after
-    → IsCircuitTrace net pads before (is ++ js) (os ++ us) after
-trace_then net pads before mid after [] js [] us h k =
-    let same : mid ≡ before = λ i n. h n i in
-    let P : (ℕ → Trit) → Type 0 = λ v. IsCircuitTrace net pads v js us after in subst P same k
-trace_then net pads before mid after [] js (o ∷ os) us h k = absurd h
-trace_then net pads before mid after (w ∷ is) js [] us h k = absurd h
-trace_then net pads before mid after (w ∷ is) js (o ∷ os) us h k = (h.0, h.1, trace_then net pads h.0 mid after is js os us h.2 k)
+module _ (net : Network) (pads : Pads) where
+  -- a trace of one clock is a step
+  one_step : (before after : ℕ → Trit) (given : List ℕ) (shown : List (List (List Trit)))
+      → IsCircuitTrace net pads before (given ∷ []) shown after
+      → (bits : List (List Trit)) × (next : ℕ → Trit) × NetworkSteps net pads before given bits next
+  one_step before after given [] h = absurd h
+  one_step before after given (o ∷ os) h = (o, h.0, h.1)
 
-lines_more : (k n : ℕ) (pads : List Pad) (os us : List (List (List Trit))) → n ≡ k + length os
-    → lines_text k pads (os ++ us) ≡ lines_text k pads os ++ lines_text n pads us
-lines_more k n pads [] us is = ap (λ m. lines_text m pads us) (let e : k ≡ n = omega arith in e)
-lines_more k n pads (o ∷ os) us is =
-    ap (λ text. line_text k pads o ++ text) (lines_more (suc k) n pads os us (omega arith))
-    ∙ sym (append_assoc (line_text k pads o) (lines_text (suc k) pads os) (lines_text n pads us))
+  one_fits : (given : List ℕ) → Fit pads.inputs given → All (Fit pads.inputs) (given ∷ [])
+  one_fits given fit zero d lt = fit
+  one_fits given fit (suc i) d lt = absurd (omega (arith, lt))
 
-inputs_more : (n k : ℕ) (cs : List (List Given)) → k < length cs
-    → map (inputs_at n) (take (suc k) cs) ≡ map (inputs_at n) (take k cs) ++ inputs_at n (get_or cs k []) ∷ []
-inputs_more n k [] lt = absurd (omega (arith, lt))
-inputs_more n zero (c ∷ cs) lt = refl
-inputs_more n (suc k) (c ∷ cs) lt = ap (λ is. inputs_at n c ∷ is) (inputs_more n k cs (omega (arith, lt)))
+  pub can_step : TraceExists → HasPads net pads → (before : ℕ → Trit)
+      → CanStep (NetworkSteps net pads) pads.inputs before
+  can_step exist has before given fit =
+      let trace = exist net pads before (given ∷ []) has (one_fits given fit) in
+      one_step before trace.1 given trace.0 trace.2
 
-inputs_split : (n k : ℕ) (cs : List (List Given)) → k < length cs
-    → map (inputs_at n) (take k cs) ++ inputs_at n (get_or cs k []) ∷ map (inputs_at n) (drop (suc k) cs) ≡ map (inputs_at n) cs
-inputs_split n k [] lt = absurd (omega (arith, lt))
-inputs_split n zero (c ∷ cs) lt = refl
-inputs_split n (suc k) (c ∷ cs) lt = ap (λ is. inputs_at n c ∷ is) (inputs_split n k cs (omega (arith, lt)))
+  pub steps_on : TraceExists → HasPads net pads → StepsOn (NetworkSteps net pads) pads.inputs
+  steps_on exist has before after given shown step = can_step exist has after
 
--- k clocks were run from these values to those, and their lines printed
-pub record PrintedTo (net : Network) (s : Stimulus) (k : ℕ) (before now : ℕ → Trit) (x y : Option (List ℕ)) : Type 0 where
-  pub shown : List (List (List Trit))
-  pub trace : IsCircuitTrace net s.pads before (map (inputs_at (length (s.pads).inputs)) (take k s.clocks)) shown now
-  pub long : k ≡ length shown
-  pub held : WhereTold (Gains (lines_text 0 (s.pads).outputs shown)) x y
+  pub steps_once : TraceOnce → IsDetermined (NetworkSteps net pads)
+  steps_once once before v w given shown other a b =
+      let same = once net pads before (given ∷ []) (shown ∷ []) (other ∷ []) v w (v, a, λ n. refl) (w, b, λ n. refl) in
+      (let e = same.0 in cc, same.1)
 
-pub printed_none : (net : Network) (s : Stimulus) (v : ℕ → Trit) (x : Option (List ℕ)) → PrintedTo net s 0 v v x x
-printed_none net s v x = record { shown = []; trace = λ n. refl; long = refl; held = gains_nothing x }
+-- along the later clocks of a stimulus
+runs_from : TraceExists → (net : Network) (s : Stimulus) → HasPads net s.pads → (before : ℕ → Trit) (k : ℕ)
+    → (shown : List (List (List Trit))) × (after : ℕ → Trit)
+    × RunsAlong (NetworkSteps net s.pads) before (drop k (inputs_of s)) shown after
+runs_from exist net s has before k =
+    let f = inputs_at (length (s.pads).inputs) in
+    let P : List (List ℕ) → Type 0 = λ is. All (Fit (s.pads).inputs) is in
+    runs_exist (NetworkSteps net s.pads) (s.pads).inputs (steps_on net s.pads exist has) before
+    (can_step net s.pads exist has before)
+    (drop k (inputs_of s)) (subst P (sym (drop-map f k s.clocks)) (clocks_fit (s.pads).inputs s.clocks k s.fits))
 
-pub printed_more : {T E : Type 0} (net : Network) (s : Stimulus) (k : ℕ) (before now after : ℕ → Trit) (x y z : Option (List ℕ)) (u : T)
-    → k < length s.clocks → PrintedTo net s k before now x y → PrintsClock {T = T} {E = E} net s k now after y z (Ok u)
-    → PrintedTo net s (k + 1) before after x z
-printed_more {T} {E} net s k before now after x y z u lt so_far c =
-    let n = length (s.pads).inputs in
-    let pads = (s.pads).outputs in
-    let is : map (inputs_at n) (take k s.clocks) ++ inputs_at n (get_or s.clocks k []) ∷ [] ≡ map (inputs_at n) (take (k + 1) s.clocks) =
-    sym (inputs_more n k s.clocks lt) ∙ ap (λ m. map (inputs_at n) (take m s.clocks)) (let e : suc k ≡ k + 1 = omega arith in e) in
-    let R : List (List ℕ) → Type 0 = λ xs. IsCircuitTrace net s.pads before xs (so_far.shown ++ c.shown ∷ []) after in
-    let P : List ℕ → Type 0 = λ text. WhereTold (Gains text) x z in
-    let long : k ≡ 0 + length so_far.shown = omega (arith, so_far.long) in
-    let text : lines_text 0 pads so_far.shown ++ line_text k pads c.shown ≡ lines_text 0 pads (so_far.shown ++ c.shown ∷ []) =
-    ap (λ t. lines_text 0 pads so_far.shown ++ t) (sym (append-nil (line_text k pads c.shown)))
-    ∙ sym (lines_more 0 k pads so_far.shown (c.shown ∷ []) long) in
-    record {
-      shown = so_far.shown ++ c.shown ∷ [];
-      trace = subst R is (trace_then net s.pads before now after _ _ so_far.shown (c.shown ∷ []) so_far.trace (after, c.clocks, λ node. refl));
-      long = omega (arith, so_far.long, length-append so_far.shown (c.shown ∷ []));
-      held = subst P text (gains_twice _ _ x y z so_far.held (gained {T = T} {E = E} u y z (line_text k pads c.shown) c.taken));
-    }
+-- the network stays the same
+pub network_kept : (before after : Running) (is : List (List ℕ)) (shown : List (List (List Trit)))
+    → RunsAlong CircuitSteps before is shown after
+    → after.network ≡ before.network
+network_kept before after is shown h =
+    runs_keep CircuitSteps (λ (s : Running). s.network ≡ before.network)
+    (λ s t i o same step. step.network ∙ same) before after is shown refl h
 
-pub printed_all : {T E : Type 0} (net : Network) (s : Stimulus) (k : ℕ) (before now : ℕ → Trit) (x y : Option (List ℕ)) (u : T)
-    → length s.clocks ≤ k → PrintedTo net s k before now x y → PrintsTranscript {T = T} {E = E} net s before now x y (Ok u)
-printed_all {T} {E} net s k before now x y u le so_far =
-    let n = length (s.pads).inputs in
-    let R : List (List ℕ) → Type 0 = λ is. IsCircuitTrace net s.pads before is so_far.shown now in
-    record {
-      end = now;
-      text = lines_text 0 (s.pads).outputs so_far.shown;
-      transcript = record {
-        shown = so_far.shown;
-        trace = subst R (ap (map (inputs_at n)) (take_all k s.clocks le)) so_far.trace;
-        lines = refl;
-      };
-      ends = refl;
-      taken = printed {T = T} {E = E} u x y (lines_text 0 (s.pads).outputs so_far.shown) so_far.held;
-    }
+-- a step of a circuit is one of its network
+circuit_step : (net : Network) (pads : Pads) (s t : Running) (i : List ℕ) (o : List (List Trit))
+    → (s.network ≡ net) × (s.pads ≡ pads)
+    → CircuitSteps s i o t
+    → ((t.network ≡ net) × (t.pads ≡ pads)) × NetworkSteps net pads (value_at s.values) i o (value_at t.values)
+circuit_step net pads s t i o same step =
+    let P : Network → Type 0 = λ n. IsClock n s.pads i (value_at s.values) o (value_at t.values) in
+    let Q : Pads → Type 0 = λ ps. IsClock net ps i (value_at s.values) o (value_at t.values) in
+    ((step.network ∙ same.0, step.pads ∙ same.1), subst Q same.1 (subst P same.0 step.clock))
 
-pub printed_cut : {T E : Type 0} (net : Network) (s : Stimulus) (k : ℕ) (before now after : ℕ → Trit) (x y z : Option (List ℕ)) (e f : E)
-    → TraceExists → HasPads net s.pads → k < length s.clocks → PrintedTo net s k before now x y
-    → PrintsClock {T = T} {E = E} net s k now after y z (Err e)
-    → PrintsTranscript {T = T} {E = E} net s before after x z (Err f)
-printed_cut {T} {E} net s k before now after x y z e f exist has lt so_far c =
-    let n = length (s.pads).inputs in
-    let pads = (s.pads).outputs in
-    let js = map (inputs_at n) (drop (suc k) s.clocks) in
-    let rest = exist net s.pads after js has (clocks_fit (s.pads).inputs s.clocks (suc k) s.fits) in
-    let R : List (List ℕ) → Type 0 = λ is. IsCircuitTrace net s.pads before is (so_far.shown ++ c.shown ∷ rest.0) rest.1 in
-    let P : List ℕ → Type 0 = λ text. TakesAll {T = T} {E = E} Gains x z text (Err f) in
-    let long : k ≡ 0 + length so_far.shown = omega (arith, so_far.long) in
-    record {
-      end = rest.1;
-      text = lines_text 0 pads (so_far.shown ++ c.shown ∷ rest.0);
-      transcript = record {
-        shown = so_far.shown ++ c.shown ∷ rest.0;
-        trace = subst R (inputs_split n k s.clocks lt)
-            (trace_then net s.pads before now rest.1 _ (inputs_at n (get_or s.clocks k []) ∷ js) so_far.shown (c.shown ∷ rest.0)
-            so_far.trace (after, c.clocks, rest.2));
-        lines = refl;
-      };
-      ends = tt;
-      taken = subst P (sym (lines_more 0 k pads so_far.shown (c.shown ∷ rest.0) long))
-          (cut_short {T = T} e f x y z (lines_text 0 pads so_far.shown) (line_text k pads c.shown) (lines_text (suc k) pads rest.0)
-          so_far.held c.taken);
-    }
+-- what the run of a circuit prints is of a transcript of its network
+pub prints_transcript : {T E : Type 0} (given : Stimulus) (before after : Running) (x y : Option (List ℕ))
+    (r : Result T E)
+    → before.pads ≡ given.pads → HasPads before.network given.pads → TraceExists
+    → PrintsClocks CircuitSteps given before after x y r
+    → PrintsTranscript (NetworkSteps before.network given.pads) given (value_at before.values)
+    (value_at after.values) x y r
+prints_transcript given before after x y r same has exist c =
+    let net = before.network in
+    let Steps : (ℕ → Trit) → List ℕ → List (List Trit) → (ℕ → Trit) → Type 0 = NetworkSteps net given.pads in
+    let P : Running → Type 0 = λ s. (s.network ≡ net) × (s.pads ≡ given.pads) in
+    let prints : PrintsClocks Steps given (value_at before.values) (value_at after.values) x y r =
+    prints_as CircuitSteps Steps (λ s. value_at s.values) P (circuit_step net given.pads) given before after x y r
+    (refl, same) c in
+    completes Steps given (value_at before.values) (value_at after.values) x y r
+    (λ k. runs_from exist net given has (value_at after.values) k) prints

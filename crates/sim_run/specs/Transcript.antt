@@ -1,64 +1,16 @@
 -- The transcript of a circuit along a stimulus.
-use Rattle.std.specs.Prelude.{◌≡◌, ℕ, suc, ◌+◌, ◌*◌, List, [], ◌∷◌, ◌++◌, Bool, true, false, cond, length, map, codes, decimal}
-use Rattle.std.specs.List.{list_any, range_with_len}
+use Rattle.std.specs.Prelude.{ℕ, List}
 use Rattle.mp_base.specs.declared.value.Trit.{Trit}
-use Rattle.mp_base.specs.declared.value.Trit.TheVariants.{Zero, One, X}
-use Rattle.mp_base.specs.declared.pad.Pad.{Pad}
+use Rattle.mp_base.specs.declared.pad.Pads.{Pads}
 use Rattle.switch_net.specs.declared.network.Network.{Network}
-use Rattle.switch_net.specs.Clock.{IsCircuitTrace}
-use Rattle.stimulus.specs.declared.given.Given.{Given}
+use Rattle.switch_net.specs.Clock.{IsClock}
 use Rattle.stimulus.specs.declared.given.Stimulus.{Stimulus}
-use Rattle.stimulus.specs.Fitting.{value_given}
+use Rattle.transcript.specs.Transcript as transcripts
 
--- whether a bit is unknown
-abbrev pub is_unknown : Trit → Bool
-is_unknown Zero = false
-is_unknown One = false
-is_unknown X = true
-
--- what a bit counts
-abbrev pub weight : Trit → ℕ
-weight Zero = 0
-weight One = 1
-weight X = 0
-
--- the number of these bits, bit 0 first
-abbrev pub number_of : List Trit → ℕ
-number_of [] = 0
-number_of (bit ∷ bits) = weight bit + 2 * number_of bits
-
--- `X` where a bit is unknown, and else the number in decimal
-abbrev pub bits_text : List Trit → List ℕ
-bits_text bits = cond (list_any is_unknown bits) (codes "X") (decimal (number_of bits))
-
--- ` NAME=VALUE`
-abbrev pub pad_text : Pad → List Trit → List ℕ
-pad_text pad bits = 32 ∷ (pad.name ++ 61 ∷ bits_text bits)
-
--- the same for each pad
-abbrev pub pad_texts : List Pad → List (List Trit) → List ℕ
-pad_texts (pad ∷ pads) (bits ∷ shown) = pad_text pad bits ++ pad_texts pads shown
-pad_texts _ _ = []
-
--- the line of a clock
-abbrev pub line_text : ℕ → List Pad → List (List Trit) → List ℕ
-line_text clock pads shown = decimal clock ++ (pad_texts pads shown ++ 10 ∷ [])
-
--- the lines of clocks, of which the first has this number
-abbrev pub lines_text : ℕ → List Pad → List (List (List Trit)) → List ℕ
-lines_text clock pads [] = []
-lines_text clock pads (shown ∷ later) = line_text clock pads shown ++ lines_text (suc clock) pads later
-
--- what a clock of a stimulus gives n inputs
-abbrev pub inputs_at : ℕ → List Given → List ℕ
-inputs_at n givens = map (value_given givens) (range_with_len 0 n)
-
--- what a stimulus gives its input pads, clock by clock
-abbrev pub inputs_of : Stimulus → List (List ℕ)
-inputs_of given = map (inputs_at (length (given.pads).inputs)) given.clocks
+-- one clock of the network with these pads
+abbrev pub NetworkSteps : Network → Pads → (ℕ → Trit) → List ℕ → List (List Trit) → (ℕ → Trit) → Type 0
+NetworkSteps net pads before inputs shown after = IsClock net pads inputs before shown after
 
 -- along the stimulus the network goes from these values before to those after, and this is the transcript
-pub record IsTranscript (net : Network) (given : Stimulus) (before after : ℕ → Trit) (text : List ℕ) : Type 0 where
-  pub shown : List (List (List Trit))
-  pub trace : IsCircuitTrace net given.pads before (inputs_of given) shown after
-  pub lines : text ≡ lines_text 0 (given.pads).outputs shown
+abbrev pub IsTranscript : Network → Stimulus → (ℕ → Trit) → (ℕ → Trit) → List ℕ → Type 0
+IsTranscript net given = transcripts.IsTranscript (NetworkSteps net given.pads) given

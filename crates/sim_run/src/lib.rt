@@ -1,8 +1,7 @@
 //! A circuit along a stimulus, and its transcript.
 #![tactic(auto)]
 
-mod law;
+pub mod laws;
 mod simulation;
 
-pub use law::transcripts_exist;
 pub use simulation::Simulation;

@@ -1,5 +1,6 @@
 pub mod Adding
 pub mod Apart
+pub mod Bits
 pub mod Cutting
 pub mod Fitness
 pub mod Giving
@@ -9,6 +10,7 @@ pub mod Once
 pub mod Stepping
 pub mod Unique
 pub mod Values
-pub mod Writing
+pub mod Texts
 pub mod FirstOnce
 pub mod Verdict
+mod Examples

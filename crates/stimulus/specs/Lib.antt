@@ -3,4 +3,6 @@ pub mod Forms
 pub mod Rules
 pub mod Reading
 pub mod Fitting
+pub mod Inputs
+pub mod Bits
 pub mod Transcript

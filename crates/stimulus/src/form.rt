@@ -1,13 +1,13 @@
 //! What a line says.
 
-ghost use Rattle.std.specs.Prelude.{◌≡◌, ◌≢◌, ℕ, ◌<◌, ◌≤◌, length, slice_index, IfOk, MatchOption};
+ghost use Rattle.std.specs.Prelude.{◌≡◌, ◌≢◌, ℕ, ◌<◌, length, slice_index, IfOk, MatchOption};
 ghost use Rattle.std.specs.List.{list_all};
-ghost use Rattle.mp_base.specs.Token.{is_digit, is_letter, is_token};
+ghost use Rattle.mp_base.specs.Token.{is_token};
 ghost use Rattle.stimulus.specs.Forms.{is_name, is_clock, IsNumber, IsWidth, IsAssignment, AreAssignments, IsPad, IsForm};
 
 use crate::piece::Piece;
 use itoa::Buffer;
-use mp_base::{List, Name, Pad};
+use mp_base::{List, Name, Pad, is_digit, is_token};
 use std::alloc::{AllocError, Global};
 
 /// A word `NAME=N` of a clock line, and the offset at which it begins.
@@ -24,24 +24,6 @@ pub enum Form {
     Input(Pad),
     Output(Pad),
     Clock(List<Assignment>),
-}
-
-fn is_digit(byte: u8) -> bool
-    ensures { result ≡ is_digit byte }
-{
-    b'0' <= byte && byte <= b'9'
-}
-
-fn is_letter(byte: u8) -> bool
-    ensures { result ≡ is_letter byte }
-{
-    (b'A' <= byte && byte <= b'Z') || (b'a' <= byte && byte <= b'z')
-}
-
-fn is_token(byte: u8) -> bool
-    ensures { result ≡ is_token byte }
-{
-    is_letter(byte) || is_digit(byte) || [45, 95, 43, 42, 47, 60, 61, 62].contains(&byte)
 }
 
 fn are_tokens(word: &[u8]) -> bool

@@ -1,10 +1,11 @@
 //! The lines of a transcript.
 
-ghost use Rattle.std.specs.Prelude.{◌≡◌, ◌-◌, ◌++◌, ◌∷◌, length};
+ghost use Rattle.std.specs.Prelude.{◌≡◌, ◌-◌, length};
 ghost use Rattle.mp_base.specs.Outside.{Gains, HasCause};
 ghost use Rattle.mp_base.specs.Piece.{TakesAll};
 ghost use Rattle.stimulus.specs.Rules.{bound};
-ghost use Rattle.stimulus.specs.Transcript.{value_text, pad_text, line_text};
+ghost use Rattle.stimulus.specs.Bits.{pad_trits, trits_of};
+ghost use Rattle.stimulus.specs.Transcript.{bits_text, pad_text, line_text};
 
 use crate::rules::bits_of;
 use itoa::Buffer;
@@ -18,19 +19,20 @@ fn all_bits(pad: &Pad) -> u64
 }
 
 fn write_value<O: Sink>(out: &mut O, pad: &Pad, value: TritWord) -> Result<(), Failed>
-    ensures taken { TakesAll Gains (O.held out.old) (O.held out.new) (value_text pad.now value) result }
+    ensures taken { TakesAll Gains (O.held out.old) (O.held out.new) (bits_text (pad_trits pad.now value)) result }
     ensures cause { HasCause (O.faults out.old) (O.faults out.new) result }
 {
-    if value.known == all_bits(pad) {
+    let all = all_bits(pad);
+    if value.known & all == all {
         let mut buffer = Buffer::new();
-        write_all(out, buffer.format(value.bits).as_bytes())
+        write_all(out, buffer.format(value.bits & all).as_bytes())
     } else {
         write_all(out, b"X")
     }
 }
 
 fn write_pad<O: Sink>(out: &mut O, pad: &Pad, value: TritWord) -> Result<(), Failed>
-    ensures taken { TakesAll Gains (O.held out.old) (O.held out.new) (pad_text pad.now value) result }
+    ensures taken { TakesAll Gains (O.held out.old) (O.held out.new) (pad_text pad.now (pad_trits pad.now value)) result }
     ensures cause { HasCause (O.faults out.old) (O.faults out.new) result }
 {
     write_all(out, b" ")?;
@@ -40,7 +42,7 @@ fn write_pad<O: Sink>(out: &mut O, pad: &Pad, value: TritWord) -> Result<(), Fai
 }
 
 /// Writes the line of a clock: its number, and ` NAME=VALUE` for each output pad, where the value is `X`
-/// if one of its bits is unknown.
+/// exactly if one of its bits is unknown. What a word has past the width of its pad changes nothing.
 pub fn line<O: Sink>(
     clock: u32,
     pads: &Pads,
@@ -48,7 +50,7 @@ pub fn line<O: Sink>(
     out: &mut O,
 ) -> Result<(), Failed>
     requires { length values.now ≡ length pads.now.outputs }
-    ensures taken { TakesAll Gains (O.held out.old) (O.held out.new) (line_text clock pads.now values.now) result }
+    ensures taken { TakesAll Gains (O.held out.old) (O.held out.new) (line_text clock pads.now.outputs (trits_of pads.now.outputs values.now)) result }
     ensures cause { HasCause (O.faults out.old) (O.faults out.new) result }
 {
     let mut buffer = Buffer::new();

@@ -1,8 +1,5 @@
-pub mod Texts
-pub mod Inputs
-pub mod Clocks
-pub mod Printing
-pub mod Transcripts
-pub mod Stepping
+mod Known
 mod Unbroken
-mod Examples
+pub mod Clocks
+pub mod Inputs
+pub mod Transcripts

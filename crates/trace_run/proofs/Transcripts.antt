@@ -1,120 +1,110 @@
--- Traces and transcripts, clock by clock.
-use Rattle.std.proofs.Common.{◌≡◌, ◌∙◌, ℕ, zero, suc, ◌+◌, ◌<◌, ◌≤◌, List, [], ◌∷◌, ◌++◌, append_assoc, Option, Ok, Err, length, take, drop, get_or, refl, sym, ap, subst, arith}
-use Rattle.std.proofs.lemmas.List.{append-nil, length-append, take_all}
+-- Runs of a program, as traces whose values are shown as bits.
+use Rattle.std.proofs.Common.{◌≡◌, ◌∙◌, ℕ, List, [], ◌∷◌, Option, Result, map, drop, refl, ap, subst}
+use Rattle.mp_base.specs.declared.value.Trit.{Trit}
 use Rattle.mp_base.specs.declared.pad.Pad.{Pad}
-use Rattle.mp_base.specs.Outside.{WhereTold, Gains}
-use Rattle.mp_base.specs.Piece.{TakesAll}
+use Rattle.mp_base.specs.declared.pad.Pads.{Pads}
 use Rattle.mp_program.specs.declared.program.Program.{Program}
 use Rattle.mp_program.specs.State.{State, IsState}
-use Rattle.stimulus.specs.declared.given.Given.{Given}
+use Rattle.mp_program.specs.Trace.{IsTraceFrom}
 use Rattle.stimulus.specs.declared.given.Stimulus.{Stimulus}
-use Rattle.trace_run.specs.Transcript.{line_text, lines_text, inputs_at, inputs_of, IsTraceTo}
-use Rattle.trace_run.specs.Laws.{TraceExists, StatesLast}
-use Rattle.trace_run.specs.Tracer.{PrintsTranscript, PrintsClock}
-use Rattle.trace_run.proofs.Printing.{gains_nothing, gains_twice, gained, printed, cut_short}
+use Rattle.stimulus.specs.Bits.{value_bits}
+use Rattle.stimulus.specs.Inputs.{inputs_of}
+use Rattle.stimulus.specs.Transcript.{lines_text}
+use Rattle.transcript.specs.Transcript.{RunsAlong}
+use Rattle.transcript.specs.Running.{PrintsClocks, PrintsTranscript}
+use Rattle.transcript.proofs.Transcripts.{runs_keep, prints_as, completes}
+use Rattle.trace_run.specs.Source.{Sourcing, SourceSteps}
+use Rattle.trace_run.specs.Transcript.{ProgramSteps, IsTranscript}
+use Rattle.trace_run.specs.Laws.{IsTraceTo, TraceExists, StatesLast}
 
--- a trace, and another from its end
-trace_then : (p : Program) (before mid after : State) (is js os us : List (List ℕ)) → IsTraceTo p before is os mid → IsTraceTo p mid js us after
-    → IsTraceTo p before (is ++ js) (os ++ us) after
-trace_then p before mid after [] js [] us h k =
-    let P : State → Type 0 = λ st. IsTraceTo p st js us after in subst P h k
-trace_then p before mid after [] js (o ∷ os) us h k = absurd h
-trace_then p before mid after (i ∷ is) js [] us h k = absurd h
-trace_then p before mid after (i ∷ is) js (o ∷ os) us h k = (h.0, h.1, trace_then p h.0 mid after is js os us h.2 k)
+module _ (p : Program) (pads : List Pad) where
+  pub trace_runs : (st after : State) (is os : List (List ℕ)) → IsTraceTo p st is os after
+      → RunsAlong (ProgramSteps p pads) st is (map (value_bits pads) os) after
+  trace_runs st after [] [] h = h
+  trace_runs st after [] (o ∷ os) h = absurd h
+  trace_runs st after (i ∷ is) [] h = absurd h
+  trace_runs st after (i ∷ is) (o ∷ os) h =
+      (h.0, record { outputs = o; clock = h.1; bits = refl }, trace_runs h.0 after is os h.2)
 
-lines_more : (k n : ℕ) (pads : List Pad) (os us : List (List ℕ)) → n ≡ k + length os
-    → lines_text k pads (os ++ us) ≡ lines_text k pads os ++ lines_text n pads us
-lines_more k n pads [] us is = ap (λ m. lines_text m pads us) (let e : k ≡ n = omega arith in e)
-lines_more k n pads (o ∷ os) us is =
-    ap (λ text. line_text k pads o ++ text) (lines_more (suc k) n pads os us (omega arith))
-    ∙ sym (append_assoc (line_text k pads o) (lines_text (suc k) pads os) (lines_text n pads us))
+  pub run_traces : (st after : State) (is : List (List ℕ)) (shown : List (List (List Trit)))
+      → RunsAlong (ProgramSteps p pads) st is shown after
+      → (os : List (List ℕ)) × IsTraceTo p st is os after × (shown ≡ map (value_bits pads) os)
+  run_traces st after [] [] h = ([], h, refl)
+  run_traces st after [] (o ∷ os) h = absurd h
+  run_traces st after (i ∷ is) [] h = absurd h
+  run_traces st after (i ∷ is) (o ∷ os) h =
+      let step : ProgramSteps p pads st i o h.0 = h.1 in
+      let rest = run_traces h.0 after is os h.2 in (
+        step.outputs ∷ rest.0,
+        (h.0, step.clock, rest.1),
+        ap (λ x. x ∷ os) step.bits ∙ ap
+            (λ xs. value_bits pads step.outputs ∷ xs) rest.2,
+      )
 
-inputs_more : (n k : ℕ) (cs : List (List Given)) → k < length cs
-    → inputs_of n (take (suc k) cs) ≡ inputs_of n (take k cs) ++ inputs_at n (get_or cs k []) ∷ []
-inputs_more n k [] lt = absurd (omega (arith, lt))
-inputs_more n zero (c ∷ cs) lt = refl
-inputs_more n (suc k) (c ∷ cs) lt = ap (λ is. inputs_at n c ∷ is) (inputs_more n k cs (omega (arith, lt)))
+  -- a run ends in a state of the program
+  pub states_last_along : StatesLast p → (st after : State) (is : List (List ℕ)) (shown : List (List (List Trit)))
+      → IsState p st
+      → RunsAlong (ProgramSteps p pads) st is shown after → IsState p after
+  states_last_along last st after is shown state h =
+      let P : State → Type 0 = IsState p in
+      runs_keep (ProgramSteps p pads) P
+      (λ s t i o is_state step. last s t i step.outputs is_state step.clock) st after is shown state h
 
-inputs_split : (n k : ℕ) (cs : List (List Given)) → k < length cs
-    → inputs_of n (take k cs) ++ inputs_at n (get_or cs k []) ∷ inputs_of n (drop (suc k) cs) ≡ inputs_of n cs
-inputs_split n k [] lt = absurd (omega (arith, lt))
-inputs_split n zero (c ∷ cs) lt = refl
-inputs_split n (suc k) (c ∷ cs) lt = ap (λ is. inputs_at n c ∷ is) (inputs_split n k cs (omega (arith, lt)))
+-- a trace to some state is a trace
+trace_from : (p : Program) (st after : State) (is os : List (List ℕ)) → IsTraceTo p st is os after
+    → IsTraceFrom p st is os
+trace_from p st after [] [] h = tt
+trace_from p st after [] (o ∷ os) h = absurd h
+trace_from p st after (i ∷ is) [] h = absurd h
+trace_from p st after (i ∷ is) (o ∷ os) h = (h.0, h.1, trace_from p h.0 after is os h.2)
 
--- k clocks were run from this state to that, and their lines printed
-pub record PrintedTo (p : Program) (s : Stimulus) (k : ℕ) (before now : State) (x y : Option (List ℕ)) : Type 0 where
-  pub outputs : List (List ℕ)
-  pub trace : IsTraceTo p before (inputs_of (length (s.pads).inputs) (take k s.clocks)) outputs now
-  pub state : IsState p now
-  pub long : k ≡ length outputs
-  pub held : WhereTold (Gains (lines_text 0 (s.pads).outputs outputs)) x y
+-- a transcript shows a trace, value by value
+pub transcript_shows : (p : Program) (given : Stimulus) (st after : State) (text : List ℕ)
+    → IsTranscript p given st after text
+    → (os : List (List ℕ)) × IsTraceFrom p st (inputs_of given) os
+    × (text ≡ lines_text 0 (given.pads).outputs (map (value_bits (given.pads).outputs) os))
+transcript_shows p given st after text t =
+    let trace = run_traces p (given.pads).outputs st after (inputs_of given) t.shown t.runs in (
+      trace.0,
+      trace_from p st after (inputs_of given) trace.0 trace.1,
+      t.lines ∙ ap
+          (lines_text 0 (given.pads).outputs) trace.2,
+    )
 
-pub printed_none : (p : Program) (s : Stimulus) (st : State) (x : Option (List ℕ)) → IsState p st → PrintedTo p s 0 st st x x
-printed_none p s st x is = record { outputs = []; trace = refl; state = is; long = refl; held = gains_nothing x }
+-- the program stays the same
+pub program_kept : (before after : Sourcing) (is : List (List ℕ)) (shown : List (List (List Trit)))
+    → RunsAlong SourceSteps before is shown after
+    → after.program ≡ before.program
+program_kept before after is shown h =
+    runs_keep SourceSteps (λ (s : Sourcing). s.program ≡ before.program)
+    (λ s t i o same step. step.program ∙ same) before after is shown refl h
 
-pub printed_more : {T E : Type 0} (p : Program) (s : Stimulus) (k : ℕ) (before now after : State) (x y z : Option (List ℕ)) (u : T)
-    → StatesLast p → k < length s.clocks → PrintedTo p s k before now x y → PrintsClock {T = T} {E = E} p s k now after y z (Ok u)
-    → PrintedTo p s (k + 1) before after x z
-printed_more {T} {E} p s k before now after x y z u last lt so_far c =
-    let n = length (s.pads).inputs in
-    let pads = (s.pads).outputs in
-    let is : inputs_of n (take k s.clocks) ++ inputs_at n (get_or s.clocks k []) ∷ [] ≡ inputs_of n (take (k + 1) s.clocks) =
-    sym (inputs_more n k s.clocks lt) ∙ ap (λ m. inputs_of n (take m s.clocks)) (let e : suc k ≡ k + 1 = omega arith in e) in
-    let R : List (List ℕ) → Type 0 = λ xs. IsTraceTo p before xs (so_far.outputs ++ c.shown ∷ []) after in
-    let P : List ℕ → Type 0 = λ text. WhereTold (Gains text) x z in
-    let long : k ≡ 0 + length so_far.outputs = omega (arith, so_far.long) in
-    let text : lines_text 0 pads so_far.outputs ++ line_text k pads c.shown ≡ lines_text 0 pads (so_far.outputs ++ c.shown ∷ []) =
-    ap (λ t. lines_text 0 pads so_far.outputs ++ t) (sym (append-nil (line_text k pads c.shown)))
-    ∙ sym (lines_more 0 k pads so_far.outputs (c.shown ∷ []) long) in
-    record {
-      outputs = so_far.outputs ++ c.shown ∷ [];
-      trace = subst R is (trace_then p before now after _ _ so_far.outputs (c.shown ∷ []) so_far.trace (after, c.clocks, refl));
-      state = last now after _ c.shown so_far.state c.clocks;
-      long = omega (arith, so_far.long, length-append so_far.outputs (c.shown ∷ []));
-      held = subst P text (gains_twice _ _ x y z so_far.held (gained {T = T} {E = E} u y z (line_text k pads c.shown) c.taken));
-    }
+-- a step of a source is one of its program
+source_step : (p : Program) (pads : Pads) (s t : Sourcing) (i : List ℕ) (o : List (List Trit))
+    → (s.program ≡ p) × (s.pads ≡ pads)
+    → SourceSteps s i o t → ((t.program ≡ p) × (t.pads ≡ pads)) × ProgramSteps p pads.outputs s.state i o t.state
+source_step p pads s t i o same step =
+    let Q : Program → Type 0 = λ q. ProgramSteps q (s.pads).outputs s.state i o t.state in
+    let R : Pads → Type 0 = λ ps. ProgramSteps p ps.outputs s.state i o t.state in
+    ((step.program ∙ same.0, step.pads ∙ same.1), subst R same.1 (subst Q same.0 step.clock))
 
-pub printed_all : {T E : Type 0} (p : Program) (s : Stimulus) (k : ℕ) (before now : State) (x y : Option (List ℕ)) (u : T)
-    → length s.clocks ≤ k → PrintedTo p s k before now x y → PrintsTranscript {T = T} {E = E} p s before now x y (Ok u)
-printed_all {T} {E} p s k before now x y u le so_far =
-    let n = length (s.pads).inputs in
-    let R : List (List ℕ) → Type 0 = λ is. IsTraceTo p before is so_far.outputs now in
-    record {
-      end = now;
-      text = lines_text 0 (s.pads).outputs so_far.outputs;
-      transcript = record {
-        outputs = so_far.outputs;
-        trace = subst R (ap (inputs_of n) (take_all k s.clocks le)) so_far.trace;
-        lines = refl;
-      };
-      ends = refl;
-      taken = printed {T = T} {E = E} u x y (lines_text 0 (s.pads).outputs so_far.outputs) so_far.held;
-    }
-
-pub printed_cut : {T E : Type 0} (p : Program) (s : Stimulus) (k : ℕ) (before now after : State) (x y z : Option (List ℕ)) (e f : E)
-    → StatesLast p → TraceExists p → k < length s.clocks → PrintedTo p s k before now x y
-    → PrintsClock {T = T} {E = E} p s k now after y z (Err e)
-    → PrintsTranscript {T = T} {E = E} p s before after x z (Err f)
-printed_cut {T} {E} p s k before now after x y z e f last exist lt so_far c =
-    let n = length (s.pads).inputs in
-    let pads = (s.pads).outputs in
-    let js = inputs_of n (drop (suc k) s.clocks) in
-    let rest = exist after js (last now after _ c.shown so_far.state c.clocks) in
-    let R : List (List ℕ) → Type 0 = λ is. IsTraceTo p before is (so_far.outputs ++ c.shown ∷ rest.0) rest.1 in
-    let P : List ℕ → Type 0 = λ text. TakesAll {T = T} {E = E} Gains x z text (Err f) in
-    let long : k ≡ 0 + length so_far.outputs = omega (arith, so_far.long) in
-    record {
-      end = rest.1;
-      text = lines_text 0 pads (so_far.outputs ++ c.shown ∷ rest.0);
-      transcript = record {
-        outputs = so_far.outputs ++ c.shown ∷ rest.0;
-        trace = subst R (inputs_split n k s.clocks lt)
-            (trace_then p before now rest.1 _ (inputs_at n (get_or s.clocks k []) ∷ js) so_far.outputs (c.shown ∷ rest.0)
-            so_far.trace (after, c.clocks, rest.2));
-        lines = refl;
-      };
-      ends = tt;
-      taken = subst P (sym (lines_more 0 k pads so_far.outputs (c.shown ∷ rest.0) long))
-          (cut_short {T = T} e f x y z (lines_text 0 pads so_far.outputs) (line_text k pads c.shown) (lines_text (suc k) pads rest.0)
-          so_far.held c.taken);
-    }
+-- what the run of a source prints is of a transcript of its program
+pub prints_transcript : {T E : Type 0} (given : Stimulus) (before after : Sourcing) (x y : Option (List ℕ))
+    (r : Result T E)
+    → before.pads ≡ given.pads → StatesLast before.program → TraceExists before.program
+    → IsState before.program before.state
+    → PrintsClocks SourceSteps given before after x y r
+    → PrintsTranscript (ProgramSteps before.program (given.pads).outputs) given before.state after.state x y r
+prints_transcript given before after x y r same last exist state c =
+    let p = before.program in
+    let pads = (given.pads).outputs in
+    let Steps : State → List ℕ → List (List Trit) → State → Type 0 = ProgramSteps p pads in
+    let P : Sourcing → Type 0 = λ s. (s.program ≡ p) × (s.pads ≡ given.pads) in
+    let prints : PrintsClocks Steps given before.state after.state x y r =
+    prints_as SourceSteps Steps (λ s. s.state) P (source_step p given.pads) given before after x y r (refl, same) c in
+    let ends : IsState p after.state =
+    states_last_along p pads last before.state after.state _ prints.shown state prints.runs in
+    completes Steps given before.state after.state x y r (λ k.
+    let later = drop k (inputs_of given) in
+    let trace = exist after.state later ends in
+    (map (value_bits pads) trace.0, trace.1, trace_runs p pads after.state trace.1 later trace.0 trace.2)) prints

@@ -16,4 +16,5 @@ keeps_23 p unbroken at e = unbroken 23 at (inr (inr (inr (inl (refl, e)))))
 
 pub keeps_36 : (p : Program) → IsUnbroken p → (at : Place) → E36 p at → ⊥
 keeps_36 p unbroken at e =
-    unbroken 36 at (inr (inr (inr (inr (inr (inr (inr (inr (inr (inr (inr (inr (inr (inr (inr (inr (inl (refl, e))))))))))))))))))
+    unbroken 36 at
+    (inr (inr (inr (inr (inr (inr (inr (inr (inr (inr (inr (inr (inr (inr (inr (inr (inl (refl, e))))))))))))))))))

@@ -1,3 +1,4 @@
+pub mod Source
 pub mod Transcript
 pub mod Tracer
 pub mod Laws

@@ -1,9 +1,10 @@
 //! A program along a stimulus, and its transcript.
 #![tactic(auto)]
 
-mod law;
+pub mod laws;
+mod source;
 mod tracer;
 mod words;
 
-pub use law::transcripts_exist;
+pub use source::Source;
 pub use tracer::Tracer;

@@ -1,10 +1,9 @@
-//! The words that a line shows.
+//! The words that show values.
 
 ghost use Rattle.std.specs.Prelude.{◌≡◌, ℕ, ◌<◌, ◌-◌, length, slice_index};
+ghost use Rattle.stimulus.specs.Bits.{pad_bits, pad_trits, trits_of, value_bits};
 ghost use Rattle.stimulus.specs.Rules.{bits_of, bound};
 ghost use Rattle.stimulus.specs.Fitting.{bound_at};
-ghost use Rattle.stimulus.specs.Transcript.{pad_text, pad_texts};
-ghost use Rattle.trace_run.specs.Transcript.{value_text, values_text};
 
 use mp_base::{Pad, TritOutputs, TritWord};
 
@@ -24,7 +23,7 @@ fn all_bits(pad: &Pad) -> u64
 // The word of a pad that has a value, of which all bits are known.
 fn known_word(pad: &Pad, value: u64) -> TritWord
     requires { value < bound pad.now }
-    ensures { pad_text pad.now result ≡ value_text pad.now value }
+    ensures { pad_trits pad.now result ≡ pad_bits pad.now value }
 {
     TritWord {
         known: all_bits(pad),
@@ -38,7 +37,7 @@ pub fn fill_words(pads: &[Pad], outputs: &[u64], words: &mut TritOutputs)
     requires words { length words.old ≡ length pads.now }
     requires fits { (k : ℕ) → k < length pads.now → slice_index outputs.now k < bound_at pads.now k }
     ensures len { length words.new ≡ length words.old }
-    ensures text { pad_texts pads.now words.new ≡ values_text pads.now outputs.now }
+    ensures bits { trits_of pads.now words.new ≡ value_bits pads.now outputs.now }
 {
     for i in 0..pads.len() {
         words.put(i, known_word(&pads[i], outputs[i]));

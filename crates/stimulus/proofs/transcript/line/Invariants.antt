@@ -1,11 +1,12 @@
 use Rattle.std.proofs.Common.{◌≡◌, ◌++◌, take}
 use Rattle.std.specs.Prelude.{decimal}
-use Rattle.stimulus.specs.Transcript.{pad_texts}
-use Rattle.stimulus.proofs.Writing.{Wrote}
+use Rattle.mp_base.specs.Outside.{WhereTold, Gains}
+use Rattle.stimulus.proofs.Texts.{word_texts}
 use Rattle.stimulus.proofs.transcript.line.Given as goal
 
 abbrev pub invariant-loop-i : goal.invariant-loop-i
 invariant-loop-i g l = record {
-  held : Wrote (g.O.Sink.held l.fn.out) (g.O.Sink.held l.out) (decimal l.clock ++ pad_texts (take l.i l.outputs) (take l.i l.values));
+  held : WhereTold (Gains (decimal l.clock ++ word_texts (take l.i l.outputs) (take l.i l.values)))
+      (g.O.Sink.held l.fn.out) (g.O.Sink.held l.out);
   faults : g.O.Sink.faults l.out ≡ g.O.Sink.faults l.fn.out;
 }

@@ -1,4 +1,4 @@
-use Rattle.trace_run.proofs.Texts.{ones}
+use Rattle.trace_run.proofs.Known.{ones}
 use Rattle.trace_run.proofs.words.all_bits.Goals as goal
 
 pub returns : goal.returns

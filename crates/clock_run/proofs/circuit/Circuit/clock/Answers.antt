@@ -3,7 +3,7 @@ use Rattle.std.specs.List.{AllZip}
 use Rattle.mp_base.specs.declared.pad.Pads.{Pads}
 use Rattle.settle.specs.Values.{value_at}
 use Rattle.switch_net.specs.Clock.{Shows}
-use Rattle.clock_run.specs.Words.{trits_of}
+use Rattle.stimulus.specs.Bits.{trits_of}
 use Rattle.clock_run.proofs.Clocking.{six_settings}
 use Rattle.clock_run.proofs.circuit.Circuit.clock.Goals as goal
 

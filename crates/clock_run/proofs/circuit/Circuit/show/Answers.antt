@@ -5,7 +5,7 @@ use Rattle.mp_base.specs.declared.value.Trit.{Trit}
 use Rattle.mp_base.specs.declared.value.TritWord.{TritWord}
 use Rattle.settle.specs.Values.{value_at}
 use Rattle.clock_run.specs.Circuit.{Running}
-use Rattle.clock_run.specs.Words.{low_trits}
+use Rattle.stimulus.specs.Bits.{low_trits}
 use Rattle.clock_run.specs.Plan.{AreNodesOf}
 use Rattle.clock_run.proofs.Zips.{zip_length}
 use Rattle.clock_run.proofs.Planned.{nodes_few}

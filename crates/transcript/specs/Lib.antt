@@ -1,0 +1,3 @@
+pub mod Transcript
+pub mod Running
+pub mod Laws
