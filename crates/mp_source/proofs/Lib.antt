@@ -3,3 +3,4 @@ mod Placed
 mod Standing
 mod Judged
 mod Verdict
+mod Existing

@@ -5,9 +5,13 @@ ghost use Rattle.mp_base.specs.declared.refusal.Broken.{Broken};
 ghost use Rattle.mp_program.specs.declared.program.Program.{Program};
 ghost use Rattle.mp_source.specs.Source.{IsSpelled, OfSource};
 
-use form_reader::{one_first_rule as one_first_of_text, one_spelling, spelled_breaks_nothing};
-use mp_rules::laws::one_first_rule as one_first_of_program;
-use mp_syntax::{one_program, shaped_is_unbroken};
+use form_reader::{
+    one_first_rule as one_first_of_text, one_spelling, spelled_breaks_nothing, spelled_is_sound,
+    text_verdict,
+};
+use mp_rules::laws::{broken_at_a_place, one_first_rule as one_first_of_program};
+use mp_syntax::{forms_verdict, one_program, shaped_is_unbroken};
+use mp_verdict::laws::program_verdict;
 
 /// A text spells at most one program.
 pub fn one_source()
@@ -27,4 +31,15 @@ pub fn one_verdict()
     shaped_is_unbroken();
     one_first_of_text();
     one_first_of_program();
+}
+
+/// A text has a verdict: it spells a program that breaks no rule, or breaks a rule first, at a place.
+pub fn source_verdict()
+    ensures { (text : List ℕ) → (verdict : Option Broken) × OfSource text verdict }
+{
+    text_verdict();
+    spelled_is_sound();
+    forms_verdict();
+    program_verdict();
+    broken_at_a_place();
 }
