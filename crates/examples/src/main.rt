@@ -1,11 +1,6 @@
 //! Runs each example over files in memory, and tells whether it prints what stands beside it.
 #![tactic(auto)]
 
-#[cfg(test)]
-mod runs;
-#[cfg(test)]
-mod tests;
-
 use mp_base::{List, MemDepot, MemSink, NoMemory};
 use silicon::run;
 use std::alloc::{AllocError, Global};
