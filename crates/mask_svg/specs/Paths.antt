@@ -24,11 +24,14 @@ pair_text a x b y = a ++ signed_decimal x ++ b ++ signed_decimal y
 unfoldable pub between_text : List ℕ → ℤ → List ℕ → List ℕ
 between_text a x b = a ++ signed_decimal x ++ b
 
+-- a corner, the opposite one, and the way back, with the letters before the numbers
+unfoldable pub around_text : List ℕ → List ℕ → List ℕ → List ℕ → List ℕ → Rect → List ℕ
+around_text start comma across up end r =
+    pair_text start r.x0 comma r.y0 ++ pair_text across r.x1 up r.y1 ++ between_text across r.x0 end
+
 -- a closed path from the lower left corner along the lower, the right and the upper edge
 abbrev pub edges_text : Rect → List ℕ
-edges_text r =
-    pair_text (codes "M") r.x0 (codes ",") r.y0 ++ pair_text (codes "H") r.x1 (codes "V") r.y1
-    ++ between_text (codes "H") r.x0 (codes "z")
+edges_text r = around_text (codes "M") (codes ",") (codes "H") (codes "V") (codes "z") r
 
 unfoldable pub rect_text : Rect → List ℕ
 rect_text r = edges_text r

@@ -2,7 +2,7 @@
 
 ghost use Rattle.std.specs.Prelude.{◌≡◌, ◌++◌, codes, IfOk};
 ghost use Rattle.std.specs.Fmt.{signed_decimal};
-ghost use Rattle.mask_svg.specs.Paths.{layer_rank, pair_text, between_text, edges_text, rect_text, part_on, path_text};
+ghost use Rattle.mask_svg.specs.Paths.{layer_rank, pair_text, between_text, around_text, edges_text, rect_text, part_on, path_text};
 ghost use Rattle.mask_svg.specs.Paths.{head_text, element_text, layer_text, lower_text, upper_text, paths_text};
 
 use itoa::Buffer;
@@ -49,12 +49,26 @@ fn push_between(text: &mut Vec<u8>, a: &[u8], x: i64, b: &[u8]) -> Result<(), Al
     text.extend_from_slice(b)
 }
 
+// Three texts that follow one another, of which the letters are given.
+#[tactic(auto, unfolding(crate::specs::Paths::around_text))]
+fn push_around(
+    text: &mut Vec<u8>,
+    rect: Rect,
+    starts: (&[u8], &[u8]),
+    sides: (&[u8], &[u8]),
+    end: &[u8],
+) -> Result<(), AllocError>
+    ensures { IfOk result (λ u. text.new.items ≡ text.old.items ++ around_text starts.0.now starts.1.now sides.0.now sides.1.now end.now rect) }
+{
+    push_pair(text, starts.0, rect.x0, starts.1, rect.y0)?;
+    push_pair(text, sides.0, rect.x1, sides.1, rect.y1)?;
+    push_between(text, sides.0, rect.x0, end)
+}
+
 fn push_edges(text: &mut Vec<u8>, rect: Rect) -> Result<(), AllocError>
     ensures { IfOk result (λ u. text.new.items ≡ text.old.items ++ edges_text rect) }
 {
-    push_pair(text, b"M", rect.x0, b",", rect.y0)?;
-    push_pair(text, b"H", rect.x1, b"V", rect.y1)?;
-    push_between(text, b"H", rect.x0, b"z")
+    push_around(text, rect, (b"M", b","), (b"H", b"V"), b"z")
 }
 
 #[tactic(auto, unfolding(crate::specs::Paths::rect_text))]
