@@ -14,7 +14,7 @@ use Rattle.mp_order.specs.Demands.{IsDriven, root}
 use Rattle.mp_order.specs.Chains.{AreReachers, Placed}
 use Rattle.mp_order.proofs.Tables.{one_entry}
 use Rattle.mp_order.proofs.Mentions.{any_of}
-use Rattle.mp_order.proofs.Names.{same_names}
+use Rattle.mp_program.proofs.Definitions.{same_is}
 use Rattle.mp_order.proofs.Marks.{element, marked_inside}
 use Rattle.mp_order.proofs.Reading.{SetsLaw, ReadsLaw, read_down}
 use Rattle.mp_order.proofs.Closing.{start_driven, join}
@@ -195,7 +195,7 @@ module _ (p : Program) where
           let (g, w, name, there, v, k, wg, kind, same, marked, why) =
           read_down p sound sets reads [] x.name y.name 0 (λ e el mention. omega arith) (length p.forms) r 1 z.0
           (omega arith) (lt, z.1) (root rooted) read in
-          (w.place, (g, w, name, there, v, d, x, wg, kind, (dl, xd), sym (same_names name x.name same), chain, refl))
+          (w.place, (g, w, name, there, v, d, x, wg, kind, (dl, xd), sym (same_is name x.name same), chain, refl))
 
   pub order_exists : IsSound p → SetsLaw p → ReadsLaw p → ((at : Place) → E33 p at → ⊥) → (order : List ℕ)
       × IsOrder p order
