@@ -24,4 +24,3 @@ mod touching;
 
 pub use drawing::{Drawing, draw};
 pub use piece::{Part, Piece};
-
