@@ -216,8 +216,8 @@ fn network_of(alloc: Global, line: &[u8]) -> Result<Option<Network>, AllocError>
     Ok(network(tags, channels))
 }
 
-/// Of the labels, the channels and the stimulus of a circuit of seven nodes, how many are unknown, the transcript, and how
-/// many are unknown and 1 after it; or the rule that is broken.
+/// Of the labels, the channels and the stimulus of a circuit of seven nodes, how many are unknown, the transcript, and
+/// how many are unknown and 1 after it; or the rule that is broken.
 pub(crate) fn circuit(alloc: Global, line: &[u8], words: &mut String) -> Result<(), AllocError> {
     match network_of(alloc, line)? {
         Some(network) => push_along(alloc, words, network, part(line, 2)),

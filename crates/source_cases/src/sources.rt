@@ -18,8 +18,8 @@ fn push_kept(words: &mut String, checked: &Checked) -> Result<(), AllocError> {
     write!(words, "weighs {weight}, evaluates {ordered}, {lasting}")
 }
 
-/// What a source weighs, how many of its ports and signals are evaluated, and whether it has a state; or the first rule that
-/// it breaks, and where.
+/// What a source weighs, how many of its ports and signals are evaluated, and whether it has a state; or the first rule
+/// that it breaks, and where.
 pub(crate) fn source(alloc: Global, words: &mut String, text: &[u8]) -> Result<(), AllocError>
     requires { length text.now + 1 < 2 ^ 32 }
 {

@@ -1,4 +1,4 @@
-//! Tables of texts: one on each line, with `\n`, `\r` and `\hh`, a byte by two digits, for bytes that a line can't hold.
+//! Tables of texts: one on each line, with `\n`, `\r` and `\hh`, a byte by two digits, for bytes that no line holds.
 
 ghost use Rattle.std.specs.Prelude.{◌+◌, ◌<◌, ◌^◌, length};
 

@@ -1,5 +1,5 @@
-//! Drawings as they are written in the tables: rectangles by their layer, left, lower, right and upper edges; places by their
-//! left and lower edges; `;` ends each.
+//! Drawings as they are written in the tables: rectangles by their layer, left, lower, right and upper edges; places by
+//! their left and lower edges; `;` ends each.
 
 use lam_geom::{Layer, Point, Rect};
 use std::alloc::{AllocError, Global};
