@@ -5,25 +5,35 @@ ghost use Rattle.switch_net.specs.OneNode.{OneNodeEach};
 
 use crate::lines::part;
 use crate::network::{channels, digit};
-use mp_base::{List, MemSink, Name, Refusal, Spot, Trit};
+use mp_base::{List, MemSink, Name, Refusal, Rule, Spot, Trit};
 use sim_run::Simulation;
 use std::alloc::{AllocError, Global};
 use stimulus::{Stimulus, read_stimulus};
 use switch_net::{Channel, Network, Tag};
+
+fn push_tag(
+    alloc: Global,
+    tags: &mut List<Tag>,
+    text: &[u8],
+    offset: u64,
+) -> Result<(), AllocError> {
+    if let [node, name @ ..] = text {
+        tags.push(Tag {
+            offset,
+            name: Name::from_slice(alloc, name)?,
+            node: digit(*node),
+        })?;
+    }
+    Ok(())
+}
 
 // Each label behind the digit of its node, at ten bytes for each label before it.
 fn tags(alloc: Global, text: &[u8]) -> Result<List<Tag>, AllocError> {
     let mut tags = List::new(alloc);
     let mut offset = 0u64;
     for part in text.split(|byte| *byte == b' ') {
-        if let [node, name @ ..] = part {
-            tags.push(Tag {
-                offset,
-                name: Name::from_slice(alloc, name)?,
-                node: digit(*node),
-            })?;
-            offset = offset.wrapping_add(10);
-        }
+        push_tag(alloc, &mut tags, part, offset)?;
+        offset = offset.wrapping_add(10);
     }
     Ok(tags)
 }
@@ -58,20 +68,29 @@ fn replaced(alloc: Global, bytes: &[u8], from: u8, to: u8) -> Result<Vec<u8>, Al
     Ok(text)
 }
 
+fn read(alloc: Global, text: &[u8]) -> Option<Stimulus>
+    ensures inputs { IfSome result (λ given. length given.pads.inputs < 2 ^ 32) }
+    ensures clocks { IfSome result (λ given. length given.clocks < 2 ^ 32) }
+{
+    if text.len() > 99 {
+        return None;
+    }
+    let given = read_stimulus(alloc, text, None).ok()?;
+    if given.pads.inputs.len() < 9 && given.clocks.len() < 9 {
+        Some(given)
+    } else {
+        None
+    }
+}
+
 // The stimulus of which `;` ends each line.
 fn stimulus(alloc: Global, lines: &[u8]) -> Option<Stimulus>
     ensures inputs { IfSome result (λ given. length given.pads.inputs < 2 ^ 32) }
     ensures clocks { IfSome result (λ given. length given.clocks < 2 ^ 32) }
 {
-    let text = replaced(alloc, lines, b';', b'\n').ok()?;
-    if text.len() > 99 {
-        return None;
-    }
-    let given = read_stimulus(alloc, &text, None).ok()?;
-    if given.pads.inputs.len() < 9 && given.clocks.len() < 9 {
-        Some(given)
-    } else {
-        None
+    match replaced(alloc, lines, b';', b'\n') {
+        Ok(text) => read(alloc, &text),
+        Err(_) => None,
     }
 }
 
@@ -85,54 +104,123 @@ fn count(values: &[Trit], value: Trit) -> u32 {
     count
 }
 
-fn refused(alloc: Global, refusal: &Refusal) -> Result<String, AllocError> {
-    let Refusal::Broken(broken) = refusal else {
-        return format!(in alloc; "no memory");
-    };
-    let rule = broken.rule;
-    match &broken.spot {
-        Spot::Named(name) => {
-            let name = String::from_utf8_lossy(alloc, name.bytes())?;
-            format!(in alloc; "{:?}{} {name}", rule.family, rule.number)
+fn push_rule(alloc: Global, words: &mut String, rule: Rule) -> Result<(), AllocError> {
+    let shown = format!(in alloc; "{:?}{}", rule.family, rule.number)?;
+    words.push_str(&shown)
+}
+
+fn push_name(alloc: Global, words: &mut String, name: &Name) -> Result<(), AllocError> {
+    let shown = String::from_utf8_lossy(alloc, name.bytes())?;
+    words.push_str(" ")?;
+    words.push_str(&shown)
+}
+
+fn push_offset(alloc: Global, words: &mut String, offset: u64) -> Result<(), AllocError> {
+    let shown = format!(in alloc; " at {offset}")?;
+    words.push_str(&shown)
+}
+
+fn push_spot(alloc: Global, words: &mut String, spot: &Spot) -> Result<(), AllocError> {
+    match spot {
+        Spot::Named(name) => push_name(alloc, words, name),
+        Spot::Offset(offset) => push_offset(alloc, words, *offset),
+        _ => Ok(()),
+    }
+}
+
+fn push_refusal(alloc: Global, words: &mut String, refusal: &Refusal) -> Result<(), AllocError> {
+    match refusal {
+        Refusal::Broken(broken) => {
+            push_rule(alloc, words, broken.rule)?;
+            push_spot(alloc, words, &broken.spot)
         }
-        Spot::Offset(offset) => format!(in alloc; "{:?}{} at {offset}", rule.family, rule.number),
-        _ => format!(in alloc; "{:?}{}", rule.family, rule.number),
+        _ => words.push_str("no memory"),
     }
 }
 
-// What is printed, with a blank for each line feed.
-fn printed(alloc: Global, simulation: &mut Simulation<'_>) -> Result<String, AllocError> {
+fn push_count(alloc: Global, words: &mut String, count: u32, what: &str) -> Result<(), AllocError> {
+    let shown = format!(in alloc; "{count} {what}")?;
+    words.push_str(&shown)
+}
+
+// Bytes, with a blank for each line feed.
+fn push_lines(alloc: Global, words: &mut String, bytes: &[u8]) -> Result<(), AllocError> {
+    let text = replaced(alloc, bytes, b'\n', b' ')?;
+    let shown = String::from_utf8_lossy(alloc, &text)?;
+    words.push_str(&shown)
+}
+
+fn push_transcript(
+    alloc: Global,
+    words: &mut String,
+    simulation: &mut Simulation<'_>,
+) -> Result<(), AllocError> {
     let mut sink = MemSink::new(alloc, List::new(alloc));
-    if simulation.run(&mut sink).is_err() {
-        return format!(in alloc; "a fault");
+    match simulation.run(&mut sink) {
+        Ok(()) => push_lines(alloc, words, sink.bytes()),
+        Err(_) => words.push_str("a fault"),
     }
-    let text = replaced(alloc, sink.bytes(), b'\n', b' ')?;
-    String::from_utf8_lossy(alloc, &text)
 }
 
-fn told(alloc: Global, network: Network, given: &Stimulus) -> Result<String, AllocError>
+fn push_run(
+    alloc: Global,
+    words: &mut String,
+    simulation: &mut Simulation<'_>,
+) -> Result<(), AllocError> {
+    push_count(
+        alloc,
+        words,
+        count(simulation.values(), Trit::X),
+        "unknown, ",
+    )?;
+    push_transcript(alloc, words, simulation)?;
+    push_count(
+        alloc,
+        words,
+        count(simulation.values(), Trit::X),
+        "unknown, ",
+    )?;
+    push_count(alloc, words, count(simulation.values(), Trit::One), "ones")
+}
+
+fn push_told(
+    alloc: Global,
+    words: &mut String,
+    network: Network,
+    given: &Stimulus,
+) -> Result<(), AllocError>
     requires inputs { length given.now.pads.inputs < 2 ^ 32 }
     requires clocks { length given.now.clocks < 2 ^ 32 }
 {
-    let mut simulation = match Simulation::open(alloc, network, given) {
-        Ok(simulation) => simulation,
-        Err(refusal) => return refused(alloc, &refusal),
-    };
-    let before = count(simulation.values(), Trit::X);
-    let lines = printed(alloc, &mut simulation)?;
-    let after = count(simulation.values(), Trit::X);
-    let ones = count(simulation.values(), Trit::One);
-    format!(in alloc; "{before} unknown, {lines}{after} unknown, {ones} ones")
+    match Simulation::open(alloc, network, given) {
+        Ok(mut simulation) => push_run(alloc, words, &mut simulation),
+        Err(refusal) => push_refusal(alloc, words, &refusal),
+    }
 }
 
-/// Of the labels, the channels and the stimulus of a circuit of seven nodes, how many are unknown, the transcript, and how
-/// many are unknown and 1 after it; or the rule that is broken.
-pub(crate) fn circuit(alloc: Global, line: &[u8]) -> Result<String, AllocError> {
+fn push_along(
+    alloc: Global,
+    words: &mut String,
+    network: Network,
+    lines: &[u8],
+) -> Result<(), AllocError> {
+    match stimulus(alloc, lines) {
+        Some(given) => push_told(alloc, words, network, &given),
+        None => words.push_str("no stimulus"),
+    }
+}
+
+fn network_of(alloc: Global, line: &[u8]) -> Result<Option<Network>, AllocError> {
     let tags = tags(alloc, part(line, 0))?;
     let channels = channels(alloc, part(line, 1))?;
-    match (network(tags, channels), stimulus(alloc, part(line, 2))) {
-        (Some(network), Some(given)) => told(alloc, network, &given),
-        (None, _) => format!(in alloc; "no network"),
-        (_, None) => format!(in alloc; "no stimulus"),
+    Ok(network(tags, channels))
+}
+
+/// Of the labels, the channels and the stimulus of a circuit of seven nodes, how many are unknown, the transcript, and
+/// how many are unknown and 1 after it; or the rule that is broken.
+pub(crate) fn circuit(alloc: Global, line: &[u8], words: &mut String) -> Result<(), AllocError> {
+    match network_of(alloc, line)? {
+        Some(network) => push_along(alloc, words, network, part(line, 2)),
+        None => words.push_str("no network"),
     }
 }

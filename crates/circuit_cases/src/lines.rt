@@ -2,6 +2,7 @@
 
 use crate::circuits::circuit;
 use crate::settled::settled;
+use std::alloc::{AllocError, Global};
 use std::{fs, io};
 
 /// What the lines of a table are.
@@ -19,19 +20,48 @@ pub(crate) fn part(line: &[u8], index: usize) -> &[u8] {
     }
 }
 
-/// Each line of a file, and what becomes of it.
-pub(crate) fn show_list(rt: &HostRuntime, name: &str, case: Case) -> io::Result<()> {
-    println!(rt; "== {name}")?;
-    let lines = fs::read(rt, name)?;
-    for line in lines.split(|byte| *byte == b'\n') {
+fn push_words(
+    alloc: Global,
+    words: &mut String,
+    line: &[u8],
+    case: Case,
+) -> Result<(), AllocError> {
+    match case {
+        Case::Settled => settled(alloc, line, words),
+        Case::Circuit => circuit(alloc, line, words),
+    }
+}
+
+// What becomes of a line.
+fn words(alloc: Global, line: &[u8], case: Case) -> Result<String, AllocError> {
+    let mut words = String::new(alloc);
+    push_words(alloc, &mut words, line, case)?;
+    Ok(words)
+}
+
+fn show(rt: &HostRuntime, line: &[u8]) -> io::Result<()> {
+    let shown = String::from_utf8_lossy(rt.alloc(), line)?;
+    println!(rt; "{shown}")
+}
+
+fn show_words(rt: &HostRuntime, line: &[u8], case: Case) -> io::Result<()> {
+    let words = words(rt.alloc(), line, case)?;
+    println!(rt; "    {words}")
+}
+
+fn show_lines(rt: &HostRuntime, table: &[u8], case: Case) -> io::Result<()> {
+    for line in table.split(|byte| *byte == b'\n') {
         if !line.is_empty() {
-            let shown = String::from_utf8_lossy(rt.alloc(), line)?;
-            let words = match case {
-                Case::Settled => settled(rt.alloc(), line)?,
-                Case::Circuit => circuit(rt.alloc(), line)?,
-            };
-            println!(rt; "{shown}\n    {words}")?;
+            show(rt, line)?;
+            show_words(rt, line, case)?;
         }
     }
     Ok(())
+}
+
+/// Each line of a file, and what becomes of it.
+pub(crate) fn show_list(rt: &HostRuntime, name: &str, case: Case) -> io::Result<()> {
+    println!(rt; "== {name}")?;
+    let table = fs::read(rt, name)?;
+    show_lines(rt, &table, case)
 }

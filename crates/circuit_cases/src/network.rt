@@ -19,21 +19,34 @@ fn kind(letter: u8) -> ChannelKind {
     }
 }
 
+fn ends(alloc: Global, digits: &[u8]) -> Result<List<u32>, AllocError> {
+    let mut ends = List::new(alloc);
+    for end in digits {
+        ends.push(digit(*end))?;
+    }
+    Ok(ends)
+}
+
+fn push_channel(
+    alloc: Global,
+    channels: &mut List<Channel>,
+    text: &[u8],
+) -> Result<(), AllocError> {
+    if let [letter, gate, others @ ..] = text {
+        channels.push(Channel {
+            gate: digit(*gate),
+            ends: ends(alloc, others)?,
+            kind: kind(*letter),
+        })?;
+    }
+    Ok(())
+}
+
 /// Each channel by the letter of its kind, its gate and its ends.
 pub(crate) fn channels(alloc: Global, text: &[u8]) -> Result<List<Channel>, AllocError> {
     let mut channels = List::new(alloc);
     for part in text.split(|byte| *byte == b' ') {
-        if let [letter, gate, others @ ..] = part {
-            let mut ends = List::new(alloc);
-            for end in others {
-                ends.push(digit(*end))?;
-            }
-            channels.push(Channel {
-                gate: digit(*gate),
-                ends,
-                kind: kind(*letter),
-            })?;
-        }
+        push_channel(alloc, &mut channels, part)?;
     }
     Ok(channels)
 }

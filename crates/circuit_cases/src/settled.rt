@@ -5,7 +5,7 @@ use crate::network::{channels, letter};
 use mp_base::{List, NoMemory, Trit};
 use settle::Settler;
 use std::alloc::{AllocError, Global};
-use switch_net::Network;
+use switch_net::{Channel, Network};
 
 fn trit(letter: u8) -> Trit {
     match letter {
@@ -38,43 +38,67 @@ fn drivers(alloc: Global, letters: &[u8]) -> Result<Vec<Option<Trit>>, AllocErro
     Ok(drivers)
 }
 
-fn letters(alloc: Global, values: &[Trit]) -> Result<String, AllocError> {
-    let mut letters = String::new(alloc);
+fn push_letters(words: &mut String, values: &[Trit]) -> Result<(), AllocError> {
     for value in values {
-        letters.push_str(letter(*value))?;
+        words.push_str(letter(*value))?;
     }
-    Ok(letters)
+    Ok(())
 }
 
-/// The values that a network settles to, from values before; none where there are not as many as nodes.
+/// The settler of a network, settled from values before; as it is opened where there are not as many as nodes.
 pub(crate) fn settle(
     alloc: Global,
     network: Network,
     before: &[Trit],
     drive: &[Option<Trit>],
-) -> Result<Vec<Trit>, NoMemory> {
+) -> Result<Settler, NoMemory> {
     let mut settler = Settler::open(alloc, network)?;
     let nodes = settler.network().nodes as usize;
     if before.len() == nodes && drive.len() == nodes {
         settler.charge(before);
         settler.settle(drive);
     }
-    Ok(settler.values().to_vec(alloc)?)
+    Ok(settler)
+}
+
+fn network(alloc: Global, nodes: usize, channels: List<Channel>) -> Option<Network> {
+    let Ok(nodes) = u32::try_from(nodes) else {
+        return None;
+    };
+    Network::checked(nodes, channels, List::new(alloc))
+}
+
+// The letters of the values that a network settles to.
+fn push_values(
+    alloc: Global,
+    words: &mut String,
+    network: Network,
+    before: &[Trit],
+    drive: &[Option<Trit>],
+) -> Result<(), AllocError> {
+    match settle(alloc, network, before, drive) {
+        Ok(settler) => push_letters(words, settler.values()),
+        Err(_) => words.push_str("no memory"),
+    }
+}
+
+fn push_settled(
+    alloc: Global,
+    words: &mut String,
+    channels: List<Channel>,
+    before: &[Trit],
+    drive: &[Option<Trit>],
+) -> Result<(), AllocError> {
+    match network(alloc, drive.len(), channels) {
+        Some(network) => push_values(alloc, words, network, before, drive),
+        None => words.push_str("no network"),
+    }
 }
 
 /// Of the channels, the drivers and the values before of a network, the values after.
-pub(crate) fn settled(alloc: Global, line: &[u8]) -> Result<String, AllocError> {
+pub(crate) fn settled(alloc: Global, line: &[u8], words: &mut String) -> Result<(), AllocError> {
     let drive = drivers(alloc, part(line, 1))?;
     let before = trits(alloc, part(line, 2))?;
     let channels = channels(alloc, part(line, 0))?;
-    let Ok(nodes) = u32::try_from(drive.len()) else {
-        return format!(in alloc; "too many nodes");
-    };
-    let Some(network) = Network::checked(nodes, channels, List::new(alloc)) else {
-        return format!(in alloc; "no network");
-    };
-    match settle(alloc, network, &before, &drive) {
-        Ok(values) => letters(alloc, &values),
-        Err(_) => format!(in alloc; "no memory"),
-    }
+    push_settled(alloc, words, channels, &before, &drive)
 }

@@ -7,7 +7,8 @@ use mp_base::{Refusal, Spot};
 use std::alloc::{AllocError, Global};
 use switch_net::{Channel, Network, Tag};
 
-fn refused(alloc: Global, refusal: Refusal) -> Result<String, AllocError> {
+/// The rule that is broken, and its offset.
+pub(crate) fn refused(alloc: Global, refusal: Refusal) -> Result<String, AllocError> {
     let Refusal::Broken(broken) = refusal else {
         return format!(in alloc; "no memory");
     };

@@ -8,26 +8,39 @@ use answer::answer;
 use std::{fs, io};
 use whole::size;
 
+fn show(rt: &HostRuntime, text: &[u8]) -> io::Result<()> {
+    let cif = String::from_utf8_lossy(rt.alloc(), text)?;
+    println!(rt; "{cif}")
+}
+
+fn show_answer(rt: &HostRuntime, text: &[u8]) -> io::Result<()> {
+    let words = answer(rt.alloc(), text)?;
+    println!(rt; "    {words}")
+}
+
 // Each line of this file is a text.
 fn show_texts(rt: &HostRuntime, name: &str) -> io::Result<()> {
     let texts = fs::read(rt, name)?;
     for text in texts.split(|byte| *byte == b'\n') {
         if !text.is_empty() {
-            let cif = String::from_utf8_lossy(rt.alloc(), text)?;
-            let words = answer(rt.alloc(), text)?;
-            println!(rt; "{cif}\n    {words}")?;
+            show(rt, text)?;
+            show_answer(rt, text)?;
         }
     }
     Ok(())
+}
+
+fn show_size(rt: &HostRuntime, text: &[u8]) -> io::Result<()> {
+    let words = size(rt.alloc(), text)?;
+    println!(rt; "    {words}")
 }
 
 // The same of whole files, by their sizes alone.
 fn show_sizes(rt: &HostRuntime, name: &str) -> io::Result<()> {
     let texts = fs::read(rt, name)?;
     for text in texts.split(|byte| *byte == b'\n') {
-        let cif = String::from_utf8_lossy(rt.alloc(), text)?;
-        let words = size(rt.alloc(), text)?;
-        println!(rt; "{cif}\n    {words}")?;
+        show(rt, text)?;
+        show_size(rt, text)?;
     }
     Ok(())
 }

@@ -2,56 +2,64 @@
 
 ghost use Rattle.std.specs.Prelude.{◌+◌, ◌<◌, ◌^◌, length};
 
-use crate::words::{listed, named, placed, refused};
-use form_reader::{Kind, Node, find_stray, read_forms};
+use crate::words::{push_listed, push_name, push_place, push_refusal};
+use form_reader::{Forms, Kind, Node, find_stray, read_forms};
 use std::alloc::{AllocError, Global};
 
+fn push_counts(words: &mut String, forms: &Forms) -> Result<(), AllocError> {
+    let (nodes, roots) = (forms.nodes.len(), forms.roots.len());
+    write!(words, "{nodes} nodes, {roots} forms")
+}
+
 /// How many nodes and forms there are, or the rule that is broken.
-pub(crate) fn forms(alloc: Global, text: &[u8]) -> Result<String, AllocError>
+pub(crate) fn forms(alloc: Global, words: &mut String, text: &[u8]) -> Result<(), AllocError>
     requires { length text.now + 1 < 2 ^ 32 }
 {
     match read_forms(alloc, text) {
-        Ok(forms) => {
-            let (nodes, roots) = (forms.nodes.len(), forms.roots.len());
-            format!(in alloc; "{nodes} nodes, {roots} forms")
-        }
-        Err(refusal) => refused(alloc, &refusal),
+        Ok(forms) => push_counts(words, &forms),
+        Err(refusal) => push_refusal(words, &refusal),
     }
 }
 
-fn node(alloc: Global, node: &Node) -> Result<String, AllocError> {
-    let words = match &node.kind {
-        Kind::Number(number) => format!(in alloc; "number {number}")?,
-        Kind::Symbol(name) => named(alloc, name)?,
-        Kind::Group(items) => listed(alloc, "list", items.as_slice())?,
-    };
-    let at = placed(alloc, node.place)?;
-    format!(in alloc; "{words} at {at}; ")
+fn push_kind(alloc: Global, words: &mut String, kind: &Kind) -> Result<(), AllocError> {
+    match kind {
+        Kind::Number(number) => write!(words, "number {number}"),
+        Kind::Symbol(name) => push_name(alloc, words, name),
+        Kind::Group(items) => push_listed(words, "list", items.as_slice()),
+    }
+}
+
+fn push_node(alloc: Global, words: &mut String, node: &Node) -> Result<(), AllocError> {
+    push_kind(alloc, words, &node.kind)?;
+    words.push_str(" at ")?;
+    push_place(words, node.place)?;
+    words.push_str("; ")
+}
+
+fn push_nodes(alloc: Global, words: &mut String, forms: &Forms) -> Result<(), AllocError> {
+    for node in forms.nodes.as_slice() {
+        push_node(alloc, words, node)?;
+    }
+    words.push_str("end at ")?;
+    push_place(words, forms.end)
 }
 
 /// Each node with its place, and the end.
-pub(crate) fn nodes(alloc: Global, text: &[u8]) -> Result<String, AllocError>
+pub(crate) fn nodes(alloc: Global, words: &mut String, text: &[u8]) -> Result<(), AllocError>
     requires { length text.now + 1 < 2 ^ 32 }
 {
-    let forms = match read_forms(alloc, text) {
-        Ok(forms) => forms,
-        Err(refusal) => return refused(alloc, &refusal),
-    };
-    let mut words = String::new(alloc);
-    for one in forms.nodes.as_slice() {
-        words.push_str(&node(alloc, one)?)?;
+    match read_forms(alloc, text) {
+        Ok(forms) => push_nodes(alloc, words, &forms),
+        Err(refusal) => push_refusal(words, &refusal),
     }
-    let end = placed(alloc, forms.end)?;
-    words.push_str(&format!(in alloc; "end at {end}")?)?;
-    Ok(words)
 }
 
 /// The first byte that no text may have outside a comment.
-pub(crate) fn stray(alloc: Global, text: &[u8]) -> Result<String, AllocError>
+pub(crate) fn stray(words: &mut String, text: &[u8]) -> Result<(), AllocError>
     requires { length text.now + 1 < 2 ^ 32 }
 {
     match find_stray(text) {
-        Some(place) => placed(alloc, place),
-        None => format!(in alloc; "none"),
+        Some(place) => push_place(words, place),
+        None => words.push_str("none"),
     }
 }

@@ -6,85 +6,103 @@ use std::io;
 
 const HEAD: &str = "(program x 1 (def 1 power)(def 2 ground)(def 3 phia)(def 4 phib)(def 5 phic)";
 
-// An item again and again, numbered from 100, between a head and a tail.
-fn repeated(
-    alloc: Global,
-    head: &str,
-    item: &str,
-    close: &str,
-    tail: &str,
-    count: u32,
-) -> Result<String, AllocError> {
-    let mut text = String::from_str(alloc, HEAD)?;
-    text.push_str(head)?;
-    for k in 100..count.saturating_add(100) {
-        text.push_str(item)?;
-        text.push_str(&format!(in alloc; "{k}")?)?;
-        text.push_str(close)?;
+const FORMS: &str = "(def reset signal input 6)(process p 0";
+
+const OPERANDS: &str = "(def y signal internal)(def a signal input 6)(always (setq y (or";
+
+// An item again and again, numbered from 100.
+fn push_numbered(text: &mut String, item: &str, close: &str, count: u32) -> Result<(), AllocError> {
+    for k in 0..count {
+        let number = k.wrapping_add(100);
+        write!(text, "{item}{number}{close}")?;
     }
-    text.push_str(tail)?;
-    Ok(text)
+    Ok(())
 }
 
-fn copies(
-    alloc: Global,
-    head: &str,
-    item: &str,
-    tail: &str,
-    count: u32,
-) -> Result<String, AllocError> {
-    let mut text = String::from_str(alloc, head)?;
+fn push_copies(text: &mut String, item: &str, count: u32) -> Result<(), AllocError> {
     for _ in 0..count {
         text.push_str(item)?;
     }
-    text.push_str(tail)?;
-    Ok(text)
+    Ok(())
 }
 
-fn show(rt: &HostRuntime, name: &str, step: Step, text: &str) -> io::Result<()> {
+fn show(rt: &HostRuntime, count: u32, what: &str, step: Step, text: &str) -> io::Result<()> {
+    println!(rt; "{count} {what}")?;
     let words = answer(rt.alloc(), step, text.as_bytes())?;
-    println!(rt; "{name}\n    {words}")
+    println!(rt; "    {words}")
+}
+
+fn names(alloc: Global, count: u32) -> Result<String, AllocError> {
+    let mut text = String::from_str(alloc, HEAD)?;
+    push_numbered(&mut text, "(def a", " signal internal)", count)?;
+    text.push_str(")")?;
+    Ok(text)
 }
 
 // A program may have 256 names.
 fn show_names(rt: &HostRuntime, count: u32) -> io::Result<()> {
-    let text = repeated(rt.alloc(), "", "(def a", " signal internal)", ")", count)?;
-    let name = format!(in rt.alloc(); "{count} names")?;
-    show(rt, name.as_str(), Step::Source, text.as_str())
+    let text = names(rt.alloc(), count)?;
+    show(rt, count, "names", Step::Source, text.as_str())
+}
+
+fn forms(alloc: Global, count: u32) -> Result<String, AllocError> {
+    let mut text = String::from_str(alloc, HEAD)?;
+    text.push_str(FORMS)?;
+    push_numbered(&mut text, " l", " (go l100)", count)?;
+    text.push_str("))")?;
+    Ok(text)
 }
 
 // A process may have 256 forms; these weigh too much besides.
 fn show_forms(rt: &HostRuntime, count: u32) -> io::Result<()> {
-    let head = "(def reset signal input 6)(process p 0";
-    let text = repeated(rt.alloc(), head, " l", " (go l100)", "))", count)?;
-    let name = format!(in rt.alloc(); "{count} forms")?;
-    show(rt, name.as_str(), Step::Source, text.as_str())
+    let text = forms(rt.alloc(), count)?;
+    show(rt, count, "forms", Step::Source, text.as_str())
+}
+
+fn operands(alloc: Global, count: u32) -> Result<String, AllocError> {
+    let mut text = String::from_str(alloc, HEAD)?;
+    text.push_str(OPERANDS)?;
+    push_copies(&mut text, " a", count)?;
+    text.push_str("))))")?;
+    Ok(text)
 }
 
 // Each operand adds to the weight.
 fn show_operands(rt: &HostRuntime, count: u32) -> io::Result<()> {
-    let defs = "(def y signal internal)(def a signal input 6)(always (setq y (or";
-    let head = format!(in rt.alloc(); "{HEAD}{defs}")?;
-    let text = copies(rt.alloc(), head.as_str(), " a", "))))", count)?;
-    let name = format!(in rt.alloc(); "{count} operands")?;
-    show(rt, name.as_str(), Step::Source, text.as_str())
+    let text = operands(rt.alloc(), count)?;
+    show(rt, count, "operands", Step::Source, text.as_str())
 }
 
 fn show_clocks(rt: &HostRuntime, count: u32) -> io::Result<()> {
-    let text = copies(rt.alloc(), "", "clock\n", "", count)?;
-    let name = format!(in rt.alloc(); "{count} clocks")?;
-    show(rt, name.as_str(), Step::Stimulus, text.as_str())
+    let mut text = String::new(rt.alloc());
+    push_copies(&mut text, "clock\n", count)?;
+    show(rt, count, "clocks", Step::Stimulus, text.as_str())
 }
 
+fn items(alloc: Global, count: u32) -> Result<String, AllocError> {
+    let mut text = String::from_str(alloc, "(")?;
+    push_copies(&mut text, "a ", count)?;
+    text.push_str(")")?;
+    Ok(text)
+}
+
+fn show_items(rt: &HostRuntime, count: u32) -> io::Result<()> {
+    let text = items(rt.alloc(), count)?;
+    show(rt, count, "items of a list", Step::Forms, text.as_str())
+}
+
+/// What becomes of texts at a limit, and just over it.
 pub(crate) fn show_limits(rt: &HostRuntime) -> io::Result<()> {
     println!(rt; "== limits")?;
-    show_names(rt, 256)?;
-    show_names(rt, 257)?;
-    show_forms(rt, 256)?;
-    show_forms(rt, 257)?;
+    for count in [256, 257] {
+        show_names(rt, count)?;
+    }
+    for count in [256, 257] {
+        show_forms(rt, count)?;
+    }
     show_operands(rt, 4097)?;
-    show_clocks(rt, 65_536)?;
-    show_clocks(rt, 65_537)?;
-    let long = copies(rt.alloc(), "(", "a ", ")", 500_000)?;
-    show(rt, "a list of 500000", Step::Forms, long.as_str())
+    for count in [65_536, 65_537] {
+        show_clocks(rt, count)?;
+    }
+    show_items(rt, 500_000)
 }

@@ -1,96 +1,147 @@
 //! Where names are wrong, what they mean, and what a program weighs.
 
 ghost use Rattle.std.specs.Prelude.{◌+◌, ◌<◌, ◌^◌, length};
+ghost use Rattle.mp_names.specs.Meaning.{AreMeanings};
+ghost use Rattle.mp_names.specs.Table.{IsNameTable};
+ghost use Rattle.mp_rules.specs.Naming.{OwnNames};
 
 use crate::syntax::program_of;
-use crate::words::{placed, refused};
+use crate::words::{push_place, push_refusal};
 use mp_base::Place;
 use mp_names::{
     Meanings, NameTable, meanings_of, repeated_name, set_input, undefined_name, wrong_sort,
 };
-use mp_program::{ExprKind, FormKind, Program};
+use mp_program::{Expr, ExprKind, Form, FormKind, Program};
 use mp_rules::laws::own_names;
 use mp_weight::weight_within;
 use std::alloc::{AllocError, Global};
 
-fn found(alloc: Global, place: Option<Place>) -> Result<String, AllocError> {
+fn push_found(words: &mut String, what: &str, place: Option<Place>) -> Result<(), AllocError> {
+    words.push_str(what)?;
     match place {
-        Some(place) => placed(alloc, place),
-        None => format!(in alloc; "nowhere"),
+        Some(place) => push_place(words, place),
+        None => words.push_str("nowhere"),
     }
 }
 
-fn meant(alloc: Global, program: &Program, meanings: &Meanings) -> Result<String, AllocError> {
-    let mut words = String::new(alloc);
-    for (expr, means) in program
-        .exprs
-        .as_slice()
-        .iter()
-        .zip(meanings.exprs.as_slice())
-    {
-        if let ExprKind::Named(_name) = &expr.kind {
-            words.push_str(&format!(in alloc; "; reads {means}")?)?;
-        }
+fn push_wrong(
+    words: &mut String,
+    program: &Program,
+    names: &NameTable<'_>,
+) -> Result<(), AllocError>
+    requires { IsNameTable program.now names.now }
+{
+    push_found(words, "repeated ", repeated_name(program, names))?;
+    push_found(words, "; undefined ", undefined_name(program, names))?;
+    push_found(words, "; of another sort ", wrong_sort(program, names))?;
+    push_found(words, "; set ", set_input(program, names))
+}
+
+fn push_read(words: &mut String, expr: &Expr, means: u32) -> Result<(), AllocError> {
+    match &expr.kind {
+        ExprKind::Named(_name) => write!(words, "; reads {means}"),
+        _ => Ok(()),
     }
-    for (form, means) in program
-        .forms
-        .as_slice()
-        .iter()
-        .zip(meanings.targets.as_slice())
-    {
-        if let FormKind::Set { .. } = &form.kind {
-            words.push_str(&format!(in alloc; "; sets {means}")?)?;
-        }
+}
+
+fn push_reads(words: &mut String, exprs: &[Expr], meanings: &[u32]) -> Result<(), AllocError> {
+    for (expr, means) in exprs.iter().zip(meanings) {
+        push_read(words, expr, *means)?;
     }
-    Ok(words)
+    Ok(())
+}
+
+fn push_set(words: &mut String, form: &Form, means: u32) -> Result<(), AllocError> {
+    match &form.kind {
+        FormKind::Set { .. } => write!(words, "; sets {means}"),
+        _ => Ok(()),
+    }
+}
+
+fn push_sets(words: &mut String, forms: &[Form], meanings: &[u32]) -> Result<(), AllocError> {
+    for (form, means) in forms.iter().zip(meanings) {
+        push_set(words, form, *means)?;
+    }
+    Ok(())
+}
+
+fn push_meanings(
+    words: &mut String,
+    program: &Program,
+    meanings: &Meanings,
+) -> Result<(), AllocError> {
+    push_reads(words, program.exprs.as_slice(), meanings.exprs.as_slice())?;
+    push_sets(words, program.forms.as_slice(), meanings.targets.as_slice())
+}
+
+fn push_names(alloc: Global, words: &mut String, program: &Program) -> Result<(), AllocError> {
+    let names = NameTable::of(alloc, program)?;
+    push_wrong(words, program, &names)?;
+    let meanings = meanings_of(alloc, program, &names)?;
+    push_meanings(words, program, &meanings)
 }
 
 /// Where a name is repeated, undefined, of the wrong sort, or set though it is an input or a constant; and then the
 /// definitions that are read and set, by their numbers.
-pub(crate) fn names(alloc: Global, text: &[u8]) -> Result<String, AllocError>
+pub(crate) fn names(alloc: Global, words: &mut String, text: &[u8]) -> Result<(), AllocError>
     requires { length text.now + 1 < 2 ^ 32 }
 {
-    let program = match program_of(alloc, text) {
-        Ok(program) => program,
-        Err(refusal) => return refused(alloc, &refusal),
-    };
-    let names = NameTable::of(alloc, &program)?;
-    let repeated = found(alloc, repeated_name(&program, &names))?;
-    let undefined = found(alloc, undefined_name(&program, &names))?;
-    let unsorted = found(alloc, wrong_sort(&program, &names))?;
-    let set = found(alloc, set_input(&program, &names))?;
-    let meanings = meanings_of(alloc, &program, &names)?;
-    let meant = meant(alloc, &program, &meanings)?;
-    format!(in alloc;
-        "repeated {repeated}; undefined {undefined}; of another sort {unsorted}; set {set}{meant}"
-    )
+    match program_of(alloc, text) {
+        Ok(program) => push_names(alloc, words, &program),
+        Err(refusal) => push_refusal(words, &refusal),
+    }
 }
 
-fn weight_up_to(alloc: Global, program: &Program, limit: u32) -> Result<String, AllocError> {
+fn push_within(
+    alloc: Global,
+    words: &mut String,
+    program: &Program,
+    meanings: &Meanings,
+    limit: u32,
+) -> Result<(), AllocError>
+    requires meant { AreMeanings program.now meanings.now }
+    requires own { OwnNames program.now }
+{
+    match weight_within(alloc, program, meanings, limit)? {
+        Some(weight) => write!(words, "{weight} within {limit}"),
+        None => write!(words, "over {limit}"),
+    }
+}
+
+fn push_weights(
+    alloc: Global,
+    words: &mut String,
+    program: &Program,
+    meanings: &Meanings,
+) -> Result<(), AllocError>
+    requires meant { AreMeanings program.now meanings.now }
+    requires own { OwnNames program.now }
+{
+    push_within(alloc, words, program, meanings, 1024)?;
+    words.push_str(", ")?;
+    push_within(alloc, words, program, meanings, 10)?;
+    words.push_str(", ")?;
+    push_within(alloc, words, program, meanings, 9)
+}
+
+fn push_weight(alloc: Global, words: &mut String, program: &Program) -> Result<(), AllocError> {
     let names = NameTable::of(alloc, program)?;
     let meanings = meanings_of(alloc, program, &names)?;
     match repeated_name(program, &names) {
-        Some(_place) => format!(in alloc; "a name is repeated"),
+        Some(_place) => words.push_str("a name is repeated"),
         None => {
             own_names(program);
-            match weight_within(alloc, program, &meanings, limit)? {
-                Some(weight) => format!(in alloc; "{weight} within {limit}"),
-                None => format!(in alloc; "over {limit}"),
-            }
+            push_weights(alloc, words, program, &meanings)
         }
     }
 }
 
 /// The weight, by three limits.
-pub(crate) fn weight(alloc: Global, text: &[u8]) -> Result<String, AllocError>
+pub(crate) fn weight(alloc: Global, words: &mut String, text: &[u8]) -> Result<(), AllocError>
     requires { length text.now + 1 < 2 ^ 32 }
 {
-    let program = match program_of(alloc, text) {
-        Ok(program) => program,
-        Err(refusal) => return refused(alloc, &refusal),
-    };
-    let within = weight_up_to(alloc, &program, 1024)?;
-    let just_within = weight_up_to(alloc, &program, 10)?;
-    let over = weight_up_to(alloc, &program, 9)?;
-    format!(in alloc; "{within}, {just_within}, {over}")
+    match program_of(alloc, text) {
+        Ok(program) => push_weight(alloc, words, &program),
+        Err(refusal) => push_refusal(words, &refusal),
+    }
 }

@@ -2,29 +2,29 @@
 
 ghost use Rattle.std.specs.Prelude.{◌+◌, ◌<◌, ◌^◌, length};
 
-use crate::words::refused;
+use crate::words::push_refusal;
 use mp_checker::Checked;
 use mp_source::check_source;
 use std::alloc::{AllocError, Global};
 
-fn kept(alloc: Global, checked: &Checked) -> Result<String, AllocError> {
-    let weight = checked.weight();
-    let ordered = checked.order().len();
-    let lasting = if checked.stores() {
-        "stores"
-    } else {
-        "stores nothing"
-    };
-    format!(in alloc; "weighs {weight}, evaluates {ordered}, {lasting}")
+fn lasting(stores: bool) -> &'static str {
+    if stores { "stores" } else { "stores nothing" }
 }
 
-/// What a source weighs, how many of its ports and signals are evaluated, and whether it has a state; or the first rule that
-/// it breaks, and where.
-pub(crate) fn source(alloc: Global, text: &[u8]) -> Result<String, AllocError>
+fn push_kept(words: &mut String, checked: &Checked) -> Result<(), AllocError> {
+    let weight = checked.weight();
+    let ordered = checked.order().len();
+    let lasting = lasting(checked.stores());
+    write!(words, "weighs {weight}, evaluates {ordered}, {lasting}")
+}
+
+/// What a source weighs, how many of its ports and signals are evaluated, and whether it has a state; or the first rule
+/// that it breaks, and where.
+pub(crate) fn source(alloc: Global, words: &mut String, text: &[u8]) -> Result<(), AllocError>
     requires { length text.now + 1 < 2 ^ 32 }
 {
     match check_source(alloc, text) {
-        Ok(checked) => kept(alloc, &checked),
-        Err(refusal) => refused(alloc, &refusal),
+        Ok(checked) => push_kept(words, &checked),
+        Err(refusal) => push_refusal(words, &refusal),
     }
 }

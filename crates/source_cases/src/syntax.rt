@@ -2,108 +2,154 @@
 
 ghost use Rattle.std.specs.Prelude.{◌+◌, ◌<◌, ◌^◌, length};
 
-use crate::words::{listed, named, refused};
+use crate::words::{push_listed, push_name, push_numbers, push_refusal};
 use form_reader::read_forms;
-use mp_base::Refusal;
-use mp_program::{Def, Expr, ExprKind, Form, FormKind, Process, Program};
+use mp_base::{Name, Op, Refusal};
+use mp_program::{Branch, Def, Expr, ExprKind, Form, FormKind, Label, Pin, Process, Program};
 use mp_syntax::parse;
 use std::alloc::{AllocError, Global};
 
 pub(crate) fn program_of(alloc: Global, text: &[u8]) -> Result<Program, Refusal>
     requires { length text.now + 1 < 2 ^ 32 }
 {
-    let forms = read_forms(alloc, text)?;
-    parse(alloc, &forms)
-}
-
-fn def(alloc: Global, def: &Def) -> Result<String, AllocError> {
-    let name = named(alloc, &def.name)?;
-    let what = def.what;
-    let mut words = format!(in alloc; "def {name} {what:?}")?;
-    for pin in def.pins.as_slice() {
-        words.push_str(&format!(in alloc; " {}", pin.number)?)?;
+    match read_forms(alloc, text) {
+        Ok(forms) => parse(alloc, &forms),
+        Err(refusal) => Err(refusal),
     }
-    Ok(words)
 }
 
-fn expr(alloc: Global, expr: &Expr) -> Result<String, AllocError> {
+// A word, and a name behind it.
+fn push_named(
+    alloc: Global,
+    words: &mut String,
+    word: &str,
+    name: &Name,
+) -> Result<(), AllocError> {
+    words.push_str(word)?;
+    push_name(alloc, words, name)
+}
+
+fn push_pins(words: &mut String, pins: &[Pin]) -> Result<(), AllocError> {
+    for pin in pins {
+        write!(words, " {}", pin.number)?;
+    }
+    Ok(())
+}
+
+fn push_def(alloc: Global, words: &mut String, def: &Def) -> Result<(), AllocError> {
+    push_named(alloc, words, "; def ", &def.name)?;
+    write!(words, " {:?}", def.what)?;
+    push_pins(words, def.pins.as_slice())
+}
+
+fn push_apply(words: &mut String, op: Op, index: u64, args: &[u32]) -> Result<(), AllocError> {
+    write!(words, "; {op:?} {index} of")?;
+    push_numbers(words, args)
+}
+
+fn push_expr(alloc: Global, words: &mut String, expr: &Expr) -> Result<(), AllocError> {
     match &expr.kind {
-        ExprKind::Number(number) => format!(in alloc; "{number}"),
-        ExprKind::Named(name) => named(alloc, name),
-        ExprKind::True => format!(in alloc; "true"),
-        ExprKind::False => format!(in alloc; "false"),
-        ExprKind::Apply { op, index, args } => {
-            let words = format!(in alloc; "{op:?} {index} of")?;
-            listed(alloc, words.as_str(), args.as_slice())
-        }
+        ExprKind::Number(number) => write!(words, "; {number}"),
+        ExprKind::Named(name) => push_named(alloc, words, "; ", name),
+        ExprKind::True => words.push_str("; true"),
+        ExprKind::False => words.push_str("; false"),
+        ExprKind::Apply { op, index, args } => push_apply(words, *op, *index, args.as_slice()),
     }
 }
 
-fn form(alloc: Global, form: &Form) -> Result<String, AllocError> {
+fn push_set(
+    alloc: Global,
+    words: &mut String,
+    target: &Name,
+    value: u32,
+) -> Result<(), AllocError> {
+    push_named(alloc, words, "; set ", target)?;
+    write!(words, " to {value}")
+}
+
+fn push_branches(words: &mut String, branches: &[Branch]) -> Result<(), AllocError> {
+    words.push_str("; cond")?;
+    for branch in branches {
+        write!(words, ", {}:", branch.guard)?;
+        push_numbers(words, branch.body.as_slice())?;
+    }
+    Ok(())
+}
+
+fn push_form(alloc: Global, words: &mut String, form: &Form) -> Result<(), AllocError> {
     match &form.kind {
-        FormKind::Set { target, value, .. } => {
-            let target = named(alloc, target)?;
-            format!(in alloc; "set {target} to {value}")
-        }
-        FormKind::Cond(branches) => {
-            let mut words = String::from_str(alloc, "cond")?;
-            for branch in branches.as_slice() {
-                let guard = format!(in alloc; ", {}:", branch.guard)?;
-                words.push_str(&listed(alloc, guard.as_str(), branch.body.as_slice())?)?;
-            }
-            Ok(words)
-        }
-        FormKind::Par(forms) => listed(alloc, "par", forms.as_slice()),
-        FormKind::Go(label) => format!(in alloc; "go {}", named(alloc, label)?),
-        FormKind::Call(label) => format!(in alloc; "call {}", named(alloc, label)?),
-        FormKind::Return => format!(in alloc; "return"),
+        FormKind::Set { target, value, .. } => push_set(alloc, words, target, *value),
+        FormKind::Cond(branches) => push_branches(words, branches.as_slice()),
+        FormKind::Par(forms) => push_listed(words, "; par", forms.as_slice()),
+        FormKind::Go(label) => push_named(alloc, words, "; go ", label),
+        FormKind::Call(label) => push_named(alloc, words, "; call ", label),
+        FormKind::Return => words.push_str("; return"),
     }
 }
 
-fn process(alloc: Global, process: &Process) -> Result<String, AllocError> {
-    let name = named(alloc, &process.name)?;
-    let head = format!(in alloc; "process {name} {}:", process.depth)?;
-    let mut words = listed(alloc, head.as_str(), process.forms.as_slice())?;
-    for label in process.labels.as_slice() {
-        let name = named(alloc, &label.name)?;
-        words.push_str(&format!(in alloc; ", {name} before {}", label.before)?)?;
+fn push_labels(alloc: Global, words: &mut String, labels: &[Label]) -> Result<(), AllocError> {
+    for label in labels {
+        push_named(alloc, words, ", ", &label.name)?;
+        write!(words, " before {}", label.before)?;
     }
-    Ok(words)
+    Ok(())
 }
 
-fn add(words: &mut String, more: &str) -> Result<(), AllocError> {
-    words.push_str("; ")?;
-    words.push_str(more)
+fn push_process(alloc: Global, words: &mut String, process: &Process) -> Result<(), AllocError> {
+    push_named(alloc, words, "; process ", &process.name)?;
+    write!(words, " {}:", process.depth)?;
+    push_numbers(words, process.forms.as_slice())?;
+    push_labels(alloc, words, process.labels.as_slice())
 }
 
-fn program(alloc: Global, program: &Program) -> Result<String, AllocError> {
-    let name = named(alloc, &program.name)?;
-    let mut words = format!(in alloc; "program {name} {}", program.width)?;
-    for one in program.defs.as_slice() {
-        add(&mut words, &def(alloc, one)?)?;
+fn push_head(alloc: Global, words: &mut String, program: &Program) -> Result<(), AllocError> {
+    push_named(alloc, words, "program ", &program.name)?;
+    write!(words, " {}", program.width)?;
+    for def in program.defs.as_slice() {
+        push_def(alloc, words, def)?;
     }
-    for one in program.exprs.as_slice() {
-        add(&mut words, &expr(alloc, one)?)?;
+    Ok(())
+}
+
+fn push_exprs(alloc: Global, words: &mut String, exprs: &[Expr]) -> Result<(), AllocError> {
+    for expr in exprs {
+        push_expr(alloc, words, expr)?;
     }
-    for one in program.forms.as_slice() {
-        add(&mut words, &form(alloc, one)?)?;
+    Ok(())
+}
+
+fn push_forms(alloc: Global, words: &mut String, forms: &[Form]) -> Result<(), AllocError> {
+    for form in forms {
+        push_form(alloc, words, form)?;
     }
-    add(
-        &mut words,
-        &listed(alloc, "always", program.always.as_slice())?,
-    )?;
-    for one in program.processes.as_slice() {
-        add(&mut words, &process(alloc, one)?)?;
+    Ok(())
+}
+
+fn push_processes(
+    alloc: Global,
+    words: &mut String,
+    processes: &[Process],
+) -> Result<(), AllocError> {
+    for process in processes {
+        push_process(alloc, words, process)?;
     }
-    Ok(words)
+    Ok(())
+}
+
+fn push_program(alloc: Global, words: &mut String, program: &Program) -> Result<(), AllocError> {
+    push_head(alloc, words, program)?;
+    push_exprs(alloc, words, program.exprs.as_slice())?;
+    push_forms(alloc, words, program.forms.as_slice())?;
+    push_listed(words, "; always", program.always.as_slice())?;
+    push_processes(alloc, words, program.processes.as_slice())
 }
 
 /// The definitions, expressions, forms and processes, in the order of the text, or the rule that is broken.
-pub(crate) fn syntax(alloc: Global, text: &[u8]) -> Result<String, AllocError>
+pub(crate) fn syntax(alloc: Global, words: &mut String, text: &[u8]) -> Result<(), AllocError>
     requires { length text.now + 1 < 2 ^ 32 }
 {
     match program_of(alloc, text) {
-        Ok(found) => program(alloc, &found),
-        Err(refusal) => refused(alloc, &refusal),
+        Ok(program) => push_program(alloc, words, &program),
+        Err(refusal) => push_refusal(words, &refusal),
     }
 }

@@ -1,37 +1,54 @@
-//! Places, refusals and indices, in words.
+//! Places, refusals, names and indices, in words.
 
-use mp_base::{Name, Place, Refusal, Spot};
+use mp_base::{Name, Place, Refusal, Rule, Spot};
 use std::alloc::{AllocError, Global};
 
-pub(crate) fn placed(alloc: Global, place: Place) -> Result<String, AllocError> {
+pub(crate) fn push_place(words: &mut String, place: Place) -> Result<(), AllocError> {
     let (offset, line, column) = (place.offset, place.line, place.column);
-    format!(in alloc; "{offset} line {line} column {column}")
+    write!(words, "{offset} line {line} column {column}")
+}
+
+fn push_rule(words: &mut String, rule: Rule) -> Result<(), AllocError> {
+    write!(words, "{:?}{} at ", rule.family, rule.number)
+}
+
+fn push_spot(words: &mut String, spot: &Spot) -> Result<(), AllocError> {
+    match spot {
+        Spot::At(place) => push_place(words, *place),
+        _ => words.push_str("no place"),
+    }
 }
 
 /// The rule that is broken, and its place.
-pub(crate) fn refused(alloc: Global, refusal: &Refusal) -> Result<String, AllocError> {
-    let Refusal::Broken(broken) = refusal else {
-        return format!(in alloc; "no memory");
-    };
-    let rule = broken.rule;
-    match &broken.spot {
-        Spot::At(place) => {
-            let at = placed(alloc, *place)?;
-            format!(in alloc; "{:?}{} at {at}", rule.family, rule.number)
+pub(crate) fn push_refusal(words: &mut String, refusal: &Refusal) -> Result<(), AllocError> {
+    match refusal {
+        Refusal::Broken(broken) => {
+            push_rule(words, broken.rule)?;
+            push_spot(words, &broken.spot)
         }
-        _ => format!(in alloc; "{:?}{} at no place", rule.family, rule.number),
+        _ => words.push_str("no memory"),
     }
 }
 
-pub(crate) fn named(alloc: Global, name: &Name) -> Result<String, AllocError> {
-    String::from_utf8_lossy(alloc, name.bytes())
+pub(crate) fn push_name(alloc: Global, words: &mut String, name: &Name) -> Result<(), AllocError> {
+    let shown = String::from_utf8_lossy(alloc, name.bytes())?;
+    words.push_str(&shown)
+}
+
+/// A blank before each number.
+pub(crate) fn push_numbers(words: &mut String, numbers: &[u32]) -> Result<(), AllocError> {
+    for number in numbers {
+        write!(words, " {number}")?;
+    }
+    Ok(())
 }
 
 /// A word, and numbers behind it.
-pub(crate) fn listed(alloc: Global, word: &str, numbers: &[u32]) -> Result<String, AllocError> {
-    let mut words = String::from_str(alloc, word)?;
-    for number in numbers {
-        words.push_str(&format!(in alloc; " {number}")?)?;
-    }
-    Ok(words)
+pub(crate) fn push_listed(
+    words: &mut String,
+    word: &str,
+    numbers: &[u32],
+) -> Result<(), AllocError> {
+    words.push_str(word)?;
+    push_numbers(words, numbers)
 }

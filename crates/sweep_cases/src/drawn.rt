@@ -1,5 +1,5 @@
-//! Drawings as they are written in the tables: rectangles by their layer, left, lower, right and upper edges; places by their
-//! left and lower edges; `;` ends each.
+//! Drawings as they are written in the tables: rectangles by their layer, left, lower, right and upper edges; places by
+//! their left and lower edges; `;` ends each.
 
 use lam_geom::{Layer, Point, Rect};
 use std::alloc::{AllocError, Global};
@@ -27,20 +27,19 @@ fn layer(letter: u8) -> Layer {
     }
 }
 
-fn number(text: &[u8]) -> i64 {
-    let (is_negative, digits) = match text {
-        [b'-', digits @ ..] => (true, digits),
-        _ => (false, text),
-    };
+fn natural(digits: &[u8]) -> i64 {
     let mut value = 0i64;
     for digit in digits {
         let digit = i64::from(digit.wrapping_sub(b'0'));
         value = value.wrapping_mul(10).wrapping_add(digit);
     }
-    if is_negative {
-        value.wrapping_neg()
-    } else {
-        value
+    value
+}
+
+fn number(text: &[u8]) -> i64 {
+    match text {
+        [b'-', digits @ ..] => natural(digits).wrapping_neg(),
+        _ => natural(text),
     }
 }
 
@@ -52,24 +51,41 @@ fn numbers(alloc: Global, text: &[u8]) -> Result<Vec<i64>, AllocError> {
     Ok(numbers)
 }
 
+fn push_shape(
+    alloc: Global,
+    shapes: &mut Vec<Rect>,
+    layer: Layer,
+    edges: &[u8],
+) -> Result<(), AllocError> {
+    let edges = numbers(alloc, edges)?;
+    if let [x0, y0, x1, y1] = edges.as_slice() {
+        shapes.push(rect(layer, *x0, *y0, *x1, *y1))?;
+    }
+    Ok(())
+}
+
 pub(crate) fn shapes(alloc: Global, text: &[u8]) -> Result<Vec<Rect>, AllocError> {
     let mut shapes = Vec::new(alloc);
     for part in text.split(|byte| *byte == b';') {
         if let [b'N', letter, b' ', edges @ ..] = part {
-            if let [x0, y0, x1, y1] = numbers(alloc, edges)?.as_slice() {
-                shapes.push(rect(layer(*letter), *x0, *y0, *x1, *y1))?;
-            }
+            push_shape(alloc, &mut shapes, layer(*letter), edges)?;
         }
     }
     Ok(shapes)
 }
 
+fn push_place(alloc: Global, places: &mut Vec<Point>, edges: &[u8]) -> Result<(), AllocError> {
+    let edges = numbers(alloc, edges)?;
+    if let [x, y] = edges.as_slice() {
+        places.push(Point { x: *x, y: *y })?;
+    }
+    Ok(())
+}
+
 pub(crate) fn places(alloc: Global, text: &[u8]) -> Result<Vec<Point>, AllocError> {
     let mut places = Vec::new(alloc);
     for part in text.split(|byte| *byte == b';') {
-        if let [x, y] = numbers(alloc, part)?.as_slice() {
-            places.push(Point { x: *x, y: *y })?;
-        }
+        push_place(alloc, &mut places, part)?;
     }
     Ok(places)
 }

@@ -11,27 +11,41 @@ use mask_runs::Mask;
 use show::{show_list, show_size};
 use std::io;
 
+const COUNT: u32 = 30_000;
+
+fn show_stairs(rt: &HostRuntime) -> io::Result<()> {
+    let shapes = stairs(rt.alloc(), COUNT)?;
+    show_size(rt, "stairs", shapes.as_slice(), Mask::Only(Layer::NM))
+}
+
+fn show_comb(rt: &HostRuntime) -> io::Result<()> {
+    let shapes = comb(rt.alloc(), COUNT)?;
+    show_size(
+        rt,
+        "a comb over a comb",
+        shapes.as_slice(),
+        Mask::Only(Layer::NM),
+    )
+}
+
+fn show_implanted(rt: &HostRuntime) -> io::Result<()> {
+    let shapes = woven(rt.alloc(), COUNT, Layer::ND, Layer::NI, Layer::NB)?;
+    let name = "implant and buried contact over diffusion";
+    show_size(rt, name, shapes.as_slice(), Mask::Diffusion)
+}
+
+fn show_cut(rt: &HostRuntime) -> io::Result<()> {
+    let shapes = woven(rt.alloc(), COUNT, Layer::NP, Layer::NC, Layer::NM)?;
+    let name = "contact and metal over polysilicon";
+    show_size(rt, name, shapes.as_slice(), Mask::Contacts)
+}
+
 fn main(rt: HostRuntime) -> io::Result<()> {
     show_list(&rt, "masks.txt")?;
     show_list(&rt, "random.txt")?;
     show_list(&rt, "layers.txt")?;
-    let metal = Mask::Only(Layer::NM);
-    let stairs = stairs(rt.alloc(), 30_000)?;
-    show_size(&rt, "stairs", stairs.as_slice(), metal)?;
-    let comb = comb(rt.alloc(), 30_000)?;
-    show_size(&rt, "a comb over a comb", comb.as_slice(), metal)?;
-    let implanted = woven(rt.alloc(), 30_000, Layer::ND, Layer::NI, Layer::NB)?;
-    show_size(
-        &rt,
-        "implant and buried contact over diffusion",
-        implanted.as_slice(),
-        Mask::Diffusion,
-    )?;
-    let cut = woven(rt.alloc(), 30_000, Layer::NP, Layer::NC, Layer::NM)?;
-    show_size(
-        &rt,
-        "contact and metal over polysilicon",
-        cut.as_slice(),
-        Mask::Contacts,
-    )
+    show_stairs(&rt)?;
+    show_comb(&rt)?;
+    show_implanted(&rt)?;
+    show_cut(&rt)
 }
