@@ -3,7 +3,7 @@
 ghost use Rattle.std.specs.Prelude.{◌+◌, ◌<◌, ◌^◌, length};
 
 use crate::words::push_refusal;
-use mp_checker::Checked;
+use mp_checker::{Checked, weight};
 use mp_source::check_source;
 use std::alloc::{AllocError, Global};
 
@@ -12,7 +12,7 @@ fn lasting(stores: bool) -> &'static str {
 }
 
 fn push_kept(words: &mut String, checked: &Checked) -> Result<(), AllocError> {
-    let weight = checked.weight();
+    let weight = weight(checked);
     let ordered = checked.order().len();
     let lasting = lasting(checked.stores());
     write!(words, "weighs {weight}, evaluates {ordered}, {lasting}")
