@@ -4,6 +4,7 @@ use Rattle.silicon.specs.Halt.{halt_of}
 use Rattle.mp_base.proofs.Told.{keeps_same}
 use Rattle.silicon.proofs.EndsLemmas.{leaves_halted, leaves_done, leaves_cut}
 use Rattle.silicon.proofs.Simulating.{ends_set_up, ends_refused, no_fault, shows_simulation}
+use Rattle.silicon.proofs.Causes.{print_failed}
 use Rattle.silicon.proofs.Silence.{quiet_same, quiet_cut}
 use Rattle.silicon.proofs.sim.sim.Goals as goal
 
@@ -54,6 +55,12 @@ returns-clause-content g c =
           (rw (opened.network, opened.given, opened.unknown) at prints.transcript),
     )
     (keeps_same (g.D.Depot.held c.prepare.new.depot)) prints.taken
+
+pub returns-in_err-run-clause-causes : goal.returns-in_err-run-clause-causes
+returns-in_err-run-clause-causes g c =
+    print_failed c.from_residual-in_err-run.result _ _ _ c.from_residual-in_err-run.ensures.1
+    c.in_ok-network.ensures.reason.0 c.in_ok-network.ensures.writes
+    c.in_err-run.ensures.cause.later c.in_err-run.ensures.cause.failed
 
 pub returns-in_err-network-clause-silent : goal.returns-in_err-network-clause-silent
 returns-in_err-network-clause-silent g c = quiet_same c.from_residual.result _
