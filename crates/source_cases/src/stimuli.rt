@@ -82,7 +82,10 @@ fn push_clock(
 }
 
 fn push_clocks(alloc: Global, words: &mut String, given: &Stimulus) -> Result<(), AllocError> {
-    for clock in 0..given.clocks.len() as u32 {
+    for clock in 0..65536u32 {
+        if clock as usize >= given.clocks.len() {
+            return Ok(());
+        }
         push_clock(alloc, words, given, clock)?;
     }
     Ok(())
