@@ -42,7 +42,7 @@ fn a_line_longer_than_the_room_comes_out(rt: HostRuntime) {
     assert_eq!(rt; write_all(&mut out, &line), Ok(()));
     assert_eq!(rt; write_all(&mut out, b"\n"), Ok(()));
     assert_eq!(rt; write_all(&mut out, b"\n"), Err(Failed));
-    assert_eq!(rt; &room[..8999], line.as_slice());
+    assert!(rt; room.starts_with(&line));
     assert_eq!(rt; room[8999], b'\n');
 }
 
