@@ -2,7 +2,6 @@
 
 ghost use Rattle.std.specs.Prelude.{◌≡◌, ◌≢◌, ◌<◌, ◌≤◌, ◌^◌, ℕ, List, ℤ, Option, All, length, take, drop, IfOk, IfSome, IfNone};
 ghost use Rattle.std.specs.Bool.{OnTrue, OnFalse};
-ghost use Rattle.mp_base.specs.Token.{is_digit};
 ghost use Rattle.lam_geom.specs.declared.layer.Layer.{Layer};
 ghost use Rattle.cif_form.specs.Text.{Digits};
 ghost use Rattle.cif_form.specs.Place.{layer_name};
@@ -10,7 +9,7 @@ ghost use Rattle.cif_form.specs.Labels.{IsSpace, Coordinate};
 ghost use Rattle.cif_flat.specs.Labelling.{IsLabelled, Begins, IsNextWord, Tail, IsLabelLayer};
 
 use lam_geom::{FlatLabel, Layer};
-use mp_base::Name;
+use mp_base::{Name, is_digit};
 use std::alloc::{AllocError, Global};
 
 const SMALL: u64 = 2_147_483_648;
@@ -65,12 +64,6 @@ fn next_word(text: &[u8]) -> Option<(&[u8], &[u8])>
         return None;
     }
     Some((&rest[..size], &rest[size..]))
-}
-
-fn is_digit(byte: u8) -> bool
-    ensures { result ≡ is_digit byte }
-{
-    byte >= b'0' && byte <= b'9'
 }
 
 /// The number that these digits write, if they are digits and it is below 2^31.

@@ -10,6 +10,7 @@ use Rattle.switch_net.specs.declared.network.Network.{Network}
 use Rattle.switch_net.specs.Breaks.{AreTooMany, IsFirstOfMask, MeetsDriver, broken}
 use Rattle.switch_net.specs.Breaks.IsFirstOfMask.{n3, n5}
 use Rattle.switch_net.specs.Drawn.{IsChannelAt}
+use Rattle.switch_net.specs.declared.limits.TheConstants.{MOST_NODES_AND_CHANNELS}
 use Rattle.switch_net.specs.Laws.{OneNumbering}
 use Rattle.extractor.specs.Driving.{IsFirstMeeting}
 use Rattle.extractor.specs.Extracted.{IsExtracted, IsLabelled}
@@ -24,7 +25,7 @@ module _ (shapes : List Rect) (labels : List FlatLabel) (net : Network) (is : Is
   as_many_channels = AllZip-long (IsChannelAt (covered shapes) is.network.nodes) is.network.regions net.channels is.network.channels
 
   module _ (apart : (i : ℕ) → ¬ MeetsDriver supplies net.tags i) where
-    pub too_many : 16_777_216 < net.nodes + length net.channels → IsFirstOfMask (covered shapes) labels (broken 5 Nowhere)
+    pub too_many : MOST_NODES_AND_CHANNELS < net.nodes + length net.channels → IsFirstOfMask (covered shapes) labels (broken 5 Nowhere)
     too_many over = n5 net is.network apart (record {
       nodes = is.network.nodes;
       regions = is.network.regions;
@@ -33,12 +34,12 @@ module _ (shapes : List Rect) (labels : List FlatLabel) (net : Network) (is : Is
       over = omega (arith, over, as_many_channels, is.network.count);
     })
 
-    few : OneNumbering → net.nodes + length net.channels ≤ 16_777_216 → ¬ AreTooMany (covered shapes)
+    few : OneNumbering → net.nodes + length net.channels ≤ MOST_NODES_AND_CHANNELS → ¬ AreTooMany (covered shapes)
     few one l t =
         let w = is.network in
         let n = ap length ((one shapes).0 t.nodes w.nodes t.are_nodes w.are_nodes) in
         let r = ap length ((one shapes).1 t.regions w.regions t.are_regions w.are_regions) in
         absurd (omega (arith, l, t.over, n, r, as_many_channels, w.count))
 
-    pub extracted : OneNumbering → net.nodes + length net.channels ≤ 16_777_216 → IsExtracted shapes labels net
+    pub extracted : OneNumbering → net.nodes + length net.channels ≤ MOST_NODES_AND_CHANNELS → IsExtracted shapes labels net
     extracted one l = record { network = is.network; labels_fit = is.labels_fit; apart = apart; few = few one l }

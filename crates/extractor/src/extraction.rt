@@ -13,9 +13,7 @@ use lam_geom::{FlatLabel, Point, Rect};
 use mask_nodes::{Drawing, draw};
 use mp_base::{Broken, Family, List, NoMemory, Refusal, Rule, Spot};
 use std::alloc::Global;
-use switch_net::{Network, network_is_determined};
-
-const MOST_NODES_AND_CHANNELS: usize = 16_777_216;
+use switch_net::{MOST_NODES_AND_CHANNELS, Network, network_is_determined};
 
 // The places of labels.
 fn places_of(alloc: Global, labels: &[FlatLabel]) -> Result<List<Point>, NoMemory>

@@ -28,7 +28,7 @@ use Rattle.fabric.specs.Plan.{Plan, IsFabric, MarksApart}
 use Rattle.fabric.specs.Shape.{offset, shape}
 use Rattle.fabric.specs.Switches.{Net, IsNet, is_switch, HasKind, IsSwitch, AreSwitches}
 use Rattle.fabric.specs.Switches.Net.{segment, line, ground, power as the_power}
-use Rattle.fabric.specs.Same.{AreOneToOne, SameChannel, Renumbering, SameTag}
+use Rattle.renumbering.specs.Same.{AreOneToOne, SameChannel, Renumbering, SameTag}
 use Rattle.fabric.specs.Theorem.{IsOn, IsLabelOn, DrawsSwitches, FabricDrawsSwitches, FabricIsSwitches}
 use Rattle.fabric.proofs.Tile.Thing.{trunk, power, seg, lin}
 use Rattle.fabric.proofs.Heights.{bands_lie}

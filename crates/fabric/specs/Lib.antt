@@ -5,7 +5,6 @@ pub mod Drawing
 pub mod Switches
 pub mod Numbers
 pub mod Places
-pub mod Same
 pub mod Theorem
 pub mod Counted
 pub mod Even

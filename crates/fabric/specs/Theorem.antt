@@ -10,7 +10,7 @@ use Rattle.fabric.specs.Plan.{Plan, IsFabric}
 use Rattle.fabric.specs.Shape.{shape, ground_trunk, power_trunk, segment_rect, line_rect}
 use Rattle.fabric.specs.Switches.{Net, IsNet, AreSwitches}
 use Rattle.fabric.specs.Switches.Net.{segment, line, ground, power}
-use Rattle.fabric.specs.Same.{Renumbering, SameUpToNumbering}
+use Rattle.renumbering.specs.Same.{Renumbering, SameUpToNumbering}
 
 -- the square is one of the net's own rectangle
 abbrev pub IsOn : Plan → Net → Square → Type 0

@@ -16,8 +16,8 @@ ghost use Rattle.form_reader.specs.Text.{fills_gap, IsByte};
 ghost use Rattle.form_reader.specs.Reading.{Reached, AddsItem, HasListed};
 
 use crate::forms::{Forms, Kind, Node};
-use crate::text::{START, all_digits, behind, is_token, number, run_end, skip};
-use mp_base::{Broken, Family, List, Name, Place, Refusal, Rule, Spot};
+use crate::text::{START, all_digits, behind, number, run_end, skip};
+use mp_base::{Broken, Family, List, Name, Place, Refusal, Rule, Spot, is_token};
 use std::alloc::Global;
 
 /// How deep lists may stand in lists.

@@ -3,11 +3,11 @@
 ghost use Rattle.std.specs.Prelude.{◌≡◌, ℕ, ◌+◌, ◌<◌, ◌≤◌, ◌^◌, [], ◌∷◌, ◌++◌, ◌||◌, true, false, length, drop, slice_index, slice_range, MatchOption};
 ghost use Rattle.std.specs.List.{list_all};
 ghost use Rattle.std.specs.Str.Parse.{digits_value};
-ghost use Rattle.mp_base.specs.Token.{is_digit, is_letter, is_token};
+ghost use Rattle.mp_base.specs.Token.{is_digit, is_token};
 ghost use Rattle.form_reader.specs.Text.{is_blank, is_mark, comment_step, fills_gap, is_gap, IsRun, place_at};
 ghost use Rattle.form_reader.specs.Rules.{E1};
 
-use mp_base::Place;
+use mp_base::{Place, is_digit, is_token};
 
 /// The place of the first byte.
 pub(crate) const START: Place = Place {
@@ -26,24 +26,6 @@ fn is_mark(byte: u8) -> bool
     ensures { result ≡ is_mark byte }
 {
     byte == b'(' || byte == b')' || byte == b';'
-}
-
-fn is_digit(byte: u8) -> bool
-    ensures { result ≡ is_digit byte }
-{
-    b'0' <= byte && byte <= b'9'
-}
-
-fn is_letter(byte: u8) -> bool
-    ensures { result ≡ is_letter byte }
-{
-    (b'A' <= byte && byte <= b'Z') || (b'a' <= byte && byte <= b'z')
-}
-
-pub(crate) fn is_token(byte: u8) -> bool
-    ensures { result ≡ is_token byte }
-{
-    is_letter(byte) || is_digit(byte) || b"-_+*/<=>".contains(&byte)
 }
 
 fn is_known(byte: u8) -> bool

@@ -1,11 +1,10 @@
 //! The line that tells the size of a network.
 
-ghost use Rattle.std.specs.Prelude.{◌≡◌, ◌++◌, IfOk};
-ghost use Rattle.std.specs.Fmt.{decimal};
+ghost use Rattle.std.specs.Prelude.{◌≡◌, IfOk};
 ghost use Rattle.switch_net.specs.Sizes.{channels_of, same_kind};
 ghost use Rattle.mask_net.specs.SizeLine.{size_line};
 
-use itoa::Buffer;
+use mp_base::push_number;
 use std::alloc::{AllocError, Global};
 use switch_net::{ChannelKind, Network};
 
@@ -29,13 +28,6 @@ fn channels_of(net: &Network, kind: ChannelKind) -> usize
         .iter()
         .filter(|channel| same_kind(kind, channel.kind))
         .count()
-}
-
-fn push_number(text: &mut Vec<u8>, number: u64) -> Result<(), AllocError>
-    ensures { IfOk result (λ u. text.new.items ≡ text.old.items ++ decimal number) }
-{
-    let mut buffer = Buffer::new();
-    text.extend_from_slice(buffer.format(number).as_bytes())
 }
 
 /// The size line of a network, `nodes N enhancement N depletion N partial N`, with its line feed.

@@ -14,8 +14,6 @@ mod quiet_depot;
 mod quiet_log;
 mod quiet_sink;
 mod refusal;
-#[cfg(test)]
-mod tests;
 mod token;
 mod transfer;
 mod value;

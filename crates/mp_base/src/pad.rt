@@ -54,7 +54,29 @@ fn may_stand(alloc: Global, inputs: &[Pad], outputs: &[Pad]) -> Result<bool, All
     are_pad_names(alloc, &names)
 }
 
+fn copy_of(alloc: Global, pads: &[Pad]) -> Result<List<Pad>, AllocError>
+    ensures { IfOk result (λ copy. copy ≡ pads.now) }
+{
+    let mut copy = List::new(alloc);
+    for pad in pads {
+        copy.push(Pad {
+            name: Name::from_slice(alloc, pad.name.bytes())?,
+            width: pad.width,
+        })?;
+    }
+    Ok(copy)
+}
+
 impl Pads {
+    /// The same pads once more.
+    pub fn copy(&self, alloc: Global) -> Result<Pads, NoMemory>
+        ensures { IfOk result (λ copy. (copy.inputs ≡ self.now.inputs) × (copy.outputs ≡ self.now.outputs)) }
+    {
+        let inputs = copy_of(alloc, self.inputs.as_slice())?;
+        let outputs = copy_of(alloc, self.outputs.as_slice())?;
+        Ok(Pads { inputs, outputs })
+    }
+
     /// These pads, where their names may stand side by side.
     pub fn new(
         alloc: Global,

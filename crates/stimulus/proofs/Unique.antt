@@ -1,10 +1,10 @@
 -- A line has at most one form.
-use Rattle.std.proofs.Common.{◌≡◌, ◌≢◌, ℕ, suc, ◌+◌, ◌-◌, ◌<◌, ◌≤◌, List, [], ◌∷◌, refl, sym, ◌∙◌, ap, subst, length, take, drop, arith, get_or}
-use Rattle.std.proofs.Math.Bridge.{le_prop}
+use Rattle.std.proofs.Common.{◌≡◌, ◌≢◌, ℕ, suc, ◌+◌, ◌-◌, ◌<◌, ◌≤◌, List, [], ◌∷◌, refl, sym, ◌∙◌, ap, length, take, drop, arith, get_or}
 use Rattle.std.proofs.lemmas.Fmt.{decimal_injective}
 use Rattle.std.proofs.lemmas.Str.Parse.{digit_at}
 use Rattle.std.proofs.lemmas.List.{get_or_at, get_or-append_right, length-append, take_at}
 use Rattle.mp_base.specs.declared.pad.Pad.{Pad}
+use Rattle.mp_base.proofs.SamePad.{same_pad}
 use Rattle.stimulus.specs.declared.piece.Piece.{Piece}
 use Rattle.stimulus.specs.declared.form.Assignment.{Assignment}
 use Rattle.stimulus.specs.declared.form.Form.{Form}
@@ -45,17 +45,6 @@ assignments_once [] (x ∷ xs) ys h k = absurd h
 assignments_once (w ∷ ws) [] ys h k = absurd h
 assignments_once (w ∷ ws) (x ∷ xs) [] h k = absurd k
 assignments_once (w ∷ ws) (x ∷ xs) (y ∷ ys) h k = ap (λ z. z ∷ xs) (assignment_once w x y h.0 k.0) ∙ ap (λ zs. y ∷ zs) (assignments_once ws xs ys h.1 k.1)
-
-abbrev make_pad : (name : List ℕ) (width : ℕ) → width ≤ 64 → Pad
-make_pad name width h = record { name = name; width = width; narrow = h }
-
-same_width : (name : List ℕ) (v w : ℕ) (h : v ≤ 64) (k : w ≤ 64) → v ≡ w → make_pad name v h ≡ make_pad name w k
-same_width name v w h k e =
-    let P : ℕ → Type 0 = λ x. (j : x ≤ 64) → make_pad name v h ≡ make_pad name x j in
-    subst P e (λ j. ap (make_pad name v) (le_prop {n = v} {m = 64} h j)) k
-
-pub same_pad : (p q : Pad) → p.name ≡ q.name → p.width ≡ q.width → p ≡ q
-same_pad p q e f = ap (λ name. make_pad name p.width p.narrow) e ∙ same_width q.name p.width q.width p.narrow q.narrow f
 
 pad_once : (ws : List Piece) (p q : Pad) → IsPad ws p → IsPad ws q → p ≡ q
 pad_once [] p q h k = absurd h

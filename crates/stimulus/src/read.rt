@@ -16,8 +16,8 @@ use crate::fault::Fault;
 use crate::given::Stimulus;
 use crate::piece::{Piece, is_skipped, line_end, without_return, words_of};
 use crate::reading::Reading;
-use mp_base::{Broken, Family, List, Name, Pad, Pads, Place, Refusal, Rule, Spot};
-use std::alloc::{AllocError, Global};
+use mp_base::{Broken, Family, List, NoMemory, Pads, Place, Refusal, Rule, Spot};
+use std::alloc::Global;
 
 /// The line from its start to its end, without a carriage return before its line feed.
 fn line_at(text: &[u8], start: usize, end: usize) -> &[u8]
@@ -91,33 +91,8 @@ fn place_of(text: &[u8], offset: u32) -> Place
     }
 }
 
-fn copy_list(alloc: Global, pads: &[Pad]) -> Result<List<Pad>, AllocError>
-    ensures { IfOk result (λ copy. copy ≡ pads.now) }
-{
-    let mut copy = List::new(alloc);
-    for pad in pads {
-        copy.push(Pad {
-            name: Name::from_slice(alloc, pad.name.bytes())?,
-            width: pad.width,
-        })?;
-    }
-    Ok(copy)
-}
-
-fn copy_pads(alloc: Global, pads: &Pads) -> Result<Pads, AllocError>
-    ensures { IfOk result (λ copy. (copy.inputs ≡ pads.now.inputs) × (copy.outputs ≡ pads.now.outputs)) }
-{
-    let inputs = copy_list(alloc, pads.inputs.as_slice())?;
-    let outputs = copy_list(alloc, pads.outputs.as_slice())?;
-    Ok(Pads { inputs, outputs })
-}
-
 /// The stimulus of what was read.
-fn stimulus_of(
-    alloc: Global,
-    reading: Reading,
-    known: Option<&Pads>,
-) -> Result<Stimulus, AllocError>
+fn stimulus_of(alloc: Global, reading: Reading, known: Option<&Pads>) -> Result<Stimulus, NoMemory>
     requires named { ArePadNames (names_of reading.inputs reading.outputs (λ pad. pad.name)) }
     requires fitting { are_fitting (inputs_of (option_copied known) reading) reading.clocks ≡ true }
     ensures inputs { IfOk result (λ s. s.pads.inputs ≡ inputs_of (option_copied known.entry) reading) }
@@ -131,7 +106,7 @@ fn stimulus_of(
     } = reading;
     match known {
         Some(pads) => {
-            let pads = copy_pads(alloc, pads)?;
+            let pads = pads.copy(alloc)?;
             Ok(Stimulus { pads, clocks })
         }
         None => {

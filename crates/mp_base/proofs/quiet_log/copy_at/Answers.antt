@@ -1,4 +1,4 @@
-use Rattle.std.proofs.Common.{◌∙◌, ap, take, length, ◌++◌, ◌+◌, ◌≡◌, arith}
+use Rattle.std.proofs.Common.{◌∙◌, ap, take, length, ◌++◌, ◌≡◌, arith}
 use Rattle.std.proofs.lemmas.List.{length-take-le}
 use Rattle.mp_base.proofs.QuietReadings.{front_of}
 use Rattle.mp_base.proofs.quiet_log.copy_at.Goals as goal

@@ -1,8 +1,8 @@
 use Rattle.std.proofs.Common.{◌≡◌, ℕ, ◌+◌, ◌<◌, List, [], ◌∷◌, ◌++◌, take, get_or, length, refl, sym, ◌∙◌, ap}
 use Rattle.std.proofs.lemmas.List.{take_more}
 use Rattle.mp_base.specs.declared.pad.Pad.{Pad}
-use Rattle.stimulus.proofs.Unique.{same_pad}
-use Rattle.stimulus.proofs.read.copy_list.Goals as goal
+use Rattle.mp_base.proofs.SamePad.{same_pad}
+use Rattle.mp_base.proofs.pad.copy_of.Goals as goal
 
 one_more : (pads copy new : List Pad) (i : ℕ) (p q : Pad) → i < length pads → p ≡ get_or pads i p → copy ≡ take i pads → new ≡ copy ++ q ∷ [] → q.name ≡ p.name → q.width ≡ p.width → new ≡ take (i + 1) pads
 one_more pads copy new i p q lt is old made e f =

@@ -1,0 +1,16 @@
+//! What public calls of the base answer: operators, words, files and outputs in memory, and names of pads.
+#![tactic(auto)]
+
+mod operators;
+mod outside;
+mod pads;
+mod quiet;
+
+use std::io;
+
+fn main(rt: HostRuntime) -> io::Result<()> {
+    operators::show(&rt)?;
+    outside::show(&rt)?;
+    quiet::show(&rt)?;
+    pads::show(&rt)
+}
