@@ -1,5 +1,6 @@
 -- The commands of a chip draw it.
-use Rattle.std.proofs.Common.{ℕ, ◌≡◌, ◌+◌, ◌≤◌, ◌⊎◌, inl, inr, refl, sym, ◌∙◌, ap, subst, arith, List, [], ◌∷◌, ◌++◌, map, length, length-append, append_assoc, lit<, lit≤, true, false, Option, None, All}
+use Rattle.std.proofs.Common.{ℕ, ◌≡◌, ◌+◌, ◌≤◌, ◌⊎◌, inl, inr, refl, sym, ◌∙◌, ap, subst, arith, List, [], ◌∷◌, ◌++◌}
+use Rattle.std.proofs.Common.{map, length, length-append, append_assoc, lit<, lit≤, true, false, Option, None, All}
 use Rattle.std.specs.Prelude.{ℤ, pos, ◌≤ℤ◌}
 use Rattle.std.specs.List.{flat_map}
 use Rattle.std.proofs.lemmas.Int.{ints}
@@ -25,7 +26,8 @@ use Rattle.cif_form.specs.Walk.WalkEnd.{Whole, Broken}
 use Rattle.fabric.specs.declared.chip.ChipLabel.{ChipLabel}
 use Rattle.cif_emit.specs.Emittable.{IsEmittable, IsPlainLabel}
 use Rattle.cif_emit.specs.Emitted.{IsDrawnBy, IsEmitted}
-use Rattle.cif_emit.specs.Commands.{layers, is_on, drawn_on, box_of, box_commands, layer_commands, symbol, label_of, chip_commands}
+use Rattle.cif_emit.specs.Commands.{layers, is_on, drawn_on, box_of, box_commands, layer_commands, symbol, label_of}
+use Rattle.cif_emit.specs.Commands.{chip_commands}
 use Rattle.cif_emit.proofs.Offsets.{laid, next, are_laid}
 use Rattle.cif_emit.proofs.Drawn.{drawn, drawn_squares, drawn_few}
 use Rattle.cif_emit.proofs.Painted.{Paints, paints_boxes_of}
@@ -54,7 +56,11 @@ short NB = two_letters 78 66 (lit≤ tt, lit≤ tt) (lit≤ tt, lit≤ tt)
 short NG = two_letters 78 71 (lit≤ tt, lit≤ tt) (lit≤ tt, lit≤ tt)
 
 pub layer_fits : (m : Layer) → Fits (commands.Layer (layer_name m))
-layer_fits m = record { unsigned = All-nil (λ z. (pos 0 ≤ℤ z) × IsSmall z); signed = All-nil IsSmall; formed = short m }
+layer_fits m = record {
+  unsigned = All-nil (λ z. (pos 0 ≤ℤ z) × IsSmall z);
+  signed = All-nil IsSmall;
+  formed = short m;
+}
 
 boxes_fit : {l : Option Layer} {cs : List Command} {rs : List Rect} → Paints l cs rs → All Fits cs
 boxes_fit Paints.none = All-nil Fits
@@ -62,7 +68,8 @@ boxes_fit (Paints.layer {cs = cs} m p) = All-cons Fits (commands.Layer (layer_na
 boxes_fit (Paints.box {cs = cs} r b p) = All-cons Fits (box_of r) cs (box_fits r b.grid b.solid) (boxes_fit p)
 
 labels_fit : (ls : List ChipLabel) → All IsPlainLabel ls → All Fits (map label_of ls)
-labels_fit ls h = All-map Fits label_of ls (All-weaker IsPlainLabel (λ l. Fits (label_of l)) (λ l p. label_fits l p) ls h)
+labels_fit ls h = All-map Fits label_of ls (All-weaker IsPlainLabel (λ l. Fits (label_of l))
+    (λ l p. label_fits l p) ls h)
 
 -- a number without a sign
 abbrev IsUnsigned : ℤ → Type 0
@@ -81,9 +88,14 @@ pub finish_fits : Fits Finish
 finish_fits = record { unsigned = All-nil IsUnsigned; signed = All-nil IsSmall; formed = tt }
 
 pub call_fits : (number : ℤ) → IsUnsigned number → Fits (Call number [])
-call_fits number h = record { unsigned = All-cons IsUnsigned number [] h (All-nil IsUnsigned); signed = All-nil IsSmall; formed = tt }
+call_fits number h = record {
+  unsigned = All-cons IsUnsigned number [] h (All-nil IsUnsigned);
+  signed = All-nil IsSmall;
+  formed = tt;
+}
 
-boxes_nest : {l : Option Layer} {cs : List Command} {rs : List Rect} (ds : List Command) → Paints l cs rs → Nests true ds → Nests true (cs ++ ds)
+boxes_nest : {l : Option Layer} {cs : List Command} {rs : List Rect} (ds : List Command) → Paints l cs rs
+    → Nests true ds → Nests true (cs ++ ds)
 boxes_nest ds Paints.none n = n
 boxes_nest ds (Paints.layer m p) n = (true, refl, boxes_nest ds p n)
 boxes_nest ds (Paints.box r b p) n = (true, refl, boxes_nest ds p n)
@@ -96,7 +108,8 @@ labels_nest (l ∷ ls) = (false, refl, labels_nest ls)
 
 pub record AreLaws : Type 0 where
   pub expansion : (items : List Item) (shapes others : List Rect) (labels names : List FlatLabel)
-      → Expands [] None items shapes labels → Expands [] None items others names → (shapes ≡ others) × (labels ≡ names)
+      → Expands [] None items shapes labels → Expands [] None items others names
+      → (shapes ≡ others) × (labels ≡ names)
   pub walk : (items : List Item) (shapes others : List Rect) (labels names : List FlatLabel) (end last : WalkEnd)
       → FileWalks items shapes labels end → FileWalks items others names last
       → (shapes ≡ others) × (labels ≡ names) × (end ≡ last)
@@ -104,19 +117,25 @@ pub record AreLaws : Type 0 where
       → FileWalks items shapes labels Whole → Expands [] None items shapes labels
   pub limit : CountKeepsLimit
 
-module _ (laws : AreLaws) (items : List Item) (shapes : List Rect) (flat : List FlatLabel) (expands : Expands [] None items shapes flat)
+module _ (laws : AreLaws) (items : List Item) (shapes : List Rect) (flat : List FlatLabel)
+    (expands : Expands [] None items shapes flat)
     (ends : Ends (start items)) where
   -- within the limit the walk is whole
   walks_whole : (n : ℕ) → FileCounts items n → n ≤ walk_limit → FileWalks items shapes flat Whole
   walks_whole n counts few = elim ends.fine [
     | inl e ↦
-        let own : FileWalks items ends.shapes ends.labels Whole = subst (FileWalks items ends.shapes ends.labels) e ends.walks in
-        let same = laws.expansion items ends.shapes shapes ends.labels flat (laws.draws items ends.shapes ends.labels own) expands in
-        subst (λ rs. FileWalks items rs flat Whole) same.0 (subst (λ ls. FileWalks items ends.shapes ls Whole) same.1 own)
-    | inr b ↦ absurd (laws.limit items n counts few ends.shapes ends.labels b.0 (subst (FileWalks items ends.shapes ends.labels) b.1 ends.walks))
+        let own : FileWalks items ends.shapes ends.labels Whole = subst
+        (FileWalks items ends.shapes ends.labels) e ends.walks in
+        let same = laws.expansion items ends.shapes shapes ends.labels flat
+        (laws.draws items ends.shapes ends.labels own) expands in
+        subst (λ rs. FileWalks items rs flat Whole) same.0
+        (subst (λ ls. FileWalks items ends.shapes ls Whole) same.1 own)
+    | inr b ↦ absurd (laws.limit items n counts few ends.shapes ends.labels b.0
+        (subst (FileWalks items ends.shapes ends.labels) b.1 ends.walks))
   ]
 
-  breaks_count : (rs : List Rect) (ls : List FlatLabel) (rule : DrawRule) (offset : ℕ) → FileWalks items rs ls (Broken rule offset) → rule ≡ F7
+  breaks_count : (rs : List Rect) (ls : List FlatLabel) (rule : DrawRule) (offset : ℕ)
+      → FileWalks items rs ls (Broken rule offset) → rule ≡ F7
   breaks_count rs ls rule offset w =
       let same = laws.walk items rs ends.shapes ls ends.labels (Broken rule offset) ends.end w ends.walks in
       let e : Broken rule offset ≡ ends.end = same.2 in
@@ -138,7 +157,8 @@ body_length [] rects = lit≤ tt
 body_length (l ∷ ls) rects =
     let a = layer_length l (drawn_on l rects) in
     let i = body_length ls rects in
-    let b = length-append (layer_commands l (drawn_on l rects)) (flat_map (λ l. layer_commands l (drawn_on l rects)) ls) in
+    let b = length-append (layer_commands l (drawn_on l rects))
+    (flat_map (λ l. layer_commands l (drawn_on l rects)) ls) in
     let c = length-append (drawn_on l rects) (drawn ls rects) in
     omega arith
 
@@ -166,7 +186,8 @@ module _ (laws : AreLaws) (rects : List Rect) (labels : List ChipLabel) (emittab
         count = 1 + length body + length labels;
         counted = counts;
         few_walked = omega arith;
-        walks = walks_whole laws (laid at (chip_commands rects labels)) (drawn layers rects) flat expands ends (1 + length body + length labels) counts;
+        walks = walks_whole laws (laid at (chip_commands rects labels)) (drawn layers rects) flat expands ends
+            (1 + length body + length labels) counts;
         breaks = breaks_count laws (laid at (chip_commands rects labels)) (drawn layers rects) flat expands ends;
       }
 
@@ -175,11 +196,19 @@ module _ (laws : AreLaws) (rects : List Rect) (labels : List ChipLabel) (emittab
       let body : List Command = box_commands rects in
       let one : IsUnsigned (pos 1) = (omega (arith, ints), lit< tt) in
       let tail : List Command = Call (pos 1) [] ∷ map label_of labels in
-      let tail_fits : All Fits tail = All-cons Fits (Call (pos 1) []) (map label_of labels) (call_fits (pos 1) one) (labels_fit labels emittable.names) in
-      let closed : All Fits (body ++ (Finish ∷ [])) = All-append Fits body (Finish ∷ []) (boxes_fit paints) (All-cons Fits Finish [] finish_fits (All-nil Fits)) in
+      let tail_fits : All Fits tail = All-cons Fits (Call (pos 1) []) (map label_of labels) (call_fits (pos 1) one)
+      (labels_fit labels emittable.names) in
+      let closed : All Fits (body ++ (Finish ∷ [])) = All-append Fits body (Finish ∷ []) (boxes_fit paints)
+      (All-cons Fits Finish [] finish_fits (All-nil Fits)) in
       record {
-        fit = All-append Fits (symbol (pos 1) body) tail (All-cons Fits (Start (pos 1) (pos 125) (pos 1)) (body ++ (Finish ∷ [])) (start_fits (pos 1) one) closed) tail_fits;
-        nest = (true, refl, subst (Nests true) (sym (append_assoc body (Finish ∷ []) tail)) (boxes_nest (Finish ∷ tail) paints (false, refl, (false, refl, labels_nest labels))));
+        fit = All-append Fits (symbol (pos 1) body) tail (All-cons Fits (Start (pos 1) (pos 125) (pos 1))
+            (body ++ (Finish ∷ [])) (start_fits (pos 1) one) closed) tail_fits;
+        nest = (
+          true,
+          refl,
+          subst (Nests true) (sym (append_assoc body (Finish ∷ []) tail))
+              (boxes_nest (Finish ∷ tail) paints (false, refl, (false, refl, labels_nest labels))),
+        );
         drawn = λ items e.
             let at = are_laid items in
             subst (IsDrawnBy rects labels) (sym (at.1 ∙ ap (laid at.0) e)) (laid_draws at.0);
@@ -212,5 +241,6 @@ pub chip_added : (rects drawn_rects : List Rect) (labels own : List ChipLabel) (
 chip_added rects drawn_rects labels own none one two three e f n a b c =
     c ∙ ap (λ ls. two ++ map label_of ls) f
     ∙ ap (λ cs. cs ++ map label_of labels) (b ∙ ap (λ cs. cs ++ Call (pos 1) [] ∷ [])
-    (a ∙ ap (λ cs. cs ++ symbol (pos 1) (box_commands drawn_rects)) n ∙ ap (λ rs. symbol (pos 1) (box_commands rs)) e))
+    (a ∙ ap (λ cs. cs ++ symbol (pos 1) (box_commands drawn_rects)) n
+    ∙ ap (λ rs. symbol (pos 1) (box_commands rs)) e))
     ∙ append_assoc (symbol (pos 1) (box_commands rects)) (Call (pos 1) [] ∷ []) (map label_of labels)

@@ -1,5 +1,7 @@
 -- The rectangles of each layer that cover something: all that covers a square, and no more of them than there are.
-use Rattle.std.proofs.Common.{ℕ, zero, suc, ◌≡◌, ◌+◌, ◌≤◌, ◌⊎◌, ◌↔◌, inl, inr, refl, sym, ◌∙◌, ap, subst, ◌<◌, get_or, arith, Bool, true, false, cond, eqb, ◌&&◌, List, [], ◌∷◌, ◌++◌, length, length-append, eqb-true, eq-eqb, lit≤}
+use Rattle.std.proofs.Common.{ℕ, zero, suc, ◌≡◌, ◌+◌, ◌≤◌, ◌⊎◌, ◌↔◌, inl, inr, refl, sym, ◌∙◌, ap, subst, ◌<◌}
+use Rattle.std.proofs.Common.{get_or, arith, Bool, true, false, cond, eqb, ◌&&◌, List, [], ◌∷◌, ◌++◌, length}
+use Rattle.std.proofs.Common.{length-append, eqb-true, eq-eqb, lit≤}
 use Rattle.std.specs.Prelude.{ℤ, pos, int_lt, All, IsTrue}
 use Rattle.std.specs.List.{flat_map}
 use Rattle.std.proofs.lemmas.Bool.{cases_Bool, and_parts, false≢true}
@@ -35,7 +37,8 @@ pub one_layer : (a b : Layer) → eqb (rank a) (rank b) ≡ true → a ≡ b
 one_layer a b h = sym (rank_back a) ∙ ap by_rank (eqb-true (rank a) (rank b) h) ∙ rank_back b
 
 pub one_layer_on : (l : Layer) (r : Rect) → is_on l r ≡ true → r.layer ≡ l
-one_layer_on l r h = one_layer r.layer l (and_parts (eqb (rank r.layer) (rank l)) (int_lt r.x0 r.x1 && int_lt r.y0 r.y1) h).0
+one_layer_on l r h = one_layer r.layer l (and_parts (eqb (rank r.layer) (rank l))
+    (int_lt r.x0 r.x1 && int_lt r.y0 r.y1) h).0
 
 pub solid_on : (l : Layer) (r : Rect) → is_on l r ≡ true → IsSolid r
 solid_on l r h =
@@ -57,14 +60,17 @@ abbrev pub no_rect : Rect
 no_rect = record { layer = ND; x0 = pos 0; y0 = pos 0; x1 = pos 0; y1 = pos 0 }
 
 -- where one is on the layer, some are drawn there
-pub some_drawn : (l : Layer) (rs : List Rect) (i : ℕ) (d : Rect) → i < length rs → is_on l (get_or rs i d) ≡ true → drawn_on l rs ≡ [] → ⊥
+pub some_drawn : (l : Layer) (rs : List Rect) (i : ℕ) (d : Rect) → i < length rs → is_on l (get_or rs i d) ≡ true
+    → drawn_on l rs ≡ [] → ⊥
 some_drawn l [] i d h on e = omega arith
 some_drawn l (r ∷ rs) zero d h on e =
     let f : r ∷ drawn_on l rs ≡ [] = subst (λ b. cond b (r ∷ drawn_on l rs) (drawn_on l rs) ≡ []) on e in cc
 some_drawn l (r ∷ rs) (suc i) d h on e =
     elim (cases_Bool (is_on l r)) [
-      | inl t ↦ (let f : r ∷ drawn_on l rs ≡ [] = subst (λ b. cond b (r ∷ drawn_on l rs) (drawn_on l rs) ≡ []) t e in cc)
-      | inr t ↦ some_drawn l rs i d (omega arith) on (subst (λ b. cond b (r ∷ drawn_on l rs) (drawn_on l rs) ≡ []) t e)
+      | inl t ↦ (let f : r ∷ drawn_on l rs ≡ [] = subst (λ b. cond b (r ∷ drawn_on l rs) (drawn_on l rs) ≡ []) t e in
+          cc)
+      | inr t ↦ some_drawn l rs i d (omega arith) on (subst
+          (λ b. cond b (r ∷ drawn_on l rs) (drawn_on l rs) ≡ []) t e)
     ]
 
 none_left : (xs ys : List Rect) → xs ++ ys ≡ [] → (xs ≡ []) × (ys ≡ [])
@@ -72,16 +78,21 @@ none_left [] ys e = (refl, e)
 none_left (x ∷ xs) ys e = cc
 
 -- none of two lists is drawn on the layer if none of either is
-pub none_drawn : (l : Layer) (xs ys : List Rect) → ((drawn_on l xs ≡ []) × (drawn_on l ys ≡ [])) ↔ (drawn_on l (xs ++ ys) ≡ [])
+pub none_drawn : (l : Layer) (xs ys : List Rect) → ((drawn_on l xs ≡ []) × (drawn_on l ys ≡ []))
+    ↔ (drawn_on l (xs ++ ys) ≡ [])
 none_drawn l xs ys = (
   λ h. filter-append (is_on l) xs ys ∙ ap (λ rs. rs ++ drawn_on l ys) h.0 ∙ h.1,
   λ e. none_left (drawn_on l xs) (drawn_on l ys) (sym (filter-append (is_on l) xs ys) ∙ e),
 )
 
 -- where some of the first are on the layer, so are some of all
-pub not_all_elsewhere : (l : Layer) (xs ys : List Rect) (first : Bool) → IsTrue first ↔ (drawn_on l xs ≡ []) → first ≡ false
+pub not_all_elsewhere : (l : Layer) (xs ys : List Rect) (first : Bool) → IsTrue first ↔ (drawn_on l xs ≡ [])
+    → first ≡ false
     → IsTrue first ↔ (drawn_on l (xs ++ ys) ≡ [])
-not_all_elsewhere l xs ys first h e = (λ t. absurd (false≢true (sym e ∙ t)), λ none. h.1 ((none_drawn l xs ys).1 none).0)
+not_all_elsewhere l xs ys first h e = (
+  λ t. absurd (false≢true (sym e ∙ t)),
+  λ none. h.1 ((none_drawn l xs ys).1 none).0,
+)
 
 -- ---- squares
 
@@ -90,7 +101,8 @@ solid : (r : Rect) (l : Layer) (x y : ℤ) → Covers r l x y → IsSolid r
 solid r l x y c = let a = c.left in let b = c.right in let d = c.bottom in let e = c.top in
     record { wide = omega (arith, ints); high = omega (arith, ints) }
 
-covered-append : (rs qs : List Rect) (l : Layer) (x y : ℤ) → covered (rs ++ qs) l x y ↔ (covered rs l x y ⊎ covered qs l x y)
+covered-append : (rs qs : List Rect) (l : Layer) (x y : ℤ)
+    → covered (rs ++ qs) l x y ↔ (covered rs l x y ⊎ covered qs l x y)
 covered-append [] qs l x y = (λ c. inr c, λ c. elim c [ inl e ↦ absurd e | inr q ↦ q ])
 covered-append (r ∷ rs) qs l x y = let i = covered-append rs qs l x y in (
   λ c. elim c [ inl a ↦ inl (inl a) | inr b ↦ elim (i.0 b) [ inl d ↦ inl (inr d) | inr q ↦ inr q ] ],
@@ -101,15 +113,18 @@ drawn_less : (k : Layer) (rs : List Rect) (l : Layer) (x y : ℤ) → covered (d
 drawn_less k [] l x y c = c
 drawn_less k (r ∷ rs) l x y c =
     elim (cases_Bool (is_on k r)) [
-      | inl e ↦ (let d : covered (r ∷ drawn_on k rs) l x y = subst (λ b. covered (cond b (r ∷ drawn_on k rs) (drawn_on k rs)) l x y) e c in
+      | inl e ↦ (let d : covered (r ∷ drawn_on k rs) l x y = subst
+          (λ b. covered (cond b (r ∷ drawn_on k rs) (drawn_on k rs)) l x y) e c in
           elim d [ inl a ↦ inl a | inr b ↦ inr (drawn_less k rs l x y b) ])
-      | inr e ↦ inr (drawn_less k rs l x y (subst (λ b. covered (cond b (r ∷ drawn_on k rs) (drawn_on k rs)) l x y) e c))
+      | inr e ↦ inr (drawn_less k rs l x y (subst (λ b. covered (cond b (r ∷ drawn_on k rs) (drawn_on k rs)) l x y) e
+          c))
     ]
 
 drawn_same : (rs : List Rect) (l : Layer) (x y : ℤ) → covered rs l x y → covered (drawn_on l rs) l x y
 drawn_same [] l x y c = c
 drawn_same (r ∷ rs) l x y (inl c) =
-    subst (λ b. covered (cond b (r ∷ drawn_on l rs) (drawn_on l rs)) l x y) (sym (on_layer l r c.same (solid r l x y c))) (inl c)
+    subst (λ b. covered (cond b (r ∷ drawn_on l rs) (drawn_on l rs)) l x y)
+    (sym (on_layer l r c.same (solid r l x y c))) (inl c)
 drawn_same (r ∷ rs) l x y (inr c) =
     let i = drawn_same rs l x y c in
     elim (cases_Bool (is_on l r)) [
@@ -134,10 +149,12 @@ abbrev Among : Layer → List Layer → Type 0
 Among l [] = ⊥
 Among l (k ∷ ks) = (k ≡ l) ⊎ Among l ks
 
-any_same : (ls : List Layer) (rs : List Rect) (l : Layer) (x y : ℤ) → Among l ls → covered rs l x y → covered (drawn ls rs) l x y
+any_same : (ls : List Layer) (rs : List Rect) (l : Layer) (x y : ℤ) → Among l ls → covered rs l x y
+    → covered (drawn ls rs) l x y
 any_same [] rs l x y m c = absurd m
 any_same (k ∷ ks) rs l x y (inl e) c =
-    (covered-append (drawn_on k rs) (drawn ks rs) l x y).1 (inl (subst (λ m. covered (drawn_on m rs) l x y) (sym e) (drawn_same rs l x y c)))
+    (covered-append (drawn_on k rs) (drawn ks rs) l x y).1
+    (inl (subst (λ m. covered (drawn_on m rs) l x y) (sym e) (drawn_same rs l x y c)))
 any_same (k ∷ ks) rs l x y (inr m) c =
     (covered-append (drawn_on k rs) (drawn ks rs) l x y).1 (inr (any_same ks rs l x y m c))
 
@@ -189,7 +206,8 @@ one_more : (b : Bool) (r : Rect) (rs : List Rect) → length (cond b (r ∷ rs) 
 one_more true r rs = omega arith
 one_more false r rs = omega arith
 
-count_more : (ls : List Layer) (r : Rect) (rs : List Rect) → count ls (r ∷ rs) ≡ times ls r.layer (int_lt r.x0 r.x1 && int_lt r.y0 r.y1) + count ls rs
+count_more : (ls : List Layer) (r : Rect) (rs : List Rect)
+    → count ls (r ∷ rs) ≡ times ls r.layer (int_lt r.x0 r.x1 && int_lt r.y0 r.y1) + count ls rs
 count_more [] r rs = omega arith
 count_more (l ∷ ls) r rs =
     let a = one_more (is_on l r) r (drawn_on l rs) in
@@ -211,7 +229,8 @@ drawn_few rs = let a = length_drawn layers rs in let b = few_count rs in omega a
 
 front : (xs ys : List Rect) → All IsOnGrid (xs ++ ys) → All IsOnGrid xs
 front [] ys h = All-nil IsOnGrid
-front (x ∷ xs) ys h = All-cons IsOnGrid x xs (All-head IsOnGrid x (xs ++ ys) h) (front xs ys (All-tail IsOnGrid x (xs ++ ys) h))
+front (x ∷ xs) ys h = All-cons IsOnGrid x xs (All-head IsOnGrid x (xs ++ ys) h)
+    (front xs ys (All-tail IsOnGrid x (xs ++ ys) h))
 
 back : (xs ys : List Rect) → All IsOnGrid (xs ++ ys) → All IsOnGrid ys
 back [] ys h = h

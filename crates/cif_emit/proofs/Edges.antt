@@ -1,5 +1,6 @@
 -- The box of a rectangle on whole lambda.
-use Rattle.std.proofs.Common.{◌≡◌, ◌<◌, ◌^◌, inl, inr, refl, sym, ◌∙◌, ap, subst, arith, [], ◌∷◌, lit<, w64, to_z, of_z}
+use Rattle.std.proofs.Common.{◌≡◌, ◌<◌, ◌^◌, inl, inr, refl, sym, ◌∙◌, ap, subst, arith, [], ◌∷◌, lit<, w64, to_z}
+use Rattle.std.proofs.Common.{of_z}
 use Rattle.std.specs.Prelude.{ℤ, pos, ◌+ℤ◌, ◌-ℤ◌, ◌*ℤ◌, ◌<ℤ◌, ◌≤ℤ◌, nat_abs, int_div, int_rem, FitsSigned}
 use Rattle.std.proofs.lemmas.Int.{ints, quot-rem, rem_below, fits_signed_from_abs, quot_fits, to_z-of_z}
 use Rattle.std.proofs.lemmas.List.Elements.{All-nil, All-cons}
@@ -26,10 +27,12 @@ half : (z k q m : ℤ) → z ≡ pos 500 *ℤ k → q *ℤ pos 500 +ℤ m ≡ z 
 half z k q m e f h = omega (arith, ints)
 
 in_quarters : (z k : ℤ) → z ≡ pos 500 *ℤ k → int_div z (pos 250) ≡ pos 2 *ℤ k
-in_quarters z k e = quarter z k (int_div z (pos 250)) (int_rem z (pos 250)) e (quot-rem z (pos 250)) (rem_below z (pos 250) (lit< tt))
+in_quarters z k e = quarter z k (int_div z (pos 250)) (int_rem z (pos 250)) e (quot-rem z (pos 250))
+    (rem_below z (pos 250) (lit< tt))
 
 in_lambda : (z k : ℤ) → z ≡ pos 500 *ℤ k → int_div z (pos 500) ≡ k
-in_lambda z k e = half z k (int_div z (pos 500)) (int_rem z (pos 500)) e (quot-rem z (pos 500)) (rem_below z (pos 500) (lit< tt))
+in_lambda z k e = half z k (int_div z (pos 500)) (int_rem z (pos 500)) e (quot-rem z (pos 500))
+    (rem_below z (pos 500) (lit< tt))
 
 -- ---- the numbers of one side of a box
 
@@ -38,7 +41,8 @@ pub record IsSpan (from to long center : ℤ) : Type 0 where
   pub low : from ≡ pos 125 *ℤ (pos 2 *ℤ center -ℤ long)
   pub high : to ≡ pos 125 *ℤ (pos 2 *ℤ center +ℤ long)
 
-span : (from to a b long center : ℤ) → from ≡ pos 500 *ℤ a → to ≡ pos 500 *ℤ b → long ≡ pos 2 *ℤ (b -ℤ a) → center ≡ a +ℤ b
+span : (from to a b long center : ℤ) → from ≡ pos 500 *ℤ a → to ≡ pos 500 *ℤ b → long ≡ pos 2 *ℤ (b -ℤ a)
+    → center ≡ a +ℤ b
     → IsSpan from to long center
 span from to a b long center e f g h = record { low = omega (arith, ints); high = omega (arith, ints) }
 
@@ -48,7 +52,8 @@ difference x y a b e f = omega (arith, ints)
 total : (x y a b : ℤ) → x ≡ pos 500 *ℤ a → y ≡ pos 500 *ℤ b → x +ℤ y ≡ pos 500 *ℤ (a +ℤ b)
 total x y a b e f = omega (arith, ints)
 
-pub is_span : (x y : ℤ) → IsOnLambda x → IsOnLambda y → IsSpan x y (int_div (y -ℤ x) (pos 250)) (int_div (x +ℤ y) (pos 500))
+pub is_span : (x y : ℤ) → IsOnLambda x → IsOnLambda y → IsSpan x y (int_div (y -ℤ x) (pos 250))
+    (int_div (x +ℤ y) (pos 500))
 is_span x y g h =
     let a = g.whole in let b = h.whole in
     span x y a.0 b.0 _ _ a.1 b.1
@@ -56,7 +61,8 @@ is_span x y g h =
     (in_lambda (x +ℤ y) (a.0 +ℤ b.0) (total x y a.0 b.0 a.1 b.1))
 
 -- the span's ends are near, so its numbers are small
-long_small : (x y long center : ℤ) → IsSpan x y long center → IsSmall x → IsSmall y → x <ℤ y → (pos 0 ≤ℤ long) × IsSmall long
+long_small : (x y long center : ℤ) → IsSpan x y long center → IsSmall x → IsSmall y → x <ℤ y
+    → (pos 0 ≤ℤ long) × IsSmall long
 long_small x y long center s f g h = let a = s.low in let b = s.high in (omega (arith, ints), omega (arith, ints))
 
 center_small : (x y long center : ℤ) → IsSpan x y long center → IsSmall x → IsSmall y → IsSmall center
@@ -81,7 +87,8 @@ module _ (x y : ℤ) (hx : IsSmall x) (hy : IsSmall y) where
   as_is : (z : ℤ) → IsSmall z → to_z w64 (of_z w64 z) ≡ z
   as_is z h = to_z-of_z w64 z (fits z (omega arith))
 
-  pub long_code : to_z w64 (of_z w64 (int_div (to_z w64 (of_z w64 (to_z w64 (of_z w64 y) -ℤ to_z w64 (of_z w64 x)))) (pos 250)))
+  pub long_code : to_z w64 (of_z w64 (int_div (to_z w64 (of_z w64 (to_z w64 (of_z w64 y) -ℤ to_z w64 (of_z w64 x))))
+      (pos 250)))
       ≡ int_div (y -ℤ x) (pos 250)
   long_code =
       let a = as_is x hx in let b = as_is y hy in
@@ -90,7 +97,8 @@ module _ (x y : ℤ) (hx : IsSmall x) (hy : IsSmall y) where
       ∙ ap (λ z. to_z w64 (of_z w64 (int_div z (pos 250)))) (to_z-of_z w64 (y -ℤ x) d)
       ∙ to_z-of_z w64 (int_div (y -ℤ x) (pos 250)) (quot_fits w64 (y -ℤ x) (pos 250) d (omega (arith, ints)))
 
-  pub center_code : to_z w64 (of_z w64 (int_div (to_z w64 (of_z w64 (to_z w64 (of_z w64 x) +ℤ to_z w64 (of_z w64 y)))) (pos 500)))
+  pub center_code : to_z w64 (of_z w64 (int_div (to_z w64 (of_z w64
+      (to_z w64 (of_z w64 x) +ℤ to_z w64 (of_z w64 y)))) (pos 500)))
       ≡ int_div (x +ℤ y) (pos 500)
   center_code =
       let a = as_is x hx in let b = as_is y hy in
@@ -114,11 +122,15 @@ module _ (r : Rect) (grid : IsOnGrid r) where
       let long = int_div (r.x1 -ℤ r.x0) (pos 250) in let wide = int_div (r.y1 -ℤ r.y0) (pos 250) in
       let x = int_div (r.x0 +ℤ r.x1) (pos 500) in let y = int_div (r.y0 +ℤ r.y1) (pos 500) in
       record {
-        unsigned = All-cons (λ z. (pos 0 ≤ℤ z) × IsSmall z) long (wide ∷ []) (long_small r.x0 r.x1 long x x_span g0.small g1.small s.wide)
-            (All-cons (λ z. (pos 0 ≤ℤ z) × IsSmall z) wide [] (long_small r.y0 r.y1 wide y y_span h0.small h1.small s.high) (All-nil (λ z. (pos 0 ≤ℤ z) × IsSmall z)));
+        unsigned = All-cons (λ z. (pos 0 ≤ℤ z) × IsSmall z) long (wide ∷ [])
+            (long_small r.x0 r.x1 long x x_span g0.small g1.small s.wide)
+            (All-cons (λ z. (pos 0 ≤ℤ z) × IsSmall z) wide []
+            (long_small r.y0 r.y1 wide y y_span h0.small h1.small s.high)
+            (All-nil (λ z. (pos 0 ≤ℤ z) × IsSmall z)));
         signed = All-cons IsSmall x (y ∷ pos 1 ∷ pos 0 ∷ []) (center_small r.x0 r.x1 long x x_span g0.small g1.small)
             (All-cons IsSmall y (pos 1 ∷ pos 0 ∷ []) (center_small r.y0 r.y1 wide y y_span h0.small h1.small)
-            (All-cons IsSmall (pos 1) (pos 0 ∷ []) (lit< tt) (All-cons IsSmall (pos 0) [] (lit< tt) (All-nil IsSmall))));
+            (All-cons IsSmall (pos 1) (pos 0 ∷ []) (lit< tt)
+            (All-cons IsSmall (pos 0) [] (lit< tt) (All-nil IsSmall))));
         formed = tt;
       }
 

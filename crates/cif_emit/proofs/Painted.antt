@@ -25,7 +25,8 @@ pub data Paints : Option Layer → List Command → List Rect → Type 0 where
   box : {l : Layer} {cs : List Command} {rs : List Rect} (r : Rect) → IsBoxed l r → Paints (Some l) cs rs
       → Paints (Some l) (box_of r ∷ cs) (r ∷ rs)
 
-paints_boxes : (l : Layer) (xs : List Rect) → All (IsBoxed l) xs → {cs : List Command} {rs : List Rect} → Paints (Some l) cs rs
+paints_boxes : (l : Layer) (xs : List Rect) → All (IsBoxed l) xs → {cs : List Command} {rs : List Rect}
+    → Paints (Some l) cs rs
     → Paints (Some l) (map box_of xs ++ cs) (xs ++ rs)
 paints_boxes l [] h p = p
 paints_boxes l (x ∷ xs) h p =
@@ -49,5 +50,6 @@ paints_all [] rects h k = Paints.none
 paints_all (l ∷ ls) rects h k =
     paints_layer l (drawn_on l rects) (boxed_on l rects h) (λ m. paints_all ls rects h m) k
 
-pub paints_boxes_of : (rects : List Rect) → All IsOnGrid rects → (k : Option Layer) → Paints k (box_commands rects) (drawn layers rects)
+pub paints_boxes_of : (rects : List Rect) → All IsOnGrid rects → (k : Option Layer)
+    → Paints k (box_commands rects) (drawn layers rects)
 paints_boxes_of rects h k = paints_all layers rects h k

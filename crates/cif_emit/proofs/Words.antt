@@ -1,5 +1,6 @@
 -- The text of a label.
-use Rattle.std.proofs.Common.{ℕ, suc, ◌≡◌, ◌≢◌, ◌<◌, ◌⊎◌, inl, inr, refl, sym, subst, arith, List, [], ◌∷◌, ◌++◌, length, lit<, lit≤}
+use Rattle.std.proofs.Common.{ℕ, suc, ◌≡◌, ◌≢◌, ◌<◌, ◌⊎◌, inl, inr, refl, sym, subst, arith, List, [], ◌∷◌, ◌++◌}
+use Rattle.std.proofs.Common.{length, lit<, lit≤}
 use Rattle.std.specs.Prelude.{ℤ, pos, negsuc, ◌*ℤ◌, ◌+ℤ◌, ◌≤ℤ◌, int_div, int_rem, All, Some, decimal}
 use Rattle.std.specs.Fmt.{signed_decimal}
 use Rattle.std.specs.Char.{digit_value}
@@ -47,7 +48,8 @@ coordinate z e s = let h = half_of z e s in (int_div z (pos 2), h.0, h.1, digits
 spaces : Spaces space
 spaces = (lit< tt, All-cons IsSpace 32 [] (inl refl) (All-nil IsSpace))
 
-label_text : (o : ℕ) (name : List ℕ) (x y : ℤ) (l : Layer) (tx ty : List ℕ) → 0 < length name → All (λ b. ¬ IsSpace b) name
+label_text : (o : ℕ) (name : List ℕ) (x y : ℤ) (l : Layer) (tx ty : List ℕ) → 0 < length name
+    → All (λ b. ¬ IsSpace b) name
     → Coordinate x tx → Coordinate y ty → (l ≡ NM) ⊎ (l ≡ NP) ⊎ (l ≡ ND)
     → IsLabelText (record { offset = o; name = name; x = x; y = y; layer = Some l })
     (52 ∷ (space ++ (name ++ (space ++ (tx ++ (space ++ (ty ++ ((space ++ layer_name l) ++ []))))))))
@@ -103,15 +105,18 @@ IsPlain b = b ≢ 59
 
 digits_plain : (ds : List ℕ) → AllDigits 10 ds → All IsPlain ds
 digits_plain [] h = All-nil IsPlain
-digits_plain (c ∷ cs) h = All-cons IsPlain c cs (λ e. let k : digit_value 59 < 10 = subst (λ b. digit_value b < 10) e h.0 in absurd (omega arith)) (digits_plain cs h.1)
+digits_plain (c ∷ cs) h = All-cons IsPlain c cs (λ e. let k : digit_value 59 < 10 = subst
+    (λ b. digit_value b < 10) e h.0 in absurd (omega arith)) (digits_plain cs h.1)
 
 number_plain : (z : ℤ) → IsSmall z → All IsPlain (signed_decimal z)
 number_plain (pos n) h = digits_plain (decimal n) (decimal_is_IsNumeral n (omega arith)).0.1
 number_plain (negsuc n) h =
-    All-cons IsPlain 45 (decimal (suc n)) (λ e. omega arith) (digits_plain (decimal (suc n)) (decimal_is_IsNumeral (suc n) (omega arith)).0.1)
+    All-cons IsPlain 45 (decimal (suc n)) (λ e. omega arith)
+    (digits_plain (decimal (suc n)) (decimal_is_IsNumeral (suc n) (omega arith)).0.1)
 
 two : (b : ℕ) → b < 59 ⊎ 59 < b → All IsPlain (78 ∷ b ∷ [])
-two b h = All-cons IsPlain 78 (b ∷ []) (λ e. omega arith) (All-cons IsPlain b [] (λ e. elim h [ inl k ↦ omega arith | inr k ↦ omega arith ]) (All-nil IsPlain))
+two b h = All-cons IsPlain 78 (b ∷ []) (λ e. omega arith) (All-cons IsPlain b []
+    (λ e. elim h [ inl k ↦ omega arith | inr k ↦ omega arith ]) (All-nil IsPlain))
 
 spaced : (text : List ℕ) → All IsPlain text → All IsPlain (space ++ text)
 spaced text h = All-cons IsPlain 32 text (λ e. omega arith) h
@@ -119,13 +124,18 @@ spaced text h = All-cons IsPlain 32 text (λ e. omega arith) h
 layer_plain : (l : Layer) → (l ≡ NM) ⊎ (l ≡ NP) ⊎ (l ≡ ND) → All IsPlain (layer_name l)
 layer_plain l h = elim h [
   | inl e ↦ subst (λ m. All IsPlain (layer_name m)) (sym e) (two 77 (inr (lit< tt)))
-  | inr k ↦ elim k [ inl e ↦ subst (λ m. All IsPlain (layer_name m)) (sym e) (two 80 (inr (lit< tt))) | inr e ↦ subst (λ m. All IsPlain (layer_name m)) (sym e) (two 68 (inr (lit< tt))) ]
+  | inr k ↦ elim k [
+    | inl e ↦ subst (λ m. All IsPlain (layer_name m)) (sym e) (two 80 (inr (lit< tt)))
+    | inr e ↦ subst
+        (λ m. All IsPlain (layer_name m)) (sym e) (two 68 (inr (lit< tt)))
+  ]
 ]
 
 module _ (l : ChipLabel) (plain : IsPlainLabel l) where
   pub words_are_label : (o : ℕ) → IsLabelText (flat_at o l) (label_words l)
   words_are_label o =
-      let text = label_text o l.name l.x l.y l.layer (signed_decimal (int_div l.x (pos 2))) (signed_decimal (int_div l.y (pos 2)))
+      let text = label_text o l.name l.x l.y l.layer (signed_decimal (int_div l.x (pos 2)))
+      (signed_decimal (int_div l.y (pos 2)))
       plain.named (All-weaker (λ b. (b ≢ 59) × ¬ IsSpace b) (λ b. ¬ IsSpace b) (λ b h. h.1) l.name plain.plain)
       (coordinate l.x l.even_x plain.x) (coordinate l.y l.even_y plain.y) plain.layer in
       rw append-nil at text
@@ -139,11 +149,16 @@ module _ (l : ChipLabel) (plain : IsPlainLabel l) where
       let end : List ℕ = space ++ layer_name l.layer in
       let after : List ℕ = space ++ (ty ++ end) in
       let last : All IsPlain end = spaced (layer_name l.layer) (layer_plain l.layer plain.layer) in
-      let y : All IsPlain after = spaced (ty ++ end) (All-append IsPlain ty end (number_plain (int_div l.y (pos 2)) hy) last) in
-      let x : All IsPlain (space ++ (tx ++ after)) = spaced (tx ++ after) (All-append IsPlain tx after (number_plain (int_div l.x (pos 2)) hx) y) in
-      let own : All IsPlain l.name = All-weaker (λ b. (b ≢ 59) × ¬ IsSpace b) IsPlain (λ b h. h.0) l.name plain.plain in
-      let name : All IsPlain (l.name ++ (space ++ (tx ++ after))) = All-append IsPlain l.name (space ++ (tx ++ after)) own x in
-      All-cons IsPlain 52 (space ++ (l.name ++ (space ++ (tx ++ after)))) (λ e. omega arith) (spaced (l.name ++ (space ++ (tx ++ after))) name)
+      let y : All IsPlain after = spaced (ty ++ end) (All-append IsPlain ty end
+      (number_plain (int_div l.y (pos 2)) hy) last) in
+      let x : All IsPlain (space ++ (tx ++ after)) = spaced (tx ++ after)
+      (All-append IsPlain tx after (number_plain (int_div l.x (pos 2)) hx) y) in
+      let own : All IsPlain l.name = All-weaker (λ b. (b ≢ 59) × ¬ IsSpace b) IsPlain
+      (λ b h. h.0) l.name plain.plain in
+      let name : All IsPlain (l.name ++ (space ++ (tx ++ after))) = All-append IsPlain l.name
+      (space ++ (tx ++ after)) own x in
+      All-cons IsPlain 52 (space ++ (l.name ++ (space ++ (tx ++ after)))) (λ e. omega arith)
+      (spaced (l.name ++ (space ++ (tx ++ after))) name)
 
   pub label_fits : Fits (label_of l)
   label_fits = record {

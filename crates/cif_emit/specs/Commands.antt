@@ -1,5 +1,6 @@
 -- The commands of a chip: a symbol with its boxes, a call of it, and the labels.
-use Rattle.std.specs.Prelude.{ℕ, ◌&&◌, ◌==◌, Bool, List, [], ◌∷◌, ◌++◌, map, filter, codes, ℤ, pos, ◌+ℤ◌, ◌-ℤ◌, int_lt, int_div}
+use Rattle.std.specs.Prelude.{ℕ, ◌&&◌, ◌==◌, Bool, List, [], ◌∷◌, ◌++◌, map, filter, codes, ℤ, pos, ◌+ℤ◌, ◌-ℤ◌}
+use Rattle.std.specs.Prelude.{int_lt, int_div}
 use Rattle.std.specs.List.{flat_map}
 use Rattle.std.specs.Fmt.{signed_decimal}
 use Rattle.lam_geom.specs.declared.layer.Layer.{Layer}

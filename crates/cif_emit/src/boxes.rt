@@ -96,7 +96,8 @@ fn are_all_elsewhere(layer: Layer, shape: &[Rect], extra: &[Rect]) -> bool
 
 fn add_boxes(cif: &mut Cif, layer: Layer, rects: &[Rect]) -> Result<(), NoMemory>
     requires { All IsOnGrid rects.now }
-    ensures { OnOk result (commands_of cif.new ≡ commands_of cif.old ++ map box_command (drawn_on layer rects.now)) }
+    ensures { OnOk result (commands_of cif.new ≡
+        commands_of cif.old ++ map box_command (drawn_on layer rects.now)) }
 {
     for r in rects {
         if is_on(layer, r) {
@@ -122,7 +123,8 @@ fn add_layer(
     extra: &[Rect],
 ) -> Result<(), NoMemory>
     requires { All IsOnGrid (shape.now ++ extra.now) }
-    ensures { OnOk result (commands_of cif.new ≡ commands_of cif.old ++ layer_commands layer (drawn_on layer (shape.now ++ extra.now))) }
+    ensures { OnOk result (commands_of cif.new ≡
+        commands_of cif.old ++ layer_commands layer (drawn_on layer (shape.now ++ extra.now))) }
 {
     if are_all_elsewhere(layer, shape, extra) {
         return Ok(());
@@ -142,8 +144,8 @@ fn add_layers(alloc: Global, cif: &mut Cif, shape: &[Rect], extra: &[Rect]) -> R
     Ok(())
 }
 
-/// Adds the definition of a symbol of that number, whose unit is half a lambda, with the boxes of the rectangles, layer
-/// by layer.
+/// Adds the definition of a symbol of that number, whose unit is half a lambda, with the boxes of the rectangles,
+/// layer by layer.
 pub(crate) fn add_symbol(
     alloc: Global,
     cif: &mut Cif,
@@ -153,7 +155,8 @@ pub(crate) fn add_symbol(
 ) -> Result<(), NoMemory>
     requires corners { All IsOnGrid (shape.now ++ extra.now) }
     requires number { number < 2 ^ 31 }
-    ensures { OnOk result (commands_of cif.new ≡ commands_of cif.old ++ symbol_of (pos number) (box_commands (shape.now ++ extra.now))) }
+    ensures { OnOk result (commands_of cif.new ≡
+        commands_of cif.old ++ symbol_of (pos number) (box_commands (shape.now ++ extra.now))) }
 {
     let start = Command::Start {
         number: i64::from(number),

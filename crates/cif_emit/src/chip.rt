@@ -28,12 +28,13 @@ fn add_call(alloc: Global, cif: &mut Cif) -> Result<(), NoMemory>
 }
 
 /// The commands of a chip: a symbol with a box for each rectangle that covers something, layer by layer, a call of it,
-/// and a label for each of the chip's. They draw the squares of the chip, in no more shapes than it has rectangles, and
-/// its labels. No rule is broken in reading them, and none in drawing them but F7, where they are too many: a walk counts
-/// at most the chip's rectangles and labels and 65,536 more.
+/// and the chip's labels. They draw the squares of the chip, in no more shapes than it has rectangles, and its labels.
+/// No rule is broken in reading them, and none in drawing them but perhaps F7: a walk counts at most the chip's
+/// rectangles, its labels and 65,536 more.
 ///
-/// All corners are whole lambda of 500 half-units, and these and the labels are below 2^31 half-units in size. A label is
-/// on a layer that conducts, and its name has a byte and neither `;` nor a space, tab, line feed or carriage return.
+/// All corners are on whole lambda of 500 half-units, and they and the labels are below 2^31 half-units in size. The
+/// layer of a label conducts (NM, NP or ND), and its name has at least one byte and neither `;` nor a space, tab, line
+/// feed or carriage return.
 ///
 /// # Errors
 ///

@@ -11,7 +11,8 @@ use cif_form::laws;
 
 /// The commands of a chip draw it.
 pub(crate) fn commands_draw_the_chip()
-    ensures { (rects : List Rect) (labels : List ChipLabel) → IsEmittable rects labels → IsEmitted rects labels (chip_commands rects labels) }
+    ensures { (rects : List Rect) (labels : List ChipLabel) → IsEmittable rects labels
+        → IsEmitted rects labels (chip_commands rects labels) }
 {
     laws::expansion_is_unique();
     laws::walk_is_unique();

@@ -9,4 +9,5 @@ pub add-requires : goal.add-requires
 add-requires c =
     let r : Rect = get_or c.args.rects.now c.loop-r.r-index no_rect in
     let grid = c.requires c.loop-r.r-index no_rect c.loop-r-test.true in
-    subst Fits (sym c.box_of.ensures) (box_fits r grid (solid_on c.args.layer r (sym c.is_on.ensures ∙ c.if-is_on.true)))
+    subst Fits (sym c.box_of.ensures) (box_fits r grid (solid_on c.args.layer r
+    (sym c.is_on.ensures ∙ c.if-is_on.true)))

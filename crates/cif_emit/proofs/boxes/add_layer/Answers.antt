@@ -18,7 +18,8 @@ returns c =
     let some = λ (none : drawn_on c.args.layer (c.args.shape.now ++ c.args.extra.now) ≡ []).
     false≢true (sym c.if-are_all_elsewhere.false ∙ c.are_all_elsewhere.ensures.1 none) in
     on_ok_weaker c.add_boxes-2.result
-    (λ last. layer_added c.args.layer c.args.shape.now c.args.extra.now (commands_of c.args.cif.now) (commands_of c.add_layer_name.new.cif)
+    (λ last. layer_added c.args.layer c.args.shape.now c.args.extra.now (commands_of c.args.cif.now)
+    (commands_of c.add_layer_name.new.cif)
     (commands_of c.add_boxes.new.cif) (commands_of c.add_boxes-2.new.cif) some
     c.in_ok-add_layer_name.ensures c.in_ok-add_boxes.ensures last)
     c.add_boxes-2.ensures

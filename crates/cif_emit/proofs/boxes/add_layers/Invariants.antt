@@ -6,4 +6,5 @@ use Rattle.cif_emit.proofs.boxes.add_layers.Given as goal
 
 abbrev pub invariant-loop-layer : goal.invariant-loop-layer
 invariant-loop-layer l = commands_of l.cif
-    ≡ commands_of l.fn.cif ++ flat_map (λ k. layer_commands k (drawn_on k (l.shape ++ l.extra))) (take l.layer-index l.layer-items)
+    ≡ commands_of l.fn.cif ++ flat_map (λ k. layer_commands k (drawn_on k (l.shape ++ l.extra)))
+    (take l.layer-index l.layer-items)
