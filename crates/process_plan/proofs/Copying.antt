@@ -17,11 +17,11 @@ use Rattle.rtl_form.specs.declared.rtl.Rtl.{Rtl}
 use Rattle.rtl_form.specs.declared.rtl.RtlExpr.{RtlExpr}
 use Rattle.rtl_form.specs.declared.rtl.RtlExpr.TheVariants.{Truth, Cell, Apply}
 use Rattle.rtl_form.specs.Values.{expr_value, value_of}
+use Rattle.process_plan.specs.Lawful.{Known}
 use Rattle.process_plan.specs.Roles.{Role, Value, role_value, cell_values}
 use Rattle.process_plan.specs.Enables.{Enable, copy_of, IsCopy}
 use Rattle.process_plan.specs.Plan.{FollowsPlan}
 use Rattle.process_plan.proofs.Members.{some_entry, downward}
-use Rattle.process_plan.proofs.Doing.{Known}
 
 -- what the laws of transfers say of these
 abbrev pub Valued : Rtl → Type 0

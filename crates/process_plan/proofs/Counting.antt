@@ -16,9 +16,10 @@ use Rattle.mp_program.specs.Weight.{inner, is_call, calls_in}
 use Rattle.mp_rules.specs.Entries.{IsAt}
 use Rattle.mp_rules.specs.Standing as standing
 use Rattle.mp_rules.specs.Standing.{Under}
+use Rattle.process_plan.specs.Lawful.{Known}
 use Rattle.process_plan.specs.Active.{own_effects}
 use Rattle.process_plan.proofs.Members.{nowhere, only_one}
-use Rattle.process_plan.proofs.Doing.{Known, effect_source}
+use Rattle.process_plan.proofs.Doing.{effect_source}
 use Rattle.process_plan.proofs.Moving.{runs_under}
 use Rattle.process_plan.proofs.Jumping.{is_calling}
 

@@ -24,6 +24,7 @@ use Rattle.mp_rules.specs.Entries.{IsAt}
 use Rattle.rtl_form.specs.declared.rtl.Rtl.{Rtl}
 use Rattle.rtl_form.specs.declared.rtl.Transfer.{Transfer}
 use Rattle.rtl_form.specs.Written.{written}
+use Rattle.process_plan.specs.Lawful.{Known}
 use Rattle.process_plan.specs.Roles.{Role, Value, Placed, Stacked, seat_at}
 use Rattle.process_plan.specs.Active.{own_effects, Origin, Always, At, IsRoot, IsOn}
 use Rattle.process_plan.specs.Enables.{Enable, copy_of}
@@ -31,7 +32,7 @@ use Rattle.process_plan.specs.Plan.{IsPlanned, sets, falls, lands, returns, push
 use Rattle.process_plan.proofs.Merging.{same_merge}
 use Rattle.mp_program.proofs.Definitions.{named}
 use Rattle.process_plan.proofs.Members.{there, nowhere, cases_of, in_flat, flat_in, one_entry, by_test}
-use Rattle.process_plan.proofs.Doing.{Known, effect_source, source_effect}
+use Rattle.process_plan.proofs.Doing.{effect_source, source_effect}
 use Rattle.process_plan.proofs.Copying.{copied}
 use Rattle.process_plan.proofs.Scene.{Scene, in_written, written_in, W, w_forth, w_back}
 

@@ -13,15 +13,9 @@ use Rattle.mp_program.specs.Sound.{IsSound, InnerFit, BranchesFit}
 use Rattle.mp_program.specs.Values.{kind_value, value_of}
 use Rattle.mp_program.specs.Effects.{Effect, branch_effects, kind_effects, effects_of}
 use Rattle.mp_rules.specs.Entries.{IsAt}
+use Rattle.process_plan.specs.Lawful.{Known}
 use Rattle.process_plan.specs.Active.{chosen_forms, chosen, own_effects, Runs, itself, deeper}
 use Rattle.process_plan.proofs.Members.{in_flat, flat_in, between_in, some_entry, downward}
-
--- what the laws of programs say of this one
-pub record Known (p : Program) : Type 0 where
-  pub sound : IsSound p
-  pub values : (env : List ℕ) (e : ℕ) (x : Expr) → e < length p.exprs → x ≡ slice_index_or p.exprs e x → value_of p env e ≡ kind_value p env x.kind (value_of p env)
-  pub effects : (env : List ℕ) (f : ℕ) (x : Form) → f < length p.forms → x ≡ slice_index_or p.forms f x
-      → effects_of p env f ≡ kind_effects (value_of p env) x.kind (effects_of p env)
 
 branch_split : (v : ℕ → ℕ) (bs : List Branch) (e : ℕ → List Effect) → branch_effects v bs e ≡ flat_map e (chosen_forms v bs)
 branch_split v [] e = refl

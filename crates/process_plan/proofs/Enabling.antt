@@ -20,12 +20,12 @@ use Rattle.rtl_form.specs.declared.rtl.Rtl.{Rtl}
 use Rattle.rtl_form.specs.declared.rtl.RtlExpr.{RtlExpr}
 use Rattle.rtl_form.specs.declared.rtl.RtlExpr.TheVariants.{Cell, Apply}
 use Rattle.rtl_form.specs.Values.{expr_value}
+use Rattle.process_plan.specs.Lawful.{Known}
 use Rattle.process_plan.specs.Roles.{Role, Placed, seat_at, cell_values, stored_bit}
 use Rattle.process_plan.specs.Active.{chosen_forms, chosen, Runs, itself, deeper, Origin, Always, At, IsOn, IsActive}
 use Rattle.process_plan.specs.Enables.{Enable, HasEnable, copy_of, BranchEnables, InnerEnables, StandsInside, IsPlaceExpr, IsOriginExpr}
 use Rattle.process_plan.specs.Plan.{FollowsPlan}
 use Rattle.process_plan.proofs.Members.{here, there, nowhere, cases_of, one_entry, upward, by_test}
-use Rattle.process_plan.proofs.Doing.{Known}
 use Rattle.process_plan.proofs.Copying.{Valued, V, value_is, value_true, value_cell, copied}
 
 -- the branches of a form have bits as guards

@@ -29,7 +29,7 @@ use Rattle.process_plan.proofs.Members.{some_entry, one_entry, by_test}
 
 -- ---- the entries of a filter
 
-filter_at : {X : Type 0} (t : X → Bool) (xs : List X) (d : ℕ) (x : X) → IsAt xs d x → t x ≡ true → IsAt (filter t xs) (count_by t (take d xs)) x
+pub filter_at : {X : Type 0} (t : X → Bool) (xs : List X) (d : ℕ) (x : X) → IsAt xs d x → t x ≡ true → IsAt (filter t xs) (count_by t (take d xs)) x
 filter_at t [] d x (lt, is) h = absurd (omega (arith, lt))
 filter_at {X} t (y ∷ ys) zero x (lt, is) h =
     let here : t y ≡ true = ap t (sym is) ∙ h in
@@ -82,7 +82,7 @@ one_place t (z ∷ zs) (suc d) (suc e) x y (lt, is) (lt2, is2) hx hy same =
     ap suc (one_place t zs d e x y (omega (arith, lt), is) (omega (arith, lt2), is2) hx hy (omega (arith, a, b, same)))
 
 -- the pad at a number is that of a definition
-face_at : (pads : List Pad) (defs : List Def) (w k : ℕ) (x : Def) → map face pads ≡ map (λ (y : Def). (y.name, pad_width w y.what)) defs → IsAt defs k x
+pub face_at : (pads : List Pad) (defs : List Def) (w k : ℕ) (x : Def) → map face pads ≡ map (λ (y : Def). (y.name, pad_width w y.what)) defs → IsAt defs k x
     → (pad : Pad) × IsAt pads k pad × (pad.name ≡ x.name) × (pad.width ≡ pad_width w x.what)
 face_at [] [] w k x same (lt, is) = absurd (omega (arith, lt))
 face_at [] (y ∷ ys) w k x same at = let e = ap length same in absurd (omega (arith, e))
@@ -190,14 +190,14 @@ some_stored (x ∷ xs) h = by_test (rtl.is_stored x.kind)
     let l : c < length xs = at.0 in
     (suc c, y, (omega (arith, l), at.1), is))
 
-or_left : (a b : Bool) → a ≡ true → (a || b) ≡ true
+pub or_left : (a b : Bool) → a ≡ true → (a || b) ≡ true
 or_left a b h = ap (λ x. x || b) h
 
-or_right : (a b : Bool) → b ≡ true → (a || b) ≡ true
+pub or_right : (a b : Bool) → b ≡ true → (a || b) ≡ true
 or_right true b h = refl
 or_right false b h = h
 
-any_at : (ds : List Def) (d : ℕ) (y : Def) → IsAt ds d y → is_stored y.what ≡ true → list_any (λ (z : Def). is_stored z.what) ds ≡ true
+pub any_at : (ds : List Def) (d : ℕ) (y : Def) → IsAt ds d y → is_stored y.what ≡ true → list_any (λ (z : Def). is_stored z.what) ds ≡ true
 any_at [] d y (lt, is) h = absurd (omega (arith, lt))
 any_at (z ∷ zs) zero y (lt, is) h = or_left (is_stored z.what) (list_any (λ (z : Def). is_stored z.what) zs) (ap (λ (t : Def). is_stored t.what) (sym is) ∙ h)
 any_at (z ∷ zs) (suc d) y (lt, is) h = or_right (is_stored z.what) (list_any (λ (z : Def). is_stored z.what) zs) (any_at zs d y (omega (arith, lt), is) h)
@@ -258,7 +258,7 @@ module _ (p : Program) (r : Rtl) (roles : List Role) (cells : AreCells p roles r
       (t, at_t, subst (roles_of.IsCellOf p t) (one_entry r.cells c z x at_z at) is)
 
   -- the cell of an input is that of a definition
-  input_role : (c : ℕ) (x : Cell) (k : ℕ) → IsAt r.cells c x → x.kind ≡ kinds.Input k → (d : ℕ) × (y : Def) × IsAt roles c (Value d) × IsAt p.defs d y × (is_input y.what ≡ true) × (pad_number p.defs d ≡ k)
+  pub input_role : (c : ℕ) (x : Cell) (k : ℕ) → IsAt r.cells c x → x.kind ≡ kinds.Input k → (d : ℕ) × (y : Def) × IsAt roles c (Value d) × IsAt p.defs d y × (is_input y.what ≡ true) × (pad_number p.defs d ≡ k)
   input_role c x k at kind = let (t, at_t, is) = role_at c x at in by_role t at_t is
     where
       by_role : (t : Role) → IsAt roles c t → roles_of.IsCellOf p t x

@@ -2,6 +2,7 @@ pub mod Members
 pub mod Counting
 pub mod Owing
 pub mod Paying
+pub mod Sorts
 mod Merging
 mod Doing
 mod Moving
@@ -14,8 +15,11 @@ mod Placing
 mod Stacking
 mod Simulating
 mod Tracing
-mod Both
 mod Ordering
 mod Sounding
 mod Facing
 mod Totals
+mod Fitting
+mod Keeping
+mod Resetting
+mod Sameness

@@ -51,11 +51,6 @@ some_move (Goes l ∷ es) h = (Goes l, here (Goes l) es, tt)
 some_move (Calls l ∷ es) h = (Calls l, here (Calls l) es, tt)
 some_move (Returns ∷ es) h = (Returns, here Returns es, tt)
 
--- a top-level form of a process has at most one move, by the rules
-abbrev pub MovesOnce : Program → Type 0
-MovesOnce p = (env : List ℕ) (k : ℕ) (q : Process) (f : ℕ) → IsAt p.processes k q → Contains q.forms f
-    → rules.moves (effects_of p env f) ≤ 1
-
 -- ---- what runs stands under
 
 of_branches : (v : ℕ → ℕ) (bs : List Branch) (f : ℕ) → Contains (chosen_forms v bs) f → Contains (flat_map (λ (b : Branch). b.body) bs) f

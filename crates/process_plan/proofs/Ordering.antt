@@ -24,23 +24,16 @@ use Rattle.rtl_form.specs.declared.rtl.RtlExpr.{RtlExpr}
 use Rattle.rtl_form.specs.declared.rtl.RtlExpr.TheVariants.{Number, Truth, Cell, Apply}
 use Rattle.rtl_form.specs.declared.rtl.Transfer.{Transfer}
 use Rattle.rtl_form.specs.Sound.{ReadsCell, itself, inside}
+use Rattle.process_plan.specs.Lawful.{Known, KnownNames}
 use Rattle.process_plan.specs.Roles.{Role, Value, Placed, Stacked}
 use Rattle.process_plan.specs.Active.{Origin, Always, At, IsRoot}
 use Rattle.process_plan.specs.Enables.{Enable, HasEnable, copy_of, IsCopy, BranchEnables, InnerEnables, StandsInside, IsOriginExpr}
 use Rattle.process_plan.specs.Plan.{FollowsPlan, IsPlanned}
 use Rattle.process_plan.specs.Plan as plans
 use Rattle.process_plan.proofs.Members.{here, there, nowhere, cases_of, some_entry, one_entry, downward, upward}
-use Rattle.process_plan.proofs.Doing.{Known}
 use Rattle.process_plan.proofs.Enabling.{one_enable}
 use Rattle.mp_program.proofs.Definitions.{named}
 use Rattle.process_plan.proofs.Defining.{value_role, placed_role, stacked_role}
-
--- what the laws of programs say of names in this one
-pub record KnownNames (p : Program) : Type 0 where
-  pub mentions_is : (n : List ℕ) (e : ℕ) (x : Expr) → e < length p.exprs → x ≡ slice_index_or p.exprs e x → mentions p n e ≡ kind_mentions n x.kind (mentions p n)
-  pub sets_is : (n : List ℕ) (f : ℕ) (y : Form) → f < length p.forms → y ≡ slice_index_or p.forms f y → sets p n f ≡ kind_sets n y.kind (sets p n)
-  pub reads_is : (x n : List ℕ) (f : ℕ) (y : Form) → f < length p.forms → y ≡ slice_index_or p.forms f y
-      → form_reads p x n f ≡ kind_reads (mentions p n) (sets p x) x y.kind (form_reads p x n)
 
 -- ---- expressions and the cells that they read
 

@@ -20,13 +20,12 @@ use Rattle.rtl_form.specs.declared.rtl.RtlExpr.TheVariants.{Cell, Apply}
 use Rattle.rtl_form.specs.declared.rtl.Transfer.{Transfer}
 use Rattle.rtl_form.specs.Values.{expr_value, value_of}
 use Rattle.rtl_form.specs.Written.{writes, written}
+use Rattle.process_plan.specs.Lawful.{Known, MovesOnce}
 use Rattle.process_plan.specs.Roles.{Role, seat_at, role_value, cell_values, IsReturnPlace}
 use Rattle.process_plan.specs.Active.{Origin, IsOn, IsActive}
 use Rattle.process_plan.specs.Enables.{Enable, HasEnable, copy_of, BranchEnables, InnerEnables, StandsInside, IsPlaceExpr, IsOriginExpr}
 use Rattle.process_plan.specs.Plan.{FollowsPlan}
 use Rattle.process_plan.proofs.Members.{here, there, nowhere, cases_of, upward, by_test}
-use Rattle.process_plan.proofs.Doing.{Known}
-use Rattle.process_plan.proofs.Moving.{MovesOnce}
 use Rattle.process_plan.proofs.Copying.{Valued, value_true, value_false, value_cell}
 use Rattle.process_plan.proofs.Enabling.{GuardsAreBits, Tells, one_enable, active_forth, active_back, place_tells, origin_tells}
 

@@ -1,6 +1,6 @@
 -- The order of the program's definitions is one of their cells.
-use Rattle.std.proofs.Common.{◌≡◌, ◌∙◌, ℕ, ◌<◌, List, true, Option, Some, None, sym, ap, subst, arith, length}
-use Rattle.std.specs.Prelude.{slice_index}
+use Rattle.std.proofs.Common.{◌≡◌, ◌∙◌, ℕ, ◌<◌, List, [], true, Option, Some, None, sym, ap, subst, arith, length}
+use Rattle.std.specs.Prelude.{Contains, slice_index}
 use Rattle.std.proofs.lemmas.List.{get_or_default}
 use Rattle.mp_program.specs.declared.program.What.{What}
 use Rattle.mp_program.specs.declared.program.What.TheVariants.{Power, Ground, Phia, Phib, Phic, Constant, Register, Flag, Port, Signal}
@@ -13,14 +13,14 @@ use Rattle.mp_rules.specs.Entries.{IsAt}
 use Rattle.rtl_form.specs.declared.rtl.Cell.{Cell}
 use Rattle.rtl_form.specs.declared.rtl.Rtl.{Rtl}
 use Rattle.rtl_form.specs.Environment as rtl
-use Rattle.rtl_form.specs.Sound.{IsOrder}
-use Rattle.process_plan.specs.Roles.{Role, Value, Placed, Stacked, def_cell, IsCellOf}
+use Rattle.rtl_form.specs.Sound.{IsOrder, Reads}
+use Rattle.process_plan.specs.Lawful.{Known, KnownNames}
+use Rattle.process_plan.specs.Roles.{Role, Value, Placed, Stacked, def_cell, IsCellOf, AreCells}
 use Rattle.process_plan.specs.Enables.{Enable}
 use Rattle.process_plan.specs.Plan.{FollowsPlan, FollowsOrder}
-use Rattle.process_plan.proofs.Members.{some_entry, one_entry}
-use Rattle.process_plan.proofs.Doing.{Known}
+use Rattle.process_plan.proofs.Members.{nowhere, some_entry, one_entry}
 use Rattle.process_plan.proofs.Defining.{value_role}
-use Rattle.process_plan.proofs.Ordering.{KnownNames, transfer_reads}
+use Rattle.process_plan.proofs.Ordering.{transfer_reads}
 
 some_is : {X : Type 0} (x y : X) → Some x ≡ Some y → x ≡ y
 some_is {X} x y h = ap (λ (o : Option X). elim o as (λ _. X) [ None ↦ x | Some z ↦ z ]) h
@@ -47,15 +47,20 @@ read_at xs k x (lt, is) = get_or_default xs k 0 x lt ∙ sym is
 entry : (xs : List ℕ) (k : ℕ) → k < length xs → IsAt xs k (slice_index xs k)
 entry xs k lt = (lt, get_or_default xs k 0 (slice_index xs k) lt)
 
-module _ (p : Program) (r : Rtl) (roles : List Role) (enables : List (Option Enable)) (known : Known p) (names : KnownNames p) (plan : FollowsPlan p r roles enables)
-    (order : List ℕ) (ordered : source.IsOrder p order) (follows : FollowsOrder r roles order) where
+-- the transfers of a driven definition read the cell of another only where the program reads that
+abbrev pub ReadAlike : Program → Rtl → List Role → Type 0
+ReadAlike p r roles = (a b c d : ℕ) (x y : Def) → IsAt p.defs a x → is_driven x.what ≡ true → IsAt roles c (Value a)
+    → IsAt p.defs b y → is_driven y.what ≡ true → IsAt roles d (Value b) → Reads r c d → source.Reads p a b
+
+module _ {p : Program} {r : Rtl} {roles : List Role} {order : List ℕ} (cells : AreCells p roles r.cells)
+    (ordered : source.IsOrder p order) (follows : FollowsOrder r roles order) (alike : ReadAlike p r roles) where
   -- a driven cell is that of a definition
   driven_role : (c : ℕ) (x : Cell) → IsAt r.cells c x → rtl.is_driven x.kind ≡ true → (d : ℕ) × (y : Def) × IsAt roles c (Value d) × IsAt p.defs d y × (is_driven y.what ≡ true)
   driven_role c x at h =
-      let size = (plan.cells).size in
+      let size = cells.size in
       let lt : c < length r.cells = at.0 in
       let (t, at_t) = some_entry roles c (subst (λ n. c < n) size lt) in
-      let (z, at_z, is) = (plan.cells).each c t at_t in
+      let (z, at_z, is) = cells.each c t at_t in
       by_role t at_t (subst (IsCellOf p t) (one_entry r.cells c z x at_z at) is)
     where
       by_role : (t : Role) → IsAt roles c t → IsCellOf p t x → (d : ℕ) × (y : Def) × IsAt roles c (Value d) × IsAt p.defs d y × (is_driven y.what ≡ true)
@@ -76,7 +81,7 @@ module _ (p : Program) (r : Rtl) (roles : List Role) (enables : List (Option Ena
   order_kept = record {
     driven = λ k lt.
         let (y, inside_d, is, h) = ordered.driven k (at_order k lt) in
-        let (x, at_x, (z, at_z, is_cell)) = (plan.cells).each (slice_index r.order k) (Value (slice_index order k)) (follow k (at_order k lt)).0 in
+        let (x, at_x, (z, at_z, is_cell)) = cells.each (slice_index r.order k) (Value (slice_index order k)) (follow k (at_order k lt)).0 in
         let same : z ≡ y = one_entry p.defs (slice_index order k) z y at_z (inside_d, is) in
         (x, at_x, cell_driven p.defs (slice_index order k) z.what x is_cell ∙ ap (λ (t : Def). is_driven t.what) same ∙ h);
     once = λ j k jk lt e.
@@ -88,14 +93,26 @@ module _ (p : Program) (r : Rtl) (roles : List Role) (enables : List (Option Ena
         let (d, y, role, at_y, drv) = driven_role c x at h in
         let (k, lt, is) = ordered.all d y at_y.0 at_y.1 drv in
         let (at_c2, lt_r) = follow k lt in
-        (k, lt_r, (plan.cells).once (slice_index r.order k) c (Value d) (subst (λ n. IsAt roles (slice_index r.order k) (Value n)) is at_c2) role);
-    after = λ k c lt (t, z, ct, target, at, h, touches).
+        (k, lt_r, cells.once (slice_index r.order k) c (Value d) (subst (λ n. IsAt roles (slice_index r.order k) (Value n)) is at_c2) role);
+    after = λ k c lt read.
+        let (t, z, ct, target, at, h, touches) = read in
         let lt_k = at_order k lt in
         let (b, y, role, at_y, drv) = driven_role c z at h in
         let (x, inside_d, is, drv_x) = ordered.driven k lt_k in
-        let reads = transfer_reads p r roles enables known names plan b c y at_y role (slice_index order k) (slice_index r.order k) x (inside_d, is) drv_x drv (follow k lt_k).0
-        t ((plan.transfers).only t ct) target touches in
+        let reads = alike (slice_index order k) b (slice_index r.order k) c x y (inside_d, is) drv_x (follow k lt_k).0 at_y drv role read in
         let (j, jk, is_b) = ordered.after k b lt_k reads in
         let (at_c2, lt_r) = follow j (omega (arith, jk, lt_k)) in
-        (j, jk, (plan.cells).once (slice_index r.order j) c (Value b) (subst (λ n. IsAt roles (slice_index r.order j) (Value n)) is_b at_c2) role);
+        (j, jk, cells.once (slice_index r.order j) c (Value b) (subst (λ n. IsAt roles (slice_index r.order j) (Value n)) is_b at_c2) role);
   }
+
+-- transfers that follow a plan do so
+pub planned_alike : {p : Program} {r : Rtl} {roles : List Role} {enables : List (Option Enable)} → Known p → KnownNames p
+    → FollowsPlan p r roles enables → ReadAlike p r roles
+planned_alike {p} {r} {roles} {enables} known names plan a b c d x y at_a drives role at_b driven role_b (t, z, ct, target, at, h, touches) =
+    transfer_reads p r roles enables known names plan b d y at_b role_b a c x at_a drives driven role
+    t ((plan.transfers).only t ct) target touches
+
+-- and where nothing is transferred
+pub idle_alike : (p : Program) (r : Rtl) (roles : List Role) → r.transfers ≡ [] → ReadAlike p r roles
+idle_alike p r roles none a b c d x y at_a drives role at_b driven role_b (t, z, ct, target, at, h, touches) =
+    absurd (nowhere t (subst (λ ts. Contains ts t) none ct))

@@ -10,7 +10,7 @@ use Rattle.mp_program.specs.declared.program.Program.{Program}
 use Rattle.mp_program.specs.Weight.{calls_in, def_weight, expr_weight, process_weight, sets_of, weight}
 use Rattle.rtl_form.specs.declared.rtl.Rtl.{Rtl}
 use Rattle.rtl_form.specs.Cost.{cost}
-use Rattle.process_plan.specs.Bill.{def_bill, set_bill, copy_bill, defs_bill, Tally, cells_bill, exprs_bill, transfers_bill, process_bill, moves_bill, AreTallies, IsUsed, IsBilled}
+use Rattle.process_plan.specs.Bill.{cells_cost, exprs_cost, transfers_cost, def_bill, set_bill, copy_bill, defs_bill, Tally, cells_bill, exprs_bill, transfers_bill, process_bill, moves_bill, AreTallies, IsUsed, IsBilled}
 use Rattle.process_plan.proofs.Paying.{copy_pays, def_pays, def_pays_more, process_pays, sets_counted}
 
 processes_pay : (p : Program) (qs : List Process) (ts : List Tally) → AreTallies p qs ts
@@ -100,3 +100,12 @@ total_pays p r ts guards b =
       | inl some ↦ let defs = defs_pay p p.defs in omega (arith, all, copies, sets, parts, cells, exprs, transfers, forms, some, defs)
       | inr (d, c, used) ↦ let defs = defs_pay_more p p.defs d c used in omega (arith, all, copies, sets, parts, cells, exprs, transfers, forms, defs)
     ]
+
+-- cells alone cost no more than the weight of definitions
+pub cells_pay : (p : Program) (r : Rtl) → r.exprs ≡ [] → r.transfers ≡ [] → cells_cost r.cells ≤ defs_bill p.defs
+    → cost r ≤ weight p
+cells_pay p r no_exprs no_transfers low =
+    let defs = defs_pay p p.defs in
+    let exprs : exprs_cost r.exprs ≡ 0 = ap exprs_cost no_exprs in
+    let transfers : transfers_cost r.cells r.transfers ≡ 0 = ap (transfers_cost r.cells) no_transfers in
+    omega (arith, defs, exprs, transfers, low)

@@ -31,12 +31,11 @@ use Rattle.rtl_form.specs.declared.rtl.Cell.{Cell}
 use Rattle.rtl_form.specs.declared.rtl.Rtl.{Rtl}
 use Rattle.rtl_form.specs.Step as rtl_step
 use Rattle.rtl_form.specs.Trace as rtl
+use Rattle.process_plan.specs.Lawful.{Known, MovesOnce}
 use Rattle.process_plan.specs.Roles.{Role, Value, Placed, Stacked, AreCells, cell_values, output_number, def_cell, IsCellOf}
 use Rattle.process_plan.specs.Enables.{Enable}
 use Rattle.process_plan.specs.Plan.{FollowsPlan, IsResetCell}
 use Rattle.process_plan.proofs.Members.{here, there}
-use Rattle.process_plan.proofs.Doing.{Known}
-use Rattle.process_plan.proofs.Moving.{MovesOnce}
 use Rattle.process_plan.proofs.Copying.{Valued, cell_at}
 use Rattle.process_plan.proofs.Enabling.{GuardsAreBits}
 use Rattle.process_plan.proofs.Scene.{Scene, StacksFit}
@@ -105,6 +104,19 @@ pub record IsFaced (p : Program) (r : Rtl) : Type 0 where
   pub padded : ArePadsOf p r.pads
   pub reset : IsResetCell p r.cells r.reset
 
+-- a clock resets both or neither
+module _ (p : Program) (r : Rtl) (reset : IsResetCell p r.cells r.reset) (inputs : List ℕ) where
+  reset_as : (o : Option ℕ) → MatchOption o (r.reset ≡ None) (λ d. (c : ℕ) × (x : Cell) × (r.reset ≡ Some c) × IsAt r.cells c x × (x.kind ≡ kinds.Input (pad_number p.defs d)))
+      → rtl_step.resets r inputs ≡ option_map_or (λ d. slice_index inputs (pad_number p.defs d) == 1) o false
+  reset_as None none = ap (λ (o : Option ℕ). option_map_or (λ (x : Cell). slice_index inputs (rtl_step.input_number x.kind) == 1) (option_and_then (slice_get r.cells) o) false) none
+  reset_as (Some d) (c, x, is, at, kind) =
+      ap (λ (o : Option ℕ). option_map_or (λ (x : Cell). slice_index inputs (rtl_step.input_number x.kind) == 1) (option_and_then (slice_get r.cells) o) false) is
+      ∙ ap (λ o. option_map_or (λ (x : Cell). slice_index inputs (rtl_step.input_number x.kind) == 1) o false) (got r.cells c x at)
+      ∙ ap (λ z. slice_index inputs (rtl_step.input_number z) == 1) kind
+
+  pub reset_same : rtl_step.resets r inputs ≡ resets p.defs inputs
+  reset_same = reset_as (position is_reset p.defs) reset
+
 module _ {p : Program} {r : Rtl} {roles : List Role} (faced : IsFaced p r) {st : State} {inputs env : List ℕ}
     (s : Agreement p r roles st inputs env) where
   shown_role : (c : ℕ) (x : Cell) (k : ℕ) (t : Role) → IsAt roles c t → IsCellOf p t x → x.kind ≡ kinds.Output k
@@ -126,21 +138,10 @@ module _ {p : Program} {r : Rtl} {roles : List Role} (faced : IsFaced p r) {st :
     each = λ c x k at kind. let (t, at_t, is) = cell_role s c x at in shown_role c x k t at_t is kind;
   }
 
-  reset_as : (o : Option ℕ) → MatchOption o (r.reset ≡ None) (λ d. (c : ℕ) × (x : Cell) × (r.reset ≡ Some c) × IsAt r.cells c x × (x.kind ≡ kinds.Input (pad_number p.defs d)))
-      → rtl_step.resets r inputs ≡ option_map_or (λ d. slice_index inputs (pad_number p.defs d) == 1) o false
-  reset_as None none = ap (λ (o : Option ℕ). option_map_or (λ (x : Cell). slice_index inputs (rtl_step.input_number x.kind) == 1) (option_and_then (slice_get r.cells) o) false) none
-  reset_as (Some d) (c, x, is, at, kind) =
-      ap (λ (o : Option ℕ). option_map_or (λ (x : Cell). slice_index inputs (rtl_step.input_number x.kind) == 1) (option_and_then (slice_get r.cells) o) false) is
-      ∙ ap (λ o. option_map_or (λ (x : Cell). slice_index inputs (rtl_step.input_number x.kind) == 1) o false) (got r.cells c x at)
-      ∙ ap (λ z. slice_index inputs (rtl_step.input_number z) == 1) kind
-
-  pub reset_same : rtl_step.resets r inputs ≡ resets p.defs inputs
-  reset_same = reset_as (position is_reset p.defs) faced.reset
-
   -- the next state of the cells is that of what they stand for
   pub state_on : rtl_step.next_state r (cell_values roles st.stored st.seats) inputs (cell_values roles env st.seats)
       ≡ cell_values roles (next_state p st inputs env).stored (next_state p st inputs env).seats
-  state_on = pick (resets p.defs inputs) (rtl_step.resets r inputs) reset_same
+  state_on = pick (resets p.defs inputs) (rtl_step.resets r inputs) (reset_same p r faced.reset inputs)
     where
       pick : (a b : Bool) → b ≡ a
           → cond b (rtl_step.zero_state r) (rtl_step.next_cells r (cell_values roles st.stored st.seats) (cell_values roles env st.seats) 0 r.cells)

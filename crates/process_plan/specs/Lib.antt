@@ -6,3 +6,4 @@ pub mod Bill
 pub mod Fits
 pub mod Same
 pub mod Built
+pub mod Lawful

@@ -7,6 +7,7 @@
 #![tactic(auto)]
 
 mod enable;
+pub mod laws;
 mod role;
 
 pub use enable::{Enable, Origin};
