@@ -49,7 +49,7 @@ range_more a (suc n) =
     let r = range_more (a + 1) n in
     let s : suc n + 3 ≡ suc (n + 3) = omega arith in
     subst (λ z. range_with_len a z ≡ range_with_len a (suc n) ++ ((a + suc n) ∷ (a + suc n + 1) ∷ (a + suc n + 2) ∷ [])) (sym s)
-      (ap (λ l. a ∷ l) (subst (λ z. range_with_len (a + 1) (n + 3) ≡ range_with_len (a + 1) n ++ (z ∷ (z + 1) ∷ (z + 2) ∷ [])) e0 r))
+    (ap (λ l. a ∷ l) (subst (λ z. range_with_len (a + 1) (n + 3) ≡ range_with_len (a + 1) n ++ (z ∷ (z + 1) ∷ (z + 2) ∷ [])) e0 r))
 
 module _ (X : Type 0) (d : Bands) (across : X → Line) (ground_at : X → ℕ) (b : ℕ) where
   abbrev pub y : Layout X
@@ -63,7 +63,7 @@ module _ (X : Type 0) (d : Bands) (across : X → Line) (ground_at : X → ℕ) 
       ∙ (map_append (λ k. segment (band_segment b (d.cols b) (d.row b) k)) (range_with_len 0 (length (d.parts b))) ((0 + length (d.parts b)) ∷ (0 + length (d.parts b) + 1) ∷ (0 + length (d.parts b) + 2) ∷ [])
       ∙ (ends
       ∙ sym (map_append (net_of X (layout X d across ground_at)) (map (λ n. row (place b n)) (range_with_len 0 (length (d.parts b)))) (beat b A ∷ beat b B ∷ beat b C ∷ [])
-        ∙ ap (λ l. l ++ map (net_of X (layout X d across ground_at)) (beat b A ∷ beat b B ∷ beat b C ∷ [])) (map_map (net_of X (layout X d across ground_at)) (λ n. row (place b n)) (range_with_len 0 (length (d.parts b))))))))
+      ∙ ap (λ l. l ++ map (net_of X (layout X d across ground_at)) (beat b A ∷ beat b B ∷ beat b C ∷ [])) (map_map (net_of X (layout X d across ground_at)) (λ n. row (place b n)) (range_with_len 0 (length (d.parts b))))))))
     where
       s : ℕ → Net
       s k = segment (band_segment b (d.cols b) (d.row b) k)
@@ -88,7 +88,7 @@ module _ (X : Type 0) (d : Bands) (across : X → Line) (ground_at : X → ℕ) 
   columns_named =
       map_flat line (λ n. column_lines b (home (d.columns b) n) ((d.columns b).stub n) (slice_get (d.parts b) n)) (λ n. map line (column_lines b (home (d.columns b) n) ((d.columns b).stub n) (slice_get (d.parts b) n))) (λ n. refl) (range_with_len 0 (length (d.parts b)))
       ∙ sym (map_flat (net_of X y) (λ n. net_columns X b n ((d.columns b).stub n) (slice_get (d.parts b) n)) (λ n. map line (column_lines b (home (d.columns b) n) ((d.columns b).stub n) (slice_get (d.parts b) n)))
-        (λ n. sym (part_columns n ((d.columns b).stub n) (slice_get (d.parts b) n))) (range_with_len 0 (length (d.parts b))))
+      (λ n. sym (part_columns n ((d.columns b).stub n) (slice_get (d.parts b) n))) (range_with_len 0 (length (d.parts b))))
 
   part_ties : (n : ℕ) (t : Bool) (q : Option Part) → column_marks b (d.rows b) (d.row b) (length (d.parts b)) (home (d.columns b) n) t n q ≡ map (mark_of X y) (net_ties X b n t q)
   part_ties n t None = refl
@@ -96,7 +96,7 @@ module _ (X : Type 0) (d : Bands) (across : X → Line) (ground_at : X → ℕ) 
   part_ties n false (Some Input) = refl
   part_ties n t (Some (Gate ins)) =
       ap (λ l. mark TapL b (suc (d.row b n)) (home (d.columns b) n) ∷ mark TapR b 0 (home (d.columns b) n) ∷ mark PullUp b (d.rows b) (home (d.columns b) n) ∷ l)
-        (sym (map_map (mark_of X (layout X d across ground_at)) (λ i. tran (row (place b i)) (left (place b n)) (right (place b n))) (inputs_of ins)))
+      (sym (map_map (mark_of X (layout X d across ground_at)) (λ i. tran (row (place b i)) (left (place b n)) (right (place b n))) (inputs_of ins)))
   part_ties n t (Some (Latch ph None)) = refl
   part_ties n t (Some (Latch ph (Some s))) = refl
 
@@ -135,7 +135,10 @@ module _ (X : Type 0) (d : Bands) (across : X → Line) (ground_at : X → ℕ) 
           (crosses i.0 (home (d.columns b) n) (in_cols i.0 (home (d.columns b) n) (ins_in n ins i h c) (input_mark (d.columns b) (d.parts b) n ins i h c)), stands L n, stands R n)
       go t (latch_own n ph s h) = (stands L n, inr (crosses n (home (d.columns b) n) (own n (Latch ph (Some s)) h (latches n ph s h))))
       go t (latch_data n ph s h) = (stands R n, inr (crosses s.0 (home (d.columns b) n) (in_cols s.0 (home (d.columns b) n) (data_in n ph s h) (data_mark (d.columns b) (d.parts b) n ph s h))))
-      go t (latch_phase n ph s h) =
-          (crosses (length (d.parts b) + phase_number ph) (home (d.columns b) n)
-            (subst (λ z. Member z (home (d.columns b) n)) (sym (tracks.phases ph)) (phase_mark (d.columns b) (d.parts b) n ph s h)), stands L n, stands R n)
+      go t (latch_phase n ph s h) = (
+        crosses (length (d.parts b) + phase_number ph) (home (d.columns b) n)
+            (subst (λ z. Member z (home (d.columns b) n)) (sym (tracks.phases ph)) (phase_mark (d.columns b) (d.parts b) n ph s h)),
+        stands L n,
+        stands R n,
+      )
       go t (stub_own n h e) = (stands L n, inr (crosses n (home (d.columns b) n) (own n Input h (stubs n e))))

@@ -61,8 +61,9 @@ inputs_at (Some q) = fan_in q
 filter_few : {A : Type 0} (test : A → Bool) (xs : List A) → length (filter test xs) ≤ length xs
 filter_few test [] = omega arith
 filter_few test (x ∷ xs) = let i = filter_few test xs in elim (cases_Bool (test x)) [
-    inl e ↦ subst (λ t. length (cond t (x ∷ filter test xs) (filter test xs)) ≤ length (x ∷ xs)) (sym e) (omega arith)
-  | inr e ↦ subst (λ t. length (cond t (x ∷ filter test xs) (filter test xs)) ≤ length (x ∷ xs)) (sym e) (omega arith) ]
+  | inl e ↦ subst (λ t. length (cond t (x ∷ filter test xs) (filter test xs)) ≤ length (x ∷ xs)) (sym e) (omega arith)
+  | inr e ↦ subst (λ t. length (cond t (x ∷ filter test xs) (filter test xs)) ≤ length (x ∷ xs)) (sym e) (omega arith)
+]
 
 pub distinct_few : (xs : List ℕ) → length (distinct xs) ≤ length xs
 distinct_few [] = omega arith
@@ -125,7 +126,7 @@ lines_few b y parts =
 pub marks_few : (b top : ℕ) (row : ℕ → ℕ) (y : Columns) (parts : List Part) → sum_by mark_size (band_marks b top row y parts) ≤ 12 * length parts + 4 * sum_by fan_in parts
 marks_few b top row y parts =
     let w = sum_flat mark_size (λ n. column_marks b top row (length parts) (home y n) (y.stub n) n (slice_get parts n)) (λ i. 12 + 4 * inputs_at (slice_get parts i)) 0 (length parts)
-      (λ i. part_marks_few b top row (length parts) (home y i) i (y.stub i) (slice_get parts i)) in
+    (λ i. part_marks_few b top row (length parts) (home y i) i (y.stub i) (slice_get parts i)) in
     let s = sum_parts (λ q. 12 + 4 * inputs_at q) parts in
     let t = weight_parts parts in omega arith
 
@@ -170,9 +171,9 @@ pub marks_count : (b top : ℕ) (row : ℕ → ℕ) (y : Columns) (parts : List 
     → length (band_marks b top row y parts) ≤ 3 * length parts + gate_inputs parts
 marks_count b top row y parts =
     let w = sum_flat one
-      (λ n. column_marks b top row (length parts) (home y n) (y.stub n) n (slice_get parts n))
-      (λ i. 3 + inputs_at (slice_get parts i)) 0 (length parts)
-      (λ i. part_marks_count b top row (length parts) (home y i) i (y.stub i) (slice_get parts i)) in
+    (λ n. column_marks b top row (length parts) (home y n) (y.stub n) n (slice_get parts n))
+    (λ i. 3 + inputs_at (slice_get parts i)) 0 (length parts)
+    (λ i. part_marks_count b top row (length parts) (home y i) i (y.stub i) (slice_get parts i)) in
     let s = sum_parts (λ q. 3 + inputs_at q) parts in
     let t = three_each parts in
     let o = ones (band_marks b top row y parts) in
@@ -186,14 +187,15 @@ net_fits f b y parts cols row r h = record {
   bands_fit = r.bands_fit;
   rows_fit = r.rows_fit;
   segments_fit =
-    let a = length-append f.segments (band_segments b cols row parts) in
-    let c = segments_count b cols row parts in
-    let s = h.segments in omega arith;
+      let a = length-append f.segments (band_segments b cols row parts) in
+      let c = segments_count b cols row parts in
+      let s = h.segments in omega arith;
   lines_fit =
-    let a = length-append f.lines (band_lines b y parts) in
-    let c = lines_count b y parts in
-    let s = h.lines in omega arith;
+      let a = length-append f.lines (band_lines b y parts) in
+      let c = lines_count b y parts in
+      let s = h.lines in omega arith;
   marks_fit =
-    let a = length-append f.marks (band_marks b (rows_of f b) row y parts) in
-    let c = marks_count b (rows_of f b) row y parts in
-    let s = h.marks in omega arith }
+      let a = length-append f.marks (band_marks b (rows_of f b) row y parts) in
+      let c = marks_count b (rows_of f b) row y parts in
+      let s = h.marks in omega arith;
+}

@@ -68,7 +68,7 @@ module _ (W : Type 0) (In : W → Type 0) (T : Tie W → Type 0) (f : Plan) (law
       let hp = hubs.each p op in
       let hq = hubs.each q oq in
       at_once p q (sym hp.1 ∙ (roots_from_numbers W In T f lawful net_of named rooted.speaks root hub rooted network.nodes number are.nodes (hub (at p)) (hub (at q)) hp.0 hq.0
-        (sym (own_node p op) ∙ (e ∙ own_node q oq)) ∙ hq.1))
+      (sym (own_node p op) ∙ (e ∙ own_node q oq)) ∙ hq.1))
 
   -- the channel of a switch, and the switch of a channel
   channel_at : (m : Mark) → Contains f.marks m → is_switch m ≡ true → (c : Channel) × Contains network.channels c × IsSwitch f number m c
@@ -101,8 +101,9 @@ module _ (W : Type 0) (In : W → Type 0) (T : Tie W → Type 0) (f : Plan) (law
       to x h =
           let w = (s.ends x).0 h in
           elim w.1 [
-              inl u ↦ elim u.1 [ inl l ↦ inl (sym w.2 ∙ ap number (line_once f lawful m L w.0 (net_of a) l r.2)) | inr l ↦ inr (sym w.2 ∙ ap number (line_once f lawful m R w.0 (net_of b) l r.3)) ]
-            | inr u ↦ absurd (cc (sym r.0 ∙ u.0)) ]
+            | inl u ↦ elim u.1 [ inl l ↦ inl (sym w.2 ∙ ap number (line_once f lawful m L w.0 (net_of a) l r.2)) | inr l ↦ inr (sym w.2 ∙ ap number (line_once f lawful m R w.0 (net_of b) l r.3)) ]
+            | inr u ↦ absurd (cc (sym r.0 ∙ u.0))
+          ]
 
       from : (x : ℕ) → (x ≡ number (net_of a)) ⊎ (x ≡ number (net_of b)) → Contains c.ends x
       from x (inl e) = (s.ends x).1 (net_of a, inl (r.0, inl r.2), sym e)
@@ -126,8 +127,9 @@ module _ (W : Type 0) (In : W → Type 0) (T : Tie W → Type 0) (f : Plan) (law
       to x h =
           let w = (s.ends x).0 h in
           elim w.1 [
-              inl u ↦ absurd (cc (sym r.0 ∙ u.0))
-            | inr u ↦ elim u.1 [ inl l ↦ inl (sym w.2 ∙ ap number (line_once f lawful m L w.0 (net_of a) l r.1)) | inr p ↦ inr (sym w.2 ∙ ap number p) ] ]
+            | inl u ↦ absurd (cc (sym r.0 ∙ u.0))
+            | inr u ↦ elim u.1 [ inl l ↦ inl (sym w.2 ∙ ap number (line_once f lawful m L w.0 (net_of a) l r.1)) | inr p ↦ inr (sym w.2 ∙ ap number p) ]
+          ]
 
       from : (x : ℕ) → (x ≡ number (net_of a)) ⊎ (x ≡ number power) → Contains c.ends x
       from x (inl e) = (s.ends x).1 (net_of a, inr (r.0, inl r.1), sym e)
@@ -157,7 +159,8 @@ module _ (W : Type 0) (In : W → Type 0) (T : Tie W → Type 0) (f : Plan) (law
       record {
         enhancement = h.kind;
         by = h.gate ∙ number_at g (root_of i) sp.0 rg;
-        joins = ends_at c (number (net_of a)) (number (net_of b)) (node (OfNet n)) (node Ground) h.ends (own_number a n sp.1 ra (nor_own n inputs e)) (number_at b (at Ground) sp.2 rb) }
+        joins = ends_at c (number (net_of a)) (number (net_of b)) (node (OfNet n)) (node Ground) h.ends (own_number a n sp.1 ra (nor_own n inputs e)) (number_at b (at Ground) sp.2 rb);
+      }
 
   pass_at : (n source : Spot) (p : Phase) → nets n ≡ Some (Latched p source) → (g a b : W) → T (tran g a b) → root g ≡ at (OfPhase p) → root a ≡ at (OfNet n) → root b ≡ root_of source
       → (c : Channel) → IsTran g a b c → IsPass node p source n c
@@ -168,14 +171,16 @@ module _ (W : Type 0) (In : W → Type 0) (T : Tie W → Type 0) (f : Plan) (law
         enhancement = h.kind;
         by = h.gate ∙ number_at g (at (OfPhase p)) sp.0 rg;
         joins = swapped c (node (OfNet n)) (node (OfNet source))
-          (ends_at c (number (net_of a)) (number (net_of b)) (node (OfNet n)) (node (OfNet source)) h.ends (own_number a n sp.1 ra (latch_own n source p e)) (number_at b (root_of source) sp.2 rb)) }
+            (ends_at c (number (net_of a)) (number (net_of b)) (node (OfNet n)) (node (OfNet source)) h.ends (own_number a n sp.1 ra (latch_own n source p e)) (number_at b (root_of source) sp.2 rb));
+      }
 
   up_at : (a : W) (k : ℕ) → number (net_of a) ≡ k → (c : Channel) → IsPull a c → IsPullUp node k c
   unfolding node
   up_at a k e c h = record {
-      depletion = h.kind;
-      by = h.gate ∙ e;
-      joins = ends_at c (number (net_of a)) (number power) k (node Power) h.ends e (sym (ap number power_is)) }
+    depletion = h.kind;
+    by = h.gate ∙ e;
+    joins = ends_at c (number (net_of a)) (number power) k (node Power) h.ends e (sym (ap number power_is));
+  }
 
   -- no point has the node of a pull-up alone
   alone_at : (a : W) (n : Spot) → In a → root a ≡ alone n → (p : Point) → HasOwnNode nets p → node p ≡ number (net_of a) → ⊥
@@ -194,28 +199,29 @@ module _ (W : Type 0) (In : W → Type 0) (T : Tie W → Type 0) (f : Plan) (law
   pub draws : Draws network.channels nets node
   unfolding node
   draws = record {
-      apart = apart;
-      lows = λ n e. ap (λ q. number (net_of (hub q))) (roots.lows n e);
-      joins = λ n m e. ap (λ q. number (net_of (hub q))) (roots.joins n m e);
-      pull_downs = λ n inputs i e ci.
+    apart = apart;
+    lows = λ n e. ap (λ q. number (net_of (hub q))) (roots.lows n e);
+    joins = λ n m e. ap (λ q. number (net_of (hub q))) (roots.joins n m e);
+    pull_downs = λ n inputs i e ci.
         let t = switches.pull_downs n i inputs e ci in
         let m = named.tied (tran t.0 t.1 t.2) t.3 in
         let c = channel_at m.0 m.1 (tran_is_switch m.0 m.2.0) in
         (c.0, c.1, down_at n i inputs e t.0 t.1 t.2 t.3 t.4 t.5 t.6 c.0 (tran_is m.0 t.0 t.1 t.2 m.2 c.0 c.2));
-      pull_ups = λ n inputs e.
+    pull_ups = λ n inputs e.
         let t = switches.pull_ups n inputs e in
         let m = named.tied (pull t.0) t.1 in
         let c = channel_at m.0 m.1 (pull_is_switch m.0 m.2.0) in
         (c.0, c.1, up_at t.0 (node (OfNet n)) (own_number t.0 n (rooted.speaks (pull t.0) t.1) t.2 (nor_own n inputs e)) c.0 (pull_is m.0 t.0 m.2 c.0 c.2));
-      passes = λ n p source e.
+    passes = λ n p source e.
         let t = switches.passes n source p e in
         let m = named.tied (tran t.0 t.1 t.2) t.3 in
         let c = channel_at m.0 m.1 (tran_is_switch m.0 m.2.0) in
         (c.0, c.1, pass_at n source p e t.0 t.1 t.2 t.3 t.4 t.5 t.6 c.0 (tran_is m.0 t.0 t.1 t.2 m.2 c.0 c.2));
-      only = λ c i.
+    only = λ c i.
         let m = switch_at c i in
         let t = named.marked m.0 m.1 (under_is_no_switch m.0 m.2) in
-        drawn_at m.0 t.0 t.1 t.2 m.2 c m.3 (switches.only t.0 t.1) }
+        drawn_at m.0 t.0 t.1 t.2 m.2 c m.3 (switches.only t.0 t.1);
+  }
 
   -- the node of a net is that of its segment, wherever the segment's root is the net's
   pub net_node : (w : W) (n : Spot) → In w → root w ≡ root_of n → number (net_of w) ≡ node (OfNet n)

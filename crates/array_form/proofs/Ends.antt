@@ -53,9 +53,12 @@ module _ (b top : ℕ) (row : ℕ → ℕ) (y : Columns) (parts : List Part) whe
 
   stub_there : (n : ℕ) → slice_get parts n ≡ Some Input → y.stub n ≡ true → MarkedAt all b (suc (row n)) (home y n)
   stub_there n h e = record {
-      the_mark = mark TapL b (suc (row n)) (home y n);
-      among = in_column n Input (mark TapL b (suc (row n)) (home y n)) h (subst (λ t. Member {A = Mark} (cond t (mark TapL b (suc (row n)) (home y n) ∷ []) []) (mark TapL b (suc (row n)) (home y n))) (sym e) (inl refl));
-      band = refl; row = refl; column = refl }
+    the_mark = mark TapL b (suc (row n)) (home y n);
+    among = in_column n Input (mark TapL b (suc (row n)) (home y n)) h (subst (λ t. Member {A = Mark} (cond t (mark TapL b (suc (row n)) (home y n) ∷ []) []) (mark TapL b (suc (row n)) (home y n))) (sym e) (inl refl));
+    band = refl;
+    row = refl;
+    column = refl;
+  }
 
   own_there : (n : ℕ) (q : Option Part) → slice_get parts n ≡ q → n < length parts → ((ph : Phase) → slice_get parts n ≡ Some (Latch ph None) → ⊥) → Carries n (home y n)
   own_there n None h lt fed = elim (slice_get_cases parts n).1 [ inl w ↦ absurd (cc (sym h ∙ w.2)) | inr w ↦ absurd (omega (arith, w.0)) ]
@@ -68,29 +71,38 @@ module _ (b top : ℕ) (row : ℕ → ℕ) (y : Columns) (parts : List Part) whe
   reader_there n j None h e = absurd (cc e)
   reader_there n j (Some Input) h e = absurd (cc e)
   reader_there n j (Some (Gate ins)) h e = record {
-      the_mark = mark Tran b (suc (row n)) (home y j);
-      among = in_column j (Gate ins) (mark Tran b (suc (row n)) (home y j)) h (inr (inr (inr (map_member (λ i. mark Tran b (suc (row i)) (home y j)) (inputs_of ins) n (distinct_has (map (λ i. i.0) ins) n (has_member n (map (λ i. i.0) ins) e))))));
-      band = refl; row = refl; column = refl }
+    the_mark = mark Tran b (suc (row n)) (home y j);
+    among = in_column j (Gate ins) (mark Tran b (suc (row n)) (home y j)) h (inr (inr (inr (map_member (λ i. mark Tran b (suc (row i)) (home y j)) (inputs_of ins) n (distinct_has (map (λ i. i.0) ins) n (has_member n (map (λ i. i.0) ins) e))))));
+    band = refl;
+    row = refl;
+    column = refl;
+  }
   reader_there n j (Some (Latch ph None)) h e = absurd (cc e)
   reader_there n j (Some (Latch ph (Some d))) h e = record {
-      the_mark = mark TapR b (suc (row d.0)) (home y j);
-      among = in_column j (Latch ph (Some d)) (mark TapR b (suc (row d.0)) (home y j)) h (inr (inl refl));
-      band = refl; row = ap (λ z. suc (row z)) (same_from d.0 n e); column = refl }
+    the_mark = mark TapR b (suc (row d.0)) (home y j);
+    among = in_column j (Latch ph (Some d)) (mark TapR b (suc (row d.0)) (home y j)) h (inr (inl refl));
+    band = refl;
+    row = ap (λ z. suc (row z)) (same_from d.0 n e);
+    column = refl;
+  }
 
   -- every marked column of a net carries a mark on its segment
   pub carried : (n c : ℕ) → n < length parts → ((ph : Phase) → slice_get parts n ≡ Some (Latch ph None) → ⊥) → Member (marks y parts n) c → Carries n c
   carried n c lt fed m = elim (member_append (cond (y.homed n) (home y n ∷ []) []) (map (home y) (numbers (reads n) parts) ++ y.more n) c m) [
-      inl k ↦ own k
+    | inl k ↦ own k
     | inr k ↦ elim (member_append (map (home y) (numbers (reads n) parts)) (y.more n) c k) [
-        inl k ↦ (let w = member_map (home y) (numbers (reads n) parts) c k in
+      | inl k ↦ (let w = member_map (home y) (numbers (reads n) parts) c k in
           let u = member_filter (λ j. reads n (slice_get parts j)) (range_with_len 0 (length parts)) w.0 w.1 in
           subst (Carries n) w.2 (placed (reader_there n w.0 (slice_get parts w.0) refl u.1)))
-      | inr k ↦ further k ] ]
+      | inr k ↦ further k
+    ]
+  ]
     where
       own : Member (cond (y.homed n) (home y n ∷ []) []) c → Carries n c
       own k = elim (cases_Bool (y.homed n)) [
-          inl e ↦ elim (subst (λ t. Member (cond t (home y n ∷ []) []) c) e k) [ inl q ↦ subst (Carries n) q (own_there n (slice_get parts n) refl lt fed) | inr q ↦ absurd q ]
-        | inr e ↦ absurd (subst (λ t. Member (cond t (home y n ∷ []) []) c) e k) ]
+        | inl e ↦ elim (subst (λ t. Member (cond t (home y n ∷ []) []) c) e k) [ inl q ↦ subst (Carries n) q (own_there n (slice_get parts n) refl lt fed) | inr q ↦ absurd q ]
+        | inr e ↦ absurd (subst (λ t. Member (cond t (home y n ∷ []) []) c) e k)
+      ]
 
   beat_there : (ph : Phase) (j : ℕ) (q : Option Part) → slice_get parts j ≡ q → beats ph q ≡ true → MarkedAt all b (suc (row (length parts + phase_number ph))) (home y j)
   beat_there ph j None h e = absurd (cc e)
@@ -98,9 +110,12 @@ module _ (b top : ℕ) (row : ℕ → ℕ) (y : Columns) (parts : List Part) whe
   beat_there ph j (Some (Gate ins)) h e = absurd (cc e)
   beat_there ph j (Some (Latch other None)) h e = absurd (cc e)
   beat_there ph j (Some (Latch other (Some d))) h e = record {
-      the_mark = mark Tran b (suc (row (length parts + phase_number other))) (home y j);
-      among = in_column j (Latch other (Some d)) (mark Tran b (suc (row (length parts + phase_number other))) (home y j)) h (inr (inr (inl refl)));
-      band = refl; row = ap (λ z. suc (row (length parts + phase_number z))) (sym (one_phase ph other e)); column = refl }
+    the_mark = mark Tran b (suc (row (length parts + phase_number other))) (home y j);
+    among = in_column j (Latch other (Some d)) (mark Tran b (suc (row (length parts + phase_number other))) (home y j)) h (inr (inr (inl refl)));
+    band = refl;
+    row = ap (λ z. suc (row (length parts + phase_number z))) (sym (one_phase ph other e));
+    column = refl;
+  }
 
   -- and of a phase, but for the column of the phase itself, where its line is tapped
   pub phase_carried : (ph : Phase) (c : ℕ) → Member (phase_marks y parts ph) c → (c ≡ y.first_phase + phase_number ph) ⊎ MarkedAt all b (suc (row (length parts + phase_number ph))) c

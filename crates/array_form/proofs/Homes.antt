@@ -18,9 +18,10 @@ use Rattle.array_form.proofs.Listing.{range_has, same_from, same_to}
 pub count_grows : (test : ℕ → Bool) (a b : ℕ) → a ≤ b → count_below test a ≤ count_below test b
 count_grows test a zero h = let e : a ≡ 0 = omega arith in subst (λ z. count_below test z ≤ count_below test 0) (sym e) (omega arith)
 count_grows test a (suc b) h = elim (cases_order a (suc b)) [
-    inl e ↦ subst (λ z. count_below test z ≤ count_below test (suc b)) (sym e) (omega arith)
+  | inl e ↦ subst (λ z. count_below test z ≤ count_below test (suc b)) (sym e) (omega arith)
   | inr (inl lt) ↦ (let i = count_grows test a b (omega arith) in omega arith)
-  | inr (inr gt) ↦ absurd (omega arith) ]
+  | inr (inr gt) ↦ absurd (omega arith)
+]
 
 count_at : (test : ℕ → Bool) (n : ℕ) → test n ≡ true → count_below test (suc n) ≡ 1 + count_below test n
 count_at test n e = ap (λ t. cond t 1 0 + count_below test n) e
@@ -31,8 +32,9 @@ count_rises test a b h e = let g = count_grows test (suc a) b (omega arith) in l
 pub count_most : (test : ℕ → Bool) (n : ℕ) → count_below test n ≤ n
 count_most test zero = omega arith
 count_most test (suc n) = elim (cases_Bool (test n)) [
-    inl e ↦ (let i = count_most test n in let c = count_at test n e in omega arith)
-  | inr e ↦ (let i = count_most test n in let c : count_below test (suc n) ≡ 0 + count_below test n = ap (λ t. cond t 1 0 + count_below test n) e in omega arith) ]
+  | inl e ↦ (let i = count_most test n in let c = count_at test n e in omega arith)
+  | inr e ↦ (let i = count_most test n in let c : count_below test (suc n) ≡ 0 + count_below test n = ap (λ t. cond t 1 0 + count_below test n) e in omega arith)
+]
 
 -- nets with columns of their own have different ones, in order
 pub home_rises : (y : Columns) (a b : ℕ) → a < b → y.homed a ≡ true → home y a < home y b
@@ -40,9 +42,10 @@ home_rises y a b h e = let c = count_rises y.homed a b h e in omega arith
 
 pub home_once : (y : Columns) (a b : ℕ) → y.homed a ≡ true → y.homed b ≡ true → home y a ≡ home y b → a ≡ b
 home_once y a b ea eb h = elim (cases_order a b) [
-    inl e ↦ e
+  | inl e ↦ e
   | inr (inl lt) ↦ (let c = home_rises y a b lt ea in absurd (omega arith))
-  | inr (inr gt) ↦ (let c = home_rises y b a gt eb in absurd (omega arith)) ]
+  | inr (inr gt) ↦ (let c = home_rises y b a gt eb in absurd (omega arith))
+]
 
 pub home_inside : (y : Columns) (parts : List Part) (a : ℕ) → a < length parts → y.homed a ≡ true → (y.base ≤ home y a) × (home y a < end_of y parts)
 home_inside y parts a h e = let c = count_rises y.homed a (length parts) h e in (omega arith, omega arith)
@@ -64,14 +67,16 @@ greatest_above (x ∷ xs) a (inr m) = let i = greatest_above xs a m in omega ari
 pub least_in : (x : ℕ) (xs : List ℕ) → Member (x ∷ xs) (least (x ∷ xs))
 least_in x [] = inl refl
 least_in x (y ∷ ys) = elim (cases_lt x (least (y ∷ ys))) [
-    inl lt ↦ inl (omega arith)
-  | inr ge ↦ inr (let e : min x (least (y ∷ ys)) ≡ least (y ∷ ys) = omega arith in subst (Member (y ∷ ys)) (sym e) (least_in y ys)) ]
+  | inl lt ↦ inl (omega arith)
+  | inr ge ↦ inr (let e : min x (least (y ∷ ys)) ≡ least (y ∷ ys) = omega arith in subst (Member (y ∷ ys)) (sym e) (least_in y ys))
+]
 
 pub greatest_in : (x : ℕ) (xs : List ℕ) → Member (x ∷ xs) (greatest (x ∷ xs))
 greatest_in x [] = inl (omega arith)
 greatest_in x (y ∷ ys) = elim (cases_lt x (greatest (y ∷ ys))) [
-    inl lt ↦ inr (let e : max x (greatest (y ∷ ys)) ≡ greatest (y ∷ ys) = omega arith in subst (Member (y ∷ ys)) (sym e) (greatest_in y ys))
-  | inr ge ↦ inl (omega arith) ]
+  | inl lt ↦ inr (let e : max x (greatest (y ∷ ys)) ≡ greatest (y ∷ ys) = omega arith in subst (Member (y ∷ ys)) (sym e) (greatest_in y ys))
+  | inr ge ↦ inl (omega arith)
+]
 
 -- ---- marks
 in_numbers : (test : Option Part → Bool) (parts : List Part) (n : ℕ) (q : Part) → slice_get parts n ≡ Some q → test (Some q) ≡ true → Member (numbers test parts) n
@@ -82,8 +87,9 @@ pub has_of : (a : ℕ) (xs : List ℕ) → Member xs a → has a xs ≡ true
 has_of a [] m = absurd m
 has_of a (x ∷ xs) (inl e) = ap (λ t. cond t true (has a xs)) (same_to x a e)
 has_of a (x ∷ xs) (inr m) = elim (cases_Bool (x == a)) [
-    inl q ↦ ap (λ t. cond t true (has a xs)) q
-  | inr q ↦ ap (λ t. cond t true (has a xs)) q ∙ has_of a xs m ]
+  | inl q ↦ ap (λ t. cond t true (has a xs)) q
+  | inr q ↦ ap (λ t. cond t true (has a xs)) q ∙ has_of a xs m
+]
 
 -- a net is marked in its own column, and in those of its readers
 pub own_mark : (y : Columns) (parts : List Part) (n : ℕ) → y.homed n ≡ true → Member (marks y parts n) (home y n)

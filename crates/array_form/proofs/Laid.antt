@@ -43,8 +43,9 @@ distinct_pairs : (xs : List ℕ) → Pairs (λ a d. a ≡ d → ⊥) (distinct x
 distinct_pairs [] = tt
 distinct_pairs (x ∷ xs) = (
   each_from (λ d. x ≡ d → ⊥) (without x (distinct xs))
-    (λ d m e. differs_from x d (member_filter (λ y. not (y == x)) (distinct xs) d m).1 (sym e)),
-  pairs_filter (λ a d. a ≡ d → ⊥) (λ y. not (y == x)) (distinct xs) (distinct_pairs xs))
+      (λ d m e. differs_from x d (member_filter (λ y. not (y == x)) (distinct xs) d m).1 (sym e)),
+  pairs_filter (λ a d. a ≡ d → ⊥) (λ y. not (y == x)) (distinct xs) (distinct_pairs xs),
+)
 
 module _ (f : Plan) (lawful : IsFabric f) (b : ℕ) (y : Columns) (parts : List Part) (cols : ℕ → List ℕ) (row : ℕ → ℕ) (rows : ℕ)
     (room : HasRoom f b y parts rows) (tracks : AreTracks y parts cols row rows) where
@@ -72,21 +73,25 @@ module _ (f : Plan) (lawful : IsFabric f) (b : ℕ) (y : Columns) (parts : List 
 
   mark_inside : (n c : ℕ) → n < length parts → Member (marks y parts n) c → (1 ≤ c) × (c + 1 < f.columns)
   mark_inside n c h m = elim (member_append (cond (y.homed n) (home y n ∷ []) []) (map (home y) (numbers (reads n) parts) ++ y.more n) c m) [
-      inl k ↦ own k
+    | inl k ↦ own k
     | inr k ↦ elim (member_append (map (home y) (numbers (reads n) parts)) (y.more n) c k) [
-        inl j ↦ (let w = member_map (home y) (numbers (reads n) parts) c j in
+      | inl j ↦ (let w = member_map (home y) (numbers (reads n) parts) c j in
           let u = member_filter (λ j. reads n (slice_get parts j)) (range_with_len 0 (length parts)) w.0 w.1 in
           let r = (in_range 0 (length parts) w.0 u.0).1 in
           let e = end_grows w.0 (omega arith) (reader_homed n w.0 (slice_get parts w.0) refl u.1) in
           subst (λ z. (1 ≤ z) × (z + 1 < f.columns)) w.2 (e.0, e.1))
-      | inr j ↦ (room.more n c (member_contains (y.more n) c j)) ] ]
+      | inr j ↦ (room.more n c (member_contains (y.more n) c j))
+    ]
+  ]
     where
       own : Member (cond (y.homed n) (home y n ∷ []) []) c → (1 ≤ c) × (c + 1 < f.columns)
       own k = elim (cases_Bool (y.homed n)) [
-          inl e ↦ elim (subst (λ t. Member (cond t (home y n ∷ []) []) c) e k) [
-              inl q ↦ (let i = end_grows n h e in subst (λ z. (1 ≤ z) × (z + 1 < f.columns)) q (i.0, i.1))
-            | inr q ↦ absurd q ]
-        | inr e ↦ absurd (subst (λ t. Member (cond t (home y n ∷ []) []) c) e k) ]
+        | inl e ↦ elim (subst (λ t. Member (cond t (home y n ∷ []) []) c) e k) [
+          | inl q ↦ (let i = end_grows n h e in subst (λ z. (1 ≤ z) × (z + 1 < f.columns)) q (i.0, i.1))
+          | inr q ↦ absurd q
+        ]
+        | inr e ↦ absurd (subst (λ t. Member (cond t (home y n ∷ []) []) c) e k)
+      ]
 
   phase_inside : (ph : Phase) (c : ℕ) → Member (phase_marks y parts ph) c → (1 ≤ c) × (c + 1 < f.columns)
   phase_inside ph c (inl e) = let s = phase_small ph in let a = room.base in let d = room.phases in let z = base_inside in (omega arith, omega arith)
@@ -111,10 +116,12 @@ module _ (f : Plan) (lawful : IsFabric f) (b : ℕ) (y : Columns) (parts : List 
 
   which : (k : ℕ) → k < length parts + 3 → IsOf k
   which k h = elim (cases_lt k (length parts)) [
-      inl lt ↦ of_net lt
+    | inl lt ↦ of_net lt
     | inr ge ↦ elim (cases_eq k (length parts)) [
-        inl e ↦ of_phase A (omega arith)
-      | inr e ↦ elim (cases_eq k (length parts + 1)) [ inl e1 ↦ of_phase B (omega arith) | inr e1 ↦ of_phase C (omega arith) ] ] ]
+      | inl e ↦ of_phase A (omega arith)
+      | inr e ↦ elim (cases_eq k (length parts + 1)) [ inl e1 ↦ of_phase B (omega arith) | inr e1 ↦ of_phase C (omega arith) ]
+    ]
+  ]
 
   Spans : List ℕ → Type 0
   Spans xs = (1 ≤ least xs) × (least xs ≤ greatest xs) × (greatest xs + 1 < f.columns)
@@ -159,24 +166,26 @@ module _ (f : Plan) (lawful : IsFabric f) (b : ℕ) (y : Columns) (parts : List 
 
   segments_all : All (IsSegment g) (f.segments ++ band_segments b cols row parts)
   segments_all = all_from (IsSegment g) (f.segments ++ band_segments b cols row parts) (λ s m. elim (member_append f.segments (band_segments b cols row parts) s m) [
-      inl k ↦ old_segment s (all_at (IsSegment f) f.segments s lawful.segments k)
-    | inr k ↦ (let w = in_segments s k in subst (IsSegment g) w.2 (seg_is w.0 w.1)) ])
+    | inl k ↦ old_segment s (all_at (IsSegment f) f.segments s lawful.segments k)
+    | inr k ↦ (let w = in_segments s k in subst (IsSegment g) w.2 (seg_is w.0 w.1))
+  ])
 
   segments_apart : AllPairs SegmentsApart (f.segments ++ band_segments b cols row parts)
   unfolding seg
   segments_apart = pairs_all SegmentsApart (f.segments ++ band_segments b cols row parts)
       (pairs_append SegmentsApart f.segments (band_segments b cols row parts) (pairs_from SegmentsApart f.segments lawful.segments_apart)
-        (pairs_map_range SegmentsApart (band_segment b cols row) 0 (length parts + 3)
-          (λ i j lo lt hi. λ e r. tracks.apart i j (omega arith) (omega arith) (λ q. omega arith) (omega arith)))
-        (λ s t m k e r. let w = in_segments t k in absurd (room.no_segments s (member_contains f.segments s m) (e ∙ sym (ap (λ z. z.band) w.2)))))
+      (pairs_map_range SegmentsApart (band_segment b cols row) 0 (length parts + 3)
+      (λ i j lo lt hi. λ e r. tracks.apart i j (omega arith) (omega arith) (λ q. omega arith) (omega arith)))
+      (λ s t m k e r. let w = in_segments t k in absurd (room.no_segments s (member_contains f.segments s m) (e ∙ sym (ap (λ z. z.band) w.2)))))
 
   -- ---- lines
   part_lines : (n : ℕ) (q : Option Part) → slice_get parts n ≡ q → (l : Line) → Member (column_lines b (home y n) (y.stub n) q) l
       → (y.homed n ≡ true) × (n < length parts) × ((l ≡ upright (home y n) L b b) ⊎ (l ≡ upright (home y n) R b b))
   part_lines n None h l m = absurd m
   part_lines n (Some Input) h l m = elim (cases_Bool (y.stub n)) [
-      inl e ↦ elim (subst (λ t. Member (cond t (upright (home y n) L b b ∷ []) []) l) e m) [ inl q ↦ (room.stubs_homed n e, slice_get_within parts n Input h, inl (sym q)) | inr q ↦ absurd q ]
-    | inr e ↦ absurd (subst (λ t. Member (cond t (upright (home y n) L b b ∷ []) []) l) e m) ]
+    | inl e ↦ elim (subst (λ t. Member (cond t (upright (home y n) L b b ∷ []) []) l) e m) [ inl q ↦ (room.stubs_homed n e, slice_get_within parts n Input h, inl (sym q)) | inr q ↦ absurd q ]
+    | inr e ↦ absurd (subst (λ t. Member (cond t (upright (home y n) L b b ∷ []) []) l) e m)
+  ]
   part_lines n (Some (Gate ins)) h l (inl q) = (room.gates_homed n ins h, slice_get_within parts n (Gate ins) h, inl (sym q))
   part_lines n (Some (Gate ins)) h l (inr (inl q)) = (room.gates_homed n ins h, slice_get_within parts n (Gate ins) h, inr (sym q))
   part_lines n (Some (Gate ins)) h l (inr (inr q)) = absurd q
@@ -196,8 +205,9 @@ module _ (f : Plan) (lawful : IsFabric f) (b : ℕ) (y : Columns) (parts : List 
 
   lines_all : All (IsLine g) (f.lines ++ band_lines b y parts)
   lines_all = all_from (IsLine g) (f.lines ++ band_lines b y parts) (λ l m. elim (member_append f.lines (band_lines b y parts) l m) [
-      inl k ↦ old_line l (all_at (IsLine f) f.lines l lawful.lines k)
-    | inr k ↦ (let w = in_lines l k in elim w.3 [ inl e ↦ subst (IsLine g) (sym e) (upright_is w.0 L w.2 w.1) | inr e ↦ subst (IsLine g) (sym e) (upright_is w.0 R w.2 w.1) ]) ])
+    | inl k ↦ old_line l (all_at (IsLine f) f.lines l lawful.lines k)
+    | inr k ↦ (let w = in_lines l k in elim w.3 [ inl e ↦ subst (IsLine g) (sym e) (upright_is w.0 L w.2 w.1) | inr e ↦ subst (IsLine g) (sym e) (upright_is w.0 R w.2 w.1) ])
+  ])
 
   line_column : (l : Line) (n : ℕ) → (l ≡ upright (home y n) L b b) ⊎ (l ≡ upright (home y n) R b b) → (l.column ≡ home y n) × (l.first_band ≡ b) × (l.last_band ≡ b)
   line_column l n (inl e) = (ap (λ z. z.column) e, ap (λ z. z.first_band) e, ap (λ z. z.last_band) e)
@@ -220,8 +230,8 @@ module _ (f : Plan) (lawful : IsFabric f) (b : ℕ) (y : Columns) (parts : List 
   lines_apart : AllPairs LinesApart (f.lines ++ band_lines b y parts)
   lines_apart = pairs_all LinesApart (f.lines ++ band_lines b y parts)
       (pairs_append LinesApart f.lines (band_lines b y parts) (pairs_from LinesApart f.lines lawful.lines_apart)
-        (pairs_flat_range LinesApart (λ n. column_lines b (home y n) (y.stub n) (slice_get parts n)) 0 (length parts) (λ n lo hi. within_lines n (slice_get parts n)) cross)
-        old_new)
+      (pairs_flat_range LinesApart (λ n. column_lines b (home y n) (y.stub n) (slice_get parts n)) 0 (length parts) (λ n lo hi. within_lines n (slice_get parts n)) cross)
+      old_new)
     where
       cross : (i j : ℕ) (l m : Line) → 0 ≤ i → i < j → j < 0 + length parts → Member (column_lines b (home y i) (y.stub i) (slice_get parts i)) l → Member (column_lines b (home y j) (y.stub j) (slice_get parts j)) m → LinesApart l m
       cross i j l m lo lt hi p q e s =
@@ -237,10 +247,12 @@ module _ (f : Plan) (lawful : IsFabric f) (b : ℕ) (y : Columns) (parts : List 
           let h = (end_grows w.0 w.2 w.1).2 in
           let k0 = k.0 in let k1 = k.1 in let k2 = k.2 in
           elim (cases_lt l.last_band b) [
-            inl lt ↦ inl (omega arith)
-          | inr ge ↦ elim (cases_lt b l.first_band) [
-              inl lt ↦ inr (omega arith)
-            | inr le ↦ (let c = room.no_lines l (member_contains f.lines l p) le ge in absurd (omega arith)) ] ]
+            | inl lt ↦ inl (omega arith)
+            | inr ge ↦ elim (cases_lt b l.first_band) [
+              | inl lt ↦ inr (omega arith)
+              | inr le ↦ (let c = room.no_lines l (member_contains f.lines l p) le ge in absurd (omega arith))
+            ]
+          ]
 
   -- ---- marks
   rows_differ : (i j c : ℕ) → i < length parts + 3 → j < length parts + 3 → i ≢ j → Member (cols i) c → Member (cols j) c → row i ≡ row j → ⊥
@@ -267,11 +279,13 @@ module _ (f : Plan) (lawful : IsFabric f) (b : ℕ) (y : Columns) (parts : List 
       → (y.homed n ≡ true) × (n < length parts) × (m.band ≡ b) × (m.column ≡ home y n) × InColumn n m
   part_marks n None h m k = absurd k
   part_marks n (Some Input) h m k = elim (cases_Bool (y.stub n)) [
-      inl e ↦ elim (subst (λ t. Member (cond t (mark TapL b (suc (row n)) (home y n) ∷ []) []) m) e k) [
-          inl q ↦ (let lt = slice_get_within parts n Input h in
-            (room.stubs_homed n e, lt, sym (ap (λ z. z.band) q), sym (ap (λ z. z.column) q), on_segment n (omega arith) (own_cols n lt (room.stubs_homed n e)) (sym (ap (λ z. z.row) q)) (inl (sym (ap (λ z. z.tile) q)))))
-        | inr q ↦ absurd q ]
-    | inr e ↦ absurd (subst (λ t. Member (cond t (mark TapL b (suc (row n)) (home y n) ∷ []) []) m) e k) ]
+    | inl e ↦ elim (subst (λ t. Member (cond t (mark TapL b (suc (row n)) (home y n) ∷ []) []) m) e k) [
+      | inl q ↦ (let lt = slice_get_within parts n Input h in
+          (room.stubs_homed n e, lt, sym (ap (λ z. z.band) q), sym (ap (λ z. z.column) q), on_segment n (omega arith) (own_cols n lt (room.stubs_homed n e)) (sym (ap (λ z. z.row) q)) (inl (sym (ap (λ z. z.tile) q)))))
+      | inr q ↦ absurd q
+    ]
+    | inr e ↦ absurd (subst (λ t. Member (cond t (mark TapL b (suc (row n)) (home y n) ∷ []) []) m) e k)
+  ]
   part_marks n (Some (Gate ins)) h m (inl q) =
       let lt = slice_get_within parts n (Gate ins) h in let e = room.gates_homed n ins h in
       (e, lt, sym (ap (λ z. z.band) q), sym (ap (λ z. z.column) q), on_segment n (omega arith) (own_cols n lt e) (sym (ap (λ z. z.row) q)) (inl (sym (ap (λ z. z.tile) q))))
@@ -287,24 +301,36 @@ module _ (f : Plan) (lawful : IsFabric f) (b : ℕ) (y : Columns) (parts : List 
       let j = member_map (λ (i : NetId). i.0) ins w.0 (distinct_from (map (λ i. i.0) ins) w.0 w.1) in
       let lo = room.inputs n ins j.0 h (member_contains ins j.0 j.1) in
       let q = w.2 in
-      let wl : w.0 < length parts = subst (λ z. z < length parts) j.2 (omega arith) in
-      (e, lt, sym (ap (λ z. z.band) q), sym (ap (λ z. z.column) q),
+      let wl : w.0 < length parts = subst (λ z. z < length parts) j.2 (omega arith) in (
+        e,
+        lt,
+        sym (ap (λ z. z.band) q),
+        sym (ap (λ z. z.column) q),
         on_segment w.0 (omega arith) (subst (λ z. Member z (home y n)) (sym (tracks.nets w.0 wl)) (subst (λ z. Member (marks y parts z) (home y n)) j.2 (input_mark y parts n ins j.0 h (member_contains ins j.0 j.1))))
-          (sym (ap (λ z. z.row) q)) (inr (inr (sym (ap (λ z. z.tile) q), by_gate ins h))))
+            (sym (ap (λ z. z.row) q)) (inr (inr (sym (ap (λ z. z.tile) q), by_gate ins h))),
+      )
   part_marks n (Some (Latch ph None)) h m k = absurd k
   part_marks n (Some (Latch ph (Some d))) h m (inl q) =
       let lt = slice_get_within parts n (Latch ph (Some d)) h in let e = room.latches_homed n ph d h in
       (e, lt, sym (ap (λ z. z.band) q), sym (ap (λ z. z.column) q), on_segment n (omega arith) (own_cols n lt e) (sym (ap (λ z. z.row) q)) (inl (sym (ap (λ z. z.tile) q))))
   part_marks n (Some (Latch ph (Some d))) h m (inr (inl q)) =
       let lt = slice_get_within parts n (Latch ph (Some d)) h in let e = room.latches_homed n ph d h in
-      let dl = (room.data_in n ph d h).0 in
-      (e, lt, sym (ap (λ z. z.band) q), sym (ap (λ z. z.column) q),
-        on_segment d.0 (omega arith) (subst (λ z. Member z (home y n)) (sym (tracks.nets d.0 dl)) (data_mark y parts n ph d h)) (sym (ap (λ z. z.row) q)) (inr (inl (sym (ap (λ z. z.tile) q), by_latch ph d h))))
+      let dl = (room.data_in n ph d h).0 in (
+        e,
+        lt,
+        sym (ap (λ z. z.band) q),
+        sym (ap (λ z. z.column) q),
+        on_segment d.0 (omega arith) (subst (λ z. Member z (home y n)) (sym (tracks.nets d.0 dl)) (data_mark y parts n ph d h)) (sym (ap (λ z. z.row) q)) (inr (inl (sym (ap (λ z. z.tile) q), by_latch ph d h))),
+      )
   part_marks n (Some (Latch ph (Some d))) h m (inr (inr (inl q))) =
       let lt = slice_get_within parts n (Latch ph (Some d)) h in let e = room.latches_homed n ph d h in
-      let s = phase_small ph in
-      (e, lt, sym (ap (λ z. z.band) q), sym (ap (λ z. z.column) q),
-        on_segment (length parts + phase_number ph) (omega arith) (subst (λ z. Member z (home y n)) (sym (tracks.phases ph)) (phase_mark y parts n ph d h)) (sym (ap (λ z. z.row) q)) (inr (inr (sym (ap (λ z. z.tile) q), by_latch ph d h))))
+      let s = phase_small ph in (
+        e,
+        lt,
+        sym (ap (λ z. z.band) q),
+        sym (ap (λ z. z.column) q),
+        on_segment (length parts + phase_number ph) (omega arith) (subst (λ z. Member z (home y n)) (sym (tracks.phases ph)) (phase_mark y parts n ph d h)) (sym (ap (λ z. z.row) q)) (inr (inr (sym (ap (λ z. z.tile) q), by_latch ph d h))),
+      )
   part_marks n (Some (Latch ph (Some d))) h m (inr (inr (inr k))) = absurd k
 
   -- the lines that stand in a column
@@ -312,8 +338,9 @@ module _ (f : Plan) (lawful : IsFabric f) (b : ℕ) (y : Columns) (parts : List 
       → Member (column_lines b (home y n) (y.stub n) q) (upright (home y n) L b b)
   left_stands n None h l m = absurd m
   left_stands n (Some Input) h l m = elim (cases_Bool (y.stub n)) [
-      inl e ↦ subst (λ t. Member {A = Line} (cond t (upright (home y n) L b b ∷ []) []) (upright (home y n) L b b)) (sym e) (inl refl)
-    | inr e ↦ absurd (subst (λ t. Member (cond t (mark TapL b (suc (row n)) (home y n) ∷ []) []) l) e m) ]
+    | inl e ↦ subst (λ t. Member {A = Line} (cond t (upright (home y n) L b b ∷ []) []) (upright (home y n) L b b)) (sym e) (inl refl)
+    | inr e ↦ absurd (subst (λ t. Member (cond t (mark TapL b (suc (row n)) (home y n) ∷ []) []) l) e m)
+  ]
   left_stands n (Some (Gate ins)) h l m = inl refl
   left_stands n (Some (Latch ph None)) h l m = absurd m
   left_stands n (Some (Latch ph (Some d))) h l m = inl refl
@@ -325,35 +352,42 @@ module _ (f : Plan) (lawful : IsFabric f) (b : ℕ) (y : Columns) (parts : List 
   line_at_home : (n : ℕ) (side : Side) → n < length parts → Member (column_lines b (home y n) (y.stub n) (slice_get parts n)) (upright (home y n) side b b) → LineAt g side b (home y n)
   unfolding g
   line_at_home n side h m = record {
-      line = upright (home y n) side b b;
-      among = member_contains (f.lines ++ band_lines b y parts) (upright (home y n) side b b)
+    line = upright (home y n) side b b;
+    among = member_contains (f.lines ++ band_lines b y parts) (upright (home y n) side b b)
         (append_right f.lines (band_lines b y parts) (upright (home y n) side b b)
-          (flat_member (λ k. column_lines b (home y k) (y.stub k) (slice_get parts k)) (range_with_len 0 (length parts)) n (upright (home y n) side b b) (range_has 0 (length parts) n (omega arith) (omega arith)) m));
-      passes = record { column = refl; at_side = refl; first = omega arith; last = omega arith } }
+        (flat_member (λ k. column_lines b (home y k) (y.stub k) (slice_get parts k)) (range_with_len 0 (length parts)) n (upright (home y n) side b b) (range_has 0 (length parts) n (omega arith) (omega arith)) m));
+    passes = record { column = refl; at_side = refl; first = omega arith; last = omega arith };
+  }
 
   top_at_home : (n : ℕ) → n < length parts → Member (column_lines b (home y n) (y.stub n) (slice_get parts n)) (upright (home y n) L b b) → Stands g PullUp b (rows_of f b) (home y n)
   unfolding g
-  top_at_home n h m =
-      (refl, (upright (home y n) L b b,
-        member_contains (f.lines ++ band_lines b y parts) (upright (home y n) L b b)
+  top_at_home n h m = (
+    refl,
+    (
+      upright (home y n) L b b,
+      member_contains (f.lines ++ band_lines b y parts) (upright (home y n) L b b)
           (append_right f.lines (band_lines b y parts) (upright (home y n) L b b)
-            (flat_member (λ k. column_lines b (home y k) (y.stub k) (slice_get parts k)) (range_with_len 0 (length parts)) n (upright (home y n) L b b) (range_has 0 (length parts) n (omega arith) (omega arith)) m)),
-        record { column = refl; at_side = refl; first = omega arith; last = omega arith }, refl))
+          (flat_member (λ k. column_lines b (home y k) (y.stub k) (slice_get parts k)) (range_with_len 0 (length parts)) n (upright (home y n) L b b) (range_has 0 (length parts) n (omega arith) (omega arith)) m)),
+      record { column = refl; at_side = refl; first = omega arith; last = omega arith },
+      refl,
+    ),
+  )
 
   segment_at_home : (k c : ℕ) → k < length parts + 3 → Member (cols k) c → SegmentAt g b (suc (row k)) c
   unfolding g
   segment_at_home k c h m = record {
-      segment = band_segment b cols row k;
-      among = member_contains (f.segments ++ band_segments b cols row parts) (band_segment b cols row k)
+    segment = band_segment b cols row k;
+    among = member_contains (f.segments ++ band_segments b cols row parts) (band_segment b cols row k)
         (append_right f.segments (band_segments b cols row parts) (band_segment b cols row k)
-          (map_member (band_segment b cols row) (range_with_len 0 (length parts + 3)) k (range_has 0 (length parts + 3) k (omega arith) (omega arith))));
-      crosses = record { band = refl; row = refl; first = least_below (cols k) c m; last = greatest_above (cols k) c m } }
+        (map_member (band_segment b cols row) (range_with_len 0 (length parts + 3)) k (range_has 0 (length parts + 3) k (omega arith) (omega arith))));
+    crosses = record { band = refl; row = refl; first = least_below (cols k) c m; last = greatest_above (cols k) c m };
+  }
 
   -- a tile stands at the numbers of its mark
   stands_at : (m : Mark) (t : Tile) (r c : ℕ) → m.tile ≡ t → m.band ≡ b → m.row ≡ r → m.column ≡ c → Stands g t b r c → IsMark g m
   stands_at m t r c et eb er ec h =
       subst (λ z. Stands g z m.band m.row m.column) (sym et)
-        (subst (λ z. Stands g t z m.row m.column) (sym eb) (subst (λ z. Stands g t b z m.column) (sym er) (subst (λ z. Stands g t b r z) (sym ec) h)))
+      (subst (λ z. Stands g t z m.row m.column) (sym eb) (subst (λ z. Stands g t b z m.column) (sym er) (subst (λ z. Stands g t b r z) (sym ec) h)))
 
   new_mark : (n : ℕ) (m : Mark) → n < length parts → Member (column_marks b (rows_of f b) row (length parts) (home y n) (y.stub n) n (slice_get parts n)) m → IsMark g m
   new_mark n m lt k = go (part_marks n (slice_get parts n) refl m k).4
@@ -382,9 +416,10 @@ module _ (f : Plan) (lawful : IsFabric f) (b : ℕ) (y : Columns) (parts : List 
   old_segment_at : (k r c : ℕ) → SegmentAt f k r c → SegmentAt g k r c
   unfolding g
   old_segment_at k r c h = record {
-      segment = h.segment;
-      among = member_contains (f.segments ++ band_segments b cols row parts) h.segment (append_left f.segments (band_segments b cols row parts) h.segment (contains_member f.segments h.segment h.among));
-      crosses = h.crosses }
+    segment = h.segment;
+    among = member_contains (f.segments ++ band_segments b cols row parts) h.segment (append_left f.segments (band_segments b cols row parts) h.segment (contains_member f.segments h.segment h.among));
+    crosses = h.crosses;
+  }
 
   old_stands : (t : Tile) (k r c : ℕ) → Stands f t k r c → Stands g t k r c
   unfolding g
@@ -393,9 +428,14 @@ module _ (f : Plan) (lawful : IsFabric f) (b : ℕ) (y : Columns) (parts : List 
   old_stands Tran k r c s = (old_line_at L k c s.0, old_line_at R k c s.1, old_segment_at k r c s.2)
   old_stands PullUp k r c s =
       (s.0, (s.1.0, member_contains (f.lines ++ band_lines b y parts) s.1.0 (append_left f.lines (band_lines b y parts) s.1.0 (contains_member f.lines s.1.0 s.1.1)), s.1.2, s.1.3))
-  old_stands Under k r c s = (s.0, s.1, elim s.2 [
-      inl e ↦ inl e
-    | inr h ↦ inr (h.0, member_contains (f.segments ++ band_segments b cols row parts) h.0 (append_left f.segments (band_segments b cols row parts) h.0 (contains_member f.segments h.0 h.1)), h.2, h.3, h.4) ])
+  old_stands Under k r c s = (
+    s.0,
+    s.1,
+    elim s.2 [
+      | inl e ↦ inl e
+      | inr h ↦ inr (h.0, member_contains (f.segments ++ band_segments b cols row parts) h.0 (append_left f.segments (band_segments b cols row parts) h.0 (contains_member f.segments h.0 h.1)), h.2, h.3, h.4)
+    ],
+  )
 
   top : List Mark
   top = band_marks b (rows_of f b) row y parts
@@ -408,8 +448,9 @@ module _ (f : Plan) (lawful : IsFabric f) (b : ℕ) (y : Columns) (parts : List 
 
   marks_all : All (IsMark g) (f.marks ++ top)
   marks_all = all_from (IsMark g) (f.marks ++ top) (λ m k. elim (member_append f.marks top m k) [
-      inl i ↦ old_stands m.tile m.band m.row m.column (all_at (IsMark f) f.marks m lawful.marks i)
-    | inr i ↦ (let w = in_marks m i in new_mark w.0 m w.1 w.2) ])
+    | inl i ↦ old_stands m.tile m.band m.row m.column (all_at (IsMark f) f.marks m lawful.marks i)
+    | inr i ↦ (let w = in_marks m i in new_mark w.0 m w.1 w.2)
+  ])
 
   -- marks of one column stand in different rows
   net_cols : (n c : ℕ) → n < length parts → Member (marks y parts n) c → Member (cols n) c
@@ -445,14 +486,15 @@ module _ (f : Plan) (lawful : IsFabric f) (b : ℕ) (y : Columns) (parts : List 
   tran_pairs : (n : ℕ) (ins : List NetId) → slice_get parts n ≡ Some (Gate ins) → (ks : List ℕ) → ((i : ℕ) → Member ks i → Member (inputs_of ins) i) → Pairs (λ a d. a ≡ d → ⊥) ks
       → Pairs MarksApart (map (λ i. mark Tran b (suc (row i)) (home y n)) ks)
   tran_pairs n ins h [] sub p = tt
-  tran_pairs n ins h (k ∷ ks) sub p =
-      (each_from (MarksApart (mark Tran b (suc (row k)) (home y n))) (map (λ i. mark Tran b (suc (row i)) (home y n)) ks)
+  tran_pairs n ins h (k ∷ ks) sub p = (
+    each_from (MarksApart (mark Tran b (suc (row k)) (home y n))) (map (λ i. mark Tran b (suc (row i)) (home y n)) ks)
         (λ m i. let w = member_map (λ i. mark Tran b (suc (row i)) (home y n)) ks m i in
-          let a = input_net n ins h k (sub k (inl refl)) in let d = input_net n ins h w.0 (sub w.0 (inr w.1)) in
-          let a2 = a.2 in let d2 = d.2 in
-          subst (MarksApart (mark Tran b (suc (row k)) (home y n))) w.2
-            (segments_differ k w.0 n (omega arith) (omega arith) (each_at (λ z. k ≡ z → ⊥) ks p.0 w.0 w.1) a.1 d.1 Tran Tran)),
-        tran_pairs n ins h ks (λ i m. sub i (inr m)) p.1)
+        let a = input_net n ins h k (sub k (inl refl)) in let d = input_net n ins h w.0 (sub w.0 (inr w.1)) in
+        let a2 = a.2 in let d2 = d.2 in
+        subst (MarksApart (mark Tran b (suc (row k)) (home y n))) w.2
+        (segments_differ k w.0 n (omega arith) (omega arith) (each_at (λ z. k ≡ z → ⊥) ks p.0 w.0 w.1) a.1 d.1 Tran Tran)),
+    tran_pairs n ins h ks (λ i m. sub i (inr m)) p.1,
+  )
 
   within_marks : (n : ℕ) (q : Option Part) → slice_get parts n ≡ q → Pairs MarksApart (column_marks b (rows_of f b) row (length parts) (home y n) (y.stub n) n q)
   within_marks n None h = tt
@@ -464,19 +506,31 @@ module _ (f : Plan) (lawful : IsFabric f) (b : ℕ) (y : Columns) (parts : List 
   within_marks n (Some (Gate ins)) h =
       let lt = slice_get_within parts n (Gate ins) h in
       let e = room.gates_homed n ins h in
-      let trans = map (λ i. mark Tran b (suc (row i)) (home y n)) (inputs_of ins) in
-      ((ground_differs n n TapL TapR, (top_differs n n (omega arith) TapL PullUp,
-          each_from (MarksApart (mark TapL b (suc (row n)) (home y n))) trans
-            (λ m k. let w = member_map (λ i. mark Tran b (suc (row i)) (home y n)) (inputs_of ins) m k in
-              let a = input_net n ins h w.0 w.1 in let a0 = a.0 in let a2 = a.2 in
-              subst (MarksApart (mark TapL b (suc (row n)) (home y n))) w.2 (segments_differ n w.0 n (omega arith) (omega arith) (λ z. omega arith) (own_cols n lt e) a.1 TapL Tran)))),
-        ((ground_top n TapR PullUp,
-          each_from (MarksApart (mark TapR b 0 (home y n))) trans
-            (λ m k. let w = member_map (λ i. mark Tran b (suc (row i)) (home y n)) (inputs_of ins) m k in subst (MarksApart (mark TapR b 0 (home y n))) w.2 (differs_ground w.0 n Tran TapR))),
-        (each_from (MarksApart (mark PullUp b (rows_of f b) (home y n))) trans
-          (λ m k. let w = member_map (λ i. mark Tran b (suc (row i)) (home y n)) (inputs_of ins) m k in
-            let a = (input_net n ins h w.0 w.1).2 in subst (MarksApart (mark PullUp b (rows_of f b) (home y n))) w.2 (differs_top w.0 n (omega arith) Tran PullUp)),
-          tran_pairs n ins h (inputs_of ins) (λ i m. m) (distinct_pairs (map (λ k. k.0) ins)))))
+      let trans = map (λ i. mark Tran b (suc (row i)) (home y n)) (inputs_of ins) in (
+        (
+          ground_differs n n TapL TapR,
+          (
+            top_differs n n (omega arith) TapL PullUp,
+            each_from (MarksApart (mark TapL b (suc (row n)) (home y n))) trans
+                (λ m k. let w = member_map (λ i. mark Tran b (suc (row i)) (home y n)) (inputs_of ins) m k in
+                let a = input_net n ins h w.0 w.1 in let a0 = a.0 in let a2 = a.2 in
+                subst (MarksApart (mark TapL b (suc (row n)) (home y n))) w.2 (segments_differ n w.0 n (omega arith) (omega arith) (λ z. omega arith) (own_cols n lt e) a.1 TapL Tran)),
+          ),
+        ),
+        (
+          (
+            ground_top n TapR PullUp,
+            each_from (MarksApart (mark TapR b 0 (home y n))) trans
+                (λ m k. let w = member_map (λ i. mark Tran b (suc (row i)) (home y n)) (inputs_of ins) m k in subst (MarksApart (mark TapR b 0 (home y n))) w.2 (differs_ground w.0 n Tran TapR)),
+          ),
+          (
+            each_from (MarksApart (mark PullUp b (rows_of f b) (home y n))) trans
+                (λ m k. let w = member_map (λ i. mark Tran b (suc (row i)) (home y n)) (inputs_of ins) m k in
+                let a = (input_net n ins h w.0 w.1).2 in subst (MarksApart (mark PullUp b (rows_of f b) (home y n))) w.2 (differs_top w.0 n (omega arith) Tran PullUp)),
+            tran_pairs n ins h (inputs_of ins) (λ i m. m) (distinct_pairs (map (λ k. k.0) ins)),
+          ),
+        ),
+      )
   within_marks n (Some (Latch ph None)) h = tt
   within_marks n (Some (Latch ph (Some d))) h =
       let lt = slice_get_within parts n (Latch ph (Some d)) h in
@@ -485,20 +539,23 @@ module _ (f : Plan) (lawful : IsFabric f) (b : ℕ) (y : Columns) (parts : List 
       let s = phase_small ph in
       let own = own_cols n lt e in
       let source : Member (cols d.0) (home y n) = net_cols d.0 (home y n) dl (data_mark y parts n ph d h) in
-      let beat : Member (cols (length parts + phase_number ph)) (home y n) = subst (λ z. Member z (home y n)) (sym (tracks.phases ph)) (phase_mark y parts n ph d h) in
-      ((segments_differ n d.0 n (omega arith) (omega arith) (λ z. (room.data_in n ph d h).1 (sym z)) own source TapL TapR,
-          (segments_differ n (length parts + phase_number ph) n (omega arith) (omega arith) (λ z. omega arith) own beat TapL Tran, tt)),
-        ((segments_differ d.0 (length parts + phase_number ph) n (omega arith) (omega arith) (λ z. omega arith) source beat TapR Tran, tt), (tt, tt)))
+      let beat : Member (cols (length parts + phase_number ph)) (home y n) = subst (λ z. Member z (home y n)) (sym (tracks.phases ph)) (phase_mark y parts n ph d h) in (
+        (
+          segments_differ n d.0 n (omega arith) (omega arith) (λ z. (room.data_in n ph d h).1 (sym z)) own source TapL TapR,
+          (segments_differ n (length parts + phase_number ph) n (omega arith) (omega arith) (λ z. omega arith) own beat TapL Tran, tt),
+        ),
+        ((segments_differ d.0 (length parts + phase_number ph) n (omega arith) (omega arith) (λ z. omega arith) source beat TapR Tran, tt), (tt, tt)),
+      )
 
   marks_apart : AllPairs MarksApart (f.marks ++ top)
   unfolding top
   marks_apart = pairs_all MarksApart (f.marks ++ top)
       (pairs_append MarksApart f.marks top (pairs_from MarksApart f.marks lawful.marks_apart)
-        (pairs_flat_range MarksApart (λ n. column_marks b (rows_of f b) row (length parts) (home y n) (y.stub n) n (slice_get parts n)) 0 (length parts)
-          (λ n lo hi. within_marks n (slice_get parts n) refl) cross)
-        (λ l m p q e r c. let w = in_marks m q in
-          let u = part_marks w.0 (slice_get parts w.0) refl m w.2 in
-          absurd (room.no_marks l (member_contains f.marks l p) (e ∙ u.2))))
+      (pairs_flat_range MarksApart (λ n. column_marks b (rows_of f b) row (length parts) (home y n) (y.stub n) n (slice_get parts n)) 0 (length parts)
+      (λ n lo hi. within_marks n (slice_get parts n) refl) cross)
+      (λ l m p q e r c. let w = in_marks m q in
+      let u = part_marks w.0 (slice_get parts w.0) refl m w.2 in
+      absurd (room.no_marks l (member_contains f.marks l p) (e ∙ u.2))))
     where
       cross : (i j : ℕ) (l m : Mark) → 0 ≤ i → i < j → j < 0 + length parts → Member (column_marks b (rows_of f b) row (length parts) (home y i) (y.stub i) i (slice_get parts i)) l
           → Member (column_marks b (rows_of f b) row (length parts) (home y j) (y.stub j) j (slice_get parts j)) m → MarksApart l m
@@ -512,12 +569,13 @@ module _ (f : Plan) (lawful : IsFabric f) (b : ℕ) (y : Columns) (parts : List 
   pub placed_is_fabric : IsFabric (with_net f b y parts cols row)
   unfolding g top
   placed_is_fabric = record {
-      columns = lawful.columns;
-      bands = lawful.bands;
-      rows = lawful.rows;
-      segments = segments_all;
-      segments_apart = segments_apart;
-      lines = lines_all;
-      lines_apart = lines_apart;
-      marks = marks_all;
-      marks_apart = marks_apart }
+    columns = lawful.columns;
+    bands = lawful.bands;
+    rows = lawful.rows;
+    segments = segments_all;
+    segments_apart = segments_apart;
+    lines = lines_all;
+    lines_apart = lines_apart;
+    marks = marks_all;
+    marks_apart = marks_apart;
+  }

@@ -36,8 +36,9 @@ same_to x a e = grind arith
 pub has_member : (a : ℕ) (xs : List ℕ) → has a xs ≡ true → Member xs a
 has_member a [] e = absurd (false_true e)
 has_member a (x ∷ xs) e = elim (cases_Bool (x == a)) [
-    inl q ↦ inl (same_from x a q)
-  | inr q ↦ inr (has_member a xs (sym (ap (λ t. cond t true (has a xs)) q) ∙ e)) ]
+  | inl q ↦ inl (same_from x a q)
+  | inr q ↦ inr (has_member a xs (sym (ap (λ t. cond t true (has a xs)) q) ∙ e))
+]
 
 -- a number differs from another where the test says so
 pub differs_from : (x a : ℕ) → not (a == x) ≡ true → a ≢ x
@@ -55,16 +56,18 @@ pub distinct_has : (xs : List ℕ) (a : ℕ) → Member xs a → Member (distinc
 distinct_has [] a m = absurd m
 distinct_has (x ∷ xs) a (inl e) = inl e
 distinct_has (x ∷ xs) a (inr m) = elim (cases_eq a x) [
-    inl e ↦ inl (sym e)
-  | inr e ↦ inr (filter_member (λ y. not (y == x)) (distinct xs) a (distinct_has xs a m) (differs_to x a e)) ]
+  | inl e ↦ inl (sym e)
+  | inr e ↦ inr (filter_member (λ y. not (y == x)) (distinct xs) a (distinct_has xs a m) (differs_to x a e))
+]
 
 module _ (X : Type 0) (b : ℕ) (stub : ℕ → Bool) (parts : List Part) where
   -- the ties of one net
   of_part : (n : ℕ) (q : Option Part) → slice_get parts n ≡ q → (t : Tie (Wire X)) → Member (net_ties X b n (stub n) q) t → NetTie X b parts stub t
   of_part n None h t m = absurd m
   of_part n (Some Input) h t m = elim (cases_Bool (stub n)) [
-      inl e ↦ elim (subst (λ z. Member (cond z (tap L (left (place b n)) (row (place b n)) ∷ []) []) t) e m) [ inl q ↦ subst (NetTie X b parts stub) q (stub_own n h e) | inr q ↦ absurd q ]
-    | inr e ↦ absurd (subst (λ z. Member (cond z (tap L (left (place b n)) (row (place b n)) ∷ []) []) t) e m) ]
+    | inl e ↦ elim (subst (λ z. Member (cond z (tap L (left (place b n)) (row (place b n)) ∷ []) []) t) e m) [ inl q ↦ subst (NetTie X b parts stub) q (stub_own n h e) | inr q ↦ absurd q ]
+    | inr e ↦ absurd (subst (λ z. Member (cond z (tap L (left (place b n)) (row (place b n)) ∷ []) []) t) e m)
+  ]
   of_part n (Some (Gate ins)) h t (inl q) = subst (NetTie X b parts stub) q (gate_own n ins h)
   of_part n (Some (Gate ins)) h t (inr (inl q)) = subst (NetTie X b parts stub) q (gate_ground n ins h)
   of_part n (Some (Gate ins)) h t (inr (inr (inl q))) = subst (NetTie X b parts stub) q (gate_pull n ins h)
@@ -87,7 +90,7 @@ module _ (X : Type 0) (b : ℕ) (stub : ℕ → Bool) (parts : List Part) where
   here : (n : ℕ) (q : Part) (t : Tie (Wire X)) → slice_get parts n ≡ Some q → Member (net_ties X b n (stub n) (Some q)) t → Member (band_ties X b stub parts) t
   here n q t h m =
       flat_member (λ k. net_ties X b k (stub k) (slice_get parts k)) (range_with_len 0 (length parts)) n t (range_has 0 (length parts) n (omega arith) (let w = slice_get_within parts n q h in omega arith))
-        (subst (λ z. Member (net_ties X b n (stub n) z) t) (sym h) m)
+      (subst (λ z. Member (net_ties X b n (stub n) z) t) (sym h) m)
 
   stub_member : (n : ℕ) (z : Bool) → z ≡ true → Member {A = Tie (Wire X)} (cond z (tap L (left (place b n)) (row (place b n)) ∷ []) []) (tap L (left (place b n)) (row (place b n)))
   stub_member n true s = inl refl
@@ -99,7 +102,7 @@ module _ (X : Type 0) (b : ℕ) (stub : ℕ → Bool) (parts : List Part) where
   tie_listed t (gate_pull n ins h) = here n (Gate ins) t h (inr (inr (inl refl)))
   tie_listed t (gate_input n ins i h c) =
       here n (Gate ins) t h (inr (inr (inr (map_member (λ k. tran (row (place b k)) (left (place b n)) (right (place b n))) (inputs_of ins) i.0
-        (distinct_has (map (λ j. j.0) ins) i.0 (map_member (λ (j : NetId). j.0) ins i (contains_member ins i c)))))))
+      (distinct_has (map (λ j. j.0) ins) i.0 (map_member (λ (j : NetId). j.0) ins i (contains_member ins i c)))))))
   tie_listed t (latch_own n ph d h) = here n (Latch ph (Some d)) t h (inl refl)
   tie_listed t (latch_data n ph d h) = here n (Latch ph (Some d)) t h (inr (inl refl))
   tie_listed t (latch_phase n ph d h) = here n (Latch ph (Some d)) t h (inr (inr (inl refl)))

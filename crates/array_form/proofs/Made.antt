@@ -36,7 +36,7 @@ pairs_map inside P Q to [] apart i j d lt h = absurd (omega arith)
 pairs_map inside P Q to (x ∷ xs) apart i j d lt h =
     let jb : j < length (x ∷ xs) = subst (λ n. j < n) (length_map inside (x ∷ xs)) h in
     subst (λ z. Q z (get_or (map inside (x ∷ xs)) j d)) (sym (get_map inside (x ∷ xs) i x d (omega arith)))
-      (subst (λ z. Q (inside (get_or (x ∷ xs) i x)) z) (sym (get_map inside (x ∷ xs) j x d jb)) (to (get_or (x ∷ xs) i x) (get_or (x ∷ xs) j x) (apart i j x lt jb)))
+    (subst (λ z. Q (inside (get_or (x ∷ xs) i x)) z) (sym (get_map inside (x ∷ xs) j x d jb)) (to (get_or (x ∷ xs) i x) (get_or (x ∷ xs) j x) (apart i j x lt jb)))
 
 -- two names of one thing are one, where no thing of the list is apart from itself
 one_name : {W B : Type 0} (g : W → B) (Q : B → B → Type 0) (ws : List W) → AllPairs Q (map g ws) → (w v : W) → Member ws w → Member ws v → g w ≡ g v → (Q (g w) (g w) → ⊥) → w ≡ v
@@ -49,9 +49,10 @@ one_name g Q ws apart w v mw mv e never = go (place_of ws w mw) (place_of ws v m
 
     go : (i : ℕ) × (i < length ws) × ((d : _) → get_or ws i d ≡ w) → (j : ℕ) × (j < length ws) × ((d : _) → get_or ws j d ≡ v) → w ≡ v
     go (i, ib, hi) (j, jb, hj) = elim (cases_order i j) [
-        inl q ↦ sym (hi w) ∙ (ap (λ k. get_or ws k w) q ∙ hj w)
+      | inl q ↦ sym (hi w) ∙ (ap (λ k. get_or ws k w) q ∙ hj w)
       | inr (inl lt) ↦ absurd (never (subst (λ z. Q (g w) z) (sym e) (clash i j w v lt jb hi hj)))
-      | inr (inr lt) ↦ absurd (never (subst (λ z. Q z (g w)) (sym e) (clash j i v w lt ib hj hi))) ]
+      | inr (inr lt) ↦ absurd (never (subst (λ z. Q z (g w)) (sym e) (clash j i v w lt ib hj hi)))
+    ]
 
 abbrev NetApart : Net → Net → Type 0
 NetApart (segment s) (segment t) = SegmentsApart s t
@@ -137,7 +138,7 @@ module _ (X : Type 0) (y : Layout X) (rows columns : List (Wire X)) (ties : List
   one w v (inl a) (inl b) e =
       let k = row_net w (contains_member rows w a) in
       one_name (net_of X y) NetApart rows rows_apart w v (contains_member rows w a) (contains_member rows v b) e
-        (λ h. no_segment_apart f lawful k.0 k.1 (subst (λ n. NetApart n n) k.2 h))
+      (λ h. no_segment_apart f lawful k.0 k.1 (subst (λ n. NetApart n n) k.2 h))
   one w v (inl a) (inr (inl b)) e = let k = row_net w (contains_member rows w a) in let j = column_net v (contains_member columns v b) in absurd (not_both k.0 j.0 (net_of X y v) (sym e ∙ k.2) j.2)
   one w v (inl a) (inr (inr (inl q))) e = let k = row_net w (contains_member rows w a) in absurd (cc (sym k.2 ∙ (e ∙ ap (net_of X y) q)))
   one w v (inl a) (inr (inr (inr q))) e = let k = row_net w (contains_member rows w a) in absurd (cc (sym k.2 ∙ (e ∙ ap (net_of X y) q)))
@@ -145,7 +146,7 @@ module _ (X : Type 0) (y : Layout X) (rows columns : List (Wire X)) (ties : List
   one w v (inr (inl a)) (inr (inl b)) e =
       let k = column_net w (contains_member columns w a) in
       one_name (net_of X y) NetApart columns columns_apart w v (contains_member columns w a) (contains_member columns v b) e
-        (λ h. no_line_apart f lawful k.0 k.1 (subst (λ n. NetApart n n) k.2 h))
+      (λ h. no_line_apart f lawful k.0 k.1 (subst (λ n. NetApart n n) k.2 h))
   one w v (inr (inl a)) (inr (inr (inl q))) e = let k = column_net w (contains_member columns w a) in absurd (cc (sym k.2 ∙ (e ∙ ap (net_of X y) q)))
   one w v (inr (inl a)) (inr (inr (inr q))) e = let k = column_net w (contains_member columns w a) in absurd (cc (sym k.2 ∙ (e ∙ ap (net_of X y) q)))
   one w v (inr (inr (inl q))) (inl b) e = let k = row_net v (contains_member rows v b) in absurd (cc (sym k.2 ∙ (sym e ∙ ap (net_of X y) q)))
@@ -168,9 +169,11 @@ module _ (X : Type 0) (y : Layout X) (rows columns : List (Wire X)) (ties : List
   at_mark (tap side w v) i =
       let s = speaks (tap side w v) i in
       let c = crossing (tap side w v) i in
-      let m = mark_of X y (tap side w v) in
-      (tap_on side, line_at f m side (net_of X y w) (is_in w (listed w s.0)) c.0,
-        elim c.1 [ inl g ↦ inl g | inr h ↦ inr (segment_at f m (net_of X y v) (is_in v (listed v s.1)) h) ])
+      let m = mark_of X y (tap side w v) in (
+        tap_on side,
+        line_at f m side (net_of X y w) (is_in w (listed w s.0)) c.0,
+        elim c.1 [ inl g ↦ inl g | inr h ↦ inr (segment_at f m (net_of X y v) (is_in v (listed v s.1)) h) ],
+      )
   at_mark (tran g a b) i =
       let s = speaks (tran g a b) i in
       let c = crossing (tran g a b) i in
@@ -182,12 +185,13 @@ module _ (X : Type 0) (y : Layout X) (rows columns : List (Wire X)) (ties : List
   pub named : IsNamed (Wire X) In T f (net_of X y)
   unfolding n_of
   named = record {
-      is_in = λ w i. is_in w (listed w i);
-      onto = λ n i. let k = onto n i in (k.0, list_in k.0 k.1, k.2);
-      one = λ w v i j e. one w v (listed w i) (listed v j) e;
-      marked = λ m i u.
+    is_in = λ w i. is_in w (listed w i);
+    onto = λ n i. let k = onto n i in (k.0, list_in k.0 k.1, k.2);
+    one = λ w v i j e. one w v (listed w i) (listed v j) e;
+    marked = λ m i u.
         let k = member_map (mark_of X y) ties m (contains_member (map (mark_of X y) ties) m ((made.marks m).0 i)) in
         let t = tie_in k.0 (member_contains ties k.0 k.1) in
         (k.0, t, subst (λ z. IsAt (Wire X) f (net_of X y) z k.0) k.2 (at_mark k.0 t));
-      tied = λ t i.
-        (mark_of X y t, (made.marks (mark_of X y t)).1 (member_contains (map (mark_of X y) ties) (mark_of X y t) (map_member (mark_of X y) ties t (contains_member ties t (tie_listed t i)))), at_mark t i) }
+    tied = λ t i.
+        (mark_of X y t, (made.marks (mark_of X y t)).1 (member_contains (map (mark_of X y) ties) (mark_of X y t) (map_member (mark_of X y) ties t (contains_member ties t (tie_listed t i)))), at_mark t i);
+  }

@@ -24,8 +24,9 @@ use Rattle.array_form.proofs.Homes.{greatest_above, own_mark, reader_mark, more_
 any_member : {A : Type 0} (test : A → Bool) (xs : List A) → list_any test xs ≡ true → (i : ℕ) × (x : A) × (slice_get xs i ≡ Some x) × (test x ≡ true) × Member xs x
 any_member test [] e = absurd (cc e)
 any_member test (x ∷ xs) e = elim (cases_Bool (test x)) [
-    inl q ↦ (0, x, refl, q, inl refl)
-  | inr q ↦ (let w = any_member test xs (sym (ap (λ t. t || list_any test xs) q) ∙ e) in (suc w.0, w.1, w.2, w.3, inr w.4)) ]
+  | inl q ↦ (0, x, refl, q, inl refl)
+  | inr q ↦ (let w = any_member test xs (sym (ap (λ t. t || list_any test xs) q) ∙ e) in (suc w.0, w.1, w.2, w.3, inr w.4))
+]
 
 or_left : (a b : Bool) → a ≡ true → (a || b) ≡ true
 or_left true b e = refl
@@ -75,13 +76,17 @@ module _ (f : Plan) (band : Band) (parts : List Part) (rows : ℕ) (is_net : IsN
   some_mark n (Some (Gate ins)) h lt = (home y n, member_contains (marks y parts n) (home y n) (own_mark y parts n (part_homed n (Gate ins) refl h)))
   some_mark n (Some (Latch ph d)) h lt = (home y n, member_contains (marks y parts n) (home y n) (own_mark y parts n (part_homed n (Latch ph d) refl h)))
   some_mark n (Some Input) h lt = elim (cases_Bool (is_read parts n || is_tapped band.taps n)) [
-      inl e ↦ elim (or_cases (is_read parts n) (is_tapped band.taps n) e) [
-          inl r ↦ (let w = any_member (λ q. reads n (Some q)) parts r in (home y w.0, member_contains (marks y parts n) (home y w.0) (reader_mark y parts n w.0 w.1 w.2 w.3)))
-        | inr t ↦ (let w = any_member (λ (t : Tap). t.net.0 == n) band.taps t in
-            (w.1.column, member_contains (marks y parts n) w.1.column (more_mark y parts n w.1.column
-              (map_member (λ (t : Tap). t.column) (filter (λ t. t.net.0 == n) band.taps) w.1 (filter_member (λ t. t.net.0 == n) band.taps w.1 w.4 w.3))))) ]
+    | inl e ↦ elim (or_cases (is_read parts n) (is_tapped band.taps n) e) [
+      | inl r ↦ (let w = any_member (λ q. reads n (Some q)) parts r in (home y w.0, member_contains (marks y parts n) (home y w.0) (reader_mark y parts n w.0 w.1 w.2 w.3)))
+      | inr t ↦ (let w = any_member (λ (t : Tap). t.net.0 == n) band.taps t in (
+        w.1.column,
+        member_contains (marks y parts n) w.1.column (more_mark y parts n w.1.column
+            (map_member (λ (t : Tap). t.column) (filter (λ t. t.net.0 == n) band.taps) w.1 (filter_member (λ t. t.net.0 == n) band.taps w.1 w.4 w.3))),
+      ))
+    ]
     | inr e ↦ (let s = and_of (part_is is_input (slice_get parts n)) (not (is_read parts n || is_tapped band.taps n)) (ap (part_is is_input) h) (ap not e) in
-        (home y n, member_contains (marks y parts n) (home y n) (own_mark y parts n (stub_homed n s)))) ]
+        (home y n, member_contains (marks y parts n) (home y n) (own_mark y parts n (stub_homed n s))))
+  ]
 
   -- the data of a latch is another net
   data_is : (n : ℕ) (ph : Phase) (d : NetId) (q : Option Part) → slice_get parts d.0 ≡ q → MayFeed ph q → slice_get parts n ≡ Some (Latch ph (Some d)) → (d.0 < length parts) × (d.0 ≢ n)
@@ -98,18 +103,19 @@ module _ (f : Plan) (band : Band) (parts : List Part) (rows : ℕ) (is_net : IsN
 
   pub has_room : HasRoom f band.index (columns_in band parts) parts rows
   has_room = record {
-      band = may.index;
-      rows_is = may.rows_is;
-      columns = may.columns;
-      base = may.first;
-      phases = omega arith;
-      no_segments = may.no_segments;
-      no_marks = may.no_marks;
-      no_lines = λ l c a b. let h = may.no_lines l c a b in omega arith;
-      some = λ n lt. some_mark n (slice_get parts n) refl lt;
-      more = more_in;
-      gates_homed = λ n ins h. part_homed n (Gate ins) refl h;
-      latches_homed = λ n ph d h. part_homed n (Latch ph (Some d)) refl h;
-      stubs_homed = stub_homed;
-      inputs = λ n ins i h c. All-contains (λ j. j.0 < n) ins i (is_net.stand n (Gate ins) h) c;
-      data_in = λ n ph d h. data_is n ph d (slice_get parts d.0) refl (is_net.stand n (Latch ph (Some d)) h) h }
+    band = may.index;
+    rows_is = may.rows_is;
+    columns = may.columns;
+    base = may.first;
+    phases = omega arith;
+    no_segments = may.no_segments;
+    no_marks = may.no_marks;
+    no_lines = λ l c a b. let h = may.no_lines l c a b in omega arith;
+    some = λ n lt. some_mark n (slice_get parts n) refl lt;
+    more = more_in;
+    gates_homed = λ n ins h. part_homed n (Gate ins) refl h;
+    latches_homed = λ n ph d h. part_homed n (Latch ph (Some d)) refl h;
+    stubs_homed = stub_homed;
+    inputs = λ n ins i h c. All-contains (λ j. j.0 < n) ins i (is_net.stand n (Gate ins) h) c;
+    data_in = λ n ph d h. data_is n ph d (slice_get parts d.0) refl (is_net.stand n (Latch ph (Some d)) h) h;
+  }

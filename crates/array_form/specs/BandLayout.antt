@@ -30,4 +30,5 @@ layout X d across ground_at = record {
   trunk_at = d.trunk_at;
   top = d.top;
   across = across;
-  ground_at = ground_at }
+  ground_at = ground_at;
+}

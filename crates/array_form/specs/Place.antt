@@ -47,7 +47,8 @@ columns_in band parts = record {
   homed = λ n. part_is (λ q. not (is_input q)) (slice_get parts n) || is_stub band parts n;
   stub = is_stub band parts;
   more = λ n. map (λ t. t.column) (filter (λ t. t.net.0 == n) band.taps);
-  first_phase = band.first_column }
+  first_phase = band.first_column;
+}
 
 -- the columns of segment k: of the nets, and then of the phases
 abbrev pub cols_in : Columns → List Part → ℕ → List ℕ

@@ -198,7 +198,7 @@ module _ (p : Program) (roles : List Role) (xs : List cells.Cell) (are : AreCell
       let (y, at_y, is) = has x at in
       let (w, of_kind, of_copy) = copy_sort x.kind y is in
       let same : sort_of word ≡ sort_of w = same_sort (sort_of word) (sort_of w) (λ other.
-          sorted.sorts x.place (inl (e, x, sort_of word, sort_of w, at, wanted, of_kind, other, refl))) in
+      sorted.sorts x.place (inl (e, x, sort_of word, sort_of w, at, wanted, of_kind, other, refl))) in
       (y, at_y, subst (IsSort xs y) (sym (same_word word w (ap Some same))) of_copy)
 
   in_map : (args : List ℕ) (a : ℕ) → Contains (map (copy_of p) args) a → (x : ℕ) × Contains args x × (copy_of p x ≡ a)
