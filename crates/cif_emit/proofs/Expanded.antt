@@ -17,7 +17,7 @@ use Rattle.cif_form.specs.Expansion.{Definition, Stands, Draws, Expands, IsInsid
 use Rattle.cif_form.specs.Counts.{Counts, CountsAtTop, FileCounts}
 use Rattle.fabric.specs.declared.chip.ChipLabel.{ChipLabel}
 use Rattle.cif_emit.specs.Emittable.{IsPlainLabel}
-use Rattle.cif_emit.specs.Emitted.{AreLabelsOf}
+use Rattle.fabric.specs.Labelled.{AreLabelsOf}
 use Rattle.cif_emit.specs.Commands.{box_of, label_of, label_words, symbol}
 use Rattle.cif_emit.proofs.Offsets.{next, laid, behind, laid-append}
 use Rattle.cif_emit.proofs.Painted.{Paints}

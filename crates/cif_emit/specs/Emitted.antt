@@ -1,6 +1,5 @@
 -- What the commands of a chip draw.
 use Rattle.std.specs.Prelude.{ℕ, ◌≡◌, ◌+◌, ◌≤◌, List, [], length, map, All, Some, None, false}
-use Rattle.std.specs.List.{AllZip}
 use Rattle.lam_geom.specs.declared.rect.Rect.{Rect}
 use Rattle.lam_geom.specs.declared.label.FlatLabel.{FlatLabel}
 use Rattle.lam_geom.specs.Squares.{covered, SameSquares}
@@ -14,16 +13,7 @@ use Rattle.cif_form.specs.Walk.DrawRule.{F7}
 use Rattle.cif_form.specs.Walk.WalkEnd.{Whole, Broken}
 use Rattle.cif_form.specs.Counts.{FileCounts}
 use Rattle.fabric.specs.declared.chip.ChipLabel.{ChipLabel}
-
--- the label of a file is the chip's label, at whatever offset
-pub record IsLabelOf (c : ChipLabel) (f : FlatLabel) : Type 0 where
-  pub name : f.name ≡ c.name
-  pub x : f.x ≡ c.x
-  pub y : f.y ≡ c.y
-  pub layer : f.layer ≡ Some c.layer
-
-abbrev pub AreLabelsOf : List ChipLabel → List FlatLabel → Type 0
-AreLabelsOf chip flat = AllZip IsLabelOf chip flat
+use Rattle.fabric.specs.Labelled.{AreLabelsOf}
 
 -- The items draw the squares of the rectangles in no more shapes, and the labels. Their walk counts at most the
 -- rectangles, the labels and 65,536 more, and no rule but that of the count can be broken.
