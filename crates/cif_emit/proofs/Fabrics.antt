@@ -1,9 +1,8 @@
 -- The rectangles of a fabric are on whole lambda.
-use Rattle.std.proofs.Common.{ℕ, zero, suc, ◌≡◌, ◌+◌, ◌*◌, ◌-◌, ◌<◌, ◌≤◌, ◌⊎◌, inl, inr, refl, sym, ap, subst, arith}
+use Rattle.std.proofs.Common.{ℕ, zero, suc, ◌≡◌, ◌+◌, ◌*◌, ◌<◌, ◌≤◌, ◌⊎◌, inl, inr, refl, ap, subst, arith}
 use Rattle.std.proofs.Common.{Bool, true, cond, eqb, leb, ◌&&◌, List, [], ◌∷◌, ◌++◌, map, All}
-use Rattle.std.specs.Prelude.{ℤ, pos, Contains, flat_map}
-use Rattle.std.specs.List.{range_with_len, list_all}
-use Rattle.std.proofs.lemmas.Int.{ints}
+use Rattle.std.specs.Prelude.{pos, Contains, flat_map}
+use Rattle.std.specs.List.{range_with_len}
 use Rattle.std.proofs.lemmas.Bool.{cases_Bool, cases_lt, and_parts, leb-true}
 use Rattle.std.proofs.lemmas.List.Elements.{All-nil, All-cons, All-head, All-tail, All-append, All-map, All-weaker}
 use Rattle.std.proofs.lemmas.List.Elements.{All-contains}
@@ -90,7 +89,7 @@ cells_on x y h (k ∷ ks) e wide high =
     let x1 = leb-true k.x1 20 d.0 in let y1 = leb-true k.y1 h d.1 in
     All-cons IsOnGrid (placed x y k) (map (placed x y) ks)
     (on_grid k.layer (x + k.x0) (y + k.y0) (x + k.x1) (y + k.y1) (omega arith) (omega arith) (omega arith)
-        (omega arith))
+    (omega arith))
     (cells_on x y h ks a.1 wide high)
 
 -- ---- a fabric
@@ -109,7 +108,7 @@ module _ (f : Plan) (met : IsFabric f) (wide : 20 * f.columns ≤ farthest) (hig
   line_place side b c l =
       let is = All-contains (IsLine f) f.lines l.line met.lines l.among in
       let p = l.passes in let last = is.last in let right = is.right in let in_band = p.last in
-          let in_column = p.column in
+      let in_column = p.column in
       (omega arith, omega arith)
 
   segment_row : (s : Segment) (b r : ℕ) → Contains f.segments s → s.band ≡ b → s.row ≡ r → r ≤ rows_of f b
@@ -146,7 +145,7 @@ module _ (f : Plan) (met : IsFabric f) (wide : 20 * f.columns ≤ farthest) (hig
       let top = below_top m.band m.row p.band p.row in
       let l = lifted f m.tile m.band m.row in
       cells_on (20 * m.column) (base f m.band + 12 * m.row + lift f m.tile m.band m.row) (height m.tile)
-          (cells m.tile)
+      (cells m.tile)
       (tile_fits m.tile) (omega arith) (omega arith)
 
   marks_on : (ms : List Mark) → All (IsMark f) ms → All IsOnGrid (flat_map (mark_rects f) ms)
@@ -181,7 +180,7 @@ module _ (f : Plan) (met : IsFabric f) (wide : 20 * f.columns ≤ farthest) (hig
       let top = below_top b (rows_of f b) h (omega arith) in
       All-cons IsOnGrid (ground_row f b) (power_rail f b ∷ [])
       (on_grid NM 7 (base f b + 6) (20 * last_column f) (base f b + 10) (omega arith) (omega arith) (omega arith)
-          (omega arith))
+      (omega arith))
       (All-cons IsOnGrid (power_rail f b) []
       (on_grid NM 20 (base f b + 12 * rows_of f b + 27) (20 * last_column f + 13) (base f b + 12 * rows_of f b + 31)
       (omega arith) (omega arith) (omega arith) (omega arith)) (All-nil IsOnGrid))
@@ -190,7 +189,7 @@ module _ (f : Plan) (met : IsFabric f) (wide : 20 * f.columns ≤ farthest) (hig
   bands_on a zero h = All-nil IsOnGrid
   bands_on a (suc n) h =
       All-append IsOnGrid (band_rects f a) (flat_map (band_rects f) (range_with_len (a + 1) n))
-          (band_on a (omega arith))
+      (band_on a (omega arith))
       (bands_on (a + 1) n (omega arith))
 
   pub fabric_on_grid : All IsOnGrid (shape f)
@@ -201,16 +200,16 @@ module _ (f : Plan) (met : IsFabric f) (wide : 20 * f.columns ≤ farthest) (hig
       let marks : List Rect = flat_map (mark_rects f) f.marks in
       let in_bands : List Rect = flat_map (band_rects f) (range_with_len 0 (bands f)) in
       let segments_are : All IsOnGrid segments =
-          All-map IsOnGrid (segment_rect f) f.segments
-          (All-weaker (IsSegment f) (λ s. IsOnGrid (segment_rect f s)) segment_on f.segments met.segments) in
+      All-map IsOnGrid (segment_rect f) f.segments
+      (All-weaker (IsSegment f) (λ s. IsOnGrid (segment_rect f s)) segment_on f.segments met.segments) in
       let lines_are : All IsOnGrid lines =
-          All-map IsOnGrid (line_rect f) f.lines
-          (All-weaker (IsLine f) (λ l. IsOnGrid (line_rect f l)) line_on f.lines met.lines) in
+      All-map IsOnGrid (line_rect f) f.lines
+      (All-weaker (IsLine f) (λ l. IsOnGrid (line_rect f l)) line_on f.lines met.lines) in
       let things : All IsOnGrid (segments ++ (lines ++ marks)) =
-          All-append IsOnGrid segments (lines ++ marks) segments_are
-          (All-append IsOnGrid lines marks lines_are (marks_on f.marks met.marks)) in
+      All-append IsOnGrid segments (lines ++ marks) segments_are
+      (All-append IsOnGrid lines marks lines_are (marks_on f.marks met.marks)) in
       let all : All IsOnGrid (in_bands ++ (segments ++ (lines ++ marks))) =
-          All-append IsOnGrid in_bands (segments ++ (lines ++ marks)) (bands_on 0 (bands f) (omega arith)) things in
+      All-append IsOnGrid in_bands (segments ++ (lines ++ marks)) (bands_on 0 (bands f) (omega arith)) things in
       let top : ℕ = base f (bands f) in
       let right : ℕ = 20 * last_column f in
       All-cons IsOnGrid (ground_trunk f) (power_trunk f ∷ (in_bands ++ (segments ++ (lines ++ marks))))
