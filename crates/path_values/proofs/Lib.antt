@@ -1,0 +1,6 @@
+mod Syncing
+mod Passing
+mod Writing
+mod Knowing
+mod Realized
+mod Taming
