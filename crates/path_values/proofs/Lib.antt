@@ -2,5 +2,5 @@ mod Syncing
 mod Passing
 mod Writing
 mod Knowing
-mod Realized
+pub mod Realized
 mod Taming
