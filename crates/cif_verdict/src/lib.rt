@@ -1,0 +1,4 @@
+//! That each CIF file has a verdict: laws.
+#![tactic(auto)]
+
+pub mod laws;

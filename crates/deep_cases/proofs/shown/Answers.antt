@@ -1,0 +1,12 @@
+use Rattle.deep_cases.proofs.ZeroPads.{zeros_fit, zeros_long}
+use Rattle.deep_cases.proofs.shown.Goals as goal
+
+pub clock-requires-clause-inputs : goal.clock-requires-clause-inputs
+clock-requires-clause-inputs c =
+    zeros_fit c.in_ok-machine.machine.program c.pads-pads.result.now c.in_ok-inputs.inputs c.pads-pads.ensures
+    c.in_ok-inputs.ensures
+
+pub clock-requires-clause-outputs : goal.clock-requires-clause-outputs
+clock-requires-clause-outputs c =
+    zeros_long c.in_ok-machine.machine.program c.pads-pads.result.now c.in_ok-outputs.outputs c.pads-pads.ensures
+    c.in_ok-outputs.ensures

@@ -1,0 +1,52 @@
+//! What a fabric draws and means, in words.
+
+use crate::build::{build, copy};
+use extractor::extract;
+use mp_base::{NoMemory, Refusal};
+use std::alloc::{AllocError, Global};
+use switch_net::{Channel, Network};
+
+fn switched(alloc: Global, channel: &Channel) -> Result<String, AllocError> {
+    let (kind, gate) = (channel.kind, channel.gate);
+    let mut words = format!(in alloc; "; {kind:?} of {gate} between")?;
+    for end in channel.ends.as_slice() {
+        words.push_str(&format!(in alloc; " {end}")?)?;
+    }
+    Ok(words)
+}
+
+fn shown(alloc: Global, net: &Network) -> Result<String, AllocError> {
+    let mut words = format!(in alloc; "{} nodes", net.nodes)?;
+    for channel in net.channels.as_slice() {
+        words.push_str(&switched(alloc, channel)?)?;
+    }
+    Ok(words)
+}
+
+// The network that is drawn, and the one that is meant.
+fn networks(alloc: Global, text: &[u8]) -> Result<Option<(Network, Network)>, NoMemory> {
+    let Some(fabric) = build(alloc, text)? else {
+        return Ok(None);
+    };
+    let fabric = copy(alloc, &fabric)?;
+    let shape = fabric.shape(alloc)?;
+    let meant = fabric.switches(alloc)?;
+    match extract(alloc, shape.as_slice(), &[]) {
+        Ok(drawn) => Ok(Some((drawn, meant))),
+        Err(Refusal::NoMemory) => Err(NoMemory),
+        Err(Refusal::Broken(_)) => Ok(None),
+    }
+}
+
+/// The network that a fabric draws, and on a second line that of its segments, lines and marks.
+pub(crate) fn answer(alloc: Global, text: &[u8]) -> Result<String, AllocError> {
+    match networks(alloc, text) {
+        Ok(Some((drawn, meant))) => {
+            let drawn = shown(alloc, &drawn)?;
+            let meant = shown(alloc, &meant)?;
+            format!(in alloc; "drawn: {drawn}\n    meant: {meant}")
+        }
+        Ok(None) => format!(in alloc; "no fabric"),
+        Err(NoMemory) => format!(in alloc; "no memory"),
+    }
+}

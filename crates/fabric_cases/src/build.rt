@@ -1,0 +1,48 @@
+//! Lines of text to fabrics.
+
+use crate::fits::{is_room, takes_line, takes_mark, takes_segment};
+use crate::read::{Thing, number, thing_of, words_of};
+use fabric::Fabric;
+use mp_base::{List, NoMemory};
+use std::alloc::Global;
+
+// Adds what is asked for, if the fabric takes it.
+fn add(fabric: &mut Fabric, asked: Option<Thing>) -> Result<bool, NoMemory> {
+    match asked {
+        Some(Thing::Segment(s)) if takes_segment(fabric, &s) => fabric.segment(s)?,
+        Some(Thing::Line(l)) if takes_line(fabric, &l) => fabric.line(l)?,
+        Some(Thing::Mark(m)) if takes_mark(fabric, &m) => fabric.mark(m)?,
+        _ => return Ok(false),
+    }
+    Ok(true)
+}
+
+/// The fabric of a line, if it is one.
+pub(crate) fn build(alloc: Global, text: &[u8]) -> Result<Option<Fabric>, NoMemory> {
+    let mut parts = text.split(|byte| *byte == b';');
+    let Some(head) = parts.next() else {
+        return Ok(None);
+    };
+    let head = words_of(alloc, head)?;
+    let columns = number(head.first);
+    if !is_room(columns, head.numbers.as_slice()) {
+        return Ok(None);
+    }
+    let mut fabric = Fabric::new(alloc, columns, List::from_vec(head.numbers))?;
+    for part in parts {
+        let asked = words_of(alloc, part)?;
+        if !add(&mut fabric, thing_of(asked.first, asked.numbers.as_slice()))? {
+            return Ok(None);
+        }
+    }
+    Ok(Some(fabric))
+}
+
+/// A fabric with the same things, added all at once.
+pub(crate) fn copy(alloc: Global, fabric: &Fabric) -> Result<Fabric, NoMemory> {
+    fabric.conditions();
+    let rows = fabric.rows().to_vec(alloc)?;
+    let mut copy = Fabric::new(alloc, fabric.columns(), List::from_vec(rows))?;
+    copy.add(fabric.segments(), fabric.lines(), fabric.marks())?;
+    Ok(copy)
+}
