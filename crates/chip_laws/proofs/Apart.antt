@@ -66,7 +66,7 @@ entry [] k l = absurd (omega (arith, l))
 entry (x ∷ xs) zero l = (x, refl)
 entry (x ∷ xs) (suc k) l = entry xs k (omega (arith, l))
 
-in_list : {Y : Type 0} (xs : List Y) (k : ℕ) (x : Y) → slice_get xs k ≡ Some x → Contains xs x
+pub in_list : {Y : Type 0} (xs : List Y) (k : ℕ) (x : Y) → slice_get xs k ≡ Some x → Contains xs x
 in_list xs k x e = (k, slice_get_within xs k x e, get_or_from_slice_get xs k x x e)
 
 same_id : (x y : NetId) → x.0 ≡ y.0 → x ≡ y

@@ -3,3 +3,4 @@ pub mod Laws
 pub mod Labels
 pub mod Fabrics
 pub mod Rows
+pub mod Sound

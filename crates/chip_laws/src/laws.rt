@@ -5,11 +5,14 @@ ghost use Rattle.chip_laws.specs.Labels.{LabelsStand};
 ghost use Rattle.chip_laws.specs.Laws.{CircuitsHavePads, FlatsAreDrawable, InputsAreApart, NetworksDrawCircuits};
 ghost use Rattle.chip_laws.specs.Laws.{PathsArePlanned, PathsFollow, PlansHold};
 ghost use Rattle.chip_laws.specs.Rows.{PathsAreFed, PathsShowRows, RowsFollow};
+ghost use Rattle.chip_laws.specs.Sound.{FabricsAreFew, LabelsFit};
 
 use drawing::laws::drawings_carry_over;
 use drawn_nets::laws::circuits_are_drawn;
-use fabric::laws::fabric_draws_its_switches;
+use fabric::laws::{fabric_draws_its_switches, fabrics_are_small, labels_name_conductors};
+use mask_laws::laws::masks_draw_networks;
 use path_form::laws::flat_nets_follow;
+use switch_net::network_is_determined;
 
 /// A circuit that draws the flat net of a path that shows transfers follows them.
 pub fn paths_follow()
@@ -88,3 +91,19 @@ pub fn labels_stand()
 pub fn paths_are_fed()
     ensures { PathsAreFed }
 {}
+
+/// Labels of different names on nets of a fabric break no rule, whatever their offsets.
+pub fn labels_fit()
+    ensures { LabelsFit }
+{
+    labels_name_conductors();
+}
+
+/// The masks of a fabric of few segments, lines and marks have few nodes and channels.
+pub fn fabrics_are_few()
+    ensures { FabricsAreFew }
+{
+    network_is_determined();
+    masks_draw_networks();
+    fabrics_are_small();
+}
