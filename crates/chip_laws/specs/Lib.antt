@@ -1,0 +1,5 @@
+pub mod Planned
+pub mod Laws
+pub mod Labels
+pub mod Fabrics
+pub mod Rows
