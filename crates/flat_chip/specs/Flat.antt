@@ -1,11 +1,12 @@
 -- The fabric of a chip of one band: a net that is placed there, and a line for each phase.
-use Rattle.std.specs.Prelude.{◌≡◌, ◌<◌, ◌+◌, ℕ, suc, List, [], ◌∷◌, length, slice_index}
+use Rattle.std.specs.Prelude.{◌≡◌, ◌<◌, ◌≤◌, ◌+◌, ℕ, suc, List, [], ◌∷◌, length, slice_index}
 use Rattle.tile_cells.specs.declared.tile.Tile.TheVariants.{TapL}
 use Rattle.switch_net.specs.declared.network.Network.{Network}
 use Rattle.fabric.specs.declared.thing.Side.TheVariants.{L}
 use Rattle.fabric.specs.declared.thing.Line.{Line}
 use Rattle.fabric.specs.declared.thing.Mark.{Mark}
 use Rattle.fabric.specs.Plan.{Plan, IsFabric, with_added}
+use Rattle.fabric.specs.Plan as fabric
 use Rattle.fabric.specs.Switches.{Net, AreSwitches}
 use Rattle.fabric.specs.Switches.Net.{segment, line, ground, power}
 use Rattle.nor_net.specs.declared.net.Phase.{Phase}
@@ -30,7 +31,7 @@ pub record IsFlatBand (band : Band) : Type 0 where
 
 -- a fabric of one band in which nothing stands
 abbrev pub empty : ℕ → ℕ → Plan
-empty columns rows = record { columns = columns; rows = rows ∷ []; segments = []; lines = []; marks = [] }
+empty columns rows = fabric.empty columns (rows ∷ [])
 
 -- the line of a phase
 abbrev pub phase_line : Phase → Line
@@ -70,3 +71,11 @@ FlatChipsDraw =
     → (number : Net → ℕ) (network : Network)
     → AreSwitches (with_phases new (slice_index (at.tracks).row) (length parts)) number network
     → (node : Point → ℕ) × DrawsFlat band parts (slice_index (at.tracks).row) number network node
+
+-- The lines of the phases may be added to a fabric of one band in which a net was placed, behind the columns that they
+-- take.
+abbrev pub PhasesFit : Type 0
+PhasesFit =
+    (parts : List Part) (band : Band) → IsFlatBand band
+    → (columns rows : ℕ) (new : Plan) (placed : Placed) (at : IsPlaced band parts (empty columns rows) new placed)
+    → 5 ≤ columns → IsFabric new → IsFabric (with_phases new (slice_index (at.tracks).row) (length parts))
