@@ -1,23 +1,21 @@
 -- What the pins of a band are.
-use Rattle.std.proofs.Common.{◌≡◌, ◌⊎◌, inl, inr, ℕ, zero, suc, ◌<◌, ◌≤◌, ◌+◌, ◌==◌, Option, Some, None, Bool, true, false, cond, List, [], ◌∷◌, ◌++◌, length, map, filter, get_or, refl, sym, ◌∙◌, ap, subst, arith}
-use Rattle.std.specs.Prelude.{slice_get, flat_map}
+use Rattle.std.proofs.Common.{◌≡◌, inl, inr, ℕ, ◌<◌, ◌+◌, Option, Some, None, Bool, true, false, cond, List, [], ◌∷◌, ◌++◌, length, map, get_or, refl, sym, ◌∙◌, ap, subst, arith}
+use Rattle.std.specs.Prelude.{slice_get}
 use Rattle.std.specs.List.{range_with_len}
 use Rattle.std.proofs.lemmas.Option.{slice_get_within}
 use Rattle.nor_net.specs.declared.net.Phase.{Phase}
-use Rattle.nor_net.specs.declared.net.Phase.TheVariants.{A, B, C}
 use Rattle.nor_net.specs.declared.net.NetId.{NetId}
 use Rattle.nor_net.specs.declared.net.Part.{Part}
 use Rattle.nor_net.specs.declared.net.Part.TheVariants.{Input, Gate, Latch}
 use Rattle.array_form.specs.declared.band.Tap.{Tap}
 use Rattle.array_form.specs.declared.band.Band.{Band}
-use Rattle.array_form.specs.Band.{has}
 use Rattle.array_form.specs.Homes.{reads, phase_number}
 use Rattle.array_form.specs.Place.{is_input}
 use Rattle.array_form.proofs.Members.{Member, member_append, append_left, append_right, member_map, map_member, member_flat, flat_member}
 use Rattle.array_form.proofs.Listing.{in_range, range_has, has_member, same_from, same_to}
 use Rattle.array_form.proofs.Homes.{has_of}
 use Rattle.weinberger.specs.declared.pins.Pin.{Pin}
-use Rattle.weinberger.specs.Pins.{pin, gate_pins, latch_pins, part_pins, net_pins, tap_pin, tap_pins, phase_pin, phase_pins, band_pins, stub_pin, stub_pins}
+use Rattle.weinberger.specs.Pins.{pin, part_pins, net_pins, tap_pin, tap_pins, phase_pin, phase_pins, band_pins, stub_pin, stub_pins}
 
 -- The pin is in the column of a net: on the net's own segment, on one that it reads, or on that of its phase.
 pub data IsNetPin (parts : List Part) (p : Pin) : Type 0 where
@@ -51,8 +49,8 @@ module _ (parts : List Part) where
       → Member (net_pins parts) p
   there n q p h m =
       flat_member (λ n. part_pins (length parts) n (slice_get parts n)) (range_with_len 0 (length parts)) n p
-        (range_has 0 (length parts) n (omega arith) (let w = slice_get_within parts n q h in omega arith))
-        (subst (λ z. Member (part_pins (length parts) n z) p) (sym h) m)
+      (range_has 0 (length parts) n (omega arith) (let w = slice_get_within parts n q h in omega arith))
+      (subst (λ z. Member (part_pins (length parts) n z) p) (sym h) m)
 
   own_there : (n : ℕ) (q : Part) (p : Pin) → slice_get parts n ≡ Some q → is_input q ≡ false → pin n n ≡ p
       → Member (net_pins parts) p
@@ -67,7 +65,7 @@ module _ (parts : List Part) where
   read_there n i (Gate ins) p h e s =
       let w = member_map (λ (j : NetId). j.0) ins i (has_member i (map (λ j. j.0) ins) e) in
       there n (Gate ins) p h (inr (subst (Member (map (λ (j : NetId). pin j.0 n) ins)) (ap (λ z. pin z n) w.2 ∙ s)
-        (map_member (λ (j : NetId). pin j.0 n) ins w.0 w.1)))
+      (map_member (λ (j : NetId). pin j.0 n) ins w.0 w.1)))
   read_there n i (Latch ph None) p h e s = absurd (cc e)
   read_there n i (Latch ph (Some d)) p h e s =
       there n (Latch ph (Some d)) p h (inr (inl (ap (λ z. pin z n) (same_from d.0 i e) ∙ s)))
@@ -87,24 +85,26 @@ module _ (band : Band) (parts : List Part) where
   pub band_pin_is : (p : Pin) → Member (band_pins band parts) p → IsBandPin band parts p
   band_pin_is p m =
       elim (member_append (net_pins parts ++ tap_pins band.taps) (phase_pins (length parts) band.first_column) p m) [
-        inl k ↦ elim (member_append (net_pins parts) (tap_pins band.taps) p k) [
-          inl h ↦ of_net (net_pin_is parts p h)
-        | inr h ↦ (let w = member_map tap_pin band.taps p h in of_tap w.0 w.1 w.2) ]
-      | inr k ↦ (
-          let w = member_map (phase_pin (length parts) band.first_column) (range_with_len 0 3) p k in
-          of_phase w.0 (let r = (in_range 0 3 w.0 w.1).1 in omega arith) w.2) ]
+        | inl k ↦ elim (member_append (net_pins parts) (tap_pins band.taps) p k) [
+          | inl h ↦ of_net (net_pin_is parts p h)
+          | inr h ↦ (let w = member_map tap_pin band.taps p h in of_tap w.0 w.1 w.2)
+        ]
+        | inr k ↦ (
+            let w = member_map (phase_pin (length parts) band.first_column) (range_with_len 0 3) p k in
+            of_phase w.0 (let r = (in_range 0 3 w.0 w.1).1 in omega arith) w.2)
+      ]
 
   pub band_pin_in : (p : Pin) → IsBandPin band parts p → Member (band_pins band parts) p
   band_pin_in p (of_net h) =
       append_left (net_pins parts ++ tap_pins band.taps) (phase_pins (length parts) band.first_column) p
-        (append_left (net_pins parts) (tap_pins band.taps) p (net_pin_in parts p h))
+      (append_left (net_pins parts) (tap_pins band.taps) p (net_pin_in parts p h))
   band_pin_in p (of_tap t m e) =
       append_left (net_pins parts ++ tap_pins band.taps) (phase_pins (length parts) band.first_column) p
-        (append_right (net_pins parts) (tap_pins band.taps) p (subst (Member (tap_pins band.taps)) e (map_member tap_pin band.taps t m)))
+      (append_right (net_pins parts) (tap_pins band.taps) p (subst (Member (tap_pins band.taps)) e (map_member tap_pin band.taps t m)))
   band_pin_in p (of_phase j lt e) =
       append_right (net_pins parts ++ tap_pins band.taps) (phase_pins (length parts) band.first_column) p
-        (subst (Member (phase_pins (length parts) band.first_column)) e
-          (map_member (phase_pin (length parts) band.first_column) (range_with_len 0 3) j (range_has 0 3 j (omega arith) (omega arith))))
+      (subst (Member (phase_pins (length parts) band.first_column)) e
+      (map_member (phase_pin (length parts) band.first_column) (range_with_len 0 3) j (range_has 0 3 j (omega arith) (omega arith))))
 
 -- the pins of stubs
 pub stub_pin_is : (stubs : List Bool) (p : Pin) → Member (stub_pins stubs) p
@@ -123,4 +123,4 @@ stub_pin_is stubs p m = go w.0 (let r = (in_range 0 (length stubs) w.0 w.1).1 in
 pub stub_pin_in : (stubs : List Bool) (n : ℕ) → n < length stubs → get_or stubs n false ≡ true → Member (stub_pins stubs) (pin n n)
 stub_pin_in stubs n lt e =
     flat_member (stub_pin stubs) (range_with_len 0 (length stubs)) n (pin n n) (range_has 0 (length stubs) n (omega arith) (omega arith))
-      (subst (λ t. Member (cond t (pin n n ∷ []) []) (pin n n)) (sym e) (inl refl))
+    (subst (λ t. Member (cond t (pin n n ∷ []) []) (pin n n)) (sym e) (inl refl))

@@ -1,5 +1,5 @@
 -- Numbers that are kept once, and the stamps by which those seen are known.
-use Rattle.std.proofs.Common.{◌≡◌, ◌⊎◌, inl, inr, ℕ, zero, suc, ◌+◌, ◌<◌, ◌≤◌, ◌==◌, Bool, true, false, cond, not, map, append_assoc, List, [], ◌∷◌, ◌++◌, length, get_or, set, filter, refl, sym, ◌∙◌, ap, subst, arith}
+use Rattle.std.proofs.Common.{◌≡◌, inl, inr, ℕ, ◌<◌, ◌≤◌, ◌==◌, Bool, true, false, cond, not, map, append_assoc, List, [], ◌∷◌, ◌++◌, length, get_or, set, refl, sym, ◌∙◌, ap, subst, arith}
 use Rattle.std.specs.Prelude.{All, ◌≢◌}
 use Rattle.std.proofs.lemmas.Bool.{cases_Bool, cases_eq}
 use Rattle.std.proofs.lemmas.List.{get_or-set_same, get_or-set_other, length-set, map_push}
@@ -38,8 +38,9 @@ has_last a xs x e = has_push a xs x ∙ (ap (λ t. cond (has a xs) true t) (same
 -- a number that differs from the last stood before
 pub has_before : (a : ℕ) (xs : List ℕ) (x : ℕ) → x ≢ a → has a (xs ++ x ∷ []) ≡ true → has a xs ≡ true
 has_before a xs x ne e = elim (cases_Bool (x == a)) [
-    inl q ↦ absurd (ne (same_from x a q))
-  | inr q ↦ go (has a xs) (sym (ap (λ t. cond (has a xs) true t) q) ∙ (sym (has_push a xs x) ∙ e)) ]
+  | inl q ↦ absurd (ne (same_from x a q))
+  | inr q ↦ go (has a xs) (sym (ap (λ t. cond (has a xs) true t) q) ∙ (sym (has_push a xs x) ∙ e))
+]
   where
     go : (t : Bool) → cond t true false ≡ true → t ≡ true
     go true h = refl
@@ -62,23 +63,26 @@ no_more (x ∷ xs) = ap (λ l. x ∷ l) (no_more xs)
 pub distinct_new : (xs : List ℕ) (x : ℕ) → has x xs ≡ false → distinct (xs ++ x ∷ []) ≡ distinct xs ++ x ∷ []
 distinct_new [] x e = refl
 distinct_new (y ∷ ys) x e = elim (cases_Bool (y == x)) [
-    inl q ↦ absurd (true_false (sym (ap (λ t. cond t true (has x ys)) q) ∙ e))
+  | inl q ↦ absurd (true_false (sym (ap (λ t. cond t true (has x ys)) q) ∙ e))
   | inr q ↦ (
       let h : has x ys ≡ false = sym (ap (λ t. cond t true (has x ys)) q) ∙ e in
       let ne : x ≢ y = λ r. true_false (sym (same_to y x (sym r)) ∙ q) in
-      ap (λ l. y ∷ without y l) (distinct_new ys x h) ∙ ap (λ l. y ∷ l) (without_last y (distinct ys) x ne)) ]
+      ap (λ l. y ∷ without y l) (distinct_new ys x h) ∙ ap (λ l. y ∷ l) (without_last y (distinct ys) x ne))
+]
 
 pub distinct_again : (xs : List ℕ) (x : ℕ) → has x xs ≡ true → distinct (xs ++ x ∷ []) ≡ distinct xs
 distinct_again [] x e = absurd (true_false (sym e))
 distinct_again (y ∷ ys) x e = elim (cases_Bool (has x ys)) [
-    inl h ↦ ap (λ l. y ∷ without y l) (distinct_again ys x h)
+  | inl h ↦ ap (λ l. y ∷ without y l) (distinct_again ys x h)
   | inr h ↦ elim (cases_Bool (y == x)) [
-      inl q ↦ (
+    | inl q ↦ (
         let s : y ≡ x = same_from y x q in
         ap (λ l. y ∷ without y l) (distinct_new ys x h)
         ∙ ap (λ l. y ∷ l) (subst (λ z. without y (distinct ys ++ z ∷ []) ≡ without y (distinct ys)) s
-            (without_same y (distinct ys) ∙ no_more (without y (distinct ys)))))
-    | inr q ↦ absurd (true_false (sym e ∙ (ap (λ t. cond t true (has x ys)) q ∙ h))) ] ]
+        (without_same y (distinct ys) ∙ no_more (without y (distinct ys)))))
+    | inr q ↦ absurd (true_false (sym e ∙ (ap (λ t. cond t true (has x ys)) q ∙ h)))
+  ]
+]
 
 -- the numbers seen have this stamp, and no stamp is greater
 pub record AreSeen (stamp : ℕ) (seen numbers : List ℕ) : Type 0 where
@@ -90,7 +94,8 @@ pub none_seen : (stamp : ℕ) (seen : List ℕ) → All (λ s. s < stamp) seen �
 none_seen stamp seen h = record {
   upto = λ k d lt. let b = h k d lt in omega arith;
   stamped = λ i lt e. let b = h i 0 lt in absurd (omega arith);
-  listed = λ i lt e. absurd (true_false (sym e)) }
+  listed = λ i lt e. absurd (true_false (sym e));
+}
 
 pub seen_again : (stamp : ℕ) (seen numbers : List ℕ) (x : ℕ) → x < length seen → get_or seen x 0 ≡ stamp
     → AreSeen stamp seen numbers → AreSeen stamp seen (numbers ++ x ∷ [])
@@ -98,31 +103,38 @@ seen_again stamp seen numbers x lt e s = record {
   upto = s.upto;
   stamped = λ i b h. has_kept i numbers x (s.stamped i b h);
   listed = λ i b h. elim (cases_eq x i) [
-      inl q ↦ subst (λ z. get_or seen z 0 ≡ stamp) q e
-    | inr q ↦ s.listed i b (has_before i numbers x q h) ] }
+    | inl q ↦ subst (λ z. get_or seen z 0 ≡ stamp) q e
+    | inr q ↦ s.listed i b (has_before i numbers x q h)
+  ];
+}
 
 pub seen_new : (stamp : ℕ) (seen numbers : List ℕ) (x : ℕ) → x < length seen
     → AreSeen stamp seen numbers → AreSeen stamp (set seen x stamp) (numbers ++ x ∷ [])
 seen_new stamp seen numbers x lt s = record {
   upto = λ k d b. let l : k < length seen = subst (λ n. k < n) (length-set seen x stamp) b in
-    elim (cases_eq k x) [
-      inl q ↦ subst (λ z. z ≤ stamp) (sym (ap (λ j. get_or (set seen x stamp) j d) q ∙ get_or-set_same seen x stamp d lt)) (omega arith)
-    | inr q ↦ subst (λ z. z ≤ stamp) (sym (get_or-set_other seen x k stamp d q)) (s.upto k d l) ];
+      elim (cases_eq k x) [
+        | inl q ↦ subst (λ z. z ≤ stamp) (sym (ap (λ j. get_or (set seen x stamp) j d) q ∙ get_or-set_same seen x stamp d lt)) (omega arith)
+        | inr q ↦ subst (λ z. z ≤ stamp) (sym (get_or-set_other seen x k stamp d q)) (s.upto k d l)
+      ];
   stamped = λ i b h. let l : i < length seen = subst (λ n. i < n) (length-set seen x stamp) b in
-    elim (cases_eq x i) [
-      inl q ↦ has_last i numbers x q
-    | inr q ↦ has_kept i numbers x (s.stamped i l (sym (get_or-set_other seen x i stamp 0 (λ r. q (sym r))) ∙ h)) ];
+      elim (cases_eq x i) [
+        | inl q ↦ has_last i numbers x q
+        | inr q ↦ has_kept i numbers x (s.stamped i l (sym (get_or-set_other seen x i stamp 0 (λ r. q (sym r))) ∙ h))
+      ];
   listed = λ i b h. let l : i < length seen = subst (λ n. i < n) (length-set seen x stamp) b in
-    elim (cases_eq x i) [
-      inl q ↦ subst (λ z. get_or (set seen x stamp) z 0 ≡ stamp) q (get_or-set_same seen x stamp 0 lt)
-    | inr q ↦ get_or-set_other seen x i stamp 0 (λ r. q (sym r)) ∙ s.listed i l (has_before i numbers x q h) ] }
+      elim (cases_eq x i) [
+        | inl q ↦ subst (λ z. get_or (set seen x stamp) z 0 ≡ stamp) q (get_or-set_same seen x stamp 0 lt)
+        | inr q ↦ get_or-set_other seen x i stamp 0 (λ r. q (sym r)) ∙ s.listed i l (has_before i numbers x q h)
+      ];
+}
 
 -- what is not stamped is new
 pub unseen : (stamp : ℕ) (seen numbers : List ℕ) (x : ℕ) → x < length seen → get_or seen x 0 ≢ stamp
     → AreSeen stamp seen numbers → has x numbers ≡ false
 unseen stamp seen numbers x lt ne s = elim (cases_Bool (has x numbers)) [
-    inl h ↦ absurd (ne (s.listed x lt h))
-  | inr h ↦ h ]
+  | inl h ↦ absurd (ne (s.listed x lt h))
+  | inr h ↦ h
+]
 
 -- what is made of each number once, with one number more
 pub made_new : {B : Type 0} (f : ℕ → B) (old items more : List B) (numbers : List ℕ) (x : ℕ) (b : B)
@@ -131,7 +143,7 @@ pub made_new : {B : Type 0} (f : ℕ → B) (old items more : List B) (numbers :
 made_new f old items more numbers x b a h g e =
     g ∙ (ap (λ l. l ++ b ∷ []) a ∙ (append_assoc old (map f (distinct numbers)) (b ∷ [])
     ∙ ap (λ l. old ++ l) (ap (λ z. map f (distinct numbers) ++ z ∷ []) e
-      ∙ sym (ap (map f) (distinct_new numbers x h) ∙ map_push f (distinct numbers) x))))
+    ∙ sym (ap (map f) (distinct_new numbers x h) ∙ map_push f (distinct numbers) x))))
 
 pub made_again : {B : Type 0} (f : ℕ → B) (old items : List B) (numbers : List ℕ) (x : ℕ)
     → items ≡ old ++ map f (distinct numbers) → has x numbers ≡ true

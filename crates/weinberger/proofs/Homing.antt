@@ -1,26 +1,23 @@
 -- The columns that nets are given are those of the closed form.
-use Rattle.std.proofs.Common.{◌≡◌, ◌⊎◌, inl, inr, ℕ, zero, suc, ◌+◌, ◌<◌, ◌≤◌, ◌==◌, Option, Some, None, Bool, true, false, cond, not, ◌&&◌, List, [], ◌∷◌, ◌++◌, length, map, get_or, refl, sym, ◌∙◌, ap, subst, arith}
-use Rattle.std.specs.Prelude.{◌||◌, slice_get, Contains}
+use Rattle.std.proofs.Common.{◌≡◌, inl, inr, ℕ, zero, suc, ◌+◌, ◌<◌, ◌≤◌, ◌==◌, Option, Some, None, Bool, true, false, cond, not, ◌&&◌, List, [], ◌∷◌, length, map, get_or, refl, sym, ◌∙◌, ap, subst, arith}
+use Rattle.std.specs.Prelude.{◌||◌, slice_get}
 use Rattle.std.specs.List.{list_any, range_with_len}
-use Rattle.std.proofs.lemmas.Bool.{cases_Bool}
 use Rattle.std.proofs.lemmas.Option.{slice_get_cases, slice_get_within}
-use Rattle.std.proofs.lemmas.List.Folds.{list_any-from_Any}
-use Rattle.nor_net.specs.declared.net.NetId.{NetId}
 use Rattle.nor_net.specs.declared.net.Part.{Part}
 use Rattle.nor_net.specs.declared.net.Part.TheVariants.{Input, Gate, Latch}
 use Rattle.array_form.specs.declared.band.Tap.{Tap}
 use Rattle.array_form.specs.declared.band.Band.{Band}
 use Rattle.array_form.specs.Homes.{count_below, home, reads, phase_number}
 use Rattle.array_form.specs.Place.{is_input, part_is, is_read, is_tapped, is_stub, columns_in}
-use Rattle.array_form.proofs.Members.{Member, member_contains, contains_member}
+use Rattle.array_form.proofs.Members.{Member}
 use Rattle.array_form.proofs.Listing.{same_from, same_to}
 use Rattle.array_form.proofs.Room.{any_member, or_left, or_right, or_cases}
 use Rattle.weinberger.specs.declared.pins.Pin.{Pin}
 use Rattle.weinberger.specs.declared.homes.Homes.{Homes}
 use Rattle.weinberger.specs.Pins.{pin, tap_pin, band_pins}
-use Rattle.weinberger.specs.Homed.{base_of, is_stub_by, is_homed_by, home_by, AreHomes}
+use Rattle.weinberger.specs.Homed.{is_stub_by, is_homed_by, home_by, AreHomes}
 use Rattle.weinberger.specs.Layouts.{AreHomesOf}
-use Rattle.weinberger.proofs.BandPins.{IsNetPin, own, read, beat, IsBandPin, of_net, of_tap, of_phase, band_pin_is, band_pin_in}
+use Rattle.weinberger.proofs.BandPins.{own, read, beat, IsBandPin, of_net, of_tap, of_phase, band_pin_is, band_pin_in}
 
 -- how many pass with one number more
 pub count_more : (test : ℕ → Bool) (n : ℕ) → count_below test (n + 1) ≡ count_below test n + cond (test n) 1 0
@@ -77,15 +74,15 @@ module _ (band : Band) (parts : List Part) (pinned : List Bool)
       input_differs (Latch ph d) e r = cc r
   pin_reads n h p s (of_net (read m i q g e r)) =
       or_left (is_read parts n) (is_tapped band.taps n)
-        (any_of (λ q. reads n (Some q)) parts q (part_member parts m q g)
-          (subst (λ z. reads z (Some q) ≡ true) (ap (λ z. z.segment) r ∙ s) e))
+      (any_of (λ q. reads n (Some q)) parts q (part_member parts m q g)
+      (subst (λ z. reads z (Some q) ≡ true) (ap (λ z. z.segment) r ∙ s) e))
   pin_reads n h p s (of_net (beat m ph d g r)) =
       let lt = slice_get_within parts n Input h in
       let e : length parts + phase_number ph ≡ n = ap (λ z. z.segment) r ∙ s in
       absurd (omega arith)
   pin_reads n h p s (of_tap t m r) =
       or_right (is_read parts n) (is_tapped band.taps n)
-        (any_of (λ (t : Tap). t.net.0 == n) band.taps t m (same_to t.net.0 n (ap (λ z. z.segment) r ∙ s)))
+      (any_of (λ (t : Tap). t.net.0 == n) band.taps t m (same_to t.net.0 n (ap (λ z. z.segment) r ∙ s)))
   pin_reads n h p s (of_phase j lt r) =
       let l = slice_get_within parts n Input h in
       let e : length parts + j ≡ n = ap (λ z. z.segment) r ∙ s in
@@ -94,22 +91,23 @@ module _ (band : Band) (parts : List Part) (pinned : List Bool)
   reads_pin : (n : ℕ) → (is_read parts n || is_tapped band.taps n) ≡ true
       → list_any (λ p. p.segment == n) (band_pins band parts) ≡ true
   reads_pin n e = elim (or_cases (is_read parts n) (is_tapped band.taps n) e) [
-      inl r ↦ (
+    | inl r ↦ (
         let w = any_member (λ q. reads n (Some q)) parts r in
         any_of (λ (p : Pin). p.segment == n) (band_pins band parts) (pin n w.0)
-          (band_pin_in band parts (pin n w.0) (of_net (read w.0 n w.1 w.2 w.3 refl))) (same_to n n refl))
+        (band_pin_in band parts (pin n w.0) (of_net (read w.0 n w.1 w.2 w.3 refl))) (same_to n n refl))
     | inr t ↦ (
         let w = any_member (λ (t : Tap). t.net.0 == n) band.taps t in
         any_of (λ (p : Pin). p.segment == n) (band_pins band parts) (tap_pin w.1)
-          (band_pin_in band parts (tap_pin w.1) (of_tap w.1 w.4 refl)) w.3) ]
+        (band_pin_in band parts (tap_pin w.1) (of_tap w.1 w.4 refl)) w.3)
+  ]
 
   flag_same : (n : ℕ) → slice_get parts n ≡ Some Input → get_or pinned n false ≡ (is_read parts n || is_tapped band.taps n)
   flag_same n h =
       let lt = slice_get_within parts n Input h in
       flags n (omega arith) ∙ same_bools (list_any (λ p. p.segment == n) (band_pins band parts)) (is_read parts n || is_tapped band.taps n)
-        (λ e. let w = any_member (λ (p : Pin). p.segment == n) (band_pins band parts) e in
-          pin_reads n h w.1 (same_from w.1.segment n w.3) (band_pin_is band parts w.1 w.4))
-        (reads_pin n)
+      (λ e. let w = any_member (λ (p : Pin). p.segment == n) (band_pins band parts) e in
+      pin_reads n h w.1 (same_from w.1.segment n w.3) (band_pin_is band parts w.1 w.4))
+      (reads_pin n)
 
   stub_same : (n : ℕ) (q : Option Part) → slice_get parts n ≡ q → is_stub_by pinned parts n ≡ is_stub band parts n
   stub_same n None h = ap (λ z. part_is is_input z && not (get_or pinned n false)) h
@@ -132,12 +130,13 @@ module _ (band : Band) (parts : List Part) (pinned : List Bool)
       → home_by (columns_in band parts).base pinned parts n ≡ home (columns_in band parts) n
   home_same n le =
       ap (λ z. (columns_in band parts).base + z) (count_same (is_homed_by pinned parts) (columns_in band parts).homed n
-        (λ i lt. homed_same i (slice_get parts i) refl (omega arith)))
+      (λ i lt. homed_same i (slice_get parts i) refl (omega arith)))
 
   pub homes_same : (homes : Homes) → AreHomes parts (columns_in band parts).base pinned homes → AreHomesOf band parts homes
   homes_same homes a = record {
     columns = a.columns ∙ map_same (home_by (columns_in band parts).base pinned parts) (home (columns_in band parts)) 0 (length parts)
-      (λ i lo hi. home_same i (omega arith));
+        (λ i lo hi. home_same i (omega arith));
     stubs = a.stubs ∙ map_same (is_stub_by pinned parts) (columns_in band parts).stub 0 (length parts)
-      (λ i lo hi. stub_same i (slice_get parts i) refl);
-    end = a.end ∙ home_same (length parts) (omega arith) }
+        (λ i lo hi. stub_same i (slice_get parts i) refl);
+    end = a.end ∙ home_same (length parts) (omega arith);
+  }

@@ -1,5 +1,5 @@
 -- Spans grow by the column of each pin.
-use Rattle.std.proofs.Common.{◌≡◌, ◌⊎◌, inl, inr, ℕ, zero, suc, ◌+◌, ◌<◌, ◌≤◌, ◌==◌, Bool, true, false, cond, List, [], ◌∷◌, ◌++◌, length, map, filter, take, get_or, set, refl, sym, ◌∙◌, ap, subst, arith}
+use Rattle.std.proofs.Common.{◌≡◌, inl, inr, ℕ, ◌+◌, ◌<◌, ◌==◌, cond, List, [], ◌∷◌, ◌++◌, length, map, filter, take, get_or, set, refl, sym, ◌∙◌, ap, subst}
 use Rattle.std.specs.Prelude.{◌≢◌}
 use Rattle.std.proofs.lemmas.Bool.{cases_Bool, cases_eq}
 use Rattle.std.proofs.lemmas.List.{map-append, append-nil, get_or-set_same, get_or-set_other}
@@ -37,20 +37,22 @@ module _ (columns : List ℕ) (pins : List Pin) (i : ℕ) (none : Pin) (lt : i <
 
   pub at_other : (k : ℕ) → p.segment ≢ k → columns_at columns (take (i + 1) pins) k ≡ columns_at columns (take i pins) k
   at_other k ne = elim (cases_Bool (p.segment == k)) [
-      inl q ↦ absurd (ne (same_from p.segment k q))
+    | inl q ↦ absurd (ne (same_from p.segment k q))
     | inr q ↦ at_more k
         ∙ (ap (λ t. columns_at columns (take i pins) k ++ map (λ q. column_at columns q.at) (cond t (p ∷ []) [])) q
-        ∙ append-nil (columns_at columns (take i pins) k)) ]
+        ∙ append-nil (columns_at columns (take i pins) k))
+  ]
 
   pub spans_more : (spans : List Interval) (d w : Interval) → p.segment < length spans
       → ((k : ℕ) → k < length spans → get_or spans k d ≡ span_of (columns_at columns (take i pins) k))
       → w ≡ widened_by (get_or spans p.segment d) (column_at columns p.at)
       → (k : ℕ) → k < length spans → get_or (set spans p.segment w) k d ≡ span_of (columns_at columns (take (i + 1) pins) k)
   spans_more spans d w inside old is k b = elim (cases_eq p.segment k) [
-      inl e ↦ subst (λ z. get_or (set spans p.segment w) z d ≡ span_of (columns_at columns (take (i + 1) pins) z)) e
+    | inl e ↦ subst (λ z. get_or (set spans p.segment w) z d ≡ span_of (columns_at columns (take (i + 1) pins) z)) e
         (get_or-set_same spans p.segment w d inside
         ∙ (is ∙ (ap (λ s. widened_by s (column_at columns p.at)) (old p.segment inside)
         ∙ (sym (span_push (columns_at columns (take i pins) p.segment) (column_at columns p.at))
         ∙ ap span_of (sym (at_same p.segment refl))))))
     | inr e ↦ get_or-set_other spans p.segment k w d (λ q. e (sym q))
-        ∙ (old k b ∙ ap span_of (sym (at_other k e))) ]
+        ∙ (old k b ∙ ap span_of (sym (at_other k e)))
+  ]

@@ -1,8 +1,8 @@
 -- The columns of a segment's pins are those of the closed form, and so is the span of them.
-use Rattle.std.proofs.Common.{◌≡◌, ◌⊎◌, inl, inr, ℕ, zero, suc, ◌+◌, ◌<◌, ◌≤◌, ◌==◌, ◌^◌, Option, Some, None, Bool, true, false, cond, not, List, [], ◌∷◌, ◌++◌, length, map, filter, get_or, refl, sym, ◌∙◌, ap, subst, arith}
+use Rattle.std.proofs.Common.{◌≡◌, ◌⊎◌, inl, inr, ℕ, ◌+◌, ◌<◌, ◌≤◌, ◌==◌, ◌^◌, Option, Some, None, Bool, true, false, cond, not, List, [], ◌∷◌, ◌++◌, length, map, filter, get_or, refl, sym, ◌∙◌, ap, subst, arith}
 use Rattle.std.specs.Prelude.{slice_get, ◌||◌, min, All}
 use Rattle.std.specs.List.{range_with_len}
-use Rattle.std.proofs.lemmas.Bool.{cases_Bool, cases_lt, cases_eq}
+use Rattle.std.proofs.lemmas.Bool.{cases_lt, cases_eq}
 use Rattle.std.proofs.lemmas.Option.{slice_get_within, slice_get_cases}
 use Rattle.std.proofs.lemmas.List.Elements.{All-contains}
 use Rattle.std.proofs.lemmas.List.FromFn.{get_or-map-range_with_len, length-map-range_with_len}
@@ -11,16 +11,15 @@ use Rattle.nor_net.specs.declared.net.Phase.TheVariants.{A, B, C}
 use Rattle.nor_net.specs.declared.net.NetId.{NetId}
 use Rattle.nor_net.specs.declared.net.Part.{Part}
 use Rattle.nor_net.specs.declared.net.Part.TheVariants.{Input, Gate, Latch}
-use Rattle.nor_net.specs.Shape.{IsNet, net_limit, MayFeed}
+use Rattle.nor_net.specs.Shape.{IsNet, MayFeed}
 use Rattle.fabric.specs.Room.{limit}
-use Rattle.track_assign.specs.declared.packing.Interval.{Interval}
 use Rattle.track_assign.specs.Density.{IsInterval}
 use Rattle.array_form.specs.declared.band.Tap.{Tap}
 use Rattle.array_form.specs.declared.band.Band.{Band}
-use Rattle.array_form.specs.Homes.{Columns, home, count_below, numbers, reads, beats, is_of, marks, phase_marks, phase_number, least, greatest}
-use Rattle.array_form.specs.Place.{is_input, part_is, is_stub, columns_in, cols_in, interval_of, intervals_in, IsBandOf}
+use Rattle.array_form.specs.Homes.{Columns, home, numbers, reads, beats, is_of, marks, phase_marks, phase_number, least, greatest}
+use Rattle.array_form.specs.Place.{is_input, part_is, is_stub, columns_in, cols_in, interval_of, IsBandOf}
 use Rattle.array_form.proofs.Members.{Member, member_contains, contains_member, member_append, append_left, append_right, member_map, map_member, member_filter, filter_member}
-use Rattle.array_form.proofs.Listing.{in_range, has_member, same_from, same_to}
+use Rattle.array_form.proofs.Listing.{has_member, same_from, same_to}
 use Rattle.array_form.proofs.Homes.{count_most, own_mark, reader_mark, more_mark, phase_mark, least_below, greatest_above, least_in, greatest_in}
 use Rattle.array_form.proofs.Room.{part_homed, stub_homed, some_mark}
 use Rattle.array_form.proofs.Laid.{all_from}
@@ -28,7 +27,7 @@ use Rattle.array_form.proofs.Tracking.{cols_nets, cols_phases}
 use Rattle.weinberger.specs.declared.pins.Pin.{Pin}
 use Rattle.weinberger.specs.Pins.{pin, tap_pin, phase_pin, band_pins, stub_pins}
 use Rattle.weinberger.specs.Spans.{IsPin, column_at, columns_at, lowest, span_of}
-use Rattle.weinberger.proofs.BandPins.{IsNetPin, own, read, beat, IsBandPin, of_net, of_tap, of_phase, band_pin_is, band_pin_in, stub_pin_is, stub_pin_in}
+use Rattle.weinberger.proofs.BandPins.{own, read, beat, IsBandPin, of_net, of_tap, of_phase, band_pin_is, band_pin_in, stub_pin_is, stub_pin_in}
 
 -- ---- the least and the greatest of numbers with the same members
 lowest_below : (xs : List ℕ) (a : ℕ) → Member xs a → lowest xs ≤ a
@@ -39,11 +38,13 @@ lowest_below (x ∷ xs) a (inr m) = let i = lowest_below xs a m in omega arith
 lowest_in : (xs : List ℕ) → Member xs (lowest xs) ⊎ (lowest xs ≡ 4_294_967_295)
 lowest_in [] = inr refl
 lowest_in (x ∷ xs) = elim (cases_lt (lowest xs) x) [
-    inl lt ↦ (let e : min x (lowest xs) ≡ lowest xs = omega arith in
+  | inl lt ↦ (let e : min x (lowest xs) ≡ lowest xs = omega arith in
       elim (lowest_in xs) [
-        inl m ↦ inl (inr (subst (Member xs) (sym e) m))
-      | inr q ↦ inr (e ∙ q) ])
-  | inr ge ↦ inl (inl (omega arith)) ]
+        | inl m ↦ inl (inr (subst (Member xs) (sym e) m))
+        | inr q ↦ inr (e ∙ q)
+      ])
+  | inr ge ↦ inl (inl (omega arith))
+]
 
 -- the greatest of numbers that are all among others is among them
 greatest_within : (xs ys : List ℕ) (c : ℕ) → Member xs c → ((a : ℕ) → Member xs a → Member ys a) → greatest xs ≤ greatest ys
@@ -58,8 +59,9 @@ same_span xs (y ∷ ys) c m to from =
     let lo : lowest xs ≤ least (y ∷ ys) = lowest_below xs (least (y ∷ ys)) (from (least (y ∷ ys)) l) in
     let lb : least (y ∷ ys) < 2 ^ 32 = (to (least (y ∷ ys)) (from (least (y ∷ ys)) l)).1 in
     let hi : least (y ∷ ys) ≤ lowest xs = elim (lowest_in xs) [
-        inl k ↦ least_below (y ∷ ys) (lowest xs) (to (lowest xs) k).0
-      | inr e ↦ omega arith ] in
+      | inl k ↦ least_below (y ∷ ys) (lowest xs) (to (lowest xs) k).0
+      | inr e ↦ omega arith
+    ] in
     let up : greatest (y ∷ ys) ≤ greatest xs = greatest_within (y ∷ ys) xs c m from in
     let down : greatest xs ≤ greatest (y ∷ ys) = greatest_within xs (y ∷ ys) c (from c m) (λ a k. (to a k).0) in
     let a : lowest xs ≡ least (y ∷ ys) = omega arith in
@@ -105,15 +107,18 @@ pub data IsSegmentOf (nets k : ℕ) : Type 0 where
 
 pub which : (nets k : ℕ) → k < nets + 3 → IsSegmentOf nets k
 which nets k h = elim (cases_lt k nets) [
-    inl lt ↦ for_net lt
+  | inl lt ↦ for_net lt
   | inr ge ↦ elim (cases_eq k nets) [
-      inl e ↦ for_phase A (omega arith)
-    | inr e ↦ elim (cases_eq k (nets + 1)) [ inl d ↦ for_phase B (omega arith) | inr d ↦ for_phase C (omega arith) ] ] ]
+    | inl e ↦ for_phase A (omega arith)
+    | inr e ↦ elim (cases_eq k (nets + 1)) [ inl d ↦ for_phase B (omega arith) | inr d ↦ for_phase C (omega arith) ]
+  ]
+]
 
 pub phase_of : (j : ℕ) → j < 3 → (ph : Phase) × (phase_number ph ≡ j)
 phase_of j h = elim (cases_eq j 0) [
-    inl e ↦ (A, omega arith)
-  | inr e ↦ elim (cases_eq j 1) [ inl d ↦ (B, omega arith) | inr d ↦ (C, omega arith) ] ]
+  | inl e ↦ (A, omega arith)
+  | inr e ↦ elim (cases_eq j 1) [ inl d ↦ (B, omega arith) | inr d ↦ (C, omega arith) ]
+]
 
 module _ (band : Band) (parts : List Part) (is_band : IsBandOf band parts) (is_net : IsNet parts) where
   -- ---- what a part reads is a net
@@ -180,12 +185,13 @@ module _ (band : Band) (parts : List Part) (is_band : IsBandOf band parts) (is_n
 
   shown : (k c : ℕ) (p : Pin) → Member pins p → Shows k c p
   shown k c p m = elim (member_append (band_pins band parts) (stub_pins stubs) p m) [
-      inl h ↦ by_band (band_pin_is band parts p h)
+    | inl h ↦ by_band (band_pin_is band parts p h)
     | inr h ↦ (
         let w = stub_pin_is stubs p h in
         let l = stubs_long in
         let lt : w.0 < length parts = (let b = w.1 in omega arith) in
-        by_stub w.0 lt (sym (stub_is w.0 lt) ∙ w.2) w.3) ]
+        by_stub w.0 lt (sym (stub_is w.0 lt) ∙ w.2) w.3)
+  ]
 
   -- a member of the columns of segment k comes from a pin
   from_pin : (k c : ℕ) → Member (columns_at columns pins k) c → (p : Pin) × Member pins p × (p.segment ≡ k) × (column_at columns p.at ≡ c)
@@ -197,8 +203,8 @@ module _ (band : Band) (parts : List Part) (is_band : IsBandOf band parts) (is_n
   to_pin : (k c : ℕ) (p : Pin) → Member pins p → p.segment ≡ k → column_at columns p.at ≡ c → Member (columns_at columns pins k) c
   to_pin k c p m s e =
       subst (Member (columns_at columns pins k)) e
-        (map_member (λ (p : Pin). column_at columns p.at) (filter (λ p. p.segment == k) pins) p
-          (filter_member (λ (p : Pin). p.segment == k) pins p m (same_to p.segment k s)))
+      (map_member (λ (p : Pin). column_at columns p.at) (filter (λ p. p.segment == k) pins) p
+      (filter_member (λ (p : Pin). p.segment == k) pins p m (same_to p.segment k s)))
 
   -- ---- nets
   net_marks : (k c : ℕ) (p : Pin) → k < length parts → p.segment ≡ k → column_at columns p.at ≡ c → Shows k c p → Member (marks y parts k) c
@@ -218,7 +224,7 @@ module _ (band : Band) (parts : List Part) (is_band : IsBandOf band parts) (is_n
       let tk : t.net.0 ≡ k = ap (λ z. z.segment) r ∙ s in
       let ce : t.column ≡ c = ap (λ z. column_at columns z.at) r ∙ e in
       more_mark y parts k c (subst (Member (y.more k)) ce
-        (map_member (λ (t : Tap). t.column) (filter (λ t. t.net.0 == k) band.taps) t (filter_member (λ (t : Tap). t.net.0 == k) band.taps t m (same_to t.net.0 k tk))))
+      (map_member (λ (t : Tap). t.column) (filter (λ t. t.net.0 == k) band.taps) t (filter_member (λ (t : Tap). t.net.0 == k) band.taps t m (same_to t.net.0 k tk))))
   net_marks k c p lt s e (by_band (of_phase j jl r)) =
       let f : length parts + j ≡ k = ap (λ z. z.segment) r ∙ s in absurd (omega arith)
   net_marks k c p lt s e (by_stub n nl g r) =
@@ -235,8 +241,8 @@ module _ (band : Band) (parts : List Part) (is_band : IsBandOf band parts) (is_n
       let g : y.stub k ≡ true = sym (ap (λ z. part_is (λ q. not (is_input q)) z || is_stub band parts k) h) ∙ e in
       let l = stubs_long in
       to_pin k (home y k) (pin k k)
-        (append_right (band_pins band parts) (stub_pins stubs) (pin k k) (stub_pin_in stubs k (omega arith) (stub_is k lt ∙ g)))
-        refl (column_is k lt)
+      (append_right (band_pins band parts) (stub_pins stubs) (pin k k) (stub_pin_in stubs k (omega arith) (stub_is k lt ∙ g)))
+      refl (column_is k lt)
   own_pin k (Some (Gate ins)) h lt e = to_pin k (home y k) (pin k k) (band_in (pin k k) (of_net (own k (Gate ins) h refl refl))) refl (column_is k lt)
   own_pin k (Some (Latch ph d)) h lt e = to_pin k (home y k) (pin k k) (band_in (pin k k) (of_net (own k (Latch ph d) h refl refl))) refl (column_is k lt)
 
@@ -247,16 +253,18 @@ module _ (band : Band) (parts : List Part) (is_band : IsBandOf band parts) (is_n
 
   net_pins_have : (k c : ℕ) → k < length parts → Member (marks y parts k) c → Member (columns_at columns pins k) c
   net_pins_have k c lt m = elim (member_append (cond (y.homed k) (home y k ∷ []) []) (map (home y) (numbers (reads k) parts) ++ y.more k) c m) [
-      inl h ↦ mine (y.homed k) refl h
+    | inl h ↦ mine (y.homed k) refl h
     | inr h ↦ elim (member_append (map (home y) (numbers (reads k) parts)) (y.more k) c h) [
-        inl r ↦ (
+      | inl r ↦ (
           let w = member_map (home y) (numbers (reads k) parts) c r in
           let u = member_filter (λ j. reads k (slice_get parts j)) (range_with_len 0 (length parts)) w.0 w.1 in
           subst (Member (columns_at columns pins k)) w.2 (reader_pin k w.0 (slice_get parts w.0) refl u.1))
       | inr r ↦ (
           let w = member_map (λ (t : Tap). t.column) (filter (λ t. t.net.0 == k) band.taps) c r in
           let u = member_filter (λ (t : Tap). t.net.0 == k) band.taps w.0 w.1 in
-          to_pin k c (tap_pin w.0) (band_in (tap_pin w.0) (of_tap w.0 u.0 refl)) (same_from w.0.net.0 k u.1) w.2) ] ]
+          to_pin k c (tap_pin w.0) (band_in (tap_pin w.0) (of_tap w.0 u.0 refl)) (same_from w.0.net.0 k u.1) w.2)
+    ]
+  ]
     where
       mine : (t : Bool) → y.homed k ≡ t → Member (cond t (home y k ∷ []) []) c → Member (columns_at columns pins k) c
       mine true e (inl s) = subst (Member (columns_at columns pins k)) s (own_pin k (slice_get parts k) refl lt e)
@@ -298,13 +306,13 @@ module _ (band : Band) (parts : List Part) (is_band : IsBandOf band parts) (is_n
   beat_pin ph j (Some (Latch other (Some d))) h e =
       let s : length parts + phase_number other ≡ length parts + phase_number ph = ap (λ z. length parts + phase_number z) (sym (same_phase ph other e)) in
       to_pin (length parts + phase_number ph) (home y j) (pin (length parts + phase_number other) j)
-        (band_in (pin (length parts + phase_number other) j) (of_net (beat j other d h refl))) s
-        (column_is j (slice_get_within parts j (Latch other (Some d)) h))
+      (band_in (pin (length parts + phase_number other) j) (of_net (beat j other d h refl))) s
+      (column_is j (slice_get_within parts j (Latch other (Some d)) h))
 
   phase_pins_have : (ph : Phase) (c : ℕ) → Member (phase_marks y parts ph) c → Member (columns_at columns pins (length parts + phase_number ph)) c
   phase_pins_have ph c (inl e) =
       to_pin (length parts + phase_number ph) c (phase_pin (length parts) band.first_column (phase_number ph))
-        (band_in (phase_pin (length parts) band.first_column (phase_number ph)) (of_phase (phase_number ph) (phase_small ph) refl)) refl e
+      (band_in (phase_pin (length parts) band.first_column (phase_number ph)) (of_phase (phase_number ph) (phase_small ph) refl)) refl e
   phase_pins_have ph c (inr m) =
       let w = member_map (home y) (numbers (beats ph) parts) c m in
       let u = member_filter (λ j. beats ph (slice_get parts j)) (range_with_len 0 (length parts)) w.0 w.1 in
@@ -315,9 +323,9 @@ module _ (band : Band) (parts : List Part) (is_band : IsBandOf band parts) (is_n
   base_small =
       let f = is_band.first in
       let g = greatest_most (map (λ t. t.column + 1) band.taps) limit (λ a m.
-        let w = member_map (λ (t : Tap). t.column + 1) band.taps a m in
-        let b = All-contains (λ (t : Tap). t.column < limit) band.taps w.0 is_band.columns (member_contains band.taps w.0 w.1) in
-        let e = w.2 in omega arith) in
+      let w = member_map (λ (t : Tap). t.column + 1) band.taps a m in
+      let b = All-contains (λ (t : Tap). t.column < limit) band.taps w.0 is_band.columns (member_contains band.taps w.0 w.1) in
+      let e = w.2 in omega arith) in
       omega arith
 
   home_small : (n : ℕ) → n < length parts → home y n < limit + limit + 3
@@ -353,21 +361,23 @@ module _ (band : Band) (parts : List Part) (is_band : IsBandOf band parts) (is_n
   cols_have k c (for_phase ph f) m =
       let w = from_pin k c m in
       subst (λ z. Member (cols_in y parts z) c) (sym f)
-        (subst (λ l. Member l c) (sym (cols_phases y parts ph)) (phase_marks_have ph k c w.0 f w.2 w.3 (shown k c w.0 w.1)))
+      (subst (λ l. Member l c) (sym (cols_phases y parts ph)) (phase_marks_have ph k c w.0 f w.2 w.3 (shown k c w.0 w.1)))
 
   have_cols : (k c : ℕ) → IsSegmentOf (length parts) k → Member (cols_in y parts k) c → Member (columns_at columns pins k) c
   have_cols k c (for_net lt) m = net_pins_have k c lt (subst (λ l. Member l c) (cols_nets y parts k lt) m)
   have_cols k c (for_phase ph f) m =
       subst (λ z. Member (columns_at columns pins z) c) (sym f)
-        (phase_pins_have ph c (subst (λ l. Member l c) (cols_phases y parts ph) (subst (λ z. Member (cols_in y parts z) c) f m)))
+      (phase_pins_have ph c (subst (λ l. Member l c) (cols_phases y parts ph) (subst (λ z. Member (cols_in y parts z) c) f m)))
 
   some_column : (k : ℕ) → IsSegmentOf (length parts) k → (c : ℕ) × Member (cols_in y parts k) c
   some_column k (for_net lt) =
       let w = some_mark band parts k (slice_get parts k) refl lt in
       (w.0, subst (λ l. Member l w.0) (sym (cols_nets y parts k lt)) (contains_member (marks y parts k) w.0 w.1))
-  some_column k (for_phase ph f) =
-      (y.first_phase + phase_number ph, subst (λ z. Member (cols_in y parts z) (y.first_phase + phase_number ph)) (sym f)
-        (subst (λ l. Member l (y.first_phase + phase_number ph)) (sym (cols_phases y parts ph)) (inl refl)))
+  some_column k (for_phase ph f) = (
+    y.first_phase + phase_number ph,
+    subst (λ z. Member (cols_in y parts z) (y.first_phase + phase_number ph)) (sym f)
+        (subst (λ l. Member l (y.first_phase + phase_number ph)) (sym (cols_phases y parts ph)) (inl refl)),
+  )
 
   -- the span of the pins of a segment
   pub span_is : (k : ℕ) → k < length parts + 3 → span_of (columns_at columns pins k) ≡ interval_of (cols_in y parts k)
@@ -375,7 +385,7 @@ module _ (band : Band) (parts : List Part) (is_band : IsBandOf band parts) (is_n
       let s = which (length parts) k lt in
       let c = some_column k s in
       same_span (columns_at columns pins k) (cols_in y parts k) c.0 c.1
-        (λ a m. (cols_have k a s m, let b = small k a m in omega arith)) (λ a m. have_cols k a s m)
+      (λ a m. (cols_have k a s m, let b = small k a m in omega arith)) (λ a m. have_cols k a s m)
 
   -- it is an interval
   pub is_interval : (k : ℕ) → k < length parts + 3 → IsInterval (interval_of (cols_in y parts k))

@@ -52,12 +52,7 @@ fn spans_by(
 }
 
 // The rows of segments.
-fn tracks_by(
-    alloc: Global,
-    net: &Net,
-    band: &Band,
-    spans: &[Interval],
-) -> Result<Tracks, NoMemory>
+fn tracks_by(alloc: Global, net: &Net, band: &Band, spans: &[Interval]) -> Result<Tracks, NoMemory>
     requires band { IsBandOf band.now net.now }
     requires spans { spans.now ≡ intervals_in (columns_in band.now net.now) net.now }
     ensures { IfOk result (λ tracks. AreTracksOf band.now net.now tracks) }

@@ -62,12 +62,7 @@ fn push_pair(lines: &mut Vec<Line>, band: u32, column: u32) -> Result<(), AllocE
     Ok(())
 }
 
-fn push_stub(
-    lines: &mut Vec<Line>,
-    band: u32,
-    column: u32,
-    stub: bool,
-) -> Result<(), AllocError>
+fn push_stub(lines: &mut Vec<Line>, band: u32, column: u32, stub: bool) -> Result<(), AllocError>
     ensures { OnOk result (lines.new.items ≡ lines.old.items ++ laying.column_lines band column stub (Some part.Input)) }
 {
     if stub {

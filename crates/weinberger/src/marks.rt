@@ -185,7 +185,15 @@ pub(crate) fn marks(
             band,
             number: columns[n as usize],
         };
-        push_marks(&mut marks, &mut seen, net, tracks, n, column, stubs[n as usize])?;
+        push_marks(
+            &mut marks,
+            &mut seen,
+            net,
+            tracks,
+            n,
+            column,
+            stubs[n as usize],
+        )?;
     }
     Ok(marks)
 }

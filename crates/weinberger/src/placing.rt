@@ -38,12 +38,7 @@ pub fn measure(alloc: Global, net: &Net, band: &Band) -> Result<Size, NoMemory>
 ///
 /// # Errors
 /// Want of memory. Then the fabric holds a part of the net.
-pub fn place(
-    alloc: Global,
-    net: &Net,
-    fabric: &mut Fabric,
-    band: &Band,
-) -> Result<Placed, NoMemory>
+pub fn place(alloc: Global, net: &Net, fabric: &mut Fabric, band: &Band) -> Result<Placed, NoMemory>
     requires fed { IsFed net.now }
     requires fitted { IsFitted fabric.old band.now net.now }
     requires space { HasSpace fabric.old net.now }

@@ -1,4 +1,4 @@
-use Rattle.std.proofs.Common.{◌≡◌, ◌+◌, ◌∙◌, ℕ, Bool, List, length, sym, ap, subst, arith}
+use Rattle.std.proofs.Common.{◌∙◌, ℕ, List, length, sym, ap}
 use Rattle.track_assign.specs.declared.packing.Interval.{Interval}
 use Rattle.weinberger.specs.Listed.{segments_of, lines_of, marks_of}
 use Rattle.weinberger.proofs.Rowed.{intervals_long, columns_long, stubs_long, segments_same, lines_same, marks_same}
@@ -10,7 +10,7 @@ segments-requires-clause-long c =
     ap (λ (l : List ℕ). length l) c.as_slice-rows.ensures
     ∙ (are.tracks.rows.long
     ∙ sym (ap (λ (l : List Interval). length l) (c.as_slice-spans.ensures.value ∙ are.spans)
-      ∙ intervals_long c.args.band.now c.args.net.now))
+    ∙ intervals_long c.args.band.now c.args.net.now))
 
 pub lines-requires-clause-columns : goal.lines-requires-clause-columns
 lines-requires-clause-columns c =
@@ -41,13 +41,14 @@ returns c =
     let are = c.requires.layout in
     record {
       segments = c.in_ok-segments.ensures
-        ∙ (ap (λ l. segments_of band.index l c.as_slice-rows.result.now) (c.as_slice-spans.ensures.value ∙ are.spans)
-        ∙ (ap (segments_of band.index _) c.as_slice-rows.ensures ∙ segments_same band parts band.index layout.tracks.row));
+          ∙ (ap (λ l. segments_of band.index l c.as_slice-rows.result.now) (c.as_slice-spans.ensures.value ∙ are.spans)
+          ∙ (ap (segments_of band.index _) c.as_slice-rows.ensures ∙ segments_same band parts band.index layout.tracks.row));
       lines = c.in_ok-lines.ensures
-        ∙ (ap (λ l. lines_of band.index l c.as_slice-stubs.result.now parts) c.as_slice-columns.ensures.value
-        ∙ (ap (λ l. lines_of band.index h.columns.items l parts) c.as_slice-stubs.ensures.value
-        ∙ lines_same band parts h.columns.items h.stubs.items are.homes.columns are.homes.stubs band.index));
+          ∙ (ap (λ l. lines_of band.index l c.as_slice-stubs.result.now parts) c.as_slice-columns.ensures.value
+          ∙ (ap (λ l. lines_of band.index h.columns.items l parts) c.as_slice-stubs.ensures.value
+          ∙ lines_same band parts h.columns.items h.stubs.items are.homes.columns are.homes.stubs band.index));
       marks = c.in_ok-marks.ensures
-        ∙ (ap (λ l. marks_of layout.tracks band.index l c.as_slice-stubs.result.now parts) c.as_slice-columns.ensures.value
-        ∙ (ap (λ l. marks_of layout.tracks band.index h.columns.items l parts) c.as_slice-stubs.ensures.value
-        ∙ marks_same band parts h.columns.items h.stubs.items are.homes.columns are.homes.stubs band.index layout.tracks)) }
+          ∙ (ap (λ l. marks_of layout.tracks band.index l c.as_slice-stubs.result.now parts) c.as_slice-columns.ensures.value
+          ∙ (ap (λ l. marks_of layout.tracks band.index h.columns.items l parts) c.as_slice-stubs.ensures.value
+          ∙ marks_same band parts h.columns.items h.stubs.items are.homes.columns are.homes.stubs band.index layout.tracks));
+    }

@@ -1,4 +1,4 @@
-use Rattle.std.proofs.Common.{◌≡◌, ◌<◌, ◌+◌, ◌^◌, ◌∙◌, length, sym, ap, subst, arith}
+use Rattle.std.proofs.Common.{length, ap, arith}
 use Rattle.weinberger.proofs.Intervals.{end_small}
 use Rattle.weinberger.proofs.Rowed.{stubs_long}
 use Rattle.weinberger.proofs.layout.lay_out.Goals as goal
@@ -19,4 +19,5 @@ returns c =
       homes = record { columns = h.columns; stubs = h.stubs; end = h.end };
       narrow = (let s = end_small c.args.band.now c.args.net.now c.requires c.len-nets.ensures.shape in omega (arith, s, h.end));
       spans = c.in_ok-spans.ensures;
-      tracks = c.in_ok-tracks.ensures }
+      tracks = c.in_ok-tracks.ensures;
+    }

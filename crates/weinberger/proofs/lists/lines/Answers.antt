@@ -6,4 +6,4 @@ use Rattle.weinberger.proofs.lists.lines.Goals as goal
 pub loop-n-preserved : goal.loop-n-preserved
 loop-n-preserved c =
     flat_grown [] (lines_at c.args.band c.args.columns.now c.args.stubs.now c.args.net.now) c.loop-n.n _ _
-      c.loop-n.invariant c.in_ok-push_lines.ensures
+    c.loop-n.invariant c.in_ok-push_lines.ensures

@@ -1,4 +1,4 @@
-use Rattle.std.proofs.Common.{[], ◌≡◌, ◌<◌, ◌+◌, ◌++◌, ◌∙◌, ℕ, List, length, take, drop, sym, ap, subst, arith}
+use Rattle.std.proofs.Common.{[], ◌≡◌, ◌<◌, ◌+◌, ◌∙◌, ℕ, List, length, drop, sym, ap, subst, arith}
 use Rattle.std.specs.Prelude.{All}
 use Rattle.std.proofs.lemmas.List.{take_at}
 use Rattle.weinberger.specs.Listed.{marks_in}
@@ -16,7 +16,8 @@ loop-n-preserved c =
     let e = take_at new (drop (length new) c.loop-n.seen.items) c.loop-n.seen.len long in
     record {
       marks = flat_grown [] (marks_in c.args.tracks.now c.args.band c.args.columns.now c.args.stubs.now c.args.net.now)
-        c.loop-n.n _ _ v.marks c.in_ok-push_marks.ensures.marks;
+          c.loop-n.n _ _ v.marks c.in_ok-push_marks.ensures.marks;
       long = ap length e ∙ (long ∙ (o ∙ v.long));
       fresh = subst (All (λ s. s < c.loop-n.n + 1 + 1)) (sym e)
-        (λ k d lt. let h = c.in_ok-push_marks.ensures.stamped k d lt in omega arith) }
+          (λ k d lt. let h = c.in_ok-push_marks.ensures.stamped k d lt in omega arith);
+    }

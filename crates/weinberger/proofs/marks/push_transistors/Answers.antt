@@ -5,8 +5,7 @@ use Rattle.fabric.specs.declared.thing.Mark.{Mark}
 use Rattle.nor_net.specs.declared.net.NetId.{NetId}
 use Rattle.array_form.specs.Lists.{mark}
 use Rattle.array_form.specs.Band.{distinct}
-use Rattle.weinberger.specs.Listed.{transistors_of}
-use Rattle.weinberger.proofs.Distinct.{AreSeen, made_new, made_again, seen_new, seen_again, unseen, none_seen}
+use Rattle.weinberger.proofs.Distinct.{AreSeen, made_new, made_again, seen_new, seen_again, unseen}
 use Rattle.weinberger.proofs.marks.push_transistors.Goals as goal
 use Rattle.weinberger.proofs.marks.push_transistors.Goals.{then-seen-segment+in_ok-push, else-seen-segment}
 
@@ -26,19 +25,22 @@ loop-input-preserved c =
     let seen : List ℕ = c.loop-input.seen in
     let stamp : ℕ = c.args.stamp in
     elim c.if-seen-segment.branch [
-      then-seen-segment+in_ok-push w ↦ record {
+      | then-seen-segment+in_ok-push w ↦ record {
         marks = made_new f old c.loop-input.marks.items c.if-seen-segment.marks.items numbers x w.mark.result v.marks
             (unseen stamp seen numbers x lt w.if-seen-segment.true v.seen)
             (ap (λ z. z.items) w.marks-is ∙ w.in_ok-push.ensures.items) w.mark.ensures
-          ∙ ap (λ l. old ++ map f (distinct l)) (sym e);
+            ∙ ap (λ l. old ++ map f (distinct l)) (sym e);
         long = ap length w.seen-is ∙ (length-set seen x stamp ∙ v.long);
         seen = subst (λ s. AreSeen stamp s (map number (take (i + 1) inputs))) (sym w.seen-is)
-          (subst (λ l. AreSeen stamp (set seen x stamp) l) (sym e) (seen_new stamp seen numbers x lt v.seen)) }
-    | else-seen-segment w ↦ record {
+            (subst (λ l. AreSeen stamp (set seen x stamp) l) (sym e) (seen_new stamp seen numbers x lt v.seen));
+      }
+      | else-seen-segment w ↦ record {
         marks = ap (λ z. z.items) w.marks-is
-          ∙ (made_again f old c.loop-input.marks.items numbers x v.marks (v.seen.stamped x lt w.if-seen-segment.false)
-          ∙ ap (λ l. old ++ map f (distinct l)) (sym e));
+            ∙ (made_again f old c.loop-input.marks.items numbers x v.marks (v.seen.stamped x lt w.if-seen-segment.false)
+            ∙ ap (λ l. old ++ map f (distinct l)) (sym e));
         long = ap length w.seen-is ∙ v.long;
         seen = subst (λ s. AreSeen stamp s (map number (take (i + 1) inputs))) (sym w.seen-is)
-          (subst (λ l. AreSeen stamp seen l) (sym e)
-            (seen_again stamp seen numbers x lt w.if-seen-segment.false v.seen)) } ]
+            (subst (λ l. AreSeen stamp seen l) (sym e)
+            (seen_again stamp seen numbers x lt w.if-seen-segment.false v.seen));
+      }
+    ]

@@ -1,8 +1,8 @@
-use Rattle.std.proofs.Common.{◌≡◌, ◌∙◌, suc, sym, ap, subst, slice_index}
+use Rattle.std.proofs.Common.{◌≡◌, ◌∙◌, sym, subst, slice_index}
 use Rattle.nor_net.specs.declared.net.Part.{Part}
 use Rattle.std.proofs.Common.{List}
 use Rattle.array_form.specs.declared.band.Band.{Band}
-use Rattle.array_form.specs.Laying.{band_segments, band_lines, band_marks, with_net}
+use Rattle.array_form.specs.Laying.{with_net}
 use Rattle.array_form.specs.Place.{columns_in, cols_in}
 use Rattle.fabric.specs.Plan.{Plan, IsFabric, with_added}
 use Rattle.fabric.specs.Room.{IsRoomy}
@@ -20,8 +20,8 @@ add-requires-clause-met c =
     let b = c.deref-2.ensures.value ∙ l.lines in
     let m = c.deref-3.ensures.value ∙ l.marks in
     let e : with_added f c.deref.result.now c.deref-2.result.now c.deref-3.result.now
-        ≡ with_net f band.index (columns_in band parts) parts (cols_in (columns_in band parts) parts) (slice_index tracks.row) =
-      (λ i. with_added f (a i) (b i) (m i)) ∙ same_fabric f band parts c.requires.fitted tracks c.requires.tracks in
+    ≡ with_net f band.index (columns_in band parts) parts (cols_in (columns_in band parts) parts) (slice_index tracks.row) =
+    (λ i. with_added f (a i) (b i) (m i)) ∙ same_fabric f band parts c.requires.fitted tracks c.requires.tracks in
     subst IsFabric (sym e) (is_fabric f band parts c.requires.fitted tracks c.requires.tracks c.requires.kept.met c.requires.shape c.requires.fed)
 
 pub add-requires-clause-room : goal.add-requires-clause-room
@@ -35,8 +35,8 @@ add-requires-clause-room c =
     let b = c.deref-2.ensures.value ∙ l.lines in
     let m = c.deref-3.ensures.value ∙ l.marks in
     let e : with_added f c.deref.result.now c.deref-2.result.now c.deref-3.result.now
-        ≡ with_net f band.index (columns_in band parts) parts (cols_in (columns_in band parts) parts) (slice_index tracks.row) =
-      (λ i. with_added f (a i) (b i) (m i)) ∙ same_fabric f band parts c.requires.fitted tracks c.requires.tracks in
+    ≡ with_net f band.index (columns_in band parts) parts (cols_in (columns_in band parts) parts) (slice_index tracks.row) =
+    (λ i. with_added f (a i) (b i) (m i)) ∙ same_fabric f band parts c.requires.fitted tracks c.requires.tracks in
     subst IsRoomy (sym e) (is_roomy f band parts c.requires.fitted tracks c.requires.tracks c.requires.kept.roomy c.requires.space)
 
 pub returns : goal.returns

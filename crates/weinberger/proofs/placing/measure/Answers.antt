@@ -1,4 +1,4 @@
-use Rattle.std.proofs.Common.{◌≡◌, ◌+◌, suc, arith}
+use Rattle.std.proofs.Common.{arith}
 use Rattle.weinberger.proofs.placing.measure.Goals as goal
 
 pub returns : goal.returns
@@ -10,4 +10,5 @@ returns c =
       column = l.tracks.column;
       density = e.tracks.density;
       columns_is = omega (arith, e.homes.end);
-      rows_is = omega arith }
+      rows_is = omega arith;
+    }

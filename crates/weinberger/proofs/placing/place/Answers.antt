@@ -1,4 +1,4 @@
-use Rattle.std.proofs.Common.{◌≡◌, ◌∙◌, ◌+◌, ℕ, [], ◌∷◌, List, length, take, sym, ap, subst, slice_index, arith}
+use Rattle.std.proofs.Common.{◌∙◌, ◌+◌, ℕ, [], ◌∷◌, List, length, take, ap, slice_index, arith}
 use Rattle.std.proofs.lemmas.List.FromFn.{take-map-range_with_len}
 use Rattle.nor_net.specs.declared.net.Part.{Part}
 use Rattle.fabric.specs.declared.thing.Segment.{Segment}
@@ -23,5 +23,6 @@ returns c =
       are_tracks = c.in_ok-layout.ensures.tracks.apart;
       after = c.in_ok-add.ensures;
       told = c.in_ok-placed.ensures.segments
-        ∙ ap (λ (l : List Segment). l ∷ []) (ap (take (length parts)) c.in_ok-added.ensures.segments
-          ∙ take-map-range_with_len g 0 (length parts + 3) (length parts) (omega arith)) }
+          ∙ ap (λ (l : List Segment). l ∷ []) (ap (take (length parts)) c.in_ok-added.ensures.segments
+          ∙ take-map-range_with_len g 0 (length parts + 3) (length parts) (omega arith));
+    }

@@ -1,4 +1,4 @@
-use Rattle.std.proofs.Common.{◌≡◌, ◌<◌, ◌∙◌, ℕ, List, length, get_or, set, sym, ap, subst, arith}
+use Rattle.std.proofs.Common.{◌≡◌, ◌<◌, ◌∙◌, ℕ, List, length, get_or, ap, arith}
 use Rattle.std.proofs.lemmas.List.{length-set, get_or_default}
 use Rattle.track_assign.specs.declared.packing.Interval.{Interval}
 use Rattle.weinberger.specs.declared.pins.Pin.{Pin}
@@ -19,10 +19,11 @@ loop-pin-preserved c =
     let columns : List ℕ = c.args.columns.now in
     let inside : k < length spans = (let h = c.requires.segments i none c.loop-pin-test.true in omega (arith, h, v.long)) in
     let is : c.widened.result ≡ widened_by (get_or spans k NOWHERE) (column_at columns (get_or pins i none).at) =
-      c.widened.ensures
-      ∙ (ap (λ s. widened_by s c.column_of.result) (c.index.ensures ∙ get_or_default spans k _ NOWHERE inside)
-      ∙ ap (widened_by (get_or spans k NOWHERE)) c.column_of.ensures) in
+    c.widened.ensures
+    ∙ (ap (λ s. widened_by s c.column_of.result) (c.index.ensures ∙ get_or_default spans k _ NOWHERE inside)
+    ∙ ap (widened_by (get_or spans k NOWHERE)) c.column_of.ensures) in
     record {
       long = length-set spans k c.widened.result ∙ v.long;
       spans = λ j lt. spans_more columns pins i none c.loop-pin-test.true spans NOWHERE c.widened.result inside
-        (λ m b. v.spans m (omega (arith, v.long))) is j (omega (arith, v.long)) }
+          (λ m b. v.spans m (omega (arith, v.long))) is j (omega (arith, v.long));
+    }
