@@ -99,3 +99,8 @@ pub record IsBandOf (band : Band) (parts : List Part) : Type 0 where
   pub first : band.first_column < limit
   pub nets : All (λ t. t.net.0 < length parts) band.taps
   pub columns : All (λ t. t.column < limit) band.taps
+
+-- The band has as many rows as the net wants, and meets the conditions.
+abbrev pub IsFitted : Plan → Band → List Part → Type 0
+IsFitted f band parts = (rows : ℕ) × (column : ℕ)
+    × IsDensity (intervals_in (columns_in band parts) parts) rows column × MayPlace f band parts rows
