@@ -6,3 +6,4 @@ pub mod Words
 pub mod Expanded
 pub mod Walked
 pub mod Chips
+pub mod Fabrics

@@ -1,5 +1,5 @@
 -- The chips that can be written as commands.
-use Rattle.std.specs.Prelude.{◌≡◌, ◌≢◌, ◌⊎◌, ◌<◌, List, ◌++◌, length, All, ℤ, pos, ◌*ℤ◌, ◌<ℤ◌}
+use Rattle.std.specs.Prelude.{ℕ, ◌≡◌, ◌≢◌, ◌⊎◌, ◌*◌, ◌<◌, ◌≤◌, List, ◌++◌, length, All, ℤ, pos, ◌*ℤ◌, ◌<ℤ◌}
 use Rattle.lam_geom.specs.declared.layer.Layer.TheVariants.{NM, NP, ND}
 use Rattle.lam_geom.specs.declared.rect.Rect.{Rect}
 use Rattle.lam_geom.specs.Extent.{lambda}
@@ -7,7 +7,8 @@ use Rattle.cif_form.specs.Fits.{IsSmall}
 use Rattle.cif_form.specs.Labels.{IsSpace}
 use Rattle.fabric.specs.declared.chip.Chip.{Chip}
 use Rattle.fabric.specs.declared.chip.ChipLabel.{ChipLabel}
-use Rattle.fabric.specs.Shape.{shape}
+use Rattle.fabric.specs.Plan.{Plan, bands, IsFabric}
+use Rattle.fabric.specs.Shape.{shape, base}
 
 -- what a chip draws: its fabric, and the rectangles beside it
 abbrev pub chip_rects : Chip → List Rect
@@ -41,3 +42,12 @@ pub record IsPlainLabel (l : ChipLabel) : Type 0 where
 pub record IsEmittable (rects : List Rect) (labels : List ChipLabel) : Type 0 where
   pub corners : All IsOnGrid rects
   pub names : All IsPlainLabel labels
+
+-- how many lambda are small in half-units
+abbrev pub farthest : ℕ
+farthest = 4_294_967
+
+-- a fabric that is not too wide and not too high draws on whole lambda
+abbrev pub FabricsAreOnGrid : Type 0
+FabricsAreOnGrid =
+    (f : Plan) → IsFabric f → 20 * f.columns ≤ farthest → base f (bands f) ≤ farthest → All IsOnGrid (shape f)

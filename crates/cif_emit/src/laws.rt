@@ -1,9 +1,9 @@
-//! The law of the commands of a chip. A call of it does nothing.
+//! Laws of the commands of chips, and of the chips that have commands. A call of one does nothing.
 
 ghost use Rattle.std.specs.Prelude.{List};
 ghost use Rattle.lam_geom.specs.declared.rect.Rect.{Rect};
 ghost use Rattle.fabric.specs.declared.chip.ChipLabel.{ChipLabel};
-ghost use Rattle.cif_emit.specs.Emittable.{IsEmittable};
+ghost use Rattle.cif_emit.specs.Emittable.{IsEmittable, FabricsAreOnGrid};
 ghost use Rattle.cif_emit.specs.Emitted.{IsEmitted};
 ghost use Rattle.cif_emit.specs.Commands.{chip_commands};
 
@@ -19,3 +19,9 @@ pub(crate) fn commands_draw_the_chip()
     laws::walk_is_expansion();
     laws::walk_is_counted();
 }
+
+/// A fabric that is at most 4,294,967 lambda wide and high, at 20 lambda for a column, draws on whole lambda that are
+/// small: its rectangles meet the condition of [`emit`](crate::emit).
+pub fn fabrics_are_on_grid()
+    ensures { FabricsAreOnGrid }
+{}

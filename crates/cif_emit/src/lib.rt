@@ -4,6 +4,6 @@
 mod boxes;
 mod chip;
 mod labels;
-mod laws;
+pub mod laws;
 
 pub use chip::emit;
