@@ -57,7 +57,8 @@ fn fill(fabric: &mut Fabric, gates: u32, column: u32) -> Result<(), NoMemory>
     Ok(())
 }
 
-/// One band with a gate in each inner column: the segment of row 1 switches a transistor between ground and the pull-up.
+/// One band with a gate in each inner column: the segment of row 1 is the gate of a transistor between ground and the
+/// pull-up.
 pub(crate) fn row(alloc: Global, gates: u32) -> Result<Fabric, NoMemory>
     requires some { 1 ≤ gates }
     requires few { gates ≤ 4_000_000 }
