@@ -66,8 +66,7 @@ fn conductor(word: &str) -> Option<Layer>
 fn is_plain(name: &[u8]) -> bool
     ensures { IsTrue result ↔ All (λ b. (b ≢ 59) × ¬ IsSpace b) name.now }
 {
-    name.iter()
-        .all(|byte| !matches!(*byte, b';' | b' ' | b'\t' | b'\n' | b'\r'))
+    name.iter().all(|byte| !matches!(*byte, b';' | b' ' | b'\t' | b'\n' | b'\r'))
 }
 
 fn rect(part: &str) -> Option<Rect>
@@ -95,9 +94,12 @@ fn label(alloc: Global, part: &str) -> Result<Option<ChipLabel>, NoMemory>
         return Ok(None);
     };
     let mut words = rest.split(' ');
-    let (Some(name), Some(x), Some(y), Some(layer)) =
-        (words.next(), words.next(), words.next(), words.next())
-    else {
+    let (Some(name), Some(x), Some(y), Some(layer)) = (
+        words.next(),
+        words.next(),
+        words.next(),
+        words.next(),
+    ) else {
         return Ok(None);
     };
     let (Some(x), Some(y), Some(layer)) = (units(x), units(y), conductor(layer)) else {

@@ -267,9 +267,10 @@ module _ (p : DataPath) where
 
       by_part : (part : Part) → slice_get p.slices.net n ≡ Some part → Fed part
           → (e : Element) × (path_nets p (record { band = suc k; net = n }) ≡ Some e)
-      by_part Input at fed =
-          (source_element p.width (suc k) (slice_source p.slices p.casts n),
-          within ∙ ap (slice_part p.width p.slices p.casts k n) at ∙ slice_input_is p.width k n p.slices p.casts)
+      by_part Input at fed = (
+        source_element p.width (suc k) (slice_source p.slices p.casts n),
+        within ∙ ap (slice_part p.width p.slices p.casts k n) at ∙ slice_input_is p.width k n p.slices p.casts,
+      )
       by_part (Gate inputs) at fed =
           (Nor (map (spot (suc k)) inputs), within ∙ ap (slice_part p.width p.slices p.casts k n) at)
       by_part (Latch phase None) at fed = absurd (false≢true fed)

@@ -195,11 +195,12 @@ module _ (p : DataPath) (flat : List Part) (number : Spot → NetId)
       let w = slice_get_within (p.pads).inputs i pad is_pad in
       let row = get_or rows i [] in
       let at : slice_get rows i ≡ Some row = slice_get-get_or rows i [] (omega (arith, w, size)) in
-      let h = are i pad id row is_pad is_id at in
-      (map (spot 0) row,
-      contains_at (rows_of rows) i (map (spot 0) row) (at_mapped (λ (row : List NetId). map (spot 0) row) rows i row at),
-      contains_at (map (spot 0) row) j (spot 0 (number (pad_spot pad id j)))
-      (at_mapped (spot 0) row j (number (pad_spot pad id j)) (h.1 j l)))
+      let h = are i pad id row is_pad is_id at in (
+        map (spot 0) row,
+        contains_at (rows_of rows) i (map (spot 0) row) (at_mapped (λ (row : List NetId). map (spot 0) row) rows i row at),
+        contains_at (map (spot 0) row) j (spot 0 (number (pad_spot pad id j)))
+            (at_mapped (spot 0) row j (number (pad_spot pad id j)) (h.1 j l)),
+      )
 
   given_bit : (b n : ℕ) → b ≤ p.width → 0 < times n (pads_of p b) → IsBit (spot 0 (number (record { band = b; net = n })))
   given_bit zero n l some =

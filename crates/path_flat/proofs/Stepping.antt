@@ -122,9 +122,11 @@ module _ (p : DataPath) where
           ∙ ap (λ b. Some (Latch phase (cond b (Some (also m)) None))) (sym (le-ltb (rank p.order n) 0 (omega arith)))
       still n (Joined m) q l h =
           kept n l ∙ h ∙ sym (kept m (let b = joined_before n m q in omega (arith, b, l)))
-      still n Low q l h =
-          (h.0, ap (λ (x : NetId). slice_get new x.0) (kept n l) ∙ grown (of n).0 (Gate (h.0 ∷ [])) h.1,
-          grown (h.0).0 (Gate []) h.2)
+      still n Low q l h = (
+        h.0,
+        ap (λ (x : NetId). slice_get new x.0) (kept n l) ∙ grown (of n).0 (Gate (h.0 ∷ [])) h.1,
+        grown (h.0).0 (Gate []) h.2,
+      )
 
       at_end : (xs : List Part) (x : Part) (more : List Part) → slice_get (xs ++ x ∷ more) (length xs) ≡ Some x
       at_end [] x more = refl
@@ -152,12 +154,13 @@ module _ (p : DataPath) where
           ∙ ap (λ b. Some (Latch phase (cond b (Some (also m)) None))) (sym (le-ltb (rank p.order s) 0 (omega arith)))
       stands (Joined m) q parts number =
           own ∙ number ∙ sym (kept m (let b = joined_before s m q in omega (arith, b, here)))
-      stands Low q parts number =
-          (record { 0 = length flat },
-          ap (λ (x : NetId). slice_get new x.0) (own ∙ number) ∙ ap (λ (xs : List Part). slice_get xs (length flat + 1)) parts
-          ∙ behind flat (Gate []) (Gate (record { 0 = length flat } ∷ [])),
-          ap (λ (xs : List Part). slice_get xs (length flat)) parts
-          ∙ at_end flat (Gate []) (Gate (record { 0 = length flat } ∷ []) ∷ []))
+      stands Low q parts number = (
+        record { 0 = length flat },
+        ap (λ (x : NetId). slice_get new x.0) (own ∙ number) ∙ ap (λ (xs : List Part). slice_get xs (length flat + 1)) parts
+            ∙ behind flat (Gate []) (Gate (record { 0 = length flat } ∷ [])),
+        ap (λ (xs : List Part). slice_get xs (length flat)) parts
+            ∙ at_end flat (Gate []) (Gate (record { 0 = length flat } ∷ []) ∷ []),
+      )
 
       new_inside : (d : Element) → path_nets p s ≡ Some d → id ≡ number_for (length flat) of d
           → length new ≡ length flat + length (parts_for (length flat) of d) → id.0 < length new
@@ -251,9 +254,13 @@ module _ (p : DataPath) where
           by_element (Nor inputs) zero q number at = cc
           by_element (Nor inputs) (suc j) q number at = absurd (none-some (Latch phase source) at)
           by_element (Latched other m) zero q number at =
-              let same : other ≡ phase = cc in
-              (s, m, omega (arith, here), q ∙ ap (λ ph. Some (Latched ph m)) same,
-              (let k = ap (λ (x : NetId). x.0) (own ∙ number) in omega (arith, k)))
+              let same : other ≡ phase = cc in (
+                s,
+                m,
+                omega (arith, here),
+                q ∙ ap (λ ph. Some (Latched ph m)) same,
+                (let k = ap (λ (x : NetId). x.0) (own ∙ number) in omega (arith, k)),
+              )
           by_element (Latched other m) (suc j) q number at = absurd (none-some (Latch phase source) at)
           by_element (Joined m) j q number at = absurd (none-some (Latch phase source) at)
           by_element Low zero q number at = cc
