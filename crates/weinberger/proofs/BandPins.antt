@@ -1,5 +1,6 @@
 -- What the pins of a band are.
-use Rattle.std.proofs.Common.{◌≡◌, inl, inr, ℕ, ◌<◌, ◌+◌, Option, Some, None, Bool, true, false, cond, List, [], ◌∷◌, ◌++◌, length, map, get_or, refl, sym, ◌∙◌, ap, subst, arith}
+use Rattle.std.proofs.Common.{◌≡◌, inl, inr, ℕ, ◌<◌, ◌+◌, Option, Some, None, Bool, true, false, cond, List, []}
+use Rattle.std.proofs.Common.{◌∷◌, ◌++◌, length, map, get_or, refl, sym, ◌∙◌, ap, subst, arith}
 use Rattle.std.specs.Prelude.{slice_get}
 use Rattle.std.specs.List.{range_with_len}
 use Rattle.std.proofs.lemmas.Option.{slice_get_within}
@@ -11,11 +12,13 @@ use Rattle.array_form.specs.declared.band.Tap.{Tap}
 use Rattle.array_form.specs.declared.band.Band.{Band}
 use Rattle.array_form.specs.Homes.{reads, phase_number}
 use Rattle.array_form.specs.Place.{is_input}
-use Rattle.array_form.proofs.Members.{Member, member_append, append_left, append_right, member_map, map_member, member_flat, flat_member}
+use Rattle.array_form.proofs.Members.{Member, member_append, append_left, append_right, member_map, map_member}
+use Rattle.array_form.proofs.Members.{member_flat, flat_member}
 use Rattle.array_form.proofs.Listing.{in_range, range_has, has_member, same_from, same_to}
 use Rattle.array_form.proofs.Homes.{has_of}
 use Rattle.weinberger.specs.declared.pins.Pin.{Pin}
-use Rattle.weinberger.specs.Pins.{pin, part_pins, net_pins, tap_pin, tap_pins, phase_pin, phase_pins, band_pins, stub_pin, stub_pins}
+use Rattle.weinberger.specs.Pins.{pin, part_pins, net_pins, tap_pin, tap_pins, phase_pin, phase_pins, band_pins}
+use Rattle.weinberger.specs.Pins.{stub_pin, stub_pins}
 
 -- The pin is in the column of a net: on the net's own segment, on one that it reads, or on that of its phase.
 pub data IsNetPin (parts : List Part) (p : Pin) : Type 0 where
@@ -42,7 +45,8 @@ module _ (parts : List Part) where
 
   pub net_pin_is : (p : Pin) → Member (net_pins parts) p → IsNetPin parts p
   net_pin_is p m =
-      let w = member_flat (λ n. part_pins (length parts) n (slice_get parts n)) (range_with_len 0 (length parts)) p m in
+      let w = member_flat (λ n. part_pins (length parts) n (slice_get parts n))
+      (range_with_len 0 (length parts)) p m in
       part_pin w.0 (slice_get parts w.0) p refl w.2
 
   there : (n : ℕ) (q : Part) (p : Pin) → slice_get parts n ≡ Some q → Member (part_pins (length parts) n (Some q)) p
@@ -100,16 +104,19 @@ module _ (band : Band) (parts : List Part) where
       (append_left (net_pins parts) (tap_pins band.taps) p (net_pin_in parts p h))
   band_pin_in p (of_tap t m e) =
       append_left (net_pins parts ++ tap_pins band.taps) (phase_pins (length parts) band.first_column) p
-      (append_right (net_pins parts) (tap_pins band.taps) p (subst (Member (tap_pins band.taps)) e (map_member tap_pin band.taps t m)))
+      (append_right (net_pins parts) (tap_pins band.taps) p
+      (subst (Member (tap_pins band.taps)) e (map_member tap_pin band.taps t m)))
   band_pin_in p (of_phase j lt e) =
       append_right (net_pins parts ++ tap_pins band.taps) (phase_pins (length parts) band.first_column) p
       (subst (Member (phase_pins (length parts) band.first_column)) e
-      (map_member (phase_pin (length parts) band.first_column) (range_with_len 0 3) j (range_has 0 3 j (omega arith) (omega arith))))
+      (map_member (phase_pin (length parts) band.first_column) (range_with_len 0 3) j
+      (range_has 0 3 j (omega arith) (omega arith))))
 
 -- the pins of stubs
 pub stub_pin_is : (stubs : List Bool) (p : Pin) → Member (stub_pins stubs) p
     → (n : ℕ) × (n < length stubs) × (get_or stubs n false ≡ true) × (pin n n ≡ p)
-stub_pin_is stubs p m = go w.0 (let r = (in_range 0 (length stubs) w.0 w.1).1 in omega arith) (get_or stubs w.0 false) refl w.2
+stub_pin_is stubs p m =
+    go w.0 (let r = (in_range 0 (length stubs) w.0 w.1).1 in omega arith) (get_or stubs w.0 false) refl w.2
   where
     w : (n : ℕ) × Member (range_with_len 0 (length stubs)) n × Member (stub_pin stubs n) p
     w = member_flat (stub_pin stubs) (range_with_len 0 (length stubs)) p m
@@ -120,7 +127,9 @@ stub_pin_is stubs p m = go w.0 (let r = (in_range 0 (length stubs) w.0 w.1).1 in
     go n lt true e (inr k) = absurd k
     go n lt false e k = absurd k
 
-pub stub_pin_in : (stubs : List Bool) (n : ℕ) → n < length stubs → get_or stubs n false ≡ true → Member (stub_pins stubs) (pin n n)
+pub stub_pin_in : (stubs : List Bool) (n : ℕ) → n < length stubs → get_or stubs n false ≡ true
+    → Member (stub_pins stubs) (pin n n)
 stub_pin_in stubs n lt e =
-    flat_member (stub_pin stubs) (range_with_len 0 (length stubs)) n (pin n n) (range_has 0 (length stubs) n (omega arith) (omega arith))
+    flat_member (stub_pin stubs) (range_with_len 0 (length stubs)) n (pin n n)
+    (range_has 0 (length stubs) n (omega arith) (omega arith))
     (subst (λ t. Member (cond t (pin n n ∷ []) []) (pin n n)) (sym e) (inl refl))

@@ -1,5 +1,6 @@
 -- Numbers that are kept once, and the stamps by which those seen are known.
-use Rattle.std.proofs.Common.{◌≡◌, inl, inr, ℕ, ◌<◌, ◌≤◌, ◌==◌, Bool, true, false, cond, not, map, append_assoc, List, [], ◌∷◌, ◌++◌, length, get_or, set, refl, sym, ◌∙◌, ap, subst, arith}
+use Rattle.std.proofs.Common.{◌≡◌, inl, inr, ℕ, ◌<◌, ◌≤◌, ◌==◌, Bool, true, false, cond, not, map, append_assoc}
+use Rattle.std.proofs.Common.{List, [], ◌∷◌, ◌++◌, length, get_or, set, refl, sym, ◌∙◌, ap, subst, arith}
 use Rattle.std.specs.Prelude.{All, ◌≢◌}
 use Rattle.std.proofs.lemmas.Bool.{cases_Bool, cases_eq}
 use Rattle.std.proofs.lemmas.List.{get_or-set_same, get_or-set_other, length-set, map_push}
@@ -113,7 +114,8 @@ pub seen_new : (stamp : ℕ) (seen numbers : List ℕ) (x : ℕ) → x < length 
 seen_new stamp seen numbers x lt s = record {
   upto = λ k d b. let l : k < length seen = subst (λ n. k < n) (length-set seen x stamp) b in
       elim (cases_eq k x) [
-        | inl q ↦ subst (λ z. z ≤ stamp) (sym (ap (λ j. get_or (set seen x stamp) j d) q ∙ get_or-set_same seen x stamp d lt)) (omega arith)
+        | inl q ↦ subst (λ z. z ≤ stamp)
+            (sym (ap (λ j. get_or (set seen x stamp) j d) q ∙ get_or-set_same seen x stamp d lt)) (omega arith)
         | inr q ↦ subst (λ z. z ≤ stamp) (sym (get_or-set_other seen x k stamp d q)) (s.upto k d l)
       ];
   stamped = λ i b h. let l : i < length seen = subst (λ n. i < n) (length-set seen x stamp) b in

@@ -1,5 +1,6 @@
 -- A list that grows by what comes next.
-use Rattle.std.proofs.Common.{◌≡◌, ℕ, zero, suc, ◌+◌, List, [], ◌∷◌, ◌++◌, map, refl, sym, ◌∙◌, ap, subst, arith, append_assoc}
+use Rattle.std.proofs.Common.{◌≡◌, ℕ, zero, suc, ◌+◌, List, [], ◌∷◌, ◌++◌, map, refl, sym, ◌∙◌, ap, subst, arith}
+use Rattle.std.proofs.Common.{append_assoc}
 use Rattle.std.specs.Prelude.{flat_map, max, min}
 use Rattle.std.specs.List.{range_with_len}
 use Rattle.std.proofs.lemmas.List.{map-append, append-nil}
@@ -15,15 +16,19 @@ range_more a (suc n) =
     subst (λ z. range_with_len a z ≡ range_with_len a (suc n) ++ (a + suc n) ∷ []) (sym s)
     (ap (λ l. a ∷ l) (range_more (a + 1) n ∙ ap (λ z. range_with_len (a + 1) n ++ z ∷ []) e))
 
-flat_append : {A B : Type 0} (g : A → List B) (xs ys : List A) → flat_map g (xs ++ ys) ≡ flat_map g xs ++ flat_map g ys
+flat_append : {A B : Type 0} (g : A → List B) (xs ys : List A)
+    → flat_map g (xs ++ ys) ≡ flat_map g xs ++ flat_map g ys
 flat_append g [] ys = refl
-flat_append g (x ∷ xs) ys = ap (λ l. g x ++ l) (flat_append g xs ys) ∙ sym (append_assoc (g x) (flat_map g xs) (flat_map g ys))
+flat_append g (x ∷ xs) ys = ap (λ l. g x ++ l) (flat_append g xs ys)
+    ∙ sym (append_assoc (g x) (flat_map g xs) (flat_map g ys))
 
-pub flat_range : {B : Type 0} (g : ℕ → List B) (n : ℕ) → flat_map g (range_with_len 0 (n + 1)) ≡ flat_map g (range_with_len 0 n) ++ g n
+pub flat_range : {B : Type 0} (g : ℕ → List B) (n : ℕ)
+    → flat_map g (range_with_len 0 (n + 1)) ≡ flat_map g (range_with_len 0 n) ++ g n
 flat_range g n =
     ap (flat_map g) (range_more 0 n)
     ∙ (flat_append g (range_with_len 0 n) ((0 + n) ∷ [])
-    ∙ ap (λ l. flat_map g (range_with_len 0 n) ++ l) (append-nil (g (0 + n)) ∙ ap g (let e : 0 + n ≡ n = omega arith in e)))
+    ∙ ap (λ l. flat_map g (range_with_len 0 n) ++ l)
+    (append-nil (g (0 + n)) ∙ ap g (let e : 0 + n ≡ n = omega arith in e)))
 
 -- what is added at number n goes behind what was added below n
 pub flat_grown : {B : Type 0} (base : List B) (g : ℕ → List B) (n : ℕ) (items more : List B)
@@ -33,7 +38,8 @@ flat_grown base g n items more a b =
     b ∙ (ap (λ l. l ++ g n) a ∙ (append_assoc base (flat_map g (range_with_len 0 n)) (g n)
     ∙ ap (λ l. base ++ l) (sym (flat_range g n))))
 
-pub map_range : {B : Type 0} (g : ℕ → B) (n : ℕ) → map g (range_with_len 0 (n + 1)) ≡ map g (range_with_len 0 n) ++ g n ∷ []
+pub map_range : {B : Type 0} (g : ℕ → B) (n : ℕ)
+    → map g (range_with_len 0 (n + 1)) ≡ map g (range_with_len 0 n) ++ g n ∷ []
 map_range g n =
     ap (map g) (range_more 0 n)
     ∙ (map-append g (range_with_len 0 n) ((0 + n) ∷ [])

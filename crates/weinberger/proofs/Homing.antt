@@ -1,5 +1,7 @@
 -- The columns that nets are given are those of the closed form.
-use Rattle.std.proofs.Common.{◌≡◌, inl, inr, ℕ, zero, suc, ◌+◌, ◌<◌, ◌≤◌, ◌==◌, Option, Some, None, Bool, true, false, cond, not, ◌&&◌, List, [], ◌∷◌, length, map, get_or, refl, sym, ◌∙◌, ap, subst, arith}
+use Rattle.std.proofs.Common.{◌≡◌, inl, inr, ℕ, zero, suc, ◌+◌, ◌<◌, ◌≤◌, ◌==◌, Option, Some, None, Bool, true}
+use Rattle.std.proofs.Common.{false, cond, not, ◌&&◌, List, [], ◌∷◌, length, map, get_or, refl, sym, ◌∙◌, ap, subst}
+use Rattle.std.proofs.Common.{arith}
 use Rattle.std.specs.Prelude.{◌||◌, slice_get}
 use Rattle.std.specs.List.{list_any, range_with_len}
 use Rattle.std.proofs.lemmas.Option.{slice_get_cases, slice_get_within}
@@ -21,14 +23,17 @@ use Rattle.weinberger.proofs.BandPins.{own, read, beat, IsBandPin, of_net, of_ta
 
 -- how many pass with one number more
 pub count_more : (test : ℕ → Bool) (n : ℕ) → count_below test (n + 1) ≡ count_below test n + cond (test n) 1 0
-count_more test n = subst (λ z. count_below test z ≡ count_below test n + cond (test n) 1 0) (let e : suc n ≡ n + 1 = omega arith in e) (omega arith)
+count_more test n =
+    subst (λ z. count_below test z ≡ count_below test n + cond (test n) 1 0) (let e : suc n ≡ n + 1 = omega arith in
+    e) (omega arith)
 
 pub one_more : (t : Bool) → cond t 1 0 ≤ 1
 one_more true = omega arith
 one_more false = omega arith
 
 -- tests that agree below a number count the same
-pub count_same : (test other : ℕ → Bool) (n : ℕ) → ((i : ℕ) → i < n → test i ≡ other i) → count_below test n ≡ count_below other n
+pub count_same : (test other : ℕ → Bool) (n : ℕ) → ((i : ℕ) → i < n → test i ≡ other i)
+    → count_below test n ≡ count_below other n
 count_same test other zero h = refl
 count_same test other (suc n) h =
     ap (λ t. cond t 1 0 + count_below test n) (h n (omega arith))
@@ -62,11 +67,13 @@ same_bools false true there back = back refl
 same_bools false false there back = refl
 
 module _ (band : Band) (parts : List Part) (pinned : List Bool)
-    (flags : (k : ℕ) → k < length parts + 3 → get_or pinned k false ≡ list_any (λ p. p.segment == k) (band_pins band parts)) where
+    (flags : (k : ℕ) → k < length parts + 3
+    → get_or pinned k false ≡ list_any (λ p. p.segment == k) (band_pins band parts)) where
   -- an input has a pin where something reads it or taps it
   pin_reads : (n : ℕ) → slice_get parts n ≡ Some Input → (p : Pin) → p.segment ≡ n → IsBandPin band parts p
       → (is_read parts n || is_tapped band.taps n) ≡ true
-  pin_reads n h p s (of_net (own m q g e r)) = absurd (input_differs q e (sym g ∙ (ap (slice_get parts) (ap (λ z. z.segment) r ∙ s) ∙ h)))
+  pin_reads n h p s (of_net (own m q g e r)) =
+      absurd (input_differs q e (sym g ∙ (ap (slice_get parts) (ap (λ z. z.segment) r ∙ s) ∙ h)))
     where
       input_differs : (q : Part) → is_input q ≡ false → Some q ≡ Some Input → ⊥
       input_differs Input e r = absurd (cc e)
@@ -101,10 +108,13 @@ module _ (band : Band) (parts : List Part) (pinned : List Bool)
         (band_pin_in band parts (tap_pin w.1) (of_tap w.1 w.4 refl)) w.3)
   ]
 
-  flag_same : (n : ℕ) → slice_get parts n ≡ Some Input → get_or pinned n false ≡ (is_read parts n || is_tapped band.taps n)
+  flag_same : (n : ℕ) → slice_get parts n ≡ Some Input
+      → get_or pinned n false ≡ (is_read parts n || is_tapped band.taps n)
   flag_same n h =
       let lt = slice_get_within parts n Input h in
-      flags n (omega arith) ∙ same_bools (list_any (λ p. p.segment == n) (band_pins band parts)) (is_read parts n || is_tapped band.taps n)
+      flags n (omega arith)
+      ∙ same_bools (list_any (λ p. p.segment == n) (band_pins band parts))
+      (is_read parts n || is_tapped band.taps n)
       (λ e. let w = any_member (λ (p : Pin). p.segment == n) (band_pins band parts) e in
       pin_reads n h w.1 (same_from w.1.segment n w.3) (band_pin_is band parts w.1 w.4))
       (reads_pin n)
@@ -120,7 +130,8 @@ module _ (band : Band) (parts : List Part) (pinned : List Bool)
 
   homed_same : (n : ℕ) (q : Option Part) → slice_get parts n ≡ q → n < length parts
       → is_homed_by pinned parts n ≡ (columns_in band parts).homed n
-  homed_same n None h lt = elim (slice_get_cases parts n).1 [ inl w ↦ absurd (cc (sym h ∙ w.2)) | inr w ↦ absurd (omega (arith, w.0)) ]
+  homed_same n None h lt =
+      elim (slice_get_cases parts n).1 [ inl w ↦ absurd (cc (sym h ∙ w.2)) | inr w ↦ absurd (omega (arith, w.0)) ]
   homed_same n (Some q) h lt =
       ap (λ z. not (part_is is_input z) || is_stub_by pinned parts n) h
       ∙ (ap (λ t. not (is_input q) || t) (stub_same n (Some q) h)
@@ -129,12 +140,15 @@ module _ (band : Band) (parts : List Part) (pinned : List Bool)
   home_same : (n : ℕ) → n ≤ length parts
       → home_by (columns_in band parts).base pinned parts n ≡ home (columns_in band parts) n
   home_same n le =
-      ap (λ z. (columns_in band parts).base + z) (count_same (is_homed_by pinned parts) (columns_in band parts).homed n
+      ap (λ z. (columns_in band parts).base + z)
+      (count_same (is_homed_by pinned parts) (columns_in band parts).homed n
       (λ i lt. homed_same i (slice_get parts i) refl (omega arith)))
 
-  pub homes_same : (homes : Homes) → AreHomes parts (columns_in band parts).base pinned homes → AreHomesOf band parts homes
+  pub homes_same : (homes : Homes) → AreHomes parts (columns_in band parts).base pinned homes
+      → AreHomesOf band parts homes
   homes_same homes a = record {
-    columns = a.columns ∙ map_same (home_by (columns_in band parts).base pinned parts) (home (columns_in band parts)) 0 (length parts)
+    columns = a.columns
+        ∙ map_same (home_by (columns_in band parts).base pinned parts) (home (columns_in band parts)) 0 (length parts)
         (λ i lo hi. home_same i (omega arith));
     stubs = a.stubs ∙ map_same (is_stub_by pinned parts) (columns_in band parts).stub 0 (length parts)
         (λ i lo hi. stub_same i (slice_get parts i) refl);

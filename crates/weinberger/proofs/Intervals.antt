@@ -20,7 +20,8 @@ module _ (band : Band) (parts : List Part) (is_band : IsBandOf band parts) (is_n
 
   pub end_small : end_of (columns_in band parts) parts + 1 < 2 ^ 32
   end_small =
-      let b = base_small band parts is_band is_net (map (home (columns_in band parts)) (range_with_len 0 (length parts)))
+      let b = base_small band parts is_band is_net
+      (map (home (columns_in band parts)) (range_with_len 0 (length parts)))
       (map (columns_in band parts).stub (range_with_len 0 (length parts))) refl refl in
       let m = count_most (columns_in band parts).homed (length parts) in
       let f = is_net.few_nets in omega arith

@@ -1,5 +1,6 @@
 -- Rows as they are packed are the tracks of a band, and what is listed in them is what is placed.
-use Rattle.std.proofs.Common.{◌≡◌, ◌⊎◌, ℕ, zero, suc, ◌+◌, ◌<◌, ◌≤◌, ◌^◌, Some, None, Bool, false, List, [], ◌∷◌, ◌++◌, length, map, get_or, refl, sym, ◌∙◌, ap, subst, arith}
+use Rattle.std.proofs.Common.{◌≡◌, ◌⊎◌, ℕ, zero, suc, ◌+◌, ◌<◌, ◌≤◌, ◌^◌, Some, None, Bool, false, List, [], ◌∷◌}
+use Rattle.std.proofs.Common.{◌++◌, length, map, get_or, refl, sym, ◌∙◌, ap, subst, arith}
 use Rattle.std.specs.Prelude.{◌≢◌, All, flat_map, slice_get, slice_index}
 use Rattle.std.specs.List.{range_with_len}
 use Rattle.std.proofs.lemmas.Option.{slice_get-get_or}
@@ -17,7 +18,8 @@ use Rattle.array_form.specs.declared.band.Tap.{Tap}
 use Rattle.array_form.specs.declared.band.Band.{Band}
 use Rattle.array_form.specs.Homes.{home, greatest, least}
 use Rattle.array_form.specs.Lists.{stretch}
-use Rattle.array_form.specs.Laying.{AreTracks, band_segment, band_segments, column_lines, band_lines, column_marks, band_marks, with_net}
+use Rattle.array_form.specs.Laying.{AreTracks, band_segment, band_segments, column_lines, band_lines, column_marks}
+use Rattle.array_form.specs.Laying.{band_marks, with_net}
 use Rattle.array_form.specs.Place.{columns_in, cols_in, interval_of, intervals_in, IsBandOf, IsFitted, HasSpace}
 use Rattle.array_form.proofs.Members.{map_member, member_contains}
 use Rattle.array_form.proofs.Homes.{greatest_above}
@@ -54,14 +56,18 @@ fed_parts (p ∷ ps) h (suc n) ph e = fed_parts ps (λ k d lt. h (suc k) d (omeg
 
 module _ (band : Band) (parts : List Part) where
   pub intervals_long : length (intervals_in (columns_in band parts) parts) ≡ length parts + 3
-  intervals_long = length-map-range_with_len (λ k. interval_of (cols_in (columns_in band parts) parts k)) 0 (length parts + 3)
+  intervals_long =
+      length-map-range_with_len (λ k. interval_of (cols_in (columns_in band parts) parts k)) 0 (length parts + 3)
 
   interval_at : (k : ℕ) (d : Interval) → k < length parts + 3
-      → get_or (intervals_in (columns_in band parts) parts) k d ≡ interval_of (cols_in (columns_in band parts) parts k)
+      → get_or (intervals_in (columns_in band parts) parts) k d ≡ interval_of
+      (cols_in (columns_in band parts) parts k)
   interval_at k d lt =
-      get_or-map-range_with_len (λ k. interval_of (cols_in (columns_in band parts) parts k)) 0 (length parts + 3) k k d lt (omega arith)
+      get_or-map-range_with_len (λ k. interval_of (cols_in (columns_in band parts) parts k)) 0
+      (length parts + 3) k k d lt (omega arith)
 
-  pub intervals_all : ((k : ℕ) → k < length parts + 3 → IsInterval (interval_of (cols_in (columns_in band parts) parts k)))
+  pub intervals_all : ((k : ℕ) → k < length parts + 3
+      → IsInterval (interval_of (cols_in (columns_in band parts) parts k)))
       → All IsInterval (intervals_in (columns_in band parts) parts)
   intervals_all h k d lt =
       let l = intervals_long in
@@ -72,14 +78,18 @@ module _ (band : Band) (parts : List Part) where
   intervals_few n = let l = intervals_long in let f = n.few_nets in omega arith
 
   -- packed rows are tracks
-  pub tracks_of : (tracks : Tracks) → IsNet parts → length tracks.row ≡ length (intervals_in (columns_in band parts) parts)
+  pub tracks_of : (tracks : Tracks) → IsNet parts
+      → length tracks.row ≡ length (intervals_in (columns_in band parts) parts)
       → All (λ row. row < tracks.rows) tracks.row → AreApart (intervals_in (columns_in band parts) parts) tracks.row
-      → IsDensity (intervals_in (columns_in band parts) parts) tracks.rows tracks.column → AreTracksOf band parts tracks
+      → IsDensity (intervals_in (columns_in band parts) parts) tracks.rows tracks.column
+      → AreTracksOf band parts tracks
   tracks_of tracks is_net long within apart density = record {
     rows = record {
       long = long ∙ intervals_long;
       below = within;
-      few = let r = rows_few (columns_in band parts) parts tracks.rows tracks.column density in let f = is_net.few_nets in omega arith;
+      few =
+          let r = rows_few (columns_in band parts) parts tracks.rows tracks.column density in
+          let f = is_net.few_nets in omega arith;
     };
     apart = tracks_from (columns_in band parts) parts (slice_index tracks.row) tracks.rows
         (λ k lt. within k 0 (let l = row_long in omega arith)) lie_apart;
@@ -90,29 +100,35 @@ module _ (band : Band) (parts : List Part) where
       row_long = long ∙ intervals_long
 
       some_interval : (k : ℕ) → k < length parts + 3
-          → slice_get (intervals_in (columns_in band parts) parts) k ≡ Some (interval_of (cols_in (columns_in band parts) parts k))
+          → slice_get (intervals_in (columns_in band parts) parts) k ≡ Some
+          (interval_of (cols_in (columns_in band parts) parts k))
       some_interval k lt =
-          slice_get-get_or (intervals_in (columns_in band parts) parts) k nowhere (let l = intervals_long in omega arith)
+          slice_get-get_or (intervals_in (columns_in band parts) parts) k nowhere (let l = intervals_long in
+          omega arith)
           ∙ ap Some (interval_at k nowhere lt)
 
       some_row : (k : ℕ) → k < length parts + 3 → slice_get tracks.row k ≡ Some (slice_index tracks.row k)
       some_row k lt = slice_get-get_or tracks.row k 0 (let l = row_long in omega arith)
 
-      lie_apart : (i j : ℕ) → i < length parts + 3 → j < length parts + 3 → i ≢ j → slice_index tracks.row i ≡ slice_index tracks.row j
+      lie_apart : (i j : ℕ) → i < length parts + 3 → j < length parts + 3 → i ≢ j
+          → slice_index tracks.row i ≡ slice_index tracks.row j
           → (greatest (cols_in (columns_in band parts) parts i) + 1 < least (cols_in (columns_in band parts) parts j))
           ⊎ (greatest (cols_in (columns_in band parts) parts j) + 1 < least (cols_in (columns_in band parts) parts i))
       lie_apart i j hi hj ne e =
-          apart i j (slice_index tracks.row i) (interval_of (cols_in (columns_in band parts) parts i)) (interval_of (cols_in (columns_in band parts) parts j))
+          apart i j (slice_index tracks.row i) (interval_of (cols_in (columns_in band parts) parts i))
+          (interval_of (cols_in (columns_in band parts) parts j))
           ne (some_interval i hi) (some_row i hi) (some_interval j hj) (some_row j hj ∙ ap Some (sym e))
 
   -- ---- what is listed
   pub segments_same : (b : ℕ) (rows : List ℕ) → segments_of b (intervals_in (columns_in band parts) parts) rows
       ≡ band_segments b (cols_in (columns_in band parts) parts) (slice_index rows) parts
   segments_same b rows =
-      ap (λ n. map (segment_of b (intervals_in (columns_in band parts) parts) rows) (range_with_len 0 n)) intervals_long
+      ap (λ n. map (segment_of b (intervals_in (columns_in band parts) parts) rows) (range_with_len 0 n))
+      intervals_long
       ∙ map_same (segment_of b (intervals_in (columns_in band parts) parts) rows)
       (band_segment b (cols_in (columns_in band parts) parts) (slice_index rows)) 0 (length parts + 3)
-      (λ k lo hi. ap (λ (s : Interval). stretch b (suc (slice_index rows k)) s.first s.last) (interval_at k nowhere (omega arith)))
+      (λ k lo hi. ap (λ (s : Interval). stretch b (suc (slice_index rows k)) s.first s.last)
+      (interval_at k nowhere (omega arith)))
 
 module _ (band : Band) (parts : List Part) (columns : List ℕ) (stubs : List Bool)
     (columns_are : columns ≡ map (home (columns_in band parts)) (range_with_len 0 (length parts)))
@@ -133,7 +149,8 @@ module _ (band : Band) (parts : List Part) (columns : List ℕ) (stubs : List Bo
 
   pub lines_same : (b : ℕ) → lines_of b columns stubs parts ≡ band_lines b (columns_in band parts) parts
   lines_same b = flat_same (lines_at b columns stubs parts)
-      (λ n. column_lines b (home (columns_in band parts) n) ((columns_in band parts).stub n) (slice_get parts n)) 0 (length parts)
+      (λ n. column_lines b (home (columns_in band parts) n) ((columns_in band parts).stub n) (slice_get parts n)) 0
+      (length parts)
       (λ n lo hi. let c = column_is n (omega arith) in let s = stub_is n (omega arith) in
       λ i. column_lines b (c i) (s i) (slice_get parts n))
 
@@ -153,32 +170,48 @@ module _ (f : Plan) (band : Band) (parts : List Part) (fitted : IsFitted f band 
     nets = all_from (λ (t : Tap). t.net.0 < length parts) band.taps
         (λ t m. (fitted.3.taps_in t (member_contains band.taps t m)).0);
     columns = all_from (λ (t : Tap). t.column < limit) band.taps
-        (λ t m. let g = greatest_above (map (λ t. t.column + 1) band.taps) (t.column + 1) (map_member (λ (t : Tap). t.column + 1) band.taps t m) in
+        (λ t m. let g =
+        greatest_above (map (λ t. t.column + 1) band.taps) (t.column + 1)
+        (map_member (λ (t : Tap). t.column + 1) band.taps t m) in
         let c = fitted.3.columns in let r = roomy.columns_fit in omega arith);
   }
 
   module _ (tracks : Tracks) (are : AreTracksOf band parts tracks) where
     top_is : rows_of f band.index ≡ suc tracks.rows
-    top_is = fitted.3.rows_is ∙ ap suc (density_once (intervals_in (columns_in band parts) parts) fitted.0 fitted.1 tracks.rows tracks.column fitted.2 are.density)
+    top_is = fitted.3.rows_is
+        ∙ ap suc (density_once
+        (intervals_in (columns_in band parts) parts) fitted.0 fitted.1 tracks.rows tracks.column fitted.2
+        are.density)
 
     -- what is added with the packed rows is what the net's form in the band says
-    pub same_fabric : with_added f (band_segments band.index (cols_in (columns_in band parts) parts) (slice_index tracks.row) parts)
+    pub same_fabric : with_added f
+        (band_segments band.index (cols_in (columns_in band parts) parts) (slice_index tracks.row) parts)
         (band_lines band.index (columns_in band parts) parts)
         (band_marks band.index (suc tracks.rows) (slice_index tracks.row) (columns_in band parts) parts)
-        ≡ with_net f band.index (columns_in band parts) parts (cols_in (columns_in band parts) parts) (slice_index tracks.row)
-    same_fabric = ap (λ t. with_added f (band_segments band.index (cols_in (columns_in band parts) parts) (slice_index tracks.row) parts)
+        ≡ with_net f band.index (columns_in band parts) parts (cols_in (columns_in band parts) parts)
+        (slice_index tracks.row)
+    same_fabric =
+        ap (λ t. with_added f
+        (band_segments band.index (cols_in (columns_in band parts) parts) (slice_index tracks.row) parts)
         (band_lines band.index (columns_in band parts) parts)
         (band_marks band.index t (slice_index tracks.row) (columns_in band parts) parts)) (sym top_is)
 
     pub is_fabric : IsFabric f → IsNet parts → IsFed parts
-        → IsFabric (with_net f band.index (columns_in band parts) parts (cols_in (columns_in band parts) parts) (slice_index tracks.row))
+        → IsFabric (with_net f band.index (columns_in band parts) parts (cols_in (columns_in band parts) parts)
+        (slice_index tracks.row))
     is_fabric lawful is_net fed =
-        placed_is_fabric f lawful band.index (columns_in band parts) parts (cols_in (columns_in band parts) parts) (slice_index tracks.row) fitted.0
+        placed_is_fabric f lawful band.index (columns_in band parts) parts (cols_in (columns_in band parts) parts)
+        (slice_index tracks.row) fitted.0
         (has_room f band parts fitted.0 is_net (fed_parts parts fed) fitted.3)
-        (subst (AreTracks (columns_in band parts) parts (cols_in (columns_in band parts) parts) (slice_index tracks.row))
-        (sym (density_once (intervals_in (columns_in band parts) parts) fitted.0 fitted.1 tracks.rows tracks.column fitted.2 are.density)) are.apart)
+        (subst (AreTracks (columns_in band parts) parts (cols_in (columns_in band parts) parts)
+        (slice_index tracks.row))
+        (sym (density_once
+        (intervals_in (columns_in band parts) parts) fitted.0 fitted.1 tracks.rows tracks.column fitted.2
+        are.density)) are.apart)
 
     pub is_roomy : IsRoomy f → HasSpace f parts
-        → IsRoomy (with_net f band.index (columns_in band parts) parts (cols_in (columns_in band parts) parts) (slice_index tracks.row))
+        → IsRoomy (with_net f band.index (columns_in band parts) parts (cols_in (columns_in band parts) parts)
+        (slice_index tracks.row))
     is_roomy roomy space =
-        net_fits f band.index (columns_in band parts) parts (cols_in (columns_in band parts) parts) (slice_index tracks.row) roomy space
+        net_fits f band.index (columns_in band parts) parts (cols_in (columns_in band parts) parts)
+        (slice_index tracks.row) roomy space

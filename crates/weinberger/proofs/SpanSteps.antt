@@ -1,5 +1,6 @@
 -- Spans grow by the column of each pin.
-use Rattle.std.proofs.Common.{◌≡◌, inl, inr, ℕ, ◌+◌, ◌<◌, ◌==◌, cond, List, [], ◌∷◌, ◌++◌, length, map, filter, take, get_or, set, refl, sym, ◌∙◌, ap, subst}
+use Rattle.std.proofs.Common.{◌≡◌, inl, inr, ℕ, ◌+◌, ◌<◌, ◌==◌, cond, List, [], ◌∷◌, ◌++◌, length, map, filter}
+use Rattle.std.proofs.Common.{take, get_or, set, refl, sym, ◌∙◌, ap, subst}
 use Rattle.std.specs.Prelude.{◌≢◌}
 use Rattle.std.proofs.lemmas.Bool.{cases_Bool, cases_eq}
 use Rattle.std.proofs.lemmas.List.{map-append, append-nil, get_or-set_same, get_or-set_other}
@@ -28,14 +29,18 @@ module _ (columns : List ℕ) (pins : List Pin) (i : ℕ) (none : Pin) (lt : i <
       ≡ columns_at columns (take i pins) k ++ map (λ q. column_at columns q.at) (cond (p.segment == k) (p ∷ []) [])
   at_more k =
       ap (map (λ q. column_at columns q.at)) (filter_more (λ q. q.segment == k) pins i none lt)
-      ∙ map-append (λ q. column_at columns q.at) (filter (λ q. q.segment == k) (take i pins)) (cond (p.segment == k) (p ∷ []) [])
+      ∙ map-append (λ q. column_at columns q.at) (filter (λ q. q.segment == k) (take i pins))
+      (cond (p.segment == k) (p ∷ []) [])
 
   pub at_same : (k : ℕ) → p.segment ≡ k
       → columns_at columns (take (i + 1) pins) k ≡ columns_at columns (take i pins) k ++ column_at columns p.at ∷ []
   at_same k e =
-      at_more k ∙ ap (λ t. columns_at columns (take i pins) k ++ map (λ q. column_at columns q.at) (cond t (p ∷ []) [])) (same_to p.segment k e)
+      at_more k ∙ ap
+      (λ t. columns_at columns (take i pins) k ++ map (λ q. column_at columns q.at) (cond t (p ∷ []) []))
+      (same_to p.segment k e)
 
-  pub at_other : (k : ℕ) → p.segment ≢ k → columns_at columns (take (i + 1) pins) k ≡ columns_at columns (take i pins) k
+  pub at_other : (k : ℕ) → p.segment ≢ k
+      → columns_at columns (take (i + 1) pins) k ≡ columns_at columns (take i pins) k
   at_other k ne = elim (cases_Bool (p.segment == k)) [
     | inl q ↦ absurd (ne (same_from p.segment k q))
     | inr q ↦ at_more k
@@ -46,7 +51,8 @@ module _ (columns : List ℕ) (pins : List Pin) (i : ℕ) (none : Pin) (lt : i <
   pub spans_more : (spans : List Interval) (d w : Interval) → p.segment < length spans
       → ((k : ℕ) → k < length spans → get_or spans k d ≡ span_of (columns_at columns (take i pins) k))
       → w ≡ widened_by (get_or spans p.segment d) (column_at columns p.at)
-      → (k : ℕ) → k < length spans → get_or (set spans p.segment w) k d ≡ span_of (columns_at columns (take (i + 1) pins) k)
+      → (k : ℕ) → k < length spans
+      → get_or (set spans p.segment w) k d ≡ span_of (columns_at columns (take (i + 1) pins) k)
   spans_more spans d w inside old is k b = elim (cases_eq p.segment k) [
     | inl e ↦ subst (λ z. get_or (set spans p.segment w) z d ≡ span_of (columns_at columns (take (i + 1) pins) z)) e
         (get_or-set_same spans p.segment w d inside

@@ -1,5 +1,6 @@
 -- The columns that nets are given.
-use Rattle.std.specs.Prelude.{◌≡◌, ℕ, ◌+◌, List, Bool, false, ◌&&◌, ◌||◌, not, map, max, length, slice_get, slice_index_or}
+use Rattle.std.specs.Prelude.{◌≡◌, ℕ, ◌+◌, List, Bool, false, ◌&&◌, ◌||◌, not, map, max, length, slice_get}
+use Rattle.std.specs.Prelude.{slice_index_or}
 use Rattle.std.specs.List.{range_with_len}
 use Rattle.nor_net.specs.declared.net.Part.{Part}
 use Rattle.array_form.specs.declared.band.Tap.{Tap}

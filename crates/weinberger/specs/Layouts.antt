@@ -49,4 +49,5 @@ pub record AreListed (band : Band) (parts : List Part) (tracks : Tracks) (listed
 -- a fabric with what is laid out in it
 abbrev pub placed_by : Plan → Band → List Part → Tracks → Plan
 placed_by f band parts tracks =
-    with_net f band.index (columns_in band parts) parts (cols_in (columns_in band parts) parts) (slice_index tracks.row)
+    with_net f band.index (columns_in band parts) parts (cols_in (columns_in band parts) parts)
+    (slice_index tracks.row)

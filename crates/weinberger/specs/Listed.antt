@@ -1,5 +1,6 @@
 -- What is added for a net, from the columns of nets and the rows of segments in lists.
-use Rattle.std.specs.Prelude.{ℕ, ◌≡◌, ◌+◌, ◌<◌, ◌^◌, suc, List, [], ◌∷◌, Option, Bool, false, All, map, flat_map, length, slice_get, slice_index, slice_index_or}
+use Rattle.std.specs.Prelude.{ℕ, ◌≡◌, ◌+◌, ◌<◌, ◌^◌, suc, List, [], ◌∷◌, Option, Bool, false, All, map, flat_map}
+use Rattle.std.specs.Prelude.{length, slice_get, slice_index, slice_index_or}
 use Rattle.std.specs.List.{range_with_len}
 use Rattle.tile_cells.specs.declared.tile.Tile.TheVariants.{Tran}
 use Rattle.fabric.specs.declared.thing.Side.TheVariants.{L, R}
@@ -31,7 +32,8 @@ abbrev pub line_pair : ℕ → ℕ → List Line
 line_pair b c = upright c L b b ∷ upright c R b b ∷ []
 
 abbrev pub lines_at : ℕ → List ℕ → List Bool → List Part → ℕ → List Line
-lines_at b columns stubs parts n = column_lines b (slice_index columns n) (slice_index_or stubs n false) (slice_get parts n)
+lines_at b columns stubs parts n =
+    column_lines b (slice_index columns n) (slice_index_or stubs n false) (slice_get parts n)
 
 abbrev pub lines_of : ℕ → List ℕ → List Bool → List Part → List Line
 lines_of b columns stubs parts = flat_map (lines_at b columns stubs parts) (range_with_len 0 (length parts))
@@ -59,4 +61,5 @@ marks_in tracks b columns stubs parts n =
     marks_at tracks (length parts) (column_of b columns n) (slice_index_or stubs n false) n (slice_get parts n)
 
 abbrev pub marks_of : Tracks → ℕ → List ℕ → List Bool → List Part → List Mark
-marks_of tracks b columns stubs parts = flat_map (marks_in tracks b columns stubs parts) (range_with_len 0 (length parts))
+marks_of tracks b columns stubs parts =
+    flat_map (marks_in tracks b columns stubs parts) (range_with_len 0 (length parts))

@@ -1,6 +1,7 @@
 //! The columns of nets.
 
-ghost use Rattle.std.specs.Prelude.{◌≡◌, ◌==◌, ◌<◌, ◌+◌, ◌^◌, ℕ, All, IfOk, false, length, max, map, slice_index_or, if◌then◌else◌};
+ghost use Rattle.std.specs.Prelude.{◌≡◌, ◌==◌, ◌<◌, ◌+◌, ◌^◌, ℕ, All, IfOk, false, length, max, map};
+ghost use Rattle.std.specs.Prelude.{slice_index_or, if◌then◌else◌};
 ghost use Rattle.std.specs.List.{list_any};
 ghost use Rattle.array_form.specs.Homes.{greatest};
 ghost use Rattle.fabric.specs.Room.{limit};

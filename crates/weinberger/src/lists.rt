@@ -63,7 +63,8 @@ fn push_pair(lines: &mut Vec<Line>, band: u32, column: u32) -> Result<(), AllocE
 }
 
 fn push_stub(lines: &mut Vec<Line>, band: u32, column: u32, stub: bool) -> Result<(), AllocError>
-    ensures { OnOk result (lines.new.items ≡ lines.old.items ++ laying.column_lines band column stub (Some part.Input)) }
+    ensures { OnOk result (lines.new.items
+        ≡ lines.old.items ++ laying.column_lines band column stub (Some part.Input)) }
 {
     if stub {
         lines.push(line(band, column, Side::L))?;

@@ -1,6 +1,7 @@
 //! The marks of a band.
 
-ghost use Rattle.std.specs.Prelude.{◌≡◌, ◌<◌, ◌≤◌, ◌+◌, ◌^◌, ◌++◌, All, IfOk, IfSome, OnOk, Some, false, length, slice_get, slice_index, suc};
+ghost use Rattle.std.specs.Prelude.{◌≡◌, ◌<◌, ◌≤◌, ◌+◌, ◌^◌, ◌++◌, All, IfOk, IfSome, OnOk, Some, false, length};
+ghost use Rattle.std.specs.Prelude.{slice_get, slice_index, suc};
 ghost use Rattle.array_form.specs.Laying as laying;
 ghost use Rattle.array_form.specs.Lists as form;
 ghost use Rattle.nor_net.specs.declared.net.Part.TheVariants as part;
@@ -29,7 +30,7 @@ fn mark(tile: Tile, tracks: &Tracks, segment: u32, column: Column) -> Mark
     }
 }
 
-// A transistor in the row of each input, once for each. Which net saw this gate last is kept by the gate's stamp.
+// A transistor in the row of each input, once for each. A net that was seen has the gate's stamp.
 fn push_transistors(
     marks: &mut Vec<Mark>,
     seen: &mut [u32],
@@ -42,7 +43,8 @@ fn push_transistors(
     requires seen { length seen.old ≤ length tracks.now.row }
     requires inputs { All (λ i. i.0 < length seen.old) inputs.now }
     requires fresh { All (λ s. s < stamp) seen.old }
-    ensures marks { OnOk result (marks.new.items ≡ marks.old.items ++ transistors_of tracks.now.row column inputs.now) }
+    ensures marks { OnOk result (marks.new.items
+        ≡ marks.old.items ++ transistors_of tracks.now.row column inputs.now) }
     ensures stamped { OnOk result (All (λ s. s ≤ stamp) seen.new) }
 {
     for input in inputs {
@@ -55,7 +57,7 @@ fn push_transistors(
     Ok(())
 }
 
-// A gate stores on the left, with a pull-up; its right line is ground, and a transistor for each input is between them.
+// A gate has its value on the left, with a pull-up; its right line is ground, and transistors are between them.
 fn push_gate(
     marks: &mut Vec<Mark>,
     seen: &mut [u32],

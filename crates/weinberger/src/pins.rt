@@ -1,8 +1,10 @@
 //! Where segments are marked: in the columns of nets, in those of taps and in those of the phases.
 
-ghost use Rattle.std.specs.Prelude.{◌≡◌, ◌<◌, ◌+◌, ◌^◌, [], ◌∷◌, ◌++◌, if◌then◌else◌, All, IfOk, OnOk, length, slice_get};
+ghost use Rattle.std.specs.Prelude.{◌≡◌, ◌<◌, ◌+◌, ◌^◌, [], ◌∷◌, ◌++◌, if◌then◌else◌, All, IfOk, OnOk, length};
+ghost use Rattle.std.specs.Prelude.{slice_get};
 ghost use Rattle.array_form.specs.Place.{IsBandOf};
-ghost use Rattle.weinberger.specs.Pins.{pin, net_pins, gate_pins, latch_pins, part_pins, tap_pins, phase_pins, band_pins, stub_pins};
+ghost use Rattle.weinberger.specs.Pins.{pin, net_pins, gate_pins, latch_pins, part_pins, tap_pins, phase_pins};
+ghost use Rattle.weinberger.specs.Pins.{band_pins, stub_pins};
 
 use crate::parts::{gate_inputs, kind_at, phase_index};
 use array_form::{Band, Tap};

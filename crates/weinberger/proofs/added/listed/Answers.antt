@@ -41,14 +41,18 @@ returns c =
     let are = c.requires.layout in
     record {
       segments = c.in_ok-segments.ensures
-          ∙ (ap (λ l. segments_of band.index l c.as_slice-rows.result.now) (c.as_slice-spans.ensures.value ∙ are.spans)
-          ∙ (ap (segments_of band.index _) c.as_slice-rows.ensures ∙ segments_same band parts band.index layout.tracks.row));
+          ∙ (ap (λ l. segments_of band.index l c.as_slice-rows.result.now)
+          (c.as_slice-spans.ensures.value ∙ are.spans)
+          ∙ (ap (segments_of band.index _) c.as_slice-rows.ensures
+          ∙ segments_same band parts band.index layout.tracks.row));
       lines = c.in_ok-lines.ensures
           ∙ (ap (λ l. lines_of band.index l c.as_slice-stubs.result.now parts) c.as_slice-columns.ensures.value
           ∙ (ap (λ l. lines_of band.index h.columns.items l parts) c.as_slice-stubs.ensures.value
           ∙ lines_same band parts h.columns.items h.stubs.items are.homes.columns are.homes.stubs band.index));
       marks = c.in_ok-marks.ensures
-          ∙ (ap (λ l. marks_of layout.tracks band.index l c.as_slice-stubs.result.now parts) c.as_slice-columns.ensures.value
+          ∙ (ap (λ l. marks_of layout.tracks band.index l c.as_slice-stubs.result.now parts)
+          c.as_slice-columns.ensures.value
           ∙ (ap (λ l. marks_of layout.tracks band.index h.columns.items l parts) c.as_slice-stubs.ensures.value
-          ∙ marks_same band parts h.columns.items h.stubs.items are.homes.columns are.homes.stubs band.index layout.tracks));
+          ∙ marks_same band parts h.columns.items h.stubs.items are.homes.columns are.homes.stubs band.index
+          layout.tracks));
     }

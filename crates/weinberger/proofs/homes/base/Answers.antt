@@ -12,7 +12,9 @@ loop-tap-preserved c =
     let i : ℕ = c.loop-tap.tap-index in
     let none : Tap = record { net = record { 0 = 0 }; column = 0 } in
     let after : Tap → ℕ = λ t. t.column + 1 in
-    let e : greatest (map after (take (i + 1) taps)) ≡ max (greatest (map after (take i taps))) ((get_or taps i none).column + 1) =
-    ap greatest (map_more after taps i none c.loop-tap-test.true) ∙ greatest_push (map after (take i taps)) (after (get_or taps i none)) in
+    let e : greatest (map after (take (i + 1) taps)) ≡ max (greatest (map after (take i taps)))
+    ((get_or taps i none).column + 1) =
+    ap greatest (map_more after taps i none c.loop-tap-test.true)
+    ∙ greatest_push (map after (take i taps)) (after (get_or taps i none)) in
     let s = c.requires.taps i none c.loop-tap-test.true in
     record { value = omega arith; small = omega arith }

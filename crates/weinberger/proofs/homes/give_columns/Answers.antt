@@ -24,5 +24,6 @@ loop-n-preserved c =
           (c.in_ok-push.ensures.items ∙ ap (λ z. c.loop-n.columns.items ++ z ∷ []) c.loop-n.invariant.end);
       stubs = map_grown [] (is_stub_by c.args.pinned.now c.args.net.now) n _ _ c.loop-n.invariant.stubs
           (c.in_ok-push-2.ensures.items ∙ ap (λ z. c.loop-n.stubs.items ++ z ∷ []) c.is_stub.ensures);
-      end = (let m = count_more homed n in let e = c.own_columns-end.ensures in let i = c.loop-n.invariant.end in omega arith);
+      end = (let m = count_more homed n in let e = c.own_columns-end.ensures in let i = c.loop-n.invariant.end in
+          omega arith);
     }

@@ -22,7 +22,8 @@ returns c =
     let band : Band = c.args.band.now in
     let parts : List Part = c.args.net.now in
     let flags : List Bool = c.deref.result.now in
-    let has : (k : ℕ) → k < length parts + 3 → get_or flags k false ≡ list_any (λ (p : Pin). p.segment == k) (band_pins band parts) =
+    let has : (k : ℕ) → k < length parts + 3
+    → get_or flags k false ≡ list_any (λ (p : Pin). p.segment == k) (band_pins band parts) =
     λ k lt. ap (λ l. get_or l k false) c.deref.ensures.value
     ∙ (c.in_ok-pinned.ensures.flags k (omega (arith, c.len.ensures.len))
     ∙ ap (list_any (λ (p : Pin). p.segment == k)) c.requires.pins) in

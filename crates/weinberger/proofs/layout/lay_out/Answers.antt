@@ -17,7 +17,8 @@ returns c =
     let h = c.in_ok-homes.ensures in
     record {
       homes = record { columns = h.columns; stubs = h.stubs; end = h.end };
-      narrow = (let s = end_small c.args.band.now c.args.net.now c.requires c.len-nets.ensures.shape in omega (arith, s, h.end));
+      narrow = (let s = end_small c.args.band.now c.args.net.now c.requires c.len-nets.ensures.shape in
+          omega (arith, s, h.end));
       spans = c.in_ok-spans.ensures;
       tracks = c.in_ok-tracks.ensures;
     }

@@ -31,7 +31,8 @@ returns c =
     let homes = c.args.homes.now in
     let e = c.in_ok-spans.ensures in
     let n = c.len.ensures.len in
-    fill_by_all (λ k. interval_of (cols_in (columns_in band parts) parts k)) c.in_ok-spans.spans.items (length parts + 3) NOWHERE
+    fill_by_all (λ k. interval_of (cols_in (columns_in band parts) parts k)) c.in_ok-spans.spans.items
+    (length parts + 3) NOWHERE
     (e.long ∙ ap (λ z. z + 3) n)
     (λ k lt. e.spans k (omega (arith, n))
     ∙ (ap (λ l. span_of (columns_at l c.args.pins.now k)) c.deref.ensures.value

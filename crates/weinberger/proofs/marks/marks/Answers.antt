@@ -15,7 +15,8 @@ loop-n-preserved c =
     let long : length new ≡ c.loop-n.seen.len = a ∙ b in
     let e = take_at new (drop (length new) c.loop-n.seen.items) c.loop-n.seen.len long in
     record {
-      marks = flat_grown [] (marks_in c.args.tracks.now c.args.band c.args.columns.now c.args.stubs.now c.args.net.now)
+      marks = flat_grown []
+          (marks_in c.args.tracks.now c.args.band c.args.columns.now c.args.stubs.now c.args.net.now)
           c.loop-n.n _ _ v.marks c.in_ok-push_marks.ensures.marks;
       long = ap length e ∙ (long ∙ (o ∙ v.long));
       fresh = subst (All (λ s. s < c.loop-n.n + 1 + 1)) (sym e)

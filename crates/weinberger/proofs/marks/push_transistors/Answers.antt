@@ -1,4 +1,5 @@
-use Rattle.std.proofs.Common.{[], ◌∷◌, ◌++◌, ◌≡◌, ◌<◌, ◌+◌, ◌∙◌, ap, sym, subst, ℕ, List, length, map, take, get_or, set, suc, slice_index, arith}
+use Rattle.std.proofs.Common.{[], ◌∷◌, ◌++◌, ◌≡◌, ◌<◌, ◌+◌, ◌∙◌, ap, sym, subst, ℕ, List, length, map, take, get_or}
+use Rattle.std.proofs.Common.{set, suc, slice_index, arith}
 use Rattle.std.proofs.lemmas.List.{map_more, length-set}
 use Rattle.tile_cells.specs.declared.tile.Tile.TheVariants.{Tran}
 use Rattle.fabric.specs.declared.thing.Mark.{Mark}
@@ -17,10 +18,13 @@ loop-input-preserved c =
     let number : NetId → ℕ = λ j. j.0 in
     let x : ℕ = (get_or inputs i none).0 in
     let numbers : List ℕ = map number (take i inputs) in
-    let f : ℕ → Mark = λ k. mark Tran c.args.column.band (suc (slice_index c.args.tracks.now.row k)) c.args.column.number in
-    let e : map number (take (i + 1) inputs) ≡ numbers ++ x ∷ [] = map_more number inputs i none c.loop-input-test.true in
+    let f : ℕ → Mark =
+    λ k. mark Tran c.args.column.band (suc (slice_index c.args.tracks.now.row k)) c.args.column.number in
+    let e : map number (take (i + 1) inputs) ≡ numbers ++ x ∷ [] =
+    map_more number inputs i none c.loop-input-test.true in
     let v = c.loop-input.invariant in
-    let lt : x < length c.loop-input.seen = (let h = c.requires.inputs i none c.loop-input-test.true in omega (arith, h, v.long)) in
+    let lt : x < length c.loop-input.seen =
+    (let h = c.requires.inputs i none c.loop-input-test.true in omega (arith, h, v.long)) in
     let old : List Mark = c.args.marks.now.items in
     let seen : List ℕ = c.loop-input.seen in
     let stamp : ℕ = c.args.stamp in
@@ -36,7 +40,8 @@ loop-input-preserved c =
       }
       | else-seen-segment w ↦ record {
         marks = ap (λ z. z.items) w.marks-is
-            ∙ (made_again f old c.loop-input.marks.items numbers x v.marks (v.seen.stamped x lt w.if-seen-segment.false)
+            ∙ (made_again f old c.loop-input.marks.items numbers x v.marks
+            (v.seen.stamped x lt w.if-seen-segment.false)
             ∙ ap (λ l. old ++ map f (distinct l)) (sym e));
         long = ap length w.seen-is ∙ v.long;
         seen = subst (λ s. AreSeen stamp s (map number (take (i + 1) inputs))) (sym w.seen-is)

@@ -7,5 +7,6 @@ use Rattle.weinberger.proofs.pins.push_parts.Goals as goal
 pub loop-n-preserved : goal.loop-n-preserved
 loop-n-preserved c =
     let net = c.args.net.now in
-    flat_grown c.args.pins.now.items (λ n. part_pins (length net) n (slice_get net n)) c.loop-n.n _ _ c.loop-n.invariant
+    flat_grown c.args.pins.now.items
+    (λ n. part_pins (length net) n (slice_get net n)) c.loop-n.n _ _ c.loop-n.invariant
     c.in_ok-push_part.ensures

@@ -20,9 +20,12 @@ add-requires-clause-met c =
     let b = c.deref-2.ensures.value ∙ l.lines in
     let m = c.deref-3.ensures.value ∙ l.marks in
     let e : with_added f c.deref.result.now c.deref-2.result.now c.deref-3.result.now
-    ≡ with_net f band.index (columns_in band parts) parts (cols_in (columns_in band parts) parts) (slice_index tracks.row) =
+    ≡ with_net f band.index (columns_in band parts) parts (cols_in (columns_in band parts) parts)
+    (slice_index tracks.row) =
     (λ i. with_added f (a i) (b i) (m i)) ∙ same_fabric f band parts c.requires.fitted tracks c.requires.tracks in
-    subst IsFabric (sym e) (is_fabric f band parts c.requires.fitted tracks c.requires.tracks c.requires.kept.met c.requires.shape c.requires.fed)
+    subst IsFabric (sym e)
+    (is_fabric f band parts c.requires.fitted tracks c.requires.tracks c.requires.kept.met c.requires.shape
+    c.requires.fed)
 
 pub add-requires-clause-room : goal.add-requires-clause-room
 add-requires-clause-room c =
@@ -35,9 +38,11 @@ add-requires-clause-room c =
     let b = c.deref-2.ensures.value ∙ l.lines in
     let m = c.deref-3.ensures.value ∙ l.marks in
     let e : with_added f c.deref.result.now c.deref-2.result.now c.deref-3.result.now
-    ≡ with_net f band.index (columns_in band parts) parts (cols_in (columns_in band parts) parts) (slice_index tracks.row) =
+    ≡ with_net f band.index (columns_in band parts) parts (cols_in (columns_in band parts) parts)
+    (slice_index tracks.row) =
     (λ i. with_added f (a i) (b i) (m i)) ∙ same_fabric f band parts c.requires.fitted tracks c.requires.tracks in
-    subst IsRoomy (sym e) (is_roomy f band parts c.requires.fitted tracks c.requires.tracks c.requires.kept.roomy c.requires.space)
+    subst IsRoomy (sym e)
+    (is_roomy f band parts c.requires.fitted tracks c.requires.tracks c.requires.kept.roomy c.requires.space)
 
 pub returns : goal.returns
 returns c =
@@ -49,4 +54,5 @@ returns c =
     let a = c.deref.ensures.value ∙ l.segments in
     let b = c.deref-2.ensures.value ∙ l.lines in
     let m = c.deref-3.ensures.value ∙ l.marks in
-    c.in_ok-add.ensures ∙ ((λ i. with_added f (a i) (b i) (m i)) ∙ same_fabric f band parts c.requires.fitted tracks c.requires.tracks)
+    c.in_ok-add.ensures
+    ∙ ((λ i. with_added f (a i) (b i) (m i)) ∙ same_fabric f band parts c.requires.fitted tracks c.requires.tracks)

@@ -9,7 +9,8 @@ use Rattle.weinberger.proofs.Rowed.{band_of}
 use Rattle.weinberger.proofs.placing.place.Goals as goal
 
 pub lay_out-requires : goal.lay_out-requires
-lay_out-requires c = band_of c.args.fabric.now c.args.band.now c.args.net.now c.requires.fitted c.conditions.ensures.room
+lay_out-requires c =
+    band_of c.args.fabric.now c.args.band.now c.args.net.now c.requires.fitted c.conditions.ensures.room
 
 pub returns : goal.returns
 returns c =

@@ -17,7 +17,8 @@ loop-pin-preserved c =
     let v = c.loop-pin.invariant in
     let k : ℕ = (get_or pins i none).segment in
     let columns : List ℕ = c.args.columns.now in
-    let inside : k < length spans = (let h = c.requires.segments i none c.loop-pin-test.true in omega (arith, h, v.long)) in
+    let inside : k < length spans =
+    (let h = c.requires.segments i none c.loop-pin-test.true in omega (arith, h, v.long)) in
     let is : c.widened.result ≡ widened_by (get_or spans k NOWHERE) (column_at columns (get_or pins i none).at) =
     c.widened.ensures
     ∙ (ap (λ s. widened_by s c.column_of.result) (c.index.ensures ∙ get_or_default spans k _ NOWHERE inside)

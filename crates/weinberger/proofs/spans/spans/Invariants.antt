@@ -6,5 +6,6 @@ use Rattle.weinberger.proofs.spans.spans.Given as goal
 abbrev pub invariant-loop-pin : goal.invariant-loop-pin
 invariant-loop-pin l = record {
   long : length l.spans.items ≡ l.segments;
-  spans : (k : ℕ) → k < l.segments → get_or l.spans.items k NOWHERE ≡ span_of (columns_at l.columns (take l.pin-index l.pins) k);
+  spans : (k : ℕ) → k < l.segments
+      → get_or l.spans.items k NOWHERE ≡ span_of (columns_at l.columns (take l.pin-index l.pins) k);
 }
