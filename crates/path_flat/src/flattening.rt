@@ -45,7 +45,16 @@ fn number_all(
     for place in places {
         let own = net_of(path, place.band);
         let source = sources.source(*place);
-        let id = add(alloc, own, path.width, place.band, NetId(place.net), source, &numbers, net)?;
+        let id = add(
+            alloc,
+            own,
+            path.width,
+            place.band,
+            NetId(place.net),
+            source,
+            &numbers,
+            net,
+        )?;
         numbers.set(*place, id);
     }
     Ok(numbers)
@@ -63,8 +72,9 @@ fn feed_all(path: &DataPath, places: &[Place], numbers: &Numbers, net: &mut Net)
     }
 }
 
-/// One net for the control and all slices of a data path, numbered in the order of the path, with the nets of the bits
-/// of each pad. A net that is joined to another has its number; one that is set to 0 is a gate on a gate without inputs.
+/// One net for the control and all slices of a data path, numbered in the order of the path, with the nets of the
+/// bits of each pad. A net that is joined to another has its number, and one that is set to 0 is a gate on a gate
+/// without inputs.
 ///
 /// # Errors
 ///
@@ -78,7 +88,21 @@ pub fn flatten(alloc: Global, path: &DataPath) -> Result<Flattened, NoMemory>
     let mut net = Net::new(alloc);
     let numbers = number_all(alloc, path, places.as_slice(), &mut net)?;
     feed_all(path, places.as_slice(), &numbers, &mut net);
-    let inputs = rows_of(alloc, &numbers, path.pads.inputs.as_slice(), path.inputs.as_slice())?;
-    let outputs = rows_of(alloc, &numbers, path.pads.outputs.as_slice(), path.outputs.as_slice())?;
-    Ok(Flattened { net, inputs, outputs })
+    let inputs = rows_of(
+        alloc,
+        &numbers,
+        path.pads.inputs.as_slice(),
+        path.inputs.as_slice(),
+    )?;
+    let outputs = rows_of(
+        alloc,
+        &numbers,
+        path.pads.outputs.as_slice(),
+        path.outputs.as_slice(),
+    )?;
+    Ok(Flattened {
+        net,
+        inputs,
+        outputs,
+    })
 }

@@ -33,8 +33,10 @@ returns-clause-flat c =
       of = of p w.shapes net number w.numbered;
       numbering = numbering p w.shapes net number w.numbered;
       fed = all_fed p w.shapes net number w.numbered;
-      sizes = (c.in_ok-inputs.ensures.size ∙ ap length c.as_slice-4.ensures,
-          c.in_ok-outputs.ensures.size ∙ ap length c.as_slice-6.ensures);
+      sizes = (
+        c.in_ok-inputs.ensures.size ∙ ap length c.as_slice-4.ensures,
+        c.in_ok-outputs.ensures.size ∙ ap length c.as_slice-6.ensures,
+      );
       inputs = rows_numbered p (p.pads).inputs p.inputs p.whole.pads_fit.0 p.whole.entries_fit.0 number
           (of p w.shapes net number w.numbered) agrees c.in_ok-inputs.inputs ins;
       outputs = rows_numbered p (p.pads).outputs p.outputs p.whole.pads_fit.1 p.whole.entries_fit.1 number
