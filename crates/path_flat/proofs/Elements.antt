@@ -1,6 +1,6 @@
 -- How a net of a path gets its value, by its source.
-use Rattle.std.proofs.Common.{◌≡◌, ℕ, ◌<◌, ◌≤◌, ◌+◌, ◌-◌, zero, suc, ◌⊎◌, inl, inr, List, [], ◌∷◌, Option, Some, None, Bool, true, false, cond, eqb, map, refl, sym, ◌∙◌, ap, subst, arith, rules}
-use Rattle.std.specs.Prelude.{IsSome, slice_get, ◌==◌, nat_lt}
+use Rattle.std.proofs.Common.{◌≡◌, ℕ, ◌<◌, ◌≤◌, ◌+◌, ◌-◌, zero, suc, ◌⊎◌, inl, inr, List, [], ◌∷◌, Option, Some, None, Bool, true, false, cond, eqb, map, refl, sym, ◌∙◌, ap, arith, rules}
+use Rattle.std.specs.Prelude.{IsSome, slice_get}
 use Rattle.std.specs.Int.{bit_at}
 use Rattle.std.specs.Option.{option_or}
 use Rattle.std.proofs.lemmas.Bool.{cases_lt, false≢true, lt-ltb, le-ltb}
@@ -15,7 +15,7 @@ use Rattle.organelles.specs.declared.slices.Chain.{Chain}
 use Rattle.organelles.specs.declared.slices.Chain.TheVariants.{Up, Down}
 use Rattle.organelles.specs.declared.slices.Programmed.{Programmed}
 use Rattle.organelles.specs.declared.slices.SliceNet.{SliceNet}
-use Rattle.organelles.specs.Slices.{first_some, chain_element, program_element, slice_input}
+use Rattle.organelles.specs.Slices.{first_some, chain_element, program_element}
 use Rattle.path_form.specs.declared.path.Cast.{Cast}
 use Rattle.path_form.specs.declared.path.Lift.{Lift}
 use Rattle.path_form.specs.declared.path.DataPath.{DataPath}
@@ -87,7 +87,8 @@ module _ (w k n : ℕ) where
           ∙ ap (λ b. Joined (spot b from)) e
           ∙ ap (λ b. cond b Low (Joined (spot (suc (suc k) - 1) from))) (sym (not_one k))
 
-  chain_is : (c : Chain) → chain_element w k n c ≡ given_by w (suc k) (cond (eqb (chain_to c).0 n) (chain_source c) Pad)
+  chain_is : (c : Chain) → chain_element w k n c ≡ given_by w (suc k)
+      (cond (eqb (chain_to c).0 n) (chain_source c) Pad)
   chain_is (Up from to) = by_test (eqb to.0 n)
     where
       by_test : (b : Bool) → cond b (Some (cond (eqb k 0) Low (Joined (spot k from)))) None
@@ -139,7 +140,8 @@ module _ (w k n : ℕ) where
       ∙ ap (λ o. option_or (option_or (given_by w (suc k) chains) (given_by w (suc k) programs))
       (option_or o (Some Given)))
       (first_told w (suc k) n (λ (c : Cast). c.slice) cast_source (cast_element n) cast_is casts)
-      ∙ ap (λ o. option_or o (option_or (given_by w (suc k) others) (Some Given))) (sym (by_or w (suc k) chains programs))
+      ∙ ap (λ o. option_or o (option_or (given_by w (suc k) others) (Some Given)))
+      (sym (by_or w (suc k) chains programs))
       ∙ regroup (given_by w (suc k) (or_source chains programs)) (given_by w (suc k) others) (Some Given)
       ∙ ap (λ o. option_or o (Some Given)) (sym (by_or w (suc k) (or_source chains programs) others))
       ∙ or_given w (suc k) (or_source (or_source chains programs) others)
@@ -162,7 +164,8 @@ lift_is w n l = by_test (eqb l.control.0 n)
 pub control_input_is : (w n : ℕ) (lifts : List Lift)
     → control_part lifts n (Some Input) ≡ Some (source_element w 0 (control_source lifts n))
 control_input_is w n lifts =
-    ap (λ o. option_or o (Some Given)) (first_told w 0 n (λ (l : Lift). l.control) lift_source (lift_element n) (lift_is w n) lifts)
+    ap (λ o. option_or o (Some Given)) (first_told w 0 n (λ (l : Lift). l.control) lift_source (lift_element n)
+    (lift_is w n) lifts)
     ∙ or_given w 0 (control_source lifts n)
 
 -- the part of a net, with what it gives
@@ -195,7 +198,13 @@ module _ (p : DataPath) where
           record { part = Gate inputs; at = at; element = sym (same_Some _ _ is); band = omega arith; fed = tt }
       by_part (Some (Latch phase None)) at is = absurd (none-some e is)
       by_part (Some (Latch phase (Some m))) at is =
-          record { part = Latch phase (Some m); at = at; element = sym (same_Some _ _ is); band = omega arith; fed = is_some m }
+          record {
+            part = Latch phase (Some m);
+            at = at;
+            element = sym (same_Some _ _ is);
+            band = omega arith;
+            fed = is_some m;
+          }
 
   in_slice : (k n : ℕ) (e : Element) → k < p.width
       → slice_part p.width p.slices p.casts k n (slice_get p.slices.net n) ≡ Some e
@@ -232,13 +241,15 @@ module _ (p : DataPath) where
         where
           by_slice : (k < p.width) ⊎ (p.width ≤ k) → HasPart p (record { band = suc k; net = n.net }) e
           by_slice (inl l) =
-              in_slice k n.net e l (sym (ap (λ b. cond b (slice_part p.width p.slices p.casts k n.net (slice_get p.slices.net n.net)) None)
+              in_slice k n.net e l (sym (ap (λ b. cond b (slice_part p.width p.slices p.casts k n.net
+              (slice_get p.slices.net n.net)) None)
               (lt-ltb k p.width l)) ∙ is)
           by_slice (inr g) = absurd (none-some e (sym (ap (λ b. cond b (slice_part p.width p.slices p.casts k n.net
               (slice_get p.slices.net n.net)) None) (le-ltb k p.width g)) ∙ is))
 
   -- a gate of a band is one of the path
-  pub gate_is : (band n : ℕ) (inputs : List NetId) → band ≤ p.width → slice_get (parts_of p band) n ≡ Some (Gate inputs)
+  pub gate_is : (band n : ℕ) (inputs : List NetId) → band ≤ p.width
+      → slice_get (parts_of p band) n ≡ Some (Gate inputs)
       → path_nets p (record { band = band; net = n }) ≡ Some (Nor (map (spot band) inputs))
   gate_is zero n inputs l at = ap (control_part p.lifts n) at
   gate_is (suc k) n inputs l at =
@@ -250,8 +261,11 @@ module _ (p : DataPath) where
   -- each part of a band stands for a net of the path
   pub net_at : (band n : ℕ) (part : Part) → band ≤ p.width → slice_get (parts_of p band) n ≡ Some part → Fed part
       → (e : Element) × (path_nets p (record { band = band; net = n }) ≡ Some e)
-  net_at zero n Input l at fed =
-      (source_element p.width 0 (control_source p.lifts n), ap (control_part p.lifts n) at ∙ control_input_is p.width n p.lifts)
+  net_at zero n Input l at fed = (
+    source_element p.width 0 (control_source p.lifts n),
+    ap (control_part p.lifts n) at
+        ∙ control_input_is p.width n p.lifts,
+  )
   net_at zero n (Gate inputs) l at fed = (Nor (map (spot 0) inputs), ap (control_part p.lifts n) at)
   net_at zero n (Latch phase None) l at fed = absurd (false≢true fed)
   net_at zero n (Latch phase (Some m)) l at fed = (Latched phase (spot 0 m), ap (control_part p.lifts n) at)

@@ -1,5 +1,5 @@
 -- The ends of what is joined are nets of their band.
-use Rattle.std.proofs.Common.{◌≡◌, ℕ, ◌<◌, zero, suc, List, [], ◌∷◌, ◌++◌, Option, Some, None, true, false, length, map, get_or, refl, sym, ◌∙◌, ap, subst, arith}
+use Rattle.std.proofs.Common.{◌≡◌, ℕ, ◌<◌, zero, suc, List, [], ◌∷◌, ◌++◌, true, false, length, map, get_or, refl, arith}
 use Rattle.std.specs.Prelude.{All, Contains, slice_get}
 use Rattle.std.proofs.lemmas.List.Elements.{All-contains, Contains-append_left, Contains-append_right}
 use Rattle.std.proofs.lemmas.Option.{slice_get_within}
@@ -17,7 +17,8 @@ inside : (parts : List Part) (ids : List NetId) → All (λ (id : NetId). is_inp
     → (id : NetId) → Contains ids id → id.0 < length parts
 inside parts ids h id c =
     slice_get_within parts id.0 Input
-    (is_one_input (slice_get parts id.0) (All-contains (λ (id : NetId). is_input (slice_get parts id.0) ≡ true) ids id h c))
+    (is_one_input (slice_get parts id.0) (All-contains (λ (id : NetId). is_input (slice_get parts id.0) ≡ true) ids
+    id h c))
 
 -- each of a mapped list is one of those
 mapped : {A : Type 0} (f : A → NetId) (xs : List A) (k : ℕ) (d : A) → k < length xs
@@ -33,7 +34,8 @@ module _ (p : DataPath) where
       let signals = entries_of false (p.pads).inputs p.inputs in
       let x = (get_or p.lifts k d).control in
       inside p.control (control_ends signals p.lifts) p.whole.control_inputs.0 x
-      (Contains-append_right signals (map (λ (l : Lift). l.control) p.lifts) x (mapped (λ (l : Lift). l.control) p.lifts k d l))
+      (Contains-append_right signals (map (λ (l : Lift). l.control) p.lifts) x
+      (mapped (λ (l : Lift). l.control) p.lifts k d l))
 
   abbrev pads : List NetId
   pads = entries_of true (p.pads).inputs p.inputs

@@ -1,6 +1,6 @@
 -- One more latch of the flat net is fed.
-use Rattle.std.proofs.Common.{◌≡◌, ℕ, ◌<◌, ◌≤◌, ◌+◌, zero, suc, ◌⊎◌, inl, inr, List, [], ◌∷◌, Option, Some, None, Bool, true, false, cond, length, map, refl, sym, ◌∙◌, ap, subst, arith}
-use Rattle.std.specs.Prelude.{IfSome, slice_get, slice_set, nat_lt}
+use Rattle.std.proofs.Common.{◌≡◌, ℕ, ◌<◌, ◌≤◌, ◌+◌, zero, suc, ◌⊎◌, inl, inr, List, [], ◌∷◌, Some, None, Bool, cond, length, map, refl, sym, ◌∙◌, ap, subst, arith}
+use Rattle.std.specs.Prelude.{slice_get, slice_set, nat_lt}
 use Rattle.std.proofs.lemmas.Bool.{cases_lt, cases_eq, le-ltb, lt-ltb}
 use Rattle.std.proofs.lemmas.List.{length-set}
 use Rattle.std.proofs.lemmas.List.Sums.{sum_by-set}
@@ -10,12 +10,12 @@ use Rattle.nor_net.specs.declared.net.Part.{Part}
 use Rattle.nor_net.specs.declared.net.Part.TheVariants.{Input, Gate, Latch}
 use Rattle.nor_net.specs.declared.net.Phase.{Phase}
 use Rattle.nor_net.specs.Elements.{Spot, Element, Given, Nor, Latched, Joined, Low}
-use Rattle.nor_net.specs.Shape.{fan_in, gate_inputs}
+use Rattle.nor_net.specs.Shape.{fan_in}
 use Rattle.path_form.specs.declared.path.DataPath.{DataPath}
 use Rattle.path_form.specs.Flat.{is_own}
 use Rattle.path_form.specs.Shape.{rank}
 use Rattle.path_form.specs.Showing.{path_nets}
-use Rattle.path_flat.specs.Numbered.{IsFew, IsMeant, IsNumberedTo, StandsFor, total}
+use Rattle.path_flat.specs.Numbered.{IsFew, IsMeant, IsNumberedTo, StandsFor}
 use Rattle.path_flat.proofs.Ranks.{rank_once}
 use Rattle.path_flat.proofs.Stepping.{net_within}
 
@@ -55,7 +55,8 @@ module _ (p : DataPath) (t u : ℕ) (flat : List Part) (of : Spot → NetId) (so
       by_place : (rank p.order n < u) ⊎ (u ≤ rank p.order n)
           → nat_lt (rank p.order n) u ≡ nat_lt (rank p.order n) (u + 1)
       by_place (inl l) = lt-ltb (rank p.order n) u l ∙ sym (lt-ltb (rank p.order n) (u + 1) (omega (arith, l)))
-      by_place (inr g) = le-ltb (rank p.order n) u g ∙ sym (le-ltb (rank p.order n) (u + 1) (by_equal (cases_eq (rank p.order n) u)))
+      by_place (inr g) = le-ltb (rank p.order n) u g ∙ sym
+          (le-ltb (rank p.order n) (u + 1) (by_equal (cases_eq (rank p.order n) u)))
         where
           by_equal : (rank p.order n ≡ u) ⊎ (rank p.order n ≡ u → ⊥) → u + 1 ≤ rank p.order n
           by_equal (inl e) = absurd (ne e)
@@ -83,11 +84,13 @@ module _ (p : DataPath) (t u : ℕ) (flat : List Part) (of : Spot → NetId) (so
         each n (Nor inputs) q h = h
         each n (Latched phase m) q h =
             retested (nat_lt (rank p.order n) u) (nat_lt (rank p.order n) (u + 1)) n (Latched phase m)
-            (tests_same n (λ r. subst NoLatch (same_Some e (Latched phase m) (sym is ∙ ap (path_nets p) (sym (rank_here n r)) ∙ q)) none)) h
+            (tests_same n (λ r. subst NoLatch (same_Some e (Latched phase m)
+            (sym is ∙ ap (path_nets p) (sym (rank_here n r)) ∙ q)) none)) h
         each n (Joined m) q h = h
         each n Low q h = h
 
-  module _ (phase : Phase) (m : Spot) (is : path_nets p s ≡ Some (Latched phase m)) (within : rank p.order s < t) where
+  module _ (phase : Phase) (m : Spot) (is : path_nets p s ≡ Some (Latched phase m))
+      (within : rank p.order s < t) where
     abbrev a : ℕ
     a = (of s).0
 
@@ -127,7 +130,8 @@ module _ (p : DataPath) (t u : ℕ) (flat : List Part) (of : Spot → NetId) (so
         by_place (inl lt) c =
             let was = h ∙ ap (λ b. Some (Latch q (cond b (Some (of x)) None))) (lt-ltb (rank p.order n) u lt) in
             other (of n).0 (Latch q (Some (of x))) was (no_fed q (of x))
-            ∙ ap (λ b. Some (Latch q (cond b (Some (of x)) None))) (sym (lt-ltb (rank p.order n) (u + 1) (omega (arith, lt))))
+            ∙ ap (λ b. Some (Latch q (cond b (Some (of x)) None)))
+            (sym (lt-ltb (rank p.order n) (u + 1) (omega (arith, lt))))
         by_place (inr g) (inl e) =
             let same : n ≡ s = rank_once p.order n s (e ∙ sym here) (net_within p s (Latched phase m) is) in
             let elements : Latched phase m ≡ Latched q x =
@@ -136,8 +140,10 @@ module _ (p : DataPath) (t u : ℕ) (flat : List Part) (of : Spot → NetId) (so
             let sources : m ≡ x = cc in
             ap (λ (z : Spot). slice_get new (of z).0) same
             ∙ get_set_same flat a fed_part (slice_get_within flat a (Latch phase None) unfed)
-            ∙ ap (λ ph. Some (Latch ph (Some (of m)))) phases ∙ ap (λ (z : Spot). Some (Latch q (Some (of z)))) sources
-            ∙ ap (λ b. Some (Latch q (cond b (Some (of x)) None))) (sym (lt-ltb (rank p.order n) (u + 1) (omega (arith, e))))
+            ∙ ap (λ ph. Some (Latch ph (Some (of m)))) phases
+            ∙ ap (λ (z : Spot). Some (Latch q (Some (of z)))) sources
+            ∙ ap (λ b. Some (Latch q (cond b (Some (of x)) None)))
+            (sym (lt-ltb (rank p.order n) (u + 1) (omega (arith, e))))
         by_place (inr g) (inr ne) =
             let gt : rank p.order s < rank p.order n = grind (arith, ne, g, here) in
             let apart = so.ordered s n (ap is_own is) (ap is_own is_n) gt l in

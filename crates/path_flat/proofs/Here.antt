@@ -1,11 +1,11 @@
 -- The net at an index of the order, with what stands there.
-use Rattle.std.proofs.Common.{◌≡◌, ℕ, ◌<◌, ◌≤◌, ◌+◌, zero, suc, List, [], ◌++◌, Option, Some, None, Result, Ok, Err, cond, length, get_or, refl, sym, ◌∙◌, ap, subst, arith}
-use Rattle.std.specs.Prelude.{IfOk, IfSome, slice_get}
-use Rattle.std.proofs.lemmas.Option.{none-some, slice_get-get_or, slice_get_within}
+use Rattle.std.proofs.Common.{◌≡◌, ℕ, ◌<◌, ◌≤◌, zero, suc, List, Some, length, get_or, sym, ◌∙◌, ap, subst, arith}
+use Rattle.std.specs.Prelude.{IfSome, slice_get}
+use Rattle.std.proofs.lemmas.Option.{slice_get-get_or, slice_get_within}
 use Rattle.nor_net.specs.declared.net.NetId.{NetId}
 use Rattle.nor_net.specs.declared.net.Part.{Part}
 use Rattle.nor_net.specs.Elements.{Spot, Element}
-use Rattle.nor_net.specs.Shape.{Fed, net_limit}
+use Rattle.nor_net.specs.Shape.{Fed}
 use Rattle.path_form.specs.declared.path.DataPath.{DataPath}
 use Rattle.path_form.specs.Shape.{rank}
 use Rattle.path_form.specs.Showing.{path_nets}
@@ -28,7 +28,8 @@ pub record IsHere (p : DataPath) (i : ℕ) (place : Place) : Type 0 where
   pub within : i < total p.order
   pub part : HasPart p (spot_of place) e
 
-pub is_here : (p : DataPath) (places : List Place) (i : ℕ) (d : Place) → places ≡ places_of p.order → i < length places
+pub is_here : (p : DataPath) (places : List Place) (i : ℕ) (d : Place) → places ≡ places_of p.order
+    → i < length places
     → IsHere p i (get_or places i d)
 is_here p places i d all l =
     let place = get_or places i d in
@@ -82,7 +83,8 @@ module _ (p : DataPath) (i : ℕ) (place : Place) (h : IsHere p i place) (own : 
         → IsElementAdded h.e of flat new id
     own_added flat new of id added =
         subst (λ e. IsElementAdded e of flat new id) element
-        (subst (λ o. IfSome o (λ part. IsElementAdded (element_in p.width place.band source part) of flat new id)) own_at
+        (subst (λ o. IfSome o (λ part. IsElementAdded (element_in p.width place.band source part) of flat new id))
+        own_at
         added)
 
 -- a net of a path has room for its number

@@ -1,14 +1,13 @@
 -- The inputs of a path that are given their values are those of pads.
-use Rattle.std.proofs.Common.{◌≡◌, ℕ, ◌<◌, ◌≤◌, ◌+◌, zero, suc, ◌⊎◌, inl, inr, List, [], ◌∷◌, ◌++◌, Option, Some, None, Bool, true, false, cond, eqb, length, map, refl, sym, ◌∙◌, ap, subst, arith}
+use Rattle.std.proofs.Common.{◌≡◌, ℕ, ◌<◌, ◌≤◌, ◌+◌, zero, suc, List, [], ◌∷◌, ◌++◌, Some, None, Bool, true, false, cond, eqb, map, refl, sym, ◌∙◌, ap, subst, arith}
 use Rattle.std.specs.Prelude.{All, slice_get, ◌-◌}
 use Rattle.std.proofs.Math.Dec.{eqb-suc-zero}
 use Rattle.std.specs.Int.{bit_at}
 use Rattle.std.proofs.lemmas.Bool.{false≢true, lt-ltb}
-use Rattle.std.proofs.lemmas.Option.{none-some, same_Some}
 use Rattle.nor_net.specs.declared.net.NetId.{NetId}
 use Rattle.nor_net.specs.declared.net.Part.{Part}
 use Rattle.nor_net.specs.declared.net.Part.TheVariants.{Input, Gate, Latch}
-use Rattle.nor_net.specs.Elements.{Spot, Element, Given, Nor, Latched, Joined, Low, spot}
+use Rattle.nor_net.specs.Elements.{Spot, Given, Nor, Joined, Low, spot}
 use Rattle.nor_net.specs.Shape.{Fed, IsNet}
 use Rattle.organelles.specs.declared.slices.Chain.{Chain}
 use Rattle.organelles.specs.declared.slices.Chain.TheVariants.{Up, Down}
@@ -23,7 +22,7 @@ use Rattle.path_form.proofs.Joining.{times_append}
 use Rattle.path_flat.specs.declared.sources.Source.{Source}
 use Rattle.path_flat.specs.declared.sources.Source.TheVariants.{Pad, Below, Above, Bits, Control, Slice}
 use Rattle.path_flat.specs.Numbers.{parts_of}
-use Rattle.path_flat.specs.Sources.{cast_source, chain_source, control_source, element_in, lift_source, or_source, path_source, program_source, slice_source, source_element, told}
+use Rattle.path_flat.specs.Sources.{cast_source, chain_source, element_in, lift_source, or_source, path_source, program_source, source_element, told}
 use Rattle.path_flat.proofs.Elements.{HasPart, control_input_is, has_part, slice_input_is, slice_parts, slice_sources}
 
 pad_or : (x y : Source) → or_source x y ≡ Pad → (x ≡ Pad) × (y ≡ Pad)
@@ -85,7 +84,8 @@ source_pad w band (Slice s f) e = cc
 
 -- the nets of the input pads that are words, or of those that are signals
 abbrev pub pads_of : DataPath → ℕ → List NetId
-pads_of p band = cond (eqb band 0) (entries_of false (p.pads).inputs p.inputs) (entries_of true (p.pads).inputs p.inputs)
+pads_of p band = cond (eqb band 0) (entries_of false (p.pads).inputs p.inputs)
+    (entries_of true (p.pads).inputs p.inputs)
 
 module _ (p : DataPath) where
   abbrev words : List NetId
@@ -139,7 +139,8 @@ module _ (p : DataPath) where
       ∙ ap (λ s. Some (source_element p.width (suc k)
       (or_source (or_source s (told (λ (g : Programmed). g.net) program_source n p.slices.programs))
       (told (λ (x : Cast). x.slice) cast_source n p.casts)))) a
-      ∙ ap (λ s. Some (source_element p.width (suc k) (or_source s (told (λ (x : Cast). x.slice) cast_source n p.casts)))) b
+      ∙ ap (λ s. Some (source_element p.width (suc k) (or_source s
+      (told (λ (x : Cast). x.slice) cast_source n p.casts)))) b
       ∙ ap (λ s. Some (source_element p.width (suc k) s)) c
 
   -- what is given its value is the net of a pad
@@ -193,10 +194,12 @@ module _ (p : DataPath) where
       by_test true = p.whole.fed.0
       by_test false = p.whole.fed.1
 
-  pub parts_take : (band : ℕ) → All (λ part. takes_pad (parts_of p band) (pads_of p band) part ≡ true) (parts_of p band)
+  pub parts_take : (band : ℕ) → All (λ part. takes_pad (parts_of p band) (pads_of p band) part ≡ true)
+      (parts_of p band)
   parts_take band = by_test (eqb band 0)
     where
-      by_test : (b : Bool) → All (λ part. takes_pad (cond b p.control p.slices.net) (cond b signals words) part ≡ true)
+      by_test : (b : Bool) → All (λ part. takes_pad (cond b p.control p.slices.net) (cond b signals words) part
+          ≡ true)
           (cond b p.control p.slices.net)
       by_test true = p.whole.latches.0
       by_test false = p.whole.latches.1

@@ -1,5 +1,5 @@
 -- The nets of pads are nets of the path, and its inputs are bits of input pads.
-use Rattle.std.proofs.Common.{◌≡◌, ◌≢◌, ℕ, ◌<◌, ◌≤◌, ◌+◌, ◌*◌, zero, suc, ◌⊎◌, inl, inr, List, [], ◌∷◌, ◌++◌, Option, Some, None, Bool, true, false, cond, eqb, length, map, get_or, refl, sym, ◌∙◌, ap, subst, arith}
+use Rattle.std.proofs.Common.{◌≡◌, ◌≢◌, ℕ, ◌<◌, ◌≤◌, ◌+◌, ◌*◌, zero, suc, List, [], ◌∷◌, Option, Some, None, Bool, true, false, cond, eqb, length, map, get_or, refl, sym, ◌∙◌, ap, subst, arith}
 use Rattle.std.specs.Prelude.{All, Contains, not, slice_get}
 use Rattle.std.proofs.Math.Dec.{eqb-suc-zero}
 use Rattle.std.proofs.lemmas.Bool.{eqb-false, eqb-true, false≢true, true≢false}
@@ -14,8 +14,8 @@ use Rattle.nor_net.specs.Shape.{Fed, net_limit}
 use Rattle.path_form.specs.declared.path.DataPath.{DataPath}
 use Rattle.path_form.specs.declared.path.Piece.{Piece}
 use Rattle.path_form.specs.Flat.{ArePadsOf, rows_of}
-use Rattle.path_form.specs.Shape.{EntriesFit, PadsFit, entries_of, is_fed, is_in, rank, times}
-use Rattle.path_form.specs.Showing.{pad_bits, pad_spot, path_nets}
+use Rattle.path_form.specs.Shape.{EntriesFit, PadsFit, entries_of, is_fed, rank, times}
+use Rattle.path_form.specs.Showing.{pad_bits, pad_spot}
 use Rattle.path_flat.specs.Numbered.{IsNumberedTo, total}
 use Rattle.path_flat.specs.Numbers.{parts_of}
 use Rattle.path_flat.proofs.Elements.{has_part, net_at, slice_parts}
@@ -118,7 +118,8 @@ module _ (p : DataPath) where
 
   module _ (pads : List Pad) (ids : List NetId) (fit : PadsFit p.width pads)
       (entries : EntriesFit p.control p.slices pads ids) where
-    pub pad_within : (i : ℕ) (pad : Pad) (id : NetId) (k : ℕ) → slice_get pads i ≡ Some pad → slice_get ids i ≡ Some id
+    pub pad_within : (i : ℕ) (pad : Pad) (id : NetId) (k : ℕ) → slice_get pads i ≡ Some pad
+        → slice_get ids i ≡ Some id
         → k < pad_bits pad → rank p.order (pad_spot pad id k) < total p.order
     pad_within i pad id k is_pad is_id l = by_sort (eqb pad.width 0) refl l
       where
@@ -142,8 +143,11 @@ module _ (p : DataPath) where
     pub rows_numbered : (number of : Spot → NetId) → ((n : Spot) → rank p.order n < total p.order → of n ≡ number n)
         → (rows : List (List NetId)) → ArePadsOf pads ids number rows → ArePadsOf pads ids of rows
     rows_numbered number of same rows are i pad id row is_pad is_id is_row =
-        let h = are i pad id row is_pad is_id is_row in
-        (h.0, λ k l. h.1 k l ∙ ap (λ (x : NetId). Some x) (sym (same (pad_spot pad id k) (pad_within i pad id k is_pad is_id l))))
+        let h = are i pad id row is_pad is_id is_row in (
+          h.0,
+          λ k l. h.1 k l ∙ ap (λ (x : NetId). Some x) (sym
+              (same (pad_spot pad id k) (pad_within i pad id k is_pad is_id l))),
+        )
 
   -- ---- pieces end below the limit
 
@@ -158,7 +162,8 @@ module _ (p : DataPath) where
       by_test true = let f = p.whole.few_nets in omega (arith, f)
       by_test false =
           let f = slices_few p.width (length p.control)
-          (length p.slices.net + length p.slices.chains + length p.slices.programs) p.whole.width.0 p.whole.few_nets in
+          (length p.slices.net + length p.slices.chains + length p.slices.programs) p.whole.width.0 p.whole.few_nets
+          in
           omega (arith, f)
 
   pub pieces_short : All (λ (piece : Piece). piece.first ≤ piece.last → piece.last + 1 < 4294967296) p.order
@@ -198,18 +203,22 @@ module _ (p : DataPath) (flat : List Part) (number : Spot → NetId)
       let h = are i pad id row is_pad is_id at in (
         map (spot 0) row,
         contains_at (rows_of rows) i (map (spot 0) row) (at_mapped (λ (row : List NetId). map (spot 0) row) rows i row at),
+        contains_at (rows_of rows) i (map (spot 0) row) (at_mapped
+            (λ (row : List NetId). map (spot 0) row) rows i row at),
         contains_at (map (spot 0) row) j (spot 0 (number (pad_spot pad id j)))
             (at_mapped (spot 0) row j (number (pad_spot pad id j)) (h.1 j l)),
       )
 
-  given_bit : (b n : ℕ) → b ≤ p.width → 0 < times n (pads_of p b) → IsBit (spot 0 (number (record { band = b; net = n })))
+  given_bit : (b n : ℕ) → b ≤ p.width → 0 < times n (pads_of p b)
+      → IsBit (spot 0 (number (record { band = b; net = n })))
   given_bit zero n l some =
       let q = counted_pad false (p.pads).inputs p.inputs n some in
       let narrow : eqb q.pad.width 0 ≡ true = by_test (eqb q.pad.width 0) q.sort in
       let s : pad_spot q.pad q.id 0 ≡ record { band = 0; net = n } =
       ap (λ b. spot (cond b 0 1) q.id) narrow ∙ ap (λ k. record { band = 0; net = k }) q.net in
       subst (λ (x : Spot). IsBit (spot 0 (number x))) s
-      (in_row q.index q.pad q.id 0 q.is_pad q.is_id (subst (λ b. 0 < cond b 1 q.pad.width) (sym narrow) (omega arith)))
+      (in_row q.index q.pad q.id 0 q.is_pad q.is_id (subst (λ b. 0 < cond b 1 q.pad.width) (sym narrow)
+      (omega arith)))
     where
       by_test : (b : Bool) → not b ≡ false → b ≡ true
       by_test true e = refl
@@ -245,7 +254,8 @@ module _ (p : DataPath) (flat : List Part) (number : Spot → NetId)
       one_input (Some (Latch phase None)) e = absurd (none-some Given e)
       one_input (Some (Latch phase (Some m))) e = cc
 
-      by_band : (b : Bool) → eqb k.band 0 ≡ b → cond b (part_element 0 (slice_get flat k.net)) None ≡ Some Given → IsBit k
+      by_band : (b : Bool) → eqb k.band 0 ≡ b → cond b (part_element 0 (slice_get flat k.net)) None ≡ Some Given
+          → IsBit k
       by_band false e is = absurd (none-some Given is)
       by_band true e is =
           let m = so.meant k.net Input (one_input (slice_get flat k.net) is) in

@@ -28,7 +28,8 @@ rows_more count pads ids of rows pad id row size done is_pad is_id are = record 
         → (slice_get rows i ≡ Some r) ⊎ ((i ≡ length rows) × (row ≡ r))
         → (length r ≡ pad_bits q) × ((k : ℕ) → k < pad_bits q → slice_get r k ≡ Some (of (pad_spot q j k)))
     by_place i q j r p d (inl e) =
-        done.bits i q j r (let w = Rattle.std.proofs.lemmas.Option.slice_get_within rows i r e in omega (arith, w, size)) p d e
+        done.bits i q j r (let w = Rattle.std.proofs.lemmas.Option.slice_get_within rows i r e in
+        omega (arith, w, size)) p d e
     by_place i q j r p d (inr e) =
         let here : i ≡ count = e.0 ∙ size in
         let same_pad : pad ≡ q = same_Some pad q (sym is_pad ∙ ap (slice_get pads) (sym here) ∙ p) in

@@ -1,8 +1,8 @@
 -- The order of a path: its nets stand one after another, each with its rank.
-use Rattle.std.proofs.Common.{◌≡◌, ℕ, ◌<◌, ◌≤◌, ◌+◌, ◌-◌, zero, suc, ◌⊎◌, inl, inr, List, [], ◌∷◌, ◌++◌, Option, Some, None, Bool, true, false, cond, eqb, length, take, get_or, append_assoc, refl, sym, ◌∙◌, ap, subst, arith}
+use Rattle.std.proofs.Common.{◌≡◌, ℕ, ◌<◌, ◌≤◌, ◌+◌, ◌-◌, zero, suc, ◌⊎◌, inl, inr, List, [], ◌∷◌, ◌++◌, Some, Bool, true, false, cond, length, take, get_or, append_assoc, refl, sym, ◌∙◌, ap, arith}
 use Rattle.std.specs.Prelude.{slice_get}
 use Rattle.std.specs.List.{count_by}
-use Rattle.std.proofs.lemmas.Bool.{and_parts, eqb-true, leb-true, eq-eqb, true≢false}
+use Rattle.std.proofs.lemmas.Bool.{and_parts, eqb-true, leb-true}
 use Rattle.std.proofs.lemmas.Bool.Decides.{nat_tests}
 use Rattle.std.proofs.lemmas.List.{append-nil, length-append, take_more}
 use Rattle.std.proofs.lemmas.List.Sums.{sum_by-cons}
@@ -187,13 +187,15 @@ rank_at (p ∷ ps) i x e l =
 -- ---- the list, made piece by piece
 
 from_push : (band first count : ℕ)
-    → places_from band first (suc count) ≡ places_from band first count ++ record { band = band; net = first + count } ∷ []
+    → places_from band first (suc count) ≡ places_from band first count
+    ++ record { band = band; net = first + count } ∷ []
 from_push band first zero =
     let e : first ≡ first + 0 = omega arith in ap (λ n. record { band = band; net = n } ∷ []) e
 from_push band first (suc count) =
     let e : suc first + count ≡ first + suc count = omega arith in
     ap (λ xs. record { band = band; net = first } ∷ xs) (from_push band (suc first) count)
-    ∙ ap (λ n. record { band = band; net = first } ∷ (places_from band (suc first) count ++ record { band = band; net = n } ∷ [])) e
+    ∙ ap (λ n. record { band = band; net = first } ∷ (places_from band (suc first) count
+    ++ record { band = band; net = n } ∷ [])) e
 
 -- one more net of a piece
 pub net_more : (start xs ys : List Place) (band first net : ℕ) → first ≤ net
@@ -223,7 +225,8 @@ pub piece_more : (order : List Piece) (i : ℕ) (d : Piece) (xs ys : List Place)
     → net - (get_or order i d).first ≡ suc (get_or order i d).last - (get_or order i d).first
     → ys ≡ places_of (take (i + 1) order)
 piece_more order i d xs ys net l was is e =
-    is ∙ ap (λ zs. zs ++ places_from (get_or order i d).band (get_or order i d).first (net - (get_or order i d).first)) was
+    is ∙ ap (λ zs. zs ++ places_from (get_or order i d).band (get_or order i d).first
+    (net - (get_or order i d).first)) was
     ∙ ap (λ k. places_of (take i order) ++ places_from (get_or order i d).band (get_or order i d).first k) e
     ∙ sym (places_push (take i order) (get_or order i d)) ∙ ap places_of (sym (take_more order i d l))
 
@@ -231,7 +234,8 @@ last_in : (p : Piece) → p.first ≤ p.last → is_in (record { band = p.band; 
 last_in p some = grind (arith, nat_tests, some)
 
 -- a piece that isn't empty has its last net
-pub piece_counts : (ps : List Piece) (k : ℕ) (d : Piece) → k < length ps → (get_or ps k d).first ≤ (get_or ps k d).last
+pub piece_counts : (ps : List Piece) (k : ℕ) (d : Piece) → k < length ps
+    → (get_or ps k d).first ≤ (get_or ps k d).last
     → 0 < count_by (is_in (record { band = (get_or ps k d).band; net = (get_or ps k d).last })) ps
 piece_counts [] k d l some = absurd (omega arith)
 piece_counts (p ∷ ps) zero d l some =

@@ -1,5 +1,5 @@
 -- How many nets and gate inputs the flat net of a path has: what stands for its nets, each counted once.
-use Rattle.std.proofs.Common.{◌≡◌, ℕ, ◌<◌, ◌≤◌, ◌+◌, ◌*◌, zero, suc, ◌⊎◌, inl, inr, List, [], ◌∷◌, ◌++◌, Option, Some, None, Bool, true, false, cond, eqb, length, map, refl, sym, ◌∙◌, ap, subst, arith}
+use Rattle.std.proofs.Common.{◌≡◌, ℕ, ◌<◌, ◌≤◌, ◌+◌, ◌*◌, zero, suc, ◌⊎◌, inl, inr, List, [], ◌∷◌, Option, Some, None, Bool, true, false, cond, eqb, length, map, refl, sym, ◌∙◌, ap, subst, arith}
 use Rattle.std.specs.Prelude.{slice_get, nat_lt, ◌-◌}
 use Rattle.std.specs.Int.{bit_at}
 use Rattle.std.proofs.Math.Dec.{eqb-suc-zero, eqb-zero-suc}
@@ -12,8 +12,7 @@ use Rattle.nor_net.specs.declared.net.NetId.{NetId}
 use Rattle.nor_net.specs.declared.net.Part.{Part}
 use Rattle.nor_net.specs.declared.net.Part.TheVariants.{Input, Gate, Latch}
 use Rattle.nor_net.specs.Elements.{Spot, Element, Given, Nor, Latched, Joined, Low, spot}
-use Rattle.nor_net.specs.Shape.{fan_in, gate_inputs, net_limit}
-use Rattle.organelles.specs.declared.slices.Chain.{Chain}
+use Rattle.nor_net.specs.Shape.{fan_in, gate_inputs}
 use Rattle.organelles.specs.declared.slices.Programmed.{Programmed}
 use Rattle.path_form.specs.declared.path.Cast.{Cast}
 use Rattle.path_form.specs.declared.path.Lift.{Lift}
@@ -25,7 +24,7 @@ use Rattle.path_flat.specs.declared.sources.Source.TheVariants.{Pad, Below, Abov
 use Rattle.path_flat.specs.Adding.{IsElementAdded, inputs_for, nets_for, parts_for}
 use Rattle.path_flat.specs.Numbered.{IsFew}
 use Rattle.path_flat.specs.Numbers.{parts_of}
-use Rattle.path_flat.specs.Sources.{cast_source, chain_source, control_source, element_in, lift_source, or_source, path_source, program_source, slice_source, source_element, told}
+use Rattle.path_flat.specs.Sources.{cast_source, chain_source, element_in, lift_source, or_source, path_source, program_source, source_element, told}
 use Rattle.path_flat.proofs.Elements.{HasPart, has_part, slice_parts, slice_sources}
 
 -- ---- sums over the first n numbers
@@ -245,7 +244,8 @@ module _ (p : DataPath) where
   path_le : (f g : Spot → ℕ) → ((n : Spot) → f n ≤ g n) → sum_path p f ≤ sum_path p g
   unfolding sum_path
   path_le f g h =
-      let a = sum_le (λ n. f (record { band = 0; net = n })) (λ n. g (record { band = 0; net = n })) (length p.control)
+      let a = sum_le (λ n. f (record { band = 0; net = n })) (λ n. g (record { band = 0; net = n }))
+      (length p.control)
       (λ n l. h (record { band = 0; net = n })) in
       let b = sum_le (λ k. sum_below (λ n. f (record { band = suc k; net = n })) (length p.slices.net))
       (λ k. sum_below (λ n. g (record { band = suc k; net = n })) (length p.slices.net)) p.width
@@ -266,7 +266,8 @@ module _ (p : DataPath) where
           + sum_below (λ k. sum_below (λ n. g (record { band = suc k; net = n })) (length p.slices.net)) p.width
       by_band zero n part at =
           let a = sum_falls (λ n. f (record { band = 0; net = n })) (λ n. g (record { band = 0; net = n }))
-          (length p.control) n d (slice_get_within p.control n part.part part.at) (λ n. h (record { band = 0; net = n })) at in
+          (length p.control) n d (slice_get_within p.control n part.part part.at)
+          (λ n. h (record { band = 0; net = n })) at in
           let b = sum_le (λ k. sum_below (λ n. f (record { band = suc k; net = n })) (length p.slices.net))
           (λ k. sum_below (λ n. g (record { band = suc k; net = n })) (length p.slices.net)) p.width
           (λ k l. sum_le (λ n. f (record { band = suc k; net = n })) (λ n. g (record { band = suc k; net = n }))
@@ -275,7 +276,8 @@ module _ (p : DataPath) where
       by_band (suc k) n part at =
           let l = slice_get_within p.slices.net n part.part
           (sym (ap (λ (parts : List Part). slice_get parts n) (slice_parts p k)) ∙ part.at) in
-          let a = sum_le (λ n. f (record { band = 0; net = n })) (λ n. g (record { band = 0; net = n })) (length p.control)
+          let a = sum_le (λ n. f (record { band = 0; net = n })) (λ n. g (record { band = 0; net = n }))
+          (length p.control)
           (λ n l. h (record { band = 0; net = n })) in
           let i = sum_falls (λ n. f (record { band = suc k; net = n })) (λ n. g (record { band = suc k; net = n }))
           (length p.slices.net) n d l (λ n. h (record { band = suc k; net = n })) at in
@@ -424,7 +426,8 @@ module _ (p : DataPath) where
       let d = length-map p.slices.programs (λ (g : Programmed). g.net) in
       omega (arith, s, a, b, c, d)
 
-  slice_nets : (k : ℕ) → sum_below (λ n. cost nets_for (path_nets p (record { band = suc k; net = n }))) (length p.slices.net)
+  slice_nets : (k : ℕ) → sum_below (λ n. cost nets_for (path_nets p (record { band = suc k; net = n })))
+      (length p.slices.net)
       ≤ length p.slices.net + length p.slices.chains + length p.slices.programs
   slice_nets k =
       let m = length p.slices.net in
@@ -454,10 +457,12 @@ module _ (p : DataPath) where
   unfolding sum_path
   all_nets =
       let a = sum_le (λ n. cost nets_for (path_nets p (record { band = 0; net = n }))) (λ n. 1) (length p.control)
-      (λ n l. (let c = costs (record { band = 0; net = n }) 0 (let z = control_few n in omega (arith, z)) in omega (arith, c))) in
+      (λ n l. (let c = costs (record { band = 0; net = n }) 0 (let z = control_few n in omega (arith, z)) in
+      omega (arith, c))) in
       let b = sum_constant 1 (length p.control) in
       let most = length p.slices.net + length p.slices.chains + length p.slices.programs in
-      let c = sum_le (λ k. sum_below (λ n. cost nets_for (path_nets p (record { band = suc k; net = n }))) (length p.slices.net))
+      let c = sum_le (λ k. sum_below (λ n. cost nets_for (path_nets p (record { band = suc k; net = n })))
+      (length p.slices.net))
       (λ k. length p.slices.net + length p.slices.chains + length p.slices.programs) p.width (λ k l. slice_nets k) in
       let d = sum_constant (length p.slices.net + length p.slices.chains + length p.slices.programs) p.width in
       omega (arith, a, b, c, d)
@@ -467,10 +472,13 @@ module _ (p : DataPath) where
   all_inputs =
       let a = sum_le (λ n. cost inputs_for (path_nets p (record { band = 0; net = n })))
       (λ n. of_part (slice_get p.control n)) (length p.control)
-      (λ n l. (let c = costs_inputs (record { band = 0; net = n }) 0 (let z = control_few n in omega (arith, z)) in omega (arith, c))) in
+      (λ n l. (let c = costs_inputs (record { band = 0; net = n }) 0 (let z = control_few n in omega (arith, z)) in
+      omega (arith, c))) in
       let b = fan_sum p.control in
-      let c = sum_le (λ k. sum_below (λ n. cost inputs_for (path_nets p (record { band = suc k; net = n }))) (length p.slices.net))
-      (λ k. gate_inputs p.slices.net + length p.slices.chains + length p.slices.programs) p.width (λ k l. slice_inputs k) in
+      let c = sum_le (λ k. sum_below (λ n. cost inputs_for (path_nets p (record { band = suc k; net = n })))
+      (length p.slices.net))
+      (λ k. gate_inputs p.slices.net + length p.slices.chains + length p.slices.programs) p.width
+      (λ k l. slice_inputs k) in
       let d = sum_constant (gate_inputs p.slices.net + length p.slices.chains + length p.slices.programs) p.width in
       omega (arith, a, b, c, d)
 

@@ -1,21 +1,21 @@
 -- One more net of a path has its number, and what stands for it.
-use Rattle.std.proofs.Common.{◌≡◌, ℕ, ◌<◌, ◌≤◌, ◌+◌, zero, suc, ◌⊎◌, inl, inr, List, [], ◌∷◌, ◌++◌, Option, Some, None, Bool, true, false, cond, length, map, refl, sym, ◌∙◌, ap, subst, arith}
+use Rattle.std.proofs.Common.{◌≡◌, ℕ, ◌<◌, ◌≤◌, ◌+◌, zero, suc, ◌⊎◌, inl, inr, List, [], ◌∷◌, ◌++◌, Option, Some, None, true, cond, length, map, refl, sym, ◌∙◌, ap, subst, arith}
 use Rattle.std.specs.Prelude.{All, slice_get, nat_lt}
 use Rattle.std.specs.List.{count_by, list_all}
-use Rattle.std.proofs.lemmas.Bool.{and_parts, cases_lt, cases_eq, le-ltb, ltb-true, false≢true}
-use Rattle.std.proofs.lemmas.List.{length-append, length_push}
+use Rattle.std.proofs.lemmas.Bool.{and_parts, cases_lt, le-ltb, ltb-true, false≢true}
+use Rattle.std.proofs.lemmas.List.{length-append}
 use Rattle.std.proofs.lemmas.List.Elements.{All-nil, All-cons}
-use Rattle.std.proofs.lemmas.Option.{none-some, same_Some, slice_get_within}
+use Rattle.std.proofs.lemmas.Option.{none-some, same_Some}
 use Rattle.nor_net.specs.declared.net.NetId.{NetId}
 use Rattle.nor_net.specs.declared.net.Part.{Part}
 use Rattle.nor_net.specs.declared.net.Part.TheVariants.{Input, Gate, Latch}
 use Rattle.nor_net.specs.Elements.{Spot, Element, Given, Nor, Latched, Joined, Low}
-use Rattle.nor_net.proofs.Adding.{get_kept, get_push}
+use Rattle.nor_net.proofs.Adding.{get_kept}
 use Rattle.path_form.specs.declared.path.DataPath.{DataPath}
 use Rattle.path_form.specs.Flat.{is_own}
-use Rattle.path_form.specs.Shape.{is_in, pieces_of, rank, stands_behind}
+use Rattle.path_form.specs.Shape.{is_in, pieces_of, rank}
 use Rattle.path_form.specs.Showing.{path_nets}
-use Rattle.path_flat.specs.Adding.{IsElementAdded, ReadsBelow, nets_for, number_for, parts_for}
+use Rattle.path_flat.specs.Adding.{IsElementAdded, ReadsBelow, number_for, parts_for}
 use Rattle.path_flat.specs.Numbered.{IsMeant, IsNumberedTo, StandsFor, total}
 use Rattle.path_flat.proofs.Ranks.{rank_once, rank_within, within_counts}
 
@@ -114,7 +114,8 @@ module _ (p : DataPath) where
       still n Given q l h = ap (λ (x : NetId). slice_get new x.0) (kept n l) ∙ grown (of n).0 Input h
       still n (Nor inputs) q l h =
           ap (λ (x : NetId). slice_get new x.0) (kept n l) ∙ grown (of n).0 (Gate (map of inputs)) h
-          ∙ ap (λ xs. Some (Gate xs)) (sym (inputs_kept inputs (λ i d m. (let a = inputs_before n inputs q i d m in omega (arith, a, l)))))
+          ∙ ap (λ xs. Some (Gate xs)) (sym (inputs_kept inputs
+          (λ i d m. (let a = inputs_before n inputs q i d m in omega (arith, a, l)))))
       still n (Latched phase m) q l h =
           ap (λ (x : NetId). slice_get new x.0) (kept n l)
           ∙ grown (of n).0 (Latch phase (cond (nat_lt (rank p.order n) 0) (Some (of m)) None)) h
@@ -142,14 +143,18 @@ module _ (p : DataPath) where
       stands : (d : Element) → path_nets p s ≡ Some d → new ≡ flat ++ parts_for (length flat) of d
           → id ≡ number_for (length flat) of d → StandsFor new also (nat_lt (rank p.order s) 0) s d
       stands Given q parts number =
-          ap (λ (x : NetId). slice_get new x.0) (own ∙ number) ∙ ap (λ (xs : List Part). slice_get xs (length flat)) parts
+          ap (λ (x : NetId). slice_get new x.0) (own ∙ number)
+          ∙ ap (λ (xs : List Part). slice_get xs (length flat)) parts
           ∙ at_end flat Input []
       stands (Nor inputs) q parts number =
-          ap (λ (x : NetId). slice_get new x.0) (own ∙ number) ∙ ap (λ (xs : List Part). slice_get xs (length flat)) parts
+          ap (λ (x : NetId). slice_get new x.0) (own ∙ number)
+          ∙ ap (λ (xs : List Part). slice_get xs (length flat)) parts
           ∙ at_end flat (Gate (map of inputs)) []
-          ∙ ap (λ xs. Some (Gate xs)) (sym (inputs_kept inputs (subst (λ u. All (Before u) inputs) here (inputs_before s inputs q))))
+          ∙ ap (λ xs. Some (Gate xs)) (sym (inputs_kept inputs
+          (subst (λ u. All (Before u) inputs) here (inputs_before s inputs q))))
       stands (Latched phase m) q parts number =
-          ap (λ (x : NetId). slice_get new x.0) (own ∙ number) ∙ ap (λ (xs : List Part). slice_get xs (length flat)) parts
+          ap (λ (x : NetId). slice_get new x.0) (own ∙ number)
+          ∙ ap (λ (xs : List Part). slice_get xs (length flat)) parts
           ∙ at_end flat (Latch phase None) []
           ∙ ap (λ b. Some (Latch phase (cond b (Some (also m)) None))) (sym (le-ltb (rank p.order s) 0 (omega arith)))
       stands (Joined m) q parts number =
@@ -157,6 +162,8 @@ module _ (p : DataPath) where
       stands Low q parts number = (
         record { 0 = length flat },
         ap (λ (x : NetId). slice_get new x.0) (own ∙ number) ∙ ap (λ (xs : List Part). slice_get xs (length flat + 1)) parts
+        ap (λ (x : NetId). slice_get new x.0) (own ∙ number)
+            ∙ ap (λ (xs : List Part). slice_get xs (length flat + 1)) parts
             ∙ behind flat (Gate []) (Gate (record { 0 = length flat } ∷ [])),
         ap (λ (xs : List Part). slice_get xs (length flat)) parts
             ∙ at_end flat (Gate []) (Gate (record { 0 = length flat } ∷ []) ∷ []),

@@ -50,10 +50,12 @@ module _ (p : DataPath) (shapes : IsNet p.control × IsNet p.slices.net) (i : �
   within : rank p.order s < total p.order
   within = let r = h.place_rank in let w = h.within in omega (arith, r, w)
 
-  module _ (phase : Phase) (m : NetId) (at : slice_get (parts_of p place.band) place.net ≡ Some (Latch phase (Some m)))
+  module _ (phase : Phase) (m : NetId) (at : slice_get (parts_of p place.band) place.net
+      ≡ Some (Latch phase (Some m)))
       (is : path_nets p s ≡ Some (Latched phase (spot place.band m))) where
     feeds : MayFeed phase (slice_get flat (of (spot place.band m)).0)
-    feeds = by_part (slice_get (parts_of p place.band) m.0) refl ((parts_net p shapes place.band).stand place.net (Latch phase (Some m)) at)
+    feeds = by_part (slice_get (parts_of p place.band) m.0) refl
+        ((parts_net p shapes place.band).stand place.net (Latch phase (Some m)) at)
       where
         by_part : (o : Option Part) → slice_get (parts_of p place.band) m.0 ≡ o → MayFeed phase o
             → MayFeed phase (slice_get flat (of (spot place.band m)).0)
@@ -67,12 +69,14 @@ module _ (p : DataPath) (shapes : IsNet p.control × IsNet p.slices.net) (i : �
             let takes = parts_take p place.band place.net (Latch phase (Some m))
             (slice_get_within (parts_of p place.band) place.net (Latch phase (Some m)) at) in
             let here = sym (ap (λ x. takes_pad (parts_of p place.band) pads x)
-            (get_or_from_slice_get (parts_of p place.band) place.net (Latch phase (Some m)) (Latch phase (Some m)) at))
+            (get_or_from_slice_get (parts_of p place.band) place.net (Latch phase (Some m))
+            (Latch phase (Some m)) at))
             ∙ takes in
             let some = ltb-true 0 (times m.0 pads)
             (sym (ap (λ o. cond (is_input o) (nat_lt 0 (times m.0 pads)) true) e) ∙ here) in
             let n = pad_given p place.band m.0 h.part.band e some in
-            subst (MayFeed phase) (sym (so.each (spot place.band m) Given n (net_within p (spot place.band m) Given n))) may
+            subst (MayFeed phase) (sym (so.each (spot place.band m) Given n
+            (net_within p (spot place.band m) Given n))) may
         by_part (Some (Latch q x)) e may = absurd may
 
     may_take : MayTake (slice_get flat (of s).0) (slice_get flat (of (spot place.band m)).0)
@@ -127,4 +131,5 @@ module _ (p : DataPath) (shapes : IsNet p.control × IsNet p.slices.net) (i : �
       → IfSome (slice_get own place.net) (IsFedAt of place.band (record { 0 = place.net }) flat new) → IsNext new
   own_next own new e few after =
       next_of new few h.part.part h.part.element h.part.at h.part.fed
-      (subst (λ o. IfSome o (IsFedAt of place.band (record { 0 = place.net }) flat new)) (own_at p i place h own e) after)
+      (subst (λ o. IfSome o (IsFedAt of place.band (record { 0 = place.net }) flat new))
+      (own_at p i place h own e) after)

@@ -1,5 +1,5 @@
 -- Sources told one after another.
-use Rattle.std.proofs.Common.{◌≡◌, ℕ, ◌<◌, ◌+◌, ◌≤◌, zero, suc, List, [], ◌∷◌, ◌++◌, cond, eqb, length, take, get_or, refl, sym, ◌∙◌, ap, arith}
+use Rattle.std.proofs.Common.{◌≡◌, ℕ, ◌<◌, ◌+◌, ◌≤◌, List, [], ◌∷◌, ◌++◌, cond, eqb, length, take, get_or, refl, sym, ◌∙◌, ap}
 use Rattle.std.proofs.lemmas.List.{take_more, take_all}
 use Rattle.nor_net.specs.declared.net.NetId.{NetId}
 use Rattle.path_flat.specs.declared.sources.Source.{Source}
@@ -38,7 +38,8 @@ module _ {A : Type 0} (end : A → NetId) (source : A → Source) (n : ℕ) wher
       → after ≡ or_source start (told end source n (take (i + 1) xs))
   told_more xs i d start before after l was is =
       is ∙ ap (λ b. or_source b (cond (eqb (end (get_or xs i d)).0 n) (source (get_or xs i d)) Pad)) was
-      ∙ or_assoc start (told end source n (take i xs)) (cond (eqb (end (get_or xs i d)).0 n) (source (get_or xs i d)) Pad)
+      ∙ or_assoc start (told end source n (take i xs)) (cond (eqb (end (get_or xs i d)).0 n)
+      (source (get_or xs i d)) Pad)
       ∙ ap (or_source start) (sym (told_push (take i xs) (get_or xs i d)))
       ∙ ap (λ ys. or_source start (told end source n ys)) (sym (take_more xs i d l))
 
@@ -48,7 +49,8 @@ module _ {A : Type 0} (end : A → NetId) (source : A → Source) (n : ℕ) wher
   told_all xs i start l = ap (λ ys. or_source start (told end source n ys)) (take_all i xs l)
 
 -- one list was told behind what was told before, and another list is the same
-pub told_list : {A : Type 0} (end : A → NetId) (source : A → Source) (n : ℕ) (xs ys : List A) (before after start : Source)
+pub told_list : {A : Type 0} (end : A → NetId) (source : A → Source) (n : ℕ) (xs ys : List A)
+    (before after start : Source)
     → before ≡ start → after ≡ or_source before (told end source n xs) → xs ≡ ys
     → after ≡ or_source start (told end source n ys)
 told_list end source n xs ys before after start b a e =

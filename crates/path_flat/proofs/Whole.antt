@@ -1,9 +1,8 @@
 -- A flat net in which each net of a path has its number, and each latch its data, is the path's.
-use Rattle.std.proofs.Common.{◌≡◌, ℕ, ◌<◌, ◌≤◌, ◌+◌, ◌-◌, ◌*◌, zero, suc, ◌⊎◌, inl, inr, List, [], ◌∷◌, ◌++◌, Option, Some, None, Bool, true, false, cond, eqb, length, map, get_or, refl, sym, ◌∙◌, ap, subst, arith}
-use Rattle.std.specs.Prelude.{All, Contains, nat_lt, slice_get}
+use Rattle.std.proofs.Common.{◌≡◌, ℕ, ◌<◌, ◌≤◌, ◌+◌, ◌-◌, ◌*◌, zero, suc, ◌⊎◌, inl, inr, List, [], ◌∷◌, Option, Some, None, true, cond, length, map, get_or, refl, sym, ◌∙◌, ap, subst, arith}
+use Rattle.std.specs.Prelude.{All, nat_lt, slice_get}
 use Rattle.std.proofs.lemmas.Bool.{cases_lt, false≢true, le-ltb, lt-ltb}
-use Rattle.std.proofs.lemmas.List.Elements.{All-contains}
-use Rattle.std.proofs.lemmas.Option.{none-some, same_Some, slice_get-get_or, slice_get_within}
+use Rattle.std.proofs.lemmas.Option.{same_Some, slice_get-get_or}
 use Rattle.nor_net.specs.declared.net.NetId.{NetId}
 use Rattle.nor_net.specs.declared.net.Part.{Part}
 use Rattle.nor_net.specs.declared.net.Part.TheVariants.{Input, Gate, Latch}
@@ -101,7 +100,8 @@ module _ (p : DataPath) (shapes : IsNet p.control × IsNet p.slices.net) (flat :
       by_element Given is l h = ap (λ (x : NetId). slice_get flat x.0) (of_net n l) ∙ h
       by_element (Nor inputs) is l h =
           ap (λ (x : NetId). slice_get flat x.0) (of_net n l) ∙ h
-          ∙ ap (λ xs. Some (Gate xs)) (inputs_of (rank p.order n) inputs (omega (arith, l)) (inputs_before p n inputs is))
+          ∙ ap (λ xs. Some (Gate xs)) (inputs_of (rank p.order n) inputs (omega (arith, l))
+          (inputs_before p n inputs is))
       by_element (Latched phase m) is l h =
           ap (λ (x : NetId). slice_get flat x.0) (of_net n l) ∙ h
           ∙ ap (λ b. Some (Latch phase (cond b (Some (number m)) None))) (fed_test n l)
@@ -143,7 +143,8 @@ module _ (p : DataPath) (shapes : IsNet p.control × IsNet p.slices.net) (flat :
   abbrev Meet : Spot → Spot → Type 0
   Meet n m = (root : Spot) × Root (path_nets p) n root × Root (path_nets p) m root
 
-  both : (n m : Spot) → rank p.order n < total p.order → rank p.order m < total p.order → number n ≡ number m → Meet n m
+  both : (n m : Spot) → rank p.order n < total p.order → rank p.order m < total p.order → number n ≡ number m
+      → Meet n m
   both n m ln lm e =
       let a = rooted (suc (rank p.order n)) n (omega arith) ln in
       let b = rooted (suc (rank p.order m)) m (omega arith) lm in
@@ -152,7 +153,8 @@ module _ (p : DataPath) (shapes : IsNet p.control × IsNet p.slices.net) (flat :
       let lb = own_within b.root b.own in
       let one : a.root ≡ b.root =
       rank_once p.order a.root b.root (by_order a.root b.root a.own b.own la lb numbers
-      (cases_lt (rank p.order a.root) (rank p.order b.root)) (cases_lt (rank p.order b.root) (rank p.order a.root))) lb in
+      (cases_lt (rank p.order a.root) (rank p.order b.root)) (cases_lt (rank p.order b.root) (rank p.order a.root)))
+      lb in
       (b.root, subst (Root (path_nets p) n) one a.leads, b.leads)
     where
       by_order : (x y : Spot) → is_own (path_nets p x) ≡ true → is_own (path_nets p y) ≡ true

@@ -1,8 +1,8 @@
 -- A latch of the flat net takes its data.
-use Rattle.std.specs.Prelude.{◌≡◌, ℕ, List, Some, None, IfSome, slice_get, slice_set}
+use Rattle.std.specs.Prelude.{◌≡◌, ℕ, List, Some, IfSome, slice_get, slice_set}
 use Rattle.nor_net.specs.declared.net.NetId.{NetId}
 use Rattle.nor_net.specs.declared.net.Part.{Part}
-use Rattle.nor_net.specs.declared.net.Part.TheVariants.{Input, Gate, Latch}
+use Rattle.nor_net.specs.declared.net.Part.TheVariants.{Latch}
 use Rattle.nor_net.specs.Elements.{Spot, spot}
 use Rattle.nor_net.specs.Shape.{MayTake, fed}
 

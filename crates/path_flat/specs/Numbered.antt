@@ -1,5 +1,5 @@
 -- A flat net in which each net of a path has its number.
-use Rattle.std.specs.Prelude.{◌≡◌, ◌<◌, ◌≤◌, ◌+◌, ◌-◌, ◌*◌, ℕ, suc, List, [], ◌∷◌, Option, Some, None, Bool, true, if◌then◌else◌, nat_lt, length, map, slice_get}
+use Rattle.std.specs.Prelude.{◌≡◌, ◌<◌, ◌≤◌, ◌+◌, ◌-◌, ◌*◌, ℕ, suc, List, [], ◌∷◌, Some, None, Bool, true, if◌then◌else◌, nat_lt, length, map, slice_get}
 use Rattle.nor_net.specs.declared.net.NetId.{NetId}
 use Rattle.nor_net.specs.declared.net.Part.{Part}
 use Rattle.nor_net.specs.declared.net.Part.TheVariants.{Input, Gate, Latch}
@@ -44,8 +44,10 @@ pub record IsNumberedTo (p : DataPath) (t u : ℕ) (flat : List Part) (of : Spot
 
 -- how many nets and gate inputs a flat net may have
 pub record IsFew (p : DataPath) (flat : List Part) : Type 0 where
-  pub nets : length flat ≤ length p.control + p.width * (length p.slices.net + length p.slices.chains + length p.slices.programs)
-  pub inputs : gate_inputs flat ≤ gate_inputs p.control + p.width * (gate_inputs p.slices.net + length p.slices.chains + length p.slices.programs)
+  pub nets : length flat ≤ length p.control + p.width * (length p.slices.net + length p.slices.chains + length
+      p.slices.programs)
+  pub inputs : gate_inputs flat ≤ gate_inputs p.control + p.width *
+      (gate_inputs p.slices.net + length p.slices.chains + length p.slices.programs)
 
 -- all nets of a path have numbers, and no latch is fed
 pub record IsNumbered (p : DataPath) (flat : List Part) (of : Spot → NetId) : Type 0 where

@@ -1,5 +1,5 @@
 -- The nets of a path one after another.
-use Rattle.std.specs.Prelude.{ℕ, zero, suc, ◌+◌, ◌-◌, List, [], ◌∷◌, ◌++◌}
+use Rattle.std.specs.Prelude.{ℕ, zero, suc, ◌-◌, List, [], ◌∷◌, ◌++◌}
 use Rattle.path_form.specs.declared.path.Piece.{Piece}
 use Rattle.path_flat.specs.declared.places.Place.{Place}
 

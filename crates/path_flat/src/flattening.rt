@@ -72,8 +72,9 @@ fn feed_all(path: &DataPath, places: &[Place], numbers: &Numbers, net: &mut Net)
     }
 }
 
-/// One net for the control and all slices of a data path, numbered in the order of the path, with the nets of the bits
-/// of each pad. A net that is joined to another has its number; one that is set to 0 is a gate on a gate without inputs.
+/// One net for the control and all slices of a data path, numbered in the order of the path, with the nets of the
+/// bits of each pad. A net that is joined to another has its number, and one that is set to 0 is a gate on a gate
+/// without inputs.
 ///
 /// # Errors
 ///

@@ -17,8 +17,8 @@ use organelles::{Chain, Programmed};
 use path_form::{Cast, DataPath, Lift};
 use std::alloc::Global;
 
-/// What gives an input its value: a pad, a net of the slice below or above, a bit of its own in each slice, a net of the
-/// control, or a net of one slice.
+/// What gives an input its value: a pad, a net of the slice below or above, a bit of its own in each slice, a net of
+/// the control, or a net of one slice.
 #[derive(Clone, Copy, Debug)]
 pub(crate) enum Source {
     Pad,

@@ -1,7 +1,4 @@
-use Rattle.std.proofs.Common.{◌≡◌, ◌<◌, ◌∙◌, ap, arith, length, map, take, subst}
-use Rattle.std.specs.Prelude.{All}
-use Rattle.nor_net.specs.declared.net.NetId.{NetId}
-use Rattle.nor_net.specs.Elements.{spot}
+use Rattle.std.proofs.Common.{◌∙◌, length}
 use Rattle.path_flat.specs.Numbers.{number_of}
 use Rattle.path_flat.proofs.Numbering.{inputs_below}
 use Rattle.path_flat.proofs.adding.add_gate.Goals as goal

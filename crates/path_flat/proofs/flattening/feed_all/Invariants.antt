@@ -1,4 +1,3 @@
-use Rattle.std.proofs.Common.{◌≡◌, length, ℕ}
 use Rattle.path_flat.specs.Numbers.{number_of}
 use Rattle.path_flat.specs.Numbered.{IsFew, IsNumberedTo, total}
 use Rattle.path_flat.proofs.flattening.feed_all.Given as goal

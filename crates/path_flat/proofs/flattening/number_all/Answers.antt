@@ -1,4 +1,4 @@
-use Rattle.std.proofs.Common.{get_or, length, sym, ◌∙◌, ap, subst}
+use Rattle.std.proofs.Common.{get_or, length, ◌∙◌, subst}
 use Rattle.path_flat.specs.declared.places.Place.{Place}
 use Rattle.path_flat.specs.Numbered.{IsNumberedTo}
 use Rattle.path_flat.specs.Numbers.{HasShape, number_of, spot_of}
@@ -79,7 +79,8 @@ loop-place-preserved c =
           c.set.ensures.shape;
       numbered = numbered_more p i c.loop-place.net of v.numbered (spot_of place) h.e h.is h.place_rank c.add.new.net
           c.in_ok-id.id added (number_of c.set.new.self) c.set.ensures.told c.set.ensures.others;
-      room = room_more p i c.loop-place.net (spot_of place) h.e v.room h.is h.place_rank of c.add.new.net c.in_ok-id.id
+      room = room_more p i c.loop-place.net (spot_of place) h.e v.room h.is h.place_rank of c.add.new.net
+          c.in_ok-id.id
           added;
     }
 

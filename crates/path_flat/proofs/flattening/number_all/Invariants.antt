@@ -1,5 +1,5 @@
-use Rattle.std.proofs.Common.{◌≡◌, length, ℕ}
-use Rattle.path_flat.specs.Numbers.{HasShape, number_of, row_size}
+use Rattle.std.proofs.Common.{length}
+use Rattle.path_flat.specs.Numbers.{HasShape, number_of}
 use Rattle.path_flat.specs.Numbered.{IsNumberedTo}
 use Rattle.path_flat.proofs.Room.{HasRoom}
 use Rattle.path_flat.proofs.flattening.number_all.Given as goal

@@ -16,10 +16,12 @@ loop-index-preserved c =
     record {
       size = ap length e ∙ length_push c.loop-index.rows row ∙ omega arith;
       rows = subst (AreRowsTo (i + 1) c.args.pads.now c.args.ids.now (number_of c.args.numbers.now)) (sym e)
-          (rows_more i c.args.pads.now c.args.ids.now (number_of c.args.numbers.now) c.loop-index.rows pad (get_or c.args.ids.now i d) row
+          (rows_more i c.args.pads.now c.args.ids.now (number_of c.args.numbers.now) c.loop-index.rows pad
+          (get_or c.args.ids.now i d) row
           c.loop-index.invariant.size c.loop-index.invariant.rows
           (slice_get-get_or c.args.pads.now i c.index-pads-index.result c.loop-index-test.true)
-          (slice_get-get_or c.args.ids.now i d (let l = c.requires in let t = c.loop-index-test.true in omega (arith, l, t)))
+          (slice_get-get_or c.args.ids.now i d (let l = c.requires in let t = c.loop-index-test.true in
+          omega (arith, l, t)))
           c.in_ok-bits_of.ensures);
     }
 

@@ -1,4 +1,4 @@
-use Rattle.std.proofs.Common.{◌≡◌, ℕ, length}
+use Rattle.std.proofs.Common.{◌≡◌, length}
 use Rattle.path_flat.specs.Numbers.{number_of}
 use Rattle.path_flat.proofs.PadRows.{AreRowsTo}
 use Rattle.path_flat.proofs.rows.rows_of.Given as goal

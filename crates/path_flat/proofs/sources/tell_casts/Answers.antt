@@ -1,4 +1,4 @@
-use Rattle.std.proofs.Common.{◌∙◌, ap, arith}
+use Rattle.std.proofs.Common.{◌∙◌}
 use Rattle.path_form.specs.declared.path.Cast.{Cast}
 use Rattle.path_flat.specs.Sources.{cast_source, source_at}
 use Rattle.path_flat.proofs.Telling.{told_all, told_more}
@@ -16,5 +16,6 @@ loop-cast-preserved c =
 
 pub returns-clause-told : goal.returns-clause-told
 returns-clause-told c = λ n. c.loop-cast.invariant.told n
-    ∙ told_all (λ (c : Cast). c.slice) cast_source n c.args.casts.now c.loop-cast.cast-index (source_at c.args.sources.now n)
+    ∙ told_all (λ (c : Cast). c.slice) cast_source n c.args.casts.now c.loop-cast.cast-index
+    (source_at c.args.sources.now n)
     c.loop-cast-test.false

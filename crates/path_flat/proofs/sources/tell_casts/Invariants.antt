@@ -7,5 +7,6 @@ abbrev pub invariant-loop-cast : goal.invariant-loop-cast
 invariant-loop-cast l = record {
   size : length l.sources ≡ length l.initial.sources;
   told : (n : ℕ) → source_at l.sources n
-      ≡ or_source (source_at l.initial.sources n) (told (λ (c : Cast). c.slice) cast_source n (take l.cast-index l.casts));
+      ≡ or_source (source_at l.initial.sources n) (told (λ (c : Cast). c.slice) cast_source n
+      (take l.cast-index l.casts));
 }

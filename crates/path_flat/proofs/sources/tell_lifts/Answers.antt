@@ -1,4 +1,4 @@
-use Rattle.std.proofs.Common.{◌∙◌, ap, arith}
+use Rattle.std.proofs.Common.{◌∙◌}
 use Rattle.path_form.specs.declared.path.Lift.{Lift}
 use Rattle.path_flat.specs.Sources.{lift_source, source_at}
 use Rattle.path_flat.proofs.Telling.{told_all, told_more}
@@ -16,5 +16,6 @@ loop-lift-preserved c =
 
 pub returns-clause-told : goal.returns-clause-told
 returns-clause-told c = λ n. c.loop-lift.invariant.told n
-    ∙ told_all (λ (l : Lift). l.control) lift_source n c.args.lifts.now c.loop-lift.lift-index (source_at c.args.sources.now n)
+    ∙ told_all (λ (l : Lift). l.control) lift_source n c.args.lifts.now c.loop-lift.lift-index
+    (source_at c.args.sources.now n)
     c.loop-lift-test.false

@@ -7,5 +7,6 @@ abbrev pub invariant-loop-lift : goal.invariant-loop-lift
 invariant-loop-lift l = record {
   size : length l.sources ≡ length l.initial.sources;
   told : (n : ℕ) → source_at l.sources n
-      ≡ or_source (source_at l.initial.sources n) (told (λ (l : Lift). l.control) lift_source n (take l.lift-index l.lifts));
+      ≡ or_source (source_at l.initial.sources n) (told (λ (l : Lift). l.control) lift_source n
+      (take l.lift-index l.lifts));
 }

@@ -7,5 +7,6 @@ abbrev pub invariant-loop-program : goal.invariant-loop-program
 invariant-loop-program l = record {
   size : length l.sources ≡ length l.initial.sources;
   told : (n : ℕ) → source_at l.sources n
-      ≡ or_source (source_at l.initial.sources n) (told (λ (p : Programmed). p.net) program_source n (take l.program-index l.programs));
+      ≡ or_source (source_at l.initial.sources n) (told (λ (p : Programmed). p.net) program_source n
+      (take l.program-index l.programs));
 }

@@ -1,4 +1,4 @@
-use Rattle.std.proofs.Common.{◌<◌, List, length, cond, eqb, refl, sym, ◌∙◌, ap, subst}
+use Rattle.std.proofs.Common.{◌<◌, length, cond, eqb, sym, ◌∙◌, ap, subst}
 use Rattle.std.specs.Prelude.{All}
 use Rattle.organelles.specs.declared.slices.Programmed.{Programmed}
 use Rattle.path_form.specs.declared.path.Cast.{Cast}
@@ -6,7 +6,7 @@ use Rattle.path_form.specs.declared.path.Lift.{Lift}
 use Rattle.path_form.specs.Shape.{chain_to}
 use Rattle.path_flat.specs.declared.sources.Source.{Source}
 use Rattle.path_flat.specs.declared.sources.Source.TheVariants.{Pad}
-use Rattle.path_flat.specs.Sources.{cast_source, chain_source, control_source, lift_source, or_source, program_source, slice_source, source_at, told}
+use Rattle.path_flat.specs.Sources.{cast_source, chain_source, control_source, lift_source, or_source, program_source, source_at, told}
 use Rattle.path_flat.proofs.Ends.{casts_inside, lifts_inside, programs_inside}
 use Rattle.path_flat.proofs.Telling.{told_list}
 use Rattle.path_flat.proofs.sources.Sources.new.Goals as goal
