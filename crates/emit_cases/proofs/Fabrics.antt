@@ -1,5 +1,5 @@
 -- A fabric of one band is small.
-use Rattle.std.proofs.Common.{ℕ, ◌≡◌, ◌+◌, ◌*◌, ◌<◌, ◌≤◌, sym, ◌∙◌, ap, subst, arith, List, [], ◌∷◌}
+use Rattle.std.proofs.Common.{ℕ, ◌≡◌, ◌*◌, ◌<◌, ◌≤◌, sym, ◌∙◌, ap, subst, arith, List, [], ◌∷◌}
 use Rattle.fabric.specs.Plan.{Plan, bands, empty}
 use Rattle.fabric.specs.Shape.{base}
 use Rattle.cif_emit.specs.Emittable.{farthest}
