@@ -6,16 +6,13 @@ ghost use Rattle.process_plan.specs.Built.{IsBuilt, IsIdle};
 ghost use Rattle.process_plan.specs.Lawful.{Lawful};
 ghost use Rattle.process_plan.specs.Same.{IsSame};
 
-use mp_fitting::{
-    environments_fit, guards_fit, next_states_fit, zero_is_a_state, zero_state_fits,
-};
+use mp_fitting::{environments_fit, guards_fit, next_states_fit, zero_is_a_state, zero_state_fits};
 use mp_program::Program;
 use mp_program::laws::{
     effects, mentions, next_states, reads, sets, silence, sound, traces_exist, values,
 };
 use mp_rules::laws::{one_move, own_names};
-use rtl_form::Rtl;
-use rtl_form::laws as transfers;
+use rtl_form::{Rtl, laws as transfers};
 
 // The laws of programs, together.
 fn lawful(program: &Program, order: &[u32])
