@@ -167,7 +167,7 @@ module _ (r : Rtl) (sound : IsSound r) (p : DataPath) (a : IsAllocated r p) (v :
           λ id on k l.
               (let h = a.stored c reset.0 x id at is reset.1 on in
               let slave : v (spot (suc k) h.slave) ≡ bit (cond (digit (slice_index state c) k) false true) =
-              holds c k (word_store r p a.names a.words c reset.0 id k h)
+              holds c k (word_store r p.slices p.casts a.names a.words c reset.0 id k h)
               (a.word_stores c reset.0 k x id at is reset.1 on l) in
               writing.gate_bits r p a v solves env k l id (h.slave ∷ [])
               (cond (digit (slice_index state c) k) false true ∷ []) h.is_word (λ i. slave i ∷ [])

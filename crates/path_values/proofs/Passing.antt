@@ -128,7 +128,7 @@ module _ (r : Rtl) (sound : IsSound r) (p : DataPath) (a : IsAllocated r p) (v :
 
   -- what an operator gives, where its arguments are known
   pub placed : (e : ℕ) (op : Op) (index : ℕ) (args : List ℕ) (id : NetId) → IsAt r.exprs e (Apply op index args)
-      → (h : Placed p a.words op args id) → All E args
+      → (h : Placed p.slices a.words op args id) → All E args
       → HasResult h.kind v p.width id (value e)
   placed e op index args id is h known =
       let fits = sound.exprs e (Apply op index args) is in

@@ -241,11 +241,11 @@ module _ (r : Rtl) (p : DataPath) (sound : IsSound r) (tame : IsTame r) (a : IsA
             let h = a.stored c reset.0 x on.0 at kind reset.1 on.1 in
             let n : k < p.width = (let m : k < r.width = subst (λ w. k < cond w r.width 1) word l in
             let aw = a.width in omega (arith, m, aw)) in
-            let same : b ≡ word_store r p a.names a.words c reset.0 on.0 k h = same_Some b
-            (word_store r p a.names a.words c reset.0 on.0 k h)
+            let same : b ≡ word_store r p.slices p.casts a.names a.words c reset.0 on.0 k h = same_Some b
+            (word_store r p.slices p.casts a.names a.words c reset.0 on.0 k h)
             (sym is ∙ a.word_stores c reset.0 k x on.0 at kind reset.1 on.1 n) in
             let held : v (spot (suc k) h.slave) ≡ bit (cond (digit (slice_index env c) k) false true) =
-            holds c k (word_store r p a.names a.words c reset.0 on.0 k h)
+            holds c k (word_store r p.slices p.casts a.names a.words c reset.0 on.0 k h)
             (a.word_stores c reset.0 k x on.0 at kind reset.1 on.1 n)
             ∙ ap (λ m. bit (cond (digit m k) false true)) (sym
             (is_env.values c x at ∙ ap (λ q. Rattle.rtl_form.specs.Environment.kind_value q inputs
@@ -369,7 +369,8 @@ module _ (r : Rtl) (p : DataPath) (sound : IsSound r) (tame : IsTame r) (a : IsA
   -- a stored bit is that of a word or that of a bit
   pub by_store : (Q : Store → Type 0) → ((c reset k : ℕ) (x : cells.Cell) (id : NetId) (at : IsAt r.cells c x)
       (is : x.kind ≡ kinds.Stored) (res : r.reset ≡ Some reset) (on : Stands a.cell_words c id)
-      → k < p.width → Q (word_store r p a.names a.words c reset id k (a.stored c reset x id at is res on)))
+      → k < p.width → Q (word_store r p.slices p.casts a.names a.words c reset id k
+      (a.stored c reset x id at is res on)))
       → ((c reset : ℕ) (x : cells.Cell) (id : NetId) (at : IsAt r.cells c x) (is : x.kind ≡ kinds.Stored)
       (res : r.reset ≡ Some reset) (on : Stands a.names.cells c id)
       → Q (bit_store p.control id (a.lowered.stored c x id at is on)))
@@ -381,7 +382,7 @@ module _ (r : Rtl) (p : DataPath) (sound : IsSound r) (tame : IsTame r) (a : IsA
       by_word x at kind l true word =
           let reset = reset_of r p sound tame a c x at kind in
           let on = (a.cell_sorts c x at).0 word in
-          subst Q (same_Some (word_store r p a.names a.words c reset.0 on.0 k
+          subst Q (same_Some (word_store r p.slices p.casts a.names a.words c reset.0 on.0 k
           (a.stored c reset.0 x on.0 at kind reset.1 on.1)) b
           (sym (a.word_stores c reset.0 k x on.0 at kind reset.1 on.1 (wide k x l word)) ∙ is))
           (words c reset.0 k x on.0 at kind reset.1 on.1 (wide k x l word))

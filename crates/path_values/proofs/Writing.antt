@@ -102,7 +102,7 @@ module _ (r : Rtl) (p : DataPath) (a : IsAllocated r p) (v : Spot → Trit) (sol
   mapped [] = refl
   mapped (m ∷ ms) = ap (λ vs. val m ∷ vs) (mapped ms)
 
-  gate : (id : NetId) (inputs : List NetId) → IsGate p id inputs → val id ≡ nor_value (map val inputs)
+  gate : (id : NetId) (inputs : List NetId) → IsGate p.slices.net id inputs → val id ≡ nor_value (map val inputs)
   gate id inputs is =
       solves.2 (spot (suc k) id) (Nor (map (spot (suc k)) inputs))
       (ap (λ (f : Nets). f (spot (suc k) id)) solves.1 ∙ ap
@@ -112,17 +112,17 @@ module _ (r : Rtl) (p : DataPath) (a : IsAllocated r p) (v : Spot → Trit) (sol
       ∙ ap nor_value (mapped inputs)
 
   -- a gate on bits
-  pub gate_bits : (id : NetId) (inputs : List NetId) (bits : List Bool) → IsGate p id inputs
+  pub gate_bits : (id : NetId) (inputs : List NetId) (bits : List Bool) → IsGate p.slices.net id inputs
       → map val inputs ≡ map bit bits → val id ≡ bit (list_all off bits)
   gate_bits id inputs bits is e = gate id inputs is ∙ ap nor_value e ∙ nor_bits (λ b. b) bits
 
   one_bit : (m : NetId) (b : Bool) → val m ≡ bit b → map val (m ∷ []) ≡ map bit (b ∷ [])
   one_bit m b e = ap (λ t. t ∷ []) e
 
-  guard_value : (t : Transfer) (id : NetId) → IsGuard p a.names t.guard id → E t.guard → val id ≡ bit (on t)
+  guard_value : (t : Transfer) (id : NetId) → IsGuard p.casts a.names t.guard id → E t.guard → val id ≡ bit (on t)
   guard_value t id g known = sym (ap val g.3) ∙ casts_join p v g.0 k solves g.1 l ∙ known.1 g.0.control g.2
 
-  term_value : (t : Transfer) (id : NetId) → IsTerm p a.names a.words t id → E t.guard → E t.value
+  term_value : (t : Transfer) (id : NetId) → IsTerm p.slices p.casts a.names a.words t id → E t.guard → E t.value
       → val id ≡ bit (one t)
   term_value t id h guard has =
       let nv : val h.off_value ≡ bit (off (digit (value t.value) k) && true) = gate_bits h.off_value (h.value ∷ [])
@@ -140,7 +140,7 @@ module _ (r : Rtl) (p : DataPath) (a : IsAllocated r p) (v : Spot → Trit) (sol
       by_bits false true = refl
       by_bits false false = refl
 
-  terms_value : (ts : List Transfer) (ids : List NetId) → AllZip (IsTerm p a.names a.words) ts ids
+  terms_value : (ts : List Transfer) (ids : List NetId) → AllZip (IsTerm p.slices p.casts a.names a.words) ts ids
       → ((t : Transfer) → Contains ts t → E t.guard × E t.value) → map val ids ≡ map bit (map one ts)
   terms_value [] [] z known = refl
   terms_value [] (id ∷ ids) z known = absurd z
@@ -152,7 +152,7 @@ module _ (r : Rtl) (p : DataPath) (a : IsAllocated r p) (v : Spot → Trit) (sol
       λ i. e i ∷ rest i
 
   guards_value : (ts : List Transfer) (ids : List NetId) → AllZip
-      (λ (t : Transfer) g. IsGuard p a.names t.guard g) ts ids
+      (λ (t : Transfer) g. IsGuard p.casts a.names t.guard g) ts ids
       → ((t : Transfer) → Contains ts t → E t.guard × E t.value) → map val ids ≡ map bit (map on ts)
   guards_value [] [] z known = refl
   guards_value [] (id ∷ ids) z known = absurd z
@@ -179,7 +179,8 @@ module _ (r : Rtl) (p : DataPath) (a : IsAllocated r p) (v : Spot → Trit) (sol
     actives = any_filtered (λ (t : Transfer). t.target == c) on r.transfers
 
     -- a driven word has what is written to it
-    pub driven_word : (id : NetId) → DrivenWord r p a.names a.words c id → slice_index env c ≡ driven_value r env c
+    pub driven_word : (id : NetId) → DrivenWord r p.slices p.casts a.names a.words c id
+        → slice_index env c ≡ driven_value r env c
         → val id ≡ bit (digit (slice_index env c) k)
     driven_word id h is =
         let t : val h.off ≡ bit (not (list_any one to)) = gate_bits h.off h.terms (map one to) h.is_off
@@ -203,7 +204,7 @@ module _ (r : Rtl) (p : DataPath) (a : IsAllocated r p) (v : Spot → Trit) (sol
             (digit 0 k) (ap (λ n. n == 1) (bit_at-zero k))
 
     -- the source of a stored word has the next value
-    pub stored_word : (reset : ℕ) (id : NetId) (h : StoredWord r p a.names a.words c reset id)
+    pub stored_word : (reset : ℕ) (id : NetId) (h : StoredWord r p.slices p.casts a.names a.words c reset id)
         → val h.slave ≡ bit (off (digit (slice_index env c) k))
         → v (spot 0 h.clear.control) ≡ bit (slice_index env reset == 1)
         → val h.source ≡ bit (digit (next_bit r env reset c) k)
@@ -274,7 +275,7 @@ module _ (r : Rtl) (p : DataPath) (a : IsAllocated r p) (v : Spot → Trit) (sol
             ∙ sym (written_digits value c (slice_index env c) k r.transfers)
 
   -- with reset at 1 the source is 0, whatever else is X
-  pub cleared_word : (c reset : ℕ) (id : NetId) (h : StoredWord r p a.names a.words c reset id)
+  pub cleared_word : (c reset : ℕ) (id : NetId) (h : StoredWord r p.slices p.casts a.names a.words c reset id)
       → v (spot 0 h.clear.control) ≡ One → val h.source ≡ Zero
   cleared_word c reset id h high =
       let one : val h.clear.slice ≡ One = casts_join p v h.clear k solves h.is_clear.0 l ∙ high in

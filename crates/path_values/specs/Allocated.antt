@@ -37,7 +37,7 @@ use Rattle.path_form.specs.Showing.{FitPads}
 use Rattle.path_values.specs.Realizing.{StateFits, Realizes}
 
 -- an operator stands in the slices, on the nets of its arguments
-pub record Placed (p : DataPath) (words : List (Option NetId)) (op : Op) (args : List ℕ)
+pub record Placed (s : SliceNet) (words : List (Option NetId)) (op : Op) (args : List ℕ)
     (result : NetId) : Type 0 where
   pub kind : Organelle
   pub is_kind : op_of kind ≡ op
@@ -47,47 +47,49 @@ pub record Placed (p : DataPath) (words : List (Option NetId)) (op : Op) (args :
   pub a_in : a.0 < length before.net
   pub b_in : b.0 < length before.net
   pub chains_in : All (ChainIn (length before.net)) before.chains
-  pub grown : Extends (with_table (table_of kind) a b before) p.slices
+  pub grown : Extends (with_table (table_of kind) a b before) s
   pub is_result : result ≡ result_at (table_of kind) a b before
   pub is_a : Stands words (slice_index_or args 0 0) a
   pub is_b : Stands words (slice_index_or args (length args - 1) 0) b
 
 -- a gate of the slices
-abbrev pub IsGate : DataPath → NetId → List NetId → Type 0
-IsGate p id inputs = slice_get p.slices.net id.0 ≡ Some (parts.Gate inputs)
+abbrev pub IsGate : List Part → NetId → List NetId → Type 0
+IsGate net id inputs = slice_get net id.0 ≡ Some (parts.Gate inputs)
 
 -- a guard in the slices: a cast of its net
-abbrev pub IsGuard : DataPath → Names → ℕ → NetId → Type 0
-IsGuard p names guard id = (c : Cast) × Contains p.casts c × Stands names.exprs guard c.control × (c.slice ≡ id)
+abbrev pub IsGuard : List Cast → Names → ℕ → NetId → Type 0
+IsGuard casts names guard id = (c : Cast) × Contains casts c × Stands names.exprs guard c.control × (c.slice ≡ id)
 
 -- the term of a transfer: the value where the guard is 1, else 0
-pub record IsTerm (p : DataPath) (names : Names) (words : List (Option NetId)) (t : Transfer)
+pub record IsTerm (s : SliceNet) (casts : List Cast) (names : Names) (words : List (Option NetId)) (t : Transfer)
     (id : NetId) : Type 0 where
   pub value : NetId
   pub off_value : NetId
   pub guard : NetId
   pub off_guard : NetId
   pub is_value : Stands words t.value value
-  pub is_guard : IsGuard p names t.guard guard
-  pub is_off_value : IsGate p off_value (value ∷ [])
-  pub is_off_guard : IsGate p off_guard (guard ∷ [])
-  pub is_term : IsGate p id (off_value ∷ off_guard ∷ [])
+  pub is_guard : IsGuard casts names t.guard guard
+  pub is_off_value : IsGate s.net off_value (value ∷ [])
+  pub is_off_guard : IsGate s.net off_guard (guard ∷ [])
+  pub is_term : IsGate s.net id (off_value ∷ off_guard ∷ [])
 
 -- the transfers to a cell, in order
 abbrev pub transfers_to : Rtl → ℕ → List Transfer
 transfers_to r c = filter (λ (t : Transfer). t.target == c) r.transfers
 
 -- a driven word: the NOR of the NOR of its terms
-pub record DrivenWord (r : Rtl) (p : DataPath) (names : Names) (words : List (Option NetId)) (c : ℕ)
+pub record DrivenWord (r : Rtl) (s : SliceNet) (casts : List Cast) (names : Names) (words : List (Option NetId))
+    (c : ℕ)
     (id : NetId) : Type 0 where
   pub terms : List NetId
   pub off : NetId
-  pub are_terms : AllZip (IsTerm p names words) (transfers_to r c) terms
-  pub is_off : IsGate p off terms
-  pub is_word : IsGate p id (off ∷ [])
+  pub are_terms : AllZip (IsTerm s casts names words) (transfers_to r c) terms
+  pub is_off : IsGate s.net off terms
+  pub is_word : IsGate s.net id (off ∷ [])
 
 -- a stored word: two latches, and the next value, which is 0 where reset is 1
-pub record StoredWord (r : Rtl) (p : DataPath) (names : Names) (words : List (Option NetId)) (c reset : ℕ)
+pub record StoredWord (r : Rtl) (s : SliceNet) (casts : List Cast) (names : Names) (words : List (Option NetId))
+    (c reset : ℕ)
     (id : NetId) : Type 0 where
   pub master : NetId
   pub negation : NetId
@@ -98,27 +100,28 @@ pub record StoredWord (r : Rtl) (p : DataPath) (names : Names) (words : List (Op
   pub hold : NetId
   pub off : NetId
   pub clear : Cast
-  pub is_master : slice_get p.slices.net master.0 ≡ Some (parts.Latch phases.A (Some source))
-  pub is_negation : IsGate p negation (master ∷ [])
-  pub is_slave : slice_get p.slices.net slave.0 ≡ Some (parts.Latch phases.B (Some negation))
-  pub is_word : IsGate p id (slave ∷ [])
-  pub are_terms : AllZip (IsTerm p names words) (transfers_to r c) terms
-  pub are_guards : AllZip (λ (t : Transfer) g. IsGuard p names t.guard g) (transfers_to r c) guards
-  pub is_hold : IsGate p hold (slave ∷ guards)
-  pub is_off : IsGate p off (terms ++ hold ∷ [])
-  pub is_source : IsGate p source (off ∷ clear.slice ∷ [])
-  pub is_clear : Contains p.casts clear × Stands names.cells reset clear.control
+  pub is_master : slice_get s.net master.0 ≡ Some (parts.Latch phases.A (Some source))
+  pub is_negation : IsGate s.net negation (master ∷ [])
+  pub is_slave : slice_get s.net slave.0 ≡ Some (parts.Latch phases.B (Some negation))
+  pub is_word : IsGate s.net id (slave ∷ [])
+  pub are_terms : AllZip (IsTerm s casts names words) (transfers_to r c) terms
+  pub are_guards : AllZip (λ (t : Transfer) g. IsGuard casts names t.guard g) (transfers_to r c) guards
+  pub is_hold : IsGate s.net hold (slave ∷ guards)
+  pub is_off : IsGate s.net off (terms ++ hold ∷ [])
+  pub is_source : IsGate s.net source (off ∷ clear.slice ∷ [])
+  pub is_clear : Contains casts clear × Stands names.cells reset clear.control
 
 -- an input word: a latch on the net of its pad
-abbrev pub InputWord : DataPath → NetId → NetId → Type 0
-InputWord p id pad =
-    (slice_get p.slices.net id.0 ≡ Some (parts.Latch phases.C (Some pad)))
-    × (slice_get p.slices.net pad.0 ≡ Some parts.Input)
+abbrev pub InputWord : List Part → NetId → NetId → Type 0
+InputWord net id pad =
+    (slice_get net id.0 ≡ Some (parts.Latch phases.C (Some pad)))
+    × (slice_get net pad.0 ≡ Some parts.Input)
 
 -- where bit k of a stored word, and a stored bit, stand
-abbrev pub word_store : (r : Rtl) (p : DataPath) (names : Names) (words : List (Option NetId)) (c reset : ℕ)
-    (id : NetId) → ℕ → StoredWord r p names words c reset id → Store
-word_store r p names words c reset id k h =
+abbrev pub word_store : (r : Rtl) (s : SliceNet) (casts : List Cast) (names : Names) (words : List (Option NetId))
+    (c reset : ℕ)
+    (id : NetId) → ℕ → StoredWord r s casts names words c reset id → Store
+word_store r s casts names words c reset id k h =
     record {
       master = spot (suc k) h.master;
       negation = spot (suc k) h.negation;
@@ -156,23 +159,23 @@ pub record IsAllocated (r : Rtl) (p : DataPath) : Type 0 where
       → (g : Programmed) × Contains p.slices.programs g × (g.net ≡ id) × (g.bits ≡ n)
   pub reads : (e c : ℕ) (id : NetId) → IsAt r.exprs e (Cell c) → Stands words e id → Stands cell_words c id
   pub operators : (e : ℕ) (op : Op) (index : ℕ) (args : List ℕ) (id : NetId) → IsAt r.exprs e (Apply op index args)
-      → Stands words e id → Placed p words op args id
+      → Stands words e id → Placed p.slices words op args id
   pub tests : (e : ℕ) (op : Op) (index : ℕ) (args : List ℕ) (id : NetId) → IsAt r.exprs e (Apply op index args)
       → takes_words op ≡ true → (op ≡ ops.Bit → ⊥)
       → Stands names.exprs e id → (l : Lift) × Contains p.lifts l × (l.control ≡ id) × (suc l.slice ≡ p.width)
-      × Placed p words op args l.from
+      × Placed p.slices words op args l.from
   pub bits : (e index : ℕ) (args : List ℕ) (id : NetId) → IsAt r.exprs e (Apply ops.Bit index args)
       → Stands names.exprs e id
       → (l : Lift) × Contains p.lifts l × (l.control ≡ id) × (l.slice ≡ index)
       × Stands words (slice_index_or args 0 0) l.from
   pub driven : (c : ℕ) (x : cells.Cell) (id : NetId) → IsAt r.cells c x → is_driven x.kind ≡ true
-      → Stands cell_words c id → DrivenWord r p names words c id
+      → Stands cell_words c id → DrivenWord r p.slices p.casts names words c id
   pub stored : (c reset : ℕ) (x : cells.Cell) (id : NetId) → IsAt r.cells c x → x.kind ≡ kinds.Stored
       → r.reset ≡ Some reset → Stands cell_words c id
-      → StoredWord r p names words c reset id
+      → StoredWord r p.slices p.casts names words c reset id
   pub ports : (c k : ℕ) (x : cells.Cell) (id pad : NetId) → IsAt r.cells c x → x.kind ≡ kinds.Input k
       → Stands cell_words c id → slice_get p.inputs k ≡ Some pad
-      → InputWord p id pad
+      → InputWord p.slices.net id pad
   pub bit_ports : (k : ℕ) (pad : NetId) → Stands names.inputs k pad → slice_get p.inputs k ≡ Some pad
   pub shown : (c k : ℕ) (x : cells.Cell) (id : NetId) → IsAt r.cells c x → x.kind ≡ kinds.Output k
       → slice_get p.outputs k ≡ Some id
@@ -181,7 +184,7 @@ pub record IsAllocated (r : Rtl) (p : DataPath) : Type 0 where
   pub word_stores : (c reset k : ℕ) (x : cells.Cell) (id : NetId) (at : IsAt r.cells c x)
       (is : x.kind ≡ kinds.Stored) (res : r.reset ≡ Some reset)
       (on : Stands cell_words c id) → k < p.width → stores c k
-      ≡ Some (word_store r p names words c reset id k (stored c reset x id at is res on))
+      ≡ Some (word_store r p.slices p.casts names words c reset id k (stored c reset x id at is res on))
   pub bit_stores : (c : ℕ) (x : cells.Cell) (id : NetId) (at : IsAt r.cells c x) (is : x.kind ≡ kinds.Stored)
       (on : Stands names.cells c id)
       → stores c 0 ≡ Some (bit_store p.control id (lowered.stored c x id at is on))
