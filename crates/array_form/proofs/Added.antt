@@ -37,8 +37,6 @@ module _ (f : Plan) (lawful : IsFabric f) (ls : List Line) (ms : List Mark) wher
   old_segment_at : (b r c : ℕ) → SegmentAt f b r c → SegmentAt g b r c
   old_segment_at b r c h = record {
     segment = h.segment;
-    among = member_contains (f.segments ++ []) h.segment (append_left f.segments [] h.segment (contains_member f.segments h.segment h.among));
-    crosses = h.crosses;
     among =
         member_contains (f.segments ++ []) h.segment
         (append_left f.segments [] h.segment (contains_member f.segments h.segment h.among));
@@ -50,7 +48,6 @@ module _ (f : Plan) (lawful : IsFabric f) (ls : List Line) (ms : List Mark) wher
   old_stands TapL b r c s = (old_line_at _ b c s.0, elim s.1 [ inl e ↦ inl e | inr h ↦ inr (old_segment_at b r c h) ])
   old_stands TapR b r c s = (old_line_at _ b c s.0, elim s.1 [ inl e ↦ inl e | inr h ↦ inr (old_segment_at b r c h) ])
   old_stands Tran b r c s = (old_line_at _ b c s.0, old_line_at _ b c s.1, old_segment_at b r c s.2)
-  old_stands PullUp b r c s = (s.0, (s.1.0, member_contains (f.lines ++ ls) s.1.0 (append_left f.lines ls s.1.0 (contains_member f.lines s.1.0 s.1.1)), s.1.2, s.1.3))
   old_stands PullUp b r c s = (
     s.0,
     (
@@ -65,7 +62,6 @@ module _ (f : Plan) (lawful : IsFabric f) (ls : List Line) (ms : List Mark) wher
     s.1,
     elim s.2 [
       | inl e ↦ inl e
-      | inr h ↦ inr (h.0, member_contains (f.segments ++ []) h.0 (append_left f.segments [] h.0 (contains_member f.segments h.0 h.1)), h.2, h.3, h.4)
       | inr h ↦ inr (
         h.0,
         member_contains (f.segments ++ []) h.0
@@ -85,18 +81,15 @@ module _ (f : Plan) (lawful : IsFabric f) (ls : List Line) (ms : List Mark) wher
     columns = lawful.columns;
     bands = lawful.bands;
     rows = lawful.rows;
-    segments = subst (All (IsSegment g)) (sym no_more) (all_from (IsSegment g) f.segments (λ s m. let i = all_at (IsSegment f) f.segments s lawful.segments m in
-        record { band = i.band; row = i.row; below = i.below; first = i.first; order = i.order; last = i.last }));
-    segments_apart = subst (AllPairs SegmentsApart) (sym no_more) lawful.segments_apart;
-    lines = all_from (IsLine g) (f.lines ++ ls) (λ l m. let i : IsLine f l = elim (member_append f.lines ls l m) [ inl k ↦ all_at (IsLine f) f.lines l lawful.lines k | inr k ↦ fits l k ] in
-        record { column = i.column; right = i.right; order = i.order; last = i.last });
-    lines_apart = pairs_all LinesApart (f.lines ++ ls) (pairs_append LinesApart f.lines ls (pairs_from LinesApart f.lines lawful.lines_apart) lines_far lines_new);
     segments = subst (All (IsSegment g)) (sym no_more)
         (all_from (IsSegment g) f.segments (λ s m. let i = all_at (IsSegment f) f.segments s lawful.segments m in
+        record { band = i.band; row = i.row; below = i.below; first = i.first; order = i.order; last = i.last }));
+    segments_apart = subst (AllPairs SegmentsApart) (sym no_more) lawful.segments_apart;
     lines = all_from (IsLine g) (f.lines ++ ls)
         (λ l m. let i : IsLine f l =
         elim (member_append f.lines ls l m)
         [ inl k ↦ all_at (IsLine f) f.lines l lawful.lines k | inr k ↦ fits l k ] in
+        record { column = i.column; right = i.right; order = i.order; last = i.last });
     lines_apart =
         pairs_all LinesApart (f.lines ++ ls)
         (pairs_append LinesApart f.lines ls
@@ -105,7 +98,6 @@ module _ (f : Plan) (lawful : IsFabric f) (ls : List Line) (ms : List Mark) wher
       | inl i ↦ old_stands m.tile m.band m.row m.column (all_at (IsMark f) f.marks m lawful.marks i)
       | inr i ↦ stands m i
     ]);
-    marks_apart = pairs_all MarksApart (f.marks ++ ms) (pairs_append MarksApart f.marks ms (pairs_from MarksApart f.marks lawful.marks_apart) marks_far marks_new);
     marks_apart =
         pairs_all MarksApart (f.marks ++ ms)
         (pairs_append MarksApart f.marks ms
@@ -136,7 +128,6 @@ pub next_apart : {A : Type 0} (P : A → A → Type 0) (old more : List A) → A
     → i < length more → get_or more i x ≡ x → All (λ y. P y x) (old ++ take i more)
 next_apart P old more h i x lt e = all_from (λ y. P y x) (old ++ take i more)
     (λ y m. pairs_cross P (old ++ take i more) (drop i more)
-    (subst (Pairs P) (ap (λ l. old ++ l) (sym (split_at more i)) ∙ sym (append_assoc old (take i more) (drop i more))) (pairs_from P (old ++ more) h)) y x m (in_rest more i x lt e))
     (subst (Pairs P)
     (ap (λ l. old ++ l) (sym (split_at more i)) ∙ sym (append_assoc old (take i more) (drop i more)))
     (pairs_from P (old ++ more) h)) y x m (in_rest more i x lt e))

@@ -54,8 +54,6 @@ range_more a (suc n) =
     let e0 : a + 1 + n ≡ a + suc n = omega arith in
     let r = range_more (a + 1) n in
     let s : suc n + 3 ≡ suc (n + 3) = omega arith in
-    subst (λ z. range_with_len a z ≡ range_with_len a (suc n) ++ ((a + suc n) ∷ (a + suc n + 1) ∷ (a + suc n + 2) ∷ [])) (sym s)
-    (ap (λ l. a ∷ l) (subst (λ z. range_with_len (a + 1) (n + 3) ≡ range_with_len (a + 1) n ++ (z ∷ (z + 1) ∷ (z + 2) ∷ [])) e0 r))
     subst (λ z. range_with_len a z ≡ range_with_len a (suc n) ++
     ((a + suc n) ∷ (a + suc n + 1) ∷ (a + suc n + 2) ∷ [])) (sym s)
     (ap (λ l. a ∷ l)
@@ -74,8 +72,6 @@ module _ (X : Type 0) (d : Bands) (across : X → Line) (ground_at : X → ℕ) 
       ∙ (map_append (λ k. segment (band_segment b (d.cols b) (d.row b) k)) (range_with_len 0 (length (d.parts b)))
       ((0 + length (d.parts b)) ∷ (0 + length (d.parts b) + 1) ∷ (0 + length (d.parts b) + 2) ∷ [])
       ∙ (ends
-      ∙ sym (map_append (net_of X (layout X d across ground_at)) (map (λ n. row (place b n)) (range_with_len 0 (length (d.parts b)))) (beat b A ∷ beat b B ∷ beat b C ∷ [])
-      ∙ ap (λ l. l ++ map (net_of X (layout X d across ground_at)) (beat b A ∷ beat b B ∷ beat b C ∷ [])) (map_map (net_of X (layout X d across ground_at)) (λ n. row (place b n)) (range_with_len 0 (length (d.parts b))))))))
       ∙ sym (map_append (net_of X (layout X d across ground_at))
       (map (λ n. row (place b n)) (range_with_len 0 (length (d.parts b)))) (beat b A ∷ beat b B ∷ beat b C ∷ [])
       ∙ ap (λ l. l ++ map (net_of X (layout X d across ground_at)) (beat b A ∷ beat b B ∷ beat b C ∷ []))
@@ -107,9 +103,6 @@ module _ (X : Type 0) (d : Bands) (across : X → Line) (ground_at : X → ℕ) 
   pub columns_named : map line (band_lines b (d.columns b) (d.parts b)) ≡ map (net_of X y)
       (band_columns X b (d.columns b).stub (d.parts b))
   columns_named =
-      map_flat line (λ n. column_lines b (home (d.columns b) n) ((d.columns b).stub n) (slice_get (d.parts b) n)) (λ n. map line (column_lines b (home (d.columns b) n) ((d.columns b).stub n) (slice_get (d.parts b) n))) (λ n. refl) (range_with_len 0 (length (d.parts b)))
-      ∙ sym (map_flat (net_of X y) (λ n. net_columns X b n ((d.columns b).stub n) (slice_get (d.parts b) n)) (λ n. map line (column_lines b (home (d.columns b) n) ((d.columns b).stub n) (slice_get (d.parts b) n)))
-      (λ n. sym (part_columns n ((d.columns b).stub n) (slice_get (d.parts b) n))) (range_with_len 0 (length (d.parts b))))
       map_flat line (λ n. column_lines b (home (d.columns b) n) ((d.columns b).stub n) (slice_get (d.parts b) n))
       (λ n. map line (column_lines b (home (d.columns b) n) ((d.columns b).stub n) (slice_get (d.parts b) n)))
       (λ n. refl) (range_with_len 0 (length (d.parts b)))
@@ -125,8 +118,6 @@ module _ (X : Type 0) (d : Bands) (across : X → Line) (ground_at : X → ℕ) 
   part_ties n true (Some Input) = refl
   part_ties n false (Some Input) = refl
   part_ties n t (Some (Gate ins)) =
-      ap (λ l. mark TapL b (suc (d.row b n)) (home (d.columns b) n) ∷ mark TapR b 0 (home (d.columns b) n) ∷ mark PullUp b (d.rows b) (home (d.columns b) n) ∷ l)
-      (sym (map_map (mark_of X (layout X d across ground_at)) (λ i. tran (row (place b i)) (left (place b n)) (right (place b n))) (inputs_of ins)))
       ap (λ l. mark TapL b (suc (d.row b n)) (home (d.columns b) n) ∷ mark TapR b 0
       (home (d.columns b) n) ∷ mark PullUp b (d.rows b) (home (d.columns b) n) ∷ l)
       (sym (map_map (mark_of X (layout X d across ground_at))
@@ -185,13 +176,6 @@ module _ (X : Type 0) (d : Bands) (across : X → Line) (ground_at : X → ℕ) 
           (stands L n, inr (crosses n (home (d.columns b) n) (own n (Gate ins) h (gates n ins h))))
       go t (gate_ground n ins h) = (stands R n, inl (refl, refl))
       go t (gate_pull n ins h) = stands L n
-      go t (gate_input n ins i h c) =
-          (crosses i.0 (home (d.columns b) n) (in_cols i.0 (home (d.columns b) n) (ins_in n ins i h c) (input_mark (d.columns b) (d.parts b) n ins i h c)), stands L n, stands R n)
-      go t (latch_own n ph s h) = (stands L n, inr (crosses n (home (d.columns b) n) (own n (Latch ph (Some s)) h (latches n ph s h))))
-      go t (latch_data n ph s h) = (stands R n, inr (crosses s.0 (home (d.columns b) n) (in_cols s.0 (home (d.columns b) n) (data_in n ph s h) (data_mark (d.columns b) (d.parts b) n ph s h))))
-      go t (latch_phase n ph s h) = (
-        crosses (length (d.parts b) + phase_number ph) (home (d.columns b) n)
-            (subst (λ z. Member z (home (d.columns b) n)) (sym (tracks.phases ph)) (phase_mark (d.columns b) (d.parts b) n ph s h)),
       go t (gate_input n ins i h c) = (
         crosses i.0 (home (d.columns b) n)
             (in_cols i.0 (home (d.columns b) n) (ins_in n ins i h c)
@@ -207,6 +191,8 @@ module _ (X : Type 0) (d : Bands) (across : X → Line) (ground_at : X → ℕ) 
             (crosses s.0 (home (d.columns b) n)
             (in_cols s.0 (home (d.columns b) n) (data_in n ph s h) (data_mark (d.columns b) (d.parts b) n ph s h))),
       )
+      go t (latch_phase n ph s h) = (
+        crosses (length (d.parts b) + phase_number ph) (home (d.columns b) n)
             (subst (λ z. Member z (home (d.columns b) n)) (sym (tracks.phases ph))
             (phase_mark (d.columns b) (d.parts b) n ph s h)),
         stands L n,

@@ -69,7 +69,6 @@ filter_few : {A : Type 0} (test : A → Bool) (xs : List A) → length (filter t
 filter_few test [] = omega arith
 filter_few test (x ∷ xs) = let i = filter_few test xs in elim (cases_Bool (test x)) [
   | inl e ↦ subst (λ t. length (cond t (x ∷ filter test xs) (filter test xs)) ≤ length (x ∷ xs)) (sym e) (omega arith)
-  | inr e ↦ subst (λ t. length (cond t (x ∷ filter test xs) (filter test xs)) ≤ length (x ∷ xs)) (sym e) (omega arith)
   | inr e ↦ subst (λ t. length (cond t (x ∷ filter test xs) (filter test xs)) ≤ length (x ∷ xs)) (sym e)
       (omega arith)
 ]
@@ -139,7 +138,6 @@ lines_few b y parts =
 pub marks_few : (b top : ℕ) (row : ℕ → ℕ) (y : Columns) (parts : List Part)
     → sum_by mark_size (band_marks b top row y parts) ≤ 12 * length parts + 4 * sum_by fan_in parts
 marks_few b top row y parts =
-    let w = sum_flat mark_size (λ n. column_marks b top row (length parts) (home y n) (y.stub n) n (slice_get parts n)) (λ i. 12 + 4 * inputs_at (slice_get parts i)) 0 (length parts)
     let w = sum_flat mark_size
     (λ n. column_marks b top row (length parts) (home y n) (y.stub n) n (slice_get parts n))
     (λ i. 12 + 4 * inputs_at (slice_get parts i)) 0 (length parts)

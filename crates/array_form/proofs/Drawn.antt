@@ -89,7 +89,6 @@ module _ (W : Type 0) (In : W → Type 0) (T : Tie W → Type 0) (f : Plan) (law
   apart p q op oq e =
       let hp = hubs.each p op in
       let hq = hubs.each q oq in
-      at_once p q (sym hp.1 ∙ (roots_from_numbers W In T f lawful net_of named rooted.speaks root hub rooted network.nodes number are.nodes (hub (at p)) (hub (at q)) hp.0 hq.0
       at_once p q (sym hp.1
       ∙ (roots_from_numbers W In T f lawful net_of named rooted.speaks root hub rooted network.nodes number
       are.nodes (hub (at p)) (hub (at q)) hp.0 hq.0
@@ -133,7 +132,6 @@ module _ (W : Type 0) (In : W → Type 0) (T : Tie W → Type 0) (f : Plan) (law
       to x h =
           let w = (s.ends x).0 h in
           elim w.1 [
-            | inl u ↦ elim u.1 [ inl l ↦ inl (sym w.2 ∙ ap number (line_once f lawful m L w.0 (net_of a) l r.2)) | inr l ↦ inr (sym w.2 ∙ ap number (line_once f lawful m R w.0 (net_of b) l r.3)) ]
             | inl u ↦ elim u.1 [
               | inl l ↦ inl (sym w.2 ∙ ap number (line_once f lawful m L w.0 (net_of a) l r.2))
               | inr l ↦ inr
@@ -167,7 +165,6 @@ module _ (W : Type 0) (In : W → Type 0) (T : Tie W → Type 0) (f : Plan) (law
           let w = (s.ends x).0 h in
           elim w.1 [
             | inl u ↦ absurd (cc (sym r.0 ∙ u.0))
-            | inr u ↦ elim u.1 [ inl l ↦ inl (sym w.2 ∙ ap number (line_once f lawful m L w.0 (net_of a) l r.1)) | inr p ↦ inr (sym w.2 ∙ ap number p) ]
             | inr u ↦ elim u.1 [
               | inl l ↦ inl (sym w.2 ∙ ap number (line_once f lawful m L w.0 (net_of a) l r.1))
               | inr p ↦ inr
@@ -207,7 +204,6 @@ module _ (W : Type 0) (In : W → Type 0) (T : Tie W → Type 0) (f : Plan) (law
       record {
         enhancement = h.kind;
         by = h.gate ∙ number_at g (root_of i) sp.0 rg;
-        joins = ends_at c (number (net_of a)) (number (net_of b)) (node (OfNet n)) (node Ground) h.ends (own_number a n sp.1 ra (nor_own n inputs e)) (number_at b (at Ground) sp.2 rb);
         joins = ends_at c (number (net_of a)) (number (net_of b)) (node (OfNet n)) (node Ground) h.ends
             (own_number a n sp.1 ra (nor_own n inputs e)) (number_at b (at Ground) sp.2 rb);
       }
@@ -222,7 +218,6 @@ module _ (W : Type 0) (In : W → Type 0) (T : Tie W → Type 0) (f : Plan) (law
         enhancement = h.kind;
         by = h.gate ∙ number_at g (at (OfPhase p)) sp.0 rg;
         joins = swapped c (node (OfNet n)) (node (OfNet source))
-            (ends_at c (number (net_of a)) (number (net_of b)) (node (OfNet n)) (node (OfNet source)) h.ends (own_number a n sp.1 ra (latch_own n source p e)) (number_at b (root_of source) sp.2 rb));
             (ends_at c (number (net_of a)) (number (net_of b)) (node (OfNet n)) (node (OfNet source)) h.ends
             (own_number a n sp.1 ra (latch_own n source p e)) (number_at b (root_of source) sp.2 rb));
       }
@@ -273,8 +268,6 @@ module _ (W : Type 0) (In : W → Type 0) (T : Tie W → Type 0) (f : Plan) (law
     pull_ups = λ n inputs e.
         let t = switches.pull_ups n inputs e in
         let m = named.tied (pull t.0) t.1 in
-        let c = channel_at m.0 m.1 (pull_is_switch m.0 m.2.0) in
-        (c.0, c.1, up_at t.0 (node (OfNet n)) (own_number t.0 n (rooted.speaks (pull t.0) t.1) t.2 (nor_own n inputs e)) c.0 (pull_is m.0 t.0 m.2 c.0 c.2));
         let c = channel_at m.0 m.1 (pull_is_switch m.0 m.2.0) in (
           c.0,
           c.1,

@@ -60,7 +60,6 @@ module _ (b top : ℕ) (row : ℕ → ℕ) (y : Columns) (parts : List Part) whe
   stub_there : (n : ℕ) → slice_get parts n ≡ Some Input → y.stub n ≡ true → MarkedAt all b (suc (row n)) (home y n)
   stub_there n h e = record {
     the_mark = mark TapL b (suc (row n)) (home y n);
-    among = in_column n Input (mark TapL b (suc (row n)) (home y n)) h (subst (λ t. Member {A = Mark} (cond t (mark TapL b (suc (row n)) (home y n) ∷ []) []) (mark TapL b (suc (row n)) (home y n))) (sym e) (inl refl));
     among = in_column n Input (mark TapL b (suc (row n)) (home y n)) h
         (subst (λ t. Member {A = Mark} (cond t (mark TapL b (suc (row n)) (home y n) ∷ []) [])
         (mark TapL b (suc (row n)) (home y n))) (sym e) (inl refl));
@@ -102,7 +101,6 @@ module _ (b top : ℕ) (row : ℕ → ℕ) (y : Columns) (parts : List Part) whe
   reader_there n j (Some Input) h e = absurd (cc e)
   reader_there n j (Some (Gate ins)) h e = record {
     the_mark = mark Tran b (suc (row n)) (home y j);
-    among = in_column j (Gate ins) (mark Tran b (suc (row n)) (home y j)) h (inr (inr (inr (map_member (λ i. mark Tran b (suc (row i)) (home y j)) (inputs_of ins) n (distinct_has (map (λ i. i.0) ins) n (has_member n (map (λ i. i.0) ins) e))))));
     among = in_column j (Gate ins) (mark Tran b (suc (row n)) (home y j)) h
         (inr (inr (inr
         (map_member (λ i. mark Tran b (suc (row i)) (home y j)) (inputs_of ins) n
@@ -121,20 +119,6 @@ module _ (b top : ℕ) (row : ℕ → ℕ) (y : Columns) (parts : List Part) whe
   }
 
   -- every marked column of a net carries a mark on its segment
-  pub carried : (n c : ℕ) → n < length parts → ((ph : Phase) → slice_get parts n ≡ Some (Latch ph None) → ⊥) → Member (marks y parts n) c → Carries n c
-  carried n c lt fed m = elim (member_append (cond (y.homed n) (home y n ∷ []) []) (map (home y) (numbers (reads n) parts) ++ y.more n) c m) [
-    | inl k ↦ own k
-    | inr k ↦ elim (member_append (map (home y) (numbers (reads n) parts)) (y.more n) c k) [
-      | inl k ↦ (let w = member_map (home y) (numbers (reads n) parts) c k in
-          let u = member_filter (λ j. reads n (slice_get parts j)) (range_with_len 0 (length parts)) w.0 w.1 in
-          subst (Carries n) w.2 (placed (reader_there n w.0 (slice_get parts w.0) refl u.1)))
-      | inr k ↦ further k
-    ]
-  ]
-    where
-      own : Member (cond (y.homed n) (home y n ∷ []) []) c → Carries n c
-      own k = elim (cases_Bool (y.homed n)) [
-        | inl e ↦ elim (subst (λ t. Member (cond t (home y n ∷ []) []) c) e k) [ inl q ↦ subst (Carries n) q (own_there n (slice_get parts n) refl lt fed) | inr q ↦ absurd q ]
   pub carried : (n c : ℕ) → n < length parts → ((ph : Phase) → slice_get parts n ≡ Some (Latch ph None) → ⊥)
       → Member (marks y parts n) c → Carries n c
   carried n c lt fed m =
@@ -148,6 +132,9 @@ module _ (b top : ℕ) (row : ℕ → ℕ) (y : Columns) (parts : List Part) whe
           | inr k ↦ further k
         ]
       ]
+    where
+      own : Member (cond (y.homed n) (home y n ∷ []) []) c → Carries n c
+      own k = elim (cases_Bool (y.homed n)) [
         | inl e ↦ elim (subst (λ t. Member (cond t (home y n ∷ []) []) c) e k)
             [ inl q ↦ subst (Carries n) q (own_there n (slice_get parts n) refl lt fed) | inr q ↦ absurd q ]
         | inr e ↦ absurd (subst (λ t. Member (cond t (home y n ∷ []) []) c) e k)
@@ -161,12 +148,10 @@ module _ (b top : ℕ) (row : ℕ → ℕ) (y : Columns) (parts : List Part) whe
   beat_there ph j (Some (Latch other None)) h e = absurd (cc e)
   beat_there ph j (Some (Latch other (Some d))) h e = record {
     the_mark = mark Tran b (suc (row (length parts + phase_number other))) (home y j);
-    among = in_column j (Latch other (Some d)) (mark Tran b (suc (row (length parts + phase_number other))) (home y j)) h (inr (inr (inl refl)));
-    band = refl;
-    row = ap (λ z. suc (row (length parts + phase_number z))) (sym (one_phase ph other e));
-    column = refl;
     among = in_column j (Latch other (Some d))
         (mark Tran b (suc (row (length parts + phase_number other))) (home y j)) h (inr (inr (inl refl)));
+    band = refl;
+    row = ap (λ z. suc (row (length parts + phase_number z))) (sym (one_phase ph other e));
     column =
         refl;
   }

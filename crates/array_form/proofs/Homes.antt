@@ -39,7 +39,6 @@ pub count_most : (test : ℕ → Bool) (n : ℕ) → count_below test n ≤ n
 count_most test zero = omega arith
 count_most test (suc n) = elim (cases_Bool (test n)) [
   | inl e ↦ (let i = count_most test n in let c = count_at test n e in omega arith)
-  | inr e ↦ (let i = count_most test n in let c : count_below test (suc n) ≡ 0 + count_below test n = ap (λ t. cond t 1 0 + count_below test n) e in omega arith)
   | inr e ↦ (let i = count_most test n in
       let c : count_below test (suc n) ≡ 0 + count_below test n = ap (λ t. cond t 1 0 + count_below test n) e in
       omega arith)
@@ -78,7 +77,6 @@ pub least_in : (x : ℕ) (xs : List ℕ) → Member (x ∷ xs) (least (x ∷ xs)
 least_in x [] = inl refl
 least_in x (y ∷ ys) = elim (cases_lt x (least (y ∷ ys))) [
   | inl lt ↦ inl (omega arith)
-  | inr ge ↦ inr (let e : min x (least (y ∷ ys)) ≡ least (y ∷ ys) = omega arith in subst (Member (y ∷ ys)) (sym e) (least_in y ys))
   | inr ge ↦ inr (let e : min x (least (y ∷ ys)) ≡ least (y ∷ ys) = omega arith in
       subst (Member (y ∷ ys)) (sym e) (least_in y ys))
 ]
@@ -86,7 +84,6 @@ least_in x (y ∷ ys) = elim (cases_lt x (least (y ∷ ys))) [
 pub greatest_in : (x : ℕ) (xs : List ℕ) → Member (x ∷ xs) (greatest (x ∷ xs))
 greatest_in x [] = inl (omega arith)
 greatest_in x (y ∷ ys) = elim (cases_lt x (greatest (y ∷ ys))) [
-  | inl lt ↦ inr (let e : max x (greatest (y ∷ ys)) ≡ greatest (y ∷ ys) = omega arith in subst (Member (y ∷ ys)) (sym e) (greatest_in y ys))
   | inl lt ↦ inr (let e : max x (greatest (y ∷ ys)) ≡ greatest (y ∷ ys) = omega arith in
       subst (Member (y ∷ ys)) (sym e) (greatest_in y ys))
   | inr ge ↦ inl (omega arith)

@@ -86,17 +86,6 @@ module _ (f : Plan) (lawful : IsFabric f) (b : ℕ) (y : Columns) (parts : List 
   reader_homed i n (Some (Latch ph (Some d))) h e = room.latches_homed n ph d h
 
   mark_inside : (n c : ℕ) → n < length parts → Member (marks y parts n) c → (1 ≤ c) × (c + 1 < f.columns)
-  mark_inside n c h m = elim (member_append (cond (y.homed n) (home y n ∷ []) []) (map (home y) (numbers (reads n) parts) ++ y.more n) c m) [
-    | inl k ↦ own k
-    | inr k ↦ elim (member_append (map (home y) (numbers (reads n) parts)) (y.more n) c k) [
-      | inl j ↦ (let w = member_map (home y) (numbers (reads n) parts) c j in
-          let u = member_filter (λ j. reads n (slice_get parts j)) (range_with_len 0 (length parts)) w.0 w.1 in
-          let r = (in_range 0 (length parts) w.0 u.0).1 in
-          let e = end_grows w.0 (omega arith) (reader_homed n w.0 (slice_get parts w.0) refl u.1) in
-          subst (λ z. (1 ≤ z) × (z + 1 < f.columns)) w.2 (e.0, e.1))
-      | inr j ↦ (room.more n c (member_contains (y.more n) c j))
-    ]
-  ]
   mark_inside n c h m =
       elim (member_append (cond (y.homed n) (home y n ∷ []) [])
       (map (home y) (numbers (reads n) parts) ++ y.more n) c m) [
@@ -150,7 +139,6 @@ module _ (f : Plan) (lawful : IsFabric f) (b : ℕ) (y : Columns) (parts : List 
     | inl lt ↦ of_net lt
     | inr ge ↦ elim (cases_eq k (length parts)) [
       | inl e ↦ of_phase A (omega arith)
-      | inr e ↦ elim (cases_eq k (length parts + 1)) [ inl e1 ↦ of_phase B (omega arith) | inr e1 ↦ of_phase C (omega arith) ]
       | inr e ↦ elim (cases_eq k (length parts + 1))
           [ inl e1 ↦ of_phase B (omega arith) | inr e1 ↦ of_phase C (omega arith) ]
     ]
@@ -203,10 +191,6 @@ module _ (f : Plan) (lawful : IsFabric f) (b : ℕ) (y : Columns) (parts : List 
       let r = (in_range 0 (length parts + 3) w.0 w.1).1 in (w.0, omega arith, w.2)
 
   segments_all : All (IsSegment g) (f.segments ++ band_segments b cols row parts)
-  segments_all = all_from (IsSegment g) (f.segments ++ band_segments b cols row parts) (λ s m. elim (member_append f.segments (band_segments b cols row parts) s m) [
-    | inl k ↦ old_segment s (all_at (IsSegment f) f.segments s lawful.segments k)
-    | inr k ↦ (let w = in_segments s k in subst (IsSegment g) w.2 (seg_is w.0 w.1))
-  ])
   segments_all =
       all_from (IsSegment g) (f.segments ++ band_segments b cols row parts)
       (λ s m. elim (member_append f.segments (band_segments b cols row parts) s m) [
@@ -217,12 +201,10 @@ module _ (f : Plan) (lawful : IsFabric f) (b : ℕ) (y : Columns) (parts : List 
   segments_apart : AllPairs SegmentsApart (f.segments ++ band_segments b cols row parts)
   unfolding seg
   segments_apart = pairs_all SegmentsApart (f.segments ++ band_segments b cols row parts)
-      (pairs_append SegmentsApart f.segments (band_segments b cols row parts) (pairs_from SegmentsApart f.segments lawful.segments_apart)
-      (pairs_map_range SegmentsApart (band_segment b cols row) 0 (length parts + 3)
-      (λ i j lo lt hi. λ e r. tracks.apart i j (omega arith) (omega arith) (λ q. omega arith) (omega arith)))
-      (λ s t m k e r. let w = in_segments t k in absurd (room.no_segments s (member_contains f.segments s m) (e ∙ sym (ap (λ z. z.band) w.2)))))
       (pairs_append SegmentsApart f.segments (band_segments b cols row parts)
       (pairs_from SegmentsApart f.segments lawful.segments_apart)
+      (pairs_map_range SegmentsApart (band_segment b cols row) 0 (length parts + 3)
+      (λ i j lo lt hi. λ e r. tracks.apart i j (omega arith) (omega arith) (λ q. omega arith) (omega arith)))
       (λ s t m k e r. let w = in_segments t k in
       absurd (room.no_segments s (member_contains f.segments s m) (e ∙ sym (ap (λ z. z.band) w.2)))))
 
@@ -232,13 +214,10 @@ module _ (f : Plan) (lawful : IsFabric f) (b : ℕ) (y : Columns) (parts : List 
       → (y.homed n ≡ true) × (n < length parts) × ((l ≡ upright (home y n) L b b) ⊎ (l ≡ upright (home y n) R b b))
   part_lines n None h l m = absurd m
   part_lines n (Some Input) h l m = elim (cases_Bool (y.stub n)) [
-    | inl e ↦ elim (subst (λ t. Member (cond t (upright (home y n) L b b ∷ []) []) l) e m) [ inl q ↦ (room.stubs_homed n e, slice_get_within parts n Input h, inl (sym q)) | inr q ↦ absurd q ]
-    | inr e ↦ absurd (subst (λ t. Member (cond t (upright (home y n) L b b ∷ []) []) l) e m)
-  ]
-  part_lines n (Some (Gate ins)) h l (inl q) = (room.gates_homed n ins h, slice_get_within parts n (Gate ins) h, inl (sym q))
-  part_lines n (Some (Gate ins)) h l (inr (inl q)) = (room.gates_homed n ins h, slice_get_within parts n (Gate ins) h, inr (sym q))
     | inl e ↦ elim (subst (λ t. Member (cond t (upright (home y n) L b b ∷ []) []) l) e m)
         [ inl q ↦ (room.stubs_homed n e, slice_get_within parts n Input h, inl (sym q)) | inr q ↦ absurd q ]
+    | inr e ↦ absurd (subst (λ t. Member (cond t (upright (home y n) L b b ∷ []) []) l) e m)
+  ]
   part_lines n (Some (Gate ins)) h l (inl q) =
       (room.gates_homed n ins h, slice_get_within parts n (Gate ins) h, inl (sym q))
   part_lines n (Some (Gate ins)) h l (inr (inl q)) =
@@ -265,10 +244,6 @@ module _ (f : Plan) (lawful : IsFabric f) (b : ℕ) (y : Columns) (parts : List 
       let i = end_grows n h e in record { column = i.0; right = i.1; order = omega arith; last = room.band }
 
   lines_all : All (IsLine g) (f.lines ++ band_lines b y parts)
-  lines_all = all_from (IsLine g) (f.lines ++ band_lines b y parts) (λ l m. elim (member_append f.lines (band_lines b y parts) l m) [
-    | inl k ↦ old_line l (all_at (IsLine f) f.lines l lawful.lines k)
-    | inr k ↦ (let w = in_lines l k in elim w.3 [ inl e ↦ subst (IsLine g) (sym e) (upright_is w.0 L w.2 w.1) | inr e ↦ subst (IsLine g) (sym e) (upright_is w.0 R w.2 w.1) ])
-  ])
   lines_all = all_from (IsLine g) (f.lines ++ band_lines b y parts)
       (λ l m. elim (member_append f.lines (band_lines b y parts) l m) [
         | inl k ↦ old_line l (all_at (IsLine f) f.lines l lawful.lines k)
@@ -302,7 +277,6 @@ module _ (f : Plan) (lawful : IsFabric f) (b : ℕ) (y : Columns) (parts : List 
   lines_apart : AllPairs LinesApart (f.lines ++ band_lines b y parts)
   lines_apart = pairs_all LinesApart (f.lines ++ band_lines b y parts)
       (pairs_append LinesApart f.lines (band_lines b y parts) (pairs_from LinesApart f.lines lawful.lines_apart)
-      (pairs_flat_range LinesApart (λ n. column_lines b (home y n) (y.stub n) (slice_get parts n)) 0 (length parts) (λ n lo hi. within_lines n (slice_get parts n)) cross)
       (pairs_flat_range LinesApart (λ n. column_lines b (home y n) (y.stub n) (slice_get parts n)) 0
       (length parts) (λ n lo hi. within_lines n (slice_get parts n)) cross)
       old_new)
@@ -359,8 +333,6 @@ module _ (f : Plan) (lawful : IsFabric f) (b : ℕ) (y : Columns) (parts : List 
   part_marks n None h m k = absurd k
   part_marks n (Some Input) h m k = elim (cases_Bool (y.stub n)) [
     | inl e ↦ elim (subst (λ t. Member (cond t (mark TapL b (suc (row n)) (home y n) ∷ []) []) m) e k) [
-      | inl q ↦ (let lt = slice_get_within parts n Input h in
-          (room.stubs_homed n e, lt, sym (ap (λ z. z.band) q), sym (ap (λ z. z.column) q), on_segment n (omega arith) (own_cols n lt (room.stubs_homed n e)) (sym (ap (λ z. z.row) q)) (inl (sym (ap (λ z. z.tile) q)))))
       | inl q ↦ (let lt = slice_get_within parts n Input h in (
         room.stubs_homed n e,
         lt,
@@ -408,7 +380,6 @@ module _ (f : Plan) (lawful : IsFabric f) (b : ℕ) (y : Columns) (parts : List 
         lt,
         sym (ap (λ z. z.band) q),
         sym (ap (λ z. z.column) q),
-        on_segment w.0 (omega arith) (subst (λ z. Member z (home y n)) (sym (tracks.nets w.0 wl)) (subst (λ z. Member (marks y parts z) (home y n)) j.2 (input_mark y parts n ins j.0 h (member_contains ins j.0 j.1))))
         on_segment w.0 (omega arith)
             (subst (λ z. Member z (home y n)) (sym (tracks.nets w.0 wl))
             (subst (λ z. Member (marks y parts z) (home y n)) j.2
@@ -431,7 +402,6 @@ module _ (f : Plan) (lawful : IsFabric f) (b : ℕ) (y : Columns) (parts : List 
         lt,
         sym (ap (λ z. z.band) q),
         sym (ap (λ z. z.column) q),
-        on_segment d.0 (omega arith) (subst (λ z. Member z (home y n)) (sym (tracks.nets d.0 dl)) (data_mark y parts n ph d h)) (sym (ap (λ z. z.row) q)) (inr (inl (sym (ap (λ z. z.tile) q), by_latch ph d h))),
         on_segment d.0 (omega arith)
             (subst (λ z. Member z (home y n)) (sym (tracks.nets d.0 dl)) (data_mark y parts n ph d h))
             (sym (ap (λ z. z.row) q)) (inr (inl (sym (ap (λ z. z.tile) q), by_latch ph d h))),
@@ -443,7 +413,6 @@ module _ (f : Plan) (lawful : IsFabric f) (b : ℕ) (y : Columns) (parts : List 
         lt,
         sym (ap (λ z. z.band) q),
         sym (ap (λ z. z.column) q),
-        on_segment (length parts + phase_number ph) (omega arith) (subst (λ z. Member z (home y n)) (sym (tracks.phases ph)) (phase_mark y parts n ph d h)) (sym (ap (λ z. z.row) q)) (inr (inr (sym (ap (λ z. z.tile) q), by_latch ph d h))),
         on_segment (length parts + phase_number ph) (omega arith)
             (subst (λ z. Member z (home y n)) (sym (tracks.phases ph)) (phase_mark y parts n ph d h))
             (sym (ap (λ z. z.row) q)) (inr (inr (sym (ap (λ z. z.tile) q), by_latch ph d h))),
@@ -456,7 +425,6 @@ module _ (f : Plan) (lawful : IsFabric f) (b : ℕ) (y : Columns) (parts : List 
       → Member (column_lines b (home y n) (y.stub n) q) (upright (home y n) L b b)
   left_stands n None h l m = absurd m
   left_stands n (Some Input) h l m = elim (cases_Bool (y.stub n)) [
-    | inl e ↦ subst (λ t. Member {A = Line} (cond t (upright (home y n) L b b ∷ []) []) (upright (home y n) L b b)) (sym e) (inl refl)
     | inl e ↦ subst (λ t. Member {A = Line} (cond t (upright (home y n) L b b ∷ []) []) (upright (home y n) L b b))
         (sym e) (inl refl)
     | inr e ↦ absurd (subst (λ t. Member (cond t (mark TapL b (suc (row n)) (home y n) ∷ []) []) l) e m)
@@ -482,7 +450,6 @@ module _ (f : Plan) (lawful : IsFabric f) (b : ℕ) (y : Columns) (parts : List 
     line = upright (home y n) side b b;
     among = member_contains (f.lines ++ band_lines b y parts) (upright (home y n) side b b)
         (append_right f.lines (band_lines b y parts) (upright (home y n) side b b)
-        (flat_member (λ k. column_lines b (home y k) (y.stub k) (slice_get parts k)) (range_with_len 0 (length parts)) n (upright (home y n) side b b) (range_has 0 (length parts) n (omega arith) (omega arith)) m));
         (flat_member (λ k. column_lines b (home y k) (y.stub k) (slice_get parts k))
         (range_with_len 0 (length parts)) n (upright (home y n) side b b)
         (range_has 0 (length parts) n (omega arith) (omega arith)) m));
@@ -499,7 +466,6 @@ module _ (f : Plan) (lawful : IsFabric f) (b : ℕ) (y : Columns) (parts : List 
       upright (home y n) L b b,
       member_contains (f.lines ++ band_lines b y parts) (upright (home y n) L b b)
           (append_right f.lines (band_lines b y parts) (upright (home y n) L b b)
-          (flat_member (λ k. column_lines b (home y k) (y.stub k) (slice_get parts k)) (range_with_len 0 (length parts)) n (upright (home y n) L b b) (range_has 0 (length parts) n (omega arith) (omega arith)) m)),
           (flat_member (λ k. column_lines b (home y k) (y.stub k) (slice_get parts k))
           (range_with_len 0 (length parts)) n (upright (home y n) L b b)
           (range_has 0 (length parts) n (omega arith) (omega arith)) m)),
@@ -514,8 +480,6 @@ module _ (f : Plan) (lawful : IsFabric f) (b : ℕ) (y : Columns) (parts : List 
     segment = band_segment b cols row k;
     among = member_contains (f.segments ++ band_segments b cols row parts) (band_segment b cols row k)
         (append_right f.segments (band_segments b cols row parts) (band_segment b cols row k)
-        (map_member (band_segment b cols row) (range_with_len 0 (length parts + 3)) k (range_has 0 (length parts + 3) k (omega arith) (omega arith))));
-    crosses = record { band = refl; row = refl; first = least_below (cols k) c m; last = greatest_above (cols k) c m };
         (map_member (band_segment b cols row) (range_with_len 0 (length parts + 3)) k
         (range_has 0 (length parts + 3) k (omega arith) (omega arith))));
     crosses = record {
@@ -532,7 +496,6 @@ module _ (f : Plan) (lawful : IsFabric f) (b : ℕ) (y : Columns) (parts : List 
       → Stands g t b r c → IsMark g m
   stands_at m t r c et eb er ec h =
       subst (λ z. Stands g z m.band m.row m.column) (sym et)
-      (subst (λ z. Stands g t z m.row m.column) (sym eb) (subst (λ z. Stands g t b z m.column) (sym er) (subst (λ z. Stands g t b r z) (sym ec) h)))
       (subst (λ z. Stands g t z m.row m.column) (sym eb)
       (subst (λ z. Stands g t b z m.column) (sym er) (subst (λ z. Stands g t b r z) (sym ec) h)))
 
@@ -583,7 +546,6 @@ module _ (f : Plan) (lawful : IsFabric f) (b : ℕ) (y : Columns) (parts : List 
   unfolding g
   old_segment_at k r c h = record {
     segment = h.segment;
-    among = member_contains (f.segments ++ band_segments b cols row parts) h.segment (append_left f.segments (band_segments b cols row parts) h.segment (contains_member f.segments h.segment h.among));
     among = member_contains (f.segments ++ band_segments b cols row parts) h.segment
         (append_left f.segments (band_segments b cols row parts) h.segment
         (contains_member f.segments h.segment h.among));
@@ -595,8 +557,6 @@ module _ (f : Plan) (lawful : IsFabric f) (b : ℕ) (y : Columns) (parts : List 
   old_stands TapL k r c s = (old_line_at L k c s.0, elim s.1 [ inl e ↦ inl e | inr h ↦ inr (old_segment_at k r c h) ])
   old_stands TapR k r c s = (old_line_at R k c s.0, elim s.1 [ inl e ↦ inl e | inr h ↦ inr (old_segment_at k r c h) ])
   old_stands Tran k r c s = (old_line_at L k c s.0, old_line_at R k c s.1, old_segment_at k r c s.2)
-  old_stands PullUp k r c s =
-      (s.0, (s.1.0, member_contains (f.lines ++ band_lines b y parts) s.1.0 (append_left f.lines (band_lines b y parts) s.1.0 (contains_member f.lines s.1.0 s.1.1)), s.1.2, s.1.3))
   old_stands PullUp k r c s = (
     s.0,
     (
@@ -612,7 +572,6 @@ module _ (f : Plan) (lawful : IsFabric f) (b : ℕ) (y : Columns) (parts : List 
     s.1,
     elim s.2 [
       | inl e ↦ inl e
-      | inr h ↦ inr (h.0, member_contains (f.segments ++ band_segments b cols row parts) h.0 (append_left f.segments (band_segments b cols row parts) h.0 (contains_member f.segments h.0 h.1)), h.2, h.3, h.4)
       | inr h ↦ inr (
         h.0,
         member_contains (f.segments ++ band_segments b cols row parts) h.0
@@ -688,14 +647,12 @@ module _ (f : Plan) (lawful : IsFabric f) (b : ℕ) (y : Columns) (parts : List 
       → Pairs MarksApart (map (λ i. mark Tran b (suc (row i)) (home y n)) ks)
   tran_pairs n ins h [] sub p = tt
   tran_pairs n ins h (k ∷ ks) sub p = (
-    each_from (MarksApart (mark Tran b (suc (row k)) (home y n))) (map (λ i. mark Tran b (suc (row i)) (home y n)) ks)
     each_from (MarksApart (mark Tran b (suc (row k)) (home y n)))
         (map (λ i. mark Tran b (suc (row i)) (home y n)) ks)
         (λ m i. let w = member_map (λ i. mark Tran b (suc (row i)) (home y n)) ks m i in
         let a = input_net n ins h k (sub k (inl refl)) in let d = input_net n ins h w.0 (sub w.0 (inr w.1)) in
         let a2 = a.2 in let d2 = d.2 in
         subst (MarksApart (mark Tran b (suc (row k)) (home y n))) w.2
-        (segments_differ k w.0 n (omega arith) (omega arith) (each_at (λ z. k ≡ z → ⊥) ks p.0 w.0 w.1) a.1 d.1 Tran Tran)),
         (segments_differ k w.0 n (omega arith) (omega arith)
         (each_at (λ z. k ≡ z → ⊥) ks p.0 w.0 w.1) a.1 d.1 Tran Tran)),
     tran_pairs n ins h ks (λ i m. sub i (inr m)) p.1,
@@ -720,7 +677,6 @@ module _ (f : Plan) (lawful : IsFabric f) (b : ℕ) (y : Columns) (parts : List 
             each_from (MarksApart (mark TapL b (suc (row n)) (home y n))) trans
                 (λ m k. let w = member_map (λ i. mark Tran b (suc (row i)) (home y n)) (inputs_of ins) m k in
                 let a = input_net n ins h w.0 w.1 in let a0 = a.0 in let a2 = a.2 in
-                subst (MarksApart (mark TapL b (suc (row n)) (home y n))) w.2 (segments_differ n w.0 n (omega arith) (omega arith) (λ z. omega arith) (own_cols n lt e) a.1 TapL Tran)),
                 subst (MarksApart (mark TapL b (suc (row n)) (home y n))) w.2
                 (segments_differ n w.0 n (omega arith) (omega arith) (λ z. omega arith)
                 (own_cols n lt e) a.1 TapL Tran)),
@@ -730,14 +686,12 @@ module _ (f : Plan) (lawful : IsFabric f) (b : ℕ) (y : Columns) (parts : List 
           (
             ground_top n TapR PullUp,
             each_from (MarksApart (mark TapR b 0 (home y n))) trans
-                (λ m k. let w = member_map (λ i. mark Tran b (suc (row i)) (home y n)) (inputs_of ins) m k in subst (MarksApart (mark TapR b 0 (home y n))) w.2 (differs_ground w.0 n Tran TapR)),
                 (λ m k. let w = member_map (λ i. mark Tran b (suc (row i)) (home y n)) (inputs_of ins) m k in
                 subst (MarksApart (mark TapR b 0 (home y n))) w.2 (differs_ground w.0 n Tran TapR)),
           ),
           (
             each_from (MarksApart (mark PullUp b (rows_of f b) (home y n))) trans
                 (λ m k. let w = member_map (λ i. mark Tran b (suc (row i)) (home y n)) (inputs_of ins) m k in
-                let a = (input_net n ins h w.0 w.1).2 in subst (MarksApart (mark PullUp b (rows_of f b) (home y n))) w.2 (differs_top w.0 n (omega arith) Tran PullUp)),
                 let a = (input_net n ins h w.0 w.1).2 in
                 subst (MarksApart (mark PullUp b (rows_of f b) (home y n))) w.2
                 (differs_top w.0 n (omega arith) Tran PullUp)),
@@ -753,14 +707,9 @@ module _ (f : Plan) (lawful : IsFabric f) (b : ℕ) (y : Columns) (parts : List 
       let s = phase_small ph in
       let own = own_cols n lt e in
       let source : Member (cols d.0) (home y n) = net_cols d.0 (home y n) dl (data_mark y parts n ph d h) in
-      let beat : Member (cols (length parts + phase_number ph)) (home y n) = subst (λ z. Member z (home y n)) (sym (tracks.phases ph)) (phase_mark y parts n ph d h) in (
-        (
-          segments_differ n d.0 n (omega arith) (omega arith) (λ z. (room.data_in n ph d h).1 (sym z)) own source TapL TapR,
-          (segments_differ n (length parts + phase_number ph) n (omega arith) (omega arith) (λ z. omega arith) own beat TapL Tran, tt),
-        ),
-        ((segments_differ d.0 (length parts + phase_number ph) n (omega arith) (omega arith) (λ z. omega arith) source beat TapR Tran, tt), (tt, tt)),
       let beat : Member (cols (length parts + phase_number ph)) (home y n) =
       subst (λ z. Member z (home y n)) (sym (tracks.phases ph)) (phase_mark y parts n ph d h) in (
+        (
           segments_differ n d.0 n (omega arith) (omega arith)
               (λ z. (room.data_in n ph d h).1 (sym z)) own source TapL TapR,
           (
@@ -768,19 +717,21 @@ module _ (f : Plan) (lawful : IsFabric f) (b : ℕ) (y : Columns) (parts : List 
                 (λ z. omega arith) own beat TapL Tran,
             tt,
           ),
+        ),
+        (
           (
             segments_differ d.0 (length parts + phase_number ph) n (omega arith) (omega arith)
                 (λ z. omega arith) source beat TapR Tran,
             tt,
           ),
           (tt, tt),
+        ),
       )
 
   marks_apart : AllPairs MarksApart (f.marks ++ top)
   unfolding top
   marks_apart = pairs_all MarksApart (f.marks ++ top)
       (pairs_append MarksApart f.marks top (pairs_from MarksApart f.marks lawful.marks_apart)
-      (pairs_flat_range MarksApart (λ n. column_marks b (rows_of f b) row (length parts) (home y n) (y.stub n) n (slice_get parts n)) 0 (length parts)
       (pairs_flat_range MarksApart
       (λ n. column_marks b (rows_of f b) row (length parts) (home y n) (y.stub n) n (slice_get parts n)) 0
       (length parts)

@@ -73,7 +73,6 @@ module _ (X : Type 0) (b : ℕ) (stub : ℕ → Bool) (parts : List Part) where
       → Member (net_ties X b n (stub n) q) t → NetTie X b parts stub t
   of_part n None h t m = absurd m
   of_part n (Some Input) h t m = elim (cases_Bool (stub n)) [
-    | inl e ↦ elim (subst (λ z. Member (cond z (tap L (left (place b n)) (row (place b n)) ∷ []) []) t) e m) [ inl q ↦ subst (NetTie X b parts stub) q (stub_own n h e) | inr q ↦ absurd q ]
     | inl e ↦ elim (subst (λ z. Member (cond z (tap L (left (place b n)) (row (place b n)) ∷ []) []) t) e m)
         [ inl q ↦ subst (NetTie X b parts stub) q (stub_own n h e) | inr q ↦ absurd q ]
     | inr e ↦ absurd (subst (λ z. Member (cond z (tap L (left (place b n)) (row (place b n)) ∷ []) []) t) e m)
@@ -103,7 +102,6 @@ module _ (X : Type 0) (b : ℕ) (stub : ℕ → Bool) (parts : List Part) where
   here : (n : ℕ) (q : Part) (t : Tie (Wire X)) → slice_get parts n ≡ Some q
       → Member (net_ties X b n (stub n) (Some q)) t → Member (band_ties X b stub parts) t
   here n q t h m =
-      flat_member (λ k. net_ties X b k (stub k) (slice_get parts k)) (range_with_len 0 (length parts)) n t (range_has 0 (length parts) n (omega arith) (let w = slice_get_within parts n q h in omega arith))
       flat_member (λ k. net_ties X b k (stub k) (slice_get parts k)) (range_with_len 0 (length parts)) n t
       (range_has 0 (length parts) n (omega arith) (let w = slice_get_within parts n q h in omega arith))
       (subst (λ z. Member (net_ties X b n (stub n) z) t) (sym h) m)
@@ -119,7 +117,6 @@ module _ (X : Type 0) (b : ℕ) (stub : ℕ → Bool) (parts : List Part) where
   tie_listed t (gate_ground n ins h) = here n (Gate ins) t h (inr (inl refl))
   tie_listed t (gate_pull n ins h) = here n (Gate ins) t h (inr (inr (inl refl)))
   tie_listed t (gate_input n ins i h c) =
-      here n (Gate ins) t h (inr (inr (inr (map_member (λ k. tran (row (place b k)) (left (place b n)) (right (place b n))) (inputs_of ins) i.0
       here n (Gate ins) t h
       (inr (inr (inr
       (map_member (λ k. tran (row (place b k)) (left (place b n)) (right (place b n))) (inputs_of ins) i.0

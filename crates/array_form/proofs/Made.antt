@@ -41,7 +41,6 @@ pairs_map inside P Q to [] apart i j d lt h = absurd (omega arith)
 pairs_map inside P Q to (x ∷ xs) apart i j d lt h =
     let jb : j < length (x ∷ xs) = subst (λ n. j < n) (length_map inside (x ∷ xs)) h in
     subst (λ z. Q z (get_or (map inside (x ∷ xs)) j d)) (sym (get_map inside (x ∷ xs) i x d (omega arith)))
-    (subst (λ z. Q (inside (get_or (x ∷ xs) i x)) z) (sym (get_map inside (x ∷ xs) j x d jb)) (to (get_or (x ∷ xs) i x) (get_or (x ∷ xs) j x) (apart i j x lt jb)))
     (subst (λ z. Q (inside (get_or (x ∷ xs) i x)) z) (sym (get_map inside (x ∷ xs) j x d jb))
     (to (get_or (x ∷ xs) i x) (get_or (x ∷ xs) j x) (apart i j x lt jb)))
 
@@ -164,18 +163,6 @@ module _ (X : Type 0) (y : Layout X) (rows columns : List (Wire X)) (ties : List
       let k = row_net w (contains_member rows w a) in
       one_name (net_of X y) NetApart rows rows_apart w v (contains_member rows w a) (contains_member rows v b) e
       (λ h. no_segment_apart f lawful k.0 k.1 (subst (λ n. NetApart n n) k.2 h))
-  one w v (inl a) (inr (inl b)) e = let k = row_net w (contains_member rows w a) in let j = column_net v (contains_member columns v b) in absurd (not_both k.0 j.0 (net_of X y v) (sym e ∙ k.2) j.2)
-  one w v (inl a) (inr (inr (inl q))) e = let k = row_net w (contains_member rows w a) in absurd (cc (sym k.2 ∙ (e ∙ ap (net_of X y) q)))
-  one w v (inl a) (inr (inr (inr q))) e = let k = row_net w (contains_member rows w a) in absurd (cc (sym k.2 ∙ (e ∙ ap (net_of X y) q)))
-  one w v (inr (inl a)) (inl b) e = let k = column_net w (contains_member columns w a) in let j = row_net v (contains_member rows v b) in absurd (not_both j.0 k.0 (net_of X y v) j.2 (sym e ∙ k.2))
-  one w v (inr (inl a)) (inr (inl b)) e =
-      let k = column_net w (contains_member columns w a) in
-      one_name (net_of X y) NetApart columns columns_apart w v (contains_member columns w a) (contains_member columns v b) e
-      (λ h. no_line_apart f lawful k.0 k.1 (subst (λ n. NetApart n n) k.2 h))
-  one w v (inr (inl a)) (inr (inr (inl q))) e = let k = column_net w (contains_member columns w a) in absurd (cc (sym k.2 ∙ (e ∙ ap (net_of X y) q)))
-  one w v (inr (inl a)) (inr (inr (inr q))) e = let k = column_net w (contains_member columns w a) in absurd (cc (sym k.2 ∙ (e ∙ ap (net_of X y) q)))
-  one w v (inr (inr (inl q))) (inl b) e = let k = row_net v (contains_member rows v b) in absurd (cc (sym k.2 ∙ (sym e ∙ ap (net_of X y) q)))
-  one w v (inr (inr (inl q))) (inr (inl b)) e = let k = column_net v (contains_member columns v b) in absurd (cc (sym k.2 ∙ (sym e ∙ ap (net_of X y) q)))
   one w v (inl a) (inr (inl b)) e =
       let k = row_net w (contains_member rows w a) in let j = column_net v (contains_member columns v b) in
       absurd (not_both k.0 j.0 (net_of X y v) (sym e ∙ k.2) j.2)
@@ -186,8 +173,11 @@ module _ (X : Type 0) (y : Layout X) (rows columns : List (Wire X)) (ties : List
   one w v (inr (inl a)) (inl b) e =
       let k = column_net w (contains_member columns w a) in let j = row_net v (contains_member rows v b) in
       absurd (not_both j.0 k.0 (net_of X y v) j.2 (sym e ∙ k.2))
+  one w v (inr (inl a)) (inr (inl b)) e =
+      let k = column_net w (contains_member columns w a) in
       one_name (net_of X y) NetApart columns columns_apart w v (contains_member columns w a)
       (contains_member columns v b) e
+      (λ h. no_line_apart f lawful k.0 k.1 (subst (λ n. NetApart n n) k.2 h))
   one w v (inr (inl a)) (inr (inr (inl q))) e =
       let k = column_net w (contains_member columns w a) in absurd (cc (sym k.2 ∙ (e ∙ ap (net_of X y) q)))
   one w v (inr (inl a)) (inr (inr (inr q))) e =
@@ -248,8 +238,6 @@ module _ (X : Type 0) (y : Layout X) (rows columns : List (Wire X)) (ties : List
         let k = member_map (mark_of X y) ties m (contains_member (map (mark_of X y) ties) m ((made.marks m).0 i)) in
         let t = tie_in k.0 (member_contains ties k.0 k.1) in
         (k.0, t, subst (λ z. IsAt (Wire X) f (net_of X y) z k.0) k.2 (at_mark k.0 t));
-    tied = λ t i.
-        (mark_of X y t, (made.marks (mark_of X y t)).1 (member_contains (map (mark_of X y) ties) (mark_of X y t) (map_member (mark_of X y) ties t (contains_member ties t (tie_listed t i)))), at_mark t i);
     tied = λ t i. (
       mark_of X y t,
       (made.marks (mark_of X y t)).1

@@ -57,8 +57,6 @@ module _ (W : Type 0) (In : W → Type 0) (T : Tie W → Type 0) (f : Plan) (law
 
           net_is : k ≡ net_of b
           net_is = elim h.other [
-            | inl g ↦ elim r.2 [ inl g2 ↦ g.1 ∙ sym g2.1 | inr s2 ↦ absurd (no_segment f lawful h.mark (net_of b) s2 g.0) ]
-            | inr s1 ↦ elim r.2 [ inl g2 ↦ absurd (no_segment f lawful h.mark k s1 g2.0) | inr s2 ↦ segment_once f lawful h.mark k (net_of b) s1 s2 ]
             | inl g ↦ elim r.2
                 [ inl g2 ↦ g.1 ∙ sym g2.1 | inr s2 ↦ absurd (no_segment f lawful h.mark (net_of b) s2 g.0) ]
             | inr s1 ↦ elim r.2 [

@@ -18,8 +18,6 @@ pub apart_once : {A : Type 0} (R : A → A → Type 0) (xs : List A) → AllPair
 apart_once R xs apart x y (i, ib, ie) (j, jb, je) first second =
     elim (cases_order i j) [
       | inl e ↦ sym ie ∙ (get_or_default xs i x y ib ∙ (ap (λ k. get_or xs k y) e ∙ je))
-      | inr (inl lt) ↦ absurd (first (subst (λ a. R a y) (get_or_default xs i y x ib ∙ ie) (subst (R (get_or xs i y)) je (apart i j y lt jb))))
-      | inr (inr lt) ↦ absurd (second (subst (λ a. R a x) (get_or_default xs j x y jb ∙ je) (subst (R (get_or xs j x)) ie (apart j i x lt ib))))
       | inr (inl lt) ↦ absurd
           (first (subst (λ a. R a y) (get_or_default xs i y x ib ∙ ie)
           (subst (R (get_or xs i y)) je (apart i j y lt jb))))

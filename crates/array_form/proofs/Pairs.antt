@@ -51,7 +51,6 @@ pub pairs_append : {A : Type 0} (P : A → A → Type 0) (xs ys : List A) → Pa
     → ((x y : A) → Member xs x → Member ys y → P x y) → Pairs P (xs ++ ys)
 pairs_append P [] ys h k c = k
 pairs_append P (x ∷ xs) ys h k c = (
-  each_from (P x) (xs ++ ys) (λ z m. elim (member_append xs ys z m) [ inl i ↦ each_at (P x) xs h.0 z i | inr i ↦ c x z (inl refl) i ]),
   each_from (P x) (xs ++ ys)
       (λ z m. elim (member_append xs ys z m) [ inl i ↦ each_at (P x) xs h.0 z i | inr i ↦ c x z (inl refl) i ]),
   pairs_append P xs ys h.1 k (λ z w i j. c z w (inr i) j),
@@ -62,7 +61,6 @@ pub pairs_map_range : {A : Type 0} (P : A → A → Type 0) (g : ℕ → A) (a n
 pairs_map_range P g a zero h = tt
 pairs_map_range P g a (suc n) h = (
   each_from (P (g a)) (map g (range_with_len (a + 1) n))
-      (λ z m. let w = member_map g (range_with_len (a + 1) n) z m in let r = in_range (a + 1) n w.0 w.1 in let r0 = r.0 in let r1 = r.1 in subst (P (g a)) w.2 (h a w.0 (omega arith) (omega arith) (omega arith))),
       (λ z m. let w = member_map g (range_with_len (a + 1) n) z m in let r = in_range (a + 1) n w.0 w.1 in
       let r0 = r.0 in let r1 = r.1 in subst (P (g a)) w.2 (h a w.0 (omega arith) (omega arith) (omega arith))),
   pairs_map_range P g (a + 1) n (λ i j lo lt hi. h i j (omega arith) lt (omega arith)),
@@ -75,8 +73,6 @@ pub pairs_flat_range : {A : Type 0} (P : A → A → Type 0) (g : ℕ → List A
 pairs_flat_range P g a zero one cross = tt
 pairs_flat_range P g a (suc n) one cross =
     pairs_append P (g a) (flat_map g (range_with_len (a + 1) n)) (one a (omega arith) (omega arith))
-    (pairs_flat_range P g (a + 1) n (λ i lo hi. one i (omega arith) (omega arith)) (λ i j x y lo lt hi m k. cross i j x y (omega arith) lt (omega arith) m k))
-    (λ x y m k. let w = member_flat g (range_with_len (a + 1) n) y k in let r = in_range (a + 1) n w.0 w.1 in let r0 = r.0 in let r1 = r.1 in cross a w.0 x y (omega arith) (omega arith) (omega arith) m w.2)
     (pairs_flat_range P g (a + 1) n (λ i lo hi. one i (omega arith) (omega arith))
     (λ i j x y lo lt hi m k. cross i j x y (omega arith) lt (omega arith) m k))
     (λ x y m k. let w = member_flat g (range_with_len (a + 1) n) y k in let r = in_range (a + 1) n w.0 w.1 in
@@ -87,8 +83,6 @@ pub pairs_filter : {A : Type 0} (P : A → A → Type 0) (test : A → Bool) (xs
     → Pairs P (filter test xs)
 pairs_filter P test [] h = tt
 pairs_filter P test (x ∷ xs) h = elim (cases_Bool (test x)) [
-  | inl e ↦ subst (λ t. Pairs P (cond t (x ∷ filter test xs) (filter test xs))) (sym e)
-      (each_from (P x) (filter test xs) (λ z m. each_at (P x) xs h.0 z (member_filter test xs z m).0), pairs_filter P test xs h.1)
   | inl e ↦ subst (λ t. Pairs P (cond t (x ∷ filter test xs) (filter test xs))) (sym e) (
     each_from (P x) (filter test xs) (λ z m. each_at (P x) xs h.0 z (member_filter test xs z m).0),
     pairs_filter P test xs h.1,

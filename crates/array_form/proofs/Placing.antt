@@ -62,10 +62,8 @@ module _ (X : Type 0) (nets : Nets) (root_of : Spot → Root) (rank : Spot → �
   net_switch t (stub_own n e s) = no_switch
   net_switch t (gate_pull n ins e) = up_of (place b n) (map (spot b) ins) (elements.gates n ins e) (gate_left n ins e)
   net_switch t (gate_input n ins i e c) =
-      down_of (place b n) (spot b i) (map (spot b) ins) (elements.gates n ins e) (member_contains (map (spot b) ins) (spot b i) (map_member (spot b) ins i (contains_member ins i c)))
-      refl (gate_left n ins e) (gate_right n ins e)
-  net_switch t (latch_phase n p d e) = pass_of (place b n) (spot b d) p (elements.latches n p d e) refl (latch_left n p d e) (latch_right n p d e)
       down_of (place b n) (spot b i) (map (spot b) ins) (elements.gates n ins e)
       (member_contains (map (spot b) ins) (spot b i) (map_member (spot b) ins i (contains_member ins i c)))
+      refl (gate_left n ins e) (gate_right n ins e)
   net_switch t (latch_phase n p d e) =
       pass_of (place b n) (spot b d) p (elements.latches n p d e) refl (latch_left n p d e) (latch_right n p d e)

@@ -55,7 +55,6 @@ module _ (y : Columns) (parts : List Part) where
   -- rows below a count, and apart where spans meet
   pub tracks_from : (row : ℕ → ℕ) (rows : ℕ) → ((k : ℕ) → k < length parts + 3 → row k < rows)
       → ((i j : ℕ) → i < length parts + 3 → j < length parts + 3 → i ≢ j → row i ≡ row j
-      → (greatest (cols_in y parts i) + 1 < least (cols_in y parts j)) ⊎ (greatest (cols_in y parts j) + 1 < least (cols_in y parts i)))
       → (greatest (cols_in y parts i) + 1 < least (cols_in y parts j))
       ⊎ (greatest (cols_in y parts j) + 1 < least (cols_in y parts i)))
       → AreTracks y parts (cols_in y parts) row rows

@@ -36,8 +36,14 @@ placed semi offset [] = refl
 placed semi offset (c ∷ cs) = ap (λ xs. c ∷ xs) (placed semi (offset + (length (text_of c) + length semi)) cs)
 
 line_feed : IsBlank 10
-line_feed = ((λ h. omega arith), (λ h. omega arith), (λ h. omega arith), (λ h. omega arith), (λ h. omega arith),
-    (λ h. omega arith))
+line_feed = (
+  (λ h. omega arith),
+  (λ h. omega arith),
+  (λ h. omega arith),
+  (λ h. omega arith),
+  (λ h. omega arith),
+  (λ h. omega arith),
+)
 
 feed : Blanks (codes "\n")
 feed = All-cons IsBlank 10 [] line_feed (All-nil IsBlank)
@@ -119,6 +125,8 @@ module _
         let less = same.cost in
         let walk = short_walk (length rects) (length labels) (cost r) p.width few plan.few_labels
         (omega (arith, light, less)) narrow in
-        let chip = composed r rects labels commands same plan.planned emitted walk in
-        (chip.0, few_shapes (length (chip.0.draws).shapes) (length rects) (cost r)
-            (weight p) p.width chip.1 few same.cost)
+        let chip = composed r rects labels commands same plan.planned emitted walk in (
+          chip.0,
+          few_shapes (length (chip.0.draws).shapes) (length rects) (cost r)
+              (weight p) p.width chip.1 few same.cost,
+        )

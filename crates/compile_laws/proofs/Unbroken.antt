@@ -14,7 +14,7 @@ keeps_33 p unbroken at e = unbroken 33 at (inr (inr (inr
 pub keeps_36 : (p : Program) → IsUnbroken p → (at : Place) → ¬ E36 p at
 keeps_36 p unbroken at e =
     unbroken 36 at (inr (inr (inr (inr (inr (inr (inr (inr
-        (inr (inr (inr (inr (inr (inr (inr (inr (inl (refl, e))))))))))))))))))
+    (inr (inr (inr (inr (inr (inr (inr (inr (inl (refl, e))))))))))))))))))
 
 pub small_weight : (p : Program) → IsUnbroken p → weight p ≤ 1024
 small_weight p h = elim (cases_lt 1024 (weight p)) [

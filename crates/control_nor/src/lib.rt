@@ -1,8 +1,6 @@
-//! Bits of guarded transfers as NOR gates and latches.
+//! Bits of guarded transfers as NOR gates and latches: what it means that nets stand for bits, and what these nets give.
 #![tactic(auto)]
 
-mod lower;
 mod names;
 
-pub use lower::lower_bits;
 pub use names::{Names, Task};

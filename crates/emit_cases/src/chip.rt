@@ -1,10 +1,9 @@
 //! A chip of the table.
 
-ghost use Rattle.std.specs.Prelude.{◌≡◌, ◌≢◌, ◌⊎◌, ◌↔◌, ◌≤◌, ◌<◌, ◌+◌, ◌++◌, ◌∷◌, [], All, IfOk, IfSome, IsTrue, length};
+ghost use Rattle.std.specs.Prelude.{◌≡◌, ◌≢◌, ◌⊎◌, ◌↔◌, ◌≤◌, ◌<◌, All, IfOk, IfSome, IsTrue};
 ghost use Rattle.cif_form.specs.Fits.{IsSmall};
 ghost use Rattle.cif_form.specs.Labels.{IsSpace};
 ghost use Rattle.fabric.specs.Even.{IsEven};
-ghost use Rattle.fabric.specs.Plan.{empty};
 ghost use Rattle.fabric.specs.Shape.{shape};
 ghost use Rattle.cif_emit.specs.Emittable.{IsOnLambda, IsOnGrid, IsPlainLabel, IsEmittable, chip_rects};
 

@@ -202,7 +202,6 @@ module _ (p : DataPath) (flat : List Part) (number : Spot → NetId)
       let at : slice_get rows i ≡ Some row = slice_get-get_or rows i [] (omega (arith, w, size)) in
       let h = are i pad id row is_pad is_id at in (
         map (spot 0) row,
-        contains_at (rows_of rows) i (map (spot 0) row) (at_mapped (λ (row : List NetId). map (spot 0) row) rows i row at),
         contains_at (rows_of rows) i (map (spot 0) row) (at_mapped
             (λ (row : List NetId). map (spot 0) row) rows i row at),
         contains_at (map (spot 0) row) j (spot 0 (number (pad_spot pad id j)))

@@ -161,7 +161,6 @@ module _ (p : DataPath) where
           own ∙ number ∙ sym (kept m (let b = joined_before s m q in omega (arith, b, here)))
       stands Low q parts number = (
         record { 0 = length flat },
-        ap (λ (x : NetId). slice_get new x.0) (own ∙ number) ∙ ap (λ (xs : List Part). slice_get xs (length flat + 1)) parts
         ap (λ (x : NetId). slice_get new x.0) (own ∙ number)
             ∙ ap (λ (xs : List Part). slice_get xs (length flat + 1)) parts
             ∙ behind flat (Gate []) (Gate (record { 0 = length flat } ∷ [])),

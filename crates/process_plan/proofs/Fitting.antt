@@ -249,7 +249,6 @@ module _ {p : Program} {r : Rtl} {roles : List Role} {enables : List (Option Ena
         sym (name_sorted p.defs x d at_d ∙ cell_sort p.defs (index_of p.defs x) d.what z made),
       )) in
       let given : is_input d.what ≡ false = no_input (is_input d.what) (λ h.
-      settable at (f, y, x, e, index_of p.defs x, d, at_f, kind, at_d, named p.defs x d at_d.0 at_d.1, unset_input d.what h)) in (
       settable at (
         f,
         y,
