@@ -31,7 +31,8 @@ use Rattle.slice_form.specs.Slices.{columns_of, control_columns, across_of, grou
 use Rattle.slice_form.proofs.Crossing as crossing
 use Rattle.slice_form.proofs.Flat.{flat, flat_is_path, flat_draws}
 use Rattle.slice_form.proofs.FlatColumns.{columns_same}
-use Rattle.flat_chip.specs.Flat.{empty, phase_line, phase_tap, of_phases, with_phases, DrawsFlat, FlatChipsDraw}
+use Rattle.flat_chip.specs.Flat.{empty, phase_line, phase_tap, of_phases, with_phases, DrawsFlat}
+use Rattle.flat_chip.specs.Laid.{FlatChipsDraw}
 
 map_append : {A B : Type 0} (g : A → B) (xs ys : List A) → map g (xs ++ ys) ≡ map g xs ++ map g ys
 map_append g [] ys = refl
@@ -124,18 +125,22 @@ fed_by parts fed n ph e =
     (n, slice_get_within parts n (Latch ph None) e, get_or_from_slice_get parts n (Latch ph None) (Latch ph None) e))
 
 pub flat_chips_draw : FlatChipsDraw
-flat_chips_draw parts is_net is_fed band is_flat columns rows new _ at =
-    let same : control_columns (flat parts) ≡ columns_in band parts = columns_same band parts is_flat.first is_flat.taps in
+flat_chips_draw parts is_net is_fed f laid =
+    let band : Band = laid.band in
+    let at = laid.at in
+    let same : control_columns (flat parts) ≡ columns_in band parts =
+    columns_same band parts (laid.is_flat).first (laid.is_flat).taps in
     let cols : ℕ → List ℕ = cols_in (columns_in band parts) parts in
     let row : ℕ → ℕ = slice_index (at.tracks).row in
     let tracks : AreTracks (control_columns (flat parts)) parts cols row (at.tracks).rows =
     subst (λ y. AreTracks y parts cols row (at.tracks).rows) (sym same) at.are_tracks in
-    let eq : new ≡ with_net (empty columns rows) 0 (control_columns (flat parts)) parts cols row =
-    at.after ∙ ap (λ b. with_net (empty columns rows) b (columns_in band parts) parts cols row) is_flat.index
-    ∙ ap (λ y. with_net (empty columns rows) 0 y parts cols row) (sym same) in
+    let eq : laid.new ≡ with_net (empty laid.columns laid.rows) 0 (control_columns (flat parts)) parts cols row =
+    at.after ∙ ap (λ b. with_net (empty laid.columns laid.rows) b (columns_in band parts) parts cols row) (laid.is_flat).index
+    ∙ ap (λ y. with_net (empty laid.columns laid.rows) 0 y parts cols row) (sym same) in
+    let is : f ≡ with_phases (with_net (empty laid.columns laid.rows) 0 (control_columns (flat parts)) parts cols row) row (length parts) =
+    laid.is ∙ ap (λ plan. with_phases plan row (length parts)) eq in
     subst
-    (λ plan. IsFabric (with_phases plan row (length parts)) → (number : Net → ℕ) (network : Network)
-    → AreSwitches (with_phases plan row (length parts)) number network
+    (λ plan. IsFabric plan → (number : Net → ℕ) (network : Network) → AreSwitches plan number network
     → (node : Point → ℕ) × DrawsFlat band parts row number network node)
-    (sym eq)
-    (draws parts is_net (fed_by parts is_fed) columns rows cols row (at.tracks).rows tracks band same refl)
+    (sym is)
+    (draws parts is_net (fed_by parts is_fed) laid.columns laid.rows cols row (at.tracks).rows tracks band same refl)

@@ -52,7 +52,7 @@ with_phases f row nets = with_added f [] (of_phases phase_line) (of_phases (phas
 abbrev pub net_segment : Band → List Part → (ℕ → ℕ) → ℕ → Net
 net_segment band parts row n = segment (band_segment 0 (cols_in (columns_in band parts) parts) row n)
 
--- which net of the fabric is the node of a net, of a phase, of ground and of power
+-- The network draws the net; the node of a net is that of its segment, and the node of a phase that of its line.
 pub record DrawsFlat (band : Band) (parts : List Part) (row : ℕ → ℕ) (number : Net → ℕ) (network : Network)
     (node : Point → ℕ) : Type 0 where
   pub draws : Draws network.channels (nets_of parts) node
@@ -61,16 +61,6 @@ pub record DrawsFlat (band : Band) (parts : List Part) (row : ℕ → ℕ) (numb
   pub power_is : node Power ≡ number power
   pub phases : (ph : Phase) → node (OfPhase ph) ≡ number (line (phase_line ph))
   pub nets : (n : ℕ) → n < length parts → node (OfNet (place 0 n)) ≡ number (net_segment band parts row n)
-
--- The fabric of a net in one band, with the lines of the phases, draws the net.
-abbrev pub FlatChipsDraw : Type 0
-FlatChipsDraw =
-    (parts : List Part) → IsNet parts → IsFed parts → (band : Band) → IsFlatBand band
-    → (columns rows : ℕ) (new : Plan) (placed : Placed) (at : IsPlaced band parts (empty columns rows) new placed)
-    → IsFabric (with_phases new (slice_index (at.tracks).row) (length parts))
-    → (number : Net → ℕ) (network : Network)
-    → AreSwitches (with_phases new (slice_index (at.tracks).row) (length parts)) number network
-    → (node : Point → ℕ) × DrawsFlat band parts (slice_index (at.tracks).row) number network node
 
 -- The lines of the phases may be added to a fabric of one band in which a net was placed, behind the columns that they
 -- take.
