@@ -8,3 +8,4 @@ pub mod Places
 pub mod Theorem
 pub mod Counted
 pub mod Even
+pub mod Labelled

@@ -1,0 +1,17 @@
+pub mod Members
+pub mod Once
+pub mod Naming
+pub mod Drawn
+pub mod Made
+pub mod Listing
+pub mod Homes
+pub mod Pairs
+pub mod Laid
+pub mod Bands
+pub mod Counting
+pub mod Ends
+pub mod Added
+pub mod Room
+pub mod Tracking
+pub mod Rows
+pub mod Placing

@@ -1,0 +1,314 @@
+-- The walk of a chip's commands: it comes to its end, or breaks the rule of the count.
+use Rattle.std.proofs.Common.{ℕ, zero, suc, ◌≡◌, ◌+◌, ◌<◌, ◌⊎◌, inl, inr, refl, sym, ap, subst, arith, List, [], ◌∷◌}
+use Rattle.std.proofs.Common.{◌++◌, map, Option, Some, None, All}
+use Rattle.std.specs.Prelude.{ℤ, pos, Contains}
+use Rattle.std.proofs.lemmas.Int.{ints}
+use Rattle.std.proofs.lemmas.Bool.{cases_lt}
+use Rattle.std.proofs.lemmas.List.Elements.{All-nil, All-cons, All-head, All-tail}
+use Rattle.lam_geom.specs.declared.layer.Layer.{Layer}
+use Rattle.lam_geom.specs.declared.layer.Layer.TheVariants.{ND}
+use Rattle.lam_geom.specs.declared.rect.Rect.{Rect}
+use Rattle.lam_geom.specs.declared.label.FlatLabel.{FlatLabel}
+use Rattle.lam_geom.specs.Moves.{IsNearRect}
+use Rattle.cif_form.specs.declared.command.Command.{Command}
+use Rattle.cif_form.specs.declared.command.Command.TheVariants as commands
+use Rattle.cif_form.specs.declared.command.Command.TheVariants.{Start, Finish, Call, User}
+use Rattle.cif_form.specs.declared.command.Item.{Item}
+use Rattle.cif_form.specs.Place.{IsScale, layer_name}
+use Rattle.cif_form.specs.Expansion.{Definition, Stands, item_at}
+use Rattle.cif_form.specs.Walk.{State, Frame, Visit, Visits, Breaks, Steps, DrawRule, draw_rule_number, walk_limit}
+use Rattle.cif_form.specs.Walk.{Walks, WalkEnd, start, top_frame, IsFarShape}
+use Rattle.cif_form.specs.Walk.DrawRule.{F1, F2, F3, F4, F5, F6, F7, F8, F9, F10}
+use Rattle.cif_form.specs.Walk.WalkEnd.{Whole, Broken}
+use Rattle.fabric.specs.declared.chip.ChipLabel.{ChipLabel}
+use Rattle.cif_emit.specs.Emittable.{IsPlainLabel}
+use Rattle.cif_emit.specs.Commands.{box_of, label_of, label_words}
+use Rattle.cif_emit.proofs.Offsets.{next, laid}
+use Rattle.cif_emit.proofs.Painted.{Paints, IsBoxed}
+use Rattle.cif_emit.proofs.Edges.{half_lambda, box_edges, box_near}
+use Rattle.cif_emit.proofs.Words.{flat_at, words_are_label}
+use Rattle.cif_emit.proofs.Expanded.{definition, file_of, file_laid, after_at, boxes_inside}
+
+-- the walk ends whole, or with the rule of the count
+pub record Ends (s : State) : Type 0 where
+  pub shapes : List Rect
+  pub labels : List FlatLabel
+  pub end : WalkEnd
+  pub walks : Walks s shapes labels end
+  pub fine : (end ≡ Whole) ⊎ ((o : ℕ) × (end ≡ Broken F7 o))
+
+-- the rule is that of the count
+abbrev OnlyCount : Visit → Type 0
+OnlyCount v = (rule : DrawRule) → Breaks v rule → rule ≡ F7
+
+-- ---- a step
+
+module _ (s : State) (v : Visit) (qs : List Rect) (ms : List FlatLabel) (t : State) (at : Visits s v)
+    (only : OnlyCount v) where
+  stops : Breaks v F7 → Ends s
+  stops b = record {
+    shapes = [];
+    labels = [];
+    end = Broken F7 v.item.offset;
+    walks = Walks.broken v F7 at (b, λ q less broken. not_less q (only q broken) less);
+    fine = inr (v.item.offset, refl);
+  }
+    where
+      not_less : (q : DrawRule) → q ≡ F7 → draw_rule_number q < draw_rule_number F7 → ⊥
+      not_less q e h = let k : draw_rule_number q ≡ 7 = ap draw_rule_number e in omega arith
+
+  goes_on : ¬ Breaks v F7 → Steps v qs ms t → Ends t → Ends s
+  goes_on few steps e = record {
+    shapes = qs ++ e.shapes;
+    labels = ms ++ e.labels;
+    end = e.end;
+    walks = Walks.step v qs ms t at (λ rule b. few (subst (Breaks v) (only rule b) b)) steps e.walks;
+    fine = e.fine;
+  }
+
+  goes : (Breaks v F7 ⊎ ¬ Breaks v F7) → Steps v qs ms t → Ends t → Ends s
+  goes (inl b) steps e = stops b
+  goes (inr n) steps e = goes_on n steps e
+
+decide : (m n : ℕ) → (m < n) ⊎ ¬ (m < n)
+decide m n = elim (cases_lt m n) [ inl h ↦ inl h | inr h ↦ inr (λ k. omega arith) ]
+
+-- ---- in the symbol
+
+-- in the called symbol, where this layer is set
+abbrev inner_frame : ℤ → Option Layer → List Item → Frame
+inner_frame number l items = record {
+  symbol = Some number;
+  scale = half_lambda;
+  layer = l;
+  place = λ r. r;
+  left = items;
+}
+
+abbrev inner : List Definition → Frame → ℤ → Option Layer → ℕ → List Item → State
+inner ds outer number l k items =
+    record { definitions = ds; count = k; frames = inner_frame number l items ∷ outer ∷ [] }
+
+module _ (ds : List Definition) (outer : Frame) (number : ℤ) where
+  abbrev visit : Option Layer → ℕ → Item → List Item → Visit
+  visit l k i items = record {
+    definitions = ds;
+    count = k;
+    frame = inner_frame number l (i ∷ items);
+    outer = outer ∷ [];
+    item = i;
+    after = items;
+  }
+
+  visits : (l : Option Layer) (k : ℕ) (i : Item) (items : List Item)
+      → Visits (inner ds outer number l k (i ∷ items)) (visit l k i items)
+  visits l k i items = record { definitions = refl; count = refl; frames = refl; left = refl }
+
+  layer_only : (l : Option Layer) (k o : ℕ) (m : Layer) (items : List Item)
+      → OnlyCount (visit l k (item_at o (commands.Layer (layer_name m))) items)
+  layer_only l k o m items F1 b = absurd b
+  layer_only l k o m items F2 b = absurd b
+  layer_only l k o m items F3 b = absurd b
+  layer_only l k o m items F4 b = absurd b
+  layer_only l k o m items F5 b = absurd b
+  layer_only l k o m items F6 b = absurd b
+  layer_only l k o m items F7 b = refl
+  layer_only l k o m items F8 b = absurd b
+  layer_only l k o m items F9 b = absurd b
+  layer_only l k o m items F10 b = absurd (b m refl)
+
+  layer_ends : (l : Option Layer) (k o : ℕ) (m : Layer) (items : List Item)
+      → Ends (inner ds outer number (Some m) (k + 1) items)
+      → Ends (inner ds outer number l k (item_at o (commands.Layer (layer_name m)) ∷ items))
+  layer_ends l k o m items e =
+      let i : Item = item_at o (commands.Layer (layer_name m)) in
+      goes (inner ds outer number l k (i ∷ items)) (visit l k i items) [] []
+      (inner ds outer number (Some m) (k + 1) items)
+      (visits l k i items) (layer_only l k o m items) (decide walk_limit (k + 1)) (m, refl, refl, refl, refl) e
+
+  module _ (l : Layer) (r : Rect) (boxed : IsBoxed l r) (k o : ℕ) (items : List Item) where
+    abbrev box_visit : Visit
+    box_visit = visit (Some l) k (item_at o (box_of r)) items
+
+    not_far : ¬ IsFarShape box_visit
+    not_far (rs, edges, far) =
+        far (subst (All (λ q. IsNearRect q)) (sym edges.1)
+        (All-cons IsNearRect edges.0 [] (box_near r boxed.grid ND edges.0 (edges.0, refl, edges.2))
+        (All-nil IsNearRect)))
+
+    box_only : OnlyCount box_visit
+    box_only F1 b = absurd b
+    box_only F2 b = absurd b
+    box_only F3 b = absurd (b (inl (refl, λ e. omega (arith, ints))))
+    box_only F4 b = absurd (b (record r { layer = ND } ∷ [])
+        (box_edges r boxed.grid ND (record r { layer = ND }) refl refl refl refl refl))
+    box_only F5 b = absurd b
+    box_only F6 b = absurd b
+    box_only F7 b = refl
+    box_only F8 b = absurd (not_far b)
+    box_only F9 b = absurd (let e : ◌≡◌ {A = Option Layer} (Some l) None = b in cc)
+    box_only F10 b = absurd b
+
+    box_ends : Ends (inner ds outer number (Some l) (k + 1) items)
+        → Ends (inner ds outer number (Some l) k (item_at o (box_of r) ∷ items))
+    box_ends e =
+        goes (inner ds outer number (Some l) k (item_at o (box_of r) ∷ items)) box_visit (r ∷ []) []
+        (inner ds outer number (Some l) (k + 1) items)
+        (visits (Some l) k (item_at o (box_of r)) items) box_only (decide walk_limit (k + 1))
+        ((l, r ∷ [], refl, box_edges r boxed.grid l r boxed.layer refl refl refl refl, refl, refl), refl) e
+
+  -- behind the last command the walk goes on where the symbol was called
+  boxes_end : {l : Option Layer} {cs : List Command} {rs : List Rect} → Paints l cs rs → (at : ℕ → ℕ) (k : ℕ)
+      → ((n : ℕ) → Ends (record { definitions = ds; count = n; frames = outer ∷ [] }))
+      → Ends (inner ds outer number l k (laid at cs))
+  boxes_end {l} Paints.none at k e = record {
+    shapes = (e k).shapes;
+    labels = (e k).labels;
+    end = (e k).end;
+    walks = Walks.back (inner_frame number l []) (outer ∷ []) refl refl (e k).walks;
+    fine = (e k).fine;
+  }
+  boxes_end {l} (Paints.layer {cs = cs} m p) at k e =
+      layer_ends l k (at 0) m (laid (next at) cs) (boxes_end p (next at) (k + 1) e)
+  boxes_end (Paints.box {l = l} {cs = cs} r b p) at k e =
+      box_ends l r b k (at 0) (laid (next at) cs) (boxes_end p (next at) (k + 1) e)
+
+-- ---- at top level
+
+abbrev top : List Definition → ℕ → List Item → State
+top ds k items = record { definitions = ds; count = k; frames = top_frame items ∷ [] }
+
+abbrev top_visit : List Definition → ℕ → Item → List Item → Visit
+top_visit ds k i items = record {
+  definitions = ds;
+  count = k;
+  frame = top_frame (i ∷ items);
+  outer = [];
+  item = i;
+  after = items;
+}
+
+top_visits : (ds : List Definition) (k : ℕ) (i : Item) (items : List Item)
+    → Visits (top ds k (i ∷ items)) (top_visit ds k i items)
+top_visits ds k i items = record { definitions = refl; count = refl; frames = refl; left = refl }
+
+end_ends : (ds : List Definition) (k : ℕ) → Ends (top ds k [])
+end_ends ds k = record {
+  shapes = [];
+  labels = [];
+  end = Whole;
+  walks = Walks.back (top_frame []) [] refl refl (Walks.done refl);
+  fine = inl refl;
+}
+
+user_only : (ds : List Definition) (k o : ℕ) (words : List ℕ) (items : List Item)
+    → OnlyCount (top_visit ds k (item_at o (User 9 words)) items)
+user_only ds k o words items F1 b = absurd b
+user_only ds k o words items F2 b = absurd b
+user_only ds k o words items F3 b = absurd b
+user_only ds k o words items F4 b = absurd b
+user_only ds k o words items F5 b = absurd b
+user_only ds k o words items F6 b = absurd b
+user_only ds k o words items F7 b = refl
+user_only ds k o words items F8 b = absurd b
+user_only ds k o words items F9 b = absurd b
+user_only ds k o words items F10 b = absurd b
+
+labels_end : (ds : List Definition) (ls : List ChipLabel) → All IsPlainLabel ls → (at : ℕ → ℕ) (k : ℕ)
+    → Ends (top ds k (laid at (map label_of ls)))
+labels_end ds [] h at k = end_ends ds k
+labels_end ds (l ∷ ls) h at k =
+    let i : Item = item_at (at 0) (label_of l) in
+    let items : List Item = laid (next at) (map label_of ls) in
+    goes (top ds k (i ∷ items)) (top_visit ds k i items) [] (flat_at (at 0) l ∷ []) (top ds (k + 1) items)
+    (top_visits ds k i items) (user_only ds k (at 0) (label_words l) items) (decide walk_limit (k + 1)) (
+      inl (flat_at (at 0) l, (refl, refl, refl, words_are_label l (All-head IsPlainLabel l ls h) (at 0)), refl),
+      refl,
+      refl,
+    )
+    (labels_end ds ls (All-tail IsPlainLabel l ls h) (next at) (k + 1))
+
+-- ---- the call
+
+newest_is : (d e : Definition) (ds : List Definition) → Stands (d ∷ ds) d.number e → d ≡ e
+newest_is d e ds (Stands.newest h) = refl
+newest_is d e ds (Stands.older ne s) = absurd (ne refl)
+
+no_item : {A : Type 0} (x : A) → Contains [] x → ⊥
+no_item x (k, h, e) = omega arith
+
+-- the only frame is that of the top level, which has no symbol
+no_symbol : (n : ℤ) (f g : Frame) → Contains (f ∷ []) g → f.symbol ≡ None → g.symbol ≡ Some n → ⊥
+no_symbol n f g (zero, h, e) none some =
+    let k : f ≡ g = e in let s : f.symbol ≡ g.symbol = ap (λ (x : Frame). x.symbol) k in cc
+no_symbol n f g (suc k, h, e) none some = omega arith
+
+module _ (number : ℤ) (body : List Item) (k o : ℕ) (items : List Item) where
+  abbrev own : Definition
+  own = record { number = number; scale = half_lambda; body = body }
+
+  abbrev call_visit : Visit
+  call_visit = top_visit (own ∷ []) k (item_at o (Call number [])) items
+
+  call_only : OnlyCount call_visit
+  call_only F1 b = absurd (b own (Stands.newest refl))
+  call_only F2 b = absurd (no_symbol number (top_frame (item_at o (Call number []) ∷ items)) b.0 b.1 refl b.2)
+  call_only F3 b = absurd (no_item _ b.1)
+  call_only F4 (inl b) = absurd (b.2 (subst (λ d. IsScale d.scale) (newest_is own b.0 [] b.1)
+      (omega (arith, ints), omega (arith, ints))))
+  call_only F4 (inr b) = absurd (no_item _ b.1)
+  call_only F5 b = absurd b
+  call_only F6 b = absurd b
+  call_only F7 b = refl
+  call_only F8 b = absurd (no_item _ b.1)
+  call_only F9 b = absurd b
+  call_only F10 b = absurd b
+
+  call_ends : Ends (inner (own ∷ []) (top_frame items) number None (k + 1) body)
+      → Ends (top (own ∷ []) k (item_at o (Call number []) ∷ items))
+  call_ends e =
+      goes (top (own ∷ []) k (item_at o (Call number []) ∷ items)) call_visit [] []
+      (inner (own ∷ []) (top_frame items) number None (k + 1) body)
+      (top_visits (own ∷ []) k (item_at o (Call number [])) items) call_only (decide walk_limit (k + 1))
+      (own, [], Stands.newest refl, refl, refl, refl, refl) e
+
+-- ---- the file
+
+start_only : (o : ℕ) (number a b : ℤ) (items : List Item) → OnlyCount
+    (top_visit [] 0 (item_at o (Start number a b)) items)
+start_only o number a b items F1 h = absurd h
+start_only o number a b items F2 h = absurd h
+start_only o number a b items F3 h = absurd h
+start_only o number a b items F4 h = absurd h
+start_only o number a b items F5 h = absurd h
+start_only o number a b items F6 h = absurd h
+start_only o number a b items F7 h = refl
+start_only o number a b items F8 h = absurd h
+start_only o number a b items F9 h = absurd h
+start_only o number a b items F10 h = absurd h
+
+module _ (number : ℤ) (body : List Command) (rs : List Rect) (labels : List ChipLabel) (paints : Paints None body rs)
+    (plain : All IsPlainLabel labels) (at : ℕ → ℕ) where
+  abbrev rest_at : ℕ → ℕ
+  rest_at = after_at body at
+
+  abbrev rest : List Item
+  rest = laid (next (next rest_at)) (map label_of labels)
+
+  abbrev call : Item
+  call = item_at (next rest_at 0) (Call number [])
+
+  abbrev all : List Item
+  all = laid (next at) body ++ (item_at (rest_at 0) Finish ∷ (call ∷ rest))
+
+  pub file_ends : Ends (start (laid at (file_of number body labels)))
+  file_ends =
+      let d : Definition = definition number body (next at) in
+      let i : Item = item_at (at 0) (Start number (pos 125) (pos 1)) in
+      subst (λ is. Ends (start is)) (sym (file_laid number body labels at))
+      (goes (top [] 0 (i ∷ all)) (top_visit [] 0 i all) [] [] (top (d ∷ []) 0 (call ∷ rest))
+      (top_visits [] 0 i all) (start_only (at 0) number (pos 125) (pos 1) all) (decide walk_limit 0)
+      (laid (next at) body, call ∷ rest, rest_at 0, refl, boxes_inside paints (next at), refl, refl, refl, refl)
+      (call_ends number (laid (next at) body) 0 (next rest_at 0) rest
+      (boxes_end (d ∷ []) (top_frame rest) number paints (next at) 1
+      (λ n. labels_end (d ∷ []) labels plain (next (next rest_at)) n))))

@@ -1,0 +1,38 @@
+-- What the commands of a chip draw.
+use Rattle.std.specs.Prelude.{ℕ, ◌≡◌, ◌+◌, ◌≤◌, List, [], length, map, All, Some, None, false}
+use Rattle.lam_geom.specs.declared.rect.Rect.{Rect}
+use Rattle.lam_geom.specs.declared.label.FlatLabel.{FlatLabel}
+use Rattle.lam_geom.specs.Squares.{covered, SameSquares}
+use Rattle.cif_form.specs.declared.command.Command.{Command}
+use Rattle.cif_form.specs.declared.command.Item.{Item}
+use Rattle.cif_form.specs.Fits.{Fits}
+use Rattle.cif_form.specs.Scans.{Nests}
+use Rattle.cif_form.specs.Expansion.{Expands}
+use Rattle.cif_form.specs.Walk.{DrawRule, FileWalks, walk_limit}
+use Rattle.cif_form.specs.Walk.DrawRule.{F7}
+use Rattle.cif_form.specs.Walk.WalkEnd.{Whole, Broken}
+use Rattle.cif_form.specs.Counts.{FileCounts}
+use Rattle.fabric.specs.declared.chip.ChipLabel.{ChipLabel}
+use Rattle.fabric.specs.Labelled.{AreLabelsOf}
+
+-- The items draw the squares of the rectangles in no more shapes, and the labels. Their walk counts at most the
+-- rectangles, the labels and 65,536 more, and no rule but that of the count can be broken.
+pub record IsDrawnBy (rects : List Rect) (labels : List ChipLabel) (items : List Item) : Type 0 where
+  pub shapes : List Rect
+  pub flat : List FlatLabel
+  pub expands : Expands [] None items shapes flat
+  pub same : SameSquares (covered rects) (covered shapes)
+  pub few : length shapes ≤ length rects
+  pub labelled : AreLabelsOf labels flat
+  pub count : ℕ
+  pub counted : FileCounts items count
+  pub few_walked : count ≤ length rects + length labels + 65_536
+  pub walks : count ≤ walk_limit → FileWalks items shapes flat Whole
+  pub breaks : (rs : List Rect) (ls : List FlatLabel) (rule : DrawRule) (offset : ℕ)
+      → FileWalks items rs ls (Broken rule offset) → rule ≡ F7
+
+-- the commands have a text, may stand where they do, and draw the chip at whatever offsets they stand
+pub record IsEmitted (rects : List Rect) (labels : List ChipLabel) (commands : List Command) : Type 0 where
+  pub fit : All Fits commands
+  pub nest : Nests false commands
+  pub drawn : (items : List Item) → map (λ (i : Item). i.command) items ≡ commands → IsDrawnBy rects labels items

@@ -1,0 +1,3 @@
+pub mod Emittable
+pub mod Emitted
+pub mod Commands
