@@ -1,5 +1,6 @@
 -- How much one placed net adds.
-use Rattle.std.proofs.Common.{◌≡◌, ◌⊎◌, inl, inr, ℕ, zero, suc, ◌<◌, ◌≤◌, ◌+◌, ◌*◌, Option, Some, None, Bool, true, false, cond, List, [], ◌∷◌, ◌++◌, length, map, refl, sym, ◌∙◌, ap, subst, arith}
+use Rattle.std.proofs.Common.{◌≡◌, ◌⊎◌, inl, inr, ℕ, zero, suc, ◌<◌, ◌≤◌, ◌+◌, ◌*◌, Option, Some, None, Bool, true}
+use Rattle.std.proofs.Common.{false, cond, List, [], ◌∷◌, ◌++◌, length, map, refl, sym, ◌∙◌, ap, subst, arith}
 use Rattle.std.specs.Prelude.{slice_get, flat_map, filter, not, ◌==◌}
 use Rattle.std.specs.List.{range_with_len, sum_by}
 use Rattle.std.proofs.lemmas.Bool.{cases_Bool}
@@ -22,7 +23,8 @@ use Rattle.fabric.specs.Plan.{Plan, rows_of}
 use Rattle.fabric.specs.Room.{IsRoomy}
 use Rattle.std.proofs.lemmas.List.{length-append}
 use Rattle.array_form.specs.Place.{HasSpace}
-use Rattle.array_form.specs.Laying.{with_net, column_lines, band_lines, column_marks, band_marks, band_segments, band_segment}
+use Rattle.array_form.specs.Laying.{with_net, column_lines, band_lines, column_marks, band_marks, band_segments}
+use Rattle.array_form.specs.Laying.{band_segment}
 
 -- the sum of f from a on, n times
 abbrev pub sum_from : (ℕ → ℕ) → ℕ → ℕ → ℕ
@@ -30,7 +32,8 @@ sum_from f a zero = 0
 sum_from f a (suc n) = f a + sum_from f (a + 1) n
 
 -- THE list lemma: a bound for each number bounds what all put together weigh
-pub sum_flat : {A : Type 0} (size : A → ℕ) (g : ℕ → List A) (most : ℕ → ℕ) (a n : ℕ) → ((i : ℕ) → sum_by size (g i) ≤ most i) → sum_by size (flat_map g (range_with_len a n)) ≤ sum_from most a n
+pub sum_flat : {A : Type 0} (size : A → ℕ) (g : ℕ → List A) (most : ℕ → ℕ) (a n : ℕ)
+    → ((i : ℕ) → sum_by size (g i) ≤ most i) → sum_by size (flat_map g (range_with_len a n)) ≤ sum_from most a n
 sum_flat size g most a zero h = omega arith
 sum_flat size g most a (suc n) h =
     let i = sum_flat size g most (a + 1) n h in
@@ -44,9 +47,13 @@ shift f a (suc n) =
     ap (λ z. f z + sum_from f (a + 1 + 1) n) e ∙ ap (λ z. f (suc a) + z) (shift f (a + 1) n)
 
 -- a sum over numbers of parts is one over parts
-pub sum_parts : (size : Option Part → ℕ) (parts : List Part) → sum_from (λ i. size (slice_get parts i)) 0 (length parts) ≡ sum_by (λ q. size (Some q)) parts
+pub sum_parts : (size : Option Part → ℕ) (parts : List Part)
+    → sum_from (λ i. size (slice_get parts i)) 0 (length parts) ≡ sum_by (λ q. size (Some q)) parts
 sum_parts size [] = refl
-sum_parts size (q ∷ qs) = ap (λ z. size (Some q) + z) (subst (λ z. sum_from (λ i. size (slice_get (q ∷ qs) i)) z (length qs) ≡ sum_by (λ r. size (Some r)) qs) (let e : 0 + 1 ≡ 1 = omega arith in refl)
+sum_parts size (q ∷ qs) =
+    ap (λ z. size (Some q) + z)
+    (subst (λ z. sum_from (λ i. size (slice_get (q ∷ qs) i)) z (length qs) ≡ sum_by (λ r. size (Some r)) qs)
+    (let e : 0 + 1 ≡ 1 = omega arith in refl)
     (shift (λ i. size (slice_get (q ∷ qs) i)) 0 (length qs) ∙ sum_parts size qs))
     ∙ sym (sum_by-cons (λ r. size (Some r)) q qs)
 
@@ -62,7 +69,8 @@ filter_few : {A : Type 0} (test : A → Bool) (xs : List A) → length (filter t
 filter_few test [] = omega arith
 filter_few test (x ∷ xs) = let i = filter_few test xs in elim (cases_Bool (test x)) [
   | inl e ↦ subst (λ t. length (cond t (x ∷ filter test xs) (filter test xs)) ≤ length (x ∷ xs)) (sym e) (omega arith)
-  | inr e ↦ subst (λ t. length (cond t (x ∷ filter test xs) (filter test xs)) ≤ length (x ∷ xs)) (sym e) (omega arith)
+  | inr e ↦ subst (λ t. length (cond t (x ∷ filter test xs) (filter test xs)) ≤ length (x ∷ xs)) (sym e)
+      (omega arith)
 ]
 
 pub distinct_few : (xs : List ℕ) → length (distinct xs) ≤ length xs
@@ -74,7 +82,8 @@ length_map : {A B : Type 0} (g : A → B) (xs : List A) → length (map g xs) �
 length_map g [] = refl
 length_map g (x ∷ xs) = ap suc (length_map g xs)
 
-trans_weigh : (b c : ℕ) (row : ℕ → ℕ) (ks : List ℕ) → sum_by mark_size (map (λ i. mark Tran b (suc (row i)) c) ks) ≡ 4 * length ks
+trans_weigh : (b c : ℕ) (row : ℕ → ℕ) (ks : List ℕ)
+    → sum_by mark_size (map (λ i. mark Tran b (suc (row i)) c) ks) ≡ 4 * length ks
 trans_weigh b c row [] = omega arith
 trans_weigh b c row (k ∷ ks) =
     let i = trans_weigh b c row ks in
@@ -89,7 +98,8 @@ part_lines_few b c t (Some (Gate ins)) = omega arith
 part_lines_few b c t (Some (Latch ph None)) = omega arith
 part_lines_few b c t (Some (Latch ph (Some d))) = omega arith
 
-part_marks_few : (b top : ℕ) (row : ℕ → ℕ) (nets c n : ℕ) (t : Bool) (q : Option Part) → sum_by mark_size (column_marks b top row nets c t n q) ≤ 12 + 4 * inputs_at q
+part_marks_few : (b top : ℕ) (row : ℕ → ℕ) (nets c n : ℕ) (t : Bool) (q : Option Part)
+    → sum_by mark_size (column_marks b top row nets c t n q) ≤ 12 + 4 * inputs_at q
 part_marks_few b top row nets c n t None = omega arith
 part_marks_few b top row nets c n true (Some Input) = omega arith
 part_marks_few b top row nets c n false (Some Input) = omega arith
@@ -105,7 +115,8 @@ part_marks_few b top row nets c n t (Some (Gate ins)) =
 part_marks_few b top row nets c n t (Some (Latch ph None)) = omega arith
 part_marks_few b top row nets c n t (Some (Latch ph (Some d))) = omega arith
 
-weight_parts : (parts : List Part) → sum_by (λ q. 12 + 4 * fan_in q) parts ≡ 12 * length parts + 4 * sum_by fan_in parts
+weight_parts : (parts : List Part)
+    → sum_by (λ q. 12 + 4 * fan_in q) parts ≡ 12 * length parts + 4 * sum_by fan_in parts
 weight_parts [] = omega arith
 weight_parts (q ∷ qs) =
     let i = weight_parts qs in
@@ -120,12 +131,16 @@ weight_two (q ∷ qs) = let i = weight_two qs in let e = sum_by-cons (λ (q : Pa
 -- the lines of a band, and the rectangles of its marks
 pub lines_few : (b : ℕ) (y : Columns) (parts : List Part) → sum_by one (band_lines b y parts) ≤ 2 * length parts
 lines_few b y parts =
-    let w = sum_flat one (λ n. column_lines b (home y n) (y.stub n) (slice_get parts n)) (λ i. 2) 0 (length parts) (λ i. part_lines_few b (home y i) (y.stub i) (slice_get parts i)) in
+    let w = sum_flat one (λ n. column_lines b (home y n) (y.stub n) (slice_get parts n)) (λ i. 2) 0 (length parts)
+    (λ i. part_lines_few b (home y i) (y.stub i) (slice_get parts i)) in
     let s = sum_parts (λ q. 2) parts in let t = weight_two parts in omega arith
 
-pub marks_few : (b top : ℕ) (row : ℕ → ℕ) (y : Columns) (parts : List Part) → sum_by mark_size (band_marks b top row y parts) ≤ 12 * length parts + 4 * sum_by fan_in parts
+pub marks_few : (b top : ℕ) (row : ℕ → ℕ) (y : Columns) (parts : List Part)
+    → sum_by mark_size (band_marks b top row y parts) ≤ 12 * length parts + 4 * sum_by fan_in parts
 marks_few b top row y parts =
-    let w = sum_flat mark_size (λ n. column_marks b top row (length parts) (home y n) (y.stub n) n (slice_get parts n)) (λ i. 12 + 4 * inputs_at (slice_get parts i)) 0 (length parts)
+    let w = sum_flat mark_size
+    (λ n. column_marks b top row (length parts) (home y n) (y.stub n) n (slice_get parts n))
+    (λ i. 12 + 4 * inputs_at (slice_get parts i)) 0 (length parts)
     (λ i. part_marks_few b top row (length parts) (home y i) i (y.stub i) (slice_get parts i)) in
     let s = sum_parts (λ q. 12 + 4 * inputs_at q) parts in
     let t = weight_parts parts in omega arith
@@ -134,8 +149,10 @@ length_range : (a n : ℕ) → length (range_with_len a n) ≡ n
 length_range a zero = refl
 length_range a (suc n) = ap suc (length_range (a + 1) n)
 
-pub segments_count : (b : ℕ) (cols : ℕ → List ℕ) (row : ℕ → ℕ) (parts : List Part) → length (band_segments b cols row parts) ≡ length parts + 3
-segments_count b cols row parts = length_map (band_segment b cols row) (range_with_len 0 (length parts + 3)) ∙ length_range 0 (length parts + 3)
+pub segments_count : (b : ℕ) (cols : ℕ → List ℕ) (row : ℕ → ℕ) (parts : List Part)
+    → length (band_segments b cols row parts) ≡ length parts + 3
+segments_count b cols row parts = length_map (band_segment b cols row) (range_with_len 0 (length parts + 3))
+    ∙ length_range 0 (length parts + 3)
 
 ones : {A : Type 0} (xs : List A) → sum_by one xs ≡ length xs
 ones [] = refl

@@ -1,5 +1,6 @@
 -- A fabric whose ties are those of the nets draws the nets.
-use Rattle.std.proofs.Common.{◌≡◌, ◌⊎◌, inl, inr, ◌↔◌, ℕ, ◌<◌, List, Option, Some, None, refl, sym, ◌∙◌, ap, subst, Bool, true, false, filter}
+use Rattle.std.proofs.Common.{◌≡◌, ◌⊎◌, inl, inr, ◌↔◌, ℕ, ◌<◌, List, Option, Some, None, refl, sym, ◌∙◌, ap, subst}
+use Rattle.std.proofs.Common.{Bool, true, false, filter}
 use Rattle.std.specs.Prelude.{Contains, ◌≢◌}
 use Rattle.std.specs.List.{AllZip}
 use Rattle.tile_cells.specs.declared.tile.Tile.{Tile}
@@ -12,13 +13,17 @@ use Rattle.fabric.specs.declared.thing.Side.{Side}
 use Rattle.fabric.specs.declared.thing.Side.TheVariants.{L, R}
 use Rattle.fabric.specs.declared.thing.Mark.{Mark}
 use Rattle.fabric.specs.Plan.{Plan, IsFabric}
-use Rattle.fabric.specs.Switches.{Net, power, IsNet, LineOf, SegmentOf, IsTapOn, AreNumbers, is_switch, IsSwitch, AreSwitches, HasEnd}
+use Rattle.fabric.specs.Switches.{Net, power, IsNet, LineOf, SegmentOf, IsTapOn, AreNumbers, is_switch, IsSwitch}
+use Rattle.fabric.specs.Switches.{AreSwitches, HasEnd}
 use Rattle.nor_net.specs.declared.net.Phase.{Phase}
 use Rattle.nor_net.specs.Elements.{Spot, Element, Given, Nor, Latched, Joined, Low, Nets}
-use Rattle.drawing.specs.Draws.{Point, OfNet, Ground, Power, OfPhase, IsOwn, HasOwnNode, HasEnds, IsPullDown, IsPullUp, IsPass, IsDrawn, pull_down, pull_up, pass, lone, Draws}
+use Rattle.drawing.specs.Draws.{Point, OfNet, Ground, Power, OfPhase, IsOwn, HasOwnNode, HasEnds, IsPullDown}
+use Rattle.drawing.specs.Draws.{IsPullUp, IsPass, IsDrawn, pull_down, pull_up, pass, lone, Draws}
 use Rattle.array_form.specs.Named.{Tie, tap, tran, pull, IsAt, IsNamed, Speaks, Joins}
-use Rattle.array_form.specs.Roots.{Root, at, alone, AreRoots, AreRooted, IsSwitchOf, no_switch, down_of, pass_of, up_of, lone_of, AreSwitchesOf, AreHubs}
-use Rattle.array_form.proofs.Members.{Member, member_contains, contains_member, member_filter, filter_member, zip_left, zip_right}
+use Rattle.array_form.specs.Roots.{Root, at, alone, AreRoots, AreRooted, IsSwitchOf, no_switch, down_of, pass_of}
+use Rattle.array_form.specs.Roots.{up_of, lone_of, AreSwitchesOf, AreHubs}
+use Rattle.array_form.proofs.Members.{Member, member_contains, contains_member, member_filter, filter_member}
+use Rattle.array_form.proofs.Members.{zip_left, zip_right}
 use Rattle.array_form.proofs.Once.{line_once, segment_once}
 use Rattle.array_form.proofs.Naming.{numbers_from_roots, roots_from_numbers, hub_number}
 
@@ -26,24 +31,39 @@ false_not_true : false ≡ true → ⊥
 false_not_true e = cc e
 
 tap_is_no_switch : (s : Side) (m : Mark) → IsTapOn s m.tile → is_switch m ≡ true → ⊥
-tap_is_no_switch L m a b = absurd (false_not_true (subst (λ t. elim t as (λ _. Bool) [ TapL ↦ false | TapR ↦ false | Tran ↦ true | PullUp ↦ true | Under ↦ false ] ≡ true) a b))
-tap_is_no_switch R m a b = absurd (false_not_true (subst (λ t. elim t as (λ _. Bool) [ TapL ↦ false | TapR ↦ false | Tran ↦ true | PullUp ↦ true | Under ↦ false ] ≡ true) a b))
+tap_is_no_switch L m a b =
+    absurd (false_not_true
+    (subst (λ t. elim t as (λ _. Bool)
+    [ TapL ↦ false | TapR ↦ false | Tran ↦ true | PullUp ↦ true | Under ↦ false ] ≡ true) a b))
+tap_is_no_switch R m a b =
+    absurd (false_not_true
+    (subst (λ t. elim t as (λ _. Bool)
+    [ TapL ↦ false | TapR ↦ false | Tran ↦ true | PullUp ↦ true | Under ↦ false ] ≡ true) a b))
 
 tran_is_switch : (m : Mark) → m.tile ≡ Tran → is_switch m ≡ true
-tran_is_switch m e = subst (λ t. elim t as (λ _. Bool) [ TapL ↦ false | TapR ↦ false | Tran ↦ true | PullUp ↦ true | Under ↦ false ] ≡ true) (sym e) refl
+tran_is_switch m e =
+    subst (λ t. elim t as (λ _. Bool) [ TapL ↦ false | TapR ↦ false | Tran ↦ true | PullUp ↦ true | Under ↦ false ]
+    ≡ true) (sym e) refl
 
 pull_is_switch : (m : Mark) → m.tile ≡ PullUp → is_switch m ≡ true
-pull_is_switch m e = subst (λ t. elim t as (λ _. Bool) [ TapL ↦ false | TapR ↦ false | Tran ↦ true | PullUp ↦ true | Under ↦ false ] ≡ true) (sym e) refl
+pull_is_switch m e =
+    subst (λ t. elim t as (λ _. Bool) [ TapL ↦ false | TapR ↦ false | Tran ↦ true | PullUp ↦ true | Under ↦ false ]
+    ≡ true) (sym e) refl
 
 under_is_no_switch : (m : Mark) → is_switch m ≡ true → m.tile ≢ Under
-under_is_no_switch m b e = cc (subst (λ t. elim t as (λ _. Bool) [ TapL ↦ false | TapR ↦ false | Tran ↦ true | PullUp ↦ true | Under ↦ false ] ≡ true) e b)
+under_is_no_switch m b e =
+    cc (subst (λ t. elim t as (λ _. Bool)
+    [ TapL ↦ false | TapR ↦ false | Tran ↦ true | PullUp ↦ true | Under ↦ false ] ≡ true) e b)
 
 at_once : (p q : Point) → at p ≡ at q → p ≡ q
 at_once p q e = cc e
 
-module _ (W : Type 0) (In : W → Type 0) (T : Tie W → Type 0) (f : Plan) (lawful : IsFabric f) (net_of : W → Net) (named : IsNamed W In T f net_of)
-    (root : W → Root) (hub : Root → W) (rooted : AreRooted W In T root hub) (nets : Nets) (root_of : Spot → Root) (rank : Spot → ℕ) (roots : AreRoots nets root_of rank)
-    (hubs : AreHubs nets W In root hub) (switches : AreSwitchesOf nets W T root root_of) (number : Net → ℕ) (network : Network) (are : AreSwitches f number network)
+module _ (W : Type 0) (In : W → Type 0) (T : Tie W → Type 0) (f : Plan) (lawful : IsFabric f) (net_of : W → Net)
+    (named : IsNamed W In T f net_of)
+    (root : W → Root) (hub : Root → W) (rooted : AreRooted W In T root hub) (nets : Nets) (root_of : Spot → Root)
+    (rank : Spot → ℕ) (roots : AreRoots nets root_of rank)
+    (hubs : AreHubs nets W In root hub) (switches : AreSwitchesOf nets W T root root_of) (number : Net → ℕ)
+    (network : Network) (are : AreSwitches f number network)
     (power_is : net_of (hub (at Power)) ≡ power) where
   -- the node of each point
   pub node : Point → ℕ
@@ -54,7 +74,9 @@ module _ (W : Type 0) (In : W → Type 0) (T : Tie W → Type 0) (f : Plan) (law
 
   number_at : (w : W) (r : Root) → In w → root w ≡ r → number (net_of w) ≡ number (net_of (hub r))
   unfolding node
-  number_at w r i e = hub_number W In T f lawful net_of named rooted.speaks root hub rooted network.nodes number are.nodes w i ∙ ap (λ q. number (net_of (hub q))) e
+  number_at w r i e =
+      hub_number W In T f lawful net_of named rooted.speaks root hub rooted network.nodes number are.nodes w i
+      ∙ ap (λ q. number (net_of (hub q))) e
 
   own_node : (p : Point) → HasOwnNode nets p → node p ≡ number (net_of (hub (at p)))
   unfolding node
@@ -67,18 +89,24 @@ module _ (W : Type 0) (In : W → Type 0) (T : Tie W → Type 0) (f : Plan) (law
   apart p q op oq e =
       let hp = hubs.each p op in
       let hq = hubs.each q oq in
-      at_once p q (sym hp.1 ∙ (roots_from_numbers W In T f lawful net_of named rooted.speaks root hub rooted network.nodes number are.nodes (hub (at p)) (hub (at q)) hp.0 hq.0
+      at_once p q (sym hp.1
+      ∙ (roots_from_numbers W In T f lawful net_of named rooted.speaks root hub rooted network.nodes number
+      are.nodes (hub (at p)) (hub (at q)) hp.0 hq.0
       (sym (own_node p op) ∙ (e ∙ own_node q oq)) ∙ hq.1))
 
   -- the channel of a switch, and the switch of a channel
-  channel_at : (m : Mark) → Contains f.marks m → is_switch m ≡ true → (c : Channel) × Contains network.channels c × IsSwitch f number m c
+  channel_at : (m : Mark) → Contains f.marks m → is_switch m ≡ true
+      → (c : Channel) × Contains network.channels c × IsSwitch f number m c
   channel_at m i e =
-      let w = zip_left (IsSwitch f number) (filter is_switch f.marks) network.channels m are.channels (filter_member is_switch f.marks m (contains_member f.marks m i) e) in
+      let w = zip_left (IsSwitch f number) (filter is_switch f.marks) network.channels m are.channels
+      (filter_member is_switch f.marks m (contains_member f.marks m i) e) in
       (w.0, member_contains network.channels w.0 w.1, w.2)
 
-  switch_at : (c : Channel) → Contains network.channels c → (m : Mark) × Contains f.marks m × (is_switch m ≡ true) × IsSwitch f number m c
+  switch_at : (c : Channel) → Contains network.channels c
+      → (m : Mark) × Contains f.marks m × (is_switch m ≡ true) × IsSwitch f number m c
   switch_at c i =
-      let w = zip_right (IsSwitch f number) (filter is_switch f.marks) network.channels c are.channels (contains_member network.channels c i) in
+      let w = zip_right (IsSwitch f number) (filter is_switch f.marks) network.channels c are.channels
+      (contains_member network.channels c i) in
       let u = member_filter is_switch f.marks w.0 w.1 in
       (w.0, member_contains f.marks w.0 u.0, u.1, w.2)
 
@@ -88,20 +116,27 @@ module _ (W : Type 0) (In : W → Type 0) (T : Tie W → Type 0) (f : Plan) (law
     gate : c.gate ≡ number (net_of g)
     ends : HasEnds c (number (net_of a)) (number (net_of b))
 
-  tran_is : (m : Mark) (g a b : W) → IsAt W f net_of m (tran g a b) → (c : Channel) → IsSwitch f number m c → IsTran g a b c
+  tran_is : (m : Mark) (g a b : W) → IsAt W f net_of m (tran g a b) → (c : Channel) → IsSwitch f number m c
+      → IsTran g a b c
   tran_is m g a b r c s = record { kind = kind_is; gate = gate_is; ends = λ x. (to x, from x) }
     where
       kind_is : c.kind ≡ Enhancement
       kind_is = elim s.kind [ inl h ↦ h.1 | inr h ↦ absurd (cc (sym r.0 ∙ h.0)) ]
 
       gate_is : c.gate ≡ number (net_of g)
-      gate_is = s.gate.2 ∙ ap number (elim s.gate.1 [ inl h ↦ segment_once f lawful m s.gate.0 (net_of g) h.1 r.1 | inr h ↦ absurd (cc (sym r.0 ∙ h.0)) ])
+      gate_is = s.gate.2
+          ∙ ap number (elim s.gate.1
+          [ inl h ↦ segment_once f lawful m s.gate.0 (net_of g) h.1 r.1 | inr h ↦ absurd (cc (sym r.0 ∙ h.0)) ])
 
       to : (x : ℕ) → Contains c.ends x → (x ≡ number (net_of a)) ⊎ (x ≡ number (net_of b))
       to x h =
           let w = (s.ends x).0 h in
           elim w.1 [
-            | inl u ↦ elim u.1 [ inl l ↦ inl (sym w.2 ∙ ap number (line_once f lawful m L w.0 (net_of a) l r.2)) | inr l ↦ inr (sym w.2 ∙ ap number (line_once f lawful m R w.0 (net_of b) l r.3)) ]
+            | inl u ↦ elim u.1 [
+              | inl l ↦ inl (sym w.2 ∙ ap number (line_once f lawful m L w.0 (net_of a) l r.2))
+              | inr l ↦ inr
+                  (sym w.2 ∙ ap number (line_once f lawful m R w.0 (net_of b) l r.3))
+            ]
             | inr u ↦ absurd (cc (sym r.0 ∙ u.0))
           ]
 
@@ -121,14 +156,20 @@ module _ (W : Type 0) (In : W → Type 0) (T : Tie W → Type 0) (f : Plan) (law
       kind_is = elim s.kind [ inl h ↦ absurd (cc (sym r.0 ∙ h.0)) | inr h ↦ h.1 ]
 
       gate_is : c.gate ≡ number (net_of a)
-      gate_is = s.gate.2 ∙ ap number (elim s.gate.1 [ inl h ↦ absurd (cc (sym r.0 ∙ h.0)) | inr h ↦ line_once f lawful m L s.gate.0 (net_of a) h.1 r.1 ])
+      gate_is = s.gate.2
+          ∙ ap number (elim s.gate.1
+          [ inl h ↦ absurd (cc (sym r.0 ∙ h.0)) | inr h ↦ line_once f lawful m L s.gate.0 (net_of a) h.1 r.1 ])
 
       to : (x : ℕ) → Contains c.ends x → (x ≡ number (net_of a)) ⊎ (x ≡ number power)
       to x h =
           let w = (s.ends x).0 h in
           elim w.1 [
             | inl u ↦ absurd (cc (sym r.0 ∙ u.0))
-            | inr u ↦ elim u.1 [ inl l ↦ inl (sym w.2 ∙ ap number (line_once f lawful m L w.0 (net_of a) l r.1)) | inr p ↦ inr (sym w.2 ∙ ap number p) ]
+            | inr u ↦ elim u.1 [
+              | inl l ↦ inl (sym w.2 ∙ ap number (line_once f lawful m L w.0 (net_of a) l r.1))
+              | inr p ↦ inr
+                  (sym w.2 ∙ ap number p)
+            ]
           ]
 
       from : (x : ℕ) → (x ≡ number (net_of a)) ⊎ (x ≡ number power) → Contains c.ends x
@@ -139,7 +180,10 @@ module _ (W : Type 0) (In : W → Type 0) (T : Tie W → Type 0) (f : Plan) (law
   ends_at c a b x y h e g = subst (λ z. HasEnds c x z) g (subst (λ z. HasEnds c z b) e h)
 
   swapped : (c : Channel) (a b : ℕ) → HasEnds c a b → HasEnds c b a
-  swapped c a b h x = (λ k. elim ((h x).0 k) [ inl e ↦ inr e | inr e ↦ inl e ], λ k. (h x).1 (elim k [ inl e ↦ inr e | inr e ↦ inl e ]))
+  swapped c a b h x = (
+    λ k. elim ((h x).0 k) [ inl e ↦ inr e | inr e ↦ inl e ],
+    λ k. (h x).1 (elim k [ inl e ↦ inr e | inr e ↦ inl e ]),
+  )
 
   own_number : (w : W) (n : Spot) → In w → root w ≡ at (OfNet n) → IsOwn (nets n) → number (net_of w) ≡ node (OfNet n)
   unfolding node
@@ -151,7 +195,8 @@ module _ (W : Type 0) (In : W → Type 0) (T : Tie W → Type 0) (f : Plan) (law
   latch_own : (n source : Spot) (p : Phase) → nets n ≡ Some (Latched p source) → IsOwn (nets n)
   latch_own n source p e = subst IsOwn (sym e) tt
 
-  down_at : (n i : Spot) (inputs : List Spot) → nets n ≡ Some (Nor inputs) → (g a b : W) → T (tran g a b) → root g ≡ root_of i → root a ≡ at (OfNet n) → root b ≡ at Ground
+  down_at : (n i : Spot) (inputs : List Spot) → nets n ≡ Some (Nor inputs) → (g a b : W) → T (tran g a b)
+      → root g ≡ root_of i → root a ≡ at (OfNet n) → root b ≡ at Ground
       → (c : Channel) → IsTran g a b c → IsPullDown node i n c
   unfolding node
   down_at n i inputs e g a b t rg ra rb c h =
@@ -159,10 +204,12 @@ module _ (W : Type 0) (In : W → Type 0) (T : Tie W → Type 0) (f : Plan) (law
       record {
         enhancement = h.kind;
         by = h.gate ∙ number_at g (root_of i) sp.0 rg;
-        joins = ends_at c (number (net_of a)) (number (net_of b)) (node (OfNet n)) (node Ground) h.ends (own_number a n sp.1 ra (nor_own n inputs e)) (number_at b (at Ground) sp.2 rb);
+        joins = ends_at c (number (net_of a)) (number (net_of b)) (node (OfNet n)) (node Ground) h.ends
+            (own_number a n sp.1 ra (nor_own n inputs e)) (number_at b (at Ground) sp.2 rb);
       }
 
-  pass_at : (n source : Spot) (p : Phase) → nets n ≡ Some (Latched p source) → (g a b : W) → T (tran g a b) → root g ≡ at (OfPhase p) → root a ≡ at (OfNet n) → root b ≡ root_of source
+  pass_at : (n source : Spot) (p : Phase) → nets n ≡ Some (Latched p source) → (g a b : W) → T (tran g a b)
+      → root g ≡ at (OfPhase p) → root a ≡ at (OfNet n) → root b ≡ root_of source
       → (c : Channel) → IsTran g a b c → IsPass node p source n c
   unfolding node
   pass_at n source p e g a b t rg ra rb c h =
@@ -171,7 +218,8 @@ module _ (W : Type 0) (In : W → Type 0) (T : Tie W → Type 0) (f : Plan) (law
         enhancement = h.kind;
         by = h.gate ∙ number_at g (at (OfPhase p)) sp.0 rg;
         joins = swapped c (node (OfNet n)) (node (OfNet source))
-            (ends_at c (number (net_of a)) (number (net_of b)) (node (OfNet n)) (node (OfNet source)) h.ends (own_number a n sp.1 ra (latch_own n source p e)) (number_at b (root_of source) sp.2 rb));
+            (ends_at c (number (net_of a)) (number (net_of b)) (node (OfNet n)) (node (OfNet source)) h.ends
+            (own_number a n sp.1 ra (latch_own n source p e)) (number_at b (root_of source) sp.2 rb));
       }
 
   up_at : (a : W) (k : ℕ) → number (net_of a) ≡ k → (c : Channel) → IsPull a c → IsPullUp node k c
@@ -183,18 +231,28 @@ module _ (W : Type 0) (In : W → Type 0) (T : Tie W → Type 0) (f : Plan) (law
   }
 
   -- no point has the node of a pull-up alone
-  alone_at : (a : W) (n : Spot) → In a → root a ≡ alone n → (p : Point) → HasOwnNode nets p → node p ≡ number (net_of a) → ⊥
+  alone_at : (a : W) (n : Spot) → In a → root a ≡ alone n → (p : Point) → HasOwnNode nets p
+      → node p ≡ number (net_of a) → ⊥
   alone_at a n i e p own h =
       let w = hubs.each p own in
-      let r = roots_from_numbers W In T f lawful net_of named rooted.speaks root hub rooted network.nodes number are.nodes (hub (at p)) a w.0 i (sym (own_node p own) ∙ h) in
+      let r = roots_from_numbers W In T f lawful net_of named rooted.speaks root hub rooted network.nodes number
+      are.nodes (hub (at p)) a w.0 i (sym (own_node p own) ∙ h) in
       absurd (cc (sym w.1 ∙ (r ∙ e)))
 
-  drawn_at : (m : Mark) (t : Tie W) → T t → IsAt W f net_of m t → is_switch m ≡ true → (c : Channel) → IsSwitch f number m c → IsSwitchOf nets W root root_of t → IsDrawn nets node c
+  drawn_at : (m : Mark) (t : Tie W) → T t → IsAt W f net_of m t → is_switch m ≡ true → (c : Channel)
+      → IsSwitch f number m c → IsSwitchOf nets W root root_of t → IsDrawn nets node c
   drawn_at m (tap side w v) q r b c s k = absurd (tap_is_no_switch side m r.0 b)
-  drawn_at m (tran g a b) q r e c s (down_of n i inputs h ci rg ra rb) = pull_down n inputs i h ci (down_at n i inputs h g a b q rg ra rb c (tran_is m g a b r c s))
-  drawn_at m (tran g a b) q r e c s (pass_of n source p h rg ra rb) = pass n p source h (pass_at n source p h g a b q rg ra rb c (tran_is m g a b r c s))
-  drawn_at m (pull a) q r b c s (up_of n inputs h ra) = pull_up n inputs h (up_at a (node (OfNet n)) (own_number a n (rooted.speaks (pull a) q) ra (nor_own n inputs h)) c (pull_is m a r c s))
-  drawn_at m (pull a) q r b c s (lone_of n ra) = lone (number (net_of a)) (alone_at a n (rooted.speaks (pull a) q) ra) (up_at a (number (net_of a)) refl c (pull_is m a r c s))
+  drawn_at m (tran g a b) q r e c s (down_of n i inputs h ci rg ra rb) =
+      pull_down n inputs i h ci (down_at n i inputs h g a b q rg ra rb c (tran_is m g a b r c s))
+  drawn_at m (tran g a b) q r e c s (pass_of n source p h rg ra rb) =
+      pass n p source h (pass_at n source p h g a b q rg ra rb c (tran_is m g a b r c s))
+  drawn_at m (pull a) q r b c s (up_of n inputs h ra) =
+      pull_up n inputs h
+      (up_at a (node (OfNet n)) (own_number a n (rooted.speaks (pull a) q) ra (nor_own n inputs h)) c
+      (pull_is m a r c s))
+  drawn_at m (pull a) q r b c s (lone_of n ra) =
+      lone (number (net_of a)) (alone_at a n (rooted.speaks (pull a) q) ra)
+      (up_at a (number (net_of a)) refl c (pull_is m a r c s))
 
   pub draws : Draws network.channels nets node
   unfolding node
@@ -210,8 +268,13 @@ module _ (W : Type 0) (In : W → Type 0) (T : Tie W → Type 0) (f : Plan) (law
     pull_ups = λ n inputs e.
         let t = switches.pull_ups n inputs e in
         let m = named.tied (pull t.0) t.1 in
-        let c = channel_at m.0 m.1 (pull_is_switch m.0 m.2.0) in
-        (c.0, c.1, up_at t.0 (node (OfNet n)) (own_number t.0 n (rooted.speaks (pull t.0) t.1) t.2 (nor_own n inputs e)) c.0 (pull_is m.0 t.0 m.2 c.0 c.2));
+        let c = channel_at m.0 m.1 (pull_is_switch m.0 m.2.0) in (
+          c.0,
+          c.1,
+          up_at t.0 (node (OfNet n))
+              (own_number t.0 n (rooted.speaks (pull t.0) t.1) t.2 (nor_own n inputs e)) c.0
+              (pull_is m.0 t.0 m.2 c.0 c.2),
+        );
     passes = λ n p source e.
         let t = switches.passes n source p e in
         let m = named.tied (tran t.0 t.1 t.2) t.3 in
@@ -243,4 +306,6 @@ module _ (W : Type 0) (In : W → Type 0) (T : Tie W → Type 0) (f : Plan) (law
 
   -- each node of its own is one of the network's
   pub inside : (p : Point) → HasOwnNode nets p → node p < network.nodes
-  inside p own = subst (λ k. k < network.nodes) (sym (own_node p own)) (are.nodes.below (net_of (hub (at p))) (named.is_in (hub (at p)) (hubs.each p own).0))
+  inside p own =
+      subst (λ k. k < network.nodes) (sym (own_node p own))
+      (are.nodes.below (net_of (hub (at p))) (named.is_in (hub (at p)) (hubs.each p own).0))

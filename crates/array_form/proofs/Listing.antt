@@ -1,5 +1,7 @@
 -- The lists of a band have exactly its ties and lines.
-use Rattle.std.proofs.Common.{◌≡◌, ◌⊎◌, inl, inr, ℕ, zero, suc, ◌<◌, ◌≤◌, ◌+◌, ◌==◌, Option, Some, None, Bool, true, false, cond, List, [], ◌∷◌, ◌++◌, length, map, get_or, refl, sym, ◌∙◌, ap, subst, arith}
+use Rattle.std.proofs.Common.{◌≡◌, ◌⊎◌, inl, inr, ℕ, zero, suc, ◌<◌, ◌≤◌, ◌+◌, ◌==◌, Option, Some, None, Bool, true}
+use Rattle.std.proofs.Common.{false, cond, List, [], ◌∷◌, ◌++◌, length, map, get_or, refl, sym, ◌∙◌, ap, subst}
+use Rattle.std.proofs.Common.{arith}
 use Rattle.std.specs.Prelude.{Contains, slice_get, flat_map, not, ◌≢◌}
 use Rattle.std.specs.List.{range_with_len}
 use Rattle.std.proofs.lemmas.Bool.{cases_Bool, cases_eq}
@@ -11,18 +13,23 @@ use Rattle.nor_net.specs.declared.net.Part.{Part}
 use Rattle.nor_net.specs.declared.net.Part.TheVariants.{Input, Gate, Latch}
 use Rattle.nor_net.specs.Elements.{Spot, spot}
 use Rattle.array_form.specs.Named.{Tie, tap, tran, pull}
-use Rattle.array_form.specs.Wires.{Wire, row, beat, left, right, to_ground, place, NetTie, gate_own, gate_ground, gate_pull, gate_input, latch_own, latch_data, latch_phase, stub_own}
+use Rattle.array_form.specs.Wires.{Wire, row, beat, left, right, to_ground, place, NetTie, gate_own, gate_ground}
+use Rattle.array_form.specs.Wires.{gate_pull, gate_input, latch_own, latch_data, latch_phase, stub_own}
 use Rattle.array_form.specs.Band.{has, distinct, inputs_of, net_columns, net_ties, band_rows, band_columns, band_ties}
-use Rattle.array_form.proofs.Members.{Member, member_contains, contains_member, member_map, map_member, member_flat, flat_member, member_append, append_left, append_right, member_filter, filter_member}
+use Rattle.array_form.proofs.Members.{Member, member_contains, contains_member, member_map, map_member, member_flat}
+use Rattle.array_form.proofs.Members.{flat_member, member_append, append_left, append_right, member_filter}
+use Rattle.array_form.proofs.Members.{filter_member}
 
 pub in_range : (a n b : ℕ) → Member (range_with_len a n) b → (a ≤ b) × (b < a + n)
 in_range a zero b m = absurd m
 in_range a (suc n) b (inl e) = (omega arith, omega arith)
-in_range a (suc n) b (inr m) = let w = in_range (a + 1) n b m in let u = w.0 in let v = w.1 in (omega arith, omega arith)
+in_range a (suc n) b (inr m) =
+    let w = in_range (a + 1) n b m in let u = w.0 in let v = w.1 in (omega arith, omega arith)
 
 pub range_has : (a n b : ℕ) → a ≤ b → b < a + n → Member (range_with_len a n) b
 range_has a zero b h k = absurd (omega arith)
-range_has a (suc n) b h k = elim (cases_eq a b) [ inl e ↦ inl e | inr e ↦ inr (range_has (a + 1) n b (omega arith) (omega arith)) ]
+range_has a (suc n) b h k =
+    elim (cases_eq a b) [ inl e ↦ inl e | inr e ↦ inr (range_has (a + 1) n b (omega arith) (omega arith)) ]
 
 false_true : false ≡ true → ⊥
 false_true e = cc e
@@ -62,10 +69,12 @@ distinct_has (x ∷ xs) a (inr m) = elim (cases_eq a x) [
 
 module _ (X : Type 0) (b : ℕ) (stub : ℕ → Bool) (parts : List Part) where
   -- the ties of one net
-  of_part : (n : ℕ) (q : Option Part) → slice_get parts n ≡ q → (t : Tie (Wire X)) → Member (net_ties X b n (stub n) q) t → NetTie X b parts stub t
+  of_part : (n : ℕ) (q : Option Part) → slice_get parts n ≡ q → (t : Tie (Wire X))
+      → Member (net_ties X b n (stub n) q) t → NetTie X b parts stub t
   of_part n None h t m = absurd m
   of_part n (Some Input) h t m = elim (cases_Bool (stub n)) [
-    | inl e ↦ elim (subst (λ z. Member (cond z (tap L (left (place b n)) (row (place b n)) ∷ []) []) t) e m) [ inl q ↦ subst (NetTie X b parts stub) q (stub_own n h e) | inr q ↦ absurd q ]
+    | inl e ↦ elim (subst (λ z. Member (cond z (tap L (left (place b n)) (row (place b n)) ∷ []) []) t) e m)
+        [ inl q ↦ subst (NetTie X b parts stub) q (stub_own n h e) | inr q ↦ absurd q ]
     | inr e ↦ absurd (subst (λ z. Member (cond z (tap L (left (place b n)) (row (place b n)) ∷ []) []) t) e m)
   ]
   of_part n (Some (Gate ins)) h t (inl q) = subst (NetTie X b parts stub) q (gate_own n ins h)
@@ -75,11 +84,14 @@ module _ (X : Type 0) (b : ℕ) (stub : ℕ → Bool) (parts : List Part) where
       let k = member_map (λ i. tran (row (place b i)) (left (place b n)) (right (place b n))) (inputs_of ins) t m in
       let c = distinct_from (map (λ i. i.0) ins) k.0 k.1 in
       let j = member_map (λ (i : NetId). i.0) ins k.0 c in
-      subst (NetTie X b parts stub) (ap (λ z. tran (row (place b z)) (left (place b n)) (right (place b n))) j.2 ∙ k.2) (gate_input n ins j.0 h (member_contains ins j.0 j.1))
+      subst (NetTie X b parts stub)
+      (ap (λ z. tran (row (place b z)) (left (place b n)) (right (place b n))) j.2 ∙ k.2)
+      (gate_input n ins j.0 h (member_contains ins j.0 j.1))
   of_part n (Some (Latch ph None)) h t m = absurd m
   of_part n (Some (Latch ph (Some d))) h t (inl q) = subst (NetTie X b parts stub) q (latch_own n ph d h)
   of_part n (Some (Latch ph (Some d))) h t (inr (inl q)) = subst (NetTie X b parts stub) q (latch_data n ph d h)
-  of_part n (Some (Latch ph (Some d))) h t (inr (inr (inl q))) = subst (NetTie X b parts stub) q (latch_phase n ph d h)
+  of_part n (Some (Latch ph (Some d))) h t (inr (inr (inl q))) =
+      subst (NetTie X b parts stub) q (latch_phase n ph d h)
   of_part n (Some (Latch ph (Some d))) h t (inr (inr (inr m))) = absurd m
 
   pub listed_tie : (t : Tie (Wire X)) → Member (band_ties X b stub parts) t → NetTie X b parts stub t
@@ -87,12 +99,16 @@ module _ (X : Type 0) (b : ℕ) (stub : ℕ → Bool) (parts : List Part) where
       let k = member_flat (λ n. net_ties X b n (stub n) (slice_get parts n)) (range_with_len 0 (length parts)) t m in
       of_part k.0 (slice_get parts k.0) refl t k.2
 
-  here : (n : ℕ) (q : Part) (t : Tie (Wire X)) → slice_get parts n ≡ Some q → Member (net_ties X b n (stub n) (Some q)) t → Member (band_ties X b stub parts) t
+  here : (n : ℕ) (q : Part) (t : Tie (Wire X)) → slice_get parts n ≡ Some q
+      → Member (net_ties X b n (stub n) (Some q)) t → Member (band_ties X b stub parts) t
   here n q t h m =
-      flat_member (λ k. net_ties X b k (stub k) (slice_get parts k)) (range_with_len 0 (length parts)) n t (range_has 0 (length parts) n (omega arith) (let w = slice_get_within parts n q h in omega arith))
+      flat_member (λ k. net_ties X b k (stub k) (slice_get parts k)) (range_with_len 0 (length parts)) n t
+      (range_has 0 (length parts) n (omega arith) (let w = slice_get_within parts n q h in omega arith))
       (subst (λ z. Member (net_ties X b n (stub n) z) t) (sym h) m)
 
-  stub_member : (n : ℕ) (z : Bool) → z ≡ true → Member {A = Tie (Wire X)} (cond z (tap L (left (place b n)) (row (place b n)) ∷ []) []) (tap L (left (place b n)) (row (place b n)))
+  stub_member : (n : ℕ) (z : Bool) → z ≡ true
+      → Member {A = Tie (Wire X)} (cond z (tap L (left (place b n)) (row (place b n)) ∷ []) [])
+      (tap L (left (place b n)) (row (place b n)))
   stub_member n true s = inl refl
   stub_member n false s = absurd (false_true s)
 
@@ -101,7 +117,9 @@ module _ (X : Type 0) (b : ℕ) (stub : ℕ → Bool) (parts : List Part) where
   tie_listed t (gate_ground n ins h) = here n (Gate ins) t h (inr (inl refl))
   tie_listed t (gate_pull n ins h) = here n (Gate ins) t h (inr (inr (inl refl)))
   tie_listed t (gate_input n ins i h c) =
-      here n (Gate ins) t h (inr (inr (inr (map_member (λ k. tran (row (place b k)) (left (place b n)) (right (place b n))) (inputs_of ins) i.0
+      here n (Gate ins) t h
+      (inr (inr (inr
+      (map_member (λ k. tran (row (place b k)) (left (place b n)) (right (place b n))) (inputs_of ins) i.0
       (distinct_has (map (λ j. j.0) ins) i.0 (map_member (λ (j : NetId). j.0) ins i (contains_member ins i c)))))))
   tie_listed t (latch_own n ph d h) = here n (Latch ph (Some d)) t h (inl refl)
   tie_listed t (latch_data n ph d h) = here n (Latch ph (Some d)) t h (inr (inl refl))

@@ -1,5 +1,7 @@
 -- A net with the conditions of `place` has room.
-use Rattle.std.proofs.Common.{◌≡◌, ◌⊎◌, inl, inr, ℕ, zero, suc, ◌<◌, ◌≤◌, ◌+◌, ◌==◌, Option, Some, None, Bool, true, false, cond, not, ◌&&◌, List, [], ◌∷◌, ◌++◌, length, map, filter, refl, sym, ◌∙◌, ap, subst, arith}
+use Rattle.std.proofs.Common.{◌≡◌, ◌⊎◌, inl, inr, ℕ, zero, suc, ◌<◌, ◌≤◌, ◌+◌, ◌==◌, Option, Some, None, Bool, true}
+use Rattle.std.proofs.Common.{false, cond, not, ◌&&◌, List, [], ◌∷◌, ◌++◌, length, map, filter, refl, sym, ◌∙◌, ap}
+use Rattle.std.proofs.Common.{subst, arith}
 use Rattle.std.specs.Prelude.{Contains, slice_get, ◌≢◌, ◌||◌, max}
 use Rattle.std.specs.List.{list_any, range_with_len}
 use Rattle.std.proofs.lemmas.Bool.{cases_Bool}
@@ -16,86 +18,110 @@ use Rattle.array_form.specs.declared.band.Band.{Band}
 use Rattle.array_form.specs.Homes.{Columns, home, end_of, marks, reads, greatest, count_below}
 use Rattle.array_form.specs.Laying.{HasRoom}
 use Rattle.array_form.specs.Place.{is_input, part_is, is_read, is_tapped, is_stub, columns_in, MayPlace}
-use Rattle.array_form.proofs.Members.{Member, member_contains, contains_member, member_map, map_member, member_filter, filter_member}
+use Rattle.array_form.proofs.Members.{Member, member_contains, contains_member, member_map, map_member}
+use Rattle.array_form.proofs.Members.{member_filter, filter_member}
 use Rattle.array_form.proofs.Listing.{same_from}
 use Rattle.array_form.proofs.Homes.{greatest_above, own_mark, reader_mark, more_mark}
 
 -- what passes a test that some member passes
-any_member : {A : Type 0} (test : A → Bool) (xs : List A) → list_any test xs ≡ true → (i : ℕ) × (x : A) × (slice_get xs i ≡ Some x) × (test x ≡ true) × Member xs x
+pub any_member : {A : Type 0} (test : A → Bool) (xs : List A) → list_any test xs ≡ true
+    → (i : ℕ) × (x : A) × (slice_get xs i ≡ Some x) × (test x ≡ true) × Member xs x
 any_member test [] e = absurd (cc e)
 any_member test (x ∷ xs) e = elim (cases_Bool (test x)) [
   | inl q ↦ (0, x, refl, q, inl refl)
-  | inr q ↦ (let w = any_member test xs (sym (ap (λ t. t || list_any test xs) q) ∙ e) in (suc w.0, w.1, w.2, w.3, inr w.4))
+  | inr q ↦ (let w = any_member test xs (sym (ap (λ t. t || list_any test xs) q) ∙ e) in
+      (suc w.0, w.1, w.2, w.3, inr w.4))
 ]
 
-or_left : (a b : Bool) → a ≡ true → (a || b) ≡ true
+pub or_left : (a b : Bool) → a ≡ true → (a || b) ≡ true
 or_left true b e = refl
 or_left false b e = absurd (cc e)
 
-or_right : (a b : Bool) → b ≡ true → (a || b) ≡ true
+pub or_right : (a b : Bool) → b ≡ true → (a || b) ≡ true
 or_right true b e = refl
 or_right false b e = e
 
-or_cases : (a b : Bool) → ((a || b) ≡ true) → (a ≡ true) ⊎ (b ≡ true)
+pub or_cases : (a b : Bool) → ((a || b) ≡ true) → (a ≡ true) ⊎ (b ≡ true)
 or_cases true b e = inl refl
 or_cases false b e = inr e
 
-and_of : (a b : Bool) → a ≡ true → b ≡ true → (a && b) ≡ true
+pub and_of : (a b : Bool) → a ≡ true → b ≡ true → (a && b) ≡ true
 and_of true b e h = h
 and_of false b e h = absurd (cc e)
 
-module _ (f : Plan) (band : Band) (parts : List Part) (rows : ℕ) (is_net : IsNet parts) (fed : (n : ℕ) (ph : Phase) → slice_get parts n ≡ Some (Latch ph None) → ⊥)
-    (may : MayPlace f band parts rows) where
-  abbrev y : Columns
+module _ (band : Band) (parts : List Part) where
+  abbrev pub y : Columns
   y = columns_in band parts
 
-  stub_homed : (n : ℕ) → y.stub n ≡ true → y.homed n ≡ true
+  pub stub_homed : (n : ℕ) → y.stub n ≡ true → y.homed n ≡ true
   stub_homed n e = or_right (part_is (λ q. not (is_input q)) (slice_get parts n)) (is_stub band parts n) e
 
-  part_homed : (n : ℕ) (q : Part) → is_input q ≡ false → slice_get parts n ≡ Some q → y.homed n ≡ true
-  part_homed n q e h = or_left (part_is (λ q. not (is_input q)) (slice_get parts n)) (is_stub band parts n) (ap (part_is (λ q. not (is_input q))) h ∙ ap not e)
-
-  base_below : y.base ≤ end_of y parts
-  base_below = omega arith
-
-  tap_below : (t : Tap) → Contains band.taps t → t.column + 1 ≤ y.base
-  tap_below t c =
-      let g = greatest_above (map (λ t. t.column + 1) band.taps) (t.column + 1) (map_member (λ (t : Tap). t.column + 1) band.taps t (contains_member band.taps t c)) in omega arith
-
-  more_in : (n c : ℕ) → Contains (y.more n) c → (1 ≤ c) × (c + 1 < f.columns)
-  more_in n c h =
-      let w = member_map (λ (t : Tap). t.column) (filter (λ t. t.net.0 == n) band.taps) c (contains_member (y.more n) c h) in
-      let u = member_filter (λ t. t.net.0 == n) band.taps w.0 w.1 in
-      let k = member_contains band.taps w.0 u.0 in
-      let lo = (may.taps_in w.0 k).1 in let hi = tap_below w.0 k in let b = base_below in let m = may.columns in let e = w.2 in
-      (omega arith, omega arith)
+  pub part_homed : (n : ℕ) (q : Part) → is_input q ≡ false → slice_get parts n ≡ Some q → y.homed n ≡ true
+  part_homed n q e h =
+      or_left (part_is (λ q. not (is_input q)) (slice_get parts n)) (is_stub band parts n)
+      (ap (part_is (λ q. not (is_input q))) h ∙ ap not e)
 
   -- each net has a mark
-  some_mark : (n : ℕ) (q : Option Part) → slice_get parts n ≡ q → n < length parts → (c : ℕ) × Contains (marks y parts n) c
-  some_mark n None h lt = elim (slice_get_cases parts n).1 [ inl w ↦ absurd (cc (sym h ∙ w.2)) | inr w ↦ absurd (omega (arith, w.0)) ]
-  some_mark n (Some (Gate ins)) h lt = (home y n, member_contains (marks y parts n) (home y n) (own_mark y parts n (part_homed n (Gate ins) refl h)))
-  some_mark n (Some (Latch ph d)) h lt = (home y n, member_contains (marks y parts n) (home y n) (own_mark y parts n (part_homed n (Latch ph d) refl h)))
+  pub some_mark : (n : ℕ) (q : Option Part) → slice_get parts n ≡ q → n < length parts
+      → (c : ℕ) × Contains (marks y parts n) c
+  some_mark n None h lt =
+      elim (slice_get_cases parts n).1 [ inl w ↦ absurd (cc (sym h ∙ w.2)) | inr w ↦ absurd (omega (arith, w.0)) ]
+  some_mark n (Some (Gate ins)) h lt =
+      (home y n, member_contains (marks y parts n) (home y n) (own_mark y parts n (part_homed n (Gate ins) refl h)))
+  some_mark n (Some (Latch ph d)) h lt =
+      (home y n, member_contains (marks y parts n) (home y n) (own_mark y parts n (part_homed n (Latch ph d) refl h)))
   some_mark n (Some Input) h lt = elim (cases_Bool (is_read parts n || is_tapped band.taps n)) [
     | inl e ↦ elim (or_cases (is_read parts n) (is_tapped band.taps n) e) [
-      | inl r ↦ (let w = any_member (λ q. reads n (Some q)) parts r in (home y w.0, member_contains (marks y parts n) (home y w.0) (reader_mark y parts n w.0 w.1 w.2 w.3)))
+      | inl r ↦ (let w = any_member (λ q. reads n (Some q)) parts r in
+          (home y w.0, member_contains (marks y parts n) (home y w.0) (reader_mark y parts n w.0 w.1 w.2 w.3)))
       | inr t ↦ (let w = any_member (λ (t : Tap). t.net.0 == n) band.taps t in (
         w.1.column,
         member_contains (marks y parts n) w.1.column (more_mark y parts n w.1.column
-            (map_member (λ (t : Tap). t.column) (filter (λ t. t.net.0 == n) band.taps) w.1 (filter_member (λ t. t.net.0 == n) band.taps w.1 w.4 w.3))),
+            (map_member (λ (t : Tap). t.column) (filter (λ t. t.net.0 == n) band.taps) w.1
+            (filter_member (λ t. t.net.0 == n) band.taps w.1 w.4 w.3))),
       ))
     ]
-    | inr e ↦ (let s = and_of (part_is is_input (slice_get parts n)) (not (is_read parts n || is_tapped band.taps n)) (ap (part_is is_input) h) (ap not e) in
+    | inr e ↦ (let s =
+        and_of (part_is is_input (slice_get parts n)) (not (is_read parts n || is_tapped band.taps n))
+        (ap (part_is is_input) h) (ap not e) in
         (home y n, member_contains (marks y parts n) (home y n) (own_mark y parts n (stub_homed n s))))
   ]
 
+module _ (f : Plan) (band : Band) (parts : List Part) (rows : ℕ) (is_net : IsNet parts)
+    (fed : (n : ℕ) (ph : Phase) → slice_get parts n ≡ Some (Latch ph None) → ⊥)
+    (may : MayPlace f band parts rows) where
+  abbrev z : Columns
+  z = columns_in band parts
+
+  base_below : z.base ≤ end_of z parts
+  base_below = omega arith
+
+  tap_below : (t : Tap) → Contains band.taps t → t.column + 1 ≤ z.base
+  tap_below t c =
+      let g = greatest_above (map (λ t. t.column + 1) band.taps) (t.column + 1)
+      (map_member (λ (t : Tap). t.column + 1) band.taps t (contains_member band.taps t c)) in omega arith
+
+  more_in : (n c : ℕ) → Contains (z.more n) c → (1 ≤ c) × (c + 1 < f.columns)
+  more_in n c h =
+      let w = member_map (λ (t : Tap). t.column) (filter (λ t. t.net.0 == n) band.taps) c
+      (contains_member (z.more n) c h) in
+      let u = member_filter (λ t. t.net.0 == n) band.taps w.0 w.1 in
+      let k = member_contains band.taps w.0 u.0 in
+      let lo = (may.taps_in w.0 k).1 in let hi = tap_below w.0 k in let b = base_below in let m = may.columns in
+      let e = w.2 in
+      (omega arith, omega arith)
+
   -- the data of a latch is another net
-  data_is : (n : ℕ) (ph : Phase) (d : NetId) (q : Option Part) → slice_get parts d.0 ≡ q → MayFeed ph q → slice_get parts n ≡ Some (Latch ph (Some d)) → (d.0 < length parts) × (d.0 ≢ n)
+  data_is : (n : ℕ) (ph : Phase) (d : NetId) (q : Option Part) → slice_get parts d.0 ≡ q → MayFeed ph q
+      → slice_get parts n ≡ Some (Latch ph (Some d)) → (d.0 < length parts) × (d.0 ≢ n)
   data_is n ph d None h m l = absurd m
-  data_is n ph d (Some Input) h m l = (slice_get_within parts d.0 Input h, λ e. absurd (differs (sym h ∙ (ap (slice_get parts) e ∙ l))))
+  data_is n ph d (Some Input) h m l =
+      (slice_get_within parts d.0 Input h, λ e. absurd (differs (sym h ∙ (ap (slice_get parts) e ∙ l))))
     where
       differs : Some Input ≡ Some (Latch ph (Some d)) → ⊥
       differs e = cc e
-  data_is n ph d (Some (Gate ins)) h m l = (slice_get_within parts d.0 (Gate ins) h, λ e. absurd (differs (sym h ∙ (ap (slice_get parts) e ∙ l))))
+  data_is n ph d (Some (Gate ins)) h m l =
+      (slice_get_within parts d.0 (Gate ins) h, λ e. absurd (differs (sym h ∙ (ap (slice_get parts) e ∙ l))))
     where
       differs : Some (Gate ins) ≡ Some (Latch ph (Some d)) → ⊥
       differs e = cc e
@@ -111,11 +137,11 @@ module _ (f : Plan) (band : Band) (parts : List Part) (rows : ℕ) (is_net : IsN
     no_segments = may.no_segments;
     no_marks = may.no_marks;
     no_lines = λ l c a b. let h = may.no_lines l c a b in omega arith;
-    some = λ n lt. some_mark n (slice_get parts n) refl lt;
+    some = λ n lt. some_mark band parts n (slice_get parts n) refl lt;
     more = more_in;
-    gates_homed = λ n ins h. part_homed n (Gate ins) refl h;
-    latches_homed = λ n ph d h. part_homed n (Latch ph (Some d)) refl h;
-    stubs_homed = stub_homed;
+    gates_homed = λ n ins h. part_homed band parts n (Gate ins) refl h;
+    latches_homed = λ n ph d h. part_homed band parts n (Latch ph (Some d)) refl h;
+    stubs_homed = stub_homed band parts;
     inputs = λ n ins i h c. All-contains (λ j. j.0 < n) ins i (is_net.stand n (Gate ins) h) c;
     data_in = λ n ph d h. data_is n ph d (slice_get parts d.0) refl (is_net.stand n (Latch ph (Some d)) h) h;
   }

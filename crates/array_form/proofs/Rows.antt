@@ -1,5 +1,6 @@
 -- A band has at most as many rows as segments.
-use Rattle.std.proofs.Common.{◌≡◌, ℕ, zero, suc, ◌≤◌, ◌+◌, Bool, true, false, ◌&&◌, List, [], ◌∷◌, length, map, refl, sym, ◌∙◌, ap, subst, arith}
+use Rattle.std.proofs.Common.{◌≡◌, ℕ, zero, suc, ◌≤◌, ◌+◌, Bool, true, false, ◌&&◌, List, [], ◌∷◌, length, map}
+use Rattle.std.proofs.Common.{refl, sym, ◌∙◌, ap, subst, arith}
 use Rattle.std.specs.Prelude.{nat_le, if◌then◌else◌}
 use Rattle.std.specs.List.{range_with_len, sum_by}
 use Rattle.std.proofs.lemmas.List.Sums.{sum_by-cons}
@@ -21,9 +22,11 @@ long : {A B : Type 0} (g : A → B) (xs : List A) → length (map g xs) ≡ leng
 long g [] = refl
 long g (x ∷ xs) = ap suc (long g xs)
 
-pub rows_few : (y : Columns) (parts : List Part) (rows column : ℕ) → IsDensity (intervals_in y parts) rows column → rows ≤ length parts + 3
+pub rows_few : (y : Columns) (parts : List Part) (rows column : ℕ) → IsDensity (intervals_in y parts) rows column
+    → rows ≤ length parts + 3
 rows_few y parts rows column d =
-    let s = sum_few (lies_over column) (λ i. bit_few (nat_le i.first column && nat_le column (i.last + 1))) (intervals_in y parts) in
+    let s = sum_few (lies_over column) (λ i. bit_few (nat_le i.first column && nat_le column (i.last + 1)))
+    (intervals_in y parts) in
     let m = long (λ k. interval_of (cols_in y parts k)) (range_with_len 0 (length parts + 3)) in
     let l = length_range 0 (length parts + 3) in
     let r = d.reached in

@@ -1,5 +1,6 @@
 -- What `pack` gives for the spans of a band are its tracks.
-use Rattle.std.proofs.Common.{◌≡◌, ◌⊎◌, inl, inr, ℕ, zero, suc, ◌<◌, ◌≤◌, ◌+◌, List, [], ◌∷◌, ◌++◌, length, map, get_or, refl, sym, ◌∙◌, ap, subst, arith}
+use Rattle.std.proofs.Common.{◌≡◌, ◌⊎◌, inl, inr, ℕ, zero, suc, ◌<◌, ◌≤◌, ◌+◌, List, [], ◌∷◌, ◌++◌, length, map}
+use Rattle.std.proofs.Common.{get_or, refl, sym, ◌∙◌, ap, subst, arith}
 use Rattle.std.specs.Prelude.{◌≢◌}
 use Rattle.std.specs.List.{range_with_len}
 use Rattle.std.proofs.lemmas.List.{get_or_append_left, get_or-append-add}
@@ -36,12 +37,17 @@ module _ (y : Columns) (parts : List Part) where
   pub cols_nets : (n : ℕ) → n < length parts → cols_in y parts n ≡ marks y parts n
   cols_nets n h =
       let l = nets_long in
-      get_or_append_left of_nets of_phases [] n (omega arith) ∙ (get_range (marks y parts) 0 (length parts) n [] h ∙ ap (marks y parts) (omega arith))
+      get_or_append_left of_nets of_phases [] n (omega arith)
+      ∙ (get_range (marks y parts) 0 (length parts) n [] h ∙ ap (marks y parts) (omega arith))
 
   pub cols_phases : (ph : Phase) → cols_in y parts (length parts + phase_number ph) ≡ phase_marks y parts ph
-  cols_phases ph = subst (λ z. get_or (of_nets ++ of_phases) (z + phase_number ph) [] ≡ phase_marks y parts ph) nets_long (get_or-append-add of_nets of_phases (phase_number ph) [] ∙ one ph)
+  cols_phases ph =
+      subst (λ z. get_or (of_nets ++ of_phases) (z + phase_number ph) [] ≡ phase_marks y parts ph) nets_long
+      (get_or-append-add of_nets of_phases (phase_number ph) [] ∙ one ph)
     where
-      one : (ph : Phase) → get_or (phase_marks y parts A ∷ phase_marks y parts B ∷ phase_marks y parts C ∷ []) (phase_number ph) [] ≡ phase_marks y parts ph
+      one : (ph : Phase)
+          → get_or (phase_marks y parts A ∷ phase_marks y parts B ∷ phase_marks y parts C ∷ []) (phase_number ph) []
+          ≡ phase_marks y parts ph
       one A = refl
       one B = refl
       one C = refl
@@ -49,6 +55,7 @@ module _ (y : Columns) (parts : List Part) where
   -- rows below a count, and apart where spans meet
   pub tracks_from : (row : ℕ → ℕ) (rows : ℕ) → ((k : ℕ) → k < length parts + 3 → row k < rows)
       → ((i j : ℕ) → i < length parts + 3 → j < length parts + 3 → i ≢ j → row i ≡ row j
-      → (greatest (cols_in y parts i) + 1 < least (cols_in y parts j)) ⊎ (greatest (cols_in y parts j) + 1 < least (cols_in y parts i)))
+      → (greatest (cols_in y parts i) + 1 < least (cols_in y parts j))
+      ⊎ (greatest (cols_in y parts j) + 1 < least (cols_in y parts i)))
       → AreTracks y parts (cols_in y parts) row rows
   tracks_from row rows below apart = record { nets = cols_nets; phases = cols_phases; below = below; apart = apart }

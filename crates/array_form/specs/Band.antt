@@ -1,5 +1,7 @@
 -- What one placed net adds to a fabric, in a list.
-use Rattle.std.specs.Prelude.{◌+◌, ◌==◌, ◌<◌, ◌≤◌, ℕ, zero, suc, List, [], ◌∷◌, ◌++◌, Option, Some, None, Bool, true, false, ◌&&◌, ◌||◌, not, cond, map, flat_map, filter, length, slice_get, slice_index_or, count_by, max}
+use Rattle.std.specs.Prelude.{◌+◌, ◌==◌, ◌<◌, ◌≤◌, ℕ, zero, suc, List, [], ◌∷◌, ◌++◌, Option, Some, None, Bool}
+use Rattle.std.specs.Prelude.{true, false, ◌&&◌, ◌||◌, not, cond, map, flat_map, filter, length, slice_get}
+use Rattle.std.specs.Prelude.{slice_index_or, count_by, max}
 use Rattle.std.specs.List.{list_any, range_with_len}
 use Rattle.fabric.specs.declared.thing.Side.TheVariants.{L, R}
 use Rattle.nor_net.specs.declared.net.Phase.{Phase}
@@ -45,14 +47,18 @@ net_ties X b n stub (Some (Gate ins)) =
     ∷ map (λ i. tran (row (place b i)) (left (place b n)) (right (place b n))) (inputs_of ins)
 net_ties X b n stub (Some (Latch ph None)) = []
 net_ties X b n stub (Some (Latch ph (Some d))) =
-    tap L (left (place b n)) (row (place b n)) ∷ tap R (right (place b n)) (row (place b d.0)) ∷ tran (beat b ph) (left (place b n)) (right (place b n)) ∷ []
+    tap L (left (place b n)) (row (place b n)) ∷ tap R (right (place b n)) (row (place b d.0)) ∷ tran (beat b ph)
+    (left (place b n)) (right (place b n)) ∷ []
 
 -- the segments of a band: of its nets, and then of the phases
 abbrev pub band_rows : (X : Type 0) → ℕ → List Part → List (Wire X)
-band_rows X b parts = map (λ n. row (place b n)) (range_with_len 0 (length parts)) ++ (beat b A ∷ beat b B ∷ beat b C ∷ [])
+band_rows X b parts =
+    map (λ n. row (place b n)) (range_with_len 0 (length parts)) ++ (beat b A ∷ beat b B ∷ beat b C ∷ [])
 
 abbrev pub band_columns : (X : Type 0) → ℕ → (ℕ → Bool) → List Part → List (Wire X)
-band_columns X b stub parts = flat_map (λ n. net_columns X b n (stub n) (slice_get parts n)) (range_with_len 0 (length parts))
+band_columns X b stub parts =
+    flat_map (λ n. net_columns X b n (stub n) (slice_get parts n)) (range_with_len 0 (length parts))
 
 abbrev pub band_ties : (X : Type 0) → ℕ → (ℕ → Bool) → List Part → List (Tie (Wire X))
-band_ties X b stub parts = flat_map (λ n. net_ties X b n (stub n) (slice_get parts n)) (range_with_len 0 (length parts))
+band_ties X b stub parts =
+    flat_map (λ n. net_ties X b n (stub n) (slice_get parts n)) (range_with_len 0 (length parts))

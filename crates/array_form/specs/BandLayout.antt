@@ -7,7 +7,8 @@ use Rattle.nor_net.specs.Elements.{Spot}
 use Rattle.array_form.specs.Homes.{Columns, home, phase_number, least, greatest}
 use Rattle.array_form.specs.Lists.{Layout}
 
--- what is known of each band: its columns, its parts, the columns of its segments and their rows, and the number of its rows
+-- what is known of each band: its columns, its parts, the columns of its segments and their rows, and the number of
+-- its rows
 pub record Bands : Type 0 where
   pub columns : ℕ → Columns
   pub parts : ℕ → List Part

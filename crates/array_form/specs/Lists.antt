@@ -14,7 +14,8 @@ use Rattle.nor_net.specs.Elements.{Spot}
 use Rattle.array_form.specs.Named.{Tie, tap, tran, pull}
 use Rattle.array_form.specs.Wires.{Wire, row, beat, left, right, trunk, extra, to_ground, to_power}
 
--- The numbers of a layout: rows, first and last columns of segments; the column of each net that has one, and of each phase; the last
+-- The numbers of a layout: rows, first and last columns of segments; the column of each net that has one, and of
+-- each phase; the last
 -- band; the other lines, and where these are tapped to ground.
 pub record Layout (X : Type 0) : Type 0 where
   pub rows : ℕ → ℕ
@@ -83,7 +84,8 @@ mark t b r c = record { tile = t; band = b; row = r; column = c }
 
 -- the mark of a tie
 abbrev pub mark_of : (X : Type 0) → Layout X → Tie (Wire X) → Mark
-mark_of X y (tap side w v) = mark (tap_tile side) (band_of (foot X y w) (net_of X y v)) (row_of (net_of X y v)) (column_of (net_of X y w))
+mark_of X y (tap side w v) =
+    mark (tap_tile side) (band_of (foot X y w) (net_of X y v)) (row_of (net_of X y v)) (column_of (net_of X y w))
 mark_of X y (tran g a b) = mark Tran (band_of 0 (net_of X y g)) (row_of (net_of X y g)) (column_of (net_of X y a))
 mark_of X y (pull a) = mark PullUp (foot X y a) (y.rows (foot X y a)) (column_of (net_of X y a))
 
@@ -100,16 +102,19 @@ IsSegmentAt _ b r c = ⊥
 abbrev pub Crossing : (X : Type 0) → Layout X → Tie (Wire X) → Type 0
 Crossing X y (tap side w v) =
     let m : Mark = mark_of X y (tap side w v) in
-    IsLineAt (net_of X y w) side m.band m.column × ((m.row ≡ 0) × (net_of X y v ≡ ground) ⊎ IsSegmentAt (net_of X y v) m.band m.row m.column)
+    IsLineAt (net_of X y w) side m.band m.column
+    × ((m.row ≡ 0) × (net_of X y v ≡ ground) ⊎ IsSegmentAt (net_of X y v) m.band m.row m.column)
 Crossing X y (tran g a b) =
     let m : Mark = mark_of X y (tran g a b) in
-    IsSegmentAt (net_of X y g) m.band m.row m.column × IsLineAt (net_of X y a) L m.band m.column × IsLineAt (net_of X y b) R m.band m.column
+    IsSegmentAt (net_of X y g) m.band m.row m.column × IsLineAt (net_of X y a) L m.band m.column
+    × IsLineAt (net_of X y b) R m.band m.column
 Crossing X y (pull a) =
     let m : Mark = mark_of X y (pull a) in
     IsLineAt (net_of X y a) L m.band m.column
 
 -- the fabric has exactly these segments, lines and marks; marks in any order
-pub record IsMadeOf (X : Type 0) (y : Layout X) (rows columns : List (Wire X)) (ties : List (Tie (Wire X))) (f : Plan) : Type 0 where
+pub record IsMadeOf (X : Type 0) (y : Layout X) (rows columns : List (Wire X)) (ties : List (Tie (Wire X)))
+    (f : Plan) : Type 0 where
   pub segments : map segment f.segments ≡ map (net_of X y) rows
   pub lines : map line f.lines ≡ map (net_of X y) columns
   pub marks : (m : Mark) → Contains f.marks m ↔ Contains (map (mark_of X y) ties) m

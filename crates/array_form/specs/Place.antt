@@ -1,5 +1,7 @@
 -- What `measure` and `place` give.
-use Rattle.std.specs.Prelude.{◌≡◌, ◌≢◌, ◌⊎◌, ◌+◌, ◌<◌, ◌≤◌, ◌==◌, ℕ, zero, suc, List, [], ◌∷◌, ◌++◌, Option, Some, None, Bool, true, false, ◌&&◌, ◌||◌, not, cond, map, filter, length, max, slice_get, slice_index, slice_index_or, Contains, All, ◌*◌, nat_le}
+use Rattle.std.specs.Prelude.{◌≡◌, ◌≢◌, ◌⊎◌, ◌+◌, ◌<◌, ◌≤◌, ◌==◌, ℕ, zero, suc, List, [], ◌∷◌, ◌++◌, Option, Some}
+use Rattle.std.specs.Prelude.{None, Bool, true, false, ◌&&◌, ◌||◌, not, cond, map, filter, length, max, slice_get}
+use Rattle.std.specs.Prelude.{slice_index, slice_index_or, Contains, All, ◌*◌, nat_le}
 use Rattle.std.specs.List.{range_with_len, list_any, sum_by}
 use Rattle.fabric.specs.declared.thing.Segment.{Segment}
 use Rattle.fabric.specs.declared.thing.Line.{Line}
@@ -18,7 +20,8 @@ use Rattle.track_assign.specs.declared.packing.Interval.{Interval}
 use Rattle.track_assign.specs.declared.packing.Tracks.{Tracks}
 use Rattle.track_assign.specs.Density.{IsDensity}
 use Rattle.array_form.specs.declared.band.Placed.{Placed}
-use Rattle.array_form.specs.Homes.{Columns, reads, marks, phase_marks, phase_number, least, greatest, end_of, home, count_below}
+use Rattle.array_form.specs.Homes.{Columns, reads, marks, phase_marks, phase_number, least, greatest, end_of, home}
+use Rattle.array_form.specs.Homes.{count_below}
 use Rattle.array_form.specs.Laying.{with_net, band_segments, band_segment, AreTracks, HasRoom}
 
 abbrev pub is_input : Part → Bool
@@ -52,7 +55,10 @@ columns_in band parts = record {
 
 -- the columns of segment k: of the nets, and then of the phases
 abbrev pub cols_in : Columns → List Part → ℕ → List ℕ
-cols_in y parts k = slice_index_or (map (marks y parts) (range_with_len 0 (length parts)) ++ (phase_marks y parts A ∷ phase_marks y parts B ∷ phase_marks y parts C ∷ [])) k []
+cols_in y parts k =
+    slice_index_or
+    (map (marks y parts) (range_with_len 0 (length parts)) ++
+    (phase_marks y parts A ∷ phase_marks y parts B ∷ phase_marks y parts C ∷ [])) k []
 
 -- what each segment spans, as `pack` takes it
 abbrev pub interval_of : List ℕ → Interval
@@ -73,9 +79,13 @@ pub record IsMeasured (band : Band) (parts : List Part) (size : Size) : Type 0 w
 pub record IsPlaced (band : Band) (parts : List Part) (old new : Plan) (placed : Placed) : Type 0 where
   pub tracks : Tracks
   pub groups : placed.groups ≡ tracks ∷ []
-  pub are_tracks : AreTracks (columns_in band parts) parts (cols_in (columns_in band parts) parts) (slice_index tracks.row) tracks.rows
-  pub after : new ≡ with_net old band.index (columns_in band parts) parts (cols_in (columns_in band parts) parts) (slice_index tracks.row)
-  pub told : placed.segments ≡ map (band_segment band.index (cols_in (columns_in band parts) parts) (slice_index tracks.row)) (range_with_len 0 (length parts)) ∷ []
+  pub are_tracks : AreTracks (columns_in band parts) parts (cols_in (columns_in band parts) parts)
+      (slice_index tracks.row) tracks.rows
+  pub after : new ≡ with_net old band.index (columns_in band parts) parts (cols_in (columns_in band parts) parts)
+      (slice_index tracks.row)
+  pub told : placed.segments ≡ map
+      (band_segment band.index (cols_in (columns_in band parts) parts) (slice_index tracks.row))
+      (range_with_len 0 (length parts)) ∷ []
 
 -- the conditions of `place`, in the words of a caller
 pub record MayPlace (f : Plan) (band : Band) (parts : List Part) (rows : ℕ) : Type 0 where
@@ -86,7 +96,8 @@ pub record MayPlace (f : Plan) (band : Band) (parts : List Part) (rows : ℕ) : 
   pub rows_is : rows_of f band.index ≡ suc rows
   pub no_segments : (s : Segment) → Contains f.segments s → s.band ≢ band.index
   pub no_marks : (m : Mark) → Contains f.marks m → m.band ≢ band.index
-  pub no_lines : (l : Line) → Contains f.lines l → l.first_band ≤ band.index → band.index ≤ l.last_band → l.column < band.first_column
+  pub no_lines : (l : Line) → Contains f.lines l → l.first_band ≤ band.index → band.index ≤ l.last_band
+      → l.column < band.first_column
 
 -- The fabric has space for what is added for the net.
 pub record HasSpace (f : Plan) (parts : List Part) : Type 0 where
@@ -99,3 +110,8 @@ pub record IsBandOf (band : Band) (parts : List Part) : Type 0 where
   pub first : band.first_column < limit
   pub nets : All (λ t. t.net.0 < length parts) band.taps
   pub columns : All (λ t. t.column < limit) band.taps
+
+-- The band has as many rows as the net wants, and meets the conditions.
+abbrev pub IsFitted : Plan → Band → List Part → Type 0
+IsFitted f band parts = (rows : ℕ) × (column : ℕ)
+    × IsDensity (intervals_in (columns_in band parts) parts) rows column × MayPlace f band parts rows

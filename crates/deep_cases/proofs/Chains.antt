@@ -12,7 +12,7 @@ use Rattle.mp_program.specs.declared.program.Form.{Form}
 use Rattle.mp_program.specs.declared.program.Process.{Process}
 use Rattle.mp_program.specs.declared.program.Program.{Program}
 use Rattle.mp_program.specs.Fits as fits
-use Rattle.mp_program.specs.Tree.{are_low, expr_heights, expr_places, exprs_in, form_heights, form_places, inner}
+use Rattle.mp_program.specs.Tree.{are_low, expr_places, exprs_in, form_places, inner}
 use Rattle.mp_program.specs.Tree.{is_distinct, is_tree, operands, tallest}
 use Rattle.deep_cases.specs.Chain.{expr_chain, form_chain, last_expr, last_form, negation, wrapping}
 

@@ -24,3 +24,4 @@ mod Classes
 mod Entries
 mod Lookups
 mod Switching
+mod Small

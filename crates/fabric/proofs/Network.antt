@@ -29,7 +29,7 @@ use Rattle.fabric.specs.Shape.{offset, shape}
 use Rattle.fabric.specs.Switches.{Net, IsNet, is_switch, HasKind, IsSwitch, AreSwitches}
 use Rattle.fabric.specs.Switches.Net.{segment, line, ground, power as the_power}
 use Rattle.renumbering.specs.Same.{AreOneToOne, SameChannel, Renumbering, SameTag}
-use Rattle.fabric.specs.Theorem.{IsOn, IsLabelOn, DrawsSwitches, FabricDrawsSwitches, FabricIsSwitches}
+use Rattle.fabric.specs.Theorem.{IsOn, IsLabelOn, DrawsSwitches, FabricDrawsSwitches, FabricIsSwitches, LabelsName}
 use Rattle.fabric.proofs.Tile.Thing.{trunk, power, seg, lin}
 use Rattle.fabric.proofs.Heights.{bands_lie}
 use Rattle.fabric.proofs.Local.{some_rows, segment_lies, line_lies, trunk_at, power_at, segment_at, line_at}
@@ -532,3 +532,17 @@ fabric_is joined f w net m number d t = record {
         → AllZip (SameTag node) xs ys
     none [] ys z e node = subst (λ y. AllZip (SameTag node) [] y) (sym e) tt
     none (x ∷ xs) ys z e node = absurd z
+
+-- a label on a net names the conductor on the net's own rectangle
+pub labels_name : RectanglesAreJoined → LabelsName
+labels_name joined f w n i label o =
+    let at : Square = record { layer = o.layer; x = label.x; y = label.y } in
+    let c : ConductsOn (covered (shape f)) o.layer label.x label.y =
+    owns_conducts joined f w n at (on_net joined f w n at i o.on) in (
+      at,
+      record {
+        x = refl;
+        y = refl;
+        layer = subst (λ z. IsNamed (covered (shape f)) label.x label.y z o.layer) (sym o.named) (inl (refl, c));
+      },
+    )

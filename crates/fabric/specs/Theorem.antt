@@ -1,11 +1,13 @@
 -- What a fabric draws.
-use Rattle.std.specs.Prelude.{ℕ, ◌≡◌, List, [], Some}
+use Rattle.std.specs.Prelude.{ℕ, ◌≡◌, ◌≤◌, ◌+◌, List, [], Some, length}
 use Rattle.std.specs.List.{AllZip}
 use Rattle.lam_geom.specs.declared.label.FlatLabel.{FlatLabel}
 use Rattle.lam_geom.specs.Squares.{Square, IsIn, covered}
 use Rattle.switch_net.specs.declared.network.Network.{Network}
 use Rattle.lam_geom.specs.declared.layer.Layer.{Layer}
+use Rattle.switch_net.specs.Labels.{Names}
 use Rattle.switch_net.specs.Drawn.{IsNetwork}
+use Rattle.fabric.specs.Counted.{thing_count}
 use Rattle.fabric.specs.Plan.{Plan, IsFabric}
 use Rattle.fabric.specs.Shape.{shape, ground_trunk, power_trunk, segment_rect, line_rect}
 use Rattle.fabric.specs.Switches.{Net, IsNet, AreSwitches}
@@ -44,3 +46,16 @@ abbrev pub FabricIsSwitches : Type 0
 FabricIsSwitches =
     (f : Plan) → IsFabric f → (net switches : Network) (number : Net → ℕ)
     → IsNetwork (covered (shape f)) [] net → AreSwitches f number switches → SameUpToNumbering net switches
+
+-- a label on a net names a conductor
+abbrev pub LabelsName : Type 0
+LabelsName =
+    (f : Plan) → IsFabric f → (n : Net) → IsNet f n → (label : FlatLabel) → IsLabelOn f n label
+    → (s : Square) × Names (covered (shape f)) label s
+
+-- there are no more nodes and channels than segments, lines and marks, and two
+abbrev pub FabricsAreSmall : Type 0
+FabricsAreSmall =
+    (f : Plan) → IsFabric f → (labels : List FlatLabel) (net switches : Network) (number : Net → ℕ)
+    → IsNetwork (covered (shape f)) labels net → AreSwitches f number switches
+    → net.nodes + length net.channels ≤ thing_count f + 2

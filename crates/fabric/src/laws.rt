@@ -1,6 +1,6 @@
 //! Laws of fabrics.
 
-ghost use Rattle.fabric.specs.Theorem.{FabricDrawsSwitches, FabricIsSwitches};
+ghost use Rattle.fabric.specs.Theorem.{FabricDrawsSwitches, FabricIsSwitches, FabricsAreSmall, LabelsName};
 
 use lam_geom::rectangles_are_joined;
 
@@ -11,4 +11,18 @@ pub fn fabric_draws_its_switches()
     ensures same { FabricIsSwitches }
 {
     rectangles_are_joined();
+}
+
+/// A label on a net of a fabric names a conductor.
+pub fn labels_name_conductors()
+    ensures { LabelsName }
+{
+    rectangles_are_joined();
+}
+
+/// A fabric has no more nodes and channels than it has segments, lines and marks, and two.
+pub fn fabrics_are_small()
+    ensures { FabricsAreSmall }
+{
+    fabric_draws_its_switches();
 }

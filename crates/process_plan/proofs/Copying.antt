@@ -25,20 +25,25 @@ use Rattle.process_plan.proofs.Members.{some_entry, downward}
 
 -- what the laws of transfers say of these
 abbrev pub Valued : Rtl → Type 0
-Valued r = (env : List ℕ) (e : ℕ) (x : RtlExpr) → IsAt r.exprs e x → value_of r env e ≡ expr_value r.width env x (value_of r env)
+Valued r = (env : List ℕ) (e : ℕ) (x : RtlExpr) → IsAt r.exprs e x
+    → value_of r env e ≡ expr_value r.width env x (value_of r env)
 
 -- the value of a cell is that of what it stands for
 pub cell_at : (roles : List Role) (vs : List ℕ) (seats : List Seat) (c : ℕ) (s : Role) → IsAt roles c s
     → slice_index (cell_values roles vs seats) c ≡ role_value vs seats s
-cell_at roles vs seats c s (lt, is) = get_or-map (role_value vs seats) roles c s 0 lt ∙ ap (role_value vs seats) (sym is)
+cell_at roles vs seats c s (lt, is) = get_or-map (role_value vs seats) roles c s 0 lt
+    ∙ ap (role_value vs seats) (sym is)
 
-module _ {p : Program} {r : Rtl} {roles : List Role} {enables : List (Option Enable)} (known : Known p) (valued : Valued r)
-    (plan : FollowsPlan p r roles enables) {st : State} {inputs env : List ℕ} (clock : IsEnvironment p st inputs env) where
+module _ {p : Program} {r : Rtl} {roles : List Role} {enables : List (Option Enable)} (known : Known p)
+    (valued : Valued r)
+    (plan : FollowsPlan p r roles enables) {st : State} {inputs env : List ℕ}
+    (clock : IsEnvironment p st inputs env) where
   -- the values of expressions, where each cell has the value of what it stands for
   abbrev pub V : ℕ → ℕ
   V e = value_of r (cell_values roles env st.seats) e
 
-  pub value_is : (e : ℕ) (x : RtlExpr) → IsAt r.exprs e x → V e ≡ expr_value r.width (cell_values roles env st.seats) x V
+  pub value_is : (e : ℕ) (x : RtlExpr) → IsAt r.exprs e x
+      → V e ≡ expr_value r.width (cell_values roles env st.seats) x V
   value_is e x at = valued (cell_values roles env st.seats) e x at
 
   pub value_true : V 0 ≡ 1
@@ -53,25 +58,30 @@ module _ {p : Program} {r : Rtl} {roles : List Role} {enables : List (Option Ena
   abbrev CopiedAt : ℕ → Type 0
   CopiedAt e = V (copy_of p e) ≡ from.value_of p env e
 
-  args_copied : (i : ℕ) (args : List ℕ) → ((j : ℕ) → i < j → j < length p.exprs → CopiedAt j) → AllBetween i (length p.exprs) args
+  args_copied : (i : ℕ) (args : List ℕ) → ((j : ℕ) → i < j → j < length p.exprs → CopiedAt j)
+      → AllBetween i (length p.exprs) args
       → map V (map (copy_of p) args) ≡ map (from.value_of p env) args
   args_copied i [] below fit = refl
   args_copied i (a ∷ more) below fit =
       ap (λ v. v ∷ map V (map (copy_of p) more)) (below a fit.0.0 fit.0.1)
       ∙ ap (λ vs. from.value_of p env a ∷ vs) (args_copied i more below fit.1)
 
-  kind_copied : (i : ℕ) (k : ExprKind) (y : RtlExpr) → ((j : ℕ) → i < j → j < length p.exprs → CopiedAt j) → ArgsFit i (length p.exprs) k → IsCopy p roles k y
+  kind_copied : (i : ℕ) (k : ExprKind) (y : RtlExpr) → ((j : ℕ) → i < j → j < length p.exprs → CopiedAt j)
+      → ArgsFit i (length p.exprs) k → IsCopy p roles k y
       → expr_value r.width (cell_values roles env st.seats) y V ≡ from.kind_value p env k (from.value_of p env)
   kind_copied i (source.Number n) y below fit is = ap (λ z. expr_value r.width (cell_values roles env st.seats) z V) is
   kind_copied i (source.Named x) y below fit (d, at, inl (n, what, is)) =
       ap (λ z. expr_value r.width (cell_values roles env st.seats) z V) is
       ∙ sym (clock.values (index_of p.defs x) d at.0 at.1
-      ∙ ap (λ w. what_value w (slice_index st.stored (index_of p.defs x)) (slice_index inputs (pad_number p.defs (index_of p.defs x))) (driven_value p st env d)) what)
+      ∙ ap (λ w. what_value w (slice_index st.stored (index_of p.defs x))
+      (slice_index inputs (pad_number p.defs (index_of p.defs x))) (driven_value p st env d)) what)
   kind_copied i (source.Named x) y below fit (d, at, inr (c, role, is)) =
       ap (λ z. expr_value r.width (cell_values roles env st.seats) z V) is
       ∙ cell_at roles env st.seats c (Value (index_of p.defs x)) role
-  kind_copied i source.True y below fit is = ap (λ z. expr_value r.width (cell_values roles env st.seats) z V) is ∙ ap (λ n. 1 - n) value_false
-  kind_copied i source.False y below fit is = ap (λ z. expr_value r.width (cell_values roles env st.seats) z V) is ∙ ap (λ n. 1 - n) value_true
+  kind_copied i source.True y below fit is = ap (λ z. expr_value r.width (cell_values roles env st.seats) z V) is
+      ∙ ap (λ n. 1 - n) value_false
+  kind_copied i source.False y below fit is = ap (λ z. expr_value r.width (cell_values roles env st.seats) z V) is
+      ∙ ap (λ n. 1 - n) value_true
   kind_copied i (source.Apply op k args) y below fit is =
       ap (λ z. expr_value r.width (cell_values roles env st.seats) z V) is
       ∙ ap (λ w. apply w op k (map V (map (copy_of p) args))) plan.width
@@ -82,4 +92,5 @@ module _ {p : Program} {r : Rtl} {roles : List Role} {enables : List (Option Ena
   copied = downward CopiedAt (length p.exprs) (λ e lt below.
       let (x, at) = some_entry p.exprs e lt in
       let (y, at_y, is) = plan.copies e x at in
-      value_is (copy_of p e) y at_y ∙ kind_copied e x.kind y below (known.sound.exprs e x lt at.1) is ∙ sym (known.values env e x lt at.1))
+      value_is (copy_of p e) y at_y ∙ kind_copied e x.kind y below (known.sound.exprs e x lt at.1) is
+      ∙ sym (known.values env e x lt at.1))

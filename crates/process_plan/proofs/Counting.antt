@@ -25,17 +25,21 @@ use Rattle.process_plan.proofs.Jumping.{is_calling}
 
 -- ---- calls
 
-sum_behind : (i n : ℕ) (fs : List ℕ) (g h : ℕ → ℕ) → ((k : ℕ) → i < k → g k ≡ h k) → AllBetween i n fs → sum_by g fs ≡ sum_by h fs
+sum_behind : (i n : ℕ) (fs : List ℕ) (g h : ℕ → ℕ) → ((k : ℕ) → i < k → g k ≡ h k) → AllBetween i n fs
+    → sum_by g fs ≡ sum_by h fs
 sum_behind i n [] g h same fit = refl
-sum_behind i n (f ∷ fs) g h same fit = let a = same f fit.0.0 in let b = sum_behind i n fs g h same fit.1 in omega (arith, a, b, sum_by-cons g f fs, sum_by-cons h f fs)
+sum_behind i n (f ∷ fs) g h same fit = let a = same f fit.0.0 in let b = sum_behind i n fs g h same fit.1 in
+    omega (arith, a, b, sum_by-cons g f fs, sum_by-cons h f fs)
 
 both_lists : (i n : ℕ) (xs ys : List ℕ) → AllBetween i n xs → AllBetween i n ys → AllBetween i n (xs ++ ys)
 both_lists i n [] ys hx hy = hy
 both_lists i n (x ∷ xs) ys (first, rest) hy = (first, both_lists i n xs ys rest hy)
 
-branches_behind : (e i n : ℕ) (bs : List Branch) → BranchesFit e i n bs → AllBetween i n (flat_map (λ (b : Branch). b.body) bs)
+branches_behind : (e i n : ℕ) (bs : List Branch) → BranchesFit e i n bs
+    → AllBetween i n (flat_map (λ (b : Branch). b.body) bs)
 branches_behind e i n [] h = tt
-branches_behind e i n (b ∷ bs) (first, rest) = both_lists i n b.body (flat_map (λ (b : Branch). b.body) bs) first.1 (branches_behind e i n bs rest)
+branches_behind e i n (b ∷ bs) (first, rest) = both_lists i n b.body (flat_map (λ (b : Branch). b.body) bs) first.1
+    (branches_behind e i n bs rest)
 
 inner_behind : (e i n : ℕ) (k : FormKind) → InnerFit e i n k → AllBetween i n (inner k)
 inner_behind e i n (Set x at v) h = tt
@@ -45,15 +49,18 @@ inner_behind e i n (Go l) h = tt
 inner_behind e i n (Call l) h = tt
 inner_behind e i n Return h = tt
 
-pub calls_is : (p : Program) → Known p → (f : ℕ) (x : Form) → IsAt p.forms f x → calls_in p f ≡ is_call x.kind + sum_by (calls_in p) (inner x.kind)
+pub calls_is : (p : Program) → Known p → (f : ℕ) (x : Form) → IsAt p.forms f x
+    → calls_in p f ≡ is_call x.kind + sum_by (calls_in p) (inner x.kind)
 calls_is p known f x (lt, is) =
     table_at 0 (λ (y : Form) v. is_call y.kind + sum_by v (inner y.kind)) p.forms f x lt is
-    (λ g h same. ap (λ n. is_call x.kind + n) (sum_behind f (length p.forms) (inner x.kind) g h same (inner_behind (length p.exprs) f (length p.forms) x.kind ((known.sound).forms f x lt is))))
+    (λ g h same. ap (λ n. is_call x.kind + n) (sum_behind f (length p.forms) (inner x.kind) g h same
+    (inner_behind (length p.exprs) f (length p.forms) x.kind ((known.sound).forms f x lt is))))
 
 pub in_sum : (v : ℕ → ℕ) (fs : List ℕ) (f : ℕ) → Contains fs f → v f ≤ sum_by v fs
 in_sum v [] f c = absurd (nowhere f c)
 in_sum v (g ∷ fs) f (zero, lt, is) = let e : v g ≡ v f = ap v is in omega (arith, e, sum_by-cons v g fs)
-in_sum v (g ∷ fs) f (suc k, lt, is) = let le = in_sum v fs f (k, omega (arith, lt), is) in omega (arith, le, sum_by-cons v g fs)
+in_sum v (g ∷ fs) f (suc k, lt, is) = let le = in_sum v fs f (k, omega (arith, lt), is) in
+    omega (arith, le, sum_by-cons v g fs)
 
 under_counts : (p : Program) → Known p → (f g : ℕ) → Under p f g → calls_in p g ≤ calls_in p f
 under_counts p known f g standing.itself = omega arith
@@ -72,7 +79,8 @@ own_call v (Call l) m c h = omega arith
 own_call v Return m c h = let clash = ap is_calling (only_one m Returns c) ∙ h in absurd (cc)
 
 -- a form that calls in some clock has a call in it
-pub calls_counted : (p : Program) (env : List ℕ) → Known p → (f : ℕ) → f < length p.forms → (l : List ℕ) → Contains (effects_of p env f) (Calls l) → 0 < calls_in p f
+pub calls_counted : (p : Program) (env : List ℕ) → Known p → (f : ℕ) → f < length p.forms → (l : List ℕ)
+    → Contains (effects_of p env f) (Calls l) → 0 < calls_in p f
 calls_counted p env known f lt l c =
     let (g, y, at, runs, own) = effect_source p env known f lt (Calls l) c in
     let here_call = own_call (value_of p env) y.kind (Calls l) own refl in

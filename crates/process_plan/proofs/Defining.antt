@@ -1,5 +1,28 @@
 -- What is written to a definition is written to its cell.
-use Rattle.std.proofs.Common.{◌≡◌, inl, inr, ◌∙◌, ℕ, zero, suc, ◌<◌, List, [], ◌∷◌, Bool, true, false, cond, Option, refl, sym, ap, subst, arith, length}
+use Rattle.std.proofs.Common.{
+  ◌≡◌,
+  inl,
+  inr,
+  ◌∙◌,
+  ℕ,
+  zero,
+  suc,
+  ◌<◌,
+  List,
+  [],
+  ◌∷◌,
+  Bool,
+  true,
+  false,
+  cond,
+  Option,
+  refl,
+  sym,
+  ap,
+  subst,
+  arith,
+  length,
+}
 use Rattle.std.specs.Prelude.{Contains, slice_index, slice_index_or}
 use Rattle.std.specs.List.{AllByRecursion}
 use Rattle.std.proofs.lemmas.List.{get_or_default}
@@ -43,16 +66,19 @@ all_in n [] f fit c = absurd (nowhere f c)
 all_in n (g ∷ fs) f fit (zero, lt, is) = subst (λ x. x < n) is fit.0
 all_in n (g ∷ fs) f fit (suc k, lt, is) = all_in n fs f fit.1 (k, omega (arith, lt), is)
 
-processes_in : (n : ℕ) (qs : List Process) (k : ℕ) (q : Process) → AllByRecursion (λ (q : Process). AllByRecursion (λ f. f < n) q.forms) qs → IsAt qs k q
+processes_in : (n : ℕ) (qs : List Process) (k : ℕ) (q : Process)
+    → AllByRecursion (λ (q : Process). AllByRecursion (λ f. f < n) q.forms) qs → IsAt qs k q
     → AllByRecursion (λ f. f < n) q.forms
 processes_in n [] k q fit (lt, is) = absurd (omega (arith, lt))
-processes_in n (x ∷ qs) zero q fit (lt, is) = subst (λ (t : Process). AllByRecursion (λ f. f < n) t.forms) (sym is) fit.0
+processes_in n (x ∷ qs) zero q fit (lt, is) = subst (λ (t : Process). AllByRecursion (λ f. f < n) t.forms)
+    (sym is) fit.0
 processes_in n (x ∷ qs) (suc k) q fit (lt, is) = processes_in n qs k q fit.1 (omega (arith, lt), is)
 
 pub root_in : (p : Program) → Known p → (o : Origin) (root : ℕ) → IsRoot p o root → root < length p.forms
 root_in p known Always root c = all_in (length p.forms) p.always root (known.sound).always c
 root_in p known (At k i) root (q, at, at_i) =
-    all_in (length p.forms) q.forms root (processes_in (length p.forms) p.processes k q (known.sound).processes at) (i, at_i.0, sym at_i.1)
+    all_in (length p.forms) q.forms root (processes_in (length p.forms) p.processes k q (known.sound).processes at)
+    (i, at_i.0, sym at_i.1)
 
 in_taken : (qs : List Process) (ss : List Seat) (root : ℕ) → SeatsFit qs ss → Contains (places_taken qs ss) root
     → (k : ℕ) × (q : Process) × IsAt qs k q × IsAt q.forms (seat_at ss k).place root
@@ -65,7 +91,8 @@ in_taken (q ∷ qs) (s ∷ ss) root fit (suc j, lt, is) =
     let l : k < length qs = at.0 in
     (suc k, x, (omega (arith, l), at.1), at_i)
 
-taken_in : (qs : List Process) (ss : List Seat) (k : ℕ) (q : Process) (root : ℕ) → SeatsFit qs ss → IsAt qs k q → IsAt q.forms (seat_at ss k).place root
+taken_in : (qs : List Process) (ss : List Seat) (k : ℕ) (q : Process) (root : ℕ) → SeatsFit qs ss → IsAt qs k q
+    → IsAt q.forms (seat_at ss k).place root
     → Contains (places_taken qs ss) root
 taken_in [] ss k q root fit (lt, is) at_i = absurd (omega (arith, lt))
 taken_in (x ∷ qs) [] k q root fit at at_i = absurd fit
@@ -73,15 +100,19 @@ taken_in (x ∷ qs) (s ∷ ss) zero q root fit (lt, is) (lt2, is2) =
     let e : root ≡ slice_index q.forms s.place = is2 ∙ get_or_default q.forms s.place root 0 lt2 in
     (zero, omega arith, ap (λ (t : Process). slice_index t.forms s.place) (sym is) ∙ sym e)
 taken_in (x ∷ qs) (s ∷ ss) (suc k) q root fit (lt, is) at_i =
-    there root (slice_index x.forms s.place) (places_taken qs ss) (taken_in qs ss k q root fit.3 (omega (arith, lt), is) at_i)
+    there root (slice_index x.forms s.place) (places_taken qs ss)
+    (taken_in qs ss k q root fit.3 (omega (arith, lt), is) at_i)
 
-pub active_root : (p : Program) (st : State) (root : ℕ) → IsState p st → Contains (active p st) root → (o : Origin) × IsRoot p o root × IsOn st.seats o
+pub active_root : (p : Program) (st : State) (root : ℕ) → IsState p st → Contains (active p st) root → (o : Origin)
+    × IsRoot p o root × IsOn st.seats o
 active_root p st root fits c = elim (Contains-append_cases p.always (places_taken p.processes st.seats) root c) [
   | inl always ↦ (Always, always, tt)
-  | inr taken ↦ let (k, q, at, at_i) = in_taken p.processes st.seats root fits.seats taken in (At k (seat_at st.seats k).place, (q, at, at_i), refl)
+  | inr taken ↦ let (k, q, at, at_i) = in_taken p.processes st.seats root fits.seats taken in
+      (At k (seat_at st.seats k).place, (q, at, at_i), refl)
 ]
 
-pub root_active : (p : Program) (st : State) (root : ℕ) (o : Origin) → IsState p st → IsRoot p o root → IsOn st.seats o → Contains (active p st) root
+pub root_active : (p : Program) (st : State) (root : ℕ) (o : Origin) → IsState p st → IsRoot p o root
+    → IsOn st.seats o → Contains (active p st) root
 root_active p st root Always fits c on = Contains-append_left p.always (places_taken p.processes st.seats) root c
 root_active p st root (At k i) fits (q, at, at_i) on =
     Contains-append_right p.always (places_taken p.processes st.seats) root
@@ -89,15 +120,18 @@ root_active p st root (At k i) fits (q, at, at_i) on =
 
 -- ---- what is written to a name
 
-in_source : (x : List ℕ) (es : List Effect) (w : ℕ) → Contains (source.written x es) w → (y : List ℕ) × Contains es (Writes y w) × (y ≡ x)
+in_source : (x : List ℕ) (es : List Effect) (w : ℕ) → Contains (source.written x es) w → (y : List ℕ)
+    × Contains es (Writes y w) × (y ≡ x)
 in_source x [] w c = absurd (nowhere w c)
 in_source x (Writes y v ∷ es) w c = by_test (is_same y x)
-    (λ e. elim (cases_of w v (source.written x es) (subst (λ b. Contains (cond b (v ∷ source.written x es) (source.written x es)) w) e c))
+    (λ e. elim (cases_of w v (source.written x es) (subst
+    (λ b. Contains (cond b (v ∷ source.written x es) (source.written x es)) w) e c))
     as (λ _. (z : List ℕ) × Contains (Writes y v ∷ es) (Writes z w) × (z ≡ x)) [
       | inl is ↦ (y, (zero, omega arith, ap (Writes y) is), (bytes_eq-Decides y x).0 e)
       | inr more ↦ let (z, cz, h) = in_source x es w more in (z, there (Writes z w) (Writes y v) es cz, h)
     ])
-    (λ e. let (z, cz, h) = in_source x es w (subst (λ b. Contains (cond b (v ∷ source.written x es) (source.written x es)) w) e c) in
+    (λ e. let (z, cz, h) = in_source x es w (subst (λ b. Contains
+    (cond b (v ∷ source.written x es) (source.written x es)) w) e c) in
     (z, there (Writes z w) (Writes y v) es cz, h))
 in_source x (Goes l ∷ es) w c = let (z, cz, h) = in_source x es w c in (z, there (Writes z w) (Goes l) es cz, h)
 in_source x (Calls l ∷ es) w c = let (z, cz, h) = in_source x es w c in (z, there (Writes z w) (Calls l) es cz, h)
@@ -119,10 +153,12 @@ source_in : (x : List ℕ) (es : List Effect) (w : ℕ) → Contains es (Writes 
 source_in x [] w c = absurd (nowhere (Writes x w) c)
 source_in x (Writes y v ∷ es) w (zero, lt, is) =
     let e : is_same y x ≡ true = (bytes_eq-Decides y x).1 (ap effect_target is) in
-    subst (λ b. Contains (cond b (v ∷ source.written x es) (source.written x es)) w) (sym e) (zero, omega arith, ap value_written is)
+    subst (λ b. Contains (cond b (v ∷ source.written x es) (source.written x es)) w) (sym e)
+    (zero, omega arith, ap value_written is)
 source_in x (Writes y v ∷ es) w (suc k, lt, is) = pick (is_same y x) (source_in x es w (k, omega (arith, lt), is))
   where
-    pick : (b : Bool) → Contains (source.written x es) w → Contains (cond b (v ∷ source.written x es) (source.written x es)) w
+    pick : (b : Bool) → Contains (source.written x es) w
+        → Contains (cond b (v ∷ source.written x es) (source.written x es)) w
     pick true c = there w v (source.written x es) c
     pick false c = c
 source_in x (Goes l ∷ es) w (zero, lt, is) = let clash = ap is_write is in absurd (cc)
@@ -133,7 +169,8 @@ source_in x (Returns ∷ es) w (zero, lt, is) = let clash = ap is_write is in ab
 source_in x (Returns ∷ es) w (suc k, lt, is) = source_in x es w (k, omega (arith, lt), is)
 
 -- a form that writes is a `setq`
-own_write : (v : ℕ → ℕ) (k : FormKind) (x : List ℕ) (w : ℕ) → Contains (own_effects v k) (Writes x w) → (at : Place) × (e : ℕ) × (k ≡ Set x at e) × (v e ≡ w)
+own_write : (v : ℕ → ℕ) (k : FormKind) (x : List ℕ) (w : ℕ) → Contains (own_effects v k) (Writes x w) → (at : Place)
+    × (e : ℕ) × (k ≡ Set x at e) × (v e ≡ w)
 own_write v (Set y at e) x w (zero, lt, is) = (at, e, ap (λ n. Set n at e) (ap effect_target is), ap value_written is)
 own_write v (Set y at e) x w (suc k, lt, is) = absurd (omega (arith, lt))
 own_write v (Cond bs) x w c = absurd (nowhere (Writes x w) c)
@@ -154,10 +191,12 @@ pub value_role : (roles : List Role) (c d e : ℕ) → IsAt roles c (Value d) �
 value_role roles c d e x y = let h = ap role_value_index (one_entry roles c (Value d) (Value e) x y) in omega (arith, h)
 
 pub placed_role : (roles : List Role) (c d k j : ℕ) → IsAt roles c (Value d) → IsAt roles c (Placed k j) → ⊥
-placed_role roles c d k j x y = let h = ap role_value_index (one_entry roles c (Value d) (Placed k j) x y) in omega (arith, h)
+placed_role roles c d k j x y = let h = ap role_value_index (one_entry roles c (Value d) (Placed k j) x y) in
+    omega (arith, h)
 
 pub stacked_role : (roles : List Role) (c d k l j : ℕ) → IsAt roles c (Value d) → IsAt roles c (Stacked k l j) → ⊥
-stacked_role roles c d k l j x y = let h = ap role_value_index (one_entry roles c (Value d) (Stacked k l j) x y) in omega (arith, h)
+stacked_role roles c d k l j x y = let h = ap role_value_index (one_entry roles c (Value d) (Stacked k l j) x y) in
+    omega (arith, h)
 
 module _ {p : Program} {r : Rtl} {roles : List Role} {enables : List (Option Enable)} {st : State} {inputs env : List ℕ}
     (s : Scene p r roles enables st inputs env) where
@@ -167,14 +206,18 @@ module _ {p : Program} {r : Rtl} {roles : List Role} {enables : List (Option Ena
   copy_value : (e : ℕ) → e < length p.exprs → U (copy_of p e) ≡ from.value_of p env e
   copy_value e lt = copied s.known s.valued s.plan s.clock e lt
 
-  set_value : (f : ℕ) (y : Form) (x : List ℕ) (at : Place) (e : ℕ) → IsAt p.forms f y → y.kind ≡ Set x at e → e < length p.exprs
-  set_value f y x at e here_y is = subst (λ k. InnerFit (length p.exprs) f (length p.forms) k) is (((s.known).sound).forms f y here_y.0 here_y.1)
+  set_value : (f : ℕ) (y : Form) (x : List ℕ) (at : Place) (e : ℕ) → IsAt p.forms f y → y.kind ≡ Set x at e
+      → e < length p.exprs
+  set_value f y x at e here_y is = subst (λ k. InnerFit (length p.exprs) f (length p.forms) k) is
+      (((s.known).sound).forms f y here_y.0 here_y.1)
 
   -- a transfer to the cell of a definition is that of an active `setq`
-  planned_write : (c d : ℕ) (x : Def) (w : ℕ) → IsAt p.defs d x → IsAt roles c (Value d) → (t : Transfer) → IsPlanned p r.exprs roles enables t → t.target ≡ c → U t.guard ≡ 1 → U t.value ≡ w
+  planned_write : (c d : ℕ) (x : Def) (w : ℕ) → IsAt p.defs d x → IsAt roles c (Value d) → (t : Transfer)
+      → IsPlanned p r.exprs roles enables t → t.target ≡ c → U t.guard ≡ 1 → U t.value ≡ w
       → Contains (clock_effects p st env) (Writes x.name w)
   planned_write c d x w at_d role t (sets f y n at e o a c2 here_y is has role2) target guard value =
-      let same : index_of p.defs n ≡ d = value_role roles c (index_of p.defs n) d (subst (λ i. IsAt roles i (Value (index_of p.defs n))) target role2) role in
+      let same : index_of p.defs n ≡ d = value_role roles c (index_of p.defs n) d
+      (subst (λ i. IsAt roles i (Value (index_of p.defs n))) target role2) role in
       let lt : index_of p.defs n < length p.defs = subst (λ i. i < length p.defs) (sym same) at_d.0 in
       let name : x.name ≡ n = named p.defs n x lt (at_d.1 ∙ ap (λ i. slice_index_or p.defs i x) (sym same)) in
       let (on, (root, is_root, runs)) = w_back s f o a has guard in
@@ -199,11 +242,13 @@ module _ {p : Program} {r : Rtl} {roles : List Role} {enables : List (Option Ena
   planned_write c d x w at_d role t (empties k l j u c2 q at_q depth union role2) target guard value =
       absurd (stacked_role roles c d k l j role (subst (λ n. IsAt roles n (Stacked k l j)) target role2))
 
-  write_forth : (c d : ℕ) (x : Def) → IsAt p.defs d x → IsAt roles c (Value d) → (w : ℕ) → Contains (written U c r.transfers) w
+  write_forth : (c d : ℕ) (x : Def) → IsAt p.defs d x → IsAt roles c (Value d) → (w : ℕ)
+      → Contains (written U c r.transfers) w
       → Contains (source.written x.name (clock_effects p st env)) w
   write_forth c d x at_d role w h =
       let (t, ct, target, guard, value) = in_written U c r.transfers w h in
-      source_in x.name (clock_effects p st env) w (planned_write c d x w at_d role t (((s.plan).transfers).only t ct) target guard value)
+      source_in x.name (clock_effects p st env) w (planned_write c d x w at_d role t
+      (((s.plan).transfers).only t ct) target guard value)
 
   write_back : (c d : ℕ) (x : Def) → IsAt p.defs d x → is_supply x.what ≡ false → IsAt roles c (Value d) → (w : ℕ)
       → Contains (source.written x.name (clock_effects p st env)) w → Contains (written U c r.transfers) w
@@ -211,16 +256,19 @@ module _ {p : Program} {r : Rtl} {roles : List Role} {enables : List (Option Ena
       let (n, cn, same) = in_source x.name (clock_effects p st env) w h in
       let (root, c_root, c_effect) = in_flat (effects_of p env) (Writes n w) (active p st) cn in
       let (o, is_root, on) = active_root p st root s.fits c_root in
-      let (f, y, here_y, runs, own) = effect_source p env s.known root (root_in p s.known o root is_root) (Writes n w) c_effect in
+      let (f, y, here_y, runs, own) = effect_source p env s.known root (root_in p s.known o root is_root)
+      (Writes n w) c_effect in
       let (at, e, is, value) = own_write (from.value_of p env) y.kind n w own in
       let (a, has, one) = w_forth s o f (on, (root, is_root, runs)) in
       let index : index_of p.defs n ≡ d = ap (index_of p.defs) same ∙ s.names d x at_d named in
-      let transferred = ((s.plan).transfers).sets f y n at e o a c here_y is has (subst (λ i. IsAt roles c (Value i)) (sym index) role) in
+      let transferred = ((s.plan).transfers).sets f y n at e o a c here_y is has
+      (subst (λ i. IsAt roles c (Value i)) (sym index) role) in
       subst (Contains (written U c r.transfers)) (copy_value e (set_value f y n at e here_y is) ∙ value)
       (written_in U c r.transfers (record { guard = a; target = c; value = copy_of p e }) transferred refl one)
 
   -- the same is written to a definition and to its cell
   pub same_written : (c d : ℕ) (x : Def) → IsAt p.defs d x → is_supply x.what ≡ false → IsAt roles c (Value d)
       → merged (written U c r.transfers) ≡ merged (source.written x.name (clock_effects p st env))
-  same_written c d x at_d named role = same_merge (written U c r.transfers) (source.written x.name (clock_effects p st env))
+  same_written c d x at_d named role = same_merge (written U c r.transfers)
+      (source.written x.name (clock_effects p st env))
       (write_forth c d x at_d role) (write_back c d x at_d named role)

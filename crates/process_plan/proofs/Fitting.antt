@@ -1,10 +1,44 @@
 -- Transfers that follow a plan fit.
-use Rattle.std.proofs.Common.{◌≡◌, ◌⊎◌, inl, inr, ◌∙◌, ℕ, zero, suc, ◌<◌, List, [], ◌∷◌, Bool, true, false, Option, Some, None, refl, sym, ap, subst, arith, length}
+use Rattle.std.proofs.Common.{
+  ◌≡◌,
+  inl,
+  inr,
+  ◌∙◌,
+  ℕ,
+  zero,
+  suc,
+  ◌<◌,
+  List,
+  [],
+  ◌∷◌,
+  Bool,
+  true,
+  false,
+  Option,
+  Some,
+  refl,
+  sym,
+  ap,
+  subst,
+  arith,
+  length,
+}
 use Rattle.std.specs.Prelude.{Contains}
 use Rattle.mp_base.specs.declared.op.Op.TheVariants.{And, Or, Nor, Not}
 use Rattle.mp_base.specs.declared.refusal.Place.{Place}
 use Rattle.mp_program.specs.declared.program.What.{What}
-use Rattle.mp_program.specs.declared.program.What.TheVariants.{Power, Ground, Phia, Phib, Phic, Constant, Register, Flag, Port, Signal}
+use Rattle.mp_program.specs.declared.program.What.TheVariants.{
+  Power,
+  Ground,
+  Phia,
+  Phib,
+  Phic,
+  Constant,
+  Register,
+  Flag,
+  Port,
+  Signal,
+}
 use Rattle.mp_program.specs.declared.program.Way.TheVariants.{Input, Output, Internal}
 use Rattle.mp_program.specs.declared.program.FormKind.{FormKind}
 use Rattle.mp_program.specs.declared.program.FormKind.TheVariants.{Set, Cond, Par, Go, Call, Return}
@@ -26,13 +60,35 @@ use Rattle.rtl_form.specs.declared.rtl.RtlExpr.{RtlExpr}
 use Rattle.rtl_form.specs.declared.rtl.RtlExpr.TheVariants.{Number, Truth, Cell, Apply}
 use Rattle.rtl_form.specs.declared.rtl.Transfer.{Transfer}
 use Rattle.rtl_form.specs.Sound.{HasSort, ExprFits, TransferFits}
-use Rattle.process_plan.specs.Roles.{Role, Value, Placed, Stacked, IsCellOf, def_cell, stored_bit}
+use Rattle.process_plan.specs.Roles.{Role, Value, Placed, Stacked, def_cell, stored_bit}
 use Rattle.process_plan.specs.Active.{Origin, Always, At}
-use Rattle.process_plan.specs.Enables.{Enable, HasEnable, copy_of, BranchEnables, InnerEnables, StandsInside, IsPlaceExpr, IsOriginExpr}
-use Rattle.process_plan.specs.Plan.{IsUnionOf, IsFall, IsPlanned, sets, falls, lands, returns, pushes, sinks, rises, empties, FollowsPlan}
+use Rattle.process_plan.specs.Enables.{
+  Enable,
+  HasEnable,
+  copy_of,
+  BranchEnables,
+  InnerEnables,
+  StandsInside,
+  IsPlaceExpr,
+  IsOriginExpr,
+}
+use Rattle.process_plan.specs.Plan.{
+  IsUnionOf,
+  IsFall,
+  IsPlanned,
+  sets,
+  falls,
+  lands,
+  returns,
+  pushes,
+  sinks,
+  rises,
+  empties,
+  FollowsPlan,
+}
 use Rattle.process_plan.specs.Fits.{ExprFitsIn}
-use Rattle.process_plan.proofs.Members.{here, nowhere, cases_of, upward, some_entry}
-use Rattle.process_plan.proofs.Enabling.{one_enable, some_is}
+use Rattle.process_plan.proofs.Members.{here, nowhere, cases_of, upward, some_entry, some_is}
+use Rattle.process_plan.proofs.Enabling.{one_enable}
 use Rattle.process_plan.proofs.Sorts.{IsSorted, sort_of, cell_sort, name_sorted, copy_wanted}
 
 -- the same by the lists of transfers
@@ -79,7 +135,8 @@ unset_input Flag h = h
 unset_input (Port w) h = h
 unset_input (Signal w) h = h
 
-module _ {p : Program} {r : Rtl} {roles : List Role} {enables : List (Option Enable)} (plan : FollowsPlan p r roles enables) where
+module _ {p : Program} {r : Rtl} {roles : List Role} {enables : List (Option Enable)}
+    (plan : FollowsPlan p r roles enables) where
   abbrev IsBitExpr : ℕ → Type 0
   IsBitExpr e = HasSort r e false
 
@@ -97,7 +154,8 @@ module _ {p : Program} {r : Rtl} {roles : List Role} {enables : List (Option Ena
 
   stacked_cell : (c k l j : ℕ) → IsAt roles c (Stacked k l j) → IsAt r.cells c stored_bit
   stacked_cell c k l j role =
-      let (x, at_x, (q, at_q, lt, place, is)) = (plan.cells).each c (Stacked k l j) role in subst (IsAt r.cells c) is at_x
+      let (x, at_x, (q, at_q, lt, place, is)) = (plan.cells).each c (Stacked k l j) role in
+      subst (IsAt r.cells c) is at_x
 
   cell_bit : (e c : ℕ) → IsAt r.exprs e (Cell c) → IsAt r.cells c stored_bit → IsBitExpr e
   cell_bit e c at at_c = (Cell c, at, (stored_bit, at_c, refl))
@@ -191,7 +249,19 @@ module _ {p : Program} {r : Rtl} {roles : List Role} {enables : List (Option Ena
         sym (name_sorted p.defs x d at_d ∙ cell_sort p.defs (index_of p.defs x) d.what z made),
       )) in
       let given : is_input d.what ≡ false = no_input (is_input d.what) (λ h.
-      settable at (f, y, x, e, index_of p.defs x, d, at_f, kind, at_d, named p.defs x d at_d.0 at_d.1, unset_input d.what h)) in (
+      settable at (
+        f,
+        y,
+        x,
+        e,
+        index_of p.defs x,
+        d,
+        at_f,
+        kind,
+        at_d,
+        named p.defs x d at_d.0 at_d.1,
+        unset_input d.what h,
+      )) in (
         enable_bit f o a has,
         (
           z,
@@ -216,12 +286,15 @@ module _ {p : Program} {r : Rtl} {roles : List Role} {enables : List (Option Ena
   planned_fits sorted settable t (lands k i j f y q a c at_q at_f to has role) =
       bit_transfer 0 c a true_bit (enable_bit f (At k i) a has) (placed_cell c k j role)
   planned_fits sorted settable t (returns k j u e d c union at_e from_role role) =
-      bit_transfer u c e (union_bit _ k u union) (cell_bit e d at_e (stacked_cell d k 0 j from_role)) (placed_cell c k j role)
+      bit_transfer u c e (union_bit _ k u union) (cell_bit e d at_e (stacked_cell d k 0 j from_role))
+      (placed_cell c k j role)
   planned_fits sorted settable t (pushes k i u a c union place role) =
       bit_transfer u c a (union_bit _ k u union) (place_bit k i a place) (stacked_cell c k 0 (suc i) role)
   planned_fits sorted settable t (sinks k l j u e d c union at_e from_role role) =
-      bit_transfer u c e (union_bit _ k u union) (cell_bit e d at_e (stacked_cell d k l j from_role)) (stacked_cell c k (suc l) j role)
+      bit_transfer u c e (union_bit _ k u union) (cell_bit e d at_e (stacked_cell d k l j from_role))
+      (stacked_cell c k (suc l) j role)
   planned_fits sorted settable t (rises k l j u e d c union at_e from_role role) =
-      bit_transfer u c e (union_bit _ k u union) (cell_bit e d at_e (stacked_cell d k (suc l) j from_role)) (stacked_cell c k l j role)
+      bit_transfer u c e (union_bit _ k u union) (cell_bit e d at_e (stacked_cell d k (suc l) j from_role))
+      (stacked_cell c k l j role)
   planned_fits sorted settable t (empties k l j u c q at_q last union role) =
       bit_transfer u c 1 (union_bit _ k u union) false_bit (stacked_cell c k l j role)

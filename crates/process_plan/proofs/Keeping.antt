@@ -22,10 +22,13 @@ module _ (p : Program) (unbroken : IsUnbroken p) where
   keeps_27 at broken = unbroken 27 at (inr (inr (inr (inr (inr (inr (inr (inl (refl, broken)))))))))
 
   pub keeps_32 : (at : Place) → E32 p at → ⊥
-  keeps_32 at broken = unbroken 32 at (inr (inr (inr (inr (inr (inr (inr (inr (inr (inr (inr (inr (inl (refl, broken))))))))))))))
+  keeps_32 at broken = unbroken 32 at (inr (inr (inr (inr
+      (inr (inr (inr (inr (inr (inr (inr (inr (inl (refl, broken))))))))))))))
 
   pub keeps_34 : (at : Place) → E34 p at → ⊥
-  keeps_34 at broken = unbroken 34 at (inr (inr (inr (inr (inr (inr (inr (inr (inr (inr (inr (inr (inr (inr (inl (refl, broken))))))))))))))))
+  keeps_34 at broken = unbroken 34 at (inr (inr (inr (inr
+      (inr (inr (inr (inr (inr (inr (inr (inr (inr (inr (inl (refl, broken))))))))))))))))
 
   pub keeps_36 : (at : Place) → E36 p at → ⊥
-  keeps_36 at broken = unbroken 36 at (inr (inr (inr (inr (inr (inr (inr (inr (inr (inr (inr (inr (inr (inr (inr (inr (inl (refl, broken))))))))))))))))))
+  keeps_36 at broken = unbroken 36 at (inr (inr (inr (inr
+      (inr (inr (inr (inr (inr (inr (inr (inr (inr (inr (inr (inr (inl (refl, broken))))))))))))))))))

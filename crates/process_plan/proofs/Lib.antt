@@ -3,6 +3,7 @@ pub mod Counting
 pub mod Owing
 pub mod Paying
 pub mod Sorts
+pub mod Uses
 mod Merging
 mod Doing
 mod Moving
@@ -20,6 +21,6 @@ mod Sounding
 mod Facing
 mod Totals
 mod Fitting
-mod Keeping
+pub mod Keeping
 mod Resetting
 mod Sameness

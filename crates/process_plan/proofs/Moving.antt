@@ -1,5 +1,23 @@
 -- What runs stands under a form, and moves among what it does.
-use Rattle.std.proofs.Common.{◌≡◌, ℕ, zero, suc, ◌<◌, ◌≤◌, List, [], ◌∷◌, ◌++◌, Bool, true, false, cond, refl, sym, subst, arith}
+use Rattle.std.proofs.Common.{
+  ◌≡◌,
+  ℕ,
+  zero,
+  suc,
+  ◌<◌,
+  List,
+  [],
+  ◌∷◌,
+  ◌++◌,
+  Bool,
+  true,
+  false,
+  cond,
+  refl,
+  sym,
+  subst,
+  arith,
+}
 use Rattle.std.specs.Prelude.{Contains, ◌==◌}
 use Rattle.std.specs.List.{flat_map}
 use Rattle.std.proofs.lemmas.List.Sums.{sum_by-cons}
@@ -7,12 +25,10 @@ use Rattle.std.proofs.lemmas.List.Elements.{Contains-append_left, Contains-appen
 use Rattle.mp_program.specs.declared.program.FormKind.{FormKind}
 use Rattle.mp_program.specs.declared.program.FormKind.TheVariants.{Set, Cond, Par, Go, Call, Return}
 use Rattle.mp_program.specs.declared.program.Branch.{Branch}
-use Rattle.mp_program.specs.declared.program.Process.{Process}
 use Rattle.mp_program.specs.declared.program.Program.{Program}
 use Rattle.mp_program.specs.Values.{value_of}
-use Rattle.mp_program.specs.Effects.{Effect, Writes, Goes, Calls, Returns, effects_of}
+use Rattle.mp_program.specs.Effects.{Effect, Writes, Goes, Calls, Returns}
 use Rattle.mp_program.specs.Weight.{inner}
-use Rattle.mp_rules.specs.Entries.{IsAt}
 use Rattle.mp_rules.specs.Moves as rules
 use Rattle.mp_rules.specs.Standing.{Under, is_transfer}
 use Rattle.mp_rules.specs.Standing as standing
@@ -53,11 +69,13 @@ some_move (Returns ∷ es) h = (Returns, here Returns es, tt)
 
 -- ---- what runs stands under
 
-of_branches : (v : ℕ → ℕ) (bs : List Branch) (f : ℕ) → Contains (chosen_forms v bs) f → Contains (flat_map (λ (b : Branch). b.body) bs) f
+of_branches : (v : ℕ → ℕ) (bs : List Branch) (f : ℕ) → Contains (chosen_forms v bs) f
+    → Contains (flat_map (λ (b : Branch). b.body) bs) f
 of_branches v [] f c = c
 of_branches v (b ∷ bs) f c = pick (v b.guard == 1) c (of_branches v bs f)
   where
-    pick : (t : Bool) → Contains (cond t b.body (chosen_forms v bs)) f → (Contains (chosen_forms v bs) f → Contains (flat_map (λ (b : Branch). b.body) bs) f)
+    pick : (t : Bool) → Contains (cond t b.body (chosen_forms v bs)) f
+        → (Contains (chosen_forms v bs) f → Contains (flat_map (λ (b : Branch). b.body) bs) f)
         → Contains (b.body ++ flat_map (λ (b : Branch). b.body) bs) f
     pick true c rest = Contains-append_left b.body (flat_map (λ (b : Branch). b.body) bs) f c
     pick false c rest = Contains-append_right b.body (flat_map (λ (b : Branch). b.body) bs) f (rest c)
@@ -72,7 +90,8 @@ chosen_inner v Return f c = c
 
 pub runs_under : (p : Program) (env : List ℕ) (f g : ℕ) → Runs p env f g → Under p f g
 runs_under p env f g itself = standing.itself
-runs_under p env f g (deeper {g = h} y at c runs) = standing.deeper y at (chosen_inner (value_of p env) y.kind h c) (runs_under p env h g runs)
+runs_under p env f g (deeper {g = h} y at c runs) = standing.deeper y at (chosen_inner (value_of p env) y.kind h c)
+    (runs_under p env h g runs)
 
 pub own_move : (v : ℕ → ℕ) (k : FormKind) (x : Effect) → Contains (own_effects v k) x → IsMove x → is_transfer k ≡ true
 own_move v (Set y at w) x (zero, lt, is) m = absurd (subst IsMove (sym is) m)

@@ -1,5 +1,30 @@
 -- The weight of a program pays for its transfers.
-use Rattle.std.proofs.Common.{◌≡◌, ℕ, zero, suc, ◌+◌, ◌-◌, ◌*◌, ◌<◌, ◌≤◌, List, [], ◌∷◌, true, cond, refl, sym, ap, subst, arith, length, max, count_by, suc-mul, mul_assoc}
+use Rattle.std.proofs.Common.{
+  ◌≡◌,
+  ℕ,
+  zero,
+  suc,
+  ◌+◌,
+  ◌-◌,
+  ◌*◌,
+  ◌<◌,
+  ◌≤◌,
+  List,
+  [],
+  ◌∷◌,
+  true,
+  cond,
+  refl,
+  sym,
+  ap,
+  subst,
+  arith,
+  length,
+  max,
+  count_by,
+  suc-mul,
+  mul_assoc,
+}
 use Rattle.std.specs.Prelude.{nat_lt}
 use Rattle.std.specs.List.{sum_by}
 use Rattle.std.proofs.Math.Nat.{mul-add, mul-le-mul_left}
@@ -7,13 +32,45 @@ use Rattle.std.proofs.lemmas.Bool.{ltb-true}
 use Rattle.std.proofs.lemmas.List.Sums.{sum_by-cons}
 use Rattle.std.proofs.lemmas.Slice.Eq.{bytes_eq-Decides}
 use Rattle.mp_base.specs.declared.op.Op.{Op}
-use Rattle.mp_base.specs.declared.op.Op.TheVariants.{Add, Sub, Inc, Dec, WordAnd, WordOr, WordXor, WordNot, Left, Right, And, Or, Nor, Nand, Xor, Not, Bit, Zero, Equal, Less}
+use Rattle.mp_base.specs.declared.op.Op.TheVariants.{
+  Add,
+  Sub,
+  Inc,
+  Dec,
+  WordAnd,
+  WordOr,
+  WordXor,
+  WordNot,
+  Left,
+  Right,
+  And,
+  Or,
+  Nor,
+  Nand,
+  Xor,
+  Not,
+  Bit,
+  Zero,
+  Equal,
+  Less,
+}
 use Rattle.mp_program.specs.declared.program.ExprKind.{ExprKind}
 use Rattle.mp_program.specs.declared.program.ExprKind.TheVariants as source
 use Rattle.mp_program.specs.declared.program.FormKind.{FormKind}
 use Rattle.mp_program.specs.declared.program.FormKind.TheVariants.{Set, Cond, Par, Go, Call, Return}
 use Rattle.mp_program.specs.declared.program.What.{What}
-use Rattle.mp_program.specs.declared.program.What.TheVariants.{Power, Ground, Phia, Phib, Phic, Constant, Register, Flag, Port, Signal}
+use Rattle.mp_program.specs.declared.program.What.TheVariants.{
+  Power,
+  Ground,
+  Phia,
+  Phib,
+  Phic,
+  Constant,
+  Register,
+  Flag,
+  Port,
+  Signal,
+}
 use Rattle.mp_program.specs.declared.program.Way.TheVariants.{Input, Output, Internal}
 use Rattle.mp_program.specs.declared.program.Def.{Def}
 use Rattle.mp_program.specs.declared.program.Form.{Form}
@@ -21,7 +78,17 @@ use Rattle.mp_program.specs.declared.program.Program.{Program}
 use Rattle.mp_program.specs.Names.{is_same}
 use Rattle.mp_program.specs.Weight.{op_weight, expr_weight, def_weight, is_set_of}
 use Rattle.rtl_form.specs.Cost.{op_cost}
-use Rattle.process_plan.specs.Bill.{form_bill, def_bill, set_bill, named_bill, copy_bill, Tally, IsTally, first_bill, process_bill}
+use Rattle.process_plan.specs.Bill.{
+  form_bill,
+  def_bill,
+  set_bill,
+  named_bill,
+  copy_bill,
+  Tally,
+  IsTally,
+  first_bill,
+  process_bill,
+}
 use Rattle.process_plan.proofs.Members.{by_test}
 
 -- ---- an item each
@@ -121,7 +188,8 @@ process_pays t is =
 
 -- ---- the transfers of all `setq`
 
-one_set : (ds : List Def) (x : List ℕ) → named_bill ds x ≤ sum_by (λ (d : Def). set_bill d.what * cond (is_same x d.name) 1 0) ds
+one_set : (ds : List Def) (x : List ℕ) → named_bill ds x ≤ sum_by
+    (λ (d : Def). set_bill d.what * cond (is_same x d.name) 1 0) ds
 one_set [] x = omega arith
 one_set (d ∷ ds) x =
     let total = sum_by-cons (λ (y : Def). set_bill y.what * cond (is_same x y.name) 1 0) d ds in
@@ -130,13 +198,15 @@ one_set (d ∷ ds) x =
     (λ h.
     let same : is_same x d.name ≡ true = (bytes_eq-Decides x d.name).1 (sym ((bytes_eq-Decides d.name x).0 h)) in
     let e : named_bill (d ∷ ds) x ≡ set_bill d.what = ap (λ b. cond b (set_bill d.what) (named_bill ds x)) h in
-    let f : set_bill d.what * cond (is_same x d.name) 1 0 ≡ set_bill d.what * 1 = ap (λ b. set_bill d.what * cond b 1 0) same in
+    let f : set_bill d.what * cond (is_same x d.name) 1 0 ≡ set_bill d.what * 1 =
+    ap (λ b. set_bill d.what * cond b 1 0) same in
     omega (arith, total, e, f))
     (λ h.
     let e : named_bill (d ∷ ds) x ≡ named_bill ds x = ap (λ b. cond b (set_bill d.what) (named_bill ds x)) h in
     omega (arith, total, e, rest))
 
-form_set : (ds : List Def) (k : FormKind) → form_bill ds k ≤ sum_by (λ (d : Def). set_bill d.what * cond (is_set_of d.name k) 1 0) ds
+form_set : (ds : List Def) (k : FormKind) → form_bill ds k ≤ sum_by
+    (λ (d : Def). set_bill d.what * cond (is_set_of d.name k) 1 0) ds
 form_set ds (Set x at v) = one_set ds x
 form_set ds (Cond bs) = omega arith
 form_set ds (Par fs) = omega arith
@@ -145,7 +215,8 @@ form_set ds (Call l) = omega arith
 form_set ds Return = omega arith
 
 spread : (ds : List Def) (b : Def → ℕ) (n : Def → ℕ)
-    → sum_by (λ (d : Def). set_bill d.what * b d) ds + sum_by (λ (d : Def). set_bill d.what * n d) ds ≡ sum_by (λ (d : Def). set_bill d.what * (b d + n d)) ds
+    → sum_by (λ (d : Def). set_bill d.what * b d) ds + sum_by (λ (d : Def). set_bill d.what * n d) ds
+    ≡ sum_by (λ (d : Def). set_bill d.what * (b d + n d)) ds
 spread [] b n = refl
 spread (d ∷ ds) b n =
     let x = sum_by-cons (λ (y : Def). set_bill y.what * b y) d ds in
@@ -157,18 +228,22 @@ spread (d ∷ ds) b n =
 
 same_sum : (ds : List Def) (f g : Def → ℕ) → ((d : Def) → f d ≡ g d) → sum_by f ds ≡ sum_by g ds
 same_sum [] f g h = refl
-same_sum (d ∷ ds) f g h = let a = h d in let b = same_sum ds f g h in omega (arith, a, b, sum_by-cons f d ds, sum_by-cons g d ds)
+same_sum (d ∷ ds) f g h = let a = h d in let b = same_sum ds f g h in
+    omega (arith, a, b, sum_by-cons f d ds, sum_by-cons g d ds)
 
 -- the definitions count each `setq` that has a transfer
 pub sets_counted : (ds : List Def) (fs : List Form)
-    → sum_by (λ (f : Form). form_bill ds f.kind) fs ≤ sum_by (λ (d : Def). set_bill d.what * count_by (λ (f : Form). is_set_of d.name f.kind) fs) ds
+    → sum_by (λ (f : Form). form_bill ds f.kind) fs ≤ sum_by
+    (λ (d : Def). set_bill d.what * count_by (λ (f : Form). is_set_of d.name f.kind) fs) ds
 sets_counted ds [] = omega arith
 sets_counted ds (f ∷ fs) =
     let total = sum_by-cons (λ (y : Form). form_bill ds y.kind) f fs in
     let rest = sets_counted ds fs in
     let now = form_set ds f.kind in
-    let more = spread ds (λ (d : Def). cond (is_set_of d.name f.kind) 1 0) (λ (d : Def). count_by (λ (y : Form). is_set_of d.name y.kind) fs) in
-    let each = same_sum ds (λ (d : Def). set_bill d.what * (cond (is_set_of d.name f.kind) 1 0 + count_by (λ (y : Form). is_set_of d.name y.kind) fs))
+    let more = spread ds (λ (d : Def). cond (is_set_of d.name f.kind) 1 0)
+    (λ (d : Def). count_by (λ (y : Form). is_set_of d.name y.kind) fs) in
+    let each = same_sum ds (λ (d : Def). set_bill d.what *
+    (cond (is_set_of d.name f.kind) 1 0 + count_by (λ (y : Form). is_set_of d.name y.kind) fs))
     (λ (d : Def). set_bill d.what * count_by (λ (y : Form). is_set_of d.name y.kind) (f ∷ fs))
     (λ d. ap (λ n. set_bill d.what * n) (sym (sum_by-cons (λ (y : Form). cond (is_set_of d.name y.kind) 1 0) f fs))) in
     omega (arith, total, rest, now, more, each)

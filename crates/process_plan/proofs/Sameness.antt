@@ -1,49 +1,55 @@
 -- What is built of a program that breaks no rule shows what the program shows.
-use Rattle.std.proofs.Common.{◌≡◌, ◌↔◌, ◌⊎◌, inl, inr, ◌∙◌, ℕ, zero, suc, ◌+◌, ◌<◌, ◌≤◌, List, [], ◌∷◌, true, false, Option, Some, None, refl, sym, ap, subst, arith, length}
+use Rattle.std.proofs.Common.{
+  ◌≡◌,
+  ◌↔◌,
+  inl,
+  inr,
+  ◌∙◌,
+  ℕ,
+  ◌<◌,
+  List,
+  [],
+  ◌∷◌,
+  false,
+  refl,
+  sym,
+  ap,
+  subst,
+  arith,
+  length,
+}
 use Rattle.std.specs.Prelude.{Bool, Contains, ◌||◌}
 use Rattle.std.specs.List.{AllByRecursion, list_any}
 use Rattle.std.proofs.lemmas.List.Elements.{recursion_from_All}
 use Rattle.mp_program.specs.declared.program.FormKind.{FormKind}
 use Rattle.mp_program.specs.declared.program.FormKind.TheVariants.{Set, Cond, Par, Go, Call, Return}
 use Rattle.mp_program.specs.declared.program.Branch.{Branch}
-use Rattle.mp_program.specs.declared.program.Def.{Def}
-use Rattle.mp_program.specs.declared.program.Form.{Form}
 use Rattle.mp_program.specs.declared.program.Program.{Program}
-use Rattle.mp_program.specs.Effects as source_effects
-use Rattle.mp_program.specs.Effects.{effects_of}
-use Rattle.mp_program.specs.Environment.{IsEnvironment}
 use Rattle.mp_program.specs.Pads.{ArePadsOf, input_pads, FitsPads}
-use Rattle.mp_program.specs.Reads.{IsOrder, sets, kind_sets, branches_set}
+use Rattle.mp_program.specs.Reads.{sets, kind_sets, branches_set}
 use Rattle.mp_program.specs.Sound.{AllBetween, BranchesFit, InnerFit}
-use Rattle.mp_program.specs.State.{State, IsState, zero_state}
-use Rattle.mp_program.specs.Step.{next_state}
+use Rattle.mp_program.specs.State.{zero_state}
 use Rattle.mp_program.specs.Trace as source
-use Rattle.mp_program.specs.Values.{value_of}
-use Rattle.mp_program.specs.Weight.{weight}
 use Rattle.mp_rules.specs.Entries.{IsAt}
-use Rattle.mp_rules.specs.Breaking.{IsUnbroken}
-use Rattle.mp_rules.specs.Naming.{OwnNames}
-use Rattle.mp_fitting.specs.Fitting.{ValuesFit, StateFits}
 use Rattle.rtl_form.specs.declared.rtl.Rtl.{Rtl}
 use Rattle.rtl_form.specs.declared.rtl.RtlExpr.{RtlExpr}
 use Rattle.rtl_form.specs.declared.rtl.Transfer.{Transfer}
-use Rattle.rtl_form.specs.Cost.{cost}
 use Rattle.rtl_form.specs.Sound.{IsSound, ExprFits, TransferFits}
 use Rattle.rtl_form.specs.Trace as rtl
 use Rattle.process_plan.specs.Lawful.{Lawful}
 use Rattle.process_plan.specs.Roles.{Role, AreCells}
-use Rattle.process_plan.specs.Plan.{FollowsPlan, FollowsOrder, IsResetCell}
+use Rattle.process_plan.specs.Plan.{FollowsOrder, IsResetCell}
 use Rattle.process_plan.specs.Same.{IsSame, InputsFit}
 use Rattle.process_plan.specs.Built.{IsBuilt, IsIdle, is_set}
 use Rattle.process_plan.proofs.Members.{nowhere, some_entry, downward}
-use Rattle.process_plan.proofs.Keeping.{keeps_20, keeps_22, keeps_23, keeps_24, keeps_27, keeps_34}
+use Rattle.process_plan.proofs.Keeping.{keeps_22, keeps_23, keeps_24, keeps_27, keeps_34}
 use Rattle.process_plan.proofs.Copying.{Valued}
 use Rattle.process_plan.proofs.Sorts.{IsSorted}
 use Rattle.process_plan.proofs.Fitting.{expr_fits, planned_fits}
 use Rattle.process_plan.proofs.Sounding.{ReadAlike, order_kept, planned_alike, idle_alike}
 use Rattle.process_plan.proofs.Facing.{input_cells, output_cells, cells_fit, input_widths, output_widths, stored}
 use Rattle.process_plan.proofs.Resetting.{reset_is, reset_there}
-use Rattle.process_plan.proofs.Tracing.{Premises, IsFaced, IsSilent, reset_same, planned_traces, silent_traces}
+use Rattle.process_plan.proofs.Tracing.{Premises, IsSilent, reset_same, planned_traces, silent_traces}
 use Rattle.process_plan.proofs.Totals.{total_pays, cells_pay}
 
 -- transfers have at most one trace
@@ -70,8 +76,16 @@ module _ {p : Program} {order : List ℕ} (lawful : Lawful p order) where
         let low = (((lawful.known).sound).width).0 in
         let high = (((lawful.known).sound).width).1 in
         (omega (arith, low, width), omega (arith, high, width));
-    inputs = λ k pad at. elim (input_widths p r roles cells padded k pad at) [ inl e ↦ inl (e ∙ sym width) | inr e ↦ inr e ];
-    outputs = λ k pad at. elim (output_widths p r roles cells padded k pad at) [ inl e ↦ inl (e ∙ sym width) | inr e ↦ inr e ];
+    inputs = λ k pad at. elim (input_widths p r roles cells padded k pad at) [
+      | inl e ↦ inl
+          (e ∙ sym width)
+      | inr e ↦ inr e
+    ];
+    outputs = λ k pad at. elim (output_widths p r roles cells padded k pad at) [
+      | inl e ↦ inl
+          (e ∙ sym width)
+      | inr e ↦ inr e
+    ];
     input_cells = input_cells p r roles cells padded;
     output_cells = output_cells p r roles cells padded;
     cells = cells_fit p r roles cells padded (((lawful.known).sound).width).0;
@@ -103,7 +117,8 @@ module _ {p : Program} {order : List ℕ} (lawful : Lawful p order) where
     start_fits = lawful.start_fits;
     states = lawful.states;
     bits = λ st inputs env fits small good clock f y bs at kind b c.
-        let low = lawful.guards env f y bs b (lawful.fits st inputs env fits small good clock) at kind c in omega (arith, low);
+        let low = lawful.guards env f y bs b (lawful.fits st inputs env fits small good clock) at kind c in
+        omega (arith, low);
     states_fit = λ st inputs env fits small good clock.
         lawful.states_fit st inputs env small (lawful.fits st inputs env fits small good clock);
   }
@@ -112,13 +127,15 @@ module _ {p : Program} {order : List ℕ} (lawful : Lawful p order) where
   both_ways : (r : Rtl) → HasOneTrace r
       → ((inputs outputs : List (List ℕ)) → AllByRecursion (FitsPads (input_pads p)) inputs
       → source.IsTrace p inputs outputs → rtl.IsTrace r inputs outputs)
-      → (inputs outputs : List (List ℕ)) → InputsFit p inputs → source.IsTrace p inputs outputs ↔ rtl.IsTrace r inputs outputs
+      → (inputs outputs : List (List ℕ)) → InputsFit p inputs → source.IsTrace p inputs outputs
+      ↔ rtl.IsTrace r inputs outputs
   both_ways r one forth inputs outputs fit =
       let good = recursion_from_All (FitsPads (input_pads p)) inputs fit in (
         λ trace. forth inputs outputs good trace,
         λ shown.
             let (found, trace) = lawful.exist (zero_state p) inputs lawful.start in
-            subst (source.IsTrace p inputs) (sym (one inputs outputs found shown (forth inputs found good trace))) trace,
+            subst (source.IsTrace p inputs) (sym (one inputs outputs found shown
+            (forth inputs found good trace))) trace,
       )
 
   pub built_same : (r : Rtl) → IsBuilt p order r → Valued r → HasOneTrace r → IsSame p r
@@ -164,7 +181,8 @@ module _ {p : Program} {order : List ℕ} (lawful : Lawful p order) where
 
   pub idle_sound : (r : Rtl) → IsIdle p order r → IsSound r
   idle_sound r idle =
-      sound_of r idle.roles idle.width idle.padded idle.reset idle.cells idle.ordered (idle_alike p r idle.roles idle.transfers)
+      sound_of r idle.roles idle.width idle.padded idle.reset idle.cells idle.ordered
+      (idle_alike p r idle.roles idle.transfers)
       (λ e x at. absurd (nothing e x (subst (λ xs. IsAt xs e x) idle.exprs at)))
       (λ t c. absurd (nowhere t (subst (λ ts. Contains ts t) idle.transfers c)))
     where

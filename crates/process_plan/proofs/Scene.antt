@@ -1,8 +1,28 @@
 -- A clock of a program, and transfers that follow a plan of it.
-use Rattle.std.proofs.Common.{◌≡◌, inl, inr, ◌∙◌, ℕ, ◌<◌, ◌≤◌, List, [], ◌∷◌, Bool, true, false, cond, Option, refl, sym, ap, subst, arith}
+use Rattle.std.proofs.Common.{
+  ◌≡◌,
+  inl,
+  inr,
+  ◌∙◌,
+  ℕ,
+  ◌<◌,
+  ◌≤◌,
+  List,
+  [],
+  ◌∷◌,
+  Bool,
+  true,
+  false,
+  cond,
+  Option,
+  sym,
+  ap,
+  subst,
+  arith,
+}
 use Rattle.std.specs.Prelude.{Contains, ◌==◌, ◌&&◌, slice_index}
 use Rattle.std.specs.List.{list_all}
-use Rattle.std.proofs.lemmas.Bool.{eqb-true, eq-eqb}
+use Rattle.std.proofs.lemmas.Bool.{eqb-true, eq-eqb, and_parts}
 use Rattle.mp_base.specs.Apply.{truth}
 use Rattle.mp_base.specs.declared.op.Op.TheVariants.{And}
 use Rattle.mp_program.specs.declared.program.FormKind.{FormKind}
@@ -23,17 +43,36 @@ use Rattle.rtl_form.specs.Written.{writes, written}
 use Rattle.process_plan.specs.Lawful.{Known, MovesOnce}
 use Rattle.process_plan.specs.Roles.{Role, seat_at, role_value, cell_values, IsReturnPlace}
 use Rattle.process_plan.specs.Active.{Origin, IsOn, IsActive}
-use Rattle.process_plan.specs.Enables.{Enable, HasEnable, copy_of, BranchEnables, InnerEnables, StandsInside, IsPlaceExpr, IsOriginExpr}
+use Rattle.process_plan.specs.Enables.{
+  Enable,
+  HasEnable,
+  copy_of,
+  BranchEnables,
+  InnerEnables,
+  StandsInside,
+  IsPlaceExpr,
+  IsOriginExpr,
+}
 use Rattle.process_plan.specs.Plan.{FollowsPlan}
-use Rattle.process_plan.proofs.Members.{here, there, nowhere, cases_of, upward, by_test}
+use Rattle.process_plan.proofs.Members.{here, there, nowhere, cases_of, upward, by_test, truth_low}
 use Rattle.process_plan.proofs.Copying.{Valued, value_true, value_false, value_cell}
-use Rattle.process_plan.proofs.Enabling.{GuardsAreBits, Tells, one_enable, active_forth, active_back, place_tells, origin_tells}
+use Rattle.process_plan.proofs.Enabling.{
+  GuardsAreBits,
+  Tells,
+  one_enable,
+  active_forth,
+  active_back,
+  place_tells,
+  origin_tells,
+}
 
 -- each entry of a stack is 0 or a place to which a call returns
 abbrev pub StacksFit : Program → List Seat → Type 0
-StacksFit p seats = (k l : ℕ) (q : Process) → IsAt p.processes k q → 0 < slice_index (seat_at seats k).stack l → IsReturnPlace p q (slice_index (seat_at seats k).stack l)
+StacksFit p seats = (k l : ℕ) (q : Process) → IsAt p.processes k q → 0 < slice_index (seat_at seats k).stack l
+    → IsReturnPlace p q (slice_index (seat_at seats k).stack l)
 
-pub record Scene (p : Program) (r : Rtl) (roles : List Role) (enables : List (Option Enable)) (st : State) (inputs env : List ℕ) : Type 0 where
+pub record Scene (p : Program) (r : Rtl) (roles : List Role) (enables : List (Option Enable)) (st : State)
+    (inputs env : List ℕ) : Type 0 where
   pub known : Known p
   pub valued : Valued r
   pub plan : FollowsPlan p r roles enables
@@ -46,10 +85,6 @@ pub record Scene (p : Program) (r : Rtl) (roles : List Role) (enables : List (Op
 
 -- ---- what transfers write
 
-both : (a b : Bool) → (a && b) ≡ true → (a ≡ true) × (b ≡ true)
-both true b h = (refl, h)
-both false b h = absurd (cc)
-
 abbrev pub WrittenBy : (ℕ → ℕ) → ℕ → List Transfer → ℕ → Type 0
 WrittenBy v c ts w = (t : Transfer) × Contains ts t × (t.target ≡ c) × (v t.guard ≡ 1) × (v t.value ≡ w)
 
@@ -57,31 +92,33 @@ pub in_written : (v : ℕ → ℕ) (c : ℕ) (ts : List Transfer) (w : ℕ) → 
 in_written v c [] w h = absurd (nowhere w h)
 in_written v c (t ∷ ts) w h = by_test (writes v c t)
     (λ e.
-    let parts = both (t.target == c) (v t.guard == 1) e in
-    let h2 : Contains (v t.value ∷ written v c ts) w = subst (λ b. Contains (cond b (v t.value ∷ written v c ts) (written v c ts)) w) e h in
+    let parts = and_parts (t.target == c) (v t.guard == 1) e in
+    let h2 : Contains (v t.value ∷ written v c ts) w =
+    subst (λ b. Contains (cond b (v t.value ∷ written v c ts) (written v c ts)) w) e h in
     elim (cases_of w (v t.value) (written v c ts) h2) as (λ _. WrittenBy v c (t ∷ ts) w) [
       | inl is ↦ (t, here t ts, eqb-true t.target c parts.0, eqb-true (v t.guard) 1 parts.1, is)
       | inr more ↦ let (u, cu, a, b, d) = in_written v c ts w more in (u, there u t ts cu, a, b, d)
     ])
-    (λ e. let (u, cu, a, b, d) = in_written v c ts w (subst (λ b. Contains (cond b (v t.value ∷ written v c ts) (written v c ts)) w) e h) in (u, there u t ts cu, a, b, d))
+    (λ e. let (u, cu, a, b, d) = in_written v c ts w (subst
+    (λ b. Contains (cond b (v t.value ∷ written v c ts) (written v c ts)) w) e h) in (u, there u t ts cu, a, b, d))
 
-pub written_in : (v : ℕ → ℕ) (c : ℕ) (ts : List Transfer) (t : Transfer) → Contains ts t → t.target ≡ c → v t.guard ≡ 1 → Contains (written v c ts) (v t.value)
+pub written_in : (v : ℕ → ℕ) (c : ℕ) (ts : List Transfer) (t : Transfer) → Contains ts t → t.target ≡ c
+    → v t.guard ≡ 1 → Contains (written v c ts) (v t.value)
 written_in v c [] t h target guard = absurd (nowhere t h)
 written_in v c (u ∷ ts) t h target guard = elim (cases_of t u ts h) [
   | inl is ↦
-      let test : writes v c u ≡ true = ap (writes v c) is ∙ ap (λ b. b && (v t.guard == 1)) (eq-eqb t.target c target) ∙ eq-eqb (v t.guard) 1 guard in
+      let test : writes v c u ≡ true = ap (writes v c) is
+      ∙ ap (λ b. b && (v t.guard == 1)) (eq-eqb t.target c target) ∙ eq-eqb (v t.guard) 1 guard in
       subst (λ b. Contains (cond b (v u.value ∷ written v c ts) (written v c ts)) (v t.value)) (sym test)
-      (subst (λ (z : Transfer). Contains (v u.value ∷ written v c ts) (v z.value)) is (here (v u.value) (written v c ts)))
+      (subst (λ (z : Transfer). Contains (v u.value ∷ written v c ts) (v z.value)) is
+      (here (v u.value) (written v c ts)))
   | inr more ↦ pick (writes v c u) (written_in v c ts t more target guard)
 ]
   where
-    pick : (b : Bool) → Contains (written v c ts) (v t.value) → Contains (cond b (v u.value ∷ written v c ts) (written v c ts)) (v t.value)
+    pick : (b : Bool) → Contains (written v c ts) (v t.value)
+        → Contains (cond b (v u.value ∷ written v c ts) (written v c ts)) (v t.value)
     pick true c2 = there (v t.value) (v u.value) (written v c ts) c2
     pick false c2 = c2
-
-truth_low : (b : Bool) → truth b ≤ 1
-truth_low true = omega arith
-truth_low false = omega arith
 
 pub tells_low : (n : ℕ) (P : Type 0) → Tells n P → n ≤ 1
 tells_low n P (inl (e, h)) = omega (arith, e)
@@ -117,27 +154,38 @@ module _ {p : Program} {r : Rtl} {roles : List Role} {enables : List (Option Ena
   w_origin : (o : Origin) (a : ℕ) → IsOriginExpr p r.exprs roles o a → Tells (W a) (IsOn st.seats o)
   w_origin o a is = origin_tells s.known s.valued s.plan s.clock s.fits s.bits o a is
 
-  branch_low : (o : Origin) (rest : ℕ) (bs : List Branch) (b : Branch) (f x : ℕ) → BranchEnables p r.exprs enables o rest bs → Contains bs b → Contains b.body f → HasEnable enables f o x → W x ≤ 1
+  branch_low : (o : Origin) (rest : ℕ) (bs : List Branch) (b : Branch) (f x : ℕ)
+      → BranchEnables p r.exprs enables o rest bs → Contains bs b → Contains b.body f → HasEnable enables f o x
+      → W x ≤ 1
   branch_low o rest [] b f x enabling cb cf has = absurd (nowhere b cb)
   branch_low o rest (d ∷ []) b f x (a, at, body) cb cf has =
-      let inside : Contains d.body f = elim (cases_of b d [] cb) [ inl e ↦ subst (λ (t : Branch). Contains t.body f) (sym e) cf | inr e ↦ absurd (nowhere b e) ] in
+      let inside : Contains d.body f = elim (cases_of b d [] cb) [
+        | inl e ↦ subst (λ (t : Branch). Contains t.body f)
+            (sym e) cf
+        | inr e ↦ absurd (nowhere b e)
+      ] in
       let same : x ≡ a = (one_enable enables f o o x a has (body f inside)).1 in
-      let is : W x ≡ truth (list_all (λ z. z == 1) (W rest ∷ W (copy_of p d.guard) ∷ [])) = ap W same ∙ w_is a (Apply And 0 (rest ∷ copy_of p d.guard ∷ [])) at in
+      let is : W x ≡ truth (list_all (λ z. z == 1) (W rest ∷ W (copy_of p d.guard) ∷ [])) =
+      ap W same ∙ w_is a (Apply And 0 (rest ∷ copy_of p d.guard ∷ [])) at in
       let low = truth_low (list_all (λ z. z == 1) (W rest ∷ W (copy_of p d.guard) ∷ [])) in
       subst (λ n. n ≤ 1) (sym is) low
   branch_low o rest (d ∷ e ∷ bs) b f x (a, n, m, at, body, at_n, at_m, more) cb cf has =
       elim (cases_of b d (e ∷ bs) cb) [
         | inl is ↦
-            let same : x ≡ a = (one_enable enables f o o x a has (body f (subst (λ (t : Branch). Contains t.body f) (sym is) cf))).1 in
-            let is : W x ≡ truth (list_all (λ z. z == 1) (W rest ∷ W (copy_of p d.guard) ∷ [])) = ap W same ∙ w_is a (Apply And 0 (rest ∷ copy_of p d.guard ∷ [])) at in
+            let same : x ≡ a = (one_enable enables f o o x a has
+            (body f (subst (λ (t : Branch). Contains t.body f) (sym is) cf))).1 in
+            let is : W x ≡ truth (list_all (λ z. z == 1) (W rest ∷ W (copy_of p d.guard) ∷ [])) =
+            ap W same ∙ w_is a (Apply And 0 (rest ∷ copy_of p d.guard ∷ [])) at in
             subst (λ n. n ≤ 1) (sym is) (truth_low (list_all (λ z. z == 1) (W rest ∷ W (copy_of p d.guard) ∷ [])))
         | inr later ↦ branch_low o m (e ∷ bs) b f x more later cf has
       ]
 
-  inner_low : (k : FormKind) (o : Origin) (b f x : ℕ) → InnerEnables p r.exprs enables o b k → StandsInside k f → HasEnable enables f o x → W b ≤ 1 → W x ≤ 1
+  inner_low : (k : FormKind) (o : Origin) (b f x : ℕ) → InnerEnables p r.exprs enables o b k → StandsInside k f
+      → HasEnable enables f o x → W b ≤ 1 → W x ≤ 1
   inner_low (Set z at e) o b f x enabling inside has low = absurd inside
   inner_low (Cond bs) o b f x enabling (d, cd, cf) has low = branch_low o b bs d f x enabling cd cf has
-  inner_low (Par fs) o b f x enabling inside has low = subst (λ n. W n ≤ 1) (one_enable enables f o o b x (enabling f inside) has).1 low
+  inner_low (Par fs) o b f x enabling inside has low =
+      subst (λ n. W n ≤ 1) (one_enable enables f o o b x (enabling f inside) has).1 low
   inner_low (Go l) o b f x enabling inside has low = absurd inside
   inner_low (Call l) o b f x enabling inside has low = absurd inside
   inner_low Return o b f x enabling inside has low = absurd inside
@@ -150,5 +198,6 @@ module _ {p : Program} {r : Rtl} {roles : List Role} {enables : List (Option Ena
   enable_low = upward LowAt (λ f below o a has.
       elim (((s.plan).enabled).reasons f o a has) [
         | inl (root, is) ↦ tells_low (W a) (IsOn st.seats o) (w_origin o a is)
-        | inr (g, y, b, at, lt, has_g, inside) ↦ inner_low y.kind o b f a (((s.plan).enabled).inner g y o b at has_g) inside has (below g lt o b has_g)
+        | inr (g, y, b, at, lt, has_g, inside) ↦ inner_low y.kind o b f a
+            (((s.plan).enabled).inner g y o b at has_g) inside has (below g lt o b has_g)
       ])

@@ -1,25 +1,94 @@
 -- Copies of a program's expressions are of the sorts of these, and fit.
-use Rattle.std.proofs.Common.{◌≡◌, ◌≢◌, ◌⊎◌, inl, inr, ◌∙◌, ℕ, zero, suc, ◌+◌, ◌-◌, ◌^◌, ◌<◌, ◌≤◌, List, [], ◌∷◌, Bool, true, false, cond, Option, Some, None, refl, sym, ap, subst, arith, length, map}
+use Rattle.std.proofs.Common.{
+  ◌≡◌,
+  ◌≢◌,
+  inl,
+  inr,
+  ◌∙◌,
+  ℕ,
+  suc,
+  ◌^◌,
+  ◌<◌,
+  List,
+  [],
+  ◌∷◌,
+  Bool,
+  true,
+  false,
+  cond,
+  Option,
+  Some,
+  None,
+  refl,
+  sym,
+  ap,
+  subst,
+  arith,
+  length,
+  map,
+}
 use Rattle.std.specs.Prelude.{Contains}
 use Rattle.std.proofs.lemmas.Bool.{cases_lt}
 use Rattle.std.proofs.lemmas.List.{length-map}
 use Rattle.mp_base.specs.declared.op.Op.{Op}
-use Rattle.mp_base.specs.declared.op.Op.TheVariants.{Add, Sub, Inc, Dec, WordAnd, WordOr, WordXor, WordNot, Left, Right, And, Or, Nor, Nand, Xor, Not, Bit, Zero, Equal, Less}
+use Rattle.mp_base.specs.declared.op.Op.TheVariants.{
+  Add,
+  Sub,
+  Inc,
+  Dec,
+  WordAnd,
+  WordOr,
+  WordXor,
+  WordNot,
+  Left,
+  Right,
+  And,
+  Or,
+  Nor,
+  Nand,
+  Xor,
+  Not,
+  Bit,
+  Zero,
+  Equal,
+  Less,
+}
 use Rattle.mp_base.specs.declared.refusal.Place.{Place}
 use Rattle.mp_program.specs.declared.program.ExprKind.{ExprKind}
 use Rattle.mp_program.specs.declared.program.ExprKind.TheVariants as source
 use Rattle.mp_program.specs.declared.program.What.{What}
-use Rattle.mp_program.specs.declared.program.What.TheVariants.{Power, Ground, Phia, Phib, Phic, Constant, Register, Flag, Port, Signal}
+use Rattle.mp_program.specs.declared.program.What.TheVariants.{
+  Power,
+  Ground,
+  Phia,
+  Phib,
+  Phic,
+  Constant,
+  Register,
+  Flag,
+  Port,
+  Signal,
+}
 use Rattle.mp_program.specs.declared.program.Way.TheVariants.{Input, Output, Internal}
 use Rattle.mp_program.specs.declared.program.Def.{Def}
 use Rattle.mp_program.specs.declared.program.Expr.{Expr}
 use Rattle.mp_program.specs.declared.program.Program.{Program}
 use Rattle.mp_program.specs.Fits as source_fits
 use Rattle.mp_program.specs.Names.{index_of, is_same}
-use Rattle.mp_program.specs.Sound.{IsSound, ArgsFit, AllBetween}
+use Rattle.mp_program.specs.Sound.{IsSound, ArgsFit}
 use Rattle.mp_rules.specs.Entries.{IsAt}
 use Rattle.mp_rules.specs.Rules.{E22, E23, E24}
-use Rattle.mp_rules.specs.Sorts.{Sort, IsWord, IsBit, what_sort, name_sort, operand_sort, result_sort, expr_sort, IsWanted}
+use Rattle.mp_rules.specs.Sorts.{
+  Sort,
+  IsWord,
+  IsBit,
+  what_sort,
+  name_sort,
+  operand_sort,
+  result_sort,
+  expr_sort,
+  IsWanted,
+}
 use Rattle.rtl_form.specs.declared.rtl.Cell as cells
 use Rattle.rtl_form.specs.declared.rtl.RtlExpr.{RtlExpr}
 use Rattle.rtl_form.specs.declared.rtl.RtlExpr.TheVariants.{Number, Truth, Cell, Apply}
@@ -28,7 +97,7 @@ use Rattle.rtl_form.specs.Sound.{IsSort, IndexFits}
 use Rattle.process_plan.specs.Roles.{Role, Value, AreCells, def_cell}
 use Rattle.process_plan.specs.Enables.{copy_of, IsCopy}
 use Rattle.process_plan.specs.Fits.{HasSortIn, ExprFitsIn}
-use Rattle.process_plan.proofs.Members.{here, there, nowhere, only_one, some_entry, one_entry, between_in}
+use Rattle.process_plan.proofs.Members.{only_one, some_entry, between_in, some_is, in_map}
 
 -- ---- sorts
 
@@ -54,9 +123,6 @@ same_sort IsBit IsBit h = refl
 same_sort IsWord IsBit h = absurd (h (λ e. absurd (cc)))
 same_sort IsBit IsWord h = absurd (h (λ e. absurd (cc)))
 
-some_cell : (x y : cells.Cell) → Some x ≡ Some y → x ≡ y
-some_cell x y h = ap (λ (o : Option cells.Cell). elim o as (λ _. cells.Cell) [ None ↦ x | Some z ↦ z ]) h
-
 -- the cell of a definition is of the sort of the definition
 pub cell_sort : (ds : List Def) (d : ℕ) (w : What) (x : cells.Cell) → def_cell ds d w ≡ Some x
     → what_sort w ≡ Some (sort_of x.word)
@@ -66,14 +132,14 @@ cell_sort ds d Phia x h = absurd (cc)
 cell_sort ds d Phib x h = absurd (cc)
 cell_sort ds d Phic x h = absurd (cc)
 cell_sort ds d (Constant c) x h = absurd (cc)
-cell_sort ds d Register x h = ap (λ (z : cells.Cell). Some (sort_of z.word)) (some_cell _ x h)
-cell_sort ds d Flag x h = ap (λ (z : cells.Cell). Some (sort_of z.word)) (some_cell _ x h)
-cell_sort ds d (Port Input) x h = ap (λ (z : cells.Cell). Some (sort_of z.word)) (some_cell _ x h)
-cell_sort ds d (Port Output) x h = ap (λ (z : cells.Cell). Some (sort_of z.word)) (some_cell _ x h)
-cell_sort ds d (Port Internal) x h = ap (λ (z : cells.Cell). Some (sort_of z.word)) (some_cell _ x h)
-cell_sort ds d (Signal Input) x h = ap (λ (z : cells.Cell). Some (sort_of z.word)) (some_cell _ x h)
-cell_sort ds d (Signal Output) x h = ap (λ (z : cells.Cell). Some (sort_of z.word)) (some_cell _ x h)
-cell_sort ds d (Signal Internal) x h = ap (λ (z : cells.Cell). Some (sort_of z.word)) (some_cell _ x h)
+cell_sort ds d Register x h = ap (λ (z : cells.Cell). Some (sort_of z.word)) (some_is _ x h)
+cell_sort ds d Flag x h = ap (λ (z : cells.Cell). Some (sort_of z.word)) (some_is _ x h)
+cell_sort ds d (Port Input) x h = ap (λ (z : cells.Cell). Some (sort_of z.word)) (some_is _ x h)
+cell_sort ds d (Port Output) x h = ap (λ (z : cells.Cell). Some (sort_of z.word)) (some_is _ x h)
+cell_sort ds d (Port Internal) x h = ap (λ (z : cells.Cell). Some (sort_of z.word)) (some_is _ x h)
+cell_sort ds d (Signal Input) x h = ap (λ (z : cells.Cell). Some (sort_of z.word)) (some_is _ x h)
+cell_sort ds d (Signal Output) x h = ap (λ (z : cells.Cell). Some (sort_of z.word)) (some_is _ x h)
+cell_sort ds d (Signal Internal) x h = ap (λ (z : cells.Cell). Some (sort_of z.word)) (some_is _ x h)
 
 -- the sort of a name is that of its first definition
 pub name_sorted : (ds : List Def) (n : List ℕ) (x : Def) → IsAt ds (index_of ds n) x → name_sort ds n ≡ what_sort x.what
@@ -201,12 +267,6 @@ module _ (p : Program) (roles : List Role) (xs : List cells.Cell) (are : AreCell
       sorted.sorts x.place (inl (e, x, sort_of word, sort_of w, at, wanted, of_kind, other, refl))) in
       (y, at_y, subst (IsSort xs y) (sym (same_word word w (ap Some same))) of_copy)
 
-  in_map : (args : List ℕ) (a : ℕ) → Contains (map (copy_of p) args) a → (x : ℕ) × Contains args x × (copy_of p x ≡ a)
-  in_map [] a h = absurd (nowhere a h)
-  in_map (x ∷ args) a (zero, lt, is) = (x, here x args, is)
-  in_map (x ∷ args) a (suc k, lt, is) =
-      let (z, cz, e) = in_map args a (k, omega (arith, lt), is) in (z, there z x args cz, e)
-
   number_fits : IsSorted p → (e : ℕ) (x : Expr) (n : ℕ) → IsAt p.exprs e x → x.kind ≡ source.Number n → n < 2 ^ p.width
   number_fits sorted e x n at is = elim (cases_lt n (2 ^ p.width)) [
     | inl lt ↦ lt
@@ -254,10 +314,11 @@ module _ (p : Program) (roles : List Role) (xs : List cells.Cell) (are : AreCell
         let inside : e < length p.exprs = at.0 in
         subst (λ n. (n < copy_of p e) × HasSortIn xs exprs n false) (only_one a b c) (omega (arith, low, inside), has)
 
-    arg_fits : (op : Op) (k : ℕ) (args : List ℕ) → x.kind ≡ source.Apply op k args → ArgsFit e (length p.exprs) (source.Apply op k args)
+    arg_fits : (op : Op) (k : ℕ) (args : List ℕ) → x.kind ≡ source.Apply op k args
+        → ArgsFit e (length p.exprs) (source.Apply op k args)
         → (a : ℕ) → Contains (map (copy_of p) args) a → (a < copy_of p e) × HasSortIn xs exprs a (takes_words op)
     arg_fits op k args kind fit a c =
-        let (j, cj, same) = in_map args a c in
+        let (j, cj, same) = in_map (copy_of p) args a c in
         let (over, under) = between_in e (length p.exprs) args j fit.1 cj in
         let (z, at_z) = some_entry p.exprs j under in
         let wanted : IsWanted p j (Some (sort_of (takes_words op))) =
@@ -299,7 +360,8 @@ module _ (p : Program) (roles : List Role) (xs : List cells.Cell) (are : AreCell
 abbrev pub Keeps : {X : Type 0} → List X → List X → Type 0
 Keeps {X} xs ys = (k : ℕ) (x : X) → IsAt xs k x → IsAt ys k x
 
-pub sort_kept : (xs ys : List cells.Cell) (y : RtlExpr) (word : Bool) → Keeps xs ys → IsSort xs y word → IsSort ys y word
+pub sort_kept : (xs ys : List cells.Cell) (y : RtlExpr) (word : Bool) → Keeps xs ys → IsSort xs y word
+    → IsSort ys y word
 sort_kept xs ys (Number n) word keeps h = h
 sort_kept xs ys (Truth b) word keeps h = h
 sort_kept xs ys (Cell c) word keeps (x, at, is) = (x, keeps c x at, is)

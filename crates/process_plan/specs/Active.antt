@@ -36,7 +36,8 @@ own_effects v _ = []
 -- where form r is active, form f is
 pub data Runs (p : Program) (env : List ℕ) : ℕ → ℕ → Type 0 where
   itself : {r : ℕ} → Runs p env r r
-  deeper : {r g f : ℕ} (y : Form) → IsAt p.forms r y → Contains (chosen (value_of p env) y.kind) g → Runs p env g f → Runs p env r f
+  deeper : {r g f : ℕ} (y : Form) → IsAt p.forms r y → Contains (chosen (value_of p env) y.kind) g → Runs p env g f
+      → Runs p env r f
 
 -- r is a form with this origin
 abbrev pub IsRoot : Program → Origin → ℕ → Type 0

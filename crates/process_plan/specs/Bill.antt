@@ -1,5 +1,22 @@
 -- What the parts of a program's transfers cost at most, and what pays for them.
-use Rattle.std.specs.Prelude.{◌≡◌, ◌⊎◌, ℕ, ◌+◌, ◌-◌, ◌*◌, ◌<◌, ◌≤◌, List, [], ◌∷◌, if◌then◌else◌, length, max, nat_lt, Contains}
+use Rattle.std.specs.Prelude.{
+  ◌≡◌,
+  ◌⊎◌,
+  ℕ,
+  ◌+◌,
+  ◌-◌,
+  ◌*◌,
+  ◌<◌,
+  ◌≤◌,
+  List,
+  [],
+  ◌∷◌,
+  if◌then◌else◌,
+  length,
+  max,
+  nat_lt,
+  Contains,
+}
 use Rattle.std.specs.List.{sum_by}
 use Rattle.mp_program.specs.declared.program.ExprKind.{ExprKind}
 use Rattle.mp_program.specs.declared.program.ExprKind.TheVariants as source

@@ -1,5 +1,24 @@
 -- What each cell stands for.
-use Rattle.std.specs.Prelude.{◌≡◌, ℕ, ◌-◌, ◌<◌, List, [], true, false, ◌==◌, Option, Some, None, length, map, take, count_by, slice_index, slice_index_or}
+use Rattle.std.specs.Prelude.{
+  ◌≡◌,
+  ℕ,
+  ◌-◌,
+  ◌<◌,
+  List,
+  [],
+  true,
+  false,
+  ◌==◌,
+  Option,
+  Some,
+  None,
+  length,
+  map,
+  take,
+  count_by,
+  slice_index,
+  slice_index_or,
+}
 pub use Rattle.process_plan.specs.declared.role.Role.{Role}
 pub use Rattle.process_plan.specs.declared.role.Role.TheVariants.{Value, Placed, Stacked}
 use Rattle.mp_base.specs.Apply.{truth}

@@ -1,9 +1,9 @@
-//! What the register transfers of a program are to be: the plan that `process_sequencer` follows, and the laws that
-//! transfers which follow it show what the program shows, at no more cost than the program weighs.
+//! What the register transfers of a program are to be, and the laws that transfers which are built so show what the
+//! program shows, at no more cost than it weighs. The passes that build them are in `process_sequencer`.
 //!
-//! A process is one place at a time. Its places and the entries of its stack become stored bits, one for each place that
-//! they may be at, so that exactly one of them is 1, or none at place 0. Each form has an expression that is 1 where the
-//! form is active, and it is the guard of the form's transfers.
+//! Each place of a process but the first becomes a stored bit, and so does each place that an entry of its stack may be:
+//! the bit of the place where the process is, is 1, and none is where it is at the first. Each form has an expression
+//! that is 1 in the clocks in which the form is active; it guards the form's transfers.
 #![tactic(auto)]
 
 mod enable;

@@ -1,0 +1,247 @@
+-- The bits of the input pads of a path are different nets.
+use Rattle.std.proofs.Common.{
+  ◌≡◌,
+  ◌⊎◌,
+  inl,
+  inr,
+  ◌∙◌,
+  ℕ,
+  zero,
+  suc,
+  ◌+◌,
+  ◌<◌,
+  ◌≤◌,
+  List,
+  [],
+  ◌∷◌,
+  ◌++◌,
+  length,
+  map,
+  refl,
+  sym,
+  ap,
+  subst,
+  arith,
+  Option,
+  Some,
+  None,
+  Bool,
+  true,
+  false,
+  cond,
+  eqb,
+  not,
+  true≢false,
+}
+use Rattle.std.specs.Prelude.{◌==◌, ◌≢◌, All, Contains, slice_get}
+use Rattle.std.proofs.lemmas.Bool.{eq-eqb}
+use Rattle.std.proofs.lemmas.List.Elements.{All-contains, Contains-append_left}
+use Rattle.std.proofs.lemmas.Option.{same_Some, slice_get_within, get_or_from_slice_get}
+use Rattle.mp_base.specs.declared.pad.Pad.{Pad}
+use Rattle.mp_base.specs.declared.pad.Pads.{Pads}
+use Rattle.nor_net.specs.declared.net.NetId.{NetId}
+use Rattle.nor_net.specs.declared.net.Part.TheVariants as parts
+use Rattle.nor_net.specs.Elements.{Spot, Element, Given, Joined, Nets, spot}
+use Rattle.organelles.specs.declared.slices.Programmed.{Programmed}
+use Rattle.path_form.specs.declared.path.DataPath.{DataPath}
+use Rattle.path_form.specs.declared.path.Cast.{Cast}
+use Rattle.path_form.specs.declared.path.Lift.{Lift}
+use Rattle.path_form.specs.declared.flattened.Flattened.{Flattened}
+use Rattle.path_form.specs.Shape.{entries_of, is_input, times, chain_to}
+use Rattle.path_form.specs.Showing.{path_nets, pad_bits, pad_spot}
+use Rattle.path_form.specs.Flat.{IsFlat, Root, itself, through}
+use Rattle.path_form.proofs.Joining.{times_append, there, is_one_input}
+use Rattle.path_values.proofs.Realized.{in_entries, control_pad, slice_pad}
+use Rattle.chip_laws.specs.Laws.{AreRowsApart, InputsAreApart}
+use Rattle.path_form.specs.Flat.{rows_of}
+
+pub mapped : {X Y : Type 0} (f : X → Y) (xs : List X) (k : ℕ) (y : Y) → slice_get (map f xs) k ≡ Some y → (x : X)
+    × (slice_get xs k ≡ Some x) × (f x ≡ y)
+mapped f [] k y e = absurd (let w = slice_get_within [] k y e in omega (arith, w))
+mapped f (x ∷ xs) zero y e = (x, refl, same_Some (f x) y e)
+mapped f (x ∷ xs) (suc k) y e = mapped f xs k y e
+
+pub entry : {Y : Type 0} (xs : List Y) (k : ℕ) → k < length xs → (x : Y) × (slice_get xs k ≡ Some x)
+entry [] k l = absurd (omega (arith, l))
+entry (x ∷ xs) zero l = (x, refl)
+entry (x ∷ xs) (suc k) l = entry xs k (omega (arith, l))
+
+pub in_list : {Y : Type 0} (xs : List Y) (k : ℕ) (x : Y) → slice_get xs k ≡ Some x → Contains xs x
+in_list xs k x e = (k, slice_get_within xs k x e, get_or_from_slice_get xs k x x e)
+
+same_id : (x y : NetId) → x.0 ≡ y.0 → x ≡ y
+same_id x y e = let f : ℕ → NetId = λ m. record { 0 = m } in ap f e
+
+-- a net that is given joins no other
+stay : (nets : Nets) (n root : Spot) → Root nets n root → nets n ≡ Some Given → root ≡ n
+stay nets n root (itself _) e = refl
+stay nets n root (through _ m _ j r) e = absurd (let s = same_Some Given (Joined m) (sym e ∙ j) in cc)
+
+module _ (p : DataPath) where
+  -- a bit of an input pad is given
+  pub given : (i k : ℕ) (pad : Pad) (id : NetId) → slice_get (p.pads).inputs i ≡ Some pad
+      → slice_get p.inputs i ≡ Some id → k < pad_bits pad
+      → path_nets p (pad_spot pad id k) ≡ Some Given
+  given i k pad id e f lt = by_width (pad.width == 0) refl lt
+    where
+      scalars : List NetId
+      scalars = entries_of false (p.pads).inputs p.inputs
+
+      by_width : (b : Bool) → (pad.width == 0) ≡ b → k < cond b 1 pad.width
+          → path_nets p (spot (cond b 0 (suc k)) id) ≡ Some Given
+      by_width true w l =
+          let c = in_entries false (p.pads).inputs p.inputs i pad id e f (ap not w) in
+          let more = Contains-append_left (entries_of false (p.pads).inputs p.inputs)
+          (map (λ (l : Lift). l.control) p.lifts) id c in
+          let is = All-contains (λ (x : NetId). is_input (slice_get p.control x.0) ≡ true)
+          (entries_of false (p.pads).inputs p.inputs
+          ++ map (λ (l : Lift). l.control) p.lifts) id p.whole.control_inputs.0 more in
+          control_pad p id (is_one_input (slice_get p.control id.0) is) c
+      by_width false w l =
+          let rest = map chain_to p.slices.chains ++ (map (λ (c : Cast). c.slice) p.casts
+          ++ map (λ (g : Programmed). g.net) p.slices.programs) in
+          let c = in_entries true (p.pads).inputs p.inputs i pad id e f (ap not w) in
+          let more = Contains-append_left (entries_of true (p.pads).inputs p.inputs) rest id c in
+          let is = All-contains (λ (x : NetId). is_input (slice_get p.slices.net x.0) ≡ true)
+          (entries_of true (p.pads).inputs p.inputs ++ rest) id
+          p.whole.slice_inputs.0 more in
+          let wide : pad.width ≡ p.width = All-contains (λ (x : Pad). x.width ≢ 0 → x.width ≡ p.width)
+          (p.pads).inputs pad p.whole.pads_fit.0
+          (in_list (p.pads).inputs i pad e) (λ z. true≢false (ap (λ n. n == 0) (sym z) ∙ w)) in
+          slice_pad p k id (omega (arith, l, wide)) (is_one_input (slice_get p.slices.net id.0) is) c
+
+-- a net has one place among the entries of a sort
+tail_fewer : (word : Bool) (pad : Pad) (pads : List Pad) (id : NetId) (ids : List NetId) (n : ℕ)
+    → times n (entries_of word pads ids) ≤ times n (entries_of word (pad ∷ pads) (id ∷ ids))
+tail_fewer word pad pads id ids n = by_tests (not (pad.width == 0)) word
+  where
+    by_tests : (b c : Bool) → times n (entries_of word pads ids)
+        ≤ times n (cond b (cond c (id ∷ entries_of word pads ids) (entries_of word pads ids))
+        (cond c (entries_of word pads ids) (id ∷ entries_of word pads ids)))
+    by_tests true true = omega arith
+    by_tests true false = omega arith
+    by_tests false true = omega arith
+    by_tests false false = omega arith
+
+abbrev tally : Bool → ℕ
+tally b = cond b 1 0
+
+head_counts : (word : Bool) (pad : Pad) (pads : List Pad) (id : NetId) (ids : List NetId) (n : ℕ)
+    → not (pad.width == 0) ≡ word → id.0 ≡ n
+    → 0 < times n (entries_of word pads ids) → times n (entries_of word (pad ∷ pads) (id ∷ ids)) ≤ 1 → ⊥
+head_counts word pad pads id ids n w e some few = by_tests (not (pad.width == 0)) word w few
+  where
+    one : tally (id.0 == n) ≡ 1
+    one = ap tally (eq-eqb id.0 n e)
+
+    by_tests : (b c : Bool) → b ≡ c
+        → times n (cond b (cond c (id ∷ entries_of word pads ids) (entries_of word pads ids))
+        (cond c (entries_of word pads ids) (id ∷ entries_of word pads ids))) ≤ 1 → ⊥
+    by_tests true true s l = let o = one in omega (arith, o, some, l)
+    by_tests false false s l = let o = one in omega (arith, o, some, l)
+    by_tests true false s l = true≢false s
+    by_tests false true s l = true≢false (sym s)
+
+one_place : (word : Bool) (pads : List Pad) (ids : List NetId) (n : ℕ) → times n (entries_of word pads ids) ≤ 1
+    → (a b : ℕ) (pa pb : Pad) (ia ib : NetId) → slice_get pads a ≡ Some pa → slice_get pads b ≡ Some pb
+    → slice_get ids a ≡ Some ia → slice_get ids b ≡ Some ib
+    → not (pa.width == 0) ≡ word → not (pb.width == 0) ≡ word → ia.0 ≡ n → ib.0 ≡ n → a ≡ b
+one_place word [] ids n few a b pa pb ia ib ea eb fa fb wa wb na nb =
+    absurd (let w = slice_get_within [] a pa ea in omega (arith, w))
+one_place word (p ∷ ps) [] n few a b pa pb ia ib ea eb fa fb wa wb na nb =
+    absurd (let w = slice_get_within [] a ia fa in omega (arith, w))
+one_place word (p ∷ ps) (i ∷ is) n few zero zero pa pb ia ib ea eb fa fb wa wb na nb = refl
+one_place word (p ∷ ps) (i ∷ is) n few zero (suc b) pa pb ia ib ea eb fa fb wa wb na nb =
+    absurd (head_counts word p ps i is n (ap (λ (x : Pad). not (x.width == 0)) (same_Some p pa ea) ∙ wa)
+    (ap (λ (x : NetId). x.0) (same_Some i ia fa) ∙ na)
+    (there n (entries_of word ps is) ib (in_entries word ps is b pb ib eb fb wb) nb) few)
+one_place word (p ∷ ps) (i ∷ is) n few (suc a) zero pa pb ia ib ea eb fa fb wa wb na nb =
+    absurd (head_counts word p ps i is n (ap (λ (x : Pad). not (x.width == 0)) (same_Some p pb eb) ∙ wb)
+    (ap (λ (x : NetId). x.0) (same_Some i ib fb) ∙ nb)
+    (there n (entries_of word ps is) ia (in_entries word ps is a pa ia ea fa wa) na) few)
+one_place word (p ∷ ps) (i ∷ is) n few (suc a) (suc b) pa pb ia ib ea eb fa fb wa wb na nb =
+    let less = tail_fewer word p ps i is n in
+    ap suc (one_place word ps is n (omega (arith, few, less)) a b pa pb ia ib ea eb fa fb wa wb na nb)
+
+module _ (p : DataPath) (f : Flattened) (flat : IsFlat p f) where
+  -- one bit of a pad, with its net
+  pub record At (a k : ℕ) (n : Spot) : Type 0 where
+    pub pad : Pad
+    pub id : NetId
+    pub is_pad : slice_get (p.pads).inputs a ≡ Some pad
+    pub is_id : slice_get p.inputs a ≡ Some id
+    pub inside : k < pad_bits pad
+    pub net : spot 0 (flat.of (pad_spot pad id k)) ≡ n
+
+  pub find : (a k : ℕ) (n : Spot) (xs : List Spot) → slice_get (rows_of f.inputs) a ≡ Some xs
+      → slice_get xs k ≡ Some n → At a k n
+  find a k n xs ea ek =
+      let r = mapped (λ (row : List NetId). map (spot 0) row) f.inputs a xs ea in
+      let i = mapped (spot 0) r.0 k n (ap (λ x. slice_get x k) r.2 ∙ ek) in
+      let within = slice_get_within f.inputs a r.0 r.1 in
+      let l1 = flat.sizes.0 in
+      let l2 = p.whole.entries_fit.0.0 in
+      let pad = entry (p.pads).inputs a (omega (arith, within, l1)) in
+      let id = entry p.inputs a (omega (arith, within, l1, l2)) in
+      let are = flat.inputs a pad.0 id.0 r.0 pad.1 id.1 r.1 in
+      let at = slice_get_within r.0 k i.0 i.1 in
+      let size = are.0 in
+      let lt : k < pad_bits pad.0 = omega (arith, at, size) in
+      record {
+        pad = pad.0;
+        id = id.0;
+        is_pad = pad.1;
+        is_id = id.1;
+        inside = lt;
+        net = ap (spot 0) (same_Some (flat.of (pad_spot pad.0 id.0 k)) i.0 (sym (are.1 k lt) ∙ i.1)) ∙ i.2;
+      }
+
+  few_false : (n : ℕ) → times n (entries_of false (p.pads).inputs p.inputs) ≤ 1
+  few_false n =
+      let l = p.whole.apart.0 n in
+      let e = times_append n (entries_of false (p.pads).inputs p.inputs)
+      (entries_of false (p.pads).outputs p.outputs) in omega (arith, l, e)
+
+  few_true : (n : ℕ) → times n (entries_of true (p.pads).inputs p.inputs) ≤ 1
+  few_true n =
+      let l = p.whole.apart.1 n in
+      let e = times_append n (entries_of true (p.pads).inputs p.inputs) (entries_of true (p.pads).outputs p.outputs) in
+      omega (arith, l, e)
+
+  module _ (a b k l : ℕ) (n : Spot) (x : At a k n) (y : At b l n) where
+    same_spot : pad_spot x.pad x.id k ≡ pad_spot y.pad y.id l
+    same_spot =
+        let r = flat.numbering.apart (pad_spot x.pad x.id k) (pad_spot y.pad y.id l)
+        (same_id (flat.of (pad_spot x.pad x.id k)) (flat.of (pad_spot y.pad y.id l))
+        (ap (λ (s : Spot). s.net) (x.net ∙ sym y.net))) in
+        sym (stay (path_nets p) (pad_spot x.pad x.id k) r.0 r.1 (given p a k x.pad x.id x.is_pad x.is_id x.inside))
+        ∙ stay (path_nets p) (pad_spot y.pad y.id l) r.0 r.2 (given p b l y.pad y.id y.is_pad y.is_id y.inside)
+
+    same_net : x.id.0 ≡ y.id.0
+    same_net = ap (λ (s : Spot). s.net) same_spot
+
+    same_place : (v w : Bool) → (x.pad.width == 0) ≡ v → (y.pad.width == 0) ≡ w → k < cond v 1 x.pad.width
+        → l < cond w 1 y.pad.width
+        → cond v 0 (suc k) ≡ cond w 0 (suc l) → (a ≡ b) × (k ≡ l)
+    same_place true true v w lk ll e = (
+      one_place false (p.pads).inputs p.inputs y.id.0
+          (few_false y.id.0) a b x.pad y.pad x.id y.id x.is_pad y.is_pad x.is_id y.is_id (ap not v)
+          (ap not w) same_net refl,
+      omega (arith, lk, ll),
+    )
+    same_place false false v w lk ll e = (
+      one_place true (p.pads).inputs p.inputs y.id.0
+          (few_true y.id.0) a b x.pad y.pad x.id y.id x.is_pad y.is_pad x.is_id y.is_id (ap not v)
+          (ap not w) same_net refl,
+      omega (arith, e),
+    )
+    same_place true false v w lk ll e = absurd (omega (arith, e))
+    same_place false true v w lk ll e = absurd (omega (arith, e))
+
+    one_bit : (a ≡ b) × (k ≡ l)
+    one_bit = same_place (x.pad.width == 0) (y.pad.width == 0) refl refl x.inside y.inside
+        (ap (λ (s : Spot). s.band) same_spot)
+
+pub inputs_are_apart : InputsAreApart
+inputs_are_apart p f flat a b k l n xs ys ea eb ek el =
+    one_bit p f flat a b k l n (find p f flat a k n xs ea ek) (find p f flat b l n ys eb el)

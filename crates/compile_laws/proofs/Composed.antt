@@ -1,0 +1,132 @@
+-- What the steps promise makes the text a chip of the program.
+use Rattle.std.proofs.Common.{ℕ, ◌≡◌, ◌+◌, ◌*◌, ◌≤◌, refl, ap, subst, List, [], ◌∷◌, ◌++◌, length, map, arith}
+use Rattle.std.specs.Prelude.{All, codes, false}
+use Rattle.std.proofs.lemmas.List.Elements.{All-nil, All-cons}
+use Rattle.lam_geom.specs.declared.rect.Rect.{Rect}
+use Rattle.lam_geom.specs.Squares.{covered}
+use Rattle.cif_form.specs.declared.command.Command.{Command}
+use Rattle.cif_form.specs.declared.command.Item.{Item}
+use Rattle.cif_form.specs.Text.{◌▹◌, Byte, Blanks, IsBlank, Reads}
+use Rattle.cif_form.specs.Fits.{Fits}
+use Rattle.cif_form.specs.Scans.{FileScans, Nests}
+use Rattle.cif_form.specs.Scans.TextEnd.{Whole}
+use Rattle.cif_form.specs.Walk.{walk_limit}
+use Rattle.cif_form.specs.Writing.{written, placed_items, text_of}
+use Rattle.cif_writer.specs.Texts.{file_text}
+use Rattle.switch_net.specs.Laws.{TraceExists}
+use Rattle.switch_net.specs.Breaks.{IsSoundMask}
+use Rattle.mask_laws.specs.Laws.{NetworkExists, SoundBySquares}
+use Rattle.mp_program.specs.declared.program.Program.{Program}
+use Rattle.mp_program.specs.Exactly.{ExactlyOne}
+use Rattle.mp_program.specs.Trace.{IsTrace}
+use Rattle.mp_program.specs.Weight.{weight}
+use Rattle.headline.specs.Headline.{IsChipOf}
+use Rattle.fabric.specs.declared.chip.ChipLabel.{ChipLabel}
+use Rattle.rtl_form.specs.declared.rtl.Rtl.{Rtl}
+use Rattle.rtl_form.specs.Cost.{cost}
+use Rattle.process_plan.specs.Same.{IsSame}
+use Rattle.chip_laws.specs.Planned.{IsPlanned}
+use Rattle.cif_emit.specs.Emitted.{IsEmitted}
+use Rattle.compile_laws.specs.Laws.{most_rects, IsSmallPlan, IsSmallChipOf, MakesChips}
+use Rattle.compile_laws.proofs.Sequenced.{shows, settles}
+
+placed : (semi : List ℕ) (offset : ℕ) (cs : List Command)
+    → map (λ (i : Item). i.command) (placed_items semi offset cs) ≡ cs
+placed semi offset [] = refl
+placed semi offset (c ∷ cs) = ap (λ xs. c ∷ xs) (placed semi (offset + (length (text_of c) + length semi)) cs)
+
+line_feed : IsBlank 10
+line_feed = (
+  (λ h. omega arith),
+  (λ h. omega arith),
+  (λ h. omega arith),
+  (λ h. omega arith),
+  (λ h. omega arith),
+  (λ h. omega arith),
+)
+
+feed : Blanks (codes "\n")
+feed = All-cons IsBlank 10 [] line_feed (All-nil IsBlank)
+
+semicolon : (Byte 59 ▹ Blanks) (codes ";\n")
+semicolon = (59 ∷ [], 10 ∷ [], refl, refl, feed)
+
+-- what is written of commands is read as these commands, and breaks no rule of texts
+abbrev WrittenIsRead : Type 0
+WrittenIsRead =
+    (semi last : List ℕ) → (Byte 59 ▹ Blanks) semi → Blanks last → (cs : List Command) → All Fits cs
+    → (offset : ℕ) → Reads offset (written semi last cs) (placed_items semi offset cs)
+
+abbrev WrittenIsWhole : Type 0
+WrittenIsWhole =
+    (semi last : List ℕ) → (Byte 59 ▹ Blanks) semi → Blanks last → (cs : List Command) → All Fits cs → Nests false cs
+    → FileScans (written semi last cs) (placed_items semi 0 cs) Whole
+
+-- the walk of a chip stays within its limit
+short_walk : (rects labels cost width : ℕ) → rects ≤ most_rects cost width → labels ≤ 64 * cost + 5
+    → cost ≤ 1024 → width ≤ 32 → rects + labels + 65_536 ≤ walk_limit
+short_walk rects labels cost width a b c d = grind (arith, a, b, c, d)
+
+few_shapes : (shapes rects cost heavy width : ℕ) → shapes ≤ rects → rects ≤ most_rects cost width → cost ≤ heavy
+    → shapes ≤ most_rects heavy width
+few_shapes shapes rects cost heavy width a b c = grind (arith, a, b, c)
+
+module _
+    (reads : WrittenIsRead) (whole : WrittenIsWhole) (by_squares : SoundBySquares) (exist : TraceExists)
+    (networks : NetworkExists) (p : Program) (traces : (inputs : List (List ℕ)) → ExactlyOne (IsTrace p inputs))
+  where
+    module _
+        (r : Rtl) (rects : List Rect) (labels : List ChipLabel) (commands : List Command) (same : IsSame p r)
+        (planned : IsPlanned r rects labels) (emitted : IsEmitted rects labels commands)
+      where
+        composed : length rects + length labels + 65_536 ≤ walk_limit
+            → (chip : IsChipOf p (file_text commands)) × (length (chip.draws).shapes ≤ length rects)
+        composed few =
+            let items : List Item = placed_items (codes ";\n") 0 commands in
+            let drawn = emitted.drawn items (placed (codes ";\n") 0 commands) in
+            let plan = planned.draws drawn.flat drawn.labelled in
+            let found = networks rects drawn.flat plan.labels_fit in
+            let told = plan.each found.0 found.1 in
+            let here : IsSoundMask (covered rects) drawn.flat found.0 r.pads =
+            record { network = found.1; labels_fit = plan.labels_fit; few = plan.few; has_pads = told.0 } in
+            let sound = by_squares rects drawn.shapes drawn.same drawn.flat found.0 r.pads here in
+            let walked = drawn.few_walked in
+            let chip : IsChipOf p (file_text commands) = record {
+              pads = r.pads;
+              are_pads = same.pads;
+              network = found.0;
+              draws = record {
+                commands = items;
+                shapes = drawn.shapes;
+                labels = drawn.flat;
+                read = reads (codes ";\n") (codes "\n") semicolon feed commands emitted.fit 0;
+                well_formed = whole (codes ";\n") (codes "\n") semicolon feed commands emitted.fit emitted.nest;
+                drawn = drawn.expands;
+                drawable = drawn.walks (omega (arith, walked, few));
+                mask = sound;
+              };
+              follows = λ inputs fit.
+                  let t = traces inputs in
+                  record {
+                    outputs = t.0;
+                    program = t.1;
+                    runs = λ charge. exist found.0 r.pads charge inputs sound.has_pads fit;
+                    agrees = λ charge after shown trace k lt settled.
+                        told.1 inputs t.0 fit (shows p r same inputs t.0 fit t.1) charge after shown trace k lt
+                        (settles p r same inputs k settled);
+                  };
+            } in
+            (chip, drawn.few)
+
+    pub made : weight p ≤ 1024 → p.width ≤ 32 → MakesChips p
+    made light narrow r rects labels commands same plan emitted =
+        let few : length rects ≤ most_rects (cost r) p.width =
+        subst (λ n. length rects ≤ most_rects (cost r) n) same.width plan.few in
+        let less = same.cost in
+        let walk = short_walk (length rects) (length labels) (cost r) p.width few plan.few_labels
+        (omega (arith, light, less)) narrow in
+        let chip = composed r rects labels commands same plan.planned emitted walk in (
+          chip.0,
+          few_shapes (length (chip.0.draws).shapes) (length rects) (cost r)
+              (weight p) p.width chip.1 few same.cost,
+        )

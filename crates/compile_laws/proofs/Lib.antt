@@ -1,0 +1,3 @@
+mod Unbroken
+mod Sequenced
+mod Composed

@@ -1,0 +1,46 @@
+//! Rows of gates as fabrics: how many rectangles they draw, and the size of the network that they mean. How long both
+//! took goes to the standard error.
+#![tactic(auto)]
+
+mod row;
+
+ghost use Rattle.std.specs.Prelude.{◌≤◌};
+
+use row::row;
+use std::time::Instant;
+use std::{env, io};
+
+/// More gates have more lines and marks than a fabric may hold.
+const MOST_GATES: u32 = 4_000_000;
+
+fn show(rt: &HostRuntime, gates: u32) -> io::Result<()>
+    requires some { 1 ≤ gates }
+    requires few { gates ≤ MOST_GATES }
+{
+    let Ok(fabric) = row(rt.alloc(), gates) else {
+        return println!(rt; "no memory");
+    };
+    let start = Instant::now(rt)?;
+    let Ok(shape) = fabric.shape(rt.alloc()) else {
+        return println!(rt; "no memory");
+    };
+    let drawn = start.elapsed(rt)?;
+    let start = Instant::now(rt)?;
+    let Ok(network) = fabric.switches(rt.alloc()) else {
+        return println!(rt; "no memory");
+    };
+    let meant = start.elapsed(rt)?;
+    let (rectangles, nodes, channels) = (shape.len(), network.nodes, network.channels.len());
+    println!(rt; "{gates} gates: {rectangles} rectangles, {nodes} nodes, {channels} channels")?;
+    eprintln!(rt; "{gates} gates: shape {drawn:?}, switches {meant:?}")
+}
+
+fn main(rt: HostRuntime) -> io::Result<()> {
+    for word in env::args(&rt)?.skip(1) {
+        match word.as_str().parse::<u32>() {
+            Ok(gates) if 1 <= gates && gates <= MOST_GATES => show(&rt, gates)?,
+            _ => println!(rt; "from 1 to {MOST_GATES} gates")?,
+        }
+    }
+    Ok(())
+}

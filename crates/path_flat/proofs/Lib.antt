@@ -1,0 +1,16 @@
+mod PadRows
+mod Telling
+mod Room
+mod Ranks
+mod Elements
+mod Stepping
+mod Numbering
+mod Latches
+mod Ends
+mod Fed
+mod Here
+mod PadInputs
+mod Takes
+mod Whole
+mod Data
+mod PadNets

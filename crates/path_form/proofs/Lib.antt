@@ -1,0 +1,5 @@
+pub mod Joining
+pub mod Growing
+mod Covering
+mod Pulling
+mod FlatShowing

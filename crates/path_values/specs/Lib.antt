@@ -1,0 +1,2 @@
+pub mod Realizing
+pub mod Allocated

@@ -1,0 +1,4 @@
+//! Laws of data paths that stand for transfers.
+#![tactic(auto)]
+
+pub mod laws;

@@ -1,0 +1,11 @@
+-- A data path, as its placing takes it.
+use Rattle.std.proofs.Common.{◌≡◌, ◌<◌, ℕ, Some}
+use Rattle.std.proofs.lemmas.Bool.{ltb-true}
+use Rattle.nor_net.specs.Elements.{Spot, Joined}
+use Rattle.path_form.specs.declared.path.DataPath.{DataPath}
+use Rattle.path_form.specs.Shape.{rank}
+use Rattle.path_form.specs.Showing.{path_nets}
+use Rattle.slice_form.specs.Whole.{JointsFall}
+
+pub joints_fall : JointsFall
+joints_fall p n m h = ltb-true (rank p.order m) (rank p.order n) (p.whole.ordered n (Joined m) h)

@@ -1,0 +1,29 @@
+use Rattle.std.proofs.Common.{◌∙◌, [], ◌∷◌, ◌++◌, ap, arith, ℕ}
+use Rattle.array_form.proofs.Homes.{count_most}
+use Rattle.weinberger.specs.Homed.{home_by, is_stub_by, is_homed_by}
+use Rattle.weinberger.proofs.Growing.{map_grown}
+use Rattle.weinberger.proofs.Homing.{count_more, one_more}
+use Rattle.weinberger.proofs.homes.give_columns.Goals as goal
+
+pub overflow_add-end : goal.overflow_add-end
+overflow_add-end c =
+    let homed = is_homed_by c.args.pinned.now c.args.net.now in
+    let m = count_most homed c.loop-n.n in
+    let o = one_more (homed c.loop-n.n) in
+    let e = c.own_columns-end.ensures in
+    let i = c.loop-n.invariant.end in
+    let t = c.loop-n-test.true in
+    omega arith
+
+pub loop-n-preserved : goal.loop-n-preserved
+loop-n-preserved c =
+    let homed = is_homed_by c.args.pinned.now c.args.net.now in
+    let n : ℕ = c.loop-n.n in
+    record {
+      columns = map_grown [] (home_by c.args.base c.args.pinned.now c.args.net.now) n _ _ c.loop-n.invariant.columns
+          (c.in_ok-push.ensures.items ∙ ap (λ z. c.loop-n.columns.items ++ z ∷ []) c.loop-n.invariant.end);
+      stubs = map_grown [] (is_stub_by c.args.pinned.now c.args.net.now) n _ _ c.loop-n.invariant.stubs
+          (c.in_ok-push-2.ensures.items ∙ ap (λ z. c.loop-n.stubs.items ++ z ∷ []) c.is_stub.ensures);
+      end = (let m = count_more homed n in let e = c.own_columns-end.ensures in let i = c.loop-n.invariant.end in
+          omega arith);
+    }
