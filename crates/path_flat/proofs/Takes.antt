@@ -86,16 +86,16 @@ module _ (p : DataPath) (shapes : IsNet p.control × IsNet p.slices.net) (i : �
 
   at_part : (part : Part) → slice_get (parts_of p place.band) place.net ≡ Some part
       → h.e ≡ element_in p.width place.band (path_source p place.band place.net) part
-      → MayTakeAt of place.band (record { 0 = place.net }) flat part
+      → MayTakeAt of place flat part
   at_part Input at e = tt
   at_part (Gate inputs) at e = tt
   at_part (Latch phase None) at e = tt
   at_part (Latch phase (Some m)) at e = may_take phase m at (h.is ∙ ap (λ (x : Element). Some x) e)
 
   pub own_may : (own : List Part) → own ≡ parts_of p place.band
-      → IfSome (slice_get own place.net) (MayTakeAt of place.band (record { 0 = place.net }) flat)
+      → IfSome (slice_get own place.net) (MayTakeAt of place flat)
   own_may own e =
-      subst (λ o. IfSome o (MayTakeAt of place.band (record { 0 = place.net }) flat)) (sym (own_at p i place h own e))
+      subst (λ o. IfSome o (MayTakeAt of place flat)) (sym (own_at p i place h own e))
       (at_part h.part.part h.part.at h.part.element)
 
   -- one more net was gone over
@@ -111,7 +111,7 @@ module _ (p : DataPath) (shapes : IsNet p.control × IsNet p.slices.net) (i : �
   next_of : (new : List Part) → IsFew p flat → (part : Part)
       → h.e ≡ element_in p.width place.band (path_source p place.band place.net) part
       → slice_get (parts_of p place.band) place.net ≡ Some part → Fed part
-      → IsFedAt of place.band (record { 0 = place.net }) flat new part → IsNext new
+      → IsFedAt of place flat new part → IsNext new
   next_of new few Input e at is_fed after = same new few after
       (subst NoLatch (sym e) (source_no_latch p.width place.band (path_source p place.band place.net)))
   next_of new few (Gate inputs) e at is_fed after = same new few after (subst NoLatch (sym e) tt)
@@ -128,8 +128,8 @@ module _ (p : DataPath) (shapes : IsNet p.control × IsNet p.slices.net) (i : �
       })
 
   pub own_next : (own new : List Part) → own ≡ parts_of p place.band → IsFew p flat
-      → IfSome (slice_get own place.net) (IsFedAt of place.band (record { 0 = place.net }) flat new) → IsNext new
+      → IfSome (slice_get own place.net) (IsFedAt of place flat new) → IsNext new
   own_next own new e few after =
       next_of new few h.part.part h.part.element h.part.at h.part.fed
-      (subst (λ o. IfSome o (IsFedAt of place.band (record { 0 = place.net }) flat new))
+      (subst (λ o. IfSome o (IsFedAt of place flat new))
       (own_at p i place h own e) after)

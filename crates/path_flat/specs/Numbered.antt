@@ -49,13 +49,13 @@ pub record IsFew (p : DataPath) (flat : List Part) : Type 0 where
   pub inputs : gate_inputs flat ≤ gate_inputs p.control + p.width *
       (gate_inputs p.slices.net + length p.slices.chains + length p.slices.programs)
 
--- all nets of a path have numbers, and no latch is fed
+-- all nets of a path have numbers, and no latch is fed; the parts of the path stand where they may
 pub record IsNumbered (p : DataPath) (flat : List Part) (of : Spot → NetId) : Type 0 where
   pub shapes : IsNet p.control × IsNet p.slices.net
   pub numbered : IsNumberedTo p (total p.order) 0 flat of
   pub few : IsFew p flat
 
--- all nets of a path have numbers, and all latches are fed
+-- all nets of a path have numbers, and all latches are fed; the parts of the path stand where they may
 pub record IsWhole (p : DataPath) (flat : List Part) (of : Spot → NetId) : Type 0 where
   pub shapes : IsNet p.control × IsNet p.slices.net
   pub numbered : IsNumberedTo p (total p.order) (total p.order) flat of

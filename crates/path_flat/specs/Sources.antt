@@ -31,16 +31,20 @@ abbrev pub told : {A : Type 0} → (A → NetId) → (A → Source) → ℕ → 
 told end source n [] = Pad
 told end source n (x ∷ xs) = or_source (if (end x).0 == n then source x else Pad) (told end source n xs)
 
+-- a chain up gives its end the value of the slice below
 abbrev pub chain_source : Chain → Source
 chain_source (Up from to) = Below from
 chain_source (Down from to) = Above from
 
+-- a program gives its net a bit in each slice
 abbrev pub program_source : Programmed → Source
 program_source p = Bits p.bits
 
+-- a cast gives each slice a net of the control
 abbrev pub cast_source : Cast → Source
 cast_source c = Control c.control
 
+-- a lift gives the control a net of one slice
 abbrev pub lift_source : Lift → Source
 lift_source l = Slice l.slice l.from
 

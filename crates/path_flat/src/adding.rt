@@ -8,6 +8,7 @@ ghost use Rattle.path_flat.specs.Numbers.{number_of};
 ghost use Rattle.path_flat.specs.Sources.{element_in, source_element};
 
 use crate::numbers::Numbers;
+use crate::places::Place;
 use crate::sources::Source;
 use mp_base::{List, NoMemory};
 use nor_net::{Net, NetId, NetKind};
@@ -84,29 +85,29 @@ fn add_gate(
     net.gate(alloc, numbered.as_slice())
 }
 
-/// Adds what stands for one net of the path, and gives its number.
+/// Adds what stands for the net at a place of the path, a part of the net of its band, and gives its number.
 pub(crate) fn add(
     alloc: Global,
     own: &Net,
     width: u8,
-    band: u32,
-    id: NetId,
+    place: Place,
     source: Source,
     numbers: &Numbers,
     net: &mut Net,
 ) -> Result<NetId, NoMemory>
     requires narrow { width ≤ 64 }
-    requires inside { band ≤ width }
-    requires there { id.0 < length own.now }
-    requires fed { IfSome (slice_get own.now id.0) Fed }
-    requires ready { IfSome (slice_get own.now id.0)
-        (λ part. IsReady (element_in width band source part) (number_of numbers.now) net.old) }
-    ensures { IfOk result (λ number. IfSome (slice_get own.now id.0)
-        (λ part. IsElementAdded (element_in width band source part) (number_of numbers.now) net.old net.new number)) }
+    requires inside { place.band ≤ width }
+    requires there { place.net < length own.now }
+    requires fed { IfSome (slice_get own.now place.net) Fed }
+    requires ready { IfSome (slice_get own.now place.net)
+        (λ part. IsReady (element_in width place.band source part) (number_of numbers.now) net.old) }
+    ensures { IfOk result (λ id. IfSome (slice_get own.now place.net)
+        (λ part. IsElementAdded (element_in width place.band source part) (number_of numbers.now) net.old net.new id)) }
 {
+    let id = NetId(place.net);
     match own.kind(id) {
-        NetKind::Input => add_input(alloc, width, band, source, numbers, net),
-        NetKind::Gate => add_gate(alloc, band, own.gate_inputs(id), numbers, net),
+        NetKind::Input => add_input(alloc, width, place.band, source, numbers, net),
+        NetKind::Gate => add_gate(alloc, place.band, own.gate_inputs(id), numbers, net),
         NetKind::Latch { phase, .. } => net.latch(phase),
     }
 }

@@ -5,19 +5,23 @@ ghost use Rattle.path_flat.specs.Feeding.{IsFedAt, MayTakeAt};
 ghost use Rattle.path_flat.specs.Numbers.{number_of};
 
 use crate::numbers::Numbers;
+use crate::places::Place;
 use nor_net::{Net, NetId, NetKind};
 
-/// Gives what stands for one net of the path its data, where that is a latch.
-pub(crate) fn feed(own: &Net, band: u32, id: NetId, numbers: &Numbers, net: &mut Net)
-    requires there { id.0 < length own.now }
-    requires may { IfSome (slice_get own.now id.0) (MayTakeAt (number_of numbers.now) band id net.old) }
-    ensures { IfSome (slice_get own.now id.0) (IsFedAt (number_of numbers.now) band id net.old net.new) }
+/// Gives what stands for the net at a place its data, where that is a latch.
+pub(crate) fn feed(own: &Net, place: Place, numbers: &Numbers, net: &mut Net)
+    requires there { place.net < length own.now }
+    requires may { IfSome (slice_get own.now place.net) (MayTakeAt (number_of numbers.now) place net.old) }
+    ensures { IfSome (slice_get own.now place.net) (IsFedAt (number_of numbers.now) place net.old net.new) }
 {
     if let NetKind::Latch {
         source: Some(source),
         ..
-    } = own.kind(id)
+    } = own.kind(NetId(place.net))
     {
-        net.feed(numbers.at(band, id.0), numbers.at(band, source.0));
+        net.feed(
+            numbers.at(place.band, place.net),
+            numbers.at(place.band, source.0),
+        );
     }
 }

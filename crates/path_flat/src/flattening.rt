@@ -14,7 +14,7 @@ use crate::places::{Place, places};
 use crate::rows::rows_of;
 use crate::sources::Sources;
 use mp_base::NoMemory;
-use nor_net::{Net, NetId};
+use nor_net::Net;
 use path_form::{DataPath, Flattened};
 use std::alloc::Global;
 
@@ -45,16 +45,7 @@ fn number_all(
     for place in places {
         let own = net_of(path, place.band);
         let source = sources.source(*place);
-        let id = add(
-            alloc,
-            own,
-            path.width,
-            place.band,
-            NetId(place.net),
-            source,
-            &numbers,
-            net,
-        )?;
+        let id = add(alloc, own, path.width, *place, source, &numbers, net)?;
         numbers.set(*place, id);
     }
     Ok(numbers)
@@ -68,7 +59,7 @@ fn feed_all(path: &DataPath, places: &[Place], numbers: &Numbers, net: &mut Net)
 {
     for place in places {
         let own = net_of(path, place.band);
-        feed(own, place.band, NetId(place.net), numbers, net);
+        feed(own, *place, numbers, net);
     }
 }
 
