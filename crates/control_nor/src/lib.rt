@@ -1,8 +1,13 @@
 //! Bits of guarded transfers as NOR gates and latches.
 #![tactic(auto)]
 
+mod cells;
+mod exprs;
+mod gates;
 mod lower;
 mod names;
+mod rails;
+mod tasks;
 
 pub use lower::lower_bits;
 pub use names::{Names, Task};
