@@ -4,3 +4,6 @@ pub mod Naming
 pub mod Terms
 pub mod Next
 pub mod Made
+pub mod Left
+pub mod Progress
+pub mod Running

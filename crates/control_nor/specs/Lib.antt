@@ -6,3 +6,4 @@ pub mod Adding
 pub mod Exprs
 pub mod Cells
 pub mod Tasks
+pub mod Progress
