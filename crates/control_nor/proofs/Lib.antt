@@ -7,3 +7,6 @@ pub mod Made
 pub mod Left
 pub mod Progress
 pub mod Running
+pub mod Obeying
+pub mod Bits
+pub mod Meaning

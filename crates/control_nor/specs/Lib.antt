@@ -7,3 +7,4 @@ pub mod Exprs
 pub mod Cells
 pub mod Tasks
 pub mod Progress
+pub mod Meaning

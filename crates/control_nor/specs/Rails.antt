@@ -30,12 +30,10 @@ pub record HasRails (v : Spot → Trit) (rails : Rails) (b : Bool) : Type 0 wher
   pub has_bit : v (spot 0 rails.bit) ≡ bit b
   pub has_negation : v (spot 0 rails.negation) ≡ bit (not b)
 
--- where the bit is known, so is its negation
-abbrev pub Agree : (Spot → Trit) → Rails → Type 0
-Agree v rails = (b : Bool) → v (spot 0 rails.bit) ≡ bit b → HasRails v rails b
-
-abbrev pub AllAgree : (Spot → Trit) → List (Option Rails) → Type 0
-AllAgree v entries = (k : ℕ) (rails : Rails) → Named entries k rails → Agree v rails
+-- where the bit is known, so is its negation, and the other way round
+pub record Agree (v : Spot → Trit) (rails : Rails) : Type 0 where
+  pub from_bit : (b : Bool) → v (spot 0 rails.bit) ≡ bit b → HasRails v rails b
+  pub from_negation : (b : Bool) → v (spot 0 rails.negation) ≡ bit (not b) → HasRails v rails b
 
 -- the bit with this name, if there is one, is that of a number that is 0 or 1
 abbrev pub Known : (Spot → Trit) → List (Option Rails) → ℕ → ℕ → Type 0
