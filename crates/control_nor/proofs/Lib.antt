@@ -10,3 +10,5 @@ pub mod Running
 pub mod Obeying
 pub mod Bits
 pub mod Meaning
+pub mod Laying
+pub mod FirstSteps

@@ -141,17 +141,17 @@ module _ (r : Rtl) (sound : IsSound r) (tasks : List Task) (schedule : IsSchedul
 
     -- one more task
     module _ (newer : List Part) (later : Bits) (made : IsTaskDone r task new newer after later) where
-      was : entry_of after task ≡ Some None
+      pub was : entry_of after task ≡ Some None
       was = progress.left t task (omega arith) is
 
-      step : IsStep r task new newer after made.entry
+      pub step : IsStep r task new newer after made.entry
       step = task_step r new newer after (λ c rails h. progress.below (Cell c) rails h)
           (λ e rails h. progress.below (Expr e) rails h) task made.entry (schedule.only t task is) was made.is_made
 
       abbrev next : Bits
       next = with_entry after task made.entry
 
-      others : (s : ℕ) (y : Task) → slice_get tasks s ≡ Some y → (s ≡ t → ⊥) → y ≡ task → ⊥
+      pub others : (s : ℕ) (y : Task) → slice_get tasks s ≡ Some y → (s ≡ t → ⊥) → y ≡ task → ⊥
       others s y at ne e = ne (schedule.once s t task (at ∙ ap Some e) is)
 
       -- a bit gets nets

@@ -8,3 +8,5 @@ pub mod Cells
 pub mod Tasks
 pub mod Progress
 pub mod Meaning
+pub mod Done
+pub mod First

@@ -3,6 +3,7 @@
 
 mod cells;
 mod exprs;
+mod first;
 mod gates;
 mod lower;
 mod names;

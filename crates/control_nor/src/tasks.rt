@@ -4,7 +4,11 @@ ghost use Rattle.std.specs.Prelude.{◌≡◌, ◌<◌, ◌+◌, false, All, IfO
 ghost use Rattle.rtl_form.specs.Entries.{IsAt};
 ghost use Rattle.control_nor.specs.Rails.{AllBelow};
 ghost use Rattle.control_nor.specs.Tasks.{IsCellMade, IsTaskDone, IsTaskReady};
+ghost use Rattle.rtl_form.specs.Sound.{IsSound};
 ghost use Rattle.control_nor.specs.Adding.{HasRoom};
+ghost use Rattle.control_nor.specs.Done.{AreDone};
+ghost use Rattle.control_nor.specs.Progress.{IsBegun, cost_left};
+ghost use Rattle.control_nor.specs.Schedule.{IsSchedule};
 ghost use Rattle.control_nor.specs.Cells.{IsTransferNamed, transfers_to};
 
 use crate::cells::{lower_driven, select_transfers};
@@ -71,4 +75,26 @@ fn lower_task(
         }
     }
     Ok(())
+}
+
+/// All tasks of a schedule, and how many nets stand after each.
+pub fn lower_tasks(
+    alloc: Global,
+    rtl: &Rtl,
+    net: &mut Net,
+    tasks: &[Task],
+    bits: &mut Bits,
+) -> Result<List<u32>, NoMemory>
+    requires sound { IsSound rtl.now }
+    requires schedule { IsSchedule rtl.now tasks.now }
+    requires begun { IsBegun rtl.now net.old bits.old }
+    requires room { HasRoom (cost_left rtl.now bits.old) net.old }
+    ensures { IfOk result (AreDone rtl.now tasks.now (length tasks.now) net.old net.new bits.old bits.new) }
+{
+    let mut ends = List::new(alloc);
+    for task in tasks {
+        lower_task(alloc, rtl, net, *task, bits)?;
+        ends.push(net.len())?;
+    }
+    Ok(ends)
 }
