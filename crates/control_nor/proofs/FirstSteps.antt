@@ -57,7 +57,7 @@ pub record IsFirstStep (x : cells.Cell) (old new : List Part) (pads named : List
       → (x.kind ≡ kinds.Stored) × ((rails : Rails) × (o ≡ Some rails) × (rails.negation.0 ≡ n))
   pub agree : (v : Spot → Trit) → ObeysBehind new (length old) v → (rails : Rails) → o ≡ Some rails → Agree v rails
 
-append_nil : {Y : Type 0} (xs : List Y) → xs ++ [] ≡ xs
+pub append_nil : {Y : Type 0} (xs : List Y) → xs ++ [] ≡ xs
 append_nil [] = refl
 append_nil (x ∷ xs) = ap (λ ys. x ∷ ys) (append_nil xs)
 
@@ -68,13 +68,13 @@ in_more xs more n y l e =
     let at : n ≡ length xs + (n - length xs) = omega arith in
     (n - length xs, at, sym (get_behind xs more (n - length xs)) ∙ (ap (slice_get (xs ++ more)) (sym at) ∙ e))
 
-get_front : {Y : Type 0} (xs ys : List Y) (n : ℕ) → n < length xs → slice_get (xs ++ ys) n ≡ slice_get xs n
+pub get_front : {Y : Type 0} (xs ys : List Y) (n : ℕ) → n < length xs → slice_get (xs ++ ys) n ≡ slice_get xs n
 get_front [] ys n l = absurd (omega arith)
 get_front (x ∷ xs) ys zero l = refl
 get_front (x ∷ xs) ys (suc n) l = get_front xs ys n (omega arith)
 
 -- nothing was added
-none_step : (x : cells.Cell) (old new : List Part) (pads named : List (Option NetId)) (o : Option Rails)
+pub none_step : (x : cells.Cell) (old new : List Part) (pads named : List (Option NetId)) (o : Option Rails)
     → (o ≡ None) × (new ≡ old) × (named ≡ pads) → (x.word ≡ false → is_driven x.kind ≡ false → ⊥)
     → IsFirstStep x old new pads named o
 none_step x old new pads named o h other = record {
@@ -146,7 +146,7 @@ module _ (x : cells.Cell) (k : ℕ) (kind : x.kind ≡ kinds.Input k) (word : x.
   cost_is : first_cost x ≡ 2
   cost_is = ap (λ b. if b then 0 else first_kind_cost x.kind) word ∙ ap first_kind_cost kind
 
-  port_step : IsFirstStep x old new pads named (Some rails)
+  pub port_step : IsFirstStep x old new pads named (Some rails)
   port_step = record {
     added = (more, h.parts);
     within = record {
@@ -226,7 +226,7 @@ module _ (x : cells.Cell) (kind : x.kind ≡ kinds.Stored) (word : x.word ≡ fa
   slave_cost : first_cost x ≡ 2
   slave_cost = ap (λ b. if b then 0 else first_kind_cost x.kind) word ∙ ap first_kind_cost kind
 
-  slave_step : IsFirstStep x old new pads named (Some rails)
+  pub slave_step : IsFirstStep x old new pads named (Some rails)
   slave_step = record {
     added = (both, h.parts);
     within = record {

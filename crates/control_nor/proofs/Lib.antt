@@ -12,3 +12,4 @@ pub mod Bits
 pub mod Meaning
 pub mod Laying
 pub mod FirstSteps
+pub mod FirstCells
