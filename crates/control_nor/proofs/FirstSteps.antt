@@ -62,7 +62,7 @@ append_nil [] = refl
 append_nil (x ∷ xs) = ap (λ ys. x ∷ ys) (append_nil xs)
 
 -- an entry behind the first ones is among what was added
-in_more : {Y : Type 0} (xs more : List Y) (n : ℕ) (y : Y) → length xs ≤ n → slice_get (xs ++ more) n ≡ Some y
+pub in_more : {Y : Type 0} (xs more : List Y) (n : ℕ) (y : Y) → length xs ≤ n → slice_get (xs ++ more) n ≡ Some y
     → (i : ℕ) × (n ≡ length xs + i) × (slice_get more i ≡ Some y)
 in_more xs more n y l e =
     let at : n ≡ length xs + (n - length xs) = omega arith in

@@ -13,3 +13,5 @@ pub mod Meaning
 pub mod Laying
 pub mod FirstSteps
 pub mod FirstCells
+pub mod StoredBits
+pub mod StoredCells

@@ -10,3 +10,4 @@ pub mod Progress
 pub mod Meaning
 pub mod Done
 pub mod First
+pub mod NextValues

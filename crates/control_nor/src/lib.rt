@@ -8,6 +8,7 @@ mod gates;
 mod lower;
 mod names;
 mod rails;
+mod storing;
 mod tasks;
 
 pub use lower::lower_bits;
