@@ -41,12 +41,12 @@ use Rattle.control_nor.proofs.Running.{others, step, was}
 
 -- ---- levels
 
-index_kept : (xs : List ℕ) (x k : ℕ) → k < length xs → slice_index (xs ++ x ∷ []) k ≡ slice_index xs k
+pub index_kept : (xs : List ℕ) (x k : ℕ) → k < length xs → slice_index (xs ++ x ∷ []) k ≡ slice_index xs k
 index_kept [] x k l = absurd (omega arith)
 index_kept (y ∷ xs) x zero l = refl
 index_kept (y ∷ xs) x (suc k) l = index_kept xs x k (omega arith)
 
-index_last : (xs : List ℕ) (x : ℕ) → slice_index (xs ++ x ∷ []) (length xs) ≡ x
+pub index_last : (xs : List ℕ) (x : ℕ) → slice_index (xs ++ x ∷ []) (length xs) ≡ x
 index_last [] x = refl
 index_last (y ∷ xs) x = index_last xs x
 

@@ -15,3 +15,4 @@ pub mod FirstSteps
 pub mod FirstCells
 pub mod StoredBits
 pub mod StoredCells
+pub mod Turns

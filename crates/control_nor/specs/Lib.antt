@@ -11,3 +11,4 @@ pub mod Meaning
 pub mod Done
 pub mod First
 pub mod NextValues
+pub mod Turns

@@ -8,6 +8,7 @@ mod gates;
 mod lower;
 mod names;
 mod rails;
+mod schedule;
 mod storing;
 mod tasks;
 
