@@ -16,3 +16,4 @@ pub mod FirstCells
 pub mod StoredBits
 pub mod StoredCells
 pub mod Turns
+pub mod Scheduling

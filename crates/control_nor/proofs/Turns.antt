@@ -176,3 +176,10 @@ module _ (r : Rtl) (sound : IsSound r) (cells turns : List ℕ) (cell_turns : Ar
 
   pub turn_small : (e : ℕ) → e < length r.exprs → slice_index turns e ≤ length r.order
   turn_small e l = elim (tight e l) [ inl z ↦ omega (arith, z) | inr q ↦ (let a = q.1 in let b = q.2 in omega (arith, a, b)) ]
+
+  pub turns_small : All (λ t. t ≤ length r.order) turns
+  turns_small k d l =
+      let n = expr_turns.count in
+      let a = turn_small k (omega (arith, n, l)) in
+      let e = get_or_from_slice_get turns k (get_or turns k d) 0 (slice_get-get_or turns k d l) in
+      omega (arith, a, e)

@@ -1,6 +1,6 @@
 //! An order in which expressions and driven cells can be made.
 
-ghost use Rattle.std.specs.Prelude.{◌≡◌, ◌<◌, ◌≤◌, ◌+◌, ◌*◌, ◌^◌, ℕ, suc, List as Lists, All, Contains, IfOk, length, slice_index};
+ghost use Rattle.std.specs.Prelude.{◌≡◌, ◌<◌, ◌≤◌, ◌+◌, ◌*◌, ◌^◌, ℕ, suc, max, List as Lists, All, Contains, IfOk, length, slice_index};
 ghost use Rattle.std.specs.List.Sorted.{IsNonDecreasingBy, IsPermutation};
 ghost use Rattle.mp_base.specs.declared.op.Op as Op;
 ghost use Rattle.rtl_form.specs.Entries.{IsAt};
@@ -34,6 +34,13 @@ fn cell_turns(alloc: Global, rtl: &Rtl) -> Result<List<u32>, NoMemory>
     Ok(turns)
 }
 
+// The greater of two turns.
+fn later(a: u32, b: u32) -> u32
+    ensures { result ≡ max a b }
+{
+    if a < b { b } else { a }
+}
+
 // The greatest turn among the arguments, or 0.
 fn latest(turns: &[u32], args: &[u32]) -> u32
     requires { All (λ a. a < length turns.now) args.now }
@@ -41,7 +48,7 @@ fn latest(turns: &[u32], args: &[u32]) -> u32
 {
     let mut last = 0;
     for arg in args {
-        last = last.max(turns[*arg as usize]);
+        last = later(last, turns[*arg as usize]);
     }
     last
 }
