@@ -46,6 +46,7 @@ none_first r old = record {
     count = refl;
     below = λ c rails h. absurd (none-some (Some rails) h);
     behind = λ c rails h. absurd (none-some (Some rails) h);
+    negation_behind = λ c rails h. absurd (none-some (Some rails) h);
     apart = λ c d p q h k e. absurd (none-some (Some p) h);
     bits_only = λ c x rails at h. absurd (none-some (Some rails) h);
     first = λ c x l at w d. absurd (omega arith);
@@ -155,6 +156,10 @@ module _ (r : Rtl) (sound : IsSound r) (i : ℕ) (old new newer : List Part) (na
     behind = λ c rails h. elim (entry_cases c rails h) [
       | inl e ↦ done.names.behind c rails e
       | inr e ↦ let b = now.behind rails e.1 in omega (arith, b, started)
+    ];
+    negation_behind = λ c rails h. elim (entry_cases c rails h) [
+      | inl e ↦ done.names.negation_behind c rails e
+      | inr e ↦ let b = now.negation_behind rails e.1 in omega (arith, b, started)
     ];
     apart = λ c d p q h k e. elim (entry_cases c p h) [
       | inl a ↦ elim (entry_cases d q k) [

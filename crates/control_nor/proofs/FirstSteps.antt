@@ -39,6 +39,7 @@ pub record IsFirstStep (x : cells.Cell) (old new : List Part) (pads named : List
   pub within : IsWithinCost (first_cost x) 0 old new
   pub below : (rails : Rails) → o ≡ Some rails → AreBelow (length new) rails
   pub behind : (rails : Rails) → o ≡ Some rails → length old ≤ rails.bit.0
+  pub negation_behind : (rails : Rails) → o ≡ Some rails → length old ≤ rails.negation.0
   pub is_bit : (rails : Rails) → o ≡ Some rails → x.word ≡ false
   pub first : x.word ≡ false → is_driven x.kind ≡ false → (rails : Rails) × (o ≡ Some rails)
   pub waiting : is_driven x.kind ≡ true → o ≡ None
@@ -86,6 +87,7 @@ none_step x old new pads named o h other = record {
   };
   below = λ rails e. absurd (none-some rails (sym h.0 ∙ e));
   behind = λ rails e. absurd (none-some rails (sym h.0 ∙ e));
+  negation_behind = λ rails e. absurd (none-some rails (sym h.0 ∙ e));
   is_bit = λ rails e. absurd (none-some rails (sym h.0 ∙ e));
   first = λ w d. absurd (other w d);
   waiting = λ d. h.0;
@@ -157,6 +159,8 @@ module _ (x : cells.Cell) (k : ℕ) (kind : x.kind ≡ kinds.Input k) (word : x.
     below = λ q e. subst (AreBelow (length new)) (same_Some rails q e) (let c = counted.net_count in let b = h.at_bit in
         let n = h.at_negation in record { bit_below = omega (arith, c, b); negation_below = omega (arith, c, n) });
     behind = λ q e. subst (λ (q : Rails). length old ≤ q.bit.0) (same_Some rails q e) (let b = h.at_bit in omega (arith, b));
+    negation_behind = λ q e. subst (λ (q : Rails). length old ≤ q.negation.0) (same_Some rails q e)
+        (let n = h.at_negation in omega (arith, n));
     is_bit = λ q e. word;
     first = λ w d. (rails, refl);
     waiting = λ d. absurd (cc (ap is_driven kind, d));
@@ -237,6 +241,8 @@ module _ (x : cells.Cell) (kind : x.kind ≡ kinds.Stored) (word : x.word ≡ fa
     below = λ q e. subst (AreBelow (length new)) (same_Some rails q e) (let c = slave_counted.net_count in let b = h.at_bit in
         let n = h.at_negation in record { bit_below = omega (arith, c, b); negation_below = omega (arith, c, n) });
     behind = λ q e. subst (λ (q : Rails). length old ≤ q.bit.0) (same_Some rails q e) (let b = h.at_bit in omega (arith, b));
+    negation_behind = λ q e. subst (λ (q : Rails). length old ≤ q.negation.0) (same_Some rails q e)
+        (let n = h.at_negation in omega (arith, n));
     is_bit = λ q e. word;
     first = λ w d. (rails, refl);
     waiting = λ d. absurd (cc (ap is_driven kind, d));

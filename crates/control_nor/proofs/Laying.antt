@@ -62,15 +62,19 @@ get_front [] ys n l = absurd (omega arith)
 get_front (x ∷ xs) ys zero l = refl
 get_front (x ∷ xs) ys (suc n) l = get_front xs ys n (omega arith)
 
--- a driven bit is a gate
+-- a driven bit is a gate on a gate
 driven_at : (entries : List (Option Rails)) (ts : List Transfer) (old new : List Part) (rails : Rails)
     → IsDrivenMade entries ts old new rails
     → (length old ≤ rails.bit.0) × (slice_get new rails.bit.0 ≡ Some (Gate (rails.negation ∷ [])))
+    × ((inputs : List NetId) × (slice_get new rails.negation.0 ≡ Some (Gate inputs)))
 driven_at entries ts old new rails h =
     let l = gates_longer old h.middle h.are_terms.adds in
     let n = h.pair.at_negation in
+    let m = h.pair.at_bit in
     (omega (arith, l, n), ap (λ ps. slice_get ps rails.bit.0) h.pair.parts
-    ∙ get_at h.middle (Gate h.terms ∷ Gate (rails.negation ∷ []) ∷ []) rails.bit.0 1 (Gate (rails.negation ∷ [])) (omega (arith, n)) refl)
+    ∙ get_at h.middle (Gate h.terms ∷ Gate (rails.negation ∷ []) ∷ []) rails.bit.0 1 (Gate (rails.negation ∷ [])) (omega (arith, n)) refl,
+    (h.terms, ap (λ ps. slice_get ps rails.negation.0) h.pair.parts
+    ∙ get_at h.middle (Gate h.terms ∷ Gate (rails.negation ∷ []) ∷ []) rails.negation.0 0 (Gate h.terms) (omega (arith, m)) refl))
 
 pub nothing_laid : (r : Rtl) (tasks : List Task) (old : List Part) (before : Bits) → IsLaid r tasks 0 old old before []
 nothing_laid r tasks old before = record {
@@ -144,19 +148,20 @@ module _ (r : Rtl) (sound : IsSound r) (tasks : List Task) (schedule : IsSchedul
 
     driven_here : (k : Task) → task ≡ k → (c : ℕ) → k ≡ Cell c → (rails : Rails) → IsTaskMade r after k new newer made.entry
         → made.entry ≡ Some rails
-        → (length new ≤ rails.bit.0) × ((inputs : List NetId) × (slice_get newer rails.bit.0 ≡ Some (Gate inputs)))
+        → (length new ≤ rails.bit.0) × (slice_get newer rails.bit.0 ≡ Some (Gate (rails.negation ∷ [])))
+            × ((inputs : List NetId) × (slice_get newer rails.negation.0 ≡ Some (Gate inputs)))
     driven_here (Expr e) same c kind rails h some = absurd (cc kind)
     driven_here (Cell d) same c kind rails h some = by_word h.0.word h.2
       where
         by_word : (b : Bool) → MatchBool b ((made.entry ≡ None) × (newer ≡ new))
             ((rails : Rails) × (made.entry ≡ Some rails) × IsDrivenMade after.exprs (transfers_to r.transfers d) new newer rails)
-            → (length new ≤ rails.bit.0) × ((inputs : List NetId) × (slice_get newer rails.bit.0 ≡ Some (Gate inputs)))
+            → (length new ≤ rails.bit.0) × (slice_get newer rails.bit.0 ≡ Some (Gate (rails.negation ∷ [])))
+            × ((inputs : List NetId) × (slice_get newer rails.negation.0 ≡ Some (Gate inputs)))
         by_word true q = absurd (none-some rails (sym q.0 ∙ some))
         by_word false q =
             let same = same_Some q.0 rails (sym q.1 ∙ some) in
-            let g = driven_at after.exprs (transfers_to r.transfers d) new newer rails
-            (subst (IsDrivenMade after.exprs (transfers_to r.transfers d) new newer) same q.2) in
-            (g.0, (rails.negation ∷ [], g.1))
+            driven_at after.exprs (transfers_to r.transfers d) new newer rails
+            (subst (IsDrivenMade after.exprs (transfers_to r.transfers d) new newer) same q.2)
 
     entered : (k : Task) (rails : Rails) (n : ℕ) → IsEntryTask r k → NamedTask next k rails → rails.bit.0 ≡ n
         → (e : ℕ) × (x : RtlExpr) × (rails : Rails) × IsAt r.exprs e x × IsEntry x × Named next.exprs e rails × (rails.bit.0 ≡ n)
@@ -184,10 +189,11 @@ module _ (r : Rtl) (sound : IsSound r) (tasks : List Task) (schedule : IsSchedul
         | inl e ↦ let same = this_task s (Cell c) at e in
             let g = driven_here task refl c same rails made.is_made (named_here (Cell c) rails same h) in
             let a : level (length old) more s ≡ length new = ap (level (length old) more) e ∙ top_level in
-            let b = g.0 in (omega (arith, a, b), g.1)
+            let b = g.0 in (omega (arith, a, b), g.1, g.2)
         | inr m ↦ let g = laid.driven s c rails m at (named_there s (Cell c) rails at m h) in
             let a = same_level s (omega arith) in let b = g.0 in
-            (omega (arith, a, b), (g.1.0, keeps_parts rails.bit.0 (Gate g.1.0) g.1.1))
+            (omega (arith, a, b), keeps_parts rails.bit.0 (Gate (rails.negation ∷ [])) g.1,
+            (g.2.0, keeps_parts rails.negation.0 (Gate g.2.0) g.2.1))
       ];
       entries = λ s e x rails l at is_at y h. elim (at_or_below s l) [
         | inl q ↦ let same = this_task s (Expr e) at q in

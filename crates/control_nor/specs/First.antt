@@ -30,6 +30,7 @@ pub record AreFirstNamed (r : Rtl) (i : ℕ) (old new : List Part) (named : List
   pub count : length named ≡ i
   pub below : AllBelow (length new) named
   pub behind : (c : ℕ) (rails : Rails) → Named named c rails → length old ≤ rails.bit.0
+  pub negation_behind : (c : ℕ) (rails : Rails) → Named named c rails → length old ≤ rails.negation.0
   pub apart : (c d : ℕ) (p q : Rails) → Named named c p → Named named d q → p.bit.0 ≡ q.bit.0 → c ≡ d
   pub bits_only : (c : ℕ) (x : cells.Cell) (rails : Rails) → IsAt r.cells c x → Named named c rails → x.word ≡ false
   pub first : (c : ℕ) (x : cells.Cell) → c < i → IsAt r.cells c x → x.word ≡ false → is_driven x.kind ≡ false

@@ -121,3 +121,22 @@ pub record AreStored (r : Rtl) (bits : Bits) (i : ℕ) (reset : NetId) (old new 
       → (slice_get old n ≡ Some (Latch p None))
       × ((c : ℕ) (x : cells.Cell) (rails : Rails) → c < i → IsAt r.cells c x → is_stored_bit x ≡ true
       → Named bits.cells c rails → rails.negation.0 ≡ n → ⊥)
+
+-- all stored bits have their next values, under the cell that resets them
+pub record AreNextValues (r : Rtl) (bits : Bits) (old new : List Part) : Type 0 where
+  pub longer : length old ≤ length new
+  pub keeps : (n : ℕ) (p : Part) → slice_get old n ≡ Some p → Fed p → slice_get new n ≡ Some p
+  pub behind : (before : List Part) → SlavesBehind r bits (length before) → (more : List Part) × (old ≡ before ++ more)
+      → (more : List Part) × (new ≡ before ++ more)
+  pub within : (cost : ℕ) × IsWithinCost cost 0 old new × (cost ≤ next_left r 0)
+  pub stored : (c reset : ℕ) (x : cells.Cell) (rails at : Rails) → IsAt r.cells c x → is_stored_bit x ≡ true
+      → Named bits.cells c rails → r.reset ≡ Some reset → Named bits.cells reset at
+      → IsStoring bits.exprs (transfers_to r.transfers c) (length old) new rails at.bit
+  pub inputs : (n : ℕ) → slice_get new n ≡ Some Input → slice_get old n ≡ Some Input
+  pub latches : (n : ℕ) (p : Phase) (source : NetId) → slice_get new n ≡ Some (Latch p (Some source))
+      → (slice_get old n ≡ Some (Latch p (Some source)))
+      ⊎ ((inputs : List NetId) × (slice_get new source.0 ≡ Some (Gate inputs)))
+  pub unfed : (n : ℕ) (p : Phase) → slice_get new n ≡ Some (Latch p None)
+      → (slice_get old n ≡ Some (Latch p None))
+      × ((c : ℕ) (x : cells.Cell) (rails : Rails) → IsAt r.cells c x → is_stored_bit x ≡ true
+      → Named bits.cells c rails → rails.negation.0 ≡ n → ⊥)

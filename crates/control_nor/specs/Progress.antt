@@ -108,8 +108,8 @@ pub record IsLaid (r : Rtl) (tasks : List Task) (t : ℕ) (old new : List Part) 
   pub below : (s : ℕ) (task : Task) (rails : Rails) → s < t → slice_get tasks s ≡ Some task → NamedTask after task rails
       → rails.bit.0 < level (length old) ends (suc s)
   pub driven : (s c : ℕ) (rails : Rails) → s < t → slice_get tasks s ≡ Some (Cell c) → Named after.cells c rails
-      → (level (length old) ends s ≤ rails.bit.0)
-      × ((inputs : List NetId) × (slice_get new rails.bit.0 ≡ Some (Gate inputs)))
+      → (level (length old) ends s ≤ rails.bit.0) × (slice_get new rails.bit.0 ≡ Some (Gate (rails.negation ∷ [])))
+      × ((inputs : List NetId) × (slice_get new rails.negation.0 ≡ Some (Gate inputs)))
   pub entries : (s e : ℕ) (x : RtlExpr) (rails : Rails) → s < t → slice_get tasks s ≡ Some (Expr e) → IsAt r.exprs e x
       → IsEntry x → Named after.exprs e rails
       → (level (length old) ends s ≤ rails.bit.0) × (slice_get new rails.bit.0 ≡ Some Input)

@@ -50,3 +50,8 @@ AllBelow n entries = (k : ℕ) (rails : Rails) → Named entries k rails → Are
 -- what is named stays named
 abbrev pub KeepsNames : List (Option Rails) → List (Option Rails) → Type 0
 KeepsNames old new = (k : ℕ) (rails : Rails) → Named old k rails → Named new k rails
+
+-- the net of a bit
+abbrev pub net_of : Option Rails → Option NetId
+net_of None = None
+net_of (Some rails) = Some rails.bit
