@@ -17,3 +17,7 @@ pub mod StoredBits
 pub mod StoredCells
 pub mod Turns
 pub mod Scheduling
+pub mod Costs
+pub mod Begins
+pub mod Named
+pub mod Written
