@@ -36,7 +36,7 @@ use Rattle.control_nor.specs.Tasks.{entry_of}
 use Rattle.control_nor.proofs.Adding.{logic_keep}
 use Rattle.control_nor.proofs.Progress.{at_get}
 
-none_named : (n k : ℕ) (rails : Rails) → Named (replicate n None) k rails → ⊥
+pub none_named : (n k : ℕ) (rails : Rails) → Named (replicate n None) k rails → ⊥
 none_named zero k rails e = none-some (Some rails) e
 none_named (suc n) zero rails e = none-some rails (same_Some None (Some rails) e)
 none_named (suc n) (suc k) rails e = none_named n k rails e

@@ -21,3 +21,4 @@ pub mod Costs
 pub mod Begins
 pub mod Named
 pub mod Written
+pub mod Lowered
