@@ -22,3 +22,4 @@ pub mod Begins
 pub mod Named
 pub mod Written
 pub mod Lowered
+pub mod Rounds

@@ -3,7 +3,6 @@ use Rattle.std.proofs.Common.{◌≡◌, ℕ, zero, suc, ◌+◌, ◌-◌, ◌*�
 use Rattle.std.specs.Prelude.{All, Contains, ◌↔◌, not, ◌&&◌, ◌||◌, ◌==◌, if◌then◌else◌, slice_get, slice_index, unwrap_or}
 use Rattle.std.specs.List.{list_any, sum_by}
 use Rattle.std.proofs.lemmas.Bool.{cases_lt, eqb-true}
-use Rattle.std.proofs.lemmas.List.{length-map}
 use Rattle.std.proofs.lemmas.Option.{none-some, same_Some, slice_get_within, slice_get-get_or}
 use Rattle.mp_base.specs.declared.pad.Pad.{Pad}
 use Rattle.mp_base.specs.Merge.{merged}
@@ -65,6 +64,10 @@ use Rattle.rtl_form.specs.Environment.{driven_value}
 use Rattle.rtl_form.specs.Values.{value_of}
 use Rattle.rtl_form.specs.Written.{written}
 use Rattle.std.proofs.lemmas.List.Elements.{All-filter, Contains-get_or, filter_passes}
+
+length_map : (xs : List (Option Rails)) → length (map net_of xs) ≡ length xs
+length_map [] = refl
+length_map (x ∷ xs) = ap suc (length_map xs)
 
 left_none : {X : Type 0} (f : X → ℕ) (os : List (Option Rails)) (xs : List X)
     → ((k : ℕ) (x : X) → slice_get os k ≡ Some None → slice_get xs k ≡ Some x → f x ≡ 0) → left_by f os xs ≡ 0
@@ -556,7 +559,7 @@ module _ (r : Rtl) (sound : IsSound r) (old mid mid2 after : List Part) (named :
 
   not_zero : (n : ℕ) → not (n == 0) ≡ false → n ≡ 0
   not_zero zero e = refl
-  not_zero (suc n) e = absurd (cc e)
+  not_zero (suc n) e = absurd (cc (e, Rattle.std.proofs.lemmas.Bool.ne_eqb (suc n) 0 (λ q. absurd (omega arith))))
 
   pub lowered : IsLowered r old after names
   lowered = record {
@@ -564,8 +567,8 @@ module _ (r : Rtl) (sound : IsSound r) (old mid mid2 after : List Part) (named :
     size = size;
     few = let a = size.nets in let b = bit_cost_most r in omega (arith, a, b);
     few_inputs = let a = size.inputs in let b = bit_cost_most r in omega (arith, a, b);
-    cell_count = length-map net_of bits.cells ∙ done.progress.cell_count;
-    expr_count = length-map net_of bits.exprs ∙ done.progress.expr_count;
+    cell_count = length_map bits.cells ∙ done.progress.cell_count;
+    expr_count = length_map bits.exprs ∙ done.progress.expr_count;
     pad_count = first.nets.pad_count;
     cell_names = λ c x at.
         (λ word. let n = cell_has c x at word in (n.0.bit, named_stands bits.cells c n.0 n.1),
