@@ -1,6 +1,16 @@
-//! Bits of guarded transfers as NOR gates and latches: what it means that nets stand for bits, and what these nets give.
+//! Bits of guarded transfers as NOR gates and latches.
 #![tactic(auto)]
 
+mod cells;
+mod exprs;
+mod first;
+mod gates;
+mod lower;
 mod names;
+mod rails;
+mod schedule;
+mod storing;
+mod tasks;
 
+pub use lower::lower_bits;
 pub use names::{Names, Task};

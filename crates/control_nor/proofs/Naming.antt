@@ -1,0 +1,28 @@
+-- Names of bits.
+use Rattle.std.proofs.Common.{◌≡◌, ℕ, ◌<◌, ◌≤◌, List, Option, Some, length, sym, ◌∙◌, ap, subst, arith}
+use Rattle.std.specs.Prelude.{All}
+use Rattle.std.specs.List.{AllZip}
+use Rattle.nor_net.specs.declared.net.NetId.{NetId}
+use Rattle.control_nor.specs.declared.rails.Rails.{Rails}
+use Rattle.control_nor.specs.Rails.{AllBelow, AreBelow, BitOf, Named, NegationOf}
+use Rattle.control_nor.proofs.Zipping.{zip_right}
+
+module _ (n : ℕ) (entries : List (Option Rails)) (below : AllBelow n entries) where
+  bit_below : (k : ℕ) (id : NetId) → BitOf entries k id → id.0 < n
+  bit_below k id h = subst (λ (i : NetId). i.0 < n) (sym h.2) (below k h.0 h.1).bit_below
+
+  negation_below : (k : ℕ) (id : NetId) → NegationOf entries k id → id.0 < n
+  negation_below k id h = subst (λ (i : NetId). i.0 < n) (sym h.2) (below k h.0 h.1).negation_below
+
+  pub bits_below : (ks : List ℕ) (ids : List NetId) → AllZip (BitOf entries) ks ids → All (λ (j : NetId). j.0 < n) ids
+  bits_below ks ids h = zip_right (BitOf entries) (λ (j : NetId). j.0 < n) ks ids bit_below h
+
+  pub negations_below : (ks : List ℕ) (ids : List NetId) → AllZip (NegationOf entries) ks ids
+      → All (λ (j : NetId). j.0 < n) ids
+  negations_below ks ids h = zip_right (NegationOf entries) (λ (j : NetId). j.0 < n) ks ids negation_below h
+
+pub below_more : (m n : ℕ) (entries : List (Option Rails)) → m ≤ n → AllBelow m entries → AllBelow n entries
+below_more m n entries l h k rails is = record {
+  bit_below = let b = (h k rails is).bit_below in omega (arith, b);
+  negation_below = let b = (h k rails is).negation_below in omega (arith, b);
+}
