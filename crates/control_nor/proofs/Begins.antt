@@ -1,5 +1,5 @@
 -- What stands before the tasks, and before the next values.
-use Rattle.std.proofs.Common.{◌≡◌, ℕ, zero, suc, ◌+◌, ◌-◌, ◌*◌, ◌<◌, ◌≤◌, ◌⊎◌, inl, inr, List, [], ◌∷◌, ◌++◌, Option, Some, None, Bool, true, false, length, replicate, get_or, eqb, refl, sym, ◌∙◌, ap, subst, arith}
+use Rattle.std.proofs.Common.{◌≡◌, ℕ, zero, suc, ◌<◌, inl, List, [], ◌∷◌, Option, Some, None, Bool, true, false, length, replicate, get_or, eqb, refl, sym, ◌∙◌, ap, subst, arith}
 use Rattle.std.specs.Prelude.{All, Contains, IfSome, IsSome, not, ◌&&◌, ◌==◌, slice_get, slice_index}
 use Rattle.std.specs.List.{list_any}
 use Rattle.std.proofs.lemmas.Bool.{eqb-true}
@@ -10,7 +10,7 @@ use Rattle.mp_base.specs.declared.pad.Pad.{Pad}
 use Rattle.nor_net.specs.declared.net.NetId.{NetId}
 use Rattle.nor_net.specs.declared.net.Phase.TheVariants as phases
 use Rattle.nor_net.specs.declared.net.Part.{Part}
-use Rattle.nor_net.specs.declared.net.Part.TheVariants.{Input, Gate, Latch}
+use Rattle.nor_net.specs.declared.net.Part.TheVariants.{Latch}
 use Rattle.rtl_form.specs.declared.rtl.Cell as cells
 use Rattle.rtl_form.specs.declared.rtl.CellKind.{CellKind}
 use Rattle.rtl_form.specs.declared.rtl.CellKind.TheVariants as kinds
@@ -19,7 +19,6 @@ use Rattle.rtl_form.specs.declared.rtl.Rtl.{Rtl}
 use Rattle.rtl_form.specs.Entries.{IsAt}
 use Rattle.rtl_form.specs.Environment.{is_driven, is_stored}
 use Rattle.rtl_form.specs.Sound.{CellFits, HasSort, IsReset, IsSound}
-use Rattle.rtl_form.specs.Trace.{stores}
 use Rattle.rtl_form.proofs.Members.{by_test, one_entry, some_entry}
 use Rattle.control_nor.specs.declared.names.Task.{Task}
 use Rattle.control_nor.specs.declared.names.Task.TheVariants.{Expr, Cell}
@@ -163,9 +162,11 @@ module _ (r : Rtl) (sound : IsSound r) (old mid : List Part) (named : List (Opti
             each : (t : Transfer) → Contains r.transfers t → t.target ≡ c → IsTransferNamed bits.exprs t
             each t inside to =
                 let f = sound.transfers t inside in
-                let here = one_entry r.cells c f.1.0 x (subst (λ n. IsAt r.cells n f.1.0) to f.1.1) at in
-                (expr_named t.guard f.0, expr_named t.value
-                (subst (HasSort r t.value) (ap (λ (x : cells.Cell). x.word) here ∙ (stored_kind x on).0) f.1.2))
+                let here = one_entry r.cells c f.1.0 x (subst (λ n. IsAt r.cells n f.1.0) to f.1.1) at in (
+                  expr_named t.guard f.0,
+                  expr_named t.value
+                      (subst (HasSort r t.value) (ap (λ (x : cells.Cell). x.word) here ∙ (stored_kind x on).0) f.1.2),
+                )
 
     -- the cell that resets has nets
     pub reset_named : (c : ℕ) → r.reset ≡ Some c → IsNamed bits.cells c
@@ -204,6 +205,9 @@ none_next r sound bits old e = record {
   stored = λ c reset x q at on_at on k f n. absurd (none-some reset (sym e ∙ f));
   inputs = λ n q. q;
   latches = λ n p source q. inl q;
-  unfed = λ n p q. (q, λ c x rails at on k z. let h = has_reset r sound c x at (stored_kind x on).1 in
-      none-some h.0 (sym e ∙ h.1));
+  unfed = λ n p q. (
+    q,
+    λ c x rails at on k z. let h = has_reset r sound c x at (stored_kind x on).1 in
+        none-some h.0 (sym e ∙ h.1),
+  );
 }

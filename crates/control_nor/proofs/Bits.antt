@@ -1,14 +1,11 @@
 -- Bits of operators as bits of gates.
-use Rattle.std.proofs.Common.{◌≡◌, ℕ, zero, suc, ◌+◌, ◌-◌, ◌<◌, ◌≤◌, ◌⊎◌, inl, inr, List, [], ◌∷◌, ◌++◌, Bool, true, false, length, map, refl, sym, ◌∙◌, ap, subst, arith, cond}
-use Rattle.std.specs.Prelude.{All, not, ◌&&◌, ◌||◌, ◌==◌, nat_lt, slice_index, if◌then◌else◌}
+use Rattle.std.proofs.Common.{◌≡◌, ℕ, zero, suc, ◌+◌, ◌-◌, ◌<◌, List, [], ◌∷◌, Bool, true, false, map, refl, ◌∙◌, ap, arith, cond}
+use Rattle.std.specs.Prelude.{All, not, ◌&&◌, ◌||◌, ◌==◌, nat_lt}
 use Rattle.std.specs.List.{list_all, list_any}
-use Rattle.mp_base.specs.declared.op.Op.{Op}
-use Rattle.mp_base.specs.declared.op.Op.TheVariants as ops
-use Rattle.mp_base.specs.Apply.{apply, truth}
+use Rattle.mp_base.specs.Apply.{truth}
 use Rattle.nor_net.specs.Laws.{bit}
 use Rattle.nor_net.specs.Settled.{nor_value}
 use Rattle.nor_net.proofs.Values.{nor_bits}
-use Rattle.rtl_form.specs.Operands.{gives_word}
 
 pub truth_small : (b : Bool) → truth b < 2
 truth_small true = omega arith

@@ -1,12 +1,9 @@
 -- The costs of the three rounds are parts of the cost of transfers.
 use Rattle.std.proofs.Common.{◌≡◌, ℕ, zero, suc, ◌+◌, ◌-◌, ◌*◌, ◌<◌, ◌≤◌, ◌^◌, ◌⊎◌, inl, inr, List, [], ◌∷◌, ◌++◌, Option, Some, None, Bool, true, false, length, replicate, refl, sym, ◌∙◌, ap, subst, arith}
-use Rattle.std.specs.Prelude.{not, ◌&&◌, nat_le, if◌then◌else◌, slice_get}
+use Rattle.std.specs.Prelude.{not, ◌&&◌, if◌then◌else◌, slice_get}
 use Rattle.std.specs.List.{sum_by}
 use Rattle.std.specs.Option.{option_map_or}
 use Rattle.std.proofs.lemmas.List.Sums.{sum_by-cons}
-use Rattle.mp_base.specs.declared.op.Op.{Op}
-use Rattle.nor_net.specs.declared.net.Part.{Part}
-use Rattle.nor_net.specs.Shape.{gate_inputs, net_limit}
 use Rattle.rtl_form.specs.declared.rtl.Cell as cells
 use Rattle.rtl_form.specs.declared.rtl.CellKind.{CellKind}
 use Rattle.rtl_form.specs.declared.rtl.CellKind.TheVariants as kinds
@@ -20,9 +17,9 @@ use Rattle.rtl_form.specs.Operands.{gives_word}
 use Rattle.control_nor.specs.declared.rails.Rails.{Rails}
 use Rattle.control_nor.specs.declared.rails.Bits.{Bits}
 use Rattle.control_nor.specs.Cells.{first_cost, first_kind_cost}
-use Rattle.control_nor.specs.NextValues.{is_stored_bit, next_cost, next_left, stored_count, stored_from}
-use Rattle.control_nor.specs.Progress.{cost_left, driven_cost, driven_count, left_by, wait_of, waits}
-use Rattle.control_nor.specs.Size.{bit_cell_cost, bit_cost, bit_expr_cost, bit_transfer_cost, is_bit_of}
+use Rattle.control_nor.specs.NextValues.{next_cost, next_left, stored_count, stored_from}
+use Rattle.control_nor.specs.Progress.{cost_left, driven_cost, left_by, wait_of, waits}
+use Rattle.control_nor.specs.Size.{bit_cell_cost, bit_cost, bit_expr_cost, bit_transfer_cost}
 
 sum_three : {X : Type 0} (f g h k : X → ℕ) → ((x : X) → f x + g x + h x ≤ k x) → (xs : List X)
     → sum_by f xs + sum_by g xs + sum_by h xs ≤ sum_by k xs

@@ -1,15 +1,12 @@
 -- The first nets of all cells.
-use Rattle.std.proofs.Common.{◌≡◌, ℕ, zero, suc, ◌+◌, ◌-◌, ◌*◌, ◌<◌, ◌≤◌, ◌⊎◌, inl, inr, List, [], ◌∷◌, ◌++◌, Option, Some, None, Bool, true, false, length, take, get_or, replicate, refl, sym, ◌∙◌, ap, subst, arith, length-append, append_assoc}
-use Rattle.std.specs.Prelude.{All, MatchBool, if◌then◌else◌, slice_get, slice_set}
+use Rattle.std.proofs.Common.{◌≡◌, ℕ, zero, suc, ◌+◌, ◌<◌, ◌≤◌, ◌⊎◌, inl, inr, List, [], ◌∷◌, ◌++◌, Option, Some, None, Bool, true, false, length, take, get_or, replicate, refl, sym, ◌∙◌, ap, subst, arith, length-append, append_assoc}
+use Rattle.std.specs.Prelude.{MatchBool, slice_get}
 use Rattle.std.specs.List.{sum_by}
 use Rattle.std.proofs.lemmas.Bool.{cases_lt}
 use Rattle.std.proofs.lemmas.List.{length-set, take_more}
 use Rattle.std.proofs.lemmas.List.Sums.{sum_by-append, sum_by-cons}
 use Rattle.std.proofs.lemmas.Option.{none-some, same_Some, slice_get_within}
-use Rattle.mp_base.specs.declared.value.Trit.{Trit}
-use Rattle.nor_net.specs.Elements.{Spot, spot}
 use Rattle.nor_net.specs.declared.net.NetId.{NetId}
-use Rattle.nor_net.specs.declared.net.Phase.{Phase}
 use Rattle.nor_net.specs.declared.net.Phase.TheVariants.{B, C}
 use Rattle.nor_net.specs.declared.net.Part.{Part}
 use Rattle.nor_net.specs.declared.net.Part.TheVariants.{Input, Gate, Latch}
@@ -23,12 +20,11 @@ use Rattle.rtl_form.specs.Environment.{is_driven}
 use Rattle.rtl_form.specs.Sound.{CellFits, IsSound}
 use Rattle.rtl_form.proofs.Members.{one_entry}
 use Rattle.control_nor.specs.declared.rails.Rails.{Rails}
-use Rattle.control_nor.specs.Adding.{HasRoom, IsPort, IsSlave}
+use Rattle.control_nor.specs.Adding.{HasRoom}
 use Rattle.control_nor.specs.Cells.{IsFirstBitMade, IsFirstMade, first_cost}
-use Rattle.control_nor.specs.First.{AreFirstDone, AreFirstNamed, AreFirstNets, IsWaiting}
-use Rattle.control_nor.specs.Lowering.{InputBit, ObeysBehind, Stands}
-use Rattle.control_nor.specs.Rails.{Agree, AreBelow, Named}
-use Rattle.control_nor.specs.Size.{IsWithinCost, active_count}
+use Rattle.control_nor.specs.First.{AreFirstDone, AreFirstNamed, AreFirstNets}
+use Rattle.control_nor.specs.Lowering.{InputBit, Stands}
+use Rattle.control_nor.specs.Rails.{Named}
 use Rattle.control_nor.proofs.Adding.{get_behind, get_kept}
 use Rattle.control_nor.proofs.FirstSteps.{IsFirstStep, append_nil, get_front, none_step, port_step, slave_step}
 use Rattle.control_nor.proofs.Left.{nat_cases}
@@ -163,13 +159,13 @@ module _ (r : Rtl) (sound : IsSound r) (i : ℕ) (old new newer : List Part) (na
     ];
     apart = λ c d p q h k e. elim (entry_cases c p h) [
       | inl a ↦ elim (entry_cases d q k) [
-          | inl b ↦ done.names.apart c d p q a b e
-          | inr b ↦ let m = (done.names.below c p a).bit_below in let n = now.behind q b.1 in absurd (omega (arith, m, n, e))
-        ]
+        | inl b ↦ done.names.apart c d p q a b e
+        | inr b ↦ let m = (done.names.below c p a).bit_below in let n = now.behind q b.1 in absurd (omega (arith, m, n, e))
+      ]
       | inr a ↦ elim (entry_cases d q k) [
-          | inl b ↦ let m = (done.names.below d q b).bit_below in let n = now.behind p a.1 in absurd (omega (arith, m, n, e))
-          | inr b ↦ omega (arith, a.0, b.0)
-        ]
+        | inl b ↦ let m = (done.names.below d q b).bit_below in let n = now.behind p a.1 in absurd (omega (arith, m, n, e))
+        | inr b ↦ omega (arith, a.0, b.0)
+      ]
     ];
     bits_only = λ c y rails h k. elim (entry_cases c rails k) [
       | inl e ↦ done.names.bits_only c y rails h e
@@ -214,13 +210,13 @@ module _ (r : Rtl) (sound : IsSound r) (i : ℕ) (old new newer : List Part) (na
     ];
     pads_apart = λ j k id h q. elim (pad_cases j id h) [
       | inl a ↦ elim (pad_cases k id q) [
-          | inl b ↦ done.nets.pads_apart j k id a b
-          | inr b ↦ let m = old_pad j id a in let n = b.2 in absurd (omega (arith, m, n))
-        ]
+        | inl b ↦ done.nets.pads_apart j k id a b
+        | inr b ↦ let m = old_pad j id a in let n = b.2 in absurd (omega (arith, m, n))
+      ]
       | inr a ↦ elim (pad_cases k id q) [
-          | inl b ↦ let m = old_pad k id b in let n = a.2 in absurd (omega (arith, m, n))
-          | inr b ↦ cc (a.0, b.0)
-        ]
+        | inl b ↦ let m = old_pad k id b in let n = a.2 in absurd (omega (arith, m, n))
+        | inr b ↦ cc (a.0, b.0)
+      ]
     ];
     pads_named = λ c k y l h kind w. elim (at_or_below c l) [
       | inl e ↦ let same = last_is c y h e in
@@ -236,10 +232,10 @@ module _ (r : Rtl) (sound : IsSound r) (i : ℕ) (old new newer : List Part) (na
     ];
     slaves = λ c y rails h kind n. elim (entry_cases c rails n) [
       | inl e ↦ let w = done.nets.slaves c y rails h kind e in record {
-          is_slave = keeps rails.negation.0 (Latch B None) w.is_slave;
-          is_bit = keeps rails.bit.0 (Gate (rails.negation ∷ [])) w.is_bit;
-          behind = w.behind;
-        }
+        is_slave = keeps rails.negation.0 (Latch B None) w.is_slave;
+        is_bit = keeps rails.bit.0 (Gate (rails.negation ∷ [])) w.is_bit;
+        behind = w.behind;
+      }
       | inr e ↦ now.slaves rails (ap (λ (z : cells.Cell). z.kind) (last_is c y h e.0) ∙ kind) e.1
     ];
     inputs = λ n l e. elim (cases_lt n (length new)) [
@@ -268,8 +264,10 @@ module _ (r : Rtl) (sound : IsSound r) (i : ℕ) (old new newer : List Part) (na
 
   pub first_more : AreFirstDone r (i + 1) old newer next pads_new
   first_more = record {
-    added = (done.added.0 ++ now.added.0,
-        now.added.1 ∙ (ap (λ ps. ps ++ now.added.0) done.added.1 ∙ append_assoc old done.added.0 now.added.0));
+    added = (
+      done.added.0 ++ now.added.0,
+      now.added.1 ∙ (ap (λ ps. ps ++ now.added.0) done.added.1 ∙ append_assoc old done.added.0 now.added.0),
+    );
     within = let a = done.within.nets in let b = now.within.nets in
         let d = done.within.inputs in let e = now.within.inputs in
         let f = done.within.active in let g = now.within.active in

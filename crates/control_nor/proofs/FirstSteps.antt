@@ -1,13 +1,11 @@
 -- The first nets of cells, cell by cell.
-use Rattle.std.proofs.Common.{◌≡◌, ℕ, zero, suc, ◌+◌, ◌-◌, ◌*◌, ◌<◌, ◌≤◌, ◌⊎◌, inl, inr, List, [], ◌∷◌, ◌++◌, Option, Some, None, Bool, true, false, length, take, get_or, refl, sym, ◌∙◌, ap, subst, arith, length-append, append_assoc}
-use Rattle.std.specs.Prelude.{All, MatchBool, if◌then◌else◌, slice_get, slice_set}
+use Rattle.std.proofs.Common.{◌≡◌, ℕ, zero, suc, ◌+◌, ◌-◌, ◌<◌, ◌≤◌, ◌⊎◌, inl, inr, List, [], ◌∷◌, ◌++◌, Option, Some, None, true, false, length, refl, sym, ◌∙◌, ap, subst, arith}
+use Rattle.std.specs.Prelude.{if◌then◌else◌, slice_get, slice_set}
 use Rattle.std.specs.List.{sum_by}
-use Rattle.std.proofs.lemmas.Bool.{cases_lt}
-use Rattle.std.proofs.lemmas.List.{length-set, take_more}
-use Rattle.std.proofs.lemmas.List.Sums.{sum_by-append, sum_by-cons}
+use Rattle.std.proofs.lemmas.List.{length-set}
 use Rattle.std.proofs.lemmas.Option.{none-some, same_Some, slice_get_within}
 use Rattle.mp_base.specs.declared.value.Trit.{Trit}
-use Rattle.nor_net.specs.Elements.{Spot, spot}
+use Rattle.nor_net.specs.Elements.{Spot}
 use Rattle.nor_net.specs.declared.net.NetId.{NetId}
 use Rattle.nor_net.specs.declared.net.Phase.{Phase}
 use Rattle.nor_net.specs.declared.net.Phase.TheVariants.{B, C}
@@ -15,23 +13,18 @@ use Rattle.nor_net.specs.declared.net.Part.{Part}
 use Rattle.nor_net.specs.declared.net.Part.TheVariants.{Input, Gate, Latch}
 use Rattle.nor_net.specs.Shape.{gate_inputs}
 use Rattle.rtl_form.specs.declared.rtl.Cell as cells
-use Rattle.rtl_form.specs.declared.rtl.CellKind.{CellKind}
 use Rattle.rtl_form.specs.declared.rtl.CellKind.TheVariants as kinds
-use Rattle.rtl_form.specs.declared.rtl.Rtl.{Rtl}
-use Rattle.rtl_form.specs.Entries.{IsAt}
 use Rattle.rtl_form.specs.Environment.{is_driven}
-use Rattle.rtl_form.specs.Sound.{IsSound}
-use Rattle.rtl_form.proofs.Members.{one_entry}
 use Rattle.control_nor.specs.declared.rails.Rails.{Rails}
 use Rattle.control_nor.specs.Adding.{IsCounted, IsPort, IsSlave}
-use Rattle.control_nor.specs.Cells.{IsFirstBitMade, IsFirstMade, first_cost, first_kind_cost}
-use Rattle.control_nor.specs.First.{AreFirstDone, AreFirstNamed, AreFirstNets, IsWaiting}
+use Rattle.control_nor.specs.Cells.{first_cost, first_kind_cost}
+use Rattle.control_nor.specs.First.{IsWaiting}
 use Rattle.control_nor.specs.Lowering.{InputBit, ObeysBehind, Stands}
-use Rattle.control_nor.specs.Rails.{Agree, AreBelow, Named}
+use Rattle.control_nor.specs.Rails.{Agree, AreBelow}
 use Rattle.control_nor.specs.Size.{IsWithinCost, active_count}
-use Rattle.control_nor.proofs.Adding.{counted_list, get_at, get_behind, get_kept}
+use Rattle.control_nor.proofs.Adding.{counted_list, get_at, get_behind}
 use Rattle.control_nor.proofs.Left.{get_set_other, get_set_same, nat_cases}
-use Rattle.control_nor.proofs.Obeying.{agree_bit, gate_obeyed, obeys_less, swap_agree}
+use Rattle.control_nor.proofs.Obeying.{agree_bit, gate_obeyed, swap_agree}
 
 -- what one cell added
 pub record IsFirstStep (x : cells.Cell) (old new : List Part) (pads named : List (Option NetId)) (o : Option Rails) : Type 0 where
@@ -168,8 +161,12 @@ module _ (x : cells.Cell) (k : ℕ) (kind : x.kind ≡ kinds.Input k) (word : x.
     pads_stay = λ j q e. there j (λ same. free q (ap (slice_get pads) (sym same) ∙ e)) ∙ e;
     pads_new = λ j q e. elim (nat_cases j k) [
       | inl same ↦ let is : q ≡ pad = cc (ap (slice_get named) (sym same) ∙ e, here) in
-          inr (kind ∙ ap kinds.Input (sym same), word, (let a = h.at_pad in let b = ap (λ (n : NetId). n.0) is in omega (arith, a, b)),
-          subst (λ (n : NetId). slice_get new n.0 ≡ Some Input) (sym is) (at pad.0 0 Input (let a = h.at_pad in omega (arith, a)) refl))
+          inr (
+            kind ∙ ap kinds.Input (sym same),
+            word,
+            (let a = h.at_pad in let b = ap (λ (n : NetId). n.0) is in omega (arith, a, b)),
+            subst (λ (n : NetId). slice_get new n.0 ≡ Some Input) (sym is) (at pad.0 0 Input (let a = h.at_pad in omega (arith, a)) refl),
+          )
       | inr ne ↦ inl (sym (there j ne) ∙ e)
     ];
     pads_named = λ j e w. (pad, ap (slice_get named) (same_kind j e) ∙ here);
@@ -181,16 +178,19 @@ module _ (x : cells.Cell) (k : ℕ) (kind : x.kind ≡ kinds.Input k) (word : x.
         }));
     slaves = λ q e some. absurd (cc (e, kind));
     inputs = λ n l e. elim (by_part n Input l e) [
-      | inl q ↦ (k, subst (λ (i : NetId). Stands named k i)
-          (let s : pad.0 ≡ n = (let a = h.at_pad in omega (arith, a, q.0)) in ap (λ m. let i : NetId = record { 0 = m } in i) s) here)
+      | inl q ↦ (
+        k,
+        subst (λ (i : NetId). Stands named k i)
+            (let s : pad.0 ≡ n = (let a = h.at_pad in omega (arith, a, q.0)) in ap (λ m. let i : NetId = record { 0 = m } in i) s) here,
+      )
       | inr q ↦ elim q [ inl w ↦ absurd (cc w.1) | inr w ↦ absurd (cc w) ]
     ];
     latches = λ n p source l e. elim (by_part n (Latch p (Some source)) l e) [
       | inl q ↦ absurd (cc q.1)
       | inr q ↦ elim q [
-          | inl w ↦ (k, subst (λ (i : NetId). Stands named k i) (let s : pad ≡ source = cc w.1 in s) here)
-          | inr w ↦ absurd (cc w)
-        ]
+        | inl w ↦ (k, subst (λ (i : NetId). Stands named k i) (let s : pad ≡ source = cc w.1 in s) here)
+        | inr w ↦ absurd (cc w)
+      ]
     ];
     unfed = λ n p l e. elim (by_part n (Latch p None) l e) [
       | inl q ↦ absurd (cc q.1)

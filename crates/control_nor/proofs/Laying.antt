@@ -1,7 +1,7 @@
 -- Where the nets of tasks are, and what they mean, task by task.
-use Rattle.std.proofs.Common.{◌≡◌, ℕ, zero, suc, ◌+◌, ◌-◌, ◌*◌, ◌<◌, ◌≤◌, ◌⊎◌, inl, inr, List, [], ◌∷◌, ◌++◌, Option, Some, None, Bool, true, false, length, refl, sym, ◌∙◌, ap, subst, arith, cond, eqb, get_or, length-append}
-use Rattle.std.specs.Prelude.{All, Contains, MatchBool, ◌&&◌, ◌==◌, not, if◌then◌else◌, slice_get, slice_set, slice_index}
-use Rattle.std.specs.List.{filter, list_any}
+use Rattle.std.proofs.Common.{◌≡◌, ℕ, zero, suc, ◌+◌, ◌<◌, ◌≤◌, ◌⊎◌, inl, inr, List, [], ◌∷◌, ◌++◌, Option, Some, None, Bool, true, false, length, refl, sym, ◌∙◌, ap, subst, arith, eqb, get_or, length-append}
+use Rattle.std.specs.Prelude.{All, MatchBool, ◌==◌, slice_get, slice_index}
+use Rattle.std.specs.List.{list_any}
 use Rattle.std.proofs.lemmas.Bool.{eqb-true}
 use Rattle.std.proofs.lemmas.List.Elements.{All-filter, Contains-get_or, filter_passes}
 use Rattle.std.proofs.lemmas.Option.{none-some, same_Some, slice_get_within}
@@ -10,7 +10,6 @@ use Rattle.nor_net.specs.declared.net.NetId.{NetId}
 use Rattle.nor_net.specs.declared.net.Part.{Part}
 use Rattle.nor_net.specs.declared.net.Part.TheVariants.{Input, Gate}
 use Rattle.nor_net.specs.Elements.{Spot}
-use Rattle.rtl_form.specs.declared.rtl.Cell as cells
 use Rattle.rtl_form.specs.declared.rtl.Transfer.{Transfer}
 use Rattle.rtl_form.specs.declared.rtl.RtlExpr.{RtlExpr}
 use Rattle.rtl_form.specs.declared.rtl.RtlExpr.TheVariants as exprs
@@ -23,7 +22,6 @@ use Rattle.control_nor.specs.declared.names.Task.{Task}
 use Rattle.control_nor.specs.declared.names.Task.TheVariants.{Expr, Cell}
 use Rattle.control_nor.specs.declared.rails.Rails.{Rails}
 use Rattle.control_nor.specs.declared.rails.Bits.{Bits}
-use Rattle.control_nor.specs.Adding.{AddsLogic}
 use Rattle.control_nor.specs.Cells.{IsDrivenMade, transfers_to}
 use Rattle.control_nor.specs.Exprs.{IsExprMade}
 use Rattle.control_nor.specs.Lowering.{BitsFit, IsEntry, ObeysBehind}
@@ -32,7 +30,7 @@ use Rattle.control_nor.specs.Progress.{IsBegun, IsLaid, IsProgress, NamedTask, l
 use Rattle.control_nor.specs.Rails.{Agree, HasRails, Known, Named}
 use Rattle.control_nor.specs.Schedule.{IsSchedule}
 use Rattle.control_nor.specs.Tasks.{IsTaskDone, IsTaskMade, entry_of, with_entry}
-use Rattle.control_nor.proofs.Adding.{get_at, get_behind, get_kept, gates_longer, logic_keep, logic_longer}
+use Rattle.control_nor.proofs.Adding.{get_at, gates_longer, logic_keep, logic_longer}
 use Rattle.control_nor.proofs.Left.{nat_cases}
 use Rattle.control_nor.proofs.Meaning.{driven_agree, driven_meant, expr_agree, expr_meant}
 use Rattle.control_nor.proofs.Obeying.{obeys_less}
@@ -70,11 +68,16 @@ driven_at : (entries : List (Option Rails)) (ts : List Transfer) (old new : List
 driven_at entries ts old new rails h =
     let l = gates_longer old h.middle h.are_terms.adds in
     let n = h.pair.at_negation in
-    let m = h.pair.at_bit in
-    (omega (arith, l, n), ap (λ ps. slice_get ps rails.bit.0) h.pair.parts
-    ∙ get_at h.middle (Gate h.terms ∷ Gate (rails.negation ∷ []) ∷ []) rails.bit.0 1 (Gate (rails.negation ∷ [])) (omega (arith, n)) refl,
-    (h.terms, ap (λ ps. slice_get ps rails.negation.0) h.pair.parts
-    ∙ get_at h.middle (Gate h.terms ∷ Gate (rails.negation ∷ []) ∷ []) rails.negation.0 0 (Gate h.terms) (omega (arith, m)) refl))
+    let m = h.pair.at_bit in (
+      omega (arith, l, n),
+      ap (λ ps. slice_get ps rails.bit.0) h.pair.parts
+          ∙ get_at h.middle (Gate h.terms ∷ Gate (rails.negation ∷ []) ∷ []) rails.bit.0 1 (Gate (rails.negation ∷ [])) (omega (arith, n)) refl,
+      (
+        h.terms,
+        ap (λ ps. slice_get ps rails.negation.0) h.pair.parts
+            ∙ get_at h.middle (Gate h.terms ∷ Gate (rails.negation ∷ []) ∷ []) rails.negation.0 0 (Gate h.terms) (omega (arith, m)) refl,
+      ),
+    )
 
 pub nothing_laid : (r : Rtl) (tasks : List Task) (old : List Part) (before : Bits) → IsLaid r tasks 0 old old before []
 nothing_laid r tasks old before = record {
@@ -149,7 +152,7 @@ module _ (r : Rtl) (sound : IsSound r) (tasks : List Task) (schedule : IsSchedul
     driven_here : (k : Task) → task ≡ k → (c : ℕ) → k ≡ Cell c → (rails : Rails) → IsTaskMade r after k new newer made.entry
         → made.entry ≡ Some rails
         → (length new ≤ rails.bit.0) × (slice_get newer rails.bit.0 ≡ Some (Gate (rails.negation ∷ [])))
-            × ((inputs : List NetId) × (slice_get newer rails.negation.0 ≡ Some (Gate inputs)))
+        × ((inputs : List NetId) × (slice_get newer rails.negation.0 ≡ Some (Gate inputs)))
     driven_here (Expr e) same c kind rails h some = absurd (cc kind)
     driven_here (Cell d) same c kind rails h some = by_word h.0.word h.2
       where
@@ -191,9 +194,11 @@ module _ (r : Rtl) (sound : IsSound r) (tasks : List Task) (schedule : IsSchedul
             let a : level (length old) more s ≡ length new = ap (level (length old) more) e ∙ top_level in
             let b = g.0 in (omega (arith, a, b), g.1, g.2)
         | inr m ↦ let g = laid.driven s c rails m at (named_there s (Cell c) rails at m h) in
-            let a = same_level s (omega arith) in let b = g.0 in
-            (omega (arith, a, b), keeps_parts rails.bit.0 (Gate (rails.negation ∷ [])) g.1,
-            (g.2.0, keeps_parts rails.negation.0 (Gate g.2.0) g.2.1))
+            let a = same_level s (omega arith) in let b = g.0 in (
+              omega (arith, a, b),
+              keeps_parts rails.bit.0 (Gate (rails.negation ∷ [])) g.1,
+              (g.2.0, keeps_parts rails.negation.0 (Gate g.2.0) g.2.1),
+            )
       ];
       entries = λ s e x rails l at is_at y h. elim (at_or_below s l) [
         | inl q ↦ let same = this_task s (Expr e) at q in

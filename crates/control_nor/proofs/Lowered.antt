@@ -1,12 +1,12 @@
 -- The nets of all bits, with their names.
 use Rattle.std.proofs.Common.{◌≡◌, ℕ, zero, suc, ◌+◌, ◌-◌, ◌*◌, ◌<◌, ◌≤◌, ◌⊎◌, inl, inr, List, [], ◌∷◌, ◌++◌, Option, Some, None, Bool, true, false, length, map, replicate, get_or, refl, sym, ◌∙◌, ap, subst, arith, cond, eqb}
-use Rattle.std.specs.Prelude.{All, Contains, ◌↔◌, not, ◌&&◌, ◌||◌, ◌==◌, if◌then◌else◌, slice_get, slice_index, unwrap_or}
+use Rattle.std.specs.Prelude.{All, Contains, not, ◌&&◌, ◌||◌, ◌==◌, if◌then◌else◌, slice_get, slice_index, unwrap_or}
 use Rattle.std.specs.List.{list_any, sum_by}
 use Rattle.std.proofs.lemmas.Bool.{cases_lt, eqb-true}
 use Rattle.std.proofs.lemmas.Option.{none-some, same_Some, slice_get_within, slice_get-get_or}
 use Rattle.mp_base.specs.declared.pad.Pad.{Pad}
 use Rattle.mp_base.specs.Merge.{merged}
-use Rattle.nor_net.specs.Shape.{Fed, gate_inputs}
+use Rattle.nor_net.specs.Shape.{Fed}
 use Rattle.nor_net.specs.declared.net.NetId.{NetId}
 use Rattle.nor_net.specs.declared.net.Phase.{Phase}
 use Rattle.nor_net.specs.declared.net.Phase.TheVariants as phases
@@ -18,12 +18,11 @@ use Rattle.rtl_form.specs.declared.rtl.CellKind.TheVariants as kinds
 use Rattle.rtl_form.specs.declared.rtl.RtlExpr.{RtlExpr}
 use Rattle.rtl_form.specs.declared.rtl.RtlExpr.TheVariants as exprs
 use Rattle.rtl_form.specs.declared.rtl.Rtl.{Rtl}
-use Rattle.rtl_form.specs.Cost.{cost}
 use Rattle.rtl_form.specs.Entries.{IsAt}
 use Rattle.rtl_form.specs.Environment.{is_driven}
 use Rattle.rtl_form.specs.Operands.{takes_words, gives_word}
 use Rattle.rtl_form.specs.Sound.{CellFits, HasSort, IsSort, IsSound}
-use Rattle.rtl_form.proofs.Members.{by_test, one_entry, some_entry}
+use Rattle.rtl_form.proofs.Members.{by_test, one_entry}
 use Rattle.control_nor.specs.declared.names.Names.{Names}
 use Rattle.control_nor.specs.declared.names.Task.{Task}
 use Rattle.control_nor.specs.declared.names.Task.TheVariants.{Expr, Cell}
@@ -33,11 +32,11 @@ use Rattle.control_nor.specs.Cells.{first_cost}
 use Rattle.control_nor.specs.Done.{AreDone}
 use Rattle.control_nor.specs.First.{AreFirstDone}
 use Rattle.control_nor.specs.Lowering.{AreInputs, ArePlaced, InputBit, IsEntered, IsEntry, IsLowered, Stands, StoredBit, nets_before}
-use Rattle.control_nor.specs.NextValues.{AreNextValues, IsStoring, is_stored_bit, next_left}
-use Rattle.control_nor.specs.Progress.{cost_left, entries_left, left_by, level}
-use Rattle.control_nor.specs.Rails.{AreBelow, IsNamed, Named, net_of}
+use Rattle.control_nor.specs.NextValues.{AreNextValues, IsStoring}
+use Rattle.control_nor.specs.Progress.{left_by, level}
+use Rattle.control_nor.specs.Rails.{IsNamed, Named, net_of}
 use Rattle.control_nor.specs.Schedule.{IsSchedule, IsTask}
-use Rattle.control_nor.specs.Size.{IsWithinCost, active_count, bit_cost, entry_count}
+use Rattle.control_nor.specs.Size.{IsWithinCost, bit_cost, entry_count}
 use Rattle.control_nor.proofs.Adding.{get_at, logic_keep, logic_longer}
 use Rattle.control_nor.proofs.Begins.{cell_named, expr_named, first_rails, has_reset, in_tasks, is_stored_from, slaves_behind, stored_kind}
 use Rattle.control_nor.proofs.Costs.{bit_cost_most, left_all, rounds}
@@ -46,14 +45,14 @@ use Rattle.control_nor.proofs.Left.{nat_cases}
 use Rattle.control_nor.proofs.Named.{named_stands, stands_named}
 use Rattle.control_nor.proofs.Meaning.{value_small}
 use Rattle.control_nor.proofs.Obeying.{gate_obeyed, obeys_less}
-use Rattle.control_nor.proofs.StoredBits.{never_fed, obeys_kept}
+use Rattle.control_nor.proofs.StoredBits.{obeys_kept}
 use Rattle.control_nor.proofs.Written.{written_is}
 use Rattle.control_nor.specs.Cells.{transfers_to}
 use Rattle.control_nor.specs.Lowering.{BitsFit, Fetched, Gives, HasBit, KnownCell, KnownExpr, ObeysBehind, Ready, next_bit}
 use Rattle.control_nor.specs.Meaning.{AreTransfersKnown, IsExprKnown, is_active}
 use Rattle.control_nor.specs.NextValues.{AreKnown, is_guarded, next_of}
 use Rattle.control_nor.specs.Progress.{NamedTask}
-use Rattle.control_nor.specs.Rails.{Agree, HasRails, Known}
+use Rattle.control_nor.specs.Rails.{Agree, Known}
 use Rattle.mp_base.specs.declared.value.Trit.{Trit}
 use Rattle.mp_base.specs.declared.value.Trit.TheVariants.{Zero, One}
 use Rattle.nor_net.specs.Elements.{Spot, spot}
@@ -142,10 +141,11 @@ module _ (r : Rtl) (sound : IsSound r) (old mid mid2 after : List Part) (named :
   added = (on.0, on.1, λ k d l. fed_at k (get_or on.0 k d) (slice_get-get_or on.0 k d l))
     where
       on : (more : List Part) × (after ≡ old ++ more)
-      on = next.behind old (slaves_behind r sound old mid named pads first tasks schedule mid2 bits ends done)
-          (first.added.0 ++ done.progress.adds.0,
-          done.progress.adds.1 ∙ (ap (λ ps. ps ++ done.progress.adds.0) first.added.1
-          ∙ Rattle.std.proofs.Common.append_assoc old first.added.0 done.progress.adds.0))
+      on = next.behind old (slaves_behind r sound old mid named pads first tasks schedule mid2 bits ends done) (
+        first.added.0 ++ done.progress.adds.0,
+        done.progress.adds.1 ∙ (ap (λ ps. ps ++ done.progress.adds.0) first.added.1
+            ∙ Rattle.std.proofs.Common.append_assoc old first.added.0 done.progress.adds.0),
+      )
 
       unfed : (n : ℕ) (phase : Phase) → length old ≤ n → slice_get after n ≡ Some (Latch phase None) → ⊥
       unfed n phase l e =
@@ -181,8 +181,10 @@ module _ (r : Rtl) (sound : IsSound r) (old mid mid2 after : List Part) (named :
           → (entry_count x ≡ 0) ⊎ IsSort r.cells x false → entry_count x ≡ 0
       zero_of e x absent at (inl z) = z
       zero_of e x absent at (inr s) =
-          let is : IsAt r.exprs e x = (slice_get_within r.exprs e x at,
-          sym (Rattle.std.proofs.lemmas.Option.get_or_from_slice_get r.exprs e x x at)) in
+          let is : IsAt r.exprs e x = (
+            slice_get_within r.exprs e x at,
+            sym (Rattle.std.proofs.lemmas.Option.get_or_from_slice_get r.exprs e x x at),
+          ) in
           let n = expr_has e (x, is, s) in
           absurd (none-some n.0 (same_Some None (Some n.0) (sym absent ∙ n.1)))
 
@@ -256,9 +258,9 @@ module _ (r : Rtl) (sound : IsSound r) (old mid mid2 after : List Part) (named :
   one_task s t n l m a b c d = elim (nat_cases s t) [
     | inl e ↦ e
     | inr ne ↦ elim (cases_lt s t) [
-        | inl k ↦ let h = rise (suc s) t (omega (arith, k)) (omega (arith, m)) in absurd (omega (arith, h, b, c))
-        | inr k ↦ let h = rise (suc t) s (omega (arith, k, ne)) (omega (arith, l)) in absurd (omega (arith, h, d, a))
-      ]
+      | inl k ↦ let h = rise (suc s) t (omega (arith, k)) (omega (arith, m)) in absurd (omega (arith, h, b, c))
+      | inr k ↦ let h = rise (suc t) s (omega (arith, k, ne)) (omega (arith, l)) in absurd (omega (arith, h, d, a))
+    ]
   ]
 
   -- ---- inputs
@@ -570,27 +572,32 @@ module _ (r : Rtl) (sound : IsSound r) (old mid mid2 after : List Part) (named :
     cell_count = length_map bits.cells ∙ done.progress.cell_count;
     expr_count = length_map bits.exprs ∙ done.progress.expr_count;
     pad_count = first.nets.pad_count;
-    cell_names = λ c x at.
-        (λ word. let n = cell_has c x at word in (n.0.bit, named_stands bits.cells c n.0 n.1),
-        λ h. let q = stands_named bits.cells c h.0 h.1 in let b = cell_of c q.0 q.1 in
-        ap (λ (x : cells.Cell). x.word) (one_entry r.cells c x b.0 at b.1) ∙ b.2);
-    expr_names = λ e x at.
-        (λ sort. let n = expr_has e (x, at, sort) in (n.0.bit, named_stands bits.exprs e n.0 n.1),
-        λ h. let q = stands_named bits.exprs e h.0 h.1 in let b = done.progress.bits_only (Expr e) q.0 q.1 in
-        subst (λ x. IsSort r.cells x false) (one_entry r.exprs e b.0 x b.1 at) b.2);
-    pad_names = λ k pad at.
-        (λ flat. let only = sound.input_cells k at.0 in let x = only.1 in
-        let word = pad_width k pad at only.0 x.0 x.1 x.2 ∙ ap (λ n. not (n == 0)) flat in
-        first.nets.pads_named only.0 k x.0 x.1.0 x.1 x.2 word,
-        λ h. let p = first.nets.pads_only k h.0 h.1 in
-        not_zero pad.width (sym (pad_width k pad at p.0 p.1 p.3 p.4) ∙ p.5));
+    cell_names = λ c x at. (
+      λ word. let n = cell_has c x at word in (n.0.bit, named_stands bits.cells c n.0 n.1),
+      λ h. let q = stands_named bits.cells c h.0 h.1 in let b = cell_of c q.0 q.1 in
+          ap (λ (x : cells.Cell). x.word) (one_entry r.cells c x b.0 at b.1) ∙ b.2,
+    );
+    expr_names = λ e x at. (
+      λ sort. let n = expr_has e (x, at, sort) in (n.0.bit, named_stands bits.exprs e n.0 n.1),
+      λ h. let q = stands_named bits.exprs e h.0 h.1 in let b = done.progress.bits_only (Expr e) q.0 q.1 in
+          subst (λ x. IsSort r.cells x false) (one_entry r.exprs e b.0 x b.1 at) b.2,
+    );
+    pad_names = λ k pad at. (
+      λ flat. let only = sound.input_cells k at.0 in let x = only.1 in
+          let word = pad_width k pad at only.0 x.0 x.1 x.2 ∙ ap (λ n. not (n == 0)) flat in
+          first.nets.pads_named only.0 k x.0 x.1.0 x.1 x.2 word,
+      λ h. let p = first.nets.pads_only k h.0 h.1 in
+          not_zero pad.width (sym (pad_width k pad at p.0 p.1 p.3 p.4) ∙ p.5),
+    );
     cells_apart = λ c d id h k. let p = stands_named bits.cells c id h in let q = stands_named bits.cells d id k in
         rails_apart c d p.0 q.0 p.1 q.1 (ap (λ (i : NetId). i.0) (p.2 ∙ sym q.2));
     driven = λ c x id at d h. let q = stands_named bits.cells c id h in
         let t = driven_range c x q.0 at d q.1 in
-        let g = done.laid.driven t.0 c q.0 t.1 t.2 q.1 in
-        (q.0.negation ∷ [], subst (λ (i : NetId). slice_get after i.0 ≡ Some (Gate (q.0.negation ∷ []))) q.2
-        (next.keeps q.0.bit.0 (Gate (q.0.negation ∷ [])) g.1 tt));
+        let g = done.laid.driven t.0 c q.0 t.1 t.2 q.1 in (
+          q.0.negation ∷ [],
+          subst (λ (i : NetId). slice_get after i.0 ≡ Some (Gate (q.0.negation ∷ []))) q.2
+              (next.keeps q.0.bit.0 (Gate (q.0.negation ∷ [])) g.1 tt),
+        );
     stored = λ c x id at kind h. let q = stands_named bits.cells c id h in
         subst (StoredBit after) q.2 (stored_bit c x q.0 at kind q.1);
     ports = λ c k x id pad at kind h on. let q = stands_named bits.cells c id h in

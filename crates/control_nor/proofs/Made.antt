@@ -1,26 +1,26 @@
 -- What was added for an expression or a driven cell: how much, where, and which inputs.
-use Rattle.std.proofs.Common.{◌≡◌, ℕ, zero, suc, ◌+◌, ◌-◌, ◌*◌, ◌<◌, ◌≤◌, ◌⊎◌, inl, inr, List, [], ◌∷◌, ◌++◌, Option, Some, None, Bool, true, false, length, max, refl, sym, ◌∙◌, ap, subst, arith, length-append}
+use Rattle.std.proofs.Common.{◌≡◌, ℕ, zero, suc, ◌+◌, ◌-◌, ◌*◌, ◌≤◌, List, [], ◌∷◌, ◌++◌, Option, Some, None, Bool, true, false, length, max, refl, sym, ◌∙◌, ap, subst, arith}
 use Rattle.std.specs.Prelude.{All, if◌then◌else◌, slice_get, slice_index}
 use Rattle.std.specs.List.{AllZip}
-use Rattle.std.proofs.lemmas.Option.{none-some, same_Some, slice_get_within}
+use Rattle.std.proofs.lemmas.Option.{none-some, same_Some}
 use Rattle.mp_base.specs.declared.op.Op.{Op}
 use Rattle.mp_base.specs.declared.op.Op.TheVariants as ops
 use Rattle.nor_net.specs.declared.net.NetId.{NetId}
 use Rattle.nor_net.specs.declared.net.Part.{Part}
-use Rattle.nor_net.specs.declared.net.Part.TheVariants.{Input, Gate, Latch}
+use Rattle.nor_net.specs.declared.net.Part.TheVariants.{Input, Gate}
 use Rattle.rtl_form.specs.declared.rtl.RtlExpr.{RtlExpr}
 use Rattle.rtl_form.specs.declared.rtl.RtlExpr.TheVariants.{Number, Truth, Cell, Apply}
 use Rattle.rtl_form.specs.Cost.{op_cost}
-use Rattle.rtl_form.specs.Operands.{takes, takes_words, gives_word}
+use Rattle.rtl_form.specs.Operands.{takes_words, gives_word}
 use Rattle.rtl_form.specs.declared.rtl.Transfer.{Transfer}
 use Rattle.control_nor.specs.declared.rails.Rails.{Rails}
 use Rattle.control_nor.specs.Adding.{AddsGates, AddsLogic, IsCounted, IsEntryPair, IsExclusive, IsGate, IsLogic, IsPair}
-use Rattle.control_nor.specs.Cells.{AreTerms, IsDrivenMade, IsTerm}
-use Rattle.control_nor.specs.Exprs.{IsExclusiveOf, IsExprMade, IsNorOfBits, IsNorOfNegations, IsOpMade}
+use Rattle.control_nor.specs.Cells.{IsDrivenMade, IsTerm}
+use Rattle.control_nor.specs.Exprs.{IsExprMade, IsNorOfBits, IsNorOfNegations, IsOpMade}
 use Rattle.control_nor.specs.Lowering.{IsEntry}
 use Rattle.control_nor.specs.Rails.{AllBelow, AreBelow, BitOf, Named, NegationOf, swapped}
 use Rattle.control_nor.specs.Size.{IsWithinCost, bit_expr_cost, entry_count}
-use Rattle.control_nor.proofs.Adding.{counted_list, counted_none, counted_on, gates_are_logic, gates_none, gates_on, get_at, get_behind, gate_before, logic_none, two_gates}
+use Rattle.control_nor.proofs.Adding.{counted_list, counted_on, gates_are_logic, gates_none, gates_on, get_at, get_behind, gate_before, logic_none, two_gates}
 use Rattle.control_nor.proofs.Zipping.{zip_length}
 use Rattle.std.proofs.lemmas.List.Elements.{All-nil, All-cons}
 
@@ -90,10 +90,12 @@ pair_added inputs old new rails other cost entered h never two few below = recor
 -- ---- an exclusive OR
 
 exclusive_gates : (a b : Rails) (old new : List Part) (rails : Rails) → IsExclusive a b old new rails → AddsGates old new
-exclusive_gates a b old new rails h =
-    (Gate (a.bit ∷ b.bit ∷ []) ∷ Gate (a.negation ∷ b.negation ∷ []) ∷ Gate (h.none ∷ h.both ∷ []) ∷ Gate (rails.bit ∷ []) ∷ [],
-    h.parts, gate_before (a.bit ∷ b.bit ∷ []) (Gate (a.negation ∷ b.negation ∷ []) ∷ Gate (h.none ∷ h.both ∷ []) ∷ Gate (rails.bit ∷ []) ∷ [])
-    (gate_before (a.negation ∷ b.negation ∷ []) (Gate (h.none ∷ h.both ∷ []) ∷ Gate (rails.bit ∷ []) ∷ []) (two_gates (h.none ∷ h.both ∷ []) (rails.bit ∷ []))))
+exclusive_gates a b old new rails h = (
+  Gate (a.bit ∷ b.bit ∷ []) ∷ Gate (a.negation ∷ b.negation ∷ []) ∷ Gate (h.none ∷ h.both ∷ []) ∷ Gate (rails.bit ∷ []) ∷ [],
+  h.parts,
+  gate_before (a.bit ∷ b.bit ∷ []) (Gate (a.negation ∷ b.negation ∷ []) ∷ Gate (h.none ∷ h.both ∷ []) ∷ Gate (rails.bit ∷ []) ∷ [])
+      (gate_before (a.negation ∷ b.negation ∷ []) (Gate (h.none ∷ h.both ∷ []) ∷ Gate (rails.bit ∷ []) ∷ []) (two_gates (h.none ∷ h.both ∷ []) (rails.bit ∷ []))),
+)
 
 exclusive_counted : (a b : Rails) (old new : List Part) (rails : Rails) → IsExclusive a b old new rails
     → IsCounted 4 7 4 old new
@@ -125,8 +127,11 @@ exclusive_added a b old new rails entered h never = let c = exclusive_counted a 
 entry_added : (old new : List Part) (rails : Rails) (cost : ℕ) (entered : Type 0) → IsEntryPair old new rails → entered
     → 2 ≤ cost → AreAdded entered cost 1 old new rails
 entry_added old new rails cost entered h enters two = record {
-  adds = (Input ∷ Gate (rails.bit ∷ []) ∷ [], h.parts,
-      All-cons IsLogic Input (Gate (rails.bit ∷ []) ∷ []) tt (All-cons IsLogic (Gate (rails.bit ∷ [])) [] tt (All-nil IsLogic)));
+  adds = (
+    Input ∷ Gate (rails.bit ∷ []) ∷ [],
+    h.parts,
+    All-cons IsLogic Input (Gate (rails.bit ∷ []) ∷ []) tt (All-cons IsLogic (Gate (rails.bit ∷ [])) [] tt (All-nil IsLogic)),
+  );
   below = let m = h.at_bit in let n = h.at_negation in
       record { bit_below = omega (arith, length_is, m); negation_below = omega (arith, length_is, n) };
   within = record {
@@ -136,8 +141,11 @@ entry_added old new rails cost entered h enters two = record {
         let f = ap (Rattle.std.specs.List.sum_by Rattle.control_nor.specs.Size.active_count) h.parts in omega (arith, e, f);
   };
   inputs = λ n l e. (enters, only n l e);
-  entry = λ y. (let m = h.at_bit in omega (arith, m), ap (λ ps. slice_get ps rails.bit.0) h.parts
-      ∙ get_at old (Input ∷ Gate (rails.bit ∷ []) ∷ []) rails.bit.0 0 Input (let m = h.at_bit in omega (arith, m)) refl);
+  entry = λ y. (
+    let m = h.at_bit in omega (arith, m),
+    ap (λ ps. slice_get ps rails.bit.0) h.parts
+        ∙ get_at old (Input ∷ Gate (rails.bit ∷ []) ∷ []) rails.bit.0 0 Input (let m = h.at_bit in omega (arith, m)) refl,
+  );
 }
   where
     c : IsCounted 2 1 1 old (old ++ Input ∷ Gate (rails.bit ∷ []) ∷ [])

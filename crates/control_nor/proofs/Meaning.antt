@@ -1,22 +1,20 @@
 -- What nets mean that were added for an expression or a driven cell.
-use Rattle.std.proofs.Common.{◌≡◌, ℕ, zero, suc, ◌+◌, ◌-◌, ◌<◌, ◌≤◌, ◌⊎◌, inl, inr, List, [], ◌∷◌, ◌++◌, Option, Some, None, Bool, true, false, length, map, refl, sym, ◌∙◌, ap, subst, arith, cond, eqb, get_or}
-use Rattle.std.specs.Prelude.{All, Contains, MatchBool, not, ◌&&◌, ◌||◌, ◌==◌, nat_lt, slice_get, slice_index, if◌then◌else◌}
-use Rattle.std.specs.List.{AllZip, filter, list_all, list_any}
+use Rattle.std.proofs.Common.{◌≡◌, ℕ, zero, suc, ◌+◌, ◌-◌, ◌<◌, ◌≤◌, ◌⊎◌, inl, inr, List, [], ◌∷◌, Option, Some, Bool, true, false, length, map, refl, sym, ◌∙◌, ap, subst, arith, cond, get_or}
+use Rattle.std.specs.Prelude.{All, not, ◌&&◌, ◌||◌, ◌==◌, nat_lt, slice_index, if◌then◌else◌}
+use Rattle.std.specs.List.{AllZip, list_all, list_any}
 use Rattle.std.proofs.lemmas.Bool.{eqb-true}
-use Rattle.std.proofs.lemmas.List.Elements.{All-filter, Contains-get_or, filter_passes}
-use Rattle.std.proofs.lemmas.Option.{none-some, same_Some, slice_get_within, get_or_from_slice_get}
+use Rattle.std.proofs.lemmas.List.Elements.{Contains-get_or}
+use Rattle.std.proofs.lemmas.Option.{none-some, same_Some}
 use Rattle.mp_base.specs.declared.op.Op.{Op}
 use Rattle.mp_base.specs.declared.op.Op.TheVariants as ops
 use Rattle.mp_base.specs.declared.value.Trit.{Trit}
 use Rattle.mp_base.specs.Apply.{apply, truth}
 use Rattle.nor_net.specs.declared.net.NetId.{NetId}
 use Rattle.nor_net.specs.declared.net.Part.{Part}
-use Rattle.nor_net.specs.declared.net.Part.TheVariants.{Input, Gate, Latch}
 use Rattle.nor_net.specs.Elements.{Spot, spot}
 use Rattle.nor_net.specs.Laws.{bit}
 use Rattle.nor_net.specs.Settled.{nor_value}
 use Rattle.nor_net.proofs.Values.{nor_bits}
-use Rattle.rtl_form.specs.declared.rtl.Cell as cells
 use Rattle.rtl_form.specs.declared.rtl.Transfer.{Transfer}
 use Rattle.rtl_form.specs.declared.rtl.RtlExpr.{RtlExpr}
 use Rattle.rtl_form.specs.declared.rtl.RtlExpr.TheVariants as exprs
@@ -25,21 +23,19 @@ use Rattle.rtl_form.specs.Entries.{IsAt}
 use Rattle.rtl_form.specs.Operands.{takes, takes_words, gives_word}
 use Rattle.rtl_form.specs.Sound.{ExprFits, HasSort, IsSort, IsSound}
 use Rattle.rtl_form.specs.Values.{value_of, expr_value}
-use Rattle.rtl_form.proofs.Members.{one_entry}
 use Rattle.rtl_form.proofs.Values.{value_is}
 use Rattle.control_nor.specs.declared.rails.Rails.{Rails}
 use Rattle.control_nor.specs.declared.rails.Bits.{Bits}
-use Rattle.control_nor.specs.Adding.{AddsLogic, IsEntryPair, IsExclusive, IsPair}
-use Rattle.control_nor.specs.Cells.{AreTerms, IsDrivenMade, IsTerm, transfers_to}
+use Rattle.control_nor.specs.Adding.{IsPair}
+use Rattle.control_nor.specs.Cells.{IsDrivenMade, IsTerm}
 use Rattle.control_nor.specs.Exprs.{IsExclusiveOf, IsExprMade, IsNorOfBits, IsNorOfNegations, IsOpMade}
 use Rattle.control_nor.specs.Lowering.{BitsFit, ObeysBehind}
-use Rattle.control_nor.specs.Meaning.{AreTransfersKnown, IsExprKnown, is_active}
-use Rattle.control_nor.specs.Rails.{Agree, BitOf, HasRails, Known, Named, NegationOf, swapped}
+use Rattle.control_nor.specs.Meaning.{IsExprKnown, is_active}
+use Rattle.control_nor.specs.Rails.{Agree, HasRails, Known, Named, swapped}
 use Rattle.control_nor.proofs.Adding.{gates_keep, gates_longer}
 use Rattle.control_nor.proofs.Bits.{AreBits, exclusive_or, negation_of, nor_of_bits, nor_of_negations, some_one, some_zero, truth_one, truth_small}
 use Rattle.control_nor.proofs.Made.{pair_gates}
-use Rattle.control_nor.proofs.Obeying.{agree_bit, bits_known, exclusive_bit, exclusive_negation, entry_negation, gate_obeyed, negations_known, not_not, obeys_less, off_back, off_bit, pair_bit, pair_negation, swap_agree, swap_rails}
-use Rattle.control_nor.proofs.Zipping.{zip_weaker}
+use Rattle.control_nor.proofs.Obeying.{agree_bit, bits_known, exclusive_bit, exclusive_negation, entry_negation, gate_obeyed, negations_known, obeys_less, pair_bit, pair_negation, swap_agree, swap_rails}
 
 -- ---- bits are 0 or 1
 

@@ -1,19 +1,18 @@
 -- What is added for the next value of a stored bit.
-use Rattle.std.proofs.Common.{◌≡◌, ℕ, suc, ◌+◌, ◌*◌, ◌<◌, ◌≤◌, List, [], ◌∷◌, ◌++◌, Option, Some, None, length, refl, sym, ◌∙◌, ap, subst, arith, length-append}
+use Rattle.std.proofs.Common.{◌≡◌, ℕ, ◌+◌, ◌*◌, ◌<◌, ◌≤◌, List, [], ◌∷◌, ◌++◌, Option, Some, None, length, sym, ap, subst, arith, length-append}
 use Rattle.std.specs.Prelude.{All, IfSome, slice_get, slice_set}
 use Rattle.std.specs.List.{AllZip}
 use Rattle.nor_net.specs.declared.net.NetId.{NetId}
-use Rattle.nor_net.specs.declared.net.Phase.{Phase}
 use Rattle.nor_net.specs.declared.net.Phase.TheVariants.{A, B}
 use Rattle.nor_net.specs.declared.net.Part.{Part}
 use Rattle.nor_net.specs.declared.net.Part.TheVariants.{Gate, Latch}
-use Rattle.nor_net.specs.Shape.{fed, gate_inputs, net_limit, IsAdded, MayTake}
+use Rattle.nor_net.specs.Shape.{fed, IsAdded, MayTake}
 use Rattle.rtl_form.specs.declared.rtl.Transfer.{Transfer}
 use Rattle.control_nor.specs.declared.rails.Rails.{Rails}
-use Rattle.control_nor.specs.Adding.{AddsGates, HasRoom, IsCounted, IsGate}
-use Rattle.control_nor.specs.Cells.{AreTerms, GuardOf, IsNextMade, IsSourceMade, IsTerm}
-use Rattle.control_nor.specs.Rails.{AllBelow, Named}
-use Rattle.control_nor.proofs.Adding.{added_at, added_counted, added_keeps, added_three, added_two, counted_list, counted_on, gates_keep, gates_on, three_gates}
+use Rattle.control_nor.specs.Adding.{AddsGates, IsCounted}
+use Rattle.control_nor.specs.Cells.{GuardOf, IsNextMade, IsSourceMade, IsTerm}
+use Rattle.control_nor.specs.Rails.{AllBelow}
+use Rattle.control_nor.proofs.Adding.{added_at, added_keeps, added_two, counted_list, counted_on, gates_keep, gates_on, three_gates}
 use Rattle.control_nor.proofs.Zipping.{zip_length, zip_right}
 
 pub guards_below : (n : ℕ) (exprs : List (Option Rails)) → AllBelow n exprs → (ts : List Transfer) (ids : List NetId)
@@ -30,9 +29,11 @@ below_later m n ids l h k d inside = let b = h k d inside in omega (arith, b)
 pub source_gates : (exprs : List (Option Rails)) (ts : List Transfer) (slave reset source : NetId) (old new : List Part)
     → IsSourceMade exprs ts slave reset old new source → AddsGates old new
 source_gates exprs ts slave reset source old new h =
-    gates_on old h.middle new h.are_terms.adds
-    (Gate (h.guards ++ slave ∷ []) ∷ Gate (h.terms ++ h.hold ∷ []) ∷ Gate (h.off ∷ reset ∷ []) ∷ [], h.parts,
-    three_gates (h.guards ++ slave ∷ []) (h.terms ++ h.hold ∷ []) (h.off ∷ reset ∷ []))
+    gates_on old h.middle new h.are_terms.adds (
+      Gate (h.guards ++ slave ∷ []) ∷ Gate (h.terms ++ h.hold ∷ []) ∷ Gate (h.off ∷ reset ∷ []) ∷ [],
+      h.parts,
+      three_gates (h.guards ++ slave ∷ []) (h.terms ++ h.hold ∷ []) (h.off ∷ reset ∷ []),
+    )
 
 pub source_counted : (exprs : List (Option Rails)) (ts : List Transfer) (slave reset source : NetId) (old new : List Part)
     → IsSourceMade exprs ts slave reset old new source

@@ -1,21 +1,20 @@
 -- Values that added nets obey.
-use Rattle.std.proofs.Common.{◌≡◌, ℕ, zero, suc, ◌+◌, ◌-◌, ◌<◌, ◌≤◌, ◌⊎◌, inl, inr, List, [], ◌∷◌, ◌++◌, Option, Some, None, Bool, true, false, length, map, refl, sym, ◌∙◌, ap, subst, arith, cond}
-use Rattle.std.specs.Prelude.{All, not, ◌&&◌, ◌||◌, ◌==◌, nat_lt, slice_get}
-use Rattle.std.specs.List.{AllZip, list_all, list_any}
-use Rattle.std.proofs.lemmas.Option.{none-some, same_Some, slice_get_within}
+use Rattle.std.proofs.Common.{◌≡◌, ℕ, suc, ◌+◌, ◌<◌, ◌≤◌, List, [], ◌∷◌, Option, Some, None, Bool, true, false, length, map, refl, sym, ◌∙◌, ap, subst, arith}
+use Rattle.std.specs.Prelude.{All, not, ◌==◌, slice_get}
+use Rattle.std.specs.List.{AllZip}
 use Rattle.mp_base.specs.declared.value.Trit.{Trit}
 use Rattle.mp_base.specs.declared.value.Trit.TheVariants.{Zero, One, X}
 use Rattle.nor_net.specs.declared.net.NetId.{NetId}
 use Rattle.nor_net.specs.declared.net.Part.{Part}
-use Rattle.nor_net.specs.declared.net.Part.TheVariants.{Input, Gate, Latch}
-use Rattle.nor_net.specs.Elements.{Spot, spot, nets_of, part_element}
+use Rattle.nor_net.specs.declared.net.Part.TheVariants.{Input, Gate}
+use Rattle.nor_net.specs.Elements.{Spot, spot, part_element}
 use Rattle.nor_net.specs.Laws.{bit}
 use Rattle.nor_net.specs.Settled.{Obeys, nor_value}
 use Rattle.control_nor.specs.declared.rails.Rails.{Rails}
-use Rattle.control_nor.specs.Adding.{AddsLogic, IsEntryPair, IsExclusive, IsPair}
+use Rattle.control_nor.specs.Adding.{IsEntryPair, IsExclusive, IsPair}
 use Rattle.control_nor.specs.Lowering.{ObeysBehind}
-use Rattle.control_nor.specs.Rails.{Agree, BitOf, HasRails, Known, Named, NegationOf, swapped}
-use Rattle.control_nor.proofs.Adding.{get_at, logic_keep}
+use Rattle.control_nor.specs.Rails.{Agree, BitOf, HasRails, Known, NegationOf, swapped}
+use Rattle.control_nor.proofs.Adding.{get_at}
 
 -- values that obey more nets obey those of a part, where all stands as it stood
 pub obeys_less : (old new : List Part) (first later : ℕ) (v : Spot → Trit)

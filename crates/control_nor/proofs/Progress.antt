@@ -1,35 +1,30 @@
 -- Tasks, one after the other.
-use Rattle.std.proofs.Common.{◌≡◌, ℕ, zero, suc, ◌+◌, ◌-◌, ◌*◌, ◌<◌, ◌≤◌, ◌⊎◌, inl, inr, List, [], ◌∷◌, ◌++◌, Option, Some, None, Bool, true, false, length, refl, sym, ◌∙◌, ap, subst, arith, cond}
-use Rattle.std.specs.Prelude.{All, Contains, MatchBool, ◌&&◌, not, slice_get, slice_set, if◌then◌else◌}
-use Rattle.std.specs.List.{sum_by}
+use Rattle.std.proofs.Common.{◌≡◌, ℕ, ◌+◌, ◌≤◌, ◌⊎◌, inl, inr, List, Option, Some, None, Bool, true, false, length, refl, sym, ◌∙◌, ap, subst, arith}
+use Rattle.std.specs.Prelude.{MatchBool, ◌&&◌, not, slice_get, if◌then◌else◌}
 use Rattle.std.proofs.lemmas.Option.{none-some, same_Some, slice_get_within, slice_get-get_or}
 use Rattle.std.proofs.lemmas.List.{length-set}
 use Rattle.nor_net.specs.declared.net.Part.{Part}
 use Rattle.rtl_form.specs.declared.rtl.Cell as cells
-use Rattle.rtl_form.specs.declared.rtl.Transfer.{Transfer}
 use Rattle.rtl_form.specs.declared.rtl.RtlExpr.{RtlExpr}
-use Rattle.rtl_form.specs.declared.rtl.RtlExpr.TheVariants as exprs
 use Rattle.rtl_form.specs.declared.rtl.Rtl.{Rtl}
 use Rattle.rtl_form.specs.Entries.{IsAt}
 use Rattle.rtl_form.specs.Environment.{is_driven}
-use Rattle.rtl_form.specs.Operands.{takes_words, gives_word}
-use Rattle.rtl_form.specs.Sound.{HasSort, IsSort, IsSound}
-use Rattle.rtl_form.proofs.Members.{by_test, one_entry, some_entry}
+use Rattle.rtl_form.proofs.Members.{one_entry}
 use Rattle.control_nor.specs.declared.names.Task.{Task}
 use Rattle.control_nor.specs.declared.names.Task.TheVariants.{Expr, Cell}
 use Rattle.control_nor.specs.declared.rails.Rails.{Rails}
 use Rattle.control_nor.specs.declared.rails.Bits.{Bits}
-use Rattle.control_nor.specs.Adding.{AddsLogic, HasRoom}
-use Rattle.control_nor.specs.Cells.{IsDrivenMade, IsTransferNamed, transfers_to}
-use Rattle.control_nor.specs.Exprs.{IsExprMade, IsExprReady}
+use Rattle.control_nor.specs.Adding.{AddsLogic}
+use Rattle.control_nor.specs.Cells.{IsDrivenMade, transfers_to}
+use Rattle.control_nor.specs.Exprs.{IsExprMade}
 use Rattle.control_nor.specs.Lowering.{IsEntry}
-use Rattle.control_nor.specs.Progress.{IsBegun, IsBitTask, IsProgress, IsSpent, NamedTask, cost_left, driven_cost, driven_count, entries_left, left_by, waits}
-use Rattle.control_nor.specs.Rails.{AllBelow, AreBelow, IsNamed, Named}
-use Rattle.control_nor.specs.Schedule.{IsSchedule, IsTask, TaskReads}
+use Rattle.control_nor.specs.Progress.{IsSpent, NamedTask, driven_cost, driven_count}
+use Rattle.control_nor.specs.Rails.{AllBelow, AreBelow}
+use Rattle.control_nor.specs.Schedule.{IsTask}
 use Rattle.control_nor.specs.Size.{IsWithinCost, bit_expr_cost, entry_count}
-use Rattle.control_nor.specs.Tasks.{IsCellMade, IsTaskDone, IsTaskMade, IsTaskReady, entry_of, with_entry}
-use Rattle.control_nor.proofs.Adding.{logic_none, logic_on, logic_longer}
-use Rattle.control_nor.proofs.Left.{get_set_other, get_set_same, left_least, left_some, nat_cases, set_there, waits_fall}
+use Rattle.control_nor.specs.Tasks.{IsTaskMade, entry_of, with_entry}
+use Rattle.control_nor.proofs.Adding.{logic_none}
+use Rattle.control_nor.proofs.Left.{get_set_other, get_set_same, left_some, nat_cases, set_there, waits_fall}
 use Rattle.control_nor.proofs.Made.{AreAdded, driven_added, expr_added, nothing_added}
 
 pub at_get : {X : Type 0} (xs : List X) (k : ℕ) (x : X) → IsAt xs k x → slice_get xs k ≡ Some x
@@ -69,8 +64,11 @@ pub named_after : (bits : Bits) (o : Option Rails) (task y : Task) (rails : Rail
     → NamedTask (with_entry bits task o) y rails → ((y ≡ task) × (o ≡ Some rails)) ⊎ NamedTask bits y rails
 named_after bits o task y rails was h =
     elim (task_cases y task) [
-      | inl e ↦ inl (e, same_Some o (Some rails) (sym (entry_same bits o task None was)
-          ∙ (ap (entry_of (with_entry bits task o)) (sym e) ∙ h)))
+      | inl e ↦ inl (
+        e,
+        same_Some o (Some rails) (sym (entry_same bits o task None was)
+            ∙ (ap (entry_of (with_entry bits task o)) (sym e) ∙ h)),
+      )
       | inr ne ↦ inr (sym (entry_other bits o task y ne) ∙ h)
     ]
 

@@ -1,10 +1,9 @@
 -- Tasks of a schedule, done in its order.
-use Rattle.std.proofs.Common.{◌≡◌, ℕ, zero, suc, ◌+◌, ◌-◌, ◌*◌, ◌<◌, ◌≤◌, ◌⊎◌, inl, inr, List, [], ◌∷◌, ◌++◌, Option, Some, None, Bool, true, false, length, refl, sym, ◌∙◌, ap, subst, arith, cond, eqb}
-use Rattle.std.specs.Prelude.{All, Contains, MatchBool, ◌&&◌, not, if◌then◌else◌, slice_get, slice_set, slice_index_or}
-use Rattle.std.specs.List.{filter, sum_by}
+use Rattle.std.proofs.Common.{◌≡◌, ℕ, ◌+◌, ◌<◌, ◌≤◌, ◌⊎◌, inl, inr, List, Option, Some, None, Bool, true, false, length, refl, sym, ◌∙◌, ap, subst, arith, eqb}
+use Rattle.std.specs.Prelude.{All, Contains, MatchBool, ◌&&◌, not, if◌then◌else◌, slice_get, slice_index_or}
 use Rattle.std.proofs.lemmas.Bool.{eqb-true}
 use Rattle.std.proofs.lemmas.List.Elements.{All-filter, Contains-get_or, filter_passes}
-use Rattle.std.proofs.lemmas.Option.{none-some, same_Some, slice_get_within}
+use Rattle.std.proofs.lemmas.Option.{none-some, same_Some}
 use Rattle.nor_net.specs.declared.net.Part.{Part}
 use Rattle.rtl_form.specs.declared.rtl.Cell as cells
 use Rattle.rtl_form.specs.declared.rtl.Transfer.{Transfer}
@@ -13,21 +12,20 @@ use Rattle.rtl_form.specs.declared.rtl.RtlExpr.TheVariants as exprs
 use Rattle.rtl_form.specs.declared.rtl.Rtl.{Rtl}
 use Rattle.rtl_form.specs.Entries.{IsAt}
 use Rattle.rtl_form.specs.Environment.{is_driven}
-use Rattle.rtl_form.specs.Operands.{takes_words, gives_word}
 use Rattle.rtl_form.specs.Sound.{ExprFits, HasSort, IsSort, IsSound}
 use Rattle.rtl_form.proofs.Members.{by_test, one_entry, some_entry}
 use Rattle.control_nor.specs.declared.names.Task.{Task}
 use Rattle.control_nor.specs.declared.names.Task.TheVariants.{Expr, Cell}
 use Rattle.control_nor.specs.declared.rails.Rails.{Rails}
 use Rattle.control_nor.specs.declared.rails.Bits.{Bits}
-use Rattle.control_nor.specs.Adding.{AddsLogic, HasRoom}
+use Rattle.control_nor.specs.Adding.{HasRoom}
 use Rattle.control_nor.specs.Cells.{IsDrivenMade, IsTransferNamed, transfers_to}
 use Rattle.control_nor.specs.Exprs.{IsExprMade, IsExprReady}
-use Rattle.control_nor.specs.Progress.{IsBegun, IsBitTask, IsProgress, IsSpent, NamedTask, cost_left, driven_cost, driven_count, entries_left, left_by, waits}
-use Rattle.control_nor.specs.Rails.{AllBelow, AreBelow, IsNamed, Named}
+use Rattle.control_nor.specs.Progress.{IsBegun, IsBitTask, IsProgress, NamedTask, cost_left, driven_cost, driven_count}
+use Rattle.control_nor.specs.Rails.{AreBelow, IsNamed}
 use Rattle.control_nor.specs.Schedule.{IsSchedule, IsTask, TaskReads}
-use Rattle.control_nor.specs.Size.{IsWithinCost, bit_expr_cost, entry_count}
-use Rattle.control_nor.specs.Tasks.{IsCellMade, IsTaskDone, IsTaskMade, IsTaskReady, entry_of, with_entry}
+use Rattle.control_nor.specs.Size.{IsWithinCost, bit_expr_cost}
+use Rattle.control_nor.specs.Tasks.{IsTaskDone, IsTaskMade, IsTaskReady, entry_of, with_entry}
 use Rattle.control_nor.proofs.Adding.{logic_none, logic_on, logic_longer}
 use Rattle.control_nor.proofs.Left.{left_least, waits_fall}
 use Rattle.control_nor.proofs.Progress.{IsStep, at_get, cells_after, entry_other, entry_same, exprs_after, named_after, names_stay, task_step}
@@ -90,11 +88,14 @@ module _ (r : Rtl) (sound : IsSound r) (tasks : List Task) (schedule : IsSchedul
         by_expr (exprs.Number n) fits reads = tt
         by_expr (exprs.Truth b) fits reads = tt
         by_expr (exprs.Cell c) fits reads = let n = progress.cell_count in omega (arith, n, fits)
-        by_expr (exprs.Apply op index args) fits reads = (fits.0, λ bits. λ k d l.
-            let a = slice_index_or args k d in
-            let inside : Contains args a = Contains-get_or args k d l in
-            let f = fits.2 a inside in
-            read_done (Expr a) (reads (Expr a) inside) f.1.1.0 (subst (HasSort r a) bits f.1))
+        by_expr (exprs.Apply op index args) fits reads = (
+          fits.0,
+          λ bits. λ k d l.
+              let a = slice_index_or args k d in
+              let inside : Contains args a = Contains-get_or args k d l in
+              let f = fits.2 a inside in
+              read_done (Expr a) (reads (Expr a) inside) f.1.1.0 (subst (HasSort r a) bits f.1),
+        )
 
     transfer_named : (c : ℕ) → task ≡ Cell c → (x : cells.Cell) → IsAt r.cells c x → x.word ≡ false → (t : Transfer)
         → Contains r.transfers t → t.target ≡ c → IsTransferNamed after.exprs t
@@ -102,9 +103,10 @@ module _ (r : Rtl) (sound : IsSound r) (tasks : List Task) (schedule : IsSchedul
         let f = sound.transfers t inside in
         let here = one_entry r.cells c f.1.0 x (subst (λ n. IsAt r.cells n f.1.0) to f.1.1) at in
         let value : HasSort r t.value false =
-        subst (HasSort r t.value) (ap (λ (x : cells.Cell). x.word) here ∙ bit) f.1.2 in
-        (read_done (Expr t.guard) (subst (λ k. TaskReads r k (Expr t.guard)) (sym same) (t, inside, to, inl refl)) f.0.1.0 f.0,
-        read_done (Expr t.value) (subst (λ k. TaskReads r k (Expr t.value)) (sym same) (t, inside, to, inr refl)) value.1.0 value)
+        subst (HasSort r t.value) (ap (λ (x : cells.Cell). x.word) here ∙ bit) f.1.2 in (
+          read_done (Expr t.guard) (subst (λ k. TaskReads r k (Expr t.guard)) (sym same) (t, inside, to, inl refl)) f.0.1.0 f.0,
+          read_done (Expr t.value) (subst (λ k. TaskReads r k (Expr t.value)) (sym same) (t, inside, to, inr refl)) value.1.0 value,
+        )
 
     transfers_named : (c : ℕ) → task ≡ Cell c → (x : cells.Cell) → IsAt r.cells c x → x.word ≡ false
         → All (IsTransferNamed after.exprs) (transfers_to r.transfers c)
@@ -246,9 +248,11 @@ module _ (r : Rtl) (sound : IsSound r) (tasks : List Task) (schedule : IsSchedul
               → (rails : Rails) × NamedTask next y rails
           by_done s y at bit (inl e) l =
               let same : task ≡ y = same_Some task y (sym is ∙ (ap (slice_get tasks) (sym e) ∙ at)) in
-              let m = made_named (subst (IsBitTask r) (sym same) bit) in
-              (m.0, subst (λ k. entry_of next k ≡ Some (Some m.0)) same
-              (entry_same after made.entry task None was ∙ ap Some m.1))
+              let m = made_named (subst (IsBitTask r) (sym same) bit) in (
+                m.0,
+                subst (λ k. entry_of next k ≡ Some (Some m.0)) same
+                    (entry_same after made.entry task None was ∙ ap Some m.1),
+              )
           by_done s y at bit (inr ne) l =
               let d = progress.done s y (omega arith) at bit in
               (d.0, names_stay after made.entry task y d.0 was d.1)

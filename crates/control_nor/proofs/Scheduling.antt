@@ -1,5 +1,5 @@
 -- Tasks in the order of their moments.
-use Rattle.std.proofs.Common.{◌≡◌, ℕ, zero, suc, ◌+◌, ◌-◌, ◌*◌, ◌<◌, ◌≤◌, ◌⊎◌, inl, inr, List, [], ◌∷◌, ◌++◌, Option, Some, None, Bool, true, false, length, map, take, get_or, refl, sym, ◌∙◌, ap, subst, arith, eqb}
+use Rattle.std.proofs.Common.{◌≡◌, ℕ, zero, suc, ◌+◌, ◌-◌, ◌*◌, ◌<◌, ◌≤◌, ◌⊎◌, inl, inr, List, [], ◌∷◌, Option, Some, None, Bool, false, length, map, get_or, refl, sym, ◌∙◌, ap, subst, arith, eqb}
 use Rattle.std.specs.Prelude.{All, Contains, slice_get, slice_index}
 use Rattle.std.specs.List.{IsDistinct, AllByRecursion}
 use Rattle.std.specs.List.Sorted.{IsNonDecreasingBy, IsPermutation}
@@ -9,22 +9,19 @@ use Rattle.std.proofs.lemmas.List.Sorted.{All-permutation, Contains-permutation}
 use Rattle.std.proofs.lemmas.Map.Keys.{IsDistinct-IsPermutation}
 use Rattle.std.proofs.lemmas.Option.{get_or_from_slice_get, none-some, same_Some, slice_get-get_or, slice_get-map, slice_get_within}
 use Rattle.std.proofs.Math.Nat.{mul-le-mul_right}
-use Rattle.rtl_form.specs.declared.rtl.Cell as cells
 use Rattle.rtl_form.specs.declared.rtl.Transfer.{Transfer}
 use Rattle.rtl_form.specs.declared.rtl.RtlExpr.{RtlExpr}
 use Rattle.rtl_form.specs.declared.rtl.RtlExpr.TheVariants as exprs
 use Rattle.rtl_form.specs.declared.rtl.Rtl.{Rtl}
 use Rattle.rtl_form.specs.Entries.{IsAt}
-use Rattle.rtl_form.specs.Environment.{is_driven}
 use Rattle.rtl_form.specs.Sound.{IsSound, ReadsCell}
-use Rattle.rtl_form.proofs.Members.{one_entry}
 use Rattle.control_nor.specs.declared.names.Task.{Task}
 use Rattle.control_nor.specs.declared.names.Task.TheVariants.{Expr, Cell}
 use Rattle.control_nor.specs.declared.schedule.Entry.{Entry}
 use Rattle.control_nor.specs.Schedule.{ExprReads, IsSchedule, IsTask, TaskReads}
-use Rattle.control_nor.specs.Turns.{AreCellTurns, AreEntries, AreExprTurns, IsExprTurn, cell_moment, expr_moment}
+use Rattle.control_nor.specs.Turns.{AreCellTurns, AreEntries, AreExprTurns, cell_moment, expr_moment}
 use Rattle.control_nor.proofs.Left.{nat_cases}
-use Rattle.control_nor.proofs.Turns.{tight, turn_small}
+use Rattle.control_nor.proofs.Turns.{tight}
 
 -- ---- numbers of two digits
 
@@ -41,10 +38,10 @@ digits_differ : (a b i j s : ℕ) → i < s → j < s → (a ≡ b → i ≡ j �
 digits_differ a b i j s l m ne e = elim (cases_lt a b) [
   | inl q ↦ let h = next_turn a b i j s q l in omega (arith, h, e)
   | inr q ↦ elim (cases_lt b a) [
-      | inl p ↦ let h = next_turn b a j i s p m in omega (arith, h, e)
-      | inr p ↦ let same : a ≡ b = omega (arith, p, q) in
-          ne same (let h = ap (λ n. n * s) same in omega (arith, h, e))
-    ]
+    | inl p ↦ let h = next_turn b a j i s p m in omega (arith, h, e)
+    | inr p ↦ let same : a ≡ b = omega (arith, p, q) in
+        ne same (let h = ap (λ n. n * s) same in omega (arith, h, e))
+  ]
 ]
 
 -- ---- elements that differ
@@ -57,10 +54,11 @@ distinct_from : (xs : List Entry)
     → IsDistinct same_moment xs
 unfolding IsDistinct
 distinct_from [] h = tt
-distinct_from (x ∷ xs) h =
-    (recursion_from_All (λ y. same_moment x y ≡ false) xs (λ k d l. ne_eqb x.moment (get_or xs k d).moment
-    (h 0 (suc k) x (get_or xs k d) (omega arith) refl (slice_get-get_or xs k d l))),
-    distinct_from xs (λ i j x y l. h (suc i) (suc j) x y (omega arith)))
+distinct_from (x ∷ xs) h = (
+  recursion_from_All (λ y. same_moment x y ≡ false) xs (λ k d l. ne_eqb x.moment (get_or xs k d).moment
+      (h 0 (suc k) x (get_or xs k d) (omega arith) refl (slice_get-get_or xs k d l))),
+  distinct_from xs (λ i j x y l. h (suc i) (suc j) x y (omega arith)),
+)
 
 distinct_at : (xs : List Entry) → IsDistinct same_moment xs → (i j : ℕ) (x y : Entry) → i < j → slice_get xs i ≡ Some x
     → slice_get xs j ≡ Some y → x.moment ≡ y.moment → ⊥
@@ -99,8 +97,13 @@ module _ (r : Rtl) (sound : IsSound r) (cells turns : List ℕ) (cell_turns : Ar
     | inr l ↦ let w = slice_get_within es k y e in let n = are.count in
         let p : k - length r.exprs < length r.order = omega (arith, w, n, l) in
         let at : k ≡ length r.exprs + (k - length r.exprs) = omega (arith, l) in
-        inr (k - length r.exprs, p, at, same_Some y (cell_entry (k - length r.exprs))
-        (sym e ∙ (ap (slice_get es) at ∙ are.cells (k - length r.exprs) p)))
+        inr (
+          k - length r.exprs,
+          p,
+          at,
+          same_Some y (cell_entry (k - length r.exprs))
+              (sym e ∙ (ap (slice_get es) at ∙ are.cells (k - length r.exprs) p)),
+        )
   ]
 
   own_es : All IsOwn es
@@ -116,19 +119,19 @@ module _ (r : Rtl) (sound : IsSound r) (cells turns : List ℕ) (cell_turns : Ar
   differ : (i j : ℕ) (x y : Entry) → i < j → slice_get es i ≡ Some x → slice_get es j ≡ Some y → x.moment ≡ y.moment → ⊥
   differ i j x y l p q e = elim (entry_at i x p) [
     | inl a ↦ elim (entry_at j y q) [
-        | inl b ↦ digits_differ (slice_index turns i) (slice_index turns j) i j (suc (length r.exprs)) (let m = a.0 in omega (arith, m))
-            (let m = b.0 in omega (arith, m)) (λ s t. absurd (omega (arith, t, l)))
-            (sym (ap (λ (z : Entry). z.moment) a.1) ∙ (e ∙ ap (λ (z : Entry). z.moment) b.1))
-        | inr b ↦ digits_differ (slice_index turns i) b.0 i (length r.exprs) (suc (length r.exprs)) (let m = a.0 in omega (arith, m))
-            (omega arith) (λ s t. let m = a.0 in absurd (omega (arith, t, m)))
-            (sym (ap (λ (z : Entry). z.moment) a.1) ∙ (e ∙ ap (λ (z : Entry). z.moment) b.3))
-      ]
+      | inl b ↦ digits_differ (slice_index turns i) (slice_index turns j) i j (suc (length r.exprs)) (let m = a.0 in omega (arith, m))
+          (let m = b.0 in omega (arith, m)) (λ s t. absurd (omega (arith, t, l)))
+          (sym (ap (λ (z : Entry). z.moment) a.1) ∙ (e ∙ ap (λ (z : Entry). z.moment) b.1))
+      | inr b ↦ digits_differ (slice_index turns i) b.0 i (length r.exprs) (suc (length r.exprs)) (let m = a.0 in omega (arith, m))
+          (omega arith) (λ s t. let m = a.0 in absurd (omega (arith, t, m)))
+          (sym (ap (λ (z : Entry). z.moment) a.1) ∙ (e ∙ ap (λ (z : Entry). z.moment) b.3))
+    ]
     | inr a ↦ elim (entry_at j y q) [
-        | inl b ↦ let m = b.0 in let n = a.2 in absurd (omega (arith, m, n, l))
-        | inr b ↦ digits_differ a.0 b.0 (length r.exprs) (length r.exprs) (suc (length r.exprs)) (omega arith) (omega arith)
-            (λ s t. let m = a.2 in let n = b.2 in absurd (omega (arith, m, n, l, s)))
-            (sym (ap (λ (z : Entry). z.moment) a.3) ∙ (e ∙ ap (λ (z : Entry). z.moment) b.3))
-      ]
+      | inl b ↦ let m = b.0 in let n = a.2 in absurd (omega (arith, m, n, l))
+      | inr b ↦ digits_differ a.0 b.0 (length r.exprs) (length r.exprs) (suc (length r.exprs)) (omega arith) (omega arith)
+          (λ s t. let m = a.2 in let n = b.2 in absurd (omega (arith, m, n, l, s)))
+          (sym (ap (λ (z : Entry). z.moment) a.3) ∙ (e ∙ ap (λ (z : Entry). z.moment) b.3))
+    ]
   ]
 
   apart : IsDistinct same_moment ys
@@ -164,9 +167,9 @@ module _ (r : Rtl) (sound : IsSound r) (cells turns : List ℕ) (cell_turns : Ar
   one_place p q l m e = elim (nat_cases p q) [
     | inl same ↦ same
     | inr ne ↦ elim (cases_lt p q) [
-        | inl s ↦ absurd (sound.order.once p q s m e)
-        | inr s ↦ absurd (sound.order.once q p (omega (arith, s, ne)) l (sym e))
-      ]
+      | inl s ↦ absurd (sound.order.once p q s m e)
+      | inr s ↦ absurd (sound.order.once q p (omega (arith, s, ne)) l (sym e))
+    ]
   ]
 
   -- the entry of a task that there is
@@ -180,16 +183,16 @@ module _ (r : Rtl) (sound : IsSound r) (cells turns : List ℕ) (cell_turns : Ar
   same_task : (y z : Entry) → IsOwn y → IsOwn z → y.task ≡ z.task → y.moment ≡ z.moment
   same_task y z a b e = elim a [
     | inl p ↦ elim b [
-        | inl q ↦ let same : p.0 ≡ q.0 = cc (sym (ap (λ (z : Entry). z.task) p.2) ∙ (e ∙ ap (λ (z : Entry). z.task) q.2)) in
-            ap (λ (z : Entry). z.moment) p.2 ∙ (ap (expr_moment r turns) same ∙ sym (ap (λ (z : Entry). z.moment) q.2))
-        | inr q ↦ absurd (cc (sym (ap (λ (z : Entry). z.task) p.2) ∙ (e ∙ ap (λ (z : Entry). z.task) q.2)))
-      ]
+      | inl q ↦ let same : p.0 ≡ q.0 = cc (sym (ap (λ (z : Entry). z.task) p.2) ∙ (e ∙ ap (λ (z : Entry). z.task) q.2)) in
+          ap (λ (z : Entry). z.moment) p.2 ∙ (ap (expr_moment r turns) same ∙ sym (ap (λ (z : Entry). z.moment) q.2))
+      | inr q ↦ absurd (cc (sym (ap (λ (z : Entry). z.task) p.2) ∙ (e ∙ ap (λ (z : Entry). z.task) q.2)))
+    ]
     | inr p ↦ elim b [
-        | inl q ↦ absurd (cc (sym (ap (λ (z : Entry). z.task) p.2) ∙ (e ∙ ap (λ (z : Entry). z.task) q.2)))
-        | inr q ↦ let same : slice_index r.order p.0 ≡ slice_index r.order q.0 =
-            cc (sym (ap (λ (z : Entry). z.task) p.2) ∙ (e ∙ ap (λ (z : Entry). z.task) q.2)) in
-            ap (λ (z : Entry). z.moment) p.2 ∙ (ap (cell_moment r) (one_place p.0 q.0 p.1 q.1 same) ∙ sym (ap (λ (z : Entry). z.moment) q.2))
-      ]
+      | inl q ↦ absurd (cc (sym (ap (λ (z : Entry). z.task) p.2) ∙ (e ∙ ap (λ (z : Entry). z.task) q.2)))
+      | inr q ↦ let same : slice_index r.order p.0 ≡ slice_index r.order q.0 =
+          cc (sym (ap (λ (z : Entry). z.task) p.2) ∙ (e ∙ ap (λ (z : Entry). z.task) q.2)) in
+          ap (λ (z : Entry). z.moment) p.2 ∙ (ap (cell_moment r) (one_place p.0 q.0 p.1 q.1 same) ∙ sym (ap (λ (z : Entry). z.moment) q.2))
+    ]
   ]
 
   -- what a task reads comes at an earlier moment
@@ -249,18 +252,18 @@ module _ (r : Rtl) (sound : IsSound r) (cells turns : List ℕ) (cell_turns : Ar
   before (Cell c) (Expr e) h w z own_w is_w own_z is_z = elim own_w [
     | inl q ↦ absurd (cc (sym (ap (λ (z : Entry). z.task) q.2) ∙ is_w))
     | inr q ↦ elim own_z [
-        | inr k ↦ absurd (cc (sym (ap (λ (z : Entry). z.task) k.2) ∙ is_z))
-        | inl k ↦
-            let place : slice_index r.order q.0 ≡ c = cc (sym (ap (λ (z : Entry). z.task) q.2) ∙ is_w) in
-            let same : k.0 ≡ e = cc (sym (ap (λ (z : Entry). z.task) k.2) ∙ is_z) in
-            let small = k.1 in
-            let t = turn_of q.0 h.0 k.0 q.1 h.1 (h.2 ∙ sym place)
-            (elim h.3 [ inl g ↦ inl (g ∙ sym same) | inr g ↦ inr (g ∙ sym same) ]) small in
-            let m = ap (λ (z : Entry). z.moment) q.2 in
-            let n = ap (λ (z : Entry). z.moment) k.2 in
-            let l = same_turn (slice_index turns k.0) q.0 k.0 (length r.exprs) (suc (length r.exprs)) t small in
-            omega (arith, m, n, l)
-      ]
+      | inr k ↦ absurd (cc (sym (ap (λ (z : Entry). z.task) k.2) ∙ is_z))
+      | inl k ↦
+          let place : slice_index r.order q.0 ≡ c = cc (sym (ap (λ (z : Entry). z.task) q.2) ∙ is_w) in
+          let same : k.0 ≡ e = cc (sym (ap (λ (z : Entry). z.task) k.2) ∙ is_z) in
+          let small = k.1 in
+          let t = turn_of q.0 h.0 k.0 q.1 h.1 (h.2 ∙ sym place)
+          (elim h.3 [ inl g ↦ inl (g ∙ sym same) | inr g ↦ inr (g ∙ sym same) ]) small in
+          let m = ap (λ (z : Entry). z.moment) q.2 in
+          let n = ap (λ (z : Entry). z.moment) k.2 in
+          let l = same_turn (slice_index turns k.0) q.0 k.0 (length r.exprs) (suc (length r.exprs)) t small in
+          omega (arith, m, n, l)
+    ]
   ]
 
   pub is_schedule : IsSchedule r tasks
@@ -275,9 +278,9 @@ module _ (r : Rtl) (sound : IsSound r) (cells turns : List ℕ) (cell_turns : Ar
         elim (nat_cases s t) [
           | inl e ↦ e
           | inr ne ↦ elim (cases_lt s t) [
-              | inl l ↦ absurd (distinct_at ys apart s t f.0 g.0 l f.1 g.1 same)
-              | inr l ↦ absurd (distinct_at ys apart t s g.0 f.0 (omega (arith, l, ne)) g.1 f.1 (sym same))
-            ]
+            | inl l ↦ absurd (distinct_at ys apart s t f.0 g.0 l f.1 g.1 same)
+            | inr l ↦ absurd (distinct_at ys apart t s g.0 f.0 (omega (arith, l, ne)) g.1 f.1 (sym same))
+          ]
         ];
     after = λ t x y h reads there. let f = entry_of t x h in let g = its_entry y there in
         let m = before x y reads f.0 g.1 (own t f.0 f.1) f.2 (own g.0 g.1 g.2) g.3 in

@@ -1,9 +1,9 @@
 -- Stored bits and their next values.
-use Rattle.std.proofs.Common.{◌≡◌, ℕ, zero, suc, ◌+◌, ◌-◌, ◌*◌, ◌<◌, ◌≤◌, ◌⊎◌, inl, inr, List, [], ◌∷◌, ◌++◌, Option, Some, None, Bool, true, false, length, map, refl, sym, ◌∙◌, ap, subst, arith, cond, length-append}
-use Rattle.std.specs.Prelude.{All, not, ◌&&◌, ◌||◌, ◌==◌, slice_get, slice_set}
+use Rattle.std.proofs.Common.{◌≡◌, ℕ, suc, ◌+◌, ◌<◌, ◌≤◌, inl, inr, List, [], ◌∷◌, ◌++◌, Option, Some, None, Bool, true, false, length, map, refl, sym, ◌∙◌, ap, subst, arith, cond, length-append}
+use Rattle.std.specs.Prelude.{not, ◌&&◌, ◌||◌, slice_get}
 use Rattle.std.specs.List.{AllZip, list_all, list_any}
 use Rattle.std.proofs.lemmas.List.{length-set}
-use Rattle.std.proofs.lemmas.Option.{none-some, same_Some, slice_get_within}
+use Rattle.std.proofs.lemmas.Option.{same_Some, slice_get_within}
 use Rattle.mp_base.specs.declared.value.Trit.{Trit}
 use Rattle.mp_base.specs.declared.value.Trit.TheVariants.{Zero, One, X}
 use Rattle.nor_net.specs.Elements.{Spot, spot, part_element}
@@ -19,12 +19,12 @@ use Rattle.nor_net.proofs.Values.{nor_bits}
 use Rattle.rtl_form.specs.declared.rtl.Transfer.{Transfer}
 use Rattle.rtl_form.specs.declared.rtl.Rtl.{Rtl}
 use Rattle.control_nor.specs.declared.rails.Rails.{Rails}
-use Rattle.control_nor.specs.Cells.{AreTerms, GuardOf, IsNextMade, IsSourceMade, IsTerm}
+use Rattle.control_nor.specs.Cells.{GuardOf, IsNextMade, IsSourceMade}
 use Rattle.control_nor.specs.Lowering.{ObeysBehind}
 use Rattle.control_nor.specs.Meaning.{is_active}
 use Rattle.control_nor.specs.NextValues.{AreKnown, IsStoring, is_guarded, next_of}
-use Rattle.control_nor.specs.Rails.{HasRails, Known, Named}
-use Rattle.control_nor.proofs.Adding.{gates_keep, gates_longer, get_at, get_first, get_kept}
+use Rattle.control_nor.specs.Rails.{HasRails}
+use Rattle.control_nor.proofs.Adding.{gates_keep, gates_longer, get_at, get_kept}
 use Rattle.control_nor.proofs.Left.{get_set_other, get_set_same}
 use Rattle.control_nor.proofs.Meaning.{terms_known}
 use Rattle.control_nor.proofs.Next.{source_gates}

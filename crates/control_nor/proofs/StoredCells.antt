@@ -1,14 +1,12 @@
 -- The next values of all stored bits, cell by cell.
-use Rattle.std.proofs.Common.{◌≡◌, ℕ, zero, suc, ◌+◌, ◌-◌, ◌*◌, ◌<◌, ◌≤◌, ◌⊎◌, inl, inr, List, [], ◌∷◌, ◌++◌, Option, Some, None, Bool, true, false, length, map, take, drop, get_or, refl, sym, ◌∙◌, ap, subst, arith, cond, eqb, length-append, append_assoc}
-use Rattle.std.specs.Prelude.{All, MatchBool, not, ◌&&◌, nat_le, if◌then◌else◌, slice_get, slice_set}
-use Rattle.std.specs.List.{sum_by, filter}
+use Rattle.std.proofs.Common.{◌≡◌, ℕ, zero, suc, ◌+◌, ◌-◌, ◌*◌, ◌<◌, ◌≤◌, ◌⊎◌, inl, inr, List, [], ◌∷◌, ◌++◌, Option, Some, None, Bool, true, false, length, drop, refl, sym, ◌∙◌, ap, subst, arith, eqb, append_assoc}
+use Rattle.std.specs.Prelude.{All, MatchBool, nat_le, if◌then◌else◌, slice_get, slice_set}
+use Rattle.std.specs.List.{sum_by}
 use Rattle.std.proofs.lemmas.Bool.{cases_lt, eq-eqb, ne_eqb}
-use Rattle.std.proofs.lemmas.List.{length-set}
 use Rattle.std.proofs.lemmas.List.Sums.{sum_by-cons, sum_by-set}
 use Rattle.std.proofs.lemmas.Option.{none-some, same_Some, slice_get_within, get_or_from_slice_get}
 use Rattle.nor_net.specs.Shape.{Fed, fan_in, gate_inputs}
 use Rattle.nor_net.specs.declared.net.NetId.{NetId}
-use Rattle.nor_net.specs.declared.net.Phase.{Phase}
 use Rattle.nor_net.specs.declared.net.Phase.TheVariants.{A, B}
 use Rattle.nor_net.specs.declared.net.Part.{Part}
 use Rattle.nor_net.specs.declared.net.Part.TheVariants.{Input, Gate, Latch}
@@ -16,19 +14,17 @@ use Rattle.rtl_form.specs.declared.rtl.Cell as cells
 use Rattle.rtl_form.specs.declared.rtl.Transfer.{Transfer}
 use Rattle.rtl_form.specs.declared.rtl.Rtl.{Rtl}
 use Rattle.rtl_form.specs.Entries.{IsAt}
-use Rattle.rtl_form.proofs.Members.{by_test, one_entry}
+use Rattle.rtl_form.proofs.Members.{one_entry}
 use Rattle.control_nor.specs.declared.rails.Rails.{Rails}
 use Rattle.control_nor.specs.declared.rails.Bits.{Bits}
 use Rattle.control_nor.specs.Adding.{HasRoom, IsCounted}
 use Rattle.control_nor.specs.Cells.{IsNextMade, transfers_to}
-use Rattle.control_nor.specs.Lowering.{ObeysBehind}
-use Rattle.control_nor.specs.NextValues.{AreStored, AreWaiting, IsNextCellMade, IsStoring, SlavesBehind, is_stored_bit, next_cost, next_left, stored_count, stored_from}
+use Rattle.control_nor.specs.NextValues.{AreStored, AreWaiting, IsNextCellMade, IsStoring, is_stored_bit, next_cost, next_left, stored_count, stored_from}
 use Rattle.control_nor.specs.Rails.{Named}
 use Rattle.control_nor.specs.Size.{IsWithinCost, active_count}
-use Rattle.control_nor.proofs.Adding.{counted_list, counted_on, gates_keep, get_at, get_kept}
+use Rattle.control_nor.proofs.Adding.{counted_list, counted_on, get_kept}
 use Rattle.control_nor.proofs.FirstSteps.{in_more, get_front}
 use Rattle.control_nor.proofs.Left.{nat_cases, one_if, sum_split}
-use Rattle.control_nor.proofs.Made.{gates_enter_nothing}
 use Rattle.control_nor.proofs.Next.{source_counted, source_gates}
 use Rattle.control_nor.proofs.Progress.{at_get}
 use Rattle.control_nor.proofs.StoredBits.{elsewhere, grown_length, never_fed, new_length, obeys_kept, slave_below, slave_fed, stays, storing}
@@ -62,10 +58,11 @@ later_test i t ne = elim (cases_lt t i) [
 
 module _ (xs : List cells.Cell) (i : ℕ) (x : cells.Cell) (is : slice_get xs i ≡ Some x) where
   at_start : (t : Transfer) → t.target ≡ i → (stored_from xs i t ≡ stored_count (Some x)) × (stored_from xs (i + 1) t ≡ 0)
-  at_start t e =
-      (ap (λ b. if b then stored_count (slice_get xs t.target) else 0) (le_test i t.target (omega (arith, e)))
-      ∙ (ap (λ n. stored_count (slice_get xs n)) e ∙ ap stored_count is),
-      ap (λ b. if b then stored_count (slice_get xs t.target) else 0) (lt_test (i + 1) t.target (omega (arith, e))))
+  at_start t e = (
+    ap (λ b. if b then stored_count (slice_get xs t.target) else 0) (le_test i t.target (omega (arith, e)))
+        ∙ (ap (λ n. stored_count (slice_get xs n)) e ∙ ap stored_count is),
+    ap (λ b. if b then stored_count (slice_get xs t.target) else 0) (lt_test (i + 1) t.target (omega (arith, e))),
+  )
 
   not_start : (t : Transfer) → (t.target ≡ i → ⊥) → stored_from xs i t ≡ stored_from xs (i + 1) t
   not_start t ne = ap (λ b. if b then stored_count (slice_get xs t.target) else 0) (later_test i t.target ne)
@@ -248,11 +245,12 @@ module _ (r : Rtl) (exprs : List (Option Rails)) (ts : List Transfer) (rails : R
 
   next_behind : (before : List Part) → length before ≤ rails.negation.0 → (more : List Part) × (old ≡ before ++ more)
       → (more : List Part) × (new ≡ before ++ more)
-  next_behind before l q =
-      (slice_set (q.0 ++ (gates.0 ++ tail)) (rails.negation.0 - length before) (Latch B (Some h.negation)),
-      h.is_fed ∙ (ap (λ ps. slice_set ps rails.negation.0 (Latch B (Some h.negation)))
-      (grown_is ∙ (ap (λ ps. ps ++ (gates.0 ++ tail)) q.1 ∙ append_assoc before q.0 (gates.0 ++ tail)))
-      ∙ set_behind before (q.0 ++ (gates.0 ++ tail)) rails.negation.0 (Latch B (Some h.negation)) l))
+  next_behind before l q = (
+    slice_set (q.0 ++ (gates.0 ++ tail)) (rails.negation.0 - length before) (Latch B (Some h.negation)),
+    h.is_fed ∙ (ap (λ ps. slice_set ps rails.negation.0 (Latch B (Some h.negation)))
+        (grown_is ∙ (ap (λ ps. ps ++ (gates.0 ++ tail)) q.1 ∙ append_assoc before q.0 (gates.0 ++ tail)))
+        ∙ set_behind before (q.0 ++ (gates.0 ++ tail)) rails.negation.0 (Latch B (Some h.negation)) l),
+  )
 
 -- a stored bit stays one
 storing_kept : (exprs : List (Option Rails)) (ts : List Transfer) (first later : ℕ) (net newer : List Part) (rails : Rails) (reset : NetId)
@@ -294,8 +292,11 @@ module _ (r : Rtl) (bits : Bits) (reset : NetId) (old new newer : List Part) (w 
   kinds_of = was_or_is r bits.exprs ts rails reset new newer h waits
 
   source_gate : (inputs : List NetId) × (slice_get newer h.source.0 ≡ Some (Gate inputs))
-  source_gate = (h.is_source.off ∷ reset ∷ [], Rattle.control_nor.proofs.StoredBits.gate_at r bits.exprs ts rails reset new newer h waits
-      h.source.0 2 (h.is_source.off ∷ reset ∷ []) (let n = h.is_source.at_source in omega (arith, n)) refl)
+  source_gate = (
+    h.is_source.off ∷ reset ∷ [],
+    Rattle.control_nor.proofs.StoredBits.gate_at r bits.exprs ts rails reset new newer h waits
+        h.source.0 2 (h.is_source.off ∷ reset ∷ []) (let n = h.is_source.at_source in omega (arith, n)) refl,
+  )
 
   stored_more : AreStored r bits (i + 1) reset old newer
   stored_more = record {
@@ -322,26 +323,31 @@ module _ (r : Rtl) (bits : Bits) (reset : NetId) (old new newer : List Part) (w 
     ];
     latches = λ n p source e. elim (kinds_of n (Latch p (Some source)) e) [
       | inl a ↦ elim (done.latches n p source a.0) [
-          | inl q ↦ inl q
-          | inr q ↦ inr (q.0, still source.0 (Gate q.0) q.1 tt)
-        ]
+        | inl q ↦ inl q
+        | inr q ↦ inr (q.0, still source.0 (Gate q.0) q.1 tt)
+      ]
       | inr a ↦ elim a [
-          | inl g ↦ absurd (cc g.1)
-          | inr b ↦ elim b [
-              | inl m ↦ inr (let same : h.source ≡ source = cc m in
-                  (source_gate.0, subst (λ (s : NetId). slice_get newer s.0 ≡ Some (Gate source_gate.0)) same source_gate.1))
-              | inr m ↦ inr (let same : h.negation ≡ source = cc m in
-                  (h.master ∷ [], subst (λ (s : NetId). slice_get newer s.0 ≡ Some (Gate (h.master ∷ []))) same
-                  (Rattle.control_nor.proofs.StoredBits.added_at r bits.exprs ts rails reset new newer h waits h.negation.0 1
-                  (Gate (h.master ∷ [])) (let n = h.at_negation in omega (arith, n)) refl)))
-            ]
+        | inl g ↦ absurd (cc g.1)
+        | inr b ↦ elim b [
+          | inl m ↦ inr (let same : h.source ≡ source = cc m in
+              (source_gate.0, subst (λ (s : NetId). slice_get newer s.0 ≡ Some (Gate source_gate.0)) same source_gate.1))
+          | inr m ↦ inr (let same : h.negation ≡ source = cc m in (
+            h.master ∷ [],
+            subst (λ (s : NetId). slice_get newer s.0 ≡ Some (Gate (h.master ∷ []))) same
+                (Rattle.control_nor.proofs.StoredBits.added_at r bits.exprs ts rails reset new newer h waits h.negation.0 1
+                (Gate (h.master ∷ [])) (let n = h.at_negation in omega (arith, n)) refl),
+          ))
         ]
+      ]
     ];
     unfed = λ n p e. elim (kinds_of n (Latch p None) e) [
-      | inl a ↦ let u = done.unfed n p a.0 in (u.0, λ c y q l k on_y m z. elim (nat_cases c i) [
+      | inl a ↦ let u = done.unfed n p a.0 in (
+        u.0,
+        λ c y q l k on_y m z. elim (nat_cases c i) [
           | inl same ↦ a.1 (sym (ap (λ (s : Rails). s.negation.0) (same_rails c q m same) ∙ z))
           | inr ne ↦ u.1 c y q (omega arith) k on_y m z
-        ])
+        ],
+      )
       | inr a ↦ elim a [ inl g ↦ absurd (cc g.1) | inr b ↦ elim b [ inl m ↦ absurd (cc m) | inr m ↦ absurd (cc m) ] ]
     ];
   }

@@ -1,22 +1,19 @@
 -- Turns of cells and expressions.
-use Rattle.std.proofs.Common.{◌≡◌, ℕ, zero, suc, ◌+◌, ◌-◌, ◌*◌, ◌<◌, ◌≤◌, ◌⊎◌, inl, inr, List, [], ◌∷◌, ◌++◌, Option, Some, None, Bool, true, false, length, take, get_or, max, refl, sym, ◌∙◌, ap, subst, arith, length-append, replicate}
-use Rattle.std.specs.Prelude.{All, Contains, slice_get, slice_set, slice_index, slice_index_or}
+use Rattle.std.proofs.Common.{◌≡◌, ℕ, zero, suc, ◌+◌, ◌<◌, ◌≤◌, ◌⊎◌, inl, inr, List, [], ◌∷◌, ◌++◌, Some, length, take, get_or, max, refl, sym, ◌∙◌, ap, subst, arith, length-append, replicate}
+use Rattle.std.specs.Prelude.{All, Contains, slice_set, slice_index, slice_index_or}
 use Rattle.std.proofs.lemmas.Bool.{cases_lt}
 use Rattle.std.proofs.lemmas.List.{length-replicate, length-set, take_more}
 use Rattle.std.proofs.lemmas.List.Elements.{Contains-get_or, Contains-append_left, Contains-push, Contains-push_cases}
-use Rattle.std.proofs.lemmas.Option.{get_or_from_slice_get, none-some, same_Some, slice_get-get_or, slice_get_within}
-use Rattle.rtl_form.specs.declared.rtl.Cell as cells
-use Rattle.rtl_form.specs.declared.rtl.Transfer.{Transfer}
+use Rattle.std.proofs.lemmas.Option.{get_or_from_slice_get, slice_get-get_or}
 use Rattle.rtl_form.specs.declared.rtl.RtlExpr.{RtlExpr}
 use Rattle.rtl_form.specs.declared.rtl.RtlExpr.TheVariants as exprs
 use Rattle.rtl_form.specs.declared.rtl.Rtl.{Rtl}
 use Rattle.rtl_form.specs.Entries.{IsAt}
-use Rattle.rtl_form.specs.Environment.{is_driven}
 use Rattle.rtl_form.specs.Sound.{ExprFits, IsSound, ReadsCell, itself, inside}
 use Rattle.rtl_form.proofs.Members.{one_entry, some_entry, upward}
 use Rattle.control_nor.specs.Turns.{AreCellTurns, AreExprTurns, IsExprTurn, IsLatest}
 use Rattle.control_nor.proofs.Laying.{index_kept, index_last}
-use Rattle.control_nor.proofs.Left.{get_set_other, get_set_same, nat_cases}
+use Rattle.control_nor.proofs.Left.{get_set_same, nat_cases}
 
 -- an element's index, whatever is read past the end
 pub index_at : (xs : List ℕ) (k x : ℕ) → k < length xs → x ≡ slice_index_or xs k x → x ≡ slice_index xs k
@@ -38,10 +35,10 @@ latest_more turns args i d last l h =
       reached = elim (cases_lt last (slice_index turns (get_or args i d))) [
         | inl m ↦ inr (get_or args i d, Contains-push (take i args) (get_or args i d), omega (arith, m))
         | inr m ↦ elim h.reached [
-            | inl z ↦ inl (omega (arith, m, z))
-            | inr q ↦ let e = q.2 in
-                inr (q.0, Contains-append_left (take i args) (get_or args i d ∷ []) q.0 q.1, omega (arith, e, m))
-          ]
+          | inl z ↦ inl (omega (arith, m, z))
+          | inr q ↦ let e = q.2 in
+              inr (q.0, Contains-append_left (take i args) (get_or args i d ∷ []) q.0 q.1, omega (arith, e, m))
+        ]
       ];
     })
 
@@ -83,13 +80,18 @@ cell_turns_more r sound p turns l h = record {
         (λ e. sound.order.once q p (omega arith) l e) ∙ h.placed q (omega arith)
   ];
   only = λ c. elim (nat_cases c (slice_index r.order p)) [
-    | inl e ↦ inr (p, omega arith, sym e, ap (slice_index (slice_set turns (slice_index r.order p) (p + 1))) e
-        ∙ (read_same turns (slice_index r.order p) (p + 1) within ∙ omega arith))
+    | inl e ↦ inr (
+      p,
+      omega arith,
+      sym e,
+      ap (slice_index (slice_set turns (slice_index r.order p) (p + 1))) e
+          ∙ (read_same turns (slice_index r.order p) (p + 1) within ∙ omega arith),
+    )
     | inr ne ↦ elim (h.only c) [
-        | inl z ↦ inl (read_other turns (slice_index r.order p) (p + 1) c ne ∙ z)
-        | inr q ↦ let m = q.1 in
-            inr (q.0, omega (arith, m), q.2, read_other turns (slice_index r.order p) (p + 1) c ne ∙ q.3)
-      ]
+      | inl z ↦ inl (read_other turns (slice_index r.order p) (p + 1) c ne ∙ z)
+      | inr q ↦ let m = q.1 in
+          inr (q.0, omega (arith, m), q.2, read_other turns (slice_index r.order p) (p + 1) c ne ∙ q.3)
+    ]
   ];
 }
   where

@@ -1,5 +1,5 @@
 -- The next values of stored bits.
-use Rattle.std.specs.Prelude.{◌≡◌, ◌<◌, ◌≤◌, ◌+◌, ◌==◌, ◌&&◌, ◌||◌, ◌⊎◌, ℕ, suc, List, [], ◌∷◌, ◌++◌, Option, Some, None, Bool, true, false, not, nat_le, if◌then◌else◌, All, MatchBool, length, slice_get, drop}
+use Rattle.std.specs.Prelude.{◌≡◌, ◌<◌, ◌≤◌, ◌+◌, ◌==◌, ◌&&◌, ◌||◌, ◌⊎◌, ℕ, List, [], ◌∷◌, ◌++◌, Option, Some, None, Bool, true, not, nat_le, if◌then◌else◌, All, MatchBool, length, slice_get, drop}
 use Rattle.std.specs.List.{list_any, sum_by}
 use Rattle.mp_base.specs.declared.value.Trit.{Trit}
 use Rattle.mp_base.specs.declared.value.Trit.TheVariants.{Zero, One}
@@ -12,8 +12,6 @@ use Rattle.nor_net.specs.declared.net.Phase.TheVariants as phases
 use Rattle.nor_net.specs.declared.net.Part.{Part}
 use Rattle.nor_net.specs.declared.net.Part.TheVariants.{Input, Gate, Latch}
 use Rattle.rtl_form.specs.declared.rtl.Cell as cells
-use Rattle.rtl_form.specs.declared.rtl.CellKind.{CellKind}
-use Rattle.rtl_form.specs.declared.rtl.CellKind.TheVariants as kinds
 use Rattle.rtl_form.specs.declared.rtl.Transfer.{Transfer}
 use Rattle.rtl_form.specs.declared.rtl.Rtl.{Rtl}
 use Rattle.rtl_form.specs.Entries.{IsAt}
@@ -21,7 +19,6 @@ use Rattle.rtl_form.specs.Environment.{is_stored}
 use Rattle.control_nor.specs.declared.rails.Rails.{Rails}
 use Rattle.control_nor.specs.declared.rails.Bits.{Bits}
 use Rattle.control_nor.specs.Cells.{IsNextMade, IsTransferNamed, transfers_to}
-use Rattle.control_nor.specs.First.{IsWaiting}
 use Rattle.control_nor.specs.Lowering.{ObeysBehind}
 use Rattle.control_nor.specs.Meaning.{is_active}
 use Rattle.control_nor.specs.Rails.{AllBelow, HasRails, Known, Named}

@@ -1,5 +1,5 @@
 -- How far the tasks are done.
-use Rattle.std.specs.Prelude.{◌≡◌, ◌<◌, ◌≤◌, ◌+◌, ℕ, zero, suc, List, [], ◌∷◌, Option, Some, None, Bool, true, false, ◌&&◌, not, if◌then◌else◌, length, slice_get, slice_index}
+use Rattle.std.specs.Prelude.{◌≡◌, ◌<◌, ◌≤◌, ◌+◌, ℕ, zero, suc, List, [], ◌∷◌, Option, Some, None, false, ◌&&◌, not, if◌then◌else◌, length, slice_get, slice_index}
 use Rattle.std.specs.List.{sum_by}
 use Rattle.nor_net.specs.declared.net.NetId.{NetId}
 use Rattle.nor_net.specs.declared.net.Part.{Part}
@@ -15,9 +15,9 @@ use Rattle.control_nor.specs.declared.names.Task.{Task}
 use Rattle.control_nor.specs.declared.names.Task.TheVariants.{Expr, Cell}
 use Rattle.control_nor.specs.declared.rails.Rails.{Rails}
 use Rattle.control_nor.specs.declared.rails.Bits.{Bits}
-use Rattle.control_nor.specs.Adding.{AddsLogic, HasRoom}
+use Rattle.control_nor.specs.Adding.{AddsLogic}
 use Rattle.control_nor.specs.Lowering.{IsEntry}
-use Rattle.control_nor.specs.Rails.{AllBelow, AreBelow, IsNamed, Named}
+use Rattle.control_nor.specs.Rails.{AreBelow, IsNamed, Named}
 use Rattle.control_nor.specs.Schedule.{IsTask}
 use Rattle.control_nor.specs.Size.{IsWithinCost, bit_expr_cost, entry_count}
 use Rattle.control_nor.specs.Tasks.{entry_of}

@@ -100,7 +100,11 @@ fn lower_truth(alloc: Global, net: &mut Net, value: bool) -> Result<Rails, NoMem
     ensures { IfOk result (λ rails. IsPair [] net.old net.new (if value then rails else swapped rails)) }
 {
     let rails = add_pair(alloc, net, &[])?;
-    if value { Ok(rails) } else { Ok(rails.swapped()) }
+    if value {
+        Ok(rails)
+    } else {
+        Ok(rails.swapped())
+    }
 }
 
 /// The bit of an expression, or nothing for a word.

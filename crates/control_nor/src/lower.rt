@@ -21,12 +21,7 @@ use rtl_form::Rtl;
 use std::alloc::Global;
 
 // The next values of all stored bits, of which there are none where nothing resets.
-fn lower_next_values(
-    alloc: Global,
-    rtl: &Rtl,
-    net: &mut Net,
-    bits: &Bits,
-) -> Result<(), NoMemory>
+fn lower_next_values(alloc: Global, rtl: &Rtl, net: &mut Net, bits: &Bits) -> Result<(), NoMemory>
     requires sound { IsSound rtl.now }
     requires few { length rtl.now.cells < 2 ^ 32 }
     requires waiting { AreWaiting rtl.now net.old bits.now }

@@ -1,4 +1,4 @@
-use Rattle.std.proofs.Common.{◌∷◌, ◌++◌, [], length, ap, arith, length-append}
+use Rattle.std.proofs.Common.{◌∷◌, ◌++◌, [], length, arith, length-append}
 use Rattle.nor_net.specs.declared.net.Part.TheVariants.{Gate}
 use Rattle.control_nor.specs.Cells.{GuardOf, IsTerm}
 use Rattle.control_nor.proofs.Adding.{added_counted, added_three}

@@ -1,4 +1,4 @@
-use Rattle.std.proofs.Common.{length, subst, sym}
+use Rattle.std.proofs.Common.{subst, sym}
 use Rattle.control_nor.specs.Cells.{AreTerms}
 use Rattle.control_nor.proofs.Terms.{term_more}
 use Rattle.control_nor.proofs.cells.add_terms.Goals as goal

@@ -1,4 +1,4 @@
-use Rattle.std.proofs.Common.{◌≡◌, ◌∙◌, ℕ, List, Option, None, length, map, replicate, subst, sym, ap, arith}
+use Rattle.std.proofs.Common.{◌∙◌, List, Option, None, length, map, replicate, ap}
 use Rattle.control_nor.specs.declared.names.Task.TheVariants.{Cell}
 use Rattle.control_nor.specs.declared.rails.Rails.{Rails}
 use Rattle.control_nor.specs.Rails.{net_of}

@@ -1,10 +1,6 @@
 use Rattle.std.proofs.Common.{Result, Ok, Err, List, Option, subst}
 use Rattle.std.specs.Prelude.{OnOk}
-use Rattle.mp_base.specs.declared.refusal.NoMemory.{NoMemory}
-use Rattle.nor_net.specs.declared.net.Part.{Part}
-use Rattle.rtl_form.specs.declared.rtl.Rtl.{Rtl}
 use Rattle.control_nor.specs.declared.rails.Rails.{Rails}
-use Rattle.control_nor.specs.declared.rails.Bits.{Bits}
 use Rattle.control_nor.specs.NextValues.{AreNextValues, AreStored}
 use Rattle.control_nor.specs.Rails.{Named}
 use Rattle.control_nor.proofs.Begins.{all_next}

@@ -1,5 +1,4 @@
-use Rattle.std.proofs.Common.{◌≡◌, ◌<◌, List, ℕ, length, slice_set, subst, sym, arith, ◌+◌}
-use Rattle.std.specs.Prelude.{slice_index}
+use Rattle.std.proofs.Common.{◌<◌, length, slice_set, subst, sym, arith, ◌+◌}
 use Rattle.control_nor.specs.Turns.{AreCellTurns}
 use Rattle.control_nor.proofs.Turns.{cell_in, cell_turns_more, index_at}
 use Rattle.control_nor.proofs.schedule.cell_turns.Goals as goal

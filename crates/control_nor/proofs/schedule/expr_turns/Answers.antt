@@ -1,5 +1,4 @@
-use Rattle.std.proofs.Common.{◌≡◌, ◌<◌, ◌+◌, ◌++◌, ◌∷◌, [], List, ℕ, length, subst, sym, ap, ◌∙◌, get_or, arith}
-use Rattle.std.specs.Prelude.{All}
+use Rattle.std.proofs.Common.{◌+◌, List, ℕ, length, subst, sym, ap, arith}
 use Rattle.rtl_form.specs.declared.rtl.RtlExpr.{RtlExpr}
 use Rattle.rtl_form.specs.Entries.{IsAt}
 use Rattle.control_nor.specs.Turns.{AreExprTurns, IsExprTurn}

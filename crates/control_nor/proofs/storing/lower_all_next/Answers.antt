@@ -1,6 +1,4 @@
-use Rattle.std.proofs.Common.{◌≡◌, subst, ap, ◌∙◌, arith}
-use Rattle.rtl_form.specs.declared.rtl.Cell as cells
-use Rattle.rtl_form.proofs.Members.{one_entry}
+use Rattle.std.proofs.Common.{arith}
 use Rattle.control_nor.proofs.StoredCells.{room_next, stored_next}
 use Rattle.control_nor.proofs.storing.lower_all_next.Goals as goal
 

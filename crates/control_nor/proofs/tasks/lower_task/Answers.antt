@@ -1,4 +1,4 @@
-use Rattle.std.proofs.Common.{◌≡◌, List, false, Option, subst, sym, ap, ◌∙◌}
+use Rattle.std.proofs.Common.{List, Option, subst, sym, ap, ◌∙◌}
 use Rattle.std.specs.Prelude.{All}
 use Rattle.rtl_form.specs.declared.rtl.Cell as cells
 use Rattle.rtl_form.proofs.Members.{one_entry}

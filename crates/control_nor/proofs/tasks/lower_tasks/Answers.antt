@@ -1,4 +1,4 @@
-use Rattle.std.proofs.Common.{◌++◌, ◌∷◌, ◌+◌, [], length, subst, sym, ap, ◌∙◌}
+use Rattle.std.proofs.Common.{◌++◌, ◌∷◌, ◌+◌, [], subst, sym, ap, ◌∙◌}
 use Rattle.std.proofs.lemmas.Option.{slice_get-get_or}
 use Rattle.control_nor.specs.declared.names.Task.TheVariants.{Expr}
 use Rattle.control_nor.specs.Done.{AreDone}
