@@ -27,7 +27,8 @@ none_latest turns = record { bound = λ a h. absurd (let l = h.1 in omega (arith
 pub latest_more : (turns args : List ℕ) (i d last : ℕ) → i < length args → IsLatest turns (take i args) last
     → IsLatest turns (take (i + 1) args) (max last (slice_index turns (get_or args i d)))
 latest_more turns args i d last l h =
-    subst (λ xs. IsLatest turns xs (max last (slice_index turns (get_or args i d)))) (sym (take_more args i d l)) (record {
+    subst (λ xs. IsLatest turns xs (max last (slice_index turns (get_or args i d)))) (sym (take_more args i d l))
+    (record {
       bound = λ a c. elim (Contains-push_cases (take i args) (get_or args i d) a c) [
         | inl q ↦ let b = h.bound a q in omega (arith, b)
         | inr q ↦ let b = ap (slice_index turns) q in omega (arith, b)
@@ -101,7 +102,8 @@ cell_turns_more r sound p turns l h = record {
 -- ---- turns of expressions
 
 pub args_below : (r : Rtl) → IsSound r → (e : ℕ) (x : RtlExpr) → IsAt r.exprs e x
-    → (op : Rattle.mp_base.specs.declared.op.Op.Op) (k : ℕ) (args : List ℕ) → x ≡ exprs.Apply op k args → All (λ a. a < e) args
+    → (op : Rattle.mp_base.specs.declared.op.Op.Op) (k : ℕ) (args : List ℕ) → x ≡ exprs.Apply op k args
+    → All (λ a. a < e) args
 args_below r sound e x at op k args is i d l =
     let f : ExprFits r e (exprs.Apply op k args) = subst (ExprFits r e) is (sound.exprs e x at) in
     (f.2 (get_or args i d) (Contains-get_or args i d l)).0
@@ -119,7 +121,8 @@ kept_latest turns args y t below h = record {
 pub no_expr_turns : (r : Rtl) (cells : List ℕ) → AreExprTurns r cells 0 []
 no_expr_turns r cells = record { count = refl; each = λ e x l at. absurd (omega arith) }
 
-pub expr_turns_more : (r : Rtl) → IsSound r → (cells : List ℕ) (n t : ℕ) (x : RtlExpr) (turns : List ℕ) → IsAt r.exprs n x
+pub expr_turns_more : (r : Rtl) → IsSound r → (cells : List ℕ) (n t : ℕ) (x : RtlExpr) (turns : List ℕ)
+    → IsAt r.exprs n x
     → AreExprTurns r cells n turns → IsExprTurn cells turns x t → AreExprTurns r cells (n + 1) (turns ++ t ∷ [])
 expr_turns_more r sound cells n t x turns at h is = record {
   count = let a = length-append turns (t ∷ []) in let c = h.count in omega (arith, a, c);
@@ -152,7 +155,8 @@ module _ (r : Rtl) (sound : IsSound r) (cells turns : List ℕ) (cell_turns : Ar
   Tight e = e < length r.exprs → (slice_index turns e ≡ 0)
       ⊎ ((p : ℕ) × (p < length r.order) × (slice_index turns e ≡ suc p) × ReadsCell r.exprs (slice_index r.order p) e)
 
-  by_expr : (e : ℕ) (x : RtlExpr) → IsAt r.exprs e x → ((j : ℕ) → j < e → Tight j) → IsExprTurn cells turns x (slice_index turns e)
+  by_expr : (e : ℕ) (x : RtlExpr) → IsAt r.exprs e x → ((j : ℕ) → j < e → Tight j)
+      → IsExprTurn cells turns x (slice_index turns e)
       → (slice_index turns e ≡ 0)
       ⊎ ((p : ℕ) × (p < length r.order) × (slice_index turns e ≡ suc p) × ReadsCell r.exprs (slice_index r.order p) e)
   by_expr e (exprs.Number n) at earlier h = inl h
@@ -177,7 +181,11 @@ module _ (r : Rtl) (sound : IsSound r) (cells turns : List ℕ) (cell_turns : Ar
       by_expr e x.0 x.1 earlier (expr_turns.each e x.0 l x.1))
 
   pub turn_small : (e : ℕ) → e < length r.exprs → slice_index turns e ≤ length r.order
-  turn_small e l = elim (tight e l) [ inl z ↦ omega (arith, z) | inr q ↦ (let a = q.1 in let b = q.2 in omega (arith, a, b)) ]
+  turn_small e l = elim (tight e l) [
+    | inl z ↦ omega (arith, z)
+    | inr q ↦
+        (let a = q.1 in let b = q.2 in omega (arith, a, b))
+  ]
 
   pub turns_small : All (λ t. t ≤ length r.order) turns
   turns_small k d l =

@@ -54,7 +54,8 @@ pub record IsExclusive (a b : Rails) (old new : List Part) (rails : Rails) : Typ
   pub none : NetId
   pub both : NetId
   pub parts : new
-      ≡ old ++ Gate (a.bit ∷ b.bit ∷ []) ∷ Gate (a.negation ∷ b.negation ∷ []) ∷ Gate (none ∷ both ∷ []) ∷ Gate (rails.bit ∷ []) ∷ []
+      ≡ old ++ Gate (a.bit ∷ b.bit ∷ []) ∷ Gate (a.negation ∷ b.negation ∷ []) ∷ Gate (none ∷ both ∷ []) ∷ Gate
+      (rails.bit ∷ []) ∷ []
   pub at_none : none.0 ≡ length old
   pub at_both : both.0 ≡ suc (length old)
   pub at_bit : rails.bit.0 ≡ suc (suc (length old))

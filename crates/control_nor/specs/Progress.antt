@@ -101,11 +101,13 @@ level start ends zero = start
 level start ends (suc s) = slice_index ends s
 
 -- where the nets of the first t tasks are, and which are inputs
-pub record IsLaid (r : Rtl) (tasks : List Task) (t : ℕ) (old new : List Part) (after : Bits) (ends : List ℕ) : Type 0 where
+pub record IsLaid (r : Rtl) (tasks : List Task) (t : ℕ) (old new : List Part) (after : Bits)
+    (ends : List ℕ) : Type 0 where
   pub count : length ends ≡ t
   pub top : level (length old) ends t ≡ length new
   pub rise : (s : ℕ) → s < t → level (length old) ends s ≤ level (length old) ends (suc s)
-  pub below : (s : ℕ) (task : Task) (rails : Rails) → s < t → slice_get tasks s ≡ Some task → NamedTask after task rails
+  pub below : (s : ℕ) (task : Task) (rails : Rails) → s < t → slice_get tasks s ≡ Some task
+      → NamedTask after task rails
       → rails.bit.0 < level (length old) ends (suc s)
   pub driven : (s c : ℕ) (rails : Rails) → s < t → slice_get tasks s ≡ Some (Cell c) → Named after.cells c rails
       → (level (length old) ends s ≤ rails.bit.0) × (slice_get new rails.bit.0 ≡ Some (Gate (rails.negation ∷ [])))

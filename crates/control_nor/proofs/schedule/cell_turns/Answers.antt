@@ -15,5 +15,6 @@ loop-place-preserved c =
     let l : c.loop-place.place < length c.args.rtl.now.order = omega arith in
     let i = index_at c.args.rtl.now.order c.loop-place.place c.at-cell.result.now l c.at-cell.ensures in
     subst (AreCellTurns c.args.rtl.now (c.loop-place.place + 1)) (sym c.set.ensures)
-    (subst (λ n. AreCellTurns c.args.rtl.now (c.loop-place.place + 1) (slice_set c.loop-place.turns n (c.loop-place.place + 1))) (sym i)
+    (subst (λ n. AreCellTurns c.args.rtl.now (c.loop-place.place + 1)
+    (slice_set c.loop-place.turns n (c.loop-place.place + 1))) (sym i)
     (cell_turns_more c.args.rtl.now c.requires.sound c.loop-place.place c.loop-place.turns l c.loop-place.invariant))
