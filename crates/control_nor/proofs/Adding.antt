@@ -1,8 +1,8 @@
 -- What is added to a net, and how much it is.
-use Rattle.std.proofs.Common.{◌≡◌, ℕ, zero, suc, ◌+◌, ◌*◌, ◌<◌, ◌≤◌, List, [], ◌∷◌, ◌++◌, Option, Some, None, length, refl, sym, ◌∙◌, ap, subst, arith, append_assoc, length-append, get_or}
+use Rattle.std.proofs.Common.{◌≡◌, ℕ, zero, suc, ◌+◌, ◌<◌, ◌≤◌, List, [], ◌∷◌, ◌++◌, Some, None, length, refl, sym, ◌∙◌, ap, subst, arith, append_assoc, length-append, get_or}
 use Rattle.std.specs.Prelude.{All, IfSome, slice_get, slice_set}
 use Rattle.std.specs.List.{sum_by}
-use Rattle.std.proofs.lemmas.Option.{none-some, same_Some, slice_get_within}
+use Rattle.std.proofs.lemmas.Option.{none-some}
 use Rattle.std.proofs.lemmas.List.Elements.{All-nil, All-cons, All-append}
 use Rattle.std.proofs.lemmas.List.Sums.{sum_by-append, sum_by-cons}
 use Rattle.nor_net.specs.declared.net.NetId.{NetId}
@@ -23,7 +23,8 @@ get_behind (x ∷ xs) ys i =
     let e : suc (length xs) + i ≡ suc (length xs + i) = omega arith in
     ap (slice_get (x ∷ xs ++ ys)) e ∙ get_behind xs ys i
 
-pub get_kept : {Y : Type 0} (xs ys : List Y) (n : ℕ) (y : Y) → slice_get xs n ≡ Some y → slice_get (xs ++ ys) n ≡ Some y
+pub get_kept : {Y : Type 0} (xs ys : List Y) (n : ℕ) (y : Y) → slice_get xs n ≡ Some y
+    → slice_get (xs ++ ys) n ≡ Some y
 get_kept [] ys n y e = absurd (none-some y e)
 get_kept (z ∷ zs) ys zero y e = e
 get_kept (z ∷ zs) ys (suc n) y e = get_kept zs ys n y e
@@ -48,7 +49,8 @@ fed_last old middle new phase id source a h = record {
 }
   where
     at_id : slice_get middle id.0 ≡ Some (Latch phase None)
-    at_id = ap (λ n. slice_get middle n) a.number ∙ (ap (λ ps. slice_get ps (length old)) a.parts ∙ get_first old (Latch phase None) [])
+    at_id = ap (λ n. slice_get middle n) a.number ∙ (ap (λ ps. slice_get ps (length old)) a.parts
+        ∙ get_first old (Latch phase None) [])
 
     set : new ≡ slice_set middle id.0 (Latch phase (Some source))
     set = subst (λ o. IfSome o (λ p. new ≡ slice_set middle id.0 (fed source p))) at_id h
@@ -66,13 +68,15 @@ counted_none parts = record { net_count = omega arith; input_count = omega arith
 pub counted_part : (old : List Part) (p : Part) → IsCounted 1 (fan_in p) (active_count p) old (old ++ p ∷ [])
 counted_part old p =
     let n = length-append old (p ∷ []) in
-    let i : gate_inputs (old ++ p ∷ []) ≡ gate_inputs old + gate_inputs (p ∷ []) = sum_by-append fan_in old (p ∷ []) in
+    let i : gate_inputs (old ++ p ∷ []) ≡ gate_inputs old + gate_inputs (p ∷ []) = sum_by-append fan_in old
+    (p ∷ []) in
     let j = sum_by-cons fan_in p [] in
     let a = sum_by-append active_count old (p ∷ []) in
     let b = sum_by-cons active_count p [] in
     record { net_count = omega (arith, n); input_count = omega (arith, i, j); active_count = omega (arith, a, b) }
 
-pub counted_on : (n i a m j b : ℕ) (old middle new : List Part) → IsCounted n i a old middle → IsCounted m j b middle new
+pub counted_on : (n i a m j b : ℕ) (old middle new : List Part) → IsCounted n i a old middle
+    → IsCounted m j b middle new
     → IsCounted (n + m) (i + j) (a + b) old new
 counted_on n i a m j b old middle new g h = record {
   net_count = let x = g.net_count in let y = h.net_count in omega (arith, x, y);
@@ -124,13 +128,15 @@ pub added_counted : (old new : List Part) (p : Part) (id : NetId) → IsAdded ol
 added_counted old new p id a = subst (IsCounted 1 (fan_in p) (active_count p) old) (sym a.parts) (counted_part old p)
 
 pub added_at : (old new : List Part) (p : Part) (id : NetId) → IsAdded old p new id → slice_get new id.0 ≡ Some p
-added_at old new p id a = ap (slice_get new) a.number ∙ (ap (λ ps. slice_get ps (length old)) a.parts ∙ get_first old p [])
+added_at old new p id a = ap (slice_get new) a.number ∙ (ap (λ ps. slice_get ps (length old)) a.parts
+    ∙ get_first old p [])
 
 pub added_keeps : (old new : List Part) (p : Part) (id : NetId) → IsAdded old p new id → (n : ℕ) (q : Part)
     → slice_get old n ≡ Some q → slice_get new n ≡ Some q
 added_keeps old new p id a n q e = ap (λ ps. slice_get ps n) a.parts ∙ get_kept old (p ∷ []) n q e
 
-pub added_two : (old middle new : List Part) (p q : Part) (i j : NetId) → IsAdded old p middle i → IsAdded middle q new j
+pub added_two : (old middle new : List Part) (p q : Part) (i j : NetId) → IsAdded old p middle i
+    → IsAdded middle q new j
     → new ≡ old ++ p ∷ q ∷ []
 added_two old middle new p q i j a b =
     b.parts ∙ (ap (λ ps. ps ++ q ∷ []) a.parts ∙ append_assoc old (p ∷ []) (q ∷ []))
@@ -139,7 +145,8 @@ pub added_three : (old first middle new : List Part) (p q r : Part) (i j k : Net
     → IsAdded first q middle j → IsAdded middle r new k
     → new ≡ old ++ p ∷ q ∷ r ∷ []
 added_three old first middle new p q r i j k a b c =
-    c.parts ∙ (ap (λ ps. ps ++ r ∷ []) (added_two old first middle p q i j a b) ∙ append_assoc old (p ∷ q ∷ []) (r ∷ []))
+    c.parts ∙ (ap (λ ps. ps ++ r ∷ []) (added_two old first middle p q i j a b)
+    ∙ append_assoc old (p ∷ q ∷ []) (r ∷ []))
 
 pub gate_before : (xs : List NetId) (ps : List Part) → All IsGate ps → All IsGate (Gate xs ∷ ps)
 gate_before xs ps h = All-cons IsGate (Gate xs) ps tt h

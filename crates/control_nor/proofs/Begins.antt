@@ -1,5 +1,5 @@
 -- What stands before the tasks, and before the next values.
-use Rattle.std.proofs.Common.{◌≡◌, ℕ, zero, suc, ◌+◌, ◌-◌, ◌*◌, ◌<◌, ◌≤◌, ◌⊎◌, inl, inr, List, [], ◌∷◌, ◌++◌, Option, Some, None, Bool, true, false, length, replicate, get_or, eqb, refl, sym, ◌∙◌, ap, subst, arith}
+use Rattle.std.proofs.Common.{◌≡◌, ℕ, zero, suc, ◌<◌, inl, List, [], ◌∷◌, Option, Some, None, Bool, true, false, length, replicate, get_or, eqb, refl, sym, ◌∙◌, ap, subst, arith}
 use Rattle.std.specs.Prelude.{All, Contains, IfSome, IsSome, not, ◌&&◌, ◌==◌, slice_get, slice_index}
 use Rattle.std.specs.List.{list_any}
 use Rattle.std.proofs.lemmas.Bool.{eqb-true}
@@ -10,7 +10,7 @@ use Rattle.mp_base.specs.declared.pad.Pad.{Pad}
 use Rattle.nor_net.specs.declared.net.NetId.{NetId}
 use Rattle.nor_net.specs.declared.net.Phase.TheVariants as phases
 use Rattle.nor_net.specs.declared.net.Part.{Part}
-use Rattle.nor_net.specs.declared.net.Part.TheVariants.{Input, Gate, Latch}
+use Rattle.nor_net.specs.declared.net.Part.TheVariants.{Latch}
 use Rattle.rtl_form.specs.declared.rtl.Cell as cells
 use Rattle.rtl_form.specs.declared.rtl.CellKind.{CellKind}
 use Rattle.rtl_form.specs.declared.rtl.CellKind.TheVariants as kinds
@@ -19,7 +19,6 @@ use Rattle.rtl_form.specs.declared.rtl.Rtl.{Rtl}
 use Rattle.rtl_form.specs.Entries.{IsAt}
 use Rattle.rtl_form.specs.Environment.{is_driven, is_stored}
 use Rattle.rtl_form.specs.Sound.{CellFits, HasSort, IsReset, IsSound}
-use Rattle.rtl_form.specs.Trace.{stores}
 use Rattle.rtl_form.proofs.Members.{by_test, one_entry, some_entry}
 use Rattle.control_nor.specs.declared.names.Task.{Task}
 use Rattle.control_nor.specs.declared.names.Task.TheVariants.{Expr, Cell}
@@ -61,7 +60,8 @@ stored_kind x on = by_cell x.word x.kind refl refl on
 pub is_stored_from : (x : cells.Cell) → x.word ≡ false → x.kind ≡ kinds.Stored → is_stored_bit x ≡ true
 is_stored_from x w k = ap (λ b. not b && is_stored x.kind) w ∙ ap is_stored k
 
-any_at : {X : Type 0} (p : X → Bool) (xs : List X) (k : ℕ) (x : X) → slice_get xs k ≡ Some x → p x ≡ true → list_any p xs ≡ true
+any_at : {X : Type 0} (p : X → Bool) (xs : List X) (k : ℕ) (x : X) → slice_get xs k ≡ Some x → p x ≡ true
+    → list_any p xs ≡ true
 any_at p [] k x e h = absurd (none-some x e)
 any_at p (y ∷ xs) zero x e h = ap (λ b. Rattle.std.specs.Prelude.◌||◌ b (list_any p xs)) (ap p (same_Some y x e) ∙ h)
 any_at p (y ∷ xs) (suc k) x e h = by_head (p y) (any_at p xs k x e h)
@@ -74,19 +74,22 @@ any_at p (y ∷ xs) (suc k) x e h = by_head (p y) (any_at p xs k x e h)
 pub has_reset : (r : Rtl) → IsSound r → (c : ℕ) (x : cells.Cell) → IsAt r.cells c x → x.kind ≡ kinds.Stored
     → (reset : ℕ) × (r.reset ≡ Some reset)
 has_reset r sound c x at kind =
-    by_reset r.reset refl (sound.resets (any_at (λ (x : cells.Cell). is_stored x.kind) r.cells c x (at_get r.cells c x at) (ap is_stored kind)))
+    by_reset r.reset refl (sound.resets (any_at (λ (x : cells.Cell). is_stored x.kind) r.cells c x
+    (at_get r.cells c x at) (ap is_stored kind)))
   where
     by_reset : (o : Option ℕ) → r.reset ≡ o → IsSome o → (reset : ℕ) × (r.reset ≡ Some reset)
     by_reset None e h = absurd (cc h)
     by_reset (Some k) e h = (k, e)
 
-module _ (r : Rtl) (sound : IsSound r) (old mid : List Part) (named : List (Option Rails)) (pads : List (Option NetId))
+module _ (r : Rtl) (sound : IsSound r) (old mid : List Part) (named : List (Option Rails))
+    (pads : List (Option NetId))
     (first : AreFirstDone r (length r.cells) old mid named pads) where
   abbrev bits0 : Bits
   bits0 = record { cells = named; exprs = replicate (length r.exprs) None }
 
   at_cell : (c : ℕ) (rails : Rails) → Named named c rails → (x : cells.Cell) × IsAt r.cells c x
-  at_cell c rails h = some_entry r.cells c (let w = slice_get_within named c (Some rails) h in let n = first.names.count in omega (arith, w, n))
+  at_cell c rails h = some_entry r.cells c (let w = slice_get_within named c (Some rails) h in
+      let n = first.names.count in omega (arith, w, n))
 
   pub begun : IsBegun r mid bits0
   begun = record {
@@ -102,7 +105,8 @@ module _ (r : Rtl) (sound : IsSound r) (old mid : List Part) (named : List (Opti
       below_of (Expr e) rails h = absurd (none_named (length r.exprs) e rails h)
       below_of (Cell c) rails h = first.names.below c rails h
 
-      bit_of : (task : Task) (rails : Rails) → NamedTask bits0 task rails → Rattle.control_nor.specs.Progress.IsBitTask r task
+      bit_of : (task : Task) (rails : Rails) → NamedTask bits0 task rails
+          → Rattle.control_nor.specs.Progress.IsBitTask r task
       bit_of (Expr e) rails h = absurd (none_named (length r.exprs) e rails h)
       bit_of (Cell c) rails h = let x = at_cell c rails h in (x.0, x.1, first.names.bits_only c x.0 rails x.1 h)
 
@@ -125,14 +129,16 @@ module _ (r : Rtl) (sound : IsSound r) (old mid : List Part) (named : List (Opti
         let b = done.progress.bits_only (Cell c) rails h in
         let word = ap (λ (x : cells.Cell). x.word) (one_entry r.cells c x b.0 at b.1) ∙ b.2 in
         let f = first.names.first c x at.0 at word d in
-        subst (Named named c) (same_Some f.0 rails (same_Some (Some f.0) (Some rails) (sym (done.progress.keeps (Cell c) f.0 f.1) ∙ h))) f.1
+        subst (Named named c) (same_Some f.0 rails (same_Some (Some f.0) (Some rails)
+        (sym (done.progress.keeps (Cell c) f.0 f.1) ∙ h))) f.1
 
     pub cell_named : (c : ℕ) (x : cells.Cell) → IsAt r.cells c x → x.word ≡ false → IsNamed bits.cells c
     cell_named c x at word = by_test (is_driven x.kind)
         (λ d. let t = in_tasks (Cell c) (x, at, d) in done.progress.done t.0 (Cell c) t.1 t.2 (x, at, word))
         (λ d. let f = first.names.first c x at.0 at word d in (f.0, done.progress.keeps (Cell c) f.0 f.1))
 
-    stored_first : (c : ℕ) (x : cells.Cell) (rails : Rails) → IsAt r.cells c x → is_stored_bit x ≡ true → Named bits.cells c rails
+    stored_first : (c : ℕ) (x : cells.Cell) (rails : Rails) → IsAt r.cells c x → is_stored_bit x ≡ true
+        → Named bits.cells c rails
         → Named named c rails
     stored_first c x rails at on h = first_rails c x rails at (ap is_driven (stored_kind x on).1) h
 
@@ -156,9 +162,11 @@ module _ (r : Rtl) (sound : IsSound r) (old mid : List Part) (named : List (Opti
         named_of : (c : ℕ) (x : cells.Cell) → IsAt r.cells c x → is_stored_bit x ≡ true
             → All (IsTransferNamed bits.exprs) (transfers_to r.transfers c)
         named_of c x at on k d l =
-            All-filter (λ (t : Transfer). eqb t.target c) (λ (t : Transfer). t.target ≡ c → IsTransferNamed bits.exprs t) r.transfers
+            All-filter (λ (t : Transfer). eqb t.target c) (λ (t : Transfer). t.target ≡ c
+            → IsTransferNamed bits.exprs t) r.transfers
             (λ k d l. each (get_or r.transfers k d) (Contains-get_or r.transfers k d l)) k d l
-            (eqb-true (get_or (transfers_to r.transfers c) k d).target c (filter_passes (λ (t : Transfer). eqb t.target c) r.transfers k d l))
+            (eqb-true (get_or (transfers_to r.transfers c) k d).target c
+            (filter_passes (λ (t : Transfer). eqb t.target c) r.transfers k d l))
           where
             each : (t : Transfer) → Contains r.transfers t → t.target ≡ c → IsTransferNamed bits.exprs t
             each t inside to =
@@ -175,12 +183,14 @@ module _ (r : Rtl) (sound : IsSound r) (old mid : List Part) (named : List (Opti
         let h : IsReset r c = subst (λ o. IfSome o (IsReset r)) e sound.reset in
         let fits : CellFits r h.0 (kinds.Input h.1) = subst (CellFits r h.0) h.4 (sound.cells c h.0 h.3) in
         let same = one_entry (r.pads).inputs h.1 fits.0 h.2 fits.1 h.5 in
-        let word : h.0.word ≡ false = fits.2 ∙ (ap (λ (p : Pad). not (p.width == 0)) same ∙ ap (λ n. not (n == 0)) h.6) in
+        let word : h.0.word ≡ false = fits.2 ∙ (ap (λ (p : Pad). not (p.width == 0)) same
+        ∙ ap (λ n. not (n == 0)) h.6) in
         cell_named c h.0 h.3 word
 
 -- the next values of all cells are those of all stored bits
 pub all_next : (r : Rtl) (bits : Bits) (index : ℕ) (rails : Rails) (old new : List Part) → r.reset ≡ Some index
-    → Named bits.cells index rails → AreStored r bits (length r.cells) rails.bit old new → AreNextValues r bits old new
+    → Named bits.cells index rails → AreStored r bits (length r.cells) rails.bit old new
+    → AreNextValues r bits old new
 all_next r bits index rails old new is named h = record {
   longer = h.longer;
   keeps = h.keeps;
@@ -197,7 +207,8 @@ all_next r bits index rails old new is named h = record {
 }
 
 -- where nothing resets there are none
-pub none_next : (r : Rtl) → IsSound r → (bits : Bits) (old : List Part) → r.reset ≡ None → AreNextValues r bits old old
+pub none_next : (r : Rtl) → IsSound r → (bits : Bits) (old : List Part) → r.reset ≡ None
+    → AreNextValues r bits old old
 none_next r sound bits old e = record {
   longer = omega arith;
   keeps = λ n p q fed. q;

@@ -1,14 +1,11 @@
 -- Bits of operators as bits of gates.
-use Rattle.std.proofs.Common.{◌≡◌, ℕ, zero, suc, ◌+◌, ◌-◌, ◌<◌, ◌≤◌, ◌⊎◌, inl, inr, List, [], ◌∷◌, ◌++◌, Bool, true, false, length, map, refl, sym, ◌∙◌, ap, subst, arith, cond}
-use Rattle.std.specs.Prelude.{All, not, ◌&&◌, ◌||◌, ◌==◌, nat_lt, slice_index, if◌then◌else◌}
+use Rattle.std.proofs.Common.{◌≡◌, ℕ, zero, suc, ◌+◌, ◌-◌, ◌<◌, List, [], ◌∷◌, Bool, true, false, map, refl, ◌∙◌, ap, arith, cond}
+use Rattle.std.specs.Prelude.{All, not, ◌&&◌, ◌||◌, ◌==◌, nat_lt}
 use Rattle.std.specs.List.{list_all, list_any}
-use Rattle.mp_base.specs.declared.op.Op.{Op}
-use Rattle.mp_base.specs.declared.op.Op.TheVariants as ops
-use Rattle.mp_base.specs.Apply.{apply, truth}
+use Rattle.mp_base.specs.Apply.{truth}
 use Rattle.nor_net.specs.Laws.{bit}
 use Rattle.nor_net.specs.Settled.{nor_value}
 use Rattle.nor_net.proofs.Values.{nor_bits}
-use Rattle.rtl_form.specs.Operands.{gives_word}
 
 pub truth_small : (b : Bool) → truth b < 2
 truth_small true = omega arith
@@ -28,11 +25,13 @@ module _ (value : ℕ → ℕ) where
   tail_bits k ks h i d l = h (suc i) d (omega arith)
 
   -- the NOR of negations is the AND
-  pub all_ones : (ks : List ℕ) → list_all (λ k. cond (not (value k == 1)) false true) ks ≡ list_all (λ x. x == 1) (map value ks)
+  pub all_ones : (ks : List ℕ) → list_all (λ k. cond (not (value k == 1)) false true) ks
+      ≡ list_all (λ x. x == 1) (map value ks)
   all_ones [] = refl
   all_ones (k ∷ ks) = by_head (value k == 1) (all_ones ks)
     where
-      by_head : (b : Bool) → list_all (λ k. cond (not (value k == 1)) false true) ks ≡ list_all (λ x. x == 1) (map value ks)
+      by_head : (b : Bool) → list_all (λ k. cond (not (value k == 1)) false true) ks
+          ≡ list_all (λ x. x == 1) (map value ks)
           → (cond (not b) false true && list_all (λ k. cond (not (value k == 1)) false true) ks)
           ≡ (b && list_all (λ x. x == 1) (map value ks))
       by_head true e = e
@@ -58,7 +57,8 @@ module _ (value : ℕ → ℕ) where
     where
       by_head : (n : ℕ) → n < 2
           → not (list_all (λ x. x == 0) (map value ks)) ≡ list_any (λ x. x == 1) (map value ks)
-          → not ((n == 0) && list_all (λ x. x == 0) (map value ks)) ≡ ((n == 1) || list_any (λ x. x == 1) (map value ks))
+          → not ((n == 0) && list_all (λ x. x == 0) (map value ks))
+          ≡ ((n == 1) || list_any (λ x. x == 1) (map value ks))
       by_head zero l e = e
       by_head (suc zero) l e = refl
       by_head (suc (suc n)) l e = absurd (omega arith)
@@ -70,7 +70,8 @@ module _ (value : ℕ → ℕ) where
     where
       by_head : (n : ℕ) → n < 2
           → not (list_all (λ x. x == 1) (map value ks)) ≡ list_any (λ x. x == 0) (map value ks)
-          → not ((n == 1) && list_all (λ x. x == 1) (map value ks)) ≡ ((n == 0) || list_any (λ x. x == 0) (map value ks))
+          → not ((n == 1) && list_all (λ x. x == 1) (map value ks))
+          ≡ ((n == 0) || list_any (λ x. x == 0) (map value ks))
       by_head zero l e = refl
       by_head (suc zero) l e = e
       by_head (suc (suc n)) l e = absurd (omega arith)
@@ -85,7 +86,8 @@ module _ (value : ℕ → ℕ) where
   nor_of_bits ks h = nor_bits (λ k. value k == 1) ks ∙ ap bit (all_zeros ks h)
 
 pub exclusive_or : (x y : ℕ) → x < 2 → y < 2
-    → nor_value (nor_value (bit (x == 1) ∷ bit (y == 1) ∷ []) ∷ nor_value (bit (not (x == 1)) ∷ bit (not (y == 1)) ∷ []) ∷ [])
+    → nor_value (nor_value (bit (x == 1) ∷ bit (y == 1) ∷ []) ∷ nor_value
+    (bit (not (x == 1)) ∷ bit (not (y == 1)) ∷ []) ∷ [])
     ≡ bit ((truth (nat_lt x y) + truth (nat_lt y x)) == 1)
 exclusive_or zero zero l m = refl
 exclusive_or zero (suc zero) l m = refl

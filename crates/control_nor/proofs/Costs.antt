@@ -1,12 +1,9 @@
 -- The costs of the three rounds are parts of the cost of transfers.
 use Rattle.std.proofs.Common.{◌≡◌, ℕ, zero, suc, ◌+◌, ◌-◌, ◌*◌, ◌<◌, ◌≤◌, ◌^◌, ◌⊎◌, inl, inr, List, [], ◌∷◌, ◌++◌, Option, Some, None, Bool, true, false, length, replicate, refl, sym, ◌∙◌, ap, subst, arith}
-use Rattle.std.specs.Prelude.{not, ◌&&◌, nat_le, if◌then◌else◌, slice_get}
+use Rattle.std.specs.Prelude.{not, ◌&&◌, if◌then◌else◌, slice_get}
 use Rattle.std.specs.List.{sum_by}
 use Rattle.std.specs.Option.{option_map_or}
 use Rattle.std.proofs.lemmas.List.Sums.{sum_by-cons}
-use Rattle.mp_base.specs.declared.op.Op.{Op}
-use Rattle.nor_net.specs.declared.net.Part.{Part}
-use Rattle.nor_net.specs.Shape.{gate_inputs, net_limit}
 use Rattle.rtl_form.specs.declared.rtl.Cell as cells
 use Rattle.rtl_form.specs.declared.rtl.CellKind.{CellKind}
 use Rattle.rtl_form.specs.declared.rtl.CellKind.TheVariants as kinds
@@ -20,18 +17,20 @@ use Rattle.rtl_form.specs.Operands.{gives_word}
 use Rattle.control_nor.specs.declared.rails.Rails.{Rails}
 use Rattle.control_nor.specs.declared.rails.Bits.{Bits}
 use Rattle.control_nor.specs.Cells.{first_cost, first_kind_cost}
-use Rattle.control_nor.specs.NextValues.{is_stored_bit, next_cost, next_left, stored_count, stored_from}
-use Rattle.control_nor.specs.Progress.{cost_left, driven_cost, driven_count, left_by, wait_of, waits}
-use Rattle.control_nor.specs.Size.{bit_cell_cost, bit_cost, bit_expr_cost, bit_transfer_cost, is_bit_of}
+use Rattle.control_nor.specs.NextValues.{next_cost, next_left, stored_count, stored_from}
+use Rattle.control_nor.specs.Progress.{cost_left, driven_cost, left_by, wait_of, waits}
+use Rattle.control_nor.specs.Size.{bit_cell_cost, bit_cost, bit_expr_cost, bit_transfer_cost}
 
 sum_three : {X : Type 0} (f g h k : X → ℕ) → ((x : X) → f x + g x + h x ≤ k x) → (xs : List X)
     → sum_by f xs + sum_by g xs + sum_by h xs ≤ sum_by k xs
 sum_three f g h k each [] = omega arith
 sum_three f g h k each (x ∷ xs) =
-    let a = sum_by-cons f x xs in let b = sum_by-cons g x xs in let c = sum_by-cons h x xs in let d = sum_by-cons k x xs in
+    let a = sum_by-cons f x xs in let b = sum_by-cons g x xs in let c = sum_by-cons h x xs in
+    let d = sum_by-cons k x xs in
     let e = each x in let r = sum_three f g h k each xs in omega (arith, a, b, c, d, e, r)
 
-sum_two : {X : Type 0} (f g k : X → ℕ) → ((x : X) → f x + g x ≤ k x) → (xs : List X) → sum_by f xs + sum_by g xs ≤ sum_by k xs
+sum_two : {X : Type 0} (f g k : X → ℕ) → ((x : X) → f x + g x ≤ k x) → (xs : List X)
+    → sum_by f xs + sum_by g xs ≤ sum_by k xs
 sum_two f g k each [] = omega arith
 sum_two f g k each (x ∷ xs) =
     let a = sum_by-cons f x xs in let b = sum_by-cons g x xs in let d = sum_by-cons k x xs in
@@ -79,7 +78,8 @@ wait_most (Some None) None = omega arith
 wait_most (Some (Some q)) None = omega arith
 wait_most None (Some x) = by_kind x.word x.kind
   where
-    by_kind : (word : Bool) (kind : CellKind) → 0 + (if not word && is_stored kind then 1 else 0) ≤ (if not word then 1 else 0)
+    by_kind : (word : Bool) (kind : CellKind) → 0 + (if not word && is_stored kind then 1 else 0) ≤
+        (if not word then 1 else 0)
     by_kind true kind = omega arith
     by_kind false (kinds.Input k) = omega arith
     by_kind false (kinds.Output k) = omega arith
@@ -87,7 +87,8 @@ wait_most None (Some x) = by_kind x.word x.kind
     by_kind false kinds.Stored = omega arith
 wait_most (Some (Some q)) (Some x) = by_kind x.word x.kind
   where
-    by_kind : (word : Bool) (kind : CellKind) → 0 + (if not word && is_stored kind then 1 else 0) ≤ (if not word then 1 else 0)
+    by_kind : (word : Bool) (kind : CellKind) → 0 + (if not word && is_stored kind then 1 else 0) ≤
+        (if not word then 1 else 0)
     by_kind true kind = omega arith
     by_kind false (kinds.Input k) = omega arith
     by_kind false (kinds.Output k) = omega arith
@@ -96,7 +97,8 @@ wait_most (Some (Some q)) (Some x) = by_kind x.word x.kind
 wait_most (Some None) (Some x) = by_kind x.word x.kind
   where
     by_kind : (word : Bool) (kind : CellKind)
-        → (if is_driven kind && not word then 1 else 0) + (if not word && is_stored kind then 1 else 0) ≤ (if not word then 1 else 0)
+        → (if is_driven kind && not word then 1 else 0) + (if not word && is_stored kind then 1 else 0) ≤
+        (if not word then 1 else 0)
     by_kind true (kinds.Input k) = omega arith
     by_kind true (kinds.Output k) = omega arith
     by_kind true kinds.Inner = omega arith
@@ -111,7 +113,8 @@ transfer_parts : (xs : List cells.Cell) (os : List (Option Rails)) (t : Transfer
 transfer_parts xs os t =
     let w = wait_most (slice_get os t.target) (slice_get xs t.target) in
     let z : stored_from xs 0 t ≡ stored_count (slice_get xs t.target) =
-    ap (λ b. if b then stored_count (slice_get xs t.target) else 0) (Rattle.std.proofs.lemmas.Bool.le-leb 0 t.target (omega arith)) in
+    ap (λ b. if b then stored_count (slice_get xs t.target) else 0)
+    (Rattle.std.proofs.lemmas.Bool.le-leb 0 t.target (omega arith)) in
     omega (arith, w, z)
 
 -- the three rounds together
@@ -121,7 +124,8 @@ rounds r bits e =
     let c = sum_three first_cost driven_cost next_cost bit_cell_cost cell_parts r.cells in
     let l = left_most driven_cost bits.cells r.cells in
     let x = ap (λ os. left_by bit_expr_cost os r.exprs) e ∙ left_all bit_expr_cost r.exprs in
-    let t = sum_two (waits r.cells bits.cells) (stored_from r.cells 0) (bit_transfer_cost r.cells) (transfer_parts r.cells bits.cells) r.transfers in
+    let t = sum_two (waits r.cells bits.cells) (stored_from r.cells 0) (bit_transfer_cost r.cells)
+    (transfer_parts r.cells bits.cells) r.transfers in
     let d : sum_by next_cost (Rattle.std.proofs.Common.drop 0 r.cells) ≡ sum_by next_cost r.cells = refl in
     omega (arith, c, l, x, t, d)
 
@@ -169,5 +173,6 @@ few_cells r l = let a = each_two r.cells in omega (arith, a, l)
     each_two : (xs : List cells.Cell) → length xs ≤ sum_by (λ (x : cells.Cell). cell_cost x.kind) xs
     each_two [] = omega arith
     each_two (x ∷ xs) =
-        let c = sum_by-cons (λ (x : cells.Cell). cell_cost x.kind) x xs in let r = each_two xs in let k = kind_two x.kind in
+        let c = sum_by-cons (λ (x : cells.Cell). cell_cost x.kind) x xs in let r = each_two xs in
+        let k = kind_two x.kind in
         omega (arith, c, r, k)

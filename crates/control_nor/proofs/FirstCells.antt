@@ -1,15 +1,12 @@
 -- The first nets of all cells.
-use Rattle.std.proofs.Common.{◌≡◌, ℕ, zero, suc, ◌+◌, ◌-◌, ◌*◌, ◌<◌, ◌≤◌, ◌⊎◌, inl, inr, List, [], ◌∷◌, ◌++◌, Option, Some, None, Bool, true, false, length, take, get_or, replicate, refl, sym, ◌∙◌, ap, subst, arith, length-append, append_assoc}
-use Rattle.std.specs.Prelude.{All, MatchBool, if◌then◌else◌, slice_get, slice_set}
+use Rattle.std.proofs.Common.{◌≡◌, ℕ, zero, suc, ◌+◌, ◌<◌, ◌≤◌, ◌⊎◌, inl, inr, List, [], ◌∷◌, ◌++◌, Option, Some, None, Bool, true, false, length, take, get_or, replicate, refl, sym, ◌∙◌, ap, subst, arith, length-append, append_assoc}
+use Rattle.std.specs.Prelude.{MatchBool, slice_get}
 use Rattle.std.specs.List.{sum_by}
 use Rattle.std.proofs.lemmas.Bool.{cases_lt}
 use Rattle.std.proofs.lemmas.List.{length-set, take_more}
 use Rattle.std.proofs.lemmas.List.Sums.{sum_by-append, sum_by-cons}
 use Rattle.std.proofs.lemmas.Option.{none-some, same_Some, slice_get_within}
-use Rattle.mp_base.specs.declared.value.Trit.{Trit}
-use Rattle.nor_net.specs.Elements.{Spot, spot}
 use Rattle.nor_net.specs.declared.net.NetId.{NetId}
-use Rattle.nor_net.specs.declared.net.Phase.{Phase}
 use Rattle.nor_net.specs.declared.net.Phase.TheVariants.{B, C}
 use Rattle.nor_net.specs.declared.net.Part.{Part}
 use Rattle.nor_net.specs.declared.net.Part.TheVariants.{Input, Gate, Latch}
@@ -23,12 +20,11 @@ use Rattle.rtl_form.specs.Environment.{is_driven}
 use Rattle.rtl_form.specs.Sound.{CellFits, IsSound}
 use Rattle.rtl_form.proofs.Members.{one_entry}
 use Rattle.control_nor.specs.declared.rails.Rails.{Rails}
-use Rattle.control_nor.specs.Adding.{HasRoom, IsPort, IsSlave}
+use Rattle.control_nor.specs.Adding.{HasRoom}
 use Rattle.control_nor.specs.Cells.{IsFirstBitMade, IsFirstMade, first_cost}
-use Rattle.control_nor.specs.First.{AreFirstDone, AreFirstNamed, AreFirstNets, IsWaiting}
-use Rattle.control_nor.specs.Lowering.{InputBit, ObeysBehind, Stands}
-use Rattle.control_nor.specs.Rails.{Agree, AreBelow, Named}
-use Rattle.control_nor.specs.Size.{IsWithinCost, active_count}
+use Rattle.control_nor.specs.First.{AreFirstDone, AreFirstNamed, AreFirstNets}
+use Rattle.control_nor.specs.Lowering.{InputBit, Stands}
+use Rattle.control_nor.specs.Rails.{Named}
 use Rattle.control_nor.proofs.Adding.{get_behind, get_kept}
 use Rattle.control_nor.proofs.FirstSteps.{IsFirstStep, append_nil, get_front, none_step, port_step, slave_step}
 use Rattle.control_nor.proofs.Left.{nat_cases}
@@ -97,8 +93,10 @@ module _ (r : Rtl) (sound : IsSound r) (i : ℕ) (old new newer : List Part) (na
           let a = only.2 p.0 p.1 p.3 p.4 in
           let b = only.2 i x at e in
           let l = p.2 in absurd (omega (arith, a, b, l))
-  by_kind (kinds.Output k) e w h = none_step x new newer pads pads_new o h (λ q d. true_false (is_driven x.kind) (ap is_driven e) d)
-  by_kind kinds.Inner e w h = none_step x new newer pads pads_new o h (λ q d. true_false (is_driven x.kind) (ap is_driven e) d)
+  by_kind (kinds.Output k) e w h =
+      none_step x new newer pads pads_new o h (λ q d. true_false (is_driven x.kind) (ap is_driven e) d)
+  by_kind kinds.Inner e w h =
+      none_step x new newer pads pads_new o h (λ q d. true_false (is_driven x.kind) (ap is_driven e) d)
   by_kind kinds.Stored e w h =
       subst (IsFirstStep x new newer pads pads_new) (sym h.1) (slave_step x e w new newer pads pads_new h.0 h.2 h.3)
 
@@ -106,7 +104,8 @@ module _ (r : Rtl) (sound : IsSound r) (i : ℕ) (old new newer : List Part) (na
   now = by_word x.word refl made
     where
       by_word : (b : Bool) → x.word ≡ b
-          → MatchBool b ((o ≡ None) × (newer ≡ new) × (pads_new ≡ pads)) (IsFirstBitMade x.kind new newer pads pads_new o)
+          → MatchBool b ((o ≡ None) × (newer ≡ new) × (pads_new ≡ pads))
+          (IsFirstBitMade x.kind new newer pads pads_new o)
           → IsFirstStep x new newer pads pads_new o
       by_word true w h = none_step x new newer pads pads_new o h (λ q d. true_false x.word w q)
       by_word false w h = by_kind x.kind refl w h
@@ -131,7 +130,8 @@ module _ (r : Rtl) (sound : IsSound r) (i : ℕ) (old new newer : List Part) (na
   ]
 
   earlier : (c : ℕ) (rails : Rails) → Named named c rails → c < i
-  earlier c rails h = let w = slice_get_within named c (Some rails) h in let n = done.names.count in omega (arith, w, n)
+  earlier c rails h = let w = slice_get_within named c (Some rails) h in let n =
+      done.names.count in omega (arith, w, n)
 
   last_is : (c : ℕ) (y : cells.Cell) → IsAt r.cells c y → c ≡ i → x ≡ y
   last_is c y h e = one_entry r.cells i x y at (subst (λ n. IsAt r.cells n y) e h)
@@ -164,10 +164,12 @@ module _ (r : Rtl) (sound : IsSound r) (i : ℕ) (old new newer : List Part) (na
     apart = λ c d p q h k e. elim (entry_cases c p h) [
       | inl a ↦ elim (entry_cases d q k) [
         | inl b ↦ done.names.apart c d p q a b e
-        | inr b ↦ let m = (done.names.below c p a).bit_below in let n = now.behind q b.1 in absurd (omega (arith, m, n, e))
+        | inr b ↦ let m = (done.names.below c p a).bit_below in let n =
+            now.behind q b.1 in absurd (omega (arith, m, n, e))
       ]
       | inr a ↦ elim (entry_cases d q k) [
-        | inl b ↦ let m = (done.names.below d q b).bit_below in let n = now.behind p a.1 in absurd (omega (arith, m, n, e))
+        | inl b ↦ let m = (done.names.below d q b).bit_below in let n =
+            now.behind p a.1 in absurd (omega (arith, m, n, e))
         | inr b ↦ omega (arith, a.0, b.0)
       ]
     ];
@@ -177,19 +179,22 @@ module _ (r : Rtl) (sound : IsSound r) (i : ℕ) (old new newer : List Part) (na
     ];
     first = λ c y l h w d. elim (at_or_below c l) [
       | inl e ↦ let same = last_is c y h e in
-          let f = now.first (ap (λ (z : cells.Cell). z.word) same ∙ w) (ap (λ (z : cells.Cell). is_driven z.kind) same ∙ d) in
+          let f = now.first (ap (λ (z : cells.Cell). z.word) same ∙ w)
+          (ap (λ (z : cells.Cell). is_driven z.kind) same ∙ d) in
           (f.0, ap (slice_get next) e ∙ (entry_last ∙ ap Some f.1))
       | inr m ↦ let f = done.names.first c y m h w d in (f.0, get_kept named (o ∷ []) c (Some f.0) f.1)
     ];
     waiting = λ c y l h d. elim (at_or_below c l) [
       | inl e ↦ let same = last_is c y h e in
-          ap (slice_get next) e ∙ (entry_last ∙ ap Some (now.waiting (ap (λ (z : cells.Cell). is_driven z.kind) same ∙ d)))
+          ap (slice_get next) e ∙ (entry_last ∙ ap Some (now.waiting
+          (ap (λ (z : cells.Cell). is_driven z.kind) same ∙ d)))
       | inr m ↦ get_kept named (o ∷ []) c None (done.names.waiting c y m h d)
     ];
   }
 
   pad_cases : (k : ℕ) (pad : NetId) → Stands pads_new k pad
-      → Stands pads k pad ⊎ ((x.kind ≡ kinds.Input k) × (x.word ≡ false) × (length new ≤ pad.0) × (slice_get newer pad.0 ≡ Some Input))
+      → Stands pads k pad ⊎ ((x.kind ≡ kinds.Input k) × (x.word ≡ false) × (length new ≤ pad.0)
+      × (slice_get newer pad.0 ≡ Some Input))
   pad_cases = now.pads_new
 
   old_pad : (k : ℕ) (pad : NetId) → Stands pads k pad → pad.0 < length new
@@ -229,7 +234,8 @@ module _ (r : Rtl) (sound : IsSound r) (i : ℕ) (old new newer : List Part) (na
     ];
     ports = λ c k y rails pad h kind n q. elim (entry_cases c rails n) [
       | inl e ↦ let p = done.nets.pads_named c k y (earlier c rails e) h kind (done.names.bits_only c y rails h e) in
-          let same : p.0 ≡ pad = same_Some p.0 pad (same_Some (Some p.0) (Some pad) (sym (now.pads_stay k p.0 p.1) ∙ q)) in
+          let same : p.0 ≡ pad = same_Some p.0 pad (same_Some (Some p.0) (Some pad)
+          (sym (now.pads_stay k p.0 p.1) ∙ q)) in
           subst (InputBit newer rails.bit) same
           (kept_port rails.bit p.0 (done.nets.ports c k y rails p.0 h kind e p.1))
       | inr e ↦ now.ports k rails pad (ap (λ (z : cells.Cell). z.kind) (last_is c y h e.0) ∙ kind) e.1 q
@@ -289,7 +295,8 @@ module _ (r : Rtl) (sound : IsSound r) (i : ℕ) (old new newer : List Part) (na
   }
 
 -- there is room for the next cell
-pub room_first : (r : Rtl) (i : ℕ) (d : cells.Cell) (old new : List Part) (named : List (Option Rails)) (pads : List (Option NetId))
+pub room_first : (r : Rtl) (i : ℕ) (d : cells.Cell) (old new : List Part) (named : List (Option Rails))
+    (pads : List (Option NetId))
     → i < length r.cells → AreFirstDone r i old new named pads → HasRoom (sum_by first_cost r.cells) old
     → HasRoom (first_cost (get_or r.cells i d)) new
 room_first r i d old new named pads l done room =
@@ -303,5 +310,6 @@ room_first r i d old new named pads l done room =
     sum_least f [] i d l = absurd (omega arith)
     sum_least f (x ∷ xs) zero d l = let c = sum_by-cons f x xs in omega (arith, c)
     sum_least f (x ∷ xs) (suc i) d l =
-        let c = sum_by-cons f x xs in let b = sum_by-cons f x (take i xs) in let h = sum_least f xs i d (omega arith) in
+        let c = sum_by-cons f x xs in let b = sum_by-cons f x (take i xs) in
+        let h = sum_least f xs i d (omega arith) in
         omega (arith, c, b, h)

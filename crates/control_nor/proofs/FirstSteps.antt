@@ -1,13 +1,11 @@
 -- The first nets of cells, cell by cell.
-use Rattle.std.proofs.Common.{◌≡◌, ℕ, zero, suc, ◌+◌, ◌-◌, ◌*◌, ◌<◌, ◌≤◌, ◌⊎◌, inl, inr, List, [], ◌∷◌, ◌++◌, Option, Some, None, Bool, true, false, length, take, get_or, refl, sym, ◌∙◌, ap, subst, arith, length-append, append_assoc}
-use Rattle.std.specs.Prelude.{All, MatchBool, if◌then◌else◌, slice_get, slice_set}
+use Rattle.std.proofs.Common.{◌≡◌, ℕ, zero, suc, ◌+◌, ◌-◌, ◌<◌, ◌≤◌, ◌⊎◌, inl, inr, List, [], ◌∷◌, ◌++◌, Option, Some, None, true, false, length, refl, sym, ◌∙◌, ap, subst, arith}
+use Rattle.std.specs.Prelude.{if◌then◌else◌, slice_get, slice_set}
 use Rattle.std.specs.List.{sum_by}
-use Rattle.std.proofs.lemmas.Bool.{cases_lt}
-use Rattle.std.proofs.lemmas.List.{length-set, take_more}
-use Rattle.std.proofs.lemmas.List.Sums.{sum_by-append, sum_by-cons}
+use Rattle.std.proofs.lemmas.List.{length-set}
 use Rattle.std.proofs.lemmas.Option.{none-some, same_Some, slice_get_within}
 use Rattle.mp_base.specs.declared.value.Trit.{Trit}
-use Rattle.nor_net.specs.Elements.{Spot, spot}
+use Rattle.nor_net.specs.Elements.{Spot}
 use Rattle.nor_net.specs.declared.net.NetId.{NetId}
 use Rattle.nor_net.specs.declared.net.Phase.{Phase}
 use Rattle.nor_net.specs.declared.net.Phase.TheVariants.{B, C}
@@ -15,26 +13,22 @@ use Rattle.nor_net.specs.declared.net.Part.{Part}
 use Rattle.nor_net.specs.declared.net.Part.TheVariants.{Input, Gate, Latch}
 use Rattle.nor_net.specs.Shape.{gate_inputs}
 use Rattle.rtl_form.specs.declared.rtl.Cell as cells
-use Rattle.rtl_form.specs.declared.rtl.CellKind.{CellKind}
 use Rattle.rtl_form.specs.declared.rtl.CellKind.TheVariants as kinds
-use Rattle.rtl_form.specs.declared.rtl.Rtl.{Rtl}
-use Rattle.rtl_form.specs.Entries.{IsAt}
 use Rattle.rtl_form.specs.Environment.{is_driven}
-use Rattle.rtl_form.specs.Sound.{IsSound}
-use Rattle.rtl_form.proofs.Members.{one_entry}
 use Rattle.control_nor.specs.declared.rails.Rails.{Rails}
 use Rattle.control_nor.specs.Adding.{IsCounted, IsPort, IsSlave}
-use Rattle.control_nor.specs.Cells.{IsFirstBitMade, IsFirstMade, first_cost, first_kind_cost}
-use Rattle.control_nor.specs.First.{AreFirstDone, AreFirstNamed, AreFirstNets, IsWaiting}
+use Rattle.control_nor.specs.Cells.{first_cost, first_kind_cost}
+use Rattle.control_nor.specs.First.{IsWaiting}
 use Rattle.control_nor.specs.Lowering.{InputBit, ObeysBehind, Stands}
-use Rattle.control_nor.specs.Rails.{Agree, AreBelow, Named}
+use Rattle.control_nor.specs.Rails.{Agree, AreBelow}
 use Rattle.control_nor.specs.Size.{IsWithinCost, active_count}
-use Rattle.control_nor.proofs.Adding.{counted_list, get_at, get_behind, get_kept}
+use Rattle.control_nor.proofs.Adding.{counted_list, get_at, get_behind}
 use Rattle.control_nor.proofs.Left.{get_set_other, get_set_same, nat_cases}
-use Rattle.control_nor.proofs.Obeying.{agree_bit, gate_obeyed, obeys_less, swap_agree}
+use Rattle.control_nor.proofs.Obeying.{agree_bit, gate_obeyed, swap_agree}
 
 -- what one cell added
-pub record IsFirstStep (x : cells.Cell) (old new : List Part) (pads named : List (Option NetId)) (o : Option Rails) : Type 0 where
+pub record IsFirstStep (x : cells.Cell) (old new : List Part) (pads named : List (Option NetId))
+    (o : Option Rails) : Type 0 where
   pub added : (more : List Part) × (new ≡ old ++ more)
   pub within : IsWithinCost (first_cost x) 0 old new
   pub below : (rails : Rails) → o ≡ Some rails → AreBelow (length new) rails
@@ -46,7 +40,8 @@ pub record IsFirstStep (x : cells.Cell) (old new : List Part) (pads named : List
   pub pad_count : length named ≡ length pads
   pub pads_stay : (k : ℕ) (pad : NetId) → Stands pads k pad → Stands named k pad
   pub pads_new : (k : ℕ) (pad : NetId) → Stands named k pad
-      → Stands pads k pad ⊎ ((x.kind ≡ kinds.Input k) × (x.word ≡ false) × (length old ≤ pad.0) × (slice_get new pad.0 ≡ Some Input))
+      → Stands pads k pad ⊎ ((x.kind ≡ kinds.Input k) × (x.word ≡ false) × (length old ≤ pad.0)
+      × (slice_get new pad.0 ≡ Some Input))
   pub pads_named : (k : ℕ) → x.kind ≡ kinds.Input k → x.word ≡ false → (pad : NetId) × Stands named k pad
   pub ports : (k : ℕ) (rails : Rails) (pad : NetId) → x.kind ≡ kinds.Input k → o ≡ Some rails → Stands named k pad
       → InputBit new rails.bit pad
@@ -128,11 +123,13 @@ module _ (x : cells.Cell) (k : ℕ) (kind : x.kind ≡ kinds.Input k) (word : x.
 
   -- its three parts
   by_part : (n : ℕ) (p : Part) → length old ≤ n → slice_get new n ≡ Some p
-      → ((n ≡ length old) × (p ≡ Input)) ⊎ (((n ≡ length old + 1) × (p ≡ Latch C (Some pad))) ⊎ (p ≡ Gate (rails.bit ∷ [])))
+      → ((n ≡ length old) × (p ≡ Input)) ⊎ (((n ≡ length old + 1) × (p ≡ Latch C (Some pad))) ⊎
+      (p ≡ Gate (rails.bit ∷ [])))
   by_part n p l e = by_index (in_more old more n p l (ap (λ ps. slice_get ps n) (sym h.parts) ∙ e))
     where
       by_index : (i : ℕ) × (n ≡ length old + i) × (slice_get more i ≡ Some p)
-          → ((n ≡ length old) × (p ≡ Input)) ⊎ (((n ≡ length old + 1) × (p ≡ Latch C (Some pad))) ⊎ (p ≡ Gate (rails.bit ∷ [])))
+          → ((n ≡ length old) × (p ≡ Input)) ⊎ (((n ≡ length old + 1) × (p ≡ Latch C (Some pad))) ⊎
+          (p ≡ Gate (rails.bit ∷ [])))
       by_index (zero, e, q) = inl (omega (arith, e), sym (same_Some Input p q))
       by_index (suc zero, e, q) = inr (inl (e, sym (same_Some (Latch C (Some pad)) p q)))
       by_index (suc (suc zero), e, q) = inr (inr (sym (same_Some (Gate (rails.bit ∷ [])) p q)))
@@ -156,9 +153,11 @@ module _ (x : cells.Cell) (k : ℕ) (kind : x.kind ≡ kinds.Input k) (word : x.
       inputs = let e = counted.input_count in omega (arith, e, cost_is);
       active = let e = counted.active_count in omega (arith, e, cost_is);
     };
-    below = λ q e. subst (AreBelow (length new)) (same_Some rails q e) (let c = counted.net_count in let b = h.at_bit in
+    below = λ q e. subst (AreBelow (length new)) (same_Some rails q e)
+        (let c = counted.net_count in let b = h.at_bit in
         let n = h.at_negation in record { bit_below = omega (arith, c, b); negation_below = omega (arith, c, n) });
-    behind = λ q e. subst (λ (q : Rails). length old ≤ q.bit.0) (same_Some rails q e) (let b = h.at_bit in omega (arith, b));
+    behind = λ q e. subst (λ (q : Rails). length old ≤ q.bit.0) (same_Some rails q e)
+        (let b = h.at_bit in omega (arith, b));
     negation_behind = λ q e. subst (λ (q : Rails). length old ≤ q.negation.0) (same_Some rails q e)
         (let n = h.at_negation in omega (arith, n));
     is_bit = λ q e. word;
@@ -172,14 +171,16 @@ module _ (x : cells.Cell) (k : ℕ) (kind : x.kind ≡ kinds.Input k) (word : x.
             kind ∙ ap kinds.Input (sym same),
             word,
             (let a = h.at_pad in let b = ap (λ (n : NetId). n.0) is in omega (arith, a, b)),
-            subst (λ (n : NetId). slice_get new n.0 ≡ Some Input) (sym is) (at pad.0 0 Input (let a = h.at_pad in omega (arith, a)) refl),
+            subst (λ (n : NetId). slice_get new n.0 ≡ Some Input) (sym is)
+                (at pad.0 0 Input (let a = h.at_pad in omega (arith, a)) refl),
           )
       | inr ne ↦ inl (sym (there j ne) ∙ e)
     ];
     pads_named = λ j e w. (pad, ap (slice_get named) (same_kind j e) ∙ here);
     ports = λ j q r e some stands.
         let is : pad ≡ r = cc (here, ap (slice_get named) (sym (same_kind j e)) ∙ stands) in
-        subst (λ (n : NetId). InputBit new q.bit n) is (subst (λ (n : Rails). InputBit new n.bit pad) (same_Some rails q some) (record {
+        subst (λ (n : NetId). InputBit new q.bit n) is (subst (λ (n : Rails). InputBit new n.bit pad)
+        (same_Some rails q some) (record {
           is_latch = at rails.bit.0 1 (Latch C (Some pad)) (let b = h.at_bit in omega (arith, b)) refl;
           is_pad = at pad.0 0 Input (let a = h.at_pad in omega (arith, a)) refl;
         }));
@@ -188,7 +189,8 @@ module _ (x : cells.Cell) (k : ℕ) (kind : x.kind ≡ kinds.Input k) (word : x.
       | inl q ↦ (
         k,
         subst (λ (i : NetId). Stands named k i)
-            (let s : pad.0 ≡ n = (let a = h.at_pad in omega (arith, a, q.0)) in ap (λ m. let i : NetId = record { 0 = m } in i) s) here,
+            (let s : pad.0 ≡ n = (let a = h.at_pad in omega (arith, a, q.0)) in
+            ap (λ m. let i : NetId = record { 0 = m } in i) s) here,
       )
       | inr q ↦ elim q [ inl w ↦ absurd (cc w.1) | inr w ↦ absurd (cc w) ]
     ];
@@ -204,7 +206,8 @@ module _ (x : cells.Cell) (k : ℕ) (kind : x.kind ≡ kinds.Input k) (word : x.
       | inr q ↦ elim q [ inl w ↦ absurd (cc w.1) | inr w ↦ absurd (cc w) ]
     ];
     agree = λ v obeys q e. subst (Agree v) (same_Some rails q e) (agree_bit v rails
-        (gate_obeyed new (length old) v rails.negation (rails.bit ∷ []) obeys (let n = h.at_negation in omega (arith, n))
+        (gate_obeyed new (length old) v rails.negation (rails.bit ∷ []) obeys
+        (let n = h.at_negation in omega (arith, n))
         (at rails.negation.0 2 (Gate (rails.bit ∷ [])) (let n = h.at_negation in omega (arith, n)) refl)));
   }
 
@@ -245,9 +248,11 @@ module _ (x : cells.Cell) (kind : x.kind ≡ kinds.Stored) (word : x.word ≡ fa
       inputs = let e = slave_counted.input_count in omega (arith, e, slave_cost);
       active = let e = slave_counted.active_count in omega (arith, e, slave_cost);
     };
-    below = λ q e. subst (AreBelow (length new)) (same_Some rails q e) (let c = slave_counted.net_count in let b = h.at_bit in
+    below = λ q e. subst (AreBelow (length new)) (same_Some rails q e)
+        (let c = slave_counted.net_count in let b = h.at_bit in
         let n = h.at_negation in record { bit_below = omega (arith, c, b); negation_below = omega (arith, c, n) });
-    behind = λ q e. subst (λ (q : Rails). length old ≤ q.bit.0) (same_Some rails q e) (let b = h.at_bit in omega (arith, b));
+    behind = λ q e. subst (λ (q : Rails). length old ≤ q.bit.0) (same_Some rails q e)
+        (let b = h.at_bit in omega (arith, b));
     negation_behind = λ q e. subst (λ (q : Rails). length old ≤ q.negation.0) (same_Some rails q e)
         (let n = h.at_negation in omega (arith, n));
     is_bit = λ q e. word;
@@ -264,12 +269,17 @@ module _ (x : cells.Cell) (kind : x.kind ≡ kinds.Stored) (word : x.word ≡ fa
       behind = let n = h.at_negation in let b = h.at_bit in omega (arith, n, b);
     });
     inputs = λ n l e. elim (of_two n Input l e) [ inl q ↦ absurd (cc q.1) | inr q ↦ absurd (cc q) ];
-    latches = λ n p source l e. elim (of_two n (Latch p (Some source)) l e) [ inl q ↦ absurd (cc q.1) | inr q ↦ absurd (cc q) ];
+    latches = λ n p source l e. elim (of_two n (Latch p (Some source)) l e) [
+      | inl q ↦ absurd
+          (cc q.1)
+      | inr q ↦ absurd (cc q)
+    ];
     unfed = λ n p l e. elim (of_two n (Latch p None) l e) [
       | inl q ↦ (kind, (rails, refl, (let m = h.at_negation in omega (arith, m, q.0))))
       | inr q ↦ absurd (cc q)
     ];
-    agree = λ v obeys q e. subst (Agree v) (same_Some rails q e) (swap_agree v rails (agree_bit v (record { bit = rails.negation; negation = rails.bit })
+    agree = λ v obeys q e. subst (Agree v) (same_Some rails q e)
+        (swap_agree v rails (agree_bit v (record { bit = rails.negation; negation = rails.bit })
         (gate_obeyed new (length old) v rails.bit (rails.negation ∷ []) obeys (let b = h.at_bit in omega (arith, b))
         (stand rails.bit.0 1 (Gate (rails.negation ∷ [])) (let b = h.at_bit in omega (arith, b)) refl))));
   }

@@ -1,7 +1,7 @@
 -- Where the nets of tasks are, and what they mean, task by task.
-use Rattle.std.proofs.Common.{◌≡◌, ℕ, zero, suc, ◌+◌, ◌-◌, ◌*◌, ◌<◌, ◌≤◌, ◌⊎◌, inl, inr, List, [], ◌∷◌, ◌++◌, Option, Some, None, Bool, true, false, length, refl, sym, ◌∙◌, ap, subst, arith, cond, eqb, get_or, length-append}
-use Rattle.std.specs.Prelude.{All, Contains, MatchBool, ◌&&◌, ◌==◌, not, if◌then◌else◌, slice_get, slice_set, slice_index}
-use Rattle.std.specs.List.{filter, list_any}
+use Rattle.std.proofs.Common.{◌≡◌, ℕ, zero, suc, ◌+◌, ◌<◌, ◌≤◌, ◌⊎◌, inl, inr, List, [], ◌∷◌, ◌++◌, Option, Some, None, Bool, true, false, length, refl, sym, ◌∙◌, ap, subst, arith, eqb, get_or, length-append}
+use Rattle.std.specs.Prelude.{All, MatchBool, ◌==◌, slice_get, slice_index}
+use Rattle.std.specs.List.{list_any}
 use Rattle.std.proofs.lemmas.Bool.{eqb-true}
 use Rattle.std.proofs.lemmas.List.Elements.{All-filter, Contains-get_or, filter_passes}
 use Rattle.std.proofs.lemmas.Option.{none-some, same_Some, slice_get_within}
@@ -10,7 +10,6 @@ use Rattle.nor_net.specs.declared.net.NetId.{NetId}
 use Rattle.nor_net.specs.declared.net.Part.{Part}
 use Rattle.nor_net.specs.declared.net.Part.TheVariants.{Input, Gate}
 use Rattle.nor_net.specs.Elements.{Spot}
-use Rattle.rtl_form.specs.declared.rtl.Cell as cells
 use Rattle.rtl_form.specs.declared.rtl.Transfer.{Transfer}
 use Rattle.rtl_form.specs.declared.rtl.RtlExpr.{RtlExpr}
 use Rattle.rtl_form.specs.declared.rtl.RtlExpr.TheVariants as exprs
@@ -23,7 +22,6 @@ use Rattle.control_nor.specs.declared.names.Task.{Task}
 use Rattle.control_nor.specs.declared.names.Task.TheVariants.{Expr, Cell}
 use Rattle.control_nor.specs.declared.rails.Rails.{Rails}
 use Rattle.control_nor.specs.declared.rails.Bits.{Bits}
-use Rattle.control_nor.specs.Adding.{AddsLogic}
 use Rattle.control_nor.specs.Cells.{IsDrivenMade, transfers_to}
 use Rattle.control_nor.specs.Exprs.{IsExprMade}
 use Rattle.control_nor.specs.Lowering.{BitsFit, IsEntry, ObeysBehind}
@@ -32,7 +30,7 @@ use Rattle.control_nor.specs.Progress.{IsBegun, IsLaid, IsProgress, NamedTask, l
 use Rattle.control_nor.specs.Rails.{Agree, HasRails, Known, Named}
 use Rattle.control_nor.specs.Schedule.{IsSchedule}
 use Rattle.control_nor.specs.Tasks.{IsTaskDone, IsTaskMade, entry_of, with_entry}
-use Rattle.control_nor.proofs.Adding.{get_at, get_behind, get_kept, gates_longer, logic_keep, logic_longer}
+use Rattle.control_nor.proofs.Adding.{get_at, gates_longer, logic_keep, logic_longer}
 use Rattle.control_nor.proofs.Left.{nat_cases}
 use Rattle.control_nor.proofs.Meaning.{driven_agree, driven_meant, expr_agree, expr_meant}
 use Rattle.control_nor.proofs.Obeying.{obeys_less}
@@ -50,7 +48,8 @@ pub index_last : (xs : List ℕ) (x : ℕ) → slice_index (xs ++ x ∷ []) (len
 index_last [] x = refl
 index_last (y ∷ xs) x = index_last xs x
 
-level_kept : (start : ℕ) (ends : List ℕ) (x s : ℕ) → s ≤ length ends → level start (ends ++ x ∷ []) s ≡ level start ends s
+level_kept : (start : ℕ) (ends : List ℕ) (x s : ℕ) → s ≤ length ends
+    → level start (ends ++ x ∷ []) s ≡ level start ends s
 level_kept start ends x zero l = refl
 level_kept start ends x (suc s) l = index_kept ends x s (omega arith)
 
@@ -73,15 +72,18 @@ driven_at entries ts old new rails h =
     let m = h.pair.at_bit in (
       omega (arith, l, n),
       ap (λ ps. slice_get ps rails.bit.0) h.pair.parts
-          ∙ get_at h.middle (Gate h.terms ∷ Gate (rails.negation ∷ []) ∷ []) rails.bit.0 1 (Gate (rails.negation ∷ [])) (omega (arith, n)) refl,
+          ∙ get_at h.middle (Gate h.terms ∷ Gate (rails.negation ∷ []) ∷ []) rails.bit.0 1
+          (Gate (rails.negation ∷ [])) (omega (arith, n)) refl,
       (
         h.terms,
         ap (λ ps. slice_get ps rails.negation.0) h.pair.parts
-            ∙ get_at h.middle (Gate h.terms ∷ Gate (rails.negation ∷ []) ∷ []) rails.negation.0 0 (Gate h.terms) (omega (arith, m)) refl,
+            ∙ get_at h.middle (Gate h.terms ∷ Gate (rails.negation ∷ []) ∷ []) rails.negation.0 0 (Gate h.terms)
+            (omega (arith, m)) refl,
       ),
     )
 
-pub nothing_laid : (r : Rtl) (tasks : List Task) (old : List Part) (before : Bits) → IsLaid r tasks 0 old old before []
+pub nothing_laid : (r : Rtl) (tasks : List Task) (old : List Part) (before : Bits)
+    → IsLaid r tasks 0 old old before []
 nothing_laid r tasks old before = record {
   count = refl;
   top = refl;
@@ -92,14 +94,16 @@ nothing_laid r tasks old before = record {
   inputs = λ n l e. absurd (let w = slice_get_within old n Input e in omega (arith, w, l));
 }
 
-pub nothing_meant : (r : Rtl) (tasks : List Task) (old : List Part) (before : Bits) → IsMeant r tasks 0 (length old) old before before
+pub nothing_meant : (r : Rtl) (tasks : List Task) (old : List Part) (before : Bits)
+    → IsMeant r tasks 0 (length old) old before before
 nothing_meant r tasks old before = record {
   agree = λ v obeys all task rails h. all task rails h;
   exprs = λ s e x rails v env l h at q obeys fit known. absurd (omega arith);
   driven = λ s c rails v env l h q obeys known. absurd (omega arith);
 }
 
-module _ (r : Rtl) (sound : IsSound r) (tasks : List Task) (schedule : IsSchedule r tasks) (old : List Part) (before : Bits)
+module _ (r : Rtl) (sound : IsSound r) (tasks : List Task) (schedule : IsSchedule r tasks) (old : List Part)
+    (before : Bits)
     (begun : IsBegun r old before) (t : ℕ) (new : List Part) (after : Bits)
     (progress : IsProgress r tasks t old new before after) (task : Task) (is : slice_get tasks t ≡ Some task)
     (newer : List Part) (later : Bits) (made : IsTaskDone r task new newer after later) where
@@ -113,7 +117,8 @@ module _ (r : Rtl) (sound : IsSound r) (tasks : List Task) (schedule : IsSchedul
   now = step r sound tasks schedule old before begun t new after progress task is newer later made
 
   other_task : (s : ℕ) (y : Task) → slice_get tasks s ≡ Some y → s < t → y ≡ task → ⊥
-  other_task s y at l = others r sound tasks schedule old before begun t new after progress task is newer later made s y at
+  other_task s y at l = others r sound tasks schedule old before begun t new after progress task is newer later made
+      s y at
       (λ e. absurd (omega arith))
 
   -- the same place has the same task
@@ -151,7 +156,8 @@ module _ (r : Rtl) (sound : IsSound r) (tasks : List Task) (schedule : IsSchedul
     top_level : level (length old) more t ≡ length new
     top_level = same_level t (omega arith) ∙ laid.top
 
-    driven_here : (k : Task) → task ≡ k → (c : ℕ) → k ≡ Cell c → (rails : Rails) → IsTaskMade r after k new newer made.entry
+    driven_here : (k : Task) → task ≡ k → (c : ℕ) → k ≡ Cell c → (rails : Rails)
+        → IsTaskMade r after k new newer made.entry
         → made.entry ≡ Some rails
         → (length new ≤ rails.bit.0) × (slice_get newer rails.bit.0 ≡ Some (Gate (rails.negation ∷ [])))
         × ((inputs : List NetId) × (slice_get newer rails.negation.0 ≡ Some (Gate inputs)))
@@ -159,7 +165,8 @@ module _ (r : Rtl) (sound : IsSound r) (tasks : List Task) (schedule : IsSchedul
     driven_here (Cell d) same c kind rails h some = by_word h.0.word h.2
       where
         by_word : (b : Bool) → MatchBool b ((made.entry ≡ None) × (newer ≡ new))
-            ((rails : Rails) × (made.entry ≡ Some rails) × IsDrivenMade after.exprs (transfers_to r.transfers d) new newer rails)
+            ((rails : Rails) × (made.entry ≡ Some rails) × IsDrivenMade after.exprs
+            (transfers_to r.transfers d) new newer rails)
             → (length new ≤ rails.bit.0) × (slice_get newer rails.bit.0 ≡ Some (Gate (rails.negation ∷ [])))
             × ((inputs : List NetId) × (slice_get newer rails.negation.0 ≡ Some (Gate inputs)))
         by_word true q = absurd (none-some rails (sym q.0 ∙ some))
@@ -169,7 +176,8 @@ module _ (r : Rtl) (sound : IsSound r) (tasks : List Task) (schedule : IsSchedul
             (subst (IsDrivenMade after.exprs (transfers_to r.transfers d) new newer) same q.2)
 
     entered : (k : Task) (rails : Rails) (n : ℕ) → IsEntryTask r k → NamedTask next k rails → rails.bit.0 ≡ n
-        → (e : ℕ) × (x : RtlExpr) × (rails : Rails) × IsAt r.exprs e x × IsEntry x × Named next.exprs e rails × (rails.bit.0 ≡ n)
+        → (e : ℕ) × (x : RtlExpr) × (rails : Rails) × IsAt r.exprs e x × IsEntry x × Named next.exprs e rails
+        × (rails.bit.0 ≡ n)
     entered (Expr e) rails n y h at = (e, y.0, rails, y.1, y.2, h, at)
     entered (Cell c) rails n y h at = absurd y
 
@@ -179,13 +187,16 @@ module _ (r : Rtl) (sound : IsSound r) (tasks : List Task) (schedule : IsSchedul
       top = ap (level (length old) more) (let e : t + 1 ≡ suc t = omega arith in e) ∙ last_level;
       rise = λ s l. elim (at_or_below s l) [
         | inl e ↦ let a : level (length old) more s ≡ length new = ap (level (length old) more) e ∙ top_level in
-            let b : level (length old) more (suc s) ≡ length newer = ap (λ n. level (length old) more (suc n)) e ∙ last_level in
+            let b : level (length old) more (suc s) ≡ length newer = ap (λ n. level (length old) more (suc n)) e
+            ∙ last_level in
             omega (arith, a, b, longer)
-        | inr m ↦ let a = same_level s (omega arith) in let b = same_level (suc s) (omega arith) in let c = laid.rise s m in
+        | inr m ↦ let a = same_level s (omega arith) in let b = same_level (suc s) (omega arith) in let c =
+            laid.rise s m in
             omega (arith, a, b, c)
       ];
       below = λ s y rails l at h. elim (at_or_below s l) [
-        | inl e ↦ let b : level (length old) more (suc s) ≡ length newer = ap (λ n. level (length old) more (suc n)) e ∙ last_level in
+        | inl e ↦ let b : level (length old) more (suc s) ≡ length newer =
+            ap (λ n. level (length old) more (suc n)) e ∙ last_level in
             let k = (now.below rails (named_here y rails (this_task s y at e) h)).bit_below in omega (arith, b, k)
         | inr m ↦ let b = same_level (suc s) (omega arith) in
             let k = laid.below s y rails m at (named_there s y rails at m h) in omega (arith, b, k)
@@ -204,7 +215,8 @@ module _ (r : Rtl) (sound : IsSound r) (tasks : List Task) (schedule : IsSchedul
       ];
       entries = λ s e x rails l at is_at y h. elim (at_or_below s l) [
         | inl q ↦ let same = this_task s (Expr e) at q in
-            let g = now.entry (subst (IsEntryTask r) (sym same) (x, is_at, y)) rails (named_here (Expr e) rails same h) in
+            let g = now.entry (subst (IsEntryTask r) (sym same) (x, is_at, y)) rails
+            (named_here (Expr e) rails same h) in
             let a : level (length old) more s ≡ length new = ap (level (length old) more) q ∙ top_level in
             let b = g.0 in (omega (arith, a, b), g.1)
         | inr m ↦ let g = laid.entries s e x rails m at is_at y (named_there s (Expr e) rails at m h) in
@@ -215,9 +227,11 @@ module _ (r : Rtl) (sound : IsSound r) (tasks : List Task) (schedule : IsSchedul
     })
       where
         by_place : (n : ℕ) → length old ≤ n → slice_get newer n ≡ Some Input → (n < length new) ⊎ (length new ≤ n)
-            → (e : ℕ) × (x : RtlExpr) × (rails : Rails) × IsAt r.exprs e x × IsEntry x × Named next.exprs e rails × (rails.bit.0 ≡ n)
+            → (e : ℕ) × (x : RtlExpr) × (rails : Rails) × IsAt r.exprs e x × IsEntry x × Named next.exprs e rails
+            × (rails.bit.0 ≡ n)
         by_place n l e (inl m) =
-            let g = laid.inputs n l (sym (get_front new now.adds.0 n m) ∙ (ap (λ ps. slice_get ps n) (sym now.adds.1) ∙ e)) in
+            let g = laid.inputs n l (sym (get_front new now.adds.0 n m)
+            ∙ (ap (λ ps. slice_get ps n) (sym now.adds.1) ∙ e)) in
             (g.0, g.1, g.2, g.3, g.4, names_stay after made.entry task (Expr g.0) g.2 here g.5, g.6)
         by_place n l e (inr m) =
             let g = now.inputs n m e in
@@ -231,7 +245,8 @@ module _ (r : Rtl) (sound : IsSound r) (tasks : List Task) (schedule : IsSchedul
   exprs_fewer : (v : Spot → Trit) (e x : ℕ) → Known v next.exprs e x → Known v after.exprs e x
   exprs_fewer v e x known rails h = known rails (names_stay after made.entry task (Expr e) rails here h)
 
-  known_fewer : (v : Spot → Trit) (env : List ℕ) (x : RtlExpr) → IsExprKnown r v env next x → IsExprKnown r v env after x
+  known_fewer : (v : Spot → Trit) (env : List ℕ) (x : RtlExpr) → IsExprKnown r v env next x
+      → IsExprKnown r v env after x
   known_fewer v env (exprs.Number n) known = known
   known_fewer v env (exprs.Truth b) known = known
   known_fewer v env (exprs.Cell c) known = cells_fewer v c (slice_index env c) known
@@ -254,18 +269,22 @@ module _ (r : Rtl) (sound : IsSound r) (tasks : List Task) (schedule : IsSchedul
     task_agree : ((y : Task) (rails : Rails) → NamedTask after y rails → Agree v rails) → (k : Task) → task ≡ k
         → IsTaskMade r after k new newer made.entry → (rails : Rails) → made.entry ≡ Some rails → Agree v rails
     task_agree all (Expr e) same h rails some =
-        expr_agree r sound after new newer rails v own h.0 (subst (IsExprMade after.cells after.exprs h.0 new newer) some h.2)
+        expr_agree r sound after new newer rails v own h.0
+        (subst (IsExprMade after.cells after.exprs h.0 new newer) some h.2)
         (λ c q n. all (Cell c) q n) (λ d q n. all (Expr d) q n)
     task_agree all (Cell c) same h rails some = by_word h.0.word h.2
       where
         by_word : (b : Bool) → MatchBool b ((made.entry ≡ None) × (newer ≡ new))
-            ((rails : Rails) × (made.entry ≡ Some rails) × IsDrivenMade after.exprs (transfers_to r.transfers c) new newer rails)
+            ((rails : Rails) × (made.entry ≡ Some rails) × IsDrivenMade after.exprs
+            (transfers_to r.transfers c) new newer rails)
             → Agree v rails
         by_word true q = absurd (none-some rails (sym q.0 ∙ some))
         by_word false q = driven_agree after.exprs (transfers_to r.transfers c) new newer rails
-            (subst (IsDrivenMade after.exprs (transfers_to r.transfers c) new newer) (same_Some q.0 rails (sym q.1 ∙ some)) q.2) v own
+            (subst (IsDrivenMade after.exprs (transfers_to r.transfers c) new newer)
+            (same_Some q.0 rails (sym q.1 ∙ some)) q.2) v own
 
-    task_expr : (e : ℕ) (x : RtlExpr) (rails : Rails) (env : List ℕ) → IsTaskMade r after (Expr e) new newer made.entry
+    task_expr : (e : ℕ) (x : RtlExpr) (rails : Rails) (env : List ℕ)
+        → IsTaskMade r after (Expr e) new newer made.entry
         → made.entry ≡ Some rails → IsAt r.exprs e x → BitsFit r env → IsExprKnown r v env after x
         → HasRails v rails (value_of r env e == 1)
     task_expr e x rails env h some at fit known =
@@ -278,25 +297,31 @@ module _ (r : Rtl) (sound : IsSound r) (tasks : List Task) (schedule : IsSchedul
         → HasRails v rails (list_any (is_active (value_of r env)) (transfers_to r.transfers c))
     task_driven c rails env h some known = by_word h.0.word h.2
       where
-        each : All (λ (u : Transfer). Known v after.exprs u.guard (value_of r env u.guard) × Known v after.exprs u.value (value_of r env u.value))
+        each : All (λ (u : Transfer). Known v after.exprs u.guard (value_of r env u.guard)
+            × Known v after.exprs u.value (value_of r env u.value))
             (transfers_to r.transfers c)
         each k d l =
             let all : All (λ (u : Transfer). u.target ≡ c → Known v after.exprs u.guard (value_of r env u.guard)
             × Known v after.exprs u.value (value_of r env u.value)) r.transfers =
             λ k d l. known (get_or r.transfers k d) (Contains-get_or r.transfers k d l) in
             All-filter (λ (u : Transfer). eqb u.target c) (λ (u : Transfer). u.target ≡ c
-            → Known v after.exprs u.guard (value_of r env u.guard) × Known v after.exprs u.value (value_of r env u.value)) r.transfers all k d l
-            (eqb-true (get_or (transfers_to r.transfers c) k d).target c (filter_passes (λ (u : Transfer). eqb u.target c) r.transfers k d l))
+            → Known v after.exprs u.guard (value_of r env u.guard)
+            × Known v after.exprs u.value (value_of r env u.value)) r.transfers all k d l
+            (eqb-true (get_or (transfers_to r.transfers c) k d).target c
+            (filter_passes (λ (u : Transfer). eqb u.target c) r.transfers k d l))
 
         by_word : (b : Bool) → MatchBool b ((made.entry ≡ None) × (newer ≡ new))
-            ((rails : Rails) × (made.entry ≡ Some rails) × IsDrivenMade after.exprs (transfers_to r.transfers c) new newer rails)
+            ((rails : Rails) × (made.entry ≡ Some rails) × IsDrivenMade after.exprs
+            (transfers_to r.transfers c) new newer rails)
             → HasRails v rails (list_any (is_active (value_of r env)) (transfers_to r.transfers c))
         by_word true q = absurd (none-some rails (sym q.0 ∙ some))
         by_word false q = driven_meant after.exprs (transfers_to r.transfers c) new newer rails
-            (subst (IsDrivenMade after.exprs (transfers_to r.transfers c) new newer) (same_Some q.0 rails (sym q.1 ∙ some)) q.2) v own r
+            (subst (IsDrivenMade after.exprs (transfers_to r.transfers c) new newer)
+            (same_Some q.0 rails (sym q.1 ∙ some)) q.2) v own r
             (value_of r env) each
 
-  pub meant_more : IsMeant r tasks t (length old) new before after → IsMeant r tasks (t + 1) (length old) newer before later
+  pub meant_more : IsMeant r tasks t (length old) new before after
+      → IsMeant r tasks (t + 1) (length old) newer before later
   meant_more meant = subst (IsMeant r tasks (t + 1) (length old) newer before) (sym made.is_after) (record {
     agree = λ v obeys all y rails h. elim (named_after after made.entry task y rails here h) [
       | inl q ↦ task_agree v obeys (meant.agree v (earlier v obeys) all) task refl made.is_made rails q.1

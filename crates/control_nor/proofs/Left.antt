@@ -1,6 +1,6 @@
 -- The cost of what has no nets yet, as it falls.
-use Rattle.std.proofs.Common.{◌≡◌, ℕ, zero, suc, ◌+◌, ◌-◌, ◌*◌, ◌<◌, ◌≤◌, ◌⊎◌, inl, inr, List, [], ◌∷◌, ◌++◌, Option, Some, None, Bool, true, false, length, refl, sym, ◌∙◌, ap, subst, arith, cond, eqb}
-use Rattle.std.specs.Prelude.{slice_get, slice_set, if◌then◌else◌, ◌==◌}
+use Rattle.std.proofs.Common.{◌≡◌, ℕ, zero, suc, ◌+◌, ◌<◌, ◌≤◌, ◌⊎◌, inl, inr, List, [], ◌∷◌, Option, Some, None, Bool, true, false, length, refl, sym, ◌∙◌, ap, arith, cond, eqb}
+use Rattle.std.specs.Prelude.{slice_get, slice_set}
 use Rattle.std.specs.List.{sum_by, filter}
 use Rattle.std.proofs.lemmas.Option.{none-some, same_Some, slice_get_within}
 use Rattle.std.proofs.lemmas.List.Sums.{sum_by-cons}
@@ -12,7 +12,8 @@ use Rattle.control_nor.specs.Progress.{driven_count, left_by, wait_of, waits}
 
 module _ {X : Type 0} (f : X → ℕ) where
   -- one that gets nets costs nothing more
-  pub left_some : (os : List (Option Rails)) (xs : List X) (k : ℕ) (x : X) (rails : Rails) → slice_get os k ≡ Some None
+  pub left_some : (os : List (Option Rails)) (xs : List X) (k : ℕ) (x : X) (rails : Rails)
+      → slice_get os k ≡ Some None
       → slice_get xs k ≡ Some x → f x + left_by f (slice_set os k (Some rails)) xs ≡ left_by f os xs
   left_some [] xs k x rails e h = absurd (none-some None e)
   left_some (o ∷ os) [] k x rails e h = absurd (none-some x h)
@@ -37,7 +38,8 @@ set_there (y ∷ xs) zero x e = ap (λ z. z ∷ xs) (sym (same_Some y x e))
 set_there (y ∷ xs) (suc k) x e = ap (λ zs. y ∷ zs) (set_there xs k x e)
 
 -- the entries after a set
-pub get_set_same : {X : Type 0} (xs : List X) (k : ℕ) (x : X) → k < length xs → slice_get (slice_set xs k x) k ≡ Some x
+pub get_set_same : {X : Type 0} (xs : List X) (k : ℕ) (x : X) → k < length xs
+    → slice_get (slice_set xs k x) k ≡ Some x
 get_set_same [] k x l = absurd (omega arith)
 get_set_same (y ∷ xs) zero x l = refl
 get_set_same (y ∷ xs) (suc k) x l = get_set_same xs k x (omega arith)
@@ -71,7 +73,8 @@ sum_split f g p h (x ∷ xs) =
     let here = h x in
     let a = sum_by-cons f x xs in
     let c = sum_by-cons g x xs in
-    let d : length (cond (p x) (x ∷ filter p xs) (filter p xs)) ≡ one_if (p x) + length (filter p xs) = by_length (p x) in
+    let d : length (cond (p x) (x ∷ filter p xs) (filter p xs))
+    ≡ one_if (p x) + length (filter p xs) = by_length (p x) in
     omega (arith, i, here, a, c, d)
   where
     by_length : (b : Bool) → length (cond b (x ∷ filter p xs) (filter p xs)) ≡ one_if b + length (filter p xs)
@@ -91,7 +94,8 @@ module _ (xs : List cells.Cell) (os : List (Option Rails)) (c : ℕ) (x : cells.
           ∙ (ap (λ o. wait_of o (slice_get xs c)) waiting ∙ (ap (λ o. wait_of (Some None) o) is ∙ driven)) in
           let now : waits xs (slice_set os c (Some rails)) t ≡ 0 =
           ap (λ n. wait_of (slice_get (slice_set os c (Some rails)) n) (slice_get xs n)) e
-          ∙ (ap (λ o. wait_of o (slice_get xs c)) (get_set_same os c (Some rails) (slice_get_within os c None waiting))
+          ∙ (ap (λ o. wait_of o (slice_get xs c)) (get_set_same os c (Some rails)
+          (slice_get_within os c None waiting))
           ∙ ap (λ o. wait_of (Some (Some rails)) o) is) in
           omega (arith, test, was, now)
 

@@ -1,12 +1,12 @@
 -- The nets of all bits, with their names.
 use Rattle.std.proofs.Common.{◌≡◌, ℕ, zero, suc, ◌+◌, ◌-◌, ◌*◌, ◌<◌, ◌≤◌, ◌⊎◌, inl, inr, List, [], ◌∷◌, ◌++◌, Option, Some, None, Bool, true, false, length, map, replicate, get_or, refl, sym, ◌∙◌, ap, subst, arith, cond, eqb}
-use Rattle.std.specs.Prelude.{All, Contains, ◌↔◌, not, ◌&&◌, ◌||◌, ◌==◌, if◌then◌else◌, slice_get, slice_index, unwrap_or}
+use Rattle.std.specs.Prelude.{All, Contains, not, ◌&&◌, ◌||◌, ◌==◌, if◌then◌else◌, slice_get, slice_index, unwrap_or}
 use Rattle.std.specs.List.{list_any, sum_by}
 use Rattle.std.proofs.lemmas.Bool.{cases_lt, eqb-true}
 use Rattle.std.proofs.lemmas.Option.{none-some, same_Some, slice_get_within, slice_get-get_or}
 use Rattle.mp_base.specs.declared.pad.Pad.{Pad}
 use Rattle.mp_base.specs.Merge.{merged}
-use Rattle.nor_net.specs.Shape.{Fed, gate_inputs}
+use Rattle.nor_net.specs.Shape.{Fed}
 use Rattle.nor_net.specs.declared.net.NetId.{NetId}
 use Rattle.nor_net.specs.declared.net.Phase.{Phase}
 use Rattle.nor_net.specs.declared.net.Phase.TheVariants as phases
@@ -18,12 +18,11 @@ use Rattle.rtl_form.specs.declared.rtl.CellKind.TheVariants as kinds
 use Rattle.rtl_form.specs.declared.rtl.RtlExpr.{RtlExpr}
 use Rattle.rtl_form.specs.declared.rtl.RtlExpr.TheVariants as exprs
 use Rattle.rtl_form.specs.declared.rtl.Rtl.{Rtl}
-use Rattle.rtl_form.specs.Cost.{cost}
 use Rattle.rtl_form.specs.Entries.{IsAt}
 use Rattle.rtl_form.specs.Environment.{is_driven}
 use Rattle.rtl_form.specs.Operands.{takes_words, gives_word}
 use Rattle.rtl_form.specs.Sound.{CellFits, HasSort, IsSort, IsSound}
-use Rattle.rtl_form.proofs.Members.{by_test, one_entry, some_entry}
+use Rattle.rtl_form.proofs.Members.{by_test, one_entry}
 use Rattle.control_nor.specs.declared.names.Names.{Names}
 use Rattle.control_nor.specs.declared.names.Task.{Task}
 use Rattle.control_nor.specs.declared.names.Task.TheVariants.{Expr, Cell}
@@ -33,11 +32,11 @@ use Rattle.control_nor.specs.Cells.{first_cost}
 use Rattle.control_nor.specs.Done.{AreDone}
 use Rattle.control_nor.specs.First.{AreFirstDone}
 use Rattle.control_nor.specs.Lowering.{AreInputs, ArePlaced, InputBit, IsEntered, IsEntry, IsLowered, Stands, StoredBit, nets_before}
-use Rattle.control_nor.specs.NextValues.{AreNextValues, IsStoring, is_stored_bit, next_left}
-use Rattle.control_nor.specs.Progress.{cost_left, entries_left, left_by, level}
-use Rattle.control_nor.specs.Rails.{AreBelow, IsNamed, Named, net_of}
+use Rattle.control_nor.specs.NextValues.{AreNextValues, IsStoring}
+use Rattle.control_nor.specs.Progress.{left_by, level}
+use Rattle.control_nor.specs.Rails.{IsNamed, Named, net_of}
 use Rattle.control_nor.specs.Schedule.{IsSchedule, IsTask}
-use Rattle.control_nor.specs.Size.{IsWithinCost, active_count, bit_cost, entry_count}
+use Rattle.control_nor.specs.Size.{IsWithinCost, bit_cost, entry_count}
 use Rattle.control_nor.proofs.Adding.{get_at, logic_keep, logic_longer}
 use Rattle.control_nor.proofs.Begins.{cell_named, expr_named, first_rails, has_reset, in_tasks, is_stored_from, slaves_behind, stored_kind}
 use Rattle.control_nor.proofs.Costs.{bit_cost_most, left_all, rounds}
@@ -46,14 +45,14 @@ use Rattle.control_nor.proofs.Left.{nat_cases}
 use Rattle.control_nor.proofs.Named.{named_stands, stands_named}
 use Rattle.control_nor.proofs.Meaning.{value_small}
 use Rattle.control_nor.proofs.Obeying.{gate_obeyed, obeys_less}
-use Rattle.control_nor.proofs.StoredBits.{never_fed, obeys_kept}
+use Rattle.control_nor.proofs.StoredBits.{obeys_kept}
 use Rattle.control_nor.proofs.Written.{written_is}
 use Rattle.control_nor.specs.Cells.{transfers_to}
 use Rattle.control_nor.specs.Lowering.{BitsFit, Fetched, Gives, HasBit, KnownCell, KnownExpr, ObeysBehind, Ready, next_bit}
 use Rattle.control_nor.specs.Meaning.{AreTransfersKnown, IsExprKnown, is_active}
 use Rattle.control_nor.specs.NextValues.{AreKnown, is_guarded, next_of}
 use Rattle.control_nor.specs.Progress.{NamedTask}
-use Rattle.control_nor.specs.Rails.{Agree, HasRails, Known}
+use Rattle.control_nor.specs.Rails.{Agree, Known}
 use Rattle.mp_base.specs.declared.value.Trit.{Trit}
 use Rattle.mp_base.specs.declared.value.Trit.TheVariants.{Zero, One}
 use Rattle.nor_net.specs.Elements.{Spot, spot}
@@ -80,25 +79,39 @@ left_none f (Some q ∷ os) (x ∷ xs) h = left_none f os xs (λ k. h (suc k))
 abbrev one_if : Bool → ℕ
 one_if b = if b then 1 else 0
 
-level_rise : (start : ℕ) (ends : List ℕ) (n : ℕ) → ((s : ℕ) → s < n → level start ends s ≤ level start ends (suc s)) → (s t : ℕ)
+level_rise : (start : ℕ) (ends : List ℕ) (n : ℕ) → ((s : ℕ) → s < n → level start ends s ≤ level start ends (suc s))
+    → (s t : ℕ)
     → s ≤ t → t ≤ n → level start ends s ≤ level start ends t
-level_rise start ends n rise s zero l m = let e : s ≡ 0 = omega arith in let q = ap (level start ends) e in omega (arith, q)
+level_rise start ends n rise s zero l m =
+    let e : s ≡ 0 = omega arith in let q = ap (level start ends) e in omega (arith, q)
 level_rise start ends n rise s (suc t) l m = elim (cases_lt s (suc t)) [
   | inl k ↦ let a = level_rise start ends n rise s t (omega (arith, k)) (omega (arith, m)) in
       let b = rise t (omega (arith, m)) in omega (arith, a, b)
   | inr k ↦ let e : s ≡ suc t = omega (arith, l, k) in let q = ap (level start ends) e in omega (arith, q)
 ]
 
-module _ (r : Rtl) (sound : IsSound r) (old mid mid2 after : List Part) (named : List (Option Rails)) (pads : List (Option NetId))
+module _ (r : Rtl) (sound : IsSound r) (old mid mid2 after : List Part) (named : List (Option Rails))
+    (pads : List (Option NetId))
     (first : AreFirstDone r (length r.cells) old mid named pads) (tasks : List Task) (schedule : IsSchedule r tasks)
     (bits : Bits) (ends : List ℕ)
-    (done : AreDone r tasks (length tasks) mid mid2 (record { cells = named; exprs = replicate (length r.exprs) None }) bits ends)
+    (done : AreDone r tasks (length tasks) mid mid2 (record {
+      cells = named;
+      exprs = replicate (length r.exprs) None;
+    }) bits ends)
     (next : AreNextValues r bits mid2 after) where
   abbrev names : Names
-  names = record { cells = map net_of bits.cells; exprs = map net_of bits.exprs; inputs = pads; tasks = tasks; start = length mid; ends = ends }
+  names = record {
+    cells = map net_of bits.cells;
+    exprs = map net_of bits.exprs;
+    inputs = pads;
+    tasks = tasks;
+    start = length mid;
+    ends = ends;
+  }
 
   started : length old ≤ length mid
-  started = let e = ap length first.added.1 in let a = Rattle.std.proofs.Common.length-append old first.added.0 in omega (arith, e, a)
+  started = let e = ap length first.added.1 in let a = Rattle.std.proofs.Common.length-append old first.added.0 in
+      omega (arith, e, a)
 
   longer : length mid ≤ length mid2
   longer = logic_longer mid mid2 done.progress.adds
@@ -112,15 +125,18 @@ module _ (r : Rtl) (sound : IsSound r) (old mid mid2 after : List Part) (named :
       sym (get_front mid done.progress.adds.0 n l) ∙ (ap (λ ps. slice_get ps n) (sym done.progress.adds.1) ∙ e)
 
   -- no latch is among the tasks' nets
-  no_latch : (n : ℕ) (phase : Phase) (source : Option NetId) → slice_get mid2 n ≡ Some (Latch phase source) → n < length mid
+  no_latch : (n : ℕ) (phase : Phase) (source : Option NetId) → slice_get mid2 n ≡ Some (Latch phase source)
+      → n < length mid
   no_latch n phase source e = elim (cases_lt n (length mid)) [
     | inl l ↦ l
     | inr l ↦
-        let m = in_more mid done.progress.adds.0 n (Latch phase source) l (ap (λ ps. slice_get ps n) (sym done.progress.adds.1) ∙ e) in
+        let m = in_more mid done.progress.adds.0 n (Latch phase source) l
+        (ap (λ ps. slice_get ps n) (sym done.progress.adds.1) ∙ e) in
         let w = slice_get_within done.progress.adds.0 m.0 (Latch phase source) m.2 in
         let a = done.progress.adds.2 m.0 (Latch phase source) w in
         absurd (subst Rattle.control_nor.specs.Adding.IsLogic
-        (Rattle.std.proofs.lemmas.Option.get_or_from_slice_get done.progress.adds.0 m.0 (Latch phase source) (Latch phase source) m.2) a)
+        (Rattle.std.proofs.lemmas.Option.get_or_from_slice_get done.progress.adds.0 m.0 (Latch phase source)
+        (Latch phase source) m.2) a)
   ]
 
   task_of : (task : Task) → IsTask r task → (t : ℕ) × (t < length tasks) × (slice_get tasks t ≡ Some task)
@@ -129,7 +145,8 @@ module _ (r : Rtl) (sound : IsSound r) (old mid mid2 after : List Part) (named :
   cell_has : (c : ℕ) (x : cells.Cell) → IsAt r.cells c x → x.word ≡ false → IsNamed bits.cells c
   cell_has = cell_named r sound old mid named pads first tasks schedule mid2 bits ends done
 
-  first_has : (c : ℕ) (x : cells.Cell) (rails : Rails) → IsAt r.cells c x → is_driven x.kind ≡ false → Named bits.cells c rails
+  first_has : (c : ℕ) (x : cells.Cell) (rails : Rails) → IsAt r.cells c x → is_driven x.kind ≡ false
+      → Named bits.cells c rails
       → Named named c rails
   first_has = first_rails r sound old mid named pads first tasks schedule mid2 bits ends done
 
@@ -161,7 +178,8 @@ module _ (r : Rtl) (sound : IsSound r) (old mid mid2 after : List Part) (named :
       fed_at k (Gate inputs) e = tt
       fed_at k (Latch phase (Some source)) e = refl
       fed_at k (Latch phase None) e = absurd (unfed (length old + k) phase (omega arith)
-          (ap (λ ps. slice_get ps (length old + k)) on.1 ∙ get_at old on.0 (length old + k) k (Latch phase None) refl e))
+          (ap (λ ps. slice_get ps (length old + k)) on.1 ∙ get_at old on.0 (length old + k) k
+          (Latch phase None) refl e))
 
   entries_done : left_by entry_count bits.exprs r.exprs ≡ 0
   entries_done = left_none entry_count bits.exprs r.exprs (λ e x absent at. zero_of e x absent at (by_entry x))
@@ -203,7 +221,8 @@ module _ (r : Rtl) (sound : IsSound r) (old mid mid2 after : List Part) (named :
       record {
         nets = let p = a.nets in let q = w.nets in let s = c.nets in omega (arith, p, q, s, n, k, x, t);
         inputs = let p = a.inputs in let q = w.inputs in let s = c.inputs in omega (arith, p, q, s, n, k, x, t);
-        active = let p = a.active in let q = w.active in let s = c.active in omega (arith, p, q, s, n, k, x, t, e, all, z);
+        active = let p = a.active in let q = w.active in let s =
+            c.active in omega (arith, p, q, s, n, k, x, t, e, all, z);
       }
     where
       take_all : (xs : List cells.Cell) → Rattle.std.proofs.Common.take (length xs) xs ≡ xs
@@ -225,7 +244,8 @@ module _ (r : Rtl) (sound : IsSound r) (old mid mid2 after : List Part) (named :
   pad_in : (k : ℕ) (pad : NetId) → Stands pads k pad → (length old ≤ pad.0) × (pad.0 < length mid)
   pad_in k pad h = let p = first.nets.pads_in k pad h in (p.0, slice_get_within mid pad.0 Input p.1)
 
-  first_below : (c : ℕ) (x : cells.Cell) (rails : Rails) → IsAt r.cells c x → is_driven x.kind ≡ false → Named bits.cells c rails
+  first_below : (c : ℕ) (x : cells.Cell) (rails : Rails) → IsAt r.cells c x → is_driven x.kind ≡ false
+      → Named bits.cells c rails
       → rails.bit.0 < length mid
   first_below c x rails at d h = (first.names.below c rails (first_has c x rails at d h)).bit_below
 
@@ -234,8 +254,10 @@ module _ (r : Rtl) (sound : IsSound r) (old mid mid2 after : List Part) (named :
     schedule = schedule;
     end_count = done.laid.count;
     begin = started;
-    rise = λ t l. let a = done.laid.rise t l in let b = same_level t in let c = same_level (suc t) in omega (arith, a, b, c);
-    within = let a = done.laid.top in let b = same_level (length tasks) in let c = next.longer in omega (arith, a, b, c);
+    rise = λ t l. let a = done.laid.rise t l in let b = same_level t in let c =
+        same_level (suc t) in omega (arith, a, b, c);
+    within = let a = done.laid.top in let b = same_level (length tasks) in let c =
+        next.longer in omega (arith, a, b, c);
     pads = pad_in;
     first_cells = λ c x id at d h. let q = stands_named bits.cells c id h in
         subst (λ (i : NetId). i.0 < length mid) q.2 (first_below c x q.0 at d q.1);
@@ -254,7 +276,8 @@ module _ (r : Rtl) (sound : IsSound r) (old mid mid2 after : List Part) (named :
   }
 
   -- the ranges of two tasks don't meet
-  one_task : (s t n : ℕ) → s < length tasks → t < length tasks → level (length mid) ends s ≤ n → n < level (length mid) ends (suc s)
+  one_task : (s t n : ℕ) → s < length tasks → t < length tasks → level (length mid) ends s ≤ n
+      → n < level (length mid) ends (suc s)
       → level (length mid) ends t ≤ n → n < level (length mid) ends (suc t) → s ≡ t
   one_task s t n l m a b c d = elim (nat_cases s t) [
     | inl e ↦ e
@@ -295,30 +318,41 @@ module _ (r : Rtl) (sound : IsSound r) (old mid mid2 after : List Part) (named :
     ];
   }
     where
-      by_place : (id : NetId) → length old ≤ id.0 → slice_get mid2 id.0 ≡ Some Input → (id.0 < length mid) ⊎ (length mid ≤ id.0)
+      by_place : (id : NetId) → length old ≤ id.0 → slice_get mid2 id.0 ≡ Some Input
+          → (id.0 < length mid) ⊎ (length mid ≤ id.0)
           → IsEntered r names id
       by_place id l e (inl m) = let p = first.nets.inputs id.0 l (in_first id.0 Input m e) in inl (p.0, p.1)
       by_place id l e (inr m) =
           let q = done.laid.inputs id.0 m e in
           let same : q.2.bit ≡ id = ap (λ n. let i : NetId = record { 0 = n } in i) q.6 in
-          inr (q.0, q.1, q.3, q.4, subst (Stands (map net_of bits.exprs) q.0) same (named_stands bits.exprs q.0 q.2 q.5))
+          inr (
+            q.0,
+            q.1,
+            q.3,
+            q.4,
+            subst (Stands (map net_of bits.exprs) q.0) same
+                (named_stands bits.exprs q.0 q.2 q.5),
+          )
 
   -- ---- names
 
-  driven_range : (c : ℕ) (x : cells.Cell) (rails : Rails) → IsAt r.cells c x → is_driven x.kind ≡ true → Named bits.cells c rails
+  driven_range : (c : ℕ) (x : cells.Cell) (rails : Rails) → IsAt r.cells c x → is_driven x.kind ≡ true
+      → Named bits.cells c rails
       → (t : ℕ) × (t < length tasks) × (slice_get tasks t ≡ Some (Cell c)) × (level (length mid) ends t ≤ rails.bit.0)
       × (rails.bit.0 < level (length mid) ends (suc t))
   driven_range c x rails at d h =
       let t = task_of (Cell c) (x, at, d) in
       (t.0, t.1, t.2, (done.laid.driven t.0 c rails t.1 t.2 h).0, done.laid.below t.0 (Cell c) rails t.1 t.2 h)
 
-  cell_of : (c : ℕ) (rails : Rails) → Named bits.cells c rails → (x : cells.Cell) × IsAt r.cells c x × (x.word ≡ false)
+  cell_of : (c : ℕ) (rails : Rails) → Named bits.cells c rails
+      → (x : cells.Cell) × IsAt r.cells c x × (x.word ≡ false)
   cell_of c rails h = done.progress.bits_only (Cell c) rails h
 
   rails_apart : (c d : ℕ) (p q : Rails) → Named bits.cells c p → Named bits.cells d q → p.bit.0 ≡ q.bit.0 → c ≡ d
   rails_apart c d p q h k e = by_kinds (cell_of c p h) (cell_of d q k)
     where
-      by_kinds : (x : cells.Cell) × IsAt r.cells c x × (x.word ≡ false) → (y : cells.Cell) × IsAt r.cells d y × (y.word ≡ false) → c ≡ d
+      by_kinds : (x : cells.Cell) × IsAt r.cells c x × (x.word ≡ false)
+          → (y : cells.Cell) × IsAt r.cells d y × (y.word ≡ false) → c ≡ d
       by_kinds a b = by_test (is_driven a.0.kind)
           (λ on. by_test (is_driven b.0.kind)
           (λ on2. let s = driven_range c a.0 p a.1 on h in let t = driven_range d b.0 q b.1 on2 k in
@@ -326,13 +360,16 @@ module _ (r : Rtl) (sound : IsSound r) (old mid mid2 after : List Part) (named :
           let same = one_task s.0 t.0 p.bit.0 s.1 t.1 s3 s4 (omega (arith, t3, e)) (omega (arith, t4, e)) in
           cc (same_Some (Cell c) (Cell d) (sym s.2 ∙ (ap (slice_get tasks) same ∙ t.2))))
           (λ off. let s = driven_range c a.0 p a.1 on h in let l = first_below d b.0 q b.1 off k in
-          let m = above_start s.0 (let w = s.1 in omega (arith, w)) in let n = s.3 in absurd (omega (arith, l, m, n, e))))
+          let m = above_start s.0 (let w = s.1 in omega (arith, w)) in let n = s.3 in
+          absurd (omega (arith, l, m, n, e))))
           (λ off. by_test (is_driven b.0.kind)
           (λ on2. let s = driven_range d b.0 q b.1 on2 k in let l = first_below c a.0 p a.1 off h in
-          let m = above_start s.0 (let w = s.1 in omega (arith, w)) in let n = s.3 in absurd (omega (arith, l, m, n, e)))
+          let m = above_start s.0 (let w = s.1 in omega (arith, w)) in let n = s.3 in
+          absurd (omega (arith, l, m, n, e)))
           (λ off2. first.names.apart c d p q (first_has c a.0 p a.1 off h) (first_has d b.0 q b.1 off2 k) e))
 
-  stored_bit : (c : ℕ) (x : cells.Cell) (rails : Rails) → IsAt r.cells c x → x.kind ≡ kinds.Stored → Named bits.cells c rails
+  stored_bit : (c : ℕ) (x : cells.Cell) (rails : Rails) → IsAt r.cells c x → x.kind ≡ kinds.Stored
+      → Named bits.cells c rails
       → StoredBit after rails.bit
   stored_bit c x rails at kind h =
       let b = cell_of c rails h in
@@ -340,7 +377,8 @@ module _ (r : Rtl) (sound : IsSound r) (old mid mid2 after : List Part) (named :
       let f = first_has c x rails at (ap is_driven kind) h in
       let w = first.nets.slaves c x rails at kind f in
       let k = has_reset r sound c x at kind in
-      let reset = Rattle.control_nor.proofs.Begins.reset_named r sound old mid named pads first tasks schedule mid2 bits ends done k.0 k.1 in
+      let reset = Rattle.control_nor.proofs.Begins.reset_named r sound old mid named pads first tasks schedule mid2
+      bits ends done k.0 k.1 in
       let s = next.stored c k.0 x rails reset.0 at (is_stored_from x word kind) h k.1 reset.1 in
       record {
         master = s.master;
@@ -353,7 +391,8 @@ module _ (r : Rtl) (sound : IsSound r) (old mid mid2 after : List Part) (named :
         is_bit = keeps rails.bit.0 (Gate (rails.negation ∷ [])) w.is_bit tt;
       }
 
-  pad_width : (k : ℕ) (pad : Pad) → IsAt (r.pads).inputs k pad → (c : ℕ) (x : cells.Cell) → IsAt r.cells c x → x.kind ≡ kinds.Input k
+  pad_width : (k : ℕ) (pad : Pad) → IsAt (r.pads).inputs k pad → (c : ℕ) (x : cells.Cell) → IsAt r.cells c x
+      → x.kind ≡ kinds.Input k
       → x.word ≡ not (pad.width == 0)
   pad_width k pad at c x is kind =
       let fits : CellFits r x (kinds.Input k) = subst (CellFits r x) kind (sound.cells c x is) in
@@ -410,11 +449,13 @@ module _ (r : Rtl) (sound : IsSound r) (old mid mid2 after : List Part) (named :
 
     expr_known : (e : ℕ) → KnownExpr r names v env e → Known v bits.exprs e (value_of r env e)
     expr_known e known rails h =
-        (agree (Expr e) rails h).from_bit (value_of r env e == 1) (known rails.bit (named_stands bits.exprs e rails h))
+        (agree (Expr e) rails h).from_bit (value_of r env e == 1)
+        (known rails.bit (named_stands bits.exprs e rails h))
 
     cell_known : (c : ℕ) → KnownCell names v env c → Known v bits.cells c (slice_index env c)
     cell_known c known rails h =
-        (agree (Cell c) rails h).from_bit (slice_index env c == 1) (known rails.bit (named_stands bits.cells c rails h))
+        (agree (Cell c) rails h).from_bit (slice_index env c == 1)
+        (known rails.bit (named_stands bits.cells c rails h))
 
     ready_known : (x : RtlExpr) → Ready r names v env x → IsExprKnown r v env bits x
     ready_known (exprs.Number n) h = h
@@ -425,12 +466,14 @@ module _ (r : Rtl) (sound : IsSound r) (old mid mid2 after : List Part) (named :
     transfers_known : (c : ℕ) → Fetched r names v env c → AreTransfersKnown r v env bits c
     transfers_known c h t inside to = let k = h t inside to in (expr_known t.guard k.0, expr_known t.value k.1)
 
-    small : (c : ℕ) (x : cells.Cell) → IsAt r.cells c x → x.word ≡ false → (t : Transfer) → Contains r.transfers t → t.target ≡ c
+    small : (c : ℕ) (x : cells.Cell) → IsAt r.cells c x → x.word ≡ false → (t : Transfer) → Contains r.transfers t
+        → t.target ≡ c
         → value_of r env t.value < 2
     small c x at word t inside to =
         let f = sound.transfers t inside in
         let here = one_entry r.cells c f.1.0 x (subst (λ n. IsAt r.cells n f.1.0) to f.1.1) at in
-        value_small r sound env fit t.value (subst (HasSort r t.value) (ap (λ (x : cells.Cell). x.word) here ∙ word) f.1.2)
+        value_small r sound env fit t.value (subst (HasSort r t.value)
+        (ap (λ (x : cells.Cell). x.word) here ∙ word) f.1.2)
 
     gives_expr : (e : ℕ) (x : RtlExpr) → IsAt r.exprs e x → Ready r names v env x → KnownExpr r names v env e
     gives_expr e x at ready id on =
@@ -464,7 +507,8 @@ module _ (r : Rtl) (sound : IsSound r) (old mid mid2 after : List Part) (named :
         → v (spot 0 b.slave) ≡ bit (cond (slice_index env c == 1) false true) → KnownCell names v env c
     gives_state c id b on is other there =
         let q = stands_named bits.cells c id on in
-        let ge : length old ≤ id.0 = (let a = any_behind c q.0 q.1 in let i = ap (λ (i : NetId). i.0) q.2 in omega (arith, a, i)) in
+        let ge : length old ≤ id.0 = (let a = any_behind c q.0 q.1 in let i = ap (λ (i : NetId). i.0) q.2 in
+        omega (arith, a, i)) in
         let here : v (spot 0 id) ≡ bit (slice_index env c == 1) =
         gate_obeyed after (length old) v id (b.slave ∷ []) obeys ge b.is_bit
         ∙ (ap (λ t. nor_value (t ∷ [])) is ∙ off_off (slice_index env c == 1)) in
@@ -490,38 +534,61 @@ module _ (r : Rtl) (sound : IsSound r) (old mid mid2 after : List Part) (named :
 
         by_reset : (b : Bool)
             → ((list_any (is_active (value_of r env)) (transfers_to r.transfers c)
-            || (not (list_any (is_guarded (value_of r env)) (transfers_to r.transfers c)) && (slice_index env c == 1))) && not b)
-            ≡ ((if b then 0 else unwrap_or (merged (written (value_of r env) c r.transfers)) (slice_index env c)) == 1)
+            || (not (list_any (is_guarded (value_of r env)) (transfers_to r.transfers c))
+            && (slice_index env c == 1))) && not b)
+            ≡ ((if b then 0 else unwrap_or (merged (written (value_of r env) c r.transfers)) (slice_index env c)) ==
+            1)
         by_reset true = and_off (list_any (is_active (value_of r env)) (transfers_to r.transfers c)
-            || (not (list_any (is_guarded (value_of r env)) (transfers_to r.transfers c)) && (slice_index env c == 1)))
+            || (not (list_any (is_guarded (value_of r env)) (transfers_to r.transfers c))
+            && (slice_index env c == 1)))
         by_reset false = and_on (list_any (is_active (value_of r env)) (transfers_to r.transfers c)
-            || (not (list_any (is_guarded (value_of r env)) (transfers_to r.transfers c)) && (slice_index env c == 1)))
-            ∙ sym (written_is (value_of r env) c r.transfers (slice_index env c) (small c x at word) (fit c x at word))
+            || (not (list_any (is_guarded (value_of r env)) (transfers_to r.transfers c))
+            && (slice_index env c == 1)))
+            ∙ sym (written_is (value_of r env) c r.transfers (slice_index env c) (small c x at word)
+            (fit c x at word))
 
     -- the bit's latches are those that were added for it
-    its_storing : (c reset : ℕ) (rails at : Rails) → Named bits.cells c rails → (b : StoredBit after rails.bit) → r.reset ≡ Some reset
+    its_storing : (c reset : ℕ) (rails at : Rails) → Named bits.cells c rails → (b : StoredBit after rails.bit)
+        → r.reset ≡ Some reset
         → Named bits.cells reset at
-        → (s : IsStoring bits.exprs (transfers_to r.transfers c) (length mid2) after rails at.bit) × (s.source ≡ b.source)
+        → (s : IsStoring bits.exprs (transfers_to r.transfers c) (length mid2) after rails at.bit)
+        × (s.source ≡ b.source)
     its_storing c reset rails at h b e k =
         let x = kind_of c rails h b in
         let s = next.stored c reset x.0 rails at x.1 (is_stored_from x.0 x.2 x.3) h e k in
         let w = first.nets.slaves c x.0 rails x.1 x.3 (first_has c x.0 rails x.1 (ap is_driven x.3) h) in
         let bit_is = keeps rails.bit.0 (Gate (rails.negation ∷ [])) w.is_bit tt in
         let slave : b.slave ≡ rails.negation = cc (b.is_bit, bit_is) in
-        let negation : b.negation ≡ s.negation = cc (b.is_slave, ap (λ (i : NetId). slice_get after i.0) slave, s.is_slave) in
-        let master : b.master ≡ s.master = cc (b.is_negation, ap (λ (i : NetId). slice_get after i.0) negation, s.is_negation) in
-        let source : s.source ≡ b.source = cc (b.is_master, ap (λ (i : NetId). slice_get after i.0) master, s.is_master) in
+        let negation : b.negation ≡ s.negation = cc (
+          b.is_slave,
+          ap (λ (i : NetId). slice_get after i.0) slave,
+          s.is_slave,
+        ) in
+        let master : b.master ≡ s.master = cc (
+          b.is_negation,
+          ap (λ (i : NetId). slice_get after i.0) negation,
+          s.is_negation,
+        ) in
+        let source : s.source ≡ b.source = cc (
+          b.is_master,
+          ap (λ (i : NetId). slice_get after i.0) master,
+          s.is_master,
+        ) in
         (s, source)
 
     obeys_last : ObeysBehind after (length mid2) v
-    obeys_last = obeys_less after after (length old) (length mid2) v (λ n p e. e) (let a = started in let b = longer in omega (arith, a, b)) obeys
+    obeys_last = obeys_less after after (length old) (length mid2) v (λ n p e. e)
+        (let a = started in let b = longer in omega (arith, a, b)) obeys
 
-    each_known : (c : ℕ) → Fetched r names v env c → AreKnown v bits.exprs (value_of r env) (transfers_to r.transfers c)
+    each_known : (c : ℕ) → Fetched r names v env c → AreKnown v bits.exprs (value_of r env)
+        (transfers_to r.transfers c)
     each_known c fetched k d l =
-        All-filter (λ (t : Transfer). eqb t.target c) (λ (t : Transfer). t.target ≡ c → Known v bits.exprs t.guard (value_of r env t.guard)
+        All-filter (λ (t : Transfer). eqb t.target c) (λ (t : Transfer). t.target ≡ c
+        → Known v bits.exprs t.guard (value_of r env t.guard)
         × Known v bits.exprs t.value (value_of r env t.value)) r.transfers
         (λ k d l. transfers_known c fetched (get_or r.transfers k d) (Contains-get_or r.transfers k d l)) k d l
-        (eqb-true (get_or (transfers_to r.transfers c) k d).target c (filter_passes (λ (t : Transfer). eqb t.target c) r.transfers k d l))
+        (eqb-true (get_or (transfers_to r.transfers c) k d).target c
+        (filter_passes (λ (t : Transfer). eqb t.target c) r.transfers k d l))
 
     gives_next : (c reset : ℕ) (id : NetId) (b : StoredBit after id) → Stands names.cells c id → r.reset ≡ Some reset
         → KnownCell names v env c → KnownCell names v env reset → Fetched r names v env c
@@ -529,25 +596,32 @@ module _ (r : Rtl) (sound : IsSound r) (old mid mid2 after : List Part) (named :
     gives_next c reset id b on e known known_reset fetched =
         let q = stands_named bits.cells c id on in by_rails q.0 q.1 id q.2 b
       where
-        by_rails : (rails : Rails) → Named bits.cells c rails → (id : NetId) → rails.bit ≡ id → (b : StoredBit after id)
+        by_rails : (rails : Rails) → Named bits.cells c rails → (id : NetId) → rails.bit ≡ id
+            → (b : StoredBit after id)
             → HasBit v b.source (next_bit r env reset c)
-        by_rails rails h id same = subst (λ (i : NetId). (b : StoredBit after i) → HasBit v b.source (next_bit r env reset c)) same (λ b.
-            let k = Rattle.control_nor.proofs.Begins.reset_named r sound old mid named pads first tasks schedule mid2 bits ends done reset e in
+        by_rails rails h id same =
+            subst (λ (i : NetId). (b : StoredBit after i) → HasBit v b.source (next_bit r env reset c)) same (λ b.
+            let k = Rattle.control_nor.proofs.Begins.reset_named r sound old mid named pads first tasks schedule mid2
+            bits ends done reset e in
             let x = kind_of c rails h b in
             let s = its_storing c reset rails k.0 h b e k.1 in
-            let m = s.0.means v (value_of r env) (slice_index env c == 1) (slice_index env reset == 1) obeys_last (each_known c fetched)
+            let m = s.0.means v (value_of r env) (slice_index env c == 1) (slice_index env reset == 1) obeys_last
+            (each_known c fetched)
             (cell_known c known rails h) (known_reset k.0.bit (named_stands bits.cells reset k.0 k.1)) in
             subst (λ (i : NetId). HasBit v i (next_bit r env reset c)) s.1 (m ∙ ap bit (next_is c reset x.0 x.1 x.2)))
 
-    gives_clear : (c reset : ℕ) (id at : NetId) (b : StoredBit after id) → Stands names.cells c id → r.reset ≡ Some reset
+    gives_clear : (c reset : ℕ) (id at : NetId) (b : StoredBit after id) → Stands names.cells c id
+        → r.reset ≡ Some reset
         → Stands names.cells reset at → v (spot 0 at) ≡ One → v (spot 0 b.source) ≡ Zero
     gives_clear c reset id at b on e on_reset high =
         let q = stands_named bits.cells c id on in let k = stands_named bits.cells reset at on_reset in
         by_rails q.0 q.1 id q.2 k.0 k.1 (ap (λ (i : NetId). v (spot 0 i)) k.2 ∙ high) b
       where
-        by_rails : (rails : Rails) → Named bits.cells c rails → (id : NetId) → rails.bit ≡ id → (k : Rails) → Named bits.cells reset k
+        by_rails : (rails : Rails) → Named bits.cells c rails → (id : NetId) → rails.bit ≡ id → (k : Rails)
+            → Named bits.cells reset k
             → v (spot 0 k.bit) ≡ One → (b : StoredBit after id) → v (spot 0 b.source) ≡ Zero
-        by_rails rails h id same k there one = subst (λ (i : NetId). (b : StoredBit after i) → v (spot 0 b.source) ≡ Zero) same (λ b.
+        by_rails rails h id same k there one =
+            subst (λ (i : NetId). (b : StoredBit after i) → v (spot 0 b.source) ≡ Zero) same (λ b.
             let s = its_storing c reset rails k h b e there in
             ap (λ (i : NetId). v (spot 0 i)) (sym s.1) ∙ s.0.clears v obeys_last one)
 

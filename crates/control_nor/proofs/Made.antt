@@ -1,26 +1,26 @@
 -- What was added for an expression or a driven cell: how much, where, and which inputs.
-use Rattle.std.proofs.Common.{◌≡◌, ℕ, zero, suc, ◌+◌, ◌-◌, ◌*◌, ◌<◌, ◌≤◌, ◌⊎◌, inl, inr, List, [], ◌∷◌, ◌++◌, Option, Some, None, Bool, true, false, length, max, refl, sym, ◌∙◌, ap, subst, arith, length-append}
+use Rattle.std.proofs.Common.{◌≡◌, ℕ, zero, suc, ◌+◌, ◌-◌, ◌*◌, ◌≤◌, List, [], ◌∷◌, ◌++◌, Option, Some, None, Bool, true, false, length, max, refl, sym, ◌∙◌, ap, subst, arith}
 use Rattle.std.specs.Prelude.{All, if◌then◌else◌, slice_get, slice_index}
 use Rattle.std.specs.List.{AllZip}
-use Rattle.std.proofs.lemmas.Option.{none-some, same_Some, slice_get_within}
+use Rattle.std.proofs.lemmas.Option.{none-some, same_Some}
 use Rattle.mp_base.specs.declared.op.Op.{Op}
 use Rattle.mp_base.specs.declared.op.Op.TheVariants as ops
 use Rattle.nor_net.specs.declared.net.NetId.{NetId}
 use Rattle.nor_net.specs.declared.net.Part.{Part}
-use Rattle.nor_net.specs.declared.net.Part.TheVariants.{Input, Gate, Latch}
+use Rattle.nor_net.specs.declared.net.Part.TheVariants.{Input, Gate}
 use Rattle.rtl_form.specs.declared.rtl.RtlExpr.{RtlExpr}
 use Rattle.rtl_form.specs.declared.rtl.RtlExpr.TheVariants.{Number, Truth, Cell, Apply}
 use Rattle.rtl_form.specs.Cost.{op_cost}
-use Rattle.rtl_form.specs.Operands.{takes, takes_words, gives_word}
+use Rattle.rtl_form.specs.Operands.{takes_words, gives_word}
 use Rattle.rtl_form.specs.declared.rtl.Transfer.{Transfer}
 use Rattle.control_nor.specs.declared.rails.Rails.{Rails}
 use Rattle.control_nor.specs.Adding.{AddsGates, AddsLogic, IsCounted, IsEntryPair, IsExclusive, IsGate, IsLogic, IsPair}
-use Rattle.control_nor.specs.Cells.{AreTerms, IsDrivenMade, IsTerm}
-use Rattle.control_nor.specs.Exprs.{IsExclusiveOf, IsExprMade, IsNorOfBits, IsNorOfNegations, IsOpMade}
+use Rattle.control_nor.specs.Cells.{IsDrivenMade, IsTerm}
+use Rattle.control_nor.specs.Exprs.{IsExprMade, IsNorOfBits, IsNorOfNegations, IsOpMade}
 use Rattle.control_nor.specs.Lowering.{IsEntry}
 use Rattle.control_nor.specs.Rails.{AllBelow, AreBelow, BitOf, Named, NegationOf, swapped}
 use Rattle.control_nor.specs.Size.{IsWithinCost, bit_expr_cost, entry_count}
-use Rattle.control_nor.proofs.Adding.{counted_list, counted_none, counted_on, gates_are_logic, gates_none, gates_on, get_at, get_behind, gate_before, logic_none, two_gates}
+use Rattle.control_nor.proofs.Adding.{counted_list, counted_on, gates_are_logic, gates_none, gates_on, get_at, get_behind, gate_before, logic_none, two_gates}
 use Rattle.control_nor.proofs.Zipping.{zip_length}
 use Rattle.std.proofs.lemmas.List.Elements.{All-nil, All-cons}
 
@@ -43,12 +43,14 @@ pub gates_enter_nothing : (old new : List Part) → AddsGates old new → (n : �
 gates_enter_nothing old new g n l e =
     let at : n ≡ length old + (n - length old) = omega arith in
     let here : slice_get g.0 (n - length old) ≡ Some Input =
-    sym (get_behind old g.0 (n - length old)) ∙ (ap (slice_get (old ++ g.0)) (sym at) ∙ (ap (λ ps. slice_get ps n) (sym g.1) ∙ e)) in
+    sym (get_behind old g.0 (n - length old)) ∙ (ap (slice_get (old ++ g.0)) (sym at)
+    ∙ (ap (λ ps. slice_get ps n) (sym g.1) ∙ e)) in
     no_input g.0 (n - length old) g.2 here
 
 -- ---- a pair of gates
 
-pub pair_gates : (inputs : List NetId) (old new : List Part) (rails : Rails) → IsPair inputs old new rails → AddsGates old new
+pub pair_gates : (inputs : List NetId) (old new : List Part) (rails : Rails) → IsPair inputs old new rails
+    → AddsGates old new
 pair_gates inputs old new rails h =
     (Gate inputs ∷ Gate (rails.bit ∷ []) ∷ [], h.parts, two_gates inputs (rails.bit ∷ []))
 
@@ -89,25 +91,31 @@ pair_added inputs old new rails other cost entered h never two few below = recor
 
 -- ---- an exclusive OR
 
-exclusive_gates : (a b : Rails) (old new : List Part) (rails : Rails) → IsExclusive a b old new rails → AddsGates old new
+exclusive_gates : (a b : Rails) (old new : List Part) (rails : Rails) → IsExclusive a b old new rails
+    → AddsGates old new
 exclusive_gates a b old new rails h = (
-  Gate (a.bit ∷ b.bit ∷ []) ∷ Gate (a.negation ∷ b.negation ∷ []) ∷ Gate (h.none ∷ h.both ∷ []) ∷ Gate (rails.bit ∷ []) ∷ [],
+  Gate (a.bit ∷ b.bit ∷ []) ∷ Gate (a.negation ∷ b.negation ∷ []) ∷ Gate (h.none ∷ h.both ∷ []) ∷ Gate
+      (rails.bit ∷ []) ∷ [],
   h.parts,
-  gate_before (a.bit ∷ b.bit ∷ []) (Gate (a.negation ∷ b.negation ∷ []) ∷ Gate (h.none ∷ h.both ∷ []) ∷ Gate (rails.bit ∷ []) ∷ [])
-      (gate_before (a.negation ∷ b.negation ∷ []) (Gate (h.none ∷ h.both ∷ []) ∷ Gate (rails.bit ∷ []) ∷ []) (two_gates (h.none ∷ h.both ∷ []) (rails.bit ∷ []))),
+  gate_before (a.bit ∷ b.bit ∷ []) (Gate (a.negation ∷ b.negation ∷ []) ∷ Gate (h.none ∷ h.both ∷ []) ∷ Gate
+      (rails.bit ∷ []) ∷ [])
+      (gate_before (a.negation ∷ b.negation ∷ []) (Gate (h.none ∷ h.both ∷ []) ∷ Gate (rails.bit ∷ []) ∷ [])
+      (two_gates (h.none ∷ h.both ∷ []) (rails.bit ∷ []))),
 )
 
 exclusive_counted : (a b : Rails) (old new : List Part) (rails : Rails) → IsExclusive a b old new rails
     → IsCounted 4 7 4 old new
 exclusive_counted a b old new rails h =
-    let c = counted_list old (Gate (a.bit ∷ b.bit ∷ []) ∷ Gate (a.negation ∷ b.negation ∷ []) ∷ Gate (h.none ∷ h.both ∷ []) ∷ Gate (rails.bit ∷ []) ∷ []) in
+    let c = counted_list old (Gate (a.bit ∷ b.bit ∷ []) ∷ Gate (a.negation ∷ b.negation ∷ []) ∷ Gate
+    (h.none ∷ h.both ∷ []) ∷ Gate (rails.bit ∷ []) ∷ []) in
     subst (IsCounted 4 7 4 old) (sym h.parts) (record {
       net_count = let e = c.net_count in omega (arith, e);
       input_count = let e = c.input_count in omega (arith, e);
       active_count = let e = c.active_count in omega (arith, e);
     })
 
-exclusive_added : (a b : Rails) (old new : List Part) (rails : Rails) (entered : Type 0) → IsExclusive a b old new rails
+exclusive_added : (a b : Rails) (old new : List Part) (rails : Rails) (entered : Type 0)
+    → IsExclusive a b old new rails
     → (entered → ⊥) → AreAdded entered 4 0 old new rails
 exclusive_added a b old new rails entered h never = let c = exclusive_counted a b old new rails h in record {
   adds = gates_are_logic old new (exclusive_gates a b old new rails h);
@@ -124,27 +132,32 @@ exclusive_added a b old new rails entered h never = let c = exclusive_counted a 
 
 -- ---- an input with its negation
 
-entry_added : (old new : List Part) (rails : Rails) (cost : ℕ) (entered : Type 0) → IsEntryPair old new rails → entered
+entry_added : (old new : List Part) (rails : Rails) (cost : ℕ) (entered : Type 0) → IsEntryPair old new rails
+    → entered
     → 2 ≤ cost → AreAdded entered cost 1 old new rails
 entry_added old new rails cost entered h enters two = record {
   adds = (
     Input ∷ Gate (rails.bit ∷ []) ∷ [],
     h.parts,
-    All-cons IsLogic Input (Gate (rails.bit ∷ []) ∷ []) tt (All-cons IsLogic (Gate (rails.bit ∷ [])) [] tt (All-nil IsLogic)),
+    All-cons IsLogic Input (Gate (rails.bit ∷ []) ∷ []) tt
+        (All-cons IsLogic (Gate (rails.bit ∷ [])) [] tt (All-nil IsLogic)),
   );
   below = let m = h.at_bit in let n = h.at_negation in
       record { bit_below = omega (arith, length_is, m); negation_below = omega (arith, length_is, n) };
   within = record {
     nets = omega (arith, length_is);
-    inputs = let e = c.input_count in let f = ap Rattle.nor_net.specs.Shape.gate_inputs h.parts in omega (arith, e, f);
+    inputs = let e = c.input_count in let f = ap Rattle.nor_net.specs.Shape.gate_inputs h.parts in
+        omega (arith, e, f);
     active = let e = c.active_count in
-        let f = ap (Rattle.std.specs.List.sum_by Rattle.control_nor.specs.Size.active_count) h.parts in omega (arith, e, f);
+        let f = ap (Rattle.std.specs.List.sum_by Rattle.control_nor.specs.Size.active_count) h.parts in
+        omega (arith, e, f);
   };
   inputs = λ n l e. (enters, only n l e);
   entry = λ y. (
     let m = h.at_bit in omega (arith, m),
     ap (λ ps. slice_get ps rails.bit.0) h.parts
-        ∙ get_at old (Input ∷ Gate (rails.bit ∷ []) ∷ []) rails.bit.0 0 Input (let m = h.at_bit in omega (arith, m)) refl,
+        ∙ get_at old (Input ∷ Gate (rails.bit ∷ []) ∷ []) rails.bit.0 0 Input
+        (let m = h.at_bit in omega (arith, m)) refl,
   );
 }
   where
@@ -162,12 +175,15 @@ entry_added old new rails cost entered h enters two = record {
     only n l e =
         let at : n ≡ length old + (n - length old) = omega arith in
         by_place (n - length old) (sym (get_behind old (Input ∷ Gate (rails.bit ∷ []) ∷ []) (n - length old))
-        ∙ (ap (slice_get (old ++ Input ∷ Gate (rails.bit ∷ []) ∷ [])) (sym at) ∙ (ap (λ ps. slice_get ps n) (sym h.parts) ∙ e)))
+        ∙ (ap (slice_get (old ++ Input ∷ Gate (rails.bit ∷ []) ∷ [])) (sym at)
+        ∙ (ap (λ ps. slice_get ps n) (sym h.parts) ∙ e)))
         at
       where
-        by_place : (i : ℕ) → slice_get (Input ∷ Gate (rails.bit ∷ []) ∷ []) i ≡ Some Input → n ≡ length old + i → rails.bit.0 ≡ n
+        by_place : (i : ℕ) → slice_get (Input ∷ Gate (rails.bit ∷ []) ∷ []) i ≡ Some Input → n ≡ length old + i
+            → rails.bit.0 ≡ n
         by_place zero f at = let m = h.at_bit in omega (arith, m, at)
-        by_place (suc i) f at = absurd (no_input (Gate (rails.bit ∷ []) ∷ []) i (gate_before (rails.bit ∷ []) [] (All-nil IsGate)) f)
+        by_place (suc i) f at =
+            absurd (no_input (Gate (rails.bit ∷ []) ∷ []) i (gate_before (rails.bit ∷ []) [] (All-nil IsGate)) f)
 
 -- ---- operators and expressions
 
@@ -187,7 +203,8 @@ module _ (exprs : List (Option Rails)) (index : ℕ) (args : List ℕ) (old new 
       pair_added h.inputs old new other rails (op_cost op (length args)) (IsEntry (Apply op index args)) h.pair
       (entry_is op index args bits) (omega (arith, cost)) (omega (arith, cost, n)) in_new
 
-  nor_of_negations : (op : Op) (other : Rails) → takes_words op ≡ false → op_cost op (length args) ≡ max 2 (length args)
+  nor_of_negations : (op : Op) (other : Rails) → takes_words op ≡ false
+      → op_cost op (length args) ≡ max 2 (length args)
       → IsNorOfNegations exprs args old new other → AreBelow (length new) rails
       → AreAdded (IsEntry (Apply op index args)) (op_cost op (length args)) 0 old new rails
   nor_of_negations op other bits cost h in_new =
@@ -200,14 +217,20 @@ module _ (exprs : List (Option Rails)) (index : ℕ) (args : List ℕ) (old new 
   not_added is same = record {
     adds = subst (AddsLogic old) (sym same) (logic_none old);
     below = swap_below (length new) rails
-        (subst (λ (ps : List Part). AreBelow (length ps) (swapped rails)) (sym same) (below (slice_index args 0) (swapped rails) is));
-    within = subst (IsWithinCost 0 0 old) (sym same) (record { nets = omega arith; inputs = omega arith; active = omega arith });
+        (subst (λ (ps : List Part). AreBelow (length ps) (swapped rails)) (sym same)
+        (below (slice_index args 0) (swapped rails) is));
+    within = subst (IsWithinCost 0 0 old) (sym same) (record {
+      nets = omega arith;
+      inputs = omega arith;
+      active = omega arith;
+    });
     inputs = λ n l e. absurd (gates_enter_nothing old new (subst (AddsGates old) (sym same) (gates_none old)) n l e);
     entry = λ y. absurd (entry_is ops.Not index args refl y);
   }
 
   pub op_added : (op : Op) → gives_word op ≡ false → IsOpMade exprs op args old new rails
-      → AreAdded (IsEntry (Apply op index args)) (op_cost op (length args)) (entry_count (Apply op index args)) old new rails
+      → AreAdded (IsEntry (Apply op index args)) (op_cost op (length args))
+      (entry_count (Apply op index args)) old new rails
   op_added ops.And w h = nor_of_negations ops.And rails refl refl h (pair_below h.inputs old new rails h.pair)
   op_added ops.Nand w h = nor_of_negations ops.Nand (swapped rails) refl refl h
       (swap_below (length new) rails (pair_below h.inputs old new (swapped rails) h.pair))
@@ -215,12 +238,16 @@ module _ (exprs : List (Option Rails)) (index : ℕ) (args : List ℕ) (old new 
   op_added ops.Or w h = nor_of_bits ops.Or (swapped rails) refl refl h
       (swap_below (length new) rails (pair_below h.inputs old new (swapped rails) h.pair))
   op_added ops.Xor w h =
-      exclusive_added h.left h.right old new rails (IsEntry (Apply ops.Xor index args)) h.exclusive (entry_is ops.Xor index args refl)
+      exclusive_added h.left h.right old new rails (IsEntry (Apply ops.Xor index args)) h.exclusive
+      (entry_is ops.Xor index args refl)
   op_added ops.Not w h = not_added h.0 h.1
   op_added ops.Bit w h = entry_added old new rails 2 (IsEntry (Apply ops.Bit index args)) h (refl, refl) (omega arith)
-  op_added ops.Zero w h = entry_added old new rails 4 (IsEntry (Apply ops.Zero index args)) h (refl, refl) (omega arith)
-  op_added ops.Equal w h = entry_added old new rails 9 (IsEntry (Apply ops.Equal index args)) h (refl, refl) (omega arith)
-  op_added ops.Less w h = entry_added old new rails 9 (IsEntry (Apply ops.Less index args)) h (refl, refl) (omega arith)
+  op_added ops.Zero w h = entry_added old new rails 4 (IsEntry (Apply ops.Zero index args)) h (refl, refl)
+      (omega arith)
+  op_added ops.Equal w h = entry_added old new rails 9 (IsEntry (Apply ops.Equal index args)) h (refl, refl)
+      (omega arith)
+  op_added ops.Less w h = entry_added old new rails 9 (IsEntry (Apply ops.Less index args)) h (refl, refl)
+      (omega arith)
   op_added ops.Add w h = absurd (cc w)
   op_added ops.Sub w h = absurd (cc w)
   op_added ops.Inc w h = absurd (cc w)
@@ -235,22 +262,29 @@ module _ (exprs : List (Option Rails)) (index : ℕ) (args : List ℕ) (old new 
 -- what an expression costs that has nets here, and nothing for one that has none
 module _ (cells exprs : List (Option Rails)) (old new : List Part) (cells_below : AllBelow (length old) cells)
     (exprs_below : AllBelow (length old) exprs) where
-  cell_added : (c : ℕ) (rails : Rails) → Named cells c rails → new ≡ old → AreAdded (IsEntry (Cell c)) 0 0 old new rails
+  cell_added : (c : ℕ) (rails : Rails) → Named cells c rails → new ≡ old
+      → AreAdded (IsEntry (Cell c)) 0 0 old new rails
   cell_added c rails is same = record {
     adds = subst (AddsLogic old) (sym same) (logic_none old);
     below = subst (λ (ps : List Part). AreBelow (length ps) rails) (sym same) (cells_below c rails is);
-    within = subst (IsWithinCost 0 0 old) (sym same) (record { nets = omega arith; inputs = omega arith; active = omega arith });
+    within = subst (IsWithinCost 0 0 old) (sym same) (record {
+      nets = omega arith;
+      inputs = omega arith;
+      active = omega arith;
+    });
     inputs = λ n l e. absurd (gates_enter_nothing old new (subst (AddsGates old) (sym same) (gates_none old)) n l e);
     entry = λ y. absurd y;
   }
 
-  truth_added : (b : Bool) (rails other : Rails) → other ≡ (if b then rails else swapped rails) → IsPair [] old new other
+  truth_added : (b : Bool) (rails other : Rails) → other ≡ (if b then rails else swapped rails)
+      → IsPair [] old new other
       → AreAdded (IsEntry (Truth b)) 2 0 old new rails
   truth_added b rails other is h =
       pair_added [] old new other rails 2 (IsEntry (Truth b)) h (λ y. y) (omega arith) (omega arith)
       (by_bit b is (pair_below [] old new other h))
     where
-      by_bit : (b : Bool) → other ≡ (if b then rails else swapped rails) → AreBelow (length new) other → AreBelow (length new) rails
+      by_bit : (b : Bool) → other ≡ (if b then rails else swapped rails) → AreBelow (length new) other
+          → AreBelow (length new) rails
       by_bit true e k = subst (AreBelow (length new)) e k
       by_bit false e k = swap_below (length new) rails (subst (AreBelow (length new)) e k)
 
@@ -287,7 +321,8 @@ driven_added exprs ts old new rails h = record {
   adds = gates_are_logic old new (driven_gates exprs ts old new rails h);
   below = swap_below (length new) rails (pair_below h.terms h.middle new (swapped rails) h.pair);
   within = let n = zip_length (IsTerm exprs (length old) h.middle) ts h.terms h.are_terms.each in
-      let c = counted_on (length ts) (2 * length ts) (length ts) 2 (length h.terms + 1) 2 old h.middle new h.are_terms.counted
+      let c = counted_on (length ts) (2 * length ts) (length ts) 2
+      (length h.terms + 1) 2 old h.middle new h.are_terms.counted
       (pair_counted h.terms h.middle new (swapped rails) h.pair) in
       record {
         nets = let e = c.net_count in omega (arith, e);

@@ -1,22 +1,20 @@
 -- What nets mean that were added for an expression or a driven cell.
-use Rattle.std.proofs.Common.{◌≡◌, ℕ, zero, suc, ◌+◌, ◌-◌, ◌<◌, ◌≤◌, ◌⊎◌, inl, inr, List, [], ◌∷◌, ◌++◌, Option, Some, None, Bool, true, false, length, map, refl, sym, ◌∙◌, ap, subst, arith, cond, eqb, get_or}
-use Rattle.std.specs.Prelude.{All, Contains, MatchBool, not, ◌&&◌, ◌||◌, ◌==◌, nat_lt, slice_get, slice_index, if◌then◌else◌}
-use Rattle.std.specs.List.{AllZip, filter, list_all, list_any}
+use Rattle.std.proofs.Common.{◌≡◌, ℕ, zero, suc, ◌+◌, ◌-◌, ◌<◌, ◌≤◌, ◌⊎◌, inl, inr, List, [], ◌∷◌, Option, Some, Bool, true, false, length, map, refl, sym, ◌∙◌, ap, subst, arith, cond, get_or}
+use Rattle.std.specs.Prelude.{All, not, ◌&&◌, ◌||◌, ◌==◌, nat_lt, slice_index, if◌then◌else◌}
+use Rattle.std.specs.List.{AllZip, list_all, list_any}
 use Rattle.std.proofs.lemmas.Bool.{eqb-true}
-use Rattle.std.proofs.lemmas.List.Elements.{All-filter, Contains-get_or, filter_passes}
-use Rattle.std.proofs.lemmas.Option.{none-some, same_Some, slice_get_within, get_or_from_slice_get}
+use Rattle.std.proofs.lemmas.List.Elements.{Contains-get_or}
+use Rattle.std.proofs.lemmas.Option.{none-some, same_Some}
 use Rattle.mp_base.specs.declared.op.Op.{Op}
 use Rattle.mp_base.specs.declared.op.Op.TheVariants as ops
 use Rattle.mp_base.specs.declared.value.Trit.{Trit}
 use Rattle.mp_base.specs.Apply.{apply, truth}
 use Rattle.nor_net.specs.declared.net.NetId.{NetId}
 use Rattle.nor_net.specs.declared.net.Part.{Part}
-use Rattle.nor_net.specs.declared.net.Part.TheVariants.{Input, Gate, Latch}
 use Rattle.nor_net.specs.Elements.{Spot, spot}
 use Rattle.nor_net.specs.Laws.{bit}
 use Rattle.nor_net.specs.Settled.{nor_value}
 use Rattle.nor_net.proofs.Values.{nor_bits}
-use Rattle.rtl_form.specs.declared.rtl.Cell as cells
 use Rattle.rtl_form.specs.declared.rtl.Transfer.{Transfer}
 use Rattle.rtl_form.specs.declared.rtl.RtlExpr.{RtlExpr}
 use Rattle.rtl_form.specs.declared.rtl.RtlExpr.TheVariants as exprs
@@ -25,21 +23,19 @@ use Rattle.rtl_form.specs.Entries.{IsAt}
 use Rattle.rtl_form.specs.Operands.{takes, takes_words, gives_word}
 use Rattle.rtl_form.specs.Sound.{ExprFits, HasSort, IsSort, IsSound}
 use Rattle.rtl_form.specs.Values.{value_of, expr_value}
-use Rattle.rtl_form.proofs.Members.{one_entry}
 use Rattle.rtl_form.proofs.Values.{value_is}
 use Rattle.control_nor.specs.declared.rails.Rails.{Rails}
 use Rattle.control_nor.specs.declared.rails.Bits.{Bits}
-use Rattle.control_nor.specs.Adding.{AddsLogic, IsEntryPair, IsExclusive, IsPair}
-use Rattle.control_nor.specs.Cells.{AreTerms, IsDrivenMade, IsTerm, transfers_to}
+use Rattle.control_nor.specs.Adding.{IsPair}
+use Rattle.control_nor.specs.Cells.{IsDrivenMade, IsTerm}
 use Rattle.control_nor.specs.Exprs.{IsExclusiveOf, IsExprMade, IsNorOfBits, IsNorOfNegations, IsOpMade}
 use Rattle.control_nor.specs.Lowering.{BitsFit, ObeysBehind}
-use Rattle.control_nor.specs.Meaning.{AreTransfersKnown, IsExprKnown, is_active}
-use Rattle.control_nor.specs.Rails.{Agree, BitOf, HasRails, Known, Named, NegationOf, swapped}
+use Rattle.control_nor.specs.Meaning.{IsExprKnown, is_active}
+use Rattle.control_nor.specs.Rails.{Agree, HasRails, Known, Named, swapped}
 use Rattle.control_nor.proofs.Adding.{gates_keep, gates_longer}
 use Rattle.control_nor.proofs.Bits.{AreBits, exclusive_or, negation_of, nor_of_bits, nor_of_negations, some_one, some_zero, truth_one, truth_small}
 use Rattle.control_nor.proofs.Made.{pair_gates}
-use Rattle.control_nor.proofs.Obeying.{agree_bit, bits_known, exclusive_bit, exclusive_negation, entry_negation, gate_obeyed, negations_known, not_not, obeys_less, off_back, off_bit, pair_bit, pair_negation, swap_agree, swap_rails}
-use Rattle.control_nor.proofs.Zipping.{zip_weaker}
+use Rattle.control_nor.proofs.Obeying.{agree_bit, bits_known, exclusive_bit, exclusive_negation, entry_negation, gate_obeyed, negations_known, obeys_less, pair_bit, pair_negation, swap_agree, swap_rails}
 
 -- ---- bits are 0 or 1
 
@@ -78,7 +74,8 @@ small_bit w ops.Left k xs g = absurd (cc g)
 small_bit w ops.Right k xs g = absurd (cc g)
 
 -- an expression that is a bit is 0 or 1 where cells are
-pub value_small : (r : Rtl) → IsSound r → (env : List ℕ) → BitsFit r env → (e : ℕ) → HasSort r e false → value_of r env e < 2
+pub value_small : (r : Rtl) → IsSound r → (env : List ℕ) → BitsFit r env → (e : ℕ) → HasSort r e false
+    → value_of r env e < 2
 value_small r sound env fit e sort =
     let is = value_is r sound env e sort.0 sort.1 in
     let s = by_expr sort.0 sort.2 in omega (arith, is, s)
@@ -91,7 +88,8 @@ value_small r sound env fit e sort =
 
 -- ---- operators
 
-map_at : (value : ℕ → ℕ) (args : List ℕ) (k : ℕ) → k < length args → slice_index (map value args) k ≡ value (slice_index args k)
+map_at : (value : ℕ → ℕ) (args : List ℕ) (k : ℕ) → k < length args
+    → slice_index (map value args) k ≡ value (slice_index args k)
 map_at value [] k l = absurd (omega arith)
 map_at value (a ∷ args) zero l = refl
 map_at value (a ∷ args) (suc k) l = map_at value args k (omega arith)
@@ -104,7 +102,8 @@ module _ (entries : List (Option Rails)) (args : List ℕ) (old new : List Part)
     conjunction other h = (agree_bit v other (pair_negation h.inputs old new other h.pair v obeys)).from_bit
         (list_all (λ x. x == 1) (map value args))
         (pair_bit h.inputs old new other h.pair v obeys
-        ∙ (ap nor_value (negations_known v entries value args h.inputs h.are_inputs known) ∙ nor_of_negations value args))
+        ∙ (ap nor_value (negations_known v entries value args h.inputs h.are_inputs known)
+        ∙ nor_of_negations value args))
 
     neither : (other : Rails) → IsNorOfBits entries args old new other
         → HasRails v other (list_all (λ x. x == 0) (map value args))
@@ -125,10 +124,13 @@ module _ (entries : List (Option Rails)) (args : List ℕ) (old new : List Part)
         let y = slice_index args 1 in
         let is = (agree_bit v rails (exclusive_negation h.left h.right old new rails h.exclusive v obeys)).from_bit
         ((truth (nat_lt (value x) (value y)) + truth (nat_lt (value y) (value x))) == 1)
-        (exclusive_bit h.left h.right old new rails h.exclusive v obeys (value x) (value y) (bits 0 0 (omega (arith, n)))
-        (bits 1 0 (omega (arith, n))) (known 0 0 (omega (arith, n)) h.left h.is_left) (known 1 0 (omega (arith, n)) h.right h.is_right)
+        (exclusive_bit h.left h.right old new rails h.exclusive v obeys (value x) (value y)
+        (bits 0 0 (omega (arith, n)))
+        (bits 1 0 (omega (arith, n))) (known 0 0 (omega (arith, n)) h.left h.is_left)
+        (known 1 0 (omega (arith, n)) h.right h.is_right)
         ∙ exclusive_or (value x) (value y) (bits 0 0 (omega (arith, n))) (bits 1 0 (omega (arith, n)))) in
-        subst (λ m. HasRails v rails ((truth (nat_lt m (slice_index (map value args) 1)) + truth (nat_lt (slice_index (map value args) 1) m)) == 1))
+        subst (λ m. HasRails v rails ((truth (nat_lt m (slice_index (map value args) 1)) + truth
+        (nat_lt (slice_index (map value args) 1) m)) == 1))
         (sym (map_at value args 0 (omega (arith, n))))
         (subst (λ m. HasRails v rails ((truth (nat_lt (value x) m) + truth (nat_lt m (value x))) == 1))
         (sym (map_at value args 1 (omega (arith, n)))) is)
@@ -204,7 +206,8 @@ module _ (r : Rtl) (sound : IsSound r) (bits : Bits) (old new : List Part) (rail
   truth_rails true other is h k = subst (λ q. HasRails v q true) is k
   truth_rails false other is h k = swap_rails v rails true (subst (λ q. HasRails v q true) is k)
 
-  truth_agree : (b : Bool) (other : Rails) → other ≡ (if b then rails else swapped rails) → Agree v other → Agree v rails
+  truth_agree : (b : Bool) (other : Rails) → other ≡ (if b then rails else swapped rails) → Agree v other
+      → Agree v rails
   truth_agree true other is a = subst (Agree v) is a
   truth_agree false other is a = swap_agree v rails (subst (Agree v) is a)
 
@@ -215,7 +218,8 @@ module _ (r : Rtl) (sound : IsSound r) (bits : Bits) (old new : List Part) (rail
   expr_agree (exprs.Truth b) h cells_agree exprs_agree =
       let same : rails ≡ h.0 = same_Some rails h.0 h.1 in
       truth_agree b (if b then h.0 else swapped h.0) (ap (λ (x : Rails). if b then x else swapped x) (sym same))
-      (agree_bit v (if b then h.0 else swapped h.0) (pair_negation [] old new (if b then h.0 else swapped h.0) h.2 v obeys))
+      (agree_bit v (if b then h.0 else swapped h.0) (pair_negation [] old new
+      (if b then h.0 else swapped h.0) h.2 v obeys))
   expr_agree (exprs.Cell c) h cells_agree exprs_agree = cells_agree c rails h.0
   expr_agree (exprs.Apply op index args) h cells_agree exprs_agree =
       op_agree bits.exprs args old new rails v obeys op h.0 exprs_agree h.1
@@ -224,7 +228,8 @@ module _ (r : Rtl) (sound : IsSound r) (bits : Bits) (old new : List Part) (rail
       → IsExprMade bits.cells bits.exprs x old new (Some rails) → IsExprKnown r v env bits x
       → HasRails v rails (value_of r env e == 1)
   expr_meant e x env at fit h known =
-      subst (λ n. HasRails v rails (n == 1)) (sym (value_is r sound env e x at)) (by_expr x (sound.exprs e x at) h known)
+      subst (λ n. HasRails v rails (n == 1)) (sym (value_is r sound env e x at))
+      (by_expr x (sound.exprs e x at) h known)
     where
       by_expr : (x : RtlExpr) → ExprFits r e x → IsExprMade bits.cells bits.exprs x old new (Some rails)
           → IsExprKnown r v env bits x → HasRails v rails (expr_value r.width env x (value_of r env) == 1)
@@ -232,8 +237,10 @@ module _ (r : Rtl) (sound : IsSound r) (bits : Bits) (old new : List Part) (rail
       by_expr (exprs.Truth b) fits h known =
           let same : rails ≡ h.0 = same_Some rails h.0 h.1 in
           let other : Rails = (if b then h.0 else swapped h.0) in
-          truth_rails b (if b then h.0 else swapped h.0) (ap (λ (x : Rails). if b then x else swapped x) (sym same)) h.2
-          ((agree_bit v (if b then h.0 else swapped h.0) (pair_negation [] old new (if b then h.0 else swapped h.0) h.2 v obeys)).from_bit true
+          truth_rails b (if b then h.0 else swapped h.0) (ap (λ (x : Rails). if b then x else swapped x) (sym same))
+          h.2
+          ((agree_bit v (if b then h.0 else swapped h.0) (pair_negation [] old new
+          (if b then h.0 else swapped h.0) h.2 v obeys)).from_bit true
           (pair_bit [] old new (if b then h.0 else swapped h.0) h.2 v obeys))
       by_expr (exprs.Cell c) fits h known = known rails h.0
       by_expr (exprs.Apply op index args) fits h known =
@@ -246,7 +253,8 @@ module _ (r : Rtl) (sound : IsSound r) (bits : Bits) (old new : List Part) (rail
 
 module _ (r : Rtl) (entries : List (Option Rails)) (ts : List Transfer) (v : Spot → Trit) (value : ℕ → ℕ) where
   abbrev AreKnown : List Transfer → Type 0
-  AreKnown ts = All (λ (t : Transfer). Known v entries t.guard (value t.guard) × Known v entries t.value (value t.value)) ts
+  AreKnown ts = All (λ (t : Transfer). Known v entries t.guard (value t.guard)
+      × Known v entries t.value (value t.value)) ts
 
   term_bit : (a b : Bool) → nor_value (bit (not b) ∷ bit (not a) ∷ []) ≡ bit (a && b)
   term_bit true true = refl
@@ -266,7 +274,8 @@ module _ (r : Rtl) (entries : List (Option Rails)) (ts : List Transfer) (v : Spo
         ∙ (ap (λ u. nor_value (bit (not (value t.value == 1)) ∷ u ∷ [])) g.has_negation
         ∙ term_bit (value t.guard == 1) (value t.value == 1)))
 
-    pub terms_known : (ts : List Transfer) (ids : List NetId) → AllZip (IsTerm entries first parts) ts ids → AreKnown ts
+    pub terms_known : (ts : List Transfer) (ids : List NetId) → AllZip (IsTerm entries first parts) ts ids
+        → AreKnown ts
         → map v (map (spot 0) ids) ≡ map (λ t. bit (is_active value t)) ts
     terms_known [] [] z known = refl
     terms_known [] (y ∷ ids) z known = absurd z
@@ -276,7 +285,8 @@ module _ (r : Rtl) (entries : List (Option Rails)) (ts : List Transfer) (v : Spo
         ∙ ap (λ us. bit (is_active value t) ∷ us) (terms_known ts ids z.1 (λ i d l. known (suc i) d (omega arith)))
 
 -- that none is so means that not one is
-pub none_any : {X : Type 0} (p : X → Bool) (xs : List X) → not (list_all (λ x. cond (p x) false true) xs) ≡ list_any p xs
+pub none_any : {X : Type 0} (p : X → Bool) (xs : List X) → not (list_all (λ x. cond (p x) false true) xs)
+    ≡ list_any p xs
 none_any p [] = refl
 none_any p (x ∷ xs) = by_head (p x) (none_any p xs)
   where
@@ -289,7 +299,8 @@ module _ (entries : List (Option Rails)) (ts : List Transfer) (old new : List Pa
     (h : IsDrivenMade entries ts old new rails) (v : Spot → Trit) (obeys : ObeysBehind new (length old) v) where
   off_agrees : Agree v (swapped rails)
   off_agrees = agree_bit v (swapped rails) (pair_negation h.terms h.middle new (swapped rails) h.pair v
-      (obeys_less new new (length old) (length h.middle) v (λ n p e. e) (gates_longer old h.middle h.are_terms.adds) obeys))
+      (obeys_less new new (length old) (length h.middle) v (λ n p e. e)
+      (gates_longer old h.middle h.are_terms.adds) obeys))
 
   pub driven_agree : Agree v rails
   driven_agree = swap_agree v rails off_agrees
@@ -301,12 +312,15 @@ module _ (entries : List (Option Rails)) (ts : List Transfer) (old new : List Pa
       (swap_rails v rails (list_all (λ t. cond (is_active value t) false true) ts)
       (off_agrees.from_bit (list_all (λ t. cond (is_active value t) false true) ts)
       (pair_bit h.terms h.middle new (swapped rails) h.pair v later
-      ∙ (ap nor_value (terms_known r entries ts v value (length old) h.middle earlier ts h.terms h.are_terms.each known)
+      ∙ (ap nor_value (terms_known r entries ts v value (length old) h.middle earlier ts h.terms h.are_terms.each
+      known)
       ∙ nor_bits (is_active value) ts))))
     where
       later : ObeysBehind new (length h.middle) v
-      later = obeys_less new new (length old) (length h.middle) v (λ n p e. e) (gates_longer old h.middle h.are_terms.adds) obeys
+      later = obeys_less new new (length old) (length h.middle) v (λ n p e. e)
+          (gates_longer old h.middle h.are_terms.adds) obeys
 
       earlier : ObeysBehind h.middle (length old) v
       earlier = obeys_less h.middle new (length old) (length old) v
-          (λ n p e. gates_keep h.middle new n p (pair_gates h.terms h.middle new (swapped rails) h.pair) e) (omega arith) obeys
+          (λ n p e. gates_keep h.middle new n p (pair_gates h.terms h.middle new (swapped rails) h.pair) e)
+          (omega arith) obeys

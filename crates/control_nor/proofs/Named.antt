@@ -1,5 +1,5 @@
 -- The nets of bits, by their names.
-use Rattle.std.proofs.Common.{◌≡◌, ℕ, zero, suc, List, [], ◌∷◌, Option, Some, None, map, refl, sym, ◌∙◌, ap, subst}
+use Rattle.std.proofs.Common.{◌≡◌, ℕ, List, Option, Some, None, map, refl, sym, ◌∙◌, ap}
 use Rattle.std.specs.Prelude.{slice_get}
 use Rattle.std.specs.Option.{option_map}
 use Rattle.std.proofs.lemmas.Option.{none-some, same_Some, slice_get-map}
@@ -8,7 +8,8 @@ use Rattle.control_nor.specs.declared.rails.Rails.{Rails}
 use Rattle.control_nor.specs.Lowering.{Stands}
 use Rattle.control_nor.specs.Rails.{Named, net_of}
 
-pub named_stands : (xs : List (Option Rails)) (k : ℕ) (rails : Rails) → Named xs k rails → Stands (map net_of xs) k rails.bit
+pub named_stands : (xs : List (Option Rails)) (k : ℕ) (rails : Rails) → Named xs k rails
+    → Stands (map net_of xs) k rails.bit
 named_stands xs k rails e = slice_get-map net_of xs k ∙ ap (option_map net_of) e
 
 pub stands_named : (xs : List (Option Rails)) (k : ℕ) (id : NetId) → Stands (map net_of xs) k id
@@ -18,8 +19,14 @@ stands_named xs k id e = by_entry (slice_get xs k) refl
     mapped : option_map net_of (slice_get xs k) ≡ Some (Some id)
     mapped = sym (slice_get-map net_of xs k) ∙ e
 
-    by_entry : (o : Option (Option Rails)) → slice_get xs k ≡ o → (rails : Rails) × Named xs k rails × (rails.bit ≡ id)
+    by_entry : (o : Option (Option Rails)) → slice_get xs k ≡ o
+        → (rails : Rails) × Named xs k rails × (rails.bit ≡ id)
     by_entry None q = absurd (none-some (Some id) (ap (option_map net_of) (sym q) ∙ mapped))
-    by_entry (Some None) q = absurd (none-some id (same_Some None (Some id) (ap (option_map net_of) (sym q) ∙ mapped)))
-    by_entry (Some (Some rails)) q =
-        (rails, q, same_Some rails.bit id (same_Some (Some rails.bit) (Some id) (ap (option_map net_of) (sym q) ∙ mapped)))
+    by_entry (Some None) q = absurd (none-some id (same_Some None (Some id)
+        (ap (option_map net_of) (sym q) ∙ mapped)))
+    by_entry (Some (Some rails)) q = (
+      rails,
+      q,
+      same_Some rails.bit id (same_Some (Some rails.bit) (Some id)
+          (ap (option_map net_of) (sym q) ∙ mapped)),
+    )

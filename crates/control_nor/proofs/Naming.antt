@@ -1,10 +1,10 @@
 -- Names of bits.
-use Rattle.std.proofs.Common.{◌≡◌, ℕ, ◌<◌, ◌≤◌, List, Option, Some, length, sym, ◌∙◌, ap, subst, arith}
+use Rattle.std.proofs.Common.{ℕ, ◌<◌, ◌≤◌, List, Option, sym, subst, arith}
 use Rattle.std.specs.Prelude.{All}
 use Rattle.std.specs.List.{AllZip}
 use Rattle.nor_net.specs.declared.net.NetId.{NetId}
 use Rattle.control_nor.specs.declared.rails.Rails.{Rails}
-use Rattle.control_nor.specs.Rails.{AllBelow, AreBelow, BitOf, Named, NegationOf}
+use Rattle.control_nor.specs.Rails.{AllBelow, BitOf, NegationOf}
 use Rattle.control_nor.proofs.Zipping.{zip_right}
 
 module _ (n : ℕ) (entries : List (Option Rails)) (below : AllBelow n entries) where

@@ -1,19 +1,18 @@
 -- What is added for the next value of a stored bit.
-use Rattle.std.proofs.Common.{◌≡◌, ℕ, suc, ◌+◌, ◌*◌, ◌<◌, ◌≤◌, List, [], ◌∷◌, ◌++◌, Option, Some, None, length, refl, sym, ◌∙◌, ap, subst, arith, length-append}
+use Rattle.std.proofs.Common.{◌≡◌, ℕ, ◌+◌, ◌*◌, ◌<◌, ◌≤◌, List, [], ◌∷◌, ◌++◌, Option, Some, None, length, sym, ap, subst, arith, length-append}
 use Rattle.std.specs.Prelude.{All, IfSome, slice_get, slice_set}
 use Rattle.std.specs.List.{AllZip}
 use Rattle.nor_net.specs.declared.net.NetId.{NetId}
-use Rattle.nor_net.specs.declared.net.Phase.{Phase}
 use Rattle.nor_net.specs.declared.net.Phase.TheVariants.{A, B}
 use Rattle.nor_net.specs.declared.net.Part.{Part}
 use Rattle.nor_net.specs.declared.net.Part.TheVariants.{Gate, Latch}
-use Rattle.nor_net.specs.Shape.{fed, gate_inputs, net_limit, IsAdded, MayTake}
+use Rattle.nor_net.specs.Shape.{fed, IsAdded, MayTake}
 use Rattle.rtl_form.specs.declared.rtl.Transfer.{Transfer}
 use Rattle.control_nor.specs.declared.rails.Rails.{Rails}
-use Rattle.control_nor.specs.Adding.{AddsGates, HasRoom, IsCounted, IsGate}
-use Rattle.control_nor.specs.Cells.{AreTerms, GuardOf, IsNextMade, IsSourceMade, IsTerm}
-use Rattle.control_nor.specs.Rails.{AllBelow, Named}
-use Rattle.control_nor.proofs.Adding.{added_at, added_counted, added_keeps, added_three, added_two, counted_list, counted_on, gates_keep, gates_on, three_gates}
+use Rattle.control_nor.specs.Adding.{AddsGates, IsCounted}
+use Rattle.control_nor.specs.Cells.{GuardOf, IsNextMade, IsSourceMade, IsTerm}
+use Rattle.control_nor.specs.Rails.{AllBelow}
+use Rattle.control_nor.proofs.Adding.{added_at, added_keeps, added_two, counted_list, counted_on, gates_keep, gates_on, three_gates}
 use Rattle.control_nor.proofs.Zipping.{zip_length, zip_right}
 
 pub guards_below : (n : ℕ) (exprs : List (Option Rails)) → AllBelow n exprs → (ts : List Transfer) (ids : List NetId)
@@ -27,7 +26,8 @@ pub below_later : (m n : ℕ) (ids : List NetId) → m ≤ n → All (λ (j : Ne
 below_later m n ids l h k d inside = let b = h k d inside in omega (arith, b)
 
 -- the gates of the data of a master
-pub source_gates : (exprs : List (Option Rails)) (ts : List Transfer) (slave reset source : NetId) (old new : List Part)
+pub source_gates : (exprs : List (Option Rails)) (ts : List Transfer) (slave reset source : NetId)
+    (old new : List Part)
     → IsSourceMade exprs ts slave reset old new source → AddsGates old new
 source_gates exprs ts slave reset source old new h =
     gates_on old h.middle new h.are_terms.adds (
@@ -36,7 +36,8 @@ source_gates exprs ts slave reset source old new h =
       three_gates (h.guards ++ slave ∷ []) (h.terms ++ h.hold ∷ []) (h.off ∷ reset ∷ []),
     )
 
-pub source_counted : (exprs : List (Option Rails)) (ts : List Transfer) (slave reset source : NetId) (old new : List Part)
+pub source_counted : (exprs : List (Option Rails)) (ts : List Transfer) (slave reset source : NetId)
+    (old new : List Part)
     → IsSourceMade exprs ts slave reset old new source
     → IsCounted (length ts + 3) (4 * length ts + 4) (length ts + 3) old new
 source_counted exprs ts slave reset source old new h = record {
@@ -60,17 +61,21 @@ source_counted exprs ts slave reset source old new h = record {
     terms_more : length (h.terms ++ h.hold ∷ []) ≡ length h.terms + 1
     terms_more = length-append h.terms (h.hold ∷ [])
 
-    all : IsCounted (length ts + 3) (2 * length ts + (length (h.guards ++ slave ∷ []) + (length (h.terms ++ h.hold ∷ []) + 2))) (length ts + 3) old new
-    all = let c = counted_list h.middle (Gate (h.guards ++ slave ∷ []) ∷ Gate (h.terms ++ h.hold ∷ []) ∷ Gate (h.off ∷ reset ∷ []) ∷ []) in
+    all : IsCounted (length ts + 3) (2 * length ts + (length (h.guards ++ slave ∷ []) +
+        (length (h.terms ++ h.hold ∷ []) + 2))) (length ts + 3) old new
+    all = let c = counted_list h.middle (Gate (h.guards ++ slave ∷ []) ∷ Gate (h.terms ++ h.hold ∷ []) ∷ Gate
+        (h.off ∷ reset ∷ []) ∷ []) in
         let t = h.are_terms.counted in
         let d : IsCounted 3 (length (h.guards ++ slave ∷ []) + (length (h.terms ++ h.hold ∷ []) + 2)) 3 h.middle new =
-        subst (IsCounted 3 (length (h.guards ++ slave ∷ []) + (length (h.terms ++ h.hold ∷ []) + 2)) 3 h.middle) (sym h.parts)
+        subst (IsCounted 3 (length (h.guards ++ slave ∷ []) + (length (h.terms ++ h.hold ∷ []) + 2)) 3 h.middle)
+        (sym h.parts)
         (record {
           net_count = let e = c.net_count in omega (arith, e);
           input_count = let e = c.input_count in omega (arith, e);
           active_count = let e = c.active_count in omega (arith, e);
         }) in
-        counted_on (length ts) (2 * length ts) (length ts) 3 (length (h.guards ++ slave ∷ []) + (length (h.terms ++ h.hold ∷ []) + 2)) 3
+        counted_on (length ts) (2 * length ts) (length ts) 3
+        (length (h.guards ++ slave ∷ []) + (length (h.terms ++ h.hold ∷ []) + 2)) 3
         old h.middle new t d
 
 -- the latch of a slave, which waits for its data, stands until it is fed
@@ -83,14 +88,17 @@ module _ (exprs : List (Option Rails)) (ts : List Transfer) (slave reset source 
   still : slice_get grown slave.0 ≡ Some (Latch B None)
   still = added_keeps latched grown (Gate (master ∷ [])) negation is_negation slave.0 (Latch B None)
       (added_keeps middle latched (Latch A (Some source)) master is_master slave.0 (Latch B None)
-      (gates_keep old middle slave.0 (Latch B None) (source_gates exprs ts slave reset source old middle is_source) waits))
+      (gates_keep old middle slave.0 (Latch B None) (source_gates exprs ts slave reset source old middle is_source)
+      waits))
 
   pub may_take : MayTake (slice_get grown slave.0) (slice_get grown negation.0)
   may_take =
       subst (λ o. MayTake o (slice_get grown negation.0)) (sym still)
-      (subst (MayTake (Some (Latch B None))) (sym (added_at latched grown (Gate (master ∷ [])) negation is_negation)) tt)
+      (subst (MayTake (Some (Latch B None))) (sym (added_at latched grown (Gate (master ∷ [])) negation is_negation))
+      tt)
 
-  pub next_made : (new : List Part) → IfSome (slice_get grown slave.0) (λ p. new ≡ slice_set grown slave.0 (fed negation p))
+  pub next_made : (new : List Part) → IfSome (slice_get grown slave.0)
+      (λ p. new ≡ slice_set grown slave.0 (fed negation p))
       → IsNextMade exprs ts slave reset old new
   next_made new h = record {
     middle = middle;
@@ -99,7 +107,8 @@ module _ (exprs : List (Option Rails)) (ts : List Transfer) (slave reset source 
     master = master;
     negation = negation;
     is_source = is_source;
-    is_grown = added_two middle latched grown (Latch A (Some source)) (Gate (master ∷ [])) master negation is_master is_negation;
+    is_grown = added_two middle latched grown (Latch A (Some source))
+        (Gate (master ∷ [])) master negation is_master is_negation;
     at_master = is_master.number;
     at_negation = let e = ap length is_master.parts in
         let f = length-append middle (Latch A (Some source) ∷ []) in

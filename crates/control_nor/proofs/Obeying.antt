@@ -1,21 +1,20 @@
 -- Values that added nets obey.
-use Rattle.std.proofs.Common.{◌≡◌, ℕ, zero, suc, ◌+◌, ◌-◌, ◌<◌, ◌≤◌, ◌⊎◌, inl, inr, List, [], ◌∷◌, ◌++◌, Option, Some, None, Bool, true, false, length, map, refl, sym, ◌∙◌, ap, subst, arith, cond}
-use Rattle.std.specs.Prelude.{All, not, ◌&&◌, ◌||◌, ◌==◌, nat_lt, slice_get}
-use Rattle.std.specs.List.{AllZip, list_all, list_any}
-use Rattle.std.proofs.lemmas.Option.{none-some, same_Some, slice_get_within}
+use Rattle.std.proofs.Common.{◌≡◌, ℕ, suc, ◌+◌, ◌<◌, ◌≤◌, List, [], ◌∷◌, Option, Some, None, Bool, true, false, length, map, refl, sym, ◌∙◌, ap, subst, arith}
+use Rattle.std.specs.Prelude.{All, not, ◌==◌, slice_get}
+use Rattle.std.specs.List.{AllZip}
 use Rattle.mp_base.specs.declared.value.Trit.{Trit}
 use Rattle.mp_base.specs.declared.value.Trit.TheVariants.{Zero, One, X}
 use Rattle.nor_net.specs.declared.net.NetId.{NetId}
 use Rattle.nor_net.specs.declared.net.Part.{Part}
-use Rattle.nor_net.specs.declared.net.Part.TheVariants.{Input, Gate, Latch}
-use Rattle.nor_net.specs.Elements.{Spot, spot, nets_of, part_element}
+use Rattle.nor_net.specs.declared.net.Part.TheVariants.{Input, Gate}
+use Rattle.nor_net.specs.Elements.{Spot, spot, part_element}
 use Rattle.nor_net.specs.Laws.{bit}
 use Rattle.nor_net.specs.Settled.{Obeys, nor_value}
 use Rattle.control_nor.specs.declared.rails.Rails.{Rails}
-use Rattle.control_nor.specs.Adding.{AddsLogic, IsEntryPair, IsExclusive, IsPair}
+use Rattle.control_nor.specs.Adding.{IsEntryPair, IsExclusive, IsPair}
 use Rattle.control_nor.specs.Lowering.{ObeysBehind}
-use Rattle.control_nor.specs.Rails.{Agree, BitOf, HasRails, Known, Named, NegationOf, swapped}
-use Rattle.control_nor.proofs.Adding.{get_at, logic_keep}
+use Rattle.control_nor.specs.Rails.{Agree, BitOf, HasRails, Known, NegationOf, swapped}
+use Rattle.control_nor.proofs.Adding.{get_at}
 
 -- values that obey more nets obey those of a part, where all stands as it stood
 pub obeys_less : (old new : List Part) (first later : ℕ) (v : Spot → Trit)
@@ -23,10 +22,12 @@ pub obeys_less : (old new : List Part) (first later : ℕ) (v : Spot → Trit)
     → ObeysBehind new first v → ObeysBehind old later v
 obeys_less old new first later v keeps l h n ge = by_part (slice_get old n) refl
   where
-    by_part : (o : Option Part) → slice_get old n ≡ o → Obeys v (record { band = 0; net = n }) (part_element 0 (slice_get old n))
+    by_part : (o : Option Part) → slice_get old n ≡ o → Obeys v (record { band = 0; net = n })
+        (part_element 0 (slice_get old n))
     by_part None e = subst (λ o. Obeys v (record { band = 0; net = n }) (part_element 0 o)) (sym e) tt
     by_part (Some p) e =
-        subst (λ o. Obeys v (record { band = 0; net = n }) (part_element 0 o)) (keeps n p e ∙ sym e) (h n (omega arith))
+        subst (λ o. Obeys v (record { band = 0; net = n }) (part_element 0 o)) (keeps n p e ∙ sym e)
+        (h n (omega arith))
 
 -- a gate has the NOR of its inputs
 pub gate_obeyed : (parts : List Part) (first : ℕ) (v : Spot → Trit) (id : NetId) (inputs : List NetId)
@@ -65,7 +66,8 @@ agree_bit v rails is = record {
   };
 }
 
-pub swap_rails : (v : Spot → Trit) (rails : Rails) (b : Bool) → HasRails v (swapped rails) b → HasRails v rails (not b)
+pub swap_rails : (v : Spot → Trit) (rails : Rails) (b : Bool) → HasRails v (swapped rails) b
+    → HasRails v rails (not b)
 swap_rails v rails b h = record {
   has_bit = h.has_negation;
   has_negation = h.has_bit ∙ ap bit (sym (not_not b));
@@ -107,15 +109,18 @@ module _ (v : Spot → Trit) (entries : List (Option Rails)) (value : ℕ → �
 
 -- ---- what was added, in values that obey it
 
-module _ (inputs : List NetId) (old new : List Part) (rails : Rails) (h : IsPair inputs old new rails) (v : Spot → Trit)
+module _ (inputs : List NetId) (old new : List Part) (rails : Rails) (h : IsPair inputs old new rails)
+    (v : Spot → Trit)
     (obeys : ObeysBehind new (length old) v) where
   pub pair_bit : v (spot 0 rails.bit) ≡ nor_value (map v (map (spot 0) inputs))
   pair_bit = gate_obeyed new (length old) v rails.bit inputs obeys (let n = h.at_bit in omega (arith, n))
       (ap (λ ps. slice_get ps rails.bit.0) h.parts
-      ∙ get_at old (Gate inputs ∷ Gate (rails.bit ∷ []) ∷ []) rails.bit.0 0 (Gate inputs) (let n = h.at_bit in omega (arith, n)) refl)
+      ∙ get_at old (Gate inputs ∷ Gate (rails.bit ∷ []) ∷ []) rails.bit.0 0 (Gate inputs)
+      (let n = h.at_bit in omega (arith, n)) refl)
 
   pub pair_negation : v (spot 0 rails.negation) ≡ nor_value (v (spot 0 rails.bit) ∷ [])
-  pair_negation = gate_obeyed new (length old) v rails.negation (rails.bit ∷ []) obeys (let n = h.at_negation in omega (arith, n))
+  pair_negation = gate_obeyed new (length old) v rails.negation (rails.bit ∷ []) obeys
+      (let n = h.at_negation in omega (arith, n))
       (ap (λ ps. slice_get ps rails.negation.0) h.parts
       ∙ get_at old (Gate inputs ∷ Gate (rails.bit ∷ []) ∷ []) rails.negation.0 1 (Gate (rails.bit ∷ []))
       (let n = h.at_negation in omega (arith, n)) refl)
@@ -123,7 +128,8 @@ module _ (inputs : List NetId) (old new : List Part) (rails : Rails) (h : IsPair
 module _ (old new : List Part) (rails : Rails) (h : IsEntryPair old new rails) (v : Spot → Trit)
     (obeys : ObeysBehind new (length old) v) where
   pub entry_negation : v (spot 0 rails.negation) ≡ nor_value (v (spot 0 rails.bit) ∷ [])
-  entry_negation = gate_obeyed new (length old) v rails.negation (rails.bit ∷ []) obeys (let n = h.at_negation in omega (arith, n))
+  entry_negation = gate_obeyed new (length old) v rails.negation (rails.bit ∷ []) obeys
+      (let n = h.at_negation in omega (arith, n))
       (ap (λ ps. slice_get ps rails.negation.0) h.parts
       ∙ get_at old (Input ∷ Gate (rails.bit ∷ []) ∷ []) rails.negation.0 1 (Gate (rails.bit ∷ []))
       (let n = h.at_negation in omega (arith, n)) refl)
@@ -131,7 +137,8 @@ module _ (old new : List Part) (rails : Rails) (h : IsEntryPair old new rails) (
 module _ (a b : Rails) (old new : List Part) (rails : Rails) (h : IsExclusive a b old new rails) (v : Spot → Trit)
     (obeys : ObeysBehind new (length old) v) where
   abbrev more : List Part
-  more = Gate (a.bit ∷ b.bit ∷ []) ∷ Gate (a.negation ∷ b.negation ∷ []) ∷ Gate (h.none ∷ h.both ∷ []) ∷ Gate (rails.bit ∷ []) ∷ []
+  more = Gate (a.bit ∷ b.bit ∷ []) ∷ Gate (a.negation ∷ b.negation ∷ []) ∷ Gate (h.none ∷ h.both ∷ []) ∷ Gate
+      (rails.bit ∷ []) ∷ []
 
   gate_of : (id : NetId) (i : ℕ) (inputs : List NetId) → id.0 ≡ length old + i → slice_get more i ≡ Some (Gate inputs)
       → v (spot 0 id) ≡ nor_value (map v (map (spot 0) inputs))
@@ -149,7 +156,8 @@ module _ (a b : Rails) (old new : List Part) (rails : Rails) (h : IsExclusive a 
       let both = gate_of h.both 1 (a.negation ∷ b.negation ∷ []) (let n = h.at_both in omega (arith, n)) refl in
       let result = gate_of rails.bit 2 (h.none ∷ h.both ∷ []) (let n = h.at_bit in omega (arith, n)) refl in
       let none_is : v (spot 0 h.none) ≡ nor_value (bit (x == 1) ∷ bit (y == 1) ∷ []) =
-      none ∙ (ap (λ t. nor_value (t ∷ v (spot 0 b.bit) ∷ [])) is_a.has_bit ∙ ap (λ t. nor_value (bit (x == 1) ∷ t ∷ [])) is_b.has_bit) in
+      none ∙ (ap (λ t. nor_value (t ∷ v (spot 0 b.bit) ∷ [])) is_a.has_bit
+      ∙ ap (λ t. nor_value (bit (x == 1) ∷ t ∷ [])) is_b.has_bit) in
       let both_is : v (spot 0 h.both) ≡ nor_value (bit (not (x == 1)) ∷ bit (not (y == 1)) ∷ []) =
       both ∙ (ap (λ t. nor_value (t ∷ v (spot 0 b.negation) ∷ [])) is_a.has_negation
       ∙ ap (λ t. nor_value (bit (not (x == 1)) ∷ t ∷ [])) is_b.has_negation) in

@@ -1,35 +1,30 @@
 -- Tasks, one after the other.
-use Rattle.std.proofs.Common.{◌≡◌, ℕ, zero, suc, ◌+◌, ◌-◌, ◌*◌, ◌<◌, ◌≤◌, ◌⊎◌, inl, inr, List, [], ◌∷◌, ◌++◌, Option, Some, None, Bool, true, false, length, refl, sym, ◌∙◌, ap, subst, arith, cond}
-use Rattle.std.specs.Prelude.{All, Contains, MatchBool, ◌&&◌, not, slice_get, slice_set, if◌then◌else◌}
-use Rattle.std.specs.List.{sum_by}
+use Rattle.std.proofs.Common.{◌≡◌, ℕ, ◌+◌, ◌≤◌, ◌⊎◌, inl, inr, List, Option, Some, None, Bool, true, false, length, refl, sym, ◌∙◌, ap, subst, arith}
+use Rattle.std.specs.Prelude.{MatchBool, ◌&&◌, not, slice_get, if◌then◌else◌}
 use Rattle.std.proofs.lemmas.Option.{none-some, same_Some, slice_get_within, slice_get-get_or}
 use Rattle.std.proofs.lemmas.List.{length-set}
 use Rattle.nor_net.specs.declared.net.Part.{Part}
 use Rattle.rtl_form.specs.declared.rtl.Cell as cells
-use Rattle.rtl_form.specs.declared.rtl.Transfer.{Transfer}
 use Rattle.rtl_form.specs.declared.rtl.RtlExpr.{RtlExpr}
-use Rattle.rtl_form.specs.declared.rtl.RtlExpr.TheVariants as exprs
 use Rattle.rtl_form.specs.declared.rtl.Rtl.{Rtl}
 use Rattle.rtl_form.specs.Entries.{IsAt}
 use Rattle.rtl_form.specs.Environment.{is_driven}
-use Rattle.rtl_form.specs.Operands.{takes_words, gives_word}
-use Rattle.rtl_form.specs.Sound.{HasSort, IsSort, IsSound}
-use Rattle.rtl_form.proofs.Members.{by_test, one_entry, some_entry}
+use Rattle.rtl_form.proofs.Members.{one_entry}
 use Rattle.control_nor.specs.declared.names.Task.{Task}
 use Rattle.control_nor.specs.declared.names.Task.TheVariants.{Expr, Cell}
 use Rattle.control_nor.specs.declared.rails.Rails.{Rails}
 use Rattle.control_nor.specs.declared.rails.Bits.{Bits}
-use Rattle.control_nor.specs.Adding.{AddsLogic, HasRoom}
-use Rattle.control_nor.specs.Cells.{IsDrivenMade, IsTransferNamed, transfers_to}
-use Rattle.control_nor.specs.Exprs.{IsExprMade, IsExprReady}
+use Rattle.control_nor.specs.Adding.{AddsLogic}
+use Rattle.control_nor.specs.Cells.{IsDrivenMade, transfers_to}
+use Rattle.control_nor.specs.Exprs.{IsExprMade}
 use Rattle.control_nor.specs.Lowering.{IsEntry}
-use Rattle.control_nor.specs.Progress.{IsBegun, IsBitTask, IsProgress, IsSpent, NamedTask, cost_left, driven_cost, driven_count, entries_left, left_by, waits}
-use Rattle.control_nor.specs.Rails.{AllBelow, AreBelow, IsNamed, Named}
-use Rattle.control_nor.specs.Schedule.{IsSchedule, IsTask, TaskReads}
+use Rattle.control_nor.specs.Progress.{IsSpent, NamedTask, driven_cost, driven_count}
+use Rattle.control_nor.specs.Rails.{AllBelow, AreBelow}
+use Rattle.control_nor.specs.Schedule.{IsTask}
 use Rattle.control_nor.specs.Size.{IsWithinCost, bit_expr_cost, entry_count}
-use Rattle.control_nor.specs.Tasks.{IsCellMade, IsTaskDone, IsTaskMade, IsTaskReady, entry_of, with_entry}
-use Rattle.control_nor.proofs.Adding.{logic_none, logic_on, logic_longer}
-use Rattle.control_nor.proofs.Left.{get_set_other, get_set_same, left_least, left_some, nat_cases, set_there, waits_fall}
+use Rattle.control_nor.specs.Tasks.{IsTaskMade, entry_of, with_entry}
+use Rattle.control_nor.proofs.Adding.{logic_none}
+use Rattle.control_nor.proofs.Left.{get_set_other, get_set_same, left_some, nat_cases, set_there, waits_fall}
 use Rattle.control_nor.proofs.Made.{AreAdded, driven_added, expr_added, nothing_added}
 
 pub at_get : {X : Type 0} (xs : List X) (k : ℕ) (x : X) → IsAt xs k x → slice_get xs k ≡ Some x
@@ -81,7 +76,8 @@ named_after bits o task y rails was h =
 pub names_stay : (bits : Bits) (o : Option Rails) (task y : Task) (rails : Rails) → entry_of bits task ≡ Some None
     → NamedTask bits y rails → NamedTask (with_entry bits task o) y rails
 names_stay bits o task y rails was h =
-    entry_other bits o task y (λ e. absurd (none-some rails (same_Some None (Some rails) (sym was ∙ (ap (entry_of bits) (sym e) ∙ h))))) ∙ h
+    entry_other bits o task y (λ e. absurd (none-some rails
+    (same_Some None (Some rails) (sym was ∙ (ap (entry_of bits) (sym e) ∙ h))))) ∙ h
 
 -- ---- one task
 
@@ -94,7 +90,8 @@ IsEntryTask r (Cell c) = ⊥
 pub record IsStep (r : Rtl) (task : Task) (old new : List Part) (before : Bits) (o : Option Rails) : Type 0 where
   pub adds : AddsLogic old new
   pub below : (rails : Rails) → o ≡ Some rails → AreBelow (length new) rails
-  pub inputs : (n : ℕ) → length old ≤ n → slice_get new n ≡ Some Rattle.nor_net.specs.declared.net.Part.TheVariants.Input
+  pub inputs : (n : ℕ) → length old ≤ n → slice_get new n ≡ Some
+      Rattle.nor_net.specs.declared.net.Part.TheVariants.Input
       → IsEntryTask r task × ((rails : Rails) × (o ≡ Some rails) × (rails.bit.0 ≡ n))
   pub entry : IsEntryTask r task → (rails : Rails) → o ≡ Some rails → (length old ≤ rails.bit.0)
       × (slice_get new rails.bit.0 ≡ Some Rattle.nor_net.specs.declared.net.Part.TheVariants.Input)
@@ -108,13 +105,18 @@ module _ (r : Rtl) (old new : List Part) (before : Bits)
   none_step task o was is same = record {
     adds = subst (AddsLogic old) (sym same) (logic_none old);
     below = λ rails e. absurd (none-some rails (sym is ∙ e));
-    inputs = λ n l e. absurd (let long = slice_get_within new n Rattle.nor_net.specs.declared.net.Part.TheVariants.Input e in
+    inputs = λ n l e. absurd (let long = slice_get_within new n
+        Rattle.nor_net.specs.declared.net.Part.TheVariants.Input e in
         let s = ap length same in omega (arith, long, s, l));
     entry = λ y rails e. absurd (none-some rails (sym is ∙ e));
     spent = subst (λ bits. IsSpent r old new before bits) (sym still) (record {
       cost = 0;
       entries = 0;
-      within = subst (IsWithinCost 0 0 old) (sym same) (record { nets = omega arith; inputs = omega arith; active = omega arith });
+      within = subst (IsWithinCost 0 0 old) (sym same) (record {
+        nets = omega arith;
+        inputs = omega arith;
+        active = omega arith;
+      });
       cost_is = omega arith;
       entries_is = omega arith;
     });
@@ -130,19 +132,22 @@ module _ (r : Rtl) (old new : List Part) (before : Bits)
   expr_step : (e : ℕ) (x : RtlExpr) (o : Option Rails) → IsAt r.exprs e x → slice_get before.exprs e ≡ Some None
       → IsExprMade before.cells before.exprs x old new o → IsStep r (Expr e) old new before o
   expr_step e x None at was made =
-      none_step (Expr e) None was refl (nothing_added before.cells before.exprs old new cells_below exprs_below x made).0
+      none_step (Expr e) None was refl (nothing_added before.cells before.exprs old new cells_below exprs_below x
+      made).0
   expr_step e x (Some rails) at was made = record {
     adds = added.adds;
     below = λ q h. subst (AreBelow (length new)) (same_Some rails q h) added.below;
     inputs = λ n l i. let h = added.inputs n l i in ((x, at, h.0), (rails, refl, h.1));
     entry = λ y q h.
-        subst (λ q. (length old ≤ q.bit.0) × (slice_get new q.bit.0 ≡ Some Rattle.nor_net.specs.declared.net.Part.TheVariants.Input))
+        subst (λ q. (length old ≤ q.bit.0) × (slice_get new q.bit.0
+        ≡ Some Rattle.nor_net.specs.declared.net.Part.TheVariants.Input))
         (same_Some rails q h) (added.entry (subst IsEntry (one_entry r.exprs e y.0 x y.1 at) y.2));
     spent = record {
       cost = bit_expr_cost x;
       entries = entry_count x;
       within = added.within;
-      cost_is = let f = left_some bit_expr_cost before.exprs r.exprs e x rails was (at_get r.exprs e x at) in omega (arith, f);
+      cost_is = let f = left_some bit_expr_cost before.exprs r.exprs e x rails was (at_get r.exprs e x at) in
+          omega (arith, f);
       entries_is = left_some entry_count before.exprs r.exprs e x rails was (at_get r.exprs e x at);
     };
   }
@@ -152,7 +157,8 @@ module _ (r : Rtl) (old new : List Part) (before : Bits)
 
   cell_step : (c : ℕ) (x : cells.Cell) (rails : Rails) → IsAt r.cells c x → driven_count x ≡ 1
       → slice_get before.cells c ≡ Some None
-      → IsDrivenMade before.exprs (transfers_to r.transfers c) old new rails → IsStep r (Cell c) old new before (Some rails)
+      → IsDrivenMade before.exprs (transfers_to r.transfers c) old new rails
+      → IsStep r (Cell c) old new before (Some rails)
   cell_step c x rails at driven was made = record {
     adds = added.adds;
     below = λ q h. subst (AreBelow (length new)) (same_Some rails q h) added.below;
@@ -181,7 +187,8 @@ module _ (r : Rtl) (old new : List Part) (before : Bits)
       driven : made.0.word ≡ false → driven_count made.0 ≡ 1
       driven bit =
           let same = one_entry r.cells c is.0 made.0 is.1 made.1 in
-          ap (λ b. if b && not made.0.word then 1 else 0) (ap (λ (x : cells.Cell). is_driven x.kind) (sym same) ∙ is.2)
+          ap (λ b. if b && not made.0.word then 1 else 0) (ap (λ (x : cells.Cell). is_driven x.kind) (sym same)
+          ∙ is.2)
           ∙ ap (λ b. if not b then 1 else 0) bit
 
       by_word : (b : Bool) → made.0.word ≡ b

@@ -1,10 +1,9 @@
 -- Tasks of a schedule, done in its order.
-use Rattle.std.proofs.Common.{◌≡◌, ℕ, zero, suc, ◌+◌, ◌-◌, ◌*◌, ◌<◌, ◌≤◌, ◌⊎◌, inl, inr, List, [], ◌∷◌, ◌++◌, Option, Some, None, Bool, true, false, length, refl, sym, ◌∙◌, ap, subst, arith, cond, eqb}
-use Rattle.std.specs.Prelude.{All, Contains, MatchBool, ◌&&◌, not, if◌then◌else◌, slice_get, slice_set, slice_index_or}
-use Rattle.std.specs.List.{filter, sum_by}
+use Rattle.std.proofs.Common.{◌≡◌, ℕ, ◌+◌, ◌<◌, ◌≤◌, ◌⊎◌, inl, inr, List, Option, Some, None, Bool, true, false, length, refl, sym, ◌∙◌, ap, subst, arith, eqb}
+use Rattle.std.specs.Prelude.{All, Contains, MatchBool, ◌&&◌, not, if◌then◌else◌, slice_get, slice_index_or}
 use Rattle.std.proofs.lemmas.Bool.{eqb-true}
 use Rattle.std.proofs.lemmas.List.Elements.{All-filter, Contains-get_or, filter_passes}
-use Rattle.std.proofs.lemmas.Option.{none-some, same_Some, slice_get_within}
+use Rattle.std.proofs.lemmas.Option.{none-some, same_Some}
 use Rattle.nor_net.specs.declared.net.Part.{Part}
 use Rattle.rtl_form.specs.declared.rtl.Cell as cells
 use Rattle.rtl_form.specs.declared.rtl.Transfer.{Transfer}
@@ -13,21 +12,20 @@ use Rattle.rtl_form.specs.declared.rtl.RtlExpr.TheVariants as exprs
 use Rattle.rtl_form.specs.declared.rtl.Rtl.{Rtl}
 use Rattle.rtl_form.specs.Entries.{IsAt}
 use Rattle.rtl_form.specs.Environment.{is_driven}
-use Rattle.rtl_form.specs.Operands.{takes_words, gives_word}
 use Rattle.rtl_form.specs.Sound.{ExprFits, HasSort, IsSort, IsSound}
 use Rattle.rtl_form.proofs.Members.{by_test, one_entry, some_entry}
 use Rattle.control_nor.specs.declared.names.Task.{Task}
 use Rattle.control_nor.specs.declared.names.Task.TheVariants.{Expr, Cell}
 use Rattle.control_nor.specs.declared.rails.Rails.{Rails}
 use Rattle.control_nor.specs.declared.rails.Bits.{Bits}
-use Rattle.control_nor.specs.Adding.{AddsLogic, HasRoom}
+use Rattle.control_nor.specs.Adding.{HasRoom}
 use Rattle.control_nor.specs.Cells.{IsDrivenMade, IsTransferNamed, transfers_to}
 use Rattle.control_nor.specs.Exprs.{IsExprMade, IsExprReady}
-use Rattle.control_nor.specs.Progress.{IsBegun, IsBitTask, IsProgress, IsSpent, NamedTask, cost_left, driven_cost, driven_count, entries_left, left_by, waits}
-use Rattle.control_nor.specs.Rails.{AllBelow, AreBelow, IsNamed, Named}
+use Rattle.control_nor.specs.Progress.{IsBegun, IsBitTask, IsProgress, NamedTask, cost_left, driven_cost, driven_count}
+use Rattle.control_nor.specs.Rails.{AreBelow, IsNamed}
 use Rattle.control_nor.specs.Schedule.{IsSchedule, IsTask, TaskReads}
-use Rattle.control_nor.specs.Size.{IsWithinCost, bit_expr_cost, entry_count}
-use Rattle.control_nor.specs.Tasks.{IsCellMade, IsTaskDone, IsTaskMade, IsTaskReady, entry_of, with_entry}
+use Rattle.control_nor.specs.Size.{IsWithinCost, bit_expr_cost}
+use Rattle.control_nor.specs.Tasks.{IsTaskDone, IsTaskMade, IsTaskReady, entry_of, with_entry}
 use Rattle.control_nor.proofs.Adding.{logic_none, logic_on, logic_longer}
 use Rattle.control_nor.proofs.Left.{left_least, waits_fall}
 use Rattle.control_nor.proofs.Progress.{IsStep, at_get, cells_after, entry_other, entry_same, exprs_after, named_after, names_stay, task_step}
@@ -40,7 +38,8 @@ within_on c e d f old middle new g h = record {
   active = let x = g.active in let y = h.active in omega (arith, x, y);
 }
 
-module _ (r : Rtl) (sound : IsSound r) (tasks : List Task) (schedule : IsSchedule r tasks) (old : List Part) (before : Bits)
+module _ (r : Rtl) (sound : IsSound r) (tasks : List Task) (schedule : IsSchedule r tasks) (old : List Part)
+    (before : Bits)
     (begun : IsBegun r old before) where
   -- before the first task
   pub no_progress : IsProgress r tasks 0 old old before before
@@ -65,7 +64,8 @@ module _ (r : Rtl) (sound : IsSound r) (tasks : List Task) (schedule : IsSchedul
   module _ (t : ℕ) (new : List Part) (after : Bits) (progress : IsProgress r tasks t old new before after)
       (task : Task) (is : slice_get tasks t ≡ Some task) where
     -- what the task reads has names, if it is a bit
-    read_done : (y : Task) → TaskReads r task y → IsTask r y → IsBitTask r y → (rails : Rails) × NamedTask after y rails
+    read_done : (y : Task) → TaskReads r task y → IsTask r y → IsBitTask r y
+        → (rails : Rails) × NamedTask after y rails
     read_done y reads there bit =
         let s = schedule.after t task y is reads there in progress.done s.0 y s.1 s.2 bit
 
@@ -82,7 +82,8 @@ module _ (r : Rtl) (sound : IsSound r) (tasks : List Task) (schedule : IsSchedul
         record { room = omega (arith, w, e, a, l); inputs_room = omega (arith, i, e, b, l) }
 
     exprs_ready : (e : ℕ) (x : RtlExpr) → task ≡ Expr e → IsAt r.exprs e x → IsExprReady after.cells after.exprs x
-    exprs_ready e x same at = by_expr x (sound.exprs e x at) (λ y h. subst (λ k. TaskReads r k y) (sym same) (x, at, h))
+    exprs_ready e x same at =
+        by_expr x (sound.exprs e x at) (λ y h. subst (λ k. TaskReads r k y) (sym same) (x, at, h))
       where
         by_expr : (x : RtlExpr) → ExprFits r e x
             → ((y : Task) → Rattle.control_nor.specs.Schedule.ExprReads x y → TaskReads r task y)
@@ -106,16 +107,20 @@ module _ (r : Rtl) (sound : IsSound r) (tasks : List Task) (schedule : IsSchedul
         let here = one_entry r.cells c f.1.0 x (subst (λ n. IsAt r.cells n f.1.0) to f.1.1) at in
         let value : HasSort r t.value false =
         subst (HasSort r t.value) (ap (λ (x : cells.Cell). x.word) here ∙ bit) f.1.2 in (
-          read_done (Expr t.guard) (subst (λ k. TaskReads r k (Expr t.guard)) (sym same) (t, inside, to, inl refl)) f.0.1.0 f.0,
-          read_done (Expr t.value) (subst (λ k. TaskReads r k (Expr t.value)) (sym same) (t, inside, to, inr refl)) value.1.0 value,
+          read_done (Expr t.guard) (subst (λ k. TaskReads r k (Expr t.guard)) (sym same) (t, inside, to, inl refl))
+              f.0.1.0 f.0,
+          read_done (Expr t.value) (subst (λ k. TaskReads r k (Expr t.value)) (sym same) (t, inside, to, inr refl))
+              value.1.0 value,
         )
 
     transfers_named : (c : ℕ) → task ≡ Cell c → (x : cells.Cell) → IsAt r.cells c x → x.word ≡ false
         → All (IsTransferNamed after.exprs) (transfers_to r.transfers c)
     transfers_named c same x at bit k d l =
         let all : All (λ (t : Transfer). t.target ≡ c → IsTransferNamed after.exprs t) r.transfers =
-        λ k d l. transfer_named c same x at bit (slice_index_or r.transfers k d) (Contains-get_or r.transfers k d l) in
-        All-filter (λ (t : Transfer). eqb t.target c) (λ (t : Transfer). t.target ≡ c → IsTransferNamed after.exprs t) r.transfers all k d l
+        λ k d l. transfer_named c same x at bit (slice_index_or r.transfers k d)
+        (Contains-get_or r.transfers k d l) in
+        All-filter (λ (t : Transfer). eqb t.target c) (λ (t : Transfer). t.target ≡ c
+        → IsTransferNamed after.exprs t) r.transfers all k d l
         (eqb-true (slice_index_or (transfers_to r.transfers c) k d).target c
         (filter_passes (λ (t : Transfer). eqb t.target c) r.transfers k d l))
 
@@ -137,7 +142,8 @@ module _ (r : Rtl) (sound : IsSound r) (tasks : List Task) (schedule : IsSchedul
             cell_room : (c : ℕ) (x : cells.Cell) → IsAt r.cells c x → is_driven x.kind ≡ true → x.word ≡ false
                 → slice_get after.cells c ≡ Some None → HasRoom (2 + length (transfers_to r.transfers c)) new
             cell_room c x at driven bit waiting =
-                let one : driven_count x ≡ 1 = ap (λ b. if b && not x.word then 1 else 0) driven ∙ ap (λ b. if not b then 1 else 0) bit in
+                let one : driven_count x ≡ 1 = ap (λ b. if b && not x.word then 1 else 0) driven
+                ∙ ap (λ b. if not b then 1 else 0) bit in
                 let least = left_least driven_cost after.cells r.cells c x waiting (at_get r.cells c x at) in
                 let rails : Rails = record { bit = record { 0 = 0 }; negation = record { 0 = 0 } } in
                 let fall = waits_fall r.cells after.cells c x rails waiting (at_get r.cells c x at) one r.transfers in
@@ -162,12 +168,14 @@ module _ (r : Rtl) (sound : IsSound r) (tasks : List Task) (schedule : IsSchedul
       made_named : IsBitTask r task → (rails : Rails) × (made.entry ≡ Some rails)
       made_named bit = by_task task refl bit made.is_made
         where
-          by_expr : (e : ℕ) (x : RtlExpr) (o : Option Rails) → task ≡ Expr e → IsAt r.exprs e x → IsSort r.cells x false
+          by_expr : (e : ℕ) (x : RtlExpr) (o : Option Rails) → task ≡ Expr e → IsAt r.exprs e x
+              → IsSort r.cells x false
               → IsExprMade after.cells after.exprs x new newer o → (rails : Rails) × (o ≡ Some rails)
           by_expr e (exprs.Number n) o same at sort h = absurd (cc sort)
           by_expr e (exprs.Truth b) o same at sort h = (h.0, h.1)
           by_expr e (exprs.Cell c) o same at sort h =
-              let n = cell_named c sort.0 sort.1 (sym sort.2) (subst (λ k. TaskReads r k (Cell c)) (sym same) (exprs.Cell c, at, refl)) in
+              let n = cell_named c sort.0 sort.1 (sym sort.2)
+              (subst (λ k. TaskReads r k (Cell c)) (sym same) (exprs.Cell c, at, refl)) in
               (n.0, same_Some o (Some n.0) (sym h.0 ∙ n.1))
           by_expr e (exprs.Apply op index args) None same at sort h = absurd (cc (sort, h.0))
           by_expr e (exprs.Apply op index args) (Some rails) same at sort h = (rails, refl)
@@ -181,7 +189,8 @@ module _ (r : Rtl) (sound : IsSound r) (tasks : List Task) (schedule : IsSchedul
           by_task : (k : Task) → task ≡ k → IsBitTask r k → IsTaskMade r after k new newer made.entry
               → (rails : Rails) × (made.entry ≡ Some rails)
           by_task (Expr e) same b h =
-              by_expr e h.0 made.entry same h.1 (subst (λ x. IsSort r.cells x false) (one_entry r.exprs e b.0 h.0 b.1 h.1) b.2) h.2
+              by_expr e h.0 made.entry same h.1 (subst (λ x. IsSort r.cells x false)
+              (one_entry r.exprs e b.0 h.0 b.1 h.1) b.2) h.2
           by_task (Cell c) same b h =
               by_word h.0.word ((made.entry ≡ None) × (newer ≡ new))
               (λ rails. IsDrivenMade after.exprs (transfers_to r.transfers c) new newer rails)
@@ -191,7 +200,8 @@ module _ (r : Rtl) (sound : IsSound r) (tasks : List Task) (schedule : IsSchedul
       made_bit : (rails : Rails) → made.entry ≡ Some rails → IsBitTask r task
       made_bit rails some = by_task task refl made.is_made
         where
-          by_expr : (e : ℕ) (x : RtlExpr) → IsAt r.exprs e x → IsExprMade after.cells after.exprs x new newer (Some rails)
+          by_expr : (e : ℕ) (x : RtlExpr) → IsAt r.exprs e x
+              → IsExprMade after.cells after.exprs x new newer (Some rails)
               → IsSort r.cells x false
           by_expr e (exprs.Number n) at h = absurd (none-some rails (sym h.0))
           by_expr e (exprs.Truth b) at h = refl
@@ -199,7 +209,8 @@ module _ (r : Rtl) (sound : IsSound r) (tasks : List Task) (schedule : IsSchedul
           by_expr e (exprs.Apply op index args) at h = sym h.0
 
           by_word : (b : Bool) (f : Rails → Type 0)
-              → MatchBool b ((made.entry ≡ None) × (newer ≡ new)) ((rails : Rails) × (made.entry ≡ Some rails) × f rails)
+              → MatchBool b ((made.entry ≡ None) × (newer ≡ new))
+              ((rails : Rails) × (made.entry ≡ Some rails) × f rails)
               → b ≡ false
           by_word true f h = absurd (none-some rails (sym h.0 ∙ some))
           by_word false f h = refl
@@ -207,8 +218,12 @@ module _ (r : Rtl) (sound : IsSound r) (tasks : List Task) (schedule : IsSchedul
           by_task : (k : Task) → task ≡ k → IsTaskMade r after k new newer made.entry → IsBitTask r k
           by_task (Expr e) same h =
               (h.0, h.1, by_expr e h.0 h.1 (subst (IsExprMade after.cells after.exprs h.0 new newer) some h.2))
-          by_task (Cell c) same h =
-              (h.0, h.1, by_word h.0.word (λ rails. IsDrivenMade after.exprs (transfers_to r.transfers c) new newer rails) h.2)
+          by_task (Cell c) same h = (
+            h.0,
+            h.1,
+            by_word h.0.word (λ rails. IsDrivenMade after.exprs
+                (transfers_to r.transfers c) new newer rails) h.2,
+          )
 
       pub progress_more : IsProgress r tasks (t + 1) old newer before later
       progress_more = subst (IsProgress r tasks (t + 1) old newer before) (sym made.is_after) (record {
@@ -224,7 +239,8 @@ module _ (r : Rtl) (sound : IsSound r) (tasks : List Task) (schedule : IsSchedul
         spent = record {
           cost = progress.spent.cost + step.spent.cost;
           entries = progress.spent.entries + step.spent.entries;
-          within = within_on progress.spent.cost progress.spent.entries step.spent.cost step.spent.entries old new newer
+          within = within_on progress.spent.cost progress.spent.entries step.spent.cost step.spent.entries old new
+              newer
               progress.spent.within step.spent.within;
           cost_is = let a = progress.spent.cost_is in let b = step.spent.cost_is in omega (arith, a, b);
           entries_is = let a = progress.spent.entries_is in let b = step.spent.entries_is in omega (arith, a, b);
@@ -246,7 +262,8 @@ module _ (r : Rtl) (sound : IsSound r) (tasks : List Task) (schedule : IsSchedul
           by_bits y rails (inl h) = subst (IsBitTask r) (sym h.0) (made_bit rails h.1)
           by_bits y rails (inr h) = progress.bits_only y rails h
 
-          by_done : (s : ℕ) (y : Task) → slice_get tasks s ≡ Some y → IsBitTask r y → (s ≡ t) ⊎ (s ≡ t → ⊥) → s < t + 1
+          by_done : (s : ℕ) (y : Task) → slice_get tasks s ≡ Some y → IsBitTask r y → (s ≡ t) ⊎ (s ≡ t → ⊥)
+              → s < t + 1
               → (rails : Rails) × NamedTask next y rails
           by_done s y at bit (inl e) l =
               let same : task ≡ y = same_Some task y (sym is ∙ (ap (slice_get tasks) (sym e) ∙ at)) in

@@ -1,5 +1,5 @@
 -- Tasks in the order of their moments.
-use Rattle.std.proofs.Common.{◌≡◌, ℕ, zero, suc, ◌+◌, ◌-◌, ◌*◌, ◌<◌, ◌≤◌, ◌⊎◌, inl, inr, List, [], ◌∷◌, ◌++◌, Option, Some, None, Bool, true, false, length, map, take, get_or, refl, sym, ◌∙◌, ap, subst, arith, eqb}
+use Rattle.std.proofs.Common.{◌≡◌, ℕ, zero, suc, ◌+◌, ◌-◌, ◌*◌, ◌<◌, ◌≤◌, ◌⊎◌, inl, inr, List, [], ◌∷◌, Option, Some, None, Bool, false, length, map, get_or, refl, sym, ◌∙◌, ap, subst, arith, eqb}
 use Rattle.std.specs.Prelude.{All, Contains, slice_get, slice_index}
 use Rattle.std.specs.List.{IsDistinct, AllByRecursion}
 use Rattle.std.specs.List.Sorted.{IsNonDecreasingBy, IsPermutation}
@@ -9,22 +9,19 @@ use Rattle.std.proofs.lemmas.List.Sorted.{All-permutation, Contains-permutation}
 use Rattle.std.proofs.lemmas.Map.Keys.{IsDistinct-IsPermutation}
 use Rattle.std.proofs.lemmas.Option.{get_or_from_slice_get, none-some, same_Some, slice_get-get_or, slice_get-map, slice_get_within}
 use Rattle.std.proofs.Math.Nat.{mul-le-mul_right}
-use Rattle.rtl_form.specs.declared.rtl.Cell as cells
 use Rattle.rtl_form.specs.declared.rtl.Transfer.{Transfer}
 use Rattle.rtl_form.specs.declared.rtl.RtlExpr.{RtlExpr}
 use Rattle.rtl_form.specs.declared.rtl.RtlExpr.TheVariants as exprs
 use Rattle.rtl_form.specs.declared.rtl.Rtl.{Rtl}
 use Rattle.rtl_form.specs.Entries.{IsAt}
-use Rattle.rtl_form.specs.Environment.{is_driven}
 use Rattle.rtl_form.specs.Sound.{IsSound, ReadsCell}
-use Rattle.rtl_form.proofs.Members.{one_entry}
 use Rattle.control_nor.specs.declared.names.Task.{Task}
 use Rattle.control_nor.specs.declared.names.Task.TheVariants.{Expr, Cell}
 use Rattle.control_nor.specs.declared.schedule.Entry.{Entry}
 use Rattle.control_nor.specs.Schedule.{ExprReads, IsSchedule, IsTask, TaskReads}
-use Rattle.control_nor.specs.Turns.{AreCellTurns, AreEntries, AreExprTurns, IsExprTurn, cell_moment, expr_moment}
+use Rattle.control_nor.specs.Turns.{AreCellTurns, AreEntries, AreExprTurns, cell_moment, expr_moment}
 use Rattle.control_nor.proofs.Left.{nat_cases}
-use Rattle.control_nor.proofs.Turns.{tight, turn_small}
+use Rattle.control_nor.proofs.Turns.{tight}
 
 -- ---- numbers of two digits
 
@@ -63,7 +60,8 @@ distinct_from (x ∷ xs) h = (
   distinct_from xs (λ i j x y l. h (suc i) (suc j) x y (omega arith)),
 )
 
-distinct_at : (xs : List Entry) → IsDistinct same_moment xs → (i j : ℕ) (x y : Entry) → i < j → slice_get xs i ≡ Some x
+distinct_at : (xs : List Entry) → IsDistinct same_moment xs → (i j : ℕ) (x y : Entry) → i < j
+    → slice_get xs i ≡ Some x
     → slice_get xs j ≡ Some y → x.moment ≡ y.moment → ⊥
 unfolding IsDistinct
 distinct_at [] h i j x y l p q e = none-some x p
@@ -90,7 +88,8 @@ module _ (r : Rtl) (sound : IsSound r) (cells turns : List ℕ) (cell_turns : Ar
   cell_entry p = record { moment = cell_moment r p; task = Cell (slice_index r.order p) }
 
   abbrev IsOwn : Entry → Type 0
-  IsOwn y = ((e : ℕ) × (e < length r.exprs) × (y ≡ expr_entry e)) ⊎ ((p : ℕ) × (p < length r.order) × (y ≡ cell_entry p))
+  IsOwn y = ((e : ℕ) × (e < length r.exprs) × (y ≡ expr_entry e)) ⊎
+      ((p : ℕ) × (p < length r.order) × (y ≡ cell_entry p))
 
   entry_at : (k : ℕ) (y : Entry) → slice_get es k ≡ Some y
       → ((k < length r.exprs) × (y ≡ expr_entry k))
@@ -119,26 +118,31 @@ module _ (r : Rtl) (sound : IsSound r) (cells turns : List ℕ) (cell_turns : Ar
   own t y e = subst IsOwn (get_or_from_slice_get ys t y y e)
       (All-permutation IsOwn es ys permuted own_es t y (slice_get_within ys t y e))
 
-  differ : (i j : ℕ) (x y : Entry) → i < j → slice_get es i ≡ Some x → slice_get es j ≡ Some y → x.moment ≡ y.moment → ⊥
+  differ : (i j : ℕ) (x y : Entry) → i < j → slice_get es i ≡ Some x → slice_get es j ≡ Some y → x.moment ≡ y.moment
+      → ⊥
   differ i j x y l p q e = elim (entry_at i x p) [
     | inl a ↦ elim (entry_at j y q) [
-      | inl b ↦ digits_differ (slice_index turns i) (slice_index turns j) i j (suc (length r.exprs)) (let m = a.0 in omega (arith, m))
+      | inl b ↦ digits_differ (slice_index turns i) (slice_index turns j) i j (suc (length r.exprs))
+          (let m = a.0 in omega (arith, m))
           (let m = b.0 in omega (arith, m)) (λ s t. absurd (omega (arith, t, l)))
           (sym (ap (λ (z : Entry). z.moment) a.1) ∙ (e ∙ ap (λ (z : Entry). z.moment) b.1))
-      | inr b ↦ digits_differ (slice_index turns i) b.0 i (length r.exprs) (suc (length r.exprs)) (let m = a.0 in omega (arith, m))
+      | inr b ↦ digits_differ (slice_index turns i) b.0 i (length r.exprs) (suc (length r.exprs))
+          (let m = a.0 in omega (arith, m))
           (omega arith) (λ s t. let m = a.0 in absurd (omega (arith, t, m)))
           (sym (ap (λ (z : Entry). z.moment) a.1) ∙ (e ∙ ap (λ (z : Entry). z.moment) b.3))
     ]
     | inr a ↦ elim (entry_at j y q) [
       | inl b ↦ let m = b.0 in let n = a.2 in absurd (omega (arith, m, n, l))
-      | inr b ↦ digits_differ a.0 b.0 (length r.exprs) (length r.exprs) (suc (length r.exprs)) (omega arith) (omega arith)
+      | inr b ↦ digits_differ a.0 b.0 (length r.exprs) (length r.exprs) (suc (length r.exprs)) (omega arith)
+          (omega arith)
           (λ s t. let m = a.2 in let n = b.2 in absurd (omega (arith, m, n, l, s)))
           (sym (ap (λ (z : Entry). z.moment) a.3) ∙ (e ∙ ap (λ (z : Entry). z.moment) b.3))
     ]
   ]
 
   apart : IsDistinct same_moment ys
-  apart = IsDistinct-IsPermutation same_moment (λ x y. flip x.moment y.moment) es ys permuted (distinct_from es differ)
+  apart = IsDistinct-IsPermutation same_moment (λ x y. flip x.moment y.moment) es ys permuted
+      (distinct_from es differ)
     where
       flip : (m n : ℕ) → eqb m n ≡ eqb n m
       flip m n = elim (nat_cases m n) [
@@ -148,14 +152,16 @@ module _ (r : Rtl) (sound : IsSound r) (cells turns : List ℕ) (cell_turns : Ar
 
   find : (k : ℕ) (y : Entry) → slice_get es k ≡ Some y → (j : ℕ) × (slice_get ys j ≡ Some y)
   find k y e =
-      let c = Contains-permutation es ys y permuted (k, slice_get_within es k y e, get_or_from_slice_get es k y y e) in
+      let c = Contains-permutation es ys y permuted (k, slice_get_within es k y e, get_or_from_slice_get es k y y e)
+      in
       (c.0, slice_get-get_or ys c.0 y c.1 ∙ ap Some c.2)
 
   abbrev tasks : List Task
   tasks = map (λ (e : Entry). e.task) ys
 
   task_at : (t : ℕ) (y : Entry) → slice_get ys t ≡ Some y → slice_get tasks t ≡ Some y.task
-  task_at t y e = slice_get-map (λ (e : Entry). e.task) ys t ∙ ap (Rattle.std.specs.Option.option_map (λ (e : Entry). e.task)) e
+  task_at t y e = slice_get-map (λ (e : Entry). e.task) ys t
+      ∙ ap (Rattle.std.specs.Option.option_map (λ (e : Entry). e.task)) e
 
   entry_of : (t : ℕ) (x : Task) → slice_get tasks t ≡ Some x → (y : Entry) × (slice_get ys t ≡ Some y) × (y.task ≡ x)
   entry_of t x e = by_option (slice_get ys t) refl
@@ -166,7 +172,8 @@ module _ (r : Rtl) (sound : IsSound r) (cells turns : List ℕ) (cell_turns : Ar
       by_option (Some y) q = (y, q, same_Some y.task x (sym (task_at t y q) ∙ e))
 
   -- a place has one cell, and a cell one place
-  one_place : (p q : ℕ) → p < length r.order → q < length r.order → slice_index r.order p ≡ slice_index r.order q → p ≡ q
+  one_place : (p q : ℕ) → p < length r.order → q < length r.order → slice_index r.order p ≡ slice_index r.order q
+      → p ≡ q
   one_place p q l m e = elim (nat_cases p q) [
     | inl same ↦ same
     | inr ne ↦ elim (cases_lt p q) [
@@ -186,7 +193,8 @@ module _ (r : Rtl) (sound : IsSound r) (cells turns : List ℕ) (cell_turns : Ar
   same_task : (y z : Entry) → IsOwn y → IsOwn z → y.task ≡ z.task → y.moment ≡ z.moment
   same_task y z a b e = elim a [
     | inl p ↦ elim b [
-      | inl q ↦ let same : p.0 ≡ q.0 = cc (sym (ap (λ (z : Entry). z.task) p.2) ∙ (e ∙ ap (λ (z : Entry). z.task) q.2)) in
+      | inl q ↦ let same : p.0 ≡ q.0 =
+          cc (sym (ap (λ (z : Entry). z.task) p.2) ∙ (e ∙ ap (λ (z : Entry). z.task) q.2)) in
           ap (λ (z : Entry). z.moment) p.2 ∙ (ap (expr_moment r turns) same ∙ sym (ap (λ (z : Entry). z.moment) q.2))
       | inr q ↦ absurd (cc (sym (ap (λ (z : Entry). z.task) p.2) ∙ (e ∙ ap (λ (z : Entry). z.task) q.2)))
     ]
@@ -194,12 +202,14 @@ module _ (r : Rtl) (sound : IsSound r) (cells turns : List ℕ) (cell_turns : Ar
       | inl q ↦ absurd (cc (sym (ap (λ (z : Entry). z.task) p.2) ∙ (e ∙ ap (λ (z : Entry). z.task) q.2)))
       | inr q ↦ let same : slice_index r.order p.0 ≡ slice_index r.order q.0 =
           cc (sym (ap (λ (z : Entry). z.task) p.2) ∙ (e ∙ ap (λ (z : Entry). z.task) q.2)) in
-          ap (λ (z : Entry). z.moment) p.2 ∙ (ap (cell_moment r) (one_place p.0 q.0 p.1 q.1 same) ∙ sym (ap (λ (z : Entry). z.moment) q.2))
+          ap (λ (z : Entry). z.moment) p.2 ∙ (ap (cell_moment r) (one_place p.0 q.0 p.1 q.1 same)
+          ∙ sym (ap (λ (z : Entry). z.moment) q.2))
     ]
   ]
 
   -- what a task reads comes at an earlier moment
-  expr_before : (e : ℕ) (x : RtlExpr) (y : Task) → IsAt r.exprs e x → ExprReads x y → (z : Entry) → IsOwn z → z.task ≡ y
+  expr_before : (e : ℕ) (x : RtlExpr) (y : Task) → IsAt r.exprs e x → ExprReads x y → (z : Entry) → IsOwn z
+      → z.task ≡ y
       → z.moment < expr_moment r turns e
   expr_before e (exprs.Number n) y at h z own is = absurd h
   expr_before e (exprs.Truth b) y at h z own is = absurd h
@@ -208,9 +218,11 @@ module _ (r : Rtl) (sound : IsSound r) (cells turns : List ℕ) (cell_turns : Ar
     | inl q ↦ absurd (cc (sym (ap (λ (z : Entry). z.task) q.2) ∙ is))
     | inr q ↦
         let place : slice_index r.order q.0 ≡ d = cc (sym (ap (λ (z : Entry). z.task) q.2) ∙ is) in
-        let turn = expr_turns.each e (exprs.Cell c) at.0 at ∙ (ap (slice_index cells) (h ∙ sym place) ∙ cell_turns.placed q.0 q.1) in
+        let turn = expr_turns.each e (exprs.Cell c) at.0 at
+        ∙ (ap (slice_index cells) (h ∙ sym place) ∙ cell_turns.placed q.0 q.1) in
         let m = ap (λ (z : Entry). z.moment) q.2 in
-        let n = next_turn q.0 (slice_index turns e) (length r.exprs) e (suc (length r.exprs)) (omega (arith, turn)) (omega arith) in
+        let n = next_turn q.0 (slice_index turns e) (length r.exprs) e (suc (length r.exprs)) (omega (arith, turn))
+        (omega arith) in
         omega (arith, m, n)
   ]
   expr_before e (exprs.Apply op k args) (Cell d) at h z own is = absurd h
@@ -226,13 +238,15 @@ module _ (r : Rtl) (sound : IsSound r) (cells turns : List ℕ) (cell_turns : Ar
   ]
 
   -- guards and values of the transfers to a cell have turns up to its place
-  turn_of : (p : ℕ) (t : Transfer) (e : ℕ) → p < length r.order → Contains r.transfers t → t.target ≡ slice_index r.order p
+  turn_of : (p : ℕ) (t : Transfer) (e : ℕ) → p < length r.order → Contains r.transfers t
+      → t.target ≡ slice_index r.order p
       → (t.guard ≡ e) ⊎ (t.value ≡ e) → e < length r.exprs → slice_index turns e ≤ p
   turn_of p t e l inside to which small = elim (tight r sound cells turns cell_turns expr_turns e small) [
     | inl z ↦ omega (arith, z)
     | inr q ↦
         let cell = sound.order.driven q.0 q.1 in
-        let reads : ReadsCell r.exprs (slice_index r.order q.0) t.guard ⊎ ReadsCell r.exprs (slice_index r.order q.0) t.value =
+        let reads : ReadsCell r.exprs (slice_index r.order q.0) t.guard ⊎ ReadsCell r.exprs
+        (slice_index r.order q.0) t.value =
         elim which [
           | inl g ↦ inl (subst (ReadsCell r.exprs (slice_index r.order q.0)) (sym g) q.3)
           | inr g ↦ inr (subst (ReadsCell r.exprs (slice_index r.order q.0)) (sym g) q.3)
@@ -243,7 +257,8 @@ module _ (r : Rtl) (sound : IsSound r) (cells turns : List ℕ) (cell_turns : Ar
         let turn = q.2 in omega (arith, b, same, turn)
   ]
 
-  before : (x y : Task) → TaskReads r x y → (w z : Entry) → IsOwn w → w.task ≡ x → IsOwn z → z.task ≡ y → z.moment < w.moment
+  before : (x y : Task) → TaskReads r x y → (w z : Entry) → IsOwn w → w.task ≡ x → IsOwn z → z.task ≡ y
+      → z.moment < w.moment
   before (Expr e) y h w z own_w is_w own_z is_z = elim own_w [
     | inl q ↦
         let same : q.0 ≡ e = cc (sym (ap (λ (z : Entry). z.task) q.2) ∙ is_w) in
@@ -290,7 +305,8 @@ module _ (r : Rtl) (sound : IsSound r) (cells turns : List ℕ) (cell_turns : Ar
         (g.0, earlier t g.0 f.0 g.1 f.1 g.2 m, task_at g.0 g.1 g.2 ∙ ap Some g.3);
   }
     where
-      earlier : (t k : ℕ) (w z : Entry) → slice_get ys t ≡ Some w → slice_get ys k ≡ Some z → z.moment < w.moment → k < t
+      earlier : (t k : ℕ) (w z : Entry) → slice_get ys t ≡ Some w → slice_get ys k ≡ Some z → z.moment < w.moment
+          → k < t
       earlier t k w z p q l = elim (cases_lt k t) [
         | inl m ↦ m
         | inr m ↦

@@ -1,14 +1,12 @@
 -- The next values of all stored bits, cell by cell.
-use Rattle.std.proofs.Common.{◌≡◌, ℕ, zero, suc, ◌+◌, ◌-◌, ◌*◌, ◌<◌, ◌≤◌, ◌⊎◌, inl, inr, List, [], ◌∷◌, ◌++◌, Option, Some, None, Bool, true, false, length, map, take, drop, get_or, refl, sym, ◌∙◌, ap, subst, arith, cond, eqb, length-append, append_assoc}
-use Rattle.std.specs.Prelude.{All, MatchBool, not, ◌&&◌, nat_le, if◌then◌else◌, slice_get, slice_set}
-use Rattle.std.specs.List.{sum_by, filter}
+use Rattle.std.proofs.Common.{◌≡◌, ℕ, zero, suc, ◌+◌, ◌-◌, ◌*◌, ◌<◌, ◌≤◌, ◌⊎◌, inl, inr, List, [], ◌∷◌, ◌++◌, Option, Some, None, Bool, true, false, length, drop, refl, sym, ◌∙◌, ap, subst, arith, eqb, append_assoc}
+use Rattle.std.specs.Prelude.{All, MatchBool, nat_le, if◌then◌else◌, slice_get, slice_set}
+use Rattle.std.specs.List.{sum_by}
 use Rattle.std.proofs.lemmas.Bool.{cases_lt, eq-eqb, ne_eqb}
-use Rattle.std.proofs.lemmas.List.{length-set}
 use Rattle.std.proofs.lemmas.List.Sums.{sum_by-cons, sum_by-set}
 use Rattle.std.proofs.lemmas.Option.{none-some, same_Some, slice_get_within, get_or_from_slice_get}
 use Rattle.nor_net.specs.Shape.{Fed, fan_in, gate_inputs}
 use Rattle.nor_net.specs.declared.net.NetId.{NetId}
-use Rattle.nor_net.specs.declared.net.Phase.{Phase}
 use Rattle.nor_net.specs.declared.net.Phase.TheVariants.{A, B}
 use Rattle.nor_net.specs.declared.net.Part.{Part}
 use Rattle.nor_net.specs.declared.net.Part.TheVariants.{Input, Gate, Latch}
@@ -16,19 +14,17 @@ use Rattle.rtl_form.specs.declared.rtl.Cell as cells
 use Rattle.rtl_form.specs.declared.rtl.Transfer.{Transfer}
 use Rattle.rtl_form.specs.declared.rtl.Rtl.{Rtl}
 use Rattle.rtl_form.specs.Entries.{IsAt}
-use Rattle.rtl_form.proofs.Members.{by_test, one_entry}
+use Rattle.rtl_form.proofs.Members.{one_entry}
 use Rattle.control_nor.specs.declared.rails.Rails.{Rails}
 use Rattle.control_nor.specs.declared.rails.Bits.{Bits}
 use Rattle.control_nor.specs.Adding.{HasRoom, IsCounted}
 use Rattle.control_nor.specs.Cells.{IsNextMade, transfers_to}
-use Rattle.control_nor.specs.Lowering.{ObeysBehind}
-use Rattle.control_nor.specs.NextValues.{AreStored, AreWaiting, IsNextCellMade, IsStoring, SlavesBehind, is_stored_bit, next_cost, next_left, stored_count, stored_from}
+use Rattle.control_nor.specs.NextValues.{AreStored, AreWaiting, IsNextCellMade, IsStoring, is_stored_bit, next_cost, next_left, stored_count, stored_from}
 use Rattle.control_nor.specs.Rails.{Named}
 use Rattle.control_nor.specs.Size.{IsWithinCost, active_count}
-use Rattle.control_nor.proofs.Adding.{counted_list, counted_on, gates_keep, get_at, get_kept}
+use Rattle.control_nor.proofs.Adding.{counted_list, counted_on, get_kept}
 use Rattle.control_nor.proofs.FirstSteps.{in_more, get_front}
 use Rattle.control_nor.proofs.Left.{nat_cases, one_if, sum_split}
-use Rattle.control_nor.proofs.Made.{gates_enter_nothing}
 use Rattle.control_nor.proofs.Next.{source_counted, source_gates}
 use Rattle.control_nor.proofs.Progress.{at_get}
 use Rattle.control_nor.proofs.StoredBits.{elsewhere, grown_length, never_fed, new_length, obeys_kept, slave_below, slave_fed, stays, storing}
@@ -41,7 +37,8 @@ sum_drop f [] i x e = absurd (none-some x e)
 sum_drop f (y ∷ xs) zero x e =
     let c = sum_by-cons f y xs in let h = ap f (same_Some y x e) in omega (arith, c, h)
 sum_drop f (y ∷ xs) (suc i) x e =
-    subst (λ n. sum_by f (drop i xs) ≡ f x + sum_by f (drop n (y ∷ xs))) (let s : suc (i + 1) ≡ suc i + 1 = omega arith in s)
+    subst (λ n. sum_by f (drop i xs) ≡ f x + sum_by f (drop n (y ∷ xs)))
+    (let s : suc (i + 1) ≡ suc i + 1 = omega arith in s)
     (sum_drop f xs i x e)
 
 le_test : (m n : ℕ) → m ≤ n → nat_le m n ≡ true
@@ -61,7 +58,8 @@ later_test i t ne = elim (cases_lt t i) [
     by_cases i t l ne = elim (cases_lt i t) [ inl m ↦ m | inr m ↦ absurd (ne (omega arith)) ]
 
 module _ (xs : List cells.Cell) (i : ℕ) (x : cells.Cell) (is : slice_get xs i ≡ Some x) where
-  at_start : (t : Transfer) → t.target ≡ i → (stored_from xs i t ≡ stored_count (Some x)) × (stored_from xs (i + 1) t ≡ 0)
+  at_start : (t : Transfer) → t.target ≡ i → (stored_from xs i t ≡ stored_count (Some x))
+      × (stored_from xs (i + 1) t ≡ 0)
   at_start t e = (
     ap (λ b. if b then stored_count (slice_get xs t.target) else 0) (le_test i t.target (omega (arith, e)))
         ∙ (ap (λ n. stored_count (slice_get xs n)) e ∙ ap stored_count is),
@@ -71,7 +69,8 @@ module _ (xs : List cells.Cell) (i : ℕ) (x : cells.Cell) (is : slice_get xs i 
   not_start : (t : Transfer) → (t.target ≡ i → ⊥) → stored_from xs i t ≡ stored_from xs (i + 1) t
   not_start t ne = ap (λ b. if b then stored_count (slice_get xs t.target) else 0) (later_test i t.target ne)
 
-  stored_split : is_stored_bit x ≡ true → (t : Transfer) → stored_from xs i t ≡ stored_from xs (i + 1) t + one_if (eqb t.target i)
+  stored_split : is_stored_bit x ≡ true → (t : Transfer) → stored_from xs i t
+      ≡ stored_from xs (i + 1) t + one_if (eqb t.target i)
   stored_split on t = elim (nat_cases t.target i) [
     | inl e ↦ let a = at_start t e in let p = a.0 in let q = a.1 in
         let c : stored_count (Some x) ≡ 1 = ap (λ b. if b then 1 else 0) on in
@@ -80,7 +79,8 @@ module _ (xs : List cells.Cell) (i : ℕ) (x : cells.Cell) (is : slice_get xs i 
         let d : one_if (eqb t.target i) ≡ 0 = ap one_if (ne_eqb t.target i ne) in omega (arith, a, d)
   ]
 
-  other_same : is_stored_bit x ≡ false → (ts : List Transfer) → sum_by (stored_from xs i) ts ≡ sum_by (stored_from xs (i + 1)) ts
+  other_same : is_stored_bit x ≡ false → (ts : List Transfer)
+      → sum_by (stored_from xs i) ts ≡ sum_by (stored_from xs (i + 1)) ts
   other_same off [] = refl
   other_same off (t ∷ ts) =
       let h : stored_from xs i t ≡ stored_from xs (i + 1) t = by_target (nat_cases t.target i) in
@@ -126,7 +126,8 @@ none_stored r bits reset old w = record {
 
 -- ---- one more cell
 
-module _ (r : Rtl) (bits : Bits) (reset : NetId) (old new newer : List Part) (w : AreWaiting r old bits) (i : ℕ) (x : cells.Cell)
+module _ (r : Rtl) (bits : Bits) (reset : NetId) (old new newer : List Part) (w : AreWaiting r old bits) (i : ℕ)
+    (x : cells.Cell)
     (at : IsAt r.cells i x) (done : AreStored r bits i reset old new) where
   -- where the cell is no stored bit
   other_more : is_stored_bit x ≡ false → newer ≡ new → AreStored r bits (i + 1) reset old newer
@@ -134,7 +135,12 @@ module _ (r : Rtl) (bits : Bits) (reset : NetId) (old new newer : List Part) (w 
     longer = done.longer;
     keeps = done.keeps;
     behind = done.behind;
-    within = (done.within.0, done.within.1, let a = left_other r i x at off in let b = done.within.2 in omega (arith, a, b));
+    within = (
+      done.within.0,
+      done.within.1,
+      let a = left_other r i x at off in let b = done.within.2 in
+          omega (arith, a, b),
+    );
     waiting = λ c y rails l h on n. done.waiting c y rails (omega arith) h on n;
     stored = λ c y rails l h on n. done.stored c y rails (below c y h on l) h on n;
     inputs = done.inputs;
@@ -145,7 +151,11 @@ module _ (r : Rtl) (bits : Bits) (reset : NetId) (old new newer : List Part) (w 
     where
       below : (c : ℕ) (y : cells.Cell) → IsAt r.cells c y → is_stored_bit y ≡ true → c < i + 1 → c < i
       below c y h on l = elim (nat_cases c i) [
-        | inl e ↦ absurd (cc (ap is_stored_bit (one_entry r.cells i x y at (subst (λ n. IsAt r.cells n y) e h)), on, off))
+        | inl e ↦ absurd (cc (
+          ap is_stored_bit (one_entry r.cells i x y at (subst (λ n. IsAt r.cells n y) e h)),
+          on,
+          off,
+        ))
         | inr ne ↦ omega arith
       ]
 
@@ -158,7 +168,8 @@ set_behind (x ∷ xs) ys (suc n) y l =
     ∙ ap (λ m. xs ++ slice_set ys m y) (let e : n - length xs ≡ suc n - suc (length xs) = omega arith in e))
 
 -- what was added for the next value of a stored bit
-module _ (r : Rtl) (exprs : List (Option Rails)) (ts : List Transfer) (rails : Rails) (reset : NetId) (old new : List Part)
+module _ (r : Rtl) (exprs : List (Option Rails)) (ts : List Transfer) (rails : Rails) (reset : NetId)
+    (old new : List Part)
     (h : IsNextMade exprs ts rails.negation reset old new)
     (waits : slice_get old rails.negation.0 ≡ Some (Latch B None)) where
   abbrev tail : List Part
@@ -176,7 +187,8 @@ module _ (r : Rtl) (exprs : List (Option Rails)) (ts : List Transfer) (rails : R
   -- what a net is afterwards: what it was, or a gate, the master, or the slave
   was_or_is : (n : ℕ) (p : Part) → slice_get new n ≡ Some p
       → ((slice_get old n ≡ Some p) × (n ≡ rails.negation.0 → ⊥))
-      ⊎ (((inputs : List NetId) × (p ≡ Gate inputs)) ⊎ ((p ≡ Latch A (Some h.source)) ⊎ (p ≡ Latch B (Some h.negation))))
+      ⊎ (((inputs : List NetId) × (p ≡ Gate inputs)) ⊎ ((p ≡ Latch A (Some h.source)) ⊎
+      (p ≡ Latch B (Some h.negation))))
   was_or_is n p e = elim (nat_cases n rails.negation.0) [
     | inl same ↦ inr (inr (inr (same_Some p (Latch B (Some h.negation)) (sym e ∙ (ap (slice_get new) same
         ∙ slave_fed r exprs ts rails reset old new h waits)))))
@@ -189,20 +201,23 @@ module _ (r : Rtl) (exprs : List (Option Rails)) (ts : List Transfer) (rails : R
       of_gates (x ∷ ps) (suc i) g q = of_gates ps i (λ k d l. g (suc k) d (omega arith)) q
       of_gates (x ∷ ps) zero g q = by_part x (g 0 x (omega arith)) q
         where
-          by_part : (x : Part) → Rattle.control_nor.specs.Adding.IsGate x → slice_get (x ∷ ps) zero ≡ Some p → (inputs : List NetId) × (p ≡ Gate inputs)
+          by_part : (x : Part) → Rattle.control_nor.specs.Adding.IsGate x → slice_get (x ∷ ps) zero ≡ Some p
+              → (inputs : List NetId) × (p ≡ Gate inputs)
           by_part Input k q = absurd k
           by_part (Gate inputs) k q = (inputs, sym (same_Some (Gate inputs) p q))
           by_part (Latch phase source) k q = absurd k
 
       of_tail : (i : ℕ) → slice_get tail i ≡ Some p
-          → ((inputs : List NetId) × (p ≡ Gate inputs)) ⊎ ((p ≡ Latch A (Some h.source)) ⊎ (p ≡ Latch B (Some h.negation)))
+          → ((inputs : List NetId) × (p ≡ Gate inputs)) ⊎ ((p ≡ Latch A (Some h.source)) ⊎
+          (p ≡ Latch B (Some h.negation)))
       of_tail zero q = inr (inl (sym (same_Some (Latch A (Some h.source)) p q)))
       of_tail (suc zero) q = inl (h.master ∷ [], sym (same_Some (Gate (h.master ∷ [])) p q))
       of_tail (suc (suc i)) q = absurd (none-some p q)
 
       by_place : (n ≡ rails.negation.0 → ⊥) → (n < length old) ⊎ (length old ≤ n) → slice_get h.grown n ≡ Some p
           → ((slice_get old n ≡ Some p) × (n ≡ rails.negation.0 → ⊥))
-          ⊎ (((inputs : List NetId) × (p ≡ Gate inputs)) ⊎ ((p ≡ Latch A (Some h.source)) ⊎ (p ≡ Latch B (Some h.negation))))
+          ⊎ (((inputs : List NetId) × (p ≡ Gate inputs)) ⊎
+          ((p ≡ Latch A (Some h.source)) ⊎ (p ≡ Latch B (Some h.negation))))
       by_place ne (inl l) q =
           inl (sym (get_front old (gates.0 ++ tail) n l) ∙ (ap (λ ps. slice_get ps n) (sym grown_is) ∙ q), ne)
       by_place ne (inr l) q =
@@ -235,9 +250,11 @@ module _ (r : Rtl) (exprs : List (Option Rails)) (ts : List Transfer) (rails : R
   next_within =
       let l = slice_get_within h.grown rails.negation.0 (Latch B None) slave_in in
       let fan = sum_by-set fan_in h.grown rails.negation.0 (Latch B (Some h.negation)) (Latch B None) l in
-      let fan_was = ap fan_in (get_or_from_slice_get h.grown rails.negation.0 (Latch B None) (Latch B None) slave_in) in
+      let fan_was = ap fan_in (get_or_from_slice_get h.grown rails.negation.0 (Latch B None) (Latch B None) slave_in)
+      in
       let act = sum_by-set active_count h.grown rails.negation.0 (Latch B (Some h.negation)) (Latch B None) l in
-      let act_was = ap active_count (get_or_from_slice_get h.grown rails.negation.0 (Latch B None) (Latch B None) slave_in) in
+      let act_was = ap active_count (get_or_from_slice_get h.grown rails.negation.0 (Latch B None)
+      (Latch B None) slave_in) in
       let n = new_length r exprs ts rails reset old new h waits in
       let i = ap gate_inputs h.is_fed in
       let a = ap (sum_by active_count) h.is_fed in
@@ -257,7 +274,8 @@ module _ (r : Rtl) (exprs : List (Option Rails)) (ts : List Transfer) (rails : R
   )
 
 -- a stored bit stays one
-storing_kept : (exprs : List (Option Rails)) (ts : List Transfer) (first later : ℕ) (net newer : List Part) (rails : Rails) (reset : NetId)
+storing_kept : (exprs : List (Option Rails)) (ts : List Transfer) (first later : ℕ) (net newer : List Part)
+    (rails : Rails) (reset : NetId)
     → ((n : ℕ) (p : Part) → slice_get net n ≡ Some p → Fed p → slice_get newer n ≡ Some p) → first ≤ later
     → IsStoring exprs ts later net rails reset → IsStoring exprs ts first newer rails reset
 storing_kept exprs ts first later net newer rails reset keeps l s = record {
@@ -267,11 +285,13 @@ storing_kept exprs ts first later net newer rails reset keeps l s = record {
   is_master = keeps s.master.0 (Latch A (Some s.source)) s.is_master refl;
   is_negation = keeps s.negation.0 (Gate (s.master ∷ [])) s.is_negation tt;
   is_slave = keeps rails.negation.0 (Latch B (Some s.negation)) s.is_slave refl;
-  means = λ v value stored clear obeys. s.means v value stored clear (obeys_kept net newer first later v keeps l obeys);
+  means = λ v value stored clear obeys. s.means v value stored clear
+      (obeys_kept net newer first later v keeps l obeys);
   clears = λ v obeys. s.clears v (obeys_kept net newer first later v keeps l obeys);
 }
 
-module _ (r : Rtl) (bits : Bits) (reset : NetId) (old new newer : List Part) (w : AreWaiting r old bits) (i : ℕ) (x : cells.Cell)
+module _ (r : Rtl) (bits : Bits) (reset : NetId) (old new newer : List Part) (w : AreWaiting r old bits) (i : ℕ)
+    (x : cells.Cell)
     (at : IsAt r.cells i x) (done : AreStored r bits i reset old new) (on : is_stored_bit x ≡ true) (rails : Rails)
     (named : Named bits.cells i rails)
     (h : IsNextMade bits.exprs (transfers_to r.transfers i) rails.negation reset new newer) where
@@ -285,14 +305,16 @@ module _ (r : Rtl) (bits : Bits) (reset : NetId) (old new newer : List Part) (w 
   still = stays r bits.exprs ts rails reset new newer h waits
 
   same_rails : (c : ℕ) (q : Rails) → Named bits.cells c q → c ≡ i → rails ≡ q
-  same_rails c q n e = same_Some rails q (same_Some (Some rails) (Some q) (sym named ∙ (ap (slice_get bits.cells) (sym e) ∙ n)))
+  same_rails c q n e = same_Some rails q (same_Some (Some rails) (Some q)
+      (sym named ∙ (ap (slice_get bits.cells) (sym e) ∙ n)))
 
   whole : IsStoring bits.exprs ts (length new) newer rails reset
   whole = storing r bits.exprs ts rails reset new newer h waits
 
   kinds_of : (n : ℕ) (p : Part) → slice_get newer n ≡ Some p
       → ((slice_get new n ≡ Some p) × (n ≡ rails.negation.0 → ⊥))
-      ⊎ (((inputs : List NetId) × (p ≡ Gate inputs)) ⊎ ((p ≡ Latch A (Some h.source)) ⊎ (p ≡ Latch B (Some h.negation))))
+      ⊎ (((inputs : List NetId) × (p ≡ Gate inputs)) ⊎ ((p ≡ Latch A (Some h.source)) ⊎
+      (p ≡ Latch B (Some h.negation))))
   kinds_of = was_or_is r bits.exprs ts rails reset new newer h waits
 
   source_gate : (inputs : List NetId) × (slice_get newer h.source.0 ≡ Some (Gate inputs))
@@ -307,8 +329,14 @@ module _ (r : Rtl) (bits : Bits) (reset : NetId) (old new newer : List Part) (w 
     longer = let a = done.longer in let b = new_length r bits.exprs ts rails reset new newer h waits in
         let c = (grown_counted r bits.exprs ts rails reset new newer h waits).net_count in omega (arith, a, b, c);
     keeps = λ n p e fed. still n p (done.keeps n p e fed) fed;
-    behind = λ before l q. next_behind r bits.exprs ts rails reset new newer h waits before (l i x rails at on named) (done.behind before l q);
-    within = (done.within.0 + (5 + length ts), spent, let a = left_stored r i x at on in let b = done.within.2 in omega (arith, a, b));
+    behind = λ before l q. next_behind r bits.exprs ts rails reset new newer h waits before (l i x rails at on named)
+        (done.behind before l q);
+    within = (
+      done.within.0 + (5 + length ts),
+      spent,
+      let a = left_stored r i x at on in let b = done.within.2 in
+          omega (arith, a, b),
+    );
     waiting = λ c y q l k on_y n.
         elsewhere r bits.exprs ts rails reset new newer h waits q.negation.0
         (λ e. let same = w.apart c i y x q rails k on_y n at on named e in absurd (omega (arith, same, l)))
@@ -317,8 +345,10 @@ module _ (r : Rtl) (bits : Bits) (reset : NetId) (old new newer : List Part) (w 
     stored = λ c y q l k on_y n. elim (nat_cases c i) [
       | inl e ↦ subst (λ m. IsStoring bits.exprs (transfers_to r.transfers m) (length old) newer q reset) (sym e)
           (subst (λ (p : Rails). IsStoring bits.exprs ts (length old) newer p reset) (same_rails c q n e)
-          (storing_kept bits.exprs ts (length old) (length new) newer newer rails reset (λ n p e fed. e) done.longer whole))
-      | inr ne ↦ storing_kept bits.exprs (transfers_to r.transfers c) (length old) (length old) new newer q reset still (omega arith)
+          (storing_kept bits.exprs ts (length old) (length new) newer newer rails reset
+          (λ n p e fed. e) done.longer whole))
+      | inr ne ↦ storing_kept bits.exprs (transfers_to r.transfers c) (length old)
+          (length old) new newer q reset still (omega arith)
           (done.stored c y q (omega arith) k on_y n)
     ];
     inputs = λ n e. elim (kinds_of n Input e) [
@@ -333,12 +363,16 @@ module _ (r : Rtl) (bits : Bits) (reset : NetId) (old new newer : List Part) (w 
       | inr a ↦ elim a [
         | inl g ↦ absurd (cc g.1)
         | inr b ↦ elim b [
-          | inl m ↦ inr (let same : h.source ≡ source = cc m in
-              (source_gate.0, subst (λ (s : NetId). slice_get newer s.0 ≡ Some (Gate source_gate.0)) same source_gate.1))
+          | inl m ↦ inr (let same : h.source ≡ source = cc m in (
+            source_gate.0,
+            subst (λ (s : NetId). slice_get newer s.0 ≡ Some (Gate source_gate.0)) same
+                source_gate.1,
+          ))
           | inr m ↦ inr (let same : h.negation ≡ source = cc m in (
             h.master ∷ [],
             subst (λ (s : NetId). slice_get newer s.0 ≡ Some (Gate (h.master ∷ []))) same
-                (Rattle.control_nor.proofs.StoredBits.added_at r bits.exprs ts rails reset new newer h waits h.negation.0 1
+                (Rattle.control_nor.proofs.StoredBits.added_at r bits.exprs ts rails reset new newer h waits
+                h.negation.0 1
                 (Gate (h.master ∷ [])) (let n = h.at_negation in omega (arith, n)) refl),
           ))
         ]
@@ -364,7 +398,8 @@ module _ (r : Rtl) (bits : Bits) (reset : NetId) (old new newer : List Part) (w 
       }
 
 -- one more cell, whatever it is
-pub stored_next : (r : Rtl) (bits : Bits) (reset : NetId) (old new newer : List Part) → AreWaiting r old bits → (i : ℕ)
+pub stored_next : (r : Rtl) (bits : Bits) (reset : NetId) (old new newer : List Part) → AreWaiting r old bits
+    → (i : ℕ)
     (x : cells.Cell) → IsAt r.cells i x → AreStored r bits i reset old new → IsNextCellMade r bits reset i x new newer
     → AreStored r bits (i + 1) reset old newer
 stored_next r bits reset old new newer w i x at done made = by_sort (is_stored_bit x) refl made
@@ -376,7 +411,8 @@ stored_next r bits reset old new newer w i x at done made = by_sort (is_stored_b
     by_sort true on m = stored_more r bits reset old new newer w i x at done on m.0 m.1 m.2
     by_sort false off m = other_more r bits reset old new newer w i x at done off m
 
-pub room_next : (r : Rtl) (bits : Bits) (reset : NetId) (old new : List Part) (i : ℕ) (x : cells.Cell) → IsAt r.cells i x
+pub room_next : (r : Rtl) (bits : Bits) (reset : NetId) (old new : List Part) (i : ℕ) (x : cells.Cell)
+    → IsAt r.cells i x
     → is_stored_bit x ≡ true → AreStored r bits i reset old new → HasRoom (next_left r 0) old
     → HasRoom (5 + length (transfers_to r.transfers i)) new
 room_next r bits reset old new i x at on done room =

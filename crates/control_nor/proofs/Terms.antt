@@ -1,7 +1,6 @@
 -- Terms of transfers.
-use Rattle.std.proofs.Common.{◌≡◌, ℕ, ◌+◌, ◌*◌, ◌<◌, ◌≤◌, List, [], ◌∷◌, ◌++◌, Option, Some, length, take, get_or, refl, sym, ◌∙◌, ap, subst, arith, length-take}
+use Rattle.std.proofs.Common.{◌≡◌, ℕ, ◌+◌, ◌*◌, ◌<◌, List, [], ◌∷◌, ◌++◌, Option, length, take, get_or, sym, ◌∙◌, ap, subst, arith, length-take}
 use Rattle.std.specs.Prelude.{All, slice_get}
-use Rattle.std.specs.List.{AllZip}
 use Rattle.nor_net.specs.declared.net.NetId.{NetId}
 use Rattle.nor_net.specs.declared.net.Part.{Part}
 use Rattle.nor_net.specs.declared.net.Part.TheVariants.{Gate}
@@ -30,7 +29,8 @@ kept_term exprs first old new g t id h = record {
 
 -- one more term
 pub term_more : (exprs : List (Option Rails)) (ts : List Transfer) (i : ℕ) (d : Transfer) (old middle new : List Part)
-    (terms : List NetId) (guard value : Rails) (id : NetId) → i < length ts → AreTerms exprs (take i ts) old middle terms
+    (terms : List NetId) (guard value : Rails) (id : NetId) → i < length ts
+    → AreTerms exprs (take i ts) old middle terms
     → Named exprs (get_or ts i d).guard guard → Named exprs (get_or ts i d).value value
     → IsAdded middle (Gate (value.negation ∷ guard.negation ∷ [])) new id
     → AreTerms exprs (take (i + 1) ts) old new (terms ++ id ∷ [])
@@ -59,7 +59,8 @@ term_more exprs ts i d old middle new terms guard value id l h is_guard is_value
     long = let e = length-take (i + 1) ts in omega (arith, e)
 
     counted : IsCounted (length (take i ts) + 1) (2 * length (take i ts) + 2) (length (take i ts) + 1) old new
-    counted = counted_on (length (take i ts)) (2 * length (take i ts)) (length (take i ts)) 1 2 1 old middle new h.counted
+    counted = counted_on (length (take i ts)) (2 * length (take i ts))
+        (length (take i ts)) 1 2 1 old middle new h.counted
         (subst (IsCounted 1 2 1 middle) (sym a.parts) (counted_part middle (Gate part)))
 
     last : IsTerm exprs (length old) new (get_or ts i d) id
@@ -69,11 +70,14 @@ term_more exprs ts i d old middle new terms guard value id l h is_guard is_value
       is_guard = is_guard;
       is_value = is_value;
       behind = let g = gates_longer old middle h.adds in let n = a.number in omega (arith, g, n);
-      is_gate = ap (slice_get new) a.number ∙ (ap (λ ps. slice_get ps (length middle)) a.parts ∙ get_first middle (Gate part) []);
+      is_gate = ap (slice_get new) a.number ∙ (ap (λ ps. slice_get ps (length middle)) a.parts
+          ∙ get_first middle (Gate part) []);
     }
 
 -- the terms stand where they were added
 pub terms_below : (exprs : List (Option Rails)) (ts : List Transfer) (old new : List Part) (terms : List NetId)
     → AreTerms exprs ts old new terms → All (λ (j : NetId). j.0 < length new) terms
-terms_below exprs ts old new terms h = zip_right (IsTerm exprs (length old) new) (λ (j : NetId). j.0 < length new) ts terms
-    (λ t id is. Rattle.std.proofs.lemmas.Option.slice_get_within new id.0 (Gate (is.value.negation ∷ is.guard.negation ∷ [])) is.is_gate) h.each
+terms_below exprs ts old new terms h =
+    zip_right (IsTerm exprs (length old) new) (λ (j : NetId). j.0 < length new) ts terms
+    (λ t id is. Rattle.std.proofs.lemmas.Option.slice_get_within new id.0
+    (Gate (is.value.negation ∷ is.guard.negation ∷ [])) is.is_gate) h.each

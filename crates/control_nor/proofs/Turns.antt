@@ -1,22 +1,19 @@
 -- Turns of cells and expressions.
-use Rattle.std.proofs.Common.{◌≡◌, ℕ, zero, suc, ◌+◌, ◌-◌, ◌*◌, ◌<◌, ◌≤◌, ◌⊎◌, inl, inr, List, [], ◌∷◌, ◌++◌, Option, Some, None, Bool, true, false, length, take, get_or, max, refl, sym, ◌∙◌, ap, subst, arith, length-append, replicate}
-use Rattle.std.specs.Prelude.{All, Contains, slice_get, slice_set, slice_index, slice_index_or}
+use Rattle.std.proofs.Common.{◌≡◌, ℕ, zero, suc, ◌+◌, ◌<◌, ◌≤◌, ◌⊎◌, inl, inr, List, [], ◌∷◌, ◌++◌, Some, length, take, get_or, max, refl, sym, ◌∙◌, ap, subst, arith, length-append, replicate}
+use Rattle.std.specs.Prelude.{All, Contains, slice_set, slice_index, slice_index_or}
 use Rattle.std.proofs.lemmas.Bool.{cases_lt}
 use Rattle.std.proofs.lemmas.List.{length-replicate, length-set, take_more}
 use Rattle.std.proofs.lemmas.List.Elements.{Contains-get_or, Contains-append_left, Contains-push, Contains-push_cases}
-use Rattle.std.proofs.lemmas.Option.{get_or_from_slice_get, none-some, same_Some, slice_get-get_or, slice_get_within}
-use Rattle.rtl_form.specs.declared.rtl.Cell as cells
-use Rattle.rtl_form.specs.declared.rtl.Transfer.{Transfer}
+use Rattle.std.proofs.lemmas.Option.{get_or_from_slice_get, slice_get-get_or}
 use Rattle.rtl_form.specs.declared.rtl.RtlExpr.{RtlExpr}
 use Rattle.rtl_form.specs.declared.rtl.RtlExpr.TheVariants as exprs
 use Rattle.rtl_form.specs.declared.rtl.Rtl.{Rtl}
 use Rattle.rtl_form.specs.Entries.{IsAt}
-use Rattle.rtl_form.specs.Environment.{is_driven}
 use Rattle.rtl_form.specs.Sound.{ExprFits, IsSound, ReadsCell, itself, inside}
 use Rattle.rtl_form.proofs.Members.{one_entry, some_entry, upward}
 use Rattle.control_nor.specs.Turns.{AreCellTurns, AreExprTurns, IsExprTurn, IsLatest}
 use Rattle.control_nor.proofs.Laying.{index_kept, index_last}
-use Rattle.control_nor.proofs.Left.{get_set_other, get_set_same, nat_cases}
+use Rattle.control_nor.proofs.Left.{get_set_same, nat_cases}
 
 -- an element's index, whatever is read past the end
 pub index_at : (xs : List ℕ) (k x : ℕ) → k < length xs → x ≡ slice_index_or xs k x → x ≡ slice_index xs k
@@ -30,7 +27,8 @@ none_latest turns = record { bound = λ a h. absurd (let l = h.1 in omega (arith
 pub latest_more : (turns args : List ℕ) (i d last : ℕ) → i < length args → IsLatest turns (take i args) last
     → IsLatest turns (take (i + 1) args) (max last (slice_index turns (get_or args i d)))
 latest_more turns args i d last l h =
-    subst (λ xs. IsLatest turns xs (max last (slice_index turns (get_or args i d)))) (sym (take_more args i d l)) (record {
+    subst (λ xs. IsLatest turns xs (max last (slice_index turns (get_or args i d)))) (sym (take_more args i d l))
+    (record {
       bound = λ a c. elim (Contains-push_cases (take i args) (get_or args i d) a c) [
         | inl q ↦ let b = h.bound a q in omega (arith, b)
         | inr q ↦ let b = ap (slice_index turns) q in omega (arith, b)
@@ -104,7 +102,8 @@ cell_turns_more r sound p turns l h = record {
 -- ---- turns of expressions
 
 pub args_below : (r : Rtl) → IsSound r → (e : ℕ) (x : RtlExpr) → IsAt r.exprs e x
-    → (op : Rattle.mp_base.specs.declared.op.Op.Op) (k : ℕ) (args : List ℕ) → x ≡ exprs.Apply op k args → All (λ a. a < e) args
+    → (op : Rattle.mp_base.specs.declared.op.Op.Op) (k : ℕ) (args : List ℕ) → x ≡ exprs.Apply op k args
+    → All (λ a. a < e) args
 args_below r sound e x at op k args is i d l =
     let f : ExprFits r e (exprs.Apply op k args) = subst (ExprFits r e) is (sound.exprs e x at) in
     (f.2 (get_or args i d) (Contains-get_or args i d l)).0
@@ -122,7 +121,8 @@ kept_latest turns args y t below h = record {
 pub no_expr_turns : (r : Rtl) (cells : List ℕ) → AreExprTurns r cells 0 []
 no_expr_turns r cells = record { count = refl; each = λ e x l at. absurd (omega arith) }
 
-pub expr_turns_more : (r : Rtl) → IsSound r → (cells : List ℕ) (n t : ℕ) (x : RtlExpr) (turns : List ℕ) → IsAt r.exprs n x
+pub expr_turns_more : (r : Rtl) → IsSound r → (cells : List ℕ) (n t : ℕ) (x : RtlExpr) (turns : List ℕ)
+    → IsAt r.exprs n x
     → AreExprTurns r cells n turns → IsExprTurn cells turns x t → AreExprTurns r cells (n + 1) (turns ++ t ∷ [])
 expr_turns_more r sound cells n t x turns at h is = record {
   count = let a = length-append turns (t ∷ []) in let c = h.count in omega (arith, a, c);
@@ -155,7 +155,8 @@ module _ (r : Rtl) (sound : IsSound r) (cells turns : List ℕ) (cell_turns : Ar
   Tight e = e < length r.exprs → (slice_index turns e ≡ 0)
       ⊎ ((p : ℕ) × (p < length r.order) × (slice_index turns e ≡ suc p) × ReadsCell r.exprs (slice_index r.order p) e)
 
-  by_expr : (e : ℕ) (x : RtlExpr) → IsAt r.exprs e x → ((j : ℕ) → j < e → Tight j) → IsExprTurn cells turns x (slice_index turns e)
+  by_expr : (e : ℕ) (x : RtlExpr) → IsAt r.exprs e x → ((j : ℕ) → j < e → Tight j)
+      → IsExprTurn cells turns x (slice_index turns e)
       → (slice_index turns e ≡ 0)
       ⊎ ((p : ℕ) × (p < length r.order) × (slice_index turns e ≡ suc p) × ReadsCell r.exprs (slice_index r.order p) e)
   by_expr e (exprs.Number n) at earlier h = inl h
@@ -180,7 +181,11 @@ module _ (r : Rtl) (sound : IsSound r) (cells turns : List ℕ) (cell_turns : Ar
       by_expr e x.0 x.1 earlier (expr_turns.each e x.0 l x.1))
 
   pub turn_small : (e : ℕ) → e < length r.exprs → slice_index turns e ≤ length r.order
-  turn_small e l = elim (tight e l) [ inl z ↦ omega (arith, z) | inr q ↦ (let a = q.1 in let b = q.2 in omega (arith, a, b)) ]
+  turn_small e l = elim (tight e l) [
+    | inl z ↦ omega (arith, z)
+    | inr q ↦
+        (let a = q.1 in let b = q.2 in omega (arith, a, b))
+  ]
 
   pub turns_small : All (λ t. t ≤ length r.order) turns
   turns_small k d l =

@@ -1,8 +1,7 @@
 -- What is written to a bit, as the OR of the transfers that are active.
-use Rattle.std.proofs.Common.{◌≡◌, ℕ, zero, suc, ◌+◌, ◌<◌, ◌⊎◌, inl, inr, List, [], ◌∷◌, Option, Some, None, Bool, true, false, cond, eqb, refl, sym, ◌∙◌, ap, subst, arith}
-use Rattle.std.specs.Prelude.{Contains, not, ◌&&◌, ◌||◌, ◌==◌, bit_or, if◌then◌else◌, unwrap_or}
-use Rattle.std.specs.List.{filter, list_any}
-use Rattle.std.specs.Int.{bit_at}
+use Rattle.std.proofs.Common.{◌≡◌, ℕ, zero, suc, ◌<◌, List, [], ◌∷◌, Option, Some, None, Bool, true, false, cond, eqb, refl, sym, ◌∙◌, ap, arith}
+use Rattle.std.specs.Prelude.{Contains, not, ◌&&◌, ◌||◌, ◌==◌, bit_or, unwrap_or}
+use Rattle.std.specs.List.{list_any}
 use Rattle.std.proofs.lemmas.Bool.{eqb-true}
 use Rattle.mp_base.specs.Merge.{join, merged}
 use Rattle.rtl_form.specs.declared.rtl.Transfer.{Transfer}
@@ -28,19 +27,23 @@ module _ (value : ℕ → ℕ) (c : ℕ) where
   rest t ts h u k = h u (there u t ts k)
 
   -- those that write a 1 are the active ones among those to the cell
-  pub ones_are : (ts : List Transfer) → Small ts → list_any (writes_one value c 0) ts ≡ list_any (is_active value) (transfers_to ts c)
+  pub ones_are : (ts : List Transfer) → Small ts → list_any (writes_one value c 0) ts
+      ≡ list_any (is_active value) (transfers_to ts c)
   ones_are [] h = refl
   ones_are (t ∷ ts) h = by_target (eqb t.target c) refl (ones_are ts (rest t ts h))
     where
-      by_target : (b : Bool) → eqb t.target c ≡ b → list_any (writes_one value c 0) ts ≡ list_any (is_active value) (transfers_to ts c)
+      by_target : (b : Bool) → eqb t.target c ≡ b → list_any (writes_one value c 0) ts
+          ≡ list_any (is_active value) (transfers_to ts c)
           → (((b && (value t.guard == 1)) && digit (value t.value) 0) || list_any (writes_one value c 0) ts)
           ≡ list_any (is_active value) (cond b (t ∷ transfers_to ts c) (transfers_to ts c))
       by_target true e q =
-          ap (λ d. ((value t.guard == 1) && d) || list_any (writes_one value c 0) ts) (digit_of (value t.value) (h t (here t ts) (eqb-true t.target c e)))
+          ap (λ d. ((value t.guard == 1) && d) || list_any (writes_one value c 0) ts)
+          (digit_of (value t.value) (h t (here t ts) (eqb-true t.target c e)))
           ∙ ap (λ d. ((value t.guard == 1) && (value t.value == 1)) || d) q
       by_target false e q = q
 
-  pub guarded_are : (ts : List Transfer) → list_any (writes value c) ts ≡ list_any (is_guarded value) (transfers_to ts c)
+  pub guarded_are : (ts : List Transfer) → list_any (writes value c) ts
+      ≡ list_any (is_guarded value) (transfers_to ts c)
   guarded_are [] = refl
   guarded_are (t ∷ ts) = by_target (eqb t.target c) (guarded_are ts)
     where
@@ -74,7 +77,8 @@ module _ (value : ℕ → ℕ) (c : ℕ) where
     where
       by_test : (b : Bool) → eqb t.target c ≡ b → (g : Bool) → IsBit (merged (written value c ts))
           → IsBit (merged (cond (b && g) (value t.value ∷ written value c ts) (written value c ts)))
-      by_test true e true q = join_small (value t.value) (merged (written value c ts)) (h t (here t ts) (eqb-true t.target c e)) q
+      by_test true e true q =
+          join_small (value t.value) (merged (written value c ts)) (h t (here t ts) (eqb-true t.target c e)) q
       by_test true e false q = q
       by_test false e g q = q
 
@@ -85,10 +89,13 @@ module _ (value : ℕ → ℕ) (c : ℕ) where
   -- what is written, or what was there where nothing is
   pub written_is : (ts : List Transfer) (d : ℕ) → Small ts → d < 2
       → (unwrap_or (merged (written value c ts)) d == 1)
-      ≡ (list_any (is_active value) (transfers_to ts c) || (not (list_any (is_guarded value) (transfers_to ts c)) && (d == 1)))
+      ≡ (list_any (is_active value) (transfers_to ts c) ||
+      (not (list_any (is_guarded value) (transfers_to ts c)) && (d == 1)))
   written_is ts d h l =
-      sym (digit_of (unwrap_or (merged (written value c ts)) d) (unwrap_small (merged (written value c ts)) d (written_small ts h) l))
+      sym (digit_of (unwrap_or (merged (written value c ts)) d)
+      (unwrap_small (merged (written value c ts)) d (written_small ts h) l))
       ∙ (written_digits value c d 0 ts
       ∙ (ap (λ b. b || (not (list_any (writes value c) ts) && digit d 0)) (ones_are ts h)
       ∙ (ap (λ b. list_any (is_active value) (transfers_to ts c) || (not b && digit d 0)) (guarded_are ts)
-      ∙ ap (λ b. list_any (is_active value) (transfers_to ts c) || (not (list_any (is_guarded value) (transfers_to ts c)) && b)) (digit_of d l))))
+      ∙ ap (λ b. list_any (is_active value) (transfers_to ts c)
+      || (not (list_any (is_guarded value) (transfers_to ts c)) && b)) (digit_of d l))))

@@ -38,4 +38,5 @@ zip_push R (a ∷ xs) (b ∷ ys) x y h r = (h.0, zip_push R xs ys x y h.1 r)
 pub zip_more : {X Y : Type 0} (R : X → Y → Type 0) (xs : List X) (ys : List Y) (i : ℕ) (d : X) (y : Y)
     → i < length xs → AllZip R (take i xs) ys → R (get_or xs i d) y → AllZip R (take (i + 1) xs) (ys ++ y ∷ [])
 zip_more R xs ys i d y l h r =
-    subst (λ zs. AllZip R zs (ys ++ y ∷ [])) (sym (take_more xs i d l)) (zip_push R (take i xs) ys (get_or xs i d) y h r)
+    subst (λ zs. AllZip R zs (ys ++ y ∷ [])) (sym (take_more xs i d l))
+    (zip_push R (take i xs) ys (get_or xs i d) y h r)

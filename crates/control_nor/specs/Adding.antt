@@ -1,5 +1,5 @@
 -- What is added to a net.
-use Rattle.std.specs.Prelude.{◌≡◌, ◌<◌, ◌≤◌, ℕ, ◌+◌, ◌*◌, suc, List, [], ◌∷◌, ◌++◌, Option, Some, None, All, length, slice_get}
+use Rattle.std.specs.Prelude.{◌≡◌, ◌<◌, ℕ, ◌+◌, ◌*◌, suc, List, [], ◌∷◌, ◌++◌, Some, None, All, length}
 use Rattle.std.specs.List.{sum_by}
 use Rattle.nor_net.specs.declared.net.NetId.{NetId}
 use Rattle.nor_net.specs.declared.net.Phase.TheVariants as phases
@@ -54,7 +54,8 @@ pub record IsExclusive (a b : Rails) (old new : List Part) (rails : Rails) : Typ
   pub none : NetId
   pub both : NetId
   pub parts : new
-      ≡ old ++ Gate (a.bit ∷ b.bit ∷ []) ∷ Gate (a.negation ∷ b.negation ∷ []) ∷ Gate (none ∷ both ∷ []) ∷ Gate (rails.bit ∷ []) ∷ []
+      ≡ old ++ Gate (a.bit ∷ b.bit ∷ []) ∷ Gate (a.negation ∷ b.negation ∷ []) ∷ Gate (none ∷ both ∷ []) ∷ Gate
+      (rails.bit ∷ []) ∷ []
   pub at_none : none.0 ≡ length old
   pub at_both : both.0 ≡ suc (length old)
   pub at_bit : rails.bit.0 ≡ suc (suc (length old))

@@ -13,18 +13,21 @@ use Rattle.control_nor.specs.Adding.{IsEntryPair, IsExclusive, IsPair}
 use Rattle.control_nor.specs.Rails.{BitOf, IsNamed, Named, NegationOf, swapped}
 
 -- a NOR of bits with these names, or of their negations, and its negation
-pub record IsNorOfBits (exprs : List (Option Rails)) (args : List ℕ) (old new : List Part) (rails : Rails) : Type 0 where
+pub record IsNorOfBits (exprs : List (Option Rails)) (args : List ℕ) (old new : List Part)
+    (rails : Rails) : Type 0 where
   pub inputs : List NetId
   pub are_inputs : AllZip (BitOf exprs) args inputs
   pub pair : IsPair inputs old new rails
 
-pub record IsNorOfNegations (exprs : List (Option Rails)) (args : List ℕ) (old new : List Part) (rails : Rails) : Type 0 where
+pub record IsNorOfNegations (exprs : List (Option Rails)) (args : List ℕ) (old new : List Part)
+    (rails : Rails) : Type 0 where
   pub inputs : List NetId
   pub are_inputs : AllZip (NegationOf exprs) args inputs
   pub pair : IsPair inputs old new rails
 
 -- the exclusive OR of two bits with these names
-pub record IsExclusiveOf (exprs : List (Option Rails)) (args : List ℕ) (old new : List Part) (rails : Rails) : Type 0 where
+pub record IsExclusiveOf (exprs : List (Option Rails)) (args : List ℕ) (old new : List Part)
+    (rails : Rails) : Type 0 where
   pub left : Rails
   pub right : Rails
   pub is_left : Named exprs (slice_index args 0) left
@@ -42,7 +45,8 @@ IsOpMade exprs Not args old new rails = Named exprs (slice_index args 0) (swappe
 IsOpMade exprs op args old new rails = IsEntryPair old new rails
 
 -- what is added for an expression, which has no nets here where it is a word
-abbrev pub IsExprMade : List (Option Rails) → List (Option Rails) → RtlExpr → List Part → List Part → Option Rails → Type 0
+abbrev pub IsExprMade : List (Option Rails) → List (Option Rails) → RtlExpr → List Part → List Part → Option Rails
+    → Type 0
 IsExprMade cells exprs (Number n) old new o = (o ≡ None) × (new ≡ old)
 IsExprMade cells exprs (Truth b) old new o =
     (rails : Rails) × (o ≡ Some rails) × IsPair [] old new (if b then rails else swapped rails)

@@ -39,7 +39,8 @@ pub record AreFirstNamed (r : Rtl) (i : ℕ) (old new : List Part) (named : List
       → slice_get named c ≡ Some None
 
 -- the pads of the first i cells, and what else is among their nets
-pub record AreFirstNets (r : Rtl) (i : ℕ) (old new : List Part) (named : List (Option Rails)) (pads : List (Option NetId)) : Type 0 where
+pub record AreFirstNets (r : Rtl) (i : ℕ) (old new : List Part) (named : List (Option Rails))
+    (pads : List (Option NetId)) : Type 0 where
   pub pad_count : length pads ≡ length (r.pads).inputs
   pub pads_only : (k : ℕ) (pad : NetId) → Stands pads k pad
       → (c : ℕ) × (x : cells.Cell) × (c < i) × IsAt r.cells c x × (x.kind ≡ kinds.Input k) × (x.word ≡ false)
@@ -50,18 +51,21 @@ pub record AreFirstNets (r : Rtl) (i : ℕ) (old new : List Part) (named : List 
       → (pad : NetId) × Stands pads k pad
   pub ports : (c k : ℕ) (x : cells.Cell) (rails : Rails) (pad : NetId) → IsAt r.cells c x → x.kind ≡ kinds.Input k
       → Named named c rails → Stands pads k pad → InputBit new rails.bit pad
-  pub slaves : (c : ℕ) (x : cells.Cell) (rails : Rails) → IsAt r.cells c x → x.kind ≡ kinds.Stored → Named named c rails
+  pub slaves : (c : ℕ) (x : cells.Cell) (rails : Rails) → IsAt r.cells c x → x.kind ≡ kinds.Stored
+      → Named named c rails
       → IsWaiting new rails
   pub inputs : (n : ℕ) → length old ≤ n → slice_get new n ≡ Some parts.Input
       → (k : ℕ) × Stands pads k (record { 0 = n })
   pub latches : (n : ℕ) (p : Phase) (source : NetId) → length old ≤ n
       → slice_get new n ≡ Some (parts.Latch p (Some source)) → (k : ℕ) × Stands pads k source
   pub unfed : (n : ℕ) (p : Phase) → length old ≤ n → slice_get new n ≡ Some (parts.Latch p None)
-      → (c : ℕ) × (x : cells.Cell) × (rails : Rails) × IsAt r.cells c x × (x.kind ≡ kinds.Stored) × Named named c rails
+      → (c : ℕ) × (x : cells.Cell) × (rails : Rails) × IsAt r.cells c x × (x.kind ≡ kinds.Stored)
+      × Named named c rails
       × (rails.negation.0 ≡ n)
 
 -- the first i cells have their first nets
-pub record AreFirstDone (r : Rtl) (i : ℕ) (old new : List Part) (named : List (Option Rails)) (pads : List (Option NetId)) : Type 0 where
+pub record AreFirstDone (r : Rtl) (i : ℕ) (old new : List Part) (named : List (Option Rails))
+    (pads : List (Option NetId)) : Type 0 where
   pub added : (more : List Part) × (new ≡ old ++ more)
   pub within : IsWithinCost (sum_by first_cost (take i r.cells)) 0 old new
   pub names : AreFirstNamed r i old new named

@@ -44,7 +44,8 @@ pub record IsMeant (r : Rtl) (tasks : List Task) (t first : ℕ) (new : List Par
       → ((task : Task) (rails : Rails) → NamedTask before task rails → Agree v rails)
       → (task : Task) (rails : Rails) → NamedTask after task rails → Agree v rails
   pub exprs : (s e : ℕ) (x : RtlExpr) (rails : Rails) (v : Spot → Trit) (env : List ℕ) → s < t
-      → slice_get tasks s ≡ Some (variants.Expr e) → IsAt r.exprs e x → Named after.exprs e rails → ObeysBehind new first v
+      → slice_get tasks s ≡ Some (variants.Expr e) → IsAt r.exprs e x → Named after.exprs e rails
+      → ObeysBehind new first v
       → BitsFit r env → IsExprKnown r v env after x → HasRails v rails (value_of r env e == 1)
   pub driven : (s c : ℕ) (rails : Rails) (v : Spot → Trit) (env : List ℕ) → s < t
       → slice_get tasks s ≡ Some (variants.Cell c) → Named after.cells c rails → ObeysBehind new first v

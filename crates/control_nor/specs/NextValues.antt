@@ -1,5 +1,5 @@
 -- The next values of stored bits.
-use Rattle.std.specs.Prelude.{◌≡◌, ◌<◌, ◌≤◌, ◌+◌, ◌==◌, ◌&&◌, ◌||◌, ◌⊎◌, ℕ, suc, List, [], ◌∷◌, ◌++◌, Option, Some, None, Bool, true, false, not, nat_le, if◌then◌else◌, All, MatchBool, length, slice_get, drop}
+use Rattle.std.specs.Prelude.{◌≡◌, ◌<◌, ◌≤◌, ◌+◌, ◌==◌, ◌&&◌, ◌||◌, ◌⊎◌, ℕ, List, [], ◌∷◌, ◌++◌, Option, Some, None, Bool, true, not, nat_le, if◌then◌else◌, All, MatchBool, length, slice_get, drop}
 use Rattle.std.specs.List.{list_any, sum_by}
 use Rattle.mp_base.specs.declared.value.Trit.{Trit}
 use Rattle.mp_base.specs.declared.value.Trit.TheVariants.{Zero, One}
@@ -12,8 +12,6 @@ use Rattle.nor_net.specs.declared.net.Phase.TheVariants as phases
 use Rattle.nor_net.specs.declared.net.Part.{Part}
 use Rattle.nor_net.specs.declared.net.Part.TheVariants.{Input, Gate, Latch}
 use Rattle.rtl_form.specs.declared.rtl.Cell as cells
-use Rattle.rtl_form.specs.declared.rtl.CellKind.{CellKind}
-use Rattle.rtl_form.specs.declared.rtl.CellKind.TheVariants as kinds
 use Rattle.rtl_form.specs.declared.rtl.Transfer.{Transfer}
 use Rattle.rtl_form.specs.declared.rtl.Rtl.{Rtl}
 use Rattle.rtl_form.specs.Entries.{IsAt}
@@ -21,7 +19,6 @@ use Rattle.rtl_form.specs.Environment.{is_stored}
 use Rattle.control_nor.specs.declared.rails.Rails.{Rails}
 use Rattle.control_nor.specs.declared.rails.Bits.{Bits}
 use Rattle.control_nor.specs.Cells.{IsNextMade, IsTransferNamed, transfers_to}
-use Rattle.control_nor.specs.First.{IsWaiting}
 use Rattle.control_nor.specs.Lowering.{ObeysBehind}
 use Rattle.control_nor.specs.Meaning.{is_active}
 use Rattle.control_nor.specs.Rails.{AllBelow, HasRails, Known, Named}
@@ -65,15 +62,18 @@ AreKnown v exprs value ts =
     All (λ (t : Transfer). Known v exprs t.guard (value t.guard) × Known v exprs t.value (value t.value)) ts
 
 -- a stored bit with its latches, whose data are its next value
-pub record IsStoring (exprs : List (Option Rails)) (ts : List Transfer) (first : ℕ) (net : List Part) (rails : Rails) (reset : NetId) : Type 0 where
+pub record IsStoring (exprs : List (Option Rails)) (ts : List Transfer) (first : ℕ) (net : List Part) (rails : Rails)
+    (reset : NetId) : Type 0 where
   pub master : NetId
   pub negation : NetId
   pub source : NetId
   pub is_master : slice_get net master.0 ≡ Some (Latch phases.A (Some source))
   pub is_negation : slice_get net negation.0 ≡ Some (Gate (master ∷ []))
   pub is_slave : slice_get net rails.negation.0 ≡ Some (Latch phases.B (Some negation))
-  pub means : (v : Spot → Trit) (value : ℕ → ℕ) (stored clear : Bool) → ObeysBehind net first v → AreKnown v exprs value ts
-      → HasRails v rails stored → v (spot 0 reset) ≡ bit clear → v (spot 0 source) ≡ bit (next_of value ts stored clear)
+  pub means : (v : Spot → Trit) (value : ℕ → ℕ) (stored clear : Bool) → ObeysBehind net first v
+      → AreKnown v exprs value ts
+      → HasRails v rails stored → v (spot 0 reset) ≡ bit clear
+      → v (spot 0 source) ≡ bit (next_of value ts stored clear)
   pub clears : (v : Spot → Trit) → ObeysBehind net first v → v (spot 0 reset) ≡ One → v (spot 0 source) ≡ Zero
 
 -- ---- the first i cells have their next values
@@ -89,10 +89,13 @@ IsNextCellMade r bits reset c x old new =
 -- the stored bits wait for their data, each with a slave of its own, and what transfers to them read has names
 pub record AreWaiting (r : Rtl) (net : List Part) (bits : Bits) : Type 0 where
   pub below : AllBelow (length net) bits.exprs
-  pub has : (c : ℕ) (x : cells.Cell) → IsAt r.cells c x → is_stored_bit x ≡ true → (rails : Rails) × Named bits.cells c rails
-  pub slaves : (c : ℕ) (x : cells.Cell) (rails : Rails) → IsAt r.cells c x → is_stored_bit x ≡ true → Named bits.cells c rails
+  pub has : (c : ℕ) (x : cells.Cell) → IsAt r.cells c x → is_stored_bit x ≡ true
+      → (rails : Rails) × Named bits.cells c rails
+  pub slaves : (c : ℕ) (x : cells.Cell) (rails : Rails) → IsAt r.cells c x → is_stored_bit x ≡ true
+      → Named bits.cells c rails
       → slice_get net rails.negation.0 ≡ Some (Latch phases.B None)
-  pub apart : (c d : ℕ) (x y : cells.Cell) (p q : Rails) → IsAt r.cells c x → is_stored_bit x ≡ true → Named bits.cells c p
+  pub apart : (c d : ℕ) (x y : cells.Cell) (p q : Rails) → IsAt r.cells c x → is_stored_bit x ≡ true
+      → Named bits.cells c p
       → IsAt r.cells d y → is_stored_bit y ≡ true → Named bits.cells d q → p.negation.0 ≡ q.negation.0 → c ≡ d
   pub transfers : (c : ℕ) (x : cells.Cell) → IsAt r.cells c x → is_stored_bit x ≡ true
       → All (IsTransferNamed bits.exprs) (transfers_to r.transfers c)
@@ -106,7 +109,8 @@ SlavesBehind r bits first =
 pub record AreStored (r : Rtl) (bits : Bits) (i : ℕ) (reset : NetId) (old new : List Part) : Type 0 where
   pub longer : length old ≤ length new
   pub keeps : (n : ℕ) (p : Part) → slice_get old n ≡ Some p → Fed p → slice_get new n ≡ Some p
-  pub behind : (before : List Part) → SlavesBehind r bits (length before) → (more : List Part) × (old ≡ before ++ more)
+  pub behind : (before : List Part) → SlavesBehind r bits (length before)
+      → (more : List Part) × (old ≡ before ++ more)
       → (more : List Part) × (new ≡ before ++ more)
   pub within : (cost : ℕ) × IsWithinCost cost 0 old new × (cost + next_left r i ≡ next_left r 0)
   pub waiting : (c : ℕ) (x : cells.Cell) (rails : Rails) → i ≤ c → IsAt r.cells c x → is_stored_bit x ≡ true
@@ -126,7 +130,8 @@ pub record AreStored (r : Rtl) (bits : Bits) (i : ℕ) (reset : NetId) (old new 
 pub record AreNextValues (r : Rtl) (bits : Bits) (old new : List Part) : Type 0 where
   pub longer : length old ≤ length new
   pub keeps : (n : ℕ) (p : Part) → slice_get old n ≡ Some p → Fed p → slice_get new n ≡ Some p
-  pub behind : (before : List Part) → SlavesBehind r bits (length before) → (more : List Part) × (old ≡ before ++ more)
+  pub behind : (before : List Part) → SlavesBehind r bits (length before)
+      → (more : List Part) × (old ≡ before ++ more)
       → (more : List Part) × (new ≡ before ++ more)
   pub within : (cost : ℕ) × IsWithinCost cost 0 old new × (cost ≤ next_left r 0)
   pub stored : (c reset : ℕ) (x : cells.Cell) (rails at : Rails) → IsAt r.cells c x → is_stored_bit x ≡ true

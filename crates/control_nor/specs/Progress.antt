@@ -1,5 +1,5 @@
 -- How far the tasks are done.
-use Rattle.std.specs.Prelude.{◌≡◌, ◌<◌, ◌≤◌, ◌+◌, ℕ, zero, suc, List, [], ◌∷◌, Option, Some, None, Bool, true, false, ◌&&◌, not, if◌then◌else◌, length, slice_get, slice_index}
+use Rattle.std.specs.Prelude.{◌≡◌, ◌<◌, ◌≤◌, ◌+◌, ℕ, zero, suc, List, [], ◌∷◌, Option, Some, None, false, ◌&&◌, not, if◌then◌else◌, length, slice_get, slice_index}
 use Rattle.std.specs.List.{sum_by}
 use Rattle.nor_net.specs.declared.net.NetId.{NetId}
 use Rattle.nor_net.specs.declared.net.Part.{Part}
@@ -15,9 +15,9 @@ use Rattle.control_nor.specs.declared.names.Task.{Task}
 use Rattle.control_nor.specs.declared.names.Task.TheVariants.{Expr, Cell}
 use Rattle.control_nor.specs.declared.rails.Rails.{Rails}
 use Rattle.control_nor.specs.declared.rails.Bits.{Bits}
-use Rattle.control_nor.specs.Adding.{AddsLogic, HasRoom}
+use Rattle.control_nor.specs.Adding.{AddsLogic}
 use Rattle.control_nor.specs.Lowering.{IsEntry}
-use Rattle.control_nor.specs.Rails.{AllBelow, AreBelow, IsNamed, Named}
+use Rattle.control_nor.specs.Rails.{AreBelow, IsNamed, Named}
 use Rattle.control_nor.specs.Schedule.{IsTask}
 use Rattle.control_nor.specs.Size.{IsWithinCost, bit_expr_cost, entry_count}
 use Rattle.control_nor.specs.Tasks.{entry_of}
@@ -101,11 +101,13 @@ level start ends zero = start
 level start ends (suc s) = slice_index ends s
 
 -- where the nets of the first t tasks are, and which are inputs
-pub record IsLaid (r : Rtl) (tasks : List Task) (t : ℕ) (old new : List Part) (after : Bits) (ends : List ℕ) : Type 0 where
+pub record IsLaid (r : Rtl) (tasks : List Task) (t : ℕ) (old new : List Part) (after : Bits)
+    (ends : List ℕ) : Type 0 where
   pub count : length ends ≡ t
   pub top : level (length old) ends t ≡ length new
   pub rise : (s : ℕ) → s < t → level (length old) ends s ≤ level (length old) ends (suc s)
-  pub below : (s : ℕ) (task : Task) (rails : Rails) → s < t → slice_get tasks s ≡ Some task → NamedTask after task rails
+  pub below : (s : ℕ) (task : Task) (rails : Rails) → s < t → slice_get tasks s ≡ Some task
+      → NamedTask after task rails
       → rails.bit.0 < level (length old) ends (suc s)
   pub driven : (s c : ℕ) (rails : Rails) → s < t → slice_get tasks s ≡ Some (Cell c) → Named after.cells c rails
       → (level (length old) ends s ≤ rails.bit.0) × (slice_get new rails.bit.0 ≡ Some (Gate (rails.negation ∷ [])))

@@ -1,9 +1,7 @@
 -- Bits as pairs of nets: one that has the bit, and one that has its negation.
-use Rattle.std.specs.Prelude.{◌≡◌, ◌<◌, ◌≤◌, ℕ, suc, List, [], ◌∷◌, ◌++◌, Option, Some, None, Bool, not, ◌==◌, All, length, slice_get}
+use Rattle.std.specs.Prelude.{◌≡◌, ◌<◌, ℕ, List, Option, Some, None, Bool, not, ◌==◌, slice_get}
 use Rattle.mp_base.specs.declared.value.Trit.{Trit}
 use Rattle.nor_net.specs.declared.net.NetId.{NetId}
-use Rattle.nor_net.specs.declared.net.Part.{Part}
-use Rattle.nor_net.specs.declared.net.Part.TheVariants.{Input, Gate, Latch}
 use Rattle.nor_net.specs.Elements.{Spot, spot}
 use Rattle.nor_net.specs.Laws.{bit}
 use Rattle.control_nor.specs.declared.rails.Rails.{Rails}

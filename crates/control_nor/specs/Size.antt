@@ -48,7 +48,8 @@ abbrev pub active_count : Part → ℕ
 active_count Input = 0
 active_count _ = 1
 
--- Parts were added for a cost, among them nets where words enter: each unit of cost is for a gate, a latch or the wire
+-- Parts were added for a cost, among them nets where words enter: each unit of cost is for a gate, a latch or the
+-- wire
 -- on which a word enters, and gives at most two nets and four inputs of gates.
 pub record IsWithinCost (cost entries : ℕ) (before after : List Part) : Type 0 where
   pub nets : length after ≤ length before + 2 * cost

@@ -1,23 +1,18 @@
 -- What is added for a task, and how far the tasks are done.
-use Rattle.std.specs.Prelude.{◌≡◌, ◌<◌, ◌≤◌, ◌+◌, ℕ, List, Option, Some, None, Bool, true, false, ◌&&◌, not, if◌then◌else◌, All, MatchBool, length, slice_get, slice_set}
-use Rattle.std.specs.List.{sum_by}
+use Rattle.std.specs.Prelude.{◌≡◌, ◌+◌, ℕ, List, Option, Some, None, false, All, MatchBool, length, slice_get, slice_set}
 use Rattle.nor_net.specs.declared.net.Part.{Part}
 use Rattle.rtl_form.specs.declared.rtl.Cell as cells
-use Rattle.rtl_form.specs.declared.rtl.Transfer.{Transfer}
 use Rattle.rtl_form.specs.declared.rtl.RtlExpr.{RtlExpr}
 use Rattle.rtl_form.specs.declared.rtl.Rtl.{Rtl}
 use Rattle.rtl_form.specs.Entries.{IsAt}
-use Rattle.rtl_form.specs.Environment.{is_driven}
-use Rattle.rtl_form.specs.Sound.{IsSort}
 use Rattle.control_nor.specs.declared.names.Task.{Task}
 use Rattle.control_nor.specs.declared.names.Task.TheVariants.{Expr, Cell}
 use Rattle.control_nor.specs.declared.rails.Rails.{Rails}
 use Rattle.control_nor.specs.declared.rails.Bits.{Bits}
-use Rattle.control_nor.specs.Adding.{AddsLogic, HasRoom}
+use Rattle.control_nor.specs.Adding.{HasRoom}
 use Rattle.control_nor.specs.Cells.{IsDrivenMade, IsTransferNamed, transfers_to}
 use Rattle.control_nor.specs.Exprs.{IsExprMade, IsExprReady}
-use Rattle.control_nor.specs.Rails.{AreBelow}
-use Rattle.control_nor.specs.Size.{IsWithinCost, bit_expr_cost, entry_count}
+use Rattle.control_nor.specs.Size.{bit_expr_cost}
 
 -- what stands for the expression or the cell of a task, so far
 abbrev pub entry_of : Bits → Task → Option (Option Rails)

@@ -1,10 +1,10 @@
 -- After how many driven cells an expression can be made.
 use Rattle.std.specs.Prelude.{◌≡◌, ◌⊎◌, ◌<◌, ◌≤◌, ◌+◌, ◌*◌, ℕ, suc, List, Some, Contains, length, slice_get, slice_index}
+use Rattle.std.specs.List.Sorted.{IsPermutation}
 use Rattle.rtl_form.specs.declared.rtl.RtlExpr.{RtlExpr}
 use Rattle.rtl_form.specs.declared.rtl.RtlExpr.TheVariants as exprs
 use Rattle.rtl_form.specs.declared.rtl.Rtl.{Rtl}
 use Rattle.rtl_form.specs.Entries.{IsAt}
-use Rattle.control_nor.specs.declared.names.Task.{Task}
 use Rattle.control_nor.specs.declared.names.Task.TheVariants.{Expr, Cell}
 use Rattle.control_nor.specs.declared.schedule.Entry.{Entry}
 
@@ -41,3 +41,8 @@ pub record AreEntries (r : Rtl) (turns : List ℕ) (n m : ℕ) (entries : List E
   pub exprs : (e : ℕ) → e < n → slice_get entries e ≡ Some (record { moment = expr_moment r turns e; task = Expr e })
   pub cells : (p : ℕ) → p < m
       → slice_get entries (n + p) ≡ Some (record { moment = cell_moment r p; task = Cell (slice_index r.order p) })
+
+-- all tasks with their moments, in some order
+abbrev pub ArePermuted : Rtl → List ℕ → List Entry → Type 0
+ArePermuted r turns ys =
+    (es : List Entry) × AreEntries r turns (length r.exprs) (length r.order) es × IsPermutation es ys

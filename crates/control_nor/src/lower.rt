@@ -62,8 +62,9 @@ fn nets_of(alloc: Global, bits: &[Option<Rails>]) -> Result<List<Option<NetId>>,
 
 /// Adds the gates of every bit cell and guard, and the latches of every stored bit and input bit.
 ///
-/// A bit is a pair of nets, one the NOR of the other. A NOR of bits or of negations makes each operator; the driven bits
-/// are the OR of their transfers' terms; a stored bit is two latches in phases A and B, whose data are 0 under reset.
+/// A bit is a pair of nets, one the NOR of the other. A NOR of bits or of negations makes each operator. The driven
+/// bits are the OR of their transfers' terms. A stored bit is two latches in phases A and B, whose data are 0 under
+/// reset. Where a word enters, as for `=`, there is an input.
 ///
 /// # Errors
 ///

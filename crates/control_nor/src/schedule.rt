@@ -1,12 +1,12 @@
 //! An order in which expressions and driven cells can be made.
 
 ghost use Rattle.std.specs.Prelude.{◌≡◌, ◌<◌, ◌≤◌, ◌+◌, ◌*◌, ◌^◌, ℕ, suc, max, List as Lists, All, Contains, IfOk, length, slice_index};
-ghost use Rattle.std.specs.List.Sorted.{IsNonDecreasingBy, IsPermutation};
+ghost use Rattle.std.specs.List.Sorted.{IsNonDecreasingBy};
 ghost use Rattle.mp_base.specs.declared.op.Op as Op;
 ghost use Rattle.rtl_form.specs.Entries.{IsAt};
 ghost use Rattle.rtl_form.specs.Sound.{IsSound};
 ghost use Rattle.control_nor.specs.Schedule.{IsSchedule};
-ghost use Rattle.control_nor.specs.Turns.{AreCellTurns, AreEntries, AreExprTurns, IsExprTurn, IsLatest};
+ghost use Rattle.control_nor.specs.Turns.{AreCellTurns, AreEntries, AreExprTurns, ArePermuted, IsExprTurn, IsLatest};
 
 use crate::names::Task;
 use mp_base::{List, NoMemory};
@@ -134,8 +134,7 @@ fn sorted_entries(alloc: Global, rtl: &Rtl, turns: &[u32]) -> Result<Vec<Entry>,
     requires few_cells { length rtl.now.order < 2 ^ 31 }
     requires count { length turns.now ≡ length rtl.now.exprs }
     requires small { All (λ t. t ≤ length rtl.now.order) turns.now }
-    ensures permuted { IfOk result (λ ys. (es : Lists Entry) × AreEntries rtl.now turns.now (length rtl.now.exprs) (length rtl.now.order) es
-        × IsPermutation es ys.items) }
+    ensures permuted { IfOk result (λ ys. ArePermuted rtl.now turns.now ys.items) }
     ensures rising { IfOk result (λ ys. IsNonDecreasingBy (λ e. e.moment) ys.items) }
 {
     let mut entries = all_entries(alloc, rtl, turns)?.into_vec();

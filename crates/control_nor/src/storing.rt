@@ -40,7 +40,8 @@ fn lower_next_of(
     requires has { is_stored_bit cell ≡ true → IsNamed bits.now.cells index }
     requires slave { (rails : the_rails.Rails) → is_stored_bit cell ≡ true → Named bits.now.cells index rails
         → slice_get net.old rails.negation.0 ≡ Some (Latch B None) }
-    requires named { is_stored_bit cell ≡ true → All (IsTransferNamed bits.now.exprs) (transfers_to rtl.now.transfers index) }
+    requires named { is_stored_bit cell ≡ true
+        → All (IsTransferNamed bits.now.exprs) (transfers_to rtl.now.transfers index) }
     requires below { AllBelow (length net.old) bits.now.exprs }
     requires reset { reset.0 < length net.old }
     requires room { is_stored_bit cell ≡ true → HasRoom (5 + length (transfers_to rtl.now.transfers index)) net.old }

@@ -1,4 +1,4 @@
-use Rattle.std.proofs.Common.{◌∷◌, ◌++◌, [], length, ap, arith, length-append}
+use Rattle.std.proofs.Common.{◌∷◌, ◌++◌, [], length, arith, length-append}
 use Rattle.nor_net.specs.declared.net.Part.TheVariants.{Gate}
 use Rattle.control_nor.specs.Cells.{GuardOf, IsTerm}
 use Rattle.control_nor.proofs.Adding.{added_counted, added_three}
@@ -27,7 +27,8 @@ add_gate_on-requires-2-clause-inputs_room c =
     let m = zip_length (IsTerm c.args.exprs.now (length c.args.net.now) c.add_terms.new.net) c.args.transfers.now
     c.in_ok-terms.terms c.in_ok-terms.ensures.each in
     let i = c.in_ok-terms.ensures.counted.input_count in
-    let h = (added_counted c.add_terms.new.net c.add_gate_on.new.net (Gate (c.in_ok-guards.guards ++ c.args.slave ∷ []))
+    let h = (added_counted c.add_terms.new.net c.add_gate_on.new.net
+    (Gate (c.in_ok-guards.guards ++ c.args.slave ∷ []))
     c.in_ok-hold.hold c.in_ok-hold.ensures).input_count in
     let g = length-append c.in_ok-guards.guards (c.args.slave ∷ []) in
     let r = c.requires.room.inputs_room in
@@ -35,7 +36,8 @@ add_gate_on-requires-2-clause-inputs_room c =
 
 pub add_gate_on-requires-2-clause-inputs : goal.add_gate_on-requires-2-clause-inputs
 add_gate_on-requires-2-clause-inputs c =
-    let h = (added_counted c.add_terms.new.net c.add_gate_on.new.net (Gate (c.in_ok-guards.guards ++ c.args.slave ∷ []))
+    let h = (added_counted c.add_terms.new.net c.add_gate_on.new.net
+    (Gate (c.in_ok-guards.guards ++ c.args.slave ∷ []))
     c.in_ok-hold.hold c.in_ok-hold.ensures).net_count in
     below_later (length c.add_terms.new.net) (length c.add_gate_on.new.net) c.in_ok-terms.terms (omega (arith, h))
     (terms_below c.args.exprs.now c.args.transfers.now c.args.net.now c.add_terms.new.net c.in_ok-terms.terms
@@ -47,9 +49,11 @@ gate-requires-clause-inputs_room c =
     let m = zip_length (IsTerm c.args.exprs.now (length c.args.net.now) c.add_terms.new.net) c.args.transfers.now
     c.in_ok-terms.terms c.in_ok-terms.ensures.each in
     let i = c.in_ok-terms.ensures.counted.input_count in
-    let h = (added_counted c.add_terms.new.net c.add_gate_on.new.net (Gate (c.in_ok-guards.guards ++ c.args.slave ∷ []))
+    let h = (added_counted c.add_terms.new.net c.add_gate_on.new.net
+    (Gate (c.in_ok-guards.guards ++ c.args.slave ∷ []))
     c.in_ok-hold.hold c.in_ok-hold.ensures).input_count in
-    let o = (added_counted c.add_gate_on.new.net c.add_gate_on-2.new.net (Gate (c.in_ok-terms.terms ++ c.in_ok-hold.hold ∷ []))
+    let o = (added_counted c.add_gate_on.new.net c.add_gate_on-2.new.net
+    (Gate (c.in_ok-terms.terms ++ c.in_ok-hold.hold ∷ []))
     c.in_ok-off.off c.in_ok-off.ensures).input_count in
     let g = length-append c.in_ok-guards.guards (c.args.slave ∷ []) in
     let f = length-append c.in_ok-terms.terms (c.in_ok-hold.hold ∷ []) in
@@ -67,15 +71,19 @@ returns c = record {
   are_guards = c.in_ok-guards.ensures;
   parts = added_three c.add_terms.new.net c.add_gate_on.new.net c.add_gate_on-2.new.net c.gate.new.self
       (Gate (c.in_ok-guards.guards ++ c.args.slave ∷ [])) (Gate (c.in_ok-terms.terms ++ c.in_ok-hold.hold ∷ []))
-      (Gate (c.in_ok-off.off ∷ c.args.reset ∷ [])) c.in_ok-hold.hold c.in_ok-off.off c.in_ok-source.source c.in_ok-hold.ensures
+      (Gate (c.in_ok-off.off ∷ c.args.reset ∷ [])) c.in_ok-hold.hold c.in_ok-off.off c.in_ok-source.source
+      c.in_ok-hold.ensures
       c.in_ok-off.ensures c.in_ok-source.ensures.ok;
   at_hold = c.in_ok-hold.ensures.number;
-  at_off = let h = (added_counted c.add_terms.new.net c.add_gate_on.new.net (Gate (c.in_ok-guards.guards ++ c.args.slave ∷ []))
+  at_off = let h = (added_counted c.add_terms.new.net c.add_gate_on.new.net
+      (Gate (c.in_ok-guards.guards ++ c.args.slave ∷ []))
       c.in_ok-hold.hold c.in_ok-hold.ensures).net_count in
       let n = c.in_ok-off.ensures.number in omega (arith, h, n);
-  at_source = let h = (added_counted c.add_terms.new.net c.add_gate_on.new.net (Gate (c.in_ok-guards.guards ++ c.args.slave ∷ []))
+  at_source = let h = (added_counted c.add_terms.new.net c.add_gate_on.new.net
+      (Gate (c.in_ok-guards.guards ++ c.args.slave ∷ []))
       c.in_ok-hold.hold c.in_ok-hold.ensures).net_count in
-      let o = (added_counted c.add_gate_on.new.net c.add_gate_on-2.new.net (Gate (c.in_ok-terms.terms ++ c.in_ok-hold.hold ∷ []))
+      let o = (added_counted c.add_gate_on.new.net c.add_gate_on-2.new.net
+      (Gate (c.in_ok-terms.terms ++ c.in_ok-hold.hold ∷ []))
       c.in_ok-off.off c.in_ok-off.ensures).net_count in
       let n = c.in_ok-source.ensures.ok.number in omega (arith, h, o, n);
 }

@@ -16,5 +16,6 @@ pub returns-in-Cell : goal.returns-in-Cell
 returns-in-Cell c =
     let r : IsExprReady c.args.cells.now c.args.exprs.now (Cell c.in-Cell.cell) =
     subst (IsExprReady c.args.cells.now c.args.exprs.now) c.in-Cell.is c.requires.ready in
-    subst (λ x. IsExprMade c.args.cells.now c.args.exprs.now x c.args.net.now c.args.net.now (get_or c.args.cells.now c.in-Cell.cell None)) (sym c.in-Cell.is)
+    subst (λ x. IsExprMade c.args.cells.now c.args.exprs.now x c.args.net.now c.args.net.now
+    (get_or c.args.cells.now c.in-Cell.cell None)) (sym c.in-Cell.is)
     (get_inside c.args.cells.now c.in-Cell.cell None r, refl)

@@ -16,4 +16,5 @@ add_pair-requires-clause-inputs_room c =
 pub add_pair-requires-clause-inputs : goal.add_pair-requires-clause-inputs
 add_pair-requires-clause-inputs c =
     subst (All (λ (j : NetId). j.0 < length c.args.net.now)) (sym c.as_slice.ensures)
-    (bits_below (length c.args.net.now) c.args.exprs.now c.requires.below c.args.args.now c.in_ok-inputs.inputs c.in_ok-inputs.ensures)
+    (bits_below (length c.args.net.now) c.args.exprs.now c.requires.below c.args.args.now c.in_ok-inputs.inputs
+    c.in_ok-inputs.ensures)

@@ -1,4 +1,4 @@
-use Rattle.std.proofs.Common.{◌≡◌, ◌∙◌, ℕ, List, Option, None, length, map, replicate, subst, sym, ap, arith}
+use Rattle.std.proofs.Common.{◌∙◌, List, Option, None, length, map, replicate, ap}
 use Rattle.control_nor.specs.declared.names.Task.TheVariants.{Cell}
 use Rattle.control_nor.specs.declared.rails.Rails.{Rails}
 use Rattle.control_nor.specs.Rails.{net_of}
@@ -9,13 +9,15 @@ use Rattle.control_nor.proofs.Rounds.{as_begun, as_done, as_lowered, room_first,
 use Rattle.control_nor.proofs.lower.lower_bits.Goals as goal
 
 pub lower_all_first-requires-clause-room : goal.lower_all_first-requires-clause-room
-lower_all_first-requires-clause-room c = room_first c.args.rtl.now c.args.net.now c.requires.room c.requires.inputs_room
+lower_all_first-requires-clause-room c =
+    room_first c.args.rtl.now c.args.net.now c.requires.room c.requires.inputs_room
 
 pub lower_tasks-requires-clause-begun : goal.lower_tasks-requires-clause-begun
 lower_tasks-requires-clause-begun c =
     as_begun c.args.rtl.now c.lower_all_first.new.net c.in_ok-cells.field-0.cells c.in_ok-exprs.exprs
     (c.in_ok-exprs.ensures ∙ ap (λ n. replicate n None) c.len.ensures)
-    (begun c.args.rtl.now c.requires.sound c.args.net.now c.lower_all_first.new.net c.in_ok-cells.field-0.cells c.in_ok-cells.field-0.pads
+    (begun c.args.rtl.now c.requires.sound c.args.net.now c.lower_all_first.new.net c.in_ok-cells.field-0.cells
+    c.in_ok-cells.field-0.pads
     c.in_ok-cells.ensures)
 
 pub lower_tasks-requires-clause-room : goal.lower_tasks-requires-clause-room
@@ -51,7 +53,8 @@ lower_next_values-requires-clause-reset c index e =
 pub lower_next_values-requires-clause-room : goal.lower_next_values-requires-clause-room
 lower_next_values-requires-clause-room c =
     room_next c.args.rtl.now c.args.net.now c.requires.room c.requires.inputs_room c.lower_all_first.new.net
-    c.in_ok-cells.field-0.cells c.in_ok-cells.field-0.pads c.in_ok-cells.ensures c.in_ok-tasks.tasks c.lower_tasks.new.net
+    c.in_ok-cells.field-0.cells c.in_ok-cells.field-0.pads c.in_ok-cells.ensures c.in_ok-tasks.tasks
+    c.lower_tasks.new.net
     c.lower_tasks.new.bits c.in_ok-ends.ends
     (as_done c.args.rtl.now c.in_ok-tasks.tasks c.as_slice.result.now c.lower_all_first.new.net c.lower_tasks.new.net
     c.in_ok-cells.field-0.cells c.in_ok-exprs.exprs c.lower_tasks.new.bits c.in_ok-ends.ends c.as_slice.ensures
@@ -60,13 +63,16 @@ lower_next_values-requires-clause-room c =
 pub returns : goal.returns
 returns c =
     as_lowered c.args.rtl.now c.args.net.now c.lower_next_values.new.net c.in_ok-cells-2.cells c.in_ok-exprs-2.exprs
-    (map net_of c.lower_tasks.new.bits.cells) (map net_of c.lower_tasks.new.bits.exprs) c.in_ok-cells.field-0.pads c.in_ok-tasks.tasks
+    (map net_of c.lower_tasks.new.bits.cells) (map net_of c.lower_tasks.new.bits.exprs) c.in_ok-cells.field-0.pads
+    c.in_ok-tasks.tasks
     c.len-start.result (length c.lower_all_first.new.net) c.in_ok-ends.ends
     (c.in_ok-cells-2.ensures ∙ ap (λ (xs : List (Option Rails)). map net_of xs) c.as_slice-2.ensures)
     (c.in_ok-exprs-2.ensures ∙ ap (λ (xs : List (Option Rails)). map net_of xs) c.as_slice-3.ensures)
     c.len-start.ensures.len
-    (lowered c.args.rtl.now c.requires.sound c.args.net.now c.lower_all_first.new.net c.lower_tasks.new.net c.lower_next_values.new.net
-    c.in_ok-cells.field-0.cells c.in_ok-cells.field-0.pads c.in_ok-cells.ensures c.in_ok-tasks.tasks c.in_ok-tasks.ensures
+    (lowered c.args.rtl.now c.requires.sound c.args.net.now c.lower_all_first.new.net c.lower_tasks.new.net
+    c.lower_next_values.new.net
+    c.in_ok-cells.field-0.cells c.in_ok-cells.field-0.pads c.in_ok-cells.ensures c.in_ok-tasks.tasks
+    c.in_ok-tasks.ensures
     c.lower_tasks.new.bits c.in_ok-ends.ends
     (as_done c.args.rtl.now c.in_ok-tasks.tasks c.as_slice.result.now c.lower_all_first.new.net c.lower_tasks.new.net
     c.in_ok-cells.field-0.cells c.in_ok-exprs.exprs c.lower_tasks.new.bits c.in_ok-ends.ends c.as_slice.ensures

@@ -1,10 +1,6 @@
 use Rattle.std.proofs.Common.{Result, Ok, Err, List, Option, subst}
 use Rattle.std.specs.Prelude.{OnOk}
-use Rattle.mp_base.specs.declared.refusal.NoMemory.{NoMemory}
-use Rattle.nor_net.specs.declared.net.Part.{Part}
-use Rattle.rtl_form.specs.declared.rtl.Rtl.{Rtl}
 use Rattle.control_nor.specs.declared.rails.Rails.{Rails}
-use Rattle.control_nor.specs.declared.rails.Bits.{Bits}
 use Rattle.control_nor.specs.NextValues.{AreNextValues, AreStored}
 use Rattle.control_nor.specs.Rails.{Named}
 use Rattle.control_nor.proofs.Begins.{all_next}
@@ -18,10 +14,13 @@ pub returns-in-Some : goal.returns-in-Some
 returns-in-Some c =
     weaker (AreStored c.args.rtl.now c.args.bits.now _ c.named.result.bit c.args.net.now c.lower_all_next.new.net)
     (AreNextValues c.args.rtl.now c.args.bits.now c.args.net.now c.lower_all_next.new.net) c.lower_all_next.result
-    (all_next c.args.rtl.now c.args.bits.now c.in-Some.index c.named.result c.args.net.now c.lower_all_next.new.net c.in-Some.is
-    (subst (λ (xs : List (Option Rails)). Named xs c.in-Some.index c.named.result) c.as_slice.ensures c.named.ensures))
+    (all_next c.args.rtl.now c.args.bits.now c.in-Some.index c.named.result c.args.net.now c.lower_all_next.new.net
+    c.in-Some.is
+    (subst (λ (xs : List (Option Rails)). Named xs c.in-Some.index c.named.result) c.as_slice.ensures
+    c.named.ensures))
     c.lower_all_next.ensures
 
 pub returns-in-None : goal.returns-in-None
 returns-in-None c =
-    Rattle.control_nor.proofs.Begins.none_next c.args.rtl.now c.requires.sound c.args.bits.now c.args.net.now c.in-None.is
+    Rattle.control_nor.proofs.Begins.none_next c.args.rtl.now c.requires.sound c.args.bits.now c.args.net.now
+    c.in-None.is

@@ -6,6 +6,8 @@ use Rattle.control_nor.proofs.rails.negations_of.Goals as goal
 
 pub loop-index-preserved : goal.loop-index-preserved
 loop-index-preserved c =
-    subst (AllZip (NegationOf c.args.entries.now) (take (c.loop-index.index-index + 1) c.args.indices.now)) (sym c.in_ok-push.ensures.ok)
-    (zip_more (NegationOf c.args.entries.now) c.args.indices.now c.loop-index.ids c.loop-index.index-index 0 c.named.result.negation
+    subst (AllZip (NegationOf c.args.entries.now) (take (c.loop-index.index-index + 1) c.args.indices.now))
+    (sym c.in_ok-push.ensures.ok)
+    (zip_more (NegationOf c.args.entries.now) c.args.indices.now c.loop-index.ids c.loop-index.index-index 0
+    c.named.result.negation
     c.loop-index-test.true c.loop-index.invariant (c.named.result, c.named.ensures, refl))

@@ -1,5 +1,4 @@
-use Rattle.std.proofs.Common.{◌≡◌, ◌<◌, List, ℕ, length, slice_set, subst, sym, arith, ◌+◌}
-use Rattle.std.specs.Prelude.{slice_index}
+use Rattle.std.proofs.Common.{◌<◌, length, slice_set, subst, sym, arith, ◌+◌}
 use Rattle.control_nor.specs.Turns.{AreCellTurns}
 use Rattle.control_nor.proofs.Turns.{cell_in, cell_turns_more, index_at}
 use Rattle.control_nor.proofs.schedule.cell_turns.Goals as goal
@@ -16,5 +15,6 @@ loop-place-preserved c =
     let l : c.loop-place.place < length c.args.rtl.now.order = omega arith in
     let i = index_at c.args.rtl.now.order c.loop-place.place c.at-cell.result.now l c.at-cell.ensures in
     subst (AreCellTurns c.args.rtl.now (c.loop-place.place + 1)) (sym c.set.ensures)
-    (subst (λ n. AreCellTurns c.args.rtl.now (c.loop-place.place + 1) (slice_set c.loop-place.turns n (c.loop-place.place + 1))) (sym i)
+    (subst (λ n. AreCellTurns c.args.rtl.now (c.loop-place.place + 1)
+    (slice_set c.loop-place.turns n (c.loop-place.place + 1))) (sym i)
     (cell_turns_more c.args.rtl.now c.requires.sound c.loop-place.place c.loop-place.turns l c.loop-place.invariant))

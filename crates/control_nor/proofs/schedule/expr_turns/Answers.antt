@@ -1,5 +1,4 @@
-use Rattle.std.proofs.Common.{◌≡◌, ◌<◌, ◌+◌, ◌++◌, ◌∷◌, [], List, ℕ, length, subst, sym, ap, ◌∙◌, get_or, arith}
-use Rattle.std.specs.Prelude.{All}
+use Rattle.std.proofs.Common.{◌+◌, List, ℕ, length, subst, sym, ap, arith}
 use Rattle.rtl_form.specs.declared.rtl.RtlExpr.{RtlExpr}
 use Rattle.rtl_form.specs.Entries.{IsAt}
 use Rattle.control_nor.specs.Turns.{AreExprTurns, IsExprTurn}
@@ -11,7 +10,8 @@ expr_turn-requires-clause-args c op k args is i d l =
     let at : IsAt c.args.rtl.now.exprs c.loop-expr.expr-index c.expr-item.result =
     subst (λ (xs : List RtlExpr). IsAt xs c.loop-expr.expr-index c.expr-item.result) c.as_slice-expr-items.ensures
     (c.loop-expr-test.true, c.expr-item.is) in
-    let b = args_below c.args.rtl.now c.requires.sound c.loop-expr.expr-index c.expr-item.result at op k args is i d l in
+    let b = args_below c.args.rtl.now c.requires.sound c.loop-expr.expr-index c.expr-item.result at op k args is i d
+    l in
     let n = c.loop-expr.invariant.count in
     let s = ap length c.as_slice.ensures in omega (arith, b, n, s)
 
@@ -21,6 +21,8 @@ loop-expr-preserved c =
     subst (λ (xs : List RtlExpr). IsAt xs c.loop-expr.expr-index c.expr-item.result) c.as_slice-expr-items.ensures
     (c.loop-expr-test.true, c.expr-item.is) in
     subst (AreExprTurns c.args.rtl.now c.args.cells.now (c.loop-expr.expr-index + 1)) (sym c.in_ok-push.ensures.ok)
-    (expr_turns_more c.args.rtl.now c.requires.sound c.args.cells.now c.loop-expr.expr-index c.expr_turn.result c.expr-item.result
+    (expr_turns_more c.args.rtl.now c.requires.sound c.args.cells.now c.loop-expr.expr-index c.expr_turn.result
+    c.expr-item.result
     c.loop-expr.turns at c.loop-expr.invariant
-    (subst (λ (ts : List ℕ). IsExprTurn c.args.cells.now ts c.expr-item.result c.expr_turn.result) c.as_slice.ensures c.expr_turn.ensures))
+    (subst (λ (ts : List ℕ). IsExprTurn c.args.cells.now ts c.expr-item.result c.expr_turn.result) c.as_slice.ensures
+    c.expr_turn.ensures))

@@ -6,4 +6,5 @@ use Rattle.control_nor.proofs.schedule.latest.Goals as goal
 pub loop-arg-preserved : goal.loop-arg-preserved
 loop-arg-preserved c =
     subst (IsLatest c.args.turns.now (take (c.loop-arg.arg-index + 1) c.args.args.now)) (sym c.later-last.ensures)
-    (latest_more c.args.turns.now c.args.args.now c.loop-arg.arg-index 0 c.loop-arg.last c.loop-arg-test.true c.loop-arg.invariant)
+    (latest_more c.args.turns.now c.args.args.now c.loop-arg.arg-index 0 c.loop-arg.last c.loop-arg-test.true
+    c.loop-arg.invariant)

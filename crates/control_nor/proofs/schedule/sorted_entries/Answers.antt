@@ -5,4 +5,5 @@ use Rattle.control_nor.proofs.schedule.sorted_entries.Goals as goal
 
 pub returns-clause-rising : goal.returns-clause-rising
 returns-clause-rising c =
-    IsNonDecreasingBy-from_sort_by_key (λ (e : Entry). e.moment) _ c.sort_unstable_by_key.ensures.sorted (λ a r q k. search rules)
+    IsNonDecreasingBy-from_sort_by_key (λ (e : Entry). e.moment) _ c.sort_unstable_by_key.ensures.sorted
+    (λ a r q k. search rules)

@@ -8,5 +8,6 @@ pub lower_driven-requires-clause-named : goal.lower_driven-requires-clause-named
 lower_driven-requires-clause-named c =
     let named = c.requires.named c.if-cell.false in
     subst (All (IsTransferNamed c.args.exprs.now))
-    (sym (c.as_slice-2.ensures ∙ (c.in_ok-transfers.ensures ∙ ap (λ (ts : List Transfer). transfers_to ts c.args.index) c.as_slice.ensures)))
+    (sym (c.as_slice-2.ensures ∙ (c.in_ok-transfers.ensures
+    ∙ ap (λ (ts : List Transfer). transfers_to ts c.args.index) c.as_slice.ensures)))
     named

@@ -1,4 +1,4 @@
-use Rattle.std.proofs.Common.{◌≡◌, List, false, Option, subst, sym, ap, ◌∙◌}
+use Rattle.std.proofs.Common.{List, Option, subst, sym, ap, ◌∙◌}
 use Rattle.std.specs.Prelude.{All}
 use Rattle.rtl_form.specs.declared.rtl.Cell as cells
 use Rattle.rtl_form.proofs.Members.{one_entry}
@@ -12,6 +12,8 @@ pub lower_cell-requires-clause-named : goal.lower_cell-requires-clause-named
 lower_cell-requires-clause-named c word =
     let r : IsTaskReady c.args.rtl.now c.args.bits.now (Cell c.in-Cell.index) c.args.net.now =
     subst (λ t. IsTaskReady c.args.rtl.now c.args.bits.now t c.args.net.now) c.in-Cell.is c.requires.ready in
-    let same = one_entry c.args.rtl.now.cells c.in-Cell.index r.0 c.at-cell.result.now r.1 (r.1.0, c.at-cell.ensures) in
-    subst (λ (es : List (Option Rails)). All (IsTransferNamed es) (transfers_to c.args.rtl.now.transfers c.in-Cell.index))
+    let same = one_entry c.args.rtl.now.cells c.in-Cell.index r.0 c.at-cell.result.now r.1
+    (r.1.0, c.at-cell.ensures) in
+    subst (λ (es : List (Option Rails)). All (IsTransferNamed es)
+    (transfers_to c.args.rtl.now.transfers c.in-Cell.index))
     (sym c.as_slice-in-Cell.ensures) (r.2 (ap (λ (x : cells.Cell). x.word) same ∙ word)).0
