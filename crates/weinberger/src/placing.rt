@@ -48,6 +48,7 @@ pub fn place(alloc: Global, net: &Net, fabric: &mut Fabric, band: &Band) -> Resu
     requires space { HasSpace fabric.old net.now }
     ensures { IfOk result (λ placed. IsPlaced band.now net.now fabric.old fabric.new placed) }
 {
+    // What every fabric and every net keeps.
     fabric.conditions();
     let _nets = net.len();
     let layout = lay_out(alloc, net, band)?;
