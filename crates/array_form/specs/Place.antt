@@ -81,6 +81,8 @@ pub record IsPlaced (band : Band) (parts : List Part) (old new : Plan) (placed :
   pub groups : placed.groups ≡ tracks ∷ []
   pub are_tracks : AreTracks (columns_in band parts) parts (cols_in (columns_in band parts) parts)
       (slice_index tracks.row) tracks.rows
+  pub long : length tracks.row ≡ length parts + 3
+  pub density : IsDensity (intervals_in (columns_in band parts) parts) tracks.rows tracks.column
   pub after : new ≡ with_net old band.index (columns_in band parts) parts (cols_in (columns_in band parts) parts)
       (slice_index tracks.row)
   pub told : placed.segments ≡ map

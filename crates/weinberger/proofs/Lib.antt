@@ -1,9 +1,9 @@
-pub mod Growing
-pub mod Distinct
-pub mod BandPins
-pub mod Homing
-pub mod SpanSteps
-pub mod Spanning
-pub mod Feeding
-pub mod Rowed
-pub mod Intervals
+mod Growing
+mod Distinct
+mod BandPins
+mod Homing
+mod SpanSteps
+mod Spanning
+mod Feeding
+mod Rowed
+mod Intervals

@@ -57,6 +57,7 @@ fn tracks_by(alloc: Global, net: &Net, band: &Band, spans: &[Interval]) -> Resul
     requires spans { spans.now ≡ intervals_in (columns_in band.now net.now) net.now }
     ensures { IfOk result (λ tracks. AreTracksOf band.now net.now tracks) }
 {
+    // What every net keeps.
     let _nets = net.len();
     let tracks = pack(alloc, spans)?;
     Ok(tracks)
@@ -67,6 +68,7 @@ pub(crate) fn lay_out(alloc: Global, net: &Net, band: &Band) -> Result<Layout, N
     requires { IsBandOf band.now net.now }
     ensures { IfOk result (λ layout. IsLayout band.now net.now layout) }
 {
+    // What every net keeps.
     let _nets = net.len();
     let mut pins = pins(alloc, net, band)?;
     let homes = homes_by(alloc, net, band, &pins)?;

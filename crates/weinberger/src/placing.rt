@@ -15,9 +15,10 @@ use nor_net::Net;
 use std::alloc::Global;
 use track_assign::Tracks;
 
-/// How many columns a fabric wants, and how many signal rows the band, for a net to be placed there. Behind the columns
-/// of the phases and the taps stands one for each gate, each latch and each input that nothing reads or taps, and the
-/// last is power's; above the row of ground stand as many rows as segments of nets and phases lie over one column.
+/// How many columns a fabric wants, and how many signal rows the band, for a net to be placed there. Behind the
+/// columns of the phases and the taps stands one for each gate, each latch and each input that nothing reads or taps,
+/// and the last is power's; above the row of ground stand as many rows as segments of nets and phases lie over one
+/// column.
 ///
 /// # Errors
 /// Want of memory.
@@ -35,8 +36,8 @@ pub fn measure(alloc: Global, net: &Net, band: &Band) -> Result<Size, NoMemory>
 /// Places a net in a band of a fabric (Weinberger's array of NOR gates; Mead and Conway, chapter 3). Each net and each
 /// phase has a segment of metal in a row. Each gate and each latch has a column with two lines: a gate's left line is
 /// tapped to its segment and has a pull-up, its right line is ground, and a transistor in the row of each net that the
-/// gate reads can join them; a latch's right line is tapped to its data, and a transistor in the row of its phase joins
-/// it to the left one. An input that nothing reads or taps has a line of its own.
+/// gate reads can join them; a latch's right line is tapped to its data, and a transistor in the row of its phase
+/// joins it to the left one. An input that nothing reads or taps has a line of its own.
 ///
 /// The marks of taps and the lines of phases are the caller's.
 ///
@@ -48,6 +49,7 @@ pub fn place(alloc: Global, net: &Net, fabric: &mut Fabric, band: &Band) -> Resu
     requires space { HasSpace fabric.old net.now }
     ensures { IfOk result (λ placed. IsPlaced band.now net.now fabric.old fabric.new placed) }
 {
+    // What every fabric and every net keeps.
     fabric.conditions();
     let _nets = net.len();
     let layout = lay_out(alloc, net, band)?;

@@ -22,6 +22,8 @@ returns c =
       tracks = tracks;
       groups = c.in_ok-placed.ensures.groups;
       are_tracks = c.in_ok-layout.ensures.tracks.apart;
+      long = c.in_ok-layout.ensures.tracks.rows.long;
+      density = c.in_ok-layout.ensures.tracks.density;
       after = c.in_ok-add.ensures;
       told = c.in_ok-placed.ensures.segments
           ∙ ap (λ (l : List Segment). l ∷ []) (ap (take (length parts)) c.in_ok-added.ensures.segments
