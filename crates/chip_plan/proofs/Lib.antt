@@ -1,1 +1,5 @@
-
+mod Adding
+mod Bytes
+mod Placing
+mod Standing
+mod Writing
