@@ -112,15 +112,12 @@ pads_labels (p ∷ ps) h =
 
 supplies_plain : ArePlain supplies
 supplies_plain =
-    All-cons IsPlainName (codes "vdd") _ (run (codes "vdd") refl)
-    (All-cons IsPlainName (codes "gnd") _ (run (codes "gnd") refl)
-    (All-cons IsPlainName (codes "phia") _ (run (codes "phia") refl)
-    (All-cons IsPlainName (codes "phib") _ (run (codes "phib") refl)
+    All-cons IsPlainName (codes "vdd") (codes "gnd" ∷ codes "phia" ∷ codes "phib" ∷ codes "phic" ∷ [])
+    (run (codes "vdd") refl)
+    (All-cons IsPlainName (codes "gnd") (codes "phia" ∷ codes "phib" ∷ codes "phic" ∷ []) (run (codes "gnd") refl)
+    (All-cons IsPlainName (codes "phia") (codes "phib" ∷ codes "phic" ∷ []) (run (codes "phia") refl)
+    (All-cons IsPlainName (codes "phib") (codes "phic" ∷ []) (run (codes "phib") refl)
     (All-cons IsPlainName (codes "phic") [] (run (codes "phic") refl) (All-nil IsPlainName)))))
-
-truth : (b : Bool) → IsTrue b → b ≡ true
-truth true h = refl
-truth false h = absurd h
 
 -- the names of pads, of which each is a run
 named : (pads : List Pad)
@@ -128,7 +125,7 @@ named : (pads : List Pad)
     → All (λ (p : Pad). IsPlainName p.name) pads
 named [] h i d l = absurd (omega arith)
 named (p ∷ ps) h zero d l =
-    run p.name (and_parts (is_run p.name) (not (is_supply p.name)) (truth (is_pad_name p.name) (h 0 (omega arith)))).0
+    run p.name (and_parts (is_run p.name) (not (is_supply p.name)) (h 0 (omega arith))).0
 named (p ∷ ps) h (suc i) d l = named ps (λ j k. h (suc j) (omega arith)) i d (omega arith)
 
 pub labels_plain : (pads : Pads) → ArePlain (chip_labels pads)

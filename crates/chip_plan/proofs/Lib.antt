@@ -1,3 +1,4 @@
+mod Counted
 mod Adding
 mod Bytes
 mod Placing

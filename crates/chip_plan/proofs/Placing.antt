@@ -11,7 +11,7 @@ use Rattle.fabric.specs.declared.thing.Mark.{Mark}
 use Rattle.fabric.specs.declared.thing.Segment.{Segment}
 use Rattle.fabric.specs.Counted.{mark_size, rectangle_count, thing_count}
 use Rattle.fabric.specs.Plan.{Plan, bands, rows_of}
-use Rattle.fabric.specs.Shape.{base}
+use Rattle.fabric.specs.Shape.{base, shape}
 use Rattle.nor_net.specs.declared.net.Part.{Part}
 use Rattle.nor_net.specs.declared.net.Phase.{Phase}
 use Rattle.nor_net.specs.declared.net.Phase.TheVariants.{A, B, C}
@@ -25,6 +25,7 @@ use Rattle.array_form.proofs.Homes.{count_most}
 use Rattle.flat_chip.specs.Flat.{phase_line, phase_tap, of_phases}
 use Rattle.flat_chip.specs.Laid.{IsLaid, nowhere}
 use Rattle.chip_plan.specs.Chips.{most_net_rects}
+use Rattle.chip_plan.proofs.Counted.{rectangles}
 
 module _ (parts : List Part) (f : Plan) (laid : IsLaid parts f) where
   abbrev y : Columns
@@ -70,7 +71,7 @@ module _ (parts : List Part) (f : Plan) (laid : IsLaid parts f) where
   pub segment_at : (n : ℕ) → n < length parts → get_or f.segments n nowhere ≡ band_segment 0 cols row n
   segment_at n h =
       ap (λ (ss : List Segment). get_or ss n nowhere) segments_are
-      ∙ get_or-map-range_with_len (band_segment b cols row) 0 (length parts + 3) n n nowhere (omega (arith, h)) refl
+      ∙ get_or-map-range_with_len (band_segment b cols row) 0 (length parts + 3) n n nowhere (omega (arith, h)) (omega arith)
       ∙ ap (λ c. band_segment c cols row n) (laid.is_flat).index
 
   pub line_in : (ph : Phase) → Contains f.lines (phase_line ph)
@@ -105,10 +106,10 @@ module _ (parts : List Part) (f : Plan) (laid : IsLaid parts f) where
       let t : sum_by mark_size taps ≡ 3 = refl in
       let l = marks_few b top row y parts in omega (arith, e, a, t, l)
 
-  pub rects_few : rectangle_count f ≤ most_net_rects parts
+  pub rects_few : length (shape f) ≤ most_net_rects parts
   rects_few =
       let o = one_band in let s = segment_count in let l = line_count in let m = mark_rects_few in
-      omega (arith, o, s, l, m)
+      let e = rectangles f in omega (arith, o, s, l, m, e)
 
   -- ---- its size
 
@@ -127,4 +128,6 @@ module _ (parts : List Part) (f : Plan) (laid : IsLaid parts f) where
   rows_few = let e = ap (λ rs. get_or rs 0 0) rows_are in let h = laid.height in omega (arith, e, h)
 
   pub height : base f (bands f) ≡ 12 * rows_of f 0 + 36
-  height = ap (base f) one_band
+  height =
+      ap (base f) one_band
+      ∙ (let e : 0 + (12 * rows_of f 0 + 36) ≡ 12 * rows_of f 0 + 36 = omega arith in e)

@@ -77,9 +77,9 @@ on_nets : (f : Plan) (number : Net → ℕ) (place : Point → ℕ) (at : List P
     → AllZip (IsAt f number place) at labels → All (IsOnNet f) labels
 on_nets f number place [] [] z i d h = absurd (omega arith)
 on_nets f number place [] (l ∷ ls) z i d h = absurd z
-on_nets f number place (a ∷ as) [] z i d h = absurd z
-on_nets f number place (a ∷ as) (l ∷ ls) z zero d h = record { net = z.0.net; is = z.0.is; on = z.0.on }
-on_nets f number place (a ∷ as) (l ∷ ls) z (suc i) d h = on_nets f number place as ls z.1 i d (omega arith)
+on_nets f number place (a ∷ rest) [] z i d h = absurd z
+on_nets f number place (a ∷ rest) (l ∷ ls) z zero d h = record { net = z.0.net; is = z.0.is; on = z.0.on }
+on_nets f number place (a ∷ rest) (l ∷ ls) z (suc i) d h = on_nets f number place rest ls z.1 i d (omega arith)
 
 module _ (parts : List Part) (f : Plan) (laid : IsLaid parts f) (lawful : IsFabric f) where
   is_net : (at : Point) → IsThere (length parts) at → IsNet f (net_at f at)

@@ -7,9 +7,10 @@ ghost use Rattle.mp_base.specs.PadNames.{supplies};
 ghost use Rattle.switch_net.specs.Pads.{bit_labels, chip_labels, word_labels};
 ghost use Rattle.nor_net.specs.declared.net.Phase.TheVariants.{A, B, C};
 ghost use Rattle.drawing.specs.Draws.{Ground, Power, OfNet, OfPhase};
+ghost use Rattle.fabric.specs.Plan.{Plan};
 ghost use Rattle.path_form.specs.Flat.{rows_of};
 ghost use Rattle.chip_laws.specs.Laws.{names_of, points};
-ghost use Rattle.chip_plan.specs.Labels.{Adds, AreBelow, AreBitsOf, IsAtPoint, points_of, points_in};
+ghost use Rattle.chip_plan.specs.Labels.{Adds, AreBelow, AreBitsOf, IsAtPoint, points_in, points_of};
 
 use crate::places::{ground_label, net_label, phase_label, power_label};
 use fabric::{ChipLabel, Fabric};
@@ -25,7 +26,7 @@ fn bit_name(alloc: Global, name: &[u8], k: u8) -> Result<Name, NoMemory>
 {
     let mut buffer = Buffer::new();
     let mut text = Vec::from_slice(alloc, name)?;
-    text.push(b'.')?;
+    text.extend_from_slice(b".")?;
     text.extend_from_slice(buffer.format(k).as_bytes())?;
     Ok(Name::from_vec(text))
 }
@@ -45,8 +46,8 @@ fn add_word(
     ensures { OnOk result (Adds fabric.now (points_of bits.now) (word_labels name.now width) labels.old labels.new) }
 {
     for k in 0..width {
-        let name = bit_name(alloc, name, k)?;
-        labels.push(net_label(fabric, bits[usize::from(k)], name))?;
+        let label = net_label(fabric, bits[k as usize], bit_name(alloc, name, k)?);
+        labels.push(label)?;
     }
     Ok(())
 }
@@ -65,8 +66,8 @@ fn add_pad(
     ensures { OnOk result (Adds fabric.now (points_of bits.now) (bit_labels pad.now) labels.old labels.new) }
 {
     if pad.width == 0 {
-        let name = Name::from_slice(alloc, pad.name.bytes())?;
-        labels.push(net_label(fabric, bits[0], name))?;
+        let label = net_label(fabric, bits[0], Name::from_slice(alloc, pad.name.bytes())?);
+        labels.push(label)?;
         Ok(())
     } else {
         add_word(alloc, labels, fabric, pad.name.bytes(), bits, pad.width)
@@ -97,8 +98,7 @@ fn clock_label(alloc: Global, phase: Phase, name: &[u8]) -> Result<ChipLabel, No
     ensures named { IfOk result (λ label. label.name ≡ name.now) }
     ensures there { IfOk result (λ label. (f : Plan) → IsAtPoint f (OfPhase phase) label) }
 {
-    let name = Name::from_slice(alloc, name)?;
-    Ok(phase_label(phase, name))
+    Ok(phase_label(phase, Name::from_slice(alloc, name)?))
 }
 
 // The labels of the supplies and phases.
