@@ -4,3 +4,4 @@ mod Bytes
 mod Placing
 mod Standing
 mod Writing
+mod Sizes

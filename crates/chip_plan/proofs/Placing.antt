@@ -1,15 +1,13 @@
 -- What the fabric of a net in one band is: its segments, its lines, and how many rectangles it draws.
-use Rattle.std.proofs.Common.{◌≡◌, ℕ, suc, ◌+◌, ◌*◌, ◌<◌, ◌≤◌, List, [], ◌∷◌, ◌++◌, length, map, get_or, refl, sym, ◌∙◌, ap, subst, arith}
+use Rattle.std.proofs.Common.{◌≡◌, ℕ, ◌+◌, ◌*◌, ◌<◌, ◌≤◌, List, [], ◌∷◌, ◌++◌, length, map, get_or, refl, sym, ◌∙◌, ap, subst, arith}
 use Rattle.std.specs.Prelude.{Contains, max, slice_index}
-use Rattle.std.specs.List.{range_with_len, sum_by}
+use Rattle.std.specs.List.{sum_by}
 use Rattle.std.proofs.lemmas.List.{append-nil, length-append}
 use Rattle.std.proofs.lemmas.List.Elements.{Contains-append_right}
 use Rattle.std.proofs.lemmas.List.FromFn.{get_or-map-range_with_len}
 use Rattle.std.proofs.lemmas.List.Sums.{sum_by-append}
-use Rattle.fabric.specs.declared.thing.Line.{Line}
-use Rattle.fabric.specs.declared.thing.Mark.{Mark}
 use Rattle.fabric.specs.declared.thing.Segment.{Segment}
-use Rattle.fabric.specs.Counted.{mark_size, rectangle_count, thing_count}
+use Rattle.fabric.specs.Counted.{mark_size, thing_count}
 use Rattle.fabric.specs.Plan.{Plan, bands, rows_of}
 use Rattle.fabric.specs.Shape.{base, shape}
 use Rattle.nor_net.specs.declared.net.Part.{Part}

@@ -1,10 +1,9 @@
 -- The labels of a chip stand on the nets of their points, so the chip is laid out.
-use Rattle.std.proofs.Common.{◌≡◌, ◌≢◌, inl, inr, ℕ, zero, suc, ◌+◌, ◌<◌, ◌≤◌, List, [], ◌∷◌, ◌++◌, length, map, get_or, refl, sym, ◌∙◌, ap, subst, arith}
-use Rattle.std.specs.Prelude.{All, AllPairs, flat_map, slice_index}
+use Rattle.std.proofs.Common.{◌≡◌, ◌≢◌, inl, inr, ℕ, zero, suc, ◌<◌, List, [], ◌∷◌, length, map, refl, sym, ◌∙◌, ap, subst, arith}
+use Rattle.std.specs.Prelude.{All, AllPairs, slice_index}
 use Rattle.std.specs.List.{AllZip}
 use Rattle.std.proofs.lemmas.List.Elements.{All-contains, Contains-get_or}
 use Rattle.mp_base.specs.declared.pad.Pads.{Pads}
-use Rattle.lam_geom.specs.declared.label.FlatLabel.{FlatLabel}
 use Rattle.lam_geom.specs.declared.rect.Rect.{Rect}
 use Rattle.switch_net.specs.declared.network.Network.{Network}
 use Rattle.switch_net.specs.Pads.{chip_labels}
@@ -13,7 +12,6 @@ use Rattle.nor_net.specs.declared.net.Part.{Part}
 use Rattle.nor_net.specs.Elements.{Spot, spot, nets_of}
 use Rattle.drawing.specs.Draws.{Draws, HasOwnNode, Point, OfNet, Ground, Power, OfPhase}
 use Rattle.fabric.specs.declared.chip.ChipLabel.{ChipLabel}
-use Rattle.fabric.specs.Labelled.{AreLabelsOf}
 use Rattle.fabric.specs.Plan.{Plan, IsFabric}
 use Rattle.fabric.specs.Shape.{shape}
 use Rattle.fabric.specs.Switches.{Net, IsNet, AreSwitches}

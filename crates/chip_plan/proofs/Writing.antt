@@ -1,8 +1,7 @@
 -- The chip can be written: its corners are on whole lambda and near enough, and its labels are plain.
-use Rattle.std.proofs.Common.{◌≡◌, ◌⊎◌, inl, inr, ℕ, zero, suc, ◌+◌, ◌*◌, ◌<◌, ◌≤◌, ◌^◌, List, [], ◌∷◌, length, map, get_or, refl, sym, ◌∙◌, ap, subst, arith}
-use Rattle.std.specs.Prelude.{All, ℤ, pos, nat_abs, ◌-◌}
+use Rattle.std.proofs.Common.{◌≡◌, ◌⊎◌, inl, inr, ℕ, zero, suc, ◌+◌, ◌*◌, ◌<◌, ◌≤◌, ◌^◌, List, [], ◌∷◌, length, get_or, sym, ap, subst, arith}
+use Rattle.std.specs.Prelude.{All, ℤ, pos}
 use Rattle.std.specs.List.{AllZip}
-use Rattle.std.proofs.lemmas.Int.{ints}
 use Rattle.std.proofs.lemmas.List.Elements.{All-contains, Contains-get_or}
 use Rattle.lam_geom.specs.declared.rect.Rect.{Rect}
 use Rattle.lam_geom.specs.declared.layer.Layer.TheVariants.{NM, NP, ND}
@@ -10,21 +9,17 @@ use Rattle.lam_geom.specs.Extent.{lambda}
 use Rattle.cif_form.specs.Fits.{IsSmall}
 use Rattle.nor_net.specs.declared.net.NetId.{NetId}
 use Rattle.nor_net.specs.declared.net.Part.{Part}
-use Rattle.nor_net.specs.declared.net.Phase.{Phase}
 use Rattle.nor_net.specs.declared.net.Phase.TheVariants.{A, B, C}
 use Rattle.drawing.specs.Draws.{Point, OfNet, Ground, Power, OfPhase}
 use Rattle.fabric.specs.declared.chip.ChipLabel.{ChipLabel}
-use Rattle.fabric.specs.declared.thing.Segment.{Segment}
-use Rattle.fabric.specs.Plan.{Plan, IsFabric, IsSegment, bands, rows_of}
+use Rattle.fabric.specs.Plan.{Plan, IsFabric, IsSegment, rows_of}
 use Rattle.fabric.specs.Shape.{base, last_column, shape}
-use Rattle.array_form.specs.Homes.{phase_number}
 use Rattle.path_form.specs.Flat.{rows_of as spots_of}
 use Rattle.flat_chip.specs.Laid.{IsLaid, nowhere}
-use Rattle.chip_laws.specs.Labels.{corner_of}
 use Rattle.chip_laws.specs.Laws.{names_of, points}
 use Rattle.cif_emit.specs.Emittable.{FabricsAreOnGrid, IsEmittable, IsOnGrid, IsPlainLabel, farthest}
 use Rattle.chip_plan.specs.Chips.{IsDrawableNet}
-use Rattle.chip_plan.specs.Labels.{AreBelow, IsAtPoint, net_at}
+use Rattle.chip_plan.specs.Labels.{AreBelow, IsAtPoint}
 use Rattle.chip_plan.proofs.Bytes.{IsPlainName}
 use Rattle.chip_plan.proofs.Placing.{columns_few, height, one_band, rows_few, segment_count}
 use Rattle.chip_plan.proofs.Standing.{IsThere, points_there, zip_weaker}

@@ -1,4 +1,4 @@
-use Rattle.std.proofs.Common.{◌<◌, ◌++◌, ◌∷◌, [], ◌∙◌, sym, subst, arith}
+use Rattle.std.proofs.Common.{◌∙◌, sym, subst, arith}
 use Rattle.switch_net.specs.Pads.{bit_labels}
 use Rattle.nor_net.specs.declared.net.NetId.{NetId}
 use Rattle.chip_plan.specs.Labels.{Adds, points_of}

@@ -1,9 +1,9 @@
-use Rattle.std.proofs.Common.{[], ◌∷◌, ◌++◌, List, subst}
+use Rattle.std.proofs.Common.{[], ◌∷◌, ◌++◌, subst}
 use Rattle.std.specs.Prelude.{flat_map}
 use Rattle.mp_base.specs.PadNames.{supplies}
 use Rattle.switch_net.specs.Pads.{bit_labels}
 use Rattle.nor_net.specs.declared.net.Phase.TheVariants.{A, B, C}
-use Rattle.drawing.specs.Draws.{Point, Ground, Power, OfPhase}
+use Rattle.drawing.specs.Draws.{Ground, Power, OfPhase}
 use Rattle.path_form.specs.Flat.{rows_of}
 use Rattle.chip_plan.specs.Labels.{Adds, points_in}
 use Rattle.chip_plan.proofs.Adding.{both_added}

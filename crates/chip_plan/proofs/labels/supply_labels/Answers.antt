@@ -1,7 +1,7 @@
-use Rattle.std.proofs.Common.{[], ◌∷◌, ◌++◌, ◌∙◌, List, ℕ, sym, subst}
+use Rattle.std.proofs.Common.{[], ◌∷◌, ◌∙◌, sym, subst}
 use Rattle.std.specs.Prelude.{codes}
 use Rattle.nor_net.specs.declared.net.Phase.TheVariants.{A, B, C}
-use Rattle.drawing.specs.Draws.{Point, Ground, Power, OfPhase}
+use Rattle.drawing.specs.Draws.{Ground, Power, OfPhase}
 use Rattle.chip_plan.specs.Labels.{Adds}
 use Rattle.chip_plan.proofs.Adding.{next_added, none_added}
 use Rattle.chip_plan.proofs.labels.supply_labels.Goals as goal
