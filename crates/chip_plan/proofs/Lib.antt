@@ -1,0 +1,7 @@
+mod Counted
+mod Adding
+mod Bytes
+mod Placing
+mod Standing
+mod Writing
+mod Sizes
