@@ -19,8 +19,8 @@ use Rattle.rtl_form.specs.Trace as rtl
 use Rattle.path_form.specs.Shape.{rank}
 use Rattle.path_form.specs.Showing.{path_nets, pad_bits, pad_spot, FitPads, ShowsTransfers}
 
--- What stands in the flat net for an element, where each net of the path has a number. A net that is set to 0 is a gate
--- on a gate without inputs.
+-- What stands in the flat net for an element, where each net of the path has a number. A net that is set to 0 is a
+-- gate on a gate without inputs.
 abbrev pub IsPartOf : List Part → (Spot → NetId) → Spot → Element → Type 0
 IsPartOf flat of n Given = slice_get flat (of n).0 ≡ Some Input
 IsPartOf flat of n (Nor inputs) = slice_get flat (of n).0 ≡ Some (Gate (map of inputs))
@@ -106,10 +106,11 @@ abbrev pub HasNoOtherInputs : Flattened → Type 0
 HasNoOtherInputs f = (k : Spot) → nets_of f.net k ≡ Some Given
     → (nets : List Spot) × Contains (rows_of f.inputs) nets × Contains nets k
 
--- how many nets and gate inputs one net for a path may have: two gates for each end of a chain and each programmed bit,
--- of which one is counted among the nets of the slice already
+-- how many nets and gate inputs one net for a path may have: two gates for each end of a chain and each programmed
+-- bit, of which one is counted among the nets of the slice already
 pub record IsFewFlat (p : DataPath) (f : Flattened) : Type 0 where
   pub nets : length f.net
       ≤ length p.control + p.width * (length p.slices.net + length p.slices.chains + length p.slices.programs)
   pub inputs : gate_inputs f.net
-      ≤ gate_inputs p.control + p.width * (gate_inputs p.slices.net + length p.slices.chains + length p.slices.programs)
+      ≤ gate_inputs p.control
+      + p.width * (gate_inputs p.slices.net + length p.slices.chains + length p.slices.programs)

@@ -29,9 +29,9 @@ pub struct Piece {
     pub last: u32,
 }
 
-/// The control, `width` slices of one net, and what joins them. Each pad has its net, in `inputs` or `outputs`: a signal
-/// has one in the control, and a word one in each slice, with the same number. `order` has each net of each band once, and
-/// behind those that it depends on, but for the data of latches.
+/// The control, `width` slices of one net, and what joins them. Each pad has its net, in `inputs` or `outputs`: a
+/// signal has one in the control, and a word one in each slice, with the same number. `order` has each net of each band
+/// once, and behind those that it depends on, but for the data of latches.
 #[derive(Drop)]
 pub struct DataPath {
     pub width: u8,

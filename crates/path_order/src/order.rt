@@ -37,7 +37,8 @@ fn add_block(order: &mut List<Piece>, width: u8, from: Mark, to: Mark) -> Result
     add_piece(order, 0, from.control, to.control)
 }
 
-/// The nets from the first to the last mark: between two marks those of each slice in turn, and then those of the control.
+/// The nets from the first to the last mark: between two marks those of each slice in turn, and then those of the
+/// control.
 ///
 /// # Errors
 ///

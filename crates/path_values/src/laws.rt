@@ -1,4 +1,5 @@
-//! Laws of data paths that stand for transfers: a call of one does nothing, and tells the caller's proof what it ensures.
+//! Laws of data paths that stand for transfers: a call of one does nothing, and tells the caller's proof what it
+//! ensures.
 
 ghost use Rattle.path_values.specs.Allocated.{AllocatedRealizes};
 ghost use Rattle.path_values.specs.Realizing.{RealizedShows};
