@@ -78,12 +78,12 @@ bit_added f bits name k d old now label h added n at =
     let e : k + 1 ≡ suc k = omega arith in
     let net = get_or bits k d in
     let t : points_of (take (suc k) bits) ≡ points_of (take k bits) ++ points_of (net ∷ []) =
-        ap points_of (take-suc bits k d h) ∙ points_more (take k bits) (net ∷ []) in
+    ap points_of (take-suc bits k d h) ∙ points_more (take k bits) (net ∷ []) in
     let whole = both_added f (points_of (take k bits)) (points_of (net ∷ [])) (word_labels name k)
-        ((name ++ (codes "." ++ decimal k)) ∷ []) old now (now ++ label ∷ []) added
-        (one_added f (OfNet (spot 0 net)) (name ++ (codes "." ++ decimal k)) now label n at) in
+    ((name ++ (codes "." ++ decimal k)) ∷ []) old now (now ++ label ∷ []) added
+    (one_added f (OfNet (spot 0 net)) (name ++ (codes "." ++ decimal k)) now label n at) in
     subst (λ m. Adds f (points_of (take m bits)) (word_labels name m) old (now ++ label ∷ [])) (sym e)
-        (subst (λ p. Adds f p (word_labels name (suc k)) old (now ++ label ∷ [])) (sym t) whole)
+    (subst (λ p. Adds f p (word_labels name (suc k)) old (now ++ label ∷ [])) (sym t) whole)
 
 -- how many labels a pad has
 word_count : (p : List ℕ) (n : ℕ) → length (word_labels p n) ≡ n
@@ -163,13 +163,13 @@ row_added f pads rows i p r old now new h k before added =
     let e : i + 1 ≡ suc i = omega arith in
     let row = get_or rows i r in let pad = get_or pads i p in
     let t : points_in (rows_of (take (suc i) rows)) ≡ points_in (rows_of (take i rows)) ++ points_of row =
-        ap (λ l. points_in (rows_of l)) (take-suc rows i r k) ∙ points_in_more (take i rows) (row ∷ [])
-        ∙ ap (λ l. points_in (rows_of (take i rows)) ++ l) (append-nil (points_of row)) in
+    ap (λ l. points_in (rows_of l)) (take-suc rows i r k) ∙ points_in_more (take i rows) (row ∷ [])
+    ∙ ap (λ l. points_in (rows_of (take i rows)) ++ l) (append-nil (points_of row)) in
     let n : flat_map bit_labels (take (suc i) pads) ≡ flat_map bit_labels (take i pads) ++ bit_labels pad =
-        ap (flat_map bit_labels) (take-suc pads i p h) ∙ flat_map-append bit_labels (take i pads) (pad ∷ [])
-        ∙ ap (λ l. flat_map bit_labels (take i pads) ++ l) (append-nil (bit_labels pad)) in
+    ap (flat_map bit_labels) (take-suc pads i p h) ∙ flat_map-append bit_labels (take i pads) (pad ∷ [])
+    ∙ ap (λ l. flat_map bit_labels (take i pads) ++ l) (append-nil (bit_labels pad)) in
     let whole = both_added f (points_in (rows_of (take i rows))) (points_of row) (flat_map bit_labels (take i pads))
-        (bit_labels pad) old now new before added in
+    (bit_labels pad) old now new before added in
     subst (λ m. Adds f (points_in (rows_of (take m rows))) (flat_map bit_labels (take m pads)) old new) (sym e)
-        (subst (λ l. Adds f l (flat_map bit_labels (take (suc i) pads)) old new) (sym t)
-        (subst (λ l. Adds f (points_in (rows_of (take i rows)) ++ points_of row) l old new) (sym n) whole))
+    (subst (λ l. Adds f l (flat_map bit_labels (take (suc i) pads)) old new) (sym t)
+    (subst (λ l. Adds f (points_in (rows_of (take i rows)) ++ points_of row) l old new) (sym n) whole))

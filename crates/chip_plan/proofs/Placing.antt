@@ -114,10 +114,10 @@ module _ (parts : List Part) (f : Plan) (laid : IsLaid parts f) where
   pub columns_few : f.columns ≤ length parts + 5
   columns_few =
       let base_is : y.base ≡ 4 =
-          ap (λ c. max (c + 3) (greatest (map (λ (t : Tap). t.column + 1) (laid.band).taps))) (laid.is_flat).first
-          ∙ ap (λ ts. max 4 (greatest (map (λ (t : Tap). t.column + 1) ts))) (laid.is_flat).taps in
+      ap (λ c. max (c + 3) (greatest (map (λ (t : Tap). t.column + 1) (laid.band).taps))) (laid.is_flat).first
+      ∙ ap (λ ts. max 4 (greatest (map (λ (t : Tap). t.column + 1) ts))) (laid.is_flat).taps in
       let e : f.columns ≡ laid.columns =
-          ap (λ (p : Plan). p.columns) laid.is ∙ ap (λ (p : Plan). p.columns) (laid.at).after in
+      ap (λ (p : Plan). p.columns) laid.is ∙ ap (λ (p : Plan). p.columns) (laid.at).after in
       let w = laid.width in
       let k = count_most y.homed (length parts) in
       omega (arith, base_is, e, w, k)

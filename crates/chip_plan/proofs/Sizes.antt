@@ -23,14 +23,14 @@ module _ (cost : ℕ) (p : DataPath) (flat : Flattened) (within : IsWithin cost 
   nets_few =
       let s = within.slices in let j = within.joints in let g = within.programs in
       let m = scaled p.width (length p.slices.net + length p.slices.chains + length p.slices.programs) 3 cost
-          (omega (arith, s, j, g)) in
+      (omega (arith, s, j, g)) in
       let c = within.control in let n = few.nets in omega (arith, m, c, n)
 
   inputs_few : gate_inputs flat.net ≤ 4 * cost + 4 * (p.width * cost)
   inputs_few =
       let s = within.slice_inputs in let j = within.joints in let g = within.programs in
       let m = scaled p.width (gate_inputs p.slices.net + length p.slices.chains + length p.slices.programs) 4 cost
-          (omega (arith, s, j, g)) in
+      (omega (arith, s, j, g)) in
       let c = within.control_inputs in let n = few.inputs in omega (arith, m, c, n)
 
 pub flat_nets_are_drawable : FlatNetsAreDrawable

@@ -58,8 +58,8 @@ points_there nets ins outs a b at (inr (inr (inr (inl e)))) = subst (IsThere net
 points_there nets ins outs a b at (inr (inr (inr (inr (inl e))))) = subst (IsThere nets) e tt
 points_there nets ins outs a b at (inr (inr (inr (inr (inr m))))) =
     elim (member_append (points_in (rows_of ins)) (points_in (rows_of outs)) at m) [
-    | inl k ↦ bits_there nets ins a at k
-    | inr k ↦ bits_there nets outs b at k
+      | inl k ↦ bits_there nets ins a at k
+      | inr k ↦ bits_there nets outs b at k
     ]
 
 -- what holds place by place where all on the left are of a kind
@@ -123,14 +123,14 @@ module _ (parts : List Part) (f : Plan) (laid : IsLaid parts f) (lawful : IsFabr
               subst (λ rs. IsLaidOut rtl flat network node rs labels) (sym same)
               (λ file are. (
                 λ i. fit f lawful labels (subst (AllPairs ◌≢◌) (sym named) differ)
-                (on_nets f number node (points (rows_of ins) (rows_of outs)) labels are_at) file are i,
+                    (on_nets f number node (points (rows_of ins) (rows_of outs)) labels are_at) file are i,
                 few f lawful network number switched
-                (let t = things_few parts f laid in let n = small.nets in let g = small.inputs in omega (arith, t, n, g)),
+                    (let t = things_few parts f laid in let n = small.nets in let g = small.inputs in omega (arith, t, n, g)),
                 λ n is. lays f lawful network number switched rtl.pads (nets_of flat.net) (rows_of flat.inputs) (rows_of flat.outputs) node
-                (subst (λ p. Draws network.channels (nets_of p) node) (sym net_is) drawn.draws)
-                (subst (λ p. (q : Point) → HasOwnNode (nets_of p) q → node q < network.nodes) (sym net_is) drawn.inside)
-                labels (named ∙ ap chip_labels (sym of_pads))
-                (subst (λ o. AllZip (IsAt f number node) (points (rows_of flat.inputs) (rows_of o)) labels) (sym outs_are)
-                (subst (λ o. AllZip (IsAt f number node) (points (rows_of o) (rows_of outs)) labels) (sym ins_are) are_at))
-                file are n is,
+                    (subst (λ p. Draws network.channels (nets_of p) node) (sym net_is) drawn.draws)
+                    (subst (λ p. (q : Point) → HasOwnNode (nets_of p) q → node q < network.nodes) (sym net_is) drawn.inside)
+                    labels (named ∙ ap chip_labels (sym of_pads))
+                    (subst (λ o. AllZip (IsAt f number node) (points (rows_of flat.inputs) (rows_of o)) labels) (sym outs_are)
+                    (subst (λ o. AllZip (IsAt f number node) (points (rows_of o) (rows_of outs)) labels) (sym ins_are) are_at))
+                    file are n is,
               ))

@@ -51,7 +51,7 @@ module _ (parts : List Part) (f : Plan) (laid : IsLaid parts f) (lawful : IsFabr
       let c = segment_count parts f laid in
       let s = get_or f.segments n.net nowhere in
       let is = All-contains (IsSegment f) f.segments s lawful.segments
-          (Contains-get_or f.segments n.net nowhere (omega (arith, c, h.1))) in
+      (Contains-get_or f.segments n.net nowhere (omega (arith, c, h.1))) in
       let b : s.band ≡ 0 = (let o = one_band parts f laid in let w = is.band in omega (arith, o, w)) in
       let foot : base f s.band ≡ 0 = ap (base f) b in
       let rows : rows_of f s.band ≡ rows_of f 0 = ap (rows_of f) b in

@@ -37,10 +37,10 @@ loop-index-preserved c =
     let long = rows_long pads rows c.requires.bits.each in
     let t = c.loop-index-test.true in
     let added : Adds f (points_of (get_or rows i r)) (bit_labels (get_or pads i p)) now new =
-        subst (λ row. Adds f (points_of row) (bit_labels (get_or pads i p)) now new)
-        (c.as_slice.ensures ∙ c.index-rows-index.is)
-        (subst (λ pad. Adds f (points_of c.as_slice.result.now) (bit_labels pad) now new) c.index-pads-index.is
-        c.in_ok-add_pad.ensures) in
+    subst (λ row. Adds f (points_of row) (bit_labels (get_or pads i p)) now new)
+    (c.as_slice.ensures ∙ c.index-rows-index.is)
+    (subst (λ pad. Adds f (points_of c.as_slice.result.now) (bit_labels pad) now new) c.index-pads-index.is
+    c.in_ok-add_pad.ensures) in
     row_added f pads rows i p r c.args.labels.now now new t (omega (arith, long, t)) c.loop-index.invariant added
 
 pub returns : goal.returns
