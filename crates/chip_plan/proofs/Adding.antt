@@ -1,5 +1,6 @@
 -- Labels that are added one by one, and row by row.
-use Rattle.std.proofs.Common.{◌≡◌, ℕ, zero, suc, ◌+◌, ◌<◌, ◌≤◌, List, [], ◌∷◌, ◌++◌, length, map, get_or, take, refl, sym, ◌∙◌, ap, subst, arith}
+use Rattle.std.proofs.Common.{◌≡◌, ℕ, zero, suc, ◌+◌, ◌<◌, ◌≤◌, List, [], ◌∷◌, ◌++◌, length, map, get_or, take}
+use Rattle.std.proofs.Common.{refl, sym, ◌∙◌, ap, subst, arith}
 use Rattle.std.specs.Prelude.{codes, flat_map}
 use Rattle.std.specs.List.{AllZip}
 use Rattle.std.specs.Fmt.{decimal}
@@ -54,7 +55,8 @@ pub both_added : (f : Plan) (at bt : List Point) (names more : List (List ℕ)) 
     → Adds f at names a b → Adds f bt more b c → Adds f (at ++ bt) (names ++ more) a c
 both_added f at bt names more a b c x y = record {
   named = y.named ∙ ap (λ ns. ns ++ more) x.named ∙ append_assoc (names_of a) names more;
-  there = λ before z. subst (λ p. AllZip (IsAtPoint f) p c) (append_assoc before at bt) (y.there (before ++ at) (x.there before z));
+  there = λ before z. subst (λ p. AllZip (IsAtPoint f) p c) (append_assoc before at bt) (y.there (before ++ at)
+      (x.there before z));
 }
 
 pub next_added : (f : Plan) (at : Point) (name : List ℕ) (points : List Point) (names : List (List ℕ))
@@ -62,7 +64,8 @@ pub next_added : (f : Plan) (at : Point) (name : List ℕ) (points : List Point)
     → label.name ≡ name → IsAtPoint f at label → Adds f (points ++ at ∷ []) (names ++ name ∷ []) old new
 next_added f at name points names old now new label added e n h =
     subst (λ l. Adds f (points ++ at ∷ []) (names ++ name ∷ []) old l) (sym e)
-    (both_added f points (at ∷ []) names (name ∷ []) old now (now ++ label ∷ []) added (one_added f at name now label n h))
+    (both_added f points (at ∷ []) names (name ∷ []) old now (now ++ label ∷ []) added (one_added f at name now
+    label n h))
 
 -- ---- the bits of a pad
 
@@ -114,7 +117,8 @@ signal_added f pad bits d old label w n named at =
 -- ---- the rows of pads
 
 -- one row for each pad, with a net for each of its bits
-pub rows_long : (pads : List Pad) (rows : List (List NetId)) → AreRowsOf pads (rows_of rows) → length rows ≡ length pads
+pub rows_long : (pads : List Pad) (rows : List (List NetId)) → AreRowsOf pads (rows_of rows) → length rows ≡ length
+    pads
 rows_long pads rows h =
     sym (length-map rows (λ (row : List NetId). map (spot 0) row))
     ∙ AllZip-long (λ (pad : Pad) (row : List Spot). length (bit_labels pad) ≡ length row) pads (rows_of rows) h
@@ -146,7 +150,8 @@ pub all_added : (f : Plan) (pads : List Pad) (rows : List (List NetId)) (i : ℕ
     → Adds f (points_in (rows_of rows)) (flat_map bit_labels pads) old new
 all_added f pads rows i old new h k added =
     subst (λ l. Adds f (points_in (rows_of l)) (flat_map bit_labels pads) old new) (take_whole rows i k)
-    (subst (λ l. Adds f (points_in (rows_of (take i rows))) (flat_map bit_labels l) old new) (take_whole pads i h) added)
+    (subst (λ l. Adds f (points_in (rows_of (take i rows))) (flat_map bit_labels l) old new) (take_whole pads i h)
+    added)
 
 points_in_more : (rows more : List (List NetId))
     → points_in (rows_of (rows ++ more)) ≡ points_in (rows_of rows) ++ points_in (rows_of more)

@@ -1,5 +1,6 @@
 -- The names of labels have bytes, and none that CIF has for something else.
-use Rattle.std.proofs.Common.{◌≡◌, ◌≢◌, inl, inr, ℕ, zero, suc, ◌<◌, ◌≤◌, ◌^◌, true, false, List, [], ◌∷◌, ◌++◌, length, map, get_or, refl, sym, ◌∙◌, subst, arith}
+use Rattle.std.proofs.Common.{◌≡◌, ◌≢◌, inl, inr, ℕ, zero, suc, ◌<◌, ◌≤◌, ◌^◌, true, false, List, [], ◌∷◌, ◌++◌}
+use Rattle.std.proofs.Common.{length, map, get_or, refl, sym, ◌∙◌, subst, arith}
 use Rattle.std.specs.Prelude.{All, codes, flat_map, IsTrue, not}
 use Rattle.std.specs.Char.{digit_value}
 use Rattle.std.specs.Fmt.{decimal}
@@ -121,7 +122,8 @@ supplies_plain =
 
 -- the names of pads, of which each is a run
 named : (pads : List Pad)
-    → ((i : ℕ) → i < length (map (λ (p : Pad). p.name) pads) → IsTrue (is_pad_name (get_or (map (λ (p : Pad). p.name) pads) i [])))
+    → ((i : ℕ) → i < length (map (λ (p : Pad). p.name) pads)
+    → IsTrue (is_pad_name (get_or (map (λ (p : Pad). p.name) pads) i [])))
     → All (λ (p : Pad). IsPlainName p.name) pads
 named [] h i d l = absurd (omega arith)
 named (p ∷ ps) h zero d l =
@@ -136,11 +138,13 @@ labels_plain pads =
     (pads_labels pads.inputs (first pads.inputs pads.outputs all)))
     (pads_labels pads.outputs (second pads.inputs pads.outputs all))
   where
-    first : (xs ys : List Pad) → All (λ (p : Pad). IsPlainName p.name) (xs ++ ys) → All (λ (p : Pad). IsPlainName p.name) xs
+    first : (xs ys : List Pad) → All (λ (p : Pad). IsPlainName p.name) (xs ++ ys)
+        → All (λ (p : Pad). IsPlainName p.name) xs
     first [] ys h i d l = absurd (omega arith)
     first (x ∷ xs) ys h zero d l = h 0 d (omega arith)
     first (x ∷ xs) ys h (suc i) d l = first xs ys (λ j e k. h (suc j) e (omega arith)) i d (omega arith)
 
-    second : (xs ys : List Pad) → All (λ (p : Pad). IsPlainName p.name) (xs ++ ys) → All (λ (p : Pad). IsPlainName p.name) ys
+    second : (xs ys : List Pad) → All (λ (p : Pad). IsPlainName p.name) (xs ++ ys)
+        → All (λ (p : Pad). IsPlainName p.name) ys
     second [] ys h = h
     second (x ∷ xs) ys h = second xs ys (λ j e k. h (suc j) e (omega arith))

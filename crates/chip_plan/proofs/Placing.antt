@@ -1,5 +1,6 @@
 -- What the fabric of a net in one band is: its segments, its lines, and how many rectangles it draws.
-use Rattle.std.proofs.Common.{◌≡◌, ℕ, ◌+◌, ◌*◌, ◌<◌, ◌≤◌, List, [], ◌∷◌, ◌++◌, length, map, get_or, refl, sym, ◌∙◌, ap, subst, arith}
+use Rattle.std.proofs.Common.{◌≡◌, ℕ, ◌+◌, ◌*◌, ◌<◌, ◌≤◌, List, [], ◌∷◌, ◌++◌, length, map, get_or, refl, sym, ◌∙◌}
+use Rattle.std.proofs.Common.{ap, subst, arith}
 use Rattle.std.specs.Prelude.{Contains, max, slice_index}
 use Rattle.std.specs.List.{sum_by}
 use Rattle.std.proofs.lemmas.List.{append-nil, length-append}
@@ -69,7 +70,8 @@ module _ (parts : List Part) (f : Plan) (laid : IsLaid parts f) where
   pub segment_at : (n : ℕ) → n < length parts → get_or f.segments n nowhere ≡ band_segment 0 cols row n
   segment_at n h =
       ap (λ (ss : List Segment). get_or ss n nowhere) segments_are
-      ∙ get_or-map-range_with_len (band_segment b cols row) 0 (length parts + 3) n n nowhere (omega (arith, h)) (omega arith)
+      ∙ get_or-map-range_with_len (band_segment b cols row) 0 (length parts + 3) n n nowhere (omega (arith, h))
+      (omega arith)
       ∙ ap (λ c. band_segment c cols row n) (laid.is_flat).index
 
   pub line_in : (ph : Phase) → Contains f.lines (phase_line ph)

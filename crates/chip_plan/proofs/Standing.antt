@@ -1,5 +1,6 @@
 -- The labels of a chip stand on the nets of their points, so the chip is laid out.
-use Rattle.std.proofs.Common.{◌≡◌, ◌≢◌, inl, inr, ℕ, zero, suc, ◌<◌, List, [], ◌∷◌, length, map, refl, sym, ◌∙◌, ap, subst, arith}
+use Rattle.std.proofs.Common.{◌≡◌, ◌≢◌, inl, inr, ℕ, zero, suc, ◌<◌, List, [], ◌∷◌, length, map, refl, sym, ◌∙◌}
+use Rattle.std.proofs.Common.{ap, subst, arith}
 use Rattle.std.specs.Prelude.{All, AllPairs, slice_index}
 use Rattle.std.specs.List.{AllZip}
 use Rattle.std.proofs.lemmas.List.Elements.{All-contains, Contains-get_or}
@@ -105,7 +106,8 @@ module _ (parts : List Part) (f : Plan) (laid : IsLaid parts f) (lawful : IsFabr
         where
           are_at : AllZip (IsAt f number node) (points (rows_of ins) (rows_of outs)) labels
           are_at =
-              zip_weaker (IsThere (length parts)) (IsAtPoint f) (IsAt f number node) (points (rows_of ins) (rows_of outs)) labels
+              zip_weaker (IsThere (length parts)) (IsAtPoint f) (IsAt f number node) (points (rows_of ins) (rows_of
+              outs)) labels
               (points_there (length parts) ins outs a b)
               (λ at label h c. record {
                 net = net_at f at;
@@ -125,12 +127,21 @@ module _ (parts : List Part) (f : Plan) (laid : IsLaid parts f) (lawful : IsFabr
                 λ i. fit f lawful labels (subst (AllPairs ◌≢◌) (sym named) differ)
                     (on_nets f number node (points (rows_of ins) (rows_of outs)) labels are_at) file are i,
                 few f lawful network number switched
-                    (let t = things_few parts f laid in let n = small.nets in let g = small.inputs in omega (arith, t, n, g)),
-                λ n is. lays f lawful network number switched rtl.pads (nets_of flat.net) (rows_of flat.inputs) (rows_of flat.outputs) node
+                    (let t = things_few parts f laid in let n = small.nets in let g = small.inputs in omega (
+                      arith,
+                      t,
+                      n,
+                      g,
+                    )),
+                λ n is. lays f lawful network number switched rtl.pads (nets_of flat.net) (rows_of flat.inputs)
+                    (rows_of flat.outputs) node
                     (subst (λ p. Draws network.channels (nets_of p) node) (sym net_is) drawn.draws)
-                    (subst (λ p. (q : Point) → HasOwnNode (nets_of p) q → node q < network.nodes) (sym net_is) drawn.inside)
+                    (subst (λ p. (q : Point) → HasOwnNode (nets_of p) q → node q < network.nodes) (sym net_is)
+                    drawn.inside)
                     labels (named ∙ ap chip_labels (sym of_pads))
-                    (subst (λ o. AllZip (IsAt f number node) (points (rows_of flat.inputs) (rows_of o)) labels) (sym outs_are)
-                    (subst (λ o. AllZip (IsAt f number node) (points (rows_of o) (rows_of outs)) labels) (sym ins_are) are_at))
+                    (subst (λ o. AllZip (IsAt f number node) (points (rows_of flat.inputs) (rows_of o)) labels)
+                    (sym outs_are)
+                    (subst (λ o. AllZip (IsAt f number node) (points (rows_of o) (rows_of outs)) labels) (sym
+                    ins_are) are_at))
                     file are n is,
               ))

@@ -114,8 +114,8 @@ fn supply_labels(alloc: Global, fabric: &Fabric) -> Result<List<ChipLabel>, NoMe
     Ok(labels)
 }
 
-/// The labels of a chip whose fabric is one band: those of power, ground and the phases, then of the bits of inputs and
-/// of outputs, each in the corner of its net.
+/// The labels of a chip whose fabric is one band: those of power, ground and the phases, then of the bits of inputs
+/// and of outputs, each in the corner of its net.
 pub(crate) fn labels_of(
     alloc: Global,
     fabric: &Fabric,

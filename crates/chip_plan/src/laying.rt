@@ -18,8 +18,8 @@ use path_form::Flattened;
 use std::alloc::Global;
 
 /// The chip of a flat net: its fabric in one band, and a label for each supply and phase and for each bit of the pads,
-/// in the lower left corner of its net. The net has at most 2^17 nets and 2^20 gate inputs, each of its latches is fed,
-/// and the labels of the pads differ.
+/// in the lower left corner of its net. The net has at most 2^17 nets and 2^20 gate inputs, each of its latches is
+/// fed, and the labels of the pads differ.
 ///
 /// # Errors
 ///

@@ -7,5 +7,6 @@ use Rattle.chip_plan.proofs.labels.add_pads.Given as goal
 
 abbrev pub invariant-loop-index : goal.invariant-loop-index
 invariant-loop-index l =
-    Adds l.fabric (points_in (rows_of (take l.index l.rows))) (flat_map bit_labels (take l.index l.pads)) l.initial.labels
+    Adds l.fabric (points_in (rows_of (take l.index l.rows))) (flat_map bit_labels (take l.index l.pads))
+    l.initial.labels
     l.labels

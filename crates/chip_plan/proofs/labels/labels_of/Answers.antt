@@ -20,7 +20,8 @@ returns-clause-there c =
     let in_names = flat_map bit_labels c.as_slice-inputs.result.now in
     let out_names = flat_map bit_labels c.as_slice-outputs.result.now in
     let of_inputs : Adds f ins in_names first second =
-    subst (λ rows. Adds f (points_in (rows_of rows)) in_names first second) c.as_slice.ensures c.in_ok-add_pads.ensures in
+    subst (λ rows. Adds f (points_in (rows_of rows)) in_names first second) c.as_slice.ensures
+    c.in_ok-add_pads.ensures in
     let of_outputs : Adds f outs out_names second third =
     subst (λ rows. Adds f (points_in (rows_of rows)) out_names second third) c.as_slice-2.ensures
     c.in_ok-add_pads-2.ensures in

@@ -34,7 +34,8 @@ returns-clause-laid c =
     let laid = c.in_ok-fabric.ensures in
     let switched = c.in_ok-_network.ensures in
     let network = c.in_ok-_network._network in
-    let drawn = c.flat_chips_draw.ensures flat.net c.len-nets.ensures.shape c.requires.fed f laid c.conditions.ensures.met
+    let drawn = c.flat_chips_draw.ensures flat.net c.len-nets.ensures.shape c.requires.fed f laid
+    c.conditions.ensures.met
     switched.0 network switched.1 in
     let named = c.in_ok-labels.ensures.named in
     record {
