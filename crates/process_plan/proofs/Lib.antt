@@ -24,3 +24,4 @@ mod Fitting
 pub mod Keeping
 mod Resetting
 mod Sameness
+pub mod Census

@@ -9,26 +9,20 @@ use Rattle.std.proofs.Common.{
   ℕ,
   zero,
   suc,
-  ◌+◌,
-  ◌<◌,
   List,
   [],
   ◌∷◌,
-  ◌++◌,
   Bool,
   true,
   false,
   not,
   cond,
-  Option,
   Some,
-  None,
   refl,
   sym,
   ap,
   subst,
   arith,
-  length,
   map,
   filter,
 }
@@ -50,7 +44,6 @@ use Rattle.mp_program.specs.declared.program.What.TheVariants.{
 }
 use Rattle.mp_program.specs.declared.program.Way.TheVariants.{Input, Output, Internal}
 use Rattle.mp_program.specs.declared.program.Def.{Def}
-use Rattle.mp_program.specs.declared.program.Process.{Process}
 use Rattle.mp_program.specs.declared.program.Program.{Program}
 use Rattle.mp_program.specs.Names.{index_of, is_same, is_supply}
 use Rattle.mp_program.proofs.Definitions.{same_is, is_same_of}

@@ -38,8 +38,8 @@ fn lawful(program: &Program, order: &[u32])
     traces_exist(program, order);
 }
 
-/// Transfers that follow a plan of a program, at the cost of its bill, show what the program shows, and cost no more than
-/// it weighs.
+/// Transfers that follow a plan of a program, at the cost of its bill, show what the program shows, and cost no more
+/// than it weighs.
 pub fn built_is_same(program: &Program, order: &[u32], rtl: &Rtl)
     requires unbroken { IsUnbroken program.now }
     requires ordered { IsOrder program.now order.now }
