@@ -1,5 +1,5 @@
 -- The labels of what is driven differ.
-use Rattle.std.proofs.Common.{◌≡◌, ℕ, zero, suc, ◌<◌, ◌≤◌, ◌⊎◌, inl, inr, List, [], ◌∷◌, ◌++◌, Bool, true, false, cond, not, ◌&&◌, eqb, length, map, get_or, refl, sym, ◌∙◌, ap, subst, arith}
+use Rattle.std.proofs.Common.{◌≡◌, ℕ, zero, suc, ◌<◌, ◌≤◌, ◌⊎◌, inl, inr, List, [], ◌∷◌, ◌++◌, Bool, true, false, cond, not, ◌&&◌, eqb, length, map, get_or, refl, sym, ◌∙◌, ap, subst, append_assoc, arith}
 use Rattle.std.specs.Prelude.{◌≢◌, AllPairs, Contains, flat_map, codes, decimal, sum, IsTrue}
 use Rattle.std.specs.List.{list_all, list_any}
 use Rattle.std.specs.Str.{bytes_eq}
@@ -7,13 +7,15 @@ use Rattle.std.proofs.lemmas.Bool.Decides.{eqb_tells}
 use Rattle.std.proofs.lemmas.Slice.Eq.{bytes_eq-Decides}
 use Rattle.std.proofs.lemmas.Fmt.{decimal_injective}
 use Rattle.std.proofs.lemmas.List.{get_or_default, get_or-map, length-map, map-append, append-nil, append_cancel_left}
+use Rattle.std.proofs.lemmas.List.Concat.{flat_map-append}
 use Rattle.std.proofs.lemmas.List.Elements.{Contains-append_left, Contains-append_cases}
 use Rattle.std.proofs.lemmas.List.Folds.{list_any-from_Any}
 use Rattle.mp_base.specs.declared.pad.Pad.{Pad}
 use Rattle.mp_base.specs.declared.pad.Pads.{Pads}
 use Rattle.mp_base.specs.Token.{is_token}
 use Rattle.mp_base.specs.PadNames.{is_run, is_pad_name, supplies}
-use Rattle.switch_net.specs.Pads.{word_labels, labels_of, bit_labels, driver_labels}
+use Rattle.switch_net.specs.Pads.{word_labels, labels_of, bit_labels, driver_labels, chip_labels}
+use Rattle.switch_net.specs.Laws.{ChipLabelsDiffer}
 
 -- ---- lists of names that differ
 
@@ -185,28 +187,49 @@ run_all : (name : List ℕ) → is_run name ≡ true → list_all is_token name 
 run_all [] h = absurd (cc)
 run_all (c ∷ cs) h = h
 
--- ---- the labels of what is driven
+-- ---- the labels of a chip
 
-pub labels_differ : (pads : Pads) → AllPairs ◌≢◌ (driver_labels pads.inputs)
-labels_differ pads = apart_pairs (driver_labels pads.inputs)
-    (apart_append supplies (flat_map bit_labels pads.inputs) supplies_apart (pads_apart pads.inputs runs names) cross)
+-- supplies, and the labels of all pads
+pads_differ : (pads : Pads) → Apart (supplies ++ flat_map bit_labels (pads.inputs ++ pads.outputs))
+pads_differ pads =
+    apart_append supplies (flat_map bit_labels all) supplies_apart (pads_apart all runs names) cross
   where
-    name : (p : Pad) → Contains pads.inputs p → IsTrue (is_pad_name p.name)
+    all : List Pad
+    all = pads.inputs ++ pads.outputs
+
+    name : (p : Pad) → Contains all p → IsTrue (is_pad_name p.name)
     name p c =
-        let k = named (pads.inputs ++ pads.outputs) p (Contains-append_left pads.inputs pads.outputs p c) in
-        subst (λ x. IsTrue (is_pad_name x)) (get_or_default (map (λ (x : Pad). x.name) (pads.inputs ++ pads.outputs)) k.0 [] p.name k.1 ∙ k.2) (pads.named.each k.0 k.1)
+        let k = named all p c in
+        subst (λ x. IsTrue (is_pad_name x))
+        (get_or_default (map (λ (x : Pad). x.name) all) k.0 [] p.name k.1 ∙ k.2) (pads.named.each k.0 k.1)
 
-    runs : AreRuns pads.inputs
-    runs p c = run_all p.name (both (is_run p.name) (not (list_any (λ label. bytes_eq p.name label) supplies)) (name p c)).0
+    runs : AreRuns all
+    runs p c =
+        run_all p.name
+        (both (is_run p.name) (not (list_any (λ label. bytes_eq p.name label) supplies)) (name p c)).0
 
-    names : Apart (map (λ (x : Pad). x.name) pads.inputs)
-    names =
-        apart_prefix (map (λ (x : Pad). x.name) pads.inputs) (map (λ (x : Pad). x.name) pads.outputs)
-        (subst Apart (map-append (λ (x : Pad). x.name) pads.inputs pads.outputs)
-        (pairs_apart (map (λ (x : Pad). x.name) (pads.inputs ++ pads.outputs)) pads.named.differ))
+    names : Apart (map (λ (x : Pad). x.name) all)
+    names = pairs_apart (map (λ (x : Pad). x.name) all) pads.named.differ
 
-    cross : (x y : List ℕ) → Contains supplies x → Contains (flat_map bit_labels pads.inputs) y → x ≢ y
+    cross : (x y : List ℕ) → Contains supplies x → Contains (flat_map bit_labels all) y → x ≢ y
     cross x y c k e =
-        let w = flat_at pads.inputs y k in
-        let q : w.0.name ≡ x = sym (stem_of w.0.name w.0.width y (runs w.0 w.1) w.2) ∙ ap stem (sym e) ∙ supply_stem x c in
+        let w = flat_at all y k in
+        let q : w.0.name ≡ x =
+        sym (stem_of w.0.name w.0.width y (runs w.0 w.1) w.2) ∙ ap stem (sym e) ∙ supply_stem x c in
         no_supply w.0.name x (name w.0 w.1) c q
+
+chip_apart : (pads : Pads) → Apart (chip_labels pads)
+chip_apart pads =
+    subst Apart
+    (ap (λ z. supplies ++ z) (flat_map-append bit_labels pads.inputs pads.outputs)
+    ∙ sym (append_assoc supplies (flat_map bit_labels pads.inputs) (flat_map bit_labels pads.outputs)))
+    (pads_differ pads)
+
+pub chip_labels_differ : ChipLabelsDiffer
+chip_labels_differ pads = apart_pairs (chip_labels pads) (chip_apart pads)
+
+-- the labels of what is driven
+pub labels_differ : (pads : Pads) → AllPairs ◌≢◌ (driver_labels pads.inputs)
+labels_differ pads =
+    apart_pairs (driver_labels pads.inputs)
+    (apart_prefix (driver_labels pads.inputs) (flat_map bit_labels pads.outputs) (chip_apart pads))

@@ -1,5 +1,5 @@
 -- What holds of every mask and every network.
-use Rattle.std.specs.Prelude.{◌≡◌, ◌↔◌, ℕ, List, All}
+use Rattle.std.specs.Prelude.{◌≡◌, ◌↔◌, ◌≢◌, ℕ, List, All, AllPairs}
 use Rattle.mp_base.specs.declared.value.Trit.{Trit}
 use Rattle.mp_base.specs.declared.pad.Pads.{Pads}
 use Rattle.mp_base.specs.declared.refusal.Broken.{Broken}
@@ -9,7 +9,7 @@ use Rattle.lam_geom.specs.Squares.{Square, covered}
 use Rattle.switch_net.specs.declared.network.Network.{Network}
 use Rattle.switch_net.specs.Settled.{Setting, Gives, IsBelow, IsSettled}
 use Rattle.switch_net.specs.Reaching.{GivesByReach}
-use Rattle.switch_net.specs.Pads.{Fit}
+use Rattle.switch_net.specs.Pads.{Fit, chip_labels}
 use Rattle.switch_net.specs.Clock.{IsCircuitTrace}
 use Rattle.switch_net.specs.Drawn.{AreNodes, AreRegions, IsNetwork}
 use Rattle.switch_net.specs.Breaks.{HasPads, IsFirstOfMask, IsFirstOfCircuit}
@@ -69,3 +69,7 @@ abbrev pub TraceOnce : Type 0
 TraceOnce =
     (net : Network) (pads : Pads) (before : ℕ → Trit) (inputs : List (List ℕ)) (shown other : List (List (List Trit))) (v w : ℕ → Trit)
     → IsCircuitTrace net pads before inputs shown v → IsCircuitTrace net pads before inputs other w → (shown ≡ other) × (v ≡ w)
+
+-- no two labels of a chip are the same, whatever its pads
+abbrev pub ChipLabelsDiffer : Type 0
+ChipLabelsDiffer = (pads : Pads) → AllPairs ◌≢◌ (chip_labels pads)

@@ -1,7 +1,7 @@
 //! Laws of networks, for the proofs of crates above. A call of one does nothing.
 
 ghost use Rattle.switch_net.specs.Cutting.{ChannelsFollowPieces, ConductorsFollowPieces};
-ghost use Rattle.switch_net.specs.Laws.{GivesAlongReach, GivesGrow, GivesOnce, OneFirstOfCircuit, OneFirstOfMask, OneNetwork, OneNumbering, SettledExists, SettledOnce, SettlesAgain, TraceExists, TraceOnce};
+ghost use Rattle.switch_net.specs.Laws.{ChipLabelsDiffer, GivesAlongReach, GivesGrow, GivesOnce, OneFirstOfCircuit, OneFirstOfMask, OneNetwork, OneNumbering, SettledExists, SettledOnce, SettlesAgain, TraceExists, TraceOnce};
 
 use lam_geom::rectangles_are_joined;
 
@@ -43,4 +43,9 @@ pub fn networks_settle()
 pub fn circuits_run()
     ensures exist { TraceExists }
     ensures once { TraceOnce }
+{}
+
+/// The labels of a chip differ from each other: no pad has the name of a supply, and no two bits have one label.
+pub fn chip_labels_differ()
+    ensures { ChipLabelsDiffer }
 {}
