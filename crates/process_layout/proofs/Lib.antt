@@ -1,0 +1,8 @@
+mod Listing
+mod Indexing
+mod Once
+mod Roles
+mod Whole
+mod Growth
+mod Called
+mod Ordered
