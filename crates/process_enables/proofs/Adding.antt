@@ -1,0 +1,159 @@
+-- Expressions that are added.
+use Rattle.std.proofs.Common.{
+  ◌≡◌,
+  ◌⊎◌,
+  inl,
+  inr,
+  ◌∙◌,
+  ℕ,
+  ◌+◌,
+  ◌<◌,
+  List,
+  [],
+  ◌∷◌,
+  ◌++◌,
+  false,
+  refl,
+  sym,
+  ap,
+  subst,
+  arith,
+  length,
+}
+use Rattle.std.specs.Prelude.{Result, Ok, Err, OnOk, IfOk}
+use Rattle.std.proofs.lemmas.Bool.{cases_lt}
+use Rattle.std.proofs.lemmas.List.{get_or_append_left, get_or_at, length-append}
+use Rattle.std.proofs.lemmas.List.Sums.{sum_by-cons, sum_by-append}
+use Rattle.mp_base.specs.declared.op.Op.TheVariants.{And, Not}
+use Rattle.mp_rules.specs.Entries.{IsAt}
+use Rattle.rtl_form.specs.declared.rtl.Cell.{Cell}
+use Rattle.rtl_form.specs.declared.rtl.RtlExpr.{RtlExpr}
+use Rattle.rtl_form.specs.declared.rtl.RtlExpr.TheVariants.{Apply}
+use Rattle.rtl_form.specs.Cost.{expr_cost}
+use Rattle.process_plan.specs.Bill.{exprs_cost}
+use Rattle.process_plan.specs.Fits.{ExprsFit, ExprFitsIn, HasSortIn}
+use Rattle.process_plan.proofs.Members.{cases_of, only_one, one_entry}
+use Rattle.process_plan.proofs.Sorts.{has_sort_kept, fits_kept}
+use Rattle.process_layout.specs.Steps.{Keeps}
+use Rattle.process_enables.specs.Adding.{IsPut}
+use Rattle.process_enables.specs.Forms.{Narrows}
+
+pub on_ok : {T E : Type 0} (r : Result T E) (P Q : Type 0) → (P → Q) → OnOk r P → OnOk r Q
+on_ok (Ok x) P Q f h = f h
+on_ok (Err e) P Q f h = h
+
+pub if_ok : {T E : Type 0} (r : Result T E) (P Q : T → Type 0) → ((x : T) → P x → Q x) → IfOk r P → IfOk r Q
+if_ok (Ok x) P Q f h = f x h
+if_ok (Err e) P Q f h = h
+
+pub keeps_same : {X : Type 0} (xs : List X) → Keeps xs xs
+keeps_same xs = λ k x at. at
+
+pub keeps_more : {X : Type 0} (xs ys zs : List X) → Keeps xs ys → Keeps ys zs → Keeps xs zs
+keeps_more xs ys zs h g = λ k x at. g k x (h k x at)
+
+pub append_keeps : {X : Type 0} (xs more : List X) → Keeps xs (xs ++ more)
+append_keeps xs more = λ k x (lt, is). let size = length-append xs more in
+    (omega (arith, lt, size), is ∙ sym (get_or_append_left xs more x k lt))
+
+pub last_at : {X : Type 0} (xs : List X) (x : X) → IsAt (xs ++ x ∷ []) (length xs) x
+last_at xs x = let size = length-append xs (x ∷ []) in (omega (arith, size), sym (get_or_at xs x [] x (length xs) refl))
+
+-- an entry of a list to which x was added is an entry of the list, or x
+pub added_at : {X : Type 0} (xs : List X) (x y : X) (k : ℕ) → IsAt (xs ++ x ∷ []) k y
+    → IsAt xs k y ⊎ ((k ≡ length xs) × (y ≡ x))
+added_at {X} xs x y k (lt, is) = elim (cases_lt k (length xs)) [
+  | inl below ↦ inl (below, is ∙ get_or_append_left xs (x ∷ []) y k below)
+  | inr from ↦
+      let size = length-append xs (x ∷ []) in
+      let e : k ≡ length xs = omega (arith, lt, size, from) in
+      inr (e, one_entry (xs ++ x ∷ []) (length xs) y x (subst (λ n. IsAt (xs ++ x ∷ []) n y) e (lt, is)) (last_at xs x))
+]
+
+module _ (old : List RtlExpr) (x : RtlExpr) (new : List RtlExpr) (i : ℕ) (put : IsPut old x new i) where
+  pub put_at : IsAt new i x
+  put_at = subst (λ xs. IsAt xs i x) (sym put.added) (subst (λ n. IsAt (old ++ x ∷ []) n x) (sym put.index) (last_at
+      old x))
+
+  pub put_keeps : Keeps old new
+  put_keeps = subst (λ ys. Keeps old ys) (sym put.added) (append_keeps old (x ∷ []))
+
+  pub put_cost : exprs_cost new ≡ exprs_cost old + expr_cost x
+  put_cost =
+      let a : exprs_cost new ≡ exprs_cost (old ++ x ∷ []) = ap exprs_cost put.added in
+      let b = sum_by-append expr_cost old (x ∷ []) in
+      let c = sum_by-cons expr_cost x [] in
+      omega (arith, a, b, c)
+
+  pub put_size : length new ≡ length old + 1
+  put_size =
+      let a : length new ≡ length (old ++ x ∷ []) = ap length put.added in
+      let b = length-append old (x ∷ []) in
+      omega (arith, a, b)
+
+  -- what fits where it is added keeps all fit
+  pub put_fits : (w : ℕ) (xs : List Cell) → ExprFitsIn w xs old (length old) x → ExprsFit w xs old → ExprsFit w xs new
+  put_fits w xs fit all = subst (λ ys. ExprsFit w xs ys) (sym put.added) (λ e y at. elim (added_at old x y e at) as
+      (λ _. ExprFitsIn w xs (old ++ x ∷ []) e y) [
+        | inl before ↦ fits_kept w xs xs old (old ++ x ∷ []) e y (keeps_same xs) (append_keeps old (x ∷ [])) (all e y
+            before)
+        | inr (here, is) ↦ fits_kept w xs xs old (old ++ x ∷ []) e y (keeps_same xs) (append_keeps old (x ∷ []))
+            (subst (λ z. ExprFitsIn w xs old e z) (sym is) (subst (λ n. ExprFitsIn w xs old n x) (sym here) fit))
+      ])
+
+-- what fits is kept where expressions are added
+pub bit_kept : (xs : List Cell) (exprs more : List RtlExpr) (e : ℕ) → Keeps exprs more → HasSortIn xs exprs e false
+    → HasSortIn xs more e false
+bit_kept xs exprs more e kept has = has_sort_kept xs xs exprs more e false (keeps_same xs) kept has
+
+-- an AND of two bits, and the negation of a bit
+pub and_fits : (w : ℕ) (xs : List Cell) (exprs : List RtlExpr) (a b : ℕ) → HasSortIn xs exprs a false
+    → HasSortIn xs exprs b false → ExprFitsIn w xs exprs (length exprs) (Apply And 0 (a ∷ b ∷ []))
+and_fits w xs exprs a b (x, at_a, is_a) (y, at_b, is_b) = (
+  refl,
+  tt,
+  λ e c. elim (cases_of e a (b ∷ []) c) as
+      (λ _. (e < length exprs) × HasSortIn xs exprs e false) [
+        | inl is ↦ subst (λ n. (n < length exprs) × HasSortIn xs exprs n false) is (at_a.0, (x, at_a, is_a))
+        | inr later ↦ subst (λ n. (n < length exprs) × HasSortIn xs exprs n false) (only_one e b later)
+            (at_b.0, (y, at_b, is_b))
+      ],
+)
+
+pub not_fits : (w : ℕ) (xs : List Cell) (exprs : List RtlExpr) (a : ℕ) → HasSortIn xs exprs a false
+    → ExprFitsIn w xs exprs (length exprs) (Apply Not 0 (a ∷ []))
+not_fits w xs exprs a (x, at_a, is_a) = (
+  refl,
+  tt,
+  λ e c.
+      subst (λ n. (n < length exprs) × HasSortIn xs exprs n false) (only_one e a c) (at_a.0, (x, at_a, is_a)),
+)
+
+-- the negation of a guard, and then what is 1 where another expression is too
+pub narrows_is : (rest guard : ℕ) (exprs mid more : List RtlExpr) (n m : ℕ)
+    → IsPut exprs (Apply Not 0 (guard ∷ [])) mid n
+    → IsPut mid (Apply And 0 (rest ∷ n ∷ [])) more m → Narrows rest guard exprs more m
+narrows_is rest guard exprs mid more n m one two =
+    let negated = put_at exprs (Apply Not 0 (guard ∷ [])) mid n one in
+    let first = put_keeps exprs (Apply Not 0 (guard ∷ [])) mid n one in
+    let second = put_keeps mid (Apply And 0 (rest ∷ n ∷ [])) more m two in
+    record {
+      exprs_kept = keeps_more exprs mid more first second;
+      made = (
+        n,
+        second n (Apply Not 0 (guard ∷ [])) negated,
+        put_at mid (Apply And 0 (rest ∷ n ∷ [])) more m two,
+      );
+      cost =
+          let a = put_cost exprs (Apply Not 0 (guard ∷ [])) mid n one in
+          let b = put_cost mid (Apply And 0 (rest ∷ n ∷ [])) more m two in
+          omega (arith, a, b);
+      fits = λ w xs bit_rest bit_guard all.
+          put_fits mid (Apply And 0 (rest ∷ n ∷ [])) more m two w xs
+          (and_fits w xs mid rest n (bit_kept xs exprs mid rest first bit_rest) (
+            Apply Not 0 (guard ∷ []),
+            negated,
+            refl,
+          ))
+          (put_fits exprs (Apply Not 0 (guard ∷ [])) mid n one w xs (not_fits w xs exprs guard bit_guard) all);
+    }

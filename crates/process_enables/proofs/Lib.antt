@@ -1,0 +1,10 @@
+mod Adding
+mod Assigning
+mod Branching
+mod Guarding
+mod Forming
+mod Copying
+mod Placing
+mod Rooting
+mod Calling
+mod Finishing

@@ -1,0 +1,5 @@
+pub mod Adding
+pub mod Forms
+pub mod Copies
+pub mod Places
+pub mod Roots
