@@ -1,0 +1,6 @@
+mod Shares
+mod Tallies
+mod Used
+mod Growing
+mod Billing
+mod Still
