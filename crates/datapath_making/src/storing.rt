@@ -1,0 +1,161 @@
+//! The next values of stored words.
+
+ghost use Rattle.std.specs.Prelude.{◌≡◌, ◌+◌, ◌*◌, ◌<◌, ◌∷◌, List, Some, None, IfOk, OnOk, All, length, slice_get};
+ghost use Rattle.control_nor.specs.Lowering.{Stands};
+ghost use Rattle.nor_net.specs.Shape.{gate_inputs, net_limit};
+ghost use Rattle.nor_net.specs.declared.net.NetId as net_id;
+ghost use Rattle.nor_net.specs.declared.net.Phase.TheVariants.{B};
+ghost use Rattle.nor_net.specs.declared.net.Part.TheVariants.{Gate, Latch};
+ghost use Rattle.path_values.specs.Allocated.{transfers_to};
+ghost use Rattle.datapath_making.specs.Continuing.{IsClearFound, IsLatchMade, IsMasterMade, IsSlaveFed, IsSourceMade};
+ghost use Rattle.datapath_making.specs.Marking.{last_mark};
+ghost use Rattle.datapath_making.specs.Sizes.{HasRoom, cast_cost};
+ghost use Rattle.datapath_making.specs.Steps.{IsNextMade, IsStep, IsTransferReached, IsWaiting};
+ghost use Rattle.datapath_making.specs.WellMade.{IsWellMade};
+
+use crate::making::Making;
+use crate::operators::net_of;
+use crate::parts::add_latch;
+use crate::transfers::{Terms, select_transfers};
+use mp_base::{List, NoMemory};
+use nor_net::{NetId, Phase};
+use rtl_form::Rtl;
+use std::alloc::Global;
+
+// The list with one in front.
+fn with_first(first: NetId, list: List<NetId>) -> Result<List<NetId>, NoMemory>
+    ensures { IfOk result (λ longer. longer ≡ first ∷ list) }
+{
+    let mut items = list.into_vec();
+    if items.insert(0, first).is_err() {
+        return Err(NoMemory);
+    }
+    Ok(List::from_vec(items))
+}
+
+// The net of reset.
+fn reset_of(reset: Option<NetId>) -> NetId
+    requires { (id : net_id.NetId) × (reset ≡ Some id) }
+    ensures { reset ≡ Some result }
+{
+    match reset {
+        Some(net) => net,
+        None => NetId(0),
+    }
+}
+
+impl Making {
+    // Reset in the slices, which is cast where it was not.
+    fn add_clear(&mut self) -> Result<NetId, NoMemory>
+        requires made { IsWellMade self.old }
+        requires room { length self.old.slices.net + 1 < net_limit }
+        requires reset { (id : net_id.NetId) × (self.old.reset ≡ Some id) × (id.0 < (last_mark self.old).control) }
+        ensures { IfOk result (IsClearFound self.old self.new) }
+    {
+        match self.clear {
+            Some(net) => Ok(net),
+            None => {
+                let control = reset_of(self.reset);
+                let net = self.add_cast(control)?;
+                self.clear = Some(net);
+                Ok(net)
+            }
+        }
+    }
+
+    // The next value of the word of a slave.
+    fn add_source(
+        &mut self,
+        alloc: Global,
+        terms: Terms,
+        slave: NetId,
+        clear: NetId,
+    ) -> Result<NetId, NoMemory>
+        requires made { IsWellMade self.old }
+        requires room { length self.old.slices.net + 3 < net_limit }
+        requires inputs_room { gate_inputs self.old.slices.net + length terms.guards + length terms.nets + 4 < net_limit }
+        requires nets { All (λ j. j.0 < length self.old.slices.net) terms.nets }
+        requires guards { All (λ j. j.0 < length self.old.slices.net) terms.guards }
+        requires slave { slave.0 < length self.old.slices.net }
+        requires clear { clear.0 < length self.old.slices.net }
+        ensures { IfOk result (IsSourceMade terms slave clear self.old self.new) }
+    {
+        let Terms { nets, guards } = terms;
+        let guards = with_first(slave, guards)?;
+        let hold = self.add_gate(alloc, guards.as_slice())?;
+        let mut nets = nets;
+        nets.push(hold)?;
+        let off = self.add_gate(alloc, nets.as_slice())?;
+        let source = self.add_gate(alloc, &[off, clear])?;
+        Ok(source)
+    }
+
+    // A latch on a gate.
+    fn add_master(&mut self, source: NetId) -> Result<NetId, NoMemory>
+        requires made { IsWellMade self.old }
+        requires room { length self.old.slices.net + 1 < net_limit }
+        requires source { (inputs : List net_id.NetId) × (slice_get self.old.slices.net source.0 ≡ Some (Gate inputs)) }
+        ensures { IfOk result (IsLatchMade source self.old self.new) }
+    {
+        let id = add_latch(&mut self.slices.net, Phase::A, source)?;
+        Ok(id)
+    }
+
+    // Gives a slave its data.
+    fn feed_slave(&mut self, slave: NetId, source: NetId)
+        requires made { IsWellMade self.old }
+        requires slave { slice_get self.old.slices.net slave.0 ≡ Some (Latch B None) }
+        requires source { (inputs : List net_id.NetId) × (slice_get self.old.slices.net source.0 ≡ Some (Gate inputs)) }
+        ensures { IsSlaveFed slave source self.old self.new }
+    {
+        self.slices.net.feed(slave, source);
+    }
+
+    // A master on the next value, and its negation, which feeds the slave.
+    fn add_masters(&mut self, alloc: Global, slave: NetId, source: NetId) -> Result<(), NoMemory>
+        requires made { IsWellMade self.old }
+        requires room { length self.old.slices.net + 2 < net_limit }
+        requires inputs_room { gate_inputs self.old.slices.net + 1 < net_limit }
+        requires slave { slice_get self.old.slices.net slave.0 ≡ Some (Latch B None) }
+        requires source { (inputs : List net_id.NetId) × (slice_get self.old.slices.net source.0 ≡ Some (Gate inputs)) }
+        ensures { OnOk result (IsMasterMade slave source self.old self.new) }
+    {
+        let master = self.add_master(source)?;
+        let negation = self.add_gate(alloc, &[master])?;
+        self.feed_slave(slave, negation);
+        Ok(())
+    }
+
+    /// The next value of a stored cell, which is 0 under reset, and the data of its latches.
+    ///
+    /// # Errors
+    ///
+    /// `NoMemory`: then some of the nets may have been added.
+    pub fn add_next(
+        &mut self,
+        alloc: Global,
+        rtl: &Rtl,
+        cell: u32,
+        reset: u32,
+    ) -> Result<(), NoMemory>
+        requires made { IsWellMade self.old }
+        requires room { HasRoom (6 + 4 * length (transfers_to rtl.now cell)) self.old }
+        requires word { (id : net_id.NetId) × Stands self.old.cell_words cell id × IsWaiting self.old.slices.net id }
+        requires transfers { All (IsTransferReached self.old) (transfers_to rtl.now cell) }
+        requires reset { (id : net_id.NetId) × (self.old.reset ≡ Some id) × Stands self.old.names.cells reset id
+            × (id.0 < (last_mark self.old).control) }
+        ensures step { OnOk result
+            (IsStep (5 + 4 * length (transfers_to rtl.now cell) + cast_cost self.old.clear)
+            (length (transfers_to rtl.now cell) + cast_cost self.old.clear) self.old self.new) }
+        ensures next { OnOk result (IsNextMade rtl.now cell reset self.old self.new) }
+    {
+        let transfers = select_transfers(alloc, rtl, cell)?;
+        let terms = self.add_terms(alloc, transfers.as_slice())?;
+        let clear = self.add_clear()?;
+        let word = net_of(self.cell_words.as_slice(), cell);
+        let slave = NetId(word.0 - 1);
+        let source = self.add_source(alloc, terms, slave, clear)?;
+        self.add_masters(alloc, slave, source)?;
+        Ok(())
+    }
+}
