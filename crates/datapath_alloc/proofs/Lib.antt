@@ -1,0 +1,15 @@
+pub mod Totals
+pub mod Keeping
+pub mod Steps
+pub mod CellSteps
+pub mod Costs
+pub mod Reaching
+pub mod TaskSteps
+pub mod Idle
+pub mod Rounds
+pub mod Stores
+pub mod Ending
+pub mod Finished
+pub mod Marks
+pub mod Operating
+pub mod Results

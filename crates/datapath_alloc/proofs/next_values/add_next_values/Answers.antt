@@ -1,0 +1,9 @@
+use Rattle.std.proofs.Common.{length}
+use Rattle.datapath_alloc.proofs.Rounds.{no_reset_done}
+use Rattle.datapath_alloc.proofs.next_values.add_next_values.Goals as goal
+
+pub returns-in-None : goal.returns-in-None
+returns-in-None c =
+    let m = c.args.making.now in
+    no_reset_done c.args.rtl.now m.control m.names m (length c.args.rtl.now.cells) (length m.names.tasks) c.in-None.is
+    c.requires.made

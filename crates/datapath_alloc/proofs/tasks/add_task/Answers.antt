@@ -1,0 +1,199 @@
+use Rattle.std.proofs.Common.{◌+◌, ◌*◌, ◌∙◌, Some, suc, length, ap, subst, sym, arith}
+use Rattle.rtl_form.specs.declared.rtl.RtlExpr.TheVariants.{Apply, Number}
+use Rattle.rtl_form.specs.declared.rtl.RtlExpr.TheVariants as exprs
+use Rattle.rtl_form.specs.declared.rtl.Cell as cells
+use Rattle.rtl_form.specs.Entries.{IsAt}
+use Rattle.rtl_form.proofs.Members.{one_entry}
+use Rattle.control_nor.specs.declared.names.Task.TheVariants.{Cell, Expr}
+use Rattle.path_values.specs.Allocated.{transfers_to}
+use Rattle.datapath_making.specs.Steps.{IsDrivenMade, IsNumberMade, IsStep}
+use Rattle.datapath_making.specs.WellMade.{IsWellMade}
+use Rattle.datapath_alloc.specs.Progress.{IsAnswered, IsMadeTo, KeepsMarks}
+use Rattle.datapath_alloc.proofs.Idle.{bit_cell_done, read_done, truth_done}
+use Rattle.datapath_alloc.proofs.Marks.{rebased}
+use Rattle.datapath_alloc.proofs.Operating.{answer_keeps, answered, asked}
+use Rattle.datapath_alloc.proofs.Reaching.{cell_reads, free_cell, free_word, transfers_reached}
+use Rattle.datapath_alloc.proofs.Results.{done_one, done_two}
+use Rattle.datapath_alloc.proofs.Rounds.{room, room_task}
+use Rattle.datapath_alloc.proofs.TaskSteps.{driven_done, driven_pays, number_done}
+use Rattle.datapath_alloc.proofs.tasks.add_task.Goals as goal
+
+pub at-requires : goal.at-requires
+at-requires c =
+    let m = c.args.making.now in
+    let is = c.task_at.ensures ∙ ap Some c.in-Expr.is in
+    c.requires.made.given.lowered.placed.schedule.only c.args.index (Expr c.in-Expr.expr) is
+
+pub add_number-requires-clause-room : goal.add_number-requires-clause-room
+add_number-requires-clause-room c =
+    let m = c.args.making.now in
+    room c.args.rtl.now m.control m.names m (length c.args.rtl.now.cells) c.args.index 0 1 (omega arith) (omega arith)
+    (omega arith) c.requires.made
+
+pub add_number-requires-clause-free : goal.add_number-requires-clause-free
+add_number-requires-clause-free c =
+    let m = c.args.making.now in
+    let p = c.requires.made in
+    let is = c.task_at.ensures ∙ ap Some c.in-Expr.is in
+    free_word c.args.rtl.now m.control m.names p.given.sound p.given.lowered m c.args.index c.in-Expr.expr is p.begun
+    p.exprs
+
+pub read_cell-requires-clause-expr : goal.read_cell-requires-clause-expr
+read_cell-requires-clause-expr c =
+    let m = c.args.making.now in
+    let is = c.task_at.ensures ∙ ap Some c.in-Expr.is in
+    let l = c.requires.made.given.lowered.placed.schedule.only c.args.index (Expr c.in-Expr.expr) is in
+    let n = c.requires.made.begun.word_count in
+    omega (arith, l, n)
+
+pub read_cell-requires-clause-cell : goal.read_cell-requires-clause-cell
+read_cell-requires-clause-cell c =
+    let m = c.args.making.now in
+    let is = c.task_at.ensures ∙ ap Some c.in-Expr.is in
+    let l = c.requires.made.given.lowered.placed.schedule.only c.args.index (Expr c.in-Expr.expr) is in
+    let at : IsAt c.args.rtl.now.exprs c.in-Expr.expr (exprs.Cell c.in-Cell-at.cell)
+    = subst (IsAt c.args.rtl.now.exprs c.in-Expr.expr) c.in-Cell-at.is (l, c.at.ensures) in
+    let fits = c.requires.made.given.sound.exprs c.in-Expr.expr (exprs.Cell c.in-Cell-at.cell) at in
+    let n = c.requires.made.begun.cell_count in
+    omega (arith, fits, n)
+
+pub add_operator-requires : goal.add_operator-requires
+add_operator-requires c =
+    let m = c.args.making.now in
+    let p = c.requires.made in
+    let is = c.task_at.ensures ∙ ap Some c.in-Expr.is in
+    let l = p.given.lowered.placed.schedule.only c.args.index (Expr c.in-Expr.expr) is in
+    let at : IsAt c.args.rtl.now.exprs c.in-Expr.expr
+    (Apply c.in-Apply.op c.in-Apply.index c.as_slice.result.now)
+    = subst (IsAt c.args.rtl.now.exprs c.in-Expr.expr)
+    (c.in-Apply.is ∙ ap (Apply c.in-Apply.op c.in-Apply.index) (sym c.as_slice.ensures)) (l, c.at.ensures) in
+    asked c.args.rtl.now m.control m.names m c.args.index p c.in-Expr.expr c.in-Apply.op c.in-Apply.index
+    c.as_slice.result.now is at c.requires.marked.slices c.requires.marked.control
+
+pub at-requires-in-Cell : goal.at-requires-in-Cell
+at-requires-in-Cell c =
+    let m = c.args.making.now in
+    let is = c.task_at.ensures ∙ ap Some c.in-Cell.is in
+    (c.requires.made.given.lowered.placed.schedule.only c.args.index (Cell c.in-Cell.cell) is).1.0
+
+pub add_driven-requires-clause-room : goal.add_driven-requires-clause-room
+add_driven-requires-clause-room c =
+    let m = c.args.making.now in
+    let p = c.requires.made in
+    let is = c.task_at.ensures ∙ ap Some c.in-Cell.is in
+    let d = p.given.lowered.placed.schedule.only c.args.index (Cell c.in-Cell.cell) is in
+    let same = one_entry c.args.rtl.now.cells c.in-Cell.cell c.at-in-Cell.result.now d.0
+    (d.1.0, c.at-in-Cell.ensures) d.1 in
+    let e = driven_pays c.args.rtl.now c.in-Cell.cell d.0 d.1
+    (ap (λ (x : cells.Cell). x.word) (sym same) ∙ c.if-at.true) d.2 in
+    room_task c.args.rtl.now m.control m.names m c.args.index
+    (2 + 4 * length (transfers_to c.args.rtl.now c.in-Cell.cell)) (Cell c.in-Cell.cell) is (omega (arith, e)) p
+
+pub add_driven-requires-clause-free : goal.add_driven-requires-clause-free
+add_driven-requires-clause-free c =
+    let m = c.args.making.now in
+    let p = c.requires.made in
+    let is = c.task_at.ensures ∙ ap Some c.in-Cell.is in
+    let d = p.given.lowered.placed.schedule.only c.args.index (Cell c.in-Cell.cell) is in
+    free_cell c.args.rtl.now m.control m.names p.given.sound p.given.lowered m (length c.args.rtl.now.cells)
+    c.args.index 0 c.in-Cell.cell d.0 is d.1 d.2 p.begun p.cells
+
+pub add_driven-requires-clause-transfers : goal.add_driven-requires-clause-transfers
+add_driven-requires-clause-transfers c =
+    let m = c.args.making.now in
+    let p = c.requires.made in
+    let is = c.task_at.ensures ∙ ap Some c.in-Cell.is in
+    let d = p.given.lowered.placed.schedule.only c.args.index (Cell c.in-Cell.cell) is in
+    transfers_reached c.args.rtl.now m.control m.names p.given.sound p.given.lowered m c.args.index c.in-Cell.cell
+    c.at-in-Cell.result.now (let l = c.requires.task in omega (arith, l)) c.requires.marked.control p.begun p.exprs
+    (d.1.0, c.at-in-Cell.ensures) c.if-at.true
+    (cell_reads c.args.rtl.now m.control m.names p.given.sound p.given.lowered c.args.index c.in-Cell.cell is)
+
+pub returns-in-Number-clause-made : goal.returns-in-Number-clause-made
+returns-in-Number-clause-made c =
+    let m = c.args.making.now in
+    let new = c.add_number.new.self in
+    let p = c.requires.made in
+    let is = c.task_at.ensures ∙ ap Some c.in-Expr.is in
+    let l = p.given.lowered.placed.schedule.only c.args.index (Expr c.in-Expr.expr) is in
+    let at : IsAt c.args.rtl.now.exprs c.in-Expr.expr (Number c.in-Number.bits)
+    = subst (IsAt c.args.rtl.now.exprs c.in-Expr.expr) c.in-Number.is (l, c.at.ensures) in
+    done_two (IsStep 1 0 m new) (IsNumberMade c.in-Expr.expr c.in-Number.bits m new)
+    (IsMadeTo c.args.rtl.now (length c.args.rtl.now.cells) (suc c.args.index) 0 new) c.add_number.result
+    (λ step made. rebased c.args.rtl.now m.control m.names (length c.args.rtl.now.cells) (suc c.args.index) 0 new
+    (number_done c.args.rtl.now m.control m.names m new c.args.index p c.in-Expr.expr c.in-Number.bits is at step made))
+    c.add_number.ensures.step c.add_number.ensures.number
+
+pub returns-in-Truth-clause-made : goal.returns-in-Truth-clause-made
+returns-in-Truth-clause-made c =
+    let m = c.args.making.now in
+    let p = c.requires.made in
+    let is = c.task_at.ensures ∙ ap Some c.in-Expr.is in
+    let l = p.given.lowered.placed.schedule.only c.args.index (Expr c.in-Expr.expr) is in
+    let at : IsAt c.args.rtl.now.exprs c.in-Expr.expr (exprs.Truth c.in-Truth.field-0)
+    = subst (IsAt c.args.rtl.now.exprs c.in-Expr.expr) c.in-Truth.is (l, c.at.ensures) in
+    truth_done c.args.rtl.now m.control m.names m c.args.index p c.in-Expr.expr c.in-Truth.field-0 is at
+
+pub returns-in-Cell-at-clause-made : goal.returns-in-Cell-at-clause-made
+returns-in-Cell-at-clause-made c =
+    let m = c.args.making.now in
+    let p = c.requires.made in
+    let is = c.task_at.ensures ∙ ap Some c.in-Expr.is in
+    let l = p.given.lowered.placed.schedule.only c.args.index (Expr c.in-Expr.expr) is in
+    let at : IsAt c.args.rtl.now.exprs c.in-Expr.expr (exprs.Cell c.in-Cell-at.cell)
+    = subst (IsAt c.args.rtl.now.exprs c.in-Expr.expr) c.in-Cell-at.is (l, c.at.ensures) in
+    subst (IsMadeTo c.args.rtl.now (length c.args.rtl.now.cells) (suc c.args.index) 0) (sym c.read_cell.ensures.read)
+    (read_done c.args.rtl.now m.control m.names m c.args.index p c.in-Expr.expr c.in-Cell-at.cell is at
+    (subst IsWellMade c.read_cell.ensures.read c.read_cell.ensures.made))
+
+pub returns-in-Apply-clause-made : goal.returns-in-Apply-clause-made
+returns-in-Apply-clause-made c =
+    let m = c.args.making.now in
+    let new = c.add_operator.new.making in
+    let p = c.requires.made in
+    let is = c.task_at.ensures ∙ ap Some c.in-Expr.is in
+    let l = p.given.lowered.placed.schedule.only c.args.index (Expr c.in-Expr.expr) is in
+    let at : IsAt c.args.rtl.now.exprs c.in-Expr.expr
+    (Apply c.in-Apply.op c.in-Apply.index c.as_slice.result.now)
+    = subst (IsAt c.args.rtl.now.exprs c.in-Expr.expr)
+    (c.in-Apply.is ∙ ap (Apply c.in-Apply.op c.in-Apply.index) (sym c.as_slice.ensures)) (l, c.at.ensures) in
+    done_one (IsAnswered c.in-Expr.expr c.in-Apply.op c.in-Apply.index c.as_slice.result.now m new)
+    (IsMadeTo c.args.rtl.now (length c.args.rtl.now.cells) (suc c.args.index) 0 new) c.add_operator.result
+    (λ h. rebased c.args.rtl.now m.control m.names (length c.args.rtl.now.cells) (suc c.args.index) 0 new
+    (answered c.args.rtl.now m.control m.names m c.args.index p c.in-Expr.expr c.in-Apply.op c.in-Apply.index
+    c.as_slice.result.now is at new h))
+    c.add_operator.ensures
+
+pub returns-in-Apply-clause-marks : goal.returns-in-Apply-clause-marks
+returns-in-Apply-clause-marks c =
+    let m = c.args.making.now in
+    let new = c.add_operator.new.making in
+    done_one (IsAnswered c.in-Expr.expr c.in-Apply.op c.in-Apply.index c.as_slice.result.now m new)
+    (KeepsMarks m new) c.add_operator.result
+    (answer_keeps c.in-Expr.expr c.in-Apply.op c.in-Apply.index c.as_slice.result.now m new)
+    c.add_operator.ensures
+
+pub returns-then-at-clause-made : goal.returns-then-at-clause-made
+returns-then-at-clause-made c =
+    let m = c.args.making.now in
+    let new = c.add_driven.new.self in
+    let p = c.requires.made in
+    let is = c.task_at.ensures ∙ ap Some c.in-Cell.is in
+    let d = p.given.lowered.placed.schedule.only c.args.index (Cell c.in-Cell.cell) is in
+    done_two (IsStep (2 + 4 * length (transfers_to c.args.rtl.now c.in-Cell.cell))
+    (length (transfers_to c.args.rtl.now c.in-Cell.cell)) m new)
+    (IsDrivenMade c.args.rtl.now c.in-Cell.cell m new)
+    (IsMadeTo c.args.rtl.now (length c.args.rtl.now.cells) (suc c.args.index) 0 new) c.add_driven.result
+    (λ step made. rebased c.args.rtl.now m.control m.names (length c.args.rtl.now.cells) (suc c.args.index) 0 new
+    (driven_done c.args.rtl.now m.control m.names m new c.args.index p c.in-Cell.cell c.at-in-Cell.result.now is
+    (d.1.0, c.at-in-Cell.ensures) c.if-at.true step made))
+    c.add_driven.ensures.step c.add_driven.ensures.driven
+
+pub returns-else-at-clause-made : goal.returns-else-at-clause-made
+returns-else-at-clause-made c =
+    let m = c.args.making.now in
+    let p = c.requires.made in
+    let is = c.task_at.ensures ∙ ap Some c.in-Cell.is in
+    let d = p.given.lowered.placed.schedule.only c.args.index (Cell c.in-Cell.cell) is in
+    bit_cell_done c.args.rtl.now m.control m.names m c.args.index p c.in-Cell.cell c.at-in-Cell.result.now is
+    (d.1.0, c.at-in-Cell.ensures) c.if-at.false

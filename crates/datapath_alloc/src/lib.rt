@@ -1,0 +1,10 @@
+//! From guarded transfers to a data path.
+#![tactic(auto)]
+
+mod allocating;
+mod latches;
+mod next_values;
+mod operators;
+mod tasks;
+
+pub use allocating::allocate;
