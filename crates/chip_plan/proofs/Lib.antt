@@ -5,3 +5,5 @@ mod Placing
 mod Standing
 mod Writing
 mod Sizes
+mod PadCells
+mod SmallPlans

@@ -1,10 +1,9 @@
 -- A path within its cost has a small flat net.
-use Rattle.std.proofs.Common.{ℕ, zero, suc, ◌≡◌, ◌+◌, ◌*◌, ◌<◌, ◌≤◌, List, [], ◌∷◌, ◌++◌, length, refl, arith}
+use Rattle.std.proofs.Common.{ℕ, zero, suc, ◌≡◌, ◌+◌, ◌*◌, ◌≤◌, List, [], ◌∷◌, ◌++◌, length, refl, arith}
 use Rattle.std.specs.Prelude.{flat_map}
 use Rattle.std.proofs.Math.Nat.{mul-le-mul_left, mul-le-mul_right}
 use Rattle.std.proofs.lemmas.List.{length-append}
 use Rattle.mp_base.specs.declared.pad.Pad.{Pad}
-use Rattle.mp_base.specs.declared.pad.Pads.{Pads}
 use Rattle.mp_base.specs.PadNames.{supplies}
 use Rattle.switch_net.specs.Pads.{bit_labels, labels_of}
 use Rattle.nor_net.specs.Shape.{gate_inputs}
@@ -34,10 +33,10 @@ module _ (cost : ℕ) (p : DataPath) (flat : Flattened) (within : IsWithin cost 
       let c = within.control_inputs in let n = few.inputs in omega (arith, m, c, n)
 
 pub flat_nets_are_drawable : FlatNetsAreDrawable
-flat_nets_are_drawable cost p flat within few low narrow =
+flat_nets_are_drawable cost p flat within few low =
     let n = nets_few cost p flat within few in
     let g = inputs_few cost p flat within few in
-    let m : p.width * cost ≤ 32 * cost = mul-le-mul_right cost narrow in
+    let m : p.width * cost ≤ 64 * cost = mul-le-mul_right cost p.whole.width.1 in
     record { nets = omega (arith, n, m, low); inputs = omega (arith, g, m, low) }
 
 pub rectangles_are_few : RectanglesAreFew

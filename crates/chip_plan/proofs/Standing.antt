@@ -28,7 +28,8 @@ use Rattle.chip_laws.specs.Labels.{LabelsStand}
 use Rattle.chip_laws.specs.Laws.{IsLaidOut, names_of, points}
 use Rattle.chip_laws.specs.Sound.{FabricsAreFew, IsOnNet, LabelsFit}
 use Rattle.chip_plan.specs.Chips.{IsDrawableNet}
-use Rattle.chip_plan.specs.Labels.{AreBelow, IsAtPoint, net_at, points_in}
+use Rattle.path_flat.specs.Rows.{AreBelow}
+use Rattle.chip_plan.specs.Labels.{IsAtPoint, net_at, points_in}
 use Rattle.chip_plan.proofs.Placing.{line_in, segment_at, segment_count, things_few}
 
 -- the point is a supply, a phase, or one of so many nets

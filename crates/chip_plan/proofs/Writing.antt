@@ -20,7 +20,8 @@ use Rattle.flat_chip.specs.Laid.{IsLaid, nowhere}
 use Rattle.chip_laws.specs.Laws.{names_of, points}
 use Rattle.cif_emit.specs.Emittable.{FabricsAreOnGrid, IsEmittable, IsOnGrid, IsPlainLabel, farthest}
 use Rattle.chip_plan.specs.Chips.{IsDrawableNet}
-use Rattle.chip_plan.specs.Labels.{AreBelow, IsAtPoint}
+use Rattle.path_flat.specs.Rows.{AreBelow}
+use Rattle.chip_plan.specs.Labels.{IsAtPoint}
 use Rattle.chip_plan.proofs.Bytes.{IsPlainName}
 use Rattle.chip_plan.proofs.Placing.{columns_few, height, one_band, rows_few, segment_count}
 use Rattle.chip_plan.proofs.Standing.{IsThere, points_there, zip_weaker}

@@ -14,7 +14,7 @@ use Rattle.cif_emit.specs.Emittable.{chip_rects}
 
 -- how large a net may be whose chip can be written in CIF: its array is less than 2^22 lambda wide
 pub record IsDrawableNet (parts : List Part) : Type 0 where
-  pub nets : length parts ≤ 2 ^ 17
+  pub nets : length parts ≤ 200_000
   pub inputs : gate_inputs parts ≤ 2 ^ 20
 
 -- the most rectangles for a net with so many nets and gate inputs

@@ -1,5 +1,5 @@
 -- The labels of a chip in one band, each in the corner of a net of the fabric.
-use Rattle.std.specs.Prelude.{◌≡◌, ◌<◌, ℕ, List, ◌++◌, All, get_or, map, flat_map}
+use Rattle.std.specs.Prelude.{◌≡◌, ℕ, List, ◌++◌, All, get_or, map, flat_map}
 use Rattle.std.specs.List.{AllZip}
 use Rattle.mp_base.specs.declared.pad.Pad.{Pad}
 use Rattle.nor_net.specs.declared.net.NetId.{NetId}
@@ -10,6 +10,7 @@ use Rattle.fabric.specs.Plan.{Plan}
 use Rattle.fabric.specs.Switches.{Net}
 use Rattle.fabric.specs.Switches.Net.{segment, line, ground, power}
 use Rattle.path_form.specs.Flat.{rows_of}
+use Rattle.path_flat.specs.Rows.{AreBelow}
 use Rattle.flat_chip.specs.Flat.{phase_line}
 use Rattle.flat_chip.specs.Laid.{nowhere}
 use Rattle.chip_laws.specs.Labels.{IsInCorner}
@@ -38,10 +39,6 @@ points_in rows = flat_map (λ row. map OfNet row) rows
 pub record Adds (f : Plan) (at : List Point) (names : List (List ℕ)) (old new : List ChipLabel) : Type 0 where
   pub named : names_of new ≡ names_of old ++ names
   pub there : (before : List Point) → AllZip (IsAtPoint f) before old → AllZip (IsAtPoint f) (before ++ at) new
-
--- the numbers are below this one
-abbrev pub AreBelow : ℕ → List NetId → Type 0
-AreBelow nets bits = All (λ (id : NetId). id.0 < nets) bits
 
 -- each bit of the pads has one of so many nets
 pub record AreBitsOf (pads : List Pad) (nets : ℕ) (rows : List (List NetId)) : Type 0 where

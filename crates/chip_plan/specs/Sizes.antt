@@ -8,10 +8,10 @@ use Rattle.path_form.specs.Flat.{IsFewFlat}
 use Rattle.path_form.specs.Sizes.{IsWithin}
 use Rattle.chip_plan.specs.Chips.{IsDrawableNet, most_net_rects}
 
--- The flat net of a path for a cost of at most 1024 and words of at most 32 bits can be laid out.
+-- The flat net of a path for a cost of at most 1024 can be laid out.
 abbrev pub FlatNetsAreDrawable : Type 0
 FlatNetsAreDrawable =
-    (cost : ℕ) (p : DataPath) (flat : Flattened) → IsWithin cost p → IsFewFlat p flat → cost ≤ 1024 → p.width ≤ 32
+    (cost : ℕ) (p : DataPath) (flat : Flattened) → IsWithin cost p → IsFewFlat p flat → cost ≤ 1024
     → IsDrawableNet flat.net
 
 -- What it draws grows with the cost, and with the length of words.

@@ -9,8 +9,9 @@ ghost use Rattle.nor_net.specs.declared.net.Phase.TheVariants.{A, B, C};
 ghost use Rattle.drawing.specs.Draws.{Ground, Power, OfNet, OfPhase};
 ghost use Rattle.fabric.specs.Plan.{Plan};
 ghost use Rattle.path_form.specs.Flat.{rows_of};
+ghost use Rattle.path_flat.specs.Rows.{AreBelow};
 ghost use Rattle.chip_laws.specs.Laws.{names_of, points};
-ghost use Rattle.chip_plan.specs.Labels.{Adds, AreBelow, AreBitsOf, IsAtPoint, points_in, points_of};
+ghost use Rattle.chip_plan.specs.Labels.{Adds, AreBitsOf, IsAtPoint, points_in, points_of};
 
 use crate::places::{ground_label, net_label, phase_label, power_label};
 use fabric::{ChipLabel, Fabric};

@@ -1,7 +1,6 @@
 //! The chip of a flat net.
 
-ghost use Rattle.std.specs.Prelude.{◌≢◌, ◌≤◌, AllPairs, IfOk, length};
-ghost use Rattle.switch_net.specs.Pads.{chip_labels};
+ghost use Rattle.std.specs.Prelude.{◌≤◌, IfOk, length};
 ghost use Rattle.nor_net.specs.Shape.{IsFed};
 ghost use Rattle.cif_emit.specs.Emittable.{IsEmittable, chip_rects};
 ghost use Rattle.chip_plan.specs.Labels.{AreBitsOf};
@@ -16,10 +15,11 @@ use flat_chip::lay;
 use mp_base::{List, NoMemory, Pads};
 use path_form::Flattened;
 use std::alloc::Global;
+use switch_net::chip_labels_differ;
 
 /// The chip of a flat net: its fabric in one band, and a label for each supply and phase and for each bit of the pads,
-/// in the lower left corner of its net. The net has at most 2^17 nets and 2^20 gate inputs, each of its latches is
-/// fed, and the labels of the pads differ.
+/// in the lower left corner of its net. The net has at most 200,000 nets and 2^20 gate inputs, and each of its latches
+/// is fed.
 ///
 /// # Errors
 ///
@@ -29,11 +29,11 @@ pub fn lay_out(alloc: Global, pads: &Pads, flat: &Flattened) -> Result<Chip, NoM
     requires small { IsDrawableNet flat.now.net }
     requires inputs { AreBitsOf pads.now.inputs (length flat.now.net) flat.now.inputs }
     requires outputs { AreBitsOf pads.now.outputs (length flat.now.net) flat.now.outputs }
-    requires differ { AllPairs ◌≢◌ (chip_labels pads.now) }
     ensures laid { IfOk result (IsChipFor pads.now flat.now) }
     ensures emittable { IfOk result (λ chip. IsEmittable (chip_rects chip) chip.labels) }
     ensures few { IfOk result (λ chip. length (chip_rects chip) ≤ most_net_rects flat.now.net) }
 {
+    chip_labels_differ();
     flat_chips_draw();
     labels_stand();
     fabric_lays();

@@ -1,5 +1,6 @@
 -- The nets of pads are nets of the path, and its inputs are bits of input pads.
-use Rattle.std.proofs.Common.{◌≡◌, ◌≢◌, ℕ, ◌<◌, ◌≤◌, ◌+◌, ◌*◌, zero, suc, List, [], ◌∷◌, Option, Some, None, Bool, true, false, cond, eqb, length, map, get_or, refl, sym, ◌∙◌, ap, subst, arith}
+use Rattle.std.proofs.Common.{◌≡◌, ◌≢◌, ℕ, ◌<◌, ◌≤◌, ◌+◌, ◌*◌, zero, suc, List, [], ◌∷◌, Option, Some, None}
+use Rattle.std.proofs.Common.{Bool, true, false, cond, eqb, length, map, get_or, refl, sym, ◌∙◌, ap, subst, arith}
 use Rattle.std.specs.Prelude.{All, Contains, not, slice_get}
 use Rattle.std.proofs.Math.Dec.{eqb-suc-zero}
 use Rattle.std.proofs.lemmas.Bool.{eqb-false, eqb-true, false≢true, true≢false}
@@ -18,6 +19,7 @@ use Rattle.path_form.specs.Shape.{EntriesFit, PadsFit, entries_of, is_fed, rank,
 use Rattle.path_form.specs.Showing.{pad_bits, pad_spot}
 use Rattle.path_flat.specs.Numbered.{IsNumberedTo, total}
 use Rattle.path_flat.specs.Numbers.{parts_of}
+use Rattle.path_flat.specs.Rows.{AreBelow}
 use Rattle.path_flat.proofs.Elements.{has_part, net_at, slice_parts}
 use Rattle.path_flat.proofs.PadInputs.{given_pad, pads_of, parts_fed}
 use Rattle.path_flat.proofs.Ranks.{piece_counts, rank_within}
@@ -100,6 +102,11 @@ counted_pad w (q ∷ qs) (j ∷ js) n h = by_tests (not (eqb q.width 0)) w refl 
     by_tests false true x y h again = behind w q qs j js n (again h)
     by_tests false false x y h again = met (x ∙ sym y) (eqb j.0 n) refl h again
 
+entry : {A : Type 0} (xs : List A) (i : ℕ) → i < length xs → (x : A) × (slice_get xs i ≡ Some x)
+entry [] i l = absurd (omega (arith, l))
+entry (x ∷ xs) zero l = (x, refl)
+entry (x ∷ xs) (suc i) l = entry xs i (omega (arith, l))
+
 fed_part : (part : Part) → is_fed part ≡ true → Fed part
 fed_part Input h = tt
 fed_part (Gate inputs) h = tt
@@ -148,6 +155,22 @@ module _ (p : DataPath) where
           λ k l. h.1 k l ∙ ap (λ (x : NetId). Some x) (sym
               (same (pad_spot pad id k) (pad_within i pad id k is_pad is_id l))),
         )
+
+    -- bits of pads have numbers below each limit that all nets of the path keep
+    pub rows_below : (nets : ℕ) (of : Spot → NetId) → ((n : Spot) → rank p.order n < total p.order → (of n).0 < nets)
+        → (rows : List (List NetId)) → length rows ≡ length pads → ArePadsOf pads ids of rows
+        → All (AreBelow nets) rows
+    rows_below nets of inside rows size are i d l j e m =
+        let many = entries.0 in
+        let pad = entry pads i (omega (arith, l, size)) in
+        let id = entry ids i (omega (arith, l, size, many)) in
+        let row = get_or rows i d in
+        let h = are i pad.0 id.0 row pad.1 id.1 (slice_get-get_or rows i d l) in
+        let count = h.0 in
+        let k : j < pad_bits pad.0 = subst (λ n. j < n) count m in
+        let bit = get_or_from_slice_get row j (of (pad_spot pad.0 id.0 j)) e (h.1 j k) in
+        subst (λ (x : NetId). x.0 < nets) (sym bit)
+        (inside (pad_spot pad.0 id.0 j) (pad_within i pad.0 id.0 j pad.1 id.1 k))
 
   -- ---- pieces end below the limit
 

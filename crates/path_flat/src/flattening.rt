@@ -1,11 +1,12 @@
 //! The flat net of a data path.
 
-ghost use Rattle.std.specs.Prelude.{◌≡◌, [], IfOk};
+ghost use Rattle.std.specs.Prelude.{◌≡◌, [], All, IfOk, length};
 ghost use Rattle.nor_net.specs.Elements.{Spot};
 ghost use Rattle.path_form.specs.Flat.{HasNoOtherInputs, IsFewFlat, IsFlat};
 ghost use Rattle.path_flat.specs.Numbers.{number_of, parts_of};
 ghost use Rattle.path_flat.specs.Order.{places_of};
 ghost use Rattle.path_flat.specs.Numbered.{IsNumbered, IsWhole};
+ghost use Rattle.path_flat.specs.Rows.{AreBelow};
 
 use crate::adding::add;
 use crate::feeding::feed;
@@ -74,6 +75,8 @@ pub fn flatten(alloc: Global, path: &DataPath) -> Result<Flattened, NoMemory>
     ensures flat { IfOk result (IsFlat path.now) }
     ensures others { IfOk result HasNoOtherInputs }
     ensures few { IfOk result (IsFewFlat path.now) }
+    ensures inputs { IfOk result (λ flat. All (AreBelow (length flat.net)) flat.inputs) }
+    ensures outputs { IfOk result (λ flat. All (AreBelow (length flat.net)) flat.outputs) }
 {
     let places = places(alloc, path.order.as_slice())?;
     let mut net = Net::new(alloc);

@@ -1,7 +1,8 @@
 use Rattle.std.proofs.Common.{◌∙◌, length, get_or, sym, ap, subst, arith}
 use Rattle.mp_base.specs.declared.pad.Pad.{Pad}
 use Rattle.switch_net.specs.Pads.{bit_labels}
-use Rattle.chip_plan.specs.Labels.{Adds, AreBelow, points_of}
+use Rattle.path_flat.specs.Rows.{AreBelow}
+use Rattle.chip_plan.specs.Labels.{Adds, points_of}
 use Rattle.chip_plan.proofs.Adding.{all_added, row_added, row_each, rows_long}
 use Rattle.chip_plan.proofs.labels.add_pads.Goals as goal
 

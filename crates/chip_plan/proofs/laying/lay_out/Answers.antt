@@ -45,7 +45,8 @@ returns-clause-laid c =
       laid_out = laid_out flat.net f laid c.conditions.ensures.met switched.0 network switched.1 drawn.0 drawn.1
           c.labels_stand.ensures flat.inputs flat.outputs c.in_ok-labels.labels c.requires.inputs.below
           c.requires.outputs.below c.in_ok-labels.ensures.there c.labels_fit.ensures c.fabrics_are_few.ensures
-          c.fabric_lays.ensures c.requires.small pads named c.requires.differ flat refl refl refl
+          c.fabric_lays.ensures c.requires.small pads named (c.chip_labels_differ.ensures pads) flat refl refl
+          refl
           (shape f ++ c.new.result) (ap (λ l. shape f ++ l) c.new.ensures ∙ append-nil (shape f));
     }
 

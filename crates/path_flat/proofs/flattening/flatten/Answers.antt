@@ -5,7 +5,7 @@ use Rattle.nor_net.specs.declared.net.NetId.{NetId}
 use Rattle.path_form.specs.declared.path.Piece.{Piece}
 use Rattle.path_form.specs.Flat.{ArePadsOf}
 use Rattle.path_flat.specs.Numbers.{number_of}
-use Rattle.path_flat.proofs.PadNets.{no_others, pieces_short, rows_numbered}
+use Rattle.path_flat.proofs.PadNets.{no_others, pieces_short, rows_below, rows_numbered}
 use Rattle.path_flat.proofs.Whole.{all_fed, numbering, of, of_net}
 use Rattle.path_flat.proofs.flattening.flatten.Goals as goal
 
@@ -55,3 +55,27 @@ returns-clause-others c =
     c.as_slice-4.ensures c.in_ok-inputs.ensures.pads) in
     no_others p net number w.numbered c.in_ok-inputs.inputs
     (c.in_ok-inputs.ensures.size ∙ ap length c.as_slice-4.ensures) ins
+
+pub returns-clause-inputs : goal.returns-clause-inputs
+returns-clause-inputs c =
+    let p = c.args.path.now in
+    let number = number_of c.in_ok-numbers.numbers in
+    let are : ArePadsOf (p.pads).inputs p.inputs number c.in_ok-inputs.inputs =
+    subst (λ (ids : List NetId). ArePadsOf (p.pads).inputs ids number c.in_ok-inputs.inputs) c.as_slice-5.ensures
+    (subst (λ (pads : List Pad). ArePadsOf pads c.as_slice-5.result.now number c.in_ok-inputs.inputs)
+    c.as_slice-4.ensures c.in_ok-inputs.ensures.pads) in
+    rows_below p (p.pads).inputs p.inputs p.whole.pads_fit.0 p.whole.entries_fit.0 (length c.feed_all.new.net) number
+    c.feed_all.ensures.numbered.inside c.in_ok-inputs.inputs
+    (c.in_ok-inputs.ensures.size ∙ ap length c.as_slice-4.ensures) are
+
+pub returns-clause-outputs : goal.returns-clause-outputs
+returns-clause-outputs c =
+    let p = c.args.path.now in
+    let number = number_of c.in_ok-numbers.numbers in
+    let are : ArePadsOf (p.pads).outputs p.outputs number c.in_ok-outputs.outputs =
+    subst (λ (ids : List NetId). ArePadsOf (p.pads).outputs ids number c.in_ok-outputs.outputs) c.as_slice-7.ensures
+    (subst (λ (pads : List Pad). ArePadsOf pads c.as_slice-7.result.now number c.in_ok-outputs.outputs)
+    c.as_slice-6.ensures c.in_ok-outputs.ensures.pads) in
+    rows_below p (p.pads).outputs p.outputs p.whole.pads_fit.1 p.whole.entries_fit.1 (length c.feed_all.new.net) number
+    c.feed_all.ensures.numbered.inside c.in_ok-outputs.outputs
+    (c.in_ok-outputs.ensures.size ∙ ap length c.as_slice-6.ensures) are
