@@ -1,13 +1,11 @@
 -- The line that tells the size of a network.
-use Rattle.std.specs.Prelude.{◌≡◌, ℕ, List, [], ◌∷◌, ◌++◌, codes}
+use Rattle.std.specs.Prelude.{ℕ, List, [], ◌∷◌, ◌++◌, codes}
 use Rattle.std.specs.Fmt.{decimal}
 use Rattle.mp_base.specs.declared.value.Trit.{Trit}
 use Rattle.mp_base.specs.declared.value.Trit.TheVariants.{One, X}
-use Rattle.mp_base.specs.declared.pad.Pads.{Pads}
 use Rattle.switch_net.specs.declared.network.ChannelKind.TheVariants.{Enhancement, Depletion, Partial}
 use Rattle.switch_net.specs.declared.network.Network.{Network}
 use Rattle.switch_net.specs.Sizes.{channels_of, nodes_with}
-use Rattle.switch_net.specs.Clock.{IsCircuitTrace}
 
 -- `nodes N enhancement N depletion N partial N`
 abbrev pub size_text : Network → List ℕ
@@ -20,9 +18,10 @@ size_text net = codes "nodes " ++ decimal net.nodes
 abbrev pub size_line : Network → List ℕ
 size_line net = size_text net ++ 10 ∷ []
 
--- the size line at the end of a run, from all values X along these inputs: with the numbers of nodes at 1 and at X
-pub record IsRunSizeLine (net : Network) (pads : Pads) (inputs : List (List ℕ)) (text : List ℕ) : Type 0 where
-  pub shown : List (List (List Trit))
-  pub after : ℕ → Trit
-  pub trace : IsCircuitTrace net pads (λ node. X) inputs shown after
-  pub line : text ≡ size_text net ++ codes " ones " ++ decimal (nodes_with net after One) ++ codes " unknown " ++ decimal (nodes_with net after X) ++ 10 ∷ []
+-- ` ones N unknown N` and a line feed, for so many nodes at 1 and at X
+abbrev pub counts_text : (ones unknown : ℕ) → List ℕ
+counts_text ones unknown = codes " ones " ++ decimal ones ++ codes " unknown " ++ decimal unknown ++ 10 ∷ []
+
+-- the size line at the end of a run that left these values, with the numbers of nodes at 1 and at X
+abbrev pub last_line : Network → (ℕ → Trit) → List ℕ
+last_line net end = size_text net ++ counts_text (nodes_with net end One) (nodes_with net end X)

@@ -1,24 +1,44 @@
 //! From the bytes of a file to its network.
 
-ghost use Rattle.std.specs.Prelude.{IfOk, IfErr};
-ghost use Rattle.mask_net.specs.Masks.{IsCif, IsDrawing, IsNetOf, RefusesBytes};
+ghost use Rattle.std.specs.Prelude.{IfOk, IfErr, None};
+ghost use Rattle.mask_net.specs.Masks.{IsCif, IsDrawing, IsNetOf, OfMask, RefusesBytes};
 
+use crate::laws::one_verdict;
 use cif_flat::{Flat, flatten, read_is_well_formed};
 use cif_form::{scan_is_reading, walk_is_expansion};
 use cif_list::Cif;
 use cif_reader::read_cif;
 use extractor::extract;
-use mp_base::Refusal;
+use mp_base::{NoMemory, Refusal};
 use std::alloc::Global;
 use switch_net::Network;
+
+// The commands.
+fn commands_in(alloc: Global, bytes: &[u8]) -> Result<Cif, Refusal>
+    ensures ok { IfOk result (λ cif. IsCif bytes.now cif) }
+    ensures err { IfErr result (RefusesBytes bytes.now) }
+{
+    scan_is_reading();
+    read_cif(alloc, bytes)
+}
 
 // The commands, for which the bytes are let go.
 fn commands_of(alloc: Global, bytes: Vec<u8>) -> Result<Cif, Refusal>
     ensures ok { IfOk result (λ cif. IsCif bytes.items cif) }
     ensures err { IfErr result (RefusesBytes bytes.items) }
 {
-    scan_is_reading();
-    read_cif(alloc, &bytes)
+    commands_in(alloc, &bytes)
+}
+
+// The shapes and labels of bytes that stay, for which the commands are let go.
+fn drawing_in(alloc: Global, bytes: &[u8]) -> Result<Flat, Refusal>
+    ensures ok { IfOk result (λ flat. IsDrawing bytes.now flat.shapes flat.labels) }
+    ensures err { IfErr result (RefusesBytes bytes.now) }
+{
+    read_is_well_formed();
+    walk_is_expansion();
+    let cif = commands_in(alloc, bytes)?;
+    flatten(alloc, &cif)
 }
 
 // The shapes and labels, for which the commands are let go.
@@ -43,4 +63,30 @@ pub fn network_of(alloc: Global, bytes: Vec<u8>) -> Result<Network, Refusal>
 {
     let flat = drawing_of(alloc, bytes)?;
     extract(alloc, flat.shapes.as_slice(), flat.labels.as_slice())
+}
+
+// The network of bytes that stay.
+fn network_in(alloc: Global, bytes: &[u8]) -> Result<Network, Refusal>
+    ensures ok { IfOk result (IsNetOf bytes.now) }
+    ensures err { IfErr result (RefusesBytes bytes.now) }
+{
+    let flat = drawing_in(alloc, bytes)?;
+    extract(alloc, flat.shapes.as_slice(), flat.labels.as_slice())
+}
+
+/// The network of switches that the bytes of a CIF file draw, of which it is known that they break no rule. They stay.
+///
+/// # Errors
+///
+/// Want of memory.
+pub fn drawn_network(alloc: Global, bytes: &[u8]) -> Result<Network, NoMemory>
+    requires { OfMask bytes.now None }
+    ensures { IfOk result (IsNetOf bytes.now) }
+{
+    one_verdict();
+    match network_in(alloc, bytes) {
+        Ok(network) => Ok(network),
+        Err(Refusal::NoMemory) => Err(NoMemory),
+        Err(Refusal::Broken(_)) => unreachable!(),
+    }
 }

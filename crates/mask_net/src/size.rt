@@ -2,7 +2,7 @@
 
 ghost use Rattle.std.specs.Prelude.{◌≡◌, IfOk};
 ghost use Rattle.switch_net.specs.Sizes.{channels_of, same_kind};
-ghost use Rattle.mask_net.specs.SizeLine.{size_line};
+ghost use Rattle.mask_net.specs.SizeLine.{size_line, size_text};
 
 use mp_base::push_number;
 use std::alloc::{AllocError, Global};
@@ -30,9 +30,13 @@ fn channels_of(net: &Network, kind: ChannelKind) -> usize
         .count()
 }
 
-/// The size line of a network, `nodes N enhancement N depletion N partial N`, with its line feed.
-pub fn size_line(alloc: Global, net: &Network) -> Result<Vec<u8>, AllocError>
-    ensures { IfOk result (λ text. text.items ≡ size_line net.now) }
+/// The size of a network, `nodes N enhancement N depletion N partial N`.
+///
+/// # Errors
+///
+/// Want of memory.
+pub fn size_text(alloc: Global, net: &Network) -> Result<Vec<u8>, AllocError>
+    ensures { IfOk result (λ text. text.items ≡ size_text net.now) }
 {
     let mut text = Vec::from_slice(alloc, b"nodes ")?;
     push_number(&mut text, net.nodes as u64)?;
@@ -42,6 +46,18 @@ pub fn size_line(alloc: Global, net: &Network) -> Result<Vec<u8>, AllocError>
     push_number(&mut text, channels_of(net, ChannelKind::Depletion) as u64)?;
     text.extend_from_slice(b" partial ")?;
     push_number(&mut text, channels_of(net, ChannelKind::Partial) as u64)?;
+    Ok(text)
+}
+
+/// The size line of a network: its size, and a line feed.
+///
+/// # Errors
+///
+/// Want of memory.
+pub fn size_line(alloc: Global, net: &Network) -> Result<Vec<u8>, AllocError>
+    ensures { IfOk result (λ text. text.items ≡ size_line net.now) }
+{
+    let mut text = size_text(alloc, net)?;
     text.push(b'\n')?;
     Ok(text)
 }

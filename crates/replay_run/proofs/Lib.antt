@@ -1,0 +1,4 @@
+mod ProgramPads
+mod Counting
+mod Replaying
+mod Chips

@@ -1,0 +1,7 @@
+use Rattle.mp_base.proofs.Written.{written_then}
+use Rattle.replay_run.proofs.counts.write_both.Goals as goal
+
+pub returns-clause-taken : goal.returns-clause-taken
+returns-clause-taken g c =
+    written_then c.in_ok-write_all.field-0 _ _ _ c.args.first.now c.args.then.now c.write_all-2.result
+    c.in_ok-write_all.ensures.taken c.write_all-2.ensures.taken
