@@ -1,0 +1,8 @@
+mod Widths
+mod Faces
+mod Given
+mod Ready
+mod Loops
+mod Words
+mod GoingOn
+mod Verdict

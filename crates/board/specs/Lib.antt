@@ -1,0 +1,6 @@
+pub mod Face
+pub mod Loop
+pub mod Printing
+pub mod Boarding
+pub mod Links
+pub mod Laws

@@ -1,0 +1,27 @@
+//! Laws of loops: a call of one does nothing, and tells the caller's proof what it ensures.
+
+ghost use Rattle.board.specs.Laws.{BrokenOnce, GoesOn, InputsFit, LinksOnce, LoopsAgree, WholeOrBroken};
+
+use transcript::Device;
+
+/// What is shown in unsettled clocks changes neither what the inputs are given nor the parts.
+pub fn loops_agree()
+    ensures { LoopsAgree }
+{}
+
+/// What the inputs are given fits them.
+pub fn inputs_fit()
+    ensures { InputsFit }
+{}
+
+/// Where a device can always step again, what a run of a board printed is of a loop of all its clocks.
+pub fn lines_of_loops<D: Device>()
+    ensures { GoesOn D.steps }
+{}
+
+/// Words stand for one list of links, or break one rule first, at one word.
+pub fn one_reading()
+    ensures links { LinksOnce }
+    ensures first { BrokenOnce }
+    ensures whole { WholeOrBroken }
+{}

@@ -1,0 +1,54 @@
+-- The loop of a chip and that of its program.
+use Rattle.std.proofs.Common.{◌≡◌, ◌∙◌, ℕ, suc, ◌+◌, List, [], ◌∷◌, length, map, refl, subst, arith, ap}
+use Rattle.std.specs.Prelude.{All}
+use Rattle.std.proofs.lemmas.List.Elements.{All-nil, All-cons}
+use Rattle.mp_base.specs.declared.value.Trit.{Trit}
+use Rattle.mp_base.specs.declared.value.Trit.TheVariants.{X}
+use Rattle.mp_program.specs.State.{zero_state}
+use Rattle.stimulus.specs.Inputs.{Fit}
+use Rattle.stimulus.specs.Bits.{value_bits}
+use Rattle.headline.specs.Headline.{Follows}
+use Rattle.transcript.specs.Transcript.{RunsAlong}
+use Rattle.trace_run.specs.Transcript.{ProgramSteps}
+use Rattle.board.specs.Face.{Face}
+use Rattle.board.specs.Loop.{Wired, faces_after, inputs_at, inputs_along, is_settled}
+use Rattle.board.specs.Laws.{AgreeWhereSettled, InputsFit, LoopsAgree}
+use Rattle.board_laws.specs.Laws.{ChipsLoop, CircuitsLoop}
+use Rattle.board_laws.proofs.Runs.{circuit_runs, circuit_trace, program_runs, as_many, along_many, agree_at}
+use Rattle.board_laws.proofs.Resets.{settles}
+
+pub circuits_loop : CircuitsLoop
+circuits_loop w clock before after faces later shown same loop = record {
+  runs = circuit_runs before.network w.pads before after _ shown refl same loop.runs;
+  parts = loop.parts;
+}
+
+all_fit : InputsFit → (w : Wired) (clock : ℕ) (faces : List Face) (shown : List (List (List Trit)))
+    → All (Fit (w.pads).inputs) (inputs_along w clock faces shown)
+all_fit fits w clock faces [] = All-nil (Fit (w.pads).inputs)
+all_fit fits w clock faces (o ∷ os) =
+    All-cons (Fit (w.pads).inputs) (inputs_at w clock faces) _ (fits w clock faces)
+    (all_fit fits w (suc clock) (faces_after w clock o faces) os)
+
+pub chips_loop : LoopsAgree → InputsFit → ChipsLoop
+chips_loop agrees fits p net w faces later shown after unbroken board follows loop =
+    let inputs : List (List ℕ) = inputs_along w 0 faces shown in
+    let outs = (w.pads).outputs in
+    let f : Follows p w.pads net inputs = follows inputs (all_fit fits w 0 faces shown) in
+    let many : length inputs ≡ length shown = along_many w 0 faces shown in
+    let trace = circuit_trace net w.pads (λ node. X) after inputs shown loop.runs in
+    let told : List (List (List Trit)) = map (value_bits outs) f.outputs in
+    let same : AgreeWhereSettled w 0 shown told =
+    agree_at w 0 shown f.outputs (as_many p (zero_state p) inputs f.outputs f.program ∙ many)
+    (λ k lt s. f.agrees (λ node. X) after shown trace k (omega (arith, lt, many))
+    (settles p w unbroken board faces shown k lt (let z : k ≡ 0 + k = omega arith in ap (is_settled w) z ∙ s))) in
+    let e = agrees w 0 faces shown told same in
+    let run = program_runs p outs (zero_state p) inputs f.outputs f.program in (
+      told,
+      run.0,
+      record {
+        runs = subst (λ is. RunsAlong (ProgramSteps p outs) (zero_state p) is told run.0) e.0 run.1;
+        parts = loop.parts ∙ e.1;
+      },
+      same,
+    )

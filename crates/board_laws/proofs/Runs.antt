@@ -1,0 +1,85 @@
+-- Runs of circuits and of programs.
+use Rattle.std.proofs.Common.{◌≡◌, ◌∙◌, ℕ, suc, ◌+◌, ◌<◌, List, [], ◌∷◌, true, length, map, refl, ap, subst, arith}
+use Rattle.std.specs.Prelude.{slice_index_or}
+use Rattle.mp_base.specs.declared.value.Trit.{Trit}
+use Rattle.mp_base.specs.declared.pad.Pad.{Pad}
+use Rattle.mp_base.specs.declared.pad.Pads.{Pads}
+use Rattle.mp_program.specs.declared.program.Program.{Program}
+use Rattle.mp_program.specs.State.{State}
+use Rattle.mp_program.specs.Trace.{IsTraceFrom}
+use Rattle.switch_net.specs.declared.network.Network.{Network}
+use Rattle.switch_net.specs.Clock.{IsClock, IsCircuitTrace}
+use Rattle.settle.specs.Values.{value_at}
+use Rattle.stimulus.specs.Bits.{value_bits}
+use Rattle.clock_run.specs.Circuit.{Running}
+use Rattle.clock_run.specs.Device.{CircuitSteps}
+use Rattle.transcript.specs.Transcript.{RunsAlong}
+use Rattle.sim_run.specs.Transcript.{NetworkSteps}
+use Rattle.trace_run.specs.Transcript.{ProgramSteps}
+use Rattle.board.specs.Face.{Face}
+use Rattle.board.specs.Loop.{Wired, is_settled, faces_after, inputs_along}
+use Rattle.board.specs.Laws.{AgreeWhereSettled}
+
+pub circuit_runs : (net : Network) (pads : Pads) (s t : Running) (inputs : List (List ℕ))
+    (shown : List (List (List Trit)))
+    → s.network ≡ net → s.pads ≡ pads → RunsAlong CircuitSteps s inputs shown t
+    → RunsAlong (NetworkSteps net pads) (value_at s.values) inputs shown (value_at t.values)
+circuit_runs net pads s t [] [] same with_pads h = ap (λ (r : Running). value_at r.values) h
+circuit_runs net pads s t [] (o ∷ os) same with_pads h = absurd h
+circuit_runs net pads s t (i ∷ is) [] same with_pads h = absurd h
+circuit_runs net pads s t (i ∷ is) (o ∷ os) same with_pads h =
+    let step = h.1 in
+    let P : Network → Type 0 = λ n. IsClock n s.pads i (value_at s.values) o (value_at (h.0).values) in
+    let Q : Pads → Type 0 = λ ps. IsClock net ps i (value_at s.values) o (value_at (h.0).values) in (
+      value_at (h.0).values,
+      subst Q with_pads (subst P same step.clock),
+      circuit_runs net pads h.0 t is os (step.network ∙ same) (step.pads ∙ with_pads) h.2,
+    )
+
+pub circuit_trace : (net : Network) (pads : Pads) (before after : ℕ → Trit) (inputs : List (List ℕ))
+    (shown : List (List (List Trit))) → RunsAlong (NetworkSteps net pads) before inputs shown after
+    → IsCircuitTrace net pads before inputs shown after
+circuit_trace net pads before after [] [] h = λ n. ap (λ v. v n) h
+circuit_trace net pads before after [] (o ∷ os) h = absurd h
+circuit_trace net pads before after (i ∷ is) [] h = absurd h
+circuit_trace net pads before after (i ∷ is) (o ∷ os) h = (h.0, h.1, circuit_trace net pads h.0 after is os h.2)
+
+pub program_runs : (p : Program) (pads : List Pad) (st : State) (inputs outputs : List (List ℕ))
+    → IsTraceFrom p st inputs outputs
+    → (end : State) × RunsAlong (ProgramSteps p pads) st inputs (map (value_bits pads) outputs) end
+program_runs p pads st [] [] t = (st, refl)
+program_runs p pads st [] (o ∷ os) t = absurd t
+program_runs p pads st (i ∷ is) [] t = absurd t
+program_runs p pads st (i ∷ is) (o ∷ os) t =
+    let r = program_runs p pads t.0 is os t.2 in
+    (r.0, (t.0, record { outputs = o; clock = t.1; bits = refl }, r.1))
+
+pub as_many : (p : Program) (st : State) (inputs outputs : List (List ℕ)) → IsTraceFrom p st inputs outputs
+    → length outputs ≡ length inputs
+as_many p st [] [] t = refl
+as_many p st [] (o ∷ os) t = absurd t
+as_many p st (i ∷ is) [] t = absurd t
+as_many p st (i ∷ is) (o ∷ os) t = let e = as_many p t.0 is os t.2 in omega (arith, e)
+
+pub along_many : (w : Wired) (clock : ℕ) (faces : List Face) (shown : List (List (List Trit)))
+    → length (inputs_along w clock faces shown) ≡ length shown
+along_many w clock faces [] = refl
+along_many w clock faces (o ∷ os) =
+    let e = along_many w (suc clock) (faces_after w clock o faces) os in omega (arith, e)
+
+-- lists that are the same at each settled clock agree
+pub agree_at : (w : Wired) (clock : ℕ) (shown : List (List (List Trit))) (outputs : List (List ℕ))
+    → length outputs ≡ length shown
+    → ((k : ℕ) → k < length shown → is_settled w (clock + k) ≡ true
+    → slice_index_or shown k [] ≡ value_bits (w.pads).outputs (slice_index_or outputs k []))
+    → AgreeWhereSettled w clock shown (map (value_bits (w.pads).outputs) outputs)
+agree_at w clock [] [] e h = tt
+agree_at w clock [] (p ∷ ps) e h = absurd (omega (arith, e))
+agree_at w clock (o ∷ os) [] e h = absurd (omega (arith, e))
+agree_at w clock (o ∷ os) (p ∷ ps) e h =
+    let here : clock + 0 ≡ clock = omega arith in (
+      (λ s. h 0 (omega arith) (ap (is_settled w) here ∙ s)),
+      agree_at w (suc clock) os ps (omega (arith, e)) (λ k lt s.
+          let next : clock + suc k ≡ suc clock + k = omega arith in
+          h (suc k) (omega (arith, lt)) (ap (is_settled w) next ∙ s)),
+    )

@@ -1,0 +1,18 @@
+//! Laws of chips on a board: a call of one does nothing, and tells the caller's proof what it ensures.
+
+ghost use Rattle.board_laws.specs.Laws.{ChipsLoop, CircuitsLoop};
+
+use board::laws::{inputs_fit, loops_agree};
+
+/// The loop of a circuit is one of its network.
+pub fn circuits_loop()
+    ensures { CircuitsLoop }
+{}
+
+/// The loop of a chip shows in each settled clock what the loop of its program shows, and both leave the parts alike.
+pub fn chips_loop()
+    ensures { ChipsLoop }
+{
+    loops_agree();
+    inputs_fit();
+}

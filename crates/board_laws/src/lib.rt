@@ -1,0 +1,4 @@
+//! Laws of chips on a board.
+#![tactic(auto)]
+
+pub mod laws;
