@@ -15,7 +15,7 @@ use Rattle.command_line.specs.Command.{Command, begins_with_dash, form_named, fo
 use Rattle.command_line.specs.App as app
 use Rattle.command_line.specs.Read.{read_met, read_named}
 use Rattle.command_line.proofs.Plain.{fed_level, level_plain, neither, rows_plain, turn_plain, walk_stopped}
-use Rattle.command_line.proofs.Levels.{IsLevel, passes, read_at, ready, trace_level, compile_level, sim_level, net_level}
+use Rattle.command_line.proofs.Levels.{IsLevel, passes, read_at, ready, trace_level, compile_level, replay_level, sim_level, net_level}
 
 abbrev whole : App
 whole = built app.app
@@ -94,6 +94,9 @@ trace_exact words plain = named_exact (ready app.trace) (codes "trace") words re
 compile_exact : (words : List Text) → list_any begins_with_dash words ≡ false → IsExact (codes "compile" ∷ words)
 compile_exact words plain = named_exact (ready app.compile) (codes "compile") words refl refl refl plain (compile_level words)
 
+replay_exact : (words : List Text) → list_any begins_with_dash words ≡ false → IsExact (codes "replay" ∷ words)
+replay_exact words plain = named_exact (ready app.replay) (codes "replay") words refl refl refl plain (replay_level words)
+
 sim_exact : (words : List Text) → list_any begins_with_dash words ≡ false → IsExact (codes "sim" ∷ words)
 sim_exact words plain = named_exact (ready app.sim) (codes "sim") words refl refl refl plain (sim_level words)
 
@@ -111,9 +114,10 @@ each_name : (name : Text) (words : List Text) → begins_with_dash name ≡ fals
 each_name name words first plain =
     either (codes "trace") name words (trace_exact words plain) (λ e0.
     either (codes "compile") name words (compile_exact words plain) (λ e1.
-    either (codes "sim") name words (sim_exact words plain) (λ e2.
-    either (codes "net") name words (net_exact words plain) (λ e3.
-    unknown_exact name words first (rw (e0, e1, e2, e3) refl) (rw (e0, e1, e2, e3) refl)))))
+    either (codes "replay") name words (replay_exact words plain) (λ e2.
+    either (codes "sim") name words (sim_exact words plain) (λ e3.
+    either (codes "net") name words (net_exact words plain) (λ e4.
+    unknown_exact name words first (rw (e0, e1, e2, e3, e4) refl) (rw (e0, e1, e2, e3, e4) refl))))))
 
 pub exact : (words : List Text) → list_any begins_with_dash words ≡ false → IsExact words
 exact [] plain = none_exact

@@ -4,7 +4,7 @@ use Rattle.clap.specs.Kinds.{Kinds}
 use Rattle.clap.specs.Simple.{Shape, built_leaf, inherited}
 use Rattle.clap.specs.Walk.{Text, finished}
 use Rattle.clap.proofs.OnLiterals.{clap_on_literals}
-use Rattle.command_line.specs.Command.{Command, Trace, Compile, Sim, Net, one, two}
+use Rattle.command_line.specs.Command.{Command, Trace, Compile, Replay, Sim, Net, one, two, three}
 use Rattle.command_line.specs.App as app
 use Rattle.command_line.specs.Read.{read_named}
 use Rattle.command_line.proofs.Plain.{fed_end, fed_level}
@@ -42,6 +42,14 @@ compile_level [] = (refl, no)
 compile_level (a ∷ []) = (refl, no)
 compile_level (a ∷ b ∷ []) = (refl, λ e. refl)
 compile_level (a ∷ b ∷ c ∷ rest) = (refl, no)
+
+pub replay_level : (words : List Text) → IsLevel (ready app.replay) words (three Replay words)
+unfolding clap_on_literals
+replay_level [] = (refl, no)
+replay_level (a ∷ []) = (refl, no)
+replay_level (a ∷ b ∷ []) = (refl, no)
+replay_level (a ∷ b ∷ c ∷ []) = (refl, λ e. refl)
+replay_level (a ∷ b ∷ c ∷ d ∷ rest) = (refl, no)
 
 pub sim_level : (words : List Text) → IsLevel (ready app.sim) words (two Sim words)
 unfolding clap_on_literals

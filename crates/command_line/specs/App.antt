@@ -17,6 +17,9 @@ trace = form (codes "trace") (codes "source" ∷ codes "stimulus" ∷ [])
 abbrev pub compile : Shape
 compile = form (codes "compile") (codes "source" ∷ codes "cif" ∷ [])
 
+abbrev pub replay : Shape
+replay = form (codes "replay") (codes "source" ∷ codes "stimulus" ∷ codes "cif" ∷ [])
+
 abbrev pub sim : Shape
 sim = form (codes "sim") (codes "cif" ∷ codes "stimulus" ∷ [])
 
@@ -42,4 +45,4 @@ top = record bare_top { is_leaf = false }
 
 -- the program with its forms
 abbrev pub app : App
-app = record { top = top; subs = trace ∷ compile ∷ sim ∷ net ∷ [] }
+app = record { top = top; subs = trace ∷ compile ∷ replay ∷ sim ∷ net ∷ [] }

@@ -10,6 +10,7 @@ use Rattle.command_line.specs.declared.command.Command.TheVariants as rust_varia
 pub data Command : Type 0 where
   Trace : (source stimulus : List ℕ) → Command
   Compile : (source cif : List ℕ) → Command
+  Replay : (source stimulus cif : List ℕ) → Command
   Sim : (cif stimulus : List ℕ) → Command
   Net : (cif : List ℕ) → Command
 
@@ -27,11 +28,17 @@ abbrev pub two : (List ℕ → List ℕ → Command) → List (List ℕ) → Opt
 two make (a ∷ b ∷ []) = Some (make a b)
 two make words = None
 
+-- a command of exactly three words
+abbrev pub three : (List ℕ → List ℕ → List ℕ → Command) → List (List ℕ) → Option Command
+three make (a ∷ b ∷ c ∷ []) = Some (make a b c)
+three make words = None
+
 -- the command that a name and the words after it stand for
 abbrev pub form_named : List ℕ → List (List ℕ) → Option Command
 form_named name words =
     if bytes_eq (codes "trace") name then two Trace words
     else if bytes_eq (codes "compile") name then two Compile words
+    else if bytes_eq (codes "replay") name then three Replay words
     else if bytes_eq (codes "sim") name then two Sim words
     else if bytes_eq (codes "net") name then one Net words
     else None
@@ -49,5 +56,6 @@ command_of words = if list_any (λ word. begins_with_dash (string_bytes word)) w
 abbrev pub seen : rust.Command → Command
 seen (rust_variants.Trace source stimulus) = Trace source.now stimulus.now
 seen (rust_variants.Compile source cif) = Compile source.now cif.now
+seen (rust_variants.Replay source stimulus cif) = Replay source.now stimulus.now cif.now
 seen (rust_variants.Sim cif stimulus) = Sim cif.now stimulus.now
 seen (rust_variants.Net cif) = Net cif.now

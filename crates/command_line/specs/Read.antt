@@ -8,7 +8,7 @@ use Rattle.clap.specs.declared.ArgMatches.{ArgMatches}
 use Rattle.clap.specs.declared.Error.{Error}
 use Rattle.clap.specs.declared.error.ErrorKind.{ErrorKind}
 use Rattle.clap.specs.declared.error.ErrorKind.TheVariants.{OutOfMemory}
-use Rattle.command_line.specs.Command.{Command, Trace, Compile, Sim, Net}
+use Rattle.command_line.specs.Command.{Command, Trace, Compile, Replay, Sim, Net}
 
 -- a command of the word that an id took
 abbrev pub read_one : (Text → Command) → Text → List Row → Option Command
@@ -18,11 +18,17 @@ read_one make x rows = option_and_then (λ a. Some (make a)) (first_of x rows)
 abbrev pub read_two : (Text → Text → Command) → Text → Text → List Row → Option Command
 read_two make x y rows = option_and_then (λ a. option_and_then (λ b. Some (make a b)) (first_of y rows)) (first_of x rows)
 
+-- a command of the words that three ids took
+abbrev pub read_three : (Text → Text → Text → Command) → Text → Text → Text → List Row → Option Command
+read_three make x y z rows = option_and_then (λ a. read_two (make a) y z rows) (first_of x rows)
+
 -- the command that a subcommand's name and rows hold
 abbrev pub read_named : Text → List Row → Option Command
 read_named name rows =
     if bytes_eq name (codes "trace") then read_two Trace (codes "source") (codes "stimulus") rows
     else if bytes_eq name (codes "compile") then read_two Compile (codes "source") (codes "cif") rows
+    else if bytes_eq name (codes "replay")
+    then read_three Replay (codes "source") (codes "stimulus") (codes "cif") rows
     else if bytes_eq name (codes "sim") then read_two Sim (codes "cif") (codes "stimulus") rows
     else if bytes_eq name (codes "net") then read_one Net (codes "cif") rows
     else None

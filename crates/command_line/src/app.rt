@@ -58,6 +58,7 @@ pub fn app<'a>(alloc: Global) -> Result<Command<'a>, AllocError>
 {
     let trace = with_form(alloc, top(alloc), "trace", &["source", "stimulus"])?;
     let compile = with_form(alloc, trace, "compile", &["source", "cif"])?;
-    let sim = with_form(alloc, compile, "sim", &["cif", "stimulus"])?;
+    let replay = with_form(alloc, compile, "replay", &["source", "stimulus", "cif"])?;
+    let sim = with_form(alloc, replay, "sim", &["cif", "stimulus"])?;
     with_form(alloc, sim, "net", &["cif"])
 }

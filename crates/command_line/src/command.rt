@@ -18,6 +18,7 @@ use std::alloc::{AllocError, Global};
 pub enum Command<'a> {
     Trace(&'a str, &'a str),
     Compile(&'a str, &'a str),
+    Replay(&'a str, &'a str, &'a str),
     Sim(&'a str, &'a str),
     Net(&'a str),
 }

@@ -5,7 +5,7 @@ ghost use Rattle.std.specs.Option.{option_map};
 ghost use Rattle.clap.specs.Words.{first_of, found_of, rows_of};
 ghost use Rattle.command_line.specs.Command as spec;
 ghost use Rattle.command_line.specs.Command.{seen};
-ghost use Rattle.command_line.specs.Read.{read_named, read_one, read_two};
+ghost use Rattle.command_line.specs.Read.{read_named, read_one, read_two, read_three};
 
 use crate::command::Command;
 use clap::ArgMatches;
@@ -29,6 +29,17 @@ fn compile<'a>(matches: &ArgMatches<'a>) -> Option<Command<'a>>
     Some(Command::Compile(text(matches, "source")?, text(matches, "cif")?))
 }
 
+fn replay<'a>(matches: &ArgMatches<'a>) -> Option<Command<'a>>
+    ensures { option_map seen result ≡ read_three spec.Replay (codes "source") (codes "stimulus") (codes "cif")
+        (rows_of (found_of matches.now)) }
+{
+    Some(Command::Replay(
+        text(matches, "source")?,
+        text(matches, "stimulus")?,
+        text(matches, "cif")?,
+    ))
+}
+
 fn sim<'a>(matches: &ArgMatches<'a>) -> Option<Command<'a>>
     ensures { option_map seen result ≡ read_two spec.Sim (codes "cif") (codes "stimulus") (rows_of (found_of matches.now)) }
 {
@@ -49,6 +60,8 @@ pub fn command_in<'a>(name: &str, matches: &ArgMatches<'a>) -> Option<Command<'a
         trace(matches)
     } else if name == "compile" {
         compile(matches)
+    } else if name == "replay" {
+        replay(matches)
     } else if name == "sim" {
         sim(matches)
     } else if name == "net" {

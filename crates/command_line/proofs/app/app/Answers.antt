@@ -8,5 +8,6 @@ pub returns : goal.returns
 returns c =
     let trace = c.in_ok-trace.ensures ∙ ap (λ (a : App). with_subcommand a spec.trace) c.top.ensures in
     let compile = c.in_ok-compile.ensures ∙ ap (λ (a : App). with_subcommand a spec.compile) trace in
-    let sim = c.in_ok-sim.ensures ∙ ap (λ (a : App). with_subcommand a spec.sim) compile in
-    IfOk-weaker c.with_form-4.result _ _ (λ r h. h ∙ ap (λ (a : App). with_subcommand a spec.net) sim) c.with_form-4.ensures
+    let replay = c.in_ok-replay.ensures ∙ ap (λ (a : App). with_subcommand a spec.replay) compile in
+    let sim = c.in_ok-sim.ensures ∙ ap (λ (a : App). with_subcommand a spec.sim) replay in
+    IfOk-weaker c.with_form-5.result _ _ (λ r h. h ∙ ap (λ (a : App). with_subcommand a spec.net) sim) c.with_form-5.ensures
