@@ -2,7 +2,7 @@
 #![tactic(auto)]
 
 use mp_base::{List, MemDepot, MemSink, NoMemory};
-use silicon::run;
+use silicon::{Status, run};
 use std::alloc::{AllocError, Global};
 use std::{fs, io};
 
@@ -30,24 +30,36 @@ const MISTAKES: [&str; 6] = [
     "no_reset",
 ];
 
-fn words_of(alloc: Global, command: &str) -> Result<Vec<String>, AllocError> {
-    let mut words = Vec::new(alloc);
-    for word in [command, "first", "second"] {
-        words.push(String::from_str(alloc, word)?)?;
+fn words_of(alloc: Global, words: &[&str]) -> Result<Vec<String>, AllocError> {
+    let mut list = Vec::new(alloc);
+    for word in words {
+        list.push(String::from_str(alloc, word)?)?;
     }
-    Ok(words)
+    Ok(list)
 }
 
-// What a command prints of two files.
-fn printed(alloc: Global, command: &str, first: &[u8], second: &[u8]) -> Result<MemSink, NoMemory> {
+/// How a run ended, and what it printed.
+#[derive(Drop)]
+struct Outcome {
+    status: Status,
+    out: MemSink,
+}
+
+// A run over the files `first` and `second`.
+fn outcome_of(
+    alloc: Global,
+    words: &[&str],
+    first: &[u8],
+    second: &[u8],
+) -> Result<Outcome, NoMemory> {
     let mut depot = MemDepot::new(alloc, 4096, List::new(alloc));
     depot.put("first", first)?;
     depot.put("second", second)?;
     let mut out = MemSink::new(alloc, List::new(alloc));
-    let words = words_of(alloc, command)?;
+    let words = words_of(alloc, words)?;
     let mut parts = Vec::new(alloc);
-    run(alloc, &words, &mut depot, &mut out, &mut parts);
-    Ok(out)
+    let status = run(alloc, &words, &mut depot, &mut out, &mut parts);
+    Ok(Outcome { status, out })
 }
 
 fn show(
@@ -61,14 +73,71 @@ fn show(
     let first = fs::read(rt, first)?;
     let second = fs::read(rt, second)?;
     let wanted = fs::read(rt, wanted)?;
-    let Ok(out) = printed(rt.alloc(), command, &first, &second) else {
+    let words = [command, "first", "second"];
+    let Ok(found) = outcome_of(rt.alloc(), &words, &first, &second) else {
         return println!(rt; "    not enough memory");
     };
-    if out.bytes() == wanted.as_slice() {
+    if found.out.bytes() == wanted.as_slice() {
         return println!(rt; "    as it should");
     }
-    let text = String::from_utf8_lossy(rt.alloc(), out.bytes())?;
+    let text = String::from_utf8_lossy(rt.alloc(), found.out.bytes())?;
     println!(rt; "{text}")
+}
+
+// How many lines of a replay have values that aren't known, if the others are those of the transcript and the size of
+// the masks is the last.
+fn unknown_lines(replay: &str, transcript: &str) -> Option<u32> {
+    let mut lines = replay.lines();
+    let mut unknown = 0u32;
+    for wanted in transcript.lines() {
+        let line = lines.next()?;
+        if line != wanted {
+            if !line.contains("=X") {
+                return None;
+            }
+            unknown = unknown.wrapping_add(1);
+        }
+    }
+    if lines.next()?.starts_with("nodes ") {
+        Some(unknown)
+    } else {
+        None
+    }
+}
+
+// The chip of a source is written and run along its stimulus, beside the source's transcript.
+fn show_replay(rt: &HostRuntime, name: &str) -> io::Result<()> {
+    let alloc = rt.alloc();
+    println!(rt; "replay {name}.mp {name}.stim")?;
+    let source = fs::read(rt, format!(in alloc; "{name}.mp")?.as_str())?;
+    let stimulus = fs::read(rt, format!(in alloc; "{name}.stim")?.as_str())?;
+    let wanted = fs::read(rt, format!(in alloc; "{name}.transcript")?.as_str())?;
+    let words = ["replay", "first", "second", "third"];
+    let Ok(found) = outcome_of(alloc, &words, &source, &stimulus) else {
+        return println!(rt; "    not enough memory");
+    };
+    let replay = String::from_utf8_lossy(alloc, found.out.bytes())?;
+    let wanted = String::from_utf8_lossy(alloc, &wanted)?;
+    match unknown_lines(&replay, &wanted) {
+        Some(unknown) => {
+            println!(rt;
+                "    {:?}, as it should, {unknown} lines with values that aren't known",
+                found.status
+            )
+        }
+        None => println!(rt; "{replay}"),
+    }
+}
+
+// The masks of a source are written.
+fn show_compile(rt: &HostRuntime, name: &str) -> io::Result<()> {
+    let alloc = rt.alloc();
+    println!(rt; "compile {name}.mp")?;
+    let source = fs::read(rt, format!(in alloc; "{name}.mp")?.as_str())?;
+    match outcome_of(alloc, &["compile", "first", "third"], &source, b"") {
+        Ok(found) => println!(rt; "    {:?}", found.status),
+        Err(NoMemory) => println!(rt; "    not enough memory"),
+    }
 }
 
 fn show_trace(rt: &HostRuntime, name: &str, stimulus: &str) -> io::Result<()> {
@@ -87,6 +156,10 @@ fn show_trace(rt: &HostRuntime, name: &str, stimulus: &str) -> io::Result<()> {
 fn main(rt: HostRuntime) -> io::Result<()> {
     for name in EXAMPLES {
         show_trace(&rt, name, name)?;
+    }
+    for name in EXAMPLES {
+        show_compile(&rt, name)?;
+        show_replay(&rt, name)?;
     }
     for name in MISTAKES {
         show_trace(&rt, name, "inverter")?;

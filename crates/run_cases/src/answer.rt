@@ -1,5 +1,8 @@
 //! A run, and what is shown of it.
 
+ghost use Rattle.std.specs.Prelude.{◌<◌};
+
+use crate::counted::is_size_at_end;
 use crate::endless::Endless;
 use mp_base::{List, MemDepot, MemSink, NoMemory, QuietDepot, QuietSink};
 use silicon::{Status, run};
@@ -12,19 +15,36 @@ pub(crate) struct File {
     pub text: Vec<u8>,
 }
 
-/// The calls that fail, by their numbers.
+/// What a file holds.
+pub(crate) fn text_of<'a>(files: &'a [File], name: &str) -> Option<&'a [u8]> {
+    for file in files {
+        if file.name.as_str() == name {
+            return Some(&file.text);
+        }
+    }
+    None
+}
+
+/// The calls that fail, by their numbers, and whether an append takes one byte.
 #[derive(Clone, Copy)]
 pub(crate) struct Failing {
     pub of_files: Option<u64>,
     pub of_output: Option<u64>,
+    pub bytewise: bool,
 }
+
+pub(crate) const NONE: Failing = Failing {
+    of_files: None,
+    of_output: None,
+    bytewise: false,
+};
 
 /// How a run ended, what it printed, and the file `c` afterwards.
 #[derive(Drop)]
 pub(crate) struct Outcome {
     pub status: Status,
-    printed: Vec<u8>,
-    written: Option<Vec<u8>>,
+    pub printed: Vec<u8>,
+    pub written: Option<Vec<u8>>,
 }
 
 // Words that are kept apart by blanks.
@@ -44,14 +64,21 @@ fn listed(alloc: Global, call: Option<u64>) -> Result<List<u64>, AllocError> {
     Ok(calls)
 }
 
-/// A run over these files, of which an append takes at most a hundred bytes.
+// How many bytes an append takes.
+fn most(failing: Failing) -> usize
+    ensures { 0 < result }
+{
+    if failing.bytewise { 1 } else { 100 }
+}
+
+/// A run over these files, of which an append takes at most a hundred bytes, or one.
 pub(crate) fn answer(
     alloc: Global,
     words: &str,
     files: &[File],
     failing: Failing,
 ) -> Result<Outcome, NoMemory> {
-    let mut depot = MemDepot::new(alloc, 100, listed(alloc, failing.of_files)?);
+    let mut depot = MemDepot::new(alloc, most(failing), listed(alloc, failing.of_files)?);
     for file in files {
         depot.put(file.name.as_str(), &file.text)?;
     }
@@ -70,17 +97,20 @@ pub(crate) fn answer(
     })
 }
 
+// The room of files and output whose calls never fail.
+const ROOM: usize = 16_777_216;
+
 /// A run over these files, whose calls never fail.
 pub(crate) fn quiet_answer(
     alloc: Global,
     words: &str,
     files: &[File],
 ) -> Result<Outcome, NoMemory> {
-    let mut depot = QuietDepot::new(alloc, 1000)?;
+    let mut depot = QuietDepot::new(alloc, ROOM)?;
     for file in files {
         depot.put(file.name.as_str(), &file.text)?;
     }
-    let mut out = QuietSink::new(alloc, 1000)?;
+    let mut out = QuietSink::new(alloc, ROOM)?;
     let words = words_of(alloc, words)?;
     let mut parts = Vec::new(alloc);
     let status = run(alloc, &words, &mut depot, &mut out, &mut parts);
@@ -111,16 +141,17 @@ impl Outcome {
         self.status == Status::Refused && self.printed.starts_with(rule.as_bytes())
     }
 
-    /// Prints the status, what was printed, and the file.
-    pub(crate) fn show(&self, rt: &HostRuntime) -> io::Result<()> {
+    /// Prints the status and what was printed. In place of the size of the masks in the file `c` at the end of the
+    /// stimulus in the file `t` it says so, since the layout is free.
+    pub(crate) fn show(&self, rt: &HostRuntime, files: &[File]) -> io::Result<()> {
         println!(rt; "    {:?}", self.status)?;
         let printed = String::from_utf8_lossy(rt.alloc(), &self.printed)?;
         for line in printed.lines() {
-            println!(rt; "    {line}")?;
-        }
-        if let Some(written) = &self.written {
-            let written = String::from_utf8_lossy(rt.alloc(), written)?;
-            println!(rt; "    c: {written}")?;
+            if is_size_at_end(rt.alloc(), files, line) {
+                println!(rt; "    the size of c at the end of t")?;
+            } else {
+                println!(rt; "    {line}")?;
+            }
         }
         Ok(())
     }

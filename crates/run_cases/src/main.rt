@@ -2,13 +2,15 @@
 #![tactic(auto)]
 
 mod answer;
+mod counted;
 mod endless;
+mod ends;
 mod script;
 
 use std::{fs, io};
 
 fn main(rt: HostRuntime) -> io::Result<()> {
-    for name in ["sources.txt", "masks.txt", "words.txt"] {
+    for name in ["sources.txt", "masks.txt", "words.txt", "chips.txt"] {
         let text = fs::read_to_string(&rt, name)?;
         script::follow(&rt, text.as_str())?;
     }

@@ -1,15 +1,11 @@
 //! Lists of files and runs.
 
-use crate::answer::{Failing, File, Outcome, answer, endless_answer, quiet_answer};
+use crate::answer::{Failing, File, NONE, Outcome, answer, endless_answer, quiet_answer, text_of};
+use crate::ends::{Side, show_bytewise, show_ends};
 use mp_base::NoMemory;
 use silicon::Status;
 use std::alloc::{AllocError, Global};
 use std::io;
-
-const NONE: Failing = Failing {
-    of_files: None,
-    of_output: None,
-};
 
 // The files that a list has set so far.
 type Files = Vec<File>;
@@ -37,10 +33,15 @@ fn lines_of(alloc: Global, text: &str) -> Result<Vec<u8>, AllocError> {
     Ok(lines)
 }
 
-fn show(rt: &HostRuntime, answer: Result<Outcome, NoMemory>) -> io::Result<Option<Status>> {
+// Prints how a run ended, by the files that are there then.
+fn show(
+    rt: &HostRuntime,
+    files: &Files,
+    answer: &Result<Outcome, NoMemory>,
+) -> io::Result<Option<Status>> {
     match answer {
         Ok(answer) => {
-            answer.show(rt)?;
+            answer.show(rt, files)?;
             Ok(Some(answer.status))
         }
         Err(NoMemory) => {
@@ -57,8 +58,9 @@ fn show_cuts(rt: &HostRuntime, files: &Files, words: &str) -> io::Result<()> {
         let failing = Failing {
             of_files: None,
             of_output: Some(call),
+            bytewise: false,
         };
-        let status = show(rt, answer(rt.alloc(), words, files, failing))?;
+        let status = show(rt, files, &answer(rt.alloc(), words, files, failing))?;
         if status != Some(Status::WriteFault) {
             return Ok(());
         }
@@ -73,8 +75,9 @@ fn show_stops(rt: &HostRuntime, files: &Files, words: &str) -> io::Result<()> {
         let failing = Failing {
             of_files: Some(call),
             of_output: None,
+            bytewise: false,
         };
-        let status = show(rt, answer(rt.alloc(), words, files, failing))?;
+        let status = show(rt, files, &answer(rt.alloc(), words, files, failing))?;
         if status == Some(Status::Done) {
             return Ok(());
         }
@@ -101,15 +104,49 @@ fn show_fronts(rt: &HostRuntime, text: &str) -> io::Result<()> {
             }
         }
         println!(rt; "    {size} bytes")?;
-        show(rt, found)?;
+        show(rt, &files, &found)?;
     }
     Ok(())
 }
 
-// One line of a list: the first word tells what it is, and else it is the words of a run.
-fn follow_line(rt: &HostRuntime, files: &mut Files, line: &str) -> io::Result<()> {
+// Sets the file `c`, where a run has written it anew.
+fn keep(rt: &HostRuntime, files: &mut Files, answer: &Result<Outcome, NoMemory>) -> io::Result<()> {
+    let Ok(
+        Outcome {
+            written: Some(text),
+            ..
+        },
+    ) = answer
+    else {
+        return Ok(());
+    };
+    if text_of(files, "c") != Some(text.as_slice()) {
+        set(rt.alloc(), files, "c", text.clone()?)?;
+        println!(rt; "    c is new")?;
+    }
+    Ok(())
+}
+
+// Runs words over the files.
+fn run_line(rt: &HostRuntime, files: &mut Files, line: &str) -> io::Result<()> {
+    let found = answer(rt.alloc(), line, files, NONE);
+    keep(rt, files, &found)?;
+    show(rt, files, &found)?;
+    Ok(())
+}
+
+// The number of a call.
+fn call(word: &str) -> u64 {
+    let mut number = 0u64;
+    for digit in word.bytes() {
+        number = number.wrapping_mul(10).wrapping_add(u64::from(digit & 15));
+    }
+    number
+}
+
+// A line that sets a file. Whether it is one.
+fn set_line(rt: &HostRuntime, files: &mut Files, line: &str) -> io::Result<bool> {
     let alloc = rt.alloc();
-    println!(rt; "{line}")?;
     let (first, rest) = line.split_once(" ").unwrap_or((line, ""));
     let (name, text) = rest.split_once(" ").unwrap_or((rest, ""));
     if first == "file" {
@@ -118,20 +155,46 @@ fn follow_line(rt: &HostRuntime, files: &mut Files, line: &str) -> io::Result<()
         set(alloc, files, name, lines_of(alloc, text)?)?;
     } else if first == "blanks" {
         set(alloc, files, name, vec![in alloc; b' '; 1_048_577]?)?;
-    } else if first == "fronts" {
-        show_fronts(rt, rest)?;
-    } else if first == "cut" {
-        show_cuts(rt, files, rest)?;
-    } else if first == "stop" {
-        show_stops(rt, files, rest)?;
-    } else if first == "quiet" {
-        show(rt, quiet_answer(alloc, rest, files))?;
-    } else if first == "endless" {
-        show(rt, endless_answer(alloc, rest))?;
     } else {
-        show(rt, answer(alloc, line, files, NONE))?;
+        return Ok(false);
     }
-    Ok(())
+    Ok(true)
+}
+
+// A line of runs: the first word tells what fails, or else it is the words of a run.
+fn follow_runs(rt: &HostRuntime, files: &mut Files, line: &str) -> io::Result<()> {
+    let (first, rest) = line.split_once(" ").unwrap_or((line, ""));
+    let (number, words) = rest.split_once(" ").unwrap_or((rest, ""));
+    if first == "fronts" {
+        show_fronts(rt, rest)
+    } else if first == "cut" {
+        show_cuts(rt, files, rest)
+    } else if first == "stop" {
+        show_stops(rt, files, rest)
+    } else if first == "files-fail" {
+        show_ends(rt, files, rest, Side::Files)
+    } else if first == "output-fails" {
+        show_ends(rt, files, rest, Side::Output)
+    } else if first == "bytewise" {
+        show_bytewise(rt, files, words, call(number))
+    } else if first == "quiet" {
+        show(rt, files, &quiet_answer(rt.alloc(), rest, files))?;
+        Ok(())
+    } else if first == "endless" {
+        show(rt, files, &endless_answer(rt.alloc(), rest))?;
+        Ok(())
+    } else {
+        run_line(rt, files, line)
+    }
+}
+
+// One line of a list.
+fn follow_line(rt: &HostRuntime, files: &mut Files, line: &str) -> io::Result<()> {
+    println!(rt; "{line}")?;
+    if set_line(rt, files, line)? {
+        return Ok(());
+    }
+    follow_runs(rt, files, line)
 }
 
 /// Follows a list line by line, and prints each. Lines set files, or run words over the files that are set.

@@ -1,5 +1,5 @@
 -- Why no fault is told without its cause.
-use Rattle.std.proofs.Common.{◌≡◌, ◌≤◌, sym, subst, inr, Result, Ok, Err, arith}
+use Rattle.std.proofs.Common.{◌≡◌, ◌≤◌, sym, subst, inl, inr, Result, Ok, Err, arith}
 use Rattle.std.specs.Prelude.{IsErrAnd}
 use Rattle.mp_base.specs.Outside.{Rose}
 use Rattle.silicon.specs.Run.{World, HasCauses}
@@ -20,3 +20,10 @@ pub print_failed : (result : Result (Unit {0}) Halt) (stray : Type 0) (before af
 print_failed (Ok v) stray before after is r w p rose = absurd is
 print_failed (Err e) stray before after is r w p rose = subst
     (λ h. HasCauses (status_of {T = Unit {0}} (Err h)) stray before after) (sym is) (r, (omega (arith, w)), p, inr rose)
+
+pub store_failed : (result : Result (Unit {0}) Halt) (stray : Type 0) (before after : World)
+    → IsErrAnd result (λ e. e ≡ WriteFault) → after.reads ≡ before.reads → before.writes ≤ after.writes
+    → Rose before.writes after.writes → after.prints ≡ before.prints → HasCauses (status_of result) stray before after
+store_failed (Ok v) stray before after is r w rose p = absurd is
+store_failed (Err e) stray before after is r w rose p = subst
+    (λ h. HasCauses (status_of {T = Unit {0}} (Err h)) stray before after) (sym is) (r, w, (omega (arith, p)), inl rose)

@@ -8,6 +8,7 @@ pub mod Stimuli
 pub mod ProgramPads
 pub mod Clocks
 pub mod Compiling
+pub mod Replaying
 pub mod Nets
 pub mod Headers
 pub mod Simulating

@@ -7,7 +7,8 @@ use Rattle.silicon.specs.Order.{Breaks}
 use Rattle.silicon.specs.Faults.{IsFirstFault}
 use Rattle.silicon.specs.Outcome.{IsRefused, IsPartOf}
 use Rattle.silicon.specs.Line.{line_of}
-use Rattle.silicon.specs.Run.{World, Leaves, IsSaid, whole, cut, IsTold, DidCommand, Did, TellsUsage, usage_line}
+use Rattle.silicon.specs.Run.{World, Leaves, IsSaid, whole, cut, IsTold, IsForWords, DidCommand, Did}
+use Rattle.silicon.specs.Run.{TellsUsage, usage_line}
 use Rattle.silicon.specs.Halt.{Ends}
 use Rattle.silicon.specs.declared.halt.Halt.TheVariants as halt
 use Rattle.silicon.specs.declared.top.Status.{Status}
@@ -111,3 +112,7 @@ leaves_nothing command world = record {
 pub tells_nothing : (command : Option Command) (text : Option (List ℕ)) → TellsUsage command NoMemory text text
 tells_nothing None text = keeps_same text
 tells_nothing (Some command) text = tt
+
+pub for_words_nothing : (command : Option Command) → IsForWords command NoMemory
+for_words_nothing None = tt
+for_words_nothing (Some command) = tt

@@ -15,12 +15,21 @@ use Rattle.trace_run.proofs.Transcripts.{transcript_shows}
 use Rattle.silicon.specs.Faults.{Shows}
 
 -- the pads of a stimulus are those it was read for
-pads_for : (checked : CheckedProgram) (text : List ℕ) (given : Stimulus) → ArePadsOf checked.program (given.pads) → IsStimulus text (Some checked.pads) given → ArePadsOf checked.program checked.pads
-pads_for checked text given a s = record { inputs = ap (map face) (sym s.inputs) ∙ a.inputs; outputs = ap (map face) (sym s.outputs) ∙ a.outputs }
+pub pads_for : (checked : CheckedProgram) (text : List ℕ) (given : Stimulus)
+    → ArePadsOf checked.program (given.pads) → IsStimulus text (Some checked.pads) given
+    → ArePadsOf checked.program checked.pads
+pads_for checked text given a s = record {
+  inputs = ap (map face) (sym s.inputs) ∙ a.inputs;
+  outputs =
+      ap (map face) (sym s.outputs) ∙ a.outputs;
+}
 
-pub shows_trace : (source stimulus text : List ℕ) (checked : CheckedProgram) (given : Stimulus) (after : State) (held : Option Files) → ArePadsOf checked.program (given.pads)
-    → IfSome held (λ files. IsSource (bytes_of files source) checked.program) → IfSome held (λ files. IsStimulus (bytes_of files stimulus) (Some checked.pads) given)
-    → IsTranscript checked.program given (zero_state checked.program) after text → IfSome held (λ files. Shows (Trace source stimulus) files [] text)
+pub shows_trace : (source stimulus text : List ℕ) (checked : CheckedProgram) (given : Stimulus) (after : State) (held
+    : Option Files) → ArePadsOf checked.program (given.pads)
+    → IfSome held (λ files. IsSource (bytes_of files source) checked.program)
+    → IfSome held (λ files. IsStimulus (bytes_of files stimulus) (Some checked.pads) given)
+    → IsTranscript checked.program given (zero_state checked.program) after text
+    → IfSome held (λ files. Shows (Trace source stimulus) files [] text)
 shows_trace source stimulus text checked given after None a p s t = tt
 shows_trace source stimulus text checked given after (Some files) a p s t =
     let shown = transcript_shows checked.program given (zero_state checked.program) after text t in (

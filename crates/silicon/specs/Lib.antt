@@ -1,5 +1,4 @@
 pub mod Order
-pub mod Source
 pub mod Stimulus
 pub mod Faults
 pub mod Outcome
@@ -9,4 +8,5 @@ pub mod Halt
 pub mod Line
 pub mod Transcript
 pub mod Compiled
+pub mod Replayed
 pub mod Simulated

@@ -7,29 +7,23 @@ ghost use Rattle.silicon.specs.Faults.{IsFirstFault, Shows};
 ghost use Rattle.silicon.specs.Halt.{HasReason, Ends, IsQuiet, status_of};
 ghost use Rattle.silicon.specs.Run.{world_of, HasCauses, IsStrayFor, Leaves};
 
-use crate::files::read_inverter;
+use crate::files::read_source;
 use crate::halt::Halt;
-use inverter_chip::inverter_chip;
+use chip_text::chip_text;
 use mp_base::{Depot, Sink, store};
 use std::alloc::Global;
 
 // Reads and judges the source, and gives the bytes of its chip.
-fn prepare<D: Depot>(
-    alloc: Global,
-    depot: &mut D,
-    source: &str,
-    cif: &str,
-) -> Result<&'static [u8], Halt>
+fn prepare<D: Depot>(alloc: Global, depot: &mut D, source: &str, cif: &str) -> Result<Vec<u8>, Halt>
     ensures held { Keeps (D.held depot.old) (D.held depot.new) }
     ensures shows { IfOk result (λ chip. IfSome (D.held depot.new)
-        (λ files. Shows (Compile source.now cif.now) files chip.now [])) }
+        (λ files. Shows (Compile source.now cif.now) files chip.items [])) }
     ensures reason { HasReason (IsFirstFault (Compile source.now cif.now)) (D.held depot.new)
         (D.read_faults depot.old) (D.read_faults depot.new) result }
     ensures writes { D.write_faults depot.new ≡ D.write_faults depot.old }
 {
-    let checked = read_inverter(alloc, depot, source)?;
-    checked.pads();
-    Ok(inverter_chip())
+    let checked = read_source(alloc, depot, source)?;
+    Ok(chip_text(alloc, &checked)?)
 }
 
 /// Writes the CIF file of a chip for the source, and prints nothing.
@@ -48,6 +42,6 @@ pub fn compile<D: Depot, O: Sink>(
     ensures silent { IsQuiet result (O.held _out.old) (O.held _out.new) }
 {
     let chip = prepare(alloc, depot, source, cif)?;
-    store(depot, cif, chip)?;
+    store(depot, cif, &chip)?;
     Ok(())
 }

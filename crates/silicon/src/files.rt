@@ -6,15 +6,13 @@ ghost use Rattle.mp_base.specs.Outside.{Keeps, bytes_of};
 ghost use Rattle.mp_program.specs.Pads.{ArePadsOf};
 ghost use Rattle.stimulus.specs.Reading.{IsStimulus};
 ghost use Rattle.silicon.specs.Order.{OfLength, IsContent, too_long};
-ghost use Rattle.silicon.specs.Source.{IsInverterSource};
 ghost use Rattle.silicon.specs.Stimulus.{OfPads};
-ghost use Rattle.silicon.specs.Faults.{SourceFault, PadsFault, CompiledFault, MaskFault};
+ghost use Rattle.silicon.specs.Faults.{SourceFault, PadsFault, MaskFault};
 ghost use Rattle.silicon.specs.Halt.{HasReason};
 ghost use Rattle.mp_source.specs.Source.{IsJudged, IsSource};
 ghost use Rattle.mask_net.specs.Masks.{IsNetOf};
 
 use crate::halt::Halt;
-use crate::source::check_inverter;
 use mask_net::network_of;
 use mp_base::{Broken, Depot, Family, Name, Refusal, Rule, Spot, read_file};
 use mp_checker::Checked;
@@ -133,19 +131,6 @@ pub fn read_headed<D: Depot>(alloc: Global, depot: &mut D, name: &str) -> Result
 {
     let text = read_text(alloc, depot, name, LIMIT)?;
     Ok(check_headed(alloc, &text)?)
-}
-
-/// Reads a source of `compile` that breaks no rule.
-pub fn read_inverter<D: Depot>(alloc: Global, depot: &mut D, name: &str) -> Result<Checked, Halt>
-    ensures held { Keeps (D.held depot.old) (D.held depot.new) }
-    ensures source { IfOk result (λ checked. IfSome (D.held depot.new)
-        (λ files. IsInverterSource (bytes_of files name.now) checked.program)) }
-    ensures reason { HasReason (CompiledFault name.now) (D.held depot.new)
-        (D.read_faults depot.old) (D.read_faults depot.new) result }
-    ensures writes { D.write_faults depot.new ≡ D.write_faults depot.old }
-{
-    let text = read_text(alloc, depot, name, LIMIT)?;
-    Ok(check_inverter(alloc, &text)?)
 }
 
 /// Reads the network of a file of masks that breaks no rule.

@@ -6,12 +6,14 @@ ghost use Rattle.command_line.specs.Command.{Command};
 ghost use Rattle.silicon.specs.Order.{Fault};
 ghost use Rattle.silicon.specs.Faults.{IsFirstFault};
 ghost use Rattle.silicon.specs.Run.{World};
+ghost use Rattle.silicon.specs.Replayed.{ReplaysFollow};
 ghost use Rattle.silicon.specs.Complete.{IsRun, AnyRose, AnyGreater, status_by};
 ghost use Rattle.silicon.specs.declared.top.Status.{Status};
 ghost use Rattle.silicon.specs.declared.top.Status.TheVariants.{Usage, ReadFault, WriteFault, NoMemory};
 
 use mask_net::laws::{one_network, one_verdict as one_of_masks};
 use mp_source::laws::{one_source, one_verdict};
+use replay_run::laws::replays_follow as circuits_follow;
 use stimulus::{one_first_rule, one_stimulus};
 use switch_net::first_rule_is_determined;
 
@@ -48,4 +50,13 @@ pub fn completeness()
         → IsRun words status before after → AnyGreater before after → (status ≡ ReadFault) ⊎ (status ≡ WriteFault) }
 {
     one_first_fault();
+}
+
+/// What a replay of a compiled chip shows in each settled clock is what the source's program shows: the line is that of
+/// its transcript.
+pub fn replays_follow()
+    ensures { ReplaysFollow }
+{
+    one_source();
+    circuits_follow();
 }

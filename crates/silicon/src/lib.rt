@@ -8,8 +8,9 @@ mod halt;
 pub mod laws;
 mod line;
 mod net;
+mod prepared;
+mod replay;
 mod sim;
-mod source;
 mod top;
 mod trace;
 

@@ -4,7 +4,8 @@ ghost use Rattle.std.specs.Prelude.{◌≡◌, Some};
 ghost use Rattle.command_line.specs.Command.{command_of, seen};
 ghost use Rattle.silicon.specs.Faults.{target_of, target_for};
 ghost use Rattle.silicon.specs.Halt.{Ends, IsQuiet, status_of};
-ghost use Rattle.silicon.specs.Run.{IsSaid, IsForWords, world_of, HasCauses, IsStrayFor, IsTold, Leaves, DidCommand, Did, SparesFiles, IsSilent, TellsUsage};
+ghost use Rattle.silicon.specs.Run.{IsSaid, IsForWords, world_of, HasCauses, IsStrayFor, IsTold, Leaves};
+ghost use Rattle.silicon.specs.Run.{DidCommand, Did, SparesFiles, IsSilent, TellsUsage};
 ghost use Rattle.silicon.specs.Line.{line_of};
 
 use crate::board::NamedPart;
@@ -12,6 +13,7 @@ use crate::compile::compile;
 use crate::halt::Halt;
 use crate::line::line;
 use crate::net::net;
+use crate::replay::replay;
 use crate::sim::sim;
 use crate::trace::trace;
 use command_line::{Command, command_of};
@@ -58,6 +60,9 @@ fn perform<D: Depot, O: Sink>(
     match command {
         Command::Trace(source, stimulus) => trace(alloc, depot, out, source, stimulus),
         Command::Compile(source, cif) => compile(alloc, depot, out, source, cif),
+        Command::Replay(source, stimulus, cif) => {
+            replay(alloc, depot, out, source, stimulus, cif)
+        }
         Command::Sim(cif, stimulus) => sim(alloc, depot, out, cif, stimulus),
         Command::Net(cif) => net(alloc, depot, out, cif),
     }

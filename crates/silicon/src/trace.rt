@@ -1,52 +1,16 @@
 //! The trace of a source along a stimulus.
 
-ghost use Rattle.std.specs.Prelude.{◌≡◌, ◌≤◌, Some, length, IfOk, IfSome};
-ghost use Rattle.mp_base.specs.Outside.{Keeps, bytes_of};
-ghost use Rattle.mp_program.specs.Pads.{ArePadsOf};
-ghost use Rattle.stimulus.specs.Reading.{IsStimulus};
+ghost use Rattle.std.specs.Prelude.{◌≡◌, Some};
+ghost use Rattle.mp_base.specs.Outside.{Keeps};
 ghost use Rattle.command_line.specs.Command.{Trace};
-ghost use Rattle.mp_source.specs.Source.{IsSource};
-ghost use Rattle.silicon.specs.Faults.{IsFirstFault};
-ghost use Rattle.silicon.specs.Halt.{HasReason, Ends, IsQuiet, status_of};
+ghost use Rattle.silicon.specs.Halt.{Ends, IsQuiet, status_of};
 ghost use Rattle.silicon.specs.Run.{world_of, HasCauses, IsStrayFor, Leaves};
 
-use crate::files::{read_source, read_stimulus};
 use crate::halt::Halt;
+use crate::prepared::prepare;
 use mp_base::{Depot, Sink};
-use mp_checker::Checked;
 use std::alloc::Global;
-use stimulus::Stimulus;
 use trace_run::Tracer;
-
-#[derive(Drop)]
-struct Ready {
-    checked: Checked,
-    stimulus: Stimulus,
-}
-
-// Reads and judges the files.
-fn prepare<D: Depot>(
-    alloc: Global,
-    depot: &mut D,
-    source: &str,
-    stimulus: &str,
-) -> Result<Ready, Halt>
-    ensures held { Keeps (D.held depot.old) (D.held depot.new) }
-    ensures padded { IfOk result (λ ready. ArePadsOf ready.checked.program ready.stimulus.pads) }
-    ensures few_inputs { IfOk result (λ ready. length ready.stimulus.pads.inputs ≤ 256) }
-    ensures few_clocks { IfOk result (λ ready. length ready.stimulus.clocks ≤ 65536) }
-    ensures source { IfOk result (λ ready. IfSome (D.held depot.new)
-        (λ files. IsSource (bytes_of files source.now) ready.checked.program)) }
-    ensures stimulus { IfOk result (λ ready. IfSome (D.held depot.new)
-        (λ files. IsStimulus (bytes_of files stimulus.now) (Some ready.checked.pads) ready.stimulus)) }
-    ensures reason { HasReason (IsFirstFault (Trace source.now stimulus.now)) (D.held depot.new)
-        (D.read_faults depot.old) (D.read_faults depot.new) result }
-    ensures writes { D.write_faults depot.new ≡ D.write_faults depot.old }
-{
-    let checked = read_source(alloc, depot, source)?;
-    let stimulus = read_stimulus(alloc, depot, stimulus, &checked)?;
-    Ok(Ready { checked, stimulus })
-}
 
 /// Prints the transcript of the source's trace.
 pub fn trace<D: Depot, O: Sink>(
@@ -65,8 +29,8 @@ pub fn trace<D: Depot, O: Sink>(
     ensures held { Keeps (D.held depot.old) (D.held depot.new) }
     ensures writes { D.write_faults depot.new ≡ D.write_faults depot.old }
 {
-    let ready = prepare(alloc, depot, source, stimulus)?;
-    let mut tracer = Tracer::open(alloc, &ready.checked, &ready.stimulus)?;
+    let made = prepare(alloc, depot, source, stimulus)?;
+    let mut tracer = Tracer::open(alloc, &made.checked, &made.stimulus)?;
     tracer.run(out)?;
     Ok(())
 }

@@ -11,22 +11,22 @@ returns-in_err-chip-clause-content g c =
 
 pub returns-in_err-store-clause-content : goal.returns-in_err-store-clause-content
 returns-in_err-store-clause-content g c =
-    leaves_stored_in_part (Compile c.args.source.now c.args.cif.now) c.in_ok-chip.chip.now []
+    leaves_stored_in_part (Compile c.args.source.now c.args.cif.now) c.in_ok-chip.chip.items []
     c.from_residual-in_err-store.result _ _ (g.D.Depot.held c.prepare.new.depot)
     c.from_residual-in_err-store.ensures.1 c.in_ok-chip.ensures.held (
       c.in_ok-chip.ensures.reason.1,
       c.in_ok-chip.ensures.shows,
     )
-    c.in_err-store.ensures.cut refl
+    (rw c.deref.ensures.value at c.in_err-store.ensures.cut) refl
 
 pub returns-clause-content : goal.returns-clause-content
 returns-clause-content g c =
-    leaves_done (Compile c.args.source.now c.args.cif.now) c.in_ok-chip.chip.now []
+    leaves_done (Compile c.args.source.now c.args.cif.now) c.in_ok-chip.chip.items []
     tt tt _ _ (g.D.Depot.held c.prepare.new.depot)
     c.in_ok-chip.ensures.held (
       c.in_ok-chip.ensures.reason.1,
       c.in_ok-chip.ensures.shows,
-    ) c.in_ok-store.ensures.stored (nothing_printed _)
+    ) (rw c.deref.ensures.value at c.in_ok-store.ensures.stored) (nothing_printed _)
 
 pub returns-in_err-chip-clause-silent : goal.returns-in_err-chip-clause-silent
 returns-in_err-chip-clause-silent g c = quiet_same c.from_residual.result _

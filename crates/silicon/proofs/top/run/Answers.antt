@@ -1,6 +1,7 @@
 use Rattle.std.proofs.Common.{◌∙◌, ap, refl}
 use Rattle.command_line.specs.Command.{command_of, seen}
 use Rattle.silicon.proofs.RunLemmas.{leaves_command, leaves_no_command, leaves_nothing, tells_usage, tells_nothing}
+use Rattle.silicon.proofs.RunLemmas.{for_words_nothing}
 use Rattle.silicon.proofs.Silence.{silent_said, spares_same, spares_command}
 use Rattle.silicon.specs.Faults.{target_for}
 use Rattle.silicon.proofs.top.run.Goals as goal
@@ -44,3 +45,6 @@ returns-in-Ok-None-clause-spares g c = spares_same (target_for (command_of c.arg
 
 pub returns-in-Err-clause-spares : goal.returns-in-Err-clause-spares
 returns-in-Err-clause-spares g c = spares_same (target_for (command_of c.args.words.now.items)) _ _
+
+pub returns-in-Err-clause-words : goal.returns-in-Err-clause-words
+returns-in-Err-clause-words g c = for_words_nothing (command_of c.args.words.now.items)

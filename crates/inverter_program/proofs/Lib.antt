@@ -1,3 +1,0 @@
-pub mod Declared
-pub mod Clocks
-pub mod Tests

@@ -1,2 +1,0 @@
-pub mod Inverter
-pub mod Wanted
