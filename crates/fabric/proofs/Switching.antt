@@ -486,11 +486,6 @@ tap_tile f m p t = by_side t.side t.tile
     by_side L e = ap (λ y. is_tap (record m { tile = y })) e
     by_side R e = ap (λ y. is_tap (record m { tile = y })) e
 
-pub no_tap : (m : Mark) → (m.tile ≡ Tran) ⊎ (m.tile ≡ PullUp) ⊎ (m.tile ≡ Under) → is_tap m ≡ false
-no_tap m (inl e) = ap (λ y. is_tap (record m { tile = y })) e
-no_tap m (inr (inl e)) = ap (λ y. is_tap (record m { tile = y })) e
-no_tap m (inr (inr e)) = ap (λ y. is_tap (record m { tile = y })) e
-
 pub switch_tile : (f : Plan) (number : Net → ℕ) (m : Mark) (c : Channel) → IsSwitch f number m c → is_switch m ≡ true
 switch_tile f number m c s = elim s.kind [
   | inl e ↦ ap (λ y. is_switch (record m { tile = y })) e.0

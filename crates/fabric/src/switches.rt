@@ -1,6 +1,6 @@
 //! The network that the segments, lines and marks of a fabric mean.
 
-ghost use Rattle.std.specs.Prelude.{ℕ, ◌⊎◌, ◌≡◌, length, filter, IfOk};
+ghost use Rattle.std.specs.Prelude.{ℕ, ◌⊎◌, ◌≡◌, false, length, filter, IfOk, MatchOption};
 ghost use Rattle.std.specs.List.{AllZip};
 ghost use Rattle.tile_cells.specs.declared.tile.Tile.TheVariants.{Tran, PullUp};
 ghost use Rattle.fabric.specs.Plan.{IsMark, SegmentAt, LineAt};
@@ -131,6 +131,19 @@ impl Fabric {
         })
     }
 
+    // The numbers of the two nets that a mark joins, if it is a tap.
+    fn joined(&self, places: &Places, m: &Mark) -> Option<Pair>
+        requires places { ArePlaces self.now places.now }
+        requires there { IsMark self.now m.now }
+        ensures { MatchOption result (is_tap m.now ≡ false) (IsTapPair self.now m.now) }
+    {
+        match m.tile {
+            Tile::TapL => Some(self.tap(places, Side::L, m)),
+            Tile::TapR => Some(self.tap(places, Side::R, m)),
+            Tile::Tran | Tile::PullUp | Tile::Under => None,
+        }
+    }
+
     // The pairs of nets that taps join.
     fn pairs(&self, alloc: Global, places: &Places) -> Result<List<Pair>, NoMemory>
         requires { ArePlaces self.now places.now }
@@ -138,10 +151,8 @@ impl Fabric {
     {
         let mut pairs = List::new(alloc);
         for m in self.marks.as_slice() {
-            match m.tile {
-                Tile::TapL => pairs.push(self.tap(places, Side::L, m))?,
-                Tile::TapR => pairs.push(self.tap(places, Side::R, m))?,
-                Tile::Tran | Tile::PullUp | Tile::Under => {}
+            if let Some(pair) = self.joined(places, m) {
+                pairs.push(pair)?;
             }
         }
         Ok(pairs)

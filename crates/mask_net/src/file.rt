@@ -41,8 +41,12 @@ fn drawing_in(alloc: Global, bytes: &[u8]) -> Result<Flat, Refusal>
     flatten(alloc, &cif)
 }
 
-// The shapes and labels, for which the commands are let go.
-fn drawing_of(alloc: Global, bytes: Vec<u8>) -> Result<Flat, Refusal>
+/// The shapes and labels that the bytes of a CIF file draw. The commands are let go.
+///
+/// # Errors
+///
+/// The first broken rule of texts, C1 to C5, or else of drawing, F1 to F10; want of memory.
+pub fn drawing_of(alloc: Global, bytes: Vec<u8>) -> Result<Flat, Refusal>
     ensures ok { IfOk result (λ flat. IsDrawing bytes.items flat.shapes flat.labels) }
     ensures err { IfErr result (RefusesBytes bytes.items) }
 {

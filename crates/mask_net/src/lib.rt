@@ -5,5 +5,5 @@ mod file;
 pub mod laws;
 mod size;
 
-pub use file::{drawn_network, network_of};
+pub use file::{drawing_of, drawn_network, network_of};
 pub use size::{size_line, size_text};
