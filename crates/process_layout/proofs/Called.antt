@@ -1,5 +1,29 @@
 -- Which forms have a call.
-use Rattle.std.proofs.Common.{◌≡◌, ◌⊎◌, inl, inr, ◌∙◌, ℕ, zero, suc, ◌+◌, ◌<◌, ◌≤◌, List, [], ◌∷◌, Bool, false, refl, sym, ap, subst, arith, length, zero-add}
+use Rattle.std.proofs.Common.{
+  ◌≡◌,
+  ◌⊎◌,
+  inl,
+  inr,
+  ◌∙◌,
+  ℕ,
+  zero,
+  suc,
+  ◌+◌,
+  ◌<◌,
+  ◌≤◌,
+  List,
+  [],
+  ◌∷◌,
+  Bool,
+  false,
+  refl,
+  sym,
+  ap,
+  subst,
+  arith,
+  length,
+  zero-add,
+}
 use Rattle.std.specs.Prelude.{◌||◌, nat_lt, slice_index_or, slice_set}
 use Rattle.std.specs.List.{sum_by, flat_map, list_any}
 use Rattle.std.proofs.lemmas.Bool.{lt-ltb}

@@ -6,3 +6,4 @@ mod Whole
 mod Growth
 mod Called
 mod Ordered
+pub mod Returning

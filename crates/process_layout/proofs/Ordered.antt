@@ -47,7 +47,8 @@ use Rattle.mp_program.specs.declared.program.What.TheVariants.{
 use Rattle.mp_program.specs.declared.program.Way.TheVariants.{Input, Output, Internal}
 use Rattle.mp_program.specs.declared.program.Def.{Def}
 use Rattle.mp_program.specs.declared.program.Program.{Program}
-use Rattle.mp_program.specs.Names.{is_input_signal, is_reset, pad_number}
+use Rattle.mp_program.specs.Names.{is_driven, is_input_signal, is_reset, pad_number}
+use Rattle.mp_program.specs.Reads.{IsOrder}
 use Rattle.mp_rules.specs.Entries.{IsAt}
 use Rattle.rtl_form.specs.declared.rtl.Cell.{Cell}
 use Rattle.rtl_form.specs.declared.rtl.CellKind.TheVariants as kinds
@@ -57,7 +58,7 @@ use Rattle.process_plan.specs.Plan.{IsResetCell}
 use Rattle.process_plan.specs.Roles.{AreCells, def_cell}
 use Rattle.process_plan.proofs.Members.{one_entry, some_is}
 use Rattle.process_layout.specs.Index.{IsCellFor}
-use Rattle.process_layout.specs.Layouts.{IsOrderOf}
+use Rattle.process_layout.specs.Layouts.{HaveCells, IsOrderOf}
 use Rattle.process_layout.proofs.Listing.{at_left, at_end}
 
 -- ---- an order
@@ -110,6 +111,30 @@ all_ordered roles order cells i whole are = record {
   size = are.size ∙ whole;
   ordered = λ k d at. let lt = at.0 in are.each k d (omega (arith, lt, whole)) at;
 }
+
+driven_cell : (ds : List Def) (d : ℕ) (w : What) → is_driven w ≡ true → (x : Cell) × (def_cell ds d w ≡ Some x)
+driven_cell ds d (Port Output) h = (_, refl)
+driven_cell ds d (Port Internal) h = (_, refl)
+driven_cell ds d (Signal Output) h = (_, refl)
+driven_cell ds d (Signal Internal) h = (_, refl)
+driven_cell ds d (Port Input) h = absurd (cc)
+driven_cell ds d (Signal Input) h = absurd (cc)
+driven_cell ds d Register h = absurd (cc)
+driven_cell ds d Flag h = absurd (cc)
+driven_cell ds d (Constant n) h = absurd (cc)
+driven_cell ds d Power h = absurd (cc)
+driven_cell ds d Ground h = absurd (cc)
+driven_cell ds d Phia h = absurd (cc)
+driven_cell ds d Phib h = absurd (cc)
+driven_cell ds d Phic h = absurd (cc)
+
+-- the definitions in an order of evaluation are driven, and have cells
+pub order_cells : (p : Program) (roles : List Role) (cells : List Cell) (order : List ℕ) → AreCells p roles cells
+    → IsOrder p order → HaveCells roles order
+order_cells p roles cells order are ordered k lt =
+    let (y, inside, is, driven) = ordered.driven k lt in
+    let (x, made) = driven_cell p.defs (slice_index order k) y.what driven in
+    are.all (Value (slice_index order k)) x (y, (inside, is), made)
 
 -- ---- the input `reset`
 

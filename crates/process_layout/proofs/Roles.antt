@@ -1,5 +1,32 @@
 -- The roles of a program's cells, as they are laid.
-use Rattle.std.proofs.Common.{◌≡◌, ◌⊎◌, inl, inr, ◌∙◌, ℕ, zero, suc, ◌<◌, ◌≤◌, List, [], ◌∷◌, ◌++◌, Bool, true, false, Option, Some, None, refl, sym, ap, subst, arith, map}
+use Rattle.std.proofs.Common.{
+  ◌≡◌,
+  ◌⊎◌,
+  inl,
+  inr,
+  ◌∙◌,
+  ℕ,
+  zero,
+  suc,
+  ◌<◌,
+  ◌≤◌,
+  List,
+  [],
+  ◌∷◌,
+  ◌++◌,
+  Bool,
+  true,
+  false,
+  Option,
+  Some,
+  None,
+  refl,
+  sym,
+  ap,
+  subst,
+  arith,
+  map,
+}
 use Rattle.std.specs.Prelude.{Contains, if◌then◌else◌, slice_get, slice_index}
 use Rattle.std.specs.Option.{option_map_or}
 use Rattle.std.proofs.lemmas.List.Elements.{Contains-append_left, Contains-append_right, Contains-append_cases}

@@ -1,5 +1,33 @@
 -- What is laid is the cells of a program.
-use Rattle.std.proofs.Common.{◌≡◌, ◌⊎◌, inl, inr, ◌∙◌, ℕ, zero, suc, ◌-◌, ◌<◌, List, [], ◌∷◌, ◌++◌, Bool, true, false, Option, Some, None, refl, sym, ap, subst, arith, length, map}
+use Rattle.std.proofs.Common.{
+  ◌≡◌,
+  ◌⊎◌,
+  inl,
+  inr,
+  ◌∙◌,
+  ℕ,
+  zero,
+  suc,
+  ◌-◌,
+  ◌<◌,
+  List,
+  [],
+  ◌∷◌,
+  ◌++◌,
+  Bool,
+  true,
+  false,
+  Option,
+  Some,
+  None,
+  refl,
+  sym,
+  ap,
+  subst,
+  arith,
+  length,
+  map,
+}
 use Rattle.std.specs.Prelude.{Contains, nat_lt, slice_get, slice_index}
 use Rattle.std.specs.List.{AllByRecursion}
 use Rattle.std.specs.Option.{option_map_or}
@@ -29,7 +57,26 @@ use Rattle.process_layout.specs.Laying.{
   value_roles,
 }
 use Rattle.process_layout.proofs.Once.{once_none, once_both}
-use Rattle.process_layout.proofs.Roles.{IsOfPlaces, IsReturn, below_or_last, cell_got, entry_in_stack, got, in_entries, in_places, in_returns, in_values, once_entries, once_places, once_returns, once_values, place_in, process_of, return_in, value_in}
+use Rattle.process_layout.proofs.Roles.{
+  IsOfPlaces,
+  IsReturn,
+  below_or_last,
+  cell_got,
+  entry_in_stack,
+  got,
+  in_entries,
+  in_places,
+  in_returns,
+  in_values,
+  once_entries,
+  once_places,
+  once_returns,
+  once_values,
+  place_in,
+  process_of,
+  return_in,
+  value_in,
+}
 
 -- ---- processes
 

@@ -1,5 +1,24 @@
 -- In which order cells are laid: those of the definitions, then for each process those of its places and of its stack.
-use Rattle.std.specs.Prelude.{ℕ, suc, ◌-◌, List, [], ◌∷◌, ◌++◌, if◌then◌else◌, true, false, Bool, Option, Some, None, length, map, slice_get, slice_index}
+use Rattle.std.specs.Prelude.{
+  ℕ,
+  suc,
+  ◌-◌,
+  List,
+  [],
+  ◌∷◌,
+  ◌++◌,
+  if◌then◌else◌,
+  true,
+  false,
+  Bool,
+  Option,
+  Some,
+  None,
+  length,
+  map,
+  slice_get,
+  slice_index,
+}
 use Prim.Native.Nat.{zero}
 use Rattle.std.specs.Option.{option_map_or}
 use Rattle.mp_program.specs.declared.program.What.{What}

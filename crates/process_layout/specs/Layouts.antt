@@ -1,5 +1,5 @@
 -- The cells of a program.
-use Rattle.std.specs.Prelude.{◌≡◌, ℕ, List, length}
+use Rattle.std.specs.Prelude.{◌≡◌, ℕ, ◌<◌, List, length, slice_index}
 use Rattle.mp_program.specs.declared.program.Program.{Program}
 use Rattle.mp_rules.specs.Entries.{IsAt}
 use Rattle.process_plan.specs.declared.role.Role.{Role}
@@ -8,6 +8,10 @@ use Rattle.process_plan.specs.Roles.{AreCells}
 use Rattle.process_plan.specs.Plan.{IsResetCell}
 pub use Rattle.process_layout.specs.Index.{IsCellFor}
 use Rattle.process_layout.specs.declared.layout.Layout.{Layout}
+
+-- each definition in a list has a cell
+abbrev pub HaveCells : List Role → List ℕ → Type 0
+HaveCells roles order = (k : ℕ) → k < length order → (c : ℕ) × IsAt roles c (Value (slice_index order k))
 
 -- the cells of definitions in an order
 pub record IsOrderOf (roles : List Role) (order : List ℕ) (cells : List ℕ) : Type 0 where

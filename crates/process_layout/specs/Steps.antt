@@ -16,7 +16,15 @@ use Rattle.process_plan.specs.declared.enable.Origin.{Origin}
 use Rattle.process_plan.specs.Enables.{HasEnable, AreEnables, IsPlaceExpr, copy_of, IsCopy}
 use Rattle.process_plan.specs.Plan.{AreTransfers, is_call}
 use Rattle.process_plan.specs.Fits.{ExprsFit, HasSortIn}
-use Rattle.process_plan.specs.Bill.{Tally, first_bill, copies_bill, exprs_cost, forms_bill, transfers_bill, transfers_cost}
+use Rattle.process_plan.specs.Bill.{
+  Tally,
+  first_bill,
+  copies_bill,
+  exprs_cost,
+  forms_bill,
+  transfers_bill,
+  transfers_cost,
+}
 use Rattle.process_layout.specs.declared.enabling.Enabling.{Enabling}
 use Rattle.process_layout.specs.Counts.{count_of, guards_of, tallies_of}
 

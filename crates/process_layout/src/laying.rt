@@ -5,7 +5,7 @@ ghost use Rattle.mp_program.specs.Names.{is_reset};
 ghost use Rattle.mp_program.specs.Reads.{IsOrder};
 ghost use Rattle.process_plan.specs.Plan.{IsResetCell};
 ghost use Rattle.process_plan.specs.Roles.{AreCells};
-ghost use Rattle.process_layout.specs.Layouts.{IsLayoutOf, IsOrderOf};
+ghost use Rattle.process_layout.specs.Layouts.{HaveCells, IsLayoutOf, IsOrderOf};
 
 use crate::calls::calling_forms;
 use crate::laid::Laid;
@@ -30,14 +30,15 @@ fn laid_out(alloc: Global, program: &Program) -> Result<Laid, NoMemory>
     lay_processes(alloc, laid, calling.as_slice(), processes)
 }
 
-/// The cells of definitions in an order.
+/// The cells of definitions in an order, each of which has one.
 fn order_of(alloc: Global, laid: &Laid, order: &[u32]) -> Result<List<u32>, NoMemory>
+    requires { HaveCells laid.now.roles order.now }
     ensures { IfOk result (IsOrderOf laid.now.roles order.now) }
 {
     let mut cells = List::new(alloc);
     for definition in order {
         let Some(cell) = laid.cell(Role::Value(*definition)) else {
-            return Err(NoMemory);
+            unreachable!();
         };
         cells.push(cell)?;
     }

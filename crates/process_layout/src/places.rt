@@ -97,7 +97,8 @@ fn lay_process(
     index: u32,
     process: &Process,
 ) -> Result<Laid, NoMemory>
-    ensures roles { IfOk result (λ after. after.roles ≡ before.roles ++ process_roles (λ f. slice_index_or calling.now f false) index process.now) }
+    ensures roles { IfOk result (λ after. after.roles
+        ≡ before.roles ++ process_roles (λ f. slice_index_or calling.now f false) index process.now) }
     ensures cells { IfOk result (KeepCells before) }
 {
     let forms = process.forms.as_slice();
@@ -117,7 +118,8 @@ pub(crate) fn lay_processes(
     processes: &[Process],
 ) -> Result<Laid, NoMemory>
     ensures roles { IfOk result (λ after. after.roles
-        ≡ before.roles ++ processes_roles (λ f. slice_index_or calling.now f false) processes.now (length processes.now)) }
+        ≡ before.roles
+        ++ processes_roles (λ f. slice_index_or calling.now f false) processes.now (length processes.now)) }
     ensures cells { IfOk result (KeepCells before) }
 {
     let Ok(count) = u32::try_from(processes.len()) else {

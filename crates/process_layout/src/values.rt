@@ -53,7 +53,8 @@ fn one_if(holds: bool) -> u32
 /// The cells with that of a definition, where it has one.
 fn lay_definition(laid: Laid, index: u32, cell: Option<Cell>) -> Result<Laid, NoMemory>
     ensures roles { IfOk result (λ after. after.roles ≡ laid.roles ++ own_role index cell) }
-    ensures cells { IfOk result (λ after. after.cells ≡ laid.cells ++ map (λ r. cell_or_bit cell) (own_role index cell)) }
+    ensures cells { IfOk result (λ after. after.cells
+        ≡ laid.cells ++ map (λ r. cell_or_bit cell) (own_role index cell)) }
 {
     match cell {
         Some(cell) => laid.with(Role::Value(index), cell),

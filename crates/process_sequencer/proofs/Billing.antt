@@ -11,7 +11,6 @@ use Rattle.std.proofs.Common.{
   ◌-◌,
   ◌*◌,
   ◌<◌,
-  ◌≤◌,
   List,
   [],
   ◌∷◌,
@@ -33,20 +32,17 @@ use Rattle.mp_base.specs.declared.refusal.Place.{Place}
 use Rattle.mp_program.specs.declared.program.FormKind.{FormKind}
 use Rattle.mp_program.specs.declared.program.FormKind.TheVariants.{Set, Cond, Par, Go, Call, Return}
 use Rattle.mp_program.specs.declared.program.Def.{Def}
-use Rattle.mp_program.specs.declared.program.Form.{Form}
 use Rattle.mp_program.specs.declared.program.Process.{Process}
 use Rattle.mp_program.specs.declared.program.Program.{Program}
 use Rattle.mp_program.specs.Pads.{ArePadsOf, face}
-use Rattle.mp_program.specs.Weight.{form_weight}
 use Rattle.mp_rules.specs.Breaking.{IsUnbroken}
 use Rattle.mp_rules.specs.Entries.{IsAt}
 use Rattle.mp_rules.specs.Naming.{OwnNames}
 use Rattle.rtl_form.specs.declared.rtl.Rtl.{Rtl}
 use Rattle.rtl_form.specs.declared.rtl.RtlExpr.{RtlExpr}
-use Rattle.rtl_form.specs.declared.rtl.RtlExpr.TheVariants.{Truth, Apply}
 use Rattle.rtl_form.specs.declared.rtl.Transfer.{Transfer}
 use Rattle.process_plan.specs.declared.enable.Enable.{Enable}
-use Rattle.process_plan.specs.Bill.{IsBilled, IsUsed, cells_bill, cells_cost, defs_bill, exprs_bill, first_bill}
+use Rattle.process_plan.specs.Bill.{IsBilled, IsUsed, exprs_bill, first_bill}
 use Rattle.process_plan.specs.Built.{IsBuilt, IsIdle, is_set}
 use Rattle.process_plan.specs.Plan.{FollowsPlan, FollowsOrder}
 use Rattle.process_plan.proofs.Census as census

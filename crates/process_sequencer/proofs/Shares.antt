@@ -1,17 +1,13 @@
 -- What forms pay for guards and moves.
 use Rattle.std.proofs.Common.{
   ◌≡◌,
-  ◌⊎◌,
   inl,
   inr,
-  ◌∙◌,
   ℕ,
   zero,
   suc,
   ◌+◌,
-  ◌-◌,
   ◌*◌,
-  ◌<◌,
   ◌≤◌,
   List,
   [],
@@ -23,7 +19,6 @@ use Rattle.std.proofs.Common.{
   Some,
   None,
   refl,
-  sym,
   ap,
   arith,
   length,
@@ -43,7 +38,7 @@ use Rattle.mp_rules.specs.Standing.{is_transfer}
 use Rattle.process_plan.specs.declared.enable.Enable.{Enable}
 use Rattle.process_plan.specs.declared.enable.Origin.{Origin}
 use Rattle.process_plan.specs.declared.enable.Origin.TheVariants.{Always, At}
-use Rattle.process_plan.specs.Bill.{Tally, moves_bill}
+use Rattle.process_plan.specs.Bill.{moves_bill}
 use Rattle.process_plan.specs.Plan.{is_call, is_return}
 use Rattle.process_plan.proofs.Paying.{cond_pays}
 use Rattle.process_layout.specs.Counts.{

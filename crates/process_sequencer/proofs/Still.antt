@@ -8,7 +8,6 @@ use Rattle.std.proofs.Common.{
   ℕ,
   zero,
   suc,
-  ◌<◌,
   List,
   [],
   ◌∷◌,
@@ -30,7 +29,7 @@ use Rattle.mp_program.specs.declared.program.Process.{Process}
 use Rattle.mp_program.specs.declared.program.Program.{Program}
 use Rattle.mp_rules.specs.Entries.{IsAt}
 use Rattle.process_plan.specs.Built.{is_set}
-use Rattle.process_plan.proofs.Members.{by_test, zero_or_more}
+use Rattle.process_plan.proofs.Members.{zero_or_more}
 use Rattle.process_sequencer.specs.Stillness.{is_still, IsStill, IsMoving}
 
 abbrev sets : Form → Bool

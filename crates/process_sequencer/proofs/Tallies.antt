@@ -1,12 +1,9 @@
 -- What is counted of processes.
 use Rattle.std.proofs.Common.{
   ◌≡◌,
-  ◌⊎◌,
   inl,
   inr,
-  ◌∙◌,
   ℕ,
-  zero,
   suc,
   ◌+◌,
   ◌-◌,
@@ -19,7 +16,6 @@ use Rattle.std.proofs.Common.{
   Bool,
   true,
   false,
-  cond,
   Option,
   Some,
   None,
@@ -30,9 +26,9 @@ use Rattle.std.proofs.Common.{
   arith,
   length,
 }
-use Rattle.std.specs.Prelude.{◌&&◌, ◌==◌, if◌then◌else◌, Contains, nat_lt, slice_index}
-use Rattle.std.specs.List.{sum_by, flat_map}
-use Rattle.std.proofs.lemmas.Bool.{eqb-true, ltb-true}
+use Rattle.std.specs.Prelude.{◌&&◌, if◌then◌else◌, Contains}
+use Rattle.std.specs.List.{sum_by}
+use Rattle.std.proofs.lemmas.Bool.{eqb-true}
 use Rattle.std.proofs.lemmas.List.Sums.{sum_by-cons}
 use Rattle.mp_base.specs.declared.refusal.Place.{Place}
 use Rattle.mp_program.specs.declared.program.FormKind.{FormKind}
@@ -44,7 +40,7 @@ use Rattle.mp_program.specs.declared.program.Program.{Program}
 use Rattle.mp_program.specs.Weight.{inner, calls_in}
 use Rattle.mp_rules.specs.Breaking.{IsUnbroken}
 use Rattle.mp_rules.specs.Entries.{IsAt}
-use Rattle.mp_rules.specs.Rules.{E31, E36}
+use Rattle.mp_rules.specs.Rules.{E31}
 use Rattle.mp_rules.specs.Standing as standing
 use Rattle.mp_rules.specs.Standing.{Under, uses_stack}
 use Rattle.rtl_form.specs.declared.rtl.RtlExpr.{RtlExpr}
@@ -53,54 +49,14 @@ use Rattle.process_plan.specs.declared.enable.Enable.{Enable}
 use Rattle.process_plan.specs.declared.enable.Origin.{Origin}
 use Rattle.process_plan.specs.declared.enable.Origin.TheVariants.{Always, At}
 use Rattle.process_plan.specs.Active.{IsRoot}
-use Rattle.process_plan.specs.Bill.{Tally, IsTally, AreTallies, cells_bill}
+use Rattle.process_plan.specs.Bill.{IsTally, AreTallies, cells_bill}
 use Rattle.process_plan.specs.Enables.{HasEnable, AreEnables, StandsInside}
 use Rattle.process_plan.specs.Plan.{is_call}
 use Rattle.process_plan.proofs.Census as census
 use Rattle.process_plan.proofs.Keeping.{keeps_36}
-use Rattle.process_plan.proofs.Members.{nowhere, flat_in, entry_in, one_entry, upward, zero_or_more}
+use Rattle.process_plan.proofs.Members.{flat_in, entry_in, one_entry, upward, zero_or_more}
 use Rattle.process_layout.specs.Counts.{is_of, count_of, returns_of, tally_of, tallies_of}
-
--- ---- the places to which calls return
-
--- how many of the first m forms have a call
-abbrev calls_to : Program → List ℕ → ℕ → ℕ
-calls_to p fs zero = 0
-calls_to p fs (suc m) = (if nat_lt 0 (calls_in p (slice_index fs m)) then 1 else 0) + calls_to p fs m
-
-calls_later : (p : Program) (f : ℕ) (fs : List ℕ) (m : ℕ)
-    → calls_to p (f ∷ fs) (suc m) ≡ (if nat_lt 0 (calls_in p f) then 1 else 0) + calls_to p fs m
-calls_later p f fs zero = refl
-calls_later p f fs (suc m) = let rest = calls_later p f fs m in omega (arith, rest)
-
-calls_until : (p : Program) (fs : List ℕ) → returns_of p fs ≡ calls_to p fs (length fs - 1)
-calls_until p [] = refl
-calls_until p (f ∷ []) = refl
-calls_until p (f ∷ g ∷ fs) =
-    let rest = calls_until p (g ∷ fs) in
-    let one : length (g ∷ fs) - 1 ≡ length fs = omega arith in
-    let both : length (f ∷ g ∷ fs) - 1 ≡ suc (length fs) = omega arith in
-    let here = calls_later p f (g ∷ fs) (length fs) in
-    let there : calls_to p (g ∷ fs) (length (g ∷ fs) - 1) ≡ calls_to p (g ∷ fs) (length fs) =
-    ap (calls_to p (g ∷ fs)) one in
-    let all : calls_to p (f ∷ g ∷ fs) (length (f ∷ g ∷ fs) - 1) ≡ calls_to p (f ∷ g ∷ fs) (suc (length fs)) =
-    ap (calls_to p (f ∷ g ∷ fs)) both in
-    omega (arith, rest, here, there, all)
-
-one_more : (b : Bool) (j : ℕ) (js : List ℕ) → length (cond b (j ∷ js) js) ≡ (if b then 1 else 0) + length js
-one_more true j js = omega arith
-one_more false j js = omega arith
-
-places_counted : (p : Program) (q : Process) (m : ℕ)
-    → length (census.return_places p q m) ≡ calls_to p q.forms m
-places_counted p q zero = refl
-places_counted p q (suc m) =
-    let rest = places_counted p q m in
-    let more = one_more (nat_lt 0 (calls_in p (slice_index q.forms m))) (suc m) (census.return_places p q m) in
-    omega (arith, rest, more)
-
-pub returns_same : (p : Program) (q : Process) → returns_of p q.forms ≡ census.returns_to p q
-returns_same p q = calls_until p q.forms ∙ sym (places_counted p q (length q.forms - 1))
+use Rattle.process_layout.proofs.Returning.{returns_same}
 
 -- ---- where forms with enables stand
 
@@ -263,7 +219,7 @@ pub cells_billed : (p : Program) (enables : List (Option Enable)) (at : ℕ) (qs
 cells_billed p enables at [] = refl
 cells_billed p enables at (q ∷ qs) =
     let here : q.depth * census.returns_to p q ≡ q.depth * returns_of p q.forms =
-    ap (λ n. q.depth * n) (sym (returns_same p q)) in
+    ap (λ n. q.depth * n) (returns_same p q) in
     let one = sum_by-cons (λ (x : Process). 7 * (length x.forms - 1) + 7 * (x.depth * census.returns_to p x)) q qs in
     let two = sum_by-cons cells_bill (tally_of p enables at q) (tallies_of p enables (suc at) qs) in
     let rest = cells_billed p enables (suc at) qs in

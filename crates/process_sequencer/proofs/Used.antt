@@ -7,7 +7,6 @@ use Rattle.std.proofs.Common.{
   ℕ,
   zero,
   suc,
-  ◌+◌,
   ◌<◌,
   List,
   [],
@@ -19,15 +18,12 @@ use Rattle.std.proofs.Common.{
   refl,
   sym,
   ap,
-  subst,
   arith,
-  length,
 }
 use Rattle.std.specs.Prelude.{Contains}
 use Rattle.std.specs.List.{count_by}
 use Rattle.std.proofs.lemmas.List.Sums.{sum_by-cons}
 use Rattle.mp_base.specs.declared.refusal.Place.{Place}
-use Rattle.mp_program.specs.declared.program.FormKind.{FormKind}
 use Rattle.mp_program.specs.declared.program.FormKind.TheVariants.{Set}
 use Rattle.mp_program.specs.declared.program.What.{What}
 use Rattle.mp_program.specs.declared.program.What.TheVariants.{
@@ -46,8 +42,8 @@ use Rattle.mp_program.specs.declared.program.Way.TheVariants.{Input, Output, Int
 use Rattle.mp_program.specs.declared.program.Def.{Def}
 use Rattle.mp_program.specs.declared.program.Form.{Form}
 use Rattle.mp_program.specs.declared.program.Program.{Program}
-use Rattle.mp_program.specs.Names.{index_of, is_same, is_supply}
-use Rattle.mp_program.specs.Weight.{is_set_of, sets_of}
+use Rattle.mp_program.specs.Names.{index_of, is_supply}
+use Rattle.mp_program.specs.Weight.{is_set_of}
 use Rattle.mp_program.proofs.Definitions.{named, is_same_of}
 use Rattle.mp_rules.specs.Breaking.{IsUnbroken}
 use Rattle.mp_rules.specs.Entries.{IsAt}

@@ -1,5 +1,35 @@
 -- The jumps of processes, one after another.
-use Rattle.std.proofs.Common.{◌≡◌, ◌⊎◌, inl, inr, ◌∙◌, ℕ, zero, suc, ◌+◌, ◌<◌, ◌≤◌, List, [], ◌∷◌, ◌++◌, Bool, true, false, cond, Option, Some, None, refl, sym, ap, subst, arith, length, get_or}
+use Rattle.std.proofs.Common.{
+  ◌≡◌,
+  ◌⊎◌,
+  inl,
+  inr,
+  ◌∙◌,
+  ℕ,
+  zero,
+  suc,
+  ◌+◌,
+  ◌<◌,
+  ◌≤◌,
+  List,
+  [],
+  ◌∷◌,
+  ◌++◌,
+  Bool,
+  true,
+  false,
+  cond,
+  Option,
+  Some,
+  None,
+  refl,
+  sym,
+  ap,
+  subst,
+  arith,
+  length,
+  get_or,
+}
 use Rattle.std.specs.Prelude.{Contains, MatchOption, ◌↔◌, ◌&&◌}
 use Rattle.std.proofs.lemmas.List.Sums.{sum_by_more}
 use Rattle.mp_base.specs.declared.op.Op.TheVariants.{And, Nor}
@@ -36,7 +66,17 @@ use Rattle.process_transfers.specs.declared.jumps.Jumps.{Jumps}
 use Rattle.process_transfers.specs.declared.moves.Group.TheVariants.{Calls, Returns, Inside}
 use Rattle.process_transfers.specs.Growth.{IsGrown, IsFallMade, IsUnionMade}
 use Rattle.process_transfers.specs.Moves.{moves_in, picked}
-use Rattle.process_transfers.specs.Jumps.{IsExtended, IsFallAt, inside_to, AreFallsMade, AllFallsMade, IsJumps, MakesJumps, AreJumpsMade, AllJumpsMade}
+use Rattle.process_transfers.specs.Jumps.{
+  IsExtended,
+  IsFallAt,
+  inside_to,
+  AreFallsMade,
+  AllFallsMade,
+  IsJumps,
+  MakesJumps,
+  AreJumpsMade,
+  AllJumpsMade,
+}
 use Rattle.process_transfers.proofs.Growing.{long_pushed, keeps_more, pushed_cases, negations_kept}
 use Rattle.process_transfers.proofs.Moving.{
   calls_are,

@@ -1,5 +1,25 @@
 -- What forms and cells want are the transfers of a program.
-use Rattle.std.proofs.Common.{◌≡◌, inl, inr, ◌∙◌, ℕ, zero, suc, ◌<◌, List, [], Option, Some, None, refl, sym, ap, subst, arith, length}
+use Rattle.std.proofs.Common.{
+  ◌≡◌,
+  inl,
+  inr,
+  ◌∙◌,
+  ℕ,
+  zero,
+  suc,
+  ◌<◌,
+  List,
+  [],
+  Option,
+  Some,
+  None,
+  refl,
+  sym,
+  ap,
+  subst,
+  arith,
+  length,
+}
 use Rattle.std.specs.Prelude.{Contains, MatchOption}
 use Rattle.mp_base.specs.declared.refusal.Place.{Place}
 use Rattle.mp_program.specs.declared.program.FormKind.{FormKind}
@@ -46,7 +66,16 @@ use Rattle.process_transfers.specs.declared.roles.Motion.{Motion}
 use Rattle.process_transfers.specs.declared.roles.Motion.TheVariants.{Fall, Push, Pop, Back}
 use Rattle.process_transfers.specs.Jumps.{IsJumps, IsFallAt}
 use Rattle.process_transfers.specs.Control.{IsReading, IsControl}
-use Rattle.process_transfers.specs.Wants.{Serves, LandWants, FormWants, WantsAt, PushWants, PopWants, RoleWants, CellWants}
+use Rattle.process_transfers.specs.Wants.{
+  Serves,
+  LandWants,
+  FormWants,
+  WantsAt,
+  PushWants,
+  PopWants,
+  RoleWants,
+  CellWants,
+}
 
 -- what stands where something is there
 there_is : {X : Type 0} (o : Option X) (x : X) (A : Type 0) (B : X → Type 0) → o ≡ Some x → MatchOption o A B → B x

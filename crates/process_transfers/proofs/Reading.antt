@@ -7,7 +7,15 @@ use Rattle.process_plan.specs.declared.role.Role.{Role}
 use Rattle.process_plan.proofs.Members.{one_entry}
 use Rattle.process_transfers.specs.Growth.{IsPut}
 use Rattle.process_transfers.specs.Control.{IsReading, IsReadingMade, AreReadingsMade}
-use Rattle.process_transfers.proofs.Growing.{long_pushed, at_pushed, kept_pushed, pushed_cases, keeps_more, free_pushed, one_pushed}
+use Rattle.process_transfers.proofs.Growing.{
+  long_pushed,
+  at_pushed,
+  kept_pushed,
+  pushed_cases,
+  keeps_more,
+  free_pushed,
+  one_pushed,
+}
 
 pub reading_put : (s : Role) (c e : ℕ) (old new : List RtlExpr) → IsPut old new (Cell c) e
     → IsReadingMade s c old new e

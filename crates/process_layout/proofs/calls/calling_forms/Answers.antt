@@ -42,8 +42,10 @@ loop-f-preserved c =
     let Told : Form → List Bool → Type 0 = λ y cs.
     c.has_call.result ≡ kind_calls (λ g. slice_index_or cs g false) y.kind in
     let read = c.index-forms-f.is in
-    let told : Told c.index-forms-f.result c.loop-f.calling.items = subst (λ y. Told y c.loop-f.calling.items) (sym read)
-    (subst (Told (slice_index_or c.as_slice-forms.result.now i c.index-forms-f.result)) c.deref.ensures.value c.has_call.ensures) in
+    let told : Told c.index-forms-f.result c.loop-f.calling.items =
+    subst (λ y. Told y c.loop-f.calling.items) (sym read)
+    (subst (Told (slice_index_or c.as_slice-forms.result.now i c.index-forms-f.result)) c.deref.ensures.value
+    c.has_call.ensures) in
     told_more c.args.program.now
     (record { sound = c.sound.ensures; values = c.values.ensures; effects = c.effects.ensures })
     i c.index-forms-f.result c.loop-f.calling.items c.has_call.result at

@@ -8,6 +8,13 @@ use Rattle.process_layout.proofs.laying.order_of.Goals as goal
 pub loop-definition-init : goal.loop-definition-init
 loop-definition-init c = none_ordered c.args.laid.now.roles c.args.order.now c.new-cells.result c.new-cells.ensures
 
+pub unreachable-requires : goal.unreachable-requires
+unreachable-requires c =
+    let order = c.args.order.now in
+    let i = c.loop-definition.definition-index in
+    let (cell, at) = c.requires i (omega arith) in
+    subst (IsCellFor c.args.laid.now.roles (Value (slice_index order i))) c.in_default.is c.cell.ensures cell at
+
 pub loop-definition-preserved : goal.loop-definition-preserved
 loop-definition-preserved c =
     let order = c.args.order.now in

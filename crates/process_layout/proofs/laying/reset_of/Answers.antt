@@ -12,5 +12,6 @@ returns-in_default c =
 pub returns : goal.returns
 returns c =
     some_reset c.args.program.now c.args.laid.now.roles c.args.laid.now.cells c.requires c.in-Ok.index
-    (sym (c.reset_at.ensures ∙ ap (position is_reset) c.as_slice.ensures) ∙ c.in-Some.is ∙ ap Some (sym c.in-Ok.ensures.1)) c.cell.result
+    (sym (c.reset_at.ensures ∙ ap (position is_reset) c.as_slice.ensures) ∙ c.in-Some.is
+    ∙ ap Some (sym c.in-Ok.ensures.1)) c.cell.result
     c.cell.ensures

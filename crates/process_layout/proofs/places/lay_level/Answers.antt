@@ -23,7 +23,8 @@ loop-place-preserved c =
     let now = c.in_ok-laid.laid in
     record {
       roles =
-          then_laid before.roles (map (Stacked k l) (take i js)) laid.roles now.roles (Stacked k l (slice_index js i) ∷ [])
+          then_laid before.roles (map (Stacked k l) (take i js)) laid.roles now.roles (Stacked k l (slice_index js i)
+          ∷ [])
           c.loop-place.invariant.roles c.in_ok-laid.ensures.roles
           ∙ ap (λ rs. before.roles ++ rs) (sym (entry_more k l js i (omega arith)));
       cells = bit_kept before laid now (Stacked k l (slice_index js i)) (λ ds. refl) c.loop-place.invariant.cells

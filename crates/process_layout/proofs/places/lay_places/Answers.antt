@@ -21,7 +21,8 @@ loop-place-preserved c =
     let now = c.in_ok-laid.laid in
     record {
       roles =
-          then_laid before.roles (place_roles k (j - 1)) laid.roles now.roles (Placed k j ∷ []) c.loop-place.invariant.roles
+          then_laid before.roles (place_roles k (j - 1)) laid.roles now.roles (Placed k j ∷ [])
+          c.loop-place.invariant.roles
           c.in_ok-laid.ensures.roles
           ∙ ap (λ rs. before.roles ++ rs) (sym (place_more k j (omega arith)));
       cells = bit_kept before laid now (Placed k j) (λ ds. refl) c.loop-place.invariant.cells c.in_ok-laid.ensures.cells

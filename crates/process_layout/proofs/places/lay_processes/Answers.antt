@@ -21,7 +21,8 @@ loop-index-preserved c =
     record {
       roles =
           process_next (told c.args.calling.now) c.args.processes.now c.loop-index.index c.index-processes-index.result
-          c.args.before.roles c.loop-index.laid.roles c.in_ok-laid.laid.roles (inside, c.index-processes-index.is) c.loop-index.invariant.roles
+          c.args.before.roles c.loop-index.laid.roles c.in_ok-laid.laid.roles (inside, c.index-processes-index.is)
+          c.loop-index.invariant.roles
           c.in_ok-laid.ensures.roles;
       cells = λ ds held. c.in_ok-laid.ensures.cells ds (c.loop-index.invariant.cells ds held);
     }

@@ -25,7 +25,8 @@ loop-level-preserved c =
     let before = c.args.before in
     record {
       roles =
-          then_laid before.roles (entry_roles k js l) c.loop-level.laid.roles c.in_ok-laid.laid.roles (map (Stacked k l) js)
+          then_laid before.roles (entry_roles k js l) c.loop-level.laid.roles c.in_ok-laid.laid.roles (map (Stacked k
+          l) js)
           c.loop-level.invariant.roles c.in_ok-laid.ensures.roles
           ∙ ap (λ rs. before.roles ++ rs) (sym (level_more k js l));
       cells = λ ds held. c.in_ok-laid.ensures.cells ds (c.loop-level.invariant.cells ds held);

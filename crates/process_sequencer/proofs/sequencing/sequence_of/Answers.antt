@@ -1,4 +1,4 @@
-use Rattle.std.proofs.Common.{◌≡◌, ◌∙◌, sym}
+use Rattle.std.proofs.Common.{◌∙◌, sym}
 use Rattle.process_sequencer.proofs.Billing.{pads_same}
 use Rattle.process_sequencer.proofs.Still.{moving_is, still_is}
 use Rattle.process_sequencer.proofs.sequencing.sequence_of.Goals as goal

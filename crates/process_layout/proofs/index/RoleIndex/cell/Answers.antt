@@ -6,7 +6,8 @@ use Rattle.process_layout.proofs.index.RoleIndex.cell.Goals as goal
 pub returns-in-Placed : goal.returns-in-Placed
 returns-in-Placed c = λ all index.
     let there = index.places c.in-Placed.process c.in-Placed.place in
-    let found : get pair_cmp c.args.self.now.places (c.in-Placed.process, c.in-Placed.place) ≡ c.copied-in-Placed.result =
+    let found : get pair_cmp c.args.self.now.places (c.in-Placed.process, c.in-Placed.place) ≡
+    c.copied-in-Placed.result =
     sym (c.copied-in-Placed.ensures ∙ c.get-in-Placed.ensures.value) in
     subst (λ s. IsCellFor all s c.copied-in-Placed.result) (sym c.in-Placed.is)
     (subst (IsCellFor all _) found there)
