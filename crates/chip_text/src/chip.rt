@@ -1,31 +1,32 @@
 //! The chip of a program.
 
-ghost use Rattle.std.specs.Prelude.{All, IfOk};
-ghost use Rattle.cif_form.specs.Fits.{Fits};
-ghost use Rattle.cif_writer.specs.Texts.{commands_of, file_text};
+ghost use Rattle.std.specs.Prelude.{List, IfOk};
+ghost use Rattle.cif_form.specs.declared.command.Command.{Command};
+ghost use Rattle.cif_writer.specs.Texts.{file_text};
+ghost use Rattle.cif_emit.specs.Emittable.{chip_rects, IsEmittable};
+ghost use Rattle.cif_emit.specs.Emitted.{IsEmitted};
 ghost use Rattle.compile_laws.specs.Laws.{IsSmallChipOf};
 
 use crate::text::text_of;
 use chip_plan::plan;
-use cif_emit::emit;
-use cif_list::Cif;
 use compile_laws::laws::chips_are_made;
+use fabric::Chip;
 use mp_base::NoMemory;
 use mp_checker::{Checked, weight};
 use process_sequencer::sequence;
 use std::alloc::Global;
 
-// The commands of the chip. What they are made from is let go before their text is made.
-fn commands_of(alloc: Global, checked: &Checked) -> Result<Cif, NoMemory>
-    ensures fit { IfOk result (λ commands. All Fits (commands_of commands)) }
-    ensures chip { IfOk result (λ commands. IsSmallChipOf checked.now.program (file_text (commands_of commands))) }
+// The chip of a program: commands that draw it have a text that is one. What it is made from is let go.
+fn chip_of(alloc: Global, checked: &Checked) -> Result<Chip, NoMemory>
+    ensures emittable { IfOk result (λ chip. IsEmittable (chip_rects chip) chip.labels) }
+    ensures made { IfOk result (λ chip. (commands : List Command) → IsEmitted (chip_rects chip) chip.labels commands
+        → IsSmallChipOf checked.now.program (file_text commands)) }
 {
     checked.unbroken();
     chips_are_made(checked.program());
     let _light = weight(checked);
     let rtl = sequence(alloc, checked)?;
-    let chip = plan(alloc, &rtl)?;
-    emit(alloc, &chip)
+    plan(alloc, &rtl)
 }
 
 /// The text of the CIF file of a program's chip. It draws at most 100 · (weight + 8) · (word length + 1) shapes.
@@ -36,6 +37,6 @@ fn commands_of(alloc: Global, checked: &Checked) -> Result<Cif, NoMemory>
 pub fn chip_text(alloc: Global, checked: &Checked) -> Result<Vec<u8>, NoMemory>
     ensures { IfOk result (λ text. IsSmallChipOf checked.now.program text.items) }
 {
-    let commands = commands_of(alloc, checked)?;
-    text_of(alloc, &commands)
+    let chip = chip_of(alloc, checked)?;
+    text_of(alloc, &chip)
 }

@@ -1,55 +1,26 @@
-//! The text of commands, in memory.
+//! The text of a chip, in memory.
 
-ghost use Rattle.std.specs.Prelude.{◌≡◌, All, IfOk};
-ghost use Rattle.mp_base.specs.Outside.{Gains, HasCause};
-ghost use Rattle.mp_base.specs.Piece.{TakesPiece};
-ghost use Rattle.cif_form.specs.Fits.{Fits};
-ghost use Rattle.cif_writer.specs.Texts.{commands_of, file_text};
+ghost use Rattle.std.specs.Prelude.{◌≡◌, IfOk};
+ghost use Rattle.cif_writer.specs.Texts.{file_text};
+ghost use Rattle.cif_emit.specs.Emittable.{chip_rects, IsEmittable};
+ghost use Rattle.cif_emit.specs.Emitted.{IsEmitted};
+ghost use Rattle.cif_emit.specs.Commands.{chip_commands};
 
-use cif_list::Cif;
-use cif_writer::write_file;
-use mp_base::{Failed, NoMemory, Sink};
+use cif_emit::{Text, emit_to};
+use fabric::Chip;
+use mp_base::NoMemory;
 use std::alloc::Global;
 
-// A text in memory, which fails only for want of it.
-#[derive(Drop)]
-struct Text {
-    bytes: Vec<u8>,
-    faults: u64,
-}
-
-impl Sink for Text {
-    ghost use Rattle.std.specs.Prelude.{Some};
-
-    ghost held = { λ s. Some s.bytes.items };
-
-    ghost faults = { λ s. s.faults };
-
-    fn write(&mut self, bytes: &[u8]) -> Result<usize, Failed>
-        ensures taken { TakesPiece Gains (Some self.old.bytes.items) (Some self.new.bytes.items) bytes.now result }
-        ensures cause { HasCause self.old.faults self.new.faults result }
-    {
-        match self.bytes.extend_from_slice(bytes) {
-            Ok(()) => Ok(bytes.len()),
-            Err(_) => {
-                self.faults = self.faults.saturating_add(1);
-                Err(Failed)
-            }
-        }
-    }
-}
-
-/// The text of a whole file of these commands.
-pub(crate) fn text_of(alloc: Global, commands: &Cif) -> Result<Vec<u8>, NoMemory>
-    requires { All Fits (commands_of commands.now) }
-    ensures { IfOk result (λ text. text.items ≡ file_text (commands_of commands.now)) }
+/// The text of the commands of a chip.
+pub(crate) fn text_of(alloc: Global, chip: &Chip) -> Result<Vec<u8>, NoMemory>
+    requires { IsEmittable (chip_rects chip.now) chip.now.labels }
+    ensures text { IfOk result (λ text. text.items ≡ file_text (chip_commands (chip_rects chip.now) chip.now.labels)) }
+    ensures drawn { IsEmitted (chip_rects chip.now) chip.now.labels
+        (chip_commands (chip_rects chip.now) chip.now.labels) }
 {
-    let mut text = Text {
-        bytes: Vec::new(alloc),
-        faults: 0,
-    };
-    match write_file(commands, &mut text) {
+    let mut text = Text::new(alloc);
+    match emit_to(alloc, chip, &mut text) {
         Ok(()) => Ok(text.bytes),
-        Err(Failed) => Err(NoMemory),
+        Err(_) => Err(NoMemory),
     }
 }

@@ -4,8 +4,8 @@ use Rattle.std.proofs.Common.{map, length, length-append, append_assoc, lit<, li
 use Rattle.std.specs.Prelude.{ℤ, pos, ◌≤ℤ◌}
 use Rattle.std.specs.List.{flat_map}
 use Rattle.std.proofs.lemmas.Int.{ints}
-use Rattle.std.proofs.lemmas.List.{length-map, map-append}
-use Rattle.std.proofs.lemmas.List.Elements.{All-nil, All-cons, All-append, All-map, All-weaker, filter-append}
+use Rattle.std.proofs.lemmas.List.{length-map}
+use Rattle.std.proofs.lemmas.List.Elements.{All-nil, All-cons, All-append, All-map, All-weaker}
 use Rattle.lam_geom.specs.declared.layer.Layer.{Layer}
 use Rattle.lam_geom.specs.declared.layer.Layer.TheVariants.{ND, NP, NC, NM, NI, NB, NG}
 use Rattle.lam_geom.specs.declared.rect.Rect.{Rect}
@@ -26,7 +26,7 @@ use Rattle.cif_form.specs.Walk.WalkEnd.{Whole, Broken}
 use Rattle.fabric.specs.declared.chip.ChipLabel.{ChipLabel}
 use Rattle.cif_emit.specs.Emittable.{IsEmittable, IsPlainLabel}
 use Rattle.cif_emit.specs.Emitted.{IsDrawnBy, IsEmitted}
-use Rattle.cif_emit.specs.Commands.{layers, is_on, drawn_on, box_of, box_commands, layer_commands, symbol, label_of}
+use Rattle.cif_emit.specs.Commands.{layers, drawn_on, box_of, box_commands, layer_commands, symbol, label_of}
 use Rattle.cif_emit.specs.Commands.{chip_commands}
 use Rattle.cif_emit.proofs.Offsets.{laid, next, are_laid}
 use Rattle.cif_emit.proofs.Drawn.{drawn, drawn_squares, drawn_few}
@@ -213,34 +213,3 @@ module _ (laws : AreLaws) (rects : List Rect) (labels : List ChipLabel) (emittab
             let at = are_laid items in
             subst (IsDrawnBy rects labels) (sym (at.1 ∙ ap (laid at.0) e)) (laid_draws at.0);
       }
-
--- ---- what is added in turn
-
--- a layer's commands, where it has any
-pub layer_added : (l : Layer) (xs ys : List Rect) (old named one two : List Command) → ¬ (drawn_on l (xs ++ ys) ≡ [])
-    → named ≡ old ++ commands.Layer (layer_name l) ∷ [] → one ≡ named ++ map box_of (drawn_on l xs)
-    → two ≡ one ++ map box_of (drawn_on l ys) → two ≡ old ++ layer_commands l (drawn_on l (xs ++ ys))
-layer_added l xs ys old named one two some e f g =
-    let name : Command = commands.Layer (layer_name l) in
-    let a : List Command = map box_of (drawn_on l xs) in
-    let b : List Command = map box_of (drawn_on l ys) in
-    let both : map box_of (drawn_on l (xs ++ ys)) ≡ a ++ b =
-    ap (map box_of) (filter-append (is_on l) xs ys) ∙ map-append box_of (drawn_on l xs) (drawn_on l ys) in
-    g ∙ ap (λ cs. cs ++ b) (f ∙ ap (λ cs. cs ++ a) e)
-    ∙ append_assoc (old ++ name ∷ []) a b ∙ append_assoc old (name ∷ []) (a ++ b)
-    ∙ ap (λ cs. old ++ name ∷ cs) (sym both) ∙ ap (λ cs. old ++ cs) (named_some (drawn_on l (xs ++ ys)) some)
-  where
-    named_some : (rs : List Rect) → ¬ (rs ≡ []) → commands.Layer (layer_name l) ∷ map box_of rs ≡ layer_commands l rs
-    named_some [] h = absurd (h refl)
-    named_some (r ∷ rs) h = refl
-
--- a symbol, its call and the labels, behind nothing
-pub chip_added : (rects drawn_rects : List Rect) (labels own : List ChipLabel) (none one two three : List Command)
-    → drawn_rects ≡ rects → own ≡ labels → none ≡ [] → one ≡ none ++ symbol (pos 1) (box_commands drawn_rects)
-    → two ≡ one ++ Call (pos 1) [] ∷ [] → three ≡ two ++ map label_of own → three ≡ chip_commands rects labels
-chip_added rects drawn_rects labels own none one two three e f n a b c =
-    c ∙ ap (λ ls. two ++ map label_of ls) f
-    ∙ ap (λ cs. cs ++ map label_of labels) (b ∙ ap (λ cs. cs ++ Call (pos 1) [] ∷ [])
-    (a ∙ ap (λ cs. cs ++ symbol (pos 1) (box_commands drawn_rects)) n
-    ∙ ap (λ rs. symbol (pos 1) (box_commands rs)) e))
-    ∙ append_assoc (symbol (pos 1) (box_commands rects)) (Call (pos 1) [] ∷ []) (map label_of labels)

@@ -1,17 +1,16 @@
 -- The rectangles of each layer that cover something: all that covers a square, and no more of them than there are.
-use Rattle.std.proofs.Common.{ℕ, zero, suc, ◌≡◌, ◌+◌, ◌≤◌, ◌⊎◌, ◌↔◌, inl, inr, refl, sym, ◌∙◌, ap, subst, ◌<◌}
-use Rattle.std.proofs.Common.{get_or, arith, Bool, true, false, cond, eqb, ◌&&◌, List, [], ◌∷◌, ◌++◌, length}
+use Rattle.std.proofs.Common.{ℕ, zero, suc, ◌≡◌, ◌+◌, ◌≤◌, ◌⊎◌, ◌↔◌, inl, inr, refl, sym, ◌∙◌, ap, subst}
+use Rattle.std.proofs.Common.{arith, Bool, true, false, cond, eqb, ◌&&◌, List, [], ◌∷◌, ◌++◌, length}
 use Rattle.std.proofs.Common.{length-append, eqb-true, eq-eqb, lit≤}
-use Rattle.std.specs.Prelude.{ℤ, pos, int_lt, All, IsTrue}
+use Rattle.std.specs.Prelude.{ℤ, pos, int_lt}
 use Rattle.std.specs.List.{flat_map}
-use Rattle.std.proofs.lemmas.Bool.{cases_Bool, and_parts, false≢true}
+use Rattle.std.proofs.lemmas.Bool.{cases_Bool, and_parts}
 use Rattle.std.proofs.lemmas.Int.{ints}
-use Rattle.std.proofs.lemmas.List.Elements.{filter-append, All-nil, All-cons, All-head, All-tail}
 use Rattle.lam_geom.specs.declared.layer.Layer.{Layer}
 use Rattle.lam_geom.specs.declared.layer.Layer.TheVariants.{ND, NP, NC, NM, NI, NB, NG}
 use Rattle.lam_geom.specs.declared.rect.Rect.{Rect}
 use Rattle.lam_geom.specs.Squares.{Covers, covered, SameSquares, rank}
-use Rattle.cif_emit.specs.Emittable.{IsOnGrid, IsSolid}
+use Rattle.cif_emit.specs.Emittable.{IsSolid}
 use Rattle.cif_emit.specs.Commands.{layers, is_on, drawn_on}
 
 by_rank : ℕ → Layer
@@ -58,41 +57,6 @@ on_layer l r e s =
 -- what an index past the end of a list of rectangles gives
 abbrev pub no_rect : Rect
 no_rect = record { layer = ND; x0 = pos 0; y0 = pos 0; x1 = pos 0; y1 = pos 0 }
-
--- where one is on the layer, some are drawn there
-pub some_drawn : (l : Layer) (rs : List Rect) (i : ℕ) (d : Rect) → i < length rs → is_on l (get_or rs i d) ≡ true
-    → drawn_on l rs ≡ [] → ⊥
-some_drawn l [] i d h on e = omega arith
-some_drawn l (r ∷ rs) zero d h on e =
-    let f : r ∷ drawn_on l rs ≡ [] = subst (λ b. cond b (r ∷ drawn_on l rs) (drawn_on l rs) ≡ []) on e in cc
-some_drawn l (r ∷ rs) (suc i) d h on e =
-    elim (cases_Bool (is_on l r)) [
-      | inl t ↦ (let f : r ∷ drawn_on l rs ≡ [] = subst (λ b. cond b (r ∷ drawn_on l rs) (drawn_on l rs) ≡ []) t e in
-          cc)
-      | inr t ↦ some_drawn l rs i d (omega arith) on (subst
-          (λ b. cond b (r ∷ drawn_on l rs) (drawn_on l rs) ≡ []) t e)
-    ]
-
-none_left : (xs ys : List Rect) → xs ++ ys ≡ [] → (xs ≡ []) × (ys ≡ [])
-none_left [] ys e = (refl, e)
-none_left (x ∷ xs) ys e = cc
-
--- none of two lists is drawn on the layer if none of either is
-pub none_drawn : (l : Layer) (xs ys : List Rect) → ((drawn_on l xs ≡ []) × (drawn_on l ys ≡ []))
-    ↔ (drawn_on l (xs ++ ys) ≡ [])
-none_drawn l xs ys = (
-  λ h. filter-append (is_on l) xs ys ∙ ap (λ rs. rs ++ drawn_on l ys) h.0 ∙ h.1,
-  λ e. none_left (drawn_on l xs) (drawn_on l ys) (sym (filter-append (is_on l) xs ys) ∙ e),
-)
-
--- where some of the first are on the layer, so are some of all
-pub not_all_elsewhere : (l : Layer) (xs ys : List Rect) (first : Bool) → IsTrue first ↔ (drawn_on l xs ≡ [])
-    → first ≡ false
-    → IsTrue first ↔ (drawn_on l (xs ++ ys) ≡ [])
-not_all_elsewhere l xs ys first h e = (
-  λ t. absurd (false≢true (sym e ∙ t)),
-  λ none. h.1 ((none_drawn l xs ys).1 none).0,
-)
 
 -- ---- squares
 
@@ -224,17 +188,3 @@ few_count (r ∷ rs) =
 
 pub drawn_few : (rs : List Rect) → length (drawn layers rs) ≤ length rs
 drawn_few rs = let a = length_drawn layers rs in let b = few_count rs in omega arith
-
--- ---- two lists
-
-front : (xs ys : List Rect) → All IsOnGrid (xs ++ ys) → All IsOnGrid xs
-front [] ys h = All-nil IsOnGrid
-front (x ∷ xs) ys h = All-cons IsOnGrid x xs (All-head IsOnGrid x (xs ++ ys) h)
-    (front xs ys (All-tail IsOnGrid x (xs ++ ys) h))
-
-back : (xs ys : List Rect) → All IsOnGrid (xs ++ ys) → All IsOnGrid ys
-back [] ys h = h
-back (x ∷ xs) ys h = back xs ys (All-tail IsOnGrid x (xs ++ ys) h)
-
-pub grid_parts : (xs ys : List Rect) → All IsOnGrid (xs ++ ys) → All IsOnGrid xs × All IsOnGrid ys
-grid_parts xs ys h = (front xs ys h, back xs ys h)

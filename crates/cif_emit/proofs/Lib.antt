@@ -7,3 +7,5 @@ pub mod Expanded
 pub mod Walked
 pub mod Chips
 pub mod Fabrics
+pub mod Cursors
+pub mod Pieces

@@ -1,3 +1,5 @@
 pub mod Emittable
 pub mod Emitted
 pub mod Commands
+pub mod Rest
+pub mod Stream

@@ -1,30 +1,39 @@
 //! Chips as commands.
 
-ghost use Rattle.std.specs.Prelude.{◌≡◌, ◌++◌, ◌∷◌, [], IfOk, OnOk, pos};
+ghost use Rattle.std.specs.Prelude.{◌≡◌, IfOk};
 ghost use Rattle.cif_writer.specs.Texts.{commands_of};
 ghost use Rattle.cif_emit.specs.Emittable.{chip_rects, IsEmittable};
 ghost use Rattle.cif_emit.specs.Emitted.{IsEmitted};
+ghost use Rattle.cif_emit.specs.Commands.{chip_commands};
 
-use crate::boxes::{add, add_symbol};
-use crate::labels::add_labels;
+use crate::cursor::Cursor;
 use crate::laws::commands_draw_the_chip;
-use cif_form::{Command, Turns};
 use cif_list::Cif;
-use fabric::Chip;
-use mp_base::NoMemory;
+use fabric::{Chip, ChipLabel};
+use lam_geom::{Rect, Shape};
+use mp_base::{List, NoMemory};
 use std::alloc::Global;
 
-// The number of the symbol that has a chip's boxes.
-const SYMBOL: u32 = 1;
-
-fn add_call(alloc: Global, cif: &mut Cif) -> Result<(), NoMemory>
-    ensures { OnOk result (commands_of cif.new ≡ commands_of cif.old ++ Command.Call (pos 1) [] ∷ []) }
+/// What a chip draws: its fabric, and the rectangles beside it.
+pub(crate) fn rects_of(alloc: Global, chip: &Chip) -> Result<Shape, NoMemory>
+    ensures { IfOk result (λ rects. rects ≡ chip_rects chip.now) }
 {
-    let call = Command::Call {
-        number: i64::from(SYMBOL),
-        turns: Turns::new(alloc),
-    };
-    add(cif, &call)
+    let mut rects = chip.fabric.shape(alloc)?.into_vec();
+    rects.extend_from_slice(chip.extra.as_slice())?;
+    Ok(List::from_vec(rects))
+}
+
+// The commands of rectangles and labels.
+fn cif_of(alloc: Global, rects: &[Rect], labels: &[ChipLabel]) -> Result<Cif, NoMemory>
+    requires { IsEmittable rects.now labels.now }
+    ensures { IfOk result (λ cif. commands_of cif ≡ chip_commands rects.now labels.now) }
+{
+    let mut cif = Cif::new(alloc);
+    let mut cursor = Cursor::Start;
+    while let Some(command) = cursor.next(alloc, rects, labels)? {
+        cif.push(0, &command)?;
+    }
+    Ok(cif)
 }
 
 /// The commands of a chip: a symbol with a box for each rectangle that covers something, layer by layer, a call of it,
@@ -41,19 +50,10 @@ fn add_call(alloc: Global, cif: &mut Cif) -> Result<(), NoMemory>
 /// `NoMemory`, also for 2^32 commands or more.
 pub fn emit(alloc: Global, chip: &Chip) -> Result<Cif, NoMemory>
     requires { IsEmittable (chip_rects chip.now) chip.now.labels }
-    ensures { IfOk result (λ cif. IsEmitted (chip_rects chip.now) chip.now.labels (commands_of cif)) }
+    ensures commands { IfOk result (λ cif. commands_of cif ≡ chip_commands (chip_rects chip.now) chip.now.labels) }
+    ensures drawn { IfOk result (λ cif. IsEmitted (chip_rects chip.now) chip.now.labels (commands_of cif)) }
 {
     commands_draw_the_chip();
-    let shape = chip.fabric.shape(alloc)?;
-    let mut cif = Cif::new(alloc);
-    add_symbol(
-        alloc,
-        &mut cif,
-        SYMBOL,
-        shape.as_slice(),
-        chip.extra.as_slice(),
-    )?;
-    add_call(alloc, &mut cif)?;
-    add_labels(alloc, &mut cif, chip.labels.as_slice())?;
-    Ok(cif)
+    let rects = rects_of(alloc, chip)?;
+    cif_of(alloc, rects.as_slice(), chip.labels.as_slice())
 }

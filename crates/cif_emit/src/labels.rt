@@ -1,15 +1,12 @@
-//! The labels of a chip.
+//! Labels.
 
-ghost use Rattle.std.specs.Prelude.{◌≡◌, ◌++◌, ◌∷◌, [], All, IfOk, OnOk, map};
+ghost use Rattle.std.specs.Prelude.{◌≡◌, ◌++◌, IfOk, OnOk};
 ghost use Rattle.std.specs.Fmt.{signed_decimal};
 ghost use Rattle.cif_form.specs.Writing.{space};
-ghost use Rattle.cif_writer.specs.Texts.{commands_of};
-ghost use Rattle.cif_emit.specs.Emittable.{IsPlainLabel};
 ghost use Rattle.cif_emit.specs.Commands.{label_words, label_of};
 
-use crate::boxes::{add, name_of};
+use crate::boxes::name_of;
 use cif_form::Command;
-use cif_list::Cif;
 use fabric::ChipLabel;
 use itoa::Buffer;
 use mp_base::{Name, NoMemory};
@@ -38,17 +35,12 @@ fn words_of(alloc: Global, label: &ChipLabel) -> Result<Name, NoMemory>
     Ok(Name::from_vec(text))
 }
 
-/// Adds the labels, as user commands.
-pub(crate) fn add_labels(alloc: Global, cif: &mut Cif, labels: &[ChipLabel]) -> Result<(), NoMemory>
-    requires { All IsPlainLabel labels.now }
-    ensures { OnOk result (commands_of cif.new ≡ commands_of cif.old ++ map label_of labels.now) }
+/// The user command of a label.
+pub(crate) fn label_command(alloc: Global, label: &ChipLabel) -> Result<Command, NoMemory>
+    ensures { IfOk result (λ c. c ≡ label_of label.now) }
 {
-    for label in labels {
-        let command = Command::User {
-            digit: 9,
-            text: words_of(alloc, label)?,
-        };
-        add(cif, &command)?;
-    }
-    Ok(())
+    Ok(Command::User {
+        digit: 9,
+        text: words_of(alloc, label)?,
+    })
 }

@@ -3,7 +3,12 @@
 
 mod boxes;
 mod chip;
+mod cursor;
 mod labels;
 pub mod laws;
+mod stream;
+mod text;
 
 pub use chip::emit;
+pub use stream::emit_to;
+pub use text::Text;

@@ -1,7 +1,8 @@
-//! What becomes of a chip, in words.
+//! What becomes of a small chip, in words.
 
 ghost use Rattle.cif_emit.specs.Emittable.{IsEmittable, chip_rects};
 
+use crate::pieces::{show_fault, show_pieces};
 use cif_emit::emit;
 use cif_flat::{Flat, flatten, read_is_well_formed};
 use cif_reader::read_cif;
@@ -52,5 +53,7 @@ pub(crate) fn show(rt: &HostRuntime, chip: &Chip) -> io::Result<()>
     let text = sink.bytes();
     let words = String::from_utf8_lossy(rt.alloc(), text)?;
     print!(rt; "{words}")?;
+    show_pieces(rt, chip, text)?;
+    show_fault(rt, chip, 0)?;
     show_read(rt, text)
 }

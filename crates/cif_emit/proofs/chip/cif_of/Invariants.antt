@@ -1,0 +1,12 @@
+use Rattle.std.proofs.Common.{◌≡◌, ◌++◌, length}
+use Rattle.cif_writer.specs.Texts.{commands_of}
+use Rattle.cif_emit.specs.Commands.{chip_commands}
+use Rattle.cif_emit.specs.Rest.{rest}
+use Rattle.cif_emit.proofs.chip.cif_of.Given as goal
+
+-- what is in the list, and what is left, are all commands
+abbrev pub invariant-loop-cif : goal.invariant-loop-cif
+invariant-loop-cif l = commands_of l.cif ++ rest l.cursor l.rects l.labels ≡ chip_commands l.rects l.labels
+
+abbrev pub decreases-loop-cif : goal.decreases-loop-cif
+decreases-loop-cif l = length (rest l.cursor l.rects l.labels)

@@ -1,0 +1,110 @@
+//! The text of a chip, in pieces.
+
+ghost use Rattle.std.specs.Prelude.{◌≡◌, ◌++◌, [], codes, OnOk, Some};
+ghost use Rattle.mp_base.specs.Outside.{Gains, HasCause};
+ghost use Rattle.mp_base.specs.Piece.{TakesAll};
+ghost use Rattle.cif_form.specs.Fits.{Fits};
+ghost use Rattle.cif_form.specs.Writing.{text_of};
+ghost use Rattle.cif_writer.specs.Texts.{file_text};
+ghost use Rattle.cif_emit.specs.Emittable.{chip_rects, IsEmittable};
+ghost use Rattle.cif_emit.specs.Emitted.{IsEmitted};
+ghost use Rattle.cif_emit.specs.Commands.{chip_commands};
+ghost use Rattle.cif_emit.specs.Stream.{PutsOff, FaultHasCause};
+
+use crate::chip::rects_of;
+use crate::cursor::Cursor;
+use crate::laws::commands_draw_the_chip;
+use crate::text::Text;
+use cif_form::Command;
+use cif_writer::{write_command, write_end};
+use fabric::{Chip, ChipLabel};
+use lam_geom::Rect;
+use mp_base::{Failed, Fault, NoMemory, Sink, write_all};
+use std::alloc::Global;
+
+const PIECE: usize = 65536;
+
+// Puts the text of a command behind what is put off.
+fn put_off(waiting: &mut Text, command: Command) -> Result<(), NoMemory>
+    requires { Fits command }
+    ensures { OnOk result (waiting.new.bytes.items ≡ waiting.old.bytes.items ++ (text_of command ++ codes ";\n")) }
+{
+    match write_command(&command, waiting) {
+        Ok(()) => Ok(()),
+        Err(Failed) => Err(NoMemory),
+    }
+}
+
+// Writes what is put off, if there is enough of it.
+fn write_piece<O: Sink>(out: &mut O, waiting: &mut Text) -> Result<(), Failed>
+    ensures put_off { PutsOff (O.held out.old) (O.held out.new) waiting.old.bytes.items waiting.new.bytes.items result }
+    ensures cause { HasCause (O.faults out.old) (O.faults out.new) result }
+{
+    if waiting.bytes.len() < PIECE {
+        return Ok(());
+    }
+    write_all(out, waiting.bytes.as_slice())?;
+    waiting.bytes.clear();
+    Ok(())
+}
+
+// Puts off the end of a file.
+fn put_off_end(waiting: &mut Text) -> Result<(), NoMemory>
+    ensures { OnOk result (waiting.new.bytes.items ≡ waiting.old.bytes.items ++ codes "E\n") }
+{
+    match write_end(waiting) {
+        Ok(()) => Ok(()),
+        Err(Failed) => Err(NoMemory),
+    }
+}
+
+// Writes the file of rectangles and labels but for what is put off at the end.
+fn write_pieces<O: Sink>(
+    alloc: Global,
+    rects: &[Rect],
+    labels: &[ChipLabel],
+    out: &mut O,
+    waiting: &mut Text,
+) -> Result<(), Fault>
+    requires emittable { IsEmittable rects.now labels.now }
+    requires none { waiting.old.bytes.items ≡ [] }
+    ensures put_off { PutsOff (O.held out.old) (O.held out.new) (file_text (chip_commands rects.now labels.now))
+        waiting.new.bytes.items result }
+    ensures cause { FaultHasCause (O.faults out.old) (O.faults out.new) result }
+{
+    let mut cursor = Cursor::Start;
+    while let Some(command) = cursor.next(alloc, rects, labels)? {
+        put_off(waiting, command)?;
+        write_piece(out, waiting)?;
+    }
+    put_off_end(waiting)?;
+    Ok(())
+}
+
+/// Writes the text of the commands that [`emit`](crate::emit) gives and the end of the file, in pieces, and holds one
+/// command at a time. The condition on the chip is that of `emit`.
+///
+/// # Errors
+///
+/// `Write` where the output failed, and `NoMemory`. A first part of the text was written then, but not all.
+pub fn emit_to<O: Sink>(alloc: Global, chip: &Chip, out: &mut O) -> Result<(), Fault>
+    requires { IsEmittable (chip_rects chip.now) chip.now.labels }
+    ensures taken { TakesAll Gains (O.held out.old) (O.held out.new)
+        (file_text (chip_commands (chip_rects chip.now) chip.now.labels)) result }
+    ensures cause { FaultHasCause (O.faults out.old) (O.faults out.new) result }
+    ensures drawn { IsEmitted (chip_rects chip.now) chip.now.labels
+        (chip_commands (chip_rects chip.now) chip.now.labels) }
+{
+    commands_draw_the_chip();
+    let rects = rects_of(alloc, chip)?;
+    let mut waiting = Text::new(alloc);
+    write_pieces(
+        alloc,
+        rects.as_slice(),
+        chip.labels.as_slice(),
+        out,
+        &mut waiting,
+    )?;
+    write_all(out, waiting.bytes.as_slice())?;
+    Ok(())
+}
