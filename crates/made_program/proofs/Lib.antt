@@ -1,0 +1,5 @@
+pub mod Lists
+pub mod Tests
+pub mod Reading
+pub mod Weighing
+pub mod Unbroken

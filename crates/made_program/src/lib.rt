@@ -1,0 +1,4 @@
+//! The programs of sources that are made of numbers.
+#![tactic(auto)]
+
+pub mod laws;

@@ -1,0 +1,4 @@
+//! Sources that are made of numbers: their programs.
+#![tactic(auto)]
+
+pub mod laws;

@@ -1,0 +1,4 @@
+//! Stimuli that are made of numbers.
+#![tactic(auto)]
+
+pub mod laws;
