@@ -1,0 +1,5 @@
+pub mod Kinds
+pub mod Pins
+pub mod Homed
+pub mod Spans
+pub mod Listed

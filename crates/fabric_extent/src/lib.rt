@@ -1,0 +1,4 @@
+//! The extent of a fabric: laws.
+#![tactic(auto)]
+
+pub mod laws;

@@ -1,0 +1,3 @@
+pub mod Sliced
+pub mod Drawn
+pub mod Sizes

@@ -1,0 +1,24 @@
+-- How large the fabric of a data path is, by its cost.
+use Rattle.std.specs.Prelude.{◌+◌, ◌*◌, ◌≤◌, ℕ}
+use Rattle.fabric.specs.Counted.{rectangle_count, thing_count}
+use Rattle.fabric.specs.Plan.{Plan}
+use Rattle.fabric_extent.specs.Bounds.{IsSmall}
+use Rattle.path_form.specs.declared.path.DataPath.{DataPath}
+use Rattle.path_form.specs.Sizes.{IsNarrow, IsWithin}
+use Rattle.slice_chip.specs.Sliced.{IsSliced}
+
+-- What it draws grows with the cost, and with the length of words.
+abbrev pub RectanglesAreFew : Type 0
+RectanglesAreFew =
+    (cost : ℕ) (p : DataPath) (f : Plan) → IsWithin cost p → IsSliced p f
+    → rectangle_count f ≤ 100 * (cost + 8) * (p.width + 1)
+
+abbrev pub ThingsAreFew : Type 0
+ThingsAreFew =
+    (cost : ℕ) (p : DataPath) (f : Plan) → IsWithin cost p → IsSliced p f
+    → thing_count f + 2 ≤ 100 * (cost + 8) * (p.width + 1)
+
+-- Columns don't grow with the length of words, and each bit adds one band.
+abbrev pub SlicedIsSmall : Type 0
+SlicedIsSmall =
+    (cost : ℕ) (p : DataPath) (f : Plan) → IsWithin cost p → IsNarrow cost p → IsSliced p f → IsSmall cost p.width f

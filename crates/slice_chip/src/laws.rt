@@ -1,0 +1,35 @@
+//! Laws: a call of one does nothing, and tells the caller's proof what it ensures.
+
+ghost use Rattle.slice_chip.specs.Drawn.{SlicedChipsDraw};
+ghost use Rattle.slice_chip.specs.Sizes.{RectanglesAreFew, SlicedIsSmall, ThingsAreFew};
+ghost use Rattle.slice_chip.specs.Sliced.{ControlsLeaveRoom, TapsFit};
+
+/// Above a control that was placed in an empty fabric there is room for the slices of its path.
+pub fn controls_leave_room()
+    ensures { ControlsLeaveRoom }
+{}
+
+/// The taps in the control's band may be added where control and slices were placed.
+pub fn taps_fit()
+    ensures { TapsFit }
+{}
+
+/// The fabric of a data path draws the path: each net, phase and supply has the node of its segment, line or trunk.
+pub fn sliced_chips_draw()
+    ensures { SlicedChipsDraw }
+{}
+
+/// The fabric of a data path within its cost draws few rectangles.
+pub fn rectangles_are_few()
+    ensures { RectanglesAreFew }
+{}
+
+/// The fabric of a data path within its cost has few segments, lines and marks.
+pub fn things_are_few()
+    ensures { ThingsAreFew }
+{}
+
+/// The columns of the fabric of a narrow data path don't grow with the length of words, and each bit adds one band.
+pub fn sliced_is_small()
+    ensures { SlicedIsSmall }
+{}

@@ -1,0 +1,10 @@
+pub mod Finding
+pub mod WholeNets
+pub mod WholePaths
+pub mod WholeNarrow
+pub mod SliceColumns
+pub mod Stacked
+pub mod JointLines
+pub mod JointApart
+pub mod Standing
+pub mod SlicesStand

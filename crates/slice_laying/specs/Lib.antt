@@ -1,0 +1,4 @@
+pub mod Added
+pub mod Taps
+pub mod Paths
+pub mod Fitting
