@@ -2,12 +2,12 @@
 use Rattle.std.proofs.Common.{◌≡◌, ◌⊎◌, ◌<◌, ℕ, List, refl, ap, subst, inl, inr, Option, Some, None, arith}
 use Rattle.mp_base.specs.Outside.{Files, WhereTold, Rose}
 use Rattle.command_line.specs.Command.{Command}
-use Rattle.silicon.specs.Order.{Fault, Stray, Breaks}
-use Rattle.silicon.specs.Faults.{IsFirstFault}
-use Rattle.silicon.specs.Run.{World, IsStrayFor, DidCommand}
+use Rattle.outcome.specs.Order.{Fault, Stray, Breaks}
+use Rattle.outcome.specs.World.{World, DidWork}
+use Rattle.silicon.specs.Faults.{work_of, IsFirstFault, IsStrayFor}
 use Rattle.silicon.specs.Complete.{IsRun, AnyRose, AnyGreater, status_by}
-use Rattle.silicon.specs.declared.top.Status.{Status}
-use Rattle.silicon.specs.declared.top.Status.TheVariants.{Done, Refused, Usage, ReadFault, WriteFault, NoMemory}
+use Rattle.outcome.specs.declared.status.Status.{Status}
+use Rattle.outcome.specs.declared.status.Status.TheVariants.{Done, Refused, Usage, ReadFault, WriteFault, NoMemory}
 
 -- what is told of files that are told
 told_of : {X : Type 0} (R : X → X → Type 0) (x y : Option X) (old new : X) → x ≡ Some old → y ≡ Some new
@@ -41,14 +41,14 @@ module _ (one : OneFault) (command : Command) (before after : World) (old new : 
   pub owed : (status : Status) → IsRun (Some command) status before after → before.files ≡ Some old
       → after.files ≡ Some new → (status ≡ status_by fault) ⊎ (status ≡ NoMemory)
   owed Done run e f =
-      let did = told_of (λ a b. DidCommand command Done a b run.content.printed) _ _ old new e f run.content.told in
+      let did = told_of (λ a b. DidWork (work_of command) Done a b run.content.printed) _ _ old new e f run.content.told in
       inl (by_fault None did.fault)
   owed Refused run e f =
-      let did = told_of (λ a b. DidCommand command Refused a b run.content.printed) _ _ old new e f run.content.told in
+      let did = told_of (λ a b. DidWork (work_of command) Refused a b run.content.printed) _ _ old new e f run.content.told in
       inl (by_fault (Some (Breaks did.broken)) did.fault)
   owed Usage run e f = absurd run.form
   owed ReadFault run e f =
-      let did = told_of (λ a b. DidCommand command ReadFault a b run.content.printed) _ _ old new e f
+      let did = told_of (λ a b. DidWork (work_of command) ReadFault a b run.content.printed) _ _ old new e f
       run.content.told in
       inl (by_stray run.causes.1 f did.0)
   owed WriteFault run e f = absurd (still (written run.causes.3))

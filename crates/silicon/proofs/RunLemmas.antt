@@ -1,63 +1,13 @@
--- A run, from the end of its command and the line that it told.
-use Rattle.std.proofs.Common.{◌≡◌, ℕ, List, [], ◌++◌, refl, sym, subst, inl, inr, Option, Some, None, Err}
+-- A run, from what its command did.
+use Rattle.std.proofs.Common.{◌≡◌, ℕ, List, [], refl, sym, subst, inl, Option, Some, None}
 use Rattle.mp_base.specs.Outside.{Files, WhereTold, Gains}
-use Rattle.mp_base.specs.declared.refusal.Broken.{Broken}
+use Rattle.mp_base.proofs.Told.{told_map, keeps_same, gains_nothing}
 use Rattle.command_line.specs.Command.{Command}
-use Rattle.silicon.specs.Order.{Breaks}
-use Rattle.silicon.specs.Faults.{IsFirstFault}
-use Rattle.silicon.specs.Outcome.{IsRefused, IsPartOf}
-use Rattle.silicon.specs.Line.{line_of}
-use Rattle.silicon.specs.Run.{World, Leaves, IsSaid, whole, cut, IsTold, IsForWords, DidCommand, Did}
-use Rattle.silicon.specs.Run.{TellsUsage, usage_line}
-use Rattle.silicon.specs.Halt.{Ends}
-use Rattle.silicon.specs.declared.halt.Halt.TheVariants as halt
-use Rattle.silicon.specs.declared.top.Status.{Status}
-use Rattle.silicon.specs.declared.top.Status.TheVariants.{Usage, NoMemory}
-use Rattle.mp_base.proofs.Told.{told_map, keeps_same, gains_twice, gains_nothing}
-
-module _ (command : Command) (broken : Broken) where
-  -- what a refused command did
-  abbrev Refuses : List ℕ → Files → Files → Type 0
-  Refuses printed old new = IsFirstFault command old (Some (Breaks broken)) × (new ≡ old) × (printed ≡ [])
-
-  refused : (printed line : List ℕ) (Q : List ℕ → List ℕ → Type 0) (x y : Option Files) → Q line (line_of broken)
-      → WhereTold (Refuses printed) x y → WhereTold (IsRefused command (λ b. Q (printed ++ line) (line_of b))) x y
-  refused printed line Q x y q told = told_map _ _ x y
-      (λ a b r. record {
-        broken = broken;
-        fault = r.0;
-        kept = r.1;
-        line = subst (λ p. Q (p ++ line) (line_of broken)) (sym r.2) q;
-      }) told
-
-  pub leaves_told : (result : Status) (before mid : World) (text : Option (List ℕ)) (after : World) (s s' : ℕ)
-      → Leaves (Ends {T = Unit {0}} command (Err (halt.Refused broken))) before mid
-      → IsTold (line_of broken) mid.text after.text s s' result → after.files ≡ mid.files
-      → Leaves (DidCommand command result) before after
-  leaves_told result before mid text after s s' ends (inl (whole is same_count said)) same = subst
-      (λ r. Leaves (DidCommand command r) before after) (sym is) (record {
-        printed = ends.printed ++ line_of broken;
-        gained = gains_twice ends.printed (line_of broken) before.text mid.text after.text ends.gained said;
-        told = subst (λ files. WhereTold
-            (IsRefused command (λ b. ends.printed ++ line_of broken ≡ line_of b)) before.files files) (sym same)
-            (refused ends.printed (line_of broken) (λ p l. p ≡ l) before.files mid.files refl ends.told);
-      })
-  leaves_told result before mid text after s s' ends (inl (cut is le rose part first said)) same = subst
-      (λ r. Leaves (DidCommand command r) before after) (sym is) (record {
-        printed = ends.printed ++ part;
-        gained = gains_twice ends.printed part before.text mid.text after.text ends.gained said;
-        told = told_map _ _ before.files after.files (λ a b r. inl r)
-            (subst (λ files. WhereTold
-            (IsRefused command (λ b. IsPartOf (ends.printed ++ part) (line_of b))) before.files files) (sym same)
-            (refused ends.printed part (λ p l. IsPartOf p l) before.files mid.files first ends.told));
-      })
-  leaves_told result before mid text after s s' ends (inr none) same = subst
-      (λ r. Leaves (DidCommand command r) before after) (sym none.0) (record {
-        printed = ends.printed;
-        gained = subst (λ t. WhereTold (Gains ends.printed) before.text t) (sym none.1) ends.gained;
-        told = told_map _ _ before.files after.files (λ a b r. (r.2, inl r.1))
-            (subst (λ files. WhereTold (Refuses ends.printed) before.files files) (sym same) ends.told);
-      })
+use Rattle.outcome.specs.World.{World, Leaves, IsSaid, whole, cut, DidWork}
+use Rattle.outcome.specs.declared.status.Status.{Status}
+use Rattle.outcome.specs.declared.status.Status.TheVariants.{Usage, NoMemory}
+use Rattle.silicon.specs.Faults.{work_of}
+use Rattle.silicon.specs.Run.{IsForWords, Did, TellsUsage, usage_line}
 
 -- what was said of faulty words
 abbrev pub GainsSome : Option (List ℕ) → Option (List ℕ) → Type 0
@@ -69,7 +19,7 @@ gains_some status result text x y s s' (whole is same said) = (text, said)
 gains_some status result text x y s s' (cut is le rose part first said) = (part, said)
 
 pub leaves_command : (command : Option Command) (seen : Command) (result : Status) (before after : World) → Some seen
-    ≡ command → Leaves (DidCommand seen result) before after → Leaves (Did command result) before after
+    ≡ command → Leaves (DidWork (work_of seen) result) before after → Leaves (Did command result) before after
 leaves_command command seen result before after is leaves = subst (λ o. Leaves (Did o result) before after) is leaves
 
 pub leaves_no_command : (command : Option Command) (result : Status) (before after : World) (s s' : ℕ) → None ≡ command

@@ -2,10 +2,12 @@
 use Rattle.std.specs.Prelude.{◌≡◌, ◌⊎◌, ◌<◌, Option, Some, None}
 use Rattle.mp_base.specs.Outside.{Rose}
 use Rattle.command_line.specs.Command.{Command}
-use Rattle.silicon.specs.Order.{Fault, Stray, Breaks}
-use Rattle.silicon.specs.Run.{World, IsForWords, HasCauses, IsStrayFor, Leaves, Did}
-use Rattle.silicon.specs.declared.top.Status.{Status}
-use Rattle.silicon.specs.declared.top.Status.TheVariants.{Done, Refused, ReadFault}
+use Rattle.outcome.specs.Order.{Fault, Stray, Breaks}
+use Rattle.outcome.specs.World.{World, HasCauses, Leaves}
+use Rattle.outcome.specs.declared.status.Status.{Status}
+use Rattle.outcome.specs.declared.status.Status.TheVariants.{Done, Refused, ReadFault}
+use Rattle.silicon.specs.Faults.{IsStrayFor}
+use Rattle.silicon.specs.Run.{IsForWords, Did}
 
 -- what a run promises of its words and its status, in the worlds before and after it
 pub record IsRun (words : Option Command) (status : Status) (before after : World) : Type 0 where

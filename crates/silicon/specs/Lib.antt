@@ -1,12 +1,3 @@
-pub mod Order
-pub mod Stimulus
 pub mod Faults
-pub mod Outcome
 pub mod Run
 pub mod Complete
-pub mod Halt
-pub mod Line
-pub mod Transcript
-pub mod Compiled
-pub mod Replayed
-pub mod Simulated

@@ -3,32 +3,27 @@
 ghost use Rattle.std.specs.Prelude.{◌≡◌, ◌⊎◌, Option, Some, None};
 ghost use Rattle.mp_base.specs.Outside.{Files};
 ghost use Rattle.command_line.specs.Command.{Command};
-ghost use Rattle.silicon.specs.Order.{Fault};
+ghost use Rattle.outcome.specs.Order.{Fault};
+ghost use Rattle.outcome.specs.World.{World};
+ghost use Rattle.outcome.specs.declared.status.Status.{Status};
+ghost use Rattle.outcome.specs.declared.status.Status.TheVariants.{Usage, ReadFault, WriteFault, NoMemory};
+ghost use Rattle.replay_command.specs.Replayed.{ReplaysFollow};
 ghost use Rattle.silicon.specs.Faults.{IsFirstFault};
-ghost use Rattle.silicon.specs.Run.{World};
-ghost use Rattle.silicon.specs.Replayed.{ReplaysFollow};
 ghost use Rattle.silicon.specs.Complete.{IsRun, AnyRose, AnyGreater, status_by};
-ghost use Rattle.silicon.specs.declared.top.Status.{Status};
-ghost use Rattle.silicon.specs.declared.top.Status.TheVariants.{Usage, ReadFault, WriteFault, NoMemory};
 
-use mask_net::laws::{one_network, one_verdict as one_of_masks};
-use mp_source::laws::{one_source, one_verdict};
-use replay_run::laws::replays_follow as circuits_follow;
-use stimulus::{one_first_rule, one_stimulus};
-use switch_net::first_rule_is_determined;
+use mask_files::laws::one_mask_fault;
+use replay_command::laws::replays_follow as circuits_follow;
+use sim_command::laws::one_circuit_fault;
+use source_files::laws::one_fault;
 
 /// A command has one first fault at most on the same files.
 pub fn one_first_fault()
     ensures { (command : Command) (files : Files) (a b : Option Fault) → IsFirstFault command files a
         → IsFirstFault command files b → a ≡ b }
 {
-    one_source();
-    one_verdict();
-    one_first_rule();
-    one_of_masks();
-    one_network();
-    one_stimulus();
-    first_rule_is_determined();
+    one_fault();
+    one_mask_fault();
+    one_circuit_fault();
 }
 
 /// What the clauses `words`, `causes` and `content` of a run leave no choice of. Where no count of faults rose, a
@@ -57,6 +52,5 @@ pub fn completeness()
 pub fn replays_follow()
     ensures { ReplaysFollow }
 {
-    one_source();
     circuits_follow();
 }

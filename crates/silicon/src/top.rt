@@ -2,44 +2,21 @@
 
 ghost use Rattle.std.specs.Prelude.{◌≡◌, Some};
 ghost use Rattle.command_line.specs.Command.{command_of, seen};
-ghost use Rattle.silicon.specs.Faults.{target_of, target_for};
-ghost use Rattle.silicon.specs.Halt.{Ends, IsQuiet, status_of};
-ghost use Rattle.silicon.specs.Run.{IsSaid, IsForWords, world_of, HasCauses, IsStrayFor, IsTold, Leaves};
-ghost use Rattle.silicon.specs.Run.{DidCommand, Did, SparesFiles, IsSilent, TellsUsage};
-ghost use Rattle.silicon.specs.Line.{line_of};
+ghost use Rattle.outcome.specs.World.{world_of, HasCauses, Leaves, DidWork, SparesFiles, IsSilent};
+ghost use Rattle.outcome.specs.Halt.{Ends, IsQuiet, status_of};
+ghost use Rattle.silicon.specs.Faults.{work_of, target_of, target_for, IsStrayFor};
+ghost use Rattle.silicon.specs.Run.{IsForWords, Did, TellsUsage};
 
-use crate::board::NamedPart;
-use crate::compile::compile;
-use crate::halt::Halt;
-use crate::line::line;
-use crate::net::net;
-use crate::replay::replay;
-use crate::sim::sim;
-use crate::trace::trace;
+use board::NamedPart;
 use command_line::{Command, command_of};
-use mp_base::{Broken, Depot, Failed, Sink, write_all};
+use compile_command::compile;
+use mp_base::{Depot, Sink};
+use net_command::net;
+use outcome::{Halt, Status, refuse, say};
+use replay_command::replay;
+use sim_command::sim;
 use std::alloc::{AllocError, Global};
-
-/// How a run ended. The exit statuses are 0 to 5 in this order.
-#[derive(Clone, Copy, Debug, PartialEq, Eq)]
-pub enum Status {
-    Done,
-    Refused,
-    Usage,
-    ReadFault,
-    WriteFault,
-    NoMemory,
-}
-
-// Prints a text, and answers the status if it could.
-fn say<O: Sink>(out: &mut O, text: &[u8], status: Status) -> Status
-    ensures { IsSaid status text.now (O.held out.old) (O.held out.new) (O.faults out.old) (O.faults out.new) result }
-{
-    match write_all(out, text) {
-        Ok(()) => status,
-        Err(Failed) => Status::WriteFault,
-    }
-}
+use trace_command::trace;
 
 // Does the work of a command.
 fn perform<D: Depot, O: Sink>(
@@ -52,7 +29,7 @@ fn perform<D: Depot, O: Sink>(
         HasCauses (status_of result) (IsStrayFor (Some (seen command.entry)) (D.held depot.new))
         (world depot.old out.old) (world depot.new out.new) }
     ensures content { let world = world_of D.held D.read_faults D.write_faults O.held O.faults in
-        Leaves (Ends (seen command.entry) result) (world depot.old out.old) (world depot.new out.new) }
+        Leaves (Ends (work_of (seen command.entry)) result) (world depot.old out.old) (world depot.new out.new) }
     ensures silent { IsQuiet result (O.held out.old) (O.held out.new) }
     ensures spares { SparesFiles (target_of (seen command.entry)) (D.held depot.old) (D.held depot.new)
         (D.write_faults depot.old) (D.write_faults depot.new) }
@@ -68,17 +45,6 @@ fn perform<D: Depot, O: Sink>(
     }
 }
 
-// Tells the broken rule.
-fn refuse<O: Sink>(alloc: Global, out: &mut O, broken: &Broken) -> Status
-    ensures { IsTold (line_of broken.now) (O.held out.old) (O.held out.new)
-        (O.faults out.old) (O.faults out.new) result }
-{
-    match line(alloc, broken) {
-        Ok(text) => say(out, &text, Status::Refused),
-        Err(_) => Status::NoMemory,
-    }
-}
-
 // Does the work of a command, and tells a refusal.
 fn run_command<D: Depot, O: Sink>(
     alloc: Global,
@@ -91,7 +57,7 @@ fn run_command<D: Depot, O: Sink>(
         HasCauses result (IsStrayFor (Some (seen command.entry)) (D.held depot.new))
         (world depot.old out.old) (world depot.new out.new) }
     ensures content { let world = world_of D.held D.read_faults D.write_faults O.held O.faults in
-        Leaves (DidCommand (seen command.entry) result) (world depot.old out.old) (world depot.new out.new) }
+        Leaves (DidWork (work_of (seen command.entry)) result) (world depot.old out.old) (world depot.new out.new) }
     ensures silent { IsSilent result (O.held out.old) (O.held out.new) }
     ensures spares { SparesFiles (target_of (seen command.entry)) (D.held depot.old) (D.held depot.new)
         (D.write_faults depot.old) (D.write_faults depot.new) }

@@ -1,0 +1,6 @@
+//! The masks of a source.
+#![tactic(auto)]
+
+mod command;
+
+pub use command::compile;

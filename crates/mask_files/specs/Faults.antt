@@ -1,0 +1,9 @@
+-- The faults of a file that holds masks.
+use Rattle.std.specs.Prelude.{ℕ, List, Option}
+use Rattle.std.specs.FinMap.{get}
+use Rattle.mp_base.specs.Outside.{Files}
+use Rattle.mask_net.specs.Masks.{OfMask}
+use Rattle.outcome.specs.Order.{Fault, OfFile}
+
+abbrev pub MaskFault : List ℕ → Files → Option Fault → Type 0
+MaskFault name files = OfFile 268_435_456 OfMask name (get files name)

@@ -1,0 +1,32 @@
+//! Masks that are read and judged.
+
+ghost use Rattle.std.specs.Prelude.{◌≡◌, IfOk, IfSome};
+ghost use Rattle.mp_base.specs.Outside.{Keeps, bytes_of};
+ghost use Rattle.mask_net.specs.Masks.{IsNetOf};
+ghost use Rattle.outcome.specs.Halt.{HasReason};
+ghost use Rattle.mask_files.specs.Faults.{MaskFault};
+
+use mask_net::network_of;
+use mp_base::Depot;
+use outcome::{Halt, read_text};
+use std::alloc::Global;
+use switch_net::Network;
+
+// The longest file of masks, in bytes.
+const LIMIT: usize = 268_435_456;
+
+/// Reads the network of a file of masks that breaks no rule.
+///
+/// # Errors
+///
+/// A read fault, the first broken rule of L1, C, F, N1 and N2, or want of memory.
+pub fn read_network<D: Depot>(alloc: Global, depot: &mut D, name: &str) -> Result<Network, Halt>
+    ensures held { Keeps (D.held depot.old) (D.held depot.new) }
+    ensures drawn { IfOk result (λ net. IfSome (D.held depot.new) (λ files. IsNetOf (bytes_of files name.now) net)) }
+    ensures reason { HasReason (MaskFault name.now) (D.held depot.new)
+        (D.read_faults depot.old) (D.read_faults depot.new) result }
+    ensures writes { D.write_faults depot.new ≡ D.write_faults depot.old }
+{
+    let bytes = read_text(alloc, depot, name, LIMIT)?;
+    Ok(network_of(alloc, bytes)?)
+}

@@ -1,0 +1,51 @@
+//! The size of the network that masks draw, from a file.
+
+ghost use Rattle.std.specs.Prelude.{◌≡◌, IfOk, IfSome, []};
+ghost use Rattle.mp_base.specs.Outside.{Keeps};
+ghost use Rattle.outcome.specs.Order.{IsStrayBy};
+ghost use Rattle.outcome.specs.World.{world_of, HasCauses, Leaves};
+ghost use Rattle.outcome.specs.Halt.{HasReason, Ends, IsQuiet, status_of};
+ghost use Rattle.net_command.specs.Work.{work};
+
+use mask_files::read_network;
+use mask_net::size_line;
+use mp_base::{Depot, Sink, write_all};
+use outcome::Halt;
+use std::alloc::Global;
+
+// Reads and judges the masks, and gives their size line.
+fn prepare<D: Depot>(alloc: Global, depot: &mut D, cif: &str) -> Result<Vec<u8>, Halt>
+    ensures held { Keeps (D.held depot.old) (D.held depot.new) }
+    ensures shows { IfOk result (λ text. IfSome (D.held depot.new) (λ files. (work cif.now).Shows files [] text.items)) }
+    ensures reason { HasReason (work cif.now).First (D.held depot.new)
+        (D.read_faults depot.old) (D.read_faults depot.new) result }
+    ensures writes { D.write_faults depot.new ≡ D.write_faults depot.old }
+{
+    let net = read_network(alloc, depot, cif)?;
+    Ok(size_line(alloc, &net)?)
+}
+
+/// Prints the size line of the network that the masks in a file draw.
+///
+/// # Errors
+///
+/// A read fault, the first broken rule of the masks, want of memory, or a write fault of the sink.
+pub fn net<D: Depot, O: Sink>(
+    alloc: Global,
+    depot: &mut D,
+    out: &mut O,
+    cif: &str,
+) -> Result<(), Halt>
+    ensures causes { let world = world_of D.held D.read_faults D.write_faults O.held O.faults in
+        HasCauses (status_of result) (IsStrayBy (work cif.now).First (D.held depot.new))
+        (world depot.old out.old) (world depot.new out.new) }
+    ensures content { let world = world_of D.held D.read_faults D.write_faults O.held O.faults in
+        Leaves (Ends (work cif.now) result) (world depot.old out.old) (world depot.new out.new) }
+    ensures silent { IsQuiet result (O.held out.old) (O.held out.new) }
+    ensures held { Keeps (D.held depot.old) (D.held depot.new) }
+    ensures writes { D.write_faults depot.new ≡ D.write_faults depot.old }
+{
+    let text = prepare(alloc, depot, cif)?;
+    write_all(out, &text)?;
+    Ok(())
+}

@@ -1,0 +1,6 @@
+pub mod Causes
+pub mod Determined
+pub mod EndsLemmas
+pub mod Reasons
+pub mod Silence
+pub mod ToldEnds

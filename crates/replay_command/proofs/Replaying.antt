@@ -1,0 +1,68 @@
+-- What a replay shows, and that it follows the source.
+use Rattle.std.proofs.Common.{◌≡◌, ◌++◌, ℕ, List, refl, ap, sym, subst, ◌∙◌, map, Option, Some, None, IfSome}
+use Rattle.mp_base.specs.Outside.{Files, bytes_of}
+use Rattle.mp_base.specs.declared.value.Trit.TheVariants.{X}
+use Rattle.mp_base.specs.declared.pad.Pads.{Pads}
+use Rattle.mp_program.specs.declared.program.Program.{Program}
+use Rattle.mp_program.specs.Pads.{ArePadsOf, face}
+use Rattle.mp_checker.specs.Checking.{CheckedProgram}
+use Rattle.switch_net.specs.declared.network.Network.{Network}
+use Rattle.switch_net.specs.Breaks.{HasPads}
+use Rattle.stimulus.specs.declared.given.Stimulus.{Stimulus}
+use Rattle.stimulus.specs.Reading.{IsStimulus}
+use Rattle.mp_source.specs.Source.{IsSource}
+use Rattle.sim_run.specs.Laws.{TranscriptExists}
+use Rattle.mask_net.specs.Masks.{IsNetOf}
+use Rattle.mask_net.specs.SizeLine.{last_line}
+use Rattle.headline.specs.Headline.{IsChipOf}
+use Rattle.compile_laws.specs.Laws.{IsSmallChipOf}
+use Rattle.replay_run.specs.Replay.{IsReplay}
+use Rattle.replay_run.specs.Laws as circuits
+use Rattle.replay_command.specs.Work.{work}
+use Rattle.replay_command.specs.Replayed.{ReplaysFollow}
+use Rattle.compile_command.proofs.Compiling.{compiled}
+use Rattle.source_files.proofs.StimulusRules.{pads_for}
+use Rattle.source_files.proofs.Sources.{OneSource, one_program}
+
+-- a circuit with the pads of a stimulus has a replay
+pub a_replay : TranscriptExists → (net : Network) (given : Stimulus) → HasPads net given.pads
+    → (text : List ℕ) × IsReplay net given text
+a_replay exist net given has =
+    let told = exist net given (λ node. X) has in (
+      told.1 ++ last_line net told.0,
+      record { end = told.0; front = told.1; transcript = told.2; lines = refl },
+    )
+
+module _ (source stimulus cif chip text : List ℕ) (checked : CheckedProgram) (given : Stimulus) (network : Network)
+    (is : IsSmallChipOf checked.program chip) (padded : ArePadsOf checked.program given.pads)
+    (drawn : IsNetOf chip network) (replay : IsReplay network given text) where
+  pub shows_replay : (held : Option Files) → IfSome held (λ files. IsSource (bytes_of files source) checked.program)
+      → IfSome held (λ files. IsStimulus (bytes_of files stimulus) (Some checked.pads) given)
+      → IfSome held (λ files. (work source stimulus cif).Shows files chip text)
+  shows_replay None spelled read = tt
+  shows_replay (Some files) spelled read = (
+    compiled (bytes_of files source) chip checked.program is spelled,
+    record {
+      program = checked.program;
+      pads = checked.pads;
+      given = given;
+      network = network;
+      is_source = spelled;
+      padded = pads_for checked (bytes_of files stimulus) given padded read;
+      is_stimulus = read;
+      drawn = drawn;
+      replay = replay;
+    },
+  )
+
+-- the pads of a stimulus are those of the program that it was read for
+given_pads : (program : Program) (pads : Pads) (text : List ℕ) (given : Stimulus) → ArePadsOf program pads
+    → IsStimulus text (Some pads) given → ArePadsOf program given.pads
+given_pads program pads text given are read =
+    record { inputs = ap (map face) read.inputs ∙ are.inputs; outputs = ap (map face) read.outputs ∙ are.outputs }
+
+pub follow : OneSource → circuits.ReplaysFollow → ReplaysFollow
+follow one follows source stimulus chip text made told =
+    let same = one_program one source made.program told.program made.is_source told.is_source in
+    follows told.program chip told.network told.given text (subst (λ p. IsChipOf p chip) same made.masks)
+    (given_pads told.program told.pads stimulus told.given told.padded told.is_stimulus) told.drawn told.replay

@@ -1,0 +1,7 @@
+//! The masks of a source, and the run of the circuit that they draw.
+#![tactic(auto)]
+
+mod command;
+pub mod laws;
+
+pub use command::replay;

@@ -1,5 +1,0 @@
-use Rattle.silicon.proofs.Replaying.{follow}
-use Rattle.silicon.proofs.laws.replays_follow.Goals as goal
-
-pub returns : goal.returns
-returns c = follow c.one_source.ensures c.replays_follow.ensures

@@ -1,0 +1,111 @@
+-- A circuit that runs along a stimulus: how it is refused, and what it shows.
+use Rattle.std.proofs.Common.{◌≡◌, ℕ, List, [], refl, subst, Option, Some, None, IfSome}
+use Rattle.mp_base.specs.declared.value.Trit.{Trit}
+use Rattle.mp_base.specs.declared.value.Trit.TheVariants.{X}
+use Rattle.mp_base.specs.declared.pad.Pads.{Pads}
+use Rattle.mp_base.specs.declared.refusal.Broken.{Broken}
+use Rattle.mp_base.specs.declared.refusal.Refusal.{Refusal}
+use Rattle.mp_base.specs.declared.refusal.Refusal.TheVariants as refusals
+use Rattle.mp_base.specs.Outside.{Files, bytes_of}
+use Rattle.switch_net.specs.declared.network.Network.{Network}
+use Rattle.switch_net.specs.Breaks.{HasPads, IsFirstOfCircuit, n3, n4}
+use Rattle.switch_net.specs.Laws.{OneFirstOfCircuit}
+use Rattle.stimulus.specs.declared.given.Stimulus.{Stimulus}
+use Rattle.stimulus.specs.Reading.{IsStimulus}
+use Rattle.mask_net.specs.Masks.{IsNetOf}
+use Rattle.mask_net.specs.Laws.{OneNetwork}
+use Rattle.clock_run.specs.Refused.{IsRefused}
+use Rattle.sim_run.specs.Transcript.{IsTranscript}
+use Rattle.outcome.specs.Order.{Fault, OfRule}
+use Rattle.sim_command.specs.Work.{work, SetUpFault}
+use Rattle.outcome.specs.Halt.{EndsBy, halt_of}
+use Rattle.sim_command.specs.Simulated.{IsSetUp, OfCircuit}
+use Rattle.outcome.specs.declared.halt.Halt.{Halt}
+use Rattle.outcome.proofs.Determined.{IsDetermined}
+use Rattle.outcome.proofs.Reasons.{ends_first, ends_second, if_second}
+
+-- a stimulus of a text has the same pads everywhere
+abbrev pub SamePads : Type 0
+SamePads = (text : List ℕ) (s t : Stimulus) → IsStimulus text None s → IsStimulus text None t → s.pads ≡ t.pads
+
+fits_breaks_nothing : (net : Network) (pads : Pads) (b : Broken) → HasPads net pads → IsFirstOfCircuit net pads b → ⊥
+fits_breaks_nothing net pads b fits (n3 i tag driven before) = fits.apart i (tag, driven)
+fits_breaks_nothing net pads b fits (n4 apart i name missing before) = fits.labelled i name missing
+
+module _ (network : OneNetwork) (same : SamePads) (first : OneFirstOfCircuit) (masks text : List ℕ) where
+  -- what holds of a circuit holds of the same circuit, found again
+  again : (P : Network → Pads → Type 0) (n m : Network) (s t : Stimulus) → IsSetUp masks text n s
+      → IsSetUp masks text m t → P n s.pads → P m t.pads
+  again P n m s t x y p = subst (λ pads. P m pads) (same text s t x.spelled y.spelled)
+      (subst (λ net. P net s.pads) (network masks n m x.drawn y.drawn) p)
+
+  pub one_of_circuit : IsDetermined (OfCircuit masks text)
+  one_of_circuit None None x y = refl
+  one_of_circuit None (Some b) (n, s, x, fits) (
+    m,
+    t,
+    y,
+    broken,
+  ) = absurd (fits_breaks_nothing m t.pads b (again HasPads n m s t x y fits) broken)
+  one_of_circuit (Some a) None (n, s, x, broken) (
+    m,
+    t,
+    y,
+    fits,
+  ) = absurd (fits_breaks_nothing n s.pads a (again HasPads m n t s y x fits) broken)
+  one_of_circuit (Some a) (Some b) (n, s, x, broken) (m, t, y, other) =
+      let e = first m t.pads a b (again (λ net pads. IsFirstOfCircuit net pads a) n m s t x y broken) other in cc
+
+-- the files were refused
+pub ends_set_up : (cif stimulus : List ℕ) (held : Option Files) (r m : ℕ) (halt : Halt)
+    → EndsBy (SetUpFault cif stimulus) held r m halt → EndsBy (work cif stimulus).First held r m halt
+ends_set_up cif stimulus held r m halt e = ends_first (SetUpFault cif stimulus)
+    (λ files. OfRule (OfCircuit (bytes_of files cif) (bytes_of files stimulus))) held r m halt e
+
+module _ (cif stimulus : List ℕ) (net : Network) (given : Stimulus) (held : Option Files) (r m : ℕ)
+    (set_up : IfSome held (λ files. IsSetUp (bytes_of files cif) (bytes_of files stimulus) net given))
+    (fits : (m ≡ r) × IfSome held (λ files. SetUpFault cif stimulus files None)) where
+  abbrev Rest : Files → Option Fault → Type 0
+  Rest files = OfRule (OfCircuit (bytes_of files cif) (bytes_of files stimulus))
+
+  refused_end : (held : Option Files)
+      → IfSome held (λ files. IsSetUp (bytes_of files cif) (bytes_of files stimulus) net given) → (e : Refusal)
+      → IsRefused net given.pads e → EndsBy Rest held m m (halt_of e)
+  refused_end held is refusals.NoMemory h = refl
+  refused_end None is (refusals.Broken b) h = (refl, tt)
+  refused_end (Some files) is (refusals.Broken b) h = (refl, (net, given, is, h))
+
+  -- the circuit was refused
+  pub ends_refused : (e : Refusal) → IsRefused net given.pads e
+      → EndsBy (work cif stimulus).First held r m (halt_of e)
+  ends_refused e h = ends_second (SetUpFault cif stimulus) Rest held r m m (halt_of e) fits.0 fits.1
+      (refused_end held set_up e h)
+
+  rest_fits : (held : Option Files)
+      → IfSome held (λ files. IsSetUp (bytes_of files cif) (bytes_of files stimulus) net given) → HasPads net given.pads
+      → IfSome held (λ files. Rest files None)
+  rest_fits None is h = tt
+  rest_fits (Some files) is h = (net, given, is, h)
+
+  -- no rule is broken
+  pub no_fault : HasPads net given.pads → IfSome held (λ files. (work cif stimulus).First files None)
+  no_fault h = if_second (SetUpFault cif stimulus) Rest held None fits.1 (rest_fits held set_up h)
+
+-- what was read of the files
+pub is_set_up : (cif stimulus : List ℕ) (net : Network) (given : Stimulus) (held : Option Files)
+    → IfSome held (λ files. IsNetOf (bytes_of files cif) net)
+    → IfSome held (λ files. IsStimulus (bytes_of files stimulus) None given)
+    → IfSome held (λ files. IsSetUp (bytes_of files cif) (bytes_of files stimulus) net given)
+is_set_up cif stimulus net given None drawn spelled = tt
+is_set_up cif stimulus net given (Some files) drawn spelled = record { drawn = drawn; spelled = spelled }
+
+pub shows_simulation : (cif stimulus text : List ℕ) (net : Network) (given : Stimulus) (after : ℕ
+    → Trit) (held : Option Files)
+    → IfSome held (λ files. IsSetUp (bytes_of files cif) (bytes_of files stimulus) net given)
+    → IsTranscript net given (λ node. X) after text
+    → IfSome held (λ files. (work cif stimulus).Shows files [] text)
+shows_simulation cif stimulus text net given after None is transcript = tt
+shows_simulation cif stimulus text net given after (Some files) is transcript = (
+  refl,
+  record { network = net; given = given; set_up = is; after = after; transcript = transcript },
+)

@@ -1,0 +1,24 @@
+//! A law of simulations: a call of it does nothing, and tells the caller's proof what it ensures.
+
+ghost use Rattle.std.specs.Prelude.{◌≡◌, ℕ, List, Option};
+ghost use Rattle.mp_base.specs.Outside.{Files};
+ghost use Rattle.outcome.specs.Order.{Fault};
+ghost use Rattle.sim_command.specs.Work.{work};
+
+use mask_files::laws::one_mask_fault;
+use mask_net::laws::one_network;
+use source_files::laws::one_fault;
+use stimulus::one_stimulus;
+use switch_net::first_rule_is_determined;
+
+/// Masks with a stimulus have one first fault at most.
+pub fn one_circuit_fault()
+    ensures { (cif stimulus : List ℕ) (files : Files) (a b : Option Fault) → (work cif stimulus).First files a
+        → (work cif stimulus).First files b → a ≡ b }
+{
+    one_mask_fault();
+    one_fault();
+    one_network();
+    one_stimulus();
+    first_rule_is_determined();
+}

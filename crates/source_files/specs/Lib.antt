@@ -1,0 +1,2 @@
+pub mod Stimulus
+pub mod Faults
