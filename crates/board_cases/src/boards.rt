@@ -1,0 +1,211 @@
+//! A program on a board: what it prints, and how its parts move.
+
+use crate::joined::{add, told_by};
+use crate::row::Row;
+use crate::watch::Watch;
+use board::{Board, NamedPart, read_links};
+use board_parts::{Counter, Echo, Memory, Shifter};
+use mp_base::{Broken, List, MemSink, Refusal, Spot};
+use mp_checker::Checked;
+use mp_source::check_source;
+use std::alloc::{AllocError, Global};
+use std::{fs, io};
+use trace_run::Source;
+
+/// What a board printed, whether a write failed, and what its parts drive afterwards.
+#[derive(Drop)]
+struct Outcome {
+    printed: Vec<u8>,
+    failed: bool,
+    told: String,
+}
+
+fn words_of(alloc: Global, text: &str) -> Result<Vec<String>, AllocError> {
+    let mut words = Vec::new(alloc);
+    for word in text.split(' ') {
+        words.push(String::from_str(alloc, word)?)?;
+    }
+    Ok(words)
+}
+
+fn sink(alloc: Global, call: Option<u64>) -> Result<MemSink, AllocError> {
+    let mut calls = List::new(alloc);
+    if let Some(call) = call {
+        calls.push(call)?;
+    }
+    Ok(MemSink::new(alloc, calls))
+}
+
+// A program of few bytes and few pads.
+fn checked(alloc: Global, source: &[u8]) -> Result<Checked, Refusal> {
+    if source.len() > 9999 {
+        return Err(Refusal::NoMemory);
+    }
+    check_source(alloc, source)
+}
+
+// Runs a program on a board with these parts. Whether the output failed.
+fn run(
+    alloc: Global,
+    checked: &Checked,
+    row: Row<'_>,
+    parts: &mut Vec<NamedPart>,
+    out: &mut MemSink,
+) -> Result<bool, Refusal> {
+    let pads = checked.pads();
+    if pads.inputs.len() > 9 || pads.outputs.len() > 9 || parts.len() > 9 {
+        return Err(Refusal::NoMemory);
+    }
+    let words = words_of(alloc, row.links)?;
+    let links = read_links(alloc, &words, parts, pads)?;
+    let mut board = Board::open(alloc, pads, links, checked.stores())?;
+    let mut device = Source::open(alloc, checked, pads)?;
+    Ok(board.run(&mut device, parts, row.clocks, out).is_err())
+}
+
+// Runs the program of a row with these parts, where one write fails.
+fn outcome_with(
+    alloc: Global,
+    checked: &Checked,
+    row: Row<'_>,
+    call: Option<u64>,
+    parts: &mut Vec<NamedPart>,
+) -> Result<Outcome, Refusal> {
+    let mut out = sink(alloc, call)?;
+    let failed = run(alloc, checked, row, parts, &mut out)?;
+    Ok(Outcome {
+        printed: Vec::from_slice(alloc, out.bytes())?,
+        failed,
+        told: told_by(alloc, parts)?,
+    })
+}
+
+// Runs the program of a row with a counter, a shifter, an echo, a memory, a part that counts its moves, and a second part
+// of the name `echo`, where one write fails.
+fn outcome_of(
+    alloc: Global,
+    checked: &Checked,
+    row: Row<'_>,
+    call: Option<u64>,
+) -> Result<Result<Outcome, Refusal>, AllocError> {
+    let mut parts = Vec::new(alloc);
+    let watch = Watch { moves: 0, seen: 0 };
+    add(
+        alloc,
+        &mut parts,
+        "counter",
+        Box::new(alloc, Counter::new())?,
+    )?;
+    add(
+        alloc,
+        &mut parts,
+        "shifter",
+        Box::new(alloc, Shifter::new())?,
+    )?;
+    add(alloc, &mut parts, "echo", Box::new(alloc, Echo::new())?)?;
+    add(alloc, &mut parts, "memory", Box::new(alloc, Memory::new())?)?;
+    add(alloc, &mut parts, "watch", Box::new(alloc, watch)?)?;
+    add(alloc, &mut parts, "echo", Box::new(alloc, Counter::new())?)?;
+    Ok(outcome_with(alloc, checked, row, call, &mut parts))
+}
+
+fn show_broken(rt: &HostRuntime, broken: &Broken) -> io::Result<()> {
+    let number = broken.rule.number;
+    match &broken.spot {
+        Spot::Named(name) => {
+            let word = String::from_utf8_lossy(rt.alloc(), name.bytes())?;
+            println!(rt; "    B{number} {word}")
+        }
+        _ => println!(rt; "    another rule"),
+    }
+}
+
+fn show_refusal(rt: &HostRuntime, refusal: &Refusal) -> io::Result<()> {
+    match refusal {
+        Refusal::Broken(broken) => show_broken(rt, broken),
+        Refusal::NoMemory => println!(rt; "    not enough memory"),
+    }
+}
+
+fn show_lines(rt: &HostRuntime, text: &[u8]) -> io::Result<()> {
+    let text = String::from_utf8_lossy(rt.alloc(), text)?;
+    for line in text.lines() {
+        println!(rt; "    {line}")?;
+    }
+    Ok(())
+}
+
+fn lines_in(text: &[u8]) -> u64 {
+    let mut lines = 0u64;
+    for byte in text {
+        if *byte == b'\n' {
+            lines = lines.wrapping_add(1);
+        }
+    }
+    lines
+}
+
+// How many whole lines are there after a write that failed, and the parts then.
+fn show_cut(rt: &HostRuntime, outcome: &Outcome, whole: &[u8]) -> io::Result<()> {
+    let lines = lines_in(&outcome.printed);
+    if whole.starts_with(&outcome.printed) && outcome.printed.len() < whole.len() {
+        println!(rt; "    cut after {lines} lines")?;
+    } else {
+        println!(rt; "    another text")?;
+    }
+    println!(rt; "   {}", outcome.told)
+}
+
+// Tells a run of which a write failed, if it printed more lines than the last that was told, and whether one failed.
+fn show_next(
+    rt: &HostRuntime,
+    outcome: &Outcome,
+    whole: &[u8],
+    told: &mut Option<u64>,
+) -> io::Result<bool> {
+    let lines = Some(lines_in(&outcome.printed));
+    if outcome.failed && lines != *told {
+        *told = lines;
+        show_cut(rt, outcome, whole)?;
+    }
+    Ok(outcome.failed)
+}
+
+// Each write fails in turn. Those in one line are told once.
+fn show_cuts(rt: &HostRuntime, checked: &Checked, row: Row<'_>, whole: &[u8]) -> io::Result<()> {
+    let mut told = None;
+    for call in 0..1000 {
+        match outcome_of(rt.alloc(), checked, row, Some(call))? {
+            Err(refusal) => return show_refusal(rt, &refusal),
+            Ok(outcome) => {
+                if !show_next(rt, &outcome, whole, &mut told)? {
+                    return Ok(());
+                }
+            }
+        }
+    }
+    Ok(())
+}
+
+fn show_run(rt: &HostRuntime, checked: &Checked, row: Row<'_>) -> io::Result<()> {
+    match outcome_of(rt.alloc(), checked, row, None)? {
+        Err(refusal) => show_refusal(rt, &refusal),
+        Ok(outcome) => {
+            show_lines(rt, &outcome.printed)?;
+            println!(rt; "   {}", outcome.told)?;
+            if row.fails {
+                show_cuts(rt, checked, row, &outcome.printed)?;
+            }
+            Ok(())
+        }
+    }
+}
+
+/// Prints the lines of the board's transcript, or the rule that its links break, and what the parts drive at the end.
+pub(crate) fn show_board(rt: &HostRuntime, row: Row<'_>) -> io::Result<()> {
+    let source = fs::read(rt, row.source)?;
+    match checked(rt.alloc(), &source) {
+        Err(refusal) => show_refusal(rt, &refusal),
+        Ok(checked) => show_run(rt, &checked, row),
+    }
+}

@@ -1,0 +1,5 @@
+pub mod Feeds
+pub mod Loops
+pub mod Boards
+pub mod Chips
+pub mod Following

@@ -1,0 +1,3 @@
+pub mod Boarded
+pub mod Standing
+pub mod Laws

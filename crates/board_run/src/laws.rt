@@ -1,0 +1,28 @@
+//! Laws of chips on boards: a call of one does nothing, and tells the caller's proof what it ensures.
+
+ghost use Rattle.board_run.specs.Laws.{BoardsFollow, BoardsRun};
+
+use board::laws::{inputs_fit, loops_agree};
+use board_laws::laws::chips_loop;
+use mask_net::laws::{one_network, sound_with_pads};
+use replay_run::laws::one_pads;
+use switch_net::circuits_run;
+
+/// What a chip shows on a board in each settled clock is what its program shows there, and both leave the parts alike.
+pub fn boards_follow()
+    ensures { BoardsFollow }
+{
+    chips_loop();
+    one_network();
+    sound_with_pads();
+    one_pads();
+    loops_agree();
+}
+
+/// A circuit that has the board's pads runs there.
+pub fn boards_run()
+    ensures { BoardsRun }
+{
+    circuits_run();
+    inputs_fit();
+}

@@ -1,0 +1,7 @@
+//! The circuit of a chip on a board, with its size at the end.
+#![tactic(auto)]
+
+pub mod laws;
+mod run;
+
+pub use run::BoardRun;
