@@ -33,6 +33,7 @@ use Rattle.path_values.specs.Allocated.{DrivenWord, IsAllocated, Placed, StoredW
 use Rattle.datapath_making.specs.declared.making.Making.{Making}
 use Rattle.datapath_making.specs.Finishing.{IsFinished}
 use Rattle.datapath_alloc.specs.Progress.{IsProgress}
+use Rattle.datapath_alloc.specs.Shared.{IsAllocatedOnce, SharesNets}
 use Rattle.datapath_alloc.proofs.Costs.{all_crossed, any_at}
 use Rattle.datapath_alloc.proofs.Ending.{cell_is_word, cell_of, done_cell, done_expr, same_net, spent_in_all, word_cell}
 use Rattle.datapath_alloc.proofs.Reaching.{word_of}
@@ -197,6 +198,10 @@ module _ (r : Rtl) (bits : List Part) (names : Names) (was : Making) (d : DataPa
         ((lowered.cell_names c x at).1 (id, on)) on to;
     only_inputs = ports_only r d.control d.slices names.cells m.cell_words p.given.sound d.inputs;
   }
+
+  pub allocated_once : SharesNets r names was.words was.lifts → IsAllocatedOnce r d
+  unfolding allocated
+  allocated_once h = (allocated, subst (SharesNets r names was.words) (sym was_finished.lifts) h)
 
   -- ---- how large it is
 

@@ -12,4 +12,5 @@ pub mod Ending
 pub mod Finished
 pub mod Marks
 pub mod Operating
-pub mod Results
+pub mod Noting
+pub mod Sharers

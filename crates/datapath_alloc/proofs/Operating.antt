@@ -16,7 +16,8 @@ use Rattle.control_nor.specs.Lowering.{nets_before}
 use Rattle.datapath_making.specs.declared.making.Making.{Making}
 use Rattle.datapath_making.specs.Marking.{last_mark}
 use Rattle.datapath_making.specs.Steps.{IsOperatorMade, IsStep}
-use Rattle.datapath_alloc.specs.Progress.{IsAnswered, IsAsked, IsLifted, IsProgress, KeepsMarks}
+use Rattle.datapath_alloc.specs.Progress.{IsProgress, KeepsMarks}
+use Rattle.datapath_sharing.specs.Asking.{IsAnswered, IsAsked, IsLifted}
 use Rattle.datapath_alloc.proofs.Idle.{bits_done}
 use Rattle.datapath_alloc.proofs.Reaching.{args_reached, free_word, waited}
 use Rattle.datapath_alloc.proofs.Rounds.{room}

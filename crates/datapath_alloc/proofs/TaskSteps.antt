@@ -36,7 +36,8 @@ use Rattle.datapath_making.specs.Steps.{IsBitMade, IsDrivenMade, IsFree, IsNumbe
 use Rattle.datapath_making.specs.WellMade.{IsWellMade}
 use Rattle.datapath_making.proofs.Keeping.{grows_refl, nothing_more, spends_none}
 use Rattle.datapath_making.proofs.Lists.{set_cases, set_keeps, set_stands}
-use Rattle.datapath_alloc.specs.Progress.{AreCellsMade, AreExprsMade, IsDrivenWord, IsExprMade, IsLifted, IsProgress}
+use Rattle.datapath_alloc.specs.Progress.{AreCellsMade, AreExprsMade, IsDrivenWord, IsExprMade, IsProgress}
+use Rattle.datapath_sharing.specs.Asking.{IsLifted}
 use Rattle.datapath_alloc.specs.Spending.{driven_cost, driven_crossings, task_cost, task_crossings, writes}
 use Rattle.datapath_alloc.proofs.Costs.{sum_next}
 use Rattle.datapath_alloc.proofs.Keeping.{Keeps}

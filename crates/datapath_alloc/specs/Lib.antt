@@ -1,2 +1,4 @@
 pub mod Spending
 pub mod Progress
+pub mod Noting
+pub mod Shared

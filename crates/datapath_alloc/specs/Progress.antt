@@ -1,5 +1,5 @@
 -- How far a path is made.
-use Rattle.std.specs.Prelude.{◌≡◌, ◌<◌, ◌≤◌, ◌*◌, ℕ, suc, List, [], Some, true, false, All, Contains, IsSome, MatchBool, length, slice_get, slice_index_or, take}
+use Rattle.std.specs.Prelude.{◌≡◌, ◌<◌, ◌≤◌, ◌*◌, ℕ, suc, List, [], Some, true, false, Contains, IsSome, MatchBool, length, slice_get, slice_index_or, take}
 use Rattle.std.specs.List.{list_any}
 use Rattle.mp_base.specs.declared.op.Op.{Op}
 use Rattle.mp_base.specs.declared.op.Op.TheVariants as ops
@@ -15,9 +15,9 @@ use Rattle.rtl_form.specs.declared.rtl.RtlExpr.TheVariants.{Number, Truth, Cell,
 use Rattle.rtl_form.specs.declared.rtl.Rtl.{Rtl}
 use Rattle.rtl_form.specs.Entries.{IsAt}
 use Rattle.rtl_form.specs.Environment.{is_driven}
-use Rattle.rtl_form.specs.Operands.{gives_word, takes, takes_words}
+use Rattle.rtl_form.specs.Operands.{gives_word, takes_words}
 use Rattle.rtl_form.specs.Sound.{IsSort, IsSound}
-use Rattle.rtl_form.specs.Cost.{cost, op_cost}
+use Rattle.rtl_form.specs.Cost.{cost}
 use Rattle.control_nor.specs.declared.names.Names.{Names}
 use Rattle.control_nor.specs.declared.names.Task.{Task}
 use Rattle.control_nor.specs.declared.names.Task.TheVariants as tasks
@@ -27,8 +27,8 @@ use Rattle.path_values.specs.Allocated.{DrivenWord, InputWord, Placed, StoredWor
 use Rattle.datapath_making.specs.declared.making.Making.{Making}
 use Rattle.datapath_making.specs.Growing.{IsUnfed}
 use Rattle.datapath_making.specs.Marking.{last_mark}
-use Rattle.datapath_making.specs.Sizes.{HasRoom, columns, crossings}
-use Rattle.datapath_making.specs.Steps.{IsBitMade, IsFree, IsOperatorMade, IsReached, IsStep, IsTestMade, IsWaited, IsWaiting}
+use Rattle.datapath_making.specs.Sizes.{columns, crossings}
+use Rattle.datapath_making.specs.Steps.{IsWaiting}
 use Rattle.datapath_making.specs.WellMade.{IsWellMade}
 use Rattle.datapath_alloc.specs.Spending.{crossed, is_stored_word, spent}
 
@@ -143,27 +143,3 @@ pub record IsMarkedAt (t : ℕ) (m : Making) : Type 0 where
 pub record KeepsMarks (old new : Making) : Type 0 where
   pub names : new.names ≡ old.names
   pub marks : new.marks ≡ old.marks
-
--- ---- operators
-
--- a bit is lifted: one of a word's, or the answer of a test
-abbrev pub IsLifted : ℕ → Op → ℕ → List ℕ → Making → Making → Type 0
-IsLifted e ops.Bit index args old new = IsStep 1 1 old new × IsBitMade e index (slice_index_or args 0 0) old new
-IsLifted e op index args old new = IsStep (op_cost op (length args)) 1 old new × IsTestMade e op args old new
-
--- what an operator asks
-pub record IsAsked (m : Making) (e : ℕ) (op : Op) (index : ℕ) (args : List ℕ) : Type 0 where
-  pub made : IsWellMade m
-  pub room : HasRoom 13 m
-  pub wide : 0 < m.width
-  pub free : IsFree m.words e
-  pub count : takes op (length args) ≡ true
-  pub reached : takes_words op ≡ true → All (IsReached m) args
-  pub entry : takes_words op ≡ true → gives_word op ≡ false → IsWaited m e
-  pub inside : op ≡ ops.Bit → index < m.width
-
--- what is made for it: a word, a bit that is lifted into the control, or nothing where it is one of bits
-abbrev pub IsAnswered : ℕ → Op → ℕ → List ℕ → Making → Making → Type 0
-IsAnswered e op index args old new =
-    MatchBool (gives_word op) (IsStep (op_cost op (length args)) 0 old new × IsOperatorMade e op args old new)
-    (MatchBool (takes_words op) (IsLifted e op index args old new) (new ≡ old))

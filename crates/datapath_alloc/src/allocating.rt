@@ -7,6 +7,7 @@ ghost use Rattle.control_nor.specs.Lowering.{IsLowered, Stands};
 ghost use Rattle.nor_net.specs.declared.net.NetId as net_id;
 ghost use Rattle.path_form.specs.Sizes.{IsNarrow, IsWithin};
 ghost use Rattle.path_values.specs.Allocated.{IsAllocated};
+ghost use Rattle.datapath_alloc.specs.Shared.{IsAllocatedOnce};
 
 use crate::latches::add_latches;
 use crate::next_values::add_next_values;
@@ -31,7 +32,7 @@ fn reset_of(rtl: &Rtl, names: &Names) -> Option<NetId>
     }
 }
 
-/// A data path that stands for the transfers.
+/// A data path that stands for the transfers, in which equal expressions of words share their nets.
 ///
 /// # Errors
 ///
@@ -42,6 +43,7 @@ pub fn allocate(alloc: Global, rtl: &Rtl) -> Result<DataPath, NoMemory>
     ensures allocated { IfOk result (IsAllocated rtl.now) }
     ensures within { IfOk result (IsWithin (cost rtl.now)) }
     ensures narrow { IfOk result (IsNarrow (cost rtl.now)) }
+    ensures once { IfOk result (IsAllocatedOnce rtl.now) }
 {
     let mut control = Net::new(alloc);
     let names = lower_bits(alloc, rtl, &mut control)?;

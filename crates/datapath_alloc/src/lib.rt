@@ -4,7 +4,6 @@
 mod allocating;
 mod latches;
 mod next_values;
-mod operators;
 mod tasks;
 
 pub use allocating::allocate;

@@ -4,6 +4,7 @@ ghost use Rattle.std.specs.Prelude.{◌≡◌, ◌<◌, ◌^◌, suc, Some, OnOk
 ghost use Rattle.control_nor.specs.Lowering.{nets_before};
 ghost use Rattle.datapath_making.specs.Marking.{last_mark};
 ghost use Rattle.datapath_alloc.specs.Progress.{IsMadeTo, KeepsMarks};
+ghost use Rattle.datapath_alloc.specs.Noting.{KeepsWords};
 ghost use Rattle.datapath_alloc.specs.Spending.{is_stored_word};
 
 use datapath_making::Making;
@@ -36,6 +37,7 @@ fn add_next_of(
     ensures made { OnOk result
         (IsMadeTo rtl.now (length rtl.now.cells) (length making.old.names.tasks) (suc index) making.new) }
     ensures marks { OnOk result (KeepsMarks making.old making.new) }
+    ensures words { OnOk result (KeepsWords making.old making.new) }
 {
     let cell = *rtl.cells.at(index);
     if is_stored(cell) {
@@ -51,8 +53,9 @@ fn add_all_next(alloc: Global, rtl: &Rtl, making: &mut Making, reset: u32) -> Re
     requires reset { rtl.now.reset ≡ Some reset }
     requires marks { (last_mark making.old).control ≡ nets_before making.old.names (length making.old.names.tasks) }
     requires made { IsMadeTo rtl.now (length rtl.now.cells) (length making.old.names.tasks) 0 making.old }
-    ensures { OnOk result (IsMadeTo rtl.now (length rtl.now.cells) (length making.new.names.tasks)
+    ensures made { OnOk result (IsMadeTo rtl.now (length rtl.now.cells) (length making.new.names.tasks)
         (length rtl.now.cells) making.new) }
+    ensures words { OnOk result (KeepsWords making.old making.new) }
 {
     for index in 0..rtl.cells.len() as u32 {
         add_next_of(alloc, rtl, making, index, reset)?;
@@ -65,8 +68,9 @@ pub fn add_next_values(alloc: Global, rtl: &Rtl, making: &mut Making) -> Result<
     requires few { length rtl.now.cells < 2 ^ 32 }
     requires marks { (last_mark making.old).control ≡ nets_before making.old.names (length making.old.names.tasks) }
     requires made { IsMadeTo rtl.now (length rtl.now.cells) (length making.old.names.tasks) 0 making.old }
-    ensures { OnOk result (IsMadeTo rtl.now (length rtl.now.cells) (length making.new.names.tasks)
+    ensures made { OnOk result (IsMadeTo rtl.now (length rtl.now.cells) (length making.new.names.tasks)
         (length rtl.now.cells) making.new) }
+    ensures words { OnOk result (KeepsWords making.old making.new) }
 {
     match rtl.reset {
         Some(reset) => add_all_next(alloc, rtl, making, reset),

@@ -8,11 +8,12 @@ use Rattle.path_values.specs.Allocated.{IsAllocated}
 use Rattle.datapath_making.specs.Finishing.{IsFinished}
 use Rattle.datapath_making.specs.WellMade.{IsWellMade}
 use Rattle.datapath_alloc.specs.Progress.{IsMadeTo}
+use Rattle.datapath_alloc.specs.Shared.{IsAllocatedOnce, SharesNets}
 use Rattle.datapath_alloc.proofs.Ending.{complete}
-use Rattle.datapath_alloc.proofs.Finished.{allocated, narrow, within}
+use Rattle.datapath_alloc.proofs.Finished.{allocated, allocated_once, narrow, within}
 use Rattle.datapath_alloc.proofs.Marks.{nothing_made}
 use Rattle.datapath_alloc.proofs.Reaching.{reset_named}
-use Rattle.datapath_alloc.proofs.Results.{ok_then}
+use Rattle.datapath_sharing.proofs.Results.{ok_then}
 use Rattle.datapath_alloc.proofs.allocating.allocate.Goals as goal
 
 pub reset_of-reset-requires : goal.reset_of-reset-requires
@@ -41,22 +42,34 @@ add_latches-requires-clause-begun c =
 pub finish-requires-clause-complete : goal.finish-requires-clause-complete
 finish-requires-clause-complete c =
     let m = c.add_next_values.new.making in
-    complete c.args.rtl.now m.control m.names m c.in_ok-add_next_values.ensures
+    complete c.args.rtl.now m.control m.names m c.in_ok-add_next_values.ensures.made
 
 pub returns-clause-allocated : goal.returns-clause-allocated
 returns-clause-allocated c =
     let m = c.add_next_values.new.making in
     ok_then (IsFinished c.args.rtl.now m) (IsAllocated c.args.rtl.now) c.finish.result
-    (λ p fin. allocated c.args.rtl.now m.control m.names m p c.in_ok-add_next_values.ensures fin) c.finish.ensures
+    (λ p fin. allocated c.args.rtl.now m.control m.names m p c.in_ok-add_next_values.ensures.made fin) c.finish.ensures
 
 pub returns-clause-within : goal.returns-clause-within
 returns-clause-within c =
     let m = c.add_next_values.new.making in
     ok_then (IsFinished c.args.rtl.now m) (IsWithin (cost c.args.rtl.now)) c.finish.result
-    (λ p fin. within c.args.rtl.now m.control m.names m p c.in_ok-add_next_values.ensures fin) c.finish.ensures
+    (λ p fin. within c.args.rtl.now m.control m.names m p c.in_ok-add_next_values.ensures.made fin) c.finish.ensures
 
 pub returns-clause-narrow : goal.returns-clause-narrow
 returns-clause-narrow c =
     let m = c.add_next_values.new.making in
     ok_then (IsFinished c.args.rtl.now m) (IsNarrow (cost c.args.rtl.now)) c.finish.result
-    (λ p fin. narrow c.args.rtl.now m.control m.names m p c.in_ok-add_next_values.ensures fin) c.finish.ensures
+    (λ p fin. narrow c.args.rtl.now m.control m.names m p c.in_ok-add_next_values.ensures.made fin) c.finish.ensures
+
+pub returns-clause-once : goal.returns-clause-once
+returns-clause-once c =
+    let m = c.add_next_values.new.making in
+    let was = c.add_tasks.new.making in
+    let same = c.in_ok-add_next_values.ensures.words in
+    let shared = subst (λ n. SharesNets c.args.rtl.now n m.words m.lifts) (sym same.names)
+    (subst (λ ws. SharesNets c.args.rtl.now was.names ws m.lifts) (sym same.words)
+    (subst (SharesNets c.args.rtl.now was.names was.words) (sym same.lifts) c.in_ok-add_tasks.ensures.shared)) in
+    ok_then (IsFinished c.args.rtl.now m) (IsAllocatedOnce c.args.rtl.now) c.finish.result
+    (λ p fin. allocated_once c.args.rtl.now m.control m.names m p c.in_ok-add_next_values.ensures.made fin shared)
+    c.finish.ensures

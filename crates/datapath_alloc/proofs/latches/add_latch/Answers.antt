@@ -4,7 +4,7 @@ use Rattle.datapath_making.specs.Steps.{IsPortMade, IsSlaveMade, IsStep}
 use Rattle.datapath_alloc.specs.Progress.{IsMadeTo}
 use Rattle.datapath_alloc.proofs.Marks.{rebased}
 use Rattle.datapath_alloc.proofs.Reaching.{free_first, free_pad}
-use Rattle.datapath_alloc.proofs.Results.{done_two, not_false}
+use Rattle.datapath_sharing.proofs.Results.{done_two, not_false}
 use Rattle.datapath_alloc.proofs.Rounds.{port_done, room, slave_done}
 use Rattle.datapath_alloc.proofs.latches.add_latch.Goals as goal
 

@@ -2,10 +2,15 @@ use Rattle.std.proofs.Common.{◌≡◌, ◌+◌, suc, length, refl, ap, subst, 
 use Rattle.control_nor.specs.declared.names.Names.{Names}
 use Rattle.datapath_alloc.specs.Progress.{IsMadeTo}
 use Rattle.datapath_alloc.proofs.Marks.{keeps_twice}
+use Rattle.datapath_alloc.proofs.Noting.{words_twice}
 use Rattle.datapath_alloc.proofs.next_values.add_all_next.Goals as goal
 
 pub loop-index-init : goal.loop-index-init
-loop-index-init c = (c.requires.made, record { names = refl; marks = refl })
+loop-index-init c = (
+  c.requires.made,
+  record { names = refl; marks = refl },
+  record { names = refl; words = refl; lifts = refl },
+)
 
 pub loop-index-preserved : goal.loop-index-preserved
 loop-index-preserved c =
@@ -17,4 +22,6 @@ loop-index-preserved c =
           c.add_next_of.new.making) tasks c.in_ok-add_next_of.ensures.made),
       keeps_twice c.args.making.now c.loop-index.making c.add_next_of.new.making c.loop-index.invariant.1
           c.in_ok-add_next_of.ensures.marks,
+      words_twice c.args.making.now c.loop-index.making c.add_next_of.new.making c.loop-index.invariant.2
+          c.in_ok-add_next_of.ensures.words,
     )

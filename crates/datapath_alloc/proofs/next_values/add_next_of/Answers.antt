@@ -1,11 +1,12 @@
-use Rattle.std.proofs.Common.{◌+◌, ◌*◌, ◌∙◌, suc, length, sym, arith}
+use Rattle.std.proofs.Common.{◌+◌, ◌*◌, ◌∙◌, suc, length, refl, sym, arith}
 use Rattle.path_values.specs.Allocated.{transfers_to}
 use Rattle.datapath_making.specs.Sizes.{cast_cost}
 use Rattle.datapath_making.specs.Steps.{IsNextMade, IsStep}
 use Rattle.datapath_alloc.specs.Progress.{IsMadeTo}
+use Rattle.datapath_alloc.specs.Noting.{KeepsWords}
 use Rattle.datapath_alloc.proofs.Marks.{rebased}
 use Rattle.datapath_alloc.proofs.Reaching.{all_read, reset_reached, transfers_reached}
-use Rattle.datapath_alloc.proofs.Results.{done_two}
+use Rattle.datapath_sharing.proofs.Results.{done_two}
 use Rattle.datapath_alloc.proofs.Rounds.{next_done, next_pays, no_next_done, room_next, stored_parts}
 use Rattle.datapath_alloc.proofs.next_values.add_next_of.Goals as goal
 
@@ -59,3 +60,17 @@ returns-else-is_stored-clause-made c =
     no_next_done c.args.rtl.now m.control m.names m (length c.args.rtl.now.cells) (length m.names.tasks) c.args.index
     c.at-cell.result.now c.requires.made (c.requires.cell, c.at-cell.ensures)
     (sym c.is_stored.ensures ∙ c.if-is_stored.false)
+
+pub returns-then-is_stored-clause-words : goal.returns-then-is_stored-clause-words
+returns-then-is_stored-clause-words c =
+    let m = c.args.making.now in
+    let new = c.add_next.new.self in
+    done_two
+    (IsStep (5 + 4 * length (transfers_to c.args.rtl.now c.args.index) + cast_cost m.clear)
+    (length (transfers_to c.args.rtl.now c.args.index) + cast_cost m.clear) m new)
+    (IsNextMade c.args.rtl.now c.args.index c.args.reset m new) (KeepsWords m new) c.add_next.result
+    (λ step made. record { names = step.grows.names; words = made.words; lifts = made.lifts })
+    c.add_next.ensures.step c.add_next.ensures.next
+
+pub returns-else-is_stored-clause-words : goal.returns-else-is_stored-clause-words
+returns-else-is_stored-clause-words c = record { names = refl; words = refl; lifts = refl }

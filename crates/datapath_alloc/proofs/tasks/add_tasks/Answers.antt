@@ -5,8 +5,11 @@ use Rattle.control_nor.specs.Lowering.{nets_before}
 use Rattle.path_order.specs.Order.{start}
 use Rattle.datapath_making.specs.Marking.{last_from}
 use Rattle.datapath_alloc.specs.Progress.{IsMadeTo, IsMarkedAt}
+use Rattle.datapath_alloc.specs.Noting.{IsSharing}
 use Rattle.datapath_alloc.proofs.Marks.{marked_done, rebased}
 use Rattle.datapath_alloc.proofs.Reaching.{before_within}
+use Rattle.datapath_alloc.proofs.Noting.{marked_shares, none_shared, noted_within}
+use Rattle.datapath_alloc.proofs.Sharers.{nets_are_shared}
 use Rattle.datapath_alloc.proofs.tasks.add_tasks.Goals as goal
 
 pub mark-requires-clause-rises : goal.mark-requires-clause-rises
@@ -61,6 +64,9 @@ loop-index-init c =
         control = h.2 ∙ ap (λ (n : Names). n.start) (sym h.0.begun.names);
       },
       refl,
+      marked_shares c.args.rtl.now 0 m.names.start c.new-built.result m new
+          (none_shared c.args.rtl.now c.new-built.result m c.new-built.ensures.operators c.new-built.ensures.numbers)
+          c.in_ok-mark.ensures.marked,
     )
 
 pub loop-index-preserved : goal.loop-index-preserved
@@ -80,4 +86,37 @@ loop-index-preserved c =
             ∙ ap (λ (n : Names). slice_index n.ends c.loop-index.index) (sym h.0.begun.names));
       }),
       h.0.begun.names ∙ (c.in_ok-add_task.ensures.marks.names ∙ c.loop-index.invariant.2),
+      subst (λ n. IsSharing c.args.rtl.now n c.add_task.new.built new) e
+          (marked_shares c.args.rtl.now (suc c.loop-index.index) (slice_index c.as_slice.result.now c.loop-index.index)
+          c.add_task.new.built m new c.in_ok-add_task.ensures.sharing c.in_ok-mark-2.ensures.marked),
     )
+
+pub returns-clause-shared : goal.returns-clause-shared
+returns-clause-shared c =
+    let m = c.loop-index.making in
+    let tasks = ap (λ (n : Names). length n.tasks) c.loop-index.invariant.2 in
+    let over = c.loop-index-test.false in
+    let n = c.len-index-end.ensures in
+    nets_are_shared c.args.rtl.now m.control m.names c.loop-index.invariant.0.given c.loop-index.built m.words m.lifts
+    (noted_within c.args.rtl.now m.names (length m.names.tasks) c.loop-index.index c.loop-index.built m.words m.lifts
+    (omega (arith, over, n, tasks)) c.loop-index.invariant.3.noted)
+
+pub returns-clause-made : goal.returns-clause-made
+returns-clause-made c =
+    let m = c.loop-index.making in
+    let tasks = ap (λ (n : Names). length n.tasks) c.loop-index.invariant.2 in
+    let over = c.loop-index-test.false in
+    let n = c.len-index-end.ensures in
+    let within = c.loop-index.auto.index-end in
+    let all : c.loop-index.index ≡ length m.names.tasks = omega (arith, over, n, tasks, within) in
+    subst (λ k. IsMadeTo c.args.rtl.now (length c.args.rtl.now.cells) k 0 m) all c.loop-index.invariant.0
+
+pub returns-clause-marked : goal.returns-clause-marked
+returns-clause-marked c =
+    let m = c.loop-index.making in
+    let tasks = ap (λ (n : Names). length n.tasks) c.loop-index.invariant.2 in
+    let over = c.loop-index-test.false in
+    let n = c.len-index-end.ensures in
+    let within = c.loop-index.auto.index-end in
+    let all : c.loop-index.index ≡ length m.names.tasks = omega (arith, over, n, tasks, within) in
+    subst (λ k. IsMarkedAt k m) all c.loop-index.invariant.1

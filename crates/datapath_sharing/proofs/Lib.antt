@@ -1,0 +1,5 @@
+pub mod Keys
+pub mod Lifting
+pub mod Sharing
+pub mod Shares
+pub mod Results

@@ -1,0 +1,10 @@
+(program sums 4 (def 1 power)(def 2 ground)(def 3 phia)(def 4 phib)(def 5 phic)
+  (def a port input (6 7 8 9))
+  (def b port input (10 11 12 13))
+  (def p port output (14 15 16 17))
+  (def q port output (18 19 20 21))
+  (def r port output (22 23 24 25))
+  (always
+    (setq p (+ a b))
+    (setq q (+ a b))
+    (setq r (+ (+ a b) (+ a b)))))

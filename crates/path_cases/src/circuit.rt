@@ -1,0 +1,132 @@
+//! A flat net, clock by clock.
+
+ghost use Rattle.std.specs.Prelude.{◌<◌, ◌≤◌};
+
+use crate::dice::Dice;
+use mp_base::{List, NoMemory, Trit};
+use nor_net::{Net, NetId, NetKind, Phase, settle_net};
+use path_form::Flattened;
+use std::alloc::Global;
+
+/// The values of the nets of a path. The net is the flat net of a path, so all its latches are fed.
+#[derive(Drop)]
+pub(crate) struct Circuit {
+    flat: Flattened,
+    values: List<Trit>,
+}
+
+fn bit_of(word: u64, index: usize) -> Trit {
+    if index >= 64 {
+        return Trit::Zero;
+    }
+    if (word >> index) & 1 == 1 {
+        Trit::One
+    } else {
+        Trit::Zero
+    }
+}
+
+// What is given at a net, where these words are given at the pads.
+fn bit_at(rows: &List<List<NetId>>, words: &[u64], net: NetId) -> Trit {
+    for (row, word) in rows.as_slice().iter().zip(words) {
+        for (index, id) in row.as_slice().iter().enumerate() {
+            if *id == net {
+                return bit_of(*word, index);
+            }
+        }
+    }
+    Trit::X
+}
+
+// The values of the inputs, in their order.
+fn given(alloc: Global, flat: &Flattened, words: &[u64]) -> Result<List<Trit>, NoMemory> {
+    let mut given = List::new(alloc);
+    for number in 0..flat.net.len() {
+        let net = NetId(number);
+        if let NetKind::Input = flat.net.kind(net) {
+            given.push(bit_at(&flat.inputs, words, net))?;
+        }
+    }
+    Ok(given)
+}
+
+// Settles the net, if there is a value for each net and each input.
+fn settle(net: &Net, phase: Option<Phase>, given: &List<Trit>, values: &mut List<Trit>) -> bool {
+    if given.len() != net.inputs() as usize || values.len() != net.len() as usize || !net.is_fed() {
+        return false;
+    }
+    settle_net(net, phase, given, values);
+    true
+}
+
+// The number that these nets show, bit 0 first, or none where a bit isn't known.
+fn number_of(values: &List<Trit>, row: &[NetId]) -> Option<u64> {
+    let mut number = 0u64;
+    for id in row.iter().rev() {
+        let bit = match values.as_slice().get(id.0 as usize) {
+            Some(Trit::Zero) => 0,
+            Some(Trit::One) => 1,
+            _ => return None,
+        };
+        number = number.wrapping_mul(2) | bit;
+    }
+    Some(number)
+}
+
+impl Circuit {
+    /// All values unknown.
+    pub fn unknown(alloc: Global, flat: Flattened) -> Result<Circuit, NoMemory> {
+        let mut values = List::new(alloc);
+        for _ in 0..flat.net.len() {
+            values.push(Trit::X)?;
+        }
+        Ok(Circuit { flat, values })
+    }
+
+    /// Makes all values unknown.
+    pub fn forget(&mut self, alloc: Global) -> Result<(), NoMemory> {
+        let mut values = List::new(alloc);
+        for _ in 0..self.flat.net.len() {
+            values.push(Trit::X)?;
+        }
+        self.values = values;
+        Ok(())
+    }
+
+    /// Makes all values random.
+    pub fn charge(&mut self, alloc: Global, dice: &mut Dice) -> Result<(), NoMemory> {
+        let mut values = List::new(alloc);
+        for _ in 0..self.flat.net.len() {
+            values.push(if dice.word(1) == 1 {
+                Trit::One
+            } else {
+                Trit::Zero
+            })?;
+        }
+        self.values = values;
+        Ok(())
+    }
+
+    // Goes through these settings.
+    fn run(&mut self, given: &List<Trit>, phases: &[Option<Phase>]) -> bool {
+        for phase in phases {
+            if !settle(&self.flat.net, *phase, given, &mut self.values) {
+                return false;
+            }
+        }
+        true
+    }
+
+    /// One clock under these words of the input pads: the numbers of the output pads, none where one isn't known.
+    pub fn clock(&mut self, alloc: Global, words: &[u64]) -> Result<List<Option<u64>>, NoMemory> {
+        let given = given(alloc, &self.flat, words)?;
+        let mut shown = List::new(alloc);
+        if self.run(&given, &[Some(Phase::C), None]) {
+            for row in self.flat.outputs.as_slice() {
+                shown.push(number_of(&self.values, row.as_slice()))?;
+            }
+        }
+        self.run(&given, &[Some(Phase::A), None, Some(Phase::B), None]);
+        Ok(shown)
+    }
+}
