@@ -1,0 +1,3 @@
+mod BandTaps
+mod Emptied
+mod Raised

@@ -1,0 +1,3 @@
+mod Joined
+mod ControlColumns
+pub mod Sides

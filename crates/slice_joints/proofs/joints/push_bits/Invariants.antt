@@ -1,0 +1,11 @@
+use Rattle.std.proofs.Common.{◌≡◌, ◌++◌}
+use Rattle.std.specs.Prelude.{flat_map, slice_get}
+use Rattle.slice_form.specs.Whole.{path_of}
+use Rattle.slice_form.specs.Joints.{bit_lines}
+use Rattle.std.specs.List.{range_with_len}
+use Rattle.slice_joints.proofs.joints.push_bits.Given as goal
+
+abbrev pub invariant-loop-i : goal.invariant-loop-i
+invariant-loop-i l = l.lines.items
+    ≡ l.fn.lines.items ++ flat_map
+    (λ i. bit_lines (path_of l.path) (slice_get (path_of l.path).programs i)) (range_with_len 0 l.i)

@@ -1,0 +1,22 @@
+use Rattle.std.proofs.Common.{ℕ, ◌≡◌, ◌++◌, ◌∙◌, length, ap, arith}
+use Rattle.std.specs.Prelude.{flat_map, slice_get, slice_index, suc}
+use Rattle.std.specs.List.{range_with_len}
+use Rattle.slice_form.specs.Whole.{path_of}
+use Rattle.band_lists.proofs.Growing.{flat_grown}
+use Rattle.slice_laying.specs.Added.{bit_marks}
+use Rattle.slice_joints.proofs.taps.push_programs.Goals as goal
+
+pub loop-i-preserved : goal.loop-i-preserved
+loop-i-preserved c =
+    let p = path_of c.args.path.now in
+    flat_grown c.args.marks.now.items
+    (λ i. bit_marks p (suc c.args.tracks.now.rows) (slice_index c.args.tracks.now.row)
+    (slice_get p.programs i)) c.loop-i.i _ _ c.loop-i.invariant c.in_ok-push_program.ensures
+
+pub returns : goal.returns
+returns c =
+    let p = path_of c.args.path.now in
+    let row : ℕ → ℕ = slice_index c.args.tracks.now.row in
+    let end : c.loop-i.i ≡ length p.programs = omega arith in
+    c.loop-i.invariant ∙ ap (λ n. c.args.marks.now.items ++ flat_map
+    (λ i. bit_marks p (suc c.args.tracks.now.rows) row (slice_get p.programs i)) (range_with_len 0 n)) end

@@ -1,0 +1,7 @@
+pub mod Ends
+mod SlicePins
+mod SliceStubs
+mod SliceSpans
+pub mod SliceLayout
+pub mod Growth
+mod Found

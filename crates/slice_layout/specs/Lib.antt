@@ -1,0 +1,3 @@
+pub mod Links
+pub mod Pins
+pub mod Layouts
