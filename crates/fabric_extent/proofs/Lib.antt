@@ -1,1 +1,1 @@
-mod Sides
+pub mod Sides

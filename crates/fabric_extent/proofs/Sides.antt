@@ -1,5 +1,6 @@
 -- What a fabric draws lies between its trunks, and its extent is bounded by a cost.
-use Rattle.std.proofs.Common.{◌≡◌, ◌⊎◌, inl, inr, ℕ, zero, suc, ◌<◌, ◌≤◌, ◌+◌, ◌*◌, ◌-◌, List, [], ◌∷◌, ◌++◌, length, map}
+use Rattle.std.proofs.Common.{◌≡◌, ◌⊎◌, inl, inr, ℕ, zero, suc, ◌<◌, ◌≤◌, ◌+◌, ◌*◌, ◌-◌, List, [], ◌∷◌, ◌++◌, length}
+use Rattle.std.proofs.Common.{map}
 use Rattle.std.proofs.Common.{refl, sym, subst, arith}
 use Rattle.std.specs.Prelude.{ℤ, pos, ◌+ℤ◌, ◌≤ℤ◌, ◌<ℤ◌, flat_map, ◌≢◌}
 use Rattle.std.specs.List.{range_with_len}
@@ -25,10 +26,20 @@ use Rattle.fabric_extent.specs.Bounds.{FabricsAreBetween, HasNoUnder, IsSmall, S
 
 -- what stands between edges has an extent of at most their distances
 at_most : (covers : Layer → ℤ → ℤ → Type 0) (x0 width height : ℕ)
-    → HoldAll covers (record { left = pos (500 * x0); bottom = pos 0; right = pos (500 * (x0 + width)); top = pos (500 * height) })
+    → HoldAll covers (record {
+      left = pos (500 * x0);
+      bottom = pos 0;
+      right = pos (500 * (x0 + width));
+      top = pos (500 * height);
+    })
     → IsAtMost covers width height
 at_most covers x0 width height h e is =
-    let outer : Edges = record { left = pos (500 * x0); bottom = pos 0; right = pos (500 * (x0 + width)); top = pos (500 * height) } in
+    let outer : Edges = record {
+      left = pos (500 * x0);
+      bottom = pos 0;
+      right = pos (500 * (x0 + width));
+      top = pos (500 * height);
+    } in
     let w = is.least outer h in
     (wide e.left e.right x0 width w.left w.right, high e.bottom e.top height w.bottom w.top)
   where
@@ -40,7 +51,8 @@ at_most covers x0 width height h e is =
     high low far height a b = omega (arith, ints)
 
 -- the height of all bands of a small fabric
-height_small : (cost width : ℕ) (f : Plan) → IsSmall cost width f → (b : ℕ) → b ≤ width → base f (suc b) ≤ b * (12 * (cost + 8) + 36) + 24 * (cost + 8) + 96
+pub height_small : (cost width : ℕ) (f : Plan) → IsSmall cost width f → (b : ℕ) → b ≤ width
+    → base f (suc b) ≤ b * (12 * (cost + 8) + 36) + 24 * (cost + 8) + 96
 height_small cost width f s zero h = let c = s.control in omega arith
 height_small cost width f s (suc b) h =
     let i = height_small cost width f s b (omega arith) in
@@ -49,11 +61,14 @@ height_small cost width f s (suc b) h =
 
 -- a rectangle that stands inside
 abbrev Within : Rect → ℕ → ℕ → ℕ → ℕ → Type 0
-Within r x0 y0 x1 y1 = (pos (500 * x0) ≤ℤ r.x0) × (r.x1 ≤ℤ pos (500 * x1)) × (pos (500 * y0) ≤ℤ r.y0) × (r.y1 ≤ℤ pos (500 * y1))
+Within r x0 y0 x1 y1 = (pos (500 * x0) ≤ℤ r.x0) × (r.x1 ≤ℤ pos (500 * x1)) × (pos (500 * y0) ≤ℤ r.y0) ×
+    (r.y1 ≤ℤ pos (500 * y1))
 
-within_covers : (r : Rect) (x0 y0 x1 y1 : ℕ) → Within r x0 y0 x1 y1 → (l : Layer) (x y : ℤ) → Covers r l x y → (pos (500 * x0) ≤ℤ x) × (x <ℤ pos (500 * x1)) × (pos (500 * y0) ≤ℤ y) × (y <ℤ pos (500 * y1))
+within_covers : (r : Rect) (x0 y0 x1 y1 : ℕ) → Within r x0 y0 x1 y1 → (l : Layer) (x y : ℤ) → Covers r l x y
+    → (pos (500 * x0) ≤ℤ x) × (x <ℤ pos (500 * x1)) × (pos (500 * y0) ≤ℤ y) × (y <ℤ pos (500 * y1))
 within_covers r x0 y0 x1 y1 w l x y c =
-    let a = w.0 in let b = w.1 in let d = w.2 in let e = w.3 in let p = c.left in let q = c.right in let s = c.bottom in let t = c.top in
+    let a = w.0 in let b = w.1 in let d = w.2 in let e = w.3 in let p = c.left in let q = c.right in
+    let s = c.bottom in let t = c.top in
     (omega (arith, ints), omega (arith, ints), omega (arith, ints), omega (arith, ints))
 
 -- lower bands lie below higher ones
@@ -67,8 +82,15 @@ base_grows f b (suc c) h = elim (cases_order b c) [
 
 -- ---- each thing of a fabric stands inside
 -- a rectangle in lambda stands inside where its numbers do
-lambdas_within : (l : Layer) (a b c d x0 y0 x1 y1 : ℕ) → x0 ≤ a → c ≤ x1 → y0 ≤ b → d ≤ y1 → Within (lambdas l a b c d) x0 y0 x1 y1
-lambdas_within l a b c d x0 y0 x1 y1 h k m n = (omega (arith, ints), omega (arith, ints), omega (arith, ints), omega (arith, ints))
+lambdas_within : (l : Layer) (a b c d x0 y0 x1 y1 : ℕ) → x0 ≤ a → c ≤ x1 → y0 ≤ b → d ≤ y1
+    → Within (lambdas l a b c d) x0 y0 x1 y1
+lambdas_within l a b c d x0 y0 x1 y1 h k m n = (
+  omega (arith, ints),
+  omega (arith, ints),
+  omega
+      (arith, ints),
+  omega (arith, ints),
+)
 
 -- a cell that fits its tile
 record Fits (high : ℕ) (c : Cell) : Type 0 where
@@ -111,29 +133,34 @@ module _ (f : Plan) (lawful : IsFabric f) (bare : HasNoUnder f) where
 
   power_trunk_good : Good (power_trunk f)
   unfolding right_side top_side
-  power_trunk_good = let w = wide in good _ (20 * last_column f + 7) 0 (20 * last_column f + 13) (base f (bands f)) (omega arith) (omega arith) (omega arith)
+  power_trunk_good = let w = wide in good _ (20 * last_column f + 7) 0 (20 * last_column f + 13) (base f
+      (bands f)) (omega arith) (omega arith) (omega arith)
 
   ground_row_good : (b : ℕ) → b < bands f → Good (ground_row f b)
   unfolding right_side
-  ground_row_good b h = let t = band_top b h in good _ 7 (base f b + 6) (20 * last_column f) (base f b + 10) (omega arith) (omega arith) (omega arith)
+  ground_row_good b h = let t = band_top b h in good _ 7 (base f b + 6) (20 * last_column f) (base f b + 10)
+      (omega arith) (omega arith) (omega arith)
 
   power_rail_good : (b : ℕ) → b < bands f → Good (power_rail f b)
   unfolding right_side
   power_rail_good b h =
       let t = band_top b h in
-      good _ 20 (base f b + 12 * rows_of f b + 27) (20 * last_column f + 13) (base f b + 12 * rows_of f b + 31) (omega arith) (omega arith) (omega arith)
+      good _ 20 (base f b + 12 * rows_of f b + 27) (20 * last_column f + 13) (base f b + 12 * rows_of f b + 31)
+      (omega arith) (omega arith) (omega arith)
 
   segment_good : (s : Segment) → IsSegment f s → Good (segment_rect f s)
   unfolding right_side
   segment_good s i =
       let t = band_top s.band i.band in let a = i.first in let b = i.last in let c = i.below in
-      good _ (20 * s.first) (base f s.band + 12 * s.row + 6) (20 * s.last + 20) (base f s.band + 12 * s.row + 10) (omega arith) (omega arith) (omega arith)
+      good _ (20 * s.first) (base f s.band + 12 * s.row + 6) (20 * s.last + 20) (base f s.band + 12 * s.row + 10)
+      (omega arith) (omega arith) (omega arith)
 
   line_good : (l : Line) → IsLine f l → Good (line_rect f l)
   unfolding right_side
   line_good l i =
       let t = band_top l.last_band i.last in let a = i.column in let b = i.right in
-      good _ (20 * l.column + offset l.side) (base f l.first_band) (20 * l.column + offset l.side + 4) (base f l.last_band + 12 * rows_of f l.last_band)
+      good _ (20 * l.column + offset l.side) (base f l.first_band) (20 * l.column + offset l.side + 4)
+      (base f l.last_band + 12 * rows_of f l.last_band)
       (omega arith) (off_right l.side) (omega arith)
     where
       off_right : (side : _) → 20 * l.column + offset side + 4 ≤ 20 * last_column f + 13
@@ -141,7 +168,8 @@ module _ (f : Plan) (lawful : IsFabric f) (bare : HasNoUnder f) where
       off_right R = let b = i.right in omega arith
 
   -- the cells of a tile whose corner is at a column and a row
-  cells_good : (c b r high : ℕ) → 1 ≤ c → c + 1 < f.columns → base f b + (12 * r + high) ≤ top_side → (cs : List Cell) → AllFit high cs
+  cells_good : (c b r high : ℕ) → 1 ≤ c → c + 1 < f.columns → base f b + (12 * r + high) ≤ top_side
+      → (cs : List Cell) → AllFit high cs
       → (q : Rect) → Member (map (placed (20 * c) (base f b + 12 * r + 0)) cs) q → Good q
   unfolding right_side
   cells_good c b r high h k t [] a q m = absurd m
@@ -150,7 +178,8 @@ module _ (f : Plan) (lawful : IsFabric f) (bare : HasNoUnder f) where
       cell_good : (x : Cell) → Fits high x → Good (placed (20 * c) (base f b + 12 * r + 0) x)
       cell_good x a =
           let u = a.right in let v = a.top in
-          good x.layer (20 * c + x.x0) (base f b + 12 * r + 0 + x.y0) (20 * c + x.x1) (base f b + 12 * r + 0 + x.y1) (omega arith) (omega arith) (omega arith)
+          good x.layer (20 * c + x.x0) (base f b + 12 * r + 0 + x.y0) (20 * c + x.x1)
+          (base f b + 12 * r + 0 + x.y1) (omega arith) (omega arith) (omega arith)
   cells_good c b r high h k t (x ∷ cs) a q (inr m) = cells_good c b r high h k t cs a.1 q m
 
   -- where a tile stands beside a line
@@ -173,25 +202,75 @@ module _ (f : Plan) (lawful : IsFabric f) (bare : HasNoUnder f) where
   row_top : (b r : ℕ) → b < bands f → r < rows_of f b → base f b + (12 * r + 12) ≤ top_side
   row_top b r h k = let t = band_top b h in omega arith
 
-  tile_good : (tile : Tile) (b r c : ℕ) → Stands f tile b r c → tile ≢ Under → (q : Rect) → Member (tile_rects f tile b r c) q → Good q
+  tile_good : (tile : Tile) (b r c : ℕ) → Stands f tile b r c → tile ≢ Under → (q : Rect)
+      → Member (tile_rects f tile b r c) q → Good q
   tile_good TapL b r c s u q m =
       let w = beside L b c s.0 in
-      cells_good c b r 12 w.0 w.1 (row_top b r w.2 (in_row b r c w.2 s.1)) (cells TapL) (fit 12 _ (omega arith) (omega arith) (omega arith), tt) q m
+      cells_good c b r 12 w.0 w.1 (row_top b r w.2 (in_row b r c w.2 s.1)) (cells TapL) (
+        fit 12 _ (omega arith)
+            (omega arith) (omega arith),
+        tt,
+      ) q m
   tile_good TapR b r c s u q m =
       let w = beside R b c s.0 in
-      cells_good c b r 12 w.0 w.1 (row_top b r w.2 (in_row b r c w.2 s.1)) (cells TapR) (fit 12 _ (omega arith) (omega arith) (omega arith), tt) q m
+      cells_good c b r 12 w.0 w.1 (row_top b r w.2 (in_row b r c w.2 s.1)) (cells TapR) (
+        fit 12 _ (omega arith)
+            (omega arith) (omega arith),
+        tt,
+      ) q m
   tile_good Tran b r c s u q m =
       let w = beside L b c s.0 in
-      cells_good c b r 12 w.0 w.1 (row_top b r w.2 (in_row b r c w.2 (inr s.2))) (cells Tran)
-      (fit 12 _ (omega arith) (omega arith) (omega arith), (fit 12 _ (omega arith) (omega arith) (omega arith), (fit 12 _ (omega arith) (omega arith) (omega arith), (fit 12 _ (omega arith) (omega arith) (omega arith), tt)))) q m
+      cells_good c b r 12 w.0 w.1 (row_top b r w.2 (in_row b r c w.2 (inr s.2))) (cells Tran) (
+        fit 12 _ (omega arith) (omega arith) (omega arith),
+        (
+          fit 12 _ (omega arith) (omega arith) (omega arith),
+          (
+            fit 12 _ (omega arith) (omega arith) (omega arith),
+            (
+              fit 12 _ (omega arith) (omega arith)
+                  (omega arith),
+              tt,
+            ),
+          ),
+        ),
+      ) q m
   tile_good PullUp b r c s u q m =
       let l = s.1.0 in
       let i = All-contains (IsLine f) f.lines l lawful.lines s.1.1 in
       let p = s.1.2.column in let e = s.1.3 in let a = i.column in let d = i.right in let g = i.last in let z = s.0 in
       let h : b < bands f = omega arith in
       let t = band_top b h in
-      cells_good c b r 36 (omega arith) (omega arith) (omega arith) (cells PullUp)
-      (fit 36 _ (omega arith) (omega arith) (omega arith), (fit 36 _ (omega arith) (omega arith) (omega arith), (fit 36 _ (omega arith) (omega arith) (omega arith), (fit 36 _ (omega arith) (omega arith) (omega arith), (fit 36 _ (omega arith) (omega arith) (omega arith), (fit 36 _ (omega arith) (omega arith) (omega arith), (fit 36 _ (omega arith) (omega arith) (omega arith), (fit 36 _ (omega arith) (omega arith) (omega arith), (fit 36 _ (omega arith) (omega arith) (omega arith), (fit 36 _ (omega arith) (omega arith) (omega arith), tt)))))))))) q m
+      cells_good c b r 36 (omega arith) (omega arith) (omega arith) (cells PullUp) (
+        fit 36 _ (omega arith) (omega arith) (omega arith),
+        (
+          fit 36 _ (omega arith) (omega arith) (omega arith),
+          (
+            fit 36 _ (omega arith) (omega arith) (omega arith),
+            (
+              fit 36 _ (omega arith) (omega arith)
+                  (omega arith),
+              (
+                fit 36 _ (omega arith) (omega arith) (omega arith),
+                (
+                  fit 36 _ (omega arith)
+                      (omega arith) (omega arith),
+                  (
+                    fit 36 _ (omega arith) (omega arith) (omega arith),
+                    (
+                      fit 36 _
+                          (omega arith) (omega arith) (omega arith),
+                      (
+                        fit 36 _ (omega arith) (omega arith) (omega arith),
+                        (fit 36 _ (omega arith) (omega arith) (omega arith), tt),
+                      ),
+                    ),
+                  ),
+                ),
+              ),
+            ),
+          ),
+        ),
+      ) q m
   tile_good Under b r c s u q m = absurd (u refl)
 
   covered_member : (rs : List Rect) (l : Layer) (x y : ℤ) → covered rs l x y → (r : Rect) × Member rs r × Covers r l x y
@@ -203,23 +282,30 @@ module _ (f : Plan) (lawful : IsFabric f) (bare : HasNoUnder f) where
   shape_good r (inl e) = subst Good e ground_trunk_good
   shape_good r (inr (inl e)) = subst Good e power_trunk_good
   shape_good r (inr (inr m)) =
-      elim (member_append (flat_map (λ b. ground_row f b ∷ power_rail f b ∷ []) (range_with_len 0 (bands f))) (map (segment_rect f) f.segments ++ (map (line_rect f) f.lines ++ flat_map (mark_rects f) f.marks)) r m) [
+      elim (member_append (flat_map (λ b. ground_row f b ∷ power_rail f b ∷ []) (range_with_len 0 (bands f))) (map
+      (segment_rect f) f.segments ++ (map (line_rect f) f.lines ++ flat_map (mark_rects f) f.marks)) r m) [
         | inl k ↦ of_bands (member_flat (λ b. ground_row f b ∷ power_rail f b ∷ []) (range_with_len 0 (bands f)) r k)
-        | inr k ↦ elim (member_append (map (segment_rect f) f.segments) (map (line_rect f) f.lines ++ flat_map (mark_rects f) f.marks) r k) [
-          | inl j ↦ (let w = member_map (segment_rect f) f.segments r j in
-              subst Good w.2 (segment_good w.0 (All-contains (IsSegment f) f.segments w.0 lawful.segments (member_contains f.segments w.0 w.1))))
-          | inr j ↦ elim (member_append (map (line_rect f) f.lines) (flat_map (mark_rects f) f.marks) r j) [
-            | inl i ↦ (let w = member_map (line_rect f) f.lines r i in subst Good w.2 (line_good w.0 (All-contains (IsLine f) f.lines w.0 lawful.lines (member_contains f.lines w.0 w.1))))
-            | inr i ↦ (let w = member_flat (mark_rects f) f.marks r i in
-                let c = member_contains f.marks w.0 w.1 in
-                tile_good w.0.tile w.0.band w.0.row w.0.column (All-contains (IsMark f) f.marks w.0 lawful.marks c) (bare w.0 c) r w.2)
-          ]
-        ]
+        | inr k ↦ elim (member_append (map (segment_rect f) f.segments) (map (line_rect f) f.lines ++ flat_map
+            (mark_rects f) f.marks) r k) [
+              | inl j ↦ (let w = member_map (segment_rect f) f.segments r j in
+                  subst Good w.2 (segment_good w.0 (All-contains (IsSegment f) f.segments w.0 lawful.segments
+                  (member_contains f.segments w.0 w.1))))
+              | inr j ↦ elim (member_append (map (line_rect f) f.lines) (flat_map (mark_rects f) f.marks) r j) [
+                | inl i ↦ (let w = member_map (line_rect f) f.lines r i in subst Good w.2 (line_good w.0 (All-contains
+                    (IsLine f) f.lines w.0 lawful.lines (member_contains f.lines w.0 w.1))))
+                | inr i ↦ (let w = member_flat (mark_rects f) f.marks r i in
+                    let c = member_contains f.marks w.0 w.1 in
+                    tile_good w.0.tile w.0.band w.0.row w.0.column (All-contains
+                    (IsMark f) f.marks w.0 lawful.marks c) (bare w.0 c) r w.2)
+              ]
+            ]
       ]
     where
-      of_bands : (b : ℕ) × Member (range_with_len 0 (bands f)) b × Member (ground_row f b ∷ power_rail f b ∷ []) r → Good r
+      of_bands : (b : ℕ) × Member (range_with_len 0 (bands f)) b × Member
+          (ground_row f b ∷ power_rail f b ∷ []) r → Good r
       of_bands (b, i, inl e) = let w = (in_range 0 (bands f) b i).1 in subst Good e (ground_row_good b (omega arith))
-      of_bands (b, i, inr (inl e)) = let w = (in_range 0 (bands f) b i).1 in subst Good e (power_rail_good b (omega arith))
+      of_bands (b, i, inr (inl e)) = let w = (in_range 0 (bands f) b i).1 in subst Good e (power_rail_good b
+          (omega arith))
       of_bands (b, i, inr (inr e)) = absurd e
 
   shape_between : (l : Layer) (x y : ℤ) → covered (shape f) l x y

@@ -2,8 +2,8 @@
 
 ghost use Rattle.fabric_extent.specs.Bounds.{FabricsAreBetween, SmallFabrics};
 
-/// What a fabric draws lies between the left edge of the ground trunk and the right edge of the power trunk, and as high
-/// as its bands.
+/// What a fabric draws lies between the left edge of the ground trunk and the right edge of the power trunk, and is as
+/// high as its bands.
 pub fn fabrics_are_between()
     ensures { FabricsAreBetween }
 {}

@@ -4,3 +4,7 @@ pub mod MadeOf
 pub mod MarksOf
 pub mod SlicedDraws
 pub mod SlicedCounts
+pub mod InOrder
+pub mod EndsMarked
+pub mod NoUnder
+pub mod Grouped

@@ -16,7 +16,7 @@ use Rattle.array_form.specs.BandLayout.{Bands}
 use Rattle.array_form.specs.Homes.{home}
 use Rattle.array_form.specs.Laying.{band_segments, band_lines}
 use Rattle.array_form.specs.Lists.{Layout, net_of, upright}
-use Rattle.array_form.specs.Wires.{Wire, row, left, right, trunk, extra, place}
+use Rattle.array_form.specs.Wires.{Wire, left, right, trunk, extra, place}
 use Rattle.array_form.proofs.Bands.{rows_named, columns_named}
 use Rattle.slice_form.specs.Joints.{trunk_line, lift_lines, bit_lines, joint_lines}
 use Rattle.slice_form.specs.Path.{Path, Lift, Programmed, parts}

@@ -18,7 +18,8 @@ use Rattle.array_form.specs.Named.{Tie, tap, pull}
 use Rattle.array_form.specs.Wires.{Wire, row, beat, left, right, trunk, extra, to_ground, place}
 use Rattle.array_form.proofs.Bands.{marks_named}
 use Rattle.array_form.proofs.Listing.{in_range, range_has, listed_tie, tie_listed}
-use Rattle.array_form.proofs.Members.{Member, member_contains, contains_member, member_append, append_left, append_right}
+use Rattle.array_form.proofs.Members.{Member, member_contains, contains_member, member_append, append_left}
+use Rattle.array_form.proofs.Members.{append_right}
 use Rattle.array_form.proofs.Members.{member_map, map_member, member_flat, flat_member, member_filter, filter_member}
 use Rattle.slice_form.specs.Path.{Path, Carry, Cast, Lift, Programmed, IsSlice, parts}
 use Rattle.slice_form.specs.PathLists.{slices_of, others_of, path_rows, path_columns, path_ties}
@@ -422,7 +423,7 @@ module _ (p : Path) (ready : IsPlaceable p) (control slices : Tracks) (control_t
         (inr (flat_member (link_taps p srow c) (range_with_len 0 p.width) j k
         (range_has 0 p.width j (omega arith) (omega (arith, lt))) n))
 
-    has_tie : (t : Tie (Wire Across)) → PathTie p stub t → Member all (m t)
+    pub has_tie : (t : Tie (Wire Across)) → PathTie p stub t → Member all (m t)
     has_tie t (of_net b k h n) = has_net b t h (tie_listed Across b (stub b) (parts p b) t n)
     has_tie t (of_phase b ph h) = has_phase b ph h
     has_tie t (of_cast i c h) = has_cast i c h

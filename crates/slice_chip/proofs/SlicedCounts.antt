@@ -345,7 +345,8 @@ module _ (p : DataPath) (control slices : Tracks) where
       let a = sum_by-append size (net ++ (nets ++ joints)) taps in
       let b = sum_by-append size net (nets ++ joints) in
       let c = sum_by-append size nets joints in
-      let d = flat_most size (λ b. band_marks b (suc slices.rows) srow (slice_columns whole) p.slices.net) above 1 p.width
+      let d = flat_most size (λ b. band_marks b (suc slices.rows) srow
+      (slice_columns whole) p.slices.net) above 1 p.width
       high in
       let e = joint_size whole size tapl tapr pull (suc slices.rows) srow crow in
       let g = control_size whole size tapl tapr pull (suc slices.rows) srow crow in

@@ -147,7 +147,8 @@ module _ (p : Path) (ready : IsPlaceable p) (control slices : Tracks) (below : A
     casts_stand : (m : Mark) → Member casts m
         → IsMark all m × (m.band ≡ 0) × (4 ≤ m.column) × (m.column < 4 + length p.casts)
     casts_stand m k =
-        let w = member_flat (λ i. control_cast_taps crow i (slice_get p.casts i)) (range_with_len 0 (length p.casts)) m k
+        let w = member_flat (λ i. control_cast_taps crow i (slice_get p.casts i)) (range_with_len 0
+        (length p.casts)) m k
         in
         let r = (in_range 0 (length p.casts) w.0 w.1).1 in
         let u = cast_stands w.0 (slice_get p.casts w.0) m refl w.2 in let c = u.2 in
@@ -156,7 +157,8 @@ module _ (p : Path) (ready : IsPlaceable p) (control slices : Tracks) (below : A
     lifts_stand : (m : Mark) → Member lifts m
         → IsMark all m × (m.band ≡ 0) × (4 + length p.casts ≤ m.column) × (m.column < base_of p)
     lifts_stand m k =
-        let w = member_flat (λ i. control_lift_taps p crow i (slice_get p.lifts i)) (range_with_len 0 (length p.lifts)) m
+        let w = member_flat (λ i. control_lift_taps p crow i (slice_get p.lifts i)) (range_with_len 0
+        (length p.lifts)) m
         k in
         let r = (in_range 0 (length p.lifts) w.0 w.1).1 in
         let u = lift_stands w.0 (slice_get p.lifts w.0) m refl w.2 in let c = u.2 in
@@ -240,14 +242,15 @@ module _ (p : Path) (ready : IsPlaceable p) (control slices : Tracks) (below : A
         elim (member_append (control_laid p (columns_wanted p) control slices).marks
         (slice_marks p (suc slices.rows) srow ++ joint_marks p (suc slices.rows) srow) m q) [
           | inl u ↦ (let w = (mark_in p control (suc control.rows) m u).1 in omega (arith, e, w, column))
-          | inr u ↦ elim (member_append (slice_marks p (suc slices.rows) srow) (joint_marks p (suc slices.rows) srow) m u) [
-            | inl v ↦ (let w = member_flat (λ b. band_marks b (suc slices.rows) srow (slice_columns p) p.slice)
-                (slices_of p) m v in
-                let i = in_slices w.0 w.1 in
-                let o = ((mark_owned p ready w.0 (suc slices.rows) srow m w.2).2).band in
-                omega (arith, b, i, o, band))
-            | inr v ↦ (let j = ((mark_is p ready srow slices.rows above m v).band).0 in omega (arith, b, j, band))
-          ]
+          | inr u ↦ elim (member_append (slice_marks p (suc slices.rows) srow) (joint_marks p
+              (suc slices.rows) srow) m u) [
+                | inl v ↦ (let w = member_flat (λ b. band_marks b (suc slices.rows) srow (slice_columns p) p.slice)
+                    (slices_of p) m v in
+                    let i = in_slices w.0 w.1 in
+                    let o = ((mark_owned p ready w.0 (suc slices.rows) srow m w.2).2).band in
+                    omega (arith, b, i, o, band))
+                | inr v ↦ (let j = ((mark_is p ready srow slices.rows above m v).band).0 in omega (arith, b, j, band))
+              ]
         ]
 
     pub all_lawful : IsFabric before → IsFabric all

@@ -1,3 +1,6 @@
 pub mod Sliced
 pub mod Drawn
 pub mod Sizes
+pub mod Order
+pub mod Ends
+pub mod Groups

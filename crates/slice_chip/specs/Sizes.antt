@@ -2,7 +2,8 @@
 use Rattle.std.specs.Prelude.{◌+◌, ◌*◌, ◌≤◌, ℕ}
 use Rattle.fabric.specs.Counted.{rectangle_count, thing_count}
 use Rattle.fabric.specs.Plan.{Plan}
-use Rattle.fabric_extent.specs.Bounds.{IsSmall}
+use Rattle.fabric_extent.specs.Bounds.{HasNoUnder, IsSmall}
+use Rattle.nor_net.specs.Shape.{IsNet}
 use Rattle.path_form.specs.declared.path.DataPath.{DataPath}
 use Rattle.path_form.specs.Sizes.{IsNarrow, IsWithin}
 use Rattle.slice_chip.specs.Sliced.{IsSliced}
@@ -22,3 +23,7 @@ ThingsAreFew =
 abbrev pub SlicedIsSmall : Type 0
 SlicedIsSmall =
     (cost : ℕ) (p : DataPath) (f : Plan) → IsWithin cost p → IsNarrow cost p → IsSliced p f → IsSmall cost p.width f
+
+-- Nothing crosses under the trunk of ground.
+abbrev pub SlicedHasNoUnder : Type 0
+SlicedHasNoUnder = (p : DataPath) → IsNet p.control → IsNet p.slices.net → (f : Plan) → IsSliced p f → HasNoUnder f

@@ -1,7 +1,10 @@
 //! Laws: a call of one does nothing, and tells the caller's proof what it ensures.
 
 ghost use Rattle.slice_chip.specs.Drawn.{SlicedChipsDraw};
-ghost use Rattle.slice_chip.specs.Sizes.{RectanglesAreFew, SlicedIsSmall, ThingsAreFew};
+ghost use Rattle.slice_chip.specs.Ends.{EndsAreMarked};
+ghost use Rattle.slice_chip.specs.Groups.{SlicedHasGroups};
+ghost use Rattle.slice_chip.specs.Order.{SegmentsInOrder};
+ghost use Rattle.slice_chip.specs.Sizes.{RectanglesAreFew, SlicedHasNoUnder, SlicedIsSmall, ThingsAreFew};
 ghost use Rattle.slice_chip.specs.Sliced.{ControlsLeaveRoom, TapsFit};
 
 /// Above a control that was placed in an empty fabric there is room for the slices of its path.
@@ -32,4 +35,24 @@ pub fn things_are_few()
 /// The columns of the fabric of a narrow data path don't grow with the length of words, and each bit adds one band.
 pub fn sliced_is_small()
     ensures { SlicedIsSmall }
+{}
+
+/// The segments of a path's fabric stand band by band, those of nets in their order and then those of phases.
+pub fn segments_in_order()
+    ensures { SegmentsInOrder }
+{}
+
+/// The first and the last column of each segment of a path's fabric carry a mark on it.
+pub fn ends_are_marked()
+    ensures { EndsAreMarked }
+{}
+
+/// Nothing of a path's fabric crosses under the trunk of ground.
+pub fn sliced_has_no_under()
+    ensures { SlicedHasNoUnder }
+{}
+
+/// Besides the row of ground each band of a path's fabric has as many rows as segments of it lie over one column.
+pub fn sliced_has_groups()
+    ensures { SlicedHasGroups }
 {}

@@ -12,7 +12,8 @@ use Rattle.array_form.specs.Homes.{Columns, home, marks, reads, end_of}
 use Rattle.array_form.specs.Wires.{place}
 use Rattle.array_form.proofs.Homes.{home_once, home_inside, own_mark, reader_mark, more_mark}
 use Rattle.array_form.proofs.Listing.{same_from, same_to}
-use Rattle.array_form.proofs.Members.{Member, member_contains, contains_member, member_append, append_left, append_right}
+use Rattle.array_form.proofs.Members.{Member, member_contains, contains_member, member_append, append_left}
+use Rattle.array_form.proofs.Members.{append_right}
 use Rattle.array_form.proofs.Room.{any_member, or_left, or_right, and_of}
 use Rattle.slice_form.specs.Path.{Path, Carry, Cast, Lift, Programmed, IsElement, gate, store, pad}
 use Rattle.slice_form.specs.Path.{cast, lift, next, open_end, one, zero_bit}
@@ -62,11 +63,12 @@ start_has at (a ∷ cs) (suc i) c n h e =
 pub cast_inside : (test : Cast → Bool) (at : ℕ) (cs : List Cast) (x : ℕ) → Member (cast_columns test at cs) x
     → (at ≤ x) × (x < at + length cs)
 cast_inside test at [] x m = absurd m
-cast_inside test at (a ∷ cs) x m = elim (member_append (cond (test a) (at ∷ []) []) (cast_columns test (suc at) cs) x m) [
-  | inl k ↦ head (test a) k
-  | inr k ↦ (let i = cast_inside test (suc at) cs x k in let u = i.0 in let v = i.1 in
-      (omega (arith, u), omega (arith, v)))
-]
+cast_inside test at (a ∷ cs) x m = elim (member_append (cond (test a) (at ∷ []) []) (cast_columns test
+    (suc at) cs) x m) [
+      | inl k ↦ head (test a) k
+      | inr k ↦ (let i = cast_inside test (suc at) cs x k in let u = i.0 in let v = i.1 in
+          (omega (arith, u), omega (arith, v)))
+    ]
   where
     head : (t : Bool) → Member (cond t (at ∷ []) []) x → (at ≤ x) × (x < at + length (a ∷ cs))
     head true (inl e) = (omega (arith, e), omega (arith, e))
@@ -279,7 +281,8 @@ module _ (p : Path) (ready : IsPlaceable p) where
   pub base_below : base_of p ≤ end_of y p.slice
   base_below = omega arith
 
-  pub end_inside : (n : ℕ) → IsEnd p n → (base_of p ≤ home (plain_slice p) n) × (home (plain_slice p) n < end_of y p.slice)
+  pub end_inside : (n : ℕ) → IsEnd p n
+      → (base_of p ≤ home (plain_slice p) n) × (home (plain_slice p) n < end_of y p.slice)
   end_inside n end =
       home_inside (plain_slice p) p.slice n (slice_get_within p.slice n Input (end_input n end)) (end_homed n end)
 
@@ -295,7 +298,8 @@ module _ (p : Path) (ready : IsPlaceable p) where
               | inl q ↦ (let i = lift_inside (λ l. l.start == n) (4 + length p.casts) p.lifts c q in
                   let u = i.0 in let v = i.1 in let b = base_below in (omega (arith, u), omega (arith, v, b)))
               | inr q ↦ (let w = start_from (home (plain_slice p)) n p.chains c q in
-                  let i = end_inside (w.1).to (of_chain w.0 w.1 w.2 refl) in let u = i.0 in let v = i.1 in let e = w.3 in
+                  let i = end_inside (w.1).to
+                  (of_chain w.0 w.1 w.2 refl) in let u = i.0 in let v = i.1 in let e = w.3 in
                   (omega (arith, u, e), omega (arith, v, e)))
             ]
       ]

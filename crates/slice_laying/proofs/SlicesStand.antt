@@ -151,7 +151,8 @@ module _ (p : Path) (ready : IsPlaceable p) (row : ℕ → ℕ) (rows : ℕ)
 
         of_bit : (i : ℕ) (g : Programmed) (k : ℕ) (m : Mark) → slice_get p.programs i ≡ Some g → suc k ≤ p.width
             → Member (mark TapR (suc k) 0 (home (plain_slice p) g.net) ∷ mark PullUp (suc k) (suc rows)
-            (home (plain_slice p) g.net) ∷ bit_tap row (suc k) g.net (home (plain_slice p) g.net) (slice_get g.bits k)) m
+            (home (plain_slice p) g.net) ∷ bit_tap row (suc k) g.net (home (plain_slice p) g.net)
+            (slice_get g.bits k)) m
             → IsMark f m
         of_bit i g k m h le (inl e) =
             subst (IsMark f) e
@@ -182,7 +183,8 @@ module _ (p : Path) (ready : IsPlaceable p) (row : ℕ → ℕ) (rows : ℕ)
             (count_at (length p.control + 3) rows) tracks_at f lines IsAbove segments i c k h lt (omega arith)))
         link_stands i c k m h lt (inr (inl e)) =
             subst (IsMark f) e
-            (subst (λ q. IsMark f (mark (tap_tile (side_of (suc k))) (suc k) (suc (row (above c))) (chain_column p q))) h
+            (subst (λ q. IsMark f (mark (tap_tile (side_of (suc k))) (suc k) (suc (row (above c)))
+            (chain_column p q))) h
             (standing.above_stands p ready.path (cols_at p) (row_at each_own row) (count_at 0 (suc rows))
             (count_at (length p.control + 3) rows) tracks_at f lines IsAbove segments i c k h (omega (arith, lt))
             (omega arith)))
@@ -193,7 +195,8 @@ module _ (p : Path) (ready : IsPlaceable p) (row : ℕ → ℕ) (rows : ℕ)
         chains_stand i None m h k = absurd k
         chains_stand i (Some c) m h (inl e) =
             subst (IsMark f) e
-            (subst (λ q. IsMark f (mark (tap_tile (side_of (open_gap p c))) (max 1 (open_gap p c)) 0 (chain_column p q)))
+            (subst (λ q. IsMark f (mark (tap_tile (side_of (open_gap p c))) (max 1 (open_gap p c)) 0
+            (chain_column p q)))
             h
             (standing.open_stands p ready.path (cols_at p) (row_at each_own row) (count_at 0 (suc rows))
             (count_at (length p.control + 3) rows) tracks_at f lines IsAbove segments i c h))
@@ -211,7 +214,8 @@ module _ (p : Path) (ready : IsPlaceable p) (row : ℕ → ℕ) (rows : ℕ)
         lifts = flat_map (λ i. lift_taps p row i (slice_get p.lifts i)) (range_with_len 0 (length p.lifts))
 
         abbrev bits : List Mark
-        bits = flat_map (λ i. bit_marks p (suc rows) row (slice_get p.programs i)) (range_with_len 0 (length p.programs))
+        bits = flat_map (λ i. bit_marks p (suc rows) row (slice_get p.programs i)) (range_with_len 0
+            (length p.programs))
 
         abbrev chains : List Mark
         chains = flat_map (λ i. chain_taps p row (slice_get p.chains i)) (range_with_len 0 (length p.chains))
@@ -335,5 +339,6 @@ module _ (p : Path) (ready : IsPlaceable p) (row : ℕ → ℕ) (rows : ℕ)
 
 pub slices_fit : SlicesFit
 slices_fit p control shape f lawful tracks room are =
-    slices_lawful (path_of p) (placeable p control shape) (slice_index tracks.row) tracks.rows are shape p.whole.width.0 f
+    slices_lawful (path_of p) (placeable p control shape)
+    (slice_index tracks.row) tracks.rows are shape p.whole.width.0 f
     lawful room

@@ -197,7 +197,8 @@ module _ (p : Path) (ready : IsPlaceable p) where
         columns = free.columns;
         base = omega arith;
         phases = omega arith;
-        no_segments = λ s c e. free.no_segments s (contains_member f.segments s c) (omega (arith, e)) (omega (arith, e));
+        no_segments = λ s c e. free.no_segments s (contains_member f.segments s c) (omega (arith, e)) (omega
+            (arith, e));
         no_marks = λ m c e. free.no_marks m (contains_member f.marks m c) (omega (arith, e)) (omega (arith, e));
         no_lines = λ l c lo hi. absurd
             (free.no_lines l b (contains_member f.lines l c) (omega arith) (omega arith) lo hi);

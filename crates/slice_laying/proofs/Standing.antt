@@ -184,7 +184,8 @@ module _ (p : Path) (path : IsPath p) (cols : ℕ → ℕ → List ℕ) (row_of 
     slice_cast_stands i c b h s z =
         let x = path_crossing p path cols row_of rows k tracks
         (tap L (extra (cast_line i)) (row (place (suc b) c.slice))) (of_cast_slice i c (suc b) h s) in
-        tap_stands f L (across_of p (cast_line i)) (band_segment (suc b) (cols (suc b)) (row_of (suc b)) c.slice) (suc b)
+        tap_stands f L (across_of p (cast_line i)) (band_segment (suc b) (cols (suc b)) (row_of (suc b)) c.slice)
+        (suc b)
         (suc (row_of (suc b) c.slice)) (cast_column i) (lines _ (has_cast p i c h))
         (segments (suc b) c.slice s.1 z
         (let l = slice_get_within p.slice c.slice Input (path.casts i c h).1 in omega (arith, l))) x.0
@@ -218,7 +219,8 @@ module _ (p : Path) (path : IsPath p) (cols : ℕ → ℕ → List ℕ) (row_of 
     stub_stands i l b h s d z =
         let x = path_crossing p path cols row_of rows k tracks
         (tap R (extra (lift_stub i (suc b))) (row (place (suc b) l.start))) (of_lift_stub i l (suc b) h s d) in
-        tap_stands f R (across_of p (lift_stub i (suc b))) (band_segment (suc b) (cols (suc b)) (row_of (suc b)) l.start)
+        tap_stands f R (across_of p (lift_stub i (suc b))) (band_segment (suc b) (cols (suc b)) (row_of
+        (suc b)) l.start)
         (suc b) (suc (row_of (suc b) l.start)) (lift_column p i) (lines _ (has_stub p i l (suc b) h s d))
         (segments (suc b) l.start s.1 z (let w = (path.lifts i l h).1 in omega (arith, w))) x.0 (above_ground x.1)
 
@@ -247,7 +249,8 @@ module _ (p : Path) (path : IsPath p) (cols : ℕ → ℕ → List ℕ) (row_of 
         let b = suc g in
         let x = path_crossing p path cols row_of rows k tracks
         (tap (side_of (suc g)) (extra (chain_line i (suc g))) (row (place (suc g) (above c)))) (of_above i c g h le) in
-        tap_stands f (side_of (suc g)) (across_of p (chain_line i (suc g))) (band_segment b (cols b) (row_of b) (above c))
+        tap_stands f (side_of (suc g)) (across_of p (chain_line i (suc g))) (band_segment b (cols b) (row_of b)
+        (above c))
         b (suc (row_of b (above c))) (chain_column p (slice_get p.chains i)) (lines _ (has_chain p i c (suc g) h le))
         (segments b (above c) le z (let w = (inside i c c.up h).1 in omega (arith, w))) x.0 (above_ground x.1)
 

@@ -152,7 +152,8 @@ module _ (p : DataPath) where
       | inr e ↦ e
       | inl e ↦ (let i = idle n e in
           let id = id_of (signals p) n (control_pad n e) in
-          let used = subst (λ m. (sizes.is_read p.control m || (list_any (λ (l : lifting.Lift). l.control.0 == m) p.lifts
+          let used = subst (λ m. (sizes.is_read p.control m || (list_any (λ
+          (l : lifting.Lift). l.control.0 == m) p.lifts
           || list_any (λ (c : casting.Cast). c.control.0 == m) p.casts)) ≡ true) id.2 (narrow.control_used id.0 id.1)
           in absurd
           (elim (or_cases (sizes.is_read p.control n)
@@ -185,7 +186,8 @@ module _ (p : DataPath) where
           ∙ not_true (list_any (λ (l : Lift). l.start == n) whole.lifts) c.0 in
           let chains = sym (start_any n p.slices.chains)
           ∙ not_true (list_any (λ (c : Carry). c.start == n) whole.chains) c.1 in
-          let used = subst (λ m. (sizes.is_read p.slices.net m || (list_any (λ (l : lifting.Lift). l.from.0 == m) p.lifts
+          let used = subst (λ m. (sizes.is_read p.slices.net m || (list_any (λ
+          (l : lifting.Lift). l.from.0 == m) p.lifts
           || list_any (λ (c : chain.Chain). (chain_from c).0 == m) p.slices.chains)) ≡ true) id.2
           (narrow.slice_used id.0 id.1) in absurd
           (elim (or_cases (sizes.is_read p.slices.net n)

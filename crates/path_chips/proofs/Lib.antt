@@ -1,0 +1,3 @@
+pub mod PadRows
+mod GivenBits
+mod Planning

@@ -1,0 +1,8 @@
+mod Bytes
+mod Counted
+mod PadCells
+mod Points
+mod Sizes
+mod Standing
+mod Writing
+mod Plans

@@ -1,0 +1,46 @@
+-- Paths whose chips are planned, and their fabrics.
+use Rattle.std.specs.Prelude.{◌≡◌, ◌≤◌, ℕ, List, ◌∷◌, replicate}
+use Rattle.switch_net.specs.declared.network.Network.{Network}
+use Rattle.switch_net.specs.Pads.{chip_labels}
+use Rattle.drawing.specs.Draws.{Point}
+use Rattle.fabric.specs.declared.chip.Chip.{Chip}
+use Rattle.fabric.specs.Plan.{Plan}
+use Rattle.fabric.specs.Shape.{shape}
+use Rattle.track_assign.specs.declared.packing.Tracks.{Tracks}
+use Rattle.rtl_form.specs.declared.rtl.Rtl.{Rtl}
+use Rattle.rtl_form.specs.Cost.{cost}
+use Rattle.path_form.specs.declared.path.DataPath.{DataPath}
+use Rattle.path_form.specs.Sizes.{IsNarrow, IsWithin}
+use Rattle.path_values.specs.Allocated.{IsAllocated}
+use Rattle.slice_chip.specs.Sliced.{IsSliced}
+use Rattle.chip_laws.specs.Laws.{names_of}
+use Rattle.cif_emit.specs.Emittable.{chip_rects}
+use Rattle.path_chips.specs.Planned.{IsPathLaidOut}
+
+-- the path stands for the transfers, and is no larger than what they cost
+pub record IsPathFor (rtl : Rtl) (p : DataPath) : Type 0 where
+  pub allocated : IsAllocated rtl p
+  pub within : IsWithin (cost rtl) p
+  pub narrow : IsNarrow (cost rtl) p
+
+-- the fabric is that of the path, in these rows: those of the control, and those of each slice
+pub record AreLaid (p : DataPath) (f : Plan) (groups : List Tracks) : Type 0 where
+  pub sliced : IsSliced p f
+  pub groups_are : groups ≡ sliced.control ∷ replicate p.width sliced.slices
+
+-- a path within a cost whose chip can be written
+pub record IsLight (p : DataPath) : Type 0 where
+  pub cost : ℕ
+  pub light : cost ≤ 1024
+  pub within : IsWithin cost p
+  pub narrow : IsNarrow cost p
+
+-- The chip draws its fabric alone, has the labels of the path's pads, and some network draws the path as the chip does,
+-- for whatever transfers with these pads.
+pub record IsChipFor (p : DataPath) (f : Plan) (chip : Chip) : Type 0 where
+  pub fabric : chip.fabric ≡ f
+  pub alone : chip_rects chip ≡ shape f
+  pub named : names_of chip.labels ≡ chip_labels p.pads
+  pub network : Network
+  pub place : Point → ℕ
+  pub laid_out : (rtl : Rtl) → p.pads ≡ rtl.pads → IsPathLaidOut rtl p network place (chip_rects chip) chip.labels
