@@ -14,13 +14,10 @@ use Rattle.compile_laws.specs.Laws.{IsSmallPlan, IsSmallChipOf, MakesChips}
 
 module _ (p : Program) where
   -- a plan of the program's transfers, that commands may draw
-  pub made : (r : Rtl) (result : Result Chip NoMemory) → MakesChips p → IsSame p r
-      → IfOk result (λ chip. IsSmallPlan r (chip_rects chip) chip.labels)
-      → IfOk result (λ chip. (commands : List Command) → IsEmitted (chip_rects chip) chip.labels commands
-      → IsSmallChipOf p (file_text commands))
-  made r (Ok chip) make same plan = λ commands emitted.
-      make r (chip_rects chip) chip.labels commands same plan emitted
-  made r (Err e) make same plan = plan
+  pub made : (r : Rtl) (chip : Chip) → MakesChips p → IsSame p r → IsSmallPlan r (chip_rects chip) chip.labels
+      → (commands : List Command) → IsEmitted (chip_rects chip) chip.labels commands
+      → IsSmallChipOf p (file_text commands)
+  made r chip make same plan commands emitted = make r (chip_rects chip) chip.labels commands same plan emitted
 
   -- a text that is one of a chip
   pub in_text : (text : List ℕ) (result : Result (Vec ℕ Global) NoMemory) → IfOk result (λ t. t.items ≡ text)

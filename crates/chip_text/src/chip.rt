@@ -8,12 +8,13 @@ ghost use Rattle.cif_emit.specs.Emitted.{IsEmitted};
 ghost use Rattle.compile_laws.specs.Laws.{IsSmallChipOf};
 
 use crate::text::text_of;
-use chip_plan::plan;
 use compile_laws::laws::chips_are_made;
 use fabric::Chip;
 use mp_base::NoMemory;
 use mp_checker::{Checked, weight};
+use path_plan::Planned;
 use process_sequencer::sequence;
+use slice_plan::plan;
 use std::alloc::Global;
 
 // The chip of a program: commands that draw it have a text that is one. What it is made from is let go.
@@ -26,7 +27,13 @@ fn chip_of(alloc: Global, checked: &Checked) -> Result<Chip, NoMemory>
     chips_are_made(checked.program());
     let _light = weight(checked);
     let rtl = sequence(alloc, checked)?;
-    plan(alloc, &rtl)
+    let Planned {
+        chip,
+        columns: _,
+        rows: _,
+        groups: _,
+    } = plan(alloc, &rtl)?;
+    Ok(chip)
 }
 
 /// The text of the CIF file of a program's chip. It draws at most 100 · (weight + 8) · (word length + 1) shapes.

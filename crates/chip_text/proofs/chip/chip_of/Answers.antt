@@ -9,5 +9,5 @@ chips_are_made-requires c = subst IsUnbroken (sym c.program.ensures) c.unbroken.
 
 pub returns-clause-made : goal.returns-clause-made
 returns-clause-made c =
-    made c.args.checked.now.program c.in_ok-rtl.rtl c.plan.result
-    (subst MakesChips c.program.ensures c.chips_are_made.ensures) c.in_ok-rtl.ensures c.plan.ensures.planned
+    made c.args.checked.now.program c.in_ok-rtl.rtl c.in_ok-chip.field-0.chip
+    (subst MakesChips c.program.ensures c.chips_are_made.ensures) c.in_ok-rtl.ensures c.in_ok-chip.ensures.planned

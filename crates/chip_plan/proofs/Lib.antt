@@ -1,9 +1,0 @@
-mod Counted
-mod Adding
-mod Bytes
-mod Placing
-mod Standing
-mod Writing
-mod Sizes
-mod PadCells
-mod SmallPlans

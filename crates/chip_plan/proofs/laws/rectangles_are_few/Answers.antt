@@ -1,5 +1,0 @@
-use Rattle.chip_plan.proofs.Sizes as proofs
-use Rattle.chip_plan.proofs.laws.rectangles_are_few.Goals as goal
-
-pub returns : goal.returns
-returns c = proofs.rectangles_are_few

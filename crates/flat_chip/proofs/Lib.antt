@@ -1,3 +1,0 @@
-mod Made
-mod Standing
-mod Roomy

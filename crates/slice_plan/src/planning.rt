@@ -1,0 +1,37 @@
+//! From transfers to a chip.
+
+ghost use Rattle.std.specs.Prelude.{◌≤◌, IfOk};
+ghost use Rattle.rtl_form.specs.Cost.{cost};
+ghost use Rattle.rtl_form.specs.Sound.{IsSound};
+ghost use Rattle.cif_emit.specs.Emittable.{IsEmittable, chip_rects};
+ghost use Rattle.compile_laws.specs.Laws.{IsSmallPlan};
+ghost use Rattle.path_plan.specs.Plans.{IsBounded, IsMeasured};
+
+use datapath_alloc::allocate;
+use mp_base::NoMemory;
+use path_laying::{Laid, lay};
+use path_plan::{Planned, planned_of};
+use rtl_form::Rtl;
+use std::alloc::Global;
+
+/// The plan of register transfers that fit together and cost at most 1024. Its chip has each label of their pads once,
+/// in order, at whatever offsets its labels stand it breaks no rule of masks, and each network that its rectangles draw
+/// follows the transfers, from every charge. It has at most 100 (cost + 8) (word length + 1) rectangles and
+/// 64 cost + 5 labels, and can be written as commands. It has at most cost + 8 columns, whatever the length of words,
+/// and one band for each bit beside that of the control.
+///
+/// # Errors
+///
+/// `NoMemory`.
+pub fn plan(alloc: Global, rtl: &Rtl) -> Result<Planned, NoMemory>
+    requires sound { IsSound rtl.now }
+    requires light { cost rtl.now ≤ 1024 }
+    ensures planned { IfOk result (λ planned. IsSmallPlan rtl.now (chip_rects planned.chip) planned.chip.labels) }
+    ensures emittable { IfOk result (λ planned. IsEmittable (chip_rects planned.chip) planned.chip.labels) }
+    ensures measured { IfOk result (IsMeasured rtl.now) }
+    ensures bounded { IfOk result (IsBounded rtl.now) }
+{
+    let path = allocate(alloc, rtl)?;
+    let Laid { fabric, groups } = lay(alloc, &path)?;
+    planned_of(alloc, rtl, &path, fabric, groups)
+}
