@@ -1,0 +1,31 @@
+-- A plan of transfers that show what a program shows is one of a chip of the program.
+use Rattle.std.proofs.Common.{◌≡◌, ◌+◌, ◌≤◌, ◌∙◌, ap, arith, List, Result, Ok, Err, IfOk, suc}
+use Rattle.std.specs.Prelude.{sum_by}
+use Rattle.mp_base.specs.declared.refusal.NoMemory.{NoMemory}
+use Rattle.mp_program.specs.declared.program.Program.{Program}
+use Rattle.mp_program.specs.Weight.{weight}
+use Rattle.rtl_form.specs.declared.rtl.Rtl.{Rtl}
+use Rattle.track_assign.specs.declared.packing.Tracks.{Tracks}
+use Rattle.process_plan.specs.Same.{IsSame}
+use Rattle.cif_emit.specs.Emittable.{chip_rects}
+use Rattle.compile_laws.specs.Laws.{IsSmallPlan, MakesChips}
+use Rattle.path_plan.specs.declared.planning.Planned.{Planned}
+use Rattle.path_plan.specs.Plans.{IsMeasured}
+use Rattle.plan_stats.specs.Stats.{IsPlanOf}
+
+plan_of : (p : Program) (r : Rtl) (planned : Planned) → MakesChips p → IsSame p r
+    → IsSmallPlan r (chip_rects planned.chip) (planned.chip).labels → IsMeasured r planned → IsPlanOf p planned
+plan_of p r planned make same plan measured = record {
+  makes = λ commands emitted. make r (chip_rects planned.chip) (planned.chip).labels commands same plan emitted;
+  columns = measured.columns;
+  narrow = let n = measured.narrow in let c = same.cost in omega (arith, n, c);
+  groups = measured.groups;
+  count = measured.count ∙ ap suc same.width;
+  rows = measured.rows ∙ ap (λ w. sum_by (λ (t : Tracks). t.rows) planned.groups + suc w) same.width;
+}
+
+pub planned : (p : Program) (r : Rtl) (result : Result Planned NoMemory) → MakesChips p → IsSame p r
+    → IfOk result (λ planned. IsSmallPlan r (chip_rects planned.chip) (planned.chip).labels)
+    → IfOk result (IsMeasured r) → IfOk result (IsPlanOf p)
+planned p r (Ok plan) make same small measured = plan_of p r plan make same small measured
+planned p r (Err e) make same small measured = tt

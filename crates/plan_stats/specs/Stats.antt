@@ -1,0 +1,30 @@
+-- What the size of a chip is told of.
+use Rattle.std.specs.Prelude.{◌≡◌, ◌≤◌, ◌+◌, ℕ, List, suc, length, sum_by}
+use Rattle.cif_form.specs.declared.command.Command.{Command}
+use Rattle.cif_writer.specs.Texts.{file_text}
+use Rattle.mp_program.specs.declared.program.Program.{Program}
+use Rattle.mp_program.specs.Weight.{weight}
+use Rattle.track_assign.specs.declared.packing.Tracks.{Tracks}
+use Rattle.slice_chip.specs.Groups.{AreGroups}
+use Rattle.cif_emit.specs.Emittable.{chip_rects}
+use Rattle.cif_emit.specs.Emitted.{IsEmitted}
+use Rattle.compile_laws.specs.Laws.{IsSmallChipOf}
+use Rattle.path_plan.specs.declared.planning.Planned.{Planned}
+use Rattle.plan_stats.specs.Text.{stats_lines}
+
+-- The plan is of a chip of the program: commands that draw it have a text that is one. Its numbers are those of the
+-- chip's fabric, which has at most so many columns, and a group of tracks for the control and for each bit.
+pub record IsPlanOf (p : Program) (planned : Planned) : Type 0 where
+  pub makes : (commands : List Command) → IsEmitted (chip_rects planned.chip) (planned.chip).labels commands
+      → IsSmallChipOf p (file_text commands)
+  pub columns : planned.columns ≡ (planned.chip).fabric.columns
+  pub narrow : planned.columns ≤ weight p + 8
+  pub groups : AreGroups (planned.chip).fabric planned.groups
+  pub count : length planned.groups ≡ suc p.width
+  pub rows : planned.rows ≡ sum_by (λ (t : Tracks). t.rows) planned.groups + suc p.width
+
+-- the text tells the weight of the program, and the size of one chip of it
+pub record IsStatsOf (p : Program) (text : List ℕ) : Type 0 where
+  pub planned : Planned
+  pub plans : IsPlanOf p planned
+  pub line : text ≡ stats_lines (weight p) planned.columns planned.rows planned.groups
