@@ -1,5 +1,5 @@
 -- What a replay shows, and that it follows the source.
-use Rattle.std.proofs.Common.{◌≡◌, ◌++◌, ℕ, List, refl, ap, sym, subst, ◌∙◌, map, Option, Some, None, IfSome}
+use Rattle.std.proofs.Common.{◌++◌, ℕ, List, refl, ap, sym, subst, ◌∙◌, map, Option, Some, None, IfSome}
 use Rattle.mp_base.specs.Outside.{Files, bytes_of}
 use Rattle.mp_base.specs.declared.value.Trit.TheVariants.{X}
 use Rattle.mp_base.specs.declared.pad.Pads.{Pads}
@@ -12,17 +12,24 @@ use Rattle.stimulus.specs.declared.given.Stimulus.{Stimulus}
 use Rattle.stimulus.specs.Reading.{IsStimulus}
 use Rattle.mp_source.specs.Source.{IsSource}
 use Rattle.sim_run.specs.Laws.{TranscriptExists}
-use Rattle.mask_net.specs.Masks.{IsNetOf}
 use Rattle.mask_net.specs.SizeLine.{last_line}
 use Rattle.headline.specs.Headline.{IsChipOf}
 use Rattle.compile_laws.specs.Laws.{IsSmallChipOf}
 use Rattle.replay_run.specs.Replay.{IsReplay}
 use Rattle.replay_run.specs.Laws as circuits
+use Rattle.source_files.specs.Faults.{RunFault}
+use Rattle.stages.specs.Stages.{LeadsTo}
 use Rattle.replay_command.specs.Work.{work}
+use Rattle.replay_command.specs.Played.{IsAsked, Plays}
 use Rattle.replay_command.specs.Replayed.{ReplaysFollow}
 use Rattle.compile_command.proofs.Compiling.{compiled}
 use Rattle.source_files.proofs.StimulusRules.{pads_for}
 use Rattle.source_files.proofs.Sources.{OneSource, one_program}
+
+-- what is so of all files
+pub of_all : {P : Type 0} → P → (held : Option Files) → IfSome held (λ files. P)
+of_all p None = tt
+of_all p (Some files) = p
 
 -- a circuit with the pads of a stimulus has a replay
 pub a_replay : TranscriptExists → (net : Network) (given : Stimulus) → HasPads net given.pads
@@ -33,27 +40,35 @@ a_replay exist net given has =
       record { end = told.0; front = told.1; transcript = told.2; lines = refl },
     )
 
-module _ (source stimulus cif chip text : List ℕ) (checked : CheckedProgram) (given : Stimulus) (network : Network)
-    (is : IsSmallChipOf checked.program chip) (padded : ArePadsOf checked.program given.pads)
-    (drawn : IsNetOf chip network) (replay : IsReplay network given text) where
-  pub shows_replay : (held : Option Files) → IfSome held (λ files. IsSource (bytes_of files source) checked.program)
-      → IfSome held (λ files. IsStimulus (bytes_of files stimulus) (Some checked.pads) given)
-      → IfSome held (λ files. (work source stimulus cif).Shows files chip text)
-  shows_replay None spelled read = tt
-  shows_replay (Some files) spelled read = (
-    compiled (bytes_of files source) chip checked.program is spelled,
+module _ (source stimulus cif chip : List ℕ) (checked : CheckedProgram) (given : Stimulus)
+    (asked : IsAsked checked.program given chip) where
+  shown : (files : Files) → IsSource (bytes_of files source) checked.program
+      → IsStimulus (bytes_of files stimulus) (Some checked.pads) given
+      → (bytes text : List ℕ) → Plays chip given bytes text
+      → (work source stimulus cif).Shows files bytes text
+  shown files spelled read bytes text plays = (
+    compiled (bytes_of files source) bytes checked.program
+        (subst (IsSmallChipOf checked.program) (sym plays.same) asked.masks) spelled,
     record {
       program = checked.program;
       pads = checked.pads;
       given = given;
-      network = network;
+      network = plays.network;
       is_source = spelled;
-      padded = pads_for checked (bytes_of files stimulus) given padded read;
+      padded = pads_for checked (bytes_of files stimulus) given asked.padded read;
       is_stimulus = read;
-      drawn = drawn;
-      replay = replay;
+      drawn = plays.drawn;
+      replay = plays.replay;
     },
   )
+
+  -- what was read and judged leads to the replay
+  pub leads : (held : Option Files) → IfSome held (λ files. RunFault source stimulus files None)
+      → IfSome held (λ files. IsSource (bytes_of files source) checked.program)
+      → IfSome held (λ files. IsStimulus (bytes_of files stimulus) (Some checked.pads) given)
+      → IfSome held (LeadsTo (work source stimulus cif) (Plays chip given))
+  leads None fault spelled read = tt
+  leads (Some files) fault spelled read = (fault, shown files spelled read)
 
 -- the pads of a stimulus are those of the program that it was read for
 given_pads : (program : Program) (pads : Pads) (text : List ℕ) (given : Stimulus) → ArePadsOf program pads
