@@ -1,0 +1,45 @@
+-- Why reading a source and links for it ended.
+use Rattle.std.proofs.Common.{ℕ, List, refl, Option, Some, None, Result, Ok, Err, IfOk, IfErr, IfSome}
+use Rattle.mp_base.specs.Outside.{Files, bytes_of}
+use Rattle.mp_base.specs.declared.pad.Pads.{Pads}
+use Rattle.mp_base.specs.declared.refusal.Refusal.{Refusal}
+use Rattle.mp_base.specs.declared.refusal.Refusal.TheVariants as refusals
+use Rattle.mp_program.specs.declared.program.Program.{Program}
+use Rattle.mp_program.specs.Pads.{ArePadsOf}
+use Rattle.mp_source.specs.Source.{IsSource, IsJudged}
+use Rattle.outcome.specs.Order.{Fault, OfRule}
+use Rattle.outcome.specs.Halt.{EndsBy, halt_of}
+use Rattle.board.specs.declared.link.Link.{Link}
+use Rattle.board.specs.Links.{AreLinks, Refuses}
+use Rattle.board_command.specs.Linked.{OfWords, OfLinks}
+
+-- what the reader of links says
+pub judged_words : (names words : List (List ℕ)) (pads : Pads) (result : Result (List Link) Refusal)
+    → IfOk result (AreLinks names pads words) → IfErr result (Refuses names pads words)
+    → IsJudged (OfWords names pads words) result
+judged_words names words pads (Ok links) ok err = (links, ok)
+judged_words names words pads (Err (refusals.Broken b)) ok err = err
+judged_words names words pads (Err refusals.NoMemory) ok err = tt
+
+module _ (names words : List (List ℕ)) (source : List ℕ) (program : Program) (pads : Pads)
+    (padded : ArePadsOf program pads) where
+  abbrev Rest : Files → Option Fault → Type 0
+  Rest files = OfRule (OfLinks names (bytes_of files source) words)
+
+  -- the links were refused
+  pub links_end : (held : Option Files) → IfSome held (λ files. IsSource (bytes_of files source) program)
+      → (m : ℕ) (e : Refusal) → IsJudged {T = List Link} (OfWords names pads words) (Err e)
+      → EndsBy Rest held m m (halt_of e)
+  links_end held is m refusals.NoMemory h = refl
+  links_end None is m (refusals.Broken b) h = (refl, tt)
+  links_end (Some files) is m (refusals.Broken b) h = (
+    refl,
+    record { program = program; pads = pads; is_source = is; padded = padded; rules = h },
+  )
+
+  -- they were not
+  pub links_fit : (held : Option Files) → IfSome held (λ files. IsSource (bytes_of files source) program)
+      → (links : List Link) → AreLinks names pads words links → IfSome held (λ files. Rest files None)
+  links_fit None is links h = tt
+  links_fit (Some files) is links h =
+      record { program = program; pads = pads; is_source = is; padded = padded; rules = (links, h) }

@@ -1,0 +1,116 @@
+-- What a board shows of the chip of a source, and how it leaves the parts.
+use Rattle.std.proofs.Common.{◌≡◌, ◌∙◌, ℕ, List, [], take, subst, sym, ap, Option, Some, None, Result, Ok, Err, IfSome}
+use Rattle.mp_base.specs.Outside.{Files, bytes_of}
+use Rattle.mp_program.specs.declared.program.Program.{Program}
+use Rattle.mp_rules.specs.Breaking.{IsUnbroken}
+use Rattle.mp_source.specs.Source.{IsSource}
+use Rattle.switch_net.specs.declared.network.Network.{Network}
+use Rattle.mask_net.specs.Masks.{IsNetOf}
+use Rattle.headline.specs.Headline.{IsChipOf}
+use Rattle.compile_laws.specs.Laws.{IsSmallChipOf}
+use Rattle.compile_command.proofs.Compiling.{compiled}
+use Rattle.source_files.proofs.Sources.{OneSource, one_program}
+use Rattle.outcome.specs.Halt.{Ends}
+use Rattle.outcome.specs.declared.halt.Halt.{Halt}
+use Rattle.outcome.specs.declared.halt.Halt.TheVariants.{Refused, ReadFault, WriteFault, NoMemory}
+use Rattle.stages.proofs.Ending.{ends_as}
+use Rattle.board.specs.Face.{Face}
+use Rattle.board.specs.Loop.{Wired, faces_along}
+use Rattle.board.specs.Links.{AreLinks}
+use Rattle.board_laws.specs.Laws.{IsBoardOf}
+use Rattle.board_run.specs.Boarded.{whole_lines}
+use Rattle.board_run.specs.Laws.{BoardsFollow}
+use Rattle.board_command.specs.Parts.{Lent, AreMoved, AreLeft}
+use Rattle.board_command.specs.Played.{PlaysFollow}
+use Rattle.board_command.specs.Work.{work, Plays, Moves}
+use Rattle.board_command.proofs.Given.{Given}
+
+pub plays_follow : OneSource → BoardsFollow → PlaysFollow
+plays_follow one follow lent source words clocks chip text made told =
+    let same = one_program one source made.program told.program made.is_source told.is_source in
+    follow told.program chip told.network told.wired clocks lent.faces text (told.is_source).unbroken
+    (subst (λ p. IsChipOf p chip) same made.masks) told.drawn told.is_board told.board
+
+-- what is known of a source, its chip and its board
+pub record Known (lent : Lent) (source : List ℕ) (words : List (List ℕ)) (chip : List ℕ) (held : Option Files) :
+    Type 0 where
+  pub program : Program
+  pub wired : Wired
+  pub network : Network
+  pub is_source : IfSome held (λ files. IsSource (bytes_of files source) program)
+  pub unbroken : IsUnbroken program
+  pub is_chip : IsSmallChipOf program chip
+  pub is_board : IsBoardOf program wired
+  pub linked : AreLinks lent.names (wired.pads) words wired.links
+  pub drawn : IsNetOf chip network
+
+module _ (lent : Lent) (source cif : List ℕ) (clocks : ℕ) (words : List (List ℕ)) where
+  -- what a board did, and how it left the parts
+  abbrev pub Boards : List Face → Result (Unit {0}) Halt → Files → Files → List ℕ → Type 0
+  Boards left result old new printed = Ends (work lent source cif clocks words) result old new printed
+      × Moves lent (bytes_of old source) words clocks left result printed
+
+  module _ (chip : List ℕ) (follow : BoardsFollow) where
+    module _ (files : Files) (known : Known lent source words chip (Some files)) where
+      shows_play : (bytes text : List ℕ) → Plays chip known.network known.wired clocks lent.faces bytes text
+          → (work lent source cif clocks words).Shows files bytes text
+      shows_play bytes text plays = subst (λ b. (work lent source cif clocks words).Shows files b text) (sym plays.0) (
+        compiled (bytes_of files source) chip known.program known.is_chip known.is_source,
+        record {
+          program = known.program;
+          wired = known.wired;
+          network = known.network;
+          is_source = known.is_source;
+          is_board = known.is_board;
+          linked = known.linked;
+          drawn = known.drawn;
+          board = plays.1;
+        },
+      )
+
+      -- as the loop of the program leaves them
+      moved : (printed : List ℕ) (left : List Face)
+          → AreLeft known.network known.wired clocks lent.faces printed left
+          → AreMoved lent (bytes_of files source) words clocks printed left
+      moved printed left are =
+          let f = follow known.program chip known.network known.wired clocks lent.faces are.text known.unbroken
+          (known.is_chip).0 known.drawn known.is_board are.board in
+          record {
+            program = known.program;
+            wired = known.wired;
+            told = f.told;
+            is_source = known.is_source;
+            is_board = known.is_board;
+            linked = known.linked;
+            loop = f.loop;
+            parts = are.parts ∙ f.alike (whole_lines printed);
+          }
+
+      -- nothing was printed, and no part moved
+      unmoved : (printed : List ℕ) (left : List Face)
+          → AreLeft known.network known.wired clocks lent.faces printed left → printed ≡ [] → left ≡ lent.faces
+      unmoved printed left are none = are.parts
+          ∙ ap (λ (t : List ℕ). faces_along known.wired 0 lent.faces (take (whole_lines t) (are.board).shown)) none
+
+      moves : (left : List Face) (result : Result (Unit {0}) Halt) (new : Files) (printed : List ℕ)
+          → Given cif chip known.network known.wired clocks lent.faces left result files new printed
+          → Moves lent (bytes_of files source) words clocks left result printed
+      moves left (Ok v) new printed given = moved printed left given.1
+      moves left (Err (Refused broken)) new printed given = absurd (given.0).0
+      moves left (Err ReadFault) new printed given = unmoved printed left given.1 (given.0).1
+      moves left (Err WriteFault) new printed given = moved printed left given.1
+      moves left (Err NoMemory) new printed given = unmoved printed left given.1 (given.0).0
+
+    -- from the chip's part to the whole
+    pub plays_on : (held : Option Files) (known : Known lent source words chip held)
+        → IfSome held (λ files. (work lent source cif clocks words).First files None) → (left : List Face)
+        (result : Result (Unit {0}) Halt)
+        → IfSome held (λ files. (new : Files) (printed : List ℕ)
+        → Given cif chip known.network known.wired clocks lent.faces left result files new printed
+        → Boards left result files new printed)
+    plays_on None known sound left result = tt
+    plays_on (Some files) known sound left result = λ new printed given. (
+      ends_as (work lent source cif clocks words) (Plays chip known.network known.wired clocks lent.faces) files new
+          printed (sound, shows_play files known) result given.0,
+      moves files known left result new printed given,
+    )

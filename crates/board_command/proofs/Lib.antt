@@ -1,0 +1,5 @@
+pub mod Asking
+pub mod Given
+pub mod Known
+pub mod Endings
+pub mod FirstFault

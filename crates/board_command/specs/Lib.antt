@@ -1,0 +1,4 @@
+pub mod Parts
+pub mod Linked
+pub mod Played
+pub mod Work

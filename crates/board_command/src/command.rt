@@ -1,0 +1,79 @@
+//! The masks of a source from file to file, and the circuit that they draw on a board.
+
+ghost use Rattle.std.specs.Prelude.{◌≡◌, ⊤, map, string_bytes};
+ghost use Rattle.mp_base.specs.Outside.{bytes_of};
+ghost use Rattle.outcome.specs.Order.{IsStrayBy};
+ghost use Rattle.outcome.specs.World.{world_of, HasCauses, Leaves};
+ghost use Rattle.outcome.specs.Halt.{Ends, IsQuiet, status_of};
+ghost use Rattle.board.specs.Face.{Face};
+ghost use Rattle.board_command.specs.Parts.{Lent};
+ghost use Rattle.board_command.specs.Work.{work, Moves, Rests};
+
+use crate::asked::{Asked, ask};
+use crate::playing::play;
+use crate::ready::{Ready, chip_on_board};
+use board::{NamedPart, Part};
+use board_run::laws::boards_follow;
+use mp_base::{Depot, Sink};
+use outcome::Halt;
+use std::alloc::Global;
+
+/// Writes the CIF file of a chip for the source, and prints the transcript of the circuit that its bytes draw, for some
+/// clocks from unknown values, with the linked parts, and the size line at its end.
+///
+/// # Errors
+///
+/// A read fault, the first broken rule of the source and then of the links, want of memory, or a write fault of the
+/// depot or the sink.
+pub fn board<D: Depot, O: Sink>(
+    alloc: Global,
+    depot: &mut D,
+    out: &mut O,
+    parts: &mut Vec<NamedPart>,
+    source: &str,
+    cif: &str,
+    clocks: u32,
+    words: &[String],
+) -> Result<(), Halt>
+    // No condition; but by it a caller in another crate knows that no part is made here.
+    requires { ⊤ }
+    ensures causes { let world = world_of D.held D.read_faults D.write_faults O.held O.faults in
+        let lent : Lent = record {
+          names = map (λ p. string_bytes p.name) parts.old.items;
+          faces = map (λ p. let f : Face = record {
+            state = (⟦<dyn Part as Part>⟧ p.part.vtable).state p.part.value;
+            drives = (⟦<dyn Part as Part>⟧ p.part.vtable).driven_in;
+            sees = (⟦<dyn Part as Part>⟧ p.part.vtable).after_seeing;
+          } in f) parts.old.items;
+        } in
+        HasCauses (status_of result)
+        (IsStrayBy (work lent source.now cif.now clocks (map string_bytes words.now)).First (D.held depot.new))
+        (world depot.old out.old) (world depot.new out.new) }
+
+    // The parts are left as their loop leaves them.
+    ensures content { let world = world_of D.held D.read_faults D.write_faults O.held O.faults in
+        let faces = map (λ p. let f : Face = record {
+          state = (⟦<dyn Part as Part>⟧ p.part.vtable).state p.part.value;
+          drives = (⟦<dyn Part as Part>⟧ p.part.vtable).driven_in;
+          sees = (⟦<dyn Part as Part>⟧ p.part.vtable).after_seeing;
+        } in f) in
+        let lent : Lent = record {
+          names = map (λ p. string_bytes p.name) parts.old.items;
+          faces = faces parts.old.items;
+        } in
+        Leaves (λ old new printed.
+        Ends (work lent source.now cif.now clocks (map string_bytes words.now)) result old new printed
+        × Moves lent (bytes_of old source.now) (map string_bytes words.now) clocks (faces parts.new.items) result
+        printed) (world depot.old out.old) (world depot.new out.new) }
+    ensures silent { IsQuiet result (O.held out.old) (O.held out.new) }
+    ensures names { map (λ p. string_bytes p.name) parts.new.items ≡ map (λ p. string_bytes p.name) parts.old.items }
+
+    // Whatever the files are, the parts are as they were but after all was done or a write failed.
+    ensures rests { Rests parts.old.items parts.new.items result }
+{
+    let Asked { checked, links } = ask(alloc, depot, source, words, parts)?;
+    let Ready { chip, circuit } = chip_on_board(alloc, &checked, links)?;
+    checked.unbroken();
+    boards_follow();
+    play(depot, out, parts, circuit, &chip, cif, clocks)
+}
