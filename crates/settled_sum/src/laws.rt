@@ -1,0 +1,18 @@
+//! A law of sums: a call of it does nothing, and tells the caller's proof what it ensures.
+
+ghost use Rattle.settled_sum.specs.Laws.{SumsSettle};
+
+use mp_checker::Checked;
+use mp_fitting::{zero_is_a_state, zero_state_fits};
+use trace_run::laws::clocks_fit;
+
+/// Where all clocks but the first are settled, what is shown behind the first adds up to the sum of the settled clocks.
+pub fn sums_settle(checked: &Checked)
+    ensures { SumsSettle checked.now.program }
+{
+    let program = checked.program();
+    checked.unbroken();
+    zero_is_a_state(program);
+    zero_state_fits(program);
+    clocks_fit(checked);
+}
