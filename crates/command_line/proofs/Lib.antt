@@ -1,4 +1,5 @@
 pub mod Plain
 pub mod Levels
+pub mod Links
 pub mod Exact
 pub mod Parsed

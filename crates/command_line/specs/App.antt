@@ -1,11 +1,16 @@
 -- The command that clap is given.
-use Rattle.std.specs.Prelude.{true, false, List, [], ◌∷◌, codes, map}
+use Rattle.std.specs.Prelude.{true, false, List, [], ◌∷◌, Some, codes, map}
+use Rattle.clap.specs.Lexer.{usize_max}
 use Rattle.clap.specs.Simple.{App, Shape, new_rule, new_shape}
 use Rattle.clap.specs.Walk.{Rule, Text}
 
 -- a word that has to be there
 abbrev pub word : Text → Rule
 word id = record (new_rule id) { required = true }
+
+-- one word or more
+abbrev pub words : Text → Rule
+words id = record (word id) { range = Some (record { start_inclusive = 1; end_inclusive = usize_max }) }
 
 -- a form: a name, and a word for each id
 abbrev pub form : Text → List Text → Shape
@@ -26,6 +31,14 @@ sim = form (codes "sim") (codes "cif" ∷ codes "stimulus" ∷ [])
 abbrev pub net : Shape
 net = form (codes "net") (codes "cif" ∷ [])
 
+abbrev pub board : Shape
+board = record (new_shape (codes "board")) {
+  rules = word (codes "source") ∷ word (codes "cif") ∷ word (codes "clocks") ∷ words (codes "links") ∷ [];
+}
+
+abbrev pub make : Shape
+make = form (codes "make") (codes "number" ∷ codes "cif" ∷ [])
+
 -- a command without subcommands
 abbrev pub alone : Shape → App
 alone shape = record { top = shape; subs = [] }
@@ -45,4 +58,4 @@ top = record bare_top { is_leaf = false }
 
 -- the program with its forms
 abbrev pub app : App
-app = record { top = top; subs = trace ∷ compile ∷ replay ∷ sim ∷ net ∷ [] }
+app = record { top = top; subs = trace ∷ compile ∷ replay ∷ sim ∷ net ∷ board ∷ make ∷ [] }

@@ -1,3 +1,4 @@
+pub mod Number
 pub mod Command
 pub mod App
 pub mod Read

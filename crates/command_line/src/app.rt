@@ -16,6 +16,14 @@ fn word<'a>(alloc: Global, id: &'a str) -> Arg<'a>
     Arg::new(alloc, id).required(true)
 }
 
+// One word or more.
+fn words<'a>(alloc: Global, id: &'a str) -> Arg<'a>
+    ensures rule { rule_of result ≡ spec.words id.entry.now }
+    ensures local { result.global ≡ false }
+{
+    Arg::new(alloc, id).required(true).num_args(1..)
+}
+
 // A subcommand that takes a word for each id.
 fn form<'a>(alloc: Global, name: &'a str, ids: &[&'a str]) -> Result<Command<'a>, AllocError>
     ensures app { IfOk result (λ c. app_of c ≡ spec.alone (spec.form name.entry.now (map (λ id. id.now) ids.now))) }
@@ -26,6 +34,14 @@ fn form<'a>(alloc: Global, name: &'a str, ids: &[&'a str]) -> Result<Command<'a>
         form = form.arg(word(alloc, *id))?;
     }
     Ok(form)
+}
+
+// The subcommand that takes links behind its other words.
+fn board<'a>(alloc: Global) -> Result<Command<'a>, AllocError>
+    ensures app { IfOk result (λ c. app_of c ≡ spec.alone spec.board) }
+    ensures local { IfOk result (λ c. (fields_of c).has_globals ≡ false) }
+{
+    form(alloc, "board", &["source", "cif", "clocks"])?.arg(words(alloc, "links"))
 }
 
 // The program before its forms.
@@ -47,9 +63,17 @@ fn with_form<'a>(
     name: &'a str,
     ids: &[&'a str],
 ) -> Result<Command<'a>, AllocError>
-    ensures { IfOk result (λ c. app_of c ≡ with_subcommand (app_of command.entry) (spec.form name.entry.now (map (λ id. id.now) ids.now))) }
+    ensures { IfOk result (λ c. app_of c ≡ with_subcommand (app_of command.entry)
+        (spec.form name.entry.now (map (λ id. id.now) ids.now))) }
 {
     command.subcommand(form(alloc, name, ids)?)
+}
+
+// The command with the form of a board.
+fn with_board<'a>(alloc: Global, command: Command<'a>) -> Result<Command<'a>, AllocError>
+    ensures { IfOk result (λ c. app_of c ≡ with_subcommand (app_of command.entry) spec.board) }
+{
+    command.subcommand(board(alloc)?)
 }
 
 /// The program with its forms.
@@ -60,5 +84,7 @@ pub fn app<'a>(alloc: Global) -> Result<Command<'a>, AllocError>
     let compile = with_form(alloc, trace, "compile", &["source", "cif"])?;
     let replay = with_form(alloc, compile, "replay", &["source", "stimulus", "cif"])?;
     let sim = with_form(alloc, replay, "sim", &["cif", "stimulus"])?;
-    with_form(alloc, sim, "net", &["cif"])
+    let net = with_form(alloc, sim, "net", &["cif"])?;
+    let board = with_board(alloc, net)?;
+    with_form(alloc, board, "make", &["number", "cif"])
 }

@@ -1,6 +1,6 @@
 //! The command that the words stand for.
 
-ghost use Rattle.std.specs.Prelude.{◌≡◌, IfOk, MatchOption, None, false, map, string_bytes};
+ghost use Rattle.std.specs.Prelude.{◌≡◌, IfOk, MatchOption, None, false, drop, map, string_bytes};
 ghost use Rattle.std.specs.List.{list_any};
 ghost use Rattle.std.specs.Option.{option_map};
 ghost use Rattle.clap.specs.Words.{subcommand_rows_of};
@@ -13,7 +13,8 @@ use clap::error::ErrorKind;
 use clap::{ArgMatches, Error};
 use std::alloc::{AllocError, Global};
 
-/// A command, by the names of its files.
+/// A command, by the names of its files. A board's links are the words as they stand; its number of clocks is from 1 to
+/// 65536.
 #[derive(Clone, Copy, Debug, PartialEq, Eq)]
 pub enum Command<'a> {
     Trace(&'a str, &'a str),
@@ -21,6 +22,8 @@ pub enum Command<'a> {
     Replay(&'a str, &'a str, &'a str),
     Sim(&'a str, &'a str),
     Net(&'a str),
+    Board(&'a str, &'a str, u32, &'a [String]),
+    Make(u64, &'a str),
 }
 
 fn begins_with_dash(word: &str) -> bool
@@ -55,9 +58,20 @@ fn answered<'a>(parsed: Result<ArgMatches<'a>, Error>) -> Result<Option<ArgMatch
 fn parse<'a>(alloc: Global, words: &'a [String]) -> Result<Option<ArgMatches<'a>>, AllocError>
     requires { list_any begins_with_dash (map string_bytes words.now) ≡ false }
     ensures { IfOk result (λ found. MatchOption found (form_of (map string_bytes words.now) ≡ None)
-        (λ m. read_met (subcommand_rows_of m) ≡ form_of (map string_bytes words.now))) }
+        (λ m. read_met (drop 4 (map string_bytes words.now)) (subcommand_rows_of m)
+        ≡ form_of (map string_bytes words.now))) }
 {
     answered(app(alloc)?.try_get_matches_from(words))
+}
+
+// The words behind the fourth.
+fn links(words: &[String]) -> &[String]
+    ensures { result.now ≡ drop 4 words.now }
+{
+    match words {
+        [_, _, _, _, links @ ..] => links,
+        _ => &[],
+    }
 }
 
 // The command that clap finds in words without dashes.
@@ -67,7 +81,7 @@ fn found_command<'a>(alloc: Global, words: &'a [String]) -> Result<Option<Comman
 {
     match parse(alloc, words)? {
         Some(matches) => match matches.subcommand() {
-            Some((name, inner)) => Ok(command_in(name, inner)),
+            Some((name, inner)) => Ok(command_in(name, inner, links(words))),
             None => Ok(None),
         },
         None => Ok(None),

@@ -4,5 +4,6 @@
 mod app;
 mod command;
 mod matched;
+mod number;
 
 pub use command::{Command, command_of};

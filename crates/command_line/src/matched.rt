@@ -1,13 +1,15 @@
 //! The command that clap's matches hold.
 
-ghost use Rattle.std.specs.Prelude.{◌≡◌, codes};
+ghost use Rattle.std.specs.Prelude.{◌≡◌, ◌-◌, ◌^◌, codes, map, string_bytes};
 ghost use Rattle.std.specs.Option.{option_map};
 ghost use Rattle.clap.specs.Words.{first_of, found_of, rows_of};
 ghost use Rattle.command_line.specs.Command as spec;
 ghost use Rattle.command_line.specs.Command.{seen};
-ghost use Rattle.command_line.specs.Read.{read_named, read_one, read_two, read_three};
+ghost use Rattle.command_line.specs.Number.{number_in};
+ghost use Rattle.command_line.specs.Read.{read_board, read_make, read_named, read_one, read_two, read_three};
 
 use crate::command::Command;
+use crate::number::number_in;
 use clap::ArgMatches;
 
 // The word that an argument took.
@@ -18,13 +20,15 @@ fn text<'a>(matches: &ArgMatches<'a>, id: &str) -> Option<&'a str>
 }
 
 fn trace<'a>(matches: &ArgMatches<'a>) -> Option<Command<'a>>
-    ensures { option_map seen result ≡ read_two spec.Trace (codes "source") (codes "stimulus") (rows_of (found_of matches.now)) }
+    ensures { option_map seen result
+        ≡ read_two spec.Trace (codes "source") (codes "stimulus") (rows_of (found_of matches.now)) }
 {
     Some(Command::Trace(text(matches, "source")?, text(matches, "stimulus")?))
 }
 
 fn compile<'a>(matches: &ArgMatches<'a>) -> Option<Command<'a>>
-    ensures { option_map seen result ≡ read_two spec.Compile (codes "source") (codes "cif") (rows_of (found_of matches.now)) }
+    ensures { option_map seen result
+        ≡ read_two spec.Compile (codes "source") (codes "cif") (rows_of (found_of matches.now)) }
 {
     Some(Command::Compile(text(matches, "source")?, text(matches, "cif")?))
 }
@@ -41,7 +45,8 @@ fn replay<'a>(matches: &ArgMatches<'a>) -> Option<Command<'a>>
 }
 
 fn sim<'a>(matches: &ArgMatches<'a>) -> Option<Command<'a>>
-    ensures { option_map seen result ≡ read_two spec.Sim (codes "cif") (codes "stimulus") (rows_of (found_of matches.now)) }
+    ensures { option_map seen result
+        ≡ read_two spec.Sim (codes "cif") (codes "stimulus") (rows_of (found_of matches.now)) }
 {
     Some(Command::Sim(text(matches, "cif")?, text(matches, "stimulus")?))
 }
@@ -52,9 +57,46 @@ fn net<'a>(matches: &ArgMatches<'a>) -> Option<Command<'a>>
     Some(Command::Net(text(matches, "cif")?))
 }
 
-/// The command that the matches of a subcommand hold, by its name.
-pub fn command_in<'a>(name: &str, matches: &ArgMatches<'a>) -> Option<Command<'a>>
-    ensures { option_map seen result ≡ read_named name.now (rows_of (found_of matches.now)) }
+// How many clocks a board runs.
+fn clocks(word: &str) -> Option<u32>
+    ensures { result ≡ number_in 5 1 65536 word.now }
+{
+    let clocks = number_in(word, 5, 1, 65536)?;
+    Some(clocks as u32)
+}
+
+fn board<'a>(matches: &ArgMatches<'a>, links: &'a [String]) -> Option<Command<'a>>
+    ensures { option_map seen result ≡ read_board (map string_bytes links.now) (rows_of (found_of matches.now)) }
+{
+    let source = text(matches, "source")?;
+    let cif = text(matches, "cif")?;
+    let clocks = clocks(text(matches, "clocks")?)?;
+    Some(Command::Board(source, cif, clocks, links))
+}
+
+// What a program is made of.
+fn seed(word: &str) -> Option<u64>
+    ensures { result ≡ number_in 20 0 (2 ^ 64 - 1) word.now }
+{
+    number_in(word, 20, 0, u64::MAX)
+}
+
+fn make<'a>(matches: &ArgMatches<'a>) -> Option<Command<'a>>
+    ensures { option_map seen result ≡ read_make (rows_of (found_of matches.now)) }
+{
+    let number = text(matches, "number")?;
+    let cif = text(matches, "cif")?;
+    Some(Command::Make(seed(number)?, cif))
+}
+
+/// The command that the matches of a subcommand hold, by its name, and the words behind the fourth.
+pub fn command_in<'a>(
+    name: &str,
+    matches: &ArgMatches<'a>,
+    links: &'a [String],
+) -> Option<Command<'a>>
+    ensures { option_map seen result
+        ≡ read_named (map string_bytes links.now) name.now (rows_of (found_of matches.now)) }
 {
     if name == "trace" {
         trace(matches)
@@ -66,6 +108,10 @@ pub fn command_in<'a>(name: &str, matches: &ArgMatches<'a>) -> Option<Command<'a
         sim(matches)
     } else if name == "net" {
         net(matches)
+    } else if name == "board" {
+        board(matches, links)
+    } else if name == "make" {
+        make(matches)
     } else {
         None
     }

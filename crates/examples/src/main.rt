@@ -1,8 +1,9 @@
 //! Runs each example over files in memory, and tells whether it prints what stands beside it.
 #![tactic(auto)]
 
+use board_parts::Memory;
 use mp_base::{List, MemDepot, MemSink, NoMemory};
-use silicon::{Status, run};
+use silicon::{NamedPart, Part, Status, run};
 use std::alloc::{AllocError, Global};
 use std::{fs, io};
 
@@ -38,6 +39,14 @@ fn words_of(alloc: Global, words: &[&str]) -> Result<Vec<String>, AllocError> {
     Ok(list)
 }
 
+// The only part of a list.
+fn only_part(alloc: Global, name: &str, part: Box<dyn Part>) -> Result<Vec<NamedPart>, AllocError> {
+    let mut parts = Vec::new(alloc);
+    let name = String::from_str(alloc, name)?;
+    parts.push(NamedPart { name, part })?;
+    Ok(parts)
+}
+
 /// How a run ended, and what it printed.
 #[derive(Drop)]
 struct Outcome {
@@ -45,7 +54,7 @@ struct Outcome {
     out: MemSink,
 }
 
-// A run over the files `first` and `second`.
+// A run over the files `first` and `second`, with a memory as the only part.
 fn outcome_of(
     alloc: Global,
     words: &[&str],
@@ -57,7 +66,10 @@ fn outcome_of(
     depot.put("second", second)?;
     let mut out = MemSink::new(alloc, List::new(alloc));
     let words = words_of(alloc, words)?;
-    let mut parts = Vec::new(alloc);
+    let Ok(memory) = Box::new(alloc, Memory::new()) else {
+        return Err(NoMemory);
+    };
+    let mut parts = only_part(alloc, "memory", memory)?;
     let status = run(alloc, &words, &mut depot, &mut out, &mut parts);
     Ok(Outcome { status, out })
 }
@@ -84,10 +96,10 @@ fn show(
     println!(rt; "{text}")
 }
 
-// How many lines of a replay have values that aren't known, if the others are those of the transcript and the size of
-// the masks is the last.
-fn unknown_lines(replay: &str, transcript: &str) -> Option<u32> {
-    let mut lines = replay.lines();
+// How many lines have values that aren't known, if the others are those of the transcript and the size of the masks is
+// the last.
+fn unknown_lines(printed: &str, transcript: &str) -> Option<u32> {
+    let mut lines = printed.lines();
     let mut unknown = 0u32;
     for wanted in transcript.lines() {
         let line = lines.next()?;
@@ -111,21 +123,41 @@ fn show_replay(rt: &HostRuntime, name: &str) -> io::Result<()> {
     println!(rt; "replay {name}.mp {name}.stim")?;
     let source = fs::read(rt, format!(in alloc; "{name}.mp")?.as_str())?;
     let stimulus = fs::read(rt, format!(in alloc; "{name}.stim")?.as_str())?;
-    let wanted = fs::read(rt, format!(in alloc; "{name}.transcript")?.as_str())?;
     let words = ["replay", "first", "second", "third"];
-    let Ok(found) = outcome_of(alloc, &words, &source, &stimulus) else {
+    show_chip(rt, name, &words, &source, &stimulus)
+}
+
+// A chip is joined to the memory for some clocks, beside the source's transcript.
+fn show_board(rt: &HostRuntime, name: &str, clocks: &str, link: &str) -> io::Result<()> {
+    println!(rt; "board {name}.mp {clocks} {link}")?;
+    let source = fs::read(rt, format!(in rt.alloc(); "{name}.mp")?.as_str())?;
+    let words = ["board", "first", "third", clocks, link];
+    show_chip(rt, name, &words, &source, b"")
+}
+
+// What words print of the chip that they write, beside a transcript.
+fn show_chip(
+    rt: &HostRuntime,
+    name: &str,
+    words: &[&str],
+    first: &[u8],
+    second: &[u8],
+) -> io::Result<()> {
+    let alloc = rt.alloc();
+    let wanted = fs::read(rt, format!(in alloc; "{name}.transcript")?.as_str())?;
+    let Ok(found) = outcome_of(alloc, words, first, second) else {
         return println!(rt; "    not enough memory");
     };
-    let replay = String::from_utf8_lossy(alloc, found.out.bytes())?;
+    let printed = String::from_utf8_lossy(alloc, found.out.bytes())?;
     let wanted = String::from_utf8_lossy(alloc, &wanted)?;
-    match unknown_lines(&replay, &wanted) {
+    match unknown_lines(&printed, &wanted) {
         Some(unknown) => {
             println!(rt;
                 "    {:?}, as it should, {unknown} lines with values that aren't known",
                 found.status
             )
         }
-        None => println!(rt; "{replay}"),
+        None => println!(rt; "{printed}"),
     }
 }
 
@@ -161,6 +193,7 @@ fn main(rt: HostRuntime) -> io::Result<()> {
         show_compile(&rt, name)?;
         show_replay(&rt, name)?;
     }
+    show_board(&rt, "fibonacci", "13", "memory:bus:word")?;
     for name in MISTAKES {
         show_trace(&rt, name, "inverter")?;
     }

@@ -5,10 +5,11 @@ mod outside;
 #[cfg(test)]
 mod tests;
 
-use mp_base::Failed;
+use board_parts::{Counter, Echo, Memory, Shifter};
+use mp_base::{Depot, Failed, Sink};
 use outside::{FileDepot, OutSink};
-use silicon::{Status, run};
-use std::alloc::Global;
+use silicon::{NamedPart, Part, Status, run};
+use std::alloc::{AllocError, Global};
 use std::env::{self, Args};
 use std::io::{self, ErrorKind, Write};
 use std::process::ExitCode;
@@ -36,6 +37,43 @@ fn words_of(alloc: Global, args: io::Result<Args>) -> Result<Vec<String>, Status
     Ok(words)
 }
 
+// A part of a name.
+fn push_part(
+    alloc: Global,
+    parts: &mut Vec<NamedPart>,
+    name: &str,
+    part: Box<dyn Part>,
+) -> Result<(), AllocError> {
+    let name = String::from_str(alloc, name)?;
+    parts.push(NamedPart { name, part })?;
+    Ok(())
+}
+
+// Does what the words say, with the parts that a chip may be joined to.
+fn run_with_parts<D: Depot, O: Sink>(
+    alloc: Global,
+    words: &Vec<String>,
+    depot: &mut D,
+    out: &mut O,
+) -> Result<Status, AllocError> {
+    let mut parts = Vec::new(alloc);
+    push_part(
+        alloc,
+        &mut parts,
+        "counter",
+        Box::new(alloc, Counter::new())?,
+    )?;
+    push_part(
+        alloc,
+        &mut parts,
+        "shifter",
+        Box::new(alloc, Shifter::new())?,
+    )?;
+    push_part(alloc, &mut parts, "echo", Box::new(alloc, Echo::new())?)?;
+    push_part(alloc, &mut parts, "memory", Box::new(alloc, Memory::new())?)?;
+    Ok(run(alloc, words, depot, out, &mut parts))
+}
+
 // Does what the words say, with these files and this output.
 fn perform<R: Files, W: Write + Drop>(
     alloc: Global,
@@ -49,8 +87,10 @@ fn perform<R: Files, W: Write + Drop>(
     };
     let mut depot = FileDepot::new(files);
     let mut out = OutSink::new(output);
-    let mut parts = Vec::new(alloc);
-    let status = run(alloc, &words, &mut depot, &mut out, &mut parts);
+    let status = match run_with_parts(alloc, &words, &mut depot, &mut out) {
+        Ok(status) => status,
+        Err(AllocError) => Status::NoMemory,
+    };
     match out.flush() {
         Ok(()) => status,
         Err(Failed) => Status::WriteFault,

@@ -3,8 +3,11 @@ use Rattle.std.proofs.Common.{◌≡◌, ◌⊎◌, ◌<◌, ℕ, List, refl, ap
 use Rattle.mp_base.specs.Outside.{Files, WhereTold, Rose}
 use Rattle.command_line.specs.Command.{Command}
 use Rattle.outcome.specs.Order.{Fault, Stray, Breaks}
-use Rattle.outcome.specs.World.{World, DidWork}
-use Rattle.silicon.specs.Faults.{work_of, IsFirstFault, IsStrayFor}
+use Rattle.outcome.specs.World.{World}
+use Rattle.board.specs.Face.{Face}
+use Rattle.board_command.specs.Parts.{Lent}
+use Rattle.silicon.specs.Faults.{IsFirstFault, IsStrayFor}
+use Rattle.silicon.specs.Run.{Did}
 use Rattle.silicon.specs.Complete.{IsRun, AnyRose, AnyGreater, status_by}
 use Rattle.outcome.specs.declared.status.Status.{Status}
 use Rattle.outcome.specs.declared.status.Status.TheVariants.{Done, Refused, Usage, ReadFault, WriteFault, NoMemory}
@@ -16,73 +19,80 @@ told_of R x y old new e f told = subst (λ z. WhereTold R z (Some new)) e (subst
 
 -- a command has one first fault
 abbrev pub OneFault : Type 0
-OneFault = (command : Command) (files : Files) (a b : Option Fault) → IsFirstFault command files a
-    → IsFirstFault command files b → a ≡ b
+OneFault = (lent : Lent) (command : Command) (files : Files) (a b : Option Fault) → IsFirstFault lent command files a
+    → IsFirstFault lent command files b → a ≡ b
 
 -- a write or a print failed
 written : {R W P : Type 0} → W ⊎ P → R ⊎ W ⊎ P
 written w = inr w
 
-module _ (one : OneFault) (command : Command) (before after : World) (old new : Files) (fault : Option Fault)
-    (first : IsFirstFault command old fault) (still : AnyRose before after → ⊥) where
+module _ (one : OneFault) (lent : Lent) (left : List Face) (command : Command) (before after : World)
+    (old new : Files) (fault : Option Fault)
+    (first : IsFirstFault lent command old fault) (still : AnyRose before after → ⊥) where
   -- this fault and no other is the first
-  by_fault : (other : Option Fault) → IsFirstFault command old other → status_by other ≡ status_by fault
-  by_fault other is = ap status_by (one command old other fault is first)
+  by_fault : (other : Option Fault) → IsFirstFault lent command old other → status_by other ≡ status_by fault
+  by_fault other is = ap status_by (one lent command old other fault is first)
 
   -- the reads failed since a file is not held
-  by_stray : Rose before.reads after.reads ⊎ IsStrayFor (Some command) after.files → after.files ≡ Some new
+  by_stray : Rose before.reads after.reads ⊎ IsStrayFor lent (Some command) after.files → after.files ≡ Some new
       → new ≡ old → status_by (Some Stray) ≡ status_by fault
   by_stray (inl rose) is kept = absurd (still (inl rose))
   by_stray (inr stray) is kept =
-      let there : IsFirstFault command new (Some Stray) =
-      subst (λ files. IsStrayFor (Some command) files) is stray in
-      by_fault (Some Stray) (subst (λ files. IsFirstFault command files (Some Stray)) kept there)
+      let there : IsFirstFault lent command new (Some Stray) =
+      subst (λ files. IsStrayFor lent (Some command) files) is stray in
+      by_fault (Some Stray) (subst (λ files. IsFirstFault lent command files (Some Stray)) kept there)
 
-  pub owed : (status : Status) → IsRun (Some command) status before after → before.files ≡ Some old
+  pub owed : (status : Status) → IsRun lent left (Some command) status before after → before.files ≡ Some old
       → after.files ≡ Some new → (status ≡ status_by fault) ⊎ (status ≡ NoMemory)
   owed Done run e f =
-      let did = told_of (λ a b. DidWork (work_of command) Done a b run.content.printed) _ _ old new e f run.content.told in
-      inl (by_fault None did.fault)
+      let did = told_of (λ a b. Did lent left (Some command) Done a b run.content.printed) _ _ old new e f
+      run.content.told in
+      inl (by_fault None did.0.fault)
   owed Refused run e f =
-      let did = told_of (λ a b. DidWork (work_of command) Refused a b run.content.printed) _ _ old new e f run.content.told in
-      inl (by_fault (Some (Breaks did.broken)) did.fault)
+      let did = told_of (λ a b. Did lent left (Some command) Refused a b run.content.printed) _ _ old new e f
+      run.content.told in
+      inl (by_fault (Some (Breaks did.0.broken)) did.0.fault)
   owed Usage run e f = absurd run.form
   owed ReadFault run e f =
-      let did = told_of (λ a b. DidWork (work_of command) ReadFault a b run.content.printed) _ _ old new e f
+      let did = told_of (λ a b. Did lent left (Some command) ReadFault a b run.content.printed) _ _ old new e f
       run.content.told in
-      inl (by_stray run.causes.1 f did.0)
+      inl (by_stray run.causes.1 f did.0.0)
   owed WriteFault run e f = absurd (still (written run.causes.3))
   owed NoMemory run e f = inr refl
 
 -- words in no form
-pub no_form : (status : Status) (before after : World) → IsRun None status before after
-    → (AnyRose before after → ⊥) → (status ≡ Usage) ⊎ (status ≡ NoMemory)
-no_form Done before after run still = absurd run.form
-no_form Refused before after run still = absurd run.form
-no_form Usage before after run still = inl refl
-no_form ReadFault before after run still = absurd run.form
-no_form WriteFault before after run still = absurd (still (written run.causes.3))
-no_form NoMemory before after run still = inr refl
+pub no_form : (lent : Lent) (left : List Face) (status : Status) (before after : World)
+    → IsRun lent left None status before after → (AnyRose before after → ⊥) → (status ≡ Usage) ⊎ (status ≡ NoMemory)
+no_form lent left Done before after run still = absurd run.form
+no_form lent left Refused before after run still = absurd run.form
+no_form lent left Usage before after run still = inl refl
+no_form lent left ReadFault before after run still = absurd run.form
+no_form lent left WriteFault before after run still = absurd (still (written run.causes.3))
+no_form lent left NoMemory before after run still = inr refl
 
 -- no file is stray where nothing is told
-stray_untold : (words : Option Command) (files : Option Files) → files ≡ None → IsStrayFor words files → ⊥
-stray_untold None files e stray = stray
-stray_untold (Some command) files e stray = subst (λ f. IsStrayFor (Some command) f) e stray
+stray_untold : (lent : Lent) (words : Option Command) (files : Option Files) → files ≡ None
+    → IsStrayFor lent words files → ⊥
+stray_untold lent None files e stray = stray
+stray_untold lent (Some command) files e stray = subst (λ f. IsStrayFor lent (Some command) f) e stray
 
-pub no_read_fault : (words : Option Command) (status : Status) (before after : World)
-    → IsRun words status before after → after.files ≡ None → (AnyRose before after → ⊥) → status ≡ ReadFault → ⊥
-no_read_fault words status before after run untold still is =
-    let failed : IsRun words ReadFault before after = subst (λ s. IsRun words s before after) is run in
+pub no_read_fault : (lent : Lent) (left : List Face) (words : Option Command) (status : Status) (before after : World)
+    → IsRun lent left words status before after → after.files ≡ None → (AnyRose before after → ⊥)
+    → status ≡ ReadFault → ⊥
+no_read_fault lent left words status before after run untold still is =
+    let failed : IsRun lent left words ReadFault before after =
+    subst (λ s. IsRun lent left words s before after) is run in
     read failed.causes.1
   where
-    read : Rose before.reads after.reads ⊎ IsStrayFor words after.files → ⊥
+    read : Rose before.reads after.reads ⊎ IsStrayFor lent words after.files → ⊥
     read (inl rose) = still (inl rose)
-    read (inr stray) = stray_untold words after.files untold stray
+    read (inr stray) = stray_untold lent words after.files untold stray
 
-pub no_write_fault : (words : Option Command) (status : Status) (before after : World)
-    → IsRun words status before after → (AnyRose before after → ⊥) → status ≡ WriteFault → ⊥
-no_write_fault words status before after run still is =
-    let failed : IsRun words WriteFault before after = subst (λ s. IsRun words s before after) is run in
+pub no_write_fault : (lent : Lent) (left : List Face) (words : Option Command) (status : Status) (before after : World)
+    → IsRun lent left words status before after → (AnyRose before after → ⊥) → status ≡ WriteFault → ⊥
+no_write_fault lent left words status before after run still is =
+    let failed : IsRun lent left words WriteFault before after =
+    subst (λ s. IsRun lent left words s before after) is run in
     still (written failed.causes.3)
 
 -- equal counts are not greater
@@ -91,14 +101,15 @@ same_counts a b c d e f p q r (inl less) = omega (arith, p, less)
 same_counts a b c d e f p q r (inr (inl less)) = omega (arith, q, less)
 same_counts a b c d e f p q r (inr (inr less)) = omega (arith, r, less)
 
-pub greater : (words : Option Command) (status : Status) (before after : World)
-    → IsRun words status before after → AnyGreater before after → (status ≡ ReadFault) ⊎ (status ≡ WriteFault)
-greater words Done before after run more = absurd (same_counts _ _ _ _ _ _ run.causes.0 run.causes.1 run.causes.2 more)
-greater words Refused before after run more =
+pub greater : (lent : Lent) (left : List Face) (words : Option Command) (status : Status) (before after : World)
+    → IsRun lent left words status before after → AnyGreater before after → (status ≡ ReadFault) ⊎ (status ≡ WriteFault)
+greater lent left words Done before after run more =
     absurd (same_counts _ _ _ _ _ _ run.causes.0 run.causes.1 run.causes.2 more)
-greater words Usage before after run more =
+greater lent left words Refused before after run more =
     absurd (same_counts _ _ _ _ _ _ run.causes.0 run.causes.1 run.causes.2 more)
-greater words ReadFault before after run more = inl refl
-greater words WriteFault before after run more = inr refl
-greater words NoMemory before after run more =
+greater lent left words Usage before after run more =
+    absurd (same_counts _ _ _ _ _ _ run.causes.0 run.causes.1 run.causes.2 more)
+greater lent left words ReadFault before after run more = inl refl
+greater lent left words WriteFault before after run more = inr refl
+greater lent left words NoMemory before after run more =
     absurd (same_counts _ _ _ _ _ _ run.causes.0 run.causes.1 run.causes.2 more)

@@ -1,12 +1,14 @@
 -- A command has one first fault at most.
-use Rattle.std.proofs.Common.{◌≡◌, List, ℕ, Option}
+use Rattle.std.proofs.Common.{◌≡◌, ◌∙◌, sym, List, ℕ, Option}
 use Rattle.mp_base.specs.Outside.{Files}
-use Rattle.command_line.specs.Command.{Command, Trace, Compile, Replay, Sim, Net}
+use Rattle.command_line.specs.Command.{Command, Trace, Compile, Replay, Sim, Net, Board, Make}
 use Rattle.outcome.specs.Order.{Fault}
 use Rattle.outcome.specs.Work.{Work}
 use Rattle.source_files.specs.Faults.{SourceFault, RunFault}
 use Rattle.mask_files.specs.Faults.{MaskFault}
 use Rattle.sim_command.specs.Work as simulations
+use Rattle.board_command.specs.Parts.{Lent}
+use Rattle.board_command.specs.Work as boards
 use Rattle.silicon.specs.Faults.{IsFirstFault}
 
 -- these have one first fault at most on the same files
@@ -19,10 +21,14 @@ pub record Laws : Type 0 where
   pub run : (source stimulus : List ℕ) → IsSingle (RunFault source stimulus)
   pub masks : (cif : List ℕ) → IsSingle (MaskFault cif)
   pub circuit : (cif stimulus : List ℕ) → IsSingle (simulations.work cif stimulus).First
+  pub links : (lent : Lent) (source cif : List ℕ) (clocks : ℕ) (words : List (List ℕ))
+      → IsSingle (boards.work lent source cif clocks words).First
 
-pub single : Laws → (command : Command) → IsSingle (IsFirstFault command)
-single laws (Trace source stimulus) = laws.run source stimulus
-single laws (Compile source cif) = laws.source source
-single laws (Replay source stimulus cif) = laws.run source stimulus
-single laws (Sim cif stimulus) = laws.circuit cif stimulus
-single laws (Net cif) = laws.masks cif
+pub single : Laws → (lent : Lent) (command : Command) → IsSingle (IsFirstFault lent command)
+single laws lent (Trace source stimulus) = laws.run source stimulus
+single laws lent (Compile source cif) = laws.source source
+single laws lent (Replay source stimulus cif) = laws.run source stimulus
+single laws lent (Sim cif stimulus) = laws.circuit cif stimulus
+single laws lent (Net cif) = laws.masks cif
+single laws lent (Board source cif clocks words) = laws.links lent source cif clocks words
+single laws lent (Make number cif) = λ files a b x y. x ∙ sym y

@@ -2,3 +2,5 @@ pub mod RunLemmas
 pub mod FirstFault
 pub mod Silence
 pub mod Completeness
+pub mod Moves
+pub mod Making

@@ -3,10 +3,11 @@ use Rattle.std.proofs.Common.{◌≡◌, ℕ, List, [], refl, sym, subst, inl, O
 use Rattle.mp_base.specs.Outside.{Files, WhereTold, Gains}
 use Rattle.mp_base.proofs.Told.{told_map, keeps_same, gains_nothing}
 use Rattle.command_line.specs.Command.{Command}
-use Rattle.outcome.specs.World.{World, Leaves, IsSaid, whole, cut, DidWork}
+use Rattle.outcome.specs.World.{World, Leaves, IsSaid, whole, cut}
 use Rattle.outcome.specs.declared.status.Status.{Status}
 use Rattle.outcome.specs.declared.status.Status.TheVariants.{Usage, NoMemory}
-use Rattle.silicon.specs.Faults.{work_of}
+use Rattle.board.specs.Face.{Face}
+use Rattle.board_command.specs.Parts.{Lent}
 use Rattle.silicon.specs.Run.{IsForWords, Did, TellsUsage, usage_line}
 
 -- what was said of faulty words
@@ -18,16 +19,20 @@ gains_some : (status result : Status) (text : List ℕ) (x y : Option (List ℕ)
 gains_some status result text x y s s' (whole is same said) = (text, said)
 gains_some status result text x y s s' (cut is le rose part first said) = (part, said)
 
-pub leaves_command : (command : Option Command) (seen : Command) (result : Status) (before after : World) → Some seen
-    ≡ command → Leaves (DidWork (work_of seen) result) before after → Leaves (Did command result) before after
-leaves_command command seen result before after is leaves = subst (λ o. Leaves (Did o result) before after) is leaves
+module _ (lent : Lent) (left : List Face) where
+  pub leaves_command : (command : Option Command) (seen : Command) (result : Status) (before after : World)
+      → Some seen ≡ command → Leaves (Did lent left (Some seen) result) before after
+      → Leaves (Did lent left command result) before after
+  leaves_command command seen result before after is leaves =
+      subst (λ o. Leaves (Did lent left o result) before after) is leaves
 
-pub leaves_no_command : (command : Option Command) (result : Status) (before after : World) (s s' : ℕ) → None ≡ command
+pub leaves_no_command : (lent : Lent) (left : List Face) (command : Option Command) (result : Status)
+    (before after : World) (s s' : ℕ) → None ≡ command
     → IsSaid Usage usage_line before.text after.text s s' result → after.files ≡ before.files
-    → Leaves (Did command result) before after
-leaves_no_command command result before after s s' none said same =
+    → Leaves (Did lent left command result) before after
+leaves_no_command lent left command result before after s s' none said same =
     let some = gains_some Usage result usage_line before.text after.text s s' said in
-    subst (λ o. Leaves (Did o result) before after) none (record {
+    subst (λ o. Leaves (Did lent left o result) before after) none (record {
       printed = some.0;
       gained = some.1;
       told = subst (λ files. WhereTold (λ old new. new ≡ old) before.files files) (sym same) (keeps_same before.files);
@@ -46,17 +51,18 @@ tells_usage command result x y s s' none said = subst (λ o. TellsUsage o result
     (usage_told result x y s s' said)
 
 -- memory was missing before anything was done
-unchanged : (command : Option Command) (files : Option Files)
-    → WhereTold (λ old new. Did command NoMemory old new []) files files
-unchanged command None = tt
-unchanged None (Some files) = refl
-unchanged (Some command) (Some files) = (refl, inl refl)
+unchanged : (lent : Lent) (command : Option Command) (files : Option Files)
+    → WhereTold (λ old new. Did lent lent.faces command NoMemory old new []) files files
+unchanged lent command None = tt
+unchanged lent None (Some files) = refl
+unchanged lent (Some command) (Some files) = ((refl, inl refl), refl)
 
-pub leaves_nothing : (command : Option Command) (world : World) → Leaves (Did command NoMemory) world world
-leaves_nothing command world = record {
+pub leaves_nothing : (lent : Lent) (command : Option Command) (world : World)
+    → Leaves (Did lent lent.faces command NoMemory) world world
+leaves_nothing lent command world = record {
   printed = [];
   gained = gains_nothing world.text;
-  told = unchanged command world.files;
+  told = unchanged lent command world.files;
 }
 
 pub tells_nothing : (command : Option Command) (text : Option (List ℕ)) → TellsUsage command NoMemory text text

@@ -1,19 +1,22 @@
 -- What the clauses of a run leave no choice of.
-use Rattle.std.specs.Prelude.{◌≡◌, ◌⊎◌, ◌<◌, Option, Some, None}
+use Rattle.std.specs.Prelude.{◌≡◌, ◌⊎◌, ◌<◌, List, Option, Some, None}
 use Rattle.mp_base.specs.Outside.{Rose}
 use Rattle.command_line.specs.Command.{Command}
 use Rattle.outcome.specs.Order.{Fault, Stray, Breaks}
 use Rattle.outcome.specs.World.{World, HasCauses, Leaves}
 use Rattle.outcome.specs.declared.status.Status.{Status}
 use Rattle.outcome.specs.declared.status.Status.TheVariants.{Done, Refused, ReadFault}
+use Rattle.board.specs.Face.{Face}
+use Rattle.board_command.specs.Parts.{Lent}
 use Rattle.silicon.specs.Faults.{IsStrayFor}
 use Rattle.silicon.specs.Run.{IsForWords, Did}
 
--- what a run promises of its words and its status, in the worlds before and after it
-pub record IsRun (words : Option Command) (status : Status) (before after : World) : Type 0 where
+-- what a run promises of its words and its status, with the parts and in the worlds before and after it
+pub record IsRun (lent : Lent) (left : List Face) (words : Option Command) (status : Status) (before after : World) :
+    Type 0 where
   pub form : IsForWords words status
-  pub causes : HasCauses status (IsStrayFor words after.files) before after
-  pub content : Leaves (Did words status) before after
+  pub causes : HasCauses status (IsStrayFor lent words after.files) before after
+  pub content : Leaves (Did lent left words status) before after
 
 -- a call failed, by the counts of faults
 abbrev pub AnyRose : World → World → Type 0

@@ -1,6 +1,6 @@
 //! Laws of commands: a call of one does nothing, and tells the caller's proof what it ensures.
 
-ghost use Rattle.std.specs.Prelude.{◌≡◌, ◌⊎◌, Option, Some, None};
+ghost use Rattle.std.specs.Prelude.{◌≡◌, ◌⊎◌, List, Option, Some, None};
 ghost use Rattle.mp_base.specs.Outside.{Files};
 ghost use Rattle.command_line.specs.Command.{Command};
 ghost use Rattle.outcome.specs.Order.{Fault};
@@ -8,22 +8,27 @@ ghost use Rattle.outcome.specs.World.{World};
 ghost use Rattle.outcome.specs.declared.status.Status.{Status};
 ghost use Rattle.outcome.specs.declared.status.Status.TheVariants.{Usage, ReadFault, WriteFault, NoMemory};
 ghost use Rattle.replay_command.specs.Replayed.{ReplaysFollow};
+ghost use Rattle.board.specs.Face.{Face};
+ghost use Rattle.board_command.specs.Parts.{Lent};
+ghost use Rattle.board_command.specs.Played.{PlaysFollow};
 ghost use Rattle.silicon.specs.Faults.{IsFirstFault};
 ghost use Rattle.silicon.specs.Complete.{IsRun, AnyRose, AnyGreater, status_by};
 
+use board_command::laws::{one_link_fault, plays_follow};
 use mask_files::laws::one_mask_fault;
 use replay_command::laws::replays_follow as circuits_follow;
 use sim_command::laws::one_circuit_fault;
 use source_files::laws::one_fault;
 
-/// A command has one first fault at most on the same files.
+/// A command has one first fault at most on the same files, with the same parts lent.
 pub fn one_first_fault()
-    ensures { (command : Command) (files : Files) (a b : Option Fault) → IsFirstFault command files a
-        → IsFirstFault command files b → a ≡ b }
+    ensures { (lent : Lent) (command : Command) (files : Files) (a b : Option Fault)
+        → IsFirstFault lent command files a → IsFirstFault lent command files b → a ≡ b }
 {
     one_fault();
     one_mask_fault();
     one_circuit_fault();
+    one_link_fault();
 }
 
 /// What the clauses `words`, `causes` and `content` of a run leave no choice of. Where no count of faults rose, a
@@ -32,17 +37,19 @@ pub fn one_first_fault()
 /// Words in no form end with the usage line, or want memory. Over files that aren't told no fault is answered, and
 /// where a count is greater a fault is.
 pub fn completeness()
-    ensures owed { (command : Command) (status : Status) (before after : World) (old new : Files) (fault : Option Fault)
-        → IsRun (Some command) status before after → before.files ≡ Some old → after.files ≡ Some new
-        → (AnyRose before after → ⊥) → IsFirstFault command old fault
-        → (status ≡ status_by fault) ⊎ (status ≡ NoMemory) }
-    ensures usage { (status : Status) (before after : World) → IsRun None status before after
-        → (AnyRose before after → ⊥) → (status ≡ Usage) ⊎ (status ≡ NoMemory) }
-    ensures untold { (words : Option Command) (status : Status) (before after : World)
-        → IsRun words status before after → after.files ≡ None → (AnyRose before after → ⊥)
+    ensures owed { (lent : Lent) (left : List Face) (command : Command) (status : Status) (before after : World)
+        (old new : Files) (fault : Option Fault) → IsRun lent left (Some command) status before after
+        → before.files ≡ Some old → after.files ≡ Some new → (AnyRose before after → ⊥)
+        → IsFirstFault lent command old fault → (status ≡ status_by fault) ⊎ (status ≡ NoMemory) }
+    ensures usage { (lent : Lent) (left : List Face) (status : Status) (before after : World)
+        → IsRun lent left None status before after → (AnyRose before after → ⊥)
+        → (status ≡ Usage) ⊎ (status ≡ NoMemory) }
+    ensures untold { (lent : Lent) (left : List Face) (words : Option Command) (status : Status) (before after : World)
+        → IsRun lent left words status before after → after.files ≡ None → (AnyRose before after → ⊥)
         → (status ≡ ReadFault → ⊥) × (status ≡ WriteFault → ⊥) }
-    ensures faults { (words : Option Command) (status : Status) (before after : World)
-        → IsRun words status before after → AnyGreater before after → (status ≡ ReadFault) ⊎ (status ≡ WriteFault) }
+    ensures faults { (lent : Lent) (left : List Face) (words : Option Command) (status : Status) (before after : World)
+        → IsRun lent left words status before after → AnyGreater before after
+        → (status ≡ ReadFault) ⊎ (status ≡ WriteFault) }
 {
     one_first_fault();
 }
@@ -53,4 +60,12 @@ pub fn replays_follow()
     ensures { ReplaysFollow }
 {
     circuits_follow();
+}
+
+/// What a compiled chip shows on a board in each settled clock is what the source's program shows there with the same
+/// parts, and the parts move alike.
+pub fn boards_follow()
+    ensures { PlaysFollow }
+{
+    plays_follow();
 }

@@ -1,15 +1,20 @@
 //! The top call.
 
-ghost use Rattle.std.specs.Prelude.{◌≡◌, Some};
+ghost use Rattle.std.specs.Prelude.{◌≡◌, Some, map, string_bytes};
 ghost use Rattle.command_line.specs.Command.{command_of, seen};
-ghost use Rattle.outcome.specs.World.{world_of, HasCauses, Leaves, DidWork, SparesFiles, IsSilent};
-ghost use Rattle.outcome.specs.Halt.{Ends, IsQuiet, status_of};
-ghost use Rattle.silicon.specs.Faults.{work_of, target_of, target_for, IsStrayFor};
-ghost use Rattle.silicon.specs.Run.{IsForWords, Did, TellsUsage};
+ghost use Rattle.outcome.specs.World.{world_of, HasCauses, Leaves, SparesFiles, IsSilent};
+ghost use Rattle.outcome.specs.Halt.{IsQuiet, status_of};
+ghost use Rattle.board.specs.Face.{Face};
+ghost use Rattle.board_command.specs.Parts.{Lent};
+ghost use Rattle.silicon.specs.Faults.{target_of, target_for, IsStrayFor};
+ghost use Rattle.silicon.specs.Parts.{KeepsParts, Rests};
+ghost use Rattle.silicon.specs.Run.{IsForWords, Did, Ending, EndsMade, TellsUsage};
 
-use board::NamedPart;
+use board::{NamedPart, Part};
+use board_command::board;
 use command_line::{Command, command_of};
 use compile_command::compile;
+use make_command::make;
 use mp_base::{Depot, Sink};
 use net_command::net;
 use outcome::{Halt, Status, refuse, say};
@@ -23,16 +28,39 @@ fn perform<D: Depot, O: Sink>(
     alloc: Global,
     depot: &mut D,
     out: &mut O,
+    parts: &mut Vec<NamedPart>,
     command: Command<'_>,
 ) -> Result<(), Halt>
     ensures causes { let world = world_of D.held D.read_faults D.write_faults O.held O.faults in
-        HasCauses (status_of result) (IsStrayFor (Some (seen command.entry)) (D.held depot.new))
+        let faces = map (λ p. let f : Face = record {
+          state = (⟦<dyn Part as Part>⟧ p.part.vtable).state p.part.value;
+          drives = (⟦<dyn Part as Part>⟧ p.part.vtable).driven_in;
+          sees = (⟦<dyn Part as Part>⟧ p.part.vtable).after_seeing;
+        } in f) in
+        let lent : Lent = record {
+          names = map (λ p. string_bytes p.name) parts.old.items;
+          faces = faces parts.old.items;
+        } in
+        HasCauses (status_of result) (IsStrayFor lent (Some (seen command.entry)) (D.held depot.new))
         (world depot.old out.old) (world depot.new out.new) }
     ensures content { let world = world_of D.held D.read_faults D.write_faults O.held O.faults in
-        Leaves (Ends (work_of (seen command.entry)) result) (world depot.old out.old) (world depot.new out.new) }
+        let faces = map (λ p. let f : Face = record {
+          state = (⟦<dyn Part as Part>⟧ p.part.vtable).state p.part.value;
+          drives = (⟦<dyn Part as Part>⟧ p.part.vtable).driven_in;
+          sees = (⟦<dyn Part as Part>⟧ p.part.vtable).after_seeing;
+        } in f) in
+        let lent : Lent = record {
+          names = map (λ p. string_bytes p.name) parts.old.items;
+          faces = faces parts.old.items;
+        } in
+        Leaves (Ending lent (faces parts.new.items) (seen command.entry) result)
+        (world depot.old out.old) (world depot.new out.new) }
     ensures silent { IsQuiet result (O.held out.old) (O.held out.new) }
     ensures spares { SparesFiles (target_of (seen command.entry)) (D.held depot.old) (D.held depot.new)
         (D.write_faults depot.old) (D.write_faults depot.new) }
+    ensures names { map (λ p. string_bytes p.name) parts.new.items ≡ map (λ p. string_bytes p.name) parts.old.items }
+    ensures rests { Rests (seen command.entry) result parts.old.items parts.new.items }
+    ensures made { EndsMade (Some (seen command.entry)) (status_of result) }
 {
     match command {
         Command::Trace(source, stimulus) => trace(alloc, depot, out, source, stimulus),
@@ -42,6 +70,10 @@ fn perform<D: Depot, O: Sink>(
         }
         Command::Sim(cif, stimulus) => sim(alloc, depot, out, cif, stimulus),
         Command::Net(cif) => net(alloc, depot, out, cif),
+        Command::Board(source, cif, clocks, links) => {
+            board(alloc, depot, out, parts, source, cif, clocks, links)
+        }
+        Command::Make(number, cif) => make(alloc, depot, out, number, cif),
     }
 }
 
@@ -50,19 +82,42 @@ fn run_command<D: Depot, O: Sink>(
     alloc: Global,
     depot: &mut D,
     out: &mut O,
+    parts: &mut Vec<NamedPart>,
     command: Command<'_>,
 ) -> Status
     ensures words { IsForWords (Some (seen command.entry)) result }
     ensures causes { let world = world_of D.held D.read_faults D.write_faults O.held O.faults in
-        HasCauses result (IsStrayFor (Some (seen command.entry)) (D.held depot.new))
+        let faces = map (λ p. let f : Face = record {
+          state = (⟦<dyn Part as Part>⟧ p.part.vtable).state p.part.value;
+          drives = (⟦<dyn Part as Part>⟧ p.part.vtable).driven_in;
+          sees = (⟦<dyn Part as Part>⟧ p.part.vtable).after_seeing;
+        } in f) in
+        let lent : Lent = record {
+          names = map (λ p. string_bytes p.name) parts.old.items;
+          faces = faces parts.old.items;
+        } in
+        HasCauses result (IsStrayFor lent (Some (seen command.entry)) (D.held depot.new))
         (world depot.old out.old) (world depot.new out.new) }
     ensures content { let world = world_of D.held D.read_faults D.write_faults O.held O.faults in
-        Leaves (DidWork (work_of (seen command.entry)) result) (world depot.old out.old) (world depot.new out.new) }
+        let faces = map (λ p. let f : Face = record {
+          state = (⟦<dyn Part as Part>⟧ p.part.vtable).state p.part.value;
+          drives = (⟦<dyn Part as Part>⟧ p.part.vtable).driven_in;
+          sees = (⟦<dyn Part as Part>⟧ p.part.vtable).after_seeing;
+        } in f) in
+        let lent : Lent = record {
+          names = map (λ p. string_bytes p.name) parts.old.items;
+          faces = faces parts.old.items;
+        } in
+        Leaves (Did lent (faces parts.new.items) (Some (seen command.entry)) result)
+        (world depot.old out.old) (world depot.new out.new) }
     ensures silent { IsSilent result (O.held out.old) (O.held out.new) }
     ensures spares { SparesFiles (target_of (seen command.entry)) (D.held depot.old) (D.held depot.new)
         (D.write_faults depot.old) (D.write_faults depot.new) }
+    ensures names { map (λ p. string_bytes p.name) parts.new.items ≡ map (λ p. string_bytes p.name) parts.old.items }
+    ensures parts { KeepsParts (Some (seen command.entry)) result parts.old.items parts.new.items }
+    ensures made { EndsMade (Some (seen command.entry)) result }
 {
-    match perform(alloc, depot, out, command) {
+    match perform(alloc, depot, out, parts, command) {
         Ok(()) => Status::Done,
         Err(Halt::Refused(broken)) => refuse(alloc, out, &broken),
         Err(Halt::ReadFault) => Status::ReadFault,
@@ -87,12 +142,31 @@ pub fn run<D: Depot, O: Sink>(
 
     // No fault is told without its cause, and none is passed over.
     ensures causes { let world = world_of D.held D.read_faults D.write_faults O.held O.faults in
-        HasCauses result (IsStrayFor (command_of words.now.items) (D.held depot.new))
+        let faces = map (λ p. let f : Face = record {
+          state = (⟦<dyn Part as Part>⟧ p.part.vtable).state p.part.value;
+          drives = (⟦<dyn Part as Part>⟧ p.part.vtable).driven_in;
+          sees = (⟦<dyn Part as Part>⟧ p.part.vtable).after_seeing;
+        } in f) in
+        let lent : Lent = record {
+          names = map (λ p. string_bytes p.name) parts.old.items;
+          faces = faces parts.old.items;
+        } in
+        HasCauses result (IsStrayFor lent (command_of words.now.items) (D.held depot.new))
         (world depot.old out.old) (world depot.new out.new) }
 
-    // What is printed and stored, where the objects tell it.
+    // What is printed and stored, and how the parts move by it, where the objects tell it.
     ensures content { let world = world_of D.held D.read_faults D.write_faults O.held O.faults in
-        Leaves (Did (command_of words.now.items) result) (world depot.old out.old) (world depot.new out.new) }
+        let faces = map (λ p. let f : Face = record {
+          state = (⟦<dyn Part as Part>⟧ p.part.vtable).state p.part.value;
+          drives = (⟦<dyn Part as Part>⟧ p.part.vtable).driven_in;
+          sees = (⟦<dyn Part as Part>⟧ p.part.vtable).after_seeing;
+        } in f) in
+        let lent : Lent = record {
+          names = map (λ p. string_bytes p.name) parts.old.items;
+          faces = faces parts.old.items;
+        } in
+        Leaves (Did lent (faces parts.new.items) (command_of words.now.items) result)
+        (world depot.old out.old) (world depot.new out.new) }
 
     // A fault of a read, or want of memory, comes before anything is printed.
     ensures silent { IsSilent result (O.held out.old) (O.held out.new) }
@@ -104,10 +178,17 @@ pub fn run<D: Depot, O: Sink>(
     // The usage line, where the sink tells it.
     ensures usage { TellsUsage (command_of words.now.items) result (O.held out.old) (O.held out.new) }
 
-    ensures parts { parts.new.items ≡ parts.old.items }
+    // The list of parts stays, and each keeps its name.
+    ensures names { map (λ p. string_bytes p.name) parts.new.items ≡ map (λ p. string_bytes p.name) parts.old.items }
+
+    // Whatever the files are, only a board that was done or failed to write moves parts.
+    ensures parts { KeepsParts (command_of words.now.items) result parts.old.items parts.new.items }
+
+    // What is made of a number is never refused, and nothing is read for it.
+    ensures made { EndsMade (command_of words.now.items) result }
 {
     match command_of(alloc, words) {
-        Ok(Some(command)) => run_command(alloc, depot, out, command),
+        Ok(Some(command)) => run_command(alloc, depot, out, parts, command),
         Ok(None) => say(out, USAGE.as_bytes(), Status::Usage),
         Err(AllocError) => Status::NoMemory,
     }

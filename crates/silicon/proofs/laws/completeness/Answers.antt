@@ -2,16 +2,16 @@ use Rattle.silicon.proofs.Completeness as all
 use Rattle.silicon.proofs.laws.completeness.Goals as goal
 
 pub returns-clause-owed : goal.returns-clause-owed
-returns-clause-owed c = λ command status before after old new fault run told kept still first.
-    all.owed c.one_first_fault.ensures command before after old new fault first still status run told kept
+returns-clause-owed c = λ lent left command status before after old new fault run told kept still first.
+    all.owed c.one_first_fault.ensures lent left command before after old new fault first still status run told kept
 
 pub returns-clause-usage : goal.returns-clause-usage
 returns-clause-usage c = all.no_form
 
 pub returns-clause-untold : goal.returns-clause-untold
-returns-clause-untold c = λ words status before after run untold still. (
-  all.no_read_fault words status before after run untold still,
-  all.no_write_fault words status before after run still,
+returns-clause-untold c = λ lent left words status before after run untold still. (
+  all.no_read_fault lent left words status before after run untold still,
+  all.no_write_fault lent left words status before after run still,
 )
 
 pub returns-clause-faults : goal.returns-clause-faults

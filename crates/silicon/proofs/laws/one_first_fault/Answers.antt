@@ -7,4 +7,5 @@ returns c = single (record {
   run = c.one_fault.ensures.run;
   masks = c.one_mask_fault.ensures;
   circuit = c.one_circuit_fault.ensures;
+  links = c.one_link_fault.ensures;
 })
