@@ -1,0 +1,12 @@
+use Rattle.sequencer_cases.proofs.Fitting.{inputs_fit, zeros_long}
+use Rattle.sequencer_cases.proofs.running.agree.Goals as goal
+
+pub clock-requires-clause-inputs : goal.clock-requires-clause-inputs
+clock-requires-clause-inputs c =
+    inputs_fit c.args.machine.now.program c.pads-pads.result.now c.in_ok-inputs.inputs c.pads-pads.ensures
+    c.in_ok-inputs.ensures
+
+pub clock-requires-clause-outputs : goal.clock-requires-clause-outputs
+clock-requires-clause-outputs c =
+    zeros_long c.args.machine.now.program c.pads-pads.result.now c.in_ok-outputs.outputs c.pads-pads.ensures
+    c.in_ok-outputs.ensures

@@ -1,0 +1,161 @@
+//! Runs of programs beside their transfers.
+
+ghost use Rattle.std.specs.Prelude.{◌≡◌, length, IfOk, replicate};
+
+use crate::dice::Dice;
+use crate::grammar::{Rule, rules_of, write_text};
+use crate::inputs::inputs_of;
+use crate::stepper::{shows, step};
+use mp_base::{List, NoMemory, Pad};
+use mp_checker::Checked;
+use mp_source::check_source;
+use process_sequencer::sequence;
+use rtl_check::is_sound;
+use rtl_form::Rtl;
+use source_run::Machine;
+use std::alloc::{AllocError, Global};
+use std::io;
+
+/// The clocks of a program that is written down, and of a random one.
+const CLOCKS: u32 = 40;
+
+const FEW_CLOCKS: u32 = 16;
+
+const PROGRAMS: u32 = 200;
+
+const DEPTH: u32 = 6;
+
+const MOST_BYTES: usize = 1_048_576;
+
+/// Whether transfers are sound, and in how many of some clocks they show what the program shows.
+#[derive(Drop)]
+pub(crate) struct Run {
+    pub sound: bool,
+    pub clocks: u32,
+    pub same: u32,
+}
+
+fn zeros(alloc: Global, pads: &List<Pad>) -> Result<List<u64>, AllocError>
+    ensures { IfOk result (λ zeros. zeros ≡ replicate (length pads.now) 0) }
+{
+    Ok(List::from_vec(vec![in alloc; 0; pads.len()]?))
+}
+
+// Whether the transfers show in a clock what the program shows.
+fn agree(
+    alloc: Global,
+    machine: &mut Machine<'_>,
+    rtl: &Rtl,
+    stored: &mut [u64],
+    given: Option<&str>,
+    dice: &mut Dice,
+) -> Result<bool, NoMemory> {
+    let pads = machine.pads();
+    let inputs = inputs_of(alloc, &pads.inputs, given, dice)?;
+    let mut outputs = zeros(alloc, &pads.outputs)?;
+    machine.clock(&inputs, &mut outputs);
+    let cells = step(alloc, rtl, stored, inputs.as_slice())?;
+    Ok(shows(rtl, &cells, outputs.as_slice()))
+}
+
+// In how many of so many clocks they do: first those whose inputs are given, then others.
+fn agreed(
+    alloc: Global,
+    checked: &Checked,
+    rtl: &Rtl,
+    given: &str,
+    count: u32,
+    dice: &mut Dice,
+) -> Result<u32, NoMemory> {
+    let mut machine = Machine::open(alloc, checked)?;
+    let mut stored = vec![in alloc; 0; rtl.cells.len()]?;
+    let mut clocks = given.split(',');
+    let mut same = 0u32;
+    for _ in 0..count {
+        let given = clocks.next().filter(|clock| !clock.is_empty());
+        if agree(alloc, &mut machine, rtl, &mut stored, given, dice)? {
+            same = same.saturating_add(1);
+        }
+    }
+    Ok(same)
+}
+
+// The run of a program, where there is memory.
+fn run_of(alloc: Global, checked: &Checked, given: &str, clocks: u32, seed: u64) -> Option<Run> {
+    let rtl = sequence(alloc, checked).ok()?;
+    let mut dice = Dice::new(seed);
+    let same = agreed(alloc, checked, &rtl, given, clocks, &mut dice).ok()?;
+    Some(Run {
+        sound: is_sound(&rtl),
+        clocks,
+        same,
+    })
+}
+
+// The program of a source that is not too long and breaks no rule.
+fn program_of(alloc: Global, source: &[u8]) -> Option<Checked> {
+    if source.len() > MOST_BYTES {
+        return None;
+    }
+    check_source(alloc, source).ok()
+}
+
+/// The run of a source, where it breaks no rule and there is memory.
+pub(crate) fn run_of_source(alloc: Global, source: &[u8], given: &str) -> Option<Run> {
+    let checked = program_of(alloc, source)?;
+    run_of(alloc, &checked, given, CLOCKS, 1)
+}
+
+// A random program, where the text that comes up breaks no rule: it may weigh too much.
+fn random_program(alloc: Global, rules: &[Rule<'_>], seed: u64) -> Option<Checked> {
+    let mut dice = Dice::new(seed);
+    let mut source = Vec::new(alloc);
+    write_text(&mut source, rules, b'P', &mut dice, DEPTH).ok()?;
+    program_of(alloc, &source)
+}
+
+/// What is counted of runs.
+#[derive(Drop)]
+struct Tally {
+    programs: u32,
+    sound: u32,
+    clocks: u32,
+    same: u32,
+}
+
+impl Tally {
+    fn add(&mut self, run: Option<Run>) {
+        self.programs = self.programs.saturating_add(1);
+        if let Some(run) = run {
+            self.sound = self.sound.saturating_add(u32::from(run.sound));
+            self.clocks = self.clocks.saturating_add(run.clocks);
+            self.same = self.same.saturating_add(run.same);
+        }
+    }
+}
+
+/// The runs of random programs.
+pub(crate) fn show_random(rt: &HostRuntime, grammar: &[u8]) -> io::Result<()> {
+    let rules = rules_of(rt.alloc(), grammar)?;
+    let mut tally = Tally {
+        programs: 0,
+        sound: 0,
+        clocks: 0,
+        same: 0,
+    };
+    for seed in 0..2 * PROGRAMS {
+        let seed = u64::from(seed);
+        if tally.programs < PROGRAMS {
+            if let Some(checked) = random_program(rt.alloc(), &rules, seed) {
+                tally.add(run_of(rt.alloc(), &checked, "", FEW_CLOCKS, seed));
+            }
+        }
+    }
+    let Tally {
+        programs,
+        sound,
+        clocks,
+        same,
+    } = tally;
+    println!(rt; "{programs} random programs: {sound} sound, the same in {same} of {clocks} clocks")
+}
