@@ -6,6 +6,7 @@ use Rattle.lam_geom.specs.declared.rect.Rect.{Rect}
 use Rattle.lam_geom.specs.declared.label.FlatLabel.{FlatLabel}
 use Rattle.cif_form.specs.declared.command.Command.TheVariants.{Finish}
 use Rattle.cif_form.specs.declared.command.Item.{Item}
+use Rattle.cif_form.specs.declared.limits.TheConstants.{NUMBER_LIMIT}
 use Rattle.cif_form.specs.Fits.{Fits}
 use Rattle.cif_form.specs.Expansion.{Definition, Stands, IsInside, item_at}
 use Rattle.cif_form.specs.Walk.{Frame, State, Visit, WalkEnd, Walks, FileWalks, walk_limit}
@@ -63,8 +64,8 @@ definition_of items n s = record { number = pos n; scale = scale_of s.ratio; bod
 pub record IsAnyRatio (r : Ratio) : Type 0 where
   pub a : pos 0 ≤ℤ r.a
   pub b : pos 0 ≤ℤ r.b
-  pub short_a : r.a ≤ℤ pos 2_147_483_647
-  pub short_b : r.b ≤ℤ pos 2_147_483_647
+  pub short_a : r.a ≤ℤ pos (NUMBER_LIMIT - 1)
+  pub short_b : r.b ≤ℤ pos (NUMBER_LIMIT - 1)
 
 pub record IsSymbol (items : List Item) (s : Symbol) : Type 0 where
   pub ratio : IsAnyRatio s.ratio

@@ -3,16 +3,16 @@
 ghost use Rattle.std.specs.Prelude.{◌≡◌, ◌≢◌, ◌<◌, ◌≤◌, ◌^◌, ℕ, List, ℤ, Option, All, length, take, drop, IfOk, IfSome, IfNone};
 ghost use Rattle.std.specs.Bool.{OnTrue, OnFalse};
 ghost use Rattle.lam_geom.specs.declared.layer.Layer.{Layer};
+ghost use Rattle.cif_form.specs.declared.limits.TheConstants.{NUMBER_LIMIT};
 ghost use Rattle.cif_form.specs.Text.{Digits};
 ghost use Rattle.cif_form.specs.Place.{layer_name};
 ghost use Rattle.cif_form.specs.Labels.{IsSpace, Coordinate};
 ghost use Rattle.cif_flat.specs.Labelling.{IsLabelled, Begins, IsNextWord, Tail, IsLabelLayer};
 
+use cif_form::NUMBER_LIMIT;
 use lam_geom::{FlatLabel, Layer};
 use mp_base::{Name, is_digit};
 use std::alloc::{AllocError, Global};
-
-const SMALL: u64 = 2_147_483_648;
 
 fn is_space(byte: u8) -> bool
     ensures space { OnTrue result (IsSpace byte) }
@@ -66,10 +66,10 @@ fn next_word(text: &[u8]) -> Option<(&[u8], &[u8])>
     Some((&rest[..size], &rest[size..]))
 }
 
-/// The number that these digits write, if they are digits and it is below 2^31.
+/// The number that these digits write, if they are digits and it is below the limit.
 fn natural(digits: &[u8]) -> Option<u64>
-    ensures some { IfSome result (λ n. (n < 2 ^ 31) × Digits n digits.now) }
-    ensures none { IfNone result ((n : ℕ) → n < 2 ^ 31 → ¬ Digits n digits.now) }
+    ensures some { IfSome result (λ n. (n < NUMBER_LIMIT) × Digits n digits.now) }
+    ensures none { IfNone result ((n : ℕ) → n < NUMBER_LIMIT → ¬ Digits n digits.now) }
 {
     if digits.is_empty() {
         return None;
@@ -80,7 +80,7 @@ fn natural(digits: &[u8]) -> Option<u64>
             return None;
         }
         number = number * 10 + (*digit - b'0') as u64;
-        if number >= SMALL {
+        if number >= NUMBER_LIMIT {
             return None;
         }
     }

@@ -6,6 +6,7 @@ use Rattle.cif_form.specs.declared.command.Turn.{Turn}
 use Rattle.cif_form.specs.declared.command.Turn.TheVariants.{Move, Rotate}
 use Rattle.cif_form.specs.declared.command.Command.{Command}
 use Rattle.cif_form.specs.declared.command.Command.TheVariants.{Polygon, Box, Round, Wire, Layer, Start, Delete, Call, User, Comment}
+use Rattle.cif_form.specs.declared.limits.TheConstants.{NUMBER_LIMIT}
 use Rattle.cif_form.specs.Text.{IsShortName, IsBalanced}
 
 abbrev pub point_numbers : Point → List ℤ
@@ -35,9 +36,9 @@ signed_numbers (Wire wide path) = flat_map point_numbers path
 signed_numbers (Call number turns) = flat_map turn_numbers turns
 signed_numbers _ = []
 
--- at most 2^31 - 1 in size
+-- under 2^31 in size
 abbrev pub IsSmall : ℤ → Type 0
-IsSmall z = nat_abs z < 2 ^ 31
+IsSmall z = nat_abs z < NUMBER_LIMIT
 
 -- what is no number of it is as the grammar wants it
 abbrev pub IsFormed : Command → Type 0

@@ -6,10 +6,11 @@ ghost use Rattle.cif_form.specs.Text.{IsDigit, IsUpper, IsShortName, IsBalanced}
 ghost use Rattle.cif_form.specs.Fits.{IsSmall, point_numbers, turn_numbers, Fits};
 
 use crate::command::{Command, Turn};
+use crate::limits::NUMBER_LIMIT;
 use crate::turns::Turns;
 use lam_geom::Point;
 
-const LIMIT: i64 = 1 << 31;
+const LIMIT: i64 = NUMBER_LIMIT as i64;
 
 fn is_small(number: i64) -> bool
     ensures { IsTrue result ↔ IsSmall number }

@@ -13,5 +13,5 @@ pub use laws::{
     scan_is_unique, scanned_commands_fit, walk_is_counted, walk_is_expansion, walk_is_unique,
     written_is_read, written_is_whole,
 };
-pub use limits::WALK_LIMIT;
+pub use limits::{NUMBER_LIMIT, WALK_LIMIT};
 pub use turns::{Turns, TurnsIter};

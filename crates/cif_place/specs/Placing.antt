@@ -1,8 +1,9 @@
 -- Scales, edges and placements, as what they stand for.
-use Rattle.std.specs.Prelude.{ℕ, ◌^◌, Bool, true, false, not, ℤ, pos, neg_ℤ, ◌+ℤ◌, ◌-ℤ◌, ◌<ℤ◌, ◌≤ℤ◌}
+use Rattle.std.specs.Prelude.{ℕ, ◌^◌, ◌-◌, Bool, true, false, not, ℤ, pos, neg_ℤ, ◌+ℤ◌, ◌-ℤ◌, ◌<ℤ◌, ◌≤ℤ◌}
 use Rattle.lam_geom.specs.declared.layer.Layer.{Layer}
 use Rattle.lam_geom.specs.declared.place.Point.{Point}
 use Rattle.lam_geom.specs.declared.rect.Rect.{Rect}
+use Rattle.cif_form.specs.declared.limits.TheConstants.{NUMBER_LIMIT}
 use Rattle.cif_form.specs.Place.{Scale}
 use Rattle.cif_place.specs.declared.ratio.Ratio.{Ratio}
 use Rattle.cif_place.specs.declared.edges.Edges.{Edges}
@@ -13,9 +14,9 @@ use Rattle.cif_place.specs.declared.placement.Placement.{Placement}
 abbrev pub IsWithin : ℕ → ℤ → Type 0
 IsWithin n z = (neg_ℤ (pos n) ≤ℤ z) × (z ≤ℤ pos n)
 
--- at most 2^31 - 1 in size
+-- under the limit in size
 abbrev pub IsShort : ℤ → Type 0
-IsShort z = IsWithin 2_147_483_647 z
+IsShort z = IsWithin (NUMBER_LIMIT - 1) z
 
 abbrev pub IsShortPoint : Point → Type 0
 IsShortPoint p = IsShort p.x × IsShort p.y
@@ -27,8 +28,8 @@ scale_of r = record { a = r.a; b = r.b }
 pub record IsFitRatio (r : Ratio) : Type 0 where
   pub a : pos 0 <ℤ r.a
   pub b : pos 0 <ℤ r.b
-  pub short_a : r.a ≤ℤ pos 2_147_483_647
-  pub short_b : r.b ≤ℤ pos 2_147_483_647
+  pub short_a : r.a ≤ℤ pos (NUMBER_LIMIT - 1)
+  pub short_b : r.b ≤ℤ pos (NUMBER_LIMIT - 1)
 
 abbrev pub turned : Extent → Extent
 turned e = record { across = e.up; up = e.across }

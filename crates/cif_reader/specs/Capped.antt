@@ -1,13 +1,14 @@
--- Commands whose numbers are cut at 2^31.
+-- Commands whose numbers are cut at the limit.
 use Rattle.std.specs.Prelude.{ℕ, suc, min, map, ℤ, pos, negsuc, neg_ℤ, List}
 use Rattle.lam_geom.specs.declared.place.Point.{Point}
+use Rattle.cif_form.specs.declared.limits.TheConstants.{NUMBER_LIMIT}
 use Rattle.cif_form.specs.declared.command.Turn.{Turn}
 use Rattle.cif_form.specs.declared.command.Turn.TheVariants.{Move, MirrorX, MirrorY, Rotate}
 use Rattle.cif_form.specs.declared.command.Command.{Command}
 use Rattle.cif_form.specs.declared.command.Command.TheVariants.{Polygon, Box, Round, Wire, Layer, Start, Finish, Delete, Call, User, Comment}
 
 abbrev pub cut : ℕ → ℕ
-cut n = min n 2147483648
+cut n = min n NUMBER_LIMIT
 
 abbrev pub cut_number : ℤ → ℤ
 cut_number (pos n) = pos (cut n)

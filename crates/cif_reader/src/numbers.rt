@@ -1,25 +1,23 @@
 //! Numbers, points, paths and turns.
 
 ghost use Rattle.std.specs.Prelude.{◌≡◌, ℕ, ◌≤◌, ◌<◌, length, drop, IfOk, IfSome, MatchOption};
+ghost use Rattle.cif_form.specs.declared.limits.TheConstants.{NUMBER_LIMIT};
 ghost use Rattle.cif_form.specs.Readers.{natural_from, integer_from, signed_from, point_from, path_here, turn_from, turns_here, past_blanks, then_separator, mirror_from};
 ghost use Rattle.cif_reader.specs.Capped.{cut, cut_number, cut_point, cut_path, cut_turn, cut_turns};
 ghost use Rattle.cif_reader.specs.Finding.{Answers, IsFound};
 
 use crate::bytes::{number_follows, past_blanks, past_separators, separator};
 use crate::found::Found;
-use cif_form::{Turn, Turns};
+use cif_form::{NUMBER_LIMIT, Turn, Turns};
 use lam_geom::Point;
 use mp_base::{List, is_digit};
 use std::alloc::{AllocError, Global};
-
-// The least size that is too much for a number.
-const LIMIT: u64 = 1 << 31;
 
 // The digits that begin here, one at least.
 fn natural(bytes: &[u8], at: usize) -> Option<Found<u64>>
     requires { at ≤ length bytes.now }
     ensures answers { Answers cut natural_from bytes.now at result }
-    ensures small { IfSome result (λ r. r.value ≤ 2147483648) }
+    ensures small { IfSome result (λ r. r.value ≤ NUMBER_LIMIT) }
     ensures further { IfSome result (λ r. at < r.end) }
 {
     if at == bytes.len() || !is_digit(bytes[at]) {
@@ -30,7 +28,7 @@ fn natural(bytes: &[u8], at: usize) -> Option<Found<u64>>
         if !is_digit(bytes[end]) {
             return Some(Found { value, end });
         }
-        value = (value * 10 + (bytes[end] - b'0') as u64).min(LIMIT);
+        value = (value * 10 + (bytes[end] - b'0') as u64).min(NUMBER_LIMIT);
     }
     Some(Found {
         value,

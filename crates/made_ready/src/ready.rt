@@ -1,6 +1,7 @@
 //! What is made of a number, read: it breaks no rule.
 
 ghost use Rattle.std.specs.Prelude.{◌≡◌, ◌≤◌, None, Some, length, IfOk};
+ghost use Rattle.stimulus.specs.declared.limits.TheConstants.{PAD_LIMIT};
 ghost use Rattle.mp_program.specs.Pads.{ArePadsOf};
 ghost use Rattle.stimulus.specs.declared.given.Stimulus as spec;
 ghost use Rattle.stimulus.specs.Inputs.{inputs_of};
@@ -43,7 +44,7 @@ fn unbroken_source(alloc: Global, text: &[u8]) -> Result<Checked, NoMemory>
 // The stimulus of a text of which it is known that it breaks no rule.
 fn unbroken_stimulus(alloc: Global, text: &[u8], checked: &Checked) -> Result<Stimulus, NoMemory>
     requires short { length text.now ≤ 2000 }
-    requires few { length checked.now.pads.inputs ≤ 256 }
+    requires few { length checked.now.pads.inputs ≤ PAD_LIMIT }
     requires whole { (given : spec.Stimulus) × IsStimulus text.now (Some checked.now.pads) given }
     ensures { IfOk result (IsStimulus text.now (Some checked.now.pads)) }
 {
@@ -65,7 +66,7 @@ pub fn make_ready(alloc: Global, seed: u64) -> Result<Ready, NoMemory>
     ensures stimulus { IfOk result (λ ready. IsStimulus (stimulus_text seed) (Some ready.checked.pads) ready.stimulus) }
     ensures known { IfOk result (λ ready. ArePadsOf ready.checked.program ready.checked.pads) }
     ensures padded { IfOk result (λ ready. ArePadsOf ready.checked.program ready.stimulus.pads) }
-    ensures few_inputs { IfOk result (λ ready. length ready.stimulus.pads.inputs ≤ 256) }
+    ensures few_inputs { IfOk result (λ ready. length ready.stimulus.pads.inputs ≤ PAD_LIMIT) }
     ensures one_output { IfOk result (λ ready. length ready.stimulus.pads.outputs ≡ 1) }
     ensures clocks { IfOk result (λ ready. length ready.stimulus.clocks ≡ 65) }
     ensures settled { IfOk result (λ ready. SettlesBehindFirst ready.checked.program (inputs_of ready.stimulus)) }

@@ -2,8 +2,9 @@
 use Rattle.std.specs.Prelude.{ℕ, List, Option}
 use Rattle.std.specs.FinMap.{get}
 use Rattle.mp_base.specs.Outside.{Files}
+use Rattle.mask_files.specs.declared.limits.TheConstants.{MASK_LIMIT}
 use Rattle.mask_net.specs.Masks.{OfMask}
 use Rattle.outcome.specs.Order.{Fault, OfFile}
 
 abbrev pub MaskFault : List ℕ → Files → Option Fault → Type 0
-MaskFault name files = OfFile 268_435_456 OfMask name (get files name)
+MaskFault name files = OfFile MASK_LIMIT OfMask name (get files name)

@@ -2,6 +2,8 @@
 #![tactic(auto)]
 
 pub mod laws;
+mod limits;
 mod masks;
 
+pub use limits::MASK_LIMIT;
 pub use masks::read_network;

@@ -6,14 +6,12 @@ ghost use Rattle.mask_net.specs.Masks.{IsNetOf};
 ghost use Rattle.outcome.specs.Halt.{HasReason};
 ghost use Rattle.mask_files.specs.Faults.{MaskFault};
 
+use crate::limits::MASK_LIMIT;
 use mask_net::network_of;
 use mp_base::Depot;
 use outcome::{Halt, read_text};
 use std::alloc::Global;
 use switch_net::Network;
-
-// The longest file of masks, in bytes.
-const LIMIT: usize = 268_435_456;
 
 /// Reads the network of a file of masks that breaks no rule.
 ///
@@ -27,6 +25,6 @@ pub fn read_network<D: Depot>(alloc: Global, depot: &mut D, name: &str) -> Resul
         (D.read_faults depot.old) (D.read_faults depot.new) result }
     ensures writes { D.write_faults depot.new ≡ D.write_faults depot.old }
 {
-    let bytes = read_text(alloc, depot, name, LIMIT)?;
+    let bytes = read_text(alloc, depot, name, MASK_LIMIT)?;
     Ok(network_of(alloc, bytes)?)
 }

@@ -2,6 +2,7 @@
 
 ghost use Rattle.std.specs.Prelude.{◌≡◌, ◌≤◌, length, IfOk, IfSome};
 ghost use Rattle.mp_base.specs.Outside.{Keeps, bytes_of};
+ghost use Rattle.stimulus.specs.declared.limits.TheConstants.{CLOCK_LIMIT, PAD_LIMIT};
 ghost use Rattle.outcome.specs.Order.{IsStrayBy};
 ghost use Rattle.outcome.specs.World.{world_of, HasCauses, Leaves};
 ghost use Rattle.outcome.specs.Halt.{HasReason, Ends, IsQuiet, status_of};
@@ -26,8 +27,8 @@ struct SetUp {
 // Reads and judges the files.
 fn prepare<D: Depot>(alloc: Global, depot: &mut D, cif: &str, stimulus: &str) -> Result<SetUp, Halt>
     ensures held { Keeps (D.held depot.old) (D.held depot.new) }
-    ensures few_inputs { IfOk result (λ s. length s.given.pads.inputs ≤ 256) }
-    ensures few_clocks { IfOk result (λ s. length s.given.clocks ≤ 65536) }
+    ensures few_inputs { IfOk result (λ s. length s.given.pads.inputs ≤ PAD_LIMIT) }
+    ensures few_clocks { IfOk result (λ s. length s.given.clocks ≤ CLOCK_LIMIT) }
     ensures set_up { IfOk result (λ s. IfSome (D.held depot.new)
         (λ files. IsSetUp (bytes_of files cif.now) (bytes_of files stimulus.now) s.network s.given)) }
     ensures reason { HasReason (SetUpFault cif.now stimulus.now) (D.held depot.new)

@@ -2,6 +2,7 @@
 use Rattle.std.proofs.Common.{List, ℕ, None}
 use Rattle.std.specs.FinMap.{get}
 use Rattle.mp_base.specs.Outside.{Files, bytes_of}
+use Rattle.source_files.specs.declared.limits.TheConstants.{TEXT_LIMIT}
 use Rattle.mp_source.specs.Source.{OfSource}
 use Rattle.outcome.proofs.Determined.{IsDetermined, one_of_two, one_of_file}
 use Rattle.source_files.specs.Faults.{SourceFault, StimulusFault, RunFault, PadsFault}
@@ -18,16 +19,16 @@ pub record Laws : Type 0 where
 
 module _ (laws : Laws) (files : Files) where
   pub one_of_headed : (stimulus : List ℕ) → IsDetermined (PadsFault None stimulus files)
-  one_of_headed stimulus = one_of_file 1048576 (OfPads None) stimulus (get files stimulus)
+  one_of_headed stimulus = one_of_file TEXT_LIMIT (OfPads None) stimulus (get files stimulus)
       (one_of_pads laws.first laws.whole None (bytes_of files stimulus))
 
   pub one_of_source : (source : List ℕ) → IsDetermined (SourceFault source files)
-  one_of_source source = one_of_file 1048576 OfSource source (get files source) (laws.verdict (bytes_of files source))
+  one_of_source source = one_of_file TEXT_LIMIT OfSource source (get files source) (laws.verdict (bytes_of files source))
 
   pub one_of_run : (source stimulus : List ℕ) → IsDetermined (RunFault source stimulus files)
   one_of_run source stimulus =
       one_of_two (SourceFault source files) (StimulusFault (bytes_of files source) stimulus files)
       (one_of_source source)
-      (one_of_file 1048576 (OfStimulus (bytes_of files source)) stimulus (get files stimulus)
+      (one_of_file TEXT_LIMIT (OfStimulus (bytes_of files source)) stimulus (get files stimulus)
       (one_of_stimulus laws.first laws.whole (one_program laws.source) (bytes_of files source)
       (bytes_of files stimulus)))

@@ -25,6 +25,7 @@ use Rattle.source_files.specs.Faults.{PadsFault, StimulusFault}
 use Rattle.mp_base.specs.Outside.{Files, bytes_of}
 use Rattle.mp_checker.specs.Checking.{CheckedProgram}
 use Rattle.std.specs.FinMap.{get}
+use Rattle.source_files.specs.declared.limits.TheConstants.{TEXT_LIMIT}
 use Rattle.outcome.proofs.Reasons.{file_map}
 use Rattle.source_files.proofs.Clocks.{few_clocks}
 use Rattle.outcome.proofs.Determined.{IsDetermined}
@@ -157,7 +158,7 @@ pub for_source : (checked : CheckedProgram) (name : List ℕ) (held : Option Fil
     → IfSome held (λ files. (fault : Option Fault) → PadsFault (Some checked.pads) name files fault
     → StimulusFault (bytes_of files origin) name files fault)
 for_source checked name None a origin is = tt
-for_source checked name (Some files) a origin is = file_map 1048576 (OfPads (Some checked.pads))
+for_source checked name (Some files) a origin is = file_map TEXT_LIMIT (OfPads (Some checked.pads))
     (OfStimulus (bytes_of files origin)) name (get files name)
     (λ broken rules. record {
       program = checked.program;

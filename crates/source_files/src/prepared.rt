@@ -2,6 +2,7 @@
 
 ghost use Rattle.std.specs.Prelude.{◌≡◌, ◌≤◌, Some, length, IfOk, IfSome};
 ghost use Rattle.mp_base.specs.Outside.{Keeps, bytes_of};
+ghost use Rattle.stimulus.specs.declared.limits.TheConstants.{CLOCK_LIMIT, PAD_LIMIT};
 ghost use Rattle.mp_program.specs.Pads.{ArePadsOf};
 ghost use Rattle.stimulus.specs.Reading.{IsStimulus};
 ghost use Rattle.mp_source.specs.Source.{IsSource};
@@ -36,8 +37,8 @@ pub fn prepare<D: Depot>(
 ) -> Result<Prepared, Halt>
     ensures held { Keeps (D.held depot.old) (D.held depot.new) }
     ensures padded { IfOk result (λ made. ArePadsOf made.checked.program made.stimulus.pads) }
-    ensures few_inputs { IfOk result (λ made. length made.stimulus.pads.inputs ≤ 256) }
-    ensures few_clocks { IfOk result (λ made. length made.stimulus.clocks ≤ 65536) }
+    ensures few_inputs { IfOk result (λ made. length made.stimulus.pads.inputs ≤ PAD_LIMIT) }
+    ensures few_clocks { IfOk result (λ made. length made.stimulus.clocks ≤ CLOCK_LIMIT) }
     ensures source { IfOk result (λ made. IfSome (D.held depot.new)
         (λ files. IsSource (bytes_of files source.now) made.checked.program)) }
     ensures stimulus { IfOk result (λ made. IfSome (D.held depot.new)

@@ -6,14 +6,12 @@ ghost use Rattle.mp_source.specs.Source.{IsSource};
 ghost use Rattle.outcome.specs.Halt.{HasReason};
 ghost use Rattle.source_files.specs.Faults.{SourceFault};
 
+use crate::limits::TEXT_LIMIT;
 use mp_base::Depot;
 use mp_checker::Checked;
 use mp_source::check_source;
 use outcome::{Halt, read_text};
 use std::alloc::Global;
-
-// The longest source, in bytes.
-const LIMIT: usize = 1048576;
 
 /// Reads a source that breaks no rule.
 ///
@@ -28,6 +26,6 @@ pub fn read_source<D: Depot>(alloc: Global, depot: &mut D, name: &str) -> Result
         (D.read_faults depot.old) (D.read_faults depot.new) result }
     ensures writes { D.write_faults depot.new ≡ D.write_faults depot.old }
 {
-    let text = read_text(alloc, depot, name, LIMIT)?;
+    let text = read_text(alloc, depot, name, TEXT_LIMIT)?;
     Ok(check_source(alloc, &text)?)
 }

@@ -2,6 +2,8 @@
 
 ghost use Rattle.std.specs.Prelude.{◌≡◌, ◌≤◌, None, Some, length, IfOk, IfSome};
 ghost use Rattle.mp_base.specs.Outside.{Keeps, bytes_of};
+ghost use Rattle.source_files.specs.declared.limits.TheConstants.{TEXT_LIMIT};
+ghost use Rattle.stimulus.specs.declared.limits.TheConstants.{CLOCK_LIMIT, PAD_LIMIT};
 ghost use Rattle.mp_program.specs.Pads.{ArePadsOf};
 ghost use Rattle.stimulus.specs.Reading.{IsStimulus};
 ghost use Rattle.mp_source.specs.Source.{IsJudged};
@@ -9,6 +11,7 @@ ghost use Rattle.outcome.specs.Halt.{HasReason};
 ghost use Rattle.source_files.specs.Stimulus.{OfPads};
 ghost use Rattle.source_files.specs.Faults.{PadsFault};
 
+use crate::limits::TEXT_LIMIT;
 use mp_base::{Depot, Refusal};
 use mp_checker::Checked;
 use mp_rules::laws::few_namings;
@@ -16,17 +19,14 @@ use outcome::{Halt, read_text};
 use std::alloc::Global;
 use stimulus::Stimulus;
 
-// The longest stimulus, in bytes.
-const LIMIT: usize = 1048576;
-
 // Judges a stimulus for a checked program.
 fn check_stimulus(alloc: Global, text: &[u8], checked: &Checked) -> Result<Stimulus, Refusal>
-    requires small { length text.now ≤ 1048576 }
+    requires small { length text.now ≤ TEXT_LIMIT }
     ensures judged { IsJudged (OfPads (Some checked.now.pads) text.now) result }
     ensures read { IfOk result (IsStimulus text.now (Some checked.now.pads)) }
     ensures padded { IfOk result (λ given. ArePadsOf checked.now.program given.pads) }
-    ensures few_inputs { IfOk result (λ given. length given.pads.inputs ≤ 256) }
-    ensures few_clocks { IfOk result (λ given. length given.clocks ≤ 65536) }
+    ensures few_inputs { IfOk result (λ given. length given.pads.inputs ≤ PAD_LIMIT) }
+    ensures few_clocks { IfOk result (λ given. length given.clocks ≤ CLOCK_LIMIT) }
 {
     checked.unbroken();
     few_namings();
@@ -46,21 +46,21 @@ pub fn read_stimulus<D: Depot>(
 ) -> Result<Stimulus, Halt>
     ensures held { Keeps (D.held depot.old) (D.held depot.new) }
     ensures padded { IfOk result (λ given. ArePadsOf checked.now.program given.pads) }
-    ensures few_inputs { IfOk result (λ given. length given.pads.inputs ≤ 256) }
-    ensures few_clocks { IfOk result (λ given. length given.clocks ≤ 65536) }
+    ensures few_inputs { IfOk result (λ given. length given.pads.inputs ≤ PAD_LIMIT) }
+    ensures few_clocks { IfOk result (λ given. length given.clocks ≤ CLOCK_LIMIT) }
     ensures read { IfOk result (λ given. IfSome (D.held depot.new)
         (λ files. IsStimulus (bytes_of files name.now) (Some checked.now.pads) given)) }
     ensures reason { HasReason (PadsFault (Some checked.now.pads) name.now) (D.held depot.new)
         (D.read_faults depot.old) (D.read_faults depot.new) result }
     ensures writes { D.write_faults depot.new ≡ D.write_faults depot.old }
 {
-    let text = read_text(alloc, depot, name, LIMIT)?;
+    let text = read_text(alloc, depot, name, TEXT_LIMIT)?;
     Ok(check_stimulus(alloc, &text, checked)?)
 }
 
 // Judges a stimulus that has pads of its own.
 fn check_headed(alloc: Global, text: &[u8]) -> Result<Stimulus, Refusal>
-    requires small { length text.now ≤ 1048576 }
+    requires small { length text.now ≤ TEXT_LIMIT }
     ensures judged { IsJudged (OfPads None text.now) result }
     ensures read { IfOk result (IsStimulus text.now None) }
 {
@@ -74,14 +74,14 @@ fn check_headed(alloc: Global, text: &[u8]) -> Result<Stimulus, Refusal>
 /// A read fault, the first broken rule of L1 and S, or want of memory.
 pub fn read_headed<D: Depot>(alloc: Global, depot: &mut D, name: &str) -> Result<Stimulus, Halt>
     ensures held { Keeps (D.held depot.old) (D.held depot.new) }
-    ensures few_inputs { IfOk result (λ given. length given.pads.inputs ≤ 256) }
-    ensures few_clocks { IfOk result (λ given. length given.clocks ≤ 65536) }
+    ensures few_inputs { IfOk result (λ given. length given.pads.inputs ≤ PAD_LIMIT) }
+    ensures few_clocks { IfOk result (λ given. length given.clocks ≤ CLOCK_LIMIT) }
     ensures read { IfOk result (λ given. IfSome (D.held depot.new)
         (λ files. IsStimulus (bytes_of files name.now) None given)) }
     ensures reason { HasReason (PadsFault None name.now) (D.held depot.new)
         (D.read_faults depot.old) (D.read_faults depot.new) result }
     ensures writes { D.write_faults depot.new ≡ D.write_faults depot.old }
 {
-    let text = read_text(alloc, depot, name, LIMIT)?;
+    let text = read_text(alloc, depot, name, TEXT_LIMIT)?;
     Ok(check_headed(alloc, &text)?)
 }

@@ -8,8 +8,8 @@ pub returns-then-not-is_digit-clause-none : goal.returns-then-not-is_digit-claus
 returns-then-not-is_digit-clause-none c = λ n l h.
     no_digit _ (sym c.is_digit.ensures ∙ c.if-not-is_digit.true) (digit_at c.args.digits.now c.loop-digit.digit-index h.0.1 c.loop-digit-test.true)
 
-pub returns-then-number-ge-SMALL-clause-none : goal.returns-then-number-ge-SMALL-clause-none
-returns-then-number-ge-SMALL-clause-none c = λ n l h.
+pub returns-then-number-ge-NUMBER_LIMIT-clause-none : goal.returns-then-number-ge-NUMBER_LIMIT-clause-none
+returns-then-number-ge-NUMBER_LIMIT-clause-none c = λ n l h.
     let is : is_digit (get_or c.args.digits.now c.loop-digit.digit-index 0) ≡ true = sym c.is_digit.ensures ∙ c.if-not-is_digit.false in
     let value = more_value c.args.digits.now c.loop-digit.digit-index c.loop-digit-test.true is in
     let front = digits_value-take-le 10 c.args.digits.now (c.loop-digit.digit-index + 1) (omega arith) in

@@ -1,10 +1,11 @@
-use Rattle.std.proofs.Common.{◌≡◌, ◌<◌, ◌^◌, take}
+use Rattle.std.proofs.Common.{◌≡◌, ◌<◌, take}
 use Rattle.std.specs.Str.Parse.{AllDigits, digits_value}
+use Rattle.cif_form.specs.declared.limits.TheConstants.{NUMBER_LIMIT}
 use Rattle.cif_flat.proofs.label.natural.Given as goal
 
 abbrev pub invariant-loop-digit : goal.invariant-loop-digit
 invariant-loop-digit l = record {
   digits : AllDigits 10 (take l.digit-index l.digits);
   number : l.number ≡ digits_value 10 (take l.digit-index l.digits);
-  below : l.number < 2 ^ 31;
+  below : l.number < NUMBER_LIMIT;
 }

@@ -1,8 +1,9 @@
 use Rattle.std.specs.FinMap.{get}
 use Rattle.mp_base.specs.Outside.{bytes_of}
+use Rattle.mask_files.specs.declared.limits.TheConstants.{MASK_LIMIT}
 use Rattle.mask_net.specs.Masks.{OfMask}
 use Rattle.outcome.proofs.Determined.{one_of_file}
 use Rattle.mask_files.proofs.laws.one_mask_fault.Goals as goal
 
 pub returns : goal.returns
-returns c = λ cif files. one_of_file 268_435_456 OfMask cif (get files cif) (c.one_verdict.ensures (bytes_of files cif))
+returns c = λ cif files. one_of_file MASK_LIMIT OfMask cif (get files cif) (c.one_verdict.ensures (bytes_of files cif))

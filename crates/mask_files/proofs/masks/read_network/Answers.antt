@@ -1,4 +1,5 @@
 use Rattle.mask_net.specs.Masks.{OfMask}
+use Rattle.mask_files.specs.declared.limits.TheConstants.{MASK_LIMIT}
 use Rattle.mask_files.specs.Faults.{MaskFault}
 use Rattle.mask_files.proofs.Verdicts.{broken_by}
 use Rattle.outcome.proofs.Reasons.{judged_err, judged_ok, reason_err}
@@ -8,12 +9,12 @@ pub returns-in_err-network_of-clause-reason : goal.returns-in_err-network_of-cla
 returns-in_err-network_of-clause-reason g c =
     reason_err (MaskFault c.args.name.now) _ _ _ _ c.from_residual-in_err-network_of.result
     c.from_residual-in_err-network_of.ensures.1
-    (judged_err 268_435_456 OfMask c.args.name.now c.in_ok-bytes.bytes.items _ _ _ c.in_ok-bytes.ensures.text
+    (judged_err MASK_LIMIT OfMask c.args.name.now c.in_ok-bytes.bytes.items _ _ _ c.in_ok-bytes.ensures.text
     c.in_ok-bytes.ensures.reason c.in_err-network_of.field-0.0
     (broken_by c.in_ok-bytes.bytes.items c.in_err-network_of.field-0.0 c.in_err-network_of.ensures.err))
 
 pub returns-clause-reason : goal.returns-clause-reason
 returns-clause-reason g c =
-    judged_ok 268_435_456 OfMask c.args.name.now c.in_ok-bytes.bytes.items _ _ _ c.in_ok-bytes.ensures.text
+    judged_ok MASK_LIMIT OfMask c.args.name.now c.in_ok-bytes.bytes.items _ _ _ c.in_ok-bytes.ensures.text
     c.in_ok-bytes.ensures.reason
     (c.in_ok-network_of.field-0, c.in_ok-network_of.ensures.ok)

@@ -1,4 +1,5 @@
 use Rattle.std.proofs.Common.{subst, Err}
+use Rattle.source_files.specs.declared.limits.TheConstants.{TEXT_LIMIT}
 use Rattle.mp_checker.specs.Checking.{CheckedProgram}
 use Rattle.mp_source.specs.Source.{OfSource}
 use Rattle.source_files.specs.Faults.{SourceFault}
@@ -11,7 +12,7 @@ pub returns-in_err-check_source-clause-reason : goal.returns-in_err-check_source
 returns-in_err-check_source-clause-reason g c =
     reason_err (SourceFault c.args.name.now) _ _ _ _ c.from_residual-in_err-check_source.result
     c.from_residual-in_err-check_source.ensures.1
-    (judged_err 1048576 OfSource c.args.name.now c.in_ok-text.text.items _ _ _ c.in_ok-text.ensures.text
+    (judged_err TEXT_LIMIT OfSource c.args.name.now c.in_ok-text.text.items _ _ _ c.in_ok-text.ensures.text
     c.in_ok-text.ensures.reason c.in_err-check_source.field-0.0
     (broken_by CheckedProgram (OfSource c.in_ok-text.text.items) c.in_err-check_source.field-0.0
     (subst (λ text. IsJudged {T = CheckedProgram} (OfSource text) (Err c.in_err-check_source.field-0.0))
@@ -19,6 +20,6 @@ returns-in_err-check_source-clause-reason g c =
 
 pub returns-clause-reason : goal.returns-clause-reason
 returns-clause-reason g c =
-    judged_ok 1048576 OfSource c.args.name.now c.in_ok-text.text.items _ _ _ c.in_ok-text.ensures.text
+    judged_ok TEXT_LIMIT OfSource c.args.name.now c.in_ok-text.text.items _ _ _ c.in_ok-text.ensures.text
     c.in_ok-text.ensures.reason
     (rw c.deref.ensures.value at c.in_ok-check_source.ensures.judged)

@@ -1,4 +1,5 @@
 use Rattle.std.proofs.Common.{None}
+use Rattle.source_files.specs.declared.limits.TheConstants.{TEXT_LIMIT}
 use Rattle.source_files.specs.Stimulus.{OfPads}
 use Rattle.source_files.proofs.Clocks.{few_clocks}
 use Rattle.source_files.proofs.Headers.{few_inputs}
@@ -7,7 +8,7 @@ use Rattle.source_files.proofs.stimuli.read_headed.Goals as goal
 
 pub returns-clause-reason : goal.returns-clause-reason
 returns-clause-reason g c =
-    judged_ok 1048576 (OfPads None) c.args.name.now c.in_ok-text.text.items _ _ _ c.in_ok-text.ensures.text
+    judged_ok TEXT_LIMIT (OfPads None) c.args.name.now c.in_ok-text.text.items _ _ _ c.in_ok-text.ensures.text
     c.in_ok-text.ensures.reason
     (rw c.deref.ensures.value at c.in_ok-check_headed.ensures.judged)
 
