@@ -82,8 +82,8 @@ impl<'a, R: Files> Depot for FileDepot<'a, R> {
 
 const ROOM: usize = 4096;
 
-/// An output over any writer, to which whole lines are given: a call of the system for each piece would cost more
-/// than the pieces.
+/// An output over any writer, to which full rooms are given, and the rest at the end: a call of the system for each line
+/// would cost more than the line.
 #[derive(Drop)]
 pub struct OutSink<W> {
     inner: W,
@@ -136,7 +136,7 @@ impl<W: Write> Sink for OutSink<W> {
         let count = bytes.len().min(ROOM - used);
         let end = used + count;
         self.room[used..end].copy_from_slice(&bytes[..count]);
-        if end < ROOM && !bytes[..count].contains(&b'\n') {
+        if end < ROOM {
             self.used = end;
             return Ok(count);
         }

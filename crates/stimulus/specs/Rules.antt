@@ -5,6 +5,7 @@ use Rattle.std.specs.Str.{bytes_eq}
 use Rattle.mp_base.specs.declared.pad.Pad.{Pad}
 use Rattle.mp_base.specs.declared.pad.Pads.{Pads}
 use Rattle.mp_base.specs.PadNames.{supplies}
+use Rattle.stimulus.specs.declared.limits.TheConstants.{CLOCK_LIMIT, PAD_LIMIT}
 use Rattle.stimulus.specs.declared.given.Given.{Given}
 use Rattle.stimulus.specs.declared.piece.Piece.{Piece}
 use Rattle.stimulus.specs.declared.form.Assignment.{Assignment}
@@ -23,10 +24,10 @@ is_reserved name = list_any (λ label. bytes_eq name label) supplies
 abbrev pub has_pad : List ℕ → List Pad → Bool
 has_pad name pads = list_any (λ (p : Pad). bytes_eq p.name name) pads
 
--- a header line may have this pad here: no clock line came, the name is new and not reserved, and fewer than 256 came
+-- a header line may have this pad here: no clock line came, the name is new and not reserved, and fewer than the limit came
 abbrev pub is_new_pad : Reading → List ℕ → Bool
 is_new_pad r name =
-    (length r.clocks == 0) && (nat_lt (length r.inputs + length r.outputs) 256
+    (length r.clocks == 0) && (nat_lt (length r.inputs + length r.outputs) PAD_LIMIT
     && (not (is_reserved name) && (not (has_pad name r.inputs) && not (has_pad name r.outputs))))
 
 -- the form may stand here; no name twice in a clock line
@@ -37,7 +38,7 @@ IsInPlace r (Clock xs) = AllPairs (λ (a b : Assignment). a.name ≢ b.name) xs
 
 -- the clock line is one too many
 abbrev pub IsFull : Reading → List Piece → Type 0
-IsFull r line = (is_clock line ≡ true) × (65536 ≤ length r.clocks)
+IsFull r line = (is_clock line ≡ true) × (CLOCK_LIMIT ≤ length r.clocks)
 
 -- the same name and width
 abbrev pub is_same : Pad → Pad → Bool

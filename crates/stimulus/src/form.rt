@@ -5,6 +5,7 @@ ghost use Rattle.std.specs.List.{list_all};
 ghost use Rattle.mp_base.specs.Token.{is_token};
 ghost use Rattle.stimulus.specs.Forms.{is_name, is_clock, IsNumber, IsWidth, IsAssignment, AreAssignments, IsPad, IsForm};
 
+use crate::part::Part;
 use crate::piece::Piece;
 use itoa::Buffer;
 use mp_base::{List, Name, Pad, is_digit, is_token};
@@ -12,18 +13,18 @@ use std::alloc::{AllocError, Global};
 
 /// A word `NAME=N` of a clock line, and the offset at which it begins.
 #[derive(Drop)]
-pub struct Assignment {
+pub struct Assignment<'a> {
     pub at: u32,
-    pub name: Name,
+    pub name: Part<'a>,
     pub value: u64,
 }
 
 /// What a line says: a pad of the header, or the values of a clock.
 #[derive(Drop)]
-pub enum Form {
+pub enum Form<'a> {
     Input(Pad),
     Output(Pad),
-    Clock(List<Assignment>),
+    Clock(List<Assignment<'a>>),
 }
 
 fn are_tokens(word: &[u8]) -> bool
@@ -80,33 +81,36 @@ fn last_equals(word: &[u8]) -> Option<usize>
     None
 }
 
-fn read_assignment(alloc: Global, word: &Piece) -> Result<Option<Assignment>, AllocError>
-    ensures { IfOk result (λ found. MatchOption found ((a : Assignment) → IsAssignment word.now a → ⊥) (IsAssignment word.now)) }
+fn read_assignment<'a>(word: &Piece<'a>) -> Option<Assignment<'a>>
+    ensures { MatchOption result ((a : Assignment) → IsAssignment word.now a → ⊥) (IsAssignment word.now) }
 {
     let bytes = word.bytes.bytes();
     let Some(equals) = last_equals(bytes) else {
-        return Ok(None);
+        return None;
     };
     let name = &bytes[..equals];
     let Some(value) = number(&bytes[equals + 1..]) else {
-        return Ok(None);
+        return None;
     };
     if !is_name(name) {
-        return Ok(None);
+        return None;
     }
-    Ok(Some(Assignment {
+    Some(Assignment {
         at: word.at,
-        name: Name::from_slice(alloc, name)?,
+        name: Part::new(name),
         value,
-    }))
+    })
 }
 
-fn read_assignments(alloc: Global, words: &[Piece]) -> Result<Option<List<Assignment>>, AllocError>
+fn read_assignments<'a>(
+    alloc: Global,
+    words: &[Piece<'a>],
+) -> Result<Option<List<Assignment<'a>>>, AllocError>
     ensures { IfOk result (λ found. MatchOption found ((xs : List Assignment) → AreAssignments words.now xs → ⊥) (AreAssignments words.now)) }
 {
     let mut all = List::new(alloc);
     for word in words {
-        let Some(one) = read_assignment(alloc, word)? else {
+        let Some(one) = read_assignment(word) else {
             return Ok(None);
         };
         all.push(one)?;
@@ -146,16 +150,28 @@ pub(crate) fn is_clock(words: &[Piece]) -> bool
 }
 
 /// What a line of these words says, if it is in one of the forms.
-pub(crate) fn read_form(alloc: Global, words: &[Piece]) -> Result<Option<Form>, AllocError>
+pub(crate) fn read_form<'a>(
+    alloc: Global,
+    words: &[Piece<'a>],
+) -> Result<Option<Form<'a>>, AllocError>
     ensures { IfOk result (λ found. MatchOption found ((f : Form) → IsForm words.now f → ⊥) (IsForm words.now)) }
 {
     let [first, rest @ ..] = words else {
         return Ok(None);
     };
     match first.bytes.bytes() {
-        b"in" => Ok(read_pad(alloc, rest)?.map(Form::Input)),
-        b"out" => Ok(read_pad(alloc, rest)?.map(Form::Output)),
-        b"clock" => Ok(read_assignments(alloc, rest)?.map(Form::Clock)),
+        b"in" => match read_pad(alloc, rest)? {
+            Some(pad) => Ok(Some(Form::Input(pad))),
+            None => Ok(None),
+        },
+        b"out" => match read_pad(alloc, rest)? {
+            Some(pad) => Ok(Some(Form::Output(pad))),
+            None => Ok(None),
+        },
+        b"clock" => match read_assignments(alloc, rest)? {
+            Some(words) => Ok(Some(Form::Clock(words))),
+            None => Ok(None),
+        },
         _ => Ok(None),
     }
 }

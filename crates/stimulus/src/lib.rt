@@ -5,7 +5,9 @@ mod fault;
 mod form;
 mod given;
 mod law;
+mod limits;
 mod lines;
+mod part;
 mod piece;
 mod read;
 mod reading;
@@ -14,5 +16,6 @@ mod transcript;
 
 pub use given::{Given, Stimulus};
 pub use law::{one_first_rule, one_stimulus, stimulus_verdict};
+pub use limits::{CLOCK_LIMIT, PAD_LIMIT};
 pub use read::read_stimulus;
 pub use transcript::line;

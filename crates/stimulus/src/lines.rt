@@ -9,15 +9,12 @@ ghost use Rattle.stimulus.specs.Reading.{nothing};
 use crate::fault::Fault;
 use crate::form::{Assignment, Form, is_clock, read_form};
 use crate::given::Given;
+use crate::limits::{CLOCK_LIMIT, PAD_LIMIT};
 use crate::piece::Piece;
 use crate::reading::Reading;
 use crate::rules::{are_apart, fits, has_pad, has_same, input_named, is_reserved};
 use mp_base::{List, Pad, Pads};
 use std::alloc::Global;
-
-const CLOCKS: usize = 65536;
-
-const PADS: usize = 256;
 
 fn start_of(line: &[Piece]) -> u32
     ensures { result ≡ start_of line.now }
@@ -107,15 +104,15 @@ impl Reading {
     fn is_full(&self, line: &[Piece]) -> bool
         ensures { IsTrue result ↔ IsFull self.now line.now }
     {
-        is_clock(line) && self.clocks.len() >= CLOCKS
+        is_clock(line) && self.clocks.len() >= CLOCK_LIMIT
     }
 
     fn is_new_pad(&self, name: &[u8]) -> bool
         ensures { result ≡ is_new_pad self.now name.now }
     {
         self.clocks.len() == 0
-            && self.inputs.len() < PADS
-            && self.outputs.len() < PADS - self.inputs.len()
+            && self.inputs.len() < PAD_LIMIT
+            && self.outputs.len() < PAD_LIMIT - self.inputs.len()
             && !is_reserved(name)
             && !has_pad(name, self.inputs.as_slice())
             && !has_pad(name, self.outputs.as_slice())
@@ -157,8 +154,8 @@ impl Reading {
         known: Option<&Pads>,
     ) -> Result<(), Fault>
         requires { length (inputs_of (option_copied known) self.old) < 2 ^ 32 }
-        ensures ok { OnOk result (IsInPlace self.old (Clock words) × AddsForm (option_copied known.entry) self.old (Clock words) self.new) }
-        ensures err { IfErr result (λ e. IsFault e (FormFault (option_copied known.entry) self.old line.now (Clock words))) }
+        ensures ok { OnOk result (IsInPlace self.old (Clock words.entry) × AddsForm (option_copied known.entry) self.old (Clock words.entry) self.new) }
+        ensures err { IfErr result (λ e. IsFault e (FormFault (option_copied known.entry) self.old line.now (Clock words.entry))) }
     {
         if !are_apart(alloc, words.as_slice())? {
             return Err(Fault::Breaks(1, start_of(line)));

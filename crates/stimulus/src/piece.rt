@@ -1,17 +1,17 @@
 //! Lines, and their words.
 
-ghost use Rattle.std.specs.Prelude.{◌≡◌, ℕ, ◌+◌, ◌<◌, ◌≤◌, ◌^◌, true, false, length, slice_index, IfOk};
+ghost use Rattle.std.specs.Prelude.{◌≡◌, ℕ, ◌+◌, ◌<◌, ◌≤◌, ◌^◌, true, false, length, slice_index, OnOk};
 ghost use Rattle.std.specs.Str.Lines.{strip_carriage_return};
 ghost use Rattle.stimulus.specs.Words.{is_blank, is_feed, is_skipped, words_of};
 
-use mp_base::{List, Name};
-use std::alloc::{AllocError, Global};
+use crate::part::Part;
+use std::alloc::AllocError;
 
 /// A part of a text, and the offset at which it begins.
 #[derive(Drop)]
-pub struct Piece {
+pub struct Piece<'a> {
     pub at: u32,
-    pub bytes: Name,
+    pub bytes: Part<'a>,
 }
 
 fn is_blank(byte: u8) -> bool
@@ -36,24 +36,27 @@ fn word_end(line: &[u8], from: usize) -> usize
     line.len()
 }
 
-/// The words of a line that begins at this offset of its text.
-pub(crate) fn words_of(alloc: Global, line: &[u8], at: u32) -> Result<List<Piece>, AllocError>
+/// Puts the words of a line that begins at this offset of its text in the place of those that were there.
+pub(crate) fn take_words<'a>(
+    words: &mut Vec<Piece<'a>>,
+    line: &'a [u8],
+    at: u32,
+) -> Result<(), AllocError>
     requires { at + length line.now < 2 ^ 32 }
-    ensures { IfOk result (λ words. words ≡ words_of at line.now) }
+    ensures { OnOk result (words.new.items ≡ words_of at line.now) }
 {
-    let mut words = List::new(alloc);
+    words.clear();
     let mut start = 0;
     'parts: loop {
         let end = word_end(line, start);
         if start < end {
-            let bytes = Name::from_slice(alloc, &line[start..end])?;
             words.push(Piece {
                 at: at + start as u32,
-                bytes,
+                bytes: Part::new(&line[start..end]),
             })?;
         }
         if end == line.len() {
-            return Ok(words);
+            return Ok(());
         }
         start = end + 1;
     }

@@ -14,7 +14,7 @@ ghost use Rattle.stimulus.specs.Fitting.{are_fitting};
 
 use crate::fault::Fault;
 use crate::given::Stimulus;
-use crate::piece::{Piece, is_skipped, line_end, without_return, words_of};
+use crate::piece::{Piece, is_skipped, line_end, take_words, without_return};
 use crate::reading::Reading;
 use mp_base::{Broken, Family, List, NoMemory, Pads, Place, Refusal, Rule, Spot};
 use std::alloc::Global;
@@ -57,10 +57,11 @@ fn read_lines(alloc: Global, text: &[u8], known: Option<&Pads>) -> Result<Readin
     ensures err { IfErr result (λ e. IsFault e (FirstBroken (option_copied known.entry) nothing (lines text.now))) }
 {
     let mut reading = Reading::new(alloc);
+    let mut words = Vec::new(alloc);
     let mut start = 0;
     'lines: loop {
         let end = line_end(text, start);
-        let words = words_of(alloc, line_at(text, start, end), start as u32)?;
+        take_words(&mut words, line_at(text, start, end), start as u32)?;
         add_line(&mut reading, alloc, words.as_slice(), known)?;
         if end == text.len() {
             return Ok(reading);

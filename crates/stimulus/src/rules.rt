@@ -62,10 +62,35 @@ pub(crate) fn fits(pad: &Pad, value: u64) -> bool
     value >> bits == 0
 }
 
+// Whether one of these words gives a value to this name.
+fn has_name(name: &[u8], words: &[Assignment]) -> bool
+    ensures { result ≡ list_any (λ (word : Word). bytes_eq name.now word.name) words.now }
+{
+    words.iter().any(|word| name == word.name.bytes())
+}
+
+// The most words whose names are compared each with each: up to there a set of names takes longer.
+const FEW: usize = 8;
+
+// Whether no name comes twice, for few words.
+fn are_few_apart(words: &[Assignment]) -> bool
+    ensures { IsTrue result ↔ AllPairs (λ (a b : Word). a.name ≢ b.name) words.now }
+{
+    for i in 0..words.len() {
+        if has_name(words[i].name.bytes(), &words[..i]) {
+            return false;
+        }
+    }
+    true
+}
+
 /// Whether no name comes twice.
 pub(crate) fn are_apart(alloc: Global, words: &[Assignment]) -> Result<bool, AllocError>
     ensures { IfOk result (λ apart. IsTrue apart ↔ AllPairs (λ (a b : Word). a.name ≢ b.name) words.now) }
 {
+    if words.len() <= FEW {
+        return Ok(are_few_apart(words));
+    }
     let mut names = BTreeSet::new(alloc);
     for word in words {
         if !names.insert(word.name.bytes())? {

@@ -49,10 +49,10 @@ returns-in_err-add_line-clause-err c =
     let e : ℕ = c.line_end-end.result in
     let p = err_from_is_err_and c.from_residual-in_err-add_line.result c.from_residual-in_err-add_line.ensures.1 in
     let ws : List Piece = c.as_slice.result.now in
-    let words : c.in_ok-words.words ≡ words_of a c.line_at.result.now = c.in_ok-words.ensures in
+    let words : c.take_words.new.words.items ≡ words_of a c.line_at.result.now = c.in_ok-take_words.ensures in
     let bad : IsFault c.in_err-add_line.field-0.0 (FirstBroken K c.lines.reading (kept_before ws [])) = c.in_err-add_line.ensures.err in
     let here = broken_first K c.lines.reading text a e ws c.line_end-end.ensures.after c.line_end-end.ensures.within c.line_end-end.ensures.part c.line_end-end.ensures.stop
-    (c.as_slice.ensures ∙ words ∙ ap (words_of a) c.line_at.ensures) in
+    (c.as_slice.ensures.value ∙ words ∙ ap (words_of a) c.line_at.ensures) in
     rw (p.1, p.2) (fault_at c.in_err-add_line.field-0.0 _ _ (λ k at h. c.lines.invariant.breaks k at (here k at h)) bad)
 
 pub returns-then-end-text-clause-ok : goal.returns-then-end-text-clause-ok
@@ -61,11 +61,11 @@ returns-then-end-text-clause-ok c =
     let a : ℕ = c.lines.start in
     let e : ℕ = c.line_end-end.result in
     let bytes : c.line_at.result.now ≡ slice_range text a e = c.line_at.ensures ∙ cond-false _ _ _ (le-ltb e (length text) (omega (arith, c.if-end-text.true))) in
-    let words : c.in_ok-words.words ≡ words_of a c.line_at.result.now = c.in_ok-words.ensures in
+    let words : c.take_words.new.words.items ≡ words_of a c.line_at.result.now = c.in_ok-take_words.ensures in
     let this : Reads (option_copied c.args.known) c.lines.reading (kept_before c.as_slice.result.now []) c.add_line.new.reading = c.in_ok-add_line.ensures.ok in
     let rest : words_of_lines a (slice_split is_feed (drop a text)) ≡ kept_before c.as_slice.result.now [] =
     lines_last text a e c.line_end-end.ensures.after c.if-end-text.true c.line_end-end.ensures.part
-    ∙ ap (λ ws. kept_before ws []) (sym (c.as_slice.ensures ∙ words ∙ ap (words_of a) bytes)) in
+    ∙ ap (λ ws. kept_before ws []) (sym (c.as_slice.ensures.value ∙ words ∙ ap (words_of a) bytes)) in
     let P : List (List Piece) → Type 0 = λ ls. Reads (option_copied c.args.known) c.lines.reading ls c.add_line.new.reading in
     c.lines.invariant.reads c.add_line.new.reading (subst P (sym rest) this)
 
@@ -77,12 +77,12 @@ lines-preserved c =
     let e : ℕ = c.line_end-end.result in
     let less : e < length text = omega (arith, c.line_end-end.ensures.within, c.if-end-text.false) in
     let bytes : c.line_at.result.now ≡ strip_carriage_return (slice_range text a e) = c.line_at.ensures ∙ cond-true _ _ _ (lt-ltb e (length text) less) in
-    let words : c.in_ok-words.words ≡ words_of a c.line_at.result.now = c.in_ok-words.ensures in
+    let words : c.take_words.new.words.items ≡ words_of a c.line_at.result.now = c.in_ok-take_words.ensures in
     let this : Reads K c.lines.reading (kept_before c.as_slice.result.now []) c.add_line.new.reading = c.in_ok-add_line.ensures.ok in
     let more : List (List Piece) = words_of_lines (e + 1) (slice_split is_feed (drop (e + 1) text)) in
     let rest : words_of_lines a (slice_split is_feed (drop a text)) ≡ kept_before c.as_slice.result.now more =
     lines_more text a e c.line_end-end.ensures.after less c.line_end-end.ensures.part (c.line_end-end.ensures.stop less)
-    ∙ ap (λ ws. kept_before ws more) (sym (c.as_slice.ensures ∙ words ∙ ap (words_of a) bytes)) in
+    ∙ ap (λ ws. kept_before ws more) (sym (c.as_slice.ensures.value ∙ words ∙ ap (words_of a) bytes)) in
     record {
       within = omega (arith, less);
       few = few_more K c.lines.reading c.add_line.new.reading (kept_before c.as_slice.result.now []) this c.lines.invariant.few;
