@@ -26,7 +26,7 @@ use Rattle.control_nor.specs.Lowering.{IsEntry, IsLowered, Stands}
 use Rattle.path_form.specs.declared.path.Lift.{Lift}
 use Rattle.path_values.proofs.Realized.{got}
 use Rattle.datapath_making.specs.declared.making.Making.{Making}
-use Rattle.datapath_making.specs.Finishing.{IsComplete}
+use Rattle.datapath_finish.specs.Finishing.{IsComplete}
 use Rattle.datapath_alloc.specs.Progress.{AreSpent, IsDone, IsProgress, IsWordOf}
 use Rattle.datapath_alloc.specs.Spending.{crossed}
 use Rattle.datapath_alloc.proofs.Costs.{all_spent, any_at, spent_below}

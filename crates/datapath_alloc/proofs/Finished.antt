@@ -31,7 +31,7 @@ use Rattle.path_form.specs.Shape.{entries_of}
 use Rattle.path_form.specs.Sizes.{IsNarrow, IsWithin, is_read, reads}
 use Rattle.path_values.specs.Allocated.{DrivenWord, IsAllocated, Placed, StoredWord, InputWord}
 use Rattle.datapath_making.specs.declared.making.Making.{Making}
-use Rattle.datapath_making.specs.Finishing.{IsFinished}
+use Rattle.datapath_finish.specs.Finishing.{IsFinished}
 use Rattle.datapath_alloc.specs.Progress.{IsProgress}
 use Rattle.datapath_alloc.specs.Shared.{IsAllocatedOnce, SharesNets}
 use Rattle.datapath_alloc.proofs.Costs.{all_crossed, any_at}

@@ -13,6 +13,7 @@ use crate::latches::add_latches;
 use crate::next_values::add_next_values;
 use crate::tasks::add_tasks;
 use control_nor::{Names, lower_bits};
+use datapath_finish::finish;
 use datapath_making::Making;
 use mp_base::NoMemory;
 use nor_net::{Net, NetId};
@@ -52,5 +53,5 @@ pub fn allocate(alloc: Global, rtl: &Rtl) -> Result<DataPath, NoMemory>
     add_latches(alloc, rtl, &mut making)?;
     add_tasks(alloc, rtl, &mut making)?;
     add_next_values(alloc, rtl, &mut making)?;
-    making.finish(alloc, rtl)
+    finish(alloc, rtl, making)
 }

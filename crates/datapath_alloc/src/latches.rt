@@ -4,6 +4,7 @@ ghost use Rattle.std.specs.Prelude.{◌≡◌, ◌<◌, ◌^◌, suc, OnOk, leng
 ghost use Rattle.datapath_alloc.specs.Progress.{IsMadeTo, KeepsMarks};
 
 use datapath_making::Making;
+use datapath_steps::{add_port, add_slave};
 use mp_base::NoMemory;
 use rtl_form::{CellKind, Rtl};
 use std::alloc::Global;
@@ -20,8 +21,8 @@ fn add_latch(alloc: Global, rtl: &Rtl, making: &mut Making, index: u32) -> Resul
         return Ok(());
     }
     match cell.kind {
-        CellKind::Input(pad) => making.add_port(index, pad),
-        CellKind::Stored => making.add_slave(alloc, index),
+        CellKind::Input(pad) => add_port(making, index, pad),
+        CellKind::Stored => add_slave(alloc, making, index),
         _ => Ok(()),
     }
 }

@@ -8,6 +8,7 @@ ghost use Rattle.datapath_alloc.specs.Noting.{KeepsWords};
 ghost use Rattle.datapath_alloc.specs.Spending.{is_stored_word};
 
 use datapath_making::Making;
+use datapath_steps::add_next;
 use mp_base::NoMemory;
 use rtl_form::{Cell, CellKind, Rtl};
 use std::alloc::Global;
@@ -41,7 +42,7 @@ fn add_next_of(
 {
     let cell = *rtl.cells.at(index);
     if is_stored(cell) {
-        making.add_next(alloc, rtl, index, reset)
+        add_next(alloc, rtl, making, index, reset)
     } else {
         Ok(())
     }

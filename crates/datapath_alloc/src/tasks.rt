@@ -9,6 +9,7 @@ ghost use Rattle.datapath_alloc.specs.Noting.{IsSharing};
 use control_nor::{Names, Task};
 use datapath_making::Making;
 use datapath_sharing::{Built, add_number, add_operator};
+use datapath_steps::{add_driven, read_cell};
 use mp_base::NoMemory;
 use rtl_form::{Rtl, RtlExpr};
 use std::alloc::Global;
@@ -42,7 +43,7 @@ fn add_task(
             RtlExpr::Number(bits) => add_number(making, built, expr, *bits),
             RtlExpr::Truth(_) => Ok(()),
             RtlExpr::Cell(cell) => {
-                making.read_cell(expr, *cell);
+                read_cell(making, expr, *cell);
                 Ok(())
             }
             RtlExpr::Apply { op, index, args } => {
@@ -51,7 +52,7 @@ fn add_task(
         },
         Task::Cell(cell) => {
             if rtl.cells.at(cell).word {
-                making.add_driven(alloc, rtl, cell)
+                add_driven(alloc, rtl, making, cell)
             } else {
                 Ok(())
             }

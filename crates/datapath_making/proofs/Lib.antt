@@ -5,15 +5,4 @@ pub mod Entering
 pub mod Joints
 pub mod Added
 pub mod Stepping
-pub mod Latching
-pub mod Words
-pub mod Continuing
-pub mod Writing
-pub mod Feeding
-pub mod StoredWords
 pub mod Beginning
-pub mod Ending
-pub mod Finished
-pub mod WholePath
-pub mod PadNets
-pub mod SamePads

@@ -140,3 +140,7 @@ times_below n (x ∷ xs) h =
     let o = one_else n x (λ e. let l = h 0 x (omega arith) in omega (arith, l, e)) in
     let r = times_below n xs (λ k d l. h (suc k) d (omega arith)) in
     omega (arith, o, r)
+
+-- the net of an entry is one net
+pub one_stands : (entries : List (Option NetId)) (k : ℕ) (x y : NetId) → Stands entries k x → Stands entries k y → x ≡ y
+one_stands entries k x y p q = same_Some x y (same_Some (Some x) (Some y) (sym p ∙ q))

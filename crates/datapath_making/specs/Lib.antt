@@ -4,5 +4,3 @@ pub mod Marking
 pub mod WellMade
 pub mod Additions
 pub mod Steps
-pub mod Continuing
-pub mod Finishing

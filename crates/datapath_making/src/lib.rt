@@ -1,12 +1,8 @@
-//! Data paths in the making: what each step adds to the slices, and to what joins them to the control.
+//! Data paths in the making: what stands in the slices so far, and what joins them to the control.
 #![tactic(auto)]
 
-mod finish;
-mod latches;
+mod entries;
 mod making;
-mod operators;
-mod parts;
-mod storing;
-mod transfers;
 
+pub use entries::{entry, net_of};
 pub use making::{Guard, Making};

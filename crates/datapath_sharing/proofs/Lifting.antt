@@ -18,7 +18,7 @@ use Rattle.datapath_making.proofs.Added.{named_on}
 use Rattle.datapath_making.proofs.Keeping.{append_nil, grows_refl}
 use Rattle.datapath_making.proofs.Lists.{length_set, one_at, one_else, one_here, set_cases}
 use Rattle.datapath_making.proofs.Stepping.{step_by, well_plain}
-use Rattle.datapath_making.proofs.Words.{one_stands}
+use Rattle.datapath_making.proofs.Lists.{one_stands}
 use Rattle.datapath_sharing.specs.Sharing.{IsLiftMade, with_word}
 
 -- ---- a word that stands already

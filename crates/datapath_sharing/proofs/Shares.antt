@@ -20,7 +20,7 @@ use Rattle.datapath_making.specs.Growing.{Appends}
 use Rattle.datapath_making.specs.Steps.{IsFree, IsNumberMade, IsOperatorMade, IsStep, IsTestMade}
 use Rattle.datapath_making.proofs.Keeping.{nothing_more}
 use Rattle.datapath_making.proofs.Lists.{get_by, set_keeps, set_stands}
-use Rattle.datapath_making.proofs.Words.{one_stands}
+use Rattle.datapath_making.proofs.Lists.{one_stands}
 use Rattle.datapath_sharing.specs.declared.built.Built.{Built}
 use Rattle.datapath_sharing.specs.Sharing.{AreBuilt, IsLiftMade, IsNoted, IsShared, Stays, key_of, number_in, operator_in, same_key, with_word}
 use Rattle.datapath_sharing.proofs.Sharing.{all_last, keeps_same, number_built, number_keeps, operator_built, operator_keeps, placed_again}

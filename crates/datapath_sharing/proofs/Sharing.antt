@@ -17,7 +17,7 @@ use Rattle.datapath_making.specs.declared.making.Making.{Making}
 use Rattle.datapath_making.specs.Growing.{Grows}
 use Rattle.datapath_making.specs.Steps.{IsFree, read_cell}
 use Rattle.datapath_making.proofs.Keeping.{placed_lasts}
-use Rattle.datapath_making.proofs.Words.{one_stands}
+use Rattle.datapath_making.proofs.Lists.{one_stands}
 use Rattle.datapath_sharing.specs.declared.built.Built.{Built}
 use Rattle.datapath_sharing.specs.Sharing.{AreBuilt, IsBuilt, IsExprNoted, IsNoted, IsProgrammed, KeepsNoted, Stays, key_of, number_in, operator_in, same_key}
 use Rattle.datapath_sharing.proofs.Keys.{key_means, true_or_false}

@@ -14,6 +14,7 @@ ghost use Rattle.datapath_sharing.specs.Sharing.{AreBuilt, IsShared};
 use crate::built::Built;
 use crate::words::{add_lift, last_lift, net_of, share_word};
 use datapath_making::Making;
+use datapath_steps::{add_bit, add_test};
 use mp_base::{NoMemory, Op};
 use std::alloc::Global;
 
@@ -76,7 +77,7 @@ pub fn add_number(
             Ok(())
         }
         None => {
-            making.add_number(expr, bits)?;
+            datapath_steps::add_number(making, expr, bits)?;
             let word = net_of(making.words.as_slice(), expr);
             built.note_number(bits, word)
         }
@@ -109,7 +110,7 @@ fn add_word(
             Ok(())
         }
         None => {
-            making.add_operator(alloc, expr, op, args)?;
+            datapath_steps::add_operator(alloc, making, expr, op, args)?;
             let word = net_of(making.words.as_slice(), expr);
             built.note_operator(op, first, last, word)
         }
@@ -140,7 +141,7 @@ fn add_answer(
     match built.operator(op, first, last) {
         Some(from) => add_lift(making, expr, from),
         None => {
-            making.add_test(alloc, expr, op, args)?;
+            add_test(alloc, making, expr, op, args)?;
             let lift = last_lift(making.lifts.as_slice());
             built.note_operator(op, first, last, lift.from)
         }
@@ -165,7 +166,7 @@ fn add_lifted(
     ensures shared { OnOk result (IsShared expr (exprs.Apply op index args.now) built.old built.new making.old making.new) }
 {
     match op {
-        Op::Bit => making.add_bit(expr, index, args[0]),
+        Op::Bit => add_bit(making, expr, index, args[0]),
         _ => add_answer(alloc, making, built, expr, op, index, args),
     }
 }

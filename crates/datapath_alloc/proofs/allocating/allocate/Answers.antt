@@ -5,7 +5,7 @@ use Rattle.control_nor.specs.Lowering.{IsLowered}
 use Rattle.control_nor.proofs.Costs.{few_cells}
 use Rattle.path_form.specs.Sizes.{IsNarrow, IsWithin}
 use Rattle.path_values.specs.Allocated.{IsAllocated}
-use Rattle.datapath_making.specs.Finishing.{IsFinished}
+use Rattle.datapath_finish.specs.Finishing.{IsFinished}
 use Rattle.datapath_making.specs.WellMade.{IsWellMade}
 use Rattle.datapath_alloc.specs.Progress.{IsMadeTo}
 use Rattle.datapath_alloc.specs.Shared.{IsAllocatedOnce, SharesNets}

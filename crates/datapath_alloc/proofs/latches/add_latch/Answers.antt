@@ -48,7 +48,7 @@ add_port-requires-clause-pad c =
 pub returns-in-Input-clause-made : goal.returns-in-Input-clause-made
 returns-in-Input-clause-made c =
     let m = c.args.making.now in
-    let new = c.add_port.new.self in
+    let new = c.add_port.new.making in
     done_two (IsStep 2 0 m new) (IsPortMade c.args.index c.in-Input.pad m new)
     (IsMadeTo c.args.rtl.now (suc c.args.index) 0 0 new) c.add_port.result
     (λ step port. rebased c.args.rtl.now m.control m.names (suc c.args.index) 0 0 new
@@ -63,7 +63,7 @@ returns-in-Input-clause-made c =
 pub returns-in-Stored-clause-made : goal.returns-in-Stored-clause-made
 returns-in-Stored-clause-made c =
     let m = c.args.making.now in
-    let new = c.add_slave.new.self in
+    let new = c.add_slave.new.making in
     done_two (IsStep 2 0 m new) (IsSlaveMade c.args.index m new)
     (IsMadeTo c.args.rtl.now (suc c.args.index) 0 0 new) c.add_slave.result
     (λ step slave. rebased c.args.rtl.now m.control m.names (suc c.args.index) 0 0 new

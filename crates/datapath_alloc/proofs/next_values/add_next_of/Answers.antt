@@ -39,7 +39,7 @@ add_next-requires-clause-reset c =
 pub returns-then-is_stored-clause-made : goal.returns-then-is_stored-clause-made
 returns-then-is_stored-clause-made c =
     let m = c.args.making.now in
-    let new = c.add_next.new.self in
+    let new = c.add_next.new.making in
     let w = stored_parts c.args.rtl.now c.args.index c.at-cell.result.now (c.requires.cell, c.at-cell.ensures)
     (sym c.is_stored.ensures ∙ c.if-is_stored.true) in
     done_two
@@ -64,7 +64,7 @@ returns-else-is_stored-clause-made c =
 pub returns-then-is_stored-clause-words : goal.returns-then-is_stored-clause-words
 returns-then-is_stored-clause-words c =
     let m = c.args.making.now in
-    let new = c.add_next.new.self in
+    let new = c.add_next.new.making in
     done_two
     (IsStep (5 + 4 * length (transfers_to c.args.rtl.now c.args.index) + cast_cost m.clear)
     (length (transfers_to c.args.rtl.now c.args.index) + cast_cost m.clear) m new)

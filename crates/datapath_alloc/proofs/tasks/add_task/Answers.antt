@@ -181,7 +181,7 @@ returns-in-Apply-clause-marks c =
 pub returns-then-at-clause-made : goal.returns-then-at-clause-made
 returns-then-at-clause-made c =
     let m = c.args.making.now in
-    let new = c.add_driven.new.self in
+    let new = c.add_driven.new.making in
     let p = c.requires.made in
     let is = c.task_at.ensures ∙ ap Some c.in-Cell.is in
     let d = p.given.lowered.placed.schedule.only c.args.index (Cell c.in-Cell.cell) is in
@@ -270,7 +270,7 @@ returns-in-Apply-clause-sharing c =
 pub returns-then-at-clause-sharing : goal.returns-then-at-clause-sharing
 returns-then-at-clause-sharing c =
     let m = c.args.making.now in
-    let new = c.add_driven.new.self in
+    let new = c.add_driven.new.making in
     let r = c.args.rtl.now in
     let b = c.args.built.now in
     let is = c.task_at.ensures ∙ ap Some c.in-Cell.is in

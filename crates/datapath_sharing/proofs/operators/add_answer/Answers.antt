@@ -87,7 +87,7 @@ returns-in-Some-clause-shared c =
 pub last_lift-lift-requires : goal.last_lift-lift-requires
 last_lift-lift-requires c =
     subst (λ (ls : List Lift). 0 < length ls) (sym c.as_slice-in-None.ensures)
-    (some_lifts c.args.expr c.args.op c.args.args.now c.args.making.now c.add_test.new.self
+    (some_lifts c.args.expr c.args.op c.args.args.now c.args.making.now c.add_test.new.making
     c.in_ok-add_test-in-None.ensures.test)
 
 pub returns-in_ok-add_test-in-None-clause-shared : goal.returns-in_ok-add_test-in-None-clause-shared
@@ -103,7 +103,7 @@ returns-in_ok-add_test-in-None-clause-shared c =
     c.net_of-first.ensures in
     let is_last = subst (λ (ws : List (Option NetId)). Stands ws (get_or args (length args - 1) 0) last)
     c.as_slice-2.ensures c.net_of-last.ensures in
-    let new = c.add_test.new.self in
+    let new = c.add_test.new.making in
     let now = c.note_operator.new.self in
     let lift = c.last_lift-lift.result in
     let step = c.in_ok-add_test-in-None.ensures.step in

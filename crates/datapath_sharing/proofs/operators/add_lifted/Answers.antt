@@ -9,7 +9,7 @@ use Rattle.datapath_sharing.proofs.operators.add_lifted.Goals as goal
 pub returns-in-Bit-clause-shared : goal.returns-in-Bit-clause-shared
 returns-in-Bit-clause-shared c =
     let m = c.args.making.now in
-    let new = c.add_bit.new.self in
+    let new = c.add_bit.new.making in
     let b = c.args.built.now in
     let e = c.args.expr in
     let args = c.args.args.now in

@@ -41,13 +41,13 @@ net_of-word-requires c =
     let net = made.program.net in (
       net,
       subst (λ (ws : List (Option NetId)). Stands ws c.args.expr net) (sym c.as_slice.ensures)
-          (number_stands c.args.expr c.args.bits c.args.making.now c.add_number.new.self made c.requires.free),
+          (number_stands c.args.expr c.args.bits c.args.making.now c.add_number.new.making made c.requires.free),
     )
 
 pub returns-in_ok-add_number-in-None-clause-shared : goal.returns-in_ok-add_number-in-None-clause-shared
 returns-in_ok-add_number-in-None-clause-shared c =
     let m = c.args.making.now in
-    let new = c.add_number.new.self in
+    let new = c.add_number.new.making in
     let b = c.args.built.now in
     let now = c.note_number.new.self in
     let e = c.args.expr in

@@ -81,7 +81,7 @@ net_of-word-requires c =
     let made = c.in_ok-add_operator-in-None.ensures.operator in (
       made.id,
       subst (λ (ws : List (Option NetId)). Stands ws c.args.expr made.id) (sym c.as_slice-in-None.ensures)
-          (operator_stands c.args.expr c.args.op c.args.args.now c.args.making.now c.add_operator.new.self made
+          (operator_stands c.args.expr c.args.op c.args.args.now c.args.making.now c.add_operator.new.making made
           c.requires.asked.free),
     )
 
@@ -98,7 +98,7 @@ returns-in_ok-add_operator-in-None-clause-shared c =
     c.net_of-first.ensures in
     let is_last = subst (λ (ws : List (Option NetId)). Stands ws (get_or args (length args - 1) 0) last)
     c.as_slice-2.ensures c.net_of-last.ensures in
-    let new = c.add_operator.new.self in
+    let new = c.add_operator.new.making in
     let now = c.note_operator.new.self in
     let word = c.net_of-word.result in
     let stands = subst (λ (ws : List (Option NetId)). Stands ws e word) c.as_slice-in-None.ensures c.net_of-word.ensures in

@@ -1,0 +1,5 @@
+pub mod Ending
+pub mod Finished
+pub mod WholePath
+pub mod PadNets
+pub mod SamePads

@@ -1,0 +1,130 @@
+//! The path that was made.
+
+ghost use Rattle.std.specs.Prelude.{◌≡◌, ◌≢◌, ◌<◌, ◌≤◌, ℕ, true, false, IfOk, length};
+ghost use Rattle.nor_net.specs.declared.net.NetId as net_id;
+ghost use Rattle.rtl_form.specs.Cost.{cost};
+ghost use Rattle.rtl_form.specs.Sound.{IsSound};
+ghost use Rattle.rtl_form.specs.declared.rtl.CellKind.TheVariants.{Output};
+ghost use Rattle.control_nor.specs.Lowering.{Stands};
+ghost use Rattle.datapath_finish.specs.Finishing.{AreInputNets, AreOutputNets, IsCellNet, IsComplete, IsFinished, IsOutputPut, IsPadNet};
+
+use datapath_making::{Making, entry};
+use mp_base::{List, NoMemory, Pad};
+use nor_net::NetId;
+use path_form::DataPath;
+use path_order::{laws, order_of};
+use rtl_form::{Cell, CellKind, Rtl};
+use std::alloc::Global;
+
+// The net of an input pad.
+fn pad_net(making: &Making, index: usize, pad: &Pad) -> NetId
+    requires bit { pad.now.width ≡ 0 → (id : net_id.NetId) × Stands making.now.names.inputs index id }
+    requires word { pad.now.width ≢ 0 → (id : net_id.NetId) × Stands making.now.pads index id }
+    ensures { IsPadNet making.now index pad.now result }
+{
+    if pad.width == 0 {
+        entry(making.names.inputs.as_slice(), index)
+    } else {
+        entry(making.pads.as_slice(), index)
+    }
+}
+
+// The nets of all input pads.
+fn input_nets(alloc: Global, rtl: &Rtl, making: &Making) -> Result<List<NetId>, NoMemory>
+    requires { IsComplete rtl.now making.now }
+    ensures { IfOk result (AreInputNets rtl.now making.now (length (rtl.now.pads).inputs)) }
+{
+    let mut inputs = List::new(alloc);
+    for pad in rtl.pads.inputs.as_slice() {
+        let net = pad_net(making, inputs.len(), pad);
+        inputs.push(net)?;
+    }
+    Ok(inputs)
+}
+
+// The net of a cell.
+fn cell_net(making: &Making, index: usize, cell: Cell) -> NetId
+    requires word { cell.word ≡ true → (id : net_id.NetId) × Stands making.now.cell_words index id }
+    requires bit { cell.word ≡ false → (id : net_id.NetId) × Stands making.now.names.cells index id }
+    ensures { IsCellNet making.now index cell result }
+{
+    if cell.word {
+        entry(making.cell_words.as_slice(), index)
+    } else {
+        entry(making.names.cells.as_slice(), index)
+    }
+}
+
+// Puts the net of a cell at its output pad, if it has one.
+fn put_output(outputs: &mut List<NetId>, making: &Making, index: usize, cell: Cell)
+    requires pad { (k : ℕ) → cell.kind ≡ Output k → k < length outputs.old }
+    requires word { cell.word ≡ true → (id : net_id.NetId) × Stands making.now.cell_words index id }
+    requires bit { cell.word ≡ false → (id : net_id.NetId) × Stands making.now.names.cells index id }
+    ensures { IsOutputPut making.now index cell cell.kind outputs.old outputs.new }
+{
+    if let CellKind::Output(pad) = cell.kind {
+        outputs.set(pad, cell_net(making, index, cell));
+    }
+}
+
+// As many nets.
+fn some_nets(alloc: Global, count: usize) -> Result<List<NetId>, NoMemory>
+    ensures { IfOk result (λ ids. length ids ≡ count) }
+{
+    Ok(List::from_vec(vec![in alloc; NetId(0); count]?))
+}
+
+// The nets of all output pads.
+fn output_nets(alloc: Global, rtl: &Rtl, making: &Making) -> Result<List<NetId>, NoMemory>
+    requires sound { IsSound rtl.now }
+    requires complete { IsComplete rtl.now making.now }
+    ensures { IfOk result (AreOutputNets rtl.now making.now (length rtl.now.cells)) }
+{
+    let mut outputs = some_nets(alloc, rtl.pads.outputs.len())?;
+    for index in 0..rtl.cells.len() {
+        let cell = rtl.cells.as_slice()[index];
+        put_output(&mut outputs, making, index, cell);
+    }
+    Ok(outputs)
+}
+
+/// The path, with an order along the marks, and the nets of the pads.
+///
+/// # Errors
+///
+/// `NoMemory`.
+pub fn finish(alloc: Global, rtl: &Rtl, making: Making) -> Result<DataPath, NoMemory>
+    requires sound { IsSound rtl.now }
+    requires light { cost rtl.now ≤ 1024 }
+    requires complete { IsComplete rtl.now making }
+    ensures { IfOk result (IsFinished rtl.now making) }
+{
+    let mut making = making;
+    let inputs = input_nets(alloc, rtl, &making)?;
+    let outputs = output_nets(alloc, rtl, &making)?;
+    let control_nets = making.control.len();
+    let _slice_nets = making.slices.net.len();
+    making.mark(control_nets)?;
+    laws::orders_are_whole();
+    let order = order_of(alloc, making.width, making.marks.as_slice())?;
+    let pads = rtl.pads.copy(alloc)?;
+    let Making {
+        width,
+        control,
+        slices,
+        casts,
+        lifts,
+        ..
+    } = making;
+    Ok(DataPath {
+        width,
+        control,
+        slices,
+        casts,
+        lifts,
+        pads,
+        inputs,
+        outputs,
+        order,
+    })
+}

@@ -1,5 +1,0 @@
-use Rattle.datapath_making.specs.Finishing.{AreOutputNets}
-use Rattle.datapath_making.proofs.finish.output_nets.Given as goal
-
-abbrev pub invariant-loop-index : goal.invariant-loop-index
-invariant-loop-index l = AreOutputNets l.rtl l.making l.index l.outputs
