@@ -10,4 +10,5 @@ mod Tilings
 mod Answering
 mod Edges
 mod Gridding
+mod Repainting
 mod Rowwise

@@ -10,6 +10,8 @@ use Rattle.mask_runs.specs.declared.run.Run.{Run}
 use Rattle.mask_runs.specs.Runs.{IsRun, AreRuns}
 use Rattle.mask_runs.specs.Laws.{ColoursByLayers}
 use Rattle.cover_tree.specs.Covers.{Cover, IsBare, IsRaised, row_colour}
+use Rattle.kept_runs.specs.declared.runs.KeptRuns.{KeptRuns}
+use Rattle.kept_runs.specs.Kept.{colours_of, width_of}
 use Rattle.strip_rows.specs.declared.rows.StripRows.{StripRows}
 use Rattle.strip_rows.specs.declared.strip.Strip.{Strip}
 use Rattle.strip_rows.specs.Changes.{LieInRow, IsChange}
@@ -22,9 +24,11 @@ use Rattle.region_sweep.proofs.Painting.{row_painted, blank_right, blank_below}
 use Rattle.region_sweep.proofs.Squares.{layer_or_not}
 
 -- what is known of the rows up to one, in the middle of the loop
-pub record IsAt (mask : Mask) (cells : ℕ) (blocks : List Block) (row : ℕ) (cover : Cover) (strips : StripRows) (raised : ℕ) (spots : List Spot)
-    (answered : ℕ) (found : List (Option ℕ)) : Type 0 where
+pub record IsAt (mask : Mask) (cells : ℕ) (blocks : List Block) (row : ℕ) (cover : Cover) (kept : KeptRuns) (strips : StripRows) (raised : ℕ)
+    (spots : List Spot) (answered : ℕ) (found : List (Option ℕ)) : Type 0 where
   pub up_to : IsUpTo mask cells blocks row raised cover
+  pub wide : width_of kept ≡ cells
+  pub same : (c : ℕ) → painted mask blocks row c ≡ colours_of kept c
   pub as_wide : cells_of strips ≡ cells
   pub swept : IsSwept (painted mask blocks) row strips
   pub answers : AreAnswered (painted mask blocks) (strips_of strips) spots answered found
@@ -132,25 +136,17 @@ pub tree_tells : ColoursByLayers → (mask : Mask) (blocks : List Block) (row ra
 tree_tells law mask blocks row raised cover e h rest c =
     sym (subst (λ m. row_colour cover row c ≡ painted m blocks row c) e (row_painted law blocks row raised cover c h rest))
 
-pub front_at : ColoursByLayers → (mask : Mask) (blocks : List Block) (row raised : ℕ) (cover : Cover) (strips : StripRows) → cover.mask ≡ mask
-    → AreRaised blocks row raised cover → ((k : ℕ) → raised ≤ k → k < length blocks → row < (block blocks k).low)
-    → IsSwept (painted mask blocks) row strips → IsFront (painted mask blocks) row strips cover
-front_at law mask blocks row raised cover strips e h rest swept = record { swept = swept; same = tree_tells law mask blocks row raised cover e h rest }
-
--- the last cell has no colour in the tree
-pub guarded : ColoursByLayers → (mask : Mask) (cells rows : ℕ) (blocks : List Block) (row raised : ℕ) (cover : Cover) → AreStacked mask cells rows blocks
-    → cover.mask ≡ mask → cover.cells ≡ cells → AreRaised blocks row raised cover
-    → ((k : ℕ) → raised ≤ k → k < length blocks → row < (block blocks k).low) → IsGuarded cover row
-guarded law mask cells rows blocks row raised cover st e w h rest = λ c l.
-    sym (tree_tells law mask blocks row raised cover e h rest c) ∙ blank_right law mask cells rows blocks row c st (omega arith)
+-- the last cell has no colour
+pub guarded : ColoursByLayers → (mask : Mask) (cells rows : ℕ) (blocks : List Block) (row : ℕ) (kept : KeptRuns) → AreStacked mask cells rows blocks
+    → width_of kept ≡ cells → ((c : ℕ) → painted mask blocks row c ≡ colours_of kept c) → IsGuarded (width_of kept) (colours_of kept)
+guarded law mask cells rows blocks row kept st w same = λ c l. sym (same c) ∙ blank_right law mask cells rows blocks row c st (omega arith)
 
 -- runs in windows as those of the row that is painted
-pub runs_painted : ColoursByLayers → (mask : Mask) (blocks : List Block) (row raised : ℕ) (cover : Cover) (windows : List Window) (runs : List Run)
-    → cover.mask ≡ mask → AreRaised blocks row raised cover → ((k : ℕ) → raised ≤ k → k < length blocks → row < (block blocks k).low)
-    → AreRuns (seen windows (row_colour cover row)) runs → AreRuns (seen windows (painted mask blocks row)) runs
-runs_painted law mask blocks row raised cover windows runs e h rest are =
-    let same : row_colour cover row ≡ painted mask blocks row = λ i c. sym (tree_tells law mask blocks row raised cover e h rest c) i in
-    subst (λ f. AreRuns (seen windows f) runs) same are
+pub runs_painted : (colour : ℕ → ℕ) (kept : KeptRuns) (windows : List Window) (runs : List Run) → ((c : ℕ) → colour c ≡ colours_of kept c)
+    → AreRuns (seen windows (colours_of kept)) runs → AreRuns (seen windows colour) runs
+runs_painted colour kept windows runs same are =
+    let e : colours_of kept ≡ colour = λ i c. sym (same c) i in
+    subst (λ f. AreRuns (seen windows f) runs) e are
 
 seen_blank : (windows : List Window) (f : ℕ → ℕ) (c : ℕ) → f c ≡ 0 → seen windows f c ≡ 0
 seen_blank windows f c e = elim (cases_Bool (in_windows windows c)) [ inl t ↦ rw t e | inr t ↦ rw t refl ]
@@ -214,12 +210,12 @@ answered_more colour strips spots n found a asked l h is = record {
 }
 
 -- the run that has the cell is of a strip that has the spot
-pub answer_run : (colour : ℕ → ℕ → ℕ) (row n : ℕ) (strips : StripRows) (cover : Cover) (p : Spot) (r : Run) → IsFront colour row strips cover
-    → IsRun (row_colour cover row) r → r.left ≤ p.cell → p.cell < r.right → p.row ≡ row
+pub answer_run : (colour : ℕ → ℕ → ℕ) (row n : ℕ) (strips : StripRows) (kept : KeptRuns) (p : Spot) (r : Run) → IsFront colour row strips kept
+    → IsRun (colours_of kept) r → r.left ≤ p.cell → p.cell < r.right → p.row ≡ row
     → ((colour : ℕ → ℕ → ℕ) (y : ℕ) → IsSwept colour y strips → (q : Run) → q.left ≡ r.left → IsRun (colour y) q
     → IsOpenAt colour y (strips_of strips) n q) → IsAnswer colour (strips_of strips) p (Some n)
-answer_run colour row n strips cover p r front is a b e at =
-    let same : row_colour cover row ≡ colour row = λ i c. sym (front.same c) i in
+answer_run colour row n strips kept p r front is a b e at =
+    let same : colours_of kept ≡ colour row = λ i c. sym (front.same c) i in
     let o = at colour row front.swept r refl (subst (λ f. IsRun f r) same is) in
     let left = ap (λ (q : Run). q.left) o.run in
     let right = ap (λ (q : Run). q.right) o.run in
@@ -227,9 +223,9 @@ answer_run colour row n strips cover p r front is a b e at =
     (o.among, record { left = omega arith; right = omega arith; low = omega arith; each = λ z x y. o.since.each z x (omega arith) })
 
 -- and where no run has it there is no colour
-pub answer_none : (colour : ℕ → ℕ → ℕ) (row cell : ℕ) (strips : StripRows) (cover : Cover) (p : Spot) → IsFront colour row strips cover
-    → row_colour cover row cell ≡ 0 → p.row ≡ row → p.cell ≡ cell → colour p.row p.cell ≡ 0
-answer_none colour row cell strips cover p front z e f = rw (e, f) (front.same cell ∙ z)
+pub answer_none : (colour : ℕ → ℕ → ℕ) (row cell : ℕ) (strips : StripRows) (kept : KeptRuns) (p : Spot) → IsFront colour row strips kept
+    → colours_of kept cell ≡ 0 → p.row ≡ row → p.cell ≡ cell → colour p.row p.cell ≡ 0
+answer_none colour row cell strips kept p front z e f = rw (e, f) (front.same cell ∙ z)
 
 pub nothing_answered : (colour : ℕ → ℕ → ℕ) (strips : List Strip) (spots : List Spot) (found : List (Option ℕ)) → AreAnswered colour strips spots 0 found
 nothing_answered colour strips spots found = record { within = omega arith; each = λ j l. absurd (omega arith) }
@@ -238,21 +234,15 @@ pub fit_tree : (mask m : Mask) (cells n rows : ℕ) (blocks : List Block) → m 
 fit_tree mask m cells n rows blocks e f st = rw (e, f) (fits mask cells rows blocks st)
 
 -- what windows tell is told of the rows that are painted
-pub whole_step : ColoursByLayers → (mask : Mask) (cells : ℕ) (blocks : List Block) (below raised more : ℕ) (cover now : Cover) (changed same : List Stretch)
-    (windows first second : List Window) (olds news : List Run) → IsUpTo mask cells blocks below raised cover
-    → IsUpTo mask cells blocks (below + 1) more now → ChangeAt changed (painted mask blocks below) (painted mask blocks (below + 1))
-    → same ≡ changed → first ≡ windows → second ≡ windows
-    → ((colour : ℕ → ℕ → ℕ) (y : ℕ) → ((c : ℕ) → colour y c ≡ row_colour cover below c)
-    → ChangeAt same (colour y) (colour (y + 1)) → TellChange colour y windows)
-    → AreRuns (seen first (row_colour cover below)) olds → AreRuns (seen second (row_colour now (below + 1))) news
-    → IsChange (painted mask blocks) below olds news
-whole_step law mask cells blocks below raised more cover now changed same windows first second olds news up upper at g a b tell h k =
-    tell (painted mask blocks) below (tree_tells law mask blocks below raised cover up.of_mask up.are up.waiting)
-    (subst (λ ss. ChangeAt ss (painted mask blocks below) (painted mask blocks (below + 1))) (sym g) at) olds news
-    (subst (λ ws. AreRuns (seen ws (painted mask blocks below)) olds) a
-    (runs_painted law mask blocks below raised cover first olds up.of_mask up.are up.waiting h))
-    (subst (λ ws. AreRuns (seen ws (painted mask blocks (below + 1))) news) b
-    (runs_painted law mask blocks (below + 1) more now second news upper.of_mask upper.are upper.waiting k))
+pub whole_step : (colour : ℕ → ℕ → ℕ) (below : ℕ) (old now : KeptRuns) (changed same : List Stretch) (windows first second : List Window) (olds news : List Run)
+    → ((c : ℕ) → colour below c ≡ colours_of old c) → ((c : ℕ) → colour (below + 1) c ≡ colours_of now c)
+    → ChangeAt changed (colour below) (colour (below + 1)) → same ≡ changed → first ≡ windows → second ≡ windows
+    → ((f : ℕ → ℕ → ℕ) (y : ℕ) → ((c : ℕ) → f y c ≡ colours_of old c) → ChangeAt same (f y) (f (y + 1)) → TellChange f y windows)
+    → AreRuns (seen first (colours_of old)) olds → AreRuns (seen second (colours_of now)) news → IsChange colour below olds news
+whole_step colour below old now changed same windows first second olds news p q at g a b tell h k =
+    tell colour below p (subst (λ ss. ChangeAt ss (colour below) (colour (below + 1))) (sym g) at) olds news
+    (subst (λ ws. AreRuns (seen ws (colour below)) olds) a (runs_painted (colour below) old first olds p h))
+    (subst (λ ws. AreRuns (seen ws (colour (below + 1))) news) b (runs_painted (colour (below + 1)) now second news q k))
 
 -- the last cell has no colour in either row
 pub last_alike : ColoursByLayers → (mask : Mask) (cells rows : ℕ) (blocks : List Block) (below : ℕ) → AreStacked mask cells rows blocks

@@ -72,15 +72,15 @@ one_strip colour s t y c h g a b =
     (subst (λ q. Stretch (λ z. IsRun (colour z) q) t.low t.high) (sym r) (strip_stretch colour t g)) a.low a.high b.low b.high in
     same_strip s t r e.0 e.1
 
--- where a kind is decided, each cell of it is in a longest stretch, if the first cell and those from n on are not of it
-down_from : (D : ℕ → Type 0) → ((c : ℕ) → D c ⊎ (¬ D c)) → ¬ D 0 → (c : ℕ) → D c
-    → (l : ℕ) × (l ≤ c) × (0 < l) × ((z : ℕ) → l ≤ z → z ≤ c → D z) × ((z : ℕ) → z + 1 ≡ l → ¬ D z)
-down_from D dec none zero h = absurd (none h)
-down_from D dec none (suc c) h = elim (dec c) [
+-- where a kind is decided, each cell of it is in a longest stretch, if those from n on are not of it
+down_from : (D : ℕ → Type 0) → ((c : ℕ) → D c ⊎ (¬ D c)) → (c : ℕ) → D c
+    → (l : ℕ) × (l ≤ c) × ((z : ℕ) → l ≤ z → z ≤ c → D z) × ((z : ℕ) → z + 1 ≡ l → ¬ D z)
+down_from D dec zero h = (0, omega arith, (λ z a b. let e : 0 ≡ z = omega arith in subst D e h), λ z e. absurd (omega arith))
+down_from D dec (suc c) h = elim (dec c) [
   | inl d ↦
-      let g = down_from D dec none c d in
-      (g.0, omega arith, g.2, (λ z a b. elim (eq-or-lt_of_le b) [ inl e ↦ subst D (sym e) h | inr m ↦ g.3 z a (omega arith) ]), g.4)
-  | inr n ↦ (suc c, omega arith, omega arith, (λ z a b. let e : suc c ≡ z = omega arith in subst D e h), λ z e d. n (let q : z ≡ c = omega arith in subst D q d))
+      let g = down_from D dec c d in
+      (g.0, omega arith, (λ z a b. elim (eq-or-lt_of_le b) [ inl e ↦ subst D (sym e) h | inr m ↦ g.2 z a (omega arith) ]), g.3)
+  | inr n ↦ (suc c, omega arith, (λ z a b. let e : suc c ≡ z = omega arith in subst D e h), λ z e d. n (let q : z ≡ c = omega arith in subst D q d))
 ]
 
 up_from : (D : ℕ → Type 0) → ((c : ℕ) → D c ⊎ (¬ D c)) → (n c : ℕ) → ¬ D (c + n) → D c
@@ -95,10 +95,10 @@ up_from D dec (suc n) c none h = elim (dec (c + 1)) [
 ]
 
 -- the stretch around a cell
-pub stretch_around : (D : ℕ → Type 0) → ((c : ℕ) → D c ⊎ (¬ D c)) → ¬ D 0 → (n c : ℕ) → ((z : ℕ) → n ≤ z → ¬ D z) → D c
+pub stretch_around : (D : ℕ → Type 0) → ((c : ℕ) → D c ⊎ (¬ D c)) → (n c : ℕ) → ((z : ℕ) → n ≤ z → ¬ D z) → D c
     → (l : ℕ) × (r : ℕ) × (l ≤ c) × (c < r) × Stretch D l r
-stretch_around D dec first n c last h =
-    let d = down_from D dec first c h in
+stretch_around D dec n c last h =
+    let d = down_from D dec c h in
     let u = up_from D dec n c (last (c + n) (omega arith)) h in (
       d.0,
       u.0,
@@ -106,8 +106,8 @@ stretch_around D dec first n c last h =
       u.1,
       record {
         wide = omega arith;
-        each = λ z a b. elim (cases_lt z c) [ inl m ↦ d.3 z a (omega arith) | inr m ↦ u.3 z m b ];
-        before = d.4;
+        each = λ z a b. elim (cases_lt z c) [ inl m ↦ d.2 z a (omega arith) | inr m ↦ u.3 z m b ];
+        before = d.3;
         after = u.4;
       },
     )
@@ -153,23 +153,22 @@ run_or_not colour r =
     ]
 
 -- each coloured cell is in a run of its colour
-pub run_around : (colour : ℕ → ℕ) (n c : ℕ) → colour 0 ≡ 0 → ((z : ℕ) → n ≤ z → colour z ≡ 0) → 0 < colour c
+pub run_around : (colour : ℕ → ℕ) (n c : ℕ) → ((z : ℕ) → n ≤ z → colour z ≡ 0) → 0 < colour c
     → (r : Run) × IsRun colour r × (r.left ≤ c) × (c < r.right)
-run_around colour n c first last some =
+run_around colour n c last some =
     let k = colour c in
-    let g = stretch_around (OfColour colour k) (λ z. cases_eq (colour z) k) (λ e. absurd (omega arith)) n c
+    let g = stretch_around (OfColour colour k) (λ z. cases_eq (colour z) k) n c
     (λ z m e. let b = last z m in absurd (omega arith)) refl in
     let r : Run = record { left = g.0; right = g.1; colour = k } in
     (r, stretch_run colour r some g.4, g.2, g.3)
 
 -- each coloured cell is in a strip of its colour
-pub strip_around : (colour : ℕ → ℕ → ℕ) (n m y c : ℕ) → ((z : ℕ) → colour z 0 ≡ 0) → ((z w : ℕ) → n ≤ w → colour z w ≡ 0)
-    → ((w : ℕ) → colour 0 w ≡ 0) → ((z w : ℕ) → m ≤ z → colour z w ≡ 0) → 0 < colour y c
+pub strip_around : (colour : ℕ → ℕ → ℕ) (n m y c : ℕ) → ((z w : ℕ) → n ≤ w → colour z w ≡ 0)
+    → ((z w : ℕ) → m ≤ z → colour z w ≡ 0) → 0 < colour y c
     → (s : Strip) × IsStrip colour s × HasCell s y c
-strip_around colour n m y c left right low high some =
-    let r = run_around (colour y) n c (left y) (right y) some in
-    let g = stretch_around (λ z. IsRun (colour z) r.0) (λ z. run_or_not (colour z) r.0)
-    (λ h. let e = h.each c r.2 r.3 in let s = h.some in let b = low c in absurd (omega arith)) m y
+strip_around colour n m y c right high some =
+    let r = run_around (colour y) n c (right y) some in
+    let g = stretch_around (λ z. IsRun (colour z) r.0) (λ z. run_or_not (colour z) r.0) m y
     (λ z l h. let e = h.each c r.2 r.3 in let s = h.some in let b = high z c l in absurd (omega arith)) r.1 in
     let s : Strip = record { left = r.0.left; right = r.0.right; low = g.0; high = g.1; colour = r.0.colour } in
     (s, stretch_strip colour s g.4, record { left = r.2; right = r.3; low = g.2; high = g.3 })

@@ -235,9 +235,7 @@ are_whole xs ys mask shapes blocks strips h are = record {
       let cells = length xs + 1 in
       let rows = length ys + 1 in
       let g = strip_around (painted mask blocks) (length xs) (length ys) (cell_of ys y) (cell_of xs x)
-      (λ z. blank_left h.law mask cells rows blocks z h.stacked)
       (λ z w l. blank_right h.law mask cells rows blocks z w h.stacked (omega arith))
-      (λ w. blank_below h.law mask cells rows blocks w h.stacked)
       (λ z w l. blank_above h.law mask cells rows blocks z w h.stacked (omega arith))
       (omega arith) in
       let run = g.1.each (cell_of ys y) g.2.low g.2.high in

@@ -4,3 +4,4 @@ pub mod Grid
 pub mod Blocks
 pub mod Rows
 pub mod Begins
+pub mod Repainting

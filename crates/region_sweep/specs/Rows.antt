@@ -6,7 +6,9 @@ use Rattle.lam_geom.specs.declared.layer.Layer.TheVariants.{ND}
 use Rattle.mask_runs.specs.declared.mask.Mask.{Mask}
 use Rattle.mask_runs.specs.Runs.{IsRun}
 use Rattle.mask_runs.specs.Colours.{uses}
-use Rattle.cover_tree.specs.Covers.{Cover, row_colour}
+use Rattle.cover_tree.specs.Covers.{Cover}
+use Rattle.kept_runs.specs.declared.runs.KeptRuns.{KeptRuns}
+use Rattle.kept_runs.specs.Kept.{colours_of}
 use Rattle.strip_rows.specs.declared.rows.StripRows.{StripRows}
 use Rattle.strip_rows.specs.Swept.{IsSwept}
 use Rattle.strip_rows.specs.declared.strip.Strip.{Strip}
@@ -66,10 +68,10 @@ pub record AreAsked (places : ℕ) (spots : List Spot) : Type 0 where
   pub ascending : IsNonDecreasingBy (λ s. s.row) spots
   pub one : (i j : ℕ) → i < length spots → j < length spots → (spot spots i).index ≡ (spot spots j).index → spot spots i ≡ spot spots j
 
--- the strips up to a row, and a tree with the colours of that row
-pub record IsFront (colour : ℕ → ℕ → ℕ) (row : ℕ) (strips : StripRows) (cover : Cover) : Type 0 where
+-- the strips up to a row, and the runs that are kept of that row
+pub record IsFront (colour : ℕ → ℕ → ℕ) (row : ℕ) (strips : StripRows) (kept : KeptRuns) : Type 0 where
   pub swept : IsSwept colour row strips
-  pub same : (c : ℕ) → colour row c ≡ row_colour cover row c
+  pub same : (c : ℕ) → colour row c ≡ colours_of kept c
 
 -- the strip has the cell of the row, and each of its rows up to there has its run
 pub record Holds (colour : ℕ → ℕ → ℕ) (s : Strip) (row cell : ℕ) : Type 0 where

@@ -6,6 +6,7 @@ mod block;
 mod changes;
 mod grid;
 mod reach;
+mod repaint;
 mod rows;
 mod spot;
 mod swept;

@@ -2,6 +2,7 @@
 
 ghost use Rattle.std.specs.Prelude.{◌≡◌, ℕ, ◌+◌, ◌<◌, ◌≤◌, ◌^◌, All, IfOk, length};
 ghost use Rattle.cover_tree.specs.Trees.{cover_of};
+ghost use Rattle.kept_runs.specs.Kept.{width_of};
 ghost use Rattle.strip_rows.specs.Swept.{strips_of, cells_of};
 ghost use Rattle.region_sweep.specs.Blocks.{painted, AreStacked};
 ghost use Rattle.region_sweep.specs.declared.spot.Spot.{Spot};
@@ -9,8 +10,10 @@ ghost use Rattle.region_sweep.specs.Rows.{spot, AreWithin, AreRaised, IsUpTo, Ar
 
 use crate::block::Block;
 use crate::changes::find_changes;
+use crate::repaint::repaint;
 use crate::spot::Spot;
 use cover_tree::CoverTree;
+use kept_runs::KeptRuns;
 use mask_runs::{Mask, colours_by_layers};
 use mp_base::NoMemory;
 use row_windows::{collect_windows, find_windows};
@@ -45,6 +48,7 @@ pub(crate) fn sweep_rows(
 {
     colours_by_layers();
     let mut tree = CoverTree::new(alloc, mask, size.cells)?;
+    let mut kept = KeptRuns::new(alloc, size.cells)?;
     let mut strips = StripRows::new(alloc, size.cells)?;
     let mut changed = Vec::new(alloc);
     let mut windows = Vec::new(alloc);
@@ -52,16 +56,17 @@ pub(crate) fn sweep_rows(
     let mut old = Vec::new(alloc);
     let mut new = Vec::new(alloc);
     let mut raised = 0;
-    let mut answered = answer(&strips, &tree, spots, 0, 0, found);
+    let mut answered = answer(&strips, &kept, spots, 0, 0, found);
     for below in 0..size.rows - 1 {
         let row = below + 1;
         find_changes(&tree, size.cells, blocks, raised, below, &mut changed)?;
-        find_windows(&tree, below, &changed, &mut windows)?;
-        collect_windows(&tree, below, &windows, &mut piece, &mut old)?;
+        find_windows(&kept, &changed, &mut windows)?;
+        collect_windows(&kept, &windows, &mut piece, &mut old)?;
         raised = raise(&mut tree, blocks, raised, row);
-        collect_windows(&tree, row, &windows, &mut piece, &mut new)?;
+        repaint(&tree, row, &changed, &mut piece, &mut kept)?;
+        collect_windows(&kept, &windows, &mut piece, &mut new)?;
         strips.step(&old, &new)?;
-        answered = answer(&strips, &tree, spots, answered, row, found);
+        answered = answer(&strips, &kept, spots, answered, row, found);
     }
     Ok(strips.finish())
 }
@@ -85,18 +90,18 @@ fn raise(tree: &mut CoverTree, blocks: &[Block], raised: usize, row: u32) -> usi
 // Answers the spots of the row.
 fn answer(
     strips: &StripRows,
-    tree: &CoverTree,
+    kept: &KeptRuns,
     spots: &[Spot],
     answered: usize,
     row: u32,
     found: &mut [Option<u32>],
 ) -> usize
-    requires cells { (cover_of tree.now).cells ≤ cells_of strips.now }
+    requires cells { width_of kept.now ≤ cells_of strips.now }
     requires spots { AreAsked (length found.old) spots.now }
-    requires places { All (λ s. s.cell < (cover_of tree.now).cells) spots.now }
+    requires places { All (λ s. s.cell < width_of kept.now) spots.now }
     requires within { answered ≤ length spots.now }
     requires waiting { (j : ℕ) → answered ≤ j → j < length spots.now → row ≤ (spot spots.now j).row }
-    ensures answers { (colour : ℕ → ℕ → ℕ) → IsFront colour row strips.now (cover_of tree.now) → AreAnswered colour (strips_of strips.now) spots.now answered found.old
+    ensures answers { (colour : ℕ → ℕ → ℕ) → IsFront colour row strips.now kept.now → AreAnswered colour (strips_of strips.now) spots.now answered found.old
         → AreAnswered colour (strips_of strips.now) spots.now result found.new }
     ensures within { result ≤ length spots.now }
     ensures waiting { (j : ℕ) → result ≤ j → j < length spots.now → row < (spot spots.now j).row }
@@ -104,20 +109,20 @@ fn answer(
     let mut next = answered;
     while next < spots.len() && spots[next].row == row {
         let spot = spots[next];
-        found[spot.index] = number_at(strips, tree, row, spot.cell);
+        found[spot.index] = number_at(strips, kept, spot.cell);
         next += 1;
     }
     next
 }
 
-// The number of the strip that has a cell of the row.
-fn number_at(strips: &StripRows, tree: &CoverTree, row: u32, cell: u32) -> Option<u32>
-    requires cells { (cover_of tree.now).cells ≤ cells_of strips.now }
-    requires cell { cell < (cover_of tree.now).cells }
-    ensures { (colour : ℕ → ℕ → ℕ) (p : Spot) → IsFront colour row strips.now (cover_of tree.now) → p.row ≡ row → p.cell ≡ cell
+// The number of the strip that has a cell of the last row.
+fn number_at(strips: &StripRows, kept: &KeptRuns, cell: u32) -> Option<u32>
+    requires cells { width_of kept.now ≤ cells_of strips.now }
+    requires cell { cell < width_of kept.now }
+    ensures { (colour : ℕ → ℕ → ℕ) (row : ℕ) (p : Spot) → IsFront colour row strips.now kept.now → p.row ≡ row → p.cell ≡ cell
         → IsAnswer colour (strips_of strips.now) p result }
 {
-    match tree.run_at(row, cell) {
+    match kept.run_at(cell) {
         Some(run) => Some(strips.strip_at(run.left)),
         None => None,
     }

@@ -7,7 +7,7 @@ use Rattle.std.proofs.lemmas.List.{get_or_append_left, get_or-append_right, leng
 use Rattle.std.proofs.lemmas.List.Elements.{All-append, Contains-append_left, Contains-append_right}
 use Rattle.mask_runs.specs.declared.run.Run.{Run}
 use Rattle.mask_runs.specs.Runs.{IsRun, AreRuns}
-use Rattle.cover_tree.specs.Covers.{windowed}
+use Rattle.kept_runs.specs.Borders.{windowed}
 use Rattle.row_windows.specs.declared.window.Window.{Window}
 use Rattle.row_windows.specs.Windows.{AreApart, seen}
 use Rattle.row_windows.proofs.Cutting.{window, no_window, InWindow, in_or_not, seen_in, seen_out}

@@ -3,7 +3,6 @@ use Rattle.std.specs.Prelude.{◌≡◌, ◌||◌, ◌&&◌, ℕ, ◌+◌, ◌<�
 use Rattle.std.specs.List.Sorted.{IsNonDecreasingBy}
 use Rattle.mask_runs.specs.declared.run.Run.{Run}
 use Rattle.mask_runs.specs.Runs.{AreRuns}
-use Rattle.cover_tree.specs.Covers.{Cover, row_colour}
 use Rattle.strip_rows.specs.Changes.{IsChange}
 use Rattle.cover_tree.specs.declared.stretch.Stretch.{Stretch}
 use Rattle.row_windows.specs.declared.window.Window.{Window}
@@ -33,8 +32,8 @@ pub record AreFit (cells : ℕ) (stretches : List Stretch) : Type 0 where
   pub ascending : IsNonDecreasingBy (λ e. e.from) stretches
 
 -- the last cell of the row has no colour, nor has any past it
-abbrev pub IsGuarded : Cover → ℕ → Type 0
-IsGuarded cover row = (c : ℕ) → cover.cells ≤ c + 1 → row_colour cover row c ≡ 0
+abbrev pub IsGuarded : ℕ → (ℕ → ℕ) → Type 0
+IsGuarded cells colour = (c : ℕ) → cells ≤ c + 1 → colour c ≡ 0
 
 -- they lie apart, from left to right, in so many cells
 pub record AreApart (cells : ℕ) (windows : List Window) : Type 0 where

@@ -1,14 +1,14 @@
 //! The windows around the cells that may change.
 
 ghost use Rattle.std.specs.Prelude.{◌≡◌, ℕ, ◌+◌, ◌<◌, [], ◌∷◌, ◌++◌, IfOk, OnOk};
-ghost use Rattle.cover_tree.specs.Covers.{row_colour};
-ghost use Rattle.cover_tree.specs.Trees.{cover_of};
+ghost use Rattle.kept_runs.specs.Kept.{colours_of, width_of};
 ghost use Rattle.row_windows.specs.Windows.{AreFit, AreApart, ChangeAt, TellChange, IsGuarded};
 ghost use Rattle.row_windows.specs.Reaching.{IsOpened, IsRightOf};
 
 use crate::reach::{left_of, right_of};
 use crate::window::Window;
-use cover_tree::{CoverTree, Stretch};
+use cover_tree::Stretch;
+use kept_runs::KeptRuns;
 use mp_base::NoMemory;
 use std::alloc::AllocError;
 
@@ -20,15 +20,14 @@ const NEAR: u32 = 32;
 /// window reaches over two runs beside such cells, if they lie next to one another, so that the runs in the windows, in
 /// this row and in the next, tell all that changes. Its time is that of the stretches times the logarithm of the cells.
 pub fn find_windows(
-    tree: &CoverTree,
-    row: u32,
+    kept: &KeptRuns,
     stretches: &[Stretch],
     windows: &mut Vec<Window>,
 ) -> Result<(), NoMemory>
-    requires fit { AreFit (cover_of tree.now).cells stretches.now }
-    requires guarded { IsGuarded (cover_of tree.now) row }
-    ensures apart { IfOk result (λ _. AreApart (cover_of tree.now).cells windows.new.items) }
-    ensures tell { IfOk result (λ _. (colour : ℕ → ℕ → ℕ) (y : ℕ) → ((c : ℕ) → colour y c ≡ row_colour (cover_of tree.now) row c)
+    requires fit { AreFit (width_of kept.now) stretches.now }
+    requires guarded { IsGuarded (width_of kept.now) (colours_of kept.now) }
+    ensures apart { IfOk result (λ _. AreApart (width_of kept.now) windows.new.items) }
+    ensures tell { IfOk result (λ _. (colour : ℕ → ℕ → ℕ) (y : ℕ) → ((c : ℕ) → colour y c ≡ colours_of kept.now c)
         → ChangeAt stretches.now (colour y) (colour (y + 1)) → TellChange colour y windows.new.items) }
 {
     windows.clear();
@@ -36,29 +35,28 @@ pub fn find_windows(
         return Ok(());
     }
     let mut current = Window {
-        from: left_of(tree, row, stretches[0].from),
+        from: left_of(kept, stretches[0].from),
         to: stretches[0].to,
     };
     for next in 1..stretches.len() {
-        current = add_stretch(tree, row, current, stretches[next], windows)?;
+        current = add_stretch(kept, current, stretches[next], windows)?;
     }
-    add(windows, closed(tree, row, current))?;
+    add(windows, closed(kept, current))?;
     Ok(())
 }
 
 // Adds the current window if the stretch lies well beyond it, and gives the current one then, whose `to` is where the stretches end that
 // it has.
 fn add_stretch(
-    tree: &CoverTree,
-    row: u32,
+    kept: &KeptRuns,
     current: Window,
     stretch: Stretch,
     windows: &mut Vec<Window>,
 ) -> Result<Window, NoMemory>
-    requires current { current.to < (cover_of tree.now).cells }
-    requires stretch { stretch.from < (cover_of tree.now).cells }
-    requires guarded { IsGuarded (cover_of tree.now) row }
-    ensures { IfOk result (λ next. IsOpened (row_colour (cover_of tree.now) row) (cover_of tree.now).cells current stretch windows.old.items windows.new.items next) }
+    requires current { current.to < width_of kept.now }
+    requires stretch { stretch.from < width_of kept.now }
+    requires guarded { IsGuarded (width_of kept.now) (colours_of kept.now) }
+    ensures { IfOk result (λ next. IsOpened (colours_of kept.now) (width_of kept.now) current stretch windows.old.items windows.new.items next) }
 {
     let joined = Window {
         from: current.from,
@@ -67,8 +65,8 @@ fn add_stretch(
     if stretch.from.saturating_sub(current.to) <= NEAR {
         return Ok(joined);
     }
-    let window = closed(tree, row, current);
-    let from = left_of(tree, row, stretch.from);
+    let window = closed(kept, current);
+    let from = left_of(kept, stretch.from);
     if from <= window.to {
         return Ok(joined);
     }
@@ -80,16 +78,16 @@ fn add_stretch(
 }
 
 // The window with the runs to the right of its stretches.
-fn closed(tree: &CoverTree, row: u32, current: Window) -> Window
-    requires current { current.to < (cover_of tree.now).cells }
-    requires guarded { IsGuarded (cover_of tree.now) row }
+fn closed(kept: &KeptRuns, current: Window) -> Window
+    requires current { current.to < width_of kept.now }
+    requires guarded { IsGuarded (width_of kept.now) (colours_of kept.now) }
     ensures from { result.from ≡ current.from }
-    ensures to { IsRightOf (row_colour (cover_of tree.now) row) current.to result.to }
-    ensures within { result.to < (cover_of tree.now).cells }
+    ensures to { IsRightOf (colours_of kept.now) current.to result.to }
+    ensures within { result.to < width_of kept.now }
 {
     Window {
         from: current.from,
-        to: right_of(tree, row, current.to),
+        to: right_of(kept, current.to),
     }
 }
 

@@ -89,3 +89,14 @@ pub(crate) fn places(alloc: Global, text: &[u8]) -> Result<Vec<Point>, AllocErro
     }
     Ok(places)
 }
+
+/// The numbers of the lines.
+pub(crate) fn counts(alloc: Global, text: &[u8]) -> Result<Vec<u32>, AllocError> {
+    let mut counts = Vec::new(alloc);
+    for line in text.split(|byte| *byte == b'\n') {
+        if !line.is_empty() {
+            counts.push(u32::try_from(natural(line)).unwrap_or(0))?;
+        }
+    }
+    Ok(counts)
+}

@@ -5,17 +5,27 @@ mod drawn;
 mod large;
 mod show;
 
+use drawn::counts;
 use lam_geom::Layer;
 use large::{comb, stairs, woven};
 use mask_runs::Mask;
 use show::{show_list, show_size};
-use std::io;
+use std::{fs, io};
 
 const COUNT: u32 = 30_000;
 
-fn show_stairs(rt: &HostRuntime) -> io::Result<()> {
-    let shapes = stairs(rt.alloc(), COUNT)?;
+fn show_stairs(rt: &HostRuntime, count: u32) -> io::Result<()> {
+    let shapes = stairs(rt.alloc(), count)?;
     show_size(rt, "stairs", shapes.as_slice(), Mask::Only(Layer::NM))
+}
+
+// Rows of twice as many cells as boxes, and one more: about as many as the words of a set have bits.
+fn show_flights(rt: &HostRuntime) -> io::Result<()> {
+    let table = fs::read(rt, "stairs.txt")?;
+    for count in counts(rt.alloc(), &table)?.as_slice() {
+        show_stairs(rt, *count)?;
+    }
+    Ok(())
 }
 
 fn show_comb(rt: &HostRuntime) -> io::Result<()> {
@@ -44,7 +54,8 @@ fn main(rt: HostRuntime) -> io::Result<()> {
     show_list(&rt, "masks.txt")?;
     show_list(&rt, "random.txt")?;
     show_list(&rt, "layers.txt")?;
-    show_stairs(&rt)?;
+    show_flights(&rt)?;
+    show_stairs(&rt, COUNT)?;
     show_comb(&rt)?;
     show_implanted(&rt)?;
     show_cut(&rt)

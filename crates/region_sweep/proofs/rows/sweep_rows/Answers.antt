@@ -1,6 +1,9 @@
 -- Row by row.
 use Rattle.std.proofs.Common.{ℕ, ◌+◌, ◌≤◌, ◌<◌, sym, ◌∙◌, subst, arith, length}
+use Rattle.std.specs.Prelude.{All}
+use Rattle.cover_tree.specs.Covers.{row_colour}
 use Rattle.cover_tree.specs.Trees.{cover_of}
+use Rattle.kept_runs.specs.Kept.{width_of}
 use Rattle.strip_rows.specs.Changes.{LieInRow, IsChange}
 use Rattle.strip_rows.specs.Swept.{strips_of, cells_of}
 use Rattle.row_windows.specs.Windows.{AreFit}
@@ -8,53 +11,77 @@ use Rattle.region_sweep.specs.Begins.{AreChanges}
 use Rattle.region_sweep.specs.Blocks.{painted}
 use Rattle.region_sweep.specs.Rows.{AreAnswered, IsUpTo}
 use Rattle.region_sweep.proofs.Changing.{changes_at, changes_fit}
-use Rattle.region_sweep.proofs.Painting.{blank_above}
-use Rattle.region_sweep.proofs.Rowwise.{nothing_raised, nothing_answered, guarded, runs_painted, lie_in, front_at, still_answered, all_answered, last_alike, whole_step, rest_above, swept_first}
+use Rattle.region_sweep.specs.Repainting.{IsRepainted}
+use Rattle.region_sweep.proofs.Painting.{blank_above, blank_below}
+use Rattle.region_sweep.proofs.Repainting.{next_kept}
+use Rattle.region_sweep.proofs.Rowwise.{nothing_raised, nothing_answered, guarded, runs_painted, lie_in, tree_tells, still_answered, all_answered, last_alike, whole_step, rest_above, swept_first}
 use Rattle.region_sweep.proofs.rows.sweep_rows.Goals as goal
 
 pub find_windows-requires-clause-fit : goal.find_windows-requires-clause-fit
 find_windows-requires-clause-fit c =
-    let up = c.loop-below.invariant.up_to in
+    let inv = c.loop-below.invariant in
     let mask = c.args.mask in
     let cells = c.args.size.cells in
     let blocks = c.args.blocks.now in
     let below = c.loop-below.below in
-    let told = subst (λ m. AreChanges (painted m blocks below) (painted m blocks (below + 1)) cells c.find_changes.new.changed.items) up.of_mask
+    let told = subst (λ m. AreChanges (painted m blocks below) (painted m blocks (below + 1)) cells c.find_changes.new.changed.items) inv.up_to.of_mask
     c.in_ok-find_changes.ensures in
-    subst (AreFit (cover_of c.loop-below.tree).cells) (sym c.deref.ensures.value)
-    (subst (λ n. AreFit n c.find_changes.new.changed.items) (sym up.wide)
+    subst (AreFit (width_of c.loop-below.kept)) (sym c.deref.ensures.value)
+    (subst (λ n. AreFit n c.find_changes.new.changed.items) (sym inv.wide)
     (changes_fit (painted mask blocks below) (painted mask blocks (below + 1)) cells c.find_changes.new.changed.items
     (last_alike c.colours_by_layers.ensures mask cells c.args.size.rows blocks below c.requires.stacked) told))
 
 pub find_windows-requires-clause-guarded : goal.find_windows-requires-clause-guarded
 find_windows-requires-clause-guarded c =
-    let up = c.loop-below.invariant.up_to in
-    guarded c.colours_by_layers.ensures c.args.mask c.args.size.cells c.args.size.rows c.args.blocks.now c.loop-below.below c.loop-below.raised
-    (cover_of c.loop-below.tree) c.requires.stacked up.of_mask up.wide up.are up.waiting
+    let inv = c.loop-below.invariant in
+    guarded c.colours_by_layers.ensures c.args.mask c.args.size.cells c.args.size.rows c.args.blocks.now c.loop-below.below c.loop-below.kept
+    c.requires.stacked inv.wide inv.same
+
+pub repaint-requires-clause-wide : goal.repaint-requires-clause-wide
+repaint-requires-clause-wide c = subst (All (λ s. s.from < s.to)) (sym c.deref-in-loop-below-2.ensures.value) c.in_ok-find_changes.ensures.wide
+
+pub repaint-requires-clause-within : goal.repaint-requires-clause-within
+repaint-requires-clause-within c =
+    subst (All (λ s. s.to ≤ width_of c.loop-below.kept)) (sym c.deref-in-loop-below-2.ensures.value)
+    (subst (λ n. All (λ s. s.to ≤ n) c.find_changes.new.changed.items) (sym c.loop-below.invariant.wide) c.in_ok-find_changes.ensures.within)
+
+pub repaint-requires-clause-cells : goal.repaint-requires-clause-cells
+repaint-requires-clause-cells c =
+    c.loop-below.invariant.wide ∙ sym (c.raise-raised.ensures.wide ∙ c.loop-below.invariant.up_to.wide)
 
 pub step-requires-clause-old : goal.step-requires-clause-old
 step-requires-clause-old c =
     let inv = c.loop-below.invariant in
-    let up = inv.up_to in
-    let law = c.colours_by_layers.ensures in
     let runs = c.collect_windows.new.runs.items in
     let windows = c.deref-in-loop-below.result.now in
-    let are = runs_painted law c.args.mask c.args.blocks.now c.loop-below.below c.loop-below.raised (cover_of c.loop-below.tree) windows runs up.of_mask
-    up.are up.waiting c.in_ok-collect_windows.ensures in
-    subst (LieInRow (cells_of c.loop-below.strips)) (sym c.deref-in-loop-below-3.ensures.value)
-    (lie_in law c.args.mask c.args.size.cells c.args.size.rows c.args.blocks.now c.loop-below.below _ windows runs c.requires.stacked inv.as_wide are)
+    let colour = painted c.args.mask c.args.blocks.now in
+    let are = runs_painted (colour c.loop-below.below) c.loop-below.kept windows runs inv.same c.in_ok-collect_windows.ensures in
+    subst (LieInRow (cells_of c.loop-below.strips)) (sym c.deref-in-loop-below-4.ensures.value)
+    (lie_in c.colours_by_layers.ensures c.args.mask c.args.size.cells c.args.size.rows c.args.blocks.now c.loop-below.below _ windows runs c.requires.stacked inv.as_wide are)
 
 pub step-requires-clause-new : goal.step-requires-clause-new
 step-requires-clause-new c =
     let inv = c.loop-below.invariant in
-    let up = c.raise-raised.ensures in
     let law = c.colours_by_layers.ensures in
+    let mask = c.args.mask in
+    let cells = c.args.size.cells in
+    let blocks = c.args.blocks.now in
+    let below = c.loop-below.below in
+    let colour = painted mask blocks in
+    let changed = c.find_changes.new.changed.items in
+    let up = c.raise-raised.ensures in
+    let new = cover_of c.raise-raised.new.tree in
+    let kept = c.repaint.new.kept in
+    let told = subst (λ m. AreChanges (painted m blocks below) (painted m blocks (below + 1)) cells changed) inv.up_to.of_mask c.in_ok-find_changes.ensures in
+    let at = changes_at (colour below) (colour (below + 1)) cells changed (last_alike law mask cells c.args.size.rows blocks below c.requires.stacked) told in
+    let same = next_kept colour below (row_colour new (below + 1)) c.loop-below.kept kept changed inv.same
+    (tree_tells law mask blocks (below + 1) c.raise-raised.result new (up.of_mask ∙ inv.up_to.of_mask) up.are up.waiting) at
+    (subst (IsRepainted (row_colour new (below + 1)) c.loop-below.kept kept) c.deref-in-loop-below-2.ensures.value c.in_ok-repaint.ensures) in
     let runs = c.collect_windows-in-loop-below.new.runs.items in
-    let windows = c.deref-in-loop-below-2.result.now in
-    let are = runs_painted law c.args.mask c.args.blocks.now (c.loop-below.below + 1) c.raise-raised.result (cover_of c.raise-raised.new.tree) windows runs
-    (up.of_mask ∙ inv.up_to.of_mask) up.are up.waiting c.in_ok-collect_windows-2.ensures in
-    subst (LieInRow (cells_of c.loop-below.strips)) (sym c.deref-in-loop-below-4.ensures.value)
-    (lie_in law c.args.mask c.args.size.cells c.args.size.rows c.args.blocks.now (c.loop-below.below + 1) _ windows runs c.requires.stacked inv.as_wide are)
+    let windows = c.deref-in-loop-below-3.result.now in
+    let are = runs_painted (colour (below + 1)) kept windows runs same c.in_ok-collect_windows-2.ensures in
+    subst (LieInRow (cells_of c.loop-below.strips)) (sym c.deref-in-loop-below-5.ensures.value)
+    (lie_in law mask cells c.args.size.rows blocks (below + 1) _ windows runs c.requires.stacked inv.as_wide are)
 
 pub loop-below-init : goal.loop-below-init
 loop-below-init c =
@@ -64,17 +91,20 @@ loop-below-init c =
     let rows = c.args.size.rows in
     let blocks = c.args.blocks.now in
     let strips = c.in_ok-strips.strips in
+    let kept = c.in_ok-kept.kept in
     let cover = cover_of c.in_ok-tree.tree in
     let stacked = c.requires.stacked in
     let raised = nothing_raised mask cells blocks cover c.in_ok-tree.ensures in
     let rest = λ (k : ℕ) (l : 0 ≤ k) (m : k < length blocks). rest_above mask cells rows blocks stacked k m in
     let swept = swept_first law mask cells rows blocks strips stacked c.in_ok-strips.ensures.strips in
+    let same = λ (x : ℕ). blank_below law mask cells rows blocks x stacked ∙ sym (c.in_ok-kept.ensures.blank x) in
     record {
       up_to = record { of_mask = c.in_ok-tree.ensures.of_mask; wide = c.in_ok-tree.ensures.wide; are = raised; waiting = rest };
+      wide = c.in_ok-kept.ensures.cells;
+      same = same;
       as_wide = c.in_ok-strips.ensures.cells;
       swept = swept;
-      answers = c.answer-answered.ensures.answers (painted mask blocks)
-          (front_at law mask blocks 0 0 cover strips c.in_ok-tree.ensures.of_mask raised rest swept)
+      answers = c.answer-answered.ensures.answers (painted mask blocks) (record { swept = swept; same = same })
           (nothing_answered (painted mask blocks) (strips_of strips) c.args.spots.now c.args.found.now);
       waiting = c.answer-answered.ensures.waiting;
     }
@@ -89,8 +119,8 @@ loop-below-preserved c =
     let below = c.loop-below.below in
     let colour = painted mask blocks in
     let changed = c.find_changes.new.changed.items in
-    let old = cover_of c.loop-below.tree in
     let new = cover_of c.raise-raised.new.tree in
+    let kept = c.repaint.new.kept in
     let up = inv.up_to in
     let upper : IsUpTo mask cells blocks (below + 1) c.raise-raised.result new = record {
       of_mask = c.raise-raised.ensures.of_mask ∙ up.of_mask;
@@ -100,21 +130,25 @@ loop-below-preserved c =
     } in
     let told = subst (λ m. AreChanges (painted m blocks below) (painted m blocks (below + 1)) cells changed) up.of_mask c.in_ok-find_changes.ensures in
     let at = changes_at (colour below) (colour (below + 1)) cells changed (last_alike law mask cells c.args.size.rows blocks below c.requires.stacked) told in
+    let same = next_kept colour below (row_colour new (below + 1)) c.loop-below.kept kept changed inv.same
+    (tree_tells law mask blocks (below + 1) c.raise-raised.result new upper.of_mask upper.are upper.waiting) at
+    (subst (IsRepainted (row_colour new (below + 1)) c.loop-below.kept kept) c.deref-in-loop-below-2.ensures.value c.in_ok-repaint.ensures) in
     let olds = c.collect_windows.new.runs.items in
     let news = c.collect_windows-in-loop-below.new.runs.items in
-    let change = whole_step law mask cells blocks below c.loop-below.raised c.raise-raised.result old new changed c.deref.result.now
-    c.find_windows.new.windows.items c.deref-in-loop-below.result.now c.deref-in-loop-below-2.result.now olds news up upper at c.deref.ensures.value
-    c.deref-in-loop-below.ensures.value c.deref-in-loop-below-2.ensures.value c.in_ok-find_windows.ensures.tell c.in_ok-collect_windows.ensures
+    let change = whole_step colour below c.loop-below.kept kept changed c.deref.result.now
+    c.find_windows.new.windows.items c.deref-in-loop-below.result.now c.deref-in-loop-below-3.result.now olds news inv.same same at c.deref.ensures.value
+    c.deref-in-loop-below.ensures.value c.deref-in-loop-below-3.ensures.value c.in_ok-find_windows.ensures.tell c.in_ok-collect_windows.ensures
     c.in_ok-collect_windows-2.ensures in
     let swept = c.in_ok-step.ensures.swept colour below inv.swept
-    (subst (λ v. IsChange colour below v c.deref-in-loop-below-4.result.now) (sym c.deref-in-loop-below-3.ensures.value)
-    (subst (IsChange colour below olds) (sym c.deref-in-loop-below-4.ensures.value) change)) in
+    (subst (λ v. IsChange colour below v c.deref-in-loop-below-5.result.now) (sym c.deref-in-loop-below-4.ensures.value)
+    (subst (IsChange colour below olds) (sym c.deref-in-loop-below-5.ensures.value) change)) in
     record {
       up_to = upper;
+      wide = c.in_ok-repaint.ensures.cells ∙ inv.wide;
+      same = same;
       as_wide = c.in_ok-step.ensures.cells ∙ inv.as_wide;
       swept = swept;
-      answers = c.answer-answered-in-loop-below.ensures.answers colour
-          (front_at law mask blocks (below + 1) c.raise-raised.result new c.step.new.self upper.of_mask upper.are upper.waiting swept)
+      answers = c.answer-answered-in-loop-below.ensures.answers colour (record { swept = swept; same = same })
           (still_answered colour (strips_of c.loop-below.strips) (strips_of c.step.new.self) c.args.spots.now c.loop-below.answered c.loop-below.found
           c.in_ok-step.ensures.numbers inv.answers);
       waiting = c.answer-answered-in-loop-below.ensures.waiting;

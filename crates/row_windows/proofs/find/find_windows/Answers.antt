@@ -1,7 +1,6 @@
 -- Stretch by stretch.
 use Rattle.std.proofs.Common.{◌≡◌, [], length, rules, ◌<◌, refl}
-use Rattle.cover_tree.specs.Covers.{row_colour}
-use Rattle.cover_tree.specs.Trees.{cover_of}
+use Rattle.kept_runs.specs.Kept.{colours_of, width_of}
 use Rattle.row_windows.proofs.Finding.{none_found, finding_more, found_apart, found_tell, nothing_tells}
 use Rattle.row_windows.proofs.find.find_windows.Goals as goal
 
@@ -17,23 +16,23 @@ pub loop-next-init : goal.loop-next-init
 loop-next-init c =
     let e : c.clear.new.self.items ≡ [] = search rules in
     let some : 0 < length c.args.stretches.now = search rules in
-    none_found (row_colour (cover_of c.args.tree.now) c.args.row) (cover_of c.args.tree.now).cells c.args.stretches.now c.clear.new.self.items _
+    none_found (colours_of c.args.kept.now) (width_of c.args.kept.now) c.args.stretches.now c.clear.new.self.items _
     c.requires.fit some e c.left_of.ensures refl
 
 -- src/find.rt
 pub loop-next-preserved : goal.loop-next-preserved
-loop-next-preserved c = finding_more (row_colour (cover_of c.args.tree.now) c.args.row) (cover_of c.args.tree.now).cells c.args.stretches.now c.loop-next.next
+loop-next-preserved c = finding_more (colours_of c.args.kept.now) (width_of c.args.kept.now) c.args.stretches.now c.loop-next.next
     c.loop-next.windows.items c.add_stretch.new.windows.items c.loop-next.current c.in_ok-current.current c.requires.fit c.loop-next-test.true
     c.loop-next.invariant c.in_ok-current.ensures
 
 -- src/find.rt
 pub returns-clause-apart : goal.returns-clause-apart
-returns-clause-apart c = found_apart (row_colour (cover_of c.args.tree.now) c.args.row) (cover_of c.args.tree.now).cells c.args.stretches.now c.loop-next.next
+returns-clause-apart c = found_apart (colours_of c.args.kept.now) (width_of c.args.kept.now) c.args.stretches.now c.loop-next.next
     c.loop-next.windows.items c.add.new.windows.items c.loop-next.current c.closed.result c.loop-next.invariant (search rules) c.closed.ensures.from
     c.closed.ensures.to c.closed.ensures.within c.in_ok-add.ensures
 
 -- src/find.rt
 pub returns-clause-tell : goal.returns-clause-tell
-returns-clause-tell c = found_tell (row_colour (cover_of c.args.tree.now) c.args.row) (cover_of c.args.tree.now).cells c.args.stretches.now c.loop-next.next
+returns-clause-tell c = found_tell (colours_of c.args.kept.now) (width_of c.args.kept.now) c.args.stretches.now c.loop-next.next
     c.loop-next.windows.items c.add.new.windows.items c.loop-next.current c.closed.result c.loop-next.invariant (search rules) c.closed.ensures.from
     c.closed.ensures.to c.closed.ensures.within c.in_ok-add.ensures
