@@ -2,6 +2,7 @@
 
 use crate::circuits::circuit;
 use crate::settled::settled;
+use crate::steps::steps;
 use std::alloc::{AllocError, Global};
 use std::{fs, io};
 
@@ -9,6 +10,7 @@ use std::{fs, io};
 #[derive(Clone, Copy)]
 pub(crate) enum Case {
     Settled,
+    Steps,
     Circuit,
 }
 
@@ -28,6 +30,7 @@ fn push_words(
 ) -> Result<(), AllocError> {
     match case {
         Case::Settled => settled(alloc, line, words),
+        Case::Steps => steps(alloc, line, words),
         Case::Circuit => circuit(alloc, line, words),
     }
 }

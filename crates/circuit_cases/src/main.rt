@@ -6,6 +6,7 @@ mod lines;
 mod long;
 mod network;
 mod settled;
+mod steps;
 
 use lines::{Case, show_list};
 use long::show_rows;
@@ -14,6 +15,7 @@ use std::io;
 fn main(rt: HostRuntime) -> io::Result<()> {
     show_list(&rt, "settled.txt", Case::Settled)?;
     show_list(&rt, "random.txt", Case::Settled)?;
+    show_list(&rt, "steps.txt", Case::Steps)?;
     show_list(&rt, "circuits.txt", Case::Circuit)?;
     show_rows(&rt)
 }

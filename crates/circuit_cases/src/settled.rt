@@ -22,7 +22,7 @@ fn driver(letter: u8) -> Option<Trit> {
     }
 }
 
-fn trits(alloc: Global, letters: &[u8]) -> Result<Vec<Trit>, AllocError> {
+pub(crate) fn trits(alloc: Global, letters: &[u8]) -> Result<Vec<Trit>, AllocError> {
     let mut values = Vec::new(alloc);
     for letter in letters {
         values.push(trit(*letter))?;
@@ -30,7 +30,7 @@ fn trits(alloc: Global, letters: &[u8]) -> Result<Vec<Trit>, AllocError> {
     Ok(values)
 }
 
-fn drivers(alloc: Global, letters: &[u8]) -> Result<Vec<Option<Trit>>, AllocError> {
+pub(crate) fn drivers(alloc: Global, letters: &[u8]) -> Result<Vec<Option<Trit>>, AllocError> {
     let mut drivers = Vec::new(alloc);
     for letter in letters {
         drivers.push(driver(*letter))?;
@@ -38,7 +38,7 @@ fn drivers(alloc: Global, letters: &[u8]) -> Result<Vec<Option<Trit>>, AllocErro
     Ok(drivers)
 }
 
-fn push_letters(words: &mut String, values: &[Trit]) -> Result<(), AllocError> {
+pub(crate) fn push_letters(words: &mut String, values: &[Trit]) -> Result<(), AllocError> {
     for value in values {
         words.push_str(letter(*value))?;
     }
@@ -61,7 +61,7 @@ pub(crate) fn settle(
     Ok(settler)
 }
 
-fn network(alloc: Global, nodes: usize, channels: List<Channel>) -> Option<Network> {
+pub(crate) fn network(alloc: Global, nodes: usize, channels: List<Channel>) -> Option<Network> {
     let Ok(nodes) = u32::try_from(nodes) else {
         return None;
     };

@@ -20,10 +20,10 @@ same_or_not Zero = inr (λ e. cc)
 same_or_not One = inr (λ e. cc)
 same_or_not X = inl refl
 
-zero_not_x : Zero ≢ X
+pub zero_not_x : Zero ≢ X
 zero_not_x e = cc
 
-one_not_x : One ≢ X
+pub one_not_x : One ≢ X
 one_not_x e = cc
 
 module _ (s : Setting) (grow : GivesGrow) where

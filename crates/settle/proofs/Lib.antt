@@ -7,3 +7,6 @@ pub mod Picking
 pub mod Giving
 pub mod Climbing
 pub mod Passing
+pub mod Waking
+pub mod Looking
+pub mod Starting

@@ -1,11 +1,13 @@
 -- Channels that are listed at their ends.
-use Rattle.std.proofs.Common.{◌≡◌, ◌<◌, ◌+◌, ◌++◌, ◌∷◌, [], ℕ, List, length, get_or, take, sym, ◌∙◌, ap, subst, inl, inr, ◌⊎◌, arith}
+use Rattle.std.proofs.Common.{◌≡◌, ◌<◌, ◌≤◌, ◌+◌, ◌++◌, ◌∷◌, [], ℕ, List, length, get_or, take, sym, ◌∙◌, ap, subst, inl, inr, ◌⊎◌, arith}
 use Rattle.std.specs.Prelude.{Contains, ◌↔◌, ◌≢◌, replicate}
 use Rattle.std.proofs.Math.ListN.{set}
 use Rattle.std.proofs.lemmas.Bool.{cases_eq}
 use Rattle.std.proofs.lemmas.List.{get_or_default, get_or-set_same, get_or-set_other}
+use Rattle.std.proofs.lemmas.List.Elements.{Contains-append_left, Contains-append_right}
+use Rattle.switch_net.specs.declared.network.ChannelKind.TheVariants.{Enhancement}
 use Rattle.switch_net.specs.declared.network.Channel.{Channel}
-use Rattle.settle.specs.Links.{listed, AddsLink, AreLinked}
+use Rattle.settle.specs.Links.{listed, AddsLink, AreLinked, AddsGated, AreGated}
 use Rattle.settle.proofs.Listing.{below_suc, contains_push, contains_more, contains_nothing, replicate_at}
 
 pub adds_link_none : (nodes : List ℕ) (j : ℕ) (lists : List (List ℕ)) → AddsLink (take 0 nodes) j lists lists
@@ -100,3 +102,42 @@ linked_more channels j mid new ch lt is adds h = record {
     all : (n i : ℕ) (c : Channel) → Contains (get_or channels i c).ends n → (i < j) ⊎ (i ≡ j) → Contains (listed new n) i
     all n i c q (inl below) = (adds n i).1 (inl (h.all n i c below q))
     all n i c q (inr same) = (adds n i).1 (inr (same, subst (λ (x : Channel). Contains x.ends n) (ap (λ k. get_or channels k c) same ∙ at c) q))
+
+-- the ends of the first channels are listed at their gates
+abbrev pub GatedFirst : List Channel → ℕ → List (List ℕ) → Type 0
+GatedFirst channels first lists =
+    (j e : ℕ) (c : Channel) → j < first → c ≡ get_or channels j c → c.kind ≡ Enhancement → Contains c.ends e → Contains (listed lists c.gate) e
+
+pub adds_gated : (c : Channel) (lists : List (List ℕ)) (list : List ℕ) → c.gate < length lists → list ≡ listed lists c.gate ++ c.ends → AddsGated c lists (set lists c.gate list)
+adds_gated c lists list inside is = record { kept = λ g e q. kept g e q (cases_eq g c.gate); added = λ e _ q. added e q }
+  where
+    at : listed (set lists c.gate list) c.gate ≡ listed lists c.gate ++ c.ends
+    at = get_or-set_same lists c.gate list [] inside ∙ is
+
+    kept : (g e : ℕ) → Contains (listed lists g) e → (g ≡ c.gate) ⊎ (g ≢ c.gate) → Contains (listed (set lists c.gate list) g) e
+    kept g e q (inl same) =
+        subst (λ k. Contains (listed (set lists c.gate list) k) e) (sym same)
+        (subst (λ (xs : List ℕ). Contains xs e) (sym at) (Contains-append_left (listed lists c.gate) c.ends e (subst (λ k. Contains (listed lists k) e) same q)))
+    kept g e q (inr other) = subst (λ (xs : List ℕ). Contains xs e) (sym (get_or-set_other lists c.gate g list [] other)) q
+
+    added : (e : ℕ) → Contains c.ends e → Contains (listed (set lists c.gate list) c.gate) e
+    added e q = subst (λ (xs : List ℕ). Contains xs e) (sym at) (Contains-append_right (listed lists c.gate) c.ends e q)
+
+pub adds_no_gated : (c : Channel) (lists : List (List ℕ)) → (c.kind ≡ Enhancement → ⊥) → AddsGated c lists lists
+adds_no_gated c lists other = record { kept = λ g e q. q; added = λ e kind _. absurd (other kind) }
+
+pub gated_none : (channels : List Channel) (lists : List (List ℕ)) → GatedFirst channels 0 lists
+gated_none channels lists j e c lt = absurd (omega arith)
+
+pub gated_more : (channels : List Channel) (j : ℕ) (mid new : List (List ℕ)) (ch : Channel) → j < length channels → ch ≡ get_or channels j ch → AddsGated ch mid new → GatedFirst channels j mid → GatedFirst channels (j + 1) new
+gated_more channels j mid new ch inside at adds h i e c lt is kind q = by_place (below_suc i j lt)
+  where
+    by_place : (i < j) ⊎ (i ≡ j) → Contains (listed new c.gate) e
+    by_place (inl below) = adds.kept c.gate e (h i e c below is kind q)
+    by_place (inr same) =
+        let one : c ≡ ch = is ∙ ap (λ k. get_or channels k c) same ∙ get_or_default channels j c ch inside ∙ sym at in
+        subst (λ (x : Channel). Contains (listed new x.gate) e) (sym one)
+        (adds.added e (ap (λ (x : Channel). x.kind) (sym one) ∙ kind) (subst (λ (x : Channel). Contains x.ends e) one q))
+
+pub gated_all : (channels : List Channel) (first : ℕ) (lists : List (List ℕ)) → length channels ≤ first → GatedFirst channels first lists → AreGated channels lists
+gated_all channels first lists le h c e in' kind q = let below = in'.1 in h in'.0 e c (omega arith) (sym in'.2) kind q

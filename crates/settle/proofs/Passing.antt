@@ -13,6 +13,8 @@ pub moment_kept : (b : Board) (vs ws : List Trit) → length ws ≡ length vs �
 moment_kept b vs ws e m = record {
   linked = m.linked;
   at_sized = m.at_sized;
+  gated = m.gated;
+  gated_sized = m.gated_sized;
   drive_sized = m.drive_sized;
   before_sized = m.before_sized;
   values_sized = e ∙ m.values_sized;

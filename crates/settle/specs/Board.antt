@@ -4,7 +4,7 @@ use Rattle.mp_base.specs.declared.value.Trit.{Trit}
 use Rattle.switch_net.specs.Settled.{Setting}
 use Rattle.settle.specs.declared.board.Board.{Board}
 use Rattle.settle.specs.Values.{value_at, driver_at}
-use Rattle.settle.specs.Links.{AreLinked}
+use Rattle.settle.specs.Links.{AreLinked, AreGated}
 
 abbrev pub setting_of : Board → Setting
 setting_of b = record { channels = b.network.now.channels; driver = driver_at b.drive.now; before = value_at b.before.now }
@@ -16,6 +16,8 @@ nodes_of b = b.network.now.nodes
 pub record IsMoment (b : Board) (values : List Trit) : Type 0 where
   pub linked : AreLinked b.network.now.channels (length b.network.now.channels) b.at.now
   pub at_sized : length b.at.now ≡ b.network.now.nodes
+  pub gated : AreGated b.network.now.channels b.gated.now
+  pub gated_sized : length b.gated.now ≡ b.network.now.nodes
   pub drive_sized : length b.drive.now ≡ b.network.now.nodes
   pub before_sized : length b.before.now ≡ b.network.now.nodes
   pub values_sized : length values ≡ b.network.now.nodes

@@ -1,5 +1,6 @@
 -- The channels of each node.
 use Rattle.std.specs.Prelude.{◌≡◌, ◌<◌, ◌↔◌, ◌⊎◌, ℕ, List, [], slice_index_or, Contains}
+use Rattle.switch_net.specs.declared.network.ChannelKind.TheVariants.{Enhancement}
 use Rattle.switch_net.specs.declared.network.Channel.{Channel}
 
 -- the numbers of the channels that are listed at a node
@@ -15,3 +16,12 @@ pub record AreLinked (channels : List Channel) (first : ℕ) (lists : List (List
   pub inside : (n j : ℕ) → Contains (listed lists n) j → j < first
   pub ends : (n j : ℕ) (c : Channel) → Contains (listed lists n) j → Contains (slice_index_or channels j c).ends n
   pub all : (n j : ℕ) (c : Channel) → j < first → Contains (slice_index_or channels j c).ends n → Contains (listed lists n) j
+
+-- a channel's ends are added at its gate, where it is enhancement, and no entry goes
+pub record AddsGated (c : Channel) (old new : List (List ℕ)) : Type 0 where
+  pub kept : (g e : ℕ) → Contains (listed old g) e → Contains (listed new g) e
+  pub added : (e : ℕ) → c.kind ≡ Enhancement → Contains c.ends e → Contains (listed new c.gate) e
+
+-- at each node the ends of each enhancement channel that it gates
+abbrev pub AreGated : List Channel → List (List ℕ) → Type 0
+AreGated channels lists = (c : Channel) (e : ℕ) → Contains channels c → c.kind ≡ Enhancement → Contains c.ends e → Contains (listed lists c.gate) e

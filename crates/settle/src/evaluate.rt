@@ -38,16 +38,11 @@ impl Sets {
     }
 }
 
-/// Lets the ends of the channels that a node gates wait.
-fn wake(board: &Board<'_>, node: u32, queue: &mut Queue) {
-    let channels = board.network.channels.as_slice();
-    if let Some(numbers) = board.gated.get(node as usize) {
-        for number in numbers.as_slice() {
-            if let Some(channel) = channels.get(*number) {
-                for end in channel.ends.as_slice() {
-                    queue.push(*end);
-                }
-            }
+/// Lets what a node gates wait.
+fn tell(board: &Board<'_>, node: u32, queue: &mut Queue) {
+    if let Some(ends) = board.gated.get(node as usize) {
+        for end in ends.as_slice() {
+            queue.push(*end);
         }
     }
 }
@@ -78,7 +73,7 @@ fn write(
         if is_unknown(values[*node as usize]) {
             values[*node as usize] = value;
             changed = true;
-            wake(board, *node, queue);
+            tell(board, *node, queue);
         }
     }
     changed

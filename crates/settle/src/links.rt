@@ -1,11 +1,11 @@
 //! The channels at each node.
 
-ghost use Rattle.std.specs.Prelude.{◌≡◌, ◌<◌, ◌↔◌, IfOk, OnOk, All, length, replicate, []};
-ghost use Rattle.settle.specs.Links.{AddsLink, AreLinked};
+ghost use Rattle.std.specs.Prelude.{◌≡◌, ◌<◌, ◌++◌, IfOk, OnOk, All, length, replicate, []};
+ghost use Rattle.settle.specs.Links.{AddsLink, AreLinked, AddsGated, AreGated};
 
 use mp_base::List;
 use std::alloc::{AllocError, Global};
-use switch_net::Network;
+use switch_net::{Channel, ChannelKind, Network};
 
 fn no_links(alloc: Global, nodes: u32) -> Result<Vec<List<usize>>, AllocError>
     ensures { IfOk result (λ lists. lists.items ≡ replicate nodes []) }
@@ -44,18 +44,44 @@ pub(crate) fn links_at_ends(
     Ok(lists)
 }
 
-/// At each node, the numbers of the channels that it gates.
-pub(crate) fn links_at_gates(
-    alloc: Global,
-    network: &Network,
-) -> Result<Vec<List<usize>>, AllocError>
-    ensures { IfOk result (λ lists. length lists.items ≡ network.now.nodes) }
+fn add_ends(ends: &[u32], list: &mut List<u32>) -> Result<(), AllocError>
+    ensures { OnOk result (list.new ≡ list.old ++ ends.now) }
 {
-    let mut lists = no_links(alloc, network.nodes)?;
-    let mut number: usize = 0;
+    for end in ends {
+        list.push(*end)?;
+    }
+    Ok(())
+}
+
+fn no_ends(alloc: Global, nodes: u32) -> Result<Vec<List<u32>>, AllocError>
+    ensures { IfOk result (λ lists. length lists.items ≡ nodes) }
+{
+    let mut lists = Vec::new(alloc);
+    for _node in 0..nodes {
+        lists.push(List::new(alloc))?;
+    }
+    Ok(lists)
+}
+
+fn add_gated(channel: &Channel, lists: &mut [List<u32>]) -> Result<(), AllocError>
+    requires { channel.now.gate < length lists.old }
+    ensures { OnOk result (AddsGated channel.now lists.old lists.new) }
+{
+    if matches!(channel.kind, ChannelKind::Enhancement) {
+        add_ends(channel.ends.as_slice(), &mut lists[channel.gate as usize])?;
+        return Ok(());
+    }
+    Ok(())
+}
+
+/// At each node, the ends of the enhancement channels that it gates.
+pub(crate) fn ends_gated(alloc: Global, network: &Network) -> Result<Vec<List<u32>>, AllocError>
+    ensures sized { IfOk result (λ lists. length lists.items ≡ network.now.nodes) }
+    ensures gated { IfOk result (λ lists. AreGated network.now.channels lists.items) }
+{
+    let mut lists = no_ends(alloc, network.nodes)?;
     for channel in network.channels.as_slice() {
-        lists[channel.gate as usize].push(number)?;
-        number += 1;
+        add_gated(channel, &mut lists)?;
     }
     Ok(lists)
 }

@@ -7,24 +7,28 @@ ghost use Rattle.settle.specs.Values.{value_at, driver_at};
 
 use crate::board::Board;
 use crate::evaluate::Sets;
-use crate::links::{links_at_ends, links_at_gates};
+use crate::known::{Known, settle_values};
+use crate::links::{ends_gated, links_at_ends};
 use crate::queue::Queue;
-use crate::solve::solve;
 use mp_base::{List, NoMemory, Trit};
+use settle_order::Orders;
 use std::alloc::Global;
 use std::marker::Model;
-use switch_net::Network;
+use switch_net::{Network, networks_settle};
 
 /// A network with a value at each of its nodes, and all the memory that settling takes.
 #[derive(Drop)]
 pub struct Settler {
     network: Network,
     at: Vec<List<usize>>,
-    gated: Vec<List<usize>>,
+    gated: Vec<List<u32>>,
     values: Vec<Trit>,
     before: Vec<Trit>,
+    last: Vec<Option<Trit>>,
+    is_at_rest: bool,
+    orders: Orders,
     sets: Sets,
-    looked: Vec<bool>,
+    marks: Vec<bool>,
     queue: Queue,
 }
 
@@ -33,11 +37,12 @@ impl Model for Settler {
 
     ghost Value = { Settling };
 
-    ghost use Rattle.settle.specs.Sizes.{AreSized};
+    ghost use Rattle.std.specs.Prelude.{◌≡◌, true};
+    ghost use Rattle.settle.specs.Sizes.{AreSized, AreReady, AreAtRest};
 
     ghost view = { λ s. record { network = s.network; values = s.values.items } };
 
-    ghost invariant = { λ s. AreSized s.network s.at.items s.values.items s.before.items s.sets s.looked.items };
+    ghost invariant = { λ s. AreSized s.network s.at.items s.gated.items s.values.items s.before.items s.last.items s.sets s.marks.items × AreReady s.network s.orders × (s.is_at_rest ≡ true → AreAtRest s.network s.last.items s.values.items) };
 }
 
 impl Settler {
@@ -47,15 +52,18 @@ impl Settler {
         ensures unknown { IfOk result (λ s. s.values ≡ replicate network.nodes X) }
     {
         let at = links_at_ends(alloc, &network)?;
-        let gated = links_at_gates(alloc, &network)?;
+        let gated = ends_gated(alloc, &network)?;
         let nodes = network.nodes as usize;
         Ok(Settler {
             at,
             gated,
             values: vec![in alloc; Trit::X; nodes]?,
             before: vec![in alloc; Trit::X; nodes]?,
+            last: vec![in alloc; None; nodes]?,
+            is_at_rest: false,
+            orders: Orders::new(alloc, network.nodes)?,
             sets: Sets::new(alloc, network.nodes)?,
-            looked: vec![in alloc; false; nodes]?,
+            marks: vec![in alloc; false; nodes]?,
             queue: Queue::new(alloc, network.nodes)?,
             network,
         })
@@ -83,6 +91,7 @@ impl Settler {
         ensures values { self.new.values ≡ values.now }
     {
         self.values.copy_from_slice(values);
+        self.is_at_rest = false;
     }
 
     /// Settles the network from the values that it has, where these nodes are driven to these values.
@@ -92,7 +101,9 @@ impl Settler {
         ensures sized { length self.new.values ≡ self.old.network.nodes }
         ensures settled { IsSettled (record { channels = self.old.network.channels; driver = driver_at drive.now; before = value_at self.old.values }) (value_at self.new.values) }
     {
+        networks_settle();
         self.before.copy_from_slice(&self.values);
+        let has_order = self.orders.find(&self.network, &self.gated, drive);
         let board = Board {
             network: &self.network,
             at: self.at.as_slice(),
@@ -100,12 +111,21 @@ impl Settler {
             drive,
             before: self.before.as_slice(),
         };
-        solve(
+        let known = Known {
+            is_at_rest: self.is_at_rest,
+            last: self.last.as_slice(),
+            has_order,
+            order: self.orders.nodes(),
+        };
+        settle_values(
             &board,
+            &known,
             &mut self.values,
             &mut self.sets,
-            &mut self.looked,
+            &mut self.marks,
             &mut self.queue,
         );
+        self.last.copy_from_slice(drive);
+        self.is_at_rest = true;
     }
 }

@@ -99,8 +99,8 @@ fn pass(
     changed
 }
 
-/// Sets the values to the settled ones.
-pub(crate) fn solve(
+/// Sets the values to the settled ones, from unknown ones.
+fn solve(
     board: &Board<'_>,
     values: &mut [Trit],
     sets: &mut Sets,
@@ -120,5 +120,26 @@ pub(crate) fn solve(
         if !changed {
             return;
         }
+    }
+}
+
+/// Sets the values to the settled ones where they aren't yet.
+pub(crate) fn solve_unless(
+    is_settled: bool,
+    board: &Board<'_>,
+    values: &mut [Trit],
+    sets: &mut Sets,
+    looked: &mut [bool],
+    queue: &mut Queue,
+)
+    requires settled { IsTrue is_settled → IsSettled (setting_of board.now) (value_at values.old) }
+    requires moment { IsMoment board.now values.old }
+    requires sets { HaveRoom (nodes_of board.now) sets.old }
+    requires looked { length looked.old ≡ nodes_of board.now }
+    ensures sets { HaveRoom (nodes_of board.now) sets.new }
+    ensures settled { IsSettled (setting_of board.now) (value_at values.new) }
+{
+    if !is_settled {
+        solve(board, values, sets, looked, queue);
     }
 }

@@ -1,0 +1,3 @@
+pub mod Ordered
+pub mod Told
+pub mod Laws
