@@ -74,7 +74,7 @@ module _ (lent : Lent) (source cif : List ℕ) (clocks : ℕ) (words : List (Lis
           → AreMoved lent (bytes_of files source) words clocks printed left
       moved printed left are =
           let f = follow known.program chip known.network known.wired clocks lent.faces are.text known.unbroken
-          (known.is_chip).0 known.drawn known.is_board are.board in
+          (known.is_chip).chip known.drawn known.is_board are.board in
           record {
             program = known.program;
             wired = known.wired;

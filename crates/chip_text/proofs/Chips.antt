@@ -10,14 +10,15 @@ use Rattle.rtl_form.specs.declared.rtl.Rtl.{Rtl}
 use Rattle.process_plan.specs.Same.{IsSame}
 use Rattle.cif_emit.specs.Emittable.{chip_rects}
 use Rattle.cif_emit.specs.Emitted.{IsEmitted}
-use Rattle.compile_laws.specs.Laws.{IsSmallPlan, IsSmallChipOf, MakesChips}
+use Rattle.compile_laws.specs.Laws.{IsBounded, IsSmallPlan, IsSmallChipOf, MakesChips}
 
 module _ (p : Program) where
   -- a plan of the program's transfers, that commands may draw
   pub made : (r : Rtl) (chip : Chip) → MakesChips p → IsSame p r → IsSmallPlan r (chip_rects chip) chip.labels
-      → (commands : List Command) → IsEmitted (chip_rects chip) chip.labels commands
+      → IsBounded r (chip_rects chip) chip.labels → (commands : List Command) → IsEmitted (chip_rects chip) chip.labels commands
       → IsSmallChipOf p (file_text commands)
-  made r chip make same plan commands emitted = make r (chip_rects chip) chip.labels commands same plan emitted
+  made r chip make same plan bounded commands emitted =
+      make r (chip_rects chip) chip.labels commands same plan bounded emitted
 
   -- a text that is one of a chip
   pub in_text : (text : List ℕ) (result : Result (Vec ℕ Global) NoMemory) → IfOk result (λ t. t.items ≡ text)

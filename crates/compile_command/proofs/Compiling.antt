@@ -9,7 +9,14 @@ use Rattle.compile_command.specs.Compiled.{IsCompiled}
 
 pub compiled : (text chip : List ℕ) (program : Program) → IsSmallChipOf program chip → IsSource text program
     → IsCompiled text chip
-compiled text chip program is spelled = record { program = program; is_source = spelled; masks = is.0; few = is.1 }
+compiled text chip program is spelled = record {
+  program = program;
+  is_source = spelled;
+  masks = is.chip;
+  few = is.few;
+  extent = is.extent;
+  ratioed = is.ratioed;
+}
 
 -- a chip of the program that the source spells
 pub shows_chip : (source cif chip : List ℕ) (program : Program) (held : Option Files)

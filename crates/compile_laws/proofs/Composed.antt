@@ -1,9 +1,13 @@
 -- What the steps promise makes the text a chip of the program.
 use Rattle.std.proofs.Common.{ℕ, ◌≡◌, ◌+◌, ◌*◌, ◌≤◌, refl, ap, subst, List, [], ◌∷◌, ◌++◌, length, map, arith}
-use Rattle.std.specs.Prelude.{All, codes, false}
+use Rattle.std.specs.Prelude.{All, codes, false, ℤ, pos, ◌+ℤ◌, ◌≤ℤ◌}
+use Rattle.std.proofs.lemmas.Int.{ints}
 use Rattle.std.proofs.lemmas.List.Elements.{All-nil, All-cons}
+use Rattle.std.proofs.Math.Nat.{mul-le-mul_left}
 use Rattle.lam_geom.specs.declared.rect.Rect.{Rect}
-use Rattle.lam_geom.specs.Squares.{covered}
+use Rattle.lam_geom.specs.declared.layer.Layer.{Layer}
+use Rattle.lam_geom.specs.Extent.{ExtentOfSquares, IsAtMost}
+use Rattle.lam_geom.specs.Squares.{covered, SameSquares}
 use Rattle.cif_form.specs.declared.command.Command.{Command}
 use Rattle.cif_form.specs.declared.command.Item.{Item}
 use Rattle.cif_form.specs.Text.{◌▹◌, Byte, Blanks, IsBlank, Reads}
@@ -27,7 +31,15 @@ use Rattle.rtl_form.specs.Cost.{cost}
 use Rattle.process_plan.specs.Same.{IsSame}
 use Rattle.chip_laws.specs.Planned.{IsPlanned}
 use Rattle.cif_emit.specs.Emitted.{IsEmitted}
-use Rattle.compile_laws.specs.Laws.{most_rects, IsSmallPlan, IsSmallChipOf, MakesChips}
+use Rattle.compile_laws.specs.Laws.{
+  most_high,
+  most_rects,
+  most_wide,
+  IsBounded,
+  IsSmallPlan,
+  IsSmallChipOf,
+  MakesChips,
+}
 use Rattle.compile_laws.proofs.Sequenced.{shows, settles}
 
 placed : (semi : List ℕ) (offset : ℕ) (cs : List Command)
@@ -71,17 +83,43 @@ few_shapes : (shapes rects cost heavy width : ℕ) → shapes ≤ rects → rect
     → shapes ≤ most_rects heavy width
 few_shapes shapes rects cost heavy width a b c = grind (arith, a, b, c)
 
+-- a drawing of the same squares is no larger, nor is it too large for a heavier program
+module _ (squares : ExtentOfSquares) (rects shapes : List Rect) (same : SameSquares (covered rects) (covered shapes)) where
+  back : SameSquares (covered shapes) (covered rects)
+  back l x y = ((same l x y).1, (same l x y).0)
+
+  farther : (low high : ℤ) (a b : ℕ) → a ≤ b → high ≤ℤ (low +ℤ pos (500 * a)) → high ≤ℤ (low +ℤ pos (500 * b))
+  farther low high a b h k = omega (arith, ints)
+
+  wider : (cost heavy : ℕ) → cost ≤ heavy → most_wide cost ≤ most_wide heavy
+  wider cost heavy h = omega (arith, h)
+
+  higher : (cost heavy width : ℕ) → cost ≤ heavy → most_high cost width ≤ most_high heavy width
+  higher cost heavy width h =
+      let m : width * (12 * (cost + 8) + 36) ≤ width * (12 * (heavy + 8) + 36) =
+      mul-le-mul_left width (omega (arith, h)) in
+      omega (arith, h, m)
+
+  small_extent : (cost heavy width : ℕ) → cost ≤ heavy → IsAtMost (covered rects) (most_wide cost) (most_high cost width)
+      → IsAtMost (covered shapes) (most_wide heavy) (most_high heavy width)
+  small_extent cost heavy width h most e is =
+      let m = most e (squares shapes rects back e is) in (
+        farther e.left e.right (most_wide cost) (most_wide heavy) (wider cost heavy h) m.0,
+        farther e.bottom e.top (most_high cost width) (most_high heavy width) (higher cost heavy width h) m.1,
+      )
+
 module _
     (reads : WrittenIsRead) (whole : WrittenIsWhole) (by_squares : SoundBySquares) (exist : TraceExists)
-    (networks : NetworkExists) (p : Program) (traces : (inputs : List (List ℕ)) → ExactlyOne (IsTrace p inputs))
+    (networks : NetworkExists) (squares : ExtentOfSquares) (p : Program) (traces : (inputs : List (List ℕ)) → ExactlyOne (IsTrace p inputs))
   where
     module _
         (r : Rtl) (rects : List Rect) (labels : List ChipLabel) (commands : List Command) (same : IsSame p r)
-        (planned : IsPlanned r rects labels) (emitted : IsEmitted rects labels commands)
+        (planned : IsPlanned r rects labels) (bounded : IsBounded r rects labels)
+        (emitted : IsEmitted rects labels commands)
       where
-        composed : length rects + length labels + 65_536 ≤ walk_limit
-            → (chip : IsChipOf p (file_text commands)) × (length (chip.draws).shapes ≤ length rects)
-        composed few =
+        composed : length rects + length labels + 65_536 ≤ walk_limit → length rects ≤ most_rects (cost r) p.width
+            → IsSmallChipOf p (file_text commands)
+        composed walkable few =
             let items : List Item = placed_items (codes ";\n") 0 commands in
             let drawn = emitted.drawn items (placed (codes ";\n") 0 commands) in
             let plan = planned.draws drawn.flat drawn.labelled in
@@ -102,7 +140,7 @@ module _
                 read = reads (codes ";\n") (codes "\n") semicolon feed commands emitted.fit 0;
                 well_formed = whole (codes ";\n") (codes "\n") semicolon feed commands emitted.fit emitted.nest;
                 drawn = drawn.expands;
-                drawable = drawn.walks (omega (arith, walked, few));
+                drawable = drawn.walks (omega (arith, walked, walkable));
                 mask = sound;
               };
               follows = λ inputs fit.
@@ -116,17 +154,20 @@ module _
                         (settles p r same inputs k settled);
                   };
             } in
-            (chip, drawn.few)
+            record {
+              chip = chip;
+              few = few_shapes (length drawn.shapes) (length rects) (cost r) (weight p) p.width drawn.few few same.cost;
+              extent = small_extent squares rects drawn.shapes drawn.same (cost r) (weight p) p.width same.cost
+                  (subst (λ w. IsAtMost (covered rects) (most_wide (cost r)) (most_high (cost r) w)) same.width
+                  bounded.extent);
+              ratioed = bounded.ratioed drawn.flat drawn.labelled found.0 found.1;
+            }
 
     pub made : weight p ≤ 1024 → p.width ≤ 32 → MakesChips p
-    made light narrow r rects labels commands same plan emitted =
+    made light narrow r rects labels commands same plan bounded emitted =
         let few : length rects ≤ most_rects (cost r) p.width =
         subst (λ n. length rects ≤ most_rects (cost r) n) same.width plan.few in
         let less = same.cost in
         let walk = short_walk (length rects) (length labels) (cost r) p.width few plan.few_labels
         (omega (arith, light, less)) narrow in
-        let chip = composed r rects labels commands same plan.planned emitted walk in (
-          chip.0,
-          few_shapes (length (chip.0.draws).shapes) (length rects) (cost r)
-              (weight p) p.width chip.1 few same.cost,
-        )
+        composed r rects labels commands same plan.planned bounded emitted walk few

@@ -1,21 +1,35 @@
 -- From the promises of the compiler's steps to the headline.
 use Rattle.std.specs.Prelude.{◌+◌, ◌*◌, ◌≤◌, ℕ, List, length}
+use Rattle.lam_geom.specs.declared.label.FlatLabel.{FlatLabel}
 use Rattle.lam_geom.specs.declared.rect.Rect.{Rect}
+use Rattle.lam_geom.specs.Extent.{IsAtMost}
+use Rattle.lam_geom.specs.Squares.{covered}
 use Rattle.cif_form.specs.declared.command.Command.{Command}
 use Rattle.cif_writer.specs.Texts.{file_text}
+use Rattle.switch_net.specs.declared.network.Network.{Network}
+use Rattle.switch_net.specs.Drawn.{IsNetwork}
 use Rattle.mp_program.specs.declared.program.Program.{Program}
 use Rattle.mp_program.specs.Weight.{weight}
 use Rattle.headline.specs.Headline.{IsChipOf}
 use Rattle.fabric.specs.declared.chip.ChipLabel.{ChipLabel}
+use Rattle.fabric.specs.Labelled.{AreLabelsOf}
 use Rattle.rtl_form.specs.declared.rtl.Rtl.{Rtl}
 use Rattle.rtl_form.specs.Cost.{cost}
 use Rattle.process_plan.specs.Same.{IsSame}
 use Rattle.chip_laws.specs.Planned.{IsPlanned}
+use Rattle.ground_ways.specs.Ratioed.{IsRatioed}
 use Rattle.cif_emit.specs.Emitted.{IsEmitted}
 
 -- the most rectangles that a chip of this weight and this word length has
 abbrev pub most_rects : ℕ → ℕ → ℕ
 most_rects weight width = 100 * (weight + 8) * (width + 1)
+
+-- the most lambda that a chip of this weight is wide, whatever its word length is, and high
+abbrev pub most_wide : ℕ → ℕ
+most_wide weight = 20 * (weight + 8)
+
+abbrev pub most_high : ℕ → ℕ → ℕ
+most_high weight width = width * (12 * (weight + 8) + 36) + 24 * (weight + 8) + 96
 
 -- the plan of a chip, with no more rectangles and labels than transfers of its cost may have
 pub record IsSmallPlan (r : Rtl) (rects : List Rect) (labels : List ChipLabel) : Type 0 where
@@ -23,16 +37,25 @@ pub record IsSmallPlan (r : Rtl) (rects : List Rect) (labels : List ChipLabel) :
   pub few : length rects ≤ most_rects (cost r) r.width
   pub few_labels : length labels ≤ 64 * cost r + 5
 
--- the text is a chip of the program, and draws no more shapes than one of its weight and word length may have
-abbrev pub IsSmallChipOf : Program → List ℕ → Type 0
-IsSmallChipOf p text =
-    (chip : IsChipOf p text) × (length (chip.draws).shapes ≤ most_rects (weight p) p.width)
+-- What the rectangles draw is at most so wide and so high as transfers of this cost and word length may be, and at
+-- whatever offsets the labels stand, each network of it is sized.
+pub record IsBounded (r : Rtl) (rects : List Rect) (labels : List ChipLabel) : Type 0 where
+  pub extent : IsAtMost (covered rects) (most_wide (cost r)) (most_high (cost r) r.width)
+  pub ratioed : (flat : List FlatLabel) → AreLabelsOf labels flat → (n : Network)
+      → IsNetwork (covered rects) flat n → IsRatioed n
 
--- Transfers that are the program's, a plan that follows them and commands that draw the plan: their text is a chip of
--- the
--- program.
+-- The text is a chip of the program. It draws no more shapes than one of its weight and word length may have, and is no
+-- wider and no higher; and its network is sized.
+pub record IsSmallChipOf (p : Program) (text : List ℕ) : Type 0 where
+  pub chip : IsChipOf p text
+  pub few : length (chip.draws).shapes ≤ most_rects (weight p) p.width
+  pub extent : IsAtMost (covered (chip.draws).shapes) (most_wide (weight p)) (most_high (weight p) p.width)
+  pub ratioed : IsRatioed chip.network
+
+-- Transfers that are the program's, a bounded plan that follows them and commands that draw the plan: their text is a
+-- chip of the program.
 abbrev pub MakesChips : Program → Type 0
 MakesChips p =
     (r : Rtl) (rects : List Rect) (labels : List ChipLabel) (commands : List Command)
-    → IsSame p r → IsSmallPlan r rects labels → IsEmitted rects labels commands
+    → IsSame p r → IsSmallPlan r rects labels → IsBounded r rects labels → IsEmitted rects labels commands
     → IsSmallChipOf p (file_text commands)

@@ -35,7 +35,7 @@ module _ (p : Program) (given : Stimulus) (chip : List ℕ) (follow : ReplaysFol
       let replay : IsReplay net given (run.front ++ last_line net told.end) =
       record { end = told.end; front = run.front; transcript = run.transcript; lines = refl } in
       let follows : FollowsProgram p given shown =
-      follow p chip net given (run.front ++ last_line net told.end) small.0 padded drawn replay in
+      follow p chip net given (run.front ++ last_line net told.end) small.chip padded drawn replay in
       let shows : ShowsTrace p given shown follows.outputs =
       record { trace = follows.trace; as_many = follows.as_many; agrees = follows.agrees } in
       record {

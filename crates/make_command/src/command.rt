@@ -1,6 +1,7 @@
 //! The masks of a made source, and what is told of their run.
 
 ghost use Rattle.std.specs.Prelude.{◌≡◌, ◌≤◌, length, IfOk};
+ghost use Rattle.stimulus.specs.declared.limits.TheConstants.{PAD_LIMIT};
 ghost use Rattle.mp_program.specs.Pads.{ArePadsOf};
 ghost use Rattle.program_maker.specs.Texts.{source_text};
 ghost use Rattle.stimulus.specs.Inputs.{inputs_of};
@@ -35,7 +36,7 @@ struct Output {
 fn summary_of(alloc: Global, ready: &Ready, chip: &[u8]) -> Result<Vec<u8>, NoMemory>
     requires chip { IsSmallChipOf ready.now.checked.program chip.now }
     requires padded { ArePadsOf ready.now.checked.program ready.now.stimulus.pads }
-    requires few_inputs { length ready.now.stimulus.pads.inputs ≤ 256 }
+    requires few_inputs { length ready.now.stimulus.pads.inputs ≤ PAD_LIMIT }
     requires one_output { length ready.now.stimulus.pads.outputs ≡ 1 }
     requires clocks { length ready.now.stimulus.clocks ≡ 65 }
     requires settled { SettlesBehindFirst ready.now.checked.program (inputs_of ready.now.stimulus) }

@@ -14,12 +14,13 @@ use Rattle.drawn_nets.specs.Law.{IsKind}
 use Rattle.path_form.specs.declared.path.DataPath.{DataPath}
 use Rattle.path_form.specs.Showing.{ShowsTransfers, path_nets}
 use Rattle.rtl_form.specs.declared.rtl.Rtl.{Rtl}
+use Rattle.ground_ways.specs.Ratioed.{IsRatioed}
 use Rattle.ground_ways.specs.Ways.{OneToGround}
 use Rattle.chip_laws.specs.Laws.{AreRowsApart, AreRowsOf, CircuitsHavePads, IsExtracted, NetworksDrawCircuits}
 use Rattle.chip_laws.specs.Planned.{FollowsTransfers}
 use Rattle.chip_laws.specs.Rows.{PathsAreFed, PathsShowRows, RowsFollow, rows_at}
 use Rattle.path_chips.specs.Planned.{PathsArePlanned}
-use Rattle.path_chips.specs.Ratioed.{IsRatioed, PathsAreRatioed}
+use Rattle.path_chips.specs.Ratioed.{PathsAreRatioed}
 use Rattle.path_chips.proofs.GivenBits.{given_in_rows}
 use Rattle.path_chips.proofs.PadRows.{rows_apart, rows_fit, rows_full, rows_given, rows_long}
 use Rattle.std.specs.Prelude.{Contains}

@@ -23,11 +23,11 @@ use Rattle.slice_chip.specs.Ends.{EndsAreMarked, IsMarkedAt}
 use Rattle.slice_chip.specs.Groups.{AreGroups, SlicedHasGroups}
 use Rattle.slice_chip.specs.Sizes.{RectanglesAreFew, SlicedHasNoUnder, SlicedIsSmall}
 use Rattle.cif_emit.specs.Emittable.{chip_rects}
-use Rattle.compile_laws.specs.Laws.{IsSmallPlan, most_rects}
+use Rattle.compile_laws.specs.Laws.{IsBounded, IsSmallPlan, most_high, most_rects, most_wide}
 use Rattle.path_chips.specs.Planned.{PathsArePlanned}
 use Rattle.path_chips.specs.Ratioed.{PathsAreRatioed}
 use Rattle.path_plan.specs.Paths.{AreLaid, IsChipFor, IsPathFor}
-use Rattle.path_plan.specs.Plans.{IsBounded, IsMeasured, most_high, most_wide}
+use Rattle.path_plan.specs.Plans.{IsMeasured}
 use Rattle.path_plan.specs.Sizes.{LabelsAreFew}
 use Rattle.path_plan.proofs.Counted.{rectangles}
 use Rattle.path_plan.proofs.PadCells.{pads_cost}
@@ -109,9 +109,9 @@ module _ (r : Rtl) (p : DataPath) (stands : IsPathFor r p) (control : IsNet p.co
             (sym chip_for.fabric) (marked p control slices f laid.sliced lawful);
       }
 
-      pub bounded : SlicedIsSmall → SlicedHasNoUnder → SmallFabrics → PathsAreRatioed → (columns rows : ℕ)
-          → IsBounded r (record { chip = chip; columns = columns; rows = rows; groups = groups })
-      bounded is_small bare bounds ratio columns rows = record {
+      pub bounded : SlicedIsSmall → SlicedHasNoUnder → SmallFabrics → PathsAreRatioed
+          → IsBounded r (chip_rects chip) chip.labels
+      bounded is_small bare bounds ratio = record {
         extent = subst (λ rects. IsAtMost (covered rects) (most_wide (cost r)) (most_high (cost r) r.width))
             (sym chip_for.alone) (extent is_small bare bounds);
         ratioed = λ flat are n is. ratio r p n chip_for.network chip_for.place same_pads control slices

@@ -4,9 +4,9 @@ ghost use Rattle.std.specs.Prelude.{◌≡◌, ◌≤◌, IfOk, sum};
 ghost use Rattle.rtl_form.specs.Cost.{cost};
 ghost use Rattle.rtl_form.specs.Sound.{IsSound};
 ghost use Rattle.cif_emit.specs.Emittable.{IsEmittable, chip_rects};
-ghost use Rattle.compile_laws.specs.Laws.{IsSmallPlan};
+ghost use Rattle.compile_laws.specs.Laws.{IsBounded, IsSmallPlan};
 ghost use Rattle.path_plan.specs.Paths.{AreLaid, IsPathFor};
-ghost use Rattle.path_plan.specs.Plans.{IsBounded, IsMeasured};
+ghost use Rattle.path_plan.specs.Plans.{IsMeasured};
 
 use crate::chips::chip_of;
 use crate::laws::labels_are_few;
@@ -68,7 +68,7 @@ pub fn planned_of(
     ensures planned { IfOk result (λ planned. IsSmallPlan rtl.now (chip_rects planned.chip) planned.chip.labels) }
     ensures emittable { IfOk result (λ planned. IsEmittable (chip_rects planned.chip) planned.chip.labels) }
     ensures measured { IfOk result (IsMeasured rtl.now) }
-    ensures bounded { IfOk result (IsBounded rtl.now) }
+    ensures bounded { IfOk result (λ planned. IsBounded rtl.now (chip_rects planned.chip) planned.chip.labels) }
 {
     allocated_paths_realize();
     realized_paths_show();

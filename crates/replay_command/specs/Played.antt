@@ -1,5 +1,6 @@
 -- What is played of a source's chip.
 use Rattle.std.specs.Prelude.{◌≡◌, ◌≤◌, ℕ, List, length}
+use Rattle.stimulus.specs.declared.limits.TheConstants.{CLOCK_LIMIT, PAD_LIMIT}
 use Rattle.mp_program.specs.declared.program.Program.{Program}
 use Rattle.mp_program.specs.Pads.{ArePadsOf}
 use Rattle.stimulus.specs.declared.given.Stimulus.{Stimulus}
@@ -12,8 +13,8 @@ use Rattle.replay_run.specs.Replay.{IsReplay}
 pub record IsAsked (program : Program) (given : Stimulus) (chip : List ℕ) : Type 0 where
   pub masks : IsSmallChipOf program chip
   pub padded : ArePadsOf program given.pads
-  pub few_inputs : length (given.pads).inputs ≤ 256
-  pub few_clocks : length given.clocks ≤ 65536
+  pub few_inputs : length (given.pads).inputs ≤ PAD_LIMIT
+  pub few_clocks : length given.clocks ≤ CLOCK_LIMIT
 
 -- these are the bytes of the chip, and the text is the run of the circuit that they draw
 pub record Plays (chip : List ℕ) (given : Stimulus) (bytes text : List ℕ) : Type 0 where

@@ -4,8 +4,8 @@ ghost use Rattle.std.specs.Prelude.{◌≤◌, IfOk};
 ghost use Rattle.rtl_form.specs.Cost.{cost};
 ghost use Rattle.rtl_form.specs.Sound.{IsSound};
 ghost use Rattle.cif_emit.specs.Emittable.{IsEmittable, chip_rects};
-ghost use Rattle.compile_laws.specs.Laws.{IsSmallPlan};
-ghost use Rattle.path_plan.specs.Plans.{IsBounded, IsMeasured};
+ghost use Rattle.compile_laws.specs.Laws.{IsBounded, IsSmallPlan};
+ghost use Rattle.path_plan.specs.Plans.{IsMeasured};
 
 use datapath_alloc::allocate;
 use mp_base::NoMemory;
@@ -29,7 +29,7 @@ pub fn plan(alloc: Global, rtl: &Rtl) -> Result<Planned, NoMemory>
     ensures planned { IfOk result (λ planned. IsSmallPlan rtl.now (chip_rects planned.chip) planned.chip.labels) }
     ensures emittable { IfOk result (λ planned. IsEmittable (chip_rects planned.chip) planned.chip.labels) }
     ensures measured { IfOk result (IsMeasured rtl.now) }
-    ensures bounded { IfOk result (IsBounded rtl.now) }
+    ensures bounded { IfOk result (λ planned. IsBounded rtl.now (chip_rects planned.chip) planned.chip.labels) }
 {
     let path = allocate(alloc, rtl)?;
     let Laid { fabric, groups } = lay(alloc, &path)?;

@@ -11,3 +11,4 @@ pub returns-clause-made : goal.returns-clause-made
 returns-clause-made c =
     made c.args.checked.now.program c.in_ok-rtl.rtl c.in_ok-chip.field-0.chip
     (subst MakesChips c.program.ensures c.chips_are_made.ensures) c.in_ok-rtl.ensures c.in_ok-chip.ensures.planned
+    c.in_ok-chip.ensures.bounded

@@ -11,5 +11,5 @@ one_trace-requires-clause-forms c = keeps_36 c.args.program.now c.requires
 pub returns : goal.returns
 returns c =
     made c.written_is_read.ensures c.written_is_whole.ensures c.squares_tell_masks.ensures.sound c.circuits_run.ensures.exist
-    c.masks_draw_networks.ensures c.args.program.now c.one_trace.ensures (small_weight c.args.program.now c.requires)
-    c.sound.ensures.width.1
+    c.masks_draw_networks.ensures c.extents_are_determined.ensures.squares c.args.program.now
+    c.one_trace.ensures (small_weight c.args.program.now c.requires) c.sound.ensures.width.1

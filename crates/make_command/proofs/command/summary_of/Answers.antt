@@ -6,12 +6,12 @@ use Rattle.make_command.proofs.command.summary_of.Goals as goal
 
 pub drawn_network-requires : goal.drawn_network-requires
 drawn_network-requires c =
-    c.chips_run.ensures.draws c.args.ready.now.checked.program c.args.chip.now c.requires.chip.0
+    c.chips_run.ensures.draws c.args.ready.now.checked.program c.args.chip.now c.requires.chip.chip
 
 pub summary-requires-clause-has_pads : goal.summary-requires-clause-has_pads
 summary-requires-clause-has_pads c =
     c.chips_run.ensures.padded c.args.ready.now.checked.program c.args.chip.now c.in_ok-network.network
-    c.args.ready.now.stimulus.pads c.requires.chip.0 c.requires.padded c.in_ok-network.ensures
+    c.args.ready.now.stimulus.pads c.requires.chip.chip c.requires.padded c.in_ok-network.ensures
 
 pub returns : goal.returns
 returns c =
