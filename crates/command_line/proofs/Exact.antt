@@ -20,7 +20,7 @@ use Rattle.command_line.specs.App as app
 use Rattle.command_line.specs.Read.{read_met, read_named}
 use Rattle.command_line.proofs.Plain.{fed_level, level_plain, neither, rows_plain, turn_plain, walk_stopped}
 use Rattle.command_line.proofs.Levels.{IsLevel, no, passes, read_at, ready, trace_level, compile_level, replay_level}
-use Rattle.command_line.proofs.Levels.{sim_level, net_level, make_level}
+use Rattle.command_line.proofs.Levels.{sim_level, net_level, stats_level, make_level}
 use Rattle.command_line.proofs.Links.{board_level}
 
 abbrev whole : App
@@ -136,6 +136,9 @@ sim_exact words plain = named_exact (ready app.sim) (codes "sim") words refl ref
 net_exact : (words : List Text) → list_any begins_with_dash words ≡ false → IsExact (codes "net" ∷ words)
 net_exact words plain = named_exact (ready app.net) (codes "net") words refl refl refl plain (net_level words)
 
+stats_exact : (words : List Text) → list_any begins_with_dash words ≡ false → IsExact (codes "stats" ∷ words)
+stats_exact words plain = named_exact (ready app.stats) (codes "stats") words refl refl refl plain (stats_level words)
+
 board_exact : (words : List Text) → list_any begins_with_dash words ≡ false → length words ≤ usize_max
     → IsExact (codes "board" ∷ words)
 board_exact words plain few = named_exact (ready app.board) (codes "board") words refl refl refl plain
@@ -160,9 +163,11 @@ each_name name words first plain few =
     either (codes "replay") name words (replay_exact words plain) (λ e2.
     either (codes "sim") name words (sim_exact words plain) (λ e3.
     either (codes "net") name words (net_exact words plain) (λ e4.
-    either (codes "board") name words (board_exact words plain few) (λ e5.
-    either (codes "make") name words (make_exact words plain) (λ e6.
-    unknown_exact name words first (rw (e0, e1, e2, e3, e4, e5, e6) refl) (rw (e0, e1, e2, e3, e4, e5, e6) refl))))))))
+    either (codes "stats") name words (stats_exact words plain) (λ e5.
+    either (codes "board") name words (board_exact words plain few) (λ e6.
+    either (codes "make") name words (make_exact words plain) (λ e7.
+    unknown_exact name words first (rw (e0, e1, e2, e3, e4, e5, e6, e7) refl)
+    (rw (e0, e1, e2, e3, e4, e5, e6, e7) refl)))))))))
 
 pub exact : (words : List Text) → list_any begins_with_dash words ≡ false → length words ≤ usize_max → IsExact words
 exact [] plain few = none_exact

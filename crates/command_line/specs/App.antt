@@ -31,6 +31,9 @@ sim = form (codes "sim") (codes "cif" ∷ codes "stimulus" ∷ [])
 abbrev pub net : Shape
 net = form (codes "net") (codes "cif" ∷ [])
 
+abbrev pub stats : Shape
+stats = form (codes "stats") (codes "source" ∷ [])
+
 abbrev pub board : Shape
 board = record (new_shape (codes "board")) {
   rules = word (codes "source") ∷ word (codes "cif") ∷ word (codes "clocks") ∷ words (codes "links") ∷ [];
@@ -58,4 +61,4 @@ top = record bare_top { is_leaf = false }
 
 -- the program with its forms
 abbrev pub app : App
-app = record { top = top; subs = trace ∷ compile ∷ replay ∷ sim ∷ net ∷ board ∷ make ∷ [] }
+app = record { top = top; subs = trace ∷ compile ∷ replay ∷ sim ∷ net ∷ stats ∷ board ∷ make ∷ [] }

@@ -16,6 +16,7 @@ pub data Command : Type 0 where
   Replay : (source stimulus cif : List ℕ) → Command
   Sim : (cif stimulus : List ℕ) → Command
   Net : (cif : List ℕ) → Command
+  Stats : (source : List ℕ) → Command
   Board : (source cif : List ℕ) (clocks : ℕ) (links : List (List ℕ)) → Command
   Make : (number : ℕ) (cif : List ℕ) → Command
 
@@ -64,6 +65,7 @@ form_named name words =
     else if bytes_eq (codes "replay") name then three Replay words
     else if bytes_eq (codes "sim") name then two Sim words
     else if bytes_eq (codes "net") name then one Net words
+    else if bytes_eq (codes "stats") name then one Stats words
     else if bytes_eq (codes "board") name then board_of words
     else if bytes_eq (codes "make") name then make_of words
     else None
@@ -86,5 +88,6 @@ seen (rust_variants.Compile source cif) = Compile source.now cif.now
 seen (rust_variants.Replay source stimulus cif) = Replay source.now stimulus.now cif.now
 seen (rust_variants.Sim cif stimulus) = Sim cif.now stimulus.now
 seen (rust_variants.Net cif) = Net cif.now
+seen (rust_variants.Stats source) = Stats source.now
 seen (rust_variants.Board source cif clocks links) = Board source.now cif.now clocks (map string_bytes links.now)
 seen (rust_variants.Make number cif) = Make number cif.now

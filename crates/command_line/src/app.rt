@@ -85,6 +85,7 @@ pub fn app<'a>(alloc: Global) -> Result<Command<'a>, AllocError>
     let replay = with_form(alloc, compile, "replay", &["source", "stimulus", "cif"])?;
     let sim = with_form(alloc, replay, "sim", &["cif", "stimulus"])?;
     let net = with_form(alloc, sim, "net", &["cif"])?;
-    let board = with_board(alloc, net)?;
+    let stats = with_form(alloc, net, "stats", &["source"])?;
+    let board = with_board(alloc, stats)?;
     with_form(alloc, board, "make", &["number", "cif"])
 }

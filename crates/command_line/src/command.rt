@@ -8,7 +8,7 @@ ghost use Rattle.command_line.specs.Command.{begins_with_dash, form_of, command_
 ghost use Rattle.command_line.specs.Read.{answer_of, read_met};
 
 use crate::app::app;
-use crate::matched::command_in;
+use crate::matched::command_met;
 use clap::error::ErrorKind;
 use clap::{ArgMatches, Error};
 use std::alloc::{AllocError, Global};
@@ -22,6 +22,7 @@ pub enum Command<'a> {
     Replay(&'a str, &'a str, &'a str),
     Sim(&'a str, &'a str),
     Net(&'a str),
+    Stats(&'a str),
     Board(&'a str, &'a str, u32, &'a [String]),
     Make(u64, &'a str),
 }
@@ -80,10 +81,7 @@ fn found_command<'a>(alloc: Global, words: &'a [String]) -> Result<Option<Comman
     ensures { IfOk result (λ found. option_map seen found ≡ form_of (map string_bytes words.now)) }
 {
     match parse(alloc, words)? {
-        Some(matches) => match matches.subcommand() {
-            Some((name, inner)) => Ok(command_in(name, inner, links(words))),
-            None => Ok(None),
-        },
+        Some(matches) => Ok(command_met(&matches, links(words))),
         None => Ok(None),
     }
 }

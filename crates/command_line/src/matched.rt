@@ -2,11 +2,12 @@
 
 ghost use Rattle.std.specs.Prelude.{◌≡◌, ◌-◌, ◌^◌, codes, map, string_bytes};
 ghost use Rattle.std.specs.Option.{option_map};
-ghost use Rattle.clap.specs.Words.{first_of, found_of, rows_of};
+ghost use Rattle.clap.specs.Words.{first_of, found_of, rows_of, subcommand_rows_of};
 ghost use Rattle.command_line.specs.Command as spec;
 ghost use Rattle.command_line.specs.Command.{seen};
 ghost use Rattle.command_line.specs.Number.{number_in};
-ghost use Rattle.command_line.specs.Read.{read_board, read_make, read_named, read_one, read_two, read_three};
+ghost use Rattle.command_line.specs.Read.{read_board, read_make, read_met, read_named};
+ghost use Rattle.command_line.specs.Read.{read_one, read_two, read_three};
 
 use crate::command::Command;
 use crate::number::number_in;
@@ -57,6 +58,12 @@ fn net<'a>(matches: &ArgMatches<'a>) -> Option<Command<'a>>
     Some(Command::Net(text(matches, "cif")?))
 }
 
+fn stats<'a>(matches: &ArgMatches<'a>) -> Option<Command<'a>>
+    ensures { option_map seen result ≡ read_one spec.Stats (codes "source") (rows_of (found_of matches.now)) }
+{
+    Some(Command::Stats(text(matches, "source")?))
+}
+
 // How many clocks a board runs.
 fn clocks(word: &str) -> Option<u32>
     ensures { result ≡ number_in 5 1 65536 word.now }
@@ -89,12 +96,8 @@ fn make<'a>(matches: &ArgMatches<'a>) -> Option<Command<'a>>
     Some(Command::Make(seed(number)?, cif))
 }
 
-/// The command that the matches of a subcommand hold, by its name, and the words behind the fourth.
-pub fn command_in<'a>(
-    name: &str,
-    matches: &ArgMatches<'a>,
-    links: &'a [String],
-) -> Option<Command<'a>>
+// The command that the matches of a subcommand hold, by its name, and the words behind the fourth.
+fn command_in<'a>(name: &str, matches: &ArgMatches<'a>, links: &'a [String]) -> Option<Command<'a>>
     ensures { option_map seen result
         ≡ read_named (map string_bytes links.now) name.now (rows_of (found_of matches.now)) }
 {
@@ -108,6 +111,8 @@ pub fn command_in<'a>(
         sim(matches)
     } else if name == "net" {
         net(matches)
+    } else if name == "stats" {
+        stats(matches)
     } else if name == "board" {
         board(matches, links)
     } else if name == "make" {
@@ -115,4 +120,12 @@ pub fn command_in<'a>(
     } else {
         None
     }
+}
+
+/// The command of the subcommand that clap met, and the words behind the fourth.
+pub fn command_met<'a>(matches: &ArgMatches<'a>, links: &'a [String]) -> Option<Command<'a>>
+    ensures { option_map seen result ≡ read_met (map string_bytes links.now) (subcommand_rows_of matches.now) }
+{
+    let (name, inner) = matches.subcommand()?;
+    command_in(name, inner, links)
 }

@@ -28,20 +28,22 @@ fn files_are_made_grown_and_read(rt: HostRuntime) {
 fn an_output_that_takes_nothing_is_a_fault(rt: HostRuntime) {
     let mut room = [0u8; 4];
     let mut out = OutSink::new(room.as_mut_slice());
-    assert_eq!(rt; out.write(b"ab"), Ok(2));
-    assert_eq!(rt; out.write(b"c\n"), Ok(2));
-    assert_eq!(rt; out.write(b"d\n"), Err(Failed));
+    assert_eq!(rt; out.write(b"abc\n"), Ok(4));
+    assert_eq!(rt; out.flush(), Ok(()));
+    assert_eq!(rt; out.write(b"d\n"), Ok(2));
+    assert_eq!(rt; out.flush(), Err(Failed));
     assert_eq!(rt; out.write(b""), Ok(0));
 }
 
 #[test]
-fn a_line_longer_than_the_room_comes_out(rt: HostRuntime) {
+fn a_text_longer_than_the_room_comes_out(rt: HostRuntime) {
     let mut room = [0u8; 9000];
     let mut out = OutSink::new(room.as_mut_slice());
     let line = [b'x'; 8999];
     assert_eq!(rt; write_all(&mut out, &line), Ok(()));
     assert_eq!(rt; write_all(&mut out, b"\n"), Ok(()));
-    assert_eq!(rt; write_all(&mut out, b"\n"), Err(Failed));
+    assert_eq!(rt; out.flush(), Ok(()));
+    assert_eq!(rt; write_all(&mut out, &line), Err(Failed));
     assert!(rt; room.starts_with(&line));
     assert_eq!(rt; room[8999], b'\n');
 }
@@ -96,8 +98,14 @@ fn each_exit_status(rt: HostRuntime) {
     assert_eq!(rt; store(&mut depot, "s", INVERTER), Ok(()));
     assert_eq!(rt; store(&mut depot, "bad", b"(program x 33)"), Ok(()));
     assert_eq!(rt; store(&mut depot, "t", b"clock a=0\n"), Ok(()));
-    let rows: [(&[&[u8]], usize, &[u8], u8); 7] = [
+    let rows: [(&[&[u8]], usize, &[u8], u8); 8] = [
         (&[b"macpitts", b"trace", b"s", b"t"], ROOM, b"0 y=1\n", 0),
+        (
+            &[b"macpitts", b"stats", b"s"],
+            ROOM,
+            b"weight 10\ncolumns ",
+            0,
+        ),
         (
             &[b"macpitts", b"trace", b"bad", b"absent"],
             ROOM,

@@ -7,25 +7,32 @@ use Rattle.mp_program.specs.Weight.{weight}
 use Rattle.rtl_form.specs.declared.rtl.Rtl.{Rtl}
 use Rattle.track_assign.specs.declared.packing.Tracks.{Tracks}
 use Rattle.process_plan.specs.Same.{IsSame}
-use Rattle.cif_emit.specs.Emittable.{chip_rects}
-use Rattle.compile_laws.specs.Laws.{IsSmallPlan, MakesChips}
+use Rattle.cif_emit.specs.Emittable.{IsEmittable, chip_rects}
+use Rattle.compile_laws.specs.Laws.{IsBounded, IsSmallPlan, MakesChips}
 use Rattle.path_plan.specs.declared.planning.Planned.{Planned}
 use Rattle.path_plan.specs.Plans.{IsMeasured}
 use Rattle.plan_stats.specs.Stats.{IsPlanOf}
 
 plan_of : (p : Program) (r : Rtl) (planned : Planned) → MakesChips p → IsSame p r
-    → IsSmallPlan r (chip_rects planned.chip) (planned.chip).labels → IsMeasured r planned → IsPlanOf p planned
-plan_of p r planned make same plan measured = record {
-  makes = λ commands emitted. make r (chip_rects planned.chip) (planned.chip).labels commands same plan emitted;
+    → IsSmallPlan r (chip_rects planned.chip) (planned.chip).labels
+    → IsBounded r (chip_rects planned.chip) (planned.chip).labels
+    → IsEmittable (chip_rects planned.chip) (planned.chip).labels → IsMeasured r planned → IsPlanOf p planned
+plan_of p r planned make same plan bounded emittable measured = record {
+  emittable = emittable;
+  makes = λ commands emitted. make r (chip_rects planned.chip) (planned.chip).labels commands same plan bounded emitted;
   columns = measured.columns;
   narrow = let n = measured.narrow in let c = same.cost in omega (arith, n, c);
   groups = measured.groups;
   count = measured.count ∙ ap suc same.width;
   rows = measured.rows ∙ ap (λ w. sum_by (λ (t : Tracks). t.rows) planned.groups + suc w) same.width;
+  ends = measured.ends;
 }
 
 pub planned : (p : Program) (r : Rtl) (result : Result Planned NoMemory) → MakesChips p → IsSame p r
     → IfOk result (λ planned. IsSmallPlan r (chip_rects planned.chip) (planned.chip).labels)
+    → IfOk result (λ planned. IsBounded r (chip_rects planned.chip) (planned.chip).labels)
+    → IfOk result (λ planned. IsEmittable (chip_rects planned.chip) (planned.chip).labels)
     → IfOk result (IsMeasured r) → IfOk result (IsPlanOf p)
-planned p r (Ok plan) make same small measured = plan_of p r plan make same small measured
-planned p r (Err e) make same small measured = tt
+planned p r (Ok plan) make same small bounded emittable measured =
+    plan_of p r plan make same small bounded emittable measured
+planned p r (Err e) make same small bounded emittable measured = tt

@@ -1,20 +1,24 @@
 -- What the size of a chip is told of.
-use Rattle.std.specs.Prelude.{◌≡◌, ◌≤◌, ◌+◌, ℕ, List, suc, length, sum_by}
+use Rattle.std.specs.Prelude.{◌≡◌, ◌≤◌, ◌+◌, ℕ, List, Contains, suc, length, sum_by}
 use Rattle.cif_form.specs.declared.command.Command.{Command}
 use Rattle.cif_writer.specs.Texts.{file_text}
 use Rattle.mp_program.specs.declared.program.Program.{Program}
 use Rattle.mp_program.specs.Weight.{weight}
 use Rattle.track_assign.specs.declared.packing.Tracks.{Tracks}
+use Rattle.fabric.specs.declared.thing.Segment.{Segment}
+use Rattle.slice_chip.specs.Ends.{IsMarkedAt}
 use Rattle.slice_chip.specs.Groups.{AreGroups}
-use Rattle.cif_emit.specs.Emittable.{chip_rects}
+use Rattle.cif_emit.specs.Emittable.{IsEmittable, chip_rects}
 use Rattle.cif_emit.specs.Emitted.{IsEmitted}
 use Rattle.compile_laws.specs.Laws.{IsSmallChipOf}
 use Rattle.path_plan.specs.declared.planning.Planned.{Planned}
 use Rattle.plan_stats.specs.Text.{stats_lines}
 
--- The plan is of a chip of the program: commands that draw it have a text that is one. Its numbers are those of the
--- chip's fabric, which has at most so many columns, and a group of tracks for the control and for each bit.
+-- The plan is of a chip of the program: it can be written as commands, and those that draw it have a text that is one.
+-- Its numbers are those of the chip's fabric, which has at most so many columns, a group of tracks for the control and
+-- for each bit, and no segment that is longer than its marks.
 pub record IsPlanOf (p : Program) (planned : Planned) : Type 0 where
+  pub emittable : IsEmittable (chip_rects planned.chip) (planned.chip).labels
   pub makes : (commands : List Command) → IsEmitted (chip_rects planned.chip) (planned.chip).labels commands
       → IsSmallChipOf p (file_text commands)
   pub columns : planned.columns ≡ (planned.chip).fabric.columns
@@ -22,6 +26,8 @@ pub record IsPlanOf (p : Program) (planned : Planned) : Type 0 where
   pub groups : AreGroups (planned.chip).fabric planned.groups
   pub count : length planned.groups ≡ suc p.width
   pub rows : planned.rows ≡ sum_by (λ (t : Tracks). t.rows) planned.groups + suc p.width
+  pub ends : (s : Segment) → Contains (planned.chip).fabric.segments s
+      → IsMarkedAt (planned.chip).fabric s s.first × IsMarkedAt (planned.chip).fabric s s.last
 
 -- the text tells the weight of the program, and the size of one chip of it
 pub record IsStatsOf (p : Program) (text : List ℕ) : Type 0 where

@@ -4,7 +4,8 @@ ghost use Rattle.std.specs.Prelude.{◌<◌};
 
 use crate::counted::is_size_at_end;
 use crate::endless::Endless;
-use crate::files::{File, text_of};
+use crate::files::File;
+use crate::sized::is_size_of_chip;
 use mp_base::{Depot, List, MemDepot, MemSink, NoMemory, QuietDepot, QuietSink, Sink};
 use silicon::{Status, run};
 use std::alloc::{AllocError, Global};
@@ -167,11 +168,17 @@ impl Outcome {
         self.status == Status::Refused && self.printed.starts_with(rule.as_bytes())
     }
 
-    /// Prints the status and what was printed. In place of the size of the masks in the file `c` at the end of the
-    /// stimulus in the file `t` it says so, since the layout is free.
+    /// Prints the status and what was printed. In place of the size of the masks in the file `c`, alone or at the end of
+    /// the stimulus in the file `t`, it says so, since the layout is free.
     pub(crate) fn show(&self, rt: &HostRuntime, files: &[File]) -> io::Result<()> {
         println!(rt; "    {:?}", self.status)?;
         let printed = String::from_utf8_lossy(rt.alloc(), &self.printed)?;
+        if let Some((weight, size)) = printed.split_once('\n') {
+            if is_size_of_chip(rt.alloc(), files, size) {
+                let bands = size.lines().count().wrapping_sub(2);
+                return println!(rt; "    {weight}\n    the size of c in {bands} bands");
+            }
+        }
         for line in printed.lines() {
             show_line(rt, files, line)?;
         }

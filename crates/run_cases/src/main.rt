@@ -7,6 +7,7 @@ mod endless;
 mod ends;
 mod files;
 mod script;
+mod sized;
 mod step;
 
 use std::{fs, io};

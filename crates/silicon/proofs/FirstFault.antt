@@ -1,7 +1,7 @@
 -- A command has one first fault at most.
 use Rattle.std.proofs.Common.{◌≡◌, ◌∙◌, sym, List, ℕ, Option}
 use Rattle.mp_base.specs.Outside.{Files}
-use Rattle.command_line.specs.Command.{Command, Trace, Compile, Replay, Sim, Net, Board, Make}
+use Rattle.command_line.specs.Command.{Command, Trace, Compile, Replay, Sim, Net, Stats, Board, Make}
 use Rattle.outcome.specs.Order.{Fault}
 use Rattle.outcome.specs.Work.{Work}
 use Rattle.source_files.specs.Faults.{SourceFault, RunFault}
@@ -30,5 +30,6 @@ single laws lent (Compile source cif) = laws.source source
 single laws lent (Replay source stimulus cif) = laws.run source stimulus
 single laws lent (Sim cif stimulus) = laws.circuit cif stimulus
 single laws lent (Net cif) = laws.masks cif
+single laws lent (Stats source) = laws.source source
 single laws lent (Board source cif clocks words) = laws.links lent source cif clocks words
 single laws lent (Make number cif) = λ files a b x y. x ∙ sym y

@@ -3,7 +3,7 @@ use Rattle.std.proofs.Common.{◌≡◌, ◌⊎◌, ℕ, List, refl, sym, subst,
 use Rattle.mp_base.specs.Outside.{Files, WhereTold}
 use Rattle.mp_base.specs.declared.refusal.Broken.{Broken}
 use Rattle.mp_base.proofs.Told.{told_map}
-use Rattle.command_line.specs.Command.{Command, Trace, Compile, Replay, Sim, Net, Board, Make}
+use Rattle.command_line.specs.Command.{Command, Trace, Compile, Replay, Sim, Net, Stats, Board, Make}
 use Rattle.outcome.specs.Order.{Breaks}
 use Rattle.outcome.specs.Line.{line_of}
 use Rattle.outcome.specs.World.{World, Leaves, DidWork, IsTold, whole, cut}
@@ -129,6 +129,7 @@ module _ {P : Type 0} (before after : List P) where
   keeps_all (Some (Replay source stimulus cif)) status is = is
   keeps_all (Some (Sim cif stimulus)) status is = is
   keeps_all (Some (Net cif)) status is = is
+  keeps_all (Some (Stats source)) status is = is
   keeps_all (Some (Make number cif)) status is = is
   keeps_all (Some (Board source cif clocks links)) Done is = tt
   keeps_all (Some (Board source cif clocks links)) Refused is = is
@@ -145,6 +146,7 @@ module _ {P : Type 0} (before after : List P) where
   keeps_given (Replay source stimulus cif) v is = is
   keeps_given (Sim cif stimulus) v is = is
   keeps_given (Net cif) v is = is
+  keeps_given (Stats source) v is = is
   keeps_given (Make number cif) v is = is
   keeps_given (Board source cif clocks links) v is = tt
 
@@ -155,6 +157,7 @@ module _ {P : Type 0} (before after : List P) where
   keeps_cut (Replay source stimulus cif) is = is
   keeps_cut (Sim cif stimulus) is = is
   keeps_cut (Net cif) is = is
+  keeps_cut (Stats source) is = is
   keeps_cut (Make number cif) is = is
   keeps_cut (Board source cif clocks links) is = tt
 
@@ -166,6 +169,7 @@ module _ {P : Type 0} (before after : List P) where
   rested (Replay source stimulus cif) end other is = is
   rested (Sim cif stimulus) end other is = is
   rested (Net cif) end other is = is
+  rested (Stats source) end other is = is
   rested (Make number cif) end other is = is
   rested (Board source cif clocks links) (halt.Refused broken) other is = is
   rested (Board source cif clocks links) halt.ReadFault other is = is

@@ -20,6 +20,7 @@ use net_command::net;
 use outcome::{Halt, Status, refuse, say};
 use replay_command::replay;
 use sim_command::sim;
+use stats_command::stats;
 use std::alloc::{AllocError, Global};
 use trace_command::trace;
 
@@ -70,6 +71,7 @@ fn perform<D: Depot, O: Sink>(
         }
         Command::Sim(cif, stimulus) => sim(alloc, depot, out, cif, stimulus),
         Command::Net(cif) => net(alloc, depot, out, cif),
+        Command::Stats(source) => stats(alloc, depot, out, source),
         Command::Board(source, cif, clocks, links) => {
             board(alloc, depot, out, parts, source, cif, clocks, links)
         }

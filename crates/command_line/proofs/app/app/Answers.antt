@@ -11,6 +11,7 @@ returns c =
     let replay = c.in_ok-replay.ensures ∙ ap (λ (a : App). with_subcommand a spec.replay) compile in
     let sim = c.in_ok-sim.ensures ∙ ap (λ (a : App). with_subcommand a spec.sim) replay in
     let net = c.in_ok-net.ensures ∙ ap (λ (a : App). with_subcommand a spec.net) sim in
-    let board = c.in_ok-board.ensures ∙ ap (λ (a : App). with_subcommand a spec.board) net in
-    IfOk-weaker c.with_form-6.result _ _ (λ r h. h ∙ ap (λ (a : App). with_subcommand a spec.make) board)
-    c.with_form-6.ensures
+    let stats = c.in_ok-stats.ensures ∙ ap (λ (a : App). with_subcommand a spec.stats) net in
+    let board = c.in_ok-board.ensures ∙ ap (λ (a : App). with_subcommand a spec.board) stats in
+    IfOk-weaker c.with_form-7.result _ _ (λ r h. h ∙ ap (λ (a : App). with_subcommand a spec.make) board)
+    c.with_form-7.ensures

@@ -11,4 +11,4 @@ pub returns : goal.returns
 returns c =
     planned c.args.checked.now.program c.in_ok-rtl.rtl c.plan.result
     (subst MakesChips c.program.ensures c.chips_are_made.ensures) c.in_ok-rtl.ensures c.plan.ensures.planned
-    c.plan.ensures.measured
+    c.plan.ensures.bounded c.plan.ensures.emittable c.plan.ensures.measured

@@ -1,6 +1,6 @@
 use Rattle.std.proofs.Common.{ap, map, refl, sym, subst, List, ℕ, Some}
 use Rattle.std.specs.Prelude.{string_bytes}
-use Rattle.command_line.specs.Command.{Trace, Compile, Replay, Sim, Net, Board, Make, seen}
+use Rattle.command_line.specs.Command.{Trace, Compile, Replay, Sim, Net, Stats, Board, Make, seen}
 use Rattle.outcome.specs.Halt.{status_of}
 use Rattle.board.specs.Face.{Face}
 use Rattle.board_command.specs.Parts.{Lent}
@@ -73,6 +73,19 @@ returns-in-Net-clause-content g c =
     } in
     leaves_still lent (seen c.args.command) (Net c.in-Net.cif.now)
     c.net.result _ _ (ap seen c.in-Net.is) (λ old printed. refl) c.net.ensures.content
+
+pub returns-in-Stats-clause-content : goal.returns-in-Stats-clause-content
+returns-in-Stats-clause-content g c =
+    let lent : Lent = record {
+      names = map (λ p. string_bytes p.name) c.args.parts.now.items;
+      faces = map (λ p. let f : Face = record {
+        state = (g.dyn-1.0.entry p.part.vtable).1.state p.part.value;
+        drives = (g.dyn-1.0.entry p.part.vtable).1.driven_in;
+        sees = (g.dyn-1.0.entry p.part.vtable).1.after_seeing;
+      } in f) c.args.parts.now.items;
+    } in
+    leaves_still lent (seen c.args.command) (Stats c.in-Stats.source.now)
+    c.stats.result _ _ (ap seen c.in-Stats.is) (λ old printed. refl) c.stats.ensures.content
 
 pub returns-in-Board-clause-content : goal.returns-in-Board-clause-content
 returns-in-Board-clause-content g c =
