@@ -80,8 +80,8 @@ fn outcome_with(
     })
 }
 
-// Runs the program of a row with a counter, a shifter, an echo, a memory, a part that counts its moves, and a second part
-// of the name `echo`, where one write fails.
+// Runs the program of a row with a counter, a shifter, an echo, a memory, a part that counts its moves, and a second
+// part of the name `echo`, where one write fails.
 fn outcome_of(
     alloc: Global,
     checked: &Checked,

@@ -44,3 +44,7 @@ pub record IsWired (gates column : ℕ) (f : Plan) : Type 0 where
 -- a tile of the band
 abbrev pub standing : Tile → ℕ → ℕ → Mark
 standing tile row column = record { tile = tile; band = 0; row = row; column = column }
+
+-- a row of more gates is too wide for the numbers of a CIF file
+abbrev pub most_written : ℕ
+most_written = 200_000

@@ -1,17 +1,37 @@
 //! Rows of gates as fabrics: how many rectangles they draw, and the size of the network that they mean. How long both
-//! took goes to the standard error.
+//! took goes to the standard error, and how long it took to write the text of the file that draws them.
 #![tactic(auto)]
 
 mod row;
+mod text;
 
-ghost use Rattle.std.specs.Prelude.{◌≤◌};
+ghost use Rattle.std.specs.Prelude.{◌≤◌, ◌+◌};
+ghost use Rattle.fabric_row.specs.Row.{IsRow, most_written};
 
+use fabric::Fabric;
 use row::row;
 use std::time::Instant;
 use std::{env, io};
+use text::written;
 
 /// More gates have more lines and marks than a fabric may hold.
 const MOST_GATES: u32 = 4_000_000;
+
+/// A row of more gates is too wide for the numbers of a CIF file.
+const MOST_WRITTEN: u32 = 200_000;
+
+// How long it takes to write a row.
+fn show_written(rt: &HostRuntime, fabric: Fabric, gates: u32) -> io::Result<()>
+    requires row { IsRow gates (gates + 1) fabric }
+    requires narrow { gates ≤ most_written }
+{
+    let start = Instant::now(rt)?;
+    let Ok(bytes) = written(rt.alloc(), fabric, gates) else {
+        return println!(rt; "no memory");
+    };
+    let took = start.elapsed(rt)?;
+    eprintln!(rt; "{gates} gates: {bytes} bytes written in {took:?}")
+}
 
 fn show(rt: &HostRuntime, gates: u32) -> io::Result<()>
     requires some { 1 ≤ gates }
@@ -32,7 +52,11 @@ fn show(rt: &HostRuntime, gates: u32) -> io::Result<()>
     let meant = start.elapsed(rt)?;
     let (rectangles, nodes, channels) = (shape.len(), network.nodes, network.channels.len());
     println!(rt; "{gates} gates: {rectangles} rectangles, {nodes} nodes, {channels} channels")?;
-    eprintln!(rt; "{gates} gates: shape {drawn:?}, switches {meant:?}")
+    eprintln!(rt; "{gates} gates: shape {drawn:?}, switches {meant:?}")?;
+    if gates <= MOST_WRITTEN {
+        show_written(rt, fabric, gates)?;
+    }
+    Ok(())
 }
 
 fn main(rt: HostRuntime) -> io::Result<()> {

@@ -100,10 +100,15 @@ fn show_failing(rt: &HostRuntime, words: &str, whole: &Outcome, cut: &Outcome) -
     println!(rt; "    {words}: {end}, {printed} printed, file {file}")
 }
 
-fn show_outcomes(rt: &HostRuntime, seed: u64, whole: &Outcome) -> io::Result<()> {
+/// Shows how the making of a number ended, and the lines above the size line.
+pub(crate) fn show_outcome(rt: &HostRuntime, whole: &Outcome) -> io::Result<()> {
     let end = name_of(&whole.end);
     println!(rt; "    {end}")?;
-    show_lines(rt, &whole.printed)?;
+    show_lines(rt, &whole.printed)
+}
+
+/// Makes a number again, and then with calls failing.
+pub(crate) fn show_failing_calls(rt: &HostRuntime, seed: u64, whole: &Outcome) -> io::Result<()> {
     for (words, of_files, of_output) in [
         ("again", None, None),
         ("create fails", Some(0), None),
@@ -116,12 +121,4 @@ fn show_outcomes(rt: &HostRuntime, seed: u64, whole: &Outcome) -> io::Result<()>
         }
     }
     Ok(())
-}
-
-/// Shows what is made of a number.
-pub(crate) fn show_made(rt: &HostRuntime, seed: u64) -> io::Result<()> {
-    match outcome_of(rt.alloc(), seed, None, None) {
-        Ok(whole) => show_outcomes(rt, seed, &whole),
-        Err(_) => println!(rt; "    not enough memory"),
-    }
 }

@@ -1,11 +1,11 @@
 //! The replay of the texts that are made of a number.
 
-use crate::made::outcome_of;
-use mp_base::{List, MemDepot, MemSink, NoMemory};
+use crate::made::Outcome;
+use mp_base::{List, MemDepot, MemSink};
 use outcome::Halt;
 use program_maker::make;
 use replay_command::replay;
-use std::alloc::{AllocError, Global};
+use std::alloc::Global;
 use std::io;
 
 // What the replay of the texts prints.
@@ -41,29 +41,23 @@ fn last_line(text: &str) -> &str {
     text.lines().last().unwrap_or("")
 }
 
-// Whether what is made of the number ends with this line.
-fn ends_alike(alloc: Global, seed: u64, last: &str) -> Result<bool, NoMemory> {
-    let made = outcome_of(alloc, seed, None, None)?;
-    let text = String::from_utf8_lossy(alloc, &made.printed)?;
-    Ok(last_line(text.as_str()) == last)
-}
-
-fn show_text(rt: &HostRuntime, seed: u64, text: &str) -> io::Result<()> {
+fn show_text(rt: &HostRuntime, whole: &Outcome, text: &str) -> io::Result<()> {
     let sum = sum_of(text);
     println!(rt; "    replayed: sum {sum}")?;
-    match ends_alike(rt.alloc(), seed, last_line(text)) {
-        Ok(true) => println!(rt; "    the last lines are the same"),
-        Ok(false) => println!(rt; "    the last lines differ"),
-        Err(_) => println!(rt; "    not enough memory"),
+    let printed = String::from_utf8_lossy(rt.alloc(), &whole.printed)?;
+    if last_line(printed.as_str()) == last_line(text) {
+        println!(rt; "    the last lines are the same")
+    } else {
+        println!(rt; "    the last lines differ")
     }
 }
 
-/// Shows what is added up in the replay.
-pub(crate) fn show_replayed(rt: &HostRuntime, seed: u64) -> io::Result<()> {
+/// Shows what is added up in the replay of a number's texts, and whether it ends as the number's making did.
+pub(crate) fn show_replayed(rt: &HostRuntime, seed: u64, whole: &Outcome) -> io::Result<()> {
     match replayed(rt.alloc(), seed) {
         Ok(printed) => {
             let text = String::from_utf8_lossy(rt.alloc(), &printed)?;
-            show_text(rt, seed, text.as_str())
+            show_text(rt, whole, text.as_str())
         }
         Err(_) => println!(rt; "    no replay"),
     }

@@ -2,6 +2,7 @@
 #![tactic(auto)]
 
 mod circuit;
+mod cost;
 mod dice;
 mod hand;
 mod source;
@@ -18,5 +19,6 @@ fn main(rt: HostRuntime) -> io::Result<()> {
     show_size(&rt, "sum")?;
     show_size(&rt, "sums")?;
     show_size(&rt, "tests")?;
-    show_size(&rt, "heavy")
+    show_size(&rt, "heavy")?;
+    show_size(&rt, "brim")
 }

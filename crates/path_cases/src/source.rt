@@ -5,6 +5,7 @@ ghost use Rattle.rtl_form.specs.Cost.{cost};
 ghost use Rattle.rtl_form.specs.Sound.{IsSound};
 
 use crate::circuit::Circuit;
+use crate::cost::cost_of;
 use crate::dice::Dice;
 use datapath_alloc::allocate;
 use mp_base::{List, NoMemory};
@@ -205,7 +206,8 @@ fn show_sizes(rt: &HostRuntime, sizes: &Sizes) -> io::Result<()> {
     println!(rt; " casts {casts} lifts {lifts} flat {flat}")
 }
 
-// The sizes of the path of a checked program. How long it took to make it goes to the standard error.
+// The cost of a checked program's transfers and the sizes of their path. How long it took to make it goes to the
+// standard error.
 fn show_path(rt: &HostRuntime, name: &str, checked: &Checked) -> io::Result<()> {
     let _light = weight(checked);
     let Ok(rtl) = sequence(rt.alloc(), checked) else {
@@ -217,6 +219,8 @@ fn show_path(rt: &HostRuntime, name: &str, checked: &Checked) -> io::Result<()> 
     };
     let took = start.elapsed(rt)?;
     eprintln!(rt; "{name}: {took:?}")?;
+    let cost = cost_of(&rtl);
+    print!(rt; "cost {cost} ")?;
     show_sizes(rt, &sizes)
 }
 
