@@ -1,10 +1,10 @@
 -- What is gathered of a form, of a list of forms and of branches.
-use Rattle.std.proofs.Common.{◌≡◌, ℕ, zero, suc, ◌+◌, ◌<◌, List, [], ◌∷◌, ◌++◌, Bool, true, false, cond, refl, sym, ◌∙◌, ap, subst, length, drop, max, arith, get_or}
-use Rattle.std.specs.Prelude.{◌==◌, bit_or, Option, Some, None}
+use Rattle.std.proofs.Common.{◌≡◌, ℕ, zero, suc, ◌+◌, ◌<◌, List, [], ◌∷◌, ◌++◌, Bool, true, false, cond, refl, sym, ◌∙◌}
+use Rattle.std.proofs.Common.{ap, subst, length, drop, arith, get_or}
+use Rattle.std.specs.Prelude.{◌==◌, Option, Some, None}
 use Rattle.std.specs.List.{flat_map}
-use Rattle.std.specs.Int.{bit_at}
-use Rattle.std.proofs.lemmas.Nat.Bits.{bit_at_or, same_from_bits}
 use Rattle.mp_base.specs.Merge.{join, merged}
+use Rattle.mp_base.proofs.Values.{join_assoc}
 use Rattle.mp_program.specs.declared.program.Branch.{Branch}
 use Rattle.mp_program.specs.declared.program.Def.{Def}
 use Rattle.mp_program.specs.declared.program.Program.{Program}
@@ -13,31 +13,20 @@ use Rattle.mp_program.specs.Names.{index_of}
 use Rattle.mp_program.specs.Effects.{Effect, Writes, Goes, Calls, Returns, effects_of}
 use Rattle.source_run.specs.Written.{written_at}
 
-or_group : (a b c : ℕ) → bit_or (bit_or a b) c ≡ bit_or a (bit_or b c)
-or_group a b c = same_from_bits _ _ (λ i.
-    bit_at_or (bit_or a b) c i ∙ ap (λ x. max x (bit_at c i)) (bit_at_or a b i) ∙ max_group (bit_at a i) (bit_at b i) (bit_at c i)
-    ∙ sym (bit_at_or a (bit_or b c) i ∙ ap (λ x. max (bit_at a i) x) (bit_at_or b c i)))
-  where
-    max_group : (x y z : ℕ) → max (max x y) z ≡ max x (max y z)
-    max_group x y z = omega arith
-
-join_group : (a b c : Option ℕ) → join (join a b) c ≡ join a (join b c)
-join_group None b c = refl
-join_group (Some a) None c = refl
-join_group (Some a) (Some b) None = refl
-join_group (Some a) (Some b) (Some c) = ap (λ z. Some z) (or_group a b c)
-
 pub join_none : (a : Option ℕ) → join a None ≡ a
 join_none None = refl
 join_none (Some a) = refl
 
 pub merged-append : (xs ys : List ℕ) → merged (xs ++ ys) ≡ join (merged xs) (merged ys)
 merged-append [] ys = refl
-merged-append (x ∷ xs) ys = ap (λ z. join (Some x) z) (merged-append xs ys) ∙ sym (join_group (Some x) (merged xs) (merged ys))
+merged-append (x ∷ xs) ys =
+    ap (λ z. join (Some x) z) (merged-append xs ys) ∙ sym (join_assoc (Some x) (merged xs) (merged ys))
 
-pub written_at-append : (defs : List Def) (d : ℕ) (es fs : List Effect) → written_at defs d (es ++ fs) ≡ written_at defs d es ++ written_at defs d fs
+pub written_at-append : (defs : List Def) (d : ℕ) (es fs : List Effect)
+    → written_at defs d (es ++ fs) ≡ written_at defs d es ++ written_at defs d fs
 written_at-append defs d [] fs = refl
-written_at-append defs d (Writes y v ∷ es) fs = first_write (index_of defs y == d) _ _ _ (written_at-append defs d es fs)
+written_at-append defs d (Writes y v ∷ es) fs =
+    first_write (index_of defs y == d) _ _ _ (written_at-append defs d es fs)
   where
     first_write : (b : Bool) (ps qs rs : List ℕ) → ps ≡ qs ++ rs → cond b (v ∷ ps) ps ≡ cond b (v ∷ qs) qs ++ rs
     first_write true ps qs rs h = ap (λ z. v ∷ z) h
@@ -49,20 +38,28 @@ written_at-append defs d (Returns ∷ es) fs = written_at-append defs d es fs
 -- of one form more
 pub more : (p : Program) (env : List ℕ) (d : ℕ) (fs : List ℕ) (i : ℕ) (sum total : Option ℕ) → i < length fs
     → total ≡ join sum (merged (written_at p.defs d (flat_map (effects_of p env) (drop i fs))))
-    → total ≡ join (join sum (merged (written_at p.defs d (effects_of p env (get_or fs i 0))))) (merged (written_at p.defs d (flat_map (effects_of p env) (drop (i + 1) fs))))
+    → total ≡ join (join sum (merged (written_at p.defs d (effects_of p env (get_or fs i 0)))))
+    (merged (written_at p.defs d (flat_map (effects_of p env) (drop (i + 1) fs))))
 more p env d fs i sum total lt h =
     let e : suc i ≡ i + 1 = omega arith in
-    h ∙ ap (λ z. join sum z) (first fs i lt) ∙ sym (join_group sum _ _)
-    ∙ ap (λ k. join (join sum (merged (written_at p.defs d (effects_of p env (get_or fs i 0))))) (merged (written_at p.defs d (flat_map (effects_of p env) (drop k fs))))) e
+    h ∙ ap (λ z. join sum z) (first fs i lt) ∙ sym (join_assoc sum _ _)
+    ∙ ap (λ k. join (join sum (merged (written_at p.defs d (effects_of p env (get_or fs i 0)))))
+    (merged (written_at p.defs d (flat_map (effects_of p env) (drop k fs))))) e
   where
-    first : (gs : List ℕ) (j : ℕ) → j < length gs → merged (written_at p.defs d (flat_map (effects_of p env) (drop j gs)))
-        ≡ join (merged (written_at p.defs d (effects_of p env (get_or gs j 0)))) (merged (written_at p.defs d (flat_map (effects_of p env) (drop (suc j) gs))))
+    first : (gs : List ℕ) (j : ℕ) → j < length gs
+        → merged (written_at p.defs d (flat_map (effects_of p env) (drop j gs)))
+        ≡ join (merged (written_at p.defs d (effects_of p env (get_or gs j 0))))
+        (merged (written_at p.defs d (flat_map (effects_of p env) (drop (suc j) gs))))
     first [] j l = absurd (omega (arith, l))
-    first (g ∷ gs) zero l = ap merged (written_at-append p.defs d (effects_of p env g) (flat_map (effects_of p env) gs)) ∙ merged-append (written_at p.defs d (effects_of p env g)) (written_at p.defs d (flat_map (effects_of p env) gs))
+    first (g ∷ gs) zero l =
+        ap merged (written_at-append p.defs d (effects_of p env g) (flat_map (effects_of p env) gs))
+        ∙ merged-append (written_at p.defs d (effects_of p env g))
+        (written_at p.defs d (flat_map (effects_of p env) gs))
     first (g ∷ gs) (suc j) l = first gs j (omega (arith, l))
 
 -- what branches say at a place
-pub branch_at : (e i n : ℕ) (bs : List Branch) (k : ℕ) (b : Branch) → BranchesFit e i n bs → k < length bs → b ≡ get_or bs k b → (b.guard < e) × AllBetween i n b.body
+pub branch_at : (e i n : ℕ) (bs : List Branch) (k : ℕ) (b : Branch) → BranchesFit e i n bs → k < length bs
+    → b ≡ get_or bs k b → (b.guard < e) × AllBetween i n b.body
 branch_at e i n [] k b fit lt is = absurd (omega (arith, lt))
 branch_at e i n (x ∷ xs) zero b fit lt is = subst (λ (z : Branch). (z.guard < e) × AllBetween i n z.body) (sym is) fit.0
 branch_at e i n (x ∷ xs) (suc k) b fit lt is = branch_at e i n xs k b fit.1 (omega (arith, lt)) is

@@ -1,5 +1,6 @@
 -- The jump of a list of forms.
-use Rattle.std.proofs.Common.{◌≡◌, ℕ, zero, suc, ◌+◌, ◌<◌, List, [], ◌∷◌, ◌++◌, refl, ◌∙◌, ap, length, drop, map, sym, arith, get_or}
+use Rattle.std.proofs.Common.{◌≡◌, ℕ, zero, suc, ◌+◌, ◌<◌, List, [], ◌∷◌, ◌++◌, refl, ◌∙◌, ap, length, drop, map, sym}
+use Rattle.std.proofs.Common.{arith, get_or}
 use Rattle.std.specs.Prelude.{Option, Some, None}
 use Rattle.std.specs.List.{flat_map}
 use Rattle.std.proofs.lemmas.List.{get_or-map}
@@ -27,7 +28,8 @@ first : Option Jump → Option Jump → Option Jump
 first None b = b
 first (Some a) b = Some a
 
-jump_from-append : (q : Process) (es fs : List Effect) → jump_from q (es ++ fs) ≡ first (jump_from q es) (jump_from q fs)
+jump_from-append : (q : Process) (es fs : List Effect)
+    → jump_from q (es ++ fs) ≡ first (jump_from q es) (jump_from q fs)
 unfolding first
 jump_from-append q [] fs = refl
 jump_from-append q (Writes x v ∷ es) fs = jump_from-append q es fs
@@ -36,29 +38,40 @@ jump_from-append q (Calls l ∷ es) fs = refl
 jump_from-append q (Returns ∷ es) fs = refl
 
 front : (p : Program) (env : List ℕ) (q : Process) (fs : List ℕ) (i : ℕ) → i < length fs
-    → jump_from q (flat_map (effects_of p env) (drop i fs)) ≡ first (jump_from q (effects_of p env (get_or fs i 0))) (jump_from q (flat_map (effects_of p env) (drop (i + 1) fs)))
-front p env q fs i lt = at fs i lt ∙ ap (λ k. first (jump_from q (effects_of p env (get_or fs i 0))) (jump_from q (flat_map (effects_of p env) (drop k fs)))) e
+    → jump_from q (flat_map (effects_of p env) (drop i fs))
+    ≡ first (jump_from q (effects_of p env (get_or fs i 0)))
+    (jump_from q (flat_map (effects_of p env) (drop (i + 1) fs)))
+front p env q fs i lt = at fs i lt
+    ∙ ap (λ k. first (jump_from q (effects_of p env (get_or fs i 0)))
+    (jump_from q (flat_map (effects_of p env) (drop k fs)))) e
   where
     e : suc i ≡ i + 1
     e = omega arith
 
     at : (gs : List ℕ) (j : ℕ) → j < length gs
-        → jump_from q (flat_map (effects_of p env) (drop j gs)) ≡ first (jump_from q (effects_of p env (get_or gs j 0))) (jump_from q (flat_map (effects_of p env) (drop (suc j) gs)))
+        → jump_from q (flat_map (effects_of p env) (drop j gs))
+        ≡ first (jump_from q (effects_of p env (get_or gs j 0)))
+        (jump_from q (flat_map (effects_of p env) (drop (suc j) gs)))
     at [] j l = absurd (omega (arith, l))
     at (g ∷ gs) zero l = jump_from-append q (effects_of p env g) (flat_map (effects_of p env) gs)
     at (g ∷ gs) (suc j) l = at gs j (omega (arith, l))
 
 -- a form without a jump leaves it to the forms behind it
-pub jump_behind : (p : Program) (env : List ℕ) (q : Process) (fs : List ℕ) (i : ℕ) → i < length fs → jump_from q (effects_of p env (get_or fs i 0)) ≡ None
-    → jump_from q (flat_map (effects_of p env) (drop i fs)) ≡ jump_from q (flat_map (effects_of p env) (drop (i + 1) fs))
+pub jump_behind : (p : Program) (env : List ℕ) (q : Process) (fs : List ℕ) (i : ℕ) → i < length fs
+    → jump_from q (effects_of p env (get_or fs i 0)) ≡ None
+    → jump_from q (flat_map (effects_of p env) (drop i fs))
+    ≡ jump_from q (flat_map (effects_of p env) (drop (i + 1) fs))
 unfolding first
-jump_behind p env q fs i lt none = front p env q fs i lt ∙ ap (λ j. first j (jump_from q (flat_map (effects_of p env) (drop (i + 1) fs)))) none
+jump_behind p env q fs i lt none =
+    front p env q fs i lt ∙ ap (λ j. first j (jump_from q (flat_map (effects_of p env) (drop (i + 1) fs)))) none
 
 -- a form with a jump has it
-pub jump_here : (p : Program) (env : List ℕ) (q : Process) (fs : List ℕ) (i : ℕ) (jump : Jump) → i < length fs → jump_from q (effects_of p env (get_or fs i 0)) ≡ Some jump
+pub jump_here : (p : Program) (env : List ℕ) (q : Process) (fs : List ℕ) (i : ℕ) (jump : Jump) → i < length fs
+    → jump_from q (effects_of p env (get_or fs i 0)) ≡ Some jump
     → jump_from q (flat_map (effects_of p env) (drop i fs)) ≡ Some jump
 unfolding first
-jump_here p env q fs i jump lt some = front p env q fs i lt ∙ ap (λ j. first j (jump_from q (flat_map (effects_of p env) (drop (i + 1) fs)))) some
+jump_here p env q fs i jump lt some =
+    front p env q fs i lt ∙ ap (λ j. first j (jump_from q (flat_map (effects_of p env) (drop (i + 1) fs)))) some
 
 -- the place to which a form jumps in a process, by index
 pub landed : (p : Program) (links : Links) (k f : ℕ) (x : Form) → links.landings ≡ map (landings_in p) p.processes

@@ -6,4 +6,6 @@ pub mod Advancing
 pub mod Showing
 pub mod Jumping
 pub mod Making
+pub mod Placing
+pub mod KindValues
 pub mod Seating

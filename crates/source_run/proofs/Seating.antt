@@ -1,9 +1,11 @@
 -- Seats, process by process.
-use Rattle.std.proofs.Common.{◌≡◌, ℕ, zero, suc, ◌+◌, ◌<◌, ◌≤◌, List, [], ◌∷◌, ◌++◌, refl, sym, ◌∙◌, ap, subst, length, map, take, drop, replicate, arith, get_or}
+use Rattle.std.proofs.Common.{◌≡◌, ℕ, zero, suc, ◌+◌, ◌<◌, ◌≤◌, List, [], ◌∷◌, ◌++◌, refl, sym, ◌∙◌, ap, subst, length}
+use Rattle.std.proofs.Common.{map, take, drop, replicate, arith, get_or}
 use Rattle.std.specs.Prelude.{slice_index}
 use Rattle.std.specs.List.{AllByRecursion}
 use Rattle.std.proofs.lemmas.List.{length-take-le}
 use Rattle.std.proofs.lemmas.Grind.{same_number_lists}
+use Rattle.mp_base.proofs.Entries.{place_in}
 use Rattle.mp_program.specs.declared.program.Process.{Process}
 use Rattle.mp_program.specs.declared.program.Program.{Program}
 use Rattle.mp_program.specs.Effects.{effects_of}
@@ -22,14 +24,17 @@ length-seats (q ∷ qs) [] fit = absurd fit
 length-seats (q ∷ qs) (s ∷ ss) fit = ap suc (length-seats qs ss fit.3)
 
 -- the seat of a process
-pub seat_at : (qs : List Process) (ss : List Seat) (k : ℕ) (q : Process) → SeatsFit qs ss → k < length qs → q ≡ get_or qs k q
+pub seat_at : (qs : List Process) (ss : List Seat) (k : ℕ) (q : Process) → SeatsFit qs ss → k < length qs
+    → q ≡ get_or qs k q
     → ((get_or ss k no_seat).place < length q.forms) × (length (get_or ss k no_seat).stack ≡ q.depth)
 seat_at [] ss k q fit lt is = absurd (omega (arith, lt))
 seat_at (y ∷ qs) [] k q fit lt is = absurd fit
-seat_at (y ∷ qs) (s ∷ ss) zero q fit lt is = subst (λ (z : Process). (s.place < length z.forms) × (length s.stack ≡ z.depth)) (sym is) (fit.0, fit.1)
+seat_at (y ∷ qs) (s ∷ ss) zero q fit lt is =
+    subst (λ (z : Process). (s.place < length z.forms) × (length s.stack ≡ z.depth)) (sym is) (fit.0, fit.1)
 seat_at (y ∷ qs) (s ∷ ss) (suc k) q fit lt is = seat_at qs ss k q fit.3 (omega (arith, lt)) is
 
-pub taken_at : (qs : List Process) (ss : List Seat) (k : ℕ) (q : Process) → SeatsFit qs ss → k < length qs → q ≡ get_or qs k q
+pub taken_at : (qs : List Process) (ss : List Seat) (k : ℕ) (q : Process) → SeatsFit qs ss → k < length qs
+    → q ≡ get_or qs k q
     → get_or (places_taken qs ss) k 0 ≡ slice_index q.forms (get_or ss k no_seat).place
 taken_at [] ss k q fit lt is = absurd (omega (arith, lt))
 taken_at (y ∷ qs) [] k q fit lt is = absurd fit
@@ -41,25 +46,26 @@ length-taken [] ss fit = refl
 length-taken (q ∷ qs) [] fit = absurd fit
 length-taken (q ∷ qs) (s ∷ ss) fit = ap suc (length-taken qs ss fit.3)
 
-pub place_in : (n : ℕ) (fs : List ℕ) (k : ℕ) → AllByRecursion (λ f. f < n) fs → k < length fs → slice_index fs k < n
-place_in n [] k fit lt = absurd (omega (arith, lt))
-place_in n (f ∷ fs) zero fit lt = fit.0
-place_in n (f ∷ fs) (suc k) fit lt = place_in n fs k fit.1 (omega (arith, lt))
-
-pub taken_inside : (n : ℕ) (qs : List Process) (ss : List Seat) → AllByRecursion (λ (q : Process). AllByRecursion (λ f. f < n) q.forms) qs → SeatsFit qs ss
+pub taken_inside : (n : ℕ) (qs : List Process) (ss : List Seat)
+    → AllByRecursion (λ (q : Process). AllByRecursion (λ f. f < n) q.forms) qs → SeatsFit qs ss
     → AllByRecursion (λ f. f < n) (places_taken qs ss)
 taken_inside n [] ss fit seats = tt
 taken_inside n (q ∷ qs) [] fit seats = tt
-taken_inside n (q ∷ qs) (s ∷ ss) fit seats = (place_in n q.forms s.place fit.0 seats.0, taken_inside n qs ss fit.1 seats.3)
+taken_inside n (q ∷ qs) (s ∷ ss) fit seats =
+    (place_in n q.forms s.place fit.0 seats.0, taken_inside n qs ss fit.1 seats.3)
 
-pub next_at : (p : Program) (env : List ℕ) (qs : List Process) (ss : List Seat) (k : ℕ) (q : Process) → SeatsFit qs ss → k < length qs → q ≡ get_or qs k q
-    → get_or (next_seats p env qs ss) k no_seat ≡ next_seat q (get_or ss k no_seat) (effects_of p env (slice_index q.forms (get_or ss k no_seat).place))
+pub next_at : (p : Program) (env : List ℕ) (qs : List Process) (ss : List Seat) (k : ℕ) (q : Process) → SeatsFit qs ss
+    → k < length qs → q ≡ get_or qs k q
+    → get_or (next_seats p env qs ss) k no_seat
+    ≡ next_seat q (get_or ss k no_seat) (effects_of p env (slice_index q.forms (get_or ss k no_seat).place))
 next_at p env [] ss k q fit lt is = absurd (omega (arith, lt))
 next_at p env (y ∷ qs) [] k q fit lt is = absurd fit
-next_at p env (y ∷ qs) (s ∷ ss) zero q fit lt is = ap (λ (z : Process). next_seat z s (effects_of p env (slice_index z.forms s.place))) (sym is)
+next_at p env (y ∷ qs) (s ∷ ss) zero q fit lt is =
+    ap (λ (z : Process). next_seat z s (effects_of p env (slice_index z.forms s.place))) (sym is)
 next_at p env (y ∷ qs) (s ∷ ss) (suc k) q fit lt is = next_at p env qs ss k q fit.3 (omega (arith, lt)) is
 
-pub length-next : (p : Program) (env : List ℕ) (qs : List Process) (ss : List Seat) → SeatsFit qs ss → length (next_seats p env qs ss) ≡ length ss
+pub length-next : (p : Program) (env : List ℕ) (qs : List Process) (ss : List Seat) → SeatsFit qs ss
+    → length (next_seats p env qs ss) ≡ length ss
 length-next p env [] [] fit = refl
 length-next p env [] (s ∷ ss) fit = absurd fit
 length-next p env (q ∷ qs) [] fit = absurd fit
@@ -70,15 +76,20 @@ emptied_seats [] [] fit = refl
 emptied_seats [] (s ∷ ss) fit = absurd fit
 emptied_seats (q ∷ qs) [] fit = absurd fit
 emptied_seats (q ∷ qs) (s ∷ ss) fit =
-    ap (λ n. record { place = 0; stack = replicate n 0 } ∷ map emptied ss) fit.1 ∙ ap (λ zs. zero_seat q ∷ zs) (emptied_seats qs ss fit.3)
+    ap (λ n. record { place = 0; stack = replicate n 0 } ∷ map emptied ss) fit.1
+    ∙ ap (λ zs. zero_seat q ∷ zs) (emptied_seats qs ss fit.3)
 
 -- a stack after its front is taken off
-pub popped : (old now : List ℕ) → length now ≡ length old → ((k : ℕ) → k < length old → get_or now k 0 ≡ get_or old (k + 1) 0) → now ≡ take (length old) (drop 1 old ++ 0 ∷ [])
+pub popped : (old now : List ℕ) → length now ≡ length old
+    → ((k : ℕ) → k < length old → get_or now k 0 ≡ get_or old (k + 1) 0)
+    → now ≡ take (length old) (drop 1 old ++ 0 ∷ [])
 popped [] now size same = same_number_lists now [] size (λ k lt. absurd (omega (arith, lt, size)))
 popped (x ∷ xs) now size same =
-    same_number_lists now (take (suc (length xs)) (xs ++ 0 ∷ [])) (size ∙ sym (length-take-le (suc (length xs)) (xs ++ 0 ∷ []) (long xs)))
+    same_number_lists now (take (suc (length xs)) (xs ++ 0 ∷ []))
+    (size ∙ sym (length-take-le (suc (length xs)) (xs ++ 0 ∷ []) (long xs)))
     (λ k lt. let e : k + 1 ≡ suc k = omega arith in
-    same k (omega (arith, lt, size)) ∙ ap (λ j. get_or (x ∷ xs) j 0) e ∙ sym (end xs k) ∙ sym (front (suc (length xs)) (xs ++ 0 ∷ []) k (omega (arith, lt, size))))
+    same k (omega (arith, lt, size)) ∙ ap (λ j. get_or (x ∷ xs) j 0) e ∙ sym (end xs k)
+    ∙ sym (front (suc (length xs)) (xs ++ 0 ∷ []) k (omega (arith, lt, size))))
   where
     long : (ys : List ℕ) → suc (length ys) ≤ length (ys ++ 0 ∷ [])
     long [] = omega arith

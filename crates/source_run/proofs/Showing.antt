@@ -1,76 +1,48 @@
 -- The outputs, definition by definition.
-use Rattle.std.proofs.Common.{◌≡◌, ℕ, zero, suc, ◌+◌, ◌<◌, ◌≤◌, List, [], ◌∷◌, ◌++◌, Bool, true, false, cond, refl, sym, ◌∙◌, ap, length, take, drop, arith, get_or}
-use Rattle.std.specs.Prelude.{slice_set as set, filter}
-use Rattle.std.proofs.lemmas.List.{length-set}
+use Rattle.std.proofs.Common.{◌≡◌, ℕ, suc, ◌<◌, List, [], ◌∷◌, Bool, true, false, cond, refl, sym, ◌∙◌, ap, subst}
+use Rattle.std.proofs.Common.{length, map, arith, get_or}
+use Rattle.std.specs.Prelude.{filter}
+use Rattle.std.proofs.lemmas.List.{get_or-map, length-map}
 use Rattle.mp_program.specs.declared.program.Def.{Def}
 use Rattle.mp_program.specs.Names.{is_output}
 use Rattle.mp_program.specs.Step.{outputs_of}
+use Rattle.mp_program.proofs.Lengths.{length-outputs_of}
+use Rattle.source_run.specs.Linked.{indices_where}
+use Rattle.source_run.proofs.Placing.{place_of}
 
-at_suc : (defs : List Def) (env : List ℕ) (i : ℕ) (x : Def) → i < length defs → i < length env → x ≡ get_or defs i x
-    → outputs_of (drop i defs) (drop i env)
-    ≡ cond (is_output x.what) (get_or env i 0 ∷ outputs_of (drop (suc i) defs) (drop (suc i) env)) (outputs_of (drop (suc i) defs) (drop (suc i) env))
-at_suc [] env i x lt le is = absurd (omega (arith, lt))
-at_suc (y ∷ ys) [] i x lt le is = absurd (omega (arith, le))
-at_suc (y ∷ ys) (v ∷ vs) zero x lt le is = ap (λ (z : Def). cond (is_output z.what) (v ∷ outputs_of ys vs) (outputs_of ys vs)) (sym is)
-at_suc (y ∷ ys) (v ∷ vs) (suc i) x lt le is = at_suc ys vs i x (omega (arith, lt)) (omega (arith, le)) is
+-- the values at indices behind the first
+behind : (v : ℕ) (vs is : List ℕ) → map (λ d. get_or (v ∷ vs) d 0) (map suc is) ≡ map (λ d. get_or vs d 0) is
+behind v vs [] = refl
+behind v vs (i ∷ is) = ap (λ zs. get_or vs i 0 ∷ zs) (behind v vs is)
 
--- the outputs from an index on
-pub outputs_at : (defs : List Def) (env : List ℕ) (i : ℕ) (x : Def) → i < length defs → i < length env → x ≡ get_or defs i x
-    → outputs_of (drop i defs) (drop i env)
-    ≡ cond (is_output x.what) (get_or env i 0 ∷ outputs_of (drop (i + 1) defs) (drop (i + 1) env)) (outputs_of (drop (i + 1) defs) (drop (i + 1) env))
-outputs_at defs env i x lt le is =
-    let e : suc i ≡ i + 1 = omega arith in
-    at_suc defs env i x lt le is
-    ∙ ap (λ k. cond (is_output x.what) (get_or env i 0 ∷ outputs_of (drop k defs) (drop k env)) (outputs_of (drop k defs) (drop k env))) e
-
-put_suc : (xs : List ℕ) (k v : ℕ) (rest : List ℕ) → k < length xs → take k xs ++ (v ∷ rest) ≡ take (suc k) (set xs k v) ++ rest
-put_suc [] k v rest lt = absurd (omega (arith, lt))
-put_suc (x ∷ xs) zero v rest lt = refl
-put_suc (x ∷ xs) (suc k) v rest lt = ap (λ ys. x ∷ ys) (put_suc xs k v rest (omega (arith, lt)))
-
--- as many outputs as output pads
-pub length-outputs_of : (defs : List Def) (env : List ℕ) → length env ≡ length defs → length (outputs_of defs env) ≡ length (filter (λ (x : Def). is_output x.what) defs)
-length-outputs_of [] env size = refl
-length-outputs_of (x ∷ xs) [] size = absurd (omega arith)
-length-outputs_of (x ∷ xs) (v ∷ vs) size = either (is_output x.what) (length-outputs_of xs vs (omega (arith, size)))
+-- the outputs are the values at their indices
+outputs_at : (defs : List Def) (env : List ℕ) → length env ≡ length defs
+    → outputs_of defs env ≡ map (λ d. get_or env d 0) (indices_where is_output defs)
+outputs_at [] env size = refl
+outputs_at (x ∷ xs) [] size = absurd (omega arith)
+outputs_at (x ∷ xs) (v ∷ vs) size =
+    either (is_output x.what) (outputs_at xs vs (omega (arith, size)) ∙ sym (behind v vs (indices_where is_output xs)))
   where
-    either : (b : Bool) → length (outputs_of xs vs) ≡ length (filter (λ (y : Def). is_output y.what) xs)
-        → length (cond b (v ∷ outputs_of xs vs) (outputs_of xs vs)) ≡ length (cond b (x ∷ filter (λ (y : Def). is_output y.what) xs) (filter (λ (y : Def). is_output y.what) xs))
-    either true h = ap suc h
+    either : (b : Bool) → outputs_of xs vs ≡ map (λ d. get_or (v ∷ vs) d 0) (map suc (indices_where is_output xs))
+        → cond b (v ∷ outputs_of xs vs) (outputs_of xs vs)
+        ≡ map (λ d. get_or (v ∷ vs) d 0)
+        (cond b (0 ∷ map suc (indices_where is_output xs)) (map suc (indices_where is_output xs)))
+    either true h = ap (λ zs. v ∷ zs) h
     either false h = h
 
--- how far the outputs are written
-pub record ShownTo (defs : List Def) (env outputs : List ℕ) (pad i : ℕ) : Type 0 where
-  pub shown : outputs_of defs env ≡ take pad outputs ++ outputs_of (drop i defs) (drop i env)
-  pub size : length outputs ≡ length (outputs_of defs env)
-  pub left : pad + length (outputs_of (drop i defs) (drop i env)) ≡ length outputs
-  pub few : pad ≤ i
+-- the value at an index of the outputs is the output
+pub shown_at : (defs : List Def) (env list : List ℕ) (k place v : ℕ) → length env ≡ length defs
+    → list ≡ indices_where is_output defs → k < length list → place ≡ get_or list k place → v ≡ get_or env place 0
+    → v ≡ get_or (outputs_of defs env) k 0
+shown_at defs env list k place v size are lt at is =
+    let all : List ℕ = indices_where is_output defs in
+    let within : k < length all = subst (λ zs. k < length zs) are lt in
+    is ∙ ap (λ i. get_or env i 0) (place_of is_output defs list k place are lt at)
+    ∙ sym (ap (λ zs. get_or zs k 0) (outputs_at defs env size) ∙ get_or-map (λ d. get_or env d 0) all k 0 0 within)
 
-pub shown_more : (defs : List Def) (env outputs : List ℕ) (pad i : ℕ) (x : Def) → i < length defs → length env ≡ length defs → x ≡ get_or defs i x → is_output x.what ≡ true
-    → ShownTo defs env outputs pad i → ShownTo defs env (set outputs pad (get_or env i 0)) (pad + 1) (i + 1)
-shown_more defs env outputs pad i x lt size is test so_far =
-    let rest = outputs_of (drop (i + 1) defs) (drop (i + 1) env) in
-    let here = outputs_at defs env i x lt (omega (arith, lt, size)) is ∙ ap (λ b. cond b (get_or env i 0 ∷ rest) rest) test in
-    let long = ap length here in
-    let inside : pad < length outputs = omega (arith, long, so_far.left) in
-    let e : suc pad ≡ pad + 1 = omega arith in
-    let same = length-set outputs pad (get_or env i 0) in
-    record {
-      shown = so_far.shown ∙ ap (λ ys. take pad outputs ++ ys) here ∙ put_suc outputs pad (get_or env i 0) rest inside ∙ ap (λ k. take k (set outputs pad (get_or env i 0)) ++ rest) e;
-      size = same ∙ so_far.size;
-      left = omega (arith, long, so_far.left, same);
-      few = omega (arith, so_far.few);
-    }
-
-pub shown_same : (defs : List Def) (env outputs : List ℕ) (pad i : ℕ) (x : Def) → i < length defs → length env ≡ length defs → x ≡ get_or defs i x → is_output x.what ≡ false
-    → ShownTo defs env outputs pad i → ShownTo defs env outputs pad (i + 1)
-shown_same defs env outputs pad i x lt size is other so_far =
-    let rest = outputs_of (drop (i + 1) defs) (drop (i + 1) env) in
-    let here = outputs_at defs env i x lt (omega (arith, lt, size)) is ∙ ap (λ b. cond b (get_or env i 0 ∷ rest) rest) other in
-    let long = ap length here in
-    record {
-      shown = so_far.shown ∙ ap (λ ys. take pad outputs ++ ys) here;
-      size = so_far.size;
-      left = omega (arith, long, so_far.left);
-      few = omega (arith, so_far.few);
-    }
+-- as many indices as output pads
+pub length_indices : (defs : List Def) (env list : List ℕ) → length env ≡ length defs
+    → list ≡ indices_where is_output defs → length list ≡ length (filter (λ (x : Def). is_output x.what) defs)
+length_indices defs env list size are =
+    ap length are ∙ sym (length-map (indices_where is_output defs) (λ d. get_or env d 0))
+    ∙ sym (ap length (outputs_at defs env size)) ∙ length-outputs_of defs env size

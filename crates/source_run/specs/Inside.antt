@@ -8,6 +8,7 @@ use Rattle.mp_fitting.specs.Fitting.{StateFits}
 use Rattle.source_run.specs.declared.machine.Machine.TheInside.{Inside}
 use Rattle.source_run.specs.Linked.{AreLinks}
 use Rattle.source_run.specs.Remembered.{state_of}
+use Rattle.source_run.specs.Settled.{IsBare, IsSteady}
 use Rattle.source_run.specs.Running.{Running}
 
 abbrev pub running_of : Inside → Running
@@ -22,4 +23,6 @@ pub record IsReady (m : Inside) : Type 0 where
   pub state : IsState m.program.now (state_of m.memory)
   pub fits : StateFits m.program.now (state_of m.memory)
   pub places : length m.places.items ≡ length m.program.now.processes
+  pub bare : IsBare (m.program.now).defs m.memory.stored.items
+  pub steady : IsSteady (m.program.now).defs m.env.items
   pub env : length m.env.items ≡ length m.program.now.defs

@@ -8,10 +8,10 @@ ghost use Rattle.mp_program.specs.declared.program.Form.{Form};
 ghost use Rattle.mp_program.specs.Names.{index_of, is_reset, pad_number};
 ghost use Rattle.mp_program.specs.Sound.{AllBetween, BranchesFit};
 ghost use Rattle.mp_program.specs.Reads.{sets, branches_set};
-ghost use Rattle.source_run.specs.Linked.{AreLinks, AreQuiet, AllQuiet, named, target, setters_of, reset_pad};
+ghost use Rattle.source_run.specs.Linked.{AreLinks, AreQuiet, AllQuiet, named, target, setters_of, reset_pad, is_kind, indices_where};
 
 use crate::landing::landings;
-use crate::link::Links;
+use crate::link::{Kind, Links};
 use mp_base::List;
 use mp_program::{Branch, Def, ExprKind, FormKind, Program, laws};
 use std::alloc::{AllocError, Global};
@@ -180,6 +180,20 @@ fn quiet(alloc: Global, program: &Program) -> Result<List<List<bool>>, AllocErro
     Ok(list)
 }
 
+/// The definitions of a kind, by their indices.
+fn indices_of(alloc: Global, defs: &[Def], kind: Kind) -> Result<Vec<usize>, AllocError>
+    ensures { IfOk result (λ list. list.items ≡ indices_where (is_kind kind) defs.now) }
+{
+    let mut list = Vec::new(alloc);
+    for (i, def) in defs.iter().enumerate() {
+        if !kind.holds(def.what) {
+            continue;
+        }
+        list.push(i)?;
+    }
+    Ok(list)
+}
+
 /// The first definition that is the signal input `reset`.
 fn reset_at(defs: &[Def]) -> Option<usize>
     ensures found { result ≡ position is_reset defs.now }
@@ -210,6 +224,7 @@ impl Links {
     pub(crate) fn find(alloc: Global, program: &Program) -> Result<Links, AllocError>
         ensures { IfOk result (AreLinks program.now) }
     {
+        let defs = program.defs.as_slice();
         Ok(Links {
             exprs: named_by(alloc, program)?,
             forms: set_by(alloc, program)?,
@@ -217,7 +232,10 @@ impl Links {
             defs: firsts(alloc, program)?,
             setters: setters(alloc, program)?,
             quiet: quiet(alloc, program)?,
-            reset: reset_pad(program.defs.as_slice()),
+            inputs: indices_of(alloc, defs, Kind::Given)?,
+            stored: indices_of(alloc, defs, Kind::Stored)?,
+            outputs: indices_of(alloc, defs, Kind::Shown)?,
+            reset: reset_pad(defs),
         })
     }
 

@@ -5,7 +5,7 @@ use crate::link::Links;
 use crate::memory::{clear, step};
 use crate::seat::{Memory, zero_seats};
 use crate::seats::take_places;
-use crate::settle::settle;
+use crate::settle::{fixed_values, settle};
 use crate::step::show;
 use mp_base::{Inputs, List, NoMemory, Outputs, Pads};
 use mp_checker::Checked;
@@ -63,7 +63,7 @@ impl<'a> Machine<'a> {
             seats: zero_seats(alloc, program.processes.as_slice())?,
         };
         let places = vec![in alloc; 0; program.processes.len()]?;
-        let env = vec![in alloc; 0; program.defs.len()]?;
+        let env = fixed_values(alloc, program.defs.as_slice())?;
         Ok(Machine {
             program,
             pads,
@@ -110,7 +110,7 @@ impl<'a> Machine<'a> {
             inputs.as_slice(),
             &mut self.env,
         );
-        show(self.program.defs.as_slice(), &self.env, outputs);
+        show(self.program, &self.links, &self.env, outputs);
         step(
             self.program,
             &self.links,

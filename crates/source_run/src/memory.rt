@@ -6,6 +6,7 @@ ghost use Rattle.mp_program.specs.State.{IsState, zero_state, places_taken};
 ghost use Rattle.mp_program.specs.Step.{next_state};
 ghost use Rattle.source_run.specs.Linked.{AreLinks};
 ghost use Rattle.source_run.specs.Remembered.{state_of};
+ghost use Rattle.source_run.specs.Settled.{IsBare};
 
 use crate::link::Links;
 use crate::seat::{Memory, clear_seats};
@@ -33,6 +34,7 @@ fn go_on(
 )
     requires linked { AreLinks program.now links.now }
     requires state { IsState program.now (state_of memory.old) }
+    requires bare { IsBare program.now.defs memory.old.stored.items }
     requires placed { places.now ≡ places_taken program.now.processes (state_of memory.old).seats }
     requires inside { AllByRecursion (λ f. f < length program.now.forms) places.now }
     ensures { state_of memory.new ≡ next_state program.now (state_of memory.old) inputs.now env.now }
@@ -57,10 +59,12 @@ pub(crate) fn step(
     requires linked { AreLinks program.now links.now }
     requires start { IsState program.now (zero_state program.now) }
     requires state { IsState program.now (state_of memory.old) }
+    requires bare { IsBare program.now.defs memory.old.stored.items }
     requires placed { places.now ≡ places_taken program.now.processes (state_of memory.old).seats }
     requires inside { AllByRecursion (λ f. f < length program.now.forms) places.now }
     ensures next { state_of memory.new ≡ next_state program.now (state_of memory.old) inputs.now env.now }
     ensures state { IsState program.now (state_of memory.new) }
+    ensures bare { IsBare program.now.defs memory.new.stored.items }
 {
     laws::next_states(program);
     go_on(program, links, places, inputs, env, memory);

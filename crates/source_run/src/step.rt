@@ -7,6 +7,7 @@ ghost use Rattle.mp_program.specs.Names.{is_output};
 ghost use Rattle.mp_program.specs.Effects.{effects_of};
 ghost use Rattle.mp_program.specs.Step.{next_stored, outputs_of, resets};
 ghost use Rattle.source_run.specs.Linked.{AreLinks, reset_pad};
+ghost use Rattle.source_run.specs.Settled.{IsBare};
 
 use crate::link::Links;
 use crate::settle::written_to;
@@ -24,15 +25,13 @@ pub(crate) fn advance(
     requires linked { AreLinks program.now links.now }
     requires placed { AllByRecursion (λ f. f < length program.now.forms) places.now }
     requires size { length stored.old ≡ length program.now.defs }
+    requires bare { IsBare program.now.defs stored.old }
     ensures { stored.new ≡ next_stored (flat_map (effects_of program.now env.now) (program.now.always ++ places.now)) 0 program.now.defs stored.old }
 {
-    for (i, def) in program.defs.as_slice().iter().enumerate() {
-        let next = if def.what.is_stored() {
-            written_to(program, links, places, env, i).unwrap_or(stored[i])
-        } else {
-            0
-        };
-        stored[i] = next;
+    for k in 0..links.stored.len() {
+        let target = links.stored[k];
+        let written = written_to(program, links, places, env, target);
+        stored[target] = written.unwrap_or(stored[target]);
     }
 }
 
@@ -48,16 +47,14 @@ pub(crate) fn resets(defs: &[Def], reset: Option<usize>, inputs: &[u64]) -> bool
 }
 
 /// Gives each output pad its value.
-pub(crate) fn show(defs: &[Def], env: &[u64], outputs: &mut Outputs)
-    requires size { length env.now ≡ length defs.now }
-    requires pads { length outputs.old ≡ length (filter (λ (x : Def). is_output x.what) defs.now) }
-    ensures { outputs.new ≡ outputs_of defs.now env.now }
+pub(crate) fn show(program: &Program, links: &Links, env: &[u64], outputs: &mut Outputs)
+    requires linked { AreLinks program.now links.now }
+    requires size { length env.now ≡ length program.now.defs }
+    requires pads { length outputs.old ≡ length (filter (λ (x : Def). is_output x.what) program.now.defs) }
+    ensures { outputs.new ≡ outputs_of program.now.defs env.now }
 {
-    let mut pad: usize = 0;
-    for (i, def) in defs.iter().enumerate() {
-        if def.what.is_output() {
-            outputs.put(pad, env[i]);
-            pad += 1;
-        }
+    for pad in 0..links.outputs.len() {
+        let target = links.outputs[pad];
+        outputs.put(pad, env[target]);
     }
 }

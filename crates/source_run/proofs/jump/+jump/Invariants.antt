@@ -22,4 +22,5 @@ invariant-jump_chosen-loop-branch l =
 
 abbrev pub invariant-jump_first-loop-form : goal.invariant-jump_first-loop-form
 invariant-jump_first-loop-form l =
-    jump_from (process_at l.program l.index) (flat_map (effects_of l.program l.env) l.forms) ≡ jump_from (process_at l.program l.index) (flat_map (effects_of l.program l.env) (drop l.form-index l.forms))
+    jump_from (process_at l.program l.index) (flat_map (effects_of l.program l.env) l.forms)
+    ≡ jump_from (process_at l.program l.index) (flat_map (effects_of l.program l.env) (drop l.form-index l.forms))

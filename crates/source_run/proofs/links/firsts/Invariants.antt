@@ -4,4 +4,5 @@ use Rattle.mp_program.specs.Names.{index_of}
 use Rattle.source_run.proofs.links.firsts.Given as goal
 
 abbrev pub invariant-loop-def : goal.invariant-loop-def
-invariant-loop-def l = l.list.items ≡ map (λ (x : Def). index_of l.program.defs x.name) (take l.def-index l.program.defs)
+invariant-loop-def l =
+    l.list.items ≡ map (λ (x : Def). index_of l.program.defs x.name) (take l.def-index l.program.defs)

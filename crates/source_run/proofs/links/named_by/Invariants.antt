@@ -4,4 +4,5 @@ use Rattle.source_run.specs.Linked.{named}
 use Rattle.source_run.proofs.links.named_by.Given as goal
 
 abbrev pub invariant-loop-expr : goal.invariant-loop-expr
-invariant-loop-expr l = l.list.items ≡ map (λ (x : Expr). named l.program.defs x.kind) (take l.expr-index l.program.exprs)
+invariant-loop-expr l =
+    l.list.items ≡ map (λ (x : Expr). named l.program.defs x.kind) (take l.expr-index l.program.exprs)

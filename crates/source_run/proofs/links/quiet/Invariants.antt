@@ -5,7 +5,8 @@ use Rattle.source_run.proofs.links.quiet.Given as goal
 
 pub record AreQuietSoFar (l : goal.Live-loop-def) : Type 0 where
   pub size : length l.list ≡ l.def-index
-  pub quiet : (d : ℕ) (x : Def) → d < l.def-index → x ≡ slice_index_or l.program.defs d x → AreQuiet l.program x.name (slice_index_or l.list d [])
+  pub quiet : (d : ℕ) (x : Def) → d < l.def-index → x ≡ slice_index_or l.program.defs d x
+      → AreQuiet l.program x.name (slice_index_or l.list d [])
 
 abbrev pub invariant-loop-def : goal.invariant-loop-def
 invariant-loop-def l = AreQuietSoFar l

@@ -17,6 +17,8 @@ returns c =
     let long : length c.clear_seats.new.seats ≡ v.len = omega arith in
     let seats : map seat_of (with_items v c.clear_seats.new.seats).items ≡ map zero_seat p.processes =
     ap (map seat_of) (with_items_is v c.clear_seats.new.seats long) ∙ c.clear_seats.ensures
-    ∙ ap (λ zs. map emptied (map seat_of zs)) c.deref_mut.ensures.value ∙ emptied_seats p.processes (map seat_of v.items) c.requires.seats in
+    ∙ ap (λ zs. map emptied (map seat_of zs)) c.deref_mut.ensures.value
+    ∙ emptied_seats p.processes (map seat_of v.items) c.requires.seats in
     let stored : c.fill.new.self.items ≡ replicate (length p.defs) 0 = search rules in
-    ap (λ ns. at ns (map seat_of (with_items v c.clear_seats.new.seats).items)) stored ∙ ap (at (replicate (length p.defs) 0)) seats
+    ap (λ ns. at ns (map seat_of (with_items v c.clear_seats.new.seats).items)) stored
+    ∙ ap (at (replicate (length p.defs) 0)) seats

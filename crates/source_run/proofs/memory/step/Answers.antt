@@ -1,8 +1,17 @@
 use Rattle.std.proofs.Common.{sym, subst}
-use Rattle.mp_program.specs.State.{IsState}
+use Rattle.mp_program.specs.State.{State, IsState}
 use Rattle.source_run.specs.Remembered.{state_of}
+use Rattle.source_run.specs.Settled.{IsBare}
+use Rattle.source_run.proofs.Advancing.{bare_state}
 use Rattle.source_run.proofs.memory.step.Goals as goal
 
 pub returns-clause-state : goal.returns-clause-state
 returns-clause-state c =
-    subst (IsState c.args.program.now) (sym c.go_on.ensures) (c.next_states.ensures (state_of c.args.memory.now) c.args.inputs.now c.args.env.now c.requires.state)
+    subst (IsState c.args.program.now) (sym c.go_on.ensures)
+    (c.next_states.ensures (state_of c.args.memory.now) c.args.inputs.now c.args.env.now c.requires.state)
+
+pub returns-clause-bare : goal.returns-clause-bare
+returns-clause-bare c =
+    let p = c.args.program.now in
+    subst (λ (st : State). IsBare p.defs st.stored) (sym c.go_on.ensures)
+    (bare_state p (state_of c.args.memory.now) c.args.inputs.now c.args.env.now)

@@ -5,4 +5,5 @@ use Rattle.source_run.proofs.Seating.{no_seat}
 use Rattle.source_run.proofs.seat.clear_seats.Given as goal
 
 abbrev pub invariant-loop-i : goal.invariant-loop-i
-invariant-loop-i l = MadeTo (map seat_of l.seats) (map emptied (map seat_of l.initial.seats)) (map seat_of l.initial.seats) no_seat l.i
+invariant-loop-i l =
+    MadeTo (map seat_of l.seats) (map emptied (map seat_of l.initial.seats)) (map seat_of l.initial.seats) no_seat l.i

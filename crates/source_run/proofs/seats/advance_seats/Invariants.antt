@@ -6,4 +6,6 @@ use Rattle.source_run.proofs.Seating.{no_seat}
 use Rattle.source_run.proofs.seats.advance_seats.Given as goal
 
 abbrev pub invariant-loop-i : goal.invariant-loop-i
-invariant-loop-i l = MadeTo (map seat_of l.seats) (next_seats l.program l.env l.program.processes (map seat_of l.initial.seats)) (map seat_of l.initial.seats) no_seat l.i
+invariant-loop-i l =
+    MadeTo (map seat_of l.seats) (next_seats l.program l.env l.program.processes (map seat_of l.initial.seats))
+    (map seat_of l.initial.seats) no_seat l.i

@@ -1,29 +1,60 @@
-use Rattle.std.proofs.Common.{◌+◌, sym, ◌∙◌, subst, arith, refl}
-use Rattle.source_run.proofs.Showing.{ShownTo, length-outputs_of, shown_more, shown_same}
+use Rattle.std.proofs.Common.{◌<◌, ◌+◌, length, refl, ap, sym, ◌∙◌, subst, get_or, rules, arith}
+use Rattle.std.proofs.lemmas.List.{length-set}
+use Rattle.mp_program.proofs.Lengths.{length-outputs_of}
+use Rattle.mp_program.specs.Names.{is_output}
+use Rattle.mp_program.specs.Step.{outputs_of}
+use Rattle.source_run.proofs.Making.{MadeTo, made_more, made_all}
+use Rattle.source_run.proofs.Placing.{nth_of}
+use Rattle.source_run.proofs.Showing.{shown_at, length_indices}
 use Rattle.source_run.proofs.step.show.Goals as goal
-use Rattle.source_run.proofs.step.show.Goals.{then-is_output, else-is_output}
 
-pub loop-i-preserved : goal.loop-i-preserved
-loop-i-preserved c =
-    elim c.if-is_output.branch as (λ _. ShownTo c.args.defs.now c.args.env.now c.if-is_output.outputs c.if-is_output.pad (c.loop-i.i + 1)) [
-      | then-is_output w ↦
-          subst (λ k. ShownTo c.args.defs.now c.args.env.now c.if-is_output.outputs k (c.loop-i.i + 1)) (sym w.pad-is)
-          (subst (λ ys. ShownTo c.args.defs.now c.args.env.now ys (c.loop-i.pad + 1) (c.loop-i.i + 1)) (sym (w.outputs-is ∙ w.put.ensures))
-          (shown_more c.args.defs.now c.args.env.now c.loop-i.outputs c.loop-i.pad c.loop-i.i c.index-defs-i.result (omega arith) c.requires.size c.index-defs-i.is
-          (sym c.is_output.ensures ∙ w.if-is_output.true) c.loop-i.invariant))
-      | else-is_output w ↦
-          subst (λ k. ShownTo c.args.defs.now c.args.env.now c.if-is_output.outputs k (c.loop-i.i + 1)) (sym w.pad-is)
-          (subst (λ ys. ShownTo c.args.defs.now c.args.env.now ys c.loop-i.pad (c.loop-i.i + 1)) (sym w.outputs-is)
-          (shown_same c.args.defs.now c.args.env.now c.loop-i.outputs c.loop-i.pad c.loop-i.i c.index-defs-i.result (omega arith) c.requires.size c.index-defs-i.is
-          (sym c.is_output.ensures ∙ w.if-is_output.false) c.loop-i.invariant))
-    ]
+pub bounds-env-target : goal.bounds-env-target
+bounds-env-target c =
+    let one = nth_of is_output c.args.program.now.defs c.args.links.now.outputs.items c.loop-pad.pad
+    c.index-target.result.now c.requires.linked.outputs (omega arith) c.index-target.ensures in
+    omega (arith, one.inside, c.requires.size)
 
-pub loop-i-init : goal.loop-i-init
-loop-i-init c =
-    let many = length-outputs_of c.args.defs.now c.args.env.now c.requires.size in
+pub offset_bounds-env-target : goal.offset_bounds-env-target
+offset_bounds-env-target c =
+    let one = nth_of is_output c.args.program.now.defs c.args.links.now.outputs.items c.loop-pad.pad
+    c.index-target.result.now c.requires.linked.outputs (omega arith) c.index-target.ensures in
+    let inside : c.index-target.result.now < length c.args.env.now = omega (arith, one.inside, c.requires.size) in
+    search rules
+
+pub put-requires : goal.put-requires
+put-requires c =
+    let many = length_indices c.args.program.now.defs c.args.env.now c.args.links.now.outputs.items c.requires.size
+    c.requires.linked.outputs in
+    omega (arith, many, c.requires.pads, c.loop-pad.invariant.size)
+
+pub loop-pad-preserved : goal.loop-pad-preserved
+loop-pad-preserved c =
+    let p = c.args.program.now in
+    let env = c.args.env.now in
+    let list = c.args.links.now.outputs.items in
+    let place = c.index-target.result.now in
+    let many = length_indices p.defs env list c.requires.size c.requires.linked.outputs in
+    let inside : c.loop-pad.pad < length c.loop-pad.outputs =
+    omega (arith, many, c.requires.pads, c.loop-pad.invariant.size) in
     record {
-      shown = refl;
-      size = c.requires.pads ∙ sym many;
-      left = omega (arith, many, c.requires.pads);
-      few = omega arith;
+      size = ap length c.put.ensures ∙ length-set c.loop-pad.outputs c.loop-pad.pad (get_or env place 0)
+          ∙ c.loop-pad.invariant.size;
+      made = subst (λ ys. MadeTo ys (outputs_of p.defs env) c.args.outputs.now 0 (c.loop-pad.pad + 1))
+          (sym c.put.ensures)
+          (made_more c.loop-pad.outputs (outputs_of p.defs env) c.args.outputs.now 0 c.loop-pad.pad (get_or env place 0)
+          inside
+          (shown_at p.defs env list c.loop-pad.pad place (get_or env place 0) c.requires.size c.requires.linked.outputs
+          (omega arith) c.index-target.ensures refl)
+          c.loop-pad.invariant.made);
     }
+
+pub returns : goal.returns
+returns c =
+    let p = c.args.program.now in
+    let env = c.args.env.now in
+    let many = length_indices p.defs env c.args.links.now.outputs.items c.requires.size c.requires.linked.outputs in
+    let long = length-outputs_of p.defs env c.requires.size in
+    made_all c.loop-pad.outputs (outputs_of p.defs env) c.args.outputs.now 0 c.loop-pad.pad
+    (omega (arith, c.loop-pad.invariant.size, c.requires.pads, long))
+    (omega (arith, many, c.loop-pad.invariant.size, c.requires.pads))
+    c.loop-pad.invariant.made

@@ -1,5 +1,10 @@
-use Rattle.source_run.proofs.Showing.{ShownTo}
+use Rattle.std.proofs.Common.{◌≡◌, length}
+use Rattle.mp_program.specs.Step.{outputs_of}
+use Rattle.source_run.proofs.Making.{MadeTo}
 use Rattle.source_run.proofs.step.show.Given as goal
 
-abbrev pub invariant-loop-i : goal.invariant-loop-i
-invariant-loop-i l = ShownTo l.defs l.env l.outputs l.pad l.i
+abbrev pub invariant-loop-pad : goal.invariant-loop-pad
+invariant-loop-pad l = record {
+  size : length l.outputs ≡ length l.initial.outputs;
+  made : MadeTo l.outputs (outputs_of l.program.defs l.env) l.initial.outputs 0 l.pad;
+}

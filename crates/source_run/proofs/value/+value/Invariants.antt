@@ -17,8 +17,10 @@ decreases-one_is l = 3 * (length l.program.now.exprs - l.before)
 
 abbrev pub invariant-all_are-loop-arg : goal.invariant-all_are-loop-arg
 invariant-all_are-loop-arg l =
-    list_all (λ x. x == l.wanted) (map (value_of l.program l.env) l.args) ≡ list_all (λ x. x == l.wanted) (map (value_of l.program l.env) (drop l.arg-index l.args))
+    list_all (λ x. x == l.wanted) (map (value_of l.program l.env) l.args)
+    ≡ list_all (λ x. x == l.wanted) (map (value_of l.program l.env) (drop l.arg-index l.args))
 
 abbrev pub invariant-one_is-loop-arg : goal.invariant-one_is-loop-arg
 invariant-one_is-loop-arg l =
-    list_any (λ x. x == l.wanted) (map (value_of l.program l.env) l.args) ≡ list_any (λ x. x == l.wanted) (map (value_of l.program l.env) (drop l.arg-index l.args))
+    list_any (λ x. x == l.wanted) (map (value_of l.program l.env) l.args)
+    ≡ list_any (λ x. x == l.wanted) (map (value_of l.program l.env) (drop l.arg-index l.args))

@@ -23,4 +23,5 @@ invariant-gather_chosen-loop-branch l =
 abbrev pub invariant-gather_all-loop-form : goal.invariant-gather_all-loop-form
 invariant-gather_all-loop-form l =
     merged (written_at l.program.defs l.target (flat_map (effects_of l.program l.env) l.forms))
-    ≡ join l.all (merged (written_at l.program.defs l.target (flat_map (effects_of l.program l.env) (drop l.form-index l.forms))))
+    ≡ join l.all
+    (merged (written_at l.program.defs l.target (flat_map (effects_of l.program l.env) (drop l.form-index l.forms))))

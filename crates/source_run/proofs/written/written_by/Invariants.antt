@@ -8,4 +8,5 @@ use Rattle.source_run.proofs.written.written_by.Given as goal
 abbrev pub invariant-loop-form : goal.invariant-loop-form
 invariant-loop-form l =
     merged (written_at l.program.defs l.target (flat_map (effects_of l.program l.env) l.forms))
-    ≡ join l.all (merged (written_at l.program.defs l.target (flat_map (effects_of l.program l.env) (drop l.form-index l.forms))))
+    ≡ join l.all
+    (merged (written_at l.program.defs l.target (flat_map (effects_of l.program l.env) (drop l.form-index l.forms))))
