@@ -1,18 +1,15 @@
 -- Two sets of layers that `==` finds equal.
-use Rattle.std.proofs.Common.{◌≡◌, Bool, true, false, refl}
+use Rattle.std.proofs.Common.{◌≡◌, true}
 use Rattle.std.specs.Prelude.{◌&&◌}
 use mathlib.Core.Bool.{beq}
-use Rattle.std.proofs.lemmas.Bool.{and_parts, both_ways}
+use Rattle.std.proofs.lemmas.Bool.{and_parts}
+use Rattle.mp_base.proofs.Tests.{same_bool}
 use Rattle.mask_runs.specs.declared.mask.Layers.{Layers}
 
-pub same_bool : (a b : Bool) → beq a b ≡ true → a ≡ b
-same_bool true true e = refl
-same_bool false false e = refl
-same_bool true false e = absurd (both_ways false refl e)
-same_bool false true e = absurd (both_ways false refl e)
-
 pub same_layers : (a b : Layers)
-    → (beq a.nd b.nd && (beq a.np b.np && (beq a.nc b.nc && (beq a.nm b.nm && (beq a.ni b.ni && (beq a.nb b.nb && beq a.ng b.ng)))))) ≡ true → a ≡ b
+    → (beq a.nd b.nd
+    && (beq a.np b.np && (beq a.nc b.nc && (beq a.nm b.nm && (beq a.ni b.ni && (beq a.nb b.nb && beq a.ng b.ng))))))
+    ≡ true → a ≡ b
 same_layers a b e =
     let nd = and_parts (beq a.nd b.nd) _ e in
     let np = and_parts (beq a.np b.np) _ nd.1 in

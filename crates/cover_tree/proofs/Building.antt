@@ -39,7 +39,8 @@ module _ (row : ℕ → ℕ) (runs : List Run) (last : Run) (b : IsBuilt row run
   ]
 
   closed_blank : last.colour ≡ 0 → AreRuns (upto last.right row) runs
-  closed_blank e = let f : upto last.left row ≡ upto last.right row = λ i c. same_blank e c i in subst (λ g. AreRuns g runs) f b.complete
+  closed_blank e = let f : upto last.left row ≡ upto last.right row = λ i c. same_blank e c i in
+      subst (λ g. AreRuns g runs) f b.complete
 
   -- a complete run goes on to be one
   run_more : 0 < last.colour → (r : Run) → IsRun (upto last.left row) r → IsRun (upto last.right row) r
@@ -51,8 +52,11 @@ module _ (row : ℕ → ℕ) (runs : List Run) (last : Run) (b : IsBuilt row run
       record {
         some = i.some;
         wide = i.wide;
-        each = λ c h k. upto_in last.right row c (omega arith) ∙ sym (upto_in last.left row c (omega arith)) ∙ i.each c h k;
-        before = λ c h k. i.before c h (upto_in last.left row c (omega arith) ∙ sym (upto_in last.right row c (omega arith)) ∙ k);
+        each = λ c h k. upto_in last.right row c (omega arith) ∙ sym (upto_in last.left row c (omega arith))
+            ∙ i.each c h k;
+        before =
+            λ c h k. i.before c h
+            (upto_in last.left row c (omega arith) ∙ sym (upto_in last.right row c (omega arith)) ∙ k);
         after = λ k. elim (cases_lt r.right last.left) [
           | inl h ↦ i.after (upto_in last.left row r.right h ∙ sym (upto_in last.right row r.right (omega arith)) ∙ k)
           | inr h ↦
@@ -63,14 +67,18 @@ module _ (row : ℕ → ℕ) (runs : List Run) (last : Run) (b : IsBuilt row run
       }
 
   -- a run that begins left of the open one is complete
-  run_less : 0 < last.colour → (q : Run) → IsRun (upto last.right row) q → q.left < last.left → IsRun (upto last.left row) q
+  run_less : 0 < last.colour → (q : Run) → IsRun (upto last.right row) q → q.left < last.left
+      → IsRun (upto last.left row) q
   run_less p q i h =
       let o = b.some p in
       let w = i.wide in
       let e : q.right ≤ last.left = elim (cases_lt last.left q.right) [
         | inl k ↦
-            let x : row (last.left - 1) ≡ q.colour = sym (upto_in last.right row (last.left - 1) (omega arith)) ∙ i.each (last.left - 1) (omega arith) (omega arith) in
-            let y : row last.left ≡ q.colour = sym (upto_in last.right row last.left o) ∙ i.each last.left (omega arith) k in
+            let x : row (last.left - 1) ≡ q.colour =
+            sym (upto_in last.right row (last.left - 1) (omega arith))
+            ∙ i.each (last.left - 1) (omega arith) (omega arith) in
+            let y : row last.left ≡ q.colour =
+            sym (upto_in last.right row last.left o) ∙ i.each last.left (omega arith) k in
             absurd (b.before (last.left - 1) (omega arith) (x ∙ sym y ∙ b.each last.left (omega arith) o))
         | inr k ↦ k
       ] in
@@ -78,8 +86,11 @@ module _ (row : ℕ → ℕ) (runs : List Run) (last : Run) (b : IsBuilt row run
       record {
         some = i.some;
         wide = i.wide;
-        each = λ c m k. upto_in last.left row c (omega arith) ∙ sym (upto_in last.right row c (omega arith)) ∙ i.each c m k;
-        before = λ c m k. i.before c m (upto_in last.right row c (omega arith) ∙ sym (upto_in last.left row c (omega arith)) ∙ k);
+        each = λ c m k. upto_in last.left row c (omega arith) ∙ sym (upto_in last.right row c (omega arith))
+            ∙ i.each c m k;
+        before =
+            λ c m k. i.before c m
+            (upto_in last.right row c (omega arith) ∙ sym (upto_in last.left row c (omega arith)) ∙ k);
         after = λ k. elim (cases_lt q.right last.left) [
           | inl m ↦ i.after (upto_in last.right row q.right (omega arith) ∙ sym (upto_in last.left row q.right m) ∙ k)
           | inr m ↦ let z = upto_out last.left row q.right m in absurd (omega arith)
@@ -95,13 +106,18 @@ module _ (row : ℕ → ℕ) (runs : List Run) (last : Run) (b : IsBuilt row run
       let k : q.colour ≡ last.colour = sym s.1 ∙ b.each q.left h s.0 in
       let l : q.left ≡ last.left = elim (cases_eq q.left last.left) [
         | inl e ↦ e
-        | inr n ↦ absurd (i.before (q.left - 1) (omega arith) (upto_in last.right row (q.left - 1) (omega arith) ∙ b.each (q.left - 1) (omega arith) (omega arith) ∙ sym k))
+        | inr n ↦
+            absurd (i.before (q.left - 1) (omega arith)
+            (upto_in last.right row (q.left - 1) (omega arith) ∙ b.each (q.left - 1) (omega arith) (omega arith)
+            ∙ sym k))
       ] in
       let t = ends_by last.right row q i in
       let t0 = t.0 in
       let r : q.right ≡ last.right = elim (cases_eq q.right last.right) [
         | inl e ↦ e
-        | inr n ↦ absurd (i.after (upto_in last.right row q.right (omega arith) ∙ b.each q.right (omega arith) (omega arith) ∙ sym k))
+        | inr n ↦
+            absurd (i.after
+            (upto_in last.right row q.right (omega arith) ∙ b.each q.right (omega arith) (omega arith) ∙ sym k))
       ] in
       λ i. record { left = l i; right = r i; colour = k i }
 
@@ -121,7 +137,9 @@ module _ (row : ℕ → ℕ) (runs : List Run) (last : Run) (b : IsBuilt row run
       | inl h ↦ Contains-append_left runs (last ∷ []) q (b.complete.all q (run_less p q i h))
       | inr h ↦ Contains-append_right runs (last ∷ []) q (0, omega arith, sym (run_last q i h))
     ];
-    ascending = all_pairs_push (λ r q. r.right ≤ q.left) runs last b.complete.ascending (λ k d h. (ends_by last.left row _ (b.complete.each k d h)).0);
+    ascending =
+        all_pairs_push (λ r q. r.right ≤ q.left) runs last b.complete.ascending
+        (λ k d h. (ends_by last.left row _ (b.complete.each k d h)).0);
   }
 
   pub closed_runs : AreRuns (upto last.right row) (closed runs last)
@@ -132,7 +150,8 @@ module _ (row : ℕ → ℕ) (runs : List Run) (last : Run) (b : IsBuilt row run
 
 -- cells of another colour than the open run has begin the next
 pub begins : (runs : List Run) (last : Run) (end colour : ℕ) → last.right < end → last.colour ≢ colour
-    → Continues (λ _. colour) runs (closed runs last) last (record { left = last.right; right = end; colour = colour }) end
+    → Continues (λ _. colour) runs (closed runs last) last
+    (record { left = last.right; right = end; colour = colour }) end
 begins runs last end colour h n = record {
   right = refl;
   built = λ row f b. record {
@@ -145,13 +164,18 @@ begins runs last end colour h n = record {
   };
 }
 
-pub in_turn : (colour : ℕ → ℕ) (old mid now : List Run) (last middle next : Run) (half end : ℕ) → last.right ≤ half → half ≤ end
-    → Continues colour old mid last middle half → Continues colour mid now middle next end → Continues colour old now last next end
+pub in_turn : (colour : ℕ → ℕ) (old mid now : List Run) (last middle next : Run) (half end : ℕ) → last.right ≤ half
+    → half ≤ end
+    → Continues colour old mid last middle half → Continues colour mid now middle next end
+    → Continues colour old now last next end
 in_turn colour old mid now last middle next half end h k p q = record {
   right = q.right;
-  built = λ row f b. let e = p.right in q.built row (λ c i j. f c (omega arith) j) (p.built row (λ c i j. f c i (omega arith)) b);
+  built = λ row f b. let e = p.right in
+      q.built row (λ c i j. f c (omega arith) j) (p.built row (λ c i j. f c i (omega arith)) b);
 }
 
-pub alike : (f g : ℕ → ℕ) (old now : List Run) (last next : Run) (end : ℕ) → ((c : ℕ) → last.right ≤ c → c < end → g c ≡ f c)
+pub alike : (f g : ℕ → ℕ) (old now : List Run) (last next : Run) (end : ℕ)
+    → ((c : ℕ) → last.right ≤ c → c < end → g c ≡ f c)
     → Continues f old now last next end → Continues g old now last next end
-alike f g old now last next end e p = record { right = p.right; built = λ row h b. p.built row (λ c i j. h c i j ∙ e c i j) b }
+alike f g old now last next end e p =
+    record { right = p.right; built = λ row h b. p.built row (λ c i j. h c i j ∙ e c i j) b }

@@ -1,5 +1,6 @@
 -- The colours of all sets of layers, by the bits of numbers.
-use Rattle.std.proofs.Common.{◌≡◌, ℕ, ◌+◌, ◌-◌, ◌*◌, ◌/◌, ◌%◌, ◌^◌, ◌<◌, ◌↔◌, inl, inr, Bool, true, false, refl, sym, ◌∙◌, arith, bit_and, bit_or, bit_xor, min, max, w32}
+use Rattle.std.proofs.Common.{◌≡◌, ℕ, ◌+◌, ◌-◌, ◌*◌, ◌/◌, ◌%◌, ◌^◌, ◌<◌, ◌↔◌, inl, inr, Bool, true, false, refl, sym}
+use Rattle.std.proofs.Common.{◌∙◌, arith, bit_and, bit_or, bit_xor, min, max, w32}
 use Rattle.std.specs.Prelude.{◌||◌, ◌&&◌, not, if◌then◌else◌}
 use Rattle.std.specs.Int.{bit_at, bit_not}
 use Rattle.std.proofs.lemmas.Bool.{cases_eq}
@@ -65,7 +66,8 @@ says_or {m} {n} {i} {a} {b} e f = record { says = bit_at_or m n i ∙ rw (e.says
 says_not : {n i : ℕ} {b : Bool} → n < 2 ^ 32 → i < 32 → Says n i b → Says (bit_not w32 n) i (not b)
 says_not {n} {i} {b} small l e = record { says = bit_at_not w32 n i small l ∙ rw e.says (other_bit b) }
 
-colour_bits : (p : Planes) (i : ℕ) (low middle high : Bool) → Says p.low i low → Says p.middle i middle → Says p.high i high
+colour_bits : (p : Planes) (i : ℕ) (low middle high : Bool) → Says p.low i low → Says p.middle i middle
+    → Says p.high i high
     → colour_at p i ≡ bit low + 2 * bit middle + 4 * bit high
 colour_bits p i low middle high e f g = let j = e.says in let k = f.says in let l = g.says in omega arith
 
@@ -82,18 +84,23 @@ conducts n p b = n && not (p && not b)
 abbrev meets : Bool → Bool → Bool → Bool → Bool
 meets n p b f = (p && conducts n p b) && (f || b)
 
-diffusion_colour : (n p b f m : Bool) → colour_of Diffusion (record { nd = n; np = p; nc = m; nm = m; ni = f; nb = b; ng = m })
+diffusion_colour : (n p b f m : Bool)
+    → colour_of Diffusion (record { nd = n; np = p; nc = m; nm = m; ni = f; nb = b; ng = m })
     ≡ bit ((n && not (channels n p b)) || (channels n p b && f)) + 2 * bit (channels n p b) + 4 * bit false
-diffusion_colour = same_for_five (λ n p b f m. colour_of Diffusion (record { nd = n; np = p; nc = m; nm = m; ni = f; nb = b; ng = m }))
-    (λ n p b f m. bit ((n && not (channels n p b)) || (channels n p b && f)) + 2 * bit (channels n p b) + 4 * bit false) refl
+diffusion_colour =
+    same_for_five (λ n p b f m. colour_of Diffusion (record { nd = n; np = p; nc = m; nm = m; ni = f; nb = b; ng = m }))
+    (λ n p b f m. bit ((n && not (channels n p b)) || (channels n p b && f)) + 2 * bit (channels n p b) + 4
+    * bit false) refl
 
 abbrev joins : Bool → Bool → Bool → Bool → Bool → ℕ
 joins n p b f m = bit ((f && m) && (p || conducts n p b)) + 2 * bit (((f && m) && p) || meets n p b f)
     + 4 * bit (((f && m) && conducts n p b) || meets n p b f)
 
-contacts_colour : (n p b f m : Bool) → colour_of Contacts (record { nd = n; np = p; nc = f; nm = m; ni = m; nb = b; ng = m }) ≡ joins n p b f m
+contacts_colour : (n p b f m : Bool)
+    → colour_of Contacts (record { nd = n; np = p; nc = f; nm = m; ni = m; nb = b; ng = m }) ≡ joins n p b f m
 contacts_colour =
-    same_for_five (λ n p b f m. colour_of Contacts (record { nd = n; np = p; nc = f; nm = m; ni = m; nb = b; ng = m })) joins refl
+    same_for_five
+    (λ n p b f m. colour_of Contacts (record { nd = n; np = p; nc = f; nm = m; ni = m; nb = b; ng = m })) joins refl
 
 module _ (h : Holders) (small : h.nb < 2 ^ 32) (i : ℕ) (s : Layers) (l : i < 32) where
   module _ (mask : Mask) (e : AreLayersAt mask h i s) where
@@ -119,12 +126,19 @@ module _ (h : Holders) (small : h.nb < 2 ^ 32) (i : ℕ) (s : Layers) (l : i < 3
   channel = bit_and (bit_and h.nd h.np) (bit_not w32 h.nb)
 
   pub diffusion_at : AreLayersAt Diffusion h i s → h.nd < 2 ^ 32 → colour_of Diffusion s
-      ≡ colour_at (record { low = bit_or (bit_and h.nd (bit_not w32 channel)) (bit_and channel h.further); middle = channel; high = 0 }) i
+      ≡ colour_at
+      (record {
+        low = bit_or (bit_and h.nd (bit_not w32 channel)) (bit_and channel h.further);
+        middle = channel;
+        high = 0;
+      }) i
   diffusion_at e bound =
       let here = says_and (says_and (nd Diffusion e) (np Diffusion e)) (no_nb Diffusion e) in
-      let outside = says_not (omega (arith, and_le_l (bit_and h.nd h.np) (bit_not w32 h.nb), and_le_l h.nd h.np)) l here in
+      let outside =
+      says_not (omega (arith, and_le_l (bit_and h.nd h.np) (bit_not w32 h.nb), and_le_l h.nd h.np)) l here in
       diffusion_colour s.nd s.np s.nb s.ni s.nm
-      ∙ sym (colour_bits _ i _ _ _ (says_or (says_and (nd Diffusion e) outside) (says_and here (further Diffusion e))) here (says_zero i))
+      ∙ sym (colour_bits _ i _ _ _
+      (says_or (says_and (nd Diffusion e) outside) (says_and here (further Diffusion e))) here (says_zero i))
 
   abbrev diffusion : ℕ
   diffusion = bit_and h.nd (bit_not w32 (bit_and h.np (bit_not w32 h.nb)))
@@ -142,7 +156,8 @@ module _ (h : Holders) (small : h.nb < 2 ^ 32) (i : ℕ) (s : Layers) (l : i < 3
   }) i
   contacts_at e bound =
       let covered = says_and (np Contacts e) (no_nb Contacts e) in
-      let conducting = says_and (nd Contacts e) (says_not (omega (arith, and_le_l h.np (bit_not w32 h.nb))) l covered) in
+      let conducting =
+      says_and (nd Contacts e) (says_not (omega (arith, and_le_l h.np (bit_not w32 h.nb))) l covered) in
       let through = says_and (further Contacts e) (nm Contacts e) in
       let meeting = says_and (says_and (np Contacts e) conducting) (says_or (further Contacts e) (nb Contacts e)) in
       let low = says_and through (says_or (np Contacts e) conducting) in
@@ -161,7 +176,8 @@ module _ (p q : Planes) (i : ℕ) where
   bits_differ = digits_differ _ _ _ _ _ _ (bit_at-lt p.low i) (bit_at-lt p.middle i) (bit_at-lt p.high i)
       (bit_at-lt q.low i) (bit_at-lt q.middle i) (bit_at-lt q.high i)
 
-  pub differ_at : (bit_at (bit_or (bit_or (bit_xor p.low q.low) (bit_xor p.middle q.middle)) (bit_xor p.high q.high)) i ≡ 0)
+  pub differ_at : (bit_at (bit_or (bit_or (bit_xor p.low q.low) (bit_xor p.middle q.middle)) (bit_xor p.high q.high)) i
+      ≡ 0)
       ↔ (colour_at p i ≡ colour_at q i)
   differ_at =
       let a = bit_at_xor p.low q.low i in
@@ -177,7 +193,8 @@ module _ (p q : Planes) (i : ℕ) where
 abbrev pub AreColours : Mask → Layers → Planes → Type 0
 AreColours mask known p = (s : Layers) → colour_of mask (both known s) ≡ colour_at p (index mask s)
 
-digits_of : (p : Planes) (i k : ℕ) → colour_at p i ≡ k → (bit_at p.low i ≡ k % 2) × (bit_at p.middle i ≡ k / 2 % 2) × (bit_at p.high i ≡ k / 4)
+digits_of : (p : Planes) (i k : ℕ) → colour_at p i ≡ k
+    → (bit_at p.low i ≡ k % 2) × (bit_at p.middle i ≡ k / 2 % 2) × (bit_at p.high i ≡ k / 4)
 digits_of p i k e =
     let a = bit_at-lt p.low i in
     let b = bit_at-lt p.middle i in
@@ -185,7 +202,8 @@ digits_of p i k e =
     (omega arith, omega arith, omega arith)
 
 module _ (mask : Mask) (kinds : Kinds) (small : kinds.bits < 2 ^ 32) where
-  module _ (known : Layers) (p : Planes) (h : AreColours mask known p) (k : ℕ) (one : AreOneColour mask kinds known k) where
+  module _ (known : Layers) (p : Planes) (h : AreColours mask known p) (k : ℕ)
+      (one : AreOneColour mask kinds known k) where
     at_kind : (i : ℕ) → bit_at kinds.bits i ≡ 1 → colour_at p i ≡ k
     at_kind = at_kinds mask kinds (λ i. colour_at p i ≡ k) small (λ s e. sym (h s) ∙ one.each s e)
 
@@ -202,7 +220,8 @@ module _ (mask : Mask) (kinds : Kinds) (small : kinds.bits < 2 ^ 32) where
       (d : (i : ℕ) → (bit_at differing i ≡ 0) ↔ (colour_at p i ≡ colour_at q i)) where
     pub none_differ : Keeps mask kinds old new true → Share kinds differing 0
     none_differ k = record {
-      each = at_kinds mask kinds (λ i. bit_at differing i ≡ 0) small (λ s e. (d (index mask s)).1 (sym (h s) ∙ k.each s e ∙ j s));
+      each = at_kinds mask kinds (λ i. bit_at differing i ≡ 0) small
+          (λ s e. (d (index mask s)).1 (sym (h s) ∙ k.each s e ∙ j s));
     }
 
     pub all_differ : Keeps mask kinds old new false → Share kinds differing 1

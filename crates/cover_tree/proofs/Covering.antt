@@ -1,5 +1,6 @@
 -- What new and raised trees cover.
-use Rattle.std.proofs.Common.{◌≡◌, ◌≢◌, ℕ, zero, suc, ◌+◌, ◌/◌, ◌<◌, ◌≤◌, inl, inr, List, get_or, length, replicate, false, refl, sym, ◌∙◌, ap, subst, arith}
+use Rattle.std.proofs.Common.{◌≡◌, ◌≢◌, ℕ, zero, suc, ◌+◌, ◌/◌, ◌<◌, ◌≤◌, inl, inr, List, get_or, length, replicate}
+use Rattle.std.proofs.Common.{false, refl, sym, ◌∙◌, ap, subst, arith}
 use Rattle.std.specs.Prelude.{nat_lt, if◌then◌else◌}
 use Rattle.std.proofs.lemmas.Bool.{cases_lt, lt-ltb, le-ltb}
 use Rattle.std.proofs.lemmas.List.{get_or-replicate, get_or_past}
@@ -11,7 +12,7 @@ use Rattle.mask_runs.specs.Colours.{bare}
 use Rattle.cover_tree.specs.declared.node.Node.{Node}
 use Rattle.cover_tree.specs.declared.note.Note.{Note}
 use Rattle.cover_tree.specs.declared.part.Part.{Part}
-use Rattle.cover_tree.specs.declared.part.Span.{Span}
+use Rattle.cover_tree.specs.declared.span.Span.{Span}
 use Rattle.cover_tree.specs.declared.trees.Trees.{Trees}
 use Rattle.cover_tree.specs.Covers.{IsBare, IsRaised}
 use Rattle.cover_tree.specs.Parts.{top_at, root, left_half, right_half, top_to, top_of, IsPartRaised}
@@ -52,14 +53,16 @@ bare_layers t f row p c = λ j. record {
   ng = bare_seen (tree t NG) row p c (f NG) j;
 }
 
-bare_note : (mask : Mask) (t : Trees) → AreBare t → (n : Note) → HasKind mask n.kinds bare → (q : Part) → IsNoted mask t q n
+bare_note : (mask : Mask) (t : Trees) → AreBare t → (n : Note) → HasKind mask n.kinds bare → (q : Part)
+    → IsNoted mask t q n
 bare_note mask t f n k q = record {
   steady = λ row c i j h. bare_layers t f row q c ∙ sym (bare_layers t f t.since q c);
   kinds = λ c i h. rw (bare_layers t f t.since q c) k;
 }
 
 -- new trees
-module _ (t : Trees) (count : ℕ) (n : Note) (e : t.nodes.items ≡ replicate count (record { tops = no_tops; note = n })) where
+module _ (t : Trees) (count : ℕ) (n : Note)
+    (e : t.nodes.items ≡ replicate count (record { tops = no_tops; note = n })) where
   pub new_room : length t.nodes.items ≡ count
   new_room = ap length e ∙ length-replicate count _
 
@@ -67,10 +70,13 @@ module _ (t : Trees) (count : ℕ) (n : Note) (e : t.nodes.items ≡ replicate c
   node_in k h = ap (λ s. get_or s k blank) e ∙ get_or-replicate count k _ blank h
 
   node_out : (k : ℕ) → count ≤ k → node_at t k ≡ blank
-  node_out k h = ap (λ s. get_or s k blank) e ∙ get_or_past (replicate count _) k blank (omega (arith, length-replicate {A = Node} count (record { tops = no_tops; note = n })))
+  node_out k h = ap (λ s. get_or s k blank) e
+      ∙ get_or_past (replicate count _) k blank
+      (omega (arith, length-replicate {A = Node} count (record { tops = no_tops; note = n })))
 
   new_tops : (k : ℕ) → (node_at t k).tops ≡ no_tops
-  new_tops k = elim (cases_lt k count) [ inl h ↦ ap (λ m. m.tops) (node_in k h) | inr h ↦ ap (λ m. m.tops) (node_out k h) ]
+  new_tops k =
+      elim (cases_lt k count) [ inl h ↦ ap (λ m. m.tops) (node_in k h) | inr h ↦ ap (λ m. m.tops) (node_out k h) ]
 
   pub new_bare : AreBare t
   new_bare l k = node_top t l k ∙ ap (layer_top l t.further) (new_tops k) ∙ no_top l t.further
@@ -83,10 +89,12 @@ module _ (t : Trees) (count : ℕ) (n : Note) (e : t.nodes.items ≡ replicate c
     ];
   }
 
-pub top_in : (own : Mask) (cells : ℕ) (trees : Trees) (l : Layer) (c : ℕ) → c < cells → (cover own cells trees).top l c ≡ top_of (tree trees l) (root cells) c
+pub top_in : (own : Mask) (cells : ℕ) (trees : Trees) (l : Layer) (c : ℕ) → c < cells
+    → (cover own cells trees).top l c ≡ top_of (tree trees l) (root cells) c
 top_in own cells trees l c h = rw (lt-ltb c cells h) refl
 
-pub top_out : (own : Mask) (cells : ℕ) (trees : Trees) (l : Layer) (c : ℕ) → cells ≤ c → (cover own cells trees).top l c ≡ 0
+pub top_out : (own : Mask) (cells : ℕ) (trees : Trees) (l : Layer) (c : ℕ) → cells ≤ c
+    → (cover own cells trees).top l c ≡ 0
 top_out own cells trees l c h = rw (le-ltb c cells h) refl
 
 pub bare_cover : (own : Mask) (cells : ℕ) (trees : Trees) → AreBare trees → IsBare own cells (cover own cells trees)
@@ -100,22 +108,27 @@ bare_cover own cells trees f = record {
 }
 
 pub raised_cover : (own : Mask) (cells : ℕ) (old now : Trees) (layer : Layer) (span : Span) (row : ℕ) → span.to ≤ cells
-    → IsPartRaised (tree old layer) (tree now layer) (root cells) span row → ((l : Layer) → l ≢ layer → tree now l ≡ tree old l)
+    → IsPartRaised (tree old layer) (tree now layer) (root cells) span row
+    → ((l : Layer) → l ≢ layer → tree now l ≡ tree old l)
     → IsRaised (cover own cells old) (cover own cells now) layer span.from span.to row
 raised_cover own cells old now layer span row h r f = record {
   same_mask = refl;
   as_wide = refl;
   within = λ c k l.
       let m : c < cells = omega arith in
-      rw (top_in own cells now layer c m, top_in own cells old layer c m) (r.inside c (record { from = omega arith; to = omega arith }) k l);
+      rw (top_in own cells now layer c m, top_in own cells old layer c m)
+      (r.inside c (record { from = omega arith; to = omega arith }) k l);
   beside = λ c k. elim (cases_lt c cells) [
-    | inl m ↦ rw (top_in own cells now layer c m, top_in own cells old layer c m) (r.beside c (record { from = omega arith; to = omega arith }) k)
+    | inl m ↦
+        rw (top_in own cells now layer c m, top_in own cells old layer c m)
+        (r.beside c (record { from = omega arith; to = omega arith }) k)
     | inr m ↦ rw (top_out own cells now layer c m, top_out own cells old layer c m) refl
   ];
   others = λ l c k. ap (λ s. if nat_lt c cells then top_of s (root cells) c else 0) (f l k);
 }
 
-pub same_cover : (own : Mask) (cells : ℕ) (t u : Trees) → ((l : Layer) → tree u l ≡ tree t l) → cover own cells u ≡ cover own cells t
+pub same_cover : (own : Mask) (cells : ℕ) (t u : Trees) → ((l : Layer) → tree u l ≡ tree t l)
+    → cover own cells u ≡ cover own cells t
 same_cover own cells t u e = λ i. record {
   mask = own;
   cells = cells;

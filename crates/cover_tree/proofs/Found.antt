@@ -13,7 +13,7 @@ use Rattle.cover_tree.specs.Layered.{cover}
 use Rattle.cover_tree.specs.Looking.{part_colour}
 use Rattle.cover_tree.specs.Going.{EndsAt, StartsAt}
 
-bare_colour : (mask : Mask) → colour_of mask bare ≡ 0
+pub bare_colour : (mask : Mask) → colour_of mask bare ≡ 0
 bare_colour (Only ND) = refl
 bare_colour (Only NP) = refl
 bare_colour (Only NC) = refl
@@ -25,7 +25,8 @@ bare_colour Diffusion = refl
 bare_colour Contacts = refl
 
 module _ (mask : Mask) (cells : ℕ) (t : Trees) (row : ℕ) where
-  pub root_colour : (c : ℕ) → c < cells → row_colour (cover mask cells t) row c ≡ part_colour mask t row (root cells) bare c
+  pub root_colour : (c : ℕ) → c < cells
+      → row_colour (cover mask cells t) row c ≡ part_colour mask t row (root cells) bare c
   root_colour c h = rw (lt-ltb c cells h) refl
 
   past_colour : (c : ℕ) → cells ≤ c → row_colour (cover mask cells t) row c ≡ 0
@@ -34,19 +35,22 @@ module _ (mask : Mask) (cells : ℕ) (t : Trees) (row : ℕ) where
   pub found : (cell start end k : ℕ) → cell < cells → 0 < k → k ≡ part_colour mask t row (root cells) bare cell
       → StartsAt (part_colour mask t row (root cells) bare) k 0 cell start
       → EndsAt (part_colour mask t row (root cells) bare) k cell (0 + cells) end
-      → IsRun (row_colour (cover mask cells t) row) (record { left = start; right = end; colour = k }) × (start ≤ cell) × (cell < end)
+      → IsRun (row_colour (cover mask cells t) row) (record { left = start; right = end; colour = k }) × (start ≤ cell)
+      × (cell < end)
   found cell start end k h p e s f =
       let s0 = s.order in
       let f0 = f.order in
       let f1 = f.within in
       let wide : cell < end = elim (cases_lt cell end) [
         | inl m ↦ m
-        | inr m ↦ let same : end ≡ cell = omega arith in absurd (f.stop (omega arith) (ap (part_colour mask t row (root cells) bare) same ∙ sym e))
+        | inr m ↦ let same : end ≡ cell = omega arith in
+            absurd (f.stop (omega arith) (ap (part_colour mask t row (root cells) bare) same ∙ sym e))
       ] in (
         record {
           some = p;
           wide = omega arith;
-          each = λ c i j. root_colour c (omega arith) ∙ elim (cases_lt c cell) [ inl m ↦ s.each c i m | inr m ↦ f.each c m j ];
+          each = λ c i j. root_colour c (omega arith)
+              ∙ elim (cases_lt c cell) [ inl m ↦ s.each c i m | inr m ↦ f.each c m j ];
           before = λ c i j. s.stop c i (omega arith) (sym (root_colour c (omega arith)) ∙ j);
           after = λ j. elim (cases_lt end cells) [
             | inl m ↦ f.stop (omega arith) (sym (root_colour end m) ∙ j)
@@ -59,7 +63,15 @@ module _ (mask : Mask) (cells : ℕ) (t : Trees) (row : ℕ) where
 
 -- there is an end of a colour to the right, and a start to the left
 some_end : (f : ℕ → ℕ) (k n from : ℕ) → (end : ℕ) × EndsAt f k from (from + n) end
-some_end f k zero from = (from, record { order = omega arith; within = omega arith; each = λ c i j. absurd (omega arith); stop = λ i. absurd (omega arith) })
+some_end f k zero from = (
+  from,
+  record {
+    order = omega arith;
+    within = omega arith;
+    each = λ c i j. absurd (omega arith);
+    stop = λ i. absurd (omega arith);
+  },
+)
 some_end f k (suc n) from = elim (cases_eq (f from) k) [
   | inl e ↦
       let r = some_end f k n (from + 1) in
@@ -74,11 +86,20 @@ some_end f k (suc n) from = elim (cases_eq (f from) k) [
           stop = λ i. s.stop (omega arith);
         },
       )
-  | inr e ↦ (from, record { order = omega arith; within = omega arith; each = λ c i j. absurd (omega arith); stop = λ i. e })
+  | inr e ↦
+      (from, record { order = omega arith; within = omega arith; each = λ c i j. absurd (omega arith); stop = λ i. e })
 ]
 
 some_start : (f : ℕ → ℕ) (k to : ℕ) → (start : ℕ) × StartsAt f k 0 to start
-some_start f k zero = (0, record { order = omega arith; within = omega arith; each = λ c i j. absurd (omega arith); stop = λ c i. absurd (omega arith) })
+some_start f k zero = (
+  0,
+  record {
+    order = omega arith;
+    within = omega arith;
+    each = λ c i j. absurd (omega arith);
+    stop = λ c i. absurd (omega arith);
+  },
+)
 some_start f k (suc to) = elim (cases_eq (f to) k) [
   | inl e ↦
       let r = some_start f k to in
@@ -103,15 +124,23 @@ some_start f k (suc to) = elim (cases_eq (f to) k) [
   )
 ]
 
-module _ (mask : Mask) (cells : ℕ) (t : Trees) (row cell k : ℕ) (h : cell < cells) (p : 0 < k) (e : k ≡ part_colour mask t row (root cells) bare cell) where
+module _ (mask : Mask) (cells : ℕ) (t : Trees) (row cell k : ℕ) (h : cell < cells) (p : 0 < k)
+    (e : k ≡ part_colour mask t row (root cells) bare cell) where
   pub found_start : (start : ℕ) → StartsAt (part_colour mask t row (root cells) bare) k 0 cell start
       → IsRunStart (row_colour (cover mask cells t) row) cell start
   found_start start s =
       let n = some_end (part_colour mask t row (root cells) bare) k (cells - cell) cell in
       let same : cell + (cells - cell) ≡ 0 + cells = omega arith in
-      let f : EndsAt (part_colour mask t row (root cells) bare) k cell (0 + cells) n.0 = subst (λ b. EndsAt (part_colour mask t row (root cells) bare) k cell b n.0) same n.1 in
+      let f : EndsAt (part_colour mask t row (root cells) bare) k cell (0 + cells) n.0 =
+      subst (λ b. EndsAt (part_colour mask t row (root cells) bare) k cell b n.0) same n.1 in
       let r = found mask cells t row cell start n.0 k h p e s f in
-      record { run = record { left = start; right = n.0; colour = k }; is = r.0; left = refl; order = r.1; within = r.2 }
+      record {
+        run = record { left = start; right = n.0; colour = k };
+        is = r.0;
+        left = refl;
+        order = r.1;
+        within = r.2;
+      }
 
   pub found_end : (end : ℕ) → EndsAt (part_colour mask t row (root cells) bare) k cell (0 + cells) end
       → IsRunEnd (row_colour (cover mask cells t) row) cell end

@@ -15,7 +15,8 @@ use Rattle.cover_tree.specs.Looking.{own_at, is_seen, seen, part_colour, IsHalve
 use Rattle.cover_tree.proofs.Tops.{top_leaf, top_left, top_right}
 
 -- a row that lies below one of two tops lies below the greater
-joint_tests : (known : Bool) (row own t u : ℕ) → u ≡ max own t → (known || nat_lt row u) ≡ ((known || nat_lt row own) || nat_lt row t)
+joint_tests : (known : Bool) (row own t u : ℕ) → u ≡ max own t
+    → (known || nat_lt row u) ≡ ((known || nat_lt row own) || nat_lt row t)
 joint_tests true row own t u e = refl
 joint_tests false row own t u e = elim (cases_lt row u) [
   | inr k ↦ rw (le-ltb row u k, le-ltb row own (omega arith), le-ltb row t (omega arith)) refl
@@ -29,10 +30,12 @@ module _ (s : List ℕ) (p : Part) (row : ℕ) (known : Bool) (c : ℕ) where
   one_leaf : p.width < 2 → is_seen s row p known c ≡ (known || nat_lt row (top_at s p.at))
   one_leaf h = ap (λ u. known || nat_lt row u) (top_leaf s p c h)
 
-  one_left : 2 ≤ p.width → c < p.base + p.width / 2 → is_seen s row p known c ≡ is_seen s row (left_half p) (known || nat_lt row (top_at s p.at)) c
+  one_left : 2 ≤ p.width → c < p.base + p.width / 2
+      → is_seen s row p known c ≡ is_seen s row (left_half p) (known || nat_lt row (top_at s p.at)) c
   one_left h k = joint_tests known row (top_at s p.at) (top_of s (left_half p) c) (top_of s p c) (top_left s p c h k)
 
-  one_right : 2 ≤ p.width → p.base + p.width / 2 ≤ c → is_seen s row p known c ≡ is_seen s row (right_half p) (known || nat_lt row (top_at s p.at)) c
+  one_right : 2 ≤ p.width → p.base + p.width / 2 ≤ c
+      → is_seen s row p known c ≡ is_seen s row (right_half p) (known || nat_lt row (top_at s p.at)) c
   one_right h k = joint_tests known row (top_at s p.at) (top_of s (right_half p) c) (top_of s p c) (top_right s p c h k)
 
 module _ (t : Trees) (p : Part) (row : ℕ) (known : Layers) (c : ℕ) where
@@ -47,7 +50,8 @@ module _ (t : Trees) (p : Part) (row : ℕ) (known : Layers) (c : ℕ) where
     ng = one_leaf (tree t NG) p row known.ng c h j;
   }
 
-  pub seen_left : 2 ≤ p.width → c < p.base + p.width / 2 → seen t row p known c ≡ seen t row (left_half p) (both known (own_at t row p.at)) c
+  pub seen_left : 2 ≤ p.width → c < p.base + p.width / 2
+      → seen t row p known c ≡ seen t row (left_half p) (both known (own_at t row p.at)) c
   seen_left h k = λ j. record {
     nd = one_left (tree t ND) p row known.nd c h k j;
     np = one_left (tree t NP) p row known.np c h k j;
@@ -58,7 +62,8 @@ module _ (t : Trees) (p : Part) (row : ℕ) (known : Layers) (c : ℕ) where
     ng = one_left (tree t NG) p row known.ng c h k j;
   }
 
-  pub seen_right : 2 ≤ p.width → p.base + p.width / 2 ≤ c → seen t row p known c ≡ seen t row (right_half p) (both known (own_at t row p.at)) c
+  pub seen_right : 2 ≤ p.width → p.base + p.width / 2 ≤ c
+      → seen t row p known c ≡ seen t row (right_half p) (both known (own_at t row p.at)) c
   seen_right h k = λ j. record {
     nd = one_right (tree t ND) p row known.nd c h k j;
     np = one_right (tree t NP) p row known.np c h k j;
@@ -70,7 +75,8 @@ module _ (t : Trees) (p : Part) (row : ℕ) (known : Layers) (c : ℕ) where
   }
 
 module _ (mask : Mask) (t : Trees) (p : Part) (row : ℕ) (known : Layers) where
-  pub leaf_colour : p.width < 2 → (c : ℕ) → InPart p c → part_colour mask t row p known c ≡ colour_of mask (both known (own_at t row p.at))
+  pub leaf_colour : p.width < 2 → (c : ℕ) → InPart p c
+      → part_colour mask t row p known c ≡ colour_of mask (both known (own_at t row p.at))
   leaf_colour h c i = ap (colour_of mask) (seen_leaf t p row known c h)
 
   pub halved : 2 ≤ p.width → IsHalved mask t row p known (both known (own_at t row p.at))

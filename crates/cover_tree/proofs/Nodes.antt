@@ -1,5 +1,6 @@
 -- The tops and notes of trees, by their nodes.
-use Rattle.std.proofs.Common.{◌≡◌, ◌≢◌, ℕ, ◌<◌, get_or, set, length, map, Bool, true, false, refl, sym, ◌∙◌, ap, rules, arith}
+use Rattle.std.proofs.Common.{◌≡◌, ◌≢◌, ℕ, ◌<◌, get_or, set, length, map, Bool, true, false, refl, sym, ◌∙◌, ap, rules}
+use Rattle.std.proofs.Common.{arith}
 use Rattle.std.specs.Prelude.{◌&&◌, nat_lt, if◌then◌else◌}
 use Rattle.std.proofs.lemmas.Bool.{le-ltb}
 use Rattle.std.proofs.lemmas.List.{get_or-set_same, get_or-set_other, map-set, length-map}
@@ -34,7 +35,8 @@ pub tree_length : (t : Trees) (l : Layer) → length (tree t l) ≡ length t.nod
 tree_length t l = length-map t.nodes.items (λ n. layer_top l t.further n.tops)
 
 pub node_top : (t : Trees) (l : Layer) (k : ℕ) → top_at (tree t l) k ≡ layer_top l t.further (node_at t k).tops
-node_top t l k = ap (get_or (tree t l) k) (sym (no_top l t.further)) ∙ get_or-map (λ n. layer_top l t.further n.tops) t.nodes.items k blank
+node_top t l k = ap (get_or (tree t l) k) (sym (no_top l t.further))
+    ∙ get_or-map (λ n. layer_top l t.further n.tops) t.nodes.items k blank
 
 if_above : (b : Bool) (row top : ℕ) → nat_lt row (if b then top else 0) ≡ (b && nat_lt row top)
 if_above true row top = refl
@@ -55,14 +57,16 @@ own_above t row k =
     }
 
 -- trees of which one has another node at one place
-module _ (t u : Trees) (at : ℕ) (n : Node) (nodes : u.nodes.items ≡ set t.nodes.items at n) (same : u.further ≡ t.further) where
+module _ (t u : Trees) (at : ℕ) (n : Node) (nodes : u.nodes.items ≡ set t.nodes.items at n)
+    (same : u.further ≡ t.further) where
   tree_over : (l : Layer) → tree u l ≡ map (λ m. layer_top l t.further m.tops) (set t.nodes.items at n)
   tree_over l = λ i. map (λ m. layer_top l (same i) m.tops) (nodes i)
 
   pub tree_set : (l : Layer) → tree u l ≡ set (tree t l) at (layer_top l t.further n.tops)
   tree_set l = tree_over l ∙ map-set (λ m. layer_top l t.further m.tops) t.nodes.items at n
 
-  pub tree_same : (l : Layer) → layer_top l t.further n.tops ≡ layer_top l t.further (node_at t at).tops → tree u l ≡ tree t l
+  pub tree_same : (l : Layer) → layer_top l t.further n.tops ≡ layer_top l t.further (node_at t at).tops
+      → tree u l ≡ tree t l
   tree_same l e = tree_over l ∙ map-set_same (λ m. layer_top l t.further m.tops) t.nodes.items at n blank e
 
   pub node_other : (k : ℕ) → k ≢ at → node_at u k ≡ node_at t k

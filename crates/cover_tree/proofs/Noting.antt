@@ -58,40 +58,49 @@ seen_same p t u v e row known c = λ j. record {
   ng = known.ng || nat_lt row (same_top (tree t NG) (tree u NG) p c v (e NG) j);
 }
 
-pub noted_same : (mask : Mask) (p : Part) (t u : Trees) (n : Note) → 0 < p.width → ((l : Layer) → SamePart (tree t l) (tree u l) p) → u.since ≡ t.since
+pub noted_same : (mask : Mask) (p : Part) (t u : Trees) (n : Note) → 0 < p.width
+    → ((l : Layer) → SamePart (tree t l) (tree u l) p) → u.since ≡ t.since
     → IsNoted mask t p n → IsNoted mask u p n
 noted_same mask p t u n v e f h = record {
-  steady = λ row c i j k. rw (f, seen_same p t u v e row bare c, seen_same p t u v e t.since bare c) (h.steady row c (omega (arith, f)) j k);
+  steady =
+      λ row c i j k. rw (f, seen_same p t u v e row bare c, seen_same p t u v e t.since bare c)
+      (h.steady row c (omega (arith, f)) j k);
   kinds = λ c j k. rw (f, seen_same p t u v e t.since bare c) (h.kinds c (omega (arith, f)) k);
 }
 
-pub are_noted_same : (mask : Mask) (p : Part) (t u : Trees) → 0 < p.width → SameIn p t u → AreNoted mask t p → AreNoted mask u p
+pub are_noted_same : (mask : Mask) (p : Part) (t u : Trees) → 0 < p.width → SameIn p t u → AreNoted mask t p
+    → AreNoted mask u p
 are_noted_same mask p t u v e h = record {
   each = λ q w.
       let m = in_within q p t u v w e in
       let n = m.0 in
       let o = m.1 in
-      rw (o.notes q.at (omega arith) (omega arith)) (noted_same mask q t u (note_at t q.at) n o.tops o.since (h.each q w));
+      rw (o.notes q.at (omega arith) (omega arith))
+      (noted_same mask q t u (note_at t q.at) n o.tops o.since (h.each q w));
 }
 
 pub noted_left : (mask : Mask) (t : Trees) (p : Part) → 2 ≤ p.width → AreNoted mask t p → AreNoted mask t (left_half p)
 noted_left mask t p h k = record { each = λ q w. k.each q (left h w) }
 
-pub noted_right : (mask : Mask) (t : Trees) (p : Part) → 2 ≤ p.width → AreNoted mask t p → AreNoted mask t (right_half p)
+pub noted_right : (mask : Mask) (t : Trees) (p : Part) → 2 ≤ p.width → AreNoted mask t p
+    → AreNoted mask t (right_half p)
 noted_right mask t p h k = record { each = λ q w. k.each q (right h w) }
 
-whole : (mask : Mask) (t : Trees) (p q : Part) → IsNoted mask t p (note_at t p.at) → AreHalvesNoted mask t p → Within q p
+whole : (mask : Mask) (t : Trees) (p q : Part) → IsNoted mask t p (note_at t p.at) → AreHalvesNoted mask t p
+    → Within q p
     → IsNoted mask t q (note_at t q.at)
 whole mask t p q a h here = a
 whole mask t p q a h (left i w) = (h.left i).each q w
 whole mask t p q a h (right i w) = (h.right i).each q w
 
-pub noted_whole : (mask : Mask) (t : Trees) (p : Part) → IsNoted mask t p (note_at t p.at) → AreHalvesNoted mask t p → AreNoted mask t p
+pub noted_whole : (mask : Mask) (t : Trees) (p : Part) → IsNoted mask t p (note_at t p.at) → AreHalvesNoted mask t p
+    → AreNoted mask t p
 noted_whole mask t p a h = record { each = λ q w. whole mask t p q a h w }
 
 -- a part is noted anew over its halves
 module _ (t u : Trees) (p : Part) (n : Note) (v : 0 < p.width) (i : p.at < length t.nodes.items)
-    (nodes : u.nodes.items ≡ set t.nodes.items p.at (record { tops = (node_at t p.at).tops; note = n })) (further : u.further ≡ t.further)
+    (nodes : u.nodes.items ≡ set t.nodes.items p.at (record { tops = (node_at t p.at).tops; note = n }))
+    (further : u.further ≡ t.further)
     (since : u.since ≡ t.since) where
   other_note : (k : ℕ) → k ≢ p.at → note_at u k ≡ note_at t k
   other_note k f = ap (λ m. m.note) (node_other t u p.at _ nodes further k f)
@@ -110,8 +119,10 @@ module _ (t u : Trees) (p : Part) (n : Note) (v : 0 < p.width) (i : p.at < lengt
 
   pub noted_anew : (mask : Mask) → IsNoted mask t p n → AreHalvesNoted mask t p → AreNoted mask u p
   noted_anew mask h a = noted_whole mask u p (rw own_note (noted_same mask p t u n v (same_tops p) since h)) (record {
-    left = λ w. are_noted_same mask (left_half p) t u (omega arith) (same_behind (left_half p) (omega arith)) (a.left w);
-    right = λ w. are_noted_same mask (right_half p) t u (omega arith) (same_behind (right_half p) (omega arith)) (a.right w);
+    left = λ w. are_noted_same mask (left_half p) t u (omega arith) (same_behind (left_half p) (omega arith))
+        (a.left w);
+    right = λ w. are_noted_same mask (right_half p) t u (omega arith) (same_behind (right_half p) (omega arith))
+        (a.right w);
   })
 
   beside_other : (k : ℕ) → Beside p k → k ≢ p.at
@@ -139,7 +150,8 @@ module _ (mask : Mask) (t : Trees) (p : Part) (n : Note) (h : IsNoted mask t p n
   noted_kinds j c k = rw (h.steady row c i j k) (h.kinds c (omega arith) k)
 
 -- the notes hold from a later row on
-pub later : (mask : Mask) (t : Trees) (p : Part) (row : ℕ) → t.since ≤ row → AreNoted mask t p → AreNoted mask (record t { since = row }) p
+pub later : (mask : Mask) (t : Trees) (p : Part) (row : ℕ) → t.since ≤ row → AreNoted mask t p
+    → AreNoted mask (record t { since = row }) p
 later mask t p row l h = record {
   each = λ q w. let n = h.each q w in record {
     steady = λ r c i j k. n.steady r c (omega arith) j k ∙ sym (n.steady row c l (omega arith) k);

@@ -5,7 +5,7 @@ use Rattle.std.proofs.lemmas.List.{get_or-set_same, get_or-set_other}
 use Rattle.lam_geom.specs.declared.layer.Layer.{Layer}
 use Rattle.mask_runs.specs.declared.mask.Mask.{Mask}
 use Rattle.cover_tree.specs.declared.part.Part.{Part}
-use Rattle.cover_tree.specs.declared.part.Span.{Span}
+use Rattle.cover_tree.specs.declared.span.Span.{Span}
 use Rattle.cover_tree.specs.declared.trees.Trees.{Trees}
 use Rattle.cover_tree.specs.Parts.{left_half, right_half, top_at, top_of, IsPartRaised, clamped}
 use Rattle.cover_tree.specs.Nodes.{layer_top}
@@ -28,7 +28,8 @@ set_right : (s : List ℕ) (p : Part) (n : ℕ) → 2 ≤ p.width → SamePart s
 set_right s p n h = record { same = λ k l m. top_other s p.at k n (omega arith) }
 
 -- the part as a whole is raised
-lifted_top : (s : List ℕ) (p : Part) (row c : ℕ) → 0 < p.width → p.at < length s → top_of (set s p.at (max (top_at s p.at) row)) p c ≡ max (top_of s p c) row
+lifted_top : (s : List ℕ) (p : Part) (row c : ℕ) → 0 < p.width → p.at < length s
+    → top_of (set s p.at (max (top_at s p.at) row)) p c ≡ max (top_of s p c) row
 lifted_top s p row c v i =
     let m : ℕ = max (top_at s p.at) row in
     let new : List ℕ = set s p.at m in
@@ -54,15 +55,18 @@ pub raised_all : (s : List ℕ) (p : Part) (span : Span) (row : ℕ) → 0 < p.w
     → IsPartRaised s (set s p.at (max (top_at s p.at) row)) p span row
 raised_all s p span row v i f = record {
   inside = λ c h k l. lifted_top s p row c v i;
-  beside = λ c h k. let h0 = h.from in let h1 = h.to in elim k [ inl l ↦ absurd (omega arith) | inr l ↦ absurd (omega arith) ];
+  beside = λ c h k. let h0 = h.from in let h1 = h.to in
+      elim k [ inl l ↦ absurd (omega arith) | inr l ↦ absurd (omega arith) ];
 }
 
 beside_own : (p : Part) (k at : ℕ) → 0 < p.width → p.at ≡ at → Beside p k → k ≢ at
 beside_own p k at v e b f = elim b [ inl h ↦ absurd (omega arith) | inr h ↦ absurd (omega arith) ]
 
 -- trees of which one has another node at one place, with the same note
-module _ (t u : Trees) (at : ℕ) (beside : (k : ℕ) → k ≢ at → node_at u k ≡ node_at t k) (notes : (k : ℕ) → note_at u k ≡ note_at t k)
-    (many : length u.nodes.items ≡ length t.nodes.items) (further : u.further ≡ t.further) (since : u.since ≡ t.since) where
+module _ (t u : Trees) (at : ℕ) (beside : (k : ℕ) → k ≢ at → node_at u k ≡ node_at t k)
+    (notes : (k : ℕ) → note_at u k ≡ note_at t k)
+    (many : length u.nodes.items ≡ length t.nodes.items) (further : u.further ≡ t.further)
+    (since : u.since ≡ t.since) where
   lifted_other : (l : Layer) (k : ℕ) → k ≢ at → top_at (tree u l) k ≡ top_at (tree t l) k
   lifted_other l k n = node_top u l k ∙ (λ i. layer_top l (further i) (beside k n i).tops) ∙ sym (node_top t l k)
 
@@ -84,8 +88,10 @@ module _ (t u : Trees) (at : ℕ) (beside : (k : ℕ) → k ≢ at → node_at u
 
   pub lifted_halves : (mask : Mask) (p : Part) → p.at ≡ at → 0 < p.width → AreNoted mask t p → AreHalvesNoted mask u p
   lifted_halves mask p h v k = record {
-    left = λ w. are_noted_same mask (left_half p) t u (omega arith) (lifted_in (left_half p) (omega arith)) (noted_left mask t p w k);
-    right = λ w. are_noted_same mask (right_half p) t u (omega arith) (lifted_in (right_half p) (omega arith)) (noted_right mask t p w k);
+    left = λ w. are_noted_same mask (left_half p) t u (omega arith) (lifted_in (left_half p) (omega arith))
+        (noted_left mask t p w k);
+    right = λ w. are_noted_same mask (right_half p) t u (omega arith) (lifted_in (right_half p) (omega arith))
+        (noted_right mask t p w k);
   }
 
 -- the right half is as before after the left one has changed, and the left one as then after the right one has
@@ -109,24 +115,34 @@ left_was t u p h o = record {
   since = o.since;
 }
 
-pub right_noted : (t u : Trees) (p : Part) → 2 ≤ p.width → IsOnlyIn (left_half p) t u → (mask : Mask) → AreNoted mask t p → AreNoted mask u (right_half p)
-right_noted t u p h o mask k = are_noted_same mask (right_half p) t u (omega arith) (right_was t u p h o) (noted_right mask t p h k)
+pub right_noted : (t u : Trees) (p : Part) → 2 ≤ p.width → IsOnlyIn (left_half p) t u → (mask : Mask)
+    → AreNoted mask t p → AreNoted mask u (right_half p)
+right_noted t u p h o mask k =
+    are_noted_same mask (right_half p) t u (omega arith) (right_was t u p h o) (noted_right mask t p h k)
 
-pub both_noted : (t u : Trees) (p : Part) → 2 ≤ p.width → IsOnlyIn (right_half p) t u → (mask : Mask) → AreNoted mask t (left_half p)
+pub both_noted : (t u : Trees) (p : Part) → 2 ≤ p.width → IsOnlyIn (right_half p) t u → (mask : Mask)
+    → AreNoted mask t (left_half p)
     → AreNoted mask u (right_half p) → AreHalvesNoted mask u p
-both_noted t u p h o mask a b = record { left = λ _. are_noted_same mask (left_half p) t u (omega arith) (left_was t u p h o) a; right = λ _. b }
+both_noted t u p h o mask a b =
+    record { left = λ _. are_noted_same mask (left_half p) t u (omega arith) (left_was t u p h o) a; right = λ _. b }
 
 module _ (old one two : Trees) (p : Part) (h : 2 ≤ p.width)
     (lo : IsOnlyIn (left_half p) old one) (ro : IsOnlyIn (right_half p) one two) where
   own_top : (l : Layer) → top_at (tree two l) p.at ≡ top_at (tree old l) p.at
   own_top l = ro.tops l p.at (inl (omega arith)) ∙ lo.tops l p.at (inl (omega arith))
 
-  pub both_raised : (layer : Layer) (span : Span) (row : ℕ) → IsPartRaised (tree old layer) (tree one layer) (left_half p) span row
-      → IsPartRaised (tree one layer) (tree two layer) (right_half p) span row → IsPartRaised (tree old layer) (tree two layer) p span row
+  pub both_raised : (layer : Layer) (span : Span) (row : ℕ)
+      → IsPartRaised (tree old layer) (tree one layer) (left_half p) span row
+      → IsPartRaised (tree one layer) (tree two layer) (right_half p) span row
+      → IsPartRaised (tree old layer) (tree two layer) p span row
   both_raised layer span row a b =
       let o = own_top layer in
-      let left_top = λ (c : ℕ). same_top (tree one layer) (tree two layer) (left_half p) c (omega arith) ((left_was one two p h ro).tops layer) in
-      let right_top = λ (c : ℕ). same_top (tree old layer) (tree one layer) (right_half p) c (omega arith) ((right_was old one p h lo).tops layer) in
+      let left_top =
+      λ (c : ℕ). same_top (tree one layer) (tree two layer) (left_half p) c (omega arith)
+      ((left_was one two p h ro).tops layer) in
+      let right_top =
+      λ (c : ℕ). same_top (tree old layer) (tree one layer) (right_half p) c (omega arith)
+      ((right_was old one p h lo).tops layer) in
       record {
         inside = λ c i f g. let i0 = i.from in let i1 = i.to in elim (cases_lt c (p.base + p.width / 2)) [
           | inl k ↦

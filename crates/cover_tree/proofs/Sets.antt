@@ -1,9 +1,12 @@
 -- Sets of layers by their indexes, and sets of these by their bits.
-use Rattle.std.proofs.Common.{◌≡◌, ◌≢◌, ℕ, ◌+◌, ◌*◌, ◌/◌, ◌%◌, ◌^◌, ◌<◌, ◌≤◌, ◌⊎◌, ◌↔◌, inl, inr, Bool, true, false, ltb, refl, sym, ◌∙◌, ap, subst, arith, ◌-◌, min, zero, suc, w32, if◌then◌else◌, bit_and, bit_or}
+use Rattle.std.proofs.Common.{◌≡◌, ◌≢◌, ℕ, ◌+◌, ◌*◌, ◌/◌, ◌%◌, ◌^◌, ◌<◌, ◌≤◌, ◌⊎◌, ◌↔◌, inl, inr, Bool, true, false}
+use Rattle.std.proofs.Common.{ltb, refl, sym, ◌∙◌, ap, subst, arith, ◌-◌, min, zero, suc, w32, if◌then◌else◌, bit_and}
+use Rattle.std.proofs.Common.{bit_or}
 use Rattle.std.specs.Prelude.{◌||◌, ◌&&◌, ◌==◌}
 use Rattle.std.specs.Int.{bit_at, bit_not}
 use Rattle.std.proofs.lemmas.Bool.{cases_eq, cases_lt, and_parts, eqb-true, ltb-true, agree_below_at}
-use Rattle.std.proofs.lemmas.Nat.Bits.{bit_at_and, bit_at_or, bit_at-lt, bit_at-zero, bit_at-pow_other, bit_at_above, bit_at_not, bit_at_cat_low, bit_at_cat_high, same_from_bits}
+use Rattle.std.proofs.lemmas.Nat.Bits.{bit_at_and, bit_at_or, bit_at-lt, bit_at-zero, bit_at-pow_other, bit_at_above}
+use Rattle.std.proofs.lemmas.Nat.Bits.{bit_at_not, bit_at_cat_low, bit_at_cat_high, same_from_bits}
 use Rattle.std.proofs.lemmas.Nat.{pow_pos, div-add-mod'}
 use Rattle.lam_geom.specs.declared.layer.Layer.{Layer}
 use Rattle.lam_geom.specs.declared.layer.Layer.TheVariants.{ND, NP, NC, NM, NI, NB, NG}
@@ -28,7 +31,8 @@ each-at : (f : Bool → Bool) → each f ≡ true → (b : Bool) → f b ≡ tru
 each-at f e true = (and_parts (f true) (f false) e).0
 each-at f e false = (and_parts (f true) (f false) e).1
 
-each_five-at : (f : Bool → Bool → Bool → Bool → Bool → Bool) → each_five f ≡ true → (a b c d e : Bool) → f a b c d e ≡ true
+each_five-at : (f : Bool → Bool → Bool → Bool → Bool → Bool) → each_five f ≡ true → (a b c d e : Bool)
+    → f a b c d e ≡ true
 each_five-at f h a b c d e =
     let i = each-at (λ a. each (λ b. each (λ c. each (λ d. each (λ e. f a b c d e))))) h a in
     let j = each-at (λ b. each (λ c. each (λ d. each (λ e. f a b c d e)))) i b in
@@ -37,7 +41,8 @@ each_five-at f h a b c d e =
     each-at (λ e. f a b c d e) l e
 
 -- two numbers that five digits give are the same where they are the same for each
-pub same_for_five : (f g : Bool → Bool → Bool → Bool → Bool → ℕ) → each_five (λ a b c d e. f a b c d e == g a b c d e) ≡ true
+pub same_for_five : (f g : Bool → Bool → Bool → Bool → Bool → ℕ)
+    → each_five (λ a b c d e. f a b c d e == g a b c d e) ≡ true
     → (a b c d e : Bool) → f a b c d e ≡ g a b c d e
 same_for_five f g h a b c d e = eqb-true _ _ (each_five-at (λ a b c d e. f a b c d e == g a b c d e) h a b c d e)
 
@@ -46,13 +51,15 @@ abbrev pub place : Bool → Bool → Bool → Bool → Bool → ℕ
 place a b c d e = bit a + 2 * bit b + 4 * bit c + 8 * bit d + 16 * bit e
 
 place_small : (a b c d e : Bool) → place a b c d e < 32
-place_small a b c d e = ltb-true (place a b c d e) 32 (each_five-at (λ a b c d e. ltb (place a b c d e) 32) refl a b c d e)
+place_small a b c d e =
+    ltb-true (place a b c d e) 32 (each_five-at (λ a b c d e. ltb (place a b c d e) 32) refl a b c d e)
 
 pub index_small : (mask : Mask) (s : Layers) → index mask s < 32
 index_small mask s = place_small s.nd s.np s.nb (has s (further mask)) s.nm
 
 -- one set alone
-pub one_kind : (mask : Mask) (s : Layers) (bits : ℕ) → bits ≡ 2 ^ index mask s → (r : Layers) → HasKind mask (record { bits = bits }) r
+pub one_kind : (mask : Mask) (s : Layers) (bits : ℕ) → bits ≡ 2 ^ index mask s → (r : Layers)
+    → HasKind mask (record { bits = bits }) r
     → index mask r ≡ index mask s
 one_kind mask s bits e r h = elim (cases_eq (index mask r) (index mask s)) [
   | inl f ↦ f
@@ -82,7 +89,8 @@ abbrev digit : ℕ → ℕ → Bool
 digit i weight = i / weight % 2 == 1
 
 abbrev pub set_at : ℕ → Layers
-set_at i = let own = digit i 8 in record { nd = digit i 1; np = digit i 2; nc = own; nm = digit i 16; ni = own; nb = digit i 4; ng = own }
+set_at i = let own = digit i 8 in
+    record { nd = digit i 1; np = digit i 2; nc = own; nm = digit i 16; ni = own; nb = digit i 4; ng = own }
 
 own_digit : (mask : Mask) (i : ℕ) → has (set_at i) (further mask) ≡ digit i 8
 own_digit (Only NC) i = refl
@@ -93,10 +101,13 @@ own_digit Contacts i = refl
 
 from_digits : (i : ℕ) → i < 32 → place (digit i 1) (digit i 2) (digit i 4) (digit i 8) (digit i 16) ≡ i
 from_digits i l =
-    eqb-true _ i (agree_below_at (λ i. place (digit i 1) (digit i 2) (digit i 4) (digit i 8) (digit i 16) == i) (λ _. true) 32 i refl l)
+    eqb-true _ i
+    (agree_below_at (λ i. place (digit i 1) (digit i 2) (digit i 4) (digit i 8) (digit i 16) == i)
+    (λ _. true) 32 i refl l)
 
 pub index-set_at : (mask : Mask) (i : ℕ) → i < 32 → index mask (set_at i) ≡ i
-index-set_at mask i l = ap (λ b. place (digit i 1) (digit i 2) (digit i 4) b (digit i 16)) (own_digit mask i) ∙ from_digits i l
+index-set_at mask i l =
+    ap (λ b. place (digit i 1) (digit i 2) (digit i 4) b (digit i 16)) (own_digit mask i) ∙ from_digits i l
 
 -- the numbers of the sets that have a layer, as bits
 abbrev pub nd_sets : ℕ
@@ -182,7 +193,8 @@ module _ (f g h i j : Bool) (kinds after : Kinds) (steps : Steps f g h i j kinds
       one_more steps.nm _ _ t u (raised_nm j (f || a) (g || b) (h || c) (i || d) e) y
 
   abbrev raised_all : ℕ → ℕ
-  raised_all p = raised j nm_sets 16 (raised i further_sets 8 (raised h nb_sets 4 (raised g np_sets 2 (raised f nd_sets 1 p))))
+  raised_all p =
+      raised j nm_sets 16 (raised i further_sets 8 (raised h nb_sets 4 (raised g np_sets 2 (raised f nd_sets 1 p))))
 
   raised_place : (a b c d e : Bool) → raised_all (place a b c d e) ≡ place (f || a) (g || b) (h || c) (i || d) (j || e)
   raised_place a b c d e =
@@ -208,7 +220,12 @@ module _ (f g h i j : Bool) (kinds after : Kinds) (steps : Steps f g h i j kinds
       let c = (steps.nb.each d.place d.small).0 d.has in
       let b = (steps.np.each c.place c.small).0 c.has in
       let a = (steps.nd.each b.place b.small).0 b.has in
-      record { place = a.place; small = a.small; has = a.has; same = rw (← a.same, ← b.same, ← c.same, ← d.same) e.same }
+      record {
+        place = a.place;
+        small = a.small;
+        has = a.has;
+        same = rw (← a.same, ← b.same, ← c.same, ← d.same) e.same;
+      }
 
 pub has_both : (k s : Layers) (l : Layer) → has (both k s) l ≡ (has k l || has s l)
 has_both k s ND = refl
@@ -219,10 +236,14 @@ has_both k s NI = refl
 has_both k s NB = refl
 has_both k s NG = refl
 
-module _ (mask : Mask) (own : Layers) (kinds after : Kinds) (steps : Steps own.nd own.np own.nb (has own (further mask)) own.nm kinds after) where
+module _ (mask : Mask) (own : Layers) (kinds after : Kinds)
+    (steps : Steps own.nd own.np own.nb (has own (further mask)) own.nm kinds after) where
   index_both : (s : Layers) → index mask (both own s)
-      ≡ place (own.nd || s.nd) (own.np || s.np) (own.nb || s.nb) (has own (further mask) || has s (further mask)) (own.nm || s.nm)
-  index_both s = ap (λ b. place (own.nd || s.nd) (own.np || s.np) (own.nb || s.nb) b (own.nm || s.nm)) (has_both own s (further mask))
+      ≡ place (own.nd || s.nd) (own.np || s.np) (own.nb || s.nb) (has own (further mask) || has s (further mask))
+      (own.nm || s.nm)
+  index_both s =
+      ap (λ b. place (own.nd || s.nd) (own.np || s.np) (own.nb || s.nb) b (own.nm || s.nm))
+      (has_both own s (further mask))
 
   pub with_own : (s : Layers) → HasKind mask after s ↔ IsWith mask kinds own s
   with_own s = (
@@ -246,7 +267,8 @@ module _ (mask : Mask) (own : Layers) (kinds after : Kinds) (steps : Steps own.n
 module _ (n weight i : ℕ) (l : i < 32) where
   whole : bit_at (n * 2 ^ weight % 2 ^ 32) i ≡ bit_at (n * 2 ^ weight + 0) i
   whole =
-      let e : n * 2 ^ weight / 2 ^ 32 * 2 ^ 32 + n * 2 ^ weight % 2 ^ 32 ≡ n * 2 ^ weight + 0 = div-add-mod' (n * 2 ^ weight) (2 ^ 32) ∙ omega arith in
+      let e : n * 2 ^ weight / 2 ^ 32 * 2 ^ 32 + n * 2 ^ weight % 2 ^ 32 ≡ n * 2 ^ weight + 0 =
+      div-add-mod' (n * 2 ^ weight) (2 ^ 32) ∙ omega arith in
       sym (bit_at_cat_low (n * 2 ^ weight / 2 ^ 32) 32 (n * 2 ^ weight % 2 ^ 32) i l) ∙ ap (λ k. bit_at k i) e
 
   shifted_below : i < weight → bit_at (n * 2 ^ weight % 2 ^ 32) i ≡ 0
@@ -267,7 +289,8 @@ module _ (kinds : Kinds) (holders weight i : ℕ) (small : holders < 2 ^ 32) (l 
 
   others_at : (j : ℕ) → j < 32 → bit_at others j ≡ min (bit_at kinds.bits j) (1 - bit_at holders j)
   unfolding others
-  others_at j k = bit_at_and kinds.bits (bit_not w32 holders) j ∙ ap (min (bit_at kinds.bits j)) (bit_at_not w32 holders j small k)
+  others_at j k =
+      bit_at_and kinds.bits (bit_not w32 holders) j ∙ ap (min (bit_at kinds.bits j)) (bit_at_not w32 holders j small k)
 
   goes : bit_at (others * 2 ^ weight % 2 ^ 32) i ≡ 1 → IsBeside kinds true holders weight i
   goes h = elim (cases_lt i weight) [
@@ -281,7 +304,8 @@ module _ (kinds : Kinds) (holders weight i : ℕ) (small : holders < 2 ^ 32) (l 
         record { place = i - weight; small = omega arith; has = omega arith; same = omega arith }
   ]
 
-  pub is_beside : (bit_at (bit_or (bit_and kinds.bits holders) (bit_and kinds.bits (bit_not w32 holders) * 2 ^ weight % 2 ^ 32)) i ≡ 1)
+  pub is_beside : (bit_at
+      (bit_or (bit_and kinds.bits holders) (bit_and kinds.bits (bit_not w32 holders) * 2 ^ weight % 2 ^ 32)) i ≡ 1)
       ↔ IsBeside kinds true holders weight i
   unfolding others
   is_beside =
@@ -292,7 +316,13 @@ module _ (kinds : Kinds) (holders weight i : ℕ) (small : holders < 2 ^ 32) (l 
       let shift = bit_at-lt (others * 2 ^ weight % 2 ^ 32) i in (
         λ h. elim (cases_eq (bit_at (others * 2 ^ weight % 2 ^ 32) i) 1) [
           | inl e ↦ goes e
-          | inr e ↦ record { place = i; small = l; has = omega arith; same = sym (holder_stays holders weight i (omega arith)) }
+          | inr e ↦
+              record {
+                place = i;
+                small = l;
+                has = omega arith;
+                same = sym (holder_stays holders weight i (omega arith));
+              }
         ],
         λ h.
             let has = h.has in
@@ -307,7 +337,8 @@ module _ (kinds : Kinds) (holders weight i : ℕ) (small : holders < 2 ^ 32) (l 
                   let o : bit_at holders h.place ≡ 0 = omega arith in
                   let same : i ≡ h.place + weight = h.same ∙ other_goes holders weight h.place o in
                   let back : i - weight ≡ h.place = omega arith in
-                  let k = shifted others weight i l (omega arith) ∙ ap (bit_at others) back ∙ others_at h.place h.small in
+                  let k = shifted others weight i l (omega arith) ∙ ap (bit_at others) back
+                  ∙ others_at h.place h.small in
                   omega arith
             ],
       )
@@ -324,10 +355,12 @@ module _ (kinds : Kinds) (plane : ℕ) where
 
   pub share_all : bit_and kinds.bits plane ≡ kinds.bits → Share kinds plane 1
   share_all e = record {
-    each = λ i h. let f = sym (bit_at_and kinds.bits plane i) ∙ ap (λ n. bit_at n i) e in let l = bit_at-lt plane i in omega arith;
+    each = λ i h. let f = sym (bit_at_and kinds.bits plane i) ∙ ap (λ n. bit_at n i) e in let l = bit_at-lt plane i in
+        omega arith;
   }
 
-  pub share_nothing : bit_and kinds.bits plane ≢ 0 → bit_and kinds.bits plane ≢ kinds.bits → (b : ℕ) → ¬ Share kinds plane b
+  pub share_nothing : bit_and kinds.bits plane ≢ 0 → bit_and kinds.bits plane ≢ kinds.bits → (b : ℕ)
+      → ¬ Share kinds plane b
   share_nothing none all zero h = none (same_from_bits _ _ (λ i.
       let e = bit_at_and kinds.bits plane i in
       let l = bit_at-lt kinds.bits i in

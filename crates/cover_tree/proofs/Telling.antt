@@ -1,25 +1,27 @@
 -- Stretches, as cells are told to the right.
-use Rattle.std.proofs.Common.{◌≡◌, ◌≢◌, ℕ, ◌+◌, ◌<◌, ◌≤◌, Bool, true, false, inl, inr, List, [], ◌∷◌, ◌++◌, refl, sym, ◌∙◌, ap, arith}
+use Rattle.std.proofs.Common.{◌≡◌, ◌≢◌, ℕ, ◌+◌, ◌<◌, ◌≤◌, Bool, true, false, inl, inr, List, [], ◌∷◌, ◌++◌, refl, sym}
+use Rattle.std.proofs.Common.{◌∙◌, ap, arith}
 use Rattle.std.specs.Prelude.{◌&&◌, All, nat_lt}
 use Rattle.std.proofs.lemmas.Bool.{cases_lt, lt-ltb, le-ltb, ltb-true, and_parts, false≢true}
 use Rattle.std.proofs.lemmas.List.{append_assoc, append-nil}
 use Rattle.std.proofs.lemmas.List.Elements.{All-push, Contains-push, Contains-append_left}
 use Rattle.std.proofs.lemmas.List.Quantifiers.{all_pairs_push}
-use Rattle.cover_tree.specs.declared.stretch.Stretch.{Stretch}
+use Rattle.cover_tree.specs.declared.span.Span.{Span}
 use Rattle.cover_tree.specs.Telling.{IsTold}
 use Rattle.cover_tree.specs.Changing.{IsTelling, Tells, with_last}
 
 -- the cells before `stop` that are so are told
-pub record IsClosed (is : ℕ → Bool) (base told : List Stretch) (stop : ℕ) : Type 0 where
+pub record IsClosed (is : ℕ → Bool) (base told : List Span) (stop : ℕ) : Type 0 where
   pub before : IsTold base told (λ c. (c < stop) × (is c ≡ true))
   pub apart : All (λ s. s.to < stop) before.more
 
-module _ (is : ℕ → Bool) (base told : List Stretch) (last : Stretch) (end stop : ℕ) (b : IsTelling is base told last end) (o : last.to < stop)
+module _ (is : ℕ → Bool) (base told : List Span) (last : Span) (end stop : ℕ)
+    (b : IsTelling is base told last end) (o : last.to < stop)
     (n : (c : ℕ) → end ≤ c → c < stop → is c ≡ false) where
   none_after : (c : ℕ) → last.to ≤ c → c < stop → is c ≡ false
   none_after c h k = elim (cases_lt c end) [ inl m ↦ b.none c h m | inr m ↦ n c m k ]
 
-  more : List Stretch
+  more : List Span
   more = b.before.more
 
   closed_empty : last.to ≤ last.from → IsClosed is base told stop
@@ -75,7 +77,7 @@ module _ (is : ℕ → Bool) (base told : List Stretch) (last : Stretch) (end st
   ]
 
 -- cells that touch the open stretch make it longer
-pub lengthens : (told : List Stretch) (last : Stretch) (from end : ℕ) → from < end → last.to ≡ from
+pub lengthens : (told : List Span) (last : Span) (from end : ℕ) → from < end → last.to ≡ from
     → Tells (λ _. true) told told last (record { from = last.from; to = end }) from end
 lengthens told last from end h e = record {
   told = λ base is f b. let o = b.order in record {
@@ -89,7 +91,7 @@ lengthens told last from end h e = record {
 }
 
 -- and others begin the next
-pub begins : (told : List Stretch) (last : Stretch) (from end : ℕ) → from < end → last.to ≢ from
+pub begins : (told : List Span) (last : Span) (from end : ℕ) → from < end → last.to ≢ from
     → Tells (λ _. true) told (with_last told last) last (record { from = from; to = end }) from end
 begins told last from end h e = record {
   told = λ base is f b.
@@ -105,7 +107,7 @@ begins told last from end h e = record {
       };
 }
 
-pub stays : (own : ℕ → Bool) (told : List Stretch) (last : Stretch) (from end : ℕ) → from ≤ end
+pub stays : (own : ℕ → Bool) (told : List Span) (last : Span) (from end : ℕ) → from ≤ end
     → ((c : ℕ) → from ≤ c → c < end → own c ≡ false) → Tells own told told last last from end
 stays own told last from end h n = record {
   told = λ base is f b. let w = b.within in record {
@@ -118,17 +120,22 @@ stays own told last from end h n = record {
   };
 }
 
-pub in_turn : (own : ℕ → Bool) (old mid now : List Stretch) (last middle next : Stretch) (from half end : ℕ) → from ≤ half → half ≤ end
-    → Tells own old mid last middle from half → Tells own mid now middle next half end → Tells own old now last next from end
+pub in_turn : (own : ℕ → Bool) (old mid now : List Span) (last middle next : Span) (from half end : ℕ)
+    → from ≤ half → half ≤ end
+    → Tells own old mid last middle from half → Tells own mid now middle next half end
+    → Tells own old now last next from end
 in_turn own old mid now last middle next from half end h k p q = record {
   told = λ base is f b. q.told base is (λ c i j. f c (omega arith) j) (p.told base is (λ c i j. f c i (omega arith)) b);
 }
 
-pub alike : (f g : ℕ → Bool) (old now : List Stretch) (last next : Stretch) (from end : ℕ) → ((c : ℕ) → from ≤ c → c < end → g c ≡ f c)
+pub alike : (f g : ℕ → Bool) (old now : List Span) (last next : Span) (from end : ℕ)
+    → ((c : ℕ) → from ≤ c → c < end → g c ≡ f c)
     → Tells f old now last next from end → Tells g old now last next from end
-alike f g old now last next from end e p = record { told = λ base is h b. p.told base is (λ c i j. h c i j ∙ e c i j) b }
+alike f g old now last next from end e p =
+    record { told = λ base is h b. p.told base is (λ c i j. h c i j ∙ e c i j) b }
 
-pub told_same : (P Q : ℕ → Type 0) (old now : List Stretch) → ((c : ℕ) → P c → Q c) → ((c : ℕ) → Q c → P c) → IsTold old now P → IsTold old now Q
+pub told_same : (P Q : ℕ → Type 0) (old now : List Span) → ((c : ℕ) → P c → Q c) → ((c : ℕ) → Q c → P c)
+    → IsTold old now P → IsTold old now Q
 told_same P Q old now f g t = record {
   more = t.more;
   behind = t.behind;
@@ -141,10 +148,10 @@ told_same P Q old now f g t = record {
 }
 
 -- at first nothing is told
-abbrev pub blank : Stretch
+abbrev pub blank : Span
 blank = record { from = 0; to = 0 }
 
-none_told : (is : ℕ → Bool) (old : List Stretch) → IsTelling is old old blank 0
+none_told : (is : ℕ → Bool) (old : List Span) → IsTelling is old old blank 0
 none_told is old = record {
   before = record {
     more = [];
@@ -169,13 +176,16 @@ upto_in cells own c h = rw (lt-ltb c cells h) refl
 upto_out : (cells : ℕ) (own : ℕ → Bool) (c : ℕ) → cells ≤ c → (nat_lt c cells && own c) ≡ false
 upto_out cells own c h = rw (le-ltb c cells h) refl
 
-pub all_told : (own : ℕ → Bool) (old now : List Stretch) (last : Stretch) (cells : ℕ) → Tells own old now blank last 0 (0 + cells)
+pub all_told : (own : ℕ → Bool) (old now : List Span) (last : Span) (cells : ℕ)
+    → Tells own old now blank last 0 (0 + cells)
     → IsTold old (with_last now last) (λ c. (c < cells) × (own c ≡ true))
 all_told own old now last cells p =
     let is : ℕ → Bool = λ c. nat_lt c cells && own c in
-    let b : IsTelling is old now last (0 + cells) = p.told old is (λ c h k. upto_in cells own c (omega arith)) (none_told is old) in
+    let b : IsTelling is old now last (0 + cells) =
+    p.told old is (λ c h k. upto_in cells own c (omega arith)) (none_told is old) in
     let w = b.within in
-    let k = closed is old now last (0 + cells) (cells + 1) b (omega arith) (λ c h k. upto_out cells own c (omega arith)) in
+    let k = closed is old now last (0 + cells) (cells + 1) b (omega arith)
+    (λ c h k. upto_out cells own c (omega arith)) in
     told_same (λ c. (c < cells + 1) × (is c ≡ true)) (λ c. (c < cells) × (own c ≡ true)) old (with_last now last)
     (λ c q. let a = and_parts (nat_lt c cells) (own c) q.1 in (ltb-true c cells a.0, a.1))
     (λ c q. let h = q.0 in (omega arith, upto_in cells own c h ∙ q.1))

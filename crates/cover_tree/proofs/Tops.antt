@@ -1,5 +1,6 @@
 -- The top of a cell, by the halves of a part and by its nodes.
-use Rattle.std.proofs.Common.{◌≡◌, ℕ, zero, suc, ◌+◌, ◌-◌, ◌*◌, ◌/◌, ◌<◌, ◌≤◌, List, inl, inr, refl, sym, ◌∙◌, ap, max, arith}
+use Rattle.std.proofs.Common.{◌≡◌, ℕ, zero, suc, ◌+◌, ◌-◌, ◌*◌, ◌/◌, ◌<◌, ◌≤◌, List, inl, inr, refl, sym, ◌∙◌, ap, max}
+use Rattle.std.proofs.Common.{arith}
 use Rattle.std.proofs.lemmas.Bool.{cases_lt, lt-ltb, le-ltb}
 use Rattle.cover_tree.specs.declared.part.Part.{Part}
 use Rattle.cover_tree.specs.Parts.{top_at, left_half, right_half, top_to, top_of, IsSmall}
@@ -30,8 +31,12 @@ same_depth (suc d) zero s p c h k = at_leaf (suc d) s p c (omega arith) ∙ sym 
 same_depth (suc d) (suc e) s p c h k = elim (cases_lt p.width 2) [
   | inl l ↦ at_leaf (suc d) s p c l ∙ sym (at_leaf (suc e) s p c l)
   | inr l ↦ elim (cases_lt c (p.base + p.width / 2)) [
-    | inl m ↦ at_left d s p c l m ∙ ap (max (top_at s p.at)) (same_depth d e s (left_half p) c (omega arith) (omega arith)) ∙ sym (at_left e s p c l m)
-    | inr m ↦ at_right d s p c l m ∙ ap (max (top_at s p.at)) (same_depth d e s (right_half p) c (omega arith) (omega arith)) ∙ sym (at_right e s p c l m)
+    | inl m ↦ at_left d s p c l m
+        ∙ ap (max (top_at s p.at)) (same_depth d e s (left_half p) c (omega arith) (omega arith))
+        ∙ sym (at_left e s p c l m)
+    | inr m ↦ at_right d s p c l m
+        ∙ ap (max (top_at s p.at)) (same_depth d e s (right_half p) c (omega arith) (omega arith))
+        ∙ sym (at_right e s p c l m)
   ]
 ]
 
@@ -48,7 +53,8 @@ pub top_right : (s : List ℕ) (p : Part) (c : ℕ) → 2 ≤ p.width → p.base
     → top_of s p c ≡ max (top_at s p.at) (top_of s (right_half p) c)
 top_right s p c h k =
     same_depth p.width (suc p.width) s p c (omega arith) (omega arith) ∙ at_right p.width s p c h k
-    ∙ ap (max (top_at s p.at)) (same_depth p.width (p.width - p.width / 2) s (right_half p) c (omega arith) (omega arith))
+    ∙ ap (max (top_at s p.at))
+    (same_depth p.width (p.width - p.width / 2) s (right_half p) c (omega arith) (omega arith))
 
 -- the nodes of the part are the same
 pub record SamePart (s t : List ℕ) (p : Part) : Type 0 where
@@ -63,21 +69,26 @@ same_right s t p h e = record { same = λ k l m. e.same k (omega arith) (omega a
 same_to : (d : ℕ) (s t : List ℕ) (p : Part) (c : ℕ) → 0 < p.width → SamePart s t p → top_to d t p c ≡ top_to d s p c
 same_to zero s t p c v e =
     zero_top t p c ∙ e.same p.at (omega arith) (omega arith) ∙ sym (zero_top s p c)
-same_to (suc d) s t p c v e = let f : top_at t p.at ≡ top_at s p.at = e.same p.at (omega arith) (omega arith) in elim (cases_lt p.width 2) [
-  | inl l ↦ at_leaf (suc d) t p c l ∙ f ∙ sym (at_leaf (suc d) s p c l)
-  | inr l ↦ elim (cases_lt c (p.base + p.width / 2)) [
-    | inl m ↦ at_left d t p c l m ∙ ap (λ n. max n (top_to d t (left_half p) c)) f
-        ∙ ap (max (top_at s p.at)) (same_to d s t (left_half p) c (omega arith) (same_left s t p l e)) ∙ sym (at_left d s p c l m)
-    | inr m ↦ at_right d t p c l m ∙ ap (λ n. max n (top_to d t (right_half p) c)) f
-        ∙ ap (max (top_at s p.at)) (same_to d s t (right_half p) c (omega arith) (same_right s t p l e)) ∙ sym (at_right d s p c l m)
-  ]
-]
+same_to (suc d) s t p c v e = let f : top_at t p.at ≡ top_at s p.at = e.same p.at (omega arith) (omega arith) in
+    elim (cases_lt p.width 2) [
+      | inl l ↦ at_leaf (suc d) t p c l ∙ f ∙ sym (at_leaf (suc d) s p c l)
+      | inr l ↦ elim (cases_lt c (p.base + p.width / 2)) [
+        | inl m ↦ at_left d t p c l m ∙ ap (λ n. max n (top_to d t (left_half p) c)) f
+            ∙ ap (max (top_at s p.at)) (same_to d s t (left_half p) c (omega arith) (same_left s t p l e))
+            ∙ sym (at_left d s p c l m)
+        | inr m ↦ at_right d t p c l m ∙ ap (λ n. max n (top_to d t (right_half p) c)) f
+            ∙ ap (max (top_at s p.at)) (same_to d s t (right_half p) c (omega arith) (same_right s t p l e))
+            ∙ sym (at_right d s p c l m)
+      ]
+    ]
 
 pub same_top : (s t : List ℕ) (p : Part) (c : ℕ) → 0 < p.width → SamePart s t p → top_of t p c ≡ top_of s p c
 same_top s t p c v e = same_to p.width s t p c v e
 
 pub small_left : (p : Part) → 2 ≤ p.width → IsSmall p → IsSmall (left_half p)
-small_left p h s = let a = s.places in let b = s.cells in record { some = omega arith; places = omega arith; cells = omega arith }
+small_left p h s = let a = s.places in let b = s.cells in
+    record { some = omega arith; places = omega arith; cells = omega arith }
 
 pub small_right : (p : Part) → 2 ≤ p.width → IsSmall p → IsSmall (right_half p)
-small_right p h s = let a = s.places in let b = s.cells in record { some = omega arith; places = omega arith; cells = omega arith }
+small_right p h s = let a = s.places in let b = s.cells in
+    record { some = omega arith; places = omega arith; cells = omega arith }

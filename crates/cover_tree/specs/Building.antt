@@ -7,7 +7,8 @@ use Rattle.mask_runs.specs.Runs.{AreRuns}
 abbrev pub upto : ℕ → (ℕ → ℕ) → ℕ → ℕ
 upto end row c = if nat_lt c end then row c else 0
 
--- the complete runs are those of the row up to the open one, whose cells have its colour, and the cell before them another
+-- the complete runs are those of the row up to the open one, whose cells have its colour, and the cell before them
+-- another
 pub record IsBuilt (row : ℕ → ℕ) (runs : List Run) (last : Run) : Type 0 where
   pub complete : AreRuns (upto last.left row) runs
   pub order : last.left ≤ last.right
@@ -23,4 +24,5 @@ closed runs last = if last.colour == 0 then runs else runs ++ last ∷ []
 -- the runs are built up to a cell in any row that has these colours there, where they were built before in that row
 pub record Continues (colour : ℕ → ℕ) (old now : List Run) (last next : Run) (end : ℕ) : Type 0 where
   pub right : next.right ≡ end
-  pub built : (row : ℕ → ℕ) → ((c : ℕ) → last.right ≤ c → c < end → row c ≡ colour c) → IsBuilt row old last → IsBuilt row now next
+  pub built : (row : ℕ → ℕ) → ((c : ℕ) → last.right ≤ c → c < end → row c ≡ colour c) → IsBuilt row old last
+      → IsBuilt row now next

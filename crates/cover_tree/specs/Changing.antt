@@ -1,13 +1,13 @@
 -- The changes of the colours of a part's cells, from a row to the next, and what is told of them on the way.
-use Rattle.std.specs.Prelude.{◌≡◌, ◌==◌, ◌&&◌, ℕ, ◌+◌, ◌<◌, ◌≤◌, Bool, true, false, not, List, [], ◌∷◌, ◌++◌, All, nat_lt, nat_le, if◌then◌else◌}
+use Rattle.std.specs.Prelude.{◌≡◌, ◌==◌, ◌&&◌, ℕ, ◌+◌, ◌<◌, ◌≤◌, Bool, true, false, not, List, [], ◌∷◌, ◌++◌, All}
+use Rattle.std.specs.Prelude.{nat_lt, nat_le, if◌then◌else◌}
 use Rattle.cover_tree.specs.declared.changes.Known.{Known}
 use Rattle.cover_tree.specs.declared.look.Line.{Line}
 use Rattle.mask_runs.specs.declared.mask.Layers.{Layers}
 use Rattle.cover_tree.specs.declared.kinds.Effect.{Effect}
 use Rattle.cover_tree.specs.declared.kinds.Effect.TheVariants.{Nowhere, Everywhere, Somewhere}
 use Rattle.cover_tree.specs.declared.part.Part.{Part}
-use Rattle.cover_tree.specs.declared.part.Span.{Span}
-use Rattle.cover_tree.specs.declared.stretch.Stretch.{Stretch}
+use Rattle.cover_tree.specs.declared.span.Span.{Span}
 use Rattle.cover_tree.specs.declared.trees.Trees.{Trees}
 use Rattle.cover_tree.specs.Parts.{InPart, left_half, right_half}
 use Rattle.cover_tree.specs.Looking.{seen, part_colour}
@@ -15,7 +15,8 @@ use Rattle.cover_tree.specs.Telling.{IsTold}
 
 -- whether the colour of the part's cell is another in the next row
 abbrev pub differs : Trees → Line → Part → Known → ℕ → Bool
-differs t line p known c = not (part_colour line.mask t line.row p known.before c == part_colour line.mask t (line.row + 1) p known.after c)
+differs t line p known c =
+    not (part_colour line.mask t line.row p known.before c == part_colour line.mask t (line.row + 1) p known.after c)
 
 -- whether it is, and the cell is in the span
 abbrev pub differs_in : Span → Trees → Line → Part → Known → ℕ → Bool
@@ -34,11 +35,11 @@ pub record IsHandedDown (t : Trees) (row : ℕ) (p : Part) (known full : Layers)
   pub leaf : (c : ℕ) → p.width < 2 → InPart p c → seen t row p known c ≡ full
 
 -- the stretches with the open one
-abbrev pub with_last : List Stretch → Stretch → List Stretch
+abbrev pub with_last : List Span → Span → List Span
 with_last told last = if nat_lt last.from last.to then told ++ last ∷ [] else told
 
 -- the cells up to `end` that are so are told, but for those of the open stretch, after which there are none
-pub record IsTelling (is : ℕ → Bool) (base told : List Stretch) (last : Stretch) (end : ℕ) : Type 0 where
+pub record IsTelling (is : ℕ → Bool) (base told : List Span) (last : Span) (end : ℕ) : Type 0 where
   pub before : IsTold base told (λ c. (c < last.from) × (is c ≡ true))
   pub apart : All (λ s. s.to < last.from) before.more
   pub order : last.from ≤ last.to
@@ -47,6 +48,6 @@ pub record IsTelling (is : ℕ → Bool) (base told : List Stretch) (last : Stre
   pub none : (c : ℕ) → last.to ≤ c → c < end → is c ≡ false
 
 -- where the cells up to `from` were told, those up to `end` are, if they are so as `own` says
-pub record Tells (own : ℕ → Bool) (old now : List Stretch) (last next : Stretch) (from end : ℕ) : Type 0 where
-  pub told : (base : List Stretch) (is : ℕ → Bool) → ((c : ℕ) → from ≤ c → c < end → is c ≡ own c)
+pub record Tells (own : ℕ → Bool) (old now : List Span) (last next : Span) (from end : ℕ) : Type 0 where
+  pub told : (base : List Span) (is : ℕ → Bool) → ((c : ℕ) → from ≤ c → c < end → is c ≡ own c)
       → IsTelling is base old last from → IsTelling is base now next end

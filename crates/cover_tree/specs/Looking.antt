@@ -45,8 +45,10 @@ own_at t row k = record {
 -- the halves of the part have its colours where these layers cover them as wholes
 pub record IsHalved (mask : Mask) (t : Trees) (row : ℕ) (p : Part) (known full : Layers) : Type 0 where
   pub wide : 2 ≤ p.width
-  pub left : (c : ℕ) → InPart (left_half p) c → part_colour mask t row (left_half p) full c ≡ part_colour mask t row p known c
-  pub right : (c : ℕ) → InPart (right_half p) c → part_colour mask t row (right_half p) full c ≡ part_colour mask t row p known c
+  pub left : (c : ℕ) → InPart (left_half p) c
+      → part_colour mask t row (left_half p) full c ≡ part_colour mask t row p known c
+  pub right : (c : ℕ) → InPart (right_half p) c
+      → part_colour mask t row (right_half p) full c ≡ part_colour mask t row p known c
 
 -- the cells of the part have this colour, or those of its halves tell
 abbrev pub IsSight : Mask → Trees → ℕ → Part → Layers → Sight → Type 0

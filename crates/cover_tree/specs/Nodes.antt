@@ -1,4 +1,5 @@
--- Nodes of a tree: up to which row each of some layers covers a part as a whole, and a note. The layers are ND, NP, NB, NM
+-- Nodes of a tree: up to which row each of some layers covers a part as a whole, and a note. The layers are ND, NP, NB,
+-- NM
 -- and a further one.
 use Rattle.std.specs.Prelude.{◌&&◌, ℕ, Bool, true, false, nat_lt, if◌then◌else◌}
 use Rattle.lam_geom.specs.declared.layer.Layer.{Layer}

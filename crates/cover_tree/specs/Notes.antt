@@ -16,7 +16,8 @@ use Rattle.cover_tree.specs.Looking.{seen}
 abbrev pub note_at : Trees → ℕ → Note
 note_at t k = (node_at t k).note
 
--- in the rows from that of the trees up to the note's end each cell of the part has the layers of the first of these rows,
+-- in the rows from that of the trees up to the note's end each cell of the part has the layers of the first of these
+-- rows,
 -- and they are one of the kinds
 pub record IsNoted (mask : Mask) (t : Trees) (q : Part) (n : Note) : Type 0 where
   pub steady : (row c : ℕ) → t.since ≤ row → row < n.until → InPart q c → seen t row q bare c ≡ seen t t.since q bare c

@@ -1,8 +1,9 @@
 -- Trees over cells. A part stands for the cells from its base on, and takes twice as many nodes as it has cells, less
 -- one: its own node, then those of its left half, then those of its right half.
-use Rattle.std.specs.Prelude.{◌≡◌, ℕ, zero, suc, ◌+◌, ◌-◌, ◌*◌, ◌/◌, ◌^◌, ◌<◌, ◌≤◌, ◌⊎◌, List, get_or, max, min, nat_lt, if◌then◌else◌}
+use Rattle.std.specs.Prelude.{◌≡◌, ℕ, zero, suc, ◌+◌, ◌-◌, ◌*◌, ◌/◌, ◌^◌, ◌<◌, ◌≤◌, ◌⊎◌, List, get_or, max, min, nat_lt}
+use Rattle.std.specs.Prelude.{if◌then◌else◌}
 use Rattle.cover_tree.specs.declared.part.Part.{Part}
-use Rattle.cover_tree.specs.declared.part.Span.{Span}
+use Rattle.cover_tree.specs.declared.span.Span.{Span}
 
 -- up to which row the part whose node is at this place is covered as a whole
 abbrev pub top_at : List ℕ → ℕ → ℕ

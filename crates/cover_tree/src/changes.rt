@@ -8,8 +8,8 @@ ghost use Rattle.cover_tree.specs.Changing.{IsChange, IsHandedDown, Tells, diffe
 
 use crate::kinds::{Effect, both};
 use crate::look::{Line, is_steady, kinds_at};
-use crate::part::{Part, Span};
-use crate::stretch::Stretch;
+use crate::part::Part;
+use crate::span::Span;
 use crate::trees::Trees;
 use mask_runs::Layers;
 use mp_base::NoMemory;
@@ -30,9 +30,9 @@ pub(crate) fn tell_part(
     span: Span,
     part: Part,
     known: Known,
-    last: Stretch,
-    told: &mut Vec<Stretch>,
-) -> Result<Stretch, NoMemory>
+    last: Span,
+    told: &mut Vec<Span>,
+) -> Result<Span, NoMemory>
     requires small { IsSmall part }
     requires room { line.row + 1 < 2 ^ 32 }
     requires noted { AreNoted line.mask trees.now part }
@@ -50,7 +50,7 @@ pub(crate) fn tell_part(
 }
 
 /// Adds the open stretch, unless it is empty.
-pub(crate) fn tell_last(told: &mut Vec<Stretch>, last: Stretch) -> Result<(), AllocError>
+pub(crate) fn tell_last(told: &mut Vec<Span>, last: Span) -> Result<(), AllocError>
     ensures { IfOk result (λ _. told.new.items ≡ with_last told.old.items last) }
 {
     if last.from < last.to {
@@ -60,15 +60,15 @@ pub(crate) fn tell_last(told: &mut Vec<Stretch>, last: Stretch) -> Result<(), Al
 }
 
 // Takes in the cells from `from` up to `to`, and gives the next open stretch.
-fn extend(told: &mut Vec<Stretch>, last: Stretch, from: u32, to: u32) -> Result<Stretch, NoMemory>
+fn extend(told: &mut Vec<Span>, last: Span, from: u32, to: u32) -> Result<Span, NoMemory>
     requires { from < to }
     ensures { IfOk result (λ next. Tells (λ _. true) told.old.items told.new.items last next from to) }
 {
     if last.to == from {
-        return Ok(Stretch { to, ..last });
+        return Ok(Span { to, ..last });
     }
     tell_last(told, last)?;
-    Ok(Stretch { from, to })
+    Ok(Span { from, to })
 }
 
 // Whether none or all of the part's cells are in the span and change their colours.

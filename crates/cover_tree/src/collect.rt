@@ -7,7 +7,8 @@ ghost use Rattle.cover_tree.specs.Looking.{part_colour};
 ghost use Rattle.cover_tree.specs.Building.{Continues, closed};
 
 use crate::look::{Line, Sight, look};
-use crate::part::{Part, Span};
+use crate::part::Part;
+use crate::span::Span;
 use crate::trees::Trees;
 use mask_runs::{Layers, Run};
 use mp_base::NoMemory;

@@ -11,9 +11,9 @@ mod note;
 mod part;
 mod planes;
 mod raise;
-mod stretch;
+mod span;
 mod tree;
 mod trees;
 
-pub use stretch::Stretch;
+pub use span::Span;
 pub use tree::CoverTree;

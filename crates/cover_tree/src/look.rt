@@ -8,7 +8,8 @@ ghost use Rattle.cover_tree.specs.Looking.{IsSight, seen};
 ghost use Rattle.cover_tree.specs.Notes.{AreNoted};
 
 use crate::kinds::{Kinds, both};
-use crate::part::{Part, Span};
+use crate::part::Part;
+use crate::span::Span;
 use crate::trees::Trees;
 use mask_runs::{Layers, Mask};
 

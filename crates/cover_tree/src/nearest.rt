@@ -8,7 +8,8 @@ ghost use Rattle.cover_tree.specs.Going.{EndsAt, StartsAt};
 
 use crate::kinds::both;
 use crate::look::{Line, Sight, look};
-use crate::part::{Part, Span};
+use crate::part::Part;
+use crate::span::Span;
 use crate::trees::Trees;
 use mask_runs::Layers;
 

@@ -1,4 +1,4 @@
-//! Parts of a tree, and spans of cells.
+//! Parts of a tree.
 
 /// A part of a tree: where its nodes begin, and the cells that it stands for, `width` of them from `base` on.
 #[derive(Clone, Copy)]
@@ -51,32 +51,5 @@ impl Part {
         ensures { result ≡ self.base + self.width }
     {
         self.base + self.width
-    }
-}
-
-/// The cells from `from` up to `to`.
-#[derive(Clone, Copy)]
-pub(crate) struct Span {
-    pub from: u32,
-    pub to: u32,
-}
-
-impl Span {
-    ghost use Rattle.std.specs.Prelude.{◌≡◌, ◌↔◌, ◌+◌, ◌≤◌, IsTrue};
-    ghost use Rattle.cover_tree.specs.Parts.{IsSmall, clamped};
-
-    /// The cell of the span that is nearest to a cell, or its end.
-    pub fn clamped(self, cell: u32) -> u32
-        ensures { result ≡ clamped self cell }
-    {
-        self.from.max(cell.min(self.to))
-    }
-
-    /// Whether all cells of a part are in the span.
-    pub fn has(self, part: Part) -> bool
-        requires { IsSmall part }
-        ensures { IsTrue result ↔ ((self.from ≤ part.base) × (part.base + part.width ≤ self.to)) }
-    {
-        self.from <= part.base && part.end() <= self.to
     }
 }

@@ -7,7 +7,8 @@ ghost use Rattle.cover_tree.specs.Parts.{IsSmall, IsPartRaised};
 ghost use Rattle.cover_tree.specs.Layered.{tree};
 ghost use Rattle.cover_tree.specs.Notes.{HasPart, AreNoted, IsOnlyIn};
 
-use crate::part::{Part, Span};
+use crate::part::Part;
+use crate::span::Span;
 use crate::trees::Trees;
 use lam_geom::Layer;
 

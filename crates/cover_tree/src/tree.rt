@@ -6,9 +6,9 @@ use crate::changes::{Known, tell_last, tell_part};
 use crate::collect::{close, collect_part};
 use crate::look::Line;
 use crate::nearest::{colour_at, end_of, start_of};
-use crate::part::{Part, Span};
+use crate::part::Part;
 use crate::raise::raise_part;
-use crate::stretch::Stretch;
+use crate::span::Span;
 use crate::trees::Trees;
 use lam_geom::Layer;
 use mask_runs::{Layers, Mask, Run};
@@ -100,7 +100,7 @@ impl CoverTree {
         gained: Layers,
         from: u32,
         to: u32,
-        changed: &mut Vec<Stretch>,
+        changed: &mut Vec<Span>,
     ) -> Result<(), NoMemory>
         requires room { row + 1 < 2 ^ 32 }
         requires within { to ≤ (cover_of self.now).cells }
@@ -116,7 +116,7 @@ impl CoverTree {
             after: gained,
         };
         let root = Part::root(self.cells);
-        let blank = Stretch { from: 0, to: 0 };
+        let blank = Span { from: 0, to: 0 };
         let last = tell_part(&self.trees, line, span, root, known, blank, changed)?;
         tell_last(changed, last)?;
         Ok(())

@@ -1,5 +1,6 @@
 -- The law of a place and its cell.
-use Rattle.std.proofs.Common.{ℕ, zero, suc, ◌≡◌, ◌+◌, ◌-◌, ◌<◌, ◌≤◌, ◌⊎◌, ◌↔◌, List, [], ◌∷◌, true, false, inl, inr, sym, ◌∙◌, subst, arith, length, get_or, eq-or-lt_of_le}
+use Rattle.std.proofs.Common.{ℕ, zero, suc, ◌≡◌, ◌+◌, ◌-◌, ◌<◌, ◌≤◌, ◌⊎◌, ◌↔◌, List, [], ◌∷◌, true, false, inl, inr}
+use Rattle.std.proofs.Common.{sym, ◌∙◌, subst, arith, length, get_or, eq-or-lt_of_le}
 use Rattle.std.proofs.lemmas.List.{get_or_default}
 use Rattle.std.proofs.lemmas.List.Elements.{All-from_recursion}
 use Rattle.std.proofs.lemmas.List.Kept.{AllPairs-cons, Contains-dedup, Contains-from_dedup, IsStrictlySortedBy-dedup}
@@ -67,8 +68,10 @@ pub one_cell : (ms : List ℤ) (z : ℤ) (c d : ℕ) → InCell ms z c → InCel
 one_cell ms z c d h g =
     elim (cases_order c d) [
       | inl e ↦ e
-      | inr (inl l) ↦ let a = h.above c (omega arith) (let w = g.within in omega arith) in let b = g.below c l in absurd (omega (arith, ints))
-      | inr (inr l) ↦ let a = g.above d (omega arith) (let w = h.within in omega arith) in let b = h.below d l in absurd (omega (arith, ints))
+      | inr (inl l) ↦ let a = h.above c (omega arith) (let w = g.within in omega arith) in let b = g.below c l in
+          absurd (omega (arith, ints))
+      | inr (inr l) ↦ let a = g.above d (omega arith) (let w = h.within in omega arith) in let b = h.below d l in
+          absurd (omega (arith, ints))
     ]
 
 pub cell_is : (ms : List ℤ) (z : ℤ) (c : ℕ) → Ascending ms → InCell ms z c → cell_of ms z ≡ c
@@ -80,7 +83,8 @@ cells_rise ms x z up l =
     let h = in_cell ms x up in
     let g = in_cell ms z up in
     elim (cases_lt (cell_of ms z) (cell_of ms x)) [
-      | inl m ↦ let a = g.above (cell_of ms z) (omega arith) (let w = h.within in omega arith) in let b = h.below (cell_of ms z) m in absurd (omega (arith, ints))
+      | inl m ↦ let a = g.above (cell_of ms z) (omega arith) (let w = h.within in omega arith) in
+          let b = h.below (cell_of ms z) m in absurd (omega (arith, ints))
       | inr m ↦ m
     ]
 
@@ -117,7 +121,9 @@ at_cell ms z up zero h = inl (cell_is ms (z +ℤ negsuc 0) 0 up (record {
   below = λ k l. absurd (omega arith);
   above = λ k l m. let a = h.above k l m in omega (arith, ints);
 }))
-at_cell ms z up (suc k) h = by_lt_z {P = (cell_of ms (z +ℤ negsuc 0) ≡ suc k) ⊎ (0 < suc k) × (cell_of ms (z +ℤ negsuc 0) + 1 ≡ suc k) × (start_of ms (suc k) ≡ z)} (get_or ms k (pos 0)) z
+at_cell ms z up (suc k) h =
+    by_lt_z {P = (cell_of ms (z +ℤ negsuc 0) ≡ suc k) ⊎ (0 < suc k) × (cell_of ms (z +ℤ negsuc 0) + 1 ≡ suc k)
+    × (start_of ms (suc k) ≡ z)} (get_or ms k (pos 0)) z
     (λ l. inl (cell_is ms (z +ℤ negsuc 0) (suc k) up (record {
       within = h.within;
       below = λ j g. elim (eq-or-lt_of_le {n = j} {m = k} (omega arith)) [
@@ -142,7 +148,8 @@ at_cell ms z up (suc k) h = by_lt_z {P = (cell_of ms (z +ℤ negsuc 0) ≡ suc k
 
 -- the place before has the same cell, or the place is a mark and begins the next
 pub step_back : (ms : List ℤ) (z : ℤ) → Ascending ms
-    → (cell_of ms (z +ℤ negsuc 0) ≡ cell_of ms z) ⊎ (0 < cell_of ms z) × (cell_of ms (z +ℤ negsuc 0) + 1 ≡ cell_of ms z) × (start_of ms (cell_of ms z) ≡ z)
+    → (cell_of ms (z +ℤ negsuc 0) ≡ cell_of ms z) ⊎ (0 < cell_of ms z)
+    × (cell_of ms (z +ℤ negsuc 0) + 1 ≡ cell_of ms z) × (start_of ms (cell_of ms z) ≡ z)
 step_back ms z up = at_cell ms z up (cell_of ms z) (in_cell ms z up)
 
 -- the place where the marks cease to be at or before a place counts them
@@ -171,10 +178,14 @@ rises (x ∷ xs) h i j d l m = AllPairs-cons (λ a b. a <ℤ b) x xs
     (All-from_recursion (λ b. x <ℤ b) xs (weaker x xs h.0)) (rises xs h.1) i j d l m
 
 pub sorted_rises : (xs ys : List ℤ) → IsSorted int_cmp xs → ys ≡ dedup int_eq xs → Ascending ys
-sorted_rises xs ys h e = subst Ascending (sym e) (rises (dedup int_eq xs) (IsStrictlySortedBy-dedup int_cmp_total (λ x y. grind (arith, ints, nat_tests)) xs h))
+sorted_rises xs ys h e =
+    subst Ascending (sym e)
+    (rises (dedup int_eq xs) (IsStrictlySortedBy-dedup int_cmp_total (λ x y. grind (arith, ints, nat_tests)) xs h))
 
-pub same_marks : (old xs ys : List ℤ) (z : ℤ) → IsPermutation old xs → ys ≡ dedup int_eq xs → Contains old z ↔ Contains ys z
+pub same_marks : (old xs ys : List ℤ) (z : ℤ) → IsPermutation old xs → ys ≡ dedup int_eq xs
+    → Contains old z ↔ Contains ys z
 same_marks old xs ys z p e = (
-  λ h. rw e (Contains-dedup int_eq_equiv (λ x y t. grind (arith, ints, nat_tests)) xs z (Contains-permutation old xs z p h)),
+  λ h. rw e
+      (Contains-dedup int_eq_equiv (λ x y t. grind (arith, ints, nat_tests)) xs z (Contains-permutation old xs z p h)),
   λ h. Contains-permutation xs old z (IsPermutation-sym old xs p) (Contains-from_dedup int_eq xs z (rw e at h)),
 )

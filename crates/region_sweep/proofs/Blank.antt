@@ -1,10 +1,12 @@
 -- Rectangles without the layers that the mask needs.
-use Rattle.std.proofs.Common.{ℕ, ◌≡◌, List, [], true, false, true≢false, None, Some, Option, ◌∷◌, refl, sym, ◌∙◌, subst, arith, length}
+use Rattle.std.proofs.Common.{ℕ, ◌≡◌, List, [], true, false, true≢false, None, Some, Option, ◌∷◌, refl, sym, ◌∙◌, subst}
+use Rattle.std.proofs.Common.{arith, length}
 use Rattle.std.specs.Prelude.{ℤ, All}
 use Rattle.std.specs.List.{AllZip}
 use Rattle.std.proofs.Math.ListN.{replicate}
 use Rattle.std.proofs.lemmas.Int.{ints}
 use Rattle.std.proofs.lemmas.List.Elements.{All-contains}
+use Rattle.std.proofs.lemmas.Bool.{false_from_ne_true}
 use Rattle.lam_geom.specs.declared.layer.Layer.{Layer}
 use Rattle.lam_geom.specs.declared.rect.Rect.{Rect}
 use Rattle.lam_geom.specs.declared.place.Point.{Point}
@@ -14,30 +16,34 @@ use Rattle.mask_runs.specs.Colours.{has, needs, Sees, HasColour}
 use Rattle.mask_runs.specs.Laws.{BlankWithoutNeeded}
 use Rattle.region_sweep.specs.declared.tile.Tile.{Tile}
 use Rattle.region_sweep.specs.Tiles.{AreTiles, AreWhole, IsTileOf}
-use Rattle.region_sweep.proofs.Painting.{not_true}
 use Rattle.region_sweep.proofs.Squares.{covered_by, layers_of}
 
 -- no rectangle has a layer that the mask needs
 abbrev Lacks : Mask → List Rect → Type 0
 Lacks mask shapes = All (λ r. needs mask r.layer ≡ false) shapes
 
-no_layer : (mask : Mask) (shapes : List Rect) (x y : ℤ) (s : Layers) (l : Layer) → Lacks mask shapes → Sees shapes x y s → needs mask l ≡ true
+no_layer : (mask : Mask) (shapes : List Rect) (x y : ℤ) (s : Layers) (l : Layer) → Lacks mask shapes
+    → Sees shapes x y s → needs mask l ≡ true
     → has s l ≡ false
-no_layer mask shapes x y s l none sees need = not_true (has s l) (λ e.
+no_layer mask shapes x y s l none sees need = false_from_ne_true (has s l) (λ e.
     let r = covered_by shapes l x y ((sees.each l).0 e) in
     let lacks : needs mask r.0.layer ≡ false = All-contains (λ q. needs mask q.layer ≡ false) shapes r.0 none r.1 in
     true≢false (sym need ∙ subst (λ m. needs mask m ≡ false) r.2.same lacks))
 
 -- no square has a colour
-no_colour : BlankWithoutNeeded → (mask : Mask) (shapes : List Rect) (k : ℕ) (x y : ℤ) → Lacks mask shapes → HasColour shapes mask k x y → k ≡ 0
-no_colour law mask shapes k x y none h = sym h.same ∙ law mask h.layers (λ l need. no_layer mask shapes x y h.layers l none h.sees need)
+no_colour : BlankWithoutNeeded → (mask : Mask) (shapes : List Rect) (k : ℕ) (x y : ℤ) → Lacks mask shapes
+    → HasColour shapes mask k x y → k ≡ 0
+no_colour law mask shapes k x y none h =
+    sym h.same ∙ law mask h.layers (λ l need. no_layer mask shapes x y h.layers l none h.sees need)
 
-blank_square : BlankWithoutNeeded → (mask : Mask) (shapes : List Rect) (x y : ℤ) → Lacks mask shapes → HasColour shapes mask 0 x y
+blank_square : BlankWithoutNeeded → (mask : Mask) (shapes : List Rect) (x y : ℤ) → Lacks mask shapes
+    → HasColour shapes mask 0 x y
 blank_square law mask shapes x y none =
     let s = layers_of shapes x y in
     record { layers = s.0; sees = s.1; same = law mask s.0 (λ l need. no_layer mask shapes x y s.0 l none s.1 need) }
 
-pub blank_tiles : BlankWithoutNeeded → (mask : Mask) (shapes : List Rect) (tiles : List Tile) → Lacks mask shapes → tiles ≡ [] → AreTiles shapes mask tiles
+pub blank_tiles : BlankWithoutNeeded → (mask : Mask) (shapes : List Rect) (tiles : List Tile) → Lacks mask shapes
+    → tiles ≡ [] → AreTiles shapes mask tiles
 blank_tiles law mask shapes tiles none e = subst (AreTiles shapes mask) (sym e) (record {
   each = λ k d a. absurd (omega arith);
   all = λ t is.
@@ -48,12 +54,14 @@ blank_tiles law mask shapes tiles none e = subst (AreTiles shapes mask) (sym e) 
   ascending = λ i j d a b. absurd (omega arith);
 })
 
-pub blank_whole : BlankWithoutNeeded → (mask : Mask) (shapes : List Rect) (tiles : List Tile) → Lacks mask shapes → AreWhole shapes mask tiles
+pub blank_whole : BlankWithoutNeeded → (mask : Mask) (shapes : List Rect) (tiles : List Tile) → Lacks mask shapes
+    → AreWhole shapes mask tiles
 blank_whole law mask shapes tiles none = record {
   tile = λ k x y some h. let z = no_colour law mask shapes k x y none h in absurd (omega arith);
 }
 
-pub blank_found : BlankWithoutNeeded → (mask : Mask) (shapes : List Rect) (tiles : List Tile) (places : List Point) (found : List (Option ℕ))
+pub blank_found : BlankWithoutNeeded
+    → (mask : Mask) (shapes : List Rect) (tiles : List Tile) (places : List Point) (found : List (Option ℕ))
     → Lacks mask shapes → AllZip (λ p f. f ≡ None) places found → AllZip (IsTileOf shapes mask tiles) places found
 blank_found law mask shapes tiles [] [] none h = tt
 blank_found law mask shapes tiles [] (f ∷ fs) none h = h
@@ -64,7 +72,8 @@ blank_found law mask shapes tiles (p ∷ ps) (f ∷ fs) none h = (
 )
 
 -- no number is a clone of none
-pub only_none : (IsClone : Option ℕ → Type 0) → ((n : ℕ) → IsClone (Some n) → ⊥) → (answer : Option ℕ) → IsClone answer → answer ≡ None
+pub only_none : (IsClone : Option ℕ → Type 0) → ((n : ℕ) → IsClone (Some n) → ⊥) → (answer : Option ℕ) → IsClone answer
+    → answer ≡ None
 only_none IsClone never None h = refl
 only_none IsClone never (Some n) h = absurd (never n h)
 
@@ -72,5 +81,6 @@ none_of : (places : List Point) → AllZip (λ p (f : Option ℕ). f ≡ None) p
 none_of [] = tt
 none_of (p ∷ ps) = (refl, none_of ps)
 
-pub none_found : (places : List Point) (found : List (Option ℕ)) → found ≡ replicate (length places) None → AllZip (λ p f. f ≡ None) places found
+pub none_found : (places : List Point) (found : List (Option ℕ)) → found ≡ replicate (length places) None
+    → AllZip (λ p f. f ≡ None) places found
 none_found places found e = subst (AllZip (λ p f. f ≡ None) places) (sym e) (none_of places)

@@ -34,7 +34,9 @@ cut_where ms P D z by same =
 
 pub cut_left : (ms : List ℤ) (P : ℤ → Type 0) (D : ℕ → Type 0) (a b : ℤ) → ByCell ms P D → IsLongest P a b → IsCut ms a
 cut_left ms P D a b by h = cut_where ms P D a by
-    (λ e. h.before ((by.same (a +ℤ negsuc 0)).1 (subst D (sym e) ((by.same a).0 (h.each a (let s = h.some in omega (arith, ints)) h.some)))))
+    (λ e. h.before
+    ((by.same (a +ℤ negsuc 0)).1
+    (subst D (sym e) ((by.same a).0 (h.each a (let s = h.some in omega (arith, ints)) h.some)))))
 
 pub cut_right : (ms : List ℤ) (P : ℤ → Type 0) (D : ℕ → Type 0) (a b : ℤ) → ByCell ms P D → IsLongest P a b → IsCut ms b
 cut_right ms P D a b by h = cut_where ms P D b by
@@ -43,9 +45,11 @@ cut_right ms P D a b by h = cut_where ms P D b by
 
 -- the place is before the end exactly where its cell is before the end's
 before_cut : (ms : List ℤ) (z b : ℤ) → Ascending ms → IsCut ms b → z <ℤ b → cell_of ms z < cell_of ms b
-before_cut ms z b up cut l = let r = cells_rise ms z (b +ℤ negsuc 0) up (omega (arith, ints)) in let e = cut.before in omega arith
+before_cut ms z b up cut l = let r = cells_rise ms z (b +ℤ negsuc 0) up (omega (arith, ints)) in let e = cut.before in
+    omega arith
 
-at_or_after : (ms : List ℤ) (a : ℤ) (c : ℕ) → Ascending ms → IsCut ms a → cell_of ms a ≤ c → c ≤ length ms → a ≤ℤ start_of ms c
+at_or_after : (ms : List ℤ) (a : ℤ) (c : ℕ) → Ascending ms → IsCut ms a → cell_of ms a ≤ c → c ≤ length ms
+    → a ≤ℤ start_of ms c
 at_or_after ms a c up cut h l =
     let e = start_is_in ms c up (let s = cut.some in omega arith) l in
     by_lt_z (start_of ms c) a
@@ -65,7 +69,8 @@ stretch_from_places ms P D a b by h =
           let e = start_is_in ms c up (let s = left.some in omega arith) (omega arith) in
           subst D e ((by.same (start_of ms c)).0 (h.each (start_of ms c)
           (at_or_after ms a c up left l (omega arith))
-          (by_lt_z (start_of ms c) b (λ x. x) (λ x. let r = cells_rise ms b (start_of ms c) up x in absurd (omega arith)))));
+          (by_lt_z (start_of ms c) b (λ x. x)
+          (λ x. let r = cells_rise ms b (start_of ms c) up x in absurd (omega arith)))));
       before = λ c e d. let k = left.before in let same : cell_of ms (a +ℤ negsuc 0) ≡ c = omega arith in
           h.before ((by.same (a +ℤ negsuc 0)).1 (subst D (sym same) d));
       after = λ d. h.after ((by.same b).1 d);
@@ -82,7 +87,8 @@ start_cuts ms c up some l =
       | inr h ↦ record { some = h.0; before = h.1; start = h.2 }
     ]
 
-pub places_from_stretch : (ms : List ℤ) (P : ℤ → Type 0) (D : ℕ → Type 0) (l r : ℕ) → ByCell ms P D → 0 < l → r ≤ length ms → Stretch D l r
+pub places_from_stretch : (ms : List ℤ) (P : ℤ → Type 0) (D : ℕ → Type 0) (l r : ℕ) → ByCell ms P D → 0 < l
+    → r ≤ length ms → Stretch D l r
     → IsLongest P (start_of ms l) (start_of ms r)
 places_from_stretch ms P D l r by some in' h =
     let up = by.ascending in
@@ -92,10 +98,13 @@ places_from_stretch ms P D l r by some in' h =
     let left = start_cuts ms l up some (omega arith) in
     let right = start_cuts ms r up (omega arith) in' in
     record {
-      some = by_lt_z (start_of ms l) (start_of ms r) (λ x. x) (λ x. let c = cells_rise ms (start_of ms r) (start_of ms l) up x in absurd (omega arith));
+      some = by_lt_z (start_of ms l) (start_of ms r) (λ x. x)
+          (λ x. let c = cells_rise ms (start_of ms r) (start_of ms l) up x in absurd (omega arith));
       each = λ z a b. (by.same z).1 (h.each (cell_of ms z)
           (let c = cells_rise ms (start_of ms l) z up a in omega arith)
           (let c = before_cut ms z (start_of ms r) up right b in omega arith));
-      before = λ p. h.before (cell_of ms (start_of ms l +ℤ negsuc 0)) (let k = left.before in omega arith) ((by.same (start_of ms l +ℤ negsuc 0)).0 p);
+      before =
+          λ p. h.before (cell_of ms (start_of ms l +ℤ negsuc 0)) (let k = left.before in omega arith)
+          ((by.same (start_of ms l +ℤ negsuc 0)).0 p);
       after = λ p. h.after (subst D er ((by.same (start_of ms r)).0 p));
     }

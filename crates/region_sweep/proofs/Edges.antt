@@ -1,5 +1,6 @@
 -- Strips that share an edge are tiles that do.
-use Rattle.std.proofs.Common.{ℕ, ◌≡◌, ◌<◌, ◌≤◌, ◌⊎◌, ◌↔◌, List, map, Some, Option, inl, inr, refl, sym, ap, ◌∙◌, subst, arith, length, eq-or-lt_of_le}
+use Rattle.std.proofs.Common.{ℕ, ◌≡◌, ◌<◌, ◌≤◌, ◌⊎◌, ◌↔◌, List, map, Some, Option, inl, inr, refl, sym, ap, ◌∙◌, subst}
+use Rattle.std.proofs.Common.{arith, length, eq-or-lt_of_le}
 use Rattle.std.specs.Prelude.{ℤ, pos, negsuc, ◌+ℤ◌, ◌≤ℤ◌, ◌<ℤ◌, slice_get}
 use Rattle.std.proofs.lemmas.Int.{ints, by_lt_z}
 use Rattle.std.proofs.lemmas.Bool.{cases_lt}
@@ -91,7 +92,8 @@ touch_from_meet s t f g (ends e p q) =
 
 -- where a square of s is right before one of t, either s ends there and t begins, or they have a common square
 edge : (a b c d z w : ℤ) → a ≤ℤ z → z <ℤ b → c ≤ℤ w → w <ℤ d → w ≡ z +ℤ pos 1 → (b ≡ c) ⊎ (w <ℤ b) ⊎ (c ≤ℤ z)
-edge a b c d z w p q r s e = by_lt_z w b (λ l. inr (inl l)) (λ l. by_lt_z z c (λ m. inl (omega (arith, ints))) (λ m. inr (inr m)))
+edge a b c d z w p q r s e =
+    by_lt_z w b (λ l. inr (inl l)) (λ l. by_lt_z z c (λ m. inl (omega (arith, ints))) (λ m. inr (inr m)))
 
 meet_from_touch : (s t : Tile) → ((x y : ℤ) → InTile s x y → InTile t x y → ⊥) → Touch s t → Meet s t
 meet_from_touch s t apart h =
@@ -99,32 +101,88 @@ meet_from_touch s t apart h =
     let j = h.in_second in
     elim h.beside [
       | inl (e, inl f) ↦ elim (edge s.x0 s.x1 t.x0 t.x1 h.x h.u i.left i.right j.left j.right f) [
-        | inl q ↦ sides (inl q) (let a = i.bottom in let b = j.top in omega (arith, ints)) (let a = j.bottom in let b = i.top in omega (arith, ints))
+        | inl q ↦
+            sides (inl q) (let a = i.bottom in let b = j.top in omega (arith, ints))
+            (let a = j.bottom in let b = i.top in omega (arith, ints))
         | inr (inl l) ↦ absurd (apart h.u h.v
-            (record { left = let a = i.left in omega (arith, ints); right = l; bottom = let a = i.bottom in omega (arith, ints); top = let a = i.top in omega (arith, ints) }) j)
+            (record {
+              left = let a = i.left in omega (arith, ints);
+              right = l;
+              bottom = let a = i.bottom in
+                  omega (arith, ints);
+              top = let a = i.top in omega (arith, ints);
+            }) j)
         | inr (inr l) ↦ absurd (apart h.x h.y i
-            (record { left = l; right = let a = j.right in omega (arith, ints); bottom = let a = j.bottom in omega (arith, ints); top = let a = j.top in omega (arith, ints) }))
+            (record {
+              left = l;
+              right = let a = j.right in omega (arith, ints);
+              bottom = let a = j.bottom in
+                  omega (arith, ints);
+              top = let a = j.top in omega (arith, ints);
+            }))
       ]
       | inl (e, inr f) ↦ elim (edge t.x0 t.x1 s.x0 s.x1 h.u h.x j.left j.right i.left i.right f) [
-        | inl q ↦ sides (inr q) (let a = i.bottom in let b = j.top in omega (arith, ints)) (let a = j.bottom in let b = i.top in omega (arith, ints))
+        | inl q ↦
+            sides (inr q) (let a = i.bottom in let b = j.top in omega (arith, ints))
+            (let a = j.bottom in let b = i.top in omega (arith, ints))
         | inr (inl l) ↦ absurd (apart h.x h.y i
-            (record { left = let a = j.left in omega (arith, ints); right = l; bottom = let a = j.bottom in omega (arith, ints); top = let a = j.top in omega (arith, ints) }))
+            (record {
+              left = let a = j.left in omega (arith, ints);
+              right = l;
+              bottom = let a = j.bottom in
+                  omega (arith, ints);
+              top = let a = j.top in omega (arith, ints);
+            }))
         | inr (inr l) ↦ absurd (apart h.u h.v
-            (record { left = l; right = let a = i.right in omega (arith, ints); bottom = let a = i.bottom in omega (arith, ints); top = let a = i.top in omega (arith, ints) }) j)
+            (record {
+              left = l;
+              right = let a = i.right in omega (arith, ints);
+              bottom = let a = i.bottom in
+                  omega (arith, ints);
+              top = let a = i.top in omega (arith, ints);
+            }) j)
       ]
       | inr (e, inl f) ↦ elim (edge s.y0 s.y1 t.y0 t.y1 h.y h.v i.bottom i.top j.bottom j.top f) [
-        | inl q ↦ ends (inl q) (let a = i.left in let b = j.right in omega (arith, ints)) (let a = j.left in let b = i.right in omega (arith, ints))
+        | inl q ↦
+            ends (inl q) (let a = i.left in let b = j.right in omega (arith, ints))
+            (let a = j.left in let b = i.right in omega (arith, ints))
         | inr (inl l) ↦ absurd (apart h.u h.v
-            (record { left = let a = i.left in omega (arith, ints); right = let a = i.right in omega (arith, ints); bottom = let a = i.bottom in omega (arith, ints); top = l }) j)
+            (record {
+              left = let a = i.left in omega (arith, ints);
+              right = let a = i.right in
+                  omega (arith, ints);
+              bottom = let a = i.bottom in omega (arith, ints);
+              top = l;
+            }) j)
         | inr (inr l) ↦ absurd (apart h.x h.y i
-            (record { left = let a = j.left in omega (arith, ints); right = let a = j.right in omega (arith, ints); bottom = l; top = let a = j.top in omega (arith, ints) }))
+            (record {
+              left = let a = j.left in omega (arith, ints);
+              right = let a = j.right in
+                  omega (arith, ints);
+              bottom = l;
+              top = let a = j.top in omega (arith, ints);
+            }))
       ]
       | inr (e, inr f) ↦ elim (edge t.y0 t.y1 s.y0 s.y1 h.v h.y j.bottom j.top i.bottom i.top f) [
-        | inl q ↦ ends (inr q) (let a = i.left in let b = j.right in omega (arith, ints)) (let a = j.left in let b = i.right in omega (arith, ints))
+        | inl q ↦
+            ends (inr q) (let a = i.left in let b = j.right in omega (arith, ints))
+            (let a = j.left in let b = i.right in omega (arith, ints))
         | inr (inl l) ↦ absurd (apart h.x h.y i
-            (record { left = let a = j.left in omega (arith, ints); right = let a = j.right in omega (arith, ints); bottom = let a = j.bottom in omega (arith, ints); top = l }))
+            (record {
+              left = let a = j.left in omega (arith, ints);
+              right = let a = j.right in
+                  omega (arith, ints);
+              bottom = let a = j.bottom in omega (arith, ints);
+              top = l;
+            }))
         | inr (inr l) ↦ absurd (apart h.u h.v
-            (record { left = let a = i.left in omega (arith, ints); right = let a = i.right in omega (arith, ints); bottom = l; top = let a = i.top in omega (arith, ints) }) j)
+            (record {
+              left = let a = i.left in omega (arith, ints);
+              right = let a = i.right in
+                  omega (arith, ints);
+              bottom = l;
+              top = let a = i.top in omega (arith, ints);
+            }) j)
       ]
     ]
 
@@ -134,7 +192,8 @@ fills xs ys s upx upy f = record {
   tall = starts_rise ys s.low s.high upy f.low f.high f.tall;
 }
 
-starts_are_one : (ms : List ℤ) (a b : ℕ) → Ascending ms → 0 < a → a ≤ length ms → 0 < b → b ≤ length ms → start_of ms a ≡ start_of ms b → a ≡ b
+starts_are_one : (ms : List ℤ) (a b : ℕ) → Ascending ms → 0 < a → a ≤ length ms → 0 < b → b ≤ length ms
+    → start_of ms a ≡ start_of ms b → a ≡ b
 starts_are_one ms a b up p q r s e = sym (start_is_in ms a up p q) ∙ ap (cell_of ms) e ∙ start_is_in ms b up r s
 
 starts_fall : (ms : List ℤ) (a b : ℕ) → Ascending ms → 0 < b → a ≤ length ms → start_of ms a <ℤ start_of ms b → a < b
@@ -146,7 +205,8 @@ starts_fall ms a b up some l m = elim (cases_lt a b) [
   ]
 ]
 
-meet_from_cells : (xs ys : List ℤ) (s t : Strip) → Ascending xs → Ascending ys → IsFit xs ys s → IsFit xs ys t → cells.Touch s t
+meet_from_cells : (xs ys : List ℤ) (s t : Strip) → Ascending xs → Ascending ys → IsFit xs ys s → IsFit xs ys t
+    → cells.Touch s t
     → Meet (tile_of xs ys s) (tile_of xs ys t)
 meet_from_cells xs ys s t upx upy f g (beside e p q) = sides
     (elim e [ inl h ↦ inl (ap (start_of xs) h) | inr h ↦ inr (ap (start_of xs) h) ])
@@ -164,24 +224,37 @@ cells_from_meet xs ys s t upx upy f g (sides e p q) =
     let b = g in
     beside
     (elim e [
-      | inl h ↦ inl (starts_are_one xs s.right t.left upx (let l = a.left in let w = f.wide in omega arith) a.right b.left (let l = b.right in let w = g.wide in omega arith) h)
-      | inr h ↦ inr (starts_are_one xs t.right s.left upx (let l = b.left in let w = g.wide in omega arith) b.right a.left (let l = a.right in let w = f.wide in omega arith) h)
+      | inl h ↦
+          inl (starts_are_one xs s.right t.left upx (let l = a.left in let w = f.wide in omega arith) a.right b.left
+          (let l = b.right in let w = g.wide in omega arith) h)
+      | inr h ↦
+          inr (starts_are_one xs t.right s.left upx (let l = b.left in let w = g.wide in omega arith) b.right a.left
+          (let l = a.right in let w = f.wide in omega arith) h)
     ])
-    (starts_fall ys s.low t.high upy (let l = b.low in let w = g.tall in omega arith) (let l = a.high in let w = f.tall in omega arith) p)
-    (starts_fall ys t.low s.high upy (let l = a.low in let w = f.tall in omega arith) (let l = b.high in let w = g.tall in omega arith) q)
+    (starts_fall ys s.low t.high upy (let l = b.low in let w = g.tall in omega arith)
+    (let l = a.high in let w = f.tall in omega arith) p)
+    (starts_fall ys t.low s.high upy (let l = a.low in let w = f.tall in omega arith)
+    (let l = b.high in let w = g.tall in omega arith) q)
 cells_from_meet xs ys s t upx upy f g (ends e p q) =
     let a = f in
     let b = g in
     upon
     (elim e [
-      | inl h ↦ inl (starts_are_one ys s.high t.low upy (let l = a.low in let w = f.tall in omega arith) a.high b.low (let l = b.high in let w = g.tall in omega arith) h)
-      | inr h ↦ inr (starts_are_one ys t.high s.low upy (let l = b.low in let w = g.tall in omega arith) b.high a.low (let l = a.high in let w = f.tall in omega arith) h)
+      | inl h ↦
+          inl (starts_are_one ys s.high t.low upy (let l = a.low in let w = f.tall in omega arith) a.high b.low
+          (let l = b.high in let w = g.tall in omega arith) h)
+      | inr h ↦
+          inr (starts_are_one ys t.high s.low upy (let l = b.low in let w = g.tall in omega arith) b.high a.low
+          (let l = a.high in let w = f.tall in omega arith) h)
     ])
-    (starts_fall xs s.left t.right upx (let l = b.left in let w = g.wide in omega arith) (let l = a.right in let w = f.wide in omega arith) p)
-    (starts_fall xs t.left s.right upx (let l = a.left in let w = f.wide in omega arith) (let l = b.right in let w = g.wide in omega arith) q)
+    (starts_fall xs s.left t.right upx (let l = b.left in let w = g.wide in omega arith)
+    (let l = a.right in let w = f.wide in omega arith) p)
+    (starts_fall xs t.left s.right upx (let l = a.left in let w = f.wide in omega arith)
+    (let l = b.right in let w = g.wide in omega arith) q)
 
 -- different strips have no common square
-strips_apart : (xs ys : List ℤ) (mask : Mask) (shapes : List Rect) (blocks : List Block) (strips : List Strip) (a b : ℕ) → IsLaid xs ys mask shapes blocks
+strips_apart : (xs ys : List ℤ) (mask : Mask) (shapes : List Rect) (blocks : List Block) (strips : List Strip)
+    (a b : ℕ) → IsLaid xs ys mask shapes blocks
     → AreStrips (painted mask blocks) strips → a < b → b < length strips → (x y : ℤ)
     → InTile (tile_of xs ys (strip strips a)) x y → InTile (tile_of xs ys (strip strips b)) x y → ⊥
 strips_apart xs ys mask shapes blocks strips a b h are l m x y i j =
@@ -210,10 +283,13 @@ there tiles n t e = elim (slice_get_cases tiles n).1 [ inl h ↦ h.1 | inr h ↦
 some_tile : (s t : Tile) → ◌≡◌ {A = Option Tile} (Some s) (Some t) → s ≡ t
 some_tile s t e = cc
 
-touch_at : (xs ys : List ℤ) (mask : Mask) (shapes : List Rect) (blocks : List Block) (strips : List Strip) (p : Pair) → IsLaid xs ys mask shapes blocks
+touch_at : (xs ys : List ℤ) (mask : Mask) (shapes : List Rect) (blocks : List Block) (strips : List Strip) (p : Pair)
+    → IsLaid xs ys mask shapes blocks
     → AreStrips (painted mask blocks) strips → cells.IsTouching strips p ↔ TouchAt (map (tile_of xs ys) strips) p.a p.b
 touch_at xs ys mask shapes blocks strips p h are =
-    let fit = λ (n : ℕ) (l : n < length strips). strip_within xs ys mask shapes blocks (strip strips n) h (are.each n no_strip l) in
+    let fit =
+    λ (n : ℕ) (l : n < length strips). strip_within xs ys mask shapes blocks (strip strips n) h
+    (are.each n no_strip l) in
     let tile = λ (n : ℕ). tile_of xs ys (strip strips n) in
     let upx = h.grid.columns in
     let upy = h.grid.rows in (
@@ -228,25 +304,31 @@ touch_at xs ys mask shapes blocks strips p h are =
             second = tile p.b;
             at_first = tile_there xs ys strips p.a (omega arith);
             at_second = tile_there xs ys strips p.b w;
-            touch = touch_from_meet (tile p.a) (tile p.b) (fills xs ys (strip strips p.a) upx upy f) (fills xs ys (strip strips p.b) upx upy g)
+            touch = touch_from_meet (tile p.a) (tile p.b) (fills xs ys (strip strips p.a) upx upy f)
+                (fills xs ys (strip strips p.b) upx upy g)
                 (meet_from_cells xs ys (strip strips p.a) (strip strips p.b) upx upy f g t.touch);
           },
       λ t.
           let o = t.order in
-          let w : p.b < length strips = simp length-map at (there (map (tile_of xs ys) strips) p.b t.second t.at_second) in
+          let w : p.b < length strips =
+          simp length-map at (there (map (tile_of xs ys) strips) p.b t.second t.at_second) in
           let v : p.a < length strips = omega arith in
           let a : t.first ≡ tile p.a = some_tile t.first (tile p.a) (sym t.at_first ∙ tile_there xs ys strips p.a v) in
-          let b : t.second ≡ tile p.b = some_tile t.second (tile p.b) (sym t.at_second ∙ tile_there xs ys strips p.b w) in
-          let touch : Touch (tile p.a) (tile p.b) = subst (λ u. Touch u (tile p.b)) a (subst (λ u. Touch t.first u) b t.touch) in
+          let b : t.second ≡ tile p.b =
+          some_tile t.second (tile p.b) (sym t.at_second ∙ tile_there xs ys strips p.b w) in
+          let touch : Touch (tile p.a) (tile p.b) =
+          subst (λ u. Touch u (tile p.b)) a (subst (λ u. Touch t.first u) b t.touch) in
           record {
             ordered = o;
             within = w;
             touch = cells_from_meet xs ys (strip strips p.a) (strip strips p.b) upx upy (fit p.a v) (fit p.b w)
-                (meet_from_touch (tile p.a) (tile p.b) (strips_apart xs ys mask shapes blocks strips p.a p.b h are o w) touch);
+                (meet_from_touch (tile p.a) (tile p.b)
+                (strips_apart xs ys mask shapes blocks strips p.a p.b h are o w) touch);
           },
     )
 
-pub are_touching : (xs ys : List ℤ) (mask : Mask) (shapes : List Rect) (blocks : List Block) (strips : List Strip) (pairs : List Pair)
+pub are_touching : (xs ys : List ℤ) (mask : Mask) (shapes : List Rect) (blocks : List Block) (strips : List Strip)
+    (pairs : List Pair)
     → IsLaid xs ys mask shapes blocks → AreStrips (painted mask blocks) strips → cells.AreTouching strips pairs
     → AreTouching (map (tile_of xs ys) strips) pairs
 are_touching xs ys mask shapes blocks strips pairs h are t = record {

@@ -1,3 +1,4 @@
+pub mod Longest
 mod Axes
 mod Blank
 mod Blocks

@@ -1,9 +1,10 @@
 -- Rows that get the colours of the next one, run by run and stretch by stretch.
-use Rattle.std.proofs.Common.{ℕ, zero, suc, ◌≡◌, ◌+◌, ◌-◌, ◌<◌, ◌≤◌, ◌⊎◌, ◌&&◌, List, inl, inr, refl, sym, ◌∙◌, subst, arith, length, get_or, eq-or-lt_of_le}
+use Rattle.std.proofs.Common.{ℕ, zero, suc, ◌≡◌, ◌+◌, ◌-◌, ◌<◌, ◌≤◌, ◌⊎◌, List, inl, inr, refl, sym, ◌∙◌, subst}
+use Rattle.std.proofs.Common.{arith, length, get_or, eq-or-lt_of_le}
 use Rattle.std.specs.Prelude.{nat_le, nat_lt}
 use Rattle.std.proofs.lemmas.Bool.{cases_lt, cases_eq, lt-ltb, le-ltb, le-leb, lt-leb, and_from, and_left, and_right}
 use Rattle.std.proofs.lemmas.List.{get_or_default}
-use Rattle.cover_tree.specs.declared.stretch.Stretch.{Stretch}
+use Rattle.cover_tree.specs.declared.span.Span.{Span}
 use Rattle.mask_runs.specs.declared.run.Run.{Run}
 use Rattle.mask_runs.specs.Runs.{IsRun, AreRuns}
 use Rattle.kept_runs.specs.declared.runs.KeptRuns.{KeptRuns}
@@ -44,7 +45,8 @@ module _ (from end : ℕ) (row : ℕ → ℕ) (c : ℕ) where
   ]
 
 -- a run of the cells of a stretch is in it
-run_within : (from end : ℕ) (row : ℕ → ℕ) (r : Run) → IsRun (windowed from end row) r → (from ≤ r.left) × (r.left < r.right) × (r.right ≤ end)
+run_within : (from end : ℕ) (row : ℕ → ℕ) (r : Run) → IsRun (windowed from end row) r
+    → (from ≤ r.left) × (r.left < r.right) × (r.right ≤ end)
 run_within from end row r i =
     let w = i.wide in
     let s = i.some in
@@ -57,29 +59,37 @@ run_within from end row r i =
     (omega arith, w, omega arith)
 
 pub runs_within : (from end : ℕ) (row : ℕ → ℕ) (runs : List Run) → AreRuns (windowed from end row) runs
-    → (k : ℕ) (d : Run) → k < length runs → (from ≤ (get_or runs k d).left) × ((get_or runs k d).left < (get_or runs k d).right) × ((get_or runs k d).right ≤ end)
+    → (k : ℕ) (d : Run) → k < length runs
+    → (from ≤ (get_or runs k d).left) × ((get_or runs k d).left < (get_or runs k d).right)
+    × ((get_or runs k d).right ≤ end)
 runs_within from end row runs a k d l = run_within from end row (get_or runs k d) (a.each k d l)
 
 -- the first runs are painted over the stretch, which had no colour
-pub record IsPainting (runs : List Run) (n : ℕ) (s : Stretch) (old now : KeptRuns) : Type 0 where
+pub record IsPainting (runs : List Run) (n : ℕ) (s : Span) (old now : KeptRuns) : Type 0 where
   pub inside : (colour : ℕ → ℕ) → AreRuns (windowed s.from s.to colour) runs → (c : ℕ) → Between s.from s.to c
       → (colours_of now c ≡ colour c)
-      ⊎ ((colours_of now c ≡ 0) × ((k : ℕ) → k < n → ¬ Between (get_or runs k no_run).left (get_or runs k no_run).right c))
+      ⊎ ((colours_of now c ≡ 0)
+      × ((k : ℕ) → k < n → ¬ Between (get_or runs k no_run).left (get_or runs k no_run).right c))
   pub beside : (c : ℕ) → (c < s.from) ⊎ (s.to ≤ c) → colours_of now c ≡ colours_of old c
   pub cells : width_of now ≡ width_of old
 
-pub painting_none : (runs : List Run) (s : Stretch) (old now : KeptRuns) → ((c : ℕ) → s.from ≤ c → c < s.to → colours_of now c ≡ 0)
-    → ((c : ℕ) → (c < s.from) ⊎ (s.to ≤ c) → colours_of now c ≡ colours_of old c) → width_of now ≡ width_of old → IsPainting runs 0 s old now
+pub painting_none : (runs : List Run) (s : Span) (old now : KeptRuns)
+    → ((c : ℕ) → s.from ≤ c → c < s.to → colours_of now c ≡ 0)
+    → ((c : ℕ) → (c < s.from) ⊎ (s.to ≤ c) → colours_of now c ≡ colours_of old c) → width_of now ≡ width_of old
+    → IsPainting runs 0 s old now
 painting_none runs s old now h b w = record {
   inside = λ colour a c t. inr (h c t.0 t.1, λ k l. absurd (omega arith));
   beside = b;
   cells = w;
 }
 
-pub painting_more : (runs : List Run) (n : ℕ) (s : Stretch) (old mid now : KeptRuns) → n < length runs
-    → (s.from ≤ (get_or runs n no_run).left) × ((get_or runs n no_run).left < (get_or runs n no_run).right) × ((get_or runs n no_run).right ≤ s.to)
-    → ((c : ℕ) → (get_or runs n no_run).left ≤ c → c < (get_or runs n no_run).right → colours_of now c ≡ (get_or runs n no_run).colour)
-    → ((c : ℕ) → (c < (get_or runs n no_run).left) ⊎ ((get_or runs n no_run).right ≤ c) → colours_of now c ≡ colours_of mid c)
+pub painting_more : (runs : List Run) (n : ℕ) (s : Span) (old mid now : KeptRuns) → n < length runs
+    → (s.from ≤ (get_or runs n no_run).left) × ((get_or runs n no_run).left < (get_or runs n no_run).right)
+    × ((get_or runs n no_run).right ≤ s.to)
+    → ((c : ℕ) → (get_or runs n no_run).left ≤ c → c < (get_or runs n no_run).right
+    → colours_of now c ≡ (get_or runs n no_run).colour)
+    → ((c : ℕ) → (c < (get_or runs n no_run).left) ⊎ ((get_or runs n no_run).right ≤ c)
+    → colours_of now c ≡ colours_of mid c)
     → width_of now ≡ width_of mid → IsPainting runs n s old mid → IsPainting runs (n + 1) s old now
 painting_more runs n s old mid now l at own else w p =
     let r = get_or runs n no_run in
@@ -108,7 +118,7 @@ painting_more runs n s old mid now l at own else w p =
     }
 
 -- with all runs painted the stretch has their colours
-pub painted_all : (runs : List Run) (s : Stretch) (old now : KeptRuns) → IsPainting runs (length runs) s old now
+pub painted_all : (runs : List Run) (s : Span) (old now : KeptRuns) → IsPainting runs (length runs) s old now
     → (colour : ℕ → ℕ) → AreRuns (windowed s.from s.to colour) runs → IsShown colour s now
 painted_all runs s old now p colour a c h l = elim (p.inside colour a c (h, l)) [
   | inl e ↦ e
@@ -116,7 +126,8 @@ painted_all runs s old now p colour a c h l = elim (p.inside colour a c (h, l)) 
     | inl e ↦ z.0 ∙ sym e
     | inr n ↦
         let e = in_it s.from s.to colour c h l in
-        let g = run_around (windowed s.from s.to colour) s.to c (λ x m. right_of_it s.from s.to colour x m) (omega arith) in
+        let g = run_around (windowed s.from s.to colour) s.to c (λ x m. right_of_it s.from s.to colour x m)
+        (omega arith) in
         let has = a.all g.0 g.1 in
         let q : get_or runs has.0 no_run ≡ g.0 = get_or_default runs has.0 no_run g.0 has.1 ∙ has.2 in
         absurd (z.1 has.0 has.1 (subst (λ r. Between r.left r.right c) (sym q) (g.2, g.3)))
@@ -124,17 +135,23 @@ painted_all runs s old now p colour a c h l = elim (p.inside colour a c (h, l)) 
 ]
 
 -- the first stretches are repainted
-pub record IsRepainting (colour : ℕ → ℕ) (old now : KeptRuns) (stretches : List Stretch) (n : ℕ) : Type 0 where
-  pub touched : (k c : ℕ) → k < n → Between (stretch stretches k).from (stretch stretches k).to c → colours_of now c ≡ colour c
-  pub others : (c : ℕ) → ((k : ℕ) → k < n → ¬ Between (stretch stretches k).from (stretch stretches k).to c) → colours_of now c ≡ colours_of old c
+pub record IsRepainting (colour : ℕ → ℕ) (old now : KeptRuns) (stretches : List Span) (n : ℕ) : Type 0 where
+  pub touched : (k c : ℕ) → k < n → Between (stretch stretches k).from (stretch stretches k).to c
+      → colours_of now c ≡ colour c
+  pub others : (c : ℕ) → ((k : ℕ) → k < n → ¬ Between (stretch stretches k).from (stretch stretches k).to c)
+      → colours_of now c ≡ colours_of old c
   pub cells : width_of now ≡ width_of old
 
-pub repainting_none : (colour : ℕ → ℕ) (old : KeptRuns) (stretches : List Stretch) → IsRepainting colour old old stretches 0
-repainting_none colour old stretches = record { touched = λ k c l. absurd (omega arith); others = λ c n. refl; cells = refl }
+pub repainting_none : (colour : ℕ → ℕ) (old : KeptRuns) (stretches : List Span)
+    → IsRepainting colour old old stretches 0
+repainting_none colour old stretches =
+    record { touched = λ k c l. absurd (omega arith); others = λ c n. refl; cells = refl }
 
-pub repainting_more : (colour : ℕ → ℕ) (old mid now : KeptRuns) (stretches : List Stretch) (n : ℕ) → IsRepainting colour old mid stretches n
+pub repainting_more : (colour : ℕ → ℕ) (old mid now : KeptRuns) (stretches : List Span) (n : ℕ)
+    → IsRepainting colour old mid stretches n
     → IsShown colour (stretch stretches n) now
-    → ((c : ℕ) → (c < (stretch stretches n).from) ⊎ ((stretch stretches n).to ≤ c) → colours_of now c ≡ colours_of mid c)
+    → ((c : ℕ) → (c < (stretch stretches n).from) ⊎ ((stretch stretches n).to ≤ c)
+    → colours_of now c ≡ colours_of mid c)
     → width_of now ≡ width_of mid → IsRepainting colour old now stretches (n + 1)
 repainting_more colour old mid now stretches n p shown else w = record {
   touched = λ k c l b. elim (between_or_not (stretch stretches n).from (stretch stretches n).to c) [
@@ -155,7 +172,8 @@ repainting_more colour old mid now stretches n p shown else w = record {
   cells = w ∙ p.cells;
 }
 
-pub repainted_all : (colour : ℕ → ℕ) (old now : KeptRuns) (stretches : List Stretch) → IsRepainting colour old now stretches (length stretches)
+pub repainted_all : (colour : ℕ → ℕ) (old now : KeptRuns) (stretches : List Span)
+    → IsRepainting colour old now stretches (length stretches)
     → IsRepainted colour old now stretches
 repainted_all colour old now stretches p = record {
   touched = λ c t. p.touched t.place c t.among (t.from, t.to);
@@ -163,7 +181,7 @@ repainted_all colour old now stretches p = record {
   cells = p.cells;
 }
 
-touched_or_not : (stretches : List Stretch) (c n : ℕ) → n ≤ length stretches
+touched_or_not : (stretches : List Span) (c n : ℕ) → n ≤ length stretches
     → Touches stretches c ⊎ ((k : ℕ) → k < n → ¬ Between (stretch stretches k).from (stretch stretches k).to c)
 touched_or_not stretches c zero l = inr (λ k m. absurd (omega arith))
 touched_or_not stretches c (suc n) l = elim (touched_or_not stretches c n (omega arith)) [
@@ -182,10 +200,14 @@ touched_or_not stretches c (suc n) l = elim (touched_or_not stretches c n (omega
 ]
 
 -- the row gets the colours of the next one
-pub next_kept : (colour : ℕ → ℕ → ℕ) (below : ℕ) (tree : ℕ → ℕ) (old now : KeptRuns) (changed : List Stretch) → ((c : ℕ) → colour below c ≡ colours_of old c)
-    → ((c : ℕ) → colour (below + 1) c ≡ tree c) → ChangeAt changed (colour below) (colour (below + 1)) → IsRepainted tree old now changed
+pub next_kept : (colour : ℕ → ℕ → ℕ) (below : ℕ) (tree : ℕ → ℕ) (old now : KeptRuns) (changed : List Span)
+    → ((c : ℕ) → colour below c ≡ colours_of old c)
+    → ((c : ℕ) → colour (below + 1) c ≡ tree c) → ChangeAt changed (colour below) (colour (below + 1))
+    → IsRepainted tree old now changed
     → (c : ℕ) → colour (below + 1) c ≡ colours_of now c
-next_kept colour below tree old now changed h k at r c = elim (touched_or_not changed c (length changed) (omega arith)) [
-  | inl t ↦ k c ∙ sym (r.touched c t)
-  | inr f ↦ let n : ¬ Touches changed c = λ t. f t.place t.among (t.from, t.to) in sym (at c n) ∙ h c ∙ sym (r.others c n)
-]
+next_kept colour below tree old now changed h k at r c =
+    elim (touched_or_not changed c (length changed) (omega arith)) [
+      | inl t ↦ k c ∙ sym (r.touched c t)
+      | inr f ↦ let n : ¬ Touches changed c = λ t. f t.place t.among (t.from, t.to) in
+          sym (at c n) ∙ h c ∙ sym (r.others c n)
+    ]

@@ -1,9 +1,10 @@
 -- From one row to the next.
-use Rattle.std.proofs.Common.{ℕ, ◌≡◌, ◌+◌, ◌-◌, ◌<◌, ◌≤◌, ◌⊎◌, List, Some, None, Option, inl, inr, refl, sym, ap, ◌∙◌, subst, arith, length, get_or, set, max, eq-or-lt_of_le, get_or-set_other, get_or-set_same}
+use Rattle.std.proofs.Common.{ℕ, ◌≡◌, ◌+◌, ◌-◌, ◌<◌, ◌≤◌, ◌⊎◌, List, Some, None, Option, inl, inr, refl, sym, ap, ◌∙◌}
+use Rattle.std.proofs.Common.{subst, arith, length, get_or, set, max, eq-or-lt_of_le, get_or-set_other, get_or-set_same}
 use Rattle.std.specs.Prelude.{All}
 use Rattle.std.proofs.lemmas.Bool.{cases_lt, cases_eq, cases_Bool}
-use Rattle.cover_tree.specs.declared.stretch.Stretch.{Stretch}
-use Rattle.row_windows.specs.declared.window.Window.{Window}
+use Rattle.lam_geom.proofs.Ranks.{layer_or_not}
+use Rattle.cover_tree.specs.declared.span.Span.{Span}
 use Rattle.row_windows.specs.Windows.{seen, in_windows, IsGuarded, ChangeAt, TellChange}
 use Rattle.mask_runs.specs.declared.mask.Mask.{Mask}
 use Rattle.mask_runs.specs.declared.run.Run.{Run}
@@ -19,12 +20,13 @@ use Rattle.strip_rows.specs.Swept.{strips_of, cells_of, IsOpenAt, IsSwept, KeepN
 use Rattle.region_sweep.specs.declared.block.Block.{Block}
 use Rattle.region_sweep.specs.declared.spot.Spot.{Spot}
 use Rattle.region_sweep.specs.Blocks.{painted, AreStacked}
-use Rattle.region_sweep.specs.Rows.{block, no_block, spot, no_spot, ReachesOver, AreInOrder, AreWithin, AreRaised, IsUpTo, AreAsked, IsFront, IsAnswer, AreAnswered}
+use Rattle.region_sweep.specs.Rows.{block, no_block, spot, no_spot, ReachesOver, AreInOrder, AreWithin, AreRaised}
+use Rattle.region_sweep.specs.Rows.{IsUpTo, AreAsked, IsFront, IsAnswer, AreAnswered}
 use Rattle.region_sweep.proofs.Painting.{row_painted, blank_right, blank_below}
-use Rattle.region_sweep.proofs.Squares.{layer_or_not}
 
 -- what is known of the rows up to one, in the middle of the loop
-pub record IsAt (mask : Mask) (cells : ℕ) (blocks : List Block) (row : ℕ) (cover : Cover) (kept : KeptRuns) (strips : StripRows) (raised : ℕ)
+pub record IsAt (mask : Mask) (cells : ℕ) (blocks : List Block) (row : ℕ) (cover : Cover) (kept : KeptRuns)
+    (strips : StripRows) (raised : ℕ)
     (spots : List Spot) (answered : ℕ) (found : List (Option ℕ)) : Type 0 where
   pub up_to : IsUpTo mask cells blocks row raised cover
   pub wide : width_of kept ≡ cells
@@ -41,8 +43,10 @@ in_or_out a b c = elim (cases_lt c a) [
 ]
 
 -- one more block is raised
-pub raised_more : (blocks : List Block) (row n : ℕ) (old now : Cover) → AreRaised blocks row n old → n < length blocks → (block blocks n).low ≤ row
-    → IsRaised old now (block blocks n).layer (block blocks n).left (block blocks n).right (block blocks n).high → AreRaised blocks row (n + 1) now
+pub raised_more : (blocks : List Block) (row n : ℕ) (old now : Cover) → AreRaised blocks row n old → n < length blocks
+    → (block blocks n).low ≤ row
+    → IsRaised old now (block blocks n).layer (block blocks n).left (block blocks n).right (block blocks n).high
+    → AreRaised blocks row (n + 1) now
 raised_more blocks row n old now h l m r =
     let b = block blocks n in
     record {
@@ -56,7 +60,8 @@ raised_more blocks row n old now h l m r =
                 let q : now.top l c ≡ old.top l c = subst (λ x. now.top x c ≡ old.top x c) (sym e) (r.beside c out) in
                 let g = (h.tops l c z).0 (omega arith) in (g.0, omega arith, g.2)
             | inl in' ↦
-                let q : now.top l c ≡ max (old.top l c) b.high = subst (λ x. now.top x c ≡ max (old.top x c) b.high) (sym e) (r.within c in'.0 in'.1) in
+                let q : now.top l c ≡ max (old.top l c) b.high =
+                subst (λ x. now.top x c ≡ max (old.top x c) b.high) (sym e) (r.within c in'.0 in'.1) in
                 elim (cases_lt z (old.top l c)) [
                   | inl p ↦ let g = (h.tops l c z).0 p in (g.0, omega arith, g.2)
                   | inr p ↦ (n, omega arith, record { same = sym e; left = in'.0; right = in'.1; high = omega arith })
@@ -75,9 +80,11 @@ raised_more blocks row n old now h l m r =
               elim (layer_or_not l b.layer) [
                 | inr other ↦ let e = r.others l c other in omega arith
                 | inl e ↦ elim (in_or_out b.left b.right c) [
-                  | inr out ↦ let q : now.top l c ≡ old.top l c = subst (λ x. now.top x c ≡ old.top x c) (sym e) (r.beside c out) in omega arith
+                  | inr out ↦ let q : now.top l c ≡ old.top l c =
+                      subst (λ x. now.top x c ≡ old.top x c) (sym e) (r.beside c out) in omega arith
                   | inl in' ↦
-                      let q : now.top l c ≡ max (old.top l c) b.high = subst (λ x. now.top x c ≡ max (old.top x c) b.high) (sym e) (r.within c in'.0 in'.1) in
+                      let q : now.top l c ≡ max (old.top l c) b.high =
+                      subst (λ x. now.top x c ≡ max (old.top x c) b.high) (sym e) (r.within c in'.0 in'.1) in
                       omega arith
                 ]
               ]
@@ -86,25 +93,29 @@ raised_more blocks row n old now h l m r =
     }
 
 -- those that begin above the row wait
-pub rest_waits : (blocks : List Block) (row n : ℕ) → AreInOrder blocks → (n < length blocks → row < (block blocks n).low)
+pub rest_waits : (blocks : List Block) (row n : ℕ) → AreInOrder blocks
+    → (n < length blocks → row < (block blocks n).low)
     → (k : ℕ) → n ≤ k → k < length blocks → row < (block blocks k).low
 rest_waits blocks row n up h k l m = let a = up.rows n k no_block l m in let b = h (omega arith) in omega arith
 
-pub nothing_raised : (mask : Mask) (cells : ℕ) (blocks : List Block) (cover : Cover) → IsBare mask cells cover → AreRaised blocks 0 0 cover
+pub nothing_raised : (mask : Mask) (cells : ℕ) (blocks : List Block) (cover : Cover) → IsBare mask cells cover
+    → AreRaised blocks 0 0 cover
 nothing_raised mask cells blocks cover h = record {
   within = omega arith;
   begun = λ k l. absurd (omega arith);
   tops = λ l c z. (λ t. let e = h.none l c in absurd (omega arith), λ g. let m = g.1 in absurd (omega arith));
 }
 
-pub raised_later : (blocks : List Block) (row next n : ℕ) (cover : Cover) → row ≤ next → AreRaised blocks row n cover → AreRaised blocks next n cover
+pub raised_later : (blocks : List Block) (row next n : ℕ) (cover : Cover) → row ≤ next → AreRaised blocks row n cover
+    → AreRaised blocks next n cover
 raised_later blocks row next n cover l h = record {
   within = h.within;
   begun = λ k m. let b = h.begun k m in omega arith;
   tops = h.tops;
 }
 
-pub fits : (mask : Mask) (cells rows : ℕ) (blocks : List Block) → AreStacked mask cells rows blocks → AreWithin mask cells blocks
+pub fits : (mask : Mask) (cells rows : ℕ) (blocks : List Block) → AreStacked mask cells rows blocks
+    → AreWithin mask cells blocks
 fits mask cells rows blocks h = record {
   used = λ k d l. (h.each k d l).used;
   within = λ k d l. (h.each k d l).right;
@@ -112,7 +123,8 @@ fits mask cells rows blocks h = record {
 }
 
 -- runs of a row lie in it
-pub runs_lie : (colour : ℕ → ℕ) (cells : ℕ) (runs : List Run) → AreRuns colour runs → ((c : ℕ) → cells ≤ c → colour c ≡ 0) → LieInRow cells runs
+pub runs_lie : (colour : ℕ → ℕ) (cells : ℕ) (runs : List Run) → AreRuns colour runs
+    → ((c : ℕ) → cells ≤ c → colour c ≡ 0) → LieInRow cells runs
 runs_lie colour cells runs h last = record {
   wide = λ k d l. (h.each k d l).wide;
   within = λ k d l.
@@ -131,34 +143,45 @@ runs_lie colour cells runs h last = record {
 }
 
 -- the tree has the colours of the row whose blocks are raised
-pub tree_tells : ColoursByLayers → (mask : Mask) (blocks : List Block) (row raised : ℕ) (cover : Cover) → cover.mask ≡ mask → AreRaised blocks row raised cover
-    → ((k : ℕ) → raised ≤ k → k < length blocks → row < (block blocks k).low) → (c : ℕ) → painted mask blocks row c ≡ row_colour cover row c
+pub tree_tells : ColoursByLayers → (mask : Mask) (blocks : List Block) (row raised : ℕ) (cover : Cover)
+    → cover.mask ≡ mask → AreRaised blocks row raised cover
+    → ((k : ℕ) → raised ≤ k → k < length blocks → row < (block blocks k).low) → (c : ℕ)
+    → painted mask blocks row c ≡ row_colour cover row c
 tree_tells law mask blocks row raised cover e h rest c =
-    sym (subst (λ m. row_colour cover row c ≡ painted m blocks row c) e (row_painted law blocks row raised cover c h rest))
+    sym (subst (λ m. row_colour cover row c ≡ painted m blocks row c) e
+    (row_painted law blocks row raised cover c h rest))
 
 -- the last cell has no colour
-pub guarded : ColoursByLayers → (mask : Mask) (cells rows : ℕ) (blocks : List Block) (row : ℕ) (kept : KeptRuns) → AreStacked mask cells rows blocks
-    → width_of kept ≡ cells → ((c : ℕ) → painted mask blocks row c ≡ colours_of kept c) → IsGuarded (width_of kept) (colours_of kept)
-guarded law mask cells rows blocks row kept st w same = λ c l. sym (same c) ∙ blank_right law mask cells rows blocks row c st (omega arith)
+pub guarded : ColoursByLayers → (mask : Mask) (cells rows : ℕ) (blocks : List Block) (row : ℕ) (kept : KeptRuns)
+    → AreStacked mask cells rows blocks
+    → width_of kept ≡ cells → ((c : ℕ) → painted mask blocks row c ≡ colours_of kept c)
+    → IsGuarded (width_of kept) (colours_of kept)
+guarded law mask cells rows blocks row kept st w same =
+    λ c l. sym (same c) ∙ blank_right law mask cells rows blocks row c st (omega arith)
 
 -- runs in windows as those of the row that is painted
-pub runs_painted : (colour : ℕ → ℕ) (kept : KeptRuns) (windows : List Window) (runs : List Run) → ((c : ℕ) → colour c ≡ colours_of kept c)
+pub runs_painted : (colour : ℕ → ℕ) (kept : KeptRuns) (windows : List Span) (runs : List Run)
+    → ((c : ℕ) → colour c ≡ colours_of kept c)
     → AreRuns (seen windows (colours_of kept)) runs → AreRuns (seen windows colour) runs
 runs_painted colour kept windows runs same are =
     let e : colours_of kept ≡ colour = λ i c. sym (same c) i in
     subst (λ f. AreRuns (seen windows f) runs) e are
 
-seen_blank : (windows : List Window) (f : ℕ → ℕ) (c : ℕ) → f c ≡ 0 → seen windows f c ≡ 0
+seen_blank : (windows : List Span) (f : ℕ → ℕ) (c : ℕ) → f c ≡ 0 → seen windows f c ≡ 0
 seen_blank windows f c e = elim (cases_Bool (in_windows windows c)) [ inl t ↦ rw t e | inr t ↦ rw t refl ]
 
 -- and they lie in the row
-pub lie_in : ColoursByLayers → (mask : Mask) (cells rows : ℕ) (blocks : List Block) (row wide : ℕ) (windows : List Window) (runs : List Run)
-    → AreStacked mask cells rows blocks → wide ≡ cells → AreRuns (seen windows (painted mask blocks row)) runs → LieInRow wide runs
+pub lie_in : ColoursByLayers
+    → (mask : Mask) (cells rows : ℕ) (blocks : List Block) (row wide : ℕ) (windows : List Span) (runs : List Run)
+    → AreStacked mask cells rows blocks → wide ≡ cells → AreRuns (seen windows (painted mask blocks row)) runs
+    → LieInRow wide runs
 lie_in law mask cells rows blocks row wide windows runs st e are =
     subst (λ n. LieInRow n runs) (sym e) (runs_lie (seen windows (painted mask blocks row)) cells runs are
-    (λ c l. seen_blank windows (painted mask blocks row) c (blank_right law mask cells rows blocks row c st (omega arith))))
+    (λ c l. seen_blank windows (painted mask blocks row) c
+    (blank_right law mask cells rows blocks row c st (omega arith))))
 
-still_answer : (colour : ℕ → ℕ → ℕ) (old new : List Strip) (p : Spot) → KeepNumbers old new → (a : Option ℕ) → IsAnswer colour old p a → IsAnswer colour new p a
+still_answer : (colour : ℕ → ℕ → ℕ) (old new : List Strip) (p : Spot) → KeepNumbers old new → (a : Option ℕ)
+    → IsAnswer colour old p a → IsAnswer colour new p a
 still_answer colour old new p k None h = h
 still_answer colour old new p k (Some n) h =
     let same = k.each n h.0 in
@@ -179,7 +202,8 @@ still_answer colour old new p k (Some n) h =
     )
 
 -- answers stay while strips keep their numbers
-pub still_answered : (colour : ℕ → ℕ → ℕ) (old new : List Strip) (spots : List Spot) (n : ℕ) (found : List (Option ℕ)) → KeepNumbers old new
+pub still_answered : (colour : ℕ → ℕ → ℕ) (old new : List Strip) (spots : List Spot) (n : ℕ) (found : List (Option ℕ))
+    → KeepNumbers old new
     → AreAnswered colour old spots n found → AreAnswered colour new spots n found
 still_answered colour old new spots n found k h = record {
   within = h.within;
@@ -187,8 +211,10 @@ still_answered colour old new spots n found k h = record {
 }
 
 -- one more spot is answered
-pub answered_more : (colour : ℕ → ℕ → ℕ) (strips : List Strip) (spots : List Spot) (n : ℕ) (found : List (Option ℕ)) (a : Option ℕ)
-    → AreAsked (length found) spots → n < length spots → AreAnswered colour strips spots n found → IsAnswer colour strips (spot spots n) a
+pub answered_more : (colour : ℕ → ℕ → ℕ) (strips : List Strip) (spots : List Spot) (n : ℕ) (found : List (Option ℕ))
+    (a : Option ℕ)
+    → AreAsked (length found) spots → n < length spots → AreAnswered colour strips spots n found
+    → IsAnswer colour strips (spot spots n) a
     → AreAnswered colour strips spots (n + 1) (set found (spot spots n).index a)
 answered_more colour strips spots n found a asked l h is = record {
   within = omega arith;
@@ -201,8 +227,10 @@ answered_more colour strips spots n found a asked l h is = record {
             subst (λ p. IsAnswer colour strips p (get_or (set found i a) p.index None)) same
             (subst (IsAnswer colour strips (spot spots n)) (sym at) is)
         | inr other ↦
-            let at : get_or (set found i a) (spot spots j).index None ≡ get_or found (spot spots j).index None = get_or-set_other found i _ a None other in
-            subst (IsAnswer colour strips (spot spots j)) (sym at) (elim (eq-or-lt_of_le {n = j} {m = n} (omega arith)) [
+            let at : get_or (set found i a) (spot spots j).index None ≡ get_or found (spot spots j).index None =
+            get_or-set_other found i _ a None other in
+            subst (IsAnswer colour strips (spot spots j)) (sym at)
+            (elim (eq-or-lt_of_le {n = j} {m = n} (omega arith)) [
               | inl e ↦ absurd (other (ap (λ k. (spot spots k).index) e))
               | inr p ↦ h.each j p
             ])
@@ -210,7 +238,8 @@ answered_more colour strips spots n found a asked l h is = record {
 }
 
 -- the run that has the cell is of a strip that has the spot
-pub answer_run : (colour : ℕ → ℕ → ℕ) (row n : ℕ) (strips : StripRows) (kept : KeptRuns) (p : Spot) (r : Run) → IsFront colour row strips kept
+pub answer_run : (colour : ℕ → ℕ → ℕ) (row n : ℕ) (strips : StripRows) (kept : KeptRuns) (p : Spot) (r : Run)
+    → IsFront colour row strips kept
     → IsRun (colours_of kept) r → r.left ≤ p.cell → p.cell < r.right → p.row ≡ row
     → ((colour : ℕ → ℕ → ℕ) (y : ℕ) → IsSwept colour y strips → (q : Run) → q.left ≡ r.left → IsRun (colour y) q
     → IsOpenAt colour y (strips_of strips) n q) → IsAnswer colour (strips_of strips) p (Some n)
@@ -219,47 +248,68 @@ answer_run colour row n strips kept p r front is a b e at =
     let o = at colour row front.swept r refl (subst (λ f. IsRun f r) same is) in
     let left = ap (λ (q : Run). q.left) o.run in
     let right = ap (λ (q : Run). q.right) o.run in
-    let low = o.since.start in
-    (o.among, record { left = omega arith; right = omega arith; low = omega arith; each = λ z x y. o.since.each z x (omega arith) })
+    let low = o.since.start in (
+      o.among,
+      record {
+        left = omega arith;
+        right = omega arith;
+        low = omega arith;
+        each = λ z x y. o.since.each z x (omega arith);
+      },
+    )
 
 -- and where no run has it there is no colour
-pub answer_none : (colour : ℕ → ℕ → ℕ) (row cell : ℕ) (strips : StripRows) (kept : KeptRuns) (p : Spot) → IsFront colour row strips kept
+pub answer_none : (colour : ℕ → ℕ → ℕ) (row cell : ℕ) (strips : StripRows) (kept : KeptRuns) (p : Spot)
+    → IsFront colour row strips kept
     → colours_of kept cell ≡ 0 → p.row ≡ row → p.cell ≡ cell → colour p.row p.cell ≡ 0
 answer_none colour row cell strips kept p front z e f = rw (e, f) (front.same cell ∙ z)
 
-pub nothing_answered : (colour : ℕ → ℕ → ℕ) (strips : List Strip) (spots : List Spot) (found : List (Option ℕ)) → AreAnswered colour strips spots 0 found
+pub nothing_answered : (colour : ℕ → ℕ → ℕ) (strips : List Strip) (spots : List Spot) (found : List (Option ℕ))
+    → AreAnswered colour strips spots 0 found
 nothing_answered colour strips spots found = record { within = omega arith; each = λ j l. absurd (omega arith) }
 
-pub fit_tree : (mask m : Mask) (cells n rows : ℕ) (blocks : List Block) → m ≡ mask → n ≡ cells → AreStacked mask cells rows blocks → AreWithin m n blocks
+pub fit_tree : (mask m : Mask) (cells n rows : ℕ) (blocks : List Block) → m ≡ mask → n ≡ cells
+    → AreStacked mask cells rows blocks → AreWithin m n blocks
 fit_tree mask m cells n rows blocks e f st = rw (e, f) (fits mask cells rows blocks st)
 
 -- what windows tell is told of the rows that are painted
-pub whole_step : (colour : ℕ → ℕ → ℕ) (below : ℕ) (old now : KeptRuns) (changed same : List Stretch) (windows first second : List Window) (olds news : List Run)
+pub whole_step : (colour : ℕ → ℕ → ℕ) (below : ℕ) (old now : KeptRuns) (changed same : List Span)
+    (windows first second : List Span) (olds news : List Run)
     → ((c : ℕ) → colour below c ≡ colours_of old c) → ((c : ℕ) → colour (below + 1) c ≡ colours_of now c)
     → ChangeAt changed (colour below) (colour (below + 1)) → same ≡ changed → first ≡ windows → second ≡ windows
-    → ((f : ℕ → ℕ → ℕ) (y : ℕ) → ((c : ℕ) → f y c ≡ colours_of old c) → ChangeAt same (f y) (f (y + 1)) → TellChange f y windows)
-    → AreRuns (seen first (colours_of old)) olds → AreRuns (seen second (colours_of now)) news → IsChange colour below olds news
+    → ((f : ℕ → ℕ → ℕ) (y : ℕ) → ((c : ℕ) → f y c ≡ colours_of old c) → ChangeAt same (f y) (f (y + 1))
+    → TellChange f y windows)
+    → AreRuns (seen first (colours_of old)) olds → AreRuns (seen second (colours_of now)) news
+    → IsChange colour below olds news
 whole_step colour below old now changed same windows first second olds news p q at g a b tell h k =
     tell colour below p (subst (λ ss. ChangeAt ss (colour below) (colour (below + 1))) (sym g) at) olds news
     (subst (λ ws. AreRuns (seen ws (colour below)) olds) a (runs_painted (colour below) old first olds p h))
-    (subst (λ ws. AreRuns (seen ws (colour (below + 1))) news) b (runs_painted (colour (below + 1)) now second news q k))
+    (subst (λ ws. AreRuns (seen ws (colour (below + 1))) news) b
+    (runs_painted (colour (below + 1)) now second news q k))
 
 -- the last cell has no colour in either row
-pub last_alike : ColoursByLayers → (mask : Mask) (cells rows : ℕ) (blocks : List Block) (below : ℕ) → AreStacked mask cells rows blocks
+pub last_alike : ColoursByLayers → (mask : Mask) (cells rows : ℕ) (blocks : List Block) (below : ℕ)
+    → AreStacked mask cells rows blocks
     → (c : ℕ) → cells ≤ c + 1 → painted mask blocks below c ≡ painted mask blocks (below + 1) c
 last_alike law mask cells rows blocks below st c l =
-    blank_right law mask cells rows blocks below c st l ∙ sym (blank_right law mask cells rows blocks (below + 1) c st l)
+    blank_right law mask cells rows blocks below c st l
+    ∙ sym (blank_right law mask cells rows blocks (below + 1) c st l)
 
 -- nothing waits in row 0
-pub rest_above : (mask : Mask) (cells rows : ℕ) (blocks : List Block) → AreStacked mask cells rows blocks → (k : ℕ) → k < length blocks → 0 < (block blocks k).low
+pub rest_above : (mask : Mask) (cells rows : ℕ) (blocks : List Block) → AreStacked mask cells rows blocks → (k : ℕ)
+    → k < length blocks → 0 < (block blocks k).low
 rest_above mask cells rows blocks st k l = (st.each k no_block l).low
 
-pub swept_first : ColoursByLayers → (mask : Mask) (cells rows : ℕ) (blocks : List Block) (strips : StripRows) → AreStacked mask cells rows blocks
-    → ((colour : ℕ → ℕ → ℕ) → ((c : ℕ) → colour 0 c ≡ 0) → IsSwept colour 0 strips) → IsSwept (painted mask blocks) 0 strips
-swept_first law mask cells rows blocks strips st h = h (painted mask blocks) (λ c. blank_below law mask cells rows blocks c st)
+pub swept_first : ColoursByLayers → (mask : Mask) (cells rows : ℕ) (blocks : List Block) (strips : StripRows)
+    → AreStacked mask cells rows blocks
+    → ((colour : ℕ → ℕ → ℕ) → ((c : ℕ) → colour 0 c ≡ 0) → IsSwept colour 0 strips)
+    → IsSwept (painted mask blocks) 0 strips
+swept_first law mask cells rows blocks strips st h =
+    h (painted mask blocks) (λ c. blank_below law mask cells rows blocks c st)
 
 -- all spots are answered when all rows are swept
-pub all_answered : (spots : List Spot) (rows below answered : ℕ) → All (λ s. s.row < rows) spots → rows ≤ below + 1 → answered ≤ length spots
+pub all_answered : (spots : List Spot) (rows below answered : ℕ) → All (λ s. s.row < rows) spots → rows ≤ below + 1
+    → answered ≤ length spots
     → ((j : ℕ) → answered ≤ j → j < length spots → below < (spot spots j).row) → answered ≡ length spots
 all_answered spots rows below answered h l m waiting = elim (cases_lt answered (length spots)) [
   | inr k ↦ omega arith

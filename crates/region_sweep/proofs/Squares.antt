@@ -1,18 +1,20 @@
 -- The colour of a square is that of its cell.
-use Rattle.std.proofs.Common.{ℕ, zero, suc, ◌≡◌, ◌≢◌, ◌+◌, ◌<◌, ◌⊎◌, ◌↔◌, List, [], ◌∷◌, Bool, true, false, true≢false, inl, inr, refl, sym, ◌∙◌, subst, arith, length, get_or}
+use Rattle.std.proofs.Common.{ℕ, zero, suc, ◌≡◌, ◌+◌, ◌<◌, ◌⊎◌, ◌↔◌, List, [], ◌∷◌, Bool, true, false, true≢false, inl}
+use Rattle.std.proofs.Common.{inr, refl, sym, ◌∙◌, subst, arith, length, get_or}
 use Rattle.std.specs.Prelude.{ℤ, ◌<ℤ◌, Contains}
 use Rattle.std.proofs.lemmas.Int.{ints, by_lt_z}
 use Rattle.std.proofs.lemmas.Bool.{cases_lt}
 use Rattle.std.proofs.lemmas.List.{get_or_default}
 use Rattle.std.proofs.lemmas.List.Elements.{All-contains}
 use Rattle.std.proofs.Common.{add-one}
+use Rattle.mp_base.proofs.Tests.{same_test}
 use Rattle.lam_geom.specs.declared.layer.Layer.{Layer}
 use Rattle.lam_geom.specs.declared.layer.Layer.TheVariants.{ND, NP, NC, NM, NI, NB, NG}
 use Rattle.lam_geom.specs.declared.rect.Rect.{Rect}
 use Rattle.lam_geom.specs.Squares.{Covers, covered}
+use Rattle.lam_geom.proofs.Ranks.{layer_or_not}
 use Rattle.mask_runs.specs.declared.mask.Layers.{Layers}
 use Rattle.mask_runs.specs.declared.mask.Mask.{Mask}
-use Rattle.mask_runs.specs.declared.mask.Mask.TheVariants.{Only}
 use Rattle.mask_runs.specs.Colours.{has, uses, colour_of, Sees, HasColour}
 use Rattle.mask_runs.specs.Laws.{ColoursByLayers}
 use Rattle.region_sweep.specs.declared.block.Block.{Block}
@@ -20,7 +22,7 @@ use Rattle.region_sweep.specs.Blocks.{is_covered, painted}
 use Rattle.region_sweep.specs.Rows.{block, no_block}
 use Rattle.region_sweep.specs.Grid.{Ascending, cell_of, IsDrawn, AreDrawn, AreBlocks, block_of}
 use Rattle.region_sweep.proofs.Axes.{mark_before}
-use Rattle.region_sweep.proofs.Painting.{CoversCell, Covered, covered_decides, painted_is, same_layer}
+use Rattle.region_sweep.proofs.Painting.{CoversCell, Covered, covered_decides, painted_is}
 
 -- the grid of a mask, and its blocks
 pub record IsGrid (xs ys : List ℤ) (mask : Mask) (shapes : List Rect) (blocks : List Block) : Type 0 where
@@ -33,23 +35,30 @@ later : (r : Rect) (rs : List Rect) (d : Rect) (k : ℕ) → get_or (r ∷ rs) (
 later r rs d k = rw add-one refl
 
 -- a rectangle of the list
-pub covered_by : (shapes : List Rect) (l : Layer) (x y : ℤ) → covered shapes l x y → (r : Rect) × Contains shapes r × Covers r l x y
+pub covered_by : (shapes : List Rect) (l : Layer) (x y : ℤ) → covered shapes l x y
+    → (r : Rect) × Contains shapes r × Covers r l x y
 covered_by (r ∷ rs) l x y (inl h) = (r, (0, omega arith, refl), h)
-covered_by (r ∷ rs) l x y (inr h) = let g = covered_by rs l x y h in (g.0, (g.1.0 + 1, omega arith, later r rs g.0 g.1.0 ∙ g.1.2), g.2)
+covered_by (r ∷ rs) l x y (inr h) = let g = covered_by rs l x y h in
+    (g.0, (g.1.0 + 1, omega arith, later r rs g.0 g.1.0 ∙ g.1.2), g.2)
 covered_by [] l x y h = absurd h
 
-covers_at : (shapes : List Rect) (l : Layer) (x y : ℤ) (k : ℕ) (d : Rect) → k < length shapes → Covers (get_or shapes k d) l x y → covered shapes l x y
+covers_at : (shapes : List Rect) (l : Layer) (x y : ℤ) (k : ℕ) (d : Rect) → k < length shapes
+    → Covers (get_or shapes k d) l x y → covered shapes l x y
 covers_at [] l x y k d m h = absurd (omega arith)
 covers_at (r ∷ rs) l x y zero d m h = inl h
 covers_at (r ∷ rs) l x y (suc k) d m h = inr (covers_at rs l x y k d (omega arith) h)
 
-pub covers_all : (shapes : List Rect) (l : Layer) (x y : ℤ) (r : Rect) → Contains shapes r → Covers r l x y → covered shapes l x y
+pub covers_all : (shapes : List Rect) (l : Layer) (x y : ℤ) (r : Rect) → Contains shapes r → Covers r l x y
+    → covered shapes l x y
 covers_all shapes l x y r has h = covers_at shapes l x y has.0 r has.1 (subst (λ q. Covers q l x y) (sym has.2) h)
 
 pub before_mark : (ms : List ℤ) (m z : ℤ) → Ascending ms → Contains ms m → (z <ℤ m) ↔ (cell_of ms z < cell_of ms m)
 before_mark ms m z up has =
     let b = mark_before ms m z up has in (
-      λ l. elim (cases_lt (cell_of ms z) (cell_of ms m)) [ inl a ↦ a | inr a ↦ let c = b.1 a in absurd (omega (arith, ints)) ],
+      λ l. elim (cases_lt (cell_of ms z) (cell_of ms m)) [
+        | inl a ↦ a
+        | inr a ↦ let c = b.1 a in absurd (omega (arith, ints))
+      ],
       λ l. by_lt_z z m (λ a. a) (λ a. let c = b.0 a in absurd (omega arith)),
     )
 
@@ -73,7 +82,8 @@ block_covers xs ys r l x y upx upy d = (
   },
 )
 
-pub square_covered : (xs ys : List ℤ) (mask : Mask) (shapes : List Rect) (blocks : List Block) (l : Layer) (x y : ℤ) → IsGrid xs ys mask shapes blocks
+pub square_covered : (xs ys : List ℤ) (mask : Mask) (shapes : List Rect) (blocks : List Block) (l : Layer) (x y : ℤ)
+    → IsGrid xs ys mask shapes blocks
     → uses mask l ≡ true → covered shapes l x y ↔ Covered blocks l (cell_of ys y) (cell_of xs x)
 square_covered xs ys mask shapes blocks l x y g u = (
   λ h.
@@ -81,24 +91,19 @@ square_covered xs ys mask shapes blocks l x y g u = (
       let v : uses mask a.0.layer ≡ true = subst (λ m. uses mask m ≡ true) (sym a.2.same) u in
       let d = All-contains (λ r. uses mask r.layer ≡ true → IsDrawn xs ys r) shapes a.0 g.drawn a.1 v in
       let c = g.made.all a.0 a.1 v in
-      let at : block blocks c.0 ≡ block_of xs ys a.0 = get_or_default blocks c.0 no_block (block_of xs ys a.0) c.1 ∙ c.2 in
-      (c.0, c.1, subst (λ b. CoversCell b l (cell_of ys y) (cell_of xs x)) (sym at) ((block_covers xs ys a.0 l x y g.columns g.rows d).0 a.2)),
+      let at : block blocks c.0 ≡ block_of xs ys a.0 =
+      get_or_default blocks c.0 no_block (block_of xs ys a.0) c.1 ∙ c.2 in (
+        c.0,
+        c.1,
+        subst (λ b. CoversCell b l (cell_of ys y) (cell_of xs x)) (sym at)
+            ((block_covers xs ys a.0 l x y g.columns g.rows d).0 a.2),
+      ),
   λ h.
       let e = g.made.each h.0 no_block h.1 in
       let d = All-contains (λ r. uses mask r.layer ≡ true → IsDrawn xs ys r) shapes e.0 g.drawn e.1 e.2 in
       covers_all shapes l x y e.0 e.1 ((block_covers xs ys e.0 l x y g.columns g.rows d).1
       (subst (λ b. CoversCell b l (cell_of ys y) (cell_of xs x)) e.3 h.2)),
 )
-
-true_or_false : (b : Bool) → (b ≡ true) ⊎ (b ≡ false)
-true_or_false true = inl refl
-true_or_false false = inr refl
-
-pub layer_or_not : (a b : Layer) → (a ≡ b) ⊎ (a ≢ b)
-layer_or_not a b = elim (true_or_false (uses (Only a) b)) [
-  | inl t ↦ inl ((same_layer a b).0 t)
-  | inr f ↦ inr (λ e. true≢false (sym ((same_layer a b).1 e) ∙ f))
-]
 
 covers_or_not : (r : Rect) (l : Layer) (x y : ℤ) → Covers r l x y ⊎ (¬ Covers r l x y)
 covers_or_not r l x y = elim (layer_or_not r.layer l) [
@@ -118,14 +123,10 @@ seen (r ∷ rs) l x y = elim (covers_or_not r l x y) [
   | inr n ↦ let s = seen rs l x y in (s.0, (λ e. inr (s.1.0 e), λ g. elim g [ inl h ↦ absurd (n h) | inr h ↦ s.1.1 h ]))
 ]
 
-same_test : {P : Type 0} (a b : Bool) → (a ≡ true) ↔ P → (b ≡ true) ↔ P → a ≡ b
-same_test true true f g = refl
-same_test false false f g = refl
-same_test true false f g = sym (g.1 (f.0 refl))
-same_test false true f g = f.1 (g.0 refl)
-
-pub square_painted : ColoursByLayers → (xs ys : List ℤ) (mask : Mask) (shapes : List Rect) (blocks : List Block) (x y : ℤ)
-    → IsGrid xs ys mask shapes blocks → (s : Layers) → Sees shapes x y s → colour_of mask s ≡ painted mask blocks (cell_of ys y) (cell_of xs x)
+pub square_painted : ColoursByLayers
+    → (xs ys : List ℤ) (mask : Mask) (shapes : List Rect) (blocks : List Block) (x y : ℤ)
+    → IsGrid xs ys mask shapes blocks → (s : Layers) → Sees shapes x y s
+    → colour_of mask s ≡ painted mask blocks (cell_of ys y) (cell_of xs x)
 square_painted law xs ys mask shapes blocks x y g s h = painted_is law mask blocks (cell_of ys y) (cell_of xs x) s
     (λ l u.
     let c = square_covered xs ys mask shapes blocks l x y g u in
@@ -159,8 +160,10 @@ pub layers_of : (shapes : List Rect) (x y : ℤ) → (s : Layers) × Sees shapes
 layers_of shapes x y = (layers_by (λ l. (seen shapes l x y).0), sees_some shapes x y)
 
 -- a square has a colour exactly where its cell has it
-pub has_colour : ColoursByLayers → (xs ys : List ℤ) (mask : Mask) (shapes : List Rect) (blocks : List Block) (k : ℕ) (x y : ℤ)
-    → IsGrid xs ys mask shapes blocks → HasColour shapes mask k x y ↔ (painted mask blocks (cell_of ys y) (cell_of xs x) ≡ k)
+pub has_colour : ColoursByLayers
+    → (xs ys : List ℤ) (mask : Mask) (shapes : List Rect) (blocks : List Block) (k : ℕ) (x y : ℤ)
+    → IsGrid xs ys mask shapes blocks
+    → HasColour shapes mask k x y ↔ (painted mask blocks (cell_of ys y) (cell_of xs x) ≡ k)
 has_colour law xs ys mask shapes blocks k x y g = (
   λ h. sym (square_painted law xs ys mask shapes blocks x y g h.layers h.sees) ∙ h.same,
   λ e.

@@ -1,8 +1,10 @@
 -- Runs and strips as stretches of cells, and that each coloured cell is in one.
-use Rattle.std.proofs.Common.{ℕ, zero, suc, ◌≡◌, ◌≢◌, ◌+◌, ◌-◌, ◌<◌, ◌≤◌, ◌⊎◌, inl, inr, refl, sym, ◌∙◌, subst, arith, eq-or-lt_of_le}
+use Rattle.std.proofs.Common.{ℕ, zero, suc, ◌≡◌, ◌≢◌, ◌+◌, ◌-◌, ◌<◌, ◌≤◌, ◌⊎◌, inl, inr, refl, sym, ◌∙◌, subst, arith}
+use Rattle.std.proofs.Common.{eq-or-lt_of_le}
 use Rattle.std.proofs.lemmas.Bool.{cases_lt, cases_eq}
 use Rattle.mask_runs.specs.declared.run.Run.{Run}
 use Rattle.mask_runs.specs.Runs.{IsRun}
+use Rattle.mask_runs.proofs.Runs.{same_run}
 use Rattle.strip_rows.specs.declared.strip.Strip.{Strip}
 use Rattle.strip_rows.specs.Strips.{run_of, IsStrip}
 use Rattle.region_sweep.proofs.Blocks.{Stretch}
@@ -14,29 +16,35 @@ OfColour colour k c = colour c ≡ k
 pub run_stretch : (colour : ℕ → ℕ) (r : Run) → IsRun colour r → Stretch (OfColour colour r.colour) r.left r.right
 run_stretch colour r h = record { wide = h.wide; each = h.each; before = h.before; after = h.after }
 
-pub stretch_run : (colour : ℕ → ℕ) (r : Run) → 0 < r.colour → Stretch (OfColour colour r.colour) r.left r.right → IsRun colour r
+pub stretch_run : (colour : ℕ → ℕ) (r : Run) → 0 < r.colour → Stretch (OfColour colour r.colour) r.left r.right
+    → IsRun colour r
 stretch_run colour r some h = record { some = some; wide = h.wide; each = h.each; before = h.before; after = h.after }
 
-pub strip_stretch : (colour : ℕ → ℕ → ℕ) (s : Strip) → IsStrip colour s → Stretch (λ y. IsRun (colour y) (run_of s)) s.low s.high
+pub strip_stretch : (colour : ℕ → ℕ → ℕ) (s : Strip) → IsStrip colour s
+    → Stretch (λ y. IsRun (colour y) (run_of s)) s.low s.high
 strip_stretch colour s h = record { wide = h.tall; each = h.each; before = h.below; after = h.above }
 
-pub stretch_strip : (colour : ℕ → ℕ → ℕ) (s : Strip) → Stretch (λ y. IsRun (colour y) (run_of s)) s.low s.high → IsStrip colour s
+pub stretch_strip : (colour : ℕ → ℕ → ℕ) (s : Strip) → Stretch (λ y. IsRun (colour y) (run_of s)) s.low s.high
+    → IsStrip colour s
 stretch_strip colour s h = record { tall = h.wide; each = h.each; below = h.before; above = h.after }
 
 -- two longest stretches of one kind with a common cell are one
-same_left : (D : ℕ → Type 0) (l r l' r' c : ℕ) → Stretch D l r → Stretch D l' r' → l ≤ c → c < r → l' ≤ c → c < r' → l' ≤ l
+same_left : (D : ℕ → Type 0) (l r l' r' c : ℕ) → Stretch D l r → Stretch D l' r' → l ≤ c → c < r → l' ≤ c → c < r'
+    → l' ≤ l
 same_left D l r l' r' c h g a b p q = elim (cases_lt l l') [
   | inl m ↦ absurd (g.before (l' - 1) (omega arith) (h.each (l' - 1) (omega arith) (omega arith)))
   | inr m ↦ m
 ]
 
-same_right : (D : ℕ → Type 0) (l r l' r' c : ℕ) → Stretch D l r → Stretch D l' r' → l ≤ c → c < r → l' ≤ c → c < r' → r ≤ r'
+same_right : (D : ℕ → Type 0) (l r l' r' c : ℕ) → Stretch D l r → Stretch D l' r' → l ≤ c → c < r → l' ≤ c → c < r'
+    → r ≤ r'
 same_right D l r l' r' c h g a b p q = elim (cases_lt r' r) [
   | inl m ↦ absurd (g.after (h.each r' (omega arith) m))
   | inr m ↦ m
 ]
 
-pub one_stretch : (D : ℕ → Type 0) (l r l' r' c : ℕ) → Stretch D l r → Stretch D l' r' → l ≤ c → c < r → l' ≤ c → c < r' → (l ≡ l') × (r ≡ r')
+pub one_stretch : (D : ℕ → Type 0) (l r l' r' c : ℕ) → Stretch D l r → Stretch D l' r' → l ≤ c → c < r → l' ≤ c
+    → c < r' → (l ≡ l') × (r ≡ r')
 one_stretch D l r l' r' c h g a b p q =
     let x = same_left D l r l' r' c h g a b p q in
     let y = same_left D l' r' l r c g h p q a b in
@@ -44,11 +52,9 @@ one_stretch D l r l' r' c h g a b p q =
     let w = same_right D l' r' l r c g h p q a b in
     (omega arith, omega arith)
 
-same_run : (p q : Run) → p.left ≡ q.left → p.right ≡ q.right → p.colour ≡ q.colour → p ≡ q
-same_run p q e f g = λ i. record { left = e i; right = f i; colour = g i }
-
 -- the run that has a cell
-pub one_run : (colour : ℕ → ℕ) (p q : Run) (c : ℕ) → IsRun colour p → IsRun colour q → p.left ≤ c → c < p.right → q.left ≤ c → c < q.right → p ≡ q
+pub one_run : (colour : ℕ → ℕ) (p q : Run) (c : ℕ) → IsRun colour p → IsRun colour q → p.left ≤ c → c < p.right
+    → q.left ≤ c → c < q.right → p ≡ q
 one_run colour p q c h g a b x y =
     let k : p.colour ≡ q.colour = sym (h.each c a b) ∙ g.each c x y in
     let s = one_stretch (OfColour colour p.colour) p.left p.right q.left q.right c (run_stretch colour p h)
@@ -56,7 +62,8 @@ one_run colour p q c h g a b x y =
     same_run p q s.0 s.1 k
 
 same_strip : (s t : Strip) → run_of s ≡ run_of t → s.low ≡ t.low → s.high ≡ t.high → s ≡ t
-same_strip s t e f g = λ i. record { left = (e i).left; right = (e i).right; low = f i; high = g i; colour = (e i).colour }
+same_strip s t e f g =
+    λ i. record { left = (e i).left; right = (e i).right; low = f i; high = g i; colour = (e i).colour }
 
 pub record HasCell (s : Strip) (y c : ℕ) : Type 0 where
   pub left : s.left ≤ c
@@ -65,22 +72,37 @@ pub record HasCell (s : Strip) (y c : ℕ) : Type 0 where
   pub high : y < s.high
 
 -- the strip that has a cell
-pub one_strip : (colour : ℕ → ℕ → ℕ) (s t : Strip) (y c : ℕ) → IsStrip colour s → IsStrip colour t → HasCell s y c → HasCell t y c → s ≡ t
+pub one_strip : (colour : ℕ → ℕ → ℕ) (s t : Strip) (y c : ℕ) → IsStrip colour s → IsStrip colour t → HasCell s y c
+    → HasCell t y c → s ≡ t
 one_strip colour s t y c h g a b =
-    let r = one_run (colour y) (run_of s) (run_of t) c (h.each y a.low a.high) (g.each y b.low b.high) a.left a.right b.left b.right in
+    let r = one_run (colour y) (run_of s) (run_of t) c (h.each y a.low a.high)
+    (g.each y b.low b.high) a.left a.right b.left b.right in
     let e = one_stretch (λ z. IsRun (colour z) (run_of s)) s.low s.high t.low t.high y (strip_stretch colour s h)
-    (subst (λ q. Stretch (λ z. IsRun (colour z) q) t.low t.high) (sym r) (strip_stretch colour t g)) a.low a.high b.low b.high in
+    (subst (λ q. Stretch (λ z. IsRun (colour z) q) t.low t.high) (sym r) (strip_stretch colour t g)) a.low a.high b.low
+    b.high in
     same_strip s t r e.0 e.1
 
 -- where a kind is decided, each cell of it is in a longest stretch, if those from n on are not of it
 down_from : (D : ℕ → Type 0) → ((c : ℕ) → D c ⊎ (¬ D c)) → (c : ℕ) → D c
     → (l : ℕ) × (l ≤ c) × ((z : ℕ) → l ≤ z → z ≤ c → D z) × ((z : ℕ) → z + 1 ≡ l → ¬ D z)
-down_from D dec zero h = (0, omega arith, (λ z a b. let e : 0 ≡ z = omega arith in subst D e h), λ z e. absurd (omega arith))
+down_from D dec zero h =
+    (0, omega arith, (λ z a b. let e : 0 ≡ z = omega arith in subst D e h), λ z e. absurd (omega arith))
 down_from D dec (suc c) h = elim (dec c) [
   | inl d ↦
-      let g = down_from D dec c d in
-      (g.0, omega arith, (λ z a b. elim (eq-or-lt_of_le b) [ inl e ↦ subst D (sym e) h | inr m ↦ g.2 z a (omega arith) ]), g.3)
-  | inr n ↦ (suc c, omega arith, (λ z a b. let e : suc c ≡ z = omega arith in subst D e h), λ z e d. n (let q : z ≡ c = omega arith in subst D q d))
+      let g = down_from D dec c d in (
+        g.0,
+        omega
+            arith,
+        (λ z a b. elim (eq-or-lt_of_le b) [ inl e ↦ subst D (sym e) h | inr m ↦ g.2 z a (omega arith) ]),
+        g.3,
+      )
+  | inr n ↦ (
+    suc c,
+    omega arith,
+    (λ z a b. let e : suc c ≡ z = omega arith in subst D e h),
+    λ z e d. n
+        (let q : z ≡ c = omega arith in subst D q d),
+  )
 ]
 
 up_from : (D : ℕ → Type 0) → ((c : ℕ) → D c ⊎ (¬ D c)) → (n c : ℕ) → ¬ D (c + n) → D c
@@ -89,8 +111,14 @@ up_from D dec zero c none h = absurd (none (let e : c ≡ c + 0 = omega arith in
 up_from D dec (suc n) c none h = elim (dec (c + 1)) [
   | inl d ↦
       let e : c + suc n ≡ c + 1 + n = omega arith in
-      let g = up_from D dec n (c + 1) (subst (λ z. ¬ D z) e none) d in
-      (g.0, omega arith, omega arith, (λ z a b. elim (eq-or-lt_of_le a) [ inl q ↦ subst D q h | inr m ↦ g.3 z (omega arith) b ]), g.4)
+      let g = up_from D dec n (c + 1) (subst (λ z. ¬ D z) e none) d in (
+        g.0,
+        omega arith,
+        omega
+            arith,
+        (λ z a b. elim (eq-or-lt_of_le a) [ inl q ↦ subst D q h | inr m ↦ g.3 z (omega arith) b ]),
+        g.4,
+      )
   | inr k ↦ (c + 1, omega arith, omega arith, (λ z a b. let e : c ≡ z = omega arith in subst D e h), k)
 ]
 
@@ -112,20 +140,23 @@ stretch_around D dec n c last h =
       },
     )
 
-all_below : (D : ℕ → Type 0) → ((c : ℕ) → D c ⊎ (¬ D c)) → (l n : ℕ) → ((c : ℕ) → l ≤ c → c < n → D c) ⊎ ((c : ℕ) × (l ≤ c) × (c < n) × (¬ D c))
+all_below : (D : ℕ → Type 0) → ((c : ℕ) → D c ⊎ (¬ D c)) → (l n : ℕ)
+    → ((c : ℕ) → l ≤ c → c < n → D c) ⊎ ((c : ℕ) × (l ≤ c) × (c < n) × (¬ D c))
 all_below D dec l zero = inl (λ c a b. absurd (omega arith))
 all_below D dec l (suc n) = elim (all_below D dec l n) [
   | inr g ↦ inr (g.0, g.1, omega arith, g.3)
   | inl f ↦ elim (cases_lt n l) [
     | inl m ↦ inl (λ c a b. absurd (omega arith))
     | inr m ↦ elim (dec n) [
-      | inl d ↦ inl (λ c a b. elim (cases_lt c n) [ inl q ↦ f c a q | inr q ↦ let e : n ≡ c = omega arith in subst D e d ])
+      | inl d ↦
+          inl (λ c a b. elim (cases_lt c n) [ inl q ↦ f c a q | inr q ↦ let e : n ≡ c = omega arith in subst D e d ])
       | inr k ↦ inr (n, m, omega arith, k)
     ]
   ]
 ]
 
-before_or_not : (colour : ℕ → ℕ) (k l : ℕ) → ((c : ℕ) → c + 1 ≡ l → colour c ≢ k) ⊎ ((c : ℕ) × (c + 1 ≡ l) × (colour c ≡ k))
+before_or_not : (colour : ℕ → ℕ) (k l : ℕ)
+    → ((c : ℕ) → c + 1 ≡ l → colour c ≢ k) ⊎ ((c : ℕ) × (c + 1 ≡ l) × (colour c ≡ k))
 before_or_not colour k zero = inl (λ c e. absurd (omega arith))
 before_or_not colour k (suc l) = elim (cases_eq (colour l) k) [
   | inl e ↦ inr (l, omega arith, e)

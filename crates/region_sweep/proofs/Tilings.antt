@@ -1,5 +1,6 @@
 -- Strips of cells are tiles of squares.
-use Rattle.std.proofs.Common.{ℕ, ◌≡◌, ◌+◌, ◌-◌, ◌<◌, ◌≤◌, ◌↔◌, List, map, inl, inr, refl, sym, ap, ◌∙◌, subst, arith, length, get_or}
+use Rattle.std.proofs.Common.{ℕ, ◌≡◌, ◌+◌, ◌-◌, ◌<◌, ◌≤◌, ◌↔◌, List, map, inl, inr, refl, sym, ap, ◌∙◌, subst, arith}
+use Rattle.std.proofs.Common.{length, get_or}
 use Rattle.std.specs.Prelude.{ℤ, pos, ◌<ℤ◌, All, Contains}
 use Rattle.std.proofs.lemmas.Int.{ints}
 use Rattle.std.proofs.lemmas.Bool.{cases_lt}
@@ -11,6 +12,7 @@ use Rattle.mask_runs.specs.declared.run.Run.{Run}
 use Rattle.mask_runs.specs.Runs.{IsRun}
 use Rattle.mask_runs.specs.Colours.{HasColour}
 use Rattle.mask_runs.specs.Laws.{ColoursByLayers}
+use Rattle.mask_runs.proofs.Runs.{same_run}
 use Rattle.strip_rows.specs.declared.strip.Strip.{Strip}
 use Rattle.strip_rows.specs.Strips.{run_of, strip, no_strip, IsStrip, IsBefore, AreStrips}
 use Rattle.region_sweep.specs.declared.block.Block.{Block}
@@ -19,10 +21,12 @@ use Rattle.region_sweep.specs.Tiles.{IsLongest, IsSpan, IsTile, AreTiles, AreWho
 use Rattle.region_sweep.specs.Grid.{Ascending, cell_of, start_of, tile_of, IsFit}
 use Rattle.region_sweep.specs.Blocks.{painted, AreStacked}
 use Rattle.region_sweep.proofs.Axes.{in_cell, start_is_in, mark_before}
-use Rattle.region_sweep.proofs.Blocks.{ByCell, IsCut, cut_left, cut_right, start_cuts, stretch_from_places, places_from_stretch}
+use Rattle.region_sweep.proofs.Blocks.{ByCell, IsCut, cut_left, cut_right, start_cuts, stretch_from_places}
+use Rattle.region_sweep.proofs.Blocks.{places_from_stretch}
 use Rattle.region_sweep.proofs.Painting.{blank_left, blank_right, blank_below, blank_above}
 use Rattle.region_sweep.proofs.Squares.{IsGrid, has_colour, before_mark}
-use Rattle.region_sweep.proofs.Stretches.{OfColour, run_stretch, stretch_run, strip_stretch, stretch_strip, HasCell, strip_around}
+use Rattle.region_sweep.proofs.Stretches.{OfColour, run_stretch, stretch_run, strip_stretch, stretch_strip, HasCell}
+use Rattle.region_sweep.proofs.Stretches.{strip_around}
 
 -- blocks of the grid that keep off its edge
 pub record IsLaid (xs ys : List ℤ) (mask : Mask) (shapes : List Rect) (blocks : List Block) : Type 0 where
@@ -30,7 +34,8 @@ pub record IsLaid (xs ys : List ℤ) (mask : Mask) (shapes : List Rect) (blocks 
   pub grid : IsGrid xs ys mask shapes blocks
   pub stacked : AreStacked mask (length xs + 1) (length ys + 1) blocks
 
-by_columns : (xs ys : List ℤ) (mask : Mask) (shapes : List Rect) (blocks : List Block) (k : ℕ) (y : ℤ) → IsLaid xs ys mask shapes blocks
+by_columns : (xs ys : List ℤ) (mask : Mask) (shapes : List Rect) (blocks : List Block) (k : ℕ) (y : ℤ)
+    → IsLaid xs ys mask shapes blocks
     → ByCell xs (λ x. HasColour shapes mask k x y) (OfColour (painted mask blocks (cell_of ys y)) k)
 by_columns xs ys mask shapes blocks k y h = record {
   ascending = h.grid.columns;
@@ -40,8 +45,10 @@ by_columns xs ys mask shapes blocks k y h = record {
 run_between : List ℤ → ℤ → ℤ → ℕ → Run
 run_between xs x0 x1 k = record { left = cell_of xs x0; right = cell_of xs x1; colour = k }
 
-by_rows : (xs ys : List ℤ) (mask : Mask) (shapes : List Rect) (blocks : List Block) (k : ℕ) (x0 x1 : ℤ) → IsLaid xs ys mask shapes blocks
-    → 0 < k → IsCut xs x0 → IsCut xs x1 → ByCell ys (IsSpan shapes mask k x0 x1) (λ y. IsRun (painted mask blocks y) (run_between xs x0 x1 k))
+by_rows : (xs ys : List ℤ) (mask : Mask) (shapes : List Rect) (blocks : List Block) (k : ℕ) (x0 x1 : ℤ)
+    → IsLaid xs ys mask shapes blocks
+    → 0 < k → IsCut xs x0 → IsCut xs x1
+    → ByCell ys (IsSpan shapes mask k x0 x1) (λ y. IsRun (painted mask blocks y) (run_between xs x0 x1 k))
 unfolding run_between
 by_rows xs ys mask shapes blocks k x0 x1 h some a b = record {
   ascending = h.grid.rows;
@@ -49,7 +56,8 @@ by_rows xs ys mask shapes blocks k x0 x1 h some a b = record {
       let P = λ (x : ℤ). HasColour shapes mask k x y in
       let D = OfColour (painted mask blocks (cell_of ys y)) k in
       let by = by_columns xs ys mask shapes blocks k y h in (
-        λ s. stretch_run (painted mask blocks (cell_of ys y)) (run_between xs x0 x1 k) some (stretch_from_places xs P D x0 x1 by s),
+        λ s. stretch_run (painted mask blocks (cell_of ys y)) (run_between xs x0 x1 k) some
+            (stretch_from_places xs P D x0 x1 by s),
         λ r. subst (λ u. IsLongest P u x1) a.start (subst (λ v. IsLongest P (start_of xs (cell_of xs x0)) v) b.start
             (places_from_stretch xs P D (cell_of xs x0) (cell_of xs x1) by a.some (in_cell xs x1 h.grid.columns).within
             (run_stretch (painted mask blocks (cell_of ys y)) (run_between xs x0 x1 k) r))),
@@ -57,7 +65,8 @@ by_rows xs ys mask shapes blocks k x0 x1 h some a b = record {
 }
 
 -- strips have cells, and keep off the guard cells and rows
-pub strip_within : (xs ys : List ℤ) (mask : Mask) (shapes : List Rect) (blocks : List Block) (s : Strip) → IsLaid xs ys mask shapes blocks
+pub strip_within : (xs ys : List ℤ) (mask : Mask) (shapes : List Rect) (blocks : List Block) (s : Strip)
+    → IsLaid xs ys mask shapes blocks
     → IsStrip (painted mask blocks) s → IsFit xs ys s
 strip_within xs ys mask shapes blocks s h is =
     let tall = is.tall in
@@ -79,7 +88,8 @@ strip_within xs ys mask shapes blocks s h is =
         | inr l ↦ l
         | inl l ↦
             let e = bottom.each (s.right - 1) (omega arith) (omega arith) in
-            let b = blank_right h.law mask (length xs + 1) (length ys + 1) blocks s.low (s.right - 1) h.stacked (omega arith) in
+            let b = blank_right h.law mask (length xs + 1) (length ys + 1) blocks s.low (s.right - 1) h.stacked
+            (omega arith) in
             absurd (omega arith)
       ];
       low = elim (cases_lt 0 s.low) [
@@ -93,15 +103,14 @@ strip_within xs ys mask shapes blocks s h is =
         | inr l ↦ l
         | inl l ↦
             let e = top.each s.left (omega arith) wide in
-            let b = blank_above h.law mask (length xs + 1) (length ys + 1) blocks (s.high - 1) s.left h.stacked (omega arith) in
+            let b = blank_above h.law mask (length xs + 1) (length ys + 1) blocks (s.high - 1) s.left h.stacked
+            (omega arith) in
             absurd (omega arith)
       ];
     }
 
-same_run : (p q : Run) → p.left ≡ q.left → p.right ≡ q.right → p.colour ≡ q.colour → p ≡ q
-same_run p q e f g = λ i. record { left = e i; right = f i; colour = g i }
-
-pub tile_from_strip : (xs ys : List ℤ) (mask : Mask) (shapes : List Rect) (blocks : List Block) (s : Strip) → IsLaid xs ys mask shapes blocks
+pub tile_from_strip : (xs ys : List ℤ) (mask : Mask) (shapes : List Rect) (blocks : List Block) (s : Strip)
+    → IsLaid xs ys mask shapes blocks
     → IsStrip (painted mask blocks) s → IsTile shapes mask (tile_of xs ys s)
 unfolding run_between
 tile_from_strip xs ys mask shapes blocks s h is =
@@ -119,18 +128,27 @@ tile_from_strip xs ys mask shapes blocks s h is =
     let by = by_rows xs ys mask shapes blocks s.colour x0 x1 h bottom.some a b in
     record {
       some = bottom.some;
-      stack = places_from_stretch ys (IsSpan shapes mask s.colour x0 x1) (λ y. IsRun (painted mask blocks y) (run_of s)) s.low s.high
+      stack = places_from_stretch ys (IsSpan shapes mask s.colour x0 x1)
+          (λ y. IsRun (painted mask blocks y) (run_of s)) s.low s.high
           (subst (λ r. ByCell ys (IsSpan shapes mask s.colour x0 x1) (λ y. IsRun (painted mask blocks y) r)) run by)
           w.low w.high (strip_stretch (painted mask blocks) s is);
     }
 
 strip_of : List ℤ → List ℤ → Tile → Strip
-strip_of xs ys t = record { left = cell_of xs t.x0; right = cell_of xs t.x1; low = cell_of ys t.y0; high = cell_of ys t.y1; colour = t.colour }
+strip_of xs ys t =
+    record {
+      left = cell_of xs t.x0;
+      right = cell_of xs t.x1;
+      low = cell_of ys t.y0;
+      high = cell_of ys t.y1;
+      colour = t.colour;
+    }
 
 same_tile : (s t : Tile) → s.x0 ≡ t.x0 → s.y0 ≡ t.y0 → s.x1 ≡ t.x1 → s.y1 ≡ t.y1 → s.colour ≡ t.colour → s ≡ t
 same_tile s t a b c d e = λ i. record { x0 = a i; y0 = b i; x1 = c i; y1 = d i; colour = e i }
 
-strip_from_tile : (xs ys : List ℤ) (mask : Mask) (shapes : List Rect) (blocks : List Block) (t : Tile) → IsLaid xs ys mask shapes blocks
+strip_from_tile : (xs ys : List ℤ) (mask : Mask) (shapes : List Rect) (blocks : List Block) (t : Tile)
+    → IsLaid xs ys mask shapes blocks
     → IsTile shapes mask t → IsStrip (painted mask blocks) (strip_of xs ys t) × (tile_of xs ys (strip_of xs ys t) ≡ t)
 unfolding strip_of run_between
 strip_from_tile xs ys mask shapes blocks t h is =
@@ -151,10 +169,12 @@ strip_from_tile xs ys mask shapes blocks t h is =
     )
 
 -- starts rise with their cells
-pub starts_rise : (ms : List ℤ) (a b : ℕ) → Ascending ms → 0 < a → b ≤ length ms → a < b → start_of ms a <ℤ start_of ms b
+pub starts_rise : (ms : List ℤ) (a b : ℕ) → Ascending ms → 0 < a → b ≤ length ms → a < b
+    → start_of ms a <ℤ start_of ms b
 starts_rise ms a b up some l m = up (a - 1) (b - 1) (pos 0) (omega arith) (omega arith)
 
-pub strips_within : (xs ys : List ℤ) (mask : Mask) (shapes : List Rect) (blocks : List Block) (strips : List Strip) → IsLaid xs ys mask shapes blocks
+pub strips_within : (xs ys : List ℤ) (mask : Mask) (shapes : List Rect) (blocks : List Block) (strips : List Strip)
+    → IsLaid xs ys mask shapes blocks
     → AreStrips (painted mask blocks) strips → All (IsFit xs ys) strips
 strips_within xs ys mask shapes blocks strips h are = All-weaker (IsStrip (painted mask blocks)) (IsFit xs ys)
     (λ s is. strip_within xs ys mask shapes blocks s h is) strips are.each
@@ -163,23 +183,29 @@ tile_at : (xs ys : List ℤ) (strips : List Strip) (n : ℕ) (d : Tile) → n < 
     → get_or (map (tile_of xs ys) strips) n d ≡ tile_of xs ys (strip strips n)
 tile_at xs ys strips n d l = get_or-map (tile_of xs ys) strips n no_strip d l
 
-before_tiles : (xs ys : List ℤ) (s t : Strip) → Ascending xs → Ascending ys → IsFit xs ys s → IsFit xs ys t → s.low < s.high → t.low < t.high
+before_tiles : (xs ys : List ℤ) (s t : Strip) → Ascending xs → Ascending ys → IsFit xs ys s → IsFit xs ys t
+    → s.low < s.high → t.low < t.high
     → s.left < s.right → t.left < t.right → IsBefore s t → Before (tile_of xs ys s) (tile_of xs ys t)
-before_tiles xs ys s t upx upy a b tall tall' wide wide' (inl l) = inl (starts_rise ys s.low t.low upy a.low (let h = b.high in omega arith) l)
-before_tiles xs ys s t upx upy a b tall tall' wide wide' (inr h) = inr (ap (start_of ys) h.0, starts_rise xs s.left t.left upx a.left (let r = b.right in omega arith) h.1)
+before_tiles xs ys s t upx upy a b tall tall' wide wide' (inl l) =
+    inl (starts_rise ys s.low t.low upy a.low (let h = b.high in omega arith) l)
+before_tiles xs ys s t upx upy a b tall tall' wide wide' (inr h) =
+    inr (ap (start_of ys) h.0, starts_rise xs s.left t.left upx a.left (let r = b.right in omega arith) h.1)
 
-contains_tile : (xs ys : List ℤ) (strips : List Strip) (s : Strip) (t : Tile) → Contains strips s → tile_of xs ys s ≡ t → Contains (map (tile_of xs ys) strips) t
+contains_tile : (xs ys : List ℤ) (strips : List Strip) (s : Strip) (t : Tile) → Contains strips s → tile_of xs ys s ≡ t
+    → Contains (map (tile_of xs ys) strips) t
 contains_tile xs ys strips s t has e = (
   has.0,
   rw length-map has.1,
   get_or-map (tile_of xs ys) strips has.0 s t has.1 ∙ ap (tile_of xs ys) has.2 ∙ e,
 )
 
-pub are_tiles : (xs ys : List ℤ) (mask : Mask) (shapes : List Rect) (blocks : List Block) (strips : List Strip) → IsLaid xs ys mask shapes blocks
+pub are_tiles : (xs ys : List ℤ) (mask : Mask) (shapes : List Rect) (blocks : List Block) (strips : List Strip)
+    → IsLaid xs ys mask shapes blocks
     → AreStrips (painted mask blocks) strips → AreTiles shapes mask (map (tile_of xs ys) strips)
 are_tiles xs ys mask shapes blocks strips h are = record {
   each = All-map (IsTile shapes mask) (tile_of xs ys) strips
-      (All-weaker (IsStrip (painted mask blocks)) (λ s. IsTile shapes mask (tile_of xs ys s)) (λ s is. tile_from_strip xs ys mask shapes blocks s h is) strips are.each);
+      (All-weaker (IsStrip (painted mask blocks)) (λ s. IsTile shapes mask (tile_of xs ys s))
+      (λ s is. tile_from_strip xs ys mask shapes blocks s h is) strips are.each);
   all = λ t is.
       let g = strip_from_tile xs ys mask shapes blocks t h is in
       let has = are.all (strip_of xs ys t) g.0 in
@@ -193,12 +219,14 @@ are_tiles xs ys mask shapes blocks strips h are = record {
       let x = a.each (strip strips i).low (omega arith) a.tall in
       let y = b.each (strip strips j).low (omega arith) b.tall in
       rw (tile_at xs ys strips i d l', tile_at xs ys strips j d m')
-      (before_tiles xs ys (strip strips i) (strip strips j) h.grid.columns h.grid.rows (w i no_strip l') (w j no_strip m') a.tall b.tall x.wide y.wide
+      (before_tiles xs ys (strip strips i) (strip strips j) h.grid.columns h.grid.rows (w i no_strip l')
+      (w j no_strip m') a.tall b.tall x.wide y.wide
       (are.ascending i j no_strip l m'));
 }
 
 -- the strip has the cell exactly where its tile has the square
-pub in_tile : (xs ys : List ℤ) (s : Strip) (x y : ℤ) → Ascending xs → Ascending ys → IsFit xs ys s → s.left < s.right → s.low < s.high
+pub in_tile : (xs ys : List ℤ) (s : Strip) (x y : ℤ) → Ascending xs → Ascending ys → IsFit xs ys s → s.left < s.right
+    → s.low < s.high
     → HasCell s (cell_of ys y) (cell_of xs x) ↔ InTile (tile_of xs ys s) x y
 in_tile xs ys s x y upx upy w wide tall =
     let left = w.left in
@@ -227,7 +255,8 @@ in_tile xs ys s x y upx upy w wide tall =
       },
     )
 
-pub are_whole : (xs ys : List ℤ) (mask : Mask) (shapes : List Rect) (blocks : List Block) (strips : List Strip) → IsLaid xs ys mask shapes blocks
+pub are_whole : (xs ys : List ℤ) (mask : Mask) (shapes : List Rect) (blocks : List Block) (strips : List Strip)
+    → IsLaid xs ys mask shapes blocks
     → AreStrips (painted mask blocks) strips → AreWhole shapes mask (map (tile_of xs ys) strips)
 are_whole xs ys mask shapes blocks strips h are = record {
   tile = λ k x y some has.

@@ -2,7 +2,7 @@
 use Rattle.std.specs.Prelude.{◌≡◌, ◌≢◌, ◌↔◌, ◌⊎◌, ℕ, ◌<◌, ◌≤◌, List, All, AllPairs, length}
 use Rattle.lam_geom.specs.declared.layer.Layer.{Layer}
 use Rattle.lam_geom.specs.declared.layer.Layer.TheVariants.{ND, NP, NC, NM, NI, NB, NG}
-use Rattle.cover_tree.specs.declared.stretch.Stretch.{Stretch}
+use Rattle.cover_tree.specs.declared.span.Span.{Span}
 use Rattle.row_windows.specs.Windows.{Touches}
 use Rattle.region_sweep.specs.declared.block.Block.{Block}
 use Rattle.region_sweep.specs.declared.changes.Begun.{Begun}
@@ -39,7 +39,7 @@ pub record AreReached (blocks : List Block) (first row cell : ℕ) (begun : Begu
       ↔ ((k : ℕ) × (first ≤ k) × (k < begun.next) × ReachesPast (block blocks k) l row z)
 
 -- the stretches have exactly the cells before `end` whose colours in two rows differ, and stand from left to right
-pub record AreChanges (old new : ℕ → ℕ) (end : ℕ) (changed : List Stretch) : Type 0 where
+pub record AreChanges (old new : ℕ → ℕ) (end : ℕ) (changed : List Span) : Type 0 where
   pub wide : All (λ s. s.from < s.to) changed
   pub within : All (λ s. s.to ≤ end) changed
   pub each : All (λ s. (c : ℕ) → s.from ≤ c → c < s.to → old c ≢ new c) changed

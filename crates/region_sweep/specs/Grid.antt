@@ -1,6 +1,7 @@
 -- The grid that coordinates draw. Of n marks in order there are n + 1 cells: cell 0 is before the first mark, and each
 -- other cell begins at its mark.
-use Rattle.std.specs.Prelude.{◌≡◌, ℕ, suc, ◌-◌, ◌<◌, ◌≤◌, ℤ, pos, ◌<ℤ◌, List, [], ◌∷◌, All, AllPairs, Contains, cond, int_le, slice_index_or, length, true}
+use Rattle.std.specs.Prelude.{◌≡◌, ℕ, suc, ◌-◌, ◌<◌, ◌≤◌, ℤ, pos, ◌<ℤ◌, List, [], ◌∷◌, All, AllPairs, Contains, cond}
+use Rattle.std.specs.Prelude.{int_le, slice_index_or, length, true}
 use Rattle.lam_geom.specs.declared.rect.Rect.{Rect}
 use Rattle.lam_geom.specs.declared.place.Point.{Point}
 use Rattle.mask_runs.specs.declared.mask.Mask.{Mask}
@@ -74,5 +75,7 @@ spot_of xs ys i p = record { row = cell_of ys p.y; cell = cell_of xs p.x; index 
 
 -- the spots are those of the places
 pub record AreSpots (xs ys : List ℤ) (places : List Point) (spots : List Spot) : Type 0 where
-  pub each : All (λ s. (s.index < length places) × ((d : Point) → s ≡ spot_of xs ys s.index (slice_index_or places s.index d))) spots
+  pub each : All
+      (λ s. (s.index < length places) × ((d : Point) → s ≡ spot_of xs ys s.index (slice_index_or places s.index d)))
+      spots
   pub all : (i : ℕ) (d : Point) → i < length places → Contains spots (spot_of xs ys i (slice_index_or places i d))

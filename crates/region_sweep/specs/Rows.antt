@@ -41,7 +41,8 @@ pub record AreRaised (blocks : List Block) (row raised : ℕ) (cover : Cover) : 
 -- those that begin in lower rows stand first, and those of a row from left to right
 pub record AreInOrder (blocks : List Block) : Type 0 where
   pub rows : IsNonDecreasingBy (λ b. b.low) blocks
-  pub ties : (j k : ℕ) → j ≤ k → k < length blocks → (block blocks j).low ≡ (block blocks k).low → (block blocks j).left ≤ (block blocks k).left
+  pub ties : (j k : ℕ) → j ≤ k → k < length blocks → (block blocks j).low ≡ (block blocks k).low
+      → (block blocks j).left ≤ (block blocks k).left
 
 -- the mask uses the blocks, which lie before the last of so many cells
 pub record AreWithin (mask : Mask) (cells : ℕ) (blocks : List Block) : Type 0 where
@@ -66,7 +67,8 @@ spot spots j = slice_index_or spots j no_spot
 pub record AreAsked (places : ℕ) (spots : List Spot) : Type 0 where
   pub within : All (λ s. s.index < places) spots
   pub ascending : IsNonDecreasingBy (λ s. s.row) spots
-  pub one : (i j : ℕ) → i < length spots → j < length spots → (spot spots i).index ≡ (spot spots j).index → spot spots i ≡ spot spots j
+  pub one : (i j : ℕ) → i < length spots → j < length spots → (spot spots i).index ≡ (spot spots j).index
+      → spot spots i ≡ spot spots j
 
 -- the strips up to a row, and the runs that are kept of that row
 pub record IsFront (colour : ℕ → ℕ → ℕ) (row : ℕ) (strips : StripRows) (kept : KeptRuns) : Type 0 where
@@ -86,9 +88,11 @@ IsAnswer colour strips p (Some n) = (n < length strips) × Holds colour (strip s
 IsAnswer colour strips p None = colour p.row p.cell ≡ 0
 
 -- the first `answered` spots have their answers
-pub record AreAnswered (colour : ℕ → ℕ → ℕ) (strips : List Strip) (spots : List Spot) (answered : ℕ) (found : List (Option ℕ)) : Type 0 where
+pub record AreAnswered (colour : ℕ → ℕ → ℕ) (strips : List Strip) (spots : List Spot) (answered : ℕ)
+    (found : List (Option ℕ)) : Type 0 where
   pub within : answered ≤ length spots
-  pub each : (j : ℕ) → j < answered → IsAnswer colour strips (spot spots j) (slice_index_or found (spot spots j).index None)
+  pub each : (j : ℕ) → j < answered
+      → IsAnswer colour strips (spot spots j) (slice_index_or found (spot spots j).index None)
 
 -- all strips, the pairs that touch, and all answers
 pub record IsSweep (colour : ℕ → ℕ → ℕ) (spots : List Spot) (swept : Strips) (found : List (Option ℕ)) : Type 0 where

@@ -1,5 +1,6 @@
 -- The tiles of a mask.
-use Rattle.std.specs.Prelude.{◌≡◌, ◌⊎◌, ℕ, ◌<◌, ℤ, negsuc, ◌+ℤ◌, ◌<ℤ◌, ◌≤ℤ◌, List, All, AllPairs, Contains, Option, Some, None, slice_get}
+use Rattle.std.specs.Prelude.{◌≡◌, ◌⊎◌, ℕ, ◌<◌, ℤ, negsuc, ◌+ℤ◌, ◌<ℤ◌, ◌≤ℤ◌, List, All, AllPairs, Contains, Option}
+use Rattle.std.specs.Prelude.{Some, None, slice_get}
 use Rattle.lam_geom.specs.declared.rect.Rect.{Rect}
 use Rattle.lam_geom.specs.declared.place.Point.{Point}
 use Rattle.mask_runs.specs.declared.mask.Mask.{Mask}

@@ -9,7 +9,7 @@ ghost use Rattle.region_sweep.specs.Begins.{reach_of, AreReached, IsReached, Are
 
 use crate::block::Block;
 use crate::reach::Reach;
-use cover_tree::{CoverTree, Stretch};
+use cover_tree::{CoverTree, Span};
 use mask_runs::colours_by_layers;
 use mp_base::NoMemory;
 
@@ -22,7 +22,7 @@ pub(crate) fn find_changes(
     blocks: &[Block],
     raised: usize,
     below: u32,
-    changed: &mut Vec<Stretch>,
+    changed: &mut Vec<Span>,
 ) -> Result<(), NoMemory>
     requires room { below + 1 < 2 ^ 32 }
     requires within { AreWithin (cover_of tree.now).mask cells blocks.now }

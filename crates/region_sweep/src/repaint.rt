@@ -8,7 +8,7 @@ ghost use Rattle.kept_runs.specs.Kept.{colours_of, width_of};
 ghost use Rattle.mask_runs.specs.Runs.{AreRuns};
 ghost use Rattle.region_sweep.specs.Repainting.{IsShown, IsRepainted};
 
-use cover_tree::{CoverTree, Stretch};
+use cover_tree::{CoverTree, Span};
 use kept_runs::KeptRuns;
 use mask_runs::Run;
 use mp_base::NoMemory;
@@ -18,7 +18,7 @@ use mp_base::NoMemory;
 pub(crate) fn repaint(
     tree: &CoverTree,
     row: u32,
-    stretches: &[Stretch],
+    stretches: &[Span],
     piece: &mut Vec<Run>,
     kept: &mut KeptRuns,
 ) -> Result<(), NoMemory>
@@ -35,7 +35,7 @@ pub(crate) fn repaint(
 }
 
 // Gives the cells of the stretch the colours of these runs.
-fn paint_stretch(runs: &[Run], stretch: Stretch, kept: &mut KeptRuns)
+fn paint_stretch(runs: &[Run], stretch: Span, kept: &mut KeptRuns)
     requires wide { stretch.from < stretch.to }
     requires within { stretch.to ≤ width_of kept.old }
     requires runs { All (λ r. (stretch.from ≤ r.left) × (r.left < r.right) × (r.right ≤ stretch.to)) runs.now }

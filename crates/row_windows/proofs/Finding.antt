@@ -1,5 +1,6 @@
 -- Stretch by stretch, from left to right.
-use Rattle.std.proofs.Common.{ℕ, ◌≡◌, ◌+◌, ◌-◌, ◌<◌, ◌≤◌, ◌⊎◌, List, [], ◌∷◌, ◌++◌, inl, inr, refl, sym, ◌∙◌, ap, subst, arith, length}
+use Rattle.std.proofs.Common.{ℕ, ◌≡◌, ◌+◌, ◌-◌, ◌<◌, ◌≤◌, ◌⊎◌, List, [], ◌∷◌, ◌++◌, inl, inr, refl, sym, ◌∙◌, ap, subst}
+use Rattle.std.proofs.Common.{arith, length}
 use Rattle.std.specs.Prelude.{All}
 use Rattle.std.proofs.lemmas.Bool.{cases_lt, cases_eq}
 use Rattle.std.proofs.lemmas.List.{get_or_default}
@@ -7,39 +8,42 @@ use Rattle.std.proofs.lemmas.List.Elements.{All-push, Contains-append_left, Cont
 use Rattle.std.proofs.lemmas.List.Quantifiers.{all_pairs_push}
 use Rattle.mask_runs.specs.declared.run.Run.{Run}
 use Rattle.mask_runs.specs.Runs.{IsRun}
-use Rattle.cover_tree.specs.declared.stretch.Stretch.{Stretch}
-use Rattle.row_windows.specs.declared.window.Window.{Window}
+use Rattle.mask_runs.proofs.Runs.{same_run}
+use Rattle.cover_tree.specs.declared.span.Span.{Span}
+use Rattle.strip_rows.proofs.Turning.{same_run as one_from}
 use Rattle.row_windows.specs.Windows.{stretch, no_stretch, Touches, ChangeAt, AreFit, AreApart, TellChange}
 use Rattle.row_windows.specs.Reaching.{IsLeftOf, IsRightOf, IsJoined, IsBegun, IsOpened}
 use Rattle.row_windows.proofs.Cutting.{window, no_window, IsFirm}
 use Rattle.row_windows.proofs.Telling.{AreWindows, tell_change}
 
 -- the cell before has no colour and no stretch has it
-pub record IsFreeBefore (colour : ℕ → ℕ) (stretches : List Stretch) (a : ℕ) : Type 0 where
+pub record IsFreeBefore (colour : ℕ → ℕ) (stretches : List Span) (a : ℕ) : Type 0 where
   pub blank : (c : ℕ) → c + 1 ≡ a → colour c ≡ 0
   pub free : (c : ℕ) → c + 1 ≡ a → ¬ Touches stretches c
 
 -- a run begins there, and no stretch has a cell of it nor one of the two beside it
-pub record IsFreeRun (colour : ℕ → ℕ) (stretches : List Stretch) (r : Run) : Type 0 where
+pub record IsFreeRun (colour : ℕ → ℕ) (stretches : List Span) (r : Run) : Type 0 where
   pub is : IsRun colour r
   pub free : (c : ℕ) → r.left ≤ c + 1 → c ≤ r.right → ¬ Touches stretches c
 
-pub data IsStart (colour : ℕ → ℕ) (stretches : List Stretch) (a : ℕ) : Type 0 where
+pub data IsStart (colour : ℕ → ℕ) (stretches : List Span) (a : ℕ) : Type 0 where
   blank_before : IsFreeBefore colour stretches a → IsStart colour stretches a
   run_from : (r : Run) → IsFreeRun colour stretches r → r.left ≡ a → IsStart colour stretches a
 
-pub data IsStop (colour : ℕ → ℕ) (stretches : List Stretch) (b : ℕ) : Type 0 where
+pub data IsStop (colour : ℕ → ℕ) (stretches : List Span) (b : ℕ) : Type 0 where
   blank_after : colour b ≡ 0 → (¬ Touches stretches b) → IsStop colour stretches b
   run_upto : (r : Run) → IsFreeRun colour stretches r → r.right ≡ b → IsStop colour stretches b
 
 -- the windows so far, and the stretches before the n-th, which are in them or in the open window
-pub record IsFinding (colour : ℕ → ℕ) (cells : ℕ) (stretches : List Stretch) (n : ℕ) (out : List Window) (current : Window) : Type 0 where
+pub record IsFinding (colour : ℕ → ℕ) (cells : ℕ) (stretches : List Span) (n : ℕ) (out : List Span)
+    (current : Span) : Type 0 where
   pub ahead : (k : ℕ) → n ≤ k → k < length stretches → current.from ≤ (stretch stretches k).from
   pub behind : (k : ℕ) → k < n → (stretch stretches k).to ≤ current.to
   pub order : current.from ≤ current.to
   pub within : current.to < cells
   pub held : (k : ℕ) → k < n → (current.from ≤ (stretch stretches k).from)
-      ⊎ ((j : ℕ) × (j < length out) × ((window out j).from ≤ (stretch stretches k).from) × ((stretch stretches k).to ≤ (window out j).to))
+      ⊎ ((j : ℕ) × (j < length out) × ((window out j).from ≤ (stretch stretches k).from)
+      × ((stretch stretches k).to ≤ (window out j).to))
   pub first : IsStart colour stretches current.from
   pub starts : All (λ w. IsStart colour stretches w.from) out
   pub stops : All (λ w. IsStop colour stretches w.to) out
@@ -47,15 +51,18 @@ pub record IsFinding (colour : ℕ → ℕ) (cells : ℕ) (stretches : List Stre
   pub before : All (λ w. w.to < current.from) out
 
 -- no stretch has a cell between those that end by it and those that begin after it
-free_at : (stretches : List Stretch) (n c : ℕ) → ((k : ℕ) → k < n → (stretch stretches k).to ≤ c) → ((k : ℕ) → n ≤ k → k < length stretches → c < (stretch stretches k).from)
+free_at : (stretches : List Span) (n c : ℕ) → ((k : ℕ) → k < n → (stretch stretches k).to ≤ c)
+    → ((k : ℕ) → n ≤ k → k < length stretches → c < (stretch stretches k).from)
     → ¬ Touches stretches c
 free_at stretches n c h g = λ t. let a = t.from in let b = t.to in elim (cases_lt t.place n) [
   | inl l ↦ let x = h t.place l in absurd (omega arith)
   | inr l ↦ let x = g t.place l t.among in absurd (omega arith)
 ]
 
-start_at : (colour : ℕ → ℕ) (stretches : List Stretch) (n bound cell a : ℕ) → ((k : ℕ) → k < n → (stretch stretches k).to ≤ bound)
-    → ((k : ℕ) → n ≤ k → k < length stretches → cell ≤ (stretch stretches k).from) → (bound < a ⊎ (n ≡ 0)) → IsLeftOf colour cell a → IsStart colour stretches a
+start_at : (colour : ℕ → ℕ) (stretches : List Span) (n bound cell a : ℕ)
+    → ((k : ℕ) → k < n → (stretch stretches k).to ≤ bound)
+    → ((k : ℕ) → n ≤ k → k < length stretches → cell ≤ (stretch stretches k).from) → (bound < a ⊎ (n ≡ 0))
+    → IsLeftOf colour cell a → IsStart colour stretches a
 start_at colour stretches n bound cell a h g low l =
     let o = l.order in
     let free = λ (c : ℕ) (x : a ≤ c + 1) (y : c < cell). free_at stretches n c
@@ -69,8 +76,10 @@ start_at colour stretches n bound cell a h g low l =
           run_from e.run (record { is = e.is; free = λ c x y. free c (omega arith) (omega arith) }) e.left
     ]
 
-stop_at : (colour : ℕ → ℕ) (stretches : List Stretch) (n cell b : ℕ) → ((k : ℕ) → k < n → (stretch stretches k).to ≤ cell)
-    → ((k : ℕ) → n ≤ k → k < length stretches → b < (stretch stretches k).from) → IsRightOf colour cell b → IsStop colour stretches b
+stop_at : (colour : ℕ → ℕ) (stretches : List Span) (n cell b : ℕ)
+    → ((k : ℕ) → k < n → (stretch stretches k).to ≤ cell)
+    → ((k : ℕ) → n ≤ k → k < length stretches → b < (stretch stretches k).from) → IsRightOf colour cell b
+    → IsStop colour stretches b
 stop_at colour stretches n cell b h g r =
     let o = r.order in
     let free = λ (c : ℕ) (x : cell ≤ c) (y : c ≤ b). free_at stretches n c
@@ -83,11 +92,14 @@ stop_at colour stretches n cell b h g r =
           run_upto e.run (record { is = e.is; free = λ c x y. free c (omega arith) (omega arith) }) e.right
     ]
 
-rises : (cells : ℕ) (stretches : List Stretch) (j k : ℕ) → AreFit cells stretches → j ≤ k → k < length stretches → (stretch stretches j).from ≤ (stretch stretches k).from
+rises : (cells : ℕ) (stretches : List Span) (j k : ℕ) → AreFit cells stretches → j ≤ k → k < length stretches
+    → (stretch stretches j).from ≤ (stretch stretches k).from
 rises cells stretches j k fit l m = fit.ascending j k no_stretch l m
 
-pub none_found : (colour : ℕ → ℕ) (cells : ℕ) (stretches : List Stretch) (out : List Window) (current : Window) → AreFit cells stretches → 0 < length stretches → out ≡ []
-    → IsLeftOf colour (stretch stretches 0).from current.from → current.to ≡ (stretch stretches 0).to → IsFinding colour cells stretches 1 out current
+pub none_found : (colour : ℕ → ℕ) (cells : ℕ) (stretches : List Span) (out : List Span) (current : Span)
+    → AreFit cells stretches → 0 < length stretches → out ≡ []
+    → IsLeftOf colour (stretch stretches 0).from current.from → current.to ≡ (stretch stretches 0).to
+    → IsFinding colour cells stretches 1 out current
 none_found colour cells stretches out current fit some none l e =
     let o = l.order in
     let w = fit.within 0 no_stretch some in
@@ -106,8 +118,10 @@ none_found colour cells stretches out current fit some none l e =
       before = λ k d a. absurd (omega arith);
     }
 
-joined_more : (colour : ℕ → ℕ) (cells : ℕ) (stretches : List Stretch) (n : ℕ) (out now : List Window) (current next : Window) → AreFit cells stretches → n < length stretches
-    → IsFinding colour cells stretches n out current → IsJoined current (stretch stretches n) out now next → IsFinding colour cells stretches (n + 1) now next
+joined_more : (colour : ℕ → ℕ) (cells : ℕ) (stretches : List Span) (n : ℕ) (out now : List Span)
+    (current next : Span) → AreFit cells stretches → n < length stretches
+    → IsFinding colour cells stretches n out current → IsJoined current (stretch stretches n) out now next
+    → IsFinding colour cells stretches (n + 1) now next
 joined_more colour cells stretches n out now current next fit l h j =
     let f = j.from in
     let t = j.to in
@@ -122,7 +136,8 @@ joined_more colour cells stretches n out now current next fit l h j =
       order = let x = h.order in omega arith;
       within = omega arith;
       held = λ k a. elim (cases_eq k n) [
-        | inl e ↦ let z = h.ahead n (omega arith) l in let q = ap (λ j. (stretch stretches j).from) e in inl (omega arith)
+        | inl e ↦ let z = h.ahead n (omega arith) l in let q = ap (λ j. (stretch stretches j).from) e in
+            inl (omega arith)
         | inr e ↦ elim (h.held k (omega arith)) [
           | inl z ↦ inl (omega arith)
           | inr z ↦ inr (rw j.same z)
@@ -136,19 +151,22 @@ joined_more colour cells stretches n out now current next fit l h j =
     }
 
 -- what windows hold with the one that is added
-record IsClosed (colour : ℕ → ℕ) (cells : ℕ) (stretches : List Stretch) (n : ℕ) (out : List Window) (end : ℕ) : Type 0 where
-  pub held : (k : ℕ) → k < n → (j : ℕ) × (j < length out) × ((window out j).from ≤ (stretch stretches k).from) × ((stretch stretches k).to ≤ (window out j).to)
+record IsClosed (colour : ℕ → ℕ) (cells : ℕ) (stretches : List Span) (n : ℕ) (out : List Span)
+    (end : ℕ) : Type 0 where
+  pub held : (k : ℕ) → k < n
+      → (j : ℕ) × (j < length out) × ((window out j).from ≤ (stretch stretches k).from)
+      × ((stretch stretches k).to ≤ (window out j).to)
   pub starts : All (λ w. IsStart colour stretches w.from) out
   pub stops : All (λ w. IsStop colour stretches w.to) out
   pub apart : AreApart cells out
   pub before : All (λ w. w.to ≤ end) out
 
-close : (colour : ℕ → ℕ) (cells : ℕ) (stretches : List Stretch) (n : ℕ) (out : List Window) (current : Window) (end : ℕ)
+close : (colour : ℕ → ℕ) (cells : ℕ) (stretches : List Span) (n : ℕ) (out : List Span) (current : Span) (end : ℕ)
     → IsFinding colour cells stretches n out current → IsRightOf colour current.to end → end < cells
     → ((k : ℕ) → n ≤ k → k < length stretches → end < (stretch stretches k).from)
     → IsClosed colour cells stretches n (out ++ record { from = current.from; to = end } ∷ []) end
 close colour cells stretches n out current end h r m g =
-    let w : Window = record { from = current.from; to = end } in
+    let w : Span = record { from = current.from; to = end } in
     let o = r.order in
     let u = h.order in
     record {
@@ -156,21 +174,23 @@ close colour cells stretches n out current end h r m g =
         | inl z ↦
             let p = Contains-push out w in
             let e = get_or_default (out ++ w ∷ []) p.0 no_window w p.1 ∙ p.2 in
-            let q = ap (λ (v : Window). v.from) e in
-            let s = ap (λ (v : Window). v.to) e in
+            let q = ap (λ (v : Span). v.from) e in
+            let s = ap (λ (v : Span). v.to) e in
             let b = h.behind k a in
             (p.0, p.1, omega arith, omega arith)
         | inr z ↦
-            let p = Contains-append_left out (w ∷ []) (window out z.0) (z.0, z.1, get_or_default out z.0 (window out z.0) no_window z.1) in
+            let p = Contains-append_left out (w ∷ []) (window out z.0)
+            (z.0, z.1, get_or_default out z.0 (window out z.0) no_window z.1) in
             let e = get_or_default (out ++ w ∷ []) p.0 no_window (window out z.0) p.1 ∙ p.2 in
-            let q = ap (λ (v : Window). v.from) e in
-            let s = ap (λ (v : Window). v.to) e in
+            let q = ap (λ (v : Span). v.from) e in
+            let s = ap (λ (v : Span). v.to) e in
             let a1 = z.2 in
             let a2 = z.3 in
             (p.0, p.1, omega arith, omega arith)
       ];
       starts = All-push (λ v. IsStart colour stretches v.from) out w h.starts h.first;
-      stops = All-push (λ v. IsStop colour stretches v.to) out w h.stops (stop_at colour stretches n current.to end h.behind g r);
+      stops = All-push (λ v. IsStop colour stretches v.to) out w h.stops
+          (stop_at colour stretches n current.to end h.behind g r);
       apart = record {
         within = All-push (λ v. v.to ≤ cells) out w h.apart.within (omega arith);
         ascending = all_pairs_push (λ v u. v.to < u.from) out w h.apart.ascending h.before;
@@ -178,8 +198,10 @@ close colour cells stretches n out current end h r m g =
       before = All-push (λ v. v.to ≤ end) out w (λ k d l. let z = h.before k d l in omega arith) (omega arith);
     }
 
-begun_more : (colour : ℕ → ℕ) (cells : ℕ) (stretches : List Stretch) (n : ℕ) (out now : List Window) (current next : Window) → AreFit cells stretches → n < length stretches
-    → IsFinding colour cells stretches n out current → IsBegun colour cells current (stretch stretches n) out now next → IsFinding colour cells stretches (n + 1) now next
+begun_more : (colour : ℕ → ℕ) (cells : ℕ) (stretches : List Span) (n : ℕ) (out now : List Span)
+    (current next : Span) → AreFit cells stretches → n < length stretches
+    → IsFinding colour cells stretches n out current → IsBegun colour cells current (stretch stretches n) out now next
+    → IsFinding colour cells stretches (n + 1) now next
 begun_more colour cells stretches n out now current next fit l h b =
     let r = b.right.order in
     let f = b.left.order in
@@ -187,7 +209,8 @@ begun_more colour cells stretches n out now current next fit l h b =
     let a = b.apart in
     let wide = fit.wide n no_stretch l in
     let v = fit.within n no_stretch l in
-    let c = close colour cells stretches n out current b.end h b.right b.within (λ k x y. let z = rises cells stretches n k fit x y in omega arith) in
+    let c = close colour cells stretches n out current b.end h b.right b.within
+    (λ k x y. let z = rises cells stretches n k fit x y in omega arith) in
     record {
       ahead = λ k x y. let z = rises cells stretches n k fit (omega arith) y in omega arith;
       behind = λ k x. elim (cases_eq k n) [
@@ -200,7 +223,8 @@ begun_more colour cells stretches n out now current next fit l h b =
         | inl e ↦ let q = ap (λ j. (stretch stretches j).from) e in inl (omega arith)
         | inr e ↦ inr (rw b.added (c.held k (omega arith)))
       ];
-      first = start_at colour stretches n b.end (stretch stretches n).from next.from (λ k x. let z = h.behind k x in omega arith)
+      first = start_at colour stretches n b.end (stretch stretches n).from next.from
+          (λ k x. let z = h.behind k x in omega arith)
           (λ k x y. rises cells stretches n k fit x y) (inl a) b.left;
       starts = rw b.added c.starts;
       stops = rw b.added c.stops;
@@ -208,13 +232,18 @@ begun_more colour cells stretches n out now current next fit l h b =
       before = rw b.added (λ k d x. let z = c.before k d x in omega arith);
     }
 
-pub finding_more : (colour : ℕ → ℕ) (cells : ℕ) (stretches : List Stretch) (n : ℕ) (out now : List Window) (current next : Window) → AreFit cells stretches → n < length stretches
-    → IsFinding colour cells stretches n out current → IsOpened colour cells current (stretch stretches n) out now next → IsFinding colour cells stretches (n + 1) now next
-finding_more colour cells stretches n out now current next fit l h (inl j) = joined_more colour cells stretches n out now current next fit l h j
-finding_more colour cells stretches n out now current next fit l h (inr b) = begun_more colour cells stretches n out now current next fit l h b
+pub finding_more : (colour : ℕ → ℕ) (cells : ℕ) (stretches : List Span) (n : ℕ) (out now : List Span)
+    (current next : Span) → AreFit cells stretches → n < length stretches
+    → IsFinding colour cells stretches n out current → IsOpened colour cells current (stretch stretches n) out now next
+    → IsFinding colour cells stretches (n + 1) now next
+finding_more colour cells stretches n out now current next fit l h (inl j) =
+    joined_more colour cells stretches n out now current next fit l h j
+finding_more colour cells stretches n out now current next fit l h (inr b) =
+    begun_more colour cells stretches n out now current next fit l h b
 
 -- a run that both rows have, since no stretch changes it
-free_run : (old new : ℕ → ℕ) (stretches : List Stretch) (r : Run) → ChangeAt stretches old new → IsFreeRun old stretches r → IsRun new r
+free_run : (old new : ℕ → ℕ) (stretches : List Span) (r : Run) → ChangeAt stretches old new
+    → IsFreeRun old stretches r → IsRun new r
 free_run old new stretches r change f =
     let w = f.is.wide in
     let same = λ (c : ℕ) (a : r.left ≤ c + 1) (b : c ≤ r.right). change c (f.free c a b) in
@@ -226,27 +255,12 @@ free_run old new stretches r change f =
       after = λ g. f.is.after (same r.right (omega arith) (omega arith) ∙ g);
     }
 
-same_run : (p q : Run) → p.left ≡ q.left → p.right ≡ q.right → p.colour ≡ q.colour → p ≡ q
-same_run p q e f g = λ i. record { left = e i; right = f i; colour = g i }
-
-one_from : (f : ℕ → ℕ) (p q : Run) → IsRun f p → IsRun f q → p.left ≡ q.left → p ≡ q
-one_from f p q a b e =
-    let v = a.wide in
-    let w = b.wide in
-    let k : p.colour ≡ q.colour = sym (a.each p.left (omega arith) v) ∙ b.each p.left (omega arith) (omega arith) in
-    same_run p q e (elim (cases_lt p.right q.right) [
-      | inl l ↦ absurd (a.after (b.each p.right (omega arith) l ∙ sym k))
-      | inr l ↦ elim (cases_lt q.right p.right) [
-        | inl m ↦ absurd (b.after (a.each q.right (omega arith) m ∙ k))
-        | inr m ↦ omega arith
-      ]
-    ]) k
-
 one_upto : (f : ℕ → ℕ) (p q : Run) → IsRun f p → IsRun f q → p.right ≡ q.right → p ≡ q
 one_upto f p q a b e =
     let v = a.wide in
     let w = b.wide in
-    let k : p.colour ≡ q.colour = sym (a.each (p.right - 1) (omega arith) (omega arith)) ∙ b.each (p.right - 1) (omega arith) (omega arith) in
+    let k : p.colour ≡ q.colour =
+    sym (a.each (p.right - 1) (omega arith) (omega arith)) ∙ b.each (p.right - 1) (omega arith) (omega arith) in
     same_run p q (elim (cases_lt p.left q.left) [
       | inl l ↦ absurd (b.before (q.left - 1) (omega arith) (a.each (q.left - 1) (omega arith) (omega arith) ∙ k))
       | inr l ↦ elim (cases_lt q.left p.left) [
@@ -255,10 +269,11 @@ one_upto f p q a b e =
       ]
     ]) e k
 
-module _ (old new : ℕ → ℕ) (stretches : List Stretch) (change : ChangeAt stretches old new) where
+module _ (old new : ℕ → ℕ) (stretches : List Span) (change : ChangeAt stretches old new) where
   -- no run goes on over the left end of a run
   firm_from : (f : ℕ → ℕ) (r : Run) (a : ℕ) → IsRun f r → r.left ≡ a → IsFirm f a
-  firm_from f r a is e = record { ends = λ c h s k. is.before c (omega arith) (k ∙ ap f (sym e) ∙ is.each r.left (omega arith) is.wide) }
+  firm_from f r a is e =
+      record { ends = λ c h s k. is.before c (omega arith) (k ∙ ap f (sym e) ∙ is.each r.left (omega arith) is.wide) }
 
   firm_upto : (f : ℕ → ℕ) (r : Run) (b : ℕ) → IsRun f r → r.right ≡ b → IsFirm f b
   firm_upto f r b is e = let w = is.wide in
@@ -278,7 +293,8 @@ module _ (old new : ℕ → ℕ) (stretches : List Stretch) (change : ChangeAt s
   start_new a (blank_before p) = firm_blank new a (λ c e. sym (change c (p.free c e)) ∙ p.blank c e)
   start_new a (run_from r f e) = firm_from new r a (free_run old new stretches r change f) e
 
-  start_first : (a : ℕ) → IsStart old stretches a → (q : Run) → IsRun new q → q.left ≡ a → (c : ℕ) → c + 1 ≡ q.left → 0 < new c → IsRun old q
+  start_first : (a : ℕ) → IsStart old stretches a → (q : Run) → IsRun new q → q.left ≡ a → (c : ℕ) → c + 1 ≡ q.left
+      → 0 < new c → IsRun old q
   start_first a (blank_before p) q is e c h s =
       let z = change c (p.free c (h ∙ e)) in let b = p.blank c (h ∙ e) in absurd (omega arith)
   start_first a (run_from r f g) q is e c h s =
@@ -297,7 +313,8 @@ module _ (old new : ℕ → ℕ) (stretches : List Stretch) (change : ChangeAt s
   stop_last b (run_upto r f g) q is e s =
       subst (IsRun old) (one_upto new r q (free_run old new stretches r change f) is (g ∙ sym e)) f.is
 
-  are_windows : (cells : ℕ) (windows : List Window) (end : ℕ) → IsClosed old cells stretches (length stretches) windows end → AreWindows old new windows
+  are_windows : (cells : ℕ) (windows : List Span) (end : ℕ)
+      → IsClosed old cells stretches (length stretches) windows end → AreWindows old new windows
   are_windows cells windows end h = record {
     same = λ c n. change c (λ t.
         let g = h.held t.place t.among in
@@ -319,18 +336,21 @@ module _ (old new : ℕ → ℕ) (stretches : List Stretch) (change : ChangeAt s
   }
 
 -- all stretches are in the windows with the one that is open
-module _ (row : ℕ → ℕ) (cells : ℕ) (stretches : List Stretch) (n : ℕ) (out now : List Window) (current w : Window) (h : IsFinding row cells stretches n out current)
-    (all : n ≡ length stretches) (from : w.from ≡ current.from) (right : IsRightOf row current.to w.to) (within : w.to < cells) (added : now ≡ out ++ w ∷ []) where
+module _ (row : ℕ → ℕ) (cells : ℕ) (stretches : List Span) (n : ℕ) (out now : List Span) (current w : Span)
+    (h : IsFinding row cells stretches n out current)
+    (all : n ≡ length stretches) (from : w.from ≡ current.from) (right : IsRightOf row current.to w.to)
+    (within : w.to < cells) (added : now ≡ out ++ w ∷ []) where
   complete : IsClosed row cells stretches n now w.to
   complete =
       let e : record { from = current.from; to = w.to } ≡ w = λ i. record { from = sym from i; to = w.to } in
-      subst (λ v. IsClosed row cells stretches n v w.to) (ap (λ (v : Window). out ++ v ∷ []) e ∙ sym added)
+      subst (λ v. IsClosed row cells stretches n v w.to) (ap (λ (v : Span). out ++ v ∷ []) e ∙ sym added)
       (close row cells stretches n out current w.to h right within (λ k a b. absurd (omega arith)))
 
   pub found_apart : AreApart cells now
   found_apart = complete.apart
 
-  pub found_tell : (colour : ℕ → ℕ → ℕ) (y : ℕ) → ((c : ℕ) → colour y c ≡ row c) → ChangeAt stretches (colour y) (colour (y + 1)) → TellChange colour y now
+  pub found_tell : (colour : ℕ → ℕ → ℕ) (y : ℕ) → ((c : ℕ) → colour y c ≡ row c)
+      → ChangeAt stretches (colour y) (colour (y + 1)) → TellChange colour y now
   found_tell colour y same change =
       let e : colour y ≡ row = λ i c. same c i in
       let c = subst (λ f. IsClosed f cells stretches n now w.to) (sym e) complete in
@@ -338,10 +358,13 @@ module _ (row : ℕ → ℕ) (cells : ℕ) (stretches : List Stretch) (n : ℕ) 
       (subst (λ m. IsClosed (colour y) cells stretches m now w.to) all c))
 
 -- where there are no stretches nothing changes
-pub nothing_apart : (cells : ℕ) (windows : List Window) → windows ≡ [] → AreApart cells windows
-nothing_apart cells windows e = subst (AreApart cells) (sym e) (record { within = λ k d a. absurd (omega arith); ascending = λ i j d a b. absurd (omega arith) })
+pub nothing_apart : (cells : ℕ) (windows : List Span) → windows ≡ [] → AreApart cells windows
+nothing_apart cells windows e =
+    subst (AreApart cells) (sym e)
+    (record { within = λ k d a. absurd (omega arith); ascending = λ i j d a b. absurd (omega arith) })
 
-pub nothing_tells : (colour : ℕ → ℕ → ℕ) (y : ℕ) (stretches : List Stretch) (windows : List Window) → length stretches ≡ 0 → windows ≡ []
+pub nothing_tells : (colour : ℕ → ℕ → ℕ) (y : ℕ) (stretches : List Span) (windows : List Span)
+    → length stretches ≡ 0 → windows ≡ []
     → ChangeAt stretches (colour y) (colour (y + 1)) → TellChange colour y windows
 nothing_tells colour y stretches windows none e change = subst (TellChange colour y) (sym e)
     (tell_change colour y [] (are_windows (colour y) (colour (y + 1)) stretches change 0 [] 0 (record {

@@ -1,14 +1,16 @@
 -- Runs of windows, one window more at a time.
-use Rattle.std.proofs.Common.{ℕ, ◌≡◌, ◌+◌, ◌-◌, ◌<◌, ◌≤◌, ◌⊎◌, List, [], ◌++◌, true, false, inl, inr, refl, sym, ◌∙◌, ap, subst, arith, length, get_or, take}
+use Rattle.std.proofs.Common.{ℕ, ◌≡◌, ◌+◌, ◌-◌, ◌<◌, ◌≤◌, ◌⊎◌, List, [], ◌++◌, true, false, inl, inr, refl, sym, ◌∙◌}
+use Rattle.std.proofs.Common.{ap, subst, arith, length, get_or, take}
 use Rattle.std.specs.Prelude.{AllPairs, nat_le, nat_lt, ◌&&◌}
 use Rattle.std.proofs.lemmas.Bool.{cases_lt}
 use Rattle.std.proofs.lemmas.Bool.Decides.{nat_tests}
-use Rattle.std.proofs.lemmas.List.{get_or_append_left, get_or-append_right, length-append, get_or-take, length-take, length-take-le}
+use Rattle.std.proofs.lemmas.List.{get_or_append_left, get_or-append_right, length-append, get_or-take, length-take}
+use Rattle.std.proofs.lemmas.List.{length-take-le}
 use Rattle.std.proofs.lemmas.List.Elements.{All-append, Contains-append_left, Contains-append_right}
 use Rattle.mask_runs.specs.declared.run.Run.{Run}
 use Rattle.mask_runs.specs.Runs.{IsRun, AreRuns}
 use Rattle.kept_runs.specs.Borders.{windowed}
-use Rattle.row_windows.specs.declared.window.Window.{Window}
+use Rattle.cover_tree.specs.declared.span.Span.{Span}
 use Rattle.row_windows.specs.Windows.{AreApart, seen}
 use Rattle.row_windows.proofs.Cutting.{window, no_window, InWindow, in_or_not, seen_in, seen_out}
 
@@ -48,7 +50,8 @@ module _ (f g h : ℕ → ℕ) (cell : ℕ) (j : IsJoint f g h cell) where
   second_begins : (r : Run) → IsRun g r → cell ≤ r.left
   second_begins r is = elim (cases_lt r.left cell) [
     | inr m ↦ m
-    | inl m ↦ let e = is.each r.left (omega arith) is.wide in let z = j.second r.left m in let s = is.some in absurd (omega arith)
+    | inl m ↦ let e = is.each r.left (omega arith) is.wide in let z = j.second r.left m in let s = is.some in
+        absurd (omega arith)
   ]
 
   from_first : (r : Run) → IsRun f r → IsRun h r
@@ -99,7 +102,8 @@ module _ (f g h : ℕ → ℕ) (cell : ℕ) (j : IsJoint f g h cell) where
       let two = λ (x : ℕ) (u : x < length (ps ++ qs)) (v : n ≤ x). get_or-append_right ps qs n x d refl v in
       elim (cases_lt k n) [
         | inl y ↦ subst (λ (q : Run). (get_or (ps ++ qs) i d).right ≤ q.left) (sym (get_or_append_left ps qs d k y))
-            (subst (λ (q : Run). q.right ≤ (get_or ps k d).left) (sym (get_or_append_left ps qs d i (omega arith))) (a.ascending i k d l y))
+            (subst (λ (q : Run). q.right ≤ (get_or ps k d).left) (sym (get_or_append_left ps qs d i (omega arith)))
+            (a.ascending i k d l y))
         | inr y ↦
             let e = get_or-append_right ps qs n k d refl y in
             let size : k - n < length qs = let total = length-append ps qs in omega arith in
@@ -137,19 +141,19 @@ windowed_out : (a b : ℕ) (f : ℕ → ℕ) (c : ℕ) → (c < a) ⊎ (b ≤ c)
 windowed_out a b f c l = let e : (nat_le a c && nat_lt c b) ≡ false = grind (arith, nat_tests) in rw e refl
 
 -- one of the first n windows has the cell
-record HasCell (windows : List Window) (n c : ℕ) : Type 0 where
+record HasCell (windows : List Span) (n c : ℕ) : Type 0 where
   place : ℕ
   among : place < n
   from : (window windows place).from ≤ c
   to : c < (window windows place).to
 
-module _ (windows : List Window) (n : ℕ) (l : n ≤ length windows) (c : ℕ) where
+module _ (windows : List Span) (n : ℕ) (l : n ≤ length windows) (c : ℕ) where
   in_first : InWindow (take n windows) c → HasCell windows n c
   in_first w =
       let m : w.place < n = let a = w.among in let b = length-take n windows in omega arith in
       let e = get_or-take n windows w.place no_window m in
-      let s = ap (λ (v : Window). v.from) e in
-      let t = ap (λ (v : Window). v.to) e in
+      let s = ap (λ (v : Span). v.from) e in
+      let t = ap (λ (v : Span). v.to) e in
       let a = w.from in
       let b = w.to in
       record { place = w.place; among = m; from = omega arith; to = omega arith }
@@ -158,24 +162,27 @@ module _ (windows : List Window) (n : ℕ) (l : n ≤ length windows) (c : ℕ) 
   first_in w =
       let m = w.among in
       let e = get_or-take n windows w.place no_window m in
-      let s = ap (λ (v : Window). v.from) e in
-      let t = ap (λ (v : Window). v.to) e in
+      let s = ap (λ (v : Span). v.from) e in
+      let t = ap (λ (v : Span). v.to) e in
       let a = w.from in
       let b = w.to in
       let k = length-take-le n windows l in
       record { place = w.place; among = omega arith; from = omega arith; to = omega arith }
 
-module _ (cells : ℕ) (windows : List Window) (i : ℕ) (f : ℕ → ℕ) (apart : AreApart cells windows) (l : i < length windows) where
+module _ (cells : ℕ) (windows : List Span) (i : ℕ) (f : ℕ → ℕ) (apart : AreApart cells windows)
+    (l : i < length windows) where
   -- the windows before one end before it begins
   ends_left : (k : ℕ) → k < i → (window windows k).to < (window windows i).from
   ends_left k m = apart.ascending k i no_window m l
 
-  more_out : (c : ℕ) → (¬ InWindow (take i windows) c) → (c < (window windows i).from) ⊎ ((window windows i).to ≤ c) → ¬ InWindow (take (i + 1) windows) c
+  more_out : (c : ℕ) → (¬ InWindow (take i windows) c) → (c < (window windows i).from) ⊎ ((window windows i).to ≤ c)
+      → ¬ InWindow (take (i + 1) windows) c
   more_out c n o = λ w.
       let h = in_first windows (i + 1) (omega arith) c w in
       let a = h.among in
       elim (cases_lt h.place i) [
-        | inl m ↦ n (first_in windows i (omega arith) c (record { place = h.place; among = m; from = h.from; to = h.to }))
+        | inl m ↦
+            n (first_in windows i (omega arith) c (record { place = h.place; among = m; from = h.from; to = h.to }))
         | inr m ↦
             let e : h.place ≡ i = omega arith in
             let s = ap (λ k. (window windows k).from) e in
@@ -186,9 +193,11 @@ module _ (cells : ℕ) (windows : List Window) (i : ℕ) (f : ℕ → ℕ) (apar
       ]
 
   past : (c : ℕ) → (window windows i).from ≤ c + 1 → ¬ InWindow (take i windows) c
-  past c m = λ w. let h = in_first windows i (omega arith) c w in let e = ends_left h.place h.among in let t = h.to in omega arith
+  past c m = λ w. let h = in_first windows i (omega arith) c w in let e = ends_left h.place h.among in let t = h.to in
+      omega arith
 
-  joint : IsJoint (seen (take i windows) f) (windowed (window windows i).from (window windows i).to f) (seen (take (i + 1) windows) f) (window windows i).from
+  joint : IsJoint (seen (take i windows) f) (windowed (window windows i).from (window windows i).to f)
+      (seen (take (i + 1) windows) f) (window windows i).from
   joint =
       let w = window windows i in
       record {
@@ -196,28 +205,35 @@ module _ (cells : ℕ) (windows : List Window) (i : ℕ) (f : ℕ → ℕ) (apar
           | inl h ↦
               let g = in_first windows i (omega arith) c h in
               let x = g.among in
-              let k = first_in windows (i + 1) (omega arith) c (record { place = g.place; among = omega arith; from = g.from; to = g.to }) in
+              let k = first_in windows (i + 1) (omega arith) c
+              (record { place = g.place; among = omega arith; from = g.from; to = g.to }) in
               seen_in (take (i + 1) windows) f c k ∙ sym (seen_in (take i windows) f c h)
           | inr h ↦ seen_out (take (i + 1) windows) f c (more_out c h (inl m)) ∙ sym (seen_out (take i windows) f c h)
         ];
         after = λ c m. elim (cases_lt c w.to) [
           | inl k ↦
-              seen_in (take (i + 1) windows) f c (first_in windows (i + 1) (omega arith) c (record { place = i; among = omega arith; from = m; to = k }))
+              seen_in (take (i + 1) windows) f c
+              (first_in windows (i + 1) (omega arith) c (record { place = i; among = omega arith; from = m; to = k }))
               ∙ sym (windowed_in w.from w.to f c m k)
-          | inr k ↦ seen_out (take (i + 1) windows) f c (more_out c (past c (omega arith)) (inr k)) ∙ sym (windowed_out w.from w.to f c (inr k))
+          | inr k ↦ seen_out (take (i + 1) windows) f c (more_out c (past c (omega arith)) (inr k))
+              ∙ sym (windowed_out w.from w.to f c (inr k))
         ];
         gap = λ c e. seen_out (take (i + 1) windows) f c (more_out c (past c (omega arith)) (inl (omega arith)));
         first = λ c m. seen_out (take i windows) f c (past c (omega arith));
         second = λ c m. windowed_out w.from w.to f c (inl m);
       }
 
-  pub runs_more : (runs piece : List Run) → AreRuns (seen (take i windows) f) runs → AreRuns (windowed (window windows i).from (window windows i).to f) piece
+  pub runs_more : (runs piece : List Run) → AreRuns (seen (take i windows) f) runs
+      → AreRuns (windowed (window windows i).from (window windows i).to f) piece
       → AreRuns (seen (take (i + 1) windows) f) (runs ++ piece)
-  runs_more = join_runs (seen (take i windows) f) (windowed (window windows i).from (window windows i).to f) (seen (take (i + 1) windows) f)
+  runs_more =
+      join_runs (seen (take i windows) f) (windowed (window windows i).from (window windows i).to f)
+      (seen (take (i + 1) windows) f)
       (window windows i).from joint
 
 -- no window has a run
-pub no_runs : (f : ℕ → ℕ) (windows : List Window) (runs : List Run) → windows ≡ [] → runs ≡ [] → AreRuns (seen windows f) runs
+pub no_runs : (f : ℕ → ℕ) (windows : List Span) (runs : List Run) → windows ≡ [] → runs ≡ []
+    → AreRuns (seen windows f) runs
 no_runs f windows runs w e = subst (AreRuns (seen windows f)) (sym e) (record {
   each = λ k d l. absurd (omega arith);
   all = λ r is.

@@ -6,7 +6,8 @@ use Rattle.mask_runs.specs.Runs.{IsRun}
 use Rattle.row_windows.specs.Reaching.{ReachesLeft, ReachesRight, IsLeftOf, IsRightOf}
 
 module _ (colour : ℕ → ℕ) where
-  pub left_twice : (cell middle reached : ℕ) → ReachesLeft colour cell middle → ReachesLeft colour middle reached → IsLeftOf colour cell reached
+  pub left_twice : (cell middle reached : ℕ) → ReachesLeft colour cell middle → ReachesLeft colour middle reached
+      → IsLeftOf colour cell reached
   left_twice cell middle reached (inl p) (inl q) =
       let e = p.0 in
       let f = q.0 in
@@ -48,7 +49,8 @@ module _ (colour : ℕ → ℕ) where
         });
       }
 
-  pub right_twice : (cell middle reached : ℕ) → ReachesRight colour cell middle → ReachesRight colour middle reached → IsRightOf colour cell reached
+  pub right_twice : (cell middle reached : ℕ) → ReachesRight colour cell middle → ReachesRight colour middle reached
+      → IsRightOf colour cell reached
   right_twice cell middle reached (inl p) (inl q) =
       let e = p.0 in
       let f = q.0 in
@@ -92,10 +94,13 @@ module _ (colour : ℕ → ℕ) where
       }
 
   -- a run that has a coloured cell
-  pub has_before : (cell : ℕ) (r : Run) → IsRun colour r → r.left ≤ cell - 1 → 0 < cell → cell - 1 < r.right → ReachesLeft colour cell r.left
-  has_before cell r is a p b = inr (record { run = r; is = is; left = λ i. r.left; order = omega arith; right = omega arith })
+  pub has_before : (cell : ℕ) (r : Run) → IsRun colour r → r.left ≤ cell - 1 → 0 < cell → cell - 1 < r.right
+      → ReachesLeft colour cell r.left
+  has_before cell r is a p b =
+      inr (record { run = r; is = is; left = λ i. r.left; order = omega arith; right = omega arith })
 
-  pub has_here : (cell : ℕ) (r : Run) → IsRun colour r → r.left ≤ cell → cell < r.right → ReachesRight colour cell r.right
+  pub has_here : (cell : ℕ) (r : Run) → IsRun colour r → r.left ≤ cell → cell < r.right
+      → ReachesRight colour cell r.right
   has_here cell r is a b = inr (record { run = r; is = is; right = λ i. r.right; order = b; left = a })
 
   -- runs stop before the cells that have no colour

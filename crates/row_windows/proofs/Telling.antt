@@ -6,21 +6,24 @@ use Rattle.std.proofs.lemmas.List.Elements.{All-contains}
 use Rattle.mask_runs.specs.declared.run.Run.{Run}
 use Rattle.mask_runs.specs.Runs.{IsRun, AreRuns}
 use Rattle.strip_rows.specs.Changes.{IsChange}
-use Rattle.row_windows.specs.declared.window.Window.{Window}
+use Rattle.cover_tree.specs.declared.span.Span.{Span}
 use Rattle.row_windows.specs.Windows.{seen}
 use Rattle.row_windows.proofs.Cutting.{window, InWindow, AreFirm, in_or_not, seen_run, run_seen, in_all, in_none}
 
--- the rows are alike beside the windows, and no run goes on over an end of a window; one that adjoins another there is of both rows
-pub record AreWindows (old new : ℕ → ℕ) (windows : List Window) : Type 0 where
+-- the rows are alike beside the windows, and no run goes on over an end of a window; one that adjoins another there is
+-- of both rows
+pub record AreWindows (old new : ℕ → ℕ) (windows : List Span) : Type 0 where
   pub same : (c : ℕ) → (¬ InWindow windows c) → old c ≡ new c
   pub old_firm : AreFirm old windows
   pub new_firm : AreFirm new windows
   pub first : (k : ℕ) → k < length windows → (q : Run) → IsRun new q → q.left ≡ (window windows k).from
       → (c : ℕ) → c + 1 ≡ q.left → 0 < new c → IsRun old q
-  pub last : (k : ℕ) → k < length windows → (q : Run) → IsRun new q → q.right ≡ (window windows k).to → 0 < new q.right → IsRun old q
+  pub last : (k : ℕ) → k < length windows → (q : Run) → IsRun new q → q.right ≡ (window windows k).to → 0 < new q.right
+      → IsRun old q
 
 -- a run beside the windows is one of the other row too
-unchanged : (f g : ℕ → ℕ) (windows : List Window) → AreFirm f windows → AreFirm g windows → ((c : ℕ) → (¬ InWindow windows c) → f c ≡ g c)
+unchanged : (f g : ℕ → ℕ) (windows : List Span) → AreFirm f windows → AreFirm g windows
+    → ((c : ℕ) → (¬ InWindow windows c) → f c ≡ g c)
     → (r : Run) → IsRun f r → (¬ InWindow windows r.left) → IsRun g r
 unchanged f g windows ff gf same r is out =
     let some = is.some in
@@ -40,7 +43,8 @@ unchanged f g windows ff gf same r is out =
               | inr l ↦ omega arith
               | inl l ↦ absurd (out (record { place = i.place; among = i.among; from = omega arith; to = omega arith }))
             ] in
-            (gf.to i.place i.among).ends c (sym t) (omega arith) (h ∙ sym (each r.left (omega arith) w) ∙ ap g (sym (t ∙ e)))
+            (gf.to i.place i.among).ends c (sym t) (omega arith)
+            (h ∙ sym (each r.left (omega arith) w) ∙ ap g (sym (t ∙ e)))
       ];
       after = λ h. elim (in_or_not windows r.right) [
         | inr o ↦ is.after (same r.right o ∙ h)
@@ -49,7 +53,9 @@ unchanged f g windows ff gf same r is out =
             let b = i.to in
             let t : (window windows i.place).from ≡ r.right = elim (cases_lt (window windows i.place).from r.right) [
               | inr l ↦ omega arith
-              | inl l ↦ absurd (none (r.right - 1) (omega arith) (omega arith) (record { place = i.place; among = i.among; from = omega arith; to = omega arith }))
+              | inl l ↦
+                  absurd (none (r.right - 1) (omega arith) (omega arith)
+                  (record { place = i.place; among = i.among; from = omega arith; to = omega arith }))
             ] in
             let k = each (r.right - 1) (omega arith) (omega arith) in
             (gf.from i.place i.among).ends (r.right - 1) (omega arith) (omega arith) (k ∙ sym h ∙ ap g (sym t))
@@ -57,7 +63,8 @@ unchanged f g windows ff gf same r is out =
     }
 
 -- a run that adjoins one which only the new row has lies in a window
-beside : (old new : ℕ → ℕ) (windows : List Window) → AreWindows old new windows → (p q : Run) → IsRun new p → IsRun new q
+beside : (old new : ℕ → ℕ) (windows : List Span) → AreWindows old new windows → (p q : Run) → IsRun new p
+    → IsRun new q
     → (p.right ≡ q.left) ⊎ (q.right ≡ p.left) → (¬ IsRun old q) → InWindow windows p.left
 beside old new windows are p q is iq adjoin n = elim (in_or_not windows p.left) [
   | inl i ↦ i
@@ -93,13 +100,18 @@ beside old new windows are p q is iq adjoin n = elim (in_or_not windows p.left) 
   ])
 ]
 
-pub tell_change : (colour : ℕ → ℕ → ℕ) (y : ℕ) (windows : List Window) → AreWindows (colour y) (colour (y + 1)) windows
-    → (olds news : List Run) → AreRuns (seen windows (colour y)) olds → AreRuns (seen windows (colour (y + 1))) news → IsChange colour y olds news
+pub tell_change : (colour : ℕ → ℕ → ℕ) (y : ℕ) (windows : List Span) → AreWindows (colour y) (colour (y + 1)) windows
+    → (olds news : List Run) → AreRuns (seen windows (colour y)) olds → AreRuns (seen windows (colour (y + 1))) news
+    → IsChange colour y olds news
 tell_change colour y windows are olds news h g =
     let old = colour y in
     let new = colour (y + 1) in
-    let old_in = λ (r : Run) (has : Contains olds r). seen_run windows old are.old_firm r (All-contains (IsRun (seen windows old)) olds r h.each has) in
-    let new_in = λ (r : Run) (has : Contains news r). seen_run windows new are.new_firm r (All-contains (IsRun (seen windows new)) news r g.each has) in
+    let old_in =
+    λ (r : Run) (has : Contains olds r). seen_run windows old are.old_firm r
+    (All-contains (IsRun (seen windows old)) olds r h.each has) in
+    let new_in =
+    λ (r : Run) (has : Contains news r). seen_run windows new are.new_firm r
+    (All-contains (IsRun (seen windows new)) news r g.each has) in
     record {
       lasts = λ k d l. (seen_run windows old are.old_firm _ (h.each k d l)).1;
       firsts = λ k d l. (seen_run windows new are.new_firm _ (g.each k d l)).1;
@@ -115,5 +127,7 @@ tell_change colour y windows are olds news h g =
         λ has. g.all r (run_seen windows new are.new_firm r b (old_in r has).0),
         λ has. h.all r (run_seen windows old are.old_firm r a (new_in r has).0),
       );
-      beside = λ p q is iq adjoin n. g.all p (run_seen windows new are.new_firm p is (beside old new windows are p q is iq adjoin n));
+      beside =
+          λ p q is iq adjoin n. g.all p
+          (run_seen windows new are.new_firm p is (beside old new windows are p q is iq adjoin n));
     }

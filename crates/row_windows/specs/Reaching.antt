@@ -2,8 +2,7 @@
 use Rattle.std.specs.Prelude.{◌≡◌, ◌⊎◌, ℕ, ◌+◌, ◌<◌, ◌≤◌, List, [], ◌∷◌, ◌++◌, max}
 use Rattle.mask_runs.specs.declared.run.Run.{Run}
 use Rattle.mask_runs.specs.Runs.{IsRun}
-use Rattle.cover_tree.specs.declared.stretch.Stretch.{Stretch}
-use Rattle.row_windows.specs.declared.window.Window.{Window}
+use Rattle.cover_tree.specs.declared.span.Span.{Span}
 
 -- the cell before has no colour
 abbrev pub IsBlankBefore : (ℕ → ℕ) → ℕ → Type 0
@@ -56,13 +55,14 @@ pub record IsRightOf (colour : ℕ → ℕ) (cell reached : ℕ) : Type 0 where
   pub by : (colour reached ≡ 0) ⊎ BeginsAfter colour cell reached
 
 -- the open window goes on over the stretch
-pub record IsJoined (current : Window) (e : Stretch) (old now : List Window) (next : Window) : Type 0 where
+pub record IsJoined (current : Span) (e : Span) (old now : List Span) (next : Span) : Type 0 where
   pub same : now ≡ old
   pub from : next.from ≡ current.from
   pub to : next.to ≡ max current.to e.to
 
 -- it has been added, and the next one opens at the stretch
-pub record IsBegun (colour : ℕ → ℕ) (cells : ℕ) (current : Window) (e : Stretch) (old now : List Window) (next : Window) : Type 0 where
+pub record IsBegun (colour : ℕ → ℕ) (cells : ℕ) (current : Span) (e : Span) (old now : List Span)
+    (next : Span) : Type 0 where
   pub end : ℕ
   pub right : IsRightOf colour current.to end
   pub within : end < cells
@@ -71,5 +71,6 @@ pub record IsBegun (colour : ℕ → ℕ) (cells : ℕ) (current : Window) (e : 
   pub to : next.to ≡ e.to
   pub apart : end < next.from
 
-abbrev pub IsOpened : (ℕ → ℕ) → ℕ → Window → Stretch → List Window → List Window → Window → Type 0
-IsOpened colour cells current e old now next = IsJoined current e old now next ⊎ IsBegun colour cells current e old now next
+abbrev pub IsOpened : (ℕ → ℕ) → ℕ → Span → Span → List Span → List Span → Span → Type 0
+IsOpened colour cells current e old now next =
+    IsJoined current e old now next ⊎ IsBegun colour cells current e old now next

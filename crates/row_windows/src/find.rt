@@ -6,8 +6,7 @@ ghost use Rattle.row_windows.specs.Windows.{AreFit, AreApart, ChangeAt, TellChan
 ghost use Rattle.row_windows.specs.Reaching.{IsOpened, IsRightOf};
 
 use crate::reach::{left_of, right_of};
-use crate::window::Window;
-use cover_tree::Stretch;
+use cover_tree::Span;
 use kept_runs::KeptRuns;
 use mp_base::NoMemory;
 use std::alloc::AllocError;
@@ -21,8 +20,8 @@ const NEAR: u32 = 32;
 /// this row and in the next, tell all that changes. Its time is that of the stretches times the logarithm of the cells.
 pub fn find_windows(
     kept: &KeptRuns,
-    stretches: &[Stretch],
-    windows: &mut Vec<Window>,
+    stretches: &[Span],
+    windows: &mut Vec<Span>,
 ) -> Result<(), NoMemory>
     requires fit { AreFit (width_of kept.now) stretches.now }
     requires guarded { IsGuarded (width_of kept.now) (colours_of kept.now) }
@@ -34,7 +33,7 @@ pub fn find_windows(
     if stretches.is_empty() {
         return Ok(());
     }
-    let mut current = Window {
+    let mut current = Span {
         from: left_of(kept, stretches[0].from),
         to: stretches[0].to,
     };
@@ -49,16 +48,16 @@ pub fn find_windows(
 // it has.
 fn add_stretch(
     kept: &KeptRuns,
-    current: Window,
-    stretch: Stretch,
-    windows: &mut Vec<Window>,
-) -> Result<Window, NoMemory>
+    current: Span,
+    stretch: Span,
+    windows: &mut Vec<Span>,
+) -> Result<Span, NoMemory>
     requires current { current.to < width_of kept.now }
     requires stretch { stretch.from < width_of kept.now }
     requires guarded { IsGuarded (width_of kept.now) (colours_of kept.now) }
     ensures { IfOk result (λ next. IsOpened (colours_of kept.now) (width_of kept.now) current stretch windows.old.items windows.new.items next) }
 {
-    let joined = Window {
+    let joined = Span {
         from: current.from,
         to: current.to.max(stretch.to),
     };
@@ -71,27 +70,27 @@ fn add_stretch(
         return Ok(joined);
     }
     add(windows, window)?;
-    Ok(Window {
+    Ok(Span {
         from,
         to: stretch.to,
     })
 }
 
 // The window with the runs to the right of its stretches.
-fn closed(kept: &KeptRuns, current: Window) -> Window
+fn closed(kept: &KeptRuns, current: Span) -> Span
     requires current { current.to < width_of kept.now }
     requires guarded { IsGuarded (width_of kept.now) (colours_of kept.now) }
     ensures from { result.from ≡ current.from }
     ensures to { IsRightOf (colours_of kept.now) current.to result.to }
     ensures within { result.to < width_of kept.now }
 {
-    Window {
+    Span {
         from: current.from,
         to: right_of(kept, current.to),
     }
 }
 
-fn add(windows: &mut Vec<Window>, window: Window) -> Result<(), AllocError>
+fn add(windows: &mut Vec<Span>, window: Span) -> Result<(), AllocError>
     ensures { OnOk result (windows.new.items ≡ windows.old.items ++ window ∷ []) }
 {
     windows.push(window)?;

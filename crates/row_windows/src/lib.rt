@@ -4,8 +4,6 @@
 mod collect;
 mod find;
 mod reach;
-mod window;
 
 pub use collect::collect_windows;
 pub use find::find_windows;
-pub use window::Window;

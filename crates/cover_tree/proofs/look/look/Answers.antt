@@ -9,4 +9,6 @@ returns-then-part-lt2 c =
 
 -- src/look.rt
 pub returns : goal.returns
-returns c = rw (c.both-full.ensures, c.own_at.ensures) (halved c.args.line.mask c.args.trees.now c.args.part c.args.line.row c.args.known c.if-part-lt2.false)
+returns c =
+    rw (c.both-full.ensures, c.own_at.ensures)
+    (halved c.args.line.mask c.args.trees.now c.args.part c.args.line.row c.args.known c.if-part-lt2.false)

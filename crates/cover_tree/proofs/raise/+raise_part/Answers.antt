@@ -5,14 +5,16 @@ use Rattle.cover_tree.specs.Notes.{AreNoted, IsOnlyIn}
 use Rattle.cover_tree.proofs.Nodes.{tree_length}
 use Rattle.cover_tree.proofs.Tops.{small_left, small_right}
 use Rattle.cover_tree.proofs.Noting.{noted_left}
-use Rattle.cover_tree.proofs.Raising.{raised_all, lifted_halves, lifted_only, only_in_turn, right_noted, both_noted, both_raised, both_only}
+use Rattle.cover_tree.proofs.Raising.{raised_all, lifted_halves, lifted_only, only_in_turn, right_noted, both_noted}
+use Rattle.cover_tree.proofs.Raising.{both_raised, both_only}
 use Rattle.cover_tree.proofs.raise.+raise_part.Goals as goal
 
 -- src/raise.rt
 pub returns-then-to-from-clause-noted : goal.returns-then-to-from-clause-noted
 returns-then-to-from-clause-noted t c = λ mask h.
     c.forget.ensures.noted mask (lifted_halves c.args.trees.now c.lift.new.self c.args.part.at
-    c.lift.ensures.beside c.lift.ensures.notes c.lift.ensures.as_many c.lift.ensures.further c.lift.ensures.since mask c.args.part refl c.requires.small.some h)
+    c.lift.ensures.beside c.lift.ensures.notes c.lift.ensures.as_many c.lift.ensures.further c.lift.ensures.since mask
+    c.args.part refl c.requires.small.some h)
 
 -- src/raise.rt
 pub returns-then-to-from-clause-raised : goal.returns-then-to-from-clause-raised
@@ -20,13 +22,15 @@ returns-then-to-from-clause-raised t c =
     let room = c.requires.room.room in
     let many = tree_length c.args.trees.now c.args.layer in
     rw (c.forget.ensures.tops c.args.layer, c.lift.ensures.own)
-    (raised_all (tree c.args.trees.now c.args.layer) c.args.part c.args.span c.args.row c.requires.small.some (omega arith) (omega arith))
+    (raised_all (tree c.args.trees.now c.args.layer) c.args.part c.args.span c.args.row c.requires.small.some
+    (omega arith) (omega arith))
 
 -- src/raise.rt
 pub returns-then-to-from-clause-only : goal.returns-then-to-from-clause-only
 returns-then-to-from-clause-only t c =
     only_in_turn c.args.part c.args.trees.now c.lift.new.self c.forget.new.self
-    (lifted_only c.args.trees.now c.lift.new.self c.args.part.at c.lift.ensures.beside c.lift.ensures.notes c.lift.ensures.as_many c.lift.ensures.further c.lift.ensures.since
+    (lifted_only c.args.trees.now c.lift.new.self c.args.part.at c.lift.ensures.beside c.lift.ensures.notes
+    c.lift.ensures.as_many c.lift.ensures.further c.lift.ensures.since
     c.args.part refl c.requires.small.some) c.forget.ensures.only
 
 -- src/raise.rt
@@ -44,40 +48,56 @@ pub raise_part-requires-2 : goal.raise_part-requires-2
 raise_part-requires-2 t c =
     let h : 2 ≤ c.args.part.width = omega arith in
     let a = c.requires.room.room in
-    let l : IsOnlyIn (left_half c.args.part) c.args.trees.now c.raise_part.new.trees = rw (← c.left.ensures) c.raise_part.ensures.only in
+    let l : IsOnlyIn (left_half c.args.part) c.args.trees.now c.raise_part.new.trees =
+    rw (← c.left.ensures) c.raise_part.ensures.only in
     let n = l.as_many in
     rw c.right.ensures (
       omega arith,
-      (small_right c.args.part h c.requires.small, record { kept = rw l.further c.requires.room.kept; room = omega arith }),
+      (
+        small_right c.args.part h
+            c.requires.small,
+        record { kept = rw l.further c.requires.room.kept; room = omega arith },
+      ),
     )
 
 -- src/raise.rt
 pub returns-clause-noted : goal.returns-clause-noted
 returns-clause-noted t c = λ mask n.
     let h : 2 ≤ c.args.part.width = omega arith in
-    let l : IsOnlyIn (left_half c.args.part) c.args.trees.now c.raise_part.new.trees = rw (← c.left.ensures) c.raise_part.ensures.only in
-    let r : IsOnlyIn (right_half c.args.part) c.raise_part.new.trees c.raise_part-2.new.trees = rw (← c.right.ensures) c.raise_part-2.ensures.only in
-    let a : AreNoted mask c.args.trees.now (left_half c.args.part) → AreNoted mask c.raise_part.new.trees (left_half c.args.part)
+    let l : IsOnlyIn (left_half c.args.part) c.args.trees.now c.raise_part.new.trees =
+    rw (← c.left.ensures) c.raise_part.ensures.only in
+    let r : IsOnlyIn (right_half c.args.part) c.raise_part.new.trees c.raise_part-2.new.trees =
+    rw (← c.right.ensures) c.raise_part-2.ensures.only in
+    let a : AreNoted mask c.args.trees.now (left_half c.args.part)
+    → AreNoted mask c.raise_part.new.trees (left_half c.args.part)
     = rw (← c.left.ensures) (c.raise_part.ensures.noted mask) in
-    let b : AreNoted mask c.raise_part.new.trees (right_half c.args.part) → AreNoted mask c.raise_part-2.new.trees (right_half c.args.part)
+    let b : AreNoted mask c.raise_part.new.trees (right_half c.args.part)
+    → AreNoted mask c.raise_part-2.new.trees (right_half c.args.part)
     = rw (← c.right.ensures) (c.raise_part-2.ensures.noted mask) in
     c.forget-2.ensures.noted mask (both_noted c.raise_part.new.trees c.raise_part-2.new.trees c.args.part h r mask
-    (a (noted_left mask c.args.trees.now c.args.part h n)) (b (right_noted c.args.trees.now c.raise_part.new.trees c.args.part h l mask n)))
+    (a (noted_left mask c.args.trees.now c.args.part h n))
+    (b (right_noted c.args.trees.now c.raise_part.new.trees c.args.part h l mask n)))
 
 -- src/raise.rt
 pub returns-clause-raised : goal.returns-clause-raised
 returns-clause-raised t c =
     let h : 2 ≤ c.args.part.width = omega arith in
-    let l : IsOnlyIn (left_half c.args.part) c.args.trees.now c.raise_part.new.trees = rw (← c.left.ensures) c.raise_part.ensures.only in
-    let r : IsOnlyIn (right_half c.args.part) c.raise_part.new.trees c.raise_part-2.new.trees = rw (← c.right.ensures) c.raise_part-2.ensures.only in
+    let l : IsOnlyIn (left_half c.args.part) c.args.trees.now c.raise_part.new.trees =
+    rw (← c.left.ensures) c.raise_part.ensures.only in
+    let r : IsOnlyIn (right_half c.args.part) c.raise_part.new.trees c.raise_part-2.new.trees =
+    rw (← c.right.ensures) c.raise_part-2.ensures.only in
     rw (c.forget-2.ensures.tops c.args.layer)
-    (both_raised c.args.trees.now c.raise_part.new.trees c.raise_part-2.new.trees c.args.part h l r c.args.layer c.args.span c.args.row
+    (both_raised c.args.trees.now c.raise_part.new.trees c.raise_part-2.new.trees c.args.part h l r c.args.layer
+    c.args.span c.args.row
     (rw (← c.left.ensures) c.raise_part.ensures.raised) (rw (← c.right.ensures) c.raise_part-2.ensures.raised))
 
 -- src/raise.rt
 pub returns-clause-only : goal.returns-clause-only
 returns-clause-only t c =
     let h : 2 ≤ c.args.part.width = omega arith in
-    let l : IsOnlyIn (left_half c.args.part) c.args.trees.now c.raise_part.new.trees = rw (← c.left.ensures) c.raise_part.ensures.only in
-    let r : IsOnlyIn (right_half c.args.part) c.raise_part.new.trees c.raise_part-2.new.trees = rw (← c.right.ensures) c.raise_part-2.ensures.only in
-    both_only c.args.trees.now c.raise_part.new.trees c.raise_part-2.new.trees c.args.part h l r c.forget-2.new.self c.forget-2.ensures.only
+    let l : IsOnlyIn (left_half c.args.part) c.args.trees.now c.raise_part.new.trees =
+    rw (← c.left.ensures) c.raise_part.ensures.only in
+    let r : IsOnlyIn (right_half c.args.part) c.raise_part.new.trees c.raise_part-2.new.trees =
+    rw (← c.right.ensures) c.raise_part-2.ensures.only in
+    both_only c.args.trees.now c.raise_part.new.trees c.raise_part-2.new.trees c.args.part h l r c.forget-2.new.self
+    c.forget-2.ensures.only

@@ -11,6 +11,8 @@ loop-begun-preserved c =
     record {
       from = omega arith;
       within = omega arith;
-      reached = λ first h. reached_more c.args.blocks.now first c.args.row c.args.cell c.loop-begun.begun _ refl test c.if-blocks-begun.true
+      reached =
+          λ first h. reached_more c.args.blocks.now first c.args.row c.args.cell c.loop-begun.begun _ refl test
+          c.if-blocks-begun.true
           c.if-blocks-begun-2.true c.reach_on.ensures (inv.reached first h);
     }

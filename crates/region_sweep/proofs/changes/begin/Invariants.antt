@@ -7,7 +7,8 @@ abbrev pub invariant-loop-begun : goal.invariant-loop-begun
 invariant-loop-begun l = record {
   from : l.initial.begun.next ≤ l.begun.next;
   within : l.begun.next ≤ length l.blocks;
-  reached : (first : ℕ) → AreReached l.blocks first l.row l.cell l.initial.begun → AreReached l.blocks first l.row l.cell l.begun;
+  reached : (first : ℕ) → AreReached l.blocks first l.row l.cell l.initial.begun
+      → AreReached l.blocks first l.row l.cell l.begun;
 }
 
 abbrev pub decreases-loop-begun : goal.decreases-loop-begun

@@ -29,15 +29,18 @@ loop-from-preserved c =
     record {
       within = omega arith;
       reached = reached_later blocks c.args.raised (below + 1) from to begun (omega arith) reached;
-      told = changes_more (painted cover.mask blocks below) (painted cover.mask blocks (below + 1)) from to (TurnsUnder cover gained from to below)
+      told = changes_more (painted cover.mask blocks below) (painted cover.mask blocks (below + 1)) from to
+          (TurnsUnder cover gained from to below)
           c.loop-from.changed.items c.tell_changes.new.changed.items (omega arith)
           (λ z t. (
             t.order,
             t.within,
-            changes law blocks c.args.cells below c.args.raised from to cover begun gained c.requires.up_to reached later c.end-to.ensures.all c.layers.ensures
+            changes law blocks c.args.cells below c.args.raised from to cover begun gained c.requires.up_to reached
+                later c.end-to.ensures.all c.layers.ensures
                 z t.order t.within t,
           ))
-          (λ z a b n. turns law blocks c.args.cells below c.args.raised from to cover begun gained c.requires.up_to reached later c.end-to.ensures.all
+          (λ z a b n. turns law blocks c.args.cells below c.args.raised from to cover begun gained c.requires.up_to
+          reached later c.end-to.ensures.all
           c.layers.ensures z a b n)
           inv.told c.in_ok-tell_changes.ensures;
     }

@@ -9,7 +9,8 @@ abbrev pub invariant-loop-from : goal.invariant-loop-from
 invariant-loop-from l = record {
   within : l.from ≤ l.cells;
   reached : AreReached l.blocks l.raised (l.below + 1) l.from l.begun;
-  told : AreChanges (painted (cover_of l.tree).mask l.blocks l.below) (painted (cover_of l.tree).mask l.blocks (l.below + 1)) l.from l.changed.items;
+  told : AreChanges (painted (cover_of l.tree).mask l.blocks l.below)
+      (painted (cover_of l.tree).mask l.blocks (l.below + 1)) l.from l.changed.items;
 }
 
 abbrev pub decreases-loop-from : goal.decreases-loop-from

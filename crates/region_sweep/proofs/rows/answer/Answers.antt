@@ -13,8 +13,10 @@ loop-next-preserved c =
     record {
       answers = λ colour front before.
           answered_more colour (strips_of strips) spots next c.loop-next.found c.number_at.result
-          (subst (λ n. AreAsked n spots) (sym c.loop-next.auto.found) c.requires.spots) c.loop-next-test.true (c.loop-next.invariant.answers colour front before)
-          (c.number_at.ensures colour c.args.row (spot spots next) front c.if-spots-next.true (λ i. (spot spots next).cell));
+          (subst (λ n. AreAsked n spots) (sym c.loop-next.auto.found) c.requires.spots) c.loop-next-test.true
+          (c.loop-next.invariant.answers colour front before)
+          (c.number_at.ensures colour c.args.row (spot spots next) front c.if-spots-next.true
+          (λ i. (spot spots next).cell));
       within = omega arith;
       waiting = λ j l m. c.loop-next.invariant.waiting j (omega arith) m;
     }

@@ -6,7 +6,8 @@ use Rattle.region_sweep.proofs.rows.answer.Given as goal
 
 abbrev pub invariant-loop-next : goal.invariant-loop-next
 invariant-loop-next l = record {
-  answers : (colour : ℕ → ℕ → ℕ) → IsFront colour l.row l.strips l.kept → AreAnswered colour (strips_of l.strips) l.spots l.answered l.initial.found
+  answers : (colour : ℕ → ℕ → ℕ) → IsFront colour l.row l.strips l.kept
+      → AreAnswered colour (strips_of l.strips) l.spots l.answered l.initial.found
       → AreAnswered colour (strips_of l.strips) l.spots l.next l.found;
   within : l.next ≤ length l.spots;
   waiting : (j : ℕ) → l.next ≤ j → j < length l.spots → l.row ≤ (spot l.spots j).row;

@@ -8,6 +8,8 @@ pub loop-next-preserved : goal.loop-next-preserved
 loop-next-preserved c = record {
   mask = c.raise.ensures.same_mask ∙ c.loop-next.invariant.mask;
   cells = c.raise.ensures.as_wide ∙ c.loop-next.invariant.cells;
-  raised = raised_more c.args.blocks.now c.args.row c.loop-next.next (cover_of c.loop-next.tree) (cover_of c.raise.new.self) c.loop-next.invariant.raised
+  raised =
+      raised_more c.args.blocks.now c.args.row c.loop-next.next (cover_of c.loop-next.tree)
+      (cover_of c.raise.new.self) c.loop-next.invariant.raised
       c.loop-next-test.true c.if-blocks-next.true c.raise.ensures;
 }

@@ -14,7 +14,8 @@ use Rattle.region_sweep.proofs.Changing.{changes_at, changes_fit}
 use Rattle.region_sweep.specs.Repainting.{IsRepainted}
 use Rattle.region_sweep.proofs.Painting.{blank_above, blank_below}
 use Rattle.region_sweep.proofs.Repainting.{next_kept}
-use Rattle.region_sweep.proofs.Rowwise.{nothing_raised, nothing_answered, guarded, runs_painted, lie_in, tree_tells, still_answered, all_answered, last_alike, whole_step, rest_above, swept_first}
+use Rattle.region_sweep.proofs.Rowwise.{nothing_raised, nothing_answered, guarded, runs_painted, lie_in, tree_tells}
+use Rattle.region_sweep.proofs.Rowwise.{still_answered, all_answered, last_alike, whole_step, rest_above, swept_first}
 use Rattle.region_sweep.proofs.rows.sweep_rows.Goals as goal
 
 pub find_windows-requires-clause-fit : goal.find_windows-requires-clause-fit
@@ -24,7 +25,9 @@ find_windows-requires-clause-fit c =
     let cells = c.args.size.cells in
     let blocks = c.args.blocks.now in
     let below = c.loop-below.below in
-    let told = subst (λ m. AreChanges (painted m blocks below) (painted m blocks (below + 1)) cells c.find_changes.new.changed.items) inv.up_to.of_mask
+    let told =
+    subst (λ m. AreChanges (painted m blocks below)
+    (painted m blocks (below + 1)) cells c.find_changes.new.changed.items) inv.up_to.of_mask
     c.in_ok-find_changes.ensures in
     subst (AreFit (width_of c.loop-below.kept)) (sym c.deref.ensures.value)
     (subst (λ n. AreFit n c.find_changes.new.changed.items) (sym inv.wide)
@@ -34,16 +37,19 @@ find_windows-requires-clause-fit c =
 pub find_windows-requires-clause-guarded : goal.find_windows-requires-clause-guarded
 find_windows-requires-clause-guarded c =
     let inv = c.loop-below.invariant in
-    guarded c.colours_by_layers.ensures c.args.mask c.args.size.cells c.args.size.rows c.args.blocks.now c.loop-below.below c.loop-below.kept
+    guarded c.colours_by_layers.ensures c.args.mask c.args.size.cells c.args.size.rows c.args.blocks.now
+    c.loop-below.below c.loop-below.kept
     c.requires.stacked inv.wide inv.same
 
 pub repaint-requires-clause-wide : goal.repaint-requires-clause-wide
-repaint-requires-clause-wide c = subst (All (λ s. s.from < s.to)) (sym c.deref-in-loop-below-2.ensures.value) c.in_ok-find_changes.ensures.wide
+repaint-requires-clause-wide c =
+    subst (All (λ s. s.from < s.to)) (sym c.deref-in-loop-below-2.ensures.value) c.in_ok-find_changes.ensures.wide
 
 pub repaint-requires-clause-within : goal.repaint-requires-clause-within
 repaint-requires-clause-within c =
     subst (All (λ s. s.to ≤ width_of c.loop-below.kept)) (sym c.deref-in-loop-below-2.ensures.value)
-    (subst (λ n. All (λ s. s.to ≤ n) c.find_changes.new.changed.items) (sym c.loop-below.invariant.wide) c.in_ok-find_changes.ensures.within)
+    (subst (λ n. All (λ s. s.to ≤ n) c.find_changes.new.changed.items)
+    (sym c.loop-below.invariant.wide) c.in_ok-find_changes.ensures.within)
 
 pub repaint-requires-clause-cells : goal.repaint-requires-clause-cells
 repaint-requires-clause-cells c =
@@ -55,9 +61,11 @@ step-requires-clause-old c =
     let runs = c.collect_windows.new.runs.items in
     let windows = c.deref-in-loop-below.result.now in
     let colour = painted c.args.mask c.args.blocks.now in
-    let are = runs_painted (colour c.loop-below.below) c.loop-below.kept windows runs inv.same c.in_ok-collect_windows.ensures in
+    let are =
+    runs_painted (colour c.loop-below.below) c.loop-below.kept windows runs inv.same c.in_ok-collect_windows.ensures in
     subst (LieInRow (cells_of c.loop-below.strips)) (sym c.deref-in-loop-below-4.ensures.value)
-    (lie_in c.colours_by_layers.ensures c.args.mask c.args.size.cells c.args.size.rows c.args.blocks.now c.loop-below.below _ windows runs c.requires.stacked inv.as_wide are)
+    (lie_in c.colours_by_layers.ensures c.args.mask c.args.size.cells c.args.size.rows c.args.blocks.now
+    c.loop-below.below _ windows runs c.requires.stacked inv.as_wide are)
 
 pub step-requires-clause-new : goal.step-requires-clause-new
 step-requires-clause-new c =
@@ -72,11 +80,17 @@ step-requires-clause-new c =
     let up = c.raise-raised.ensures in
     let new = cover_of c.raise-raised.new.tree in
     let kept = c.repaint.new.kept in
-    let told = subst (λ m. AreChanges (painted m blocks below) (painted m blocks (below + 1)) cells changed) inv.up_to.of_mask c.in_ok-find_changes.ensures in
-    let at = changes_at (colour below) (colour (below + 1)) cells changed (last_alike law mask cells c.args.size.rows blocks below c.requires.stacked) told in
+    let told =
+    subst (λ m. AreChanges (painted m blocks below) (painted m blocks (below + 1)) cells changed) inv.up_to.of_mask
+    c.in_ok-find_changes.ensures in
+    let at =
+    changes_at (colour below) (colour (below + 1)) cells changed
+    (last_alike law mask cells c.args.size.rows blocks below c.requires.stacked) told in
     let same = next_kept colour below (row_colour new (below + 1)) c.loop-below.kept kept changed inv.same
-    (tree_tells law mask blocks (below + 1) c.raise-raised.result new (up.of_mask ∙ inv.up_to.of_mask) up.are up.waiting) at
-    (subst (IsRepainted (row_colour new (below + 1)) c.loop-below.kept kept) c.deref-in-loop-below-2.ensures.value c.in_ok-repaint.ensures) in
+    (tree_tells law mask blocks (below + 1) c.raise-raised.result new
+    (up.of_mask ∙ inv.up_to.of_mask) up.are up.waiting) at
+    (subst (IsRepainted (row_colour new (below + 1)) c.loop-below.kept kept) c.deref-in-loop-below-2.ensures.value
+    c.in_ok-repaint.ensures) in
     let runs = c.collect_windows-in-loop-below.new.runs.items in
     let windows = c.deref-in-loop-below-3.result.now in
     let are = runs_painted (colour (below + 1)) kept windows runs same c.in_ok-collect_windows-2.ensures in
@@ -99,7 +113,12 @@ loop-below-init c =
     let swept = swept_first law mask cells rows blocks strips stacked c.in_ok-strips.ensures.strips in
     let same = λ (x : ℕ). blank_below law mask cells rows blocks x stacked ∙ sym (c.in_ok-kept.ensures.blank x) in
     record {
-      up_to = record { of_mask = c.in_ok-tree.ensures.of_mask; wide = c.in_ok-tree.ensures.wide; are = raised; waiting = rest };
+      up_to = record {
+        of_mask = c.in_ok-tree.ensures.of_mask;
+        wide = c.in_ok-tree.ensures.wide;
+        are = raised;
+        waiting = rest;
+      };
       wide = c.in_ok-kept.ensures.cells;
       same = same;
       as_wide = c.in_ok-strips.ensures.cells;
@@ -128,16 +147,23 @@ loop-below-preserved c =
       are = c.raise-raised.ensures.are;
       waiting = c.raise-raised.ensures.waiting;
     } in
-    let told = subst (λ m. AreChanges (painted m blocks below) (painted m blocks (below + 1)) cells changed) up.of_mask c.in_ok-find_changes.ensures in
-    let at = changes_at (colour below) (colour (below + 1)) cells changed (last_alike law mask cells c.args.size.rows blocks below c.requires.stacked) told in
+    let told =
+    subst (λ m. AreChanges (painted m blocks below) (painted m blocks (below + 1)) cells changed) up.of_mask
+    c.in_ok-find_changes.ensures in
+    let at =
+    changes_at (colour below) (colour (below + 1)) cells changed
+    (last_alike law mask cells c.args.size.rows blocks below c.requires.stacked) told in
     let same = next_kept colour below (row_colour new (below + 1)) c.loop-below.kept kept changed inv.same
     (tree_tells law mask blocks (below + 1) c.raise-raised.result new upper.of_mask upper.are upper.waiting) at
-    (subst (IsRepainted (row_colour new (below + 1)) c.loop-below.kept kept) c.deref-in-loop-below-2.ensures.value c.in_ok-repaint.ensures) in
+    (subst (IsRepainted (row_colour new (below + 1)) c.loop-below.kept kept) c.deref-in-loop-below-2.ensures.value
+    c.in_ok-repaint.ensures) in
     let olds = c.collect_windows.new.runs.items in
     let news = c.collect_windows-in-loop-below.new.runs.items in
     let change = whole_step colour below c.loop-below.kept kept changed c.deref.result.now
-    c.find_windows.new.windows.items c.deref-in-loop-below.result.now c.deref-in-loop-below-3.result.now olds news inv.same same at c.deref.ensures.value
-    c.deref-in-loop-below.ensures.value c.deref-in-loop-below-3.ensures.value c.in_ok-find_windows.ensures.tell c.in_ok-collect_windows.ensures
+    c.find_windows.new.windows.items c.deref-in-loop-below.result.now c.deref-in-loop-below-3.result.now olds news
+    inv.same same at c.deref.ensures.value
+    c.deref-in-loop-below.ensures.value c.deref-in-loop-below-3.ensures.value c.in_ok-find_windows.ensures.tell
+    c.in_ok-collect_windows.ensures
     c.in_ok-collect_windows-2.ensures in
     let swept = c.in_ok-step.ensures.swept colour below inv.swept
     (subst (λ v. IsChange colour below v c.deref-in-loop-below-5.result.now) (sym c.deref-in-loop-below-4.ensures.value)
@@ -149,7 +175,8 @@ loop-below-preserved c =
       as_wide = c.in_ok-step.ensures.cells ∙ inv.as_wide;
       swept = swept;
       answers = c.answer-answered-in-loop-below.ensures.answers colour (record { swept = swept; same = same })
-          (still_answered colour (strips_of c.loop-below.strips) (strips_of c.step.new.self) c.args.spots.now c.loop-below.answered c.loop-below.found
+          (still_answered colour (strips_of c.loop-below.strips)
+          (strips_of c.step.new.self) c.args.spots.now c.loop-below.answered c.loop-below.found
           c.in_ok-step.ensures.numbers inv.answers);
       waiting = c.answer-answered-in-loop-below.ensures.waiting;
     }
@@ -170,6 +197,9 @@ returns c =
     record {
       strips = c.finish.ensures.strips colour c.loop-below.below inv.swept above;
       touching = c.finish.ensures.touching colour c.loop-below.below inv.swept above;
-      answers = subst (λ s. AreAnswered colour s c.args.spots.now (length c.args.spots.now) c.loop-below.found) (sym c.finish.ensures.numbers)
-          (subst (λ n. AreAnswered colour (strips_of c.loop-below.strips) c.args.spots.now n c.loop-below.found) all inv.answers);
+      answers =
+          subst (λ s. AreAnswered colour s c.args.spots.now (length c.args.spots.now) c.loop-below.found)
+          (sym c.finish.ensures.numbers)
+          (subst (λ n. AreAnswered colour (strips_of c.loop-below.strips) c.args.spots.now n c.loop-below.found) all
+          inv.answers);
     }

@@ -16,15 +16,18 @@ use Rattle.region_sweep.proofs.swept.sweep.Goals as goal
 
 pub returns-then-is_blank-clause-tiles : goal.returns-then-is_blank-clause-tiles
 returns-then-is_blank-clause-tiles c = IfOk-weaker c.blank.result _ _
-    (λ s e. blank_tiles c.blank_without_needed.ensures c.args.mask c.args.shapes.now s.tiles (c.is_blank.ensures c.if-is_blank.true) e) c.blank.ensures.tiles
+    (λ s e. blank_tiles c.blank_without_needed.ensures c.args.mask c.args.shapes.now s.tiles
+    (c.is_blank.ensures c.if-is_blank.true) e) c.blank.ensures.tiles
 
 pub returns-then-is_blank-clause-whole : goal.returns-then-is_blank-clause-whole
 returns-then-is_blank-clause-whole c = IfOk-weaker c.blank.result _ _
-    (λ s e. blank_whole c.blank_without_needed.ensures c.args.mask c.args.shapes.now s.tiles (c.is_blank.ensures c.if-is_blank.true)) c.blank.ensures.tiles
+    (λ s e. blank_whole c.blank_without_needed.ensures c.args.mask c.args.shapes.now s.tiles
+    (c.is_blank.ensures c.if-is_blank.true)) c.blank.ensures.tiles
 
 pub returns-then-is_blank-clause-found : goal.returns-then-is_blank-clause-found
 returns-then-is_blank-clause-found c = IfOk-weaker c.blank.result _ _
-    (λ s e. blank_found c.blank_without_needed.ensures c.args.mask c.args.shapes.now s.tiles c.args.places.now s.found (c.is_blank.ensures c.if-is_blank.true) e)
+    (λ s e. blank_found c.blank_without_needed.ensures c.args.mask c.args.shapes.now s.tiles c.args.places.now s.found
+    (c.is_blank.ensures c.if-is_blank.true) e)
     c.blank.ensures.found
 
 pub blocks-requires : goal.blocks-requires
@@ -34,21 +37,25 @@ pub sweep_rows-requires-clause-asked : goal.sweep_rows-requires-clause-asked
 sweep_rows-requires-clause-asked c =
     let grid = c.in_ok-grid.grid in
     subst (AreAsked (length c.as_mut_slice.result.now)) (sym c.as_slice-2.ensures.value)
-    (asked_are grid.columns.marks.items grid.rows.marks.items c.args.places.now c.in_ok-spots.spots.items (length c.as_mut_slice.result.now)
-    (c.as_mut_slice.ensures.len ∙ c.in_ok-found.ensures.len) c.in_ok-spots.ensures.spots c.in_ok-spots.ensures.ascending)
+    (asked_are grid.columns.marks.items grid.rows.marks.items c.args.places.now c.in_ok-spots.spots.items
+    (length c.as_mut_slice.result.now)
+    (c.as_mut_slice.ensures.len ∙ c.in_ok-found.ensures.len) c.in_ok-spots.ensures.spots
+    c.in_ok-spots.ensures.ascending)
 
 pub sweep_rows-requires-clause-spots : goal.sweep_rows-requires-clause-spots
 sweep_rows-requires-clause-spots c =
     let grid = c.in_ok-grid.grid in
     subst (λ ss. All (λ s. s.row < c.size.result.rows) ss) (sym c.as_slice-2.ensures.value)
-    (rows_are_in grid.columns.marks.items grid.rows.marks.items c.args.places.now c.in_ok-spots.spots.items c.size.result.rows c.size.ensures.rows grid.rows.ascending
+    (rows_are_in grid.columns.marks.items grid.rows.marks.items c.args.places.now c.in_ok-spots.spots.items
+    c.size.result.rows c.size.ensures.rows grid.rows.ascending
     c.in_ok-spots.ensures.spots)
 
 pub sweep_rows-requires-clause-places : goal.sweep_rows-requires-clause-places
 sweep_rows-requires-clause-places c =
     let grid = c.in_ok-grid.grid in
     subst (λ ss. All (λ s. s.cell < c.size.result.cells) ss) (sym c.as_slice-2.ensures.value)
-    (cells_are_in grid.columns.marks.items grid.rows.marks.items c.args.places.now c.in_ok-spots.spots.items c.size.result.cells c.size.ensures.cells
+    (cells_are_in grid.columns.marks.items grid.rows.marks.items c.args.places.now c.in_ok-spots.spots.items
+    c.size.result.cells c.size.ensures.cells
     grid.columns.ascending c.in_ok-spots.ensures.spots)
 
 pub tiles-requires : goal.tiles-requires
@@ -61,12 +68,20 @@ tiles-requires c =
     let blocks = c.in_ok-blocks.blocks.items in
     let laid : IsLaid xs ys mask shapes blocks = record {
       law = c.colours_by_layers.ensures;
-      grid = record { columns = grid.columns.ascending; rows = grid.rows.ascending; drawn = c.in_ok-grid.ensures; made = c.in_ok-blocks.ensures.blocks };
+      grid = record {
+        columns = grid.columns.ascending;
+        rows = grid.rows.ascending;
+        drawn = c.in_ok-grid.ensures;
+        made = c.in_ok-blocks.ensures.blocks;
+      };
       stacked = c.in_ok-blocks.ensures.stacked;
     } in
     let strips = c.in_ok-swept.swept.strips.items in
-    let swept = subst (λ bs. IsSweep (painted mask bs) c.as_slice-2.result.now c.in_ok-swept.swept c.sweep_rows.new.found) c.as_slice.ensures.value c.in_ok-swept.ensures in
-    subst (All (IsFit xs ys)) (sym c.as_slice-3.ensures.value) (strips_within xs ys mask shapes blocks strips laid swept.strips)
+    let swept =
+    subst (λ bs. IsSweep (painted mask bs) c.as_slice-2.result.now c.in_ok-swept.swept c.sweep_rows.new.found)
+    c.as_slice.ensures.value c.in_ok-swept.ensures in
+    subst (All (IsFit xs ys)) (sym c.as_slice-3.ensures.value)
+    (strips_within xs ys mask shapes blocks strips laid swept.strips)
 
 pub returns-clause-tiles : goal.returns-clause-tiles
 returns-clause-tiles c =
@@ -78,11 +93,18 @@ returns-clause-tiles c =
     let blocks = c.in_ok-blocks.blocks.items in
     let laid : IsLaid xs ys mask shapes blocks = record {
       law = c.colours_by_layers.ensures;
-      grid = record { columns = grid.columns.ascending; rows = grid.rows.ascending; drawn = c.in_ok-grid.ensures; made = c.in_ok-blocks.ensures.blocks };
+      grid = record {
+        columns = grid.columns.ascending;
+        rows = grid.rows.ascending;
+        drawn = c.in_ok-grid.ensures;
+        made = c.in_ok-blocks.ensures.blocks;
+      };
       stacked = c.in_ok-blocks.ensures.stacked;
     } in
     let strips = c.in_ok-swept.swept.strips.items in
-    let swept = subst (λ bs. IsSweep (painted mask bs) c.as_slice-2.result.now c.in_ok-swept.swept c.sweep_rows.new.found) c.as_slice.ensures.value c.in_ok-swept.ensures in
+    let swept =
+    subst (λ bs. IsSweep (painted mask bs) c.as_slice-2.result.now c.in_ok-swept.swept c.sweep_rows.new.found)
+    c.as_slice.ensures.value c.in_ok-swept.ensures in
     let tiles = c.in_ok-tiles.ensures ∙ ap (map (tile_of xs ys)) c.as_slice-3.ensures.value in
     subst (AreTiles shapes mask) (sym tiles) (are_tiles xs ys mask shapes blocks strips laid swept.strips)
 
@@ -96,11 +118,18 @@ returns-clause-whole c =
     let blocks = c.in_ok-blocks.blocks.items in
     let laid : IsLaid xs ys mask shapes blocks = record {
       law = c.colours_by_layers.ensures;
-      grid = record { columns = grid.columns.ascending; rows = grid.rows.ascending; drawn = c.in_ok-grid.ensures; made = c.in_ok-blocks.ensures.blocks };
+      grid = record {
+        columns = grid.columns.ascending;
+        rows = grid.rows.ascending;
+        drawn = c.in_ok-grid.ensures;
+        made = c.in_ok-blocks.ensures.blocks;
+      };
       stacked = c.in_ok-blocks.ensures.stacked;
     } in
     let strips = c.in_ok-swept.swept.strips.items in
-    let swept = subst (λ bs. IsSweep (painted mask bs) c.as_slice-2.result.now c.in_ok-swept.swept c.sweep_rows.new.found) c.as_slice.ensures.value c.in_ok-swept.ensures in
+    let swept =
+    subst (λ bs. IsSweep (painted mask bs) c.as_slice-2.result.now c.in_ok-swept.swept c.sweep_rows.new.found)
+    c.as_slice.ensures.value c.in_ok-swept.ensures in
     let tiles = c.in_ok-tiles.ensures ∙ ap (map (tile_of xs ys)) c.as_slice-3.ensures.value in
     subst (AreWhole shapes mask) (sym tiles) (are_whole xs ys mask shapes blocks strips laid swept.strips)
 
@@ -114,11 +143,18 @@ returns-clause-pairs c =
     let blocks = c.in_ok-blocks.blocks.items in
     let laid : IsLaid xs ys mask shapes blocks = record {
       law = c.colours_by_layers.ensures;
-      grid = record { columns = grid.columns.ascending; rows = grid.rows.ascending; drawn = c.in_ok-grid.ensures; made = c.in_ok-blocks.ensures.blocks };
+      grid = record {
+        columns = grid.columns.ascending;
+        rows = grid.rows.ascending;
+        drawn = c.in_ok-grid.ensures;
+        made = c.in_ok-blocks.ensures.blocks;
+      };
       stacked = c.in_ok-blocks.ensures.stacked;
     } in
     let strips = c.in_ok-swept.swept.strips.items in
-    let swept = subst (λ bs. IsSweep (painted mask bs) c.as_slice-2.result.now c.in_ok-swept.swept c.sweep_rows.new.found) c.as_slice.ensures.value c.in_ok-swept.ensures in
+    let swept =
+    subst (λ bs. IsSweep (painted mask bs) c.as_slice-2.result.now c.in_ok-swept.swept c.sweep_rows.new.found)
+    c.as_slice.ensures.value c.in_ok-swept.ensures in
     let tiles = c.in_ok-tiles.ensures ∙ ap (map (tile_of xs ys)) c.as_slice-3.ensures.value in
     subst (λ ts. AreTouching ts c.from_vec.result) (sym tiles)
     (subst (AreTouching (map (tile_of xs ys) strips)) (sym c.from_vec.ensures)
@@ -134,16 +170,28 @@ returns-clause-found c =
     let blocks = c.in_ok-blocks.blocks.items in
     let laid : IsLaid xs ys mask shapes blocks = record {
       law = c.colours_by_layers.ensures;
-      grid = record { columns = grid.columns.ascending; rows = grid.rows.ascending; drawn = c.in_ok-grid.ensures; made = c.in_ok-blocks.ensures.blocks };
+      grid = record {
+        columns = grid.columns.ascending;
+        rows = grid.rows.ascending;
+        drawn = c.in_ok-grid.ensures;
+        made = c.in_ok-blocks.ensures.blocks;
+      };
       stacked = c.in_ok-blocks.ensures.stacked;
     } in
     let strips = c.in_ok-swept.swept.strips.items in
-    let swept = subst (λ bs. IsSweep (painted mask bs) c.as_slice-2.result.now c.in_ok-swept.swept c.sweep_rows.new.found) c.as_slice.ensures.value c.in_ok-swept.ensures in
+    let swept =
+    subst (λ bs. IsSweep (painted mask bs) c.as_slice-2.result.now c.in_ok-swept.swept c.sweep_rows.new.found)
+    c.as_slice.ensures.value c.in_ok-swept.ensures in
     let tiles = c.in_ok-tiles.ensures ∙ ap (map (tile_of xs ys)) c.as_slice-3.ensures.value in
     let found = c.sweep_rows.new.found in
-    let kept = c.from_vec-2.ensures ∙ put_back found c.in_ok-found.found.items _ (sym (c.sweep_rows.auto.found ∙ c.as_mut_slice.ensures.len)) in
-    let answers = subst (λ ss. AreAnswered (painted mask blocks) strips ss (length ss) found) c.as_slice-2.ensures.value swept.answers in
+    let kept =
+    c.from_vec-2.ensures
+    ∙ put_back found c.in_ok-found.found.items _ (sym (c.sweep_rows.auto.found ∙ c.as_mut_slice.ensures.len)) in
+    let answers =
+    subst (λ ss. AreAnswered (painted mask blocks) strips ss (length ss) found) c.as_slice-2.ensures.value
+    swept.answers in
     subst (λ ts. AllZip (IsTileOf shapes mask ts) c.args.places.now c.from_vec-2.result) (sym tiles)
     (subst (AllZip (IsTileOf shapes mask (map (tile_of xs ys) strips)) c.args.places.now) (sym kept)
-    (are_found xs ys mask shapes blocks strips c.in_ok-spots.spots.items c.args.places.now found laid swept.strips c.in_ok-spots.ensures.spots
+    (are_found xs ys mask shapes blocks strips c.in_ok-spots.spots.items c.args.places.now found laid swept.strips
+    c.in_ok-spots.ensures.spots
     (c.sweep_rows.auto.found ∙ c.as_mut_slice.ensures.len ∙ c.in_ok-found.ensures.len) answers))

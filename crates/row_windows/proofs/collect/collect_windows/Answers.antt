@@ -20,5 +20,7 @@ loop-window-preserved c =
     let i = c.loop-window.window-index in
     let e : c.append.new.self.items ≡ c.loop-window.runs.items ++ c.collect.new.runs.items = search rules in
     subst (AreRuns (seen (take (i + 1) windows) f)) (sym e)
-    (runs_more (width_of c.args.kept.now) windows i f c.requires c.loop-window-test.true c.loop-window.runs.items c.collect.new.runs.items
+    (runs_more
+    (width_of c.args.kept.now) windows i f c.requires c.loop-window-test.true c.loop-window.runs.items
+    c.collect.new.runs.items
     c.loop-window.invariant c.in_ok-collect.ensures)

@@ -21,18 +21,24 @@ loop-next-init c =
 
 -- src/find.rt
 pub loop-next-preserved : goal.loop-next-preserved
-loop-next-preserved c = finding_more (colours_of c.args.kept.now) (width_of c.args.kept.now) c.args.stretches.now c.loop-next.next
-    c.loop-next.windows.items c.add_stretch.new.windows.items c.loop-next.current c.in_ok-current.current c.requires.fit c.loop-next-test.true
+loop-next-preserved c =
+    finding_more (colours_of c.args.kept.now) (width_of c.args.kept.now) c.args.stretches.now c.loop-next.next
+    c.loop-next.windows.items c.add_stretch.new.windows.items c.loop-next.current c.in_ok-current.current
+    c.requires.fit c.loop-next-test.true
     c.loop-next.invariant c.in_ok-current.ensures
 
 -- src/find.rt
 pub returns-clause-apart : goal.returns-clause-apart
-returns-clause-apart c = found_apart (colours_of c.args.kept.now) (width_of c.args.kept.now) c.args.stretches.now c.loop-next.next
-    c.loop-next.windows.items c.add.new.windows.items c.loop-next.current c.closed.result c.loop-next.invariant (search rules) c.closed.ensures.from
+returns-clause-apart c =
+    found_apart (colours_of c.args.kept.now) (width_of c.args.kept.now) c.args.stretches.now c.loop-next.next
+    c.loop-next.windows.items c.add.new.windows.items c.loop-next.current c.closed.result c.loop-next.invariant
+    (search rules) c.closed.ensures.from
     c.closed.ensures.to c.closed.ensures.within c.in_ok-add.ensures
 
 -- src/find.rt
 pub returns-clause-tell : goal.returns-clause-tell
-returns-clause-tell c = found_tell (colours_of c.args.kept.now) (width_of c.args.kept.now) c.args.stretches.now c.loop-next.next
-    c.loop-next.windows.items c.add.new.windows.items c.loop-next.current c.closed.result c.loop-next.invariant (search rules) c.closed.ensures.from
+returns-clause-tell c =
+    found_tell (colours_of c.args.kept.now) (width_of c.args.kept.now) c.args.stretches.now c.loop-next.next
+    c.loop-next.windows.items c.add.new.windows.items c.loop-next.current c.closed.result c.loop-next.invariant
+    (search rules) c.closed.ensures.from
     c.closed.ensures.to c.closed.ensures.within c.in_ok-add.ensures

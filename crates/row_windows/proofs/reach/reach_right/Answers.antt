@@ -11,7 +11,8 @@ returns-in-Some-clause-right c =
 
 -- src/reach.rt
 pub returns-in-Some-clause-within : goal.returns-in-Some-clause-within
-returns-in-Some-clause-within c = stops (colours_of c.args.kept.now) _ c.in-Some.run' c.in-Some.ensures.some.0 c.requires.guarded
+returns-in-Some-clause-within c =
+    stops (colours_of c.args.kept.now) _ c.in-Some.run' c.in-Some.ensures.some.0 c.requires.guarded
 
 -- src/reach.rt
 pub returns-in-None-clause-right : goal.returns-in-None-clause-right

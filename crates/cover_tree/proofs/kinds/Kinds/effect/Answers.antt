@@ -7,7 +7,9 @@ pub returns-in-None : goal.returns-in-None
 returns-in-None c =
     let small : c.args.self.bits < 2 ^ 32 = omega arith in (
       λ k. c.in-None.ensures.none 0 (none_differ c.args.mask c.args.self small c.args.old c.args.new
-          c.new.result c.new-2.result c.differing-differing.result c.new.ensures c.new-2.ensures c.differing-differing.ensures k),
+          c.new.result c.new-2.result c.differing-differing.result c.new.ensures c.new-2.ensures
+          c.differing-differing.ensures k),
       λ k. c.in-None.ensures.none 1 (all_differ c.args.mask c.args.self small c.args.old c.args.new
-          c.new.result c.new-2.result c.differing-differing.result c.new.ensures c.new-2.ensures c.differing-differing.ensures k),
+          c.new.result c.new-2.result c.differing-differing.result c.new.ensures c.new-2.ensures
+          c.differing-differing.ensures k),
     )

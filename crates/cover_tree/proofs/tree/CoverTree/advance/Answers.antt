@@ -5,4 +5,6 @@ use Rattle.cover_tree.proofs.tree.CoverTree.advance.Goals as goal
 -- src/tree.rt
 pub returns : goal.returns
 unfolding cover_of
-returns c = same_cover c.args.self.now.mask c.args.self.now.cells c.args.self.now.trees c.advance.new.self c.advance.ensures.tops
+returns c =
+    same_cover c.args.self.now.mask c.args.self.now.cells c.args.self.now.trees c.advance.new.self
+    c.advance.ensures.tops

@@ -11,15 +11,22 @@ pub refresh-requires : goal.refresh-requires
 refresh-requires t c =
     let h : 2 ≤ c.args.part.width = omega arith in
     let b = c.requires.room in
-    rw c.left.ensures
-    (omega arith, (small_left c.args.part h c.requires.small, (omega arith, noted_left c.args.mask c.args.self.now c.args.part h c.requires.noted)))
+    rw c.left.ensures (
+      omega arith,
+      (
+        small_left c.args.part h
+            c.requires.small,
+        (omega arith, noted_left c.args.mask c.args.self.now c.args.part h c.requires.noted),
+      ),
+    )
 
 -- src/trees.rt
 pub refresh-requires-2 : goal.refresh-requires-2
 refresh-requires-2 t c =
     let h : 2 ≤ c.args.part.width = omega arith in
     let b = c.requires.room in
-    let l : IsOnlyIn (left_half c.args.part) c.args.self.now c.refresh.new.self = rw (← c.left.ensures) c.refresh.ensures.only in
+    let l : IsOnlyIn (left_half c.args.part) c.args.self.now c.refresh.new.self =
+    rw (← c.left.ensures) c.refresh.ensures.only in
     let n = l.as_many in
     rw c.right.ensures (
       omega arith,
@@ -36,7 +43,8 @@ refresh-requires-2 t c =
 pub sum_up-requires-2-clause-halves : goal.sum_up-requires-2-clause-halves
 sum_up-requires-2-clause-halves t c =
     let h : 2 ≤ c.args.part.width = omega arith in
-    let r : IsOnlyIn (right_half c.args.part) c.refresh.new.self c.refresh-2.new.self = rw (← c.right.ensures) c.refresh-2.ensures.only in
+    let r : IsOnlyIn (right_half c.args.part) c.refresh.new.self c.refresh-2.new.self =
+    rw (← c.right.ensures) c.refresh-2.ensures.only in
     both_noted c.refresh.new.self c.refresh-2.new.self c.args.part h r c.args.mask
     (rw (← c.left.ensures) c.refresh.ensures.noted) (rw (← c.right.ensures) c.refresh-2.ensures.noted)
 
@@ -44,6 +52,9 @@ sum_up-requires-2-clause-halves t c =
 pub returns-clause-only : goal.returns-clause-only
 returns-clause-only t c =
     let h : 2 ≤ c.args.part.width = omega arith in
-    let l : IsOnlyIn (left_half c.args.part) c.args.self.now c.refresh.new.self = rw (← c.left.ensures) c.refresh.ensures.only in
-    let r : IsOnlyIn (right_half c.args.part) c.refresh.new.self c.refresh-2.new.self = rw (← c.right.ensures) c.refresh-2.ensures.only in
-    both_only c.args.self.now c.refresh.new.self c.refresh-2.new.self c.args.part h l r c.sum_up-2.new.self c.sum_up-2.ensures.only
+    let l : IsOnlyIn (left_half c.args.part) c.args.self.now c.refresh.new.self =
+    rw (← c.left.ensures) c.refresh.ensures.only in
+    let r : IsOnlyIn (right_half c.args.part) c.refresh.new.self c.refresh-2.new.self =
+    rw (← c.right.ensures) c.refresh-2.ensures.only in
+    both_only c.args.self.now c.refresh.new.self c.refresh-2.new.self c.args.part h l r c.sum_up-2.new.self
+    c.sum_up-2.ensures.only

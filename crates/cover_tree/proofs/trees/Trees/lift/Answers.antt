@@ -25,7 +25,8 @@ returns c =
           ∙ ap (λ x. max x c.args.row) (top c.args.layer ∙ sym (node_top t c.args.layer at)));
       others = λ l d. tree_same t u at n s.nodes s.further l (up.others t.further l c.requires.kept d ∙ top l);
       notes = λ k. elim (cases_eq k at) [
-        | inl e ↦ ap (λ i. (node_at u i).note) e ∙ ap (λ m. m.note) (node_own t u at n s.nodes s.further c.requires.within) ∙ ap (λ m. m.note) was
+        | inl e ↦ ap (λ i. (node_at u i).note) e
+            ∙ ap (λ m. m.note) (node_own t u at n s.nodes s.further c.requires.within) ∙ ap (λ m. m.note) was
             ∙ ap (λ i. (node_at t i).note) (sym e)
         | inr d ↦ ap (λ m. m.note) (node_other t u at n s.nodes s.further k d)
       ];

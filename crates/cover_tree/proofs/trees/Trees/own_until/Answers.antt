@@ -5,5 +5,6 @@ use Rattle.cover_tree.proofs.trees.Trees.own_until.Goals as goal
 -- src/trees.rt
 pub returns : goal.returns
 returns c = λ row i j.
-    own_above c.args.self.now row c.args.at ∙ (rw c.node_at.ensures at (c.until.ensures c.args.self.now.further row i j))
+    own_above c.args.self.now row c.args.at
+    ∙ (rw c.node_at.ensures at (c.until.ensures c.args.self.now.further row i j))
     ∙ sym (own_above c.args.self.now c.args.self.now.since c.args.at)

@@ -9,8 +9,11 @@ returns c =
     let i : c.args.part.at < length c.args.self.now.nodes.items = omega (arith, c.requires.room) in
     let n = c.set_note.ensures in
     record {
-      noted = noted_anew c.args.self.now c.set_note.new.self c.args.part c.summed-note.result h i n.nodes n.further n.since
+      noted = noted_anew c.args.self.now c.set_note.new.self c.args.part c.summed-note.result h i n.nodes n.further
+          n.since
           c.args.mask c.summed-note.ensures c.requires.halves;
-      only = anew_only c.args.self.now c.set_note.new.self c.args.part c.summed-note.result h i n.nodes n.further n.since;
-      tops = anew_tops c.args.self.now c.set_note.new.self c.args.part c.summed-note.result h i n.nodes n.further n.since;
+      only = anew_only c.args.self.now c.set_note.new.self c.args.part c.summed-note.result h i n.nodes n.further
+          n.since;
+      tops = anew_tops c.args.self.now c.set_note.new.self c.args.part c.summed-note.result h i n.nodes n.further
+          n.since;
     }

@@ -9,14 +9,16 @@ use Rattle.cover_tree.proofs.trees.Trees.summed.Goals as goal
 -- src/trees.rt
 pub returns-then-part-lt2 : goal.returns-then-part-lt2
 returns-then-part-lt2 c =
-    leaf_noted c.args.mask c.args.self.now c.args.part _ c.if-part-lt2.true c.own_until-until.ensures (rw c.own_at-own.ensures at c.one.ensures.has)
+    leaf_noted c.args.mask c.args.self.now c.args.part _ c.if-part-lt2.true c.own_until-until.ensures
+    (rw c.own_at-own.ensures at c.one.ensures.has)
 
 -- src/trees.rt
 pub returns : goal.returns
 returns c =
     let h : 2 ≤ c.args.part.width = c.if-part-lt2.false in
     let has = λ (s : Layers) (k : HasKind c.args.mask c.union.result s).
-    rw c.own_at-own.ensures at ((c.with.ensures (both c.own_at-own.result s)).1 (record { kind = s; has = k; same = refl })) in
+    rw c.own_at-own.ensures at
+    ((c.with.ensures (both c.own_at-own.result s)).1 (record { kind = s; has = k; same = refl })) in
     halves_note c.args.mask c.args.self.now c.args.part _ c.note_at-left.result c.note_at-right.result h
     (λ row i j. c.own_until-until.ensures row i (omega arith))
     (rw (c.note_at-left.ensures, c.left.ensures) ((c.requires.halves.left h).each (left_half c.args.part) here))

@@ -11,5 +11,7 @@ returns c =
     let axis = c.args.self.now in
     let same : c.as_slice.result.now ≡ axis.marks.items = c.as_slice.ensures.value in
     let up : Ascending c.as_slice.result.now = subst Ascending (sym same) axis.ascending in
-    let point = IsPartitionPoint-from_clause (λ m. int_le m c.args.place) _ _ c.partition_point.ensures.partitioned (parted _ c.args.place up) (λ a r q k. search rules) in
+    let point =
+    IsPartitionPoint-from_clause (λ m. int_le m c.args.place) _ _ c.partition_point.ensures.partitioned
+    (parted _ c.args.place up) (λ a r q k. search rules) in
     rw (sym same) (cell_from_point c.as_slice.result.now c.args.place _ up c.partition_point.ensures.bound point)

@@ -19,10 +19,12 @@ loop-shape-preserved c =
       | then-uses+in_ok-push w ↦
           let e = w.blocks-is ∙ w.in_ok-push.ensures.ok ∙ ap (λ b. c.loop-shape.blocks ++ b ∷ []) w.block.ensures in
           subst (λ bs. AreBlocks xs ys c.args.mask (take (i + 1) shapes) bs) (sym e)
-          (blocks_more xs ys c.args.mask shapes c.loop-shape.blocks i no_rect c.loop-shape-test.true (sym c.uses.ensures ∙ w.if-uses.true) c.loop-shape.invariant)
+          (blocks_more xs ys c.args.mask shapes c.loop-shape.blocks i no_rect c.loop-shape-test.true
+          (sym c.uses.ensures ∙ w.if-uses.true) c.loop-shape.invariant)
       | else-uses w ↦
           subst (λ bs. AreBlocks xs ys c.args.mask (take (i + 1) shapes) bs) (sym w.blocks-is)
-          (blocks_same xs ys c.args.mask shapes c.loop-shape.blocks i no_rect c.loop-shape-test.true (sym c.uses.ensures ∙ w.if-uses.false) c.loop-shape.invariant)
+          (blocks_same xs ys c.args.mask shapes c.loop-shape.blocks i no_rect c.loop-shape-test.true
+          (sym c.uses.ensures ∙ w.if-uses.false) c.loop-shape.invariant)
     ]
 
 blocks_are : goal.returns-clause-blocks
@@ -30,10 +32,13 @@ blocks_are c =
     let grid = c.args.self.now in
     let xs = grid.columns.marks.items in
     let ys = grid.rows.marks.items in
-    blocks_sorted xs ys c.args.mask c.args.shapes.now c.loop-shape.shape-index c.into_vec-blocks.result.items c.sort_by_key-2.new.self.items
+    blocks_sorted xs ys c.args.mask c.args.shapes.now c.loop-shape.shape-index c.into_vec-blocks.result.items
+    c.sort_by_key-2.new.self.items
     c.loop-shape-test.false
-    (IsPermutation-trans _ c.sort_by_key.new.self.items _ c.in_ok-sort_by_key.ensures.permutation c.in_ok-sort_by_key-2.ensures.permutation)
-    (subst (λ bs. AreBlocks xs ys c.args.mask (take c.loop-shape.shape-index c.args.shapes.now) bs) (sym c.into_vec-blocks.ensures) c.loop-shape.invariant)
+    (IsPermutation-trans _ c.sort_by_key.new.self.items _ c.in_ok-sort_by_key.ensures.permutation
+    c.in_ok-sort_by_key-2.ensures.permutation)
+    (subst (λ bs. AreBlocks xs ys c.args.mask (take c.loop-shape.shape-index c.args.shapes.now) bs)
+    (sym c.into_vec-blocks.ensures) c.loop-shape.invariant)
 
 pub returns-clause-blocks : goal.returns-clause-blocks
 returns-clause-blocks c = blocks_are c
@@ -45,14 +50,18 @@ returns-clause-stacked c =
     let ys = grid.rows.marks.items in
     let first = c.sort_by_key.new.self.items in
     let now = c.sort_by_key-2.new.self.items in
-    let rows = IsNonDecreasingBy-from_sort_by_key (λ b. b.low) _ c.in_ok-sort_by_key-2.ensures.sorted (λ a r q k. search rules) in
+    let rows =
+    IsNonDecreasingBy-from_sort_by_key (λ b. b.low) _ c.in_ok-sort_by_key-2.ensures.sorted (λ a r q k. search rules) in
     record {
-      each = all_inside xs ys c.args.mask c.args.shapes.now now grid.columns.ascending grid.rows.ascending c.requires (blocks_are c);
+      each = all_inside xs ys c.args.mask c.args.shapes.now now grid.columns.ascending grid.rows.ascending c.requires
+          (blocks_are c);
       order = record {
         rows = rows;
         ties = ties_rise now rows (λ k l e. ties_still_rise (λ b. b.left) (λ b. b.low) first now
-            (c.in_ok-sort_by_key.ensures.sorted (λ b. b.left) (always_returns_same _ (λ a r. r ≡ a.0.now.left) _ (λ a r q k. search rules)))
-            (c.in_ok-sort_by_key-2.ensures.stable (λ b. b.low) (always_returns_same _ (λ a r. r ≡ a.0.now.low) _ (λ a r q k. search rules)))
+            (c.in_ok-sort_by_key.ensures.sorted (λ b. b.left)
+            (always_returns_same _ (λ a r. r ≡ a.0.now.left) _ (λ a r q k. search rules)))
+            (c.in_ok-sort_by_key-2.ensures.stable (λ b. b.low)
+            (always_returns_same _ (λ a r. r ≡ a.0.now.low) _ (λ a r q k. search rules)))
             k no_block l e);
       };
     }

@@ -22,7 +22,9 @@ returns-clause-spots c =
     let end = c.loop-index.auto.index-end in
     spots_sorted xs ys c.args.places.now c.loop-index.index c.into_vec-spots.result.items c.sort_by_key.new.self.items
     (omega arith) c.in_ok-sort_by_key.ensures.permutation
-    (subst (AreSpotsSoFar xs ys c.args.places.now c.loop-index.index) (sym c.into_vec-spots.ensures) c.loop-index.invariant)
+    (subst (AreSpotsSoFar xs ys c.args.places.now c.loop-index.index)
+    (sym c.into_vec-spots.ensures) c.loop-index.invariant)
 
 pub returns-clause-ascending : goal.returns-clause-ascending
-returns-clause-ascending c = IsNonDecreasingBy-from_sort_by_key (λ s. s.row) _ c.in_ok-sort_by_key.ensures.sorted (λ a r q k. search rules)
+returns-clause-ascending c =
+    IsNonDecreasingBy-from_sort_by_key (λ s. s.row) _ c.in_ok-sort_by_key.ensures.sorted (λ a r q k. search rules)

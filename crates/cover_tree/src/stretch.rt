@@ -1,8 +1,0 @@
-//! Stretches of cells.
-
-/// The cells of a row from `from` up to `to`, which is outside.
-#[derive(Clone, Copy, PartialEq, Eq, Debug)]
-pub struct Stretch {
-    pub from: u32,
-    pub to: u32,
-}
