@@ -15,6 +15,7 @@ compiled text chip program is spelled = record {
   masks = is.chip;
   few = is.few;
   extent = is.extent;
+  sized = is.sized;
   ratioed = is.ratioed;
 }
 

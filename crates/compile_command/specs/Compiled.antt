@@ -5,11 +5,13 @@ use Rattle.lam_geom.specs.Squares.{covered}
 use Rattle.mp_program.specs.declared.program.Program.{Program}
 use Rattle.mp_program.specs.Weight.{weight}
 use Rattle.mp_source.specs.Source.{IsSource}
+use Rattle.fabric.specs.Sized.{AreSized}
 use Rattle.ground_ways.specs.Ratioed.{IsRatioed}
 use Rattle.headline.specs.Headline.{IsChipOf}
 
--- The source text spells a program that breaks no rule, and the bytes are a chip of it, in few shapes. What they draw is
--- at most so many lambda wide, whatever the word length is, and so many high, and its network is sized.
+-- The source text spells a program that breaks no rule, and the bytes are a chip of it, in few shapes. What they draw
+-- is at most so many lambda wide, whatever the word length is, and so many high. Each channel has the size of a
+-- transistor or of a pull-up, and one transistor lies between a pull-up and ground.
 pub record IsCompiled (source chip : List ℕ) : Type 0 where
   pub program : Program
   pub is_source : IsSource source program
@@ -17,4 +19,5 @@ pub record IsCompiled (source chip : List ℕ) : Type 0 where
   pub few : length (masks.draws).shapes ≤ 100 * (weight program + 8) * (program.width + 1)
   pub extent : IsAtMost (covered (masks.draws).shapes) (20 * (weight program + 8))
       (program.width * (12 * (weight program + 8) + 36) + 24 * (weight program + 8) + 96)
+  pub sized : AreSized (covered (masks.draws).shapes)
   pub ratioed : IsRatioed masks.network

@@ -1,11 +1,10 @@
 -- What the steps promise makes the text a chip of the program.
-use Rattle.std.proofs.Common.{ℕ, ◌≡◌, ◌+◌, ◌*◌, ◌≤◌, refl, ap, subst, List, [], ◌∷◌, ◌++◌, length, map, arith}
+use Rattle.std.proofs.Common.{ℕ, ◌≡◌, ◌+◌, ◌*◌, ◌≤◌, refl, ap, subst, List, [], ◌∷◌, length, map, arith}
 use Rattle.std.specs.Prelude.{All, codes, false, ℤ, pos, ◌+ℤ◌, ◌≤ℤ◌}
 use Rattle.std.proofs.lemmas.Int.{ints}
 use Rattle.std.proofs.lemmas.List.Elements.{All-nil, All-cons}
 use Rattle.std.proofs.Math.Nat.{mul-le-mul_left}
 use Rattle.lam_geom.specs.declared.rect.Rect.{Rect}
-use Rattle.lam_geom.specs.declared.layer.Layer.{Layer}
 use Rattle.lam_geom.specs.Extent.{ExtentOfSquares, IsAtMost}
 use Rattle.lam_geom.specs.Squares.{covered, SameSquares}
 use Rattle.cif_form.specs.declared.command.Command.{Command}
@@ -31,6 +30,7 @@ use Rattle.rtl_form.specs.Cost.{cost}
 use Rattle.process_plan.specs.Same.{IsSame}
 use Rattle.chip_laws.specs.Planned.{IsPlanned}
 use Rattle.cif_emit.specs.Emitted.{IsEmitted}
+use Rattle.compile_laws.proofs.Sizes.{same_sizes}
 use Rattle.compile_laws.specs.Laws.{
   most_high,
   most_rects,
@@ -84,7 +84,8 @@ few_shapes : (shapes rects cost heavy width : ℕ) → shapes ≤ rects → rect
 few_shapes shapes rects cost heavy width a b c = grind (arith, a, b, c)
 
 -- a drawing of the same squares is no larger, nor is it too large for a heavier program
-module _ (squares : ExtentOfSquares) (rects shapes : List Rect) (same : SameSquares (covered rects) (covered shapes)) where
+module _ (squares : ExtentOfSquares) (rects shapes : List Rect)
+    (same : SameSquares (covered rects) (covered shapes)) where
   back : SameSquares (covered shapes) (covered rects)
   back l x y = ((same l x y).1, (same l x y).0)
 
@@ -100,7 +101,8 @@ module _ (squares : ExtentOfSquares) (rects shapes : List Rect) (same : SameSqua
       mul-le-mul_left width (omega (arith, h)) in
       omega (arith, h, m)
 
-  small_extent : (cost heavy width : ℕ) → cost ≤ heavy → IsAtMost (covered rects) (most_wide cost) (most_high cost width)
+  small_extent : (cost heavy width : ℕ) → cost ≤ heavy
+      → IsAtMost (covered rects) (most_wide cost) (most_high cost width)
       → IsAtMost (covered shapes) (most_wide heavy) (most_high heavy width)
   small_extent cost heavy width h most e is =
       let m = most e (squares shapes rects back e is) in (
@@ -110,7 +112,8 @@ module _ (squares : ExtentOfSquares) (rects shapes : List Rect) (same : SameSqua
 
 module _
     (reads : WrittenIsRead) (whole : WrittenIsWhole) (by_squares : SoundBySquares) (exist : TraceExists)
-    (networks : NetworkExists) (squares : ExtentOfSquares) (p : Program) (traces : (inputs : List (List ℕ)) → ExactlyOne (IsTrace p inputs))
+    (networks : NetworkExists) (squares : ExtentOfSquares) (p : Program)
+    (traces : (inputs : List (List ℕ)) → ExactlyOne (IsTrace p inputs))
   where
     module _
         (r : Rtl) (rects : List Rect) (labels : List ChipLabel) (commands : List Command) (same : IsSame p r)
@@ -160,6 +163,7 @@ module _
               extent = small_extent squares rects drawn.shapes drawn.same (cost r) (weight p) p.width same.cost
                   (subst (λ w. IsAtMost (covered rects) (most_wide (cost r)) (most_high (cost r) w)) same.width
                   bounded.extent);
+              sized = same_sizes (covered rects) (covered drawn.shapes) drawn.same bounded.sized;
               ratioed = bounded.ratioed drawn.flat drawn.labelled found.0 found.1;
             }
 

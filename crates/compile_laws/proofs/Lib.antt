@@ -1,3 +1,4 @@
 mod Unbroken
 mod Sequenced
 mod Composed
+mod Sizes

@@ -30,7 +30,7 @@ use Rattle.mp_base.specs.declared.pad.Pad.{Pad}
 use Rattle.mp_base.specs.declared.pad.Pads.{Pads}
 use Rattle.switch_net.specs.Pads.{Fit, bit_count}
 use Rattle.mp_program.specs.declared.program.Program.{Program}
-use Rattle.mp_program.specs.Pads.{Face, face, ArePadsOf, pad_limit, input_pads, FitsPads}
+use Rattle.mp_program.specs.Pads.{Face, face, ArePadsOf, pad_limit, FitsPads}
 use Rattle.mp_program.specs.Trace as source
 use Rattle.rtl_form.specs.declared.rtl.Rtl.{Rtl}
 use Rattle.rtl_form.specs.Trace as transfers

@@ -13,6 +13,7 @@ use Rattle.mp_program.specs.Weight.{weight}
 use Rattle.headline.specs.Headline.{IsChipOf}
 use Rattle.fabric.specs.declared.chip.ChipLabel.{ChipLabel}
 use Rattle.fabric.specs.Labelled.{AreLabelsOf}
+use Rattle.fabric.specs.Sized.{AreSized}
 use Rattle.rtl_form.specs.declared.rtl.Rtl.{Rtl}
 use Rattle.rtl_form.specs.Cost.{cost}
 use Rattle.process_plan.specs.Same.{IsSame}
@@ -37,19 +38,22 @@ pub record IsSmallPlan (r : Rtl) (rects : List Rect) (labels : List ChipLabel) :
   pub few : length rects ≤ most_rects (cost r) r.width
   pub few_labels : length labels ≤ 64 * cost r + 5
 
--- What the rectangles draw is at most so wide and so high as transfers of this cost and word length may be, and at
--- whatever offsets the labels stand, each network of it is sized.
+-- What the rectangles draw is at most so wide and so high as transfers of this cost and word length may be, its
+-- channels have their sizes, and at whatever offsets the labels stand, each network of it has one transistor between a
+-- pull-up and ground.
 pub record IsBounded (r : Rtl) (rects : List Rect) (labels : List ChipLabel) : Type 0 where
   pub extent : IsAtMost (covered rects) (most_wide (cost r)) (most_high (cost r) r.width)
+  pub sized : AreSized (covered rects)
   pub ratioed : (flat : List FlatLabel) → AreLabelsOf labels flat → (n : Network)
       → IsNetwork (covered rects) flat n → IsRatioed n
 
 -- The text is a chip of the program. It draws no more shapes than one of its weight and word length may have, and is no
--- wider and no higher; and its network is sized.
+-- wider and no higher; its channels have their sizes, and its network the ratio of its pull-ups.
 pub record IsSmallChipOf (p : Program) (text : List ℕ) : Type 0 where
   pub chip : IsChipOf p text
   pub few : length (chip.draws).shapes ≤ most_rects (weight p) p.width
   pub extent : IsAtMost (covered (chip.draws).shapes) (most_wide (weight p)) (most_high (weight p) p.width)
+  pub sized : AreSized (covered (chip.draws).shapes)
   pub ratioed : IsRatioed chip.network
 
 -- Transfers that are the program's, a bounded plan that follows them and commands that draw the plan: their text is a

@@ -5,6 +5,7 @@ use Rattle.std.specs.Prelude.{ℤ, flat_map, cond}
 use Rattle.std.specs.List.{range_with_len}
 use Rattle.std.proofs.lemmas.Int.{ints}
 use Rattle.std.proofs.lemmas.Bool.{eq-eqb, ne_eqb}
+use Rattle.mp_base.proofs.Members.{Member, contains_member, range_has, member_map}
 use Rattle.lam_geom.specs.declared.layer.Layer.{Layer}
 use Rattle.lam_geom.specs.declared.layer.Layer.TheVariants.{ND, NM}
 use Rattle.lam_geom.specs.Squares.{covered}
@@ -19,8 +20,7 @@ use Rattle.fabric.specs.Shape.{mark_rects, shape}
 use Rattle.fabric.proofs.Tile.{Thing, cells_of, raised, Here, MarkAt, Inside, At}
 use Rattle.fabric.proofs.Tile.Thing.{trunk, power, ground_start, ground_on, rail, rail_end, seg, lin, mark, under_rail}
 use Rattle.fabric.proofs.Heights.{bands_lie}
-use Rattle.fabric.proofs.Local.{member_map}
-use Rattle.fabric.proofs.Lists.{Member, contains_member, append_covered, map_covered, flat_covered, range_has}
+use Rattle.fabric.proofs.Lists.{append_covered, map_covered, flat_covered}
 
 module _ (f : Plan) (w : IsFabric f) (l : Layer) (x y : ℤ) where
   from_bands : (b : ℕ) → b < bands f → covered (ground_row f b ∷ power_rail f b ∷ []) l x y → covered (shape f) l x y

@@ -4,6 +4,7 @@ use Rattle.std.proofs.Common.{true, ◌&&◌, ◌||◌, leb, Contains}
 use Rattle.std.specs.Prelude.{ℤ, pos}
 use Rattle.std.proofs.lemmas.Int.{ints}
 use Rattle.std.proofs.lemmas.Bool.{and_parts, and_from, or_cases, leb-true}
+use Rattle.mp_base.proofs.Members.{Member}
 use Rattle.lam_geom.specs.declared.layer.Layer.{Layer}
 use Rattle.lam_geom.specs.declared.layer.Layer.TheVariants.{ND, NP, NI}
 use Rattle.lam_geom.specs.declared.rect.Rect.{Rect}
@@ -23,7 +24,7 @@ use Rattle.fabric.specs.Switches.{Net, LineOf, HasGate, HasEnd}
 use Rattle.fabric.specs.Switches.Net.{segment, line}
 use Rattle.fabric.proofs.Tile.{Thing, cells_of, Here, MarkAt, Inside, At, Slot}
 use Rattle.fabric.proofs.Tile.Thing.{trunk, power, ground_start, ground_on, rail, rail_end, seg, lin, mark, under_rail}
-use Rattle.fabric.proofs.Lists.{Member, every, every_at, some, some_at}
+use Rattle.fabric.proofs.Lists.{every, every_at, some, some_at}
 use Rattle.fabric.proofs.Heights.{natural}
 use Rattle.fabric.proofs.Local.{local_of, MarkLies, mark_lies, RowOf}
 use Rattle.fabric.proofs.Spots.{SameTile, same_place, to_right, upward, move, back}
@@ -31,10 +32,11 @@ use Rattle.fabric.proofs.Spots.ToRight.{inside as right_inside, across}
 use Rattle.fabric.proofs.Spots.Upward.{inside as up_inside, upper, next}
 use Rattle.fabric.proofs.Nets.{NetAt, one_mark}
 use Rattle.fabric.proofs.Zones.{row_at, are_together, mark_stands}
-use Rattle.fabric.proofs.Conductors.{follows, at_channel, all_things, all_rows, layer_is, one_layer, they_meet}
+use Rattle.fabric.proofs.Conductors.{follows, at_channel, all_things, all_rows, layer_is, they_meet}
 use Rattle.fabric.proofs.Conductors.{drawn_larger, crossing_is, crossing_of}
 use Rattle.fabric.proofs.Joins.{Owns, is_right_of, is_upon}
 use Rattle.lam_geom.proofs.Chains.{map_chain}
+use Rattle.lam_geom.proofs.Ranks.{one_layer}
 use Rattle.fabric.proofs.Tables.{Part, Kind, Row, parts, channels, things, rows_all, all_ends, all_implants, is_beside}
 use Rattle.fabric.proofs.Tables.{is_inner, is_bare, is_implanted, is_pull_up, ends_at, right_of, upon, together}
 use Rattle.fabric.proofs.Tables.{is_layer, lies_in, meets, is_beside_passes, is_inner_passes, is_bare_passes}
@@ -391,7 +393,7 @@ module _ (f : Plan) (w : IsFabric f) where
   )
 
   -- a channel has one rectangle
-  one_cell : (t : Tile) (k h : Cell) → Member (channels (mark t)) k → Member (channels (mark t)) h → k ≡ h
+  pub one_cell : (t : Tile) (k h : Cell) → Member (channels (mark t)) k → Member (channels (mark t)) h → k ≡ h
   one_cell TapL k h i j = absurd i
   one_cell TapR k h i j = absurd i
   one_cell Tran k h (inl i) (inl j) = sym i ∙ j
@@ -402,7 +404,7 @@ module _ (f : Plan) (w : IsFabric f) where
   one_cell PullUp k h (inr i) j = absurd i
   one_cell Under k h i j = absurd i
 
-  abbrev channel_rect : Mark → Cell → Rect
+  abbrev pub channel_rect : Mark → Cell → Rect
   channel_rect m k = record {
     layer = NP;
     x0 = pos (10000 * m.column + 500 * k.x0);
@@ -411,7 +413,7 @@ module _ (f : Plan) (w : IsFabric f) where
     y1 = pos (500 * base f m.band + 6000 * m.row + 500 * k.y1);
   }
 
-  in_channel : (m : Mark) (s : Square) (o : OfMark f m s) → IsIn (channel_rect m o.cell) s
+  pub in_channel : (m : Mark) (s : Square) (o : OfMark f m s) → IsIn (channel_rect m o.cell) s
   in_channel m s o =
       let a0 = o.at.at_x in let a1 = o.at.at_y in let i0 = o.inside.left in let i1 = o.inside.right in
       let i2 = o.inside.bottom in let i3 = o.inside.top in
@@ -441,7 +443,7 @@ module _ (f : Plan) (w : IsFabric f) where
       go PullUp k (inr e) l = absurd e
       go Under k i l = absurd i
 
-  in_mark : (m : Mark) (k : Cell) → Contains f.marks m → Member (channels (mark m.tile)) k → (s : Square)
+  pub in_mark : (m : Mark) (k : Cell) → Contains f.marks m → Member (channels (mark m.tile)) k → (s : Square)
       → IsIn (channel_rect m k) s → OfMark f m s
   in_mark m k h i s j =
       let l = mark_lies f w m h in

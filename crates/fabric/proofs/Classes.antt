@@ -4,7 +4,7 @@ use Rattle.std.proofs.Common.{[], ◌∷◌, ◌++◌, length, get_or}
 use Rattle.std.specs.Prelude.{◌↔◌}
 use Rattle.std.proofs.lemmas.Bool.{cases_lt}
 use Rattle.std.proofs.lemmas.List.{get_or_append_left, length_push}
-use Rattle.std.proofs.Math.Seq.{get_or-append_seam}
+use Rattle.mp_base.proofs.Entries.{get_or_pushed}
 use Rattle.fabric.specs.Numbers.{AreClassNumbers}
 
 -- the numbers of the first i
@@ -19,9 +19,6 @@ pub record ClassesSoFar (least numbers : List ℕ) (count i : ℕ) : Type 0 wher
 push_before : (xs : List ℕ) (x k : ℕ) → k < length xs → get_or (xs ++ x ∷ []) k 0 ≡ get_or xs k 0
 push_before xs x k h = get_or_append_left xs (x ∷ []) 0 k h
 
-push_at : (xs : List ℕ) (x k : ℕ) → k ≡ length xs → get_or (xs ++ x ∷ []) k 0 ≡ x
-push_at xs x k e = ap (λ z. get_or (xs ++ x ∷ []) z 0) e ∙ get_or-append_seam xs x [] 0
-
 two_ways : {A B : Type 0} → (A → B) → (B → A) → A ↔ B
 two_ways f g = (f, g)
 
@@ -30,7 +27,7 @@ module _ (least numbers : List ℕ) (count i x count2 : ℕ) (s : ClassesSoFar l
   old k h = push_before numbers x k (subst (λ z. k < z) (sym s.as_many) h)
 
   new : get_or (numbers ++ x ∷ []) i 0 ≡ x
-  new = push_at numbers x i (sym s.as_many)
+  new = get_or_pushed numbers x i (sym s.as_many)
 
   -- one number more, where it is told which of those before it is equal to
   more : count ≤ count2 → count2 ≤ count + 1 → x < count2

@@ -1,11 +1,13 @@
 -- The conductors and the channels, tile by tile.
-use Rattle.std.proofs.Common.{ℕ, zero, suc, ◌≡◌, ◌≤◌, ◌⊎◌, inl, inr, refl, sym, ◌∙◌, ap, subst, arith, Bool, true, not}
-use Rattle.std.proofs.Common.{◌&&◌, ◌||◌, leb, eqb}
+use Rattle.std.proofs.Common.{ℕ, ◌≡◌, ◌≤◌, ◌⊎◌, inl, inr, refl, ap, subst, arith, Bool, true, not}
+use Rattle.std.proofs.Common.{◌&&◌, ◌||◌, leb}
 use Rattle.std.specs.Prelude.{ℤ}
-use Rattle.std.proofs.lemmas.Bool.{and_parts, and_from, or_cases, leb-true, eqb-true, eq-eqb, lt-ltb}
+use Rattle.std.proofs.lemmas.Bool.{and_parts, and_from, or_cases, leb-true, eq-eqb, lt-ltb}
+use Rattle.mp_base.proofs.Members.{Member}
 use Rattle.lam_geom.specs.declared.layer.Layer.{Layer}
-use Rattle.lam_geom.specs.declared.layer.Layer.TheVariants.{ND, NP, NC, NM, NI, NB, NG}
+use Rattle.lam_geom.specs.declared.layer.Layer.TheVariants.{ND, NP, NB}
 use Rattle.lam_geom.specs.Squares.{covered, rank}
+use Rattle.lam_geom.proofs.Ranks.{one_layer}
 use Rattle.switch_net.specs.Conductors.{IsChannel}
 use Rattle.tile_cells.specs.declared.tile.Tile.TheVariants.{TapL, TapR, Tran, PullUp, Under}
 use Rattle.tile_cells.specs.Tiles.{Cell}
@@ -14,7 +16,7 @@ use Rattle.fabric.specs.Plan.{Plan, IsFabric}
 use Rattle.fabric.specs.Shape.{shape}
 use Rattle.fabric.proofs.Tile.{Thing, cells_of, Here, Inside, At}
 use Rattle.fabric.proofs.Tile.Thing.{trunk, power, ground_start, ground_on, rail, rail_end, seg, lin, mark, under_rail}
-use Rattle.fabric.proofs.Lists.{Member, every, every_at, some, some_at}
+use Rattle.fabric.proofs.Lists.{every, every_at, some, some_at}
 use Rattle.fabric.proofs.Local.{local_of}
 use Rattle.fabric.proofs.Back.{drawn_at}
 use Rattle.fabric.proofs.Spots.{same_place, move}
@@ -91,28 +93,6 @@ at_drawn test h q t p s k m n =
     every_at (λ k. test q t p s k) (cells_of s) k d n
 
 -- ---- layers, and places in cells
-by_rank : ℕ → Layer
-by_rank zero = NM
-by_rank (suc zero) = NP
-by_rank (suc (suc zero)) = ND
-by_rank (suc (suc (suc zero))) = NC
-by_rank (suc (suc (suc (suc zero)))) = NI
-by_rank (suc (suc (suc (suc (suc zero))))) = NB
-by_rank (suc (suc (suc (suc (suc (suc n)))))) = NG
-
-rank_back : (l : Layer) → by_rank (rank l) ≡ l
-unfolding by_rank
-rank_back ND = refl
-rank_back NP = refl
-rank_back NC = refl
-rank_back NM = refl
-rank_back NI = refl
-rank_back NB = refl
-rank_back NG = refl
-
-pub one_layer : (a b : Layer) → eqb (rank a) (rank b) ≡ true → a ≡ b
-one_layer a b h = sym (rank_back a) ∙ ap by_rank (eqb-true (rank a) (rank b) h) ∙ rank_back b
-
 pub layer_is : (l : Layer) (k : Cell) → k.layer ≡ l → is_layer l k ≡ true
 layer_is l k e = eq-eqb (rank k.layer) (rank l) (ap rank e)
 

@@ -7,6 +7,7 @@ use Rattle.std.proofs.lemmas.Nat.{div-add-mod', mod_below}
 use Rattle.fabric.specs.Plan.{Plan, rows_of}
 use Rattle.fabric.specs.Shape.{base}
 use Rattle.fabric.proofs.Tile.{Slot}
+use Rattle.fabric.proofs.Bases.{bases_rise}
 
 -- a number that isn't below 0 is a natural one
 pub natural : (x : ℤ) (a : ℕ) → pos a ≤ℤ x → (n : ℕ) × (x ≡ pos n) × (a ≤ n)
@@ -29,19 +30,11 @@ pub record BandsLie (f : Plan) (b c : ℕ) : Type 0 where
   pub lie : (b < c) × (base f b + 12 * rows_of f b + 36 ≤ base f c) ⊎ (b ≡ c) × (base f b ≡ base f c)
       × (rows_of f b ≡ rows_of f c) ⊎ (c < b) × (base f c + 12 * rows_of f c + 36 ≤ base f b)
 
-rises : (f : Plan) (b c : ℕ) → b < c → base f b + 12 * rows_of f b + 36 ≤ base f c
-rises f b zero h = absurd (omega arith)
-rises f b (suc c) h = elim (cases_lt b c) [
-  | inl k ↦ (let i = rises f b c k in omega arith)
-  | inr k ↦ (let e : b ≡ c = omega arith in let g : base f b + 12 * rows_of f b ≡ base f c + 12 * rows_of f c = ap
-      (λ z. base f z + 12 * rows_of f z) e in omega arith)
-]
-
 pub bands_lie : (f : Plan) (b c : ℕ) → BandsLie f b c
 bands_lie f b c = elim (cases_lt b c) [
-  | inl h ↦ record { lie = inl (h, rises f b c h) }
+  | inl h ↦ record { lie = inl (h, bases_rise f b c h) }
   | inr h ↦ elim (cases_lt c b) [
-    | inl k ↦ record { lie = inr (inr (k, rises f c b k)) }
+    | inl k ↦ record { lie = inr (inr (k, bases_rise f c b k)) }
     | inr k ↦ (let e : b ≡ c = omega arith in record { lie = inr (inl (e, ap (base f) e, ap (rows_of f) e)) })
   ]
 ]

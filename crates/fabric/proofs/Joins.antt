@@ -2,7 +2,8 @@
 use Rattle.std.proofs.Common.{ℕ, zero, suc, ◌≡◌, ◌+◌, ◌<◌, ◌≤◌, ◌⊎◌, inl, inr, refl, sym, ◌∙◌, ap, subst, arith, Bool}
 use Rattle.std.proofs.Common.{true, not, ◌&&◌, ◌||◌, leb, eqb}
 use Rattle.std.specs.Prelude.{ℤ, pos, ◌+ℤ◌}
-use Rattle.std.proofs.lemmas.Bool.{and_parts, and_from, le-leb, lt-ltb, eq-eqb, eqb-true}
+use Rattle.std.proofs.lemmas.Bool.{and_parts, and_from, le-leb, lt-ltb, eq-eqb, eqb-true, or_left, or_right}
+use Rattle.mp_base.proofs.Members.{Member}
 use Rattle.lam_geom.specs.declared.layer.Layer.{Layer}
 use Rattle.lam_geom.specs.declared.layer.Layer.TheVariants.{NC}
 use Rattle.lam_geom.specs.Squares.{Square, ShareEdge, covered, rank}
@@ -23,7 +24,7 @@ use Rattle.fabric.specs.Switches.Net.{segment, line, ground, power as the_power}
 use Rattle.fabric.specs.Switches.Tapped.{up, down}
 use Rattle.fabric.proofs.Tile.{Thing, cells_of, Here, MarkAt, Inside}
 use Rattle.fabric.proofs.Tile.Thing.{trunk, power, ground_start, ground_on, rail, rail_end, seg, lin, mark, under_rail}
-use Rattle.fabric.proofs.Lists.{Member, every, every_at}
+use Rattle.fabric.proofs.Lists.{every, every_at}
 use Rattle.fabric.proofs.Local.{local_of, segment_lies, some_rows}
 use Rattle.fabric.proofs.Spots.{SameTile, RightTile, UpperTile, NextBand, same_place, to_right, upward, move}
 use Rattle.fabric.proofs.Spots.ToRight.{inside as right_inside, across}
@@ -74,12 +75,6 @@ one_kind a b h = sym (number_back a) ∙ ap by_number (eqb-true (kind_number a) 
 
 pub layers_same : (p o : Part) (l : Layer) → p.cell.layer ≡ l → o.cell.layer ≡ l → same_layer p.cell o.cell ≡ true
 layers_same p o l e g = eq-eqb (rank p.cell.layer) (rank o.cell.layer) (ap rank (e ∙ sym g))
-
-left_true : (a b : Bool) → a ≡ true → (a || b) ≡ true
-left_true a b h = grind arith
-
-right_true : (a b : Bool) → b ≡ true → (a || b) ≡ true
-right_true a b h = grind arith
 
 pub is_right_of : (p o : Cell) (u v u2 v2 : ℕ) → u ≤ u2 → u2 ≤ u + 1 → v ≡ v2 → Inside p u v → Inside o u2 v2
     → right_of p o ≡ true
@@ -288,7 +283,7 @@ module _ (f : Plan) (w : IsFabric f) where
       → NetAt f o.b o.r o.c o.part.kind n → NetAt f p.b p.r p.c p.part.kind m → n ≡ m
   right_net l x y z e o p n m hn hm = elim (to_right f o.b o.r o.c o.u o.v p.b p.r p.c p.u p.v x y z e o.at p.at) [
     | right_inside t hu hv ↦ in_tile l x y z y o p n m t
-        (left_true _ _ (is_right_of o.part.cell p.part.cell o.u o.v p.u p.v (omega arith)
+        (or_left _ _ (is_right_of o.part.cell p.part.cell o.u o.v p.u p.v (omega arith)
         (omega arith) hv o.inside p.inside)) hn hm
     | across t hu hz hv ↦ over_the_right l x y z y o p n m t hu hz hv hn hm
   ]
@@ -297,7 +292,7 @@ module _ (f : Plan) (w : IsFabric f) where
       → NetAt f o.b o.r o.c o.part.kind n → NetAt f p.b p.r p.c p.part.kind m → n ≡ m
   upper_net l x y z e o p n m hn hm = elim (upward f o.b o.r o.c o.u o.v p.b p.r p.c p.u p.v x y z e o.at p.at) [
     | up_inside t hu hv ↦ in_tile l x y x z o p n m t
-        (right_true _ _ (is_upon o.part.cell p.part.cell o.u o.v p.u p.v hu (omega arith)
+        (or_right _ _ (is_upon o.part.cell p.part.cell o.u o.v p.u p.v hu (omega arith)
         (omega arith) o.inside p.inside)) hn hm
     | upper t hu hv hz ↦ over_the_top l x y x z o p n m t hu hv hz hn hm
     | next t hu hv hz ↦ over_the_band l x y x z o p n m t hu hv hz hn hm
@@ -308,7 +303,7 @@ module _ (f : Plan) (w : IsFabric f) where
   shared_net l x y o p n m hn hm =
       let e = same_place f o.b o.r o.c o.u o.v p.b p.r p.c p.u p.v x y o.at p.at in
       in_tile l x y x y o p n m e.tile
-      (left_true _ _ (is_right_of o.part.cell p.part.cell o.u o.v p.u p.v (omega (arith, e.across))
+      (or_left _ _ (is_right_of o.part.cell p.part.cell o.u o.v p.u p.v (omega (arith, e.across))
       (omega (arith, e.across)) e.up o.inside p.inside)) hn hm
 
   abbrev pub at_layer : (l m : Layer) (x y : ℤ) → l ≡ m → Owner f l x y → Owner f m x y

@@ -1,3 +1,4 @@
+pub mod Bases
 mod Tile
 mod Heights
 mod Lists
@@ -11,7 +12,6 @@ mod Zones
 mod Conductors
 mod Owners
 mod Joins
-mod Following
 mod Together
 mod Marks
 mod Nodes
@@ -25,3 +25,4 @@ mod Entries
 mod Lookups
 mod Switching
 mod Small
+mod Sizes

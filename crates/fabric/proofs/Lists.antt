@@ -1,29 +1,12 @@
 -- What a list of rectangles covers, and tests on all members of a list.
-use Rattle.std.proofs.Common.{ℕ, zero, suc, ◌≡◌, ◌+◌, ◌<◌, ◌≤◌, ◌⊎◌, inl, inr, refl, sym, subst, arith, Bool, true}
-use Rattle.std.proofs.Common.{false, ◌&&◌, ◌||◌, List, [], ◌∷◌, ◌++◌, map, length, get_or, Contains}
+use Rattle.std.proofs.Common.{◌≡◌, ◌⊎◌, inl, inr, refl, sym, subst, Bool, true}
+use Rattle.std.proofs.Common.{false, ◌&&◌, ◌||◌, List, [], ◌∷◌, ◌++◌, map}
 use Rattle.std.specs.Prelude.{ℤ, flat_map}
-use Rattle.std.specs.List.{range_with_len}
-use Rattle.std.proofs.lemmas.Bool.{and_parts, or_cases, cases_eq}
+use Rattle.std.proofs.lemmas.Bool.{and_parts, or_cases}
+use Rattle.mp_base.proofs.Members.{Member}
 use Rattle.lam_geom.specs.declared.layer.Layer.{Layer}
 use Rattle.lam_geom.specs.declared.rect.Rect.{Rect}
 use Rattle.lam_geom.specs.Squares.{Covers, covered}
-
-abbrev pub Member : {A : Type 0} → List A → A → Type 0
-Member [] a = ⊥
-Member (x ∷ xs) a = (x ≡ a) ⊎ Member xs a
-
-member_at : {A : Type 0} (xs : List A) (i : ℕ) (d : A) → i < length xs → Member xs (get_or xs i d)
-member_at [] i d h = absurd (omega arith)
-member_at (x ∷ xs) zero d h = inl refl
-member_at (x ∷ xs) (suc i) d h = inr (member_at xs i d (omega arith))
-
-pub member_contains : {A : Type 0} (xs : List A) (s : A) → Member xs s → Contains xs s
-member_contains [] s m = absurd m
-member_contains (x ∷ xs) s (inl e) = (0, omega arith, e)
-member_contains (x ∷ xs) s (inr m) = let c = member_contains xs s m in (suc c.0, omega arith, c.2)
-
-pub contains_member : {A : Type 0} (xs : List A) (s : A) → Contains xs s → Member xs s
-contains_member xs s c = subst (Member xs) c.2 (member_at xs c.0 s c.1)
 
 pub covered_append : (rs qs : List Rect) (l : Layer) (x y : ℤ) → covered (rs ++ qs) l x y
     → covered rs l x y ⊎ covered qs l x y
@@ -64,17 +47,6 @@ flat_covered g (b ∷ many) l x y a (inl e) c = append_covered (g b) (flat_map g
     (inl (subst (λ z. covered (g z) l x y) (sym e) c))
 flat_covered g (b ∷ many) l x y a (inr m) c = append_covered (g b) (flat_map g many) l x y
     (inr (flat_covered g many l x y a m c))
-
-pub in_range : (a n b : ℕ) → Member (range_with_len a n) b → (a ≤ b) × (b < a + n)
-in_range a zero b m = absurd m
-in_range a (suc n) b (inl e) = (omega arith, omega arith)
-in_range a (suc n) b (inr m) = let w = in_range (a + 1) n b m in let u = w.0 in let v = w.1 in
-    (omega arith, omega arith)
-
-pub range_has : (a n b : ℕ) → a ≤ b → b < a + n → Member (range_with_len a n) b
-range_has a zero b h k = absurd (omega arith)
-range_has a (suc n) b h k = elim (cases_eq a b)
-    [ inl e ↦ inl e | inr e ↦ inr (range_has (a + 1) n b (omega arith) (omega arith)) ]
 
 -- ---- tests on all members
 abbrev pub every : {A : Type 0} → (A → Bool) → List A → Bool

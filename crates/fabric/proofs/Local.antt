@@ -6,6 +6,7 @@ use Rattle.std.specs.List.{range_with_len}
 use Rattle.std.proofs.lemmas.Int.{ints}
 use Rattle.std.proofs.lemmas.Bool.{and_parts, leb-true, eq-eqb, ne_eqb, cases_lt}
 use Rattle.std.proofs.lemmas.List.Elements.{All-contains}
+use Rattle.mp_base.proofs.Members.{Member, member_contains, range_members, map_member}
 use Rattle.lam_geom.specs.declared.layer.Layer.{Layer}
 use Rattle.lam_geom.specs.declared.layer.Layer.TheVariants.{ND, NM}
 use Rattle.lam_geom.specs.Squares.{Covers, covered}
@@ -23,7 +24,7 @@ use Rattle.fabric.specs.Shape.{segment_rect, line_rect, placed, tile_rects, mark
 use Rattle.fabric.proofs.Tile.{Thing, cells_of, raised, Here, MarkAt, Slot, At, Local}
 use Rattle.fabric.proofs.Tile.Thing.{trunk, power, ground_start, ground_on, rail, rail_end, seg, lin, mark, under_rail}
 use Rattle.fabric.proofs.Heights.{natural, divided, bands_lie, spot}
-use Rattle.fabric.proofs.Lists.{Member, member_contains, covered_append, covered_map, covered_flat, in_range, every}
+use Rattle.fabric.proofs.Lists.{covered_append, covered_map, covered_flat, every}
 use Rattle.fabric.proofs.Lists.{every_at}
 
 -- the row of a tile of a mark
@@ -41,17 +42,6 @@ pub record MarkLies (f : Plan) (t : Tile) (b r c : ℕ) : Type 0 where
 
 abbrev fits : ℕ → Cell → Bool
 fits h k = leb k.x1 20 && leb k.y1 h
-
-pub map_member : {A B : Type 0} (g : A → B) (xs : List A) (a : A) → Member xs a → Member (map g xs) (g a)
-map_member g [] a m = absurd m
-map_member g (x ∷ xs) a (inl e) = inl (ap g e)
-map_member g (x ∷ xs) a (inr m) = inr (map_member g xs a m)
-
-pub member_map : {A B : Type 0} (g : A → B) (xs : List A) (b : B) → Member (map g xs) b
-    → (a : A) × Member xs a × (g a ≡ b)
-member_map g [] b m = absurd m
-member_map g (x ∷ xs) b (inl e) = (x, inl refl, e)
-member_map g (x ∷ xs) b (inr m) = let w = member_map g xs b m in (w.0, inr w.1, w.2)
 
 module _ (f : Plan) (w : IsFabric f) where
   pub some_rows : (b : ℕ) → b < bands f → 1 ≤ rows_of f b
@@ -479,8 +469,8 @@ module _ (f : Plan) (w : IsFabric f) where
 
   bands_at : (l : Layer) (x y : ℤ) (b : ℕ) → Member (range_with_len 0 (bands f)) b
       → covered (ground_row f b ∷ power_rail f b ∷ []) l x y → Local f l x y
-  bands_at l x y b m (inl c) = ground_at b (omega (arith, in_range 0 (bands f) b m)) l x y c
-  bands_at l x y b m (inr (inl c)) = rail_at b (omega (arith, in_range 0 (bands f) b m)) l x y c
+  bands_at l x y b m (inl c) = ground_at b (omega (arith, range_members 0 (bands f) b m)) l x y c
+  bands_at l x y b m (inr (inl c)) = rail_at b (omega (arith, range_members 0 (bands f) b m)) l x y c
   bands_at l x y b m (inr (inr c)) = absurd c
 
   marks_at : (l : Layer) (x y : ℤ) → covered (flat_map (mark_rects f) f.marks) l x y → Local f l x y

@@ -1,13 +1,12 @@
 -- Heights fit.
 use Rattle.std.proofs.Common.{◌++◌, ◌-◌, ℕ, zero, suc, ◌≡◌, ◌+◌, ◌*◌, ◌^◌, ◌<◌, ◌≤◌, inl, inr, refl, sym, ◌∙◌, ap}
 use Rattle.std.proofs.Common.{arith, Bool, true, false, ◌&&◌, leb, eqb, List, [], ◌∷◌, map, length, get_or}
-use Rattle.std.specs.Prelude.{All, cond, ℤ, pos, negsuc, ◌+ℤ◌, ◌*ℤ◌, ◌≤ℤ◌, sum, sum_by, take, flat_map}
+use Rattle.std.specs.Prelude.{All, cond, ℤ, pos, negsuc, ◌+ℤ◌, ◌*ℤ◌, ◌≤ℤ◌, flat_map}
 use Rattle.std.specs.List.{range_with_len}
 use Rattle.std.proofs.lemmas.List.{append_assoc, append-nil}
 use Rattle.lam_geom.specs.declared.layer.Layer.{Layer}
 use Rattle.lam_geom.specs.declared.layer.Layer.TheVariants.{NM}
 use Rattle.lam_geom.specs.declared.rect.Rect.{Rect}
-use Rattle.std.proofs.lemmas.List.Sums.{sum_by_more, sum_by-take-le}
 use Rattle.fabric.specs.Plan.{Plan, bands, rows_of, IsFabric, IsMark}
 use Rattle.fabric.specs.declared.thing.Mark.{Mark}
 use Rattle.fabric.proofs.Local.{lies, RowOf}
@@ -23,6 +22,7 @@ use Rattle.tile_cells.specs.declared.tile.Tile.TheVariants.{TapL, TapR, Tran, Pu
 use Rattle.tile_cells.specs.Tiles.{Cell, cells, in_lambda}
 use Rattle.fabric.proofs.Lists.{every}
 use Rattle.fabric.proofs.Heights.{bands_lie}
+use Rattle.fabric.proofs.Bases.{top_low}
 
 -- a row of a band lies below the top
 pub row_low : (f : Plan) (bases : List ℕ) (b r : ℕ) → AreBases f bases → b < bands f → r ≤ rows_of f b
@@ -32,28 +32,6 @@ row_low f bases b r a h k =
     let l = a.low in
     let z = bands_lie f b (bands f) in
     omega arith
-
-base_sum : (f : Plan) (b : ℕ) → b ≤ length f.rows → base f b ≡ 12 * sum_by (λ x. x) (take b f.rows) + 36 * b
-base_sum f zero h = refl
-base_sum f (suc b) h =
-    let i = base_sum f b (omega arith) in
-    let m = sum_by_more (λ x. x) f.rows b 0 (omega arith) in
-    let e : sum_by (λ x. x) (take (suc b) f.rows) ≡ sum_by (λ x. x) (take b f.rows) + rows_of f b = ap
-    (λ z. sum_by (λ x. x) (take z f.rows)) (one_more b) ∙ m in
-    omega arith
-  where
-    one_more : (n : ℕ) → suc n ≡ n + 1
-    one_more n = omega arith
-
-pub top_low : (f : Plan) → IsRoomy f → (b : ℕ) → b ≤ bands f → base f b < 1_073_741_824
-top_low f r b h =
-    let i = base_sum f b h in
-    let m = sum_by-take-le (λ x. x) f.rows b in
-    let s = r.rows_fit in let n = r.bands_fit in
-    omega (arith, sum_is f.rows)
-  where
-    sum_is : (xs : List ℕ) → sum xs ≡ sum_by (λ x. x) xs
-    sum_is xs = refl
 
 pub next_base : (f : Plan) (rows : List ℕ) (at i : ℕ) → rows ≡ f.rows → IsRoomy f → at ≡ base f i → i < length rows
     → at + (12 * get_or rows i 0 + 36) < 2 ^ 32

@@ -2,6 +2,7 @@
 use Rattle.std.proofs.Common.{ℕ, ◌≡◌, ◌+◌, ◌*◌, ◌-◌, ◌<◌, ◌≤◌, ◌⊎◌, inl, inr, refl, sym, subst, arith, Contains}
 use Rattle.std.specs.Prelude.{ℤ, pos, ◌+ℤ◌}
 use Rattle.std.proofs.lemmas.Int.{ints}
+use Rattle.mp_base.proofs.Members.{Member}
 use Rattle.lam_geom.specs.declared.layer.Layer.{Layer}
 use Rattle.lam_geom.specs.declared.layer.Layer.TheVariants.{ND, NP, NC, NM}
 use Rattle.lam_geom.specs.declared.rect.Rect.{Rect}
@@ -19,7 +20,6 @@ use Rattle.fabric.specs.Shape.{base, last_column, shape}
 use Rattle.fabric.specs.Switches.Net.{segment, line, power as the_power}
 use Rattle.fabric.proofs.Tile.{Thing, cells_of, Here, Inside, Slot}
 use Rattle.fabric.proofs.Tile.Thing.{rail, seg, lin, mark, under_rail}
-use Rattle.fabric.proofs.Lists.{Member}
 use Rattle.fabric.proofs.Heights.{natural}
 use Rattle.fabric.proofs.Local.{some_rows, crossing, passing, segment_lies}
 use Rattle.fabric.proofs.Back.{drawn_at}

@@ -6,6 +6,9 @@ use Rattle.std.specs.List.{AllZip}
 use Rattle.std.proofs.lemmas.Int.{ints}
 use Rattle.std.proofs.lemmas.Bool.{cases_lt, cases_order}
 use Rattle.std.proofs.lemmas.List.{get_or_default}
+use Rattle.std.proofs.lemmas.List.Kept.{AllPairs-filter}
+use Rattle.mp_base.proofs.Zips.{zip_at, zip_length, zip_map}
+use Rattle.mp_base.proofs.Members.{member_contains, contains_member, filter_member, member_filter}
 use Rattle.lam_geom.specs.declared.layer.Layer.{Layer}
 use Rattle.lam_geom.specs.declared.layer.Layer.TheVariants.{ND, NM}
 use Rattle.lam_geom.specs.declared.label.FlatLabel.{FlatLabel}
@@ -42,8 +45,6 @@ use Rattle.fabric.proofs.Together.{anchor, some_height}
 use Rattle.fabric.proofs.Nodes.{nodes_are_nets}
 use Rattle.fabric.proofs.Channels.{OfMark, IsSwitchTile, has_channel, mark_of, of_mark, one_mark_of, chain_mark}
 use Rattle.fabric.proofs.Channels.{channel_whole, corner, gate_of, ends_are, end_square, bare, implanted}
-use Rattle.fabric.proofs.Lists.{member_contains, contains_member}
-use Rattle.fabric.proofs.Filters.{filter_has, filter_had, filter_pairs, zip_at, zip_length, zip_map}
 use Rattle.fabric.proofs.Tables.{part}
 use Rattle.fabric.proofs.Tables.Kind.{of_ground, of_power, of_segment, of_line}
 
@@ -328,7 +329,7 @@ module _ (joined : RectanglesAreJoined) (f : Plan) (w : IsFabric f) (labels : Li
   mark_at k h = mark_of f w (get_or d.regions k some_square) (d.are_regions.each k some_square h)
 
   index_of : (n : Mark) (s : Square) → OfMark f n s → Contains switches_ n
-  index_of n s o = member_contains switches_ n (filter_has is_switch f.marks n (contains_member f.marks n o.in_marks)
+  index_of n s o = member_contains switches_ n (filter_member is_switch f.marks n (contains_member f.marks n o.in_marks)
       (is_a_switch n (has_channel n.tile o.cell o.among)))
 
   pick_channel : (k : ℕ) → (k < length d.regions) ⊎ (length d.regions ≤ k) → ℕ
@@ -365,7 +366,7 @@ module _ (joined : RectanglesAreJoined) (f : Plan) (w : IsFabric f) (labels : Li
   back_at : (j : ℕ) → j < length switches_ → (k : ℕ) × BackChannel j k
   back_at j h =
       let n : Mark = get_or switches_ j no_mark in
-      let g = filter_had is_switch f.marks n (contains_member switches_ n
+      let g = member_filter is_switch f.marks n (contains_member switches_ n
       (j, h, get_or_default switches_ j n no_mark h)) in
       let c = corner f w n (member_contains f.marks n g.0) (switch_tile n.tile n refl g.1) in
       let k = class_of d.regions d.are_regions c.0 (of_mark f w n c.0 c.1) in
@@ -431,7 +432,7 @@ module _ (joined : RectanglesAreJoined) (f : Plan) (w : IsFabric f) (labels : Li
         (get_or_default d.regions (channel_back_ j) b.square_ some_square b.class.0) b.class.1 in
         let e : a.mark_ ≡ get_or switches_ j no_mark = one_mark_of f w a.mark_ (get_or switches_ j no_mark) b.square_
         (chain_mark f w a.mark_ (get_or d.regions (channel_back_ j) some_square) b.square_ c a.of) b.of in
-        distinct switches_ (filter_pairs MarksApart is_switch f.marks w.marks_apart)
+        distinct switches_ (AllPairs-filter MarksApart is_switch f.marks w.marks_apart)
         (channel_ (channel_back_ j)) j no_mark a.within h2 (a.is ∙ e));
   }
 

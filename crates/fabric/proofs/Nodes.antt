@@ -1,6 +1,7 @@
 -- Two squares are joined by a chain exactly where taps join their nets.
 use Rattle.std.proofs.Common.{ℕ, ◌≡◌, ◌+◌, ◌<◌, ◌⊎◌, inl, inr, refl, sym, subst, arith, Contains}
 use Rattle.std.specs.Prelude.{◌↔◌}
+use Rattle.mp_base.proofs.Members.{Member}
 use Rattle.lam_geom.specs.declared.layer.Layer.TheVariants.{ND, NP, NC, NM}
 use Rattle.lam_geom.specs.Squares.{Square, covered, RectanglesAreJoined}
 use Rattle.lam_geom.specs.Chains.{Chain}
@@ -22,14 +23,13 @@ use Rattle.fabric.specs.Switches.Net.{segment, line, ground, power as the_power}
 use Rattle.fabric.specs.Switches.Tapped.{up, down}
 use Rattle.fabric.proofs.Tile.{Thing, Here, MarkAt, Inside, Slot}
 use Rattle.fabric.proofs.Tile.Thing.{trunk, power, ground_start, ground_on, rail, rail_end, seg, lin, mark, under_rail}
-use Rattle.fabric.proofs.Lists.{Member}
 use Rattle.fabric.proofs.Local.{some_rows, crossing, passing}
 use Rattle.fabric.proofs.Zones.{mark_stands}
 use Rattle.fabric.proofs.Nets.{NetAt}
 use Rattle.fabric.proofs.Joins.{Owns, one_net_here, square_net, join_nets, owned}
 use Rattle.lam_geom.proofs.Chains.{join_chains, turn_chain}
+use Rattle.lam_geom.proofs.Following.{follow}
 use Rattle.switch_net.proofs.Joins.{join_flip}
-use Rattle.fabric.proofs.Following.{follow}
 use Rattle.fabric.proofs.Together.{spot, anchor, J, Reached, owner_at, reach_trunk, reach_power, reach_ground}
 use Rattle.fabric.proofs.Together.{reach_rail, reach_segment, reach_line}
 use Rattle.fabric.proofs.Marks.{inside, by_cut, gate_high, gate_low, stub_left, stub_right, foot, plate, neck, gate}

@@ -2,9 +2,11 @@
 use Rattle.std.proofs.Common.{ℕ, ◌≡◌, ◌+◌, ◌≤◌, inl, inr, refl, sym, ◌∙◌, ap, subst, arith, false, ◌&&◌, leb}
 use Rattle.std.specs.Prelude.{ℤ}
 use Rattle.std.proofs.lemmas.Bool.{and_parts, and_from, leb-true, le-leb, cases_lt}
+use Rattle.mp_base.proofs.Members.{Member}
 use Rattle.lam_geom.specs.declared.layer.Layer.{Layer}
 use Rattle.lam_geom.specs.declared.layer.Layer.TheVariants.{ND, NP, NC, NM, NI, NB, NG}
 use Rattle.lam_geom.specs.Squares.{covered, rank}
+use Rattle.lam_geom.proofs.Ranks.{one_layer}
 use Rattle.switch_net.specs.Conductors.{IsChannel, ConductsOn}
 use Rattle.tile_cells.specs.declared.tile.Tile.TheVariants.{TapL, TapR, Tran, PullUp, Under}
 use Rattle.tile_cells.specs.Tiles.{Cell, cell}
@@ -13,11 +15,11 @@ use Rattle.fabric.specs.Plan.{Plan, IsFabric}
 use Rattle.fabric.specs.Shape.{offset, shape}
 use Rattle.fabric.proofs.Tile.{Thing, cells_of, Here, Inside}
 use Rattle.fabric.proofs.Tile.Thing.{trunk, power, ground_start, ground_on, rail, rail_end, seg, lin, mark, under_rail}
-use Rattle.fabric.proofs.Lists.{Member, some, some_at}
+use Rattle.fabric.proofs.Lists.{some, some_at}
 use Rattle.fabric.proofs.Local.{local_of}
 use Rattle.fabric.proofs.Spots.{same_place, move}
 use Rattle.fabric.proofs.Zones.{row_at, are_together}
-use Rattle.fabric.proofs.Conductors.{Owner, follows, at_part, at_cell, at_cells, one_layer, layer_is, in_larger}
+use Rattle.fabric.proofs.Conductors.{Owner, follows, at_part, at_cell, at_cells, layer_is, in_larger}
 use Rattle.fabric.proofs.Conductors.{they_meet, drawn_larger, crossing_is}
 use Rattle.fabric.proofs.Tables.{Part, part, parts, channels, same_layer, lies_in, meets, together, is_layer, is_drawn}
 use Rattle.fabric.proofs.Tables.{is_part, is_clear, is_drawn_passes, is_part_passes, is_clear_passes}

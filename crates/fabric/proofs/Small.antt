@@ -1,5 +1,6 @@
 -- A fabric has few nodes and channels.
-use Rattle.std.proofs.Common.{◌≡◌, ℕ, zero, suc, ◌<◌, ◌≤◌, ◌+◌, List, [], ◌∷◌, ◌++◌, Bool, true, false, length, map, eqb, refl, sym, ◌∙◌, ap, subst, arith, inl, inr}
+use Rattle.std.proofs.Common.{◌≡◌, ℕ, zero, suc, ◌<◌, ◌≤◌, ◌+◌, List, [], ◌∷◌, ◌++◌, Bool, true, false, length, map}
+use Rattle.std.proofs.Common.{eqb, refl, sym, ◌∙◌, ap, subst, arith, inl, inr}
 use Rattle.std.specs.Prelude.{Contains, ◌||◌, filter}
 use Rattle.std.specs.List.{list_any}
 use Rattle.std.proofs.lemmas.Bool.{eq-eqb, cases_lt}
@@ -8,6 +9,7 @@ use Rattle.std.proofs.lemmas.List.Sums.{length-filter, count_by-le-length}
 use Rattle.std.proofs.lemmas.List.Elements.{Contains-append_left, Contains-append_right}
 use Rattle.std.proofs.lemmas.Map.Steps.{le-length_from_below}
 use Rattle.std.proofs.lemmas.Slice.Zip.{AllZip-long}
+use Rattle.mp_base.proofs.Contents.{contains_map, contains_behind}
 use Rattle.switch_net.specs.declared.network.Channel.{Channel}
 use Rattle.switch_net.specs.declared.network.Network.{Network}
 use Rattle.renumbering.specs.Same.{AreOneToOne}
@@ -60,27 +62,20 @@ no_more from to there back one =
 abbrev nets : Plan → List Net
 nets f = ground ∷ power ∷ (map segment f.segments ++ map line f.lines)
 
-mapped : {A B : Type 0} (g : A → B) (xs : List A) (x : A) → Contains xs x → Contains (map g xs) (g x)
-mapped g [] x c = absurd (omega (arith, c.1))
-mapped g (y ∷ ys) x (zero, l, e) = (zero, omega arith, ap g e)
-mapped g (y ∷ ys) x (suc k, l, e) = let c = mapped g ys x (k, omega arith, e) in (suc c.0, (let w = c.1 in omega (arith, w)), c.2)
-
-more : {A : Type 0} (xs : List A) (y x : A) → Contains xs x → Contains (y ∷ xs) x
-more xs y x c = (suc c.0, (let l = c.1 in omega (arith, l)), c.2)
-
 module _ (f : Plan) where
   abbrev others : List Net
   others = map segment f.segments ++ map line f.lines
 
   among : (n : Net) → IsNet f n → Contains (nets f) n
   among ground i = (zero, omega arith, refl)
-  among power i = more (power ∷ others) ground power (zero, omega arith, refl)
+  among power i = contains_behind power ground (power ∷ others) (zero, omega arith, refl)
   among (segment s) i =
-      more (power ∷ others) ground (segment s) (more others power (segment s)
-      (Contains-append_left (map segment f.segments) (map line f.lines) (segment s) (mapped segment f.segments s i)))
+      contains_behind (segment s) ground (power ∷ others) (contains_behind (segment s) power others
+      (Contains-append_left (map segment f.segments) (map line f.lines) (segment s)
+      (contains_map segment f.segments s i)))
   among (line l) i =
-      more (power ∷ others) ground (line l) (more others power (line l)
-      (Contains-append_right (map segment f.segments) (map line f.lines) (line l) (mapped line f.lines l i)))
+      contains_behind (line l) ground (power ∷ others) (contains_behind (line l) power others
+      (Contains-append_right (map segment f.segments) (map line f.lines) (line l) (contains_map line f.lines l i)))
 
   net_count : length (nets f) ≡ 2 + (length f.segments + length f.lines)
   net_count =
@@ -89,7 +84,8 @@ module _ (f : Plan) where
       let c = length-map f.lines (λ l. line l) in
       omega (arith, a, b, c)
 
-  few_nodes : (count : ℕ) (number : Net → ℕ) → AreNumbers f count number → count ≤ 2 + (length f.segments + length f.lines)
+  few_nodes : (count : ℕ) (number : Net → ℕ) → AreNumbers f count number
+      → count ≤ 2 + (length f.segments + length f.lines)
   few_nodes count number a =
       subst (λ n. count ≤ n) net_count
       (few_by number (nets f) count (λ k h. let x = a.onto k h in (x.0, among x.0 x.1, x.2)))

@@ -6,6 +6,8 @@ use Rattle.std.specs.List.{AllZip}
 use Rattle.std.proofs.lemmas.Bool.{cases_lt, cases_order, and_parts, eqb-true, eq-eqb, and_from}
 use Rattle.std.proofs.lemmas.List.{get_or_default, append-nil}
 use Rattle.std.proofs.lemmas.List.Elements.{filter_more}
+use Rattle.mp_base.proofs.Zips.{zip_at, zip_length, zip_push}
+use Rattle.mp_base.proofs.Members.{Member, member_contains, contains_member, filter_member, member_filter}
 use Rattle.switch_net.specs.declared.network.ChannelKind.TheVariants.{Enhancement, Depletion}
 use Rattle.switch_net.specs.declared.network.Channel.{Channel}
 use Rattle.switch_net.specs.declared.network.Tag.{Tag}
@@ -33,9 +35,7 @@ use Rattle.fabric.specs.Numbers.IsNumbered.{a_segment, a_line, the_ground, the_p
 use Rattle.fabric.proofs.Local.{segment_lies, line_lies}
 use Rattle.fabric.proofs.Nets.{one_segment, one_line}
 use Rattle.lam_geom.proofs.Chains.{join_chains, one_link, turn_chain}
-use Rattle.fabric.proofs.Following.{follow}
-use Rattle.fabric.proofs.Lists.{Member, member_contains, contains_member}
-use Rattle.fabric.proofs.Filters.{filter_has, filter_had, zip_at, zip_length}
+use Rattle.lam_geom.proofs.Following.{follow}
 
 -- ---- the place of a value in a list
 
@@ -219,7 +219,7 @@ module _ (f : Plan) (w : IsFabric f) where
         (sym (zip_length (IsTapPair f) (filter is_tap f.marks) pairs z)) h in
         let t = zip_at (IsTapPair f) (filter is_tap f.marks) pairs z i some_mark p g in
         let m : Mark = get_or (filter is_tap f.marks) i some_mark in
-        let k = filter_had is_tap f.marks m (contains_member (filter is_tap f.marks) m
+        let k = member_filter is_tap f.marks m (contains_member (filter is_tap f.marks) m
         (i, g, get_or_default (filter is_tap f.marks) i m some_mark g)) in
         (m, member_contains f.marks m k.0, subst (IsTapPair f m) e t)
 
@@ -241,7 +241,7 @@ module _ (f : Plan) (w : IsFabric f) where
     mark_pair : (m : Mark) → Contains f.marks m → is_tap m ≡ true → (p : Pair) × Contains pairs p × IsTapPair f m p
     mark_pair m h e =
         let c = member_contains (filter is_tap f.marks) m
-        (filter_has is_tap f.marks m (contains_member f.marks m h) e) in
+        (filter_member is_tap f.marks m (contains_member f.marks m h) e) in
         let t = zip_at (IsTapPair f) (filter is_tap f.marks) pairs z c.0 m some_pair c.1 in
         let g : c.0 < length pairs = subst (λ y. c.0 < y) (zip_length (IsTapPair f) (filter is_tap f.marks) pairs z)
         c.1 in
@@ -454,13 +454,6 @@ module _ (f : Plan) (w : IsFabric f) (numbers : List ℕ) (m : Mark) where
       back_ x n (inl (q, a)) h = let z : Tran ≡ PullUp = sym q ∙ e in absurd (cc (z))
 
 -- ---- lists made mark by mark
-zip_push : {A B : Type 0} (Q : A → B → Type 0) (xs : List A) (ys : List B) (x : A) (y : B) → AllZip Q xs ys → Q x y
-    → AllZip Q (xs ++ x ∷ []) (ys ++ y ∷ [])
-zip_push Q [] [] x y z r = (r, z)
-zip_push Q [] (b ∷ ys) x y z r = absurd z
-zip_push Q (a ∷ xs) [] x y z r = absurd z
-zip_push Q (a ∷ xs) (b ∷ ys) x y z r = (z.0, zip_push Q xs ys x y z.1 r)
-
 -- one more passes the test, and one more is made
 pub more_made : {B : Type 0} (Q : Mark → B → Type 0) (p : Mark → Bool) (ms : List Mark) (i : ℕ) (d : Mark)
     (ys new : List B) (y : B) → i < length ms → AllZip Q (filter p (take i ms)) ys → p (get_or ms i d) ≡ true

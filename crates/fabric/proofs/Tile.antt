@@ -1,6 +1,7 @@
 -- What can stand at a tile, and what it draws there.
 use Rattle.std.proofs.Common.{ℕ, ◌≡◌, ◌+◌, ◌*◌, ◌<◌, ◌≤◌, ◌⊎◌, List, [], ◌∷◌, map, Contains}
 use Rattle.std.specs.Prelude.{ℤ, pos}
+use Rattle.mp_base.proofs.Members.{Member}
 use Rattle.lam_geom.specs.declared.layer.Layer.{Layer}
 use Rattle.lam_geom.specs.declared.layer.Layer.TheVariants.{ND, NM}
 use Rattle.tile_cells.specs.declared.tile.Tile.{Tile}
@@ -11,7 +12,6 @@ use Rattle.fabric.specs.declared.thing.Line.{Line}
 use Rattle.fabric.specs.declared.thing.Mark.{Mark}
 use Rattle.fabric.specs.Plan.{Plan, bands, rows_of, SegmentAt, Passes}
 use Rattle.fabric.specs.Shape.{base, last_column, offset}
-use Rattle.fabric.proofs.Lists.{Member}
 
 pub data Thing : Type 0 where
   trunk : Thing

@@ -2,6 +2,7 @@
 use Rattle.std.proofs.Common.{ℕ, ◌≡◌, ◌+◌, ◌*◌, ◌<◌, ◌≤◌, ◌⊎◌, inl, inr, refl, sym, ◌∙◌, ap, subst, arith, Contains}
 use Rattle.std.specs.Prelude.{ℤ, pos}
 use Rattle.std.proofs.lemmas.Int.{ints}
+use Rattle.mp_base.proofs.Members.{Member}
 use Rattle.lam_geom.specs.declared.layer.Layer.{Layer}
 use Rattle.lam_geom.specs.declared.layer.Layer.TheVariants.{ND, NM}
 use Rattle.lam_geom.specs.declared.rect.Rect.{Rect}
@@ -20,7 +21,6 @@ use Rattle.fabric.specs.Switches.{Net}
 use Rattle.fabric.specs.Switches.Net.{segment, line, ground, power as the_power}
 use Rattle.fabric.proofs.Tile.{Thing, Here, Inside, Slot, Local}
 use Rattle.fabric.proofs.Tile.Thing.{lin}
-use Rattle.fabric.proofs.Lists.{Member}
 use Rattle.fabric.proofs.Heights.{bands_lie}
 use Rattle.fabric.proofs.Local.{some_rows, line_lies, trunk_at, power_at, ground_at, rail_at, segment_at, line_at}
 use Rattle.fabric.proofs.Back.{drawn_at}

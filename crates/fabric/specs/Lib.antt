@@ -9,3 +9,4 @@ pub mod Theorem
 pub mod Counted
 pub mod Even
 pub mod Labelled
+pub mod Sized

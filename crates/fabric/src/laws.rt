@@ -1,6 +1,7 @@
 //! Laws of fabrics.
 
 ghost use Rattle.fabric.specs.Theorem.{FabricDrawsSwitches, FabricIsSwitches, FabricsAreSmall, LabelsName};
+ghost use Rattle.fabric.specs.Sized.{FabricsAreSized};
 
 use lam_geom::rectangles_are_joined;
 
@@ -25,4 +26,11 @@ pub fn fabrics_are_small()
     ensures { FabricsAreSmall }
 {
     fabric_draws_its_switches();
+}
+
+/// Each channel of a fabric is a transistor's, 2 by 2 lambda, or a pull-up's, 2 wide and 16 high.
+pub fn channels_are_sized()
+    ensures { FabricsAreSized }
+{
+    rectangles_are_joined();
 }

@@ -1,16 +1,18 @@
 -- Finitely many things that are joined have classes, by their least elements.
 use Rattle.std.proofs.Common.{◌≡◌, ◌⊎◌, inl, inr, refl, sym, subst, ◌∙◌, List, [], ◌∷◌}
+use Rattle.mp_base.proofs.Decisions.{Decided, both_of, one_of, not_so, same_claim}
+use Rattle.mp_base.proofs.Members.{Member, member_contains, member_at, contains_member}
 use Rattle.lam_geom.specs.Chains.{Chain}
 use Rattle.lam_geom.specs.Chains.Chain.{here, link}
 use Rattle.lam_geom.proofs.Chains.{join_chains, turn_chain}
 use Rattle.switch_net.specs.Classes.{AreClasses}
-use Rattle.mask_laws.proofs.Decided.{Decided, both, one_of, not_so, told_by, Mem, mem_contains, contains_mem, mem_at, some_member}
+use Rattle.mask_laws.proofs.Decided.{some_member}
 use Rattle.mask_laws.proofs.Ordered.{Rises, rising_pairs, keep, keep_in, keep_has, keep_rises}
 
 module _ {S : Type 0} (J : S → S → Type 0) (flip : (a b : S) → J a b → J b a) where
   -- s touches x, where N says what is joined among xs
   abbrev Touch : (S → S → Type 0) → List S → S → S → Type 0
-  Touch N xs x s = N s x ⊎ ((a : S) × Mem xs a × N s a × J a x)
+  Touch N xs x s = N s x ⊎ ((a : S) × Member xs a × N s a × J a x)
 
   -- joined among these
   abbrev Near : List S → S → S → Type 0
@@ -41,7 +43,7 @@ module _ {S : Type 0} (J : S → S → Type 0) (flip : (a b : S) → J a b → J
       moved again (inr (y, m, n, j)) = inr (y, m, again y n, j)
   near_then (x ∷ xs) s t u (inr a) (inr b) = inr (a.0, b.1)
 
-  near_join : (xs : List S) (s t : S) → Mem xs s → Mem xs t → J s t → Near xs s t
+  near_join : (xs : List S) (s t : S) → Member xs s → Member xs t → J s t → Near xs s t
   near_join [] s t m n j = absurd m
   near_join (x ∷ xs) s t (inl e) (inl f) j = subst (λ y. Near (x ∷ xs) s y) (sym e ∙ f) (near_self (x ∷ xs) s)
   near_join (x ∷ xs) s t (inl e) (inr n) j =
@@ -63,7 +65,8 @@ module _ {S : Type 0} (J : S → S → Type 0) (flip : (a b : S) → J a b → J
       to u again (inl n) = again x n
       to u again (inr (y, m, n, j)) = join_chains (again y n) (link j here)
 
-  module _ (all : List S) (inside : (a b : S) → J a b → Mem all a × Mem all b) (same : (a b : S) → Decided (a ≡ b))
+  module _ (all : List S) (inside : (a b : S) → J a b → Member all a × Member all b)
+      (same : (a b : S) → Decided (a ≡ b))
       (joined : (a b : S) → Decided (J a b)) where
     chain_near : (s t : S) → Chain J s t → Near all s t
     chain_near s t here = near_self all s
@@ -74,17 +77,18 @@ module _ {S : Type 0} (J : S → S → Type 0) (flip : (a b : S) → J a b → J
     near_told [] s t = same s t
     near_told (x ∷ xs) s t =
         one_of (near_told xs s t)
-        (both (touches_by (λ a b. near_told xs a b) s) (touches_by (λ a b. near_told xs a b) t))
+        (both_of (touches_by (λ a b. near_told xs a b) s) (touches_by (λ a b. near_told xs a b) t))
       where
         touches_by : ((a b : S) → Decided (Near xs a b)) → (u : S) → Decided (Touch (Near xs) xs x u)
         touches_by again u =
             one_of (again u x)
-            (told_by (λ h. (h.0, h.1, h.2.0, h.2.1)) (λ h. (h.0, h.1, (h.2, h.3)))
-            (some_member (λ a. Near xs u a × J a x) (λ a. both (again u a) (joined a x)) xs))
+            (same_claim (some_member (λ a. Near xs u a × J a x) (λ a. both_of (again u a) (joined a x)) xs)
+            (λ h. (h.0, h.1, h.2.0, h.2.1))
+            (λ h. (h.0, h.1, (h.2, h.3))))
 
     -- whether a chain of joins leads from one to another
     pub chain_told : (s t : S) → Decided (Chain J s t)
-    chain_told s t = told_by (near_chain all s t) (chain_near s t) (near_told all s t)
+    chain_told s t = same_claim (near_told all s t) (near_chain all s t) (chain_near s t)
 
 module _ {S : Type 0} (Is : S → Type 0) (J B : S → S → Type 0) (flip : (a b : S) → J a b → J b a) (of : (a b : S)
     → J a b → Is a × Is b)
@@ -92,10 +96,10 @@ module _ {S : Type 0} (Is : S → Type 0) (J B : S → S → Type 0) (flip : (a 
     → B b a → ⊥) where
   -- the least of those listed
   pub record Picked (xs least : List S) : Type 0 where
-    pub within : (r : S) → Mem least r → Mem xs r
+    pub within : (r : S) → Member least r → Member xs r
     pub rises : Rises B least
-    pub first : (r s : S) → Mem least r → Mem xs s → Chain J r s → B s r → ⊥
-    pub all : (s : S) → Mem xs s → (r : S) × Mem least r × Chain J r s
+    pub first : (r s : S) → Member least r → Member xs s → Chain J r s → B s r → ⊥
+    pub all : (s : S) → Member xs s → (r : S) × Member least r × Chain J r s
 
   module _ (told : (s t : S) → Decided (Chain J s t)) where
     picked : (xs : List S) → Rises B xs → (least : List S) × Picked xs least
@@ -105,7 +109,7 @@ module _ {S : Type 0} (Is : S → Type 0) (J B : S → S → Type 0) (flip : (a 
         let Free : S → Type 0 = λ r. Chain J x r → ⊥ in
         let free : (r : S) → Decided (Free r) = λ r. not_so (told x r) in
         let least : List S = keep B Free free p.0 in
-        let in_least : (r : S) → Mem least r → Mem p.0 r × Free r = keep_in B Free free p.0 in (
+        let in_least : (r : S) → Member least r → Member p.0 r × Free r = keep_in B Free free p.0 in (
           x ∷ least,
           record {
             within = λ r m. elim m [ inl e ↦ inl e | inr k ↦ inr (p.1.within r (in_least r k).0) ];
@@ -131,7 +135,7 @@ module _ {S : Type 0} (Is : S → Type 0) (J B : S → S → Type 0) (flip : (a 
           },
         )
 
-  pub classes_exist : (xs : List S) → Rises B xs → ((s : S) → Mem xs s → Is s) → ((s : S) → Is s → Mem xs s)
+  pub classes_exist : (xs : List S) → Rises B xs → ((s : S) → Member xs s → Is s) → ((s : S) → Is s → Member xs s)
       → (least : List S) × AreClasses Is J B least
   classes_exist xs rises are every =
       let told = chain_told J flip xs (λ a b j. let h = of a b j in (every a h.0, every b h.1)) same joined in
@@ -139,8 +143,8 @@ module _ {S : Type 0} (Is : S → Type 0) (J B : S → S → Type 0) (flip : (a 
         p.0,
         record {
           ascending = rising_pairs B p.0 p.1.rises;
-          each = λ i d lt. are _ (p.1.within _ (mem_at p.0 i d lt));
-          first = λ r s c is chain b. p.1.first r s (contains_mem p.0 r c) (every s is) chain b;
-          all = λ s is. let w = p.1.all s (every s is) in (w.0, mem_contains p.0 w.0 w.1, w.2);
+          each = λ i d lt. are _ (p.1.within _ (member_at p.0 i d lt));
+          first = λ r s c is chain b. p.1.first r s (contains_member p.0 r c) (every s is) chain b;
+          all = λ s is. let w = p.1.all s (every s is) in (w.0, member_contains p.0 w.0 w.1, w.2);
         },
       )

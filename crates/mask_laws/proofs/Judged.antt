@@ -7,6 +7,8 @@ use Rattle.std.proofs.lemmas.Option.{slice_get_within}
 use Rattle.mp_base.specs.declared.refusal.Broken.{Broken}
 use Rattle.mp_base.specs.declared.refusal.Spot.TheVariants.{Offset, Named, Nowhere}
 use Rattle.mp_base.specs.PadNames.{supplies}
+use Rattle.mp_base.proofs.Decisions.{Decided, both_of, one_of, not_so, same_claim, some_below, is_name}
+use Rattle.mp_base.proofs.Members.{member_contains, contains_member}
 use Rattle.lam_geom.specs.declared.rect.Rect.{Rect}
 use Rattle.lam_geom.specs.declared.label.FlatLabel.{FlatLabel}
 use Rattle.lam_geom.specs.Chains.{Chain}
@@ -18,12 +20,13 @@ use Rattle.switch_net.specs.Pads.{driver_labels, chip_labels}
 use Rattle.switch_net.specs.Conductors.{Joined}
 use Rattle.switch_net.specs.Labels.{Names}
 use Rattle.switch_net.specs.Drawn.{IsNetwork}
-use Rattle.switch_net.specs.Breaks.{IsDrivenTwice, IsMissing, AreTooMany, BreaksAt, MeetsDriver, IsFirstOfMask, IsFirstOfCircuit, broken}
+use Rattle.switch_net.specs.Breaks.{IsDrivenTwice, IsMissing, AreTooMany, BreaksAt, MeetsDriver, IsFirstOfMask}
+use Rattle.switch_net.specs.Breaks.{IsFirstOfCircuit, broken}
 use Rattle.switch_net.specs.Breaks.BreaksAt.{one, two}
 use Rattle.switch_net.specs.Laws.{OneNumbering}
 use Rattle.switch_net.proofs.Naming.{one_square}
 use Rattle.mask_laws.specs.Laws.{BreaksNone, MaskIsJudged, CircuitIsJudged}
-use Rattle.mask_laws.proofs.Decided.{Decided, both, one_of, not_so, told_by, mem_contains, contains_mem, some_member}
+use Rattle.mask_laws.proofs.Decided.{some_member}
 use Rattle.mask_laws.proofs.Squares.{nodes_exist, regions_exist}
 use Rattle.mask_laws.proofs.Networks.{named_told, joins_told, network_exists}
 
@@ -44,21 +47,6 @@ first_below P t (suc n) = more (first_below P t n) (t n)
       | inr ge ↦ (let e : n ≡ i = omega arith in subst (λ k. ¬ P k) e never)
     ])
 
--- whether some number below n is so
-some_below : (P : ℕ → Type 0) → ((i : ℕ) → Decided (P i)) → (n : ℕ) → Decided ((i : ℕ) × (i < n) × P i)
-some_below P t zero = inr (λ h. (let lt = h.1 in omega arith))
-some_below P t (suc n) = told_by to from (one_of (some_below P t n) (t n))
-  where
-    to : ((i : ℕ) × (i < n) × P i) ⊎ P n → (i : ℕ) × (i < suc n) × P i
-    to (inl (i, lt, p)) = (i, omega (arith, lt), p)
-    to (inr p) = (n, omega arith, p)
-
-    from : (i : ℕ) × (i < suc n) × P i → ((i : ℕ) × (i < n) × P i) ⊎ P n
-    from (i, lt, p) = elim (cases_lt i n) [
-      | inl l ↦ inl (i, l, p)
-      | inr ge ↦ (let e : i ≡ n = omega (arith, lt, ge) in inr (subst P e p))
-    ]
-
 -- what stands at a place of a list is so
 abbrev At : {A : Type 0} → List A → ℕ → (A → Type 0) → Type 0
 At {A = A} xs i P = (x : A) × (slice_get xs i ≡ Some x) × P x
@@ -68,30 +56,18 @@ same_element y x e = cc
 
 at_decided : {A : Type 0} (P : A → Type 0) → ((x : A) → Decided (P x)) → (xs : List A) (i : ℕ) → Decided (At xs i P)
 at_decided P t [] i = inr (λ h. (let e = h.1 in cc))
-at_decided P t (x ∷ xs) zero = told_by (λ p. (x, refl, p)) from (t x)
+at_decided P t (x ∷ xs) zero = same_claim (t x) (λ p. (x, refl, p)) from
   where
     from : At (x ∷ xs) 0 P → P x
     from (y, e, p) = subst P (same_element y x e) p
 at_decided P t (x ∷ xs) (suc i) = at_decided P t xs i
 
-names_same : (a b : List ℕ) → Decided (a ≡ b)
-names_same [] [] = inl refl
-names_same [] (y ∷ ys) = inr (λ e. cc)
-names_same (x ∷ xs) [] = inr (λ e. cc)
-names_same (x ∷ xs) (y ∷ ys) = told_by to from (both (cases_eq x y) (names_same xs ys))
-  where
-    to : (x ≡ y) × (xs ≡ ys) → x ∷ xs ≡ y ∷ ys
-    to (e, f) = cc
-
-    from : x ∷ xs ≡ y ∷ ys → (x ≡ y) × (xs ≡ ys)
-    from e = (cc, cc)
-
 -- whether the name is one of these
 is_among : (wanted : List (List ℕ)) (name : List ℕ) → Decided (Contains wanted name)
-is_among wanted name = told_by
-    (λ h. subst (Contains wanted) h.2 (mem_contains wanted h.0 h.1))
-    (λ c. (name, contains_mem wanted name c, refl))
-    (some_member (λ a. a ≡ name) (λ a. names_same a name) wanted)
+is_among wanted name = same_claim
+    (some_member (λ a. a ≡ name) (λ a. is_name a name) wanted)
+    (λ h. subst (Contains wanted) h.2 (member_contains wanted h.0 h.1))
+    (λ c. (name, contains_member wanted name c, refl))
 
 -- ---- rules of a network
 
@@ -105,15 +81,15 @@ module _ (drivers : List (List ℕ)) (tags : List Tag) where
 
   meets_one : (i : ℕ) (tag : Tag) → Decided (MeetsOne i tag)
   meets_one i tag =
-      both (is_among drivers tag.name)
+      both_of (is_among drivers tag.name)
       (some_below (λ j. At tags j (IsAnother tag)) (λ j. at_decided (IsAnother tag) another tags j) i)
     where
       another : (earlier : Tag) → Decided (IsAnother tag earlier)
-      another earlier = both (is_among drivers earlier.name)
-          (both (not_so (names_same earlier.name tag.name)) (cases_eq earlier.node tag.node))
+      another earlier = both_of (is_among drivers earlier.name)
+          (both_of (not_so (is_name earlier.name tag.name)) (cases_eq earlier.node tag.node))
 
   meets_decided : (i : ℕ) → Decided (MeetsDriver drivers tags i)
-  meets_decided i = told_by to from (at_decided (MeetsOne i) (meets_one i) tags i)
+  meets_decided i = same_claim (at_decided (MeetsOne i) (meets_one i) tags i) to from
     where
       to : At tags i (MeetsOne i) → MeetsDriver drivers tags i
       to (tag, at, (driver, (j, before, (earlier, there, (another, (names, node)))))) = (
@@ -150,17 +126,17 @@ module _ (net : Network) (wanted : List (List ℕ)) where
   NoneNamed name = (t : Tag) → Contains net.tags t → t.name ≢ name
 
   none_named : (name : List ℕ) → Decided (NoneNamed name)
-  none_named name = elim (some_member (λ (t : Tag). t.name ≡ name) (λ t. names_same t.name name) net.tags) [
-    | inl h ↦ inr (λ none. none h.0 (mem_contains net.tags h.0 h.1) h.2)
-    | inr never ↦ inl (λ t c e. never (t, contains_mem net.tags t c, e))
+  none_named name = elim (some_member (λ (t : Tag). t.name ≡ name) (λ t. is_name t.name name) net.tags) [
+    | inl h ↦ inr (λ none. none h.0 (member_contains net.tags h.0 h.1) h.2)
+    | inr never ↦ inl (λ t c e. never (t, contains_member net.tags t c, e))
   ]
 
   abbrev Misses : ℕ → Type 0
   Misses i = (name : List ℕ) × IsMissing net wanted i name
 
   misses_decided : (i : ℕ) → Decided (Misses i)
-  misses_decided i = told_by (λ h. (h.0, record { at = h.1; none = h.2 })) (λ h. (h.0, h.1.at, h.1.none))
-      (at_decided NoneNamed none_named wanted i)
+  misses_decided i = same_claim (at_decided NoneNamed none_named wanted i) (λ h. (h.0, record { at = h.1; none = h.2 }))
+      (λ h. (h.0, h.1.at, h.1.none))
 
   -- the first label that is missing, or none is
   first_missing : ((i : ℕ) × Misses i × ((j : ℕ) → j < i → ¬ Misses j)) ⊎ ((i : ℕ) → ¬ Misses i)
@@ -188,10 +164,10 @@ module _ (shapes : List Rect) (labels : List FlatLabel) where
   NamesSome label = (s : Square) × Names (covered shapes) label s
 
   names_some : (label : FlatLabel) → Decided (NamesSome label)
-  names_some label = told_by
+  names_some label = same_claim
+      (named_told shapes label.x label.y label.layer)
       (λ h. (record { layer = h.0; x = label.x; y = label.y }, record { x = refl; y = refl; layer = h.1 }))
       (λ h. ((h.0).layer, h.1.layer))
-      (named_told shapes label.x label.y label.layer)
 
   -- two labels name conductors of two nodes
   record AreApart (label earlier : FlatLabel) : Type 0 where
@@ -226,10 +202,10 @@ module _ (shapes : List Rect) (labels : List FlatLabel) where
       (some_below (λ j. At labels j (Clashes label)) (λ j. at_decided (Clashes label) clashes labels j) i)
     where
       clashes : (earlier : FlatLabel) → Decided (Clashes label earlier)
-      clashes earlier = both (names_same earlier.name label.name) (are_apart label earlier)
+      clashes earlier = both_of (is_name earlier.name label.name) (are_apart label earlier)
 
   breaks_decided : (i : ℕ) → Decided (BreaksAt (covered shapes) labels i)
-  breaks_decided i = told_by to from (at_decided (BreaksOne i) (breaks_one i) labels i)
+  breaks_decided i = same_claim (at_decided (BreaksOne i) (breaks_one i) labels i) to from
     where
       to : At labels i (BreaksOne i) → BreaksAt (covered shapes) labels i
       to (label, at, inl none) = two label (record { at = at; none = λ s h. none (s, h) })

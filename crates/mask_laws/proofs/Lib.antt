@@ -3,5 +3,5 @@ mod Ordered
 mod Classes
 mod Squares
 mod Networks
-mod SameSquares
+pub mod SameSquares
 mod Judged

@@ -1,11 +1,14 @@
 -- The network that a mask draws.
-use Rattle.std.proofs.Common.{ℕ, zero, suc, ◌≡◌, ◌<◌, ◌≤◌, ◌+◌, inl, inr, refl, sym, subst, ap, ◌∙◌, arith, List, [], ◌∷◌, length, get_or, Option, Some, None}
+use Rattle.std.proofs.Common.{ℕ, zero, suc, ◌≡◌, ◌<◌, ◌≤◌, ◌+◌, inl, inr, refl, sym, subst, ap, ◌∙◌, arith, List, []}
+use Rattle.std.proofs.Common.{◌∷◌, length, get_or, Option, Some, None}
 use Rattle.std.specs.Prelude.{All, AllPairs, Contains, ℤ, slice_get}
 use Rattle.std.specs.List.{AllZip}
 use Rattle.std.proofs.lemmas.Bool.{cases_lt, cases_eq}
 use Rattle.std.proofs.lemmas.List.{get_or_default}
-use Rattle.std.proofs.lemmas.List.Elements.{All-nil, All-cons}
 use Rattle.std.proofs.lemmas.Option.{slice_get-get_or}
+use Rattle.mp_base.proofs.Decisions.{Decided, both_of, not_so, same_claim}
+use Rattle.mp_base.proofs.Members.{Member, member_contains, contains_member}
+use Rattle.mp_base.proofs.Zips.{zip_all_right}
 use Rattle.lam_geom.specs.declared.layer.Layer.{Layer}
 use Rattle.lam_geom.specs.declared.layer.Layer.TheVariants.{ND, NP, NC, NM, NI, NB, NG}
 use Rattle.lam_geom.specs.declared.rect.Rect.{Rect}
@@ -20,7 +23,8 @@ use Rattle.switch_net.specs.declared.network.Network.{Network}
 use Rattle.switch_net.specs.OneNode.{OneNodeEach}
 use Rattle.switch_net.specs.Conductors.{ConductsOn, Conducts, Joined, IsChannelSquare}
 use Rattle.switch_net.specs.Labels.{IsFirst, IsNamed}
-use Rattle.switch_net.specs.Drawn.{AreNodes, IsOfNode, AreRegions, IsOfChannel, IsEnd, IsKind, IsChannelAt, IsTag, IsNetwork}
+use Rattle.switch_net.specs.Drawn.{AreNodes, IsOfNode, AreRegions, IsOfChannel, IsEnd, IsKind, IsChannelAt, IsTag}
+use Rattle.switch_net.specs.Drawn.{IsNetwork}
 use Rattle.switch_net.specs.Breaks.{BreaksAt}
 use Rattle.switch_net.specs.Breaks.BreaksAt.{one, two}
 use Rattle.mask_laws.specs.Laws.{NetworkExists}
@@ -28,27 +32,22 @@ use Rattle.lam_geom.proofs.Chains.{join_chains, turn_chain}
 use Rattle.lam_geom.proofs.Adjoins.{adjoin_flip}
 use Rattle.switch_net.proofs.Joins.{join_flip, join_ends}
 use Rattle.switch_net.proofs.Naming.{named_on}
-use Rattle.mask_laws.proofs.Decided.{Decided, both, not_so, told_by, Mem, mem_contains, contains_mem, some_member}
+use Rattle.mask_laws.proofs.Decided.{some_member}
 use Rattle.mask_laws.proofs.Ordered.{Rises, rising_pairs, keep, keep_in, keep_has, keep_rises}
 use Rattle.mask_laws.proofs.Classes.{chain_told}
-use Rattle.mask_laws.proofs.Squares.{layer_same, square_same, share_told, covered_told, on_told, conducts_told, joined_told, adjoin_told, channel_square_told, conducting, channels, every_conductor, every_channel, nodes_exist, regions_exist}
+use Rattle.mask_laws.proofs.Squares.{layer_same, square_same, share_told, covered_told, on_told, conducts_told}
+use Rattle.mask_laws.proofs.Squares.{joined_told, adjoin_told, channel_square_told, conducting, channels}
+use Rattle.mask_laws.proofs.Squares.{every_conductor, every_channel, nodes_exist, regions_exist}
 
 -- ---- lists
 
-zip_of : {A B : Type 0} (R : A → B → Type 0) (xs : List A) → ((x : A) → Mem xs x → (y : B) × R x y)
+zip_of : {A B : Type 0} (R : A → B → Type 0) (xs : List A) → ((x : A) → Member xs x → (y : B) × R x y)
     → (ys : List B) × AllZip R xs ys
 zip_of R [] f = ([], tt)
 zip_of R (x ∷ xs) f =
     let y = f x (inl refl) in
     let r = zip_of R xs (λ z m. f z (inr m)) in
     (y.0 ∷ r.0, (y.1, r.1))
-
-zip_all : {A B : Type 0} (R : A → B → Type 0) (Q : B → Type 0) → ((x : A) (y : B) → R x y → Q y)
-    → (xs : List A) (ys : List B) → AllZip R xs ys → All Q ys
-zip_all R Q f [] [] z = All-nil Q
-zip_all R Q f [] (y ∷ ys) z = absurd z
-zip_all R Q f (x ∷ xs) [] z = absurd z
-zip_all R Q f (x ∷ xs) (y ∷ ys) z = All-cons Q y ys (f x y z.0) (zip_all R Q f xs ys z.1)
 
 -- the partner of an element
 partner : {A B : Type 0} (R : A → B → Type 0) (xs : List A) (ys : List B) → AllZip R xs ys → (i : ℕ) (e : B)
@@ -63,13 +62,13 @@ count : ℕ → ℕ → List ℕ
 count a zero = []
 count a (suc n) = a ∷ count (suc a) n
 
-count_low : (a n k : ℕ) → Mem (count a n) k → a ≤ k
+count_low : (a n k : ℕ) → Member (count a n) k → a ≤ k
 unfolding count
 count_low a zero k m = absurd m
 count_low a (suc n) k (inl e) = omega (arith, e)
 count_low a (suc n) k (inr m) = let h = count_low (suc a) n k m in omega (arith, h)
 
-count_has : (a n k : ℕ) → a ≤ k → k < a + n → Mem (count a n) k
+count_has : (a n k : ℕ) → a ≤ k → k < a + n → Member (count a n) k
 unfolding count
 count_has a zero k le lt = absurd (omega (arith, le, lt))
 count_has a (suc n) k le lt = elim (cases_eq a k) [
@@ -202,7 +201,7 @@ module _ (rs : List Rect) where
 
   of_node_told : (k : ℕ) (s : Square) → Decided (IsOfNode c nodes k s)
   of_node_told k s = elim (cases_lt k (length nodes)) [
-    | inl lt ↦ told_by (λ h. (lt, h)) (λ h. h.1) (joins_told (get_or nodes k s) s)
+    | inl lt ↦ same_claim (joins_told (get_or nodes k s) s) (λ h. (lt, h)) (λ h. h.1)
     | inr ge ↦ inr (λ h. (let l = h.0 in omega (arith, l, ge)))
   ]
 
@@ -210,41 +209,41 @@ module _ (rs : List Rect) where
 
   of_channel_told : (r s : Square) → Decided (IsOfChannel c r s)
   of_channel_told r s =
-      told_by (λ h. record { is = h.0; chain = h.1 }) (λ h. (h.is, h.chain))
-      (both (channel_square_told rs s) (sides_told r s))
+      same_claim (both_of (channel_square_told rs s) (sides_told r s)) (λ h. record { is = h.0; chain = h.1 })
+      (λ h. (h.is, h.chain))
 
   abbrev Beside : Square → Square → Square → Type 0
   Beside r t s = IsOfChannel c r s × ShareEdge s t
 
   end_told : (r t : Square) → Decided (IsEnd c r t)
   end_told r t =
-      told_by (λ h. record { square = h.1.1.0; of = h.1.1.2.0; diffusion = h.0; conducts = h.1.0; beside = h.1.1.2.1 })
+      same_claim (both_of (layer_same t.layer ND)
+      (both_of (conducts_told rs t)
+      (some_member (Beside r t) (λ s. both_of (of_channel_told r s) (share_told s t)) (channels rs))))
+      (λ h. record { square = h.1.1.0; of = h.1.1.2.0; diffusion = h.0; conducts = h.1.0; beside = h.1.1.2.1 })
       (λ e. (e.diffusion, (e.conducts, (e.square, every_channel rs e.square e.of.is, (e.of, e.beside)))))
-      (both (layer_same t.layer ND)
-      (both (conducts_told rs t)
-      (some_member (Beside r t) (λ s. both (of_channel_told r s) (share_told s t)) (channels rs))))
 
   abbrev EndsAt : Square → ℕ → Type 0
   EndsAt r k = (t : Square) × IsEnd c r t × IsOfNode c nodes k t
 
   ends_told : (r : Square) (k : ℕ) → Decided (EndsAt r k)
   ends_told r k =
-      told_by (λ h. (h.0, h.2.0, h.2.1)) (λ h. (h.0, every_conductor rs h.0 h.1.conducts, (h.1, h.2)))
-      (some_member (λ t. IsEnd c r t × IsOfNode c nodes k t) (λ t. both (end_told r t) (of_node_told k t))
-      (conducting rs))
+      same_claim (some_member (λ t. IsEnd c r t × IsOfNode c nodes k t) (λ t. both_of (end_told r t) (of_node_told k t))
+      (conducting rs)) (λ h. (h.0, h.2.0, h.2.1))
+      (λ h. (h.0, every_conductor rs h.0 h.1.conducts, (h.1, h.2)))
 
   ends : Square → List ℕ
   ends r = keep Less (EndsAt r) (ends_told r) (count 0 (length nodes))
 
   ends_are : (r : Square) (k : ℕ) → Contains (ends r) k → EndsAt r k
   unfolding ends
-  ends_are r k h = (keep_in Less (EndsAt r) (ends_told r) (count 0 (length nodes)) k (contains_mem (ends r) k h)).1
+  ends_are r k h = (keep_in Less (EndsAt r) (ends_told r) (count 0 (length nodes)) k (contains_member (ends r) k h)).1
 
   are_ends : (r : Square) (k : ℕ) → EndsAt r k → Contains (ends r) k
   unfolding ends
   are_ends r k h =
       let lt = h.2.0 in
-      mem_contains (ends r) k
+      member_contains (ends r) k
       (keep_has Less (EndsAt r) (ends_told r) (count 0 (length nodes)) k
       (count_has 0 (length nodes) k (omega arith) (omega (arith, lt))) h)
 
@@ -257,10 +256,10 @@ module _ (rs : List Rect) where
   kind_of : (r : Square) → (k : ChannelKind) × IsKind c r k
   kind_of r =
       elim (some_member (λ s. IsOfChannel c r s × c NI s.x s.y)
-      (λ s. both (of_channel_told r s) (covered_told rs NI s.x s.y)) (channels rs)) [
+      (λ s. both_of (of_channel_told r s) (covered_told rs NI s.x s.y)) (channels rs)) [
         | inr none ↦ (Enhancement, λ s o i. none (s, every_channel rs s o.is, (o, i)))
         | inl some ↦ elim (some_member (λ s. IsOfChannel c r s × (c NI s.x s.y → ⊥))
-            (λ s. both (of_channel_told r s) (not_so (covered_told rs NI s.x s.y))) (channels rs)) [
+            (λ s. both_of (of_channel_told r s) (not_so (covered_told rs NI s.x s.y))) (channels rs)) [
               | inr none ↦ (
                 Depletion,
                 λ s o. elim (covered_told rs NI s.x s.y) [
@@ -285,14 +284,14 @@ module _ (rs : List Rect) where
         },
       )
 
-  region_is : (r : Square) → Mem regions r → IsChannelSquare c r
-  region_is r m = let h = mem_contains regions r m in subst (IsChannelSquare c) h.2 (are_regions.each h.0 r h.1)
+  region_is : (r : Square) → Member regions r → IsChannelSquare c r
+  region_is r m = let h = member_contains regions r m in subst (IsChannelSquare c) h.2 (are_regions.each h.0 r h.1)
 
   all_channels : (xs : List Channel) × AllZip (IsChannelAt c nodes) regions xs
   all_channels = zip_of (IsChannelAt c nodes) regions (λ r m. channel_at r (region_is r m))
 
   module _ (labels : List FlatLabel) (fits : (i : ℕ) → ¬ BreaksAt c labels i) where
-    tag_of : (label : FlatLabel) → Mem labels label → (t : Tag) × IsTag c nodes label t
+    tag_of : (label : FlatLabel) → Member labels label → (t : Tag) × IsTag c nodes label t
     tag_of label m = elim (named_told rs label.x label.y label.layer) [
       | inl h ↦ (let s : Square = record { layer = h.0; x = label.x; y = label.y } in
           let n = number s (named_on c label.x label.y label.layer h.0 h.1) in (
@@ -305,7 +304,7 @@ module _ (rs : List Rect) where
               node = n.1;
             },
           ))
-      | inr none ↦ (let w = mem_contains labels label m in
+      | inr none ↦ (let w = member_contains labels label m in
           let at : slice_get labels w.0 ≡ Some label = slice_get-get_or labels w.0 label w.1 ∙ ap (λ l. Some l) w.2 in
           absurd (fits w.0 (two label (record { at = at; none = λ s h. none (s.layer, h.layer) }))))
     ]
@@ -356,13 +355,14 @@ module _ (rs : List Rect) where
       channels = all_channels.0;
       tags = all_tags.0;
       gates_in =
-          zip_all (IsChannelAt c nodes) (λ (x : Channel). x.gate < length nodes)
+          zip_all_right (IsChannelAt c nodes) (λ (x : Channel). x.gate < length nodes)
           (λ r x h. h.gate.0) regions all_channels.0 all_channels.1;
-      ends_in = zip_all (IsChannelAt c nodes) (λ (x : Channel). All (λ e. e < length nodes) x.ends)
+      ends_in = zip_all_right (IsChannelAt c nodes) (λ (x : Channel). All (λ e. e < length nodes) x.ends)
           (λ r x h k d lt. ((h.ends (get_or x.ends k d)).0
           (k, lt, get_or_default x.ends k (get_or x.ends k d) d lt)).2.0) regions all_channels.0 all_channels.1;
       tags_in =
-          zip_all (IsTag c nodes) (λ (t : Tag). t.node < length nodes) (λ l t h. h.node.0) labels all_tags.0 all_tags.1;
+          zip_all_right (IsTag c nodes) (λ (t : Tag). t.node < length nodes)
+          (λ l t h. h.node.0) labels all_tags.0 all_tags.1;
       one_node_each = one_node_each;
     }
 

@@ -1,18 +1,19 @@
 -- Lists in an order: their parts, and one sorted from any list.
 use Rattle.std.proofs.Common.{zero, suc, ◌≡◌, ◌⊎◌, inl, inr, sym, subst, ◌∙◌, arith, List, [], ◌∷◌, get_or}
 use Rattle.std.specs.Prelude.{AllPairs}
-use Rattle.mask_laws.proofs.Decided.{Decided, Mem, mem_at}
+use Rattle.mp_base.proofs.Decisions.{Decided}
+use Rattle.mp_base.proofs.Members.{Member, member_at}
 
 module _ {S : Type 0} (B : S → S → Type 0) where
   -- each is before those behind it
   abbrev pub Rises : List S → Type 0
   Rises [] = Unit {0}
-  Rises (x ∷ xs) = ((y : S) → Mem xs y → B x y) × Rises xs
+  Rises (x ∷ xs) = ((y : S) → Member xs y → B x y) × Rises xs
 
   pub rising_pairs : (xs : List S) → Rises xs → AllPairs B xs
   rising_pairs [] h i j d lt k = absurd (omega (arith, k))
   rising_pairs (x ∷ xs) h zero zero d lt k = absurd (omega (arith, lt))
-  rising_pairs (x ∷ xs) h zero (suc j) d lt k = h.0 (get_or xs j d) (mem_at xs j d (omega (arith, k)))
+  rising_pairs (x ∷ xs) h zero (suc j) d lt k = h.0 (get_or xs j d) (member_at xs j d (omega (arith, k)))
   rising_pairs (x ∷ xs) h (suc i) zero d lt k = absurd (omega (arith, lt))
   rising_pairs (x ∷ xs) h (suc i) (suc j) d lt k = rising_pairs xs h.1 i j d (omega (arith, lt)) (omega (arith, k))
 
@@ -26,21 +27,22 @@ module _ {S : Type 0} (B : S → S → Type 0) where
   keep P t (x ∷ xs) = kept P x (t x) (keep P t xs)
 
   module _ (P : S → Type 0) (t : (a : S) → Decided (P a)) where
-    pub keep_in : (xs : List S) (a : S) → Mem (keep P t xs) a → Mem xs a × P a
+    pub keep_in : (xs : List S) (a : S) → Member (keep P t xs) a → Member xs a × P a
     keep_in [] a m = absurd m
     keep_in (x ∷ xs) a m = by (t x) m (keep_in xs a)
       where
-        by : (o : Decided (P x)) → Mem (kept P x o (keep P t xs)) a → (Mem (keep P t xs) a → Mem xs a × P a)
-            → Mem (x ∷ xs) a × P a
+        by : (o : Decided (P x)) → Member (kept P x o (keep P t xs)) a → (Member (keep P t xs) a → Member xs a × P a)
+            → Member (x ∷ xs) a × P a
         by (inl p) (inl e) again = (inl e, subst P e p)
         by (inl p) (inr m) again = let h = again m in (inr h.0, h.1)
         by (inr n) m again = let h = again m in (inr h.0, h.1)
 
-    pub keep_has : (xs : List S) (a : S) → Mem xs a → P a → Mem (keep P t xs) a
+    pub keep_has : (xs : List S) (a : S) → Member xs a → P a → Member (keep P t xs) a
     keep_has [] a m p = absurd m
     keep_has (x ∷ xs) a m p = by (t x) m (λ n. keep_has xs a n p)
       where
-        by : (o : Decided (P x)) → Mem (x ∷ xs) a → (Mem xs a → Mem (keep P t xs) a) → Mem (kept P x o (keep P t xs)) a
+        by : (o : Decided (P x)) → Member (x ∷ xs) a → (Member xs a → Member (keep P t xs) a)
+            → Member (kept P x o (keep P t xs)) a
         by (inl q) (inl e) again = inl e
         by (inl q) (inr m) again = inr (again m)
         by (inr n) (inl e) again = absurd (n (subst P (sym e) p))
@@ -65,23 +67,24 @@ module _ {S : Type 0} (B : S → S → Type 0) where
     insert s [] = s ∷ []
     insert s (x ∷ xs) = placed s x (total s x) xs (insert s xs)
 
-    pub insert_in : (s : S) (xs : List S) (a : S) → Mem (insert s xs) a → (s ≡ a) ⊎ Mem xs a
+    pub insert_in : (s : S) (xs : List S) (a : S) → Member (insert s xs) a → (s ≡ a) ⊎ Member xs a
     insert_in s [] a m = m
     insert_in s (x ∷ xs) a m = by (total s x) m (insert_in s xs a)
       where
-        by : (o : B s x ⊎ (s ≡ x) ⊎ B x s) → Mem (placed s x o xs (insert s xs)) a
-            → (Mem (insert s xs) a → (s ≡ a) ⊎ Mem xs a) → (s ≡ a) ⊎ Mem (x ∷ xs) a
+        by : (o : B s x ⊎ (s ≡ x) ⊎ B x s) → Member (placed s x o xs (insert s xs)) a
+            → (Member (insert s xs) a → (s ≡ a) ⊎ Member xs a) → (s ≡ a) ⊎ Member (x ∷ xs) a
         by (inl b) m again = m
         by (inr (inl e)) m again = inr m
         by (inr (inr b)) (inl e) again = inr (inl e)
         by (inr (inr b)) (inr m) again = elim (again m) [ inl e ↦ inl e | inr k ↦ inr (inr k) ]
 
-    pub insert_has : (s : S) (xs : List S) (a : S) → (s ≡ a) ⊎ Mem xs a → Mem (insert s xs) a
+    pub insert_has : (s : S) (xs : List S) (a : S) → (s ≡ a) ⊎ Member xs a → Member (insert s xs) a
     insert_has s [] a m = m
     insert_has s (x ∷ xs) a m = by (total s x) m (insert_has s xs a)
       where
-        by : (o : B s x ⊎ (s ≡ x) ⊎ B x s) → (s ≡ a) ⊎ Mem (x ∷ xs) a → ((s ≡ a) ⊎ Mem xs a → Mem (insert s xs) a)
-            → Mem (placed s x o xs (insert s xs)) a
+        by : (o : B s x ⊎ (s ≡ x) ⊎ B x s) → (s ≡ a) ⊎ Member (x ∷ xs) a
+            → ((s ≡ a) ⊎ Member xs a → Member (insert s xs) a)
+            → Member (placed s x o xs (insert s xs)) a
         by (inl b) m again = m
         by (inr (inl e)) (inl f) again = inl (sym e ∙ f)
         by (inr (inl e)) (inr m) again = m
@@ -102,7 +105,7 @@ module _ {S : Type 0} (B : S → S → Type 0) where
     sorted [] = []
     sorted (x ∷ xs) = insert x (sorted xs)
 
-    pub sorted_has : (xs : List S) (a : S) → Mem xs a → Mem (sorted xs) a
+    pub sorted_has : (xs : List S) (a : S) → Member xs a → Member (sorted xs) a
     sorted_has [] a m = absurd m
     sorted_has (x ∷ xs) a (inl e) = insert_has x (sorted xs) a (inl e)
     sorted_has (x ∷ xs) a (inr m) = insert_has x (sorted xs) a (inr (sorted_has xs a m))

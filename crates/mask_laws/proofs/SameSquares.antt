@@ -1,8 +1,7 @@
 -- What the covered squares alone tell: covers that agree on each square draw the same networks and break the same
 -- rules.
-use Rattle.std.proofs.Common.{ℕ, inl, inr, List, [], ◌∷◌, Option, Some, None}
+use Rattle.std.proofs.Common.{ℕ, inl, inr, List, Option, Some, None}
 use Rattle.std.specs.Prelude.{ℤ}
-use Rattle.std.specs.List.{AllZip}
 use Rattle.lam_geom.specs.declared.layer.Layer.{Layer}
 use Rattle.lam_geom.specs.declared.layer.Layer.TheVariants.{ND, NP, NC, NM, NI, NB, NG}
 use Rattle.lam_geom.specs.declared.label.FlatLabel.{FlatLabel}
@@ -14,11 +13,13 @@ use Rattle.switch_net.specs.declared.network.Tag.{Tag}
 use Rattle.switch_net.specs.declared.network.Network.{Network}
 use Rattle.mp_base.specs.declared.pad.Pads.{Pads}
 use Rattle.mp_base.specs.declared.refusal.Broken.{Broken}
+use Rattle.mp_base.proofs.Zips.{zip_map}
 use Rattle.switch_net.specs.Classes.{AreClasses}
 use Rattle.switch_net.specs.Conductors.{IsChannel, ConductsOn, Conducts, Joined, IsChannelSquare}
 use Rattle.switch_net.specs.Conductors.Joined.{beside, contact}
 use Rattle.switch_net.specs.Labels.{IsFirst, IsNamed, Names}
-use Rattle.switch_net.specs.Drawn.{AreNodes, IsOfNode, AreRegions, IsOfChannel, IsEnd, IsKind, IsChannelAt, IsTag, IsNetwork}
+use Rattle.switch_net.specs.Drawn.{AreNodes, IsOfNode, AreRegions, IsOfChannel, IsEnd, IsKind, IsChannelAt, IsTag}
+use Rattle.switch_net.specs.Drawn.{IsNetwork}
 use Rattle.switch_net.specs.Breaks.{IsOnTwoNodes, IsOnNothing, AreTooMany, BreaksAt, IsFirstOfMask, IsSoundMask}
 use Rattle.switch_net.specs.Breaks.BreaksAt.{one, two}
 use Rattle.switch_net.specs.Breaks.IsFirstOfMask.{n1, n2, n3, n5}
@@ -26,10 +27,10 @@ use Rattle.lam_geom.proofs.Chains.{map_chain}
 use Rattle.lam_geom.proofs.Adjoins.{adjoin_map}
 use Rattle.mask_laws.specs.Laws.{NetworkBySquares, FirstBySquares, SoundBySquares}
 
-abbrev Covers : Type 1
+abbrev pub Covers : Type 1
 Covers = Layer → ℤ → ℤ → Type 0
 
-turn : (c d : Covers) → SameSquares c d → SameSquares d c
+pub turn : (c d : Covers) → SameSquares c d → SameSquares d c
 turn c d e l x y = ((e l x y).1, (e l x y).0)
 
 channel : (c d : Covers) → SameSquares c d → (x y : ℤ) → IsChannel c x y → IsChannel d x y
@@ -64,7 +65,7 @@ joined c d e s t (contact j) =
       by = elim j.by [ inl a ↦ inl ((e NC s.x s.y).0 a) | inr b ↦ inr ((e NB s.x s.y).0 b.0, b.1, b.2) ];
     })
 
-channel_square : (c d : Covers) → SameSquares c d → (s : Square) → IsChannelSquare c s → IsChannelSquare d s
+pub channel_square : (c d : Covers) → SameSquares c d → (s : Square) → IsChannelSquare c s → IsChannelSquare d s
 channel_square c d e s h = (h.0, channel c d e s.x s.y h.1)
 
 abbrev Neighbours : Covers → Square → Square → Type 0
@@ -97,7 +98,7 @@ of_node : (c d : Covers) → SameSquares c d → (ns : List Square) (k : ℕ) (s
     → IsOfNode d ns k s
 of_node c d e ns k s h = (h.0, map_chain (joined c d e) h.1)
 
-of_channel : (c d : Covers) → SameSquares c d → (r s : Square) → IsOfChannel c r s → IsOfChannel d r s
+pub of_channel : (c d : Covers) → SameSquares c d → (r s : Square) → IsOfChannel c r s → IsOfChannel d r s
 of_channel c d e r s h = record { is = channel_square c d e s h.is; chain = map_chain (neighbours c d e) h.chain }
 
 end : (c d : Covers) → SameSquares c d → (r t : Square) → IsEnd c r t → IsEnd d r t
@@ -109,7 +110,7 @@ end c d e r t h = record {
   beside = h.beside;
 }
 
-kind : (c d : Covers) → SameSquares c d → (r : Square) (k : ChannelKind) → IsKind c r k → IsKind d r k
+pub kind : (c d : Covers) → SameSquares c d → (r : Square) (k : ChannelKind) → IsKind c r k → IsKind d r k
 kind c d e r Enhancement h = λ s o i. h s (of_channel d c (turn c d e) r s o) ((e NI s.x s.y).1 i)
 kind c d e r Depletion h = λ s o. (e NI s.x s.y).0 (h s (of_channel d c (turn c d e) r s o))
 kind c d e r Partial h = (
@@ -150,13 +151,6 @@ tagged c d e ns label t h = record {
   names = names c d e label h.square h.names;
   node = of_node c d e ns t.node h.square h.node;
 }
-
-zip_map : {A B : Type 0} (R Q : A → B → Type 0) → ((a : A) (b : B) → R a b → Q a b) → (xs : List A) (ys : List B)
-    → AllZip R xs ys → AllZip Q xs ys
-zip_map R Q f [] [] h = tt
-zip_map R Q f [] (y ∷ ys) h = h
-zip_map R Q f (x ∷ xs) [] h = h
-zip_map R Q f (x ∷ xs) (y ∷ ys) h = (f x y h.0, zip_map R Q f xs ys h.1)
 
 network : (c d : Covers) → SameSquares c d → (labels : List FlatLabel) (net : Network) → IsNetwork c labels net
     → IsNetwork d labels net

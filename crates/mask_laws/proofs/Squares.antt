@@ -1,8 +1,10 @@
 -- The squares that finitely many rectangles cover, and tests of them.
-use Rattle.std.proofs.Common.{ℕ, zero, suc, ◌≡◌, ◌<◌, ◌⊎◌, inl, inr, refl, sym, subst, ap, arith, List, [], ◌∷◌, ◌++◌}
+use Rattle.std.proofs.Common.{ℕ, zero, suc, ◌≡◌, ◌⊎◌, inl, inr, refl, sym, subst, ap, arith, List, [], ◌∷◌, ◌++◌}
 use Rattle.std.specs.Prelude.{ℤ, pos, negsuc, ◌+ℤ◌, ◌-ℤ◌, ◌≤ℤ◌, ◌<ℤ◌, nat_abs}
 use Rattle.std.proofs.lemmas.Int.{ints, by_lt_z}
 use Rattle.std.proofs.lemmas.Bool.{cases_eq}
+use Rattle.mp_base.proofs.Decisions.{Decided, both_of, one_of, not_so, same_claim, is_integer, is_at_most, is_less}
+use Rattle.mp_base.proofs.Members.{Member}
 use Rattle.lam_geom.specs.declared.layer.Layer.{Layer}
 use Rattle.lam_geom.specs.declared.layer.Layer.TheVariants.{ND, NP, NC, NM, NI, NB, NG}
 use Rattle.lam_geom.specs.declared.rect.Rect.{Rect}
@@ -14,40 +16,28 @@ use Rattle.mask_laws.specs.Laws.{NumberingExists}
 use Rattle.lam_geom.proofs.Adjoins.{adjoin_flip}
 use Rattle.lam_geom.proofs.SquareOrder.{of_ranks, same_square, before_then, before_total, before_asymmetric}
 use Rattle.switch_net.proofs.Joins.{join_flip, join_ends}
-use Rattle.mask_laws.proofs.Decided.{Decided, both, one_of, not_so, told_by, Mem}
 use Rattle.mask_laws.proofs.Ordered.{Rises, keep, keep_in, keep_has, keep_rises, sorted, sorted_has, sorted_rises}
 use Rattle.mask_laws.proofs.Classes.{classes_exist}
 
 -- ---- numbers and layers
-
-pub int_same : (a b : ℤ) → Decided (a ≡ b)
-int_same a b =
-    by_lt_z a b (λ lt. inr (λ e. omega (arith, ints)))
-    (λ le. by_lt_z b a (λ lt. inr (λ e. omega (arith, ints))) (λ ge. inl (omega (arith, ints))))
-
-le_told : (a b : ℤ) → Decided (a ≤ℤ b)
-le_told a b = by_lt_z b a (λ lt. inr (λ e. omega (arith, ints))) (λ le. inl le)
-
-lt_told : (a b : ℤ) → Decided (a <ℤ b)
-lt_told a b = by_lt_z a b (λ lt. inl lt) (λ le. inr (λ e. omega (arith, ints)))
 
 pub layer_same : (l m : Layer) → Decided (l ≡ m)
 layer_same l m = elim (cases_eq (rank l) (rank m)) [ inl e ↦ inl (of_ranks l m e) | inr n ↦ inr (λ e. n (ap rank e)) ]
 
 pub square_same : (s t : Square) → Decided (s ≡ t)
 square_same s t =
-    told_by (λ h. same_square s t h.0 h.1.0 h.1.1)
+    same_claim (both_of (layer_same s.layer t.layer) (both_of (is_integer s.x t.x) (is_integer s.y t.y)))
+    (λ h. same_square s t h.0 h.1.0 h.1.1)
     (λ e. (ap (λ (q : Square). q.layer) e, (ap (λ (q : Square). q.x) e, ap (λ (q : Square). q.y) e)))
-    (both (layer_same s.layer t.layer) (both (int_same s.x t.x) (int_same s.y t.y)))
 
 -- ---- what is covered
 
 covers_told : (r : Rect) (l : Layer) (x y : ℤ) → Decided (Covers r l x y)
 covers_told r l x y =
-    told_by (λ h. record { same = h.0; left = h.1.0; right = h.1.1.0; bottom = h.1.1.1.0; top = h.1.1.1.1 })
+    same_claim (both_of (layer_same r.layer l)
+    (both_of (is_at_most r.x0 x) (both_of (is_less x r.x1) (both_of (is_at_most r.y0 y) (is_less y r.y1)))))
+    (λ h. record { same = h.0; left = h.1.0; right = h.1.1.0; bottom = h.1.1.1.0; top = h.1.1.1.1 })
     (λ c. (c.same, (c.left, (c.right, (c.bottom, c.top)))))
-    (both (layer_same r.layer l)
-    (both (le_told r.x0 x) (both (lt_told x r.x1) (both (le_told r.y0 y) (lt_told y r.y1)))))
 
 pub covered_told : (rs : List Rect) (l : Layer) (x y : ℤ) → Decided (covered rs l x y)
 covered_told [] l x y = inr (λ h. h)
@@ -55,14 +45,14 @@ covered_told (r ∷ rs) l x y = one_of (covers_told r l x y) (covered_told rs l 
 
 pub share_told : (s t : Square) → Decided (ShareEdge s t)
 share_told s t = one_of
-    (both (int_same s.y t.y) (one_of (int_same t.x (s.x +ℤ pos 1)) (int_same s.x (t.x +ℤ pos 1))))
-    (both (int_same s.x t.x) (one_of (int_same t.y (s.y +ℤ pos 1)) (int_same s.y (t.y +ℤ pos 1))))
+    (both_of (is_integer s.y t.y) (one_of (is_integer t.x (s.x +ℤ pos 1)) (is_integer s.x (t.x +ℤ pos 1))))
+    (both_of (is_integer s.x t.x) (one_of (is_integer t.y (s.y +ℤ pos 1)) (is_integer s.y (t.y +ℤ pos 1))))
 
 pub adjoin_told : (Is : Square → Type 0) → ((s : Square) → Decided (Is s)) → (s t : Square) → Decided (Adjoin Is s t)
 adjoin_told Is t a b =
-    told_by (λ h. record { from = h.0; to = h.1.0; same = h.1.1.0; beside = h.1.1.1 })
+    same_claim (both_of (t a) (both_of (t b) (both_of (layer_same a.layer b.layer) (share_told a b))))
+    (λ h. record { from = h.0; to = h.1.0; same = h.1.1.0; beside = h.1.1.1 })
     (λ j. (j.from, (j.to, (j.same, j.beside))))
-    (both (t a) (both (t b) (both (layer_same a.layer b.layer) (share_told a b))))
 
 module _ (rs : List Rect) where
   abbrev c : Layer → ℤ → ℤ → Type 0
@@ -70,14 +60,14 @@ module _ (rs : List Rect) where
 
   channel_told : (x y : ℤ) → Decided (IsChannel c x y)
   channel_told x y =
-      told_by (λ h. record { gate = h.0; diffusion = h.1.0; unburied = h.1.1 })
+      same_claim (both_of (covered_told rs NP x y) (both_of (covered_told rs ND x y) (not_so (covered_told rs NB x y))))
+      (λ h. record { gate = h.0; diffusion = h.1.0; unburied = h.1.1 })
       (λ k. (k.gate, (k.diffusion, k.unburied)))
-      (both (covered_told rs NP x y) (both (covered_told rs ND x y) (not_so (covered_told rs NB x y))))
 
   pub on_told : (l : Layer) (x y : ℤ) → Decided (ConductsOn c l x y)
   on_told NM x y = covered_told rs NM x y
   on_told NP x y = covered_told rs NP x y
-  on_told ND x y = both (covered_told rs ND x y) (not_so (channel_told x y))
+  on_told ND x y = both_of (covered_told rs ND x y) (not_so (channel_told x y))
   on_told NC x y = inr (λ h. h)
   on_told NI x y = inr (λ h. h)
   on_told NB x y = inr (λ h. h)
@@ -88,16 +78,17 @@ module _ (rs : List Rect) where
 
   contact_told : (s t : Square) → Decided (Contact c s t)
   contact_told s t =
-      told_by (λ h. record { from = h.0; to = h.1.0; x = h.1.1.0; y = h.1.1.1.0; by = h.1.1.1.1 })
-      (λ k. (k.from, (k.to, (k.x, (k.y, k.by)))))
-      (both (conducts_told s) (both (conducts_told t) (both (int_same s.x t.x) (both (int_same s.y t.y)
+      same_claim
+      (both_of (conducts_told s) (both_of (conducts_told t) (both_of (is_integer s.x t.x) (both_of (is_integer s.y t.y)
       (one_of (covered_told rs NC s.x s.y)
-      (told_by (λ h. (h.0, h.1.0, h.1.1)) (λ h. (h.0, (h.1, h.2)))
-      (both (covered_told rs NB s.x s.y)
-      (both (not_so (layer_same s.layer NM)) (not_so (layer_same t.layer NM))))))))))
+      (same_claim (both_of (covered_told rs NB s.x s.y)
+      (both_of (not_so (layer_same s.layer NM)) (not_so (layer_same t.layer NM)))) (λ h. (h.0, h.1.0, h.1.1))
+      (λ h. (h.0, (h.1, h.2)))))))))
+      (λ h. record { from = h.0; to = h.1.0; x = h.1.1.0; y = h.1.1.1.0; by = h.1.1.1.1 })
+      (λ k. (k.from, (k.to, (k.x, (k.y, k.by)))))
 
   pub joined_told : (s t : Square) → Decided (Joined c s t)
-  joined_told s t = told_by to from (one_of (adjoin_told (Conducts c) conducts_told s t) (contact_told s t))
+  joined_told s t = same_claim (one_of (adjoin_told (Conducts c) conducts_told s t) (contact_told s t)) to from
     where
       to : Adjoin (Conducts c) s t ⊎ Contact c s t → Joined c s t
       to (inl j) = beside j
@@ -108,7 +99,7 @@ module _ (rs : List Rect) where
       from (contact j) = inr j
 
   pub channel_square_told : (s : Square) → Decided (IsChannelSquare c s)
-  channel_square_told s = both (layer_same s.layer NP) (channel_told s.x s.y)
+  channel_square_told s = both_of (layer_same s.layer NP) (channel_told s.x s.y)
 
 -- ---- the squares, listed
 
@@ -116,10 +107,10 @@ run : ℤ → ℕ → List ℤ
 run x zero = []
 run x (suc n) = x ∷ run (x +ℤ pos 1) n
 
-run_has : (x : ℤ) (n : ℕ) (z : ℤ) → x ≤ℤ z → z <ℤ (x +ℤ pos n) → Mem (run x n) z
+run_has : (x : ℤ) (n : ℕ) (z : ℤ) → x ≤ℤ z → z <ℤ (x +ℤ pos n) → Member (run x n) z
 unfolding run
 run_has x zero z le lt = absurd (omega (arith, ints, le, lt))
-run_has x (suc n) z le lt = elim (int_same x z) [
+run_has x (suc n) z le lt = elim (is_integer x z) [
   | inl e ↦ inl e
   | inr ne ↦ inr (run_has (x +ℤ pos 1) n z
       (by_lt_z x z (λ l. omega (arith, ints, l)) (λ g. absurd (ne (omega (arith, ints, le, g)))))
@@ -137,12 +128,12 @@ grid : List ℤ → List ℤ → List Square
 grid xs [] = []
 grid xs (y ∷ ys) = row xs y ++ grid xs ys
 
-mem_left : (xs ys : List Square) (a : Square) → Mem xs a → Mem (xs ++ ys) a
+mem_left : (xs ys : List Square) (a : Square) → Member xs a → Member (xs ++ ys) a
 mem_left [] ys a m = absurd m
 mem_left (x ∷ xs) ys a (inl e) = inl e
 mem_left (x ∷ xs) ys a (inr m) = inr (mem_left xs ys a m)
 
-mem_right : (xs ys : List Square) (a : Square) → Mem ys a → Mem (xs ++ ys) a
+mem_right : (xs ys : List Square) (a : Square) → Member ys a → Member (xs ++ ys) a
 mem_right [] ys a m = m
 mem_right (x ∷ xs) ys a m = inr (mem_right xs ys a m)
 
@@ -150,7 +141,7 @@ mem_right (x ∷ xs) ys a m = inr (mem_right xs ys a m)
 abbrev Metallic : Layer → Type 0
 Metallic l = (l ≡ NM) ⊎ (l ≡ NP) ⊎ (l ≡ ND)
 
-row_has : (xs : List ℤ) (l : Layer) (x y : ℤ) → Metallic l → Mem xs x → Mem (row xs y) (at l x y)
+row_has : (xs : List ℤ) (l : Layer) (x y : ℤ) → Metallic l → Member xs x → Member (row xs y) (at l x y)
 unfolding row
 row_has [] l x y k m = absurd m
 row_has (z ∷ xs) l x y (inl e) (inl f) = inl (λ i. at (sym e i) (f i) y)
@@ -158,11 +149,13 @@ row_has (z ∷ xs) l x y (inr (inl e)) (inl f) = inr (inl (λ i. at (sym e i) (f
 row_has (z ∷ xs) l x y (inr (inr e)) (inl f) = inr (inr (inl (λ i. at (sym e i) (f i) y)))
 row_has (z ∷ xs) l x y k (inr m) = inr (inr (inr (row_has xs l x y k m)))
 
-grid_has : (xs ys : List ℤ) (l : Layer) (x y : ℤ) → Metallic l → Mem xs x → Mem ys y → Mem (grid xs ys) (at l x y)
+grid_has : (xs ys : List ℤ) (l : Layer) (x y : ℤ) → Metallic l → Member xs x → Member ys y
+    → Member (grid xs ys) (at l x y)
 unfolding grid
 grid_has xs [] l x y k m n = absurd n
 grid_has xs (z ∷ ys) l x y k m (inl e) =
-    mem_left (row xs z) (grid xs ys) (at l x y) (subst (λ w. Mem (row xs w) (at l x y)) (sym e) (row_has xs l x y k m))
+    mem_left (row xs z) (grid xs ys) (at l x y)
+    (subst (λ w. Member (row xs w) (at l x y)) (sym e) (row_has xs l x y k m))
 grid_has xs (z ∷ ys) l x y k m (inr n) = mem_right (row xs z) (grid xs ys) (at l x y) (grid_has xs ys l x y k m n)
 
 size_of : (a b z : ℤ) → a ≤ℤ z → z <ℤ b → z <ℤ (a +ℤ pos (nat_abs (b -ℤ a)))
@@ -175,7 +168,7 @@ size_of a b z le lt = go (b -ℤ a) refl
 squares_in : Rect → List Square
 squares_in r = grid (run r.x0 (nat_abs (r.x1 -ℤ r.x0))) (run r.y0 (nat_abs (r.y1 -ℤ r.y0)))
 
-in_rect : (r : Rect) (l m : Layer) (x y : ℤ) → Covers r m x y → Metallic l → Mem (squares_in r) (at l x y)
+in_rect : (r : Rect) (l m : Layer) (x y : ℤ) → Covers r m x y → Metallic l → Member (squares_in r) (at l x y)
 unfolding squares_in
 in_rect r l m x y h k =
     grid_has (run r.x0 (nat_abs (r.x1 -ℤ r.x0))) (run r.y0 (nat_abs (r.y1 -ℤ r.y0))) l x y k
@@ -186,7 +179,7 @@ pub squares : List Rect → List Square
 squares [] = []
 squares (r ∷ rs) = squares_in r ++ squares rs
 
-in_squares : (rs : List Rect) (l m : Layer) (x y : ℤ) → covered rs m x y → Metallic l → Mem (squares rs) (at l x y)
+in_squares : (rs : List Rect) (l m : Layer) (x y : ℤ) → covered rs m x y → Metallic l → Member (squares rs) (at l x y)
 unfolding squares
 in_squares [] l m x y h k = absurd h
 in_squares (r ∷ rs) l m x y (inl h) k = mem_left (squares_in r) (squares rs) (at l x y) (in_rect r l m x y h k)
@@ -204,7 +197,7 @@ module _ (rs : List Rect) where
   abbrev pub channels : List Square
   channels = keep Before (IsChannelSquare (covered rs)) (channel_square_told rs) listed
 
-  conducts_listed : (l : Layer) (x y : ℤ) → ConductsOn (covered rs) l x y → Mem listed (at l x y)
+  conducts_listed : (l : Layer) (x y : ℤ) → ConductsOn (covered rs) l x y → Member listed (at l x y)
   conducts_listed NM x y h =
       sorted_has Before before_then before_total (squares rs) (at NM x y) (in_squares rs NM NM x y h (inl refl))
   conducts_listed NP x y h =
@@ -216,13 +209,13 @@ module _ (rs : List Rect) where
   conducts_listed NB x y h = absurd h
   conducts_listed NG x y h = absurd h
 
-  pub every_conductor : (s : Square) → Conducts (covered rs) s → Mem conducting s
+  pub every_conductor : (s : Square) → Conducts (covered rs) s → Member conducting s
   every_conductor s h =
       keep_has Before (Conducts (covered rs)) (conducts_told rs) listed s (conducts_listed s.layer s.x s.y h) h
 
-  pub every_channel : (s : Square) → IsChannelSquare (covered rs) s → Mem channels s
+  pub every_channel : (s : Square) → IsChannelSquare (covered rs) s → Member channels s
   every_channel s h =
-      let m : Mem listed (at s.layer s.x s.y) =
+      let m : Member listed (at s.layer s.x s.y) =
       sorted_has Before before_then before_total (squares rs) (at s.layer s.x s.y)
       (in_squares rs s.layer NP s.x s.y h.1.gate (inr (inl h.0))) in
       keep_has Before (IsChannelSquare (covered rs)) (channel_square_told rs) listed s m h

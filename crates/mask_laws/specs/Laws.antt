@@ -9,7 +9,8 @@ use Rattle.lam_geom.specs.declared.rect.Rect.{Rect}
 use Rattle.lam_geom.specs.Squares.{Square, covered, SameSquares}
 use Rattle.switch_net.specs.declared.network.Network.{Network}
 use Rattle.switch_net.specs.Drawn.{AreNodes, AreRegions, IsNetwork}
-use Rattle.switch_net.specs.Breaks.{BreaksAt, MeetsDriver, AreTooMany, HasPads, IsFirstOfMask, IsFirstOfCircuit, IsSoundMask}
+use Rattle.switch_net.specs.Breaks.{BreaksAt, MeetsDriver, AreTooMany, HasPads, IsFirstOfMask, IsFirstOfCircuit}
+use Rattle.switch_net.specs.Breaks.{IsSoundMask}
 
 -- a mask has nodes and channels, each in its order
 abbrev pub NumberingExists : Type 0

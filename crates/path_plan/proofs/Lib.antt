@@ -1,5 +1,4 @@
 mod Bytes
-mod Counted
 mod PadCells
 mod Points
 mod Sizes

@@ -11,6 +11,8 @@ use Rattle.fabric.specs.declared.chip.ChipLabel.{ChipLabel}
 use Rattle.fabric.specs.declared.thing.Segment.{Segment}
 use Rattle.fabric.specs.Plan.{Plan, IsFabric}
 use Rattle.fabric.specs.Shape.{shape}
+use Rattle.fabric.specs.Sized.{AreSized, FabricsAreSized}
+use Rattle.fabric.proofs.Bases.{rectangles_counted}
 use Rattle.fabric_extent.specs.Bounds.{SmallFabrics}
 use Rattle.track_assign.specs.declared.packing.Tracks.{Tracks}
 use Rattle.rtl_form.specs.declared.rtl.Rtl.{Rtl}
@@ -29,7 +31,6 @@ use Rattle.path_chips.specs.Ratioed.{PathsAreRatioed}
 use Rattle.path_plan.specs.Paths.{AreLaid, IsChipFor, IsPathFor}
 use Rattle.path_plan.specs.Plans.{IsMeasured}
 use Rattle.path_plan.specs.Sizes.{LabelsAreFew}
-use Rattle.path_plan.proofs.Counted.{rectangles}
 use Rattle.path_plan.proofs.PadCells.{pads_cost}
 use Rattle.path_plan.proofs.Sizes.{all_rows}
 
@@ -84,7 +85,7 @@ module _ (r : Rtl) (p : DataPath) (stands : IsPathFor r p) (control : IsNet p.co
           few_rects =
               subst (λ w. length (chip_rects chip) ≤ most_rects (cost r) w) width_is
               (let m = rects (cost r) p f stands.within laid.sliced in
-              let e = ap length chip_for.alone in let n = rectangles f in omega (arith, m, e, n))
+              let e = ap length chip_for.alone in let n = rectangles_counted f in omega (arith, m, e, n))
 
           few_names : length chip.labels ≤ 64 * cost r + 5
           few_names =
@@ -109,11 +110,12 @@ module _ (r : Rtl) (p : DataPath) (stands : IsPathFor r p) (control : IsNet p.co
             (sym chip_for.fabric) (marked p control slices f laid.sliced lawful);
       }
 
-      pub bounded : SlicedIsSmall → SlicedHasNoUnder → SmallFabrics → PathsAreRatioed
+      pub bounded : SlicedIsSmall → SlicedHasNoUnder → SmallFabrics → FabricsAreSized → PathsAreRatioed
           → IsBounded r (chip_rects chip) chip.labels
-      bounded is_small bare bounds ratio = record {
+      bounded is_small bare bounds sizes ratio = record {
         extent = subst (λ rects. IsAtMost (covered rects) (most_wide (cost r)) (most_high (cost r) r.width))
             (sym chip_for.alone) (extent is_small bare bounds);
+        sized = subst (λ rects. AreSized (covered rects)) (sym chip_for.alone) (sizes f lawful);
         ratioed = λ flat are n is. ratio r p n chip_for.network chip_for.place same_pads control slices
             ((chip_for.laid_out r same_pads flat are).2 n is);
       }

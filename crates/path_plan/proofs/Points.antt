@@ -7,6 +7,8 @@ use Rattle.std.proofs.lemmas.Bool.{eq-eqb, eqb-true, true≢false}
 use Rattle.std.proofs.lemmas.List.Elements.{Contains-append_left, Contains-append_right, Contains-get_or}
 use Rattle.std.proofs.lemmas.Option.{get_or_from_slice_get}
 use Rattle.mp_base.specs.declared.pad.Pad.{Pad}
+use Rattle.mp_base.proofs.Entries.{some_entry}
+use Rattle.mp_base.proofs.Members.{Member, member_contains, member_map, range_members}
 use Rattle.switch_net.specs.declared.network.Network.{Network}
 use Rattle.nor_net.specs.declared.net.NetId.{NetId}
 use Rattle.nor_net.specs.declared.net.Phase.{Phase}
@@ -21,8 +23,7 @@ use Rattle.array_form.specs.Homes.{phase_number}
 use Rattle.array_form.specs.Laying.{band_lines}
 use Rattle.array_form.specs.Lists.{upright}
 use Rattle.array_form.specs.Wires.{place}
-use Rattle.array_form.proofs.Listing.{in_range}
-use Rattle.array_form.proofs.Members.{Member, member_append, member_contains, member_flat, member_map}
+use Rattle.array_form.proofs.Members.{member_append, member_flat}
 use Rattle.path_form.specs.declared.path.DataPath.{DataPath}
 use Rattle.path_form.specs.Showing.{pad_bits, pad_spot}
 use Rattle.slice_form.specs.Joints.{joint_lines, trunk_line}
@@ -34,7 +35,6 @@ use Rattle.slice_chip.specs.Order.{AreInOrder, nowhere, number_at}
 use Rattle.slice_chip.specs.Sliced.{IsSliced}
 use Rattle.chip_laws.specs.Laws.{points}
 use Rattle.chip_laws.specs.Rows.{rows_at}
-use Rattle.chip_laws.proofs.Apart.{entry}
 use Rattle.path_chips.proofs.PadRows.{row_at}
 use Rattle.path_labels.specs.Labels.{AreEntriesOf, IsEntryOf, net_at, points_in}
 use Rattle.path_labels.proofs.Entries.{entry_at, segment_there}
@@ -68,13 +68,13 @@ module _ (p : DataPath) where
       let rows = rows_at pads ids in
       let w = member_flat (λ (row : List Spot). map OfNet row) rows at m in
       let c = member_contains rows w.0 w.1 in
-      let at_row = entry rows c.0 c.1 in
+      let at_row = some_entry rows c.0 c.1 in
       let is : at_row.0 ≡ w.0 = sym (get_or_from_slice_get rows c.0 at_row.0 w.0 at_row.1) ∙ c.2 in
       let r = row_at pads ids c.0 at_row.0 at_row.1 in
       let net = member_map OfNet w.0 at w.2 in
       let bit = member_map (pad_spot r.pad r.id) (range_with_len 0 (pad_bits r.pad)) net.0
       (subst (λ l. Member l net.0) (sym (r.same ∙ is)) net.1) in
-      let lt = (in_range 0 (pad_bits r.pad) bit.0 bit.1).1 in
+      let lt = (range_members 0 (pad_bits r.pad) bit.0 bit.1).1 in
       let here = bit_there r.pad r.id bit.0 (entry_at p pads ids c.0 r.pad r.id fit r.is_pad r.is_id)
       (omega (arith, lt)) in
       subst IsThere (ap OfNet bit.2 ∙ net.2) here

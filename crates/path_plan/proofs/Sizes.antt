@@ -1,13 +1,13 @@
 -- Sums over bands, and how many labels chips have.
 use Rattle.std.proofs.Common.{ℕ, zero, suc, ◌≡◌, ◌+◌, ◌*◌, ◌≤◌, List, [], ◌∷◌, ◌++◌, length, replicate, refl}
 use Rattle.std.proofs.Common.{arith}
-use Rattle.std.specs.Prelude.{codes, flat_map, sum, sum_by}
-use Rattle.std.specs.Fmt.{decimal}
-use Rattle.std.proofs.lemmas.List.{length-append, length_push}
+use Rattle.std.specs.Prelude.{flat_map, sum, sum_by}
+use Rattle.std.proofs.lemmas.List.{length-append}
 use Rattle.std.proofs.lemmas.List.Sums.{sum_by-cons}
 use Rattle.mp_base.specs.declared.pad.Pad.{Pad}
 use Rattle.mp_base.specs.PadNames.{supplies}
-use Rattle.switch_net.specs.Pads.{bit_labels, labels_of, word_labels}
+use Rattle.switch_net.specs.Pads.{bit_labels, labels_of}
+use Rattle.switch_net.proofs.Labels.{length_word_labels}
 use Rattle.track_assign.specs.declared.packing.Tracks.{Tracks}
 use Rattle.path_plan.specs.Sizes.{LabelsAreFew}
 
@@ -34,15 +34,9 @@ all_rows n control slices =
 
 -- ---- labels
 
-word_count : (p : List ℕ) (n : ℕ) → length (word_labels p n) ≡ n
-word_count p zero = refl
-word_count p (suc n) =
-    let i = word_count p n in
-    let a = length_push (word_labels p n) (p ++ (codes "." ++ decimal n)) in omega (arith, i, a)
-
 pad_labels_few : (p : List ℕ) (w : ℕ) → w ≤ 64 → length (labels_of p w) ≤ 64
 pad_labels_few p zero h = omega arith
-pad_labels_few p (suc w) h = let c = word_count p (suc w) in omega (arith, c, h)
+pad_labels_few p (suc w) h = let c = length_word_labels p (suc w) in omega (arith, c, h)
 
 pads_labels_few : (pads : List Pad) → length (flat_map bit_labels pads) ≤ 64 * length pads
 pads_labels_few [] = omega arith

@@ -4,6 +4,7 @@ use Rattle.std.proofs.Common.{arith}
 use Rattle.std.specs.Prelude.{All, AllPairs}
 use Rattle.std.specs.List.{AllZip}
 use Rattle.mp_base.specs.declared.pad.Pads.{Pads}
+use Rattle.mp_base.proofs.Members.{Member}
 use Rattle.lam_geom.specs.declared.rect.Rect.{Rect}
 use Rattle.switch_net.specs.declared.limits.TheConstants.{MOST_NODES_AND_CHANNELS}
 use Rattle.switch_net.specs.declared.network.Network.{Network}
@@ -16,7 +17,6 @@ use Rattle.fabric.specs.Plan.{Plan, IsFabric}
 use Rattle.fabric.specs.Shape.{shape}
 use Rattle.fabric.specs.Switches.{AreSwitches, Net}
 use Rattle.rtl_form.specs.declared.rtl.Rtl.{Rtl}
-use Rattle.array_form.proofs.Members.{Member}
 use Rattle.path_form.specs.declared.path.DataPath.{DataPath}
 use Rattle.path_form.specs.Showing.{path_nets}
 use Rattle.slice_chip.specs.Drawn.{DrawsSliced}

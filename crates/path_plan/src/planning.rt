@@ -10,6 +10,7 @@ ghost use Rattle.path_plan.specs.Plans.{IsMeasured};
 
 use crate::chips::chip_of;
 use crate::laws::labels_are_few;
+use fabric::laws::channels_are_sized;
 use fabric::{Chip, Fabric};
 use fabric_extent::laws::small_fabrics_are_small;
 use mp_base::{List, NoMemory};
@@ -81,6 +82,7 @@ pub fn planned_of(
     sliced_has_groups();
     ends_are_marked();
     small_fabrics_are_small();
+    channels_are_sized();
     // What every net and every fabric keeps.
     let _control = path.control.len();
     let _slices = path.slices.net.len();
