@@ -1,9 +1,9 @@
 -- What is left at a cursor is the command there, and what is left behind it.
 use Rattle.std.proofs.Common.{ℕ, suc, ◌≡◌, ◌+◌, ◌<◌, ◌≤◌, sym, ◌∙◌, ap, subst, arith, true, false, cond}
 use Rattle.std.proofs.Common.{List, [], ◌∷◌, ◌++◌, map, length, drop, get_or, drop-cons, append_assoc, Some}
-use Rattle.std.specs.Prelude.{pos, slice_get, Result, Ok, Err, IfOk}
+use Rattle.std.specs.Prelude.{ℤ, pos, slice_get, Result, Ok, Err, IfOk}
 use Rattle.std.specs.List.{flat_map}
-use Rattle.std.proofs.lemmas.List.{drop_all, map-append, append-nil}
+use Rattle.std.proofs.lemmas.List.{append-nil, drop_all, get_or_default, map-append}
 use Rattle.std.proofs.lemmas.Option.{slice_get-get_or, get_or_from_slice_get}
 use Rattle.mp_base.specs.declared.refusal.NoMemory.{NoMemory}
 use Rattle.lam_geom.specs.declared.layer.Layer.{Layer}
@@ -14,9 +14,12 @@ use Rattle.cif_form.specs.declared.command.Item.{Item}
 use Rattle.cif_form.specs.Place.{layer_name}
 use Rattle.cif_writer.specs.Texts.{commands_of}
 use Rattle.fabric.specs.declared.chip.ChipLabel.{ChipLabel}
-use Rattle.cif_emit.specs.Commands.{layers, is_on, drawn_on, box_of, layer_commands, box_commands, label_of, chip_commands}
-use Rattle.cif_emit.specs.Emitted.{IsEmitted}
-use Rattle.cif_emit.specs.Rest.{rest_of_symbol, behind_symbol, IsNextOn, IsNextLayer}
+use Rattle.slice_symbols.specs.declared.symbols.Symbol.{Symbol}
+use Rattle.cif_emit.specs.Commands.{layers, is_on, drawn_on, box_of, layer_commands, box_commands, label_of}
+use Rattle.cif_emit.specs.Commands.{chip_commands}
+use Rattle.cif_emit.specs.Commands.{all_symbols, call_at, symbol}
+use Rattle.cif_emit.specs.Emitted.{AreCommandsOf, AreSymbolsFor, IsEmitted}
+use Rattle.cif_emit.specs.Rest.{calls_from, from_symbol, no_symbol, rest_of_symbol, symbol_at, IsNextOn, IsNextLayer}
 
 -- ---- the rectangles of a layer
 
@@ -92,7 +95,8 @@ module _ (rs : List Rect) where
         first = same;
       }) h on
 
-  pub none_layer : (ls : List Layer) (start i : ℕ) → ls ≡ layers → length ls ≤ i → boxes_on (drop start layers) ≡ boxes_on (drop i layers)
+  pub none_layer : (ls : List Layer) (start i : ℕ) → ls ≡ layers → length ls ≤ i
+      → boxes_on (drop start layers) ≡ boxes_on (drop i layers)
       → boxes_on (drop start layers) ≡ []
   none_layer ls start i are h same = same ∙ ap boxes_on (drop_all i layers (subst (λ ks. length ks ≤ i) are h))
 
@@ -137,12 +141,60 @@ module _ (rs : List Rect) where
       → map box_of (drawn_on l (drop start rs)) ++ later ≡ later
   no_box_here l start later none = ap (λ rects. map box_of rects ++ later) none
 
--- the start of the symbol, and what is behind it
-pub chip_starts : (rs : List Rect) (labels : List ChipLabel) → chip_commands rs labels
-    ≡ commands.Start (pos 1) (pos 125) (pos 1) ∷ rest_of_symbol 0 rs (behind_symbol labels)
-chip_starts rs labels =
-    ap (λ cs. commands.Start (pos 1) (pos 125) (pos 1) ∷ cs)
-    (append_assoc (box_commands rs) (commands.Finish ∷ []) (behind_symbol labels))
+-- ---- the symbols
+
+-- the first symbol of those from one on
+pub symbols_here : (symbols : List Symbol) (i : ℕ) (labels : List ChipLabel) → i < length symbols
+    → from_symbol i symbols labels ≡ commands.Start (pos (suc i)) (pos 125) (pos 1)
+    ∷ rest_of_symbol 0 (symbol_at symbols i).shapes (calls_from i 0 symbols labels)
+symbols_here symbols i labels h =
+    let s : Symbol = symbol_at symbols i in
+    let number : ℤ = pos (suc i) in
+    let body : List Command = box_commands s.shapes in
+    let head : List Command = map (call_at number) s.heights in
+    let later : List Command = all_symbols (suc (suc i)) (drop (suc i) symbols) in
+    let names : List Command = map label_of labels in
+    ap (λ ss. all_symbols (suc i) ss ++ names) (drop-cons symbols i no_symbol h)
+    ∙ append_assoc (symbol number body ++ head) later names
+    ∙ append_assoc (symbol number body) head (later ++ names)
+    ∙ ap (λ cs. commands.Start number (pos 125) (pos 1) ∷ cs)
+    (append_assoc body (commands.Finish ∷ []) (head ++ (later ++ names)))
+
+-- behind the last are the labels
+pub no_symbol_here : (symbols : List Symbol) (i : ℕ) (labels : List ChipLabel) → length symbols ≤ i
+    → from_symbol i symbols labels ≡ map label_of (drop 0 labels)
+no_symbol_here symbols i labels h = ap (λ ss. all_symbols (suc i) ss ++ map label_of labels) (drop_all i symbols h)
+
+-- the rectangles of a symbol that is read
+pub shapes_here : (symbols : List Symbol) (i : ℕ) (s : Symbol) (rects : List Rect) → i < length symbols
+    → rects ≡ (get_or symbols i s).shapes → rects ≡ (symbol_at symbols i).shapes
+shapes_here symbols i s rects h same =
+    same ∙ ap (λ (t : Symbol). t.shapes) (get_or_default symbols i s no_symbol h)
+
+-- ---- the calls
+
+pub call_here : (symbols : List Symbol) (i at : ℕ) (d : ℤ) (labels : List ChipLabel)
+    → at < length (symbol_at symbols i).heights
+    → calls_from i at symbols labels ≡ call_at (pos (suc i)) (get_or (symbol_at symbols i).heights at d)
+    ∷ calls_from i (at + 1) symbols labels
+call_here symbols i at d labels h =
+    let heights : List ℤ = (symbol_at symbols i).heights in
+    let call : ℤ → Command = call_at (pos (suc i)) in
+    let later : List Command = from_symbol (suc i) symbols labels in
+    let next : suc at ≡ at + 1 = omega arith in
+    ap (λ hs. map call hs ++ later) (drop-cons heights at d h)
+    ∙ ap (λ k. call (get_or heights at d) ∷ (map call (drop k heights) ++ later)) next
+
+pub no_call_here : (symbols : List Symbol) (i at : ℕ) (labels : List ChipLabel)
+    → length (symbol_at symbols i).heights ≤ at
+    → calls_from i at symbols labels ≡ from_symbol (i + 1) symbols labels
+no_call_here symbols i at labels h =
+    let next : suc i ≡ i + 1 = omega arith in
+    ap (λ hs. map (call_at (pos (suc i))) hs ++ from_symbol (suc i) symbols labels)
+    (drop_all at (symbol_at symbols i).heights h)
+    ∙ ap (λ k. from_symbol k symbols labels) next
+
+-- ---- the labels
 
 pub label_here : (labels : List ChipLabel) (i : ℕ) (d : ChipLabel) → i < length labels
     → map label_of (drop i labels) ≡ label_of (get_or labels i d) ∷ map label_of (drop (i + 1) labels)
@@ -175,11 +227,21 @@ pub all_listed : (items : List Item) (left all : List Command) → left ≡ [] �
 all_listed items left all none same =
     sym (append-nil (commands_of items)) ∙ ap (λ cs. commands_of items ++ cs) (sym none) ∙ same
 
+-- what is listed are commands of the chip's symbols
+pub listed_form : (result : Result (List Item) NoMemory) (rects : List Rect) (symbols : List Symbol)
+    (labels own : List ChipLabel) → labels ≡ own
+    → IfOk result (λ cif. commands_of cif ≡ chip_commands symbols labels) → AreSymbolsFor rects own symbols
+    → IfOk result (λ cif. AreCommandsOf rects own (commands_of cif))
+listed_form (Ok cif) rects symbols labels own e same drawing =
+    record { symbols = symbols; drawing = drawing; are = same ∙ ap (chip_commands symbols) e }
+listed_form (Err e) rects symbols labels own _ same drawing = same
+
 -- what is listed draws the chip
-pub listed_drawn : (result : Result (List Item) NoMemory) (rects all : List Rect) (labels own : List ChipLabel)
-    → rects ≡ all → labels ≡ own → IfOk result (λ cif. commands_of cif ≡ chip_commands rects labels)
-    → IsEmitted all own (chip_commands all own) → IfOk result (λ cif. IsEmitted all own (commands_of cif))
-listed_drawn (Ok cif) rects all labels own e f same drawn =
-    let P : List Command → Type 0 = λ cs. IsEmitted all own cs in
-    subst P (sym (same ∙ (λ i. chip_commands (e i) (f i)))) drawn
-listed_drawn (Err e) rects all labels own _ _ same drawn = same
+pub listed_drawn : (result : Result (List Item) NoMemory) (rects : List Rect) (symbols : List Symbol)
+    (labels own : List ChipLabel) → labels ≡ own
+    → IfOk result (λ cif. commands_of cif ≡ chip_commands symbols labels)
+    → IsEmitted rects own (chip_commands symbols own) → IfOk result (λ cif. IsEmitted rects own (commands_of cif))
+listed_drawn (Ok cif) rects symbols labels own e same drawn =
+    let P : List Command → Type 0 = λ cs. IsEmitted rects own cs in
+    subst P (sym (same ∙ ap (chip_commands symbols) e)) drawn
+listed_drawn (Err e) rects symbols labels own _ same drawn = same

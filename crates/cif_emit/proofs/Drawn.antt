@@ -1,7 +1,7 @@
 -- The rectangles of each layer that cover something: all that covers a square, and no more of them than there are.
-use Rattle.std.proofs.Common.{ℕ, zero, suc, ◌≡◌, ◌+◌, ◌≤◌, ◌⊎◌, ◌↔◌, inl, inr, refl, sym, ◌∙◌, ap, subst}
+use Rattle.std.proofs.Common.{ℕ, ◌≡◌, ◌+◌, ◌≤◌, ◌⊎◌, ◌↔◌, inl, inr, refl, sym, ap, subst}
 use Rattle.std.proofs.Common.{arith, Bool, true, false, cond, eqb, ◌&&◌, List, [], ◌∷◌, ◌++◌, length}
-use Rattle.std.proofs.Common.{length-append, eqb-true, eq-eqb, lit≤}
+use Rattle.std.proofs.Common.{length-append, eq-eqb, lit≤}
 use Rattle.std.specs.Prelude.{ℤ, pos, int_lt}
 use Rattle.std.specs.List.{flat_map}
 use Rattle.std.proofs.lemmas.Bool.{cases_Bool, and_parts}
@@ -10,30 +10,9 @@ use Rattle.lam_geom.specs.declared.layer.Layer.{Layer}
 use Rattle.lam_geom.specs.declared.layer.Layer.TheVariants.{ND, NP, NC, NM, NI, NB, NG}
 use Rattle.lam_geom.specs.declared.rect.Rect.{Rect}
 use Rattle.lam_geom.specs.Squares.{Covers, covered, SameSquares, rank}
+use Rattle.lam_geom.proofs.Ranks.{one_layer}
 use Rattle.cif_emit.specs.Emittable.{IsSolid}
 use Rattle.cif_emit.specs.Commands.{layers, is_on, drawn_on}
-
-by_rank : ℕ → Layer
-by_rank zero = NM
-by_rank (suc zero) = NP
-by_rank (suc (suc zero)) = ND
-by_rank (suc (suc (suc zero))) = NC
-by_rank (suc (suc (suc (suc zero)))) = NI
-by_rank (suc (suc (suc (suc (suc zero))))) = NB
-by_rank (suc (suc (suc (suc (suc (suc n)))))) = NG
-
-rank_back : (l : Layer) → by_rank (rank l) ≡ l
-unfolding by_rank
-rank_back ND = refl
-rank_back NP = refl
-rank_back NC = refl
-rank_back NM = refl
-rank_back NI = refl
-rank_back NB = refl
-rank_back NG = refl
-
-pub one_layer : (a b : Layer) → eqb (rank a) (rank b) ≡ true → a ≡ b
-one_layer a b h = sym (rank_back a) ∙ ap by_rank (eqb-true (rank a) (rank b) h) ∙ rank_back b
 
 pub one_layer_on : (l : Layer) (r : Rect) → is_on l r ≡ true → r.layer ≡ l
 one_layer_on l r h = one_layer r.layer l (and_parts (eqb (rank r.layer) (rank l))
@@ -65,7 +44,7 @@ solid : (r : Rect) (l : Layer) (x y : ℤ) → Covers r l x y → IsSolid r
 solid r l x y c = let a = c.left in let b = c.right in let d = c.bottom in let e = c.top in
     record { wide = omega (arith, ints); high = omega (arith, ints) }
 
-covered-append : (rs qs : List Rect) (l : Layer) (x y : ℤ)
+pub covered-append : (rs qs : List Rect) (l : Layer) (x y : ℤ)
     → covered (rs ++ qs) l x y ↔ (covered rs l x y ⊎ covered qs l x y)
 covered-append [] qs l x y = (λ c. inr c, λ c. elim c [ inl e ↦ absurd e | inr q ↦ q ])
 covered-append (r ∷ rs) qs l x y = let i = covered-append rs qs l x y in (

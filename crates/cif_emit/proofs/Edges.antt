@@ -6,10 +6,11 @@ use Rattle.std.proofs.lemmas.Int.{ints, quot-rem, rem_below, fits_signed_from_ab
 use Rattle.std.proofs.lemmas.List.Elements.{All-nil, All-cons}
 use Rattle.lam_geom.specs.declared.layer.Layer.{Layer}
 use Rattle.lam_geom.specs.declared.rect.Rect.{Rect}
-use Rattle.lam_geom.specs.Moves.{IsNear, IsNearRect}
+use Rattle.lam_geom.specs.Moves.{IsNear, IsNearRect, shifted}
 use Rattle.cif_form.specs.Text.{right}
 use Rattle.cif_form.specs.Fits.{Fits, IsSmall}
 use Rattle.cif_form.specs.Place.{Scale, IsScaled, HasEdges}
+use Rattle.slice_symbols.specs.Heights.{raised}
 use Rattle.cif_emit.specs.Emittable.{IsOnGrid, IsOnLambda, IsSolid}
 use Rattle.cif_emit.specs.Commands.{box_of}
 
@@ -72,8 +73,8 @@ center_small x y long center s f g = let a = s.low in let b = s.high in omega (a
 scaled : (z x w : ℤ) → z ≡ x → x ≡ pos 125 *ℤ w → IsScaled half_lambda w z
 scaled z x w e f = (omega (arith, ints), omega (arith, ints))
 
-near : (z x w : ℤ) → pos 1 *ℤ z ≡ pos 125 *ℤ w → x ≡ pos 125 *ℤ w → IsSmall x → IsNear z
-near z x w e f s = (omega (arith, ints), omega (arith, ints))
+equal : (z x w : ℤ) → pos 1 *ℤ z ≡ pos 125 *ℤ w → x ≡ pos 125 *ℤ w → z ≡ x
+equal z x w e f = omega (arith, ints)
 
 not_upright : right.x ≡ pos 0 → ⊥
 not_upright e = let f : pos 1 ≡ pos 0 = e in cc
@@ -156,18 +157,23 @@ module _ (r : Rect) (grid : IsOnGrid r) where
         ),
       )
 
-  -- whatever the box draws is near
-  pub box_near : (l : Layer) (q : Rect) → HasEdges half_lambda l (box_of r) (q ∷ []) → IsNearRect q
-  box_near l q (p, e, inl h) =
+  -- what the box draws, whatever its layer, is near where the rectangle is
+  pub box_near : (h : ℤ) (l : Layer) (q : Rect) → IsNearRect (raised h r) → HasEdges half_lambda l (box_of r) (q ∷ [])
+      → IsNearRect (raised h q)
+  unfolding shifted
+  box_near h l q near (p, e, inl t) =
       let long : ℤ = int_div (r.x1 -ℤ r.x0) (pos 250) in let wide : ℤ = int_div (r.y1 -ℤ r.y0) (pos 250) in
       let x : ℤ = int_div (r.x0 +ℤ r.x1) (pos 500) in let y : ℤ = int_div (r.y0 +ℤ r.y1) (pos 500) in
-      let a = x_span in let b = y_span in let c = h.2 in
-      let g0 = grid.x0 in let g1 = grid.x1 in let h0 = grid.y0 in let h1 = grid.y1 in
+      let a = x_span in let b = y_span in let c = t.2 in
       let same : q ≡ p = cc in
-      subst IsNearRect (sym same) (record {
-        x0 = near p.x0 r.x0 (pos 2 *ℤ x -ℤ long) c.left.1 a.low g0.small;
-        y0 = near p.y0 r.y0 (pos 2 *ℤ y -ℤ wide) c.bottom.1 b.low h0.small;
-        x1 = near p.x1 r.x1 (pos 2 *ℤ x +ℤ long) c.right.1 a.high g1.small;
-        y1 = near p.y1 r.y1 (pos 2 *ℤ y +ℤ wide) c.top.1 b.high h1.small;
+      let x0 = equal p.x0 r.x0 (pos 2 *ℤ x -ℤ long) c.left.1 a.low in
+      let y0 = equal p.y0 r.y0 (pos 2 *ℤ y -ℤ wide) c.bottom.1 b.low in
+      let x1 = equal p.x1 r.x1 (pos 2 *ℤ x +ℤ long) c.right.1 a.high in
+      let y1 = equal p.y1 r.y1 (pos 2 *ℤ y +ℤ wide) c.top.1 b.high in
+      subst (λ z. IsNearRect (raised h z)) (sym same) (record {
+        x0 = subst (λ z. IsNear (z +ℤ pos 0)) (sym x0) near.x0;
+        y0 = subst (λ z. IsNear (z +ℤ h)) (sym y0) near.y0;
+        x1 = subst (λ z. IsNear (z +ℤ pos 0)) (sym x1) near.x1;
+        y1 = subst (λ z. IsNear (z +ℤ h)) (sym y1) near.y1;
       })
-  box_near l q (p, e, inr h) = absurd (not_upright h.0)
+  box_near h l q near (p, e, inr t) = absurd (not_upright t.0)

@@ -1,25 +1,23 @@
--- What the commands of a chip draw, their labels, and how many walked items they are.
-use Rattle.std.proofs.Common.{ℕ, ◌≡◌, ◌+◌, refl, sym, ◌∙◌, ap, subst, arith, List, [], ◌∷◌, ◌++◌, map, length}
-use Rattle.std.proofs.Common.{append_assoc, Option, None, All}
-use Rattle.std.specs.Prelude.{ℤ, pos}
-use Rattle.std.proofs.lemmas.Int.{ints}
-use Rattle.std.proofs.lemmas.List.{append-nil}
+-- What boxes in a symbol draw, and labels; and how many walked items they are.
+use Rattle.std.proofs.Common.{ℕ, refl, subst, arith, List, [], ◌∷◌, map, length}
+use Rattle.std.proofs.Common.{Option, None, All}
+use Rattle.std.specs.Prelude.{ℤ}
 use Rattle.std.proofs.lemmas.List.Elements.{All-nil, All-cons, All-head, All-tail}
 use Rattle.lam_geom.specs.declared.layer.Layer.{Layer}
 use Rattle.lam_geom.specs.declared.rect.Rect.{Rect}
 use Rattle.lam_geom.specs.declared.label.FlatLabel.{FlatLabel}
 use Rattle.cif_form.specs.declared.command.Command.{Command}
 use Rattle.cif_form.specs.declared.command.Command.TheVariants as commands
-use Rattle.cif_form.specs.declared.command.Command.TheVariants.{Start, Finish, Call, User}
+use Rattle.cif_form.specs.declared.command.Command.TheVariants.{User}
 use Rattle.cif_form.specs.declared.command.Item.{Item}
-use Rattle.cif_form.specs.Place.{placed, layer_name}
-use Rattle.cif_form.specs.Expansion.{Definition, Stands, Draws, Expands, IsInside, item_at}
-use Rattle.cif_form.specs.Counts.{Counts, CountsAtTop, FileCounts}
+use Rattle.cif_form.specs.Place.{layer_name}
+use Rattle.cif_form.specs.Expansion.{Definition, Draws, Expands, IsInside, item_at}
+use Rattle.cif_form.specs.Counts.{Counts, CountsAtTop}
 use Rattle.fabric.specs.declared.chip.ChipLabel.{ChipLabel}
 use Rattle.cif_emit.specs.Emittable.{IsPlainLabel}
 use Rattle.fabric.specs.Labelled.{AreLabelsOf}
-use Rattle.cif_emit.specs.Commands.{box_of, label_of, label_words, symbol}
-use Rattle.cif_emit.proofs.Offsets.{next, laid, behind, laid-append}
+use Rattle.cif_emit.specs.Commands.{box_of, label_of, label_words}
+use Rattle.cif_emit.proofs.Offsets.{next, laid}
 use Rattle.cif_emit.proofs.Painted.{Paints}
 use Rattle.cif_emit.proofs.Edges.{half_lambda, box_edges}
 use Rattle.cif_emit.proofs.Words.{flat_at, words_are_label}
@@ -69,78 +67,16 @@ pub are_labels : (ls : List ChipLabel) (at : ℕ → ℕ) → AreLabelsOf ls (fl
 are_labels [] at = tt
 are_labels (l ∷ ls) at = (record { name = refl; x = refl; y = refl; layer = refl }, are_labels ls (next at))
 
-labels_expand : (ds : List Definition) (ls : List ChipLabel) → All IsPlainLabel ls → (at : ℕ → ℕ)
+pub labels_expand : (ds : List Definition) (ls : List ChipLabel) → All IsPlainLabel ls → (at : ℕ → ℕ)
     → Expands ds None (laid at (map label_of ls)) [] (flat_labels at ls)
 labels_expand ds [] h at = Expands.done
 labels_expand ds (l ∷ ls) h at =
     Expands.label (label_words l) (flat_at (at 0) l) refl (words_are_label l (All-head IsPlainLabel l ls h) (at 0))
     (labels_expand ds ls (All-tail IsPlainLabel l ls h) (next at))
 
-labels_count : (ds : List Definition) (ls : List ChipLabel) (at : ℕ → ℕ)
+pub labels_count : (ds : List Definition) (ls : List ChipLabel) (at : ℕ → ℕ)
     → CountsAtTop ds (laid at (map label_of ls)) (length ls)
 labels_count ds [] at = CountsAtTop.none
 labels_count ds (l ∷ ls) at =
     subst (CountsAtTop ds (laid at (map label_of (l ∷ ls)))) (omega arith)
     (CountsAtTop.item tt (Counts.other tt Counts.none) (labels_count ds ls (next at)))
-
--- ---- the file
-
--- a symbol of that number and with that body, a call of it, and the labels
-abbrev pub file_of : ℤ → List Command → List ChipLabel → List Command
-file_of number body labels = symbol number body ++ (Call number [] ∷ map label_of labels)
-
--- the offsets behind the symbol's body
-abbrev pub after_at : List Command → (ℕ → ℕ) → ℕ → ℕ
-after_at body at = behind body (next at)
-
--- the items of such a file: its definition is closed where the body ends
-pub file_laid : (number : ℤ) (body : List Command) (labels : List ChipLabel) (at : ℕ → ℕ)
-    → laid at (file_of number body labels)
-    ≡ item_at (at 0) (Start number (pos 125) (pos 1)) ∷ (laid (next at) body ++ (item_at (after_at body at 0) Finish
-    ∷ (item_at (next (after_at body at) 0) (Call number []) ∷ laid (next (next (after_at body at)))
-    (map label_of labels))))
-file_laid number body labels at =
-    let rest : List Command = Call number [] ∷ map label_of labels in
-    ap (λ cs. item_at (at 0) (Start number (pos 125) (pos 1)) ∷ laid (next at) cs)
-    (append_assoc body (Finish ∷ []) rest)
-    ∙ ap (λ is. item_at (at 0) (Start number (pos 125) (pos 1)) ∷ is) (laid-append body (Finish ∷ rest) (next at))
-
-map-placed : (rs : List Rect) → map (placed []) rs ≡ rs
-map-placed [] = refl
-map-placed (r ∷ rs) = ap (λ qs. r ∷ qs) (map-placed rs)
-
-drawn_once : (rs : List Rect) → (map (placed []) rs ++ []) ++ [] ≡ rs
-drawn_once rs = append-nil (map (placed []) rs ++ []) ∙ append-nil (map (placed []) rs) ∙ map-placed rs
-
-module _ (number : ℤ) (body : List Command) (rs : List Rect) (labels : List ChipLabel) (paints : Paints None body rs)
-    (plain : All IsPlainLabel labels) (at : ℕ → ℕ) where
-  pub file_expands : Expands [] None (laid at (file_of number body labels)) rs
-      (flat_labels (next (next (after_at body at))) labels)
-  file_expands =
-      let d : Definition = definition number body (next at) in
-      let tail_at : ℕ → ℕ = next (next (after_at body at)) in
-      let call = Expands.draw {ds = d ∷ []} {l = None} {o = next (after_at body at) 0} (Call number [])
-      (map (placed []) rs ++ []) tt
-      (Draws.call number [] d [] rs (Stands.newest refl) (omega (arith, ints), omega (arith, ints)) refl
-      (draws_boxes (d ∷ []) paints (next at)) Draws.done)
-      (labels_expand (d ∷ []) labels plain tail_at) in
-      subst (λ qs. Expands [] None (laid at (file_of number body labels)) qs (flat_labels tail_at labels))
-      (drawn_once rs)
-      (subst (λ is. Expands [] None is ((map (placed []) rs ++ []) ++ []) (flat_labels tail_at labels))
-      (sym (file_laid number body labels at))
-      (Expands.define number (pos 125) (pos 1) (laid (next at) body) _ (after_at body at 0)
-      (boxes_inside paints (next at)) refl call))
-
-  pub file_counts : FileCounts (laid at (file_of number body labels)) (1 + length body + length labels)
-  file_counts =
-      let d : Definition = definition number body (next at) in
-      let tail_at : ℕ → ℕ = next (next (after_at body at)) in
-      let call : CountsAtTop (d ∷ []) (item_at (next (after_at body at) 0) (Call number []) ∷ laid tail_at
-      (map label_of labels)) (1 + (length body + 0) + length labels) =
-      CountsAtTop.item tt (Counts.call number [] d refl (Stands.newest refl)
-      (counts_boxes (d ∷ []) paints (next at)) Counts.none)
-      (labels_count (d ∷ []) labels tail_at) in
-      subst (FileCounts (laid at (file_of number body labels))) (omega arith)
-      (subst (λ is. FileCounts is (1 + (length body + 0) + length labels)) (sym (file_laid number body labels at))
-      (CountsAtTop.define number (pos 125) (pos 1) (laid (next at) body) _ (after_at body at 0) refl
-      (boxes_inside paints (next at)) refl call))

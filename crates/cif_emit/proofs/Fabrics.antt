@@ -1,9 +1,9 @@
 -- The rectangles of a fabric are on whole lambda.
-use Rattle.std.proofs.Common.{ℕ, zero, suc, ◌≡◌, ◌+◌, ◌*◌, ◌<◌, ◌≤◌, ◌⊎◌, inl, inr, refl, ap, subst, arith}
+use Rattle.std.proofs.Common.{ℕ, zero, suc, ◌≡◌, ◌+◌, ◌*◌, ◌<◌, ◌≤◌, ◌⊎◌, inl, inr, refl, subst, arith}
 use Rattle.std.proofs.Common.{Bool, true, cond, eqb, leb, ◌&&◌, List, [], ◌∷◌, ◌++◌, map, All}
 use Rattle.std.specs.Prelude.{pos, Contains, flat_map}
 use Rattle.std.specs.List.{range_with_len}
-use Rattle.std.proofs.lemmas.Bool.{cases_Bool, cases_lt, and_parts, leb-true}
+use Rattle.std.proofs.lemmas.Bool.{cases_Bool, and_parts, leb-true}
 use Rattle.std.proofs.lemmas.List.Elements.{All-nil, All-cons, All-head, All-tail, All-append, All-map, All-weaker}
 use Rattle.std.proofs.lemmas.List.Elements.{All-contains}
 use Rattle.lam_geom.specs.declared.layer.Layer.{Layer}
@@ -20,6 +20,7 @@ use Rattle.fabric.specs.declared.thing.Mark.{Mark}
 use Rattle.fabric.specs.Plan.{Plan, bands, rows_of, IsFabric, IsSegment, IsLine, IsMark, LineAt, SegmentAt, Stands}
 use Rattle.fabric.specs.Shape.{base, last_column, lambdas, ground_trunk, power_trunk, ground_row, power_rail}
 use Rattle.fabric.specs.Shape.{band_rects, segment_rect, line_rect, mark_rects, offset, lift, placed, shape}
+use Rattle.fabric.proofs.Bases.{bases_rise}
 use Rattle.cif_emit.specs.Emittable.{IsOnLambda, IsOnGrid, farthest}
 
 on_lambda : (n : ℕ) → n ≤ farthest → IsOnLambda (pos (500 * n))
@@ -29,15 +30,6 @@ on_grid : (l : Layer) (x0 y0 x1 y1 : ℕ) → x0 ≤ farthest → y0 ≤ farthes
     → IsOnGrid (lambdas l x0 y0 x1 y1)
 on_grid l x0 y0 x1 y1 a b c d =
     record { x0 = on_lambda x0 a; y0 = on_lambda y0 b; x1 = on_lambda x1 c; y1 = on_lambda y1 d }
-
-rises : (f : Plan) (b c : ℕ) → b < c → base f b + 12 * rows_of f b + 36 ≤ base f c
-rises f b zero h = absurd (omega arith)
-rises f b (suc c) h = elim (cases_lt b c) [
-  | inl k ↦ (let i = rises f b c k in omega arith)
-  | inr k ↦ (let e : b ≡ c = omega arith in
-      let g : base f b + 12 * rows_of f b ≡ base f c + 12 * rows_of f c = ap (λ z. base f z + 12 * rows_of f z) e in
-      omega arith)
-]
 
 -- ---- tiles
 
@@ -97,7 +89,7 @@ cells_on x y h (k ∷ ks) e wide high =
 module _ (f : Plan) (met : IsFabric f) (wide : 20 * f.columns ≤ farthest) (high : base f (bands f) ≤ farthest) where
   -- a row of a band, below its top and the fabric's
   below_top : (b r : ℕ) → b < bands f → r ≤ rows_of f b → base f b + 12 * r + 36 ≤ farthest
-  below_top b r h k = let i = rises f b (bands f) h in omega arith
+  below_top b r h k = let i = bases_rise f b (bands f) h in omega arith
 
   record IsPlace (b r c : ℕ) : Type 0 where
     pub band : b < bands f

@@ -2,10 +2,13 @@ pub mod Offsets
 pub mod Drawn
 pub mod Painted
 pub mod Edges
+pub mod Raised
 pub mod Words
 pub mod Expanded
 pub mod Walked
+pub mod Files
 pub mod Chips
+pub mod Sliced
 pub mod Fabrics
 pub mod Cursors
 pub mod Pieces

@@ -1,5 +1,6 @@
 -- A text that is written in pieces: what was written, what waits, and what is to come.
-use Rattle.std.proofs.Common.{ℕ, ◌≡◌, ◌+◌, ◌<◌, refl, sym, ◌∙◌, ap, subst, arith, List, [], ◌∷◌, ◌++◌, length, take, drop}
+use Rattle.std.proofs.Common.{ℕ, ◌≡◌, ◌+◌, ◌<◌, refl, sym, ◌∙◌, ap, subst, arith, List, [], ◌∷◌, ◌++◌, length, take}
+use Rattle.std.proofs.Common.{drop}
 use Rattle.std.proofs.Common.{append_assoc, length-append, Option, Result, Ok, Err}
 use Rattle.std.proofs.lemmas.List.{append-nil, length-drop, take-append-drop}
 use Rattle.std.proofs.Math.Seq.{take-append_seam}
@@ -11,9 +12,6 @@ use Rattle.mp_base.proofs.Written.{gained, gained_then}
 use Rattle.cif_form.specs.declared.command.Command.{Command}
 use Rattle.cif_form.specs.Writing.{text_of}
 use Rattle.cif_writer.specs.Texts.{file_text}
-use Rattle.lam_geom.specs.declared.rect.Rect.{Rect}
-use Rattle.fabric.specs.declared.chip.ChipLabel.{ChipLabel}
-use Rattle.cif_emit.specs.Commands.{chip_commands}
 use Rattle.cif_emit.specs.Stream.{PutsOff}
 
 -- a first part was written, then comes what waits, and then what is left
@@ -110,7 +108,8 @@ none_written a text waiting e = record {
 
 module _ {T E : Type 0} where
   -- too little waits
-  pub still_waits : (u : T) (a : Option (List ℕ)) (waiting : List ℕ) → PutsOff {T = T} {E = E} a a waiting waiting (Ok u)
+  pub still_waits : (u : T) (a : Option (List ℕ)) (waiting : List ℕ)
+      → PutsOff {T = T} {E = E} a a waiting waiting (Ok u)
   still_waits u a waiting = record {
     front = [];
     rest = waiting;
@@ -191,6 +190,10 @@ module _ {T E : Type 0} (a b : Option (List ℕ)) (text whole : List ℕ) (same 
           taken = t.taken;
         }))
 
-pub same_text : (rects all : List Rect) (labels own : List ChipLabel) → rects ≡ all → labels ≡ own
-    → file_text (chip_commands rects labels) ≡ file_text (chip_commands all own)
-same_text rects all labels own e f = λ i. file_text (chip_commands (e i) (f i))
+-- where memory was wanting before the first command, nothing was taken
+pub nothing_taken : {T E : Type 0} (e : E) (a : Option (List ℕ)) (cs : List Command) (result : Result T E)
+    → result ≡ Err e → TakesAll {T = T} {E = E} Gains a a (file_text cs) result
+nothing_taken {T} {E} e a cs result is =
+    let text = file_text cs in
+    let none = stopped a a text [] {T = T} {E = E} e [] cs (Err e) refl (none_written a text [] refl) in
+    written_part a a text text refl e e [] result is none

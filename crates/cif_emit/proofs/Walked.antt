@@ -1,7 +1,7 @@
 -- The walk of a chip's commands: it comes to its end, or breaks the rule of the count.
 use Rattle.std.proofs.Common.{ℕ, zero, suc, ◌≡◌, ◌+◌, ◌<◌, ◌⊎◌, inl, inr, refl, sym, ap, subst, arith, List, [], ◌∷◌}
 use Rattle.std.proofs.Common.{◌++◌, map, Option, Some, None, All}
-use Rattle.std.specs.Prelude.{ℤ, pos, Contains}
+use Rattle.std.specs.Prelude.{ℤ, pos, ◌*ℤ◌, int_div, Contains}
 use Rattle.std.proofs.lemmas.Int.{ints}
 use Rattle.std.proofs.lemmas.Bool.{cases_lt}
 use Rattle.std.proofs.lemmas.List.Elements.{All-nil, All-cons, All-head, All-tail}
@@ -9,25 +9,28 @@ use Rattle.lam_geom.specs.declared.layer.Layer.{Layer}
 use Rattle.lam_geom.specs.declared.layer.Layer.TheVariants.{ND}
 use Rattle.lam_geom.specs.declared.rect.Rect.{Rect}
 use Rattle.lam_geom.specs.declared.label.FlatLabel.{FlatLabel}
-use Rattle.lam_geom.specs.Moves.{IsNearRect}
+use Rattle.lam_geom.specs.declared.place.Point.{Point}
+use Rattle.lam_geom.specs.Moves.{IsNear, IsNearRect}
 use Rattle.cif_form.specs.declared.command.Command.{Command}
 use Rattle.cif_form.specs.declared.command.Command.TheVariants as commands
-use Rattle.cif_form.specs.declared.command.Command.TheVariants.{Start, Finish, Call, User}
+use Rattle.cif_form.specs.declared.command.Command.TheVariants.{Start, Finish, User}
 use Rattle.cif_form.specs.declared.command.Item.{Item}
-use Rattle.cif_form.specs.Place.{IsScale, layer_name}
-use Rattle.cif_form.specs.Expansion.{Definition, Stands, item_at}
+use Rattle.cif_form.specs.Fits.{IsSmall}
+use Rattle.cif_form.specs.Place.{IsScale, layer_name, placed, unit}
+use Rattle.cif_form.specs.Expansion.{Definition, IsInside, Stands, item_at}
 use Rattle.cif_form.specs.Walk.{State, Frame, Visit, Visits, Breaks, Steps, DrawRule, draw_rule_number, walk_limit}
-use Rattle.cif_form.specs.Walk.{Walks, WalkEnd, start, top_frame, IsFarShape}
+use Rattle.cif_form.specs.Walk.{Walks, WalkEnd, top_frame, IsFarPoint, IsFarShape, IsWholePoint}
 use Rattle.cif_form.specs.Walk.DrawRule.{F1, F2, F3, F4, F5, F6, F7, F8, F9, F10}
 use Rattle.cif_form.specs.Walk.WalkEnd.{Whole, Broken}
 use Rattle.fabric.specs.declared.chip.ChipLabel.{ChipLabel}
-use Rattle.cif_emit.specs.Emittable.{IsPlainLabel}
-use Rattle.cif_emit.specs.Commands.{box_of, label_of, label_words}
+use Rattle.slice_symbols.specs.Heights.{raised}
+use Rattle.cif_emit.specs.Emittable.{IsOnLambda, IsPlainLabel}
+use Rattle.cif_emit.specs.Commands.{box_of, call_at, label_of, label_words}
 use Rattle.cif_emit.proofs.Offsets.{next, laid}
 use Rattle.cif_emit.proofs.Painted.{Paints, IsBoxed}
 use Rattle.cif_emit.proofs.Edges.{half_lambda, box_edges, box_near}
 use Rattle.cif_emit.proofs.Words.{flat_at, words_are_label}
-use Rattle.cif_emit.proofs.Expanded.{definition, file_of, file_laid, after_at, boxes_inside}
+use Rattle.cif_emit.proofs.Raised.{call_moves, half_of, motions, no_rotation, one_move, placed_each, rise}
 
 -- the walk ends whole, or with the rule of the count
 pub record Ends (s : State) : Type 0 where
@@ -75,33 +78,33 @@ decide m n = elim (cases_lt m n) [ inl h ↦ inl h | inr h ↦ inr (λ k. omega 
 
 -- ---- in the symbol
 
--- in the called symbol, where this layer is set
-abbrev inner_frame : ℤ → Option Layer → List Item → Frame
-inner_frame number l items = record {
+-- in a symbol that is called and raised so much, where this layer is set
+abbrev inner_frame : ℤ → ℤ → Option Layer → List Item → Frame
+inner_frame number h l items = record {
   symbol = Some number;
   scale = half_lambda;
   layer = l;
-  place = λ r. r;
+  place = λ r. placed (motions h) r;
   left = items;
 }
 
-abbrev inner : List Definition → Frame → ℤ → Option Layer → ℕ → List Item → State
-inner ds outer number l k items =
-    record { definitions = ds; count = k; frames = inner_frame number l items ∷ outer ∷ [] }
+abbrev inner : List Definition → Frame → ℤ → ℤ → Option Layer → ℕ → List Item → State
+inner ds outer number h l k items =
+    record { definitions = ds; count = k; frames = inner_frame number h l items ∷ outer ∷ [] }
 
-module _ (ds : List Definition) (outer : Frame) (number : ℤ) where
+module _ (ds : List Definition) (outer : Frame) (number h : ℤ) where
   abbrev visit : Option Layer → ℕ → Item → List Item → Visit
   visit l k i items = record {
     definitions = ds;
     count = k;
-    frame = inner_frame number l (i ∷ items);
+    frame = inner_frame number h l (i ∷ items);
     outer = outer ∷ [];
     item = i;
     after = items;
   }
 
   visits : (l : Option Layer) (k : ℕ) (i : Item) (items : List Item)
-      → Visits (inner ds outer number l k (i ∷ items)) (visit l k i items)
+      → Visits (inner ds outer number h l k (i ∷ items)) (visit l k i items)
   visits l k i items = record { definitions = refl; count = refl; frames = refl; left = refl }
 
   layer_only : (l : Option Layer) (k o : ℕ) (m : Layer) (items : List Item)
@@ -118,64 +121,69 @@ module _ (ds : List Definition) (outer : Frame) (number : ℤ) where
   layer_only l k o m items F10 b = absurd (b m refl)
 
   layer_ends : (l : Option Layer) (k o : ℕ) (m : Layer) (items : List Item)
-      → Ends (inner ds outer number (Some m) (k + 1) items)
-      → Ends (inner ds outer number l k (item_at o (commands.Layer (layer_name m)) ∷ items))
+      → Ends (inner ds outer number h (Some m) (k + 1) items)
+      → Ends (inner ds outer number h l k (item_at o (commands.Layer (layer_name m)) ∷ items))
   layer_ends l k o m items e =
       let i : Item = item_at o (commands.Layer (layer_name m)) in
-      goes (inner ds outer number l k (i ∷ items)) (visit l k i items) [] []
-      (inner ds outer number (Some m) (k + 1) items)
+      goes (inner ds outer number h l k (i ∷ items)) (visit l k i items) [] []
+      (inner ds outer number h (Some m) (k + 1) items)
       (visits l k i items) (layer_only l k o m items) (decide walk_limit (k + 1)) (m, refl, refl, refl, refl) e
 
-  module _ (l : Layer) (r : Rect) (boxed : IsBoxed l r) (k o : ℕ) (items : List Item) where
-    abbrev box_visit : Visit
-    box_visit = visit (Some l) k (item_at o (box_of r)) items
+  module _ (l : Layer) (r : Rect) (boxed : IsBoxed l r) (near : IsNearRect (raised h r)) (k o : ℕ) (items : List Item)
+    where
+      abbrev box_visit : Visit
+      box_visit = visit (Some l) k (item_at o (box_of r)) items
 
-    not_far : ¬ IsFarShape box_visit
-    not_far (rs, edges, far) =
-        far (subst (All (λ q. IsNearRect q)) (sym edges.1)
-        (All-cons IsNearRect edges.0 [] (box_near r boxed.grid ND edges.0 (edges.0, refl, edges.2))
-        (All-nil IsNearRect)))
+      not_far : ¬ IsFarShape box_visit
+      not_far (rs, edges, far) =
+          far (subst (All (λ q. IsNearRect (placed (motions h) q))) (sym edges.1)
+          (All-cons (λ q. IsNearRect (placed (motions h) q)) edges.0 []
+          (placed_each IsNearRect h edges.0 (box_near r boxed.grid h ND edges.0 near (edges.0, refl, edges.2)))
+          (All-nil (λ q. IsNearRect (placed (motions h) q)))))
 
-    box_only : OnlyCount box_visit
-    box_only F1 b = absurd b
-    box_only F2 b = absurd b
-    box_only F3 b = absurd (b (inl (refl, λ e. omega (arith, ints))))
-    box_only F4 b = absurd (b (record r { layer = ND } ∷ [])
-        (box_edges r boxed.grid ND (record r { layer = ND }) refl refl refl refl refl))
-    box_only F5 b = absurd b
-    box_only F6 b = absurd b
-    box_only F7 b = refl
-    box_only F8 b = absurd (not_far b)
-    box_only F9 b = absurd (let e : ◌≡◌ {A = Option Layer} (Some l) None = b in cc)
-    box_only F10 b = absurd b
+      box_only : OnlyCount box_visit
+      box_only F1 b = absurd b
+      box_only F2 b = absurd b
+      box_only F3 b = absurd (b (inl (refl, λ e. omega (arith, ints))))
+      box_only F4 b = absurd (b (record r { layer = ND } ∷ [])
+          (box_edges r boxed.grid ND (record r { layer = ND }) refl refl refl refl refl))
+      box_only F5 b = absurd b
+      box_only F6 b = absurd b
+      box_only F7 b = refl
+      box_only F8 b = absurd (not_far b)
+      box_only F9 b = absurd (let e : ◌≡◌ {A = Option Layer} (Some l) None = b in cc)
+      box_only F10 b = absurd b
 
-    box_ends : Ends (inner ds outer number (Some l) (k + 1) items)
-        → Ends (inner ds outer number (Some l) k (item_at o (box_of r) ∷ items))
-    box_ends e =
-        goes (inner ds outer number (Some l) k (item_at o (box_of r) ∷ items)) box_visit (r ∷ []) []
-        (inner ds outer number (Some l) (k + 1) items)
-        (visits (Some l) k (item_at o (box_of r)) items) box_only (decide walk_limit (k + 1))
-        ((l, r ∷ [], refl, box_edges r boxed.grid l r boxed.layer refl refl refl refl, refl, refl), refl) e
+      box_ends : Ends (inner ds outer number h (Some l) (k + 1) items)
+          → Ends (inner ds outer number h (Some l) k (item_at o (box_of r) ∷ items))
+      box_ends e =
+          goes (inner ds outer number h (Some l) k (item_at o (box_of r) ∷ items)) box_visit
+          (placed (motions h) r ∷ []) []
+          (inner ds outer number h (Some l) (k + 1) items)
+          (visits (Some l) k (item_at o (box_of r)) items) box_only (decide walk_limit (k + 1))
+          ((l, r ∷ [], refl, box_edges r boxed.grid l r boxed.layer refl refl refl refl, refl, refl), refl) e
 
   -- behind the last command the walk goes on where the symbol was called
-  boxes_end : {l : Option Layer} {cs : List Command} {rs : List Rect} → Paints l cs rs → (at : ℕ → ℕ) (k : ℕ)
+  pub boxes_end : {l : Option Layer} {cs : List Command} {rs : List Rect} → Paints l cs rs
+      → All (λ r. IsNearRect (raised h r)) rs → (at : ℕ → ℕ) (k : ℕ)
       → ((n : ℕ) → Ends (record { definitions = ds; count = n; frames = outer ∷ [] }))
-      → Ends (inner ds outer number l k (laid at cs))
-  boxes_end {l} Paints.none at k e = record {
+      → Ends (inner ds outer number h l k (laid at cs))
+  boxes_end {l} Paints.none near at k e = record {
     shapes = (e k).shapes;
     labels = (e k).labels;
     end = (e k).end;
-    walks = Walks.back (inner_frame number l []) (outer ∷ []) refl refl (e k).walks;
+    walks = Walks.back (inner_frame number h l []) (outer ∷ []) refl refl (e k).walks;
     fine = (e k).fine;
   }
-  boxes_end {l} (Paints.layer {cs = cs} m p) at k e =
-      layer_ends l k (at 0) m (laid (next at) cs) (boxes_end p (next at) (k + 1) e)
-  boxes_end (Paints.box {l = l} {cs = cs} r b p) at k e =
-      box_ends l r b k (at 0) (laid (next at) cs) (boxes_end p (next at) (k + 1) e)
+  boxes_end {l} (Paints.layer {cs = cs} m p) near at k e =
+      layer_ends l k (at 0) m (laid (next at) cs) (boxes_end p near (next at) (k + 1) e)
+  boxes_end (Paints.box {l = l} {cs = cs} {rs = rs} r b p) near at k e =
+      box_ends l r b (All-head (λ r. IsNearRect (raised h r)) r rs near) k (at 0) (laid (next at) cs)
+      (boxes_end p (All-tail (λ r. IsNearRect (raised h r)) r rs near) (next at) (k + 1) e)
 
 -- ---- at top level
 
-abbrev top : List Definition → ℕ → List Item → State
+abbrev pub top : List Definition → ℕ → List Item → State
 top ds k items = record { definitions = ds; count = k; frames = top_frame items ∷ [] }
 
 abbrev top_visit : List Definition → ℕ → Item → List Item → Visit
@@ -214,7 +222,7 @@ user_only ds k o words items F8 b = absurd b
 user_only ds k o words items F9 b = absurd b
 user_only ds k o words items F10 b = absurd b
 
-labels_end : (ds : List Definition) (ls : List ChipLabel) → All IsPlainLabel ls → (at : ℕ → ℕ) (k : ℕ)
+pub labels_end : (ds : List Definition) (ls : List ChipLabel) → All IsPlainLabel ls → (at : ℕ → ℕ) (k : ℕ)
     → Ends (top ds k (laid at (map label_of ls)))
 labels_end ds [] h at k = end_ends ds k
 labels_end ds (l ∷ ls) h at k =
@@ -234,81 +242,87 @@ newest_is : (d e : Definition) (ds : List Definition) → Stands (d ∷ ds) d.nu
 newest_is d e ds (Stands.newest h) = refl
 newest_is d e ds (Stands.older ne s) = absurd (ne refl)
 
-no_item : {A : Type 0} (x : A) → Contains [] x → ⊥
-no_item x (k, h, e) = omega arith
-
 -- the only frame is that of the top level, which has no symbol
 no_symbol : (n : ℤ) (f g : Frame) → Contains (f ∷ []) g → f.symbol ≡ None → g.symbol ≡ Some n → ⊥
 no_symbol n f g (zero, h, e) none some =
     let k : f ≡ g = e in let s : f.symbol ≡ g.symbol = ap (λ (x : Frame). x.symbol) k in cc
 no_symbol n f g (suc k, h, e) none some = omega arith
 
-module _ (number : ℤ) (body : List Item) (k o : ℕ) (items : List Item) where
-  abbrev own : Definition
-  own = record { number = number; scale = half_lambda; body = body }
+whole_point : (p : Point) → IsWholePoint unit p
+whole_point p = (
+  (pos 2 *ℤ p.x, (omega (arith, ints), refl)),
+  (pos 2 *ℤ p.y, (omega (arith, ints), refl)),
+)
 
-  abbrev call_visit : Visit
-  call_visit = top_visit (own ∷ []) k (item_at o (Call number [])) items
+near_none : (z : ℤ) → pos 1 *ℤ z ≡ pos 1 *ℤ (pos 2 *ℤ pos 0) → IsNear z
+near_none z e = (omega (arith, ints), omega (arith, ints))
 
-  call_only : OnlyCount call_visit
-  call_only F1 b = absurd (b own (Stands.newest refl))
-  call_only F2 b = absurd (no_symbol number (top_frame (item_at o (Call number []) ∷ items)) b.0 b.1 refl b.2)
-  call_only F3 b = absurd (no_item _ b.1)
-  call_only F4 (inl b) = absurd (b.2 (subst (λ d. IsScale d.scale) (newest_is own b.0 [] b.1)
-      (omega (arith, ints), omega (arith, ints))))
-  call_only F4 (inr b) = absurd (no_item _ b.1)
-  call_only F5 b = absurd b
-  call_only F6 b = absurd b
-  call_only F7 b = refl
-  call_only F8 b = absurd (no_item _ b.1)
-  call_only F9 b = absurd b
-  call_only F10 b = absurd b
+near_half : (z h q : ℤ) → h ≡ pos 2 *ℤ q → IsSmall h → pos 1 *ℤ z ≡ pos 1 *ℤ (pos 2 *ℤ q) → IsNear z
+near_half z h q e s f = (omega (arith, ints), omega (arith, ints))
 
-  call_ends : Ends (inner (own ∷ []) (top_frame items) number None (k + 1) body)
-      → Ends (top (own ∷ []) k (item_at o (Call number []) ∷ items))
-  call_ends e =
-      goes (top (own ∷ []) k (item_at o (Call number []) ∷ items)) call_visit [] []
-      (inner (own ∷ []) (top_frame items) number None (k + 1) body)
-      (top_visits (own ∷ []) k (item_at o (Call number [])) items) call_only (decide walk_limit (k + 1))
-      (own, [], Stands.newest refl, refl, refl, refl, refl) e
+-- a rise on whole lambda isn't far
+not_far_up : (h : ℤ) → IsOnLambda h → ¬ IsFarPoint unit (rise h)
+not_far_up h on (z, inl s, far) = far (near_none z s.1)
+not_far_up h on (z, inr s, far) = far (near_half z h (int_div h (pos 2)) (half_of h on) on.small s.1)
 
--- ---- the file
+module _ (number h : ℤ) (on : IsOnLambda h) (body : List Item) (ds : List Definition) (k o : ℕ) (items : List Item)
+  where
+    abbrev own : Definition
+    own = record { number = number; scale = half_lambda; body = body }
 
-start_only : (o : ℕ) (number a b : ℤ) (items : List Item) → OnlyCount
-    (top_visit [] 0 (item_at o (Start number a b)) items)
-start_only o number a b items F1 h = absurd h
-start_only o number a b items F2 h = absurd h
-start_only o number a b items F3 h = absurd h
-start_only o number a b items F4 h = absurd h
-start_only o number a b items F5 h = absurd h
-start_only o number a b items F6 h = absurd h
-start_only o number a b items F7 h = refl
-start_only o number a b items F8 h = absurd h
-start_only o number a b items F9 h = absurd h
-start_only o number a b items F10 h = absurd h
+    abbrev call_visit : Visit
+    call_visit = top_visit (own ∷ ds) k (item_at o (call_at number h)) items
 
-module _ (number : ℤ) (body : List Command) (rs : List Rect) (labels : List ChipLabel) (paints : Paints None body rs)
-    (plain : All IsPlainLabel labels) (at : ℕ → ℕ) where
-  abbrev rest_at : ℕ → ℕ
-  rest_at = after_at body at
+    call_only : OnlyCount call_visit
+    call_only F1 b = absurd (b own (Stands.newest refl))
+    call_only F2 b = absurd (no_symbol number (top_frame (item_at o (call_at number h) ∷ items)) b.0 b.1 refl b.2)
+    call_only F3 b = absurd (no_rotation h b.0 b.1)
+    call_only F4 (inl b) = absurd (b.2 (subst (λ d. IsScale d.scale) (newest_is own b.0 ds b.1)
+        (omega (arith, ints), omega (arith, ints))))
+    call_only F4 (inr b) = absurd (b.2 (whole_point b.0))
+    call_only F5 b = absurd b
+    call_only F6 b = absurd b
+    call_only F7 b = refl
+    call_only F8 b = absurd (not_far_up h on (subst (IsFarPoint unit) (sym (one_move h b.0 b.1)) b.2))
+    call_only F9 b = absurd b
+    call_only F10 b = absurd b
 
-  abbrev rest : List Item
-  rest = laid (next (next rest_at)) (map label_of labels)
+    pub call_ends : Ends (inner (own ∷ ds) (top_frame items) number h None (k + 1) body)
+        → Ends (top (own ∷ ds) k (item_at o (call_at number h) ∷ items))
+    call_ends e =
+        goes (top (own ∷ ds) k (item_at o (call_at number h) ∷ items)) call_visit [] []
+        (inner (own ∷ ds) (top_frame items) number h None (k + 1) body)
+        (top_visits (own ∷ ds) k (item_at o (call_at number h)) items) call_only (decide walk_limit (k + 1))
+        (own, motions h, Stands.newest refl, call_moves h on, refl, refl, refl) e
 
-  abbrev call : Item
-  call = item_at (next rest_at 0) (Call number [])
+-- ---- a definition
 
-  abbrev all : List Item
-  all = laid (next at) body ++ (item_at (rest_at 0) Finish ∷ (call ∷ rest))
+start_only : (ds : List Definition) (k o : ℕ) (number a b : ℤ) (items : List Item) → OnlyCount
+    (top_visit ds k (item_at o (Start number a b)) items)
+start_only ds k o number a b items F1 h = absurd h
+start_only ds k o number a b items F2 h = absurd h
+start_only ds k o number a b items F3 h = absurd h
+start_only ds k o number a b items F4 h = absurd h
+start_only ds k o number a b items F5 h = absurd h
+start_only ds k o number a b items F6 h = absurd h
+start_only ds k o number a b items F7 h = refl
+start_only ds k o number a b items F8 h = absurd h
+start_only ds k o number a b items F9 h = absurd h
+start_only ds k o number a b items F10 h = absurd h
 
-  pub file_ends : Ends (start (laid at (file_of number body labels)))
-  file_ends =
-      let d : Definition = definition number body (next at) in
-      let i : Item = item_at (at 0) (Start number (pos 125) (pos 1)) in
-      subst (λ is. Ends (start is)) (sym (file_laid number body labels at))
-      (goes (top [] 0 (i ∷ all)) (top_visit [] 0 i all) [] [] (top (d ∷ []) 0 (call ∷ rest))
-      (top_visits [] 0 i all) (start_only (at 0) number (pos 125) (pos 1) all) (decide walk_limit 0)
-      (laid (next at) body, call ∷ rest, rest_at 0, refl, boxes_inside paints (next at), refl, refl, refl, refl)
-      (call_ends number (laid (next at) body) 0 (next rest_at 0) rest
-      (boxes_end (d ∷ []) (top_frame rest) number paints (next at) 1
-      (λ n. labels_end (d ∷ []) labels plain (next (next rest_at)) n))))
+module _ (number : ℤ) (body : List Item) (inside : All (λ (i : Item). IsInside i.command) body)
+    (ds : List Definition) (k o finish : ℕ) (items : List Item)
+  where
+    abbrev defined : Definition
+    defined = record { number = number; scale = half_lambda; body = body }
+
+    abbrev behind_start : List Item
+    behind_start = body ++ (item_at finish Finish ∷ items)
+
+    pub define_ends : ((n : ℕ) → Ends (top (defined ∷ ds) n items))
+        → Ends (top ds k (item_at o (Start number (pos 125) (pos 1)) ∷ behind_start))
+    define_ends e =
+        let i : Item = item_at o (Start number (pos 125) (pos 1)) in
+        goes (top ds k (i ∷ behind_start)) (top_visit ds k i behind_start) [] [] (top (defined ∷ ds) (k + 0) items)
+        (top_visits ds k i behind_start) (start_only ds k o number (pos 125) (pos 1) behind_start)
+        (decide walk_limit (k + 0)) (body, items, finish, refl, inside, refl, refl, refl, refl) (e (k + 0))

@@ -12,11 +12,11 @@ use Rattle.std.proofs.lemmas.List.Elements.{All-nil, All-cons, All-append, All-w
 use Rattle.lam_geom.specs.declared.layer.Layer.{Layer}
 use Rattle.lam_geom.specs.declared.layer.Layer.TheVariants.{ND, NP, NM}
 use Rattle.lam_geom.specs.declared.label.FlatLabel.{FlatLabel}
-use Rattle.cif_form.specs.Text.{SignedDigits}
 use Rattle.cif_form.specs.Fits.{Fits, IsSmall}
 use Rattle.cif_form.specs.Place.{layer_name}
 use Rattle.cif_form.specs.Labels.{IsLabelText, IsSpace, Spaces, Coordinate}
 use Rattle.cif_form.specs.Writing.{space}
+use Rattle.cif_form.proofs.Written.{signed_digits}
 use Rattle.fabric.specs.declared.chip.ChipLabel.{ChipLabel}
 use Rattle.fabric.specs.Even.{IsEven}
 use Rattle.cif_emit.specs.Emittable.{IsPlainLabel}
@@ -34,14 +34,8 @@ halved z q m e f s = (omega (arith, ints), omega (arith, ints))
 half_of : (z : ℤ) → IsEven z → IsSmall z → (z ≡ pos 2 *ℤ int_div z (pos 2)) × IsSmall (int_div z (pos 2))
 half_of z e s = halved z (int_div z (pos 2)) (int_rem z (pos 2)) e (quot-rem z (pos 2)) s
 
-digits_of : (z : ℤ) → IsSmall z → SignedDigits z (signed_decimal z)
-digits_of (pos n) h = let d = decimal_is_IsNumeral n (omega arith) in (n, inl (refl, (d.0, d.1)))
-digits_of (negsuc n) h =
-    let d = decimal_is_IsNumeral (suc n) (omega arith) in
-    (suc n, inr (refl, (45 ∷ [], decimal (suc n), refl, refl, (d.0, d.1))))
-
 coordinate : (z : ℤ) → IsEven z → IsSmall z → Coordinate z (signed_decimal (int_div z (pos 2)))
-coordinate z e s = let h = half_of z e s in (int_div z (pos 2), h.0, h.1, digits_of (int_div z (pos 2)) h.1)
+coordinate z e s = let h = half_of z e s in (int_div z (pos 2), h.0, h.1, signed_digits (int_div z (pos 2)) h.1)
 
 -- ---- the text
 

@@ -1,6 +1,7 @@
--- The commands of a chip: a symbol with its boxes, a call of it, and the labels.
-use Rattle.std.specs.Prelude.{ℕ, ◌&&◌, ◌==◌, Bool, List, [], ◌∷◌, ◌++◌, map, filter, codes, ℤ, pos, ◌+ℤ◌, ◌-ℤ◌}
-use Rattle.std.specs.Prelude.{int_lt, int_div}
+-- The commands of a chip: symbols with their boxes, the calls of each, and the labels.
+use Rattle.std.specs.Prelude.{ℕ, suc, ◌&&◌, ◌==◌, Bool, cond, List, [], ◌∷◌, ◌++◌, map, filter, codes, ℤ, pos}
+use Rattle.std.specs.Prelude.{◌+ℤ◌, ◌-ℤ◌, int_lt, int_div}
+use Rattle.std.specs.Ordering.{int_eq}
 use Rattle.std.specs.List.{flat_map}
 use Rattle.std.specs.Fmt.{signed_decimal}
 use Rattle.lam_geom.specs.declared.layer.Layer.{Layer}
@@ -8,12 +9,15 @@ use Rattle.lam_geom.specs.declared.layer.Layer.TheVariants.{ND, NP, NC, NM, NI, 
 use Rattle.lam_geom.specs.declared.rect.Rect.{Rect}
 use Rattle.lam_geom.specs.Squares.{rank}
 use Rattle.cif_form.specs.declared.command.Command.{Command}
+use Rattle.cif_form.specs.declared.command.Turn.{Turn}
+use Rattle.cif_form.specs.declared.command.Turn.TheVariants.{Move}
 use Rattle.cif_form.specs.declared.command.Command.TheVariants as commands
 use Rattle.cif_form.specs.declared.command.Command.TheVariants.{Box, Start, Finish, Call, User}
 use Rattle.cif_form.specs.Text.{right}
 use Rattle.cif_form.specs.Place.{layer_name}
 use Rattle.cif_form.specs.Writing.{space}
 use Rattle.fabric.specs.declared.chip.ChipLabel.{ChipLabel}
+use Rattle.slice_symbols.specs.declared.symbols.Symbol.{Symbol}
 
 -- the layers, in the order of their boxes
 abbrev pub layers : List Layer
@@ -52,5 +56,23 @@ label_words l = codes "4 " ++ (l.name ++ (space ++ (signed_decimal (int_div l.x 
 abbrev pub label_of : ChipLabel → Command
 label_of l = User 9 (label_words l)
 
-abbrev pub chip_commands : List Rect → List ChipLabel → List Command
-chip_commands rects labels = symbol (pos 1) (box_commands rects) ++ (Call (pos 1) [] ∷ map label_of labels)
+-- the turns that raise a symbol so many half-units: none, where it stays where it is
+abbrev pub turns_of : ℤ → List Turn
+turns_of height = cond (int_eq height (pos 0)) [] (Move (record { x = pos 0; y = int_div height (pos 2) }) ∷ [])
+
+-- the call of a symbol that raises it so many half-units
+abbrev pub call_at : ℤ → ℤ → Command
+call_at number height = Call number (turns_of height)
+
+-- a symbol of that number, and a call of it for each of its heights
+abbrev pub symbol_commands : ℕ → Symbol → List Command
+symbol_commands number s =
+    symbol (pos number) (box_commands s.shapes) ++ map (call_at (pos number)) s.heights
+
+-- symbols, of which the first has this number
+abbrev pub all_symbols : ℕ → List Symbol → List Command
+all_symbols number [] = []
+all_symbols number (s ∷ ss) = symbol_commands number s ++ all_symbols (suc number) ss
+
+abbrev pub chip_commands : List Symbol → List ChipLabel → List Command
+chip_commands symbols labels = all_symbols 1 symbols ++ map label_of labels

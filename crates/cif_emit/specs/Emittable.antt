@@ -3,12 +3,16 @@ use Rattle.std.specs.Prelude.{ℕ, ◌≡◌, ◌≢◌, ◌⊎◌, ◌*◌, ◌
 use Rattle.lam_geom.specs.declared.layer.Layer.TheVariants.{NM, NP, ND}
 use Rattle.lam_geom.specs.declared.rect.Rect.{Rect}
 use Rattle.lam_geom.specs.Extent.{lambda}
+use Rattle.lam_geom.specs.Moves.{IsNearRect}
 use Rattle.cif_form.specs.Fits.{IsSmall}
 use Rattle.cif_form.specs.Labels.{IsSpace}
 use Rattle.fabric.specs.declared.chip.Chip.{Chip}
 use Rattle.fabric.specs.declared.chip.ChipLabel.{ChipLabel}
 use Rattle.fabric.specs.Plan.{Plan, bands, IsFabric}
 use Rattle.fabric.specs.Shape.{shape, base}
+use Rattle.slice_symbols.specs.declared.bands.Bands.{Bands}
+use Rattle.slice_symbols.specs.declared.symbols.Symbol.{Symbol}
+use Rattle.slice_symbols.specs.Heights.{AreUsable, raised}
 
 -- what a chip draws: its fabric, and the rectangles beside it
 abbrev pub chip_rects : Chip → List Rect
@@ -42,6 +46,25 @@ pub record IsPlainLabel (l : ChipLabel) : Type 0 where
 pub record IsEmittable (rects : List Rect) (labels : List ChipLabel) : Type 0 where
   pub corners : All IsOnGrid rects
   pub names : All IsPlainLabel labels
+
+-- the rectangles and heights of a symbol are on whole lambda, and what it draws is near
+pub record IsDrawable (s : Symbol) : Type 0 where
+  pub corners : All IsOnGrid s.shapes
+  pub heights : All IsOnLambda s.heights
+  pub near : All (λ h. All (λ r. IsNearRect (raised h r)) s.shapes) s.heights
+  pub few : length s.heights ≤ 64
+
+pub record AreDrawable (symbols : List Symbol) (labels : List ChipLabel) : Type 0 where
+  pub each : All IsDrawable symbols
+  pub two : length symbols ≤ 2
+  pub names : All IsPlainLabel labels
+
+-- there is a band, they are as high as whole lambda, and 64 of them aren't too high
+pub record AreBands (b : Bands) : Type 0 where
+  pub usable : AreUsable b
+  pub some : 1 ≤ b.count
+  pub whole : (m : ℕ) × (b.height ≡ lambda * m)
+  pub low : b.height < 33_554_432
 
 -- how many lambda are small in half-units
 abbrev pub farthest : ℕ

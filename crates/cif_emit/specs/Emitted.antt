@@ -1,5 +1,7 @@
 -- What the commands of a chip draw.
-use Rattle.std.specs.Prelude.{ℕ, ◌≡◌, ◌+◌, ◌≤◌, List, [], length, map, All, None, false}
+use Rattle.std.specs.Prelude.{ℕ, ◌≡◌, ◌+◌, ◌≤◌, List, [], length, map, All, Option, None, Result, false}
+use Rattle.mp_base.specs.Outside.{Gains}
+use Rattle.mp_base.specs.Piece.{TakesAll}
 use Rattle.lam_geom.specs.declared.rect.Rect.{Rect}
 use Rattle.lam_geom.specs.declared.label.FlatLabel.{FlatLabel}
 use Rattle.lam_geom.specs.Squares.{covered, SameSquares}
@@ -12,8 +14,25 @@ use Rattle.cif_form.specs.Walk.{DrawRule, FileWalks, walk_limit}
 use Rattle.cif_form.specs.Walk.DrawRule.{F7}
 use Rattle.cif_form.specs.Walk.WalkEnd.{Whole, Broken}
 use Rattle.cif_form.specs.Counts.{FileCounts}
+use Rattle.cif_writer.specs.Texts.{file_text}
 use Rattle.fabric.specs.declared.chip.ChipLabel.{ChipLabel}
 use Rattle.fabric.specs.Labelled.{AreLabelsOf}
+use Rattle.slice_symbols.specs.declared.symbols.Symbol.{Symbol}
+use Rattle.slice_symbols.specs.Drawn.{drawn_rects}
+use Rattle.cif_emit.specs.Emittable.{AreDrawable}
+use Rattle.cif_emit.specs.Commands.{chip_commands}
+
+-- the symbols draw the squares of the rectangles in no more shapes, and can be drawn with the labels
+pub record AreSymbolsFor (rects : List Rect) (labels : List ChipLabel) (symbols : List Symbol) : Type 0 where
+  pub drawable : AreDrawable symbols labels
+  pub same : SameSquares (covered rects) (covered (drawn_rects symbols))
+  pub few : length (drawn_rects symbols) ≤ length rects
+
+-- the commands are those of such symbols: their boxes and calls, and the labels
+pub record AreCommandsOf (rects : List Rect) (labels : List ChipLabel) (commands : List Command) : Type 0 where
+  pub symbols : List Symbol
+  pub drawing : AreSymbolsFor rects labels symbols
+  pub are : commands ≡ chip_commands symbols labels
 
 -- The items draw the squares of the rectangles in no more shapes, and the labels. Their walk counts at most the
 -- rectangles, the labels and 65,536 more, and no rule but that of the count can be broken.
@@ -36,3 +55,11 @@ pub record IsEmitted (rects : List Rect) (labels : List ChipLabel) (commands : L
   pub fit : All Fits commands
   pub nest : Nests false commands
   pub drawn : (items : List Item) → map (λ (i : Item). i.command) items ≡ commands → IsDrawnBy rects labels items
+
+-- the output took the text of commands that draw the chip, or a first part of it
+pub record IsTaken {T E : Type 0} (rects : List Rect) (labels : List ChipLabel) (before after : Option (List ℕ))
+    (result : Result T E) : Type 0 where
+  pub commands : List Command
+  pub formed : AreCommandsOf rects labels commands
+  pub drawn : IsEmitted rects labels commands
+  pub taken : TakesAll Gains before after (file_text commands) result

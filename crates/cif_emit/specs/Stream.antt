@@ -5,7 +5,8 @@ use Rattle.mp_base.specs.declared.transfer.Fault.TheVariants.{Write, NoMemory}
 use Rattle.mp_base.specs.Outside.{WhereTold, Gains, Rose}
 
 -- a first part of the text was written; at `Ok` the rest waits, and else there is one
-pub record PutsOff {T E : Type 0} (before after : Option (List ℕ)) (text waiting : List ℕ) (result : Result T E) : Type 0 where
+pub record PutsOff {T E : Type 0} (before after : Option (List ℕ)) (text waiting : List ℕ)
+    (result : Result T E) : Type 0 where
   pub front : List ℕ
   pub rest : List ℕ
   pub split : text ≡ front ++ rest

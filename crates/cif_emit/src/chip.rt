@@ -2,42 +2,36 @@
 
 ghost use Rattle.std.specs.Prelude.{◌≡◌, IfOk};
 ghost use Rattle.cif_writer.specs.Texts.{commands_of};
-ghost use Rattle.cif_emit.specs.Emittable.{chip_rects, IsEmittable};
-ghost use Rattle.cif_emit.specs.Emitted.{IsEmitted};
+ghost use Rattle.cif_emit.specs.Emittable.{AreDrawable, chip_rects, IsEmittable};
+ghost use Rattle.cif_emit.specs.Emitted.{AreCommandsOf, IsEmitted};
 ghost use Rattle.cif_emit.specs.Commands.{chip_commands};
 
 use crate::cursor::Cursor;
 use crate::laws::commands_draw_the_chip;
+use crate::slices::symbols_for;
 use cif_list::Cif;
 use fabric::{Chip, ChipLabel};
-use lam_geom::{Rect, Shape};
-use mp_base::{List, NoMemory};
+use mp_base::NoMemory;
+use slice_symbols::Symbol;
 use std::alloc::Global;
 
-/// What a chip draws: its fabric, and the rectangles beside it.
-pub(crate) fn rects_of(alloc: Global, chip: &Chip) -> Result<Shape, NoMemory>
-    ensures { IfOk result (λ rects. rects ≡ chip_rects chip.now) }
-{
-    let mut rects = chip.fabric.shape(alloc)?.into_vec();
-    rects.extend_from_slice(chip.extra.as_slice())?;
-    Ok(List::from_vec(rects))
-}
-
-// The commands of rectangles and labels.
-fn cif_of(alloc: Global, rects: &[Rect], labels: &[ChipLabel]) -> Result<Cif, NoMemory>
-    requires { IsEmittable rects.now labels.now }
-    ensures { IfOk result (λ cif. commands_of cif ≡ chip_commands rects.now labels.now) }
+// The commands of symbols and labels.
+fn cif_of(alloc: Global, symbols: &[Symbol], labels: &[ChipLabel]) -> Result<Cif, NoMemory>
+    requires { AreDrawable symbols.now labels.now }
+    ensures { IfOk result (λ cif. commands_of cif ≡ chip_commands symbols.now labels.now) }
 {
     let mut cif = Cif::new(alloc);
-    let mut cursor = Cursor::Start;
-    while let Some(command) = cursor.next(alloc, rects, labels)? {
+    let mut cursor = Cursor::Start(0);
+    while let Some(command) = cursor.next(alloc, symbols, labels)? {
         cif.push(0, &command)?;
     }
     Ok(cif)
 }
 
-/// The commands of a chip: a symbol with a box for each rectangle that covers something, layer by layer, a call of it,
-/// and the chip's labels. They draw the squares of the chip, in no more shapes than it has rectangles, and its labels.
+/// The commands of a chip: two symbols, each with a box for each of its rectangles that covers something, layer by
+/// layer, and its calls, and the chip's labels. One symbol has what stands alike in each band of the fabric but the
+/// lowest, and is called once for each of these; the other has the rest, and is called once. They draw the squares of
+/// the chip, in no more shapes than it has rectangles, and its labels.
 /// No rule is broken in reading them, and none in drawing them but perhaps F7: a walk counts at most the chip's
 /// rectangles, its labels and 65,536 more.
 ///
@@ -50,10 +44,10 @@ fn cif_of(alloc: Global, rects: &[Rect], labels: &[ChipLabel]) -> Result<Cif, No
 /// `NoMemory`, also for 2^32 commands or more.
 pub fn emit(alloc: Global, chip: &Chip) -> Result<Cif, NoMemory>
     requires { IsEmittable (chip_rects chip.now) chip.now.labels }
-    ensures commands { IfOk result (λ cif. commands_of cif ≡ chip_commands (chip_rects chip.now) chip.now.labels) }
+    ensures commands { IfOk result (λ cif. AreCommandsOf (chip_rects chip.now) chip.now.labels (commands_of cif)) }
     ensures drawn { IfOk result (λ cif. IsEmitted (chip_rects chip.now) chip.now.labels (commands_of cif)) }
 {
     commands_draw_the_chip();
-    let rects = rects_of(alloc, chip)?;
-    cif_of(alloc, rects.as_slice(), chip.labels.as_slice())
+    let symbols = symbols_for(alloc, chip)?;
+    cif_of(alloc, symbols.as_slice(), chip.labels.as_slice())
 }

@@ -3,16 +3,17 @@
 ghost use Rattle.std.specs.Prelude.{List};
 ghost use Rattle.lam_geom.specs.declared.rect.Rect.{Rect};
 ghost use Rattle.fabric.specs.declared.chip.ChipLabel.{ChipLabel};
-ghost use Rattle.cif_emit.specs.Emittable.{IsEmittable, FabricsAreOnGrid};
-ghost use Rattle.cif_emit.specs.Emitted.{IsEmitted};
+ghost use Rattle.slice_symbols.specs.declared.symbols.Symbol.{Symbol};
+ghost use Rattle.cif_emit.specs.Emittable.{FabricsAreOnGrid};
+ghost use Rattle.cif_emit.specs.Emitted.{AreSymbolsFor, IsEmitted};
 ghost use Rattle.cif_emit.specs.Commands.{chip_commands};
 
 use cif_form::laws;
 
-/// The commands of a chip draw it.
+/// The commands of a chip's symbols draw it.
 pub(crate) fn commands_draw_the_chip()
-    ensures { (rects : List Rect) (labels : List ChipLabel) → IsEmittable rects labels
-        → IsEmitted rects labels (chip_commands rects labels) }
+    ensures { (rects : List Rect) (labels : List ChipLabel) (symbols : List Symbol)
+        → AreSymbolsFor rects labels symbols → IsEmitted rects labels (chip_commands symbols labels) }
 {
     laws::expansion_is_unique();
     laws::walk_is_unique();

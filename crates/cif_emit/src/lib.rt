@@ -6,6 +6,7 @@ mod chip;
 mod cursor;
 mod labels;
 pub mod laws;
+mod slices;
 mod stream;
 mod text;
 

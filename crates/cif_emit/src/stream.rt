@@ -6,20 +6,20 @@ ghost use Rattle.mp_base.specs.Piece.{TakesAll};
 ghost use Rattle.cif_form.specs.Fits.{Fits};
 ghost use Rattle.cif_form.specs.Writing.{text_of};
 ghost use Rattle.cif_writer.specs.Texts.{file_text};
-ghost use Rattle.cif_emit.specs.Emittable.{chip_rects, IsEmittable};
-ghost use Rattle.cif_emit.specs.Emitted.{IsEmitted};
+ghost use Rattle.cif_emit.specs.Emittable.{AreDrawable, chip_rects, IsEmittable};
+ghost use Rattle.cif_emit.specs.Emitted.{IsTaken};
 ghost use Rattle.cif_emit.specs.Commands.{chip_commands};
 ghost use Rattle.cif_emit.specs.Stream.{PutsOff, FaultHasCause};
 
-use crate::chip::rects_of;
 use crate::cursor::Cursor;
 use crate::laws::commands_draw_the_chip;
+use crate::slices::symbols_for;
 use crate::text::Text;
 use cif_form::Command;
 use cif_writer::{write_command, write_end};
 use fabric::{Chip, ChipLabel};
-use lam_geom::Rect;
 use mp_base::{Failed, Fault, NoMemory, Sink, write_all};
+use slice_symbols::Symbol;
 use std::alloc::Global;
 
 const PIECE: usize = 65536;
@@ -58,22 +58,22 @@ fn put_off_end(waiting: &mut Text) -> Result<(), NoMemory>
     }
 }
 
-// Writes the file of rectangles and labels but for what is put off at the end.
+// Writes the file of symbols and labels but for what is put off at the end.
 fn write_pieces<O: Sink>(
     alloc: Global,
-    rects: &[Rect],
+    symbols: &[Symbol],
     labels: &[ChipLabel],
     out: &mut O,
     waiting: &mut Text,
 ) -> Result<(), Fault>
-    requires emittable { IsEmittable rects.now labels.now }
+    requires drawable { AreDrawable symbols.now labels.now }
     requires none { waiting.old.bytes.items ≡ [] }
-    ensures put_off { PutsOff (O.held out.old) (O.held out.new) (file_text (chip_commands rects.now labels.now))
+    ensures put_off { PutsOff (O.held out.old) (O.held out.new) (file_text (chip_commands symbols.now labels.now))
         waiting.new.bytes.items result }
     ensures cause { FaultHasCause (O.faults out.old) (O.faults out.new) result }
 {
-    let mut cursor = Cursor::Start;
-    while let Some(command) = cursor.next(alloc, rects, labels)? {
+    let mut cursor = Cursor::Start(0);
+    while let Some(command) = cursor.next(alloc, symbols, labels)? {
         put_off(waiting, command)?;
         write_piece(out, waiting)?;
     }
@@ -81,7 +81,7 @@ fn write_pieces<O: Sink>(
     Ok(())
 }
 
-/// Writes the text of the commands that [`emit`](crate::emit) gives and the end of the file, in pieces, and holds one
+/// Writes the text of commands as [`emit`](crate::emit) gives them and the end of the file, in pieces, and holds one
 /// command at a time. The condition on the chip is that of `emit`.
 ///
 /// # Errors
@@ -89,18 +89,15 @@ fn write_pieces<O: Sink>(
 /// `Write` where the output failed, and `NoMemory`. A first part of the text was written then, but not all.
 pub fn emit_to<O: Sink>(alloc: Global, chip: &Chip, out: &mut O) -> Result<(), Fault>
     requires { IsEmittable (chip_rects chip.now) chip.now.labels }
-    ensures taken { TakesAll Gains (O.held out.old) (O.held out.new)
-        (file_text (chip_commands (chip_rects chip.now) chip.now.labels)) result }
+    ensures taken { IsTaken (chip_rects chip.now) chip.now.labels (O.held out.old) (O.held out.new) result }
     ensures cause { FaultHasCause (O.faults out.old) (O.faults out.new) result }
-    ensures drawn { IsEmitted (chip_rects chip.now) chip.now.labels
-        (chip_commands (chip_rects chip.now) chip.now.labels) }
 {
     commands_draw_the_chip();
-    let rects = rects_of(alloc, chip)?;
+    let symbols = symbols_for(alloc, chip)?;
     let mut waiting = Text::new(alloc);
     write_pieces(
         alloc,
-        rects.as_slice(),
+        symbols.as_slice(),
         chip.labels.as_slice(),
         out,
         &mut waiting,

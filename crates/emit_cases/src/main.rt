@@ -1,7 +1,7 @@
 //! Chips as commands. Each line of the file is a chip: how many columns and rows its fabric has, in which nothing
 //! stands, and rectangles beside it by layer and corners in lambda, and labels in units of two half-units. Its text is
-//! shown, and what is read back of that: each rectangle by its corners in half-units, and each label. Then a chip of many
-//! boxes is written in pieces, of which the first, the second, the third and none fails.
+//! shown, and what is read back of that: each rectangle by its corners in half-units, and each label. Then a chip of
+//! many boxes is written in pieces, of which the first, the second, the third and none fails.
 #![tactic(auto)]
 
 mod answer;

@@ -1,0 +1,5 @@
+mod Members
+pub mod Lifting
+mod Stood
+mod Shared
+mod Drawn

@@ -1,0 +1,9 @@
+//! What is drawn alike in each band of a chip, once: rectangles to the symbols that draw them.
+#![tactic(auto)]
+
+mod bands;
+mod standing;
+mod symbols;
+
+pub use bands::Bands;
+pub use symbols::{Symbol, symbols_of};
