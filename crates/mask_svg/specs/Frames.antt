@@ -1,6 +1,6 @@
--- The frame around a drawing, and the unit of its picture, in which letters are one high.
+-- The frame around a drawing, and the unit of its picture, in which letters are at most one high.
 use Rattle.std.specs.Prelude.{ℕ, ◌+◌, ◌*◌, ◌/◌, nat_lt, if◌then◌else◌, List, [], ◌∷◌, fold, max}
-use Rattle.std.specs.Prelude.{ℤ, pos, ◌-ℤ◌, unsigned_abs}
+use Rattle.std.specs.Prelude.{pos, ◌-ℤ◌, unsigned_abs}
 use Rattle.std.specs.Int.{int_max, int_min}
 use Rattle.lam_geom.specs.declared.rect.Rect.{Rect}
 use Rattle.lam_geom.specs.Extent.{lambda}

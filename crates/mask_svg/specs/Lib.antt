@@ -1,2 +1,3 @@
 pub mod Frames
+pub mod Heights
 pub mod Pictures

@@ -10,7 +10,8 @@ use Rattle.lam_geom.specs.declared.rect.Rect.{Rect}
 use Rattle.lam_geom.specs.Squares.{rank}
 use Rattle.cif_form.specs.Place.{layer_name}
 use Rattle.mask_svg.specs.declared.frame.Frame.{Frame}
-use Rattle.mask_svg.specs.declared.style.TheConstants.{KEY, KEY_PLACE, MARK, STYLE, VIEW}
+use Rattle.mask_svg.specs.declared.style.TheConstants.{KEY, KEY_PLACE, STYLE, VIEW}
+use Rattle.mask_svg.specs.Heights.{name_height}
 use Rattle.mask_svg.specs.Frames.{frame_of, grain, picture_height, picture_width, unit, unit_count}
 
 -- a number behind a few letters
@@ -62,35 +63,35 @@ escaped b =
 
 -- where a label stands
 unfoldable pub place_text : FlatLabel → List ℕ
-place_text l = tagged (codes "x='") l.x ++ tagged (codes "' y='") (neg_ℤ l.y) ++ codes "'"
+place_text l = tagged (codes "<g transform='translate(") l.x ++ tagged (codes " ") (neg_ℤ l.y) ++ codes ")"
 
--- the mark of a label
-unfoldable pub use_text : FlatLabel → List ℕ
-use_text l = codes "<use href='#mark' " ++ place_text l ++ codes "/>"
+-- its name goes upwards, so high
+unfoldable pub height_text : ℕ → List ℕ
+height_text height = tagged (codes " rotate(-90) scale(") (pos height)
 
--- its name, up to the end of the text
+-- its name, up to the end of the label
 unfoldable pub name_text : FlatLabel → List ℕ
-name_text l = flat_map escaped l.name ++ codes "</text>\n"
+name_text l = flat_map escaped l.name ++ codes "</text></g>\n"
 
--- its name, a little to the right
+-- its mark and its name, a little behind that
 unfoldable pub named_text : FlatLabel → List ℕ
-named_text l = codes " dx='.3em'>" ++ name_text l
+named_text l = codes ")'><circle r='.2'/><text x='.3'>" ++ name_text l
 
--- the mark of a label and its name, at the lower left corner of its square
-unfoldable pub label_text : FlatLabel → List ℕ
-label_text l = use_text l ++ codes "<text " ++ place_text l ++ named_text l
+-- a label with a name of some height, at the lower left corner of its square
+unfoldable pub sized_text : ℕ → FlatLabel → List ℕ
+sized_text height l = place_text l ++ height_text height ++ named_text l
+
+-- a label of a drawing with a unit and labels
+abbrev pub label_text : ℕ → List FlatLabel → FlatLabel → List ℕ
+label_text unit labels l = sized_text (name_height unit labels l) l
 
 unfoldable pub labels_text : Frame → List FlatLabel → List ℕ
 labels_text f labels =
-    tagged (codes "<g font-size='") (pos (unit f)) ++ codes "'>\n" ++ flat_map label_text labels ++ codes "</g>\n"
+    codes "<g font-size='1'>\n" ++ flat_map (label_text (unit f) labels) labels ++ codes "</g>\n"
 
 -- the size of the picture
 unfoldable pub view_text : Frame → List ℕ
 view_text f = tagged VIEW.now (pos (picture_width f)) ++ tagged (codes " ") (pos (picture_height f)) ++ codes "'>\n"
-
--- the mark of labels
-unfoldable pub mark_text : Frame → List ℕ
-mark_text f = tagged MARK.now (pos (unit f)) ++ codes ")'/></defs>\n"
 
 -- two units from the left and from above
 unfoldable pub margin_text : Frame → List ℕ
@@ -134,7 +135,7 @@ key_text f = key_place_text f ++ KEY.now ++ scale_text f
 
 -- what stands before the drawing
 unfoldable pub head_text : Frame → List ℕ
-head_text f = view_text f ++ STYLE.now ++ mark_text f ++ shift_text f
+head_text f = view_text f ++ STYLE.now ++ shift_text f
 
 -- the picture of a drawing with its labels
 abbrev pub picture_text : List Rect → List FlatLabel → List ℕ

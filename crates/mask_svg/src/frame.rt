@@ -85,7 +85,7 @@ impl Frame {
         if self.longer_side() < 20_000 { 1 } else { 500 }
     }
 
-    /// How many of these a unit of the picture has: its letters are a unit high.
+    /// How many of these a unit of the picture has: its letters are at most a unit high.
     pub fn unit_count(self) -> u64
         ensures value { result ≡ unit_count self }
     {

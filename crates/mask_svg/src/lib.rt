@@ -2,6 +2,7 @@
 #![tactic(auto)]
 
 mod frame;
+mod height;
 mod style;
 mod text;
 mod writing;

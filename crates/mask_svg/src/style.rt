@@ -1,16 +1,15 @@
 //! How a picture looks.
 
-/// The colours of the layers: what lies below shows through.
-pub(crate) const STYLE: &str = "<style>text{font-family:sans-serif}path,rect{fill-opacity:.6}\
+/// The colours of the layers, of which what lies below shows through, and letters with a bright edge.
+pub(crate) const STYLE: &str = "<style>\
+text{font-family:sans-serif;paint-order:stroke;stroke:#fff;stroke-width:.2em;stroke-opacity:.7}\
+path,rect{fill-opacity:.6}\
 .ND{fill:#2e9e4f}.NP{fill:#d93636}.NC{fill:#000;fill-opacity:1}.NM{fill:#3a6fd8;fill-opacity:.45}\
 .NI{fill:#f2c500;fill-opacity:.35}path.NI{stroke:#8a6a00;stroke-dasharray:1 3;vector-effect:non-scaling-stroke}\
 .NB{fill:#7a4a21}.NG{fill:#999;fill-opacity:.35}</style>\n";
 
 /// What stands before the size of the picture.
 pub(crate) const VIEW: &str = "<svg xmlns='http://www.w3.org/2000/svg' viewBox='0 0 ";
-
-/// What stands before the size of the mark of labels.
-pub(crate) const MARK: &str = "<defs><circle id='mark' r='.2' transform='scale(";
 
 /// What stands before the place of the key.
 pub(crate) const KEY_PLACE: &str = "<g font-size='.8' transform='translate(";

@@ -3,14 +3,16 @@
 ghost use Rattle.std.specs.Prelude.{◌≡◌, ◌++◌, IfOk, OnOk};
 ghost use Rattle.std.specs.List.{flat_map};
 ghost use Rattle.cif_form.specs.Place.{layer_name};
-ghost use Rattle.mask_svg.specs.Pictures.{corner_move, corner_text, far_sides_text, grain_name, head_text};
+ghost use Rattle.mask_svg.specs.Pictures.{corner_move, corner_text, far_sides_text, grain_name, head_text, height_text};
 ghost use Rattle.mask_svg.specs.Pictures.{key_corner_text, key_place_text, key_size_text, key_text, label_text};
-ghost use Rattle.mask_svg.specs.Pictures.{labels_text, layer_text, layers, margin_text, mark_text, name_text};
+ghost use Rattle.mask_svg.specs.Pictures.{labels_text, layer_text, layers, margin_text, name_text};
 ghost use Rattle.mask_svg.specs.Pictures.{named_text, near_sides_text, on_layer, picture_text, place_text, rect_text};
-ghost use Rattle.mask_svg.specs.Pictures.{scale_text, shapes_text, shift_text, sides_text, top_move, use_text, view_text};
+ghost use Rattle.mask_svg.specs.Pictures.{scale_text, shapes_text, shift_text, sides_text, sized_text, top_move};
+ghost use Rattle.mask_svg.specs.Pictures.{view_text};
 
 use crate::frame::{Frame, frame_of};
-use crate::style::{KEY, KEY_PLACE, MARK, STYLE, VIEW};
+use crate::height::{compared, height_among};
+use crate::style::{KEY, KEY_PLACE, STYLE, VIEW};
 use crate::text::{push_count, push_name, push_negated, push_tagged};
 use lam_geom::{FlatLabel, Layer, Rect};
 use std::alloc::{AllocError, Global};
@@ -130,18 +132,16 @@ fn push_shapes(text: &mut Vec<u8>, shapes: &[Rect]) -> Result<(), AllocError>
 fn push_place(text: &mut Vec<u8>, label: &FlatLabel) -> Result<(), AllocError>
     ensures { OnOk result (text.new.items ≡ text.old.items ++ place_text label.now) }
 {
-    push_tagged(text, b"x='", label.x)?;
-    push_negated(text, b"' y='", label.y)?;
-    text.extend_from_slice(b"'")
+    push_tagged(text, b"<g transform='translate(", label.x)?;
+    push_negated(text, b" ", label.y)?;
+    text.extend_from_slice(b")")
 }
 
-#[tactic(auto, unfolding(crate::specs::Pictures::use_text))]
-fn push_use(text: &mut Vec<u8>, label: &FlatLabel) -> Result<(), AllocError>
-    ensures { OnOk result (text.new.items ≡ text.old.items ++ use_text label.now) }
+#[tactic(auto, unfolding(crate::specs::Pictures::height_text))]
+fn push_height(text: &mut Vec<u8>, height: u64) -> Result<(), AllocError>
+    ensures { OnOk result (text.new.items ≡ text.old.items ++ height_text height) }
 {
-    text.extend_from_slice(b"<use href='#mark' ")?;
-    push_place(text, label)?;
-    text.extend_from_slice(b"/>")
+    push_count(text, b" rotate(-90) scale(", height as u128)
 }
 
 #[tactic(auto, unfolding(crate::specs::Pictures::name_text))]
@@ -149,33 +149,33 @@ fn push_name_of(text: &mut Vec<u8>, label: &FlatLabel) -> Result<(), AllocError>
     ensures { OnOk result (text.new.items ≡ text.old.items ++ name_text label.now) }
 {
     push_name(text, label.name.bytes())?;
-    text.extend_from_slice(b"</text>\n")
+    text.extend_from_slice(b"</text></g>\n")
 }
 
 #[tactic(auto, unfolding(crate::specs::Pictures::named_text))]
 fn push_named(text: &mut Vec<u8>, label: &FlatLabel) -> Result<(), AllocError>
     ensures { OnOk result (text.new.items ≡ text.old.items ++ named_text label.now) }
 {
-    text.extend_from_slice(b" dx='.3em'>")?;
+    text.extend_from_slice(b")'><circle r='.2'/><text x='.3'>")?;
     push_name_of(text, label)
 }
 
-#[tactic(auto, unfolding(crate::specs::Pictures::label_text))]
-fn push_label(text: &mut Vec<u8>, label: &FlatLabel) -> Result<(), AllocError>
-    ensures { OnOk result (text.new.items ≡ text.old.items ++ label_text label.now) }
+#[tactic(auto, unfolding(crate::specs::Pictures::sized_text))]
+fn push_label(text: &mut Vec<u8>, height: u64, label: &FlatLabel) -> Result<(), AllocError>
+    ensures { OnOk result (text.new.items ≡ text.old.items ++ sized_text height label.now) }
 {
-    push_use(text, label)?;
-    text.extend_from_slice(b"<text ")?;
     push_place(text, label)?;
+    push_height(text, height)?;
     push_named(text, label)
 }
 
 // Adds all labels.
-fn push_all(text: &mut Vec<u8>, labels: &[FlatLabel]) -> Result<(), AllocError>
-    ensures { OnOk result (text.new.items ≡ text.old.items ++ flat_map label_text labels.now) }
+fn push_all(text: &mut Vec<u8>, unit: u64, labels: &[FlatLabel]) -> Result<(), AllocError>
+    ensures { OnOk result (text.new.items ≡ text.old.items ++ flat_map (label_text unit labels.now) labels.now) }
 {
+    let others = compared(labels);
     for label in labels {
-        push_label(text, label)?;
+        push_label(text, height_among(label, others, unit), label)?;
     }
     Ok(())
 }
@@ -184,9 +184,8 @@ fn push_all(text: &mut Vec<u8>, labels: &[FlatLabel]) -> Result<(), AllocError>
 fn push_labels(text: &mut Vec<u8>, frame: Frame, labels: &[FlatLabel]) -> Result<(), AllocError>
     ensures { OnOk result (text.new.items ≡ text.old.items ++ labels_text frame labels.now) }
 {
-    push_count(text, b"<g font-size='", frame.unit() as u128)?;
-    text.extend_from_slice(b"'>\n")?;
-    push_all(text, labels)?;
+    text.extend_from_slice(b"<g font-size='1'>\n")?;
+    push_all(text, frame.unit(), labels)?;
     text.extend_from_slice(b"</g>\n")
 }
 
@@ -197,14 +196,6 @@ fn push_view(text: &mut Vec<u8>, frame: Frame) -> Result<(), AllocError>
     push_count(text, VIEW.as_bytes(), frame.picture_width())?;
     push_count(text, b" ", frame.picture_height())?;
     text.extend_from_slice(b"'>\n")
-}
-
-#[tactic(auto, unfolding(crate::specs::Pictures::mark_text))]
-fn push_mark(text: &mut Vec<u8>, frame: Frame) -> Result<(), AllocError>
-    ensures { OnOk result (text.new.items ≡ text.old.items ++ mark_text frame) }
-{
-    push_count(text, MARK.as_bytes(), frame.unit() as u128)?;
-    text.extend_from_slice(b")'/></defs>\n")
 }
 
 #[tactic(auto, unfolding(crate::specs::Pictures::margin_text))]
@@ -298,7 +289,6 @@ fn push_head(text: &mut Vec<u8>, frame: Frame) -> Result<(), AllocError>
 {
     push_view(text, frame)?;
     text.extend_from_slice(STYLE.as_bytes())?;
-    push_mark(text, frame)?;
     push_shift(text, frame)
 }
 

@@ -5,4 +5,4 @@ use Rattle.mask_svg.proofs.writing.push_all.Given as goal
 
 abbrev pub invariant-loop-label : goal.invariant-loop-label
 invariant-loop-label l = l.text.items
-    ≡ l.fn.text.items ++ flat_map label_text (take l.label-index l.labels)
+    ≡ l.fn.text.items ++ flat_map (label_text l.unit l.labels) (take l.label-index l.labels)
