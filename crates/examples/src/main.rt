@@ -96,6 +96,16 @@ fn show(
     println!(rt; "{text}")
 }
 
+// Whether a value of a line isn't known.
+fn has_unknown(line: &str) -> bool {
+    for value in line.as_bytes().split(|byte| *byte == b'=').skip(1) {
+        if let [b'X', ..] = value {
+            return true;
+        }
+    }
+    false
+}
+
 // How many lines have values that aren't known, if the others are those of the transcript and the size of the masks is
 // the last.
 fn unknown_lines(printed: &str, transcript: &str) -> Option<u32> {
@@ -104,16 +114,15 @@ fn unknown_lines(printed: &str, transcript: &str) -> Option<u32> {
     for wanted in transcript.lines() {
         let line = lines.next()?;
         if line != wanted {
-            if !line.contains("=X") {
+            if !has_unknown(line) {
                 return None;
             }
             unknown = unknown.wrapping_add(1);
         }
     }
-    if lines.next()?.starts_with("nodes ") {
-        Some(unknown)
-    } else {
-        None
+    match lines.next()?.split_once(' ') {
+        Some((first, _)) if first == "nodes" => Some(unknown),
+        _ => None,
     }
 }
 

@@ -3,7 +3,6 @@
 
 mod answer;
 mod build;
-mod fits;
 mod read;
 
 use answer::answer;

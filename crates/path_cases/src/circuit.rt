@@ -83,16 +83,6 @@ impl Circuit {
         Ok(Circuit { flat, values })
     }
 
-    /// Makes all values unknown.
-    pub fn forget(&mut self, alloc: Global) -> Result<(), NoMemory> {
-        let mut values = List::new(alloc);
-        for _ in 0..self.flat.net.len() {
-            values.push(Trit::X)?;
-        }
-        self.values = values;
-        Ok(())
-    }
-
     /// Makes all values random.
     pub fn charge(&mut self, alloc: Global, dice: &mut Dice) -> Result<(), NoMemory> {
         let mut values = List::new(alloc);

@@ -172,7 +172,7 @@ pub(crate) fn show_source(rt: &HostRuntime, name: &str) -> io::Result<()> {
 }
 
 // How large a path and its flat net are.
-#[derive(Clone, Copy, PartialEq, Eq, Debug)]
+#[derive(Clone, Copy)]
 struct Sizes {
     control: u32,
     slice: u32,

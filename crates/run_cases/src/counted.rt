@@ -96,9 +96,24 @@ fn size_at_end(alloc: Global, masks: &[u8], stimulus: &[u8]) -> Option<Vec<u8>> 
     size_behind(alloc, network, &given)
 }
 
+// Whether a line is such a size, of any circuit.
+fn tells_size(line: &str) -> bool {
+    let mut words = line.split_whitespace();
+    match words.next() {
+        Some(first) if first == "nodes" => {}
+        _ => return false,
+    }
+    for word in words {
+        if word == "ones" {
+            return true;
+        }
+    }
+    false
+}
+
 /// Whether a line is the size of the masks in the file `c` at the end of the stimulus in the file `t`.
 pub(crate) fn is_size_at_end(alloc: Global, files: &[File], line: &str) -> bool {
-    if !line.starts_with("nodes ") || !line.contains(" ones ") {
+    if !tells_size(line) {
         return false;
     }
     let (Some(masks), Some(stimulus)) = (text_of(files, "c"), text_of(files, "t")) else {

@@ -1,10 +1,12 @@
-//! Runs of the whole program over files in memory: how each ends, what it prints and what it writes.
+//! Runs of the whole program over files in memory: how each ends, what it prints and what it writes; and its exit
+//! statuses over the system's files.
 #![tactic(auto)]
 
 mod answer;
 mod counted;
 mod endless;
 mod ends;
+mod exits;
 mod files;
 mod script;
 mod sized;
@@ -17,5 +19,6 @@ fn main(rt: HostRuntime) -> io::Result<()> {
         let text = fs::read_to_string(&rt, name)?;
         script::follow(&rt, text.as_str())?;
     }
-    Ok(())
+    let text = fs::read_to_string(&rt, "exits.txt")?;
+    exits::follow(&rt, text.as_str())
 }

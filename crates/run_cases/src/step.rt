@@ -29,15 +29,16 @@ pub(crate) enum Step<'a> {
     Run(&'a str),
 }
 
-// The first word of a text, and the rest.
-fn first_word(text: &str) -> (&str, &str) {
+/// The first word of a text, and the rest.
+pub(crate) fn first_word(text: &str) -> (&str, &str) {
     match text.split_once(' ') {
         Some(parts) => parts,
         None => (text, ""),
     }
 }
 
-fn number(digits: &str) -> u64 {
+/// The number that digits spell.
+pub(crate) fn number(digits: &str) -> u64 {
     let mut number = 0u64;
     for digit in digits.bytes() {
         number = number.wrapping_mul(10).wrapping_add(u64::from(digit & 15));

@@ -26,7 +26,7 @@ fn are_few(rows: &[u32]) -> bool
 }
 
 /// Whether there is a fabric with so many columns and with these rows.
-pub(crate) fn is_room(columns: u32, rows: &[u32]) -> bool
+pub fn is_room(columns: u32, rows: &[u32]) -> bool
     ensures columns { OnTrue result ((3 ≤ columns) × (columns < limit)) }
     ensures bands { OnTrue result ((1 ≤ length rows.now) × (length rows.now < limit)) }
     ensures rows { OnTrue result (All (λ r. 1 ≤ r) rows.now) }
@@ -69,7 +69,7 @@ fn segment_lies(f: &Fabric, s: &Segment) -> bool
 }
 
 /// Whether the fabric takes the segment.
-pub(crate) fn takes_segment(f: &Fabric, s: &Segment) -> bool
+pub fn takes_segment(f: &Fabric, s: &Segment) -> bool
     ensures place { OnTrue result (IsSegment f.now s.now) }
     ensures apart { OnTrue result (All (λ t. SegmentsApart t s.now) f.now.segments) }
     ensures room { OnTrue result (length f.now.segments + 1 < limit) }
@@ -99,7 +99,7 @@ fn line_lies(f: &Fabric, l: &Line) -> bool
 }
 
 /// Whether the fabric takes the line.
-pub(crate) fn takes_line(f: &Fabric, l: &Line) -> bool
+pub fn takes_line(f: &Fabric, l: &Line) -> bool
     ensures place { OnTrue result (IsLine f.now l.now) }
     ensures apart { OnTrue result (All (λ m. LinesApart m l.now) f.now.lines) }
     ensures room { OnTrue result (length f.now.lines + 1 < limit) }
@@ -196,7 +196,7 @@ fn stands(f: &Fabric, m: &Mark) -> bool
 }
 
 /// Whether the fabric takes the mark.
-pub(crate) fn takes_mark(f: &Fabric, m: &Mark) -> bool
+pub fn takes_mark(f: &Fabric, m: &Mark) -> bool
     ensures place { OnTrue result (IsMark f.now m.now) }
     ensures apart { OnTrue result (All (λ n. MarksApart n m.now) f.now.marks) }
     ensures room { OnTrue result (length f.now.marks + 1 < limit) }

@@ -1,0 +1,1 @@
+(program x 33)
