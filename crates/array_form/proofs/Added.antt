@@ -1,8 +1,9 @@
 -- A fabric stays one where lines and marks are added that fit; and each call of what adds them one by one is met.
 use Rattle.std.proofs.Common.{◌≡◌, ◌⊎◌, inl, inr, ℕ, zero, suc, ◌<◌, ◌≤◌, ◌+◌, List, [], ◌∷◌, ◌++◌, length, map}
-use Rattle.std.proofs.Common.{get_or, take, refl, sym, ◌∙◌, ap, subst, arith, drop, append_assoc}
-use Rattle.std.proofs.lemmas.List.{append-nil, get_or-append-add}
+use Rattle.std.proofs.Common.{get_or, take, sym, ◌∙◌, ap, subst, arith, drop, append_assoc}
+use Rattle.std.proofs.lemmas.List.{append-nil, get_or-append-add, take-append-drop}
 use Rattle.std.specs.Prelude.{Contains, AllPairs, All}
+use Rattle.mp_base.proofs.Members.{Member, member_contains, contains_member}
 use Rattle.tile_cells.specs.declared.tile.Tile.{Tile}
 use Rattle.tile_cells.specs.declared.tile.Tile.TheVariants.{TapL, TapR, Tran, PullUp, Under}
 use Rattle.fabric.specs.declared.thing.Side.{Side}
@@ -12,7 +13,7 @@ use Rattle.fabric.specs.declared.thing.Mark.{Mark}
 use Rattle.fabric.specs.Plan.{Plan, IsFabric, IsSegment, IsLine, IsMark, Stands, LineAt, SegmentAt, LinesApart}
 use Rattle.fabric.specs.Plan.{SegmentsApart, MarksApart}
 use Rattle.fabric.specs.Plan.{with_added}
-use Rattle.array_form.proofs.Members.{Member, member_contains, contains_member, member_append, append_left}
+use Rattle.array_form.proofs.Members.{member_append, append_left}
 use Rattle.array_form.proofs.Members.{append_right}
 use Rattle.array_form.proofs.Pairs.{Each, each_at, Pairs, pairs_all, pairs_from, pairs_append}
 use Rattle.array_form.proofs.Laid.{all_from, all_at}
@@ -118,16 +119,10 @@ in_rest [] i x h e = absurd (omega arith)
 in_rest (y ∷ ys) zero x h e = inl e
 in_rest (y ∷ ys) (suc i) x h e = in_rest ys i x (omega arith) e
 
-split_at : {A : Type 0} (more : List A) (i : ℕ) → take i more ++ drop i more ≡ more
-split_at [] zero = refl
-split_at [] (suc i) = refl
-split_at (y ∷ ys) zero = refl
-split_at (y ∷ ys) (suc i) = ap (λ l. y ∷ l) (split_at ys i)
-
 pub next_apart : {A : Type 0} (P : A → A → Type 0) (old more : List A) → AllPairs P (old ++ more) → (i : ℕ) (x : A)
     → i < length more → get_or more i x ≡ x → All (λ y. P y x) (old ++ take i more)
 next_apart P old more h i x lt e = all_from (λ y. P y x) (old ++ take i more)
     (λ y m. pairs_cross P (old ++ take i more) (drop i more)
     (subst (Pairs P)
-    (ap (λ l. old ++ l) (sym (split_at more i)) ∙ sym (append_assoc old (take i more) (drop i more)))
+    (ap (λ l. old ++ l) (sym (take-append-drop i more)) ∙ sym (append_assoc old (take i more) (drop i more)))
     (pairs_from P (old ++ more) h)) y x m (in_rest more i x lt e))

@@ -4,6 +4,9 @@ use Rattle.std.proofs.Common.{false, cond, List, [], ◌∷◌, ◌++◌, length
 use Rattle.std.specs.Prelude.{Contains, flat_map, slice_get}
 use Rattle.std.specs.List.{range_with_len}
 use Rattle.std.proofs.lemmas.Option.{slice_get_within}
+use Rattle.mp_base.proofs.Lists.{map_append}
+use Rattle.std.proofs.lemmas.Simd.{map-map}
+use Rattle.mp_base.proofs.Members.{Member}
 use Rattle.tile_cells.specs.declared.tile.Tile.TheVariants.{TapL, TapR, Tran, PullUp}
 use Rattle.fabric.specs.declared.thing.Side.{Side}
 use Rattle.fabric.specs.declared.thing.Side.TheVariants.{L, R}
@@ -24,12 +27,7 @@ use Rattle.array_form.specs.Homes.{Columns, home, marks, phase_marks, phase_numb
 use Rattle.array_form.specs.Laying.{band_segment, band_segments, column_lines, band_lines, column_marks, band_marks}
 use Rattle.array_form.specs.Laying.{AreTracks, HasRoom}
 use Rattle.array_form.specs.BandLayout.{Bands, layout}
-use Rattle.array_form.proofs.Members.{Member, contains_member}
 use Rattle.array_form.proofs.Homes.{least_below, greatest_above, own_mark, input_mark, data_mark, phase_mark}
-
-map_append : {A B : Type 0} (g : A → B) (xs ys : List A) → map g (xs ++ ys) ≡ map g xs ++ map g ys
-map_append g [] ys = refl
-map_append g (x ∷ xs) ys = ap (λ l. g x ∷ l) (map_append g xs ys)
 
 map_flat : {A B C' : Type 0} (g : A → B) (h : C' → List A) (k : C' → List B) → ((c : C') → map g (h c) ≡ k c)
     → (cs : List C') → map g (flat_map h cs) ≡ flat_map k cs
@@ -40,10 +38,6 @@ map_flat g h k e (c ∷ cs) = map_append g (h c) (flat_map h cs)
 flat_same : {A B : Type 0} (h k : A → List B) → ((a : A) → h a ≡ k a) → (cs : List A) → flat_map h cs ≡ flat_map k cs
 flat_same h k e [] = refl
 flat_same h k e (c ∷ cs) = ap (λ l. l ++ flat_map h cs) (e c) ∙ ap (λ l. k c ++ l) (flat_same h k e cs)
-
-map_map : {A B C' : Type 0} (g : B → C') (h : A → B) (xs : List A) → map g (map h xs) ≡ map (λ x. g (h x)) xs
-map_map g h [] = refl
-map_map g h (x ∷ xs) = ap (λ l. g (h x) ∷ l) (map_map g h xs)
 
 range_more : (a n : ℕ) → range_with_len a (n + 3) ≡ range_with_len a n ++ ((a + n) ∷ (a + n + 1) ∷ (a + n + 2) ∷ [])
 range_more a zero =
@@ -67,7 +61,7 @@ module _ (X : Type 0) (d : Bands) (across : X → Line) (ground_at : X → ℕ) 
   pub rows_named : map segment (band_segments b (d.cols b) (d.row b) (d.parts b)) ≡ map (net_of X y)
       (band_rows X b (d.parts b))
   rows_named =
-      map_map segment (band_segment b (d.cols b) (d.row b)) (range_with_len 0 (length (d.parts b) + 3))
+      map-map segment (band_segment b (d.cols b) (d.row b)) (range_with_len 0 (length (d.parts b) + 3))
       ∙ (ap (map (λ k. segment (band_segment b (d.cols b) (d.row b) k))) (range_more 0 (length (d.parts b)))
       ∙ (map_append (λ k. segment (band_segment b (d.cols b) (d.row b) k)) (range_with_len 0 (length (d.parts b)))
       ((0 + length (d.parts b)) ∷ (0 + length (d.parts b) + 1) ∷ (0 + length (d.parts b) + 2) ∷ [])
@@ -75,7 +69,7 @@ module _ (X : Type 0) (d : Bands) (across : X → Line) (ground_at : X → ℕ) 
       ∙ sym (map_append (net_of X (layout X d across ground_at))
       (map (λ n. row (place b n)) (range_with_len 0 (length (d.parts b)))) (beat b A ∷ beat b B ∷ beat b C ∷ [])
       ∙ ap (λ l. l ++ map (net_of X (layout X d across ground_at)) (beat b A ∷ beat b B ∷ beat b C ∷ []))
-      (map_map (net_of X (layout X d across ground_at)) (λ n. row (place b n))
+      (map-map (net_of X (layout X d across ground_at)) (λ n. row (place b n))
       (range_with_len 0 (length (d.parts b))))))))
     where
       s : ℕ → Net
@@ -120,7 +114,7 @@ module _ (X : Type 0) (d : Bands) (across : X → Line) (ground_at : X → ℕ) 
   part_ties n t (Some (Gate ins)) =
       ap (λ l. mark TapL b (suc (d.row b n)) (home (d.columns b) n) ∷ mark TapR b 0
       (home (d.columns b) n) ∷ mark PullUp b (d.rows b) (home (d.columns b) n) ∷ l)
-      (sym (map_map (mark_of X (layout X d across ground_at))
+      (sym (map-map (mark_of X (layout X d across ground_at))
       (λ i. tran (row (place b i)) (left (place b n)) (right (place b n))) (inputs_of ins)))
   part_ties n t (Some (Latch ph None)) = refl
   part_ties n t (Some (Latch ph (Some s))) = refl

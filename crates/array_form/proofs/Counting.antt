@@ -1,9 +1,8 @@
 -- How much one placed net adds.
-use Rattle.std.proofs.Common.{◌≡◌, ◌⊎◌, inl, inr, ℕ, zero, suc, ◌<◌, ◌≤◌, ◌+◌, ◌*◌, Option, Some, None, Bool, true}
-use Rattle.std.proofs.Common.{false, cond, List, [], ◌∷◌, ◌++◌, length, map, refl, sym, ◌∙◌, ap, subst, arith}
-use Rattle.std.specs.Prelude.{slice_get, flat_map, filter, not, ◌==◌}
+use Rattle.std.proofs.Common.{◌≡◌, ◌⊎◌, ℕ, zero, suc, ◌<◌, ◌≤◌, ◌+◌, ◌*◌, Option, Some, None, Bool, true}
+use Rattle.std.proofs.Common.{false, List, [], ◌∷◌, ◌++◌, length, map, refl, sym, ◌∙◌, ap, subst, arith}
+use Rattle.std.specs.Prelude.{slice_get, flat_map, not, ◌==◌}
 use Rattle.std.specs.List.{range_with_len, sum_by}
-use Rattle.std.proofs.lemmas.Bool.{cases_Bool}
 use Rattle.tile_cells.specs.declared.tile.Tile.{Tile}
 use Rattle.tile_cells.specs.declared.tile.Tile.TheVariants.{TapL, TapR, Tran, PullUp}
 use Rattle.tile_cells.specs.Tiles.{cells}
@@ -22,6 +21,8 @@ use Rattle.array_form.specs.Homes.{Columns, home}
 use Rattle.fabric.specs.Plan.{Plan, rows_of}
 use Rattle.fabric.specs.Room.{IsRoomy}
 use Rattle.std.proofs.lemmas.List.{length-append}
+use Rattle.mp_base.proofs.Lists.{filter_few, length_map}
+use Rattle.std.proofs.lemmas.List.FromFn.{length-range_with_len}
 use Rattle.array_form.specs.Place.{HasSpace}
 use Rattle.array_form.specs.Laying.{with_net, column_lines, band_lines, column_marks, band_marks, band_segments}
 use Rattle.array_form.specs.Laying.{band_segment}
@@ -65,22 +66,10 @@ abbrev pub inputs_at : Option Part → ℕ
 inputs_at None = 0
 inputs_at (Some q) = fan_in q
 
-filter_few : {A : Type 0} (test : A → Bool) (xs : List A) → length (filter test xs) ≤ length xs
-filter_few test [] = omega arith
-filter_few test (x ∷ xs) = let i = filter_few test xs in elim (cases_Bool (test x)) [
-  | inl e ↦ subst (λ t. length (cond t (x ∷ filter test xs) (filter test xs)) ≤ length (x ∷ xs)) (sym e) (omega arith)
-  | inr e ↦ subst (λ t. length (cond t (x ∷ filter test xs) (filter test xs)) ≤ length (x ∷ xs)) (sym e)
-      (omega arith)
-]
-
 pub distinct_few : (xs : List ℕ) → length (distinct xs) ≤ length xs
 distinct_few [] = omega arith
 distinct_few (x ∷ xs) =
     let i = distinct_few xs in let f = filter_few (λ y. not (y == x)) (distinct xs) in omega arith
-
-length_map : {A B : Type 0} (g : A → B) (xs : List A) → length (map g xs) ≡ length xs
-length_map g [] = refl
-length_map g (x ∷ xs) = ap suc (length_map g xs)
 
 trans_weigh : (b c : ℕ) (row : ℕ → ℕ) (ks : List ℕ)
     → sum_by mark_size (map (λ i. mark Tran b (suc (row i)) c) ks) ≡ 4 * length ks
@@ -145,14 +134,10 @@ marks_few b top row y parts =
     let s = sum_parts (λ q. 12 + 4 * inputs_at q) parts in
     let t = weight_parts parts in omega arith
 
-length_range : (a n : ℕ) → length (range_with_len a n) ≡ n
-length_range a zero = refl
-length_range a (suc n) = ap suc (length_range (a + 1) n)
-
 pub segments_count : (b : ℕ) (cols : ℕ → List ℕ) (row : ℕ → ℕ) (parts : List Part)
     → length (band_segments b cols row parts) ≡ length parts + 3
 segments_count b cols row parts = length_map (band_segment b cols row) (range_with_len 0 (length parts + 3))
-    ∙ length_range 0 (length parts + 3)
+    ∙ length-range_with_len 0 (length parts + 3)
 
 ones : {A : Type 0} (xs : List A) → sum_by one xs ≡ length xs
 ones [] = refl

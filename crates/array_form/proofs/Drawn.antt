@@ -3,6 +3,8 @@ use Rattle.std.proofs.Common.{◌≡◌, ◌⊎◌, inl, inr, ◌↔◌, ℕ, �
 use Rattle.std.proofs.Common.{Bool, true, false, filter}
 use Rattle.std.specs.Prelude.{Contains, ◌≢◌}
 use Rattle.std.specs.List.{AllZip}
+use Rattle.mp_base.proofs.Tests.{false_true}
+use Rattle.mp_base.proofs.Members.{member_contains, contains_member, member_filter, filter_member}
 use Rattle.tile_cells.specs.declared.tile.Tile.{Tile}
 use Rattle.tile_cells.specs.declared.tile.Tile.TheVariants.{TapL, TapR, Tran, PullUp, Under}
 use Rattle.switch_net.specs.declared.network.ChannelKind.{ChannelKind}
@@ -22,21 +24,17 @@ use Rattle.drawing.specs.Draws.{IsPullUp, IsPass, IsDrawn, pull_down, pull_up, p
 use Rattle.array_form.specs.Named.{Tie, tap, tran, pull, IsAt, IsNamed, Speaks, Joins}
 use Rattle.array_form.specs.Roots.{Root, at, alone, AreRoots, AreRooted, IsSwitchOf, no_switch, down_of, pass_of}
 use Rattle.array_form.specs.Roots.{up_of, lone_of, AreSwitchesOf, AreHubs}
-use Rattle.array_form.proofs.Members.{Member, member_contains, contains_member, member_filter, filter_member}
 use Rattle.array_form.proofs.Members.{zip_left, zip_right}
 use Rattle.array_form.proofs.Once.{line_once, segment_once}
 use Rattle.array_form.proofs.Naming.{numbers_from_roots, roots_from_numbers, hub_number}
 
-false_not_true : false ≡ true → ⊥
-false_not_true e = cc e
-
 tap_is_no_switch : (s : Side) (m : Mark) → IsTapOn s m.tile → is_switch m ≡ true → ⊥
 tap_is_no_switch L m a b =
-    absurd (false_not_true
+    absurd (false_true
     (subst (λ t. elim t as (λ _. Bool)
     [ TapL ↦ false | TapR ↦ false | Tran ↦ true | PullUp ↦ true | Under ↦ false ] ≡ true) a b))
 tap_is_no_switch R m a b =
-    absurd (false_not_true
+    absurd (false_true
     (subst (λ t. elim t as (λ _. Bool)
     [ TapL ↦ false | TapR ↦ false | Tran ↦ true | PullUp ↦ true | Under ↦ false ] ≡ true) a b))
 

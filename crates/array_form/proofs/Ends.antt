@@ -5,6 +5,7 @@ use Rattle.std.specs.Prelude.{Contains, slice_get, flat_map}
 use Rattle.std.specs.List.{range_with_len}
 use Rattle.std.proofs.lemmas.Bool.{cases_Bool}
 use Rattle.std.proofs.lemmas.Option.{slice_get_within, slice_get_cases}
+use Rattle.mp_base.proofs.Members.{Member, member_map, map_member, member_filter, range_has}
 use Rattle.tile_cells.specs.declared.tile.Tile.TheVariants.{TapL, TapR, Tran, PullUp}
 use Rattle.fabric.specs.declared.thing.Mark.{Mark}
 use Rattle.nor_net.specs.declared.net.Phase.{Phase}
@@ -16,8 +17,8 @@ use Rattle.array_form.specs.Lists.{mark}
 use Rattle.array_form.specs.Band.{inputs_of}
 use Rattle.array_form.specs.Homes.{Columns, home, marks, numbers, reads, beats, is_of, phase_marks, phase_number}
 use Rattle.array_form.specs.Laying.{column_marks, band_marks}
-use Rattle.array_form.proofs.Members.{Member, member_append, member_map, map_member, member_filter, flat_member}
-use Rattle.array_form.proofs.Listing.{in_range, range_has, distinct_has, has_member, same_from}
+use Rattle.array_form.proofs.Members.{member_append, flat_member}
+use Rattle.array_form.proofs.Listing.{distinct_has, has_member, same_from}
 
 -- a mark stands there
 pub record MarkedAt (ms : List Mark) (b r c : ℕ) : Type 0 where
@@ -27,7 +28,7 @@ pub record MarkedAt (ms : List Mark) (b r c : ℕ) : Type 0 where
   pub row : the_mark.row ≡ r
   pub column : the_mark.column ≡ c
 
-one_phase : (p q : Phase) → is_of p q ≡ true → p ≡ q
+pub one_phase : (p q : Phase) → is_of p q ≡ true → p ≡ q
 one_phase A A e = refl
 one_phase A B e = absurd (cc e)
 one_phase A C e = absurd (cc e)

@@ -6,6 +6,7 @@ use Rattle.std.specs.Prelude.{Contains, slice_get, min, max}
 use Rattle.std.specs.List.{range_with_len}
 use Rattle.std.proofs.lemmas.Bool.{cases_Bool, cases_order, cases_lt}
 use Rattle.std.proofs.lemmas.Option.{slice_get_within}
+use Rattle.mp_base.proofs.Members.{Member, contains_member, map_member, filter_member, range_has}
 use Rattle.nor_net.specs.declared.net.Phase.{Phase}
 use Rattle.nor_net.specs.declared.net.Phase.TheVariants.{A, B, C}
 use Rattle.nor_net.specs.declared.net.NetId.{NetId}
@@ -14,9 +15,9 @@ use Rattle.nor_net.specs.declared.net.Part.TheVariants.{Input, Gate, Latch}
 use Rattle.array_form.specs.Band.{has}
 use Rattle.array_form.specs.Homes.{reads, beats, is_of, count_below, Columns, home, end_of, numbers, marks}
 use Rattle.array_form.specs.Homes.{phase_marks, phase_number, least, greatest}
-use Rattle.array_form.proofs.Members.{Member, member_contains, contains_member, map_member, append_left}
-use Rattle.array_form.proofs.Members.{append_right, filter_member}
-use Rattle.array_form.proofs.Listing.{range_has, same_from, same_to}
+use Rattle.array_form.proofs.Members.{append_left}
+use Rattle.array_form.proofs.Members.{append_right}
+use Rattle.array_form.proofs.Listing.{same_from, same_to}
 
 -- ---- counting
 pub count_grows : (test : ℕ → Bool) (a b : ℕ) → a ≤ b → count_below test a ≤ count_below test b

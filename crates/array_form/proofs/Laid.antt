@@ -8,6 +8,8 @@ use Rattle.std.proofs.lemmas.Bool.{cases_Bool, cases_eq, cases_lt}
 use Rattle.std.proofs.lemmas.List.{get_or_default}
 use Rattle.std.proofs.lemmas.Option.{slice_get_within}
 use Rattle.std.proofs.lemmas.List.Elements.{All-contains}
+use Rattle.mp_base.proofs.Members.{Member, member_contains, contains_member, member_map, map_member, member_filter}
+use Rattle.mp_base.proofs.Members.{range_members, range_has}
 use Rattle.tile_cells.specs.declared.tile.Tile.{Tile}
 use Rattle.tile_cells.specs.declared.tile.Tile.TheVariants.{TapL, TapR, Tran, PullUp, Under}
 use Rattle.fabric.specs.declared.thing.Side.{Side}
@@ -28,10 +30,10 @@ use Rattle.array_form.specs.Homes.{Columns, home, end_of, marks, numbers, reads,
 use Rattle.array_form.specs.Homes.{greatest}
 use Rattle.array_form.specs.Laying.{with_net, band_segment, band_segments, column_lines, band_lines, column_marks}
 use Rattle.array_form.specs.Laying.{band_marks, AreTracks, HasRoom}
-use Rattle.array_form.proofs.Members.{Member, member_contains, contains_member, member_append, member_map}
-use Rattle.array_form.proofs.Members.{map_member, member_flat, flat_member, member_filter, append_left}
+use Rattle.array_form.proofs.Members.{member_append}
+use Rattle.array_form.proofs.Members.{member_flat, flat_member, append_left}
 use Rattle.array_form.proofs.Members.{append_right}
-use Rattle.array_form.proofs.Listing.{in_range, range_has, distinct_from, differs_from}
+use Rattle.array_form.proofs.Listing.{distinct_from, differs_from}
 use Rattle.array_form.proofs.Homes.{home_once, home_inside, home_rises, least_below, greatest_above, least_in}
 use Rattle.array_form.proofs.Homes.{greatest_in, own_mark, input_mark, data_mark, phase_mark}
 use Rattle.array_form.proofs.Pairs.{Each, each_at, Pairs, pairs_all, pairs_from, pairs_append, pairs_map_range}
@@ -93,7 +95,7 @@ module _ (f : Plan) (lawful : IsFabric f) (b : ℕ) (y : Columns) (parts : List 
         | inr k ↦ elim (member_append (map (home y) (numbers (reads n) parts)) (y.more n) c k) [
           | inl j ↦ (let w = member_map (home y) (numbers (reads n) parts) c j in
               let u = member_filter (λ j. reads n (slice_get parts j)) (range_with_len 0 (length parts)) w.0 w.1 in
-              let r = (in_range 0 (length parts) w.0 u.0).1 in
+              let r = (range_members 0 (length parts) w.0 u.0).1 in
               let e = end_grows w.0 (omega arith) (reader_homed n w.0 (slice_get parts w.0) refl u.1) in
               subst (λ z. (1 ≤ z) × (z + 1 < f.columns)) w.2 (e.0, e.1))
           | inr j ↦ (room.more n c (member_contains (y.more n) c j))
@@ -117,7 +119,7 @@ module _ (f : Plan) (lawful : IsFabric f) (b : ℕ) (y : Columns) (parts : List 
       let w = member_map (home y) (numbers (Rattle.array_form.specs.Homes.beats ph) parts) c k in
       let u = member_filter (λ j. Rattle.array_form.specs.Homes.beats ph (slice_get parts j))
       (range_with_len 0 (length parts)) w.0 w.1 in
-      let r = (in_range 0 (length parts) w.0 u.0).1 in
+      let r = (range_members 0 (length parts) w.0 u.0).1 in
       let e = end_grows w.0 (omega arith) (beat_homed w.0 (slice_get parts w.0) refl u.1) in
       subst (λ z. (1 ≤ z) × (z + 1 < f.columns)) w.2 (e.0, e.1)
     where
@@ -188,7 +190,7 @@ module _ (f : Plan) (lawful : IsFabric f) (b : ℕ) (y : Columns) (parts : List 
   unfolding seg
   in_segments s m =
       let w = member_map (band_segment b cols row) (range_with_len 0 (length parts + 3)) s m in
-      let r = (in_range 0 (length parts + 3) w.0 w.1).1 in (w.0, omega arith, w.2)
+      let r = (range_members 0 (length parts + 3) w.0 w.1).1 in (w.0, omega arith, w.2)
 
   segments_all : All (IsSegment g) (f.segments ++ band_segments b cols row parts)
   segments_all =
@@ -594,7 +596,7 @@ module _ (f : Plan) (lawful : IsFabric f) (b : ℕ) (y : Columns) (parts : List 
       let w = member_flat
       (λ n. column_marks b (rows_of f b) row (length parts) (home y n) (y.stub n) n (slice_get parts n))
       (range_with_len 0 (length parts)) m k in
-      let r = (in_range 0 (length parts) w.0 w.1).1 in (w.0, omega arith, w.2)
+      let r = (range_members 0 (length parts) w.0 w.1).1 in (w.0, omega arith, w.2)
 
   marks_all : All (IsMark g) (f.marks ++ top)
   marks_all = all_from (IsMark g) (f.marks ++ top) (λ m k. elim (member_append f.marks top m k) [

@@ -15,3 +15,7 @@ pub mod Room
 pub mod Tracking
 pub mod Rows
 pub mod Placing
+pub mod Below
+pub mod Distinct
+pub mod Greatest
+pub mod Phases

@@ -1,11 +1,14 @@
 -- The lists of a band have exactly its ties and lines.
-use Rattle.std.proofs.Common.{◌≡◌, ◌⊎◌, inl, inr, ℕ, zero, suc, ◌<◌, ◌≤◌, ◌+◌, ◌==◌, Option, Some, None, Bool, true}
+use Rattle.std.proofs.Common.{◌≡◌, ◌⊎◌, inl, inr, ℕ, ◌==◌, Option, Some, None, Bool, true}
 use Rattle.std.proofs.Common.{false, cond, List, [], ◌∷◌, ◌++◌, length, map, get_or, refl, sym, ◌∙◌, ap, subst}
 use Rattle.std.proofs.Common.{arith}
 use Rattle.std.specs.Prelude.{Contains, slice_get, flat_map, not, ◌≢◌}
 use Rattle.std.specs.List.{range_with_len}
 use Rattle.std.proofs.lemmas.Bool.{cases_Bool, cases_eq}
 use Rattle.std.proofs.lemmas.Option.{slice_get_within}
+use Rattle.mp_base.proofs.Tests.{false_true}
+use Rattle.mp_base.proofs.Members.{Member, member_contains, contains_member, member_map, map_member, member_filter}
+use Rattle.mp_base.proofs.Members.{filter_member, range_has}
 use Rattle.fabric.specs.declared.thing.Side.TheVariants.{L, R}
 use Rattle.nor_net.specs.declared.net.Phase.{Phase}
 use Rattle.nor_net.specs.declared.net.NetId.{NetId}
@@ -16,23 +19,8 @@ use Rattle.array_form.specs.Named.{Tie, tap, tran, pull}
 use Rattle.array_form.specs.Wires.{Wire, row, beat, left, right, to_ground, place, NetTie, gate_own, gate_ground}
 use Rattle.array_form.specs.Wires.{gate_pull, gate_input, latch_own, latch_data, latch_phase, stub_own}
 use Rattle.array_form.specs.Band.{has, distinct, inputs_of, net_columns, net_ties, band_rows, band_columns, band_ties}
-use Rattle.array_form.proofs.Members.{Member, member_contains, contains_member, member_map, map_member, member_flat}
-use Rattle.array_form.proofs.Members.{flat_member, member_append, append_left, append_right, member_filter}
-use Rattle.array_form.proofs.Members.{filter_member}
-
-pub in_range : (a n b : ℕ) → Member (range_with_len a n) b → (a ≤ b) × (b < a + n)
-in_range a zero b m = absurd m
-in_range a (suc n) b (inl e) = (omega arith, omega arith)
-in_range a (suc n) b (inr m) =
-    let w = in_range (a + 1) n b m in let u = w.0 in let v = w.1 in (omega arith, omega arith)
-
-pub range_has : (a n b : ℕ) → a ≤ b → b < a + n → Member (range_with_len a n) b
-range_has a zero b h k = absurd (omega arith)
-range_has a (suc n) b h k =
-    elim (cases_eq a b) [ inl e ↦ inl e | inr e ↦ inr (range_has (a + 1) n b (omega arith) (omega arith)) ]
-
-false_true : false ≡ true → ⊥
-false_true e = cc e
+use Rattle.array_form.proofs.Members.{member_flat}
+use Rattle.array_form.proofs.Members.{flat_member, member_append, append_left, append_right}
 
 pub same_from : (x a : ℕ) → (x == a) ≡ true → x ≡ a
 same_from x a e = grind arith

@@ -1,9 +1,12 @@
 -- A fabric that is made of lists of names is named.
-use Rattle.std.proofs.Common.{◌≡◌, ◌⊎◌, inl, inr, ℕ, zero, suc, ◌<◌, ◌≤◌, ◌+◌, List, [], ◌∷◌, map, length, get_or}
+use Rattle.std.proofs.Common.{◌≡◌, ◌⊎◌, inl, inr, ℕ, suc, ◌<◌, ◌≤◌, ◌+◌, List, [], ◌∷◌, map, length, get_or}
 use Rattle.std.proofs.Common.{refl, sym, ◌∙◌, ap, subst, arith}
 use Rattle.std.specs.Prelude.{Contains, AllPairs, All, ◌≢◌}
 use Rattle.std.proofs.lemmas.Bool.{cases_order}
 use Rattle.std.proofs.lemmas.List.Elements.{All-contains}
+use Rattle.std.proofs.lemmas.List.{get_or-map}
+use Rattle.mp_base.proofs.Lists.{length_map}
+use Rattle.mp_base.proofs.Members.{Member, member_contains, contains_member, member_map, map_member}
 use Rattle.tile_cells.specs.declared.tile.Tile.{Tile}
 use Rattle.tile_cells.specs.declared.tile.Tile.TheVariants.{TapL, TapR, Tran, PullUp, Under}
 use Rattle.fabric.specs.declared.thing.Side.{Side}
@@ -17,7 +20,6 @@ use Rattle.array_form.specs.Named.{Tie, tap, tran, pull, IsAt, IsNamed, Speaks}
 use Rattle.array_form.specs.Wires.{Wire, row, beat, left, right, trunk, extra, to_ground, to_power}
 use Rattle.array_form.specs.Lists.{Layout, net_of, mark_of, Crossing, IsLineAt, IsSegmentAt, IsMadeOf, InLists}
 use Rattle.array_form.specs.Lists.{tap_tile}
-use Rattle.array_form.proofs.Members.{Member, member_contains, contains_member, member_map, map_member}
 
 place_of : {A : Type 0} (xs : List A) (a : A) → Member xs a
     → (i : ℕ) × (i < length xs) × ((d : A) → get_or xs i d ≡ a)
@@ -25,23 +27,13 @@ place_of [] a m = absurd m
 place_of (x ∷ xs) a (inl e) = (0, omega arith, λ d. e)
 place_of (x ∷ xs) a (inr m) = let w = place_of xs a m in (suc w.0, omega arith, λ d. w.2 d)
 
-get_map : {A B : Type 0} (g : A → B) (xs : List A) (i : ℕ) (a : A) (d : B) → i < length xs
-    → get_or (map g xs) i d ≡ g (get_or xs i a)
-get_map g [] i a d h = absurd (omega arith)
-get_map g (x ∷ xs) zero a d h = refl
-get_map g (x ∷ xs) (suc i) a d h = get_map g xs i a d (omega arith)
-
-length_map : {A B : Type 0} (g : A → B) (xs : List A) → length (map g xs) ≡ length xs
-length_map g [] = refl
-length_map g (x ∷ xs) = ap suc (length_map g xs)
-
 pairs_map : {A B : Type 0} (inside : A → B) (P : A → A → Type 0) (Q : B → B → Type 0)
     → ((a b : A) → P a b → Q (inside a) (inside b)) → (xs : List A) → AllPairs P xs → AllPairs Q (map inside xs)
 pairs_map inside P Q to [] apart i j d lt h = absurd (omega arith)
 pairs_map inside P Q to (x ∷ xs) apart i j d lt h =
     let jb : j < length (x ∷ xs) = subst (λ n. j < n) (length_map inside (x ∷ xs)) h in
-    subst (λ z. Q z (get_or (map inside (x ∷ xs)) j d)) (sym (get_map inside (x ∷ xs) i x d (omega arith)))
-    (subst (λ z. Q (inside (get_or (x ∷ xs) i x)) z) (sym (get_map inside (x ∷ xs) j x d jb))
+    subst (λ z. Q z (get_or (map inside (x ∷ xs)) j d)) (sym (get_or-map inside (x ∷ xs) i x d (omega arith)))
+    (subst (λ z. Q (inside (get_or (x ∷ xs) i x)) z) (sym (get_or-map inside (x ∷ xs) j x d jb))
     (to (get_or (x ∷ xs) i x) (get_or (x ∷ xs) j x) (apart i j x lt jb)))
 
 -- two names of one thing are one, where no thing of the list is apart from itself
@@ -53,8 +45,8 @@ one_name g Q ws apart w v mw mv e never = go (place_of ws w mw) (place_of ws v m
         → ((d : _) → get_or ws j d ≡ b) → Q (g a) (g b)
     clash i j a b lt jb hi hj =
         let lb : j < length (map g ws) = subst (λ n. j < n) (sym (length_map g ws)) jb in
-        subst (λ z. Q z (g b)) (get_map g ws i a (g a) (omega arith) ∙ ap g (hi a))
-        (subst (λ z. Q (get_or (map g ws) i (g a)) z) (get_map g ws j b (g a) jb ∙ ap g (hj b))
+        subst (λ z. Q z (g b)) (get_or-map g ws i a (g a) (omega arith) ∙ ap g (hi a))
+        (subst (λ z. Q (get_or (map g ws) i (g a)) z) (get_or-map g ws j b (g a) jb ∙ ap g (hj b))
         (apart i j (g a) lt lb))
 
     go : (i : ℕ) × (i < length ws) × ((d : _) → get_or ws i d ≡ w)

@@ -5,9 +5,9 @@ use Rattle.std.specs.Prelude.{Contains, AllPairs, All, flat_map}
 use Rattle.std.specs.List.{range_with_len}
 use Rattle.std.proofs.lemmas.List.{get_or_default}
 use Rattle.std.proofs.lemmas.Bool.{cases_Bool}
-use Rattle.array_form.proofs.Members.{Member, member_contains, contains_member, member_append, member_map}
-use Rattle.array_form.proofs.Members.{member_flat, append_left, append_right, member_filter}
-use Rattle.array_form.proofs.Listing.{in_range}
+use Rattle.mp_base.proofs.Members.{Member, member_contains, contains_member, member_map, member_filter, range_members}
+use Rattle.array_form.proofs.Members.{member_append}
+use Rattle.array_form.proofs.Members.{member_flat, append_left, append_right}
 
 -- pairs by recursion
 abbrev pub Each : {A : Type 0} → (A → Type 0) → List A → Type 0
@@ -61,7 +61,7 @@ pub pairs_map_range : {A : Type 0} (P : A → A → Type 0) (g : ℕ → A) (a n
 pairs_map_range P g a zero h = tt
 pairs_map_range P g a (suc n) h = (
   each_from (P (g a)) (map g (range_with_len (a + 1) n))
-      (λ z m. let w = member_map g (range_with_len (a + 1) n) z m in let r = in_range (a + 1) n w.0 w.1 in
+      (λ z m. let w = member_map g (range_with_len (a + 1) n) z m in let r = range_members (a + 1) n w.0 w.1 in
       let r0 = r.0 in let r1 = r.1 in subst (P (g a)) w.2 (h a w.0 (omega arith) (omega arith) (omega arith))),
   pairs_map_range P g (a + 1) n (λ i j lo lt hi. h i j (omega arith) lt (omega arith)),
 )
@@ -75,7 +75,7 @@ pairs_flat_range P g a (suc n) one cross =
     pairs_append P (g a) (flat_map g (range_with_len (a + 1) n)) (one a (omega arith) (omega arith))
     (pairs_flat_range P g (a + 1) n (λ i lo hi. one i (omega arith) (omega arith))
     (λ i j x y lo lt hi m k. cross i j x y (omega arith) lt (omega arith) m k))
-    (λ x y m k. let w = member_flat g (range_with_len (a + 1) n) y k in let r = in_range (a + 1) n w.0 w.1 in
+    (λ x y m k. let w = member_flat g (range_with_len (a + 1) n) y k in let r = range_members (a + 1) n w.0 w.1 in
     let r0 = r.0 in let r1 = r.1 in cross a w.0 x y (omega arith) (omega arith) (omega arith) m w.2)
 
 -- of those that pass a test

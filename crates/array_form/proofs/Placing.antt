@@ -1,6 +1,7 @@
 -- What the marks of one placed net tie: equal roots, and the switches of its parts.
 use Rattle.std.proofs.Common.{◌≡◌, ℕ, List, Option, Some, None, Bool, true, refl, sym, ◌∙◌, ap, subst, map}
 use Rattle.std.specs.Prelude.{Contains, slice_get}
+use Rattle.mp_base.proofs.Members.{member_contains, contains_member, map_member}
 use Rattle.lam_geom.specs.Chains.{Chain}
 use Rattle.lam_geom.specs.Chains.Chain.{here, link}
 use Rattle.fabric.specs.declared.thing.Side.{Side}
@@ -16,7 +17,6 @@ use Rattle.array_form.specs.Wires.{Wire, row, beat, left, right, trunk, extra, t
 use Rattle.array_form.specs.Wires.{left_root, right_root, root, hub, AreElements}
 use Rattle.array_form.specs.Wires.NetTie.{gate_own, gate_ground, gate_pull, gate_input, latch_own, latch_data}
 use Rattle.array_form.specs.Wires.NetTie.{latch_phase, stub_own}
-use Rattle.array_form.proofs.Members.{map_member, member_contains, contains_member}
 
 module _ (X : Type 0) (nets : Nets) (root_of : Spot → Root) (rank : Spot → ℕ) (roots : AreRoots nets root_of rank)
     (others : X → Root)

@@ -1,12 +1,14 @@
 -- A net with the conditions of `place` has room.
-use Rattle.std.proofs.Common.{◌≡◌, ◌⊎◌, inl, inr, ℕ, zero, suc, ◌<◌, ◌≤◌, ◌+◌, ◌==◌, Option, Some, None, Bool, true}
-use Rattle.std.proofs.Common.{false, cond, not, ◌&&◌, List, [], ◌∷◌, ◌++◌, length, map, filter, refl, sym, ◌∙◌, ap}
+use Rattle.std.proofs.Common.{◌≡◌, inl, inr, ℕ, zero, suc, ◌<◌, ◌≤◌, ◌+◌, ◌==◌, Option, Some, None, Bool, true}
+use Rattle.std.proofs.Common.{false, cond, not, List, [], ◌∷◌, ◌++◌, length, map, filter, refl, sym, ◌∙◌, ap}
 use Rattle.std.proofs.Common.{subst, arith}
 use Rattle.std.specs.Prelude.{Contains, slice_get, ◌≢◌, ◌||◌, max}
 use Rattle.std.specs.List.{list_any, range_with_len}
-use Rattle.std.proofs.lemmas.Bool.{cases_Bool}
+use Rattle.std.proofs.lemmas.Bool.{cases_Bool, or_left, or_right, or_cases, and_from}
 use Rattle.std.proofs.lemmas.List.Elements.{All-contains}
 use Rattle.std.proofs.lemmas.Option.{slice_get_within, slice_get_cases}
+use Rattle.mp_base.proofs.Members.{Member, member_contains, contains_member, member_map, map_member, member_filter}
+use Rattle.mp_base.proofs.Members.{filter_member}
 use Rattle.fabric.specs.Plan.{Plan}
 use Rattle.nor_net.specs.declared.net.Phase.{Phase}
 use Rattle.nor_net.specs.declared.net.NetId.{NetId}
@@ -18,8 +20,6 @@ use Rattle.array_form.specs.declared.band.Band.{Band}
 use Rattle.array_form.specs.Homes.{Columns, home, end_of, marks, reads, greatest, count_below}
 use Rattle.array_form.specs.Laying.{HasRoom}
 use Rattle.array_form.specs.Place.{is_input, part_is, is_read, is_tapped, is_stub, columns_in, MayPlace}
-use Rattle.array_form.proofs.Members.{Member, member_contains, contains_member, member_map, map_member}
-use Rattle.array_form.proofs.Members.{member_filter, filter_member}
 use Rattle.array_form.proofs.Listing.{same_from}
 use Rattle.array_form.proofs.Homes.{greatest_above, own_mark, reader_mark, more_mark}
 
@@ -32,22 +32,6 @@ any_member test (x ∷ xs) e = elim (cases_Bool (test x)) [
   | inr q ↦ (let w = any_member test xs (sym (ap (λ t. t || list_any test xs) q) ∙ e) in
       (suc w.0, w.1, w.2, w.3, inr w.4))
 ]
-
-pub or_left : (a b : Bool) → a ≡ true → (a || b) ≡ true
-or_left true b e = refl
-or_left false b e = absurd (cc e)
-
-pub or_right : (a b : Bool) → b ≡ true → (a || b) ≡ true
-or_right true b e = refl
-or_right false b e = e
-
-pub or_cases : (a b : Bool) → ((a || b) ≡ true) → (a ≡ true) ⊎ (b ≡ true)
-or_cases true b e = inl refl
-or_cases false b e = inr e
-
-pub and_of : (a b : Bool) → a ≡ true → b ≡ true → (a && b) ≡ true
-and_of true b e h = h
-and_of false b e h = absurd (cc e)
 
 module _ (band : Band) (parts : List Part) where
   abbrev pub y : Columns
@@ -82,7 +66,7 @@ module _ (band : Band) (parts : List Part) where
       ))
     ]
     | inr e ↦ (let s =
-        and_of (part_is is_input (slice_get parts n)) (not (is_read parts n || is_tapped band.taps n))
+        and_from (part_is is_input (slice_get parts n)) (not (is_read parts n || is_tapped band.taps n))
         (ap (part_is is_input) h) (ap not e) in
         (home y n, member_contains (marks y parts n) (home y n) (own_mark y parts n (stub_homed n s))))
   ]

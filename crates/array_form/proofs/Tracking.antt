@@ -4,20 +4,14 @@ use Rattle.std.proofs.Common.{get_or, refl, sym, ◌∙◌, ap, subst, arith}
 use Rattle.std.specs.Prelude.{◌≢◌}
 use Rattle.std.specs.List.{range_with_len}
 use Rattle.std.proofs.lemmas.List.{get_or_append_left, get_or-append-add}
+use Rattle.mp_base.proofs.Lists.{length_map}
+use Rattle.std.proofs.lemmas.List.FromFn.{length-range_with_len}
 use Rattle.nor_net.specs.declared.net.Phase.{Phase}
 use Rattle.nor_net.specs.declared.net.Phase.TheVariants.{A, B, C}
 use Rattle.nor_net.specs.declared.net.Part.{Part}
 use Rattle.array_form.specs.Homes.{Columns, marks, phase_marks, phase_number, least, greatest}
 use Rattle.array_form.specs.Laying.{AreTracks}
 use Rattle.array_form.specs.Place.{cols_in}
-
-length_map : {A B : Type 0} (g : A → B) (xs : List A) → length (map g xs) ≡ length xs
-length_map g [] = refl
-length_map g (x ∷ xs) = ap suc (length_map g xs)
-
-pub length_range : (a n : ℕ) → length (range_with_len a n) ≡ n
-length_range a zero = refl
-length_range a (suc n) = ap suc (length_range (a + 1) n)
 
 get_range : {B : Type 0} (g : ℕ → B) (a n i : ℕ) (d : B) → i < n → get_or (map g (range_with_len a n)) i d ≡ g (a + i)
 get_range g a zero i d h = absurd (omega arith)
@@ -32,7 +26,7 @@ module _ (y : Columns) (parts : List Part) where
   of_phases = phase_marks y parts A ∷ phase_marks y parts B ∷ phase_marks y parts C ∷ []
 
   nets_long : length of_nets ≡ length parts
-  nets_long = length_map (marks y parts) (range_with_len 0 (length parts)) ∙ length_range 0 (length parts)
+  nets_long = length_map (marks y parts) (range_with_len 0 (length parts)) ∙ length-range_with_len 0 (length parts)
 
   pub cols_nets : (n : ℕ) → n < length parts → cols_in y parts n ≡ marks y parts n
   cols_nets n h =

@@ -1,14 +1,13 @@
 -- Spans and rows of a band: rows as they are packed are its tracks, and what is listed in them is its form.
-use Rattle.std.proofs.Common.{◌≡◌, ◌⊎◌, ℕ, zero, suc, ◌+◌, ◌<◌, ◌^◌, Some, None, Bool, false, List, [], ◌∷◌, length}
+use Rattle.std.proofs.Common.{◌≡◌, ◌⊎◌, ℕ, suc, ◌+◌, ◌<◌, ◌^◌, Some, Bool, false, List, length}
 use Rattle.std.proofs.Common.{map, get_or, refl, sym, ◌∙◌, ap, subst, arith}
 use Rattle.std.specs.Prelude.{◌≢◌, All, slice_get, slice_index}
 use Rattle.std.specs.List.{range_with_len}
 use Rattle.std.proofs.lemmas.Option.{slice_get-get_or}
 use Rattle.std.proofs.lemmas.List.FromFn.{get_or-map-range_with_len, length-map-range_with_len}
-use Rattle.nor_net.specs.declared.net.Phase.{Phase}
+use Rattle.mp_base.proofs.Ranges.{map_same, flat_same}
 use Rattle.nor_net.specs.declared.net.Part.{Part}
-use Rattle.nor_net.specs.declared.net.Part.TheVariants.{Latch}
-use Rattle.nor_net.specs.Shape.{IsNet, IsFed, Fed}
+use Rattle.nor_net.specs.Shape.{IsNet}
 use Rattle.track_assign.specs.declared.packing.Interval.{Interval}
 use Rattle.track_assign.specs.declared.packing.Tracks.{Tracks}
 use Rattle.track_assign.specs.Density.{AreApart, IsDensity, IsInterval}
@@ -20,21 +19,6 @@ use Rattle.array_form.specs.Place.{cols_in, interval_of, intervals_in}
 use Rattle.array_form.proofs.Rows.{rows_few}
 use Rattle.array_form.proofs.Tracking.{tracks_from}
 use Rattle.band_lists.specs.Listed.{AreRows, segment_of, segments_of, nowhere, lines_at, lines_of, marks_in, marks_of}
-use Rattle.band_lists.proofs.Counts.{map_same, flat_same}
-
--- intervals have one density
-pub density_once : (intervals : List Interval) (rows column other place : ℕ) → IsDensity intervals rows column
-    → IsDensity intervals other place → rows ≡ other
-density_once intervals rows column other place d e =
-    let a = d.most place in let b = e.most column in let f = d.reached in let g = e.reached in omega arith
-
-pub fed_parts : (parts : List Part) → IsFed parts → (n : ℕ) (ph : Phase) → slice_get parts n ≡ Some (Latch ph None) → ⊥
-fed_parts [] h n ph e = absurd (cc e)
-fed_parts (p ∷ ps) h zero ph e =
-    let q : p ≡ Latch ph None = cc e in
-    let none : Fed (Latch ph None) = subst Fed q (h 0 p (omega arith)) in
-    absurd (cc none)
-fed_parts (p ∷ ps) h (suc n) ph e = fed_parts ps (λ k d lt. h (suc k) d (omega arith)) n ph e
 
 module _ (y : Columns) (parts : List Part) where
   pub intervals_long : length (intervals_in y parts) ≡ length parts + 3

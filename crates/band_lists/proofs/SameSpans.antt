@@ -1,14 +1,13 @@
 -- The span of the pins of a segment is that of the columns in which it is marked.
-use Rattle.std.proofs.Common.{◌≡◌, ◌⊎◌, inl, inr, ℕ, ◌+◌, ◌<◌, ◌≤◌, ◌^◌, true, List, [], ◌∷◌, refl, ◌∙◌, sym, subst}
+use Rattle.std.proofs.Common.{◌≡◌, ◌⊎◌, inl, inr, ℕ, ◌<◌, ◌≤◌, ◌^◌, List, [], ◌∷◌, refl, ◌∙◌, sym, subst}
 use Rattle.std.proofs.Common.{arith}
 use Rattle.std.specs.Prelude.{min}
-use Rattle.std.proofs.lemmas.Bool.{cases_lt, cases_eq}
-use Rattle.nor_net.specs.declared.net.Phase.{Phase}
-use Rattle.nor_net.specs.declared.net.Phase.TheVariants.{A, B, C}
-use Rattle.array_form.specs.Homes.{is_of, phase_number, least, greatest}
+use Rattle.std.proofs.lemmas.Bool.{cases_lt}
+use Rattle.mp_base.proofs.Members.{Member}
+use Rattle.array_form.specs.Homes.{least, greatest}
 use Rattle.array_form.specs.Place.{interval_of}
-use Rattle.array_form.proofs.Members.{Member}
-use Rattle.array_form.proofs.Homes.{least_below, greatest_above, least_in, greatest_in}
+use Rattle.array_form.proofs.Homes.{least_below, least_in}
+use Rattle.array_form.proofs.Greatest.{greatest_within}
 use Rattle.band_lists.specs.Spans.{lowest, span_of}
 
 -- ---- the least and the greatest of numbers with the same members
@@ -28,13 +27,6 @@ lowest_in (x ∷ xs) = elim (cases_lt (lowest xs) x) [
   | inr ge ↦ inl (inl (omega arith))
 ]
 
--- the greatest of numbers that are all among others is among them
-pub greatest_within : (xs ys : List ℕ) (c : ℕ) → Member xs c → ((a : ℕ) → Member xs a → Member ys a)
-    → greatest xs ≤ greatest ys
-greatest_within [] ys c m sub = absurd m
-greatest_within (x ∷ xs) ys c m sub =
-    greatest_above ys (greatest (x ∷ xs)) (sub (greatest (x ∷ xs)) (greatest_in x xs))
-
 pub same_span : (xs ys : List ℕ) (c : ℕ) → Member ys c → ((a : ℕ) → Member xs a → Member ys a × (a < 2 ^ 32))
     → ((a : ℕ) → Member ys a → Member xs a) → span_of xs ≡ interval_of ys
 same_span xs [] c m to from = absurd m
@@ -51,55 +43,3 @@ same_span xs (y ∷ ys) c m to from =
     let a : lowest xs ≡ least (y ∷ ys) = omega arith in
     let b : greatest xs ≡ greatest (y ∷ ys) = omega arith in
     λ i. record { first = a i; last = b i }
-
-pub greatest_most : (xs : List ℕ) (most : ℕ) → ((a : ℕ) → Member xs a → a ≤ most) → greatest xs ≤ most
-greatest_most [] most h = omega arith
-greatest_most (x ∷ xs) most h =
-    let a = h x (inl refl) in let b = greatest_most xs most (λ z m. h z (inr m)) in omega arith
-
-pub phase_small : (ph : Phase) → phase_number ph < 3
-phase_small A = omega arith
-phase_small B = omega arith
-phase_small C = omega arith
-
-pub one_phase : (p q : Phase) → phase_number p ≡ phase_number q → p ≡ q
-one_phase A A e = refl
-one_phase A B e = absurd (omega arith)
-one_phase A C e = absurd (omega arith)
-one_phase B A e = absurd (omega arith)
-one_phase B B e = refl
-one_phase B C e = absurd (omega arith)
-one_phase C A e = absurd (omega arith)
-one_phase C B e = absurd (omega arith)
-one_phase C C e = refl
-
-pub same_phase : (p q : Phase) → is_of p q ≡ true → p ≡ q
-same_phase A A e = refl
-same_phase A B e = absurd (cc e)
-same_phase A C e = absurd (cc e)
-same_phase B A e = absurd (cc e)
-same_phase B B e = refl
-same_phase B C e = absurd (cc e)
-same_phase C A e = absurd (cc e)
-same_phase C B e = absurd (cc e)
-same_phase C C e = refl
-
--- segment k is the one of a net, or of a phase
-pub data IsSegmentOf (nets k : ℕ) : Type 0 where
-  for_net : k < nets → IsSegmentOf nets k
-  for_phase : (ph : Phase) → k ≡ nets + phase_number ph → IsSegmentOf nets k
-
-pub which : (nets k : ℕ) → k < nets + 3 → IsSegmentOf nets k
-which nets k h = elim (cases_lt k nets) [
-  | inl lt ↦ for_net lt
-  | inr ge ↦ elim (cases_eq k nets) [
-    | inl e ↦ for_phase A (omega arith)
-    | inr e ↦ elim (cases_eq k (nets + 1)) [ inl d ↦ for_phase B (omega arith) | inr d ↦ for_phase C (omega arith) ]
-  ]
-]
-
-pub phase_of : (j : ℕ) → j < 3 → (ph : Phase) × (phase_number ph ≡ j)
-phase_of j h = elim (cases_eq j 0) [
-  | inl e ↦ (A, omega arith)
-  | inr e ↦ elim (cases_eq j 1) [ inl d ↦ (B, omega arith) | inr d ↦ (C, omega arith) ]
-]

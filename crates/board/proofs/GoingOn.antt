@@ -1,8 +1,8 @@
 -- Loops that go on where they were cut short.
-use Rattle.std.proofs.Common.{◌≡◌, ◌∙◌, ℕ, zero, suc, ◌+◌, ◌-◌, List, [], ◌∷◌, ◌++◌, append_assoc, Option, Ok, Err, length, refl, sym, ap, subst, arith}
+use Rattle.std.proofs.Common.{◌≡◌, ◌∙◌, ℕ, zero, suc, ◌+◌, ◌-◌, List, [], ◌∷◌, ◌++◌, Option, Ok, Err, length, refl, sym}
+use Rattle.std.proofs.Common.{ap, subst, arith}
 use Rattle.std.proofs.lemmas.List.{length-append}
 use Rattle.mp_base.specs.declared.value.Trit.{Trit}
-use Rattle.mp_base.specs.declared.pad.Pad.{Pad}
 use Rattle.mp_base.specs.declared.outside.Failed.{Failed}
 use Rattle.mp_base.specs.Outside.{WhereTold, Gains}
 use Rattle.mp_base.specs.Piece.{TakesAll}
@@ -10,18 +10,11 @@ use Rattle.mp_base.proofs.Written.{written, cut_behind}
 use Rattle.stimulus.specs.Transcript.{line_text, lines_text}
 use Rattle.transcript.specs.Transcript.{RunsAlong}
 use Rattle.transcript.specs.Laws.{CanStep, StepsOn}
+use Rattle.transcript.proofs.Transcripts.{lines_more}
 use Rattle.board.specs.Face.{Face}
 use Rattle.board.specs.Loop.{Wired, inputs_at, faces_after, inputs_along, faces_along, IsLoop}
 use Rattle.board.specs.Laws.{GoesOn}
 use Rattle.board.proofs.Ready.{inputs_fit}
-
--- the lines of some clocks, and of those behind them
-lines_then : (k n : ℕ) (pads : List Pad) (os us : List (List (List Trit))) → n ≡ k + length os
-    → lines_text k pads (os ++ us) ≡ lines_text k pads os ++ lines_text n pads us
-lines_then k n pads [] us is = ap (λ m. lines_text m pads us) (let e : k ≡ n = omega (arith, is) in e)
-lines_then k n pads (o ∷ os) us is =
-    ap (λ text. line_text k pads o ++ text) (lines_then (suc k) n pads os us (omega (arith, is)))
-    ∙ sym (append_assoc (line_text k pads o) (lines_text (suc k) pads os) (lines_text n pads us))
 
 module _ (w : Wired) where
   inputs_then : (k n : ℕ) (faces : List Face) (os us : List (List (List Trit))) → n ≡ k + length os
@@ -116,7 +109,7 @@ goes_on {S} Steps w clock done clocks before after faces later x y (Err f) on p 
     record { runs = (after, (c.1).steps, (rest.loop).runs); parts = (rest.loop).parts } in
     let text : lines_text clock pads (os ++ us)
     ≡ lines_text clock pads os ++ (line_text done pads o ++ lines_text (suc done) pads rest.shown) =
-    lines_then clock done pads os us p.counted in
+    lines_more clock done pads os us p.counted in
     let P : List ℕ → Type 0 = λ t. TakesAll {T = Unit {0}} {E = Failed} Gains x y t (Err f) in
     record {
       shown = os ++ us;

@@ -1,5 +1,6 @@
 -- Loops, clock after clock.
-use Rattle.std.proofs.Common.{◌≡◌, ◌∙◌, ℕ, suc, ◌+◌, ◌<◌, ◌≤◌, List, [], ◌∷◌, ◌++◌, append_assoc, Bool, true, false, cond, Option, Ok, Err, length, refl, sym, ap, subst, arith}
+use Rattle.std.proofs.Common.{◌≡◌, ◌∙◌, ℕ, suc, ◌+◌, ◌<◌, ◌≤◌, List, [], ◌∷◌, ◌++◌, append_assoc, Bool, true, false}
+use Rattle.std.proofs.Common.{cond, Option, Ok, Err, length, refl, sym, ap, subst, arith}
 use Rattle.std.proofs.lemmas.List.{append-nil, length-append}
 use Rattle.mp_base.specs.declared.value.Trit.{Trit}
 use Rattle.mp_base.specs.declared.pad.Pad.{Pad}

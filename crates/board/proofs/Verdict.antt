@@ -1,5 +1,6 @@
 -- Words stand for one list of links, or break one rule first.
-use Rattle.std.proofs.Common.{◌≡◌, ◌∙◌, ℕ, zero, suc, ◌<◌, List, [], ◌∷◌, Some, None, length, map, take, get_or, refl, sym, ap, ap₂, subst, inl, inr, arith}
+use Rattle.std.proofs.Common.{◌≡◌, ◌∙◌, ℕ, zero, suc, ◌<◌, List, [], ◌∷◌, Some, None, length, map, take, get_or, refl}
+use Rattle.std.proofs.Common.{sym, ap, ap₂, subst, inl, inr, arith}
 use Rattle.std.specs.Prelude.{AllPairs, slice_get}
 use Rattle.std.specs.List.{take-map}
 use Rattle.std.proofs.lemmas.Bool.{cases_lt}

@@ -16,9 +16,6 @@ use Rattle.std.proofs.Common.{
   List,
   [],
   ◌∷◌,
-  ◌++◌,
-  cond,
-  eqb,
   length,
   get_or,
   refl,
@@ -28,18 +25,17 @@ use Rattle.std.proofs.Common.{
   arith,
   bit_and,
 }
-use Rattle.std.specs.Prelude.{min, slice_index_or}
+use Rattle.std.specs.Prelude.{slice_index_or}
 use Rattle.std.specs.Int.{bit_at}
-use Rattle.std.proofs.Math.Nat.{two-pow-succ}
 use Rattle.std.proofs.lemmas.List.{length-append}
 use Rattle.std.proofs.lemmas.Nat.{and_mask, mod-pow-add}
 use Rattle.std.proofs.lemmas.Nat.Bits.{bit_at-lt, bit_at_and, ones_shr}
-use Rattle.mp_base.specs.declared.value.Trit.{Trit}
-use Rattle.mp_base.specs.declared.value.Trit.TheVariants.{Zero, One, X}
 use Rattle.mp_base.specs.declared.value.TritWord.{TritWord}
 use Rattle.mp_base.specs.declared.pad.Pad.{Pad}
-use Rattle.stimulus.specs.Bits.{bit_count, trit_of, trit_at, low_trits, pad_trits, trits_of}
+use Rattle.stimulus.specs.Bits.{bit_count, trit_at, low_trits, pad_trits, trits_of}
 use Rattle.stimulus.specs.Transcript.{weight, number_of}
+use Rattle.stimulus.proofs.Bits.{number_more}
+use Rattle.stimulus.proofs.Words.{weight_both}
 
 -- a pad has at most 64 bits
 few_bits : (p : Pad) → bit_count p.width ≤ 64
@@ -59,21 +55,6 @@ pub masked : (value all n : ℕ) → all ≡ 2 ^ n - 1 → bit_and value all ≡
 masked value all n is = ap (bit_and value) is ∙ and_mask value n
 
 -- ---- the number of a word, of which an unknown bit counts nothing
-
-number_more : (bits : List Trit) (b : Trit) → number_of (bits ++ b ∷ []) ≡ number_of bits + weight b * 2 ^ length bits
-number_more [] Zero = refl
-number_more [] One = refl
-number_more [] X = refl
-number_more (x ∷ bits) Zero = let e = number_more bits Zero in omega (arith, e)
-number_more (x ∷ bits) One = let e = number_more bits One in let d = two-pow-succ (length bits) in omega (arith, e, d)
-number_more (x ∷ bits) X = let e = number_more bits X in omega (arith, e)
-
-weight_both : (k b : ℕ) → k < 2 → b < 2 → weight (cond (eqb k 1) (trit_of b) X) ≡ min k b
-weight_both zero b small less = omega arith
-weight_both (suc zero) zero small less = omega arith
-weight_both (suc zero) (suc zero) small less = omega arith
-weight_both (suc zero) (suc (suc b)) small less = absurd (omega (arith, less))
-weight_both (suc (suc k)) b small less = absurd (omega (arith, small))
 
 module _ (word : TritWord) where
   many_trits : (n : ℕ) → length (low_trits n word) ≡ n

@@ -56,7 +56,8 @@ use Rattle.mp_base.specs.declared.pad.Pads.{Pads}
 use Rattle.board.specs.declared.link.Link.{Link}
 use Rattle.board.specs.declared.link.Naming.{Naming}
 use Rattle.board.specs.Boarding.{AreApart, AreWires, IsWire}
-use Rattle.board.specs.Links.{AreLinks, Breaks, IsFirstBroken, IsThree, MayFollow, driven_of, named_by, naming, naming_of, nothing, pad_of, place_of}
+use Rattle.board.specs.Links.{AreLinks, Breaks, IsFirstBroken, IsThree, MayFollow, driven_of, named_by, naming}
+use Rattle.board.specs.Links.{naming_of, nothing, pad_of, place_of}
 
 abbrev is_colon : ℕ → Bool
 is_colon c = eqb c 58

@@ -1,5 +1,6 @@
 -- The links that words stand for, and the first rule that words break.
-use Rattle.std.specs.Prelude.{◌≡◌, ◌⊎◌, ℕ, List, [], ◌∷◌, ◌==◌, if◌then◌else◌, Option, Some, None, ⊤, All, Any, AllPairs, map, take, slice_get, codes}
+use Rattle.std.specs.Prelude.{◌≡◌, ◌⊎◌, ℕ, List, [], ◌∷◌, ◌==◌, if◌then◌else◌, Option, Some, None, ⊤, All, Any}
+use Rattle.std.specs.Prelude.{AllPairs, map, take, slice_get, codes}
 use Rattle.std.specs.List.{position, slice_split}
 use Rattle.std.specs.Str.{bytes_eq}
 use Rattle.mp_base.specs.declared.pad.Pad.{Pad}

@@ -2,10 +2,11 @@
 use Rattle.std.proofs.Common.{◌≡◌, ℕ, List, Option, Some, None, ap, subst, refl}
 use Rattle.mp_base.specs.Outside.{Files, bytes_of}
 use Rattle.mp_base.specs.declared.pad.Pads.{Pads}
+use Rattle.mp_base.proofs.Decisions.{IsDetermined}
 use Rattle.mp_program.specs.declared.program.Program.{Program}
 use Rattle.mp_program.specs.Pads.{ArePadsOf}
 use Rattle.outcome.specs.Order.{Fault, OfRule}
-use Rattle.outcome.proofs.Determined.{IsDetermined, one_of_two, one_of_rule}
+use Rattle.outcome.proofs.Determined.{one_of_two, one_of_rule}
 use Rattle.source_files.specs.Faults.{SourceFault}
 use Rattle.source_files.proofs.Sources.{OneSource, one_program}
 use Rattle.board.specs.Laws.{BrokenOnce, WholeOrBroken}

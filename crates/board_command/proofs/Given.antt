@@ -23,7 +23,8 @@ module _ (cif chip : List ℕ) (network : Network) (w : Wired) (clocks : ℕ) (f
 
   -- what is given to the files and the output, and how the parts are left
   abbrev pub Given : List Face → Result (Unit {0}) Halt → Files → Files → List ℕ → Type 0
-  Given left result old new printed = Ends (second (Some cif) (Plays chip network w clocks faces)) result old new printed
+  Given left result old new printed =
+      Ends (second (Some cif) (Plays chip network w clocks faces)) result old new printed
       × AreLeft network w clocks faces printed left
 
   -- an error that was passed on

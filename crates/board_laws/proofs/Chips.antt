@@ -5,16 +5,18 @@ use Rattle.std.proofs.lemmas.List.Elements.{All-nil, All-cons}
 use Rattle.mp_base.specs.declared.value.Trit.{Trit}
 use Rattle.mp_base.specs.declared.value.Trit.TheVariants.{X}
 use Rattle.mp_program.specs.State.{zero_state}
+use Rattle.mp_program.proofs.Lengths.{length_trace}
 use Rattle.stimulus.specs.Inputs.{Fit}
 use Rattle.stimulus.specs.Bits.{value_bits}
 use Rattle.headline.specs.Headline.{Follows}
 use Rattle.transcript.specs.Transcript.{RunsAlong}
 use Rattle.trace_run.specs.Transcript.{ProgramSteps}
+use Rattle.sim_run.proofs.Circuits.{circuit_trace}
 use Rattle.board.specs.Face.{Face}
 use Rattle.board.specs.Loop.{Wired, faces_after, inputs_at, inputs_along, is_settled}
 use Rattle.board.specs.Laws.{AgreeWhereSettled, InputsFit, LoopsAgree}
 use Rattle.board_laws.specs.Laws.{ChipsLoop, CircuitsLoop}
-use Rattle.board_laws.proofs.Runs.{circuit_runs, circuit_trace, program_runs, as_many, along_many, agree_at}
+use Rattle.board_laws.proofs.Runs.{circuit_runs, program_runs, along_many, agree_at}
 use Rattle.board_laws.proofs.Resets.{settles}
 
 pub circuits_loop : CircuitsLoop
@@ -39,7 +41,7 @@ chips_loop agrees fits p net w faces later shown after unbroken board follows lo
     let trace = circuit_trace net w.pads (λ node. X) after inputs shown loop.runs in
     let told : List (List (List Trit)) = map (value_bits outs) f.outputs in
     let same : AgreeWhereSettled w 0 shown told =
-    agree_at w 0 shown f.outputs (as_many p (zero_state p) inputs f.outputs f.program ∙ many)
+    agree_at w 0 shown f.outputs (length_trace p (zero_state p) inputs f.outputs f.program ∙ many)
     (λ k lt s. f.agrees (λ node. X) after shown trace k (omega (arith, lt, many))
     (settles p w unbroken board faces shown k lt (let z : k ≡ 0 + k = omega arith in ap (is_settled w) z ∙ s))) in
     let e = agrees w 0 faces shown told same in

@@ -60,13 +60,11 @@ use Rattle.mp_base.specs.declared.pad.Pad.{Pad}
 use Rattle.mp_program.specs.declared.program.Def.{Def}
 use Rattle.mp_program.specs.declared.program.Process.{Process}
 use Rattle.mp_program.specs.declared.program.Program.{Program}
-use Rattle.mp_program.specs.declared.program.What.{What}
-use Rattle.mp_program.specs.declared.program.What.TheVariants as whats
-use Rattle.mp_program.specs.declared.program.Way.TheVariants as ways
 use Rattle.mp_program.specs.Names.{is_input, is_input_signal, is_reset, is_stored, pad_number}
 use Rattle.mp_program.specs.Pads.{Face as PadFace, face, pad_width, input_pads}
 use Rattle.mp_program.specs.Step.{resets}
 use Rattle.mp_program.specs.Trace.{IsSettled, stores}
+use Rattle.mp_program.proofs.FormKinds.{input_signal}
 use Rattle.mp_rules.specs.Rules.{E34}
 use Rattle.mp_rules.specs.Breaking.{IsUnbroken}
 use Rattle.board.specs.declared.link.Link.{Link}
@@ -157,20 +155,6 @@ module _ (p : Program) (unbroken : IsUnbroken p) (some : stores p ≡ true) wher
   reset_there = elim (some_or_all is_reset p.defs) [ inl at ↦ at | inr none ↦ absurd (no_reset none) ]
 
 -- ---- its pad
-
-input_signal : (w : What) → is_input_signal w ≡ true → is_input w ≡ true
-input_signal whats.Power h = absurd (cc)
-input_signal whats.Ground h = absurd (cc)
-input_signal whats.Phia h = absurd (cc)
-input_signal whats.Phib h = absurd (cc)
-input_signal whats.Phic h = absurd (cc)
-input_signal (whats.Constant c) h = absurd (cc)
-input_signal whats.Register h = absurd (cc)
-input_signal whats.Flag h = absurd (cc)
-input_signal (whats.Port way) h = absurd (cc)
-input_signal (whats.Signal ways.Input) h = refl
-input_signal (whats.Signal ways.Output) h = absurd (cc)
-input_signal (whats.Signal ways.Internal) h = absurd (cc)
 
 -- one that passes stands behind those that pass before it
 filter_at : {X : Type 0} (t : X → Bool) (xs : List X) (d : ℕ) (x : X) → slice_get xs d ≡ Some x → t x ≡ true

@@ -8,7 +8,7 @@ use Rattle.mp_program.specs.declared.program.Program.{Program}
 use Rattle.mp_program.specs.State.{State}
 use Rattle.mp_program.specs.Trace.{IsTraceFrom}
 use Rattle.switch_net.specs.declared.network.Network.{Network}
-use Rattle.switch_net.specs.Clock.{IsClock, IsCircuitTrace}
+use Rattle.switch_net.specs.Clock.{IsClock}
 use Rattle.settle.specs.Values.{value_at}
 use Rattle.stimulus.specs.Bits.{value_bits}
 use Rattle.clock_run.specs.Circuit.{Running}
@@ -36,14 +36,6 @@ circuit_runs net pads s t (i ∷ is) (o ∷ os) same with_pads h =
       circuit_runs net pads h.0 t is os (step.network ∙ same) (step.pads ∙ with_pads) h.2,
     )
 
-pub circuit_trace : (net : Network) (pads : Pads) (before after : ℕ → Trit) (inputs : List (List ℕ))
-    (shown : List (List (List Trit))) → RunsAlong (NetworkSteps net pads) before inputs shown after
-    → IsCircuitTrace net pads before inputs shown after
-circuit_trace net pads before after [] [] h = λ n. ap (λ v. v n) h
-circuit_trace net pads before after [] (o ∷ os) h = absurd h
-circuit_trace net pads before after (i ∷ is) [] h = absurd h
-circuit_trace net pads before after (i ∷ is) (o ∷ os) h = (h.0, h.1, circuit_trace net pads h.0 after is os h.2)
-
 pub program_runs : (p : Program) (pads : List Pad) (st : State) (inputs outputs : List (List ℕ))
     → IsTraceFrom p st inputs outputs
     → (end : State) × RunsAlong (ProgramSteps p pads) st inputs (map (value_bits pads) outputs) end
@@ -53,13 +45,6 @@ program_runs p pads st (i ∷ is) [] t = absurd t
 program_runs p pads st (i ∷ is) (o ∷ os) t =
     let r = program_runs p pads t.0 is os t.2 in
     (r.0, (t.0, record { outputs = o; clock = t.1; bits = refl }, r.1))
-
-pub as_many : (p : Program) (st : State) (inputs outputs : List (List ℕ)) → IsTraceFrom p st inputs outputs
-    → length outputs ≡ length inputs
-as_many p st [] [] t = refl
-as_many p st [] (o ∷ os) t = absurd t
-as_many p st (i ∷ is) [] t = absurd t
-as_many p st (i ∷ is) (o ∷ os) t = let e = as_many p t.0 is os t.2 in omega (arith, e)
 
 pub along_many : (w : Wired) (clock : ℕ) (faces : List Face) (shown : List (List (List Trit)))
     → length (inputs_along w clock faces shown) ≡ length shown

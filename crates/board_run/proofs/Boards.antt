@@ -1,5 +1,6 @@
 -- The run of a circuit on a board, from its clocks and its last line.
-use Rattle.std.proofs.Common.{◌≡◌, ◌∙◌, ℕ, suc, ◌+◌, ◌-◌, ◌<◌, ◌≤◌, List, [], ◌∷◌, ◌++◌, append_assoc, Bool, Option, Result, Ok, Err, length, take, refl, sym, ap, subst, arith}
+use Rattle.std.proofs.Common.{◌≡◌, ◌∙◌, ℕ, suc, ◌+◌, ◌-◌, ◌<◌, ◌≤◌, List, [], ◌∷◌, ◌++◌, append_assoc, Bool, Option}
+use Rattle.std.proofs.Common.{Result, Ok, Err, length, take, refl, sym, ap, subst, arith}
 use Rattle.std.specs.Prelude.{OnOk, OnErr}
 use Rattle.std.proofs.lemmas.List.{length-append, take_all, take-append-le}
 use Rattle.std.proofs.Math.Seq.{take-append-add}
@@ -11,8 +12,7 @@ use Rattle.mp_base.specs.Piece.{TakesAll}
 use Rattle.mp_base.proofs.Told.{gains_twice}
 use Rattle.stimulus.specs.Transcript.{line_text, lines_text}
 use Rattle.switch_net.specs.declared.network.Network.{Network}
-use Rattle.switch_net.specs.Breaks.{HasPads, IsFirstOfCircuit, n3, n4}
-use Rattle.mp_base.specs.declared.refusal.Broken.{Broken}
+use Rattle.switch_net.specs.Breaks.{HasPads}
 use Rattle.board.specs.declared.link.Link.{Link}
 use Rattle.switch_net.specs.Clock.{IsClock}
 use Rattle.switch_net.specs.Laws.{TraceExists}
@@ -21,7 +21,7 @@ use Rattle.mask_net.specs.SizeLine.{last_line}
 use Rattle.clock_run.specs.Circuit.{Running}
 use Rattle.clock_run.specs.Device.{CircuitSteps}
 use Rattle.transcript.specs.Transcript.{RunsAlong}
-use Rattle.transcript.proofs.Transcripts.{runs_keep}
+use Rattle.transcript.proofs.Transcripts.{runs_keep, lines_more}
 use Rattle.sim_run.specs.Transcript.{NetworkSteps}
 use Rattle.sim_run.proofs.Transcripts.{can_step, steps_on}
 use Rattle.board.specs.Face.{Face}
@@ -32,7 +32,7 @@ use Rattle.board_laws.specs.Laws.{CircuitsLoop}
 use Rattle.board_run.specs.Boarded.{IsBoarded, PrintsBoard, whole_lines}
 use Rattle.board_run.specs.Laws.{BoardsRun}
 use Rattle.board_run.specs.Standing.{Standing}
-use Rattle.board_run.proofs.Loops.{lines_then, loop_then, more}
+use Rattle.board_run.proofs.Loops.{loop_then, more}
 use Rattle.board_run.proofs.Feeds.{lines_of_two, lines_counted, no_line}
 
 pub boards_run : InputsFit → TraceExists → BoardsRun
@@ -79,7 +79,8 @@ circuit_step net pads s t i o same own step =
 taken_within : (n : ℕ) (a b c : List ℕ) → n ≤ length b → take (length a + n) (a ++ (b ++ c)) ≡ a ++ take n b
 taken_within n a b c le = take-append-add a (b ++ c) n ∙ ap (λ t. a ++ t) (take-append-le n b c le)
 
-module _ (fits : InputsFit) (circuits : CircuitsLoop) (exist : TraceExists) (w : Wired) (before : Running) (own : before.pads ≡ w.pads)
+module _ (fits : InputsFit) (circuits : CircuitsLoop) (exist : TraceExists) (w : Wired) (before : Running)
+    (own : before.pads ≡ w.pads)
     (has : HasPads before.network w.pads) (unknown : value_at before.values ≡ (λ node. X)) where
   abbrev net : Network
   net = before.network
@@ -127,7 +128,7 @@ module _ (fits : InputsFit) (circuits : CircuitsLoop) (exist : TraceExists) (w :
         let last : List ℕ = last_line net rest.after in
         let text : List ℕ = lines_text 0 outs (os ++ us) ++ last in
         let split : text ≡ a ++ (b ++ (d ++ last)) =
-        ap (λ t. t ++ last) (lines_then 0 done outs os us p.counted) ∙ append_assoc a (b ++ d) last
+        ap (λ t. t ++ last) (lines_more 0 done outs os us p.counted) ∙ append_assoc a (b ++ d) last
         ∙ ap (λ t. a ++ t) (append_assoc b d last) in
         let n = (here.taken).count in
         let within : n < length b = (here.taken).cut in
@@ -143,7 +144,8 @@ module _ (fits : InputsFit) (circuits : CircuitsLoop) (exist : TraceExists) (w :
             shown = os ++ us;
             end = rest.after;
             left = rest.later;
-            loop = loop_then Steps w 0 done (λ node. X) (value_at (p.end).values) rest.after faces later rest.later os us
+            loop = loop_then Steps w 0 done (λ node. X)
+                (value_at (p.end).values) rest.after faces later rest.later os us
                 p.counted (network_loop faces later os p.end (p.looped).loop) next;
             many = (let q = rest.many in omega (arith, q, p.cut.0, length-append os us));
             lines = refl;
@@ -203,12 +205,6 @@ module _ (fits : InputsFit) (circuits : CircuitsLoop) (exist : TraceExists) (w :
             → OnErr q (length a + n < length (a ++ last))
         part (Ok v) a last n cut = tt
         part (Err f) a last n cut = omega (arith, cut, length-append a last)
-
--- a network that has its pads breaks no rule with them
-pub breaks_nothing : (network : Network) (pads : Pads) (b : Broken) → HasPads network pads
-    → IsFirstOfCircuit network pads b → ⊥
-breaks_nothing network pads b has (n3 i tag driven before) = has.apart i (tag, driven)
-breaks_nothing network pads b has (n4 apart i name missing before) = has.labelled i name missing
 
 abbrev wired_by : Pads → List Link → Bool → Wired
 wired_by pads links stores = record { pads = pads; links = links; stores = stores }

@@ -1,9 +1,11 @@
 -- The line feeds of transcripts: one ends each line, and no other stands in it.
-use Rattle.std.proofs.Common.{◌≡◌, ◌∙◌, ℕ, zero, suc, ◌+◌, ◌-◌, ◌<◌, ◌≤◌, List, [], ◌∷◌, ◌++◌, append_assoc, Bool, true, false, cond, eqb, length, map, take, drop, get_or, refl, sym, ap, subst, codes, arith}
-use Rattle.std.specs.Prelude.{◌&&◌, ◌||◌, ◌==◌, IsTrue, decimal, nat_le, nat_lt, ◌/◌, ◌%◌, slice_index_or}
+use Rattle.std.proofs.Common.{◌≡◌, ◌∙◌, ℕ, zero, suc, ◌+◌, ◌-◌, ◌<◌, ◌≤◌, List, [], ◌∷◌, ◌++◌, append_assoc, Bool, true}
+use Rattle.std.proofs.Common.{false, cond, eqb, length, map, take, drop, get_or, refl, sym, ap, subst, codes, arith}
+use Rattle.std.specs.Prelude.{◌||◌, ◌==◌, IsTrue, decimal, nat_le, nat_lt, ◌/◌, ◌%◌, slice_index_or}
 use Rattle.std.specs.List.{list_all, list_any}
 use Rattle.std.specs.Fmt.{digits, digits_onto, digit_glyph}
 use Rattle.std.proofs.lemmas.List.{length-append, take-append-le}
+use Rattle.std.proofs.lemmas.Bool.{and_parts}
 use Rattle.mp_base.specs.declared.value.Trit.{Trit}
 use Rattle.mp_base.specs.declared.pad.Pad.{Pad}
 use Rattle.mp_base.specs.declared.pad.Pads.{Pads}
@@ -57,11 +59,6 @@ decimal_apart n = digits_apart 64 n [] refl
 
 -- ---- names
 
-both_true : (a b : Bool) → (a && b) ≡ true → (a ≡ true) × (b ≡ true)
-both_true true true e = (refl, refl)
-both_true true false e = absurd (cc)
-both_true false b e = absurd (cc)
-
 token_apart : (c : ℕ) → is_token c ≡ true → (c == 10) ≡ false
 token_apart c h = by (c == 10) refl
   where
@@ -72,7 +69,7 @@ token_apart c h = by (c == 10) refl
 tokens_apart : (cs : List ℕ) → list_all is_token cs ≡ true → whole_lines cs ≡ 0
 tokens_apart [] h = refl
 tokens_apart (c ∷ cs) h =
-    let parts = both_true (is_token c) (list_all is_token cs) h in
+    let parts = and_parts (is_token c) (list_all is_token cs) h in
     none_more c cs (token_apart c parts.0) (tokens_apart cs parts.1)
 
 run_apart : (name : List ℕ) → is_run name ≡ true → whole_lines name ≡ 0
@@ -88,7 +85,7 @@ all_apart : (names : List (List ℕ)) → ((i : ℕ) → i < length names → Is
     → AllApart names
 all_apart [] each = tt
 all_apart (name ∷ names) each = (
-  run_apart name (both_true (is_run name) _ (each 0 (omega arith))).0,
+  run_apart name (and_parts (is_run name) _ (each 0 (omega arith))).0,
   all_apart names (λ i lt. each (suc i) (omega (arith, lt))),
 )
 

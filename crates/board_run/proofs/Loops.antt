@@ -1,21 +1,11 @@
 -- Loops that go on.
-use Rattle.std.proofs.Common.{◌≡◌, ◌∙◌, ℕ, zero, suc, ◌+◌, List, [], ◌∷◌, ◌++◌, append_assoc, length, refl, sym, ap, subst, arith}
+use Rattle.std.proofs.Common.{◌≡◌, ◌∙◌, ℕ, zero, suc, ◌+◌, List, [], ◌∷◌, ◌++◌, length, refl, sym, ap, subst, arith}
 use Rattle.mp_base.specs.declared.value.Trit.{Trit}
-use Rattle.mp_base.specs.declared.pad.Pad.{Pad}
-use Rattle.stimulus.specs.Transcript.{line_text, lines_text}
 use Rattle.transcript.specs.Transcript.{RunsAlong}
 use Rattle.transcript.specs.Laws.{CanStep, StepsOn}
 use Rattle.board.specs.Face.{Face}
 use Rattle.board.specs.Loop.{Wired, inputs_at, faces_after, inputs_along, faces_along, IsLoop}
 use Rattle.board.specs.Laws.{InputsFit}
-
--- the lines of some clocks, and of those behind them
-pub lines_then : (k n : ℕ) (pads : List Pad) (os us : List (List (List Trit))) → n ≡ k + length os
-    → lines_text k pads (os ++ us) ≡ lines_text k pads os ++ lines_text n pads us
-lines_then k n pads [] us is = ap (λ m. lines_text m pads us) (let e : k ≡ n = omega (arith, is) in e)
-lines_then k n pads (o ∷ os) us is =
-    ap (λ text. line_text k pads o ++ text) (lines_then (suc k) n pads os us (omega (arith, is)))
-    ∙ sym (append_assoc (line_text k pads o) (lines_text (suc k) pads os) (lines_text n pads us))
 
 module _ (w : Wired) where
   inputs_then : (k n : ℕ) (faces : List Face) (os us : List (List (List Trit))) → n ≡ k + length os

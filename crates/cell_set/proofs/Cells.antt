@@ -1,5 +1,6 @@
 -- Cells as leaves.
-use Rattle.std.proofs.Common.{◌≡◌, ◌==◌, ℕ, ◌+◌, ◌/◌, ◌%◌, Bool, true, false, inl, inr, List, replicate, sym, ◌∙◌, subst, arith}
+use Rattle.std.proofs.Common.{◌≡◌, ◌==◌, ℕ, ◌+◌, ◌/◌, ◌%◌, Bool, true, false, inl, inr, List, replicate, sym, ◌∙◌}
+use Rattle.std.proofs.Common.{subst, arith}
 use Rattle.std.specs.Int.{bit_at}
 use Rattle.std.proofs.lemmas.Bool.{cases_Bool, cases_lt, eq-eqb, ne_eqb, eqb-true, eqb-false}
 use Rattle.std.proofs.lemmas.List.{get_or-replicate, get_or_past, length-replicate}
@@ -15,7 +16,8 @@ tested words i m = eq-eqb _ _ m.bit
 pub untested : (words : List ℕ) (i : ℕ) → (¬ IsMarked words i) → test words i ≡ false
 untested words i n = ne_eqb _ _ (λ e. n (record { bit = e }))
 
-pub same_test : (old now : List ℕ) (i : ℕ) → (IsMarked old i → IsMarked now i) → (IsMarked now i → IsMarked old i) → test now i ≡ test old i
+pub same_test : (old now : List ℕ) (i : ℕ) → (IsMarked old i → IsMarked now i) → (IsMarked now i → IsMarked old i)
+    → test now i ≡ test old i
 same_test old now i f g = elim (cases_Bool (test old i)) [
   | inl e ↦ tested now i (f (record { bit = eqb-true _ _ e })) ∙ sym e
   | inr e ↦ untested now i (λ m. eqb-false _ _ e (g m).bit) ∙ sym e
@@ -34,4 +36,8 @@ blank_unmarked n i m =
     absurd (omega arith)
 
 pub blank_noted : (n : ℕ) → AreNoted (replicate n 0)
-blank_noted n = record { each = λ i _. let z = blank_word n (i + 1) in ((λ m. absurd (blank_unmarked n i m)), (λ h. absurd (omega arith))) }
+blank_noted n =
+    record {
+      each = λ i _. let z = blank_word n (i + 1) in
+          ((λ m. absurd (blank_unmarked n i m)), (λ h. absurd (omega arith)));
+    }

@@ -1,5 +1,6 @@
 -- The marked item that is nearest to one.
-use Rattle.std.proofs.Common.{◌≡◌, ℕ, zero, suc, ◌+◌, ◌-◌, ◌*◌, ◌/◌, ◌%◌, ◌<◌, ◌≤◌, inl, inr, List, length, subst, arith}
+use Rattle.std.proofs.Common.{◌≡◌, ℕ, zero, suc, ◌+◌, ◌-◌, ◌*◌, ◌/◌, ◌%◌, ◌<◌, ◌≤◌, inl, inr, List, length, subst}
+use Rattle.std.proofs.Common.{arith}
 use Rattle.std.specs.Int.{bit_at}
 use Rattle.std.proofs.lemmas.Bool.{cases_eq, cases_lt}
 use Rattle.std.proofs.lemmas.List.{get_or_past}
@@ -14,7 +15,8 @@ some_word word i e = elim (cases_eq word 0) [
   | inr n ↦ omega arith
 ]
 
-marked_at : (words : List ℕ) (at place : ℕ) → place < 64 → bit_at (word_at words at) place ≡ 1 → IsMarked words (64 * at + place)
+marked_at : (words : List ℕ) (at place : ℕ) → place < 64 → bit_at (word_at words at) place ≡ 1
+    → IsMarked words (64 * at + place)
 marked_at words at place h e =
     let q : (64 * at + place) / 64 ≡ at = omega arith in
     let r : (64 * at + place) % 64 ≡ place = omega arith in
@@ -29,7 +31,8 @@ word_some words i m = some_word (word_at words (i / 64)) (i % 64) m.bit
 word_within : (words : List ℕ) (i : ℕ) → IsMarked words i → i / 64 < length words
 word_within words i m = elim (cases_lt (i / 64) (length words)) [
   | inl h ↦ h
-  | inr h ↦ let s = word_some words i m in let z : word_at words (i / 64) ≡ 0 = get_or_past words (i / 64) 0 h in absurd (omega arith)
+  | inr h ↦ let s = word_some words i m in let z : word_at words (i / 64) ≡ 0 = get_or_past words (i / 64) 0 h in
+      absurd (omega arith)
 ]
 
 -- the word above a marked item's is marked
@@ -39,7 +42,8 @@ above words n i m h =
     let w = word_within words i m in
     (n.each (i / 64 - 1) (omega arith)).1 (rw e (word_some words i m))
 
-pub last_in_word : (words : List ℕ) (item place : ℕ) → IsHighest (word_at words (item / 64)) (item % 64) place → IsLast words item (64 * (item / 64) + place)
+pub last_in_word : (words : List ℕ) (item place : ℕ) → IsHighest (word_at words (item / 64)) (item % 64) place
+    → IsLast words item (64 * (item / 64) + place)
 last_in_word words item place h = let o = h.order in record {
   order = omega arith;
   marked = marked_at words (item / 64) place (omega arith) h.is_set;
@@ -49,7 +53,8 @@ last_in_word words item place h = let o = h.order in record {
       absurd (omega arith);
 }
 
-pub last_of_word : (words : List ℕ) (at place : ℕ) → IsHighest (word_at words at) 64 place → IsLast words (64 * at + 64) (64 * at + place)
+pub last_of_word : (words : List ℕ) (at place : ℕ) → IsHighest (word_at words at) 64 place
+    → IsLast words (64 * at + 64) (64 * at + place)
 last_of_word words at place h = let o = h.order in record {
   order = omega arith;
   marked = marked_at words at place (omega arith) h.is_set;
@@ -59,7 +64,8 @@ last_of_word words at place h = let o = h.order in record {
       absurd (omega arith);
 }
 
-pub first_in_word : (words : List ℕ) (at place item k : ℕ) → item ≡ 64 * at + place → at < length words → IsLowest (word_at words at) place k
+pub first_in_word : (words : List ℕ) (at place item k : ℕ) → item ≡ 64 * at + place → at < length words
+    → IsLowest (word_at words at) place k
     → IsFirst words item (64 * at + k)
 first_in_word words at place item k e w h = let o = h.order in let s = h.small in record {
   order = omega arith;
@@ -72,7 +78,8 @@ first_in_word words at place item k e w h = let o = h.order in let s = h.small i
 }
 
 -- no item of the same word stands before this one
-module _ (words : List ℕ) (item : ℕ) (n : AreNoted words) (none : (i : ℕ) → i < item % 64 → bit_at (word_at words (item / 64)) i ≡ 0) where
+module _ (words : List ℕ) (item : ℕ) (n : AreNoted words)
+    (none : (i : ℕ) → i < item % 64 → bit_at (word_at words (item / 64)) i ≡ 0) where
   earlier : (i : ℕ) → i < item → IsMarked words i → i / 64 < item / 64
   earlier i l m = elim (cases_lt (i / 64) (item / 64)) [
     | inl h ↦ h
@@ -108,21 +115,24 @@ module _ (words : List ℕ) (item : ℕ) (n : AreNoted words) (none : (i : ℕ) 
     | inr k ↦ omega arith
   ]
 
-  pub last_first : 0 < item / 64 → ((i : ℕ) → i < item / 64 - 1 → ¬ IsMarked words i) → (k : ℕ) → IsLast words 64 k → IsLast words item k
+  pub last_first : 0 < item / 64 → ((i : ℕ) → i < item / 64 - 1 → ¬ IsMarked words i) → (k : ℕ) → IsLast words 64 k
+      → IsLast words item k
   last_first w h k g = let p = g.order in record {
     order = omega arith;
     marked = g.marked;
     none = λ i l j m. let z = lowest_word h i j m in g.none i l (omega arith) m;
   }
 
-  pub last_none : ((i : ℕ) → i < item / 64 - 1 → ¬ IsMarked words i) → word_at words 0 ≡ 0 → (i : ℕ) → i < item → ¬ IsMarked words i
+  pub last_none : ((i : ℕ) → i < item / 64 - 1 → ¬ IsMarked words i) → word_at words 0 ≡ 0 → (i : ℕ) → i < item
+      → ¬ IsMarked words i
   last_none h z i l m =
       let e = lowest_word h i l m in
       let s : 0 < word_at words 0 = subst (λ k. 0 < word_at words k) e (word_some words i m) in
       absurd (omega arith)
 
 -- where the first word has none, there are none
-nothing : (words : List ℕ) → AreNoted words → ((i : ℕ) → bit_at (word_at words 0) i ≡ 0) → (f i : ℕ) → i ≤ f → ¬ IsMarked words i
+nothing : (words : List ℕ) → AreNoted words → ((i : ℕ) → bit_at (word_at words 0) i ≡ 0) → (f i : ℕ) → i ≤ f
+    → ¬ IsMarked words i
 nothing words n z zero i h m = let b = bit_in words 0 i (omega arith) m in let y = z (i % 64) in absurd (omega arith)
 nothing words n z (suc f) i h m = elim (cases_lt 0 (i / 64)) [
   | inl k ↦ nothing words n z f (i / 64 - 1) (omega arith) (above words n i m k)
@@ -130,9 +140,15 @@ nothing words n z (suc f) i h m = elim (cases_lt 0 (i / 64)) [
 ]
 
 -- no item of the same word stands from this one on
-module _ (words : List ℕ) (item : ℕ) (n : AreNoted words) (none : (i : ℕ) → item % 64 ≤ i → bit_at (word_at words (item / 64)) i ≡ 0) where
+module _ (words : List ℕ) (item : ℕ) (n : AreNoted words)
+    (none : (i : ℕ) → item % 64 ≤ i → bit_at (word_at words (item / 64)) i ≡ 0) where
   pub none_at_all : item ≡ 0 → (i : ℕ) → item ≤ i → ¬ IsMarked words i
-  none_at_all e i h = nothing words n (λ j. let z : 0 % 64 ≤ j → bit_at (word_at words (0 / 64)) j ≡ 0 = subst (λ k. k % 64 ≤ j → bit_at (word_at words (k / 64)) j ≡ 0) e (none j) in z (omega arith)) i i (omega arith)
+  none_at_all e i h =
+      nothing words n
+      (λ j. let z : 0 % 64 ≤ j
+      → bit_at (word_at words (0 / 64)) j
+      ≡ 0 = subst (λ k. k % 64 ≤ j → bit_at (word_at words (k / 64)) j ≡ 0) e (none j) in z (omega arith)) i i
+      (omega arith)
 
   later : (i : ℕ) → item ≤ i → IsMarked words i → item / 64 < i / 64
   later i l m = elim (cases_lt (item / 64) (i / 64)) [
@@ -152,7 +168,8 @@ module _ (words : List ℕ) (item : ℕ) (n : AreNoted words) (none : (i : ℕ) 
     | inr k ↦ omega arith
   ]
 
-  pub first_past : (r : ℕ) → IsFirst words (item / 64) r → length words ≤ r + 1 → (i : ℕ) → item ≤ i → ¬ IsMarked words i
+  pub first_past : (r : ℕ) → IsFirst words (item / 64) r → length words ≤ r + 1 → (i : ℕ) → item ≤ i
+      → ¬ IsMarked words i
   first_past r h w i l m = let u = from_up r h i l m in let v = word_within words i m in absurd (omega arith)
 
   pub first_above : (r k : ℕ) → IsFirst words (item / 64) r → IsFirst words (64 * (r + 1)) k → IsFirst words item k

@@ -1,10 +1,13 @@
 -- Bits that are set in words.
-use Rattle.std.proofs.Common.{◌≡◌, ℕ, suc, ◌-◌, ◌/◌, ◌^◌, ◌<◌, ◌≤◌, min, inl, inr, bit_and, w64, refl, sym, ◌∙◌, subst, arith}
+use Rattle.std.proofs.Common.{◌≡◌, ℕ, suc, ◌-◌, ◌/◌, ◌^◌, ◌<◌, ◌≤◌, min, inl, inr, bit_and, w64, refl, sym, ◌∙◌, subst}
+use Rattle.std.proofs.Common.{arith}
 use Rattle.std.specs.Prelude.{Option, None, Some, IfNone}
 use Rattle.std.specs.Int.{bit_at, trailing_zeros, leading_zeros}
 use Rattle.std.proofs.lemmas.Bool.{cases_lt}
 use Rattle.std.proofs.lemmas.Nat.{leading_top, div_below, le-div, pow_pos}
-use Rattle.std.proofs.lemmas.Nat.Bits.{bit_at_and, bit_at-trailing_zeros, bit_at_mask_inside, bit_at_mask_below, bit_at_above, bit_at-zero, bit_at-lt, bit_at_ones, bit_at_ones_above, same_from_bits}
+use Rattle.std.proofs.lemmas.Nat.Bits.{bit_at_and, bit_at-trailing_zeros, bit_at_mask_inside, bit_at_mask_below}
+use Rattle.std.proofs.lemmas.Nat.Bits.{bit_at_above, bit_at-zero, bit_at-lt, bit_at_ones, bit_at_ones_above}
+use Rattle.std.proofs.lemmas.Nat.Bits.{same_from_bits}
 use Rattle.cell_set.specs.Bits.{IsLowest, IsHighest}
 
 pub none_then : (r : Option ℕ) (P Q : Type 0) → IfNone r P → (P → Q) → IfNone r Q
@@ -12,17 +15,20 @@ none_then None P Q h f = f h
 none_then (Some x) P Q h f = tt
 
 -- what is left of a word from a place on
-module _ (word place rest : ℕ) (small : word < 2 ^ 64) (p : place < 64) (is : rest ≡ bit_and word (2 ^ 64 - 2 ^ place)) where
+module _ (word place rest : ℕ) (small : word < 2 ^ 64) (p : place < 64)
+    (is : rest ≡ bit_and word (2 ^ 64 - 2 ^ place)) where
   from_on : (i : ℕ) → place ≤ i → i < 64 → bit_at rest i ≡ bit_at word i
   from_on i h l =
       let b = bit_at-lt word i in
-      let e : bit_at rest i ≡ min (bit_at word i) (bit_at (2 ^ 64 - 2 ^ place) i) = rw is (bit_at_and word (2 ^ 64 - 2 ^ place) i) in
+      let e : bit_at rest i ≡ min (bit_at word i) (bit_at (2 ^ 64 - 2 ^ place) i) =
+      rw is (bit_at_and word (2 ^ 64 - 2 ^ place) i) in
       let f = bit_at_mask_inside place 64 i h l in
       omega arith
 
   before_it : (i : ℕ) → i < place → bit_at rest i ≡ 0
   before_it i h =
-      let e : bit_at rest i ≡ min (bit_at word i) (bit_at (2 ^ 64 - 2 ^ place) i) = rw is (bit_at_and word (2 ^ 64 - 2 ^ place) i) in
+      let e : bit_at rest i ≡ min (bit_at word i) (bit_at (2 ^ 64 - 2 ^ place) i) =
+      rw is (bit_at_and word (2 ^ 64 - 2 ^ place) i) in
       let f = bit_at_mask_below place 64 i h in
       omega arith
 
@@ -74,13 +80,15 @@ module _ (word place rest : ℕ) (p : place < 64) (is : rest ≡ bit_and word (2
   below_it : (i : ℕ) → i < place → bit_at rest i ≡ bit_at word i
   below_it i h =
       let b = bit_at-lt word i in
-      let e : bit_at rest i ≡ min (bit_at word i) (bit_at (2 ^ place - 1) i) = rw is (bit_at_and word (2 ^ place - 1) i) in
+      let e : bit_at rest i ≡ min (bit_at word i) (bit_at (2 ^ place - 1) i) =
+      rw is (bit_at_and word (2 ^ place - 1) i) in
       let f = bit_at_ones place i h in
       omega arith
 
   not_from : (i : ℕ) → place ≤ i → bit_at rest i ≡ 0
   not_from i h =
-      let e : bit_at rest i ≡ min (bit_at word i) (bit_at (2 ^ place - 1) i) = rw is (bit_at_and word (2 ^ place - 1) i) in
+      let e : bit_at rest i ≡ min (bit_at word i) (bit_at (2 ^ place - 1) i) =
+      rw is (bit_at_and word (2 ^ place - 1) i) in
       let f = bit_at_ones_above place i h in
       omega arith
 

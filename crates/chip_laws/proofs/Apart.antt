@@ -1,47 +1,15 @@
 -- The bits of the input pads of a path are different nets.
-use Rattle.std.proofs.Common.{
-  ◌≡◌,
-  ◌⊎◌,
-  inl,
-  inr,
-  ◌∙◌,
-  ℕ,
-  zero,
-  suc,
-  ◌+◌,
-  ◌<◌,
-  ◌≤◌,
-  List,
-  [],
-  ◌∷◌,
-  ◌++◌,
-  length,
-  map,
-  refl,
-  sym,
-  ap,
-  subst,
-  arith,
-  Option,
-  Some,
-  None,
-  Bool,
-  true,
-  false,
-  cond,
-  eqb,
-  not,
-  true≢false,
-}
-use Rattle.std.specs.Prelude.{◌==◌, ◌≢◌, All, Contains, slice_get}
+use Rattle.std.proofs.Common.{◌≡◌, ◌∙◌, ℕ, zero, suc, ◌<◌, ◌≤◌, List, [], ◌∷◌, ◌++◌, map, refl, sym, ap, arith, Some}
+use Rattle.std.proofs.Common.{Bool, true, false, cond, not, true≢false}
+use Rattle.std.specs.Prelude.{◌==◌, ◌≢◌, slice_get}
 use Rattle.std.proofs.lemmas.Bool.{eq-eqb}
 use Rattle.std.proofs.lemmas.List.Elements.{All-contains, Contains-append_left}
-use Rattle.std.proofs.lemmas.Option.{same_Some, slice_get_within, get_or_from_slice_get}
+use Rattle.std.proofs.lemmas.Option.{same_Some, slice_get_within}
 use Rattle.mp_base.specs.declared.pad.Pad.{Pad}
-use Rattle.mp_base.specs.declared.pad.Pads.{Pads}
+use Rattle.mp_base.proofs.Entries.{get_map, some_entry, contains_from_get}
 use Rattle.nor_net.specs.declared.net.NetId.{NetId}
-use Rattle.nor_net.specs.declared.net.Part.TheVariants as parts
-use Rattle.nor_net.specs.Elements.{Spot, Element, Given, Joined, Nets, spot}
+use Rattle.nor_net.specs.Elements.{Spot, Given, Joined, Nets, spot}
+use Rattle.nor_net.proofs.Parts.{same_net as same_id}
 use Rattle.organelles.specs.declared.slices.Programmed.{Programmed}
 use Rattle.path_form.specs.declared.path.DataPath.{DataPath}
 use Rattle.path_form.specs.declared.path.Cast.{Cast}
@@ -52,25 +20,8 @@ use Rattle.path_form.specs.Showing.{path_nets, pad_bits, pad_spot}
 use Rattle.path_form.specs.Flat.{IsFlat, Root, itself, through}
 use Rattle.path_form.proofs.Joining.{times_append, there, is_one_input}
 use Rattle.path_values.proofs.Realized.{in_entries, control_pad, slice_pad}
-use Rattle.chip_laws.specs.Laws.{AreRowsApart, InputsAreApart}
+use Rattle.chip_laws.specs.Laws.{InputsAreApart}
 use Rattle.path_form.specs.Flat.{rows_of}
-
-pub mapped : {X Y : Type 0} (f : X → Y) (xs : List X) (k : ℕ) (y : Y) → slice_get (map f xs) k ≡ Some y → (x : X)
-    × (slice_get xs k ≡ Some x) × (f x ≡ y)
-mapped f [] k y e = absurd (let w = slice_get_within [] k y e in omega (arith, w))
-mapped f (x ∷ xs) zero y e = (x, refl, same_Some (f x) y e)
-mapped f (x ∷ xs) (suc k) y e = mapped f xs k y e
-
-pub entry : {Y : Type 0} (xs : List Y) (k : ℕ) → k < length xs → (x : Y) × (slice_get xs k ≡ Some x)
-entry [] k l = absurd (omega (arith, l))
-entry (x ∷ xs) zero l = (x, refl)
-entry (x ∷ xs) (suc k) l = entry xs k (omega (arith, l))
-
-pub in_list : {Y : Type 0} (xs : List Y) (k : ℕ) (x : Y) → slice_get xs k ≡ Some x → Contains xs x
-in_list xs k x e = (k, slice_get_within xs k x e, get_or_from_slice_get xs k x x e)
-
-same_id : (x y : NetId) → x.0 ≡ y.0 → x ≡ y
-same_id x y e = let f : ℕ → NetId = λ m. record { 0 = m } in ap f e
 
 -- a net that is given joins no other
 stay : (nets : Nets) (n root : Spot) → Root nets n root → nets n ≡ Some Given → root ≡ n
@@ -107,11 +58,11 @@ module _ (p : DataPath) where
           p.whole.slice_inputs.0 more in
           let wide : pad.width ≡ p.width = All-contains (λ (x : Pad). x.width ≢ 0 → x.width ≡ p.width)
           (p.pads).inputs pad p.whole.pads_fit.0
-          (in_list (p.pads).inputs i pad e) (λ z. true≢false (ap (λ n. n == 0) (sym z) ∙ w)) in
+          (contains_from_get (p.pads).inputs i pad e) (λ z. true≢false (ap (λ n. n == 0) (sym z) ∙ w)) in
           slice_pad p k id (omega (arith, l, wide)) (is_one_input (slice_get p.slices.net id.0) is) c
 
 -- a net has one place among the entries of a sort
-tail_fewer : (word : Bool) (pad : Pad) (pads : List Pad) (id : NetId) (ids : List NetId) (n : ℕ)
+pub tail_fewer : (word : Bool) (pad : Pad) (pads : List Pad) (id : NetId) (ids : List NetId) (n : ℕ)
     → times n (entries_of word pads ids) ≤ times n (entries_of word (pad ∷ pads) (id ∷ ids))
 tail_fewer word pad pads id ids n = by_tests (not (pad.width == 0)) word
   where
@@ -126,7 +77,7 @@ tail_fewer word pad pads id ids n = by_tests (not (pad.width == 0)) word
 abbrev tally : Bool → ℕ
 tally b = cond b 1 0
 
-head_counts : (word : Bool) (pad : Pad) (pads : List Pad) (id : NetId) (ids : List NetId) (n : ℕ)
+pub head_counts : (word : Bool) (pad : Pad) (pads : List Pad) (id : NetId) (ids : List NetId) (n : ℕ)
     → not (pad.width == 0) ≡ word → id.0 ≡ n
     → 0 < times n (entries_of word pads ids) → times n (entries_of word (pad ∷ pads) (id ∷ ids)) ≤ 1 → ⊥
 head_counts word pad pads id ids n w e some few = by_tests (not (pad.width == 0)) word w few
@@ -176,13 +127,13 @@ module _ (p : DataPath) (f : Flattened) (flat : IsFlat p f) where
   pub find : (a k : ℕ) (n : Spot) (xs : List Spot) → slice_get (rows_of f.inputs) a ≡ Some xs
       → slice_get xs k ≡ Some n → At a k n
   find a k n xs ea ek =
-      let r = mapped (λ (row : List NetId). map (spot 0) row) f.inputs a xs ea in
-      let i = mapped (spot 0) r.0 k n (ap (λ x. slice_get x k) r.2 ∙ ek) in
+      let r = get_map (λ (row : List NetId). map (spot 0) row) f.inputs a xs ea in
+      let i = get_map (spot 0) r.0 k n (ap (λ x. slice_get x k) r.2 ∙ ek) in
       let within = slice_get_within f.inputs a r.0 r.1 in
       let l1 = flat.sizes.0 in
       let l2 = p.whole.entries_fit.0.0 in
-      let pad = entry (p.pads).inputs a (omega (arith, within, l1)) in
-      let id = entry p.inputs a (omega (arith, within, l1, l2)) in
+      let pad = some_entry (p.pads).inputs a (omega (arith, within, l1)) in
+      let id = some_entry p.inputs a (omega (arith, within, l1, l2)) in
       let are = flat.inputs a pad.0 id.0 r.0 pad.1 id.1 r.1 in
       let at = slice_get_within r.0 k i.0 i.1 in
       let size = are.0 in

@@ -1,24 +1,5 @@
 -- An extracted network draws a net as a circuit.
-use Rattle.std.proofs.Common.{
-  ◌≡◌,
-  ◌∙◌,
-  ℕ,
-  zero,
-  suc,
-  ◌+◌,
-  ◌<◌,
-  List,
-  [],
-  ◌∷◌,
-  ◌++◌,
-  length,
-  map,
-  refl,
-  sym,
-  ap,
-  subst,
-  arith,
-}
+use Rattle.std.proofs.Common.{◌≡◌, ◌∙◌, ℕ, suc, ◌+◌, ◌<◌, List, [], ◌∷◌, ◌++◌, length, map, refl, sym, ap, subst, arith}
 use Rattle.std.specs.Prelude.{All, Contains, flat_map}
 use Rattle.std.specs.List.{AllZip}
 use Rattle.std.proofs.lemmas.List.{length-append, length-map}
@@ -29,11 +10,9 @@ use Rattle.switch_net.specs.declared.network.Tag.{Tag}
 use Rattle.switch_net.specs.declared.network.Network.{Network}
 use Rattle.switch_net.specs.Clock.{IsLabelled}
 use Rattle.switch_net.specs.Pads.{bit_labels, chip_labels}
-use Rattle.nor_net.specs.declared.net.Phase.TheVariants.{A, B, C}
 use Rattle.nor_net.specs.Elements.{Spot, Given, Nets}
 use Rattle.drawn_nets.specs.Law.{IsKind, AreFed}
-use Rattle.drawing.specs.Draws.{Point, OfNet, Ground, Power, OfPhase}
-use Rattle.renumbering.specs.Same.{Renumbering}
+use Rattle.drawing.specs.Draws.{Point, OfNet}
 use Rattle.drawing.specs.Carrying.{DrawingsCarryOver}
 use Rattle.drawn_nets.specs.Circuits.{IsPadAt, DrawsCircuit}
 use Rattle.chip_laws.specs.Laws.{points, AreRowsOf, IsExtracted, NetworksDrawCircuits}

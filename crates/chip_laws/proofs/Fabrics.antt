@@ -1,20 +1,17 @@
 -- From the fabric to extracted networks.
-use Rattle.std.proofs.Common.{◌≡◌, ◌∙◌, ℕ, ◌<◌, List, [], ◌∷◌, map, refl, sym, ap}
+use Rattle.std.proofs.Common.{◌≡◌, ◌∙◌, ℕ, List, [], ◌∷◌, map, refl, sym, ap}
 use Rattle.std.specs.List.{AllZip}
-use Rattle.mp_base.specs.declared.pad.Pads.{Pads}
 use Rattle.lam_geom.specs.declared.label.FlatLabel.{FlatLabel}
 use Rattle.lam_geom.specs.Squares.{Square, covered}
 use Rattle.switch_net.specs.declared.network.Tag.{Tag}
-use Rattle.switch_net.specs.declared.network.Network.{Network}
-use Rattle.switch_net.specs.Drawn.{IsNetwork, IsTag}
-use Rattle.switch_net.specs.Pads.{chip_labels}
+use Rattle.switch_net.specs.Drawn.{IsTag}
 use Rattle.drawing.specs.Draws.{Point}
 use Rattle.fabric.specs.Plan.{Plan}
 use Rattle.fabric.specs.Shape.{shape}
 use Rattle.fabric.specs.Switches.{Net, IsNet}
 use Rattle.fabric.specs.Theorem.{IsLabelOn, FabricDrawsSwitches}
 use Rattle.fabric.specs.declared.chip.ChipLabel.{ChipLabel}
-use Rattle.fabric.specs.Labelled.{IsLabelOf, AreLabelsOf}
+use Rattle.fabric.specs.Labelled.{AreLabelsOf}
 use Rattle.chip_laws.specs.Laws.{points, names_of}
 use Rattle.chip_laws.specs.Fabrics.{IsAt, FabricLays}
 

@@ -1,42 +1,12 @@
 -- A flat net is a net as drawings have it.
-use Rattle.std.proofs.Common.{
-  ◌≡◌,
-  ◌⊎◌,
-  inl,
-  inr,
-  ◌∙◌,
-  ℕ,
-  zero,
-  suc,
-  ◌+◌,
-  ◌<◌,
-  ◌≤◌,
-  List,
-  [],
-  ◌∷◌,
-  ◌++◌,
-  length,
-  get_or,
-  map,
-  refl,
-  sym,
-  ap,
-  subst,
-  arith,
-  Option,
-  Some,
-  None,
-  Bool,
-  true,
-  false,
-}
-use Rattle.std.specs.Prelude.{All, IfSome, slice_get, ◌==◌, cond}
-use Rattle.std.specs.List.{AllZip}
-use Rattle.std.proofs.lemmas.List.{get_or-map, length-map, length-append}
-use Rattle.std.proofs.lemmas.Option.{same_Some, slice_get_within, get_or_from_slice_get}
+use Rattle.std.proofs.Common.{◌≡◌, ◌⊎◌, inl, inr, ◌∙◌, ℕ, zero, suc, List, [], ◌∷◌, length, map, refl, sym, ap, subst}
+use Rattle.std.proofs.Common.{arith, Option, Some, None, Bool, true, false}
+use Rattle.std.specs.Prelude.{All, slice_get, ◌==◌, cond}
+use Rattle.std.proofs.lemmas.List.{length-map}
 use Rattle.mp_base.specs.declared.pad.Pad.{Pad}
-use Rattle.mp_base.specs.declared.pad.Pads.{Pads}
-use Rattle.switch_net.specs.Pads.{bit_count, word_labels, labels_of, bit_labels}
+use Rattle.mp_base.proofs.Entries.{all_from}
+use Rattle.switch_net.specs.Pads.{bit_count, labels_of}
+use Rattle.switch_net.proofs.Labels.{length_word_labels}
 use Rattle.nor_net.specs.declared.net.NetId.{NetId}
 use Rattle.nor_net.specs.declared.net.Part.{Part}
 use Rattle.nor_net.specs.declared.net.Part.TheVariants as parts
@@ -49,31 +19,14 @@ use Rattle.path_form.specs.Showing.{pad_spot}
 use Rattle.path_form.specs.Flat.{IsFlat}
 use Rattle.nor_net.specs.declared.net.Phase.{Phase}
 use Rattle.drawn_nets.specs.Law.{IsKind, AreFed}
-use Rattle.chip_laws.proofs.Apart.{mapped, entry, given, At, find}
+use Rattle.chip_laws.proofs.Apart.{given, At, find}
 use Rattle.chip_laws.proofs.Following.{AreFull, are_full}
-use Rattle.chip_laws.specs.Laws.{AreRowsOf, IsDrawable, FlatsAreDrawable}
+use Rattle.chip_laws.specs.Laws.{AreRowsOf, FlatsAreDrawable}
 use Rattle.path_form.specs.Flat.{rows_of}
 
-map_at : {X Y : Type 0} (f : X → Y) (xs : List X) (k : ℕ) (x : X) → slice_get xs k ≡ Some x
-    → slice_get (map f xs) k ≡ Some (f x)
-map_at f [] k x e = absurd (let w = slice_get_within [] k x e in omega (arith, w))
-map_at f (y ∷ ys) zero x e = ap Some (ap f (same_Some y x e))
-map_at f (y ∷ ys) (suc k) x e = map_at f ys k x e
-
-all_from : {X : Type 0} (P : X → Type 0) (xs : List X) → ((k : ℕ) (x : X) → slice_get xs k ≡ Some x → P x) → All P xs
-all_from P xs h k d lt = let e = entry xs k lt in subst P (sym (get_or_from_slice_get xs k e.0 d e.1)) (h k e.0 e.1)
-
-at_all : {X : Type 0} (P : X → Type 0) (xs : List X) (k : ℕ) (x : X) → All P xs → slice_get xs k ≡ Some x → P x
-at_all P xs k x h e = subst P (get_or_from_slice_get xs k x x e) (h k x (slice_get_within xs k x e))
-
-length_word : (p : List ℕ) (n : ℕ) → length (word_labels p n) ≡ n
-length_word p zero = refl
-length_word p (suc n) = let a = length-append (word_labels p n) (_ ∷ []) in let r = length_word p n in
-    a ∙ (omega (arith, r))
-
-length_labels : (p : List ℕ) (w : ℕ) → length (labels_of p w) ≡ bit_count w
+pub length_labels : (p : List ℕ) (w : ℕ) → length (labels_of p w) ≡ bit_count w
 length_labels p zero = refl
-length_labels p (suc w) = length_word p (suc w)
+length_labels p (suc w) = length_word_labels p (suc w)
 
 rows_fit : (pads : List Pad) (rows : List (List NetId)) → length rows ≡ length pads → AreFull pads rows
     → AreRowsOf pads (rows_of rows)

@@ -1,52 +1,22 @@
 -- A circuit that draws the flat net of a path that shows transfers follows them.
-use Rattle.std.proofs.Common.{
-  ◌≡◌,
-  ◌⊎◌,
-  inl,
-  inr,
-  ◌∙◌,
-  ℕ,
-  zero,
-  suc,
-  ◌+◌,
-  ◌<◌,
-  ◌≤◌,
-  ◌^◌,
-  List,
-  [],
-  ◌∷◌,
-  ◌++◌,
-  length,
-  get_or,
-  map,
-  refl,
-  sym,
-  ap,
-  subst,
-  arith,
-  Option,
-  Some,
-  None,
-  Bool,
-  true,
-  false,
-  cond,
-  eqb,
-}
-use Rattle.std.specs.Prelude.{◌==◌, All, slice_get, slice_index, slice_index_or}
+use Rattle.std.proofs.Common.{◌≡◌, ◌∙◌, ℕ, zero, suc, ◌<◌, ◌^◌, List, [], ◌∷◌, length, get_or, map, refl, sym, ap}
+use Rattle.std.proofs.Common.{subst, arith, Some, cond, eqb}
+use Rattle.std.specs.Prelude.{◌==◌, All, slice_get, slice_index_or}
 use Rattle.std.specs.List.{AllZip}
 use Rattle.std.specs.Int.{bit_at}
-use Rattle.std.proofs.lemmas.Bool.{cases_lt, cond-false, ne_eqb}
-use Rattle.std.proofs.lemmas.List.{get_or_append_left, get_or_push, get_or-map, length-map, ext_get_or}
-use Rattle.std.proofs.lemmas.Option.{same_Some, slice_get_within, get_or_from_slice_get, slice_get-get_or}
+use Rattle.std.proofs.lemmas.Bool.{cond-false, ne_eqb}
+use Rattle.std.proofs.lemmas.List.{get_or-map, length-map, ext_get_or}
+use Rattle.std.proofs.lemmas.Option.{same_Some, slice_get_within, get_or_from_slice_get}
 use Rattle.std.proofs.lemmas.Nat.Bits.{bit_at-lt}
 use Rattle.mp_base.specs.declared.value.Trit.{Trit}
-use Rattle.mp_base.specs.declared.value.Trit.TheVariants.{Zero, One, X}
+use Rattle.mp_base.specs.declared.value.Trit.TheVariants.{X}
 use Rattle.mp_base.specs.declared.pad.Pad.{Pad}
 use Rattle.mp_base.specs.declared.pad.Pads.{Pads}
+use Rattle.mp_base.proofs.Zips.{zip_at, zip_length, zip_map}
+use Rattle.mp_base.proofs.Entries.{some_entry}
 use Rattle.switch_net.specs.declared.network.Network.{Network}
-use Rattle.switch_net.specs.Clock.{IsCircuitTrace}
-use Rattle.switch_net.specs.Pads.{bit_count, trit_of, low_bits, pad_bits, Fit}
+use Rattle.switch_net.specs.Pads.{bit_count, trit_of, pad_bits, Fit}
+use Rattle.switch_net.proofs.Labels.{length_bits, low_bit}
 use Rattle.headline.specs.Headline.{bits_of}
 use Rattle.nor_net.specs.declared.net.NetId.{NetId}
 use Rattle.nor_net.specs.Elements.{Spot, Nets, spot, nets_of}
@@ -57,7 +27,6 @@ use Rattle.rtl_form.specs.Trace as rtl
 use Rattle.path_form.specs.declared.path.DataPath.{DataPath}
 use Rattle.path_form.specs.declared.flattened.Flattened.{Flattened}
 use Rattle.path_form.specs.Showing as path
-use Rattle.path_form.specs.Showing.{ShowsTransfers}
 use Rattle.path_form.specs.Flat.{IsFlat, ArePadsOf, HasBits, FlatShows, FlatShowsTransfers}
 use Rattle.drawing.specs.Draws.{Point, OfNet}
 use Rattle.drawn_nets.specs.Circuits.{DrawsCircuit, AreGiven, CircuitsAreDrawn}
@@ -66,33 +35,6 @@ use Rattle.chip_laws.specs.Laws.{PathsFollow}
 use Rattle.path_form.specs.Flat.{rows_of}
 
 -- ---- bits
-
-pub length_bits : (n word : ℕ) → length (low_bits n word) ≡ n
-length_bits zero word = refl
-length_bits (suc n) word = length_push_one (low_bits n word) (trit_of (bit_at word n)) ∙ ap suc (length_bits n word)
-  where
-    length_push_one : (xs : List Trit) (x : Trit) → length (xs ++ x ∷ []) ≡ suc (length xs)
-    length_push_one [] x = refl
-    length_push_one (y ∷ ys) x = ap suc (length_push_one ys x)
-
-last_or_before : (n word k : ℕ) (d : Trit) → k < suc n
-    → (k < n → get_or (low_bits n word) k d ≡ trit_of (bit_at word k))
-    → get_or (low_bits (suc n) word) k d ≡ trit_of (bit_at word k)
-last_or_before n word k d lt before = by_place (cases_lt k n)
-  where
-    by_place : (k < n) ⊎ (n ≤ k) → get_or (low_bits n word ++ trit_of (bit_at word n) ∷ []) k d
-        ≡ trit_of (bit_at word k)
-    by_place (inl h) =
-        let l : length (low_bits n word) ≡ n = length_bits n word in
-        get_or_append_left (low_bits n word) (trit_of (bit_at word n) ∷ []) d k (omega (arith, h, l)) ∙ before h
-    by_place (inr h) =
-        let e : n ≡ k = omega (arith, h, lt) in
-        get_or_push (low_bits n word) (trit_of (bit_at word n)) d k (length_bits n word ∙ e)
-        ∙ ap (λ m. trit_of (bit_at word m)) e
-
-pub low_bit : (n word k : ℕ) (d : Trit) → k < n → get_or (low_bits n word) k d ≡ trit_of (bit_at word k)
-low_bit zero word k d lt = absurd (omega (arith, lt))
-low_bit (suc n) word k d lt = last_or_before n word k d lt (λ h. low_bit n word k d h)
 
 pub trit_bit : (n : ℕ) → n < 2 → trit_of n ≡ bit (n == 1)
 trit_bit zero lt = refl
@@ -105,34 +47,6 @@ same_count zero = refl
 same_count (suc w) = cond-false (eqb (suc w) 0) 1 (suc w) (ne_eqb (suc w) 0 (λ e. omega (arith, e)))
 
 -- ---- lists side by side
-
-pub zip_at : {A B : Type 0} (R : A → B → Type 0) (xs : List A) (ys : List B) → AllZip R xs ys
-    → (i : ℕ) (d : A) (e : B) → i < length xs
-    → R (get_or xs i d) (get_or ys i e)
-zip_at R [] [] h i d e lt = absurd (omega (arith, lt))
-zip_at R [] (y ∷ ys) h i d e lt = absurd h
-zip_at R (x ∷ xs) [] h i d e lt = absurd h
-zip_at R (x ∷ xs) (y ∷ ys) h zero d e lt = h.0
-zip_at R (x ∷ xs) (y ∷ ys) h (suc i) d e lt = zip_at R xs ys h.1 i d e (omega (arith, lt))
-
-pub zip_length : {A B : Type 0} (R : A → B → Type 0) (xs : List A) (ys : List B) → AllZip R xs ys
-    → length xs ≡ length ys
-zip_length R [] [] h = refl
-zip_length R [] (y ∷ ys) h = absurd h
-zip_length R (x ∷ xs) [] h = absurd h
-zip_length R (x ∷ xs) (y ∷ ys) h = let e = zip_length R xs ys h.1 in omega (arith, e)
-
-pub zip_map : {A B : Type 0} (R S : A → B → Type 0) (xs : List A) (ys : List B) → ((x : A) (y : B) → R x y → S x y)
-    → AllZip R xs ys → AllZip S xs ys
-zip_map R S [] [] f h = tt
-zip_map R S [] (y ∷ ys) f h = absurd h
-zip_map R S (x ∷ xs) [] f h = absurd h
-zip_map R S (x ∷ xs) (y ∷ ys) f h = (f x y h.0, zip_map R S xs ys f h.1)
-
-pub entry : {Y : Type 0} (xs : List Y) (k : ℕ) → k < length xs → (x : Y) × (slice_get xs k ≡ Some x)
-entry [] k l = absurd (omega (arith, l))
-entry (x ∷ xs) zero l = (x, refl)
-entry (x ∷ xs) (suc k) l = entry xs k (omega (arith, l))
 
 -- ---- one pad
 
@@ -174,7 +88,7 @@ bits_shown v p w row size h = ext_get_or X (map v (numbers row)) (pad_bits p w) 
     each k lt =
         let l : length (map v (numbers row)) ≡ length (numbers row) = length-map (numbers row) v in
         let inside : k < length row = omega (arith, lt, l, count) in
-        let here = entry row k inside in
+        let here = some_entry row k inside in
         get_or-map v (numbers row) k (spot 0 here.0) X (omega (arith, lt, l))
         ∙ ap v (number_at row k here.0 (spot 0 here.0) here.1)
         ∙ h k here.0 here.1 ∙ sym (trit_bit (bit_at w k) (bit_at-lt w k))
@@ -215,7 +129,7 @@ pub are_full : (pads : List Pad) (ids : List NetId) (of : Spot → NetId) (rows 
     → length ids ≡ length pads → ArePadsOf pads ids of rows → AreFull pads rows
 are_full pads ids of rows l are i pad row is_pad is_row =
     let within = slice_get_within pads i pad is_pad in
-    let own = entry ids i (omega (arith, l, within)) in
+    let own = some_entry ids i (omega (arith, l, within)) in
     (are i pad own.0 row is_pad own.1 is_row).0 ∙ same_count pad.width
 
 pub fits : (pads : List Pad) (words : List ℕ) → Fit pads words → path.FitPads pads words
@@ -249,7 +163,8 @@ with_pads : (rtl : Rtl) (p : DataPath) (f : Flattened) (network : Network) (node
     → CircuitsAreDrawn → FlatShowsTransfers rtl f → IsFlat p f
     → DrawsCircuit network rtl.pads (nets_of f.net) (rows_of f.inputs) (rows_of f.outputs) node
     → FollowsTransfers rtl network
-with_pads r p f network node pads is_p is_r law shows flat draws inputs outputs fit trace charge after shown circuit k lt settled =
+with_pads r p f network node pads is_p is_r law shows flat draws inputs outputs fit trace charge after shown circuit k
+    lt settled =
     let outs = ap (λ (x : Pads). x.outputs) (is_p ∙ sym is_r) in
     let are_out : ArePadsOf (r.pads).outputs p.outputs flat.of f.outputs =
     subst (λ x. ArePadsOf x p.outputs flat.of f.outputs) outs flat.outputs in
@@ -261,8 +176,8 @@ with_pads r p f network node pads is_p is_r law shows flat draws inputs outputs 
     let showns = here.1 in
     let loose = here.2 in
     let given = zip_map (λ words g. AreGiven g (r.pads).inputs words (rows_of f.inputs))
-    (HasBits (r.pads).inputs f.inputs) inputs givens
-    (λ words g. pads_given g (r.pads).inputs words f.inputs) here.3 in
+    (HasBits (r.pads).inputs f.inputs) (λ words g. pads_given g (r.pads).inputs words f.inputs) inputs
+    givens here.3 in
     let narrow : All (path.FitPads (r.pads).inputs) inputs =
     λ i d l. fits (r.pads).inputs (slice_index_or inputs i d) (fit i d l) in
     let h = shows inputs outputs narrow trace (λ s. charge (node (OfNet s))) givens showns

@@ -1,54 +1,24 @@
 -- A circuit that draws a net has its pads.
-use Rattle.std.proofs.Common.{
-  ◌≡◌,
-  ◌⊎◌,
-  inl,
-  inr,
-  ◌∙◌,
-  ℕ,
-  zero,
-  suc,
-  ◌<◌,
-  List,
-  [],
-  ◌∷◌,
-  ◌++◌,
-  length,
-  get_or,
-  refl,
-  sym,
-  ap,
-  subst,
-  arith,
-  Option,
-  Some,
-  None,
-}
-use Rattle.std.specs.Prelude.{All, Contains, slice_get, slice_index_or, flat_map, codes}
+use Rattle.std.proofs.Common.{◌≡◌, ◌⊎◌, inl, inr, ◌∙◌, ℕ, zero, suc, ◌<◌, List, [], ◌∷◌, length, get_or, refl, sym, ap}
+use Rattle.std.proofs.Common.{subst, arith, Some}
+use Rattle.std.specs.Prelude.{All, Contains, slice_get, flat_map, codes}
 use Rattle.std.specs.List.{AllZip}
 use Rattle.std.proofs.lemmas.List.Elements.{Contains-append_cases}
-use Rattle.std.proofs.lemmas.Option.{same_Some, slice_get_within, get_or_from_slice_get, slice_get-get_or}
+use Rattle.std.proofs.lemmas.Option.{same_Some}
 use Rattle.mp_base.specs.declared.pad.Pad.{Pad}
 use Rattle.mp_base.specs.declared.pad.Pads.{Pads}
-use Rattle.mp_base.specs.PadNames.{supplies}
+use Rattle.mp_base.proofs.Entries.{contains_from_get, all_at}
 use Rattle.switch_net.specs.declared.network.Tag.{Tag}
 use Rattle.switch_net.specs.declared.network.Network.{Network}
-use Rattle.switch_net.specs.Breaks.{HasPads, MeetsDriver, IsMissing}
+use Rattle.switch_net.specs.Breaks.{MeetsDriver, IsMissing}
 use Rattle.switch_net.specs.Clock.{IsLabelled}
 use Rattle.switch_net.specs.Pads.{bit_labels, driver_labels, chip_labels}
-use Rattle.nor_net.specs.declared.net.Phase.{Phase}
 use Rattle.nor_net.specs.declared.net.Phase.TheVariants.{A, B, C}
 use Rattle.nor_net.specs.Elements.{Spot, Given, Nets}
 use Rattle.drawn_nets.specs.Law.{IsKind}
 use Rattle.drawing.specs.Draws.{Point, OfNet, Ground, Power, OfPhase, IsOwn, HasOwnNode}
 use Rattle.drawn_nets.specs.Circuits.{IsPadAt, DrawsCircuit}
 use Rattle.chip_laws.specs.Laws.{AreRowsApart, CircuitsHavePads}
-
-in_list : {Y : Type 0} (xs : List Y) (k : ℕ) (x : Y) → slice_get xs k ≡ Some x → Contains xs x
-in_list xs k x e = (k, slice_get_within xs k x e, get_or_from_slice_get xs k x x e)
-
-all_at : {Y : Type 0} (P : Y → Type 0) (xs : List Y) (k : ℕ) (x : Y) → All P xs → slice_get xs k ≡ Some x → P x
-all_at P xs k x h e = subst P (get_or_from_slice_get xs k x x e) (h k x (slice_get_within xs k x e))
 
 -- the bit of a pad that has a name, and its net
 record Bit (pads : List Pad) (rows : List (List Spot)) (name : List ℕ) (n : Spot) : Type 0 where
@@ -215,8 +185,9 @@ module _ (network : Network) (node : Point → ℕ) where
         let d = m.1 in
         let s : Stands tag.name = stands tag.name d.driver.0 d.driver.1 d.driver.2 in
         let t : Stands d.earlier.name = stands d.earlier.name d.another.0 d.another.1 d.another.2 in
-        let here : tag.node ≡ node s.at = on_node tag (in_list network.tags i tag d.at) s in
-        let there : d.earlier.node ≡ node t.at = on_node d.earlier (in_list network.tags d.j d.earlier d.there) t in
+        let here : tag.node ≡ node s.at = on_node tag (contains_from_get network.tags i tag d.at) s in
+        let there : d.earlier.node ≡ node t.at =
+        on_node d.earlier (contains_from_get network.tags d.j d.earlier d.there) t in
         let same : t.at ≡ s.at = draws.draws.apart t.at s.at t.own s.own (sym there ∙ d.node ∙ here) in
         d.names (one_name pads ins apart d.earlier.name tag.name s.at
         (subst (Named pads ins d.earlier.name) same t.named) s.named)
@@ -231,7 +202,7 @@ module _ (network : Network) (node : Point → ℕ) where
         by_side (inr h) = let w = in_pads pads.outputs outs name draws.outputs h in (node (OfNet w.0), w.2)
 
     none_missing : (i : ℕ) (name : List ℕ) → ¬ IsMissing network (chip_labels pads) i name
-    none_missing i name m = let w = is_labelled name (in_list (chip_labels pads) i name m.at) in
+    none_missing i name m = let w = is_labelled name (contains_from_get (chip_labels pads) i name m.at) in
         m.none w.1.0 w.1.1 w.1.2
 
 pub circuits_have_pads : CircuitsHavePads

@@ -1,10 +1,5 @@
 -- Rectangles that draw the flat net of a path are planned.
-use Rattle.std.proofs.Common.{◌≡◌, ◌∙◌, ℕ, List, sym, refl, subst}
-use Rattle.switch_net.specs.Pads.{chip_labels}
-use Rattle.nor_net.specs.Shape as Shape
-use Rattle.path_form.specs.Showing.{ShowsTransfers}
-use Rattle.path_form.specs.Flat.{IsFlat}
-use Rattle.fabric.specs.declared.chip.ChipLabel.{ChipLabel}
+use Rattle.std.proofs.Common.{◌≡◌, ◌∙◌, ℕ, sym, refl, subst}
 use Rattle.mp_base.specs.declared.pad.Pads.{Pads}
 use Rattle.switch_net.specs.declared.network.Network.{Network}
 use Rattle.rtl_form.specs.declared.rtl.Rtl.{Rtl}
@@ -13,20 +8,8 @@ use Rattle.path_form.specs.declared.flattened.Flattened.{Flattened}
 use Rattle.drawing.specs.Draws.{Point}
 use Rattle.drawn_nets.specs.Circuits.{DrawsCircuit}
 use Rattle.nor_net.specs.Elements.{nets_of}
-use Rattle.chip_laws.specs.Planned.{IsPlanned}
-use Rattle.chip_laws.specs.Laws.{
-  names_of,
-  AreRowsOf,
-  IsExtracted,
-  IsDrawable,
-  NetworksDrawCircuits,
-  FlatsAreDrawable,
-  PathsArePlanned,
-  PathsFollow,
-  CircuitsHavePads,
-  InputsAreApart,
-  PlansHold,
-}
+use Rattle.chip_laws.specs.Laws.{AreRowsOf, IsExtracted, IsDrawable, NetworksDrawCircuits, FlatsAreDrawable}
+use Rattle.chip_laws.specs.Laws.{PathsArePlanned, PathsFollow, CircuitsHavePads, InputsAreApart, PlansHold}
 use Rattle.path_form.specs.Flat.{rows_of, HasNoOtherInputs}
 
 pub plans_hold : PathsFollow → CircuitsHavePads → InputsAreApart → PlansHold

@@ -1,37 +1,13 @@
 -- A label on each net of a fabric.
-use Rattle.std.proofs.Common.{
-  ◌≡◌,
-  ◌+◌,
-  ◌*◌,
-  ◌<◌,
-  ◌≤◌,
-  ℕ,
-  zero,
-  suc,
-  List,
-  length,
-  refl,
-  sym,
-  ◌∙◌,
-  ap,
-  subst,
-  arith,
-  Some,
-}
-use Rattle.std.specs.Prelude.{All, pos, get_or, ◌-◌}
+use Rattle.std.proofs.Common.{◌≡◌, ◌+◌, ◌*◌, ◌<◌, ◌≤◌, ℕ, zero, suc, refl, sym, ◌∙◌, ap, subst, arith, Some}
+use Rattle.std.specs.Prelude.{◌-◌}
 use Rattle.std.proofs.lemmas.Int.{ints}
 use Rattle.std.proofs.lemmas.List.Elements.{All-contains}
-use Rattle.lam_geom.specs.declared.label.FlatLabel.{FlatLabel}
-use Rattle.lam_geom.specs.declared.layer.Layer.{Layer}
-use Rattle.lam_geom.specs.declared.layer.Layer.TheVariants.{NM, ND}
-use Rattle.lam_geom.specs.Squares.{Square}
-use Rattle.fabric.specs.declared.thing.Segment.{Segment}
-use Rattle.fabric.specs.declared.thing.Line.{Line}
 use Rattle.fabric.specs.Plan.{Plan, IsFabric, IsSegment, IsLine, bands, rows_of}
-use Rattle.fabric.specs.Shape.{base, last_column, offset}
+use Rattle.fabric.specs.Shape.{base}
 use Rattle.fabric.specs.Switches.{Net, IsNet}
 use Rattle.fabric.specs.Switches.Net.{segment, line, ground, power}
-use Rattle.fabric.specs.Theorem.{IsOn, IsLabelOn}
+use Rattle.fabric.specs.Theorem.{IsOn}
 use Rattle.chip_laws.specs.Labels.{corner_of, LabelsStand}
 
 rises : (f : Plan) (a k : ℕ) → base f a ≤ base f (k + a)

@@ -1,39 +1,9 @@
 -- The data of a path's latches is a gate or a pad's bit.
-use Rattle.std.proofs.Common.{
-  ◌≡◌,
-  ◌⊎◌,
-  inl,
-  inr,
-  ◌∙◌,
-  ℕ,
-  zero,
-  suc,
-  ◌+◌,
-  ◌<◌,
-  ◌≤◌,
-  List,
-  [],
-  ◌∷◌,
-  length,
-  get_or,
-  map,
-  refl,
-  sym,
-  ap,
-  subst,
-  arith,
-  Option,
-  Some,
-  None,
-  Bool,
-  true,
-  false,
-  cond,
-  eqb,
-}
+use Rattle.std.proofs.Common.{◌≡◌, ◌⊎◌, inl, inr, ◌∙◌, ℕ, zero, suc, ◌+◌, ◌<◌, List, [], ◌∷◌, map, refl, sym, ap, subst}
+use Rattle.std.proofs.Common.{arith, Option, Some, None, Bool, true, false, cond, eqb}
 use Rattle.std.specs.Prelude.{◌==◌, All, Contains, nat_lt, slice_get, if◌then◌else◌}
 use Rattle.std.specs.Int.{bit_at}
-use Rattle.std.proofs.lemmas.Bool.{ltb-true, lt-ltb, cases_Bool, eqb-true}
+use Rattle.std.proofs.lemmas.Bool.{ltb-true, lt-ltb, eqb-true}
 use Rattle.std.proofs.lemmas.Option.{slice_get_within, get_or_from_slice_get}
 use Rattle.nor_net.specs.declared.net.Phase.{Phase}
 use Rattle.nor_net.specs.declared.net.NetId.{NetId}
@@ -46,9 +16,8 @@ use Rattle.organelles.specs.declared.slices.Chain.{Chain}
 use Rattle.organelles.specs.declared.slices.Chain.TheVariants.{Up, Down}
 use Rattle.organelles.specs.declared.slices.Programmed.{Programmed}
 use Rattle.std.specs.Option.{option_or}
+use Rattle.nor_net.proofs.Parts.{same_net}
 use Rattle.organelles.specs.Slices.{first_some, chain_element, program_element, slice_input}
-use Rattle.path_form.specs.declared.path.Cast.{Cast}
-use Rattle.path_form.specs.declared.path.Lift.{Lift}
 use Rattle.path_form.specs.declared.path.DataPath.{DataPath}
 use Rattle.path_form.specs.Nets.{lift_element, cast_element, control_part, slice_part, band_nets}
 use Rattle.path_form.specs.Shape.{is_input, times, takes_pad, entries_of}
@@ -104,9 +73,6 @@ has_one n (x ∷ xs) h = by_test (eqb x.0 n) refl h (λ g. has_one n xs g)
     by_test false e g again = let r = again (omega (arith, g)) in let c = r.1 in
         (r.0, (suc c.0, (let l = c.1 in omega (arith, l)), c.2), r.2)
 
-same_id : (x y : NetId) → x.0 ≡ y.0 → x ≡ y
-same_id x y e = let f : ℕ → NetId = λ m. record { 0 = m } in ap f e
-
 all_at : (P : Part → Type 0) (xs : List Part) (k : ℕ) (x : Part) → All P xs → slice_get xs k ≡ Some x → P x
 all_at P xs k x h e = subst P (get_or_from_slice_get xs k x x e) (h k x (slice_get_within xs k x e))
 
@@ -117,7 +83,7 @@ from_pad net pads q m e t =
     let some = ltb-true 0 (times m.0 pads) (sym (ap (λ o. if is_input o then nat_lt 0 (times m.0 pads) else true) e)
     ∙ t) in
     let r = has_one m.0 pads some in
-    subst (Contains pads) (same_id r.0 m r.2) r.1
+    subst (Contains pads) (same_net r.0 m r.2) r.1
 
 module _ (p : DataPath) (is_control : Shape.IsNet p.control) (is_slice : Shape.IsNet p.slices.net) where
   abbrev Feeds : Spot → Type 0

@@ -1,67 +1,32 @@
 -- What rows of nets show of transfers.
-use Rattle.std.proofs.Common.{
-  ◌≡◌,
-  ◌⊎◌,
-  inl,
-  inr,
-  ◌∙◌,
-  ℕ,
-  zero,
-  suc,
-  ◌+◌,
-  ◌<◌,
-  ◌≤◌,
-  ◌^◌,
-  List,
-  [],
-  ◌∷◌,
-  ◌++◌,
-  length,
-  get_or,
-  map,
-  refl,
-  sym,
-  ap,
-  subst,
-  arith,
-  Option,
-  Some,
-  None,
-  Bool,
-  true,
-  false,
-  cond,
-  eqb,
-}
-use Rattle.std.specs.Prelude.{◌==◌, All, slice_get, slice_index, slice_index_or}
+use Rattle.std.proofs.Common.{◌≡◌, ◌∙◌, ℕ, zero, suc, ◌+◌, ◌<◌, List, [], ◌∷◌, length, get_or, map, refl, sym, ap}
+use Rattle.std.proofs.Common.{arith, Some}
+use Rattle.std.specs.Prelude.{◌==◌, All, slice_get, slice_index_or}
 use Rattle.std.specs.List.{AllZip, range_with_len}
 use Rattle.std.specs.Int.{bit_at}
 use Rattle.std.proofs.lemmas.List.{get_or-map, length-map, ext_get_or}
 use Rattle.std.proofs.lemmas.Option.{same_Some, slice_get_within, get_or_from_slice_get}
 use Rattle.std.proofs.lemmas.Nat.Bits.{bit_at-lt}
+use Rattle.std.proofs.lemmas.List.FromFn.{length-range_with_len}
 use Rattle.mp_base.specs.declared.value.Trit.{Trit}
 use Rattle.mp_base.specs.declared.value.Trit.TheVariants.{X}
 use Rattle.mp_base.specs.declared.pad.Pad.{Pad}
-use Rattle.mp_base.specs.declared.pad.Pads.{Pads}
+use Rattle.mp_base.proofs.Entries.{get_map, some_entry, map_get}
+use Rattle.mp_base.proofs.Zips.{zip_at, zip_length, zip_map}
+use Rattle.mp_base.proofs.Ranges.{get_range}
 use Rattle.switch_net.specs.Pads.{bit_count, pad_bits}
+use Rattle.switch_net.proofs.Labels.{length_bits, low_bit}
 use Rattle.headline.specs.Headline.{bits_of}
 use Rattle.nor_net.specs.declared.net.NetId.{NetId}
-use Rattle.nor_net.specs.Elements.{Spot, Nets}
+use Rattle.nor_net.specs.Elements.{Spot}
 use Rattle.nor_net.specs.Laws.{bit}
 use Rattle.path_form.specs.Showing as path
 use Rattle.path_form.specs.Showing.{pad_spot}
-use Rattle.drawing.specs.Draws.{Point, OfNet}
+use Rattle.drawing.specs.Draws.{OfNet}
 use Rattle.drawn_nets.specs.Circuits.{AreGiven, CircuitsAreDrawn}
-use Rattle.chip_laws.specs.Rows.{HasRows, RowsShow, AreFullRows, RowsFollow, rows_at, PathsShowRows}
-use Rattle.chip_laws.proofs.Apart.{mapped}
+use Rattle.chip_laws.specs.Rows.{HasRows, AreFullRows, RowsFollow, rows_at, PathsShowRows}
 use Rattle.chip_laws.proofs.Following.{
-  length_bits,
-  low_bit,
   trit_bit,
-  zip_at,
-  zip_length,
-  zip_map,
-  entry,
   fits,
   shows_all,
   trace_length,
@@ -91,7 +56,7 @@ bits_shown v p w row size h = ext_get_or X (map v row) (pad_bits p w) same each
     each k lt =
         let l : length (map v row) ≡ length row = length-map row v in
         let inside : k < length row = omega (arith, lt, l) in
-        let here = entry row k inside in
+        let here = some_entry row k inside in
         get_or-map v row k here.0 X inside ∙ ap v (get_or_from_slice_get row k here.0 here.0 here.1)
         ∙ h k here.0 here.1 ∙ sym (trit_bit (bit_at w k) (bit_at-lt w k))
         ∙ sym (low_bit (bit_count p.width) w k X (omega (arith, inside, size)))
@@ -122,13 +87,16 @@ pads_shown v (p ∷ ps) (w ∷ ws) (r ∷ rs) l m full h =
     ap (λ x. x ∷ map (λ nets. map v nets) rs) head ∙ ap (λ xs. pad_bits p w ∷ xs) rest
 
 pub rows_follow : CircuitsAreDrawn → RowsFollow
-rows_follow law r nets ins outs network node shows size full draws inputs outputs fit trace charge after shown circuit k lt settled =
+rows_follow law r nets ins outs network node shows size full draws inputs outputs fit trace charge after shown circuit
+    k lt settled =
     let here = law network r.pads nets ins outs node draws charge after inputs shown fit circuit in
     let givens = here.0 in
     let showns = here.1 in
     let loose = here.2 in
-    let given = zip_map (λ words g. AreGiven g (r.pads).inputs words ins) (HasRows (r.pads).inputs ins) inputs givens
-    (λ words g. pads_given g (r.pads).inputs words ins) here.3 in
+    let given =
+    zip_map (λ words g. AreGiven g (r.pads).inputs words ins) (HasRows (r.pads).inputs ins)
+    (λ words g. pads_given g (r.pads).inputs words ins) inputs
+    givens here.3 in
     let narrow : All (path.FitPads (r.pads).inputs) inputs =
     λ i d l. fits (r.pads).inputs (slice_index_or inputs i d) (fit i d l) in
     let h = shows inputs outputs narrow trace (λ s. charge (node (OfNet s))) givens showns
@@ -142,22 +110,6 @@ rows_follow law r nets ins outs network node shows size full draws inputs output
     (shows_all r (_) inputs outputs trace k lt) full h
 
 -- ---- the rows of a path
-
-range_get : (a n k : ℕ) → k < n → slice_get (range_with_len a n) k ≡ Some (a + k)
-range_get a zero k lt = absurd (omega (arith, lt))
-range_get a (suc n) zero lt = ap Some (let e : a ≡ a + 0 = omega arith in e)
-range_get a (suc n) (suc k) lt = range_get (a + 1) n k (omega (arith, lt))
-    ∙ ap Some (let e : a + 1 + k ≡ a + suc k = omega arith in e)
-
-range_size : (a n : ℕ) → length (range_with_len a n) ≡ n
-range_size a zero = refl
-range_size a (suc n) = ap suc (range_size (a + 1) n)
-
-map_get : {A B : Type 0} (f : A → B) (xs : List A) (k : ℕ) (x : A) → slice_get xs k ≡ Some x
-    → slice_get (map f xs) k ≡ Some (f x)
-map_get f [] k x e = absurd (let w = slice_get_within [] k x e in omega (arith, w))
-map_get f (y ∷ ys) zero x e = ap Some (ap f (same_Some y x e))
-map_get f (y ∷ ys) (suc k) x e = map_get f ys k x e
 
 row_at : (pads : List Pad) (ids : List NetId) (i : ℕ) (pad : Pad) (id : NetId) → slice_get pads i ≡ Some pad
     → slice_get ids i ≡ Some id
@@ -177,7 +129,7 @@ to_pads v pads ids values h i pad id k a b lt =
     h i pad (map (pad_spot pad id) (range_with_len 0 (path.pad_bits pad))) k (pad_spot pad id k) a
     (row_at pads ids i pad id a b)
     (map_get (pad_spot pad id) (range_with_len 0 (path.pad_bits pad)) k k
-    (range_get 0 (path.pad_bits pad) k lt ∙ ap Some (let e : 0 + k ≡ k = omega arith in e)))
+    (get_range 0 (path.pad_bits pad) k lt ∙ ap Some (let e : 0 + k ≡ k = omega arith in e)))
 
 -- the pad and the entry of a row
 ids_at : (pads : List Pad) (ids : List NetId) (i : ℕ) (pad : Pad) (row : List Spot) → slice_get pads i ≡ Some pad
@@ -197,11 +149,11 @@ from_pads : (v : Spot → Trit) (pads : List Pad) (ids : List NetId) (values : L
     → path.HasPadValues pads ids values v → HasRows pads (rows_at pads ids) values v
 from_pads v pads ids values h i pad row k s a b e =
     let w = ids_at pads ids i pad row a b in
-    let m = mapped (pad_spot pad w.0) (range_with_len 0 (path.pad_bits pad)) k s (ap (λ x. slice_get x k) w.2 ∙ e) in
+    let m = get_map (pad_spot pad w.0) (range_with_len 0 (path.pad_bits pad)) k s (ap (λ x. slice_get x k) w.2 ∙ e) in
     let within = slice_get_within (range_with_len 0 (path.pad_bits pad)) k m.0 m.1 in
-    let size = range_size 0 (path.pad_bits pad) in
+    let size = length-range_with_len 0 (path.pad_bits pad) in
     let lt : k < path.pad_bits pad = omega (arith, within, size) in
-    let place : m.0 ≡ 0 + k = same_Some m.0 (0 + k) (sym m.1 ∙ range_get 0 (path.pad_bits pad) k lt) in
+    let place : m.0 ≡ 0 + k = same_Some m.0 (0 + k) (sym m.1 ∙ get_range 0 (path.pad_bits pad) k lt) in
     let at : pad_spot pad w.0 k ≡ s = ap (pad_spot pad w.0) (let q : k ≡ m.0 = omega (arith, place) in q) ∙ m.2 in
     ap v (sym at) ∙ h i pad w.0 k a w.1 lt
 
@@ -210,5 +162,5 @@ paths_show_rows r p same shows inputs outputs fit trace before givens showns aft
     from_pads (slice_index_or showns k (λ n. X)) (r.pads).outputs p.outputs (slice_index_or outputs k [])
     (shows inputs outputs fit trace before givens showns after
     (zip_map (HasRows (r.pads).inputs (rows_at (r.pads).inputs p.inputs))
-    (path.HasPadValues (r.pads).inputs p.inputs) inputs givens
-    (λ words g. to_pads g (r.pads).inputs p.inputs words) given) loose k lt settled)
+    (path.HasPadValues (r.pads).inputs p.inputs) (λ words g. to_pads g (r.pads).inputs p.inputs words) inputs
+    givens given) loose k lt settled)

@@ -1,15 +1,15 @@
 -- A fabric with labels on its nets breaks no rule of masks.
-use Rattle.std.proofs.Common.{◌≡◌, ◌≢◌, ℕ, zero, suc, ◌<◌, ◌≤◌, ◌+◌, List, [], ◌∷◌, Some, length, map, refl, sym, ◌∙◌, ap, subst, arith}
-use Rattle.std.specs.Prelude.{AllPairs, All, slice_get, slice_index_or}
-use Rattle.std.specs.List.{AllZip}
+use Rattle.std.proofs.Common.{◌≡◌, ℕ, zero, suc, List, [], ◌∷◌, Some, length, refl, sym, ◌∙◌}
+use Rattle.std.proofs.Common.{ap, subst, arith}
+use Rattle.std.specs.Prelude.{slice_get, slice_index_or}
 use Rattle.std.proofs.Math.ListN.{length-map}
 use Rattle.std.proofs.lemmas.List.Elements.{All-contains}
-use Rattle.std.proofs.lemmas.Option.{same_Some, none-some, slice_get_within, get_or_from_slice_get, slice_get-map}
+use Rattle.std.proofs.lemmas.Option.{same_Some, none-some, slice_get_within}
 use Rattle.std.proofs.lemmas.Slice.Zip.{AllZip-long}
+use Rattle.mp_base.proofs.Entries.{contains_from_get}
 use Rattle.lam_geom.specs.declared.label.FlatLabel.{FlatLabel}
 use Rattle.lam_geom.specs.Squares.{covered}
-use Rattle.switch_net.specs.declared.network.Network.{Network}
-use Rattle.switch_net.specs.Breaks.{BreaksAt, AreTooMany, IsOnTwoNodes, IsOnNothing}
+use Rattle.switch_net.specs.Breaks.{BreaksAt}
 use Rattle.switch_net.specs.Breaks.BreaksAt.{one, two}
 use Rattle.switch_net.specs.Drawn.{IsChannelAt}
 use Rattle.switch_net.specs.Laws.{OneNumbering}
@@ -20,7 +20,6 @@ use Rattle.fabric.specs.Shape.{shape}
 use Rattle.fabric.specs.Theorem.{LabelsName, FabricsAreSmall}
 use Rattle.chip_laws.specs.Laws.{names_of}
 use Rattle.chip_laws.specs.Sound.{IsOnNet, LabelsFit, FabricsAreFew}
-use Rattle.chip_laws.proofs.Apart.{in_list}
 
 -- the chip's label that a label of a file is
 label_of : (labels : List ChipLabel) (flat : List FlatLabel) → AreLabelsOf labels flat → (i : ℕ) (label : FlatLabel)
@@ -46,7 +45,7 @@ labels_fit law f w labels differ on flat are i (one label b) =
     (name_at labels b.j d.0 d.1 ∙ sym d.2.name ∙ b.name ∙ c.2.name ∙ sym (name_at labels i c.0 c.1))
 labels_fit law f w labels differ on flat are i (two label b) =
     let c = label_of labels flat are i label b.at in
-    let n = All-contains (IsOnNet f) labels c.0 on (in_list labels i c.0 c.1) in
+    let n = All-contains (IsOnNet f) labels c.0 on (contains_from_get labels i c.0 c.1) in
     let s = law f w n.net n.is label (n.on label c.2) in
     b.none s.0 s.1
 

@@ -1,5 +1,5 @@
 -- From the fabric to extracted networks.
-use Rattle.std.specs.Prelude.{◌≡◌, ◌<◌, ℕ, List, map}
+use Rattle.std.specs.Prelude.{◌≡◌, ◌<◌, ℕ, List}
 use Rattle.std.specs.List.{AllZip}
 use Rattle.mp_base.specs.declared.pad.Pads.{Pads}
 use Rattle.lam_geom.specs.declared.label.FlatLabel.{FlatLabel}

@@ -8,7 +8,6 @@ use Rattle.switch_net.specs.declared.network.Network.{Network}
 use Rattle.switch_net.specs.Breaks.{BreaksAt, AreTooMany, HasPads}
 use Rattle.switch_net.specs.Drawn.{IsNetwork}
 use Rattle.switch_net.specs.Pads.{bit_labels, chip_labels}
-use Rattle.nor_net.specs.declared.net.NetId.{NetId}
 use Rattle.nor_net.specs.Shape as Shape
 use Rattle.rtl_form.specs.declared.rtl.Rtl.{Rtl}
 use Rattle.path_form.specs.declared.path.DataPath.{DataPath}
@@ -16,7 +15,7 @@ use Rattle.path_form.specs.declared.flattened.Flattened.{Flattened}
 use Rattle.path_form.specs.Showing.{ShowsTransfers}
 use Rattle.path_form.specs.Flat.{IsFlat, rows_of, HasNoOtherInputs}
 use Rattle.nor_net.specs.declared.net.Phase.TheVariants.{A, B, C}
-use Rattle.nor_net.specs.Elements.{Spot, spot, Given, Nets, nets_of}
+use Rattle.nor_net.specs.Elements.{Spot, Given, Nets, nets_of}
 use Rattle.drawing.specs.Draws.{Point, OfNet, Ground, Power, OfPhase, HasOwnNode, Draws}
 use Rattle.renumbering.specs.Same.{Renumbering}
 use Rattle.drawn_nets.specs.Law.{IsKind, AreFed}

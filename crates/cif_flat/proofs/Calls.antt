@@ -1,12 +1,15 @@
 -- What is met at calls.
-use Rattle.std.proofs.Common.{ℕ, suc, ◌≡◌, ◌+◌, ◌*◌, ◌^◌, ◌<◌, ◌⊎◌, refl, sym, ◌∙◌, ap, subst, arith, inl, inr, List, [], ◌∷◌, ◌++◌, length, get_or, append-nil, Option, Some, None}
+use Rattle.std.proofs.Common.{ℕ, suc, ◌≡◌, ◌+◌, ◌*◌, ◌^◌, ◌<◌, ◌⊎◌, refl, sym, ◌∙◌, ap, subst, arith, inl, inr, List}
+use Rattle.std.proofs.Common.{[], ◌∷◌, ◌++◌, length, get_or, append-nil, Option, Some, None}
 use Rattle.std.specs.Prelude.{◌≢◌, ℤ, pos, Contains, slice_get, slice_range, Ok, Err}
 use Rattle.std.specs.BTreeMap.{BTreeMap, get}
 use Rattle.std.specs.Ordering.{nat_cmp}
 use Rattle.std.proofs.lemmas.Bool.{cases_order}
 use Rattle.std.proofs.lemmas.Int.{ints}
 use Rattle.std.proofs.lemmas.List.{length-append}
-use Rattle.std.proofs.lemmas.List.Elements.{Contains-append_left, Contains-append_right, Contains-append_cases, Contains-push, Contains-get_or}
+use Rattle.std.proofs.lemmas.List.Elements.{Contains-append_left, Contains-append_right, Contains-append_cases}
+use Rattle.std.proofs.lemmas.List.Elements.{Contains-push, Contains-get_or}
+use Rattle.mp_base.proofs.Contents.{nothing_in}
 use Rattle.cif_form.specs.declared.command.Turn.{Turn}
 use Rattle.cif_form.specs.declared.command.Command.TheVariants.{Call}
 use Rattle.cif_form.specs.declared.command.Item.{Item}
@@ -27,37 +30,45 @@ use Rattle.cif_place.specs.Placing.{IsHeld, scale_of, place_of, after}
 use Rattle.cif_place.specs.Turning.{IsTurned, IsHeldTurned, HasUneven}
 use Rattle.cif_flat.specs.Calling.{IsCallOf, AreCalls, IsCallAt, IsCalled}
 use Rattle.cif_flat.specs.Refusing.{RefusesWalk, refusal_of}
-use Rattle.cif_flat.specs.Walking.{frame_of, symbol_of, onto, state_of, definition_of, IsNested, IsLevel, EachLevel, IsOpen, entered, Leads, IsWalking, IsVisit, rest, distance, IsAfter}
+use Rattle.cif_flat.specs.Walking.{frame_of, symbol_of, onto, state_of, definition_of, IsNested, IsLevel, EachLevel}
+use Rattle.cif_flat.specs.Walking.{IsOpen, entered, Leads, IsWalking, IsVisit, rest, distance, IsAfter}
 use Rattle.cif_place.specs.Laws.{AfterPlaces, AfterHolds}
 use Rattle.cif_flat.proofs.Rules.{never, none, first1, first2, first3, first4, first7, first8}
-use Rattle.cif_flat.proofs.Walks.{visit_at, stops, onward, onto_push, each_push, level_later, level_onward, left_next, stack_of, level_of, leads_step, rest_less}
+use Rattle.cif_flat.proofs.Walks.{visit_at, stops, onward, onto_push, each_push, level_later, level_onward, left_next}
+use Rattle.cif_flat.proofs.Walks.{stack_of, level_of, leads_step, rest_less}
 
 -- ---- composed turns
 
 some_of : {X : Type 0} {x y : X} → {o : Option X} → o ≡ Some x → o ≡ Some y → x ≡ y
 some_of {x = x} {y = y} h k = let e : Some x ≡ Some y = sym h ∙ k in cc
 
-pub call_found : (items : List Item) (calls : BTreeMap ℕ Composed) (at : ℕ) (turns : List Turn) (c : Composed) → AreCalls items calls → IsCallAt items at turns → get nat_cmp calls at ≡ Some c
+pub call_found : (items : List Item) (calls : BTreeMap ℕ Composed) (at : ℕ) (turns : List Turn) (c : Composed)
+    → AreCalls items calls → IsCallAt items at turns → get nat_cmp calls at ≡ Some c
     → IsTurned (scale_of c.ratio) turns c.turned × IsHeldTurned (2 ^ 104) c.turned
 call_found items calls at turns c a (o, n, e) g = a at c g (item_at o (Call n turns)) e o n turns refl
 
 same_turns : (o p : ℕ) (n m : ℤ) (ts us : List Turn) → item_at o (Call n ts) ≡ item_at p (Call m us) → ts ≡ us
 same_turns o p n m ts us e = let f : Call n ts ≡ Call m us = ap (λ i. i.command) e in cc
 
-pub calls_set : (items : List Item) (old new : BTreeMap ℕ Composed) (at : ℕ) (ratio : Ratio) (turned : Turned) (turns : List Turn) → AreCalls items old → IsCallAt items at turns
-    → IsTurned (scale_of ratio) turns turned → IsHeldTurned (2 ^ 104) turned → get nat_cmp new at ≡ Some (record { ratio = ratio; turned = turned })
+pub calls_set : (items : List Item) (old new : BTreeMap ℕ Composed) (at : ℕ) (ratio : Ratio) (turned : Turned)
+    (turns : List Turn) → AreCalls items old → IsCallAt items at turns
+    → IsTurned (scale_of ratio) turns turned → IsHeldTurned (2 ^ 104) turned
+    → get nat_cmp new at ≡ Some (record { ratio = ratio; turned = turned })
     → ((k : ℕ) → k ≢ at → get nat_cmp new k ≡ get nat_cmp old k) → AreCalls items new
 calls_set items old new at ratio turned turns a (o, n, e) t h here others k c g i s = elim (cases_order k at) [
   | inl same ↦
       let d : record { ratio = ratio; turned = turned } ≡ c = some_of here (ap (get nat_cmp new) (sym same) ∙ g) in
       let j : item_at o (Call n turns) ≡ i = some_of e (ap (slice_get items) (sym same) ∙ s) in
-      subst (IsCallOf i) d (λ p m us f. let ts : turns ≡ us = same_turns o p n m turns us (j ∙ f) in (subst (λ us. IsTurned (scale_of ratio) us turned) ts t, h))
+      subst (IsCallOf i) d
+      (λ p m us f. let ts : turns ≡ us = same_turns o p n m turns us (j ∙ f) in
+      (subst (λ us. IsTurned (scale_of ratio) us turned) ts t, h))
   | inr l ↦ a k c (sym (others k (λ f. elim l [ inl x ↦ omega arith | inr x ↦ omega arith ])) ∙ g) i s
 ]
 
 -- ---- definitions that are being expanded
 
-frames_back : (items : List Item) (vs : List Level) (fs : List Frame) (f : Frame) → Contains (onto items vs fs) f → ((v : Level) × Contains vs v × (f ≡ frame_of items v)) ⊎ Contains fs f
+frames_back : (items : List Item) (vs : List Level) (fs : List Frame) (f : Frame) → Contains (onto items vs fs) f
+    → ((v : Level) × Contains vs v × (f ≡ frame_of items v)) ⊎ Contains fs f
 frames_back items [] fs f h = inr h
 frames_back items (v ∷ vs) fs f h = elim (frames_back items vs (frame_of items v ∷ fs) f h) [
   | inl a ↦ inl (a.0, Contains-append_right (v ∷ []) vs a.0 a.1, a.2)
@@ -73,17 +84,22 @@ frames_back items (v ∷ vs) fs f h = elim (frames_back items vs (frame_of items
     only : {X : Type 0} (x y : X) → Contains (x ∷ []) y → y ≡ x
     only x y h = grind arith
 
-frames_has : (items : List Item) (vs : List Level) (fs : List Frame) (f : Frame) → Contains fs f → Contains (onto items vs fs) f
+frames_has : (items : List Item) (vs : List Level) (fs : List Frame) (f : Frame) → Contains fs f
+    → Contains (onto items vs fs) f
 frames_has items [] fs f h = h
-frames_has items (v ∷ vs) fs f h = frames_has items vs (frame_of items v ∷ fs) f (Contains-append_right (frame_of items v ∷ []) fs f h)
+frames_has items (v ∷ vs) fs f h =
+    frames_has items vs (frame_of items v ∷ fs) f (Contains-append_right (frame_of items v ∷ []) fs f h)
 
-frames_there : (items : List Item) (vs : List Level) (fs : List Frame) (v : Level) → Contains vs v → Contains (onto items vs fs) (frame_of items v)
+frames_there : (items : List Item) (vs : List Level) (fs : List Frame) (v : Level) → Contains vs v
+    → Contains (onto items vs fs) (frame_of items v)
 frames_there items [] fs v h = absurd (nothing v h)
   where
     nothing : {X : Type 0} (x : X) → Contains [] x → ⊥
     nothing x h = grind arith
 frames_there items (u ∷ vs) fs v h = elim (Contains-append_cases (u ∷ []) vs v h) [
-  | inl c ↦ subst (λ o. Contains (onto items vs (frame_of items o ∷ fs)) (frame_of items v)) (only u v c) (frames_has items vs (frame_of items v ∷ fs) (frame_of items v) (the_one (frame_of items v) fs))
+  | inl c ↦
+      subst (λ o. Contains (onto items vs (frame_of items o ∷ fs)) (frame_of items v)) (only u v c)
+      (frames_has items vs (frame_of items v ∷ fs) (frame_of items v) (the_one (frame_of items v) fs))
   | inr c ↦ frames_there items vs (frame_of items u ∷ fs) v c
 ]
   where
@@ -95,9 +111,6 @@ frames_there items (u ∷ vs) fs v h = elim (Contains-append_cases (u ∷ []) vs
 
     only : {X : Type 0} (x y : X) → Contains (x ∷ []) y → y ≡ x
     only x y h = grind arith
-
-nothing_in : {X : Type 0} (x : X) → Contains [] x → ⊥
-nothing_in x h = grind arith
 
 some_symbol : (o : Option ℕ) (n : ℕ) → symbol_of o ≡ Some (pos n) → o ≡ Some n
 some_symbol None n h = cc
@@ -115,7 +128,8 @@ rest_deeper (u ∷ vs) v h = refl
 
 -- ---- calls
 
-module _ (items : List Item) (w : Walker) (v : Level) (o : ℕ) (n : ℤ) (ts : List Turn) (h : IsVisit items w v (item_at o (Call n ts))) (key : ℕ) (is : pos key ≡ n) where
+module _ (items : List Item) (w : Walker) (v : Level) (o : ℕ) (n : ℤ) (ts : List Turn)
+    (h : IsVisit items w v (item_at o (Call n ts))) (key : ℕ) (is : pos key ≡ n) where
   abbrev call_item : Item
   call_item = item_at o (Call n ts)
 
@@ -126,36 +140,60 @@ module _ (items : List Item) (w : Walker) (v : Level) (o : ℕ) (n : ℤ) (ts : 
   all_levels = w.levels.items ++ (v ∷ [])
 
   pub call_unknown : get nat_cmp w.symbols key ≡ None → RefusesWalk items (refusal_of faults.F1 o)
-  call_unknown g = stops items w v call_item h faults.F1 (first1 call_visit (subst (λ m. (d : Definition) → ¬ Stands h.walking.definitions m d) is (h.walking.table.missing key g)))
+  call_unknown g =
+      stops items w v call_item h faults.F1
+      (first1 call_visit
+      (subst (λ m. (d : Definition) → ¬ Stands h.walking.definitions m d) is (h.walking.table.missing key g)))
 
   module _ (s : Symbol) (known : get nat_cmp w.symbols key ≡ Some s) where
     stands : Stands h.walking.definitions n (definition_of items key s)
-    stands = subst (λ m. Stands h.walking.definitions m (definition_of items key s)) is (h.walking.table.stands key s known)
+    stands =
+        subst (λ m. Stands h.walking.definitions m (definition_of items key s)) is (h.walking.table.stands key s known)
 
     no_f1 : ¬ Breaks call_visit F1
     no_f1 b = b (definition_of items key s) stands
 
     pub call_open : IsOpen all_levels key → RefusesWalk items (refusal_of faults.F2 o)
-    call_open (u, c, e) = stops items w v call_item h faults.F2 (first2 call_visit
-        (frame_of items u, subst (λ fs. Contains fs (frame_of items u)) (onto_push items w.levels.items v []) (frames_there items all_levels [] u c), ap symbol_of e ∙ ap (λ m. Some m) is) no_f1)
+    call_open (u, c, e) = stops items w v call_item h faults.F2 (first2 call_visit (
+      frame_of items u,
+      subst (λ fs. Contains fs (frame_of items u)) (onto_push items w.levels.items v [])
+          (frames_there items all_levels [] u c),
+      ap symbol_of e ∙ ap (λ m. Some m) is,
+    ) no_f1)
 
     module _ (shut : ¬ IsOpen all_levels key) where
       no_f2 : ¬ Breaks call_visit F2
-      no_f2 (f, c, e) = elim (frames_back items all_levels [] f (subst (λ fs. Contains fs f) (sym (onto_push items w.levels.items v [])) c)) [
-        | inl a ↦ shut (a.0, a.1, some_symbol a.0.symbol key (sym (ap (λ g. g.symbol) a.2) ∙ e ∙ ap (λ m. Some m) (sym is)))
-        | inr b ↦ nothing_in f b
-      ]
+      no_f2 (f, c, e) =
+          elim (frames_back items all_levels [] f
+          (subst (λ fs. Contains fs f) (sym (onto_push items w.levels.items v [])) c)) [
+            | inl a ↦
+                shut (
+                  a.0,
+                  a.1,
+                  some_symbol a.0.symbol key
+                      (sym (ap (λ g. g.symbol) a.2) ∙ e ∙ ap (λ m. Some m) (sym is)),
+                )
+            | inr b ↦ nothing_in f b
+          ]
 
       no_f4 : IsScale (scale_of s.ratio) → ¬ HasUneven (scale_of v.ratio) ts → ¬ Breaks call_visit F4
-      no_f4 b c (inl (d, st, wrong)) = wrong (subst (λ d. IsScale d.scale) (one_definition (definition_of items key s) d stands st) b)
+      no_f4 b c (inl (d, st, wrong)) =
+          wrong (subst (λ d. IsScale d.scale) (one_definition (definition_of items key s) d stands st) b)
       no_f4 b c (inr u) = c u
 
-      pub call_fault : (f : Fault) → IsCalled (scale_of v.ratio) ts s.ratio w.count (Err f) → RefusesWalk items (refusal_of f o)
+      pub call_fault : (f : Fault) → IsCalled (scale_of v.ratio) ts s.ratio w.count (Err f)
+          → RefusesWalk items (refusal_of f o)
       call_fault faults.F3 a = stops items w v call_item h faults.F3 (first3 call_visit a no_f1 no_f2)
-      call_fault faults.F4 (a, inl b) = stops items w v call_item h faults.F4 (first4 call_visit (inl (definition_of items key s, stands, b)) no_f1 no_f2 a)
+      call_fault faults.F4 (a, inl b) =
+          stops items w v call_item h faults.F4
+          (first4 call_visit (inl (definition_of items key s, stands, b)) no_f1 no_f2 a)
       call_fault faults.F4 (a, inr b) = stops items w v call_item h faults.F4 (first4 call_visit (inr b) no_f1 no_f2 a)
-      call_fault faults.F7 (a, b, c, d) = stops items w v call_item h faults.F7 (first7 call_visit (omega (arith, d)) no_f1 no_f2 a (no_f4 b c) never never)
-      call_fault faults.F8 (a, b, c, d, e) = stops items w v call_item h faults.F8 (first8 call_visit e no_f1 no_f2 a (no_f4 b c) never never (λ k. omega (arith, k, d)))
+      call_fault faults.F7 (a, b, c, d) =
+          stops items w v call_item h faults.F7
+          (first7 call_visit (omega (arith, d)) no_f1 no_f2 a (no_f4 b c) never never)
+      call_fault faults.F8 (a, b, c, d, e) =
+          stops items w v call_item h faults.F8
+          (first8 call_visit e no_f1 no_f2 a (no_f4 b c) never never (λ k. omega (arith, k, d)))
       call_fault faults.F1 a = absurd a
       call_fault faults.F2 a = absurd a
       call_fault faults.F5 a = absurd a
@@ -163,8 +201,11 @@ module _ (items : List Item) (w : Walker) (v : Level) (o : ℕ) (n : ℤ) (ts : 
       call_fault faults.F9 a = absurd a
       call_fault faults.F10 a = absurd a
 
-      module _ (p : Placement) (a : IsCalled (scale_of v.ratio) ts s.ratio w.count (Ok p)) (held : IsHeld (2 ^ 104) p) (opened : BTreeMap ℕ ℕ)
-          (here : get nat_cmp opened key ≡ Some (length w.levels.items + 1)) (others : (k : ℕ) → k ≢ key → get nat_cmp opened k ≡ get nat_cmp w.opened k) (places : AfterPlaces) (holds : AfterHolds) where
+      module _ (p : Placement) (a : IsCalled (scale_of v.ratio) ts s.ratio w.count (Ok p)) (held : IsHeld (2 ^ 104) p)
+          (opened : BTreeMap ℕ ℕ)
+          (here : get nat_cmp opened key ≡ Some (length w.levels.items + 1))
+          (others : (k : ℕ) → k ≢ key → get nat_cmp opened k ≡ get nat_cmp w.opened k) (places : AfterPlaces)
+          (holds : AfterHolds) where
         abbrev outer_levels : List Level
         outer_levels = w.levels.items ++ (onward v v.layer ∷ [])
 
@@ -172,27 +213,40 @@ module _ (items : List Item) (w : Walker) (v : Level) (o : ℕ) (n : ℤ) (ts : 
         inner = entered v key s p
 
         -- a number that is open keeps its depth
-        still_open : (u : Level) (k : ℕ) → Contains all_levels u → ((m : ℕ) → u.symbol ≡ Some m → get nat_cmp w.opened m ≡ Some k) → (m : ℕ) → u.symbol ≡ Some m → get nat_cmp opened m ≡ Some k
+        still_open : (u : Level) (k : ℕ) → Contains all_levels u
+            → ((m : ℕ) → u.symbol ≡ Some m → get nat_cmp w.opened m ≡ Some k) → (m : ℕ) → u.symbol ≡ Some m
+            → get nat_cmp opened m ≡ Some k
         still_open u k c f m e = others m (λ i. shut (u, c, e ∙ ap (λ j. Some j) i)) ∙ f m e
 
-        level_kept : (k : ℕ) (u : Level) → Contains all_levels u → IsLevel items w.count w.opened k u → IsLevel items (w.count + 1) opened k u
+        level_kept : (k : ℕ) (u : Level) → Contains all_levels u → IsLevel items w.count w.opened k u
+            → IsLevel items (w.count + 1) opened k u
         level_kept k u c l =
             let m = level_later items w.count (w.count + 1) w.opened k u (omega arith) l in
-            record { ratio = m.ratio; held = m.held; forward = m.forward; within = m.within; nested = m.nested; number = still_open u k c l.number }
+            record {
+              ratio = m.ratio;
+              held = m.held;
+              forward = m.forward;
+              within = m.within;
+              nested = m.nested;
+              number = still_open u k c l.number;
+            }
 
         level_in : IsLevel items (w.count + 1) opened (length outer_levels) inner
         level_in =
             let f = h.walking.table.fits key s known in
             let l = level_of items w v call_item h in
-            let deep : suc (length w.levels.items) ≡ length outer_levels = omega (arith, length-append w.levels.items (onward v v.layer ∷ [])) in
+            let deep : suc (length w.levels.items) ≡ length outer_levels =
+            omega (arith, length-append w.levels.items (onward v v.layer ∷ [])) in
             let b = a.1 in
             record {
               ratio = record { a = b.0; b = b.1; short_a = f.ratio.short_a; short_b = f.ratio.short_b };
-              held = subst (λ n. IsHeld n (after v.placement p)) (omega arith) (holds (2 ^ 104 * w.count) (2 ^ 104) v.placement p l.held held);
+              held = subst (λ n. IsHeld n (after v.placement p)) (omega arith)
+                  (holds (2 ^ 104 * w.count) (2 ^ 104) v.placement p l.held held);
               forward = f.forward;
               within = f.within;
               nested = subst (λ k. IsNested k (slice_range items s.first s.end)) deep f.inside;
-              number = λ m e. ap (get nat_cmp opened) (number_of m e) ∙ here ∙ ap (λ k. Some k) (omega (arith, length-append w.levels.items (onward v v.layer ∷ [])));
+              number = λ m e. ap (get nat_cmp opened) (number_of m e) ∙ here
+                  ∙ ap (λ k. Some k) (omega (arith, length-append w.levels.items (onward v v.layer ∷ [])));
             }
           where
             number_of : (m : ℕ) → Some key ≡ Some m → m ≡ key
@@ -201,27 +255,49 @@ module _ (items : List Item) (w : Walker) (v : Level) (o : ℕ) (n : ℤ) (ts : 
         level_out : IsLevel items (w.count + 1) opened (length w.levels.items) (onward v v.layer)
         level_out =
             let l = level_of items w v call_item h in
-            let m = level_onward items w.count (w.count + 1) w.opened (length w.levels.items) v v.layer call_item (omega arith) h.more (left_next items v call_item h.more h.here) (λ b e. cc) l in
-            record { ratio = m.ratio; held = m.held; forward = m.forward; within = m.within; nested = m.nested; number = still_open v (length w.levels.items) (Contains-push w.levels.items v) l.number }
+            let m = level_onward items w.count (w.count + 1) w.opened (length w.levels.items) v v.layer call_item
+            (omega arith) h.more (left_next items v call_item h.more h.here) (λ b e. cc) l in
+            record {
+              ratio = m.ratio;
+              held = m.held;
+              forward = m.forward;
+              within = m.within;
+              nested = m.nested;
+              number = still_open v (length w.levels.items) (Contains-push w.levels.items v) l.number;
+            }
 
         stack_in : EachLevel (IsLevel items (w.count + 1) opened) (outer_levels ++ (inner ∷ []))
         stack_in = each_push (IsLevel items (w.count + 1) opened) outer_levels inner
             (each_push (IsLevel items (w.count + 1) opened) w.levels.items (onward v v.layer)
-            (λ k d m. level_kept k (get_or w.levels.items k d) (Contains-append_left w.levels.items (v ∷ []) (get_or w.levels.items k d) (Contains-get_or w.levels.items k d m)) (stack_of items w v call_item h k d m)) level_out)
+            (λ k d m. level_kept k (get_or w.levels.items k d)
+            (Contains-append_left w.levels.items (v ∷ []) (get_or w.levels.items k d)
+            (Contains-get_or w.levels.items k d m)) (stack_of items w v call_item h k d m)) level_out)
             level_in
 
-        came_in : (let t = within call_visit (definition_of items key s) a.5.0 in t ≡ state_of items h.walking.definitions (w.count + 1) (outer_levels ++ (inner ∷ [])))
+        came_in : (let t = within call_visit (definition_of items key s) a.5.0 in
+            t ≡ state_of items h.walking.definitions (w.count + 1) (outer_levels ++ (inner ∷ [])))
         came_in =
-            let fs = onto_push items outer_levels inner [] ∙ ap (λ gs. frame_of items inner ∷ gs) (onto_push items w.levels.items (onward v v.layer) []) in
-            let same : frame_of items inner ∷ frame_of items (onward v v.layer) ∷ onto items w.levels.items [] ≡ onto items (outer_levels ++ (inner ∷ [])) [] = sym fs in
+            let fs =
+            onto_push items outer_levels inner []
+            ∙ ap (λ gs. frame_of items inner ∷ gs) (onto_push items w.levels.items (onward v v.layer) []) in
+            let same : frame_of items inner ∷ frame_of items (onward v v.layer) ∷ onto items w.levels.items []
+            ≡ onto items (outer_levels ++ (inner ∷ [])) [] = sym fs in
             (λ i. record {
               definitions = h.walking.definitions;
               count = w.count + 1;
-              frames = record { symbol = Some (pos key); scale = scale_of s.ratio; layer = None; place = λ r. (ap (place_of v.placement) (a.5.2 r) ∙ sym (places v.placement p r)) i; left = slice_range items s.first s.end }
+              frames =
+                  record {
+                    symbol = Some (pos key);
+                    scale = scale_of s.ratio;
+                    layer = None;
+                    place = λ r. (ap (place_of v.placement) (a.5.2 r) ∙ sym (places v.placement p r)) i;
+                    left = slice_range items s.first s.end;
+                  }
                   ∷ frame_of items (onward v v.layer) ∷ onto items w.levels.items [];
             }) ∙ (λ i. record { definitions = h.walking.definitions; count = w.count + 1; frames = same i })
 
-        pub call_entered : (new : Walker) (calls : BTreeMap ℕ Composed) → AreCalls items calls → new ≡ record w { opened = opened; calls = calls; count = w.count + 1; levels = new.levels }
+        pub call_entered : (new : Walker) (calls : BTreeMap ℕ Composed) → AreCalls items calls
+            → new ≡ record w { opened = opened; calls = calls; count = w.count + 1; levels = new.levels }
             → new.levels.items ≡ outer_levels ++ (inner ∷ []) → IsAfter items w v new
         call_entered new calls ac kept pushed =
             let leads = leads_step items w v call_item h [] [] (within call_visit (definition_of items key s) a.5.0)
@@ -232,19 +308,35 @@ module _ (items : List Item) (w : Walker) (v : Level) (o : ℕ) (n : ℤ) (ts : 
               definitions = h.walking.definitions;
               table = h.walking.table;
               calls = ac;
-              leads = subst (λ xs. Leads items xs w.labels (state_of items h.walking.definitions (w.count + 1) (outer_levels ++ (inner ∷ [])))) (append-nil w.shapes)
-                  (subst (λ ys. Leads items (w.shapes ++ []) ys (state_of items h.walking.definitions (w.count + 1) (outer_levels ++ (inner ∷ [])))) (append-nil w.labels)
+              leads = subst
+                  (λ xs. Leads items xs w.labels
+                  (state_of items h.walking.definitions (w.count + 1) (outer_levels ++ (inner ∷ []))))
+                  (append-nil w.shapes)
+                  (subst (λ ys. Leads items (w.shapes ++ []) ys
+                  (state_of items h.walking.definitions (w.count + 1) (outer_levels ++ (inner ∷ []))))
+                  (append-nil w.labels)
                   (subst (Leads items (w.shapes ++ []) (w.labels ++ [])) came_in leads));
               limit = omega (arith, a.3);
               stack = stack_in;
             } in
             let count : new.count ≡ w.count + 1 = ap (λ x. x.count) kept in
             let less = rest_less w.levels.items (onward v v.layer) v (omega arith) in
-            let deeper = rest_deeper outer_levels inner (omega (arith, length-append w.levels.items (onward v v.layer ∷ []))) in
+            let deeper =
+            rest_deeper outer_levels inner (omega (arith, length-append w.levels.items (onward v v.layer ∷ []))) in
             let size : length (outer_levels ++ (inner ∷ [])) ≡ length (w.levels.items ++ (v ∷ [])) + 1 =
-            omega (arith, length-append outer_levels (inner ∷ []), length-append w.levels.items (onward v v.layer ∷ []), length-append w.levels.items (v ∷ [])) in
+            omega (
+              arith,
+              length-append outer_levels (inner ∷ []),
+              length-append w.levels.items
+                  (onward v v.layer ∷ []),
+              length-append w.levels.items (v ∷ []),
+            ) in
             record {
-              walking = subst (λ x. IsWalking items x new.levels.items) (sym kept) (subst (IsWalking items mid) (sym pushed) walking);
-              closer = subst (λ c. distance c new.levels.items < distance w.count (w.levels.items ++ (v ∷ []))) (sym count)
-                  (subst (λ us. distance (w.count + 1) us < distance w.count (w.levels.items ++ (v ∷ []))) (sym pushed) (omega (arith, less, deeper, size, a.3)));
+              walking =
+                  subst (λ x. IsWalking items x new.levels.items) (sym kept)
+                  (subst (IsWalking items mid) (sym pushed) walking);
+              closer =
+                  subst (λ c. distance c new.levels.items < distance w.count (w.levels.items ++ (v ∷ []))) (sym count)
+                  (subst (λ us. distance (w.count + 1) us < distance w.count (w.levels.items ++ (v ∷ []))) (sym pushed)
+                  (omega (arith, less, deeper, size, a.3)));
             }

@@ -1,5 +1,6 @@
 -- The walk begins, goes back from a level that is done, and ends.
-use Rattle.std.proofs.Common.{ℕ, ◌≡◌, ◌-◌, ◌<◌, ◌≤◌, sym, ◌∙◌, ap, subst, arith, List, [], ◌∷◌, ◌++◌, length, append-nil, false, Some, None}
+use Rattle.std.proofs.Common.{ℕ, ◌≡◌, ◌-◌, ◌<◌, ◌≤◌, sym, ◌∙◌, ap, subst, arith, List, [], ◌∷◌, ◌++◌, length}
+use Rattle.std.proofs.Common.{append-nil, false, Some, None}
 use Rattle.std.specs.Prelude.{slice_range}
 use Rattle.std.specs.BTreeMap.{BTreeMap, get, is_at}
 use Rattle.std.specs.Map.{lookup}
@@ -25,7 +26,9 @@ empty_table m e k = ap (lookup (is_at (nat_cmp k))) e
 all_items : (items : List Item) → slice_range items 0 (length items) ≡ items
 all_items items = take_all (length items - 0) items (omega arith)
 
-module _ (items : List Item) (w : Walker) (closed : AreClosed false items) (symbols : w.symbols.entries ≡ []) (calls : w.calls.entries ≡ []) (count : w.count ≡ 0) (shapes : w.shapes ≡ []) (labels : w.labels ≡ []) (leaves : HereLeaves) where
+module _ (items : List Item) (w : Walker) (closed : AreClosed false items) (symbols : w.symbols.entries ≡ [])
+    (calls : w.calls.entries ≡ []) (count : w.count ≡ 0) (shapes : w.shapes ≡ []) (labels : w.labels ≡ [])
+    (leaves : HereLeaves) where
   abbrev level : Level
   level = top (length items)
 
@@ -33,12 +36,18 @@ module _ (items : List Item) (w : Walker) (closed : AreClosed false items) (symb
   began = λ i. record {
     definitions = [];
     count = 0;
-    frames = record { symbol = None; scale = unit; layer = None; place = λ r. leaves r i; left = all_items items i } ∷ [];
+    frames =
+        record { symbol = None; scale = unit; layer = None; place = λ r. leaves r i; left = all_items items i } ∷ [];
   }
 
   first_level : IsLevel items 0 w.opened 0 level
   first_level = record {
-    ratio = record { a = omega (arith, ints); b = omega (arith, ints); short_a = omega (arith, ints); short_b = omega (arith, ints) };
+    ratio = record {
+      a = omega (arith, ints);
+      b = omega (arith, ints);
+      short_a = omega (arith, ints);
+      short_b = omega (arith, ints);
+    };
     held = ((omega (arith, ints), omega (arith, ints)), (omega (arith, ints), omega (arith, ints)));
     forward = omega arith;
     within = omega arith;
@@ -48,7 +57,8 @@ module _ (items : List Item) (w : Walker) (closed : AreClosed false items) (symb
 
   pub walking_start : (vs : List Level) → vs ≡ level ∷ [] → IsWalking items w vs
   walking_start vs is =
-      let leads : Leads items [] [] (state_of items [] 0 (level ∷ [])) = λ rs ls e k. subst (λ s. Walks s rs ls e) began k in
+      let leads : Leads items [] [] (state_of items [] 0 (level ∷ [])) =
+      λ rs ls e k. subst (λ s. Walks s rs ls e) began k in
       subst (IsWalking items w) (sym is) (record {
         definitions = [];
         table = record {
@@ -58,18 +68,29 @@ module _ (items : List Item) (w : Walker) (closed : AreClosed false items) (symb
         };
         calls = λ k c g i s. absurd (let f : None ≡ Some c = sym (empty_table w.calls calls k) ∙ g in cc);
         leads = subst (λ n. Leads items w.shapes w.labels (state_of items [] n (level ∷ []))) (sym count)
-            (subst (λ xs. Leads items xs w.labels (state_of items [] 0 (level ∷ []))) (sym shapes) (subst (λ ys. Leads items [] ys (state_of items [] 0 (level ∷ []))) (sym labels) leads));
+            (subst (λ xs. Leads items xs w.labels (state_of items [] 0 (level ∷ []))) (sym shapes)
+            (subst (λ ys. Leads items [] ys (state_of items [] 0 (level ∷ []))) (sym labels) leads));
         limit = omega (arith, count);
-        stack = each_push (IsLevel items w.count w.opened) [] level (each_nil (IsLevel items w.count w.opened)) (subst (λ n. IsLevel items n w.opened 0 level) (sym count) first_level);
+        stack = each_push (IsLevel items w.count w.opened) [] level (each_nil (IsLevel items w.count w.opened))
+            (subst (λ n. IsLevel items n w.opened 0 level) (sym count) first_level);
       })
 
 -- ---- a level that is done
 
 -- the walker's own levels don't matter
-pub same_walking : (items : List Item) (w : Walker) (vs : List Level) (new : Walker) → new ≡ record w { levels = new.levels } → IsWalking items w vs → IsWalking items new vs
+pub same_walking : (items : List Item) (w : Walker) (vs : List Level) (new : Walker)
+    → new ≡ record w { levels = new.levels } → IsWalking items w vs → IsWalking items new vs
 same_walking items w vs new e h =
     let mid : Walker = record w { levels = new.levels } in
-    let k : IsWalking items mid vs = record { definitions = h.definitions; table = h.table; calls = h.calls; leads = h.leads; limit = h.limit; stack = h.stack } in
+    let k : IsWalking items mid vs =
+    record {
+      definitions = h.definitions;
+      table = h.table;
+      calls = h.calls;
+      leads = h.leads;
+      limit = h.limit;
+      stack = h.stack;
+    } in
     subst (λ x. IsWalking items x vs) (sym e) k
 
 module _ (items : List Item) (w : Walker) (vs : List Level) (v : Level) (h : IsWalking items w (vs ++ (v ∷ []))) where
@@ -78,7 +99,8 @@ module _ (items : List Item) (w : Walker) (vs : List Level) (v : Level) (h : IsW
     definitions = h.definitions;
     table = h.table;
     calls = h.calls;
-    leads = λ rs ls e k. h.leads rs ls e (Walks.back (frame_of items v) (onto items vs []) (onto_push items vs v []) (left_none items v done) k);
+    leads = λ rs ls e k. h.leads rs ls e
+        (Walks.back (frame_of items v) (onto items vs []) (onto_push items vs v []) (left_none items v done) k);
     limit = h.limit;
     stack = each_front (IsLevel items w.count w.opened) vs v h.stack;
   }
@@ -89,7 +111,9 @@ closer_back count (u ∷ vs) v = omega (arith, length-append vs (v ∷ []))
 
 -- ---- the end
 
-pub walked : (items : List Item) (w : Walker) (vs : List Level) → vs ≡ [] → IsWalking items w vs → FileWalks items w.shapes w.labels Whole
+pub walked : (items : List Item) (w : Walker) (vs : List Level) → vs ≡ [] → IsWalking items w vs
+    → FileWalks items w.shapes w.labels Whole
 walked items w vs e h =
     let k : Walks (state_of items h.definitions w.count vs) [] [] Whole = Walks.done (ap (λ us. onto items us []) e) in
-    subst (λ xs. FileWalks items xs w.labels Whole) (append-nil w.shapes) (subst (λ ys. FileWalks items (w.shapes ++ []) ys Whole) (append-nil w.labels) (h.leads [] [] Whole k))
+    subst (λ xs. FileWalks items xs w.labels Whole) (append-nil w.shapes)
+    (subst (λ ys. FileWalks items (w.shapes ++ []) ys Whole) (append-nil w.labels) (h.leads [] [] Whole k))

@@ -2,26 +2,15 @@
 use Rattle.std.proofs.Common.{ℕ, ◌<◌, ◌≤◌, arith}
 use Rattle.cif_form.specs.Walk.{Visit, DrawRule, draw_rule_number, Breaks, BreaksFirst, BreaksNone}
 use Rattle.cif_form.specs.Walk.DrawRule.{F1, F2, F3, F4, F5, F6, F7, F8, F9, F10}
-
--- something of every rule
-each_rule : (P : DrawRule → Type 0) → P F1 → P F2 → P F3 → P F4 → P F5 → P F6 → P F7 → P F8 → P F9 → P F10 → (r : DrawRule) → P r
-each_rule P a b c d e f g h i j F1 = a
-each_rule P a b c d e f g h i j F2 = b
-each_rule P a b c d e f g h i j F3 = c
-each_rule P a b c d e f g h i j F4 = d
-each_rule P a b c d e f g h i j F5 = e
-each_rule P a b c d e f g h i j F6 = f
-each_rule P a b c d e f g h i j F7 = g
-each_rule P a b c d e f g h i j F8 = h
-each_rule P a b c d e f g h i j F9 = i
-each_rule P a b c d e f g h i j F10 = j
+use Rattle.cif_form.proofs.WalkExamples.{each_rule}
 
 pub never : {A : Type 0} → A → A
 never a = a
 
 module _ (v : Visit) where
   -- none is broken
-  pub none : ¬ Breaks v F1 → ¬ Breaks v F2 → ¬ Breaks v F3 → ¬ Breaks v F4 → ¬ Breaks v F5 → ¬ Breaks v F6 → ¬ Breaks v F7 → ¬ Breaks v F8 → ¬ Breaks v F9 → ¬ Breaks v F10
+  pub none : ¬ Breaks v F1 → ¬ Breaks v F2 → ¬ Breaks v F3 → ¬ Breaks v F4 → ¬ Breaks v F5 → ¬ Breaks v F6
+      → ¬ Breaks v F7 → ¬ Breaks v F8 → ¬ Breaks v F9 → ¬ Breaks v F10
       → BreaksNone v
   none a b c d e f g h i j = each_rule (λ q. ¬ Breaks v q) a b c d e f g h i j
 
@@ -29,28 +18,33 @@ module _ (v : Visit) where
   Below n = (q : DrawRule) → draw_rule_number q < n → ¬ Breaks v q
 
   -- those below ten are not
-  below : (n : ℕ) → n ≤ 10 → (1 < n → ¬ Breaks v F1) → (2 < n → ¬ Breaks v F2) → (3 < n → ¬ Breaks v F3) → (4 < n → ¬ Breaks v F4) → (5 < n → ¬ Breaks v F5)
+  below : (n : ℕ) → n ≤ 10 → (1 < n → ¬ Breaks v F1) → (2 < n → ¬ Breaks v F2) → (3 < n → ¬ Breaks v F3)
+      → (4 < n → ¬ Breaks v F4) → (5 < n → ¬ Breaks v F5)
       → (6 < n → ¬ Breaks v F6) → (7 < n → ¬ Breaks v F7) → (8 < n → ¬ Breaks v F8) → (9 < n → ¬ Breaks v F9) → Below n
-  below n m a b c d e f g h i = each_rule (λ q. draw_rule_number q < n → ¬ Breaks v q) a b c d e f g h i (λ k. absurd (omega arith))
+  below n m a b c d e f g h i =
+      each_rule (λ q. draw_rule_number q < n → ¬ Breaks v q) a b c d e f g h i (λ k. absurd (omega arith))
 
   pub first1 : Breaks v F1 → BreaksFirst v F1
   first1 x = (
     x,
-    below 1 (omega arith) (λ k. absurd (omega arith)) (λ k. absurd (omega arith)) (λ k. absurd (omega arith)) (λ k. absurd (omega arith)) (λ k. absurd (omega arith))
+    below 1 (omega arith) (λ k. absurd (omega arith)) (λ k. absurd (omega arith)) (λ k. absurd (omega arith))
+        (λ k. absurd (omega arith)) (λ k. absurd (omega arith))
         (λ k. absurd (omega arith)) (λ k. absurd (omega arith)) (λ k. absurd (omega arith)) (λ k. absurd (omega arith)),
   )
 
   pub first2 : Breaks v F2 → ¬ Breaks v F1 → BreaksFirst v F2
   first2 x a = (
     x,
-    below 2 (omega arith) (λ k. a) (λ k. absurd (omega arith)) (λ k. absurd (omega arith)) (λ k. absurd (omega arith)) (λ k. absurd (omega arith))
+    below 2 (omega arith) (λ k. a) (λ k. absurd (omega arith)) (λ k. absurd (omega arith)) (λ k. absurd (omega arith))
+        (λ k. absurd (omega arith))
         (λ k. absurd (omega arith)) (λ k. absurd (omega arith)) (λ k. absurd (omega arith)) (λ k. absurd (omega arith)),
   )
 
   pub first3 : Breaks v F3 → ¬ Breaks v F1 → ¬ Breaks v F2 → BreaksFirst v F3
   first3 x a b = (
     x,
-    below 3 (omega arith) (λ k. a) (λ k. b) (λ k. absurd (omega arith)) (λ k. absurd (omega arith)) (λ k. absurd (omega arith))
+    below 3 (omega arith) (λ k. a) (λ k. b) (λ k. absurd (omega arith)) (λ k. absurd (omega arith))
+        (λ k. absurd (omega arith))
         (λ k. absurd (omega arith)) (λ k. absurd (omega arith)) (λ k. absurd (omega arith)) (λ k. absurd (omega arith)),
   )
 
@@ -68,21 +62,39 @@ module _ (v : Visit) where
         (λ k. absurd (omega arith)) (λ k. absurd (omega arith)) (λ k. absurd (omega arith)) (λ k. absurd (omega arith)),
   )
 
-  pub first6 : Breaks v F6 → ¬ Breaks v F1 → ¬ Breaks v F2 → ¬ Breaks v F3 → ¬ Breaks v F4 → ¬ Breaks v F5 → BreaksFirst v F6
+  pub first6 : Breaks v F6 → ¬ Breaks v F1 → ¬ Breaks v F2 → ¬ Breaks v F3 → ¬ Breaks v F4 → ¬ Breaks v F5
+      → BreaksFirst v F6
   first6 x a b c d e = (
     x,
     below 6 (omega arith) (λ k. a) (λ k. b) (λ k. c) (λ k. d) (λ k. e)
         (λ k. absurd (omega arith)) (λ k. absurd (omega arith)) (λ k. absurd (omega arith)) (λ k. absurd (omega arith)),
   )
 
-  pub first7 : Breaks v F7 → ¬ Breaks v F1 → ¬ Breaks v F2 → ¬ Breaks v F3 → ¬ Breaks v F4 → ¬ Breaks v F5 → ¬ Breaks v F6 → BreaksFirst v F7
-  first7 x a b c d e f = (x, below 7 (omega arith) (λ k. a) (λ k. b) (λ k. c) (λ k. d) (λ k. e) (λ k. f) (λ k. absurd (omega arith)) (λ k. absurd (omega arith)) (λ k. absurd (omega arith)))
+  pub first7 : Breaks v F7 → ¬ Breaks v F1 → ¬ Breaks v F2 → ¬ Breaks v F3 → ¬ Breaks v F4 → ¬ Breaks v F5
+      → ¬ Breaks v F6 → BreaksFirst v F7
+  first7 x a b c d e f = (
+    x,
+    below 7 (omega arith) (λ k. a) (λ k. b) (λ k. c) (λ k. d) (λ k. e) (λ k. f) (λ k. absurd (omega arith))
+        (λ k. absurd (omega arith)) (λ k. absurd (omega arith)),
+  )
 
-  pub first8 : Breaks v F8 → ¬ Breaks v F1 → ¬ Breaks v F2 → ¬ Breaks v F3 → ¬ Breaks v F4 → ¬ Breaks v F5 → ¬ Breaks v F6 → ¬ Breaks v F7 → BreaksFirst v F8
-  first8 x a b c d e f g = (x, below 8 (omega arith) (λ k. a) (λ k. b) (λ k. c) (λ k. d) (λ k. e) (λ k. f) (λ k. g) (λ k. absurd (omega arith)) (λ k. absurd (omega arith)))
+  pub first8 : Breaks v F8 → ¬ Breaks v F1 → ¬ Breaks v F2 → ¬ Breaks v F3 → ¬ Breaks v F4 → ¬ Breaks v F5
+      → ¬ Breaks v F6 → ¬ Breaks v F7 → BreaksFirst v F8
+  first8 x a b c d e f g = (
+    x,
+    below 8 (omega arith) (λ k. a) (λ k. b) (λ k. c) (λ k. d) (λ k. e) (λ k. f) (λ k. g)
+        (λ k. absurd (omega arith)) (λ k. absurd (omega arith)),
+  )
 
-  pub first9 : Breaks v F9 → ¬ Breaks v F1 → ¬ Breaks v F2 → ¬ Breaks v F3 → ¬ Breaks v F4 → ¬ Breaks v F5 → ¬ Breaks v F6 → ¬ Breaks v F7 → ¬ Breaks v F8 → BreaksFirst v F9
-  first9 x a b c d e f g h = (x, below 9 (omega arith) (λ k. a) (λ k. b) (λ k. c) (λ k. d) (λ k. e) (λ k. f) (λ k. g) (λ k. h) (λ k. absurd (omega arith)))
+  pub first9 : Breaks v F9 → ¬ Breaks v F1 → ¬ Breaks v F2 → ¬ Breaks v F3 → ¬ Breaks v F4 → ¬ Breaks v F5
+      → ¬ Breaks v F6 → ¬ Breaks v F7 → ¬ Breaks v F8 → BreaksFirst v F9
+  first9 x a b c d e f g h = (
+    x,
+    below 9 (omega arith) (λ k. a) (λ k. b) (λ k. c) (λ k. d) (λ k. e) (λ k. f) (λ k. g) (λ k. h)
+        (λ k. absurd (omega arith)),
+  )
 
-  pub first10 : Breaks v F10 → ¬ Breaks v F1 → ¬ Breaks v F2 → ¬ Breaks v F3 → ¬ Breaks v F4 → ¬ Breaks v F5 → ¬ Breaks v F6 → ¬ Breaks v F7 → ¬ Breaks v F8 → ¬ Breaks v F9 → BreaksFirst v F10
-  first10 x a b c d e f g h i = (x, below 10 (omega arith) (λ k. a) (λ k. b) (λ k. c) (λ k. d) (λ k. e) (λ k. f) (λ k. g) (λ k. h) (λ k. i))
+  pub first10 : Breaks v F10 → ¬ Breaks v F1 → ¬ Breaks v F2 → ¬ Breaks v F3 → ¬ Breaks v F4 → ¬ Breaks v F5
+      → ¬ Breaks v F6 → ¬ Breaks v F7 → ¬ Breaks v F8 → ¬ Breaks v F9 → BreaksFirst v F10
+  first10 x a b c d e f g h i =
+      (x, below 10 (omega arith) (λ k. a) (λ k. b) (λ k. c) (λ k. d) (λ k. e) (λ k. f) (λ k. g) (λ k. h) (λ k. i))

@@ -1,35 +1,26 @@
 -- Words of labels.
-use Rattle.std.proofs.Common.{ℕ, zero, suc, ◌≡◌, ◌+◌, ◌-◌, ◌*◌, ◌<◌, ◌≤◌, ◌^◌, inl, inr, refl, sym, ◌∙◌, ap, subst, arith, List, [], ◌∷◌, ◌++◌, length, take, drop, get_or, All, true, false, Option, Some, None, append_assoc}
+use Rattle.std.proofs.Common.{ℕ, zero, suc, ◌≡◌, ◌-◌, ◌<◌, ◌≤◌, ◌^◌, inl, inr, refl, sym, ◌∙◌, ap, subst, arith, List}
+use Rattle.std.proofs.Common.{[], ◌∷◌, ◌++◌, length, take, drop, All, Option, Some, None, append_assoc}
 use Rattle.std.specs.Prelude.{ℤ, pos, negsuc, neg_ℤ, nat_abs}
 use Rattle.std.specs.Int.{IsInRange}
-use Rattle.std.specs.Char.{digit_value}
-use Rattle.std.specs.Str.Parse.{AllDigits, digits_value}
 use Rattle.std.proofs.Math.Seq.{drop-cons}
-use Rattle.std.proofs.lemmas.Bool.{and_parts, and_cases, leb-true, leb-false, lt-ltb, le-ltb, cond-true, cond-false}
-use Rattle.std.proofs.lemmas.Int.Digits.{digits_value_more, digits_more}
-use Rattle.std.proofs.lemmas.Str.Parse.{digit_at}
 use Rattle.std.proofs.lemmas.Int.{ints}
-use Rattle.std.proofs.lemmas.List.{take-append-drop, take_all, length-drop, length-take}
-use Rattle.std.proofs.lemmas.List.Elements.{All-head, All-tail, All-cons, All-nil, All-from_get_or}
-use Rattle.mp_base.specs.Token.{is_digit}
+use Rattle.std.proofs.lemmas.List.{take-append-drop, take_all, length-take}
+use Rattle.std.proofs.lemmas.List.Elements.{All-head, All-tail}
+use Rattle.mp_base.proofs.Lists.{head_of, tail_of}
+use Rattle.mp_base.proofs.FilesLemmas.{rest_of}
 use Rattle.lam_geom.specs.declared.layer.Layer.{Layer}
-use Rattle.lam_geom.specs.declared.layer.Layer.TheVariants.{ND, NP, NC, NM, NI, NB, NG}
 use Rattle.lam_geom.specs.declared.label.FlatLabel.{FlatLabel}
-use Rattle.cif_form.specs.Text.{SignedDigits}
 use Rattle.cif_form.specs.Place.{layer_name}
 use Rattle.cif_form.specs.Labels.{IsSpace, Coordinate, IsLabelText}
+use Rattle.cif_form.proofs.OneLabel.{Word, number_word, layer_word}
 use Rattle.cif_place.specs.Placing.{IsWithin}
 use Rattle.cif_flat.specs.Labelling.{Begins, IsNextWord, Tail, IsLabelLayer}
 
-head_of : {x y : ℕ} {xs ys : List ℕ} → x ∷ xs ≡ y ∷ ys → x ≡ y
-head_of e = cc
-
-tail_of : {x y : ℕ} {xs ys : List ℕ} → x ∷ xs ≡ y ∷ ys → xs ≡ ys
-tail_of e = cc
-
 -- ---- where a run of bytes of one kind ends
 
-one_cut : (P : ℕ → Type 0) (a b c d : List ℕ) → All P a → All P b → Begins (λ x. ¬ P x) c → Begins (λ x. ¬ P x) d → a ++ c ≡ b ++ d → (a ≡ b) × (c ≡ d)
+one_cut : (P : ℕ → Type 0) (a b c d : List ℕ) → All P a → All P b → Begins (λ x. ¬ P x) c → Begins (λ x. ¬ P x) d
+    → a ++ c ≡ b ++ d → (a ≡ b) × (c ≡ d)
 one_cut P [] [] c d h k m n e = (refl, e)
 one_cut P [] (y ∷ b) [] d h k m n e = absurd (let f : [] ≡ y ∷ (b ++ d) = e in cc)
 one_cut P [] (y ∷ b) (x ∷ c) d h k m n e = absurd (m (subst P (sym (head_of e)) (All-head P y b k)))
@@ -38,9 +29,6 @@ one_cut P (x ∷ a) [] c (y ∷ d) h k m n e = absurd (n (subst P (head_of e) (A
 one_cut P (x ∷ a) (y ∷ b) c d h k m n e =
     let r = one_cut P a b c d (All-tail P x a h) (All-tail P y b k) m n (tail_of e) in
     ((λ i. head_of e i ∷ r.0 i), r.1)
-
-abbrev Word : ℕ → Type 0
-Word b = ¬ IsSpace b
 
 begins_front : (P : ℕ → Type 0) (a c : List ℕ) → 0 < length a → All P a → Begins P (a ++ c)
 begins_front P [] c l h = absurd (omega arith)
@@ -60,16 +48,16 @@ apart (b ∷ a) h k l = k h
 
 pub one_word : (text w w' r r' : List ℕ) → IsNextWord text w r → IsNextWord text w' r' → (w ≡ w') × (r ≡ r')
 one_word text w w' r r' h k =
-    let c = one_cut IsSpace h.spaces k.spaces (w ++ r) (w' ++ r') h.are_spaces.1 k.are_spaces.1 (begins_front Word w r h.some h.solid) (begins_front Word w' r' k.some k.solid) (sym h.split ∙ k.split) in
+    let c = one_cut IsSpace h.spaces k.spaces (w ++ r) (w' ++ r') h.are_spaces.1 k.are_spaces.1
+    (begins_front Word w r h.some h.solid) (begins_front Word w' r' k.some k.solid) (sym h.split ∙ k.split) in
     one_cut Word w w' r r' h.solid k.solid (begins_not r h.stops) (begins_not r' k.stops) c.1
 
 -- ---- the next word
 
-pub rest_of : (text : List ℕ) (n : ℕ) → take (length text - n) (drop n text) ≡ drop n text
-rest_of text n = take_all (length text - n) (drop n text) (omega (arith, length-drop n text))
-
 pub no_spaces : (text w r : List ℕ) → Begins Word text → IsNextWord text w r → ⊥
-no_spaces text w r b h = apart (h.spaces ++ (w ++ r)) (begins_front IsSpace h.spaces (w ++ r) h.are_spaces.0 h.are_spaces.1) (subst (Begins Word) h.split b)
+no_spaces text w r b h =
+    apart (h.spaces ++ (w ++ r)) (begins_front IsSpace h.spaces (w ++ r) h.are_spaces.0 h.are_spaces.1)
+    (subst (Begins Word) h.split b)
     (long h.spaces (w ++ r) h.are_spaces.0)
   where
     long : (a c : List ℕ) → 0 < length a → 0 < length (a ++ c)
@@ -80,12 +68,15 @@ long_front : (a c : List ℕ) → 0 < length a → 0 < length (a ++ c)
 long_front [] c l = absurd (omega arith)
 long_front (x ∷ a) c l = omega arith
 
-pub no_word : (text w r : List ℕ) (n : ℕ) → All IsSpace (take n text) → Begins Word (drop n text) → Begins IsSpace (drop n text) → IsNextWord text w r → ⊥
+pub no_word : (text w r : List ℕ) (n : ℕ) → All IsSpace (take n text) → Begins Word (drop n text)
+    → Begins IsSpace (drop n text) → IsNextWord text w r → ⊥
 no_word text w r n a b c h =
-    let k = one_cut IsSpace (take n text) h.spaces (drop n text) (w ++ r) a h.are_spaces.1 b (begins_front Word w r h.some h.solid) (take-append-drop n text ∙ h.split) in
+    let k = one_cut IsSpace (take n text) h.spaces (drop n text) (w ++ r) a h.are_spaces.1 b
+    (begins_front Word w r h.some h.solid) (take-append-drop n text ∙ h.split) in
     apart (w ++ r) (subst (Begins IsSpace) k.1 c) (begins_front Word w r h.some h.solid) (long_front w r h.some)
 
-pub next_word_is : (text : List ℕ) (n m : ℕ) → n ≤ length text → 0 < n → 0 < m → m ≤ length (drop n text) → All IsSpace (take n text) → All Word (take m (drop n text)) → Begins IsSpace (drop m (drop n text))
+pub next_word_is : (text : List ℕ) (n m : ℕ) → n ≤ length text → 0 < n → 0 < m → m ≤ length (drop n text)
+    → All IsSpace (take n text) → All Word (take m (drop n text)) → Begins IsSpace (drop m (drop n text))
     → IsNextWord text (take m (drop n text)) (drop m (drop n text))
 next_word_is text n m l p q k a b c = record {
   spaces = take n text;
@@ -97,33 +88,16 @@ next_word_is text n m l p q k a b c = record {
 }
 
 -- the same of a rest that is cut off
-pub next_word_of : (text : List ℕ) (n m : ℕ) (rest : List ℕ) → rest ≡ drop n text → n ≤ length text → 0 < n → 0 < m → m ≤ length rest → All IsSpace (take n text) → All Word (take m rest)
+pub next_word_of : (text : List ℕ) (n m : ℕ) (rest : List ℕ) → rest ≡ drop n text → n ≤ length text → 0 < n → 0 < m
+    → m ≤ length rest → All IsSpace (take n text) → All Word (take m rest)
     → Begins IsSpace (drop m rest) → IsNextWord text (take m rest) (take (length rest - m) (drop m rest))
 next_word_of text n m rest e l p q k a b c =
     subst (λ end. IsNextWord text (take m rest) end) (sym (rest_of rest m))
     (subst (λ t. IsNextWord text (take m t) (drop m t)) (sym e)
-    (next_word_is text n m l p q (subst (λ t. m ≤ length t) e k) a (subst (λ t. All Word (take m t)) e b) (subst (λ t. Begins IsSpace (drop m t)) e c)))
+    (next_word_is text n m l p q (subst (λ t. m ≤ length t) e k) a (subst (λ t. All Word (take m t)) e b)
+    (subst (λ t. Begins IsSpace (drop m t)) e c)))
 
 -- ---- numbers
-
-digit_range : (c : ℕ) → is_digit c ≡ true → IsInRange 48 57 c
-digit_range c is = let h = and_parts _ _ is in (leb-true 48 c h.0, leb-true c 57 h.1)
-
-digit_is : (c : ℕ) → is_digit c ≡ true → digit_value c ≡ c - 48
-digit_is c is =
-    let h = digit_range c is in
-    cond-false _ _ _ (le-ltb c 48 h.0) ∙ cond-true _ _ _ (lt-ltb c 58 (omega (arith, h.1)))
-
-pub no_digit : (c : ℕ) → is_digit c ≡ false → IsInRange 48 57 c → ⊥
-no_digit c not h = elim (and_cases _ _ not) [ inl low ↦ omega (arith, leb-false 48 c low, h.0) | inr high ↦ omega (arith, leb-false c 57 high, h.1) ]
-
-pub more_digits : (ds : List ℕ) (i : ℕ) → i < length ds → is_digit (get_or ds i 0) ≡ true → AllDigits 10 (take i ds) → AllDigits 10 (take (i + 1) ds)
-more_digits ds i lt is before =
-    let h = digit_range (get_or ds i 0) is in
-    digits_more 10 ds i lt before (omega (arith, digit_is (get_or ds i 0) is, h.0, h.1))
-
-pub more_value : (ds : List ℕ) (i : ℕ) → i < length ds → is_digit (get_or ds i 0) ≡ true → digits_value 10 (take (i + 1) ds) ≡ digits_value 10 (take i ds) * 10 + (get_or ds i 0 - 48)
-more_value ds i lt is = digits_value_more 10 ds i lt ∙ ap (λ d. digits_value 10 (take i ds) * 10 + d) (digit_is (get_or ds i 0) is)
 
 digit_word : (b : ℕ) → IsInRange 48 57 b → Word b
 digit_word b h (inl e) = omega (arith, h.0, e)
@@ -135,53 +109,46 @@ pub small_negative : (n : ℕ) → n < 2 ^ 31 → nat_abs (neg_ℤ (pos n)) < 2 
 small_negative zero h = omega arith
 small_negative (suc n) h = h
 
-digits_word : (ds : List ℕ) → AllDigits 10 ds → All Word ds
-digits_word ds h = All-from_get_or Word ds 0 (λ i l. digit_word (get_or ds i 0) (digit_at ds i h l))
-
-number_word : (z : ℤ) (text : List ℕ) → SignedDigits z text → (0 < length text) × All Word text
-number_word z text (n, inl (e, d)) = (d.0.0, digits_word text d.0.1)
-number_word z text (n, inr (e, (minus, ds, f, g, d))) =
-    let k : text ≡ 45 ∷ ds = f ∙ ap (λ m. m ++ ds) g in
-    let no : Word 45 = (λ h. elim h [ inl e ↦ omega arith | inr h ↦ elim h [ inl e ↦ omega arith | inr h ↦ elim h [ inl e ↦ omega arith | inr e ↦ omega arith ] ] ]) in
-    (subst (λ t. 0 < length t) (sym k) (omega arith), subst (All Word) (sym k) (All-cons Word 45 ds no (digits_word ds d.0.1)))
-
 -- ---- the end of a label
-
-upper_word : (b : ℕ) → 65 ≤ b → Word b
-upper_word b h (inl e) = omega arith
-upper_word b h (inr (inl e)) = omega arith
-upper_word b h (inr (inr (inl e))) = omega arith
-upper_word b h (inr (inr (inr e))) = omega arith
-
-two_words : (a b : ℕ) → 65 ≤ a → 65 ≤ b → All Word (a ∷ b ∷ [])
-two_words a b h k = All-cons Word a (b ∷ []) (upper_word a h) (All-cons Word b [] (upper_word b k) (All-nil Word))
-
-layer_word : (l : Layer) → (0 < length (layer_name l)) × All Word (layer_name l)
-layer_word ND = (omega arith, two_words 78 68 (omega arith) (omega arith))
-layer_word NP = (omega arith, two_words 78 80 (omega arith) (omega arith))
-layer_word NC = (omega arith, two_words 78 67 (omega arith) (omega arith))
-layer_word NM = (omega arith, two_words 78 77 (omega arith) (omega arith))
-layer_word NI = (omega arith, two_words 78 73 (omega arith) (omega arith))
-layer_word NB = (omega arith, two_words 78 66 (omega arith) (omega arith))
-layer_word NG = (omega arith, two_words 78 71 (omega arith) (omega arith))
 
 pub tail_spaces : (text : List ℕ) → Tail None text → All IsSpace text
 tail_spaces text (own, end, e, h, k) = subst (All IsSpace) (sym (e ∙ ap (λ t. t ++ end) h)) k
 
-pub tail_word : (l : Layer) (text : List ℕ) → Tail (Some l) text → (end : List ℕ) × IsNextWord text (layer_name l) end × All IsSpace end × IsLabelLayer l
+pub tail_word : (l : Layer) (text : List ℕ) → Tail (Some l) text
+    → (end : List ℕ) × IsNextWord text (layer_name l) end × All IsSpace end × IsLabelLayer l
 tail_word l text (own, end, e, (s, name, f, h, (g, n)), k) =
-    let w = layer_word l in
-    (end, record { spaces = s; split = e ∙ ap (λ t. t ++ end) (f ∙ ap (λ t. s ++ t) g) ∙ append_assoc s (layer_name l) end; are_spaces = h; some = w.0; solid = w.1; stops = begins_all IsSpace end k }, k, n)
+    let w = layer_word l in (
+      end,
+      record {
+        spaces = s;
+        split = e ∙ ap (λ t. t ++ end) (f ∙ ap (λ t. s ++ t) g)
+            ∙ append_assoc s (layer_name l) end;
+        are_spaces = h;
+        some = w.0;
+        solid = w.1;
+        stops = begins_all IsSpace end k;
+      },
+      k,
+      n,
+    )
 
-pub word_tail : (l : Layer) (text word end : List ℕ) → IsNextWord text word end → word ≡ layer_name l → IsLabelLayer l → All IsSpace end → Tail (Some l) text
-word_tail l text word end h e n k =
-    (h.spaces ++ word, end, h.split ∙ sym (append_assoc h.spaces word end), (h.spaces, word, refl, h.are_spaces, (e, n)), k)
+pub word_tail : (l : Layer) (text word end : List ℕ) → IsNextWord text word end → word ≡ layer_name l → IsLabelLayer l
+    → All IsSpace end → Tail (Some l) text
+word_tail l text word end h e n k = (
+  h.spaces ++ word,
+  end,
+  h.split
+      ∙ sym (append_assoc h.spaces word end),
+  (h.spaces, word, refl, h.are_spaces, (e, n)),
+  k,
+)
 
 pub tail_stops : (l : Option Layer) (text : List ℕ) → Tail l text → Begins IsSpace text
 tail_stops None text t = begins_all IsSpace text (tail_spaces text t)
 tail_stops (Some l) text t =
     let w = tail_word l text t in
-    subst (Begins IsSpace) (sym w.1.split) (begins_front IsSpace w.1.spaces (layer_name l ++ w.0) w.1.are_spaces.0 w.1.are_spaces.1)
+    subst (Begins IsSpace) (sym w.1.split)
+    (begins_front IsSpace w.1.spaces (layer_name l ++ w.0) w.1.are_spaces.0 w.1.are_spaces.1)
 
 pub not_all : (text : List ℕ) (n : ℕ) → n < length text → Begins Word (drop n text) → All IsSpace text → ⊥
 not_all text n l b a = subst (Begins Word) (drop-cons text n 0 l) b (a n 0 l)
@@ -207,7 +174,13 @@ pub record IsLabelOf (text : List ℕ) (label : FlatLabel) : Type 0 where
   pub layer : Tail label.layer end
 
 pub label_words : (text : List ℕ) (l : FlatLabel) → IsLabelText l text → IsLabelOf text l
-label_words text l (b, t1, e1, f1, (s1, t2, e2, h1, (n, t3, e3, (g, kn, hn), (s2, t4, e4, h2, (x, t5, e5, hx, (s3, t6, e6, h3, (y, t, e7, hy, ht))))))) =
+label_words text l (
+  b,
+  t1,
+  e1,
+  f1,
+  (s1, t2, e2, h1, (n, t3, e3, (g, kn, hn), (s2, t4, e4, h2, (x, t5, e5, hx, (s3, t6, e6, h3, (y, t, e7, hy, ht)))))),
+) =
     let nx = number_word hx.0 x hx.3 in
     let ny = number_word hy.0 y hy.3 in
     record {
@@ -226,8 +199,24 @@ label_words text l (b, t1, e1, f1, (s1, t2, e2, h1, (n, t3, e3, (g, kn, hn), (s2
         solid = hn;
         stops = subst (Begins IsSpace) (sym e4) (begins_front IsSpace s2 t4 h2.0 h2.1);
       };
-      x_word = record { spaces = s2; split = e4 ∙ ap (λ c. s2 ++ c) e5; are_spaces = h2; some = nx.0; solid = nx.1; stops = subst (Begins IsSpace) (sym e6) (begins_front IsSpace s3 t6 h3.0 h3.1) };
-      y_word = record { spaces = s3; split = e6 ∙ ap (λ c. s3 ++ c) e7; are_spaces = h3; some = ny.0; solid = ny.1; stops = tail_stops l.layer t ht };
+      x_word =
+          record {
+            spaces = s2;
+            split = e4 ∙ ap (λ c. s2 ++ c) e5;
+            are_spaces = h2;
+            some = nx.0;
+            solid = nx.1;
+            stops = subst (Begins IsSpace) (sym e6) (begins_front IsSpace s3 t6 h3.0 h3.1);
+          };
+      y_word =
+          record {
+            spaces = s3;
+            split = e6 ∙ ap (λ c. s3 ++ c) e7;
+            are_spaces = h3;
+            some = ny.0;
+            solid = ny.1;
+            stops = tail_stops l.layer t ht;
+          };
       x = hx;
       y = hy;
       layer = ht;
@@ -273,7 +262,8 @@ module _ (text rest : List ℕ) (first : ℕ) (e : text ≡ first ∷ rest) (l :
 
   module _ (name r2 : List ℕ) (n : IsNextWord rest name r2) where
     pub the_x : IsNextWord r2 h.across h.after_x
-    the_x = subst (λ t. IsNextWord t h.across h.after_x) (sym (one_word rest name l.name r2 h.after_name n the_name).1) h.x_word
+    the_x = subst (λ t. IsNextWord t h.across h.after_x)
+        (sym (one_word rest name l.name r2 h.after_name n the_name).1) h.x_word
 
     module _ (xw r3 : List ℕ) (x : IsNextWord r2 xw r3) where
       pub the_y : IsNextWord r3 h.up h.end

@@ -21,13 +21,16 @@ IsCallOf i c = (offset : ℕ) (n : ℤ) (ts : List Turn) → i ≡ record { offs
     → IsTurned (scale_of c.ratio) ts c.turned × IsHeldTurned (2 ^ 104) c.turned
 
 abbrev pub AreCalls : List Item → BTreeMap ℕ Composed → Type 0
-AreCalls items calls = (k : ℕ) (c : Composed) → get nat_cmp calls k ≡ Some c → (i : Item) → slice_get items k ≡ Some i → IsCallOf i c
+AreCalls items calls = (k : ℕ) (c : Composed) → get nat_cmp calls k ≡ Some c → (i : Item) → slice_get items k ≡ Some i
+    → IsCallOf i c
 
 -- a call with these turns stands at the index
 abbrev pub IsCallAt : List Item → ℕ → List Turn → Type 0
-IsCallAt items at ts = (offset : ℕ) × (n : ℤ) × (slice_get items at ≡ Some (record { offset = offset; command = Call n ts }))
+IsCallAt items at ts =
+    (offset : ℕ) × (n : ℤ) × (slice_get items at ≡ Some (record { offset = offset; command = Call n ts }))
 
--- the placement of a call of a definition with this scale, or the first rule that is broken of those of its turns, of the
+-- the placement of a call of a definition with this scale, or the first rule that is broken of those of its turns, of
+-- the
 -- scale and of the count
 abbrev pub IsCalled : Scale → List Turn → Ratio → ℕ → Result Placement Fault → Type 0
 IsCalled s ts ratio count (Ok p) =
@@ -35,5 +38,6 @@ IsCalled s ts ratio count (Ok p) =
 IsCalled s ts ratio count (Err F3) = HasAskew ts
 IsCalled s ts ratio count (Err F4) = ¬ HasAskew ts × (¬ IsScale (scale_of ratio) ⊎ HasUneven s ts)
 IsCalled s ts ratio count (Err F7) = ¬ HasAskew ts × IsScale (scale_of ratio) × ¬ HasUneven s ts × (walk_limit ≤ count)
-IsCalled s ts ratio count (Err F8) = ¬ HasAskew ts × IsScale (scale_of ratio) × ¬ HasUneven s ts × (count < walk_limit) × HasFar s ts
+IsCalled s ts ratio count (Err F8) =
+    ¬ HasAskew ts × IsScale (scale_of ratio) × ¬ HasUneven s ts × (count < walk_limit) × HasFar s ts
 IsCalled s ts ratio count (Err _) = ⊥

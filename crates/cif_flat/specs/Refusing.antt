@@ -9,7 +9,8 @@ use Rattle.lam_geom.specs.declared.rect.Rect.{Rect}
 use Rattle.lam_geom.specs.declared.label.FlatLabel.{FlatLabel}
 use Rattle.cif_form.specs.declared.command.Item.{Item}
 use Rattle.cif_form.specs.Walk.{DrawRule, draw_rule_number, FileWalks}
-use Rattle.cif_form.specs.Walk.DrawRule.{F1 as R1, F2 as R2, F3 as R3, F4 as R4, F5 as R5, F6 as R6, F7 as R7, F8 as R8, F9 as R9, F10 as R10}
+use Rattle.cif_form.specs.Walk.DrawRule.{F1 as R1, F2 as R2, F3 as R3, F4 as R4, F5 as R5, F6 as R6, F7 as R7, F8 as R8}
+use Rattle.cif_form.specs.Walk.DrawRule.{F9 as R9, F10 as R10}
 use Rattle.cif_form.specs.Walk.WalkEnd.{Broken}
 use Rattle.cif_flat.specs.declared.fault.Fault.{Fault}
 use Rattle.cif_flat.specs.declared.fault.Fault.TheVariants.{F1, F2, F3, F4, F5, F6, F7, F8, F9, F10}

@@ -1,5 +1,7 @@
 -- What the code's walk stands for.
-use Rattle.std.specs.Prelude.{ℕ, zero, suc, ◌+◌, ◌*◌, ◌-◌, ◌<◌, ◌≤◌, ◌≡◌, ◌^◌, List, [], ◌∷◌, ◌++◌, length, take, drop, All, Contains, false, Option, Some, None, ℤ, pos, ◌≤ℤ◌, slice_range, slice_get, slice_index_or}
+use Rattle.std.specs.Prelude.{ℕ, zero, suc, ◌+◌, ◌*◌, ◌-◌, ◌<◌, ◌≤◌, ◌≡◌, ◌^◌, List, [], ◌∷◌, ◌++◌, length, take, drop}
+use Rattle.std.specs.Prelude.{All, Contains, false, Option, Some, None, ℤ, pos, ◌≤ℤ◌, slice_range, slice_get}
+use Rattle.std.specs.Prelude.{slice_index_or}
 use Rattle.std.specs.BTreeMap.{BTreeMap, get}
 use Rattle.std.specs.Ordering.{nat_cmp}
 use Rattle.lam_geom.specs.declared.rect.Rect.{Rect}
@@ -103,7 +105,15 @@ pub record IsLevel (items : List Item) (count : ℕ) (opened : BTreeMap ℕ ℕ)
 
 -- the top level of a file with so many commands
 abbrev pub top : ℕ → Level
-top size = record { symbol = None; ratio = record { a = pos 1; b = pos 1 }; layer = None; placement = here; next = 0; end = size }
+top size =
+    record {
+      symbol = None;
+      ratio = record { a = pos 1; b = pos 1 };
+      layer = None;
+      placement = here;
+      next = 0;
+      end = size;
+    }
 
 -- this is true of each level and its depth
 abbrev pub EachLevel : (ℕ → Level → Type 0) → List Level → Type 0
@@ -132,7 +142,8 @@ entered v n s p = record {
 
 -- a walk from this state on is one of the file, which draws these shapes and labels first
 abbrev pub Leads : List Item → List Rect → List FlatLabel → State → Type 0
-Leads items shapes labels t = (rs : List Rect) (ls : List FlatLabel) (e : WalkEnd) → Walks t rs ls e → FileWalks items (shapes ++ rs) (labels ++ ls) e
+Leads items shapes labels t = (rs : List Rect) (ls : List FlatLabel) (e : WalkEnd) → Walks t rs ls e
+    → FileWalks items (shapes ++ rs) (labels ++ ls) e
 
 -- the walk has come to these levels
 pub record IsWalking (items : List Item) (w : Walker) (vs : List Level) : Type 0 where

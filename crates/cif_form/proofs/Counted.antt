@@ -7,11 +7,13 @@ use Rattle.lam_geom.specs.declared.rect.Rect.{Rect}
 use Rattle.lam_geom.specs.declared.label.FlatLabel.{FlatLabel}
 use Rattle.cif_form.specs.declared.command.Turn.{Turn}
 use Rattle.cif_form.specs.declared.command.Command.{Command}
-use Rattle.cif_form.specs.declared.command.Command.TheVariants.{Polygon, Box, Round, Wire, Layer as SetLayer, Start, Finish, Delete, Call, User, Comment}
+use Rattle.cif_form.specs.declared.command.Command.TheVariants.{Polygon, Box, Round, Wire, Layer as SetLayer, Start}
+use Rattle.cif_form.specs.declared.command.Command.TheVariants.{Finish, Delete, Call, User, Comment}
 use Rattle.cif_form.specs.declared.command.Item.{Item}
 use Rattle.cif_form.specs.Place.{placed}
 use Rattle.cif_form.specs.Expansion.{Definition, Stands, item_at, IsInside}
-use Rattle.cif_form.specs.Walk.{Frame, State, Visit, Visits, BreaksBy, BreaksNone, Breaks, StepsBy, Walks, WalkEnd, weight, walk_limit, start}
+use Rattle.cif_form.specs.Walk.{Frame, State, Visit, Visits, BreaksBy, BreaksNone, Breaks, StepsBy, Walks, WalkEnd}
+use Rattle.cif_form.specs.Walk.{weight, walk_limit, start}
 use Rattle.cif_form.specs.Walk.DrawRule.{F7}
 use Rattle.cif_form.specs.Walk.WalkEnd.{Whole, Broken}
 use Rattle.cif_form.specs.Counts.{IsNoCall, Counts, CountsAtTop, WalkIsCounted, CountKeepsLimit}

@@ -1,5 +1,6 @@
 -- Small files: what is read of them, and the first rule that each breaks.
-use Rattle.std.proofs.Common.{ℕ, ◌≡◌, ◌≤◌, inl, inr, refl, sym, ◌∙◌, ap, subst, arith, List, [], ◌∷◌, ◌++◌, length, All, Some, None, lit≤}
+use Rattle.std.proofs.Common.{ℕ, ◌≡◌, ◌≤◌, inl, inr, refl, sym, ◌∙◌, ap, subst, arith, List, [], ◌∷◌, ◌++◌, length, All}
+use Rattle.std.proofs.Common.{Some, None, lit≤}
 use Rattle.std.specs.Prelude.{◌≢◌, codes}
 use Rattle.std.proofs.lemmas.List.Elements.{All-nil, All-cons, All-head}
 use Rattle.cif_form.specs.declared.command.Command.TheVariants.{Finish, User}
@@ -10,8 +11,15 @@ use Rattle.cif_form.specs.Scans.TextEnd.{Broken}
 use Rattle.cif_form.specs.Readers.{command_from}
 use Rattle.cif_form.proofs.Scanning.{found}
 
-space_is_blank : IsBlank 32
-space_is_blank = ((λ h. omega arith), (λ h. omega arith), (λ h. omega arith), (λ h. omega arith), (λ h. omega arith), (λ h. omega arith))
+pub space_is_blank : IsBlank 32
+space_is_blank = (
+  (λ h. omega arith),
+  (λ h. omega arith),
+  (λ h. omega arith),
+  (λ h. omega arith),
+  (λ h. omega arith),
+  (λ h. omega arith),
+)
 
 one_space : Blanks (32 ∷ [])
 one_space = All-cons IsBlank 32 [] space_is_blank (All-nil IsBlank)
@@ -30,15 +38,34 @@ upper_no_blank : (b : ℕ) → 65 ≤ b → b ≤ 90 → ¬ IsBlank b
 upper_no_blank b h k n = n.1 (h, k)
 
 no_command : (text : List ℕ) → command_from text ≡ None → ¬ IsReadable text
-no_command text e (c, size, rest, r) = let k = sym e ∙ found text c size rest r in absurd (let l : None ≡ Some (c, r.blanks ++ (59 ∷ rest)) = k in cc)
+no_command text e (c, size, rest, r) = let k = sym e ∙ found text c size rest r in
+    absurd (let l : None ≡ Some (c, r.blanks ++ (59 ∷ rest)) = k in cc)
 
 -- blanks before the only `E`
 pub late_end : FileScans (codes " E") [] (Broken C1 1)
-late_end = inl (1, record { before = 32 ∷ []; after = []; split = refl; blanks = one_space; late = omega arith; counted = refl }, refl, refl)
+late_end =
+    inl (
+      1,
+      record {
+        before = 32 ∷ [];
+        after = [];
+        split = refl;
+        blanks = one_space;
+        late = omega arith;
+        counted = refl;
+      },
+      refl,
+      refl,
+    )
 
 -- a semicolon after `E`
 pub more_text : FileScans (codes "E;") [] (Broken C5 1)
-more_text = inr (not_late 69 (codes ";") (upper_no_blank 69 (lit≤ tt) (lit≤ tt)), Scans.more [] [] 59 (All-nil IsBlank) (λ h. h.5 refl))
+more_text =
+    inr (
+      not_late 69 (codes ";") (upper_no_blank 69 (lit≤ tt) (lit≤ tt)),
+      Scans.more [] [] 59 (All-nil IsBlank)
+          (λ h. h.5 refl),
+    )
 
 -- no `E` at all
 pub short_text : FileScans (codes ";") [] (Broken C2 1)
@@ -48,7 +75,11 @@ short_text = inr (not_late 59 [] (λ h. h.5 refl), Scans.nothing Scans.short)
 pub short_box : FileScans (codes "B 1 2 3;E") [] (Broken C1 0)
 short_box =
     let n = upper_no_blank 66 (lit≤ tt) (lit≤ tt) in
-    inr (not_late 66 (codes " 1 2 3;E") n, Scans.unread 66 n (λ e. omega arith) (λ e. omega arith) (no_command (codes "B 1 2 3;E") refl))
+    inr (
+      not_late 66 (codes " 1 2 3;E") n,
+      Scans.unread 66 n (λ e. omega arith) (λ e. omega arith)
+          (no_command (codes "B 1 2 3;E") refl),
+    )
 
 finish_read : (rest : List ℕ) → IsReadAs (codes "DF;" ++ rest) Finish 3 rest
 finish_read rest = record {
@@ -75,9 +106,11 @@ no_start =
 -- the text of a user command goes up to its semicolon
 pub user_text : Reads 0 (codes "1 a ;E") (record { offset = 0; command = User 1 (codes " a ") } ∷ [])
 user_text =
-    Reads.command [] (codes "1 a ") (codes ";") (User 1 (codes " a ")) refl (All-nil IsBlank) (refl, lit≤ tt, no_semicolon) (59 ∷ [], [], refl, refl, All-nil IsBlank)
+    Reads.command [] (codes "1 a ") (codes ";") (User 1 (codes " a ")) refl (All-nil IsBlank)
+    (refl, lit≤ tt, no_semicolon) (59 ∷ [], [], refl, refl, All-nil IsBlank)
     (Reads.finish refl (All-nil IsBlank))
   where
     no_semicolon : All (λ b. b ≢ 59) (codes " a ")
     no_semicolon = All-cons (λ b. b ≢ 59) 32 (codes "a ") (λ e. omega arith)
-        (All-cons (λ b. b ≢ 59) 97 (codes " ") (λ e. omega arith) (All-cons (λ b. b ≢ 59) 32 [] (λ e. omega arith) (All-nil (λ b. b ≢ 59))))
+        (All-cons (λ b. b ≢ 59) 97 (codes " ") (λ e. omega arith)
+        (All-cons (λ b. b ≢ 59) 32 [] (λ e. omega arith) (All-nil (λ b. b ≢ 59))))

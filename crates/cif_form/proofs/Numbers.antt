@@ -1,14 +1,18 @@
 -- A reader of numbers and points that is a function, and finds what the grammar says.
-use Rattle.std.proofs.Common.{ℕ, ◌≡◌, ◌+◌, ◌*◌, ◌-◌, ◌<◌, inl, inr, refl, sym, ◌∙◌, ap, subst, arith, List, [], ◌∷◌, ◌++◌, true, false, eqb, Some, append_assoc}
-use Rattle.std.specs.Prelude.{◌≢◌, ℤ, pos, neg_ℤ}
+use Rattle.std.proofs.Common.{ℕ, ◌≡◌, ◌+◌, ◌*◌, ◌-◌, ◌<◌, inl, inr, refl, sym, ◌∙◌, ap, subst, arith, List, [], ◌∷◌}
+use Rattle.std.proofs.Common.{◌++◌, true, false, eqb, Some, append_assoc}
+use Rattle.std.specs.Prelude.{ℤ, pos, neg_ℤ}
 use Rattle.std.specs.Str.Parse.{digits_value_after, AllDigits}
 use Rattle.std.specs.Char.{digit_value}
 use Rattle.std.proofs.lemmas.List.Elements.{All-head, All-tail, All-cons, All-nil}
-use Rattle.std.proofs.lemmas.Bool.{cases_lt}
+use Rattle.std.proofs.lemmas.Bool.{cases_lt, ne_eqb}
 use Rattle.mp_base.specs.Token.{is_digit}
 use Rattle.lam_geom.specs.declared.place.Point.{Point}
-use Rattle.cif_form.specs.Text.{IsDigit, IsUpper, IsBlank, IsSeparator, Separators, Separator, Digits, SignedDigits, Integer, Signed, PointText}
-use Rattle.cif_form.specs.Readers.{Reader, goes_on, and_then, gives, is_upper, is_separator, is_blank, past, separator_from, digits_from, natural_from, signed_digits_from, integer_from, signed_from, point_from, starts, follows}
+use Rattle.cif_form.specs.Text.{IsDigit, IsUpper, IsBlank, IsSeparator, Separators, Separator, Digits, SignedDigits}
+use Rattle.cif_form.specs.Text.{Integer, Signed, PointText}
+use Rattle.cif_form.specs.Readers.{Reader, goes_on, and_then, gives, is_upper, is_separator, is_blank, past}
+use Rattle.cif_form.specs.Readers.{separator_from, digits_from, natural_from, signed_digits_from, integer_from}
+use Rattle.cif_form.specs.Readers.{signed_from, point_from, starts, follows}
 
 -- ---- readers: what is read from the front of a text, and the rest of the text
 
@@ -16,16 +20,14 @@ use Rattle.cif_form.specs.Readers.{Reader, goes_on, and_then, gives, is_upper, i
 abbrev pub Finds : {A : Type 0} → Reader A → A → List ℕ → List ℕ → Type 0
 Finds p a front rest = p (front ++ rest) ≡ Some (a, rest)
 
-pub finds_both : {A B : Type 0} (p : Reader A) (q : A → Reader B) (a : A) (b : B) (text front back rest : List ℕ) → text ≡ front ++ back
+pub finds_both : {A B : Type 0} (p : Reader A) (q : A → Reader B) (a : A) (b : B) (text front back rest : List ℕ)
+    → text ≡ front ++ back
     → Finds p a front (back ++ rest) → Finds (q a) b back rest → Finds (and_then p q) b text rest
 finds_both p q a b text front back rest e h k =
     let f : text ++ rest ≡ front ++ (back ++ rest) = ap (λ t. t ++ rest) e ∙ append_assoc front back rest in
     ap (and_then p q) f ∙ ap (goes_on q) h ∙ k
 
 -- ---- bytes
-
-pub not_equal : (b c : ℕ) → b ≢ c → eqb b c ≡ false
-not_equal b c h = grind arith
 
 pub no_digit : (b : ℕ) → ¬ IsDigit b → is_digit b ≡ false
 no_digit b h = elim (cases_lt b 48)
@@ -37,8 +39,15 @@ no_upper b h = elim (cases_lt b 65)
 
 pub separator_reads : (b : ℕ) → IsSeparator b → is_separator b ≡ true
 separator_reads b (inl h) =
-    rw (no_digit b (λ k. omega arith), not_equal b 45 (λ k. omega arith), not_equal b 40 (λ k. omega arith), not_equal b 41 (λ k. omega arith), not_equal b 59 (λ k. omega arith)) refl
-separator_reads b (inr h) = rw (no_digit b h.0, not_equal b 45 h.2, not_equal b 40 h.3, not_equal b 41 h.4, not_equal b 59 h.5) refl
+    rw (
+      no_digit b (λ k. omega arith),
+      ne_eqb b 45 (λ k. omega arith),
+      ne_eqb b 40 (λ k. omega arith),
+      ne_eqb b 41
+          (λ k. omega arith),
+      ne_eqb b 59 (λ k. omega arith),
+    ) refl
+separator_reads b (inr h) = rw (no_digit b h.0, ne_eqb b 45 h.2, ne_eqb b 40 h.3, ne_eqb b 41 h.4, ne_eqb b 59 h.5) refl
 
 pub blank_reads : (b : ℕ) → IsBlank b → is_blank b ≡ true
 blank_reads b h = rw (separator_reads b (inr h), no_upper b h.1) refl
@@ -60,13 +69,16 @@ separator_stops b rest (inr h) = no_digit b h.0
 pub digit_reads : (b : ℕ) → digit_value b < 10 → (is_digit b ≡ true) × (digit_value b ≡ b - 48)
 digit_reads b h = (grind arith, grind arith)
 
-digits_read : (ds : List ℕ) (n : ℕ) (rest : List ℕ) → AllDigits 10 ds → Stops rest → digits_from n (ds ++ rest) ≡ (digits_value_after 10 n ds, rest)
+digits_read : (ds : List ℕ) (n : ℕ) (rest : List ℕ) → AllDigits 10 ds → Stops rest
+    → digits_from n (ds ++ rest) ≡ (digits_value_after 10 n ds, rest)
 digits_read [] n [] a s = refl
 digits_read [] n (b ∷ rest) a s = rw (s, digits_from) refl
 digits_read (b ∷ ds) n rest a s =
     let d = digit_reads b a.0 in
-    let e : digits_from n (b ∷ (ds ++ rest)) ≡ digits_from (n * 10 + (b - 48)) (ds ++ rest) = rw (d.0, digits_from) refl in
-    e ∙ digits_read ds (n * 10 + (b - 48)) rest a.1 s ∙ ap (λ v. (digits_value_after 10 (n * 10 + v) ds, rest)) (sym d.1)
+    let e : digits_from n (b ∷ (ds ++ rest)) ≡ digits_from (n * 10 + (b - 48)) (ds ++ rest) =
+    rw (d.0, digits_from) refl in
+    e ∙ digits_read ds (n * 10 + (b - 48)) rest a.1 s
+    ∙ ap (λ v. (digits_value_after 10 (n * 10 + v) ds, rest)) (sym d.1)
 
 natural_reads : (ds rest : List ℕ) (n : ℕ) → Digits n ds → Stops rest → Finds natural_from n ds rest
 natural_reads [] rest n h s = absurd (omega (arith, h.0.0))
@@ -83,14 +95,16 @@ digits_past (b ∷ ds) rest n h = rw (digit_no_separator b (digit_reads b h.0.1.
 pub separators_past : (seps rest : List ℕ) → Separators seps → past (seps ++ rest) ≡ past rest
 separators_past [] rest h = refl
 separators_past (b ∷ seps) rest h =
-    let e : past (b ∷ (seps ++ rest)) ≡ past (seps ++ rest) = rw (separator_reads b (All-head IsSeparator b seps h), past) refl in
+    let e : past (b ∷ (seps ++ rest)) ≡ past (seps ++ rest) =
+    rw (separator_reads b (All-head IsSeparator b seps h), past) refl in
     e ∙ separators_past seps rest (All-tail IsSeparator b seps h)
 
 pub integer_reads : (z : ℤ) (front rest : List ℕ) → Integer z front → Stops rest → Finds integer_from z front rest
 integer_reads z front rest (seps, ds, e, h, (n, f, d)) s =
     let g : front ++ rest ≡ seps ++ (ds ++ rest) = ap (λ t. t ++ rest) e ∙ append_assoc seps ds rest in
     let k : past (seps ++ (ds ++ rest)) ≡ ds ++ rest = separators_past seps (ds ++ rest) h ∙ digits_past ds rest n d in
-    ap integer_from g ∙ ap (and_then natural_from (gives pos)) k ∙ ap (goes_on (gives pos)) (natural_reads ds rest n d s) ∙ ap (λ v. Some (v, rest)) (sym f)
+    ap integer_from g ∙ ap (and_then natural_from (gives pos)) k
+    ∙ ap (goes_on (gives pos)) (natural_reads ds rest n d s) ∙ ap (λ v. Some (v, rest)) (sym f)
 
 -- a `-` ends them too
 minus_past : (rest : List ℕ) → past (45 ∷ rest) ≡ 45 ∷ rest
@@ -106,12 +120,14 @@ unsigned_reads (b ∷ ds) rest n h s =
     rw (digit_no_minus b (digit_reads b h.0.1.0).0, signed_digits_from) refl in
     e ∙ ap (goes_on (gives pos)) (natural_reads (b ∷ ds) rest n h s)
 
-negative_reads : (ds rest : List ℕ) (n : ℕ) → Digits n ds → Stops rest → Finds signed_digits_from (neg_ℤ (pos n)) (45 ∷ ds) rest
+negative_reads : (ds rest : List ℕ) (n : ℕ) → Digits n ds → Stops rest
+    → Finds signed_digits_from (neg_ℤ (pos n)) (45 ∷ ds) rest
 negative_reads ds rest n h s = ap (goes_on (gives (λ n. neg_ℤ (pos n)))) (natural_reads ds rest n h s)
 
 pub signed_digits_read : (z : ℤ) (front rest : List ℕ) → SignedDigits z front → Stops rest
     → Finds signed_digits_from z front rest × (past (front ++ rest) ≡ front ++ rest)
-signed_digits_read z front rest (n, inl (e, d)) s = (unsigned_reads front rest n d s ∙ ap (λ v. Some (v, rest)) (sym e), digits_past front rest n d)
+signed_digits_read z front rest (n, inl (e, d)) s =
+    (unsigned_reads front rest n d s ∙ ap (λ v. Some (v, rest)) (sym e), digits_past front rest n d)
 signed_digits_read z front rest (n, inr (e, (minus, ds, f, g, d))) s =
     let k : front ≡ 45 ∷ ds = f ∙ ap (λ m. m ++ ds) g in (
       ap (λ t. signed_digits_from (t ++ rest)) k ∙ negative_reads ds rest n d s ∙ ap (λ v. Some (v, rest)) (sym e),
@@ -134,7 +150,8 @@ separator_read front rest (b, e, h) =
 
 -- a separator stops a number
 pub stops_at : (front back rest : List ℕ) → Separator front → Stops ((front ++ back) ++ rest)
-stops_at front back rest (b, e, h) = subst (λ t. Stops ((t ++ back) ++ rest)) (sym e) (separator_stops b (back ++ rest) h)
+stops_at front back rest (b, e, h) =
+    subst (λ t. Stops ((t ++ back) ++ rest)) (sym e) (separator_stops b (back ++ rest) h)
 
 pub point_reads : (p : Point) (front rest : List ℕ) → PointText p front → Stops rest → Finds point_from p front rest
 point_reads p front rest (fx, more, e, hx, (sep, fy, f, hs, hy)) s =
@@ -152,7 +169,8 @@ integer_follows z front rest (seps, ds, e, h, (n, f, d)) =
     let g : front ++ rest ≡ seps ++ (ds ++ rest) = ap (λ t. t ++ rest) e ∙ append_assoc seps ds rest in
     ap follows g ∙ ap starts (separators_past seps (ds ++ rest) h ∙ digits_past ds rest n d) ∙ digits_start ds rest n d
 
-signed_start : (z : ℤ) (front rest : List ℕ) → SignedDigits z front → (past (front ++ rest) ≡ front ++ rest) × (starts (front ++ rest) ≡ true)
+signed_start : (z : ℤ) (front rest : List ℕ) → SignedDigits z front
+    → (past (front ++ rest) ≡ front ++ rest) × (starts (front ++ rest) ≡ true)
 signed_start z front rest (n, inl (e, d)) = (digits_past front rest n d, digits_start front rest n d)
 signed_start z front rest (n, inr (e, (minus, ds, f, g, d))) =
     let k : front ≡ 45 ∷ ds = f ∙ ap (λ m. m ++ ds) g in
@@ -169,4 +187,5 @@ point_follows p front rest (fx, more, e, hx, h) =
     ap (λ t. follows (t ++ rest)) e ∙ ap follows (append_assoc fx more rest) ∙ signed_follows p.x fx (more ++ rest) hx
 
 pub separator_follows : (front rest : List ℕ) → Separator front → follows (front ++ rest) ≡ follows rest
-separator_follows front rest (b, e, h) = ap (λ t. follows (t ++ rest)) e ∙ ap starts (separators_past (b ∷ []) rest (All-cons IsSeparator b [] h (All-nil IsSeparator)))
+separator_follows front rest (b, e, h) = ap (λ t. follows (t ++ rest)) e
+    ∙ ap starts (separators_past (b ∷ []) rest (All-cons IsSeparator b [] h (All-nil IsSeparator)))

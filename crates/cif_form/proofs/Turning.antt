@@ -20,9 +20,11 @@ found : (ts : List Turn) (ks : List TurnKind) (ps : List Point) → AreOf ts ks 
 found ts ks ps a = ap₂ turns_of a.kinds a.points ∙ taken ts
 
 points_with : (ts : List Turn) (t : Turn) → flat_map points_of (ts ++ t ∷ []) ≡ flat_map points_of ts ++ points_of t
-points_with ts t = flat_map-append points_of ts (t ∷ []) ∙ ap (λ xs. flat_map points_of ts ++ xs) (append-nil (points_of t))
+points_with ts t =
+    flat_map-append points_of ts (t ∷ []) ∙ ap (λ xs. flat_map points_of ts ++ xs) (append-nil (points_of t))
 
-more : (ts : List Turn) (ks new_ks : List TurnKind) (ps new_ps : List Point) (t : Turn) → AreOf ts ks ps → new_ks ≡ ks ++ kind_of t ∷ [] → new_ps ≡ ps ++ points_of t
+more : (ts : List Turn) (ks new_ks : List TurnKind) (ps new_ps : List Point) (t : Turn) → AreOf ts ks ps
+    → new_ks ≡ ks ++ kind_of t ∷ [] → new_ps ≡ ps ++ points_of t
     → AreOf (ts ++ t ∷ []) new_ks new_ps
 more ts ks new_ks ps new_ps t a e f = record {
   kinds = e ∙ ap (λ xs. xs ++ kind_of t ∷ []) a.kinds ∙ sym (map-append kind_of ts (t ∷ []));
@@ -30,7 +32,8 @@ more ts ks new_ks ps new_ps t a e f = record {
 }
 
 -- one more turn is one more kind, and its point if it has one
-pub pushed : (ts : List Turn) (ks new_ks : List TurnKind) (ps new_ps : List Point) (t : Turn) → AreOf ts ks ps → new_ks ≡ ks ++ kind_of t ∷ [] → new_ps ≡ ps ++ points_of t
+pub pushed : (ts : List Turn) (ks new_ks : List TurnKind) (ps new_ps : List Point) (t : Turn) → AreOf ts ks ps
+    → new_ks ≡ ks ++ kind_of t ∷ [] → new_ps ≡ ps ++ points_of t
     → (turns_of new_ks new_ps ≡ ts ++ t ∷ []) × AreOf (turns_of new_ks new_ps) new_ks new_ps
 pushed ts ks new_ks ps new_ps t a e f =
     let b = more ts ks new_ks ps new_ps t a e f in

@@ -27,11 +27,14 @@ item_at offset c = record { offset = offset; command = c }
 -- What commands draw where these definitions stand, at a scale, and with a layer set or none.
 pub data Draws (defs : List Definition) : Scale → Option Layer → List Item → List Rect → Type 0 where
   done : {s : Scale} {l : Option Layer} → Draws defs s l [] []
-  layer : {s : Scale} {l : Option Layer} {o : ℕ} {is : List Item} {rs : List Rect} (m : Layer) (name : List ℕ) → name ≡ layer_name m
+  layer : {s : Scale} {l : Option Layer} {o : ℕ} {is : List Item} {rs : List Rect} (m : Layer) (name : List ℕ)
+      → name ≡ layer_name m
       → Draws defs s (Some m) is rs → Draws defs s l (item_at o (commands.Layer name) ∷ is) rs
-  shape : {s : Scale} {l : Layer} {o : ℕ} {is : List Item} {rs : List Rect} (c : Command) (qs : List Rect) → HasEdges s l c qs
+  shape : {s : Scale} {l : Layer} {o : ℕ} {is : List Item} {rs : List Rect} (c : Command) (qs : List Rect)
+      → HasEdges s l c qs
       → Draws defs s (Some l) is rs → Draws defs s (Some l) (item_at o c ∷ is) (qs ++ rs)
-  call : {s : Scale} {l : Option Layer} {o : ℕ} {is : List Item} {rs : List Rect} (n : ℤ) (ts : List Turn) (d : Definition)
+  call : {s : Scale} {l : Option Layer} {o : ℕ} {is : List Item} {rs : List Rect} (n : ℤ) (ts : List Turn)
+      (d : Definition)
       (ms : List Motion) (inner : List Rect) → Stands defs n d → IsScale d.scale → AreMotions s ts ms
       → Draws defs d.scale None d.body inner
       → Draws defs s l is rs → Draws defs s l (item_at o (Call n ts) ∷ is) (map (placed ms) inner ++ rs)
@@ -57,15 +60,22 @@ IsDrawn c = IsInside c
 -- The newest definition is the first of the list.
 pub data Expands : List Definition → Option Layer → List Item → List Rect → List FlatLabel → Type 0 where
   done : {ds : List Definition} {l : Option Layer} → Expands ds l [] [] []
-  layer : {ds : List Definition} {l : Option Layer} {o : ℕ} {is : List Item} {rs : List Rect} {ls : List FlatLabel} (m : Layer) (name : List ℕ)
+  layer : {ds : List Definition} {l : Option Layer} {o : ℕ} {is : List Item} {rs : List Rect} {ls : List FlatLabel}
+      (m : Layer) (name : List ℕ)
       → name ≡ layer_name m → Expands ds (Some m) is rs ls → Expands ds l (item_at o (commands.Layer name) ∷ is) rs ls
-  draw : {ds : List Definition} {l : Option Layer} {o : ℕ} {is : List Item} {rs : List Rect} {ls : List FlatLabel} (c : Command) (qs : List Rect)
-      → IsDrawn c → Draws ds unit l (item_at o c ∷ []) qs → Expands ds l is rs ls → Expands ds l (item_at o c ∷ is) (qs ++ rs) ls
-  label : {ds : List Definition} {l : Option Layer} {o : ℕ} {is : List Item} {rs : List Rect} {ls : List FlatLabel} (text : List ℕ) (m : FlatLabel)
-      → m.offset ≡ o → IsLabelText m text → Expands ds l is rs ls → Expands ds l (item_at o (User 9 text) ∷ is) rs (m ∷ ls)
-  define : {ds : List Definition} {l : Option Layer} {o : ℕ} {rest : List Item} {rs : List Rect} {ls : List FlatLabel} (n a b : ℤ)
+  draw : {ds : List Definition} {l : Option Layer} {o : ℕ} {is : List Item} {rs : List Rect} {ls : List FlatLabel}
+      (c : Command) (qs : List Rect)
+      → IsDrawn c → Draws ds unit l (item_at o c ∷ []) qs → Expands ds l is rs ls
+      → Expands ds l (item_at o c ∷ is) (qs ++ rs) ls
+  label : {ds : List Definition} {l : Option Layer} {o : ℕ} {is : List Item} {rs : List Rect} {ls : List FlatLabel}
+      (text : List ℕ) (m : FlatLabel)
+      → m.offset ≡ o → IsLabelText m text → Expands ds l is rs ls
+      → Expands ds l (item_at o (User 9 text) ∷ is) rs (m ∷ ls)
+  define : {ds : List Definition} {l : Option Layer} {o : ℕ} {rest : List Item} {rs : List Rect} {ls : List FlatLabel}
+      (n a b : ℤ)
       (body is : List Item) (p : ℕ) → All (λ i. IsInside i.command) body → rest ≡ body ++ (item_at p Finish ∷ is)
       → Expands (record { number = n; scale = record { a = a; b = b }; body = body } ∷ ds) l is rs ls
       → Expands ds l (item_at o (Start n a b) ∷ rest) rs ls
-  delete : {ds : List Definition} {l : Option Layer} {o : ℕ} {is : List Item} {rs : List Rect} {ls : List FlatLabel} (n : ℤ)
+  delete : {ds : List Definition} {l : Option Layer} {o : ℕ} {is : List Item} {rs : List Rect} {ls : List FlatLabel}
+      (n : ℤ)
       → Expands (filter (λ d. int_lt d.number n) ds) l is rs ls → Expands ds l (item_at o (Delete n) ∷ is) rs ls

@@ -5,7 +5,8 @@ use Rattle.lam_geom.specs.declared.place.Point.{Point}
 use Rattle.cif_form.specs.declared.command.Turn.{Turn}
 use Rattle.cif_form.specs.declared.command.Turn.TheVariants.{Move, Rotate}
 use Rattle.cif_form.specs.declared.command.Command.{Command}
-use Rattle.cif_form.specs.declared.command.Command.TheVariants.{Polygon, Box, Round, Wire, Layer, Start, Delete, Call, User, Comment}
+use Rattle.cif_form.specs.declared.command.Command.TheVariants.{Polygon, Box, Round, Wire, Layer, Start, Delete, Call}
+use Rattle.cif_form.specs.declared.command.Command.TheVariants.{User, Comment}
 use Rattle.cif_form.specs.declared.limits.TheConstants.{NUMBER_LIMIT}
 use Rattle.cif_form.specs.Text.{IsShortName, IsBalanced}
 

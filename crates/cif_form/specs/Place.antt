@@ -38,7 +38,8 @@ IsScaled s w z = (pos 0 <ℤ s.b) × (s.b *ℤ z ≡ s.a *ℤ w)
 abbrev pub IsOnAxis : Point → Type 0
 IsOnAxis p = (p.y ≡ pos 0) × (p.x ≢ pos 0) ⊎ (p.x ≡ pos 0) × (p.y ≢ pos 0)
 
--- in half-units, the rectangle from these corners, in units, `across` half-units out to the left and right and `up` below and above
+-- in half-units, the rectangle from these corners, in units, `across` half-units out to the left and right and `up`
+-- below and above
 pub record IsAround (s : Scale) (l : Layer) (low high : Point) (across up : ℤ) (r : Rect) : Type 0 where
   pub layer : r.layer ≡ l
   pub left : IsScaled s (pos 2 *ℤ low.x -ℤ across) r.x0
@@ -101,7 +102,8 @@ placed (m ∷ ms) r = placed ms (moved m r)
 -- The motions of one turn: a move has the scale of the place where the call is written, and a rotation turns the x axis
 -- to the direction of its point.
 abbrev pub IsMotion : Scale → Turn → List Motion → Type 0
-IsMotion s (Move p) ms = (dx dy : ℤ) × IsScaled s (pos 2 *ℤ p.x) dx × IsScaled s (pos 2 *ℤ p.y) dy × (ms ≡ Shift dx dy ∷ [])
+IsMotion s (Move p) ms =
+    (dx dy : ℤ) × IsScaled s (pos 2 *ℤ p.x) dx × IsScaled s (pos 2 *ℤ p.y) dy × (ms ≡ Shift dx dy ∷ [])
 IsMotion s MirrorX ms = ms ≡ NegateX ∷ []
 IsMotion s MirrorY ms = ms ≡ NegateY ∷ []
 IsMotion s (Rotate p) ms = (p.y ≡ pos 0) × (pos 0 <ℤ p.x) × (ms ≡ [])

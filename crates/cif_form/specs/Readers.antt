@@ -1,11 +1,13 @@
 -- A reader of commands that is a function: what it finds at the front of a text, and the rest of the text.
-use Rattle.std.specs.Prelude.{ℕ, zero, suc, ◌+◌, ◌*◌, ◌-◌, ◌==◌, List, [], ◌∷◌, length, ℤ, pos, neg_ℤ, Bool, true, false, not, ◌&&◌, ◌||◌, nat_le, Option, Some, None}
+use Rattle.std.specs.Prelude.{ℕ, zero, suc, ◌+◌, ◌*◌, ◌-◌, ◌==◌, List, [], ◌∷◌, length, ℤ, pos, neg_ℤ, Bool, true}
+use Rattle.std.specs.Prelude.{false, not, ◌&&◌, ◌||◌, nat_le, Option, Some, None}
 use Rattle.mp_base.specs.Token.{is_digit}
 use Rattle.lam_geom.specs.declared.place.Point.{Point}
 use Rattle.cif_form.specs.declared.command.Turn.{Turn}
 use Rattle.cif_form.specs.declared.command.Turn.TheVariants.{Move, MirrorX, MirrorY, Rotate}
 use Rattle.cif_form.specs.declared.command.Command.{Command}
-use Rattle.cif_form.specs.declared.command.Command.TheVariants.{Polygon, Box, Round, Wire, Layer, Start, Finish, Delete, Call, User, Comment}
+use Rattle.cif_form.specs.declared.command.Command.TheVariants.{Polygon, Box, Round, Wire, Layer, Start, Finish, Delete}
+use Rattle.cif_form.specs.declared.command.Command.TheVariants.{Call, User, Comment}
 use Rattle.cif_form.specs.Text.{right}
 
 abbrev pub Reader : Type 0 → Type 0
@@ -66,8 +68,10 @@ natural_from (b ∷ bs) = elim (is_digit b) [ true ↦ Some (digits_from 0 (b �
 
 abbrev pub signed_digits_from : Reader ℤ
 signed_digits_from [] = None
-signed_digits_from (b ∷ bs) = elim (b == 45)
-    [ true ↦ and_then natural_from (gives (λ n. neg_ℤ (pos n))) bs | false ↦ and_then natural_from (gives pos) (b ∷ bs) ]
+signed_digits_from (b ∷ bs) = elim (b == 45) [
+  | true ↦ and_then natural_from (gives (λ n. neg_ℤ (pos n))) bs
+  | false ↦ and_then natural_from (gives pos) (b ∷ bs)
+]
 
 abbrev pub integer_from : Reader ℤ
 integer_from text = and_then natural_from (gives pos) (past text)
@@ -76,7 +80,9 @@ abbrev pub signed_from : Reader ℤ
 signed_from text = signed_digits_from (past text)
 
 abbrev pub point_from : Reader Point
-point_from = and_then signed_from (λ x. and_then separator_from (λ _. and_then signed_from (gives (λ y. record { x = x; y = y }))))
+point_from =
+    and_then signed_from
+    (λ x. and_then separator_from (λ _. and_then signed_from (gives (λ y. record { x = x; y = y }))))
 
 -- behind separators a digit or a `-` follows
 abbrev pub starts : List ℕ → Bool
@@ -109,13 +115,17 @@ path_here text = path_from (length text) text
 
 abbrev pub mirror_from : Reader Turn
 mirror_from [] = None
-mirror_from (b ∷ bs) = elim (b == 88) [ true ↦ Some (MirrorX, bs) | false ↦ elim (b == 89) [ true ↦ Some (MirrorY, bs) | false ↦ None ] ]
+mirror_from (b ∷ bs) =
+    elim (b == 88) [ true ↦ Some (MirrorX, bs) | false ↦ elim (b == 89) [ true ↦ Some (MirrorY, bs) | false ↦ None ] ]
 
 abbrev pub turn_from : Reader Turn
 turn_from [] = None
 turn_from (b ∷ bs) = elim (b == 84) [
   | true ↦ and_then point_from (gives Move) bs
-  | false ↦ elim (b == 82) [ true ↦ and_then point_from (gives Rotate) bs | false ↦ elim (b == 77) [ true ↦ mirror_from (past_blanks bs) | false ↦ None ] ]
+  | false ↦ elim (b == 82) [
+    | true ↦ and_then point_from (gives Rotate) bs
+    | false ↦ elim (b == 77) [ true ↦ mirror_from (past_blanks bs) | false ↦ None ]
+  ]
 ]
 
 -- the turns of a call, at most n, behind a point where one may begin
@@ -193,7 +203,10 @@ abbrev pub definition_from : Reader Command
 definition_from [] = None
 definition_from (b ∷ bs) = elim (b == 83) [
   | true ↦ and_then integer_from start_of bs
-  | false ↦ elim (b == 70) [ true ↦ Some (Finish, bs) | false ↦ elim (b == 68) [ true ↦ and_then integer_from (gives Delete) bs | false ↦ None ] ]
+  | false ↦ elim (b == 70) [
+    | true ↦ Some (Finish, bs)
+    | false ↦ elim (b == 68) [ true ↦ and_then integer_from (gives Delete) bs | false ↦ None ]
+  ]
 ]
 
 abbrev pub layer_named : List ℕ × List ℕ → Option (Command × List ℕ)

@@ -1,5 +1,6 @@
 -- The commands of a file up to its end, or up to the first rule of texts that it breaks.
-use Rattle.std.specs.Prelude.{ℕ, ◌+◌, ◌<◌, ◌≡◌, ◌≢◌, ◌⊎◌, List, [], ◌∷◌, ◌++◌, length, Any, Bool, true, false, Option, Some, None}
+use Rattle.std.specs.Prelude.{ℕ, ◌+◌, ◌<◌, ◌≡◌, ◌≢◌, ◌⊎◌, List, [], ◌∷◌, ◌++◌, length, Any, Bool, true, false, Option}
+use Rattle.std.specs.Prelude.{Some, None}
 use Rattle.cif_form.specs.declared.command.Command.{Command}
 use Rattle.cif_form.specs.declared.command.Command.TheVariants.{Start, Finish, Delete, User}
 use Rattle.cif_form.specs.declared.command.Item.{Item}
@@ -64,16 +65,21 @@ pub data Scans : Bool → ℕ → List ℕ → List Item → TextEnd → Type 0 
       → Scans inside (offset + 1) rest items e → Scans inside offset (b ∷ rest) items e
   nothing : {inside : Bool} {offset : ℕ} {rest : List ℕ} {items : List Item} {e : TextEnd}
       → Scans inside (offset + 1) rest items e → Scans inside offset (59 ∷ rest) items e
-  command : {inside within : Bool} {offset : ℕ} {text rest : List ℕ} {items : List Item} {e : TextEnd} (c : Command) (size : ℕ)
-      → IsReadAs text c size rest → ¬ HasBig c → opens inside c ≡ Some within → Scans within (offset + size) rest items e
+  command : {inside within : Bool} {offset : ℕ} {text rest : List ℕ} {items : List Item} {e : TextEnd} (c : Command)
+      (size : ℕ)
+      → IsReadAs text c size rest → ¬ HasBig c → opens inside c ≡ Some within
+      → Scans within (offset + size) rest items e
       → Scans inside offset text (record { offset = offset; command = c } ∷ items) e
   end : {offset : ℕ} {after : List ℕ} → Blanks after → Scans false offset (69 ∷ after) [] Whole
-  unread : {inside : Bool} {offset : ℕ} {rest : List ℕ} (b : ℕ) → ¬ IsBlank b → b ≢ 59 → b ≢ 69 → ¬ IsReadable (b ∷ rest)
+  unread : {inside : Bool} {offset : ℕ} {rest : List ℕ} (b : ℕ) → ¬ IsBlank b → b ≢ 59 → b ≢ 69
+      → ¬ IsReadable (b ∷ rest)
       → Scans inside offset (b ∷ rest) [] (Broken C1 offset)
   short : {inside : Bool} {offset : ℕ} → Scans inside offset [] [] (Broken C2 offset)
-  big : {inside : Bool} {offset : ℕ} {text : List ℕ} (c : Command) (size : ℕ) (rest : List ℕ) → IsReadAs text c size rest → HasBig c
+  big : {inside : Bool} {offset : ℕ} {text : List ℕ} (c : Command) (size : ℕ) (rest : List ℕ)
+      → IsReadAs text c size rest → HasBig c
       → Scans inside offset text [] (Broken C3 offset)
-  nested : {inside : Bool} {offset : ℕ} {text : List ℕ} (c : Command) (size : ℕ) (rest : List ℕ) → IsReadAs text c size rest → ¬ HasBig c
+  nested : {inside : Bool} {offset : ℕ} {text : List ℕ} (c : Command) (size : ℕ) (rest : List ℕ)
+      → IsReadAs text c size rest → ¬ HasBig c
       → opens inside c ≡ None → Scans inside offset text [] (Broken C4 offset)
   open_end : {offset : ℕ} {after : List ℕ} → Scans true offset (69 ∷ after) [] (Broken C4 offset)
   more : {offset : ℕ} (after rest : List ℕ) (b : ℕ) → Blanks after → ¬ IsBlank b

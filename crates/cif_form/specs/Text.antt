@@ -5,7 +5,8 @@ use Rattle.lam_geom.specs.declared.place.Point.{Point}
 use Rattle.cif_form.specs.declared.command.Turn.{Turn}
 use Rattle.cif_form.specs.declared.command.Turn.TheVariants.{Move, MirrorX, MirrorY, Rotate}
 use Rattle.cif_form.specs.declared.command.Command.{Command}
-use Rattle.cif_form.specs.declared.command.Command.TheVariants.{Polygon, Box, Round, Wire, Layer, Start, Finish, Delete, Call, User, Comment}
+use Rattle.cif_form.specs.declared.command.Command.TheVariants.{Polygon, Box, Round, Wire, Layer, Start, Finish, Delete}
+use Rattle.cif_form.specs.declared.command.Command.TheVariants.{Call, User, Comment}
 use Rattle.cif_form.specs.declared.command.Item.{Item}
 
 -- ---- bytes
@@ -100,7 +101,8 @@ right = record { x = pos 1; y = pos 0 }
 -- the text of a command, up to its semicolon
 abbrev pub Spells : Command → List ℕ → Type 0
 Spells (Polygon path) = Byte 80 ▹ Path path
-Spells (Box long wide center direction) = Byte 66 ▹ Integer long ▹ Separator ▹ Integer wide ▹ Separator ▹ PointText center
+Spells (Box long wide center direction) =
+    Byte 66 ▹ Integer long ▹ Separator ▹ Integer wide ▹ Separator ▹ PointText center
     ▹ Either (direction ≡ right) (Separator ▹ PointText direction)
 Spells (Round diameter center) = Byte 82 ▹ Integer diameter ▹ Separator ▹ PointText center
 Spells (Wire wide path) = Byte 87 ▹ Integer wide ▹ Separator ▹ Path path
@@ -126,8 +128,10 @@ After _ = Semicolon
 -- are commands like others.
 pub data Reads : ℕ → List ℕ → List Item → Type 0 where
   finish : {offset : ℕ} {text blanks : List ℕ} → text ≡ 69 ∷ blanks → Blanks blanks → Reads offset text []
-  nothing : {offset : ℕ} {text rest : List ℕ} {items : List Item} (before semi : List ℕ) → text ≡ before ++ (semi ++ rest)
-      → Blanks before → Semicolon semi → Reads (offset + (length before + length semi)) rest items → Reads offset text items
+  nothing : {offset : ℕ} {text rest : List ℕ} {items : List Item} (before semi : List ℕ)
+      → text ≡ before ++ (semi ++ rest)
+      → Blanks before → Semicolon semi → Reads (offset + (length before + length semi)) rest items
+      → Reads offset text items
   command : {offset : ℕ} {text rest : List ℕ} {items : List Item} (before spelled semi : List ℕ) (c : Command)
       → text ≡ before ++ (spelled ++ (semi ++ rest)) → Blanks before → Spells c spelled → After c semi
       → Reads (offset + (length before + (length spelled + length semi))) rest items

@@ -1,5 +1,6 @@
 -- The walk of a file, command by command: what is drawn, and the first F rule that is broken.
-use Rattle.std.specs.Prelude.{ℕ, ◌+◌, ◌<◌, ◌≡◌, ◌≢◌, ◌⊎◌, List, [], ◌∷◌, ◌++◌, length, All, Contains, filter, map, Option, Some, None, ℤ, pos, ◌*ℤ◌, int_lt}
+use Rattle.std.specs.Prelude.{ℕ, ◌+◌, ◌<◌, ◌≡◌, ◌≢◌, ◌⊎◌, List, [], ◌∷◌, ◌++◌, length, All, Contains, filter, map}
+use Rattle.std.specs.Prelude.{Option, Some, None, ℤ, pos, ◌*ℤ◌, int_lt}
 use Rattle.lam_geom.specs.declared.layer.Layer.{Layer}
 use Rattle.lam_geom.specs.declared.layer.Layer.TheVariants.{ND}
 use Rattle.lam_geom.specs.declared.place.Point.{Point}
@@ -9,10 +10,12 @@ use Rattle.lam_geom.specs.Moves.{IsNear, IsNearRect}
 use Rattle.cif_form.specs.declared.command.Turn.TheVariants.{Move, Rotate}
 use Rattle.cif_form.specs.declared.command.Command.{Command}
 use Rattle.cif_form.specs.declared.command.Command.TheVariants as commands
-use Rattle.cif_form.specs.declared.command.Command.TheVariants.{Polygon, Box, Round, Wire, Start, Finish, Delete, Call, User, Comment}
+use Rattle.cif_form.specs.declared.command.Command.TheVariants.{Polygon, Box, Round, Wire, Start, Finish, Delete, Call}
+use Rattle.cif_form.specs.declared.command.Command.TheVariants.{User, Comment}
 use Rattle.cif_form.specs.declared.command.Item.{Item}
 use Rattle.cif_form.specs.declared.limits.TheConstants.{WALK_LIMIT}
-use Rattle.cif_form.specs.Place.{Scale, IsScale, unit, IsScaled, IsOnAxis, segments, HasEdges, Motion, placed, AreMotions, layer_name}
+use Rattle.cif_form.specs.Place.{Scale, IsScale, unit, IsScaled, IsOnAxis, segments, HasEdges, Motion, placed}
+use Rattle.cif_form.specs.Place.{AreMotions, layer_name}
 use Rattle.cif_form.specs.Labels.{IsLabelText, IsNoLabel}
 use Rattle.cif_form.specs.Expansion.{Definition, Stands, IsInside, item_at}
 
@@ -56,8 +59,10 @@ pub record Visits (s : State) (v : Visit) : Type 0 where
 
 -- ---- the rules
 
--- F1 a call of a number that no definition has, F2 of one that is being expanded, F3 a direction off the axes, F4 a scale with
--- a 0 or an edge or move that isn't whole in half-units, F5 a round flash, F6 a polygon, F7 too many walked items, F8 an edge or a
+-- F1 a call of a number that no definition has, F2 of one that is being expanded, F3 a direction off the axes, F4 a
+-- scale with
+-- a 0 or an edge or move that isn't whole in half-units, F5 a round flash, F6 a polygon, F7 too many walked items, F8
+-- an edge or a
 -- move over 2^40 half-units in size, F9 a shape with no layer set, F10 a layer that nMOS lacks
 pub data DrawRule : Type 0 where
   F1 : DrawRule
@@ -163,7 +168,14 @@ abbrev pub within : Visit → Definition → List Motion → State
 within v d ms = record {
   definitions = v.definitions;
   count = v.count + 1;
-  frames = record { symbol = Some d.number; scale = d.scale; layer = None; place = λ r. v.frame.place (placed ms r); left = d.body }
+  frames =
+      record {
+        symbol = Some d.number;
+        scale = d.scale;
+        layer = None;
+        place = λ r. v.frame.place (placed ms r);
+        left = d.body;
+      }
       ∷ record v.frame { left = v.after } ∷ v.outer;
 }
 
@@ -177,7 +189,8 @@ at_top v ds items = record {
 
 -- a shape of the frame's layer is drawn where the frame is placed
 abbrev pub StepsByShape : Visit → List Rect → State → Type 0
-StepsByShape v rs t = (l : Layer) × (qs : List Rect) × (v.frame.layer ≡ Some l) × HasEdges v.frame.scale l v.item.command qs
+StepsByShape v rs t =
+    (l : Layer) × (qs : List Rect) × (v.frame.layer ≡ Some l) × HasEdges v.frame.scale l v.item.command qs
     × (rs ≡ map v.frame.place qs) × (t ≡ onward v)
 
 abbrev pub IsLabelAt : Visit → ℕ → List ℕ → FlatLabel → Type 0
@@ -192,15 +205,19 @@ StepsByUser v digit text ls = ((label : FlatLabel) × IsLabelAt v digit text lab
 abbrev pub StepsBy : Visit → Command → List Rect → List FlatLabel → State → Type 0
 StepsBy v (Box long wide center direction) rs ls t = StepsByShape v rs t × (ls ≡ [])
 StepsBy v (Wire wide path) rs ls t = StepsByShape v rs t × (ls ≡ [])
-StepsBy v (commands.Layer name) rs ls t = (l : Layer) × (name ≡ layer_name l) × (rs ≡ []) × (ls ≡ []) × (t ≡ on_layer v (Some l))
-StepsBy v (Call n ts) rs ls t = (d : Definition) × (ms : List Motion) × Stands v.definitions n d × AreMotions v.frame.scale ts ms
+StepsBy v (commands.Layer name) rs ls t =
+    (l : Layer) × (name ≡ layer_name l) × (rs ≡ []) × (ls ≡ []) × (t ≡ on_layer v (Some l))
+StepsBy v (Call n ts) rs ls t =
+    (d : Definition) × (ms : List Motion) × Stands v.definitions n d × AreMotions v.frame.scale ts ms
     × (rs ≡ []) × (ls ≡ []) × (t ≡ within v d ms)
 StepsBy v (User digit text) rs ls t = StepsByUser v digit text ls × (rs ≡ []) × (t ≡ onward v)
 StepsBy v (Comment text) rs ls t = (rs ≡ []) × (ls ≡ []) × (t ≡ onward v)
-StepsBy v (Start n a b) rs ls t = (body rest : List Item) × (finish : ℕ) × (v.outer ≡ []) × All (λ i. IsInside i.command) body
+StepsBy v (Start n a b) rs ls t =
+    (body rest : List Item) × (finish : ℕ) × (v.outer ≡ []) × All (λ i. IsInside i.command) body
     × (v.after ≡ body ++ (item_at finish Finish ∷ rest)) × (rs ≡ []) × (ls ≡ [])
     × (t ≡ at_top v (record { number = n; scale = record { a = a; b = b }; body = body } ∷ v.definitions) rest)
-StepsBy v (Delete n) rs ls t = (v.outer ≡ []) × (rs ≡ []) × (ls ≡ []) × (t ≡ at_top v (filter (λ d. int_lt d.number n) v.definitions) v.after)
+StepsBy v (Delete n) rs ls t =
+    (v.outer ≡ []) × (rs ≡ []) × (ls ≡ []) × (t ≡ at_top v (filter (λ d. int_lt d.number n) v.definitions) v.after)
 StepsBy v _ rs ls t = ⊥
 
 abbrev pub Steps : Visit → List Rect → List FlatLabel → State → Type 0
@@ -214,10 +231,13 @@ pub data WalkEnd : Type 0 where
 -- What is drawn from a state on, its labels, and how the walk ends.
 pub data Walks : State → List Rect → List FlatLabel → WalkEnd → Type 0 where
   done : {s : State} → s.frames ≡ [] → Walks s [] [] Whole
-  back : {s : State} {rs : List Rect} {ls : List FlatLabel} {e : WalkEnd} (f : Frame) (fs : List Frame) → s.frames ≡ f ∷ fs → f.left ≡ []
+  back : {s : State} {rs : List Rect} {ls : List FlatLabel} {e : WalkEnd} (f : Frame) (fs : List Frame)
+      → s.frames ≡ f ∷ fs → f.left ≡ []
       → Walks (record s { frames = fs }) rs ls e → Walks s rs ls e
-  broken : {s : State} (v : Visit) (rule : DrawRule) → Visits s v → BreaksFirst v rule → Walks s [] [] (Broken rule v.item.offset)
-  step : {s : State} {rs : List Rect} {ls : List FlatLabel} {e : WalkEnd} (v : Visit) (qs : List Rect) (ms : List FlatLabel) (t : State)
+  broken : {s : State} (v : Visit) (rule : DrawRule) → Visits s v → BreaksFirst v rule
+      → Walks s [] [] (Broken rule v.item.offset)
+  step : {s : State} {rs : List Rect} {ls : List FlatLabel} {e : WalkEnd} (v : Visit) (qs : List Rect)
+      (ms : List FlatLabel) (t : State)
       → Visits s v → BreaksNone v → Steps v qs ms t → Walks t rs ls e → Walks s (qs ++ rs) (ms ++ ls) e
 
 -- the walk of a file

@@ -1,11 +1,13 @@
 -- What a writer of CIF writes.
-use Rattle.std.specs.Prelude.{ℕ, ◌+◌, ◌&&◌, Bool, false, List, [], ◌∷◌, ◌++◌, length, ℤ, pos, negsuc, codes, ◌==◌, if◌then◌else◌}
+use Rattle.std.specs.Prelude.{ℕ, ◌+◌, ◌&&◌, Bool, false, List, [], ◌∷◌, ◌++◌, length, ℤ, pos, negsuc, codes, ◌==◌}
+use Rattle.std.specs.Prelude.{if◌then◌else◌}
 use Rattle.std.specs.Fmt.{signed_decimal}
 use Rattle.lam_geom.specs.declared.place.Point.{Point}
 use Rattle.cif_form.specs.declared.command.Turn.{Turn}
 use Rattle.cif_form.specs.declared.command.Turn.TheVariants.{Move, MirrorX, MirrorY, Rotate}
 use Rattle.cif_form.specs.declared.command.Command.{Command}
-use Rattle.cif_form.specs.declared.command.Command.TheVariants.{Polygon, Box, Round, Wire, Layer, Start, Finish, Delete, Call, User, Comment}
+use Rattle.cif_form.specs.declared.command.Command.TheVariants.{Polygon, Box, Round, Wire, Layer, Start, Finish, Delete}
+use Rattle.cif_form.specs.declared.command.Command.TheVariants.{Call, User, Comment}
 use Rattle.cif_form.specs.declared.command.Item.{Item}
 
 abbrev pub space : List ℕ
@@ -41,7 +43,8 @@ direction_text p = if is_number p.x 1 && is_number p.y 0 then [] else space ++ p
 abbrev pub text_of : Command → List ℕ
 text_of (Polygon path) = codes "P" ++ path_text path
 text_of (Box long wide center direction) = codes "B"
-    ++ ((space ++ signed_decimal long) ++ (space ++ (signed_decimal wide ++ (space ++ (point_text center ++ direction_text direction)))))
+    ++ ((space ++ signed_decimal long)
+    ++ (space ++ (signed_decimal wide ++ (space ++ (point_text center ++ direction_text direction)))))
 text_of (Round diameter center) = codes "R" ++ ((space ++ signed_decimal diameter) ++ (space ++ point_text center))
 text_of (Wire wide path) = codes "W" ++ ((space ++ signed_decimal wide) ++ path_text path)
 text_of (Layer name) = codes "L" ++ (space ++ name)

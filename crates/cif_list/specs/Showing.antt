@@ -4,7 +4,8 @@ use Rattle.cif_form.specs.declared.command.Command.{Command}
 use Rattle.cif_form.specs.declared.command.Command.TheVariants as commands
 use Rattle.cif_form.specs.declared.command.Item.{Item}
 use Rattle.cif_list.specs.declared.view.CommandView.{CommandView}
-use Rattle.cif_list.specs.declared.view.CommandView.TheVariants.{Polygon, Box, Round, Wire, Layer, Start, Finish, Delete, Call, User, Comment}
+use Rattle.cif_list.specs.declared.view.CommandView.TheVariants.{Polygon, Box, Round, Wire, Layer, Start, Finish}
+use Rattle.cif_list.specs.declared.view.CommandView.TheVariants.{Delete, Call, User, Comment}
 use Rattle.cif_list.specs.declared.view.ItemView.{ItemView}
 use Rattle.cif_list.specs.Turning.{wide_turn}
 

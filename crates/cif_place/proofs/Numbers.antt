@@ -1,12 +1,11 @@
 -- Bounds of products, and what a division leaves.
-use Rattle.std.proofs.Common.{ℕ, suc, ◌≡◌, ◌*◌, ◌%◌, ◌^◌, ◌<◌, ◌≤◌, sym, ◌∙◌, ap, arith, inl, inr, to_z, of_z, w64}
+use Rattle.std.proofs.Common.{ℕ, suc, ◌≡◌, ◌*◌, ◌%◌, ◌^◌, ◌≤◌, sym, ◌∙◌, ap, arith, to_z, of_z, w64}
 use mir.Syntax.{w128}
 use Rattle.std.specs.Prelude.{ℤ, pos, negsuc, neg_ℤ, ◌+ℤ◌, ◌-ℤ◌, ◌*ℤ◌, ◌<ℤ◌}
 use Rattle.std.specs.Int.RustNames.{unsigned_abs, int_rem}
 use Rattle.std.proofs.lemmas.Int.{ints, unsigned_abs-mul}
-use Rattle.std.proofs.lemmas.Bool.{cases_lt}
-use lib.IntN.{pos-*ℤ-negsuc}
 use Rattle.std.proofs.Math.Nat.{mul-mod_right}
+use Rattle.std.proofs.lemmas.Nat.{mul-le}
 use Rattle.cif_form.specs.Place.{Scale, IsScaled}
 use Rattle.cif_place.specs.Placing.{IsWithin, IsShort}
 
@@ -18,13 +17,10 @@ within_abs : (n : ℕ) (z : ℤ) → unsigned_abs z ≤ n → IsWithin n z
 within_abs n (pos k) h = (omega (arith, ints, h), omega (arith, ints, h))
 within_abs n (negsuc k) h = (omega (arith, ints, h), omega (arith, ints, h))
 
-times_le : (a b m n : ℕ) → a ≤ m → b ≤ n → a * b ≤ m * n
-times_le a b m n h k = grind arith
-
 pub within_times : (m n : ℕ) (a b : ℤ) → IsWithin m a → IsWithin n b → IsWithin (m * n) (a *ℤ b)
 within_times m n a b h k =
     let e = unsigned_abs-mul a b in
-    let l = times_le (unsigned_abs a) (unsigned_abs b) m n (abs_within m a h) (abs_within n b k) in
+    let l = mul-le (unsigned_abs a) (unsigned_abs b) m n (abs_within m a h) (abs_within n b k) in
     within_abs (m * n) (a *ℤ b) (omega (arith, e, l))
 
 pub within_more : (m n : ℕ) (z : ℤ) → m ≤ n → IsWithin m z → IsWithin n z
@@ -47,15 +43,19 @@ kept_64 z h = omega (arith, ints, h.0, h.1)
 short_kept : (z : ℤ) → IsShort z → to_z w64 (of_z w64 z) ≡ z
 short_kept z h = omega (arith, ints, h.0, h.1)
 
-pub less_kept : (r z w : ℤ) → IsWithin (2 ^ 33) r → IsShort z → IsShort w → r ≡ pos 2 *ℤ to_z w64 (of_z w64 z) -ℤ to_z w64 (of_z w64 w)
+pub less_kept : (r z w : ℤ) → IsWithin (2 ^ 33) r → IsShort z → IsShort w
+    → r ≡ pos 2 *ℤ to_z w64 (of_z w64 z) -ℤ to_z w64 (of_z w64 w)
     → to_z w64 (of_z w64 r) ≡ pos 2 *ℤ z -ℤ w
 less_kept r z w l h k e =
-    kept_64 r l ∙ e ∙ ap (λ y. pos 2 *ℤ y -ℤ to_z w64 (of_z w64 w)) (short_kept z h) ∙ ap (λ y. pos 2 *ℤ z -ℤ y) (short_kept w k)
+    kept_64 r l ∙ e ∙ ap (λ y. pos 2 *ℤ y -ℤ to_z w64 (of_z w64 w)) (short_kept z h)
+    ∙ ap (λ y. pos 2 *ℤ z -ℤ y) (short_kept w k)
 
-pub more_kept : (r z w : ℤ) → IsWithin (2 ^ 33) r → IsShort z → IsShort w → r ≡ pos 2 *ℤ to_z w64 (of_z w64 z) +ℤ to_z w64 (of_z w64 w)
+pub more_kept : (r z w : ℤ) → IsWithin (2 ^ 33) r → IsShort z → IsShort w
+    → r ≡ pos 2 *ℤ to_z w64 (of_z w64 z) +ℤ to_z w64 (of_z w64 w)
     → to_z w64 (of_z w64 r) ≡ pos 2 *ℤ z +ℤ w
 more_kept r z w l h k e =
-    kept_64 r l ∙ e ∙ ap (λ y. pos 2 *ℤ y +ℤ to_z w64 (of_z w64 w)) (short_kept z h) ∙ ap (λ y. pos 2 *ℤ z +ℤ y) (short_kept w k)
+    kept_64 r l ∙ e ∙ ap (λ y. pos 2 *ℤ y +ℤ to_z w64 (of_z w64 w)) (short_kept z h)
+    ∙ ap (λ y. pos 2 *ℤ z +ℤ y) (short_kept w k)
 
 pub kept_128 : (z : ℤ) → IsWithin (2 ^ 64) z → to_z w128 (of_z w128 z) ≡ z
 kept_128 z h = omega (arith, ints, h.0, h.1)
@@ -64,34 +64,3 @@ pub scaled_same : (s : Scale) (w v y z : ℤ) → w ≡ v → z ≡ y → IsScal
 scaled_same s w v y z e f h = (h.0, ap (λ k. s.b *ℤ k) f ∙ h.1 ∙ ap (λ k. s.a *ℤ k) e)
 
 -- ---- a scaled number is determined
-
-below_times : (b x y : ℕ) → 0 < b → x < y → b * x < b * y
-below_times b x y h k = grind arith
-
-cancel_nat : (b x y : ℕ) → 0 < b → b * x ≡ b * y → x ≡ y
-cancel_nat b x y h e = elim (cases_lt x y) [
-  | inl l ↦ (let k = below_times b x y h l in absurd (omega arith))
-  | inr l ↦ elim (cases_lt y x) [ inl m ↦ (let k = below_times b y x h m in absurd (omega arith)) | inr m ↦ omega arith ]
-]
-
-cancel : (b : ℕ) (z v : ℤ) → 0 < b → pos b *ℤ z ≡ pos b *ℤ v → z ≡ v
-cancel b (pos x) (pos y) h e = ap pos (cancel_nat b x y h (omega (arith, ints)))
-cancel b (negsuc x) (negsuc y) h e =
-    let m : neg_ℤ (pos (b * suc x)) ≡ neg_ℤ (pos (b * suc y)) = sym (pos-*ℤ-negsuc b x) ∙ e ∙ pos-*ℤ-negsuc b y in
-    let k : suc x ≡ suc y = cancel_nat b (suc x) (suc y) h (omega (arith, ints)) in
-    ap negsuc (omega arith)
-cancel b (pos x) (negsuc y) h e =
-    let m : pos (b * x) ≡ neg_ℤ (pos (b * suc y)) = e ∙ pos-*ℤ-negsuc b y in
-    let k = below_times b 0 (suc y) h (omega arith) in
-    absurd (omega (arith, ints))
-cancel b (negsuc x) (pos y) h e =
-    let m : neg_ℤ (pos (b * suc x)) ≡ pos (b * y) = sym (pos-*ℤ-negsuc b x) ∙ e in
-    let k = below_times b 0 (suc x) h (omega arith) in
-    absurd (omega (arith, ints))
-
-by_scale : (b z v : ℤ) → pos 0 <ℤ b → b *ℤ z ≡ b *ℤ v → z ≡ v
-by_scale (pos b) z v h e = cancel b z v (omega (arith, ints)) e
-by_scale (negsuc b) z v h e = absurd (omega (arith, ints))
-
-pub one_scaled : (s : Scale) (w z v : ℤ) → IsScaled s w z → IsScaled s w v → z ≡ v
-one_scaled s w z v h k = by_scale s.b z v h.0 (h.1 ∙ sym k.1)

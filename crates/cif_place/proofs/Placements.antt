@@ -4,9 +4,11 @@ use Rattle.std.specs.Prelude.{ℤ, ◌+ℤ◌}
 use Rattle.std.proofs.lemmas.Int.{ints}
 use Rattle.lam_geom.specs.declared.layer.Layer.{Layer}
 use Rattle.lam_geom.specs.declared.rect.Rect.{Rect}
+use Rattle.cif_form.proofs.OnePlace.{same_rect}
 use Rattle.cif_place.specs.declared.edges.Edges.{Edges}
 use Rattle.cif_place.specs.declared.placement.Placement.{Placement}
-use Rattle.cif_place.specs.Placing.{IsWithin, IsHeld, AreSmall, rect_of, exchanged_if, either, flipped, low_end, high_end, turned_if, laid, place_of, switched_if, after}
+use Rattle.cif_place.specs.Placing.{IsWithin, IsHeld, AreSmall, rect_of, exchanged_if, either, flipped, low_end}
+use Rattle.cif_place.specs.Placing.{high_end, turned_if, laid, place_of, switched_if, after}
 
 pub small_exchanged : (b : Bool) (e : Edges) → AreSmall e → AreSmall (exchanged_if b e)
 small_exchanged true e h = record { left = h.bottom; bottom = h.left; right = h.top; top = h.right }
@@ -16,31 +18,33 @@ pub rect_exchanged : (b : Bool) (l : Layer) (e : Edges) → rect_of l (exchanged
 rect_exchanged true l e = refl
 rect_exchanged false l e = refl
 
-pub same_rect : (l m : Layer) (a b c d e f g h : ℤ) → l ≡ m → a ≡ e → b ≡ f → c ≡ g → d ≡ h
-    → (let r : Rect = record { layer = l; x0 = a; y0 = b; x1 = c; y1 = d } in let q : Rect = record { layer = m; x0 = e; y0 = f; x1 = g; y1 = h } in r ≡ q)
-same_rect l m a b c d e f g h p x0 y0 x1 y1 = λ i. record { layer = p i; x0 = x0 i; y0 = y0 i; x1 = x1 i; y1 = y1 i }
-
 -- ---- one placement after another
 
-low_twice : (f g : Bool) (d e a b : ℤ) → low_end (either f g) (d +ℤ flipped f e) a b ≡ low_end f d (low_end g e a b) (high_end g e a b)
+low_twice : (f g : Bool) (d e a b : ℤ)
+    → low_end (either f g) (d +ℤ flipped f e) a b ≡ low_end f d (low_end g e a b) (high_end g e a b)
 low_twice true true d e a b = omega (arith, ints)
 low_twice true false d e a b = omega (arith, ints)
 low_twice false true d e a b = omega (arith, ints)
 low_twice false false d e a b = omega (arith, ints)
 
-high_twice : (f g : Bool) (d e a b : ℤ) → high_end (either f g) (d +ℤ flipped f e) a b ≡ high_end f d (low_end g e a b) (high_end g e a b)
+high_twice : (f g : Bool) (d e a b : ℤ)
+    → high_end (either f g) (d +ℤ flipped f e) a b ≡ high_end f d (low_end g e a b) (high_end g e a b)
 high_twice true true d e a b = omega (arith, ints)
 high_twice true false d e a b = omega (arith, ints)
 high_twice false true d e a b = omega (arith, ints)
 high_twice false false d e a b = omega (arith, ints)
 
 laid_twice : (fx fy gx gy : Bool) (dx dy ex ey : ℤ) (r : Rect)
-    → laid (either fx gx) (either fy gy) (dx +ℤ flipped fx ex) (dy +ℤ flipped fy ey) r ≡ laid fx fy dx dy (laid gx gy ex ey r)
-laid_twice fx fy gx gy dx dy ex ey r = same_rect _ _ _ _ _ _ _ _ _ _ refl (low_twice fx gx dx ex r.x0 r.x1) (low_twice fy gy dy ey r.y0 r.y1)
+    → laid (either fx gx) (either fy gy) (dx +ℤ flipped fx ex) (dy +ℤ flipped fy ey) r
+    ≡ laid fx fy dx dy (laid gx gy ex ey r)
+laid_twice fx fy gx gy dx dy ex ey r =
+    same_rect _ _ _ _ _ _ _ _ _ _ refl (low_twice fx gx dx ex r.x0 r.x1) (low_twice fy gy dy ey r.y0 r.y1)
     (high_twice fx gx dx ex r.x0 r.x1) (high_twice fy gy dy ey r.y0 r.y1)
 
 turned_laid : (s t : Bool) (q : Placement) (r : Rect)
-    → (let e = switched_if s q in laid e.flips_x e.flips_y e.dx e.dy (turned_if (either s t) r) ≡ turned_if s (laid q.flips_x q.flips_y q.dx q.dy (turned_if t r)))
+    → (let e = switched_if s q in
+    laid e.flips_x e.flips_y e.dx e.dy (turned_if (either s t) r)
+    ≡ turned_if s (laid q.flips_x q.flips_y q.dx q.dy (turned_if t r)))
 turned_laid true true q r = refl
 turned_laid true false q r = refl
 turned_laid false true q r = refl

@@ -23,18 +23,21 @@ IsAroundCenter ratio extent center e =
 -- there are none
 abbrev pub IsUneven : Ratio → Extent → Point → BoxFault → Type 0
 IsUneven ratio extent center fault =
-    (fault ≡ faults.Uneven) × ((l : Layer) (r : Rect) → ¬ IsAround (scale_of ratio) l center center extent.across extent.up r)
+    (fault ≡ faults.Uneven)
+    × ((l : Layer) (r : Rect) → ¬ IsAround (scale_of ratio) l center center extent.across extent.up r)
 
 -- whatever the layer is, these are the edges of the box
 abbrev pub IsBoxEdges : Ratio → Extent → Point → Point → Edges → Type 0
 IsBoxEdges ratio extent center direction e =
-    IsOnAxis direction × ((l : Layer) → IsBox (scale_of ratio) l extent.across extent.up center direction (rect_of l e)) × AreSmall e
+    IsOnAxis direction
+    × ((l : Layer) → IsBox (scale_of ratio) l extent.across extent.up center direction (rect_of l e)) × AreSmall e
 
 -- the box is off the axes, or has no edges
 abbrev pub IsBoxFault : Ratio → Extent → Point → Point → BoxFault → Type 0
 IsBoxFault ratio extent center direction faults.Askew = ¬ IsOnAxis direction
 IsBoxFault ratio extent center direction faults.Uneven =
-    IsOnAxis direction × ((l : Layer) (r : Rect) → ¬ IsBox (scale_of ratio) l extent.across extent.up center direction r)
+    IsOnAxis direction
+    × ((l : Layer) (r : Rect) → ¬ IsBox (scale_of ratio) l extent.across extent.up center direction r)
 
 -- along an axis
 abbrev pub IsStraight : Point × Point → Type 0
@@ -52,7 +55,8 @@ IsFarAt p e = (l : Layer) → ¬ IsNearRect (place_of p (rect_of l e))
 
 -- the rectangle was drawn if it is near; the answer is that it is, and others are
 abbrev pub IsDrawnIfNear : Bool → Layer → Edges → List Rect → List Rect → Bool → Type 0
-IsDrawnIfNear others layer e old new true = (others ≡ true) × ((l : Layer) → IsNearRect (rect_of l e)) × (new ≡ old ++ (rect_of layer e ∷ []))
+IsDrawnIfNear others layer e old new true =
+    (others ≡ true) × ((l : Layer) → IsNearRect (rect_of l e)) × (new ≡ old ++ (rect_of layer e ∷ []))
 IsDrawnIfNear others layer e old new false = (others ≡ false) ⊎ ((l : Layer) → ¬ IsNearRect (rect_of l e))
 
 -- whatever the layer is, the segments of the wire have these edges
@@ -64,8 +68,10 @@ drawn p layer es = map (λ e. place_of p (rect_of layer e)) es
 
 abbrev pub IsWired : Scale → Placement → Layer → ℤ → List (Point × Point) → List Rect → List Rect → Wired → Type 0
 IsWired s p layer wide segs old new Uneven = (l : Layer) (rs : List Rect) → ¬ AreSegments s l wide segs rs
-IsWired s p layer wide segs old new Far = (es : List Edges) × HaveEdges s wide segs es × ((e : Edges) × Contains es e × IsFarAt p e)
-IsWired s p layer wide segs old new Drawn = (es : List Edges) × HaveEdges s wide segs es × All (IsNearAt p) es × (new ≡ old ++ drawn p layer es)
+IsWired s p layer wide segs old new Far =
+    (es : List Edges) × HaveEdges s wide segs es × ((e : Edges) × Contains es e × IsFarAt p e)
+IsWired s p layer wide segs old new Drawn =
+    (es : List Edges) × HaveEdges s wide segs es × All (IsNearAt p) es × (new ≡ old ++ drawn p layer es)
 
 -- what was drawn of a wire so far
 abbrev pub IsWiredSoFar : Scale → Placement → Layer → ℤ → List (Point × Point) → List Rect → List Rect → Bool → Type 0

@@ -58,7 +58,8 @@ joined (Placed p) b = b
 -- a shift of this size, if it is near
 abbrev pub IsMoved : ℤ → ℤ → Turned → Type 0
 IsMoved dx dy Far = ¬ IsNear dx ⊎ ¬ IsNear dy
-IsMoved dx dy (Placed p) = (p ≡ record { swaps = false; flips_x = false; flips_y = false; dx = dx; dy = dy }) × IsNear dx × IsNear dy
+IsMoved dx dy (Placed p) =
+    (p ≡ record { swaps = false; flips_x = false; flips_y = false; dx = dx; dy = dy }) × IsNear dx × IsNear dy
 IsMoved dx dy _ = ⊥
 
 -- a turn without a shift

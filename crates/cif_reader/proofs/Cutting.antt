@@ -1,6 +1,7 @@
 -- Commands with their numbers cut: they fit where the numbers weren't too big.
-use Rattle.std.proofs.Common.{◌≡◌, ℕ, zero, suc, ◌^◌, ◌<◌, ◌≤◌, ◌⊎◌, inl, inr, min, map, List, [], ◌∷◌, ◌++◌, refl, sym, ap, subst, arith, All}
-use Rattle.std.specs.Prelude.{ℤ, pos, negsuc, neg_ℤ, nat_abs, ◌≤ℤ◌, Any}
+use Rattle.std.proofs.Common.{◌≡◌, ℕ, zero, suc, ◌^◌, ◌<◌, ◌≤◌, ◌⊎◌, inl, inr, min, map, List, [], ◌∷◌, ◌++◌, refl, sym}
+use Rattle.std.proofs.Common.{ap, subst, arith, All}
+use Rattle.std.specs.Prelude.{ℤ, pos, negsuc, neg_ℤ, nat_abs, Any}
 use Rattle.std.proofs.lemmas.Bool.{cases_lt}
 use Rattle.std.proofs.lemmas.List.Elements.{All-nil, All-cons, All-head, All-tail, All-append, All-get_or}
 use Rattle.std.specs.List.{flat_map}
@@ -8,9 +9,11 @@ use Rattle.lam_geom.specs.declared.place.Point.{Point}
 use Rattle.cif_form.specs.declared.command.Turn.{Turn}
 use Rattle.cif_form.specs.declared.command.Turn.TheVariants.{Move, MirrorX, MirrorY, Rotate}
 use Rattle.cif_form.specs.declared.command.Command.{Command}
-use Rattle.cif_form.specs.declared.command.Command.TheVariants.{Polygon, Box, Round, Wire, Layer, Start, Finish, Delete, Call, User, Comment}
+use Rattle.cif_form.specs.declared.command.Command.TheVariants.{Polygon, Box, Round, Wire, Layer, Start, Finish, Delete}
+use Rattle.cif_form.specs.declared.command.Command.TheVariants.{Call, User, Comment}
 use Rattle.cif_form.specs.Fits.{IsSmall, point_numbers, turn_numbers, unsigned_numbers, signed_numbers, Fits}
 use Rattle.cif_form.specs.Scans.{HasBig}
+use Rattle.cif_form.proofs.Fitting.{head, tail, front_part, back_part, IsUnsigned}
 use Rattle.cif_reader.specs.Capped.{cut, cut_number, cut_point, cut_turn, cut_command}
 
 -- ---- numbers
@@ -30,7 +33,8 @@ was_small (negsuc n) h = omega (arith, h, size_of_minus (cut (suc n)))
 all_were_small : (zs : List ℤ) → All IsSmall (map cut_number zs) → All IsSmall zs
 all_were_small [] h = All-nil IsSmall
 all_were_small (z ∷ zs) h =
-    All-cons IsSmall z zs (was_small z (All-head IsSmall (cut_number z) (map cut_number zs) h)) (all_were_small zs (All-tail IsSmall (cut_number z) (map cut_number zs) h))
+    All-cons IsSmall z zs (was_small z (All-head IsSmall (cut_number z) (map cut_number zs) h))
+    (all_were_small zs (All-tail IsSmall (cut_number z) (map cut_number zs) h))
 
 abbrev pub IsBig : ℤ → Type 0
 IsBig z = ¬ IsSmall z
@@ -42,7 +46,8 @@ pub small_or_big : (zs : List ℤ) → All IsSmall zs ⊎ Any IsBig zs
 small_or_big [] = inl (All-nil IsSmall)
 small_or_big (z ∷ zs) = at (cases_lt (nat_abs z) (2 ^ 31)) (small_or_big zs)
   where
-    at : (nat_abs z < 2 ^ 31) ⊎ (2 ^ 31 ≤ nat_abs z) → All IsSmall zs ⊎ Any IsBig zs → All IsSmall (z ∷ zs) ⊎ Any IsBig (z ∷ zs)
+    at : (nat_abs z < 2 ^ 31) ⊎ (2 ^ 31 ≤ nat_abs z) → All IsSmall zs ⊎ Any IsBig zs
+        → All IsSmall (z ∷ zs) ⊎ Any IsBig (z ∷ zs)
     at (inr h) r = inr (0, z, omega arith, refl, (λ k. omega (arith, h, k)))
     at (inl h) (inl r) = inl (All-cons IsSmall z zs h r)
     at (inl h) (inr r) = inr (big_later z zs r)
@@ -94,12 +99,6 @@ signed_cut (Comment words) = refl
 point_same : (p : Point) → IsSmall p.x → IsSmall p.y → cut_point p ≡ p
 point_same p h k = λ i. record { x = cut_small p.x h i; y = cut_small p.y k i }
 
-head : (z : ℤ) (zs : List ℤ) → All IsSmall (z ∷ zs) → IsSmall z
-head z zs h = All-head IsSmall z zs h
-
-tail : (z : ℤ) (zs : List ℤ) → All IsSmall (z ∷ zs) → All IsSmall zs
-tail z zs h = All-tail IsSmall z zs h
-
 front_point : (p : Point) (zs : List ℤ) → All IsSmall (p.x ∷ p.y ∷ zs) → cut_point p ≡ p
 front_point p zs h = point_same p (head p.x (p.y ∷ zs) h) (head p.y zs (tail p.x (p.y ∷ zs) h))
 
@@ -108,14 +107,17 @@ behind_point p zs h = tail p.y zs (tail p.x (p.y ∷ zs) h)
 
 path_same : (ps : List Point) → All IsSmall (flat_map point_numbers ps) → map cut_point ps ≡ ps
 path_same [] h = refl
-path_same (p ∷ ps) h = let zs = flat_map point_numbers ps in λ i. front_point p zs h i ∷ path_same ps (behind_point p zs h) i
+path_same (p ∷ ps) h = let zs = flat_map point_numbers ps in
+    λ i. front_point p zs h i ∷ path_same ps (behind_point p zs h) i
 
 turns_same : (ts : List Turn) → All IsSmall (flat_map turn_numbers ts) → map cut_turn ts ≡ ts
 turns_same [] h = refl
-turns_same (Move p ∷ ts) h = let zs = flat_map turn_numbers ts in λ i. Move (front_point p zs h i) ∷ turns_same ts (behind_point p zs h) i
+turns_same (Move p ∷ ts) h = let zs = flat_map turn_numbers ts in
+    λ i. Move (front_point p zs h i) ∷ turns_same ts (behind_point p zs h) i
 turns_same (MirrorX ∷ ts) h = ap (λ t. MirrorX ∷ t) (turns_same ts h)
 turns_same (MirrorY ∷ ts) h = ap (λ t. MirrorY ∷ t) (turns_same ts h)
-turns_same (Rotate p ∷ ts) h = let zs = flat_map turn_numbers ts in λ i. Rotate (front_point p zs h i) ∷ turns_same ts (behind_point p zs h) i
+turns_same (Rotate p ∷ ts) h = let zs = flat_map turn_numbers ts in
+    λ i. Rotate (front_point p zs h i) ∷ turns_same ts (behind_point p zs h) i
 
 command_same : (c : Command) → All IsSmall (unsigned_numbers c) → All IsSmall (signed_numbers c) → cut_command c ≡ c
 command_same (Polygon ps) h k = ap (λ t. Polygon t) (path_same ps k)
@@ -142,35 +144,31 @@ command_same (Comment words) h k = refl
 
 -- ---- what fits
 
-front_part : (xs ys : List ℤ) → All IsSmall (xs ++ ys) → All IsSmall xs
-front_part [] ys h = All-nil IsSmall
-front_part (x ∷ xs) ys h = All-cons IsSmall x xs (head x (xs ++ ys) h) (front_part xs ys (tail x (xs ++ ys) h))
-
-back_part : (xs ys : List ℤ) → All IsSmall (xs ++ ys) → All IsSmall ys
-back_part [] ys h = h
-back_part (x ∷ xs) ys h = back_part xs ys (tail x (xs ++ ys) h)
-
-abbrev IsUnsigned : ℤ → Type 0
-IsUnsigned z = (pos 0 ≤ℤ z) × IsSmall z
-
 small_of_unsigned : (zs : List ℤ) → All IsUnsigned zs → All IsSmall zs
 small_of_unsigned [] h = All-nil IsSmall
-small_of_unsigned (z ∷ zs) h = All-cons IsSmall z zs (All-head IsUnsigned z zs h).1 (small_of_unsigned zs (All-tail IsUnsigned z zs h))
+small_of_unsigned (z ∷ zs) h =
+    All-cons IsSmall z zs (All-head IsUnsigned z zs h).1 (small_of_unsigned zs (All-tail IsUnsigned z zs h))
 
 -- a command that was read and fits with its numbers cut, is that command, without a big number
 pub fits_small : (c : Command) → Fits (cut_command c) → ¬ HasBig c × (cut_command c ≡ c)
 fits_small c f =
-    let u = all_were_small (unsigned_numbers c) (subst (All IsSmall) (unsigned_cut c) (small_of_unsigned (unsigned_numbers (cut_command c)) f.unsigned)) in
-    let s = all_were_small (signed_numbers c) (subst (All IsSmall) (signed_cut c) f.signed) in
-    ((λ b. none_is_big (unsigned_numbers c ++ signed_numbers c) (All-append IsSmall (unsigned_numbers c) (signed_numbers c) u s) b), command_same c u s)
+    let u = all_were_small (unsigned_numbers c)
+    (subst (All IsSmall) (unsigned_cut c) (small_of_unsigned (unsigned_numbers (cut_command c)) f.unsigned)) in
+    let s = all_were_small (signed_numbers c) (subst (All IsSmall) (signed_cut c) f.signed) in (
+      (λ b. none_is_big (unsigned_numbers c ++ signed_numbers c)
+          (All-append IsSmall (unsigned_numbers c) (signed_numbers c) u s) b),
+      command_same c u s,
+    )
 
 -- and one that doesn't, has a big number, if a command without fits
 pub unfit_big : (c : Command) → (¬ HasBig c → Fits c) → ¬ Fits (cut_command c) → HasBig c
 unfit_big c fits no_fit = at (small_or_big (unsigned_numbers c ++ signed_numbers c))
   where
-    at : All IsSmall (unsigned_numbers c ++ signed_numbers c) ⊎ Any IsBig (unsigned_numbers c ++ signed_numbers c) → HasBig c
+    at : All IsSmall (unsigned_numbers c ++ signed_numbers c) ⊎ Any IsBig (unsigned_numbers c ++ signed_numbers c)
+        → HasBig c
     at (inr b) = b
     at (inl a) =
         let u = front_part (unsigned_numbers c) (signed_numbers c) a in
         let s = back_part (unsigned_numbers c) (signed_numbers c) a in
-        absurd (no_fit (subst Fits (sym (command_same c u s)) (fits (λ b. none_is_big (unsigned_numbers c ++ signed_numbers c) a b))))
+        absurd (no_fit
+        (subst Fits (sym (command_same c u s)) (fits (λ b. none_is_big (unsigned_numbers c ++ signed_numbers c) a b))))

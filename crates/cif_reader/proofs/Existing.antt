@@ -1,5 +1,6 @@
 -- How the reading of a file ends is known for every text.
-use Rattle.std.proofs.Common.{◌≡◌, ◌≢◌, ◌⊎◌, inl, inr, ℕ, zero, suc, ◌+◌, ◌<◌, ◌≤◌, List, [], ◌∷◌, ◌++◌, Bool, true, false, Option, Some, None, refl, sym, ◌∙◌, ap, subst, arith, length, length-append}
+use Rattle.std.proofs.Common.{◌≡◌, ◌≢◌, ◌⊎◌, inl, inr, ℕ, zero, suc, ◌+◌, ◌<◌, ◌≤◌, List, [], ◌∷◌, ◌++◌, Bool, true}
+use Rattle.std.proofs.Common.{false, Option, Some, None, refl, sym, ◌∙◌, ap, subst, arith, length, length-append}
 use Rattle.std.proofs.lemmas.Bool.{cases_eq, cases_lt, cases_Bool}
 use Rattle.std.proofs.lemmas.List.{append-nil}
 use Rattle.cif_form.specs.declared.command.Command.{Command}
@@ -10,10 +11,12 @@ use Rattle.cif_form.specs.Scans.{TextEnd, IsReadAs, IsReadable, HasBig, opens, S
 use Rattle.cif_form.specs.Scans.TextRule.{C1, C2, C3, C4, C5}
 use Rattle.cif_form.specs.Scans.TextEnd.{Whole, Broken}
 use Rattle.cif_form.specs.Text.{Blanks}
+use Rattle.cif_form.proofs.Parts.{blanks_past}
+use Rattle.cif_form.proofs.Scanning.{blank_means}
 use Rattle.cif_reader.proofs.Cutting.{small_or_big, none_is_big}
-use Rattle.cif_reader.proofs.Readable.{IsLaw, unread_lacks, unread_open, no_blanks, blanks_over}
+use Rattle.cif_reader.proofs.Readable.{IsLaw, unread_lacks, unread_open, no_blanks}
 use Rattle.cif_reader.proofs.Scanned.{not_blank, stopped}
-use Rattle.cif_reader.proofs.Sound.{blank_is, blanks_split}
+use Rattle.cif_reader.proofs.Sound.{blanks_split}
 use Rattle.cif_reader.proofs.SoundCommands.{command_sound}
 use Rattle.cif_reader.proofs.SoundParts.{Stops}
 
@@ -118,7 +121,7 @@ module _ (law : IsLaw) where
   step m scan inside offset [] le = ([], Broken C2 offset, Scans.short)
   step m scan inside offset (b ∷ rest) le = elim (cases_Bool (is_blank b)) [
     | inl blank ↦ (let (items, e, s) = scan inside (offset + 1) rest (omega (arith, le)) in
-        (items, e, Scans.blank b (blank_is b blank) s))
+        (items, e, Scans.blank b (blank_means b blank) s))
     | inr other ↦ elim (cases_eq b 59) [
       | inl semi ↦ (let (items, e, s) = scan inside (offset + 1) rest (omega (arith, le)) in
           (items, e, subst (λ x. Scans inside offset (x ∷ rest) items e) (sym semi) (Scans.nothing s)))
@@ -140,10 +143,10 @@ module _ (law : IsLaw) where
   by_front : (text blanks tail : List ℕ) → text ≡ blanks ++ tail → Blanks blanks → past_blanks text ≡ tail
       → ((offset : ℕ) × IsLateEnd text offset) ⊎ ((offset : ℕ) → ¬ IsLateEnd text offset)
   by_front text blanks [] split are past = inr (λ offset l. absurd
-      (let e = sym past ∙ ap past_blanks l.split ∙ blanks_over l.before (69 ∷ l.after) l.blanks in cc))
+      (let e = sym past ∙ ap past_blanks l.split ∙ blanks_past l.before (69 ∷ l.after) l.blanks in cc))
   by_front text blanks (b ∷ more) split are past = elim (cases_eq b 69) [
     | inr other ↦ inr (λ offset l. other (let e : b ∷ more ≡ 69 ∷ l.after = sym past ∙ ap past_blanks l.split
-        ∙ blanks_over l.before (69 ∷ l.after) l.blanks in cc))
+        ∙ blanks_past l.before (69 ∷ l.after) l.blanks in cc))
     | inl end ↦ elim (cases_lt 0 (length blanks)) [
       | inl some ↦ inl (
         length blanks,
@@ -164,7 +167,7 @@ module _ (law : IsLaw) where
       never : {offset : ℕ} → IsLateEnd text offset → length blanks ≤ 0 → ⊥
       never l none =
           let e : b ∷ more ≡ 69 ∷ l.after = sym past ∙ ap past_blanks l.split
-          ∙ blanks_over l.before (69 ∷ l.after) l.blanks in
+          ∙ blanks_past l.before (69 ∷ l.after) l.blanks in
           let same = ap (length {A = ℕ}) (sym split ∙ l.split) in
           let left = length-append blanks (b ∷ more) in
           let right = length-append l.before (69 ∷ l.after) in

@@ -1,72 +1,55 @@
 -- A command up to its semicolon.
-use Rattle.std.proofs.Common.{◌≡◌, ◌≢◌, ℕ, suc, ◌+◌, ◌<◌, ◌≤◌, List, [], ◌∷◌, ◌++◌, refl, sym, ◌∙◌, ap, subst, arith, length, drop, get_or, length-append, length-drop, Bool, true, false, eqb, Some, None}
+use Rattle.std.proofs.Common.{◌≡◌, ◌≢◌, ℕ, suc, ◌+◌, ◌<◌, ◌≤◌, List, [], ◌∷◌, ◌++◌, refl, sym, ◌∙◌, ap, subst, arith}
+use Rattle.std.proofs.Common.{length, drop, get_or, length-append, length-drop, Some, None}
 use Rattle.std.proofs.lemmas.List.{drop_all}
-use Rattle.std.proofs.lemmas.List.Elements.{All-head, All-tail}
-use Rattle.mp_base.specs.Token.{is_digit}
+use Rattle.std.proofs.lemmas.List.Elements.{All-head}
+use Rattle.std.proofs.lemmas.Option.{none-some}
 use Rattle.cif_form.specs.declared.command.Command.{Command}
-use Rattle.cif_form.specs.Text.{IsDigit, IsUpper, IsBlank, Blanks}
-use Rattle.cif_form.specs.Readers.{is_upper, is_blank, past_blanks, command_from}
+use Rattle.cif_form.specs.Text.{IsBlank, Blanks}
+use Rattle.cif_form.specs.Readers.{past_blanks, command_from}
 use Rattle.cif_form.specs.Scans.{IsReadAs, IsReadable}
+use Rattle.cif_form.proofs.Parts.{blanks_past}
 use Rattle.cif_reader.specs.Capped.{cut_command}
 use Rattle.cif_reader.specs.Finding.{IsFound}
 use Rattle.cif_reader.specs.Refusing.{IsRead}
 use Rattle.cif_reader.proofs.Stepping.{next}
-use Rattle.cif_reader.proofs.Sound.{no_some, same_some, digit_is, upper_is, blanks_split}
+use Rattle.cif_reader.proofs.Sound.{same_some, blanks_split}
 use Rattle.cif_reader.proofs.SoundParts.{Stops}
 use Rattle.cif_reader.proofs.SoundCommands.{command_sound}
 
 -- ---- blanks, and what is none
 
-no_digit : (b : ℕ) → ¬ IsDigit b → is_digit b ≡ false
-no_digit b h = at (is_digit b) refl
-  where
-    at : (t : Bool) → is_digit b ≡ t → is_digit b ≡ false
-    at true k = absurd (h (digit_is b k))
-    at false k = k
-
-no_upper : (b : ℕ) → ¬ IsUpper b → is_upper b ≡ false
-no_upper b h = at (is_upper b) refl
-  where
-    at : (t : Bool) → is_upper b ≡ t → is_upper b ≡ false
-    at true k = absurd (h (upper_is b k))
-    at false k = k
-
-other : (b c : ℕ) → b ≢ c → eqb b c ≡ false
-other b c h = grind arith
-
-pub blank_reads : (b : ℕ) → IsBlank b → is_blank b ≡ true
-blank_reads b h = rw (no_digit b h.0, no_upper b h.1, other b 45 h.2, other b 40 h.3, other b 41 h.4, other b 59 h.5) refl
-
-pub blanks_over : (blanks rest : List ℕ) → Blanks blanks → past_blanks (blanks ++ rest) ≡ past_blanks rest
-blanks_over [] rest h = refl
-blanks_over (b ∷ bs) rest h =
-    let e : past_blanks (b ∷ (bs ++ rest)) ≡ past_blanks (bs ++ rest) = rw (blank_reads b (All-head IsBlank b bs h), past_blanks) refl in
-    e ∙ blanks_over bs rest (All-tail IsBlank b bs h)
-
 -- ---- what can't be read
 
 -- the law of the reader that is a function
 abbrev pub IsLaw : Type 0
-IsLaw = (text : List ℕ) (c : Command) (size : ℕ) (rest : List ℕ) (r : IsReadAs text c size rest) → command_from text ≡ Some (c, r.blanks ++ (59 ∷ rest))
+IsLaw = (text : List ℕ) (c : Command) (size : ℕ) (rest : List ℕ) (r : IsReadAs text c size rest)
+    → command_from text ≡ Some (c, r.blanks ++ (59 ∷ rest))
 
 pub unread_lacks : IsLaw → (text : List ℕ) → command_from text ≡ None → IsReadable text → ⊥
-unread_lacks law text h (c, size, rest, r) = no_some (c, r.blanks ++ (59 ∷ rest)) (sym h ∙ law text c size rest r)
+unread_lacks law text h (c, size, rest, r) = none-some (c, r.blanks ++ (59 ∷ rest)) (sym h ∙ law text c size rest r)
 
-pub unread_open : IsLaw → (text : List ℕ) (c : Command) (rest : List ℕ) → command_from text ≡ Some (c, rest) → ((more : List ℕ) → past_blanks rest ≡ 59 ∷ more → ⊥) → IsReadable text → ⊥
+pub unread_open : IsLaw → (text : List ℕ) (c : Command) (rest : List ℕ) → command_from text ≡ Some (c, rest)
+    → ((more : List ℕ) → past_blanks rest ≡ 59 ∷ more → ⊥) → IsReadable text → ⊥
 unread_open law text c rest h no_end (d, size, more, r) =
     let e = (same_some c d rest (r.blanks ++ (59 ∷ more)) (sym h ∙ law text d size more r)).1 in
-    no_end more (ap past_blanks e ∙ blanks_over r.blanks (59 ∷ more) r.are_blanks)
+    no_end more (ap past_blanks e ∙ blanks_past r.blanks (59 ∷ more) r.are_blanks)
 
-pub unread_cut : IsLaw → (bytes : List ℕ) (at semi end : ℕ) (value : Command) → IsFound cut_command (command_from (drop at bytes)) bytes at value end
+pub unread_cut : IsLaw → (bytes : List ℕ) (at semi end : ℕ) (value : Command)
+    → IsFound cut_command (command_from (drop at bytes)) bytes at value end
     → drop semi bytes ≡ past_blanks (drop end bytes) → length bytes ≤ semi → IsReadable (drop at bytes) → ⊥
 unread_cut law bytes at semi end value f e h =
-    unread_open law (drop at bytes) f.exact (drop end bytes) f.found (λ more k. absurd (let g : [] ≡ 59 ∷ more = sym (drop_all semi bytes h) ∙ e ∙ k in cc))
+    unread_open law (drop at bytes) f.exact (drop end bytes) f.found
+    (λ more k. absurd (let g : [] ≡ 59 ∷ more = sym (drop_all semi bytes h) ∙ e ∙ k in cc))
 
-pub unread_other : IsLaw → (bytes : List ℕ) (at semi end : ℕ) (value : Command) → IsFound cut_command (command_from (drop at bytes)) bytes at value end
-    → drop semi bytes ≡ past_blanks (drop end bytes) → semi < length bytes → get_or bytes semi 0 ≢ 59 → IsReadable (drop at bytes) → ⊥
+pub unread_other : IsLaw → (bytes : List ℕ) (at semi end : ℕ) (value : Command)
+    → IsFound cut_command (command_from (drop at bytes)) bytes at value end
+    → drop semi bytes ≡ past_blanks (drop end bytes) → semi < length bytes → get_or bytes semi 0 ≢ 59
+    → IsReadable (drop at bytes) → ⊥
 unread_other law bytes at semi end value f e h n =
     unread_open law (drop at bytes) f.exact (drop end bytes) f.found
-    (λ more k. n (let g : get_or bytes semi 0 ∷ drop (semi + 1) bytes ≡ 59 ∷ more = sym (next bytes semi h) ∙ e ∙ k in cc))
+    (λ more k. n
+    (let g : get_or bytes semi 0 ∷ drop (semi + 1) bytes ≡ 59 ∷ more = sym (next bytes semi h) ∙ e ∙ k in cc))
 
 -- ---- what is read
 
@@ -74,13 +57,16 @@ pub no_blanks : (blanks rest : List ℕ) → Blanks blanks → Stops (blanks ++ 
 no_blanks [] rest h s = refl
 no_blanks (b ∷ bs) rest h s = absurd ((All-head IsBlank b bs h).5 s)
 
-pub command_read : (bytes : List ℕ) (at semi end : ℕ) (value : Command) → at ≤ length bytes → IsFound cut_command (command_from (drop at bytes)) bytes at value end
-    → drop semi bytes ≡ past_blanks (drop end bytes) → end ≤ semi → semi < length bytes → get_or bytes semi 0 ≡ 59 → IsRead bytes at value (semi + 1)
+pub command_read : (bytes : List ℕ) (at semi end : ℕ) (value : Command) → at ≤ length bytes
+    → IsFound cut_command (command_from (drop at bytes)) bytes at value end
+    → drop semi bytes ≡ past_blanks (drop end bytes) → end ≤ semi → semi < length bytes → get_or bytes semi 0 ≡ 59
+    → IsRead bytes at value (semi + 1)
 command_read bytes at semi end value inside f e le less b =
     let s = command_sound (drop at bytes) f.exact (drop end bytes) f.found in
     let (blanks, g, are) = blanks_split (drop end bytes) in
     let rest = drop (semi + 1) bytes in
-    let k : drop end bytes ≡ blanks ++ (59 ∷ rest) = g ∙ ap (λ t. blanks ++ t) (sym e ∙ next bytes semi less ∙ ap (λ b. b ∷ rest) b) in
+    let k : drop end bytes ≡ blanks ++ (59 ∷ rest) =
+    g ∙ ap (λ t. blanks ++ t) (sym e ∙ next bytes semi less ∙ ap (λ b. b ∷ rest) b) in
     let split : drop at bytes ≡ s.front ++ (blanks ++ (59 ∷ rest)) = s.split ∙ ap (λ t. s.front ++ t) k in
     let l = ap length split ∙ length-append s.front (blanks ++ (59 ∷ rest)) in
     let m = length-append blanks (59 ∷ rest) in

@@ -5,7 +5,8 @@ use Rattle.cif_form.specs.declared.limits.TheConstants.{NUMBER_LIMIT}
 use Rattle.cif_form.specs.declared.command.Turn.{Turn}
 use Rattle.cif_form.specs.declared.command.Turn.TheVariants.{Move, MirrorX, MirrorY, Rotate}
 use Rattle.cif_form.specs.declared.command.Command.{Command}
-use Rattle.cif_form.specs.declared.command.Command.TheVariants.{Polygon, Box, Round, Wire, Layer, Start, Finish, Delete, Call, User, Comment}
+use Rattle.cif_form.specs.declared.command.Command.TheVariants.{Polygon, Box, Round, Wire, Layer, Start, Finish, Delete}
+use Rattle.cif_form.specs.declared.command.Command.TheVariants.{Call, User, Comment}
 
 abbrev pub cut : ℕ → ℕ
 cut n = min n NUMBER_LIMIT

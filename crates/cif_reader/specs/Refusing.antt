@@ -14,7 +14,8 @@ use Rattle.cif_reader.specs.Capped.{cut_command}
 abbrev pub RefusesBy : (TextRule → ℕ → Type 0) → Refusal → Type 0
 RefusesBy P NoMemory = Unit {0}
 RefusesBy P (Broken b) =
-    (rule : TextRule) × (offset : ℕ) × (b.rule ≡ record { family = C; number = text_rule_number rule }) × (b.spot ≡ Offset offset) × P rule offset
+    (rule : TextRule) × (offset : ℕ) × (b.rule ≡ record { family = C; number = text_rule_number rule })
+    × (b.spot ≡ Offset offset) × P rule offset
 
 -- the rule that the reading of the file breaks first
 abbrev pub Refuses : List ℕ → Refusal → Type 0

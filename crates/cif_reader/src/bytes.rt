@@ -57,7 +57,8 @@ pub(crate) fn past_separators(bytes: &[u8], at: usize) -> usize
 pub(crate) fn separator(bytes: &[u8], at: usize) -> Option<usize>
     requires { at ≤ length bytes.now }
     ensures { MatchOption result (separator_from (drop at bytes.now) ≡ None)
-        (λ end. (separator_from (drop at bytes.now) ≡ Some (tt, drop end bytes.now)) × (at < end) × (end ≤ length bytes.now)) }
+        (λ end. (separator_from (drop at bytes.now) ≡ Some (tt, drop end bytes.now)) × (at < end)
+        × (end ≤ length bytes.now)) }
 {
     if at < bytes.len() && is_separator(bytes[at]) {
         Some(at + 1)

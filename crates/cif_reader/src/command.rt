@@ -3,7 +3,10 @@
 ghost use Rattle.std.specs.Prelude.{◌≡◌, ℕ, ◌≤◌, ◌<◌, length, drop, pos, IfOk, IfSome, slice_index};
 ghost use Rattle.lam_geom.specs.declared.place.Point.{Point};
 ghost use Rattle.cif_form.specs.Text.{right};
-ghost use Rattle.cif_form.specs.Readers.{and_then, gives, integer_from, point_from, path_here, comment_from, past_blanks, tail_from, then_separator, box_long, round_of, wire_of, call_of, start_of, scale_from, definition_from, layer_from, letter_from, user_of, words_from, command_from};
+ghost use Rattle.cif_form.specs.Readers.{and_then, gives, integer_from, point_from, path_here, comment_from};
+ghost use Rattle.cif_form.specs.Readers.{past_blanks, tail_from, then_separator, box_long, round_of, wire_of, call_of};
+ghost use Rattle.cif_form.specs.Readers.{start_of, scale_from, definition_from, layer_from, letter_from, user_of};
+ghost use Rattle.cif_form.specs.Readers.{words_from, command_from};
 ghost use Rattle.cif_reader.specs.Capped.{cut_command, cut_point, cut_number, cut_scale};
 ghost use Rattle.cif_reader.specs.Finding.{Answers};
 

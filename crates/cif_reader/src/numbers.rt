@@ -2,7 +2,8 @@
 
 ghost use Rattle.std.specs.Prelude.{◌≡◌, ℕ, ◌≤◌, ◌<◌, length, drop, IfOk, IfSome, MatchOption};
 ghost use Rattle.cif_form.specs.declared.limits.TheConstants.{NUMBER_LIMIT};
-ghost use Rattle.cif_form.specs.Readers.{natural_from, integer_from, signed_from, point_from, path_here, turn_from, turns_here, past_blanks, then_separator, mirror_from};
+ghost use Rattle.cif_form.specs.Readers.{natural_from, integer_from, signed_from, point_from, path_here, turn_from};
+ghost use Rattle.cif_form.specs.Readers.{turns_here, past_blanks, then_separator, mirror_from};
 ghost use Rattle.cif_reader.specs.Capped.{cut, cut_number, cut_point, cut_path, cut_turn, cut_turns};
 ghost use Rattle.cif_reader.specs.Finding.{Answers, IsFound};
 

@@ -1,6 +1,7 @@
 //! Files.
 
-ghost use Rattle.std.specs.Prelude.{◌≡◌, ◌≢◌, ℕ, ◌+◌, ◌-◌, ◌≤◌, ◌<◌, List, [], length, drop, slice_index, Bool, false, OnOk, IfOk, IfErr, MatchOption, MatchResult};
+ghost use Rattle.std.specs.Prelude.{◌≡◌, ◌≢◌, ℕ, ◌+◌, ◌-◌, ◌≤◌, ◌<◌, List, [], length, drop, slice_index, Bool, false};
+ghost use Rattle.std.specs.Prelude.{OnOk, IfOk, IfErr, MatchOption, MatchResult};
 ghost use Rattle.mp_base.specs.declared.refusal.Family.TheVariants.{C};
 ghost use Rattle.mp_base.specs.declared.refusal.Spot.TheVariants.{Offset};
 ghost use Rattle.mp_base.specs.declared.refusal.Refusal.TheVariants as refusals;
@@ -22,7 +23,8 @@ use std::mem::drop;
 
 /// The refusal of rule C `number`.
 fn broken(number: u16, offset: usize) -> Refusal
-    ensures { result ≡ refusals.Broken (record { rule = record { family = C; number = number }; spot = Offset offset }) }
+    ensures { result ≡ refusals.Broken
+        (record { rule = record { family = C; number = number }; spot = Offset offset }) }
 {
     Refusal::Broken(Broken {
         rule: Rule {
@@ -41,7 +43,8 @@ fn whole_command(
     at: usize,
 ) -> Result<Option<Found<Command>>, AllocError>
     requires { at < length bytes.now }
-    ensures { IfOk result (λ r. MatchOption r (IsReadable (drop at bytes.now) → ⊥) (λ c. IsRead bytes.now at c.value c.end)) }
+    ensures { IfOk result (λ r. MatchOption r (IsReadable (drop at bytes.now) → ⊥)
+        (λ c. IsRead bytes.now at c.value c.end)) }
 {
     command_is_found();
     let Some(Found { value, end }) = command(alloc, bytes, at)? else {
@@ -131,7 +134,8 @@ fn skip(bytes: &[u8], at: usize) -> usize
     ensures behind { at ≤ result }
     ensures blank { result < length bytes.now → is_blank (slice_index bytes.now result) ≡ false }
     ensures empty { result < length bytes.now → slice_index bytes.now result ≢ 59 }
-    ensures skipped { (inside : Bool) (items : List Item) (e : TextEnd) → Scans inside result (drop result bytes.now) items e
+    ensures skipped { (inside : Bool) (items : List Item) (e : TextEnd)
+        → Scans inside result (drop result bytes.now) items e
         → Scans inside at (drop at bytes.now) items e }
 {
     for end in at..bytes.len() {
@@ -156,10 +160,10 @@ fn late_end(bytes: &[u8]) -> Option<usize>
 
 /// The commands of a CIF file, each with the offset of its first byte.
 ///
-/// Refuses a file that breaks a rule, the first of them as the file is read: C1 (no command can be read where one begins,
-/// or blanks stand before the `E` of an empty file), C2 (the file ends where a command or `E` should begin), C3 (a number
-/// over 2^31 - 1 in size), C4 (a start, a deletion or the end inside a definition, or a finish outside one), C5 (more
-/// than blanks behind the `E`).
+/// Refuses a file that breaks a rule, the first of them as the file is read: C1 (no command can be read where one
+/// begins, or blanks stand before the `E` of an empty file), C2 (the file ends where a command or `E` should begin), C3
+/// (a number over 2^31 - 1 in size), C4 (a start, a deletion or the end inside a definition, or a finish outside one),
+/// C5 (more than blanks behind the `E`).
 pub fn read_cif(alloc: Global, bytes: &[u8]) -> Result<Cif, Refusal>
     ensures whole { IfOk result (λ cif. FileScans bytes.now cif Whole) }
     ensures first { IfErr result (Refuses bytes.now) }

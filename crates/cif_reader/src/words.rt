@@ -43,7 +43,8 @@ pub(crate) fn words_end(bytes: &[u8], at: usize) -> usize
 pub(crate) fn comment_end(bytes: &[u8], at: usize) -> Option<usize>
     requires { at ≤ length bytes.now }
     ensures { MatchOption result (comment_from 0 (drop at bytes.now) ≡ None)
-        (λ end. (comment_from 0 (drop at bytes.now) ≡ Some (slice_range bytes.now at end, drop (end + 1) bytes.now)) × (at ≤ end) × (end < length bytes.now)) }
+        (λ end. (comment_from 0 (drop at bytes.now) ≡ Some (slice_range bytes.now at end, drop (end + 1) bytes.now))
+        × (at ≤ end) × (end < length bytes.now)) }
 {
     let mut depth: usize = 0;
     for end in at..bytes.len() {

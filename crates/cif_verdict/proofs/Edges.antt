@@ -1,13 +1,13 @@
 -- Whether a command has rectangles at a scale, and whether they are near.
 use Rattle.std.proofs.Common.{◌≡◌, ◌⊎◌, inl, inr, List, [], ◌∷◌, refl, subst}
 use Rattle.std.specs.Prelude.{◌≢◌, ℤ, pos, ◌+ℤ◌, ◌-ℤ◌, ◌*ℤ◌, ◌≤ℤ◌}
+use Rattle.mp_base.proofs.Decisions.{Decided, same_claim, both_of, one_of, not_so, is_integer, is_at_most}
 use Rattle.lam_geom.specs.declared.layer.Layer.{Layer}
 use Rattle.lam_geom.specs.declared.place.Point.{Point}
 use Rattle.lam_geom.specs.declared.rect.Rect.{Rect}
 use Rattle.lam_geom.specs.Moves.{IsNearRect}
 use Rattle.cif_form.specs.declared.command.Command.TheVariants.{Box, Wire}
 use Rattle.cif_form.specs.Place.{Scale, IsScaled, IsAround, IsBox, IsSegment, AreSegments, segments, HasEdges}
-use Rattle.cif_verdict.proofs.Deciding.{Decided, same_claim, both_of, one_of, not_so, is_integer, is_within}
 use Rattle.cif_verdict.proofs.Scaling.{some_scaled, is_near}
 
 -- on each layer there is such a thing, or on none
@@ -81,7 +81,7 @@ Straight s wide p q = ((p.x ≡ q.x) ⊎ (p.y ≡ q.y)) × (Rises s wide p q ⊎
 
 rises : (s : Scale) (wide : ℤ) (low high : Point) → Decided (Rises s wide low high)
 rises s wide low high =
-    both_of (is_within low.x high.x) (both_of (is_within low.y high.y) (some_sides s low high wide wide))
+    both_of (is_at_most low.x high.x) (both_of (is_at_most low.y high.y) (some_sides s low high wide wide))
 
 some_segment : (s : Scale) (wide : ℤ) (p q : Point) → Found (λ (l : Layer) (r : Rect). IsSegment s l wide p q r)
 some_segment s wide p q = found_by (λ (l : Layer) (r : Rect). IsSegment s l wide p q r)

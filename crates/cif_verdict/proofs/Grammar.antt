@@ -1,8 +1,12 @@
 -- Whether a text is that of a label.
-use Rattle.std.proofs.Common.{◌≡◌, ◌⊎◌, inl, inr, ℕ, ◌<◌, List, [], ◌∷◌, ◌++◌, Option, Some, None, length, refl, sym, ◌∙◌, ap, subst}
+use Rattle.std.proofs.Common.{◌≡◌, ◌⊎◌, inl, inr, ℕ, ◌<◌, List, [], ◌∷◌, ◌++◌, Option, Some, None, length, refl, sym}
+use Rattle.std.proofs.Common.{◌∙◌, ap, subst}
 use Rattle.std.specs.Prelude.{All, ℤ, pos, neg_ℤ, ◌*ℤ◌, nat_abs, ◌^◌}
 use Rattle.std.specs.Char.{digit_value}
 use Rattle.std.specs.Str.Parse.{AllDigits, IsNumeral, digits_value}
+use Rattle.mp_base.proofs.Decisions.{Decided, same_claim, both_of, one_of, not_so, is_number, decided_below, is_name}
+use Rattle.mp_base.proofs.Decisions.{holds_of_all}
+use Rattle.mp_base.proofs.Lists.{head_of, tail_of}
 use Rattle.lam_geom.specs.declared.layer.Layer.{Layer}
 use Rattle.lam_geom.specs.declared.layer.Layer.TheVariants.{ND, NP, NM}
 use Rattle.lam_geom.specs.declared.label.FlatLabel.{FlatLabel}
@@ -10,16 +14,9 @@ use Rattle.cif_form.specs.Text.{◌▹◌, Byte}
 use Rattle.cif_form.specs.Fits.{IsSmall}
 use Rattle.cif_form.specs.Place.{layer_name}
 use Rattle.cif_form.specs.Labels.{IsSpace, Spaces, Solid, Coordinate, OwnLayer, IsLabelText}
-use Rattle.cif_verdict.proofs.Deciding.{Decided, same_claim, both_of, one_of, not_so, is_number, is_below, is_name, holds_of_all}
 
 abbrev Known : (List ℕ → Type 0) → Type 0
 Known P = (text : List ℕ) → Decided (P text)
-
-head_of : {x y : ℕ} {xs ys : List ℕ} → x ∷ xs ≡ y ∷ ys → x ≡ y
-head_of e = cc
-
-tail_of : {x y : ℕ} {xs ys : List ℕ} → x ∷ xs ≡ y ∷ ys → xs ≡ ys
-tail_of e = cc
 
 -- a text of one kind and then a text of another
 pub in_turn : (P Q : List ℕ → Type 0) → Known P → Known Q → Known (P ▹ Q)
@@ -47,7 +44,7 @@ is_space : (b : ℕ) → Decided (IsSpace b)
 is_space b = one_of (is_number b 32) (one_of (is_number b 9) (one_of (is_number b 10) (is_number b 13)))
 
 are_spaces : Known Spaces
-are_spaces text = both_of (is_below 0 (length text)) (holds_of_all IsSpace is_space text)
+are_spaces text = both_of (decided_below 0 (length text)) (holds_of_all IsSpace is_space text)
 
 -- ---- words
 
@@ -56,7 +53,7 @@ Name text = (name : List ℕ) × Solid name text
 
 is_word : Known Name
 is_word text = same_claim
-    (both_of (is_below 0 (length text)) (holds_of_all (λ b. ¬ IsSpace b) (λ b. not_so (is_space b)) text))
+    (both_of (decided_below 0 (length text)) (holds_of_all (λ b. ¬ IsSpace b) (λ b. not_so (is_space b)) text))
     (λ (some, solid). (text, (refl, some, solid))) back
   where
     back : Name text → (0 < length text) × All (λ b. ¬ IsSpace b) text
@@ -65,15 +62,15 @@ is_word text = same_claim
 
 are_digits : Known (AllDigits 10)
 are_digits [] = inl tt
-are_digits (b ∷ bs) = both_of (is_below (digit_value b) 10) (are_digits bs)
+are_digits (b ∷ bs) = both_of (decided_below (digit_value b) 10) (are_digits bs)
 
 -- digits whose number, with a sign, is small
 abbrev Small : (ℕ → ℤ) → List ℕ → Type 0
 Small sign text = IsNumeral 10 text × IsSmall (sign (digits_value 10 text))
 
 is_small : (sign : ℕ → ℤ) → Known (Small sign)
-is_small sign text = both_of (both_of (is_below 0 (length text)) (are_digits text))
-    (is_below (nat_abs (sign (digits_value 10 text))) (2 ^ 31))
+is_small sign text = both_of (both_of (decided_below 0 (length text)) (are_digits text))
+    (decided_below (nat_abs (sign (digits_value 10 text))) (2 ^ 31))
 
 abbrev Number : List ℕ → Type 0
 Number text = (half : ℤ) × Coordinate half text

@@ -1,7 +1,10 @@
 -- Which rule a command breaks first.
-use Rattle.std.proofs.Common.{◌≡◌, ◌⊎◌, inl, inr, ℕ, zero, suc, ◌+◌, ◌<◌, List, [], ◌∷◌, Option, Some, None, refl, sym, ◌∙◌, ap, subst, arith, get_or}
+use Rattle.std.proofs.Common.{◌≡◌, ◌⊎◌, inl, inr, ℕ, zero, suc, ◌+◌, ◌<◌, List, [], ◌∷◌, Option, Some, None, refl, sym}
+use Rattle.std.proofs.Common.{◌∙◌, ap, subst, arith, get_or}
 use Rattle.std.specs.Prelude.{◌≢◌, All, Contains, ℤ}
 use Rattle.std.proofs.lemmas.Bool.{cases_eq}
+use Rattle.mp_base.proofs.Decisions.{Decided, same_claim, both_of, one_of, not_so, is_number, decided_below, is_integer}
+use Rattle.mp_base.proofs.Decisions.{is_name, holds_of_all}
 use Rattle.lam_geom.specs.declared.layer.Layer.{Layer}
 use Rattle.lam_geom.specs.declared.layer.Layer.TheVariants.{ND, NP, NC, NM, NI, NB, NG}
 use Rattle.lam_geom.specs.declared.place.Point.{Point}
@@ -11,14 +14,15 @@ use Rattle.cif_form.specs.declared.command.Turn.{Turn}
 use Rattle.cif_form.specs.declared.command.Turn.TheVariants.{Move, MirrorX, MirrorY, Rotate}
 use Rattle.cif_form.specs.declared.command.Command.{Command}
 use Rattle.cif_form.specs.declared.command.Command.TheVariants as commands
-use Rattle.cif_form.specs.declared.command.Command.TheVariants.{Polygon, Box, Round, Wire, Start, Finish, Delete, Call, User, Comment}
+use Rattle.cif_form.specs.declared.command.Command.TheVariants.{Polygon, Box, Round, Wire, Call}
 use Rattle.cif_form.specs.Expansion.{Definition, Stands}
 use Rattle.cif_form.specs.Place.{IsScale, IsOnAxis, HasEdges, segments, layer_name}
-use Rattle.cif_form.specs.Walk.{Frame, Visit, DrawRule, draw_rule_number, walk_limit, weight, IsWholePoint, IsFarPoint, IsOfNoScale, BreaksBy, Breaks, BreaksFirst, BreaksNone}
+use Rattle.cif_form.specs.Walk.{Frame, Visit, DrawRule, draw_rule_number, walk_limit, weight, IsWholePoint, IsFarPoint}
+use Rattle.cif_form.specs.Walk.{IsOfNoScale, BreaksBy, Breaks, BreaksFirst, BreaksNone}
 use Rattle.cif_form.specs.Walk.DrawRule.{F1, F2, F3, F4, F5, F6, F7, F8, F9, F10}
 use Rattle.cif_form.proofs.OneExpansion.{one_definition}
 use Rattle.cif_form.proofs.OnePlace.{one_edges}
-use Rattle.cif_verdict.proofs.Deciding.{Decided, same_claim, both_of, one_of, not_so, of_the_one, is_number, is_below, is_integer, is_name, some_in, holds_of_all}
+use Rattle.cif_verdict.proofs.Deciding.{of_the_one, some_in}
 use Rattle.cif_verdict.proofs.Scaling.{is_scale, is_on_axis, is_whole_point, is_far_point}
 use Rattle.cif_verdict.proofs.Edges.{Found, box_edges, wire_edges, is_near_rect}
 
@@ -165,7 +169,7 @@ breaks_by v (Wire wide path) F4 e =
     (subst (Lacks v) (sym e))
 breaks_by v (Round diameter center) F5 e = inl tt
 breaks_by v (Polygon path) F6 e = inl tt
-breaks_by v c F7 e = is_below walk_limit (v.count + weight c)
+breaks_by v c F7 e = decided_below walk_limit (v.count + weight c)
 breaks_by v (Call n ts) F8 e =
     some_move (λ p. IsFarPoint v.frame.scale p) (λ p. is_far_point v.frame.scale p) ts
 breaks_by v (Box long wide center direction) F8 e =

@@ -1,8 +1,11 @@
 -- Whether numbers, points and turns have a place in half-units at a scale.
-use Rattle.std.proofs.Common.{◌≡◌, ◌⊎◌, inl, inr, ℕ, zero, suc, ◌*◌, ◌<◌, ◌≤◌, List, [], ◌∷◌, refl, sym, ◌∙◌, ap, arith}
+use Rattle.std.proofs.Common.{◌≡◌, ◌⊎◌, inl, inr, ℕ, zero, suc, ◌*◌, ◌<◌, List, [], ◌∷◌, refl, sym, ◌∙◌, ap, arith}
 use Rattle.std.specs.Prelude.{◌≢◌, ℤ, pos, negsuc, neg_ℤ, ◌*ℤ◌, ◌<ℤ◌}
 use Rattle.std.proofs.lemmas.Int.{ints, by_lt_z}
 use lib.IntN.{pos-*ℤ-negsuc}
+use Rattle.mp_base.proofs.Decisions.{Decided, same_claim, both_of, one_of, not_so, is_number, is_integer, is_less}
+use Rattle.mp_base.proofs.Decisions.{is_at_most}
+use Rattle.mp_base.proofs.Numbers.{at_most_times}
 use Rattle.lam_geom.specs.declared.place.Point.{Point}
 use Rattle.lam_geom.specs.Moves.{IsNear}
 use Rattle.cif_form.specs.declared.command.Turn.{Turn}
@@ -11,12 +14,9 @@ use Rattle.cif_form.specs.Place.{Scale, IsScale, IsScaled, IsOnAxis, Motion, IsM
 use Rattle.cif_form.specs.Place.Motion.{Shift, NegateX, NegateY, Quarter}
 use Rattle.cif_form.specs.Walk.{IsWholePoint, IsFarPoint}
 use Rattle.cif_form.proofs.OnePlace.{one_scaled}
-use Rattle.cif_verdict.proofs.Deciding.{Decided, same_claim, both_of, one_of, not_so, of_the_one, is_number, is_integer, is_less, is_within, some_upto}
+use Rattle.cif_verdict.proofs.Deciding.{of_the_one, some_upto}
 
 -- ---- numbers
-
-at_most_times : (b k : ℕ) → 0 < b → k ≤ b * k
-at_most_times b k some = grind arith
 
 some_factor : (b n : ℕ) → 0 < b → Decided ((k : ℕ) × (b * k ≡ n))
 some_factor b n some = same_claim (some_upto (λ k. b * k ≡ n) (λ k. is_number (b * k) n) n)
@@ -56,7 +56,7 @@ some_scaled s w = by s.b
         (λ (z, e). (z, (omega (arith, ints), e))) (λ (z, (lt, e)). (z, e))
 
 pub is_near : (z : ℤ) → Decided (IsNear z)
-is_near z = both_of (is_within (neg_ℤ (pos 1_099_511_627_776)) z) (is_within z (pos 1_099_511_627_776))
+is_near z = both_of (is_at_most (neg_ℤ (pos 1_099_511_627_776)) z) (is_at_most z (pos 1_099_511_627_776))
 
 pub is_scale : (s : Scale) → Decided (IsScale s)
 is_scale s = both_of (is_less (pos 0) s.a) (is_less (pos 0) s.b)

@@ -1,8 +1,10 @@
 -- A command that breaks no rule leads to a state.
-use Rattle.std.proofs.Common.{◌≡◌, ◌⊎◌, inl, inr, ℕ, suc, ◌+◌, ◌<◌, ◌≤◌, List, [], ◌∷◌, ◌++◌, true, false, Option, Some, None, length, map, refl, sym, ◌∙◌, ap, subst, arith, length-append}
+use Rattle.std.proofs.Common.{◌≡◌, ◌⊎◌, inl, inr, ℕ, suc, ◌+◌, ◌<◌, ◌≤◌, List, [], ◌∷◌, ◌++◌, true, false, Option, Some}
+use Rattle.std.proofs.Common.{None, length, map, refl, sym, ◌∙◌, ap, subst, arith, length-append}
 use Rattle.std.specs.Prelude.{All, Contains, ℤ, filter, int_lt}
 use Rattle.std.proofs.lemmas.Bool.{cases_lt}
 use Rattle.std.proofs.lemmas.List.Elements.{All-cons, All-filter}
+use Rattle.mp_base.proofs.Decisions.{Decided, is_number}
 use Rattle.lam_geom.specs.declared.layer.Layer.{Layer}
 use Rattle.lam_geom.specs.declared.layer.Layer.TheVariants.{ND}
 use Rattle.lam_geom.specs.declared.rect.Rect.{Rect}
@@ -12,20 +14,22 @@ use Rattle.cif_form.specs.declared.command.Turn.{Turn}
 use Rattle.cif_form.specs.declared.command.Turn.TheVariants.{Move, Rotate}
 use Rattle.cif_form.specs.declared.command.Command.{Command}
 use Rattle.cif_form.specs.declared.command.Command.TheVariants as commands
-use Rattle.cif_form.specs.declared.command.Command.TheVariants.{Polygon, Box, Round, Wire, Start, Finish, Delete, Call, User, Comment}
+use Rattle.cif_form.specs.declared.command.Command.TheVariants.{Polygon, Box, Round, Wire, Start, Finish, Delete, Call}
+use Rattle.cif_form.specs.declared.command.Command.TheVariants.{User, Comment}
 use Rattle.cif_form.specs.declared.command.Item.{Item}
 use Rattle.cif_form.specs.Scans.{Nests}
 use Rattle.cif_form.specs.Expansion.{Definition, Stands, IsInside, item_at}
 use Rattle.cif_form.specs.Labels.{IsLabelText}
 use Rattle.cif_form.specs.Place.{Scale, IsOnAxis, HasEdges, Motion, AreMotions}
-use Rattle.cif_form.specs.Walk.{Frame, State, Visit, DrawRule, walk_limit, IsWholePoint, BreaksBy, StepsByShape, StepsByUser, StepsBy, on_layer, onward, within, at_top}
+use Rattle.cif_form.specs.Walk.{Frame, State, Visit, DrawRule, walk_limit, IsWholePoint, BreaksBy, StepsByShape}
+use Rattle.cif_form.specs.Walk.{StepsByUser, StepsBy, on_layer, onward, within, at_top}
 use Rattle.cif_form.specs.Walk.DrawRule.{F1, F3, F4, F5, F6, F7, F9, F10}
-use Rattle.cif_verdict.proofs.Deciding.{Decided, is_number}
 use Rattle.cif_verdict.proofs.Grammar.{some_label}
 use Rattle.cif_verdict.proofs.Scaling.{some_motion, is_whole_point, is_on_axis}
 use Rattle.cif_verdict.proofs.Edges.{Found, box_edges, wire_edges}
 use Rattle.cif_verdict.proofs.Rules.{some_definition, some_layer}
-use Rattle.cif_verdict.proofs.Frames.{commands_of, AreInside, IsOrdered, left_in, body_of, IsPlaced, rest_nests, same_within, body_up_to_finish}
+use Rattle.cif_verdict.proofs.Frames.{commands_of, AreInside, IsOrdered, left_in, body_of, IsPlaced, rest_nests}
+use Rattle.cif_verdict.proofs.Frames.{same_within, body_up_to_finish}
 
 -- the state is nearer to the end: by a call, which is counted, or with less left in its frames
 abbrev pub IsNearer : Visit → State → Type 0

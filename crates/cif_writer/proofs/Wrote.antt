@@ -1,5 +1,6 @@
 -- One text written behind another.
-use Rattle.std.proofs.Common.{◌≡◌, ℕ, suc, ◌+◌, ◌<◌, List, ◌∷◌, ◌++◌, sym, ◌∙◌, ap, subst, length, take, drop, get_or, drop-cons, arith, Option, Some, None, Result, Ok, Err, append_assoc}
+use Rattle.std.proofs.Common.{◌≡◌, ℕ, suc, ◌+◌, ◌<◌, List, ◌∷◌, ◌++◌, sym, ◌∙◌, ap, subst, length, take, drop, get_or}
+use Rattle.std.proofs.Common.{drop-cons, arith, Option, Some, None, Result, Ok, Err, append_assoc}
 use Rattle.std.proofs.lemmas.List.{length-append, take_all, take-append-le}
 use Rattle.std.proofs.Math.Seq.{take-append-add}
 use Rattle.std.specs.Prelude.{OnOk, OnErr}
@@ -17,7 +18,8 @@ wrote_more None (Some y) (Some z) xs ys h k = absurd h
 wrote_more (Some x) (Some y) (Some z) xs ys h k = k ∙ ap (λ t. t ++ ys) h ∙ append_assoc x xs ys
 
 -- a whole text
-pub wrote_all : {T E : Type 0} (a b : Option (List ℕ)) (xs : List ℕ) (u : T) → TakesAll {T = T} {E = E} Gains a b xs (Ok u) → Wrote a b xs
+pub wrote_all : {T E : Type 0} (a b : Option (List ℕ)) (xs : List ℕ) (u : T)
+    → TakesAll {T = T} {E = E} Gains a b xs (Ok u) → Wrote a b xs
 wrote_all a b xs u h =
     let P : List ℕ → Type 0 = λ t. Wrote a b t in
     subst P (take_all h.count xs (omega (arith, h.all))) h.taken
@@ -41,13 +43,9 @@ wrote_then {T} {E} a b c xs ys r h k = record {
     part (Ok u) e = e
     part (Err f) e = omega (arith, e, length-append xs ys)
 
--- a text behind one that was written whole
-pub took_then : {S T E F : Type 0} (a b c : Option (List ℕ)) (xs ys : List ℕ) (u : S) (r : Result T E) → TakesAll {T = S} {E = F} Gains a b xs (Ok u)
-    → TakesAll {T = T} {E = E} Gains b c ys r → TakesAll {T = T} {E = E} Gains a c (xs ++ ys) r
-took_then a b c xs ys u r h k = wrote_then a b c xs ys r (wrote_all a b xs u h) k
-
 -- a text that was cut short, before another
-pub cut_before : {S T E F : Type 0} (a b : Option (List ℕ)) (xs ys : List ℕ) (e : E) (f : F) → TakesAll {T = S} {E = E} Gains a b xs (Err e)
+pub cut_before : {S T E F : Type 0} (a b : Option (List ℕ)) (xs ys : List ℕ) (e : E) (f : F)
+    → TakesAll {T = S} {E = E} Gains a b xs (Err e)
     → TakesAll {T = T} {E = F} Gains a b (xs ++ ys) (Err f)
 cut_before a b xs ys e f h = record {
   count = h.count;
@@ -57,18 +55,14 @@ cut_before a b xs ys e f h = record {
   taken = let P : List ℕ → Type 0 = λ t. Wrote a b t in subst P (sym (take-append-le h.count xs ys h.within)) h.taken;
 }
 
--- the same, where the answer is another
-pub cut_at : {T E : Type 0} (a b : Option (List ℕ)) (xs ys : List ℕ) (e f : E) (r : Result T E) → r ≡ Err f → TakesAll {T = T} {E = E} Gains a b xs (Err e)
-    → TakesAll {T = T} {E = E} Gains a b (xs ++ ys) r
-cut_at {T} {E} a b xs ys e f r h k = let P : Result T E → Type 0 = λ r. TakesAll {T = T} {E = E} Gains a b (xs ++ ys) r in subst P (sym h) (cut_before a b xs ys e f k)
-
 -- of a whole text all but the rest was written
 pub record Going (a b : Option (List ℕ)) (whole rest : List ℕ) : Type 0 where
   pub front : List ℕ
   pub wrote : Wrote a b front
   pub split : whole ≡ front ++ rest
 
-pub going_on : {T E : Type 0} (a b c : Option (List ℕ)) (whole rest xs more : List ℕ) (u : T) → rest ≡ xs ++ more → Going a b whole rest
+pub going_on : {T E : Type 0} (a b c : Option (List ℕ)) (whole rest xs more : List ℕ) (u : T) → rest ≡ xs ++ more
+    → Going a b whole rest
     → TakesAll {T = T} {E = E} Gains b c xs (Ok u) → Going a c whole more
 going_on a b c whole rest xs more u e g h = record {
   front = g.front ++ xs;
@@ -76,7 +70,8 @@ going_on a b c whole rest xs more u e g h = record {
   split = g.split ∙ ap (λ t. g.front ++ t) e ∙ sym (append_assoc g.front xs more);
 }
 
-pub going_cut : {S T E F : Type 0} (a b c : Option (List ℕ)) (whole rest xs more : List ℕ) (e : E) (f : F) (r : Result T F) → rest ≡ xs ++ more → r ≡ Err f
+pub going_cut : {S T E F : Type 0} (a b c : Option (List ℕ)) (whole rest xs more : List ℕ) (e : E) (f : F)
+    (r : Result T F) → rest ≡ xs ++ more → r ≡ Err f
     → Going a b whole rest → TakesAll {T = S} {E = E} Gains b c xs (Err e) → TakesAll {T = T} {E = F} Gains a c whole r
 going_cut {S} {T} {E} {F} a b c whole rest xs more e f r split is g h =
     let P : List ℕ → Type 0 = λ t. TakesAll {T = T} {E = F} Gains a c t r in
@@ -85,8 +80,10 @@ going_cut {S} {T} {E} {F} a b c whole rest xs more e f r split is g h =
     (wrote_then a b c g.front (xs ++ more) r g.wrote (subst Q (sym is) (cut_before {S = S} {T = T} b c xs more e f h)))
 
 -- what a function writes of a list's rest is what it writes of the element there, and of the rest behind it
-pub next_of : {X : Type 0} (texts : List X → List ℕ) (text : X → List ℕ) (xs : List X) (i : ℕ) (d : X) → ((x : X) (ys : List X) → texts (x ∷ ys) ≡ text x ++ texts ys)
+pub next_of : {X : Type 0} (texts : List X → List ℕ) (text : X → List ℕ) (xs : List X) (i : ℕ) (d : X)
+    → ((x : X) (ys : List X) → texts (x ∷ ys) ≡ text x ++ texts ys)
     → i < length xs → texts (drop i xs) ≡ text (get_or xs i d) ++ texts (drop (i + 1) xs)
 next_of texts text xs i d step h =
     let e : suc i ≡ i + 1 = omega arith in
-    ap texts (drop-cons xs i d h) ∙ step (get_or xs i d) (drop (suc i) xs) ∙ ap (λ k. text (get_or xs i d) ++ texts (drop k xs)) e
+    ap texts (drop-cons xs i d h) ∙ step (get_or xs i d) (drop (suc i) xs)
+    ∙ ap (λ k. text (get_or xs i d) ++ texts (drop k xs)) e

@@ -1,31 +1,32 @@
 -- Nodes that are set to what drives them.
-use Rattle.std.proofs.Common.{◌≡◌, ◌⊎◌, inl, inr, ◌∙◌, ℕ, zero, suc, ◌+◌, ◌<◌, ◌≤◌, List, [], ◌∷◌, ◌++◌, length, get_or, set, take, refl, sym, ap, subst, arith, Option, Some, None}
+use Rattle.std.proofs.Common.{◌≡◌, ◌⊎◌, inl, inr, ◌∙◌, ℕ, zero, suc, ◌+◌, ◌<◌, List, [], ◌∷◌, ◌++◌, length, get_or, set}
+use Rattle.std.proofs.Common.{take, refl, sym, ap, subst, arith, Option, Some, None}
 use Rattle.std.specs.Prelude.{Contains, flat_map}
 use Rattle.std.specs.List.{AllZip}
-use Rattle.std.proofs.lemmas.Bool.{cases_lt, cases_eq}
-use Rattle.std.proofs.lemmas.List.{get_or-set_same, get_or-set_other, get_or_append_left, get_or_push}
+use Rattle.std.proofs.lemmas.Bool.{cases_eq}
+use Rattle.std.proofs.lemmas.List.{get_or-set_same, get_or-set_other}
 use Rattle.std.proofs.lemmas.List.Elements.{Contains-append_cases}
 use Rattle.std.proofs.lemmas.Grind.{flat_map-append}
 use Rattle.mp_base.specs.declared.value.Trit.{Trit}
 use Rattle.settle.specs.Values.{driver_at}
-use Rattle.switch_net.specs.Pads.{trit_of, low_bits}
-use Rattle.std.specs.Int.{bit_at}
+use Rattle.mp_base.proofs.Zips.{zip_at}
 use Rattle.clock_run.specs.Driving.{IsDriven, AreDriven, AreSet}
 use Rattle.clock_run.proofs.Naming.{take_push}
-use Rattle.clock_run.proofs.Zips.{zip_at}
 
 pub set_none : (driver : ℕ → Option Trit) (drive : List (Option Trit)) → AreSet driver [] drive drive
 set_none driver drive = record { these = λ n c. absurd (omega (arith, c.1)); others = λ n. inl refl }
 
 -- setting more nodes after some
-pub set_then : (driver : ℕ → Option Trit) (ns ms : List ℕ) (a b c : List (Option Trit)) → AreSet driver ns a b → AreSet driver ms b c
+pub set_then : (driver : ℕ → Option Trit) (ns ms : List ℕ) (a b c : List (Option Trit)) → AreSet driver ns a b
+    → AreSet driver ms b c
     → AreSet driver (ns ++ ms) a c
 set_then driver ns ms a b c h k = record {
   these = λ n m. these n (Contains-append_cases ns ms n m);
   others = λ n. either n (k.others n) (h.others n);
 }
   where
-    kept : (n : ℕ) → driver_at b n ≡ driver n → (driver_at c n ≡ driver_at b n) ⊎ (driver_at c n ≡ driver n) → driver_at c n ≡ driver n
+    kept : (n : ℕ) → driver_at b n ≡ driver n → (driver_at c n ≡ driver_at b n) ⊎ (driver_at c n ≡ driver n)
+        → driver_at c n ≡ driver n
     kept n e (inl s) = s ∙ e
     kept n e (inr s) = s
 
@@ -34,7 +35,8 @@ set_then driver ns ms a b c h k = record {
     these n (inr m) = k.these n m
 
     either : (n : ℕ) → (driver_at c n ≡ driver_at b n) ⊎ (driver_at c n ≡ driver n)
-        → (driver_at b n ≡ driver_at a n) ⊎ (driver_at b n ≡ driver n) → (driver_at c n ≡ driver_at a n) ⊎ (driver_at c n ≡ driver n)
+        → (driver_at b n ≡ driver_at a n) ⊎ (driver_at b n ≡ driver n)
+        → (driver_at c n ≡ driver_at a n) ⊎ (driver_at c n ≡ driver n)
     either n (inr e) _ = inr e
     either n (inl e) (inl f) = inl (e ∙ f)
     either n (inl e) (inr f) = inr (e ∙ f)
@@ -50,12 +52,14 @@ set_one driver n b a lt e = record { these = λ m c. these m c; others = λ m. o
     these m (zero, l, is) = subst (λ x. driver_at (set a n (Some b)) x ≡ driver x) is here
     these m (suc k, l, is) = absurd (omega (arith, l))
 
-    others : (m : ℕ) → (m ≡ n) ⊎ (m ≡ n → ⊥) → (driver_at (set a n (Some b)) m ≡ driver_at a m) ⊎ (driver_at (set a n (Some b)) m ≡ driver m)
+    others : (m : ℕ) → (m ≡ n) ⊎ (m ≡ n → ⊥)
+        → (driver_at (set a n (Some b)) m ≡ driver_at a m) ⊎ (driver_at (set a n (Some b)) m ≡ driver m)
     others m (inl is) = inr (subst (λ x. driver_at (set a n (Some b)) x ≡ driver x) (sym is) here)
     others m (inr d) = inl (get_or-set_other a n m (Some b) None d)
 
 -- one more node of a list
-pub set_more : (driver : ℕ → Option Trit) (nodes : List ℕ) (bits : List Trit) (k n : ℕ) (b : Trit) (first a : List (Option Trit))
+pub set_more : (driver : ℕ → Option Trit) (nodes : List ℕ) (bits : List Trit) (k n : ℕ) (b : Trit)
+    (first a : List (Option Trit))
     → k < length nodes → n ≡ get_or nodes k n
     → b ≡ get_or bits k b → n < length a → AllZip (IsDriven driver) nodes bits → AreSet driver (take k nodes) first a
     → AreSet driver (take (k + 1) nodes) first (set a n (Some b))
@@ -65,44 +69,24 @@ set_more driver nodes bits k n b first a lt is ib inside z h =
     subst (λ ns. AreSet driver ns first (set a n (Some b))) (sym (take_push nodes k n lt is))
     (set_then driver (take k nodes) (n ∷ []) first a (set a n (Some b)) h (set_one driver n b a inside e))
 
-pub length_bits : (n word : ℕ) → length (low_bits n word) ≡ n
-length_bits zero word = refl
-length_bits (suc n) word = length_push_one (low_bits n word) (trit_of (bit_at word n)) ∙ ap suc (length_bits n word)
-  where
-    length_push_one : (xs : List Trit) (x : Trit) → length (xs ++ x ∷ []) ≡ suc (length xs)
-    length_push_one [] x = refl
-    length_push_one (y ∷ ys) x = ap suc (length_push_one ys x)
-
-last_or_before : (n word k : ℕ) (d : Trit) → k < suc n → (k < n → get_or (low_bits n word) k d ≡ trit_of (bit_at word k))
-    → get_or (low_bits (suc n) word) k d ≡ trit_of (bit_at word k)
-last_or_before n word k d lt before = by_place (cases_lt k n)
-  where
-    by_place : (k < n) ⊎ (n ≤ k) → get_or (low_bits n word ++ trit_of (bit_at word n) ∷ []) k d ≡ trit_of (bit_at word k)
-    by_place (inl h) =
-        let l : length (low_bits n word) ≡ n = length_bits n word in
-        get_or_append_left (low_bits n word) (trit_of (bit_at word n) ∷ []) d k (omega (arith, h, l)) ∙ before h
-    by_place (inr h) =
-        let e : n ≡ k = omega (arith, h, lt) in
-        get_or_push (low_bits n word) (trit_of (bit_at word n)) d k (length_bits n word ∙ e) ∙ ap (λ m. trit_of (bit_at word m)) e
-
--- a bit among the lowest
-pub low_bit : (n word k : ℕ) (d : Trit) → k < n → get_or (low_bits n word) k d ≡ trit_of (bit_at word k)
-low_bit zero word k d lt = absurd (omega (arith, lt))
-low_bit (suc n) word k d lt = last_or_before n word k d lt (λ h. low_bit n word k d h)
-
-pub set_more_words : (driver : ℕ → Option Trit) (nodes : List (List ℕ)) (words : List ℕ) (k : ℕ) (ns : List ℕ) (word : ℕ)
+pub set_more_words : (driver : ℕ → Option Trit) (nodes : List (List ℕ)) (words : List ℕ) (k : ℕ) (ns : List ℕ)
+    (word : ℕ)
     (first a b : List (Option Trit)) → k < length nodes
     → ns ≡ get_or nodes k ns → word ≡ get_or words k word → AllZip (AreDriven driver) nodes words
     → (AreDriven driver ns word → AreSet driver ns a b)
-    → AreSet driver (flat_map (λ xs. xs) (take k nodes)) first a → AreSet driver (flat_map (λ xs. xs) (take (k + 1) nodes)) first b
+    → AreSet driver (flat_map (λ xs. xs) (take k nodes)) first a
+    → AreSet driver (flat_map (λ xs. xs) (take (k + 1) nodes)) first b
 set_more_words driver nodes words k ns word first a b lt is iw z f h =
-    let d : AreDriven driver (get_or nodes k ns) (get_or words k word) = zip_at (AreDriven driver) nodes words z k ns word lt in
+    let d : AreDriven driver (get_or nodes k ns) (get_or words k word) =
+    zip_at (AreDriven driver) nodes words z k ns word lt in
     let d2 : AreDriven driver ns word = subst (λ x. AreDriven driver x word) (sym is)
     (subst (λ x. AreDriven driver (get_or nodes k ns) x) (sym iw) d) in
-    let all : AreSet driver (flat_map (λ xs. xs) (take k nodes) ++ ns) first b = set_then driver (flat_map (λ xs. xs) (take k nodes)) ns
+    let all : AreSet driver (flat_map (λ xs. xs) (take k nodes) ++ ns) first b =
+    set_then driver (flat_map (λ xs. xs) (take k nodes)) ns
     first a b h (f d2) in
     let flat : flat_map (λ xs. xs) (take k nodes) ++ ns ≡ flat_map (λ xs. xs) (take (k + 1) nodes) =
-    ap (λ xs. flat_map (λ ys. ys) (take k nodes) ++ xs) (sym (one_list ns)) ∙ sym (flat_map-append (λ xs. xs) (take k nodes) (ns ∷ []))
+    ap (λ xs. flat_map (λ ys. ys) (take k nodes) ++ xs) (sym (one_list ns))
+    ∙ sym (flat_map-append (λ xs. xs) (take k nodes) (ns ∷ []))
     ∙ ap (λ xs. flat_map (λ ys. ys) xs) (sym (take_push nodes k ns lt is)) in
     subst (λ xs. AreSet driver xs first b) flat all
   where

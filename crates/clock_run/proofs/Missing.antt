@@ -1,5 +1,6 @@
 -- The first label that is missing.
-use Rattle.std.proofs.Common.{◌≡◌, ◌≢◌, ◌∙◌, ℕ, zero, suc, ◌+◌, ◌<◌, List, [], ◌∷◌, ◌++◌, length, get_or, take, drop, refl, sym, ap, subst, arith, Some, length-take}
+use Rattle.std.proofs.Common.{◌≡◌, ◌≢◌, ◌∙◌, ℕ, zero, suc, ◌+◌, ◌<◌, List, [], ◌∷◌, ◌++◌, length, get_or, take, drop}
+use Rattle.std.proofs.Common.{refl, sym, ap, subst, arith, Some, length-take}
 use Rattle.std.specs.Prelude.{Contains, slice_get}
 use Rattle.std.specs.List.{AllZip}
 use Rattle.std.proofs.lemmas.Option.{slice_get-get_or}
@@ -17,23 +18,21 @@ same_some {A} o x y h k = let e : ◌≡◌ {A = _} (Some x) (Some y) = sym h �
 pub stands_at : {A : Type 0} (xs : List A) (i : ℕ) (x : A) → i < length xs → x ≡ get_or xs i x → slice_get xs i ≡ Some x
 stands_at xs i x lt is = slice_get-get_or xs i x lt ∙ ap (λ z. Some z) (sym is)
 
-pub place_inside : {A : Type 0} (xs : List A) (i : ℕ) (x : A) → slice_get xs i ≡ Some x → i < length xs
-place_inside [] i x e = absurd (cc)
-place_inside (y ∷ ys) zero x e = omega arith
-place_inside (y ∷ ys) (suc i) x e = omega (arith, place_inside ys i x e)
-
 -- what the first list has at a place, its partner has
-pub partner : {A B : Type 0} (R : A → B → Type 0) (xs rest : List A) (ys : List B) → AllZip R xs ys → (j : ℕ) (x : A) → j < length xs
+pub partner : {A B : Type 0} (R : A → B → Type 0) (xs rest : List A) (ys : List B) → AllZip R xs ys → (j : ℕ) (x : A)
+    → j < length xs
     → slice_get (xs ++ rest) j ≡ Some x → (y : B) × R x y
 partner R [] rest [] h j x lt e = absurd (omega (arith, lt))
 partner R [] rest (y ∷ ys) h j x lt e = absurd h
 partner R (x ∷ xs) rest [] h j z lt e = absurd h
-partner R (x ∷ xs) rest (y ∷ ys) h zero z lt e = (y, subst (λ w. R w y) (same_some (slice_get (x ∷ (xs ++ rest)) 0) x z refl e) h.0)
+partner R (x ∷ xs) rest (y ∷ ys) h zero z lt e =
+    (y, subst (λ w. R w y) (same_some (slice_get (x ∷ (xs ++ rest)) 0) x z refl e) h.0)
 partner R (x ∷ xs) rest (y ∷ ys) h (suc j) z lt e = partner R xs rest ys h.1 j z (omega (arith, lt)) e
 
 pub missing_here : (net : Network) (labels : List (List ℕ)) (i : ℕ) (name : List ℕ) (nodes : List ℕ) → i < length labels
     → name ≡ get_or labels i name
-    → AllZip (IsLabelled net) (take i labels) nodes → ((t : Tag) → Contains net.tags t → t.name ≢ name) → IsMissingLabel net labels name
+    → AllZip (IsLabelled net) (take i labels) nodes → ((t : Tag) → Contains net.tags t → t.name ≢ name)
+    → IsMissingLabel net labels name
 missing_here net labels i name nodes lt is h none = record {
   i = i;
   missing = record { at = stands_at labels i name lt is; none = none };
@@ -41,11 +40,13 @@ missing_here net labels i name nodes lt is h none = record {
       let l : length (take i labels) ≡ i = length-take i labels ∙ omega arith in
       let there : slice_get (take i labels ++ drop i labels) j ≡ Some other = subst (λ xs. slice_get xs j ≡ Some other)
       (sym (take-append-drop i labels)) m.at in
-      let w = partner (IsLabelled net) (take i labels) (drop i labels) nodes h j other (omega (arith, l, before)) there in
+      let w = partner (IsLabelled net) (take i labels) (drop i labels) nodes h j other
+      (omega (arith, l, before)) there in
       m.none w.1.0 w.1.1 w.1.2;
 }
 
-pub labelled_more : (net : Network) (labels : List (List ℕ)) (i : ℕ) (name : List ℕ) (nodes : List ℕ) (node : ℕ) → i < length labels
+pub labelled_more : (net : Network) (labels : List (List ℕ)) (i : ℕ) (name : List ℕ) (nodes : List ℕ) (node : ℕ)
+    → i < length labels
     → name ≡ get_or labels i name
     → AllZip (IsLabelled net) (take i labels) nodes → IsLabelled net name node
     → AllZip (IsLabelled net) (take (i + 1) labels) (nodes ++ node ∷ [])

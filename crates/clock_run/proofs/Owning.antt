@@ -1,8 +1,10 @@
 -- The first label of a driver on each node.
-use Rattle.std.proofs.Common.{◌≡◌, ◌≢◌, ◌⊎◌, inl, inr, ◌∙◌, ℕ, ◌+◌, ◌<◌, List, length, get_or, set, refl, sym, ap, subst, arith, Option, Some, None}
+use Rattle.std.proofs.Common.{◌≡◌, ◌≢◌, ◌⊎◌, inl, inr, ◌∙◌, ℕ, ◌+◌, ◌<◌, List, length, get_or, set, refl, sym, ap}
+use Rattle.std.proofs.Common.{subst, arith, Option, Some, None}
 use Rattle.std.specs.Prelude.{Contains, slice_get}
 use Rattle.std.proofs.lemmas.Bool.{cases_eq}
 use Rattle.std.proofs.lemmas.List.{get_or_default, get_or-set_same, get_or-set_other}
+use Rattle.mp_base.proofs.Numbers.{below_suc}
 use Rattle.switch_net.specs.declared.network.Tag.{Tag}
 use Rattle.switch_net.specs.declared.network.Network.{Network}
 use Rattle.switch_net.specs.Breaks.{IsDrivenTwice, MeetsDriver}
@@ -29,21 +31,21 @@ pub record Owners (drivers : List (List ℕ)) (tags : List Tag) (owners : List (
   pub each : (k : ℕ) (t : Tag) → k < i → slice_get tags k ≡ Some t → Contains drivers t.name → HasOwner tags owners t
   pub none : (k : ℕ) → k < i → ¬ MeetsDriver drivers tags k
 
-below_suc : (k i : ℕ) → k < i + 1 → (k < i) ⊎ (k ≡ i)
-below_suc k i h = grind arith
-
 module _ (drivers : List (List ℕ)) (tags : List Tag) (i : ℕ) (t : Tag) (at : slice_get tags i ≡ Some t) where
   here : (k : ℕ) (u : Tag) → k ≡ i → slice_get tags k ≡ Some u → u ≡ t
   here k u e h = same_some (slice_get tags i) u t (subst (λ n. slice_get tags n ≡ Some u) e h) at
 
   -- no earlier label of a driver on the node has another name
-  agree : ((k : ℕ) (u : Tag) → k < i → slice_get tags k ≡ Some u → Contains drivers u.name → u.node ≡ t.node → u.name ≡ t.name)
+  agree : ((k : ℕ) (u : Tag) → k < i → slice_get tags k ≡ Some u → Contains drivers u.name → u.node ≡ t.node
+      → u.name ≡ t.name)
       → ¬ MeetsDriver drivers tags i
   agree h (tag, d) =
       let e = here i tag refl d.at in
-      d.names (h d.j d.earlier d.before d.there d.another (d.node ∙ ap (λ (x : Tag). x.node) e) ∙ sym (ap (λ (x : Tag). x.name) e))
+      d.names (h d.j d.earlier d.before d.there d.another (d.node ∙ ap (λ (x : Tag). x.node) e)
+      ∙ sym (ap (λ (x : Tag). x.name) e))
 
-  none_more : (owners : List (Option ℕ)) → Owners drivers tags owners i → ¬ MeetsDriver drivers tags i → (k : ℕ) → k < i + 1
+  none_more : (owners : List (Option ℕ)) → Owners drivers tags owners i → ¬ MeetsDriver drivers tags i → (k : ℕ)
+      → k < i + 1
       → ¬ MeetsDriver drivers tags k
   none_more owners o n k lt m = by_place (below_suc k i lt)
     where
@@ -56,14 +58,17 @@ module _ (drivers : List (List ℕ)) (tags : List Tag) (i : ℕ) (t : Tag) (at :
   owners_skip owners o not = record {
     held = λ n j e. let h = o.held n j e in (omega (arith, h.0), h.1);
     each = λ k u lt s d. each k u s d (below_suc k i lt);
-    none = none_more owners o (λ m. not (subst (λ (x : Tag). Contains drivers x.name) (here i m.0 refl m.1.at) m.1.driver));
+    none = none_more owners o
+        (λ m. not (subst (λ (x : Tag). Contains drivers x.name) (here i m.0 refl m.1.at) m.1.driver));
   }
     where
-      each : (k : ℕ) (u : Tag) → slice_get tags k ≡ Some u → Contains drivers u.name → (k < i) ⊎ (k ≡ i) → HasOwner tags owners u
+      each : (k : ℕ) (u : Tag) → slice_get tags k ≡ Some u → Contains drivers u.name → (k < i) ⊎ (k ≡ i)
+          → HasOwner tags owners u
       each k u s d (inl l) = o.each k u l s d
       each k u s d (inr e) = absurd (not (subst (λ (x : Tag). Contains drivers x.name) (here k u e s) d))
 
-  pub owners_same : (owners : List (Option ℕ)) (j : ℕ) (first : Tag) → Owners drivers tags owners i → get_or owners t.node None ≡ Some j
+  pub owners_same : (owners : List (Option ℕ)) (j : ℕ) (first : Tag) → Owners drivers tags owners i
+      → get_or owners t.node None ≡ Some j
       → slice_get tags j ≡ Some first → first.name ≡ t.name → Owners drivers tags owners (i + 1)
   owners_same owners j first o own there name = record {
     held = λ n k e. let h = o.held n k e in (omega (arith, h.0), h.1);
@@ -71,18 +76,23 @@ module _ (drivers : List (List ℕ)) (tags : List Tag) (i : ℕ) (t : Tag) (at :
     none = none_more owners o (agree (λ k u lt s d same. alike u same (o.each k u lt s d)));
   }
     where
-      each : (k : ℕ) (u : Tag) → slice_get tags k ≡ Some u → Contains drivers u.name → (k < i) ⊎ (k ≡ i) → HasOwner tags owners u
+      each : (k : ℕ) (u : Tag) → slice_get tags k ≡ Some u → Contains drivers u.name → (k < i) ⊎ (k ≡ i)
+          → HasOwner tags owners u
       each k u s d (inl l) = o.each k u l s d
       each k u s d (inr e) =
-          subst (HasOwner tags owners) (sym (here k u e s)) (record { j = j; tag = first; held = own; at = there; name = name })
+          subst (HasOwner tags owners) (sym (here k u e s))
+          (record { j = j; tag = first; held = own; at = there; name = name })
 
       alike : (u : Tag) → u.node ≡ t.node → HasOwner tags owners u → u.name ≡ t.name
       alike u same h =
-          let e : h.j ≡ j = same_some (get_or owners t.node None) h.j j (subst (λ n. get_or owners n None ≡ Some h.j) same h.held) own in
-          let f : h.tag ≡ first = same_some (slice_get tags j) h.tag first (subst (λ n. slice_get tags n ≡ Some h.tag) e h.at) there in
+          let e : h.j ≡ j =
+          same_some (get_or owners t.node None) h.j j (subst (λ n. get_or owners n None ≡ Some h.j) same h.held) own in
+          let f : h.tag ≡ first =
+          same_some (slice_get tags j) h.tag first (subst (λ n. slice_get tags n ≡ Some h.tag) e h.at) there in
           sym h.name ∙ ap (λ (x : Tag). x.name) f ∙ name
 
-  pub owners_new : (owners : List (Option ℕ)) → Owners drivers tags owners i → t.node < length owners → Contains drivers t.name
+  pub owners_new : (owners : List (Option ℕ)) → Owners drivers tags owners i → t.node < length owners
+      → Contains drivers t.name
       → get_or owners t.node None ≡ None
       → Owners drivers tags (set owners t.node (Some i)) (i + 1)
   owners_new owners o inside driver free = record {
@@ -92,10 +102,12 @@ module _ (drivers : List (List ℕ)) (tags : List Tag) (i : ℕ) (t : Tag) (at :
   }
     where
       clash : (u : Tag) → u.node ≡ t.node → HasOwner tags owners u → ⊥
-      clash u same h = let e : ◌≡◌ {A = Option ℕ} (Some h.j) None = sym h.held ∙ ap (λ n. get_or owners n None) same ∙ free in cc
+      clash u same h =
+          let e : ◌≡◌ {A = Option ℕ} (Some h.j) None = sym h.held ∙ ap (λ n. get_or owners n None) same ∙ free in cc
 
       here_set : (n : ℕ) → n ≡ t.node → get_or (set owners t.node (Some i)) n None ≡ Some i
-      here_set n e = ap (λ m. get_or (set owners t.node (Some i)) m None) e ∙ get_or-set_same owners t.node (Some i) None inside
+      here_set n e =
+          ap (λ m. get_or (set owners t.node (Some i)) m None) e ∙ get_or-set_same owners t.node (Some i) None inside
 
       other_set : (n : ℕ) → (n ≡ t.node → ⊥) → get_or (set owners t.node (Some i)) n None ≡ get_or owners n None
       other_set n d = get_or-set_other owners t.node n (Some i) None d
@@ -103,20 +115,30 @@ module _ (drivers : List (List ℕ)) (tags : List Tag) (i : ℕ) (t : Tag) (at :
       held : (n j : ℕ) → get_or (set owners t.node (Some i)) n None ≡ Some j → (n ≡ t.node) ⊎ (n ≡ t.node → ⊥)
           → (j < i + 1) × IsOwner drivers tags n j
       held n j e (inl is) =
-          let f : i ≡ j = same_some (get_or (set owners t.node (Some i)) n None) i j (here_set n is) e in
-          (omega (arith, f), subst (λ k. IsOwner drivers tags n k) f (record { tag = t; at = at; driver = driver; node = sym is }))
+          let f : i ≡ j = same_some (get_or (set owners t.node (Some i)) n None) i j (here_set n is) e in (
+            omega (arith, f),
+            subst (λ k. IsOwner drivers tags n k) f
+                (record { tag = t; at = at; driver = driver; node = sym is }),
+          )
       held n j e (inr d) = let h = o.held n j (sym (other_set n d) ∙ e) in (omega (arith, h.0), h.1)
 
       each : (k : ℕ) (u : Tag) → slice_get tags k ≡ Some u → Contains drivers u.name → (k < i) ⊎ (k ≡ i)
           → HasOwner tags (set owners t.node (Some i)) u
       each k u s d (inl l) =
           let h = o.each k u l s d in
-          record { j = h.j; tag = h.tag; held = other_set u.node (λ same. clash u same h) ∙ h.held; at = h.at; name = h.name }
+          record {
+            j = h.j;
+            tag = h.tag;
+            held = other_set u.node (λ same. clash u same h) ∙ h.held;
+            at = h.at;
+            name = h.name;
+          }
       each k u s d (inr e) =
           subst (HasOwner tags (set owners t.node (Some i))) (sym (here k u e s))
           (record { j = i; tag = t; held = here_set t.node refl; at = at; name = refl })
 
-  pub owners_meet : (owners : List (Option ℕ)) (j : ℕ) (first : Tag) → Owners drivers tags owners i → Contains drivers t.name
+  pub owners_meet : (owners : List (Option ℕ)) (j : ℕ) (first : Tag) → Owners drivers tags owners i
+      → Contains drivers t.name
       → get_or owners t.node None ≡ Some j
       → slice_get tags j ≡ Some first → first.name ≢ t.name → IsDrivenTwice drivers tags i t
   owners_meet owners j first o driver own there differ =

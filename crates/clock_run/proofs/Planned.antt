@@ -1,5 +1,6 @@
 -- A plan's nodes are the ones that are driven.
-use Rattle.std.proofs.Common.{◌≡◌, ◌⊎◌, inl, inr, ◌∙◌, ℕ, zero, suc, ◌<◌, ◌≤◌, List, [], ◌∷◌, ◌++◌, length, replicate, refl, sym, ap, subst, arith, Option, Some, None}
+use Rattle.std.proofs.Common.{◌≡◌, ◌⊎◌, inl, inr, ◌∙◌, ℕ, zero, suc, ◌<◌, ◌≤◌, List, [], ◌∷◌, ◌++◌, length, replicate}
+use Rattle.std.proofs.Common.{refl, sym, ap, subst, arith, Option, Some, None}
 use Rattle.std.specs.Prelude.{Contains, flat_map, All}
 use Rattle.std.specs.List.{AllZip}
 use Rattle.std.proofs.lemmas.Bool.{cases_lt}
@@ -9,24 +10,18 @@ use Rattle.mp_base.specs.declared.value.Trit.{Trit}
 use Rattle.mp_base.specs.declared.pad.Pad.{Pad}
 use Rattle.mp_base.specs.declared.pad.Pads.{Pads}
 use Rattle.mp_base.specs.PadNames.{supplies}
+use Rattle.mp_base.proofs.Contents.{contains_behind}
+use Rattle.mp_base.proofs.Zips.{zip_length}
 use Rattle.settle.specs.Values.{driver_at}
 use Rattle.switch_net.specs.declared.network.Tag.{Tag}
 use Rattle.switch_net.specs.declared.network.Network.{Network}
 use Rattle.switch_net.specs.Pads.{Fit, bit_count, bit_labels, low_bits, pad_bits}
 use Rattle.switch_net.specs.Clock.{Phases, Drive, drive, bit_drives, input_drives, drives, IsLabelled, AreDrivers}
+use Rattle.switch_net.proofs.Labels.{length_bits, one_node}
 use Rattle.clock_run.specs.Driving.{IsDriven, AreDriven, AreSet}
 use Rattle.clock_run.specs.Settings.{levels}
 use Rattle.clock_run.specs.Plan.{AreNodesOf, IsPlan}
-use Rattle.clock_run.proofs.Driven.{length_bits}
 use Rattle.clock_run.proofs.Splitting.{length_labels}
-use Rattle.clock_run.proofs.Zips.{zip_length}
-
-one_node : (net : Network) (name : List ℕ) (n m : ℕ) → IsLabelled net name n → IsLabelled net name m → n ≡ m
-one_node net name n m t u = sym t.3 ∙ net.one_node_each t.0 u.0 t.1 u.1 (t.2 ∙ sym u.2) ∙ u.3
-
--- an element after another
-after : {A : Type 0} (x : A) (xs : List A) (y : A) → Contains xs y → Contains (x ∷ xs) y
-after x xs y c = (suc c.0, omega (arith, c.1), c.2)
 
 -- a node among some that has the label
 abbrev Among : Network → List ℕ → List ℕ → Type 0
@@ -46,11 +41,12 @@ among_bits net (x ∷ xs) (b ∷ bs) (n ∷ ns) l z d (zero, lt, e) =
     (n, (0, omega arith, refl), subst (λ (y : Drive). IsLabelled net y.name n) e z.0)
 among_bits net (x ∷ xs) (b ∷ bs) (n ∷ ns) l z d (suc k, lt, e) =
     let w = among_bits net xs bs ns (omega (arith, l)) z.1 d (k, omega (arith, lt), e) in
-    (w.0, after n ns w.0 w.1, w.2)
+    (w.0, contains_behind w.0 n ns w.1, w.2)
 
 follow_bits : (net : Network) (driver : ℕ → Option Trit) (names : List (List ℕ)) (bits : List Trit) (nodes : List ℕ)
     → length names ≡ length bits
-    → AllZip (IsLabelled net) names nodes → Followed net driver (bit_drives names bits) → AllZip (IsDriven driver) nodes bits
+    → AllZip (IsLabelled net) names nodes → Followed net driver (bit_drives names bits)
+    → AllZip (IsDriven driver) nodes bits
 follow_bits net driver [] [] [] l z f = tt
 follow_bits net driver [] [] (n ∷ ns) l z f = absurd z
 follow_bits net driver [] (b ∷ bs) nodes l z f = absurd (omega (arith, l))
@@ -58,14 +54,16 @@ follow_bits net driver (x ∷ xs) [] nodes l z f = absurd (omega (arith, l))
 follow_bits net driver (x ∷ xs) (b ∷ bs) [] l z f = absurd z
 follow_bits net driver (x ∷ xs) (b ∷ bs) (n ∷ ns) l z f = (
   f (drive x b) n (0, omega arith, refl) z.0,
-  follow_bits net driver xs bs ns (omega (arith, l)) z.1 (λ d m c k. f d m (after (drive x b) (bit_drives xs bs) d c) k),
+  follow_bits net driver xs bs ns (omega (arith, l)) z.1
+      (λ d m c k. f d m (contains_behind d (drive x b) (bit_drives xs bs) c) k),
 )
 
 -- a pad has as many labels as bits
 as_many : (pad : Pad) (word : ℕ) → length (bit_labels pad) ≡ length (pad_bits pad word)
 as_many pad word = length_labels pad ∙ sym (length_bits (bit_count pad.width) word)
 
-among_inputs : (net : Network) (pads : List Pad) (words : List ℕ) (own : List (List ℕ)) → AllZip (AreNodesOf net) pads own
+among_inputs : (net : Network) (pads : List Pad) (words : List ℕ) (own : List (List ℕ))
+    → AllZip (AreNodesOf net) pads own
     → (d : Drive) → Contains (input_drives pads words) d → Among net (flat_map (λ ns. ns) own) d.name
 among_inputs net [] words own z d c = absurd (omega (arith, c.1))
 among_inputs net (p ∷ ps) [] own z d c = absurd (omega (arith, c.1))
@@ -84,19 +82,25 @@ among_inputs net (p ∷ ps) (w ∷ ws) (ns ∷ own) z d c =
         let m = later k in
         (m.0, Contains-append_right ns (flat_map (λ xs. xs) own) m.0 m.1, m.2)
 
-follow_inputs : (net : Network) (driver : ℕ → Option Trit) (pads : List Pad) (words : List ℕ) (own : List (List ℕ)) → Fit pads words
-    → AllZip (AreNodesOf net) pads own → Followed net driver (input_drives pads words) → AllZip (AreDriven driver) own words
+follow_inputs : (net : Network) (driver : ℕ → Option Trit) (pads : List Pad) (words : List ℕ) (own : List (List ℕ))
+    → Fit pads words
+    → AllZip (AreNodesOf net) pads own → Followed net driver (input_drives pads words)
+    → AllZip (AreDriven driver) own words
 follow_inputs net driver [] [] [] fit z f = tt
 follow_inputs net driver [] [] (ns ∷ own) fit z f = absurd z
 follow_inputs net driver [] (w ∷ ws) own fit z f = absurd fit
 follow_inputs net driver (p ∷ ps) [] own fit z f = absurd fit
 follow_inputs net driver (p ∷ ps) (w ∷ ws) [] fit z f = absurd z
 follow_inputs net driver (p ∷ ps) (w ∷ ws) (ns ∷ own) fit z f =
-    let l : bit_count p.width ≡ length ns = sym (length_labels p) ∙ zip_length (IsLabelled net) (bit_labels p) ns z.0 in (
-      subst (λ n. AllZip (IsDriven driver) ns (low_bits n w)) l (follow_bits net driver (bit_labels p) (pad_bits p w) ns (as_many p w) z.0
-          (λ d m c k. f d m (Contains-append_left (bit_drives (bit_labels p) (pad_bits p w)) (input_drives ps ws) d c) k)),
+    let l : bit_count p.width ≡ length ns =
+    sym (length_labels p) ∙ zip_length (IsLabelled net) (bit_labels p) ns z.0 in (
+      subst (λ n. AllZip (IsDriven driver) ns (low_bits n w)) l
+          (follow_bits net driver (bit_labels p) (pad_bits p w) ns (as_many p w) z.0
+          (λ d m c k. f d m
+          (Contains-append_left (bit_drives (bit_labels p) (pad_bits p w)) (input_drives ps ws) d c) k)),
       follow_inputs net driver ps ws own fit.1 z.1
-          (λ d m c k. f d m (Contains-append_right (bit_drives (bit_labels p) (pad_bits p w)) (input_drives ps ws) d c) k),
+          (λ d m c k. f d m
+          (Contains-append_right (bit_drives (bit_labels p) (pad_bits p w)) (input_drives ps ws) d c) k),
     )
 
 undriven : (size n : ℕ) → driver_at (replicate size None) n ≡ None
@@ -108,7 +112,8 @@ undriven size n = by_place (cases_lt n size)
         let l : length (replicate {A = Option Trit} size None) ≡ size = length-replicate size None in
         get_or_past (replicate size None) n None (omega (arith, l, le))
 
-module _ (net : Network) (pads : Pads) (supply : List ℕ) (inputs outputs : List (List ℕ)) (plan : IsPlan net pads supply inputs outputs)
+module _ (net : Network) (pads : Pads) (supply : List ℕ) (inputs outputs : List (List ℕ))
+    (plan : IsPlan net pads supply inputs outputs)
     (words : List ℕ)
     (fit : Fit pads.inputs words) (phases : Phases) (driver : ℕ → Option Trit)
     (drivers : AreDrivers net (drives phases pads.inputs words) driver) where
@@ -141,10 +146,12 @@ module _ (net : Network) (pads : Pads) (supply : List ℕ) (inputs outputs : Lis
           (m.0, Contains-append_right supply (flat_map (λ ns. ns) inputs) m.0 m.1, m.2)
 
   -- nothing else is driven
-  pub plan_drives : (size : ℕ) (new : List (Option Trit)) → AreSet driver nodes (replicate size None) new → driver_at new ≡ driver
+  pub plan_drives : (size : ℕ) (new : List (Option Trit)) → AreSet driver nodes (replicate size None) new
+      → driver_at new ≡ driver
   plan_drives size new set = λ i n. by_driver n (driver n) refl i
     where
-      by_other : (n : ℕ) → driver n ≡ None → (driver_at new n ≡ driver_at (replicate size None) n) ⊎ (driver_at new n ≡ driver n)
+      by_other : (n : ℕ) → driver n ≡ None
+          → (driver_at new n ≡ driver_at (replicate size None) n) ⊎ (driver_at new n ≡ driver n)
           → driver_at new n ≡ driver n
       by_other n e (inl q) = q ∙ undriven size n ∙ sym e
       by_other n e (inr q) = q
@@ -161,7 +168,8 @@ few_bits zero h = omega arith
 few_bits (suc w) h = h
 
 -- a pad has at most 64 nodes
-pub nodes_few : (net : Network) (pads : List Pad) (own : List (List ℕ)) → AllZip (AreNodesOf net) pads own → All (λ ns. length ns ≤ 64) own
+pub nodes_few : (net : Network) (pads : List Pad) (own : List (List ℕ)) → AllZip (AreNodesOf net) pads own
+    → All (λ ns. length ns ≤ 64) own
 nodes_few net [] [] z k d lt = absurd (omega (arith, lt))
 nodes_few net [] (ns ∷ own) z k d lt = absurd z
 nodes_few net (p ∷ ps) [] z k d lt = absurd z

@@ -1,8 +1,10 @@
 -- The nodes of a plan, and why there is none.
-use Rattle.std.proofs.Common.{◌≡◌, ◌∙◌, ℕ, ◌-◌, ◌≤◌, List, [], ◌++◌, length, take, drop, refl, sym, ap, subst, arith, Option, Some, None}
+use Rattle.std.proofs.Common.{◌≡◌, ◌∙◌, ℕ, ◌-◌, ◌≤◌, List, [], ◌++◌, length, take, drop, refl, sym, ap, subst, arith}
+use Rattle.std.proofs.Common.{Option, Some, None}
 use Rattle.std.specs.Prelude.{flat_map, slice_get, MatchOption}
 use Rattle.std.specs.List.{AllZip}
 use Rattle.std.proofs.lemmas.List.{append-nil, length-append, length-drop, take_all}
+use Rattle.std.proofs.lemmas.Option.{slice_get_within}
 use Rattle.mp_base.specs.declared.refusal.Refusal.{Refusal}
 use Rattle.mp_base.specs.declared.refusal.Refusal.TheVariants.{NoMemory, Broken}
 use Rattle.mp_base.specs.declared.refusal.Spot.TheVariants.{Offset}
@@ -10,6 +12,7 @@ use Rattle.mp_base.specs.declared.refusal.Broken.{Broken as BrokenRule}
 use Rattle.mp_base.specs.declared.pad.Pad.{Pad}
 use Rattle.mp_base.specs.declared.pad.Pads.{Pads}
 use Rattle.mp_base.specs.PadNames.{supplies}
+use Rattle.mp_base.proofs.Zips.{zip_length}
 use Rattle.switch_net.specs.declared.network.Network.{Network}
 use Rattle.switch_net.specs.Pads.{bit_labels, driver_labels, chip_labels}
 use Rattle.switch_net.specs.Clock.{IsLabelled}
@@ -18,14 +21,14 @@ use Rattle.switch_net.specs.Breaks.IsFirstOfCircuit.{n3, n4}
 use Rattle.clock_run.specs.Owners.{IsFirstMeeting}
 use Rattle.clock_run.specs.Plan.{AreNodesOf, IsPlan}
 use Rattle.clock_run.specs.Refused.{IsMissingFirst, IsRefused}
-use Rattle.clock_run.proofs.Missing.{partner, place_inside}
-use Rattle.clock_run.proofs.Zips.{zip_parts, zip_length}
+use Rattle.clock_run.proofs.Missing.{partner}
+use Rattle.clock_run.proofs.Zips.{zip_parts}
 
 -- no label is missing where each has a node
 none_missing : (net : Network) (labels : List (List ℕ)) (nodes : List ℕ) → AllZip (IsLabelled net) labels nodes
     → (i : ℕ) (name : List ℕ) → ¬ IsMissing net labels i name
 none_missing net labels nodes z i name m =
-    let w = partner (IsLabelled net) labels [] nodes z i name (place_inside labels i name m.at)
+    let w = partner (IsLabelled net) labels [] nodes z i name (slice_get_within labels i name m.at)
     (subst (λ xs. slice_get xs i ≡ Some name) (sym (append-nil labels)) m.at) in
     m.none w.1.0 w.1.1 w.1.2
 
@@ -34,19 +37,23 @@ pub refused_n3 : (net : Network) (pads : Pads) (offset : ℕ) → IsFirstMeeting
 refused_n3 net pads offset m =
     subst (λ o. IsFirstOfCircuit net pads (broken 3 (Offset o))) (sym m.offset_is) (n3 m.i m.tag m.twice m.first)
 
-pub refused_n4 : (net : Network) (pads : Pads) (r : Refusal) → ((i : ℕ) → ¬ MeetsDriver (driver_labels pads.inputs) net.tags i)
+pub refused_n4 : (net : Network) (pads : Pads) (r : Refusal)
+    → ((i : ℕ) → ¬ MeetsDriver (driver_labels pads.inputs) net.tags i)
     → IsMissingFirst net (chip_labels pads) r → IsRefused net pads r
 refused_n4 net pads NoMemory apart m = tt
 refused_n4 net pads (Broken b) apart m =
     subst (λ (x : BrokenRule). IsFirstOfCircuit net pads x) (sym m.2) (n4 apart m.1.i m.0 m.1.missing m.1.first)
 
 -- which labels a plan's list of names has
-pub drivers_are : (pads : Pads) (ins : List Pad) (drivers shown : List (List ℕ)) → ins ≡ pads.inputs → drivers ≡ driver_labels ins
+pub drivers_are : (pads : Pads) (ins : List Pad) (drivers shown : List (List ℕ)) → ins ≡ pads.inputs
+    → drivers ≡ driver_labels ins
     → shown ≡ drivers → shown ≡ driver_labels pads.inputs
 drivers_are pads ins drivers shown i d s = s ∙ d ∙ ap (λ ps. driver_labels ps) i
 
-pub chip_is : (pads : Pads) (ins outs : List Pad) (drivers labels shown : List (List ℕ)) → ins ≡ pads.inputs → outs ≡ pads.outputs
-    → drivers ≡ driver_labels ins → labels ≡ drivers ++ flat_map bit_labels outs → shown ≡ labels → shown ≡ chip_labels pads
+pub chip_is : (pads : Pads) (ins outs : List Pad) (drivers labels shown : List (List ℕ)) → ins ≡ pads.inputs
+    → outs ≡ pads.outputs
+    → drivers ≡ driver_labels ins → labels ≡ drivers ++ flat_map bit_labels outs → shown ≡ labels
+    → shown ≡ chip_labels pads
 chip_is pads ins outs drivers labels shown i o d l s =
     s ∙ l ∙ ap (λ xs. xs ++ flat_map bit_labels outs) (drivers_are pads ins drivers drivers i d refl)
     ∙ ap (λ ps. driver_labels pads.inputs ++ flat_map bit_labels ps) o
@@ -63,7 +70,8 @@ pub record Resolved (net : Network) (pads : Pads) (nodes : List ℕ) (count : �
   pub labelled : AllZip (IsLabelled net) (chip_labels pads) nodes
   pub counted : count ≡ length (driver_labels pads.inputs)
 
-pub resolved : (net : Network) (pads : Pads) (ins outs : List Pad) (drivers labels shown : List (List ℕ)) (all nodes : List ℕ) (count : ℕ)
+pub resolved : (net : Network) (pads : Pads) (ins outs : List Pad) (drivers labels shown : List (List ℕ))
+    (all nodes : List ℕ) (count : ℕ)
     → ins ≡ pads.inputs → outs ≡ pads.outputs → drivers ≡ driver_labels ins → count ≡ length drivers
     → labels ≡ drivers ++ flat_map bit_labels outs
     → shown ≡ labels → AllZip (IsLabelled net) shown all → nodes ≡ all → Resolved net pads nodes count
@@ -109,17 +117,23 @@ module _ (net : Network) (pads : Pads) (nodes : List ℕ) (count : ℕ) (r : Res
       sym (zip_length (IsLabelled net) outer (take (length nodes - count) (drop count nodes)) output_nodes) ∙ ap
       (λ ps. length (flat_map bit_labels ps)) (sym o)
 
-  pub plan_is : (supply : List ℕ) (ins outs : List Pad) (inputs outputs : List (List ℕ)) → ins ≡ pads.inputs → outs ≡ pads.outputs
+  pub plan_is : (supply : List ℕ) (ins outs : List Pad) (inputs outputs : List (List ℕ)) → ins ≡ pads.inputs
+      → outs ≡ pads.outputs
       → ((i : ℕ) → ¬ MeetsDriver (driver_labels pads.inputs) net.tags i) → supply ≡ take 5 nodes
-      → (AllZip (IsLabelled net) (flat_map bit_labels ins) (take (count - 5) (drop 5 nodes)) → AllZip (AreNodesOf net) ins inputs)
-      → (AllZip (IsLabelled net) (flat_map bit_labels outs) (take (length nodes - count) (drop count nodes)) → AllZip (AreNodesOf net) outs outputs)
+      → (AllZip (IsLabelled net) (flat_map bit_labels ins) (take (count - 5) (drop 5 nodes))
+      → AllZip (AreNodesOf net) ins inputs)
+      → (AllZip (IsLabelled net) (flat_map bit_labels outs) (take (length nodes - count) (drop count nodes))
+      → AllZip (AreNodesOf net) outs outputs)
       → IsPlan net pads supply inputs outputs
   plan_is supply ins outs inputs outputs i o apart s f g = record {
     has_pads = record { apart = apart; labelled = none_missing net (chip_labels pads) nodes r.labelled };
     supply = subst (λ ns. AllZip (IsLabelled net) supplies ns) (sym s) supply_nodes;
     input = subst (λ ps. AllZip (AreNodesOf net) ps inputs) i
-        (f (subst (λ ps. AllZip (IsLabelled net) (flat_map bit_labels ps) (take (count - 5) (drop 5 nodes))) (sym i) input_nodes));
+        (f (subst (λ ps. AllZip (IsLabelled net) (flat_map bit_labels ps) (take (count - 5) (drop 5 nodes)))
+        (sym i) input_nodes));
     output = subst (λ ps. AllZip (AreNodesOf net) ps outputs) o
-        (g (subst (λ ps. AllZip (IsLabelled net) (flat_map bit_labels ps) (take (length nodes - count) (drop count nodes))) (sym o)
+        (g (subst
+        (λ ps. AllZip (IsLabelled net) (flat_map bit_labels ps) (take (length nodes - count) (drop count nodes)))
+        (sym o)
         output_nodes));
   }

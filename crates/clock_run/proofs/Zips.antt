@@ -1,22 +1,8 @@
 -- Lists side by side.
-use Rattle.std.proofs.Common.{◌≡◌, ℕ, zero, suc, ◌<◌, List, [], ◌∷◌, ◌++◌, length, get_or, take, drop, refl, subst, arith}
+use Rattle.std.proofs.Common.{◌≡◌, ℕ, zero, suc, ◌<◌, List, [], ◌∷◌, ◌++◌, length, get_or, take, drop, refl, subst}
+use Rattle.std.proofs.Common.{arith}
 use Rattle.std.specs.Prelude.{Contains}
 use Rattle.std.specs.List.{AllZip}
-
--- what stands at one place
-pub zip_at : {A B : Type 0} (R : A → B → Type 0) (xs : List A) (ys : List B) → AllZip R xs ys → (i : ℕ) (d : A) (e : B) → i < length xs
-    → R (get_or xs i d) (get_or ys i e)
-zip_at R [] [] h i d e lt = absurd (omega (arith, lt))
-zip_at R [] (y ∷ ys) h i d e lt = absurd h
-zip_at R (x ∷ xs) [] h i d e lt = absurd h
-zip_at R (x ∷ xs) (y ∷ ys) h zero d e lt = h.0
-zip_at R (x ∷ xs) (y ∷ ys) h (suc i) d e lt = zip_at R xs ys h.1 i d e (omega (arith, lt))
-
-pub zip_length : {A B : Type 0} (R : A → B → Type 0) (xs : List A) (ys : List B) → AllZip R xs ys → length xs ≡ length ys
-zip_length R [] [] h = refl
-zip_length R [] (y ∷ ys) h = absurd h
-zip_length R (x ∷ xs) [] h = absurd h
-zip_length R (x ∷ xs) (y ∷ ys) h = let e = zip_length R xs ys h.1 in omega (arith, e)
 
 -- lists that are the same place by place
 pub zip_from : {A B : Type 0} (R : A → B → Type 0) (xs : List A) (ys : List B) → length xs ≡ length ys
@@ -28,21 +14,15 @@ zip_from R (x ∷ xs) (y ∷ ys) l h =
     (h 0 x y (omega arith), zip_from R xs ys (omega (arith, l)) (λ i d e lt. h (suc i) d e (omega (arith, lt))))
 
 -- the first part of a list and the rest
-pub zip_parts : {A B : Type 0} (R : A → B → Type 0) (xs zs : List A) (ys : List B) (n : ℕ) → length xs ≡ n → AllZip R (xs ++ zs) ys
+pub zip_parts : {A B : Type 0} (R : A → B → Type 0) (xs zs : List A) (ys : List B) (n : ℕ) → length xs ≡ n
+    → AllZip R (xs ++ zs) ys
     → AllZip R xs (take n ys) × AllZip R zs (drop n ys)
 zip_parts R [] zs ys zero l h = (tt, h)
 zip_parts R [] zs ys (suc n) l h = absurd (omega (arith, l))
 zip_parts R (x ∷ xs) zs [] n l h = absurd h
 zip_parts R (x ∷ xs) zs (y ∷ ys) zero l h = absurd (omega (arith, l))
-zip_parts R (x ∷ xs) zs (y ∷ ys) (suc n) l h = let p = zip_parts R xs zs ys n (omega (arith, l)) h.1 in ((h.0, p.0), p.1)
-
--- another relation of the same lists
-pub zip_weaken : {A B : Type 0} (R S : A → B → Type 0) (xs : List A) (ys : List B) → AllZip R xs ys → ((x : A) (y : B) → R x y → S x y)
-    → AllZip S xs ys
-zip_weaken R S [] [] h f = tt
-zip_weaken R S [] (y ∷ ys) h f = absurd h
-zip_weaken R S (x ∷ xs) [] h f = absurd h
-zip_weaken R S (x ∷ xs) (y ∷ ys) h f = (f x y h.0, zip_weaken R S xs ys h.1 f)
+zip_parts R (x ∷ xs) zs (y ∷ ys) (suc n) l h = let p = zip_parts R xs zs ys n (omega (arith, l)) h.1 in
+    ((h.0, p.0), p.1)
 
 -- what is found on one side stands beside something on the other
 pub beside : {A B : Type 0} (R : A → B → Type 0) (xs : List A) (ys : List B) → AllZip R xs ys → (x : A) → Contains xs x

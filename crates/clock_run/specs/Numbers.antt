@@ -16,4 +16,5 @@ IsTagged tags x node = (t : Tag) × Contains tags t × (t.name ≡ x) × (t.node
 
 -- the names of tags have the numbers of their nodes, and other names have none
 abbrev pub NumberNodes : List Tag → BTreeMap (Bor (List ℕ)) ℕ → Type 0
-NumberNodes tags numbers = (x : List ℕ) → MatchOption (number_of numbers x) ((t : Tag) → Contains tags t → t.name ≢ x) (IsTagged tags x)
+NumberNodes tags numbers = (x : List ℕ)
+    → MatchOption (number_of numbers x) ((t : Tag) → Contains tags t → t.name ≢ x) (IsTagged tags x)

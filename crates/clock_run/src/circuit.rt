@@ -91,7 +91,8 @@ impl<'a> Circuit<'a> {
         ensures network { self.new.network ≡ self.old.network }
         ensures pads { self.new.pads ≡ self.old.pads }
         ensures sized { length self.new.values ≡ self.old.network.nodes }
-        ensures settled { SettlesTo self.old.network (drives (phases_of setting) self.old.pads.inputs inputs.now) (value_at self.old.values) (value_at self.new.values) }
+        ensures settled { SettlesTo self.old.network (drives (phases_of setting) self.old.pads.inputs inputs.now)
+            (value_at self.old.values) (value_at self.new.values) }
     {
         circuits_run();
         self.plan.drive(setting, inputs, &mut self.drive);
@@ -101,8 +102,10 @@ impl<'a> Circuit<'a> {
     /// Reads the words of the output pads.
     fn show(&self, outputs: &mut TritOutputs)
         requires { length outputs.old ≡ length self.now.pads.outputs }
-        ensures shown { AllZip (Shows self.now.network (value_at self.now.values)) self.now.pads.outputs (trits_of self.now.pads.outputs outputs.new) }
-        ensures narrow { AllZip (λ (pad : PadValue) (word : TritWordValue). word.known < 2 ^ bit_count pad.width) self.now.pads.outputs outputs.new }
+        ensures shown { AllZip (Shows self.now.network (value_at self.now.values)) self.now.pads.outputs
+            (trits_of self.now.pads.outputs outputs.new) }
+        ensures narrow { AllZip (λ (pad : PadValue) (word : TritWordValue). word.known < 2 ^ bit_count pad.width)
+            self.now.pads.outputs outputs.new }
     {
         let values = self.settler.values();
         let pads = self.plan.outputs.as_slice();
@@ -119,8 +122,10 @@ impl<'a> Circuit<'a> {
         ensures network { self.new.network ≡ self.old.network }
         ensures pads { self.new.pads ≡ self.old.pads }
         ensures sized { length self.new.values ≡ self.old.network.nodes }
-        ensures clock { IsClock self.old.network self.old.pads inputs.now (value_at self.old.values) (trits_of self.old.pads.outputs outputs.new) (value_at self.new.values) }
-        ensures narrow { AllZip (λ (pad : PadValue) (word : TritWordValue). word.known < 2 ^ bit_count pad.width) self.old.pads.outputs outputs.new }
+        ensures clock { IsClock self.old.network self.old.pads inputs.now (value_at self.old.values)
+            (trits_of self.old.pads.outputs outputs.new) (value_at self.new.values) }
+        ensures narrow { AllZip (λ (pad : PadValue) (word : TritWordValue). word.known < 2 ^ bit_count pad.width)
+            self.old.pads.outputs outputs.new }
     {
         self.set(Setting::PhiC, inputs);
         self.set(Setting::Quiet, inputs);

@@ -25,7 +25,8 @@ fn bit(word: u64, k: usize) -> Trit
 pub(crate) fn drive_levels(nodes: &[u32], levels: &[Trit], drive: &mut [Option<Trit>])
     requires as_many { length levels.now ≡ length nodes.now }
     requires inside { All (λ n. n < length drive.old) nodes.now }
-    ensures { (driver : ℕ → Option TritValue) → AllZip (IsDriven driver) nodes.now levels.now → AreSet driver nodes.now drive.old drive.new }
+    ensures { (driver : ℕ → Option TritValue) → AllZip (IsDriven driver) nodes.now levels.now
+        → AreSet driver nodes.now drive.old drive.new }
 {
     for k in 0..nodes.len() {
         drive[nodes[k] as usize] = Some(levels[k]);
@@ -36,7 +37,8 @@ pub(crate) fn drive_levels(nodes: &[u32], levels: &[Trit], drive: &mut [Option<T
 fn drive_word(nodes: &[u32], word: u64, drive: &mut [Option<Trit>])
     requires few { length nodes.now ≤ 64 }
     requires inside { All (λ n. n < length drive.old) nodes.now }
-    ensures { (driver : ℕ → Option TritValue) → AreDriven driver nodes.now word → AreSet driver nodes.now drive.old drive.new }
+    ensures { (driver : ℕ → Option TritValue) → AreDriven driver nodes.now word
+        → AreSet driver nodes.now drive.old drive.new }
 {
     for k in 0..nodes.len() {
         drive[nodes[k] as usize] = Some(bit(word, k));
@@ -48,7 +50,8 @@ pub(crate) fn drive_words(nodes: &[List<u32>], words: &[u64], drive: &mut [Optio
     requires as_many { length words.now ≡ length nodes.now }
     requires few { All (λ ns. length ns ≤ 64) nodes.now }
     requires inside { All (λ ns. All (λ n. n < length drive.old) ns) nodes.now }
-    ensures { (driver : ℕ → Option TritValue) → AllZip (AreDriven driver) nodes.now words.now → AreSet driver (flat_map (λ ns. ns) nodes.now) drive.old drive.new }
+    ensures { (driver : ℕ → Option TritValue) → AllZip (AreDriven driver) nodes.now words.now
+        → AreSet driver (flat_map (λ ns. ns) nodes.now) drive.old drive.new }
 {
     for k in 0..nodes.len() {
         drive_word(nodes[k].as_slice(), words[k], drive);

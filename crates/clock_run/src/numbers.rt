@@ -23,7 +23,8 @@ fn set<'a>(
     name: &'a [u8],
     number: u32,
 ) -> Result<(), AllocError>
-    ensures { OnOk result ((x : List ℕ) → number_of numbers.new x ≡ cond (bytes_eq name.now x) (Some number) (number_of numbers.old x)) }
+    ensures { OnOk result ((x : List ℕ) → number_of numbers.new x
+        ≡ cond (bytes_eq name.now x) (Some number) (number_of numbers.old x)) }
 {
     numbers.insert(name, number)?;
     Ok(())

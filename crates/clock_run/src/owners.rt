@@ -33,7 +33,8 @@ pub(crate) fn driven_twice(
     network: &Network,
     drivers: &[Name],
 ) -> Result<Option<u64>, AllocError>
-    ensures { IfOk result (λ found. MatchOption found ((i : ℕ) → MeetsDriver drivers.now network.now.tags i → ⊥) (IsFirstMeeting drivers.now network.now.tags)) }
+    ensures { IfOk result (λ found. MatchOption found ((i : ℕ) → MeetsDriver drivers.now network.now.tags i → ⊥)
+        (IsFirstMeeting drivers.now network.now.tags)) }
 {
     let names = names_of(alloc, drivers)?;
     let tags = network.tags.as_slice();

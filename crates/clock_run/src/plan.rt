@@ -1,6 +1,7 @@
 //! The nodes of pads, by which each setting is driven.
 
-ghost use Rattle.std.specs.Prelude.{◌≡◌, ℕ, Option, IfOk, IfErr, length, replicate, None, flat_map, ◌++◌, ◌<◌, ◌≤◌, All};
+ghost use Rattle.std.specs.Prelude.{◌≡◌, ℕ, Option, IfOk, IfErr, length, replicate, None, flat_map, ◌++◌, ◌<◌, ◌≤◌};
+ghost use Rattle.std.specs.Prelude.{All};
 ghost use Rattle.std.specs.List.{AllZip};
 ghost use Rattle.mp_base.specs.declared.value.Trit.{Trit as TritValue};
 ghost use Rattle.mp_base.specs.declared.refusal.Refusal.TheVariants as refusals;
@@ -72,8 +73,10 @@ impl Plan {
         requires few { All (λ ns. length ns ≤ 64) self.now.inputs }
         requires supplies_inside { All (λ n. n < length drive.old) self.now.supplies }
         requires inputs_inside { All (λ ns. All (λ n. n < length drive.old) ns) self.now.inputs }
-        ensures { (driver : ℕ → Option TritValue) → AllZip (IsDriven driver) self.now.supplies (levels (phases_of setting)) → AllZip (AreDriven driver) self.now.inputs inputs.now
-            → AreSet driver (self.now.supplies ++ flat_map (λ ns. ns) self.now.inputs) (replicate (length drive.old) None) drive.new }
+        ensures { (driver : ℕ → Option TritValue) → AllZip (IsDriven driver) self.now.supplies
+            (levels (phases_of setting)) → AllZip (AreDriven driver) self.now.inputs inputs.now
+            → AreSet driver (self.now.supplies ++ flat_map (λ ns. ns) self.now.inputs)
+            (replicate (length drive.old) None) drive.new }
     {
         drive.fill(None);
         drive_levels(self.supplies.as_slice(), &setting.levels(), drive);

@@ -28,7 +28,8 @@ pub(crate) fn split(
     nodes: &[u32],
 ) -> Result<List<List<u32>>, AllocError>
     requires { length nodes.now ≡ length (flat_map bit_labels pads.now) }
-    ensures { IfOk result (λ own. (net : Network) → AllZip (IsLabelled net) (flat_map bit_labels pads.now) nodes.now → AllZip (AreNodesOf net) pads.now own) }
+    ensures { IfOk result (λ own. (net : Network) → AllZip (IsLabelled net) (flat_map bit_labels pads.now) nodes.now
+        → AllZip (AreNodesOf net) pads.now own) }
 {
     let mut own = List::new(alloc);
     let mut start = 0;

@@ -4,7 +4,7 @@ use Rattle.std.proofs.Common.{Some, None, is_some, codes, drop, length, arith, t
 use Rattle.std.specs.List.{fold, list_any, find}
 use Rattle.std.specs.Str.{bytes_eq}
 use Rattle.std.specs.Option.{option_map, option_map_or}
-use Rattle.std.proofs.lemmas.Bool.{cases_Bool}
+use Rattle.std.proofs.lemmas.Bool.{cases_Bool, or_parts}
 use Rattle.std.proofs.lemmas.Slice.Eq.{bytes_eq-Decides}
 use Rattle.clap.specs.Lexer.{usize_max}
 use Rattle.clap.specs.Kinds.{Kinds, or_else}
@@ -18,7 +18,7 @@ use Rattle.clap.proofs.OnLiterals.{clap_on_literals}
 use Rattle.command_line.specs.Command.{Command, begins_with_dash, form_named, form_of}
 use Rattle.command_line.specs.App as app
 use Rattle.command_line.specs.Read.{read_met, read_named}
-use Rattle.command_line.proofs.Plain.{fed_level, level_plain, neither, rows_plain, turn_plain, walk_stopped}
+use Rattle.command_line.proofs.Plain.{fed_level, level_plain, rows_plain, turn_plain, walk_stopped}
 use Rattle.command_line.proofs.Levels.{IsLevel, no, passes, read_at, ready, trace_level, compile_level, replay_level}
 use Rattle.command_line.proofs.Levels.{sim_level, net_level, stats_level, make_level}
 use Rattle.command_line.proofs.Links.{board_level}
@@ -172,5 +172,5 @@ each_name name words first plain few =
 pub exact : (words : List Text) → list_any begins_with_dash words ≡ false → length words ≤ usize_max → IsExact words
 exact [] plain few = none_exact
 exact (name ∷ words) plain few =
-    let p = neither (begins_with_dash name) _ plain in
+    let p = or_parts (begins_with_dash name) _ plain in
     each_name name words p.0 p.1 (omega arith)

@@ -1,5 +1,5 @@
 -- What clap's walk makes of words that don't begin with a dash, at a subcommand whose arguments are words by place.
-use Rattle.std.proofs.Common.{◌≡◌, ◌∙◌, ◌==◌, ◌||◌, ℕ, Bool, true, false, refl, sym, ap, ap₂, List, [], ◌∷◌, ◌++◌, cond}
+use Rattle.std.proofs.Common.{◌≡◌, ◌∙◌, ◌==◌, ℕ, Bool, true, false, refl, sym, ap, ap₂, List, [], ◌∷◌, ◌++◌, cond}
 use Rattle.std.proofs.Common.{Option, Some, None, true≢false, append_assoc, append-nil}
 use Rattle.std.specs.List.{fold, list_any}
 use Rattle.clap.specs.Lexer.{short_of}
@@ -10,6 +10,7 @@ use Rattle.clap.specs.Walk.{to_positional, walk_from, walked, walked_from, word_
 use Rattle.clap.specs.Simple.{Shape}
 use Rattle.clap.specs.Faults.{check_fault, defaults_fault, level_fault, other_fault, settle_fault, step_fault}
 use Rattle.clap.specs.Faults.{turn_fault, walk_fault, word_fault}
+use Rattle.std.proofs.lemmas.Bool.{or_parts}
 use Rattle.command_line.specs.Command.{begins_with_dash}
 
 -- nothing waits for the value of an option
@@ -93,17 +94,13 @@ fed_waits c (Some a) w word ready = go (is_multiple a)
     go true = refl
     go false = refl
 
-pub neither : (a b : Bool) → (a || b) ≡ false → (a ≡ false) × (b ≡ false)
-neither false b e = (refl, e)
-neither true b e = absurd (true≢false e)
-
 -- so the walk over such words only feeds the arguments
 pub walk_plain : (c : List Rule) (w : Walk) (words : List Text) → list_any begins_with_dash words ≡ false
     → w.stopped ≡ None → takes_next w.waiting ≡ true
     → fold (walked c []) w words ≡ fold (fed c) w words
 walk_plain c w [] plain going ready = refl
 walk_plain c w (word ∷ rest) plain going ready =
-    let p = neither (begins_with_dash word) _ plain in
+    let p = or_parts (begins_with_dash word) _ plain in
     ap (λ v. fold (walked c []) v rest) (walked_plain c [] w word p.0 going ready (no_subcommand w.waiting word))
     ∙ walk_plain c (fed c w word) rest p.1 (fed_goes c (arg_by_index c w.position) w word going)
     (fed_waits c (arg_by_index c w.position) w word ready)
@@ -118,7 +115,7 @@ pub fault_plain : (s : Shape) (w : Walk) (words : List Text) → list_any begins
 unfolding walk_fault
 fault_plain s w [] plain going ready = refl
 fault_plain s w (word ∷ rest) plain going ready =
-    let p = neither (begins_with_dash word) _ plain in
+    let p = or_parts (begins_with_dash word) _ plain in
     ap₂ or_else (turn_plain s [] w word p.0 going ready (no_subcommand w.waiting word))
     (ap (λ v. walk_fault s [] v rest) (walked_plain s.rules [] w word p.0 going ready (no_subcommand w.waiting word))
     ∙ fault_plain s (fed s.rules w word) rest p.1 (fed_goes s.rules (arg_by_index s.rules w.position) w word going)

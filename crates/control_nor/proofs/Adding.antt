@@ -1,10 +1,11 @@
 -- What is added to a net, and how much it is.
-use Rattle.std.proofs.Common.{◌≡◌, ℕ, zero, suc, ◌+◌, ◌<◌, ◌≤◌, List, [], ◌∷◌, ◌++◌, Some, None, length, refl, sym, ◌∙◌, ap, subst, arith, append_assoc, length-append, get_or}
+use Rattle.std.proofs.Common.{◌≡◌, ℕ, ◌+◌, ◌≤◌, List, [], ◌∷◌, ◌++◌, Some, None, length, refl, sym, ◌∙◌, ap, subst}
+use Rattle.std.proofs.Common.{arith, append_assoc, length-append, get_or}
 use Rattle.std.specs.Prelude.{All, IfSome, slice_get, slice_set}
 use Rattle.std.specs.List.{sum_by}
-use Rattle.std.proofs.lemmas.Option.{none-some}
 use Rattle.std.proofs.lemmas.List.Elements.{All-nil, All-cons, All-append}
 use Rattle.std.proofs.lemmas.List.Sums.{sum_by-append, sum_by-cons}
+use Rattle.mp_base.proofs.Entries.{get_middle, get_behind, get_kept}
 use Rattle.nor_net.specs.declared.net.NetId.{NetId}
 use Rattle.nor_net.specs.declared.net.Phase.{Phase}
 use Rattle.nor_net.specs.declared.net.Part.{Part}
@@ -12,22 +13,6 @@ use Rattle.nor_net.specs.declared.net.Part.TheVariants.{Input, Gate, Latch}
 use Rattle.nor_net.specs.Shape.{fan_in, gate_inputs, fed, IsAdded}
 use Rattle.control_nor.specs.Adding.{AddsGates, AddsLogic, IsCounted, IsGate, IsLogic}
 use Rattle.control_nor.specs.Size.{active_count}
-
-pub get_first : {Y : Type 0} (xs : List Y) (y : Y) (ys : List Y) → slice_get (xs ++ y ∷ ys) (length xs) ≡ Some y
-get_first [] y ys = refl
-get_first (x ∷ xs) y ys = get_first xs y ys
-
-pub get_behind : {Y : Type 0} (xs ys : List Y) (i : ℕ) → slice_get (xs ++ ys) (length xs + i) ≡ slice_get ys i
-get_behind [] ys i = ap (slice_get ys) (let e : 0 + i ≡ i = omega arith in e)
-get_behind (x ∷ xs) ys i =
-    let e : suc (length xs) + i ≡ suc (length xs + i) = omega arith in
-    ap (slice_get (x ∷ xs ++ ys)) e ∙ get_behind xs ys i
-
-pub get_kept : {Y : Type 0} (xs ys : List Y) (n : ℕ) (y : Y) → slice_get xs n ≡ Some y
-    → slice_get (xs ++ ys) n ≡ Some y
-get_kept [] ys n y e = absurd (none-some y e)
-get_kept (z ∷ zs) ys zero y e = e
-get_kept (z ∷ zs) ys (suc n) y e = get_kept zs ys n y e
 
 -- the entry at a place behind the first ones
 pub get_at : {Y : Type 0} (xs ys : List Y) (n i : ℕ) (y : Y) → n ≡ length xs + i → slice_get ys i ≡ Some y
@@ -50,7 +35,7 @@ fed_last old middle new phase id source a h = record {
   where
     at_id : slice_get middle id.0 ≡ Some (Latch phase None)
     at_id = ap (λ n. slice_get middle n) a.number ∙ (ap (λ ps. slice_get ps (length old)) a.parts
-        ∙ get_first old (Latch phase None) [])
+        ∙ get_middle old (Latch phase None) [])
 
     set : new ≡ slice_set middle id.0 (Latch phase (Some source))
     set = subst (λ o. IfSome o (λ p. new ≡ slice_set middle id.0 (fed source p))) at_id h
@@ -108,11 +93,6 @@ gates_keep old new n p g e = ap (λ ps. slice_get ps n) g.1 ∙ get_kept old g.0
 pub gates_longer : (old new : List Part) → AddsGates old new → length old ≤ length new
 gates_longer old new g = let e = ap length g.1 ∙ length-append old g.0 in omega (arith, e)
 
-pub get_inside : {Y : Type 0} (xs : List Y) (k : ℕ) (d : Y) → k < length xs → slice_get xs k ≡ Some (get_or xs k d)
-get_inside [] k d l = absurd (omega arith)
-get_inside (x ∷ xs) zero d l = refl
-get_inside (x ∷ xs) (suc k) d l = get_inside xs k d (omega arith)
-
 pub counted_list : (old more : List Part)
     → IsCounted (length more) (gate_inputs more) (sum_by active_count more) old (old ++ more)
 counted_list old more = record {
@@ -129,7 +109,7 @@ added_counted old new p id a = subst (IsCounted 1 (fan_in p) (active_count p) ol
 
 pub added_at : (old new : List Part) (p : Part) (id : NetId) → IsAdded old p new id → slice_get new id.0 ≡ Some p
 added_at old new p id a = ap (slice_get new) a.number ∙ (ap (λ ps. slice_get ps (length old)) a.parts
-    ∙ get_first old p [])
+    ∙ get_middle old p [])
 
 pub added_keeps : (old new : List Part) (p : Part) (id : NetId) → IsAdded old p new id → (n : ℕ) (q : Part)
     → slice_get old n ≡ Some q → slice_get new n ≡ Some q

@@ -1,12 +1,14 @@
 -- What stands before the tasks, and before the next values.
-use Rattle.std.proofs.Common.{◌≡◌, ℕ, zero, suc, ◌<◌, inl, List, [], ◌∷◌, Option, Some, None, Bool, true, false, length, replicate, get_or, eqb, refl, sym, ◌∙◌, ap, subst, arith}
+use Rattle.std.proofs.Common.{◌≡◌, ℕ, zero, suc, ◌<◌, inl, List, Option, Some, None, Bool, true, false, length}
+use Rattle.std.proofs.Common.{replicate, get_or, eqb, refl, sym, ◌∙◌, ap, subst, arith}
 use Rattle.std.specs.Prelude.{All, Contains, IfSome, IsSome, not, ◌&&◌, ◌==◌, slice_get, slice_index}
-use Rattle.std.specs.List.{list_any}
 use Rattle.std.proofs.lemmas.Bool.{eqb-true}
 use Rattle.std.proofs.lemmas.List.{length-replicate}
 use Rattle.std.proofs.lemmas.List.Elements.{All-filter, Contains-get_or, filter_passes}
 use Rattle.std.proofs.lemmas.Option.{none-some, same_Some, slice_get_within}
+use Rattle.std.proofs.lemmas.Map.Keys.{any_passes_from_place}
 use Rattle.mp_base.specs.declared.pad.Pad.{Pad}
+use Rattle.mp_base.proofs.Induction.{by_test}
 use Rattle.nor_net.specs.declared.net.NetId.{NetId}
 use Rattle.nor_net.specs.declared.net.Phase.TheVariants as phases
 use Rattle.nor_net.specs.declared.net.Part.{Part}
@@ -19,7 +21,7 @@ use Rattle.rtl_form.specs.declared.rtl.Rtl.{Rtl}
 use Rattle.rtl_form.specs.Entries.{IsAt}
 use Rattle.rtl_form.specs.Environment.{is_driven, is_stored}
 use Rattle.rtl_form.specs.Sound.{CellFits, HasSort, IsReset, IsSound}
-use Rattle.rtl_form.proofs.Members.{by_test, one_entry, some_entry}
+use Rattle.rtl_form.proofs.Members.{one_entry, some_entry}
 use Rattle.control_nor.specs.declared.names.Task.{Task}
 use Rattle.control_nor.specs.declared.names.Task.TheVariants.{Expr, Cell}
 use Rattle.control_nor.specs.declared.rails.Rails.{Rails}
@@ -60,21 +62,11 @@ stored_kind x on = by_cell x.word x.kind refl refl on
 pub is_stored_from : (x : cells.Cell) → x.word ≡ false → x.kind ≡ kinds.Stored → is_stored_bit x ≡ true
 is_stored_from x w k = ap (λ b. not b && is_stored x.kind) w ∙ ap is_stored k
 
-any_at : {X : Type 0} (p : X → Bool) (xs : List X) (k : ℕ) (x : X) → slice_get xs k ≡ Some x → p x ≡ true
-    → list_any p xs ≡ true
-any_at p [] k x e h = absurd (none-some x e)
-any_at p (y ∷ xs) zero x e h = ap (λ b. Rattle.std.specs.Prelude.◌||◌ b (list_any p xs)) (ap p (same_Some y x e) ∙ h)
-any_at p (y ∷ xs) (suc k) x e h = by_head (p y) (any_at p xs k x e h)
-  where
-    by_head : (b : Bool) → list_any p xs ≡ true → Rattle.std.specs.Prelude.◌||◌ b (list_any p xs) ≡ true
-    by_head true q = refl
-    by_head false q = q
-
 -- where a bit is stored, a cell resets
 pub has_reset : (r : Rtl) → IsSound r → (c : ℕ) (x : cells.Cell) → IsAt r.cells c x → x.kind ≡ kinds.Stored
     → (reset : ℕ) × (r.reset ≡ Some reset)
 has_reset r sound c x at kind =
-    by_reset r.reset refl (sound.resets (any_at (λ (x : cells.Cell). is_stored x.kind) r.cells c x
+    by_reset r.reset refl (sound.resets (any_passes_from_place (λ (x : cells.Cell). is_stored x.kind) r.cells c x
     (at_get r.cells c x at) (ap is_stored kind)))
   where
     by_reset : (o : Option ℕ) → r.reset ≡ o → IsSome o → (reset : ℕ) × (r.reset ≡ Some reset)

@@ -1,15 +1,12 @@
 -- Bits of operators as bits of gates.
-use Rattle.std.proofs.Common.{◌≡◌, ℕ, zero, suc, ◌+◌, ◌-◌, ◌<◌, List, [], ◌∷◌, Bool, true, false, map, refl, ◌∙◌, ap, arith, cond}
+use Rattle.std.proofs.Common.{◌≡◌, ℕ, zero, suc, ◌+◌, ◌-◌, ◌<◌, List, [], ◌∷◌, Bool, true, false, map, refl, ◌∙◌, ap}
+use Rattle.std.proofs.Common.{arith, cond}
 use Rattle.std.specs.Prelude.{All, not, ◌&&◌, ◌||◌, ◌==◌, nat_lt}
 use Rattle.std.specs.List.{list_all, list_any}
 use Rattle.mp_base.specs.Apply.{truth}
 use Rattle.nor_net.specs.Laws.{bit}
 use Rattle.nor_net.specs.Settled.{nor_value}
 use Rattle.nor_net.proofs.Values.{nor_bits}
-
-pub truth_small : (b : Bool) → truth b < 2
-truth_small true = omega arith
-truth_small false = omega arith
 
 pub truth_one : (b : Bool) → (truth b == 1) ≡ b
 truth_one true = refl

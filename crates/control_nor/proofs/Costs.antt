@@ -1,9 +1,11 @@
 -- The costs of the three rounds are parts of the cost of transfers.
-use Rattle.std.proofs.Common.{◌≡◌, ℕ, zero, suc, ◌+◌, ◌-◌, ◌*◌, ◌<◌, ◌≤◌, ◌^◌, ◌⊎◌, inl, inr, List, [], ◌∷◌, ◌++◌, Option, Some, None, Bool, true, false, length, replicate, refl, sym, ◌∙◌, ap, subst, arith}
+use Rattle.std.proofs.Common.{◌≡◌, ℕ, zero, suc, ◌+◌, ◌-◌, ◌*◌, ◌<◌, ◌≤◌, ◌^◌, ◌⊎◌, inl, inr, List, [], ◌∷◌, ◌++◌}
+use Rattle.std.proofs.Common.{Option, Some, None, Bool, true, false, length, replicate, refl, sym, ◌∙◌, ap, subst}
+use Rattle.std.proofs.Common.{arith}
 use Rattle.std.specs.Prelude.{not, ◌&&◌, if◌then◌else◌, slice_get}
 use Rattle.std.specs.List.{sum_by}
 use Rattle.std.specs.Option.{option_map_or}
-use Rattle.std.proofs.lemmas.List.Sums.{sum_by-cons}
+use Rattle.std.proofs.lemmas.List.Sums.{sum_by-cons, sum_by-le-sum_by}
 use Rattle.rtl_form.specs.declared.rtl.Cell as cells
 use Rattle.rtl_form.specs.declared.rtl.CellKind.{CellKind}
 use Rattle.rtl_form.specs.declared.rtl.CellKind.TheVariants as kinds
@@ -35,12 +37,6 @@ sum_two f g k each [] = omega arith
 sum_two f g k each (x ∷ xs) =
     let a = sum_by-cons f x xs in let b = sum_by-cons g x xs in let d = sum_by-cons k x xs in
     let e = each x in let r = sum_two f g k each xs in omega (arith, a, b, d, e, r)
-
-sum_one : {X : Type 0} (f k : X → ℕ) → ((x : X) → f x ≤ k x) → (xs : List X) → sum_by f xs ≤ sum_by k xs
-sum_one f k each [] = omega arith
-sum_one f k each (x ∷ xs) =
-    let a = sum_by-cons f x xs in let d = sum_by-cons k x xs in
-    let e = each x in let r = sum_one f k each xs in omega (arith, a, d, e, r)
 
 left_most : {X : Type 0} (f : X → ℕ) (os : List (Option Rails)) (xs : List X) → left_by f os xs ≤ sum_by f xs
 left_most f [] xs = omega arith
@@ -156,9 +152,9 @@ transfer_most xs t = by_word (option_map_or (λ (x : cells.Cell). x.word) (slice
 
 pub bit_cost_most : (r : Rtl) → bit_cost r ≤ cost r
 bit_cost_most r =
-    let a = sum_one bit_cell_cost (λ (x : cells.Cell). cell_cost x.kind) cell_most r.cells in
-    let b = sum_one bit_expr_cost expr_cost expr_most r.exprs in
-    let c = sum_one (bit_transfer_cost r.cells) (transfer_cost r.cells) (transfer_most r.cells) r.transfers in
+    let a = sum_by-le-sum_by bit_cell_cost (λ (x : cells.Cell). cell_cost x.kind) r.cells cell_most in
+    let b = sum_by-le-sum_by bit_expr_cost expr_cost r.exprs expr_most in
+    let c = sum_by-le-sum_by (bit_transfer_cost r.cells) (transfer_cost r.cells) r.transfers (transfer_most r.cells) in
     omega (arith, a, b, c)
 
 pub few_cells : (r : Rtl) → cost r ≤ 1024 → length r.cells < 2 ^ 32

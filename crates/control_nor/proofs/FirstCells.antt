@@ -1,11 +1,14 @@
 -- The first nets of all cells.
-use Rattle.std.proofs.Common.{◌≡◌, ℕ, zero, suc, ◌+◌, ◌<◌, ◌≤◌, ◌⊎◌, inl, inr, List, [], ◌∷◌, ◌++◌, Option, Some, None, Bool, true, false, length, take, get_or, replicate, refl, sym, ◌∙◌, ap, subst, arith, length-append, append_assoc}
+use Rattle.std.proofs.Common.{◌≡◌, ℕ, zero, suc, ◌+◌, ◌<◌, ◌≤◌, ◌⊎◌, inl, inr, List, [], ◌∷◌, ◌++◌, Option, Some, None}
+use Rattle.std.proofs.Common.{Bool, true, false, length, take, get_or, replicate, refl, sym, ◌∙◌, ap, subst, arith}
+use Rattle.std.proofs.Common.{length-append, append_assoc}
 use Rattle.std.specs.Prelude.{MatchBool, slice_get}
 use Rattle.std.specs.List.{sum_by}
-use Rattle.std.proofs.lemmas.Bool.{cases_lt}
-use Rattle.std.proofs.lemmas.List.{length-set, take_more}
+use Rattle.std.proofs.lemmas.Bool.{cases_lt, both_ways, cases_eq}
+use Rattle.std.proofs.lemmas.List.{length-set, take_more, append-nil}
 use Rattle.std.proofs.lemmas.List.Sums.{sum_by-append, sum_by-cons}
 use Rattle.std.proofs.lemmas.Option.{none-some, same_Some, slice_get_within}
+use Rattle.mp_base.proofs.Entries.{get_kept, get_front, get_middle}
 use Rattle.nor_net.specs.declared.net.NetId.{NetId}
 use Rattle.nor_net.specs.declared.net.Phase.TheVariants.{B, C}
 use Rattle.nor_net.specs.declared.net.Part.{Part}
@@ -25,18 +28,13 @@ use Rattle.control_nor.specs.Cells.{IsFirstBitMade, IsFirstMade, first_cost}
 use Rattle.control_nor.specs.First.{AreFirstDone, AreFirstNamed, AreFirstNets}
 use Rattle.control_nor.specs.Lowering.{InputBit, Stands}
 use Rattle.control_nor.specs.Rails.{Named}
-use Rattle.control_nor.proofs.Adding.{get_behind, get_kept}
-use Rattle.control_nor.proofs.FirstSteps.{IsFirstStep, append_nil, get_front, none_step, port_step, slave_step}
-use Rattle.control_nor.proofs.Left.{nat_cases}
+use Rattle.control_nor.proofs.FirstSteps.{IsFirstStep, none_step, port_step, slave_step}
 use Rattle.control_nor.proofs.Obeying.{obeys_less}
-
-true_false : (b : Bool) → b ≡ true → b ≡ false → ⊥
-true_false b e f = absurd (cc (e, f))
 
 -- before the first cell
 pub none_first : (r : Rtl) (old : List Part) → AreFirstDone r 0 old old [] (replicate (length (r.pads).inputs) None)
 none_first r old = record {
-  added = ([], sym (append_nil old));
+  added = ([], sym (append-nil old));
   within = record { nets = omega arith; inputs = omega arith; active = omega arith };
   names = record {
     count = refl;
@@ -94,9 +92,9 @@ module _ (r : Rtl) (sound : IsSound r) (i : ℕ) (old new newer : List Part) (na
           let b = only.2 i x at e in
           let l = p.2 in absurd (omega (arith, a, b, l))
   by_kind (kinds.Output k) e w h =
-      none_step x new newer pads pads_new o h (λ q d. true_false (is_driven x.kind) (ap is_driven e) d)
+      none_step x new newer pads pads_new o h (λ q d. both_ways (is_driven x.kind) d (ap is_driven e))
   by_kind kinds.Inner e w h =
-      none_step x new newer pads pads_new o h (λ q d. true_false (is_driven x.kind) (ap is_driven e) d)
+      none_step x new newer pads pads_new o h (λ q d. both_ways (is_driven x.kind) d (ap is_driven e))
   by_kind kinds.Stored e w h =
       subst (IsFirstStep x new newer pads pads_new) (sym h.1) (slave_step x e w new newer pads pads_new h.0 h.2 h.3)
 
@@ -107,7 +105,7 @@ module _ (r : Rtl) (sound : IsSound r) (i : ℕ) (old new newer : List Part) (na
           → MatchBool b ((o ≡ None) × (newer ≡ new) × (pads_new ≡ pads))
           (IsFirstBitMade x.kind new newer pads pads_new o)
           → IsFirstStep x new newer pads pads_new o
-      by_word true w h = none_step x new newer pads pads_new o h (λ q d. true_false x.word w q)
+      by_word true w h = none_step x new newer pads pads_new o h (λ q d. both_ways x.word q w)
       by_word false w h = by_kind x.kind refl w h
 
   abbrev next : List (Option Rails)
@@ -137,10 +135,10 @@ module _ (r : Rtl) (sound : IsSound r) (i : ℕ) (old new newer : List Part) (na
   last_is c y h e = one_entry r.cells i x y at (subst (λ n. IsAt r.cells n y) e h)
 
   at_or_below : (c : ℕ) → c < i + 1 → (c ≡ i) ⊎ (c < i)
-  at_or_below c l = elim (nat_cases c i) [ inl e ↦ inl e | inr ne ↦ inr (omega arith) ]
+  at_or_below c l = elim (cases_eq c i) [ inl e ↦ inl e | inr ne ↦ inr (omega arith) ]
 
   entry_last : slice_get next i ≡ Some o
-  entry_last = ap (slice_get next) (sym done.names.count) ∙ Rattle.control_nor.proofs.Adding.get_first named o []
+  entry_last = ap (slice_get next) (sym done.names.count) ∙ get_middle named o []
 
   in_old : (n : ℕ) (p : Part) → slice_get newer n ≡ Some p → n < length new → slice_get new n ≡ Some p
   in_old n p e l = sym (get_front new now.added.0 n l) ∙ (ap (λ ps. slice_get ps n) (sym now.added.1) ∙ e)

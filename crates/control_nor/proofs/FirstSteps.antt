@@ -1,10 +1,13 @@
 -- The first nets of cells, cell by cell.
-use Rattle.std.proofs.Common.{◌≡◌, ℕ, zero, suc, ◌+◌, ◌-◌, ◌<◌, ◌≤◌, ◌⊎◌, inl, inr, List, [], ◌∷◌, ◌++◌, Option, Some, None, true, false, length, refl, sym, ◌∙◌, ap, subst, arith}
+use Rattle.std.proofs.Common.{◌≡◌, ℕ, zero, suc, ◌+◌, ◌-◌, ◌<◌, ◌≤◌, ◌⊎◌, inl, inr, List, [], ◌∷◌, ◌++◌, Option, Some}
+use Rattle.std.proofs.Common.{None, true, false, length, refl, sym, ◌∙◌, ap, subst, arith}
 use Rattle.std.specs.Prelude.{if◌then◌else◌, slice_get, slice_set}
 use Rattle.std.specs.List.{sum_by}
-use Rattle.std.proofs.lemmas.List.{length-set}
+use Rattle.std.proofs.lemmas.List.{length-set, append-nil}
 use Rattle.std.proofs.lemmas.Option.{none-some, same_Some, slice_get_within}
+use Rattle.std.proofs.lemmas.Bool.{cases_eq}
 use Rattle.mp_base.specs.declared.value.Trit.{Trit}
+use Rattle.mp_base.proofs.Entries.{get_behind, get_set_same, get_set_other}
 use Rattle.nor_net.specs.Elements.{Spot}
 use Rattle.nor_net.specs.declared.net.NetId.{NetId}
 use Rattle.nor_net.specs.declared.net.Phase.{Phase}
@@ -22,8 +25,7 @@ use Rattle.control_nor.specs.First.{IsWaiting}
 use Rattle.control_nor.specs.Lowering.{InputBit, ObeysBehind, Stands}
 use Rattle.control_nor.specs.Rails.{Agree, AreBelow}
 use Rattle.control_nor.specs.Size.{IsWithinCost, active_count}
-use Rattle.control_nor.proofs.Adding.{counted_list, get_at, get_behind}
-use Rattle.control_nor.proofs.Left.{get_set_other, get_set_same, nat_cases}
+use Rattle.control_nor.proofs.Adding.{counted_list, get_at}
 use Rattle.control_nor.proofs.Obeying.{agree_bit, gate_obeyed, swap_agree}
 
 -- what one cell added
@@ -53,10 +55,6 @@ pub record IsFirstStep (x : cells.Cell) (old new : List Part) (pads named : List
       → (x.kind ≡ kinds.Stored) × ((rails : Rails) × (o ≡ Some rails) × (rails.negation.0 ≡ n))
   pub agree : (v : Spot → Trit) → ObeysBehind new (length old) v → (rails : Rails) → o ≡ Some rails → Agree v rails
 
-pub append_nil : {Y : Type 0} (xs : List Y) → xs ++ [] ≡ xs
-append_nil [] = refl
-append_nil (x ∷ xs) = ap (λ ys. x ∷ ys) (append_nil xs)
-
 -- an entry behind the first ones is among what was added
 pub in_more : {Y : Type 0} (xs more : List Y) (n : ℕ) (y : Y) → length xs ≤ n → slice_get (xs ++ more) n ≡ Some y
     → (i : ℕ) × (n ≡ length xs + i) × (slice_get more i ≡ Some y)
@@ -64,17 +62,12 @@ in_more xs more n y l e =
     let at : n ≡ length xs + (n - length xs) = omega arith in
     (n - length xs, at, sym (get_behind xs more (n - length xs)) ∙ (ap (slice_get (xs ++ more)) (sym at) ∙ e))
 
-pub get_front : {Y : Type 0} (xs ys : List Y) (n : ℕ) → n < length xs → slice_get (xs ++ ys) n ≡ slice_get xs n
-get_front [] ys n l = absurd (omega arith)
-get_front (x ∷ xs) ys zero l = refl
-get_front (x ∷ xs) ys (suc n) l = get_front xs ys n (omega arith)
-
 -- nothing was added
 pub none_step : (x : cells.Cell) (old new : List Part) (pads named : List (Option NetId)) (o : Option Rails)
     → (o ≡ None) × (new ≡ old) × (named ≡ pads) → (x.word ≡ false → is_driven x.kind ≡ false → ⊥)
     → IsFirstStep x old new pads named o
 none_step x old new pads named o h other = record {
-  added = ([], h.1 ∙ sym (append_nil old));
+  added = ([], h.1 ∙ sym (append-nil old));
   within = record {
     nets = let e = ap length h.1 in omega (arith, e);
     inputs = let e = ap gate_inputs h.1 in omega (arith, e);
@@ -165,7 +158,7 @@ module _ (x : cells.Cell) (k : ℕ) (kind : x.kind ≡ kinds.Input k) (word : x.
     waiting = λ d. absurd (cc (ap is_driven kind, d));
     pad_count = ap length set ∙ length-set pads k (Some pad);
     pads_stay = λ j q e. there j (λ same. free q (ap (slice_get pads) (sym same) ∙ e)) ∙ e;
-    pads_new = λ j q e. elim (nat_cases j k) [
+    pads_new = λ j q e. elim (cases_eq j k) [
       | inl same ↦ let is : q ≡ pad = cc (ap (slice_get named) (sym same) ∙ e, here) in
           inr (
             kind ∙ ap kinds.Input (sym same),

@@ -1,11 +1,13 @@
 -- Where the nets of tasks are, and what they mean, task by task.
-use Rattle.std.proofs.Common.{◌≡◌, ℕ, zero, suc, ◌+◌, ◌<◌, ◌≤◌, ◌⊎◌, inl, inr, List, [], ◌∷◌, ◌++◌, Option, Some, None, Bool, true, false, length, refl, sym, ◌∙◌, ap, subst, arith, eqb, get_or, length-append}
+use Rattle.std.proofs.Common.{◌≡◌, ℕ, zero, suc, ◌+◌, ◌<◌, ◌≤◌, ◌⊎◌, inl, inr, List, [], ◌∷◌, ◌++◌, Option, Some, None}
+use Rattle.std.proofs.Common.{Bool, true, false, length, refl, sym, ◌∙◌, ap, subst, arith, eqb, get_or, length-append}
 use Rattle.std.specs.Prelude.{All, MatchBool, ◌==◌, slice_get, slice_index}
 use Rattle.std.specs.List.{list_any}
-use Rattle.std.proofs.lemmas.Bool.{eqb-true}
+use Rattle.std.proofs.lemmas.Bool.{eqb-true, cases_eq}
 use Rattle.std.proofs.lemmas.List.Elements.{All-filter, Contains-get_or, filter_passes}
 use Rattle.std.proofs.lemmas.Option.{none-some, same_Some, slice_get_within}
 use Rattle.mp_base.specs.declared.value.Trit.{Trit}
+use Rattle.mp_base.proofs.Entries.{get_front}
 use Rattle.nor_net.specs.declared.net.NetId.{NetId}
 use Rattle.nor_net.specs.declared.net.Part.{Part}
 use Rattle.nor_net.specs.declared.net.Part.TheVariants.{Input, Gate}
@@ -31,7 +33,6 @@ use Rattle.control_nor.specs.Rails.{Agree, HasRails, Known, Named}
 use Rattle.control_nor.specs.Schedule.{IsSchedule}
 use Rattle.control_nor.specs.Tasks.{IsTaskDone, IsTaskMade, entry_of, with_entry}
 use Rattle.control_nor.proofs.Adding.{get_at, gates_longer, logic_keep, logic_longer}
-use Rattle.control_nor.proofs.Left.{nat_cases}
 use Rattle.control_nor.proofs.Meaning.{driven_agree, driven_meant, expr_agree, expr_meant}
 use Rattle.control_nor.proofs.Obeying.{obeys_less}
 use Rattle.control_nor.proofs.Progress.{IsEntryTask, IsStep, entry_other, entry_same, named_after, names_stay}
@@ -55,11 +56,6 @@ level_kept start ends x (suc s) l = index_kept ends x s (omega arith)
 
 level_last : (start : ℕ) (ends : List ℕ) (x t : ℕ) → length ends ≡ t → level start (ends ++ x ∷ []) (suc t) ≡ x
 level_last start ends x t e = ap (slice_index (ends ++ x ∷ [])) (sym e) ∙ index_last ends x
-
-get_front : {Y : Type 0} (xs ys : List Y) (n : ℕ) → n < length xs → slice_get (xs ++ ys) n ≡ slice_get xs n
-get_front [] ys n l = absurd (omega arith)
-get_front (x ∷ xs) ys zero l = refl
-get_front (x ∷ xs) ys (suc n) l = get_front xs ys n (omega arith)
 
 -- a driven bit is a gate on a gate
 driven_at : (entries : List (Option Rails)) (ts : List Transfer) (old new : List Part) (rails : Rails)
@@ -141,7 +137,7 @@ module _ (r : Rtl) (sound : IsSound r) (tasks : List Task) (schedule : IsSchedul
   longer = logic_longer new newer now.adds
 
   at_or_below : (s : ℕ) → s < t + 1 → (s ≡ t) ⊎ (s < t)
-  at_or_below s l = elim (nat_cases s t) [ inl e ↦ inl e | inr ne ↦ inr (omega arith) ]
+  at_or_below s l = elim (cases_eq s t) [ inl e ↦ inl e | inr ne ↦ inr (omega arith) ]
 
   module _ (ends : List ℕ) (laid : IsLaid r tasks t old new after ends) where
     abbrev more : List ℕ

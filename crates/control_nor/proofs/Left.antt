@@ -1,9 +1,12 @@
 -- The cost of what has no nets yet, as it falls.
-use Rattle.std.proofs.Common.{◌≡◌, ℕ, zero, suc, ◌+◌, ◌<◌, ◌≤◌, ◌⊎◌, inl, inr, List, [], ◌∷◌, Option, Some, None, Bool, true, false, length, refl, sym, ◌∙◌, ap, arith, cond, eqb}
+use Rattle.std.proofs.Common.{◌≡◌, ℕ, zero, suc, ◌+◌, ◌≤◌, inl, inr, List, [], ◌∷◌, Option, Some, None, Bool, true}
+use Rattle.std.proofs.Common.{false, length, refl, sym, ◌∙◌, ap, arith, cond, eqb}
 use Rattle.std.specs.Prelude.{slice_get, slice_set}
 use Rattle.std.specs.List.{sum_by, filter}
 use Rattle.std.proofs.lemmas.Option.{none-some, same_Some, slice_get_within}
 use Rattle.std.proofs.lemmas.List.Sums.{sum_by-cons}
+use Rattle.mp_base.proofs.Entries.{get_set_same, get_set_other}
+use Rattle.std.proofs.lemmas.Bool.{cases_eq}
 use Rattle.rtl_form.specs.declared.rtl.Cell as cells
 use Rattle.rtl_form.specs.declared.rtl.Transfer.{Transfer}
 use Rattle.control_nor.specs.declared.rails.Rails.{Rails}
@@ -37,28 +40,6 @@ set_there [] k x e = refl
 set_there (y ∷ xs) zero x e = ap (λ z. z ∷ xs) (sym (same_Some y x e))
 set_there (y ∷ xs) (suc k) x e = ap (λ zs. y ∷ zs) (set_there xs k x e)
 
--- the entries after a set
-pub get_set_same : {X : Type 0} (xs : List X) (k : ℕ) (x : X) → k < length xs
-    → slice_get (slice_set xs k x) k ≡ Some x
-get_set_same [] k x l = absurd (omega arith)
-get_set_same (y ∷ xs) zero x l = refl
-get_set_same (y ∷ xs) (suc k) x l = get_set_same xs k x (omega arith)
-
-pub get_set_other : {X : Type 0} (xs : List X) (i : ℕ) (x : X) (n : ℕ) → (n ≡ i → ⊥)
-    → slice_get (slice_set xs i x) n ≡ slice_get xs n
-get_set_other [] i x n ne = refl
-get_set_other (z ∷ zs) zero x zero ne = absurd (ne refl)
-get_set_other (z ∷ zs) zero x (suc n) ne = refl
-get_set_other (z ∷ zs) (suc i) x zero ne = refl
-get_set_other (z ∷ zs) (suc i) x (suc n) ne = get_set_other zs i x n (λ q. ne (omega arith))
-
--- two numbers are equal or not
-pub nat_cases : (m n : ℕ) → (m ≡ n) ⊎ (m ≡ n → ⊥)
-nat_cases zero zero = inl refl
-nat_cases zero (suc n) = inr (λ e. absurd (omega arith))
-nat_cases (suc m) zero = inr (λ e. absurd (omega arith))
-nat_cases (suc m) (suc n) = elim (nat_cases m n) [ inl e ↦ inl (ap suc e) | inr ne ↦ inr (λ e. ne (omega arith)) ]
-
 -- ---- transfers
 
 abbrev pub one_if : Bool → ℕ
@@ -85,7 +66,7 @@ sum_split f g p h (x ∷ xs) =
 module _ (xs : List cells.Cell) (os : List (Option Rails)) (c : ℕ) (x : cells.Cell) (rails : Rails)
     (waiting : slice_get os c ≡ Some None) (is : slice_get xs c ≡ Some x) (driven : driven_count x ≡ 1) where
   one_wait : (t : Transfer) → waits xs os t ≡ waits xs (slice_set os c (Some rails)) t + one_if (eqb t.target c)
-  one_wait t = elim (nat_cases t.target c) [ inl e ↦ here e | inr ne ↦ there ne ]
+  one_wait t = elim (cases_eq t.target c) [ inl e ↦ here e | inr ne ↦ there ne ]
     where
       here : t.target ≡ c → waits xs os t ≡ waits xs (slice_set os c (Some rails)) t + one_if (eqb t.target c)
       here e =

@@ -1,8 +1,10 @@
 -- The nets of all bits, with their names.
-use Rattle.std.proofs.Common.{◌≡◌, ℕ, zero, suc, ◌+◌, ◌-◌, ◌*◌, ◌<◌, ◌≤◌, ◌⊎◌, inl, inr, List, [], ◌∷◌, ◌++◌, Option, Some, None, Bool, true, false, length, map, replicate, get_or, refl, sym, ◌∙◌, ap, subst, arith, cond, eqb}
+use Rattle.std.proofs.Common.{◌≡◌, ℕ, zero, suc, ◌+◌, ◌-◌, ◌*◌, ◌<◌, ◌≤◌, ◌⊎◌, inl, inr, List, [], ◌∷◌, ◌++◌, Option}
+use Rattle.std.proofs.Common.{Some, None, Bool, true, false, length, map, replicate, get_or, refl, sym, ◌∙◌, ap, subst}
+use Rattle.std.proofs.Common.{arith, cond, eqb}
 use Rattle.std.specs.Prelude.{All, Contains, not, ◌&&◌, ◌||◌, ◌==◌, if◌then◌else◌, slice_get, slice_index, unwrap_or}
 use Rattle.std.specs.List.{list_any, sum_by}
-use Rattle.std.proofs.lemmas.Bool.{cases_lt, eqb-true}
+use Rattle.std.proofs.lemmas.Bool.{cases_lt, eqb-true, cases_eq}
 use Rattle.std.proofs.lemmas.Option.{none-some, same_Some, slice_get_within, slice_get-get_or}
 use Rattle.mp_base.specs.declared.pad.Pad.{Pad}
 use Rattle.mp_base.specs.Merge.{merged}
@@ -22,7 +24,7 @@ use Rattle.rtl_form.specs.Entries.{IsAt}
 use Rattle.rtl_form.specs.Environment.{is_driven}
 use Rattle.rtl_form.specs.Operands.{takes_words, gives_word}
 use Rattle.rtl_form.specs.Sound.{CellFits, HasSort, IsSort, IsSound}
-use Rattle.rtl_form.proofs.Members.{by_test, one_entry}
+use Rattle.rtl_form.proofs.Members.{one_entry}
 use Rattle.control_nor.specs.declared.names.Names.{Names}
 use Rattle.control_nor.specs.declared.names.Task.{Task}
 use Rattle.control_nor.specs.declared.names.Task.TheVariants.{Expr, Cell}
@@ -31,24 +33,26 @@ use Rattle.control_nor.specs.declared.rails.Bits.{Bits}
 use Rattle.control_nor.specs.Cells.{first_cost}
 use Rattle.control_nor.specs.Done.{AreDone}
 use Rattle.control_nor.specs.First.{AreFirstDone}
-use Rattle.control_nor.specs.Lowering.{AreInputs, ArePlaced, InputBit, IsEntered, IsEntry, IsLowered, Stands, StoredBit, nets_before}
+use Rattle.control_nor.specs.Lowering.{AreInputs, ArePlaced, InputBit, IsEntered, IsEntry, IsLowered, Stands, StoredBit}
+use Rattle.control_nor.specs.Lowering.{nets_before}
 use Rattle.control_nor.specs.NextValues.{AreNextValues, IsStoring}
 use Rattle.control_nor.specs.Progress.{left_by, level}
 use Rattle.control_nor.specs.Rails.{IsNamed, Named, net_of}
 use Rattle.control_nor.specs.Schedule.{IsSchedule, IsTask}
 use Rattle.control_nor.specs.Size.{IsWithinCost, bit_cost, entry_count}
 use Rattle.control_nor.proofs.Adding.{get_at, logic_keep, logic_longer}
-use Rattle.control_nor.proofs.Begins.{cell_named, expr_named, first_rails, has_reset, in_tasks, is_stored_from, slaves_behind, stored_kind}
+use Rattle.control_nor.proofs.Begins.{cell_named, expr_named, first_rails, has_reset, in_tasks, is_stored_from}
+use Rattle.control_nor.proofs.Begins.{slaves_behind, stored_kind}
 use Rattle.control_nor.proofs.Costs.{bit_cost_most, left_all, rounds}
-use Rattle.control_nor.proofs.FirstSteps.{get_front, in_more}
-use Rattle.control_nor.proofs.Left.{nat_cases}
+use Rattle.control_nor.proofs.FirstSteps.{in_more}
 use Rattle.control_nor.proofs.Named.{named_stands, stands_named}
 use Rattle.control_nor.proofs.Meaning.{value_small}
 use Rattle.control_nor.proofs.Obeying.{gate_obeyed, obeys_less}
 use Rattle.control_nor.proofs.StoredBits.{obeys_kept}
 use Rattle.control_nor.proofs.Written.{written_is}
 use Rattle.control_nor.specs.Cells.{transfers_to}
-use Rattle.control_nor.specs.Lowering.{BitsFit, Fetched, Gives, HasBit, KnownCell, KnownExpr, ObeysBehind, Ready, next_bit}
+use Rattle.control_nor.specs.Lowering.{BitsFit, Fetched, Gives, HasBit, KnownCell, KnownExpr, ObeysBehind, Ready}
+use Rattle.control_nor.specs.Lowering.{next_bit}
 use Rattle.control_nor.specs.Meaning.{AreTransfersKnown, IsExprKnown, is_active}
 use Rattle.control_nor.specs.NextValues.{AreKnown, is_guarded, next_of}
 use Rattle.control_nor.specs.Progress.{NamedTask}
@@ -63,6 +67,8 @@ use Rattle.rtl_form.specs.Environment.{driven_value}
 use Rattle.rtl_form.specs.Values.{value_of}
 use Rattle.rtl_form.specs.Written.{written}
 use Rattle.std.proofs.lemmas.List.Elements.{All-filter, Contains-get_or, filter_passes}
+use Rattle.mp_base.proofs.Induction.{by_test}
+use Rattle.mp_base.proofs.Entries.{get_front}
 
 length_map : (xs : List (Option Rails)) → length (map net_of xs) ≡ length xs
 length_map [] = refl
@@ -279,7 +285,7 @@ module _ (r : Rtl) (sound : IsSound r) (old mid mid2 after : List Part) (named :
   one_task : (s t n : ℕ) → s < length tasks → t < length tasks → level (length mid) ends s ≤ n
       → n < level (length mid) ends (suc s)
       → level (length mid) ends t ≤ n → n < level (length mid) ends (suc t) → s ≡ t
-  one_task s t n l m a b c d = elim (nat_cases s t) [
+  one_task s t n l m a b c d = elim (cases_eq s t) [
     | inl e ↦ e
     | inr ne ↦ elim (cases_lt s t) [
       | inl k ↦ let h = rise (suc s) t (omega (arith, k)) (omega (arith, m)) in absurd (omega (arith, h, b, c))

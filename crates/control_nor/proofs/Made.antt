@@ -1,5 +1,6 @@
 -- What was added for an expression or a driven cell: how much, where, and which inputs.
-use Rattle.std.proofs.Common.{◌≡◌, ℕ, zero, suc, ◌+◌, ◌-◌, ◌*◌, ◌≤◌, List, [], ◌∷◌, ◌++◌, Option, Some, None, Bool, true, false, length, max, refl, sym, ◌∙◌, ap, subst, arith}
+use Rattle.std.proofs.Common.{◌≡◌, ℕ, zero, suc, ◌+◌, ◌-◌, ◌*◌, ◌≤◌, List, [], ◌∷◌, ◌++◌, Option, Some, None, Bool}
+use Rattle.std.proofs.Common.{true, false, length, max, refl, sym, ◌∙◌, ap, subst, arith}
 use Rattle.std.specs.Prelude.{All, if◌then◌else◌, slice_get, slice_index}
 use Rattle.std.specs.List.{AllZip}
 use Rattle.std.proofs.lemmas.Option.{none-some, same_Some}
@@ -20,9 +21,11 @@ use Rattle.control_nor.specs.Exprs.{IsExprMade, IsNorOfBits, IsNorOfNegations, I
 use Rattle.control_nor.specs.Lowering.{IsEntry}
 use Rattle.control_nor.specs.Rails.{AllBelow, AreBelow, BitOf, Named, NegationOf, swapped}
 use Rattle.control_nor.specs.Size.{IsWithinCost, bit_expr_cost, entry_count}
-use Rattle.control_nor.proofs.Adding.{counted_list, counted_on, gates_are_logic, gates_none, gates_on, get_at, get_behind, gate_before, logic_none, two_gates}
-use Rattle.control_nor.proofs.Zipping.{zip_length}
+use Rattle.control_nor.proofs.Adding.{counted_list, counted_on, gates_are_logic, gates_none, gates_on, get_at}
+use Rattle.control_nor.proofs.Adding.{gate_before, logic_none, two_gates}
 use Rattle.std.proofs.lemmas.List.Elements.{All-nil, All-cons}
+use Rattle.mp_base.proofs.Entries.{get_behind}
+use Rattle.std.proofs.lemmas.Slice.Zip.{AllZip-long}
 
 -- what follows from each way to add nets for an expression
 pub record AreAdded (entered : Type 0) (cost entries : ℕ) (old new : List Part) (rails : Rails) : Type 0 where
@@ -199,7 +202,7 @@ module _ (exprs : List (Option Rails)) (index : ℕ) (args : List ℕ) (old new 
       → IsNorOfBits exprs args old new other → AreBelow (length new) rails
       → AreAdded (IsEntry (Apply op index args)) (op_cost op (length args)) 0 old new rails
   nor_of_bits op other bits cost h in_new =
-      let n = zip_length (BitOf exprs) args h.inputs h.are_inputs in
+      let n = AllZip-long (BitOf exprs) args h.inputs h.are_inputs in
       pair_added h.inputs old new other rails (op_cost op (length args)) (IsEntry (Apply op index args)) h.pair
       (entry_is op index args bits) (omega (arith, cost)) (omega (arith, cost, n)) in_new
 
@@ -208,7 +211,7 @@ module _ (exprs : List (Option Rails)) (index : ℕ) (args : List ℕ) (old new 
       → IsNorOfNegations exprs args old new other → AreBelow (length new) rails
       → AreAdded (IsEntry (Apply op index args)) (op_cost op (length args)) 0 old new rails
   nor_of_negations op other bits cost h in_new =
-      let n = zip_length (NegationOf exprs) args h.inputs h.are_inputs in
+      let n = AllZip-long (NegationOf exprs) args h.inputs h.are_inputs in
       pair_added h.inputs old new other rails (op_cost op (length args)) (IsEntry (Apply op index args)) h.pair
       (entry_is op index args bits) (omega (arith, cost)) (omega (arith, cost, n)) in_new
 
@@ -320,7 +323,7 @@ pub driven_added : (exprs : List (Option Rails)) (ts : List Transfer) (old new :
 driven_added exprs ts old new rails h = record {
   adds = gates_are_logic old new (driven_gates exprs ts old new rails h);
   below = swap_below (length new) rails (pair_below h.terms h.middle new (swapped rails) h.pair);
-  within = let n = zip_length (IsTerm exprs (length old) h.middle) ts h.terms h.are_terms.each in
+  within = let n = AllZip-long (IsTerm exprs (length old) h.middle) ts h.terms h.are_terms.each in
       let c = counted_on (length ts) (2 * length ts) (length ts) 2
       (length h.terms + 1) 2 old h.middle new h.are_terms.counted
       (pair_counted h.terms h.middle new (swapped rails) h.pair) in

@@ -1,5 +1,6 @@
 -- What nets mean that were added for an expression or a driven cell.
-use Rattle.std.proofs.Common.{◌≡◌, ℕ, zero, suc, ◌+◌, ◌-◌, ◌<◌, ◌≤◌, ◌⊎◌, inl, inr, List, [], ◌∷◌, Option, Some, Bool, true, false, length, map, refl, sym, ◌∙◌, ap, subst, arith, cond, get_or}
+use Rattle.std.proofs.Common.{◌≡◌, ℕ, zero, suc, ◌+◌, ◌-◌, ◌<◌, List, [], ◌∷◌, Option, Some, Bool, true, false, length}
+use Rattle.std.proofs.Common.{map, refl, sym, ◌∙◌, ap, subst, arith, cond, get_or}
 use Rattle.std.specs.Prelude.{All, not, ◌&&◌, ◌||◌, ◌==◌, nat_lt, slice_index, if◌then◌else◌}
 use Rattle.std.specs.List.{AllZip, list_all, list_any}
 use Rattle.std.proofs.lemmas.Bool.{eqb-true}
@@ -9,6 +10,7 @@ use Rattle.mp_base.specs.declared.op.Op.{Op}
 use Rattle.mp_base.specs.declared.op.Op.TheVariants as ops
 use Rattle.mp_base.specs.declared.value.Trit.{Trit}
 use Rattle.mp_base.specs.Apply.{apply, truth}
+use Rattle.mp_base.proofs.Tests.{truth_small, truth_apart}
 use Rattle.nor_net.specs.declared.net.NetId.{NetId}
 use Rattle.nor_net.specs.declared.net.Part.{Part}
 use Rattle.nor_net.specs.Elements.{Spot, spot}
@@ -33,23 +35,14 @@ use Rattle.control_nor.specs.Lowering.{BitsFit, ObeysBehind}
 use Rattle.control_nor.specs.Meaning.{IsExprKnown, is_active}
 use Rattle.control_nor.specs.Rails.{Agree, HasRails, Known, Named, swapped}
 use Rattle.control_nor.proofs.Adding.{gates_keep, gates_longer}
-use Rattle.control_nor.proofs.Bits.{AreBits, exclusive_or, negation_of, nor_of_bits, nor_of_negations, some_one, some_zero, truth_one, truth_small}
+use Rattle.control_nor.proofs.Bits.{AreBits, exclusive_or, negation_of, nor_of_bits, nor_of_negations, some_one}
+use Rattle.control_nor.proofs.Bits.{some_zero, truth_one}
 use Rattle.control_nor.proofs.Made.{pair_gates}
-use Rattle.control_nor.proofs.Obeying.{agree_bit, bits_known, exclusive_bit, exclusive_negation, entry_negation, gate_obeyed, negations_known, obeys_less, pair_bit, pair_negation, swap_agree, swap_rails}
+use Rattle.control_nor.proofs.Obeying.{agree_bit, bits_known, exclusive_bit, exclusive_negation, entry_negation}
+use Rattle.control_nor.proofs.Obeying.{gate_obeyed, negations_known, obeys_less, pair_bit, pair_negation, swap_agree}
+use Rattle.control_nor.proofs.Obeying.{swap_rails}
 
 -- ---- bits are 0 or 1
-
-truth_apart : (a b : ℕ) → truth (nat_lt a b) + truth (nat_lt b a) < 2
-truth_apart a b =
-    by_order (Rattle.std.proofs.lemmas.Bool.cases_lt a b)
-  where
-    by_order : (a < b) ⊎ (b ≤ a) → truth (nat_lt a b) + truth (nat_lt b a) < 2
-    by_order (inl l) =
-        let e : truth (nat_lt b a) ≡ 0 = ap truth (Rattle.std.proofs.lemmas.Bool.le-ltb b a (omega arith)) in
-        let t = truth_small (nat_lt a b) in omega (arith, e, t)
-    by_order (inr l) =
-        let e : truth (nat_lt a b) ≡ 0 = ap truth (Rattle.std.proofs.lemmas.Bool.le-ltb a b l) in
-        let t = truth_small (nat_lt b a) in omega (arith, e, t)
 
 small_bit : (w : ℕ) (op : Op) (k : ℕ) (xs : List ℕ) → gives_word op ≡ false → apply w op k xs < 2
 small_bit w ops.And k xs g = truth_small (list_all (λ x. x == 1) xs)

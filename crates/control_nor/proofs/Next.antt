@@ -1,7 +1,10 @@
 -- What is added for the next value of a stored bit.
-use Rattle.std.proofs.Common.{◌≡◌, ℕ, ◌+◌, ◌*◌, ◌<◌, ◌≤◌, List, [], ◌∷◌, ◌++◌, Option, Some, None, length, sym, ap, subst, arith, length-append}
+use Rattle.std.proofs.Common.{◌≡◌, ℕ, ◌+◌, ◌*◌, ◌<◌, ◌≤◌, List, [], ◌∷◌, ◌++◌, Option, Some, None, length, sym, ap}
+use Rattle.std.proofs.Common.{subst, arith, length-append}
 use Rattle.std.specs.Prelude.{All, IfSome, slice_get, slice_set}
 use Rattle.std.specs.List.{AllZip}
+use Rattle.mp_base.proofs.Zips.{zip_all_right}
+use Rattle.std.proofs.lemmas.Slice.Zip.{AllZip-long}
 use Rattle.nor_net.specs.declared.net.NetId.{NetId}
 use Rattle.nor_net.specs.declared.net.Phase.TheVariants.{A, B}
 use Rattle.nor_net.specs.declared.net.Part.{Part}
@@ -12,14 +15,15 @@ use Rattle.control_nor.specs.declared.rails.Rails.{Rails}
 use Rattle.control_nor.specs.Adding.{AddsGates, IsCounted}
 use Rattle.control_nor.specs.Cells.{GuardOf, IsNextMade, IsSourceMade, IsTerm}
 use Rattle.control_nor.specs.Rails.{AllBelow}
-use Rattle.control_nor.proofs.Adding.{added_at, added_keeps, added_two, counted_list, counted_on, gates_keep, gates_on, three_gates}
-use Rattle.control_nor.proofs.Zipping.{zip_length, zip_right}
+use Rattle.control_nor.proofs.Adding.{added_at, added_keeps, added_two, counted_list, counted_on, gates_keep, gates_on}
+use Rattle.control_nor.proofs.Adding.{three_gates}
 
 pub guards_below : (n : ℕ) (exprs : List (Option Rails)) → AllBelow n exprs → (ts : List Transfer) (ids : List NetId)
     → AllZip (GuardOf exprs) ts ids → All (λ (j : NetId). j.0 < n) ids
 guards_below n exprs below ts ids h =
-    zip_right (GuardOf exprs) (λ (j : NetId). j.0 < n) ts ids
-    (λ t id g. subst (λ (i : NetId). i.0 < n) (sym g.2) (below t.guard g.0 g.1).bit_below) h
+    zip_all_right (GuardOf exprs) (λ (j : NetId). j.0 < n)
+    (λ t id g. subst (λ (i : NetId). i.0 < n) (sym g.2) (below t.guard g.0 g.1).bit_below) ts
+    ids h
 
 pub below_later : (m n : ℕ) (ids : List NetId) → m ≤ n → All (λ (j : NetId). j.0 < m) ids
     → All (λ (j : NetId). j.0 < n) ids
@@ -50,10 +54,10 @@ source_counted exprs ts slave reset source old new h = record {
     more = Gate (h.guards ++ slave ∷ []) ∷ Gate (h.terms ++ h.hold ∷ []) ∷ Gate (h.off ∷ reset ∷ []) ∷ []
 
     guards : length h.guards ≡ length ts
-    guards = zip_length (GuardOf exprs) ts h.guards h.are_guards
+    guards = AllZip-long (GuardOf exprs) ts h.guards h.are_guards
 
     terms : length h.terms ≡ length ts
-    terms = zip_length (IsTerm exprs (length old) h.middle) ts h.terms h.are_terms.each
+    terms = AllZip-long (IsTerm exprs (length old) h.middle) ts h.terms h.are_terms.each
 
     guards_more : length (h.guards ++ slave ∷ []) ≡ length h.guards + 1
     guards_more = length-append h.guards (slave ∷ [])

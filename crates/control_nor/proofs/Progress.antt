@@ -1,8 +1,11 @@
 -- Tasks, one after the other.
-use Rattle.std.proofs.Common.{◌≡◌, ℕ, ◌+◌, ◌≤◌, ◌⊎◌, inl, inr, List, Option, Some, None, Bool, true, false, length, refl, sym, ◌∙◌, ap, subst, arith}
+use Rattle.std.proofs.Common.{◌≡◌, ℕ, ◌+◌, ◌≤◌, ◌⊎◌, inl, inr, List, Option, Some, None, Bool, true, false, length}
+use Rattle.std.proofs.Common.{refl, sym, ◌∙◌, ap, subst, arith}
 use Rattle.std.specs.Prelude.{MatchBool, ◌&&◌, not, slice_get, if◌then◌else◌}
 use Rattle.std.proofs.lemmas.Option.{none-some, same_Some, slice_get_within, slice_get-get_or}
 use Rattle.std.proofs.lemmas.List.{length-set}
+use Rattle.mp_base.proofs.Entries.{get_set_same, get_set_other}
+use Rattle.std.proofs.lemmas.Bool.{cases_eq}
 use Rattle.nor_net.specs.declared.net.Part.{Part}
 use Rattle.rtl_form.specs.declared.rtl.Cell as cells
 use Rattle.rtl_form.specs.declared.rtl.RtlExpr.{RtlExpr}
@@ -24,7 +27,7 @@ use Rattle.control_nor.specs.Schedule.{IsTask}
 use Rattle.control_nor.specs.Size.{IsWithinCost, bit_expr_cost, entry_count}
 use Rattle.control_nor.specs.Tasks.{IsTaskMade, entry_of, with_entry}
 use Rattle.control_nor.proofs.Adding.{logic_none}
-use Rattle.control_nor.proofs.Left.{get_set_other, get_set_same, left_some, nat_cases, set_there, waits_fall}
+use Rattle.control_nor.proofs.Left.{left_some, set_there, waits_fall}
 use Rattle.control_nor.proofs.Made.{AreAdded, driven_added, expr_added, nothing_added}
 
 pub at_get : {X : Type 0} (xs : List X) (k : ℕ) (x : X) → IsAt xs k x → slice_get xs k ≡ Some x
@@ -32,10 +35,10 @@ at_get xs k x h = slice_get-get_or xs k x h.0 ∙ ap Some (sym h.1)
 
 -- two tasks are the same or not
 pub task_cases : (x y : Task) → (x ≡ y) ⊎ (x ≡ y → ⊥)
-task_cases (Expr d) (Expr e) = elim (nat_cases d e) [ inl h ↦ inl (ap Expr h) | inr ne ↦ inr (λ h. ne (cc h)) ]
+task_cases (Expr d) (Expr e) = elim (cases_eq d e) [ inl h ↦ inl (ap Expr h) | inr ne ↦ inr (λ h. ne (cc h)) ]
 task_cases (Expr d) (Cell e) = inr (λ h. absurd (cc h))
 task_cases (Cell d) (Expr e) = inr (λ h. absurd (cc h))
-task_cases (Cell d) (Cell e) = elim (nat_cases d e) [ inl h ↦ inl (ap Cell h) | inr ne ↦ inr (λ h. ne (cc h)) ]
+task_cases (Cell d) (Cell e) = elim (cases_eq d e) [ inl h ↦ inl (ap Cell h) | inr ne ↦ inr (λ h. ne (cc h)) ]
 
 -- ---- entries of tasks after one was set
 

@@ -1,9 +1,11 @@
 -- Tasks of a schedule, done in its order.
-use Rattle.std.proofs.Common.{◌≡◌, ℕ, ◌+◌, ◌<◌, ◌≤◌, ◌⊎◌, inl, inr, List, Option, Some, None, Bool, true, false, length, refl, sym, ◌∙◌, ap, subst, arith, eqb}
+use Rattle.std.proofs.Common.{◌≡◌, ℕ, ◌+◌, ◌<◌, ◌≤◌, ◌⊎◌, inl, inr, List, Option, Some, None, Bool, true, false, length}
+use Rattle.std.proofs.Common.{refl, sym, ◌∙◌, ap, subst, arith, eqb}
 use Rattle.std.specs.Prelude.{All, Contains, MatchBool, ◌&&◌, not, if◌then◌else◌, slice_get, slice_index_or}
-use Rattle.std.proofs.lemmas.Bool.{eqb-true}
+use Rattle.std.proofs.lemmas.Bool.{eqb-true, cases_eq}
 use Rattle.std.proofs.lemmas.List.Elements.{All-filter, Contains-get_or, filter_passes}
 use Rattle.std.proofs.lemmas.Option.{none-some, same_Some}
+use Rattle.mp_base.proofs.Induction.{by_test}
 use Rattle.nor_net.specs.declared.net.Part.{Part}
 use Rattle.rtl_form.specs.declared.rtl.Cell as cells
 use Rattle.rtl_form.specs.declared.rtl.Transfer.{Transfer}
@@ -13,7 +15,7 @@ use Rattle.rtl_form.specs.declared.rtl.Rtl.{Rtl}
 use Rattle.rtl_form.specs.Entries.{IsAt}
 use Rattle.rtl_form.specs.Environment.{is_driven}
 use Rattle.rtl_form.specs.Sound.{ExprFits, HasSort, IsSort, IsSound}
-use Rattle.rtl_form.proofs.Members.{by_test, one_entry, some_entry}
+use Rattle.rtl_form.proofs.Members.{one_entry, some_entry}
 use Rattle.control_nor.specs.declared.names.Task.{Task}
 use Rattle.control_nor.specs.declared.names.Task.TheVariants.{Expr, Cell}
 use Rattle.control_nor.specs.declared.rails.Rails.{Rails}
@@ -28,7 +30,8 @@ use Rattle.control_nor.specs.Size.{IsWithinCost, bit_expr_cost}
 use Rattle.control_nor.specs.Tasks.{IsTaskDone, IsTaskMade, IsTaskReady, entry_of, with_entry}
 use Rattle.control_nor.proofs.Adding.{logic_none, logic_on, logic_longer}
 use Rattle.control_nor.proofs.Left.{left_least, waits_fall}
-use Rattle.control_nor.proofs.Progress.{IsStep, at_get, cells_after, entry_other, entry_same, exprs_after, named_after, names_stay, task_step}
+use Rattle.control_nor.proofs.Progress.{IsStep, at_get, cells_after, entry_other, entry_same, exprs_after, named_after}
+use Rattle.control_nor.proofs.Progress.{names_stay, task_step}
 
 within_on : (c e d f : ℕ) (old middle new : List Part) → IsWithinCost c e old middle → IsWithinCost d f middle new
     → IsWithinCost (c + d) (e + f) old new
@@ -233,7 +236,7 @@ module _ (r : Rtl) (sound : IsSound r) (tasks : List Task) (schedule : IsSchedul
         keeps = λ y rails h. names_stay after made.entry task y rails was (progress.keeps y rails h);
         below = λ y rails h. by_below y rails (named_after after made.entry task y rails was h);
         bits_only = λ y rails h. by_bits y rails (named_after after made.entry task y rails was h);
-        done = λ s y l at bit. by_done s y at bit (Rattle.control_nor.proofs.Left.nat_cases s t) l;
+        done = λ s y l at bit. by_done s y at bit (cases_eq s t) l;
         left = λ s y l at. entry_other after made.entry task y (others s y at (λ e. absurd (omega (arith, e, l))))
             ∙ progress.left s y (omega arith) at;
         spent = record {

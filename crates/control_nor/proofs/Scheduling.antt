@@ -1,13 +1,15 @@
 -- Tasks in the order of their moments.
-use Rattle.std.proofs.Common.{◌≡◌, ℕ, zero, suc, ◌+◌, ◌-◌, ◌*◌, ◌<◌, ◌≤◌, ◌⊎◌, inl, inr, List, [], ◌∷◌, Option, Some, None, Bool, false, length, map, get_or, refl, sym, ◌∙◌, ap, subst, arith, eqb}
+use Rattle.std.proofs.Common.{◌≡◌, ℕ, zero, suc, ◌+◌, ◌-◌, ◌*◌, ◌<◌, ◌≤◌, ◌⊎◌, inl, inr, List, [], ◌∷◌, Option, Some}
+use Rattle.std.proofs.Common.{None, Bool, false, length, map, get_or, refl, sym, ◌∙◌, ap, subst, arith, eqb}
 use Rattle.std.specs.Prelude.{All, Contains, slice_get, slice_index}
 use Rattle.std.specs.List.{IsDistinct, AllByRecursion}
 use Rattle.std.specs.List.Sorted.{IsNonDecreasingBy, IsPermutation}
-use Rattle.std.proofs.lemmas.Bool.{cases_lt, eq-eqb, ne_eqb}
+use Rattle.std.proofs.lemmas.Bool.{cases_lt, eq-eqb, ne_eqb, cases_eq}
 use Rattle.std.proofs.lemmas.List.Elements.{recursion_from_All, All-from_recursion}
 use Rattle.std.proofs.lemmas.List.Sorted.{All-permutation, Contains-permutation}
 use Rattle.std.proofs.lemmas.Map.Keys.{IsDistinct-IsPermutation}
-use Rattle.std.proofs.lemmas.Option.{get_or_from_slice_get, none-some, same_Some, slice_get-get_or, slice_get-map, slice_get_within}
+use Rattle.std.proofs.lemmas.Option.{get_or_from_slice_get, none-some, same_Some, slice_get-get_or, slice_get-map}
+use Rattle.std.proofs.lemmas.Option.{slice_get_within}
 use Rattle.std.proofs.Math.Nat.{mul-le-mul_right}
 use Rattle.rtl_form.specs.declared.rtl.Transfer.{Transfer}
 use Rattle.rtl_form.specs.declared.rtl.RtlExpr.{RtlExpr}
@@ -20,7 +22,6 @@ use Rattle.control_nor.specs.declared.names.Task.TheVariants.{Expr, Cell}
 use Rattle.control_nor.specs.declared.schedule.Entry.{Entry}
 use Rattle.control_nor.specs.Schedule.{ExprReads, IsSchedule, IsTask, TaskReads}
 use Rattle.control_nor.specs.Turns.{AreCellTurns, AreEntries, AreExprTurns, cell_moment, expr_moment}
-use Rattle.control_nor.proofs.Left.{nat_cases}
 use Rattle.control_nor.proofs.Turns.{tight}
 
 -- ---- numbers of two digits
@@ -145,7 +146,7 @@ module _ (r : Rtl) (sound : IsSound r) (cells turns : List ℕ) (cell_turns : Ar
       (distinct_from es differ)
     where
       flip : (m n : ℕ) → eqb m n ≡ eqb n m
-      flip m n = elim (nat_cases m n) [
+      flip m n = elim (cases_eq m n) [
         | inl e ↦ eq-eqb m n e ∙ sym (eq-eqb n m (sym e))
         | inr ne ↦ ne_eqb m n ne ∙ sym (ne_eqb n m (λ e. ne (sym e)))
       ]
@@ -174,7 +175,7 @@ module _ (r : Rtl) (sound : IsSound r) (cells turns : List ℕ) (cell_turns : Ar
   -- a place has one cell, and a cell one place
   one_place : (p q : ℕ) → p < length r.order → q < length r.order → slice_index r.order p ≡ slice_index r.order q
       → p ≡ q
-  one_place p q l m e = elim (nat_cases p q) [
+  one_place p q l m e = elim (cases_eq p q) [
     | inl same ↦ same
     | inr ne ↦ elim (cases_lt p q) [
       | inl s ↦ absurd (sound.order.once p q s m e)
@@ -293,7 +294,7 @@ module _ (r : Rtl) (sound : IsSound r) (cells turns : List ℕ) (cell_turns : Ar
     ]);
     once = λ s t x h k. let f = entry_of s x h in let g = entry_of t x k in
         let same = same_task f.0 g.0 (own s f.0 f.1) (own t g.0 g.1) (f.2 ∙ sym g.2) in
-        elim (nat_cases s t) [
+        elim (cases_eq s t) [
           | inl e ↦ e
           | inr ne ↦ elim (cases_lt s t) [
             | inl l ↦ absurd (distinct_at ys apart s t f.0 g.0 l f.1 g.1 same)

@@ -1,11 +1,14 @@
 -- Stored bits and their next values.
-use Rattle.std.proofs.Common.{◌≡◌, ℕ, suc, ◌+◌, ◌<◌, ◌≤◌, inl, inr, List, [], ◌∷◌, ◌++◌, Option, Some, None, Bool, true, false, length, map, refl, sym, ◌∙◌, ap, subst, arith, cond, length-append}
+use Rattle.std.proofs.Common.{◌≡◌, ℕ, suc, ◌+◌, ◌<◌, ◌≤◌, inl, inr, List, [], ◌∷◌, ◌++◌, Option, Some, None, Bool, true}
+use Rattle.std.proofs.Common.{false, length, map, refl, sym, ◌∙◌, ap, subst, arith, cond, length-append}
 use Rattle.std.specs.Prelude.{not, ◌&&◌, ◌||◌, slice_get}
 use Rattle.std.specs.List.{AllZip, list_all, list_any}
-use Rattle.std.proofs.lemmas.List.{length-set}
+use Rattle.std.proofs.lemmas.Bool.{cases_eq}
+use Rattle.std.proofs.lemmas.List.{length-set, map_push}
 use Rattle.std.proofs.lemmas.Option.{same_Some, slice_get_within}
 use Rattle.mp_base.specs.declared.value.Trit.{Trit}
 use Rattle.mp_base.specs.declared.value.Trit.TheVariants.{Zero, One, X}
+use Rattle.mp_base.proofs.Entries.{get_kept, get_set_same, get_set_other}
 use Rattle.nor_net.specs.Elements.{Spot, spot, part_element}
 use Rattle.nor_net.specs.Laws.{bit}
 use Rattle.nor_net.specs.Settled.{Obeys, nor_value}
@@ -24,8 +27,7 @@ use Rattle.control_nor.specs.Lowering.{ObeysBehind}
 use Rattle.control_nor.specs.Meaning.{is_active}
 use Rattle.control_nor.specs.NextValues.{AreKnown, IsStoring, is_guarded, next_of}
 use Rattle.control_nor.specs.Rails.{HasRails}
-use Rattle.control_nor.proofs.Adding.{gates_keep, gates_longer, get_at, get_kept}
-use Rattle.control_nor.proofs.Left.{get_set_other, get_set_same}
+use Rattle.control_nor.proofs.Adding.{gates_keep, gates_longer, get_at}
 use Rattle.control_nor.proofs.Meaning.{terms_known}
 use Rattle.control_nor.proofs.Next.{source_gates}
 use Rattle.control_nor.proofs.Obeying.{gate_obeyed}
@@ -55,10 +57,6 @@ obeys_kept old new first later v keeps l h n ge = by_part (slice_get old n) refl
     by_part (Some (Latch phase (Some source))) e = still (Latch phase (Some source)) e refl
 
 -- ---- the NOR of bits and one more
-
-map_push : {X Y : Type 0} (f : X → Y) (xs : List X) (x : X) → map f (xs ++ x ∷ []) ≡ map f xs ++ f x ∷ []
-map_push f [] x = refl
-map_push f (y ∷ xs) x = ap (λ ys. f y ∷ ys) (map_push f xs x)
 
 module _ {X : Type 0} (p : X → Bool) (b : Bool) where
   as_bits : (ts : List X) → map (λ t. bit (p t)) ts ++ bit b ∷ [] ≡ map bit (map p ts ++ b ∷ [])
@@ -156,7 +154,7 @@ module _ (r : Rtl) (exprs : List (Option Rails)) (ts : List Transfer) (rails : R
 
   -- what stands in the middle and isn't the slave stands in the end
   middle_stays : (n : ℕ) (p : Part) → slice_get h.middle n ≡ Some p → Fed p → slice_get new n ≡ Some p
-  middle_stays n p e fed = elim (Rattle.control_nor.proofs.Left.nat_cases n rails.negation.0) [
+  middle_stays n p e fed = elim (cases_eq n rails.negation.0) [
     | inl same ↦ absurd (never_fed B (subst Fed (same_Some p (Latch B None) (sym e ∙ (ap (slice_get h.middle) same
         ∙ middle_keeps rails.negation.0 (Latch B None) waits))) fed))
     | inr ne ↦ elsewhere n ne ∙ grown_from n p e

@@ -1,10 +1,13 @@
 -- The next values of all stored bits, cell by cell.
-use Rattle.std.proofs.Common.{◌≡◌, ℕ, zero, suc, ◌+◌, ◌-◌, ◌*◌, ◌<◌, ◌≤◌, ◌⊎◌, inl, inr, List, [], ◌∷◌, ◌++◌, Option, Some, None, Bool, true, false, length, drop, refl, sym, ◌∙◌, ap, subst, arith, eqb, append_assoc}
+use Rattle.std.proofs.Common.{◌≡◌, ℕ, zero, suc, ◌+◌, ◌-◌, ◌*◌, ◌<◌, ◌≤◌, ◌⊎◌, inl, inr, List, [], ◌∷◌, ◌++◌, Option}
+use Rattle.std.proofs.Common.{Some, None, Bool, true, false, length, drop, refl, sym, ◌∙◌, ap, subst, arith, eqb}
+use Rattle.std.proofs.Common.{append_assoc}
 use Rattle.std.specs.Prelude.{All, MatchBool, nat_le, if◌then◌else◌, slice_get, slice_set}
 use Rattle.std.specs.List.{sum_by}
-use Rattle.std.proofs.lemmas.Bool.{cases_lt, eq-eqb, ne_eqb}
+use Rattle.std.proofs.lemmas.Bool.{cases_lt, eq-eqb, ne_eqb, cases_eq, le-leb, lt-leb}
 use Rattle.std.proofs.lemmas.List.Sums.{sum_by-cons, sum_by-set}
 use Rattle.std.proofs.lemmas.Option.{none-some, same_Some, slice_get_within, get_or_from_slice_get}
+use Rattle.mp_base.proofs.Entries.{get_kept, get_front}
 use Rattle.nor_net.specs.Shape.{Fed, fan_in, gate_inputs}
 use Rattle.nor_net.specs.declared.net.NetId.{NetId}
 use Rattle.nor_net.specs.declared.net.Phase.TheVariants.{A, B}
@@ -19,15 +22,17 @@ use Rattle.control_nor.specs.declared.rails.Rails.{Rails}
 use Rattle.control_nor.specs.declared.rails.Bits.{Bits}
 use Rattle.control_nor.specs.Adding.{HasRoom, IsCounted}
 use Rattle.control_nor.specs.Cells.{IsNextMade, transfers_to}
-use Rattle.control_nor.specs.NextValues.{AreStored, AreWaiting, IsNextCellMade, IsStoring, is_stored_bit, next_cost, next_left, stored_count, stored_from}
+use Rattle.control_nor.specs.NextValues.{AreStored, AreWaiting, IsNextCellMade, IsStoring, is_stored_bit, next_cost}
+use Rattle.control_nor.specs.NextValues.{next_left, stored_count, stored_from}
 use Rattle.control_nor.specs.Rails.{Named}
 use Rattle.control_nor.specs.Size.{IsWithinCost, active_count}
-use Rattle.control_nor.proofs.Adding.{counted_list, counted_on, get_kept}
-use Rattle.control_nor.proofs.FirstSteps.{in_more, get_front}
-use Rattle.control_nor.proofs.Left.{nat_cases, one_if, sum_split}
+use Rattle.control_nor.proofs.Adding.{counted_list, counted_on}
+use Rattle.control_nor.proofs.FirstSteps.{in_more}
+use Rattle.control_nor.proofs.Left.{one_if, sum_split}
 use Rattle.control_nor.proofs.Next.{source_counted, source_gates}
 use Rattle.control_nor.proofs.Progress.{at_get}
-use Rattle.control_nor.proofs.StoredBits.{elsewhere, grown_length, never_fed, new_length, obeys_kept, slave_below, slave_fed, stays, storing}
+use Rattle.control_nor.proofs.StoredBits.{elsewhere, grown_length, never_fed, new_length, obeys_kept, slave_below}
+use Rattle.control_nor.proofs.StoredBits.{slave_fed, stays, storing}
 
 -- ---- the cost of one more cell
 
@@ -41,17 +46,11 @@ sum_drop f (y ∷ xs) (suc i) x e =
     (let s : suc (i + 1) ≡ suc i + 1 = omega arith in s)
     (sum_drop f xs i x e)
 
-le_test : (m n : ℕ) → m ≤ n → nat_le m n ≡ true
-le_test m n l = Rattle.std.proofs.lemmas.Bool.le-leb m n l
-
-lt_test : (m n : ℕ) → n < m → nat_le m n ≡ false
-lt_test m n l = Rattle.std.proofs.lemmas.Bool.lt-leb m n l
-
 -- the test for a later start is the same but at the start itself
 later_test : (i t : ℕ) → (t ≡ i → ⊥) → nat_le i t ≡ nat_le (i + 1) t
 later_test i t ne = elim (cases_lt t i) [
-  | inl l ↦ lt_test i t l ∙ sym (lt_test (i + 1) t (omega arith))
-  | inr l ↦ le_test i t l ∙ sym (le_test (i + 1) t (let d : i < t = by_cases i t l ne in omega (arith, d)))
+  | inl l ↦ lt-leb i t l ∙ sym (lt-leb (i + 1) t (omega arith))
+  | inr l ↦ le-leb i t l ∙ sym (le-leb (i + 1) t (let d : i < t = by_cases i t l ne in omega (arith, d)))
 ]
   where
     by_cases : (i t : ℕ) → i ≤ t → (t ≡ i → ⊥) → i < t
@@ -61,9 +60,9 @@ module _ (xs : List cells.Cell) (i : ℕ) (x : cells.Cell) (is : slice_get xs i 
   at_start : (t : Transfer) → t.target ≡ i → (stored_from xs i t ≡ stored_count (Some x))
       × (stored_from xs (i + 1) t ≡ 0)
   at_start t e = (
-    ap (λ b. if b then stored_count (slice_get xs t.target) else 0) (le_test i t.target (omega (arith, e)))
+    ap (λ b. if b then stored_count (slice_get xs t.target) else 0) (le-leb i t.target (omega (arith, e)))
         ∙ (ap (λ n. stored_count (slice_get xs n)) e ∙ ap stored_count is),
-    ap (λ b. if b then stored_count (slice_get xs t.target) else 0) (lt_test (i + 1) t.target (omega (arith, e))),
+    ap (λ b. if b then stored_count (slice_get xs t.target) else 0) (lt-leb (i + 1) t.target (omega (arith, e))),
   )
 
   not_start : (t : Transfer) → (t.target ≡ i → ⊥) → stored_from xs i t ≡ stored_from xs (i + 1) t
@@ -71,7 +70,7 @@ module _ (xs : List cells.Cell) (i : ℕ) (x : cells.Cell) (is : slice_get xs i 
 
   stored_split : is_stored_bit x ≡ true → (t : Transfer) → stored_from xs i t
       ≡ stored_from xs (i + 1) t + one_if (eqb t.target i)
-  stored_split on t = elim (nat_cases t.target i) [
+  stored_split on t = elim (cases_eq t.target i) [
     | inl e ↦ let a = at_start t e in let p = a.0 in let q = a.1 in
         let c : stored_count (Some x) ≡ 1 = ap (λ b. if b then 1 else 0) on in
         let d : one_if (eqb t.target i) ≡ 1 = ap one_if (eq-eqb t.target i e) in omega (arith, p, q, c, d)
@@ -83,7 +82,7 @@ module _ (xs : List cells.Cell) (i : ℕ) (x : cells.Cell) (is : slice_get xs i 
       → sum_by (stored_from xs i) ts ≡ sum_by (stored_from xs (i + 1)) ts
   other_same off [] = refl
   other_same off (t ∷ ts) =
-      let h : stored_from xs i t ≡ stored_from xs (i + 1) t = by_target (nat_cases t.target i) in
+      let h : stored_from xs i t ≡ stored_from xs (i + 1) t = by_target (cases_eq t.target i) in
       let a = sum_by-cons (stored_from xs i) t ts in
       let b = sum_by-cons (stored_from xs (i + 1)) t ts in
       let r = other_same off ts in omega (arith, h, a, b, r)
@@ -150,7 +149,7 @@ module _ (r : Rtl) (bits : Bits) (reset : NetId) (old new newer : List Part) (w 
   })
     where
       below : (c : ℕ) (y : cells.Cell) → IsAt r.cells c y → is_stored_bit y ≡ true → c < i + 1 → c < i
-      below c y h on l = elim (nat_cases c i) [
+      below c y h on l = elim (cases_eq c i) [
         | inl e ↦ absurd (cc (
           ap is_stored_bit (one_entry r.cells i x y at (subst (λ n. IsAt r.cells n y) e h)),
           on,
@@ -189,7 +188,7 @@ module _ (r : Rtl) (exprs : List (Option Rails)) (ts : List Transfer) (rails : R
       → ((slice_get old n ≡ Some p) × (n ≡ rails.negation.0 → ⊥))
       ⊎ (((inputs : List NetId) × (p ≡ Gate inputs)) ⊎ ((p ≡ Latch A (Some h.source)) ⊎
       (p ≡ Latch B (Some h.negation))))
-  was_or_is n p e = elim (nat_cases n rails.negation.0) [
+  was_or_is n p e = elim (cases_eq n rails.negation.0) [
     | inl same ↦ inr (inr (inr (same_Some p (Latch B (Some h.negation)) (sym e ∙ (ap (slice_get new) same
         ∙ slave_fed r exprs ts rails reset old new h waits)))))
     | inr ne ↦ by_place ne (cases_lt n (length old)) (sym (elsewhere r exprs ts rails reset old new h waits n ne) ∙ e)
@@ -342,7 +341,7 @@ module _ (r : Rtl) (bits : Bits) (reset : NetId) (old new newer : List Part) (w 
         (λ e. let same = w.apart c i y x q rails k on_y n at on named e in absurd (omega (arith, same, l)))
         ∙ grown_keeps r bits.exprs ts rails reset new newer h waits q.negation.0 (Latch B None)
         (done.waiting c y q (omega arith) k on_y n);
-    stored = λ c y q l k on_y n. elim (nat_cases c i) [
+    stored = λ c y q l k on_y n. elim (cases_eq c i) [
       | inl e ↦ subst (λ m. IsStoring bits.exprs (transfers_to r.transfers m) (length old) newer q reset) (sym e)
           (subst (λ (p : Rails). IsStoring bits.exprs ts (length old) newer p reset) (same_rails c q n e)
           (storing_kept bits.exprs ts (length old) (length new) newer newer rails reset
@@ -381,7 +380,7 @@ module _ (r : Rtl) (bits : Bits) (reset : NetId) (old new newer : List Part) (w 
     unfed = λ n p e. elim (kinds_of n (Latch p None) e) [
       | inl a ↦ let u = done.unfed n p a.0 in (
         u.0,
-        λ c y q l k on_y m z. elim (nat_cases c i) [
+        λ c y q l k on_y m z. elim (cases_eq c i) [
           | inl same ↦ a.1 (sym (ap (λ (s : Rails). s.negation.0) (same_rails c q m same) ∙ z))
           | inr ne ↦ u.1 c y q (omega arith) k on_y m z
         ],

@@ -1,6 +1,9 @@
 -- Terms of transfers.
-use Rattle.std.proofs.Common.{◌≡◌, ℕ, ◌+◌, ◌*◌, ◌<◌, List, [], ◌∷◌, ◌++◌, Option, length, take, get_or, sym, ◌∙◌, ap, subst, arith, length-take}
+use Rattle.std.proofs.Common.{◌≡◌, ℕ, ◌+◌, ◌*◌, ◌<◌, List, [], ◌∷◌, ◌++◌, Option, length, take, get_or, sym, ◌∙◌, ap}
+use Rattle.std.proofs.Common.{subst, arith, length-take}
 use Rattle.std.specs.Prelude.{All, slice_get}
+use Rattle.mp_base.proofs.Entries.{get_middle}
+use Rattle.mp_base.proofs.Zips.{zip_map, zip_all_right}
 use Rattle.nor_net.specs.declared.net.NetId.{NetId}
 use Rattle.nor_net.specs.declared.net.Part.{Part}
 use Rattle.nor_net.specs.declared.net.Part.TheVariants.{Gate}
@@ -10,8 +13,9 @@ use Rattle.control_nor.specs.declared.rails.Rails.{Rails}
 use Rattle.control_nor.specs.Adding.{AddsGates, IsCounted}
 use Rattle.control_nor.specs.Cells.{AreTerms, IsTerm}
 use Rattle.control_nor.specs.Rails.{Named}
-use Rattle.control_nor.proofs.Adding.{counted_none, counted_on, counted_part, gates_none, gates_on, gates_one, gates_keep, gates_longer, get_first}
-use Rattle.control_nor.proofs.Zipping.{zip_more, zip_right, zip_weaker}
+use Rattle.control_nor.proofs.Adding.{counted_none, counted_on, counted_part, gates_none, gates_on, gates_one}
+use Rattle.control_nor.proofs.Adding.{gates_keep, gates_longer}
+use Rattle.control_nor.proofs.Zipping.{zip_more}
 
 pub no_terms : (exprs : List (Option Rails)) (parts : List Part) → AreTerms exprs [] parts parts []
 no_terms exprs parts = record { adds = gates_none parts; counted = counted_none parts; each = tt }
@@ -42,8 +46,9 @@ term_more exprs ts i d old middle new terms guard value id l h is_guard is_value
     active_count = let e = counted.active_count in omega (arith, e, short, long);
   };
   each = zip_more (IsTerm exprs (length old) new) ts terms i d id l
-      (zip_weaker (IsTerm exprs (length old) middle) (IsTerm exprs (length old) new) (take i ts) terms
-      (kept_term exprs (length old) middle new here) h.each) last;
+      (zip_map (IsTerm exprs (length old) middle) (IsTerm exprs (length old) new)
+      (kept_term exprs (length old) middle new here) (take i ts)
+      terms h.each) last;
 }
   where
     part : List NetId
@@ -71,13 +76,14 @@ term_more exprs ts i d old middle new terms guard value id l h is_guard is_value
       is_value = is_value;
       behind = let g = gates_longer old middle h.adds in let n = a.number in omega (arith, g, n);
       is_gate = ap (slice_get new) a.number ∙ (ap (λ ps. slice_get ps (length middle)) a.parts
-          ∙ get_first middle (Gate part) []);
+          ∙ get_middle middle (Gate part) []);
     }
 
 -- the terms stand where they were added
 pub terms_below : (exprs : List (Option Rails)) (ts : List Transfer) (old new : List Part) (terms : List NetId)
     → AreTerms exprs ts old new terms → All (λ (j : NetId). j.0 < length new) terms
 terms_below exprs ts old new terms h =
-    zip_right (IsTerm exprs (length old) new) (λ (j : NetId). j.0 < length new) ts terms
+    zip_all_right (IsTerm exprs (length old) new) (λ (j : NetId). j.0 < length new)
     (λ t id is. Rattle.std.proofs.lemmas.Option.slice_get_within new id.0
-    (Gate (is.value.negation ∷ is.guard.negation ∷ [])) is.is_gate) h.each
+    (Gate (is.value.negation ∷ is.guard.negation ∷ [])) is.is_gate) ts
+    terms h.each

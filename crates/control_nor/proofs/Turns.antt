@@ -1,19 +1,21 @@
 -- Turns of cells and expressions.
-use Rattle.std.proofs.Common.{◌≡◌, ℕ, zero, suc, ◌+◌, ◌<◌, ◌≤◌, ◌⊎◌, inl, inr, List, [], ◌∷◌, ◌++◌, Some, length, take, get_or, max, refl, sym, ◌∙◌, ap, subst, arith, length-append, replicate}
+use Rattle.std.proofs.Common.{◌≡◌, ℕ, zero, suc, ◌+◌, ◌<◌, ◌≤◌, ◌⊎◌, inl, inr, List, [], ◌∷◌, ◌++◌, Some, length, take}
+use Rattle.std.proofs.Common.{get_or, max, refl, sym, ◌∙◌, ap, subst, arith, length-append, replicate}
 use Rattle.std.specs.Prelude.{All, Contains, slice_set, slice_index, slice_index_or}
-use Rattle.std.proofs.lemmas.Bool.{cases_lt}
+use Rattle.std.proofs.lemmas.Bool.{cases_lt, cases_eq}
 use Rattle.std.proofs.lemmas.List.{length-replicate, length-set, take_more}
 use Rattle.std.proofs.lemmas.List.Elements.{Contains-get_or, Contains-append_left, Contains-push, Contains-push_cases}
 use Rattle.std.proofs.lemmas.Option.{get_or_from_slice_get, slice_get-get_or}
+use Rattle.mp_base.proofs.Induction.{upward}
+use Rattle.mp_base.proofs.Entries.{get_set_same}
 use Rattle.rtl_form.specs.declared.rtl.RtlExpr.{RtlExpr}
 use Rattle.rtl_form.specs.declared.rtl.RtlExpr.TheVariants as exprs
 use Rattle.rtl_form.specs.declared.rtl.Rtl.{Rtl}
 use Rattle.rtl_form.specs.Entries.{IsAt}
 use Rattle.rtl_form.specs.Sound.{ExprFits, IsSound, ReadsCell, itself, inside}
-use Rattle.rtl_form.proofs.Members.{one_entry, some_entry, upward}
+use Rattle.rtl_form.proofs.Members.{one_entry, some_entry}
 use Rattle.control_nor.specs.Turns.{AreCellTurns, AreExprTurns, IsExprTurn, IsLatest}
 use Rattle.control_nor.proofs.Laying.{index_kept, index_last}
-use Rattle.control_nor.proofs.Left.{get_set_same, nat_cases}
 
 -- an element's index, whatever is read past the end
 pub index_at : (xs : List ℕ) (k x : ℕ) → k < length xs → x ≡ slice_index_or xs k x → x ≡ slice_index xs k
@@ -74,13 +76,13 @@ pub cell_turns_more : (r : Rtl) → IsSound r → (p : ℕ) (turns : List ℕ) �
     → AreCellTurns r (p + 1) (slice_set turns (slice_index r.order p) (p + 1))
 cell_turns_more r sound p turns l h = record {
   count = length-set turns (slice_index r.order p) (p + 1) ∙ h.count;
-  placed = λ q m. elim (nat_cases q p) [
+  placed = λ q m. elim (cases_eq q p) [
     | inl e ↦ ap (λ n. slice_index (slice_set turns (slice_index r.order p) (p + 1)) (slice_index r.order n)) e
         ∙ (read_same turns (slice_index r.order p) (p + 1) within ∙ omega (arith, e))
     | inr ne ↦ read_other turns (slice_index r.order p) (p + 1) (slice_index r.order q)
         (λ e. sound.order.once q p (omega arith) l e) ∙ h.placed q (omega arith)
   ];
-  only = λ c. elim (nat_cases c (slice_index r.order p)) [
+  only = λ c. elim (cases_eq c (slice_index r.order p)) [
     | inl e ↦ inr (
       p,
       omega arith,
@@ -126,7 +128,7 @@ pub expr_turns_more : (r : Rtl) → IsSound r → (cells : List ℕ) (n t : ℕ)
     → AreExprTurns r cells n turns → IsExprTurn cells turns x t → AreExprTurns r cells (n + 1) (turns ++ t ∷ [])
 expr_turns_more r sound cells n t x turns at h is = record {
   count = let a = length-append turns (t ∷ []) in let c = h.count in omega (arith, a, c);
-  each = λ e y l there. elim (nat_cases e n) [
+  each = λ e y l there. elim (cases_eq e n) [
     | inl same ↦ subst (IsExprTurn cells (turns ++ t ∷ []) y)
         (sym (ap (slice_index (turns ++ t ∷ [])) (same ∙ sym h.count) ∙ index_last turns t))
         (kept e y t there (omega arith) (subst (λ z. IsExprTurn cells turns z t)

@@ -1,20 +1,21 @@
 -- What is written to a bit, as the OR of the transfers that are active.
-use Rattle.std.proofs.Common.{◌≡◌, ℕ, zero, suc, ◌<◌, List, [], ◌∷◌, Option, Some, None, Bool, true, false, cond, eqb, refl, sym, ◌∙◌, ap, arith}
+use Rattle.std.proofs.Common.{◌≡◌, ℕ, zero, suc, ◌<◌, List, [], ◌∷◌, Option, Some, None, Bool, true, false, cond, eqb}
+use Rattle.std.proofs.Common.{refl, sym, ◌∙◌, ap, arith}
 use Rattle.std.specs.Prelude.{Contains, not, ◌&&◌, ◌||◌, ◌==◌, bit_or, unwrap_or}
 use Rattle.std.specs.List.{list_any}
 use Rattle.std.proofs.lemmas.Bool.{eqb-true}
 use Rattle.mp_base.specs.Merge.{join, merged}
+use Rattle.mp_base.proofs.Contents.{contains_head, contains_behind}
 use Rattle.rtl_form.specs.declared.rtl.Transfer.{Transfer}
 use Rattle.rtl_form.specs.Digits.{digit, writes_one}
 use Rattle.rtl_form.specs.Written.{writes, written}
 use Rattle.rtl_form.proofs.Digits.{written_digits}
-use Rattle.rtl_form.proofs.Members.{here, there}
 use Rattle.control_nor.specs.Cells.{transfers_to}
 use Rattle.control_nor.specs.Meaning.{is_active}
 use Rattle.control_nor.specs.NextValues.{is_guarded}
 
 -- the digit of a bit
-digit_of : (x : ℕ) → x < 2 → digit x 0 ≡ (x == 1)
+pub digit_of : (x : ℕ) → x < 2 → digit x 0 ≡ (x == 1)
 digit_of zero l = refl
 digit_of (suc zero) l = refl
 digit_of (suc (suc x)) l = absurd (omega arith)
@@ -24,7 +25,7 @@ module _ (value : ℕ → ℕ) (c : ℕ) where
   Small ts = (t : Transfer) → Contains ts t → t.target ≡ c → value t.value < 2
 
   rest : (t : Transfer) (ts : List Transfer) → Small (t ∷ ts) → Small ts
-  rest t ts h u k = h u (there u t ts k)
+  rest t ts h u k = h u (contains_behind u t ts k)
 
   -- those that write a 1 are the active ones among those to the cell
   pub ones_are : (ts : List Transfer) → Small ts → list_any (writes_one value c 0) ts
@@ -38,7 +39,7 @@ module _ (value : ℕ → ℕ) (c : ℕ) where
           ≡ list_any (is_active value) (cond b (t ∷ transfers_to ts c) (transfers_to ts c))
       by_target true e q =
           ap (λ d. ((value t.guard == 1) && d) || list_any (writes_one value c 0) ts)
-          (digit_of (value t.value) (h t (here t ts) (eqb-true t.target c e)))
+          (digit_of (value t.value) (h t (contains_head t ts) (eqb-true t.target c e)))
           ∙ ap (λ d. ((value t.guard == 1) && (value t.value == 1)) || d) q
       by_target false e q = q
 
@@ -78,7 +79,7 @@ module _ (value : ℕ → ℕ) (c : ℕ) where
       by_test : (b : Bool) → eqb t.target c ≡ b → (g : Bool) → IsBit (merged (written value c ts))
           → IsBit (merged (cond (b && g) (value t.value ∷ written value c ts) (written value c ts)))
       by_test true e true q =
-          join_small (value t.value) (merged (written value c ts)) (h t (here t ts) (eqb-true t.target c e)) q
+          join_small (value t.value) (merged (written value c ts)) (h t (contains_head t ts) (eqb-true t.target c e)) q
       by_test true e false q = q
       by_test false e g q = q
 

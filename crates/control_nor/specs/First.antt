@@ -1,5 +1,6 @@
 -- The first nets of cells: the latches of inputs, and the slaves of stored bits.
-use Rattle.std.specs.Prelude.{◌≡◌, ◌<◌, ◌≤◌, ℕ, suc, List, [], ◌∷◌, ◌++◌, Option, Some, None, true, false, length, slice_get, take}
+use Rattle.std.specs.Prelude.{◌≡◌, ◌<◌, ◌≤◌, ℕ, suc, List, [], ◌∷◌, ◌++◌, Option, Some, None, true, false, length}
+use Rattle.std.specs.Prelude.{slice_get, take}
 use Rattle.std.specs.List.{sum_by}
 use Rattle.mp_base.specs.declared.value.Trit.{Trit}
 use Rattle.nor_net.specs.Elements.{Spot}

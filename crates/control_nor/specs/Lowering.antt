@@ -1,5 +1,7 @@
 -- What gates for bits are, and what they give.
-use Rattle.std.specs.Prelude.{◌≡◌, ◌↔◌, ◌⊎◌, ◌<◌, ◌≤◌, ◌+◌, ◌*◌, ℕ, zero, suc, List, [], ◌∷◌, ◌++◌, Option, Some, true, false, cond, if◌then◌else◌, ◌==◌, All, Contains, length, slice_get, slice_index, unwrap_or}
+use Rattle.std.specs.Prelude.{◌≡◌, ◌↔◌, ◌⊎◌, ◌<◌, ◌≤◌, ◌+◌, ◌*◌, ℕ, zero, suc, List, [], ◌∷◌, ◌++◌, Option, Some, true}
+use Rattle.std.specs.Prelude.{false, cond, if◌then◌else◌, ◌==◌, All, Contains, length, slice_get, slice_index}
+use Rattle.std.specs.Prelude.{unwrap_or}
 use Rattle.std.specs.List.{sum_by}
 use Rattle.mp_base.specs.declared.value.Trit.{Trit}
 use Rattle.mp_base.specs.declared.value.Trit.TheVariants.{Zero, One}

@@ -1,7 +1,8 @@
 -- How far a path is made, when a cell has its latch, or its next value.
-use Rattle.std.proofs.Common.{◌≡◌, ℕ, suc, ◌<◌, ◌≤◌, ◌⊎◌, inl, inr, Some, None, Bool, true, false, sym, ◌∙◌, ap, subst, arith}
+use Rattle.std.proofs.Common.{◌≡◌, ℕ, suc, ◌<◌, ◌≤◌, ◌⊎◌, inl, inr, Some, None, Bool, true, false, sym, ◌∙◌, ap, subst}
+use Rattle.std.proofs.Common.{arith}
 use Rattle.std.specs.Prelude.{MatchBool, slice_get}
-use Rattle.std.proofs.lemmas.Bool.{cases_lt}
+use Rattle.std.proofs.lemmas.Bool.{cases_lt, cases_eq}
 use Rattle.nor_net.specs.declared.net.NetId.{NetId}
 use Rattle.nor_net.specs.declared.net.Part.TheVariants.{Latch}
 use Rattle.rtl_form.specs.declared.rtl.Cell as cells
@@ -14,7 +15,6 @@ use Rattle.rtl_form.proofs.Members.{one_entry}
 use Rattle.control_nor.specs.declared.names.Names.{Names}
 use Rattle.control_nor.specs.declared.names.Task.TheVariants as tasks
 use Rattle.control_nor.specs.Lowering.{Stands}
-use Rattle.control_nor.proofs.Left.{nat_cases}
 use Rattle.path_values.specs.Allocated.{InputWord, StoredWord}
 use Rattle.datapath_making.specs.declared.making.Making.{Making}
 use Rattle.datapath_making.specs.Growing.{IsUnfed}
@@ -55,7 +55,7 @@ module _ (r : Rtl) (names : Names) (old new : Making) (keeps : Keeps old new) wh
     pub latch_more : (t : ℕ) → AreCellsMade r names i t 0 old → AreCellsMade r names (suc i) t 0 new
     latch_more t h = record {
       ports = λ c n l w.
-          elim (nat_cases c i) [
+          elim (cases_eq c i) [
             | inl e ↦ subst (λ m. (id : NetId) × (pad : NetId) × Stands new.cell_words m id × Stands new.pads n pad
                 × InputWord new.slices.net id pad) (sym e)
                 (port n (subst (λ m. IsWordOf r m (kinds.Input n)) e w))
@@ -63,7 +63,7 @@ module _ (r : Rtl) (names : Names) (old new : Making) (keeps : Keeps old new) wh
                 (p.0, p.1, keeps.cells c p.0 p.2, keeps.pads n p.1 p.3, port_kept old new keeps p.0 p.1 p.4)
           ];
       waiting = λ c l m w.
-          elim (nat_cases c i) [
+          elim (cases_eq c i) [
             | inl e ↦ subst (λ m. (id : NetId) × Stands new.cell_words m id × IsWaiting new.slices.net id) (sym e)
                 (wait (subst (λ m. IsWordOf r m kinds.Stored) e w))
             | inr ne ↦ let p = h.waiting c (omega (arith, l, ne)) m w in (p.0, keeps.cells c p.0 p.1, waits p.0 p.2)
@@ -171,7 +171,7 @@ module _ (r : Rtl) (names : Names) (old new : Making) (keeps : Keeps old new) wh
     waiting = λ c l m w. let p = h.waiting c l (omega (arith, m)) w in
         (p.0, keeps.cells c p.0 p.1, waits c p.0 m p.1 p.2);
     stored = λ c reset l w e.
-        elim (nat_cases c j) [
+        elim (cases_eq c j) [
           | inl q ↦ subst (λ m. (id : NetId) × Stands new.cell_words m id
               × StoredWord r new.slices new.casts names new.words m reset id) (sym q)
               (store reset (subst (λ m. IsWordOf r m kinds.Stored) q w) e)
@@ -184,7 +184,7 @@ module _ (r : Rtl) (names : Names) (old new : Making) (keeps : Keeps old new) wh
     pads = λ n pad e. h.pads n pad (subst (λ es. Stands es n pad) pads e);
     unfed = λ n u.
         let p = h.unfed n (unfed n u).0 in
-        elim (nat_cases p.0 j) [
+        elim (cases_eq p.0 j) [
           | inl q ↦ absurd ((unfed n u).1 p.1 (subst (λ m. IsWordOf r m kinds.Stored) q p.3)
               (subst (λ m. Stands old.cell_words m p.1) q p.4) p.5)
           | inr ne ↦ (p.0, p.1, (let l = p.2 in omega (arith, l, ne)), p.3, keeps.cells p.0 p.1 p.4, p.5)
@@ -198,12 +198,12 @@ module _ (r : Rtl) (names : Names) (m : Making) where
       → AreCellsMade r names i t 0 m → AreCellsMade r names (suc i) t 0 m
   no_latch i t never none h = record {
     ports = λ c n l w.
-        elim (nat_cases c i) [
+        elim (cases_eq c i) [
           | inl e ↦ absurd (never n (subst (λ m. IsWordOf r m (kinds.Input n)) e w))
           | inr ne ↦ h.ports c n (omega (arith, l, ne)) w
         ];
     waiting = λ c l k w.
-        elim (nat_cases c i) [
+        elim (cases_eq c i) [
           | inl e ↦ absurd (none (subst (λ m. IsWordOf r m kinds.Stored) e w))
           | inr ne ↦ h.waiting c (omega (arith, l, ne)) k w
         ];

@@ -1,14 +1,16 @@
 -- The cost of transfers pays for all that is made.
-use Rattle.std.proofs.Common.{◌≡◌, ℕ, zero, suc, ◌+◌, ◌-◌, ◌*◌, ◌<◌, ◌≤◌, inl, inr, List, [], ◌∷◌, Option, Some, None, Bool, true, false, cond, eqb, ltb, length, take, refl, sym, ◌∙◌, ap, subst, arith}
-use Rattle.control_nor.proofs.Left.{nat_cases}
+use Rattle.std.proofs.Common.{◌≡◌, ℕ, zero, suc, ◌+◌, ◌-◌, ◌*◌, ◌<◌, ◌≤◌, inl, inr, List, [], ◌∷◌, Option, Some, None}
+use Rattle.std.proofs.Common.{Bool, true, false, cond, eqb, ltb, length, take, refl, sym, ◌∙◌, ap, subst, arith}
 use Rattle.std.specs.Prelude.{IsSome, IfSome, if◌then◌else◌, ◌&&◌, ◌||◌, ◌==◌, not, nat_lt, slice_get}
 use Rattle.std.specs.List.{filter, list_any, sum_by}
 use Rattle.std.specs.Option.{option_map_or}
-use Rattle.std.proofs.lemmas.Bool.{eq-eqb, false≢true, lt-ltb, ne_eqb, ltb-true}
+use Rattle.std.proofs.lemmas.Bool.{eq-eqb, false≢true, lt-ltb, ne_eqb, ltb-true, cases_eq}
 use Rattle.std.proofs.lemmas.Option.{none-some, same_Some, get_or_from_slice_get, slice_get_within}
 use Rattle.std.proofs.lemmas.List.{take_all}
 use Rattle.std.proofs.lemmas.List.Sums.{sum_by-cons, sum_by-le-sum_by, sum_by-take-le, sum_by_more}
+use Rattle.std.proofs.lemmas.Map.Keys.{any_passes_from_place}
 use Rattle.mp_base.specs.declared.pad.Pad.{Pad}
+use Rattle.mp_base.proofs.Entries.{any_found}
 use Rattle.nor_net.specs.declared.net.Part.{Part}
 use Rattle.nor_net.specs.declared.net.Part.TheVariants as parts
 use Rattle.rtl_form.specs.declared.rtl.Cell as cells
@@ -27,9 +29,11 @@ use Rattle.control_nor.specs.declared.names.Task.{Task}
 use Rattle.control_nor.specs.declared.names.Task.TheVariants as tasks
 use Rattle.control_nor.specs.Schedule.{IsSchedule}
 use Rattle.control_nor.specs.Size.{active_count, bit_cell_cost, bit_cost, bit_expr_cost, bit_transfer_cost, entry_count}
+use Rattle.control_nor.proofs.Progress.{at_get}
 use Rattle.path_form.specs.Sizes.{active}
-use Rattle.path_values.proofs.Realized.{got}
-use Rattle.datapath_alloc.specs.Spending.{clear_cost, crossed, driven_cost, driven_crossings, first_cost, for_task, for_word, is_stored_word, latch_cost, next_cost, next_crossings, spent, task_cost, total, writes}
+use Rattle.datapath_alloc.specs.Spending.{clear_cost, crossed, driven_cost, driven_crossings, first_cost, for_task}
+use Rattle.datapath_alloc.specs.Spending.{for_word, is_stored_word, latch_cost, next_cost, next_crossings, spent}
+use Rattle.datapath_alloc.specs.Spending.{task_cost, total, writes}
 use Rattle.datapath_alloc.proofs.Totals.{entry_sum, sum_distinct, total_add, total_behind, total_le, total_list}
 
 -- 1 for true
@@ -49,7 +53,7 @@ total_four f (suc n) = let r = total_four f n in omega arith
 pub total_grows : (f : ℕ → ℕ) (m n : ℕ) → m ≤ n → total f m ≤ total f n
 total_grows f m zero l = let e : m ≡ 0 = omega arith in let z = ap (total f) e in omega arith
 total_grows f m (suc n) l =
-    elim (nat_cases m (suc n)) [
+    elim (cases_eq m (suc n)) [
       | inl e ↦ let z = ap (total f) e in omega arith
       | inr ne ↦ let r = total_grows f m n (omega arith) in omega arith
     ]
@@ -58,7 +62,7 @@ total_grows f m (suc n) l =
 total_point : (a : ℕ) (g : ℕ → ℕ) (n : ℕ) → total (λ c. cond (eqb a c) (g c) 0) n ≤ g a
 total_point a g zero = omega arith
 total_point a g (suc n) =
-    elim (nat_cases a n) [
+    elim (cases_eq a n) [
       | inl e ↦ let z = before n (omega arith) in
           let h = here n e in
           omega arith
@@ -143,28 +147,6 @@ any_take {X} p (x ∷ xs) (suc j) e = by_head (p x) (any_take p xs j) e
         → (b || list_any p xs) ≡ true
     by_head true again h = refl
     by_head false again h = again h
-
-pub any_at : {X : Type 0} (f : X → Bool) (xs : List X) (k : ℕ) (x : X) → slice_get xs k ≡ Some x → f x ≡ true
-    → list_any f xs ≡ true
-any_at f [] k x e t = absurd (none-some x e)
-any_at f (y ∷ ys) zero x e t = ap (λ b. b || list_any f ys) (ap f (same_Some y x e) ∙ t)
-any_at f (y ∷ ys) (suc k) x e t = by_head (f y) (any_at f ys k x e t)
-  where
-    by_head : (b : Bool) → list_any f ys ≡ true → (b || list_any f ys) ≡ true
-    by_head true q = refl
-    by_head false q = q
-
-any_found : {X : Type 0} (p : X → Bool) (xs : List X) → list_any p xs ≡ true
-    → (k : ℕ) × (x : X) × (slice_get xs k ≡ Some x) × (p x ≡ true)
-any_found p [] e = absurd (false≢true e)
-any_found {X} p (x ∷ xs) e = by_head (p x) refl (any_found p xs) e
-  where
-    by_head : (b : Bool) → p x ≡ b
-        → (list_any p xs ≡ true → (k : ℕ) × (y : X) × (slice_get xs k ≡ Some y) × (p y ≡ true))
-        → (b || list_any p xs) ≡ true
-        → (k : ℕ) × (y : X) × (slice_get (x ∷ xs) k ≡ Some y) × (p y ≡ true)
-    by_head true q again h = (0, x, refl, q)
-    by_head false q again h = let r = again h in (suc r.0, r.1, r.2, r.3)
 
 -- ---- transfers, by their targets
 
@@ -363,7 +345,9 @@ module _ (r : Rtl) where
     where
       paid : (c : ℕ) (x : cells.Cell) → slice_get r.cells c ≡ Some x → x.kind ≡ kinds.Stored
           → sum_by word_cell r.cells + 1 ≤ sum_by all_cell r.cells
-      paid c x e is = by_reset r.reset refl (sound.resets (any_at (λ (x : cells.Cell). is_stored x.kind) r.cells c x e
+      paid c x e is =
+          by_reset r.reset refl
+          (sound.resets (any_passes_from_place (λ (x : cells.Cell). is_stored x.kind) r.cells c x e
           (ap is_stored is)))
         where
           of_reset : (n : ℕ) → IsReset r n → sum_by word_cell r.cells + 1 ≤ sum_by all_cell r.cells
@@ -373,7 +357,7 @@ module _ (r : Rtl) where
               (one_entry (r.pads).inputs h.1 fits.0 h.2 fits.1 h.5) ∙ eq-eqb h.2.width 0 h.6) in
               let less : word_cell h.0 ≡ 0 = ap (λ b. if b then cell_cost h.0.kind else 0) bit in
               let two : all_cell h.0 ≡ 2 = ap cell_cost h.4 in
-              sum_slack word_cell all_cell 1 r.cells n h.0 (got r.cells n h.0 h.3) word_less
+              sum_slack word_cell all_cell 1 r.cells n h.0 (at_get r.cells n h.0 h.3) word_less
               (omega (arith, less, two))
 
           by_reset : (o : Option ℕ) → r.reset ≡ o → IsSome o → sum_by word_cell r.cells + 1 ≤ sum_by all_cell r.cells

@@ -1,12 +1,13 @@
 -- What is known when all is made.
-use Rattle.std.proofs.Common.{◌≡◌, ℕ, ◌⊎◌, inl, inr, List, [], Option, Some, None, Bool, true, false, length, refl, sym, ◌∙◌, ap, subst, arith}
+use Rattle.std.proofs.Common.{◌≡◌, ℕ, inl, inr, List, [], Option, Some, None, true, length, refl, sym, ◌∙◌, ap, subst}
+use Rattle.std.proofs.Common.{arith}
 use Rattle.std.specs.Prelude.{Contains, IsSome, ◌≢◌, ◌==◌, not}
 use Rattle.std.proofs.lemmas.Bool.{eq-eqb, false≢true, ne_eqb, true≢false}
 use Rattle.std.proofs.lemmas.Option.{same_Some}
 use Rattle.std.proofs.lemmas.List.{take_all}
-use Rattle.mp_base.specs.declared.op.Op.{Op}
-use Rattle.mp_base.specs.declared.op.Op.TheVariants as ops
+use Rattle.std.proofs.lemmas.Map.Keys.{any_passes_from_place}
 use Rattle.mp_base.specs.declared.pad.Pad.{Pad}
+use Rattle.mp_base.proofs.Values.{bit_or_not}
 use Rattle.nor_net.specs.declared.net.NetId.{NetId}
 use Rattle.nor_net.specs.declared.net.Part.{Part}
 use Rattle.rtl_form.specs.declared.rtl.Cell as cells
@@ -23,26 +24,17 @@ use Rattle.rtl_form.proofs.Members.{one_entry}
 use Rattle.control_nor.specs.declared.names.Names.{Names}
 use Rattle.control_nor.specs.declared.names.Task.TheVariants as tasks
 use Rattle.control_nor.specs.Lowering.{IsEntry, IsLowered, Stands}
+use Rattle.control_nor.proofs.Progress.{at_get}
 use Rattle.path_form.specs.declared.path.Lift.{Lift}
-use Rattle.path_values.proofs.Realized.{got}
 use Rattle.datapath_making.specs.declared.making.Making.{Making}
 use Rattle.datapath_finish.specs.Finishing.{IsComplete}
 use Rattle.datapath_alloc.specs.Progress.{AreSpent, IsDone, IsProgress, IsWordOf}
 use Rattle.datapath_alloc.specs.Spending.{crossed}
-use Rattle.datapath_alloc.proofs.Costs.{all_spent, any_at, spent_below}
+use Rattle.datapath_alloc.proofs.Costs.{all_spent, spent_below}
 use Rattle.datapath_alloc.proofs.Reaching.{all_done}
 
 pub same_net : (entries : List (Option NetId)) (k : ℕ) (a b : NetId) → Stands entries k a → Stands entries k b → a ≡ b
 same_net entries k a b p q = same_Some a b (same_Some (Some a) (Some b) (sym p ∙ q))
-
--- an operator is `bit` or not
-pub bit_or_not : (op : Op) → (op ≡ ops.Bit) ⊎ (op ≡ ops.Bit → ⊥)
-bit_or_not ops.Bit = inl refl
-bit_or_not op = inr (λ e. false≢true (ap is_bit e))
-  where
-    is_bit : Op → Bool
-    is_bit ops.Bit = true
-    is_bit other = false
 
 module _ (r : Rtl) (bits : List Part) (names : Names) (m : Making)
     (p : IsProgress r bits names (length r.cells) (length names.tasks) (length r.cells) m) where
@@ -51,7 +43,8 @@ module _ (r : Rtl) (bits : List Part) (names : Names) (m : Making)
   -- where something is stored there is a reset
   reset_is : (c : ℕ) → IsWordOf r c kinds.Stored → (reset : ℕ) × (r.reset ≡ Some reset)
   reset_is c w = by_reset r.reset refl (p.given.sound.resets
-      (any_at (λ (x : cells.Cell). is_stored x.kind) r.cells c w.0 (got r.cells c w.0 w.1) (ap is_stored w.2)))
+      (any_passes_from_place (λ (x : cells.Cell). is_stored x.kind) r.cells c w.0 (at_get r.cells c w.0 w.1)
+      (ap is_stored w.2)))
     where
       by_reset : (o : Option ℕ) → r.reset ≡ o → IsSome o → (reset : ℕ) × (r.reset ≡ Some reset)
       by_reset (Some n) e h = (n, e)

@@ -4,6 +4,7 @@ use Rattle.nor_net.specs.Machine.{Stores, Ports}
 use Rattle.std.specs.Prelude.{Contains, ◌||◌, not, slice_get, slice_index_or}
 use Rattle.std.proofs.lemmas.Bool.{eq-eqb}
 use Rattle.std.proofs.lemmas.Option.{same_Some}
+use Rattle.std.proofs.lemmas.Map.Keys.{any_passes_from_place}
 use Rattle.mp_base.specs.declared.op.Op.{Op}
 use Rattle.mp_base.specs.declared.op.Op.TheVariants as ops
 use Rattle.mp_base.specs.declared.pad.Pads.{Pads}
@@ -34,7 +35,7 @@ use Rattle.datapath_making.specs.declared.making.Making.{Making}
 use Rattle.datapath_finish.specs.Finishing.{IsFinished}
 use Rattle.datapath_alloc.specs.Progress.{IsProgress}
 use Rattle.datapath_alloc.specs.Shared.{IsAllocatedOnce, SharesNets}
-use Rattle.datapath_alloc.proofs.Costs.{all_crossed, any_at}
+use Rattle.datapath_alloc.proofs.Costs.{all_crossed}
 use Rattle.datapath_alloc.proofs.Ending.{cell_is_word, cell_of, done_cell, done_expr, same_net, spent_in_all, word_cell}
 use Rattle.datapath_alloc.proofs.Reaching.{word_of}
 use Rattle.datapath_alloc.proofs.Stores.{
@@ -219,7 +220,8 @@ module _ (r : Rtl) (bits : List Part) (names : Names) (was : Making) (d : DataPa
 
   latch_reads : (net : List Part) (n : ℕ) (phase : Phase) (id : NetId)
       → slice_get net n ≡ Some (Latch phase (Some id)) → is_read net id.0 ≡ true
-  latch_reads net n phase id e = any_at (reads id.0) net n (Latch phase (Some id)) e (eq-eqb id.0 id.0 refl)
+  latch_reads net n phase id e =
+      any_passes_from_place (reads id.0) net n (Latch phase (Some id)) e (eq-eqb id.0 id.0 refl)
 
   first_true : (a b : Bool) → a ≡ true → (a || b) ≡ true
   first_true a b e = ap (λ x. x || b) e

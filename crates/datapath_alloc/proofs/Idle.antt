@@ -1,10 +1,13 @@
 -- How far a path is made, when a task is done for which nothing is added.
-use Rattle.std.proofs.Common.{◌≡◌, ℕ, suc, ◌<◌, inl, inr, List, Option, Some, None, Bool, true, false, length, refl, sym, ◌∙◌, ap, subst, arith}
+use Rattle.std.proofs.Common.{◌≡◌, ℕ, suc, ◌<◌, inl, inr, List, Option, Some, None, Bool, true, false, length, refl}
+use Rattle.std.proofs.Common.{sym, ◌∙◌, ap, subst, arith}
 use Rattle.datapath_making.specs.Sizes.{Spends}
 use Rattle.std.specs.Prelude.{slice_get, slice_index_or}
 use Rattle.std.proofs.lemmas.Bool.{true≢false}
 use Rattle.std.proofs.lemmas.Option.{same_Some, slice_get-get_or, slice_get_within}
+use Rattle.std.proofs.lemmas.List.{length-set}
 use Rattle.mp_base.specs.declared.op.Op.{Op}
+use Rattle.mp_base.proofs.Entries.{get_set_same}
 use Rattle.nor_net.specs.declared.net.NetId.{NetId}
 use Rattle.nor_net.specs.declared.net.Part.{Part}
 use Rattle.rtl_form.specs.declared.rtl.Cell as cells
@@ -20,18 +23,17 @@ use Rattle.rtl_form.proofs.Members.{one_entry}
 use Rattle.control_nor.specs.declared.names.Names.{Names}
 use Rattle.control_nor.specs.declared.names.Task.TheVariants as tasks
 use Rattle.control_nor.specs.Lowering.{Stands}
-use Rattle.control_nor.proofs.Left.{get_set_same}
 use Rattle.datapath_making.specs.declared.making.Making.{Making}
 use Rattle.datapath_making.proofs.Keeping.{grows_refl}
 use Rattle.datapath_making.specs.Growing.{Grows}
 use Rattle.datapath_making.specs.Steps.{IsFree, read_cell}
 use Rattle.datapath_making.specs.WellMade.{IsWellMade}
-use Rattle.datapath_making.proofs.Lists.{length_set}
 use Rattle.datapath_alloc.specs.Progress.{IsDone, IsExprMade, IsProgress}
 use Rattle.datapath_alloc.proofs.Keeping.{Keeps}
 use Rattle.datapath_alloc.proofs.Reaching.{free_word}
 use Rattle.datapath_alloc.proofs.Steps.{cells_on, exprs_on}
-use Rattle.datapath_alloc.proofs.TaskSteps.{appends_not, expr_step, plain_step, set_either, set_either_keeps, still, task_step}
+use Rattle.datapath_alloc.proofs.TaskSteps.{appends_not, expr_step, plain_step, set_either, set_either_keeps, still}
+use Rattle.datapath_alloc.proofs.TaskSteps.{task_step}
 
 module _ (r : Rtl) (bits : List Part) (names : Names) (m : Making) (t : ℕ)
     (p : IsProgress r bits names (length r.cells) t 0 m) where
@@ -109,7 +111,7 @@ module _ (r : Rtl) (bits : List Part) (names : Names) (m : Making) (t : ℕ)
       casts = (grows_refl m).casts;
       lifts = (grows_refl m).lifts;
       cell_count = refl;
-      word_count = length_set m.words e entry;
+      word_count = length-set m.words e entry;
       pad_count = refl;
       guard_count = refl;
     }

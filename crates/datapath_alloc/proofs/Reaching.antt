@@ -1,17 +1,18 @@
 -- What a task reads is made, and what it makes is not.
-use Rattle.std.proofs.Common.{◌≡◌, ℕ, zero, suc, ◌<◌, ◌≤◌, inl, inr, List, [], ◌∷◌, Option, Some, None, true, false, length, map, refl, sym, ◌∙◌, ap, subst, arith}
+use Rattle.std.proofs.Common.{◌≡◌, ℕ, zero, suc, ◌<◌, ◌≤◌, inl, inr, List, [], ◌∷◌, Option, Some, None, true, false}
+use Rattle.std.proofs.Common.{length, map, refl, sym, ◌∙◌, ap, subst, arith}
 use Rattle.datapath_making.proofs.Lists.{times_entry}
 use Rattle.control_nor.specs.Schedule.{IsTask}
-use Rattle.control_nor.proofs.Left.{nat_cases}
 use Rattle.std.specs.Prelude.{All, Contains, IfSome, MatchBool, ◌==◌, not, slice_get, slice_index_or}
-use Rattle.std.proofs.lemmas.Bool.{eq-eqb, eqb-true, true≢false}
+use Rattle.std.proofs.lemmas.Bool.{eq-eqb, eqb-true, true≢false, cases_eq}
 use Rattle.std.proofs.lemmas.Option.{slice_get_within, get_or_from_slice_get}
 use Rattle.std.proofs.lemmas.List.Elements.{All-filter, Contains-get_or, filter_passes}
 use Rattle.mp_base.specs.declared.op.Op.{Op}
 use Rattle.mp_base.specs.declared.pad.Pad.{Pad}
+use Rattle.mp_base.proofs.Contents.{contains_from_map}
 use Rattle.nor_net.specs.declared.net.NetId.{NetId}
 use Rattle.nor_net.specs.declared.net.Part.{Part}
-use Rattle.organelles.specs.Tables.{net_at}
+use Rattle.nor_net.proofs.Parts.{same_net}
 use Rattle.rtl_form.specs.declared.rtl.Cell as cells
 use Rattle.rtl_form.specs.declared.rtl.CellKind.TheVariants as kinds
 use Rattle.rtl_form.specs.declared.rtl.RtlExpr.{RtlExpr}
@@ -56,24 +57,13 @@ free_or_not (None ∷ entries) zero l h = refl
 free_or_not (Some id ∷ entries) zero l h = absurd (h id refl)
 free_or_not (o ∷ entries) (suc k) l h = free_or_not entries k (omega arith) h
 
-pub same_id : (a b : NetId) → a.0 ≡ b.0 → a ≡ b
-same_id a b e = ap net_at e
-
-pub from_map : {A Y : Type 0} (f : A → Y) (xs : List A) (y : Y) → Contains (map f xs) y
-    → (x : A) × Contains xs x × (f x ≡ y)
-from_map f [] y c = absurd (omega (arith, c.1))
-from_map f (x ∷ xs) y (zero, l, e) = (x, (0, omega arith, refl), e)
-from_map f (x ∷ xs) y (suc k, l, e) =
-    let r = from_map f xs y (k, omega (arith, l), e) in
-    (r.0, (suc r.1.0, (let m = r.1.1 in omega (arith, m)), r.1.2), r.2)
-
 module _ (r : Rtl) (bits : List Part) (names : Names) (sound : IsSound r) (low : IsLowered r [] bits names) where
   -- ---- marks of the control
 
   pub before_grows : (s t : ℕ) → s ≤ t → t ≤ length names.tasks → nets_before names s ≤ nets_before names t
   before_grows s zero l m = let e : s ≡ 0 = omega arith in let a = ap (nets_before names) e in omega (arith, a)
   before_grows s (suc t) l m =
-      elim (nat_cases s (suc t)) [
+      elim (cases_eq s (suc t)) [
         | inl e ↦ let a = ap (nets_before names) e in omega (arith, a)
         | inr ne ↦ let r = before_grows s t (omega arith) (omega arith) in
             let h = low.placed.rise t (omega arith) in
@@ -178,9 +168,9 @@ module _ (r : Rtl) (bits : List Part) (names : Names) (sound : IsSound r) (low :
             subst (λ (n : Names). Stands n.exprs e on.0) (sym begun.names) on.1,
             omega (arith, low_end, control),
             never on.0.0 (map (λ (l : Lift). l.control) m.lifts) (λ id c q.
-                let f = from_map (λ (l : Lift). l.control) m.lifts id c in
+                let f = contains_from_map (λ (l : Lift). l.control) m.lifts id c in
                 let o = h.lifts f.0 f.1 in
-                let at_id : f.0.control ≡ on.0 = same_id f.0.control on.0 (ap (λ (i : NetId). i.0) f.2 ∙ q) in
+                let at_id : f.0.control ≡ on.0 = same_net f.0.control on.0 (ap (λ (i : NetId). i.0) f.2 ∙ q) in
                 let e_same = low.inputs.entries_apart o.0 e o.1 x on.0 o.2 o.3
                 (subst (Stands names.exprs o.0) at_id o.4) at entry on.1 in
                 not_done t (tasks.Expr e) is (subst (λ n. IsDone names t (tasks.Expr n)) e_same o.5)),

@@ -1,13 +1,16 @@
 -- How far a path is made, when one cell more has its latch or its next value; and the room that there is.
-use Rattle.std.proofs.Common.{◌≡◌, ℕ, zero, suc, ◌+◌, ◌*◌, ◌<◌, ◌≤◌, List, [], ◌∷◌, Option, Some, None, Bool, true, false, length, take, refl, sym, ◌∙◌, ap, subst, arith}
+use Rattle.std.proofs.Common.{◌≡◌, ℕ, zero, suc, ◌+◌, ◌*◌, ◌<◌, ◌≤◌, List, [], ◌∷◌, Option, Some, None, Bool, true}
+use Rattle.std.proofs.Common.{false, length, take, refl, sym, ◌∙◌, ap, subst, arith}
 use Rattle.datapath_making.specs.Growing.{IsUnfed}
 use Rattle.std.specs.Prelude.{IsSome, ◌&&◌, ◌||◌, if◌then◌else◌, slice_get}
 use Rattle.std.specs.List.{list_any}
 use Rattle.std.specs.Option.{option_map_or}
 use Rattle.std.proofs.lemmas.Bool.{false≢true}
 use Rattle.std.proofs.lemmas.Option.{get_or_from_slice_get, none-some, same_Some, slice_get_within}
+use Rattle.std.proofs.lemmas.Map.Keys.{any_passes_from_place}
 use Rattle.nor_net.specs.declared.net.NetId.{NetId}
 use Rattle.nor_net.specs.declared.net.Part.{Part}
+use Rattle.nor_net.proofs.Parts.{same_net}
 use Rattle.rtl_form.specs.declared.rtl.Cell as cells
 use Rattle.rtl_form.specs.declared.rtl.CellKind.{CellKind}
 use Rattle.rtl_form.specs.declared.rtl.CellKind.TheVariants as kinds
@@ -18,18 +21,19 @@ use Rattle.rtl_form.proofs.Members.{one_entry}
 use Rattle.control_nor.specs.declared.names.Names.{Names}
 use Rattle.control_nor.specs.declared.names.Task.{Task}
 use Rattle.control_nor.specs.Lowering.{Stands}
+use Rattle.control_nor.proofs.Progress.{at_get}
 use Rattle.path_values.specs.Allocated.{transfers_to, StoredWord}
-use Rattle.path_values.proofs.Realized.{got}
 use Rattle.datapath_making.specs.declared.making.Making.{Making}
 use Rattle.datapath_making.specs.Sizes.{HasRoom, cast_cost}
 use Rattle.datapath_making.specs.Steps.{IsNextMade, IsPortMade, IsSlaveMade, IsStep, IsWaiting}
 use Rattle.datapath_making.proofs.Lists.{set_keeps}
 use Rattle.datapath_alloc.specs.Progress.{AreCellsMade, IsProgress, IsWordOf}
-use Rattle.datapath_alloc.specs.Spending.{clear_cost, first_cost, is_stored_word, latch_cost, next_cost, next_crossings, task_cost, writes}
-use Rattle.datapath_alloc.proofs.Costs.{all_spent, any_at, spent_below, stored_word, sum_next}
+use Rattle.datapath_alloc.specs.Spending.{clear_cost, first_cost, is_stored_word, latch_cost, next_cost, next_crossings}
+use Rattle.datapath_alloc.specs.Spending.{task_cost, writes}
+use Rattle.datapath_alloc.proofs.Costs.{all_spent, spent_below, stored_word, sum_next}
 use Rattle.datapath_alloc.proofs.Keeping.{Keeps}
 use Rattle.datapath_alloc.proofs.CellSteps.{next_more, no_latch, no_next, port_more, slave_more}
-use Rattle.datapath_alloc.proofs.Reaching.{free_first, free_pad, same_id}
+use Rattle.datapath_alloc.proofs.Reaching.{free_first, free_pad}
 use Rattle.datapath_alloc.proofs.Steps.{begun_kept, exprs_kept, spent_more, spent_within}
 use Rattle.datapath_alloc.proofs.TaskSteps.{keeps_all}
 
@@ -48,7 +52,7 @@ module _ (r : Rtl) (bits : List Part) (names : Names) (old new : Making) (i : �
     spends =
         let pays : first_cost r i ≡ latch_cost x.kind
         = ap (λ o. option_map_or (λ (y : cells.Cell). if y.word then latch_cost y.kind else 0) o 0)
-        (got r.cells i x at) ∙ ap (λ b. if b then latch_cost x.kind else 0) word in
+        (at_get r.cells i x at) ∙ ap (λ b. if b then latch_cost x.kind else 0) word in
         spent_within _ _ _ _ new (omega (arith, pays, lc)) (omega arith)
         (spent_more _ _ c 0 old new p.spends step.spends);
     cleared = λ e. absurd (false≢true e);
@@ -113,13 +117,13 @@ stored_parts r c x at e = let p = parts x.word x.kind e in (x, at, p.1, p.0)
 module _ (r : Rtl) (j : ℕ) (w : IsWordOf r j kinds.Stored) where
   pub next_pays : next_cost r j ≡ 5 + 4 * writes r j
   next_pays = ap (λ o. option_map_or (λ (y : cells.Cell). if y.word then (if is_stored y.kind then 5 + 4 * writes r j
-      else 0) else 0) o 0) (got r.cells j w.0 w.1)
+      else 0) else 0) o 0) (at_get r.cells j w.0 w.1)
       ∙ (ap (λ b. if b then (if is_stored w.0.kind then 5 + 4 * writes r j else 0) else 0) w.3
       ∙ ap (λ k. if is_stored k then 5 + 4 * writes r j else 0) w.2)
 
   next_crosses : next_crossings r j ≡ writes r j
   next_crosses = ap (λ o. option_map_or (λ (y : cells.Cell). if y.word then (if is_stored y.kind then writes r j
-      else 0) else 0) o 0) (got r.cells j w.0 w.1)
+      else 0) else 0) o 0) (at_get r.cells j w.0 w.1)
       ∙ (ap (λ b. if b then (if is_stored w.0.kind then writes r j else 0) else 0) w.3
       ∙ ap (λ k. if is_stored k then writes r j else 0) w.2)
 
@@ -178,7 +182,7 @@ module _ (r : Rtl) (bits : List Part) (names : Names) (old new : Making) (i t j 
         behind = h.behind;
         is_slave = made.others h.slave.0 _ (λ q.
             let a = h.behind in let b = made.behind in
-            let same : id ≡ made.id = same_id id made.id (omega (arith, a, b, q)) in
+            let same : id ≡ made.id = same_net id made.id (omega (arith, a, b, q)) in
             let d = p.begun.made.named.cells_apart c j made.id (subst (Stands old.cell_words c) same s) made.is_id in
             omega (arith, d, l)) h.is_slave;
         is_word = step.grows.parts id.0 _ h.is_word refl;
@@ -201,7 +205,7 @@ module _ (r : Rtl) (bits : List Part) (names : Names) (old new : Making) (i t j 
       clears = by_test (list_any is_stored_word (take j r.cells)) refl
         where
           now : (b : Bool) → list_any is_stored_word (take j r.cells) ≡ b → clear_cost r (suc j) ≡ 1
-          now b e = ap (λ b. if b then 1 else 0) (take_any is_stored_word r.cells j w.0 (got r.cells j w.0 w.1)
+          now b e = ap (λ b. if b then 1 else 0) (take_any is_stored_word r.cells j w.0 (at_get r.cells j w.0 w.1)
               ∙ (ap (λ c. list_any is_stored_word (take j r.cells) || c)
               (ap (λ b. b && is_stored w.0.kind) w.3 ∙ ap is_stored w.2)
               ∙ or_true (list_any is_stored_word (take j r.cells))))
@@ -241,7 +245,7 @@ no_next_done r bits names m i t j x p at none = record {
 }
   where
     any_same : list_any is_stored_word (take (suc j) r.cells) ≡ list_any is_stored_word (take j r.cells)
-    any_same = take_any is_stored_word r.cells j x (got r.cells j x at)
+    any_same = take_any is_stored_word r.cells j x (at_get r.cells j x at)
         ∙ (ap (λ b. list_any is_stored_word (take j r.cells) || b) none ∙ or_false _)
       where
         or_false : (b : Bool) → (b || false) ≡ b
@@ -282,7 +286,8 @@ no_reset_done r bits names m i t none p = record {
   where
     not_stored : (c : ℕ) → IsWordOf r c kinds.Stored → ⊥
     not_stored c w = false≢true (subst IsSome none (p.given.sound.resets
-        (any_at (λ (x : cells.Cell). is_stored x.kind) r.cells c w.0 (got r.cells c w.0 w.1) (ap is_stored w.2))))
+        (any_passes_from_place (λ (x : cells.Cell). is_stored x.kind) r.cells c w.0 (at_get r.cells c w.0 w.1)
+        (ap is_stored w.2))))
 
 -- ---- room
 

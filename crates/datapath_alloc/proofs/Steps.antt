@@ -1,9 +1,11 @@
 -- How far a path is made, when one step more is done.
-use Rattle.std.proofs.Common.{◌≡◌, ℕ, suc, ◌+◌, ◌<◌, ◌≤◌, ◌⊎◌, inl, inr, List, ◌++◌, Some, None, Bool, true, false, sym, ◌∙◌, ap, subst, arith}
+use Rattle.std.proofs.Common.{◌≡◌, ℕ, suc, ◌+◌, ◌<◌, ◌≤◌, ◌⊎◌, inl, inr, List, ◌++◌, Some, None, Bool, true, false, sym}
+use Rattle.std.proofs.Common.{◌∙◌, ap, subst, arith}
 use Rattle.std.proofs.lemmas.List.Elements.{All-contains}
 use Rattle.std.specs.Prelude.{All, Contains, MatchBool, slice_get, slice_set}
-use Rattle.std.proofs.lemmas.Bool.{true≢false}
+use Rattle.std.proofs.lemmas.Bool.{true≢false, cases_eq}
 use Rattle.std.proofs.lemmas.Option.{same_Some, slice_get_within, get_or_from_slice_get}
+use Rattle.mp_base.proofs.Entries.{get_kept}
 use Rattle.nor_net.specs.declared.net.NetId.{NetId}
 use Rattle.nor_net.specs.declared.net.Part.{Part}
 use Rattle.nor_net.specs.declared.net.Part.TheVariants.{Latch}
@@ -19,8 +21,6 @@ use Rattle.control_nor.specs.declared.names.Names.{Names}
 use Rattle.control_nor.specs.declared.names.Task.{Task}
 use Rattle.control_nor.specs.declared.names.Task.TheVariants as tasks
 use Rattle.control_nor.specs.Lowering.{IsEntry, Stands}
-use Rattle.control_nor.proofs.Left.{nat_cases}
-use Rattle.nor_net.proofs.Adding.{get_kept}
 use Rattle.path_form.specs.declared.path.Lift.{Lift}
 use Rattle.path_form.specs.Shape.{is_fed}
 use Rattle.path_values.specs.Allocated.{DrivenWord}
@@ -30,8 +30,10 @@ use Rattle.datapath_making.specs.Sizes.{Spends}
 use Rattle.datapath_making.specs.Steps.{IsFree, IsWaiting}
 use Rattle.datapath_making.specs.WellMade.{IsWellMade}
 use Rattle.datapath_making.proofs.Lists.{get_cases, set_cases, set_stands}
-use Rattle.datapath_alloc.specs.Progress.{AreCellsMade, AreExprsMade, AreSpent, IsBegun, IsDone, IsDrivenWord, IsExprMade}
-use Rattle.datapath_alloc.proofs.Keeping.{Keeps, driven_kept, lift_kept, placed_kept, port_kept, program_kept, stored_kept}
+use Rattle.datapath_alloc.specs.Progress.{AreCellsMade, AreExprsMade, AreSpent, IsBegun, IsDone, IsDrivenWord}
+use Rattle.datapath_alloc.specs.Progress.{IsExprMade}
+use Rattle.datapath_alloc.proofs.Keeping.{Keeps, driven_kept, lift_kept, placed_kept, port_kept, program_kept}
+use Rattle.datapath_alloc.proofs.Keeping.{stored_kept}
 
 -- ---- what was spent
 
@@ -105,7 +107,7 @@ module _ (names : Names) where
   pub done_cases : (t : ℕ) (task : Task) → IsDone names (suc t) task
       → IsDone names t task ⊎ (slice_get names.tasks t ≡ Some task)
   done_cases t task (s, l, e) =
-      elim (nat_cases s t) [
+      elim (cases_eq s t) [
         | inl same ↦ inr (ap (slice_get names.tasks) (sym same) ∙ e)
         | inr ne ↦ inl (s, omega (arith, l, ne), e)
       ]

@@ -1,5 +1,6 @@
 -- Where stored bits and words, and the latches of inputs, stand: found from their nets.
-use Rattle.std.proofs.Common.{◌≡◌, ℕ, suc, ◌<◌, ◌≤◌, ◌⊎◌, inl, inr, List, ◌∷◌, Option, Some, None, Bool, true, false, length, refl, sym, ◌∙◌, ap, subst, arith}
+use Rattle.std.proofs.Common.{◌≡◌, ℕ, suc, ◌<◌, ◌≤◌, ◌⊎◌, inl, inr, List, ◌∷◌, Option, Some, None, Bool, true, false}
+use Rattle.std.proofs.Common.{length, refl, sym, ◌∙◌, ap, subst, arith}
 use Rattle.std.specs.Prelude.{if◌then◌else◌, ◌&&◌, nat_lt, option_and_then, slice_get}
 use Rattle.std.proofs.lemmas.Bool.{and_parts, cases_lt, false≢true, lt-ltb, ltb-true}
 use Rattle.std.proofs.lemmas.Option.{get_or_from_slice_get, none-some, slice_get_within}
@@ -20,9 +21,9 @@ use Rattle.rtl_form.specs.Sound.{CellFits, IsSound}
 use Rattle.rtl_form.proofs.Members.{one_entry}
 use Rattle.control_nor.specs.declared.names.Names.{Names}
 use Rattle.control_nor.specs.Lowering.{Stands, StoredBit}
+use Rattle.control_nor.proofs.Progress.{at_get}
 use Rattle.path_form.specs.declared.path.Cast.{Cast}
 use Rattle.path_values.specs.Allocated.{StoredWord, bit_store, cell_bits, port_at, word_store}
-use Rattle.path_values.proofs.Realized.{got}
 
 -- the only input of a gate, and the data of a latch
 abbrev input_of : Option Part → NetId
@@ -108,7 +109,7 @@ module _ (r : Rtl) (control : List Part) (s : SliceNet) (bits words : List (Opti
         → stores_of c k ≡ Some (if x.word then store_at (suc k) s.net (of_entry (slice_get words c))
         else store_at 0 control (of_entry (slice_get bits c)))
     found_cell k l =
-        ap (option_and_then (cell_store c k)) (got r.cells c x at)
+        ap (option_and_then (cell_store c k)) (at_get r.cells c x at)
         ∙ ap (λ b. if b then Some (if x.word then store_at (suc k) s.net (of_entry (slice_get words c))
         else store_at 0 control (of_entry (slice_get bits c))) else None)
         (ap (λ b. b && nat_lt k (cell_bits r x)) (ap is_stored is) ∙ lt-ltb k (cell_bits r x) l)

@@ -1,13 +1,15 @@
 -- How far a path is made, when one task more is done.
-use Rattle.std.proofs.Common.{◌≡◌, ℕ, suc, ◌+◌, ◌*◌, ◌≤◌, ◌⊎◌, inl, inr, List, Option, Some, None, true, false, length, refl, sym, ◌∙◌, ap, subst, arith}
+use Rattle.std.proofs.Common.{◌≡◌, ℕ, suc, ◌+◌, ◌*◌, ◌≤◌, ◌⊎◌, inl, inr, List, Option, Some, None, true, false, length}
+use Rattle.std.proofs.Common.{refl, sym, ◌∙◌, ap, subst, arith}
 use Rattle.organelles.specs.declared.slices.SliceNet.{SliceNet}
 use Rattle.std.specs.Prelude.{Contains, ◌&&◌, not, if◌then◌else◌, slice_get, slice_index_or, slice_set}
 use Rattle.std.specs.Option.{option_map_or}
-use Rattle.std.proofs.lemmas.Bool.{true≢false, false≢true}
+use Rattle.std.proofs.lemmas.Bool.{true≢false, false≢true, cases_eq}
 use Rattle.std.proofs.lemmas.Option.{none-some, same_Some, slice_get_within}
 use Rattle.std.proofs.lemmas.List.Elements.{Contains-push, Contains-push_cases}
 use Rattle.mp_base.specs.declared.op.Op.{Op}
 use Rattle.mp_base.specs.declared.op.Op.TheVariants as ops
+use Rattle.mp_base.proofs.Entries.{get_set_same, get_set_other}
 use Rattle.nor_net.specs.declared.net.NetId.{NetId}
 use Rattle.nor_net.specs.declared.net.Part.{Part}
 use Rattle.rtl_form.specs.declared.rtl.Cell as cells
@@ -25,14 +27,14 @@ use Rattle.control_nor.specs.declared.names.Task.{Task}
 use Rattle.control_nor.specs.declared.names.Task.TheVariants as tasks
 use Rattle.control_nor.specs.Lowering.{IsEntry, Stands}
 use Rattle.control_nor.specs.Size.{entry_count}
-use Rattle.control_nor.proofs.Left.{get_set_other, get_set_same, nat_cases}
+use Rattle.control_nor.proofs.Progress.{at_get}
 use Rattle.path_form.specs.declared.path.Lift.{Lift}
 use Rattle.path_form.specs.Shape.{is_fed}
 use Rattle.path_values.specs.Allocated.{transfers_to, Placed, DrivenWord}
-use Rattle.path_values.proofs.Realized.{got}
 use Rattle.datapath_making.specs.declared.making.Making.{Making}
 use Rattle.datapath_making.specs.Growing.{Appends, Grows}
-use Rattle.datapath_making.specs.Steps.{IsBitMade, IsDrivenMade, IsFree, IsNumberMade, IsOperatorMade, IsStep, IsTestMade}
+use Rattle.datapath_making.specs.Steps.{IsBitMade, IsDrivenMade, IsFree, IsNumberMade, IsOperatorMade, IsStep}
+use Rattle.datapath_making.specs.Steps.{IsTestMade}
 use Rattle.datapath_making.specs.WellMade.{IsWellMade}
 use Rattle.datapath_making.proofs.Keeping.{grows_refl, nothing_more, spends_none}
 use Rattle.datapath_making.proofs.Lists.{set_cases, set_keeps, set_stands}
@@ -68,13 +70,13 @@ module _ (r : Rtl) (c : ℕ) (x : cells.Cell) (at : IsAt r.cells c x) (word : x.
     (driven : is_driven x.kind ≡ true) where
   pub driven_pays : driven_cost r c ≡ 2 + 4 * writes r c
   driven_pays = ap (λ o. option_map_or (λ (y : cells.Cell). if y.word then (if is_driven y.kind then 2 + 4 * writes r c
-      else 0) else 0) o 0) (got r.cells c x at)
+      else 0) else 0) o 0) (at_get r.cells c x at)
       ∙ (ap (λ b. if b then (if is_driven x.kind then 2 + 4 * writes r c else 0) else 0) word
       ∙ ap (λ b. if b then 2 + 4 * writes r c else 0) driven)
 
   driven_crosses : driven_crossings r c ≡ writes r c
   driven_crosses = ap (λ o. option_map_or (λ (y : cells.Cell). if y.word then (if is_driven y.kind then writes r c
-      else 0) else 0) o 0) (got r.cells c x at)
+      else 0) else 0) o 0) (at_get r.cells c x at)
       ∙ (ap (λ b. if b then (if is_driven x.kind then writes r c else 0) else 0) word
       ∙ ap (λ b. if b then writes r c else 0) driven)
 
@@ -102,7 +104,7 @@ keeps_word old new g cs ps e id free ws = record {
 pub set_either : (entries : List (Option NetId)) (k : ℕ) (o : Option NetId) (n : ℕ) (other : NetId) → IsFree entries k
     → Stands (slice_set entries k o) n other → ((n ≡ k) × (o ≡ Some other)) ⊎ Stands entries n other
 set_either entries k o n other free h =
-    elim (nat_cases n k) [
+    elim (cases_eq n k) [
       | inl e ↦ inl (
         e,
         same_Some o (Some other) (sym (get_set_same entries k o
@@ -141,10 +143,10 @@ module _ (r : Rtl) (bits : List Part) (names : Names) (old new : Making) (t : �
 
   module _ (e : ℕ) (x : RtlExpr) (is : slice_get names.tasks t ≡ Some (tasks.Expr e)) (at : IsAt r.exprs e x) where
     cost_is : task_cost r (tasks.Expr e) ≡ expr_cost x
-    cost_is = ap (λ o. option_map_or expr_cost o 0) (got r.exprs e x at)
+    cost_is = ap (λ o. option_map_or expr_cost o 0) (at_get r.exprs e x at)
 
     entries_are : task_crossings r (tasks.Expr e) ≡ entry_count x
-    entries_are = ap (λ o. option_map_or entry_count o 0) (got r.exprs e x at)
+    entries_are = ap (λ o. option_map_or entry_count o 0) (at_get r.exprs e x at)
 
     no_cell : (c : ℕ) → slice_get names.tasks t ≡ Some (tasks.Cell c) → IsDrivenWord r c → ⊥
     no_cell c now w = let q : tasks.Expr e ≡ tasks.Cell c = same_Some _ _ (sym is ∙ now) in cc

@@ -1,10 +1,10 @@
 -- Sums over indices.
-use Rattle.std.proofs.Common.{◌≡◌, ℕ, zero, suc, ◌+◌, ◌<◌, ◌≤◌, inl, inr, List, [], ◌∷◌, Some, cond, eqb, length, refl, sym, ◌∙◌, ap, arith}
-use Rattle.control_nor.proofs.Left.{nat_cases}
+use Rattle.std.proofs.Common.{◌≡◌, ℕ, zero, suc, ◌+◌, ◌<◌, ◌≤◌, inl, inr, List, [], ◌∷◌, Some, cond, eqb, length, refl}
+use Rattle.std.proofs.Common.{sym, ◌∙◌, ap, arith}
 use Rattle.std.specs.Prelude.{slice_get}
 use Rattle.std.specs.List.{sum_by}
 use Rattle.std.specs.Option.{option_map_or}
-use Rattle.std.proofs.lemmas.Bool.{eq-eqb, ne_eqb}
+use Rattle.std.proofs.lemmas.Bool.{eq-eqb, ne_eqb, cases_eq}
 use Rattle.std.proofs.lemmas.List.Sums.{sum_by-cons}
 use Rattle.datapath_alloc.specs.Spending.{total}
 
@@ -33,7 +33,7 @@ total_add f g (suc n) = let r = total_add f g n in omega arith
 pub total_zeroed : (f : ℕ → ℕ) (i n : ℕ) → i < n → total f n ≡ total (zeroed f i) n + f i
 total_zeroed f i zero l = absurd (omega arith)
 total_zeroed f i (suc n) l =
-    elim (nat_cases n i) [
+    elim (cases_eq n i) [
       | inl e ↦ let z = zeroed_at f i n e in
           let a = still n (omega arith) in
           let same = ap f e in

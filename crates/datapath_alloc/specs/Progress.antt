@@ -1,5 +1,6 @@
 -- How far a path is made.
-use Rattle.std.specs.Prelude.{◌≡◌, ◌<◌, ◌≤◌, ◌*◌, ℕ, suc, List, [], Some, true, false, Contains, IsSome, MatchBool, length, slice_get, slice_index_or, take}
+use Rattle.std.specs.Prelude.{◌≡◌, ◌<◌, ◌≤◌, ◌*◌, ℕ, suc, List, [], Some, true, false, Contains, IsSome, MatchBool}
+use Rattle.std.specs.Prelude.{length, slice_get, slice_index_or, take}
 use Rattle.std.specs.List.{list_any}
 use Rattle.mp_base.specs.declared.op.Op.{Op}
 use Rattle.mp_base.specs.declared.op.Op.TheVariants as ops

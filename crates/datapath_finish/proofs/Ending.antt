@@ -1,37 +1,24 @@
 -- The path that was made.
-use Rattle.std.proofs.Common.{◌≡◌, ℕ, zero, suc, ◌<◌, ◌≤◌, ◌⊎◌, inl, inr, List, [], ◌∷◌, Option, Some, None, Bool, true, false, cond, eqb, get_or, length, not, refl, sym, ◌∙◌, ap, arith}
+use Rattle.std.proofs.Common.{◌≡◌, ℕ, zero, suc, ◌<◌, ◌≤◌, ◌⊎◌, inl, inr, List, [], ◌∷◌, Option, Some, None, Bool, true}
+use Rattle.std.proofs.Common.{false, cond, eqb, length, not, refl, sym, ◌∙◌, ap, arith}
 use Rattle.std.specs.Prelude.{◌≢◌, All, Contains, slice_get, if◌then◌else◌, ◌==◌, nat_lt}
-use Rattle.std.proofs.lemmas.Bool.{eq-eqb, eqb-true, false≢true, lt-ltb, ne_eqb, true≢false}
-use Rattle.std.proofs.lemmas.Option.{get_or_from_slice_get, none-some, same_Some, slice_get-get_or, slice_get_within}
+use Rattle.std.proofs.lemmas.Bool.{eq-eqb, eqb-true, false≢true, lt-ltb, ne_eqb, true≢false, cases_eq}
+use Rattle.std.proofs.lemmas.Option.{get_or_from_slice_get, none-some, same_Some, slice_get_within}
 use Rattle.mp_base.specs.declared.pad.Pad.{Pad}
+use Rattle.mp_base.proofs.Entries.{all_from, contains_from_get}
 use Rattle.nor_net.specs.declared.net.NetId.{NetId}
 use Rattle.nor_net.specs.declared.net.Phase.{Phase}
 use Rattle.nor_net.specs.declared.net.Part.{Part}
 use Rattle.nor_net.specs.declared.net.Part.TheVariants.{Input, Gate, Latch}
 use Rattle.rtl_form.specs.Entries.{IsAt}
-use Rattle.control_nor.proofs.Left.{nat_cases}
 use Rattle.path_form.specs.Shape.{AreInputs, entries_of, is_input, takes_pad, times}
 use Rattle.datapath_making.specs.WellMade.{present}
 use Rattle.datapath_making.proofs.Lists.{one_at, one_else, one_here, times_entry, times_some}
 
 -- ---- entries
 
-pub get_of : {X : Type 0} (xs : List X) (k : ℕ) (x : X) → IsAt xs k x → slice_get xs k ≡ Some x
-get_of xs k x (l, e) = slice_get-get_or xs k x l ∙ ap Some (sym e)
-
 pub at_of : {X : Type 0} (xs : List X) (k : ℕ) (x : X) → slice_get xs k ≡ Some x → IsAt xs k x
 at_of xs k x e = (slice_get_within xs k x e, sym (get_or_from_slice_get xs k x x e))
-
--- what all entries are, all elements are
-pub all_from_get : {X : Type 0} (P : X → Type 0) (xs : List X)
-    → ((k : ℕ) (x : X) → slice_get xs k ≡ Some x → P x) → All P xs
-all_from_get P xs f k d l = f k (get_or xs k d) (slice_get-get_or xs k d l)
-
-pub contained : {X : Type 0} (xs : List X) (k : ℕ) (x : X) → slice_get xs k ≡ Some x → Contains xs x
-contained xs k x e = (k, slice_get_within xs k x e, get_or_from_slice_get xs k x x e)
-
-pub contained_get : {X : Type 0} (xs : List X) (x : X) → Contains xs x → (k : ℕ) × (slice_get xs k ≡ Some x)
-contained_get xs x (k, l, e) = (k, slice_get-get_or xs k x l ∙ ap Some e)
 
 -- ---- the pads that are words, or that are signals
 
@@ -133,7 +120,7 @@ entries_apart word n (p ∷ pads) (first ∷ ids) f =
         → x.0 ≡ n → y.0 ≡ n → j ≡ k) → 1 ≤ times n (entries_of w pads ids) → ⊥
     none_later w is here f l =
         let t = times_entry n (entries_of w pads ids) l in
-        let e = entry_pad w pads ids t.1 (contained (entries_of w pads ids) t.0 t.1 t.2) in
+        let e = entry_pad w pads ids t.1 (contains_from_get (entries_of w pads ids) t.0 t.1 t.2) in
         let q = f 0 (suc e.0) p e.1 first t.1 refl e.2 refl e.3 is e.4 here t.3 in
         omega (arith, q)
 
@@ -157,10 +144,10 @@ entries_apart word n (p ∷ pads) (first ∷ ids) f =
         → slice_get (first ∷ ids) j ≡ Some x → slice_get (first ∷ ids) k ≡ Some y → is_word a ≡ w → is_word b ≡ w
         → x.0 ≡ n → y.0 ≡ n → j ≡ k) → times n (entries_of w pads ids) ≤ 1
         → times n (entries_on is w first (entries_of w pads ids)) ≤ 1
-    by_test true true q f again = head true q f again (nat_cases first.0 n)
+    by_test true true q f again = head true q f again (cases_eq first.0 n)
     by_test true false q f again = again
     by_test false true q f again = again
-    by_test false false q f again = head false q f again (nat_cases first.0 n)
+    by_test false false q f again = head false q f again (cases_eq first.0 n)
 
 -- the nets of pads that are words, as they were made
 pub entries_present : (pads : List Pad) (ids : List NetId) (entries : List (Option NetId))
@@ -191,7 +178,7 @@ entries_present (pad ∷ pads) (id ∷ ids) (entry ∷ entries) a b f =
 pub inputs_from : (net : List Part) (ends : List NetId)
     → ((n : ℕ) → times n ends ≡ (if is_input (slice_get net n) then 1 else 0)) → AreInputs net ends
 inputs_from net ends once = (
-  all_from_get (λ (id : NetId). is_input (slice_get net id.0) ≡ true) ends (λ k id e.
+  all_from (λ (id : NetId). is_input (slice_get net id.0) ≡ true) ends (λ k id e.
       by_test id.0 (is_input (slice_get net id.0)) refl (times_some ends k id e)),
   λ n is. once n ∙ ap (λ b. cond b 1 0) is,
 )
@@ -205,7 +192,7 @@ pub takes_from : (net : List Part) (pads : List NetId)
     → ((n : ℕ) (phase : Phase) (source : NetId) → slice_get net n ≡ Some (Latch phase (Some source))
     → slice_get net source.0 ≡ Some Input → 0 < times source.0 pads)
     → All (λ part. takes_pad net pads part ≡ true) net
-takes_from net pads f = all_from_get (λ part. takes_pad net pads part ≡ true) net (λ n q e. by_part n q e)
+takes_from net pads f = all_from (λ part. takes_pad net pads part ≡ true) net (λ n q e. by_part n q e)
   where
     by_source : (n : ℕ) (phase : Phase) (source : NetId) (o : Option Part) → slice_get net source.0 ≡ o
         → slice_get net n ≡ Some (Latch phase (Some source))

@@ -1,9 +1,11 @@
 -- A path in the making that is complete is a path.
-use Rattle.std.proofs.Common.{◌≡◌, ℕ, zero, suc, ◌<◌, ◌≤◌, ◌+◌, ◌⊎◌, inl, inr, List, [], ◌∷◌, Option, Some, None, Bool, true, false, cond, get_or, length, map, refl, sym, ◌∙◌, ap, subst, arith}
+use Rattle.std.proofs.Common.{◌≡◌, ℕ, zero, suc, ◌<◌, ◌≤◌, ◌+◌, ◌⊎◌, inl, inr, List, [], ◌∷◌, Option, Some, None, Bool}
+use Rattle.std.proofs.Common.{true, false, cond, get_or, length, map, refl, sym, ◌∙◌, ap, subst, arith}
 use Rattle.std.specs.Prelude.{All, Contains, slice_get, if◌then◌else◌}
-use Rattle.std.proofs.lemmas.Bool.{false≢true}
+use Rattle.std.proofs.lemmas.Bool.{false≢true, cases_eq}
 use Rattle.std.proofs.lemmas.Option.{same_Some, slice_get-get_or, slice_get_within}
 use Rattle.mp_base.specs.declared.pad.Pad.{Pad}
+use Rattle.mp_base.proofs.Entries.{contains_from_get}
 use Rattle.nor_net.specs.declared.net.NetId.{NetId}
 use Rattle.nor_net.specs.declared.net.Part.{Part}
 use Rattle.nor_net.specs.declared.net.Part.TheVariants.{Input, Gate, Latch}
@@ -18,15 +20,16 @@ use Rattle.rtl_form.specs.declared.rtl.Rtl.{Rtl}
 use Rattle.rtl_form.proofs.Members.{one_entry, some_entry}
 use Rattle.control_nor.specs.declared.names.Task.TheVariants as tasks
 use Rattle.control_nor.specs.Lowering.{IsEntry, IsEntered, Stands, nets_before}
-use Rattle.control_nor.proofs.Left.{nat_cases}
 use Rattle.path_form.specs.declared.path.Lift.{Lift}
 use Rattle.path_form.specs.Shape.{AreInputs, control_ends, entries_of, is_fed, is_input, slice_ends, takes_pad, times}
+use Rattle.path_form.proofs.Joining.{times_append}
 use Rattle.datapath_making.specs.declared.making.Making.{Making}
 use Rattle.datapath_finish.specs.Finishing.{AreInputNets, AreOutputNets, IsComplete}
 use Rattle.datapath_making.specs.WellMade.{present}
-use Rattle.datapath_finish.proofs.Ending.{at_of, bit_width, contained, entries_apart, entries_present, entry_pad, inputs_from, is_word, pad_entry, takes_from, width_bit, word_width}
+use Rattle.datapath_finish.proofs.Ending.{at_of, bit_width, entries_apart, entries_present, entry_pad, inputs_from}
+use Rattle.datapath_finish.proofs.Ending.{is_word, pad_entry, takes_from, width_bit, word_width}
 use Rattle.datapath_making.proofs.Entering.{ends_count}
-use Rattle.datapath_making.proofs.Lists.{one_else, one_here, one_stands, times_append, times_entry}
+use Rattle.datapath_making.proofs.Lists.{one_else, one_here, one_stands, times_entry}
 
 pub input_some : (net : List Part) (n : ℕ) → is_input (slice_get net n) ≡ true → slice_get net n ≡ Some Input
 input_some net n e = by_part (slice_get net n) e
@@ -55,7 +58,7 @@ times_lifted : (n : ℕ) (lifts : List Lift) → 1 ≤ times n (map (λ (l : Lif
     → (l : Lift) × Contains lifts l × (l.control.0 ≡ n)
 times_lifted n [] k = absurd (omega (arith, k))
 times_lifted n (x ∷ lifts) k =
-    by_head (nat_cases x.control.0 n) (times_lifted n lifts)
+    by_head (cases_eq x.control.0 n) (times_lifted n lifts)
   where
     by_head : (x.control.0 ≡ n) ⊎ (x.control.0 ≡ n → ⊥)
         → (1 ≤ times n (map (λ (l : Lift). l.control) lifts) → (l : Lift) × Contains lifts l × (l.control.0 ≡ n))
@@ -180,7 +183,7 @@ module _ (r : Rtl) (m : Making) (sound : IsSound r) (h : IsComplete r m) (inputs
     pub bit_some : (n : ℕ) → 1 ≤ times n bits → (k : ℕ) × (id : NetId) × Stands m.names.inputs k id × (id.0 ≡ n)
     bit_some n l =
         let t = times_entry n bits l in
-        let e = entry_pad false in_pads inputs t.1 (contained bits t.0 t.1 t.2) in
+        let e = entry_pad false in_pads inputs t.1 (contains_from_get bits t.0 t.1 t.2) in
         (e.0, t.1, bit_in e.0 e.1 t.1 e.2 e.3 e.4, t.3)
 
     lift_some : (n : ℕ) → 1 ≤ times n (map (λ (l : Lift). l.control) m.lifts)

@@ -1,9 +1,12 @@
 -- The nets of pads, one after another.
-use Rattle.std.proofs.Common.{◌≡◌, ℕ, zero, suc, ◌<◌, ◌+◌, ◌⊎◌, inl, inr, List, [], ◌∷◌, ◌++◌, Some, get_or, length, length-append, refl, sym, ◌∙◌, ap, subst, arith}
+use Rattle.std.proofs.Common.{◌≡◌, ℕ, zero, suc, ◌<◌, ◌+◌, ◌⊎◌, inl, inr, List, [], ◌∷◌, ◌++◌, Some, get_or, length}
+use Rattle.std.proofs.Common.{length-append, refl, sym, ◌∙◌, ap, subst, arith}
 use Rattle.std.specs.Prelude.{slice_get, slice_set}
-use Rattle.std.proofs.lemmas.List.{get_or_default}
+use Rattle.std.proofs.lemmas.List.{get_or_default, length-set}
 use Rattle.std.proofs.lemmas.Option.{none-some, same_Some, slice_get_within}
+use Rattle.std.proofs.lemmas.Bool.{cases_eq}
 use Rattle.mp_base.specs.declared.pad.Pad.{Pad}
+use Rattle.mp_base.proofs.Entries.{get_set_same, get_set_other}
 use Rattle.nor_net.specs.declared.net.NetId.{NetId}
 use Rattle.rtl_form.specs.Entries.{IsAt}
 use Rattle.rtl_form.specs.Sound.{CellFits, IsSound}
@@ -12,10 +15,9 @@ use Rattle.rtl_form.specs.declared.rtl.CellKind.{CellKind}
 use Rattle.rtl_form.specs.declared.rtl.CellKind.TheVariants.{Input, Output, Inner, Stored}
 use Rattle.rtl_form.specs.declared.rtl.Rtl.{Rtl}
 use Rattle.rtl_form.proofs.Members.{one_entry}
-use Rattle.control_nor.proofs.Left.{get_set_other, get_set_same, nat_cases}
 use Rattle.datapath_making.specs.declared.making.Making.{Making}
 use Rattle.datapath_finish.specs.Finishing.{AreInputNets, AreOutputNets, IsCellNet, IsOutputPut, IsPadNet}
-use Rattle.datapath_making.proofs.Lists.{get_cases, length_set}
+use Rattle.datapath_making.proofs.Lists.{get_cases}
 
 -- ---- input pads
 
@@ -61,7 +63,7 @@ module _ (r : Rtl) (m : Making) (sound : IsSound r) (n : ℕ) (old new : List Ne
   module _ (k : ℕ) (is : x.kind ≡ Output k) (id : NetId) (net : IsCellNet m n x id) (set : new ≡ slice_set old k id)
     where
       count_put : length new ≡ length (r.pads).outputs
-      count_put = ap length set ∙ (length_set old k id ∙ h.count)
+      count_put = ap length set ∙ (length-set old k id ∙ h.count)
 
       each_put : (c j : ℕ) (y : cells.Cell) (z : NetId) → c < n + 1 → IsAt r.cells c y → y.kind ≡ Output j
           → slice_get new j ≡ Some z → (c ≡ n) ⊎ (c ≡ n → ⊥) → IsCellNet m c y z
@@ -87,7 +89,7 @@ module _ (r : Rtl) (m : Making) (sound : IsSound r) (n : ℕ) (old new : List Ne
       outputs_put : AreOutputNets r m (n + 1) new
       outputs_put = record {
         count = count_put;
-        each = λ c j y z l at kind e. each_put c j y z l at kind e (nat_cases c n);
+        each = λ c j y z l at kind e. each_put c j y z l at kind e (cases_eq c n);
       }
 
   module _ (same : new ≡ old) (no : (k : ℕ) → x.kind ≡ Output k → ⊥) where
@@ -102,7 +104,7 @@ module _ (r : Rtl) (m : Making) (sound : IsSound r) (n : ℕ) (old new : List Ne
     outputs_same : AreOutputNets r m (n + 1) new
     outputs_same = record {
       count = ap length same ∙ h.count;
-      each = λ c j y z l at kind e. each_same c j y z l at kind e (nat_cases c n);
+      each = λ c j y z l at kind e. each_same c j y z l at kind e (cases_eq c n);
     }
 
   pub outputs_more : IsOutputPut m n x x.kind old new → AreOutputNets r m (n + 1) new

@@ -27,7 +27,3 @@ same_made a b c d h k e f =
     let Q : List Pad → Type 0 = λ y. (j : Named a y) → make_pads a b h ≡ make_pads a y j in
     subst P e (subst Q f (λ j. ap (make_pads a b)
     (names_prop (names_of a b (λ (pad : Pad). pad.name)) h j))) k
-
--- pads are told by their two lists
-pub same_pads : (p q : Pads) → p.inputs ≡ q.inputs → p.outputs ≡ q.outputs → p ≡ q
-same_pads p q e f = same_made p.inputs p.outputs q.inputs q.outputs p.named q.named e f

@@ -1,5 +1,6 @@
 -- The type of a path that was made, and what is said of it.
-use Rattle.std.proofs.Common.{◌≡◌, ℕ, zero, suc, ◌<◌, ◌≤◌, ◌+◌, ◌*◌, ◌⊎◌, inl, inr, List, [], ◌∷◌, ◌++◌, Some, None, Bool, true, false, get_or, length, refl, sym, ◌∙◌, ap, subst, arith}
+use Rattle.std.proofs.Common.{◌≡◌, ℕ, zero, suc, ◌<◌, ◌≤◌, ◌+◌, ◌*◌, ◌⊎◌, inl, inr, List, [], ◌∷◌, ◌++◌, Some, None}
+use Rattle.std.proofs.Common.{Bool, true, false, get_or, length, refl, sym, ◌∙◌, ap, subst, arith}
 use Rattle.std.specs.Prelude.{◌≢◌, All, Contains, slice_get, if◌then◌else◌}
 use Rattle.std.proofs.lemmas.Bool.{false≢true}
 use Rattle.std.proofs.lemmas.Nat.{mul-le}
@@ -7,6 +8,7 @@ use Rattle.std.proofs.lemmas.Option.{slice_get-get_or, slice_get_within}
 use Rattle.std.proofs.lemmas.List.Elements.{All-contains, All-weaker}
 use Rattle.mp_base.specs.declared.pad.Pad.{Pad}
 use Rattle.mp_base.specs.declared.pad.Pads.{Pads}
+use Rattle.mp_base.proofs.Entries.{all_from, contains_from_get}
 use Rattle.nor_net.specs.declared.net.NetId.{NetId}
 use Rattle.nor_net.specs.declared.net.Part.{Part}
 use Rattle.nor_net.specs.declared.net.Part.TheVariants.{Input, Gate, Latch}
@@ -24,10 +26,12 @@ use Rattle.rtl_form.specs.declared.rtl.CellKind.TheVariants as kinds
 use Rattle.rtl_form.specs.declared.rtl.Rtl.{Rtl}
 use Rattle.rtl_form.proofs.Members.{one_entry, some_entry}
 use Rattle.control_nor.specs.Lowering.{Stands}
+use Rattle.control_nor.proofs.Progress.{at_get}
 use Rattle.path_form.specs.declared.path.DataPath.{DataPath}
 use Rattle.path_form.specs.declared.path.Lift.{Lift}
 use Rattle.path_form.specs.declared.path.Piece.{Piece}
 use Rattle.path_form.specs.Shape.{IsPath, PadsFit, chain_from, chain_to, entries_of, is_fed, is_input, times}
+use Rattle.path_form.proofs.Joining.{times_append}
 use Rattle.path_order.specs.declared.order.Mark.{Mark}
 use Rattle.path_order.specs.Marked.{IsMarked, OrdersAreWhole, RiseTo}
 use Rattle.path_order.specs.Order.{order_from, start}
@@ -36,9 +40,11 @@ use Rattle.datapath_finish.specs.Finishing.{AreInputNets, AreOutputNets, IsCompl
 use Rattle.datapath_making.specs.Steps.{marked}
 use Rattle.datapath_making.specs.WellMade.{IsWellMade}
 use Rattle.datapath_making.proofs.Beginning.{last_push}
-use Rattle.datapath_finish.proofs.Ending.{all_from_get, at_of, bit_width, contained, entries_apart, entry_pad, get_of, is_word, width_bit, word_width}
-use Rattle.datapath_finish.proofs.Finished.{bit_in, bit_out, bit_some, bits_apart, control_inputs_are, control_latches_are, fed_test, input_some, slice_inputs_are, slice_latches_are, word_in, word_out, word_times}
-use Rattle.datapath_making.proofs.Lists.{one_stands, times_append, times_entry, times_some}
+use Rattle.datapath_finish.proofs.Ending.{at_of, bit_width, entries_apart, entry_pad, is_word, width_bit, word_width}
+use Rattle.datapath_finish.proofs.Finished.{bit_in, bit_out, bit_some, bits_apart, control_inputs_are}
+use Rattle.datapath_finish.proofs.Finished.{control_latches_are, fed_test, input_some, slice_inputs_are}
+use Rattle.datapath_finish.proofs.Finished.{slice_latches_are, word_in, word_out, word_times}
+use Rattle.datapath_making.proofs.Lists.{one_stands, times_entry, times_some}
 
 same_output : (j k : ℕ) → kinds.Output j ≡ kinds.Output k → j ≡ k
 same_output j k e = cc
@@ -84,14 +90,14 @@ module _ (r : Rtl) (m : Making) (sound : IsSound r) (light : cost r ≤ 1024) (h
         × ((k : ℕ) × (x.kind ≡ kinds.Output k)) × Stands m.names.cells c id × (id.0 ≡ n)
     found_bit l =
         let t = times_entry n bit_outs l in
-        let e = entry_pad false out_pads outputs t.1 (contained bit_outs t.0 t.1 t.2) in
+        let e = entry_pad false out_pads outputs t.1 (contains_from_get bit_outs t.0 t.1 t.2) in
         let o = bit_out r m sound h inputs outputs ins outs e.0 e.1 t.1 e.2 e.3 e.4 in
         (o.0, o.1, t.1, o.2, (e.0, o.3), o.4, t.3)
 
     found_word : 1 ≤ times n word_outs → (c : ℕ) × (id : NetId) × Stands m.cell_words c id × (id.0 ≡ n)
     found_word l =
         let t = times_entry n word_outs l in
-        let e = entry_pad true out_pads outputs t.1 (contained word_outs t.0 t.1 t.2) in
+        let e = entry_pad true out_pads outputs t.1 (contains_from_get word_outs t.0 t.1 t.2) in
         let o = word_out r m sound h inputs outputs ins outs e.0 e.1 t.1 e.2 e.3 e.4 in
         (o.0, t.1, o.4, t.3)
 
@@ -168,26 +174,26 @@ module _ (r : Rtl) (m : Making) (sound : IsSound r) (light : cost r ≤ 1024) (h
   -- ---- the nets of pads are there
 
   bit_within : All (λ (id : NetId). id.0 < length m.control) bits
-  bit_within = all_from_get (λ (id : NetId). id.0 < length m.control) bits (λ i id e.
-      let p = entry_pad false in_pads inputs id (contained bits i id e) in
+  bit_within = all_from (λ (id : NetId). id.0 < length m.control) bits (λ i id e.
+      let p = entry_pad false in_pads inputs id (contains_from_get bits i id e) in
       slice_get_within m.control id.0 Input (h.lowered.inputs.pads p.0 id
       (bit_in r m sound h inputs outputs ins outs p.0 p.1 id p.2 p.3 p.4)))
 
   word_within : All (λ (id : NetId). id.0 < length m.slices.net) words
-  word_within = all_from_get (λ (id : NetId). id.0 < length m.slices.net) words (λ i id e.
+  word_within = all_from (λ (id : NetId). id.0 < length m.slices.net) words (λ i id e.
       slice_get_within m.slices.net id.0 Input (input_some m.slices.net id.0
       (word_input id.0 (times_some words i id e))))
 
   bit_out_within : All (λ (id : NetId). id.0 < length m.control) bit_outs
-  bit_out_within = all_from_get (λ (id : NetId). id.0 < length m.control) bit_outs (λ i id e.
-      let p = entry_pad false out_pads outputs id (contained bit_outs i id e) in
+  bit_out_within = all_from (λ (id : NetId). id.0 < length m.control) bit_outs (λ i id e.
+      let p = entry_pad false out_pads outputs id (contains_from_get bit_outs i id e) in
       let o = bit_out r m sound h inputs outputs ins outs p.0 p.1 id p.2 p.3 p.4 in
       let d = h.lowered.driven o.0 o.1 id o.2 (ap is_driven o.3) o.4 in
       slice_get_within m.control id.0 (Gate d.0) d.1)
 
   word_out_within : All (λ (id : NetId). id.0 < length m.slices.net) word_outs
-  word_out_within = all_from_get (λ (id : NetId). id.0 < length m.slices.net) word_outs (λ i id e.
-      let p = entry_pad true out_pads outputs id (contained word_outs i id e) in
+  word_out_within = all_from (λ (id : NetId). id.0 < length m.slices.net) word_outs (λ i id e.
+      let p = entry_pad true out_pads outputs id (contains_from_get word_outs i id e) in
       let o = word_out r m sound h inputs outputs ins outs p.0 p.1 id p.2 p.3 p.4 in
       h.made.named.cells_in o.0 id o.4)
 
@@ -198,18 +204,18 @@ module _ (r : Rtl) (m : Making) (sound : IsSound r) (light : cost r ≤ 1024) (h
   fit w (inr e) ne = absurd (ne e)
 
   in_pads_fit : PadsFit m.width in_pads
-  in_pads_fit = all_from_get (λ (p : Pad). p.width ≢ 0 → p.width ≡ m.width) in_pads
+  in_pads_fit = all_from (λ (p : Pad). p.width ≢ 0 → p.width ≡ m.width) in_pads
       (λ k p e. fit p.width (sound.inputs k p (at_of in_pads k p e)))
 
   out_pads_fit : PadsFit m.width out_pads
-  out_pads_fit = all_from_get (λ (p : Pad). p.width ≢ 0 → p.width ≡ m.width) out_pads
+  out_pads_fit = all_from (λ (p : Pad). p.width ≢ 0 → p.width ≡ m.width) out_pads
       (λ k p e. fit p.width (sound.outputs k p (at_of out_pads k p e)))
 
   control_is_fed : IsFed m.control
   control_is_fed = subst (All Fed) (sym h.lowered.added.1) h.lowered.added.2
 
   slices_are_fed : IsFed m.slices.net
-  slices_are_fed = all_from_get Fed m.slices.net by_part
+  slices_are_fed = all_from Fed m.slices.net by_part
     where
       by_part : (n : ℕ) (q : Part) → slice_get m.slices.net n ≡ Some q → Fed q
       by_part n Input e = tt
@@ -244,7 +250,8 @@ module _ (r : Rtl) (m : Making) (sound : IsSound r) (light : cost r ≤ 1024) (h
       cast_marks = well.marks.casts;
       lift_marks = λ l i. (
         (All-contains
-            (λ (l : Lift). (l.slice < m.width) × (l.from.0 < length m.slices.net)) m.lifts l h.made.joined.lifts_in i).0,
+            (λ (l : Lift). (l.slice < m.width) × (l.from.0 < length m.slices.net)) m.lifts l h.made.joined.lifts_in
+            i).0,
         well.marks.lifts l i,
       );
     }
@@ -319,7 +326,7 @@ module _ (r : Rtl) (m : Making) (sound : IsSound r) (light : cost r ≤ 1024) (h
 
       by_kind : (t : Bool) → is_word pad ≡ t → slice_get inputs k ≡ Some id
       by_kind true q =
-          let w = word_in r m sound h inputs outputs ins outs k pad (get_or inputs k id) (get_of in_pads k pad at_pad)
+          let w = word_in r m sound h inputs outputs ins outs k pad (get_or inputs k id) (at_get in_pads k pad at_pad)
           there q in
           there ∙ ap Some (one_stands m.pads k (get_or inputs k id) id w s)
       by_kind false q = absurd (h.bit_pads k pad id at_pad s (bit_width pad q))
@@ -327,7 +334,7 @@ module _ (r : Rtl) (m : Making) (sound : IsSound r) (light : cost r ≤ 1024) (h
   bit_pad_at : (k : ℕ) (id : NetId) → Stands m.names.inputs k id → slice_get inputs k ≡ Some id
   bit_pad_at k id s =
       there ∙ ap Some (one_stands m.names.inputs k (get_or inputs k id) id
-      (bit_in r m sound h inputs outputs ins outs k pad (get_or inputs k id) (get_of in_pads k pad at_pad) there
+      (bit_in r m sound h inputs outputs ins outs k pad (get_or inputs k id) (at_get in_pads k pad at_pad) there
       (width_bit pad ((h.lowered.pad_names k pad at_pad).1 (id, s)))) s)
     where
       inside : k < length in_pads

@@ -1,5 +1,6 @@
 -- When a path in the making is a path, and which.
-use Rattle.std.specs.Prelude.{◌≡◌, ◌≢◌, ◌≤◌, ◌<◌, ◌+◌, ℕ, List, [], Some, true, false, Contains, length, slice_get, slice_set}
+use Rattle.std.specs.Prelude.{◌≡◌, ◌≢◌, ◌≤◌, ◌<◌, ◌+◌, ℕ, List, [], Some, true, false, Contains, length, slice_get}
+use Rattle.std.specs.Prelude.{slice_set}
 use Rattle.nor_net.specs.declared.net.NetId.{NetId}
 use Rattle.nor_net.specs.Shape.{gate_inputs}
 use Rattle.mp_base.specs.declared.pad.Pad.{Pad}

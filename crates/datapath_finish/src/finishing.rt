@@ -6,7 +6,8 @@ ghost use Rattle.rtl_form.specs.Cost.{cost};
 ghost use Rattle.rtl_form.specs.Sound.{IsSound};
 ghost use Rattle.rtl_form.specs.declared.rtl.CellKind.TheVariants.{Output};
 ghost use Rattle.control_nor.specs.Lowering.{Stands};
-ghost use Rattle.datapath_finish.specs.Finishing.{AreInputNets, AreOutputNets, IsCellNet, IsComplete, IsFinished, IsOutputPut, IsPadNet};
+ghost use Rattle.datapath_finish.specs.Finishing.{AreInputNets, AreOutputNets, IsCellNet, IsComplete};
+ghost use Rattle.datapath_finish.specs.Finishing.{IsFinished, IsOutputPut, IsPadNet};
 
 use datapath_making::{Making, entry};
 use mp_base::{List, NoMemory, Pad};

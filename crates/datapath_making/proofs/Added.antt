@@ -1,9 +1,11 @@
 -- A path that was added to is well made, has grown, and by how much.
-use Rattle.std.proofs.Common.{◌≡◌, ℕ, ◌<◌, ◌≤◌, ◌+◌, ◌⊎◌, inl, inr, List, [], ◌∷◌, Option, Some, true, false, length, sym, ◌∙◌, ap, subst, arith, length-append}
+use Rattle.std.proofs.Common.{◌≡◌, ℕ, ◌<◌, ◌≤◌, ◌+◌, ◌⊎◌, inl, inr, List, [], ◌∷◌, Option, Some, true, false, length}
+use Rattle.std.proofs.Common.{sym, ◌∙◌, ap, subst, arith, length-append}
 use Rattle.std.specs.Prelude.{All, Contains, slice_get, slice_set}
 use Rattle.std.specs.List.{sum_by}
 use Rattle.std.proofs.lemmas.List.Elements.{All-weaker, Contains-append_left}
 use Rattle.std.proofs.lemmas.List.Sums.{sum_by-append}
+use Rattle.mp_base.proofs.Entries.{get_kept, get_front}
 use Rattle.nor_net.specs.declared.net.NetId.{NetId}
 use Rattle.nor_net.specs.declared.net.Part.{Part}
 use Rattle.nor_net.specs.declared.net.Part.TheVariants as parts
@@ -11,7 +13,6 @@ use Rattle.nor_net.specs.Shape.{fan_in, gate_inputs}
 use Rattle.organelles.specs.declared.slices.Chain.{Chain}
 use Rattle.control_nor.specs.declared.names.Names.{Names}
 use Rattle.control_nor.specs.Lowering.{Stands}
-use Rattle.control_nor.proofs.Adding.{get_kept}
 use Rattle.path_form.specs.declared.path.Cast.{Cast}
 use Rattle.path_form.specs.Shape.{chain_to, is_fed, is_input}
 use Rattle.path_form.specs.Sizes.{active}
@@ -23,7 +24,7 @@ use Rattle.datapath_making.specs.Growing.{Appends, Grows}
 use Rattle.datapath_making.specs.Sizes.{Spends}
 use Rattle.datapath_making.specs.WellMade.{AreCast, AreNamed, IsGuardMade}
 use Rattle.datapath_making.proofs.Entering.{length_added}
-use Rattle.datapath_making.proofs.Lists.{get_front, set_cases}
+use Rattle.datapath_making.proofs.Lists.{set_cases}
 
 -- a net that stands for no cell stands for one now
 module _ (net : List Part) (cells words : List (Option NetId)) (h : AreNamed net cells words) (c : ℕ) (id : NetId)

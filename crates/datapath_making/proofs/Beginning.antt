@@ -1,8 +1,11 @@
 -- The beginning, and marks that are set.
-use Rattle.std.proofs.Common.{◌≡◌, ℕ, zero, suc, ◌<◌, ◌≤◌, ◌⊎◌, inl, inr, List, [], ◌∷◌, ◌++◌, Option, Some, None, length, refl, sym, ◌∙◌, ap, subst, arith}
+use Rattle.std.proofs.Common.{◌≡◌, ℕ, zero, suc, ◌<◌, ◌≤◌, ◌⊎◌, inl, inr, List, [], ◌∷◌, ◌++◌, Option, Some, None}
+use Rattle.std.proofs.Common.{length, refl, sym, ◌∙◌, ap, subst, arith}
 use Rattle.std.specs.Prelude.{Contains, replicate, slice_get}
 use Rattle.std.proofs.lemmas.Option.{none-some, same_Some}
 use Rattle.std.proofs.lemmas.List.Elements.{All-contains, All-nil, Contains-append_left, Contains-push_cases}
+use Rattle.std.proofs.lemmas.List.{length-replicate}
+use Rattle.mp_base.proofs.Contents.{nothing_in}
 use Rattle.nor_net.specs.declared.net.NetId.{NetId}
 use Rattle.nor_net.specs.declared.net.Part.{Part}
 use Rattle.nor_net.specs.declared.net.Part.TheVariants.{Latch}
@@ -23,7 +26,6 @@ use Rattle.datapath_making.specs.declared.making.Making.{Making}
 use Rattle.datapath_making.specs.Marking.{last_from, last_mark}
 use Rattle.datapath_making.specs.Steps.{begun}
 use Rattle.datapath_making.specs.WellMade.{IsWellMade, present}
-use Rattle.datapath_making.proofs.Lists.{none_in}
 
 -- ---- nothing was made yet
 
@@ -35,10 +37,6 @@ none_there {Y} (suc n) (suc k) y e = none_there n k y e
 none_present : (n : ℕ) → present (replicate n None) ≡ []
 none_present zero = refl
 none_present (suc n) = none_present n
-
-length_none : {Y : Type 0} (n : ℕ) (y : Y) → length (replicate n y) ≡ n
-length_none zero y = refl
-length_none (suc n) y = ap suc (length_none n y)
 
 pub begun_well : (r : Rtl) (control : List Part) (names : Names) (reset : Option NetId)
     → length names.exprs ≡ length r.exprs → IsWellMade (begun r control names reset)
@@ -61,7 +59,7 @@ begun_well r control names reset count = record {
     cells_apart = λ c d id s t. absurd (none_there (length r.cells) c id s);
   };
   cast = record {
-    count = length_none (length r.exprs) None ∙ sym count;
+    count = length-replicate (length r.exprs) None ∙ sym count;
     guards = λ e g s. absurd (none_there (length r.exprs) e g s);
     clear = λ id e. absurd (none-some id e);
   };
@@ -69,10 +67,10 @@ begun_well r control names reset count = record {
     rise = refl;
     slices_in = omega arith;
     control_in = omega arith;
-    ups = λ from to h. absurd (none_in (Up from to) h);
-    downs = λ from to h. absurd (none_in (Down from to) h);
-    casts = λ c h. absurd (none_in c h);
-    lifts = λ l h. absurd (none_in l h);
+    ups = λ from to h. absurd (nothing_in (Up from to) h);
+    downs = λ from to h. absurd (nothing_in (Down from to) h);
+    casts = λ c h. absurd (nothing_in c h);
+    lifts = λ l h. absurd (nothing_in l h);
   };
 }
 

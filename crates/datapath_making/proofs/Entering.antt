@@ -1,8 +1,10 @@
 -- The inputs of a slice net that was added to.
-use Rattle.std.proofs.Common.{◌≡◌, ℕ, zero, suc, ◌+◌, ◌-◌, ◌<◌, ◌≤◌, ◌⊎◌, inl, inr, List, [], ◌∷◌, ◌++◌, Some, cond, length, map, refl, sym, ◌∙◌, ap, arith, length-append}
+use Rattle.std.proofs.Common.{◌≡◌, ℕ, zero, suc, ◌+◌, ◌-◌, ◌<◌, ◌≤◌, ◌⊎◌, inl, inr, List, [], ◌∷◌, ◌++◌, Some, cond}
+use Rattle.std.proofs.Common.{length, map, refl, sym, ◌∙◌, ap, arith, length-append}
 use Rattle.std.specs.Prelude.{slice_get, if◌then◌else◌}
 use Rattle.std.proofs.lemmas.Bool.{cases_lt}
 use Rattle.std.proofs.lemmas.Option.{slice_get_past}
+use Rattle.mp_base.proofs.Entries.{get_front}
 use Rattle.nor_net.specs.declared.net.NetId.{NetId}
 use Rattle.nor_net.specs.declared.net.Phase.{Phase}
 use Rattle.nor_net.specs.declared.net.Part.{Part}
@@ -12,10 +14,11 @@ use Rattle.organelles.specs.declared.slices.SliceNet.{SliceNet}
 use Rattle.organelles.specs.Tables.{net_at}
 use Rattle.path_form.specs.declared.path.Cast.{Cast}
 use Rattle.path_form.specs.Shape.{chain_to, is_input, slice_ends, times}
+use Rattle.path_form.proofs.Joining.{times_append}
 use Rattle.datapath_making.specs.declared.making.Making.{Making}
 use Rattle.datapath_making.specs.Additions.{Addition, Adds, new_inputs}
 use Rattle.datapath_making.specs.WellMade.{AreEntered, IsLatched}
-use Rattle.datapath_making.proofs.Lists.{get_by, get_cases, get_front, one_else, one_here, times_append}
+use Rattle.datapath_making.proofs.Lists.{get_by, get_cases, one_else, one_here}
 
 -- ---- the inputs among the parts that are added
 

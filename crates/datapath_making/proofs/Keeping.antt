@@ -1,11 +1,15 @@
 -- What lasts while a path grows.
-use Rattle.std.proofs.Common.{◌≡◌, ℕ, ◌<◌, ◌≤◌, ◌+◌, ◌-◌, List, [], ◌∷◌, ◌++◌, Option, Some, None, true, false, get_or, length, refl, sym, ◌∙◌, ap, subst, arith, append_assoc, length-append}
+use Rattle.std.proofs.Common.{◌≡◌, ℕ, ◌<◌, ◌≤◌, ◌+◌, ◌-◌, List, [], ◌∷◌, ◌++◌, Option, Some, None, true, false, get_or}
+use Rattle.std.proofs.Common.{length, refl, sym, ◌∙◌, ap, subst, arith, append_assoc, length-append}
 use Rattle.std.specs.Prelude.{All, Contains, slice_get}
 use Rattle.std.specs.List.{AllZip}
 use Rattle.std.proofs.lemmas.Bool.{true≢false}
 use Rattle.std.proofs.lemmas.Option.{slice_get-get_or, slice_get_within}
 use Rattle.std.proofs.lemmas.List.Elements.{All-nil, All-append, All-weaker, Contains-append_left}
+use Rattle.std.proofs.lemmas.List.{append-nil}
 use Rattle.mp_base.specs.declared.op.Op.{Op}
+use Rattle.mp_base.proofs.Entries.{get_behind}
+use Rattle.mp_base.proofs.Zips.{zip_map}
 use Rattle.nor_net.specs.declared.net.NetId.{NetId}
 use Rattle.nor_net.specs.declared.net.Phase.TheVariants as phases
 use Rattle.nor_net.specs.declared.net.Part.{Part}
@@ -16,24 +20,19 @@ use Rattle.organelles.specs.declared.slices.SliceNet.{SliceNet}
 use Rattle.organelles.specs.declared.slices.Organelle.{Organelle}
 use Rattle.organelles.specs.Computing.{with_table}
 use Rattle.organelles.specs.Tables.{table_of}
-use Rattle.control_nor.proofs.Adding.{get_behind}
 use Rattle.rtl_form.specs.declared.rtl.Transfer.{Transfer}
 use Rattle.rtl_form.specs.declared.rtl.Rtl.{Rtl}
 use Rattle.control_nor.specs.declared.names.Names.{Names}
 use Rattle.control_nor.specs.Lowering.{Stands}
-use Rattle.control_nor.proofs.Zipping.{zip_weaker}
 use Rattle.path_form.specs.declared.path.Cast.{Cast}
 use Rattle.path_form.specs.Extending.{Extends, is_latch}
 use Rattle.path_form.specs.Shape.{chain_to, is_fed}
-use Rattle.path_values.specs.Allocated.{DrivenWord, InputWord, IsGate, IsGuard, IsTerm, Placed, StoredWord, transfers_to}
+use Rattle.path_values.specs.Allocated.{DrivenWord, InputWord, IsGate, IsGuard, IsTerm, Placed, StoredWord}
+use Rattle.path_values.specs.Allocated.{transfers_to}
 use Rattle.datapath_making.specs.declared.making.Making.{Making}
 use Rattle.datapath_making.specs.Growing.{Grows}
 use Rattle.datapath_making.specs.Sizes.{Spends}
 use Rattle.datapath_making.proofs.Tables.{IsLogic, parts_are_logic, parts_of, some_parts}
-
-pub append_nil : {X : Type 0} (xs : List X) → xs ++ [] ≡ xs
-append_nil [] = refl
-append_nil (x ∷ xs) = ap (λ ys. x ∷ ys) (append_nil xs)
 
 -- two additions at the end of a list are one
 on_end : {X : Type 0} (P Q : X → Type 0) (xs ys zs : List X) → ((x : X) → Q x → P x)
@@ -52,10 +51,10 @@ on_list : {X : Type 0} (xs ys zs : List X) → (more : List X) × (ys ≡ xs ++ 
 on_list xs ys zs g h = (g.0 ++ h.0, h.1 ∙ (ap (λ ws. ws ++ h.0) g.1 ∙ append_assoc xs g.0 h.0))
 
 pub nothing_more : {X : Type 0} (P : X → Type 0) (xs : List X) → (more : List X) × (xs ≡ xs ++ more) × All P more
-nothing_more P xs = ([], sym (append_nil xs), All-nil P)
+nothing_more P xs = ([], sym (append-nil xs), All-nil P)
 
 pub nothing_on : {X : Type 0} (xs : List X) → (more : List X) × (xs ≡ xs ++ more)
-nothing_on xs = ([], sym (append_nil xs))
+nothing_on xs = ([], sym (append-nil xs))
 
 pub grows_refl : (m : Making) → Grows m m
 grows_refl m = record {
@@ -211,16 +210,16 @@ module _ (old new : Making) (grows : Grows old new) where
         → AllZip (IsTerm old.slices old.casts names words) ts terms
         → AllZip (IsTerm new.slices new.casts names words') ts terms
     terms_last ts terms h =
-        zip_weaker (IsTerm old.slices old.casts names words) (IsTerm new.slices new.casts names words') ts terms
-        term_lasts h
+        zip_map (IsTerm old.slices old.casts names words) (IsTerm new.slices new.casts names words') term_lasts ts
+        terms h
 
     pub guards_last : (ts : List Transfer) (guards : List NetId)
         → AllZip (λ (t : Transfer) g. IsGuard old.casts names t.guard g) ts guards
         → AllZip (λ (t : Transfer) g. IsGuard new.casts names t.guard g) ts guards
     guards_last ts guards h =
-        zip_weaker (λ (t : Transfer) g. IsGuard old.casts names t.guard g)
-        (λ (t : Transfer) g. IsGuard new.casts names t.guard g) ts guards
-        (λ t g i. guard_lasts names t.guard g i) h
+        zip_map (λ (t : Transfer) g. IsGuard old.casts names t.guard g)
+        (λ (t : Transfer) g. IsGuard new.casts names t.guard g) (λ t g i. guard_lasts names t.guard g i) ts
+        guards h
 
     pub driven_lasts : (r : Rtl) (c : ℕ) (id : NetId) → DrivenWord r old.slices old.casts names words c id
         → DrivenWord r new.slices new.casts names words' c id

@@ -1,13 +1,15 @@
 -- Lists that grow at the end, entries that are set, and how often nets are among nets.
-use Rattle.std.proofs.Common.{◌≡◌, ℕ, zero, suc, ◌+◌, ◌<◌, ◌≤◌, ◌⊎◌, inl, inr, List, [], ◌∷◌, ◌++◌, Option, Some, None, cond, length, refl, sym, ◌∙◌, ap, arith}
-use Rattle.std.specs.Prelude.{All, Contains, slice_get, slice_set, if◌then◌else◌, ◌==◌}
-use Rattle.std.proofs.lemmas.Bool.{eq-eqb, ne_eqb}
+use Rattle.std.proofs.Common.{◌≡◌, ℕ, zero, suc, ◌+◌, ◌<◌, ◌≤◌, ◌⊎◌, inl, inr, List, [], ◌∷◌, ◌++◌, Option, Some, None}
+use Rattle.std.proofs.Common.{cond, length, refl, sym, ◌∙◌, ap, arith}
+use Rattle.std.specs.Prelude.{All, slice_get, slice_set, if◌then◌else◌, ◌==◌}
+use Rattle.std.proofs.lemmas.Bool.{eq-eqb, ne_eqb, cases_eq}
 use Rattle.std.proofs.lemmas.Option.{none-some, same_Some, slice_get_within}
+use Rattle.mp_base.proofs.Entries.{get_behind, get_set_same, get_set_other}
+use Rattle.std.proofs.lemmas.List.{length-set}
 use Rattle.nor_net.specs.declared.net.NetId.{NetId}
 use Rattle.path_form.specs.Shape.{times}
 use Rattle.control_nor.specs.Lowering.{Stands}
-use Rattle.control_nor.proofs.Adding.{get_behind}
-use Rattle.control_nor.proofs.Left.{get_set_other, get_set_same, nat_cases}
+use Rattle.path_form.proofs.Joining.{times_append}
 use Rattle.datapath_making.specs.Steps.{IsFree}
 use Rattle.datapath_making.specs.WellMade.{present}
 
@@ -25,37 +27,17 @@ get_cases {Y} (x ∷ xs) ys (suc n) y e = by_case (get_cases xs ys n y e)
     by_case (inl h) = inl ((let l = h.0 in omega (arith, l)), h.1)
     by_case (inr h) = inr (h.0, (let q = h.1 in omega (arith, q)), h.2)
 
--- in front of what was added all is as it was
-pub get_front : {Y : Type 0} (xs ys : List Y) (n : ℕ) → n < length xs → slice_get (xs ++ ys) n ≡ slice_get xs n
-get_front [] ys n l = absurd (omega arith)
-get_front (x ∷ xs) ys zero l = refl
-get_front (x ∷ xs) ys (suc n) l = get_front xs ys n (omega arith)
-
 -- the entry at a place, by its distance from what was added
 pub get_by : {Y : Type 0} (xs ys : List Y) (n i : ℕ) → n ≡ length xs + i → slice_get (xs ++ ys) n ≡ slice_get ys i
 get_by xs ys n i e = ap (slice_get (xs ++ ys)) e ∙ get_behind xs ys i
 
--- one entry is all that a list of one contains
-pub only_one : {Y : Type 0} (x y : Y) → Contains (x ∷ []) y → x ≡ y
-only_one x y (zero, l, e) = e
-only_one x y (suc k, l, e) = absurd (omega (arith, l))
-
-pub none_in : {Y : Type 0} (y : Y) → Contains [] y → ⊥
-none_in y (k, l, e) = omega (arith, l)
-
 -- ---- names
-
--- the length after a set
-pub length_set : {Y : Type 0} (xs : List Y) (k : ℕ) (y : Y) → length (slice_set xs k y) ≡ length xs
-length_set [] k y = refl
-length_set (x ∷ xs) zero y = refl
-length_set (x ∷ xs) (suc k) y = ap suc (length_set xs k y)
 
 -- what stands after an entry was set: the new one, or another that stood
 pub set_cases : (entries : List (Option NetId)) (k : ℕ) (id : NetId) (n : ℕ) (other : NetId)
     → Stands (slice_set entries k (Some id)) n other
     → ((n ≡ k) × (id ≡ other)) ⊎ ((n ≡ k → ⊥) × Stands entries n other)
-set_cases entries k id n other h = by_place (nat_cases n k)
+set_cases entries k id n other h = by_place (cases_eq n k)
   where
     within : k < length entries → n ≡ k → id ≡ other
     within l e = same_Some id other (same_Some (Some id) (Some other)
@@ -63,7 +45,7 @@ set_cases entries k id n other h = by_place (nat_cases n k)
 
     inside : n < length entries
     inside = let l = slice_get_within (slice_set entries k (Some id)) n (Some other) h in
-        let e = length_set entries k (Some id) in omega (arith, l, e)
+        let e = length-set entries k (Some id) in omega (arith, l, e)
 
     by_place : (n ≡ k) ⊎ (n ≡ k → ⊥) → ((n ≡ k) × (id ≡ other)) ⊎ ((n ≡ k → ⊥) × Stands entries n other)
     by_place (inl e) = inl (e, within (omega (arith, inside, e)) e)
@@ -96,10 +78,6 @@ one_here n id e = ap (λ b. cond b 1 0) (eq-eqb id.0 n e)
 pub one_else : (n : ℕ) (id : NetId) → (id.0 ≡ n → ⊥) → one_at n id ≡ 0
 one_else n id ne = ap (λ b. cond b 1 0) (ne_eqb id.0 n ne)
 
-pub times_append : (n : ℕ) (xs ys : List NetId) → times n (xs ++ ys) ≡ times n xs + times n ys
-times_append n [] ys = let e : times n ys ≡ 0 + times n ys = omega arith in e
-times_append n (x ∷ xs) ys = let e = times_append n xs ys in omega (arith, e)
-
 pub times_push : (n : ℕ) (xs : List NetId) (id : NetId) → times n (xs ++ id ∷ []) ≡ times n xs + one_at n id
 times_push n xs id = let e = times_append n xs (id ∷ []) in omega (arith, e)
 
@@ -122,7 +100,7 @@ times_some (x ∷ xs) (suc k) id e = let l = times_some xs k id e in omega (arit
 pub times_entry : (n : ℕ) (xs : List NetId) → 1 ≤ times n xs
     → (k : ℕ) × (id : NetId) × (slice_get xs k ≡ Some id) × (id.0 ≡ n)
 times_entry n [] l = absurd (omega arith)
-times_entry n (x ∷ xs) l = by_head (nat_cases x.0 n) (times_entry n xs)
+times_entry n (x ∷ xs) l = by_head (cases_eq x.0 n) (times_entry n xs)
   where
     by_head : (x.0 ≡ n) ⊎ (x.0 ≡ n → ⊥)
         → (1 ≤ times n xs → (k : ℕ) × (id : NetId) × (slice_get xs k ≡ Some id) × (id.0 ≡ n))

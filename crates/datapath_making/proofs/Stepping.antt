@@ -3,6 +3,7 @@ use Rattle.std.proofs.Common.{◌≡◌, ℕ, ◌≤◌, ◌+◌, List, [], ◌+
 use Rattle.std.specs.Prelude.{slice_get}
 use Rattle.std.specs.List.{sum_by}
 use Rattle.std.proofs.lemmas.List.Elements.{All-nil}
+use Rattle.std.proofs.lemmas.List.{append-nil}
 use Rattle.nor_net.specs.declared.net.NetId.{NetId}
 use Rattle.nor_net.specs.declared.net.Phase.{Phase}
 use Rattle.nor_net.specs.declared.net.Part.{Part}
@@ -20,7 +21,6 @@ use Rattle.datapath_making.specs.WellMade.{AreCast, AreEntered, AreNamed, IsLatc
 use Rattle.datapath_making.proofs.Added.{bounded_by, cast_on, grows_by, named_on, spends_by}
 use Rattle.datapath_making.proofs.Entering.{entered_on}
 use Rattle.datapath_making.proofs.Joints.{joined_on, marks_on}
-use Rattle.datapath_making.proofs.Keeping.{append_nil}
 
 -- a net is told by its number
 pub net_is : (id : NetId) (n : ℕ) → id.0 ≡ n → id ≡ net_at n
@@ -33,7 +33,7 @@ parts_only parts = record { parts = parts; chains = []; programs = []; casts = [
 pub same_lifts_apart : (m : Making) → AreApart (map (λ (l : Lift). l.control) m.lifts)
     → AreApart (map (λ (l : Lift). l.control) (m.lifts ++ []))
 same_lifts_apart m h =
-    subst (λ (ls : List Lift). AreApart (map (λ (l : Lift). l.control) ls)) (sym (append_nil m.lifts)) h
+    subst (λ (ls : List Lift). AreApart (map (λ (l : Lift). l.control) ls)) (sym (append-nil m.lifts)) h
 
 -- no latch with its data among these parts
 abbrev pub NoneLatched : List Part → Type 0

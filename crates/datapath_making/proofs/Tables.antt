@@ -1,5 +1,6 @@
 -- What each operator adds to a slice.
-use Rattle.std.proofs.Common.{◌≡◌, ℕ, suc, ◌<◌, ◌≤◌, ◌+◌, ◌*◌, ◌⊎◌, inl, inr, List, [], ◌∷◌, ◌++◌, Option, Some, true, false, get_or, length, map, refl, sym, ◌∙◌, ap, subst, arith}
+use Rattle.std.proofs.Common.{◌≡◌, ℕ, suc, ◌<◌, ◌≤◌, ◌+◌, ◌*◌, ◌⊎◌, inl, inr, List, [], ◌∷◌, ◌++◌, Option, Some, true}
+use Rattle.std.proofs.Common.{false, get_or, length, map, refl, sym, ◌∙◌, ap, subst, arith}
 use Rattle.std.specs.Prelude.{◌≢◌, All, slice_get, if◌then◌else◌}
 use Rattle.std.specs.List.{sum_by}
 use Rattle.std.proofs.lemmas.Bool.{eqb-true, ltb-true, true≢false}
@@ -15,8 +16,10 @@ use Rattle.nor_net.specs.Shape.{gate_inputs}
 use Rattle.organelles.specs.declared.slices.Chain.{Chain}
 use Rattle.organelles.specs.declared.slices.Chain.TheVariants.{Up, Down}
 use Rattle.organelles.specs.declared.slices.Organelle.{Organelle}
-use Rattle.organelles.specs.declared.slices.Organelle.TheVariants.{Add, Sub, Inc, Dec, And, Or, Xor, Not, Left, Right, Zero, Equal, Less}
-use Rattle.organelles.specs.Tables.{chains_from, first_gate, gates_from, is_test, net_at, op_of, parts_from, place, table_of}
+use Rattle.organelles.specs.declared.slices.Organelle.TheVariants.{Add, Sub, Inc, Dec, And, Or, Xor, Not, Left, Right}
+use Rattle.organelles.specs.declared.slices.Organelle.TheVariants.{Zero, Equal, Less}
+use Rattle.organelles.specs.Tables.{chains_from, first_gate, gates_from, is_test, net_at, op_of, parts_from, place}
+use Rattle.organelles.specs.Tables.{table_of}
 use Rattle.rtl_form.specs.Cost.{op_cost}
 use Rattle.rtl_form.specs.Operands.{gives_word, takes}
 use Rattle.path_form.specs.Sizes.{active}

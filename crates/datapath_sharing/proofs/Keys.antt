@@ -6,7 +6,7 @@ use Rattle.std.proofs.lemmas.Option.{same_Some}
 use Rattle.mp_base.specs.declared.op.Op.{Op}
 use Rattle.mp_base.specs.declared.op.Op.TheVariants as ops
 use Rattle.nor_net.specs.declared.net.NetId.{NetId}
-use Rattle.organelles.specs.Tables.{net_at}
+use Rattle.nor_net.proofs.Parts.{same_net}
 use Rattle.datapath_sharing.specs.Sharing.{key_of, number_of, same_key}
 
 -- the operators in the order of their enumeration
@@ -41,17 +41,14 @@ at_number ops.Less = refl
 one_number : (op q : Op) → number_of op ≡ number_of q → op ≡ q
 one_number op q e = same_Some op q (sym (at_number op) ∙ (ap (slice_get all_ops) e ∙ at_number q))
 
-one_net : (a b : NetId) → a.0 ≡ b.0 → a ≡ b
-one_net a b e = ap net_at e
-
 pub key_means : (op q : Op) (a b c d : NetId) → same_key (key_of op a b) (key_of q c d) ≡ true
     → (op ≡ q) × (a ≡ c) × (b ≡ d)
 key_means op q a b c d e =
     let x = and_parts (number_of op == number_of q && a.0 == c.0) (b.0 == d.0) e in
     let y = and_parts (number_of op == number_of q) (a.0 == c.0) x.0 in (
       one_number op q (eqb-true (number_of op) (number_of q) y.0),
-      one_net a c (eqb-true a.0 c.0 y.1),
-      one_net b d (eqb-true b.0 d.0 x.1),
+      same_net a c (eqb-true a.0 c.0 y.1),
+      same_net b d (eqb-true b.0 d.0 x.1),
     )
 
 pub true_or_false : (b : Bool) (P : Type 0) → (b ≡ true → P) → (b ≡ false → P) → P

@@ -1,13 +1,15 @@
 -- A word that stands already, and a net that is lifted.
-use Rattle.std.proofs.Common.{◌≡◌, ℕ, suc, ◌<◌, ◌≤◌, ◌+◌, ◌⊎◌, inl, inr, List, [], ◌∷◌, ◌++◌, Some, length, map, refl, sym, ◌∙◌, ap, subst, arith}
+use Rattle.std.proofs.Common.{◌≡◌, ℕ, suc, ◌<◌, ◌≤◌, ◌+◌, ◌⊎◌, inl, inr, List, [], ◌∷◌, ◌++◌, Some, length, map, refl}
+use Rattle.std.proofs.Common.{sym, ◌∙◌, ap, subst, arith}
 use Rattle.std.specs.Prelude.{All}
 use Rattle.std.proofs.lemmas.Option.{none-some}
 use Rattle.std.proofs.lemmas.List.Elements.{All-nil, All-cons}
+use Rattle.std.proofs.lemmas.Bool.{cases_eq}
+use Rattle.std.proofs.lemmas.List.{append-nil, length-set}
 use Rattle.nor_net.specs.declared.net.NetId.{NetId}
 use Rattle.nor_net.specs.declared.net.Part.TheVariants.{Latch}
 use Rattle.organelles.specs.declared.slices.Programmed.{Programmed}
 use Rattle.control_nor.specs.Lowering.{Stands}
-use Rattle.control_nor.proofs.Left.{nat_cases}
 use Rattle.path_form.specs.declared.path.Lift.{Lift}
 use Rattle.path_form.specs.Shape.{AreApart, times}
 use Rattle.datapath_making.specs.declared.making.Making.{Making}
@@ -15,8 +17,8 @@ use Rattle.datapath_making.specs.Additions.{Addition, Adds, CastFits, ChainFits,
 use Rattle.datapath_making.specs.Steps.{IsStep, IsWaited}
 use Rattle.datapath_making.specs.WellMade.{IsWellMade}
 use Rattle.datapath_making.proofs.Added.{named_on}
-use Rattle.datapath_making.proofs.Keeping.{append_nil, grows_refl}
-use Rattle.datapath_making.proofs.Lists.{length_set, one_at, one_else, one_here, set_cases}
+use Rattle.datapath_making.proofs.Keeping.{grows_refl}
+use Rattle.datapath_making.proofs.Lists.{one_at, one_else, one_here, set_cases}
 use Rattle.datapath_making.proofs.Stepping.{step_by, well_plain}
 use Rattle.datapath_making.proofs.Lists.{one_stands}
 use Rattle.datapath_sharing.specs.Sharing.{IsLiftMade, with_word}
@@ -64,7 +66,7 @@ module _ (e : ℕ) (id : NetId) (old : Making) (well : IsWellMade old) (within :
       casts = (grows_refl old).casts;
       lifts = (grows_refl old).lifts;
       cell_count = refl;
-      word_count = length_set old.words e (Some id);
+      word_count = length-set old.words e (Some id);
       pad_count = refl;
       guard_count = refl;
     };
@@ -95,7 +97,7 @@ module _ (m : Making) (e : ℕ) (lift : Lift) (entry : IsWaited m e) (is_entry :
 
     lifts_apart_on : AreApart (map (λ (l : Lift). l.control) m.lifts)
         → AreApart (map (λ (l : Lift). l.control) (m.lifts ++ lift ∷ []))
-    lifts_apart_on apart n = by_place (nat_cases lift.control.0 n)
+    lifts_apart_on apart n = by_place (cases_eq lift.control.0 n)
       where
         total : times n (map (λ (l : Lift). l.control) (m.lifts ++ lift ∷ []))
             ≡ times n (map (λ (l : Lift). l.control) m.lifts) + one_at n lift.control
@@ -131,10 +133,10 @@ module _ (e : ℕ) (old : Making) (lift : Lift) (lifts : List Lift) (is_lifts : 
     names = refl;
     reset = refl;
     marks = refl;
-    net = sym (append_nil old.slices.net);
-    chains = sym (append_nil old.slices.chains);
-    programs = sym (append_nil old.slices.programs);
-    casts = sym (append_nil old.casts);
+    net = sym (append-nil old.slices.net);
+    chains = sym (append-nil old.slices.chains);
+    programs = sym (append-nil old.slices.programs);
+    casts = sym (append-nil old.casts);
     lifts = is_lifts;
     cell_count = refl;
     word_count = refl;

@@ -1,24 +1,11 @@
 -- What a call ensures when it is done.
-use Rattle.std.proofs.Common.{◌≡◌, ◌∙◌, ℕ, ◌<◌, Bool, true, false, List, Some, Result, Ok, Err, length, get_or, sym, ap, refl}
-use Rattle.std.specs.Prelude.{IfOk, OnOk, not, slice_get}
-use Rattle.std.proofs.lemmas.Bool.{false≢true}
+use Rattle.std.proofs.Common.{◌≡◌, ◌∙◌, ℕ, ◌<◌, List, Some, Result, Ok, Err, length, get_or, sym, ap}
+use Rattle.std.specs.Prelude.{OnOk, slice_get}
 use Rattle.std.proofs.lemmas.Option.{slice_get-get_or}
-
-pub done_one : {T E : Type 0} (P Q : Type 0) (o : Result T E) → (P → Q) → OnOk o P → OnOk o Q
-done_one P Q (Ok t) f h = f h
-done_one P Q (Err e) f h = h
 
 pub done_two : {T E : Type 0} (P Q R : Type 0) (o : Result T E) → (P → Q → R) → OnOk o P → OnOk o Q → OnOk o R
 done_two P Q R (Ok t) f h k = f h k
 done_two P Q R (Err e) f h k = h
-
-pub ok_then : {T E : Type 0} (P Q : T → Type 0) (o : Result T E) → ((t : T) → P t → Q t) → IfOk o P → IfOk o Q
-ok_then P Q (Ok t) f h = f t h
-ok_then P Q (Err e) f h = h
-
-pub not_false : (b : Bool) → not b ≡ false → b ≡ true
-not_false true e = refl
-not_false false e = absurd (false≢true (sym e))
 
 -- the element at an index of a list that was lent as a slice
 pub element_at : {X : Type 0} (xs ys : List X) (i : ℕ) (d x : X) → ys ≡ xs → i < length xs → get_or ys i d ≡ x

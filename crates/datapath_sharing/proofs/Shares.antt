@@ -1,5 +1,6 @@
 -- What a step makes of an expression that may share its nets.
-use Rattle.std.proofs.Common.{◌≡◌, ℕ, ◌<◌, ◌≤◌, ◌-◌, ◌+◌, List, [], ◌∷◌, ◌++◌, Option, Some, None, true, false, Result, Ok, Err, length, length-append, refl, sym, ◌∙◌, ap, subst, arith}
+use Rattle.std.proofs.Common.{◌≡◌, ℕ, ◌<◌, ◌≤◌, ◌-◌, ◌+◌, List, [], ◌∷◌, ◌++◌, Option, Some, None, true, false, Result}
+use Rattle.std.proofs.Common.{Ok, Err, length, length-append, refl, sym, ◌∙◌, ap, subst, arith}
 use Rattle.std.specs.Prelude.{◌≢◌, Contains, OnOk, slice_get, slice_index_or}
 use Rattle.std.proofs.lemmas.Bool.{false≢true, true≢false}
 use Rattle.std.proofs.lemmas.Option.{same_Some}
@@ -22,8 +23,10 @@ use Rattle.datapath_making.proofs.Keeping.{nothing_more}
 use Rattle.datapath_making.proofs.Lists.{get_by, set_keeps, set_stands}
 use Rattle.datapath_making.proofs.Lists.{one_stands}
 use Rattle.datapath_sharing.specs.declared.built.Built.{Built}
-use Rattle.datapath_sharing.specs.Sharing.{AreBuilt, IsLiftMade, IsNoted, IsShared, Stays, key_of, number_in, operator_in, same_key, with_word}
-use Rattle.datapath_sharing.proofs.Sharing.{all_last, keeps_same, number_built, number_keeps, operator_built, operator_keeps, placed_again}
+use Rattle.datapath_sharing.specs.Sharing.{AreBuilt, IsLiftMade, IsNoted, IsShared, Stays, key_of, number_in}
+use Rattle.datapath_sharing.specs.Sharing.{operator_in, same_key, with_word}
+use Rattle.datapath_sharing.proofs.Sharing.{all_last, keeps_same, number_built, number_keeps, operator_built}
+use Rattle.datapath_sharing.proofs.Sharing.{operator_keeps, placed_again}
 
 -- ---- steps that cost less
 
@@ -301,7 +304,8 @@ module _ (e : ℕ) (op : Op) (index : ℕ) (args : List ℕ) (b : Built) (old : 
       is_lifted = subst (λ ls. Contains ls made.lift) (sym made.lifts) (Contains-push old.lifts made.lift)
 
       lift_within : (l : Lift) → Contains new.lifts l → l.from.0 < length new.slices.net
-      lift_within l k = (All-contains (λ (k : Lift). (k.slice < new.width) × (k.from.0 < length new.slices.net)) new.lifts
+      lift_within l k =
+          (All-contains (λ (k : Lift). (k.slice < new.width) × (k.from.0 < length new.slices.net)) new.lifts
           l step.made.joined.lifts_in k).1
 
       pub answer_noted : IsShared e (Apply op index args) b c old new

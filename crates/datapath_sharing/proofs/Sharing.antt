@@ -1,16 +1,18 @@
 -- What is noted of operators and numbers while a path grows.
-use Rattle.std.proofs.Common.{◌≡◌, ℕ, ◌-◌, inl, inr, List, Option, Some, None, false, length, refl, sym, ◌∙◌, ap, subst, arith}
+use Rattle.std.proofs.Common.{◌≡◌, ℕ, ◌-◌, inl, inr, List, Option, Some, None, false, length, refl, sym, ◌∙◌, ap, subst}
+use Rattle.std.proofs.Common.{arith}
 use Rattle.std.specs.Prelude.{◌≢◌, Contains, slice_get, slice_index_or}
 use Rattle.std.proofs.lemmas.Option.{none-some, same_Some}
 use Rattle.std.proofs.lemmas.List.Elements.{Contains-append_left}
+use Rattle.std.proofs.lemmas.Bool.{cases_eq}
 use Rattle.mp_base.specs.declared.op.Op.{Op}
+use Rattle.mp_base.proofs.Entries.{get_set_other}
 use Rattle.nor_net.specs.declared.net.NetId.{NetId}
 use Rattle.organelles.specs.declared.slices.SliceNet.{SliceNet}
 use Rattle.rtl_form.specs.declared.rtl.RtlExpr.{RtlExpr}
 use Rattle.rtl_form.specs.declared.rtl.RtlExpr.TheVariants.{Number, Truth, Cell, Apply}
 use Rattle.control_nor.specs.declared.names.Names.{Names}
 use Rattle.control_nor.specs.Lowering.{Stands}
-use Rattle.control_nor.proofs.Left.{get_set_other, nat_cases}
 use Rattle.path_form.specs.declared.path.Lift.{Lift}
 use Rattle.path_values.specs.Allocated.{Placed}
 use Rattle.datapath_making.specs.declared.making.Making.{Making}
@@ -19,7 +21,8 @@ use Rattle.datapath_making.specs.Steps.{IsFree, read_cell}
 use Rattle.datapath_making.proofs.Keeping.{placed_lasts}
 use Rattle.datapath_making.proofs.Lists.{one_stands}
 use Rattle.datapath_sharing.specs.declared.built.Built.{Built}
-use Rattle.datapath_sharing.specs.Sharing.{AreBuilt, IsBuilt, IsExprNoted, IsNoted, IsProgrammed, KeepsNoted, Stays, key_of, number_in, operator_in, same_key}
+use Rattle.datapath_sharing.specs.Sharing.{AreBuilt, IsBuilt, IsExprNoted, IsNoted, IsProgrammed, KeepsNoted, Stays}
+use Rattle.datapath_sharing.specs.Sharing.{key_of, number_in, operator_in, same_key}
 use Rattle.datapath_sharing.proofs.Keys.{key_means, true_or_false}
 
 -- ---- what stands in the slices lasts
@@ -70,7 +73,8 @@ placed_again s op first last id words args h is_first is_last = record {
   is_a = subst (Stands words (slice_index_or args 0 0))
       (one_stands h.words (slice_index_or h.args 0 0) first h.placed.a h.is_first h.placed.is_a) is_first;
   is_b = subst (Stands words (slice_index_or args (length args - 1) 0))
-      (one_stands h.words (slice_index_or h.args (length h.args - 1) 0) last h.placed.b h.is_last h.placed.is_b) is_last;
+      (one_stands h.words (slice_index_or h.args (length h.args - 1) 0) last h.placed.b h.is_last h.placed.is_b)
+      is_last;
 }
 
 -- ---- notes
@@ -119,7 +123,7 @@ module _ (b c : Built) (bits : ℕ) (net : NetId) (here : number_in c bits ≡ S
   number_keeps absent = record {
     operators = λ q x y id e. operators q x y ∙ e;
     numbers = λ n id e.
-        elim (nat_cases n bits) [
+        elim (cases_eq n bits) [
           | inl same ↦ absurd (none-some id (sym absent ∙ (ap (number_in b) (sym same) ∙ e)))
           | inr ne ↦ others n ne ∙ e
         ];
@@ -129,7 +133,7 @@ module _ (b c : Built) (bits : ℕ) (net : NetId) (here : number_in c bits ≡ S
   number_built s h made = record {
     operators = λ q x y id e. h.operators q x y id (sym (operators q x y) ∙ e);
     numbers = λ n id e.
-        elim (nat_cases n bits) [
+        elim (cases_eq n bits) [
           | inl same ↦ subst (IsProgrammed s n) (same_Some net id (sym here ∙ (ap (number_in c) (sym same) ∙ e)))
               (subst (λ i. IsProgrammed s i net) (sym same) made)
           | inr ne ↦ h.numbers n id (sym (others n ne) ∙ e)

@@ -1,5 +1,6 @@
 -- What the slices have of operators and numbers, and what of it is noted.
-use Rattle.std.specs.Prelude.{◌≡◌, ◌<◌, ◌-◌, ◌==◌, ◌&&◌, ◌++◌, ◌∷◌, [], ℕ, suc, List, Option, Some, Bool, true, false, Contains, length, nat_eq, slice_index_or, slice_set}
+use Rattle.std.specs.Prelude.{◌≡◌, ◌<◌, ◌-◌, ◌==◌, ◌&&◌, ◌++◌, ◌∷◌, [], ℕ, suc, List, Option, Some, Bool, true, false}
+use Rattle.std.specs.Prelude.{Contains, length, nat_eq, slice_index_or, slice_set}
 use Rattle.std.specs.HashMap.{get}
 use Rattle.mp_base.specs.declared.op.Op.{Op}
 use Rattle.mp_base.specs.declared.op.Op.TheVariants as ops

@@ -100,7 +100,8 @@ fn add_word(
     requires built { AreBuilt built.old making.old.slices }
     ensures step { OnOk result (IsStep (op_cost op (length args.now)) 0 making.old making.new) }
     ensures operator { OnOk result (IsOperatorMade expr op args.now making.old making.new) }
-    ensures shared { OnOk result (IsShared expr (exprs.Apply op index args.now) built.old built.new making.old making.new) }
+    ensures shared { OnOk result
+        (IsShared expr (exprs.Apply op index args.now) built.old built.new making.old making.new) }
 {
     let first = net_of(making.words.as_slice(), args[0]);
     let last = net_of(making.words.as_slice(), args[args.len() - 1]);
@@ -134,7 +135,8 @@ fn add_answer(
     requires built { AreBuilt built.old making.old.slices }
     ensures step { OnOk result (IsStep (op_cost op (length args.now)) 1 making.old making.new) }
     ensures test { OnOk result (IsTestMade expr op args.now making.old making.new) }
-    ensures shared { OnOk result (IsShared expr (exprs.Apply op index args.now) built.old built.new making.old making.new) }
+    ensures shared { OnOk result
+        (IsShared expr (exprs.Apply op index args.now) built.old built.new making.old making.new) }
 {
     let first = net_of(making.words.as_slice(), args[0]);
     let last = net_of(making.words.as_slice(), args[args.len() - 1]);
@@ -163,7 +165,8 @@ fn add_lifted(
     requires words { takes_words op ≡ true }
     requires built { AreBuilt built.old making.old.slices }
     ensures lifted { OnOk result (IsLifted expr op index args.now making.old making.new) }
-    ensures shared { OnOk result (IsShared expr (exprs.Apply op index args.now) built.old built.new making.old making.new) }
+    ensures shared { OnOk result
+        (IsShared expr (exprs.Apply op index args.now) built.old built.new making.old making.new) }
 {
     match op {
         Op::Bit => add_bit(making, expr, index, args[0]),
@@ -188,7 +191,8 @@ pub fn add_operator(
     requires asked { IsAsked making.old expr op index args.now }
     requires built { AreBuilt built.old making.old.slices }
     ensures answered { OnOk result (IsAnswered expr op index args.now making.old making.new) }
-    ensures shared { OnOk result (IsShared expr (exprs.Apply op index args.now) built.old built.new making.old making.new) }
+    ensures shared { OnOk result
+        (IsShared expr (exprs.Apply op index args.now) built.old built.new making.old making.new) }
 {
     if is_word(op) {
         add_word(alloc, making, built, expr, op, index, args)

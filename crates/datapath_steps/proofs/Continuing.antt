@@ -1,10 +1,15 @@
 -- Nets and casts that are added piece by piece.
-use Rattle.std.proofs.Common.{◌≡◌, ℕ, zero, suc, ◌<◌, ◌≤◌, ◌+◌, ◌*◌, ◌⊎◌, inl, inr, List, [], ◌∷◌, ◌++◌, Option, Some, Bool, true, false, cond, get_or, length, take, length-take, map, refl, sym, ◌∙◌, ap, subst, arith, append_assoc}
+use Rattle.std.proofs.Common.{◌≡◌, ℕ, zero, suc, ◌<◌, ◌≤◌, ◌+◌, ◌*◌, ◌⊎◌, inl, inr, List, [], ◌∷◌, ◌++◌, Option, Some}
+use Rattle.std.proofs.Common.{Bool, true, false, cond, get_or, length, take, length-take, map, refl, sym, ◌∙◌, ap}
+use Rattle.std.proofs.Common.{subst, arith, append_assoc}
 use Rattle.std.specs.Prelude.{All, Contains, slice_get, slice_set}
 use Rattle.std.specs.List.{sum_by}
-use Rattle.std.proofs.lemmas.Bool.{true≢false}
+use Rattle.std.proofs.lemmas.Bool.{true≢false, cases_eq}
 use Rattle.std.proofs.lemmas.Option.{none-some, same_Some, slice_get-get_or, slice_get_within}
 use Rattle.std.proofs.lemmas.List.Elements.{All-append, All-cons, All-nil, All-weaker, Contains-push}
+use Rattle.mp_base.proofs.Entries.{get_set_same, get_set_other}
+use Rattle.mp_base.proofs.Zips.{zip_all_right}
+use Rattle.std.proofs.lemmas.List.{append-nil, length-set}
 use Rattle.nor_net.specs.declared.net.NetId.{NetId}
 use Rattle.nor_net.specs.declared.net.Part.{Part}
 use Rattle.nor_net.specs.declared.net.Part.TheVariants.{Input, Gate, Latch}
@@ -14,8 +19,7 @@ use Rattle.organelles.specs.declared.slices.Programmed.{Programmed}
 use Rattle.rtl_form.specs.declared.rtl.Transfer.{Transfer}
 use Rattle.control_nor.specs.declared.names.Names.{Names}
 use Rattle.control_nor.specs.Lowering.{Stands}
-use Rattle.control_nor.proofs.Left.{get_set_other, get_set_same, nat_cases}
-use Rattle.control_nor.proofs.Zipping.{zip_more, zip_right}
+use Rattle.control_nor.proofs.Zipping.{zip_more}
 use Rattle.path_form.specs.declared.path.Cast.{Cast}
 use Rattle.path_form.specs.Shape.{chain_to, is_fed, is_input, slice_ends, times}
 use Rattle.path_form.specs.Sizes.{active}
@@ -32,10 +36,12 @@ use Rattle.datapath_making.specs.Growing.{Appends}
 use Rattle.datapath_making.specs.Marking.{last_from, last_mark}
 use Rattle.datapath_making.specs.Steps.{IsBitReached, IsTransferReached}
 use Rattle.datapath_making.specs.WellMade.{AreCast, IsGuardMade, IsWellMade, present}
-use Rattle.datapath_making.proofs.Added.{appends_by, bounded_by, bounded_none, bounded_on, bounded_within, grows_by, named_on}
+use Rattle.datapath_making.proofs.Added.{appends_by, bounded_by, bounded_none, bounded_on, bounded_within, grows_by}
+use Rattle.datapath_making.proofs.Added.{named_on}
 use Rattle.datapath_making.proofs.Entering.{ends_count, length_added}
-use Rattle.datapath_making.proofs.Keeping.{append_nil, gate_lasts, grows_on, grows_refl, guard_lasts, nothing_more, nothing_on, terms_last, guards_last}
-use Rattle.datapath_making.proofs.Lists.{get_by, length_set, one_here}
+use Rattle.datapath_making.proofs.Keeping.{gate_lasts, grows_on, grows_refl, guard_lasts, nothing_more, nothing_on}
+use Rattle.datapath_making.proofs.Keeping.{terms_last, guards_last}
+use Rattle.datapath_making.proofs.Lists.{get_by, one_here}
 use Rattle.datapath_making.proofs.Stepping.{fits_parts, net_is, NoneLatched, parts_only, same_lifts_apart, well_plain}
 
 appends_on : (old middle new : List Part) → Appends old middle → Appends middle new → Appends old new
@@ -50,7 +56,7 @@ cont_none m well = record {
   made = well;
   grows = grows_refl m;
   bounded = bounded_none m;
-  appends = ([], sym (append_nil m.slices.net), All-nil (λ q. is_fed q ≡ true));
+  appends = ([], sym (append-nil m.slices.net), All-nil (λ q. is_fed q ≡ true));
   marks = refl;
   cells = refl;
   words = refl;
@@ -117,10 +123,10 @@ module _ (inputs : List NetId) (old : Making) (net : List Part) (id : NetId)
     reset = refl;
     marks = refl;
     net = h.parts;
-    chains = sym (append_nil old.slices.chains);
-    programs = sym (append_nil old.slices.programs);
-    casts = sym (append_nil old.casts);
-    lifts = sym (append_nil old.lifts);
+    chains = sym (append-nil old.slices.chains);
+    programs = sym (append-nil old.slices.programs);
+    casts = sym (append-nil old.casts);
+    lifts = sym (append-nil old.lifts);
     cell_count = refl;
     word_count = refl;
     pad_count = refl;
@@ -186,10 +192,10 @@ module _ (control : NetId) (old : Making) (net : List Part) (id : NetId)
     reset = refl;
     marks = refl;
     net = h.parts;
-    chains = sym (append_nil old.slices.chains);
-    programs = sym (append_nil old.slices.programs);
+    chains = sym (append-nil old.slices.chains);
+    programs = sym (append-nil old.slices.programs);
     casts = is_casts;
-    lifts = sym (append_nil old.lifts);
+    lifts = sym (append-nil old.lifts);
     cell_count = refl;
     word_count = refl;
     pad_count = refl;
@@ -290,7 +296,7 @@ module _ (m : Making) (guards : List (Option Guard)) (clear : Option NetId) (cou
       columns = omega arith;
       crossings = omega arith;
     };
-    appends = ([], sym (append_nil m.slices.net), All-nil (λ q. is_fed q ≡ true));
+    appends = ([], sym (append-nil m.slices.net), All-nil (λ q. is_fed q ≡ true));
     marks = refl;
     cells = refl;
     words = refl;
@@ -302,7 +308,7 @@ module _ (m : Making) (e : ℕ) (g : Guard) (guards : List (Option Guard))
     (is_guards : guards ≡ slice_set m.guards e (Some g)) (well : IsWellMade m)
     (is_guard : IsGuardMade m.slices.net m.casts m.names e g) where
   guards_count : length guards ≡ length m.guards
-  guards_count = ap length is_guards ∙ length_set m.guards e (Some g)
+  guards_count = ap length is_guards ∙ length-set m.guards e (Some g)
 
   stands_now : (d : ℕ) (other : Guard) → (d ≡ e) ⊎ (d ≡ e → ⊥) → slice_get guards d ≡ Some (Some other)
       → IsGuardMade m.slices.net m.casts m.names d other
@@ -321,7 +327,7 @@ module _ (m : Making) (e : ℕ) (g : Guard) (guards : List (Option Guard))
   guard_told =
       told_on m guards m.clear guards_count well (record {
         count = guards_count ∙ well.cast.count;
-        guards = λ d other s. stands_now d other (nat_cases d e) s;
+        guards = λ d other s. stands_now d other (cases_eq d e) s;
         clear = well.cast.clear;
       })
 
@@ -501,7 +507,8 @@ module _ (ts : List Transfer) (i : ℕ) (d : Transfer) (old middle new : Making)
 pub terms_in : (ts : List Transfer) (old new : Making) (made : Terms) → AreTerms ts old new made
     → All (λ (id : NetId). id.0 < length new.slices.net) made.nets
 terms_in ts old new made h =
-    zip_right (IsTerm new.slices new.casts old.names old.words) (λ (id : NetId). id.0 < length new.slices.net) ts
-    made.nets
+    zip_all_right (IsTerm new.slices new.casts old.names old.words) (λ (id : NetId). id.0 < length new.slices.net)
     (λ t id is. slice_get_within new.slices.net id.0 (Gate (is.off_value ∷ is.off_guard ∷ [])) is.is_term)
+    ts
+    made.nets
     h.are_terms

@@ -1,11 +1,14 @@
 -- Latches that are added or get their data.
-use Rattle.std.proofs.Common.{◌≡◌, ℕ, zero, suc, ◌<◌, ◌≤◌, ◌+◌, ◌⊎◌, inl, inr, List, [], ◌∷◌, Some, None, true, cond, get_or, length, refl, sym, ◌∙◌, ap, subst, arith}
+use Rattle.std.proofs.Common.{◌≡◌, ℕ, zero, suc, ◌<◌, ◌≤◌, ◌+◌, ◌⊎◌, inl, inr, List, [], ◌∷◌, Some, None, true, cond}
+use Rattle.std.proofs.Common.{get_or, length, refl, sym, ◌∙◌, ap, subst, arith}
 use Rattle.std.specs.Prelude.{All, slice_get, slice_set}
 use Rattle.std.specs.List.{sum_by}
-use Rattle.std.proofs.lemmas.Bool.{false≢true}
+use Rattle.std.proofs.lemmas.Bool.{false≢true, cases_eq}
 use Rattle.std.proofs.lemmas.Option.{get_or_from_slice_get, none-some, same_Some, slice_get_within}
 use Rattle.std.proofs.lemmas.List.Elements.{All-cons, All-nil}
 use Rattle.std.proofs.lemmas.List.Sums.{sum_by-set}
+use Rattle.mp_base.proofs.Entries.{get_set_same, get_set_other, get_front}
+use Rattle.std.proofs.lemmas.List.{append-nil, length-set}
 use Rattle.nor_net.specs.declared.net.NetId.{NetId}
 use Rattle.nor_net.specs.declared.net.Phase.{Phase}
 use Rattle.nor_net.specs.declared.net.Phase.TheVariants.{A, B}
@@ -16,7 +19,6 @@ use Rattle.nor_net.specs.Shape.{fan_in, gate_inputs}
 use Rattle.organelles.specs.declared.slices.Chain.{Chain}
 use Rattle.organelles.specs.declared.slices.Programmed.{Programmed}
 use Rattle.organelles.specs.Computing.{ChainIn}
-use Rattle.control_nor.proofs.Left.{get_set_other, get_set_same, nat_cases}
 use Rattle.path_form.specs.declared.path.Lift.{Lift}
 use Rattle.path_form.specs.Shape.{chain_to, is_fed, is_input}
 use Rattle.path_form.specs.Sizes.{active}
@@ -27,8 +29,8 @@ use Rattle.datapath_steps.specs.Continuing.{IsLatchMade, IsSlaveFed}
 use Rattle.datapath_making.specs.WellMade.{AreJoined, IsGuardMade, IsLatched, IsWellMade, present}
 use Rattle.datapath_making.proofs.Added.{appends_by, bounded_by, bounded_within, grows_by, named_on}
 use Rattle.datapath_making.proofs.Entering.{length_added}
-use Rattle.datapath_making.proofs.Keeping.{append_nil, nothing_more, nothing_on}
-use Rattle.datapath_making.proofs.Lists.{get_by, get_front, length_set}
+use Rattle.datapath_making.proofs.Keeping.{nothing_more, nothing_on}
+use Rattle.datapath_making.proofs.Lists.{get_by}
 use Rattle.datapath_making.proofs.Stepping.{fits_parts, parts_only, well_latched}
 
 -- ---- a latch on a gate is added
@@ -50,10 +52,10 @@ module _ (source : NetId) (inputs : List NetId) (old : Making) (net : List Part)
     reset = refl;
     marks = refl;
     net = h.parts;
-    chains = sym (append_nil old.slices.chains);
-    programs = sym (append_nil old.slices.programs);
-    casts = sym (append_nil old.casts);
-    lifts = sym (append_nil old.lifts);
+    chains = sym (append-nil old.slices.chains);
+    programs = sym (append-nil old.slices.programs);
+    casts = sym (append-nil old.casts);
+    lifts = sym (append-nil old.lifts);
     cell_count = refl;
     word_count = refl;
     pad_count = refl;
@@ -112,7 +114,7 @@ module _ (latch source : NetId) (inputs : List NetId) (old : Making) (net : List
   fed_after = record old { slices = record old.slices { net = net } }
 
   count : length net ≡ length old.slices.net
-  count = ap length is_net ∙ length_set old.slices.net latch.0 (Latch B (Some source))
+  count = ap length is_net ∙ length-set old.slices.net latch.0 (Latch B (Some source))
 
   pub fed_other : (n : ℕ) → (n ≡ latch.0 → ⊥) → slice_get net n ≡ slice_get old.slices.net n
   fed_other n ne = ap (λ ps. slice_get ps n) is_net
@@ -124,7 +126,7 @@ module _ (latch source : NetId) (inputs : List NetId) (old : Making) (net : List
       (slice_get_within old.slices.net latch.0 (Latch B None) waits)
 
   same_input : (n : ℕ) → is_input (slice_get net n) ≡ is_input (slice_get old.slices.net n)
-  same_input n = by_place (nat_cases n latch.0)
+  same_input n = by_place (cases_eq n latch.0)
     where
       by_place : (n ≡ latch.0) ⊎ (n ≡ latch.0 → ⊥)
           → is_input (slice_get net n) ≡ is_input (slice_get old.slices.net n)
@@ -135,7 +137,7 @@ module _ (latch source : NetId) (inputs : List NetId) (old : Making) (net : List
 
   -- what is no latch without data stays
   stays : (n : ℕ) (q : Part) → slice_get old.slices.net n ≡ Some q → is_fed q ≡ true → slice_get net n ≡ Some q
-  stays n q e f = by_place (nat_cases n latch.0)
+  stays n q e f = by_place (cases_eq n latch.0)
     where
       by_place : (n ≡ latch.0) ⊎ (n ≡ latch.0 → ⊥) → slice_get net n ≡ Some q
       by_place (inl x) =
@@ -163,7 +165,7 @@ module _ (latch source : NetId) (inputs : List NetId) (old : Making) (net : List
       }
     where
       was_input : (m : ℕ) → slice_get net m ≡ Some Input → slice_get old.slices.net m ≡ Some Input
-      was_input m q = by_place (nat_cases m latch.0)
+      was_input m q = by_place (cases_eq m latch.0)
         where
           by_place : (m ≡ latch.0) ⊎ (m ≡ latch.0 → ⊥) → slice_get old.slices.net m ≡ Some Input
           by_place (inl x) =
@@ -189,7 +191,7 @@ module _ (latch source : NetId) (inputs : List NetId) (old : Making) (net : List
   fed_well = record {
     entered = record {
       once = λ n. well.entered.once n ∙ ap (λ b. cond b 1 0) (sym (same_input n));
-      latches = λ n phase other e. fed_latched n phase other e (nat_cases n latch.0);
+      latches = λ n phase other e. fed_latched n phase other e (cases_eq n latch.0);
     };
     joined = fed_joined;
     named = record {

@@ -1,8 +1,10 @@
 -- Words that latches have.
-use Rattle.std.proofs.Common.{◌≡◌, ℕ, zero, suc, ◌<◌, ◌≤◌, ◌+◌, ◌⊎◌, inl, inr, List, [], ◌∷◌, ◌++◌, Option, Some, None, true, length, refl, sym, ◌∙◌, ap, subst, arith}
+use Rattle.std.proofs.Common.{◌≡◌, ℕ, zero, suc, ◌<◌, ◌≤◌, ◌+◌, ◌⊎◌, inl, inr, List, [], ◌∷◌, ◌++◌, Option, Some, None}
+use Rattle.std.proofs.Common.{true, length, refl, sym, ◌∙◌, ap, subst, arith}
 use Rattle.std.specs.Prelude.{slice_get, slice_set}
 use Rattle.std.proofs.lemmas.Option.{none-some}
 use Rattle.std.proofs.lemmas.List.Elements.{All-nil, All-cons}
+use Rattle.std.proofs.lemmas.List.{append-nil, length-set}
 use Rattle.nor_net.specs.declared.net.NetId.{NetId}
 use Rattle.nor_net.specs.declared.net.Phase.{Phase}
 use Rattle.nor_net.specs.declared.net.Phase.TheVariants.{B, C}
@@ -17,9 +19,9 @@ use Rattle.datapath_making.specs.Steps.{IsFree, IsPortAdded, IsPortMade, IsSlave
 use Rattle.datapath_making.specs.WellMade.{AreNamed, IsLatched, IsWellMade, present}
 use Rattle.datapath_making.proofs.Added.{cast_on, cell_named}
 use Rattle.datapath_making.proofs.Entering.{length_added}
-use Rattle.datapath_making.proofs.Keeping.{append_nil}
-use Rattle.datapath_making.proofs.Lists.{get_by, get_cases, length_set, one_here, times_set}
-use Rattle.datapath_making.proofs.Stepping.{entered_by, fits_parts, net_is, NoneLatched, parts_only, same_lifts_apart, step_by, well_by, well_plain}
+use Rattle.datapath_making.proofs.Lists.{get_by, get_cases, one_here, times_set}
+use Rattle.datapath_making.proofs.Stepping.{entered_by, fits_parts, net_is, NoneLatched, parts_only, same_lifts_apart}
+use Rattle.datapath_making.proofs.Stepping.{step_by, well_by, well_plain}
 
 -- the element at a place behind what stood, of two
 two_first : (old new : List Part) (p q : Part) (n : ℕ) → new ≡ old ++ p ∷ q ∷ [] → n ≡ length old
@@ -56,13 +58,13 @@ module _ (c k : ℕ) (old : Making) (net : List Part) (pad latch : NetId) (h : I
     reset = refl;
     marks = refl;
     net = h.parts;
-    chains = sym (append_nil old.slices.chains);
-    programs = sym (append_nil old.slices.programs);
-    casts = sym (append_nil old.casts);
-    lifts = sym (append_nil old.lifts);
-    cell_count = ap length is_cells ∙ length_set old.cell_words c (Some latch);
+    chains = sym (append-nil old.slices.chains);
+    programs = sym (append-nil old.slices.programs);
+    casts = sym (append-nil old.casts);
+    lifts = sym (append-nil old.lifts);
+    cell_count = ap length is_cells ∙ length-set old.cell_words c (Some latch);
     word_count = refl;
-    pad_count = ap length is_pads ∙ length_set old.pads k (Some pad);
+    pad_count = ap length is_pads ∙ length-set old.pads k (Some pad);
     guard_count = refl;
   }
 
@@ -152,11 +154,11 @@ module _ (c : ℕ) (old : Making) (net : List Part) (word : NetId) (h : IsSlaveA
     reset = refl;
     marks = refl;
     net = h.parts;
-    chains = sym (append_nil old.slices.chains);
-    programs = sym (append_nil old.slices.programs);
-    casts = sym (append_nil old.casts);
-    lifts = sym (append_nil old.lifts);
-    cell_count = ap length is_cells ∙ length_set old.cell_words c (Some word);
+    chains = sym (append-nil old.slices.chains);
+    programs = sym (append-nil old.slices.programs);
+    casts = sym (append-nil old.casts);
+    lifts = sym (append-nil old.lifts);
+    cell_count = ap length is_cells ∙ length-set old.cell_words c (Some word);
     word_count = refl;
     pad_count = refl;
     guard_count = refl;

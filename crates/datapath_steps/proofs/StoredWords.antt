@@ -1,8 +1,11 @@
 -- Stored words and their next values.
-use Rattle.std.proofs.Common.{◌≡◌, ℕ, ◌<◌, ◌+◌, ◌-◌, ◌*◌, ◌⊎◌, inl, inr, List, [], ◌∷◌, ◌++◌, Option, Some, None, length, length-append, refl, sym, ◌∙◌, ap, subst, arith}
+use Rattle.std.proofs.Common.{◌≡◌, ℕ, ◌<◌, ◌+◌, ◌-◌, ◌*◌, ◌⊎◌, inl, inr, List, [], ◌∷◌, ◌++◌, Option, Some, None}
+use Rattle.std.proofs.Common.{length, length-append, refl, sym, ◌∙◌, ap, subst, arith}
 use Rattle.std.specs.Prelude.{◌≢◌, IsSome, slice_get}
-use Rattle.std.proofs.lemmas.Bool.{false≢true}
+use Rattle.std.proofs.lemmas.Bool.{false≢true, cases_eq}
 use Rattle.std.proofs.lemmas.Option.{get_or_from_slice_get, same_Some, slice_get_within}
+use Rattle.mp_base.proofs.Entries.{get_kept, get_set_same, get_set_other}
+use Rattle.std.proofs.lemmas.Slice.Zip.{AllZip-long}
 use Rattle.nor_net.specs.declared.net.NetId.{NetId}
 use Rattle.nor_net.specs.declared.net.Phase.{Phase}
 use Rattle.nor_net.specs.declared.net.Phase.TheVariants.{A, B}
@@ -12,15 +15,13 @@ use Rattle.organelles.specs.Tables.{net_at}
 use Rattle.rtl_form.specs.declared.rtl.Transfer.{Transfer}
 use Rattle.rtl_form.specs.declared.rtl.Rtl.{Rtl}
 use Rattle.control_nor.specs.Lowering.{Stands}
-use Rattle.control_nor.proofs.Adding.{get_kept}
-use Rattle.control_nor.proofs.Left.{get_set_other, get_set_same, nat_cases}
-use Rattle.control_nor.proofs.Zipping.{zip_length}
 use Rattle.path_form.specs.Shape.{is_fed}
 use Rattle.path_values.specs.Allocated.{IsGate, IsGuard, IsTerm, StoredWord, transfers_to}
 use Rattle.datapath_making.specs.declared.making.Making.{Making}
 use Rattle.datapath_steps.specs.declared.transfers.Terms.{Terms}
 use Rattle.datapath_making.specs.Additions.{IsBounded}
-use Rattle.datapath_steps.specs.Continuing.{AreTerms, Continues, IsCastMade, IsClearFound, IsGateMade, IsMasterMade, IsSourceMade}
+use Rattle.datapath_steps.specs.Continuing.{AreTerms, Continues, IsCastMade, IsClearFound, IsGateMade, IsMasterMade}
+use Rattle.datapath_steps.specs.Continuing.{IsSourceMade}
 use Rattle.datapath_making.specs.Growing.{Appends, Grows, IsUnfed}
 use Rattle.datapath_making.specs.Sizes.{cast_cost}
 use Rattle.datapath_making.specs.Steps.{IsNextMade, IsStep, IsWaiting}
@@ -196,11 +197,11 @@ module _ (r : Rtl) (c reset : ℕ) (old first second third new : Making) (terms 
 
   nets_count : length terms.nets ≡ k
   nets_count =
-      zip_length (IsTerm first.slices first.casts old.names old.words) ts terms.nets are_terms.are_terms
+      AllZip-long (IsTerm first.slices first.casts old.names old.words) ts terms.nets are_terms.are_terms
 
   guards_count : length terms.guards ≡ k
   guards_count =
-      zip_length (λ (t : Transfer) g. IsGuard first.casts old.names t.guard g) ts terms.guards are_terms.are_guards
+      AllZip-long (λ (t : Transfer) g. IsGuard first.casts old.names t.guard g) ts terms.guards are_terms.are_guards
 
   bounded : IsBounded (4 * k + (reset_cost + (3 + 2)) + 0) (4 * k + (0 + (i + 1)) + 0) (4 * k + (reset_cost + (3 + 2))
       + 0)
@@ -320,5 +321,5 @@ module _ (r : Rtl) (c reset : ℕ) (old first second third new : Making) (terms 
     clear = subst IsSome (sym clear_is) refl;
     others = λ n q ne e. fed_other n ne ∙ (ap (λ ps. slice_get ps n) whole.appends.1
         ∙ get_kept old.slices.net whole.appends.0 n q e);
-    unfed = λ n u. unfed_in n u (nat_cases n slave.0);
+    unfed = λ n u. unfed_in n u (cases_eq n slave.0);
   }

@@ -1,11 +1,13 @@
 -- Words and bits of expressions.
-use Rattle.std.proofs.Common.{◌≡◌, ℕ, zero, suc, ◌<◌, ◌≤◌, ◌+◌, ◌-◌, ◌⊎◌, inl, inr, List, [], ◌∷◌, ◌++◌, Option, Some, None, Bool, true, get_or, length, map, refl, sym, ◌∙◌, ap, subst, arith}
+use Rattle.std.proofs.Common.{◌≡◌, ℕ, zero, suc, ◌<◌, ◌≤◌, ◌+◌, ◌-◌, ◌⊎◌, inl, inr, List, [], ◌∷◌, ◌++◌, Option, Some}
+use Rattle.std.proofs.Common.{None, Bool, true, get_or, length, map, refl, sym, ◌∙◌, ap, subst, arith}
 use Rattle.std.specs.Prelude.{All, Contains, slice_get, slice_set, slice_index_or, if◌then◌else◌}
-use Rattle.std.proofs.lemmas.Bool.{cases_lt}
-use Rattle.std.proofs.lemmas.List.{get_or_past}
+use Rattle.std.proofs.lemmas.Bool.{cases_lt, cases_eq}
+use Rattle.std.proofs.lemmas.List.{get_or_past, append-nil, length-set}
 use Rattle.std.proofs.lemmas.Option.{none-some, same_Some, slice_get-get_or, slice_get_within}
 use Rattle.std.proofs.lemmas.List.Elements.{All-nil, All-cons, Contains-push}
 use Rattle.mp_base.specs.declared.op.Op.{Op}
+use Rattle.mp_base.proofs.Entries.{get_set_same, get_set_other}
 use Rattle.nor_net.specs.declared.net.NetId.{NetId}
 use Rattle.nor_net.specs.declared.net.Part.{Part}
 use Rattle.nor_net.specs.declared.net.Part.TheVariants.{Input, Latch}
@@ -16,20 +18,21 @@ use Rattle.organelles.specs.Computing.{with_table}
 use Rattle.organelles.specs.Tables.{is_test, table_of}
 use Rattle.rtl_form.specs.Cost.{op_cost}
 use Rattle.control_nor.specs.Lowering.{Stands}
-use Rattle.control_nor.proofs.Left.{get_set_other, get_set_same, nat_cases}
 use Rattle.path_form.specs.declared.path.Lift.{Lift}
 use Rattle.path_form.specs.Shape.{AreApart, is_fed, times}
 use Rattle.path_values.specs.Allocated.{Placed}
 use Rattle.datapath_making.specs.declared.making.Making.{Making}
 use Rattle.datapath_making.specs.Additions.{Addition, Adds, CastFits, ChainFits, Fits, LiftFits}
-use Rattle.datapath_making.specs.Steps.{IsBitMade, IsNumberMade, IsOperatorAdded, IsOperatorMade, IsStep, IsTestMade, IsWaited, read_cell}
+use Rattle.datapath_making.specs.Steps.{IsBitMade, IsNumberMade, IsOperatorAdded, IsOperatorMade, IsStep, IsTestMade}
+use Rattle.datapath_making.specs.Steps.{IsWaited, read_cell}
 use Rattle.datapath_making.specs.WellMade.{AreNamed, IsWellMade}
 use Rattle.datapath_making.proofs.Added.{appends_by, named_on, word_named}
 use Rattle.datapath_making.proofs.Entering.{length_added}
-use Rattle.datapath_making.proofs.Keeping.{append_nil, extends_refl}
-use Rattle.datapath_making.proofs.Lists.{length_set, one_at, one_else, one_here, one_stands}
+use Rattle.datapath_making.proofs.Keeping.{extends_refl}
+use Rattle.datapath_making.proofs.Lists.{one_at, one_else, one_here, one_stands}
 use Rattle.datapath_making.proofs.Stepping.{net_is, NoneLatched, same_lifts_apart, step_by, well_plain}
-use Rattle.datapath_making.proofs.Tables.{chains_fit, chains_of, ends_entered, is_paid, none_latched, parts_are_fed, parts_of, result_of, result_within}
+use Rattle.datapath_making.proofs.Tables.{chains_fit, chains_of, ends_entered, is_paid, none_latched, parts_are_fed}
+use Rattle.datapath_making.proofs.Tables.{parts_of, result_of, result_within}
 
 no_inputs_latched : NoneLatched (Input ∷ [])
 no_inputs_latched zero phase source e = cc
@@ -61,12 +64,12 @@ module _ (e n : ℕ) (old : Making) (net : List Part) (id : NetId) (h : net_shap
     reset = refl;
     marks = refl;
     net = h.parts;
-    chains = sym (append_nil old.slices.chains);
+    chains = sym (append-nil old.slices.chains);
     programs = is_programs;
-    casts = sym (append_nil old.casts);
-    lifts = sym (append_nil old.lifts);
+    casts = sym (append-nil old.casts);
+    lifts = sym (append-nil old.lifts);
     cell_count = refl;
-    word_count = ap length is_words ∙ length_set old.words e (Some id);
+    word_count = ap length is_words ∙ length-set old.words e (Some id);
     pad_count = refl;
     guard_count = refl;
   }
@@ -113,7 +116,7 @@ read_well e c old well = record {
   entered = well.entered;
   joined = well.joined;
   named = record {
-    words_in = λ d id s. by_case d id (nat_cases d e) s;
+    words_in = λ d id s. by_case d id (cases_eq d e) s;
     cells_in = well.named.cells_in;
     cells_made = well.named.cells_made;
     cells_apart = well.named.cells_apart;
@@ -145,7 +148,7 @@ read_well e c old well = record {
         → id.0 < length old.slices.net
     by_case d id (inl q) s =
         let l = slice_get_within (slice_set old.words e entry) d (Some id) s in
-        let n = length_set old.words e entry in
+        let n = length-set old.words e entry in
         let same = get_set_same old.words e entry (omega (arith, l, n, q)) in
         well.named.cells_in c id (stands id (same_Some entry (Some id)
         (sym same ∙ (ap (slice_get (slice_set old.words e entry)) (sym q) ∙ s))))
@@ -169,7 +172,7 @@ module _ (m : Making) (e : ℕ) (lift : Lift) (entry : IsWaited m e) (is_entry :
 
     lifts_apart_on : AreApart (map (λ (l : Lift). l.control) m.lifts)
         → AreApart (map (λ (l : Lift). l.control) (m.lifts ++ lift ∷ []))
-    lifts_apart_on apart n = by_place (nat_cases lift.control.0 n)
+    lifts_apart_on apart n = by_place (cases_eq lift.control.0 n)
       where
         total : times n (map (λ (l : Lift). l.control) (m.lifts ++ lift ∷ []))
             ≡ times n (map (λ (l : Lift). l.control) m.lifts) + one_at n lift.control
@@ -268,11 +271,11 @@ module _ (op : Op) (args : List ℕ) (old middle : Making) (id : NetId) (h : IsO
       marks = refl;
       net = refl;
       chains = refl;
-      programs = sym (append_nil old.slices.programs);
-      casts = sym (append_nil old.casts);
-      lifts = sym (append_nil old.lifts);
+      programs = sym (append-nil old.slices.programs);
+      casts = sym (append-nil old.casts);
+      lifts = sym (append-nil old.lifts);
       cell_count = refl;
-      word_count = ap length is_words ∙ length_set old.words e (Some id);
+      word_count = ap length is_words ∙ length-set old.words e (Some id);
       pad_count = refl;
       guard_count = refl;
     }
@@ -324,8 +327,8 @@ module _ (op : Op) (args : List ℕ) (old middle : Making) (id : NetId) (h : IsO
       marks = refl;
       net = refl;
       chains = refl;
-      programs = sym (append_nil old.slices.programs);
-      casts = sym (append_nil old.casts);
+      programs = sym (append-nil old.slices.programs);
+      casts = sym (append-nil old.casts);
       lifts = is_lifts;
       cell_count = refl;
       word_count = refl;
@@ -385,10 +388,10 @@ module _ (e index arg : ℕ) (old : Making) (lift : Lift) (lifts : List Lift)
     names = refl;
     reset = refl;
     marks = refl;
-    net = sym (append_nil old.slices.net);
-    chains = sym (append_nil old.slices.chains);
-    programs = sym (append_nil old.slices.programs);
-    casts = sym (append_nil old.casts);
+    net = sym (append-nil old.slices.net);
+    chains = sym (append-nil old.slices.chains);
+    programs = sym (append-nil old.slices.programs);
+    casts = sym (append-nil old.casts);
     lifts = is_lifts;
     cell_count = refl;
     word_count = refl;

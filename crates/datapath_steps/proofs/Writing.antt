@@ -1,13 +1,15 @@
 -- Words that transfers drive.
-use Rattle.std.proofs.Common.{◌≡◌, ℕ, ◌<◌, ◌≤◌, ◌+◌, ◌*◌, List, [], ◌∷◌, Option, Some, false, length, refl, sym, ◌∙◌, ap, subst, arith}
+use Rattle.std.proofs.Common.{◌≡◌, ℕ, ◌<◌, ◌≤◌, ◌+◌, ◌*◌, List, [], ◌∷◌, Option, Some, false, length, refl, sym, ◌∙◌}
+use Rattle.std.proofs.Common.{ap, subst, arith}
 use Rattle.std.specs.Prelude.{slice_get, slice_set}
+use Rattle.std.proofs.lemmas.Slice.Zip.{AllZip-long}
+use Rattle.std.proofs.lemmas.List.{length-set}
 use Rattle.nor_net.specs.declared.net.NetId.{NetId}
 use Rattle.organelles.specs.declared.slices.Chain.{Chain}
 use Rattle.organelles.specs.declared.slices.Programmed.{Programmed}
 use Rattle.rtl_form.specs.declared.rtl.Transfer.{Transfer}
 use Rattle.rtl_form.specs.declared.rtl.Rtl.{Rtl}
 use Rattle.control_nor.specs.Lowering.{Stands}
-use Rattle.control_nor.proofs.Zipping.{zip_length}
 use Rattle.path_form.specs.Shape.{chain_to, is_input}
 use Rattle.path_values.specs.Allocated.{IsTerm, transfers_to}
 use Rattle.datapath_making.specs.declared.making.Making.{Making}
@@ -20,7 +22,6 @@ use Rattle.datapath_making.specs.WellMade.{AreNamed, IsWellMade}
 use Rattle.datapath_making.proofs.Added.{cell_set, spends_by}
 use Rattle.datapath_steps.proofs.Continuing.{cont_on}
 use Rattle.datapath_making.proofs.Keeping.{gate_lasts, grows_on, nothing_more, nothing_on, terms_last}
-use Rattle.datapath_making.proofs.Lists.{length_set}
 
 -- a net stands for a cell
 module _ (m : Making) (c : ℕ) (id : NetId) (cells : List (Option NetId))
@@ -59,7 +60,7 @@ module _ (m : Making) (c : ℕ) (id : NetId) (cells : List (Option NetId))
     programs = nothing_more (λ (p : Programmed). length m.slices.net ≤ p.net.0) m.slices.programs;
     casts = nothing_on m.casts;
     lifts = nothing_on m.lifts;
-    cell_count = ap length is_cells ∙ length_set m.cell_words c (Some id);
+    cell_count = ap length is_cells ∙ length-set m.cell_words c (Some id);
     word_count = refl;
     pad_count = refl;
     guard_count = refl;
@@ -80,7 +81,7 @@ module _ (r : Rtl) (c : ℕ) (old first second third : Making) (terms : Terms) (
 
   nets_count : length terms.nets ≡ k
   nets_count =
-      zip_length (IsTerm first.slices first.casts old.names old.words) ts terms.nets are_terms.are_terms
+      AllZip-long (IsTerm first.slices first.casts old.names old.words) ts terms.nets are_terms.are_terms
 
   tail : Continues 2 (length terms.nets + 1) 2 0 first third
   tail = cont_on 1 (length terms.nets) 1 0 1 1 1 0 first second third is_off.continues is_word.continues

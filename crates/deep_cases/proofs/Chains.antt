@@ -7,6 +7,7 @@ use Rattle.std.proofs.lemmas.Bool.{and_from, and_parts, le-leb, lt-ltb, ne_eqb}
 use Rattle.std.proofs.lemmas.List.{append-nil, length-append, length-map}
 use Rattle.std.proofs.lemmas.List.FromFn.{length-range_with_len}
 use Rattle.mp_base.specs.Table.{table}
+use Rattle.mp_base.proofs.Numbers.{suc_is_next}
 use Rattle.mp_program.specs.declared.program.Expr.{Expr}
 use Rattle.mp_program.specs.declared.program.Form.{Form}
 use Rattle.mp_program.specs.declared.program.Process.{Process}
@@ -15,9 +16,6 @@ use Rattle.mp_program.specs.Fits as fits
 use Rattle.mp_program.specs.Tree.{are_low, expr_places, exprs_in, form_places, inner}
 use Rattle.mp_program.specs.Tree.{is_distinct, is_tree, operands, tallest}
 use Rattle.deep_cases.specs.Chain.{expr_chain, form_chain, last_expr, last_form, negation, wrapping}
-
-next : (a : ℕ) → suc a ≡ a + 1
-next a = omega arith
 
 link_behind : (a n : ℕ) → fits.all_behind a (a + suc n + 1) ((a + 1) ∷ []) ≡ true
 link_behind a n =
@@ -29,7 +27,7 @@ exprs_chained a zero = refl
 exprs_chained a (suc n) =
     let total : a + suc n + 1 ≡ (a + 1) + n + 1 = omega arith in
     and_from _ _ (and_from _ _ refl (link_behind a n))
-    (ap (λ i. fits.exprs_fit (a + suc n + 1) i (expr_chain (a + 1) n)) (next a)
+    (ap (λ i. fits.exprs_fit (a + suc n + 1) i (expr_chain (a + 1) n)) (suc_is_next a)
     ∙ ap (λ t. fits.exprs_fit t (a + 1) (expr_chain (a + 1) n)) total ∙ exprs_chained (a + 1) n)
 
 forms_chained : (e a n : ℕ) → 0 < e → fits.forms_fit e (a + n + 1) a (form_chain a n) ≡ true
@@ -37,7 +35,7 @@ forms_chained e a zero some = and_from _ _ (and_from _ _ refl (lt-ltb 0 e some))
 forms_chained e a (suc n) some =
     let total : a + suc n + 1 ≡ (a + 1) + n + 1 = omega arith in
     and_from _ _ (link_behind a n)
-    (ap (λ i. fits.forms_fit e (a + suc n + 1) i (form_chain (a + 1) n)) (next a)
+    (ap (λ i. fits.forms_fit e (a + suc n + 1) i (form_chain (a + 1) n)) (suc_is_next a)
     ∙ ap (λ t. fits.forms_fit e t (a + 1) (form_chain (a + 1) n)) total ∙ forms_chained e (a + 1) n some)
 
 -- what stands in a chain is each index behind the first
@@ -89,14 +87,14 @@ exprs_low a zero = record { first = refl; low = λ le. refl }
 exprs_low a (suc n) =
     let P : ℕ → Type 0 =
     λ i. IsLow n (table 0 (λ (x : Expr) h. suc (tallest h (operands x.kind))) i (expr_chain (a + 1) n)) in
-    grown a n _ (subst P (sym (next a)) (exprs_low (a + 1) n))
+    grown a n _ (subst P (sym (suc_is_next a)) (exprs_low (a + 1) n))
 
 forms_low : (a n : ℕ) → IsLow n (table 0 (λ (x : Form) h. suc (tallest h (inner x.kind))) a (form_chain a n))
 forms_low a zero = record { first = refl; low = λ le. refl }
 forms_low a (suc n) =
     let P : ℕ → Type 0 =
     λ i. IsLow n (table 0 (λ (x : Form) h. suc (tallest h (inner x.kind))) i (form_chain (a + 1) n)) in
-    grown a n _ (subst P (sym (next a)) (forms_low (a + 1) n))
+    grown a n _ (subst P (sym (suc_is_next a)) (forms_low (a + 1) n))
 
 apart_zero : (x : ℕ) → 1 ≤ x → (0 == x || false) ≡ false
 apart_zero x le = ap (λ t. t || false) (ne_eqb 0 x (λ e. omega (arith, e, le)))

@@ -6,7 +6,7 @@ use Rattle.std.proofs.lemmas.List.{get_or-replicate, length-map, length-replicat
 use Rattle.std.proofs.lemmas.Nat.{pow_pos}
 use Rattle.mp_base.specs.declared.pad.Pads.{Pads}
 use Rattle.mp_program.specs.declared.program.Program.{Program}
-use Rattle.mp_program.specs.Pads.{ArePadsOf, Face, face, FitsPads, input_pads, output_pads, pad_limit}
+use Rattle.mp_program.specs.Pads.{ArePadsOf, Face, face, FitsPads, input_pads, pad_limit}
 
 limit_positive : (w : ℕ) → 0 < pad_limit w
 limit_positive w = either (w == 0)
@@ -31,9 +31,3 @@ zeros_fit p pads xs padded e = record {
 
     long : length xs ≡ length (input_pads p)
     long = ap length e ∙ length-replicate {A = ℕ} (length pads.inputs) 0 ∙ count
-
-pub zeros_long : (p : Program) (pads : Pads) (xs : List ℕ) → ArePadsOf p pads → xs ≡ replicate (length pads.outputs) 0
-    → length xs ≡ length (output_pads p)
-zeros_long p pads xs padded e =
-    ap length e ∙ length-replicate {A = ℕ} (length pads.outputs) 0
-    ∙ sym (length-map pads.outputs face) ∙ ap length padded.outputs

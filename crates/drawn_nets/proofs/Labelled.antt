@@ -1,8 +1,9 @@
 -- From the labels of a circuit to the law of drawing, and from settings to clocks.
-use Rattle.std.proofs.Common.{get_or, ◌≡◌, ℕ, zero, suc, ◌<◌, List, [], ◌∷◌, Option, Some, None, length, map, refl, sym, ◌∙◌, ap, subst, arith}
+use Rattle.std.proofs.Common.{get_or, ◌≡◌, ℕ, suc, ◌<◌, List, [], ◌∷◌, Option, Some, None, length, map, refl, sym, ◌∙◌}
+use Rattle.std.proofs.Common.{ap, subst, arith}
 use Rattle.std.specs.Prelude.{Contains, All, codes}
 use Rattle.std.specs.List.{AllZip}
-use Rattle.std.proofs.lemmas.List.{length-append, get_or_default}
+use Rattle.std.proofs.lemmas.List.{get_or_default}
 use Rattle.std.proofs.lemmas.List.Elements.{
   All-nil,
   All-cons,
@@ -16,7 +17,7 @@ use Rattle.mp_base.specs.declared.value.Trit.TheVariants.{Zero, One, X}
 use Rattle.mp_base.specs.declared.pad.Pad.{Pad}
 use Rattle.mp_base.specs.declared.pad.Pads.{Pads}
 use Rattle.switch_net.specs.declared.network.Network.{Network}
-use Rattle.switch_net.specs.Pads.{bit_count, word_labels, labels_of, bit_labels, low_bits, pad_bits, Fit}
+use Rattle.switch_net.specs.Pads.{bit_labels, pad_bits, Fit}
 use Rattle.switch_net.specs.Clock.{
   Phases,
   Drive,
@@ -33,6 +34,7 @@ use Rattle.switch_net.specs.Clock.{
   IsClock,
   IsCircuitTrace,
 }
+use Rattle.switch_net.proofs.Labels.{labels_of_bits, one_node}
 use Rattle.nor_net.specs.declared.net.Phase.{Phase}
 use Rattle.nor_net.specs.declared.net.Phase.TheVariants.{A, B, C}
 use Rattle.nor_net.specs.Elements.{Spot, Given, Nets}
@@ -85,21 +87,6 @@ level_off (Some C) B n = refl
 level_off (Some C) C n = absurd (n refl)
 
 -- ---- labels and bits
-
-length_labels : (p : List ℕ) (n : ℕ) → length (word_labels p n) ≡ n
-length_labels p zero = refl
-length_labels p (suc n) = length-append (word_labels p n) _ ∙ (let e = length_labels p n in omega arith)
-
-length_bits : (n word : ℕ) → length (low_bits n word) ≡ n
-length_bits zero word = refl
-length_bits (suc n) word = length-append (low_bits n word) _ ∙ (let e = length_bits n word in omega arith)
-
-as_many : (p : List ℕ) (width word : ℕ) → length (labels_of p width) ≡ length (low_bits (bit_count width) word)
-as_many p zero word = sym (length_bits 1 word)
-as_many p (suc w) word = length_labels p (suc w) ∙ sym (length_bits (suc w) word)
-
-one_node : (net : Network) (name : List ℕ) (n m : ℕ) → IsLabelled net name n → IsLabelled net name m → n ≡ m
-one_node net name n m t u = sym t.3 ∙ net.one_node_each t.0 u.0 t.1 u.1 (t.2 ∙ sym u.2) ∙ u.3
 
 abbrev value_or : Option Trit → Trit
 value_or (Some t) = t
@@ -220,7 +207,7 @@ module _ (network : Network) (pads : Pads) (net : Nets) (ins outs : List (List S
     inputs_driven (p ∷ ps) [] is f z a = absurd f
     inputs_driven (p ∷ ps) (w ∷ ws) [] f z a = absurd z
     inputs_driven (p ∷ ps) (w ∷ ws) (i ∷ is) f z a = (
-      bits_driven (bit_labels p) (pad_bits p w) i (as_many p.name p.width w) z.0
+      bits_driven (bit_labels p) (pad_bits p w) i (labels_of_bits p.name p.width w) z.0
           (λ j x lt. a _ (Contains-append_left (bit_drives (bit_labels p) (pad_bits p w)) (input_drives ps ws) _
           (at_place (bit_drives (bit_labels p) (pad_bits p w)) j x lt))),
       inputs_driven ps ws is f.1 z.1 (λ x c. a x (Contains-append_right (bit_drives (bit_labels p) (pad_bits p w))

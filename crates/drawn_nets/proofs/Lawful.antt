@@ -1,7 +1,8 @@
 -- The law for solutions.
 use Rattle.std.proofs.Common.{◌≡◌, ℕ, List, Some, refl, sym, ◌∙◌, ap, inl, inr, ◌⊎◌}
 use Rattle.mp_base.specs.declared.value.Trit.{Trit}
-use Rattle.mp_base.specs.declared.value.Trit.TheVariants.{Zero, One, X}
+use Rattle.mp_base.specs.declared.value.Trit.TheVariants.{Zero, One}
+use Rattle.mp_base.proofs.Values.{same_trit}
 use Rattle.switch_net.specs.Laws.{GivesAlongReach}
 use Rattle.switch_net.specs.Settled.{Setting, IsSolution}
 use Rattle.nor_net.specs.declared.net.Phase.{Phase}
@@ -24,14 +25,6 @@ use Rattle.drawn_nets.proofs.Local.{
   off_from,
   off_to,
 }
-
-trit_same : (t u : Trit) → (t ≡ Zero → u ≡ Zero) → (u ≡ Zero → t ≡ Zero) → (t ≡ One → u ≡ One) → (u ≡ One → t ≡ One)
-    → t ≡ u
-trit_same Zero u zt zf ot of = sym (zt refl)
-trit_same One u zt zf ot of = sym (ot refl)
-trit_same X Zero zt zf ot of = zf refl
-trit_same X One zt zf ot of = of refl
-trit_same X X zt zf ot of = refl
 
 module _ (law : GivesAlongReach) (t : NetSetting) (s : Setting) (node : Point → ℕ) (isnet : AreFed t.nets)
     (dr : Draws s.channels t.nets node) (drv : IsDriven t node s.driver) (hb : HeldBefore t node s.before) where
@@ -64,7 +57,7 @@ module _ (law : GivesAlongReach) (t : NetSetting) (s : Setting) (node : Point �
     );
     takes = λ k p d h on. takes_at k p d h on (isnet.fed k p d h);
     keeps = λ k p d h off.
-        trit_same (v (node (OfNet k))) (t.before k)
+        same_trit (v (node (OfNet k))) (t.before k)
         (λ e. hb k p d h ∙ off_to law t s node isnet dr drv v ph k p d h Zero off
         ((f.zero (node (OfNet k)) (drv.latch k p d h)).0 e))
         (λ e. (f.zero (node (OfNet k)) (drv.latch k p d h)).1
@@ -81,7 +74,7 @@ module _ (law : GivesAlongReach) (t : NetSetting) (s : Setting) (node : Point �
       by_driver : (k : Spot) (p : Phase) (d : Spot) → IsKind t.nets k (Latched p d) → t.phase ≡ Some p → (x : Trit)
           → s.driver (node (OfNet d)) ≡ Some x → v (node (OfNet k)) ≡ v (node (OfNet d))
       by_driver k p d h on x hd =
-          trit_same (v (node (OfNet k))) x
+          same_trit (v (node (OfNet k))) x
           (λ e. driven_to law t s node isnet dr drv v ph k p d h Zero on x hd
           ((f.zero (node (OfNet k)) (drv.latch k p d h)).0 e))
           (λ e. (f.zero (node (OfNet k)) (drv.latch k p d h)).1
@@ -99,7 +92,7 @@ module _ (law : GivesAlongReach) (t : NetSetting) (s : Setting) (node : Point �
       takes_at k p d h on (inr (inr w)) = by_driver k p d h on Zero (low_driver d w)
       takes_at k p d h on (inl g) =
           let near : IsOnCluster law t s node isnet dr drv v ph d (node (OfNet k)) = latch_node k p h on refl in
-          trit_same (v (node (OfNet k))) (v (node (OfNet d)))
+          same_trit (v (node (OfNet k))) (v (node (OfNet d)))
           (λ e. (f.zero (node (OfNet d)) (drv.gate d g.0 g.1)).1
           (zero_from law t s node isnet dr drv v ph d g.0 g.1 (node (OfNet d)) (gate_node refl)
           (zero_to law t s node isnet dr drv v ph d g.0 g.1 (node (OfNet k)) near

@@ -1,15 +1,17 @@
 -- What the three cases give at the nodes of a drawing.
-use Rattle.std.proofs.Common.{◌≡◌, ℕ, ◌≢◌, List, Option, Some, None, get_or, refl, sym, ◌∙◌, ap, subst, inl, inr, ◌⊎◌}
-use Rattle.std.specs.Prelude.{Contains, All, Any, IsSome}
+use Rattle.std.proofs.Common.{◌≡◌, ℕ, ◌≢◌, List, Some, None, get_or, refl, sym, ◌∙◌, ap, subst, inl, inr, ◌⊎◌}
+use Rattle.std.specs.Prelude.{Contains, All, Any}
 use Rattle.std.proofs.lemmas.List.{get_or_default}
 use Rattle.mp_base.specs.declared.value.Trit.{Trit}
 use Rattle.mp_base.specs.declared.value.Trit.TheVariants.{Zero, One, X}
+use Rattle.mp_base.proofs.Values.{same_trit_or_not, is_some_trit, none_not_some}
 use Rattle.switch_net.specs.declared.network.ChannelKind.{ChannelKind}
 use Rattle.switch_net.specs.declared.network.ChannelKind.TheVariants.{Enhancement, Depletion, Partial}
 use Rattle.switch_net.specs.declared.network.Channel.{Channel}
 use Rattle.switch_net.specs.Settled.{Setting, KindIsOn, KindMayBeOn, IsOn, MayBeOn, IsAgainst, Gives}
 use Rattle.switch_net.specs.Reaching.{Reach, here, over, IsStrongOn, MayBeStrongOn, IsFor, IsForeign}
 use Rattle.switch_net.specs.Laws.{GivesAlongReach}
+use Rattle.switch_net.proofs.SwitchKinds.{on_may_be_on}
 use Rattle.drawn_nets.proofs.Sets.{GivesBySets, by_strong, by_held, by_kept, gives_from_sets, sets_from_gives}
 use Rattle.nor_net.specs.declared.net.Phase.{Phase}
 use Rattle.nor_net.specs.Elements.{Spot, Nor, Latched, Nets}
@@ -65,34 +67,10 @@ depletion_maybe Enhancement g e = absurd (cc)
 depletion_maybe Depletion g e = tt
 depletion_maybe Partial g e = absurd (cc)
 
-on_maybe : (k : ChannelKind) (g : Trit) → KindIsOn k g → KindMayBeOn k g
-on_maybe Enhancement g h = λ q. cc
-on_maybe Depletion g h = tt
-on_maybe Partial g h = tt
-
 zero_cases : (t : Trit) → (t ≡ Zero) ⊎ (t ≢ Zero)
 zero_cases Zero = inl refl
 zero_cases One = inr (λ e. cc)
 zero_cases X = inr (λ e. cc)
-
-same_cases : (t u : Trit) → (t ≡ u) ⊎ (t ≢ u)
-same_cases Zero Zero = inl refl
-same_cases Zero One = inr (λ e. cc)
-same_cases Zero X = inr (λ e. cc)
-same_cases One Zero = inr (λ e. cc)
-same_cases One One = inl refl
-same_cases One X = inr (λ e. cc)
-same_cases X Zero = inr (λ e. cc)
-same_cases X One = inr (λ e. cc)
-same_cases X X = inl refl
-
-some_driver : (d : Option Trit) (t : Trit) → d ≡ Some t → IsSome d
-some_driver (Some x) t e = refl
-some_driver None t e = cc
-
-no_driver : (d : Option Trit) → d ≡ None → IsSome d → ⊥
-no_driver (Some x) e h = cc
-no_driver None e h = cc
 
 -- the phases have their values
 pub record PhasesIn (t : NetSetting) (node : Point → ℕ) (v : ℕ → Trit) : Type 0 where
@@ -173,7 +151,7 @@ module _ (law : GivesAlongReach) (t : NetSetting) (s : Setting) (node : Point �
     pass_on p d l c ps on = on_at c.kind (v c.gate) ps.enhancement (ap v ps.by ∙ phases.on p on)
 
     pass_maybe : (p : Phase) (d l : Spot) (c : Channel) → IsPass node p d l c → t.phase ≡ Some p → MayBeOn v c
-    pass_maybe p d l c ps on = on_maybe c.kind (v c.gate) (pass_on p d l c ps on).1
+    pass_maybe p d l c ps on = on_may_be_on c.kind (v c.gate) (pass_on p d l c ps on).1
 
     pass_off : (p : Phase) (d l : Spot) (c : Channel) → IsPass node p d l c → (t.phase ≡ Some p → ⊥) → MayBeOn v c → ⊥
     pass_off p d l c ps off h = at_maybe c.kind (v c.gate) ps.enhancement h (ap v ps.by ∙ phases.off p off)
@@ -219,7 +197,7 @@ module _ (law : GivesAlongReach) (t : NetSetting) (s : Setting) (node : Point �
       power_reaches b =
           to_cluster k (MayBeOn v) (IsForeign s b) (λ p l c ps on. pass_maybe p k l c ps on)
           (from_power k ins h (MayBeOn v) (IsForeign s b) (λ c pu. depletion_maybe c.kind (v c.gate) pu.depletion)
-          (inl (some_driver (s.driver (node Power)) One driven.power))) n near
+          (inl (is_some_trit (s.driver (node Power)) One driven.power))) n near
 
       some_one : (i : Spot) → Contains ins i → v (node (OfNet i)) ≡ One → SomeOne
       some_one i in' e = (in'.0, i, in'.1, in'.2, e)
@@ -363,7 +341,7 @@ module _ (law : GivesAlongReach) (t : NetSetting) (s : Setting) (node : Point �
             by_sets (by_held r none) = of_data (IsOn v) (enter_latch l p d hl (IsOn v) (IsFor s b) here_at r refl)
             by_sets (by_kept none) =
                 absurd (none (by_pass (MayBeOn v) (IsForeign s b) (λ c ps. pass_maybe p d l c ps on)
-                (inl (some_driver (s.driver (node (OfNet d))) x hd))))
+                (inl (is_some_trit (s.driver (node (OfNet d))) x hd))))
 
       -- that is off
       module _ (off : t.phase ≡ Some p → ⊥) where
@@ -372,7 +350,7 @@ module _ (law : GivesAlongReach) (t : NetSetting) (s : Setting) (node : Point �
             (by_kept (λ r. opposed (enter_latch l p d hl (MayBeOn v) (IsForeign s b) here_at r refl)))
           where
             opposed : EntersLatch s node l p d (MayBeOn v) (IsForeign s b) → ⊥
-            opposed (at_latch (inl f)) = no_driver (s.driver here_at) (driven.latch l p d hl) f
+            opposed (at_latch (inl f)) = none_not_some (s.driver here_at) (driven.latch l p d hl) f
             opposed (at_latch (inr ne)) = ne e
             opposed (by_data r c okc ps) = pass_off p d l c ps off okc
 
@@ -381,11 +359,11 @@ module _ (law : GivesAlongReach) (t : NetSetting) (s : Setting) (node : Point �
           where
             strong : EntersLatch s node l p d (IsStrongOn v) (IsFor s b) → ⊥
             strong (at_latch f) = unforced_latch b f
-            strong (by_data r c okc ps) = pass_off p d l c ps off (on_maybe c.kind (v c.gate) okc.1)
+            strong (by_data r c okc ps) = pass_off p d l c ps off (on_may_be_on c.kind (v c.gate) okc.1)
 
             held : EntersLatch s node l p d (IsOn v) (IsFor s b) → ⊥
             held (at_latch f) = unforced_latch b f
-            held (by_data r c okc ps) = pass_off p d l c ps off (on_maybe c.kind (v c.gate) okc)
+            held (by_data r c okc ps) = pass_off p d l c ps off (on_may_be_on c.kind (v c.gate) okc)
 
             kept : (Reach s (MayBeOn v) (IsForeign s b) here_at → ⊥) → (s.before here_at ≡ b)
                 ⊎ (s.before here_at ≢ b) → s.before here_at ≡ b
@@ -396,7 +374,7 @@ module _ (law : GivesAlongReach) (t : NetSetting) (s : Setting) (node : Point �
             by_sets (by_strong r none) = absurd (strong
                 (enter_latch l p d hl (IsStrongOn v) (IsFor s b) here_at r refl))
             by_sets (by_held r none) = absurd (held (enter_latch l p d hl (IsOn v) (IsFor s b) here_at r refl))
-            by_sets (by_kept none) = kept none (same_cases (s.before here_at) b)
+            by_sets (by_kept none) = kept none (same_trit_or_not (s.before here_at) b)
 
   -- at a node of no net only depletion channels count, and they are always on
   reach_other : (ok ok' : Channel → Type 0) (from : ℕ → Type 0) → ((c : Channel) → c.kind ≡ Depletion → ok c → ok' c)

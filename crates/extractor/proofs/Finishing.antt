@@ -16,16 +16,19 @@ use Rattle.extractor.specs.Driving.{IsFirstMeeting}
 use Rattle.extractor.specs.Extracted.{IsExtracted, IsLabelled}
 
 module _ (shapes : List Rect) (labels : List FlatLabel) (net : Network) (is : IsLabelled shapes labels net) where
-  pub meets_driver : (offset : ℕ) → IsFirstMeeting net.tags offset → IsFirstOfMask (covered shapes) labels (broken 3 (Offset offset))
+  pub meets_driver : (offset : ℕ) → IsFirstMeeting net.tags offset
+      → IsFirstOfMask (covered shapes) labels (broken 3 (Offset offset))
   meets_driver offset h =
       subst (λ o. IsFirstOfMask (covered shapes) labels (broken 3 (Offset o))) (sym h.offset_is)
       (n3 net is.network h.place h.tag h.meets h.none_before)
 
   as_many_channels : length net.channels ≡ length is.network.regions
-  as_many_channels = AllZip-long (IsChannelAt (covered shapes) is.network.nodes) is.network.regions net.channels is.network.channels
+  as_many_channels =
+      AllZip-long (IsChannelAt (covered shapes) is.network.nodes) is.network.regions net.channels is.network.channels
 
   module _ (apart : (i : ℕ) → ¬ MeetsDriver supplies net.tags i) where
-    pub too_many : MOST_NODES_AND_CHANNELS < net.nodes + length net.channels → IsFirstOfMask (covered shapes) labels (broken 5 Nowhere)
+    pub too_many : MOST_NODES_AND_CHANNELS < net.nodes + length net.channels
+        → IsFirstOfMask (covered shapes) labels (broken 5 Nowhere)
     too_many over = n5 net is.network apart (record {
       nodes = is.network.nodes;
       regions = is.network.regions;
@@ -41,5 +44,6 @@ module _ (shapes : List Rect) (labels : List FlatLabel) (net : Network) (is : Is
         let r = ap length ((one shapes).1 t.regions w.regions t.are_regions w.are_regions) in
         absurd (omega (arith, l, t.over, n, r, as_many_channels, w.count))
 
-    pub extracted : OneNumbering → net.nodes + length net.channels ≤ MOST_NODES_AND_CHANNELS → IsExtracted shapes labels net
+    pub extracted : OneNumbering → net.nodes + length net.channels ≤ MOST_NODES_AND_CHANNELS
+        → IsExtracted shapes labels net
     extracted one l = record { network = is.network; labels_fit = is.labels_fit; apart = apart; few = few one l }

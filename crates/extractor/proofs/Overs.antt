@@ -27,7 +27,8 @@ pub record IsOnNode (shapes : List Rect) (nodes : List Square) (label : FlatLabe
 
 -- the node that a label names is this, if any
 abbrev pub IsNodeNamed : List Rect → List Square → FlatLabel → Option ℕ → Type 0
-IsNodeNamed shapes nodes label o = MatchOption o ((s : Square) → ¬ Names (covered shapes) label s) (IsOnNode shapes nodes label)
+IsNodeNamed shapes nodes label o =
+    MatchOption o ((s : Square) → ¬ Names (covered shapes) label s) (IsOnNode shapes nodes label)
 
 module _ (shapes : List Rect) (nodes : List Square) (are : AreNodes (covered shapes) nodes) (label : FlatLabel) where
   abbrev On : Layer → Type 0
@@ -76,13 +77,15 @@ module _ (shapes : List Rect) (nodes : List Square) (are : AreNodes (covered sha
   nowhere a b d NG = λ h. h
 
   first_is : (m p d : Option ℕ) → Over_ NM m → Over_ NP p → Over_ ND d
-      → MatchOption (first_node (record { metal = m; polysilicon = p; diffusion = d })) ((l : Layer) → ¬ On l) IsFirstNode
+      → MatchOption (first_node (record { metal = m; polysilicon = p; diffusion = d }))
+      ((l : Layer) → ¬ On l) IsFirstNode
   first_is (Some k) p d a b e = record { l = NM; first = (conducts NM k a, above_metal); node = a }
   first_is None (Some k) d a b e = record { l = NP; first = (conducts NP k b, above_polysilicon a); node = b }
   first_is None None (Some k) a b e = record { l = ND; first = (conducts ND k e, above_diffusion a b); node = e }
   first_is None None None a b e = nowhere a b e
 
-  own_is : (over : Over) (l : Layer) → Over_ NM over.metal → Over_ NP over.polysilicon → Over_ ND over.diffusion → Over_ l (node_on over l)
+  own_is : (over : Over) (l : Layer) → Over_ NM over.metal → Over_ NP over.polysilicon → Over_ ND over.diffusion
+      → Over_ l (node_on over l)
   own_is over NM a b e = a
   own_is over NP a b e = b
   own_is over ND a b e = e
@@ -100,33 +103,44 @@ module _ (shapes : List Rect) (nodes : List Square) (are : AreNodes (covered sha
   none_named : ((l : Layer) → ¬ On l) → (s : Square) → ¬ Names (covered shapes) label s
   none_named none s n = none s.layer (on_named label.layer s.layer n.layer)
 
-  on_node : (l : Layer) (k : ℕ) → IsNamed (covered shapes) label.x label.y label.layer l → IsOfNode (covered shapes) nodes k (square_at l (point_of label))
+  on_node : (l : Layer) (k : ℕ) → IsNamed (covered shapes) label.x label.y label.layer l
+      → IsOfNode (covered shapes) nodes k (square_at l (point_of label))
       → IsOnNode shapes nodes label k
-  on_node l k n h = record { square = square_at l (point_of label); names = record { x = refl; y = refl; layer = n }; node = h }
+  on_node l k n h =
+      record { square = square_at l (point_of label); names = record { x = refl; y = refl; layer = n }; node = h }
 
   is_named : (over : Over) → Over_ NM over.metal → Over_ NP over.polysilicon → Over_ ND over.diffusion
       → (lo : Option Layer) → label.layer ≡ lo → IsNodeNamed shapes nodes label (named_node over lo)
   is_named over a b e None is = by_first (first_node over) (first_is over.metal over.polysilicon over.diffusion a b e)
     where
       by_first : (o : Option ℕ) → MatchOption o ((l : Layer) → ¬ On l) IsFirstNode → IsNodeNamed shapes nodes label o
-      by_first (Some k) f = on_node f.l k (subst (λ x. IsNamed (covered shapes) label.x label.y x f.l) (sym is) f.first) f.node
+      by_first (Some k) f =
+          on_node f.l k (subst (λ x. IsNamed (covered shapes) label.x label.y x f.l) (sym is) f.first) f.node
       by_first None f = none_named f
   is_named over a b e (Some m) is = by_own (node_on over m) (own_is over m a b e)
     where
-      by_first : ¬ On m → (o : Option ℕ) → MatchOption o ((l : Layer) → ¬ On l) IsFirstNode → IsNodeNamed shapes nodes label o
-      by_first absent (Some k) f = on_node f.l k (subst (λ x. IsNamed (covered shapes) label.x label.y x f.l) (sym is) (inr (absent, f.first))) f.node
+      by_first : ¬ On m → (o : Option ℕ) → MatchOption o ((l : Layer) → ¬ On l) IsFirstNode
+          → IsNodeNamed shapes nodes label o
+      by_first absent (Some k) f =
+          on_node f.l k
+          (subst (λ x. IsNamed (covered shapes) label.x label.y x f.l) (sym is) (inr (absent, f.first))) f.node
       by_first absent None f = none_named f
 
       by_own : (o : Option ℕ) → Over_ m o → IsNodeNamed shapes nodes label (or_else o (first_node over))
-      by_own (Some k) f = on_node m k (subst (λ x. IsNamed (covered shapes) label.x label.y x m) (sym is) (inl (refl, conducts m k f))) f
+      by_own (Some k) f =
+          on_node m k
+          (subst (λ x. IsNamed (covered shapes) label.x label.y x m) (sym is) (inl (refl, conducts m k f))) f
       by_own None f = by_first f (first_node over) (first_is over.metal over.polysilicon over.diffusion a b e)
 
-  pub node_named : (over : Over) → Over_ NM over.metal → Over_ NP over.polysilicon → Over_ ND over.diffusion → IsNodeNamed shapes nodes label (named_node over label.layer)
+  pub node_named : (over : Over) → Over_ NM over.metal → Over_ NP over.polysilicon → Over_ ND over.diffusion
+      → IsNodeNamed shapes nodes label (named_node over label.layer)
   node_named over a b e = is_named over a b e label.layer refl
 
 -- a column has an entry for each label
-module _ (shapes : List Rect) (nodes : List Square) (labels : List FlatLabel) (l : Layer) (column : List (Option ℕ)) (over : AreNodesOver shapes nodes l (map point_of labels) column) where
-  pub entry : (n : ℕ) (label : FlatLabel) → slice_get labels n ≡ Some label → IsNodeOver shapes nodes l (point_of label) (get_or column n None)
+module _ (shapes : List Rect) (nodes : List Square) (labels : List FlatLabel) (l : Layer) (column : List (Option ℕ))
+    (over : AreNodesOver shapes nodes l (map point_of labels) column) where
+  pub entry : (n : ℕ) (label : FlatLabel) → slice_get labels n ≡ Some label
+      → IsNodeOver shapes nodes l (point_of label) (get_or column n None)
   entry n label at =
       let none : Option ℕ = None in
       let w = over.each n (point_of label) (slice_get-map point_of labels n ∙ ap (option_map point_of) at) in
@@ -137,7 +151,8 @@ module _ (shapes : List Rect) (nodes : List Square) (labels : List FlatLabel) (l
     | inl k ↦ (
         let n : ℕ = length column in
         let at = slice_get-get_or labels n no_label k in
-        let w = over.each n (point_of (get_or labels n no_label)) (slice_get-map point_of labels n ∙ ap (option_map point_of) at) in
+        let w = over.each n (point_of (get_or labels n no_label))
+        (slice_get-map point_of labels n ∙ ap (option_map point_of) at) in
         let m = slice_get_within column n w.0 w.1 in
         absurd (omega arith)
         )

@@ -1,5 +1,6 @@
 -- Tags of labels, one more.
-use Rattle.std.proofs.Common.{◌≡◌, ℕ, zero, suc, ◌+◌, ◌<◌, ◌⊎◌, inl, inr, List, [], ◌∷◌, ◌++◌, Bool, true, false, cond, length, get_or, refl, ◌∙◌, ap, sym, arith}
+use Rattle.std.proofs.Common.{◌≡◌, ℕ, ◌+◌, ◌⊎◌, inl, inr, List, [], ◌∷◌, ◌++◌, Bool, true, false, cond, get_or, refl}
+use Rattle.std.proofs.Common.{◌∙◌, ap, sym, arith}
 use Rattle.std.specs.Prelude.{Option, Some, None, Contains, slice_get}
 use Rattle.std.specs.BTreeMap.{BTreeMap, is_at}
 use Rattle.std.specs.Borrow.{Bor}
@@ -13,25 +14,13 @@ use Rattle.std.proofs.lemmas.Option.{same_Some}
 use Rattle.std.proofs.lemmas.Slice.Eq.{bytes_eq-Decides}
 use Rattle.mp_base.specs.declared.refusal.Refusal.{Refusal}
 use Rattle.mp_base.specs.declared.refusal.Refusal.TheVariants as refusals
+use Rattle.mp_base.proofs.Contents.{nothing_in, only_one}
+use Rattle.mp_base.proofs.Entries.{push_cases}
 use Rattle.lam_geom.specs.declared.label.FlatLabel.{FlatLabel}
 use Rattle.switch_net.specs.declared.network.Tag.{Tag}
 use Rattle.switch_net.specs.OneNode.{OneNodeEach}
-use Rattle.extractor.specs.Tagging.{AreSeen, AreTagged, IsTagged, IsElsewhere, IsTwice, RefusesFirst, RefusesLabel, found}
-
-none_in : {A : Type 0} (y : A) → Contains [] y → ⊥
-none_in y c = absurd (omega (arith, c.1))
-
-only_one : {A : Type 0} (x y : A) → Contains (x ∷ []) y → x ≡ y
-only_one x y (zero, l, e) = e
-only_one x y (suc k, l, e) = absurd (omega arith)
-
--- what a list has with one more, at a place
-pub push_cases : {A : Type 0} (xs : List A) (y : A) (n : ℕ) (x : A) → slice_get (xs ++ y ∷ []) n ≡ Some x
-    → (n < length xs) × (slice_get xs n ≡ Some x) ⊎ (n ≡ length xs) × (y ≡ x)
-push_cases [] y zero x e = inr (refl, same_Some y x e)
-push_cases [] y (suc n) x e = absurd (cc)
-push_cases (z ∷ zs) y zero x e = inl (omega arith, e)
-push_cases (z ∷ zs) y (suc n) x e = elim (push_cases zs y n x e) [ inl a ↦ inl (omega (arith, a.0), a.1) | inr a ↦ inr (omega (arith, a.0), a.1) ]
+use Rattle.extractor.specs.Tagging.{AreSeen, AreTagged, IsTagged, IsElsewhere, IsTwice, RefusesFirst, RefusesLabel}
+use Rattle.extractor.specs.Tagging.{found}
 
 -- a look-up after one entry is set
 at_update : (find : List ℕ → Option ℕ) (name q : List ℕ) (w o : Option ℕ) → o ≡ update bytes_eq find name w q
@@ -47,7 +36,7 @@ at_set find name q w e = ap (λ b. cond b w (find q)) ((bytes_eq-Decides name q)
 
 pub seen_none : (m : BTreeMap (Bor (List ℕ)) ℕ) → m.entries ≡ [] → AreSeen (found m) []
 seen_none m e = record {
-  here = λ tag c. absurd (none_in tag c);
+  here = λ tag c. absurd (nothing_in tag c);
   from = λ name node f.
       let none : found m name ≡ None = ap (lookup (is_at (λ (k : Bor (List ℕ)). slice_cmp nat_cmp name k.now))) e in
       absurd (cc);
@@ -55,19 +44,41 @@ seen_none m e = record {
 
 module _ (labels : List FlatLabel) (nodes : List (Option ℕ)) where
   pub tagged_none : AreTagged labels nodes 0 []
-  tagged_none = record { long = refl; each = λ n label tag l at is. absurd (omega arith); one_node_each = λ a b c d e. absurd (none_in a c) }
+  tagged_none =
+      record {
+        long = refl;
+        each = λ n label tag l at is. absurd (omega arith);
+        one_node_each = λ a b c d e. absurd (nothing_in a c);
+      }
 
-  module _ (i : ℕ) (tags : List Tag) (find : List ℕ → Option ℕ) (tagged : AreTagged labels nodes i tags) (seen : AreSeen find tags)
+  module _ (i : ℕ) (tags : List Tag) (find : List ℕ → Option ℕ) (tagged : AreTagged labels nodes i tags)
+      (seen : AreSeen find tags)
       (label : FlatLabel) (at : slice_get labels i ≡ Some label) where
-    pub refused_at : (e : Refusal) → RefusesLabel (find label.name) label (get_or nodes i None) e → RefusesFirst labels nodes e
+    pub refused_at : (e : Refusal) → RefusesLabel (find label.name) label (get_or nodes i None) e
+        → RefusesFirst labels nodes e
     refused_at refusals.NoMemory h = tt
     refused_at (refusals.Broken b) h =
-        record { place = i; label = label; at = at; tags = tags; before = tagged; breaks = elim h [ inl u ↦ inl u | inr w ↦ inr (twice w) ] }
+        record {
+          place = i;
+          label = label;
+          at = at;
+          tags = tags;
+          before = tagged;
+          breaks = elim h [ inl u ↦ inl u | inr w ↦ inr (twice w) ];
+        }
       where
         twice : IsElsewhere (find label.name) label (get_or nodes i None) b → IsTwice tags label (get_or nodes i None) b
         twice w =
             let t = seen.from label.name w.first w.known_on in
-            record { tag = t.0; earlier = t.1; name = t.2; second = w.second; names = w.names; apart = λ e. w.apart (sym t.3 ∙ e); rule = w.rule }
+            record {
+              tag = t.0;
+              earlier = t.1;
+              name = t.2;
+              second = w.second;
+              names = w.names;
+              apart = λ e. w.apart (sym t.3 ∙ e);
+              rule = w.rule;
+            }
 
     module _ (tag : Tag) (is : IsTagged (find label.name) label (get_or nodes i None) tag) where
       -- an earlier tag of that name is on that node
@@ -81,8 +92,10 @@ module _ (labels : List FlatLabel) (nodes : List (Option ℕ)) where
         where
           both : Contains tags a ⊎ Contains (tag ∷ []) a → Contains tags b ⊎ Contains (tag ∷ []) b → a.node ≡ b.node
           both (inl p) (inl q) = tagged.one_node_each a b p q e
-          both (inl p) (inr q) = let k = only_one tag b q in same_node a p (e ∙ ap (λ (t : Tag). t.name) (sym k)) ∙ ap (λ (t : Tag). t.node) k
-          both (inr p) (inl q) = let k = only_one tag a p in sym (same_node b q (sym e ∙ ap (λ (t : Tag). t.name) (sym k)) ∙ ap (λ (t : Tag). t.node) k)
+          both (inl p) (inr q) = let k = only_one tag b q in
+              same_node a p (e ∙ ap (λ (t : Tag). t.name) (sym k)) ∙ ap (λ (t : Tag). t.node) k
+          both (inr p) (inl q) = let k = only_one tag a p in
+              sym (same_node b q (sym e ∙ ap (λ (t : Tag). t.name) (sym k)) ∙ ap (λ (t : Tag). t.node) k)
           both (inr p) (inr q) = ap (λ (t : Tag). t.node) (sym (only_one tag a p) ∙ only_one tag b q)
 
       pub tagged_more : AreTagged labels nodes (i + 1) (tags ++ tag ∷ [])
@@ -103,7 +116,8 @@ module _ (labels : List FlatLabel) (nodes : List (Option ℕ)) where
         one_node_each = one_each;
       }
 
-      pub seen_more : (now : List ℕ → Option ℕ) → ((q : List ℕ) → now q ≡ update bytes_eq find label.name (Some tag.node) q) → AreSeen now (tags ++ tag ∷ [])
+      pub seen_more : (now : List ℕ → Option ℕ)
+          → ((q : List ℕ) → now q ≡ update bytes_eq find label.name (Some tag.node) q) → AreSeen now (tags ++ tag ∷ [])
       seen_more now changed = record {
         here = λ t c. elim (Contains-append_cases tags (tag ∷ []) t c) [
           | inl k ↦ (elim (at_update find label.name t.name (Some tag.node) (now t.name) (changed t.name)) [
@@ -112,11 +126,19 @@ module _ (labels : List FlatLabel) (nodes : List (Option ℕ)) where
           ])
           | inr k ↦ (
               let e = only_one tag t k in
-              changed t.name ∙ at_set find label.name t.name (Some tag.node) (is.name ∙ ap (λ (x : Tag). x.name) e) ∙ ap (λ (x : Tag). Some x.node) e
+              changed t.name ∙ at_set find label.name t.name (Some tag.node) (is.name ∙ ap (λ (x : Tag). x.name) e)
+              ∙ ap (λ (x : Tag). Some x.node) e
               )
         ];
         from = λ q node f. elim (at_update find label.name q (Some tag.node) (now q) (changed q)) [
-          | inl u ↦ (tag, Contains-append_right tags (tag ∷ []) tag (0, omega arith, refl), sym is.name ∙ u.0, same_Some tag.node node (sym u.1 ∙ f))
-          | inr u ↦ (let t = seen.from q node (sym u ∙ f) in (t.0, Contains-append_left tags (tag ∷ []) t.0 t.1, t.2, t.3))
+          | inl u ↦ (
+            tag,
+            Contains-append_right tags (tag ∷ []) tag (0, omega arith, refl),
+            sym is.name
+                ∙ u.0,
+            same_Some tag.node node (sym u.1 ∙ f),
+          )
+          | inr u ↦
+              (let t = seen.from q node (sym u ∙ f) in (t.0, Contains-append_left tags (tag ∷ []) t.0 t.1, t.2, t.3))
         ];
       }

@@ -20,9 +20,11 @@ FindsMeeting tags (Some offset) = IsFirstMeeting tags offset
 -- the first label of a driver on each node
 pub record AreFirst (find : ℕ → Option ℕ) (tags : List Tag) (count : ℕ) : Type 0 where
   pub from : (node place : ℕ) → find node ≡ Some place
-      → (tag : Tag) × (place < count) × (slice_get tags place ≡ Some tag) × Contains supplies tag.name × (tag.node ≡ node)
+      → (tag : Tag) × (place < count) × (slice_get tags place ≡ Some tag) × Contains supplies tag.name
+      × (tag.node ≡ node)
   pub here : (j : ℕ) (tag : Tag) → j < count → slice_get tags j ≡ Some tag → Contains supplies tag.name
-      → (place : ℕ) × (first : Tag) × (find tag.node ≡ Some place) × (slice_get tags place ≡ Some first) × (first.name ≡ tag.name)
+      → (place : ℕ) × (first : Tag) × (find tag.node ≡ Some place) × (slice_get tags place ≡ Some first)
+      × (first.name ≡ tag.name)
   pub apart : (j : ℕ) → j < count → ¬ MeetsDriver supplies tags j
 
 -- the label at this place is on a node of another driver, or it is noted as the others are

@@ -40,7 +40,8 @@ over_at metal polysilicon diffusion n =
     record { metal = get_or metal n None; polysilicon = get_or polysilicon n None; diffusion = get_or diffusion n None }
 
 -- the nodes that the first `count` labels name
-pub record AreNamed (labels : List FlatLabel) (metal polysilicon diffusion : List (Option ℕ)) (count : ℕ) (nodes : List (Option ℕ)) : Type 0 where
+pub record AreNamed (labels : List FlatLabel) (metal polysilicon diffusion : List (Option ℕ)) (count : ℕ)
+    (nodes : List (Option ℕ)) : Type 0 where
   pub long : length nodes ≡ count
   pub each : (n : ℕ) (label : FlatLabel) → n < count → slice_get labels n ≡ Some label
       → get_or nodes n None ≡ named_node (over_at metal polysilicon diffusion n) label.layer

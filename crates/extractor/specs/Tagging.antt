@@ -46,7 +46,8 @@ RefusesLabel known label on (refusals.Broken b) = IsUnnamed label on b ⊎ IsEls
 -- the tags of the first `count` labels
 pub record AreTagged (labels : List FlatLabel) (nodes : List (Option ℕ)) (count : ℕ) (tags : List Tag) : Type 0 where
   pub long : length tags ≡ count
-  pub each : (n : ℕ) (label : FlatLabel) (tag : Tag) → n < count → slice_get labels n ≡ Some label → slice_get tags n ≡ Some tag
+  pub each : (n : ℕ) (label : FlatLabel) (tag : Tag) → n < count → slice_get labels n ≡ Some label
+      → slice_get tags n ≡ Some tag
       → (label.offset ≡ tag.offset) × (label.name ≡ tag.name) × (get_or nodes n None ≡ Some tag.node)
   pub one_node_each : OneNodeEach tags
 
@@ -76,4 +77,5 @@ RefusesFirst labels nodes (refusals.Broken b) = IsFirstRefused labels nodes b
 -- the map has the names of the tags on their nodes
 pub record AreSeen (find : List ℕ → Option ℕ) (tags : List Tag) : Type 0 where
   pub here : (tag : Tag) → Contains tags tag → find tag.name ≡ Some tag.node
-  pub from : (name : List ℕ) (node : ℕ) → find name ≡ Some node → (tag : Tag) × Contains tags tag × (tag.name ≡ name) × (tag.node ≡ node)
+  pub from : (name : List ℕ) (node : ℕ) → find name ≡ Some node
+      → (tag : Tag) × Contains tags tag × (tag.name ≡ name) × (tag.node ≡ node)

@@ -49,7 +49,8 @@ fn tag_of<'a>(
     node: Option<u32>,
 ) -> Result<Tag, Refusal>
     ensures tag { IfOk result (IsTagged (found seen.old label.now.name) label.now node) }
-    ensures seen { OnOk result ((k : ℕ) → node ≡ Some k → (q : List ℕ) → found seen.new q ≡ update bytes_eq (found seen.old) label.now.name (Some k) q) }
+    ensures seen { OnOk result ((k : ℕ) → node ≡ Some k → (q : List ℕ)
+        → found seen.new q ≡ update bytes_eq (found seen.old) label.now.name (Some k) q) }
     ensures refused { IfErr result (RefusesLabel (found seen.old label.now.name) label.now node) }
 {
     let Some(node) = node else {

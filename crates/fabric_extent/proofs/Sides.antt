@@ -7,6 +7,7 @@ use Rattle.std.specs.List.{range_with_len}
 use Rattle.std.proofs.lemmas.Int.{ints}
 use Rattle.std.proofs.lemmas.Bool.{cases_order}
 use Rattle.std.proofs.lemmas.List.Elements.{All-contains}
+use Rattle.mp_base.proofs.Members.{Member, member_contains, member_map, range_members}
 use Rattle.lam_geom.specs.Extent.{Edges, HoldAll, IsAtMost}
 use Rattle.lam_geom.specs.declared.layer.Layer.{Layer}
 use Rattle.lam_geom.specs.declared.rect.Rect.{Rect}
@@ -20,8 +21,7 @@ use Rattle.fabric.specs.declared.thing.Line.{Line}
 use Rattle.fabric.specs.Plan.{Plan, bands, rows_of, IsFabric, IsSegment, IsLine, IsMark, Stands, LineAt, SegmentAt}
 use Rattle.fabric.specs.Shape.{base, shape, last_column, lambdas, ground_trunk, power_trunk, ground_row, power_rail}
 use Rattle.fabric.specs.Shape.{segment_rect, line_rect, mark_rects, placed, tile_rects, offset}
-use Rattle.array_form.proofs.Members.{Member, member_contains, member_append, member_map, member_flat}
-use Rattle.array_form.proofs.Listing.{in_range}
+use Rattle.array_form.proofs.Members.{member_append, member_flat}
 use Rattle.fabric_extent.specs.Bounds.{FabricsAreBetween, HasNoUnder, IsSmall, SmallFabrics}
 
 -- what stands between edges has an extent of at most their distances
@@ -303,8 +303,9 @@ module _ (f : Plan) (lawful : IsFabric f) (bare : HasNoUnder f) where
     where
       of_bands : (b : ℕ) × Member (range_with_len 0 (bands f)) b × Member
           (ground_row f b ∷ power_rail f b ∷ []) r → Good r
-      of_bands (b, i, inl e) = let w = (in_range 0 (bands f) b i).1 in subst Good e (ground_row_good b (omega arith))
-      of_bands (b, i, inr (inl e)) = let w = (in_range 0 (bands f) b i).1 in subst Good e (power_rail_good b
+      of_bands (b, i, inl e) = let w = (range_members 0 (bands f) b i).1 in
+          subst Good e (ground_row_good b (omega arith))
+      of_bands (b, i, inr (inl e)) = let w = (range_members 0 (bands f) b i).1 in subst Good e (power_rail_good b
           (omega arith))
       of_bands (b, i, inr (inr e)) = absurd e
 

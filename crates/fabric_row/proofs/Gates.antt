@@ -1,7 +1,8 @@
 -- A gate more in a row.
-use Rattle.std.proofs.Common.{◌≡◌, ℕ, ◌+◌, ◌<◌, ◌≤◌, List, [], ◌∷◌, ◌++◌, length-append, refl, sym, ◌∙◌, ap, subst, arith}
+use Rattle.std.proofs.Common.{◌≡◌, ℕ, ◌+◌, ◌<◌, ◌≤◌, List, [], ◌∷◌, ◌++◌, length-append, refl, sym, ◌∙◌, ap, subst}
+use Rattle.std.proofs.Common.{arith}
 use Rattle.std.specs.Prelude.{All, Contains}
-use Rattle.std.proofs.lemmas.List.Elements.{All-append, All-cons, All-nil, Contains-append_left, Contains-append_right}
+use Rattle.std.proofs.lemmas.List.Elements.{All-append, All-cons, All-nil, Contains-append_left, Contains-push}
 use Rattle.tile_cells.specs.declared.tile.Tile.{Tile}
 use Rattle.tile_cells.specs.declared.tile.Tile.TheVariants.{Tran}
 use Rattle.fabric.specs.declared.thing.Side.TheVariants.{L, R}
@@ -21,9 +22,6 @@ module _ {X : Type 0} (column : X → ℕ) (c : ℕ) where
   joined xs x h e = All-append (λ x. column x < c + 1) xs (x ∷ []) h
       (All-cons (λ x. column x < c + 1) x [] (omega (arith, e)) (All-nil (λ x. column x < c + 1)))
 
-here : {X : Type 0} (xs : List X) (x : X) → Contains (xs ++ x ∷ []) x
-here xs x = Contains-append_right xs (x ∷ []) x (0, omega arith, refl)
-
 pub wired : (gates column : ℕ) (f g h : Plan) → IsRow gates column f
     → g ≡ record f { lines = f.lines ++ left column ∷ [] } → h ≡ record g { lines = g.lines ++ right column ∷ [] }
     → IsWired gates column h
@@ -34,8 +32,8 @@ wired gates column f g h row e k = subst (IsWired gates column)
           (joined (λ (l : Line). l.column) column f.lines (left column)
           (wider (λ (l : Line). l.column) column f.lines row.lines) refl) refl;
       left = Contains-append_left (f.lines ++ left column ∷ []) (right column ∷ []) (left column)
-          (here f.lines (left column));
-      right = here (f.lines ++ left column ∷ []) (right column);
+          (Contains-push f.lines (left column));
+      right = Contains-push (f.lines ++ left column ∷ []) (right column);
       marks = row.marks;
       line_count =
           let one = length-append f.lines (left column ∷ []) in

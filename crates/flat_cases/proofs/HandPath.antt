@@ -1,5 +1,6 @@
 -- The path made by hand is a path.
-use Rattle.std.proofs.Common.{◌≡◌, ◌≢◌, ℕ, ◌<◌, ◌≤◌, zero, suc, List, [], ◌∷◌, ◌++◌, Option, Some, None, Bool, true, false, cond, eqb, map, refl, sym, ◌∙◌, ap, subst, arith}
+use Rattle.std.proofs.Common.{◌≡◌, ◌≢◌, ℕ, ◌<◌, ◌≤◌, zero, suc, List, [], ◌∷◌, ◌++◌, Option, Some, None, Bool, true}
+use Rattle.std.proofs.Common.{false, cond, eqb, map, refl, sym, ◌∙◌, ap, subst, arith}
 use Rattle.std.specs.Prelude.{All, not, slice_get}
 use Rattle.std.specs.List.{count_by, list_all}
 use Rattle.std.proofs.lemmas.Bool.{and_parts, false≢true, le-ltb}
@@ -17,8 +18,11 @@ use Rattle.path_form.specs.declared.path.Cast.{Cast}
 use Rattle.path_form.specs.declared.path.Lift.{Lift}
 use Rattle.path_form.specs.declared.path.Piece.{Piece}
 use Rattle.path_form.specs.Nets.{band_nets, slice_part}
-use Rattle.path_form.specs.Shape.{AreInputs, EntriesFit, IsPath, PadsFit, chain_from, chain_to, control_ends, entries_of, is_fed, is_in, is_input, pieces_of, slice_ends, stands_behind, takes_pad, times}
-use Rattle.flat_cases.specs.Hand.{HasHandPads, hand_casts, hand_control, hand_inputs, hand_lifts, hand_order, hand_outputs, hand_parts, hand_slices, net}
+use Rattle.path_form.specs.Shape.{AreInputs, EntriesFit, IsPath, PadsFit, chain_from, chain_to, control_ends}
+use Rattle.path_form.specs.Shape.{entries_of, is_fed, is_in, is_input, pieces_of, slice_ends, stands_behind, takes_pad}
+use Rattle.path_form.specs.Shape.{times}
+use Rattle.flat_cases.specs.Hand.{HasHandPads, hand_casts, hand_control, hand_inputs, hand_lifts, hand_order}
+use Rattle.flat_cases.specs.Hand.{hand_outputs, hand_parts, hand_slices, net}
 
 -- ---- the order
 

@@ -17,13 +17,16 @@ by_byte text k o other (inl e1) =
     let parts = or_parts (is_blank b || is_mark b) (is_token b) e1.1.1 in
     let marks = or_parts (b == 40 || b == 41) (b == 59) (or_parts (is_blank b) (is_mark b) parts.0).1 in
     let brackets = or_parts (b == 40) (b == 41) marks.0 in
-    e1.0 ∙ sym (cond-false (b == 40) 5 _ brackets.0 ∙ cond-false (b == 41) 3 _ brackets.1 ∙ cond-false (is_token b) 4 1 parts.1)
+    e1.0 ∙ sym
+    (cond-false (b == 40) 5 _ brackets.0 ∙ cond-false (b == 41) 3 _ brackets.1 ∙ cond-false (is_token b) 4 1 parts.1)
 by_byte text k o other (inr (inl e2)) = absurd (other e2.0)
 by_byte text k o other (inr (inr (inl e3))) = e3.0 ∙ ap rule_of (sym e3.1.1)
 by_byte text k o other (inr (inr (inr (inl e4)))) =
     let b = slice_index text o in
     let token = run_first text o e4.1.0 e4.1.1.1 in
-    e4.0 ∙ sym (cond-false (b == 40) 5 _ (other_byte b 40 refl token) ∙ cond-false (b == 41) 3 _ (other_byte b 41 refl token) ∙ cond-true (is_token b) 4 1 token)
+    e4.0 ∙ sym
+    (cond-false (b == 40) 5 _ (other_byte b 40 refl token) ∙ cond-false (b == 41) 3 _ (other_byte b 41 refl token)
+    ∙ cond-true (is_token b) 4 1 token)
 by_byte text k o other (inr (inr (inr (inr e5)))) = e5.0 ∙ ap rule_of (sym e5.1.1)
 
 -- two rules, each of which comes before the other
@@ -42,7 +45,8 @@ one_first text k o l q a b =
     let same : o ≡ q = m.0 in (
       elim (m.1) [
         | inl two ↦ two.0 ∙ sym two.1
-        | inr other ↦ by_byte text k o other.0 a.broken ∙ ap (λ z. rule_of (slice_index text z)) same ∙ sym (by_byte text l q other.1 b.broken)
+        | inr other ↦ by_byte text k o other.0 a.broken ∙ ap (λ z. rule_of (slice_index text z)) same
+            ∙ sym (by_byte text l q other.1 b.broken)
       ],
       same,
     )

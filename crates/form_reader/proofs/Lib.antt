@@ -10,3 +10,4 @@ pub mod Unique
 pub mod First
 pub mod Symbols
 pub mod Verdict
+pub mod Nested

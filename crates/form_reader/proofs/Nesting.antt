@@ -10,10 +10,7 @@ use Rattle.form_reader.specs.declared.forms.Forms.{Forms}
 use Rattle.form_reader.specs.Sound.{IsItem, NestsIn, nests, items_of, kind_at}
 use Rattle.form_reader.specs.Spelling.{IsKindOf, Spelled, none, token, list}
 use Rattle.form_reader.proofs.Order.{IsOrdered, no_items, ordered}
-
--- a greater bound
-deeper : (f : Forms) (d n : ℕ) → NestsIn f d n → NestsIn f (suc d) n
-deeper f _ _ (nests d n each) = nests (suc d) n (λ j m it. deeper f d m (each j m it))
+use Rattle.form_reader.proofs.Nested.{deeper}
 
 leaf : (f : Forms) (d n : ℕ) → items_of (kind_at f n) ≡ [] → NestsIn f (suc d) n
 leaf f d n bare = nests d n (λ j m it. let size = ap length bare in absurd (omega (arith, it.1, size)))

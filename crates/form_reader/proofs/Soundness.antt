@@ -12,12 +12,14 @@ sound text f spells =
     let o = ordered spells.items in
     record {
       behind = λ n j m is. o.behind n j m (omega arith) is.0 (is.1, is.2);
-      one_list = λ a b i j m is it. o.one_list a b i j m (omega arith) is.0 (omega arith) it.0 (is.1, is.2) (it.1, it.2);
+      one_list =
+          λ a b i j m is it. o.one_list a b i j m (omega arith) is.0 (omega arith) it.0 (is.1, is.2) (it.1, it.2);
       one_place = λ a b i j m is it.
           let same : a ≡ b = o.one_list a b i j m (omega arith) is.0 (omega arith) it.0 (is.1, is.2) (it.1, it.2) in
           o.one_place b i j m (omega arith) it.0 (subst (λ z. Holds f.nodes z i m) same (is.1, is.2)) (it.1, it.2);
       shallow = λ n lt. nested text f 0 0 0 spells.to (length f.nodes) f.roots spells.items 64 refl n (omega arith) lt;
-      first = λ r rs is. first_root (subst (λ z. Spelled text f.nodes 0 0 0 z spells.to (length f.nodes)) is spells.items);
+      first = λ r rs is. first_root
+          (subst (λ z. Spelled text f.nodes 0 0 0 z spells.to (length f.nodes)) is spells.items);
       roots = λ k lt. (o.top k (slice_index f.roots k) (lt, refl)).1;
       apart = λ a b rs is.
           let two = subst (λ z. Spelled text f.nodes 0 0 0 z spells.to (length f.nodes)) is spells.items in

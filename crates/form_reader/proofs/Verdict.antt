@@ -1,5 +1,6 @@
 -- A text spells forms, or has a first broken rule.
-use Rattle.std.proofs.Common.{◌≡◌, ◌⊎◌, inl, inr, ℕ, zero, suc, ◌+◌, ◌-◌, ◌<◌, ◌≤◌, ◌^◌, List, [], ◌∷◌, ◌++◌, Bool, true, false, refl, sym, ◌∙◌, ap, length, take, drop, arith}
+use Rattle.std.proofs.Common.{◌≡◌, ◌⊎◌, inl, inr, ℕ, zero, suc, ◌+◌, ◌<◌, ◌≤◌, ◌^◌, List, [], ◌∷◌, ◌++◌, Bool, true}
+use Rattle.std.proofs.Common.{false, refl, sym, ◌∙◌, ap, length, drop, arith}
 use Rattle.std.specs.Prelude.{slice_range, slice_index, slice_set}
 use Rattle.std.specs.List.{list_all}
 use Rattle.std.specs.Str.Parse.{digits_value}
@@ -11,6 +12,7 @@ use Rattle.mp_base.specs.declared.refusal.Family.TheVariants.{E}
 use Rattle.mp_base.specs.declared.refusal.Spot.TheVariants.{At}
 use Rattle.mp_base.specs.declared.refusal.Refusal.{Refusal}
 use Rattle.mp_base.specs.declared.refusal.Refusal.TheVariants.{Broken}
+use Rattle.mp_base.proofs.Lists.{slice_range_none}
 use Rattle.form_reader.specs.declared.forms.Kind.{Kind}
 use Rattle.form_reader.specs.declared.forms.Kind.TheVariants.{Number, Symbol, Group}
 use Rattle.form_reader.specs.declared.forms.Node.{Node}
@@ -22,7 +24,8 @@ use Rattle.form_reader.specs.Reading.{Reached, HasRead, AddsItem, HasListed}
 use Rattle.form_reader.specs.Sound.{no_node}
 use Rattle.form_reader.proofs.Scan.{GapSoFar, gap_more, gap_done, not_in_comment, closes, all_more}
 use Rattle.form_reader.proofs.Blocks.{nothing_read, add_item, token_item, group_item}
-use Rattle.form_reader.proofs.Reached.{reached_gap, reached_open, reached_close, reached_run, ended_list, closed_list, spells_all, refuses_e1, refuses_e2, refuses_e3, refuses_e4, refuses_e5}
+use Rattle.form_reader.proofs.Reached.{reached_gap, reached_open, reached_close, reached_run, ended_list, closed_list}
+use Rattle.form_reader.proofs.Reached.{spells_all, refuses_e1, refuses_e2, refuses_e3, refuses_e4, refuses_e5}
 
 -- ---- where a gap and a run end
 
@@ -69,12 +72,9 @@ skip_from text a (suc m) i c fuel le within so_far = elim (cases_lt i (length te
   ]
 ]
 
-range_none : (text : List ℕ) (a : ℕ) → slice_range text a a ≡ []
-range_none text a = let e : a - a ≡ 0 = omega arith in ap (λ k. take k (drop a text)) e
-
 skip : (text : List ℕ) (a : ℕ) → a ≤ length text → (s : ℕ) × Skipped text a s
 skip text a le = skip_from text a (length text) a false (omega arith) (omega arith) le
-    (λ tail. ap (λ xs. is_gap false (xs ++ tail)) (range_none text a))
+    (λ tail. ap (λ xs. is_gap false (xs ++ tail)) (slice_range_none text a))
 
 run_from : (text : List ℕ) (a m i : ℕ) → length text ≤ i + m → a < i → i ≤ length text
     → list_all is_token (slice_range text a i) ≡ true → (e : ℕ) × IsRun text a e
@@ -99,7 +99,7 @@ run_from text a (suc m) i fuel lt within all = elim (cases_lt i (length text)) [
 
 run : (text : List ℕ) (a : ℕ) → a < length text → is_token (slice_index text a) ≡ true → (e : ℕ) × IsRun text a e
 run text a lt token = run_from text a (length text) (a + 1) (omega arith) (omega arith) (omega (arith, lt))
-    (all_more is_token text a a (omega arith) lt (ap (list_all is_token) (range_none text a)) token)
+    (all_more is_token text a a (omega arith) lt (ap (list_all is_token) (slice_range_none text a)) token)
 
 -- ---- reading
 

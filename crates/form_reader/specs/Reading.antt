@@ -33,7 +33,8 @@ pub record HasRead (text : List ℕ) (depth from : ℕ) (old new : List Node) (i
 pub record AddsItem (text : List ℕ) (depth s : ℕ) (old new : List Node) (e : ℕ) : Type 0 where
   pub more : List Node
   pub nodes : new ≡ old ++ more
-  pub spelled : (at : ℕ) → IsGapBetween text at s → Spelled text new depth at (length old) (length old ∷ []) e (length new)
+  pub spelled : (at : ℕ) → IsGapBetween text at s
+      → Spelled text new depth at (length old) (length old ∷ []) e (length new)
 
 -- the items of a list were read, and its `)`
 pub record IsClosed (text : List ℕ) (depth outer at : ℕ) (end : Place) : Type 0 where
@@ -50,7 +51,8 @@ pub record IsEnded (text : List ℕ) (at : ℕ) (end : Place) : Type 0 where
   pub whole : (k o : ℕ) → Breaks text k o → ⊥
 
 -- the items of a list were read, and what ends it
-pub record HasListed (text : List ℕ) (depth outer from : ℕ) (old new : List Node) (items : List ℕ) (end : Place) : Type 0 where
+pub record HasListed (text : List ℕ) (depth outer from : ℕ) (old new : List Node) (items : List ℕ)
+    (end : Place) : Type 0 where
   pub at : ℕ
   pub read : HasRead text depth from old new items at
   pub closed : 0 < depth → IsClosed text depth outer at end

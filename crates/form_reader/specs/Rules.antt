@@ -1,5 +1,6 @@
 -- Rules E1 to E5.
-use Rattle.std.specs.Prelude.{◌≡◌, ◌≢◌, ◌⊎◌, ℕ, ◌+◌, ◌-◌, ◌<◌, ◌≤◌, ◌^◌, List, [], ◌∷◌, Bool, true, false, cond, ◌||◌, ◌==◌, length, take, slice_index, slice_range}
+use Rattle.std.specs.Prelude.{◌≡◌, ◌≢◌, ◌⊎◌, ℕ, ◌+◌, ◌-◌, ◌<◌, ◌≤◌, ◌^◌, List, [], ◌∷◌, Bool, true, false, cond, ◌||◌}
+use Rattle.std.specs.Prelude.{◌==◌, length, take, slice_index, slice_range}
 use Rattle.std.specs.List.{list_all}
 use Rattle.std.specs.Str.Parse.{digits_value}
 use Rattle.mp_base.specs.Token.{is_token, is_digit}
@@ -28,15 +29,18 @@ IsOutside text o = (o < length text) × (comment_after false (take o text) ≡ f
 -- a run of digits from s to e that begins outside comments
 abbrev pub IsDigitRun : List ℕ → ℕ → ℕ → Type 0
 IsDigitRun text s e =
-    IsOutside text s × IsRun text s e × (list_all is_digit (slice_range text s e) ≡ true) × (0 < s → is_token (slice_index text (s - 1)) ≡ false)
+    IsOutside text s × IsRun text s e × (list_all is_digit (slice_range text s e) ≡ true)
+    × (0 < s → is_token (slice_index text (s - 1)) ≡ false)
 
 -- a byte outside comments that no text may have there
 abbrev pub E1 : List ℕ → ℕ → Type 0
-E1 text o = IsOutside text o × ((is_blank (slice_index text o) || is_mark (slice_index text o) || is_token (slice_index text o)) ≡ false)
+E1 text o = IsOutside text o
+    × ((is_blank (slice_index text o) || is_mark (slice_index text o) || is_token (slice_index text o)) ≡ false)
 
 -- the list that begins at o, in no other, is open up to n
 abbrev pub IsOpenUpTo : List ℕ → ℕ → ℕ → Type 0
-IsOpenUpTo text n o = IsOutside text o × (slice_index text o ≡ 40) × (depth_at text o ≡ 0) × ((j : ℕ) → o < j → j ≤ n → 0 < depth_at text j)
+IsOpenUpTo text n o = IsOutside text o × (slice_index text o ≡ 40) × (depth_at text o ≡ 0)
+    × ((j : ℕ) → o < j → j ≤ n → 0 < depth_at text j)
 
 -- the outermost list that is open at the end
 abbrev pub E2 : List ℕ → ℕ → Type 0
@@ -56,7 +60,8 @@ E5 text o = IsOutside text o × (slice_index text o ≡ 40) × (64 ≤ depth_at 
 
 -- rule E k is broken at the offset o
 abbrev pub Breaks : List ℕ → ℕ → ℕ → Type 0
-Breaks text k o = ((k ≡ 1) × E1 text o) ⊎ ((k ≡ 2) × E2 text o) ⊎ ((k ≡ 3) × E3 text o) ⊎ ((k ≡ 4) × E4 text o) ⊎ ((k ≡ 5) × E5 text o)
+Breaks text k o = ((k ≡ 1) × E1 text o) ⊎ ((k ≡ 2) × E2 text o) ⊎ ((k ≡ 3) × E3 text o) ⊎ ((k ≡ 4) × E4 text o)
+    ⊎ ((k ≡ 5) × E5 text o)
 
 -- the order of the rules: E1, E3, E4 and E5 from left to right, and then E2
 abbrev pub ComesBefore : (k o l q : ℕ) → Type 0

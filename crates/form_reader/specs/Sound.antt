@@ -24,7 +24,8 @@ items_of _ = []
 
 -- node m is the item of node n at j
 abbrev pub IsItem : Forms → ℕ → ℕ → ℕ → Type 0
-IsItem f n j m = (n < length f.nodes) × (j < length (items_of (kind_at f n))) × (m ≡ slice_index (items_of (kind_at f n)) j)
+IsItem f n j m =
+    (n < length f.nodes) × (j < length (items_of (kind_at f n))) × (m ≡ slice_index (items_of (kind_at f n)) j)
 
 -- at most d nodes stand one inside another, of which the outermost is n
 pub data NestsIn (f : Forms) : (d n : ℕ) → Type 0 where

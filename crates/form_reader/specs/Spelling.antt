@@ -1,5 +1,6 @@
 -- The forms that a text spells.
-use Rattle.std.specs.Prelude.{◌≡◌, ℕ, suc, ◌+◌, ◌<◌, ◌^◌, List, [], ◌∷◌, true, false, length, slice_index_or, slice_range}
+use Rattle.std.specs.Prelude.{◌≡◌, ℕ, suc, ◌+◌, ◌<◌, ◌^◌, List, [], ◌∷◌, true, false, length, slice_index_or}
+use Rattle.std.specs.Prelude.{slice_range}
 use Rattle.std.specs.List.{list_all}
 use Rattle.std.specs.Str.Parse.{digits_value}
 use Rattle.mp_base.specs.Token.{is_digit}
@@ -19,16 +20,21 @@ IsKindOf run (Group items) = ⊥
 
 -- node i has this place and kind
 abbrev pub IsNode : List Node → ℕ → Place → Kind → Type 0
-IsNode nodes i place kind = (i < length nodes) × (slice_index_or nodes i no_node ≡ record { place = place; kind = kind })
+IsNode nodes i place kind =
+    (i < length nodes) × (slice_index_or nodes i no_node ≡ record { place = place; kind = kind })
 
 -- inside `depth` lists these items stand in the text from one offset to another; their nodes, and those of all under
 -- them, are the nodes from one index to another, in text order
 pub data Spelled (text : List ℕ) (nodes : List Node) : (depth at i : ℕ) (items : List ℕ) (to j : ℕ) → Type 0 where
   none : {depth at i : ℕ} → Spelled text nodes depth at i [] at i
-  token : {depth at i to j : ℕ} {items : List ℕ} (s e : ℕ) (kind : Kind) → IsGapBetween text at s → IsRun text s e → IsKindOf (slice_range text s e) kind
-      → IsNode nodes i (place_at text s) kind → Spelled text nodes depth e (suc i) items to j → Spelled text nodes depth at i (i ∷ items) to j
-  list : {depth at i to j : ℕ} {items : List ℕ} (s e c k : ℕ) (inner : List ℕ) → IsGapBetween text at s → IsByte text s 40 → depth < 64
-      → IsNode nodes i (place_at text s) (Group inner) → Spelled text nodes (suc depth) (s + 1) (suc i) inner e k → IsGapBetween text e c → IsByte text c 41
+  token : {depth at i to j : ℕ} {items : List ℕ} (s e : ℕ) (kind : Kind) → IsGapBetween text at s → IsRun text s e
+      → IsKindOf (slice_range text s e) kind
+      → IsNode nodes i (place_at text s) kind → Spelled text nodes depth e (suc i) items to j
+      → Spelled text nodes depth at i (i ∷ items) to j
+  list : {depth at i to j : ℕ} {items : List ℕ} (s e c k : ℕ) (inner : List ℕ) → IsGapBetween text at s
+      → IsByte text s 40 → depth < 64
+      → IsNode nodes i (place_at text s) (Group inner) → Spelled text nodes (suc depth) (s + 1) (suc i) inner e k
+      → IsGapBetween text e c → IsByte text c 41
       → Spelled text nodes depth (c + 1) k items to j → Spelled text nodes depth at i (i ∷ items) to j
 
 -- the roots stand in the text, with nothing behind them, and every node is a root or under one

@@ -1,5 +1,6 @@
 -- Blanks, comments, runs of token characters, and places.
-use Rattle.std.specs.Prelude.{◌≡◌, ℕ, ◌+◌, ◌<◌, ◌≤◌, List, [], ◌∷◌, ◌++◌, Bool, true, false, ◌||◌, ◌&&◌, not, cond, ◌==◌, length, take, drop, slice_index, slice_range, count_by}
+use Rattle.std.specs.Prelude.{◌≡◌, ℕ, ◌+◌, ◌<◌, ◌≤◌, List, [], ◌∷◌, ◌++◌, Bool, true, false, ◌||◌, ◌&&◌, not, cond}
+use Rattle.std.specs.Prelude.{◌==◌, length, take, drop, slice_index, slice_range, count_by}
 use Rattle.std.specs.List.{list_all, suffix_len}
 use Rattle.mp_base.specs.declared.refusal.Place.{Place}
 use Rattle.mp_base.specs.Token.{is_token}

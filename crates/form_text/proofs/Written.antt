@@ -4,7 +4,7 @@ use Rattle.std.proofs.Common.{ap, subst, length, arith, append_assoc, length-app
 use Rattle.std.specs.Prelude.{slice_range, slice_index, slice_index_or, not, ◌&&◌, nat_lt}
 use Rattle.std.specs.List.{list_all}
 use Rattle.std.specs.Str.Parse.{digits_value}
-use Rattle.std.proofs.lemmas.Bool.{and_parts, ltb-true}
+use Rattle.std.proofs.lemmas.Bool.{and_parts, ltb-true, not-true}
 use Rattle.std.proofs.Math.Seq.{get_or-append_seam, drop-append_seam}
 use Rattle.mp_base.specs.Token.{is_token, is_digit}
 use Rattle.mp_base.specs.declared.refusal.Place.{Place}
@@ -21,10 +21,6 @@ use Rattle.form_text.proofs.Pieces.{piece_is, byte_is, length_is}
 -- ---- the byte that follows
 
 -- ---- tests that all hold
-
-is_not : (b : Bool) → not b ≡ true → b ≡ false
-is_not true h = sym h
-is_not false h = refl
 
 pub record All5 (a b c d e : Bool) : Type 0 where
   pub first : a ≡ true
@@ -57,8 +53,8 @@ fine_symbol depth next gap run more h =
     record {
       gap_is = p.first;
       tokens = p.second;
-      digits = is_not (list_all is_digit run) p.third;
-      ended = is_not (is_token (first_of next more)) p.fourth;
+      digits = not-true (list_all is_digit run) p.third;
+      ended = not-true (is_token (first_of next more)) p.fourth;
       rest = p.fifth;
     }
 
@@ -86,7 +82,7 @@ fine_number depth next gap run more h =
       some = ltb-true 0 (length run) p.third;
       digits = p.fourth;
       small = ltb-true (digits_value 10 run) (2 ^ 64) q.0;
-      ended = is_not (is_token (first_of next more)) r.0;
+      ended = not-true (is_token (first_of next more)) r.0;
       rest = r.1;
     }
 

@@ -21,7 +21,8 @@ use Rattle.mp_program.specs.declared.program.Program.{Program}
 use Rattle.mp_program.specs.Pads.{ArePadsOf}
 use Rattle.mp_program.specs.Trace.{IsTrace, IsSettled}
 
--- The bytes are a CIF file: they read as commands, which break no rule of texts; the commands draw shapes with labels, and
+-- The bytes are a CIF file: they read as commands, which break no rule of texts; the commands draw shapes with labels,
+-- and
 -- break no rule of drawing; these draw the network, and break no rule of masks with the pads.
 pub record Draws (bytes : List ℕ) (pads : Pads) (network : Network) : Type 0 where
   pub commands : List Item
@@ -38,17 +39,21 @@ abbrev pub bits_of : List Pad → List ℕ → List (List Trit)
 bits_of (pad ∷ pads) (value ∷ values) = pad_bits pad value ∷ bits_of pads values
 bits_of _ _ = []
 
--- Along these inputs the program has a trace. From every charge the circuit has one too, and whichever it has shows, in each
+-- Along these inputs the program has a trace. From every charge the circuit has one too, and whichever it has shows, in
+-- each
 -- settled clock, the bits of what the program shows on each output pad.
 pub record Follows (p : Program) (pads : Pads) (network : Network) (inputs : List (List ℕ)) : Type 0 where
   pub outputs : List (List ℕ)
   pub program : IsTrace p inputs outputs
-  pub runs : (charge : ℕ → Trit) → (shown : List (List (List Trit))) × (after : ℕ → Trit) × IsCircuitTrace network pads charge inputs shown after
-  pub agrees : (charge after : ℕ → Trit) (shown : List (List (List Trit))) → IsCircuitTrace network pads charge inputs shown after
+  pub runs : (charge : ℕ → Trit)
+      → (shown : List (List (List Trit))) × (after : ℕ → Trit) × IsCircuitTrace network pads charge inputs shown after
+  pub agrees : (charge after : ℕ → Trit) (shown : List (List (List Trit)))
+      → IsCircuitTrace network pads charge inputs shown after
       → (k : ℕ) → k < length inputs → IsSettled p inputs k
       → slice_index_or shown k [] ≡ bits_of pads.outputs (slice_index_or outputs k [])
 
--- The headline: the bytes draw a network with the pads of the program, and along every list of inputs that fit the pads this
+-- The headline: the bytes draw a network with the pads of the program, and along every list of inputs that fit the pads
+-- this
 -- network follows the program.
 pub record IsChipOf (p : Program) (bytes : List ℕ) : Type 0 where
   pub pads : Pads

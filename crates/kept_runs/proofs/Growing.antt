@@ -1,6 +1,8 @@
 -- The runs of a window that grows to the right.
-use Rattle.std.proofs.Common.{◌≡◌, ◌≢◌, ◌⊎◌, ◌&&◌, ℕ, ◌+◌, ◌-◌, ◌<◌, ◌≤◌, nat_le, nat_lt, inl, inr, List, [], ◌∷◌, ◌++◌, refl, sym, ◌∙◌, subst, rules, arith}
-use Rattle.std.proofs.lemmas.Bool.{cases_lt, cases_eq, lt-ltb, le-ltb, le-leb, lt-leb, eq-eqb, ne_eqb, and_from, and_left, and_right}
+use Rattle.std.proofs.Common.{◌≡◌, ◌≢◌, ◌⊎◌, ℕ, ◌-◌, ◌<◌, ◌≤◌, nat_le, nat_lt, inl, inr, List, [], ◌∷◌, ◌++◌}
+use Rattle.std.proofs.Common.{refl, sym, ◌∙◌, subst, rules, arith}
+use Rattle.std.proofs.lemmas.Bool.{cases_lt, cases_eq, lt-ltb, le-ltb, le-leb, lt-leb, eq-eqb, ne_eqb, and_from}
+use Rattle.std.proofs.lemmas.Bool.{and_left, and_right}
 use Rattle.std.proofs.lemmas.List.Elements.{All-push, Contains-append_left, Contains-append_right}
 use Rattle.std.proofs.lemmas.List.Quantifiers.{all_pairs_push}
 use Rattle.mask_runs.specs.declared.run.Run.{Run}
@@ -27,7 +29,8 @@ module _ (from end : ℕ) (row : ℕ → ℕ) (c : ℕ) where
     ]
   ]
 
-ends_by : (from end : ℕ) (row : ℕ → ℕ) (r : Run) → IsRun (windowed from end row) r → (from < r.right) × (r.right ≤ end) × (row (r.right - 1) ≡ r.colour)
+ends_by : (from end : ℕ) (row : ℕ → ℕ) (r : Run) → IsRun (windowed from end row) r
+    → (from < r.right) × (r.right ≤ end) × (row (r.right - 1) ≡ r.colour)
 ends_by from end row r i =
     let w = i.wide in
     let s = shown from end row (r.right - 1) r.colour (i.each (r.right - 1) (omega arith) (omega arith)) i.some in
@@ -38,13 +41,16 @@ ends_by from end row r i =
 -- no window has no runs
 no_run : (from end : ℕ) → end ≤ from → (row : ℕ → ℕ) (r : Run) → ¬ IsRun (windowed from end row) r
 no_run from end h row r i = let e = ends_by from end row r i in let a = e.0 in let b = e.1 in let w = i.wide in
-    let s = shown from end row r.left r.colour (i.each r.left (omega arith) w) i.some in let s0 = s.0 in let s1 = s.1 in absurd (omega arith)
+    let s = shown from end row r.left r.colour (i.each r.left (omega arith) w) i.some in let s0 = s.0 in
+    let s1 = s.1 in absurd (omega arith)
 
 pub no_runs : (from end : ℕ) → end ≤ from → (row : ℕ → ℕ) → AreRuns (windowed from end row) []
-no_runs from end h row = record { each = search rules; all = λ r i. absurd (no_run from end h row r i); ascending = search rules }
+no_runs from end h row =
+    record { each = search rules; all = λ r i. absurd (no_run from end h row r i); ascending = search rules }
 
 -- the window grows by cells of one colour, where the cell before has another or isn't in it
-module _ (from at end colour : ℕ) (row : ℕ → ℕ) (runs : List Run) (a : AreRuns (windowed from at row) runs) (order : from ≤ at) (wide : at < end)
+module _ (from at end colour : ℕ) (row : ℕ → ℕ) (runs : List Run) (a : AreRuns (windowed from at row) runs)
+    (order : from ≤ at) (wide : at < end)
     (own : (c : ℕ) → at ≤ c → c < end → row c ≡ colour) where
   same_before : (c : ℕ) → c < at → windowed from end row c ≡ windowed from at row c
   same_before c h = elim (cases_lt c from) [
@@ -65,7 +71,8 @@ module _ (from at end colour : ℕ) (row : ℕ → ℕ) (runs : List Run) (a : A
   ]
 
   pub grown_blank : colour ≡ 0 → AreRuns (windowed from end row) runs
-  grown_blank e = let f : windowed from at row ≡ windowed from end row = λ i c. same_blank e c i in subst (λ g. AreRuns g runs) f a
+  grown_blank e = let f : windowed from at row ≡ windowed from end row = λ i c. same_blank e c i in
+      subst (λ g. AreRuns g runs) f a
 
   module _ (some : 0 < colour) (border : (at ≡ from) ⊎ (row (at - 1) ≢ colour)) where
     abbrev pub last_run : Run
@@ -107,7 +114,8 @@ module _ (from at end colour : ℕ) (row : ℕ → ℕ) (runs : List Run) (a : A
               let x : windowed from end row (at - 1) ≡ q.colour = i.each (at - 1) (omega arith) (omega arith) in
               let y = shown from end row (at - 1) q.colour x s in
               let y0 = y.0 in
-              absurd (not_before q.colour (omega arith) y.2 (sym (i.each at (omega arith) k) ∙ own_at at (omega arith) wide))
+              absurd (not_before q.colour (omega arith) y.2
+              (sym (i.each at (omega arith) k) ∙ own_at at (omega arith) wide))
           | inr k ↦ k
         ] in
         record {
@@ -129,7 +137,8 @@ module _ (from at end colour : ℕ) (row : ℕ → ℕ) (runs : List Run) (a : A
         let k : q.colour ≡ colour = sym (i.each q.left (omega arith) w) ∙ own_at q.left h (omega arith) in
         let l : q.left ≡ at = elim (cases_eq q.left at) [
           | inl e ↦ e
-          | inr n ↦ absurd (i.before (q.left - 1) (omega arith) (own_at (q.left - 1) (omega arith) (omega arith) ∙ sym k))
+          | inr n ↦
+              absurd (i.before (q.left - 1) (omega arith) (own_at (q.left - 1) (omega arith) (omega arith) ∙ sym k))
         ] in
         let r : q.right ≡ end = elim (cases_eq q.right end) [
           | inl e ↦ e
@@ -154,17 +163,21 @@ module _ (from at end colour : ℕ) (row : ℕ → ℕ) (runs : List Run) (a : A
         | inl h ↦ Contains-append_left runs (last_run ∷ []) q (a.all q (run_less q i h))
         | inr h ↦ Contains-append_right runs (last_run ∷ []) q (0, omega arith, sym (run_last q i h))
       ];
-      ascending = all_pairs_push (λ r q. r.right ≤ q.left) runs last_run a.ascending (λ k d h. (ends_by from at row _ (a.each k d h)).1);
+      ascending =
+          all_pairs_push (λ r q. r.right ≤ q.left) runs last_run a.ascending
+          (λ k d h. (ends_by from at row _ (a.each k d h)).1);
     }
 
-  pub grown_by : (at ≡ from) ⊎ (row (at - 1) ≢ colour) → AreRuns (windowed from end row) (with_run runs (record { left = at; right = end; colour = colour }))
+  pub grown_by : (at ≡ from) ⊎ (row (at - 1) ≢ colour)
+      → AreRuns (windowed from end row) (with_run runs (record { left = at; right = end; colour = colour }))
   grown_by border = elim (cases_eq colour 0) [
     | inl e ↦ rw (eq-eqb colour 0 e) (grown_blank e)
     | inr n ↦ rw (ne_eqb colour 0 n) (grown (omega arith) border)
   ]
 
 -- the window as far as it was to grow
-pub whole : (from at to : ℕ) (row : ℕ → ℕ) (runs : List Run) → from ≤ at → to ≤ at → (at ≤ to) ⊎ (at ≡ from) → AreRuns (windowed from at row) runs
+pub whole : (from at to : ℕ) (row : ℕ → ℕ) (runs : List Run) → from ≤ at → to ≤ at → (at ≤ to) ⊎ (at ≡ from)
+    → AreRuns (windowed from at row) runs
     → AreRuns (windowed from to row) runs
 whole from at to row runs h l b a = elim b [
   | inl k ↦ let e : at ≡ to = omega arith in subst (λ n. AreRuns (windowed from n row) runs) e a

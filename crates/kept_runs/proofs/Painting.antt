@@ -1,6 +1,8 @@
 -- Rows of which some cells get a colour.
-use Rattle.std.proofs.Common.{◌≡◌, ◌≢◌, ◌↔◌, ◌⊎◌, ◌&&◌, ℕ, zero, suc, ◌+◌, ◌<◌, ◌≤◌, nat_le, nat_lt, if◌then◌else◌, Bool, true, false, inl, inr, List, set, length, refl, sym, ◌∙◌, subst, arith}
-use Rattle.std.proofs.lemmas.Bool.{cases_eq, cases_lt, cases_order, cases_Bool, lt-ltb, le-ltb, le-leb, lt-leb, and_from, and_left, and_right, false_from_ne_true, both_ways}
+use Rattle.std.proofs.Common.{◌≡◌, ◌≢◌, ◌↔◌, ◌⊎◌, ◌&&◌, ℕ, zero, suc, ◌<◌, ◌≤◌, nat_le, nat_lt, if◌then◌else◌}
+use Rattle.std.proofs.Common.{Bool, true, false, inl, inr, List, set, length, refl, sym, ◌∙◌, subst, arith}
+use Rattle.std.proofs.lemmas.Bool.{cases_eq, cases_lt, cases_order, cases_Bool, lt-ltb, le-ltb, le-leb, lt-leb}
+use Rattle.std.proofs.lemmas.Bool.{and_from, and_left, and_right, both_ways}
 use Rattle.cell_set.specs.declared.set.CellSet.{CellSet}
 use Rattle.cell_set.specs.Sets.{has, room_of}
 use Rattle.std.proofs.lemmas.List.{get_or-set_same, get_or-set_other, length-set}
@@ -21,11 +23,13 @@ only_colours borders colours g end z h k (suc c) l = elim (cases_Bool (has borde
   | inr e ↦ rw e (only_colours borders colours g end z h k c (omega arith) ∙ sym (k c l e))
 ]
 
-old_border : (borders : CellSet) (colours : List ℕ) (c : ℕ) → has borders (suc c) ≡ true → colour_to borders colours (suc c) ≡ noted colours (suc c)
+old_border : (borders : CellSet) (colours : List ℕ) (c : ℕ) → has borders (suc c) ≡ true
+    → colour_to borders colours (suc c) ≡ noted colours (suc c)
 unfolding colour_to
 old_border borders colours c e = rw e refl
 
-old_on : (borders : CellSet) (colours : List ℕ) (c : ℕ) → has borders (suc c) ≡ false → colour_to borders colours (suc c) ≡ colour_to borders colours c
+old_on : (borders : CellSet) (colours : List ℕ) (c : ℕ) → has borders (suc c) ≡ false
+    → colour_to borders colours (suc c) ≡ colour_to borders colours c
 unfolding colour_to
 old_on borders colours c e = rw e refl
 
@@ -47,7 +51,8 @@ pub record IsPainted (old now : CellSet) (colours painted : List ℕ) (from to c
   pub as_many : length painted ≡ length colours
   pub room : room_of now ≡ room_of old
 
-module _ (old now : CellSet) (colours painted : List ℕ) (from to colour : ℕ) (b : AreBorders old colours) (order : from < to) (within : to ≤ length colours)
+module _ (old now : CellSet) (colours painted : List ℕ) (from to colour : ℕ) (b : AreBorders old colours)
+    (order : from < to) (within : to ≤ length colours)
     (p : IsPainted old now colours painted from to colour) where
   abbrev wanted : ℕ → ℕ
   wanted c = if nat_le from c && nat_lt c to then colour else colour_to old colours c
@@ -64,12 +69,14 @@ module _ (old now : CellSet) (colours painted : List ℕ) (from to colour : ℕ)
   first_wanted : wanted 0 ≡ noted painted 0
   first_wanted = elim (cases_eq from 0) [
     | inl e ↦ wanted_in 0 (omega arith) (omega arith) ∙ sym (subst (λ k. noted painted k ≡ colour) e p.noted_own)
-    | inr n ↦ wanted_left 0 (omega arith) ∙ old_first old colours ∙ sym (p.noted_else 0 (λ e. n (sym e)) (λ e. absurd (omega arith)))
+    | inr n ↦ wanted_left 0 (omega arith) ∙ old_first old colours
+        ∙ sym (p.noted_else 0 (λ e. n (sym e)) (λ e. absurd (omega arith)))
   ]
 
   border_wanted : (c : ℕ) → suc c < length colours → has now (suc c) ≡ true → wanted (suc c) ≡ noted painted (suc c)
   border_wanted c l h = elim (cases_order (suc c) from) [
-    | inl e ↦ wanted_in (suc c) (omega arith) (omega arith) ∙ sym (subst (λ k. noted painted k ≡ colour) (sym e) p.noted_own)
+    | inl e ↦ wanted_in (suc c) (omega arith) (omega arith)
+        ∙ sym (subst (λ k. noted painted k ≡ colour) (sym e) p.noted_own)
     | inr (inl k) ↦ wanted_left (suc c) k ∙ old_border old colours c (sym (p.left (suc c) k) ∙ h)
         ∙ sym (p.noted_else (suc c) (λ e. absurd (omega arith)) (λ e. absurd (omega arith)))
     | inr (inr k) ↦ elim (cases_order (suc c) to) [
@@ -85,16 +92,24 @@ module _ (old now : CellSet) (colours painted : List ℕ) (from to colour : ℕ)
   goes_on c l h = elim (cases_order (suc c) from) [
     | inl e ↦ elim (cases_eq (colour_to old colours c) colour) [
       | inl f ↦ wanted_in (suc c) (omega arith) (omega arith) ∙ sym (wanted_left c (omega arith) ∙ f)
-      | inr n ↦ absurd (both_ways _ h (subst (λ k. has now k ≡ true) (sym e) (p.own.1 (inr (λ d g f. n (subst (λ k. colour_to old colours k ≡ colour) (omega arith) f))))))
+      | inr n ↦
+          absurd (both_ways _ h
+          (subst (λ k. has now k ≡ true) (sym e)
+          (p.own.1 (inr (λ d g f. n (subst (λ k. colour_to old colours k ≡ colour) (omega arith) f))))))
     ]
-    | inr (inl k) ↦ wanted_left (suc c) k ∙ old_on old colours c (sym (p.left (suc c) k) ∙ h) ∙ sym (wanted_left c (omega arith))
+    | inr (inl k) ↦ wanted_left (suc c) k ∙ old_on old colours c (sym (p.left (suc c) k) ∙ h)
+        ∙ sym (wanted_left c (omega arith))
     | inr (inr k) ↦ elim (cases_order (suc c) to) [
       | inl e ↦ elim (cases_eq (colour_to old colours (suc c)) colour) [
         | inl f ↦ wanted_right (suc c) (omega arith) ∙ f ∙ sym (wanted_in c (omega arith) (omega arith))
-        | inr n ↦ absurd (both_ways _ h (subst (λ k. has now k ≡ true) (sym e) ((p.end (omega arith)).1 (subst (λ k. colour_to old colours k ≢ colour) e n))))
+        | inr n ↦
+            absurd (both_ways _ h
+            (subst (λ k. has now k ≡ true) (sym e)
+            ((p.end (omega arith)).1 (subst (λ k. colour_to old colours k ≢ colour) e n))))
       ]
       | inr (inl m) ↦ wanted_in (suc c) (omega arith) m ∙ sym (wanted_in c (omega arith) (omega arith))
-      | inr (inr m) ↦ wanted_right (suc c) (omega arith) ∙ old_on old colours c (sym (p.right (suc c) m) ∙ h) ∙ sym (wanted_right c (omega arith))
+      | inr (inr m) ↦ wanted_right (suc c) (omega arith) ∙ old_on old colours c (sym (p.right (suc c) m) ∙ h)
+          ∙ sym (wanted_right c (omega arith))
     ]
   ]
 
@@ -104,7 +119,8 @@ module _ (old now : CellSet) (colours painted : List ℕ) (from to colour : ℕ)
   pub painted_in : (c : ℕ) → from ≤ c → c < to → colour_to now painted c ≡ colour
   painted_in c h l = now_wanted c (omega arith) ∙ wanted_in c h l
 
-  pub painted_beside : (c : ℕ) → (c < from) ⊎ (to ≤ c) → c < length colours → colour_to now painted c ≡ colour_to old colours c
+  pub painted_beside : (c : ℕ) → (c < from) ⊎ (to ≤ c) → c < length colours
+      → colour_to now painted c ≡ colour_to old colours c
   painted_beside c h l = now_wanted c l ∙ elim h [
     | inl k ↦ wanted_left c k
     | inr k ↦ wanted_right c k
@@ -117,7 +133,8 @@ module _ (old now : CellSet) (colours painted : List ℕ) (from to colour : ℕ)
     | inr (inr k) ↦ elim (cases_order c to) [
       | inl e ↦ elim (cases_lt to (length colours)) [
         | inl m ↦ omega arith
-        | inr m ↦ b.within c (subst (λ k. has old k ≡ true) (sym e) (sym (p.past m) ∙ subst (λ k. has now k ≡ true) e h))
+        | inr m ↦
+            b.within c (subst (λ k. has old k ≡ true) (sym e) (sym (p.past m) ∙ subst (λ k. has now k ≡ true) e h))
       ]
       | inr (inl m) ↦ omega arith
       | inr (inr m) ↦ b.within c (sym (p.right c m) ∙ h)
@@ -135,11 +152,13 @@ module _ (old now : CellSet) (colours painted : List ℕ) (from to colour : ℕ)
         b.change c g (sym (wanted_left c (omega arith)) ∙ f ∙ wanted_left (suc c) k ∙ old_border old colours c g)
     | inr (inr k) ↦ elim (cases_order (suc c) to) [
       | inl e ↦ (p.end (omega arith)).0 (subst (λ k. has now k ≡ true) e h)
-          (subst (λ k. colour_to old colours k ≡ colour) e (sym (wanted_right (suc c) (omega arith)) ∙ sym f ∙ wanted_in c (omega arith) (omega arith)))
+          (subst (λ k. colour_to old colours k ≡ colour) e
+          (sym (wanted_right (suc c) (omega arith)) ∙ sym f ∙ wanted_in c (omega arith) (omega arith)))
       | inr (inl m) ↦ both_ways _ (p.inside (suc c) k m) h
       | inr (inr m) ↦
           let g : has old (suc c) ≡ true = sym (p.right (suc c) m) ∙ h in
-          b.change c g (sym (wanted_right c (omega arith)) ∙ f ∙ wanted_right (suc c) (omega arith) ∙ old_border old colours c g)
+          b.change c g
+          (sym (wanted_right c (omega arith)) ∙ f ∙ wanted_right (suc c) (omega arith) ∙ old_border old colours c g)
     ]
   ]
 
@@ -168,8 +187,10 @@ module _ (old now : CellSet) (colours painted : List ℕ) (from to colour : ℕ)
 abbrev pub BeginsAt : CellSet → List ℕ → ℕ → ℕ → Type 0
 BeginsAt old colours from colour = (from ≡ 0) ⊎ ((c : ℕ) → suc c ≡ from → colour_to old colours c ≢ colour)
 
-module _ (old mid : CellSet) (colours mids : List ℕ) (from to colour : ℕ) (begins : Bool) (order : from < to) (within : to ≤ length colours)
-    (f : IsFilled old mid colours mids from to colour begins) (b : (begins ≡ true) ↔ BeginsAt old colours from colour) where
+module _ (old mid : CellSet) (colours mids : List ℕ) (from to colour : ℕ) (begins : Bool) (order : from < to)
+    (within : to ≤ length colours)
+    (f : IsFilled old mid colours mids from to colour begins)
+    (b : (begins ≡ true) ↔ BeginsAt old colours from colour) where
   filled_own : noted mids from ≡ colour
   filled_own = rw f.noted (get_or-set_same colours from colour 0 (omega arith))
 
@@ -196,8 +217,10 @@ module _ (old mid : CellSet) (colours mids : List ℕ) (from to colour : ℕ) (b
   }
 
   -- or up to a cell that has its colour still
-  pub painted_on : (now : CellSet) (painted : List ℕ) (after : ℕ) (apart : Bool) → to < length colours → after ≡ colour_to old colours to
-      → ((apart ≡ true) ↔ (after ≢ colour)) → has now to ≡ apart → ((c : ℕ) → c ≢ to → has now c ≡ has mid c) → painted ≡ set mids to after
+  pub painted_on : (now : CellSet) (painted : List ℕ) (after : ℕ) (apart : Bool) → to < length colours
+      → after ≡ colour_to old colours to
+      → ((apart ≡ true) ↔ (after ≢ colour)) → has now to ≡ apart → ((c : ℕ) → c ≢ to → has now c ≡ has mid c)
+      → painted ≡ set mids to after
       → room_of now ≡ room_of mid → IsPainted old now colours painted from to colour
   painted_on now painted after apart l is a own others put room =
       let many = filled_many in
@@ -222,7 +245,8 @@ module _ (old mid : CellSet) (colours mids : List ℕ) (from to colour : ℕ) (b
       }
 
 -- the same of a row
-module _ (k n : KeptRuns) (from to colour : ℕ) (b : AreBorders k.borders k.colours.items) (order : from < to) (within : to ≤ length k.colours.items)
+module _ (k n : KeptRuns) (from to colour : ℕ) (b : AreBorders k.borders k.colours.items) (order : from < to)
+    (within : to ≤ length k.colours.items)
     (p : IsPainted k.borders n.borders k.colours.items n.colours.items from to colour) where
   pub row_in : (c : ℕ) → from ≤ c → c < to → colours_of n c ≡ colour
   unfolding colours_of
@@ -246,8 +270,10 @@ module _ (k n : KeptRuns) (from to colour : ℕ) (b : AreBorders k.borders k.col
             rw (le-ltb c (length n.colours.items) q, le-ltb c (length k.colours.items) l) refl
       ]
 
-pub begins_at : (k : KeptRuns) → AreBorders k.borders k.colours.items → (from colour : ℕ) (begins : Bool) → from < length k.colours.items
-    → ((begins ≡ true) ↔ Begins (colours_of k) from colour) → (begins ≡ true) ↔ BeginsAt k.borders k.colours.items from colour
+pub begins_at : (k : KeptRuns) → AreBorders k.borders k.colours.items → (from colour : ℕ) (begins : Bool)
+    → from < length k.colours.items
+    → ((begins ≡ true) ↔ Begins (colours_of k) from colour)
+    → (begins ≡ true) ↔ BeginsAt k.borders k.colours.items from colour
 begins_at k b from colour begins l h = (
   λ t. elim (h.0 t) [
     | inl z ↦ inl z

@@ -1,5 +1,6 @@
 -- The colours of a row, by the borders between cells of different colours and the colours from these on.
-use Rattle.std.specs.Prelude.{◌≡◌, ◌≢◌, ◌⊎◌, ◌&&◌, ◌==◌, ℕ, zero, suc, ◌+◌, ◌<◌, ◌≤◌, ◌^◌, Bool, true, false, List, [], ◌∷◌, ◌++◌, get_or, set, length, nat_lt, nat_le, if◌then◌else◌}
+use Rattle.std.specs.Prelude.{◌≡◌, ◌≢◌, ◌⊎◌, ◌&&◌, ◌==◌, ℕ, zero, suc, ◌+◌, ◌<◌, ◌≤◌, ◌^◌, Bool, true, false, List, []}
+use Rattle.std.specs.Prelude.{◌∷◌, ◌++◌, get_or, set, length, nat_lt, nat_le, if◌then◌else◌}
 use Rattle.cell_set.specs.declared.set.CellSet.{CellSet}
 use Rattle.cell_set.specs.Sets.{has, room_of}
 use Rattle.mask_runs.specs.declared.run.Run.{Run}
@@ -48,7 +49,8 @@ abbrev pub Begins : (ℕ → ℕ) → ℕ → ℕ → Type 0
 Begins colours cell colour = (cell ≡ 0) ⊎ ((c : ℕ) → c + 1 ≡ cell → colours c ≢ colour)
 
 -- the cells from one up to another have no border but the first, if that is one, at which the colour is noted
-pub record IsFilled (old now : CellSet) (colours painted : List ℕ) (from to colour : ℕ) (is_border : Bool) : Type 0 where
+pub record IsFilled (old now : CellSet) (colours painted : List ℕ) (from to colour : ℕ)
+    (is_border : Bool) : Type 0 where
   pub own : has now from ≡ is_border
   pub inside : (c : ℕ) → from < c → c < to → has now c ≡ false
   pub beside : (c : ℕ) → (c < from) ⊎ (to ≤ c) → has now c ≡ has old c

@@ -1,6 +1,9 @@
 pub mod Chains
 pub mod Adjoins
 pub mod SquareOrder
+pub mod Following
+pub mod Ranks
+pub mod Rects
 mod Rectangles
 mod Touching
 mod Extents

@@ -6,7 +6,7 @@ use Rattle.lam_geom.specs.declared.layer.Layer.{Layer}
 use Rattle.lam_geom.specs.declared.layer.Layer.TheVariants.{ND, NP, NC, NM, NI, NB, NG}
 use Rattle.lam_geom.specs.Squares.{Square, Before, rank}
 
-layer_of : ℕ → Layer
+pub layer_of : ℕ → Layer
 layer_of zero = NM
 layer_of (suc zero) = NP
 layer_of (suc (suc zero)) = ND
@@ -15,7 +15,7 @@ layer_of (suc (suc (suc (suc zero)))) = NI
 layer_of (suc (suc (suc (suc (suc zero))))) = NB
 layer_of (suc (suc (suc (suc (suc (suc n)))))) = NG
 
-layer_back : (l : Layer) → layer_of (rank l) ≡ l
+pub layer_back : (l : Layer) → layer_of (rank l) ≡ l
 unfolding layer_of
 layer_back NM = refl
 layer_back NP = refl

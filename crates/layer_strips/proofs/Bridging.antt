@@ -1,8 +1,9 @@
 -- The tiles of the mask of one layer are the strips of the layer.
-use Rattle.std.proofs.Common.{ℕ, ◌≡◌, ◌≢◌, ◌+◌, ◌<◌, List, [], ◌∷◌, ◌++◌, map, All, inl, inr, refl, sym, ap, ◌∙◌, subst, arith, length, get_or, take}
-use Rattle.std.specs.Prelude.{ℤ, pos, negsuc, ◌+ℤ◌, ◌<ℤ◌, ◌≤ℤ◌, Contains, AllPairs}
+use Rattle.std.proofs.Common.{ℕ, ◌≡◌, ◌≢◌, ◌+◌, ◌<◌, List, [], ◌∷◌, ◌++◌, map, All, inl, inr, refl, sym, ap, ◌∙◌, subst}
+use Rattle.std.proofs.Common.{arith, length, get_or, take}
+use Rattle.std.specs.Prelude.{ℤ, pos, negsuc, ◌+ℤ◌, Contains, AllPairs}
 use Rattle.std.proofs.lemmas.Bool.{cases_order}
-use Rattle.std.proofs.lemmas.Int.{ints, by_lt_z}
+use Rattle.std.proofs.lemmas.Int.{ints}
 use Rattle.std.proofs.lemmas.List.{append_assoc, get_or-map, length-map, map-append, take_more}
 use Rattle.std.proofs.lemmas.List.Elements.{All-map, All-weaker}
 use Rattle.lam_geom.specs.declared.layer.Layer.{Layer}
@@ -12,6 +13,7 @@ use Rattle.mask_runs.specs.declared.mask.Mask.TheVariants.{Only}
 use Rattle.mask_runs.specs.Colours.{HasColour}
 use Rattle.region_sweep.specs.declared.tile.Tile.{Tile}
 use Rattle.region_sweep.specs.Tiles.{IsLongest, IsSpan, IsTile, Before, AreTiles}
+use Rattle.region_sweep.proofs.Longest.{longest_once}
 use Rattle.layer_strips.specs.Strips.{IsRun, IsStrip}
 use Rattle.layer_strips.specs.Layers.{rect_of, AreStripsOf}
 use Rattle.layer_strips.specs.Sweep.{IsSolid, AreApart, strip, no_strip}
@@ -19,7 +21,8 @@ use Rattle.layer_strips.proofs.Covering.{has_colour, is_covered}
 
 -- ---- longest stretches
 
-longest_map : (P Q : ℤ → Type 0) (a b : ℤ) → ((z : ℤ) → P z → Q z) → ((z : ℤ) → Q z → P z) → IsLongest P a b → IsLongest Q a b
+longest_map : (P Q : ℤ → Type 0) (a b : ℤ) → ((z : ℤ) → P z → Q z) → ((z : ℤ) → Q z → P z) → IsLongest P a b
+    → IsLongest Q a b
 longest_map P Q a b f g h = record {
   some = h.some;
   each = λ z l m. f z (h.each z l m);
@@ -27,43 +30,34 @@ longest_map P Q a b f g h = record {
   after = λ q. h.after (g b q);
 }
 
-not_after : (P : ℤ → Type 0) (a b c d z : ℤ) → IsLongest P a b → IsLongest P c d → a ≤ℤ z → z <ℤ b → c ≤ℤ z → z <ℤ d → a ≤ℤ c
-not_after P a b c d z h k l m n o = by_lt_z c a (λ x. absurd (h.before (k.each (a +ℤ negsuc 0) (omega (arith, ints)) (omega (arith, ints))))) (λ x. x)
-
-not_before : (P : ℤ → Type 0) (a b c d z : ℤ) → IsLongest P a b → IsLongest P c d → a ≤ℤ z → z <ℤ b → c ≤ℤ z → z <ℤ d → d ≤ℤ b
-not_before P a b c d z h k l m n o = by_lt_z b d (λ x. absurd (h.after (k.each b (omega (arith, ints)) x))) (λ x. x)
-
--- two with a common place are one
-same_stretch : (P : ℤ → Type 0) (a b c d z : ℤ) → IsLongest P a b → IsLongest P c d → a ≤ℤ z → z <ℤ b → c ≤ℤ z → z <ℤ d → (a ≡ c) × (b ≡ d)
-same_stretch P a b c d z h k l m n o =
-    let e = not_after P a b c d z h k l m n o in
-    let f = not_after P c d a b z k h n o l m in
-    let g = not_before P a b c d z h k l m n o in
-    let i = not_before P c d a b z k h n o l m in
-    (omega (arith, ints), omega (arith, ints))
-
 -- ---- strips
 
 pub is_solid : (shapes : List Rect) (r : Rect) → IsStrip shapes r → IsSolid r
 is_solid shapes r s = let t = s.some in record { wide = (s.each r.y0 (omega (arith, ints)) t).some; tall = t }
 
 -- strips of a layer with a common square are one
-same_strip : (shapes : List Rect) (r q : Rect) (l : Layer) (x y : ℤ) → IsStrip shapes r → IsStrip shapes q → Covers r l x y
+same_strip : (shapes : List Rect) (r q : Rect) (l : Layer) (x y : ℤ) → IsStrip shapes r → IsStrip shapes q
+    → Covers r l x y
     → Covers q l x y → r ≡ q
 same_strip shapes r q l x y s t h k =
     let s' = subst (λ n. IsLongest (IsRun shapes n r.x0 r.x1) r.y0 r.y1) h.same s in
     let t' = subst (λ n. IsLongest (IsRun shapes n q.x0 q.x1) q.y0 q.y1) k.same t in
-    let e = same_stretch (λ z. covered shapes l z y) r.x0 r.x1 q.x0 q.x1 x (s'.each y h.bottom h.top) (t'.each y k.bottom k.top) h.left h.right k.left k.right in
+    let e = longest_once (λ z. covered shapes l z y) r.x0 r.x1 q.x0 q.x1 x (s'.each y h.bottom h.top)
+    (t'.each y k.bottom k.top) h.left h.right k.left k.right in
     let u = subst (λ a. IsLongest (IsRun shapes l a q.x1) q.y0 q.y1) (sym e.0) t' in
     let v = subst (λ b. IsLongest (IsRun shapes l r.x0 b) q.y0 q.y1) (sym e.1) u in
-    let f = same_stretch (IsRun shapes l r.x0 r.x1) r.y0 r.y1 q.y0 q.y1 y s' v h.bottom h.top k.bottom k.top in
+    let f = longest_once (IsRun shapes l r.x0 r.x1) r.y0 r.y1 q.y0 q.y1 y s' v h.bottom h.top k.bottom k.top in
     let g : r.layer ≡ q.layer = h.same ∙ sym k.same in
     λ i. record { layer = g i; x0 = e.0 i; y0 = f.0 i; x1 = e.1 i; y1 = f.1 i }
 
-pub are_apart : (shapes strips : List Rect) → All (IsStrip shapes) strips → AllPairs (λ r q. r ≢ q) strips → AreApart strips
+pub are_apart : (shapes strips : List Rect) → All (IsStrip shapes) strips → AllPairs (λ r q. r ≢ q) strips
+    → AreApart strips
 are_apart shapes strips each once i j l x y m n h k =
     let e = same_strip shapes (strip strips i) (strip strips j) l x y (each i no_strip m) (each j no_strip n) h k in
-    elim (cases_order i j) [ inl o ↦ o | inr o ↦ elim o [ inl p ↦ absurd (once i j no_strip p n e) | inr p ↦ absurd (once j i no_strip p m (sym e)) ] ]
+    elim (cases_order i j) [
+      | inl o ↦ o
+      | inr o ↦ elim o [ inl p ↦ absurd (once i j no_strip p n e) | inr p ↦ absurd (once j i no_strip p m (sym e)) ]
+    ]
 
 -- ---- tiles
 
@@ -94,7 +88,8 @@ module _ (shapes : List Rect) (l : Layer) where
   tile_of_strip : (r : Rect) → IsStrip shapes r → r.layer ≡ l → IsTile shapes (Only l) (tile_of r)
   tile_of_strip r h e = record {
     some = omega arith;
-    stack = longest_map (IsRun shapes l r.x0 r.x1) (IsSpan shapes (Only l) 1 r.x0 r.x1) r.y0 r.y1 (span_of_run r.x0 r.x1) (run_of_span r.x0 r.x1)
+    stack = longest_map (IsRun shapes l r.x0 r.x1) (IsSpan shapes (Only l) 1 r.x0 r.x1) r.y0 r.y1
+        (span_of_run r.x0 r.x1) (run_of_span r.x0 r.x1)
         (subst (λ n. IsLongest (IsRun shapes n r.x0 r.x1) r.y0 r.y1) e h);
   }
 
@@ -115,21 +110,26 @@ module _ (shapes : List Rect) (l : Layer) where
   pub are_strips_of : (ts : List Tile) → AreTiles shapes (Only l) ts → AreStripsOf shapes l (map (rect_of l) ts)
   are_strips_of ts h = record {
     each = All-map (λ r. IsStrip shapes r × (r.layer ≡ l)) (rect_of l) ts
-        (All-weaker (IsTile shapes (Only l)) (λ t. IsStrip shapes (rect_of l t) × (l ≡ l)) (λ t k. (strip_of_tile t k, refl)) ts h.each);
+        (All-weaker (IsTile shapes (Only l)) (λ t. IsStrip shapes (rect_of l t) × (l ≡ l))
+        (λ t k. (strip_of_tile t k, refl)) ts h.each);
     all = λ r k e. subst (Contains (map (rect_of l) ts)) (ap (λ n. rect_of n (tile_of r)) (sym e))
         (contains_map ts (tile_of r) (h.all (tile_of r) (tile_of_strip r k e)));
     once = λ i j d m n e.
         let len = length-map ts (rect_of l) in
-        let a : get_or (map (rect_of l) ts) i d ≡ rect_of l (get_or ts i no_tile) = get_or-map (rect_of l) ts i no_tile d (omega arith) in
-        let b : get_or (map (rect_of l) ts) j d ≡ rect_of l (get_or ts j no_tile) = get_or-map (rect_of l) ts j no_tile d (omega arith) in
+        let a : get_or (map (rect_of l) ts) i d ≡ rect_of l (get_or ts i no_tile) =
+        get_or-map (rect_of l) ts i no_tile d (omega arith) in
+        let b : get_or (map (rect_of l) ts) j d ≡ rect_of l (get_or ts j no_tile) =
+        get_or-map (rect_of l) ts j no_tile d (omega arith) in
         differ (get_or ts i no_tile) (get_or ts j no_tile) (h.ascending i j no_tile m (omega arith)) (sym a ∙ e ∙ b);
   }
 
-pub tiles_more : (l : Layer) (start : List Rect) (ts : List Tile) (i : ℕ) (d : Tile) (old new : List Rect) → i < length ts
+pub tiles_more : (l : Layer) (start : List Rect) (ts : List Tile) (i : ℕ) (d : Tile) (old new : List Rect)
+    → i < length ts
     → old ≡ start ++ map (rect_of l) (take i ts) → new ≡ old ++ rect_of l (get_or ts i d) ∷ []
     → new ≡ start ++ map (rect_of l) (take (i + 1) ts)
 tiles_more l start ts i d old new m h e =
     let f = rect_of l in
     let x = get_or ts i d in
     e ∙ ap (λ s. s ++ f x ∷ []) h ∙ append_assoc start (map f (take i ts)) (f x ∷ [])
-    ∙ ap (λ s. start ++ s) (sym (map-append f (take i ts) (x ∷ []))) ∙ ap (λ s. start ++ map f s) (sym (take_more ts i d m))
+    ∙ ap (λ s. start ++ s) (sym (map-append f (take i ts) (x ∷ [])))
+    ∙ ap (λ s. start ++ map f s) (sym (take_more ts i d m))

@@ -1,5 +1,6 @@
 -- The strips of layer after layer.
-use Rattle.std.proofs.Common.{ℕ, ◌≡◌, ◌≢◌, ◌+◌, ◌-◌, ◌<◌, ◌≤◌, List, [], ◌++◌, inl, inr, sym, ap, ◌∙◌, subst, arith, length, get_or}
+use Rattle.std.proofs.Common.{ℕ, ◌≡◌, ◌≢◌, ◌+◌, ◌-◌, ◌<◌, ◌≤◌, List, [], ◌++◌, inl, inr, sym, ap, ◌∙◌, subst, arith}
+use Rattle.std.proofs.Common.{length, get_or}
 use Rattle.std.specs.Prelude.{AllPairs}
 use Rattle.std.proofs.lemmas.Bool.{cases_lt}
 use Rattle.std.proofs.lemmas.List.{get_or_append_left, get_or-append-add, length-append}
@@ -8,9 +9,9 @@ use Rattle.lam_geom.specs.declared.layer.Layer.{Layer}
 use Rattle.lam_geom.specs.declared.layer.Layer.TheVariants.{ND, NP, NC, NM, NI, NB, NG}
 use Rattle.lam_geom.specs.declared.rect.Rect.{Rect}
 use Rattle.lam_geom.specs.Squares.{rank}
+use Rattle.lam_geom.proofs.SquareOrder.{of_ranks}
 use Rattle.layer_strips.specs.Strips.{IsStrip, AreStrips}
 use Rattle.layer_strips.specs.Layers.{AddsLayer, AreUpTo}
-use Rattle.layer_strips.proofs.Covering.{same_rank}
 
 pub rank_below : (l : Layer) → rank l < 7
 rank_below NM = omega arith
@@ -33,7 +34,8 @@ pairs_append {X} R xs ys h k m i j d l n =
       | inr a ↦
           let q = j - length xs in
           let e : length xs + q ≡ j = omega arith in
-          let g : get_or (xs ++ ys) j d ≡ get_or ys q d = ap (λ z. get_or (xs ++ ys) z d) (sym e) ∙ get_or-append-add xs ys q d in
+          let g : get_or (xs ++ ys) j d ≡ get_or ys q d =
+          ap (λ z. get_or (xs ++ ys) z d) (sym e) ∙ get_or-append-add xs ys q d in
           elim (cases_lt i (length xs)) [
             | inl b ↦
                 subst (λ u. R u (get_or (xs ++ ys) j d)) (sym (get_or_append_left xs ys d i b))
@@ -41,8 +43,10 @@ pairs_append {X} R xs ys h k m i j d l n =
             | inr b ↦
                 let p = i - length xs in
                 let f : length xs + p ≡ i = omega arith in
-                let o : get_or (xs ++ ys) i d ≡ get_or ys p d = ap (λ z. get_or (xs ++ ys) z d) (sym f) ∙ get_or-append-add xs ys p d in
-                subst (λ u. R u (get_or (xs ++ ys) j d)) (sym o) (subst (R (get_or ys p d)) (sym g) (k p q d (omega arith) (omega arith)))
+                let o : get_or (xs ++ ys) i d ≡ get_or ys p d =
+                ap (λ z. get_or (xs ++ ys) z d) (sym f) ∙ get_or-append-add xs ys p d in
+                subst (λ u. R u (get_or (xs ++ ys) j d)) (sym o)
+                (subst (R (get_or ys p d)) (sym g) (k p q d (omega arith) (omega arith)))
           ]
     ]
 
@@ -54,7 +58,8 @@ module _ (shapes : List Rect) where
     once = λ i j d l m. absurd (omega arith);
   }
 
-  pub up_more : (n : ℕ) (l : Layer) (old new : List Rect) → rank l ≡ n → AddsLayer shapes l old new → AreUpTo shapes n old
+  pub up_more : (n : ℕ) (l : Layer) (old new : List Rect) → rank l ≡ n → AddsLayer shapes l old new
+      → AreUpTo shapes n old
       → AreUpTo shapes (n + 1) new
   up_more n l old new e a h =
       let b = a.added in
@@ -62,11 +67,13 @@ module _ (shapes : List Rect) where
       let P = λ (r : Rect). IsStrip shapes r × (rank r.layer < n + 1) in
       subst (AreUpTo shapes (n + 1)) (sym a.is) (record {
         each = All-append P old b
-            (All-weaker (λ r. IsStrip shapes r × (rank r.layer < n)) P (λ r k. (k.0, (let m = k.1 in omega arith))) old h.each)
-            (All-weaker (λ r. IsStrip shapes r × (r.layer ≡ l)) P (λ r k. (k.0, (let m : rank r.layer ≡ rank l = ap rank k.1 in omega arith))) b own.each);
+            (All-weaker (λ r. IsStrip shapes r × (rank r.layer < n)) P
+            (λ r k. (k.0, (let m = k.1 in omega arith))) old h.each)
+            (All-weaker (λ r. IsStrip shapes r × (r.layer ≡ l)) P
+            (λ r k. (k.0, (let m : rank r.layer ≡ rank l = ap rank k.1 in omega arith))) b own.each);
         all = λ r k m. elim (cases_lt (rank r.layer) n) [
           | inl o ↦ Contains-append_left old b r (h.all r k o)
-          | inr o ↦ Contains-append_right old b r (own.all r k (same_rank r.layer l (omega arith)))
+          | inr o ↦ Contains-append_right old b r (own.all r k (of_ranks r.layer l (omega arith)))
         ];
         once = pairs_append (λ r q. r ≢ q) old b h.once own.once (λ i j d k m f.
             let u = (h.each i d k).1 in

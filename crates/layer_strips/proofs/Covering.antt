@@ -1,18 +1,19 @@
 -- A square has the colour 1 of the mask of one layer exactly where the layer covers it.
-use Rattle.std.proofs.Common.{ℕ, ◌≡◌, ◌≢◌, ◌<◌, ◌⊎◌, ◌↔◌, List, [], ◌∷◌, Bool, true, false, inl, inr, refl, sym, ap, ◌∙◌, arith}
+use Rattle.std.proofs.Common.{ℕ, ◌≡◌, ◌<◌, ◌⊎◌, ◌↔◌, List, [], ◌∷◌, Bool, true, false, inl, inr, refl, sym, ap, arith}
 use Rattle.std.specs.Prelude.{ℤ, cond, ◌==◌, if◌then◌else◌}
-use Rattle.std.proofs.lemmas.Bool.{cases_eq}
 use Rattle.std.proofs.lemmas.Int.{ints, by_lt_z}
 use Rattle.lam_geom.specs.declared.layer.Layer.{Layer}
 use Rattle.lam_geom.specs.declared.layer.Layer.TheVariants.{ND, NP, NC, NM, NI, NB, NG}
 use Rattle.lam_geom.specs.declared.rect.Rect.{Rect}
 use Rattle.lam_geom.specs.Squares.{Covers, covered, rank}
+use Rattle.lam_geom.proofs.Ranks.{layer_or_not}
 use Rattle.mask_runs.specs.declared.mask.Layers.{Layers}
 use Rattle.mask_runs.specs.declared.mask.Mask.TheVariants.{Only}
 use Rattle.mask_runs.specs.Colours.{has, Sees, HasColour}
 
 abbrev unrank : ℕ → Layer
-unrank n = cond (n == 0) NM (cond (n == 1) NP (cond (n == 2) ND (cond (n == 3) NC (cond (n == 4) NI (cond (n == 5) NB NG)))))
+unrank n =
+    cond (n == 0) NM (cond (n == 1) NP (cond (n == 2) ND (cond (n == 3) NC (cond (n == 4) NI (cond (n == 5) NB NG)))))
 
 ranked_back : (l : Layer) → unrank (rank l) ≡ l
 ranked_back NM = refl
@@ -23,14 +24,8 @@ ranked_back NI = refl
 ranked_back NB = refl
 ranked_back NG = refl
 
-pub same_rank : (a b : Layer) → rank a ≡ rank b → a ≡ b
-same_rank a b e = sym (ranked_back a) ∙ ap unrank e ∙ ranked_back b
-
-layer_cases : (a b : Layer) → (a ≡ b) ⊎ (a ≢ b)
-layer_cases a b = elim (cases_eq (rank a) (rank b)) [ inl e ↦ inl (same_rank a b e) | inr n ↦ inr (λ e. n (ap rank e)) ]
-
 covers_cases : (r : Rect) (l : Layer) (x y : ℤ) → Covers r l x y ⊎ ¬ Covers r l x y
-covers_cases r l x y = elim (layer_cases r.layer l) [
+covers_cases r l x y = elim (layer_or_not r.layer l) [
   | inl e ↦ by_lt_z x r.x0
       (λ a. inr (λ h. let b = h.left in absurd (omega (arith, ints))))
       (λ a. by_lt_z x r.x1
@@ -47,7 +42,10 @@ covered_cases : (shapes : List Rect) (l : Layer) (x y : ℤ) → covered shapes 
 covered_cases [] l x y = inr (λ h. h)
 covered_cases (r ∷ rs) l x y = elim (covers_cases r l x y) [
   | inl c ↦ inl (inl c)
-  | inr n ↦ elim (covered_cases rs l x y) [ inl c ↦ inl (inr c) | inr m ↦ inr (λ h. elim h [ inl a ↦ n a | inr b ↦ m b ]) ]
+  | inr n ↦ elim (covered_cases rs l x y) [
+    | inl c ↦ inl (inr c)
+    | inr m ↦ inr (λ h. elim h [ inl a ↦ n a | inr b ↦ m b ])
+  ]
 ]
 
 abbrev yes : {P : Type 0} → P ⊎ ¬ P → Bool

@@ -25,13 +25,18 @@ none_of (Some n) h = absurd (h n refl)
 
 module _ (m : BTreeMap ℤ ℕ) (lo : Bound ℤ) (Is : ℤ → Type 0) where
   pub first_is : (r t : List (ℤ × ℕ)) (e : ℤ × ℕ) → IsRangeOf int_cmp lo Unbounded m r → r ≡ e ∷ t
-      → ((k : ℤ) → Is k → IsFromStart int_cmp lo k) → (IsFromStart int_cmp lo e.0 → Is e.0) → IsNext (get int_cmp m) Is (Some e)
+      → ((k : ℤ) → Is k → IsFromStart int_cmp lo k) → (IsFromStart int_cmp lo e.0 → Is e.0)
+      → IsNext (get int_cmp m) Is (Some e)
   first_is r t e h is to from =
-      let one = All-head (IsEntryInRange int_cmp lo Unbounded m) e t (subst (All (IsEntryInRange int_cmp lo Unbounded m)) is h.0) in (
+      let one =
+      All-head (IsEntryInRange int_cmp lo Unbounded m) e t
+      (subst (All (IsEntryInRange int_cmp lo Unbounded m)) is h.0) in (
         one.1,
         from one.0.0,
         (λ k i l. none_of (get int_cmp m k) (λ n g.
-            let b : IfSome (slice_get (e ∷ t) 0) (λ x. IsLeBy int_cmp x.0 k) = subst (λ z. IfSome (slice_get z 0) (λ x. IsLeBy int_cmp x.0 k)) is (h.2 k (to k i, tt) (is_some (get int_cmp m k) n g)) in
+            let b : IfSome (slice_get (e ∷ t) 0) (λ x. IsLeBy int_cmp x.0 k) =
+            subst (λ z. IfSome (slice_get z 0) (λ x. IsLeBy int_cmp x.0 k)) is
+            (h.2 k (to k i, tt) (is_some (get int_cmp m k) n g)) in
             let c = le_of e.0 k b in
             absurd (omega (arith, ints)))),
       )

@@ -1,5 +1,6 @@
 -- The strips that have begun and not finished stand side by side, and an event keeps what is known of them.
-use Rattle.std.proofs.Common.{ℕ, ◌≡◌, ◌≢◌, ◌⊎◌, inl, inr, refl, sym, ap, ◌∙◌, subst, arith, ◌+◌, ◌<◌, ◌≤◌, List, All, Option, Some, None, length}
+use Rattle.std.proofs.Common.{ℕ, ◌≡◌, ◌≢◌, ◌⊎◌, inl, inr, refl, sym, ap, ◌∙◌, subst, arith, ◌+◌, ◌<◌, ◌≤◌, List, All}
+use Rattle.std.proofs.Common.{Option, Some, None, length}
 use Rattle.std.specs.Prelude.{ℤ, pos, negsuc, ◌+ℤ◌, ◌≤ℤ◌, ◌<ℤ◌, Contains}
 use Rattle.std.proofs.lemmas.Bool.{cases_eq, cases_lt}
 use Rattle.std.proofs.lemmas.Int.{ints, by_lt_z}
@@ -14,7 +15,9 @@ use Rattle.layer_strips.specs.declared.event.Step.{Step}
 use Rattle.layer_strips.specs.declared.event.Step.TheVariants.{Begin, Ask, Finish}
 use Rattle.layer_strips.specs.declared.event.Event.{Event}
 use Rattle.layer_strips.proofs.Meeting.{grows_none}
-use Rattle.layer_strips.specs.Sweep.{first, last, IsSolid, thrice, begin, ask, finish, strip, no_strip, IsOf, IsAt, event, no_event, IsSchedule, AreApart, IsRow, Grows, Joins, Does, Catches, IsLive, IsSwept}
+use Rattle.layer_strips.specs.Sweep.{first, last, IsSolid, thrice, begin, ask, finish, strip, no_strip, IsOf, IsAt}
+use Rattle.layer_strips.specs.Sweep.{event, no_event, IsSchedule, AreApart, IsRow, Grows, Joins, Does, Catches, IsLive}
+use Rattle.layer_strips.specs.Sweep.{IsSwept}
 
 -- ---- places and steps
 
@@ -54,21 +57,41 @@ record Row (r q : Rect) : Type 0 where
   q0 : q.y0 ≤ℤ y
   q1 : y <ℤ q.y1
 
-common : (part : Part) (r q : Rect) → IsSolid r → IsSolid q → first part r ≤ℤ last part q → first part q ≤ℤ last part r → Row r q
+common : (part : Part) (r q : Rect) → IsSolid r → IsSolid q → first part r ≤ℤ last part q → first part q ≤ℤ last part r
+    → Row r q
 common Body r q s t h k =
     let a = s.tall in
     let b = t.tall in
     by_lt_z r.y0 q.y0
-    (λ l. record { y = q.y0; r0 = omega (arith, ints); r1 = omega (arith, ints); q0 = omega (arith, ints); q1 = omega (arith, ints) })
-    (λ l. record { y = r.y0; r0 = omega (arith, ints); r1 = omega (arith, ints); q0 = omega (arith, ints); q1 = omega (arith, ints) })
+    (λ l. record {
+      y = q.y0;
+      r0 = omega (arith, ints);
+      r1 = omega (arith, ints);
+      q0 = omega (arith, ints);
+      q1 = omega (arith, ints);
+    })
+    (λ l. record {
+      y = r.y0;
+      r0 = omega (arith, ints);
+      r1 = omega (arith, ints);
+      q0 = omega (arith, ints);
+      q1 = omega (arith, ints);
+    })
 common Top r q s t h k =
     let a = s.tall in
     let b = t.tall in
-    record { y = r.y1 +ℤ negsuc 0; r0 = omega (arith, ints); r1 = omega (arith, ints); q0 = omega (arith, ints); q1 = omega (arith, ints) }
+    record {
+      y = r.y1 +ℤ negsuc 0;
+      r0 = omega (arith, ints);
+      r1 = omega (arith, ints);
+      q0 = omega (arith, ints);
+      q1 = omega (arith, ints);
+    }
 
 module _ (layer : Layer) (part : Part) (strips : List Rect) (solid : All IsSolid strips) (apart : AreApart strips) where
   -- strips of the layer that have rows in common, of which one ends inside the other, are one
-  same : (i j : ℕ) → IsOf layer strips i → IsOf layer strips j → first part (strip strips i) ≤ℤ last part (strip strips j)
+  same : (i j : ℕ) → IsOf layer strips i → IsOf layer strips j
+      → first part (strip strips i) ≤ℤ last part (strip strips j)
       → first part (strip strips j) ≤ℤ last part (strip strips i)
       → (strip strips j).x0 <ℤ (strip strips i).x1 → (strip strips i).x1 ≤ℤ (strip strips j).x1 → i ≡ j
   same i j h k a b l m =
@@ -97,8 +120,11 @@ module _ (layer : Layer) (part : Part) (strips : List Rect) (solid : All IsSolid
         → IsOf layer strips i × ((event events n).time ≡ thrice (last part (strip strips i)) +ℤ pos 2)
     finishes n i h e f =
         let g = (s.whole.each n no_event h).1 in
-        let at = subst (λ t. IsAt layer part strips t (event events n)) e g in
-        (subst (IsOf layer strips) f at.0, ap (λ v. v.time) at.1 ∙ ap (λ j. thrice (last part (strip strips j)) +ℤ pos 2) f)
+        let at = subst (λ t. IsAt layer part strips t (event events n)) e g in (
+          subst (IsOf layer strips) f at.0,
+          ap (λ v. v.time) at.1
+              ∙ ap (λ j. thrice (last part (strip strips j)) +ℤ pos 2) f,
+        )
 
     asks : (n i : ℕ) → n < length events → (event events n).step ≡ Ask → (event events n).index ≡ i
         → (event events n).time ≡ thrice (strip strips i).y0 +ℤ pos 1
@@ -112,10 +138,12 @@ module _ (layer : Layer) (part : Part) (strips : List Rect) (solid : All IsSolid
     place : (e : Event) → Contains events e → (k : ℕ) × (k < length events) × (event events k ≡ e)
     place e h = (h.0, h.1, get_or_default events h.0 no_event e h.1 ∙ h.2)
 
-    begun : (i : ℕ) → IsOf layer strips i → (k : ℕ) × (k < length events) × (event events k ≡ begin part i (strip strips i))
+    begun : (i : ℕ) → IsOf layer strips i
+        → (k : ℕ) × (k < length events) × (event events k ≡ begin part i (strip strips i))
     begun i h = place (begin part i (strip strips i)) (s.whole.begun i h.inside h.same)
 
-    finished : (i : ℕ) → IsOf layer strips i → (k : ℕ) × (k < length events) × (event events k ≡ finish part i (strip strips i))
+    finished : (i : ℕ) → IsOf layer strips i
+        → (k : ℕ) × (k < length events) × (event events k ≡ finish part i (strip strips i))
     finished i h = place (finish part i (strip strips i)) (s.whole.finished i h.inside h.same)
 
     live_of : (n i : ℕ) → n ≤ length events → IsLive events n i → IsOf layer strips i
@@ -145,7 +173,8 @@ module _ (layer : Layer) (part : Part) (strips : List Rect) (solid : All IsSolid
 
     -- ---- the row of those that have begun and not finished
 
-    pub is_row : (n : ℕ) (row : ℤ → Option ℕ) (pairs : List (ℕ × ℕ)) → n ≤ length events → IsSwept layer part strips events n row pairs
+    pub is_row : (n : ℕ) (row : ℤ → Option ℕ) (pairs : List (ℕ × ℕ)) → n ≤ length events
+        → IsSwept layer part strips events n row pairs
         → IsRow strips row
     is_row n row pairs h v = record {
       each = λ k i e. ((live_of n i h (v.found k i e).0).inside, (v.found k i e).1);
@@ -160,7 +189,8 @@ module _ (layer : Layer) (part : Part) (strips : List Rect) (solid : All IsSolid
           (λ o. o);
     }
 
-    live_more : (n i : ℕ) → ((event events n).step ≡ Finish → (event events n).index ≢ i) → IsLive events n i → IsLive events (n + 1) i
+    live_more : (n i : ℕ) → ((event events n).step ≡ Finish → (event events n).index ≢ i) → IsLive events n i
+        → IsLive events (n + 1) i
     live_more n i e v = let b = v.before in record {
       at = v.at;
       before = omega arith;
@@ -168,23 +198,28 @@ module _ (layer : Layer) (part : Part) (strips : List Rect) (solid : All IsSolid
       own = v.own;
       lasts = λ q l f g. elim (cases_lt q n) [
         | inl m ↦ v.lasts q m f g
-        | inr m ↦ let o : q ≡ n = omega arith in e (subst (λ z. (event events z).step ≡ Finish) o f) (subst (λ z. (event events z).index ≡ i) o g)
+        | inr m ↦ let o : q ≡ n = omega arith in
+            e (subst (λ z. (event events z).step ≡ Finish) o f) (subst (λ z. (event events z).index ≡ i) o g)
       ];
     }
 
-    live_less : (n i : ℕ) → ((event events n).step ≡ Begin → (event events n).index ≢ i) → IsLive events (n + 1) i → IsLive events n i
+    live_less : (n i : ℕ) → ((event events n).step ≡ Begin → (event events n).index ≢ i) → IsLive events (n + 1) i
+        → IsLive events n i
     live_less n i e v = let b = v.before in record {
       at = v.at;
       before = elim (cases_lt v.at n) [
         | inl m ↦ m
-        | inr m ↦ let o : v.at ≡ n = omega arith in absurd (e (subst (λ z. (event events z).step ≡ Begin) o v.begins) (subst (λ z. (event events z).index ≡ i) o v.own))
+        | inr m ↦ let o : v.at ≡ n = omega arith in
+            absurd (e (subst (λ z. (event events z).step ≡ Begin) o v.begins)
+            (subst (λ z. (event events z).index ≡ i) o v.own))
       ];
       begins = v.begins;
       own = v.own;
       lasts = λ q l. v.lasts q (omega arith);
     }
 
-    live_new : (n i : ℕ) → n < length events → (event events n).step ≡ Begin → (event events n).index ≡ i → IsLive events (n + 1) i
+    live_new : (n i : ℕ) → n < length events → (event events n).step ≡ Begin → (event events n).index ≡ i
+        → IsLive events (n + 1) i
     live_new n i h e f = record {
       at = n;
       before = omega arith;
@@ -201,7 +236,8 @@ module _ (layer : Layer) (part : Part) (strips : List Rect) (solid : All IsSolid
 
     -- ---- what an event does
 
-    begins_one : (n i : ℕ) (row new : ℤ → Option ℕ) (pairs more : List (ℕ × ℕ)) → n < length events → (event events n).step ≡ Begin
+    begins_one : (n i : ℕ) (row new : ℤ → Option ℕ) (pairs more : List (ℕ × ℕ)) → n < length events
+        → (event events n).step ≡ Begin
         → (event events n).index ≡ i
         → IsSwept layer part strips events n row pairs → Does strips Begin i row new pairs more
         → IsSwept layer part strips events (n + 1) new more
@@ -212,7 +248,8 @@ module _ (layer : Layer) (part : Part) (strips : List Rect) (solid : All IsSolid
             | inl o ↦
                 let u : i ≡ j = same_Some i j (sym d.0 ∙ ap new (sym o) ∙ g) in
                 subst (λ z. IsLive events (n + 1) z × ((strip strips z).x1 ≡ k)) u (own, sym o)
-            | inr o ↦ let w = v.found k j (sym (d.1 k o) ∙ g) in (live_more n j (λ x. absurd (begin_finish (sym e ∙ x))) w.0, w.1)
+            | inr o ↦ let w = v.found k j (sym (d.1 k o) ∙ g) in
+                (live_more n j (λ x. absurd (begin_finish (sym e ∙ x))) w.0, w.1)
           ];
           has = λ j w. elim (cases_eq i j) [
             | inl o ↦ subst (λ z. new (strip strips z).x1 ≡ Some z) o d.0
@@ -225,11 +262,13 @@ module _ (layer : Layer) (part : Part) (strips : List Rect) (solid : All IsSolid
           ];
           caught = λ m l g j w. elim (cases_lt m n) [
             | inl o ↦ v.caught m o g j w
-            | inr o ↦ let p : m ≡ n = omega arith in absurd (begin_ask (sym e ∙ subst (λ z. (event events z).step ≡ Ask) p g))
+            | inr o ↦ let p : m ≡ n = omega arith in
+                absurd (begin_ask (sym e ∙ subst (λ z. (event events z).step ≡ Ask) p g))
           ];
         })
 
-    finishes_one : (n i : ℕ) (row new : ℤ → Option ℕ) (pairs more : List (ℕ × ℕ)) → n < length events → (event events n).step ≡ Finish
+    finishes_one : (n i : ℕ) (row new : ℤ → Option ℕ) (pairs more : List (ℕ × ℕ)) → n < length events
+        → (event events n).step ≡ Finish
         → (event events n).index ≡ i
         → IsSwept layer part strips events n row pairs → Does strips Finish i row new pairs more
         → IsSwept layer part strips events (n + 1) new more
@@ -253,35 +292,42 @@ module _ (layer : Layer) (part : Part) (strips : List Rect) (solid : All IsSolid
                     let bt = (begins w'.at j (omega arith) w'.begins w'.own).1 in
                     let bu = s.ascending w'.at n (omega arith) h in
                     let q = finished j k in
-                    let qt : (event events q.0).time ≡ thrice (last part (strip strips j)) +ℤ pos 2 = ap (λ e. e.time) q.2 in
+                    let qt : (event events q.0).time ≡ thrice (last part (strip strips j)) +ℤ pos 2 =
+                    ap (λ e. e.time) q.2 in
                     let later : n ≤ q.0 = elim (cases_lt q.0 n) [
                       | inl l ↦ absurd (w'.lasts q.0 l (ap (λ e. e.step) q.2) (ap (λ e. e.index) q.2))
                       | inr l ↦ l
                     ] in
                     let qu = s.ascending n q.0 later q.1 in
                     let r = runs part (strip strips i) (solid i no_strip own.0.inside) in
-                    let is = same i j own.0 k (omega (arith, ints)) (omega (arith, ints)) (omega (arith, ints)) (omega (arith, ints)) in
+                    let is =
+                    same i j own.0 k (omega (arith, ints)) (omega (arith, ints)) (omega (arith, ints))
+                    (omega (arith, ints)) in
                     absurd (w.lasts n (omega arith) e (f ∙ is))
                 | inr p ↦ d.1 (strip strips j).x1 p ∙ v.has j w'
               ];
           caught = λ m l g j w. elim (cases_lt m n) [
             | inl o ↦ v.caught m o g j w
-            | inr o ↦ let p : m ≡ n = omega arith in absurd (ask_finish (sym (subst (λ z. (event events z).step ≡ Ask) p g) ∙ e))
+            | inr o ↦ let p : m ≡ n = omega arith in
+                absurd (ask_finish (sym (subst (λ z. (event events z).step ≡ Ask) p g) ∙ e))
           ];
         })
 
-    asks_one : (n i : ℕ) (row new : ℤ → Option ℕ) (pairs more : List (ℕ × ℕ)) → (event events n).step ≡ Ask → (event events n).index ≡ i
+    asks_one : (n i : ℕ) (row new : ℤ → Option ℕ) (pairs more : List (ℕ × ℕ)) → (event events n).step ≡ Ask
+        → (event events n).index ≡ i
         → IsSwept layer part strips events n row pairs → Does strips Ask i row new pairs more
         → IsSwept layer part strips events (n + 1) new more
     asks_one n i row new pairs more e f v d = record {
-      found = λ k j g. let w = v.found k j (sym (d.0 k) ∙ g) in (live_more n j (λ x. absurd (ask_finish (sym e ∙ x))) w.0, w.1);
+      found = λ k j g. let w = v.found k j (sym (d.0 k) ∙ g) in
+          (live_more n j (λ x. absurd (ask_finish (sym e ∙ x))) w.0, w.1);
       has = λ j w. d.0 (strip strips j).x1 ∙ v.has j (live_less n j (λ x. absurd (begin_ask (sym x ∙ e))) w);
       caught = λ m l g j w. elim (cases_lt m n) [
         | inl o ↦ (λ x y. d.1.kept _ (v.caught m o g j w x y))
         | inr o ↦
             let p : m ≡ n = omega arith in
             let q : i ≡ (event events m).index = sym f ∙ ap (λ z. (event events z).index) (sym p) in
-            subst (λ z. Joins strips z j more) q (d.2 (strip strips j).x1 j (v.has j (subst (λ z. IsLive events z j) p w)))
+            subst (λ z. Joins strips z j more) q
+            (d.2 (strip strips j).x1 j (v.has j (subst (λ z. IsLive events z j) p w)))
       ];
     }
 
@@ -293,14 +339,23 @@ module _ (layer : Layer) (part : Part) (strips : List Rect) (solid : All IsSolid
         let i = (event events n).index in
         let at = λ (t : Step) (e : (event events n).step ≡ t). subst (λ z. Does strips z i row new pairs more) e d in
         elim (step_cases (event events n).step) [
-          | inl e ↦ (begins_one n i row new pairs more h e refl v (at Begin e), subst (Grows strips pairs) (sym (at Begin e).2) (grows_none strips pairs))
+          | inl e ↦ (
+            begins_one n i row new pairs more h e refl v (at Begin e),
+            subst (Grows strips pairs)
+                (sym (at Begin e).2) (grows_none strips pairs),
+          )
           | inr o ↦ elim o [
             | inl e ↦ (asks_one n i row new pairs more e refl v (at Ask e), (at Ask e).1)
-            | inr e ↦ (finishes_one n i row new pairs more h e refl v (at Finish e), subst (Grows strips pairs) (sym (at Finish e).2) (grows_none strips pairs))
+            | inr e ↦ (
+              finishes_one n i row new pairs more h e refl v (at Finish e),
+              subst (Grows strips pairs)
+                  (sym (at Finish e).2) (grows_none strips pairs),
+            )
           ]
         ]
 
-    pub none_yet : (row : ℤ → Option ℕ) (pairs : List (ℕ × ℕ)) → ((k : ℤ) → row k ≡ None) → IsSwept layer part strips events 0 row pairs
+    pub none_yet : (row : ℤ → Option ℕ) (pairs : List (ℕ × ℕ)) → ((k : ℤ) → row k ≡ None)
+        → IsSwept layer part strips events 0 row pairs
     none_yet row pairs h = record {
       found = λ k i e. absurd (none-some i (sym (h k) ∙ e));
       has = λ i v. let b = v.before in absurd (omega arith);
@@ -329,4 +384,5 @@ module _ (layer : Layer) (part : Part) (strips : List Rect) (solid : All IsSolid
               let up = s.ascending q m.0 (omega arith) m.1 in
               absurd (omega (arith, ints));
         } in
-        subst (λ z. Joins strips z i pairs) (ap (λ e. e.index) m.2) (v.caught m.0 (omega arith) (ap (λ e. e.step) m.2) i live)
+        subst (λ z. Joins strips z i pairs) (ap (λ e. e.index) m.2)
+        (v.caught m.0 (omega arith) (ap (λ e. e.step) m.2) i live)

@@ -1,5 +1,6 @@
 -- A sweep over the rows.
-use Rattle.std.specs.Prelude.{◌≡◌, ◌≢◌, ◌⊎◌, ℕ, ◌<◌, ◌≤◌, min, max, ℤ, pos, negsuc, ◌+ℤ◌, ◌<ℤ◌, ◌≤ℤ◌, List, [], ◌∷◌, ◌++◌, All, Contains, Option, Some, None, length, slice_index_or}
+use Rattle.std.specs.Prelude.{◌≡◌, ◌≢◌, ◌⊎◌, ℕ, ◌<◌, ◌≤◌, min, max, ℤ, pos, negsuc, ◌+ℤ◌, ◌<ℤ◌, ◌≤ℤ◌, List, [], ◌∷◌}
+use Rattle.std.specs.Prelude.{◌++◌, All, Contains, Option, Some, None, length, slice_index_or}
 use Rattle.lam_geom.specs.declared.layer.Layer.{Layer}
 use Rattle.lam_geom.specs.declared.layer.Layer.TheVariants.{ND}
 use Rattle.lam_geom.specs.declared.rect.Rect.{Rect}
@@ -67,7 +68,9 @@ pub record AreEvents (layer : Layer) (part : Part) (strips : List Rect) (count :
 -- the events of one more strip
 abbrev pub AddsEvents : Layer → Part → ℕ → Rect → List Event → List Event → Type 0
 AddsEvents layer part i r old new =
-    (r.layer ≡ layer) × (new ≡ ((old ++ ask i r ∷ []) ++ begin part i r ∷ []) ++ finish part i r ∷ []) ⊎ (r.layer ≢ layer) × (new ≡ old ++ ask i r ∷ [])
+    (r.layer ≡ layer)
+    × (new ≡ ((old ++ ask i r ∷ []) ++ begin part i r ∷ []) ++ finish part i r ∷ []) ⊎ (r.layer ≢ layer)
+    × (new ≡ old ++ ask i r ∷ [])
 
 abbrev pub no_event : Event
 no_event = record { time = pos 0; step = Begin; index = 0 }
@@ -82,7 +85,8 @@ pub record IsSchedule (layer : Layer) (part : Part) (strips : List Rect) (events
 
 -- a square of a layer is in one strip
 abbrev pub AreApart : List Rect → Type 0
-AreApart strips = (i j : ℕ) (l : Layer) (x y : ℤ) → i < length strips → j < length strips → Covers (strip strips i) l x y → Covers (strip strips j) l x y → i ≡ j
+AreApart strips = (i j : ℕ) (l : Layer) (x y : ℤ) → i < length strips → j < length strips
+    → Covers (strip strips i) l x y → Covers (strip strips j) l x y → i ≡ j
 
 -- strips side by side, by where they end
 pub record IsRow (strips : List Rect) (row : ℤ → Option ℕ) : Type 0 where
@@ -107,7 +111,8 @@ pub record Grows (strips : List Rect) (old new : List (ℕ × ℕ)) : Type 0 whe
 
 -- the pair of the two is there, if they touch
 abbrev pub Joins : List Rect → ℕ → ℕ → List (ℕ × ℕ) → Type 0
-Joins strips i j pairs = min i j < max i j → Touch (strip strips (min i j)) (strip strips (max i j)) → Contains pairs (min i j, max i j)
+Joins strips i j pairs = min i j < max i j → Touch (strip strips (min i j)) (strip strips (max i j))
+    → Contains pairs (min i j, max i j)
 
 -- so is that of the strip and each of the row
 abbrev pub Answers : List Rect → ℕ → (ℤ → Option ℕ) → List (ℕ × ℕ) → Type 0
@@ -124,7 +129,8 @@ Does strips Finish i old new pairs more =
 -- the strips of the layer are joined with those whose lowest row is among these rows of theirs
 abbrev pub Catches : Layer → Part → List Rect → List (ℕ × ℕ) → Type 0
 Catches layer part strips pairs = (i j : ℕ) → IsOf layer strips i → j < length strips
-    → first part (strip strips i) ≤ℤ (strip strips j).y0 → (strip strips j).y0 ≤ℤ last part (strip strips i) → Joins strips j i pairs
+    → first part (strip strips i) ≤ℤ (strip strips j).y0 → (strip strips j).y0 ≤ℤ last part (strip strips i)
+    → Joins strips j i pairs
 
 -- the strip has begun before event n, and not finished
 pub record IsLive (events : List Event) (n i : ℕ) : Type 0 where
@@ -135,7 +141,9 @@ pub record IsLive (events : List Event) (n i : ℕ) : Type 0 where
   pub lasts : (q : ℕ) → q < n → (event events q).step ≡ Finish → (event events q).index ≢ i
 
 -- what is known before event n
-pub record IsSwept (layer : Layer) (part : Part) (strips : List Rect) (events : List Event) (n : ℕ) (row : ℤ → Option ℕ) (pairs : List (ℕ × ℕ)) : Type 0 where
+pub record IsSwept (layer : Layer) (part : Part) (strips : List Rect) (events : List Event) (n : ℕ)
+    (row : ℤ → Option ℕ) (pairs : List (ℕ × ℕ)) : Type 0 where
   pub found : (k : ℤ) (i : ℕ) → row k ≡ Some i → IsLive events n i × ((strip strips i).x1 ≡ k)
   pub has : (i : ℕ) → IsLive events n i → row (strip strips i).x1 ≡ Some i
-  pub caught : (m : ℕ) → m < n → (event events m).step ≡ Ask → (i : ℕ) → IsLive events m i → Joins strips (event events m).index i pairs
+  pub caught : (m : ℕ) → m < n → (event events m).step ≡ Ask → (i : ℕ) → IsLive events m i
+      → Joins strips (event events m).index i pairs

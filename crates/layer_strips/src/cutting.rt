@@ -16,8 +16,8 @@ use region_sweep::Pair;
 use std::alloc::Global;
 
 /// Cuts what the rectangles cover into strips, and finds which touch. A rectangle without squares covers nothing. 2^31
-/// different coordinates of one axis, or 2^31 strips of a layer or 2^32 of all, count as want of memory. The time is that
-/// of sorting the sides of the rectangles, the strips and the pairs.
+/// different coordinates of one axis, or 2^31 strips of a layer or 2^32 of all, count as want of memory. The time is
+/// that of sorting the sides of the rectangles, the strips and the pairs.
 pub fn regions(alloc: Global, shapes: &[Rect]) -> Result<Regions, NoMemory>
     ensures strips { IfOk result (λ r. AreStrips shapes.now r.strips) }
     ensures pairs { IfOk result (λ r. AreTouchingPairs r.strips r.pairs) }

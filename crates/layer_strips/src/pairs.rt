@@ -43,7 +43,8 @@ fn step(
 ) -> Result<(), AllocError>
     requires inside { event.now.index < length strips.now }
     requires row { IsRow strips.now (get int_cmp live.old) }
-    ensures { OnOk result (Does strips.now event.now.step event.now.index (get int_cmp live.old) (get int_cmp live.new) pairs.old pairs.new) }
+    ensures { OnOk result (Does strips.now event.now.step event.now.index (get int_cmp live.old)
+        (get int_cmp live.new) pairs.old pairs.new) }
 {
     match event.step {
         Step::Begin => {

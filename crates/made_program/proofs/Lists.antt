@@ -3,7 +3,7 @@ use Rattle.std.proofs.Common.{◌≡◌, ℕ, zero, suc, ◌<◌, List, [], ◌�
 use Rattle.std.proofs.Common.{inr, arith}
 use Rattle.std.specs.Prelude.{not, ◌&&◌, ◌||◌}
 use Rattle.std.specs.List.{list_all, list_any}
-use Rattle.std.proofs.lemmas.Bool.{and_parts, cases_Bool}
+use Rattle.std.proofs.lemmas.Bool.{and_parts, cases_Bool, not-true}
 use Rattle.mp_program.specs.Names.{is_same}
 use Rattle.mp_program.proofs.Definitions.{same_is}
 use Rattle.mp_rules.specs.Entries.{IsAt}
@@ -53,17 +53,13 @@ abbrev pub all_apart : {X : Type 0} → (X → X → Bool) → List X → Bool
 all_apart same [] = true
 all_apart same (x ∷ xs) = list_all (λ y. not (same x y)) xs && all_apart same xs
 
-is_not : (b : Bool) → not b ≡ true → b ≡ false
-is_not true h = sym h
-is_not false h = refl
-
 pub apart : {X : Type 0} (same : X → X → Bool) (xs : List X) (j k : ℕ) (a b : X) → all_apart same xs ≡ true → j < k
     → IsAt xs j a → IsAt xs k b → same a b ≡ false
 apart same [] j k a b all less at_j at_k = absurd (none_at k b at_k)
 apart same (x ∷ xs) j zero a b all less at_j at_k = absurd (omega arith)
 apart same (x ∷ xs) zero (suc k) a b all less at_j at_k =
     let p = and_parts (list_all (λ y. not (same x y)) xs) (all_apart same xs) all in
-    ap (λ z. same z b) at_j.1 ∙ is_not (same x b) (passes (λ y. not (same x y)) xs k b p.0 (behind x xs k b at_k))
+    ap (λ z. same z b) at_j.1 ∙ not-true (same x b) (passes (λ y. not (same x y)) xs k b p.0 (behind x xs k b at_k))
 apart same (x ∷ xs) (suc j) (suc k) a b all less at_j at_k =
     let p = and_parts (list_all (λ y. not (same x y)) xs) (all_apart same xs) all in
     apart same xs j k a b p.1 (omega (arith, less)) (behind x xs j a at_j) (behind x xs k b at_k)

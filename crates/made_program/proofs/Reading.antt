@@ -3,7 +3,7 @@ use Rattle.std.proofs.Common.{◌≡◌, ℕ, zero, suc, ◌-◌, List, [], ◌�
 use Rattle.std.proofs.Common.{rules}
 use Rattle.std.specs.Prelude.{not, ◌&&◌, ◌||◌, slice_index_or}
 use Rattle.std.specs.List.{list_all, list_any}
-use Rattle.std.proofs.lemmas.Bool.{and_parts}
+use Rattle.std.proofs.lemmas.Bool.{and_parts, not-true}
 use Rattle.std.proofs.Math.ListN.{get_or-eq_default}
 use Rattle.mp_base.specs.Table.{table}
 use Rattle.mp_program.specs.declared.program.ExprKind.{ExprKind}
@@ -22,17 +22,13 @@ use Rattle.made_program.specs.Made.{IsMade, defs_of}
 use Rattle.made_program.proofs.Lists.{passes_in, clash}
 use Rattle.made_program.proofs.Tests.{is_no_name, is_set, exprs_no_q, forms_set}
 
-is_not : (b : Bool) → not b ≡ true → b ≡ false
-is_not true h = sym h
-is_not false h = refl
-
 none_pass : (test : ℕ → Bool) (ks : List ℕ) → ((k : ℕ) → test k ≡ false) → list_any test ks ≡ false
 none_pass test [] none = refl
 none_pass test (k ∷ ks) none = ap (λ b. b || list_any test ks) (none k) ∙ none_pass test ks none
 
 kind_silent : (n : List ℕ) (kind : ExprKind) (m : ℕ → Bool) → is_no_name n kind ≡ true → ((k : ℕ) → m k ≡ false)
     → kind_mentions n kind m ≡ false
-kind_silent n (Named x) m h none = is_not (is_same x n) h
+kind_silent n (Named x) m h none = not-true (is_same x n) h
 kind_silent n (Apply op k args) m h none = none_pass m args none
 kind_silent n (Number v) m h none = refl
 kind_silent n True m h none = refl

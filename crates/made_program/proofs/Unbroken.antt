@@ -26,6 +26,7 @@ use Rattle.mp_rules.specs.Rules.{E31, E32, E33, E34, E35, E36, E40, E41, E42, E4
 use Rattle.mp_rules.specs.Sorts.{Sort, IsWord, operand_sort, expr_sort, name_sort, IsWanted}
 use Rattle.mp_rules.specs.Standing.{is_transfer}
 use Rattle.mp_rules.specs.Breaking.{IsUnbroken}
+use Rattle.mp_rules.proofs.Sorts.{same_sort}
 use Rattle.made_program.specs.Made.{IsMade, defs_of}
 use Rattle.made_program.proofs.Lists.{passes, passes_in, one_passes, apart, none_at, clash}
 use Rattle.made_program.proofs.Tests.{named_of, namings_are, is_word, word_only, names_one, target_named}
@@ -96,9 +97,6 @@ no_E21 p m at (x, inr (f, y, v, is, set), none) =
     used p m x (sym (ap (target_named (named_of m.at)) set) ∙ ok) none
 
 -- ---- words and bits
-
-same_sort : (s t : Sort) → Some s ≡ Some t → s ≡ t
-same_sort s t h = cc
 
 expr_is_word : (p : Program) (m : IsMade p) (e : ℕ) (x : Expr) (t : Sort) → IsAt p.exprs e x
     → expr_sort p.defs x.kind ≡ Some t → t ≡ IsWord

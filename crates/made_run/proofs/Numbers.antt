@@ -1,7 +1,6 @@
 -- The number that a narrow word shows is its bits.
-use Rattle.std.proofs.Common.{◌≡◌, ◌∙◌, ℕ, zero, suc, ◌+◌, ◌*◌, ◌%◌, ◌^◌, ◌<◌, ◌≤◌, List, [], ◌∷◌, cond, eqb, length}
+use Rattle.std.proofs.Common.{◌≡◌, ◌∙◌, ℕ, zero, suc, ◌+◌, ◌*◌, ◌%◌, ◌^◌, ◌<◌, ◌≤◌, List, [], ◌∷◌, length}
 use Rattle.std.proofs.Common.{get_or, refl, sym, ap, arith, bit_and}
-use Rattle.std.specs.Prelude.{min}
 use Rattle.std.specs.Int.{bit_at}
 use Rattle.std.specs.List.{AllZip}
 use Rattle.std.proofs.Math.Nat.{mod-eq_of_lt}
@@ -9,20 +8,13 @@ use Rattle.std.proofs.lemmas.List.{length-append}
 use Rattle.std.proofs.lemmas.Nat.{and_comm, and_le_r, mod-pow-add}
 use Rattle.std.proofs.lemmas.Nat.Bits.{bit_at-lt, bit_at_and}
 use Rattle.std.proofs.lemmas.Slice.Zip.{AllZip-long}
-use Rattle.mp_base.specs.declared.value.Trit.TheVariants.{X}
 use Rattle.mp_base.specs.declared.value.TritWord.{TritWord}
 use Rattle.mp_base.specs.declared.pad.Pad.{Pad}
-use Rattle.stimulus.specs.Bits.{bit_count, trit_of, trit_at, low_trits, pad_trits, trits_of}
+use Rattle.stimulus.specs.Bits.{bit_count, trit_at, low_trits, pad_trits, trits_of}
 use Rattle.stimulus.specs.Transcript.{weight, number_of}
+use Rattle.stimulus.proofs.Bits.{number_more}
+use Rattle.stimulus.proofs.Words.{weight_both}
 use Rattle.settled_sum.specs.Sum.{first_number}
-use Rattle.settled_sum.proofs.Numbers.{number_more}
-
-weight_both : (k b : ℕ) → k < 2 → b < 2 → weight (cond (eqb k 1) (trit_of b) X) ≡ min k b
-weight_both zero b small less = omega arith
-weight_both (suc zero) zero small less = omega arith
-weight_both (suc zero) (suc zero) small less = omega arith
-weight_both (suc zero) (suc (suc b)) small less = absurd (omega (arith, less))
-weight_both (suc (suc k)) b small less = absurd (omega (arith, small))
 
 many_trits : (word : TritWord) (n : ℕ) → length (low_trits n word) ≡ n
 many_trits word zero = refl

@@ -1,6 +1,6 @@
 -- The run of a circuit that adds up what it shows.
 use Rattle.std.proofs.Common.{◌≡◌, ◌∙◌, ℕ, ◌+◌, ◌*◌, ◌/◌, ◌%◌, ◌^◌, ◌<◌, List, [], ◌∷◌, true, false, cond, Option}
-use Rattle.std.proofs.Common.{Ok, length, take, refl, sym, ap, subst, arith}
+use Rattle.std.proofs.Common.{Ok, length, take, refl, sym, ap, subst, arith, add_assoc}
 use Rattle.std.specs.List.{sum_by}
 use Rattle.std.proofs.Math.Nat.{mod-eq_of_lt, mod-lt, mod-add-div, add-mul-mod_self_left}
 use Rattle.std.proofs.lemmas.List.{length-map, take_all}
@@ -8,10 +8,8 @@ use Rattle.std.proofs.lemmas.List.Sums.{sum_by-cons}
 use Rattle.std.proofs.lemmas.Nat.{pow_pos}
 use Rattle.mp_base.specs.declared.value.Trit.{Trit}
 use Rattle.mp_base.specs.declared.value.Trit.TheVariants.{X}
-use Rattle.mp_base.specs.declared.refusal.Broken.{Broken}
 use Rattle.mp_base.specs.declared.pad.Pads.{Pads}
 use Rattle.switch_net.specs.declared.network.Network.{Network}
-use Rattle.switch_net.specs.Breaks.{HasPads, IsFirstOfCircuit, n3, n4}
 use Rattle.switch_net.specs.Clock.{IsClock}
 use Rattle.settle.specs.Values.{value_at}
 use Rattle.stimulus.specs.declared.given.Stimulus.{Stimulus}
@@ -33,9 +31,6 @@ some_more a b m =
     let e : a % m + b + m * (a / m) ≡ a + b = omega (arith, whole) in
     sym (add-mul-mod_self_left (a % m + b) m (a / m)) ∙ ap (λ n. n % m) e
 
-joined : (a b s : ℕ) → a + b + s ≡ a + (b + s)
-joined a b s = omega arith
-
 begun_sum : (before after : Summed) (is : List (List ℕ)) (os : List (List (List Trit))) → before.begun ≡ true
     → before.sum < 2 ^ 64 → RunsAlong SummingSteps before is os after
     → after.sum ≡ (before.sum + sum_by first_number os) % 2 ^ 64
@@ -54,7 +49,7 @@ begun_sum before after (i ∷ is) (o ∷ os) begun small runs =
     let less : (a + b) % 2 ^ 64 < 2 ^ 64 = mod-lt (a + b) (pow_pos 64) in
     let rest = begun_sum next after is os step.begun (subst (λ n. n < 2 ^ 64) (sym now) less) runs.2 in
     rest ∙ ap (λ n. (n + s) % 2 ^ 64) now ∙ some_more (a + b) s (2 ^ 64)
-    ∙ ap (λ n. n % 2 ^ 64) (joined a b s ∙ ap (λ n. a + n) (sym (sum_by-cons first_number o os)))
+    ∙ ap (λ n. n % 2 ^ 64) (add_assoc a b s ∙ ap (λ n. a + n) (sym (sum_by-cons first_number o os)))
 
 -- from the first clock on
 whole_sum : (before after : Summed) (is : List (List ℕ)) (os : List (List (List Trit))) → before.begun ≡ false
@@ -105,11 +100,6 @@ pub network_kept : (before after : Summed) (is : List (List ℕ)) (os : List (Li
 network_kept before after is os runs =
     runs_keep SummingSteps (λ (s : Summed). (s.circuit).network ≡ (before.circuit).network)
     (λ s t i o same step. (step.circuit).network ∙ same) before after is os refl runs
-
--- a network that has its pads breaks no rule with them
-pub breaks_nothing : (net : Network) (pads : Pads) (b : Broken) → HasPads net pads → IsFirstOfCircuit net pads b → ⊥
-breaks_nothing net pads b has (n3 i tag driven before) = has.apart i (tag, driven)
-breaks_nothing net pads b has (n4 apart i name missing before) = has.labelled i name missing
 
 -- what was run along all clocks from all values X
 pub summed_run : {T E : Type 0} (net : Network) (given : Stimulus) (before after : Summed) (x y : Option (List ℕ))

@@ -4,10 +4,11 @@ use Rattle.std.proofs.Common.{length, map, filter, arith, length-append, zero-ad
 use Rattle.std.specs.Prelude.{not, ◌&&◌, slice_index_or, Option, Some, None}
 use Rattle.std.specs.List.{list_all, list_any, range_with_len}
 use Rattle.std.specs.Str.{bytes_eq}
-use Rattle.std.proofs.lemmas.Bool.{and_parts}
+use Rattle.std.proofs.lemmas.Bool.{and_parts, not-true}
 use Rattle.std.proofs.Math.ListN.{get_or-eq_default}
 use Rattle.std.proofs.lemmas.List.Elements.{filter-append}
 use Rattle.mp_base.specs.declared.refusal.Place.{Place}
+use Rattle.mp_base.proofs.Ranges.{range_suc}
 use Rattle.form_reader.specs.declared.forms.Kind.{Kind}
 use Rattle.form_reader.specs.declared.forms.Forms.{Forms}
 use Rattle.mp_shapes.specs.declared.table.Class.{Class}
@@ -46,12 +47,6 @@ counted_more test (suc n) (c ∷ cs) none =
     let rest = counted_more test n cs none in
     omega (arith, rest)
 
-range_more : (a n : ℕ) → range_with_len a (suc n) ≡ range_with_len a n ++ (a + n) ∷ []
-range_more a zero = ap (λ k. k ∷ []) {x = a} {y = a + 0} (omega arith)
-range_more a (suc n) =
-    ap (λ ks. a ∷ ks) (range_more (a + 1) n
-    ∙ ap (λ k. range_with_len (a + 1) n ++ k ∷ []) {x = a + 1 + n} {y = a + suc n} (omega arith))
-
 length-one : (test : ℕ → Bool) (n : ℕ) (b : Bool) → test n ≡ b → length (filter test (n ∷ [])) ≡ cond b 1 0
 length-one test n true h = ap (λ b. length (cond b (n ∷ []) [])) h
 length-one test n false h = ap (λ b. length (cond b (n ∷ []) [])) h
@@ -61,7 +56,7 @@ rank_is : (test : ℕ → Bool) (by : Option Class → Bool) (n : ℕ) → ((k :
     → length (nodes_below test n) ≡ counted by n classes
 rank_is test by zero same none = refl
 rank_is test by (suc n) same none =
-    ap (λ ks. length (filter test ks)) (range_more 0 n ∙ ap (λ k. range_with_len 0 n ++ k ∷ []) (zero-add n))
+    ap (λ ks. length (filter test ks)) (range_suc 0 n ∙ ap (λ k. range_with_len 0 n ++ k ∷ []) (zero-add n))
     ∙ ap length (filter-append test (range_with_len 0 n) (n ∷ []))
     ∙ length-append (nodes_below test n) (filter test (n ∷ []))
     ∙ ap (λ m. m + length (filter test (n ∷ []))) (rank_is test by n same none)
@@ -138,16 +133,12 @@ Follow idx e node (suc n) = (idx (node + 7) ≡ e + 1) × (idx (node + 8) ≡ e 
 abbrev is_plain : List ℕ → Bool
 is_plain x = not (bytes_eq x (codes "t")) && not (bytes_eq x (codes "f"))
 
-not_true : (b : Bool) → not b ≡ true → b ≡ false
-not_true true h = sym h
-not_true false h = refl
-
 named : (x : List ℕ) → list_any (is_same x) operands ≡ true → symbol_expr x ≡ Named x
 named x known =
     let p = and_parts (not (bytes_eq x (codes "t"))) (not (bytes_eq x (codes "f")))
     (name_passes is_plain operands x refl known) in
-    ap (λ b. cond b True (cond (bytes_eq x (codes "f")) False (Named x))) (not_true (bytes_eq x (codes "t")) p.0)
-    ∙ ap (λ b. cond b False (Named x)) (not_true (bytes_eq x (codes "f")) p.1)
+    ap (λ b. cond b True (cond (bytes_eq x (codes "f")) False (Named x))) (not-true (bytes_eq x (codes "t")) p.0)
+    ∙ ap (λ b. cond b False (Named x)) (not-true (bytes_eq x (codes "f")) p.1)
 
 pub exprs_meant : (f : Forms) (idx : ℕ → ℕ) (at : ℕ → Place) (e node : ℕ) (rows : List Row) → AreRows rows
     → Follow idx e node (length rows)

@@ -3,10 +3,11 @@ use Rattle.std.proofs.Common.{◌≡◌, ℕ, zero, suc, ◌*◌, ◌<◌, List,
 use Rattle.std.proofs.Common.{ap, codes, length, map, arith, append_assoc, lit<}
 use Rattle.std.specs.Prelude.{not, ◌&&◌, ◌||◌, nat_lt, slice_index_or}
 use Rattle.std.specs.List.{flat_map, range_with_len, list_all, list_any}
-use Rattle.std.proofs.lemmas.Bool.{and_parts}
+use Rattle.std.proofs.lemmas.Bool.{and_parts, not-true}
 use Rattle.mp_base.specs.Token.{is_token, is_digit}
 use Rattle.mp_base.specs.declared.op.Op.{Op}
 use Rattle.mp_base.specs.declared.op.Op.TheVariants.{Add, Sub, WordAnd, WordOr, WordXor}
+use Rattle.mp_base.proofs.Tests.{or_true}
 use Rattle.mp_program.specs.Names.{is_same}
 use Rattle.mp_program.proofs.Definitions.{is_same_of}
 use Rattle.form_reader.specs.Text.{is_gap}
@@ -59,10 +60,6 @@ last_row = record { target = codes "q"; op = WordXor; x = codes "r0"; y = codes 
 -- the rows of a seed: of the registers, and then of the output
 abbrev pub row_at : ℕ → ℕ → Row
 row_at seed i = cond (nat_lt i 12) (row_of seed i) last_row
-
-or_true : (b : Bool) → (b || true) ≡ true
-or_true true = refl
-or_true false = refl
 
 known : (xs : List (List ℕ)) (k : ℕ) → k < length xs → list_any (is_same (slice_index_or xs k [])) xs ≡ true
 known [] k h = absurd (omega (arith, h))
@@ -238,13 +235,9 @@ record IsWord (x : List ℕ) : Type 0 where
   pub tokens : list_all is_token x ≡ true
   pub digits : list_all is_digit x ≡ false
 
-not_true : (b : Bool) → not b ≡ true → b ≡ false
-not_true true h = sym h
-not_true false h = refl
-
 word_of : (x : List ℕ) → is_word x ≡ true → IsWord x
 word_of x h = let p = and_parts (list_all is_token x) (not (list_all is_digit x)) h in
-    record { tokens = p.0; digits = not_true (list_all is_digit x) p.1 }
+    record { tokens = p.0; digits = not-true (list_all is_digit x) p.1 }
 
 settings_fine : (rows : List Row) → AreRows rows → list_all is_word (map (λ (row : Row). row.target) rows) ≡ true
     → is_fine 1 41 (settings rows) ≡ true

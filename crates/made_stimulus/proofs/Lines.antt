@@ -4,21 +4,17 @@ use Rattle.std.proofs.Common.{sym, ◌∙◌, ap, length, take, filter, arith, a
 use Rattle.std.specs.Prelude.{not, ◌&&◌, ◌==◌, nat_lt, slice_index, decimal, All}
 use Rattle.std.specs.List.{list_all, flat_map, slice_split}
 use Rattle.std.specs.Str.Lines.{strip_carriage_return}
-use Rattle.std.proofs.lemmas.Bool.{and_parts, lt-ltb}
+use Rattle.std.proofs.lemmas.Bool.{and_parts, lt-ltb, not-true}
 use Rattle.std.proofs.lemmas.List.Splits.{slice_split_at, slice_split_none}
 use Rattle.stimulus.specs.declared.piece.Piece.{Piece}
 use Rattle.stimulus.specs.Words.{is_blank, is_feed, placed, words_of, kept_before, words_of_lines}
 use Rattle.program_maker.specs.Texts as made
 use Rattle.made_stimulus.proofs.Digits.{is_inner, all_append, all_weaker, decimal_inner}
 
-not_true : (b : Bool) → not b ≡ true → b ≡ false
-not_true true h = sym h
-not_true false h = refl
-
 -- what each entry passes
 all_at : (test : ℕ → Bool) (xs : List ℕ) → list_all (λ x. not (test x)) xs ≡ true → All (λ x. test x ≡ false) xs
 all_at test [] h k d less = absurd (omega (arith, less))
-all_at test (x ∷ xs) h zero d less = not_true (test x) (and_parts (not (test x)) (list_all (λ x. not (test x)) xs) h).0
+all_at test (x ∷ xs) h zero d less = not-true (test x) (and_parts (not (test x)) (list_all (λ x. not (test x)) xs) h).0
 all_at test (x ∷ xs) h (suc k) d less =
     all_at test xs (and_parts (not (test x)) (list_all (λ x. not (test x)) xs) h).1 k d (omega (arith, less))
 
@@ -30,7 +26,7 @@ inner_feed x h = (and_parts (not (is_feed x)) (not (x == 13))
     (and_parts (not (is_blank x)) (not (is_feed x) && not (x == 13)) h).1).0
 
 inner_return : (x : ℕ) → is_inner x ≡ true → (x == 13) ≡ false
-inner_return x h = not_true (x == 13)
+inner_return x h = not-true (x == 13)
     (and_parts (not (is_feed x)) (not (x == 13))
     (and_parts (not (is_blank x)) (not (is_feed x) && not (x == 13)) h).1).1
 

@@ -56,7 +56,8 @@ module _ (p : Program) (given : Stimulus) (chip : List ℕ) (follow : ReplaysFol
 -- whatever the files are, no fault is found, and this is what is shown
 pub finds_made : (seed : ℕ) (cif chip text : List ℕ) → IsCompiled (source_text seed) chip → IsMadeRun seed chip text
     → (held : Option Files)
-    → IfSome held (λ files. (work seed cif).First files None) × IfSome held (λ files. (work seed cif).Shows files chip text)
+    → IfSome held (λ files. (work seed cif).First files None)
+    × IfSome held (λ files. (work seed cif).Shows files chip text)
 finds_made seed cif chip text compiled run None = (tt, tt)
 finds_made seed cif chip text compiled run (Some files) = (refl, (compiled, run))
 

@@ -20,7 +20,8 @@ of_text bytes refusals.NoMemory h = tt
 of_text bytes (refusals.Broken b) h = inl h
 
 -- a label that meets a driver that every chip has meets one of those that a chip with some pads has
-pub sound : (bytes : List ℕ) (shapes : List Rect) (labels : List FlatLabel) (net : Network) (pads : Pads) → IsDrawing bytes shapes labels → IsSoundMask (covered shapes) labels net pads → IsNetOf bytes net
+pub sound : (bytes : List ℕ) (shapes : List Rect) (labels : List FlatLabel) (net : Network) (pads : Pads)
+    → IsDrawing bytes shapes labels → IsSoundMask (covered shapes) labels net pads → IsNetOf bytes net
 sound bytes shapes labels net pads drawing mask = record {
   shapes = shapes;
   labels = labels;

@@ -7,14 +7,15 @@ use Rattle.mp_base.specs.declared.refusal.Rule.{Rule}
 use Rattle.mp_base.specs.declared.refusal.Spot.{Spot}
 use Rattle.mp_base.specs.declared.refusal.Spot.TheVariants.{At, Offset, Named, Nowhere}
 use Rattle.mp_base.specs.declared.refusal.Refusal.TheVariants as refusals
+use Rattle.mp_base.proofs.Decisions.{IsDetermined}
 use Rattle.lam_geom.specs.declared.rect.Rect.{Rect}
 use Rattle.lam_geom.specs.declared.label.FlatLabel.{FlatLabel}
 use Rattle.lam_geom.specs.Squares.{covered}
 use Rattle.cif_form.specs.declared.command.Item.{Item}
 use Rattle.cif_form.specs.Scans as scans
-use Rattle.cif_form.specs.Scans.{TextEnd, TextRule, text_rule_number, FileScans}
+use Rattle.cif_form.specs.Scans.{TextEnd, text_rule_number, FileScans}
 use Rattle.cif_form.specs.Walk as walks
-use Rattle.cif_form.specs.Walk.{WalkEnd, DrawRule, draw_rule_number, FileWalks}
+use Rattle.cif_form.specs.Walk.{WalkEnd, draw_rule_number, FileWalks}
 use Rattle.cif_reader.specs.Refusing.{Refuses as RefusesText}
 use Rattle.cif_flat.specs.Refusing.{StopsAt, OffsetIs}
 use Rattle.switch_net.specs.declared.network.Network.{Network}
@@ -25,21 +26,20 @@ use Rattle.mask_net.specs.Masks.{IsCif, IsDrawing, IsNetOf, BreaksDrawing, Break
 
 -- the laws of the crates below
 pub record Laws : Type 0 where
-  pub scan : (text : List ℕ) (items others : List Item) (end last : TextEnd) → FileScans text items end → FileScans text others last → (items ≡ others) × (end ≡ last)
+  pub scan : (text : List ℕ) (items others : List Item) (end last : TextEnd) → FileScans text items end
+      → FileScans text others last → (items ≡ others) × (end ≡ last)
   pub walk : (items : List Item) (shapes others : List Rect) (labels names : List FlatLabel) (end last : WalkEnd)
-      → FileWalks items shapes labels end → FileWalks items others names last → (shapes ≡ others) × (labels ≡ names) × (end ≡ last)
+      → FileWalks items shapes labels end → FileWalks items others names last
+      → (shapes ≡ others) × (labels ≡ names) × (end ≡ last)
   pub network : nets.OneNetwork
-
--- this holds of one value at most
-abbrev IsDetermined : {X : Type 0} → (X → Type 0) → Type 0
-IsDetermined {X} P = (a b : X) → P a → P b → a ≡ b
 
 -- a rule of the first stage, or else what the later stages say
 abbrev Stage : (Broken → Type 0) → (Option Broken → Type 0) → Option Broken → Type 0
 Stage P Q None = Q None
 Stage P Q (Some b) = P b ⊎ Q (Some b)
 
-one_of_stages : (P : Broken → Type 0) (Q : Option Broken → Type 0) → IsDetermined P → ((b : Broken) (o : Option Broken) → P b → Q o → ⊥) → IsDetermined Q → IsDetermined (Stage P Q)
+one_of_stages : (P : Broken → Type 0) (Q : Option Broken → Type 0) → IsDetermined P
+    → ((b : Broken) (o : Option Broken) → P b → Q o → ⊥) → IsDetermined Q → IsDetermined (Stage P Q)
 one_of_stages P Q p apart q None None x y = refl
 one_of_stages P Q p apart q None (Some b) x (inl y) = absurd (apart b None y x)
 one_of_stages P Q p apart q None (Some b) x (inr y) = q None (Some b) x y
@@ -54,9 +54,12 @@ module _ (laws : Laws) (bytes : List ℕ) where
   one_cif : IsDetermined (IsCif bytes)
   one_cif a b x y = (laws.scan bytes a b scans.Whole scans.Whole x.well_formed y.well_formed).0
 
-  one_drawing : (shapes others : List Rect) (labels names : List FlatLabel) → IsDrawing bytes shapes labels → IsDrawing bytes others names → (shapes ≡ others) × (labels ≡ names)
+  one_drawing : (shapes others : List Rect) (labels names : List FlatLabel) → IsDrawing bytes shapes labels
+      → IsDrawing bytes others names → (shapes ≡ others) × (labels ≡ names)
   one_drawing shapes others labels names x y =
-      let again = subst (λ items. FileWalks items shapes labels walks.Whole) (one_cif x.commands y.commands x.cif y.cif) x.drawable in
+      let again =
+      subst (λ items. FileWalks items shapes labels walks.Whole)
+      (one_cif x.commands y.commands x.cif y.cif) x.drawable in
       let same = laws.walk y.commands shapes others labels names walks.Whole walks.Whole again y.drawable in
       (same.0, same.1)
 
@@ -74,9 +77,12 @@ module _ (laws : Laws) (bytes : List ℕ) where
       let ends : scans.Broken r o ≡ scans.Broken s p = (laws.scan bytes items.0 others.0 _ _ items.1 others.1).1 in
       let rules : r ≡ s = cc in
       let offsets : o ≡ p = cc in
-      ap₂ (λ (k : Rule) (at : Spot). record { rule = k; spot = at }) (rule ∙ ap (λ k. record { family = C; number = text_rule_number k }) rules ∙ sym is) (spot ∙ ap Offset offsets ∙ sym at)
+      ap₂ (λ (k : Rule) (at : Spot). record { rule = k; spot = at })
+      (rule ∙ ap (λ k. record { family = C; number = text_rule_number k }) rules ∙ sym is)
+      (spot ∙ ap Offset offsets ∙ sym at)
 
-  stops_once : (items : List Item) (at there : Spot) (n m : ℕ) → OffsetIs at (StopsAt items n) → OffsetIs there (StopsAt items m) → (n ≡ m) × (at ≡ there)
+  stops_once : (items : List Item) (at there : Spot) (n m : ℕ) → OffsetIs at (StopsAt items n)
+      → OffsetIs there (StopsAt items m) → (n ≡ m) × (at ≡ there)
   stops_once items (Offset o) (Offset p) n m (r, shapes, labels, is, walk) (s, others, names, so, again) =
       let ends : walks.Broken r o ≡ walks.Broken s p = (laws.walk items shapes others labels names _ _ walk again).2 in
       let rules : r ≡ s = cc in
@@ -90,7 +96,8 @@ module _ (laws : Laws) (bytes : List ℕ) where
 
   one_of_drawing : IsDetermined (BreaksDrawing bytes)
   one_of_drawing a b (items, cif, stops) (others, again, other) =
-      let first = subst (λ items. OffsetIs a.spot (StopsAt items a.rule.number)) (one_cif items others cif again) stops.1 in
+      let first =
+      subst (λ items. OffsetIs a.spot (StopsAt items a.rule.number)) (one_cif items others cif again) stops.1 in
       let same = stops_once others a.spot b.spot a.rule.number b.rule.number first other.1 in
       let rules : a.rule ≡ b.rule = ap₂ (λ f n. record { family = f; number = n }) (stops.0 ∙ sym other.0) same.0 in
       ap₂ (λ (k : Rule) (at : Spot). record { rule = k; spot = at }) rules same.1
@@ -107,28 +114,39 @@ module _ (laws : Laws) (bytes : List ℕ) where
   no_cif b others (r, o, rule, spot, items) cif =
       let ends : scans.Broken r o ≡ scans.Whole = (laws.scan bytes items.0 others _ _ items.1 cif.well_formed).1 in cc
 
-  no_drawing : (b : Broken) (shapes : List Rect) (labels : List FlatLabel) → BreaksDrawing bytes b → IsDrawing bytes shapes labels → ⊥
-  no_drawing b shapes labels (items, cif, stops) drawing = go b.spot (subst (λ items. OffsetIs b.spot (StopsAt items b.rule.number)) (one_cif items drawing.commands cif drawing.cif) stops.1)
+  no_drawing : (b : Broken) (shapes : List Rect) (labels : List FlatLabel) → BreaksDrawing bytes b
+      → IsDrawing bytes shapes labels → ⊥
+  no_drawing b shapes labels (items, cif, stops) drawing =
+      go b.spot
+      (subst (λ items. OffsetIs b.spot (StopsAt items b.rule.number))
+      (one_cif items drawing.commands cif drawing.cif) stops.1)
     where
       go : (spot : Spot) → OffsetIs spot (StopsAt drawing.commands b.rule.number) → ⊥
       go (Offset o) (r, others, names, is, walk) =
-          let ends : walks.Broken r o ≡ walks.Whole = (laws.walk drawing.commands others shapes names labels _ _ walk drawing.drawable).2 in cc
+          let ends : walks.Broken r o ≡ walks.Whole =
+          (laws.walk drawing.commands others shapes names labels _ _ walk drawing.drawable).2 in cc
       go (At a) x = absurd x
       go (Named a) x = absurd x
       go Nowhere x = absurd x
 
-  breaks_nothing : (shapes : List Rect) (labels : List FlatLabel) (net : Network) (b : Broken) → IsExtracted shapes labels net → IsFirstOfMask (covered shapes) labels b → ⊥
+  breaks_nothing : (shapes : List Rect) (labels : List FlatLabel) (net : Network) (b : Broken)
+      → IsExtracted shapes labels net → IsFirstOfMask (covered shapes) labels b → ⊥
   breaks_nothing shapes labels net b is (n1 i label on before) = is.labels_fit i (one label on)
   breaks_nothing shapes labels net b is (n2 i label on before) = is.labels_fit i (two label on)
   breaks_nothing shapes labels net b is (n3 other drawn i tag driven before) =
-      is.apart i (tag, subst (λ (n : Network). IsDrivenTwice supplies n.tags i tag) (laws.network shapes labels other net drawn is.network) driven)
+      is.apart i (
+        tag,
+        subst (λ (n : Network). IsDrivenTwice supplies n.tags i tag)
+            (laws.network shapes labels other net drawn is.network) driven,
+      )
   breaks_nothing shapes labels net b is (n5 other drawn apart over) = is.few over
 
   no_network : (b : Broken) (net : Network) → BreaksMask bytes b → IsNetOf bytes net → ⊥
   no_network b net (shapes, labels, drawing, broken) is =
       let same = one_drawing shapes is.shapes labels is.labels drawing is.drawing in
       let broken = subst (λ shapes. IsFirstOfMask (covered shapes) labels b) same.0 broken in
-      breaks_nothing is.shapes is.labels net b is.mask (subst (λ labels. IsFirstOfMask (covered is.shapes) labels b) same.1 broken)
+      breaks_nothing is.shapes is.labels net b is.mask
+      (subst (λ labels. IsFirstOfMask (covered is.shapes) labels b) same.1 broken)
 
   -- ---- the verdict
 
@@ -141,7 +159,8 @@ module _ (laws : Laws) (bytes : List ℕ) where
   abbrev DrawingStage : Option Broken → Type 0
   DrawingStage = Stage (BreaksDrawing bytes) MaskStage
 
-  of_mask : (o : Option Broken) → MaskStage o → (shapes : List Rect) × (labels : List FlatLabel) × IsDrawing bytes shapes labels
+  of_mask : (o : Option Broken) → MaskStage o
+      → (shapes : List Rect) × (labels : List FlatLabel) × IsDrawing bytes shapes labels
   of_mask None (e, net, is) = (is.shapes, is.labels, is.drawing)
   of_mask (Some b) (inl (shapes, labels, drawing, broken)) = (shapes, labels, drawing)
   of_mask (Some b) (inr (e, net, is)) = (is.shapes, is.labels, is.drawing)
@@ -160,6 +179,8 @@ module _ (laws : Laws) (bytes : List ℕ) where
   pub one_verdict : nets.OneFirstOfMask → IsDetermined (OfMask bytes)
   one_verdict first a b x y =
       one_of_stages _ DrawingStage one_of_text (λ c o text rest. let d = of_drawing o rest in no_cif c d.0 text d.1)
-      (one_of_stages (BreaksDrawing bytes) MaskStage one_of_drawing (λ c o drawing rest. let d = of_mask o rest in no_drawing c d.0 d.1 drawing d.2)
-      (one_of_stages (BreaksMask bytes) NetStage (one_of_mask first) (λ c o mask rest. no_network c rest.1 mask rest.2) (λ c d e f. e.0 ∙ sym f.0)))
+      (one_of_stages (BreaksDrawing bytes) MaskStage one_of_drawing
+      (λ c o drawing rest. let d = of_mask o rest in no_drawing c d.0 d.1 drawing d.2)
+      (one_of_stages (BreaksMask bytes) NetStage (one_of_mask first) (λ c o mask rest. no_network c rest.1 mask rest.2)
+      (λ c d e f. e.0 ∙ sym f.0)))
       a b (staged a x) (staged b y)

@@ -31,7 +31,8 @@ pub record IsDrawing (bytes : List ℕ) (shapes : List Rect) (labels : List Flat
   pub drawn : Expands [] None commands shapes labels
   pub drawable : FileWalks commands shapes labels walks.Whole
 
--- the shapes with labels that the bytes draw are a mask of this network, and no rule of texts, of drawing or of masks is broken
+-- the shapes with labels that the bytes draw are a mask of this network, and no rule of texts, of drawing or of masks
+-- is broken
 pub record IsNetOf (bytes : List ℕ) (network : Network) : Type 0 where
   pub shapes : List Rect
   pub labels : List FlatLabel
@@ -44,7 +45,8 @@ BreaksDrawing bytes b = (commands : List Item) × IsCif bytes commands × Refuse
 
 -- the first rule of masks that what the bytes draw breaks
 abbrev pub BreaksMask : List ℕ → Broken → Type 0
-BreaksMask bytes b = (shapes : List Rect) × (labels : List FlatLabel) × IsDrawing bytes shapes labels × IsFirstOfMask (covered shapes) labels b
+BreaksMask bytes b = (shapes : List Rect) × (labels : List FlatLabel) × IsDrawing bytes shapes labels
+    × IsFirstOfMask (covered shapes) labels b
 
 -- No rule is broken; or this is the first that is: of the text, or else of the drawing, or else of the mask.
 abbrev pub OfMask : List ℕ → Option Broken → Type 0

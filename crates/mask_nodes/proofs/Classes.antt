@@ -1,32 +1,22 @@
 -- Classes of things that are owned, from the classes of the owners' numbers.
-use Rattle.std.proofs.Common.{◌≡◌, ℕ, ◌<◌, ◌≤◌, ◌⊎◌, inl, inr, List, length, map, get_or, refl, sym, ◌∙◌, ap, subst, subst₂, arith}
+use Rattle.std.proofs.Common.{◌≡◌, ℕ, ◌<◌, ◌≤◌, ◌⊎◌, inl, inr, List, length, map, get_or, refl, sym, ◌∙◌, ap, subst}
+use Rattle.std.proofs.Common.{subst₂, arith}
 use Rattle.std.specs.Prelude.{All, AllPairs, Contains}
 use Rattle.std.proofs.lemmas.List.{get_or_default, get_or-map, length-map}
 use Rattle.std.proofs.lemmas.Bool.{cases_eq, cases_lt}
 use Rattle.lam_geom.specs.Chains.{Chain}
 use Rattle.lam_geom.specs.Chains.Chain.{here, link}
+use Rattle.lam_geom.proofs.Chains.{join_chains, turn_chain}
 use Rattle.switch_net.specs.Classes.{AreClasses, IsInClass}
 use Rattle.union_find.specs.declared.pair.Pair.{Pair}
 use Rattle.union_find.specs.Leasts.{Paired, AreLeasts}
+use Rattle.union_find.proofs.Chains.{turn_pair}
 use Rattle.mask_nodes.specs.Numbers.{AreRoots, AreNumbers}
-
-pub join_chains : {S : Type 0} {J : S → S → Type 0} {s t u : S} → Chain J s t → Chain J t u → Chain J s u
-join_chains here d = d
-join_chains (link j c) d = link j (join_chains c d)
-
-pub one_link : {S : Type 0} {J : S → S → Type 0} {s t : S} → J s t → Chain J s t
-one_link j = link j here
-
-pub turn_chain : {S : Type 0} {J : S → S → Type 0} → ((a b : S) → J a b → J b a) → {s t : S} → Chain J s t → Chain J t s
-turn_chain flip here = here
-turn_chain flip (link {s = s} {t = t} j c) = join_chains (turn_chain flip c) (one_link (flip s t j))
-
-pub turn_pair : (pairs : List Pair) (i j : ℕ) → Paired pairs i j → Paired pairs j i
-turn_pair pairs i j h = record { pair = h.pair; among = h.among; ends = elim h.ends [ inl e ↦ inr e | inr e ↦ inl e ] }
 
 -- Numbers own the things, what pairs join own joined things, and joined things have owners that pairs join. The first
 -- thing of an owner stands before all that it and the owners of higher numbers own.
-pub record AreOwners {S : Type 0} (Is : S → Type 0) (J B : S → S → Type 0) (Has : ℕ → S → Type 0) (first : ℕ → S) (count : ℕ) (pairs : List Pair) : Type 0 where
+pub record AreOwners {S : Type 0} (Is : S → Type 0) (J B : S → S → Type 0) (Has : ℕ → S → Type 0) (first : ℕ → S)
+    (count : ℕ) (pairs : List Pair) : Type 0 where
   pub owner : (s : S) → Is s → (k : ℕ) × Has k s
   pub is : (k : ℕ) (s : S) → Has k s → Is s
   pub below : (k : ℕ) (s : S) → Has k s → k < count
@@ -39,7 +29,8 @@ pub record AreOwners {S : Type 0} (Is : S → Type 0) (J B : S → S → Type 0)
   pub back : (i j : ℕ) (s : S) → Paired pairs i j → Has i s → (t : S) × Has j t × Chain J s t
   pub one : (k : ℕ) (s t : S) → Has k s → Has k t → Chain J s t
 
-module _ {S : Type 0} {Is : S → Type 0} {J B : S → S → Type 0} {Has : ℕ → S → Type 0} {first : ℕ → S} {count : ℕ} {pairs : List Pair}
+module _ {S : Type 0} {Is : S → Type 0} {J B : S → S → Type 0} {Has : ℕ → S → Type 0} {first : ℕ
+    → S} {count : ℕ} {pairs : List Pair}
     (own : AreOwners Is J B Has first count pairs) where
   pub forward : {s t : S} → Chain J s t → (i j : ℕ) → Has i s → Has j t → Chain (Paired pairs) i j
   forward (here {s = s}) i j h k = own.shared s i j h k
@@ -60,9 +51,11 @@ module _ {S : Type 0} {Is : S → Type 0} {J B : S → S → Type 0} {Has : ℕ 
   pub turned : {i j : ℕ} → Chain (Paired pairs) i j → Chain (Paired pairs) j i
   turned c = turn_chain (turn_pair pairs) c
 
-  module _ (least roots : List ℕ) (leasts : AreLeasts count pairs least) (are : AreRoots (λ k. Has k (first k)) least count roots) where
+  module _ (least roots : List ℕ) (leasts : AreLeasts count pairs least)
+      (are : AreRoots (λ k. Has k (first k)) least count roots) where
     -- the least of an owner's class is a root
-    pub rooted : (k : ℕ) (s : S) → Has k s → Has (get_or least k 0) (first (get_or least k 0)) × Contains roots (get_or least k 0)
+    pub rooted : (k : ℕ) (s : S) → Has k s
+        → Has (get_or least k 0) (first (get_or least k 0)) × Contains roots (get_or least k 0)
     rooted k s h =
         let l : k < count = own.below k s h in
         let c : Chain (Paired pairs) k (get_or least k 0) = leasts.home k l in
@@ -73,7 +66,9 @@ module _ {S : Type 0} {Is : S → Type 0} {J B : S → S → Type 0} {Has : ℕ 
         let b = leasts.below k l in
         (r, are.all (get_or least k 0) (omega arith) r e)
 
-    root_at : (k d : ℕ) → k < length roots → (get_or roots k d < count) × Has (get_or roots k d) (first (get_or roots k d)) × (get_or least (get_or roots k d) 0 ≡ get_or roots k d)
+    root_at : (k d : ℕ) → k < length roots
+        → (get_or roots k d < count) × Has (get_or roots k d) (first (get_or roots k d))
+        × (get_or least (get_or roots k d) 0 ≡ get_or roots k d)
     root_at k d l = are.each k d l
 
     first_at : (k : ℕ) (d : S) → k < length roots → get_or (map first roots) k d ≡ first (get_or roots k 0)
@@ -128,7 +123,8 @@ module _ {S : Type 0} {Is : S → Type 0} {J B : S → S → Type 0} {Has : ℕ 
           let m = r.1 in
           let n = length-map roots first in
           let l = m.1 in
-          let at : get_or (map first roots) m.0 (first p) ≡ first p = first_at m.0 (first p) m.1 ∙ ap first (get_or_default roots m.0 0 p m.1 ∙ m.2) in
+          let at : get_or (map first roots) m.0 (first p) ≡ first p =
+          first_at m.0 (first p) m.1 ∙ ap first (get_or_default roots m.0 0 p m.1 ∙ m.2) in
           let c : Chain (Paired pairs) k p = leasts.home k (own.below k s o.1) in
           (first p, (m.0, omega arith, at), joined (turned c) (first p) s r.0 o.1);
     }
@@ -143,7 +139,8 @@ module _ {S : Type 0} {Is : S → Type 0} {J B : S → S → Type 0} {Has : ℕ 
           let n = length-map roots first in
           let below = w.0 in
           let p : ℕ = get_or least k 0 in
-          let e : get_or (map first roots) (get_or numbers k 0) s ≡ first p = first_at (get_or numbers k 0) s w.0 ∙ ap first w.1 in
+          let e : get_or (map first roots) (get_or numbers k 0) s ≡ first p =
+          first_at (get_or numbers k 0) s w.0 ∙ ap first w.1 in
           let c : Chain (Paired pairs) k p = leasts.home k l in
           let r = rooted k s h in
           (omega arith, subst (λ z. Chain J z s) (sym e) (joined (turned c) (first p) s r.0 h))
@@ -164,7 +161,8 @@ module _ {S : Type 0} {Is : S → Type 0} {J B : S → S → Type 0} {Has : ℕ 
           let same : p ≡ get_or roots (get_or numbers k 0) 0 = sym rp.2 ∙ w ∙ sym v.1 in
           one_place roots are.ascending m (get_or numbers k 0) hm v.0 same
         where
-          one_place : (xs : List ℕ) → AllPairs ◌<◌ xs → (a b : ℕ) → a < length xs → b < length xs → get_or xs a 0 ≡ get_or xs b 0 → a ≡ b
+          one_place : (xs : List ℕ) → AllPairs ◌<◌ xs → (a b : ℕ) → a < length xs → b < length xs
+              → get_or xs a 0 ≡ get_or xs b 0 → a ≡ b
           one_place xs up a b ha hb e = elim (cases_eq a b) [
             | inl s ↦ s
             | inr n ↦ elim (cases_lt a b) [

@@ -1,5 +1,6 @@
 -- The ends of channels in lists.
-use Rattle.std.proofs.Common.{◌≡◌, ◌≢◌, ℕ, ◌+◌, ◌<◌, ◌≤◌, ◌⊎◌, inl, inr, List, [], ◌∷◌, ◌++◌, length, get_or, set, refl, sym, ◌∙◌, ap, subst, subst₂, arith, Bool, true, false, eqb, replicate}
+use Rattle.std.proofs.Common.{◌≡◌, ◌≢◌, ℕ, ◌+◌, ◌<◌, ◌≤◌, ◌⊎◌, inl, inr, List, [], ◌∷◌, ◌++◌, length, get_or, set, refl}
+use Rattle.std.proofs.Common.{sym, ◌∙◌, ap, subst, subst₂, arith, Bool, true, false, eqb, replicate}
 use Rattle.std.specs.Prelude.{◌↔◌, All, AllPairs, Contains, Some, slice_get}
 use Rattle.std.specs.List.{dedup}
 use Rattle.std.specs.List.Sorted.{IsPermutation, IsNonDecreasingBy, IsSorted}
@@ -10,19 +11,21 @@ use Rattle.std.proofs.lemmas.Map.Keys.{IsStrictlyIncreasing-dedup}
 use Rattle.std.proofs.lemmas.Bool.{cases_eq, cases_lt}
 use Rattle.std.proofs.lemmas.List.{get_or-set_same, get_or-set_other, length-set, get_or-replicate}
 use Rattle.std.proofs.lemmas.List.Sorted.{Contains-permutation, IsPermutation-sym}
-use Rattle.std.proofs.lemmas.List.Elements.{Contains-append_left, Contains-append_cases}
+use Rattle.std.proofs.lemmas.List.Elements.{Contains-append_left, Contains-append_cases, Contains-push}
 use Rattle.std.proofs.lemmas.Option.{same_Some, slice_get_within, slice_get-get_or, get_or_from_slice_get}
+use Rattle.mp_base.proofs.Entries.{get_from_contains, contains_from_get}
+use Rattle.mp_base.proofs.Contents.{only_one}
 use Rattle.union_find.specs.declared.pair.Pair.{Pair}
 use Rattle.mask_nodes.specs.declared.piece.Part.{Part}
 use Rattle.mask_nodes.specs.declared.piece.Piece.{Piece}
 use Rattle.mask_nodes.specs.Linking.{Gains, conducts_at}
 use Rattle.mask_nodes.specs.Ends.{pair_of, IsGivenBy, IsEndAt, IsEndOf, HasPart}
-use Rattle.mask_nodes.proofs.CutUp.{contains_at, at_contains}
-use Rattle.mask_nodes.proofs.Listing.{only_one, contains_last}
 use Rattle.mask_nodes.proofs.Gaining.{gains_one, gains_then, gains_none}
 
 -- what one more pair gives
-pub given_more : (Gives : Pair → Pair → Type 0) (touching : List Pair) (place : ℕ) (p : Pair) → slice_get touching place ≡ Some p → (x : Pair) → IsGivenBy Gives touching (place + 1) x ↔ (IsGivenBy Gives touching place x ⊎ Gives p x)
+pub given_more : (Gives : Pair → Pair → Type 0) (touching : List Pair) (place : ℕ) (p : Pair)
+    → slice_get touching place ≡ Some p → (x : Pair)
+    → IsGivenBy Gives touching (place + 1) x ↔ (IsGivenBy Gives touching place x ⊎ Gives p x)
 given_more Gives touching place p at x = (
   λ g.
       let b = g.before in
@@ -40,33 +43,56 @@ pub given_none : (Gives : Pair → Pair → Type 0) (touching : List Pair) (x : 
 given_none Gives touching x g = let b = g.before in omega arith
 
 -- both ends of one more pair
-pub ends_more : (numbers : List ℕ) (pieces : List Piece) (channels nodes : List ℕ) (touching : List Pair) (place : ℕ) (p : Pair) (old mid one both : List Pair) → slice_get touching place ≡ Some p
-    → Gains old mid (IsGivenBy (IsEndOf numbers pieces channels nodes) touching place) → Gains mid one (IsEndAt pieces channels nodes (get_or numbers p.a 0) (get_or numbers p.b 0))
-    → Gains one both (IsEndAt pieces channels nodes (get_or numbers p.b 0) (get_or numbers p.a 0)) → Gains old both (IsGivenBy (IsEndOf numbers pieces channels nodes) touching (place + 1))
+pub ends_more : (numbers : List ℕ) (pieces : List Piece) (channels nodes : List ℕ) (touching : List Pair) (place : ℕ)
+    (p : Pair) (old mid one both : List Pair) → slice_get touching place ≡ Some p
+    → Gains old mid (IsGivenBy (IsEndOf numbers pieces channels nodes) touching place)
+    → Gains mid one (IsEndAt pieces channels nodes (get_or numbers p.a 0) (get_or numbers p.b 0))
+    → Gains one both (IsEndAt pieces channels nodes (get_or numbers p.b 0) (get_or numbers p.a 0))
+    → Gains old both (IsGivenBy (IsEndOf numbers pieces channels nodes) touching (place + 1))
 ends_more numbers pieces channels nodes touching place p old mid one both at g h k =
-    let hk : Gains mid both (IsEndOf numbers pieces channels nodes p) = gains_then mid one both (IsEndAt pieces channels nodes (get_or numbers p.a 0) (get_or numbers p.b 0)) (IsEndAt pieces channels nodes (get_or numbers p.b 0) (get_or numbers p.a 0))
+    let hk : Gains mid both (IsEndOf numbers pieces channels nodes p) =
+    gains_then mid one both (IsEndAt pieces channels nodes (get_or numbers p.a 0) (get_or numbers p.b 0))
+    (IsEndAt pieces channels nodes (get_or numbers p.b 0) (get_or numbers p.a 0))
     (IsEndOf numbers pieces channels nodes p) h k (λ x. (λ u. u, λ u. u)) in
-    gains_then old mid both (IsGivenBy (IsEndOf numbers pieces channels nodes) touching place) (IsEndOf numbers pieces channels nodes p) (IsGivenBy (IsEndOf numbers pieces channels nodes) touching (place + 1)) g hk
+    gains_then old mid both (IsGivenBy (IsEndOf numbers pieces channels nodes) touching place)
+    (IsEndOf numbers pieces channels nodes p)
+    (IsGivenBy (IsEndOf numbers pieces channels nodes) touching (place + 1)) g hk
     (given_more (IsEndOf numbers pieces channels nodes) touching place p at)
 
 -- one end
-pub end_added : (pieces : List Piece) (channels nodes : List ℕ) (i j : ℕ) (old : List Pair) (x : Pair) → conducts_at pieces i ≡ false → conducts_at pieces j ≡ true → x ≡ pair_of (get_or channels i 0) (get_or nodes j 0)
+pub end_added : (pieces : List Piece) (channels nodes : List ℕ) (i j : ℕ) (old : List Pair) (x : Pair)
+    → conducts_at pieces i ≡ false → conducts_at pieces j ≡ true → x ≡ pair_of (get_or channels i 0) (get_or nodes j 0)
     → Gains old (old ++ x ∷ []) (IsEndAt pieces channels nodes i j)
-end_added pieces channels nodes i j old x a b e = gains_then old old (old ++ x ∷ []) (λ y. ⊥) (λ y. x ≡ y) (IsEndAt pieces channels nodes i j) (gains_none old (λ y. ⊥) (λ y h. h)) (gains_one old x) (λ y. (
-  λ h. inr (e ∙ sym h.same),
-  λ c. elim c [ inl h ↦ absurd h | inr h ↦ subst (IsEndAt pieces channels nodes i j) h (record { channel = a; conductor = b; same = e }) ],
-))
+end_added pieces channels nodes i j old x a b e =
+    gains_then old old (old ++ x ∷ []) (λ y. ⊥) (λ y. x ≡ y) (IsEndAt pieces channels nodes i j)
+    (gains_none old (λ y. ⊥) (λ y h. h)) (gains_one old x) (λ y. (
+      λ h. inr (e ∙ sym h.same),
+      λ c. elim c [
+        | inl h ↦ absurd h
+        | inr h ↦ subst (IsEndAt pieces channels nodes i j) h (record { channel = a; conductor = b; same = e })
+      ],
+    ))
 
-pub end_left : (pieces : List Piece) (channels nodes : List ℕ) (i j : ℕ) (old : List Pair) → (conducts_at pieces i ≡ true) ⊎ (conducts_at pieces j ≡ false) → Gains old old (IsEndAt pieces channels nodes i j)
-end_left pieces channels nodes i j old n = gains_none old (IsEndAt pieces channels nodes i j) (λ x h. elim n [ inl e ↦ two (conducts_at pieces i) e h.channel | inr e ↦ two (conducts_at pieces j) h.conductor e ])
+pub end_left : (pieces : List Piece) (channels nodes : List ℕ) (i j : ℕ) (old : List Pair)
+    → (conducts_at pieces i ≡ true) ⊎ (conducts_at pieces j ≡ false) → Gains old old (IsEndAt pieces channels nodes i j)
+end_left pieces channels nodes i j old n =
+    gains_none old (IsEndAt pieces channels nodes i j)
+    (λ x h. elim n [
+      | inl e ↦ two (conducts_at pieces i) e h.channel
+      | inr e ↦ two (conducts_at pieces j) h.conductor e
+    ])
   where
     two : (b : Bool) → b ≡ true → b ≡ false → ⊥
     two b t f = cc
 
 -- the ends in another order
-pub ends_sorted : (P : Pair → Type 0) (old new : List Pair) → Gains [] old P → IsPermutation old new → (x : Pair) → Contains new x ↔ P x
+pub ends_sorted : (P : Pair → Type 0) (old new : List Pair) → Gains [] old P → IsPermutation old new → (x : Pair)
+    → Contains new x ↔ P x
 ends_sorted P old new g p x = (
-  λ c. elim ((g.each x).0 (Contains-permutation new old x (IsPermutation-sym old new p) c)) [ inl u ↦ absurd (none x u) | inr u ↦ u ],
+  λ c. elim ((g.each x).0 (Contains-permutation new old x (IsPermutation-sym old new p) c)) [
+    | inl u ↦ absurd (none x u)
+    | inr u ↦ u
+  ],
   λ h. Contains-permutation old new x p ((g.each x).1 (inr h)),
 )
   where
@@ -83,7 +109,8 @@ pub record AreTaken (ends : List Pair) (channel start place : ℕ) (nodes : List
   pub from : (k : ℕ) → Contains nodes k → Contains ends (pair_of channel k)
   pub has : (j : ℕ) → start ≤ j → j < place → Contains nodes (get_or ends j (pair_of 0 0)).b
 
-pub taken_none : (ends : List Pair) (channel start : ℕ) → start ≤ length ends → ((j : ℕ) → j < start → (get_or ends j (pair_of 0 0)).a < channel) → AreTaken ends channel start start []
+pub taken_none : (ends : List Pair) (channel start : ℕ) → start ≤ length ends
+    → ((j : ℕ) → j < start → (get_or ends j (pair_of 0 0)).a < channel) → AreTaken ends channel start start []
 taken_none ends channel start l before = record {
   above = omega arith;
   within = l;
@@ -92,7 +119,9 @@ taken_none ends channel start l before = record {
   has = λ j u v. absurd (omega arith);
 }
 
-pub taken_more : (ends : List Pair) (channel start place : ℕ) (nodes : List ℕ) (n : ℕ) → AreTaken ends channel start place nodes → place < length ends → (get_or ends place (pair_of 0 0)).a ≡ channel → n ≡ (get_or ends place (pair_of 0 0)).b
+pub taken_more : (ends : List Pair) (channel start place : ℕ) (nodes : List ℕ) (n : ℕ)
+    → AreTaken ends channel start place nodes → place < length ends → (get_or ends place (pair_of 0 0)).a ≡ channel
+    → n ≡ (get_or ends place (pair_of 0 0)).b
     → AreTaken ends channel start (place + 1) (nodes ++ n ∷ [])
 taken_more ends channel start place nodes n h l e en =
     let a = h.above in
@@ -100,17 +129,23 @@ taken_more ends channel start place nodes n h l e en =
       above = omega arith;
       within = omega arith;
       before = λ j u. elim (cases_eq j place) [
-        | inl f ↦ let g : (get_or ends j (pair_of 0 0)).a ≡ channel = ap (λ i. (get_or ends i (pair_of 0 0)).a) f ∙ e in omega arith
+        | inl f ↦ let g : (get_or ends j (pair_of 0 0)).a ≡ channel =
+            ap (λ i. (get_or ends i (pair_of 0 0)).a) f ∙ e in omega arith
         | inr f ↦ h.before j (omega arith)
       ];
       from = λ k c. elim (Contains-append_cases nodes (n ∷ []) k c) [
         | inl u ↦ h.from k u
         | inr u ↦
-            let f : get_or ends place (pair_of 0 0) ≡ pair_of channel k = λ i. record { a = e i; b = (sym en ∙ only_one n k u) i } in
-            subst (Contains ends) f (at_contains ends place (get_or ends place (pair_of 0 0)) (slice_get-get_or ends place (pair_of 0 0) l))
+            let f : get_or ends place (pair_of 0 0) ≡ pair_of channel k =
+            λ i. record { a = e i; b = (sym en ∙ only_one n k u) i } in
+            subst (Contains ends) f
+            (contains_from_get ends place (get_or ends place (pair_of 0 0))
+            (slice_get-get_or ends place (pair_of 0 0) l))
       ];
       has = λ j u v. elim (cases_eq j place) [
-        | inl f ↦ subst (Contains (nodes ++ n ∷ [])) (en ∙ ap (λ i. (get_or ends i (pair_of 0 0)).b) (sym f)) (contains_last nodes n)
+        | inl f ↦
+            subst (Contains (nodes ++ n ∷ [])) (en ∙ ap (λ i. (get_or ends i (pair_of 0 0)).b) (sym f))
+            (Contains-push nodes n)
         | inr f ↦ Contains-append_left nodes (n ∷ []) (get_or ends j (pair_of 0 0)).b (h.has j u (omega arith))
       ];
     }
@@ -122,9 +157,12 @@ pub record AreAllTaken (ends : List Pair) (channel place : ℕ) (nodes : List �
   pub after : (j : ℕ) → place ≤ j → j < length ends → channel < (get_or ends j (pair_of 0 0)).a
   pub each : (k : ℕ) → Contains nodes k ↔ Contains ends (pair_of channel k)
 
-pub all_taken : (ends : List Pair) (channel start place : ℕ) (nodes : List ℕ) → AreTaken ends channel start place nodes → IsNonDecreasingBy (λ (x : Pair). x.a) ends → ((j : ℕ) → j < start → (get_or ends j (pair_of 0 0)).a < channel)
-    → ((j : ℕ) → start ≤ j → j < length ends → channel ≤ (get_or ends j (pair_of 0 0)).a) → (place < length ends → (get_or ends place (pair_of 0 0)).a ≢ channel) → AreAllTaken ends channel place nodes
-all_taken ends channel start place nodes h up before after last = record { within = h.within; before = h.before; after = later; each = λ k. (h.from k, back k) }
+pub all_taken : (ends : List Pair) (channel start place : ℕ) (nodes : List ℕ) → AreTaken ends channel start place nodes
+    → IsNonDecreasingBy (λ (x : Pair). x.a) ends → ((j : ℕ) → j < start → (get_or ends j (pair_of 0 0)).a < channel)
+    → ((j : ℕ) → start ≤ j → j < length ends → channel ≤ (get_or ends j (pair_of 0 0)).a)
+    → (place < length ends → (get_or ends place (pair_of 0 0)).a ≢ channel) → AreAllTaken ends channel place nodes
+all_taken ends channel start place nodes h up before after last =
+    record { within = h.within; before = h.before; after = later; each = λ k. (h.from k, back k) }
   where
     later : (j : ℕ) → place ≤ j → j < length ends → channel < (get_or ends j (pair_of 0 0)).a
     later j l u =
@@ -136,9 +174,10 @@ all_taken ends channel start place nodes h up before after last = record { withi
 
     back : (k : ℕ) → Contains ends (pair_of channel k) → Contains nodes k
     back k c =
-        let w = contains_at ends (pair_of channel k) c in
+        let w = get_from_contains ends (pair_of channel k) c in
         let l = slice_get_within ends w.0 (pair_of channel k) w.1 in
-        let e : get_or ends w.0 (pair_of 0 0) ≡ pair_of channel k = get_or_from_slice_get ends w.0 (pair_of channel k) (pair_of 0 0) w.1 in
+        let e : get_or ends w.0 (pair_of 0 0) ≡ pair_of channel k =
+        get_or_from_slice_get ends w.0 (pair_of channel k) (pair_of 0 0) w.1 in
         let ea : (get_or ends w.0 (pair_of 0 0)).a ≡ channel = ap (λ (x : Pair). x.a) e in
         elim (cases_lt w.0 start) [
           | inl u ↦ let b = before w.0 u in absurd (omega arith)
@@ -150,24 +189,33 @@ all_taken ends channel start place nodes h up before after last = record { withi
 
 -- in order and without doubles
 pub nodes_rise : (xs ys : List ℕ) → IsSorted nat_cmp xs → ys ≡ dedup eqb xs → AllPairs (λ i j. i < j) ys
-nodes_rise xs ys h e = subst (AllPairs (λ i j. i < j)) (sym e) (AllPairs-from_increasing (dedup eqb xs) (IsStrictlyIncreasing-dedup xs h))
+nodes_rise xs ys h e =
+    subst (AllPairs (λ i j. i < j)) (sym e) (AllPairs-from_increasing (dedup eqb xs) (IsStrictlyIncreasing-dedup xs h))
 
-pub nodes_same : (old xs ys : List ℕ) (P : ℕ → Type 0) → ((k : ℕ) → Contains old k ↔ P k) → IsPermutation old xs → ys ≡ dedup eqb xs → (k : ℕ) → Contains ys k ↔ P k
+pub nodes_same : (old xs ys : List ℕ) (P : ℕ → Type 0) → ((k : ℕ) → Contains old k ↔ P k) → IsPermutation old xs
+    → ys ≡ dedup eqb xs → (k : ℕ) → Contains ys k ↔ P k
 nodes_same old xs ys P f p e k = (
-  λ h. (f k).0 (Contains-permutation xs old k (IsPermutation-sym old xs p) (Contains-from_dedup eqb xs k (subst (λ zs. Contains zs k) e h))),
+  λ h. (f k).0
+      (Contains-permutation xs old k (IsPermutation-sym old xs p)
+      (Contains-from_dedup eqb xs k (subst (λ zs. Contains zs k) e h))),
   λ h. subst (λ zs. Contains zs k) (sym e) (Contains-dedup_nat xs k (Contains-permutation old xs k p ((f k).1 h))),
 )
 
 -- ---- the parts of channels
 
-pub record AreMarks (pieces : List Piece) (channels : List ℕ) (part : Part) (count place : ℕ) (marks : List Bool) : Type 0 where
+pub record AreMarks (pieces : List Piece) (channels : List ℕ) (part : Part) (count place : ℕ)
+    (marks : List Bool) : Type 0 where
   pub as_many : length marks ≡ count
   pub each : (c : ℕ) → c < count → (get_or marks c false ≡ true) ↔ HasPart pieces channels part place c
 
-part_wider : (pieces : List Piece) (channels : List ℕ) (part : Part) (place c : ℕ) → HasPart pieces channels part place c → HasPart pieces channels part (place + 1) c
-part_wider pieces channels part place c h = let b = h.before in record { k = h.k; before = omega arith; piece = h.piece; at = h.at; is = h.is; number = h.number }
+part_wider : (pieces : List Piece) (channels : List ℕ) (part : Part) (place c : ℕ)
+    → HasPart pieces channels part place c → HasPart pieces channels part (place + 1) c
+part_wider pieces channels part place c h = let b = h.before in
+    record { k = h.k; before = omega arith; piece = h.piece; at = h.at; is = h.is; number = h.number }
 
-pub marks_more : (pieces : List Piece) (channels : List ℕ) (part : Part) (count place n : ℕ) (p : Piece) (marks : List Bool) → AreMarks pieces channels part count place marks → slice_get pieces place ≡ Some p → p.part ≡ part
+pub marks_more : (pieces : List Piece) (channels : List ℕ) (part : Part) (count place n : ℕ) (p : Piece)
+    (marks : List Bool) → AreMarks pieces channels part count place marks → slice_get pieces place ≡ Some p
+    → p.part ≡ part
     → n ≡ get_or channels place 0 → n < count → AreMarks pieces channels part count (place + 1) (set marks n true)
 marks_more pieces channels part count place n p marks h at is en l =
     let many = h.as_many in
@@ -179,12 +227,16 @@ marks_more pieces channels part count place n p marks h at is en l =
           λ w. ap (λ m. get_or (set marks n true) m false) e ∙ get_or-set_same marks n true false (omega arith),
         )
         | inr e ↦ (
-          λ t. part_wider pieces channels part place c ((h.each c u).0 (sym (get_or-set_other marks n c true false e) ∙ t)),
+          λ t. part_wider pieces channels part place c
+              ((h.each c u).0 (sym (get_or-set_other marks n c true false e) ∙ t)),
           λ w.
               let b = w.before in
               get_or-set_other marks n c true false e ∙ (h.each c u).1 (record {
                 k = w.k;
-                before = elim (cases_eq w.k place) as (λ z. w.k < place) [ inl f ↦ absurd (e (sym w.number ∙ ap (λ m. get_or channels m 0) f ∙ sym en)) | inr f ↦ omega arith ];
+                before = elim (cases_eq w.k place) as (λ z. w.k < place) [
+                  | inl f ↦ absurd (e (sym w.number ∙ ap (λ m. get_or channels m 0) f ∙ sym en))
+                  | inr f ↦ omega arith
+                ];
                 piece = w.piece;
                 at = w.at;
                 is = w.is;
@@ -194,7 +246,9 @@ marks_more pieces channels part count place n p marks h at is en l =
       ];
     }
 
-pub marks_kept : (pieces : List Piece) (channels : List ℕ) (part : Part) (count place : ℕ) (p : Piece) (marks : List Bool) → AreMarks pieces channels part count place marks → slice_get pieces place ≡ Some p → p.part ≢ part
+pub marks_kept : (pieces : List Piece) (channels : List ℕ) (part : Part) (count place : ℕ) (p : Piece)
+    (marks : List Bool) → AreMarks pieces channels part count place marks → slice_get pieces place ≡ Some p
+    → p.part ≢ part
     → AreMarks pieces channels part count (place + 1) marks
 marks_kept pieces channels part count place p marks h at other = record {
   as_many = h.as_many;
@@ -205,7 +259,10 @@ marks_kept pieces channels part count place p marks h at other = record {
         (h.each c u).1 (record {
           k = w.k;
           before = elim (cases_eq w.k place) as (λ z. w.k < place) [
-            | inl f ↦ absurd (other (ap (λ (x : Piece). x.part) (same_Some p w.piece (sym at ∙ ap (slice_get pieces) (sym f) ∙ w.at)) ∙ w.is))
+            | inl f ↦
+                absurd (other
+                (ap (λ (x : Piece). x.part) (same_Some p w.piece (sym at ∙ ap (slice_get pieces) (sym f) ∙ w.at))
+                ∙ w.is))
             | inr f ↦ omega arith
           ];
           piece = w.piece;
@@ -216,11 +273,13 @@ marks_kept pieces channels part count place p marks h at other = record {
   );
 }
 
-pub marks_none : (pieces : List Piece) (channels : List ℕ) (part : Part) (count : ℕ) (marks : List Bool) → marks ≡ replicate count false → AreMarks pieces channels part count 0 marks
+pub marks_none : (pieces : List Piece) (channels : List ℕ) (part : Part) (count : ℕ) (marks : List Bool)
+    → marks ≡ replicate count false → AreMarks pieces channels part count 0 marks
 marks_none pieces channels part count marks e = record {
   as_many = ap length e ∙ length-replicate count false;
   each = λ c l. (
-    λ t. absurd (two (get_or marks c false) t (ap (λ xs. get_or xs c false) e ∙ get_or-replicate count c false false l)),
+    λ t. absurd
+        (two (get_or marks c false) t (ap (λ xs. get_or xs c false) e ∙ get_or-replicate count c false false l)),
     λ w. let b = w.before in absurd (omega arith),
   );
 }

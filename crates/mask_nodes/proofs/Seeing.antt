@@ -1,12 +1,14 @@
 -- What the colours of squares say of conductors and channels.
-use Rattle.std.proofs.Common.{◌≡◌, ◌≢◌, ℕ, ◌+◌, ◌<◌, ◌≤◌, ◌⊎◌, inl, inr, List, [], ◌∷◌, Bool, true, false, not, ◌&&◌, ◌||◌, eqb, refl, sym, ◌∙◌, ap, subst, arith}
+use Rattle.std.proofs.Common.{◌≡◌, ◌≢◌, ℕ, ◌+◌, ◌<◌, ◌≤◌, ◌⊎◌, inl, inr, List, [], ◌∷◌, Bool, true, false, not, ◌&&◌}
+use Rattle.std.proofs.Common.{◌||◌, eqb, refl, sym, ◌∙◌, ap, subst, arith}
 use Rattle.std.specs.Prelude.{◌↔◌, ℤ, ◌≤ℤ◌, ◌<ℤ◌, if◌then◌else◌}
-use Rattle.std.proofs.lemmas.Bool.{cases_eq}
+use Rattle.std.proofs.lemmas.Bool.{cases_eq, cases_Bool, both_ways, false_from_ne_true}
 use Rattle.std.proofs.lemmas.Int.{ints, by_lt_z}
 use Rattle.lam_geom.specs.declared.layer.Layer.{Layer}
 use Rattle.lam_geom.specs.declared.layer.Layer.TheVariants.{ND, NP, NC, NM, NI, NB, NG}
 use Rattle.lam_geom.specs.declared.rect.Rect.{Rect}
 use Rattle.lam_geom.specs.Squares.{Covers, covered, rank}
+use Rattle.lam_geom.proofs.SquareOrder.{of_ranks}
 use Rattle.mask_runs.specs.declared.mask.Layers.{Layers}
 use Rattle.mask_runs.specs.declared.mask.Mask.{Mask}
 use Rattle.mask_runs.specs.declared.mask.Mask.TheVariants.{Only, Diffusion, Contacts}
@@ -16,7 +18,8 @@ use Rattle.mask_nodes.specs.Linking.{joins, AreTwo}
 use Rattle.mask_nodes.specs.Linking.AreTwo.{upper, outer, lower}
 
 abbrev layer_at : ℕ → Layer
-layer_at k = if eqb k 0 then NM else if eqb k 1 then NP else if eqb k 2 then ND else if eqb k 3 then NC else if eqb k 4 then NI else if eqb k 5 then NB else NG
+layer_at k = if eqb k 0 then NM else if eqb k 1 then NP else if eqb k 2 then ND else if eqb k 3 then NC
+    else if eqb k 4 then NI else if eqb k 5 then NB else NG
 
 layer_at-rank : (l : Layer) → layer_at (rank l) ≡ l
 layer_at-rank NM = refl
@@ -26,10 +29,6 @@ layer_at-rank NC = refl
 layer_at-rank NI = refl
 layer_at-rank NB = refl
 layer_at-rank NG = refl
-
--- layers of one rank are one
-pub same_rank : (l m : Layer) → rank l ≡ rank m → l ≡ m
-same_rank l m e = sym (layer_at-rank l) ∙ ap layer_at e ∙ layer_at-rank m
 
 -- it is so or not
 abbrev pub Either : Type 0 → Type 0
@@ -41,7 +40,7 @@ covers_or_not r l x y = elim (cases_eq (rank r.layer) (rank l)) [
   | inl e ↦ by_lt_z x r.x0 (λ a. inr (λ c. let d = c.left in omega (arith, ints)))
       (λ a. by_lt_z x r.x1
       (λ b. by_lt_z y r.y0 (λ g. inr (λ c. let d = c.bottom in omega (arith, ints)))
-      (λ g. by_lt_z y r.y1 (λ h. inl (record { same = same_rank r.layer l e; left = a; right = b; bottom = g; top = h }))
+      (λ g. by_lt_z y r.y1 (λ h. inl (record { same = of_ranks r.layer l e; left = a; right = b; bottom = g; top = h }))
       (λ h. inr (λ c. let d = c.top in omega (arith, ints)))))
       (λ b. inr (λ c. let d = c.right in omega (arith, ints))))
 ]
@@ -50,7 +49,10 @@ pub covered_or_not : (shapes : List Rect) (l : Layer) (x y : ℤ) → Either (co
 covered_or_not [] l x y = inr (λ c. c)
 covered_or_not (r ∷ rs) l x y = elim (covers_or_not r l x y) [
   | inl c ↦ inl (inl c)
-  | inr n ↦ elim (covered_or_not rs l x y) [ inl c ↦ inl (inr c) | inr m ↦ inr (λ c. elim c [ inl d ↦ n d | inr d ↦ m d ]) ]
+  | inr n ↦ elim (covered_or_not rs l x y) [
+    | inl c ↦ inl (inr c)
+    | inr m ↦ inr (λ c. elim c [ inl d ↦ n d | inr d ↦ m d ])
+  ]
 ]
 
 abbrev holds : {P : Type 0} → Either P → Bool
@@ -86,17 +88,6 @@ coloured shapes mask x y =
     let s = seen shapes x y in
     (colour_of mask s.0, record { layers = s.0; sees = s.1; same = refl })
 
-true_or_false : (b : Bool) → (b ≡ true) ⊎ (b ≡ false)
-true_or_false true = inl refl
-true_or_false false = inr refl
-
-not_true : (b : Bool) → b ≡ false → b ≡ true → ⊥
-not_true b f t = cc
-
-no_more : (b : Bool) → (b ≡ true → ⊥) → b ≡ false
-no_more true n = absurd (n refl)
-no_more false n = refl
-
 -- ---- one layer
 
 pub only_covered : (shapes : List Rect) (l : Layer) (x y : ℤ) → covered shapes l x y → HasColour shapes (Only l) 1 x y
@@ -108,10 +99,11 @@ one_or_none : (t : Bool) (k : ℕ) → (if t then 1 else 0) ≡ k → (t ≡ tru
 one_or_none true k e = inl (refl, sym e)
 one_or_none false k e = inr (refl, sym e)
 
-pub covered_only : (shapes : List Rect) (l : Layer) (k : ℕ) (x y : ℤ) → HasColour shapes (Only l) k x y → (covered shapes l x y × (k ≡ 1)) ⊎ (¬ covered shapes l x y × (k ≡ 0))
+pub covered_only : (shapes : List Rect) (l : Layer) (k : ℕ) (x y : ℤ) → HasColour shapes (Only l) k x y
+    → (covered shapes l x y × (k ≡ 1)) ⊎ (¬ covered shapes l x y × (k ≡ 0))
 covered_only shapes l k x y h = elim (one_or_none (has h.layers l) k h.same) [
   | inl a ↦ inl ((h.sees.each l).0 a.0, a.1)
-  | inr a ↦ inr (λ c. not_true (has h.layers l) a.0 ((h.sees.each l).1 c), a.1)
+  | inr a ↦ inr (λ c. both_ways (has h.layers l) a.0 ((h.sees.each l).1 c), a.1)
 ]
 
 -- ---- diffusion
@@ -124,30 +116,38 @@ pub data OnDiffusion (shapes : List Rect) (x y : ℤ) (k : ℕ) : Type 0 where
   implant : IsChannel (covered shapes) x y → covered shapes NI x y → k ≡ 3 → OnDiffusion shapes x y k
 
 pub on_diffusion : (shapes : List Rect) (k : ℕ) (x y : ℤ) → HasColour shapes Diffusion k x y → OnDiffusion shapes x y k
-on_diffusion shapes k x y h = go (true_or_false h.layers.nd) (true_or_false h.layers.np) (true_or_false h.layers.nb) (true_or_false h.layers.ni)
+on_diffusion shapes k x y h =
+    go (cases_Bool h.layers.nd) (cases_Bool h.layers.np) (cases_Bool h.layers.nb) (cases_Bool h.layers.ni)
   where
     yes : (l : Layer) → has h.layers l ≡ true → covered shapes l x y
     yes l = (h.sees.each l).0
 
     no : (l : Layer) → has h.layers l ≡ false → ¬ covered shapes l x y
-    no l f c = not_true (has h.layers l) f ((h.sees.each l).1 c)
+    no l f c = both_ways (has h.layers l) f ((h.sees.each l).1 c)
 
-    go : (h.layers.nd ≡ true) ⊎ (h.layers.nd ≡ false) → (h.layers.np ≡ true) ⊎ (h.layers.np ≡ false) → (h.layers.nb ≡ true) ⊎ (h.layers.nb ≡ false)
+    go : (h.layers.nd ≡ true) ⊎ (h.layers.nd ≡ false) → (h.layers.np ≡ true) ⊎ (h.layers.np ≡ false)
+        → (h.layers.nb ≡ true) ⊎ (h.layers.nb ≡ false)
         → (h.layers.ni ≡ true) ⊎ (h.layers.ni ≡ false) → OnDiffusion shapes x y k
     go (inr d) p b i = none (no ND d) (sym h.same ∙ rw d refl)
     go (inl d) (inr p) b i = conductor (yes ND d) (λ c. no NP p c.gate) (sym h.same ∙ rw (d, p) refl)
     go (inl d) (inl p) (inl b) i = conductor (yes ND d) (λ c. c.unburied (yes NB b)) (sym h.same ∙ rw (d, p, b) refl)
-    go (inl d) (inl p) (inr b) (inl i) = implant (record { gate = yes NP p; diffusion = yes ND d; unburied = no NB b }) (yes NI i) (sym h.same ∙ rw (d, p, b, i) refl)
-    go (inl d) (inl p) (inr b) (inr i) = plain (record { gate = yes NP p; diffusion = yes ND d; unburied = no NB b }) (no NI i) (sym h.same ∙ rw (d, p, b, i) refl)
+    go (inl d) (inl p) (inr b) (inl i) =
+        implant (record { gate = yes NP p; diffusion = yes ND d; unburied = no NB b }) (yes NI i)
+        (sym h.same ∙ rw (d, p, b, i) refl)
+    go (inl d) (inl p) (inr b) (inr i) =
+        plain (record { gate = yes NP p; diffusion = yes ND d; unburied = no NB b }) (no NI i)
+        (sym h.same ∙ rw (d, p, b, i) refl)
 
 -- ---- contacts
 
 -- the colour of a contact: cut, metal, polysilicon, buried, conducting diffusion
 abbrev contact_colour : Bool → Bool → Bool → Bool → Bool → ℕ
 contact_colour nc nm np nb d =
-    if nc && nm && np && d then 7 else if nc && nm && np then 3 else if nc && nm && d then 5 else if (nc || nb) && np && d then 6 else 0
+    if nc && nm && np && d then 7 else if nc && nm && np then 3 else if nc && nm && d then 5
+    else if (nc || nb) && np && d then 6 else 0
 
-upper_joined : (nc nm np nb d : Bool) → joins (contact_colour nc nm np nb d) NM ≡ true → joins (contact_colour nc nm np nb d) NP ≡ true → (nc ≡ true) × (nm ≡ true) × (np ≡ true)
+upper_joined : (nc nm np nb d : Bool) → joins (contact_colour nc nm np nb d) NM ≡ true
+    → joins (contact_colour nc nm np nb d) NP ≡ true → (nc ≡ true) × (nm ≡ true) × (np ≡ true)
 upper_joined true true true nb d h k = (refl, refl, refl)
 upper_joined true true false true true h k = absurd (cc)
 upper_joined true true false false true h k = absurd (cc)
@@ -167,7 +167,8 @@ upper_joined false nm true true false h k = absurd (cc)
 upper_joined false nm false true true h k = absurd (cc)
 upper_joined false nm false true false h k = absurd (cc)
 
-outer_joined : (nc nm np nb d : Bool) → joins (contact_colour nc nm np nb d) NM ≡ true → joins (contact_colour nc nm np nb d) ND ≡ true → (nc ≡ true) × (nm ≡ true) × (d ≡ true)
+outer_joined : (nc nm np nb d : Bool) → joins (contact_colour nc nm np nb d) NM ≡ true
+    → joins (contact_colour nc nm np nb d) ND ≡ true → (nc ≡ true) × (nm ≡ true) × (d ≡ true)
 outer_joined true true np nb true h k = (refl, refl, refl)
 outer_joined true true true nb false h k = absurd (cc)
 outer_joined true true false true false h k = absurd (cc)
@@ -186,7 +187,8 @@ outer_joined false nm true true false h k = absurd (cc)
 outer_joined false nm false true true h k = absurd (cc)
 outer_joined false nm false true false h k = absurd (cc)
 
-lower_joined : (nc nm np nb d : Bool) → joins (contact_colour nc nm np nb d) NP ≡ true → joins (contact_colour nc nm np nb d) ND ≡ true → ((nc ≡ true) ⊎ (nb ≡ true)) × (np ≡ true) × (d ≡ true)
+lower_joined : (nc nm np nb d : Bool) → joins (contact_colour nc nm np nb d) NP ≡ true
+    → joins (contact_colour nc nm np nb d) ND ≡ true → ((nc ≡ true) ⊎ (nb ≡ true)) × (np ≡ true) × (d ≡ true)
 lower_joined true nm true nb true h k = (inl refl, refl, refl)
 lower_joined false nm true true true h k = (inr refl, refl, refl)
 lower_joined false nm true false true h k = absurd (cc)
@@ -201,21 +203,27 @@ lower_joined true false false nb d h k = absurd (cc)
 lower_joined false nm false true d h k = absurd (cc)
 lower_joined false nm false false d h k = absurd (cc)
 
-upper_joins : (nc nm np nb d : Bool) → nc ≡ true → nm ≡ true → np ≡ true → (0 < contact_colour nc nm np nb d) × (joins (contact_colour nc nm np nb d) NM ≡ true) × (joins (contact_colour nc nm np nb d) NP ≡ true)
+upper_joins : (nc nm np nb d : Bool) → nc ≡ true → nm ≡ true → np ≡ true
+    → (0 < contact_colour nc nm np nb d) × (joins (contact_colour nc nm np nb d) NM ≡ true)
+    × (joins (contact_colour nc nm np nb d) NP ≡ true)
 upper_joins true true true nb true e f g = (omega arith, refl, refl)
 upper_joins true true true nb false e f g = (omega arith, refl, refl)
 upper_joins true true false nb d e f g = absurd (cc)
 upper_joins true false np nb d e f g = absurd (cc)
 upper_joins false nm np nb d e f g = absurd (cc)
 
-outer_joins : (nc nm np nb d : Bool) → nc ≡ true → nm ≡ true → d ≡ true → (0 < contact_colour nc nm np nb d) × (joins (contact_colour nc nm np nb d) NM ≡ true) × (joins (contact_colour nc nm np nb d) ND ≡ true)
+outer_joins : (nc nm np nb d : Bool) → nc ≡ true → nm ≡ true → d ≡ true
+    → (0 < contact_colour nc nm np nb d) × (joins (contact_colour nc nm np nb d) NM ≡ true)
+    × (joins (contact_colour nc nm np nb d) ND ≡ true)
 outer_joins true true true nb true e f g = (omega arith, refl, refl)
 outer_joins true true false nb true e f g = (omega arith, refl, refl)
 outer_joins true true np nb false e f g = absurd (cc)
 outer_joins true false np nb d e f g = absurd (cc)
 outer_joins false nm np nb d e f g = absurd (cc)
 
-lower_joins : (nc nm np nb d : Bool) → (nc ≡ true) ⊎ (nb ≡ true) → np ≡ true → d ≡ true → (0 < contact_colour nc nm np nb d) × (joins (contact_colour nc nm np nb d) NP ≡ true) × (joins (contact_colour nc nm np nb d) ND ≡ true)
+lower_joins : (nc nm np nb d : Bool) → (nc ≡ true) ⊎ (nb ≡ true) → np ≡ true → d ≡ true
+    → (0 < contact_colour nc nm np nb d) × (joins (contact_colour nc nm np nb d) NP ≡ true)
+    × (joins (contact_colour nc nm np nb d) ND ≡ true)
 lower_joins true true true nb true e f g = (omega arith, refl, refl)
 lower_joins true false true nb true e f g = (omega arith, refl, refl)
 lower_joins false nm true true true e f g = (omega arith, refl, refl)
@@ -251,39 +259,60 @@ module _ (shapes : List Rect) (x y : ℤ) (s : Layers) (sees : Sees shapes x y s
       let f : is_channel s ≡ false = unless (is_channel s) b.1 in (
         yes ND b.0,
         λ c.
-            let e : is_channel s ≡ true = rw (set ND c.diffusion, set NP c.gate, no_more s.nb (λ t. c.unburied (yes NB t))) refl in
+            let e : is_channel s ≡ true =
+            rw (set ND c.diffusion, set NP c.gate, false_from_ne_true s.nb (λ t. c.unburied (yes NB t))) refl in
             absurd (cc),
       )
 
   conducts_diffusion : ConductsOn (covered shapes) ND x y → diffusion ≡ true
-  conducts_diffusion c = go (true_or_false s.np) (true_or_false s.nb)
+  conducts_diffusion c = go (cases_Bool s.np) (cases_Bool s.nb)
     where
       go : (s.np ≡ true) ⊎ (s.np ≡ false) → (s.nb ≡ true) ⊎ (s.nb ≡ false) → diffusion ≡ true
       go (inr p) b = rw (set ND c.0, p) refl
       go (inl p) (inl b) = rw (set ND c.0, p, b) refl
-      go (inl p) (inr b) = absurd (c.1 (record { gate = yes NP p; diffusion = c.0; unburied = λ d. not_true s.nb b (set NB d) }))
+      go (inl p) (inr b) =
+          absurd (c.1 (record { gate = yes NP p; diffusion = c.0; unburied = λ d. both_ways s.nb b (set NB d) }))
 
-  joined_here : {l m : Layer} → AreTwo l m → joins (colour_of Contacts s) l ≡ true → joins (colour_of Contacts s) m ≡ true
+  joined_here : {l m : Layer} → AreTwo l m → joins (colour_of Contacts s) l ≡ true
+      → joins (colour_of Contacts s) m ≡ true
       → ConductsOn (covered shapes) l x y × ConductsOn (covered shapes) m x y × IsBy shapes x y l m
-  joined_here upper h k = let w = upper_joined s.nc s.nm s.np s.nb diffusion h k in (yes NM w.1, yes NP w.2, inl (yes NC w.0))
-  joined_here outer h k = let w = outer_joined s.nc s.nm s.np s.nb diffusion h k in (yes NM w.1, diffusion_conducts w.2, inl (yes NC w.0))
+  joined_here upper h k = let w = upper_joined s.nc s.nm s.np s.nb diffusion h k in
+      (yes NM w.1, yes NP w.2, inl (yes NC w.0))
+  joined_here outer h k = let w = outer_joined s.nc s.nm s.np s.nb diffusion h k in
+      (yes NM w.1, diffusion_conducts w.2, inl (yes NC w.0))
   joined_here lower h k =
-      let w = lower_joined s.nc s.nm s.np s.nb diffusion h k in
-      (yes NP w.1, diffusion_conducts w.2, elim w.0 [ inl e ↦ inl (yes NC e) | inr e ↦ inr (yes NB e, (λ f. cc), (λ f. cc)) ])
+      let w = lower_joined s.nc s.nm s.np s.nb diffusion h k in (
+        yes NP w.1,
+        diffusion_conducts w.2,
+        elim w.0 [
+          | inl e ↦ inl (yes NC e)
+          | inr e ↦ inr (yes NB e, (λ f. cc), (λ f. cc))
+        ],
+      )
 
-  here_joined : {l m : Layer} → AreTwo l m → ConductsOn (covered shapes) l x y → ConductsOn (covered shapes) m x y → IsBy shapes x y l m
+  here_joined : {l m : Layer} → AreTwo l m → ConductsOn (covered shapes) l x y → ConductsOn (covered shapes) m x y
+      → IsBy shapes x y l m
       → (0 < colour_of Contacts s) × (joins (colour_of Contacts s) l ≡ true) × (joins (colour_of Contacts s) m ≡ true)
-  here_joined upper c d by = elim by [ inl e ↦ upper_joins s.nc s.nm s.np s.nb diffusion (set NC e) (set NM c) (set NP d) | inr e ↦ absurd (e.1 refl) ]
-  here_joined outer c d by = elim by [ inl e ↦ outer_joins s.nc s.nm s.np s.nb diffusion (set NC e) (set NM c) (conducts_diffusion d) | inr e ↦ absurd (e.1 refl) ]
+  here_joined upper c d by = elim by [
+    | inl e ↦ upper_joins s.nc s.nm s.np s.nb diffusion (set NC e) (set NM c) (set NP d)
+    | inr e ↦ absurd (e.1 refl)
+  ]
+  here_joined outer c d by = elim by [
+    | inl e ↦ outer_joins s.nc s.nm s.np s.nb diffusion (set NC e) (set NM c) (conducts_diffusion d)
+    | inr e ↦ absurd (e.1 refl)
+  ]
   here_joined lower c d by =
-      lower_joins s.nc s.nm s.np s.nb diffusion (elim by [ inl e ↦ inl (set NC e) | inr e ↦ inr (set NB e.0) ]) (set NP c) (conducts_diffusion d)
+      lower_joins s.nc s.nm s.np s.nb diffusion (elim by [ inl e ↦ inl (set NC e) | inr e ↦ inr (set NB e.0) ])
+      (set NP c) (conducts_diffusion d)
 
-pub joined_by : (shapes : List Rect) (k : ℕ) (x y : ℤ) {l m : Layer} → HasColour shapes Contacts k x y → AreTwo l m → joins k l ≡ true → joins k m ≡ true
+pub joined_by : (shapes : List Rect) (k : ℕ) (x y : ℤ) {l m : Layer} → HasColour shapes Contacts k x y → AreTwo l m
+    → joins k l ≡ true → joins k m ≡ true
     → ConductsOn (covered shapes) l x y × ConductsOn (covered shapes) m x y × IsBy shapes x y l m
 joined_by shapes k x y {l = l} {m = m} h two jl jm =
     joined_here shapes x y h.layers h.sees two (ap (λ c. joins c l) h.same ∙ jl) (ap (λ c. joins c m) h.same ∙ jm)
 
-pub contact_coloured : (shapes : List Rect) (x y : ℤ) {l m : Layer} → AreTwo l m → ConductsOn (covered shapes) l x y → ConductsOn (covered shapes) m x y → IsBy shapes x y l m
+pub contact_coloured : (shapes : List Rect) (x y : ℤ) {l m : Layer} → AreTwo l m → ConductsOn (covered shapes) l x y
+    → ConductsOn (covered shapes) m x y → IsBy shapes x y l m
     → (k : ℕ) × HasColour shapes Contacts k x y × (0 < k) × (joins k l ≡ true) × (joins k m ≡ true)
 contact_coloured shapes x y two c d by =
     let s = seen shapes x y in

@@ -22,11 +22,18 @@ pub record AreClassed (shapes : List Rect) (pieces : List Piece) (nodes channels
   pub pieces_are : ArePieces shapes pieces
   pub as_many : length nodes.numbers ≡ length pieces
   pub as_many_channels : length channels.numbers ≡ length pieces
-  pub has_channel : (k : ℕ) → k < length pieces → conducts_at pieces k ≡ false → HasChannel pieces k (first_channel pieces k)
+  pub has_channel : (k : ℕ) → k < length pieces → conducts_at pieces k ≡ false
+      → HasChannel pieces k (first_channel pieces k)
   pub roots_are : All (λ k. HasChannel pieces k (first_channel pieces k)) channels.roots
   pub are_nodes : AreNodes (covered shapes) (node_squares pieces nodes)
   pub are_regions : AreRegions (covered shapes) (channel_squares pieces channels)
-  pub node_of : (k : ℕ) (s : Square) → HasConductor pieces k s → IsOfNode (covered shapes) (node_squares pieces nodes) (get_or nodes.numbers k 0) s
-  pub one_node : (n k : ℕ) (s : Square) → IsOfNode (covered shapes) (node_squares pieces nodes) n s → HasConductor pieces k s → n ≡ get_or nodes.numbers k 0
-  pub channel_of : (k : ℕ) (s : Square) → HasChannel pieces k s → IsInClass (Adjoin (IsChannelSquare (covered shapes))) (channel_squares pieces channels) (get_or channels.numbers k 0) s
-  pub one_channel : (n k : ℕ) (s : Square) → IsInClass (Adjoin (IsChannelSquare (covered shapes))) (channel_squares pieces channels) n s → HasChannel pieces k s → n ≡ get_or channels.numbers k 0
+  pub node_of : (k : ℕ) (s : Square) → HasConductor pieces k s
+      → IsOfNode (covered shapes) (node_squares pieces nodes) (get_or nodes.numbers k 0) s
+  pub one_node : (n k : ℕ) (s : Square) → IsOfNode (covered shapes) (node_squares pieces nodes) n s
+      → HasConductor pieces k s → n ≡ get_or nodes.numbers k 0
+  pub channel_of : (k : ℕ) (s : Square) → HasChannel pieces k s
+      → IsInClass (Adjoin (IsChannelSquare (covered shapes))) (channel_squares pieces channels)
+      (get_or channels.numbers k 0) s
+  pub one_channel : (n k : ℕ) (s : Square)
+      → IsInClass (Adjoin (IsChannelSquare (covered shapes))) (channel_squares pieces channels) n s
+      → HasChannel pieces k s → n ≡ get_or channels.numbers k 0

@@ -19,8 +19,11 @@ square_at l p = record { layer = l; x = p.x; y = p.y }
 
 -- the number of the piece that has the conductor of the layer at a place, or none where nothing conducts there
 abbrev pub IsPieceOver : List Rect → List Piece → Layer → Point → Option ℕ → Type 0
-IsPieceOver shapes pieces l p o = MatchOption o (¬ ConductsOn (covered shapes) l p.x p.y) (λ k. HasConductor pieces k (square_at l p))
+IsPieceOver shapes pieces l p o =
+    MatchOption o (¬ ConductsOn (covered shapes) l p.x p.y) (λ k. HasConductor pieces k (square_at l p))
 
 -- the list has that for each of the places
-pub record AreOver (shapes : List Rect) (pieces : List Piece) (l : Layer) (places : List Point) (column : List (Option ℕ)) : Type 0 where
-  pub each : (n : ℕ) (p : Point) → slice_get places n ≡ Some p → (o : Option ℕ) × (slice_get column n ≡ Some o) × IsPieceOver shapes pieces l p o
+pub record AreOver (shapes : List Rect) (pieces : List Piece) (l : Layer) (places : List Point)
+    (column : List (Option ℕ)) : Type 0 where
+  pub each : (n : ℕ) (p : Point) → slice_get places n ≡ Some p
+      → (o : Option ℕ) × (slice_get column n ≡ Some o) × IsPieceOver shapes pieces l p o

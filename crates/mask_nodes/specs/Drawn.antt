@@ -13,11 +13,14 @@ use Rattle.mask_nodes.specs.Columns.{square_at}
 
 -- the number of the node of the conductor of the layer at a place, or none where nothing conducts there
 abbrev pub IsNodeOver : List Rect → List Square → Layer → Point → Option ℕ → Type 0
-IsNodeOver shapes nodes l p o = MatchOption o (¬ ConductsOn (covered shapes) l p.x p.y) (λ k. IsOfNode (covered shapes) nodes k (square_at l p))
+IsNodeOver shapes nodes l p o =
+    MatchOption o (¬ ConductsOn (covered shapes) l p.x p.y) (λ k. IsOfNode (covered shapes) nodes k (square_at l p))
 
 -- the list has that for each of the places
-pub record AreNodesOver (shapes : List Rect) (nodes : List Square) (l : Layer) (places : List Point) (column : List (Option ℕ)) : Type 0 where
-  pub each : (n : ℕ) (p : Point) → slice_get places n ≡ Some p → (o : Option ℕ) × (slice_get column n ≡ Some o) × IsNodeOver shapes nodes l p o
+pub record AreNodesOver (shapes : List Rect) (nodes : List Square) (l : Layer) (places : List Point)
+    (column : List (Option ℕ)) : Type 0 where
+  pub each : (n : ℕ) (p : Point) → slice_get places n ≡ Some p
+      → (o : Option ℕ) × (slice_get column n ≡ Some o) × IsNodeOver shapes nodes l p o
 
 -- the count of nodes, the channels, and the nodes at places
 pub record IsDrawn (shapes : List Rect) (places : List Point) (d : Drawing) : Type 0 where

@@ -1,5 +1,6 @@
 -- Links between pieces.
-use Rattle.std.specs.Prelude.{◌≡◌, ◌↔◌, ◌⊎◌, ℕ, ◌<◌, ◌==◌, ◌||◌, Bool, true, false, List, [], length, get_or, All, Contains, Option, Some, None, slice_get, if◌then◌else◌}
+use Rattle.std.specs.Prelude.{◌≡◌, ◌↔◌, ◌⊎◌, ℕ, ◌<◌, ◌==◌, ◌||◌, Bool, true, false, List, [], length, get_or, All}
+use Rattle.std.specs.Prelude.{Contains, Option, Some, None, slice_get, if◌then◌else◌}
 use Rattle.lam_geom.specs.declared.layer.Layer.{Layer}
 use Rattle.lam_geom.specs.declared.layer.Layer.TheVariants.{ND, NP, NC, NM, NI, NB, NG}
 use Rattle.region_sweep.specs.declared.tile.Tile.{Tile}
@@ -16,7 +17,8 @@ abbrev pub conducts_at : List Piece → ℕ → Bool
 conducts_at pieces k = is_conductor (get_or pieces k no_piece).part
 
 -- the pieces of two tiles that touch, a pair of the first ones, where both conduct or neither does
-pub record IsTouchLink (touching : List Pair) (numbers : List ℕ) (pieces : List Piece) (place : ℕ) (l : Pair) : Type 0 where
+pub record IsTouchLink (touching : List Pair) (numbers : List ℕ) (pieces : List Piece) (place : ℕ)
+    (l : Pair) : Type 0 where
   pub at : ℕ
   pub before : at < place
   pub pair : Pair
@@ -61,7 +63,8 @@ abbrev pub AreBoth : Option ℕ → Option ℕ → Pair → Type 0
 AreBoth a b l = (a ≡ Some l.a) × (b ≡ Some l.b)
 
 -- the pieces of two conductors that a contact joins, one of the first ones
-pub record IsContactLink (contacts : List Tile) (metal polysilicon diffusion : List (Option ℕ)) (place : ℕ) (l : Pair) : Type 0 where
+pub record IsContactLink (contacts : List Tile) (metal polysilicon diffusion : List (Option ℕ)) (place : ℕ)
+    (l : Pair) : Type 0 where
   pub at : ℕ
   pub before : at < place
   pub contact : Tile
@@ -75,8 +78,12 @@ pub record IsContactLink (contacts : List Tile) (metal polysilicon diffusion : L
   pub second : slice_get (column_of metal polysilicon diffusion other) at ≡ Some (Some l.b)
 
 -- these have exactly the links of metal, of polysilicon, of diffusion and of contacts
-pub record AreAllLinks (metal polysilicon diffusion : List Pair) (contacts : List Tile) (pieces : List Piece) (nm np nd : List ℕ) (cm cp cd : List (Option ℕ)) (links : List Pair) : Type 0 where
-  pub each : (l : Pair) → Contains links l ↔ (((IsTouchLink metal nm pieces (length metal) l ⊎ IsTouchLink polysilicon np pieces (length polysilicon) l) ⊎ IsTouchLink diffusion nd pieces (length diffusion) l)
+pub record AreAllLinks (metal polysilicon diffusion : List Pair) (contacts : List Tile) (pieces : List Piece)
+    (nm np nd : List ℕ) (cm cp cd : List (Option ℕ)) (links : List Pair) : Type 0 where
+  pub each : (l : Pair)
+      → Contains links l
+      ↔ (((IsTouchLink metal nm pieces (length metal) l ⊎ IsTouchLink polysilicon np pieces (length polysilicon) l)
+      ⊎ IsTouchLink diffusion nd pieces (length diffusion) l)
       ⊎ IsContactLink contacts cm cp cd (length contacts) l)
 
 -- pairs are of tiles that have numbers, and these are numbers of pieces

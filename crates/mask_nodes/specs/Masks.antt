@@ -23,8 +23,10 @@ pub record IsSwept (shapes : List Rect) (mask : Mask) (places : List Point) (s :
 abbrev pub asked : List Tile → List Point → List Point
 asked contacts places = map corner_point contacts ++ places
 
-pub record AreMasks (shapes : List Rect) (places : List Point) (contacts metal polysilicon diffusion : Swept) : Type 0 where
+pub record AreMasks (shapes : List Rect) (places : List Point)
+    (contacts metal polysilicon diffusion : Swept) : Type 0 where
   pub contacts_swept : IsSwept shapes Contacts [] contacts
   pub metal_swept : IsSwept shapes (Only NM) (asked contacts.tiles places) metal
   pub diffusion_swept : IsSwept shapes Diffusion (asked contacts.tiles places) diffusion
-  pub polysilicon_swept : IsSwept shapes (Only NP) (asked contacts.tiles places ++ map corner_point diffusion.tiles) polysilicon
+  pub polysilicon_swept : IsSwept shapes (Only NP)
+      (asked contacts.tiles places ++ map corner_point diffusion.tiles) polysilicon

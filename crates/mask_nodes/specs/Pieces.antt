@@ -1,5 +1,6 @@
 -- The pieces that conductors and channels are cut into, and what joins them.
-use Rattle.std.specs.Prelude.{◌≡◌, ◌≢◌, ◌⊎◌, ℕ, ◌<◌, if◌then◌else◌, ◌==◌, Bool, true, false, List, length, get_or, AllPairs, Contains, Option, Some, ℤ, pos, slice_get, slice_index_or}
+use Rattle.std.specs.Prelude.{◌≡◌, ◌≢◌, ◌⊎◌, ℕ, ◌<◌, if◌then◌else◌, ◌==◌, Bool, true, false, List, length, get_or}
+use Rattle.std.specs.Prelude.{AllPairs, Contains, Option, Some, ℤ, pos, slice_get, slice_index_or}
 use Rattle.lam_geom.specs.declared.layer.Layer.{Layer}
 use Rattle.lam_geom.specs.declared.layer.Layer.TheVariants.{ND, NP, NC, NM, NI, NB, NG}
 use Rattle.lam_geom.specs.declared.rect.Rect.{Rect}
@@ -25,7 +26,12 @@ is_conductor Implanted = false
 
 -- the piece of the tile with this number, on this layer
 abbrev pub piece_of : Layer → ℕ → Tile → Piece
-piece_of l n t = record { rect = record { layer = l; x0 = t.x0; y0 = t.y0; x1 = t.x1; y1 = t.y1 }; tile = n; part = part_of t.colour }
+piece_of l n t =
+    record {
+      rect = record { layer = l; x0 = t.x0; y0 = t.y0; x1 = t.x1; y1 = t.y1 };
+      tile = n;
+      part = part_of t.colour;
+    }
 
 -- the first square of a rectangle, on a layer
 abbrev pub corner_on : Layer → Rect → Square
@@ -45,7 +51,8 @@ pub record AreTilePieces (layer : Layer) (tiles : List Tile) (pieces : List Piec
   pub each : (n : ℕ) (t : Tile) → slice_get tiles n ≡ Some t → slice_get pieces n ≡ Some (piece_of layer n t)
 
 -- for each of the first pieces that is on the layer, the number at its tile is that of a piece of the same tile
-pub record AreTileNumbers (layer : Layer) (count : ℕ) (pieces : List Piece) (place : ℕ) (numbers : List ℕ) : Type 0 where
+pub record AreTileNumbers (layer : Layer) (count : ℕ) (pieces : List Piece) (place : ℕ)
+    (numbers : List ℕ) : Type 0 where
   pub as_many : length numbers ≡ count
   pub each : (k : ℕ) (p : Piece) → k < place → slice_get pieces k ≡ Some p → p.rect.layer ≡ layer
       → (q : Piece) × (slice_get pieces (get_or numbers p.tile 0) ≡ Some q) × (q.rect.layer ≡ layer) × (q.tile ≡ p.tile)
@@ -53,11 +60,13 @@ pub record AreTileNumbers (layer : Layer) (count : ℕ) (pieces : List Piece) (p
 -- the number at each tile is that of its piece
 pub record AreNumbersOf (layer : Layer) (tiles : List Tile) (pieces : List Piece) (numbers : List ℕ) : Type 0 where
   pub as_many : length numbers ≡ length tiles
-  pub each : (n : ℕ) (t : Tile) → slice_get tiles n ≡ Some t → slice_get pieces (get_or numbers n 0) ≡ Some (piece_of layer n t)
+  pub each : (n : ℕ) (t : Tile) → slice_get tiles n ≡ Some t
+      → slice_get pieces (get_or numbers n 0) ≡ Some (piece_of layer n t)
 
 -- the pieces of this layer are those of these tiles
 pub record AreOfTiles (layer : Layer) (tiles : List Tile) (pieces : List Piece) : Type 0 where
-  pub each : (p : Piece) → Contains pieces p → p.rect.layer ≡ layer → (t : Tile) × (slice_get tiles p.tile ≡ Some t) × (p ≡ piece_of layer p.tile t)
+  pub each : (p : Piece) → Contains pieces p → p.rect.layer ≡ layer
+      → (t : Tile) × (slice_get tiles p.tile ≡ Some t) × (p ≡ piece_of layer p.tile t)
   pub all : (n : ℕ) (t : Tile) → slice_get tiles n ≡ Some t → Contains pieces (piece_of layer n t)
 
 -- the pieces are those of the tiles of metal, polysilicon and diffusion, in order
@@ -88,7 +97,8 @@ pub record HasChannel (pieces : List Piece) (k : ℕ) (s : Square) : Type 0 wher
 
 -- a piece that stands where a list has none
 abbrev pub no_piece : Piece
-no_piece = record { rect = record { layer = ND; x0 = pos 0; y0 = pos 0; x1 = pos 0; y1 = pos 0 }; tile = 0; part = Conductor }
+no_piece =
+    record { rect = record { layer = ND; x0 = pos 0; y0 = pos 0; x1 = pos 0; y1 = pos 0 }; tile = 0; part = Conductor }
 
 -- the first square of the piece with this number, as a conductor and as a square of a channel
 abbrev pub first_conductor : List Piece → ℕ → Square
@@ -106,11 +116,16 @@ pub record ArePieces (shapes : List Rect) (pieces : List Piece) : Type 0 where
   pub channels : (k : ℕ) (s : Square) → HasChannel pieces k s → IsChannelSquare (covered shapes) s
   pub one_channel : (i j : ℕ) (s : Square) → HasChannel pieces i s → HasChannel pieces j s → i ≡ j
   pub plain : (k : ℕ) (s : Square) → (h : HasChannel pieces k s) → h.piece.part ≡ Plain → ¬ covered shapes NI s.x s.y
-  pub implanted : (k : ℕ) (s : Square) → (h : HasChannel pieces k s) → h.piece.part ≡ Implanted → covered shapes NI s.x s.y
+  pub implanted : (k : ℕ) (s : Square) → (h : HasChannel pieces k s) → h.piece.part ≡ Implanted
+      → covered shapes NI s.x s.y
 
 -- pieces are linked by chains of pairs exactly where their squares are joined
 pub record AreLinks (shapes : List Rect) (pieces : List Piece) (links : List Pair) : Type 0 where
-  pub conductors : (i j : ℕ) (s t : Square) → Joined (covered shapes) s t → HasConductor pieces i s → HasConductor pieces j t → Chain (Paired links) i j
-  pub channels : (i j : ℕ) (s t : Square) → Adjoin (IsChannelSquare (covered shapes)) s t → HasChannel pieces i s → HasChannel pieces j t → Chain (Paired links) i j
-  pub conductors_back : (i j : ℕ) (s : Square) → Paired links i j → HasConductor pieces i s → (t : Square) × HasConductor pieces j t × Chain (Joined (covered shapes)) s t
-  pub channels_back : (i j : ℕ) (s : Square) → Paired links i j → HasChannel pieces i s → (t : Square) × HasChannel pieces j t × Chain (Adjoin (IsChannelSquare (covered shapes))) s t
+  pub conductors : (i j : ℕ) (s t : Square) → Joined (covered shapes) s t → HasConductor pieces i s
+      → HasConductor pieces j t → Chain (Paired links) i j
+  pub channels : (i j : ℕ) (s t : Square) → Adjoin (IsChannelSquare (covered shapes)) s t → HasChannel pieces i s
+      → HasChannel pieces j t → Chain (Paired links) i j
+  pub conductors_back : (i j : ℕ) (s : Square) → Paired links i j → HasConductor pieces i s
+      → (t : Square) × HasConductor pieces j t × Chain (Joined (covered shapes)) s t
+  pub channels_back : (i j : ℕ) (s : Square) → Paired links i j → HasChannel pieces i s
+      → (t : Square) × HasChannel pieces j t × Chain (Adjoin (IsChannelSquare (covered shapes))) s t

@@ -1,6 +1,7 @@
 -- Colours rest on the layers that a mask uses and needs, and a square has one.
-use Rattle.std.proofs.Common.{refl, sym, ap, ◌∙◌, ◌≡◌, Bool, true, false, List}
-use Rattle.std.specs.Prelude.{◌↔◌, ℤ, if◌then◌else◌}
+use Rattle.std.proofs.Common.{refl, sym, ap, ◌∙◌, ◌≡◌, List}
+use Rattle.std.specs.Prelude.{ℤ, if◌then◌else◌}
+use Rattle.mp_base.proofs.Tests.{same_test}
 use Rattle.lam_geom.specs.declared.layer.Layer.{Layer}
 use Rattle.lam_geom.specs.declared.layer.Layer.TheVariants.{ND, NP, NC, NM, NI, NB, NG}
 use Rattle.lam_geom.specs.declared.rect.Rect.{Rect}
@@ -30,12 +31,6 @@ without_needed (Only NB) s h = ap (λ t. if t then 1 else 0) (h NB refl)
 without_needed (Only NG) s h = ap (λ t. if t then 1 else 0) (h NG refl)
 without_needed Diffusion s h = rw (h ND refl) refl
 without_needed Contacts s h = rw (h NC refl, h NB refl) refl
-
-same_test : {P : Type 0} (a b : Bool) → (a ≡ true) ↔ P → (b ≡ true) ↔ P → a ≡ b
-same_test true true f g = refl
-same_test false false f g = refl
-same_test true false f g = sym (g.1 (f.0 refl))
-same_test false true f g = f.1 (g.0 refl)
 
 same_layers : (shapes : List Rect) (x y : ℤ) (a b : Layers) → Sees shapes x y a → Sees shapes x y b → a ≡ b
 same_layers shapes x y a b s t =

@@ -3,7 +3,7 @@ use Rattle.std.proofs.Common.{◌≡◌, ℕ, ◌≤◌, List, ◌∙◌, ap, su
 use Rattle.std.proofs.Math.Bridge.{le_prop}
 use Rattle.mp_base.specs.declared.pad.Pad.{Pad}
 
-abbrev make_pad : (name : List ℕ) (width : ℕ) → width ≤ 64 → Pad
+abbrev pub make_pad : (name : List ℕ) (width : ℕ) → width ≤ 64 → Pad
 make_pad name width h = record { name = name; width = width; narrow = h }
 
 same_width : (name : List ℕ) (v w : ℕ) (h : v ≤ 64) (k : w ≤ 64) → v ≡ w → make_pad name v h ≡ make_pad name w k

@@ -1,5 +1,6 @@
 -- The names of pads.
-use Rattle.std.specs.Prelude.{◌≢◌, ℕ, ◌<◌, List, [], ◌∷◌, ◌++◌, length, map, slice_index_or, Bool, false, not, ◌&&◌, IsTrue, codes}
+use Rattle.std.specs.Prelude.{◌≢◌, ℕ, ◌<◌, List, [], ◌∷◌, ◌++◌, length, map, slice_index_or, Bool, false, not, ◌&&◌}
+use Rattle.std.specs.Prelude.{IsTrue, codes}
 use Rattle.std.specs.List.{list_all, list_any}
 use Rattle.std.specs.Str.{bytes_eq}
 use Rattle.mp_base.specs.Token.{is_token}

@@ -1,5 +1,6 @@
 -- What is read and written of whole files.
-use Rattle.std.specs.Prelude.{◌≡◌, ◌⊎◌, ℕ, ◌+◌, ◌≤◌, ◌<◌, List, [], length, take, Option, Some, None, Result, OnOk, IsErrOf, Vec, Bool, true, false}
+use Rattle.std.specs.Prelude.{◌≡◌, ◌⊎◌, ℕ, ◌+◌, ◌≤◌, ◌<◌, List, [], length, take, Option, Some, None, Result, OnOk}
+use Rattle.std.specs.Prelude.{IsErrOf, Vec, Bool, true, false}
 use Rattle.std.specs.FinMap.{insert}
 use Rattle.std.specs.declared.alloc.Global.{Global}
 use Rattle.mp_base.specs.Outside.{Files, Rose}
@@ -40,4 +41,5 @@ Holds name bytes old new = new ≡ insert old name bytes
 
 -- nothing changed, or the file holds a first part of the bytes
 abbrev pub HoldsPart : List ℕ → List ℕ → Files → Files → Type 0
-HoldsPart name bytes old new = (new ≡ old) ⊎ ((count : ℕ) × (count < length bytes) × Holds name (take count bytes) old new)
+HoldsPart name bytes old new =
+    (new ≡ old) ⊎ ((count : ℕ) × (count < length bytes) × Holds name (take count bytes) old new)

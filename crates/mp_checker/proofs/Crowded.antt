@@ -1,5 +1,6 @@
 -- Rule E40 by the 257th least of the offsets of all that has a name.
-use Rattle.std.proofs.Common.{◌≡◌, ◌⊎◌, inl, inr, ℕ, zero, suc, ◌+◌, ◌<◌, ◌≤◌, List, [], ◌∷◌, ◌++◌, refl, sym, ◌∙◌, ap, subst, arith, length, get_or, zero-add, Bool, true, false, cond, Option}
+use Rattle.std.proofs.Common.{◌≡◌, ◌⊎◌, inl, inr, ℕ, zero, suc, ◌+◌, ◌<◌, ◌≤◌, List, [], ◌∷◌, ◌++◌, refl, sym, ◌∙◌, ap}
+use Rattle.std.proofs.Common.{subst, arith, length, get_or, zero-add, Bool, true, false, cond, Option}
 use Rattle.std.specs.Prelude.{map, filter, not, nat_le}
 use Rattle.std.specs.List.{count_by}
 use Rattle.std.specs.List.Sorted.{IsNonDecreasing, IsPermutation}
@@ -7,6 +8,7 @@ use Rattle.std.proofs.lemmas.Bool.{leb-true, le-leb, lt-leb, cases_lt, and_parts
 use Rattle.std.proofs.lemmas.List.{map-append}
 use Rattle.std.proofs.lemmas.List.Sorted.{sum_by-IsPermutation}
 use Rattle.std.proofs.lemmas.List.Sums.{count_by-le-length, sum_by-cons}
+use Rattle.std.proofs.lemmas.Simd.{map-map}
 use Rattle.mp_base.specs.declared.refusal.Place.{Place}
 use Rattle.mp_program.specs.declared.program.Def.{Def}
 use Rattle.mp_program.specs.declared.program.Process.{Process}
@@ -41,7 +43,8 @@ in_right (z ∷ zs) ys x at = behind z (zs ++ ys) x (in_right zs ys x at)
 in_either : {X : Type 0} (xs ys : List X) (x : X) → In (xs ++ ys) x → In xs x ⊎ In ys x
 in_either [] ys x at = inr at
 in_either (z ∷ zs) ys x (zero, lt, is) = inl (0, omega arith, is)
-in_either (z ∷ zs) ys x (suc k, lt, is) = elim (in_either zs ys x (k, omega (arith, lt), is)) [ inl at ↦ inl (behind z zs x at) | inr at ↦ inr at ]
+in_either (z ∷ zs) ys x (suc k, lt, is) =
+    elim (in_either zs ys x (k, omega (arith, lt), is)) [ inl at ↦ inl (behind z zs x at) | inr at ↦ inr at ]
 
 in_map : {X Y : Type 0} (f : X → Y) (xs : List X) (x : X) → In xs x → In (map f xs) (f x)
 in_map f [] x (k, lt, is) = absurd (omega (arith, lt))
@@ -51,7 +54,8 @@ in_map f (z ∷ zs) x (suc k, lt, is) = behind (f z) (map f zs) (f x) (in_map f 
 map_in : {X Y : Type 0} (f : X → Y) (xs : List X) (y : Y) → In (map f xs) y → (x : X) × In xs x × (y ≡ f x)
 map_in f [] y (k, lt, is) = absurd (omega (arith, lt))
 map_in f (z ∷ zs) y (zero, lt, is) = (z, (0, omega arith, refl), is)
-map_in f (z ∷ zs) y (suc k, lt, is) = let found = map_in f zs y (k, omega (arith, lt), is) in (found.0, behind z zs found.0 found.1, found.2)
+map_in f (z ∷ zs) y (suc k, lt, is) = let found = map_in f zs y (k, omega (arith, lt), is) in
+    (found.0, behind z zs found.0 found.1, found.2)
 
 in_filter : {X : Type 0} (t : X → Bool) (xs : List X) (x : X) → In xs x → t x ≡ true → In (filter t xs) x
 in_filter t [] x (k, lt, is) h = absurd (omega (arith, lt))
@@ -68,9 +72,11 @@ filter_in : {X : Type 0} (t : X → Bool) (xs : List X) (x : X) → In (filter t
 filter_in t [] x (k, lt, is) = absurd (omega (arith, lt))
 filter_in t (z ∷ zs) x at = by_test (filter_in t zs x) (t z) refl at
   where
-    by_test : (In (filter t zs) x → In zs x × (t x ≡ true)) → (b : Bool) → t z ≡ b → In (cond b (z ∷ filter t zs) (filter t zs)) x → In (z ∷ zs) x × (t x ≡ true)
+    by_test : (In (filter t zs) x → In zs x × (t x ≡ true)) → (b : Bool) → t z ≡ b
+        → In (cond b (z ∷ filter t zs) (filter t zs)) x → In (z ∷ zs) x × (t x ≡ true)
     by_test rest true e (zero, lt, is) = ((0, omega arith, is), ap t is ∙ e)
-    by_test rest true e (suc k, lt, is) = let found = rest (k, omega (arith, lt), is) in (behind z zs x found.0, found.1)
+    by_test rest true e (suc k, lt, is) = let found = rest (k, omega (arith, lt), is) in
+        (behind z zs x found.0, found.1)
     by_test rest false e at = let found = rest at in (behind z zs x found.0, found.1)
 
 -- ---- all that has a name
@@ -83,11 +89,16 @@ def_named p x at h = in_left (map def_naming (filter has_name p.defs)) (map proc
     (in_map def_naming (filter has_name p.defs) x (in_filter has_name p.defs x at h))
 
 process_named : (p : Program) (q : Process) → In p.processes q → In (namings p) (process_naming q)
-process_named p q at = in_right (map def_naming (filter has_name p.defs)) (map process_naming p.processes) (process_naming q) (in_map process_naming p.processes q at)
+process_named p q at =
+    in_right (map def_naming (filter has_name p.defs)) (map process_naming p.processes) (process_naming q)
+    (in_map process_naming p.processes q at)
 
-named : (p : Program) (n : Naming) → In (namings p) n → ((x : Def) × In p.defs x × (has_name x ≡ true) × (n ≡ def_naming x)) ⊎ ((q : Process) × In p.processes q × (n ≡ process_naming q))
+named : (p : Program) (n : Naming) → In (namings p) n
+    → ((x : Def) × In p.defs x × (has_name x ≡ true) × (n ≡ def_naming x))
+    ⊎ ((q : Process) × In p.processes q × (n ≡ process_naming q))
 named p n at = elim (in_either (map def_naming (filter has_name p.defs)) (map process_naming p.processes) n at) [
-  | inl d ↦ let found = map_in def_naming (filter has_name p.defs) n d in let kept = filter_in has_name p.defs found.0 found.1 in inl (found.0, kept.0, kept.1, found.2)
+  | inl d ↦ let found = map_in def_naming (filter has_name p.defs) n d in
+      let kept = filter_in has_name p.defs found.0 found.1 in inl (found.0, kept.0, kept.1, found.2)
   | inr q ↦ inr (map_in process_naming p.processes n q)
 ]
 
@@ -110,19 +121,18 @@ offsets_of p = map def_offset (filter has_name p.defs) ++ map process_offset p.p
 abbrev up_to : ℕ → ℕ → Bool
 up_to o x = nat_le x o
 
-count_map : {X : Type 0} (f : X → ℕ) (o : ℕ) (xs : List X) → count_by (up_to o) (map f xs) ≡ count_by (λ x. nat_le (f x) o) xs
+count_map : {X : Type 0} (f : X → ℕ) (o : ℕ) (xs : List X)
+    → count_by (up_to o) (map f xs) ≡ count_by (λ x. nat_le (f x) o) xs
 count_map f o [] = refl
-count_map f o (x ∷ xs) = sum_by-cons (λ y. cond (up_to o y) 1 0) (f x) (map f xs) ∙ ap (λ n. cond (nat_le (f x) o) 1 0 + n) (count_map f o xs)
+count_map f o (x ∷ xs) = sum_by-cons (λ y. cond (up_to o y) 1 0) (f x) (map f xs)
+    ∙ ap (λ n. cond (nat_le (f x) o) 1 0 + n) (count_map f o xs)
     ∙ sym (sum_by-cons (λ y. cond (nat_le (f y) o) 1 0) x xs)
-
-pub map_map : {X Y Z : Type 0} (f : X → Y) (g : Y → Z) (xs : List X) → map g (map f xs) ≡ map (λ x. g (f x)) xs
-map_map f g [] = refl
-map_map f g (x ∷ xs) = ap (λ ys. g (f x) ∷ ys) (map_map f g xs)
 
 offsets_are : (p : Program) → map naming_offset (namings p) ≡ offsets_of p
 offsets_are p = map-append naming_offset (map def_naming (filter has_name p.defs)) (map process_naming p.processes)
-    ∙ ap (λ xs. xs ++ map naming_offset (map process_naming p.processes)) (map_map def_naming naming_offset (filter has_name p.defs))
-    ∙ ap (λ ys. map def_offset (filter has_name p.defs) ++ ys) (map_map process_naming naming_offset p.processes)
+    ∙ ap (λ xs. xs ++ map naming_offset (map process_naming p.processes))
+    (map-map naming_offset def_naming (filter has_name p.defs))
+    ∙ ap (λ ys. map def_offset (filter has_name p.defs) ++ ys) (map-map naming_offset process_naming p.processes)
 
 before_is : (p : Program) (at : Place) → namings_up_to p at ≡ count_by (up_to at.offset) (offsets_of p)
 before_is p at = sym (count_map naming_offset at.offset (namings p)) ∙ ap (count_by (up_to at.offset)) (offsets_are p)
@@ -131,7 +141,9 @@ before_is p at = sym (count_map naming_offset at.offset (namings p)) ∙ ap (cou
 
 none_up_to : (o : ℕ) (xs : List ℕ) → ((k : ℕ) → k < length xs → o < get_or xs k 0) → count_by (up_to o) xs ≡ 0
 none_up_to o [] h = refl
-none_up_to o (x ∷ xs) h = sum_by-cons (λ y. cond (up_to o y) 1 0) x xs ∙ ap (λ b. cond b 1 0 + count_by (up_to o) xs) (lt-leb x o (h 0 (omega arith))) ∙ zero-add (count_by (up_to o) xs) ∙ none_up_to o xs (λ k lt. h (suc k) (omega (arith, lt)))
+none_up_to o (x ∷ xs) h = sum_by-cons (λ y. cond (up_to o y) 1 0) x xs
+    ∙ ap (λ b. cond b 1 0 + count_by (up_to o) xs) (lt-leb x o (h 0 (omega arith))) ∙ zero-add (count_by (up_to o) xs)
+    ∙ none_up_to o xs (λ k lt. h (suc k) (omega (arith, lt)))
 
 up_behind : (x : ℕ) (xs : List ℕ) → IsNonDecreasing (x ∷ xs) → IsNonDecreasing xs
 up_behind x xs up i j d le lt = up (suc i) (suc j) d (omega (arith, le)) (omega (arith, lt))
@@ -145,25 +157,38 @@ sorted_count o (x ∷ xs) k up lt = elim (cases_lt o x) [
   | inr l ↦ under (λ j jl. sorted_count o xs j (up_behind x xs up) jl) k lt l
 ]
   where
-    over : o < x → (k < count_by (up_to o) (x ∷ xs) → get_or (x ∷ xs) k 0 ≤ o) × (get_or (x ∷ xs) k 0 ≤ o → k < count_by (up_to o) (x ∷ xs))
+    over : o < x
+        → (k < count_by (up_to o) (x ∷ xs) → get_or (x ∷ xs) k 0 ≤ o)
+        × (get_or (x ∷ xs) k 0 ≤ o → k < count_by (up_to o) (x ∷ xs))
     over g = let none = none_up_to o (x ∷ xs) (λ j jl. omega (arith, g, up 0 j 0 (omega arith) jl)) in
         (λ c. absurd (omega (arith, none, c)), λ s. absurd (omega (arith, s, g, up 0 k 0 (omega arith) lt)))
 
-    under : ((j : ℕ) → j < length xs → (j < count_by (up_to o) xs → get_or xs j 0 ≤ o) × (get_or xs j 0 ≤ o → j < count_by (up_to o) xs))
-        → (j : ℕ) → j < length (x ∷ xs) → x ≤ o → (j < count_by (up_to o) (x ∷ xs) → get_or (x ∷ xs) j 0 ≤ o) × (get_or (x ∷ xs) j 0 ≤ o → j < count_by (up_to o) (x ∷ xs))
-    under each zero jl l = let one = sum_by-cons (λ y. cond (up_to o y) 1 0) x xs ∙ ap (λ b. cond b 1 0 + count_by (up_to o) xs) (le-leb x o l) in (λ c. l, λ s. omega (arith, one))
+    under : ((j : ℕ) → j < length xs
+        → (j < count_by (up_to o) xs → get_or xs j 0 ≤ o) × (get_or xs j 0 ≤ o → j < count_by (up_to o) xs))
+        → (j : ℕ) → j < length (x ∷ xs) → x ≤ o
+        → (j < count_by (up_to o) (x ∷ xs) → get_or (x ∷ xs) j 0 ≤ o)
+        × (get_or (x ∷ xs) j 0 ≤ o → j < count_by (up_to o) (x ∷ xs))
+    under each zero jl l =
+        let one =
+        sum_by-cons (λ y. cond (up_to o y) 1 0) x xs ∙ ap (λ b. cond b 1 0 + count_by (up_to o) xs) (le-leb x o l) in
+        (λ c. l, λ s. omega (arith, one))
     under each (suc j) jl l =
-        let one = sum_by-cons (λ y. cond (up_to o y) 1 0) x xs ∙ ap (λ b. cond b 1 0 + count_by (up_to o) xs) (le-leb x o l) in
+        let one =
+        sum_by-cons (λ y. cond (up_to o y) 1 0) x xs ∙ ap (λ b. cond b 1 0 + count_by (up_to o) xs) (le-leb x o l) in
         let rest = each j (omega (arith, jl)) in
         (λ c. rest.0 (omega (arith, one, c)), λ s. let more = rest.1 s in omega (arith, one, more))
 
 -- at most 256 names
 pub few_names : (p : Program) → length (offsets_of p) ≤ 256 → (at : Place) → E40 p at → ⊥
-few_names p few at (k, n, is, many, e) = omega (arith, before_is p n.place, count_by-le-length (up_to (n.place).offset) (offsets_of p), many, few)
+few_names p few at (k, n, is, many, e) =
+    omega (arith, before_is p n.place, count_by-le-length (up_to (n.place).offset) (offsets_of p), many, few)
 
-pub from_earliest : (p : Program) (s : List ℕ) (found : Option Place) → IsNonDecreasing s → IsPermutation (offsets_of p) s → 257 ≤ length s
+pub from_earliest : (p : Program) (s : List ℕ) (found : Option Place) → IsNonDecreasing s
+    → IsPermutation (offsets_of p) s → 257 ≤ length s
     → found ≡ named_from p (get_or s 256 0) → IsEarliest (E40 p) found
-from_earliest p s found up same long e = rw e (earliest_same (λ at. IsFoundIn in_defs p.defs at ⊎ IsFoundIn in_processes p.processes at) (E40 p) (named_from p (get_or s 256 0)) to from
+from_earliest p s found up same long e =
+    rw e (earliest_same (λ at. IsFoundIn in_defs p.defs at ⊎ IsFoundIn in_processes p.processes at) (E40 p)
+    (named_from p (get_or s 256 0)) to from
     (earliest_two in_defs in_processes p.defs p.processes))
   where
     in_defs : Def → Option Place
@@ -176,10 +201,13 @@ from_earliest p s found up same long e = rw e (earliest_same (λ at. IsFoundIn i
     counted o = sum_by-IsPermutation (λ x. cond (up_to o x) 1 0) (offsets_of p) s same
 
     many : (n : Naming) → get_or s 256 0 ≤ (n.place).offset → 257 ≤ namings_up_to p n.place
-    many n lt = let more = (sorted_count (n.place).offset s 256 up (omega (arith, long))).1 lt in omega (arith, more, counted (n.place).offset, before_is p n.place)
+    many n lt = let more = (sorted_count (n.place).offset s 256 up (omega (arith, long))).1 lt in
+        omega (arith, more, counted (n.place).offset, before_is p n.place)
 
     past : (n : Naming) → 257 ≤ namings_up_to p n.place → get_or s 256 0 ≤ (n.place).offset
-    past n le = (sorted_count (n.place).offset s 256 up (omega (arith, long))).0 (omega (arith, le, counted (n.place).offset, before_is p n.place))
+    past n le =
+        (sorted_count (n.place).offset s 256 up (omega (arith, long))).0
+        (omega (arith, le, counted (n.place).offset, before_is p n.place))
 
     to : (at : Place) → IsFoundIn in_defs p.defs at ⊎ IsFoundIn in_processes p.processes at → E40 p at
     to at (inl (k, x, is, f)) =
@@ -199,13 +227,18 @@ from_earliest p s found up same long e = rw e (earliest_same (λ at. IsFoundIn i
         x,
         (jl, there),
         passed def_place (is_from (get_or s 256 0)) x at
-            (and_from _ _ h (le-leb _ _ (let P : Naming → Type 0 = λ m. get_or s 256 0 ≤ (m.place).offset in subst P same_n (past n le)))) (e ∙ ap (λ (m : Naming). m.place) same_n),
+            (and_from _ _ h
+            (le-leb _ _
+            (let P : Naming → Type 0 = λ m. get_or s 256 0 ≤ (m.place).offset in subst P same_n (past n le))))
+            (e ∙ ap (λ (m : Naming). m.place) same_n),
       )
       | inr (q, (j, jl, there), same_n) ↦ inr (
         j,
         q,
         (jl, there),
         passed process_place (λ (q : Process). nat_le (get_or s 256 0) (q.place).offset) q at
-            (le-leb _ _ (let P : Naming → Type 0 = λ m. get_or s 256 0 ≤ (m.place).offset in subst P same_n (past n le))) (e ∙ ap (λ (m : Naming). m.place) same_n),
+            (le-leb _ _
+            (let P : Naming → Type 0 = λ m. get_or s 256 0 ≤ (m.place).offset in subst P same_n (past n le)))
+            (e ∙ ap (λ (m : Naming). m.place) same_n),
       )
     ]

@@ -1,17 +1,20 @@
 -- The pads of a program have names that fit.
-use Rattle.std.proofs.Common.{◌≡◌, ◌≢◌, ◌⊎◌, inl, inr, ℕ, suc, ◌<◌, ◌≤◌, List, [], ◌∷◌, ◌++◌, refl, sym, ◌∙◌, ap, subst, arith, length, get_or, Bool, true, false}
+use Rattle.std.proofs.Common.{◌≡◌, ◌≢◌, ◌⊎◌, inl, inr, ℕ, suc, ◌<◌, ◌≤◌, List, [], ◌∷◌, ◌++◌, refl, sym, ◌∙◌, ap, subst}
+use Rattle.std.proofs.Common.{arith, length, get_or, Bool, true, false}
 use Rattle.std.specs.Prelude.{map, filter, not, ◌&&◌, ◌||◌, ◌==◌}
 use Rattle.std.specs.List.{All, AllPairs, list_all, list_any}
 use Rattle.std.specs.Str.{bytes_eq}
 use Rattle.std.proofs.lemmas.List.{map-append, get_or-map, get_or_default, length-map}
-use Rattle.std.proofs.lemmas.Bool.{leb-true, and_parts, false≢true, true≢false}
+use Rattle.std.proofs.lemmas.Bool.{leb-true, false≢true, true≢false}
 use Rattle.std.proofs.lemmas.List.Elements.{All-append, All-filter, filter_passes}
 use Rattle.std.proofs.lemmas.List.Kept.{AllPairs-cons, AllPairs-filter}
 use Rattle.std.proofs.lemmas.List.Sums.{AllPass-from_list_all}
+use Rattle.std.proofs.lemmas.Simd.{map-map}
 use Rattle.mp_base.specs.declared.refusal.Place.{Place}
 use Rattle.mp_base.specs.declared.pad.Pad.{Pad}
 use Rattle.mp_base.specs.PadNames.{ArePadNames, is_pad_name, names_of, supplies}
 use Rattle.mp_base.specs.Token.{is_token, is_digit}
+use Rattle.mp_base.proofs.Tests.{and_left, and_right}
 use Rattle.mp_program.specs.declared.program.Way.TheVariants.{Input}
 use Rattle.mp_program.specs.declared.program.What.{What}
 use Rattle.mp_program.specs.declared.program.What.TheVariants.{Power, Port, Signal}
@@ -20,28 +23,21 @@ use Rattle.mp_program.specs.declared.program.Program.{Program}
 use Rattle.mp_program.specs.Names.{index_of, is_input, is_output, is_supply}
 use Rattle.mp_program.specs.Fits.{is_symbol, def_fits}
 use Rattle.mp_program.specs.Pads.{Face, face, pad_width}
+use Rattle.mp_program.proofs.FormKinds.{defs_fit}
 use Rattle.mp_rules.specs.Entries.{IsAt}
 use Rattle.mp_rules.specs.Naming.{OwnNames, is_reserved, def_naming}
 use Rattle.mp_rules.specs.Rules.{E20}
-use Rattle.mp_checker.proofs.Crowded.{def_named, map_map}
+use Rattle.mp_checker.proofs.Crowded.{def_named}
 
 -- the pads of definitions of a kind
 abbrev pub faces : (What → Bool) → ℕ → List Def → List Face
 faces f w defs = map (λ (x : Def). (x.name, pad_width w x.what)) (filter (λ (x : Def). f x.what) defs)
 
-left : (a b : Bool) → (a && b) ≡ true → a ≡ true
-left a b h = (and_parts a b h).0
-
-right : (a b : Bool) → (a && b) ≡ true → b ≡ true
-right a b h = (and_parts a b h).1
-
 -- the word length is at most 32
 pub width_fits : (p : Program) → p.width ≤ 32
-width_fits p = leb-true p.width 32 (right _ _ (left _ _ (left _ _ (left _ _ (left _ _ (left _ _ (left _ _ p.fits)))))))
-
--- definitions have names that fit
-defs_fit : (p : Program) → list_all def_fits p.defs ≡ true
-defs_fit p = right _ _ (left _ _ (left _ _ (left _ _ (left _ _ p.fits))))
+width_fits p =
+    leb-true p.width 32
+    (and_right _ _ (and_left _ _ (and_left _ _ (and_left _ _ (and_left _ _ (and_left _ _ (and_left _ _ p.fits)))))))
 
 or_false : (a b : Bool) → (a || b) ≡ false → b ≡ false
 or_false true b h = absurd (true≢false h)
@@ -51,7 +47,8 @@ or_false false b h = h
 symbol_names : (x : List ℕ) → is_symbol x ≡ true → is_reserved x ≡ false → is_pad_name x ≡ true
 symbol_names [] h free = absurd (false≢true h)
 symbol_names (c ∷ cs) h free =
-    let run : list_all is_token (c ∷ cs) ≡ true = left (list_all is_token (c ∷ cs)) (not (list_all is_digit (c ∷ cs))) h in
+    let run : list_all is_token (c ∷ cs) ≡ true =
+    and_left (list_all is_token (c ∷ cs)) (not (list_all is_digit (c ∷ cs))) h in
     let none : list_any (λ w. bytes_eq (c ∷ cs) w) supplies ≡ false =
     or_false (bytes_eq (c ∷ cs) (102 ∷ [])) _ (or_false (bytes_eq (c ∷ cs) (116 ∷ [])) _ free) in
     rw (run, none) refl
@@ -88,7 +85,9 @@ named : (p : Program) → Names p → (i : ℕ) (x : Def) → IsAt p.defs i x �
 named p s i x at kind =
     let P : Def → Type 0 = λ v. def_fits v ≡ true in
     let other : is_supply x.what ≡ false = no_supply x.what kind in
-    symbol_names x.name (fit_symbol x (subst P (sym at.1) (AllPass-from_list_all def_fits p.defs (defs_fit p) i x at.0)) other) (free (is_reserved x.name) refl other)
+    symbol_names x.name
+    (fit_symbol x (subst P (sym at.1) (AllPass-from_list_all def_fits p.defs (defs_fit p) i x at.0)) other)
+    (free (is_reserved x.name) refl other)
   where
     free : (b : Bool) → is_reserved x.name ≡ b → is_supply x.what ≡ false → is_reserved x.name ≡ false
     free false e other = e
@@ -97,7 +96,8 @@ named p s i x at kind =
         absurd (s.kept x.place (inl (n.0, def_naming x, (n.1, n.2), refl, inl e)))
 
 -- two pads at different indices have different names
-apart : (p : Program) → Names p → (i j : ℕ) (x y : Def) → IsAt p.defs i x → IsAt p.defs j y → IsPad x.what → IsPad y.what → i ≢ j → x.name ≢ y.name
+apart : (p : Program) → Names p → (i j : ℕ) (x y : Def) → IsAt p.defs i x → IsAt p.defs j y → IsPad x.what
+    → IsPad y.what → i ≢ j → x.name ≢ y.name
 apart p s i j x y at_i at_j kx ky ne same =
     ne (sym (s.own i x at_i (no_supply x.what kx)) ∙ ap (index_of p.defs) same ∙ s.own j y at_j (no_supply y.what ky))
 
@@ -106,24 +106,29 @@ apart p s i j x y at_i at_j kx ky ne same =
 spare : Def
 spare = record { place = record { offset = 0; line = 0; column = 0 }; name = []; what = Power; pins = [] }
 
-pairs_append : {X : Type 0} (R : X → X → Type 0) (xs ys : List X) → AllPairs R xs → AllPairs R ys → All (λ x. All (R x) ys) xs → AllPairs R (xs ++ ys)
+pairs_append : {X : Type 0} (R : X → X → Type 0) (xs ys : List X) → AllPairs R xs → AllPairs R ys
+    → All (λ x. All (R x) ys) xs → AllPairs R (xs ++ ys)
 pairs_append R [] ys hx hy across = hy
 pairs_append R (x ∷ xs) ys hx hy across =
-    AllPairs-cons R x (xs ++ ys) (All-append (R x) xs ys (λ k d lt. hx 0 (suc k) d (omega arith) (omega (arith, lt))) (across 0 x (omega arith)))
-    (pairs_append R xs ys (λ i j d ij jl. hx (suc i) (suc j) d (omega (arith, ij)) (omega (arith, jl))) hy (λ k d lt. across (suc k) d (omega (arith, lt))))
+    AllPairs-cons R x (xs ++ ys)
+    (All-append (R x) xs ys (λ k d lt. hx 0 (suc k) d (omega arith) (omega (arith, lt))) (across 0 x (omega arith)))
+    (pairs_append R xs ys (λ i j d ij jl. hx (suc i) (suc j) d (omega (arith, ij)) (omega (arith, jl))) hy
+    (λ k d lt. across (suc k) d (omega (arith, lt))))
 
 names_from : (kind : What → Bool) (w : ℕ) (defs : List Def) (pads : List Pad) → map face pads ≡ faces kind w defs
     → map (λ (p : Pad). p.name) pads ≡ map (λ (x : Def). x.name) (filter (λ (x : Def). kind x.what) defs)
 names_from kind w defs pads same =
-    sym (map_map face (λ (n : Face). n.0) pads) ∙ ap (map (λ (n : Face). n.0)) same
-    ∙ map_map (λ (x : Def). (x.name, pad_width w x.what)) (λ (n : Face). n.0) (filter (λ (x : Def). kind x.what) defs)
+    sym (map-map (λ (n : Face). n.0) face pads) ∙ ap (map (λ (n : Face). n.0)) same
+    ∙ map-map (λ (n : Face). n.0) (λ (x : Def). (x.name, pad_width w x.what)) (filter (λ (x : Def). kind x.what) defs)
 
 -- a definition stands among these
 abbrev IsIn : List Def → Def → Type 0
 IsIn defs x = (i : ℕ) × IsAt defs i x
 
 all_in : (kind : What → Bool) (defs : List Def) → All (IsIn defs) (filter (λ (x : Def). kind x.what) defs)
-all_in kind defs = All-filter (λ (x : Def). kind x.what) (IsIn defs) defs (λ k d lt. (k, (lt, get_or_default defs k d (get_or defs k d) lt)))
+all_in kind defs =
+    All-filter (λ (x : Def). kind x.what) (IsIn defs) defs
+    (λ k d lt. (k, (lt, get_or_default defs k d (get_or defs k d) lt)))
 
 -- both pads have different names
 abbrev Differ : Def → Def → Type 0
@@ -133,44 +138,58 @@ abbrev name_of : Def → List ℕ
 name_of x = x.name
 
 -- names of pads are read in a list of definitions
-are_names : (xs : List Def) → All (λ x. is_pad_name x.name ≡ true) xs → AllPairs Differ xs → ArePadNames (map name_of xs)
+are_names : (xs : List Def) → All (λ x. is_pad_name x.name ≡ true) xs → AllPairs Differ xs
+    → ArePadNames (map name_of xs)
 are_names xs fit differ = record {
   each = λ i il. let lt : i < length xs = omega (arith, il, length-map xs name_of) in
       let P : List ℕ → Type 0 = λ n. is_pad_name n ≡ true in
       subst P (sym (get_or-map name_of xs i spare [] lt)) (fit i spare lt);
   differ = λ i j ij jl same. let lt : j < length xs = omega (arith, jl, length-map xs name_of) in
-      differ i j spare ij lt (sym (get_or-map name_of xs i spare [] (omega (arith, ij, lt))) ∙ same ∙ get_or-map name_of xs j spare [] lt);
+      differ i j spare ij lt
+      (sym (get_or-map name_of xs i spare [] (omega (arith, ij, lt))) ∙ same ∙ get_or-map name_of xs j spare [] lt);
 }
 
 abbrev of_kind : (What → Bool) → List Def → List Def
 of_kind kind defs = filter (λ (x : Def). kind x.what) defs
 
-fit_names : (p : Program) → Names p → (kind : What → Bool) → ((w : What) → kind w ≡ true → IsPad w) → All (λ x. is_pad_name x.name ≡ true) (of_kind kind p.defs)
+fit_names : (p : Program) → Names p → (kind : What → Bool) → ((w : What) → kind w ≡ true → IsPad w)
+    → All (λ x. is_pad_name x.name ≡ true) (of_kind kind p.defs)
 fit_names p s kind pad k d lt =
     let (i, at) = all_in kind p.defs k d lt in
-    named p s i (get_or (of_kind kind p.defs) k d) at (pad (get_or (of_kind kind p.defs) k d).what (filter_passes (λ (x : Def). kind x.what) p.defs k d lt))
+    named p s i (get_or (of_kind kind p.defs) k d) at
+    (pad (get_or (of_kind kind p.defs) k d).what (filter_passes (λ (x : Def). kind x.what) p.defs k d lt))
 
 -- the pads of one kind have different names
-differing : (p : Program) → Names p → (kind : What → Bool) → ((w : What) → kind w ≡ true → IsPad w) → AllPairs Differ (of_kind kind p.defs)
+differing : (p : Program) → Names p → (kind : What → Bool) → ((w : What) → kind w ≡ true → IsPad w)
+    → AllPairs Differ (of_kind kind p.defs)
 differing p s kind pad i j d ij jl =
-    AllPairs-filter (λ (x y : Def). kind x.what ≡ true → kind y.what ≡ true → Differ x y) (λ (x : Def). kind x.what) p.defs
-    (λ a b e ab bl ka kb. apart p s a b (get_or p.defs a e) (get_or p.defs b e) (omega (arith, ab, bl), get_or_default p.defs a e (get_or p.defs a e) (omega (arith, ab, bl)))
-    (bl, get_or_default p.defs b e (get_or p.defs b e) bl) (pad (get_or p.defs a e).what ka) (pad (get_or p.defs b e).what kb) (λ same. omega (arith, same, ab)))
-    i j d ij jl (filter_passes (λ (x : Def). kind x.what) p.defs i d (omega (arith, ij, jl))) (filter_passes (λ (x : Def). kind x.what) p.defs j d jl)
+    AllPairs-filter (λ (x y : Def). kind x.what ≡ true → kind y.what ≡ true → Differ x y)
+    (λ (x : Def). kind x.what) p.defs
+    (λ a b e ab bl ka kb. apart p s a b (get_or p.defs a e) (get_or p.defs b e)
+    (omega (arith, ab, bl), get_or_default p.defs a e (get_or p.defs a e) (omega (arith, ab, bl)))
+    (bl, get_or_default p.defs b e (get_or p.defs b e) bl) (pad (get_or p.defs a e).what ka)
+    (pad (get_or p.defs b e).what kb) (λ same. omega (arith, same, ab)))
+    i j d ij jl (filter_passes (λ (x : Def). kind x.what) p.defs i d (omega (arith, ij, jl)))
+    (filter_passes (λ (x : Def). kind x.what) p.defs j d jl)
 
 -- the pads of a program have names that fit
-pub pad_names : (p : Program) → OwnNames p → ((at : Place) → E20 p at → ⊥) → (inputs outputs : List Pad) → map face inputs ≡ faces is_input p.width p.defs
-    → map face outputs ≡ faces is_output p.width p.defs → ArePadNames (names_of inputs outputs (λ (pad : Pad). pad.name))
+pub pad_names : (p : Program) → OwnNames p → ((at : Place) → E20 p at → ⊥) → (inputs outputs : List Pad)
+    → map face inputs ≡ faces is_input p.width p.defs
+    → map face outputs ≡ faces is_output p.width p.defs
+    → ArePadNames (names_of inputs outputs (λ (pad : Pad). pad.name))
 pad_names p own kept inputs outputs in_faces out_faces =
     let s : Names p = record { own = own; kept = kept } in
-    let e : map (λ (pad : Pad). pad.name) (inputs ++ outputs) ≡ map name_of (of_kind is_input p.defs ++ of_kind is_output p.defs) =
+    let e : map (λ (pad : Pad). pad.name) (inputs ++ outputs)
+    ≡ map name_of (of_kind is_input p.defs ++ of_kind is_output p.defs) =
     map-append (λ (pad : Pad). pad.name) inputs outputs
     ∙ ap (λ xs. xs ++ map (λ (pad : Pad). pad.name) outputs) (names_from is_input p.width p.defs inputs in_faces)
     ∙ ap (λ xs. map name_of (of_kind is_input p.defs) ++ xs) (names_from is_output p.width p.defs outputs out_faces)
     ∙ sym (map-append name_of (of_kind is_input p.defs) (of_kind is_output p.defs)) in
     subst ArePadNames (sym e) (are_names (of_kind is_input p.defs ++ of_kind is_output p.defs)
-    (All-append (λ x. is_pad_name x.name ≡ true) (of_kind is_input p.defs) (of_kind is_output p.defs) (fit_names p s is_input (λ w h. inl h)) (fit_names p s is_output (λ w h. inr h)))
-    (pairs_append Differ (of_kind is_input p.defs) (of_kind is_output p.defs) (differing p s is_input (λ w h. inl h)) (differing p s is_output (λ w h. inr h)) (across s)))
+    (All-append (λ x. is_pad_name x.name ≡ true) (of_kind is_input p.defs) (of_kind is_output p.defs)
+    (fit_names p s is_input (λ w h. inl h)) (fit_names p s is_output (λ w h. inr h)))
+    (pairs_append Differ (of_kind is_input p.defs) (of_kind is_output p.defs) (differing p s is_input (λ w h. inl h))
+    (differing p s is_output (λ w h. inr h)) (across s)))
   where
     across : Names p → All (λ x. All (Differ x) (of_kind is_output p.defs)) (of_kind is_input p.defs)
     across s k d kl m e ml =
@@ -178,11 +197,13 @@ pad_names p own kept inputs outputs in_faces out_faces =
         let (j, at_j) = all_in is_output p.defs m e ml in
         let input = filter_passes (λ (x : Def). is_input x.what) p.defs k d kl in
         let output = filter_passes (λ (x : Def). is_output x.what) p.defs m e ml in
-        apart p s i j (get_or (of_kind is_input p.defs) k d) (get_or (of_kind is_output p.defs) m e) at_i at_j (inl input) (inr output)
+        apart p s i j (get_or (of_kind is_input p.defs) k d) (get_or (of_kind is_output p.defs) m e) at_i at_j
+        (inl input) (inr output)
         (λ same. not_both (get_or (of_kind is_input p.defs) k d).what input
         (let P : Def → Type 0 = λ x. is_output x.what ≡ true in subst P (sym (here i j at_i at_j same)) output))
       where
-        here : (i j : ℕ) → IsAt p.defs i (get_or (of_kind is_input p.defs) k d) → IsAt p.defs j (get_or (of_kind is_output p.defs) m e) → i ≡ j
+        here : (i j : ℕ) → IsAt p.defs i (get_or (of_kind is_input p.defs) k d)
+            → IsAt p.defs j (get_or (of_kind is_output p.defs) m e) → i ≡ j
             → get_or (of_kind is_input p.defs) k d ≡ get_or (of_kind is_output p.defs) m e
         here i j (il, is_i) (jl, is_j) same =
             let x = get_or (of_kind is_input p.defs) k d in

@@ -24,7 +24,8 @@ wide_number : (w : ℕ) (x : ExprKind) → is_wide_number w x ≡ true → (n : 
 wide_number w (Number n) h = (n, refl, leb-true (2 ^ w) n h)
 wide_number w _ h = absurd (false≢true h)
 
-past_word : (w : ℕ) (x : ExprKind) → is_past_word w x ≡ true → (k : ℕ) × (args : List ℕ) × (x ≡ Apply Bit k args) × (w ≤ k)
+past_word : (w : ℕ) (x : ExprKind) → is_past_word w x ≡ true
+    → (k : ℕ) × (args : List ℕ) × (x ≡ Apply Bit k args) × (w ≤ k)
 past_word w (Apply Bit k args) h = (k, args, refl, leb-true w k h)
 past_word w _ h = absurd (false≢true h)
 
@@ -35,24 +36,61 @@ abbrev pub expr_place : Expr → Place
 expr_place e = e.place
 
 pub wide_earliest : (p : Program) (found : Option Place)
-    → found ≡ earliest_in (place_that expr_place (λ (e : Expr). is_wide_number p.width e.kind)) (earliest_in (place_that def_place (λ (d : Def). is_wide_constant p.width d.what)) None p.defs) p.exprs
+    → found ≡ earliest_in (place_that expr_place (λ (e : Expr). is_wide_number p.width e.kind))
+    (earliest_in (place_that def_place (λ (d : Def). is_wide_constant p.width d.what)) None p.defs) p.exprs
     → IsEarliest (E23 p) found
-wide_earliest p found e = rw e (earliest_same (λ at. IsFoundIn (place_that def_place (λ (d : Def). is_wide_constant p.width d.what)) p.defs at ⊎ IsFoundIn (place_that expr_place (λ (e : Expr). is_wide_number p.width e.kind)) p.exprs at)
+wide_earliest p found e =
+    rw e (earliest_same
+    (λ at. IsFoundIn (place_that def_place (λ (d : Def). is_wide_constant p.width d.what)) p.defs at
+    ⊎ IsFoundIn (place_that expr_place (λ (e : Expr). is_wide_number p.width e.kind)) p.exprs at)
     (E23 p) _ to from (earliest_two _ _ p.defs p.exprs))
   where
-    to : (at : Place) → IsFoundIn (place_that def_place (λ (d : Def). is_wide_constant p.width d.what)) p.defs at ⊎ IsFoundIn (place_that expr_place (λ (e : Expr). is_wide_number p.width e.kind)) p.exprs at → E23 p at
-    to at (inl (k, x, is, f)) = let h = passes def_place (λ (d : Def). is_wide_constant p.width d.what) x at f in let c = wide_constant p.width x.what h.0 in inl (k, x, c.0, is, c.1, c.2, h.1)
-    to at (inr (k, x, is, f)) = let h = passes expr_place (λ (e : Expr). is_wide_number p.width e.kind) x at f in let c = wide_number p.width x.kind h.0 in inr (k, x, c.0, is, c.1, c.2, h.1)
+    to : (at : Place)
+        → IsFoundIn (place_that def_place (λ (d : Def). is_wide_constant p.width d.what)) p.defs at
+        ⊎ IsFoundIn (place_that expr_place (λ (e : Expr). is_wide_number p.width e.kind)) p.exprs at → E23 p at
+    to at (inl (k, x, is, f)) = let h = passes def_place (λ (d : Def). is_wide_constant p.width d.what) x at f in
+        let c = wide_constant p.width x.what h.0 in inl (k, x, c.0, is, c.1, c.2, h.1)
+    to at (inr (k, x, is, f)) = let h = passes expr_place (λ (e : Expr). is_wide_number p.width e.kind) x at f in
+        let c = wide_number p.width x.kind h.0 in inr (k, x, c.0, is, c.1, c.2, h.1)
 
-    from : (at : Place) → E23 p at → IsFoundIn (place_that def_place (λ (d : Def). is_wide_constant p.width d.what)) p.defs at ⊎ IsFoundIn (place_that expr_place (λ (e : Expr). is_wide_number p.width e.kind)) p.exprs at
-    from at (inl (k, x, c, is, what, big, e)) = inl (k, x, is, passed def_place (λ (d : Def). is_wide_constant p.width d.what) x at (ap (is_wide_constant p.width) what ∙ le-leb (2 ^ p.width) c big) e)
-    from at (inr (k, x, n, is, kind, big, e)) = inr (k, x, is, passed expr_place (λ (e : Expr). is_wide_number p.width e.kind) x at (ap (is_wide_number p.width) kind ∙ le-leb (2 ^ p.width) n big) e)
+    from : (at : Place) → E23 p at
+        → IsFoundIn (place_that def_place (λ (d : Def). is_wide_constant p.width d.what)) p.defs at
+        ⊎ IsFoundIn (place_that expr_place (λ (e : Expr). is_wide_number p.width e.kind)) p.exprs at
+    from at (inl (k, x, c, is, what, big, e)) =
+        inl (
+          k,
+          x,
+          is,
+          passed def_place (λ (d : Def). is_wide_constant p.width d.what) x at
+              (ap (is_wide_constant p.width) what ∙ le-leb (2 ^ p.width) c big) e,
+        )
+    from at (inr (k, x, n, is, kind, big, e)) =
+        inr (
+          k,
+          x,
+          is,
+          passed expr_place (λ (e : Expr). is_wide_number p.width e.kind) x at
+              (ap (is_wide_number p.width) kind ∙ le-leb (2 ^ p.width) n big) e,
+        )
 
-pub past_earliest : (p : Program) (found : Option Place) → found ≡ earliest_in (place_that expr_place (λ (e : Expr). is_past_word p.width e.kind)) None p.exprs → IsEarliest (E24 p) found
-past_earliest p found e = rw e (earliest_same (IsFoundIn (place_that expr_place (λ (e : Expr). is_past_word p.width e.kind)) p.exprs) (E24 p) _ to from (earliest_one _ p.exprs))
+pub past_earliest : (p : Program) (found : Option Place)
+    → found ≡ earliest_in (place_that expr_place (λ (e : Expr). is_past_word p.width e.kind)) None p.exprs
+    → IsEarliest (E24 p) found
+past_earliest p found e =
+    rw e (earliest_same (IsFoundIn (place_that expr_place (λ (e : Expr). is_past_word p.width e.kind)) p.exprs)
+    (E24 p) _ to from (earliest_one _ p.exprs))
   where
-    to : (at : Place) → IsFoundIn (place_that expr_place (λ (e : Expr). is_past_word p.width e.kind)) p.exprs at → E24 p at
-    to at (k, x, is, f) = let h = passes expr_place (λ (e : Expr). is_past_word p.width e.kind) x at f in let c = past_word p.width x.kind h.0 in (k, x, c.0, c.1, is, c.2, c.3, h.1)
+    to : (at : Place) → IsFoundIn (place_that expr_place (λ (e : Expr). is_past_word p.width e.kind)) p.exprs at
+        → E24 p at
+    to at (k, x, is, f) = let h = passes expr_place (λ (e : Expr). is_past_word p.width e.kind) x at f in
+        let c = past_word p.width x.kind h.0 in (k, x, c.0, c.1, is, c.2, c.3, h.1)
 
-    from : (at : Place) → E24 p at → IsFoundIn (place_that expr_place (λ (e : Expr). is_past_word p.width e.kind)) p.exprs at
-    from at (e, x, k, args, is, kind, past, s) = (e, x, is, passed expr_place (λ (e : Expr). is_past_word p.width e.kind) x at (ap (is_past_word p.width) kind ∙ le-leb p.width k past) s)
+    from : (at : Place) → E24 p at
+        → IsFoundIn (place_that expr_place (λ (e : Expr). is_past_word p.width e.kind)) p.exprs at
+    from at (e, x, k, args, is, kind, past, s) = (
+      e,
+      x,
+      is,
+      passed expr_place (λ (e : Expr). is_past_word p.width e.kind) x at
+          (ap (is_past_word p.width) kind ∙ le-leb p.width k past) s,
+    )

@@ -1,5 +1,6 @@
 -- Places where rules are broken, found in a list.
-use Rattle.std.specs.Prelude.{ℕ, ◌≡◌, ◌<◌, Bool, true, false, take, ◌^◌, ◌&&◌, not, ◌==◌, List, Option, Some, None, length, if◌then◌else◌, nat_le, slice_get, option_and_then}
+use Rattle.std.specs.Prelude.{ℕ, ◌≡◌, ◌<◌, Bool, true, false, take, ◌^◌, ◌&&◌, not, ◌==◌, List, Option, Some, None}
+use Rattle.std.specs.Prelude.{length, if◌then◌else◌, nat_le, slice_get, option_and_then}
 use Rattle.std.specs.Option.{option_map}
 use Rattle.std.specs.List.{filter_map, flat_map, fold, list_any}
 use Rattle.std.specs.BTreeSet.{BTreeSet, contains}
@@ -51,7 +52,9 @@ is_padded_port _ = false
 
 -- the earliest of registers, flags and processes
 abbrev pub stored_in : Program → Option Place
-stored_in p = earliest_in (λ (q : Process). Some q.place) (earliest_in (place_that (λ (d : Def). d.place) (λ (d : Def). is_stored d.what)) None p.defs) p.processes
+stored_in p =
+    earliest_in (λ (q : Process). Some q.place)
+    (earliest_in (place_that (λ (d : Def). d.place) (λ (d : Def). is_stored d.what)) None p.defs) p.processes
 
 -- the 257th form of a process
 abbrev pub far_form : List Form → Process → Option Place
@@ -71,11 +74,13 @@ defines defs supply = list_any (λ (d : Def). is_same_supply supply d.what) defs
 
 -- the first pin of an input or output port that hasn't w pins
 abbrev pub uneven_port : ℕ → Def → Option Place
-uneven_port w d = if is_padded_port d.what && not (length d.pins == w) then option_map (λ (y : Pin). y.place) (slice_get d.pins 0) else None
+uneven_port w d = if is_padded_port d.what
+    && not (length d.pins == w) then option_map (λ (y : Pin). y.place) (slice_get d.pins 0) else None
 
 -- a pin that stands earlier among these
 abbrev pub IsRepeatedIn : List Pin → Place → Type 0
-IsRepeatedIn ps at = (j k : ℕ) × (a b : Pin) × IsAt ps j a × IsAt ps k b × (j < k) × (a.number ≡ b.number) × (at ≡ b.place)
+IsRepeatedIn ps at =
+    (j k : ℕ) × (a b : Pin) × IsAt ps j a × IsAt ps k b × (j < k) × (a.number ≡ b.number) × (at ≡ b.place)
 
 -- the pins of the definitions before an index
 abbrev pub pins_before : List Def → ℕ → List Pin
@@ -92,5 +97,6 @@ is_from offset d = not (is_supply d.what) && nat_le offset (d.place).offset
 
 -- the earliest of definitions with a name, and processes, that don't stand before an offset
 abbrev pub named_from : Program → ℕ → Option Place
-named_from p offset = earliest_in (place_that (λ (q : Process). q.place) (λ (q : Process). nat_le offset (q.place).offset))
+named_from p offset =
+    earliest_in (place_that (λ (q : Process). q.place) (λ (q : Process). nat_le offset (q.place).offset))
     (earliest_in (place_that (λ (d : Def). d.place) (is_from offset)) None p.defs) p.processes

@@ -1,5 +1,6 @@
 -- Entries of lists of which something is true.
-use Rattle.std.proofs.Common.{◌≡◌, ◌⊎◌, ℕ, zero, suc, List, [], ◌∷◌, ◌++◌, Bool, true, false, cond, refl, subst, inl, inr, arith, map, filter, ◌&&◌, ◌||◌}
+use Rattle.std.proofs.Common.{◌≡◌, ◌⊎◌, ℕ, zero, suc, List, [], ◌∷◌, ◌++◌, Bool, true, false, cond, refl, subst, inl}
+use Rattle.std.proofs.Common.{inr, arith, map, filter, ◌||◌}
 use Rattle.std.specs.List.{list_any}
 use Rattle.mp_rules.specs.Entries.{IsAt}
 
@@ -25,7 +26,10 @@ weaken P Q f xs (k, x, at, h) = (k, x, at, f x h)
 
 pub in_left : {X : Type 0} (P : X → Type 0) (xs ys : List X) → Found xs P → Found (xs ++ ys) P
 in_left P [] ys h = absurd (nothing_in P h)
-in_left P (x ∷ xs) ys h = elim (first_or_behind P x xs h) [ inl now ↦ here P x (xs ++ ys) now | inr later ↦ behind P x (xs ++ ys) (in_left P xs ys later) ]
+in_left P (x ∷ xs) ys h = elim (first_or_behind P x xs h) [
+  | inl now ↦ here P x (xs ++ ys) now
+  | inr later ↦ behind P x (xs ++ ys) (in_left P xs ys later)
+]
 
 pub in_right : {X : Type 0} (P : X → Type 0) (xs ys : List X) → Found ys P → Found (xs ++ ys) P
 in_right P [] ys h = h
@@ -56,22 +60,26 @@ of_map f P (x ∷ xs) h = elim (first_or_behind P (f x) (map f xs) h) [
 abbrev pub Passing : {X : Type 0} → (X → Bool) → (X → Type 0) → X → Type 0
 Passing t P x = (t x ≡ true) × P x
 
-pub in_filter : {X : Type 0} (t : X → Bool) (P : X → Type 0) (xs : List X) → Found xs (Passing t P) → Found (filter t xs) P
+pub in_filter : {X : Type 0} (t : X → Bool) (P : X → Type 0) (xs : List X) → Found xs (Passing t P)
+    → Found (filter t xs) P
 in_filter t P [] h = absurd (nothing_in (Passing t P) h)
 in_filter t P (x ∷ xs) h = kept (in_filter t P xs) (t x) refl (first_or_behind (Passing t P) x xs h)
   where
-    kept : (Found xs (Passing t P) → Found (filter t xs) P) → (b : Bool) → t x ≡ b → Passing t P x ⊎ Found xs (Passing t P)
+    kept : (Found xs (Passing t P) → Found (filter t xs) P) → (b : Bool) → t x ≡ b
+        → Passing t P x ⊎ Found xs (Passing t P)
         → Found (cond b (x ∷ filter t xs) (filter t xs)) P
     kept rest true e (inl now) = here P x (filter t xs) now.1
     kept rest true e (inr later) = behind P x (filter t xs) (rest later)
     kept rest false e (inl now) = let passes = now.0 in cc
     kept rest false e (inr later) = rest later
 
-pub of_filter : {X : Type 0} (t : X → Bool) (P : X → Type 0) (xs : List X) → Found (filter t xs) P → Found xs (Passing t P)
+pub of_filter : {X : Type 0} (t : X → Bool) (P : X → Type 0) (xs : List X) → Found (filter t xs) P
+    → Found xs (Passing t P)
 of_filter t P [] h = absurd (nothing_in P h)
 of_filter t P (x ∷ xs) h = kept (of_filter t P xs) (t x) refl h
   where
-    kept : (Found (filter t xs) P → Found xs (Passing t P)) → (b : Bool) → t x ≡ b → Found (cond b (x ∷ filter t xs) (filter t xs)) P
+    kept : (Found (filter t xs) P → Found xs (Passing t P)) → (b : Bool) → t x ≡ b
+        → Found (cond b (x ∷ filter t xs) (filter t xs)) P
         → Found (x ∷ xs) (Passing t P)
     kept rest true e found = elim (first_or_behind P x (filter t xs) found) [
       | inl now ↦ here (Passing t P) x xs (e, now)
@@ -83,7 +91,8 @@ pub any_found : {X : Type 0} (t : X → Bool) (xs : List X) → list_any t xs �
 any_found t [] h = cc
 any_found t (x ∷ xs) h = cases (any_found t xs) (t x) refl h
   where
-    cases : (list_any t xs ≡ true → Found xs (λ z. t z ≡ true)) → (b : Bool) → t x ≡ b → (b || list_any t xs) ≡ true → Found (x ∷ xs) (λ z. t z ≡ true)
+    cases : (list_any t xs ≡ true → Found xs (λ z. t z ≡ true)) → (b : Bool) → t x ≡ b → (b || list_any t xs) ≡ true
+        → Found (x ∷ xs) (λ z. t z ≡ true)
     cases rest true e g = here (λ z. t z ≡ true) x xs e
     cases rest false e g = behind (λ z. t z ≡ true) x xs (rest g)
 
@@ -91,16 +100,9 @@ pub found_any : {X : Type 0} (t : X → Bool) (xs : List X) → Found xs (λ x. 
 found_any t [] h = absurd (nothing_in (λ x. t x ≡ true) h)
 found_any t (x ∷ xs) h = cases (found_any t xs) (t x) refl (first_or_behind (λ z. t z ≡ true) x xs h)
   where
-    cases : (Found xs (λ z. t z ≡ true) → list_any t xs ≡ true) → (b : Bool) → t x ≡ b → (t x ≡ true) ⊎ Found xs (λ z. t z ≡ true)
+    cases : (Found xs (λ z. t z ≡ true) → list_any t xs ≡ true) → (b : Bool) → t x ≡ b
+        → (t x ≡ true) ⊎ Found xs (λ z. t z ≡ true)
         → (b || list_any t xs) ≡ true
     cases rest true e g = refl
     cases rest false e (inl now) = cc
     cases rest false e (inr later) = rest later
-
-pub both : (a b : Bool) → (a && b) ≡ true → (a ≡ true) × (b ≡ true)
-both true b h = (refl, h)
-both false b h = cc
-
-pub and_true : (a b : Bool) → a ≡ true → b ≡ true → (a && b) ≡ true
-and_true true b e h = h
-and_true false b e h = e

@@ -26,8 +26,10 @@ KindMisuses t w at k there = (x : List ℕ) × (k ≡ kinds.Named x) × (there �
 abbrev pub TargetMisuses : NameTable → Misuse → FormKind → Place → Type 0
 TargetMisuses t w k there = (x : List ℕ) × (v : ℕ) × (k ≡ Set x there v) × (is_misuse w (known t x) ≡ true)
 
-expr_misuse : (t : NameTable) (w : Misuse) (at : Place) (k : ExprKind) → IsEarliest (KindMisuses t w at k) (misuse_at t w at k)
-expr_misuse t w at (kinds.Named x) = like (λ there. (is_misuse w (known t x) ≡ true) × (there ≡ at)) (KindMisuses t w at (kinds.Named x))
+expr_misuse : (t : NameTable) (w : Misuse) (at : Place) (k : ExprKind)
+    → IsEarliest (KindMisuses t w at k) (misuse_at t w at k)
+expr_misuse t w at (kinds.Named x) =
+    like (λ there. (is_misuse w (known t x) ≡ true) × (there ≡ at)) (KindMisuses t w at (kinds.Named x))
     (λ there (bad, same). (x, refl, same, bad)) (λ there (y, is, same, bad). (let e : x ≡ y = cc in rw e bad, same))
     (cond (is_misuse w (known t x)) (Some at) None) (when (is_misuse w (known t x)) at)
 expr_misuse t w at (kinds.Number n) = λ there (y, is, same, bad). cc
@@ -35,9 +37,12 @@ expr_misuse t w at kinds.True = λ there (y, is, same, bad). cc
 expr_misuse t w at kinds.False = λ there (y, is, same, bad). cc
 expr_misuse t w at (kinds.Apply op k args) = λ there (y, is, same, bad). cc
 
-pub target_misuses : (t : NameTable) (w : Misuse) (k : FormKind) → IsEarliest (TargetMisuses t w k) (target_misuse t w k)
-target_misuses t w (Set x at v) = like (λ there. (is_misuse w (known t x) ≡ true) × (there ≡ at)) (TargetMisuses t w (Set x at v))
-    (λ there (bad, same). (x, v, ap (λ (p : Place). Set x p v) (sym same), bad)) (λ there (y, u, is, bad). (let e : x ≡ y = cc in rw e bad, cc))
+pub target_misuses : (t : NameTable) (w : Misuse) (k : FormKind)
+    → IsEarliest (TargetMisuses t w k) (target_misuse t w k)
+target_misuses t w (Set x at v) =
+    like (λ there. (is_misuse w (known t x) ≡ true) × (there ≡ at)) (TargetMisuses t w (Set x at v))
+    (λ there (bad, same). (x, v, ap (λ (p : Place). Set x p v) (sym same), bad))
+    (λ there (y, u, is, bad). (let e : x ≡ y = cc in rw e bad, cc))
     (cond (is_misuse w (known t x)) (Some at) None) (when (is_misuse w (known t x)) at)
 target_misuses t w (Cond branches) = λ there (y, u, is, bad). cc
 target_misuses t w (Par forms) = λ there (y, u, is, bad). cc
@@ -50,7 +55,9 @@ abbrev pub Misuses : Program → NameTable → Misuse → Place → Type 0
 Misuses p t w at = (x : List ℕ) × Uses p x at × (is_misuse w (known t x) ≡ true)
 
 pub misuses : (p : Program) (t : NameTable) (w : Misuse) → IsEarliest (Misuses p t w) (earliest_misuse t w p)
-misuses p t w = like (λ at. Found p.exprs (λ (x : Expr). KindMisuses t w x.place x.kind at) ⊎ Found p.forms (λ (y : Form). TargetMisuses t w y.kind at)) (Misuses p t w)
+misuses p t w =
+    like (λ at. Found p.exprs (λ (x : Expr). KindMisuses t w x.place x.kind at)
+    ⊎ Found p.forms (λ (y : Form). TargetMisuses t w y.kind at)) (Misuses p t w)
     (λ at h. elim h [
       | inl (e, y, there, (x, is, same, bad)) ↦ (x, inl (e, y, there, is, same), bad)
       | inr (f, y, there, (x, v, is, bad)) ↦ (x, inr (f, y, v, there, is), bad)
@@ -60,7 +67,11 @@ misuses p t w = like (λ at. Found p.exprs (λ (x : Expr). KindMisuses t w x.pla
       | inr (f, y, v, there, is) ↦ inr (f, y, there, (x, v, is, bad))
     ])
     (earliest_misuse t w p)
-    (either (λ at. Found p.exprs (λ (x : Expr). KindMisuses t w x.place x.kind at)) (λ at. Found p.forms (λ (y : Form). TargetMisuses t w y.kind at))
-    (earliest (λ (x : Expr). misuse_at t w x.place x.kind) p.exprs) (earliest (λ (y : Form). target_misuse t w y.kind) p.forms)
-    (in_list (λ (x : Expr). KindMisuses t w x.place x.kind) (λ (x : Expr). misuse_at t w x.place x.kind) (λ (x : Expr). expr_misuse t w x.place x.kind) p.exprs)
-    (in_list (λ (y : Form). TargetMisuses t w y.kind) (λ (y : Form). target_misuse t w y.kind) (λ (y : Form). target_misuses t w y.kind) p.forms))
+    (either (λ at. Found p.exprs (λ (x : Expr). KindMisuses t w x.place x.kind at))
+    (λ at. Found p.forms (λ (y : Form). TargetMisuses t w y.kind at))
+    (earliest (λ (x : Expr). misuse_at t w x.place x.kind) p.exprs)
+    (earliest (λ (y : Form). target_misuse t w y.kind) p.forms)
+    (in_list (λ (x : Expr). KindMisuses t w x.place x.kind) (λ (x : Expr). misuse_at t w x.place x.kind)
+    (λ (x : Expr). expr_misuse t w x.place x.kind) p.exprs)
+    (in_list (λ (y : Form). TargetMisuses t w y.kind) (λ (y : Form). target_misuse t w y.kind)
+    (λ (y : Form). target_misuses t w y.kind) p.forms))

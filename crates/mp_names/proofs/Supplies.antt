@@ -1,9 +1,11 @@
 -- Second definitions of one kind.
-use Rattle.std.proofs.Common.{◌≡◌, ◌⊎◌, ℕ, zero, suc, ◌<◌, ◌≤◌, List, [], ◌∷◌, ◌++◌, Bool, true, false, refl, sym, ap, ◌∙◌, inl, inr, arith, Option, Some, None, length, get_or, take, ◌+◌}
+use Rattle.std.proofs.Common.{◌≡◌, ◌⊎◌, ℕ, zero, suc, ◌<◌, ◌≤◌, List, [], ◌∷◌, ◌++◌, Bool, true, false, refl, sym, ap}
+use Rattle.std.proofs.Common.{◌∙◌, inl, inr, arith, Option, Some, None, length, get_or, take, ◌+◌}
 use Rattle.std.proofs.lemmas.List.{take_more, take_all}
 use Rattle.mp_base.specs.declared.refusal.Place.{Place}
 use Rattle.mp_program.specs.declared.program.What.{What}
-use Rattle.mp_program.specs.declared.program.What.TheVariants.{Power, Ground, Phia, Phib, Phic, Constant, Register, Flag, Port, Signal}
+use Rattle.mp_program.specs.declared.program.What.TheVariants.{Power, Ground, Phia, Phib, Phic, Constant, Register}
+use Rattle.mp_program.specs.declared.program.What.TheVariants.{Flag, Port, Signal}
 use Rattle.mp_program.specs.declared.program.Def.{Def}
 use Rattle.mp_program.specs.Names.{is_supply}
 use Rattle.mp_rules.specs.Entries.{IsAt}
@@ -13,7 +15,8 @@ use Rattle.mp_names.specs.Repeats.{Defines, Repeats, RepeatsSupply}
 use Rattle.mp_names.proofs.Earliest.{like, either}
 
 -- an entry of a list with one more is one of the list, or the last
-at_push : (ds : List Def) (d : Def) (k : ℕ) (b : Def) → IsAt (ds ++ d ∷ []) k b → IsAt ds k b ⊎ ((k ≡ length ds) × (b ≡ d))
+at_push : (ds : List Def) (d : Def) (k : ℕ) (b : Def) → IsAt (ds ++ d ∷ []) k b
+    → IsAt ds k b ⊎ ((k ≡ length ds) × (b ≡ d))
 at_push [] d zero b (lt, is) = inr (refl, is)
 at_push [] d (suc k) b (lt, is) = absurd (omega (arith, lt))
 at_push (x ∷ xs) d zero b (lt, is) = inl (omega arith, is)
@@ -25,42 +28,58 @@ at_push (x ∷ xs) d (suc k) b (lt, is) = elim (at_push xs d k b (omega (arith, 
 push_at : (ds : List Def) (d : Def) (k : ℕ) (b : Def) → IsAt ds k b → IsAt (ds ++ d ∷ []) k b
 push_at [] d k b (lt, is) = absurd (omega (arith, lt))
 push_at (x ∷ xs) d zero b (lt, is) = (omega arith, is)
-push_at (x ∷ xs) d (suc k) b (lt, is) = let (below, same) = push_at xs d k b (omega (arith, lt), is) in (omega (arith, below), same)
+push_at (x ∷ xs) d (suc k) b (lt, is) = let (below, same) = push_at xs d k b (omega (arith, lt), is) in
+    (omega (arith, below), same)
 
 last_at : (ds : List Def) (d : Def) → IsAt (ds ++ d ∷ []) (length ds) d
 last_at [] d = (omega arith, refl)
 last_at (x ∷ xs) d = let (below, same) = last_at xs d in (omega (arith, below), same)
 
 -- what repeats in a list with one more definition repeats in the list, or is the last and the kind was there
-repeats_push : (ds : List Def) (d : Def) (w : What) (at : Place) → Repeats (ds ++ d ∷ []) w at → Repeats ds w at ⊎ (Defines ds w × (d.what ≡ w) × (at ≡ d.place))
+repeats_push : (ds : List Def) (d : Def) (w : What) (at : Place) → Repeats (ds ++ d ∷ []) w at
+    → Repeats ds w at ⊎ (Defines ds w × (d.what ≡ w) × (at ≡ d.place))
 repeats_push ds d w at (j, k, a, b, first, second, lt, kind, same, is) = elim (at_push ds d j a first) [
-  | inr (e, _) ↦ absurd (let top = second.0 in let there = last_at ds d in elim (at_push ds d k b second) [ inl (below, _) ↦ omega (arith, below, lt, e) | inr (f, _) ↦ omega (arith, f, e, lt) ])
+  | inr (e, _) ↦
+      absurd (let top = second.0 in let there = last_at ds d in
+      elim (at_push ds d k b second) [
+        | inl (below, _) ↦ omega (arith, below, lt, e)
+        | inr (f, _) ↦ omega (arith, f, e, lt)
+      ])
   | inl before ↦ elim (at_push ds d k b second) [
     | inl there ↦ inl (j, k, a, b, before, there, lt, kind, same, is)
-    | inr (f, last) ↦ inr ((j, a, before, kind), sym (ap (λ (x : Def). x.what) last) ∙ same, is ∙ ap (λ (x : Def). x.place) last)
+    | inr (f, last) ↦
+        inr ((j, a, before, kind), sym (ap (λ (x : Def). x.what) last) ∙ same, is ∙ ap (λ (x : Def). x.place) last)
   ]
 ]
 
 repeats_before : (ds : List Def) (d : Def) (w : What) (at : Place) → Repeats ds w at → Repeats (ds ++ d ∷ []) w at
-repeats_before ds d w at (j, k, a, b, first, second, lt, kind, same, is) = (j, k, a, b, push_at ds d j a first, push_at ds d k b second, lt, kind, same, is)
+repeats_before ds d w at (j, k, a, b, first, second, lt, kind, same, is) =
+    (j, k, a, b, push_at ds d j a first, push_at ds d k b second, lt, kind, same, is)
 
 -- a definition that isn't of the kind, or is the first of it
-no_repeat : (ds : List Def) (d : Def) (w : What) (found : Option Place) → (Defines ds w → d.what ≡ w → ⊥) → IsEarliest (Repeats ds w) found
+no_repeat : (ds : List Def) (d : Def) (w : What) (found : Option Place) → (Defines ds w → d.what ≡ w → ⊥)
+    → IsEarliest (Repeats ds w) found
     → IsEarliest (Repeats (ds ++ d ∷ []) w) found
 no_repeat ds d w found other = like (Repeats ds w) (Repeats (ds ++ d ∷ []) w) (repeats_before ds d w)
-    (λ at h. elim (repeats_push ds d w at h) [ inl before ↦ before | inr (defined, same, is) ↦ absurd (other defined same) ]) found
+    (λ at h. elim (repeats_push ds d w at h) [
+      | inl before ↦ before
+      | inr (defined, same, is) ↦ absurd (other defined same)
+    ]) found
 
 -- another definition of the kind
-a_repeat : (ds : List Def) (d : Def) (w : What) (found : Option Place) → Defines ds w → d.what ≡ w → IsEarliest (Repeats ds w) found
+a_repeat : (ds : List Def) (d : Def) (w : What) (found : Option Place) → Defines ds w → d.what ≡ w
+    → IsEarliest (Repeats ds w) found
     → IsEarliest (Repeats (ds ++ d ∷ []) w) (earlier found d.place)
-a_repeat ds d w found (j, a, before, kind) same h = like (λ at. Repeats ds w at ⊎ (at ≡ d.place)) (Repeats (ds ++ d ∷ []) w)
+a_repeat ds d w found (j, a, before, kind) same h =
+    like (λ at. Repeats ds w at ⊎ (at ≡ d.place)) (Repeats (ds ++ d ∷ []) w)
     (λ at g. elim g [
       | inl there ↦ repeats_before ds d w at there
       | inr is ↦ (j, length ds, a, d, push_at ds d j a before, last_at ds d, before.0, kind, same, is)
     ])
     (λ at g. elim (repeats_push ds d w at g) [ inl there ↦ inl there | inr (defined, is_kind, is) ↦ inr is ])
     (earlier found d.place)
-    (either (Repeats ds w) (λ at. at ≡ d.place) found (Some d.place) h (refl, λ at is. omega (arith, ap (λ (p : Place). p.offset) is)))
+    (either (Repeats ds w) (λ at. at ≡ d.place) found (Some d.place) h
+    (refl, λ at is. omega (arith, ap (λ (p : Place). p.offset) is)))
 
 defines_push : (ds : List Def) (d : Def) (w : What) → Defines ds w ⊎ (d.what ≡ w) → Defines (ds ++ d ∷ []) w
 defines_push ds d w (inl (j, a, there, kind)) = (j, a, push_at ds d j a there, kind)
@@ -89,16 +108,21 @@ one_more : (ds : List Def) (i : ℕ) (d : Def) → i < length ds → d ≡ get_o
 one_more ds i d lt is = take_more ds i d lt ∙ ap (λ x. take i ds ++ x ∷ []) (sym is)
 
 -- a definition of another kind
-pub watched_other : (ds : List Def) (i : ℕ) (d : Def) (w : What) (found : Option Place) (seen : Bool) → i < length ds → d ≡ get_or ds i d
+pub watched_other : (ds : List Def) (i : ℕ) (d : Def) (w : What) (found : Option Place) (seen : Bool) → i < length ds
+    → d ≡ get_or ds i d
     → (d.what ≡ w → ⊥) → Watched (take i ds) w found seen → Watched (take (i + 1) ds) w found seen
 watched_other ds i d w found seen lt is other h = rw (one_more ds i d lt is) (record {
   repeat = no_repeat (take i ds) d w found (λ defined same. other same) h.repeat;
   defined = λ e. defines_push (take i ds) d w (inl (h.defined e));
-  absent = λ e defined. elim (defines_before (take i ds) d w defined) [ inl before ↦ h.absent e before | inr same ↦ other same ];
+  absent = λ e defined. elim (defines_before (take i ds) d w defined) [
+    | inl before ↦ h.absent e before
+    | inr same ↦ other same
+  ];
 })
 
 -- the first of the kind
-pub watched_first : (ds : List Def) (i : ℕ) (d : Def) (w : What) (found : Option Place) (seen : Bool) → i < length ds → d ≡ get_or ds i d
+pub watched_first : (ds : List Def) (i : ℕ) (d : Def) (w : What) (found : Option Place) (seen : Bool) → i < length ds
+    → d ≡ get_or ds i d
     → d.what ≡ w → seen ≡ false → Watched (take i ds) w found seen → Watched (take (i + 1) ds) w found true
 watched_first ds i d w found seen lt is same new h = rw (one_more ds i d lt is) (record {
   repeat = no_repeat (take i ds) d w found (λ defined kind. h.absent new defined) h.repeat;
@@ -107,15 +131,18 @@ watched_first ds i d w found seen lt is same new h = rw (one_more ds i d lt is) 
 })
 
 -- another of the kind
-pub watched_again : (ds : List Def) (i : ℕ) (d : Def) (w : What) (found : Option Place) (seen : Bool) → i < length ds → d ≡ get_or ds i d
-    → d.what ≡ w → seen ≡ true → Watched (take i ds) w found seen → Watched (take (i + 1) ds) w (earlier found d.place) true
+pub watched_again : (ds : List Def) (i : ℕ) (d : Def) (w : What) (found : Option Place) (seen : Bool) → i < length ds
+    → d ≡ get_or ds i d
+    → d.what ≡ w → seen ≡ true → Watched (take i ds) w found seen
+    → Watched (take (i + 1) ds) w (earlier found d.place) true
 watched_again ds i d w found seen lt is same old h = rw (one_more ds i d lt is) (record {
   repeat = a_repeat (take i ds) d w found (h.defined old) same h.repeat;
   defined = λ e. defines_push (take i ds) d w (inr same);
   absent = λ e. cc;
 })
 
-pub all_watched : (ds : List Def) (i : ℕ) (w : What) (found : Option Place) (seen : Bool) → length ds ≤ i → Watched (take i ds) w found seen
+pub all_watched : (ds : List Def) (i : ℕ) (w : What) (found : Option Place) (seen : Bool) → length ds ≤ i
+    → Watched (take i ds) w found seen
     → IsEarliest (Repeats ds w) found
 all_watched ds i w found seen le h = rw (take_all i ds le) at h.repeat
 
@@ -125,7 +152,8 @@ supply_repeats ds w at supply (j, k, a, b, first, second, lt, kind, same, is) =
 
 -- a supply that repeats is one of the five
 abbrev OneOfFive : List Def → Place → Type 0
-OneOfFive ds at = (((Repeats ds Power at ⊎ Repeats ds Ground at) ⊎ Repeats ds Phia at) ⊎ Repeats ds Phib at) ⊎ Repeats ds Phic at
+OneOfFive ds at =
+    (((Repeats ds Power at ⊎ Repeats ds Ground at) ⊎ Repeats ds Phia at) ⊎ Repeats ds Phib at) ⊎ Repeats ds Phic at
 
 which : (ds : List Def) (w : What) (at : Place) → is_supply w ≡ true → Repeats ds w at → OneOfFive ds at
 which ds Power at e h = inl (inl (inl (inl h)))
@@ -147,12 +175,17 @@ told ds at (inl (inr x)) = supply_repeats ds Phib at refl x
 told ds at (inr x) = supply_repeats ds Phic at refl x
 
 -- the earliest of the five
-pub of_five : (ds : List Def) (a b c d e : Option Place) → IsEarliest (Repeats ds Power) a → IsEarliest (Repeats ds Ground) b → IsEarliest (Repeats ds Phia) c
+pub of_five : (ds : List Def) (a b c d e : Option Place) → IsEarliest (Repeats ds Power) a
+    → IsEarliest (Repeats ds Ground) b → IsEarliest (Repeats ds Phia) c
     → IsEarliest (Repeats ds Phib) d → IsEarliest (Repeats ds Phic) e
     → IsEarliest (RepeatsSupply ds) (earlier_of (earlier_of (earlier_of (earlier_of a b) c) d) e)
 of_five ds a b c d e power ground phia phib phic = like (OneOfFive ds) (RepeatsSupply ds) (told ds)
-    (λ at (j, k, x, y, first, second, lt, supply, same, is). which ds x.what at supply (j, k, x, y, first, second, lt, refl, sym same, is))
+    (λ at (j, k, x, y, first, second, lt, supply, same, is). which ds x.what at supply
+    (j, k, x, y, first, second, lt, refl, sym same, is))
     (earlier_of (earlier_of (earlier_of (earlier_of a b) c) d) e)
-    (either (λ at. ((Repeats ds Power at ⊎ Repeats ds Ground at) ⊎ Repeats ds Phia at) ⊎ Repeats ds Phib at) (Repeats ds Phic) (earlier_of (earlier_of (earlier_of a b) c) d) e
-    (either (λ at. (Repeats ds Power at ⊎ Repeats ds Ground at) ⊎ Repeats ds Phia at) (Repeats ds Phib) (earlier_of (earlier_of a b) c) d
-    (either (λ at. Repeats ds Power at ⊎ Repeats ds Ground at) (Repeats ds Phia) (earlier_of a b) c (either (Repeats ds Power) (Repeats ds Ground) a b power ground) phia) phib) phic)
+    (either (λ at. ((Repeats ds Power at ⊎ Repeats ds Ground at) ⊎ Repeats ds Phia at) ⊎ Repeats ds Phib at)
+    (Repeats ds Phic) (earlier_of (earlier_of (earlier_of a b) c) d) e
+    (either (λ at. (Repeats ds Power at ⊎ Repeats ds Ground at) ⊎ Repeats ds Phia at) (Repeats ds Phib)
+    (earlier_of (earlier_of a b) c) d
+    (either (λ at. Repeats ds Power at ⊎ Repeats ds Ground at) (Repeats ds Phia) (earlier_of a b) c
+    (either (Repeats ds Power) (Repeats ds Ground) a b power ground) phia) phib) phic)

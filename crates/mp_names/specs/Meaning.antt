@@ -14,12 +14,14 @@ use Rattle.mp_names.specs.declared.meaning.Meanings.{Meanings}
 pub record AreMeanings (p : Program) (m : Meanings) : Type 0 where
   pub as_many_exprs : length m.exprs ≡ length p.exprs
   pub as_many_targets : length m.targets ≡ length p.forms
-  pub exprs : (e : ℕ) (x : Expr) (name : List ℕ) → IsAt p.exprs e x → x.kind ≡ Named name → slice_index m.exprs e ≡ index_of p.defs name
+  pub exprs : (e : ℕ) (x : Expr) (name : List ℕ) → IsAt p.exprs e x → x.kind ≡ Named name
+      → slice_index m.exprs e ≡ index_of p.defs name
   pub targets : (f : ℕ) (y : Form) (name : List ℕ) (at : Place) (v : ℕ) → IsAt p.forms f y → y.kind ≡ Set name at v
       → slice_index m.targets f ≡ index_of p.defs name
 
 -- what is named by an expression or a `setq` is a definition
 pub record NamesDefinitions (p : Program) (m : Meanings) : Type 0 where
-  pub exprs : (e : ℕ) (x : Expr) (name : List ℕ) → IsAt p.exprs e x → x.kind ≡ Named name → slice_index m.exprs e < length p.defs
+  pub exprs : (e : ℕ) (x : Expr) (name : List ℕ) → IsAt p.exprs e x → x.kind ≡ Named name
+      → slice_index m.exprs e < length p.defs
   pub targets : (f : ℕ) (y : Form) (name : List ℕ) (at : Place) (v : ℕ) → IsAt p.forms f y → y.kind ≡ Set name at v
       → slice_index m.targets f < length p.defs

@@ -33,4 +33,6 @@ target_misuse t w _ = None
 
 -- the earliest misuse in expressions and targets
 abbrev pub earliest_misuse : NameTable → Misuse → Program → Option Place
-earliest_misuse t w p = earlier_of (earliest (λ (x : Expr). misuse_at t w x.place x.kind) p.exprs) (earliest (λ (y : Form). target_misuse t w y.kind) p.forms)
+earliest_misuse t w p =
+    earlier_of (earliest (λ (x : Expr). misuse_at t w x.place x.kind) p.exprs)
+    (earliest (λ (y : Form). target_misuse t w y.kind) p.forms)

@@ -1,5 +1,6 @@
 -- What is known of a name.
-use Rattle.std.specs.Prelude.{ℕ, List, [], ◌∷◌, ◌++◌, true, false, not, ◌||◌, ◌&&◌, Option, Some, None, unwrap_or, map, filter, suc, if◌then◌else◌}
+use Rattle.std.specs.Prelude.{ℕ, List, [], ◌∷◌, ◌++◌, true, false, not, ◌||◌, ◌&&◌, Option, Some, None, unwrap_or, map}
+use Rattle.std.specs.Prelude.{filter, suc, if◌then◌else◌}
 use Rattle.std.specs.Option.{option_map}
 use Rattle.std.specs.List.{list_any}
 use Rattle.mp_program.specs.declared.program.Def.{Def}
@@ -24,11 +25,14 @@ least_offset (n ∷ ns) x = if is_same n.name x then lesser (least_offset ns x) 
 -- the second least offset of what has a name
 abbrev pub second_offset : List Naming → List ℕ → Option ℕ
 second_offset [] x = None
-second_offset (n ∷ ns) x = if is_same n.name x then second_with (least_offset ns x) (second_offset ns x) (n.place).offset else second_offset ns x
+second_offset (n ∷ ns) x =
+    if is_same n.name x then second_with (least_offset ns x) (second_offset ns x) (n.place).offset
+    else second_offset ns x
 
 -- what has a name, among these
 abbrev pub namings_in : List Def → List Process → List Naming
-namings_in defs processes = map def_naming (filter (λ (d : Def). not (is_supply d.what)) defs) ++ map process_naming processes
+namings_in defs processes =
+    map def_naming (filter (λ (d : Def). not (is_supply d.what)) defs) ++ map process_naming processes
 
 -- what is known of a name, by these
 abbrev pub named_in : List Def → List Process → List ℕ → Named
@@ -60,4 +64,11 @@ with_def n k d = record {
 
 -- what is known of a name of a further process
 abbrev pub with_process : Named → Process → Named
-with_process n q = record { first = n.first; least = lesser n.least (q.place).offset; second = second_with n.least n.second (q.place).offset; process = true; unset = n.unset }
+with_process n q =
+    record {
+      first = n.first;
+      least = lesser n.least (q.place).offset;
+      second = second_with n.least n.second (q.place).offset;
+      process = true;
+      unset = n.unset;
+    }

@@ -1,5 +1,6 @@
 -- Names that are repeated.
-use Rattle.std.specs.Prelude.{◌≡◌, ◌<◌, ℕ, List, Bool, true, false, not, ◌||◌, ◌&&◌, nat_le, Option, Some, None, if◌then◌else◌}
+use Rattle.std.specs.Prelude.{◌≡◌, ◌<◌, ℕ, List, Bool, true, false, not, ◌||◌, ◌&&◌, nat_le, Option, Some, None}
+use Rattle.std.specs.Prelude.{if◌then◌else◌}
 use Rattle.mp_base.specs.declared.refusal.Place.{Place}
 use Rattle.mp_program.specs.declared.program.What.{What}
 use Rattle.mp_program.specs.declared.program.Def.{Def}
@@ -33,8 +34,10 @@ Defines defs w = (j : ℕ) × (a : Def) × IsAt defs j a × (a.what ≡ w)
 
 -- the place of a definition that has one of the same kind before it
 abbrev pub Repeats : List Def → What → Place → Type 0
-Repeats defs w at = (j k : ℕ) × (a b : Def) × IsAt defs j a × IsAt defs k b × (j < k) × (a.what ≡ w) × (b.what ≡ w) × (at ≡ b.place)
+Repeats defs w at =
+    (j k : ℕ) × (a b : Def) × IsAt defs j a × IsAt defs k b × (j < k) × (a.what ≡ w) × (b.what ≡ w) × (at ≡ b.place)
 
 -- the place of a second definition of a supply
 abbrev pub RepeatsSupply : List Def → Place → Type 0
-RepeatsSupply defs at = (j k : ℕ) × (a b : Def) × IsAt defs j a × IsAt defs k b × (j < k) × (is_supply a.what ≡ true) × (a.what ≡ b.what) × (at ≡ b.place)
+RepeatsSupply defs at = (j k : ℕ) × (a b : Def) × IsAt defs j a × IsAt defs k b × (j < k) × (is_supply a.what ≡ true)
+    × (a.what ≡ b.what) × (at ≡ b.place)

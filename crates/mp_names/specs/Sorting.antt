@@ -30,7 +30,8 @@ is_same_sort _ _ = false
 
 -- the sort of a name, by a table
 abbrev pub sort_in : List Def → NameTable → List ℕ → Option Sort
-sort_in defs t x = option_and_then (λ k. option_and_then (λ (d : Def). what_sort d.what) (slice_get defs k)) (known t x).first
+sort_in defs t x =
+    option_and_then (λ k. option_and_then (λ (d : Def). what_sort d.what) (slice_get defs k)) (known t x).first
 
 -- the sort of an expression, by a table
 abbrev pub kind_sort : List Def → NameTable → ExprKind → Option Sort
@@ -67,4 +68,6 @@ form_misfit p t _ = None
 
 -- the earliest expression of a program that doesn't fit
 abbrev pub earliest_misfit : Program → NameTable → Option Place
-earliest_misfit p t = earlier_of (earliest (λ (x : Expr). operand_misfit p t x.kind) p.exprs) (earliest (λ (y : Form). form_misfit p t y.kind) p.forms)
+earliest_misfit p t =
+    earlier_of (earliest (λ (x : Expr). operand_misfit p t x.kind) p.exprs)
+    (earliest (λ (y : Form). form_misfit p t y.kind) p.forms)

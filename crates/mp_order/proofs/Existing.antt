@@ -1,9 +1,12 @@
 -- Where no definition reads itself through a chain, there is an order of evaluation.
-use Rattle.std.proofs.Common.{◌≡◌, ◌⊎◌, inl, inr, ℕ, zero, suc, ◌+◌, ◌<◌, ◌≤◌, List, [], ◌∷◌, true, false, replicate, refl, sym, ap, subst, length, arith, get_or}
+use Rattle.std.proofs.Common.{◌≡◌, ◌⊎◌, inl, inr, ℕ, zero, suc, ◌+◌, ◌<◌, ◌≤◌, List, [], ◌∷◌, true, false, replicate}
+use Rattle.std.proofs.Common.{refl, sym, ap, subst, length, arith, get_or}
 use Rattle.std.specs.Prelude.{slice_index, slice_set}
 use Rattle.std.specs.List.{insert, list_any}
 use Rattle.std.proofs.lemmas.Bool.{cases_lt, cases_Bool}
 use Rattle.mp_base.specs.declared.refusal.Place.{Place}
+use Rattle.mp_base.proofs.Decisions.{Decided}
+use Rattle.mp_base.proofs.Entries.{own_default}
 use Rattle.mp_program.specs.declared.program.Def.{Def}
 use Rattle.mp_program.specs.declared.program.Program.{Program}
 use Rattle.mp_program.specs.Names.{is_driven}
@@ -15,14 +18,12 @@ use Rattle.mp_order.specs.Chains.{AreReachers, Placed}
 use Rattle.mp_order.proofs.Tables.{one_entry}
 use Rattle.mp_order.proofs.Mentions.{any_of}
 use Rattle.mp_program.proofs.Definitions.{same_is}
-use Rattle.mp_order.proofs.Marks.{element, marked_inside}
+use Rattle.mp_order.proofs.Marks.{marked_inside}
 use Rattle.mp_order.proofs.Reading.{SetsLaw, ReadsLaw, read_down}
 use Rattle.mp_order.proofs.Closing.{start_driven, join}
-use Rattle.mp_order.proofs.Ordering.{Ordering, ordering_start, ordering_skip, ordering_closed, ordering_placed, ordering_done}
+use Rattle.mp_order.proofs.Ordering.{Ordering, ordering_start, ordering_skip, ordering_closed, ordering_placed}
+use Rattle.mp_order.proofs.Ordering.{ordering_done}
 use Rattle.mp_order.proofs.Paths.{Path, path_decided, path_more, path_joined}
-
-abbrev pub Decided : Type 0 → Type 0
-Decided A = A ⊎ (A → ⊥)
 
 -- ---- numbers that tell of which indices something holds
 
@@ -63,8 +64,8 @@ module _ (p : Program) where
       by (inr past) right = inr (λ (x, y, al, bl, xa, yb, dx, dy, any). omega (arith, al, past))
       by (inl al) (inr past) = inr (λ (x, y, al, bl, xa, yb, dx, dy, any). omega (arith, bl, past))
       by (inl al) (inl bl) =
-          let (x, xa) = element p.defs a al in
-          let (y, yb) = element p.defs b bl in
+          let (x, xa) = own_default p.defs a al in
+          let (y, yb) = own_default p.defs b bl in
           test x y xa yb (cases_Bool (is_driven x.what)) (cases_Bool (is_driven y.what))
           (cases_Bool (list_any (form_reads p x.name y.name) (roots p)))
         where
@@ -139,7 +140,7 @@ module _ (p : Program) where
   ordering_step : (n : ℕ) (closed order : List ℕ) → n < length p.defs → Ordering p n closed order
       → (more_closed longer : List ℕ) × Ordering p (n + 1) more_closed longer
   ordering_step n closed order lt o =
-      let (x, is) = element p.defs n lt in
+      let (x, is) = own_default p.defs n lt in
       elim (cases_Bool (is_driven x.what)) [
         | inr still ↦ (
           closed,
@@ -191,7 +192,7 @@ module _ (p : Program) where
       by chain (c, (x, y, dl, cl, xd, yc, dx, dy, any)) =
           let (r, rooted, read) = any_of (form_reads p x.name y.name) (roots p) any in
           let lt : r < length p.forms = marked_inside p sound [] r 1 (root rooted) in
-          let z = element p.forms r lt in
+          let z = own_default p.forms r lt in
           let (g, w, name, there, v, k, wg, kind, same, marked, why) =
           read_down p sound sets reads [] x.name y.name 0 (λ e el mention. omega arith) (length p.forms) r 1 z.0
           (omega arith) (lt, z.1) (root rooted) read in

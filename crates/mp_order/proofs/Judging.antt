@@ -1,5 +1,6 @@
 -- Tests of guesses: ranks, lists and weights.
-use Rattle.std.proofs.Common.{◌≡◌, ◌⊎◌, inl, inr, ℕ, zero, suc, ◌+◌, ◌<◌, ◌≤◌, List, true, sym, ◌∙◌, ap, subst, arith, get_or}
+use Rattle.std.proofs.Common.{◌≡◌, ◌⊎◌, inl, inr, ℕ, zero, suc, ◌+◌, ◌<◌, ◌≤◌, List, true, sym, ◌∙◌, ap, subst, arith}
+use Rattle.std.proofs.Common.{get_or}
 use Rattle.std.specs.Prelude.{slice_index, slice_set}
 use Rattle.std.proofs.lemmas.Bool.{cases_eq, cases_lt}
 use Rattle.std.proofs.lemmas.List.{get_or-set_other}
@@ -14,31 +15,44 @@ use Rattle.mp_order.proofs.Tables.{one_entry}
 use Rattle.mp_order.proofs.Closing.{FlagsClosed, read_driven}
 
 -- what holds of the driven definitions before n, and of the one at n if it is driven
-pub driven_more : (p : Program) (P : ℕ → Type 0) (n : ℕ) (z : Def) → IsAt p.defs n z → ((e : ℕ) → e < n → (x : Def) → IsDriven p e x → P e) → (is_driven z.what ≡ true → P n)
+pub driven_more : (p : Program) (P : ℕ → Type 0) (n : ℕ) (z : Def) → IsAt p.defs n z
+    → ((e : ℕ) → e < n → (x : Def) → IsDriven p e x → P e) → (is_driven z.what ≡ true → P n)
     → (e : ℕ) → e < n + 1 → (x : Def) → IsDriven p e x → P e
 driven_more p P n z at below here e lt x driven = elim (cases_lt e n) [
   | inl less ↦ below e less x driven
-  | inr above ↦ let same : e ≡ n = omega (arith, lt, above) in subst P (sym same) (here (ap (λ (y : Def). is_driven y.what) (one_entry p.defs n e z x (sym same) at driven.0) ∙ driven.1))
+  | inr above ↦ let same : e ≡ n = omega (arith, lt, above) in
+      subst P (sym same)
+      (here (ap (λ (y : Def). is_driven y.what) (one_entry p.defs n e z x (sym same) at driven.0) ∙ driven.1))
 ]
 
-pub kept_driven : (p : Program) (xs : List ℕ) (n v : ℕ) (z : Def) → IsDriven p n z → WeighsDriven p xs → WeighsDriven p (slice_set xs n v)
+pub kept_driven : (p : Program) (xs : List ℕ) (n v : ℕ) (z : Def) → IsDriven p n z → WeighsDriven p xs
+    → WeighsDriven p (slice_set xs n v)
 kept_driven p xs n v z driven w d some = elim (cases_eq d n) [
   | inl same ↦ (z, (let P : ℕ → Type 0 = λ i. IsDriven p i z in subst P (sym same) driven))
-  | inr ne ↦ w d (let e : get_or (slice_set xs n v) d 0 ≡ get_or xs d 0 = get_or-set_other xs n d v 0 ne in omega (arith, e, some))
+  | inr ne ↦
+      w d (let e : get_or (slice_set xs n v) d 0 ≡ get_or xs d 0 = get_or-set_other xs n d v 0 ne in
+      omega (arith, e, some))
 ]
 
-pub listing_order : (p : Program) (ranks loose order : List ℕ) → IsRanking p ranks loose → IsListing p ranks order → ((a b : ℕ) → Reads p a b → slice_index loose a ≡ 0) → IsOrder p order
+pub listing_order : (p : Program) (ranks loose order : List ℕ) → IsRanking p ranks loose → IsListing p ranks order
+    → ((a b : ℕ) → Reads p a b → slice_index loose a ≡ 0) → IsOrder p order
 listing_order p ranks loose order r l none = record {
   driven = λ k kl. (let ((x, ((lt, is), driven)), rank) = l.only k kl in (x, lt, is, driven));
-  once = λ j k jk kl same. omega (arith, (l.only j (omega (arith, jk, kl))).1, (l.only k kl).1, ap (λ i. get_or ranks i 0) same, jk);
+  once = λ j k jk kl same. omega
+      (arith, (l.only j (omega (arith, jk, kl))).1, (l.only k kl).1, ap (λ i. get_or ranks i 0) same, jk);
   all = λ d x lt is driven. (let (k, kl, at, rank) = l.all d x ((lt, is), driven) in (k, kl, at));
   after = λ k b kl reads.
       let (y, driven) = read_driven p (get_or order k 0) b reads in
-      let (j, jl, at, rank) = l.all b y driven in
-      (j, omega (arith, rank, (l.only k kl).1, r.strict (get_or order k 0) b reads (none (get_or order k 0) b reads)), at);
+      let (j, jl, at, rank) = l.all b y driven in (
+        j,
+        omega
+            (arith, rank, (l.only k kl).1, r.strict (get_or order k 0) b reads (none (get_or order k 0) b reads)),
+        at,
+      );
 }
 
-chain_falls : (p : Program) (ranks loose : List ℕ) → IsRanking p ranks loose → (a c : ℕ) → Chain p a c → (slice_index ranks c ≤ slice_index ranks a)
+chain_falls : (p : Program) (ranks loose : List ℕ) → IsRanking p ranks loose → (a c : ℕ) → Chain p a c
+    → (slice_index ranks c ≤ slice_index ranks a)
     × (slice_index loose a ≡ 0 → slice_index ranks c < slice_index ranks a)
 chain_falls p ranks loose r a c (link reads) = (r.weak a c reads, r.strict a c reads)
 chain_falls p ranks loose r a c (more {b = b} reads chain) =
@@ -51,8 +65,10 @@ ranking_flags p ranks loose r = λ d chain. elim (cases_lt 0 (slice_index loose 
   | inr none ↦ absurd (omega (arith, (chain_falls p ranks loose r d d chain).1 (omega (arith, none))))
 ]
 
-climbing : (p : Program) (target : ℕ) (weights demands : List ℕ) → WeighsDriven p weights → AreDemands p weights demands → Climbs demands weights target
-    → (n d : ℕ) → slice_index weights target ≤ slice_index weights d + n → 0 < slice_index weights d → (d ≡ target) ⊎ Chain p d target
+climbing : (p : Program) (target : ℕ) (weights demands : List ℕ) → WeighsDriven p weights
+    → AreDemands p weights demands → Climbs demands weights target
+    → (n d : ℕ) → slice_index weights target ≤ slice_index weights d + n → 0 < slice_index weights d
+    → (d ≡ target) ⊎ Chain p d target
 climbing p target weights demands w h c zero d le some = elim (cases_eq d target) [
   | inl same ↦ inl same
   | inr ne ↦
@@ -73,11 +89,13 @@ climbing p target weights demands w h c (suc n) d le some = elim (cases_eq d tar
       ]
 ]
 
-pub climbs_closed : (p : Program) (target : ℕ) (weights demands : List ℕ) → WeighsDriven p weights → AreDemands p weights demands → Climbs demands weights target → Chain p target target
+pub climbs_closed : (p : Program) (target : ℕ) (weights demands : List ℕ) → WeighsDriven p weights
+    → AreDemands p weights demands → Climbs demands weights target → Chain p target target
 climbs_closed p target weights demands w h c =
     let (x, driven) = w target c.top in
     let (b, reads, weight) = h.met target x driven c.begins in
-    elim (climbing p target weights demands w h c (slice_index weights target) b (omega arith) (omega (arith, weight, c.begins))) [
+    elim (climbing p target weights demands w h c (slice_index weights target) b (omega arith)
+    (omega (arith, weight, c.begins))) [
       | inl same ↦ (let P : ℕ → Type 0 = λ i. Reads p target i in link (subst P same reads))
       | inr chain ↦ more reads chain
     ]

@@ -1,5 +1,6 @@
 -- The greatest weights of what expressions mention.
-use Rattle.std.proofs.Common.{◌≡◌, ◌≢◌, inl, inr, ℕ, suc, ◌+◌, ◌<◌, ◌≤◌, List, [], ◌∷◌, Bool, true, false, refl, sym, ◌∙◌, ap, length, arith, get_or}
+use Rattle.std.proofs.Common.{◌≡◌, ◌≢◌, inl, inr, ℕ, suc, ◌+◌, ◌<◌, ◌≤◌, List, [], ◌∷◌, Bool, true, false, refl, sym}
+use Rattle.std.proofs.Common.{◌∙◌, ap, length, arith, get_or}
 use Rattle.std.specs.Prelude.{◌||◌, slice_index, slice_set, Contains}
 use Rattle.std.specs.List.{list_any}
 use Rattle.std.proofs.lemmas.Bool.{cases_eq}
@@ -18,21 +19,25 @@ use Rattle.mp_program.proofs.Definitions.{is_same_of, same_is}
 use Rattle.mp_names.specs.declared.meaning.Meanings.{Meanings}
 use Rattle.mp_names.specs.Meaning.{AreMeanings}
 use Rattle.mp_rules.specs.Entries.{IsAt}
+use Rattle.mp_rules.proofs.ListEntries.{all_at}
 use Rattle.mp_order.specs.Demands.{IsDriven, OwnNames, WeighsDriven, AreTops}
 use Rattle.mp_order.proofs.Names.{meant}
-use Rattle.mp_order.proofs.Marks.{all_at, entry}
+use Rattle.mp_order.proofs.Marks.{entry}
 
 -- what mentions and sums of tests say
-pub any_of : {X : Type 0} (test : X → Bool) (xs : List X) → list_any test xs ≡ true → (x : X) × Contains xs x × (test x ≡ true)
+pub any_of : {X : Type 0} (test : X → Bool) (xs : List X) → list_any test xs ≡ true
+    → (x : X) × Contains xs x × (test x ≡ true)
 any_of test [] h = absurd (cc)
 any_of {X} test (x ∷ xs) h = by_first (test x) refl h (λ r. any_of test xs r)
   where
-    by_first : (b : Bool) → test x ≡ b → (b || list_any test xs) ≡ true → (list_any test xs ≡ true → (y : X) × Contains xs y × (test y ≡ true))
+    by_first : (b : Bool) → test x ≡ b → (b || list_any test xs) ≡ true
+        → (list_any test xs ≡ true → (y : X) × Contains xs y × (test y ≡ true))
         → (y : X) × Contains (x ∷ xs) y × (test y ≡ true)
     by_first true e h rest = (x, (0, omega arith, refl), e)
     by_first false e h rest = let (y, (k, lt, is), t) = rest h in (y, (suc k, omega (arith, lt), is), t)
 
-pub any_at : {X : Type 0} (test : X → Bool) (xs : List X) (x : X) → Contains xs x → test x ≡ true → list_any test xs ≡ true
+pub any_at : {X : Type 0} (test : X → Bool) (xs : List X) (x : X) → Contains xs x → test x ≡ true
+    → list_any test xs ≡ true
 any_at test xs x (k, lt, is) t = list_any_at test xs k x lt (ap test is ∙ t)
 
 -- top is the greatest weight of a driven definition that passes
@@ -40,14 +45,16 @@ pub record IsTop (p : Program) (weights : List ℕ) (passes : List ℕ → Bool)
   pub bound : (d : ℕ) (x : Def) → IsDriven p d x → passes x.name ≡ true → slice_index weights d ≤ top
   pub met : 0 < top → (d : ℕ) × (x : Def) × IsDriven p d x × (passes x.name ≡ true) × (slice_index weights d ≡ top)
 
-pub tops_none : (p : Program) (weights tops : List ℕ) → length tops ≡ length p.exprs → AreTops p weights (length p.exprs) tops
+pub tops_none : (p : Program) (weights tops : List ℕ) → length tops ≡ length p.exprs
+    → AreTops p weights (length p.exprs) tops
 tops_none p weights tops size = record {
   size = size;
   bound = λ e d x le lt. absurd (omega (arith, le, lt));
   met = λ e le lt. absurd (omega (arith, le, lt));
 }
 
-pub tops_more : (p : Program) (weights tops : List ℕ) (n e top : ℕ) → AreTops p weights n tops → n ≡ e + 1 → e < length p.exprs
+pub tops_more : (p : Program) (weights tops : List ℕ) (n e top : ℕ) → AreTops p weights n tops → n ≡ e + 1
+    → e < length p.exprs
     → IsTop p weights (λ name. mentions p name e) top → AreTops p weights e (slice_set tops e top)
 tops_more p weights tops n e top t next lt here = record {
   size = length-set tops e top ∙ t.size;
@@ -56,26 +63,37 @@ tops_more p weights tops n e top t next lt here = record {
     | inr ne ↦ omega (arith, other f ne, t.bound f d x (omega (arith, le, next, ne)) fl driven m)
   ];
   met = λ f le fl some. elim (cases_eq f e) [
-    | inl same ↦ let (d, x, driven, m, w) = here.met (omega (arith, some, now f same)) in (d, x, driven, ap (λ i. mentions p x.name i) same ∙ m, w ∙ sym (now f same))
-    | inr ne ↦ let (d, x, driven, m, w) = t.met f (omega (arith, le, next, ne)) fl (omega (arith, some, other f ne)) in (d, x, driven, m, w ∙ sym (other f ne))
+    | inl same ↦ let (d, x, driven, m, w) = here.met (omega (arith, some, now f same)) in
+        (d, x, driven, ap (λ i. mentions p x.name i) same ∙ m, w ∙ sym (now f same))
+    | inr ne ↦ let (d, x, driven, m, w) = t.met f (omega (arith, le, next, ne)) fl (omega (arith, some, other f ne)) in
+        (d, x, driven, m, w ∙ sym (other f ne))
   ];
 }
   where
     now : (f : ℕ) → f ≡ e → get_or (slice_set tops e top) f 0 ≡ top
-    now f same = ap (λ i. get_or (slice_set tops e top) i 0) same ∙ get_or-set_same tops e top 0 (omega (arith, lt, t.size))
+    now f same =
+        ap (λ i. get_or (slice_set tops e top) i 0) same ∙ get_or-set_same tops e top 0 (omega (arith, lt, t.size))
 
     other : (f : ℕ) → f ≢ e → get_or (slice_set tops e top) f 0 ≡ get_or tops f 0
     other f ne = get_or-set_other tops e f top 0 ne
 
 -- a name
-pub top_named : (p : Program) (m : Meanings) (weights : List ℕ) (e : ℕ) (x : Expr) (name : List ℕ) (top : ℕ) → AreMeanings p m → OwnNames p → WeighsDriven p weights
-    → IsAt p.exprs e x → x.kind ≡ Named name → top ≡ slice_index weights (slice_index m.exprs e) → IsTop p weights (λ n. is_same name n) top
+pub top_named : (p : Program) (m : Meanings) (weights : List ℕ) (e : ℕ) (x : Expr) (name : List ℕ) (top : ℕ)
+    → AreMeanings p m → OwnNames p → WeighsDriven p weights
+    → IsAt p.exprs e x → x.kind ≡ Named name → top ≡ slice_index weights (slice_index m.exprs e)
+    → IsTop p weights (λ n. is_same name n) top
 top_named p m weights e x name top means own only at kind is = record {
   bound = λ d y driven same.
       let h : slice_index m.exprs e ≡ d = here ∙ ap (index_of p.defs) (same_is name y.name same) ∙ own d y driven in
       omega (arith, is ∙ ap (slice_index weights) h);
-  met = λ some. let (y, driven) = only (slice_index m.exprs e) (omega (arith, some, is)) in
-      (slice_index m.exprs e, y, driven, is_same_of name y.name (sym (meant p.defs name (slice_index m.exprs e) y driven.0 (sym here))), sym is);
+  met = λ some. let (y, driven) = only (slice_index m.exprs e) (omega (arith, some, is)) in (
+    slice_index m.exprs e,
+    y,
+    driven,
+    is_same_of name y.name
+        (sym (meant p.defs name (slice_index m.exprs e) y driven.0 (sym here))),
+    sym is,
+  );
 }
   where
     here : slice_index m.exprs e ≡ index_of p.defs name
@@ -83,10 +101,12 @@ top_named p m weights e x name top means own only at kind is = record {
 
 -- r is the greatest of the numbers at some indices
 abbrev pub Greatest : List ℕ → List ℕ → ℕ → Type 0
-Greatest numbers indices r = ((i : ℕ) → Contains indices i → slice_index numbers i ≤ r) × (0 < r → (i : ℕ) × Contains indices i × (slice_index numbers i ≡ r))
+Greatest numbers indices r = ((i : ℕ) → Contains indices i → slice_index numbers i ≤ r)
+    × (0 < r → (i : ℕ) × Contains indices i × (slice_index numbers i ≡ r))
 
 -- an operation
-pub top_apply : (p : Program) (weights tops : List ℕ) (n e : ℕ) (args : List ℕ) (top : ℕ) → AreTops p weights n tops → n ≡ e + 1 → AllBetween e (length p.exprs) args
+pub top_apply : (p : Program) (weights tops : List ℕ) (n e : ℕ) (args : List ℕ) (top : ℕ) → AreTops p weights n tops
+    → n ≡ e + 1 → AllBetween e (length p.exprs) args
     → Greatest tops args top
     → IsTop p weights (λ name. list_any (mentions p name) args) top
 top_apply p weights tops n e args top t next fit (bound, met) = record {
@@ -104,16 +124,19 @@ top_apply p weights tops n e args top t next fit (bound, met) = record {
 
 -- anything else
 pub top_zero : (p : Program) (weights : List ℕ) (top : ℕ) → top ≡ 0 → IsTop p weights (λ name. false) top
-top_zero p weights top none = record { bound = λ d x driven m. absurd (cc); met = λ some. absurd (omega (arith, some, none)) }
+top_zero p weights top none =
+    record { bound = λ d x driven m. absurd (cc); met = λ some. absurd (omega (arith, some, none)) }
 
-pub top_as : (p : Program) (weights : List ℕ) (f g : List ℕ → Bool) (top : ℕ) → ((name : List ℕ) → f name ≡ g name) → IsTop p weights g top → IsTop p weights f top
+pub top_as : (p : Program) (weights : List ℕ) (f g : List ℕ → Bool) (top : ℕ) → ((name : List ℕ) → f name ≡ g name)
+    → IsTop p weights g top → IsTop p weights f top
 top_as p weights f g top same t = record {
   bound = λ d x driven m. t.bound d x driven (sym (same x.name) ∙ m);
   met = λ some. let (d, x, driven, m, w) = t.met some in (d, x, driven, same x.name ∙ m, w);
 }
 
 -- a number or a truth value mentions nothing
-pub mentions_none : (kind : ExprKind) (name : List ℕ) (m : ℕ → Bool) → ((x : List ℕ) → kind ≡ Named x → ⊥) → ((op : Op) (k : ℕ) (args : List ℕ) → kind ≡ Apply op k args → ⊥)
+pub mentions_none : (kind : ExprKind) (name : List ℕ) (m : ℕ → Bool) → ((x : List ℕ) → kind ≡ Named x → ⊥)
+    → ((op : Op) (k : ℕ) (args : List ℕ) → kind ≡ Apply op k args → ⊥)
     → kind_mentions name kind m ≡ false
 mentions_none (Number n) name m named apply = refl
 mentions_none (Named x) name m named apply = absurd (named x refl)

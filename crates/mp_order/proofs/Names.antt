@@ -1,5 +1,6 @@
 -- Names and the definitions that they mean.
-use Rattle.std.proofs.Common.{◌≡◌, ℕ, suc, List, [], ◌∷◌, Bool, true, false, if◌then◌else◌, refl, sym, ◌∙◌, ap, subst, arith, get_or}
+use Rattle.std.proofs.Common.{◌≡◌, ℕ, suc, List, [], ◌∷◌, Bool, true, false, if◌then◌else◌, refl, sym, ◌∙◌, ap, subst}
+use Rattle.std.proofs.Common.{arith, get_or}
 use Rattle.std.proofs.lemmas.Slice.Eq.{bytes_eq-Decides}
 use Rattle.mp_program.specs.declared.program.Def.{Def}
 use Rattle.mp_program.specs.Names.{is_same, index_of}
@@ -11,7 +12,8 @@ pub meant : (ds : List Def) (x : List ℕ) (d : ℕ) (y : Def) → IsAt ds d y �
 meant [] x d y at is = absurd (omega (arith, at.0))
 meant (z ∷ ds) x d y at is = by_name (is_same z.name x) refl is (λ k h. meant ds x k y h)
   where
-    by_name : (b : Bool) → is_same z.name x ≡ b → (if b then 0 else suc (index_of ds x)) ≡ d → ((k : ℕ) → IsAt ds k y → index_of ds x ≡ k → y.name ≡ x) → y.name ≡ x
+    by_name : (b : Bool) → is_same z.name x ≡ b → (if b then 0 else suc (index_of ds x)) ≡ d
+        → ((k : ℕ) → IsAt ds k y → index_of ds x ≡ k → y.name ≡ x) → y.name ≡ x
     by_name true same e rest =
         let P : ℕ → Type 0 = λ k. y ≡ get_or (z ∷ ds) k y in
         let h : y ≡ z = subst P (sym e) at.1 in

@@ -17,7 +17,8 @@ IsSet kind = (name : List ℕ) × (there : Place) × (v : ℕ) × (kind ≡ Set 
 
 -- a `setq` of definition d stands at a place, and d has a flag
 abbrev pub SetsFlagged : Program → Meanings → List ℕ → ℕ → Place → Type 0
-SetsFlagged p m flags d at = (f : ℕ) × (y : Form) × (name : List ℕ) × (there : Place) × (v : ℕ) × IsAt p.forms f y × (y.kind ≡ Set name there v)
+SetsFlagged p m flags d at =
+    (f : ℕ) × (y : Form) × (name : List ℕ) × (there : Place) × (v : ℕ) × IsAt p.forms f y × (y.kind ≡ Set name there v)
     × (slice_index m.targets f ≡ d) × (0 < slice_index flags d) × (at ≡ y.place)
 
 -- a `setq` of a definition with a flag stands at a place
@@ -32,7 +33,8 @@ blanks xs = sum_by (λ k. 1 - k) xs
 pub record Widened (p : Program) (demands : List ℕ) (n : ℕ) (old new : List ℕ) : Type 0 where
   pub size : length new ≡ length old
   pub kept : (d : ℕ) → 0 < slice_index old d → 0 < slice_index new d
-  pub made : (d : ℕ) → 0 < slice_index new d → (0 < slice_index old d) ⊎ ((x : Def) × IsDriven p d x × (0 < slice_index demands d))
+  pub made : (d : ℕ) → 0 < slice_index new d
+      → (0 < slice_index old d) ⊎ ((x : Def) × IsDriven p d x × (0 < slice_index demands d))
   pub full : (d : ℕ) (x : Def) → d < n → IsDriven p d x → 0 < slice_index demands d → 0 < slice_index new d
 
 -- which driven definitions have a chain to the target
@@ -42,5 +44,6 @@ pub record AreReachers (p : Program) (target : ℕ) (reach : List ℕ) : Type 0 
 
 -- d is put before the first that reaches it
 abbrev pub Placed : List ℕ → ℕ → List ℕ → List ℕ → Type 0
-Placed reach d old new = (at : ℕ) × (at ≤ length old) × (new ≡ insert old at d) × ((k : ℕ) → k < at → slice_index reach (slice_index old k) ≡ 0)
+Placed reach d old new = (at : ℕ) × (at ≤ length old) × (new ≡ insert old at d)
+    × ((k : ℕ) → k < at → slice_index reach (slice_index old k) ≡ 0)
     × (at < length old → 0 < slice_index reach (slice_index old at))

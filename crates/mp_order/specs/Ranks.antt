@@ -12,10 +12,13 @@ pub record IsRanking (p : Program) (ranks loose : List ℕ) : Type 0 where
 
 -- the driven definitions stand in a list, each at its rank, which counts from 1
 pub record IsListing (p : Program) (ranks order : List ℕ) : Type 0 where
-  pub all : (d : ℕ) (x : Def) → IsDriven p d x → (k : ℕ) × (k < length order) × (slice_index order k ≡ d) × (slice_index ranks d ≡ k + 1)
-  pub only : (k : ℕ) → k < length order → ((x : Def) × IsDriven p (slice_index order k) x) × (slice_index ranks (slice_index order k) ≡ k + 1)
+  pub all : (d : ℕ) (x : Def) → IsDriven p d x
+      → (k : ℕ) × (k < length order) × (slice_index order k ≡ d) × (slice_index ranks d ≡ k + 1)
+  pub only : (k : ℕ) → k < length order
+      → ((x : Def) × IsDriven p (slice_index order k) x) × (slice_index ranks (slice_index order k) ≡ k + 1)
 
--- the target has the greatest weight and demands some weight, and each other definition of some weight demands a greater one
+-- the target has the greatest weight and demands some weight, and each other definition of some weight demands a
+-- greater one
 pub record Climbs (demands weights : List ℕ) (target : ℕ) : Type 0 where
   pub top : 0 < slice_index weights target
   pub begins : 0 < slice_index demands target

@@ -2,6 +2,7 @@
 use Rattle.std.proofs.Common.{◌≡◌, ℕ, zero, suc, ◌<◌, List, [], ◌∷◌, Bool, true, false, cond, refl, sym, ◌∙◌, ap, subst}
 use Rattle.std.proofs.Common.{length, arith, get_or}
 use Rattle.std.proofs.lemmas.Slice.Eq.{bytes_eq-Decides}
+use Rattle.mp_base.proofs.Induction.{by_test}
 use Rattle.mp_program.specs.declared.program.Def.{Def}
 use Rattle.mp_program.specs.declared.program.Way.TheVariants.{Input, Output, Internal}
 use Rattle.mp_program.specs.declared.program.What.{What}
@@ -9,7 +10,6 @@ use Rattle.mp_program.specs.declared.program.What.TheVariants.{Power, Ground, Ph
 use Rattle.mp_program.specs.declared.program.What.TheVariants.{Flag, Port, Signal}
 use Rattle.mp_program.specs.Environment.{what_value}
 use Rattle.mp_program.specs.Names.{index_of, is_driven, is_same}
-use Rattle.mp_program.proofs.Walks.{by_test}
 
 pub same_is : (x y : List ℕ) → is_same x y ≡ true → x ≡ y
 same_is x y h = (bytes_eq-Decides x y).0 h

@@ -9,3 +9,7 @@ pub mod Soundness
 mod Trees
 pub mod States
 pub mod Existence
+pub mod Faces
+pub mod Inside
+pub mod FormKinds
+pub mod Lengths

@@ -47,7 +47,8 @@ rounds (suc n) p st inputs = def_values p st inputs (rounds n p st inputs) 0 p.d
 -- the outputs, where the environment is reached in four rounds
 abbrev outputs_from : Program → State → List (List ℕ) → List (List ℕ)
 outputs_from p st [] = []
-outputs_from p st (i ∷ is) = outputs_of p.defs (rounds 4 p st i) ∷ outputs_from p (next_state p st i (rounds 4 p st i)) is
+outputs_from p st (i ∷ is) =
+    outputs_of p.defs (rounds 4 p st i) ∷ outputs_from p (next_state p st i (rounds 4 p st i)) is
 
 -- y is not a
 abbrev inverter : Program
@@ -92,10 +93,12 @@ two_writers = record {
 two_writers_pads : output_pads two_writers ≡ (codes "q", 4) ∷ []
 two_writers_pads = refl
 
-two_writers_outputs : outputs_from two_writers (zero_state two_writers) ((1 ∷ []) ∷ (0 ∷ []) ∷ (0 ∷ []) ∷ []) ≡ (0 ∷ []) ∷ (0 ∷ []) ∷ (15 ∷ []) ∷ []
+two_writers_outputs : outputs_from two_writers (zero_state two_writers) ((1 ∷ []) ∷ (0 ∷ []) ∷ (0 ∷ []) ∷ [])
+    ≡ (0 ∷ []) ∷ (0 ∷ []) ∷ (15 ∷ []) ∷ []
 two_writers_outputs = refl
 
--- (process p 1 (par (setq q 0) (call f)) (setq q 1) f (par (setq q 2) (call g)) (par (setq q 3) (return)) g (par (setq q 4) (return)))
+-- (process p 1 (par (setq q 0) (call f)) (setq q 1) f (par (setq q 2) (call g)) (par (setq q 3) (return)) g (par (setq
+-- q 4) (return)))
 abbrev nested_calls : Program
 nested_calls = record {
   place = nowhere;
@@ -114,7 +117,8 @@ nested_calls = record {
     name = codes "p";
     depth = 1;
     depth_at = nowhere;
-    labels = record { place = nowhere; name = codes "f"; before = 2 } ∷ record { place = nowhere; name = codes "g"; before = 4 } ∷ [];
+    labels = record { place = nowhere; name = codes "f"; before = 2 }
+        ∷ record { place = nowhere; name = codes "g"; before = 4 } ∷ [];
     forms = 0 ∷ 3 ∷ 4 ∷ 7 ∷ 10 ∷ [];
   } ∷ [];
   fits = refl;
@@ -122,7 +126,8 @@ nested_calls = record {
 }
 
 -- the stack has one place, so the return from f goes to place 0
-nested_calls_outputs : outputs_from nested_calls (zero_state nested_calls) ((1 ∷ []) ∷ (0 ∷ []) ∷ (0 ∷ []) ∷ (0 ∷ []) ∷ (0 ∷ []) ∷ (0 ∷ []) ∷ [])
+nested_calls_outputs : outputs_from nested_calls (zero_state nested_calls)
+    ((1 ∷ []) ∷ (0 ∷ []) ∷ (0 ∷ []) ∷ (0 ∷ []) ∷ (0 ∷ []) ∷ (0 ∷ []) ∷ [])
     ≡ (0 ∷ []) ∷ (0 ∷ []) ∷ (2 ∷ []) ∷ (4 ∷ []) ∷ (3 ∷ []) ∷ (0 ∷ []) ∷ []
 nested_calls_outputs = refl
 
@@ -134,7 +139,8 @@ guarded = record {
   width = 4;
   defs = supplies ++ def (codes "reset") (Signal Input) ∷ def (codes "e") (Signal Input) ∷ def (codes "n") Register
       ∷ def (codes "q") (Port Output) ∷ def (codes "p") (Port Output) ∷ [];
-  exprs = expr (Named (codes "n")) ∷ expr (Named (codes "e")) ∷ expr (Number 5) ∷ expr (Number 3) ∷ expr True ∷ expr (Number 1) ∷ [];
+  exprs = expr (Named (codes "n")) ∷ expr (Named (codes "e")) ∷ expr (Number 5) ∷ expr (Number 3) ∷ expr True
+      ∷ expr (Number 1) ∷ [];
   forms = form (Set (codes "p") nowhere 0)
       ∷ form (Cond (record { guard = 1; body = 2 ∷ 3 ∷ [] } ∷ record { guard = 4; body = 4 ∷ [] } ∷ []))
       ∷ form (Set (codes "q") nowhere 2) ∷ form (Set (codes "n") nowhere 3) ∷ form (Set (codes "q") nowhere 5) ∷ [];
@@ -145,6 +151,7 @@ guarded = record {
 }
 
 -- n is read as it was, and keeps what was written to it
-guarded_outputs : outputs_from guarded (zero_state guarded) ((1 ∷ 0 ∷ []) ∷ (0 ∷ 1 ∷ []) ∷ (0 ∷ 0 ∷ []) ∷ (1 ∷ 0 ∷ []) ∷ (0 ∷ 0 ∷ []) ∷ [])
+guarded_outputs : outputs_from guarded (zero_state guarded)
+    ((1 ∷ 0 ∷ []) ∷ (0 ∷ 1 ∷ []) ∷ (0 ∷ 0 ∷ []) ∷ (1 ∷ 0 ∷ []) ∷ (0 ∷ 0 ∷ []) ∷ [])
     ≡ (1 ∷ 0 ∷ []) ∷ (5 ∷ 0 ∷ []) ∷ (1 ∷ 3 ∷ []) ∷ (1 ∷ 3 ∷ []) ∷ (1 ∷ 0 ∷ []) ∷ []
 guarded_outputs = refl

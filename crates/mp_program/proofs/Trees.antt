@@ -1,35 +1,30 @@
 -- That a program is a tree, from the test to each index.
-use Rattle.std.proofs.Common.{◌≡◌, ℕ, zero, suc, ◌<◌, ◌≤◌, List, [], ◌∷◌, Bool, true, false, not, refl, sym, ◌∙◌, arith}
+use Rattle.std.proofs.Common.{◌≡◌, ℕ, zero, suc, ◌<◌, ◌≤◌, List, [], ◌∷◌, true, false, not, refl, sym, ◌∙◌, arith}
 use Rattle.std.proofs.Common.{length, get_or}
 use Rattle.std.specs.Prelude.{◌&&◌, ◌||◌, ◌==◌, nat_le, slice_index}
 use Rattle.std.specs.List.{list_all, list_any}
-use Rattle.std.proofs.lemmas.Bool.{and_parts, eq-eqb, leb-true}
+use Rattle.std.proofs.lemmas.Bool.{and_parts, eq-eqb, leb-true, not-true, or_parts}
 use Rattle.mp_program.specs.declared.program.Program.{Program}
 use Rattle.mp_program.specs.Tree.{is_distinct, are_low, is_tree, expr_places, form_places, expr_heights, form_heights}
 use Rattle.mp_program.specs.Tree.{height_limit}
 use Rattle.mp_program.specs.Sound.{AreApart, IsTree}
-use Rattle.mp_program.proofs.Walks.{or_none}
-
-not_false : (b : Bool) → not b ≡ true → b ≡ false
-not_false true h = absurd (cc)
-not_false false h = refl
 
 -- a number that is nowhere in a list
 nowhere : (x : ℕ) (ys : List ℕ) → list_any (λ y. y == x) ys ≡ false → (k : ℕ) → k < length ys → x ≡ get_or ys k 0 → ⊥
 nowhere x [] h k lt e = omega (arith, lt)
 nowhere x (y ∷ ys) h zero lt e =
-    let other = (or_none (y == x) (list_any (λ z. z == x) ys) h).0 in
+    let other = (or_parts (y == x) (list_any (λ z. z == x) ys) h).0 in
     let same : (y == x) ≡ true = eq-eqb y x (sym e) in
     cc (other, same)
 nowhere x (y ∷ ys) h (suc k) lt e =
-    nowhere x ys (or_none (y == x) (list_any (λ z. z == x) ys) h).1 k (omega (arith, lt)) e
+    nowhere x ys (or_parts (y == x) (list_any (λ z. z == x) ys) h).1 k (omega (arith, lt)) e
 
 apart : (xs : List ℕ) → is_distinct xs ≡ true → AreApart xs
 apart [] h j k jk lt e = omega (arith, lt)
 apart (x ∷ xs) h zero zero jk lt e = omega (arith, jk)
 apart (x ∷ xs) h (suc j) zero jk lt e = omega (arith, jk)
 apart (x ∷ xs) h zero (suc k) jk lt e =
-    nowhere x xs (not_false _ (and_parts (not (list_any (λ y. y == x) xs)) (is_distinct xs) h).0) k
+    nowhere x xs (not-true _ (and_parts (not (list_any (λ y. y == x) xs)) (is_distinct xs) h).0) k
     (omega (arith, lt)) e
 apart (x ∷ xs) h (suc j) (suc k) jk lt e =
     apart xs (and_parts (not (list_any (λ y. y == x) xs)) (is_distinct xs) h).1 j k (omega (arith, jk))

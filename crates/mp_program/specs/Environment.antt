@@ -34,9 +34,11 @@ driven_value p st env x = unwrap_or (merged (written x.name (clock_effects p st 
 
 -- the value of the definition x, which stands at d
 abbrev pub def_value : Program → State → List ℕ → List ℕ → ℕ → Def → ℕ
-def_value p st inputs env d x = what_value x.what (slice_index st.stored d) (slice_index inputs (pad_number p.defs d)) (driven_value p st env x)
+def_value p st inputs env d x =
+    what_value x.what (slice_index st.stored d) (slice_index inputs (pad_number p.defs d)) (driven_value p st env x)
 
 -- the environment of a state and inputs: all of these equations hold at once
 pub record IsEnvironment (p : Program) (st : State) (inputs env : List ℕ) : Type 0 where
   pub size : length env ≡ length p.defs
-  pub values : (d : ℕ) (x : Def) → d < length p.defs → x ≡ slice_index_or p.defs d x → slice_index env d ≡ def_value p st inputs env d x
+  pub values : (d : ℕ) (x : Def) → d < length p.defs → x ≡ slice_index_or p.defs d x
+      → slice_index env d ≡ def_value p st inputs env d x

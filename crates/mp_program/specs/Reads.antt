@@ -1,5 +1,6 @@
 -- What ports and signals read of each other, and the orders in which they can be evaluated.
-use Rattle.std.specs.Prelude.{◌≡◌, ℕ, ◌<◌, List, [], ◌∷◌, ◌++◌, Bool, true, false, ◌||◌, ◌&&◌, length, slice_index, slice_index_or}
+use Rattle.std.specs.Prelude.{◌≡◌, ℕ, ◌<◌, List, [], ◌∷◌, ◌++◌, Bool, true, false, ◌||◌, ◌&&◌, length, slice_index}
+use Rattle.std.specs.Prelude.{slice_index_or}
 use Rattle.std.specs.List.{list_any}
 use Rattle.mp_program.specs.declared.program.ExprKind.{ExprKind}
 use Rattle.mp_program.specs.declared.program.ExprKind.TheVariants.{Named, Apply}
@@ -39,8 +40,10 @@ kind_sets x _ s = false
 abbrev pub sets : Program → List ℕ → ℕ → Bool
 sets p x f = slice_index_or (table false (λ (y : Form) s. kind_sets x y.kind s) 0 p.forms) f false
 
--- A `setq` of x reads n if n stands in its value, in the guard of a branch around it, or in the guard of a branch before one of these
--- in the same `cond`. Here m says where n stands, s where a `setq` of x stands, and r which forms have one that reads n; before says
+-- A `setq` of x reads n if n stands in its value, in the guard of a branch around it, or in the guard of a branch
+-- before one of these
+-- in the same `cond`. Here m says where n stands, s where a `setq` of x stands, and r which forms have one that reads
+-- n; before says
 -- whether n stands in the guard of an earlier branch.
 abbrev pub branches_read : (ℕ → Bool) → (ℕ → Bool) → Bool → List Branch → (ℕ → Bool) → Bool
 branches_read m s before [] r = false
@@ -56,7 +59,8 @@ kind_reads m s x _ r = false
 
 -- a `setq` of x in the form at an index reads n
 abbrev pub form_reads : Program → List ℕ → List ℕ → ℕ → Bool
-form_reads p x n f = slice_index_or (table false (λ (y : Form) r. kind_reads (mentions p n) (sets p x) x y.kind r) 0 p.forms) f false
+form_reads p x n f =
+    slice_index_or (table false (λ (y : Form) r. kind_reads (mentions p n) (sets p x) x y.kind r) 0 p.forms) f false
 
 -- the top-level forms of processes
 abbrev pub process_roots : List Process → List ℕ
@@ -69,7 +73,8 @@ roots p = p.always ++ process_roots p.processes
 
 -- definition a reads definition b: both are driven, and a top-level form has a `setq` of a that reads b
 abbrev pub Reads : Program → ℕ → ℕ → Type 0
-Reads p a b = (x y : Def) × (a < length p.defs) × (b < length p.defs) × (x ≡ slice_index_or p.defs a x) × (y ≡ slice_index_or p.defs b y)
+Reads p a b = (x y : Def) × (a < length p.defs) × (b < length p.defs) × (x ≡ slice_index_or p.defs a x)
+    × (y ≡ slice_index_or p.defs b y)
     × (is_driven x.what ≡ true) × (is_driven y.what ≡ true) × (list_any (form_reads p x.name y.name) (roots p) ≡ true)
 
 -- a chain of definitions, each read by the one before it, from a to b
@@ -80,8 +85,10 @@ pub data Chain (p : Program) : ℕ → ℕ → Type 0 where
 -- an order of evaluation: the driven definitions, each once, each after all that it reads
 pub record IsOrder (p : Program) (order : List ℕ) : Type 0 where
   pub driven : (k : ℕ) → k < length order
-      → (x : Def) × (slice_index order k < length p.defs) × (x ≡ slice_index_or p.defs (slice_index order k) x) × (is_driven x.what ≡ true)
+      → (x : Def) × (slice_index order k < length p.defs) × (x ≡ slice_index_or p.defs (slice_index order k) x)
+      × (is_driven x.what ≡ true)
   pub once : (j k : ℕ) → j < k → k < length order → slice_index order j ≡ slice_index order k → ⊥
   pub all : (d : ℕ) (x : Def) → d < length p.defs → x ≡ slice_index_or p.defs d x → is_driven x.what ≡ true
       → (k : ℕ) × (k < length order) × (slice_index order k ≡ d)
-  pub after : (k b : ℕ) → k < length order → Reads p (slice_index order k) b → (j : ℕ) × (j < k) × (slice_index order j ≡ b)
+  pub after : (k b : ℕ) → k < length order → Reads p (slice_index order k) b
+      → (j : ℕ) × (j < k) × (slice_index order j ≡ b)

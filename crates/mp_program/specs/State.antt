@@ -20,7 +20,8 @@ SeatsFit [] [] = Unit {0}
 SeatsFit [] (s ∷ ss) = ⊥
 SeatsFit (q ∷ qs) [] = ⊥
 SeatsFit (q ∷ qs) (s ∷ ss) =
-    (s.place < length q.forms) × (length s.stack ≡ q.depth) × AllByRecursion (λ k. k < length q.forms) s.stack × SeatsFit qs ss
+    (s.place < length q.forms) × (length s.stack ≡ q.depth) × AllByRecursion (λ k. k < length q.forms) s.stack
+    × SeatsFit qs ss
 
 -- a state of this program
 pub record IsState (p : Program) (st : State) : Type 0 where

@@ -1,5 +1,6 @@
 -- The state after a clock, and what the clock shows.
-use Rattle.std.specs.Prelude.{ℕ, suc, ◌+◌, List, [], ◌∷◌, ◌++◌, if◌then◌else◌, nat_lt, ◌==◌, Bool, false, length, take, drop, position, slice_index, unwrap_or}
+use Rattle.std.specs.Prelude.{ℕ, suc, ◌+◌, List, [], ◌∷◌, ◌++◌, if◌then◌else◌, nat_lt, ◌==◌, Bool, false, length, take}
+use Rattle.std.specs.Prelude.{drop, position, slice_index, unwrap_or}
 use Rattle.std.specs.Option.{option_map_or}
 use Rattle.mp_base.specs.Merge.{merged}
 use Rattle.mp_program.specs.declared.program.Def.{Def}
@@ -15,7 +16,8 @@ use Rattle.mp_program.specs.Environment.{clock_effects}
 abbrev pub next_stored : List Effect → ℕ → List Def → List ℕ → List ℕ
 next_stored es d [] stored = []
 next_stored es d (x ∷ xs) stored =
-    (if is_stored x.what then unwrap_or (merged (written x.name es)) (slice_index stored d) else 0) ∷ next_stored es (suc d) xs stored
+    (if is_stored x.what then unwrap_or (merged (written x.name es)) (slice_index stored d) else 0)
+    ∷ next_stored es (suc d) xs stored
 
 -- a place, or 0 where it is past the last form
 abbrev pub wrapped : Process → ℕ → ℕ
@@ -38,7 +40,8 @@ next_seat q s (Returns ∷ es) = record { place = slice_index s.stack 0; stack =
 abbrev pub next_seats : Program → List ℕ → List Process → List Seat → List Seat
 next_seats p env [] ss = []
 next_seats p env (q ∷ qs) [] = []
-next_seats p env (q ∷ qs) (s ∷ ss) = next_seat q s (effects_of p env (slice_index q.forms s.place)) ∷ next_seats p env qs ss
+next_seats p env (q ∷ qs) (s ∷ ss) =
+    next_seat q s (effects_of p env (slice_index q.forms s.place)) ∷ next_seats p env qs ss
 
 -- the signal input `reset`, if there is one, is given 1
 abbrev pub resets : List Def → List ℕ → Bool
@@ -48,7 +51,10 @@ resets defs inputs = option_map_or (λ d. slice_index inputs (pad_number defs d)
 abbrev pub next_state : Program → State → List ℕ → List ℕ → State
 next_state p st inputs env =
     if resets p.defs inputs then zero_state p
-    else record { stored = next_stored (clock_effects p st env) 0 p.defs st.stored; seats = next_seats p env p.processes st.seats }
+    else record {
+      stored = next_stored (clock_effects p st env) 0 p.defs st.stored;
+      seats = next_seats p env p.processes st.seats;
+    }
 
 -- the values of the output ports and signals
 abbrev pub outputs_of : List Def → List ℕ → List ℕ

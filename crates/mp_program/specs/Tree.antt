@@ -30,7 +30,8 @@ inner _ = []
 
 -- what stands in each place where an expression may stand
 abbrev pub expr_places : List Expr → List Form → List ℕ
-expr_places exprs forms = flat_map (λ (x : Expr). operands x.kind) exprs ++ flat_map (λ (x : Form). exprs_in x.kind) forms
+expr_places exprs forms =
+    flat_map (λ (x : Expr). operands x.kind) exprs ++ flat_map (λ (x : Form). exprs_in x.kind) forms
 
 -- what stands in each place where a form may stand
 abbrev pub form_places : List Form → List ℕ → List Process → List ℕ

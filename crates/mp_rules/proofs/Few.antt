@@ -1,5 +1,6 @@
 -- Few namings, where none has 256 others that don't stand after it.
-use Rattle.std.proofs.Common.{◌≡◌, ℕ, zero, suc, ◌≤◌, List, [], ◌∷◌, cond, refl, sym, ap, subst, inl, inr, length, arith}
+use Rattle.std.proofs.Common.{◌≡◌, ℕ, zero, suc, ◌≤◌, List, [], ◌∷◌, cond, refl, sym, ap, subst, inl, inr, length}
+use Rattle.std.proofs.Common.{arith}
 use Rattle.std.specs.Prelude.{count_by, nat_le}
 use Rattle.std.proofs.lemmas.Bool.{cases_lt, le-leb}
 use Rattle.std.proofs.lemmas.List.Sums.{sum_by-cons}
@@ -19,19 +20,39 @@ both_last n ns v here rest (suc j) o (lt, is) = rest j o (omega (arith, lt), is)
 
 -- a last one of some namings
 last : (n : Naming) (ns : List Naming) → (k : ℕ) × (m : Naming) × IsAt (n ∷ ns) k m × IsLast (n ∷ ns) (m.place).offset
-last n [] = (0, n, (omega arith, refl), both_last n [] (n.place).offset (omega arith) (λ j o at. absurd (let lt = at.0 in omega (arith, lt))))
+last n [] = (
+  0,
+  n,
+  (omega arith, refl),
+  both_last n [] (n.place).offset (omega arith)
+      (λ j o at. absurd (let lt = at.0 in omega (arith, lt))),
+)
 last n (m ∷ ms) =
     let found = last m ms in
     elim (cases_lt (found.1.place).offset (n.place).offset) [
-      | inl less ↦ (0, n, (omega arith, refl), both_last n (m ∷ ms) (n.place).offset (omega arith) (λ j o at. let below = found.3 j o at in omega (arith, below, less)))
-      | inr more ↦ (suc found.0, found.1, (let lt = found.2.0 in omega (arith, lt), found.2.1), both_last n (m ∷ ms) (found.1.place).offset more found.3)
+      | inl less ↦ (
+        0,
+        n,
+        (omega arith, refl),
+        both_last n (m ∷ ms) (n.place).offset (omega arith)
+            (λ j o at. let below = found.3 j o at in omega (arith, below, less)),
+      )
+      | inr more ↦ (
+        suc found.0,
+        found.1,
+        (let lt = found.2.0 in omega (arith, lt), found.2.1),
+        both_last n (m ∷ ms)
+            (found.1.place).offset more found.3,
+      )
     ]
 
-all_counted : (ns : List Naming) (v : ℕ) → IsLast ns v → count_by (λ (n : Naming). nat_le (n.place).offset v) ns ≡ length ns
+all_counted : (ns : List Naming) (v : ℕ) → IsLast ns v
+    → count_by (λ (n : Naming). nat_le (n.place).offset v) ns ≡ length ns
 all_counted [] v below = refl
 all_counted (n ∷ ns) v below =
     let whole_one : ℕ = 1 in
-    let one : cond {A = ℕ} (nat_le (n.place).offset v) 1 0 ≡ whole_one = ap (λ b. cond {A = ℕ} b 1 0) (le-leb (n.place).offset v (below 0 n (omega arith, refl))) in
+    let one : cond {A = ℕ} (nat_le (n.place).offset v) 1 0 ≡ whole_one =
+    ap (λ b. cond {A = ℕ} b 1 0) (le-leb (n.place).offset v (below 0 n (omega arith, refl))) in
     let rest = all_counted ns v (λ j o at. below (suc j) o (let lt = at.0 in omega (arith, lt), at.1)) in
     let whole = sum_by-cons (λ (m : Naming). cond (nat_le (m.place).offset v) 1 0) n ns in
     omega (arith, one, rest, whole)
@@ -49,7 +70,8 @@ few p unbroken = by_list (namings p) refl
             found.0,
             found.1,
             subst (λ ms. IsAt ms found.0 found.1) (sym is) found.2,
-            subst (λ ms. 257 ≤ count_by (λ (m : Naming). nat_le (m.place).offset (found.1.place).offset) ms) (sym is) (omega (arith, many, counted)),
+            subst (λ ms. 257 ≤ count_by (λ (m : Naming). nat_le (m.place).offset (found.1.place).offset) ms) (sym is)
+                (omega (arith, many, counted)),
             refl,
           ))
       | inr less ↦ less

@@ -1,3 +1,7 @@
+pub mod ListEntries
+pub mod Sequences
+pub mod Sorts
+pub mod Unbroken
 mod Places
 mod Own
 mod Few

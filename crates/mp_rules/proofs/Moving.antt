@@ -1,13 +1,14 @@
 -- At most one move is among what a form of a process does.
-use Rattle.std.proofs.Common.{◌≡◌, ◌⊎◌, inl, inr, ℕ, zero, suc, ◌+◌, ◌<◌, ◌≤◌, List, [], ◌∷◌, ◌++◌, Bool, true, false, cond, length, map, refl, sym, ◌∙◌, ap, subst, arith}
+use Rattle.std.proofs.Common.{◌≡◌, ◌⊎◌, inl, inr, ℕ, zero, suc, ◌+◌, ◌<◌, ◌≤◌, List, [], ◌∷◌, ◌++◌, Bool, true, false}
+use Rattle.std.proofs.Common.{cond, length, map, refl, sym, ◌∙◌, ap, subst, arith}
 use Rattle.std.specs.Prelude.{◌==◌, Contains, slice_index_or}
 use Rattle.std.specs.List.{flat_map, AllByRecursion}
 use Rattle.std.specs.List.Sorted.{IsPermutation}
 use Rattle.std.proofs.lemmas.Bool.{cases_eq}
-use Rattle.std.proofs.lemmas.List.Elements.{Contains-append_left, Contains-append_right}
 use Rattle.std.proofs.lemmas.List.Sorted.{Contains-permutation, sum_by-IsPermutation}
 use Rattle.std.proofs.lemmas.List.Sums.{sum_by-append}
 use Rattle.mp_base.specs.declared.refusal.Place.{Place}
+use Rattle.mp_base.proofs.Contents.{contains_head, contains_behind, holds_of_contained}
 use Rattle.mp_program.specs.declared.program.FormKind.{FormKind}
 use Rattle.mp_program.specs.declared.program.FormKind.TheVariants.{Set, Cond, Par, Go, Call, Return}
 use Rattle.mp_program.specs.declared.program.Branch.{Branch}
@@ -19,48 +20,14 @@ use Rattle.mp_program.specs.Effects.{Effect, Writes, Goes, Calls, Returns, branc
 use Rattle.mp_program.specs.Sound.{IsSound, AllBetween, BranchesFit, InnerFit}
 use Rattle.mp_program.specs.State.{Seat}
 use Rattle.mp_program.specs.Step.{next_seat}
-use Rattle.mp_program.specs.Weight.{inner}
 use Rattle.mp_rules.specs.Entries.{IsAt}
 use Rattle.mp_rules.specs.Moves.{is_move, moves}
 use Rattle.mp_rules.specs.Rules.{E30, E32}
 use Rattle.mp_rules.specs.Standing.{Under, itself, deeper, IsLater, is_transfer, sequences}
+use Rattle.mp_rules.proofs.ListEntries.{some_entry}
+use Rattle.mp_rules.proofs.Sequences.{in_sequence, under_more}
 
 -- ---- members of lists
-
-here : {X : Type 0} (x : X) (xs : List X) → Contains (x ∷ xs) x
-here x xs = (0, omega arith, refl)
-
-there : {X : Type 0} (x y : X) (xs : List X) → Contains xs x → Contains (y ∷ xs) x
-there x y xs (k, lt, is) = (suc k, omega (arith, lt), is)
-
-some_entry : {X : Type 0} (xs : List X) (k : ℕ) → k < length xs → (x : X) × IsAt xs k x
-some_entry [] k lt = absurd (omega (arith, lt))
-some_entry (x ∷ xs) zero lt = (x, (lt, refl))
-some_entry (x ∷ xs) (suc k) lt = let (y, at) = some_entry xs k (omega (arith, lt)) in (y, (lt, at.1))
-
-all_in : {X : Type 0} (P : X → Type 0) (xs : List X) (x : X) → AllByRecursion P xs → Contains xs x → P x
-all_in P [] x h (k, lt, is) = absurd (omega (arith, lt))
-all_in P (y ∷ ys) x h (zero, lt, is) = subst P is h.0
-all_in P (y ∷ ys) x h (suc k, lt, is) = all_in P ys x h.1 (k, omega (arith, lt), is)
-
--- the body of a branch stands in the `cond`
-in_bodies : (bs : List Branch) (fs : List ℕ) (g : ℕ) → Contains (map (λ (b : Branch). b.body) bs) fs → Contains fs g
-    → Contains (flat_map (λ (b : Branch). b.body) bs) g
-in_bodies [] fs g (k, lt, is) c = absurd (omega (arith, lt))
-in_bodies (b ∷ bs) fs g (zero, lt, is) c = Contains-append_left b.body (flat_map (λ (x : Branch). x.body) bs) g
-    (subst (λ xs. Contains xs g) (sym is) c)
-in_bodies (b ∷ bs) fs g (suc k, lt, is) c = Contains-append_right b.body (flat_map (λ (x : Branch). x.body) bs) g
-    (in_bodies bs fs g (k, omega (arith, lt), is) c)
-
-in_sequence : (kind : FormKind) (fs : List ℕ) (g : ℕ) → Contains (sequences kind) fs → Contains fs g
-    → Contains (inner kind) g
-in_sequence (Set x at v) fs g (k, lt, is) c = absurd (omega (arith, lt))
-in_sequence (Cond bs) fs g s c = in_bodies bs fs g s c
-in_sequence (Par forms) fs g (zero, lt, is) c = subst (λ xs. Contains xs g) (sym is) c
-in_sequence (Par forms) fs g (suc k, lt, is) c = absurd (omega (arith, lt))
-in_sequence (Go l) fs g (k, lt, is) c = absurd (omega (arith, lt))
-in_sequence (Call l) fs g (k, lt, is) c = absurd (omega (arith, lt))
-in_sequence Return fs g (k, lt, is) c = absurd (omega (arith, lt))
 
 body_fits : (e i n : ℕ) (bs : List Branch) (fs : List ℕ) → BranchesFit e i n bs
     → Contains (map (λ (b : Branch). b.body) bs) fs → AllBetween i n fs
@@ -72,8 +39,8 @@ body_fits e i n (b ∷ bs) fs h (suc k, lt, is) = body_fits e i n bs fs h.1 (k, 
 behind : (e i n : ℕ) (kind : FormKind) (fs : List ℕ) (g : ℕ) → InnerFit e i n kind → Contains (sequences kind) fs
     → Contains fs g → (i < g) × (g < n)
 behind e i n (Set x at v) fs g fit (k, lt, is) c = absurd (omega (arith, lt))
-behind e i n (Cond bs) fs g fit s c = all_in (λ k. (i < k) × (k < n)) fs g (body_fits e i n bs fs fit s) c
-behind e i n (Par forms) fs g fit (zero, lt, is) c = all_in (λ k. (i < k) × (k < n)) fs g
+behind e i n (Cond bs) fs g fit s c = holds_of_contained (λ k. (i < k) × (k < n)) fs g (body_fits e i n bs fs fit s) c
+behind e i n (Par forms) fs g fit (zero, lt, is) c = holds_of_contained (λ k. (i < k) × (k < n)) fs g
     (subst (AllBetween i n) is fit) c
 behind e i n (Par forms) fs g fit (suc k, lt, is) c = absurd (omega (arith, lt))
 behind e i n (Go l) fs g fit (k, lt, is) c = absurd (omega (arith, lt))
@@ -102,15 +69,15 @@ some_form e (f ∷ fs) h = by (cases_eq (moves (e f)) 0) (λ more. some_form e f
         → (g : ℕ) × Contains (f ∷ fs) g × (0 < moves (e g))
     by (inl none) rest =
         let a = moves_append (e f) (flat_map e fs) in
-        let (g, c, m) = rest (omega (arith, a, none, h)) in (g, there g f fs c, m)
-    by (inr some) rest = (f, here f fs, omega (arith, some))
+        let (g, c, m) = rest (omega (arith, a, none, h)) in (g, contains_behind g f fs c, m)
+    by (inr some) rest = (f, contains_head f fs, omega (arith, some))
 
 none_in : (e : ℕ → List Effect) (fs : List ℕ) → ((g : ℕ) → Contains fs g → moves (e g) ≡ 0) → moves (flat_map e fs) ≡ 0
 none_in e [] h = refl
 none_in e (f ∷ fs) h =
     let a = moves_append (e f) (flat_map e fs) in
-    let b = h f (here f fs) in
-    let c = none_in e fs (λ g m. h g (there g f fs m)) in
+    let b = h f (contains_head f fs) in
+    let c = none_in e fs (λ g m. h g (contains_behind g f fs m)) in
     omega (arith, a, b, c)
 
 -- where no two forms move, there is at most one move
@@ -119,7 +86,7 @@ one_in : (e : ℕ → List Effect) (fs : List ℕ) → ((g : ℕ) → Contains f
     → moves (flat_map e fs) ≤ 1
 one_in e [] low apart = omega arith
 one_in e (f ∷ fs) low apart = by (cases_eq (moves (e f)) 0)
-    (one_in e fs (λ g m. low g (there g f fs m))
+    (one_in e fs (λ g m. low g (contains_behind g f fs m))
     (λ i j g h (lt, is) (lt2, is2) ij mg mh. apart (suc i) (suc j) g h (omega (arith, lt), is)
     (omega (arith, lt2), is2) (omega (arith, ij)) mg mh))
   where
@@ -127,7 +94,7 @@ one_in e (f ∷ fs) low apart = by (cases_eq (moves (e f)) 0)
     by (inl none) rest = let a = moves_append (e f) (flat_map e fs) in omega (arith, a, none, rest)
     by (inr some) rest =
         let a = moves_append (e f) (flat_map e fs) in
-        let b = low f (here f fs) in
+        let b = low f (contains_head f fs) in
         let c = none_in e fs (λ g (j, lt, is). elim (cases_eq (moves (e g)) 0) [
           | inl none ↦ none
           | inr more ↦ absurd (apart 0 (suc j) f g (omega arith, refl) (omega (arith, lt), sym is) (omega arith)
@@ -152,9 +119,9 @@ branches_do v (b ∷ bs) e = by (v b.guard == 1) (branches_do v bs e)
         → (cond t (flat_map e b.body) (branch_effects v bs e) ≡ [])
         ⊎ ((fs : List ℕ) × Contains (b.body ∷ map (λ (x : Branch). x.body) bs) fs
         × (cond t (flat_map e b.body) (branch_effects v bs e) ≡ flat_map e fs))
-    by true rest = inr (b.body, here b.body (map (λ (x : Branch). x.body) bs), refl)
+    by true rest = inr (b.body, contains_head b.body (map (λ (x : Branch). x.body) bs), refl)
     by false (inl none) = inl none
-    by false (inr (fs, c, is)) = inr (fs, there fs b.body (map (λ (x : Branch). x.body) bs) c, is)
+    by false (inr (fs, c, is)) = inr (fs, contains_behind fs b.body (map (λ (x : Branch). x.body) bs) c, is)
 
 does : (v : ℕ → ℕ) (kind : FormKind) (e : ℕ → List Effect) → Does v kind e
 does v (Set x at w) e = inl refl
@@ -164,7 +131,7 @@ does v (Cond bs) e = by (branches_do v bs e)
         × (branch_effects v bs e ≡ flat_map e fs)) → Does v (Cond bs) e
     by (inl none) = inl (ap (λ es. moves es) none)
     by (inr h) = inr (inr h)
-does v (Par fs) e = inr (inr (fs, here fs [], refl))
+does v (Par fs) e = inr (inr (fs, contains_head fs [], refl))
 does v (Go l) e = inr (inl (refl, refl))
 does v (Call l) e = inr (inl (refl, refl))
 does v Return e = inr (inl (refl, refl))
@@ -172,11 +139,6 @@ does v Return e = inr (inl (refl, refl))
 abbrev pub EffectsLaw : Program → Type 0
 EffectsLaw p = (env : List ℕ) (f : ℕ) (x : Form) → f < length p.forms → x ≡ slice_index_or p.forms f x
     → effects_of p env f ≡ kind_effects (value_of p env) x.kind (effects_of p env)
-
-under_more : (p : Program) (r f g : ℕ) (y : Form) → Under p r f → IsAt p.forms f y → Contains (inner y.kind) g
-    → Under p r g
-under_more p r f g y itself at c = deeper y at c itself
-under_more p r f g y (deeper {g = h} z at_r d under) at c = deeper z at_r d (under_more p h f g y under at c)
 
 module _ (p : Program) (env : List ℕ) (sound : IsSound p) (law : EffectsLaw p) where
   -- a transfer stands in what moves
@@ -275,8 +237,9 @@ pub one_move : (p : Program) → IsSound p → EffectsLaw p → ((at : Place) �
     → (env : List ℕ) (k : ℕ) (q : Process) (f : ℕ) → IsAt p.processes k q → Contains q.forms f
     → moves (effects_of p env f) ≤ 1
 one_move p sound law unbroken env k q f at root =
-    let inside : f < length p.forms = all_in (λ i. i < length p.forms) q.forms f
-    (all_in (λ (x : Process). AllByRecursion (λ i. i < length p.forms) x.forms) p.processes q sound.processes
+    let inside : f < length p.forms = holds_of_contained (λ i. i < length p.forms) q.forms f
+    (holds_of_contained
+    (λ (x : Process). AllByRecursion (λ i. i < length p.forms) x.forms) p.processes q sound.processes
     (k, at.0, sym at.1)) root in
     let (y, at_f) = some_entry p.forms f inside in
     moves_once p env sound law f (λ b z later. unbroken z.place (k, q, f, b, z, at, root, later, refl))
@@ -285,7 +248,7 @@ one_move p sound law unbroken env k q f at root =
 pub no_move : (p : Program) → IsSound p → EffectsLaw p → ((at : Place) → E30 p at → ⊥) → (env : List ℕ) (f : ℕ)
     → Contains p.always f → moves (effects_of p env f) ≡ 0
 no_move p sound law unbroken env f root =
-    moves_none p env sound law f (all_in (λ i. i < length p.forms) p.always f sound.always root)
+    moves_none p env sound law f (holds_of_contained (λ i. i < length p.forms) p.always f sound.always root)
     (λ a x under at own. unbroken x.place (a, x, (f, root, under, at), own, refl))
 
 -- ---- seats
@@ -311,10 +274,10 @@ some_move : (es : List Effect) → 0 < moves es → (m : Effect) × Contains es 
 some_move [] some = absurd (omega (arith, some))
 some_move (Writes x v ∷ es) some =
     let e = moves_cons (Writes x v) es in
-    let (m, c, move) = some_move es (omega (arith, e, some)) in (m, there m (Writes x v) es c, move)
-some_move (Goes l ∷ es) some = (Goes l, here (Goes l) es, refl)
-some_move (Calls l ∷ es) some = (Calls l, here (Calls l) es, refl)
-some_move (Returns ∷ es) some = (Returns, here Returns es, refl)
+    let (m, c, move) = some_move es (omega (arith, e, some)) in (m, contains_behind m (Writes x v) es c, move)
+some_move (Goes l ∷ es) some = (Goes l, contains_head (Goes l) es, refl)
+some_move (Calls l ∷ es) some = (Calls l, contains_head (Calls l) es, refl)
+some_move (Returns ∷ es) some = (Returns, contains_head Returns es, refl)
 
 -- the first of these effects moves, so that it is the one move
 first_move : (e : Effect) (es : List Effect) (m : Effect) → Contains (e ∷ es) m → is_move m ≡ true → is_move e ≡ true

@@ -1,46 +1,36 @@
 -- Names that are each the name of one definition, where none is repeated.
-use Rattle.std.proofs.Common.{◌≡◌, ℕ, zero, suc, ◌<◌, ◌≤◌, List, [], ◌∷◌, ◌++◌, Bool, true, false, cond, refl, sym, ◌∙◌, ap, subst, inl, inr, length, arith}
-use Rattle.std.specs.Prelude.{map, filter, not, ◌&&◌, ◌||◌, ◌==◌, nat_le, nat_lt}
+use Rattle.std.proofs.Common.{◌≡◌, ℕ, zero, suc, ◌<◌, ◌≤◌, List, [], ◌∷◌, ◌++◌, Bool, true, false, cond, refl, sym, ◌∙◌}
+use Rattle.std.proofs.Common.{ap, subst, inl, inr, length, arith}
+use Rattle.std.specs.Prelude.{map, filter, not, ◌&&◌, ◌||◌, ◌==◌}
 use Rattle.std.specs.List.{list_all}
 use Rattle.std.proofs.lemmas.Bool.{cases_lt, cases_Bool}
-use Rattle.std.proofs.lemmas.Bool.{eqb-true}
+use Rattle.std.proofs.lemmas.Bool.{eqb-true, and_parts, not_from_false}
 use Rattle.std.proofs.lemmas.Slice.Eq.{bytes_eq-Decides}
 use Rattle.mp_base.specs.declared.refusal.Place.{Place}
 use Rattle.mp_program.specs.declared.program.Def.{Def}
 use Rattle.mp_program.specs.declared.program.Program.{Program}
 use Rattle.mp_program.specs.Names.{is_same, is_supply, index_of}
-use Rattle.mp_program.specs.Fits.{is_symbol, exprs_fit, forms_fit, def_fits, process_fits}
+use Rattle.mp_program.specs.Fits.{is_symbol, def_fits}
+use Rattle.mp_program.proofs.FormKinds.{defs_fit}
 use Rattle.mp_rules.specs.Entries.{IsAt}
 use Rattle.mp_rules.specs.Naming.{Naming, def_naming, process_naming, OwnNames}
 use Rattle.mp_rules.specs.Rules.{E20}
 
-both : (a b : Bool) → (a && b) ≡ true → (a ≡ true) × (b ≡ true)
-both true b h = (refl, h)
-both false b h = absurd (cc)
-
-defs_fit : (p : Program) → list_all def_fits p.defs ≡ true
-defs_fit p =
-    let e = length p.exprs in
-    let n = length p.forms in
-    let t0 = both (nat_le 1 p.width && nat_le p.width 32 && is_symbol p.name && list_all def_fits p.defs && exprs_fit e 0 p.exprs
-    && forms_fit e n 0 p.forms && list_all (λ f. nat_lt f n) p.always) (list_all (process_fits n) p.processes) p.fits in
-    let t1 = both (nat_le 1 p.width && nat_le p.width 32 && is_symbol p.name && list_all def_fits p.defs && exprs_fit e 0 p.exprs
-    && forms_fit e n 0 p.forms) (list_all (λ f. nat_lt f n) p.always) t0.0 in
-    let t2 = both (nat_le 1 p.width && nat_le p.width 32 && is_symbol p.name && list_all def_fits p.defs && exprs_fit e 0 p.exprs)
-    (forms_fit e n 0 p.forms) t1.0 in
-    let t3 = both (nat_le 1 p.width && nat_le p.width 32 && is_symbol p.name && list_all def_fits p.defs) (exprs_fit e 0 p.exprs) t2.0 in
-    (both (nat_le 1 p.width && nat_le p.width 32 && is_symbol p.name) (list_all def_fits p.defs) t3.0).1
-
 def_fits_at : (ds : List Def) (d : ℕ) (x : Def) → list_all def_fits ds ≡ true → IsAt ds d x → def_fits x ≡ true
 def_fits_at [] d x h (lt, is) = absurd (omega (arith, lt))
-def_fits_at (y ∷ ys) zero x h (lt, is) = subst (λ z. def_fits z ≡ true) (sym is) (both (def_fits y) (list_all def_fits ys) h).0
-def_fits_at (y ∷ ys) (suc d) x h (lt, is) = def_fits_at ys d x (both (def_fits y) (list_all def_fits ys) h).1 (omega (arith, lt), is)
+def_fits_at (y ∷ ys) zero x h (lt, is) =
+    subst (λ z. def_fits z ≡ true) (sym is) (and_parts (def_fits y) (list_all def_fits ys) h).0
+def_fits_at (y ∷ ys) (suc d) x h (lt, is) =
+    def_fits_at ys d x (and_parts (def_fits y) (list_all def_fits ys) h).1 (omega (arith, lt), is)
 
 -- the name of a supply is no name of another definition
-supply_apart : (x y : Def) → def_fits x ≡ true → def_fits y ≡ true → is_supply x.what ≡ false → is_supply y.what ≡ true → y.name ≡ x.name → ⊥
+supply_apart : (x y : Def) → def_fits x ≡ true → def_fits y ≡ true → is_supply x.what ≡ false → is_supply y.what ≡ true
+    → y.name ≡ x.name → ⊥
 supply_apart x y fits other named supply same =
-    let symbol : is_symbol x.name ≡ true = when_named (is_supply x.what) (length x.name == 0) (is_symbol x.name) fits named in
-    let none : (length y.name == 0) ≡ true = when_supply (is_supply y.what) (length y.name == 0) (is_symbol y.name) other supply in
+    let symbol : is_symbol x.name ≡ true =
+    when_named (is_supply x.what) (length x.name == 0) (is_symbol x.name) fits named in
+    let none : (length y.name == 0) ≡ true =
+    when_supply (is_supply y.what) (length y.name == 0) (is_symbol y.name) other supply in
     let bare : is_symbol [] ≡ true = subst (λ n. is_symbol n ≡ true) (sym same ∙ empty y.name none) symbol in
     cc
   where
@@ -62,25 +52,33 @@ first_at : (ds : List Def) (d : ℕ) (x : Def) → IsAt ds d x → index_of ds x
 first_at [] d x (lt, is) = absurd (omega (arith, lt))
 first_at (y ∷ ys) d x at = elim (cases_Bool (is_same y.name x.name)) [
   | inl same ↦ (let e = ap (λ b. cond b 0 (suc (index_of ys x.name))) same in omega (arith, e))
-  | inr other ↦ (let e = ap (λ b. cond b 0 (suc (index_of ys x.name))) other in (let below = behind (λ k found. first_at ys k x found) d at other in omega (arith, e, below)))
+  | inr other ↦
+      (let e = ap (λ b. cond b 0 (suc (index_of ys x.name))) other in
+      (let below = behind (λ k found. first_at ys k x found) d at other in omega (arith, e, below)))
 ]
   where
-    behind : ((k : ℕ) → IsAt ys k x → index_of ys x.name ≤ k) → (k : ℕ) → IsAt (y ∷ ys) k x → is_same y.name x.name ≡ false → suc (index_of ys x.name) ≤ k
-    behind rest zero (lt, is) other = absurd (let same = (bytes_eq-Decides y.name x.name).1 (sym (ap Def.name is)) in cc)
+    behind : ((k : ℕ) → IsAt ys k x → index_of ys x.name ≤ k) → (k : ℕ) → IsAt (y ∷ ys) k x
+        → is_same y.name x.name ≡ false → suc (index_of ys x.name) ≤ k
+    behind rest zero (lt, is) other =
+        absurd (let same = (bytes_eq-Decides y.name x.name).1 (sym (ap Def.name is)) in cc)
     behind rest (suc k) (lt, is) other = (let below = rest k (omega (arith, lt), is) in omega (arith, below))
 
-found_at : (ds : List Def) (n : List ℕ) → index_of ds n < length ds → (y : Def) × IsAt ds (index_of ds n) y × (y.name ≡ n)
+found_at : (ds : List Def) (n : List ℕ) → index_of ds n < length ds
+    → (y : Def) × IsAt ds (index_of ds n) y × (y.name ≡ n)
 found_at [] n lt = absurd (omega (arith, lt))
 found_at (x ∷ xs) n lt = by (found_at xs n) (is_same x.name n) refl lt
   where
-    by : (index_of xs n < length xs → (y : Def) × IsAt xs (index_of xs n) y × (y.name ≡ n)) → (b : Bool) → is_same x.name n ≡ b
-        → cond b 0 (suc (index_of xs n)) < length (x ∷ xs) → (y : Def) × IsAt (x ∷ xs) (cond b 0 (suc (index_of xs n))) y × (y.name ≡ n)
+    by : (index_of xs n < length xs → (y : Def) × IsAt xs (index_of xs n) y × (y.name ≡ n)) → (b : Bool)
+        → is_same x.name n ≡ b
+        → cond b 0 (suc (index_of xs n)) < length (x ∷ xs)
+        → (y : Def) × IsAt (x ∷ xs) (cond b 0 (suc (index_of xs n))) y × (y.name ≡ n)
     by rest true same less = (x, (omega arith, refl), (bytes_eq-Decides x.name n).0 same)
     by rest false other less =
         let found = rest (omega (arith, less)) in
         (found.0, (let lt = found.1.0 in omega (arith, lt), found.1.1), found.2)
 
-kept_in : (t : Def → Bool) (ds : List Def) (d : ℕ) (x : Def) → IsAt ds d x → t x ≡ true → (k : ℕ) × IsAt (filter t ds) k x
+kept_in : (t : Def → Bool) (ds : List Def) (d : ℕ) (x : Def) → IsAt ds d x → t x ≡ true
+    → (k : ℕ) × IsAt (filter t ds) k x
 kept_in t [] d x (lt, is) kept = absurd (omega (arith, lt))
 kept_in t (z ∷ zs) zero x (lt, is) kept =
     let e : t z ≡ true = subst (λ w. t w ≡ true) is kept in
@@ -96,7 +94,8 @@ abbrev InOrder : List Def → Def → Def → Type 0
 InOrder ds y x = (j k : ℕ) × (j < k) × IsAt ds j y × IsAt ds k x
 
 -- two definitions that are kept in a list are kept in their order
-kept_order : (t : Def → Bool) (ds : List Def) (i d : ℕ) (y x : Def) → IsAt ds i y → IsAt ds d x → i < d → t y ≡ true → t x ≡ true → InOrder (filter t ds) y x
+kept_order : (t : Def → Bool) (ds : List Def) (i d : ℕ) (y x : Def) → IsAt ds i y → IsAt ds d x → i < d → t y ≡ true
+    → t x ≡ true → InOrder (filter t ds) y x
 kept_order t [] i d y x (lt, is) second less kept also = absurd (omega (arith, lt))
 kept_order t (z ∷ zs) i zero y x first second less kept also = absurd (omega (arith, less))
 kept_order t (z ∷ zs) zero (suc d) y x (lt, is) (lt2, is2) less kept also =
@@ -105,20 +104,20 @@ kept_order t (z ∷ zs) zero (suc d) y x (lt, is) (lt2, is2) less kept also =
     subst (λ b. InOrder (cond b (z ∷ filter t zs) (filter t zs)) y x) (sym e)
     (0, suc found.0, omega arith, (omega arith, is), (let below = found.1.0 in omega (arith, below), found.1.1))
 kept_order t (z ∷ zs) (suc i) (suc d) y x (lt, is) (lt2, is2) less kept also =
-    shift (t z) (kept_order t zs i d y x (omega (arith, lt), is) (omega (arith, lt2), is2) (omega (arith, less)) kept also)
+    shift (t z)
+    (kept_order t zs i d y x (omega (arith, lt), is) (omega (arith, lt2), is2) (omega (arith, less)) kept also)
   where
     shift : (b : Bool) → InOrder (filter t zs) y x → InOrder (cond b (z ∷ filter t zs) (filter t zs)) y x
-    shift true (j, k, jk, (jlt, jis), (klt, kis)) = (suc j, suc k, omega (arith, jk), (omega (arith, jlt), jis), (omega (arith, klt), kis))
+    shift true (j, k, jk, (jlt, jis), (klt, kis)) =
+        (suc j, suc k, omega (arith, jk), (omega (arith, jlt), jis), (omega (arith, klt), kis))
     shift false found = found
 
-naming_at : (ds : List Def) (ns : List Naming) (k : ℕ) (x : Def) → IsAt ds k x → IsAt (map def_naming ds ++ ns) k (def_naming x)
+naming_at : (ds : List Def) (ns : List Naming) (k : ℕ) (x : Def) → IsAt ds k x
+    → IsAt (map def_naming ds ++ ns) k (def_naming x)
 naming_at [] ns k x (lt, is) = absurd (omega (arith, lt))
 naming_at (d ∷ ds) ns zero x (lt, is) = (omega arith, ap def_naming is)
-naming_at (d ∷ ds) ns (suc k) x (lt, is) = let found = naming_at ds ns k x (omega (arith, lt), is) in (let below = found.0 in omega (arith, below), found.1)
-
-not_false : (b : Bool) → b ≡ false → not b ≡ true
-not_false true h = absurd (cc)
-not_false false h = refl
+naming_at (d ∷ ds) ns (suc k) x (lt, is) = let found = naming_at ds ns k x (omega (arith, lt), is) in
+    (let below = found.0 in omega (arith, below), found.1)
 
 pub own : (p : Program) → ((at : Place) → E20 p at → ⊥) → OwnNames p
 own p unbroken d x at named = elim (cases_lt (index_of p.defs x.name) d) [
@@ -131,11 +130,31 @@ own p unbroken d x at named = elim (cases_lt (index_of p.defs x.name) d) [
 
     clash : (y : Def) → InOrder (filter (λ (z : Def). not (is_supply z.what)) p.defs) y x → y.name ≡ x.name → ⊥
     clash y (j, k, jk, first, second) same =
-        let here = naming_at (filter (λ (z : Def). not (is_supply z.what)) p.defs) (map process_naming p.processes) j y first in
-        let there = naming_at (filter (λ (z : Def). not (is_supply z.what)) p.defs) (map process_naming p.processes) k x second in
+        let here =
+        naming_at (filter (λ (z : Def). not (is_supply z.what)) p.defs) (map process_naming p.processes) j y first in
+        let there =
+        naming_at (filter (λ (z : Def). not (is_supply z.what)) p.defs) (map process_naming p.processes) k x second in
         elim (cases_lt (x.place).offset (y.place).offset) [
-          | inl before ↦ unbroken y.place (inl (j, def_naming y, here, refl, inr (k, def_naming x, there, (λ e. omega (arith, e, jk)), sym same, omega (arith, before))))
-          | inr behind ↦ unbroken x.place (inl (k, def_naming x, there, refl, inr (j, def_naming y, here, (λ e. omega (arith, e, jk)), same, behind)))
+          | inl before ↦
+              unbroken y.place
+              (inl (
+                j,
+                def_naming y,
+                here,
+                refl,
+                inr
+                    (k, def_naming x, there, (λ e. omega (arith, e, jk)), sym same, omega (arith, before)),
+              ))
+          | inr behind ↦
+              unbroken x.place
+              (inl (
+                k,
+                def_naming x,
+                there,
+                refl,
+                inr
+                    (j, def_naming y, here, (λ e. omega (arith, e, jk)), same, behind),
+              ))
         ]
 
     earlier : index_of p.defs x.name < d → ⊥
@@ -143,7 +162,12 @@ own p unbroken d x at named = elim (cases_lt (index_of p.defs x.name) d) [
         let found = found_at p.defs x.name (let lt = at.0 in omega (arith, less, lt)) in
         let all = defs_fit p in
         elim (cases_Bool (is_supply (found.0).what)) [
-          | inl supply ↦ supply_apart x found.0 (def_fits_at p.defs d x all at) (def_fits_at p.defs (index_of p.defs x.name) found.0 all found.1) named supply found.2
-          | inr other ↦ clash found.0 (kept_order (λ (z : Def). not (is_supply z.what)) p.defs (index_of p.defs x.name) d found.0 x found.1 at less
-              (not_false (is_supply (found.0).what) other) (not_false (is_supply x.what) named)) found.2
+          | inl supply ↦
+              supply_apart x found.0 (def_fits_at p.defs d x all at)
+              (def_fits_at p.defs (index_of p.defs x.name) found.0 all found.1) named supply found.2
+          | inr other ↦
+              clash found.0
+              (kept_order (λ (z : Def). not (is_supply z.what)) p.defs
+              (index_of p.defs x.name) d found.0 x found.1 at less
+              (not_from_false (is_supply (found.0).what) other) (not_from_false (is_supply x.what) named)) found.2
         ]

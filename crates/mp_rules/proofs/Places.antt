@@ -1,5 +1,5 @@
 -- Each rule is broken at the place of something in the program.
-use Rattle.std.proofs.Common.{◌≡◌, ◌⊎◌, ℕ, zero, suc, List, [], ◌∷◌, ◌++◌, Bool, true, false, not, cond, refl, sym, subst, inl, inr, arith}
+use Rattle.std.proofs.Common.{◌≡◌, ◌⊎◌, ℕ, zero, suc, List, [], ◌∷◌, ◌++◌, not, refl, sym, subst, inl, inr, arith}
 use Rattle.std.specs.Prelude.{map, filter}
 use Rattle.std.specs.List.{flat_map}
 use Rattle.mp_base.specs.declared.refusal.Place.{Place}
@@ -12,9 +12,11 @@ use Rattle.mp_rules.specs.Naming.{Naming, namings, def_naming, process_naming, U
 use Rattle.mp_rules.specs.Rules.{pins}
 use Rattle.mp_rules.specs.Breaking.{Breaks}
 use Rattle.mp_rules.specs.Places.{HasPlace}
+use Rattle.mp_rules.proofs.ListEntries.{at_map, at_filter}
 
 -- an entry of two lists is one of either
-at_append : {X : Type 0} (xs ys : List X) (k : ℕ) (x : X) → IsAt (xs ++ ys) k x → ((j : ℕ) × IsAt xs j x) ⊎ ((j : ℕ) × IsAt ys j x)
+at_append : {X : Type 0} (xs ys : List X) (k : ℕ) (x : X) → IsAt (xs ++ ys) k x
+    → ((j : ℕ) × IsAt xs j x) ⊎ ((j : ℕ) × IsAt ys j x)
 at_append [] ys k x at = inr (k, at)
 at_append (z ∷ zs) ys zero x (lt, is) = inl (0, (omega arith, is))
 at_append (z ∷ zs) ys (suc k) x (lt, is) = elim (at_append zs ys k x (omega (arith, lt), is)) [
@@ -22,26 +24,8 @@ at_append (z ∷ zs) ys (suc k) x (lt, is) = elim (at_append zs ys k x (omega (a
   | inr there ↦ inr there
 ]
 
-at_map : {X Y : Type 0} (f : X → Y) (xs : List X) (k : ℕ) (y : Y) → IsAt (map f xs) k y → (x : X) × IsAt xs k x × (y ≡ f x)
-at_map f [] k y (lt, is) = absurd (omega (arith, lt))
-at_map f (x ∷ xs) zero y (lt, is) = (x, (omega arith, refl), is)
-at_map f (x ∷ xs) (suc k) y (lt, is) = let found = at_map f xs k y (omega (arith, lt), is) in
-    (found.0, (let below = found.1.0 in omega (arith, below), found.1.1), found.2)
-
-at_filter : {X : Type 0} (t : X → Bool) (xs : List X) (k : ℕ) (x : X) → IsAt (filter t xs) k x → (j : ℕ) × IsAt xs j x
-at_filter t [] k x (lt, is) = absurd (omega (arith, lt))
-at_filter t (y ∷ ys) k x at = kept (λ i. at_filter t ys i x) (t y) k at
-  where
-    behind : (j : ℕ) × IsAt ys j x → (j : ℕ) × IsAt (y ∷ ys) j x
-    behind (j, (lt, is)) = (suc j, (omega (arith, lt), is))
-
-    kept : ((i : ℕ) → IsAt (filter t ys) i x → (j : ℕ) × IsAt ys j x) → (b : Bool) (i : ℕ) → IsAt (cond b (y ∷ filter t ys) (filter t ys)) i x
-        → (j : ℕ) × IsAt (y ∷ ys) j x
-    kept rest true zero (lt, is) = (0, (omega arith, is))
-    kept rest true (suc i) (lt, is) = behind (rest i (omega (arith, lt), is))
-    kept rest false i found = behind (rest i found)
-
-at_flat_map : {X Y : Type 0} (f : X → List Y) (xs : List X) (k : ℕ) (y : Y) → IsAt (flat_map f xs) k y → (j i : ℕ) × (x : X) × IsAt xs j x × IsAt (f x) i y
+at_flat_map : {X Y : Type 0} (f : X → List Y) (xs : List X) (k : ℕ) (y : Y) → IsAt (flat_map f xs) k y
+    → (j i : ℕ) × (x : X) × IsAt xs j x × IsAt (f x) i y
 at_flat_map f [] k y (lt, is) = absurd (omega (arith, lt))
 at_flat_map f (x ∷ xs) k y at = elim (at_append (f x) (flat_map f xs) k y at) [
   | inl (i, there) ↦ (0, i, x, (omega arith, refl), there)
@@ -50,13 +34,16 @@ at_flat_map f (x ∷ xs) k y at = elim (at_append (f x) (flat_map f xs) k y at) 
 ]
 
 naming_place : (p : Program) (k : ℕ) (n : Naming) → IsAt (namings p) k n → HasPlace p n.place
-naming_place p k n at = elim (at_append (map def_naming (filter (λ (d : Def). not (is_supply d.what)) p.defs)) (map process_naming p.processes) k n at) [
-  | inl (j, there) ↦ let found = at_map def_naming (filter (λ (d : Def). not (is_supply d.what)) p.defs) j n there in
-      let kept = at_filter (λ (d : Def). not (is_supply d.what)) p.defs j found.0 found.1 in
-      subst (λ (m : Naming). HasPlace p m.place) (sym found.2) (HasPlace.definition kept.0 found.0 kept.1)
-  | inr (j, there) ↦ let found = at_map process_naming p.processes j n there in
-      subst (λ (m : Naming). HasPlace p m.place) (sym found.2) (HasPlace.process j found.0 found.1)
-]
+naming_place p k n at =
+    elim (at_append (map def_naming (filter (λ (d : Def). not (is_supply d.what)) p.defs))
+    (map process_naming p.processes) k n at) [
+      | inl (j, there) ↦ let found =
+          at_map def_naming (filter (λ (d : Def). not (is_supply d.what)) p.defs) j n there in
+          let kept = at_filter (λ (d : Def). not (is_supply d.what)) p.defs j found.0 found.1 in
+          subst (λ (m : Naming). HasPlace p m.place) (sym found.2) (HasPlace.definition kept.0 found.0 kept.1)
+      | inr (j, there) ↦ let found = at_map process_naming p.processes j n there in
+          subst (λ (m : Naming). HasPlace p m.place) (sym found.2) (HasPlace.process j found.0 found.1)
+    ]
 
 pin_place : (p : Program) (k : ℕ) (x : Pin) → IsAt (pins p) k x → HasPlace p x.place
 pin_place p k x at = let found = at_flat_map (λ (d : Def). d.pins) p.defs k x at in
@@ -71,14 +58,20 @@ at_place p at there same h = subst (HasPlace p) (sym same) h
 
 pub broken_place : (p : Program) (k : ℕ) (at : Place) → Breaks p k at → HasPlace p at
 broken_place p number at (inl (rule, inl (k, n, there, is, why))) = at_place p at n.place is (naming_place p k n there)
-broken_place p number at (inl (rule, inr (j, k, a, b, first, second, lt, supply, same, is))) = at_place p at b.place is (HasPlace.definition k b second)
+broken_place p number at (inl (rule, inr (j, k, a, b, first, second, lt, supply, same, is))) =
+    at_place p at b.place is (HasPlace.definition k b second)
 broken_place p number at (inr (inl (rule, (x, uses, none)))) = use_place p x at uses
-broken_place p number at (inr (inr (inl (rule, inl (e, x, s, t, there, wanted, sort, other, is))))) = at_place p at x.place is (HasPlace.expression e x there)
+broken_place p number at (inr (inr (inl (rule, inl (e, x, s, t, there, wanted, sort, other, is))))) =
+    at_place p at x.place is (HasPlace.expression e x there)
 broken_place p number at (inr (inr (inl (rule, inr (k, q, there, uses))))) = use_place p q.name at uses
-broken_place p number at (inr (inr (inr (inl (rule, inl (d, x, c, there, what, big, is)))))) = at_place p at x.place is (HasPlace.definition d x there)
-broken_place p number at (inr (inr (inr (inl (rule, inr (e, x, n, there, kind, big, is)))))) = at_place p at x.place is (HasPlace.expression e x there)
-broken_place p number at (inr (inr (inr (inr (inl (rule, (e, x, k, args, there, kind, past, is))))))) = at_place p at x.place is (HasPlace.expression e x there)
-broken_place p number at (inr (inr (inr (inr (inr (inl (rule, (j, k, a, b, first, second, lt, same, is)))))))) = at_place p at b.place is (pin_place p k b second)
+broken_place p number at (inr (inr (inr (inl (rule, inl (d, x, c, there, what, big, is)))))) =
+    at_place p at x.place is (HasPlace.definition d x there)
+broken_place p number at (inr (inr (inr (inl (rule, inr (e, x, n, there, kind, big, is)))))) =
+    at_place p at x.place is (HasPlace.expression e x there)
+broken_place p number at (inr (inr (inr (inr (inl (rule, (e, x, k, args, there, kind, past, is))))))) =
+    at_place p at x.place is (HasPlace.expression e x there)
+broken_place p number at (inr (inr (inr (inr (inr (inl (rule, (j, k, a, b, first, second, lt, same, is)))))))) =
+    at_place p at b.place is (pin_place p k b second)
 broken_place p number at (inr (inr (inr (inr (inr (inr (inl (rule, (d, x, first, there, port, other, found, is))))))))) = at_place p at first.place is (HasPlace.pin d 0 x first there found)
 broken_place p number at (inr (inr (inr (inr (inr (inr (inr (inl (rule, (f, y, x, v, d, z, there, kind, named, same, unset)))))))))) = HasPlace.target f y x at v there kind
 broken_place p number at (inr (inr (inr (inr (inr (inr (inr (inr (inl (rule, (k, q, f, y, l, process, stands, label, none, is))))))))))) = at_place p at y.place is (HasPlace.form f y stands.3)

@@ -18,7 +18,8 @@ pub data HasPlace (p : Program) : Place → Type 0 where
   pin : (d k : ℕ) (x : Def) (y : Pin) → IsAt p.defs d x → IsAt x.pins k y → HasPlace p y.place
   expression : (e : ℕ) (x : Expr) → IsAt p.exprs e x → HasPlace p x.place
   form : (f : ℕ) (x : Form) → IsAt p.forms f x → HasPlace p x.place
-  target : (f : ℕ) (x : Form) (name : List ℕ) (at : Place) (v : ℕ) → IsAt p.forms f x → x.kind ≡ Set name at v → HasPlace p at
+  target : (f : ℕ) (x : Form) (name : List ℕ) (at : Place) (v : ℕ) → IsAt p.forms f x → x.kind ≡ Set name at v
+      → HasPlace p at
   process : (k : ℕ) (q : Process) → IsAt p.processes k q → HasPlace p q.place
   label : (k j : ℕ) (q : Process) (x : Label) → IsAt p.processes k q → IsAt q.labels j x → HasPlace p x.place
   depth : (k : ℕ) (q : Process) → IsAt p.processes k q → HasPlace p q.depth_at

@@ -68,6 +68,9 @@ expr_sort defs (Apply op k args) = Some (result_sort op)
 -- the expression e stands where this sort is wanted: as an operand, as a guard, or as the value of a `setq`
 abbrev pub IsWanted : Program → ℕ → Option Sort → Type 0
 IsWanted p e s =
-    ((i : ℕ) × (x : Expr) × (op : Op) × (k : ℕ) × (args : List ℕ) × IsAt p.exprs i x × (x.kind ≡ Apply op k args) × Contains args e × (s ≡ Some (operand_sort op)))
-    ⊎ ((f : ℕ) × (y : Form) × (bs : List Branch) × IsAt p.forms f y × (y.kind ≡ Cond bs) × Contains (map (λ (b : Branch). b.guard) bs) e × (s ≡ Some IsBit))
-    ⊎ ((f : ℕ) × (y : Form) × (x : List ℕ) × (at : Place) × IsAt p.forms f y × (y.kind ≡ Set x at e) × (s ≡ name_sort p.defs x))
+    ((i : ℕ) × (x : Expr) × (op : Op) × (k : ℕ) × (args : List ℕ) × IsAt p.exprs i x × (x.kind ≡ Apply op k args)
+    × Contains args e × (s ≡ Some (operand_sort op)))
+    ⊎ ((f : ℕ) × (y : Form) × (bs : List Branch) × IsAt p.forms f y × (y.kind ≡ Cond bs)
+    × Contains (map (λ (b : Branch). b.guard) bs) e × (s ≡ Some IsBit))
+    ⊎ ((f : ℕ) × (y : Form) × (x : List ℕ) × (at : Place) × IsAt p.forms f y × (y.kind ≡ Set x at e)
+    × (s ≡ name_sort p.defs x))

@@ -41,9 +41,11 @@ sequences (Par forms) = forms ∷ []
 sequences (Cond branches) = map (λ (b : Branch). b.body) branches
 sequences _ = []
 
--- the form b, which is z, is a transfer that stands in form f behind another that isn't in another branch of one and the same
+-- the form b, which is z, is a transfer that stands in form f behind another that isn't in another branch of one and
+-- the same
 -- `cond`: a sequence has them in two of its forms
 abbrev pub IsLater : Program → ℕ → ℕ → Form → Type 0
-IsLater p f b z = (c : ℕ) × (y x : Form) × (forms : List ℕ) × (i j a g h : ℕ) × Under p f c × IsAt p.forms c y × Contains (sequences y.kind) forms
+IsLater p f b z = (c : ℕ) × (y x : Form) × (forms : List ℕ) × (i j a g h : ℕ) × Under p f c × IsAt p.forms c y
+    × Contains (sequences y.kind) forms
     × IsAt forms i g × IsAt forms j h × (i < j) × Under p g a × Under p h b × IsAt p.forms a x × IsAt p.forms b z
     × (is_transfer x.kind ≡ true) × (is_transfer z.kind ≡ true)

@@ -1,5 +1,6 @@
 -- Forms break rule E10 somewhere first, or each node has a class or none.
-use Rattle.std.proofs.Common.{◌≡◌, ◌⊎◌, inl, inr, ℕ, zero, suc, ◌+◌, ◌<◌, ◌≤◌, List, [], ◌∷◌, Option, Some, None, replicate, refl, ◌∙◌, ap, subst, length, arith, slice_index, slice_set}
+use Rattle.std.proofs.Common.{◌≡◌, ◌⊎◌, inl, inr, ℕ, zero, suc, ◌+◌, ◌<◌, ◌≤◌, List, [], ◌∷◌, Option, Some, None}
+use Rattle.std.proofs.Common.{replicate, refl, ◌∙◌, ap, subst, length, arith, slice_index, slice_set}
 use Rattle.mp_base.specs.declared.refusal.Place.{Place}
 use Rattle.form_reader.specs.declared.forms.Forms.{Forms}
 use Rattle.form_reader.specs.Sound.{node, kind_at, items_of, IsSound}
@@ -9,7 +10,8 @@ use Rattle.mp_shapes.specs.declared.table.Layout.{Layout}
 use Rattle.mp_shapes.specs.Layout.{layout, item_class}
 use Rattle.mp_shapes.specs.Standing.{IsFirstDefect, E10, IsFirstE10, AreClasses}
 use Rattle.mp_shapes.specs.Marking.{Marked}
-use Rattle.mp_shapes.proofs.Finding.{at, Found, items_inside, items_apart, mark_none, mark_skip, mark_set, found_start, found_skip, found_more, root_inside, first_defect, all_found}
+use Rattle.mp_shapes.proofs.Finding.{at, Found, items_inside, items_apart, mark_none, mark_skip, mark_set, found_start}
+use Rattle.mp_shapes.proofs.Finding.{found_skip, found_more, root_inside, first_defect, all_found}
 use Rattle.mp_shapes.proofs.Firsts.{first_of_defects, second_form, no_form, none_broken}
 
 module _ (f : Forms) (s : IsSound f) where

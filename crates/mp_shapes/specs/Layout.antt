@@ -1,9 +1,11 @@
 -- The table of shapes: the shape of a node that has to be of a class, or none where it has a defect of its own.
-use Rattle.std.specs.Prelude.{ℕ, ◌==◌, List, [], Bool, nat_le, true, false, cond, ◌&&◌, length, codes, Option, Some, None, slice_index}
+use Rattle.std.specs.Prelude.{ℕ, ◌==◌, List, [], Bool, nat_le, true, false, cond, ◌&&◌, length, codes, Option, Some}
+use Rattle.std.specs.Prelude.{None, slice_index}
 use Rattle.std.specs.List.{list_all}
 use Rattle.std.specs.Str.{bytes_eq}
 use Rattle.mp_base.specs.declared.op.Op.{Op}
-use Rattle.mp_base.specs.declared.op.Op.TheVariants.{Add, Sub, Inc, Dec, WordAnd, WordOr, WordXor, WordNot, Left, Right, And, Or, Nor, Nand, Xor, Not, Zero, Equal, Less}
+use Rattle.mp_base.specs.declared.op.Op.TheVariants.{Add, Sub, Inc, Dec, WordAnd, WordOr, WordXor, WordNot, Left, Right}
+use Rattle.mp_base.specs.declared.op.Op.TheVariants.{And, Or, Nor, Nand, Xor, Not, Zero, Equal, Less}
 use Rattle.form_reader.specs.Sound.{kind_at}
 use Rattle.form_reader.specs.declared.forms.Kind.{Kind}
 use Rattle.form_reader.specs.declared.forms.Kind.TheVariants.{Number, Symbol, Group}
@@ -11,9 +13,12 @@ use Rattle.form_reader.specs.declared.forms.Forms.{Forms}
 use Rattle.mp_shapes.specs.declared.table.Class.{Class}
 use Rattle.mp_shapes.specs.declared.table.Class.TheVariants.{Whole, Item, Element, Action, Branch, Value, Word, Numeral}
 use Rattle.mp_shapes.specs.declared.table.Definition.{Definition}
-use Rattle.mp_shapes.specs.declared.table.Definition.TheVariants.{Power, Ground, Phia, Phib, Phic, Constant, Register, Flag, PortInput, PortOutput, PortInternal, SignalInput, SignalOutput, SignalInternal}
+use Rattle.mp_shapes.specs.declared.table.Definition.TheVariants.{Power, Ground, Phia, Phib, Phic, Constant, Register}
+use Rattle.mp_shapes.specs.declared.table.Definition.TheVariants.{Flag, PortInput, PortOutput, PortInternal}
+use Rattle.mp_shapes.specs.declared.table.Definition.TheVariants.{SignalInput, SignalOutput, SignalInternal}
 use Rattle.mp_shapes.specs.declared.table.Layout.{Layout}
-use Rattle.mp_shapes.specs.declared.table.Layout.TheVariants.{Leaf, Program, Def, Always, Process, Setq, Cond, Par, Go, Call, Return, Guarded, Apply, Bit}
+use Rattle.mp_shapes.specs.declared.table.Layout.TheVariants.{Leaf, Program, Def, Always, Process, Setq, Cond, Par, Go}
+use Rattle.mp_shapes.specs.declared.table.Layout.TheVariants.{Call, Return, Guarded, Apply, Bit}
 
 -- the bytes of a symbol, and none of another kind
 abbrev pub word_of : Kind → List ℕ
@@ -73,16 +78,22 @@ way x inward outward = cond (bytes_eq x (codes "input")) (Some inward) (when (by
 -- (def SYMBOL port input (NUMBER+)), (def SYMBOL signal input NUMBER), and the same with output
 abbrev pub five : Forms → Kind → Kind → Kind → Kind → Option Definition
 five f name what named last = cond (is_symbol name)
-    (cond (bytes_eq (word_of what) (codes "port")) (cond (is_pins f last) (way (word_of named) PortInput PortOutput) None)
-    (cond (bytes_eq (word_of what) (codes "signal")) (cond (is_number last) (way (word_of named) SignalInput SignalOutput) None)
+    (cond (bytes_eq (word_of what) (codes "port"))
+    (cond (is_pins f last) (way (word_of named) PortInput PortOutput) None)
+    (cond (bytes_eq (word_of what) (codes "signal"))
+    (cond (is_number last) (way (word_of named) SignalInput SignalOutput) None)
     None))
     None
 
 -- what a def with these items defines
 abbrev pub definition : Forms → List ℕ → Option Definition
-definition f items = cond (length items == 3) (three (kind_at f (slice_index items 1)) (kind_at f (slice_index items 2)))
-    (cond (length items == 4) (four (kind_at f (slice_index items 1)) (kind_at f (slice_index items 2)) (kind_at f (slice_index items 3)))
-    (cond (length items == 5) (five f (kind_at f (slice_index items 1)) (kind_at f (slice_index items 2)) (kind_at f (slice_index items 3)) (kind_at f (slice_index items 4)))
+definition f items =
+    cond (length items == 3) (three (kind_at f (slice_index items 1)) (kind_at f (slice_index items 2)))
+    (cond (length items == 4)
+    (four (kind_at f (slice_index items 1)) (kind_at f (slice_index items 2)) (kind_at f (slice_index items 3)))
+    (cond (length items == 5)
+    (five f (kind_at f (slice_index items 1)) (kind_at f (slice_index items 2)) (kind_at f (slice_index items 3))
+    (kind_at f (slice_index items 4)))
     None))
 
 abbrev pub defines : Option Definition → Option Layout
@@ -187,7 +198,8 @@ symbol_layout _ = None
 abbrev pub layout : Forms → Class → Kind → Option Layout
 layout f c (Number v) = number_layout c
 layout f c (Symbol x) = symbol_layout c
-layout f c (Group items) = cond (length items == 0) None (list_layout f c (word_of (kind_at f (slice_index items 0))) items)
+layout f c (Group items) =
+    cond (length items == 0) None (list_layout f c (word_of (kind_at f (slice_index items 0))) items)
 
 -- what the items of a list are, by their index
 abbrev pub behind_head : ℕ → Class → Option Class

@@ -7,6 +7,8 @@ use Rattle.mp_shapes.specs.Layout.{item_class}
 -- the first k items of a list have their classes, and nothing else has changed
 pub record Marked (l : Layout) (items : List ℕ) (k : ℕ) (old new : List (Option Class)) : Type 0 where
   pub size : length new ≡ length old
-  pub set : (j : ℕ) (d : Class) → j < k → item_class l j ≡ Some d → slice_index_or new (slice_index items j) None ≡ Some d
+  pub set : (j : ℕ) (d : Class) → j < k → item_class l j ≡ Some d
+      → slice_index_or new (slice_index items j) None ≡ Some d
   pub kept : (m : ℕ) → (slice_index_or new m None ≡ slice_index_or old m None)
-      ⊎ ((j : ℕ) × (d : Class) × (j < k) × (item_class l j ≡ Some d) × (m ≡ slice_index items j) × (slice_index_or new m None ≡ Some d))
+      ⊎ ((j : ℕ) × (d : Class) × (j < k) × (item_class l j ≡ Some d) × (m ≡ slice_index items j)
+      × (slice_index_or new m None ≡ Some d))

@@ -23,15 +23,22 @@ use Rattle.mp_source.specs.Source.{IsFirstRule, OfSource, IsJudged}
 use Rattle.mp_source.proofs.Placed.{node_placed, item_within, place_is}
 use Rattle.mp_source.proofs.Standing.{place_of_node}
 
--- a refusal that names a rule of this family at a place names the first broken rule, where each such rule and place does
-verdict : (T : Type 0) (text : List ℕ) (P : ℕ → Place → Type 0) → ((k : ℕ) (at : Place) → P k at → IsFirstRule text k at)
+-- a refusal that names a rule of this family at a place names the first broken rule, where each such rule and place
+-- does
+verdict : (T : Type 0) (text : List ℕ) (P : ℕ → Place → Type 0)
+    → ((k : ℕ) (at : Place) → P k at → IsFirstRule text k at)
     → (e : Refusal) → RefusesAt E e P → IsJudged {T = T} (OfSource text) (Err e)
 verdict T text P first refusals.NoMemory h = tt
 verdict T text P first (refusals.Broken b) h = by_spot b.spot refl h.1
   where
     by_spot : (s : Spot) → b.spot ≡ s → SpotIs s (P b.rule.number) → OfSource text (Some b)
-    by_spot (At at) is holds =
-        (b.rule.number, at, first b.rule.number at holds, λ i. record { rule = record { family = h.0 i; number = b.rule.number }; spot = is i })
+    by_spot (At at) is holds = (
+      b.rule.number,
+      at,
+      first b.rule.number at holds,
+      λ i.
+          record { rule = record { family = h.0 i; number = b.rule.number }; spot = is i },
+    )
     by_spot (Offset o) is holds = absurd holds
     by_spot (Named n) is holds = absurd holds
     by_spot Nowhere is holds = absurd holds
@@ -45,9 +52,11 @@ stands_within f sound n c (root r rs is) =
     subst (λ xs. slice_index xs 0 < length f.nodes) is (sound.roots 0 (omega (arith, size)))
 stands_within f sound n c (item m j _ d _ l outer there shape class) = (sound.behind m j n there).1
 
-pub of_forms : (T : Type 0) (text : List ℕ) (f : Forms) → Spells text f → IsSound f → (e : Refusal) → RefusesAt E e (IsFirstOfForms f)
+pub of_forms : (T : Type 0) (text : List ℕ) (f : Forms) → Spells text f → IsSound f → (e : Refusal)
+    → RefusesAt E e (IsFirstOfForms f)
     → IsJudged {T = T} (OfSource text) (Err e)
-of_forms T text f spells sound e h = verdict T text _ (λ k at first. record { place = place k at first; first = inr (inl (f, spells, first)) }) e h
+of_forms T text f spells sound e h =
+    verdict T text _ (λ k at first. record { place = place k at first; first = inr (inl (f, spells, first)) }) e h
   where
     at_node : (n : ℕ) (at : Place) → n < length f.nodes → at ≡ (node f n).place → at ≡ place_at text at.offset
     at_node n at lt is = place_is text (node f n).place.offset at (is ∙ node_placed text f n spells lt)
@@ -73,7 +82,12 @@ pub of_program : (T : Type 0) (text : List ℕ) (f : Forms) (p : Program) → Sp
     → ((q : Program) (k : ℕ) (at : Place) → Breaks q k at → HasPlace q at) → (e : Refusal) → RefusesProgram p e
     → IsJudged {T = T} (OfSource text) (Err e)
 of_program T text f p spells sound shape placed e h =
-    verdict T text _ (λ k at first. record { place = place k at first; first = inr (inr (p, record { forms = f; spelled = spells; shape = shape }, first)) }) e h
+    verdict T text _
+    (λ k at first.
+    record {
+      place = place k at first;
+      first = inr (inr (p, record { forms = f; spelled = spells; shape = shape }, first));
+    }) e h
   where
     place : (k : ℕ) (at : Place) → IsFirstOfProgram p k at → at ≡ place_at text at.offset
     place k at first =

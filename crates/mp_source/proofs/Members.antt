@@ -1,38 +1,21 @@
 -- Entries of lists that are made from others.
-use Rattle.std.proofs.Common.{◌≡◌, ℕ, zero, suc, ◌+◌, ◌<◌, List, [], ◌∷◌, Bool, true, false, cond, refl, sym, ◌∙◌, ap, arith, drop, Option, Some, None}
-use Rattle.std.specs.Prelude.{map}
-use Rattle.std.specs.List.{filter, filter_map, cons_option, range_with_len}
+use Rattle.std.proofs.Common.{◌≡◌, ℕ, zero, suc, ◌+◌, ◌<◌, List, [], ◌∷◌, refl, sym, ◌∙◌, ap, arith, drop, Option, Some}
+use Rattle.std.proofs.Common.{None}
+use Rattle.std.specs.List.{filter_map, cons_option, range_with_len}
 use Rattle.std.proofs.lemmas.List.FromFn.{length-range_with_len, get_or-range_with_len}
 use Rattle.std.proofs.lemmas.List.{get_or-drop, length-drop}
 use Rattle.mp_rules.specs.Entries.{IsAt}
 
-pub at_map : {X Y : Type 0} (f : X → Y) (xs : List X) (k : ℕ) (y : Y) → IsAt (map f xs) k y → (x : X) × IsAt xs k x × (y ≡ f x)
-at_map f [] k y (lt, is) = absurd (omega (arith, lt))
-at_map f (x ∷ xs) zero y (lt, is) = (x, (omega arith, refl), is)
-at_map f (x ∷ xs) (suc k) y (lt, is) = let found = at_map f xs k y (omega (arith, lt), is) in
-    (found.0, (let below = found.1.0 in omega (arith, below), found.1.1), found.2)
-
-behind : {X : Type 0} (x y : X) (xs : List X) → (j : ℕ) × IsAt xs j y → (j : ℕ) × IsAt (x ∷ xs) j y
-behind x y xs (j, (lt, is)) = (suc j, (omega (arith, lt), is))
-
-pub at_filter : {X : Type 0} (t : X → Bool) (xs : List X) (k : ℕ) (x : X) → IsAt (filter t xs) k x → (j : ℕ) × IsAt xs j x
-at_filter t [] k x (lt, is) = absurd (omega (arith, lt))
-at_filter {X} t (y ∷ ys) k x at = kept (λ i. at_filter t ys i x) (t y) k at
-  where
-    kept : ((i : ℕ) → IsAt (filter t ys) i x → (j : ℕ) × IsAt ys j x) → (b : Bool) (i : ℕ) → IsAt (cond b (y ∷ filter t ys) (filter t ys)) i x
-        → (j : ℕ) × IsAt (y ∷ ys) j x
-    kept rest true zero (lt, is) = (0, (omega arith, is))
-    kept rest true (suc i) (lt, is) = behind y x ys (rest i (omega (arith, lt), is))
-    kept rest false i found = behind y x ys (rest i found)
-
-pub at_filter_map : {X Y : Type 0} (g : X → Option Y) (xs : List X) (k : ℕ) (y : Y) → IsAt (filter_map g xs) k y → (j : ℕ) × (x : X) × IsAt xs j x × (g x ≡ Some y)
+pub at_filter_map : {X Y : Type 0} (g : X → Option Y) (xs : List X) (k : ℕ) (y : Y) → IsAt (filter_map g xs) k y
+    → (j : ℕ) × (x : X) × IsAt xs j x × (g x ≡ Some y)
 at_filter_map g [] k y (lt, is) = absurd (omega (arith, lt))
 at_filter_map {X} {Y} g (x ∷ xs) k y at = kept (λ i. at_filter_map g xs i y) (g x) refl k at
   where
     later : (j : ℕ) × (z : X) × IsAt xs j z × (g z ≡ Some y) → (j : ℕ) × (z : X) × IsAt (x ∷ xs) j z × (g z ≡ Some y)
     later (j, z, (lt, is), e) = (suc j, z, (omega (arith, lt), is), e)
 
-    kept : ((i : ℕ) → IsAt (filter_map g xs) i y → (j : ℕ) × (z : X) × IsAt xs j z × (g z ≡ Some y)) → (o : Option Y) → g x ≡ o
+    kept : ((i : ℕ) → IsAt (filter_map g xs) i y → (j : ℕ) × (z : X) × IsAt xs j z × (g z ≡ Some y)) → (o : Option Y)
+        → g x ≡ o
         → (i : ℕ) → IsAt (cons_option o (filter_map g xs)) i y → (j : ℕ) × (z : X) × IsAt (x ∷ xs) j z × (g z ≡ Some y)
     kept rest None e i found = later (rest i found)
     kept rest (Some z) e zero (lt, is) = (0, x, (omega arith, refl), e ∙ ap Some (sym is))

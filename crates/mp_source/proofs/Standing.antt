@@ -1,5 +1,6 @@
 -- The places in a program are those of nodes.
-use Rattle.std.proofs.Common.{◌≡◌, ℕ, zero, suc, ◌+◌, ◌<◌, List, [], ◌∷◌, Bool, true, false, cond, refl, sym, ◌∙◌, ap, subst, length, arith, drop, Option, Some, None}
+use Rattle.std.proofs.Common.{◌≡◌, ℕ, zero, suc, ◌+◌, ◌<◌, List, [], ◌∷◌, Bool, true, false, cond, refl, sym, ◌∙◌, ap}
+use Rattle.std.proofs.Common.{subst, length, arith, drop, Option, Some, None}
 use Rattle.std.specs.Prelude.{slice_index}
 use Rattle.std.specs.List.{range_with_len}
 use Rattle.std.proofs.lemmas.List.{get_or_read}
@@ -20,10 +21,13 @@ use Rattle.mp_program.specs.declared.program.Form.{Form}
 use Rattle.mp_program.specs.declared.program.Label.{Label}
 use Rattle.mp_program.specs.declared.program.Process.{Process}
 use Rattle.mp_program.specs.declared.program.Program.{Program}
-use Rattle.mp_syntax.specs.Shape.{IsShape, name_at, pin_at, pin_nodes, def_of, def_in, def_at, form_kind, form_at, expr_at, labels_from, process_of, process_in, process_at, nodes_below, expr_index, form_index, is_expr, is_form}
+use Rattle.mp_syntax.specs.Shape.{IsShape, name_at, pin_at, pin_nodes, def_of, def_in, def_at, form_kind, form_at}
+use Rattle.mp_syntax.specs.Shape.{expr_at, labels_from, process_of, process_in, process_at, nodes_below, expr_index}
+use Rattle.mp_syntax.specs.Shape.{form_index, is_expr, is_form}
 use Rattle.mp_rules.specs.Entries.{IsAt}
 use Rattle.mp_rules.specs.Places.{HasPlace}
-use Rattle.mp_source.proofs.Members.{at_map, at_filter, at_filter_map, at_drop, at_range}
+use Rattle.mp_rules.proofs.ListEntries.{at_map, at_filter}
+use Rattle.mp_source.proofs.Members.{at_filter_map, at_drop, at_range}
 use Rattle.mp_source.proofs.Placed.{item_within}
 
 -- this is the place of a node
@@ -31,7 +35,8 @@ abbrev pub IsNodePlace : Forms → Place → Type 0
 IsNodePlace f at = (n : ℕ) × (n < length f.nodes) × (at ≡ (node f n).place)
 
 -- an item behind the head of a node
-pub dropped_within : (f : Forms) (n i k m : ℕ) → IsSound f → n < length f.nodes → IsAt (drop i (items_of (kind_at f n))) k m → m < length f.nodes
+pub dropped_within : (f : Forms) (n i k m : ℕ) → IsSound f → n < length f.nodes
+    → IsAt (drop i (items_of (kind_at f n))) k m → m < length f.nodes
 dropped_within f n i k m sound lt at =
     let there = at_drop i (items_of (kind_at f n)) k m at in
     (sound.behind n (i + k) m (lt, there.0, get_or_read (items_of (kind_at f n)) (i + k) m there.0 there.1 0)).1
@@ -43,7 +48,8 @@ only : (a k n : ℕ) → IsAt (a ∷ []) k n → n ≡ a
 only a zero n (lt, is) = is
 only a (suc k) n (lt, is) = absurd (omega (arith, lt))
 
-def_found : (f : Forms) (m : ℕ) (l : Option Layout) (x : Def) → def_in f m l ≡ Some x → (d : Definition) × (x ≡ def_of f m (items_of (kind_at f m)) d)
+def_found : (f : Forms) (m : ℕ) (l : Option Layout) (x : Def) → def_in f m l ≡ Some x
+    → (d : Definition) × (x ≡ def_of f m (items_of (kind_at f m)) d)
 def_found f m (Some (layouts.Def d)) x e = (d, cc)
 def_found f m (Some layouts.Leaf) x e = cc
 def_found f m (Some layouts.Program) x e = cc
@@ -60,7 +66,8 @@ def_found f m (Some layouts.Bit) x e = cc
 def_found f m (Some (layouts.Apply op)) x e = cc
 def_found f m None x e = cc
 
-process_found : (f : Forms) (form : ℕ → ℕ) (m : ℕ) (l : Option Layout) (q : Process) → process_in f form m l ≡ Some q → q ≡ process_of f form m (items_of (kind_at f m))
+process_found : (f : Forms) (form : ℕ → ℕ) (m : ℕ) (l : Option Layout) (q : Process) → process_in f form m l ≡ Some q
+    → q ≡ process_of f form m (items_of (kind_at f m))
 process_found f form m (Some layouts.Process) q e = cc
 process_found f form m (Some layouts.Leaf) q e = cc
 process_found f form m (Some layouts.Program) q e = cc
@@ -77,7 +84,8 @@ process_found f form m (Some (layouts.Def d)) q e = cc
 process_found f form m (Some (layouts.Apply op)) q e = cc
 process_found f form m None q e = cc
 
-target_found : (f : Forms) (expr form : ℕ → ℕ) (items : List ℕ) (l : Option Layout) (name : List ℕ) (at : Place) (v : ℕ) → form_kind f expr form items l ≡ forms.Set name at v
+target_found : (f : Forms) (expr form : ℕ → ℕ) (items : List ℕ) (l : Option Layout) (name : List ℕ) (at : Place)
+    (v : ℕ) → form_kind f expr form items l ≡ forms.Set name at v
     → at ≡ (node f (slice_index items 1)).place
 target_found f expr form items (Some layouts.Setq) name at v e = cc
 target_found f expr form items (Some layouts.Leaf) name at v e = cc
@@ -95,31 +103,53 @@ target_found f expr form items (Some (layouts.Def d)) name at v e = cc
 target_found f expr form items (Some (layouts.Apply op)) name at v e = cc
 target_found f expr form items None name at v e = cc
 
-pin_within : (f : Forms) (m k n : ℕ) (d : Definition) → IsSound f → m < length f.nodes → IsAt (pin_nodes f (items_of (kind_at f m)) d) k n → n < length f.nodes
-pin_within f m k n definitions.Power sound lt at = subst (λ z. z < length f.nodes) (sym (only (slice_index (items_of (kind_at f m)) 1) k n at)) (item_within f m 1 sound lt)
-pin_within f m k n definitions.Ground sound lt at = subst (λ z. z < length f.nodes) (sym (only (slice_index (items_of (kind_at f m)) 1) k n at)) (item_within f m 1 sound lt)
-pin_within f m k n definitions.Phia sound lt at = subst (λ z. z < length f.nodes) (sym (only (slice_index (items_of (kind_at f m)) 1) k n at)) (item_within f m 1 sound lt)
-pin_within f m k n definitions.Phib sound lt at = subst (λ z. z < length f.nodes) (sym (only (slice_index (items_of (kind_at f m)) 1) k n at)) (item_within f m 1 sound lt)
-pin_within f m k n definitions.Phic sound lt at = subst (λ z. z < length f.nodes) (sym (only (slice_index (items_of (kind_at f m)) 1) k n at)) (item_within f m 1 sound lt)
-pin_within f m k n definitions.SignalInput sound lt at = subst (λ z. z < length f.nodes) (sym (only (slice_index (items_of (kind_at f m)) 4) k n at)) (item_within f m 4 sound lt)
-pin_within f m k n definitions.SignalOutput sound lt at = subst (λ z. z < length f.nodes) (sym (only (slice_index (items_of (kind_at f m)) 4) k n at)) (item_within f m 4 sound lt)
-pin_within f m k n definitions.PortInput sound lt at = dropped_within f (slice_index (items_of (kind_at f m)) 4) 0 k n sound (item_within f m 4 sound lt) at
-pin_within f m k n definitions.PortOutput sound lt at = dropped_within f (slice_index (items_of (kind_at f m)) 4) 0 k n sound (item_within f m 4 sound lt) at
+pin_within : (f : Forms) (m k n : ℕ) (d : Definition) → IsSound f → m < length f.nodes
+    → IsAt (pin_nodes f (items_of (kind_at f m)) d) k n → n < length f.nodes
+pin_within f m k n definitions.Power sound lt at =
+    subst (λ z. z < length f.nodes) (sym (only (slice_index (items_of (kind_at f m)) 1) k n at))
+    (item_within f m 1 sound lt)
+pin_within f m k n definitions.Ground sound lt at =
+    subst (λ z. z < length f.nodes) (sym (only (slice_index (items_of (kind_at f m)) 1) k n at))
+    (item_within f m 1 sound lt)
+pin_within f m k n definitions.Phia sound lt at =
+    subst (λ z. z < length f.nodes) (sym (only (slice_index (items_of (kind_at f m)) 1) k n at))
+    (item_within f m 1 sound lt)
+pin_within f m k n definitions.Phib sound lt at =
+    subst (λ z. z < length f.nodes) (sym (only (slice_index (items_of (kind_at f m)) 1) k n at))
+    (item_within f m 1 sound lt)
+pin_within f m k n definitions.Phic sound lt at =
+    subst (λ z. z < length f.nodes) (sym (only (slice_index (items_of (kind_at f m)) 1) k n at))
+    (item_within f m 1 sound lt)
+pin_within f m k n definitions.SignalInput sound lt at =
+    subst (λ z. z < length f.nodes) (sym (only (slice_index (items_of (kind_at f m)) 4) k n at))
+    (item_within f m 4 sound lt)
+pin_within f m k n definitions.SignalOutput sound lt at =
+    subst (λ z. z < length f.nodes) (sym (only (slice_index (items_of (kind_at f m)) 4) k n at))
+    (item_within f m 4 sound lt)
+pin_within f m k n definitions.PortInput sound lt at =
+    dropped_within f (slice_index (items_of (kind_at f m)) 4) 0 k n sound (item_within f m 4 sound lt) at
+pin_within f m k n definitions.PortOutput sound lt at =
+    dropped_within f (slice_index (items_of (kind_at f m)) 4) 0 k n sound (item_within f m 4 sound lt) at
 pin_within f m k n definitions.Constant sound lt at = absurd (let below = at.0 in omega (arith, below))
 pin_within f m k n definitions.Register sound lt at = absurd (let below = at.0 in omega (arith, below))
 pin_within f m k n definitions.Flag sound lt at = absurd (let below = at.0 in omega (arith, below))
 pin_within f m k n definitions.PortInternal sound lt at = absurd (let below = at.0 in omega (arith, below))
 pin_within f m k n definitions.SignalInternal sound lt at = absurd (let below = at.0 in omega (arith, below))
 
-label_found : (f : Forms) (before : ℕ) (items : List ℕ) (k : ℕ) (x : Label) → IsAt (labels_from f before items) k x → (j i : ℕ) × IsAt items j i × (x.place ≡ (node f i).place)
+label_found : (f : Forms) (before : ℕ) (items : List ℕ) (k : ℕ) (x : Label) → IsAt (labels_from f before items) k x
+    → (j i : ℕ) × IsAt items j i × (x.place ≡ (node f i).place)
 label_found f before [] k x (lt, is) = absurd (omega (arith, lt))
 label_found f before (i ∷ is) k x at = kept (λ b n. label_found f b is n x) (is_symbol (kind_at f i)) k at
   where
-    later : (j m : ℕ) × IsAt is j m × (x.place ≡ (node f m).place) → (j m : ℕ) × IsAt (i ∷ is) j m × (x.place ≡ (node f m).place)
+    later : (j m : ℕ) × IsAt is j m × (x.place ≡ (node f m).place)
+        → (j m : ℕ) × IsAt (i ∷ is) j m × (x.place ≡ (node f m).place)
     later (j, m, (lt, found), e) = (suc j, m, (omega (arith, lt), found), e)
 
-    kept : ((b n : ℕ) → IsAt (labels_from f b is) n x → (j m : ℕ) × IsAt is j m × (x.place ≡ (node f m).place)) → (t : Bool) (n : ℕ)
-        → IsAt (cond t (record { place = (node f i).place; name = name_at f i; before = before } ∷ labels_from f before is) (labels_from f (before + 1) is)) n x
+    kept : ((b n : ℕ) → IsAt (labels_from f b is) n x → (j m : ℕ) × IsAt is j m × (x.place ≡ (node f m).place))
+        → (t : Bool) (n : ℕ)
+        → IsAt (cond t
+        (record { place = (node f i).place; name = name_at f i; before = before } ∷ labels_from f before is)
+        (labels_from f (before + 1) is)) n x
         → (j m : ℕ) × IsAt (i ∷ is) j m × (x.place ≡ (node f m).place)
     kept rest true zero (lt, found) = (0, i, (omega arith, refl), ap Label.place found)
     kept rest true (suc n) (lt, found) = later (rest before n (omega (arith, lt), found))
@@ -131,50 +161,74 @@ root_within f p sound shape =
     let size : length f.roots ≡ 1 = ap length shape.one in
     subst (λ rs. slice_index rs 0 < length f.nodes) shape.one (sound.roots 0 (omega (arith, size)))
 
-def_node : (f : Forms) (p : Program) → IsSound f → IsShape f p → (d : ℕ) (x : Def) → IsAt p.defs d x → (m : ℕ) × (m < length f.nodes) × (s : Definition) × (x ≡ def_of f m (items_of (kind_at f m)) s)
+def_node : (f : Forms) (p : Program) → IsSound f → IsShape f p → (d : ℕ) (x : Def) → IsAt p.defs d x
+    → (m : ℕ) × (m < length f.nodes) × (s : Definition) × (x ≡ def_of f m (items_of (kind_at f m)) s)
 def_node f p sound shape d x there =
-    let found = at_filter_map (def_at f) (drop 3 (items_of (kind_at f shape.root))) d x (subst (λ ds. IsAt ds d x) shape.defs there) in
+    let found =
+    at_filter_map (def_at f) (drop 3 (items_of (kind_at f shape.root))) d x
+    (subst (λ ds. IsAt ds d x) shape.defs there) in
     let is = def_found f found.1 (layout f classes.Item (kind_at f found.1)) x found.3 in
     (found.1, dropped_within f shape.root 3 found.0 found.1 sound (root_within f p sound shape) found.2, is.0, is.1)
 
-expr_node : (f : Forms) (p : Program) (shape : IsShape f p) → (e : ℕ) (x : Expr) → IsAt p.exprs e x → IsNodePlace f x.place
+expr_node : (f : Forms) (p : Program) (shape : IsShape f p) → (e : ℕ) (x : Expr) → IsAt p.exprs e x
+    → IsNodePlace f x.place
 expr_node f p shape e x there =
-    let found = at_map (expr_at f (expr_index f shape.classes)) (nodes_below (is_expr shape.classes) (length f.nodes)) e x (subst (λ xs. IsAt xs e x) shape.exprs there) in
+    let found =
+    at_map (expr_at f (expr_index f shape.classes)) (nodes_below (is_expr shape.classes) (length f.nodes)) e x
+    (subst (λ xs. IsAt xs e x) shape.exprs there) in
     (found.0, below_within (is_expr shape.classes) (length f.nodes) e found.0 found.1, ap Expr.place found.2)
 
 form_node : (f : Forms) (p : Program) (shape : IsShape f p) → (k : ℕ) (x : Form) → IsAt p.forms k x
     → (n : ℕ) × (n < length f.nodes) × (x ≡ form_at f (expr_index f shape.classes) (form_index f shape.classes) n)
 form_node f p shape k x there =
-    let found = at_map (form_at f (expr_index f shape.classes) (form_index f shape.classes)) (nodes_below (is_form f shape.classes) (length f.nodes)) k x (subst (λ xs. IsAt xs k x) shape.forms there) in
+    let found =
+    at_map (form_at f (expr_index f shape.classes) (form_index f shape.classes))
+    (nodes_below (is_form f shape.classes) (length f.nodes)) k x (subst (λ xs. IsAt xs k x) shape.forms there) in
     (found.0, below_within (is_form f shape.classes) (length f.nodes) k found.0 found.1, found.2)
 
-process_node : (f : Forms) (p : Program) → IsSound f → (shape : IsShape f p) → (k : ℕ) (q : Process) → IsAt p.processes k q
+process_node : (f : Forms) (p : Program) → IsSound f → (shape : IsShape f p) → (k : ℕ) (q : Process)
+    → IsAt p.processes k q
     → (n : ℕ) × (n < length f.nodes) × (q ≡ process_of f (form_index f shape.classes) n (items_of (kind_at f n)))
 process_node f p sound shape k q there =
     let form = form_index f shape.classes in
-    let found = at_filter_map (process_at f form) (drop 3 (items_of (kind_at f shape.root))) k q (subst (λ qs. IsAt qs k q) shape.processes there) in
-    (found.1, dropped_within f shape.root 3 found.0 found.1 sound (root_within f p sound shape) found.2, process_found f form found.1 (layout f classes.Item (kind_at f found.1)) q found.3)
+    let found =
+    at_filter_map (process_at f form) (drop 3 (items_of (kind_at f shape.root))) k q
+    (subst (λ qs. IsAt qs k q) shape.processes there) in (
+      found.1,
+      dropped_within f shape.root 3 found.0 found.1 sound
+          (root_within f p sound shape) found.2,
+      process_found f form found.1 (layout f classes.Item (kind_at f found.1)) q found.3,
+    )
 
-pub place_of_node : (f : Forms) (p : Program) → IsSound f → IsShape f p → (at : Place) → HasPlace p at → IsNodePlace f at
+pub place_of_node : (f : Forms) (p : Program) → IsSound f → IsShape f p → (at : Place) → HasPlace p at
+    → IsNodePlace f at
 place_of_node f p sound shape at HasPlace.program = (shape.root, root_within f p sound shape, shape.place)
-place_of_node f p sound shape at (HasPlace.definition d x there) = let found = def_node f p sound shape d x there in (found.0, found.1, ap Def.place found.3)
+place_of_node f p sound shape at (HasPlace.definition d x there) = let found = def_node f p sound shape d x there in
+    (found.0, found.1, ap Def.place found.3)
 place_of_node f p sound shape at (HasPlace.pin d k x y there found) =
     let def = def_node f p sound shape d x there in
-    let pin = at_map (pin_at f) (pin_nodes f (items_of (kind_at f def.0)) def.2) k y (subst (λ (z : Def). IsAt z.pins k y) def.3 found) in
+    let pin =
+    at_map (pin_at f) (pin_nodes f (items_of (kind_at f def.0)) def.2) k y
+    (subst (λ (z : Def). IsAt z.pins k y) def.3 found) in
     (pin.0, pin_within f def.0 k pin.0 def.2 sound def.1 pin.1, ap Pin.place pin.2)
 place_of_node f p sound shape at (HasPlace.expression e x there) = expr_node f p shape e x there
-place_of_node f p sound shape at (HasPlace.form k x there) = let found = form_node f p shape k x there in (found.0, found.1, ap Form.place found.2)
+place_of_node f p sound shape at (HasPlace.form k x there) = let found = form_node f p shape k x there in
+    (found.0, found.1, ap Form.place found.2)
 place_of_node f p sound shape _ (HasPlace.target k x name at v there kind) =
     let found = form_node f p shape k x there in
     let items = items_of (kind_at f found.0) in (
       slice_index items 1,
       item_within f found.0 1 sound found.1,
-      target_found f (expr_index f shape.classes) (form_index f shape.classes) items (layout f classes.Action (kind_at f found.0)) name at v (sym (ap Form.kind found.2) ∙ kind),
+      target_found f (expr_index f shape.classes) (form_index f shape.classes) items
+          (layout f classes.Action (kind_at f found.0)) name at v (sym (ap Form.kind found.2) ∙ kind),
     )
-place_of_node f p sound shape at (HasPlace.process k q there) = let found = process_node f p sound shape k q there in (found.0, found.1, ap Process.place found.2)
+place_of_node f p sound shape at (HasPlace.process k q there) = let found = process_node f p sound shape k q there in
+    (found.0, found.1, ap Process.place found.2)
 place_of_node f p sound shape at (HasPlace.label k j q x there found) =
     let node = process_node f p sound shape k q there in
-    let label = label_found f 0 (drop 3 (items_of (kind_at f node.0))) j x (subst (λ (z : Process). IsAt z.labels j x) node.2 found) in
+    let label =
+    label_found f 0 (drop 3 (items_of (kind_at f node.0))) j x
+    (subst (λ (z : Process). IsAt z.labels j x) node.2 found) in
     (label.1, dropped_within f node.0 3 label.0 label.1 sound node.1 label.2, label.3)
 place_of_node f p sound shape at (HasPlace.depth k q there) =
     let found = process_node f p sound shape k q there in

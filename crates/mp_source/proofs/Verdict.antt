@@ -20,12 +20,16 @@ pub record Laws : Type 0 where
   pub one_program : (f : Forms) (p q : Program) → IsShape f p → IsShape f q → p ≡ q
   pub clean : (text : List ℕ) (f : Forms) (k o : ℕ) → Spells text f → BreaksText text k o → ⊥
   pub shaped : (f : Forms) (p : Program) (at : Place) → IsShape f p → E10 f at ⊎ E11 f at → ⊥
-  pub first_of_text : (text : List ℕ) (k o l q : ℕ) → IsFirstOfText text k o → IsFirstOfText text l q → (k ≡ l) × (o ≡ q)
-  pub first_of_program : (p : Program) (k l : ℕ) (at there : Place) → IsFirstOfProgram p k at → IsFirstOfProgram p l there → (k ≡ l) × (at.offset ≡ there.offset)
+  pub first_of_text : (text : List ℕ) (k o l q : ℕ) → IsFirstOfText text k o → IsFirstOfText text l q
+      → (k ≡ l) × (o ≡ q)
+  pub first_of_program : (p : Program) (k l : ℕ) (at there : Place) → IsFirstOfProgram p k at
+      → IsFirstOfProgram p l there → (k ≡ l) × (at.offset ≡ there.offset)
 
-pub one_source : ((text : List ℕ) (f g : Forms) → Spells text f → Spells text g → f ≡ g) → ((f : Forms) (p q : Program) → IsShape f p → IsShape f q → p ≡ q)
+pub one_source : ((text : List ℕ) (f g : Forms) → Spells text f → Spells text g → f ≡ g)
+    → ((f : Forms) (p q : Program) → IsShape f p → IsShape f q → p ≡ q)
     → (text : List ℕ) (p q : Program) → IsSpelled text p → IsSpelled text q → p ≡ q
-one_source spelling program text p q a b = program b.forms p q (subst (λ f. IsShape f p) (spelling text a.forms b.forms a.spelled b.spelled) a.shape) b.shape
+one_source spelling program text p q a b =
+    program b.forms p q (subst (λ f. IsShape f p) (spelling text a.forms b.forms a.spelled b.spelled) a.shape) b.shape
 
 -- the rule that forms break first is broken
 of_forms : (f : Forms) (k : ℕ) (at : Place) → IsFirstOfForms f k at → E10 f at ⊎ E11 f at
@@ -33,12 +37,15 @@ of_forms f k at (inl first) = inl first.1.0
 of_forms f k at (inr first) = inr first.1
 
 one_width : (f : Forms) (at there : Place) → E11 f at → E11 f there → at ≡ there
-one_width f at there (r, n, v, rs, roots, shape, width, kind, wrong, is) (s, m, w, ss, others, shape2, width2, kind2, wrong2, is2) =
+one_width f at there (r, n, v, rs, roots, shape, width, kind, wrong, is)
+    (s, m, w, ss, others, shape2, width2, kind2, wrong2, is2) =
     let e : r ∷ rs ≡ s ∷ ss = sym roots ∙ others in
     let same : r ≡ s = cc in
-    is ∙ ap (λ k. (node f k).place) (width ∙ ap (λ z. slice_index (items_of (kind_at f z)) 2) same ∙ sym width2) ∙ sym is2
+    is ∙ ap (λ k. (node f k).place) (width ∙ ap (λ z. slice_index (items_of (kind_at f z)) 2) same ∙ sym width2)
+    ∙ sym is2
 
-first_of_forms : (f : Forms) (k l : ℕ) (at there : Place) → IsFirstOfForms f k at → IsFirstOfForms f l there → (k ≡ l) × (at.offset ≡ there.offset)
+first_of_forms : (f : Forms) (k l : ℕ) (at there : Place) → IsFirstOfForms f k at → IsFirstOfForms f l there
+    → (k ≡ l) × (at.offset ≡ there.offset)
 first_of_forms f k l at there (inl a) (inl b) =
     let low = a.1.1 there b.1.0 in
     let high = b.1.1 at a.1.0 in
@@ -51,15 +58,19 @@ first_of_forms f k l at there (inr a) (inr b) = (a.0 ∙ sym b.0, ap Place.offse
 no_text : Laws → (text : List ℕ) (f : Forms) (k : ℕ) (at : Place) → Spells text f → IsFirstOfText text k at.offset → ⊥
 no_text laws text f k at spells first = laws.clean text f k at.offset spells first.broken
 
-no_forms : Laws → (text : List ℕ) (f g : Forms) (p : Program) (k : ℕ) (at : Place) → Spells text f → Spells text g → IsShape g p → IsFirstOfForms f k at → ⊥
+no_forms : Laws → (text : List ℕ) (f g : Forms) (p : Program) (k : ℕ) (at : Place) → Spells text f → Spells text g
+    → IsShape g p → IsFirstOfForms f k at → ⊥
 no_forms laws text f g p k at spells other shape first =
-    laws.shaped f p at (subst (λ h. IsShape h p) (laws.one_spelling text g f other spells) shape) (of_forms f k at first)
+    laws.shaped f p at (subst (λ h. IsShape h p) (laws.one_spelling text g f other spells) shape)
+    (of_forms f k at first)
 
-same_rule : Laws → (text : List ℕ) (k l : ℕ) (at there : Place) → IsFirstRule text k at → IsFirstRule text l there → (k ≡ l) × (at.offset ≡ there.offset)
+same_rule : Laws → (text : List ℕ) (k l : ℕ) (at there : Place) → IsFirstRule text k at → IsFirstRule text l there
+    → (k ≡ l) × (at.offset ≡ there.offset)
 same_rule laws text k l at there a b = both a.first b.first
   where
     Ways : ℕ → Place → Type 0
-    Ways n spot = IsFirstOfText text n spot.offset ⊎ ((f : Forms) × Spells text f × IsFirstOfForms f n spot) ⊎ ((p : Program) × IsSpelled text p × IsFirstOfProgram p n spot)
+    Ways n spot = IsFirstOfText text n spot.offset ⊎ ((f : Forms) × Spells text f × IsFirstOfForms f n spot)
+        ⊎ ((p : Program) × IsSpelled text p × IsFirstOfProgram p n spot)
 
     both : Ways k at → Ways l there → (k ≡ l) × (at.offset ≡ there.offset)
     both (inl x) (inl y) = laws.first_of_text text k at.offset l there.offset x y
@@ -68,20 +79,27 @@ same_rule laws text k l at there a b = both a.first b.first
     both (inr (inl (f, spells, x))) (inl y) = absurd (no_text laws text f l there spells y)
     both (inr (inl (f, spells, x))) (inr (inl (g, other, y))) =
         first_of_forms g k l at there (subst (λ h. IsFirstOfForms h k at) (laws.one_spelling text f g spells other) x) y
-    both (inr (inl (f, spells, x))) (inr (inr (p, other, y))) = absurd (no_forms laws text f other.forms p k at spells other.spelled other.shape x)
+    both (inr (inl (f, spells, x))) (inr (inr (p, other, y))) =
+        absurd (no_forms laws text f other.forms p k at spells other.spelled other.shape x)
     both (inr (inr (p, spells, x))) (inl y) = absurd (no_text laws text spells.forms l there spells.spelled y)
-    both (inr (inr (p, spells, x))) (inr (inl (f, other, y))) = absurd (no_forms laws text f spells.forms p l there other spells.spelled spells.shape y)
+    both (inr (inr (p, spells, x))) (inr (inl (f, other, y))) =
+        absurd (no_forms laws text f spells.forms p l there other spells.spelled spells.shape y)
     both (inr (inr (p, spells, x))) (inr (inr (q, other, y))) =
-        laws.first_of_program q k l at there (subst (λ r. IsFirstOfProgram r k at) (one_source laws.one_spelling laws.one_program text p q spells other) x) y
+        laws.first_of_program q k l at there
+        (subst (λ r. IsFirstOfProgram r k at) (one_source laws.one_spelling laws.one_program text p q spells other) x) y
 
 none_first : Laws → (text : List ℕ) (p : Program) (k : ℕ) (at : Place) → IsSource text p → IsFirstRule text k at → ⊥
 none_first laws text p k at source rule = by rule.first
   where
-    by : IsFirstOfText text k at.offset ⊎ ((f : Forms) × Spells text f × IsFirstOfForms f k at) ⊎ ((q : Program) × IsSpelled text q × IsFirstOfProgram q k at) → ⊥
+    by : IsFirstOfText text k at.offset ⊎ ((f : Forms) × Spells text f × IsFirstOfForms f k at)
+        ⊎ ((q : Program) × IsSpelled text q × IsFirstOfProgram q k at) → ⊥
     by (inl x) = no_text laws text source.spells.forms k at source.spells.spelled x
-    by (inr (inl (f, spells, x))) = no_forms laws text f source.spells.forms p k at spells source.spells.spelled source.spells.shape x
+    by (inr (inl (f, spells, x))) =
+        no_forms laws text f source.spells.forms p k at spells source.spells.spelled source.spells.shape x
     by (inr (inr (q, spells, x))) =
-        source.unbroken k at (subst (λ r. IsFirstOfProgram r k at) (one_source laws.one_spelling laws.one_program text q p spells source.spells) x).broken
+        source.unbroken k at
+        (subst (λ r. IsFirstOfProgram r k at)
+        (one_source laws.one_spelling laws.one_program text q p spells source.spells) x).broken
 
 pub one_verdict : Laws → (text : List ℕ) (a b : Option Broken) → OfSource text a → OfSource text b → a ≡ b
 one_verdict laws text None None x y = refl

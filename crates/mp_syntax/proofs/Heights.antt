@@ -9,10 +9,12 @@ use Rattle.std.proofs.Math.Seq.{get_or-append_seam}
 use Rattle.std.proofs.lemmas.Bool.{and_from, cases_lt, le-leb}
 use Rattle.std.proofs.lemmas.List.{length-map, length_push, map-append}
 use Rattle.mp_base.specs.Table.{table}
+use Rattle.mp_base.proofs.Lists.{length-table}
 use Rattle.form_reader.specs.declared.forms.Forms.{Forms}
 use Rattle.form_reader.specs.Sound.{IsItem, IsSound, NestsIn, nests}
+use Rattle.form_reader.proofs.Nested.{deeper}
 use Rattle.mp_program.specs.Tree.{are_low, tallest}
-use Rattle.mp_program.proofs.Tables.{length-table, table_at}
+use Rattle.mp_program.proofs.Tables.{table_at}
 use Rattle.mp_syntax.specs.Shape.{nodes_below}
 use Rattle.mp_syntax.proofs.Distinct.{Among}
 use Rattle.mp_syntax.proofs.Holding.{index_of}
@@ -111,9 +113,6 @@ pub data Under (f : Forms) (test : ℕ → Bool) (n z : ℕ) : Type 0 where
   child : (j m : ℕ) → IsItem f n j m → test m ≡ true → z ≡ index_of f test m → Under f test n z
   grandchild : (i j b m : ℕ) → IsItem f n i b → IsItem f b j m → test m ≡ true → z ≡ index_of f test m
       → Under f test n z
-
-deeper : (f : Forms) (d n : ℕ) → NestsIn f d n → NestsIn f (suc d) n
-deeper f _ _ (nests d n each) = nests (suc d) n (λ j m it. deeper f d m (each j m it))
 
 item_nests : (f : Forms) (d n j m : ℕ) → NestsIn f d n → IsItem f n j m → NestsIn f d m
 item_nests f _ _ j m (nests d n each) it = deeper f d m (each j m it)

@@ -4,7 +4,7 @@ use Rattle.std.proofs.Common.{refl, sym, ◌∙◌, ap, subst, length, map, arit
 use Rattle.std.proofs.Common.{codes}
 use Rattle.std.specs.List.{filter, filter_map, flat_map, cons_option, range_with_len}
 use Rattle.std.specs.Str.{bytes_eq}
-use Rattle.std.proofs.lemmas.Bool.{ne_eqb}
+use Rattle.std.proofs.lemmas.Bool.{ne_eqb, not-true}
 use Rattle.std.proofs.lemmas.List.Folds.{flat_map-map}
 use Rattle.form_reader.specs.declared.forms.Kind.{Kind}
 use Rattle.form_reader.specs.declared.forms.Kind.TheVariants as kinds
@@ -34,10 +34,6 @@ use Rattle.mp_syntax.proofs.Distinct.{distinct_map, distinct_range, passes_disti
 use Rattle.mp_syntax.proofs.Holding.{items_at, AllHeld, AllStem, Group, Holds, Stemming, Stems, all_held, all_stem}
 use Rattle.mp_syntax.proofs.Holding.{direct, direct_stems, dropped, group, guarded, held_apart, index_of, no_group}
 use Rattle.mp_syntax.proofs.Holding.{no_stems, nodes_distinct, one_holder, one_shape, one_stem}
-
-not_true : (b : Bool) → not b ≡ true → b ≡ false
-not_true true h = absurd (cc)
-not_true false h = refl
 
 -- the top-level forms of a process, if it is one
 abbrev pub roots_of : Option Process → List ℕ
@@ -120,7 +116,7 @@ module _ (f : Forms) (cs : List (Option Class)) (k : Known f cs) where
             j,
             (lt, jl, e),
             passes_element f cs k.classes x
-                (subst (λ m. StandsFor f m classes.Element) (sym e) it.stands) (not_true _ other),
+                (subst (λ m. StandsFor f m classes.Element) (sym e) it.stands) (not-true _ other),
           ))
       by_layout _ lay = no_group f cs k (is_form f cs) n classes.Item layouts.Process
 

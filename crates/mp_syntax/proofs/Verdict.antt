@@ -1,5 +1,6 @@
 -- Forms have the shape of a program, or break rule E10 or E11 first.
-use Rattle.std.proofs.Common.{◌≡◌, ◌⊎◌, inl, inr, ℕ, ◌<◌, ◌≤◌, List, [], ◌∷◌, Option, refl, arith, drop, map, length, slice_index}
+use Rattle.std.proofs.Common.{◌≡◌, ◌⊎◌, inl, inr, ℕ, ◌<◌, ◌≤◌, List, [], ◌∷◌, Option, refl, arith, drop, map, length}
+use Rattle.std.proofs.Common.{slice_index}
 use Rattle.std.specs.List.{filter_map, flat_map}
 use Rattle.std.proofs.lemmas.Bool.{cases_lt}
 use Rattle.mp_base.specs.declared.refusal.Place.{Place}
@@ -12,7 +13,8 @@ use Rattle.form_reader.specs.Sound.{IsSound, HasSymbols, node, kind_at, items_of
 use Rattle.mp_shapes.specs.declared.table.Class.{Class}
 use Rattle.mp_shapes.specs.Standing.{AreClasses, E10, IsFirstE10}
 use Rattle.mp_program.specs.declared.program.Program.{Program}
-use Rattle.mp_syntax.specs.Shape.{IsShape, IsFirst, number_at, name_at, def_at, always_at, process_at, expr_at, form_at, expr_index, form_index, is_expr, is_form, nodes_below}
+use Rattle.mp_syntax.specs.Shape.{IsShape, IsFirst, number_at, name_at, def_at, always_at, process_at, expr_at, form_at}
+use Rattle.mp_syntax.specs.Shape.{expr_index, form_index, is_expr, is_form, nodes_below}
 use Rattle.mp_syntax.proofs.Fitting.{Known, fits_at}
 use Rattle.mp_syntax.proofs.Trees.{whole_tree}
 use Rattle.mp_syntax.proofs.Widths.{one_form, width_refused}

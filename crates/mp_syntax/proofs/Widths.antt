@@ -1,5 +1,6 @@
 -- The one form, and the word length.
-use Rattle.std.proofs.Common.{◌≡◌, ◌⊎◌, inl, inr, ℕ, ◌+◌, ◌<◌, ◌≤◌, List, [], ◌∷◌, refl, sym, ◌∙◌, ap, subst, length, arith, Option, slice_index, slice_index_or}
+use Rattle.std.proofs.Common.{◌≡◌, ◌⊎◌, inl, inr, ℕ, ◌+◌, ◌<◌, ◌≤◌, List, [], ◌∷◌, refl, sym, ◌∙◌, ap, subst, length}
+use Rattle.std.proofs.Common.{arith, Option, slice_index, slice_index_or}
 use Rattle.mp_base.specs.Refuses.{RefusesAt}
 use Rattle.mp_base.specs.declared.refusal.Place.{Place}
 use Rattle.mp_base.specs.declared.refusal.Family.TheVariants.{E}
@@ -28,23 +29,30 @@ one_form f whole = by_roots f.roots refl
 pub some_form : (f : Forms) → ((at : Place) → E10 f at → ⊥) → 0 < length f.roots
 some_form f whole = let h = one_form f whole in omega (arith, ap length h.1)
 
-pub root_read : (f : Forms) → ((at : Place) → E10 f at → ⊥) → (x : ℕ) → x ≡ slice_index_or f.roots 0 x → f.roots ≡ x ∷ []
+pub root_read : (f : Forms) → ((at : Place) → E10 f at → ⊥) → (x : ℕ) → x ≡ slice_index_or f.roots 0 x
+    → f.roots ≡ x ∷ []
 root_read f whole x is =
     let h = one_form f whole in
     let e : x ≡ h.0 = is ∙ ap (λ xs. slice_index_or xs 0 x) h.1 in
     h.1 ∙ ap (λ r. r ∷ []) (sym e)
 
 -- a word length within the bounds breaks no rule
-pub width_kept : (f : Forms) (r : ℕ) → f.roots ≡ r ∷ [] → 1 ≤ number_at f (slice_index (items_of (kind_at f r)) 2) → number_at f (slice_index (items_of (kind_at f r)) 2) ≤ 32 → (at : Place) → E11 f at → ⊥
+pub width_kept : (f : Forms) (r : ℕ) → f.roots ≡ r ∷ [] → 1 ≤ number_at f (slice_index (items_of (kind_at f r)) 2)
+    → number_at f (slice_index (items_of (kind_at f r)) 2) ≤ 32 → (at : Place) → E11 f at → ⊥
 width_kept f r one low high at (q, n, v, rs, is, lay, there, kind, bad, place) =
     let same : q ≡ r = ap (λ xs. slice_index xs 0) (sym is ∙ one) in
-    let here : n ≡ slice_index (items_of (kind_at f r)) 2 = there ∙ ap (λ i. slice_index (items_of (kind_at f i)) 2) same in
-    let value : number_at f (slice_index (items_of (kind_at f r)) 2) ≡ v = ap (number_at f) (sym here) ∙ ap number_of kind in
+    let here : n ≡ slice_index (items_of (kind_at f r)) 2 =
+    there ∙ ap (λ i. slice_index (items_of (kind_at f i)) 2) same in
+    let value : number_at f (slice_index (items_of (kind_at f r)) 2) ≡ v =
+    ap (number_at f) (sym here) ∙ ap number_of kind in
     elim bad [ inl none ↦ omega (arith, low, value, none) | inr many ↦ omega (arith, high, value, many) ]
 
 -- one form without a defect breaks no rule
 pub form_kept : (f : Forms) (r : ℕ) → f.roots ≡ r ∷ [] → ((n : ℕ) → IsDefect f n → ⊥) → (at : Place) → E10 f at → ⊥
-form_kept f r one clean at e = elim e [ inl (n, d, p) ↦ clean n d | inr rest ↦ elim rest [ inl (none, p) ↦ empty none | inr (a, b, rs, two, p) ↦ many a b rs two ] ]
+form_kept f r one clean at e = elim e [
+  | inl (n, d, p) ↦ clean n d
+  | inr rest ↦ elim rest [ inl (none, p) ↦ empty none | inr (a, b, rs, two, p) ↦ many a b rs two ]
+]
   where
     empty : f.roots ≡ [] → ⊥
     empty none = omega (arith, ap length (sym one ∙ none))
@@ -53,17 +61,21 @@ form_kept f r one clean at e = elim e [ inl (n, d, p) ↦ clean n d | inr rest �
     many a b rs two = omega (arith, ap length (sym one ∙ two))
 
 -- the refusal of a word length
-pub width_refused : (f : Forms) (cs : List (Option Class)) → Known f cs → (r n : ℕ) → f.roots ≡ r ∷ [] → ((at : Place) → E10 f at → ⊥) → n ≡ slice_index (items_of (kind_at f r)) 2
-    → (number_at f n ≡ 0) ⊎ (32 < number_at f n) → (e : Refusal) (at : Place) → at ≡ (node f n).place → e ≡ Broken (record { rule = record { family = E; number = 11 }; spot = At at })
+pub width_refused : (f : Forms) (cs : List (Option Class)) → Known f cs → (r n : ℕ) → f.roots ≡ r ∷ []
+    → ((at : Place) → E10 f at → ⊥) → n ≡ slice_index (items_of (kind_at f r)) 2
+    → (number_at f n ≡ 0) ⊎ (32 < number_at f n) → (e : Refusal) (at : Place) → at ≡ (node f n).place
+    → e ≡ Broken (record { rule = record { family = E; number = 11 }; spot = At at })
     → RefusesAt E e (IsFirst f)
 width_refused f cs k r n one whole is bad e at place told =
-    let kind : kind_at f n ≡ Number (number_at f n) = ap (kind_at f) is ∙ is_width f cs k r [] one ∙ ap (λ i. Number (number_at f i)) (sym is) in
+    let kind : kind_at f n ≡ Number (number_at f n) =
+    ap (kind_at f) is ∙ is_width f cs k r [] one ∙ ap (λ i. Number (number_at f i)) (sym is) in
     let broken : E11 f at = (r, n, number_at f n, [], one, is_program f cs k.classes r [] one, is, kind, bad, place) in
     let P : Refusal → Type 0 = λ x. RefusesAt E x (IsFirst f) in
     subst P (sym told) (refl, inr (refl, broken, whole))
 
 -- a refusal by rule E10
-pub shape_refused : (f : Forms) (e : Refusal) → RefusesAt E e (λ k at. (k ≡ 10) × IsFirstE10 f at) → RefusesAt E e (IsFirst f)
+pub shape_refused : (f : Forms) (e : Refusal) → RefusesAt E e (λ k at. (k ≡ 10) × IsFirstE10 f at)
+    → RefusesAt E e (IsFirst f)
 shape_refused f NoMemory h = tt
 shape_refused f (Broken b) h = (h.0, by_spot b.spot b.rule.number h.1)
   where

@@ -1,5 +1,6 @@
 -- The program that forms spell: one entry for each node that stands for an expression or a form, and one for each item.
-use Rattle.std.specs.Prelude.{◌≡◌, ◌⊎◌, ℕ, ◌+◌, ◌<◌, List, [], ◌∷◌, Bool, true, false, cond, not, length, map, codes, drop, Option, Some, None, slice_index, slice_index_or}
+use Rattle.std.specs.Prelude.{◌≡◌, ◌⊎◌, ℕ, ◌+◌, ◌<◌, List, [], ◌∷◌, Bool, true, false, cond, not, length, map, codes}
+use Rattle.std.specs.Prelude.{drop, Option, Some, None, slice_index, slice_index_or}
 use Rattle.std.specs.List.{filter, filter_map, flat_map, range_with_len}
 use Rattle.std.specs.Str.{bytes_eq}
 use Rattle.mp_base.specs.declared.op.Op.TheVariants as ops
@@ -72,7 +73,8 @@ ranks test n = map (λ m. length (nodes_below test m)) (range_with_len 0 n)
 -- EXPR, where expr gives the index of the expression at a node; a list of another shape doesn't stand for one
 abbrev pub list_expr : Forms → (ℕ → ℕ) → List ℕ → Option Layout → ExprKind
 list_expr f expr items (Some (layouts.Apply op)) = exprs.Apply op 0 (map expr (drop 1 items))
-list_expr f expr items (Some layouts.Bit) = exprs.Apply ops.Bit (number_at f (slice_index items 1)) (map expr (drop 2 items))
+list_expr f expr items (Some layouts.Bit) =
+    exprs.Apply ops.Bit (number_at f (slice_index items 1)) (map expr (drop 2 items))
 list_expr f expr items _ = exprs.Number 0
 
 abbrev pub symbol_expr : List ℕ → ExprKind
@@ -88,11 +90,13 @@ expr_at f expr n = record { place = (node f n).place; kind = expr_kind f expr (k
 
 -- BRANCH, where form gives the index of the form at a node
 abbrev pub branch_at : Forms → (ℕ → ℕ) → (ℕ → ℕ) → ℕ → Branch
-branch_at f expr form n = let items = items_of (kind_at f n) in record { guard = expr (slice_index items 0); body = map form (drop 1 items) }
+branch_at f expr form n = let items = items_of (kind_at f n) in
+    record { guard = expr (slice_index items 0); body = map form (drop 1 items) }
 
 -- FORM
 abbrev pub form_kind : Forms → (ℕ → ℕ) → (ℕ → ℕ) → List ℕ → Option Layout → FormKind
-form_kind f expr form items (Some layouts.Setq) = forms.Set (name_at f (slice_index items 1)) (node f (slice_index items 1)).place (expr (slice_index items 2))
+form_kind f expr form items (Some layouts.Setq) =
+    forms.Set (name_at f (slice_index items 1)) (node f (slice_index items 1)).place (expr (slice_index items 2))
 form_kind f expr form items (Some layouts.Cond) = forms.Cond (map (branch_at f expr form) (drop 1 items))
 form_kind f expr form items (Some layouts.Par) = forms.Par (map form (drop 1 items))
 form_kind f expr form items (Some layouts.Go) = forms.Go (name_at f (slice_index items 1))
@@ -100,7 +104,11 @@ form_kind f expr form items (Some layouts.Call) = forms.Call (name_at f (slice_i
 form_kind f expr form items _ = forms.Return
 
 abbrev pub form_at : Forms → (ℕ → ℕ) → (ℕ → ℕ) → ℕ → Form
-form_at f expr form n = record { place = (node f n).place; kind = form_kind f expr form (items_of (kind_at f n)) (layout f classes.Action (kind_at f n)) }
+form_at f expr form n =
+    record {
+      place = (node f n).place;
+      kind = form_kind f expr form (items_of (kind_at f n)) (layout f classes.Action (kind_at f n));
+    }
 
 -- DEF, by its items
 abbrev pub pin_at : Forms → ℕ → Pin
@@ -137,7 +145,13 @@ pin_nodes f items _ = []
 
 -- the symbol behind the head is the name; where a number stands there, the name is empty
 abbrev pub def_of : Forms → ℕ → List ℕ → Definition → Def
-def_of f n items d = record { place = (node f n).place; name = name_at f (slice_index items 1); what = what_of f items d; pins = map (pin_at f) (pin_nodes f items d) }
+def_of f n items d =
+    record {
+      place = (node f n).place;
+      name = name_at f (slice_index items 1);
+      what = what_of f items d;
+      pins = map (pin_at f) (pin_nodes f items d);
+    }
 
 -- PROCESS: a label has the number of forms before it
 abbrev pub labels_from : Forms → ℕ → List ℕ → List Label
@@ -185,7 +199,8 @@ expr_index f cs = slice_index (ranks (is_expr cs) (length f.nodes))
 abbrev pub form_index : Forms → List (Option Class) → ℕ → ℕ
 form_index f cs = slice_index (ranks (is_form f cs) (length f.nodes))
 
--- PROGRAM: one form, in which no node has a defect. Expressions and forms follow the nodes in text order, the rest follows the items.
+-- PROGRAM: one form, in which no node has a defect. Expressions and forms follow the nodes in text order, the rest
+-- follows the items.
 pub record IsShape (f : Forms) (p : Program) : Type 0 where
   pub root : ℕ
   pub classes : List (Option Class)
@@ -196,13 +211,15 @@ pub record IsShape (f : Forms) (p : Program) : Type 0 where
   pub width : p.width ≡ number_at f (slice_index (items_of (kind_at f root)) 2)
   pub defs : p.defs ≡ filter_map (def_at f) (drop 3 (items_of (kind_at f root)))
   pub exprs : p.exprs ≡ map (expr_at f (expr_index f classes)) (nodes_below (is_expr classes) (length f.nodes))
-  pub forms : p.forms ≡ map (form_at f (expr_index f classes) (form_index f classes)) (nodes_below (is_form f classes) (length f.nodes))
+  pub forms : p.forms
+      ≡ map (form_at f (expr_index f classes) (form_index f classes)) (nodes_below (is_form f classes) (length f.nodes))
   pub always : p.always ≡ flat_map (always_at f (form_index f classes)) (drop 3 (items_of (kind_at f root)))
   pub processes : p.processes ≡ filter_map (process_at f (form_index f classes)) (drop 3 (items_of (kind_at f root)))
 
 -- rule E11, by the place: the word length is 0 or over 32
 abbrev pub E11 : Forms → Place → Type 0
-E11 f at = (r n v : ℕ) × (rs : List ℕ) × (f.roots ≡ r ∷ rs) × (layout f classes.Whole (kind_at f r) ≡ Some layouts.Program) × (n ≡ slice_index (items_of (kind_at f r)) 2)
+E11 f at = (r n v : ℕ) × (rs : List ℕ) × (f.roots ≡ r ∷ rs)
+    × (layout f classes.Whole (kind_at f r) ≡ Some layouts.Program) × (n ≡ slice_index (items_of (kind_at f r)) 2)
     × (kind_at f n ≡ kinds.Number v) × ((v ≡ 0) ⊎ (32 < v)) × (at ≡ (node f n).place)
 
 -- the first broken rule: E10, by offset, and then E11

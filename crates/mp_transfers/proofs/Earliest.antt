@@ -1,96 +1,126 @@
 -- The earliest of places: of two, and of those found one element of a list after another.
-use Rattle.std.proofs.Common.{◌≡◌, ◌⊎◌, inl, inr, ℕ, zero, suc, ◌+◌, ◌<◌, ◌≤◌, List, [], ◌∷◌, length, Option, Some, None, Bool, true, false, refl, sym, ◌∙◌, ap, subst, arith, get_or}
+use Rattle.std.proofs.Common.{◌≡◌, ◌⊎◌, inl, inr, ℕ, ◌+◌, ◌<◌, ◌≤◌, List, length, Option, Some, None, Bool, true, false}
+use Rattle.std.proofs.Common.{refl, sym, ap, subst, arith, get_or}
 use Rattle.std.specs.Prelude.{nat_le}
-use Rattle.std.proofs.lemmas.List.{get_or_read, get_or_default}
+use Rattle.std.proofs.lemmas.List.{get_or_default}
 use Rattle.std.proofs.lemmas.Bool.{cases_lt, leb-true, leb-false}
 use Rattle.mp_base.specs.declared.refusal.Place.{Place}
 use Rattle.mp_rules.specs.Entries.{IsAt}
 use Rattle.mp_rules.specs.Breaking.{IsEarliest, earlier}
+use Rattle.mp_rules.proofs.ListEntries.{one_entry}
 use Rattle.mp_transfers.specs.Tables.{join}
 
 -- an entry of a list is what stands there
 pub at_index : {X : Type 0} (xs : List X) (i : ℕ) (d : X) → i < length xs → IsAt xs i (get_or xs i d)
 at_index xs i d lt = (lt, get_or_default xs i d (get_or xs i d) lt)
 
-pub some_at : {X : Type 0} (xs : List X) (i : ℕ) → i < length xs → (x : X) × IsAt xs i x
-some_at [] i lt = absurd (omega (arith, lt))
-some_at (x ∷ xs) zero lt = (x, (lt, refl))
-some_at (x ∷ xs) (suc i) lt = let (y, at) = some_at xs i (omega (arith, lt)) in (y, (lt, at.1))
-
-pub at_same : {X : Type 0} (xs : List X) (i : ℕ) (x y : X) → IsAt xs i x → IsAt xs i y → x ≡ y
-at_same xs i x y (lt, is) (_, is') = get_or_read xs i x lt is y ∙ sym is'
-
 -- the same places, but for some that aren't the earliest
 pub earliest_through : (V P : Place → Type 0) (found : Option Place) → IsEarliest V found → ((at : Place) → V at → P at)
     → ((at : Place) → P at → (v : Place) × V v × (v.offset ≤ at.offset)) → IsEarliest P found
 earliest_through V P None none sound cover = λ at there. let (v, is, le) = cover at there in none v is
-earliest_through V P (Some b) (is_b, least) sound cover =
-    (sound b is_b, λ at there. let (v, is, le) = cover at there in let l : b.offset ≤ v.offset = least v is in omega (arith, l, le))
+earliest_through V P (Some b) (is_b, least) sound cover = (
+  sound b is_b,
+  λ at there. let (v, is, le) = cover at there in let l : b.offset ≤ v.offset = least v is in
+      omega (arith, l, le),
+)
 
 -- the same places
-pub earliest_same : (V P : Place → Type 0) (found : Option Place) → IsEarliest V found → ((at : Place) → V at → P at) → ((at : Place) → P at → V at) → IsEarliest P found
-earliest_same V P found h sound complete = earliest_through V P found h sound (λ at there. (at, complete at there, omega arith))
+pub earliest_same : (V P : Place → Type 0) (found : Option Place) → IsEarliest V found → ((at : Place) → V at → P at)
+    → ((at : Place) → P at → V at) → IsEarliest P found
+earliest_same V P found h sound complete =
+    earliest_through V P found h sound (λ at there. (at, complete at there, omega arith))
 
 -- what was found is one of the places, and none is before it
 pub found_is : (P : Place → Type 0) (found : Option Place) (at : Place) → IsEarliest P found → found ≡ Some at → P at
 found_is P found at h e = let Q : Option Place → Type 0 = IsEarliest P in (subst Q e h).0
 
-pub found_covers : (P : Place → Type 0) (found : Option Place) (at : Place) → IsEarliest P found → P at → (v : Place) × (found ≡ Some v) × (v.offset ≤ at.offset)
+pub found_covers : (P : Place → Type 0) (found : Option Place) (at : Place) → IsEarliest P found → P at
+    → (v : Place) × (found ≡ Some v) × (v.offset ≤ at.offset)
 found_covers P None at none there = absurd (none at there)
 found_covers P (Some b) at (is_b, least) there = (b, refl, least at there)
 
 -- what was found is the earliest of itself
 pub earliest_itself : (found : Option Place) → IsEarliest (λ at. found ≡ Some at) found
 earliest_itself None = λ at e. absurd (cc)
-earliest_itself (Some b) = (refl, λ at e. let same : b ≡ at = cc in let o : b.offset ≡ at.offset = ap (λ (p : Place). p.offset) same in omega (arith, o))
+earliest_itself (Some b) = (
+  refl,
+  λ at e. let same : b ≡ at = cc in let o : b.offset ≡ at.offset = ap (λ (p : Place). p.offset) same in
+      omega (arith, o),
+)
 
 pub earliest_one : (b : Place) → IsEarliest (λ at. at ≡ b) (Some b)
 earliest_one b = (refl, λ at e. let o : at.offset ≡ b.offset = ap (λ (p : Place). p.offset) e in omega (arith, o))
 
 -- the earlier of two
-either : (P Q : Place → Type 0) (x y : Place) (t : Bool) → nat_le x.offset y.offset ≡ t → P x → Q y → ((at : Place) → P at → x.offset ≤ at.offset) → ((at : Place) → Q at → y.offset ≤ at.offset)
+either : (P Q : Place → Type 0) (x y : Place) (t : Bool) → nat_le x.offset y.offset ≡ t → P x → Q y
+    → ((at : Place) → P at → x.offset ≤ at.offset) → ((at : Place) → Q at → y.offset ≤ at.offset)
     → IsEarliest (λ at. P at ⊎ Q at) (earlier (Some x) y)
 either P Q x y true le px qy xs ys =
     let R : Option Place → Type 0 = IsEarliest (λ at. P at ⊎ Q at) in
     let l : x.offset ≤ y.offset = leb-true x.offset y.offset le in
     let e : earlier (Some x) y ≡ Some x = rw le refl in
-    subst R (sym e) (inl px, λ at there. elim there [ inl p ↦ xs at p | inr q ↦ (let g : y.offset ≤ at.offset = ys at q in omega (arith, g, l)) ])
+    subst R (sym e) (
+      inl px,
+      λ at there. elim there [
+        | inl p ↦ xs at p
+        | inr q ↦ (let g : y.offset ≤ at.offset = ys at q in omega (arith, g, l))
+      ],
+    )
 either P Q x y false lt px qy xs ys =
     let R : Option Place → Type 0 = IsEarliest (λ at. P at ⊎ Q at) in
     let l : y.offset < x.offset = leb-false x.offset y.offset lt in
     let e : earlier (Some x) y ≡ Some y = rw lt refl in
-    subst R (sym e) (inr qy, λ at there. elim there [ inl p ↦ (let g : x.offset ≤ at.offset = xs at p in omega (arith, g, l)) | inr q ↦ ys at q ])
+    subst R (sym e) (
+      inr qy,
+      λ at there. elim there [
+        | inl p ↦ (let g : x.offset ≤ at.offset = xs at p in omega (arith, g, l))
+        | inr q ↦ ys at q
+      ],
+    )
 
-pub earliest_join : (P Q : Place → Type 0) (a b : Option Place) → IsEarliest P a → IsEarliest Q b → IsEarliest (λ at. P at ⊎ Q at) (join a b)
+pub earliest_join : (P Q : Place → Type 0) (a b : Option Place) → IsEarliest P a → IsEarliest Q b
+    → IsEarliest (λ at. P at ⊎ Q at) (join a b)
 earliest_join P Q None None p q = λ at there. elim there [ inl h ↦ p at h | inr h ↦ q at h ]
 earliest_join P Q (Some x) None p q = (inl p.0, λ at there. elim there [ inl h ↦ p.1 at h | inr h ↦ absurd (q at h) ])
 earliest_join P Q None (Some y) p q = (inr q.0, λ at there. elim there [ inl h ↦ absurd (p at h) | inr h ↦ q.1 at h ])
 earliest_join P Q (Some x) (Some y) p q = either P Q x y (nat_le x.offset y.offset) refl p.0 q.0 p.1 q.1
 
 -- what was found, and then something else
-pub earliest_then : (P Q : Place → Type 0) (a b : Option Place) → IsEarliest P a → IsEarliest (λ at. (a ≡ Some at) ⊎ Q at) b → IsEarliest (λ at. P at ⊎ Q at) b
+pub earliest_then : (P Q : Place → Type 0) (a b : Option Place) → IsEarliest P a
+    → IsEarliest (λ at. (a ≡ Some at) ⊎ Q at) b → IsEarliest (λ at. P at ⊎ Q at) b
 earliest_then P Q a b p q = earliest_through (λ at. (a ≡ Some at) ⊎ Q at) (λ at. P at ⊎ Q at) b q
     (λ at there. elim there [ inl e ↦ inl (found_is P a at p e) | inr h ↦ inr h ])
-    (λ at there. elim there [ inl h ↦ (let (v, e, le) = found_covers P a at p h in (v, inl e, le)) | inr h ↦ (at, inr h, omega arith) ])
+    (λ at there. elim there [
+      | inl h ↦ (let (v, e, le) = found_covers P a at p h in (v, inl e, le))
+      | inr h ↦ (at, inr h, omega arith)
+    ])
 
 -- an element of a list before i has this place
 abbrev pub Before : {X : Type 0} → List X → (ℕ → X → Place → Type 0) → ℕ → Place → Type 0
 Before {X} xs R i at = (k : ℕ) × (x : X) × (k < i) × IsAt xs k x × R k x at
 
 -- what was found is the earliest of some places and of those of the elements before i
-pub record Upto {X : Type 0} (P : Place → Type 0) (xs : List X) (R : ℕ → X → Place → Type 0) (i : ℕ) (found : Option Place) : Type 0 where
+pub record Upto {X : Type 0} (P : Place → Type 0) (xs : List X) (R : ℕ → X → Place → Type 0) (i : ℕ)
+    (found : Option Place) : Type 0 where
   pub earliest : IsEarliest (λ at. P at ⊎ Before xs R i at) found
 
-pub upto_none : {X : Type 0} (P : Place → Type 0) (xs : List X) (R : ℕ → X → Place → Type 0) (found : Option Place) → IsEarliest P found → Upto P xs R 0 found
-upto_none P xs R found h = record { earliest = earliest_same P (λ at. P at ⊎ Before xs R 0 at) found h (λ at p. inl p) back }
+pub upto_none : {X : Type 0} (P : Place → Type 0) (xs : List X) (R : ℕ → X → Place → Type 0) (found : Option Place)
+    → IsEarliest P found → Upto P xs R 0 found
+upto_none P xs R found h =
+    record { earliest = earliest_same P (λ at. P at ⊎ Before xs R 0 at) found h (λ at p. inl p) back }
   where
     back : (at : Place) → P at ⊎ Before xs R 0 at → P at
     back at there = elim there [ inl p ↦ p | inr (k, x, lt, is, r) ↦ absurd (omega (arith, lt)) ]
 
 -- one more element
-more : {X : Type 0} (P : Place → Type 0) (xs : List X) (R : ℕ → X → Place → Type 0) (i : ℕ) (x : X) (found : Option Place) → IsAt xs i x
+more : {X : Type 0} (P : Place → Type 0) (xs : List X) (R : ℕ → X → Place → Type 0) (i : ℕ) (x : X)
+    (found : Option Place) → IsAt xs i x
     → IsEarliest (λ at. (P at ⊎ Before xs R i at) ⊎ R i x at) found → Upto P xs R (i + 1) found
-more {X} P xs R i x found is h = record { earliest = earliest_same (λ at. (P at ⊎ Before xs R i at) ⊎ R i x at) (λ at. P at ⊎ Before xs R (i + 1) at) found h fore back }
+more {X} P xs R i x found is h =
+    record {
+      earliest = earliest_same (λ at. (P at ⊎ Before xs R i at) ⊎ R i x at)
+          (λ at. P at ⊎ Before xs R (i + 1) at) found h fore back;
+    }
   where
     fore : (at : Place) → (P at ⊎ Before xs R i at) ⊎ R i x at → P at ⊎ Before xs R (i + 1) at
     fore at there = elim there [
@@ -103,26 +133,32 @@ more {X} P xs R i x found is h = record { earliest = earliest_same (λ at. (P at
         let S : ℕ → Type 0 = λ j. IsAt xs j y × R j y at in
         let s : S i = subst S e (is_y, r) in
         let T : X → Type 0 = λ z. R i z at in
-        subst T (at_same xs i y x s.0 is) s.1
+        subst T (one_entry xs i y x s.0 is) s.1
 
     back : (at : Place) → P at ⊎ Before xs R (i + 1) at → (P at ⊎ Before xs R i at) ⊎ R i x at
     back at there = elim there [
       | inl p ↦ inl (inl p)
-      | inr (k, y, lt, is_y, r) ↦ elim (cases_lt k i) [ inl l ↦ inl (inr (k, y, l, is_y, r)) | inr g ↦ inr (last at k y (omega (arith, lt, g)) is_y r) ]
+      | inr (k, y, lt, is_y, r) ↦ elim (cases_lt k i) [
+        | inl l ↦ inl (inr (k, y, l, is_y, r))
+        | inr g ↦ inr (last at k y (omega (arith, lt, g)) is_y r)
+      ]
     ]
 
-pub upto_join : {X : Type 0} {P : Place → Type 0} {xs : List X} {R : ℕ → X → Place → Type 0} {i : ℕ} {a : Option Place} → Upto P xs R i a → (x : X) → IsAt xs i x
+pub upto_join : {X : Type 0} {P : Place → Type 0} {xs : List X} {R : ℕ → X → Place → Type 0} {i : ℕ} {a : Option Place}
+    → Upto P xs R i a → (x : X) → IsAt xs i x
     → (b : Option Place) → IsEarliest (R i x) b → Upto P xs R (i + 1) (join a b)
 upto_join {P = P} {xs = xs} {R = R} {i = i} {a = a} u x is b h =
     more P xs R i x (join a b) is (earliest_join (λ at. P at ⊎ Before xs R i at) (R i x) a b u.earliest h)
 
-pub upto_then : {X : Type 0} {P : Place → Type 0} {xs : List X} {R : ℕ → X → Place → Type 0} {i : ℕ} {a : Option Place} → Upto P xs R i a → (x : X) → IsAt xs i x
+pub upto_then : {X : Type 0} {P : Place → Type 0} {xs : List X} {R : ℕ → X → Place → Type 0} {i : ℕ} {a : Option Place}
+    → Upto P xs R i a → (x : X) → IsAt xs i x
     → (b : Option Place) → IsEarliest (λ at. (a ≡ Some at) ⊎ R i x at) b → Upto P xs R (i + 1) b
 upto_then {P = P} {xs = xs} {R = R} {i = i} {a = a} u x is b h =
     more P xs R i x b is (earliest_then (λ at. P at ⊎ Before xs R i at) (R i x) a b u.earliest h)
 
 -- an element with no place
-pub upto_skip : {X : Type 0} {P : Place → Type 0} {xs : List X} {R : ℕ → X → Place → Type 0} {i : ℕ} {a : Option Place} → Upto P xs R i a → (x : X) → IsAt xs i x
+pub upto_skip : {X : Type 0} {P : Place → Type 0} {xs : List X} {R : ℕ → X → Place → Type 0} {i : ℕ} {a : Option Place}
+    → Upto P xs R i a → (x : X) → IsAt xs i x
     → ((at : Place) → R i x at → ⊥) → Upto P xs R (i + 1) a
 upto_skip {P = P} {xs = xs} {R = R} {i = i} {a = a} u x is none = upto_join u x is None (λ at r. none at r)
 
@@ -130,12 +166,20 @@ upto_skip {P = P} {xs = xs} {R = R} {i = i} {a = a} u x is none = upto_join u x 
 abbrev pub InAny : {X : Type 0} → List X → (ℕ → X → Place → Type 0) → Place → Type 0
 InAny {X} xs R at = (k : ℕ) × (x : X) × IsAt xs k x × R k x at
 
-pub upto_all : {X : Type 0} {P : Place → Type 0} {xs : List X} {R : ℕ → X → Place → Type 0} {i : ℕ} {a : Option Place} → Upto P xs R i a → length xs ≤ i
+pub upto_all : {X : Type 0} {P : Place → Type 0} {xs : List X} {R : ℕ → X → Place → Type 0} {i : ℕ} {a : Option Place}
+    → Upto P xs R i a → length xs ≤ i
     → IsEarliest (λ at. P at ⊎ InAny xs R at) a
-upto_all {P = P} {xs = xs} {R = R} {i = i} {a = a} u all = earliest_same (λ at. P at ⊎ Before xs R i at) (λ at. P at ⊎ InAny xs R at) a u.earliest
+upto_all {P = P} {xs = xs} {R = R} {i = i} {a = a} u all =
+    earliest_same (λ at. P at ⊎ Before xs R i at) (λ at. P at ⊎ InAny xs R at) a u.earliest
     (λ at there. elim there [ inl p ↦ inl p | inr (k, x, lt, is, r) ↦ inr (k, x, is, r) ])
-    (λ at there. elim there [ inl p ↦ inl p | inr (k, x, is, r) ↦ inr (k, x, (let l : k < length xs = is.0 in omega (arith, l, all)), is, r) ])
+    (λ at there. elim there [
+      | inl p ↦ inl p
+      | inr (k, x, is, r) ↦ inr (k, x, (let l : k < length xs = is.0 in omega (arith, l, all)), is, r)
+    ])
 
 -- nothing was found before
-pub from_none : (Q : Place → Type 0) (found : Option Place) → IsEarliest (λ at. (None ≡ Some at) ⊎ Q at) found → IsEarliest Q found
-from_none Q found h = earliest_same (λ at. (None ≡ Some at) ⊎ Q at) Q found h (λ at there. elim there [ inl e ↦ absurd (cc) | inr q ↦ q ]) (λ at q. inr q)
+pub from_none : (Q : Place → Type 0) (found : Option Place) → IsEarliest (λ at. (None ≡ Some at) ⊎ Q at) found
+    → IsEarliest Q found
+from_none Q found h =
+    earliest_same (λ at. (None ≡ Some at) ⊎ Q at) Q found h
+    (λ at there. elim there [ inl e ↦ absurd (cc) | inr q ↦ q ]) (λ at q. inr q)

@@ -20,7 +20,8 @@ IsLabel labels x = (k : ℕ) × (a : Label) × IsAt labels k a × (a.name ≡ x)
 
 -- at is the place of a label whose name an earlier one has
 abbrev pub IsRepeated : List Label → Place → Type 0
-IsRepeated labels at = (i j : ℕ) × (a b : Label) × IsAt labels i a × IsAt labels j b × (i < j) × (a.name ≡ b.name) × (at ≡ b.place)
+IsRepeated labels at =
+    (i j : ℕ) × (a b : Label) × IsAt labels i a × IsAt labels j b × (i < j) × (a.name ≡ b.name) × (at ≡ b.place)
 
 -- a form of this kind goes to a label that isn't among these
 abbrev pub IsAstray : List Label → FormKind → Type 0

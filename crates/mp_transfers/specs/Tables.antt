@@ -29,7 +29,8 @@ IsAmong table forms at = (f : ℕ) × Contains forms f × (entry table f ≡ Som
 
 -- at is the entry of one of these forms, and a form before it has an entry too
 abbrev pub IsBehind : List (Option Place) → List ℕ → Place → Type 0
-IsBehind table forms at = (i j g h : ℕ) × (first : Place) × IsAt forms i g × IsAt forms j h × (i < j) × (entry table g ≡ Some first) × (entry table h ≡ Some at)
+IsBehind table forms at = (i j g h : ℕ) × (first : Place) × IsAt forms i g × IsAt forms j h × (i < j)
+    × (entry table g ≡ Some first) × (entry table h ≡ Some at)
 
 -- the same in one of these lists
 abbrev pub IsBehindInOne : List (Option Place) → List (List ℕ) → Place → Type 0
@@ -37,7 +38,8 @@ IsBehindInOne table lists at = (forms : List ℕ) × Contains lists forms × IsB
 
 -- at is the place of a form of these kinds that form f is or that stands in it
 abbrev pub IsFound : Program → Sought → ℕ → Place → Type 0
-IsFound p sought f at = (g : ℕ) × (y : Form) × Under p f g × IsAt p.forms g y × (is_sought sought y.kind ≡ true) × (at ≡ y.place)
+IsFound p sought f at =
+    (g : ℕ) × (y : Form) × Under p f g × IsAt p.forms g y × (is_sought sought y.kind ≡ true) × (at ≡ y.place)
 
 -- for each form the earliest such place
 pub record AreFirsts (p : Program) (sought : Sought) (table : List (Option Place)) : Type 0 where

@@ -1,64 +1,16 @@
 -- Decided claims, and the earliest place where a claim on places holds.
-use Rattle.std.proofs.Common.{◌≡◌, ◌⊎◌, inl, inr, ℕ, zero, suc, ◌<◌, ◌≤◌, List, [], ◌∷◌, Bool, true, false, length, refl, sym, ◌∙◌, ap, subst, arith, get_or}
-use Rattle.std.specs.Prelude.{All, Contains}
-use Rattle.std.specs.Str.{bytes_eq}
-use Rattle.std.proofs.lemmas.Bool.{cases_lt, cases_eq}
-use Rattle.std.proofs.lemmas.List.Elements.{All-contains}
-use Rattle.std.proofs.lemmas.Slice.Eq.{bytes_eq-Decides}
+use Rattle.std.proofs.Common.{◌≡◌, ◌⊎◌, inl, inr, ℕ, zero, suc, ◌<◌, ◌≤◌, List, [], ◌∷◌, length, refl, sym, ap, subst}
+use Rattle.std.proofs.Common.{arith}
+use Rattle.std.specs.Prelude.{Contains}
+use Rattle.std.proofs.lemmas.Bool.{cases_lt}
 use Rattle.mp_base.specs.declared.refusal.Place.{Place}
+use Rattle.mp_base.proofs.Decisions.{Decided, same_claim}
 use Rattle.mp_rules.specs.Entries.{IsAt}
+use Rattle.mp_rules.proofs.ListEntries.{one_entry, some_entry}
 
 -- ---- claims
 
-abbrev pub Decided : Type 0 → Type 0
-Decided A = A ⊎ (A → ⊥)
-
-pub same_claim : {A B : Type 0} → Decided A → (A → B) → (B → A) → Decided B
-same_claim (inl a) f g = inl (f a)
-same_claim (inr none) f g = inr (λ b. none (g b))
-
-pub both_of : {A B : Type 0} → Decided A → Decided B → Decided (A × B)
-both_of (inl a) (inl b) = inl (a, b)
-both_of (inl a) (inr none) = inr (λ (x, y). none y)
-both_of (inr none) other = inr (λ (x, y). none x)
-
-pub one_of : {A B : Type 0} → Decided A → Decided B → Decided (A ⊎ B)
-one_of (inl a) other = inl (inl a)
-one_of (inr none) (inl b) = inl (inr b)
-one_of (inr none) (inr nor) = inr (λ h. elim h [ inl a ↦ none a | inr b ↦ nor b ])
-
-pub not_so : {A : Type 0} → Decided A → Decided (A → ⊥)
-not_so (inl a) = inr (λ none. none a)
-not_so (inr none) = inl none
-
-pub is_bit : (b : Bool) → Decided (b ≡ true)
-is_bit true = inl refl
-is_bit false = inr (λ e. absurd (cc))
-
-pub is_number : (m n : ℕ) → Decided (m ≡ n)
-is_number m n = elim (cases_eq m n) [ inl same ↦ inl same | inr other ↦ inr other ]
-
-pub is_below : (m n : ℕ) → Decided (m < n)
-is_below m n = elim (cases_lt m n) [ inl lt ↦ inl lt | inr ge ↦ inr (λ lt. omega (arith, lt, ge)) ]
-
-pub is_within : (m n : ℕ) → Decided (m ≤ n)
-is_within m n = elim (cases_lt n m) [ inl lt ↦ inr (λ le. omega (arith, lt, le)) | inr ge ↦ inl ge ]
-
-pub is_name : (x y : List ℕ) → Decided (x ≡ y)
-is_name x y = same_claim (is_bit (bytes_eq x y)) (bytes_eq-Decides x y).0 (bytes_eq-Decides x y).1
-
 -- ---- entries of lists
-
-pub one_entry : {X : Type 0} (xs : List X) (k : ℕ) (x y : X) → IsAt xs k x → IsAt xs k y → x ≡ y
-one_entry [] k x y (lt, is) other = absurd (omega (arith, lt))
-one_entry (z ∷ zs) zero x y (lt, is) (below, also) = is ∙ sym also
-one_entry (z ∷ zs) (suc k) x y (lt, is) (below, also) = one_entry zs k x y (omega (arith, lt), is)
-    (omega (arith, below), also)
-
-pub some_entry : {X : Type 0} (xs : List X) (k : ℕ) → k < length xs → (x : X) × IsAt xs k x
-some_entry [] k lt = absurd (omega (arith, lt))
-some_entry (x ∷ xs) zero lt = (x, (lt, refl))
-some_entry (x ∷ xs) (suc k) lt = let (y, at) = some_entry xs k (omega (arith, lt)) in (y, (lt, at.1))
 
 -- an entry with a property
 abbrev pub Entry : {X : Type 0} → List X → (ℕ → X → Type 0) → Type 0
@@ -93,21 +45,6 @@ is_in {X} xs x known = same_claim (some_at xs (λ k y. y ≡ x) (λ k y at. know
 
     back : Contains xs x → Entry xs (λ k y. y ≡ x)
     back (k, lt, is) = (k, x, (lt, sym is), refl)
-
-pub holds_of_all : {X : Type 0} (P : X → Type 0) → ((x : X) → Decided (P x)) → (xs : List X) → Decided (All P xs)
-holds_of_all {X} P known xs = by (some_in xs (λ x. P x → ⊥) (λ x c. not_so (known x)))
-  where
-    by : Decided ((x : X) × Contains xs x × (P x → ⊥)) → Decided (All P xs)
-    by (inl (x, c, not)) = inr (λ all. not (All-contains P xs x all c))
-    by (inr none) = inl (λ k d lt. elim (known (get_or xs k d)) [
-      | inl h ↦ h
-      | inr not ↦ (let (x, at) = some_entry xs k lt in absurd (none (get_or xs k d, (k, lt, again xs k d lt), not)))
-    ])
-      where
-        again : (ys : List X) (k : ℕ) (d : X) → k < length ys → get_or ys k (get_or ys k d) ≡ get_or ys k d
-        again [] k d lt = absurd (omega (arith, lt))
-        again (y ∷ ys) zero d lt = refl
-        again (y ∷ ys) (suc k) d lt = again ys k d (omega (arith, lt))
 
 -- ---- places
 

@@ -1,36 +1,20 @@
 -- Where forms stand, and which is later: decided.
-use Rattle.std.proofs.Common.{◌≡◌, ◌⊎◌, inl, inr, ℕ, zero, suc, ◌+◌, ◌<◌, ◌≤◌, List, [], ◌∷◌, true, Option, Some, None, length, refl, sym, subst, arith}
-use Rattle.std.specs.Prelude.{All, Contains}
-use Rattle.std.specs.List.{flat_map}
+use Rattle.std.proofs.Common.{◌≡◌, ◌⊎◌, inl, inr, ℕ, zero, suc, ◌+◌, ◌<◌, ◌≤◌, List, true, Option, Some, None, length}
+use Rattle.std.proofs.Common.{refl, sym, subst, arith}
+use Rattle.std.specs.Prelude.{Contains}
 use Rattle.std.proofs.lemmas.Bool.{cases_lt, cases_eq}
-use Rattle.std.proofs.lemmas.List.Elements.{All-append, All-contains, All-from_recursion}
+use Rattle.std.proofs.lemmas.List.Elements.{All-contains}
+use Rattle.mp_base.proofs.Decisions.{Decided, same_claim, both_of, is_true, decided_below}
 use Rattle.mp_program.specs.declared.program.FormKind.{FormKind}
-use Rattle.mp_program.specs.declared.program.FormKind.TheVariants.{Set, Cond, Par, Go, Call, Return}
-use Rattle.mp_program.specs.declared.program.Branch.{Branch}
 use Rattle.mp_program.specs.declared.program.Form.{Form}
 use Rattle.mp_program.specs.declared.program.Program.{Program}
 use Rattle.mp_program.specs.Weight.{inner}
-use Rattle.mp_program.specs.Sound.{IsSound, InnerFit, BranchesFit}
+use Rattle.mp_program.specs.Sound.{IsSound}
+use Rattle.mp_program.proofs.Inside.{Between, kind_between}
 use Rattle.mp_rules.specs.Entries.{IsAt}
 use Rattle.mp_rules.specs.Standing.{Under, itself, deeper, StandsIn, is_transfer, label_of, sequences, IsLater}
-use Rattle.mp_verdict.proofs.Deciding.{Decided, same_claim, both_of, is_bit, is_below, one_entry, some_entry, some_at, some_in}
-
-abbrev Between : ℕ → ℕ → ℕ → Type 0
-Between i n g = (i < g) × (g < n)
-
-bodies_between : (e i n : ℕ) (bs : List Branch) → BranchesFit e i n bs
-    → All (Between i n) (flat_map (λ (b : Branch). b.body) bs)
-bodies_between e i n [] h = λ k d lt. absurd (omega (arith, lt))
-bodies_between e i n (b ∷ bs) h = All-append (Between i n) b.body (flat_map (λ (x : Branch). x.body) bs)
-    (All-from_recursion (Between i n) b.body h.0.1) (bodies_between e i n bs h.1)
-
-kind_between : (e i n : ℕ) (kind : FormKind) → InnerFit e i n kind → All (Between i n) (inner kind)
-kind_between e i n (Set x at v) h = λ k d lt. absurd (omega (arith, lt))
-kind_between e i n (Cond bs) h = bodies_between e i n bs h
-kind_between e i n (Par fs) h = All-from_recursion (Between i n) fs h
-kind_between e i n (Go l) h = λ k d lt. absurd (omega (arith, lt))
-kind_between e i n (Call l) h = λ k d lt. absurd (omega (arith, lt))
-kind_between e i n Return h = λ k d lt. absurd (omega (arith, lt))
+use Rattle.mp_rules.proofs.ListEntries.{one_entry, some_entry}
+use Rattle.mp_verdict.proofs.Deciding.{some_at, some_in}
 
 module _ (p : Program) (sound : IsSound p) where
   -- what stands in a form is it, or stands in one directly in it
@@ -88,9 +72,9 @@ module _ (p : Program) (sound : IsSound p) where
   follows_in : (forms : List ℕ) (b : ℕ) → Decided (FollowsIn forms b)
   follows_in forms b = some_at forms (λ j h. Under p h b × ((i g : ℕ) × IsAt forms i g × ((i < j) × HasTransfer g)))
       (λ j h at. both_of (is_under h b) (some_at forms (λ i g. (i < j) × HasTransfer g)
-      (λ i g also. both_of (is_below i j)
+      (λ i g also. both_of (decided_below i j)
       (some_at p.forms (λ a x. Under p g a × (is_transfer x.kind ≡ true))
-      (λ a x there. both_of (is_under g a) (is_bit (is_transfer x.kind)))))))
+      (λ a x there. both_of (is_under g a) (is_true (is_transfer x.kind)))))))
 
   -- the same as `IsLater`, one form inside another
   abbrev Nested : ℕ → ℕ → Form → Type 0
@@ -98,7 +82,7 @@ module _ (p : Program) (sound : IsSound p) where
       × (Under p r c × ((forms : List ℕ) × Contains (sequences y.kind) forms × FollowsIn forms b)))
 
   pub is_later : (r b : ℕ) (z : Form) → IsAt p.forms b z → Decided (IsLater p r b z)
-  is_later r b z at_b = same_claim (both_of (is_bit (is_transfer z.kind))
+  is_later r b z at_b = same_claim (both_of (is_true (is_transfer z.kind))
       (some_at p.forms (λ c y. Under p r c × ((forms : List ℕ) × Contains (sequences y.kind) forms × FollowsIn forms b))
       (λ c y at. both_of (is_under r c) (some_in (sequences y.kind) (λ forms. FollowsIn forms b)
       (λ forms seq. follows_in forms b)))))

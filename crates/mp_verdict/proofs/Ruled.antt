@@ -1,8 +1,11 @@
 -- The earliest place where a rule is broken, for each rule.
-use Rattle.std.proofs.Common.{◌≡◌, ◌≢◌, ◌⊎◌, inl, inr, ℕ, zero, suc, ◌<◌, ◌≤◌, ◌^◌, List, [], ◌∷◌, Bool, true, false, Some, length, refl, sym, ap, subst, arith}
+use Rattle.std.proofs.Common.{◌≡◌, ◌≢◌, ◌⊎◌, inl, inr, ℕ, zero, suc, ◌<◌, ◌≤◌, ◌^◌, List, [], ◌∷◌, Bool, true, false}
+use Rattle.std.proofs.Common.{Some, length, refl, sym, ap, subst, arith}
 use Rattle.std.specs.Prelude.{All, Contains}
 use Rattle.mp_base.specs.declared.refusal.Place.{Place}
 use Rattle.mp_base.specs.declared.op.Op.TheVariants.{Bit}
+use Rattle.mp_base.proofs.Decisions.{Decided, same_claim, both_of, one_of, not_so, is_true, is_number, decided_below}
+use Rattle.mp_base.proofs.Decisions.{is_within, is_name, holds_of_all}
 use Rattle.mp_program.specs.declared.program.ExprKind.{ExprKind}
 use Rattle.mp_program.specs.declared.program.ExprKind.TheVariants.{Number, Named, True, False, Apply}
 use Rattle.mp_program.specs.declared.program.FormKind.{FormKind}
@@ -23,10 +26,12 @@ use Rattle.mp_program.specs.Sound.{IsSound}
 use Rattle.mp_program.specs.Weight.{weight}
 use Rattle.mp_rules.specs.Entries.{IsAt}
 use Rattle.mp_rules.specs.Naming.{Naming, namings, is_reserved, supplies, Uses}
-use Rattle.mp_rules.specs.Rules.{E20, E21, E22, E23, E24, E25, E26, E27, E28, E29, E30, E31, E32, E33, E34, E35, E36, E40, E41, E42, E43, E44, E45, pins, is_unset, namings_up_to}
+use Rattle.mp_rules.specs.Rules.{E20, E21, E22, E23, E24, E25, E26, E27, E28, E29, E30, E31, E32, E33, E34, E35, E36}
+use Rattle.mp_rules.specs.Rules.{E40, E41, E42, E43, E44, E45, pins, is_unset, namings_up_to}
 use Rattle.mp_rules.specs.Sorts.{Sort, expr_sort, IsWanted}
 use Rattle.mp_rules.specs.Standing.{StandsIn, is_transfer, uses_stack, label_of, IsLater}
-use Rattle.mp_verdict.proofs.Deciding.{Decided, same_claim, both_of, one_of, not_so, is_bit, is_number, is_below, is_within, is_name, some_at, some_in, holds_of_all, First, nowhere, same_places, either_place, this_place, where_so, first_of_all, first_of_entry}
+use Rattle.mp_verdict.proofs.Deciding.{some_at, some_in, First, nowhere, same_places, either_place, this_place}
+use Rattle.mp_verdict.proofs.Deciding.{where_so, first_of_all, first_of_entry}
 use Rattle.mp_verdict.proofs.Forms.{stands_in, is_later, label_named}
 use Rattle.mp_verdict.proofs.Words.{is_bit_op, same_supply, is_pad_port, is_unnamed, first_use, is_amiss}
 
@@ -37,7 +42,7 @@ module _ (p : Program) where
       × (m.name ≡ n.name) × ((m.place).offset ≤ (n.place).offset))
 
   repeats : (k : ℕ) (n : Naming) → Decided (Repeats k n)
-  repeats k n = one_of (is_bit (is_reserved n.name))
+  repeats k n = one_of (is_true (is_reserved n.name))
       (same_claim (some_at (namings p) (λ j m. (j ≢ k) × ((m.name ≡ n.name) × ((m.place).offset ≤ (n.place).offset)))
       (λ j m at. both_of (not_so (is_number j k)) (both_of (is_name m.name n.name)
       (is_within (m.place).offset (n.place).offset))))
@@ -55,7 +60,7 @@ module _ (p : Program) where
       (λ k b is. this_place ((j : ℕ) × (a : Def) × IsAt p.defs j a
       × ((j < k) × ((is_supply a.what ≡ true) × (a.what ≡ b.what)))) b.place
       (some_at p.defs (λ j a. (j < k) × ((is_supply a.what ≡ true) × (a.what ≡ b.what)))
-      (λ j a at. both_of (is_below j k) (same_supply a.what b.what)))))
+      (λ j a at. both_of (decided_below j k) (same_supply a.what b.what)))))
       (λ at (k, b, at_b, ((j, a, at_a, (lt, (supply, what))), same)). (j, k, a, b, at_a, at_b, lt, supply, what, same))
       (λ at (j, k, a, b, at_a, at_b, lt, supply, what, same). (k, b, at_b, ((j, a, at_a, (lt, (supply, what))), same))))
 
@@ -173,7 +178,7 @@ module _ (p : Program) where
       ((j : ℕ) × (a : Pin) × IsAt (pins p) j a × ((j < k) × (a.number ≡ b.number))) × (at ≡ b.place))
       (λ k b is. this_place ((j : ℕ) × (a : Pin) × IsAt (pins p) j a × ((j < k) × (a.number ≡ b.number))) b.place
       (some_at (pins p) (λ j a. (j < k) × (a.number ≡ b.number))
-      (λ j a at. both_of (is_below j k) (is_number a.number b.number)))))
+      (λ j a at. both_of (decided_below j k) (is_number a.number b.number)))))
       (λ at (k, b, at_b, ((j, a, at_a, (lt, number)), same)). (j, k, a, b, at_a, at_b, lt, number, same))
       (λ at (j, k, a, b, at_a, at_b, lt, number, same). (k, b, at_b, ((j, a, at_a, (lt, number)), same)))
 
@@ -194,7 +199,7 @@ module _ (p : Program) where
   set_unset : (kind : FormKind) → First (λ at. (x : List ℕ) × (v : ℕ) × (kind ≡ Set x at v) × Unset x)
   set_unset (Set x place v) = same_places (this_place (Unset x) place
       (some_at p.defs (λ d z. (z.name ≡ x) × (is_unset z.what ≡ true))
-      (λ d z at. both_of (is_name z.name x) (is_bit (is_unset z.what)))))
+      (λ d z at. both_of (is_name z.name x) (is_true (is_unset z.what)))))
       (λ at (wrong, same). (x, v, ap (λ there. Set x there v) (sym same), wrong))
       (λ at (y, w, is, wrong). let e : x ≡ y = cc in let same : place ≡ at = cc in
       (subst (λ n. Unset n) (sym e) wrong, sym same))
@@ -217,7 +222,7 @@ module _ (p : Program) where
       × ((i < j) × (a.name ≡ b.name))) × (at ≡ b.place))
       (λ j b at_b. this_place ((i : ℕ) × (a : Label) × IsAt q.labels i a × ((i < j) × (a.name ≡ b.name))) b.place
       (some_at q.labels (λ i a. (i < j) × (a.name ≡ b.name))
-      (λ i a at. both_of (is_below i j) (is_name a.name b.name))))))
+      (λ i a at. both_of (decided_below i j) (is_name a.name b.name))))))
       (λ at (k, q, is, (j, b, at_b, ((i, a, at_a, (lt, name)), same))).
       (k, q, i, j, a, b, is, at_a, at_b, lt, name, same))
       (λ at (k, q, i, j, a, b, is, at_a, at_b, lt, name, same).
@@ -245,7 +250,7 @@ module _ (p : Program) where
     rule30 = same_places (first_of_all p.forms (λ f y at. (StandsIn p p.always f y × (is_transfer y.kind ≡ true))
         × (at ≡ y.place))
         (λ f y is. this_place (StandsIn p p.always f y × (is_transfer y.kind ≡ true)) y.place
-        (both_of (stands_in p sound p.always f y is) (is_bit (is_transfer y.kind)))))
+        (both_of (stands_in p sound p.always f y is) (is_true (is_transfer y.kind)))))
         (λ at (f, y, is, ((stands, moves), same)). (f, y, stands, moves, same))
         (λ at (f, y, stands, moves, same). (f, y, (stands.3.0, stands.3.1), ((stands, moves), same)))
 
@@ -256,7 +261,7 @@ module _ (p : Program) where
         (λ k q is. where_so (is_number q.depth 0) (first_of_all p.forms
         (λ f y at. (StandsIn p q.forms f y × (uses_stack y.kind ≡ true)) × (at ≡ y.place))
         (λ f y at_f. this_place (StandsIn p q.forms f y × (uses_stack y.kind ≡ true)) y.place
-        (both_of (stands_in p sound q.forms f y at_f) (is_bit (uses_stack y.kind)))))))
+        (both_of (stands_in p sound q.forms f y at_f) (is_true (uses_stack y.kind)))))))
         (λ at (k, q, is, (none, (f, y, at_f, ((stands, stack), same)))). (k, q, f, y, is, none, stands, stack, same))
         (λ at (k, q, f, y, is, none, stands, stack, same). (
           k,
@@ -329,7 +334,7 @@ module _ (p : Program) where
   rule34 = where_so (holds_of_all (λ (d : Def). is_reset d ≡ false) (λ d. is_off (is_reset d)) p.defs)
       (either_place
       (same_places (first_of_all p.defs (λ d x at. (is_stored x.what ≡ true) × (at ≡ x.place))
-      (λ d x is. this_place (is_stored x.what ≡ true) x.place (is_bit (is_stored x.what))))
+      (λ d x is. this_place (is_stored x.what ≡ true) x.place (is_true (is_stored x.what))))
       (λ at (d, x, is, (stored, same)). (d, x, is, stored, same))
       (λ at (d, x, is, stored, same). (d, x, is, (stored, same))))
       (first_of_all p.processes (λ k q at. at ≡ q.place) (λ k q is. same_places
@@ -387,11 +392,11 @@ module _ (p : Program) where
 
   pub rule43 : First (E43 p)
   rule43 = same_places (first_of_all p.processes (λ k q at. (8 < q.depth) × (at ≡ q.depth_at))
-      (λ k q is. this_place (8 < q.depth) q.depth_at (is_below 8 q.depth)))
+      (λ k q is. this_place (8 < q.depth) q.depth_at (decided_below 8 q.depth)))
       (λ at (k, q, is, (deep, same)). (k, q, is, deep, same)) (λ at (k, q, is, deep, same). (k, q, is, (deep, same)))
 
   pub rule44 : First (E44 p)
-  rule44 = this_place (1024 < weight p) p.place (is_below 1024 (weight p))
+  rule44 = this_place (1024 < weight p) p.place (decided_below 1024 (weight p))
 
   pub rule45 : First (E45 p)
-  rule45 = this_place (4096 < length p.exprs) p.place (is_below 4096 (length p.exprs))
+  rule45 = this_place (4096 < length p.exprs) p.place (decided_below 4096 (length p.exprs))

@@ -2,12 +2,15 @@
 use Rattle.std.proofs.Common.{◌≡◌, ◌⊎◌, inl, inr, ℕ, zero, suc, ◌<◌, ◌≤◌, sym, subst, arith}
 use Rattle.std.proofs.lemmas.Bool.{cases_lt}
 use Rattle.mp_base.specs.declared.refusal.Place.{Place}
+use Rattle.mp_base.proofs.Decisions.{Decided, is_number}
 use Rattle.mp_program.specs.declared.program.Program.{Program}
 use Rattle.mp_program.specs.Reads.{Chain}
 use Rattle.mp_program.specs.Sound.{IsSound}
 use Rattle.mp_rules.specs.Breaking.{Breaks, IsUnbroken, IsUnbrokenBelow, IsFirst}
-use Rattle.mp_verdict.proofs.Deciding.{Decided, is_number, First, nowhere, earliest, either_place, where_so}
-use Rattle.mp_verdict.proofs.Ruled.{rule20, rule21, rule22, rule23, rule24, rule25, rule26, rule27, rule28, rule29, rule30, rule31, rule32, rule33, rule34, rule35, rule36, rule40, rule41, rule42, rule43, rule44, rule45}
+use Rattle.mp_verdict.proofs.Deciding.{First, nowhere, earliest, either_place, where_so}
+use Rattle.mp_verdict.proofs.Ruled.{rule20, rule21, rule22, rule23, rule24, rule25, rule26, rule27, rule28, rule29}
+use Rattle.mp_verdict.proofs.Ruled.{rule30, rule31, rule32, rule33, rule34, rule35, rule36, rule40, rule41, rule42}
+use Rattle.mp_verdict.proofs.Ruled.{rule43, rule44, rule45}
 
 numbered : {P : Place → Type 0} (k n : ℕ) → First P → First (λ at. (k ≡ n) × P at)
 numbered k n h = where_so (is_number k n) h

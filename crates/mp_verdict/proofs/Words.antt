@@ -1,15 +1,18 @@
 -- Names, kinds and sorts: what stands where, decided.
-use Rattle.std.proofs.Common.{◌≡◌, ◌≢◌, ◌⊎◌, inl, inr, ℕ, List, true, Option, Some, None, map, refl, sym, ◌∙◌, ap, subst, arith}
+use Rattle.std.proofs.Common.{◌≡◌, ◌≢◌, ◌⊎◌, inl, inr, ℕ, List, true, Option, Some, None, map, refl, sym, ◌∙◌, ap}
+use Rattle.std.proofs.Common.{subst, arith}
 use Rattle.std.specs.Prelude.{Contains}
 use Rattle.mp_base.specs.declared.refusal.Place.{Place}
 use Rattle.mp_base.specs.declared.op.Op.{Op}
 use Rattle.mp_base.specs.declared.op.Op.TheVariants.{Bit}
+use Rattle.mp_base.proofs.Decisions.{Decided, same_claim, both_of, one_of, not_so, is_number, is_name}
 use Rattle.mp_program.specs.declared.program.ExprKind.{ExprKind}
 use Rattle.mp_program.specs.declared.program.ExprKind.TheVariants.{Number, Named, True, False, Apply}
 use Rattle.mp_program.specs.declared.program.FormKind.{FormKind}
 use Rattle.mp_program.specs.declared.program.FormKind.TheVariants.{Set, Cond, Par, Go, Call, Return}
 use Rattle.mp_program.specs.declared.program.What.{What}
-use Rattle.mp_program.specs.declared.program.What.TheVariants.{Power, Ground, Phia, Phib, Phic, Constant, Register, Flag, Port, Signal}
+use Rattle.mp_program.specs.declared.program.What.TheVariants.{Power, Ground, Phia, Phib, Phic, Constant, Register}
+use Rattle.mp_program.specs.declared.program.What.TheVariants.{Flag, Port, Signal}
 use Rattle.mp_program.specs.declared.program.Way.TheVariants.{Input, Output}
 use Rattle.mp_program.specs.declared.program.Branch.{Branch}
 use Rattle.mp_program.specs.declared.program.Def.{Def}
@@ -19,7 +22,8 @@ use Rattle.mp_program.specs.Names.{is_supply}
 use Rattle.mp_rules.specs.Entries.{IsAt}
 use Rattle.mp_rules.specs.Naming.{Naming, namings, Uses}
 use Rattle.mp_rules.specs.Sorts.{Sort, IsWord, IsBit, operand_sort, name_sort, expr_sort, IsWanted}
-use Rattle.mp_verdict.proofs.Deciding.{Decided, same_claim, both_of, one_of, not_so, is_number, is_name, some_at, is_in, First, nowhere, earliest, same_places, either_place, this_place, first_of_all}
+use Rattle.mp_verdict.proofs.Deciding.{some_at, is_in, First, nowhere, earliest, same_places, either_place, this_place}
+use Rattle.mp_verdict.proofs.Deciding.{first_of_all}
 
 -- ---- kinds
 

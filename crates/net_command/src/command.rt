@@ -16,7 +16,8 @@ use std::alloc::Global;
 // Reads and judges the masks, and gives their size line.
 fn prepare<D: Depot>(alloc: Global, depot: &mut D, cif: &str) -> Result<Vec<u8>, Halt>
     ensures held { Keeps (D.held depot.old) (D.held depot.new) }
-    ensures shows { IfOk result (λ text. IfSome (D.held depot.new) (λ files. (work cif.now).Shows files [] text.items)) }
+    ensures shows { IfOk result
+        (λ text. IfSome (D.held depot.new) (λ files. (work cif.now).Shows files [] text.items)) }
     ensures reason { HasReason (work cif.now).First (D.held depot.new)
         (D.read_faults depot.old) (D.read_faults depot.new) result }
     ensures writes { D.write_faults depot.new ≡ D.write_faults depot.old }

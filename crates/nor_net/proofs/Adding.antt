@@ -1,9 +1,11 @@
 -- What is added to a net leaves it a net.
-use Rattle.std.proofs.Common.{◌≡◌, ℕ, ◌<◌, ◌+◌, zero, suc, ◌⊎◌, inl, inr, List, [], ◌∷◌, ◌++◌, Option, Result, Ok, Err, Some, None, length, refl, sym, ◌∙◌, ap, subst, arith}
+use Rattle.std.proofs.Common.{◌≡◌, ℕ, ◌<◌, ◌+◌, zero, suc, ◌⊎◌, inl, inr, List, [], ◌∷◌, ◌++◌, Option, Result, Ok, Err}
+use Rattle.std.proofs.Common.{Some, None, length, refl, sym, ◌∙◌, ap, subst, arith}
 use Rattle.std.specs.Prelude.{OnOk, OnErr, slice_get, slice_set}
 use Rattle.std.proofs.lemmas.List.{length-set}
 use Rattle.std.proofs.lemmas.List.Sums.{sum_by-append, sum_by-cons, sum_by-set}
 use Rattle.std.proofs.lemmas.Option.{get_or_from_slice_get, none-some, same_Some, slice_get_within}
+use Rattle.mp_base.proofs.Entries.{get_kept, get_set_other}
 use Rattle.nor_net.specs.declared.net.Phase.{Phase}
 use Rattle.nor_net.specs.declared.net.NetId.{NetId}
 use Rattle.nor_net.specs.declared.net.Part.{Part}
@@ -16,11 +18,6 @@ get_push [] x zero y e = inr (refl, same_Some x y e)
 get_push [] x (suc n) y e = absurd (none-some y e)
 get_push (z ∷ zs) x zero y e = inl e
 get_push (z ∷ zs) x (suc n) y e = elim (get_push zs x n y e) [ inl h ↦ inl h | inr h ↦ inr (omega (arith, h.0), h.1) ]
-
-pub get_kept : {Y : Type 0} (xs ys : List Y) (n : ℕ) (y : Y) → slice_get xs n ≡ Some y → slice_get (xs ++ ys) n ≡ Some y
-get_kept [] ys n y e = absurd (none-some y e)
-get_kept (z ∷ zs) ys zero y e = e
-get_kept (z ∷ zs) ys (suc n) y e = get_kept zs ys n y e
 
 pub inputs_push : (parts : List Part) (p : Part) → gate_inputs (parts ++ p ∷ []) ≡ gate_inputs parts + fan_in p
 inputs_push parts p =
@@ -81,14 +78,6 @@ get_set (z ∷ zs) (suc i) x (suc n) y e =
       | inl h ↦ inl (omega (arith, h.0), h.1, omega (arith, h.2))
       | inr h ↦ inr (λ q. h.0 (omega arith), h.1)
     ]
-
-get_set_other : {Y : Type 0} (xs : List Y) (i : ℕ) (x : Y) (n : ℕ) → (n ≡ i → ⊥)
-    → slice_get (slice_set xs i x) n ≡ slice_get xs n
-get_set_other [] i x n ne = refl
-get_set_other (z ∷ zs) zero x zero ne = absurd (ne refl)
-get_set_other (z ∷ zs) zero x (suc n) ne = refl
-get_set_other (z ∷ zs) (suc i) x zero ne = refl
-get_set_other (z ∷ zs) (suc i) x (suc n) ne = get_set_other zs i x n (λ q. ne (omega arith))
 
 inputs_set : (parts : List Part) (i : ℕ) (p q : Part) → slice_get parts i ≡ Some p → fan_in q ≡ fan_in p
     → gate_inputs (slice_set parts i q) ≡ gate_inputs parts

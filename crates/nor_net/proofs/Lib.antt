@@ -9,3 +9,4 @@ pub mod Climbing
 pub mod Passing
 pub mod Counting
 pub mod Starting
+pub mod Parts

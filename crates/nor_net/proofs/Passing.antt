@@ -1,11 +1,13 @@
 -- One net after another is renewed.
-use Rattle.std.proofs.Common.{◌≡◌, ℕ, ◌<◌, ◌+◌, zero, suc, ◌⊎◌, inl, inr, List, [], ◌∷◌, Option, Some, None, Bool, true, false, length, get_or, refl, sym, ◌∙◌, ap, subst, arith}
+use Rattle.std.proofs.Common.{◌≡◌, ℕ, ◌<◌, ◌+◌, ◌⊎◌, inl, inr, List, Option, Some, None, Bool, true, false, length}
+use Rattle.std.proofs.Common.{get_or, refl, sym, ◌∙◌, ap, subst, arith}
 use Rattle.std.specs.Prelude.{IfSome, slice_get, slice_set}
 use Rattle.std.proofs.lemmas.Bool.{cases_eq, false≢true, true≢false}
 use Rattle.std.proofs.lemmas.Option.{get_or_from_slice_get, slice_get_within}
 use Rattle.std.proofs.lemmas.List.{length-set}
 use Rattle.mp_base.specs.declared.value.Trit.{Trit}
 use Rattle.mp_base.specs.declared.value.Trit.TheVariants.{X}
+use Rattle.mp_base.proofs.Entries.{some_entry}
 use Rattle.nor_net.specs.declared.net.Phase.{Phase}
 use Rattle.nor_net.specs.declared.net.Part.{Part}
 use Rattle.nor_net.specs.declared.net.Part.TheVariants.{Input, Gate, Latch}
@@ -13,12 +15,6 @@ use Rattle.nor_net.specs.Elements.{Element, element_of}
 use Rattle.nor_net.specs.Shape.{Fed, IsFed, values_at}
 use Rattle.nor_net.specs.Passing.{renewed, unknowns, Climbs, setting_in, Renewed, Passed}
 use Rattle.nor_net.proofs.Climbing.{climbed, lessened}
-
--- the part at an index that is in range
-pub entry : {Y : Type 0} (xs : List Y) (k : ℕ) → k < length xs → (x : Y) × (slice_get xs k ≡ Some x)
-entry [] k l = absurd (omega arith)
-entry (x ∷ xs) zero l = (x, refl)
-entry (x ∷ xs) (suc k) l = entry xs k (omega arith)
 
 fed_at : (parts : List Part) (k : ℕ) (p : Part) → IsFed parts → slice_get parts k ≡ Some p → Fed p
 fed_at parts k p fed e =
@@ -35,7 +31,7 @@ module _ (parts : List Part) (phase : Option Phase) (fed : IsFed parts) (n : ℕ
     (size : length vs ≡ length parts) (inside : n < length parts)
     (value : Trit) (is_value : IfSome (slice_get parts n) (λ p. value ≡ renewed phase vs n p)) where
   part : (p : Part) × (slice_get parts n ≡ Some p)
-  part = entry parts n inside
+  part = some_entry parts n inside
 
   renewed_is : (p : Part) → slice_get parts n ≡ Some p → value ≡ renewed phase vs n p
   renewed_is p e = subst (λ o. IfSome o (λ p. value ≡ renewed phase vs n p)) e is_value

@@ -1,11 +1,13 @@
 -- What a setting begins with climbs, and what no longer changes is settled.
-use Rattle.std.proofs.Common.{◌≡◌, ℕ, ◌<◌, ◌≤◌, ◌+◌, ◌⊎◌, inl, inr, List, Option, Some, None, Bool, true, false, cond, length, take, get_or, refl, sym, ◌∙◌, ap, subst, arith}
+use Rattle.std.proofs.Common.{◌≡◌, ℕ, ◌<◌, ◌≤◌, ◌+◌, ◌⊎◌, inl, inr, List, Option, Some, None, Bool, true, false, cond}
+use Rattle.std.proofs.Common.{length, take, get_or, refl, sym, ◌∙◌, ap, subst, arith}
 use Rattle.std.specs.Prelude.{IfSome, slice_get, slice_set}
 use Rattle.std.proofs.lemmas.Bool.{cases_eq, cases_lt, eq-eqb, ne_eqb, false≢true}
 use Rattle.std.proofs.lemmas.Option.{get_or_from_slice_get, none-some, same_Some, slice_get_within}
 use Rattle.std.proofs.lemmas.List.{get_or-set_same, get_or-set_other, get_or_past, length-set}
 use Rattle.mp_base.specs.declared.value.Trit.{Trit}
 use Rattle.mp_base.specs.declared.value.Trit.TheVariants.{X}
+use Rattle.mp_base.proofs.Entries.{some_entry}
 use Rattle.nor_net.specs.declared.net.Phase.{Phase}
 use Rattle.nor_net.specs.declared.net.Part.{Part}
 use Rattle.nor_net.specs.declared.net.Part.TheVariants.{Input, Gate, Latch}
@@ -14,7 +16,6 @@ use Rattle.nor_net.specs.Settled.{gives, is_open, IsSolution, IsSettled}
 use Rattle.nor_net.specs.Shape.{Fed, values_at, given_at, setting_of, count_inputs, IsFed}
 use Rattle.nor_net.specs.Passing.{first_value, Climbs, Started, Passed, setting_in}
 use Rattle.nor_net.proofs.Climbing.{renewed_gives}
-use Rattle.nor_net.proofs.Passing.{entry}
 
 pub none_started : (parts : List Part) (phase : Option Phase) (inputs vs : List Trit)
     → Started parts phase inputs 0 vs vs
@@ -136,7 +137,7 @@ module _ (parts : List Part) (phase : Option Phase) (inputs old new : List Trit)
         where
           beyond : length parts ≤ q.net
           beyond = elim (cases_lt q.net (length parts))
-              [ inl l ↦ absurd (let e = entry parts q.net l in none-some e.0 (sym w ∙ e.1)) | inr l ↦ l ]
+              [ inl l ↦ absurd (let e = some_entry parts q.net l in none-some e.0 (sym w ∙ e.1)) | inr l ↦ l ]
       by_part (Some Input) w t = absurd (none-some Given (sym t))
       by_part (Some (Gate js)) w t = absurd (none-some _ (sym t))
       by_part (Some (Latch p (Some m))) w t = absurd (none-some _ (sym t))

@@ -1,5 +1,6 @@
 -- One pass over the nets of a net that stands alone.
-use Rattle.std.specs.Prelude.{◌≡◌, ◌<◌, ◌≤◌, ◌⊎◌, take, ℕ, List, Option, Some, None, Bool, true, false, map, if◌then◌else◌, length, slice_get, slice_index_or}
+use Rattle.std.specs.Prelude.{◌≡◌, ◌<◌, ◌≤◌, ◌⊎◌, take, ℕ, List, Option, Some, None, Bool, true, false, map}
+use Rattle.std.specs.Prelude.{if◌then◌else◌, length, slice_get, slice_index_or}
 use Rattle.std.specs.List.{sum_by}
 use Rattle.mp_base.specs.declared.value.Trit.{Trit}
 use Rattle.mp_base.specs.declared.value.Trit.TheVariants.{X}

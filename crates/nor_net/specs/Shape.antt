@@ -1,5 +1,6 @@
 -- The shape of a net: gates stand after their inputs, and a latch's data is a gate or, in phase C, an input.
-use Rattle.std.specs.Prelude.{◌≡◌, ◌<◌, ◌^◌, ℕ, List, [], ◌∷◌, ◌++◌, Option, Some, None, All, IsSome, IfSome, length, slice_get, slice_index_or, if◌then◌else◌, ◌==◌, take}
+use Rattle.std.specs.Prelude.{◌≡◌, ◌<◌, ◌^◌, ℕ, List, [], ◌∷◌, ◌++◌, Option, Some, None, All, IsSome, IfSome, length}
+use Rattle.std.specs.Prelude.{slice_get, slice_index_or, if◌then◌else◌, ◌==◌, take}
 use Rattle.std.specs.List.{sum_by}
 use Rattle.mp_base.specs.declared.value.Trit.{Trit}
 use Rattle.mp_base.specs.declared.value.Trit.TheVariants.{X}

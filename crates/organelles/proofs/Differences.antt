@@ -1,14 +1,16 @@
 -- Slices of Sub have the difference: the number to which y is added to give x and a power.
-use Rattle.std.proofs.Common.{◌≡◌, ℕ, ◌<◌, ◌+◌, ◌-◌, ◌*◌, ◌/◌, ◌%◌, ◌^◌, zero, suc, List, Bool, true, false, get_or, refl, sym, ◌∙◌, ap, subst, arith}
+use Rattle.std.proofs.Common.{◌≡◌, ℕ, ◌<◌, ◌+◌, ◌-◌, ◌*◌, ◌/◌, ◌%◌, ◌^◌, zero, suc, List, Bool, true, false, get_or}
+use Rattle.std.proofs.Common.{refl, sym, ◌∙◌, ap, subst, arith}
 use Rattle.std.specs.Prelude.{◌==◌}
 use Rattle.std.specs.Int.{bit_at}
 use Rattle.std.proofs.lemmas.Nat.{div-add-mod', mod-mul-add, mod_below}
+use Rattle.mp_base.proofs.Numbers.{power_positive}
 use Rattle.nor_net.specs.Laws.{bit}
 use Rattle.organelles.specs.declared.slices.Organelle.TheVariants.{Sub}
 use Rattle.organelles.specs.Tables.{table_of}
 use Rattle.organelles.specs.Computing.{OperatorComputes}
 use Rattle.organelles.proofs.Chains.{digit, slice_bits, carry, slice_bit, bits_up}
-use Rattle.organelles.proofs.Numbers.{num, num_digit, positive, low_more, digit_of_mod}
+use Rattle.organelles.proofs.Numbers.{num, num_digit, low_more, digit_of_mod}
 use Rattle.organelles.proofs.Orders.{Borrows}
 use Rattle.organelles.proofs.Sums as sums
 use Rattle.organelles.proofs.Steps.{low_of_power, digit_of_power}
@@ -31,7 +33,7 @@ borrows : (x y k : ℕ) → Borrows (carry gates 14 x y k) (x % 2 ^ k) (y % 2 ^ 
 borrows x y zero = let a = mod_below x 1 (omega arith) in let b = mod_below y 1 (omega arith) in omega (arith, a, b)
 borrows x y (suc k) =
     let h = more (digit x k) (digit y k) (carry gates 14 x y k) (2 ^ k) (x % 2 ^ k) (y % 2 ^ k)
-    (mod_below x (2 ^ k) (positive k)) (mod_below y (2 ^ k) (positive k)) (borrows x y k) in
+    (mod_below x (2 ^ k) (power_positive k)) (mod_below y (2 ^ k) (power_positive k)) (borrows x y k) in
     let a = subst (λ m. Borrows (carry gates 14 x y (suc k)) m (num (digit y k) * 2 ^ k + y % 2 ^ k))
     (sym (low_more x k)) h in
     subst (λ m. Borrows (carry gates 14 x y (suc k)) (x % 2 ^ suc k) m) (sym (low_more y k)) a
@@ -87,8 +89,8 @@ difference_digit x y w k fits l =
     let ca = carry sums.gates 11 (x + 2 ^ w - y) y k in
     let cb = carry gates 14 x y k in
     let whole : (x + 2 ^ w - y) + y ≡ x + 2 ^ w = omega arith in
-    let lz = mod_below (x + 2 ^ w - y) (2 ^ k) (positive k) in
-    let ly = mod_below y (2 ^ k) (positive k) in
+    let lz = mod_below (x + 2 ^ w - y) (2 ^ k) (power_positive k) in
+    let ly = mod_below y (2 ^ k) (power_positive k) in
     let r = sums.passed (x + 2 ^ w - y) y ca (2 ^ k) ((x + 2 ^ w - y) % 2 ^ k) (y % 2 ^ k) lz ly
     (sums.carries (x + 2 ^ w - y) y k) in
     let dz = div-add-mod' (x + 2 ^ w - y) (2 ^ k) in

@@ -1,11 +1,13 @@
 -- Numbers, digit by digit.
-use Rattle.std.proofs.Common.{◌≡◌, ℕ, ◌<◌, ◌+◌, ◌-◌, ◌*◌, ◌/◌, ◌%◌, ◌^◌, zero, suc, Bool, true, false, refl, sym, ◌∙◌, ap, subst, arith}
+use Rattle.std.proofs.Common.{◌≡◌, ℕ, ◌<◌, ◌+◌, ◌-◌, ◌*◌, ◌/◌, ◌%◌, ◌^◌, zero, suc, Bool, true, false, refl, sym, ◌∙◌}
+use Rattle.std.proofs.Common.{ap, subst, arith}
 use Rattle.std.specs.Prelude.{◌==◌}
 use Rattle.std.specs.Int.{bit_at}
 use Rattle.std.proofs.Math.Nat.{pow-succ'}
 use Rattle.std.proofs.Math.Arith.{mod-mul}
-use Rattle.std.proofs.lemmas.Nat.{div-add-mod', div-mul-add, div_below, mod_below, pow_pos, pow-add}
+use Rattle.std.proofs.lemmas.Nat.{div-add-mod', div-mul-add, div_below, mod_below, pow-add}
 use Rattle.std.proofs.lemmas.Nat.Bits.{bit_at-lt, bit_at_cat_low}
+use Rattle.mp_base.proofs.Numbers.{power_positive}
 use Rattle.organelles.proofs.Chains.{digit}
 
 abbrev pub num : Bool → ℕ
@@ -20,13 +22,10 @@ digit_num x k = by_digit (bit_at x k) (bit_at-lt x k)
     by_digit (suc zero) l = refl
     by_digit (suc (suc d)) l = absurd (omega arith)
 
-pub positive : (k : ℕ) → 0 < 2 ^ k
-positive k = pow_pos k
-
 pub low_more : (x k : ℕ) → x % 2 ^ suc k ≡ num (digit x k) * 2 ^ k + x % 2 ^ k
 low_more x k =
     let p : 2 ^ suc k ≡ 2 * 2 ^ k = pow-succ' 2 k in
-    let m : x % (2 * 2 ^ k) ≡ (x / 2 ^ k % 2) * 2 ^ k + x % 2 ^ k = mod-mul x (omega arith) (positive k) in
+    let m : x % (2 * 2 ^ k) ≡ (x / 2 ^ k % 2) * 2 ^ k + x % 2 ^ k = mod-mul x (omega arith) (power_positive k) in
     ap (λ n. x % n) p ∙ m ∙ ap (λ d. d * 2 ^ k + x % 2 ^ k) (digit_num x k)
 
 pub digit_of_mod : (x w k : ℕ) → k < w → bit_at (x % 2 ^ w) k ≡ bit_at x k
@@ -51,12 +50,12 @@ parity_off d q m e = omega arith
 pub complement_digit : (x w k : ℕ) → x < 2 ^ w → k < w → bit_at (2 ^ w - 1 - x) k ≡ 1 - bit_at x k
 complement_digit x w k fits l =
     let s = power_split w k l in
-    let high : x / 2 ^ k < 2 * s.0 = div_below x (2 ^ k) (2 * s.0) (positive k) (subst (λ n. x < n) s.1 fits) in
+    let high : x / 2 ^ k < 2 * s.0 = div_below x (2 ^ k) (2 * s.0) (power_positive k) (subst (λ n. x < n) s.1 fits) in
     let d : ℕ = 2 * s.0 - 1 - x / 2 ^ k in
     let whole : (2 * s.0 - 1 - x / 2 ^ k) + x / 2 ^ k + 1 ≡ 2 * s.0 = omega arith in
     let times : ((2 * s.0 - 1 - x / 2 ^ k) + x / 2 ^ k + 1) * 2 ^ k ≡ (2 * s.0) * 2 ^ k = ap (λ n. n * 2 ^ k) whole in
     by_parts (2 * s.0 - 1 - x / 2 ^ k) (x / 2 ^ k) (x % 2 ^ k) (2 ^ k) (2 ^ w) s.0 (div-add-mod' x (2 ^ k))
-    (mod_below x (2 ^ k) (positive k)) (positive k) whole (times ∙ sym s.1)
+    (mod_below x (2 ^ k) (power_positive k)) (power_positive k) whole (times ∙ sym s.1)
   where
     by_parts : (d q r p n m : ℕ) → q * p + r ≡ x → r < p → 0 < p → d + q + 1 ≡ 2 * m → (d + q + 1) * p ≡ n
         → (n - 1 - x) / p % 2 ≡ 1 - q % 2

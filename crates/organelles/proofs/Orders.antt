@@ -1,16 +1,18 @@
 -- Slices of Less have the order.
-use Rattle.std.proofs.Common.{◌≡◌, ℕ, ◌<◌, ◌≤◌, ◌+◌, ◌*◌, ◌%◌, ◌^◌, zero, suc, List, Bool, true, false, get_or, length, ltb, refl, sym, ◌∙◌, ap, subst, arith}
+use Rattle.std.proofs.Common.{◌≡◌, ℕ, ◌<◌, ◌≤◌, ◌+◌, ◌*◌, ◌%◌, ◌^◌, zero, suc, List, Bool, true, false, get_or, length}
+use Rattle.std.proofs.Common.{ltb, refl, sym, ◌∙◌, ap, subst, arith}
 use Rattle.std.specs.Prelude.{◌==◌}
 use Rattle.std.proofs.Math.Nat.{mod-eq_of_lt}
 use Rattle.std.proofs.lemmas.Nat.{mod_below}
 use Rattle.std.proofs.lemmas.Bool.{lt-ltb, le-ltb}
 use Rattle.mp_base.specs.Apply.{truth}
+use Rattle.mp_base.proofs.Numbers.{power_positive}
 use Rattle.nor_net.specs.Laws.{bit}
 use Rattle.organelles.specs.declared.slices.Organelle.TheVariants.{Less}
 use Rattle.organelles.specs.Tables.{table_of}
 use Rattle.organelles.specs.Computing.{OperatorComputes}
 use Rattle.organelles.proofs.Chains.{digit, slice_bits, carry, bits_up}
-use Rattle.organelles.proofs.Numbers.{num, positive, low_more}
+use Rattle.organelles.proofs.Numbers.{num, low_more}
 
 abbrev gates : List (List ℕ)
 gates = (table_of Less).gates
@@ -41,8 +43,9 @@ module _ (x y : ℕ) where
   borrows : (k : ℕ) → Borrows (c k) (x % 2 ^ k) (y % 2 ^ k)
   borrows zero = let a = mod_below x 1 (omega arith) in let b = mod_below y 1 (omega arith) in omega (arith, a, b)
   borrows (suc k) =
-      let h = more (digit x k) (digit y k) (c k) (2 ^ k) (x % 2 ^ k) (y % 2 ^ k) (mod_below x (2 ^ k) (positive k))
-      (mod_below y (2 ^ k) (positive k)) (borrows k) in
+      let h = more (digit x k) (digit y k) (c k) (2 ^ k) (x % 2 ^ k) (y % 2 ^ k)
+      (mod_below x (2 ^ k) (power_positive k))
+      (mod_below y (2 ^ k) (power_positive k)) (borrows k) in
       let a = subst (λ m. Borrows (c (suc k)) m (num (digit y k) * 2 ^ k + y % 2 ^ k)) (sym (low_more x k)) h in
       subst (λ m. Borrows (c (suc k)) (x % 2 ^ suc k) m) (sym (low_more y k)) a
 

@@ -1,11 +1,13 @@
 -- Where an operator's nets stand in the slices, and how each gets its value.
-use Rattle.std.proofs.Common.{◌≡◌, ℕ, ◌<◌, ◌≤◌, ◌+◌, suc, List, [], ◌∷◌, ◌++◌, Option, Some, None, cond, eqb, length, map, refl, sym, ◌∙◌, ap, subst, arith}
+use Rattle.std.proofs.Common.{◌≡◌, ℕ, ◌<◌, ◌≤◌, ◌+◌, suc, List, [], ◌∷◌, ◌++◌, Option, Some, None, cond, eqb, length}
+use Rattle.std.proofs.Common.{map, refl, sym, ◌∙◌, ap, subst, arith}
 use Rattle.std.specs.Prelude.{All, slice_get}
-use Rattle.std.specs.Option.{option_map, option_or}
+use Rattle.std.specs.Option.{option_or}
 use Rattle.std.proofs.lemmas.Bool.{lt-ltb, ne_eqb, eq-eqb}
-use Rattle.std.proofs.lemmas.Option.{none-some, slice_get-map}
+use Rattle.std.proofs.lemmas.Option.{none-some}
 use Rattle.mp_base.specs.declared.value.Trit.{Trit}
 use Rattle.mp_base.specs.declared.value.Trit.TheVariants.{Zero}
+use Rattle.mp_base.proofs.Entries.{get_middle, get_behind, map_get}
 use Rattle.nor_net.specs.declared.net.NetId.{NetId}
 use Rattle.nor_net.specs.declared.net.Part.{Part}
 use Rattle.nor_net.specs.declared.net.Part.TheVariants.{Input, Gate}
@@ -19,20 +21,6 @@ use Rattle.organelles.specs.declared.table.Joint.{Joint}
 use Rattle.organelles.specs.declared.table.Joint.TheVariants.{Alone, Upward, Downward}
 use Rattle.organelles.specs.Tables.{table, place, net_at, gates_from, parts_from}
 use Rattle.organelles.specs.Computing.{ChainIn, with_table}
-
-get_first : {Y : Type 0} (xs : List Y) (y : Y) (ys : List Y) → slice_get (xs ++ y ∷ ys) (length xs) ≡ Some y
-get_first [] y ys = refl
-get_first (x ∷ xs) y ys = get_first xs y ys
-
-get_behind : {Y : Type 0} (xs ys : List Y) (i : ℕ) → slice_get (xs ++ ys) (length xs + i) ≡ slice_get ys i
-get_behind [] ys i = ap (slice_get ys) (let e : 0 + i ≡ i = omega arith in e)
-get_behind (x ∷ xs) ys i =
-    let e : suc (length xs) + i ≡ suc (length xs + i) = omega arith in
-    ap (slice_get (x ∷ xs ++ ys)) e ∙ get_behind xs ys i
-
-get_mapped : {A Y : Type 0} (f : A → Y) (xs : List A) (i : ℕ) (x : A) → slice_get xs i ≡ Some x
-    → slice_get (map f xs) i ≡ Some (f x)
-get_mapped f xs i x e = slice_get-map f xs i ∙ ap (option_map f) e
 
 -- chains whose ends stand before n join nothing to n
 no_chain : (w k n : ℕ) (chains : List Chain) → All (ChainIn n) chains → first_some (chain_element w k n) chains ≡ None
@@ -107,7 +95,7 @@ module _ (a b : NetId) (s : SliceNet) (chains_in : All (ChainIn (length s.net)) 
 
     end_is : (k : ℕ) → k < w → slice_nets w t (record { band = suc k; net = at }) ≡ Some (end_element k)
     end_is k l =
-        let is = stands t w k at Input l (get_first s.net Input (gates_from a b at (at + 1) gates)) in
+        let is = stands t w k at Input l (get_middle s.net Input (gates_from a b at (at + 1) gates)) in
         let here : cond (eqb at at) (Some (end_element k)) None ≡ Some (end_element k) =
         ap (λ b. cond b (Some (end_element k)) None) (eq-eqb at at refl) in
         let found = first_last (chain_element w k at) s.chains (Up (net_at (place a b at (at + 1) from)) (net_at at))
@@ -136,7 +124,7 @@ module _ (a b : NetId) (s : SliceNet) (chains_in : All (ChainIn (length s.net)) 
         ≡ Some (Gate (map (λ j. net_at (place a b at (at + 1) j)) js)) =
         ap (slice_get (s.net ++ Input ∷ gates_from a b at (at + 1) gates)) add
         ∙ get_behind s.net (Input ∷ gates_from a b at (at + 1) gates) (suc i)
-        ∙ get_mapped (λ js. Gate (map (λ j. net_at (place a b at (at + 1) j)) js)) gates i js e in
+        ∙ map_get (λ js. Gate (map (λ j. net_at (place a b at (at + 1) j)) js)) gates i js e in
         gate_at (Upward from) at w v h (at + 1) k i js l (omega arith) is
 
   -- the end of a chain down
@@ -150,7 +138,7 @@ module _ (a b : NetId) (s : SliceNet) (chains_in : All (ChainIn (length s.net)) 
 
     down_is : (k : ℕ) → k < w → slice_nets w t' (record { band = suc k; net = at }) ≡ Some (end_element' k)
     down_is k l =
-        let is = stands t' w k at Input l (get_first s.net Input (gates_from a b at (at + 1) gates)) in
+        let is = stands t' w k at Input l (get_middle s.net Input (gates_from a b at (at + 1) gates)) in
         let here : cond (eqb at at) (Some (end_element' k)) None ≡ Some (end_element' k) =
         ap (λ b. cond b (Some (end_element' k)) None) (eq-eqb at at refl) in
         let found = first_last (chain_element w k at) s.chains
@@ -187,5 +175,5 @@ module _ (a b : NetId) (s : SliceNet) (chains_in : All (ChainIn (length s.net)) 
         let is : slice_get (s.net ++ parts_from Alone gates a b at) (at + i)
         ≡ Some (Gate (map (λ j. net_at (place a b b.0 at j)) js)) =
         get_behind s.net (gates_from a b b.0 at gates) i
-        ∙ get_mapped (λ js. Gate (map (λ j. net_at (place a b b.0 at j)) js)) gates i js e in
+        ∙ map_get (λ js. Gate (map (λ j. net_at (place a b b.0 at j)) js)) gates i js e in
         gate_at Alone b.0 w v h at k i js l (omega arith) is

@@ -1,16 +1,18 @@
 -- Slices of Inc and Dec have the number after and before.
-use Rattle.std.proofs.Common.{◌≡◌, ℕ, ◌<◌, ◌≤◌, ◌+◌, ◌-◌, ◌*◌, ◌/◌, ◌%◌, ◌^◌, zero, suc, inl, inr, Bool, true, false, cond, get_or, refl, sym, ◌∙◌, ap, subst, arith}
+use Rattle.std.proofs.Common.{◌≡◌, ℕ, ◌<◌, ◌≤◌, ◌+◌, ◌-◌, ◌*◌, ◌/◌, ◌%◌, ◌^◌, zero, suc, inl, inr, Bool, true, false}
+use Rattle.std.proofs.Common.{cond, get_or, refl, sym, ◌∙◌, ap, subst, arith}
 use Rattle.std.specs.Prelude.{◌==◌}
 use Rattle.std.specs.Int.{bit_at}
 use Rattle.std.proofs.Math.Nat.{pow-succ', add-mul-mod_self_right}
 use Rattle.std.proofs.lemmas.Nat.{div-add-mod', div-mul-add, mod-mul-add, mod_below}
 use Rattle.std.proofs.lemmas.Bool.{cases_lt}
+use Rattle.mp_base.proofs.Numbers.{power_positive}
 use Rattle.nor_net.specs.Laws.{bit}
 use Rattle.organelles.specs.declared.slices.Organelle.TheVariants.{Inc, Dec}
 use Rattle.organelles.specs.Tables.{table_of}
 use Rattle.organelles.specs.Computing.{OperatorComputes}
 use Rattle.organelles.proofs.Chains.{digit, slice_bits, carry, slice_bit, bits_up}
-use Rattle.organelles.proofs.Numbers.{num, digit_num, num_digit, positive, low_more, digit_of_mod, power_split}
+use Rattle.organelles.proofs.Numbers.{num, digit_num, num_digit, low_more, digit_of_mod, power_split}
 
 -- one more passes the top of the low digits, unless the end of the chain is 1
 abbrev pub Fits : Bool → ℕ → ℕ → Type 0
@@ -51,7 +53,7 @@ parity q f d e = omega arith
 pub after_digit : (x k : ℕ) (c : Bool) → Fits c (2 ^ k) (x % 2 ^ k)
     → bit_at (x + 1) k ≡ (num (digit x k) + num (cond c false true)) % 2
 after_digit x k c fits =
-    let w = passed c (2 ^ k) (x % 2 ^ k) (mod_below x (2 ^ k) (positive k)) fits in
+    let w = passed c (2 ^ k) (x % 2 ^ k) (mod_below x (2 ^ k) (power_positive k)) fits in
     let dx = div-add-mod' x (2 ^ k) in
     let split : (x / 2 ^ k + num (cond c false true)) * 2 ^ k + w.0 ≡ x + 1 = omega (arith, dx, w.2) in
     let q : (x + 1) / 2 ^ k ≡ x / 2 ^ k + num (cond c false true) =
@@ -62,7 +64,7 @@ inc_fits : (x y k : ℕ) → Fits (carry (table_of Inc).gates 7 x y k) (2 ^ k) (
 inc_fits x y zero = omega arith
 inc_fits x y (suc k) =
     let h = inc_more (digit x k) (digit y k) (carry (table_of Inc).gates 7 x y k) (2 ^ k) (x % 2 ^ k)
-    (mod_below x (2 ^ k) (positive k)) (inc_fits x y k) in
+    (mod_below x (2 ^ k) (power_positive k)) (inc_fits x y k) in
     let a = subst (λ m. Fits (carry (table_of Inc).gates 7 x y (suc k)) (2 * 2 ^ k) m) (sym (low_more x k)) h in
     subst (λ p. Fits (carry (table_of Inc).gates 7 x y (suc k)) p (x % 2 ^ suc k)) (sym (pow-succ' 2 k)) a
 
@@ -108,7 +110,7 @@ dec_low : (x y k : ℕ) → Some_low (carry (table_of Dec).gates 7 x y k) (x % 2
 dec_low x y zero = let m = mod_below x 1 (omega arith) in omega (arith, m)
 dec_low x y (suc k) =
     subst (Some_low (carry (table_of Dec).gates 7 x y (suc k))) (sym (low_more x k))
-    (dec_more (digit x k) (digit y k) (carry (table_of Dec).gates 7 x y k) (2 ^ k) (x % 2 ^ k) (positive k)
+    (dec_more (digit x k) (digit y k) (carry (table_of Dec).gates 7 x y k) (2 ^ k) (x % 2 ^ k) (power_positive k)
     (dec_low x y k))
 
 -- the low digits of a number to which a power is added
@@ -125,7 +127,7 @@ digit_of_power x w k l =
     let split : (x / 2 ^ k + 2 * s.0) * 2 ^ k + x % 2 ^ k ≡ x + (2 * s.0) * 2 ^ k = omega (arith, dx) in
     let q : (x + 2 ^ w) / 2 ^ k ≡ x / 2 ^ k + 2 * s.0 =
     ap (λ n. (x + n) / 2 ^ k) s.1 ∙ ap (λ n. n / 2 ^ k) (sym split)
-    ∙ div-mul-add (x / 2 ^ k + 2 * s.0) (2 ^ k) (x % 2 ^ k) (mod_below x (2 ^ k) (positive k)) in
+    ∙ div-mul-add (x / 2 ^ k + 2 * s.0) (2 ^ k) (x % 2 ^ k) (mod_below x (2 ^ k) (power_positive k)) in
     ap (λ n. n % 2) q ∙ even (x / 2 ^ k) s.0
   where
     even : (q m : ℕ) → (q + 2 * m) % 2 ≡ q % 2
@@ -168,16 +170,16 @@ num_lt false = omega arith
 
 pub dec_computes : OperatorComputes Dec
 dec_computes a b s a_in b_in chains_in w v x y some narrow obeys fits_x fits_y has_x has_y k l =
-    let pw = positive w in
+    let pw = power_positive w in
     let c = carry (table_of Dec).gates 7 x y k in
     let z = x + 2 ^ w - 1 in
     let whole : (x + 2 ^ w - 1) + 1 ≡ x + 2 ^ w = omega (arith, pw) in
     let low : ((x + 2 ^ w - 1) + 1) % 2 ^ k ≡ x % 2 ^ k = ap (λ n. n % 2 ^ k) whole ∙ low_of_power x w k l in
     let fits : Fits c (2 ^ k) ((x + 2 ^ w - 1) % 2 ^ k) =
-    turned c (2 ^ k) ((x + 2 ^ w - 1) % 2 ^ k) (x % 2 ^ k) (mod_below (x + 2 ^ w - 1) (2 ^ k) (positive k))
-    (positive k) (dec_low x y k)
-    (λ m. sym low ∙ low_after (x + 2 ^ w - 1) (2 ^ k) (positive k) m)
-    (λ m. sym low ∙ low_wraps (x + 2 ^ w - 1) (2 ^ k) (positive k) m) in
+    turned c (2 ^ k) ((x + 2 ^ w - 1) % 2 ^ k) (x % 2 ^ k) (mod_below (x + 2 ^ w - 1) (2 ^ k) (power_positive k))
+    (power_positive k) (dec_low x y k)
+    (λ m. sym low ∙ low_after (x + 2 ^ w - 1) (2 ^ k) (power_positive k) m)
+    (λ m. sym low ∙ low_wraps (x + 2 ^ w - 1) (2 ^ k) (power_positive k) m) in
     let d : num (digit x k) ≡ (num (digit (x + 2 ^ w - 1) k) + num (cond c false true)) % 2 =
     sym (digit_num x k) ∙ sym (digit_of_power x w k l) ∙ ap (λ n. bit_at n k) (sym whole)
     ∙ after_digit (x + 2 ^ w - 1) k c fits in

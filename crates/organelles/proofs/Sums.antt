@@ -1,15 +1,17 @@
 -- Slices of Add have the sum.
-use Rattle.std.proofs.Common.{◌≡◌, ℕ, ◌<◌, ◌≤◌, ◌+◌, ◌-◌, ◌*◌, ◌/◌, ◌%◌, ◌^◌, zero, suc, List, Bool, true, false, get_or, length, refl, sym, ◌∙◌, ap, subst, arith}
+use Rattle.std.proofs.Common.{◌≡◌, ℕ, ◌<◌, ◌≤◌, ◌+◌, ◌-◌, ◌*◌, ◌/◌, ◌%◌, ◌^◌, zero, suc, List, Bool, true, false}
+use Rattle.std.proofs.Common.{get_or, length, refl, sym, ◌∙◌, ap, subst, arith}
 use Rattle.std.specs.Prelude.{◌==◌}
 use Rattle.std.specs.Int.{bit_at}
 use Rattle.std.proofs.Math.Nat.{pow-succ'}
 use Rattle.std.proofs.lemmas.Nat.{div-add-mod', div-mul-add, mod_below}
+use Rattle.mp_base.proofs.Numbers.{power_positive}
 use Rattle.nor_net.specs.Laws.{bit}
 use Rattle.organelles.specs.declared.slices.Organelle.TheVariants.{Add}
 use Rattle.organelles.specs.Tables.{table_of}
 use Rattle.organelles.specs.Computing.{OperatorComputes}
 use Rattle.organelles.proofs.Chains.{digit, slice_bits, carry, slice_bit, bits_up}
-use Rattle.organelles.proofs.Numbers.{num, digit_num, positive, low_more, digit_of_mod}
+use Rattle.organelles.proofs.Numbers.{num, digit_num, low_more, digit_of_mod}
 
 abbrev pub gates : List (List ℕ)
 gates = (table_of Add).gates
@@ -50,8 +52,9 @@ module _ (x y : ℕ) where
   pub carries : (k : ℕ) → Carries (c k) (2 ^ k) (x % 2 ^ k) (y % 2 ^ k)
   carries zero = let a = mod_below x 1 (omega arith) in let b = mod_below y 1 (omega arith) in omega (arith, a, b)
   carries (suc k) =
-      let h = more (digit x k) (digit y k) (c k) (2 ^ k) (x % 2 ^ k) (y % 2 ^ k) (mod_below x (2 ^ k) (positive k))
-      (mod_below y (2 ^ k) (positive k)) (carries k) in
+      let h = more (digit x k) (digit y k) (c k) (2 ^ k) (x % 2 ^ k) (y % 2 ^ k)
+      (mod_below x (2 ^ k) (power_positive k))
+      (mod_below y (2 ^ k) (power_positive k)) (carries k) in
       let a = subst (λ m. Carries (c (suc k)) (2 * 2 ^ k) m (num (digit y k) * 2 ^ k + y % 2 ^ k))
       (sym (low_more x k)) h in
       let b = subst (λ m. Carries (c (suc k)) (2 * 2 ^ k) (x % 2 ^ suc k) m) (sym (low_more y k)) a in
@@ -69,8 +72,8 @@ module _ (x y : ℕ) where
   pub sum_digit : (k : ℕ) → digit (x + y) k ≡ slice_bit gates 11 10 x y k
   sum_digit k =
       let p = 2 ^ k in
-      let w = passed (c k) (2 ^ k) (x % 2 ^ k) (y % 2 ^ k) (mod_below x (2 ^ k) (positive k))
-      (mod_below y (2 ^ k) (positive k)) (carries k) in
+      let w = passed (c k) (2 ^ k) (x % 2 ^ k) (y % 2 ^ k) (mod_below x (2 ^ k) (power_positive k))
+      (mod_below y (2 ^ k) (power_positive k)) (carries k) in
       let dx = div-add-mod' x (2 ^ k) in
       let dy = div-add-mod' y (2 ^ k) in
       let split : (x / 2 ^ k + y / 2 ^ k + num (c k)) * 2 ^ k + w.0 ≡ x + y = omega (arith, dx, dy, w.2) in

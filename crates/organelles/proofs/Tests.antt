@@ -1,5 +1,6 @@
 -- Slices of Zero and Equal have their answer in the top slice, and those of Left the double.
-use Rattle.std.proofs.Common.{◌≡◌, ℕ, ◌<◌, ◌+◌, ◌*◌, ◌/◌, ◌%◌, ◌^◌, zero, suc, Bool, true, false, cond, get_or, refl, sym, ◌∙◌, ap, subst, arith}
+use Rattle.std.proofs.Common.{◌≡◌, ℕ, ◌<◌, ◌+◌, ◌*◌, ◌/◌, ◌%◌, ◌^◌, zero, suc, Bool, true, false, cond, get_or, refl}
+use Rattle.std.proofs.Common.{sym, ◌∙◌, ap, subst, arith}
 use Rattle.std.specs.Prelude.{◌==◌}
 use Rattle.std.specs.Int.{bit_at}
 use Rattle.std.proofs.Math.Nat.{mod-eq_of_lt}
@@ -7,12 +8,13 @@ use Rattle.std.proofs.lemmas.Bool.{eq-eqb, ne_eqb}
 use Rattle.std.proofs.lemmas.Nat.{mod_below}
 use Rattle.std.proofs.lemmas.Nat.Bits.{bit_at-suc, bit_at_lowest}
 use Rattle.mp_base.specs.Apply.{truth}
+use Rattle.mp_base.proofs.Numbers.{power_positive}
 use Rattle.nor_net.specs.Laws.{bit}
 use Rattle.organelles.specs.declared.slices.Organelle.TheVariants.{Left, Zero, Equal}
 use Rattle.organelles.specs.Tables.{table_of}
 use Rattle.organelles.specs.Computing.{OperatorComputes}
 use Rattle.organelles.proofs.Chains.{digit, slice_bits, carry, bits_up}
-use Rattle.organelles.proofs.Numbers.{num, positive, low_more, digit_of_mod}
+use Rattle.organelles.proofs.Numbers.{num, low_more, digit_of_mod}
 use Rattle.organelles.proofs.Steps.{Some_low}
 
 zero_more : (a b c : Bool) (p x : ℕ) → 0 < p → Some_low c x
@@ -30,7 +32,7 @@ zero_low : (x y k : ℕ) → Some_low (carry (table_of Zero).gates 4 x y k) (x %
 zero_low x y zero = let m = mod_below x 1 (omega arith) in omega (arith, m)
 zero_low x y (suc k) =
     subst (Some_low (carry (table_of Zero).gates 4 x y (suc k))) (sym (low_more x k))
-    (zero_more (digit x k) (digit y k) (carry (table_of Zero).gates 4 x y k) (2 ^ k) (x % 2 ^ k) (positive k)
+    (zero_more (digit x k) (digit y k) (carry (table_of Zero).gates 4 x y k) (2 ^ k) (x % 2 ^ k) (power_positive k)
     (zero_low x y k))
 
 -- the answer is the negation of the chain's end above it
@@ -81,7 +83,7 @@ equal_low x y zero = let m = mod_below x 1 (omega arith) in let n = mod_below y 
 equal_low x y (suc k) =
     let h =
     equal_more (digit x k) (digit y k) (carry (table_of Equal).gates 9 x y k) (2 ^ k) (x % 2 ^ k) (y % 2 ^ k)
-    (mod_below x (2 ^ k) (positive k)) (mod_below y (2 ^ k) (positive k))
+    (mod_below x (2 ^ k) (power_positive k)) (mod_below y (2 ^ k) (power_positive k))
     (equal_low x y k) in
     let f = subst (λ m. Differ (carry (table_of Equal).gates 9 x y (suc k)) m (num (digit y k) * 2 ^ k + y % 2 ^ k))
     (sym (low_more x k)) h in

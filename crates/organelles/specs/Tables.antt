@@ -8,7 +8,8 @@ use Rattle.nor_net.specs.declared.net.NetId.{NetId}
 use Rattle.nor_net.specs.declared.net.Part.{Part}
 use Rattle.nor_net.specs.declared.net.Part.TheVariants.{Input, Gate}
 use Rattle.organelles.specs.declared.slices.Organelle.{Organelle}
-use Rattle.organelles.specs.declared.slices.Organelle.TheVariants.{Add, Sub, Inc, Dec, And, Or, Xor, Not, Left, Right, Zero, Equal, Less}
+use Rattle.organelles.specs.declared.slices.Organelle.TheVariants.{Add, Sub, Inc, Dec, And, Or, Xor, Not, Left, Right}
+use Rattle.organelles.specs.declared.slices.Organelle.TheVariants.{Zero, Equal, Less}
 use Rattle.organelles.specs.declared.table.Joint.{Joint}
 use Rattle.organelles.specs.declared.table.Joint.TheVariants.{Alone, Upward, Downward}
 use Rattle.organelles.specs.declared.slices.Chain.{Chain}

@@ -1,12 +1,9 @@
 -- Stages have one first fault at most.
-use Rattle.std.proofs.Common.{◌≡◌, ℕ, List, [], refl, sym, ap, ◌∙◌, inl, inr, Option, Some, None, arith, unwrap_or}
+use Rattle.std.proofs.Common.{ℕ, List, [], refl, sym, ap, ◌∙◌, inl, inr, Option, Some, None, arith, unwrap_or}
 use Rattle.std.specs.Option.{option_map}
 use Rattle.mp_base.specs.declared.refusal.Broken.{Broken}
+use Rattle.mp_base.proofs.Decisions.{IsDetermined}
 use Rattle.outcome.specs.Order.{Fault, Stray, Breaks, Then, OfRule, OfLength, OfFile}
-
--- this holds of one value at most
-abbrev pub IsDetermined : {X : Type 0} → (X → Type 0) → Type 0
-IsDetermined {X} P = (a b : X) → P a → P b → a ≡ b
 
 pub one_of_two : (P Q : Option Fault → Type 0) → IsDetermined P → IsDetermined Q → IsDetermined (Then P Q)
 one_of_two P Q p q None None x y = refl

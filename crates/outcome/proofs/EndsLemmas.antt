@@ -1,5 +1,6 @@
 -- How work ends, from what its stages did.
-use Rattle.std.proofs.Common.{◌≡◌, ℕ, List, [], take, refl, sym, ap, subst, inl, inr, Option, Some, None, Result, Ok, Err, IfSome, arith}
+use Rattle.std.proofs.Common.{◌≡◌, ℕ, List, [], take, refl, sym, ap, subst, inl, inr, Option, Some, None, Result, Ok}
+use Rattle.std.proofs.Common.{Err, IfSome, arith}
 use Rattle.std.specs.Prelude.{IsErrAnd}
 use Rattle.mp_base.specs.Outside.{Files, WhereTold, Keeps, Gains}
 use Rattle.mp_base.specs.Piece.{TakesAll}

@@ -1,5 +1,6 @@
 -- Why a command ended: one stage after another.
-use Rattle.std.proofs.Common.{◌≡◌, ◌⊎◌, ℕ, ◌≤◌, List, [], refl, sym, subst, ◌∙◌, inl, inr, Option, Some, None, Result, Ok, Err, IfSome, unwrap_or}
+use Rattle.std.proofs.Common.{◌≡◌, ◌⊎◌, ℕ, ◌≤◌, List, [], refl, sym, subst, ◌∙◌, inl, inr, Option, Some, None, Result}
+use Rattle.std.proofs.Common.{Ok, Err, IfSome, unwrap_or}
 use Rattle.std.specs.Prelude.{IsErrAnd}
 use Rattle.std.specs.FinMap.{get}
 use Rattle.mp_base.specs.Outside.{Files, Rose, Keeps, bytes_of}

@@ -4,12 +4,13 @@ use Rattle.std.proofs.Common.{cond, List, [], ◌∷◌, length, map, refl, sym,
 use Rattle.std.specs.Prelude.{All, Contains, slice_get, ◌==◌, ◌≢◌}
 use Rattle.std.specs.List.{range_with_len}
 use Rattle.std.proofs.lemmas.Bool.{eq-eqb, ne_eqb, true≢false}
-use Rattle.std.proofs.lemmas.List.{length-append}
 use Rattle.std.proofs.lemmas.List.Elements.{All-contains}
 use Rattle.std.proofs.lemmas.List.FromFn.{length-map-range_with_len}
-use Rattle.std.proofs.lemmas.Option.{none-some, same_Some, slice_get_within, get_or_from_slice_get}
+use Rattle.std.proofs.lemmas.Option.{none-some, same_Some, slice_get_within}
 use Rattle.mp_base.specs.declared.pad.Pad.{Pad}
-use Rattle.switch_net.specs.Pads.{bit_count, labels_of, word_labels}
+use Rattle.mp_base.proofs.Entries.{map_get, contains_from_get, all_from}
+use Rattle.mp_base.proofs.Ranges.{get_range}
+use Rattle.switch_net.specs.Pads.{bit_count}
 use Rattle.nor_net.specs.declared.net.NetId.{NetId}
 use Rattle.nor_net.specs.Elements.{Spot, Given, spot}
 use Rattle.path_form.specs.declared.path.DataPath.{DataPath}
@@ -19,11 +20,11 @@ use Rattle.path_form.proofs.Joining.{times_append, there}
 use Rattle.path_values.proofs.Realized.{in_entries}
 use Rattle.array_form.specs.Wires.{place}
 use Rattle.slice_form.specs.Whole.{numbers_of}
-use Rattle.slice_laying.proofs.Finding.{map_get, get_range, get_contains}
 use Rattle.drawn_nets.specs.Law.{IsKind}
 use Rattle.chip_laws.specs.Laws.{AreRowsApart, AreRowsOf}
 use Rattle.chip_laws.specs.Rows.{AreFullRows, rows_at}
-use Rattle.chip_laws.proofs.Apart.{entry, given}
+use Rattle.chip_laws.proofs.Apart.{given, tail_fewer, head_counts}
+use Rattle.chip_laws.proofs.Flats.{length_labels}
 
 -- ---- one row
 
@@ -38,15 +39,6 @@ bits_counted pad = by_width pad.width
 row_long : (pad : Pad) (id : NetId) → length (map (pad_spot pad id) (range_with_len 0 (pad_bits pad))) ≡ pad_bits pad
 row_long pad id = length-map-range_with_len (pad_spot pad id) 0 (pad_bits pad)
 
-word_long : (p : List ℕ) (n : ℕ) → length (word_labels p n) ≡ n
-word_long p zero = refl
-word_long p (suc n) =
-    let a = length-append (word_labels p n) (_ ∷ []) in let r = word_long p n in a ∙ (omega (arith, r))
-
-labels_long : (p : List ℕ) (w : ℕ) → length (labels_of p w) ≡ bit_count w
-labels_long p zero = refl
-labels_long p (suc w) = word_long p (suc w)
-
 pub rows_long : (pads : List Pad) (ids : List NetId) → length ids ≡ length pads
     → length (rows_at pads ids) ≡ length pads
 rows_long [] ids l = refl
@@ -57,7 +49,7 @@ pub rows_fit : (pads : List Pad) (ids : List NetId) → length ids ≡ length pa
 rows_fit [] ids l = tt
 rows_fit (p ∷ ps) [] l = absurd (omega (arith, l))
 rows_fit (p ∷ ps) (i ∷ is) l = (
-  labels_long p.name p.width ∙ sym (bits_counted p) ∙ sym (row_long p i),
+  length_labels p.name p.width ∙ sym (bits_counted p) ∙ sym (row_long p i),
   rows_fit ps is (omega (arith, l)),
 )
 
@@ -118,14 +110,11 @@ bit_of_row pad id k s h =
 row_has : (pad : Pad) (id : NetId) (k : ℕ) → k < pad_bits pad
     → Contains (map (pad_spot pad id) (range_with_len 0 (pad_bits pad))) (pad_spot pad id k)
 row_has pad id k lt =
-    get_contains (map (pad_spot pad id) (range_with_len 0 (pad_bits pad))) k (pad_spot pad id k)
+    contains_from_get (map (pad_spot pad id) (range_with_len 0 (pad_bits pad))) k (pad_spot pad id k)
     (map_get (pad_spot pad id) (range_with_len 0 (pad_bits pad)) k (0 + k) (get_range 0 (pad_bits pad) k lt)
     ∙ ap (λ j. Some (pad_spot pad id j)) (let e : 0 + k ≡ k = omega arith in e))
 
 -- ---- what is given
-
-all_from : {X : Type 0} (P : X → Type 0) (xs : List X) → ((k : ℕ) (x : X) → slice_get xs k ≡ Some x → P x) → All P xs
-all_from P xs h k d lt = let e = entry xs k lt in subst P (sym (get_or_from_slice_get xs k e.0 d e.1)) (h k e.0 e.1)
 
 -- the pad and the net of an entry
 record IsEntry (word : Bool) (pads : List Pad) (ids : List NetId) (n i : ℕ) : Type 0 where
@@ -176,37 +165,8 @@ entry_at word (p ∷ ps) (x ∷ xs) n c =
     by_sort false true sort again c = found_later true p ps x xs n (again c)
     by_sort false false sort again c = here false sort again c
 
--- a net has one place among the entries of a sort
-tail_fewer : (word : Bool) (p : Pad) (ps : List Pad) (x : NetId) (xs : List NetId) (n : ℕ)
-    → times n (entries_of word ps xs) ≤ times n (entries_of word (p ∷ ps) (x ∷ xs))
-tail_fewer word p ps x xs n = by_tests (not (p.width == 0)) word
-  where
-    by_tests : (b c : Bool) → times n (entries_of word ps xs)
-        ≤ times n (cond b (cond c (x ∷ entries_of word ps xs) (entries_of word ps xs))
-        (cond c (entries_of word ps xs) (x ∷ entries_of word ps xs)))
-    by_tests true true = omega arith
-    by_tests true false = omega arith
-    by_tests false true = omega arith
-    by_tests false false = omega arith
-
 abbrev tally : Bool → ℕ
 tally b = cond b 1 0
-
-head_counts : (word : Bool) (p : Pad) (ps : List Pad) (x : NetId) (xs : List NetId) (n : ℕ)
-    → not (p.width == 0) ≡ word → x.0 ≡ n → 0 < times n (entries_of word ps xs)
-    → times n (entries_of word (p ∷ ps) (x ∷ xs)) ≤ 1 → ⊥
-head_counts word p ps x xs n w e some few = by_tests (not (p.width == 0)) word w few
-  where
-    counts : tally (x.0 == n) ≡ 1
-    counts = ap tally (eq-eqb x.0 n e)
-
-    by_tests : (b c : Bool) → b ≡ c
-        → times n (cond b (cond c (x ∷ entries_of word ps xs) (entries_of word ps xs))
-        (cond c (entries_of word ps xs) (x ∷ entries_of word ps xs))) ≤ 1 → ⊥
-    by_tests true true s l = let o = counts in omega (arith, o, some, l)
-    by_tests false false s l = let o = counts in omega (arith, o, some, l)
-    by_tests true false s l = true≢false s
-    by_tests false true s l = true≢false (sym s)
 
 entry_counted : (word : Bool) (pads : List Pad) (ids : List NetId) (n i : ℕ) → IsEntry word pads ids n i
     → 0 < times n (entries_of word pads ids)
@@ -266,7 +226,7 @@ module _ (p : DataPath) where
       → k < pad_bits pad → IsBit (pad_spot pad id k)
   bit_there i pad id k h q lt = (
     map (pad_spot pad id) (range_with_len 0 (pad_bits pad)),
-    get_contains rows i (map (pad_spot pad id) (range_with_len 0 (pad_bits pad)))
+    contains_from_get rows i (map (pad_spot pad id) (range_with_len 0 (pad_bits pad)))
         (at_row ins p.inputs i pad id h q),
     row_has pad id k lt,
   )
@@ -290,7 +250,8 @@ module _ (p : DataPath) where
 
   wide_pad : (i : ℕ) (pad : Pad) → slice_get ins i ≡ Some pad → (pad.width == 0) ≡ false → pad.width ≡ p.width
   wide_pad i pad h sort =
-      All-contains (λ (x : Pad). x.width ≢ 0 → x.width ≡ p.width) ins pad p.whole.pads_fit.0 (get_contains ins i pad h)
+      All-contains (λ (x : Pad). x.width ≢ 0 → x.width ≡ p.width) ins pad p.whole.pads_fit.0
+      (contains_from_get ins i pad h)
       (λ z. true≢false (sym (eq-eqb pad.width 0 z) ∙ sort))
 
   pub word_bit : (k n : ℕ) → k < p.width → Contains (numbers_of (entries_of true ins p.inputs)) n

@@ -1,5 +1,6 @@
 -- How a net of a path gets its value, by its source.
-use Rattle.std.proofs.Common.{◌≡◌, ℕ, ◌<◌, ◌≤◌, ◌+◌, ◌-◌, zero, suc, ◌⊎◌, inl, inr, List, [], ◌∷◌, Option, Some, None, Bool, true, false, cond, eqb, map, refl, sym, ◌∙◌, ap, arith, rules}
+use Rattle.std.proofs.Common.{◌≡◌, ℕ, ◌<◌, ◌≤◌, ◌+◌, ◌-◌, zero, suc, ◌⊎◌, inl, inr, List, [], ◌∷◌, Option, Some, None}
+use Rattle.std.proofs.Common.{Bool, true, false, cond, eqb, map, refl, sym, ◌∙◌, ap, arith, rules}
 use Rattle.std.specs.Prelude.{IsSome, slice_get}
 use Rattle.std.specs.Int.{bit_at}
 use Rattle.std.specs.Option.{option_or}
@@ -25,7 +26,8 @@ use Rattle.path_form.specs.Showing.{path_nets}
 use Rattle.path_flat.specs.declared.sources.Source.{Source}
 use Rattle.path_flat.specs.declared.sources.Source.TheVariants.{Pad, Below, Above, Bits, Control, Slice}
 use Rattle.path_flat.specs.Numbers.{parts_of}
-use Rattle.path_flat.specs.Sources.{cast_source, chain_source, control_source, element_in, lift_source, or_source, path_source, program_source, slice_source, source_element, told}
+use Rattle.path_flat.specs.Sources.{cast_source, chain_source, control_source, element_in, lift_source, or_source}
+use Rattle.path_flat.specs.Sources.{path_source, program_source, slice_source, source_element, told}
 
 -- what a source gives, where it is no pad
 abbrev given_by : ℕ → ℕ → Source → Option Element

@@ -1,10 +1,12 @@
 -- One more latch of the flat net is fed.
-use Rattle.std.proofs.Common.{◌≡◌, ℕ, ◌<◌, ◌≤◌, ◌+◌, zero, suc, ◌⊎◌, inl, inr, List, [], ◌∷◌, Some, None, Bool, cond, length, map, refl, sym, ◌∙◌, ap, subst, arith}
+use Rattle.std.proofs.Common.{◌≡◌, ℕ, ◌<◌, ◌≤◌, ◌+◌, zero, suc, ◌⊎◌, inl, inr, List, [], ◌∷◌, Some, None, Bool, cond}
+use Rattle.std.proofs.Common.{map, refl, sym, ◌∙◌, ap, subst, arith}
 use Rattle.std.specs.Prelude.{slice_get, slice_set, nat_lt}
 use Rattle.std.proofs.lemmas.Bool.{cases_lt, cases_eq, le-ltb, lt-ltb}
 use Rattle.std.proofs.lemmas.List.{length-set}
 use Rattle.std.proofs.lemmas.List.Sums.{sum_by-set}
 use Rattle.std.proofs.lemmas.Option.{get_or_from_slice_get, none-some, same_Some, slice_get_within}
+use Rattle.mp_base.proofs.Entries.{get_set_other, get_set_same}
 use Rattle.nor_net.specs.declared.net.NetId.{NetId}
 use Rattle.nor_net.specs.declared.net.Part.{Part}
 use Rattle.nor_net.specs.declared.net.Part.TheVariants.{Input, Gate, Latch}
@@ -27,19 +29,6 @@ get_set (z ∷ zs) zero x (suc n) y e = inr e
 get_set (z ∷ zs) (suc i) x zero y e = inr e
 get_set (z ∷ zs) (suc i) x (suc n) y e =
     elim (get_set zs i x n y e) [ inl h ↦ inl (omega (arith, h.0), h.1) | inr h ↦ inr h ]
-
-get_set_other : {Y : Type 0} (xs : List Y) (i : ℕ) (x : Y) (n : ℕ) → (n ≡ i → ⊥)
-    → slice_get (slice_set xs i x) n ≡ slice_get xs n
-get_set_other [] i x n ne = refl
-get_set_other (z ∷ zs) zero x zero ne = absurd (ne refl)
-get_set_other (z ∷ zs) zero x (suc n) ne = refl
-get_set_other (z ∷ zs) (suc i) x zero ne = refl
-get_set_other (z ∷ zs) (suc i) x (suc n) ne = get_set_other zs i x n (λ q. ne (omega arith))
-
-get_set_same : {Y : Type 0} (xs : List Y) (i : ℕ) (x : Y) → i < length xs → slice_get (slice_set xs i x) i ≡ Some x
-get_set_same [] i x l = absurd (omega arith)
-get_set_same (z ∷ zs) zero x l = refl
-get_set_same (z ∷ zs) (suc i) x l = get_set_same zs i x (omega (arith, l))
 
 -- the element is no latch
 abbrev pub NoLatch : Element → Type 0

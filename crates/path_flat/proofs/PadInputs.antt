@@ -1,5 +1,6 @@
 -- The inputs of a path that are given their values are those of pads.
-use Rattle.std.proofs.Common.{◌≡◌, ℕ, ◌<◌, ◌≤◌, ◌+◌, zero, suc, List, [], ◌∷◌, ◌++◌, Some, None, Bool, true, false, cond, eqb, map, refl, sym, ◌∙◌, ap, subst, arith}
+use Rattle.std.proofs.Common.{◌≡◌, ℕ, ◌<◌, ◌≤◌, ◌+◌, zero, suc, List, [], ◌∷◌, ◌++◌, Some, None, Bool, true, false}
+use Rattle.std.proofs.Common.{cond, eqb, map, refl, sym, ◌∙◌, ap, subst, arith}
 use Rattle.std.specs.Prelude.{All, slice_get, ◌-◌}
 use Rattle.std.proofs.Math.Dec.{eqb-suc-zero}
 use Rattle.std.specs.Int.{bit_at}
@@ -22,7 +23,8 @@ use Rattle.path_form.proofs.Joining.{times_append}
 use Rattle.path_flat.specs.declared.sources.Source.{Source}
 use Rattle.path_flat.specs.declared.sources.Source.TheVariants.{Pad, Below, Above, Bits, Control, Slice}
 use Rattle.path_flat.specs.Numbers.{parts_of}
-use Rattle.path_flat.specs.Sources.{cast_source, chain_source, element_in, lift_source, or_source, path_source, program_source, source_element, told}
+use Rattle.path_flat.specs.Sources.{cast_source, chain_source, element_in, lift_source, or_source, path_source}
+use Rattle.path_flat.specs.Sources.{program_source, source_element, told}
 use Rattle.path_flat.proofs.Elements.{HasPart, control_input_is, has_part, slice_input_is, slice_parts, slice_sources}
 
 pad_or : (x y : Source) → or_source x y ≡ Pad → (x ≡ Pad) × (y ≡ Pad)

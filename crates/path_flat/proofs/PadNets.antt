@@ -7,6 +7,7 @@ use Rattle.std.proofs.lemmas.Bool.{eqb-false, eqb-true, false≢true, true≢fal
 use Rattle.std.proofs.lemmas.List.Elements.{All-contains}
 use Rattle.std.proofs.lemmas.Option.{get_or_from_slice_get, none-some, same_Some, slice_get-get_or, slice_get_within}
 use Rattle.mp_base.specs.declared.pad.Pad.{Pad}
+use Rattle.mp_base.proofs.Entries.{some_entry, map_get, contains_from_get}
 use Rattle.nor_net.specs.declared.net.NetId.{NetId}
 use Rattle.nor_net.specs.declared.net.Part.{Part}
 use Rattle.nor_net.specs.declared.net.Part.TheVariants.{Input, Gate, Latch}
@@ -102,11 +103,6 @@ counted_pad w (q ∷ qs) (j ∷ js) n h = by_tests (not (eqb q.width 0)) w refl 
     by_tests false true x y h again = behind w q qs j js n (again h)
     by_tests false false x y h again = met (x ∙ sym y) (eqb j.0 n) refl h again
 
-entry : {A : Type 0} (xs : List A) (i : ℕ) → i < length xs → (x : A) × (slice_get xs i ≡ Some x)
-entry [] i l = absurd (omega (arith, l))
-entry (x ∷ xs) zero l = (x, refl)
-entry (x ∷ xs) (suc i) l = entry xs i (omega (arith, l))
-
 fed_part : (part : Part) → is_fed part ≡ true → Fed part
 fed_part Input h = tt
 fed_part (Gate inputs) h = tt
@@ -162,8 +158,8 @@ module _ (p : DataPath) where
         → All (AreBelow nets) rows
     rows_below nets of inside rows size are i d l j e m =
         let many = entries.0 in
-        let pad = entry pads i (omega (arith, l, size)) in
-        let id = entry ids i (omega (arith, l, size, many)) in
+        let pad = some_entry pads i (omega (arith, l, size)) in
+        let id = some_entry ids i (omega (arith, l, size, many)) in
         let row = get_or rows i d in
         let h = are i pad.0 id.0 row pad.1 id.1 (slice_get-get_or rows i d l) in
         let count = h.0 in
@@ -201,15 +197,6 @@ module _ (p : DataPath) where
       let few = band_few piece.band in
       omega (arith, w, few)
 
-at_mapped : {A B : Type 0} (f : A → B) (xs : List A) (i : ℕ) (x : A) → slice_get xs i ≡ Some x
-    → slice_get (map f xs) i ≡ Some (f x)
-at_mapped f [] i x e = absurd (none-some x e)
-at_mapped f (y ∷ ys) zero x e = ap (λ z. Some (f z)) (same_Some y x e)
-at_mapped f (y ∷ ys) (suc i) x e = at_mapped f ys i x e
-
-contains_at : {A : Type 0} (xs : List A) (i : ℕ) (x : A) → slice_get xs i ≡ Some x → Contains xs x
-contains_at xs i x e = (i, slice_get_within xs i x e, get_or_from_slice_get xs i x x e)
-
 module _ (p : DataPath) (flat : List Part) (number : Spot → NetId)
     (so : IsNumberedTo p (total p.order) (total p.order) flat number) (rows : List (List NetId))
     (size : length rows ≡ length (p.pads).inputs) (are : ArePadsOf (p.pads).inputs p.inputs number rows) where
@@ -225,10 +212,10 @@ module _ (p : DataPath) (flat : List Part) (number : Spot → NetId)
       let at : slice_get rows i ≡ Some row = slice_get-get_or rows i [] (omega (arith, w, size)) in
       let h = are i pad id row is_pad is_id at in (
         map (spot 0) row,
-        contains_at (rows_of rows) i (map (spot 0) row) (at_mapped
+        contains_from_get (rows_of rows) i (map (spot 0) row) (map_get
             (λ (row : List NetId). map (spot 0) row) rows i row at),
-        contains_at (map (spot 0) row) j (spot 0 (number (pad_spot pad id j)))
-            (at_mapped (spot 0) row j (number (pad_spot pad id j)) (h.1 j l)),
+        contains_from_get (map (spot 0) row) j (spot 0 (number (pad_spot pad id j)))
+            (map_get (spot 0) row j (number (pad_spot pad id j)) (h.1 j l)),
       )
 
   given_bit : (b n : ℕ) → b ≤ p.width → 0 < times n (pads_of p b)

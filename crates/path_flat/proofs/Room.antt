@@ -1,5 +1,6 @@
 -- How many nets and gate inputs the flat net of a path has: what stands for its nets, each counted once.
-use Rattle.std.proofs.Common.{◌≡◌, ℕ, ◌<◌, ◌≤◌, ◌+◌, ◌*◌, zero, suc, ◌⊎◌, inl, inr, List, [], ◌∷◌, Option, Some, None, Bool, true, false, cond, eqb, length, map, refl, sym, ◌∙◌, ap, subst, arith}
+use Rattle.std.proofs.Common.{◌≡◌, ℕ, ◌<◌, ◌≤◌, ◌+◌, ◌*◌, zero, suc, ◌⊎◌, inl, inr, List, [], ◌∷◌, Option, Some, None}
+use Rattle.std.proofs.Common.{Bool, true, false, cond, eqb, length, map, refl, sym, ◌∙◌, ap, subst, arith}
 use Rattle.std.specs.Prelude.{slice_get, nat_lt, ◌-◌}
 use Rattle.std.specs.Int.{bit_at}
 use Rattle.std.proofs.Math.Dec.{eqb-suc-zero, eqb-zero-suc}
@@ -24,7 +25,8 @@ use Rattle.path_flat.specs.declared.sources.Source.TheVariants.{Pad, Below, Abov
 use Rattle.path_flat.specs.Adding.{IsElementAdded, inputs_for, nets_for, parts_for}
 use Rattle.path_flat.specs.Numbered.{IsFew}
 use Rattle.path_flat.specs.Numbers.{parts_of}
-use Rattle.path_flat.specs.Sources.{cast_source, chain_source, element_in, lift_source, or_source, path_source, program_source, source_element, told}
+use Rattle.path_flat.specs.Sources.{cast_source, chain_source, element_in, lift_source, or_source, path_source}
+use Rattle.path_flat.specs.Sources.{program_source, source_element, told}
 use Rattle.path_flat.proofs.Elements.{HasPart, has_part, slice_parts, slice_sources}
 
 -- ---- sums over the first n numbers

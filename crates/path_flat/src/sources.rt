@@ -7,7 +7,8 @@ ghost use Rattle.path_form.specs.Shape.{chain_to};
 ghost use Rattle.path_form.specs.declared.path.Cast.{Cast};
 ghost use Rattle.path_form.specs.declared.path.DataPath.{DataPath};
 ghost use Rattle.path_form.specs.declared.path.Lift.{Lift};
-ghost use Rattle.path_flat.specs.Sources.{cast_source, chain_source, lift_source, or_source, path_source, program_source, source_at, source_of, told};
+ghost use Rattle.path_flat.specs.Sources.{cast_source, chain_source, lift_source, or_source, path_source};
+ghost use Rattle.path_flat.specs.Sources.{program_source, source_at, source_of, told};
 ghost use Rattle.path_flat.specs.declared.sources.Source.TheVariants.{Pad};
 
 use crate::places::Place;

@@ -1,6 +1,6 @@
 -- The flat net of a path that shows transfers shows them.
-use Rattle.std.proofs.Common.{◌≡◌, ℕ, ◌<◌, zero, suc, List, [], ◌∷◌, Some, length, map, refl, sym, ◌∙◌, ap, subst, arith}
-use Rattle.std.specs.Prelude.{◌==◌, slice_get, slice_index, slice_index_or}
+use Rattle.std.proofs.Common.{◌≡◌, ℕ, ◌<◌, zero, suc, List, [], ◌∷◌, length, map, refl, sym, ◌∙◌, ap, subst, arith}
+use Rattle.std.specs.Prelude.{◌==◌, slice_index, slice_index_or}
 use Rattle.std.specs.List.{AllZip}
 use Rattle.std.specs.Int.{bit_at}
 use Rattle.std.proofs.lemmas.Option.{same_Some, slice_get_within}
@@ -8,6 +8,7 @@ use Rattle.mp_base.specs.declared.value.Trit.{Trit}
 use Rattle.mp_base.specs.declared.value.Trit.TheVariants.{X}
 use Rattle.mp_base.specs.declared.pad.Pad.{Pad}
 use Rattle.mp_base.specs.declared.pad.Pads.{Pads}
+use Rattle.mp_base.proofs.Entries.{some_entry}
 use Rattle.nor_net.specs.declared.net.NetId.{NetId}
 use Rattle.nor_net.specs.Elements.{Spot, spot}
 use Rattle.nor_net.specs.Laws.{bit}
@@ -17,11 +18,6 @@ use Rattle.path_form.specs.declared.flattened.Flattened.{Flattened}
 use Rattle.path_form.specs.Showing.{pad_bits, pad_spot, HasPadValues, ShowsTransfers}
 use Rattle.path_form.specs.Flat.{IsFlat, ArePadsOf, pulled, HasBits, FlatShows, FlatShowsTransfers}
 use Rattle.path_form.proofs.Pulling.{flat_follows}
-
-entry : {Y : Type 0} (xs : List Y) (k : ℕ) → k < length xs → (x : Y) × (slice_get xs k ≡ Some x)
-entry [] k l = absurd (omega arith)
-entry (x ∷ xs) zero l = (x, refl)
-entry (x ∷ xs) (suc k) l = entry xs k (omega arith)
 
 at_mapped : {A B : Type 0} (f : A → B) (xs : List A) (k : ℕ) (d : A)
     → slice_index_or (map f xs) k (f d) ≡ f (slice_index_or xs k d)
@@ -36,7 +32,7 @@ module _ (of : Spot → NetId) (pads : List Pad) (ids : List NetId) (rows : List
       → HasPadValues pads ids values (pulled of v)
   pads_pulled size values v h i pad id k is_pad is_id l =
       let within = slice_get_within pads i pad is_pad in
-      let row = entry rows i (omega (arith, size, within)) in
+      let row = some_entry rows i (omega (arith, size, within)) in
       h i pad row.0 k (of (pad_spot pad id k)) is_pad row.1 ((are i pad id row.0 is_pad is_id row.1).1 k l)
 
   -- what the path shows the flat net shows
@@ -44,7 +40,7 @@ module _ (of : Spot → NetId) (pads : List Pad) (ids : List NetId) (rows : List
       → HasPadValues pads ids values (pulled of v) → HasBits pads rows values v
   bits_shown size values v h i pad row k id is_pad is_row is_id =
       let within = slice_get_within pads i pad is_pad in
-      let own = entry ids i (omega (arith, size, within)) in
+      let own = some_entry ids i (omega (arith, size, within)) in
       let a = are i pad own.0 row is_pad own.1 is_row in
       let l = slice_get_within row k id is_id in
       let m : k < pad_bits pad = omega (arith, a.0, l) in

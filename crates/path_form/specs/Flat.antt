@@ -1,5 +1,6 @@
 -- One net for a path.
-use Rattle.std.specs.Prelude.{Contains, ◌≡◌, ◌<◌, ◌≤◌, ◌+◌, ◌*◌, ℕ, List, [], ◌∷◌, Option, Some, None, Bool, true, false, ◌==◌, All, length, map, slice_get, slice_index, slice_index_or}
+use Rattle.std.specs.Prelude.{Contains, ◌≡◌, ◌<◌, ◌≤◌, ◌+◌, ◌*◌, ℕ, List, [], ◌∷◌, Option, Some, None, Bool, true}
+use Rattle.std.specs.Prelude.{false, ◌==◌, All, length, map, slice_get, slice_index, slice_index_or}
 use Rattle.std.specs.List.{AllZip}
 use Rattle.std.specs.Int.{bit_at}
 use Rattle.mp_base.specs.declared.pad.Pad.{Pad}

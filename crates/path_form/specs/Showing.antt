@@ -1,5 +1,6 @@
 -- What a data path shows.
-use Rattle.std.specs.Prelude.{◌≡◌, ◌<◌, ◌^◌, ℕ, suc, List, [], Some, if◌then◌else◌, ◌==◌, All, length, slice_get, slice_index, slice_index_or}
+use Rattle.std.specs.Prelude.{◌≡◌, ◌<◌, ◌^◌, ℕ, suc, List, [], Some, if◌then◌else◌, ◌==◌, All, length, slice_get}
+use Rattle.std.specs.Prelude.{slice_index, slice_index_or}
 use Rattle.std.specs.List.{AllZip}
 use Rattle.std.specs.Int.{bit_at}
 use Rattle.mp_base.specs.declared.value.Trit.{Trit}

@@ -1,5 +1,6 @@
 -- How large a path may be for a cost.
-use Rattle.std.specs.Prelude.{◌≡◌, ℕ, ◌≤◌, ◌+◌, ◌*◌, ◌==◌, ◌||◌, List, Some, None, Bool, true, false, Contains, if◌then◌else◌, length}
+use Rattle.std.specs.Prelude.{◌≡◌, ℕ, ◌≤◌, ◌+◌, ◌*◌, ◌==◌, ◌||◌, List, Some, None, Bool, true, false, Contains}
+use Rattle.std.specs.Prelude.{if◌then◌else◌, length}
 use Rattle.std.specs.List.{list_any, sum_by}
 use Rattle.nor_net.specs.declared.net.NetId.{NetId}
 use Rattle.nor_net.specs.declared.net.Part.{Part}

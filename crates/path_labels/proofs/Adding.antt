@@ -7,9 +7,11 @@ use Rattle.std.specs.Fmt.{decimal}
 use Rattle.std.proofs.Math.Seq.{take-suc}
 use Rattle.std.proofs.lemmas.Bool.{eq-eqb, ne_eqb}
 use Rattle.std.proofs.lemmas.Grind.{flat_map-append}
-use Rattle.std.proofs.lemmas.List.{append-nil, append_assoc, map-append}
+use Rattle.std.proofs.lemmas.List.{append-nil, append_assoc, map-append, take_all}
 use Rattle.std.proofs.lemmas.List.FromFn.{map-range_with_len_more}
+use Rattle.std.proofs.lemmas.Simd.{map-map}
 use Rattle.mp_base.specs.declared.pad.Pad.{Pad}
+use Rattle.mp_base.proofs.Zips.{zip_push}
 use Rattle.switch_net.specs.Pads.{bit_labels, labels_of, word_labels}
 use Rattle.nor_net.specs.declared.net.NetId.{NetId}
 use Rattle.nor_net.specs.Elements.{Spot, spot}
@@ -23,19 +25,6 @@ use Rattle.chip_laws.specs.Rows.{rows_at}
 use Rattle.path_labels.specs.Labels.{Adds, IsAtPoint, points_in}
 
 -- ---- lists place by place
-
-zip_push : {A B : Type 0} (R : A → B → Type 0) (xs : List A) (ys : List B) (x : A) (y : B) → AllZip R xs ys → R x y
-    → AllZip R (xs ++ x ∷ []) (ys ++ y ∷ [])
-zip_push R [] [] x y z r = (r, tt)
-zip_push R [] (b ∷ bs) x y z r = absurd z
-zip_push R (a ∷ rest) [] x y z r = absurd z
-zip_push R (a ∷ rest) (b ∷ bs) x y z r = (z.0, zip_push R rest bs x y z.1 r)
-
-take_whole : {X : Type 0} (xs : List X) (i : ℕ) → length xs ≤ i → take i xs ≡ xs
-take_whole [] zero h = refl
-take_whole [] (suc i) h = refl
-take_whole (x ∷ xs) zero h = absurd (omega arith)
-take_whole (x ∷ xs) (suc i) h = ap (λ l. x ∷ l) (take_whole xs i (omega arith))
 
 -- ---- labels
 
@@ -88,10 +77,6 @@ module _ (p : DataPath) (f : Plan) where
 
 -- ---- the bits of a pad
 
-map_both : {A B D : Type 0} (g : B → D) (h : A → B) (xs : List A) → map g (map h xs) ≡ map (λ x. g (h x)) xs
-map_both g h [] = refl
-map_both g h (x ∷ xs) = ap (λ l. g (h x) ∷ l) (map_both g h xs)
-
 -- the points of a pad's bits
 abbrev pub pad_points : Pad → NetId → List Point
 pad_points pad net = map OfNet (map (pad_spot pad net) (range_with_len 0 (pad_bits pad)))
@@ -106,7 +91,7 @@ word_points : (pad : Pad) (net : NetId) (w : ℕ) → pad.width ≢ 0 → pad.wi
 word_points pad net w h e =
     let sort : (pad.width == 0) ≡ false = ne_eqb pad.width 0 h in
     (λ i. map OfNet (map (λ k. spot (cond (sort i) 0 (suc k)) net) (range_with_len 0 (cond (sort i) 1 (e i)))))
-    ∙ map_both OfNet (λ k. spot (suc k) net) (range_with_len 0 w)
+    ∙ map-map OfNet (λ k. spot (suc k) net) (range_with_len 0 w)
 
 word_names : (name : List ℕ) (w : ℕ) → w ≢ 0 → labels_of name w ≡ word_labels name w
 word_names name zero h = absurd (h refl)
@@ -177,6 +162,6 @@ module _ (p : DataPath) (f : Plan) (pads : List Pad) (ids : List NetId) (old : L
   pub all_added : (i : ℕ) (new : List ChipLabel) → length pads ≤ i → length ids ≤ i → AddsFirst i new
       → Adds p f (points_in (rows_at pads ids)) (flat_map bit_labels pads) old new
   all_added i new h k added =
-      subst (λ l. Adds p f (points_in (rows_at pads l)) (flat_map bit_labels pads) old new) (take_whole ids i k)
+      subst (λ l. Adds p f (points_in (rows_at pads l)) (flat_map bit_labels pads) old new) (take_all i ids k)
       (subst (λ l. Adds p f (points_in (rows_at l (take i ids))) (flat_map bit_labels l) old new)
-      (take_whole pads i h) added)
+      (take_all i pads h) added)

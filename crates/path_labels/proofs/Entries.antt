@@ -5,13 +5,13 @@ use Rattle.std.specs.Prelude.{slice_get}
 use Rattle.std.proofs.Math.Nat.{mul-le-mul_right}
 use Rattle.std.proofs.lemmas.Bool.{eq-eqb, ne_eqb}
 use Rattle.std.proofs.lemmas.List.Elements.{All-contains}
-use Rattle.std.proofs.lemmas.Option.{get_or_from_slice_get}
+use Rattle.std.proofs.lemmas.Option.{slice_get-get_or}
 use Rattle.mp_base.specs.declared.pad.Pad.{Pad}
+use Rattle.mp_base.proofs.Entries.{contains_from_get}
 use Rattle.nor_net.specs.declared.net.NetId.{NetId}
 use Rattle.path_form.specs.declared.path.DataPath.{DataPath}
 use Rattle.path_form.specs.Shape.{entries_of}
 use Rattle.path_values.proofs.Realized.{in_entries}
-use Rattle.chip_laws.proofs.Apart.{entry, in_list}
 use Rattle.path_labels.specs.Labels.{AreEntriesOf, IsEntryOf}
 
 -- a net of a slice has a segment
@@ -21,16 +21,14 @@ segment_there low each width k n h l =
     let m : (k + 1) * (each + 3) ≤ width * (each + 3) = mul-le-mul_right (each + 3) (omega (arith, h)) in
     omega (arith, m, l)
 
-there : {X : Type 0} (xs : List X) (i : ℕ) (d : X) → i < length xs → slice_get xs i ≡ Some (get_or xs i d)
-there xs i d h = let w = entry xs i h in w.1 ∙ ap Some (sym (get_or_from_slice_get xs i w.0 d w.1))
-
 pub entry_at : (p : DataPath) (pads : List Pad) (ids : List NetId) (i : ℕ) (pad : Pad) (id : NetId)
     → AreEntriesOf p pads ids → slice_get pads i ≡ Some pad → slice_get ids i ≡ Some id → IsEntryOf p pad id
 entry_at p pads ids i pad id fit is_pad is_id = record {
   signal = λ w.
       All-contains (λ (id : NetId). id.0 < length p.control) (entries_of false pads ids) id fit.1.1
       (in_entries false pads ids i pad id is_pad is_id (ap not (eq-eqb pad.width 0 w)));
-  wide = All-contains (λ (q : Pad). q.width ≢ 0 → q.width ≡ p.width) pads pad fit.0 (in_list pads i pad is_pad);
+  wide = All-contains (λ (q : Pad). q.width ≢ 0 → q.width ≡ p.width) pads pad fit.0
+      (contains_from_get pads i pad is_pad);
   word = λ w.
       All-contains (λ (id : NetId). id.0 < length p.slices.net) (entries_of true pads ids) id fit.1.2
       (in_entries true pads ids i pad id is_pad is_id (ap not (ne_eqb pad.width 0 w)));
@@ -40,5 +38,5 @@ pub entry_of : (p : DataPath) (pads : List Pad) (ids : List NetId) (i : ℕ) (pa
     → AreEntriesOf p pads ids → i < length pads → pad ≡ get_or pads i pad → IsEntryOf p pad (get_or ids i d)
 entry_of p pads ids i pad d fit h e =
     let long = fit.1.0 in
-    entry_at p pads ids i pad (get_or ids i d) fit (there pads i pad h ∙ ap Some (sym e))
-    (there ids i d (omega (arith, h, long)))
+    entry_at p pads ids i pad (get_or ids i d) fit (slice_get-get_or pads i pad h ∙ ap Some (sym e))
+    (slice_get-get_or ids i d (omega (arith, h, long)))

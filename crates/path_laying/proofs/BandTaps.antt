@@ -6,6 +6,7 @@ use Rattle.std.specs.Prelude.{flat_map, slice_get, All}
 use Rattle.std.specs.List.{range_with_len}
 use Rattle.std.proofs.lemmas.List.{map-append}
 use Rattle.std.proofs.lemmas.Option.{slice_get_within}
+use Rattle.mp_base.proofs.Members.{Member}
 use Rattle.fabric.specs.declared.thing.Mark.{Mark}
 use Rattle.fabric.specs.Room.{limit}
 use Rattle.nor_net.specs.declared.net.Part.TheVariants.{Input}
@@ -13,7 +14,7 @@ use Rattle.array_form.specs.declared.band.Band.{Band}
 use Rattle.array_form.specs.declared.band.Tap.{Tap}
 use Rattle.array_form.specs.Place.{IsBandOf}
 use Rattle.array_form.proofs.Laid.{all_from}
-use Rattle.array_form.proofs.Members.{Member, member_append, member_flat}
+use Rattle.array_form.proofs.Members.{member_append, member_flat}
 use Rattle.slice_form.specs.Path.{Path, Cast, Lift, IsPath}
 use Rattle.slice_form.specs.Slices.{base_of}
 use Rattle.slice_joints.specs.Control.{cast_tap, lift_tap, cast_taps, lift_taps, IsControlBand}

@@ -6,6 +6,7 @@ use Rattle.std.proofs.lemmas.List.{length-replicate}
 use Rattle.std.proofs.lemmas.List.Folds.{sum_by-replicate}
 use Rattle.std.proofs.lemmas.List.Elements.{All-replicate}
 use Rattle.std.proofs.lemmas.List.Sums.{sum_by-cons}
+use Rattle.mp_base.proofs.Members.{contains_member}
 use Rattle.track_assign.specs.Density.{IsDensity}
 use Rattle.fabric.specs.Plan.{Plan, rows_of}
 use Rattle.fabric.specs.Plan as plan
@@ -16,7 +17,6 @@ use Rattle.array_form.specs.declared.band.Size.{Size}
 use Rattle.array_form.specs.Homes.{end_of}
 use Rattle.array_form.specs.Place.{columns_in, intervals_in, IsMeasured, IsFitted}
 use Rattle.array_form.proofs.Homes.{count_most}
-use Rattle.array_form.proofs.Members.{contains_member}
 use Rattle.array_form.proofs.Rows.{rows_few}
 use Rattle.path_form.specs.declared.path.DataPath.{DataPath}
 use Rattle.slice_form.specs.Path.{Path, IsPath}

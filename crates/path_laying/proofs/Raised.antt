@@ -4,6 +4,7 @@ use Rattle.std.proofs.Common.{true, refl, sym, ◌∙◌, ap, subst, arith}
 use Rattle.std.specs.Prelude.{flat_map, slice_get, slice_index}
 use Rattle.std.specs.List.{range_with_len}
 use Rattle.std.proofs.lemmas.List.{get_or_default, length-append}
+use Rattle.mp_base.proofs.Ranges.{flat_count}
 use Rattle.track_assign.specs.Density.{IsDensity}
 use Rattle.track_assign.specs.declared.packing.Tracks.{Tracks}
 use Rattle.fabric.specs.Plan.{Plan, IsFabric}
@@ -19,8 +20,8 @@ use Rattle.array_form.specs.Place.{columns_in, cols_in, intervals_in, HasSpace, 
 use Rattle.array_form.proofs.Counting.{segments_count, lines_count, marks_count}
 use Rattle.array_form.proofs.Rows.{rows_few}
 use Rattle.band_lists.specs.Listed.{AreRows}
-use Rattle.band_lists.proofs.Banded.{density_once}
 use Rattle.path_form.specs.declared.path.DataPath.{DataPath}
+use Rattle.track_assign.proofs.Densities.{density_once}
 use Rattle.slice_form.specs.Path.{Path, Cast, Lift}
 use Rattle.slice_form.specs.Slices.{columns_wanted, control_columns, slice_columns}
 use Rattle.slice_form.specs.Whole.{path_of}
@@ -30,7 +31,7 @@ use Rattle.slice_laying.specs.Taps.{control_cast_taps, control_lift_taps, contro
 use Rattle.slice_joints.specs.Control.{IsControlBand}
 use Rattle.slice_place.specs.declared.placing.PlacedSlices.{PlacedSlices}
 use Rattle.slice_place.specs.Placed.{joints, AreSlicesPlaced, HasSlicesSpace, IsSlicesFitted}
-use Rattle.slice_place.proofs.Roomy.{flat_most, marks_most, joint_marks_most}
+use Rattle.slice_place.proofs.Roomy.{marks_most, joint_marks_most}
 use Rattle.slice_chip.specs.Sliced.{ControlsLeaveRoom, TapsFit, control_cols, empty, with_control}
 use Rattle.path_laying.specs.Steps.{IsEmpty, HasControl, IsControlPlaced, HasSlices, AreSlicesIn}
 use Rattle.path_laying.proofs.Emptied.{IsFew, times_most}
@@ -181,9 +182,9 @@ taps_most p row =
     let casts = flat_map (λ i. control_cast_taps row i (slice_get p.casts i)) (range_with_len 0 (length p.casts)) in
     let lifts = flat_map (λ i. control_lift_taps p row i (slice_get p.lifts i)) (range_with_len 0 (length p.lifts)) in
     let a = length-append casts lifts in
-    let b = flat_most (λ i. control_cast_taps row i (slice_get p.casts i)) 1 0 (length p.casts)
+    let b = flat_count (λ i. control_cast_taps row i (slice_get p.casts i)) 1 0 (length p.casts)
     (λ i. cast_one row i (slice_get p.casts i)) in
-    let c = flat_most (λ i. control_lift_taps p row i (slice_get p.lifts i)) 1 0 (length p.lifts)
+    let c = flat_count (λ i. control_lift_taps p row i (slice_get p.lifts i)) 1 0 (length p.lifts)
     (λ i. lift_one p row i (slice_get p.lifts i)) in
     omega (arith, a, b, c)
 

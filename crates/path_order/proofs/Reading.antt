@@ -1,10 +1,12 @@
 -- What nets of a path read, between two marks.
-use Rattle.std.proofs.Common.{◌≡◌, ℕ, ◌<◌, ◌≤◌, zero, suc, ◌⊎◌, inl, inr, List, [], ◌∷◌, Option, Some, None, Bool, true, false, cond, eqb, map, refl, sym, ◌∙◌, subst, arith}
+use Rattle.std.proofs.Common.{◌≡◌, ℕ, ◌<◌, ◌≤◌, zero, suc, ◌⊎◌, inl, inr, List, [], ◌∷◌, Option, Some, None, Bool, true}
+use Rattle.std.proofs.Common.{false, cond, eqb, map, refl, sym, ◌∙◌, subst, arith}
 use Rattle.std.specs.Prelude.{Contains, slice_get, nat_lt, ◌==◌}
 use Rattle.std.specs.Option.{option_or}
 use Rattle.std.specs.Int.{bit_at}
 use Rattle.std.proofs.lemmas.Bool.{eqb-true, eqb-false, ne_eqb, cond-true, cond-false, lt-ltb, le-ltb}
 use Rattle.std.proofs.lemmas.Option.{none-some, same_Some}
+use Rattle.mp_base.proofs.Contents.{contains_from_map}
 use Rattle.nor_net.specs.declared.net.NetId.{NetId}
 use Rattle.nor_net.specs.declared.net.Part.{Part}
 use Rattle.nor_net.specs.declared.net.Part.TheVariants.{Input, Gate, Latch}
@@ -44,14 +46,6 @@ either None p y e = inr e
 tested : (b : Bool) (y x : Element) → cond b (Some y) None ≡ Some x → (b ≡ true) × (y ≡ x)
 tested true y x e = (refl, same_Some y x e)
 tested false y x e = absurd (none-some x e)
-
-mapped : {A B : Type 0} (f : A → B) (xs : List A) (y : B) → Contains (map f xs) y
-    → (x : A) × Contains xs x × (f x ≡ y)
-mapped f [] y c = absurd (let l = c.1 in omega (arith, l))
-mapped f (x ∷ xs) y (zero, l, e) = (x, (0, omega arith, refl), e)
-mapped f (x ∷ xs) y (suc k, l, e) =
-    let r = mapped f xs y (k, omega (arith, l), e) in
-    (r.0, (suc r.1.0, (let m = r.1.1 in omega (arith, m)), r.1.2), r.2)
 
 -- ---- how many nets of each band stand in the order: of the control c, and of a slice b, or a from slice k on
 
@@ -190,7 +184,7 @@ module _ (w : ℕ) (control : List Part) (s : SliceNet) (casts : List Cast) (lif
     by_part (Some (Gate inputs)) is x e m r =
         let c : Contains (map (spot (suc k)) inputs) m =
         subst (λ y. Reads y m) (sym (same_Some (Nor (map (spot (suc k)) inputs)) x e)) r in
-        let i = mapped (spot (suc k)) inputs m c in
+        let i = contains_from_map (spot (suc k)) inputs m c in
         let l = Rattle.std.proofs.lemmas.List.Elements.All-contains (λ (i : NetId). i.0 < j) inputs i.0
         (is_slices.stand j (Gate inputs) is) i.1 in
         subst May i.2 (inr (refl, l))
@@ -232,7 +226,7 @@ module _ (w : ℕ) (control : List Part) (s : SliceNet) (casts : List Cast) (lif
     by_control (Some (Gate inputs)) is x e m r =
         let c : Contains (map (spot 0) inputs) m =
         subst (λ y. Reads y m) (sym (same_Some (Nor (map (spot 0) inputs)) x e)) r in
-        let i = mapped (spot 0) inputs m c in
+        let i = contains_from_map (spot 0) inputs m c in
         let l = Rattle.std.proofs.lemmas.List.Elements.All-contains (λ (i : NetId). i.0 < j) inputs i.0
         (is_control.stand j (Gate inputs) is) i.1 in
         subst Can i.2 (inr (refl, l))

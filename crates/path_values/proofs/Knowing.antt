@@ -1,12 +1,12 @@
 -- In a solution with a definite state and definite inputs, all cells and expressions have their values.
-use Rattle.std.proofs.Common.{◌≡◌, ℕ, ◌<◌, ◌%◌, ◌^◌, suc, ◌⊎◌, inl, inr, List, [], ◌∷◌, Some, Bool, true, false, cond, refl, sym, ◌∙◌, ap, subst, arith}
+use Rattle.std.proofs.Common.{◌≡◌, ℕ, ◌<◌, ◌^◌, suc, ◌⊎◌, inl, inr, List, [], ◌∷◌, Some, Bool, true, false, cond, refl}
+use Rattle.std.proofs.Common.{sym, ◌∙◌, ap, subst}
 use Rattle.std.specs.Prelude.{Contains, ◌&&◌, ◌==◌, slice_get, slice_index}
 use Rattle.std.specs.Int.{bit_at}
 use Rattle.std.proofs.lemmas.Bool.{false≢true, true≢false}
-use Rattle.std.proofs.lemmas.Nat.Bits.{bit_at_lowest}
 use Rattle.mp_base.specs.declared.value.Trit.{Trit}
-use Rattle.mp_base.specs.declared.op.Op.{Op}
 use Rattle.mp_base.specs.declared.op.Op.TheVariants as ops
+use Rattle.mp_base.proofs.Values.{bit_or_not}
 use Rattle.nor_net.specs.declared.net.NetId.{NetId}
 use Rattle.nor_net.specs.Elements.{Spot, spot}
 use Rattle.nor_net.specs.Machine.{Solves, HoldsState, HoldsInputs}
@@ -26,6 +26,7 @@ use Rattle.rtl_form.specs.Known as known
 use Rattle.rtl_form.specs.Digits.{digit}
 use Rattle.rtl_form.proofs.Reaching.{reached}
 use Rattle.control_nor.specs.Lowering.{Stands, Gives, BitsFit}
+use Rattle.control_nor.proofs.Written.{digit_of}
 use Rattle.path_form.specs.declared.path.DataPath.{DataPath}
 use Rattle.path_form.specs.Showing.{path_nets, FitPads}
 use Rattle.path_values.specs.Realizing.{bits_of, StateFits}
@@ -35,34 +36,6 @@ use Rattle.path_values.proofs.Passing.{word_operator, word_number, test, one_bit
 use Rattle.path_values.proofs.Writing as writing
 
 -- ---- small facts
-
-pub low_digit : (x : ℕ) → x < 2 → digit x 0 ≡ (x == 1)
-low_digit x l = ap (λ n. n == 1) (bit_at_lowest x ∙ small x l)
-  where
-    small : (x : ℕ) → x < 2 → x % 2 ≡ x
-    small x l = omega arith
-
-is_bit_op : (op : Op) → (op ≡ ops.Bit) ⊎ (op ≡ ops.Bit → ⊥)
-is_bit_op ops.Bit = inl refl
-is_bit_op ops.Add = inr (λ e. cc)
-is_bit_op ops.Sub = inr (λ e. cc)
-is_bit_op ops.Inc = inr (λ e. cc)
-is_bit_op ops.Dec = inr (λ e. cc)
-is_bit_op ops.WordAnd = inr (λ e. cc)
-is_bit_op ops.WordOr = inr (λ e. cc)
-is_bit_op ops.WordXor = inr (λ e. cc)
-is_bit_op ops.WordNot = inr (λ e. cc)
-is_bit_op ops.Left = inr (λ e. cc)
-is_bit_op ops.Right = inr (λ e. cc)
-is_bit_op ops.And = inr (λ e. cc)
-is_bit_op ops.Or = inr (λ e. cc)
-is_bit_op ops.Nor = inr (λ e. cc)
-is_bit_op ops.Nand = inr (λ e. cc)
-is_bit_op ops.Xor = inr (λ e. cc)
-is_bit_op ops.Not = inr (λ e. cc)
-is_bit_op ops.Zero = inr (λ e. cc)
-is_bit_op ops.Equal = inr (λ e. cc)
-is_bit_op ops.Less = inr (λ e. cc)
 
 module _ (r : Rtl) (sound : IsSound r) (p : DataPath) (a : IsAllocated r p) (v : Spot → Trit)
     (solves : Solves (path_nets p) v)
@@ -102,7 +75,7 @@ module _ (r : Rtl) (sound : IsSound r) (p : DataPath) (a : IsAllocated r p) (v :
   along e (Apply op index args) at ready = (
     λ id on. word_operator r sound p a v solves env values e op index args id at on
         (sym (word_of e (Apply op index args) id at on)) ready,
-    λ id on. by_sort id on (takes_words op) refl (is_bit_op op),
+    λ id on. by_sort id on (takes_words op) refl (bit_or_not op),
   )
     where
       by_sort : (id : NetId) → Stands a.names.exprs e id → (b : Bool) → takes_words op ≡ b
@@ -181,7 +154,7 @@ module _ (r : Rtl) (sound : IsSound r) (p : DataPath) (a : IsAllocated r p) (v :
               let slave : v (spot 0 h.slave) ≡ bit (cond (digit (slice_index state c) 0) false true) = holds c 0
               (bit_store p.control id h) (a.bit_stores c x id at is on) in
               gives_bits.state c id h on (slave ∙ ap (λ b. bit (cond b false true))
-              (low_digit (slice_index state c) low ∙ ap (λ n. n == 1) (sym (stored_value c x at is)))) id on),
+              (digit_of (slice_index state c) low ∙ ap (λ n. n == 1) (sym (stored_value c x at is)))) id on),
         )
 
     input_cell : (c i : ℕ) (x : cells.Cell) → IsAt r.cells c x → x.kind ≡ kinds.Input i → C c
@@ -192,7 +165,7 @@ module _ (r : Rtl) (sound : IsSound r) (p : DataPath) (a : IsAllocated r p) (v :
           λ id on.
               (let word : x.word ≡ false = (a.lowered.cell_names c x at).1 (id, on) in
               given i 0 (port_at 0 id pad.0) (a.bit_inputs c i x id pad.0 at is on pad.1)
-              ∙ ap bit (low_digit (slice_index inputs i) (bit_input c i x at is word)
+              ∙ ap bit (digit_of (slice_index inputs i) (bit_input c i x at is word)
               ∙ ap (λ n. n == 1) (sym (input_value c i x at is)))),
         )
 

@@ -1,5 +1,6 @@
 -- Values pass along the expressions of a path that stands for transfers.
-use Rattle.std.proofs.Common.{◌≡◌, ℕ, ◌<◌, ◌-◌, ◌^◌, suc, List, [], ◌∷◌, true, false, length, map, get_or, refl, sym, ◌∙◌, ap, subst, arith}
+use Rattle.std.proofs.Common.{◌≡◌, ℕ, ◌<◌, ◌-◌, ◌^◌, suc, List, [], ◌∷◌, true, false, length, map, get_or, refl, sym}
+use Rattle.std.proofs.Common.{◌∙◌, ap, subst, arith}
 use Rattle.std.specs.Prelude.{All, ◌==◌, slice_index}
 use Rattle.std.specs.Int.{bit_at}
 use Rattle.std.proofs.lemmas.Bool.{eqb-true, false≢true, true≢false}
@@ -18,7 +19,8 @@ use Rattle.rtl_form.specs.Operands.{takes, takes_words, gives_word}
 use Rattle.rtl_form.specs.Sound.{IsSound, HasSort}
 use Rattle.rtl_form.specs.Values.{value_of}
 use Rattle.organelles.specs.declared.slices.Organelle.{Organelle}
-use Rattle.organelles.specs.declared.slices.Organelle.TheVariants.{Add, Sub, Inc, Dec, And, Or, Xor, Not, Left, Right, Zero, Equal, Less}
+use Rattle.organelles.specs.declared.slices.Organelle.TheVariants.{Add, Sub, Inc, Dec, And, Or, Xor, Not, Left, Right}
+use Rattle.organelles.specs.declared.slices.Organelle.TheVariants.{Zero, Equal, Less}
 use Rattle.organelles.specs.Tables.{table_of, op_of}
 use Rattle.organelles.specs.Computing.{HasWord, HasResult}
 use Rattle.organelles.proofs.Operators.{operators_compute}

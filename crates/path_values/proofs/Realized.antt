@@ -1,7 +1,7 @@
 -- A path that stands for transfers realizes them.
-use Rattle.std.proofs.Common.{◌≡◌, ℕ, ◌<◌, ◌+◌, ◌^◌, zero, suc, ◌⊎◌, inl, inr, List, [], ◌∷◌, ◌++◌, Option, Some, None, Bool, true, false, cond, length, map, replicate, refl, sym, ◌∙◌, ap, subst, arith}
-use Rattle.std.specs.Prelude.{All, Contains, IsSome, ◌&&◌, ◌||◌, ◌==◌, not, if◌then◌else◌, slice_get, slice_index, unwrap_or}
-use Rattle.std.specs.List.{list_any}
+use Rattle.std.proofs.Common.{◌≡◌, ℕ, ◌<◌, ◌+◌, ◌^◌, zero, suc, ◌⊎◌, inl, inr, List, [], ◌∷◌, ◌++◌, Option, Some, None}
+use Rattle.std.proofs.Common.{Bool, true, false, cond, length, map, replicate, refl, sym, ◌∙◌, ap, subst, arith}
+use Rattle.std.specs.Prelude.{All, Contains, IsSome, ◌&&◌, ◌==◌, not, if◌then◌else◌, slice_get, slice_index, unwrap_or}
 use Rattle.std.specs.Int.{bit_at}
 use Rattle.std.proofs.lemmas.Bool.{false≢true, true≢false, lt-ltb, eqb-true, eq-eqb, ne_eqb, cases_lt}
 use Rattle.std.proofs.lemmas.Option.{none-some, same_Some, slice_get_within, get_or_from_slice_get}
@@ -31,7 +31,11 @@ use Rattle.control_nor.specs.Lowering.{Stands, next_bit, BitsFit}
 use Rattle.path_form.specs.declared.path.DataPath.{DataPath}
 use Rattle.organelles.specs.declared.slices.Programmed.{Programmed}
 use Rattle.std.specs.Option.{option_or}
+use Rattle.mp_base.proofs.Entries.{some_entry}
+use Rattle.std.proofs.lemmas.Map.Keys.{any_passes_from_place}
 use Rattle.organelles.specs.Slices.{first_some, program_element}
+use Rattle.control_nor.proofs.Written.{digit_of}
+use Rattle.control_nor.proofs.Progress.{at_get as got}
 use Rattle.path_form.specs.declared.path.Cast.{Cast}
 use Rattle.path_form.specs.declared.path.Lift.{Lift}
 use Rattle.path_form.specs.Nets.{control_part, slice_part, cast_element}
@@ -39,33 +43,16 @@ use Rattle.path_form.specs.Shape.{is_input, times, chain_to, entries_of}
 use Rattle.path_form.proofs.Joining.{times_append, there, absent, no_chain}
 use Rattle.path_form.specs.Showing.{path_nets, pad_bits, pad_spot, HasPadValues, FitPads}
 use Rattle.path_values.specs.Realizing.{bits_of, StateFits, Realizes, Computes}
-use Rattle.path_values.specs.Allocated.{IsAllocated, IsTame, Known, KnownCells, word_store, bit_store, port_at, cell_bits}
-use Rattle.path_values.proofs.Knowing.{all_known, low_digit, gives_bits}
+use Rattle.path_values.specs.Allocated.{IsAllocated, IsTame, Known, KnownCells, word_store, bit_store, port_at}
+use Rattle.path_values.specs.Allocated.{cell_bits}
+use Rattle.path_values.proofs.Knowing.{all_known, gives_bits}
 use Rattle.path_values.proofs.Writing as writing
 
 -- ---- lists
 
-entry : {Y : Type 0} (xs : List Y) (k : ℕ) → k < length xs → (x : Y) × (slice_get xs k ≡ Some x)
-entry [] k l = absurd (omega arith)
-entry (x ∷ xs) zero l = (x, refl)
-entry (x ∷ xs) (suc k) l = entry xs k (omega arith)
-
 -- an entry in either spelling
 same_entry : {Y : Type 0} (xs : List Y) (k : ℕ) (x y : Y) → IsAt xs k x → slice_get xs k ≡ Some y → x ≡ y
 same_entry xs k x y at e = at.1 ∙ get_or_from_slice_get xs k y x e
-
-pub got : {Y : Type 0} (xs : List Y) (k : ℕ) (x : Y) → IsAt xs k x → slice_get xs k ≡ Some x
-got xs k x at = let e = entry xs k at.0 in e.1 ∙ ap (λ y. Some y) (sym (same_entry xs k x e.0 at e.1))
-
-any_at : {Y : Type 0} (f : Y → Bool) (xs : List Y) (k : ℕ) (x : Y) → slice_get xs k ≡ Some x → f x ≡ true
-    → list_any f xs ≡ true
-any_at f [] k x e t = absurd (none-some x e)
-any_at f (y ∷ ys) zero x e t = ap (λ b. b || list_any f ys) (ap f (same_Some y x e) ∙ t)
-any_at f (y ∷ ys) (suc k) x e t = by_head (f y) (any_at f ys k x e t)
-  where
-    by_head : (b : Bool) → list_any f ys ≡ true → (b || list_any f ys) ≡ true
-    by_head true q = refl
-    by_head false q = q
 
 -- ---- the next state
 
@@ -126,7 +113,7 @@ module _ (r : Rtl) (state inputs env : List ℕ) where
 
 module _ (r : Rtl) (p : DataPath) (sound : IsSound r) (tame : IsTame r) (a : IsAllocated r p) where
   stores_true : (c : ℕ) (x : cells.Cell) → IsAt r.cells c x → x.kind ≡ kinds.Stored → stores r ≡ true
-  stores_true c x at is = any_at (λ (x : cells.Cell). is_stored x.kind) r.cells c x (got r.cells c x at)
+  stores_true c x at is = any_passes_from_place (λ (x : cells.Cell). is_stored x.kind) r.cells c x (got r.cells c x at)
       (ap is_stored is)
 
   some_reset : (o : Option ℕ) → r.reset ≡ o → IsSome o → (reset : ℕ) × (r.reset ≡ Some reset)
@@ -149,7 +136,7 @@ module _ (r : Rtl) (p : DataPath) (sound : IsSound r) (tame : IsTame r) (a : IsA
       let l = f.1.0 in
       let n : length p.inputs ≡ length (r.pads).inputs = p.whole.entries_fit.0.0
       ∙ ap (λ (q : Pads). length q.inputs) a.pads in
-      entry p.inputs i (omega (arith, l, n))
+      some_entry p.inputs i (omega (arith, l, n))
 
   narrow : (pad : Pad) (word : Bool) → word ≡ not (pad.width == 0) → word ≡ false → pad_bits pad ≡ 1
   narrow pad word e f = by_width (pad.width == 0) (sym e ∙ f)
@@ -206,7 +193,7 @@ module _ (r : Rtl) (p : DataPath) (sound : IsSound r) (tame : IsTame r) (a : IsA
             let bits = tame.bits state inputs env low fit is_env in
             let is_bit : x.word ≡ false = word ∙ ap not e in
             ap (λ b. v (spot (if b then 0 else suc k) id)) e ∙ cell.1 id (stands.1 is_bit)
-            ∙ ap bit (sym (low_digit (slice_index env c) (bits c x at is_bit)))
+            ∙ ap bit (sym (digit_of (slice_index env c) (bits c x at is_bit)))
             ∙ ap (λ n. bit (bit_at n 0 == 1)) (sym value) ∙ ap (λ j. bit (bit_at (slice_index outputs i) j == 1))
             (sym first)
         by_width c x at stands cell value false e word widths =
@@ -276,7 +263,7 @@ module _ (r : Rtl) (p : DataPath) (sound : IsSound r) (tame : IsTame r) (a : IsA
             let small : slice_index (next_state r state inputs env) c < 2 = subst
             (λ w. slice_index (next_state r state inputs env) c < 2 ^ cond w r.width 1) word (next_fits c x at) in
             ap (λ (s : Store). v s.source) same ∙ got ∙ ap (λ m. bit (m == 1)) (sym is_next)
-            ∙ ap bit (sym (low_digit (slice_index (next_state r state inputs env) c) small))
+            ∙ ap bit (sym (digit_of (slice_index (next_state r state inputs env) c) small))
             ∙ ap (λ j. bit (digit (slice_index (next_state r state inputs env) c) j)) (sym first)
 
 -- ---- shapes

@@ -1,13 +1,15 @@
 -- From any values: a reset makes the state 0, and from then on each clock steps as the transfers do.
-use Rattle.std.proofs.Common.{◌≡◌, ℕ, ◌<◌, zero, suc, inl, inr, List, [], ◌∷◌, true, false, cond, length, replicate, refl, sym, ◌∙◌, ap, subst, arith}
+use Rattle.std.proofs.Common.{◌≡◌, ℕ, ◌<◌, zero, suc, inl, inr, List, [], ◌∷◌, true, false, cond, length, replicate}
+use Rattle.std.proofs.Common.{sym, ◌∙◌, ap, subst, arith}
 use Rattle.std.proofs.lemmas.Nat.{pow_pos}
-use Rattle.std.specs.Prelude.{All, ◌^◌, if◌then◌else◌, ◌==◌, slice_index, slice_index_or}
+use Rattle.std.specs.Prelude.{All, ◌^◌, if◌then◌else◌, ◌==◌, slice_index_or}
 use Rattle.std.specs.List.{AllZip}
 use Rattle.std.specs.Int.{bit_at}
 use Rattle.std.proofs.lemmas.Option.{none-some}
 use Rattle.std.proofs.lemmas.Nat.Bits.{bit_at-zero}
 use Rattle.mp_base.specs.declared.value.Trit.{Trit}
 use Rattle.mp_base.specs.declared.value.Trit.TheVariants.{X}
+use Rattle.mp_base.proofs.Entries.{zeros_at}
 use Rattle.nor_net.specs.Elements.{Spot}
 use Rattle.nor_net.specs.Settled.{IsSolution}
 use Rattle.nor_net.specs.Clock.{IsClockBy, IsLooseTrace}
@@ -22,14 +24,8 @@ use Rattle.path_form.specs.declared.path.DataPath.{DataPath}
 use Rattle.path_form.specs.Showing.{path_nets, HasPadValues, FitPads, ShowsTransfers}
 use Rattle.path_values.specs.Realizing.{bits_of, StateFits, Realizes, RealizedShows}
 
--- the zero state has no bit
-zero_at : (n c : ℕ) → slice_index (replicate n 0) c ≡ 0
-zero_at zero c = refl
-zero_at (suc n) zero = refl
-zero_at (suc n) (suc c) = zero_at n c
-
 no_bits : (n c k : ℕ) → bits_of (replicate n 0) c k ≡ false
-no_bits n c k = ap (λ x. x == 1) (ap (λ x. bit_at x k) (zero_at n c) ∙ bit_at-zero k)
+no_bits n c k = ap (λ x. x == 1) (ap (λ x. bit_at x k) (zeros_at n c) ∙ bit_at-zero k)
 
 module _ (r : Rtl) (p : DataPath) (real : Realizes r p) where
   abbrev Holds : List ℕ → (Spot → Trit) → Type 0
@@ -39,7 +35,7 @@ module _ (r : Rtl) (p : DataPath) (real : Realizes r p) where
   Shown outputs v = HasPadValues (r.pads).outputs p.outputs outputs v
 
   zero_fits : StateFits r (zero_state r)
-  zero_fits c x is = subst (λ n. n < 2 ^ (if x.word then r.width else 1)) (sym (zero_at (length r.cells) c))
+  zero_fits c x is = subst (λ n. n < 2 ^ (if x.word then r.width else 1)) (sym (zeros_at (length r.cells) c))
       (pow_pos (if x.word then r.width else 1))
 
   -- one clock from a state that is that of the transfers

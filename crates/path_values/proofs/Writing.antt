@@ -1,5 +1,6 @@
 -- What transfers write to the words of a path that stands for them.
-use Rattle.std.proofs.Common.{◌≡◌, ℕ, ◌<◌, zero, suc, List, [], ◌∷◌, ◌++◌, None, Bool, true, false, cond, map, refl, sym, ◌∙◌, ap, arith}
+use Rattle.std.proofs.Common.{◌≡◌, ℕ, ◌<◌, suc, List, [], ◌∷◌, ◌++◌, None, Bool, true, false, cond, map, refl, sym, ◌∙◌}
+use Rattle.std.proofs.Common.{ap, arith}
 use Rattle.std.specs.Prelude.{Contains, ◌&&◌, ◌||◌, ◌==◌, not, if◌then◌else◌, slice_get, slice_index, unwrap_or}
 use Rattle.std.specs.List.{AllZip, filter, list_all, list_any}
 use Rattle.std.proofs.lemmas.Bool.{lt-ltb, eqb-true}
@@ -7,6 +8,7 @@ use Rattle.std.proofs.lemmas.Nat.Bits.{bit_at-zero}
 use Rattle.mp_base.specs.declared.value.Trit.{Trit}
 use Rattle.mp_base.specs.declared.value.Trit.TheVariants.{Zero, One, X}
 use Rattle.mp_base.specs.Merge.{merged}
+use Rattle.mp_base.proofs.Contents.{contains_from_filter}
 use Rattle.nor_net.specs.declared.net.NetId.{NetId}
 use Rattle.nor_net.specs.Elements.{Spot, Nor, Nets, spot}
 use Rattle.nor_net.specs.Settled.{nor_value}
@@ -24,7 +26,8 @@ use Rattle.control_nor.specs.Lowering.{next_bit}
 use Rattle.path_form.specs.declared.path.DataPath.{DataPath}
 use Rattle.path_form.specs.Nets.{slice_part}
 use Rattle.path_form.specs.Showing.{path_nets}
-use Rattle.path_values.specs.Allocated.{IsGate, IsGuard, IsTerm, DrivenWord, StoredWord, IsAllocated, Known, transfers_to}
+use Rattle.path_values.specs.Allocated.{IsGate, IsGuard, IsTerm, DrivenWord, StoredWord, IsAllocated, Known}
+use Rattle.path_values.specs.Allocated.{transfers_to}
 use Rattle.path_form.proofs.Joining.{casts_join}
 
 abbrev off : Bool → Bool
@@ -66,20 +69,6 @@ any_same f g h (t ∷ ts) = ap (λ b. b || list_any f ts) (h t) ∙ ap (λ b. g 
 and_assoc : (a b c : Bool) → (a && (b && c)) ≡ ((a && b) && c)
 and_assoc true b c = refl
 and_assoc false b c = refl
-
-in_filter : {A : Type 0} (q : A → Bool) (ts : List A) (t : A) → Contains (filter q ts) t
-    → Contains ts t × (q t ≡ true)
-in_filter q [] t c = absurd (let l = c.1 in omega (arith, l))
-in_filter {A} q (x ∷ xs) t c = by_head (q x) refl c (λ d. in_filter q xs t d)
-  where
-    deeper : Contains xs t × (q t ≡ true) → Contains (x ∷ xs) t × (q t ≡ true)
-    deeper h = ((suc h.0.0, (let l = h.0.1 in omega (arith, l)), h.0.2), h.1)
-
-    by_head : (b : Bool) → q x ≡ b → Contains (cond b (x ∷ filter q xs) (filter q xs)) t
-        → (Contains (filter q xs) t → Contains xs t × (q t ≡ true)) → Contains (x ∷ xs) t × (q t ≡ true)
-    by_head false e d again = deeper (again d)
-    by_head true e (zero, l, is) again = ((0, omega arith, is), sym (ap q is) ∙ e)
-    by_head true e (suc k, l, is) again = deeper (again (k, omega arith, is))
 
 module _ (r : Rtl) (p : DataPath) (a : IsAllocated r p) (v : Spot → Trit) (solves : Solves (path_nets p) v)
     (env : List ℕ) (k : ℕ) (l : k < p.width) where
@@ -167,7 +156,7 @@ module _ (r : Rtl) (p : DataPath) (a : IsAllocated r p) (v : Spot → Trit) (sol
     to = transfers_to r c
 
     known : (t : Transfer) → Contains to t → E t.guard × E t.value
-    known t h = let f = in_filter (λ (t : Transfer). t.target == c) r.transfers t h in
+    known t h = let f = contains_from_filter (λ (t : Transfer). t.target == c) r.transfers t h in
         fetched t f.0 (eqb-true t.target c f.1)
 
     ones : list_any one to ≡ list_any (writes_one value c k) r.transfers

@@ -1,5 +1,6 @@
 -- How a path stands for transfers: which nets stand for which words, and what they are made of.
-use Rattle.std.specs.Prelude.{◌≡◌, ◌↔◌, ◌<◌, ◌-◌, ◌^◌, ℕ, suc, List, [], ◌∷◌, ◌++◌, Option, Some, true, false, if◌then◌else◌, ◌==◌, All, Contains, length, slice_get, slice_index, slice_index_or}
+use Rattle.std.specs.Prelude.{◌≡◌, ◌↔◌, ◌<◌, ◌-◌, ◌^◌, ℕ, suc, List, [], ◌∷◌, ◌++◌, Option, Some, true, false}
+use Rattle.std.specs.Prelude.{if◌then◌else◌, ◌==◌, All, Contains, length, slice_get, slice_index, slice_index_or}
 use Rattle.std.specs.List.{AllZip, filter}
 use Rattle.mp_base.specs.declared.value.Trit.{Trit}
 use Rattle.mp_base.specs.declared.op.Op.{Op}

@@ -4,7 +4,8 @@ use Rattle.std.specs.Int.{bit_at}
 use Rattle.mp_base.specs.declared.value.Trit.{Trit}
 use Rattle.mp_base.specs.declared.value.Trit.TheVariants.{One}
 use Rattle.nor_net.specs.Elements.{Spot}
-use Rattle.nor_net.specs.Machine.{Stores, Ports, Port, AreStores, ArePorts, IsPort, HoldsState, HoldsInputs, GivesInputs, HasNext, Whenever}
+use Rattle.nor_net.specs.Machine.{Stores, Ports, Port, AreStores, ArePorts, IsPort, HoldsState, HoldsInputs}
+use Rattle.nor_net.specs.Machine.{GivesInputs, HasNext, Whenever}
 use Rattle.rtl_form.specs.declared.rtl.Rtl.{Rtl}
 use Rattle.rtl_form.specs.Environment.{IsEnvironment}
 use Rattle.rtl_form.specs.Step.{next_state, resets, Shows}

@@ -1,7 +1,7 @@
 -- Lines of groups, one after another.
-use Rattle.std.proofs.Common.{◌≡◌, ℕ, zero, suc, ◌+◌, ◌<◌, ◌≤◌, List, [], ◌∷◌, ◌++◌, length, get_or, take, refl, sym}
+use Rattle.std.proofs.Common.{◌≡◌, ℕ, zero, suc, ◌+◌, ◌<◌, ◌≤◌, List, [], ◌∷◌, ◌++◌, length, get_or, take, sym}
 use Rattle.std.proofs.Common.{◌∙◌, ap, arith}
-use Rattle.std.proofs.lemmas.List.{append-nil, append_assoc}
+use Rattle.std.proofs.lemmas.List.{append-nil, append_assoc, take_all}
 use Rattle.track_assign.specs.declared.packing.Tracks.{Tracks}
 use Rattle.plan_stats.specs.Text.{group_line, group_lines}
 
@@ -29,12 +29,6 @@ group_added k groups t old now new h before added is =
     (ap (λ n. group_lines 0 (take k groups) ++ group_line n (get_or groups k t)) (sym z)
     ∙ sym (one_more 0 k groups t h) ∙ ap (λ n. group_lines 0 (take n groups)) (sym e))
 
-take_whole : {X : Type 0} (xs : List X) (i : ℕ) → length xs ≤ i → take i xs ≡ xs
-take_whole [] zero h = refl
-take_whole [] (suc i) h = refl
-take_whole (x ∷ xs) zero h = absurd (omega arith)
-take_whole (x ∷ xs) (suc i) h = ap (λ l. x ∷ l) (take_whole xs i (omega arith))
-
 pub all_added : (k : ℕ) (groups : List Tracks) (old new : List ℕ) → length groups ≤ k
     → new ≡ old ++ group_lines 0 (take k groups) → new ≡ old ++ group_lines 0 groups
-all_added k groups old new h e = e ∙ ap (λ l. old ++ group_lines 0 l) (take_whole groups k h)
+all_added k groups old new h e = e ∙ ap (λ l. old ++ group_lines 0 l) (take_all k groups h)

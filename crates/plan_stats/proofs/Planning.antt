@@ -1,9 +1,8 @@
 -- A plan of transfers that show what a program shows is one of a chip of the program.
-use Rattle.std.proofs.Common.{◌≡◌, ◌+◌, ◌≤◌, ◌∙◌, ap, arith, List, Result, Ok, Err, IfOk, suc}
+use Rattle.std.proofs.Common.{◌+◌, ◌∙◌, ap, arith, Result, Ok, Err, IfOk, suc}
 use Rattle.std.specs.Prelude.{sum_by}
 use Rattle.mp_base.specs.declared.refusal.NoMemory.{NoMemory}
 use Rattle.mp_program.specs.declared.program.Program.{Program}
-use Rattle.mp_program.specs.Weight.{weight}
 use Rattle.rtl_form.specs.declared.rtl.Rtl.{Rtl}
 use Rattle.track_assign.specs.declared.packing.Tracks.{Tracks}
 use Rattle.process_plan.specs.Same.{IsSame}

@@ -1,7 +1,6 @@
 -- Expressions that are added.
 use Rattle.std.proofs.Common.{
   ◌≡◌,
-  ◌⊎◌,
   inl,
   inr,
   ◌∙◌,
@@ -20,59 +19,32 @@ use Rattle.std.proofs.Common.{
   arith,
   length,
 }
-use Rattle.std.specs.Prelude.{Result, Ok, Err, OnOk, IfOk}
-use Rattle.std.proofs.lemmas.Bool.{cases_lt}
-use Rattle.std.proofs.lemmas.List.{get_or_append_left, get_or_at, length-append}
+use Rattle.std.proofs.lemmas.List.{get_or_append_left, length-append}
 use Rattle.std.proofs.lemmas.List.Sums.{sum_by-cons, sum_by-append}
 use Rattle.mp_base.specs.declared.op.Op.TheVariants.{And, Not}
+use Rattle.mp_base.proofs.Contents.{only_one}
 use Rattle.mp_rules.specs.Entries.{IsAt}
+use Rattle.mp_rules.proofs.ListEntries.{at_pushed, at_push_cases}
 use Rattle.rtl_form.specs.declared.rtl.Cell.{Cell}
 use Rattle.rtl_form.specs.declared.rtl.RtlExpr.{RtlExpr}
 use Rattle.rtl_form.specs.declared.rtl.RtlExpr.TheVariants.{Apply}
 use Rattle.rtl_form.specs.Cost.{expr_cost}
 use Rattle.process_plan.specs.Bill.{exprs_cost}
 use Rattle.process_plan.specs.Fits.{ExprsFit, ExprFitsIn, HasSortIn}
-use Rattle.process_plan.proofs.Members.{cases_of, only_one, one_entry}
+use Rattle.process_plan.proofs.Members.{cases_of}
 use Rattle.process_plan.proofs.Sorts.{has_sort_kept, fits_kept}
 use Rattle.process_layout.specs.Steps.{Keeps}
+use Rattle.process_layout.proofs.Keeping.{keeps_same, keeps_more}
 use Rattle.process_enables.specs.Adding.{IsPut}
 use Rattle.process_enables.specs.Forms.{Narrows}
-
-pub on_ok : {T E : Type 0} (r : Result T E) (P Q : Type 0) → (P → Q) → OnOk r P → OnOk r Q
-on_ok (Ok x) P Q f h = f h
-on_ok (Err e) P Q f h = h
-
-pub if_ok : {T E : Type 0} (r : Result T E) (P Q : T → Type 0) → ((x : T) → P x → Q x) → IfOk r P → IfOk r Q
-if_ok (Ok x) P Q f h = f x h
-if_ok (Err e) P Q f h = h
-
-pub keeps_same : {X : Type 0} (xs : List X) → Keeps xs xs
-keeps_same xs = λ k x at. at
-
-pub keeps_more : {X : Type 0} (xs ys zs : List X) → Keeps xs ys → Keeps ys zs → Keeps xs zs
-keeps_more xs ys zs h g = λ k x at. g k x (h k x at)
 
 pub append_keeps : {X : Type 0} (xs more : List X) → Keeps xs (xs ++ more)
 append_keeps xs more = λ k x (lt, is). let size = length-append xs more in
     (omega (arith, lt, size), is ∙ sym (get_or_append_left xs more x k lt))
 
-pub last_at : {X : Type 0} (xs : List X) (x : X) → IsAt (xs ++ x ∷ []) (length xs) x
-last_at xs x = let size = length-append xs (x ∷ []) in (omega (arith, size), sym (get_or_at xs x [] x (length xs) refl))
-
--- an entry of a list to which x was added is an entry of the list, or x
-pub added_at : {X : Type 0} (xs : List X) (x y : X) (k : ℕ) → IsAt (xs ++ x ∷ []) k y
-    → IsAt xs k y ⊎ ((k ≡ length xs) × (y ≡ x))
-added_at {X} xs x y k (lt, is) = elim (cases_lt k (length xs)) [
-  | inl below ↦ inl (below, is ∙ get_or_append_left xs (x ∷ []) y k below)
-  | inr from ↦
-      let size = length-append xs (x ∷ []) in
-      let e : k ≡ length xs = omega (arith, lt, size, from) in
-      inr (e, one_entry (xs ++ x ∷ []) (length xs) y x (subst (λ n. IsAt (xs ++ x ∷ []) n y) e (lt, is)) (last_at xs x))
-]
-
 module _ (old : List RtlExpr) (x : RtlExpr) (new : List RtlExpr) (i : ℕ) (put : IsPut old x new i) where
   pub put_at : IsAt new i x
-  put_at = subst (λ xs. IsAt xs i x) (sym put.added) (subst (λ n. IsAt (old ++ x ∷ []) n x) (sym put.index) (last_at
+  put_at = subst (λ xs. IsAt xs i x) (sym put.added) (subst (λ n. IsAt (old ++ x ∷ []) n x) (sym put.index) (at_pushed
       old x))
 
   pub put_keeps : Keeps old new
@@ -93,7 +65,7 @@ module _ (old : List RtlExpr) (x : RtlExpr) (new : List RtlExpr) (i : ℕ) (put 
 
   -- what fits where it is added keeps all fit
   pub put_fits : (w : ℕ) (xs : List Cell) → ExprFitsIn w xs old (length old) x → ExprsFit w xs old → ExprsFit w xs new
-  put_fits w xs fit all = subst (λ ys. ExprsFit w xs ys) (sym put.added) (λ e y at. elim (added_at old x y e at) as
+  put_fits w xs fit all = subst (λ ys. ExprsFit w xs ys) (sym put.added) (λ e y at. elim (at_push_cases old x e y at) as
       (λ _. ExprFitsIn w xs (old ++ x ∷ []) e y) [
         | inl before ↦ fits_kept w xs xs old (old ++ x ∷ []) e y (keeps_same xs) (append_keeps old (x ∷ [])) (all e y
             before)
@@ -115,7 +87,7 @@ and_fits w xs exprs a b (x, at_a, is_a) (y, at_b, is_b) = (
   λ e c. elim (cases_of e a (b ∷ []) c) as
       (λ _. (e < length exprs) × HasSortIn xs exprs e false) [
         | inl is ↦ subst (λ n. (n < length exprs) × HasSortIn xs exprs n false) is (at_a.0, (x, at_a, is_a))
-        | inr later ↦ subst (λ n. (n < length exprs) × HasSortIn xs exprs n false) (only_one e b later)
+        | inr later ↦ subst (λ n. (n < length exprs) × HasSortIn xs exprs n false) (only_one b e later)
             (at_b.0, (y, at_b, is_b))
       ],
 )
@@ -126,7 +98,7 @@ not_fits w xs exprs a (x, at_a, is_a) = (
   refl,
   tt,
   λ e c.
-      subst (λ n. (n < length exprs) × HasSortIn xs exprs n false) (only_one e a c) (at_a.0, (x, at_a, is_a)),
+      subst (λ n. (n < length exprs) × HasSortIn xs exprs n false) (only_one a e c) (at_a.0, (x, at_a, is_a)),
 )
 
 -- the negation of a guard, and then what is 1 where another expression is too

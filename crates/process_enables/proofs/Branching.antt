@@ -26,6 +26,8 @@ use Rattle.std.proofs.Common.{
 }
 use Rattle.std.specs.Prelude.{Contains}
 use Rattle.mp_base.specs.declared.op.Op.TheVariants.{And, Not}
+use Rattle.mp_base.proofs.Contents.{contains_head, contains_behind, only_one}
+use Rattle.mp_base.proofs.Lists.{take_whole}
 use Rattle.mp_program.specs.declared.program.Branch.{Branch}
 use Rattle.mp_program.specs.declared.program.Program.{Program}
 use Rattle.mp_rules.specs.Entries.{IsAt}
@@ -34,13 +36,12 @@ use Rattle.rtl_form.specs.declared.rtl.RtlExpr.TheVariants.{Apply}
 use Rattle.process_plan.specs.declared.enable.Enable.{Enable}
 use Rattle.process_plan.specs.Enables.{copy_of}
 use Rattle.process_plan.specs.Fits.{HasSortIn}
-use Rattle.process_plan.proofs.Members.{here, there, cases_of, only_one}
+use Rattle.process_plan.proofs.Members.{cases_of}
 use Rattle.process_layout.specs.Steps.{Keeps}
+use Rattle.process_layout.proofs.Keeping.{keeps_same, keeps_more}
 use Rattle.process_enables.specs.Adding.{IsPut}
 use Rattle.process_enables.specs.Forms.{Assigns, EntersBranch, Narrows, guards, EntersBranches}
 use Rattle.process_enables.proofs.Adding.{
-  keeps_same,
-  keeps_more,
   put_at,
   put_keeps,
   put_cost,
@@ -69,8 +70,9 @@ enters_is p x b exprs more a old new put assigned =
         cost = let price = put_cost exprs y more a put in omega (arith, price);
         fits = λ w xs bits fit. record {
           exprs_fit = put_fits exprs y more a put w xs (and_fits w xs exprs x.expr (copy_of p b.guard)
-              (bits x.expr (here x.expr (copy_of p b.guard ∷ [])))
-              (bits (copy_of p b.guard) (there (copy_of p b.guard) x.expr (copy_of p b.guard ∷ []) (here (copy_of p
+              (bits x.expr (contains_head x.expr (copy_of p b.guard ∷ [])))
+              (bits (copy_of p b.guard)
+              (contains_behind (copy_of p b.guard) x.expr (copy_of p b.guard ∷ []) (contains_head (copy_of p
               b.guard) []))))
               fit.exprs_fit;
           bits = λ f n u has. elim (assigned.added f u n has) as (λ _. HasSortIn xs more n false) [
@@ -105,7 +107,7 @@ one_branch p x b exprs more old new entered = record {
     kept = (entered.grown).kept;
     added = λ f u a has. elim ((entered.grown).added f u a has) [
       | inl before ↦ inl before
-      | inr (inside, from) ↦ inr ((b, here b [], inside), from)
+      | inr (inside, from) ↦ inr ((b, contains_head b [], inside), from)
     ];
     cost = let price = (entered.grown).cost in omega (arith, price);
     fits = (entered.grown).fits;
@@ -131,9 +133,9 @@ more_branches p x b d bs m e0 e1 e2 e3 old mid new entered narrowed later =
         added = λ f u k has. elim (rest.added f u k has) [
           | inl before ↦ elim (first.added f u k before) [
             | inl older ↦ inl older
-            | inr (inside, from) ↦ inr ((b, here b (d ∷ bs), inside), from)
+            | inr (inside, from) ↦ inr ((b, contains_head b (d ∷ bs), inside), from)
           ]
-          | inr ((c, among, inside), from) ↦ inr ((c, there c b (d ∷ bs) among, inside), from)
+          | inr ((c, among, inside), from) ↦ inr ((c, contains_behind c b (d ∷ bs) among, inside), from)
         ];
         cost =
             let c1 = first.cost in
@@ -141,9 +143,9 @@ more_branches p x b d bs m e0 e1 e2 e3 old mid new entered narrowed later =
             let c3 = rest.cost in
             omega (arith, c1, c2, c3);
         fits = λ w xs bits fit.
-            let rest_bit = bits x.expr (here x.expr (guards p (b ∷ d ∷ bs))) in
-            let guard_bit = bits (copy_of p b.guard) (there (copy_of p b.guard) x.expr (guards p (b ∷ d ∷ bs))
-            (here (copy_of p b.guard) (guards p (d ∷ bs)))) in
+            let rest_bit = bits x.expr (contains_head x.expr (guards p (b ∷ d ∷ bs))) in
+            let guard_bit = bits (copy_of p b.guard) (contains_behind (copy_of p b.guard) x.expr (guards p (b ∷ d ∷ bs))
+            (contains_head (copy_of p b.guard) (guards p (d ∷ bs)))) in
             let one = first.fits w xs (λ k c. elim (cases_two k x.expr (copy_of p b.guard) c) as
             (λ _. HasSortIn xs e0 k false) [
               | inl is ↦ subst (λ j. HasSortIn xs e0 j false) is rest_bit
@@ -154,7 +156,8 @@ more_branches p x b d bs m e0 e1 e2 e3 old mid new entered narrowed later =
             rest.fits w xs (λ k c. elim (cases_of k m (guards p (d ∷ bs)) c) as (λ _. HasSortIn xs e2 k false) [
               | inl is ↦ subst (λ j. HasSortIn xs e2 j false) is (Apply And 0 (x.expr ∷ n ∷ []), at_m, refl)
               | inr among ↦ bit_kept xs e1 e2 k narrowed.exprs_kept (bit_kept xs e0 e1 k first.exprs_kept
-                  (bits k (there k x.expr (guards p (b ∷ d ∷ bs)) (there k (copy_of p b.guard) (guards p (d ∷ bs))
+                  (bits k (contains_behind k x.expr (guards p (b ∷ d ∷ bs))
+                  (contains_behind k (copy_of p b.guard) (guards p (d ∷ bs))
                   among))))
             ]) (record {
               exprs_fit = two;
@@ -176,7 +179,7 @@ more_branches p x b d bs m e0 e1 e2 e3 old mid new entered narrowed later =
     cases_two : (k i j : ℕ) → Contains (i ∷ j ∷ []) k → (i ≡ k) ⊎ (j ≡ k)
     cases_two k i j c = elim (cases_of k i (j ∷ []) c) [
       | inl is ↦ inl is
-      | inr later ↦ inr (only_one k j later)
+      | inr later ↦ inr (only_one j k later)
     ]
 
 -- ---- branches of a slice
@@ -184,16 +187,12 @@ more_branches p x b d bs m e0 e1 e2 e3 old mid new entered narrowed later =
 pub first_in : (bs : List Branch) (b : Branch) → 0 < length bs → b ≡ get_or bs 0 b → Contains bs b
 first_in bs b lt is = (0, lt, sym is)
 
-rest_of : {X : Type 0} (xs : List X) → take (length xs) xs ≡ xs
-rest_of [] = refl
-rest_of (x ∷ xs) = ap (λ ys. x ∷ ys) (rest_of xs)
-
 others : {X : Type 0} (x : X) (xs : List X) → take (length (x ∷ xs) - 1) (drop 1 (x ∷ xs)) ≡ xs
-others x xs = let e : length (x ∷ xs) - 1 ≡ length xs = omega arith in ap (λ n. take n xs) e ∙ rest_of xs
+others x xs = let e : length (x ∷ xs) - 1 ≡ length xs = omega arith in ap (λ n. take n xs) e ∙ take_whole xs
 
 pub other_in : (bs : List Branch) (b : Branch) → Contains (take (length bs - 1) (drop 1 bs)) b → Contains bs b
 other_in [] b (k, lt, is) = absurd (omega (arith, lt))
-other_in (x ∷ xs) b c = there b x xs (subst (λ ys. Contains ys b) (others x xs) c)
+other_in (x ∷ xs) b c = contains_behind b x xs (subst (λ ys. Contains ys b) (others x xs) c)
 
 -- no branch
 pub branches_none : (p : Program) (x : Enable) (bs : List Branch) (exprs : List RtlExpr) (enables : List (Option

@@ -30,8 +30,9 @@ use Rattle.std.proofs.Common.{
 }
 use Rattle.std.specs.Prelude.{Contains, ◌&&◌}
 use Rattle.std.specs.List.{sum_by, flat_map}
-use Rattle.std.proofs.lemmas.Bool.{eqb-true}
 use Rattle.std.proofs.lemmas.List.Sums.{sum_by-cons, sum_by-append}
+use Rattle.mp_base.proofs.Contents.{contains_head, contains_behind}
+use Rattle.mp_base.proofs.Induction.{upward}
 use Rattle.mp_program.specs.declared.program.FormKind.{FormKind}
 use Rattle.mp_program.specs.declared.program.FormKind.TheVariants.{Set, Cond, Par, Go, Call, Return}
 use Rattle.mp_program.specs.declared.program.Branch.{Branch}
@@ -43,18 +44,22 @@ use Rattle.mp_program.specs.Weight as weight
 use Rattle.mp_rules.specs.Entries.{IsAt}
 use Rattle.mp_rules.specs.Standing as standing
 use Rattle.mp_rules.specs.Standing.{Under}
+use Rattle.mp_rules.proofs.ListEntries.{contains_from_at, one_entry}
+use Rattle.mp_rules.proofs.Sequences.{under_more}
 use Rattle.rtl_form.specs.declared.rtl.RtlExpr.{RtlExpr}
 use Rattle.process_plan.specs.declared.role.Role.{Role}
 use Rattle.process_plan.specs.declared.enable.Origin.{Origin}
-use Rattle.process_plan.specs.declared.enable.Origin.TheVariants.{Always, At}
+use Rattle.process_plan.specs.declared.enable.Origin.TheVariants.{At}
 use Rattle.process_plan.specs.declared.enable.Enable.{Enable}
 use Rattle.process_plan.specs.Lawful.{Known}
 use Rattle.process_plan.specs.Enables.{HasEnable, StandsInside, AreEnables}
 use Rattle.process_plan.specs.Plan.{is_call}
 use Rattle.process_plan.proofs.Counting.{calls_is}
 use Rattle.process_plan.proofs.Census.{AreOnce, sum_within}
-use Rattle.process_plan.proofs.Members.{here, there, one_entry, entry_in, upward, flat_in, in_flat}
+use Rattle.process_plan.proofs.Members.{flat_in, in_flat}
+use Rattle.process_plan.proofs.Enables.{inside_inner}
 use Rattle.process_layout.specs.Counts.{is_of, count_of}
+use Rattle.process_layout.proofs.Origins.{own_origin}
 use Rattle.process_enables.proofs.Forming.{inside_between}
 use Rattle.process_enables.proofs.Rooting.{process_in}
 
@@ -126,14 +131,6 @@ within_counted p known (suc n) f =
           omega (arith, first, no_call, same)
     ]
 
-inside_inner : (k : FormKind) (f : ℕ) → StandsInside k f → Contains (inner k) f
-inside_inner (Set x at e) f h = absurd h
-inside_inner (Cond bs) f (b, cb, cf) = flat_in (λ (t : Branch). t.body) f b bs cb cf
-inside_inner (Par fs) f h = h
-inside_inner (Go l) f h = absurd h
-inside_inner (Call l) f h = absurd h
-inside_inner Return f h = absurd h
-
 inner_inside : (k : FormKind) (f : ℕ) → Contains (inner k) f → StandsInside k f
 inner_inside (Set x at e) f (i, lt, is) = absurd (omega (arith, lt))
 inner_inside (Cond bs) f c = in_flat (λ (t : Branch). t.body) f bs c
@@ -145,11 +142,11 @@ inner_inside Return f (i, lt, is) = absurd (omega (arith, lt))
 under_within : (p : Program) → Known p → (n f g : ℕ) → f < length p.forms → length p.forms ≤ n + f → Under p f g
     → Contains (within p n f) g
 under_within p known zero f g lt le under = absurd (omega (arith, lt, le))
-under_within p known (suc n) f g lt le standing.itself = here f (flat_map (within p n) (inner_at p.forms f))
+under_within p known (suc n) f g lt le standing.itself = contains_head f (flat_map (within p n) (inner_at p.forms f))
 under_within p known (suc n) f g lt le (standing.deeper {g = h} y at c under) =
     let (later, inside) = inside_between p known.sound f y at h (inner_inside y.kind h c) in
     let rec = under_within p known n h g inside (omega (arith, le, later)) under in
-    there g f (flat_map (within p n) (inner_at p.forms f))
+    contains_behind g f (flat_map (within p n) (inner_at p.forms f))
     (flat_in (within p n) g h (inner_at p.forms f)
     (subst (λ fs. Contains fs h) (sym (inner_is p.forms f y at)) c) rec)
 
@@ -191,10 +188,6 @@ counted v k at (y ∷ ys) (Some e ∷ es) same =
         let b = first in
         let c = same_call y.kind in
         omega (arith, rest, a, b, c)
-
-own_origin : (k : ℕ) (o : Origin) → is_of k o ≡ true → (i : ℕ) × (o ≡ At k i)
-own_origin k Always h = absurd (cc)
-own_origin k (At j i) h = (i, ap (λ n. At n i) (eqb-true j k h))
 
 owned_has : (k at : ℕ) (es : List (Option Enable)) (f : ℕ) → Contains (owned k at es) f
     → (j : ℕ) × (f ≡ at + j) × ((i a : ℕ) × HasEnable es j (At k i) a)
@@ -248,12 +241,6 @@ owned_once k at (Some x ∷ es) j i f at_j at_i = pick (is_of k x.origin) j i at
     pick true (suc j) (suc i) (lt, is) (lt2, is2) rest =
         ap suc (rest j i f (omega (arith, lt), is) (omega (arith, lt2), is2))
 
-under_more : (p : Program) (r g f : ℕ) (y : Form) → Under p r g → IsAt p.forms g y → Contains (inner y.kind) f
-    → Under p r f
-under_more p r g f y standing.itself at c = standing.deeper y at c standing.itself
-under_more p r g f y (standing.deeper {g = h} z at_z c_z under) at c =
-    standing.deeper z at_z c_z (under_more p h g f y under at c)
-
 -- a form that has an enable in a process stands in one of its forms
 rooted : (p : Program) (exprs : List RtlExpr) (roles : List Role) (enables : List (Option Enable))
     → AreEnables p exprs roles enables → (k : ℕ) (q : Process) → IsAt p.processes k q
@@ -263,7 +250,8 @@ rooted p exprs roles enables are k q at_q = upward
     (λ f below i a has. elim (are.reasons f (At k i) a has) [
       | inl ((z, at_z, at_f), expr) ↦ (
         f,
-        entry_in q.forms i f (subst (λ (t : Process). IsAt t.forms i f) (one_entry p.processes k z q at_z at_q) at_f),
+        contains_from_at q.forms i f
+            (subst (λ (t : Process). IsAt t.forms i f) (one_entry p.processes k z q at_z at_q) at_f),
         standing.itself,
       )
       | inr (g, y, b, at, lt, has_g, inside) ↦

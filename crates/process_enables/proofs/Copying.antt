@@ -35,6 +35,7 @@ use Rattle.std.proofs.lemmas.List.Sums.{sum_by-cons}
 use Rattle.mp_base.specs.declared.op.Op.{Op}
 use Rattle.mp_base.specs.declared.op.Op.TheVariants.{Not}
 use Rattle.mp_base.specs.declared.refusal.Place.{Place}
+use Rattle.mp_base.proofs.Contents.{only_one}
 use Rattle.mp_program.specs.declared.program.ExprKind.{ExprKind}
 use Rattle.mp_program.specs.declared.program.ExprKind.TheVariants as source
 use Rattle.mp_program.specs.declared.program.Def.{Def}
@@ -46,6 +47,7 @@ use Rattle.mp_program.specs.Weight.{names_constant, is_constant}
 use Rattle.mp_rules.specs.Breaking.{IsUnbroken}
 use Rattle.mp_rules.specs.Entries.{IsAt}
 use Rattle.mp_rules.specs.Rules.{E21}
+use Rattle.mp_rules.proofs.ListEntries.{one_entry}
 use Rattle.rtl_form.specs.declared.rtl.Cell as cells
 use Rattle.rtl_form.specs.declared.rtl.RtlExpr.{RtlExpr}
 use Rattle.rtl_form.specs.declared.rtl.RtlExpr.TheVariants.{Number, Truth, Apply}
@@ -56,7 +58,7 @@ use Rattle.process_plan.specs.Bill.{copy_bill}
 use Rattle.process_plan.specs.Enables.{copy_of, IsCopy}
 use Rattle.process_plan.specs.Fits.{ExprFitsIn, HasSortIn}
 use Rattle.process_plan.proofs.Keeping.{keeps_22, keeps_23, keeps_24}
-use Rattle.process_plan.proofs.Members.{between_in, one_entry, only_one}
+use Rattle.process_plan.proofs.Members.{between_in}
 use Rattle.process_plan.proofs.Sorts.{IsSorted, copy_fits}
 use Rattle.process_layout.specs.Steps.{Keeps}
 use Rattle.process_enables.specs.Adding.{IsPut}
@@ -163,7 +165,7 @@ copied_none p roles xs n exprs e is = subst (λ ys. AreCopiedFrom p roles xs n y
           refl,
           tt,
           λ a c. subst (λ n. (n < 1) × HasSortIn xs (Truth true ∷ Apply Not 0 (0 ∷ []) ∷ []) n false)
-              (only_one a 0 c) (omega arith, (Truth true, (omega arith, refl), refl)),
+              (only_one 0 a c) (omega arith, (Truth true, (omega arith, refl), refl)),
         )
     both_fit (suc (suc k)) x (lt, same) = absurd (omega (arith, lt))
 

@@ -5,8 +5,6 @@ use Rattle.std.proofs.Common.{
   inr,
   ◌∙◌,
   ℕ,
-  zero,
-  suc,
   List,
   [],
   ◌∷◌,
@@ -19,16 +17,17 @@ use Rattle.std.proofs.Common.{
   subst,
   arith,
   length,
-  map,
   take,
 }
-use Rattle.std.specs.Prelude.{Contains}
 use Rattle.std.specs.List.{sum_by}
 use Rattle.mp_base.specs.declared.op.Op.TheVariants.{Not}
+use Rattle.mp_base.proofs.Contents.{contains_behind as there, contains_map}
+use Rattle.mp_base.proofs.Lists.{take_whole}
 use Rattle.mp_program.specs.declared.program.Branch.{Branch}
 use Rattle.mp_program.specs.declared.program.Process.{Process}
 use Rattle.mp_program.specs.declared.program.Program.{Program}
 use Rattle.mp_rules.specs.Breaking.{IsUnbroken}
+use Rattle.mp_rules.proofs.ListEntries.{some_entry}
 use Rattle.rtl_form.specs.declared.rtl.Cell as cells
 use Rattle.rtl_form.specs.declared.rtl.RtlExpr.{RtlExpr}
 use Rattle.rtl_form.specs.declared.rtl.RtlExpr.TheVariants.{Truth, Apply}
@@ -42,28 +41,19 @@ use Rattle.process_plan.specs.Active.{IsRoot}
 use Rattle.process_plan.specs.Enables.{HasEnable, AreEnables, IsOriginExpr, copy_of}
 use Rattle.process_plan.specs.Bill.{first_bill}
 use Rattle.process_plan.specs.Fits.{HasSortIn}
-use Rattle.process_plan.proofs.Members.{there, some_entry}
 use Rattle.process_plan.proofs.Sorts.{copy_wanted}
 use Rattle.process_layout.specs.Counts.{guards_of}
 use Rattle.process_layout.specs.Steps.{Keeps, IsEnabling}
+use Rattle.process_layout.proofs.Keeping.{keeps_more}
 use Rattle.process_enables.specs.Forms.{AreFit, GuardsAreBits, EnablesBelow}
 use Rattle.process_enables.specs.Copies.{AreCopiedFrom}
 use Rattle.process_enables.specs.Places.{PutsAllPlaces}
 use Rattle.process_enables.specs.Roots.{IsRootAt, AreRootsBefore}
-use Rattle.process_enables.proofs.Adding.{keeps_more, bit_kept}
+use Rattle.process_enables.proofs.Adding.{bit_kept}
 use Rattle.process_enables.proofs.Copying.{sorted_of}
 use Rattle.process_enables.proofs.Placing.{place_kept}
 use Rattle.process_enables.proofs.Forming.{guards_in}
 use Rattle.process_enables.proofs.Calling.{calls_within}
-
-take_all : {X : Type 0} (xs : List X) → take (length xs) xs ≡ xs
-take_all [] = refl
-take_all (x ∷ xs) = ap (λ ys. x ∷ ys) (take_all xs)
-
-in_map_of : {X Y : Type 0} (f : X → Y) (xs : List X) (x : X) → Contains xs x → Contains (map f xs) (f x)
-in_map_of f [] x (k, lt, is) = absurd (omega (arith, lt))
-in_map_of f (y ∷ ys) x (zero, lt, is) = (zero, omega arith, ap f is)
-in_map_of f (y ∷ ys) x (suc k, lt, is) = there (f x) (f y) (map f ys) (in_map_of f ys x (k, omega (arith, lt), is))
 
 module _ (p : Program) (roles : List Role) (xs : List cells.Cell) (are : AreCells p roles xs) (unbroken : IsUnbroken p)
     (known : Known p) (first mid last : List RtlExpr) (places : List (List ℕ)) (old new : List (Option Enable))
@@ -80,7 +70,7 @@ module _ (p : Program) (roles : List Role) (xs : List cells.Cell) (are : AreCell
       copy_wanted p roles xs are mid sorted b.guard x false at_x
       (λ z at_z. let (w, at_w, copy) = copied.copies b.guard z (omega arith) at_z in
       (w, (put.added).kept (copy_of p b.guard) w at_w, copy))
-      (inr (inl (f, y, bs, at, is, in_map_of (λ (t : Branch). t.guard) bs b c, refl)))
+      (inr (inl (f, y, bs, at, is, contains_map (λ (t : Branch). t.guard) bs b c, refl)))
 
   origin_bit : (o : Origin) (f a : ℕ) → IsRootAt p places o f a → HasSortIn xs mid a false
   origin_bit Always f a (c, zero_is) = subst (λ n. HasSortIn xs mid n false) (sym zero_is)
@@ -150,9 +140,9 @@ module _ (p : Program) (roles : List Role) (xs : List cells.Cell) (are : AreCell
         let c = below.cost in
         let d : sum_by (λ (q : Process). first_bill (length q.forms)) (take (length p.processes) p.processes)
         ≡ sum_by (λ (q : Process). first_bill (length q.forms)) p.processes =
-        ap (λ qs. sum_by (λ (q : Process). first_bill (length q.forms)) qs) (take_all p.processes) in
+        ap (λ qs. sum_by (λ (q : Process). first_bill (length q.forms)) qs) (take_whole p.processes) in
         let e : guards_of (take (length p.forms) p.forms) new ≡ guards_of p.forms new =
-        ap (λ ys. guards_of ys new) (take_all p.forms) in
+        ap (λ ys. guards_of ys new) (take_whole p.forms) in
         omega (arith, a, b, c, d, e);
     called = calls_within p known last roles new are_enables;
   }

@@ -29,6 +29,7 @@ use Rattle.std.proofs.Common.{
 use Rattle.std.specs.Prelude.{Contains, slice_index_or}
 use Rattle.std.proofs.lemmas.Bool.{cases_lt}
 use Rattle.mp_base.specs.declared.op.Op.TheVariants.{And, Not}
+use Rattle.mp_base.proofs.Contents.{contains_from_map}
 use Rattle.mp_program.specs.declared.program.FormKind.{FormKind}
 use Rattle.mp_program.specs.declared.program.FormKind.TheVariants.{Set, Cond, Par, Go, Call, Return}
 use Rattle.mp_program.specs.declared.program.Branch.{Branch}
@@ -36,6 +37,7 @@ use Rattle.mp_program.specs.declared.program.Form.{Form}
 use Rattle.mp_program.specs.declared.program.Program.{Program}
 use Rattle.mp_program.specs.Sound.{IsSound, InnerFit, BranchesFit}
 use Rattle.mp_rules.specs.Entries.{IsAt}
+use Rattle.mp_rules.proofs.ListEntries.{one_entry, some_entry}
 use Rattle.rtl_form.specs.declared.rtl.Cell.{Cell}
 use Rattle.rtl_form.specs.declared.rtl.RtlExpr.{RtlExpr}
 use Rattle.rtl_form.specs.declared.rtl.RtlExpr.TheVariants.{Apply}
@@ -44,9 +46,10 @@ use Rattle.process_plan.specs.declared.enable.Enable.{Enable}
 use Rattle.process_plan.specs.Bill.{exprs_cost, branches_bill}
 use Rattle.process_plan.specs.Enables.{HasEnable, copy_of, BranchEnables, InnerEnables, StandsInside}
 use Rattle.process_plan.specs.Fits.{HasSortIn}
-use Rattle.process_plan.proofs.Members.{between_in, one_entry, some_entry, cases_of, in_map}
+use Rattle.process_plan.proofs.Members.{between_in, cases_of}
 use Rattle.process_layout.specs.Counts.{guards_of}
 use Rattle.process_layout.specs.Steps.{Keeps}
+use Rattle.process_layout.proofs.Keeping.{keeps_same, keeps_more}
 use Rattle.process_enables.specs.Forms.{
   KeepsEnables,
   Assigns,
@@ -56,7 +59,7 @@ use Rattle.process_enables.specs.Forms.{
   EnablesInner,
   EnablesBelow,
 }
-use Rattle.process_enables.proofs.Adding.{keeps_same, keeps_more, bit_kept}
+use Rattle.process_enables.proofs.Adding.{bit_kept}
 use Rattle.process_enables.proofs.Assigning.{same_enables, more_enables, one_enable}
 use Rattle.process_enables.proofs.Guarding.{guards_kept, guards_more}
 
@@ -187,7 +190,7 @@ inner_cond p f y bs x exprs more old new at is has entered = record {
       (λ _. HasSortIn xs exprs a false) [
         | inl same ↦ subst (λ n. HasSortIn xs exprs n false) same (fit.bits f x.expr x.origin has)
         | inr among ↦
-            let (b, cb, same) = in_map (λ (b : Branch). copy_of p b.guard) bs a among in
+            let (b, cb, same) = contains_from_map (λ (b : Branch). copy_of p b.guard) bs a among in
             subst (λ n. HasSortIn xs exprs n false) same (bits f y bs b at is cb)
       ]) fit;
 }

@@ -36,6 +36,7 @@ use Rattle.mp_program.specs.declared.program.Process.{Process}
 use Rattle.mp_program.specs.declared.program.Program.{Program}
 use Rattle.mp_rules.specs.Breaking.{IsUnbroken}
 use Rattle.mp_rules.specs.Entries.{IsAt}
+use Rattle.mp_rules.proofs.ListEntries.{contains_from_at, one_entry, some_entry, at_push_cases}
 use Rattle.rtl_form.specs.declared.rtl.Cell as cells
 use Rattle.rtl_form.specs.declared.rtl.RtlExpr.{RtlExpr}
 use Rattle.rtl_form.specs.declared.rtl.RtlExpr.TheVariants.{Truth, Cell, Apply}
@@ -46,15 +47,13 @@ use Rattle.process_plan.specs.Bill.{first_bill}
 use Rattle.process_plan.specs.Enables.{ArePlaceExprs, IsPlaceExpr}
 use Rattle.process_plan.specs.Fits.{ExprFitsIn, HasSortIn}
 use Rattle.process_plan.proofs.Keeping.{keeps_36}
-use Rattle.process_plan.proofs.Members.{one_entry, some_entry, in_entry, entry_in}
+use Rattle.process_plan.proofs.Members.{in_entry}
 use Rattle.process_layout.specs.Steps.{Keeps}
+use Rattle.process_layout.proofs.Keeping.{keeps_same, keeps_more}
 use Rattle.process_enables.specs.Adding.{IsPut}
 use Rattle.process_enables.specs.Copies.{HasTruth}
 use Rattle.process_enables.specs.Places.{Adds, PutsFirst, ArePlaces, PutsPlaces, PutsAllPlaces}
 use Rattle.process_enables.proofs.Adding.{
-  keeps_same,
-  keeps_more,
-  added_at,
   put_at,
   put_keeps,
   put_cost,
@@ -113,7 +112,7 @@ cells_more p roles xs are k n exprs now next others c e below role put =
             let a = put_cost now (Cell c) next e put in let b = (below.added).cost in omega (arith, a, b);
       };
       size = let s = length-append others (e ∷ []) in omega (arith, s, size);
-      each = λ i a at. elim (added_at others e a i at) [
+      each = λ i a at. elim (at_push_cases others e i a at) [
         | inl before ↦
             let (d, of, made) = below.each i a before in (d, of, put_keeps now (Cell c) next e put a (Cell d) made)
         | inr (last, is) ↦
@@ -148,7 +147,7 @@ all_cells p roles xs are k q exprs now others at_q below = record {
       let (d, of, made) = below.each (j - 1) a at in
       let e : suc (j - 1) ≡ j = omega (arith, some) in
       let one : d ≡ c = are.once d c (Placed k j) (subst (λ n. IsAt roles d (Placed k n)) e of) role in
-      (a, entry_in others (j - 1) a at, subst (λ n. IsAt now a (Cell n)) one made);
+      (a, contains_from_at others (j - 1) a at, subst (λ n. IsAt now a (Cell n)) one made);
 }
 
 pub places_are : (p : Program) (roles : List Role) (xs : List cells.Cell) → AreCells p roles xs → IsUnbroken p → (k : ℕ)
@@ -312,7 +311,7 @@ all_more p roles xs n exprs now more ess es lt done put =
           (sym (sum_more (λ (t : Process). first_bill (length t.forms)) p.processes n q at_q))
           (adds_more p.width xs _ (first_bill (length q.forms)) exprs now more done.added step);
       size = let s = length-append ess (es ∷ []) in omega (arith, s, size);
-      sizes = λ k r fs at_r at. elim (added_at ess es fs k at) [
+      sizes = λ k r fs at_r at. elim (at_push_cases ess es k fs at) [
         | inl before ↦ done.sizes k r fs at_r before
         | inr (last, is) ↦
             let here : k ≡ n = omega (arith, last, size) in
@@ -320,7 +319,7 @@ all_more p roles xs n exprs now more ess es lt done put =
             (one_entry p.processes n q r at_q (subst (λ j. IsAt p.processes j r) here at_r)) in
             ap length is ∙ step_size ∙ forms
       ];
-      places = λ k fs at. elim (added_at ess es fs k at) as (λ _. ArePlaces p roles xs more k fs) [
+      places = λ k fs at. elim (at_push_cases ess es k fs at) as (λ _. ArePlaces p roles xs more k fs) [
         | inl before ↦ places_kept p roles xs now more step.kept k fs (done.places k fs before)
         | inr (last, is) ↦
             let here : k ≡ n = omega (arith, last, size) in

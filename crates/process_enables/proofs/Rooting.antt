@@ -11,8 +11,6 @@ use Rattle.std.proofs.Common.{
   ◌+◌,
   ◌<◌,
   List,
-  [],
-  ◌∷◌,
   Option,
   Some,
   None,
@@ -27,34 +25,31 @@ use Rattle.std.proofs.Common.{
 use Rattle.std.specs.Prelude.{Contains}
 use Rattle.std.specs.List.{AllByRecursion}
 use Rattle.std.proofs.lemmas.Bool.{cases_lt}
+use Rattle.mp_base.proofs.Contents.{holds_of_contained}
 use Rattle.mp_program.specs.declared.program.Process.{Process}
 use Rattle.mp_program.specs.declared.program.Program.{Program}
 use Rattle.mp_program.specs.Sound.{IsSound}
 use Rattle.mp_rules.specs.Entries.{IsAt}
+use Rattle.mp_rules.proofs.ListEntries.{contains_from_at, one_entry}
 use Rattle.process_plan.specs.declared.enable.Origin.{Origin}
 use Rattle.process_plan.specs.declared.enable.Origin.TheVariants.{Always, At}
 use Rattle.process_plan.specs.declared.enable.Enable.{Enable}
 use Rattle.process_plan.specs.Enables.{HasEnable}
-use Rattle.process_plan.proofs.Members.{one_entry, nowhere, entry_in}
 use Rattle.process_enables.specs.Forms.{KeepsEnables, Assigns}
 use Rattle.process_enables.specs.Roots.{AssignsPlaces, IsRootAt, IsBefore, AreRootsBefore}
 use Rattle.process_enables.proofs.Assigning.{Sets, same_enables, more_enables}
 
 -- ---- forms that are there
 
-all_in : {X : Type 0} (P : X → Type 0) (xs : List X) (x : X) → AllByRecursion P xs → Contains xs x → P x
-all_in P [] x all c = absurd (nowhere x c)
-all_in P (y ∷ ys) x all (zero, lt, is) = subst P is all.0
-all_in P (y ∷ ys) x all (suc k, lt, is) = all_in P ys x all.1 (k, omega (arith, lt), is)
-
 pub always_in : (p : Program) → IsSound p → (f : ℕ) → Contains p.always f → f < length p.forms
-always_in p sound f c = all_in (λ g. g < length p.forms) p.always f sound.always c
+always_in p sound f c = holds_of_contained (λ g. g < length p.forms) p.always f sound.always c
 
 pub process_in : (p : Program) → IsSound p → (k : ℕ) (q : Process) → IsAt p.processes k q → (f : ℕ) → Contains q.forms f
     → f < length p.forms
-process_in p sound k q at f c = all_in (λ g. g < length p.forms) q.forms f
-    (all_in (λ (r : Process). AllByRecursion (λ g. g < length p.forms) r.forms) p.processes q sound.processes
-    (entry_in p.processes k q at)) c
+process_in p sound k q at f c = holds_of_contained (λ g. g < length p.forms) q.forms f
+    (holds_of_contained
+    (λ (r : Process). AllByRecursion (λ g. g < length p.forms) r.forms) p.processes q sound.processes
+    (contains_from_at p.processes k q at)) c
 
 -- ---- the forms of a process
 

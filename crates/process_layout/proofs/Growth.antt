@@ -8,7 +8,6 @@ use Rattle.std.proofs.Common.{
   ◌+◌,
   ◌-◌,
   ◌<◌,
-  ◌≤◌,
   List,
   [],
   ◌∷◌,
@@ -61,6 +60,7 @@ use Rattle.mp_program.specs.Names.{is_input, is_output, pad_number}
 use Rattle.mp_program.specs.Sound.{IsSound}
 use Rattle.mp_program.specs.Weight.{calls_in}
 use Rattle.mp_rules.specs.Entries.{IsAt}
+use Rattle.mp_rules.proofs.ListEntries.{get_at}
 use Rattle.rtl_form.specs.declared.rtl.Cell.{Cell}
 use Rattle.process_plan.specs.declared.role.Role.{Role}
 use Rattle.process_plan.specs.declared.role.Role.TheVariants.{Placed, Stacked}
@@ -80,7 +80,7 @@ use Rattle.process_layout.specs.Laying.{
   returns_to,
   value_roles,
 }
-use Rattle.process_layout.proofs.Roles.{got, cell_got, no_entries}
+use Rattle.process_layout.proofs.Roles.{cell_got, no_entries}
 use Rattle.process_layout.proofs.Whole.{are_cells}
 
 -- ---- cells
@@ -152,10 +152,6 @@ counted_more test ds d y (lt, is) = pick (test y) refl
     pick false e =
         let same = count_by_more_no test ds d y lt (ap test (sym is) ∙ e) in omega (arith, same)
 
-pub one_low : (b : Bool) → (if b then 1 else 0) ≤ 1
-one_low true = omega arith
-one_low false = omega arith
-
 pub inputs_more : (ds : List Def) (d : ℕ) (y : Def) → IsAt ds d y
     → pad_number ds (d + 1) ≡ pad_number ds d + (if is_input y.what then 1 else 0)
 inputs_more ds d y at = counted_more (λ (x : Def). is_input x.what) ds d y at
@@ -212,7 +208,7 @@ pub process_more : (calling : ℕ → Bool) (qs : List Process) (k : ℕ) (q : P
     → processes_roles calling qs (k + 1) ≡ processes_roles calling qs k ++ process_roles calling k q
 process_more calling qs k q at =
     ap (processes_roles calling qs) (add-one k)
-    ∙ ap (λ o. processes_roles calling qs k ++ option_map_or (process_roles calling k) o []) (got qs k q at)
+    ∙ ap (λ o. processes_roles calling qs k ++ option_map_or (process_roles calling k) o []) (get_at qs k q at)
 
 -- the next process
 pub process_next : (calling : ℕ → Bool) (qs : List Process) (k : ℕ) (q : Process) (before laid now : List Role)
@@ -265,10 +261,6 @@ module _ (ds : List Def) (i : ℕ) (r : Def) (lt : i < length ds) where
       ∙ sym (outputs_more ds i this is_this)
 
 -- ---- results
-
-pub ok_then : {X E : Type 0} (r : Result X E) (P Q : X → Type 0) → ((x : X) → P x → Q x) → IfOk r P → IfOk r Q
-ok_then (Ok x) P Q so p = so x p
-ok_then (Err e) P Q so p = tt
 
 pub ok_both : {X E : Type 0} (r : Result X E) (P Q S : X → Type 0) → ((x : X) → P x → Q x → S x) → IfOk r P
     → IfOk r Q → IfOk r S

@@ -33,9 +33,10 @@ use Rattle.mp_rules.specs.Entries.{IsAt}
 use Rattle.process_plan.specs.declared.role.Role.{Role}
 use Rattle.process_plan.specs.declared.role.Role.TheVariants.{Value, Placed, Stacked}
 use Rattle.std.specs.BTreeMap.{BTreeMap, get}
+use Rattle.mp_rules.proofs.ListEntries.{at_pushed}
 use Rattle.process_layout.specs.declared.index.RoleIndex.{RoleIndex}
 use Rattle.process_layout.specs.Index.{IsCellFor, IsIndexOf, pair_cmp, triple_cmp}
-use Rattle.process_layout.proofs.Listing.{at_left, at_end, at_cases}
+use Rattle.process_layout.proofs.Listing.{at_left, at_cases}
 
 -- a test that tells whether something holds
 abbrev pub Tells : Bool → Type 0 → Type 0
@@ -69,7 +70,7 @@ pub next_cell : (roles : List Role) (r s : Role) (c : ℕ) → r ≡ s → lengt
     (Some c)
 next_cell roles r s c same size =
     subst (λ n. IsAt (roles ++ r ∷ []) n s) size (subst (λ t. IsAt (roles ++ r ∷ []) (length roles) t) same
-    (at_end roles r))
+    (at_pushed roles r))
 
 -- whether or not these roles are one
 pub either_cell : (roles : List Role) (r s : Role) (c : ℕ) (b : Bool) (o : Option ℕ) → Tells b (r ≡ s)

@@ -7,3 +7,5 @@ mod Growth
 mod Called
 mod Ordered
 pub mod Returning
+pub mod Keeping
+pub mod Origins

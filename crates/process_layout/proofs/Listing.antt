@@ -12,7 +12,6 @@ use Rattle.std.proofs.Common.{
   [],
   ◌∷◌,
   ◌++◌,
-  refl,
   sym,
   subst,
   arith,
@@ -34,10 +33,6 @@ at_right {X} (z ∷ zs) ys k x at =
     let next : suc (length zs + k) ≡ length (z ∷ zs) + k = omega arith in
     let here : IsAt (z ∷ (zs ++ ys)) (suc (length zs + k)) x = (omega (arith, more), same) in
     subst (λ j. IsAt (z ∷ (zs ++ ys)) j x) next here
-
-pub at_end : {X : Type 0} (xs : List X) (x : X) → IsAt (xs ++ x ∷ []) (length xs) x
-at_end [] x = (omega arith, refl)
-at_end (z ∷ zs) x = let (more, same) = at_end zs x in (omega (arith, more), same)
 
 pub at_cases : {X : Type 0} (xs ys : List X) (k : ℕ) (x : X) → IsAt (xs ++ ys) k x
     → IsAt xs k x ⊎ ((j : ℕ) × (k ≡ length xs + j) × IsAt ys j x)

@@ -2,8 +2,8 @@
 use Rattle.std.proofs.Common.{◌≡◌, inl, inr, ◌∙◌, ℕ, zero, suc, List, [], ◌∷◌, ◌++◌, refl, sym, subst, arith, map}
 use Rattle.std.specs.Prelude.{Contains}
 use Rattle.mp_rules.specs.Entries.{IsAt}
+use Rattle.mp_rules.proofs.ListEntries.{contains_from_at}
 use Rattle.process_plan.proofs.Census.{AreOnce}
-use Rattle.process_plan.proofs.Members.{entry_in}
 use Rattle.process_layout.proofs.Listing.{at_cases}
 
 pub once_none : {X : Type 0} → AreOnce {X = X} []
@@ -18,10 +18,10 @@ pub once_both : {X : Type 0} (xs ys : List X) → AreOnce xs → AreOnce ys
 once_both xs ys one two apart j k x at_j at_k = elim (at_cases xs ys j x at_j) [
   | inl left ↦ elim (at_cases xs ys k x at_k) [
     | inl too ↦ one j k x left too
-    | inr (i, e, right) ↦ absurd (apart x (entry_in xs j x left) (entry_in ys i x right))
+    | inr (i, e, right) ↦ absurd (apart x (contains_from_at xs j x left) (contains_from_at ys i x right))
   ]
   | inr (h, e, right) ↦ elim (at_cases xs ys k x at_k) [
-    | inl left ↦ absurd (apart x (entry_in xs k x left) (entry_in ys h x right))
+    | inl left ↦ absurd (apart x (contains_from_at xs k x left) (contains_from_at ys h x right))
     | inr (i, g, too) ↦ let same = two h i x right too in omega (arith, e, g, same)
   ]
 ]

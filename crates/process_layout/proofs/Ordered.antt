@@ -14,9 +14,7 @@ use Rattle.std.proofs.Common.{
   [],
   ◌∷◌,
   ◌++◌,
-  Bool,
   true,
-  false,
   Option,
   Some,
   None,
@@ -28,9 +26,11 @@ use Rattle.std.proofs.Common.{
   length,
   length-append,
 }
-use Rattle.std.specs.Prelude.{◌&&◌, MatchOption, position, slice_index, slice_index_or}
+use Rattle.std.specs.Prelude.{MatchOption, position, slice_index, slice_index_or}
 use Rattle.std.proofs.lemmas.List.{get_or_default}
 use Rattle.std.proofs.lemmas.List.Quantifiers.{position-Some}
+use Rattle.std.proofs.lemmas.Option.{same_Some}
+use Rattle.mp_base.proofs.Tests.{and_right}
 use Rattle.mp_program.specs.declared.program.What.{What}
 use Rattle.mp_program.specs.declared.program.What.TheVariants.{
   Power,
@@ -50,16 +50,16 @@ use Rattle.mp_program.specs.declared.program.Program.{Program}
 use Rattle.mp_program.specs.Names.{is_driven, is_input_signal, is_reset, pad_number}
 use Rattle.mp_program.specs.Reads.{IsOrder}
 use Rattle.mp_rules.specs.Entries.{IsAt}
+use Rattle.mp_rules.proofs.ListEntries.{one_entry, at_pushed, number_at}
 use Rattle.rtl_form.specs.declared.rtl.Cell.{Cell}
 use Rattle.rtl_form.specs.declared.rtl.CellKind.TheVariants as kinds
 use Rattle.process_plan.specs.declared.role.Role.{Role}
 use Rattle.process_plan.specs.declared.role.Role.TheVariants.{Value}
 use Rattle.process_plan.specs.Plan.{IsResetCell}
 use Rattle.process_plan.specs.Roles.{AreCells, def_cell}
-use Rattle.process_plan.proofs.Members.{one_entry, some_is}
 use Rattle.process_layout.specs.Index.{IsCellFor}
 use Rattle.process_layout.specs.Layouts.{HaveCells, IsOrderOf}
-use Rattle.process_layout.proofs.Listing.{at_left, at_end}
+use Rattle.process_layout.proofs.Listing.{at_left}
 
 -- ---- an order
 
@@ -73,9 +73,6 @@ none_ordered roles order cells is = record {
   size = ap length is;
   each = λ k d lt at. absurd (omega (arith, lt));
 }
-
-number_at : (xs : List ℕ) (i d : ℕ) → IsAt xs i d → slice_index xs i ≡ d
-number_at xs i d (lt, is) = get_or_default xs i 0 d lt ∙ sym is
 
 last_or_below : (k i : ℕ) → k < i + 1 → (k ≡ i) ⊎ (k < i)
 last_or_below zero zero lt = inl refl
@@ -96,7 +93,7 @@ more_ordered roles order cells now i c are at is =
           × IsAt roles b (Value d)) [
             | inl same ↦
                 let there : IsAt (cells ++ c ∷ []) k c =
-                subst (λ n. IsAt (cells ++ c ∷ []) n c) (size ∙ sym same) (at_end cells c) in
+                subst (λ n. IsAt (cells ++ c ∷ []) n c) (size ∙ sym same) (at_pushed cells c) in
                 let value : slice_index order i ≡ d =
                 number_at order i d (subst (λ n. IsAt order n d) same at_d) in
                 (c, there, subst (λ n. IsAt roles c (Value n)) value at)
@@ -153,10 +150,6 @@ reset_kind ds d Phia h = absurd (cc)
 reset_kind ds d Phib h = absurd (cc)
 reset_kind ds d Phic h = absurd (cc)
 
-second_of : (a b : Bool) → (a && b) ≡ true → b ≡ true
-second_of true b h = h
-second_of false b h = absurd (cc)
-
 abbrev IsOfReset : Program → List Cell → Option ℕ → Option ℕ → Type 0
 IsOfReset p cells reset found = MatchOption found (reset ≡ None) (λ d.
     (c : ℕ) × (x : Cell) × (reset ≡ Some c) × IsAt cells c x × (x.kind ≡ kinds.Input (pad_number p.defs d)))
@@ -175,7 +168,7 @@ module _ (p : Program) (roles : List Role) (cells : List Cell) (are : AreCells p
       let (x, made, kind) = reset_kind p.defs d y.what signal in
       let (z, at_z, (w, at_w, made_z)) = are.each c (Value d) at_c in
       let same : w ≡ y = one_entry p.defs d w y at_w at in
-      let one : z ≡ x = some_is z x (sym made_z ∙ ap (λ (v : Def). def_cell p.defs d v.what) same ∙ made) in
+      let one : z ≡ x = same_Some z x (sym made_z ∙ ap (λ (v : Def). def_cell p.defs d v.what) same ∙ made) in
       (c, z, refl, at_z, ap (λ (v : Cell). v.kind) one ∙ kind)
 
   pub some_reset : (d : ℕ) → position is_reset p.defs ≡ Some d → (o : Option ℕ) → IsCellFor roles (Value d) o
@@ -190,4 +183,4 @@ module _ (p : Program) (roles : List Role) (cells : List Cell) (are : AreCells p
           let (lt, passes, first) = position-Some is_reset p.defs d z found in
           let y : Def = slice_index_or p.defs d z in
           let at : IsAt p.defs d y = (lt, get_or_default p.defs d z y lt) in
-          found_reset d y at (second_of _ (is_input_signal y.what) passes) o cell
+          found_reset d y at (and_right _ (is_input_signal y.what) passes) o cell

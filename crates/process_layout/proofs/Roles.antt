@@ -27,51 +27,40 @@ use Rattle.std.proofs.Common.{
   arith,
   map,
 }
-use Rattle.std.specs.Prelude.{Contains, if◌then◌else◌, slice_get, slice_index}
+use Rattle.std.specs.Prelude.{Contains, if◌then◌else◌, slice_index}
 use Rattle.std.specs.Option.{option_map_or}
 use Rattle.std.proofs.lemmas.List.Elements.{Contains-append_left, Contains-append_right, Contains-append_cases}
+use Rattle.mp_base.proofs.Contents.{contains_head, nothing_in, only_one, contains_from_map, contains_map}
+use Rattle.mp_base.proofs.Numbers.{below_or_last}
 use Rattle.mp_program.specs.declared.program.Def.{Def}
 use Rattle.mp_rules.specs.Entries.{IsAt}
+use Rattle.mp_rules.proofs.ListEntries.{get_at}
 use Rattle.rtl_form.specs.declared.rtl.Cell.{Cell}
 use Rattle.process_plan.specs.declared.role.Role.{Role}
 use Rattle.process_plan.specs.declared.role.Role.TheVariants.{Value, Placed, Stacked}
 use Rattle.process_plan.specs.Roles.{def_cell}
 use Rattle.process_plan.proofs.Census.{AreOnce}
-use Rattle.process_plan.proofs.Members.{here, nowhere, only_one, in_map}
+use Rattle.process_plan.proofs.Enables.{place_of}
 use Rattle.process_layout.specs.Laying.{cell_at, entry_roles, own_role, place_roles, returns_to, value_roles}
 use Rattle.process_layout.proofs.Once.{once_none, once_one, once_both, once_mapped}
 
 -- ---- numbers below a number
 
-pub below_or_last : (k n : ℕ) → k < suc n → (k ≡ n) ⊎ (k < n)
-below_or_last zero zero lt = inl refl
-below_or_last zero (suc n) lt = inr (omega arith)
-below_or_last (suc k) zero lt = absurd (omega (arith, lt))
-below_or_last (suc k) (suc n) lt = elim (below_or_last k n (omega (arith, lt))) [
-  | inl e ↦ inl (ap suc e)
-  | inr h ↦ inr (omega (arith, h))
-]
-
-pub got : {X : Type 0} (xs : List X) (k : ℕ) (x : X) → IsAt xs k x → slice_get xs k ≡ Some x
-got [] k x (lt, is) = absurd (omega (arith, lt))
-got (y ∷ ys) zero x (lt, is) = ap Some (sym is)
-got (y ∷ ys) (suc k) x (lt, is) = got ys k x (omega (arith, lt), is)
-
 -- ---- definitions
 
 pub cell_got : (ds : List Def) (d : ℕ) (y : Def) → IsAt ds d y → cell_at ds d ≡ def_cell ds d y.what
-cell_got ds d y at = ap (λ o. option_map_or (λ (x : Def). def_cell ds d x.what) o None) (got ds d y at)
+cell_got ds d y at = ap (λ o. option_map_or (λ (x : Def). def_cell ds d x.what) o None) (get_at ds d y at)
 
 in_own : (d : ℕ) (o : Option Cell) (s : Role) → Contains (own_role d o) s → (s ≡ Value d) × ((x : Cell) × (o ≡ Some x))
-in_own d (Some x) s c = (sym (only_one s (Value d) c), (x, refl))
-in_own d None s c = absurd (nowhere s c)
+in_own d (Some x) s c = (sym (only_one (Value d) s c), (x, refl))
+in_own d None s c = absurd (nothing_in s c)
 
 -- what is among the roles of the first n definitions
 abbrev pub IsOfValues : List Def → ℕ → Role → Type 0
 IsOfValues ds n s = (d : ℕ) × (d < n) × (s ≡ Value d) × ((x : Cell) × (cell_at ds d ≡ Some x))
 
 pub in_values : (ds : List Def) (n : ℕ) (s : Role) → Contains (value_roles ds n) s → IsOfValues ds n s
-in_values ds zero s c = absurd (nowhere s c)
+in_values ds zero s c = absurd (nothing_in s c)
 in_values ds (suc n) s c = elim (Contains-append_cases (value_roles ds n) (own_role n (cell_at ds n)) s c) [
   | inl left ↦ let (d, lt, is, made) = in_values ds n s left in (d, omega (arith, lt), is, made)
   | inr right ↦ let (is, made) = in_own n (cell_at ds n) s right in (n, omega arith, is, made)
@@ -86,7 +75,7 @@ value_in ds (suc n) d x lt made = pick (below_or_last d n lt) (λ below. value_i
         → Contains (value_roles ds n ++ own_role n (cell_at ds n)) (Value d)
     pick (inl same) rest = Contains-append_right (value_roles ds n) (own_role n (cell_at ds n)) (Value d)
         (subst (λ k. Contains (own_role k (cell_at ds k)) (Value d)) same
-        (subst (λ o. Contains (own_role d o) (Value d)) (sym made) (here (Value d) [])))
+        (subst (λ o. Contains (own_role d o) (Value d)) (sym made) (contains_head (Value d) [])))
     pick (inr below) rest = Contains-append_left (value_roles ds n) (own_role n (cell_at ds n)) (Value d) (rest below)
 
 once_own : (d : ℕ) (o : Option Cell) → AreOnce (own_role d o)
@@ -114,10 +103,10 @@ abbrev pub IsOfPlaces : ℕ → ℕ → Role → Type 0
 IsOfPlaces k n s = (j : ℕ) × (0 < j) × (j ≤ n) × (s ≡ Placed k j)
 
 pub in_places : (k n : ℕ) (s : Role) → Contains (place_roles k n) s → IsOfPlaces k n s
-in_places k zero s c = absurd (nowhere s c)
+in_places k zero s c = absurd (nothing_in s c)
 in_places k (suc n) s c = elim (Contains-append_cases (place_roles k n) (Placed k (suc n) ∷ []) s c) [
   | inl left ↦ let (j, pos, le, is) = in_places k n s left in (j, pos, omega (arith, le), is)
-  | inr right ↦ (suc n, omega arith, omega arith, sym (only_one s (Placed k (suc n)) right))
+  | inr right ↦ (suc n, omega arith, omega arith, sym (only_one (Placed k (suc n)) s right))
 ]
 
 pub place_in : (k n j : ℕ) → 0 < j → j ≤ n → Contains (place_roles k n) (Placed k j)
@@ -128,31 +117,20 @@ place_in k (suc n) j pos le = pick (below_or_last j (suc n) (omega (arith, le)))
     pick : (j ≡ suc n) ⊎ (j < suc n) → (j < suc n → Contains (place_roles k n) (Placed k j))
         → Contains (place_roles k n ++ Placed k (suc n) ∷ []) (Placed k j)
     pick (inl same) rest = Contains-append_right (place_roles k n) (Placed k (suc n) ∷ []) (Placed k j)
-        (subst (λ m. Contains (Placed k m ∷ []) (Placed k j)) same (here (Placed k j) []))
+        (subst (λ m. Contains (Placed k m ∷ []) (Placed k j)) same (contains_head (Placed k j) []))
     pick (inr below) rest = Contains-append_left (place_roles k n) (Placed k (suc n) ∷ []) (Placed k j) (rest below)
-
-abbrev place_of : Role → ℕ
-place_of (Value d) = 0
-place_of (Placed k j) = j
-place_of (Stacked k l j) = j
 
 abbrev level_of : Role → ℕ
 level_of (Value d) = 0
 level_of (Placed k j) = 0
 level_of (Stacked k l j) = l
 
--- the process of a role
-abbrev pub process_of : Role → ℕ
-process_of (Value d) = 0
-process_of (Placed k j) = k
-process_of (Stacked k l j) = k
-
 pub once_places : (k n : ℕ) → AreOnce (place_roles k n)
 once_places k zero = once_none
 once_places k (suc n) = once_both (place_roles k n) (Placed k (suc n) ∷ []) (once_places k n)
     (once_one (Placed k (suc n))) (λ s left right.
     let (j, pos, le, is) = in_places k n s left in
-    let same : j ≡ suc n = ap place_of (sym is ∙ sym (only_one s (Placed k (suc n)) right)) in
+    let same : j ≡ suc n = ap place_of (sym is ∙ sym (only_one (Placed k (suc n)) s right)) in
     omega (arith, le, same))
 
 -- ---- places to which calls return
@@ -162,8 +140,8 @@ abbrev pub IsReturn : (ℕ → Bool) → List ℕ → ℕ → ℕ → Type 0
 IsReturn calling forms n j = (i : ℕ) × (i < n) × (j ≡ suc i) × (calling (slice_index forms i) ≡ true)
 
 in_if : (b : Bool) (i j : ℕ) → Contains (if b then i ∷ [] else []) j → (j ≡ i) × (b ≡ true)
-in_if true i j c = (sym (only_one j i c), refl)
-in_if false i j c = absurd (nowhere j c)
+in_if true i j c = (sym (only_one i j c), refl)
+in_if false i j c = absurd (nothing_in j c)
 
 once_if : (b : Bool) (i : ℕ) → AreOnce (if b then i ∷ [] else [])
 once_if true i = once_one i
@@ -171,7 +149,7 @@ once_if false i = once_none
 
 pub in_returns : (calling : ℕ → Bool) (forms : List ℕ) (n j : ℕ) → Contains (returns_to calling forms n) j
     → IsReturn calling forms n j
-in_returns calling forms zero j c = absurd (nowhere j c)
+in_returns calling forms zero j c = absurd (nothing_in j c)
 in_returns calling forms (suc n) j c =
     elim (Contains-append_cases (returns_to calling forms n)
     (if calling (slice_index forms n) then suc n ∷ [] else []) j c) [
@@ -192,7 +170,7 @@ return_in calling forms (suc n) i lt calls =
         Contains-append_right (returns_to calling forms n)
         (if calling (slice_index forms n) then suc n ∷ [] else []) (suc i)
         (subst (λ m. Contains (if calling (slice_index forms m) then suc m ∷ [] else []) (suc i)) same
-        (subst (λ b. Contains (if b then suc i ∷ [] else []) (suc i)) (sym calls) (here (suc i) [])))
+        (subst (λ b. Contains (if b then suc i ∷ [] else []) (suc i)) (sym calls) (contains_head (suc i) [])))
     pick (inr below) rest =
         Contains-append_left (returns_to calling forms n)
         (if calling (slice_index forms n) then suc n ∷ [] else []) (suc i) (rest below)
@@ -213,17 +191,11 @@ abbrev pub IsOfEntries : ℕ → List ℕ → ℕ → Role → Type 0
 IsOfEntries k js n s = (l j : ℕ) × (l < n) × Contains js j × (s ≡ Stacked k l j)
 
 pub in_entries : (k : ℕ) (js : List ℕ) (n : ℕ) (s : Role) → Contains (entry_roles k js n) s → IsOfEntries k js n s
-in_entries k js zero s c = absurd (nowhere s c)
+in_entries k js zero s c = absurd (nothing_in s c)
 in_entries k js (suc n) s c = elim (Contains-append_cases (entry_roles k js n) (map (Stacked k n) js) s c) [
   | inl left ↦ let (l, j, lt, at, is) = in_entries k js n s left in (l, j, omega (arith, lt), at, is)
-  | inr right ↦ let (j, at, is) = in_map (Stacked k n) js s right in (n, j, omega arith, at, sym is)
+  | inr right ↦ let (j, at, is) = contains_from_map (Stacked k n) js s right in (n, j, omega arith, at, sym is)
 ]
-
-mapped_in : {X Y : Type 0} (f : X → Y) (xs : List X) (x : X) → Contains xs x → Contains (map f xs) (f x)
-mapped_in f [] x c = absurd (nowhere x c)
-mapped_in f (y ∷ ys) x (zero, lt, is) = (zero, omega arith, ap f is)
-mapped_in f (y ∷ ys) x (suc k, lt, is) =
-    let (j, lt2, is2) = mapped_in f ys x (k, omega (arith, lt), is) in (suc j, omega (arith, lt2), is2)
 
 pub entry_in_stack : (k : ℕ) (js : List ℕ) (n l j : ℕ) → l < n → Contains js j
     → Contains (entry_roles k js n) (Stacked k l j)
@@ -234,7 +206,7 @@ entry_in_stack k js (suc n) l j lt c =
     pick : (l ≡ n) ⊎ (l < n) → (l < n → Contains (entry_roles k js n) (Stacked k l j))
         → Contains (entry_roles k js n ++ map (Stacked k n) js) (Stacked k l j)
     pick (inl same) rest = Contains-append_right (entry_roles k js n) (map (Stacked k n) js) (Stacked k l j)
-        (subst (λ m. Contains (map (Stacked k m) js) (Stacked k l j)) same (mapped_in (Stacked k l) js j c))
+        (subst (λ m. Contains (map (Stacked k m) js) (Stacked k l j)) same (contains_map (Stacked k l) js j c))
     pick (inr below) rest = Contains-append_left (entry_roles k js n) (map (Stacked k n) js) (Stacked k l j)
         (rest below)
 
@@ -244,7 +216,7 @@ once_entries k js (suc n) one =
     once_both (entry_roles k js n) (map (Stacked k n) js) (once_entries k js n one)
     (once_mapped (Stacked k n) js (λ i j e. ap place_of e) one) (λ s left right.
     let (l, j, lt, at, is) = in_entries k js n s left in
-    let (i, at_i, is_i) = in_map (Stacked k n) js s right in
+    let (i, at_i, is_i) = contains_from_map (Stacked k n) js s right in
     let same : l ≡ n = ap level_of (sym is ∙ sym is_i) in
     omega (arith, lt, same))
 

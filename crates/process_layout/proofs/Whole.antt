@@ -33,17 +33,22 @@ use Rattle.std.specs.List.{AllByRecursion}
 use Rattle.std.specs.Option.{option_map_or}
 use Rattle.std.proofs.lemmas.Bool.{lt-ltb, ltb-true}
 use Rattle.std.proofs.lemmas.List.Elements.{Contains-append_left, Contains-append_right, Contains-append_cases}
+use Rattle.mp_base.proofs.Contents.{nothing_in}
+use Rattle.mp_base.proofs.Numbers.{below_or_last}
+use Rattle.mp_base.proofs.Lists.{length_map}
 use Rattle.mp_program.specs.declared.program.Process.{Process}
 use Rattle.mp_program.specs.declared.program.Program.{Program}
 use Rattle.mp_program.specs.Sound.{IsSound}
 use Rattle.mp_program.specs.Weight.{calls_in}
 use Rattle.mp_rules.specs.Entries.{IsAt}
+use Rattle.mp_rules.proofs.ListEntries.{contains_from_at, some_entry, get_at, at_get, all_at}
 use Rattle.rtl_form.specs.declared.rtl.Cell.{Cell}
 use Rattle.process_plan.specs.declared.role.Role.{Role}
 use Rattle.process_plan.specs.declared.role.Role.TheVariants.{Value, Placed, Stacked}
 use Rattle.process_plan.specs.Roles.{AreCells, IsCellOf, IsReturnPlace}
 use Rattle.process_plan.proofs.Census.{AreOnce}
-use Rattle.process_plan.proofs.Members.{nowhere, in_entry, entry_in, some_entry, some_is}
+use Rattle.process_plan.proofs.Members.{in_entry}
+use Rattle.process_plan.proofs.Enables.{process_of}
 use Rattle.process_layout.specs.Laying.{
   all_roles,
   cell_at,
@@ -60,10 +65,8 @@ use Rattle.process_layout.proofs.Once.{once_none, once_both}
 use Rattle.process_layout.proofs.Roles.{
   IsOfPlaces,
   IsReturn,
-  below_or_last,
   cell_got,
   entry_in_stack,
-  got,
   in_entries,
   in_places,
   in_returns,
@@ -73,7 +76,6 @@ use Rattle.process_layout.proofs.Roles.{
   once_returns,
   once_values,
   place_in,
-  process_of,
   return_in,
   value_in,
 }
@@ -113,18 +115,13 @@ once_process calling k q =
     let (l, i, lt, at, is_too) = in_entries k (returns_to calling q.forms (length q.forms - 1)) q.depth s right in
     let clash = sym is ∙ is_too in absurd (cc))
 
-at_got : {X : Type 0} (xs : List X) (k : ℕ) (x : X) → slice_get xs k ≡ Some x → IsAt xs k x
-at_got [] k x is = absurd (cc)
-at_got (y ∷ ys) zero x is = (omega arith, sym (some_is y x is))
-at_got (y ∷ ys) (suc k) x is = let (lt, same) = at_got ys k x is in (omega (arith, lt), same)
-
 abbrev maybe_roles : (ℕ → Bool) → ℕ → Option Process → List Role
 maybe_roles calling k o = option_map_or (process_roles calling k) o []
 
 in_maybe : (calling : ℕ → Bool) (k : ℕ) (o : Option Process) (s : Role) → Contains (maybe_roles calling k o) s
     → (q : Process) × (o ≡ Some q) × Contains (process_roles calling k q) s
 in_maybe calling k (Some q) s c = (q, refl, c)
-in_maybe calling k None s c = absurd (nowhere s c)
+in_maybe calling k None s c = absurd (nothing_in s c)
 
 once_maybe : (calling : ℕ → Bool) (k : ℕ) (o : Option Process) → AreOnce (maybe_roles calling k o)
 once_maybe calling k (Some q) = once_process calling k q
@@ -136,14 +133,14 @@ IsOfProcesses calling qs n s = (k : ℕ) × (q : Process) × (k < n) × IsAt qs 
 
 in_processes : (calling : ℕ → Bool) (qs : List Process) (n : ℕ) (s : Role)
     → Contains (processes_roles calling qs n) s → IsOfProcesses calling qs n s
-in_processes calling qs zero s c = absurd (nowhere s c)
+in_processes calling qs zero s c = absurd (nothing_in s c)
 in_processes calling qs (suc n) s c =
     elim (Contains-append_cases (processes_roles calling qs n) (maybe_roles calling n (slice_get qs n)) s c) [
       | inl left ↦
           let (k, q, lt, at, is) = in_processes calling qs n s left in (k, q, omega (arith, lt), at, is)
       | inr right ↦
           let (q, there, is) = in_maybe calling n (slice_get qs n) s right in
-          (n, q, omega arith, at_got qs n q there, in_process calling n q s is)
+          (n, q, omega arith, at_get qs n q there, in_process calling n q s is)
     ]
 
 process_in : (calling : ℕ → Bool) (qs : List Process) (n k : ℕ) (q : Process) (s : Role) → k < n → IsAt qs k q
@@ -157,7 +154,7 @@ process_in calling qs (suc n) k q s lt at c =
     pick (inl same) rest =
         Contains-append_right (processes_roles calling qs n) (maybe_roles calling n (slice_get qs n)) s
         (subst (λ m. Contains (maybe_roles calling m (slice_get qs m)) s) same
-        (subst (λ o. Contains (maybe_roles calling k o) s) (sym (got qs k q at)) c))
+        (subst (λ o. Contains (maybe_roles calling k o) s) (sym (get_at qs k q at)) c))
     pick (inr below) rest =
         Contains-append_left (processes_roles calling qs n) (maybe_roles calling n (slice_get qs n)) s (rest below)
 
@@ -187,15 +184,6 @@ mapped_at f [] k x (lt, is) = absurd (omega (arith, lt))
 mapped_at f (y ∷ ys) zero x (lt, is) = (omega arith, ap f is)
 mapped_at f (y ∷ ys) (suc k) x (lt, is) =
     let (lt2, is2) = mapped_at f ys k x (omega (arith, lt), is) in (omega (arith, lt2), is2)
-
-mapped_length : {X Y : Type 0} (f : X → Y) (xs : List X) → length (map f xs) ≡ length xs
-mapped_length f [] = refl
-mapped_length f (x ∷ xs) = ap suc (mapped_length f xs)
-
-pub all_at : {X : Type 0} (P : X → Type 0) (xs : List X) (k : ℕ) (x : X) → AllByRecursion P xs → IsAt xs k x → P x
-all_at P [] k x all (lt, is) = absurd (omega (arith, lt))
-all_at P (y ∷ ys) zero x all (lt, is) = subst P (sym is) all.0
-all_at P (y ∷ ys) (suc k) x all (lt, is) = all_at P ys k x all.1 (omega (arith, lt), is)
 
 module _ (p : Program) (sound : IsSound p) (calling : ℕ → Bool)
     (calls : (f : ℕ) → f < length p.forms → calling f ≡ nat_lt 0 (calls_in p f)) where
@@ -293,11 +281,11 @@ module _ (p : Program) (sound : IsSound p) (calling : ℕ → Bool)
       → cells ≡ map (cell_for p.defs) roles → AreCells p roles cells
   are_cells roles cells all made = subst (λ xs. AreCells p roles xs) (sym made)
       (subst (λ rs. AreCells p rs (map (cell_for p.defs) rs)) (sym all) (record {
-        size = mapped_length (cell_for p.defs) (all_roles calling p);
+        size = length_map (cell_for p.defs) (all_roles calling p);
         each = λ c s at. (
           cell_for p.defs s,
           mapped_at (cell_for p.defs) (all_roles calling p) c s at,
-          each_cell s (entry_in (all_roles calling p) c s at),
+          each_cell s (contains_from_at (all_roles calling p) c s at),
         );
         all = λ s x is. in_entry (all_roles calling p) s (all_cells s x is);
         once = λ c d s at_c at_d. once_all c d s at_c at_d;

@@ -42,6 +42,10 @@ use Rattle.std.proofs.lemmas.Bool.{lt-ltb, ltb-true}
 use Rattle.std.proofs.lemmas.List.{get_or_default, take-append-drop}
 use Rattle.std.proofs.lemmas.List.Elements.{Contains-append_left, Contains-append_right}
 use Rattle.std.proofs.lemmas.List.Sums.{sum_by-cons, sum_by-append, sum_by_push}
+use Rattle.mp_base.proofs.Numbers.{below_or_last}
+use Rattle.mp_base.proofs.Contents.{contains_map, contains_head, contains_behind, nothing_in}
+use Rattle.mp_base.proofs.Induction.{by_test}
+use Rattle.std.proofs.lemmas.Option.{same_Some}
 use Rattle.mp_program.specs.declared.program.What.{What}
 use Rattle.mp_program.specs.declared.program.What.TheVariants.{
   Power,
@@ -61,11 +65,12 @@ use Rattle.mp_program.specs.declared.program.Process.{Process}
 use Rattle.mp_program.specs.declared.program.Program.{Program}
 use Rattle.mp_program.specs.Weight.{calls_in}
 use Rattle.mp_rules.specs.Entries.{IsAt}
+use Rattle.mp_rules.proofs.ListEntries.{one_entry, some_entry}
 use Rattle.rtl_form.specs.declared.rtl.Cell.{Cell}
 use Rattle.rtl_form.specs.Cost.{cell_cost}
 use Rattle.process_plan.specs.Roles.{Role, Value, Placed, Stacked, AreCells, IsCellOf, def_cell}
 use Rattle.process_plan.specs.Bill.{cells_cost, def_bill, defs_bill}
-use Rattle.process_plan.proofs.Members.{here, there, nowhere, in_entry, one_entry, some_entry, some_is, by_test}
+use Rattle.process_plan.proofs.Members.{in_entry}
 
 -- ---- what is in a list, each once, sums to no more than the list
 
@@ -91,24 +96,24 @@ sum_removed f x (suc k) (y ∷ ys) lt is =
 
 still_in : {X : Type 0} (x z : X) (k : ℕ) (ys : List X) → k < length ys → slice_index_or ys k x ≡ x → Contains ys z
     → (z ≡ x → ⊥) → Contains (removed k ys) z
-still_in x z k [] lt is d other = absurd (nowhere z d)
+still_in x z k [] lt is d other = absurd (nothing_in z d)
 still_in x z zero (y ∷ ys) lt is (zero, lt2, is2) other = absurd (other (sym is2 ∙ is))
 still_in x z zero (y ∷ ys) lt is (suc j, lt2, is2) other = (j, omega (arith, lt2), is2)
 still_in x z (suc k) (y ∷ ys) lt is (zero, lt2, is2) other = (zero, omega arith, is2)
 still_in x z (suc k) (y ∷ ys) lt is (suc j, lt2, is2) other =
-    there z y (removed k ys) (still_in x z k ys (omega (arith, lt)) is (j, omega (arith, lt2), is2) other)
+    contains_behind z y (removed k ys) (still_in x z k ys (omega (arith, lt)) is (j, omega (arith, lt2), is2) other)
 
 pub sum_within : {X : Type 0} (f : X → ℕ) (xs ys : List X) → AreOnce xs → ((x : X) → Contains xs x → Contains ys x)
     → sum_by f xs ≤ sum_by f ys
 sum_within f [] ys once within = omega arith
 sum_within {X} f (x ∷ xs) ys once within =
-    let (k, k_in, k_is) = within x (here x xs) in
+    let (k, k_in, k_is) = within x (contains_head x xs) in
     let total = sum_removed f x k ys k_in k_is in
     let now = sum_by-cons f x xs in
     let rest = sum_within f xs (removed k ys)
     (λ j i y (lt, is) (lt2, is2). let e = once (suc j) (suc i) y (omega (arith, lt), is) (omega (arith, lt2), is2) in
     omega (arith, e))
-    (λ y cy. still_in x y k ys k_in k_is (within y (there y x xs cy)) (λ same. apart y cy same)) in
+    (λ y cy. still_in x y k ys k_in k_is (within y (contains_behind y x xs cy)) (λ same. apart y cy same)) in
     omega (arith, total, now, rest)
   where
     is_x : (y : X) (k : ℕ) → k < length xs → slice_index_or xs k y ≡ y → y ≡ x → slice_index_or xs k x ≡ x
@@ -125,16 +130,6 @@ up_to (suc j) (suc m) le = elim (up_to j m (omega (arith, le))) [
   | inl e ↦ inl (ap suc e)
   | inr l ↦ inr
       (omega (arith, l))
-]
-
-before : (l d : ℕ) → l < suc d → (l ≡ d) ⊎ (l < d)
-before zero zero lt = inl refl
-before zero (suc d) lt = inr (omega arith)
-before (suc l) zero lt = absurd (omega (arith, lt))
-before (suc l) (suc d) lt = elim (before l d (omega (arith, lt))) [
-  | inl e ↦ inl (ap suc e)
-  | inr h ↦ inr
-      (omega (arith, h))
 ]
 
 -- ---- all roles of a program
@@ -174,13 +169,8 @@ in_placed : (k j m : ℕ) → 0 < j → j ≤ m → Contains (placed_to k m) (Pl
 in_placed k j zero pos le = absurd (omega (arith, pos, le))
 in_placed k j (suc m) pos le = elim (up_to j m le) [
   | inl same ↦ (zero, omega arith, ap (Placed k) (sym same))
-  | inr below ↦ there (Placed k j) (Placed k (suc m)) (placed_to k m) (in_placed k j m pos below)
+  | inr below ↦ contains_behind (Placed k j) (Placed k (suc m)) (placed_to k m) (in_placed k j m pos below)
 ]
-
-in_map_of : {X Y : Type 0} (f : X → Y) (xs : List X) (x : X) → Contains xs x → Contains (map f xs) (f x)
-in_map_of f [] x c = absurd (nowhere x c)
-in_map_of f (y ∷ ys) x (zero, lt, is) = (zero, omega arith, ap f is)
-in_map_of f (y ∷ ys) x (suc k, lt, is) = there (f x) (f y) (map f ys) (in_map_of f ys x (k, omega (arith, lt), is))
 
 in_return : (p : Program) (q : Process) (j m : ℕ) → 0 < j → j ≤ m → 0 < calls_in p (slice_index q.forms (j - 1))
     → Contains (return_places p q m) j
@@ -193,7 +183,7 @@ in_return p q j (suc m) pos le calls =
         → (j ≤ m → Contains (return_places p q m) j) → Contains
         (cond b (suc m ∷ return_places p q m) (return_places p q m)) j
     pick true e (inl same) rest = (zero, omega arith, sym same)
-    pick true e (inr below) rest = there j (suc m) (return_places p q m) (rest below)
+    pick true e (inr below) rest = contains_behind j (suc m) (return_places p q m) (rest below)
     pick false e (inr below) rest = rest below
     pick false e (inl same) rest =
         let last : j - 1 ≡ m = omega (arith, same) in
@@ -203,23 +193,23 @@ in_return p q j (suc m) pos le calls =
 
 in_stacked : (k l j : ℕ) (js : List ℕ) (d : ℕ) → l < d → Contains js j → Contains (stacked_below k js d) (Stacked k l j)
 in_stacked k l j js zero lt c = absurd (omega (arith, lt))
-in_stacked k l j js (suc d) lt c = pick (before l d lt) (λ below. in_stacked k l j js d below c)
+in_stacked k l j js (suc d) lt c = pick (below_or_last l d lt) (λ below. in_stacked k l j js d below c)
   where
     pick : (l ≡ d) ⊎ (l < d) → (l < d → Contains (stacked_below k js d) (Stacked k l j))
         → Contains (map (Stacked k d) js ++ stacked_below k js d) (Stacked k l j)
     pick (inl same) rest = Contains-append_left (map (Stacked k d) js) (stacked_below k js d) (Stacked k l j)
-        (subst (λ n. Contains (map (Stacked k d) js) (Stacked k n j)) (sym same) (in_map_of (Stacked k d) js j c))
+        (subst (λ n. Contains (map (Stacked k d) js) (Stacked k n j)) (sym same) (contains_map (Stacked k d) js j c))
     pick (inr below) rest = Contains-append_right (map (Stacked k d) js) (stacked_below k js d) (Stacked k l j)
         (rest below)
 
 in_values : (d n : ℕ) → d < n → Contains (values_below n) (Value d)
 in_values d zero lt = absurd (omega (arith, lt))
-in_values d (suc n) lt = pick (before d n lt) (in_values d n)
+in_values d (suc n) lt = pick (below_or_last d n lt) (in_values d n)
   where
     pick : (d ≡ n) ⊎ (d < n) → (d < n → Contains (values_below n) (Value d))
         → Contains (Value n ∷ values_below n) (Value d)
     pick (inl same) rest = (zero, omega arith, ap Value (sym same))
-    pick (inr below) rest = there (Value d) (Value n) (values_below n) (rest below)
+    pick (inr below) rest = contains_behind (Value d) (Value n) (values_below n) (rest below)
 
 in_processes : (p : Program) (at k : ℕ) (q : Process) (qs : List Process) (s : Role) → IsAt qs k q
     → Contains (process_roles p (at + k) q) s → Contains (processes_roles p at qs) s
@@ -363,14 +353,14 @@ def_costs ds d Phia x h = absurd (cc)
 def_costs ds d Phib x h = absurd (cc)
 def_costs ds d Phic x h = absurd (cc)
 def_costs ds d (Constant c) x h = absurd (cc)
-def_costs ds d Register x h = ap (λ (z : Cell). cell_cost z.kind) (sym (some_is _ x h))
-def_costs ds d Flag x h = ap (λ (z : Cell). cell_cost z.kind) (sym (some_is _ x h))
-def_costs ds d (Port Input) x h = ap (λ (z : Cell). cell_cost z.kind) (sym (some_is _ x h))
-def_costs ds d (Port Output) x h = ap (λ (z : Cell). cell_cost z.kind) (sym (some_is _ x h))
-def_costs ds d (Port Internal) x h = ap (λ (z : Cell). cell_cost z.kind) (sym (some_is _ x h))
-def_costs ds d (Signal Input) x h = ap (λ (z : Cell). cell_cost z.kind) (sym (some_is _ x h))
-def_costs ds d (Signal Output) x h = ap (λ (z : Cell). cell_cost z.kind) (sym (some_is _ x h))
-def_costs ds d (Signal Internal) x h = ap (λ (z : Cell). cell_cost z.kind) (sym (some_is _ x h))
+def_costs ds d Register x h = ap (λ (z : Cell). cell_cost z.kind) (sym (same_Some _ x h))
+def_costs ds d Flag x h = ap (λ (z : Cell). cell_cost z.kind) (sym (same_Some _ x h))
+def_costs ds d (Port Input) x h = ap (λ (z : Cell). cell_cost z.kind) (sym (same_Some _ x h))
+def_costs ds d (Port Output) x h = ap (λ (z : Cell). cell_cost z.kind) (sym (same_Some _ x h))
+def_costs ds d (Port Internal) x h = ap (λ (z : Cell). cell_cost z.kind) (sym (same_Some _ x h))
+def_costs ds d (Signal Input) x h = ap (λ (z : Cell). cell_cost z.kind) (sym (same_Some _ x h))
+def_costs ds d (Signal Output) x h = ap (λ (z : Cell). cell_cost z.kind) (sym (same_Some _ x h))
+def_costs ds d (Signal Internal) x h = ap (λ (z : Cell). cell_cost z.kind) (sym (same_Some _ x h))
 
 -- a cell costs what its role's bill says
 role_costs : (p : Program) (s : Role) (x : Cell) → IsCellOf p s x → cell_cost x.kind ≡ role_bill p.defs s

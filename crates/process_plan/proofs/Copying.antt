@@ -4,6 +4,7 @@ use Rattle.std.specs.Prelude.{slice_index}
 use Rattle.std.proofs.lemmas.List.{get_or-map}
 use Rattle.mp_base.specs.Apply.{apply}
 use Rattle.mp_base.specs.declared.op.Op.TheVariants.{Not}
+use Rattle.mp_base.proofs.Induction.{downward}
 use Rattle.mp_program.specs.declared.program.ExprKind.{ExprKind}
 use Rattle.mp_program.specs.declared.program.ExprKind.TheVariants as source
 use Rattle.mp_program.specs.declared.program.Program.{Program}
@@ -13,6 +14,7 @@ use Rattle.mp_program.specs.State.{State, Seat}
 use Rattle.mp_program.specs.Environment.{IsEnvironment, what_value, driven_value}
 use Rattle.mp_program.specs.Values as from
 use Rattle.mp_rules.specs.Entries.{IsAt}
+use Rattle.mp_rules.proofs.ListEntries.{some_entry}
 use Rattle.rtl_form.specs.declared.rtl.Rtl.{Rtl}
 use Rattle.rtl_form.specs.declared.rtl.RtlExpr.{RtlExpr}
 use Rattle.rtl_form.specs.declared.rtl.RtlExpr.TheVariants.{Truth, Cell, Apply}
@@ -21,7 +23,6 @@ use Rattle.process_plan.specs.Lawful.{Known}
 use Rattle.process_plan.specs.Roles.{Role, Value, role_value, cell_values}
 use Rattle.process_plan.specs.Enables.{Enable, copy_of, IsCopy}
 use Rattle.process_plan.specs.Plan.{FollowsPlan}
-use Rattle.process_plan.proofs.Members.{some_entry, downward}
 
 -- what the laws of transfers say of these
 abbrev pub Valued : Rtl → Type 0

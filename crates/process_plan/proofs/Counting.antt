@@ -1,24 +1,24 @@
 -- A form that calls is counted among the calls.
 use Rattle.std.proofs.Common.{◌≡◌, ◌∙◌, ℕ, zero, suc, ◌+◌, ◌<◌, ◌≤◌, List, [], ◌∷◌, ◌++◌, true, refl, ap, arith, length}
 use Rattle.std.specs.Prelude.{Contains}
-use Rattle.std.specs.List.{sum_by, flat_map}
+use Rattle.std.specs.List.{sum_by}
 use Rattle.std.proofs.lemmas.List.Sums.{sum_by-cons}
+use Rattle.mp_base.proofs.Contents.{nothing_in, only_one}
 use Rattle.mp_program.proofs.Tables.{table_at}
 use Rattle.mp_program.specs.declared.program.FormKind.{FormKind}
 use Rattle.mp_program.specs.declared.program.FormKind.TheVariants.{Set, Cond, Par, Go, Call, Return}
-use Rattle.mp_program.specs.declared.program.Branch.{Branch}
 use Rattle.mp_program.specs.declared.program.Form.{Form}
 use Rattle.mp_program.specs.declared.program.Program.{Program}
 use Rattle.mp_program.specs.Effects.{Effect, Writes, Goes, Calls, Returns, effects_of}
-use Rattle.mp_program.specs.Sound.{AllBetween, BranchesFit, InnerFit}
+use Rattle.mp_program.specs.Sound.{AllBetween}
 use Rattle.mp_program.specs.Values.{value_of}
 use Rattle.mp_program.specs.Weight.{inner, is_call, calls_in}
+use Rattle.mp_program.proofs.Inside.{inner_behind}
 use Rattle.mp_rules.specs.Entries.{IsAt}
 use Rattle.mp_rules.specs.Standing as standing
 use Rattle.mp_rules.specs.Standing.{Under}
 use Rattle.process_plan.specs.Lawful.{Known}
 use Rattle.process_plan.specs.Active.{own_effects}
-use Rattle.process_plan.proofs.Members.{nowhere, only_one}
 use Rattle.process_plan.proofs.Doing.{effect_source}
 use Rattle.process_plan.proofs.Moving.{runs_under}
 use Rattle.process_plan.proofs.Jumping.{is_calling}
@@ -35,20 +35,6 @@ both_lists : (i n : ℕ) (xs ys : List ℕ) → AllBetween i n xs → AllBetween
 both_lists i n [] ys hx hy = hy
 both_lists i n (x ∷ xs) ys (first, rest) hy = (first, both_lists i n xs ys rest hy)
 
-branches_behind : (e i n : ℕ) (bs : List Branch) → BranchesFit e i n bs
-    → AllBetween i n (flat_map (λ (b : Branch). b.body) bs)
-branches_behind e i n [] h = tt
-branches_behind e i n (b ∷ bs) (first, rest) = both_lists i n b.body (flat_map (λ (b : Branch). b.body) bs) first.1
-    (branches_behind e i n bs rest)
-
-inner_behind : (e i n : ℕ) (k : FormKind) → InnerFit e i n k → AllBetween i n (inner k)
-inner_behind e i n (Set x at v) h = tt
-inner_behind e i n (Cond bs) h = branches_behind e i n bs h
-inner_behind e i n (Par fs) h = h
-inner_behind e i n (Go l) h = tt
-inner_behind e i n (Call l) h = tt
-inner_behind e i n Return h = tt
-
 pub calls_is : (p : Program) → Known p → (f : ℕ) (x : Form) → IsAt p.forms f x
     → calls_in p f ≡ is_call x.kind + sum_by (calls_in p) (inner x.kind)
 calls_is p known f x (lt, is) =
@@ -57,7 +43,7 @@ calls_is p known f x (lt, is) =
     (inner_behind (length p.exprs) f (length p.forms) x.kind ((known.sound).forms f x lt is))))
 
 pub in_sum : (v : ℕ → ℕ) (fs : List ℕ) (f : ℕ) → Contains fs f → v f ≤ sum_by v fs
-in_sum v [] f c = absurd (nowhere f c)
+in_sum v [] f c = absurd (nothing_in f c)
 in_sum v (g ∷ fs) f (zero, lt, is) = let e : v g ≡ v f = ap v is in omega (arith, e, sum_by-cons v g fs)
 in_sum v (g ∷ fs) f (suc k, lt, is) = let le = in_sum v fs f (k, omega (arith, lt), is) in
     omega (arith, le, sum_by-cons v g fs)
@@ -71,12 +57,12 @@ under_counts p known f g (standing.deeper {g = h} y at c under) =
     omega (arith, rec, eq, le)
 
 own_call : (v : ℕ → ℕ) (k : FormKind) (m : Effect) → Contains (own_effects v k) m → is_calling m ≡ true → 0 < is_call k
-own_call v (Set x at e) m c h = let clash = ap is_calling (only_one m (Writes x (v e)) c) ∙ h in absurd (cc)
-own_call v (Cond bs) m c h = absurd (nowhere m c)
-own_call v (Par fs) m c h = absurd (nowhere m c)
-own_call v (Go l) m c h = let clash = ap is_calling (only_one m (Goes l) c) ∙ h in absurd (cc)
+own_call v (Set x at e) m c h = let clash = ap is_calling (only_one (Writes x (v e)) m c) ∙ h in absurd (cc)
+own_call v (Cond bs) m c h = absurd (nothing_in m c)
+own_call v (Par fs) m c h = absurd (nothing_in m c)
+own_call v (Go l) m c h = let clash = ap is_calling (only_one (Goes l) m c) ∙ h in absurd (cc)
 own_call v (Call l) m c h = omega arith
-own_call v Return m c h = let clash = ap is_calling (only_one m Returns c) ∙ h in absurd (cc)
+own_call v Return m c h = let clash = ap is_calling (only_one Returns m c) ∙ h in absurd (cc)
 
 -- a form that calls in some clock has a call in it
 pub calls_counted : (p : Program) (env : List ℕ) → Known p → (f : ℕ) → f < length p.forms → (l : List ℕ)

@@ -30,6 +30,8 @@ use Rattle.std.proofs.lemmas.List.Elements.{Contains-append_left, Contains-appen
 use Rattle.std.proofs.lemmas.Slice.Eq.{bytes_eq-Decides}
 use Rattle.mp_base.specs.Merge.{merged}
 use Rattle.mp_base.specs.declared.refusal.Place.{Place}
+use Rattle.mp_base.proofs.Contents.{contains_behind, nothing_in}
+use Rattle.mp_base.proofs.Induction.{by_test}
 use Rattle.mp_program.specs.declared.program.FormKind.{FormKind}
 use Rattle.mp_program.specs.declared.program.FormKind.TheVariants.{Set, Cond, Par, Go, Call, Return}
 use Rattle.mp_program.specs.declared.program.Def.{Def}
@@ -54,7 +56,8 @@ use Rattle.process_plan.specs.Enables.{Enable, copy_of}
 use Rattle.process_plan.specs.Plan.{IsPlanned, sets, falls, lands, returns, pushes, sinks, rises, empties}
 use Rattle.process_plan.proofs.Merging.{same_merge}
 use Rattle.mp_program.proofs.Definitions.{named}
-use Rattle.process_plan.proofs.Members.{there, nowhere, cases_of, in_flat, flat_in, one_entry, by_test}
+use Rattle.mp_rules.proofs.ListEntries.{one_entry}
+use Rattle.process_plan.proofs.Members.{cases_of, in_flat, flat_in}
 use Rattle.process_plan.proofs.Doing.{effect_source, source_effect}
 use Rattle.process_plan.proofs.Copying.{copied}
 use Rattle.process_plan.proofs.Scene.{Scene, in_written, written_in, W, w_forth, w_back}
@@ -62,7 +65,7 @@ use Rattle.process_plan.proofs.Scene.{Scene, in_written, written_in, W, w_forth,
 -- ---- what is active
 
 all_in : (n : ℕ) (fs : List ℕ) (f : ℕ) → AllByRecursion (λ x. x < n) fs → Contains fs f → f < n
-all_in n [] f fit c = absurd (nowhere f c)
+all_in n [] f fit c = absurd (nothing_in f c)
 all_in n (g ∷ fs) f fit (zero, lt, is) = subst (λ x. x < n) is fit.0
 all_in n (g ∷ fs) f fit (suc k, lt, is) = all_in n fs f fit.1 (k, omega (arith, lt), is)
 
@@ -82,7 +85,7 @@ root_in p known (At k i) root (q, at, at_i) =
 
 in_taken : (qs : List Process) (ss : List Seat) (root : ℕ) → SeatsFit qs ss → Contains (places_taken qs ss) root
     → (k : ℕ) × (q : Process) × IsAt qs k q × IsAt q.forms (seat_at ss k).place root
-in_taken [] ss root fit c = absurd (nowhere root c)
+in_taken [] ss root fit c = absurd (nothing_in root c)
 in_taken (q ∷ qs) [] root fit c = absurd fit
 in_taken (q ∷ qs) (s ∷ ss) root fit (zero, lt, is) =
     (zero, q, (omega arith, refl), (fit.0, sym is ∙ get_or_default q.forms s.place 0 root fit.0))
@@ -100,7 +103,7 @@ taken_in (x ∷ qs) (s ∷ ss) zero q root fit (lt, is) (lt2, is2) =
     let e : root ≡ slice_index q.forms s.place = is2 ∙ get_or_default q.forms s.place root 0 lt2 in
     (zero, omega arith, ap (λ (t : Process). slice_index t.forms s.place) (sym is) ∙ sym e)
 taken_in (x ∷ qs) (s ∷ ss) (suc k) q root fit (lt, is) at_i =
-    there root (slice_index x.forms s.place) (places_taken qs ss)
+    contains_behind root (slice_index x.forms s.place) (places_taken qs ss)
     (taken_in qs ss k q root fit.3 (omega (arith, lt), is) at_i)
 
 pub active_root : (p : Program) (st : State) (root : ℕ) → IsState p st → Contains (active p st) root → (o : Origin)
@@ -122,20 +125,23 @@ root_active p st root (At k i) fits (q, at, at_i) on =
 
 in_source : (x : List ℕ) (es : List Effect) (w : ℕ) → Contains (source.written x es) w → (y : List ℕ)
     × Contains es (Writes y w) × (y ≡ x)
-in_source x [] w c = absurd (nowhere w c)
+in_source x [] w c = absurd (nothing_in w c)
 in_source x (Writes y v ∷ es) w c = by_test (is_same y x)
     (λ e. elim (cases_of w v (source.written x es) (subst
     (λ b. Contains (cond b (v ∷ source.written x es) (source.written x es)) w) e c))
     as (λ _. (z : List ℕ) × Contains (Writes y v ∷ es) (Writes z w) × (z ≡ x)) [
       | inl is ↦ (y, (zero, omega arith, ap (Writes y) is), (bytes_eq-Decides y x).0 e)
-      | inr more ↦ let (z, cz, h) = in_source x es w more in (z, there (Writes z w) (Writes y v) es cz, h)
+      | inr more ↦ let (z, cz, h) = in_source x es w more in (z, contains_behind (Writes z w) (Writes y v) es cz, h)
     ])
     (λ e. let (z, cz, h) = in_source x es w (subst (λ b. Contains
     (cond b (v ∷ source.written x es) (source.written x es)) w) e c) in
-    (z, there (Writes z w) (Writes y v) es cz, h))
-in_source x (Goes l ∷ es) w c = let (z, cz, h) = in_source x es w c in (z, there (Writes z w) (Goes l) es cz, h)
-in_source x (Calls l ∷ es) w c = let (z, cz, h) = in_source x es w c in (z, there (Writes z w) (Calls l) es cz, h)
-in_source x (Returns ∷ es) w c = let (z, cz, h) = in_source x es w c in (z, there (Writes z w) Returns es cz, h)
+    (z, contains_behind (Writes z w) (Writes y v) es cz, h))
+in_source x (Goes l ∷ es) w c = let (z, cz, h) = in_source x es w c in
+    (z, contains_behind (Writes z w) (Goes l) es cz, h)
+in_source x (Calls l ∷ es) w c = let (z, cz, h) = in_source x es w c in
+    (z, contains_behind (Writes z w) (Calls l) es cz, h)
+in_source x (Returns ∷ es) w c = let (z, cz, h) = in_source x es w c in
+    (z, contains_behind (Writes z w) Returns es cz, h)
 
 abbrev effect_target : Effect → List ℕ
 effect_target (Writes x v) = x
@@ -150,7 +156,7 @@ value_written (Writes x v) = v
 value_written _ = 0
 
 source_in : (x : List ℕ) (es : List Effect) (w : ℕ) → Contains es (Writes x w) → Contains (source.written x es) w
-source_in x [] w c = absurd (nowhere (Writes x w) c)
+source_in x [] w c = absurd (nothing_in (Writes x w) c)
 source_in x (Writes y v ∷ es) w (zero, lt, is) =
     let e : is_same y x ≡ true = (bytes_eq-Decides y x).1 (ap effect_target is) in
     subst (λ b. Contains (cond b (v ∷ source.written x es) (source.written x es)) w) (sym e)
@@ -159,7 +165,7 @@ source_in x (Writes y v ∷ es) w (suc k, lt, is) = pick (is_same y x) (source_i
   where
     pick : (b : Bool) → Contains (source.written x es) w
         → Contains (cond b (v ∷ source.written x es) (source.written x es)) w
-    pick true c = there w v (source.written x es) c
+    pick true c = contains_behind w v (source.written x es) c
     pick false c = c
 source_in x (Goes l ∷ es) w (zero, lt, is) = let clash = ap is_write is in absurd (cc)
 source_in x (Goes l ∷ es) w (suc k, lt, is) = source_in x es w (k, omega (arith, lt), is)
@@ -173,8 +179,8 @@ own_write : (v : ℕ → ℕ) (k : FormKind) (x : List ℕ) (w : ℕ) → Contai
     × (e : ℕ) × (k ≡ Set x at e) × (v e ≡ w)
 own_write v (Set y at e) x w (zero, lt, is) = (at, e, ap (λ n. Set n at e) (ap effect_target is), ap value_written is)
 own_write v (Set y at e) x w (suc k, lt, is) = absurd (omega (arith, lt))
-own_write v (Cond bs) x w c = absurd (nowhere (Writes x w) c)
-own_write v (Par fs) x w c = absurd (nowhere (Writes x w) c)
+own_write v (Cond bs) x w c = absurd (nothing_in (Writes x w) c)
+own_write v (Par fs) x w c = absurd (nothing_in (Writes x w) c)
 own_write v (Go l) x w (zero, lt, is) = let clash = ap is_write is in absurd (cc)
 own_write v (Go l) x w (suc k, lt, is) = absurd (omega (arith, lt))
 own_write v (Call l) x w (zero, lt, is) = let clash = ap is_write is in absurd (cc)

@@ -23,6 +23,7 @@ use Rattle.std.proofs.Common.{
 use Rattle.std.specs.Prelude.{Contains, ◌==◌}
 use Rattle.std.specs.List.{flat_map}
 use Rattle.std.proofs.lemmas.List.Elements.{Contains-append_left, Contains-append_right, Contains-append_cases}
+use Rattle.mp_base.proofs.Induction.{downward}
 use Rattle.mp_program.specs.declared.program.FormKind.{FormKind}
 use Rattle.mp_program.specs.declared.program.FormKind.TheVariants.{Set, Cond, Par, Go, Call, Return}
 use Rattle.mp_program.specs.declared.program.Branch.{Branch}
@@ -32,9 +33,10 @@ use Rattle.mp_program.specs.Sound.{InnerFit, BranchesFit}
 use Rattle.mp_program.specs.Values.{value_of}
 use Rattle.mp_program.specs.Effects.{Effect, branch_effects, kind_effects, effects_of}
 use Rattle.mp_rules.specs.Entries.{IsAt}
+use Rattle.mp_rules.proofs.ListEntries.{some_entry}
 use Rattle.process_plan.specs.Lawful.{Known}
 use Rattle.process_plan.specs.Active.{chosen_forms, chosen, own_effects, Runs, itself, deeper}
-use Rattle.process_plan.proofs.Members.{in_flat, flat_in, between_in, some_entry, downward}
+use Rattle.process_plan.proofs.Members.{in_flat, flat_in, between_in}
 
 branch_split : (v : ℕ → ℕ) (bs : List Branch) (e : ℕ → List Effect)
     → branch_effects v bs e ≡ flat_map e (chosen_forms v bs)

@@ -31,8 +31,11 @@ use Rattle.std.proofs.Common.{
 use Rattle.std.specs.Prelude.{Contains, ◌==◌, ◌&&◌}
 use Rattle.std.specs.List.{list_all}
 use Rattle.std.proofs.lemmas.Bool.{eqb-true, eqb-false, eq-eqb, ne_eqb, cases_eq, and_parts}
+use Rattle.std.proofs.lemmas.Option.{same_Some}
 use Rattle.mp_base.specs.Apply.{truth}
 use Rattle.mp_base.specs.declared.op.Op.TheVariants.{And, Nor, Not}
+use Rattle.mp_base.proofs.Contents.{contains_head, contains_behind, nothing_in, contains_from_map}
+use Rattle.mp_base.proofs.Induction.{by_test, upward}
 use Rattle.mp_program.specs.declared.program.FormKind.{FormKind}
 use Rattle.mp_program.specs.declared.program.FormKind.TheVariants.{Set, Cond, Par, Go, Call, Return}
 use Rattle.mp_program.specs.declared.program.Branch.{Branch}
@@ -44,6 +47,7 @@ use Rattle.mp_program.specs.State.{State, Seat, SeatsFit, IsState}
 use Rattle.mp_program.specs.Environment.{IsEnvironment}
 use Rattle.mp_program.specs.Values as from
 use Rattle.mp_rules.specs.Entries.{IsAt}
+use Rattle.mp_rules.proofs.ListEntries.{one_entry}
 use Rattle.rtl_form.specs.declared.rtl.Rtl.{Rtl}
 use Rattle.rtl_form.specs.declared.rtl.RtlExpr.{RtlExpr}
 use Rattle.rtl_form.specs.declared.rtl.RtlExpr.TheVariants.{Cell, Apply}
@@ -62,7 +66,7 @@ use Rattle.process_plan.specs.Enables.{
   IsOriginExpr,
 }
 use Rattle.process_plan.specs.Plan.{FollowsPlan}
-use Rattle.process_plan.proofs.Members.{here, there, nowhere, cases_of, one_entry, upward, by_test, some_is, in_map}
+use Rattle.process_plan.proofs.Members.{cases_of}
 use Rattle.process_plan.proofs.Copying.{Valued, V, value_is, value_true, value_cell, copied}
 
 -- the branches of a form have bits as guards
@@ -133,7 +137,7 @@ pub one_enable : (enables : List (Option Enable)) (f : ℕ) (o u : Origin) (a b 
 one_enable enables f o u a b x y =
     let x1 : Enable = record { origin = o; expr = a } in
     let y1 : Enable = record { origin = u; expr = b } in
-    let e = some_is x1 y1 (one_entry enables f (Some x1) (Some y1) x y) in
+    let e = same_Some x1 y1 (one_entry enables f (Some x1) (Some y1) x y) in
     (ap (λ (z : Enable). z.origin) e, ap (λ (z : Enable). z.expr) e)
 
 -- what runs, runs one form further
@@ -166,11 +170,11 @@ module _ {p : Program} {r : Rtl} {roles : List Role} {enables : List (Option Ena
 
   zeros : (vs : List ℕ) → ((x : ℕ) → Contains vs x → x ≡ 0) → list_all (λ x. x == 0) vs ≡ true
   zeros [] h = refl
-  zeros (v ∷ vs) h = ap (λ b. b && list_all (λ x. x == 0) vs) (eq-eqb v 0 (h v (here v vs)))
-      ∙ zeros vs (λ x c. h x (there x v vs c))
+  zeros (v ∷ vs) h = ap (λ b. b && list_all (λ x. x == 0) vs) (eq-eqb v 0 (h v (contains_head v vs)))
+      ∙ zeros vs (λ x c. h x (contains_behind x v vs c))
 
   no_zeros : (vs : List ℕ) → Contains vs 1 → list_all (λ x. x == 0) vs ≡ false
-  no_zeros [] c = absurd (nowhere 1 c)
+  no_zeros [] c = absurd (nothing_in 1 c)
   no_zeros (v ∷ vs) (zero, lt, is) = ap (λ t. (t == 0) && list_all (λ x. x == 0) vs) is
   no_zeros (v ∷ vs) (suc k, lt, is) = last (v == 0) (no_zeros vs (k, omega (arith, lt), is))
     where
@@ -179,9 +183,9 @@ module _ {p : Program} {r : Rtl} {roles : List Role} {enables : List (Option Ena
       last false h = refl
 
   map_in : (es : List ℕ) (e : ℕ) → Contains es e → Contains (map W es) (W e)
-  map_in [] e c = absurd (nowhere e c)
+  map_in [] e c = absurd (nothing_in e c)
   map_in (d ∷ es) e (zero, lt, is) = (zero, omega arith, ap W is)
-  map_in (d ∷ es) e (suc k, lt, is) = there (W e) (W d) (map W es) (map_in es e (k, omega (arith, lt), is))
+  map_in (d ∷ es) e (suc k, lt, is) = contains_behind (W e) (W d) (map W es) (map_in es e (k, omega (arith, lt), is))
 
   place_cell : (k j e c : ℕ) → IsAt r.exprs e (Cell c) → IsAt roles c (Placed k j)
       → W e ≡ truth ((seat_at st.seats k).place == j)
@@ -199,7 +203,7 @@ module _ {p : Program} {r : Rtl} {roles : List Role} {enables : List (Option Ena
       elim (cases_eq (seat_at st.seats k).place 0) [
         | inl e ↦ inl (
           value ∙ ap truth (zeros (map W es) (λ x c.
-              let (d, cd, h) = in_map W es x c in
+              let (d, cd, h) = contains_from_map W es x c in
               let (n, j, role, at_d) = are.each d cd in
               let (q2, at_q2, pos, lt) = cell_in k j n role in
               sym h ∙ place_cell k j d n at_d role ∙ ap (λ t. truth (t == j)) e
@@ -241,7 +245,7 @@ module _ {p : Program} {r : Rtl} {roles : List Role} {enables : List (Option Ena
   branch_forth : (o : Origin) (rest : ℕ) (bs : List Branch) (f : ℕ) → LowGuards bs
       → BranchEnables p r.exprs enables o rest bs → W rest ≡ 1
       → Contains (chosen_forms (from.value_of p env) bs) f → (a : ℕ) × HasEnable enables f o a × (W a ≡ 1)
-  branch_forth o rest [] f low enabling one c = absurd (nowhere f c)
+  branch_forth o rest [] f low enabling one c = absurd (nothing_in f c)
   branch_forth o rest (b ∷ []) f low (a, at, body) one c =
       let value = from.value_of p env b.guard in
       by_test (value == 1)
@@ -249,12 +253,12 @@ module _ {p : Program} {r : Rtl} {roles : List Role} {enables : List (Option Ena
         a,
         body f (subst (λ t. Contains (cond t b.body []) f) h c),
         and_value a rest (copy_of p b.guard) at ∙ ones_both (W rest) (W (copy_of p b.guard)) one
-            (copy_value b.guard (low b (here b [])).0 ∙ eqb-true value 1 h),
+            (copy_value b.guard (low b (contains_head b [])).0 ∙ eqb-true value 1 h),
       ))
-      (λ h. absurd (nowhere f (subst (λ t. Contains (cond t b.body []) f) h c)))
+      (λ h. absurd (nothing_in f (subst (λ t. Contains (cond t b.body []) f) h c)))
   branch_forth o rest (b ∷ d ∷ bs) f low (a, n, m, at, body, at_n, at_m, more) one c =
       let value = from.value_of p env b.guard in
-      let same = copy_value b.guard (low b (here b (d ∷ bs))).0 in
+      let same = copy_value b.guard (low b (contains_head b (d ∷ bs))).0 in
       by_test (value == 1)
       (λ h. (
         a,
@@ -262,9 +266,10 @@ module _ {p : Program} {r : Rtl} {roles : List Role} {enables : List (Option Ena
         and_value a rest (copy_of p b.guard) at ∙ ones_both (W rest) (W (copy_of p b.guard)) one
             (same ∙ eqb-true value 1 h),
       ))
-      (λ h. branch_forth o m (d ∷ bs) f (λ e i. low e (there e b (d ∷ bs) i)) more
+      (λ h. branch_forth o m (d ∷ bs) f (λ e i. low e (contains_behind e b (d ∷ bs) i)) more
       (and_value m rest n at_m ∙ ones_both (W rest) (W n) one
-      (not_value n (copy_of p b.guard) at_n ∙ ap (λ t. 1 - t) same ∙ not_one value (low b (here b (d ∷ bs))).1 h))
+      (not_value n (copy_of p b.guard) at_n ∙ ap (λ t. 1 - t) same
+      ∙ not_one value (low b (contains_head b (d ∷ bs))).1 h))
       (subst (λ t. Contains (cond t b.body (chosen_forms (from.value_of p env) (d ∷ bs))) f) h c))
 
   -- a form in a branch whose enable is 1 is chosen
@@ -272,21 +277,21 @@ module _ {p : Program} {r : Rtl} {roles : List Role} {enables : List (Option Ena
       → BranchEnables p r.exprs enables o rest bs
       → Contains bs b → Contains b.body f → HasEnable enables f o x → W x ≡ 1 → (W rest ≡ 1)
       × Contains (chosen_forms (from.value_of p env) bs) f
-  branch_back o rest [] b f x low enabling cb cf has one = absurd (nowhere b cb)
+  branch_back o rest [] b f x low enabling cb cf has one = absurd (nothing_in b cb)
   branch_back o rest (d ∷ []) b f x low (a, at, body) cb cf has one =
       let inside : Contains d.body f = elim (cases_of b d [] cb) [
         | inl e ↦ subst (λ (t : Branch). Contains t.body f)
             (sym e) cf
-        | inr e ↦ absurd (nowhere b e)
+        | inr e ↦ absurd (nothing_in b e)
       ] in
       let same : x ≡ a = (one_enable enables f o o x a has (body f inside)).1 in
       let ones = both_ones (W rest) (W (copy_of p d.guard))
       (sym (and_value a rest (copy_of p d.guard) at) ∙ ap W (sym same) ∙ one) in
       let test : (from.value_of p env d.guard == 1) ≡ true =
-      eq-eqb (from.value_of p env d.guard) 1 (sym (copy_value d.guard (low d (here d [])).0) ∙ ones.1) in
+      eq-eqb (from.value_of p env d.guard) 1 (sym (copy_value d.guard (low d (contains_head d [])).0) ∙ ones.1) in
       (ones.0, subst (λ t. Contains (cond t d.body []) f) (sym test) inside)
   branch_back o rest (d ∷ e ∷ bs) b f x low (a, n, m, at, body, at_n, at_m, more) cb cf has one =
-      let same_copy = copy_value d.guard (low d (here d (e ∷ bs))).0 in
+      let same_copy = copy_value d.guard (low d (contains_head d (e ∷ bs))).0 in
       elim (cases_of b d (e ∷ bs) cb) [
         | inl is ↦
             let inside : Contains d.body f = subst (λ (t : Branch). Contains t.body f) (sym is) cf in
@@ -300,7 +305,8 @@ module _ {p : Program} {r : Rtl} {roles : List Role} {enables : List (Option Ena
                   (sym test) inside,
             )
         | inr later ↦
-            let rec = branch_back o m (e ∷ bs) b f x (λ z i. low z (there z d (e ∷ bs) i)) more later cf has one in
+            let rec =
+            branch_back o m (e ∷ bs) b f x (λ z i. low z (contains_behind z d (e ∷ bs) i)) more later cf has one in
             let ones = both_ones (W rest) (W n) (sym (and_value m rest n at_m) ∙ rec.0) in
             let test : (from.value_of p env d.guard == 1) ≡ false =
             one_not (from.value_of p env d.guard) (ap (λ t. 1 - t) (sym same_copy)
@@ -313,7 +319,7 @@ module _ {p : Program} {r : Rtl} {roles : List Role} {enables : List (Option Ena
 
   branches_low : (i n : ℕ) (bs : List Branch) → BranchesFit (length p.exprs) i n bs → (b : Branch) → Contains bs b
       → b.guard < length p.exprs
-  branches_low i n [] fit b c = absurd (nowhere b c)
+  branches_low i n [] fit b c = absurd (nothing_in b c)
   branches_low i n (d ∷ bs) fit b (zero, lt, is) = subst (λ (t : Branch). t.guard < length p.exprs) is fit.0.0
   branches_low i n (d ∷ bs) fit b (suc k, lt, is) = branches_low i n bs fit.1 b (k, omega (arith, lt), is)
 
@@ -327,13 +333,13 @@ module _ {p : Program} {r : Rtl} {roles : List Role} {enables : List (Option Ena
   inner_forth : (g : ℕ) (y : Form) (k : FormKind) (o : Origin) (b f : ℕ) → IsAt p.forms g y → y.kind ≡ k
       → InnerEnables p r.exprs enables o b k → W b ≡ 1
       → Contains (chosen (from.value_of p env) k) f → (a : ℕ) × HasEnable enables f o a × (W a ≡ 1)
-  inner_forth g y (Set x at e) o b f here_y is enabling one c = absurd (nowhere f c)
+  inner_forth g y (Set x at e) o b f here_y is enabling one c = absurd (nothing_in f c)
   inner_forth g y (Cond bs) o b f here_y is enabling one c =
       branch_forth o b bs f (low_guards g y bs here_y is) enabling one c
   inner_forth g y (Par fs) o b f here_y is enabling one c = (b, enabling f c, one)
-  inner_forth g y (Go l) o b f here_y is enabling one c = absurd (nowhere f c)
-  inner_forth g y (Call l) o b f here_y is enabling one c = absurd (nowhere f c)
-  inner_forth g y Return o b f here_y is enabling one c = absurd (nowhere f c)
+  inner_forth g y (Go l) o b f here_y is enabling one c = absurd (nothing_in f c)
+  inner_forth g y (Call l) o b f here_y is enabling one c = absurd (nothing_in f c)
+  inner_forth g y Return o b f here_y is enabling one c = absurd (nothing_in f c)
 
   runs_forth : (g f : ℕ) (o : Origin) (b : ℕ) → Runs p env g f → HasEnable enables g o b → W b ≡ 1 → (a : ℕ)
       × HasEnable enables f o a × (W a ≡ 1)

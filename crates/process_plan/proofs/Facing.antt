@@ -35,10 +35,12 @@ use Rattle.std.proofs.Common.{
 }
 use Rattle.std.specs.Prelude.{◌==◌, ◌||◌, nat_lt, slice_index_or}
 use Rattle.std.specs.List.{list_any}
-use Rattle.std.proofs.lemmas.Bool.{lt-ltb, ne_eqb}
+use Rattle.std.proofs.lemmas.Bool.{lt-ltb, ne_eqb, or_left, or_right}
 use Rattle.std.proofs.lemmas.List.{length-map}
 use Rattle.std.proofs.lemmas.List.Sums.{sum_by-cons}
+use Rattle.std.proofs.lemmas.Option.{same_Some}
 use Rattle.mp_base.specs.declared.pad.Pad.{Pad}
+use Rattle.mp_base.proofs.Induction.{by_test}
 use Rattle.mp_program.specs.declared.program.What.{What}
 use Rattle.mp_program.specs.declared.program.What.TheVariants.{
   Power,
@@ -59,6 +61,7 @@ use Rattle.mp_program.specs.Names.{is_input, is_output, is_stored, pad_number}
 use Rattle.mp_program.specs.Pads.{Face, face, pad_width, ArePadsOf}
 use Rattle.mp_program.specs.Trace as source
 use Rattle.mp_rules.specs.Entries.{IsAt}
+use Rattle.mp_rules.proofs.ListEntries.{one_entry, some_entry}
 use Rattle.rtl_form.specs.declared.rtl.CellKind.{CellKind}
 use Rattle.rtl_form.specs.declared.rtl.CellKind.TheVariants as kinds
 use Rattle.rtl_form.specs.declared.rtl.Cell.{Cell}
@@ -69,7 +72,6 @@ use Rattle.rtl_form.specs.Sound.{IsOnly, CellFits}
 use Rattle.process_plan.specs.Roles.{Role, Value, Placed, Stacked, AreCells, def_cell, output_number, stored_bit}
 use Rattle.process_plan.specs.Roles as roles_of
 use Rattle.process_plan.proofs.Simulating.{cell_stored}
-use Rattle.process_plan.proofs.Members.{some_entry, one_entry, by_test, some_is, or_left, or_right}
 
 -- ---- the entries of a filter
 
@@ -275,16 +277,16 @@ sort_of ds d w (Constant c) x le h is = absurd (cc)
 sort_of ds d w Register x le h is = absurd (cc)
 sort_of ds d w Flag x le h is = absurd (cc)
 sort_of ds d w (Port Input) x le h is = ap (λ (z : Cell). z.word)
-    (sym (some_is (record { word = true; kind = kinds.Input (pad_number ds d) }) x h))
+    (sym (same_Some (record { word = true; kind = kinds.Input (pad_number ds d) }) x h))
     ∙ sym (ap not (ne_eqb w 0 (λ e. omega (arith, e, le))))
 sort_of ds d w (Port Output) x le h is = ap (λ (z : Cell). z.word)
-    (sym (some_is (record { word = true; kind = kinds.Output (output_number ds d) }) x h))
+    (sym (same_Some (record { word = true; kind = kinds.Output (output_number ds d) }) x h))
     ∙ sym (ap not (ne_eqb w 0 (λ e. omega (arith, e, le))))
 sort_of ds d w (Port Internal) x le h is = absurd (cc)
 sort_of ds d w (Signal Input) x le h is = ap (λ (z : Cell). z.word)
-    (sym (some_is (record { word = false; kind = kinds.Input (pad_number ds d) }) x h))
+    (sym (same_Some (record { word = false; kind = kinds.Input (pad_number ds d) }) x h))
 sort_of ds d w (Signal Output) x le h is = ap (λ (z : Cell). z.word)
-    (sym (some_is (record { word = false; kind = kinds.Output (output_number ds d) }) x h))
+    (sym (same_Some (record { word = false; kind = kinds.Output (output_number ds d) }) x h))
 sort_of ds d w (Signal Internal) x le h is = absurd (cc)
 
 -- the widths of pads

@@ -24,8 +24,11 @@ use Rattle.std.proofs.Common.{
   length,
 }
 use Rattle.std.specs.Prelude.{Contains}
+use Rattle.std.proofs.lemmas.Option.{same_Some}
 use Rattle.mp_base.specs.declared.op.Op.TheVariants.{And, Or, Nor, Not}
 use Rattle.mp_base.specs.declared.refusal.Place.{Place}
+use Rattle.mp_base.proofs.Contents.{contains_head, nothing_in}
+use Rattle.mp_base.proofs.Induction.{upward}
 use Rattle.mp_program.specs.declared.program.What.{What}
 use Rattle.mp_program.specs.declared.program.What.TheVariants.{
   Power,
@@ -52,6 +55,7 @@ use Rattle.mp_program.proofs.Definitions.{named}
 use Rattle.mp_rules.specs.Entries.{IsAt}
 use Rattle.mp_rules.specs.Rules.{E27, is_unset}
 use Rattle.mp_rules.specs.Sorts.{IsWanted}
+use Rattle.mp_rules.proofs.ListEntries.{some_entry}
 use Rattle.rtl_form.specs.declared.rtl.CellKind.{CellKind}
 use Rattle.rtl_form.specs.declared.rtl.CellKind.TheVariants as kinds
 use Rattle.rtl_form.specs.declared.rtl.Cell as cells
@@ -87,7 +91,7 @@ use Rattle.process_plan.specs.Plan.{
   FollowsPlan,
 }
 use Rattle.process_plan.specs.Fits.{ExprFitsIn}
-use Rattle.process_plan.proofs.Members.{here, nowhere, cases_of, upward, some_entry, some_is}
+use Rattle.process_plan.proofs.Members.{cases_of}
 use Rattle.process_plan.proofs.Enabling.{one_enable}
 use Rattle.process_plan.proofs.Sorts.{IsSorted, sort_of, cell_sort, name_sorted, copy_wanted}
 
@@ -114,14 +118,14 @@ not_input ds d Phia x h given = absurd (cc)
 not_input ds d Phib x h given = absurd (cc)
 not_input ds d Phic x h given = absurd (cc)
 not_input ds d (Constant c) x h given = absurd (cc)
-not_input ds d Register x h given = ap (λ (z : cells.Cell). input_code z.kind) (sym (some_is _ x h))
-not_input ds d Flag x h given = ap (λ (z : cells.Cell). input_code z.kind) (sym (some_is _ x h))
+not_input ds d Register x h given = ap (λ (z : cells.Cell). input_code z.kind) (sym (same_Some _ x h))
+not_input ds d Flag x h given = ap (λ (z : cells.Cell). input_code z.kind) (sym (same_Some _ x h))
 not_input ds d (Port Input) x h given = absurd (cc)
-not_input ds d (Port Output) x h given = ap (λ (z : cells.Cell). input_code z.kind) (sym (some_is _ x h))
-not_input ds d (Port Internal) x h given = ap (λ (z : cells.Cell). input_code z.kind) (sym (some_is _ x h))
+not_input ds d (Port Output) x h given = ap (λ (z : cells.Cell). input_code z.kind) (sym (same_Some _ x h))
+not_input ds d (Port Internal) x h given = ap (λ (z : cells.Cell). input_code z.kind) (sym (same_Some _ x h))
 not_input ds d (Signal Input) x h given = absurd (cc)
-not_input ds d (Signal Output) x h given = ap (λ (z : cells.Cell). input_code z.kind) (sym (some_is _ x h))
-not_input ds d (Signal Internal) x h given = ap (λ (z : cells.Cell). input_code z.kind) (sym (some_is _ x h))
+not_input ds d (Signal Output) x h given = ap (λ (z : cells.Cell). input_code z.kind) (sym (same_Some _ x h))
+not_input ds d (Signal Internal) x h given = ap (λ (z : cells.Cell). input_code z.kind) (sym (same_Some _ x h))
 
 unset_input : (w : What) → is_input w ≡ true → is_unset w ≡ true
 unset_input (Constant c) h = refl
@@ -179,11 +183,11 @@ module _ {p : Program} {r : Rtl} {roles : List Role} {enables : List (Option Ena
   branch_bit : (o : Origin) (rest : ℕ) (bs : List Branch) (b : Branch) (f x : ℕ)
       → BranchEnables p r.exprs enables o rest bs → Contains bs b → Contains b.body f → HasEnable enables f o x
       → IsBitExpr x
-  branch_bit o rest [] b f x has cb cf own = absurd (nowhere b cb)
+  branch_bit o rest [] b f x has cb cf own = absurd (nothing_in b cb)
   branch_bit o rest (d ∷ []) b f x (a, at, body) cb cf own =
       let inside : Contains d.body f = elim (cases_of b d [] cb) [
         | inl e ↦ subst (λ (t : Branch). Contains t.body f) (sym e) cf
-        | inr e ↦ absurd (nowhere b e)
+        | inr e ↦ absurd (nothing_in b e)
       ] in
       subst IsBitExpr (one_enable enables f o o a x (body f inside) own).1
       (Apply And 0 (rest ∷ copy_of p d.guard ∷ []), at, refl)
@@ -219,7 +223,7 @@ module _ {p : Program} {r : Rtl} {roles : List Role} {enables : List (Option Ena
 
   union_bit : (test : FormKind → Bool) (k u : ℕ) → IsUnionOf p r.exprs enables test k u → IsBitExpr u
   union_bit test k u (guards, are, inl is) =
-      let (f, i, y, at, passes, has) = (are u).0 (subst (λ g. Contains g u) (sym is) (here u [])) in
+      let (f, i, y, at, passes, has) = (are u).0 (subst (λ g. Contains g u) (sym is) (contains_head u [])) in
       enable_bit f (At k i) u has
   union_bit test k u (guards, are, inr at) = (Apply Or 0 guards, at, refl)
 

@@ -37,6 +37,8 @@ use Rattle.std.proofs.lemmas.Bool.{eqb-true, eq-eqb, and_parts}
 use Rattle.std.proofs.lemmas.List.{get_or_default}
 use Rattle.mp_base.specs.Apply.{truth}
 use Rattle.mp_base.specs.declared.op.Op.TheVariants.{And, Or, Not}
+use Rattle.mp_base.proofs.Contents.{contains_head, contains_behind, nothing_in, only_one}
+use Rattle.mp_base.proofs.Induction.{by_test}
 use Rattle.mp_program.specs.declared.program.FormKind.{FormKind}
 use Rattle.mp_program.specs.declared.program.FormKind.TheVariants.{Set, Cond, Par, Go, Call, Return}
 use Rattle.mp_program.specs.declared.program.Form.{Form}
@@ -48,13 +50,14 @@ use Rattle.mp_program.specs.Step.{wrapped, place_of_label, next_seat}
 use Rattle.mp_program.specs.Values as from
 use Rattle.mp_rules.specs.Entries.{IsAt}
 use Rattle.mp_rules.specs.Standing.{is_transfer}
+use Rattle.mp_rules.proofs.ListEntries.{one_entry}
 use Rattle.rtl_form.specs.declared.rtl.Rtl.{Rtl}
 use Rattle.rtl_form.specs.declared.rtl.RtlExpr.TheVariants.{Apply}
 use Rattle.process_plan.specs.Roles.{Role, seat_at}
 use Rattle.process_plan.specs.Active.{own_effects, At, IsRoot}
 use Rattle.process_plan.specs.Enables.{Enable, HasEnable, IsPlaceExpr}
 use Rattle.process_plan.specs.Plan.{IsUnionOf, IsMoveEnable, is_call, is_return, AreNegations, IsFall}
-use Rattle.process_plan.proofs.Members.{here, there, nowhere, only_one, one_entry, by_test, zero_or_more}
+use Rattle.process_plan.proofs.Members.{zero_or_more}
 use Rattle.process_plan.proofs.Doing.{effect_source, source_effect}
 use Rattle.process_plan.proofs.Moving.{IsMove, moves, moves_are, some_move, own_move}
 use Rattle.process_plan.proofs.Enabling.{Tells, seat_fits, one_of, on_of}
@@ -64,7 +67,7 @@ use Rattle.process_plan.proofs.Defining.{root_in}
 -- ---- the next seat
 
 pub has_move : (es : List Effect) (m : Effect) → Contains es m → IsMove m → 0 < moves es
-has_move [] m c is = absurd (nowhere m c)
+has_move [] m c is = absurd (nothing_in m c)
 has_move (Writes x v ∷ es) m (zero, lt, e) is = absurd (subst IsMove (sym e) is)
 has_move (Writes x v ∷ es) m (suc k, lt, e) is = has_move es m (k, omega (arith, lt), e) is
 has_move (Goes l ∷ es) m c is = omega arith
@@ -84,7 +87,7 @@ seat_by q s Returns = record { place = slice_index s.stack 0; stack = take q.dep
 
 pub next_by : (q : Process) (s : Seat) (es : List Effect) (m : Effect) → Contains es m → IsMove m → moves es ≤ 1
     → next_seat q s es ≡ seat_by q s m
-next_by q s [] m c is one = absurd (nowhere m c)
+next_by q s [] m c is one = absurd (nothing_in m c)
 next_by q s (Writes x v ∷ es) m (zero, lt, e) is one = absurd (subst IsMove (sym e) is)
 next_by q s (Writes x v ∷ es) m (suc k, lt, e) is one = next_by q s es m (k, omega (arith, lt), e) is one
 next_by q s (Goes l ∷ es) m (zero, lt, e) is one = ap (seat_by q s) e
@@ -107,7 +110,7 @@ next_on q s (Returns ∷ es) none = absurd (omega (arith, none))
 
 pub same_move : (es : List Effect) (m n : Effect) → Contains es m → Contains es n → IsMove m → IsMove n
     → moves es ≤ 1 → m ≡ n
-same_move [] m n cm cn im i_n one = absurd (nowhere m cm)
+same_move [] m n cm cn im i_n one = absurd (nothing_in m cm)
 same_move (Writes x v ∷ es) m n (zero, lt, e) cn im i_n one = absurd (subst IsMove (sym e) im)
 same_move (Writes x v ∷ es) m n (suc k, lt, e) (zero, lt2, e2) im i_n one = absurd (subst IsMove (sym e2) i_n)
 same_move (Writes x v ∷ es) m n (suc k, lt, e) (suc j, lt2, e2) im i_n one =
@@ -142,26 +145,26 @@ transfer_moves : (v : ℕ → ℕ) (k : FormKind) → is_transfer k ≡ true →
 transfer_moves v (Set x at e) h = absurd (cc)
 transfer_moves v (Cond bs) h = absurd (cc)
 transfer_moves v (Par fs) h = absurd (cc)
-transfer_moves v (Go l) h = (Goes l, here (Goes l) [], tt)
-transfer_moves v (Call l) h = (Calls l, here (Calls l) [], tt)
-transfer_moves v Return h = (Returns, here Returns [], tt)
+transfer_moves v (Go l) h = (Goes l, contains_head (Goes l) [], tt)
+transfer_moves v (Call l) h = (Calls l, contains_head (Calls l) [], tt)
+transfer_moves v Return h = (Returns, contains_head Returns [], tt)
 
 -- the form of a call, and of a return
 pub calls_own : (v : ℕ → ℕ) (k : FormKind) (m : Effect) → Contains (own_effects v k) m → is_call k ≡ is_calling m
-calls_own v (Set x at e) m c = sym (ap is_calling (sym (only_one m (Writes x (v e)) c)))
-calls_own v (Cond bs) m c = absurd (nowhere m c)
-calls_own v (Par fs) m c = absurd (nowhere m c)
-calls_own v (Go l) m c = ap is_calling (only_one m (Goes l) c)
-calls_own v (Call l) m c = ap is_calling (only_one m (Calls l) c)
-calls_own v Return m c = ap is_calling (only_one m Returns c)
+calls_own v (Set x at e) m c = sym (ap is_calling (sym (only_one (Writes x (v e)) m c)))
+calls_own v (Cond bs) m c = absurd (nothing_in m c)
+calls_own v (Par fs) m c = absurd (nothing_in m c)
+calls_own v (Go l) m c = ap is_calling (only_one (Goes l) m c)
+calls_own v (Call l) m c = ap is_calling (only_one (Calls l) m c)
+calls_own v Return m c = ap is_calling (only_one Returns m c)
 
 pub returns_own : (v : ℕ → ℕ) (k : FormKind) (m : Effect) → Contains (own_effects v k) m → is_return k ≡ is_returning m
-returns_own v (Set x at e) m c = ap is_returning (only_one m (Writes x (v e)) c)
-returns_own v (Cond bs) m c = absurd (nowhere m c)
-returns_own v (Par fs) m c = absurd (nowhere m c)
-returns_own v (Go l) m c = ap is_returning (only_one m (Goes l) c)
-returns_own v (Call l) m c = ap is_returning (only_one m (Calls l) c)
-returns_own v Return m c = ap is_returning (only_one m Returns c)
+returns_own v (Set x at e) m c = ap is_returning (only_one (Writes x (v e)) m c)
+returns_own v (Cond bs) m c = absurd (nothing_in m c)
+returns_own v (Par fs) m c = absurd (nothing_in m c)
+returns_own v (Go l) m c = ap is_returning (only_one (Goes l) m c)
+returns_own v (Call l) m c = ap is_returning (only_one (Calls l) m c)
+returns_own v Return m c = ap is_returning (only_one Returns m c)
 
 call_own : (v : ℕ → ℕ) (k : FormKind) → is_call k ≡ true → (m : Effect) × Contains (own_effects v k) m
     × (is_calling m ≡ true)
@@ -169,7 +172,7 @@ call_own v (Set x at e) h = absurd (cc)
 call_own v (Cond bs) h = absurd (cc)
 call_own v (Par fs) h = absurd (cc)
 call_own v (Go l) h = absurd (cc)
-call_own v (Call l) h = (Calls l, here (Calls l) [], refl)
+call_own v (Call l) h = (Calls l, contains_head (Calls l) [], refl)
 call_own v Return h = absurd (cc)
 
 return_own : (v : ℕ → ℕ) (k : FormKind) → is_return k ≡ true → (m : Effect) × Contains (own_effects v k) m
@@ -179,7 +182,7 @@ return_own v (Cond bs) h = absurd (cc)
 return_own v (Par fs) h = absurd (cc)
 return_own v (Go l) h = absurd (cc)
 return_own v (Call l) h = absurd (cc)
-return_own v Return h = (Returns, here Returns [], refl)
+return_own v Return h = (Returns, contains_head Returns [], refl)
 
 zero_or_one : (n : ℕ) → n ≤ 1 → (n ≡ 0) ⊎ (n ≡ 1)
 zero_or_one zero le = inl refl
@@ -244,12 +247,12 @@ module _ {p : Program} {r : Rtl} {roles : List Role} {enables : List (Option Ena
   any_one : (as1 : List ℕ) → list_any (λ z. z == 1) (map X as1) ≡ true → (a : ℕ) × Contains as1 a × (X a ≡ 1)
   any_one [] h = absurd (cc)
   any_one (a ∷ more) h = by_test (X a == 1)
-      (λ e. (a, here a more, eqb-true (X a) 1 e))
+      (λ e. (a, contains_head a more, eqb-true (X a) 1 e))
       (λ e. let (b, c, one) = any_one more (subst (λ t. (t || list_any (λ z. z == 1) (map X more)) ≡ true) e h) in
-      (b, there b a more c, one))
+      (b, contains_behind b a more c, one))
 
   one_any : (as1 : List ℕ) (a : ℕ) → Contains as1 a → X a ≡ 1 → list_any (λ z. z == 1) (map X as1) ≡ true
-  one_any [] a c one = absurd (nowhere a c)
+  one_any [] a c one = absurd (nothing_in a c)
   one_any (b ∷ more) a (zero, lt, is) one = ap (λ t. t || list_any (λ z. z == 1) (map X more))
       (eq-eqb (X b) 1 (ap X is ∙ one))
   one_any (b ∷ more) a (suc j, lt, is) one = pick (X b == 1) (one_any more a (j, omega (arith, lt), is) one)
@@ -263,12 +266,12 @@ module _ {p : Program} {r : Rtl} {roles : List Role} {enables : List (Option Ena
 
   union_tells : (test : FormKind → Bool) (u : ℕ) → IsUnionOf p r.exprs enables test k u → Tells (X u) (MovesBy test)
   union_tells test u (guards, are, inl is) =
-      let in_it : Contains guards u = subst (λ g. Contains g u) (sym is) (here u []) in
+      let in_it : Contains guards u = subst (λ g. Contains g u) (sym is) (contains_head u []) in
       let (f, i, y, here_y, t, has) = (are u).0 in_it in
       elim (zero_or_one (X u) (enable_low s f (At k i) u has)) [
         | inl none ↦ inr (
           none,
-          λ (a, move, one). let same : u ≡ a = only_one a u (subst (λ g. Contains g a) is ((are a).1 move)) in
+          λ (a, move, one). let same : u ≡ a = only_one u a (subst (λ g. Contains g a) is ((are a).1 move)) in
               let clash : 0 ≡ 1 = sym none ∙ ap X same ∙ one in omega (arith, clash),
         )
         | inr one ↦ inl (one, (u, (f, i, y, here_y, t, has), one))
@@ -337,7 +340,7 @@ module _ {p : Program} {r : Rtl} {roles : List Role} {enables : List (Option Ena
 
   negated : (ms ns : List ℕ) → AreNegations r.exprs ms ns → list_all (λ z. z == 1) (map X ns) ≡ true → (m : ℕ)
       → Contains ms m → X m ≤ 1 → X m ≡ 0
-  negated [] ns are all m c low = absurd (nowhere m c)
+  negated [] ns are all m c low = absurd (nothing_in m c)
   negated (x ∷ ms) [] are all m c low = absurd are
   negated (x ∷ ms) (n ∷ ns) are all m (zero, lt, is) low =
       let a = and_parts (X n == 1) (list_all (λ z. z == 1) (map X ns)) all in
@@ -355,8 +358,8 @@ module _ {p : Program} {r : Rtl} {roles : List Role} {enables : List (Option Ena
   negations (m ∷ ms) [] are zeros = absurd are
   negations (m ∷ ms) (n ∷ ns) are zeros =
       ap (λ b. b && list_all (λ z. z == 1) (map X ns))
-      (eq-eqb (X n) 1 (w_is s n (Apply Not 0 (m ∷ [])) are.0 ∙ ap (λ t. 1 - t) (zeros m (here m ms))))
-      ∙ negations ms ns are.1 (λ x c. zeros x (there x m ms c))
+      (eq-eqb (X n) 1 (w_is s n (Apply Not 0 (m ∷ [])) are.0 ∙ ap (λ t. 1 - t) (zeros m (contains_head m ms))))
+      ∙ negations ms ns are.1 (λ x c. zeros x (contains_behind x m ms c))
 
   -- the fall of a place tells whether the process goes on from there
   pub fall_tells : (i a e : ℕ) → IsPlaceExpr p r.exprs roles k i a → IsFall p r.exprs enables k i a e
@@ -369,7 +372,7 @@ module _ {p : Program} {r : Rtl} {roles : List Role} {enables : List (Option Ena
         none_moves ms (subst (λ n. (m : ℕ) → Contains ms m
             ↔ ((f : ℕ) × (y : Form) × IsAt p.forms f y × (is_transfer y.kind ≡ true)
             × HasEnable enables f (At k n) m)) (sym on) are)
-            (λ m c. absurd (nowhere m (subst (λ t. Contains t m) none c))),
+            (λ m c. absurd (nothing_in m (subst (λ t. Contains t m) none c))),
       ))
       (λ (on, h). on)
       (subst (λ n. Tells (X n) (seat.place ≡ i)) (sym same) told)

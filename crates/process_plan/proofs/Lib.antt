@@ -25,3 +25,4 @@ pub mod Keeping
 mod Resetting
 mod Sameness
 pub mod Census
+pub mod Enables

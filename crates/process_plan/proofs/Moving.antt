@@ -22,6 +22,7 @@ use Rattle.std.specs.Prelude.{Contains, ◌==◌}
 use Rattle.std.specs.List.{flat_map}
 use Rattle.std.proofs.lemmas.List.Sums.{sum_by-cons}
 use Rattle.std.proofs.lemmas.List.Elements.{Contains-append_left, Contains-append_right}
+use Rattle.mp_base.proofs.Contents.{contains_head, contains_behind, nothing_in}
 use Rattle.mp_program.specs.declared.program.FormKind.{FormKind}
 use Rattle.mp_program.specs.declared.program.FormKind.TheVariants.{Set, Cond, Par, Go, Call, Return}
 use Rattle.mp_program.specs.declared.program.Branch.{Branch}
@@ -33,7 +34,6 @@ use Rattle.mp_rules.specs.Moves as rules
 use Rattle.mp_rules.specs.Standing.{Under, is_transfer}
 use Rattle.mp_rules.specs.Standing as standing
 use Rattle.process_plan.specs.Active.{chosen_forms, chosen, own_effects, Runs, itself, deeper}
-use Rattle.process_plan.proofs.Members.{here, there, nowhere}
 
 abbrev pub IsMove : Effect → Type 0
 IsMove (Writes x v) = ⊥
@@ -62,10 +62,10 @@ moves_are (Returns ∷ es) = omega (arith, moves_are es, sum_by-cons one_for Ret
 
 pub some_move : (es : List Effect) → 0 < moves es → (x : Effect) × Contains es x × IsMove x
 some_move [] h = absurd (omega (arith, h))
-some_move (Writes x v ∷ es) h = let (y, c, m) = some_move es h in (y, there y (Writes x v) es c, m)
-some_move (Goes l ∷ es) h = (Goes l, here (Goes l) es, tt)
-some_move (Calls l ∷ es) h = (Calls l, here (Calls l) es, tt)
-some_move (Returns ∷ es) h = (Returns, here Returns es, tt)
+some_move (Writes x v ∷ es) h = let (y, c, m) = some_move es h in (y, contains_behind y (Writes x v) es c, m)
+some_move (Goes l ∷ es) h = (Goes l, contains_head (Goes l) es, tt)
+some_move (Calls l ∷ es) h = (Calls l, contains_head (Calls l) es, tt)
+some_move (Returns ∷ es) h = (Returns, contains_head Returns es, tt)
 
 -- ---- what runs stands under
 
@@ -96,8 +96,8 @@ runs_under p env f g (deeper {g = h} y at c runs) = standing.deeper y at (chosen
 pub own_move : (v : ℕ → ℕ) (k : FormKind) (x : Effect) → Contains (own_effects v k) x → IsMove x → is_transfer k ≡ true
 own_move v (Set y at w) x (zero, lt, is) m = absurd (subst IsMove (sym is) m)
 own_move v (Set y at w) x (suc k, lt, is) m = absurd (omega (arith, lt))
-own_move v (Cond bs) x c m = absurd (nowhere x c)
-own_move v (Par fs) x c m = absurd (nowhere x c)
+own_move v (Cond bs) x c m = absurd (nothing_in x c)
+own_move v (Par fs) x c m = absurd (nothing_in x c)
 own_move v (Go l) x c m = refl
 own_move v (Call l) x c m = refl
 own_move v Return x c m = refl

@@ -74,23 +74,24 @@ use Rattle.process_plan.specs.Enables.{
 use Rattle.process_plan.specs.Plan.{FollowsPlan, IsPlanned}
 use Rattle.process_plan.specs.Plan as plans
 use Rattle.process_plan.proofs.Members.{
-  here,
-  there,
-  nowhere,
   cases_of,
-  some_entry,
-  one_entry,
-  downward,
-  upward,
-  or_left,
-  or_right,
-  in_map,
   between_in,
 }
 use Rattle.process_plan.proofs.Enabling.{one_enable}
 use Rattle.mp_program.proofs.Definitions.{named}
 use Rattle.process_plan.proofs.Defining.{value_role, placed_role, stacked_role}
-use Rattle.std.proofs.lemmas.Bool.{or_cases}
+use Rattle.std.proofs.lemmas.Bool.{or_cases, or_left, or_right}
+use Rattle.mp_base.proofs.Contents.{
+  contains_head,
+  contains_behind,
+  nothing_in,
+  contains_from_map,
+}
+use Rattle.mp_rules.proofs.ListEntries.{
+  one_entry,
+  some_entry,
+}
+use Rattle.mp_base.proofs.Induction.{downward, upward}
 
 -- ---- expressions and the cells that they read
 
@@ -118,7 +119,7 @@ reads_cell : (xs : List RtlExpr) (c d e : ℕ) → ReadsCell xs c e → IsAt xs 
 reads_cell xs c d e reads at = elim (reads_by xs c e (Cell d) reads at) [
   | inl is ↦ ap cell_of is
   | inr
-      (a, ca, more) ↦ absurd (nowhere a ca)
+      (a, ca, more) ↦ absurd (nothing_in a ca)
 ]
 
 reads_args : (xs : List RtlExpr) (c e : ℕ) (x : RtlExpr) → ReadsCell xs c e → IsAt xs e x → code x ≡ 3 → (a : ℕ)
@@ -131,13 +132,13 @@ reads_args xs c e x reads at is_apply = elim (reads_by xs c e x reads at) [
 -- ---- tests
 
 any_in : (t : ℕ → Bool) (xs : List ℕ) (x : ℕ) → Contains xs x → t x ≡ true → list_any t xs ≡ true
-any_in t [] x c h = absurd (nowhere x c)
+any_in t [] x c h = absurd (nothing_in x c)
 any_in t (y ∷ ys) x (zero, lt, is) h = or_left (t y) (list_any t ys) (ap t is ∙ h)
 any_in t (y ∷ ys) x (suc k, lt, is) h = or_right (t y) (list_any t ys) (any_in t ys x (k, omega (arith, lt), is) h)
 
 branch_in : (s : ℕ → Bool) (bs : List Branch) (b : Branch) (f : ℕ) → Contains bs b → Contains b.body f → s f ≡ true
     → branches_set bs s ≡ true
-branch_in s [] b f cb cf h = absurd (nowhere b cb)
+branch_in s [] b f cb cf h = absurd (nothing_in b cb)
 branch_in s (d ∷ bs) b f (zero, lt, is) cf h = or_left (list_any s d.body) (branches_set bs s)
     (any_in s d.body f (subst (λ (z : Branch). Contains z.body f) (sym is) cf) h)
 branch_in s (d ∷ bs) b f (suc k, lt, is) cf h = or_right (list_any s d.body) (branches_set bs s)
@@ -146,7 +147,7 @@ branch_in s (d ∷ bs) b f (suc k, lt, is) cf h = or_right (list_any s d.body) (
 -- what a form in a branch reads, the branches read
 branch_reads : (m s : ℕ → Bool) (before : Bool) (bs : List Branch) (r : ℕ → Bool) (b : Branch) (f : ℕ)
     → Contains bs b → Contains b.body f → r f ≡ true → branches_read m s before bs r ≡ true
-branch_reads m s before [] r b f cb cf h = absurd (nowhere b cb)
+branch_reads m s before [] r b f cb cf h = absurd (nothing_in b cb)
 branch_reads m s before (d ∷ bs) r b f (zero, lt, is) cf h =
     or_right ((before || m d.guard) && list_any s d.body)
     (list_any r d.body || branches_read m s (before || m d.guard) bs r)
@@ -161,7 +162,7 @@ branch_reads m s before (d ∷ bs) r b f (suc k, lt, is) cf h =
 -- where an earlier guard has the name, a `setq` in a branch reads it
 guarded : (m s : ℕ → Bool) (bs : List Branch) (r : ℕ → Bool) (b : Branch) (f : ℕ) → Contains bs b → Contains b.body f
     → s f ≡ true → branches_read m s true bs r ≡ true
-guarded m s [] r b f cb cf h = absurd (nowhere b cb)
+guarded m s [] r b f cb cf h = absurd (nothing_in b cb)
 guarded m s (d ∷ bs) r b f (zero, lt, is) cf h = or_left (list_any s d.body)
     (list_any r d.body || branches_read m s true bs r)
     (any_in s d.body f (subst (λ (z : Branch). Contains z.body f) (sym is) cf) h)
@@ -206,12 +207,12 @@ module _ (p : Program) (r : Rtl) (roles : List Role) (enables : List (Option Ena
   no_true h = elim (reads_by r.exprs c 0 (Truth true) h (plan.truth).0) [
     | inl is ↦ (let k = ap code is in
         omega (arith, k))
-    | inr (a, ca, more) ↦ nowhere a ca
+    | inr (a, ca, more) ↦ nothing_in a ca
   ]
 
   no_false : Touches 1 → ⊥
   no_false h = let (a, ca, more) = reads_args r.exprs c 1 (Apply Not 0 (0 ∷ [])) h (plan.truth).1 refl in
-      elim (cases_of a 0 [] ca) [ inl is ↦ no_true (subst Touches (sym is) more) | inr none ↦ nowhere a none ]
+      elim (cases_of a 0 [] ca) [ inl is ↦ no_true (subst Touches (sym is) more) | inr none ↦ nothing_in a none ]
 
   abbrev MentionedAt : ℕ → Type 0
   MentionedAt e = Touches (copy_of p e) → mentions p y.name e ≡ true
@@ -222,12 +223,12 @@ module _ (p : Program) (r : Rtl) (roles : List Role) (enables : List (Option Ena
   kind_mentioned e (source.Number n) z below fit is at h =
       elim (reads_by r.exprs c (copy_of p e) z h at) [
         | inl cell ↦ (let k = sym (ap code is) ∙ ap code cell in absurd (omega (arith, k)))
-        | inr (a, ca, more) ↦ absurd (nowhere a (subst (λ (t : RtlExpr). Contains (args_of t) a) is ca))
+        | inr (a, ca, more) ↦ absurd (nothing_in a (subst (λ (t : RtlExpr). Contains (args_of t) a) is ca))
       ]
   kind_mentioned e (source.Named x) z below fit (d, at_d, inl (n, what, is)) at h =
       elim (reads_by r.exprs c (copy_of p e) z h at) [
         | inl cell ↦ (let k = sym (ap code is) ∙ ap code cell in absurd (omega (arith, k)))
-        | inr (a, ca, more) ↦ absurd (nowhere a (subst (λ (t : RtlExpr). Contains (args_of t) a) is ca))
+        | inr (a, ca, more) ↦ absurd (nothing_in a (subst (λ (t : RtlExpr). Contains (args_of t) a) is ca))
       ]
   kind_mentioned e (source.Named x) z below fit (d, at_d, inr (c2, role2, is)) at h =
       let same : c2 ≡ c = reads_cell r.exprs c c2 (copy_of p e) h (subst (IsAt r.exprs (copy_of p e)) is at) in
@@ -241,18 +242,18 @@ module _ (p : Program) (r : Rtl) (roles : List Role) (enables : List (Option Ena
       elim (cases_of a 1 [] (subst (λ (t : RtlExpr). Contains (args_of t) a) is ca)) [
         | inl one ↦ absurd
             (no_false (subst Touches (sym one) more))
-        | inr none ↦ absurd (nowhere a none)
+        | inr none ↦ absurd (nothing_in a none)
       ]
   kind_mentioned e source.False z below fit is at h =
       let (a, ca, more) = reads_args r.exprs c (copy_of p e) z h at (ap code is) in
       elim (cases_of a 0 [] (subst (λ (t : RtlExpr). Contains (args_of t) a) is ca)) [
         | inl none ↦ absurd
             (no_true (subst Touches (sym none) more))
-        | inr none ↦ absurd (nowhere a none)
+        | inr none ↦ absurd (nothing_in a none)
       ]
   kind_mentioned e (source.Apply op k args) z below fit is at h =
       let (a, ca, more) = reads_args r.exprs c (copy_of p e) z h at (ap code is) in
-      let (x, cx, e2) = in_map (copy_of p) args a (subst (λ (t : RtlExpr). Contains (args_of t) a) is ca) in
+      let (x, cx, e2) = contains_from_map (copy_of p) args a (subst (λ (t : RtlExpr). Contains (args_of t) a) is ca) in
       let range = between_in e (length p.exprs) args x fit.1 cx in
       any_in (mentions p y.name) args x cx (below x range.0 range.1 (subst Touches (sym e2) more))
 
@@ -285,7 +286,7 @@ module _ (p : Program) (r : Rtl) (roles : List Role) (enables : List (Option Ena
         | inr later ↦ elim (cases_of e z [] later) [
           | inl is ↦ inr (subst Touches (sym is) more)
           | inr none ↦ absurd
-              (nowhere e none)
+              (nothing_in e none)
         ]
       ]
 
@@ -298,18 +299,18 @@ module _ (p : Program) (r : Rtl) (roles : List Role) (enables : List (Option Ena
       → GuardsIn bs → BranchEnables p r.exprs enables o rest bs
       → Contains bs d → Contains d.body f → HasEnable enables f o a → sets p x f ≡ true → Touches a
       → Touches rest ⊎ (branches_read (mentions p y.name) (sets p x) false bs rd ≡ true)
-  branch_touches x o rest [] d f a rd low enabling cd cf has set h = absurd (nowhere d cd)
+  branch_touches x o rest [] d f a rd low enabling cd cf has set h = absurd (nothing_in d cd)
   branch_touches x o rest (z ∷ []) d f a rd low (a2, at, body) cd cf has set h =
       let inside_z : Contains z.body f = elim (cases_of d z [] cd) [
         | inl e ↦ subst
             (λ (t : Branch). Contains t.body f) (sym e) cf
-        | inr e ↦ absurd (nowhere d e)
+        | inr e ↦ absurd (nothing_in d e)
       ] in
       let same : a ≡ a2 = (one_enable enables f o o a a2 has (body f inside_z)).1 in
       elim (two_args a2 rest (copy_of p z.guard) at (subst Touches same h)) [
         | inl in_rest ↦ inl in_rest
         | inr in_guard ↦
-            let m = mentioned z.guard (low z (here z [])) in_guard in
+            let m = mentioned z.guard (low z (contains_head z [])) in_guard in
             inr (or_left ((false || mentions p y.name z.guard) && list_any (sets p x) z.body)
             (list_any rd z.body || branches_read (mentions p y.name) (sets p x)
             (false || mentions p y.name z.guard) [] rd)
@@ -323,7 +324,7 @@ module _ (p : Program) (r : Rtl) (roles : List Role) (enables : List (Option Ena
             elim (two_args a2 rest (copy_of p z.guard) at (subst Touches same h)) [
               | inl in_rest ↦ inl in_rest
               | inr in_guard ↦
-                  let m = mentioned z.guard (low z (here z (w ∷ bs))) in_guard in
+                  let m = mentioned z.guard (low z (contains_head z (w ∷ bs))) in_guard in
                   inr (or_left ((false || mentions p y.name z.guard) && list_any (sets p x) z.body)
                   (list_any rd z.body || branches_read (mentions p y.name) (sets p x)
                   (false || mentions p y.name z.guard) (w ∷ bs) rd)
@@ -331,7 +332,7 @@ module _ (p : Program) (r : Rtl) (roles : List Role) (enables : List (Option Ena
             ]
         | inr later ↦
             elim (branch_touches x o m2 (w ∷ bs) d f a rd
-            (λ t ct. low t (there t z (w ∷ bs) ct)) more later cf has set h) [
+            (λ t ct. low t (contains_behind t z (w ∷ bs) ct)) more later cf has set h) [
               | inl in_m ↦ elim (two_args m2 rest n at_m in_m) [
                 | inl in_rest ↦ inl in_rest
                 | inr in_n ↦
@@ -341,9 +342,9 @@ module _ (p : Program) (r : Rtl) (roles : List Role) (enables : List (Option Ena
                     elim (cases_of e (copy_of p z.guard) [] ce) [
                       | inl is ↦ subst Touches
                           (sym is) touches
-                      | inr none ↦ absurd (nowhere e none)
+                      | inr none ↦ absurd (nothing_in e none)
                     ] in
-                    let m = mentioned z.guard (low z (here z (w ∷ bs))) in_guard in
+                    let m = mentioned z.guard (low z (contains_head z (w ∷ bs))) in_guard in
                     inr (or_right ((false || mentions p y.name z.guard) && list_any (sets p x) z.body)
                     (list_any rd z.body || branches_read (mentions p y.name) (sets p x)
                     (false || mentions p y.name z.guard) (w ∷ bs) rd)
@@ -362,7 +363,7 @@ module _ (p : Program) (r : Rtl) (roles : List Role) (enables : List (Option Ena
       ]
 
   branches_low : (i n : ℕ) (bs : List Branch) → BranchesFit (length p.exprs) i n bs → GuardsIn bs
-  branches_low i n [] fit d cd = absurd (nowhere d cd)
+  branches_low i n [] fit d cd = absurd (nothing_in d cd)
   branches_low i n (z ∷ bs) fit d (zero, lt, is) = subst (λ (t : Branch). t.guard < length p.exprs) is fit.0.0
   branches_low i n (z ∷ bs) fit d (suc k, lt, is) = branches_low i n bs fit.1 d (k, omega (arith, lt), is)
 

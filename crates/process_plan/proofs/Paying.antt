@@ -54,6 +54,7 @@ use Rattle.mp_base.specs.declared.op.Op.TheVariants.{
   Equal,
   Less,
 }
+use Rattle.mp_base.proofs.Induction.{by_test}
 use Rattle.mp_program.specs.declared.program.ExprKind.{ExprKind}
 use Rattle.mp_program.specs.declared.program.ExprKind.TheVariants as source
 use Rattle.mp_program.specs.declared.program.FormKind.{FormKind}
@@ -89,7 +90,6 @@ use Rattle.process_plan.specs.Bill.{
   first_bill,
   process_bill,
 }
-use Rattle.process_plan.proofs.Members.{by_test}
 
 -- ---- an item each
 

@@ -32,6 +32,8 @@ use Rattle.std.proofs.lemmas.Bool.{eqb-true, eqb-false, eq-eqb, lt-ltb}
 use Rattle.std.proofs.lemmas.List.{get_or_past}
 use Rattle.mp_base.specs.Apply.{truth}
 use Rattle.mp_base.specs.Merge.{merged}
+use Rattle.mp_base.proofs.Contents.{contains_head, nothing_in, only_one}
+use Rattle.mp_base.proofs.Induction.{by_test}
 use Rattle.mp_program.specs.declared.program.FormKind.{FormKind}
 use Rattle.mp_program.specs.declared.program.FormKind.TheVariants.{Set, Cond, Par, Go, Call, Return}
 use Rattle.mp_program.specs.declared.program.Form.{Form}
@@ -43,6 +45,7 @@ use Rattle.mp_program.specs.State.{State, Seat}
 use Rattle.mp_program.specs.Step.{wrapped, place_of_label, next_seat}
 use Rattle.mp_program.specs.Values as from
 use Rattle.mp_rules.specs.Entries.{IsAt}
+use Rattle.mp_rules.proofs.ListEntries.{one_entry}
 use Rattle.rtl_form.specs.declared.rtl.Rtl.{Rtl}
 use Rattle.rtl_form.specs.declared.rtl.Transfer.{Transfer}
 use Rattle.rtl_form.specs.Written.{written}
@@ -66,7 +69,7 @@ use Rattle.process_plan.specs.Plan.{
   empties,
 }
 use Rattle.process_plan.proofs.Merging.{merge_zeros, merge_one}
-use Rattle.process_plan.proofs.Members.{here, nowhere, only_one, one_entry, by_test, truth_low, zero_or_more}
+use Rattle.process_plan.proofs.Members.{truth_low, zero_or_more}
 use Rattle.process_plan.proofs.Moving.{IsMove, moves, some_move}
 use Rattle.process_plan.proofs.Enabling.{seat_fits, one_of}
 use Rattle.process_plan.proofs.Scene.{Scene, W, w_true, w_cell, enable_low, in_written, written_in, tells_low}
@@ -84,18 +87,9 @@ use Rattle.process_plan.proofs.Jumping.{
   next_on,
   is_returning,
 }
+use Rattle.process_plan.proofs.Enables.{process_of, place_of}
 
 -- ---- roles
-
-abbrev process_of : Role → ℕ
-process_of (Value d) = 0
-process_of (Placed k j) = k
-process_of (Stacked k l j) = k
-
-abbrev place_of : Role → ℕ
-place_of (Value d) = 0
-place_of (Placed k j) = j
-place_of (Stacked k l j) = j
 
 abbrev level_of : Role → ℕ
 level_of (Value d) = 0
@@ -138,7 +132,7 @@ is_wrapped q n lt = ap (λ b. cond b n 0) (lt-ltb n (length q.forms) lt)
 -- bits of which none is 1
 merge_none : (vs : List ℕ) (x : ℕ) → Contains vs x → ((y : ℕ) → Contains vs y → y ≤ 1) → (Contains vs 1 → ⊥)
     → merged vs ≡ Some 0
-merge_none [] x c low no_one = absurd (nowhere x c)
+merge_none [] x c low no_one = absurd (nothing_in x c)
 merge_none (v ∷ vs) x c low no_one = merge_zeros v vs (λ y cy. is_zero y (low y cy)
     (λ e. no_one (subst (Contains (v ∷ vs)) e cy)))
   where
@@ -159,8 +153,8 @@ lands_own : (v : ℕ → ℕ) (q : Process) (k : FormKind) (j : ℕ) (s : Seat) 
 lands_own v q (Set x at e) j s to = absurd to
 lands_own v q (Cond bs) j s to = absurd to
 lands_own v q (Par fs) j s to = absurd to
-lands_own v q (Go l) j s to = (Goes l, here (Goes l) [], tt, sym to)
-lands_own v q (Call l) j s to = (Calls l, here (Calls l) [], tt, sym to)
+lands_own v q (Go l) j s to = (Goes l, contains_head (Goes l) [], tt, sym to)
+lands_own v q (Call l) j s to = (Calls l, contains_head (Calls l) [], tt, sym to)
 lands_own v q Return j s to = absurd to
 
 module _ {p : Program} {r : Rtl} {roles : List Role} {enables : List (Option Enable)} {st : State} {inputs env : List ℕ}
@@ -260,11 +254,11 @@ module _ {p : Program} {r : Rtl} {roles : List Role} {enables : List (Option Ena
       → Contains does m → IsMove m → (kind : FormKind) → y.kind ≡ kind
       → Contains (own_effects (from.value_of p env) kind) m → Contains (written X c r.transfers) 1
   moved_place c j role pos next f y a m here_y has one_a cm is (Set x at e) kind own =
-      absurd (subst IsMove (sym (only_one m (Writes x (from.value_of p env e)) own)) is)
-  moved_place c j role pos next f y a m here_y has one_a cm is (Cond bs) kind own = absurd (nowhere m own)
-  moved_place c j role pos next f y a m here_y has one_a cm is (Par fs) kind own = absurd (nowhere m own)
+      absurd (subst IsMove (sym (only_one (Writes x (from.value_of p env e)) m own)) is)
+  moved_place c j role pos next f y a m here_y has one_a cm is (Cond bs) kind own = absurd (nothing_in m own)
+  moved_place c j role pos next f y a m here_y has one_a cm is (Par fs) kind own = absurd (nothing_in m own)
   moved_place c j role pos next f y a m here_y has one_a cm is (Go l) kind own =
-      let e : Goes l ≡ m = only_one m (Goes l) own in
+      let e : Goes l ≡ m = only_one (Goes l) m own in
       let to : place_of_label q q.labels l ≡ j = sym (ap (λ (z : Seat). z.place)
       (next_by q from_here does (Goes l) (subst (Contains does) (sym e) cm) tt one)) ∙ next in
       put c 1 (record { guard = 0; target = c; value = a })
@@ -272,7 +266,7 @@ module _ {p : Program} {r : Rtl} {roles : List Role} {enables : List (Option Ena
       (subst (λ z. LandsAt q z j) (sym kind) (sym to)) has role)
       refl (w_true s) one_a
   moved_place c j role pos next f y a m here_y has one_a cm is (Call l) kind own =
-      let e : Calls l ≡ m = only_one m (Calls l) own in
+      let e : Calls l ≡ m = only_one (Calls l) m own in
       let to : place_of_label q q.labels l ≡ j = sym (ap (λ (z : Seat). z.place)
       (next_by q from_here does (Calls l) (subst (Contains does) (sym e) cm) tt one)) ∙ next in
       put c 1 (record { guard = 0; target = c; value = a })
@@ -280,7 +274,7 @@ module _ {p : Program} {r : Rtl} {roles : List Role} {enables : List (Option Ena
       (subst (λ z. LandsAt q z j) (sym kind) (sym to)) has role)
       refl (w_true s) one_a
   moved_place c j role pos next f y a m here_y has one_a cm is Return kind own =
-      let e : Returns ≡ m = only_one m Returns own in
+      let e : Returns ≡ m = only_one Returns m own in
       let cr : Contains does Returns = subst (Contains does) (sym e) cm in
       let to : slice_index from_here.stack 0 ≡ j = sym
       (ap (λ (z : Seat). z.place) (next_by q from_here does Returns cr tt one)) ∙ next in

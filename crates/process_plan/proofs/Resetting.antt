@@ -36,6 +36,7 @@ use Rattle.std.proofs.lemmas.List.Elements.{All-from_recursion}
 use Rattle.std.proofs.lemmas.List.Quantifiers.{position-Some}
 use Rattle.std.proofs.lemmas.Iterator.Adapters.{position_from-zero}
 use Rattle.mp_base.specs.declared.refusal.Place.{Place}
+use Rattle.mp_base.proofs.Induction.{by_test}
 use Rattle.mp_program.specs.declared.program.What.{What}
 use Rattle.mp_program.specs.declared.program.What.TheVariants.{
   Power,
@@ -49,15 +50,17 @@ use Rattle.mp_program.specs.declared.program.What.TheVariants.{
   Port,
   Signal,
 }
-use Rattle.mp_program.specs.declared.program.Way.TheVariants.{Input, Output, Internal}
+use Rattle.mp_program.specs.declared.program.Way.TheVariants.{Input}
 use Rattle.mp_program.specs.declared.program.Def.{Def}
 use Rattle.mp_program.specs.declared.program.Program.{Program}
 use Rattle.mp_program.specs.Names.{is_same, is_input, is_input_signal, is_reset, is_stored, pad_number}
 use Rattle.mp_program.specs.Pads.{ArePadsOf, pad_width}
 use Rattle.mp_program.specs.Trace as source
 use Rattle.mp_program.proofs.Definitions.{same_is}
+use Rattle.mp_program.proofs.FormKinds.{input_signal}
 use Rattle.mp_rules.specs.Entries.{IsAt}
 use Rattle.mp_rules.specs.Rules.{E34}
+use Rattle.mp_rules.proofs.ListEntries.{some_entry}
 use Rattle.rtl_form.specs.declared.rtl.CellKind.TheVariants as kinds
 use Rattle.rtl_form.specs.declared.rtl.Cell.{Cell}
 use Rattle.rtl_form.specs.declared.rtl.Rtl.{Rtl}
@@ -65,24 +68,7 @@ use Rattle.rtl_form.specs.Sound.{IsReset}
 use Rattle.rtl_form.specs.Trace as rtl_trace
 use Rattle.process_plan.specs.Roles.{Role, AreCells}
 use Rattle.process_plan.specs.Plan.{IsResetCell}
-use Rattle.process_plan.proofs.Members.{by_test, some_entry}
 use Rattle.process_plan.proofs.Facing.{filter_at, face_at, input_role, stored}
-
-signal_input : (w : What) → is_input_signal w ≡ true → is_input w ≡ true
-signal_input Power h = h
-signal_input Ground h = h
-signal_input Phia h = h
-signal_input Phib h = h
-signal_input Phic h = h
-signal_input (Constant c) h = h
-signal_input Register h = h
-signal_input Flag h = h
-signal_input (Port Input) h = refl
-signal_input (Port Output) h = h
-signal_input (Port Internal) h = h
-signal_input (Signal Input) h = refl
-signal_input (Signal Output) h = h
-signal_input (Signal Internal) h = h
 
 signal_width : (n : ℕ) (w : What) → is_input_signal w ≡ true → pad_width n w ≡ 0
 signal_width n Power h = refl
@@ -133,7 +119,7 @@ module _ (p : Program) (r : Rtl) (roles : List Role) (cells : AreCells p roles r
       let y : Def = slice_index_or p.defs d other in
       let at_y : IsAt p.defs d y = (lt, get_or_default p.defs d other y lt) in
       let (name, signal) = and_parts (is_same y.name (codes "reset")) (is_input_signal y.what) passes in
-      let is = signal_input y.what signal in
+      let is = input_signal y.what signal in
       let (pad, at_pad, pad_name, width) = face_at (r.pads).inputs
       (filter (λ (t : Def). is_input t.what) p.defs) p.width
       (pad_number p.defs d) y padded.inputs (filter_at (λ (t : Def). is_input t.what) p.defs d y at_y is) in (

@@ -21,6 +21,8 @@ use Rattle.std.proofs.Common.{
 use Rattle.std.specs.Prelude.{Bool, Contains, ◌||◌}
 use Rattle.std.specs.List.{AllByRecursion, list_any}
 use Rattle.std.proofs.lemmas.List.Elements.{recursion_from_All}
+use Rattle.mp_base.proofs.Contents.{nothing_in}
+use Rattle.mp_base.proofs.Induction.{downward}
 use Rattle.mp_program.specs.declared.program.FormKind.{FormKind}
 use Rattle.mp_program.specs.declared.program.FormKind.TheVariants.{Set, Cond, Par, Go, Call, Return}
 use Rattle.mp_program.specs.declared.program.Branch.{Branch}
@@ -31,6 +33,7 @@ use Rattle.mp_program.specs.Sound.{AllBetween, BranchesFit, InnerFit}
 use Rattle.mp_program.specs.State.{zero_state}
 use Rattle.mp_program.specs.Trace as source
 use Rattle.mp_rules.specs.Entries.{IsAt}
+use Rattle.mp_rules.proofs.ListEntries.{some_entry}
 use Rattle.rtl_form.specs.declared.rtl.Rtl.{Rtl}
 use Rattle.rtl_form.specs.declared.rtl.RtlExpr.{RtlExpr}
 use Rattle.rtl_form.specs.declared.rtl.Transfer.{Transfer}
@@ -41,7 +44,6 @@ use Rattle.process_plan.specs.Roles.{Role, AreCells}
 use Rattle.process_plan.specs.Plan.{FollowsOrder, IsResetCell}
 use Rattle.process_plan.specs.Same.{IsSame, InputsFit}
 use Rattle.process_plan.specs.Built.{IsBuilt, IsIdle, is_set}
-use Rattle.process_plan.proofs.Members.{nowhere, some_entry, downward}
 use Rattle.process_plan.proofs.Keeping.{keeps_22, keeps_23, keeps_24, keeps_27, keeps_34}
 use Rattle.process_plan.proofs.Copying.{Valued}
 use Rattle.process_plan.proofs.Sorts.{IsSorted}
@@ -184,7 +186,7 @@ module _ {p : Program} {order : List ℕ} (lawful : Lawful p order) where
       sound_of r idle.roles idle.width idle.padded idle.reset idle.cells idle.ordered
       (idle_alike p r idle.roles idle.transfers)
       (λ e x at. absurd (nothing e x (subst (λ xs. IsAt xs e x) idle.exprs at)))
-      (λ t c. absurd (nowhere t (subst (λ ts. Contains ts t) idle.transfers c)))
+      (λ t c. absurd (nothing_in t (subst (λ ts. Contains ts t) idle.transfers c)))
     where
       nothing : (e : ℕ) (x : RtlExpr) → IsAt {X = RtlExpr} [] e x → ⊥
       nothing e x (lt, is) = omega (arith, lt)

@@ -25,6 +25,8 @@ use Rattle.std.specs.List.{list_all}
 use Rattle.std.proofs.lemmas.Bool.{eqb-true, eq-eqb, and_parts}
 use Rattle.mp_base.specs.Apply.{truth}
 use Rattle.mp_base.specs.declared.op.Op.TheVariants.{And}
+use Rattle.mp_base.proofs.Contents.{contains_head, contains_behind, nothing_in}
+use Rattle.mp_base.proofs.Induction.{by_test, upward}
 use Rattle.mp_program.specs.declared.program.FormKind.{FormKind}
 use Rattle.mp_program.specs.declared.program.FormKind.TheVariants.{Set, Cond, Par, Go, Call, Return}
 use Rattle.mp_program.specs.declared.program.Branch.{Branch}
@@ -54,7 +56,7 @@ use Rattle.process_plan.specs.Enables.{
   IsOriginExpr,
 }
 use Rattle.process_plan.specs.Plan.{FollowsPlan}
-use Rattle.process_plan.proofs.Members.{here, there, nowhere, cases_of, upward, by_test, truth_low}
+use Rattle.process_plan.proofs.Members.{cases_of, truth_low}
 use Rattle.process_plan.proofs.Copying.{Valued, value_true, value_false, value_cell}
 use Rattle.process_plan.proofs.Enabling.{
   GuardsAreBits,
@@ -89,35 +91,36 @@ abbrev pub WrittenBy : (ℕ → ℕ) → ℕ → List Transfer → ℕ → Type 
 WrittenBy v c ts w = (t : Transfer) × Contains ts t × (t.target ≡ c) × (v t.guard ≡ 1) × (v t.value ≡ w)
 
 pub in_written : (v : ℕ → ℕ) (c : ℕ) (ts : List Transfer) (w : ℕ) → Contains (written v c ts) w → WrittenBy v c ts w
-in_written v c [] w h = absurd (nowhere w h)
+in_written v c [] w h = absurd (nothing_in w h)
 in_written v c (t ∷ ts) w h = by_test (writes v c t)
     (λ e.
     let parts = and_parts (t.target == c) (v t.guard == 1) e in
     let h2 : Contains (v t.value ∷ written v c ts) w =
     subst (λ b. Contains (cond b (v t.value ∷ written v c ts) (written v c ts)) w) e h in
     elim (cases_of w (v t.value) (written v c ts) h2) as (λ _. WrittenBy v c (t ∷ ts) w) [
-      | inl is ↦ (t, here t ts, eqb-true t.target c parts.0, eqb-true (v t.guard) 1 parts.1, is)
-      | inr more ↦ let (u, cu, a, b, d) = in_written v c ts w more in (u, there u t ts cu, a, b, d)
+      | inl is ↦ (t, contains_head t ts, eqb-true t.target c parts.0, eqb-true (v t.guard) 1 parts.1, is)
+      | inr more ↦ let (u, cu, a, b, d) = in_written v c ts w more in (u, contains_behind u t ts cu, a, b, d)
     ])
     (λ e. let (u, cu, a, b, d) = in_written v c ts w (subst
-    (λ b. Contains (cond b (v t.value ∷ written v c ts) (written v c ts)) w) e h) in (u, there u t ts cu, a, b, d))
+    (λ b. Contains (cond b (v t.value ∷ written v c ts) (written v c ts)) w) e h) in
+    (u, contains_behind u t ts cu, a, b, d))
 
 pub written_in : (v : ℕ → ℕ) (c : ℕ) (ts : List Transfer) (t : Transfer) → Contains ts t → t.target ≡ c
     → v t.guard ≡ 1 → Contains (written v c ts) (v t.value)
-written_in v c [] t h target guard = absurd (nowhere t h)
+written_in v c [] t h target guard = absurd (nothing_in t h)
 written_in v c (u ∷ ts) t h target guard = elim (cases_of t u ts h) [
   | inl is ↦
       let test : writes v c u ≡ true = ap (writes v c) is
       ∙ ap (λ b. b && (v t.guard == 1)) (eq-eqb t.target c target) ∙ eq-eqb (v t.guard) 1 guard in
       subst (λ b. Contains (cond b (v u.value ∷ written v c ts) (written v c ts)) (v t.value)) (sym test)
       (subst (λ (z : Transfer). Contains (v u.value ∷ written v c ts) (v z.value)) is
-      (here (v u.value) (written v c ts)))
+      (contains_head (v u.value) (written v c ts)))
   | inr more ↦ pick (writes v c u) (written_in v c ts t more target guard)
 ]
   where
     pick : (b : Bool) → Contains (written v c ts) (v t.value)
         → Contains (cond b (v u.value ∷ written v c ts) (written v c ts)) (v t.value)
-    pick true c2 = there (v t.value) (v u.value) (written v c ts) c2
+    pick true c2 = contains_behind (v t.value) (v u.value) (written v c ts) c2
     pick false c2 = c2
 
 pub tells_low : (n : ℕ) (P : Type 0) → Tells n P → n ≤ 1
@@ -157,12 +160,12 @@ module _ {p : Program} {r : Rtl} {roles : List Role} {enables : List (Option Ena
   branch_low : (o : Origin) (rest : ℕ) (bs : List Branch) (b : Branch) (f x : ℕ)
       → BranchEnables p r.exprs enables o rest bs → Contains bs b → Contains b.body f → HasEnable enables f o x
       → W x ≤ 1
-  branch_low o rest [] b f x enabling cb cf has = absurd (nowhere b cb)
+  branch_low o rest [] b f x enabling cb cf has = absurd (nothing_in b cb)
   branch_low o rest (d ∷ []) b f x (a, at, body) cb cf has =
       let inside : Contains d.body f = elim (cases_of b d [] cb) [
         | inl e ↦ subst (λ (t : Branch). Contains t.body f)
             (sym e) cf
-        | inr e ↦ absurd (nowhere b e)
+        | inr e ↦ absurd (nothing_in b e)
       ] in
       let same : x ≡ a = (one_enable enables f o o x a has (body f inside)).1 in
       let is : W x ≡ truth (list_all (λ z. z == 1) (W rest ∷ W (copy_of p d.guard) ∷ [])) =

@@ -41,12 +41,14 @@ use Rattle.std.proofs.lemmas.List.{
   get_or-append_right,
   length-map,
   length-replicate,
-  get_or-replicate,
   length-take,
   get_or_default,
 }
+use Rattle.std.proofs.lemmas.Option.{same_Some}
 use Rattle.mp_base.specs.Apply.{truth}
 use Rattle.mp_base.specs.Merge.{merged}
+use Rattle.mp_base.proofs.Induction.{by_test}
+use Rattle.mp_base.proofs.Entries.{zeros_at}
 use Rattle.mp_program.specs.declared.program.What.{What}
 use Rattle.mp_program.specs.declared.program.What.TheVariants.{
   Power,
@@ -72,6 +74,7 @@ use Rattle.mp_program.specs.Environment.{IsEnvironment, what_value, driven_value
 use Rattle.mp_program.specs.Step.{wrapped, next_stored, next_seat, next_seats}
 use Rattle.mp_program.specs.Weight.{calls_in}
 use Rattle.mp_rules.specs.Entries.{IsAt}
+use Rattle.mp_rules.proofs.ListEntries.{one_entry, some_entry}
 use Rattle.rtl_form.specs.declared.rtl.Cell.{Cell}
 use Rattle.rtl_form.specs.declared.rtl.Rtl.{Rtl}
 use Rattle.rtl_form.specs.Written.{written}
@@ -92,7 +95,7 @@ use Rattle.process_plan.specs.Roles.{
   IsReturnPlace,
 }
 use Rattle.process_plan.specs.Enables.{Enable}
-use Rattle.process_plan.proofs.Members.{some_entry, one_entry, by_test, some_is, zero_or_more}
+use Rattle.process_plan.proofs.Members.{zero_or_more}
 use Rattle.process_plan.proofs.Moving.{IsMove, moves, some_move}
 use Rattle.process_plan.proofs.Copying.{cell_at}
 use Rattle.process_plan.proofs.Enabling.{seat_fits}
@@ -163,12 +166,6 @@ zero_seat_at [] k q (lt, is) = absurd (omega (arith, lt))
 zero_seat_at (x ∷ qs) zero q (lt, is) = ap zero_seat (sym is)
 zero_seat_at (x ∷ qs) (suc k) q (lt, is) = zero_seat_at qs k q (omega (arith, lt), is)
 
-zeros_at : (n i : ℕ) → slice_index (replicate n 0) i ≡ 0
-zeros_at n i = elim (cases_lt i n) [
-  | inl lt ↦ get_or-replicate n i 0 0 lt
-  | inr le ↦ let e = length-replicate {A = ℕ} n 0 in get_or_past (replicate n 0) i 0 (omega (arith, e, le))
-]
-
 -- ---- the cells of definitions
 
 pub cell_named : (ds : List Def) (d : ℕ) (w : What) (x : Cell) → def_cell ds d w ≡ Some x → is_supply w ≡ false
@@ -193,21 +190,21 @@ cell_value ds d Phib x inputs stored driven h = absurd (cc)
 cell_value ds d Phic x inputs stored driven h = absurd (cc)
 cell_value ds d (Constant c) x inputs stored driven h = absurd (cc)
 cell_value ds d Register x inputs stored driven h = ap (λ (z : Cell). rtl.kind_value z.kind inputs stored driven)
-    (sym (some_is _ x h))
+    (sym (same_Some _ x h))
 cell_value ds d Flag x inputs stored driven h = ap (λ (z : Cell). rtl.kind_value z.kind inputs stored driven)
-    (sym (some_is _ x h))
+    (sym (same_Some _ x h))
 cell_value ds d (Port Input) x inputs stored driven h =
-    ap (λ (z : Cell). rtl.kind_value z.kind inputs stored driven) (sym (some_is _ x h))
+    ap (λ (z : Cell). rtl.kind_value z.kind inputs stored driven) (sym (same_Some _ x h))
 cell_value ds d (Port Output) x inputs stored driven h =
-    ap (λ (z : Cell). rtl.kind_value z.kind inputs stored driven) (sym (some_is _ x h))
+    ap (λ (z : Cell). rtl.kind_value z.kind inputs stored driven) (sym (same_Some _ x h))
 cell_value ds d (Port Internal) x inputs stored driven h =
-    ap (λ (z : Cell). rtl.kind_value z.kind inputs stored driven) (sym (some_is _ x h))
+    ap (λ (z : Cell). rtl.kind_value z.kind inputs stored driven) (sym (same_Some _ x h))
 cell_value ds d (Signal Input) x inputs stored driven h =
-    ap (λ (z : Cell). rtl.kind_value z.kind inputs stored driven) (sym (some_is _ x h))
+    ap (λ (z : Cell). rtl.kind_value z.kind inputs stored driven) (sym (same_Some _ x h))
 cell_value ds d (Signal Output) x inputs stored driven h =
-    ap (λ (z : Cell). rtl.kind_value z.kind inputs stored driven) (sym (some_is _ x h))
+    ap (λ (z : Cell). rtl.kind_value z.kind inputs stored driven) (sym (same_Some _ x h))
 cell_value ds d (Signal Internal) x inputs stored driven h =
-    ap (λ (z : Cell). rtl.kind_value z.kind inputs stored driven) (sym (some_is _ x h))
+    ap (λ (z : Cell). rtl.kind_value z.kind inputs stored driven) (sym (same_Some _ x h))
 
 pub cell_stored : (ds : List Def) (d : ℕ) (w : What) (x : Cell) → def_cell ds d w ≡ Some x
     → rtl.is_stored x.kind ≡ is_stored w
@@ -217,14 +214,14 @@ cell_stored ds d Phia x h = absurd (cc)
 cell_stored ds d Phib x h = absurd (cc)
 cell_stored ds d Phic x h = absurd (cc)
 cell_stored ds d (Constant c) x h = absurd (cc)
-cell_stored ds d Register x h = ap (λ (z : Cell). rtl.is_stored z.kind) (sym (some_is _ x h))
-cell_stored ds d Flag x h = ap (λ (z : Cell). rtl.is_stored z.kind) (sym (some_is _ x h))
-cell_stored ds d (Port Input) x h = ap (λ (z : Cell). rtl.is_stored z.kind) (sym (some_is _ x h))
-cell_stored ds d (Port Output) x h = ap (λ (z : Cell). rtl.is_stored z.kind) (sym (some_is _ x h))
-cell_stored ds d (Port Internal) x h = ap (λ (z : Cell). rtl.is_stored z.kind) (sym (some_is _ x h))
-cell_stored ds d (Signal Input) x h = ap (λ (z : Cell). rtl.is_stored z.kind) (sym (some_is _ x h))
-cell_stored ds d (Signal Output) x h = ap (λ (z : Cell). rtl.is_stored z.kind) (sym (some_is _ x h))
-cell_stored ds d (Signal Internal) x h = ap (λ (z : Cell). rtl.is_stored z.kind) (sym (some_is _ x h))
+cell_stored ds d Register x h = ap (λ (z : Cell). rtl.is_stored z.kind) (sym (same_Some _ x h))
+cell_stored ds d Flag x h = ap (λ (z : Cell). rtl.is_stored z.kind) (sym (same_Some _ x h))
+cell_stored ds d (Port Input) x h = ap (λ (z : Cell). rtl.is_stored z.kind) (sym (same_Some _ x h))
+cell_stored ds d (Port Output) x h = ap (λ (z : Cell). rtl.is_stored z.kind) (sym (same_Some _ x h))
+cell_stored ds d (Port Internal) x h = ap (λ (z : Cell). rtl.is_stored z.kind) (sym (same_Some _ x h))
+cell_stored ds d (Signal Input) x h = ap (λ (z : Cell). rtl.is_stored z.kind) (sym (same_Some _ x h))
+cell_stored ds d (Signal Output) x h = ap (λ (z : Cell). rtl.is_stored z.kind) (sym (same_Some _ x h))
+cell_stored ds d (Signal Internal) x h = ap (λ (z : Cell). rtl.is_stored z.kind) (sym (same_Some _ x h))
 
 -- In a clock of a program and of transfers, the same is written to what a cell stands for and to the cell.
 pub record Agreement (p : Program) (r : Rtl) (roles : List Role) (st : State) (inputs env : List ℕ) : Type 0 where

@@ -30,6 +30,7 @@ use Rattle.std.proofs.Common.{
 use Rattle.std.specs.Prelude.{Contains}
 use Rattle.std.proofs.lemmas.Bool.{cases_lt}
 use Rattle.std.proofs.lemmas.List.{length-map}
+use Rattle.std.proofs.lemmas.Option.{same_Some}
 use Rattle.mp_base.specs.declared.op.Op.{Op}
 use Rattle.mp_base.specs.declared.op.Op.TheVariants.{
   Add,
@@ -54,6 +55,7 @@ use Rattle.mp_base.specs.declared.op.Op.TheVariants.{
   Less,
 }
 use Rattle.mp_base.specs.declared.refusal.Place.{Place}
+use Rattle.mp_base.proofs.Contents.{only_one, contains_from_map}
 use Rattle.mp_program.specs.declared.program.ExprKind.{ExprKind}
 use Rattle.mp_program.specs.declared.program.ExprKind.TheVariants as source
 use Rattle.mp_program.specs.declared.program.What.{What}
@@ -89,6 +91,7 @@ use Rattle.mp_rules.specs.Sorts.{
   expr_sort,
   IsWanted,
 }
+use Rattle.mp_rules.proofs.ListEntries.{some_entry}
 use Rattle.rtl_form.specs.declared.rtl.Cell as cells
 use Rattle.rtl_form.specs.declared.rtl.RtlExpr.{RtlExpr}
 use Rattle.rtl_form.specs.declared.rtl.RtlExpr.TheVariants.{Number, Truth, Cell, Apply}
@@ -97,7 +100,7 @@ use Rattle.rtl_form.specs.Sound.{IsSort, IndexFits}
 use Rattle.process_plan.specs.Roles.{Role, Value, AreCells, def_cell}
 use Rattle.process_plan.specs.Enables.{copy_of, IsCopy}
 use Rattle.process_plan.specs.Fits.{HasSortIn, ExprFitsIn}
-use Rattle.process_plan.proofs.Members.{only_one, some_entry, between_in, some_is, in_map}
+use Rattle.process_plan.proofs.Members.{between_in}
 
 -- ---- sorts
 
@@ -132,14 +135,14 @@ cell_sort ds d Phia x h = absurd (cc)
 cell_sort ds d Phib x h = absurd (cc)
 cell_sort ds d Phic x h = absurd (cc)
 cell_sort ds d (Constant c) x h = absurd (cc)
-cell_sort ds d Register x h = ap (λ (z : cells.Cell). Some (sort_of z.word)) (some_is _ x h)
-cell_sort ds d Flag x h = ap (λ (z : cells.Cell). Some (sort_of z.word)) (some_is _ x h)
-cell_sort ds d (Port Input) x h = ap (λ (z : cells.Cell). Some (sort_of z.word)) (some_is _ x h)
-cell_sort ds d (Port Output) x h = ap (λ (z : cells.Cell). Some (sort_of z.word)) (some_is _ x h)
-cell_sort ds d (Port Internal) x h = ap (λ (z : cells.Cell). Some (sort_of z.word)) (some_is _ x h)
-cell_sort ds d (Signal Input) x h = ap (λ (z : cells.Cell). Some (sort_of z.word)) (some_is _ x h)
-cell_sort ds d (Signal Output) x h = ap (λ (z : cells.Cell). Some (sort_of z.word)) (some_is _ x h)
-cell_sort ds d (Signal Internal) x h = ap (λ (z : cells.Cell). Some (sort_of z.word)) (some_is _ x h)
+cell_sort ds d Register x h = ap (λ (z : cells.Cell). Some (sort_of z.word)) (same_Some _ x h)
+cell_sort ds d Flag x h = ap (λ (z : cells.Cell). Some (sort_of z.word)) (same_Some _ x h)
+cell_sort ds d (Port Input) x h = ap (λ (z : cells.Cell). Some (sort_of z.word)) (same_Some _ x h)
+cell_sort ds d (Port Output) x h = ap (λ (z : cells.Cell). Some (sort_of z.word)) (same_Some _ x h)
+cell_sort ds d (Port Internal) x h = ap (λ (z : cells.Cell). Some (sort_of z.word)) (same_Some _ x h)
+cell_sort ds d (Signal Input) x h = ap (λ (z : cells.Cell). Some (sort_of z.word)) (same_Some _ x h)
+cell_sort ds d (Signal Output) x h = ap (λ (z : cells.Cell). Some (sort_of z.word)) (same_Some _ x h)
+cell_sort ds d (Signal Internal) x h = ap (λ (z : cells.Cell). Some (sort_of z.word)) (same_Some _ x h)
 
 -- the sort of a name is that of its first definition
 pub name_sorted : (ds : List Def) (n : List ℕ) (x : Def) → IsAt ds (index_of ds n) x → name_sort ds n ≡ what_sort x.what
@@ -312,13 +315,13 @@ module _ (p : Program) (roles : List Role) (xs : List cells.Cell) (are : AreCell
         → (a < copy_of p e) × HasSortIn xs exprs a false
     bits_first b low has a c =
         let inside : e < length p.exprs = at.0 in
-        subst (λ n. (n < copy_of p e) × HasSortIn xs exprs n false) (only_one a b c) (omega (arith, low, inside), has)
+        subst (λ n. (n < copy_of p e) × HasSortIn xs exprs n false) (only_one b a c) (omega (arith, low, inside), has)
 
     arg_fits : (op : Op) (k : ℕ) (args : List ℕ) → x.kind ≡ source.Apply op k args
         → ArgsFit e (length p.exprs) (source.Apply op k args)
         → (a : ℕ) → Contains (map (copy_of p) args) a → (a < copy_of p e) × HasSortIn xs exprs a (takes_words op)
     arg_fits op k args kind fit a c =
-        let (j, cj, same) = in_map (copy_of p) args a c in
+        let (j, cj, same) = contains_from_map (copy_of p) args a c in
         let (over, under) = between_in e (length p.exprs) args j fit.1 cj in
         let (z, at_z) = some_entry p.exprs j under in
         let wanted : IsWanted p j (Some (sort_of (takes_words op))) =

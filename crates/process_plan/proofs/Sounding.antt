@@ -2,6 +2,8 @@
 use Rattle.std.proofs.Common.{◌≡◌, ◌∙◌, ℕ, ◌<◌, List, [], true, Option, Some, sym, ap, subst, arith, length}
 use Rattle.std.specs.Prelude.{Contains, slice_index}
 use Rattle.std.proofs.lemmas.List.{get_or_default}
+use Rattle.mp_base.proofs.Contents.{nothing_in}
+use Rattle.std.proofs.lemmas.Option.{same_Some}
 use Rattle.mp_program.specs.declared.program.What.{What}
 use Rattle.mp_program.specs.declared.program.What.TheVariants.{
   Power,
@@ -21,6 +23,7 @@ use Rattle.mp_program.specs.declared.program.Program.{Program}
 use Rattle.mp_program.specs.Names.{is_driven}
 use Rattle.mp_program.specs.Reads as source
 use Rattle.mp_rules.specs.Entries.{IsAt}
+use Rattle.mp_rules.proofs.ListEntries.{one_entry, some_entry, number_at}
 use Rattle.rtl_form.specs.declared.rtl.Cell.{Cell}
 use Rattle.rtl_form.specs.declared.rtl.Rtl.{Rtl}
 use Rattle.rtl_form.specs.Environment as rtl
@@ -29,7 +32,6 @@ use Rattle.process_plan.specs.Lawful.{Known, KnownNames}
 use Rattle.process_plan.specs.Roles.{Role, Value, Placed, Stacked, def_cell, IsCellOf, AreCells}
 use Rattle.process_plan.specs.Enables.{Enable}
 use Rattle.process_plan.specs.Plan.{FollowsPlan, FollowsOrder}
-use Rattle.process_plan.proofs.Members.{nowhere, some_entry, one_entry, some_is}
 use Rattle.process_plan.proofs.Defining.{value_role}
 use Rattle.process_plan.proofs.Ordering.{transfer_reads}
 
@@ -41,17 +43,14 @@ cell_driven ds d Phia x h = absurd (cc)
 cell_driven ds d Phib x h = absurd (cc)
 cell_driven ds d Phic x h = absurd (cc)
 cell_driven ds d (Constant c) x h = absurd (cc)
-cell_driven ds d Register x h = ap (λ (z : Cell). rtl.is_driven z.kind) (sym (some_is _ x h))
-cell_driven ds d Flag x h = ap (λ (z : Cell). rtl.is_driven z.kind) (sym (some_is _ x h))
-cell_driven ds d (Port Input) x h = ap (λ (z : Cell). rtl.is_driven z.kind) (sym (some_is _ x h))
-cell_driven ds d (Port Output) x h = ap (λ (z : Cell). rtl.is_driven z.kind) (sym (some_is _ x h))
-cell_driven ds d (Port Internal) x h = ap (λ (z : Cell). rtl.is_driven z.kind) (sym (some_is _ x h))
-cell_driven ds d (Signal Input) x h = ap (λ (z : Cell). rtl.is_driven z.kind) (sym (some_is _ x h))
-cell_driven ds d (Signal Output) x h = ap (λ (z : Cell). rtl.is_driven z.kind) (sym (some_is _ x h))
-cell_driven ds d (Signal Internal) x h = ap (λ (z : Cell). rtl.is_driven z.kind) (sym (some_is _ x h))
-
-read_at : (xs : List ℕ) (k x : ℕ) → IsAt xs k x → slice_index xs k ≡ x
-read_at xs k x (lt, is) = get_or_default xs k 0 x lt ∙ sym is
+cell_driven ds d Register x h = ap (λ (z : Cell). rtl.is_driven z.kind) (sym (same_Some _ x h))
+cell_driven ds d Flag x h = ap (λ (z : Cell). rtl.is_driven z.kind) (sym (same_Some _ x h))
+cell_driven ds d (Port Input) x h = ap (λ (z : Cell). rtl.is_driven z.kind) (sym (same_Some _ x h))
+cell_driven ds d (Port Output) x h = ap (λ (z : Cell). rtl.is_driven z.kind) (sym (same_Some _ x h))
+cell_driven ds d (Port Internal) x h = ap (λ (z : Cell). rtl.is_driven z.kind) (sym (same_Some _ x h))
+cell_driven ds d (Signal Input) x h = ap (λ (z : Cell). rtl.is_driven z.kind) (sym (same_Some _ x h))
+cell_driven ds d (Signal Output) x h = ap (λ (z : Cell). rtl.is_driven z.kind) (sym (same_Some _ x h))
+cell_driven ds d (Signal Internal) x h = ap (λ (z : Cell). rtl.is_driven z.kind) (sym (same_Some _ x h))
 
 entry : (xs : List ℕ) (k : ℕ) → k < length xs → IsAt xs k (slice_index xs k)
 entry xs k lt = (lt, get_or_default xs k 0 (slice_index xs k) lt)
@@ -89,7 +88,7 @@ module _ {p : Program} {r : Rtl} {roles : List Role} {order : List ℕ} (cells :
       × (k < length r.order)
   follow k lt =
       let (c, at_c, role) = follows.each k (slice_index order k) (entry order k lt) in
-      (subst (λ n. IsAt roles n (Value (slice_index order k))) (sym (read_at r.order k c at_c)) role, at_c.0)
+      (subst (λ n. IsAt roles n (Value (slice_index order k))) (sym (number_at r.order k c at_c)) role, at_c.0)
 
   pub order_kept : IsOrder r
   order_kept = record {
@@ -146,4 +145,4 @@ planned_alike {p} {r} {roles} {enables} known names plan a b c d x y at_a drives
 -- and where nothing is transferred
 pub idle_alike : (p : Program) (r : Rtl) (roles : List Role) → r.transfers ≡ [] → ReadAlike p r roles
 idle_alike p r roles none a b c d x y at_a drives role at_b driven role_b (t, z, ct, target, at, h, touches) =
-    absurd (nowhere t (subst (λ ts. Contains ts t) none ct))
+    absurd (nothing_in t (subst (λ ts. Contains ts t) none ct))

@@ -36,6 +36,8 @@ use Rattle.std.proofs.lemmas.Bool.{eqb-true, eqb-false, eq-eqb, ne_eqb}
 use Rattle.std.proofs.lemmas.List.{get_or-take, get_or-drop, get_or_append_left, get_or-append_right, length-drop}
 use Rattle.mp_base.specs.Apply.{truth}
 use Rattle.mp_base.specs.Merge.{merged}
+use Rattle.mp_base.proofs.Contents.{contains_head, only_one}
+use Rattle.mp_base.proofs.Induction.{by_test}
 use Rattle.mp_program.specs.declared.program.Process.{Process}
 use Rattle.mp_program.specs.declared.program.Program.{Program}
 use Rattle.mp_program.specs.Names.{index_of}
@@ -44,6 +46,7 @@ use Rattle.mp_program.specs.State.{State, Seat}
 use Rattle.mp_program.specs.Step.{wrapped, next_seat}
 use Rattle.mp_program.specs.Values as from
 use Rattle.mp_rules.specs.Entries.{IsAt}
+use Rattle.mp_rules.proofs.ListEntries.{one_entry}
 use Rattle.rtl_form.specs.declared.rtl.Rtl.{Rtl}
 use Rattle.rtl_form.specs.declared.rtl.Transfer.{Transfer}
 use Rattle.rtl_form.specs.Written.{written}
@@ -65,7 +68,7 @@ use Rattle.process_plan.specs.Plan.{
   empties,
 }
 use Rattle.process_plan.proofs.Merging.{same_merge}
-use Rattle.process_plan.proofs.Members.{here, only_one, one_entry, by_test, zero_or_more}
+use Rattle.process_plan.proofs.Members.{zero_or_more}
 use Rattle.process_plan.proofs.Moving.{IsMove, moves, some_move}
 use Rattle.process_plan.proofs.Enabling.{seat_fits, one_of, on_of}
 use Rattle.process_plan.proofs.Scene.{Scene, W, w_false, w_cell, w_place, in_written, written_in}
@@ -90,12 +93,13 @@ use Rattle.process_plan.proofs.Jumping.{
 
 -- values that are all one merge to it
 merge_all : (vs : List ℕ) (x y : ℕ) → Contains vs y → ((z : ℕ) → Contains vs z → z ≡ x) → merged vs ≡ Some x
-merge_all vs x y c same = same_merge vs (x ∷ []) (λ z cz. subst (Contains (x ∷ [])) (sym (same z cz)) (here x []))
-    (λ z cz. subst (Contains vs) (same y c ∙ only_one z x cz) c)
+merge_all vs x y c same =
+    same_merge vs (x ∷ []) (λ z cz. subst (Contains (x ∷ [])) (sym (same z cz)) (contains_head x []))
+    (λ z cz. subst (Contains vs) (same y c ∙ only_one x z cz) c)
 
 merge_nothing : (vs : List ℕ) → ((v : ℕ) → Contains vs v → ⊥) → merged vs ≡ None
 merge_nothing [] h = refl
-merge_nothing (v ∷ vs) h = absurd (h v (here v vs))
+merge_nothing (v ∷ vs) h = absurd (h v (contains_head v vs))
 
 calling : (m : Effect) → is_calling m ≡ true → (l : List ℕ) × (m ≡ Calls l)
 calling (Writes x v) h = absurd (cc)

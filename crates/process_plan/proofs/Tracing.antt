@@ -46,6 +46,8 @@ use Rattle.mp_program.specs.Effects as source_effects
 use Rattle.mp_program.specs.Effects.{Effect, Writes, Goes, Calls, Returns, effects_of}
 use Rattle.mp_program.specs.declared.program.Process.{Process}
 use Rattle.mp_base.specs.Merge.{merged}
+use Rattle.mp_base.proofs.Contents.{contains_head, contains_behind}
+use Rattle.mp_program.proofs.Lengths.{length-outputs_of}
 use Rattle.rtl_form.specs.Values.{value_of}
 use Rattle.rtl_form.specs.Written.{written}
 use Rattle.mp_rules.specs.Entries.{IsAt}
@@ -61,7 +63,6 @@ use Rattle.process_plan.specs.Lawful.{Known, MovesOnce}
 use Rattle.process_plan.specs.Roles.{Role, Value, Placed, Stacked, AreCells, cell_values, output_number, IsCellOf}
 use Rattle.process_plan.specs.Enables.{Enable}
 use Rattle.process_plan.specs.Plan.{FollowsPlan, IsResetCell}
-use Rattle.process_plan.proofs.Members.{here, there}
 use Rattle.process_plan.proofs.Copying.{Valued, cell_at}
 use Rattle.process_plan.proofs.Enabling.{GuardsAreBits}
 use Rattle.process_plan.proofs.Scene.{Scene, StacksFit}
@@ -102,19 +103,6 @@ output_at (y ∷ ys) (v ∷ vs) (suc d) x (lt, is) out size =
         ap (slice_index (v ∷ outputs_of ys vs)) e
     pick false = let e : 0 + output_number ys d ≡ output_number ys d = omega arith in
         ap (slice_index (outputs_of ys vs)) e
-
-outputs_long : (ds : List Def) (vs : List ℕ) → length vs ≡ length ds
-    → length (outputs_of ds vs) ≡ length (filter (λ (x : Def). is_output x.what) ds)
-outputs_long [] vs size = refl
-outputs_long (y ∷ ys) [] size = absurd (omega (arith, size))
-outputs_long (y ∷ ys) (v ∷ vs) size = pick (is_output y.what) (outputs_long ys vs (omega (arith, size)))
-  where
-    pick : (b : Bool) → length (outputs_of ys vs) ≡ length (filter (λ (x : Def). is_output x.what) ys)
-        → length (cond b (v ∷ outputs_of ys vs) (outputs_of ys vs))
-        ≡ length (cond b (y ∷ filter (λ (x : Def). is_output x.what) ys)
-        (filter (λ (x : Def). is_output x.what) ys))
-    pick true e = ap suc e
-    pick false e = e
 
 abbrev output_code : CellKind → ℕ
 output_code (kinds.Output k) = suc k
@@ -164,7 +152,7 @@ module _ {p : Program} {r : Rtl} {roles : List Role} (faced : IsFaced p r) {st :
   pub shown : rtl_step.Shows r (cell_values roles env st.seats) (outputs_of p.defs env)
   shown = record {
     size =
-        let long = outputs_long p.defs env (s.clock).size in
+        let long = length-outputs_of p.defs env (s.clock).size in
         let pads = ap length (faced.padded).outputs in
         let a = length-map (r.pads).outputs face in
         let b = length-map {B = Face} (filter (λ (x : Def). is_output x.what) p.defs)
@@ -338,7 +326,7 @@ module _ (p : Program) (r : Rtl) (roles : List Role) (known : Known p) (silent :
       all_active : (fs : List ℕ) → ((f : ℕ) → Contains fs f → f < length p.forms)
           → AllByRecursion (λ f. f < length p.forms) fs
       all_active [] h = tt
-      all_active (f ∷ fs) h = (h f (here f fs), all_active fs (λ g c. h g (there g f fs c)))
+      all_active (f ∷ fs) h = (h f (contains_head f fs), all_active fs (λ g c. h g (contains_behind g f fs c)))
 
   silent_agreement : (st : State) (inputs env : List ℕ) → IsState p st → IsEnvironment p st inputs env
       → Agreement p r roles st inputs env

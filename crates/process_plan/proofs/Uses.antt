@@ -12,11 +12,9 @@ use Rattle.std.proofs.Common.{
   List,
   [],
   ◌∷◌,
-  Bool,
   true,
   false,
   not,
-  cond,
   Some,
   refl,
   sym,
@@ -28,7 +26,10 @@ use Rattle.std.proofs.Common.{
 }
 use Rattle.std.specs.Prelude.{Contains}
 use Rattle.std.proofs.lemmas.List.Elements.{Contains-append_cases}
+use Rattle.std.proofs.lemmas.Bool.{not-true}
 use Rattle.mp_base.specs.declared.refusal.Place.{Place}
+use Rattle.mp_base.proofs.Contents.{contains_head, contains_behind, nothing_in, contains_from_map, contains_from_filter}
+use Rattle.mp_base.proofs.Induction.{by_test}
 use Rattle.mp_program.specs.declared.program.What.{What}
 use Rattle.mp_program.specs.declared.program.What.TheVariants.{
   Power,
@@ -50,18 +51,19 @@ use Rattle.mp_program.proofs.Definitions.{same_is, is_same_of}
 use Rattle.mp_rules.specs.Entries.{IsAt}
 use Rattle.mp_rules.specs.Naming.{Naming, namings, def_naming, process_naming, Uses, OwnNames}
 use Rattle.mp_rules.specs.Rules.{E21, E22}
+use Rattle.mp_rules.proofs.ListEntries.{contains_from_at}
 use Rattle.rtl_form.specs.declared.rtl.Cell.{Cell}
 use Rattle.process_plan.specs.Roles.{Role, Value, AreCells, def_cell}
-use Rattle.process_plan.proofs.Members.{here, there, nowhere, by_test, in_map, in_entry, entry_in}
+use Rattle.process_plan.proofs.Members.{in_entry}
 
 -- a naming of the name x, or none has it
 find : (x : List ℕ) (ns : List Naming)
     → ((n : Naming) × Contains ns n × (n.name ≡ x)) ⊎ ((n : Naming) → Contains ns n → n.name ≢ x)
-find x [] = inr (λ n c e. nowhere n c)
+find x [] = inr (λ n c e. nothing_in n c)
 find x (n ∷ ns) = by_test (is_same n.name x)
-    (λ same. inl (n, here n ns, same_is n.name x same))
+    (λ same. inl (n, contains_head n ns, same_is n.name x same))
     (λ other. elim (find x ns) [
-      | inl (m, c, e) ↦ inl (m, there m n ns c, e)
+      | inl (m, c, e) ↦ inl (m, contains_behind m n ns c, e)
       | inr none ↦ inr (λ m c. not_first m c none other)
     ])
   where
@@ -71,20 +73,6 @@ find x (n ∷ ns) = by_test (is_same n.name x)
         let yes : is_same n.name x ≡ true = is_same_of n.name x (ap (λ (z : Naming). z.name) is ∙ e) in
         let clash : true ≡ false = sym yes ∙ other in absurd (cc)
     not_first m (suc k, lt, is) none other e = none m (k, omega (arith, lt), is) e
-
-in_filter : {X : Type 0} (t : X → Bool) (xs : List X) (x : X) → Contains (filter t xs) x → Contains xs x × (t x ≡ true)
-in_filter t [] x c = absurd (nowhere x c)
-in_filter {X} t (y ∷ ys) x c = pick (t y) refl c (in_filter t ys x)
-  where
-    pick : (b : Bool) → t y ≡ b → Contains (cond b (y ∷ filter t ys) (filter t ys)) x
-        → (Contains (filter t ys) x → Contains ys x × (t x ≡ true)) → Contains (y ∷ ys) x × (t x ≡ true)
-    pick true e (zero, lt, is) rest = ((zero, omega arith, is), ap t (sym is) ∙ e)
-    pick true e (suc k, lt, is) rest = let r = rest (k, omega (arith, lt), is) in (there x y ys r.0, r.1)
-    pick false e c rest = let r = rest c in (there x y ys r.0, r.1)
-
-no_supply : (b : Bool) → not b ≡ true → b ≡ false
-no_supply true h = absurd (cc)
-no_supply false h = refl
 
 -- what is no supply is a constant or has a cell
 valued : (ds : List Def) (d : ℕ) (w : What) → is_supply w ≡ false
@@ -112,15 +100,16 @@ module _ (p : Program) (own : OwnNames p) (defined : (at : Place) → E21 p at �
       elim (Contains-append_cases (map def_naming (filter (λ (d : Def). not (is_supply d.what)) p.defs))
       (map process_naming p.processes) n c) [
         | inl of_def ↦
-            let (y, cy, is) = in_map def_naming (filter (λ (d : Def). not (is_supply d.what)) p.defs) n of_def in
-            let (c2, t) = in_filter (λ (d : Def). not (is_supply d.what)) p.defs y cy in
+            let (y, cy, is) =
+            contains_from_map def_naming (filter (λ (d : Def). not (is_supply d.what)) p.defs) n of_def in
+            let (c2, t) = contains_from_filter (λ (d : Def). not (is_supply d.what)) p.defs y cy in
             let (k, at_k) = in_entry p.defs y c2 in
-            let plain = no_supply (is_supply y.what) t in
+            let plain = not-true (is_supply y.what) t in
             let name : y.name ≡ x = ap (λ (z : Naming). z.name) is ∙ e in
             let index : index_of p.defs x ≡ k = ap (index_of p.defs) (sym name) ∙ own k y at_k plain in
             (y, subst (λ i. IsAt p.defs i y) (sym index) at_k, plain)
         | inr of_process ↦
-            let (q, cq, is) = in_map process_naming p.processes n of_process in
+            let (q, cq, is) = contains_from_map process_naming p.processes n of_process in
             let (k, at_k) = in_entry p.processes q cq in
             let name : q.name ≡ x = ap (λ (z : Naming). z.name) is ∙ e in
             absurd (sorted at (inr (k, q, at_k, subst (λ y. Uses p y at) (sym name) uses)))
@@ -131,7 +120,7 @@ module _ (p : Program) (own : OwnNames p) (defined : (at : Place) → E21 p at �
       → (d : Def) × IsAt p.defs (index_of p.defs x) d × (is_supply d.what ≡ false)
   used_def x at uses = elim (find x (namings p)) [
     | inl (n, c, e) ↦ of_naming x at uses n c e
-    | inr none ↦ absurd (defined at (x, uses, λ k n at_k. none n (entry_in (namings p) k n at_k)))
+    | inr none ↦ absurd (defined at (x, uses, λ k n at_k. none n (contains_from_at (namings p) k n at_k)))
   ]
 
   -- it is a constant, or has a cell

@@ -28,51 +28,40 @@ use Rattle.std.proofs.Common.{
 }
 use Rattle.std.specs.Prelude.{◌&&◌, if◌then◌else◌, Contains}
 use Rattle.std.specs.List.{sum_by}
-use Rattle.std.proofs.lemmas.Bool.{eqb-true}
 use Rattle.std.proofs.lemmas.List.Sums.{sum_by-cons}
 use Rattle.mp_base.specs.declared.refusal.Place.{Place}
+use Rattle.mp_base.proofs.Induction.{upward}
 use Rattle.mp_program.specs.declared.program.FormKind.{FormKind}
 use Rattle.mp_program.specs.declared.program.FormKind.TheVariants.{Set, Cond, Par, Go, Call, Return}
-use Rattle.mp_program.specs.declared.program.Branch.{Branch}
 use Rattle.mp_program.specs.declared.program.Form.{Form}
 use Rattle.mp_program.specs.declared.program.Process.{Process}
 use Rattle.mp_program.specs.declared.program.Program.{Program}
-use Rattle.mp_program.specs.Weight.{inner, calls_in}
+use Rattle.mp_program.specs.Weight.{calls_in}
 use Rattle.mp_rules.specs.Breaking.{IsUnbroken}
 use Rattle.mp_rules.specs.Entries.{IsAt}
 use Rattle.mp_rules.specs.Rules.{E31}
 use Rattle.mp_rules.specs.Standing as standing
 use Rattle.mp_rules.specs.Standing.{Under, uses_stack}
+use Rattle.mp_rules.proofs.ListEntries.{contains_from_at, one_entry}
+use Rattle.mp_rules.proofs.Sequences.{under_more}
 use Rattle.rtl_form.specs.declared.rtl.RtlExpr.{RtlExpr}
 use Rattle.process_plan.specs.declared.role.Role.{Role}
 use Rattle.process_plan.specs.declared.enable.Enable.{Enable}
 use Rattle.process_plan.specs.declared.enable.Origin.{Origin}
-use Rattle.process_plan.specs.declared.enable.Origin.TheVariants.{Always, At}
+use Rattle.process_plan.specs.declared.enable.Origin.TheVariants.{At}
 use Rattle.process_plan.specs.Active.{IsRoot}
 use Rattle.process_plan.specs.Bill.{IsTally, AreTallies, cells_bill}
-use Rattle.process_plan.specs.Enables.{HasEnable, AreEnables, StandsInside}
+use Rattle.process_plan.specs.Enables.{HasEnable, AreEnables}
 use Rattle.process_plan.specs.Plan.{is_call}
 use Rattle.process_plan.proofs.Census as census
 use Rattle.process_plan.proofs.Keeping.{keeps_36}
-use Rattle.process_plan.proofs.Members.{flat_in, entry_in, one_entry, upward, zero_or_more}
+use Rattle.process_plan.proofs.Members.{zero_or_more}
+use Rattle.process_plan.proofs.Enables.{inside_inner}
 use Rattle.process_layout.specs.Counts.{is_of, count_of, returns_of, tally_of, tallies_of}
 use Rattle.process_layout.proofs.Returning.{returns_same}
+use Rattle.process_layout.proofs.Origins.{own_origin}
 
 -- ---- where forms with enables stand
-
-under_more : (p : Program) (r g f : ℕ) (y : Form) → Under p r g → IsAt p.forms g y → Contains (inner y.kind) f
-    → Under p r f
-under_more p r g f y standing.itself at c = standing.deeper y at c standing.itself
-under_more p r g f y (standing.deeper {g = h} z at_z c_z under) at c =
-    standing.deeper z at_z c_z (under_more p h g f y under at c)
-
-inside : (k : FormKind) (f : ℕ) → StandsInside k f → Contains (inner k) f
-inside (Set x at value) f h = absurd h
-inside (Cond bs) f (b, in_bs, in_body) = flat_in (λ (z : Branch). z.body) f b bs in_bs in_body
-inside (Par fs) f h = h
-inside (Go l) f h = absurd h
-inside (Call l) f h = absurd h
-inside Return f h = absurd h
 
 -- a form with an enable stands under a form with its origin
 abbrev IsUnderRoot : Program → List (Option Enable) → ℕ → Type 0
@@ -85,14 +74,10 @@ enabled_under p exprs roles enables are = upward (IsUnderRoot p enables) (λ f b
       | inl (root, is) ↦ (f, root, standing.itself)
       | inr (g, y, b, at_y, lt, has_g, stands) ↦
           let (r, root, under) = below g lt o b has_g in
-          (r, root, under_more p r g f y under at_y (inside y.kind f stands))
+          (r, root, under_more p r g f y under at_y (inside_inner y.kind f stands))
     ])
 
 -- ---- calls, and the depth of the stack
-
-of_process : (k : ℕ) (o : Origin) → is_of k o ≡ true → (i : ℕ) × (o ≡ At k i)
-of_process k Always h = absurd (cc)
-of_process k (At j i) h = (i, ap (λ n. At n i) (eqb-true j k h))
 
 -- a form that is counted
 abbrev IsCounted : (FormKind → Bool) → ℕ → List Form → List (Option Enable) → Type 0
@@ -101,7 +86,7 @@ IsCounted test k ys es = (f i a : ℕ) × (y : Form) × IsAt ys f y × (test y.k
 counted_first : (test : FormKind → Bool) (k : ℕ) (y : Form) (ys : List Form) (e : Enable) (es : List (Option Enable))
     → is_of k e.origin ≡ true → test y.kind ≡ true → IsCounted test k (y ∷ ys) (Some e ∷ es)
 counted_first test k y ys e es of_k passes =
-    let (i, is) = of_process k e.origin of_k in
+    let (i, is) = own_origin k e.origin of_k in
     let same : Some e ≡ Some (record { origin = At k i; expr = e.expr }) =
     ap (λ (o : Origin). Some (record { origin = o; expr = e.expr })) is in
     (0, i, e.expr, y, (omega arith, refl), passes, (omega arith, sym same))
@@ -149,7 +134,8 @@ module _ (p : Program) (unbroken : IsUnbroken p) where
         let (f, i, a, y, at_y, calls, has) = one_counted is_call k p.forms enables lt in
         let (r, (z, at_z, at_r), under) = enabled_under p exprs roles enables are f (At k i) a has in
         let same : z ≡ q = one_entry p.processes k z q at_z at_q in
-        let root : Contains q.forms r = subst (λ (x : Process). Contains x.forms r) same (entry_in z.forms i r at_r) in
+        let root : Contains q.forms r =
+        subst (λ (x : Process). Contains x.forms r) same (contains_from_at z.forms i r at_r) in
         elim (zero_or_more q.depth) [
           | inl none ↦ absurd (keeps_31 y.place (
             k,

@@ -24,6 +24,7 @@ use Rattle.std.specs.Prelude.{Contains}
 use Rattle.std.specs.List.{count_by}
 use Rattle.std.proofs.lemmas.List.Sums.{sum_by-cons}
 use Rattle.mp_base.specs.declared.refusal.Place.{Place}
+use Rattle.mp_base.proofs.Induction.{by_test}
 use Rattle.mp_program.specs.declared.program.FormKind.TheVariants.{Set}
 use Rattle.mp_program.specs.declared.program.What.{What}
 use Rattle.mp_program.specs.declared.program.What.TheVariants.{
@@ -49,9 +50,9 @@ use Rattle.mp_rules.specs.Breaking.{IsUnbroken}
 use Rattle.mp_rules.specs.Entries.{IsAt}
 use Rattle.mp_rules.specs.Naming.{OwnNames}
 use Rattle.mp_rules.specs.Rules.{E21, is_unset}
+use Rattle.mp_rules.proofs.ListEntries.{contains_from_at}
 use Rattle.process_plan.specs.Bill.{set_bill, IsUsed}
 use Rattle.process_plan.proofs.Keeping.{keeps_22, keeps_27}
-use Rattle.process_plan.proofs.Members.{entry_in, by_test}
 use Rattle.process_plan.proofs.Uses.{used_def}
 
 abbrev bit : Bool → ℕ
@@ -103,7 +104,7 @@ module _ (p : Program) (unbroken : IsUnbroken p) (own : OwnNames p) where
       (f, y, x, value, index_of p.defs x, d, at_y, kind, at_d, name, no)))
       (λ yes. yes) in (
         d,
-        entry_in p.defs (index_of p.defs x) d at_d,
+        contains_from_at p.defs (index_of p.defs x) d at_d,
         (
           set_there d.what plain settable,
           some_counted (λ (z : Form). is_set_of d.name z.kind) p.forms f y at_y counted,

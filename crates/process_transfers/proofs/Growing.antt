@@ -1,7 +1,6 @@
 -- Lists of expressions that grow.
 use Rattle.std.proofs.Common.{
   ◌≡◌,
-  ◌⊎◌,
   inl,
   inr,
   ◌∙◌,
@@ -34,7 +33,9 @@ use Rattle.std.proofs.lemmas.Bool.{lt-ltb, eq-eqb, false≢true}
 use Rattle.std.proofs.lemmas.List.{take_more, get_or_default}
 use Rattle.std.proofs.lemmas.List.Sums.{sum_by_push}
 use Rattle.mp_base.specs.declared.op.Op.TheVariants.{And, Or, Not}
+use Rattle.mp_base.proofs.Contents.{contains_head, contains_behind as there, nothing_in, only_one}
 use Rattle.mp_rules.specs.Entries.{IsAt}
+use Rattle.mp_rules.proofs.ListEntries.{at_pushed, at_push_cases}
 use Rattle.rtl_form.specs.declared.rtl.Cell as cells
 use Rattle.rtl_form.specs.declared.rtl.RtlExpr.{RtlExpr}
 use Rattle.rtl_form.specs.declared.rtl.RtlExpr.TheVariants.{Apply}
@@ -42,9 +43,10 @@ use Rattle.rtl_form.specs.Cost.{expr_cost}
 use Rattle.process_plan.specs.Bill.{exprs_cost}
 use Rattle.process_plan.specs.Fits.{ExprsFit, ExprFitsIn, HasSortIn}
 use Rattle.process_plan.specs.Plan.{AreNegations}
-use Rattle.process_plan.proofs.Members.{here, there, nowhere, cases_of, only_one}
+use Rattle.process_plan.proofs.Members.{cases_of}
 use Rattle.process_plan.proofs.Sorts.{has_sort_kept, fits_kept}
 use Rattle.process_layout.specs.Steps.{Keeps}
+use Rattle.process_layout.proofs.Keeping.{keeps_more}
 use Rattle.process_transfers.specs.Growth.{
   AreBits,
   IsGrown,
@@ -57,37 +59,11 @@ use Rattle.process_transfers.specs.Growth.{
 
 -- ---- entries
 
-pub at_pushed : {X : Type 0} (xs : List X) (x : X) → IsAt (xs ++ x ∷ []) (length xs) x
-at_pushed [] x = (omega arith, refl)
-at_pushed (y ∷ ys) x = let (lt, is) = at_pushed ys x in (omega (arith, lt), is)
-
-pub long_pushed : {X : Type 0} (xs : List X) (x : X) → length (xs ++ x ∷ []) ≡ length xs + 1
-long_pushed [] x = refl
-long_pushed (y ∷ ys) x = let rest = long_pushed ys x in omega (arith, rest)
-
 pub kept_pushed : {X : Type 0} (xs : List X) (x : X) → Keeps xs (xs ++ x ∷ [])
 kept_pushed [] x k z (lt, is) = absurd (omega (arith, lt))
 kept_pushed (y ∷ ys) x zero z (lt, is) = (omega arith, is)
 kept_pushed (y ∷ ys) x (suc k) z (lt, is) =
     let (l, e) = kept_pushed ys x k z (omega (arith, lt), is) in (omega (arith, l), e)
-
-pub pushed_cases : {X : Type 0} (xs : List X) (x : X) (k : ℕ) (z : X) → IsAt (xs ++ x ∷ []) k z
-    → IsAt xs k z ⊎ ((k ≡ length xs) × (z ≡ x))
-pushed_cases [] x zero z (lt, is) = inr (refl, is)
-pushed_cases [] x (suc k) z (lt, is) = absurd (omega (arith, lt))
-pushed_cases (y ∷ ys) x zero z (lt, is) = inl (omega arith, is)
-pushed_cases {X} (y ∷ ys) x (suc k) z (lt, is) =
-    elim (pushed_cases ys x k z (omega (arith, lt), is)) as
-    (λ _. IsAt (y ∷ ys) (suc k) z ⊎ ((suc k ≡ suc (length ys)) × (z ≡ x))) [
-      | inl (l, e) ↦ inl (omega (arith, l), e)
-      | inr (e, same) ↦ inr (ap suc e, same)
-    ]
-
-pub keeps_same : {X : Type 0} (xs : List X) → Keeps xs xs
-keeps_same xs k x h = h
-
-pub keeps_more : {X : Type 0} (a b c : List X) → Keeps a b → Keeps b c → Keeps a c
-keeps_more a b c h g k x at = g k x (h k x at)
 
 -- ---- bits
 
@@ -99,7 +75,7 @@ bits_kept xs old new es kept bits e c =
 module _ (old : List RtlExpr) (x : RtlExpr) where
   fit_pushed : (w : ℕ) (xs : List cells.Cell) → ExprsFit w xs old → ExprFitsIn w xs (old ++ x ∷ []) (length old) x
       → ExprsFit w xs (old ++ x ∷ [])
-  fit_pushed w xs fit last e y at = elim (pushed_cases old x e y at) as (λ _. ExprFitsIn w xs (old ++ x ∷ []) e y) [
+  fit_pushed w xs fit last e y at = elim (at_push_cases old x e y at) as (λ _. ExprFitsIn w xs (old ++ x ∷ []) e y) [
     | inl there ↦ fits_kept w xs xs old (old ++ x ∷ []) e y (λ k z h. h) (kept_pushed old x) (fit e y there)
     | inr (same, is) ↦
         subst (λ n. ExprFitsIn w xs (old ++ x ∷ []) n y) (sym same)
@@ -206,7 +182,7 @@ negations_long exprs (y ∷ ms) (z ∷ ns) (first, rest) = ap suc (negations_lon
 -- they are bits
 pub negations_bits : (xs : List cells.Cell) (exprs : List RtlExpr) (ms ns : List ℕ) → AreNegations exprs ms ns
     → AreBits xs exprs ns
-negations_bits xs exprs [] [] h e c = absurd (nowhere e c)
+negations_bits xs exprs [] [] h e c = absurd (nothing_in e c)
 negations_bits xs exprs [] (z ∷ ns) h e c = absurd h
 negations_bits xs exprs (y ∷ ms) [] h e c = absurd h
 negations_bits xs exprs (y ∷ ms) (z ∷ ns) (first, rest) e c =
@@ -255,7 +231,7 @@ so_far_more old now next first others i n args more before lt one is =
             (negations_kept now next (take i others) ns (one.grown).kept negated) one.made),
       );
       grown = grown_both others (m ∷ []) 0 0 old now next (λ xs are.
-          bits_within xs now (m ∷ []) others (λ e c. subst (Contains others) (only_one e m c) (
+          bits_within xs now (m ∷ []) others (λ e c. subst (Contains others) (only_one m e c) (
             i,
             lt,
             get_or_default
@@ -284,7 +260,7 @@ fall_put old mid new a e ms args other some made put = with_ns made.made
         let price : 0 + (2 + length ns) ≡ 1 + length ms = omega (arith, long) in
         let grown = grown_both (a ∷ ms) (a ∷ n ∷ ns) 0 (2 + length ns) old mid (mid ++ Apply And 0 (a ∷ n ∷ ns) ∷ [])
         (λ xs are_bits. both_bits xs mid a (n ∷ ns)
-        (bits_kept xs old mid (a ∷ ms) (made.grown).kept are_bits a (here a ms))
+        (bits_kept xs old mid (a ∷ ms) (made.grown).kept are_bits a (contains_head a ms))
         (negations_bits xs mid ms (n ∷ ns) negated))
         (grown_within ms (a ∷ ms) 0 old mid (λ x c. there x a ms c) made.grown) (and_grown mid a n ns) in
         let kept = kept_pushed mid (Apply And 0 (a ∷ n ∷ ns)) in

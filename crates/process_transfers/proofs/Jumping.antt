@@ -32,7 +32,11 @@ use Rattle.std.proofs.Common.{
 }
 use Rattle.std.specs.Prelude.{Contains, MatchOption, ◌↔◌, ◌&&◌}
 use Rattle.std.proofs.lemmas.List.Sums.{sum_by_more}
+use Rattle.std.proofs.lemmas.Option.{same_Some}
+use Rattle.std.proofs.lemmas.List.{length_push}
 use Rattle.mp_base.specs.declared.op.Op.TheVariants.{And, Nor}
+use Rattle.mp_base.proofs.Contents.{nothing_in}
+use Rattle.mp_base.proofs.Induction.{by_test, upward}
 use Rattle.mp_program.specs.declared.program.FormKind.{FormKind}
 use Rattle.mp_program.specs.declared.program.FormKind.TheVariants as forms
 use Rattle.mp_program.specs.declared.program.Form.{Form}
@@ -40,6 +44,7 @@ use Rattle.mp_program.specs.declared.program.Process.{Process}
 use Rattle.mp_program.specs.declared.program.Program.{Program}
 use Rattle.mp_rules.specs.Entries.{IsAt}
 use Rattle.mp_rules.specs.Standing.{is_transfer}
+use Rattle.mp_rules.proofs.ListEntries.{one_entry, some_entry, at_push_cases}
 use Rattle.rtl_form.specs.declared.rtl.Cell as cells
 use Rattle.rtl_form.specs.declared.rtl.RtlExpr.{RtlExpr}
 use Rattle.rtl_form.specs.declared.rtl.RtlExpr.TheVariants.{Cell, Apply}
@@ -58,10 +63,11 @@ use Rattle.process_plan.specs.Plan.{
   AreMovesAt,
 }
 use Rattle.process_plan.specs.Bill.{exprs_cost}
-use Rattle.process_plan.proofs.Members.{nowhere, cases_of, one_entry, some_entry, some_is, by_test, upward}
+use Rattle.process_plan.proofs.Members.{cases_of}
 use Rattle.process_plan.proofs.Sorts.{has_sort_kept}
 use Rattle.process_layout.specs.Counts.{is_cond, has_at, parted_of, tally_of, tallies_of}
 use Rattle.process_layout.specs.Steps.{Keeps, moves_cost}
+use Rattle.process_layout.proofs.Keeping.{keeps_more}
 use Rattle.process_transfers.specs.declared.jumps.Jumps.{Jumps}
 use Rattle.process_transfers.specs.declared.moves.Group.TheVariants.{Calls, Returns, Inside}
 use Rattle.process_transfers.specs.Growth.{IsGrown, IsFallMade, IsUnionMade}
@@ -77,7 +83,7 @@ use Rattle.process_transfers.specs.Jumps.{
   AreJumpsMade,
   AllJumpsMade,
 }
-use Rattle.process_transfers.proofs.Growing.{long_pushed, keeps_more, pushed_cases, negations_kept}
+use Rattle.process_transfers.proofs.Growing.{negations_kept}
 use Rattle.process_transfers.proofs.Moving.{
   calls_are,
   returns_are,
@@ -144,7 +150,7 @@ truth_cost b = cond {A = ℕ} b 1 0
 enable_same : (enables : List (Option Enable)) (f a b : ℕ) (o : Origin) → HasEnable enables f o a
     → HasEnable enables f o b → a ≡ b
 enable_same enables f a b o h g =
-    ap (λ (x : Enable). x.expr) (some_is (record { origin = o; expr = a }) (record { origin = o; expr = b })
+    ap (λ (x : Enable). x.expr) (same_Some (record { origin = o; expr = a }) (record { origin = o; expr = b })
     (one_entry enables f (Some (record { origin = o; expr = a })) (Some (record { origin = o; expr = b })) h g))
 
 module _ (p : Program) (roles : List Role) (xs : List cells.Cell) (enables : List (Option Enable)) where
@@ -171,7 +177,7 @@ module _ (p : Program) (roles : List Role) (xs : List cells.Cell) (enables : Lis
     root_place x at_x =
         let (b, place, has) = enabled.roots (At k i) f0 (q, at_q, at_f) in
         let same : x ≡ record { origin = At k i; expr = b } =
-        some_is x (record { origin = At k i; expr = b })
+        same_Some x (record { origin = At k i; expr = b })
         (one_entry enables f0 (Some x) (Some (record { origin = At k i; expr = b })) at_x has) in
         let expr : b ≡ x.expr = sym (ap (λ (z : Enable). z.expr) same) in (
           same ∙ ap (λ n. record { origin = At k i; expr = n }) expr,
@@ -270,9 +276,9 @@ falls_more p enables k n f a e q inside old now next falls more at_q at_f (x, at
     let counted : inside_to k (n + 1) (moves_in p.forms enables) ≡ inside_to k (suc n) (moves_in p.forms enables) =
     ap (λ m. inside_to k m (moves_in p.forms enables)) next_n in
     let size = so_far.size in
-    let long = ap length added ∙ long_pushed falls e in record {
+    let long = ap length added ∙ length_push falls e in record {
       size = omega (arith, size, long);
-      each = λ i d at_d. elim (pushed_cases falls e i d (subst (λ es. IsAt es i d) added at_d)) as
+      each = λ i d at_d. elim (at_push_cases falls e i d (subst (λ es. IsAt es i d) added at_d)) as
           (λ _. IsFallAt p next roles enables k i d) [
             | inl there ↦ fall_at_kept p roles enables now next grown.kept k i d (so_far.each i d there)
             | inr (last, same) ↦
@@ -325,7 +331,7 @@ union_is : (p : Program) (enables : List (Option Enable)) (t : FormKind → Bool
     (guards : List ℕ) (u : Option ℕ) → ((a : ℕ) → Contains guards a ↔ IsMoveEnable p enables t k a)
     → IsUnionMade old new guards u → MatchOption u (HasMove p enables t k → ⊥) (IsUnionOf p new enables t k)
 union_is p enables t k old new guards None agree made =
-    λ (a, moves). nowhere a (subst (λ xs. Contains xs a) made.made ((agree a).1 moves))
+    λ (a, moves). nothing_in a (subst (λ xs. Contains xs a) made.made ((agree a).1 moves))
 union_is p enables t k old new guards (Some u) agree made = (guards, agree, made.made)
 
 -- ---- jumps
@@ -400,9 +406,9 @@ jumps_more p enables n old now next ms more m lt before makes added = λ roles x
     let cost = made.cost in
     let earlier = so_far.cost in
     let size = so_far.size in
-    let long = ap length added ∙ long_pushed ms m in record {
+    let long = ap length added ∙ length_push ms m in record {
       size = omega (arith, size, long);
-      each = λ k r z at_r at_z. elim (pushed_cases ms m k z (subst (λ ns. IsAt ns k z) added at_z)) as
+      each = λ k r z at_r at_z. elim (at_push_cases ms m k z (subst (λ ns. IsAt ns k z) added at_z)) as
           (λ _. IsJumps p next roles enables k r z) [
             | inl there ↦
                 jumps_kept p roles enables now next made.kept k r z (so_far.each k r z at_r there)

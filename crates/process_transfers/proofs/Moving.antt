@@ -31,9 +31,14 @@ use Rattle.std.proofs.Common.{
 }
 use Rattle.std.specs.Prelude.{Contains, option_map, option_to_list, ◌↔◌, ◌&&◌, ◌==◌}
 use Rattle.std.specs.List.{sum_by}
-use Rattle.std.proofs.lemmas.Bool.{eqb-true, eq-eqb, ne_eqb}
+use Rattle.std.proofs.lemmas.Bool.{eqb-true, eq-eqb, ne_eqb, or_left, or_right, and_from}
 use Rattle.std.proofs.lemmas.List.Elements.{Contains-append_left, Contains-append_right, Contains-append_cases}
 use Rattle.std.proofs.lemmas.List.Sums.{sum_by-cons, sum_by-append}
+use Rattle.mp_base.proofs.Contents.{contains_behind as there, nothing_in, only_one, contains_from_map}
+use Rattle.mp_base.proofs.Contents.{contains_from_filter, contains_map}
+use Rattle.mp_base.proofs.Induction.{by_test}
+use Rattle.std.proofs.lemmas.Option.{same_Some}
+use Rattle.mp_base.proofs.Tests.{and_left, and_right}
 use Rattle.mp_program.specs.declared.program.FormKind.{FormKind}
 use Rattle.mp_program.specs.declared.program.FormKind.TheVariants as forms
 use Rattle.mp_program.specs.declared.program.Form.{Form}
@@ -45,8 +50,8 @@ use Rattle.process_plan.specs.declared.enable.Origin.{Origin}
 use Rattle.process_plan.specs.declared.enable.Origin.TheVariants.{Always, At}
 use Rattle.process_plan.specs.Enables.{HasEnable}
 use Rattle.process_plan.specs.Plan.{is_call, is_return, IsMoveEnable, AreMovesAt}
-use Rattle.process_plan.proofs.Members.{there, nowhere, only_one, by_test, or_left, or_right, in_map, some_is}
 use Rattle.process_layout.specs.Counts.{is_go, is_of, is_at, count_of, has_at}
+use Rattle.process_layout.proofs.Origins.{own_origin}
 use Rattle.process_transfers.specs.declared.moves.MoveKind.{MoveKind}
 use Rattle.process_transfers.specs.declared.moves.MoveKind.TheVariants.{Go, Call, Return}
 use Rattle.process_transfers.specs.declared.moves.Move.{Move}
@@ -56,21 +61,6 @@ use Rattle.process_transfers.specs.Moves.{move_kind, move_of, moves_in, is_a_cal
 use Rattle.process_transfers.specs.Jumps.{inside_to}
 
 -- ---- tests
-
-and_left : (a b : Bool) → (a && b) ≡ true → a ≡ true
-and_left true b h = refl
-and_left false b h = h
-
-and_right : (a b : Bool) → (a && b) ≡ true → b ≡ true
-and_right true b h = h
-and_right false b h = absurd (cc)
-
-both_true : (a b : Bool) → a ≡ true → b ≡ true → (a && b) ≡ true
-both_true a b h g = ap (λ x. x && b) h ∙ g
-
-place_of : (k : ℕ) (o : Origin) → is_of k o ≡ true → (i : ℕ) × (o ≡ At k i)
-place_of k Always h = absurd (cc)
-place_of k (At j i) h = (i, ap (λ n. At n i) (eqb-true j k h))
 
 origin_is : (k i : ℕ) (o : Origin) → is_at k i o ≡ true → o ≡ At k i
 origin_is k i Always h = absurd (cc)
@@ -82,27 +72,27 @@ there_of : (k i : ℕ) → is_of k (At k i) ≡ true
 there_of k i = eq-eqb k k refl
 
 there_at : (k i : ℕ) → is_at k i (At k i) ≡ true
-there_at k i = both_true (k == k) (i == i) (eq-eqb k k refl) (eq-eqb i i refl)
+there_at k i = and_from (k == k) (i == i) (eq-eqb k k refl) (eq-eqb i i refl)
 
 -- ---- members
 
 moves_from : (kind : FormKind) (x : Option Enable) (m : Move) → Contains (option_to_list (move_of kind x)) m
     → (x ≡ Some m.enable) × (move_kind kind ≡ Some m.kind)
-moves_from kind None m c = absurd (nowhere m c)
+moves_from kind None m c = absurd (nothing_in m c)
 moves_from kind (Some e) m c = pick (move_kind kind) c
   where
     pick : (o : Option MoveKind)
         → Contains (option_to_list (option_map (λ (k : MoveKind). record { kind = k; enable = e }) o)) m
         → (Some e ≡ Some m.enable) × (o ≡ Some m.kind)
-    pick None c = absurd (nowhere m c)
+    pick None c = absurd (nothing_in m c)
     pick (Some k) c =
-        let same : record { kind = k; enable = e } ≡ m = only_one m (record { kind = k; enable = e }) c in
+        let same : record { kind = k; enable = e } ≡ m = only_one (record { kind = k; enable = e }) m c in
         (ap (λ (z : Move). Some z.enable) same, ap (λ (z : Move). Some z.kind) same)
 
 moves_at : (ys : List Form) (xs : List (Option Enable)) (m : Move) → Contains (moves_in ys xs) m
     → (f : ℕ) × (y : Form) × IsAt ys f y × IsAt xs f (Some m.enable) × (move_kind y.kind ≡ Some m.kind)
-moves_at [] xs m c = absurd (nowhere m c)
-moves_at (y ∷ ys) [] m c = absurd (nowhere m c)
+moves_at [] xs m c = absurd (nothing_in m c)
+moves_at (y ∷ ys) [] m c = absurd (nothing_in m c)
 moves_at (y ∷ ys) (x ∷ xs) m c =
     elim (Contains-append_cases (option_to_list (move_of y.kind x)) (moves_in ys xs) m c) as
     (λ _. (f : ℕ) × (z : Form) × IsAt (y ∷ ys) f z × IsAt (x ∷ xs) f (Some m.enable)
@@ -133,18 +123,8 @@ at_moves (z ∷ ys) (w ∷ xs) (suc f) y x k (lt, is) (lt2, is2) kind =
     Contains-append_right (option_to_list (move_of z.kind w)) (moves_in ys xs) (record { kind = k; enable = x })
     (at_moves ys xs f y x k (omega (arith, lt), is) (omega (arith, lt2), is2) kind)
 
-in_filter : {X : Type 0} (t : X → Bool) (xs : List X) (x : X) → Contains (filter t xs) x → Contains xs x × (t x ≡ true)
-in_filter t [] x c = absurd (nowhere x c)
-in_filter {X} t (y ∷ ys) x c = pick (t y) refl c (in_filter t ys x)
-  where
-    pick : (b : Bool) → t y ≡ b → Contains (cond b (y ∷ filter t ys) (filter t ys)) x
-        → (Contains (filter t ys) x → Contains ys x × (t x ≡ true)) → Contains (y ∷ ys) x × (t x ≡ true)
-    pick true e (zero, lt, is) rest = ((zero, omega arith, is), ap t (sym is) ∙ e)
-    pick true e (suc k, lt, is) rest = let r = rest (k, omega (arith, lt), is) in (there x y ys r.0, r.1)
-    pick false e c rest = let r = rest c in (there x y ys r.0, r.1)
-
 filter_in : {X : Type 0} (t : X → Bool) (xs : List X) (x : X) → Contains xs x → t x ≡ true → Contains (filter t xs) x
-filter_in t [] x c e = absurd (nowhere x c)
+filter_in t [] x c e = absurd (nothing_in x c)
 filter_in {X} t (y ∷ ys) x c e = pick (t y) refl c (λ h. filter_in t ys x h e)
   where
     pick : (b : Bool) → t y ≡ b → Contains (y ∷ ys) x → (Contains ys x → Contains (filter t ys) x)
@@ -154,11 +134,6 @@ filter_in {X} t (y ∷ ys) x c e = pick (t y) refl c (λ h. filter_in t ys x h e
     pick false same (zero, lt, is) rest =
         let clash : true ≡ false = sym e ∙ ap t (sym is) ∙ same in absurd (cc)
     pick false same (suc k, lt, is) rest = rest (k, omega (arith, lt), is)
-
-map_in : {X Y : Type 0} (f : X → Y) (xs : List X) (x : X) → Contains xs x → Contains (map f xs) (f x)
-map_in f [] x c = absurd (nowhere x c)
-map_in f (y ∷ ys) x (zero, lt, is) = (zero, omega arith, ap f is)
-map_in f (y ∷ ys) x (suc k, lt, is) = there (f x) (f y) (map f ys) (map_in f ys x (k, omega (arith, lt), is))
 
 enable_is : (x : Enable) (o : Origin) (a : ℕ) → x.origin ≡ o → x.expr ≡ a → x ≡ record { origin = o; expr = a }
 enable_is x o a h g =
@@ -170,15 +145,15 @@ picked_from : (g : Group) (ys : List Form) (xs : List (Option Enable)) (a : ℕ)
     → (f : ℕ) × (y : Form) × (m : Move) × IsAt ys f y × IsAt xs f (Some m.enable) × (move_kind y.kind ≡ Some m.kind)
     × (picks g m ≡ true) × ((m.enable).expr ≡ a)
 picked_from g ys xs a c =
-    let (m, cm, is) = in_map (λ (z : Move). (z.enable).expr) (filter (picks g) (moves_in ys xs)) a c in
-    let (cm2, pick) = in_filter (picks g) (moves_in ys xs) m cm in
+    let (m, cm, is) = contains_from_map (λ (z : Move). (z.enable).expr) (filter (picks g) (moves_in ys xs)) a c in
+    let (cm2, pick) = contains_from_filter (picks g) (moves_in ys xs) m cm in
     let (f, y, at_y, at_x, kind) = moves_at ys xs m cm2 in (f, y, m, at_y, at_x, kind, pick, is)
 
 picked_in : (g : Group) (ys : List Form) (xs : List (Option Enable)) (f : ℕ) (y : Form) (x : Enable) (k : MoveKind)
     → IsAt ys f y → IsAt xs f (Some x) → move_kind y.kind ≡ Some k → picks g (record { kind = k; enable = x }) ≡ true
     → Contains (picked g (moves_in ys xs)) x.expr
 picked_in g ys xs f y x k at_y at_x kind pick =
-    map_in (λ (z : Move). (z.enable).expr) (filter (picks g) (moves_in ys xs)) (record { kind = k; enable = x })
+    contains_map (λ (z : Move). (z.enable).expr) (filter (picks g) (moves_in ys xs)) (record { kind = k; enable = x })
     (filter_in (picks g) (moves_in ys xs) (record { kind = k; enable = x }) (at_moves ys xs f y x k at_y at_x kind)
     pick)
 
@@ -201,7 +176,7 @@ moves_kind (forms.Cond bs) h = absurd (cc)
 moves_kind (forms.Par fs) h = absurd (cc)
 
 kind_of : {k m : MoveKind} → Some k ≡ Some m → k ≡ m
-kind_of {k} {m} h = some_is k m h
+kind_of {k} {m} h = same_Some k m h
 
 kind_calls : (k : FormKind) (m : MoveKind) → move_kind k ≡ Some m → is_a_call m ≡ true → is_call k ≡ true
 kind_calls (forms.Call l) m h e = refl
@@ -251,7 +226,7 @@ module _ (p : Program) (enables : List (Option Enable)) (k : ℕ) where
   calls_are a = (
     λ c.
         let (f, y, m, at_y, at_x, kind, pick, is) = picked_from (Calls k) p.forms enables a c in
-        let (i, origin) = place_of k (m.enable).origin (and_left (is_of k (m.enable).origin) (is_a_call m.kind) pick)
+        let (i, origin) = own_origin k (m.enable).origin (and_left (is_of k (m.enable).origin) (is_a_call m.kind) pick)
         in (
           f,
           i,
@@ -262,7 +237,7 @@ module _ (p : Program) (enables : List (Option Enable)) (k : ℕ) where
         ),
     λ (f, i, y, at_y, calls, has).
         picked_in (Calls k) p.forms enables f y (record { origin = At k i; expr = a }) Call at_y has
-        (call_kind y.kind calls) (both_true (is_of k (At k i)) true (there_of k i) refl),
+        (call_kind y.kind calls) (and_from (is_of k (At k i)) true (there_of k i) refl),
   )
 
   pub returns_are : (a : ℕ) → Contains (picked (Returns k) (moves_in p.forms enables)) a
@@ -270,7 +245,7 @@ module _ (p : Program) (enables : List (Option Enable)) (k : ℕ) where
   returns_are a = (
     λ c.
         let (f, y, m, at_y, at_x, kind, pick, is) = picked_from (Returns k) p.forms enables a c in
-        let (i, origin) = place_of k (m.enable).origin
+        let (i, origin) = own_origin k (m.enable).origin
         (and_left (is_of k (m.enable).origin) (is_a_return m.kind) pick) in (
           f,
           i,
@@ -281,7 +256,7 @@ module _ (p : Program) (enables : List (Option Enable)) (k : ℕ) where
         ),
     λ (f, i, y, at_y, returns, has).
         picked_in (Returns k) p.forms enables f y (record { origin = At k i; expr = a }) Return at_y has
-        (return_kind y.kind returns) (both_true (is_of k (At k i)) true (there_of k i) refl),
+        (return_kind y.kind returns) (and_from (is_of k (At k i)) true (there_of k i) refl),
   )
 
   pub moves_inside : (i : ℕ) → AreMovesAt p enables k i (picked (Inside k i) (moves_in p.forms enables))
@@ -487,11 +462,11 @@ has_in t k i (z ∷ ys) (None ∷ xs) zero a y (lt, is) (lt2, is2) h = absurd (c
 has_in t k i (z ∷ ys) (None ∷ xs) (suc f) a y (lt, is) (lt2, is2) h =
     has_in t k i ys xs f a y (omega (arith, lt), is) (omega (arith, lt2), is2) h
 has_in t k i (z ∷ ys) (Some x ∷ xs) zero a y (lt, is) (lt2, is2) h =
-    let same : record { origin = At k i; expr = a } ≡ x = some_is (record { origin = At k i; expr = a }) x is2 in
+    let same : record { origin = At k i; expr = a } ≡ x = same_Some (record { origin = At k i; expr = a }) x is2 in
     let there : is_at k i x.origin ≡ true = ap (λ (e : Enable). is_at k i e.origin) (sym same) ∙ there_at k i in
     let passes : t z.kind ≡ true = ap (λ (v : Form). t v.kind) (sym is) ∙ h in
     or_left (is_at k i x.origin && t z.kind) (has_at t k i ys xs)
-    (both_true (is_at k i x.origin) (t z.kind) there passes)
+    (and_from (is_at k i x.origin) (t z.kind) there passes)
 has_in t k i (z ∷ ys) (Some x ∷ xs) (suc f) a y (lt, is) (lt2, is2) h =
     or_right (is_at k i x.origin && t z.kind) (has_at t k i ys xs)
     (has_in t k i ys xs f a y (omega (arith, lt), is) (omega (arith, lt2), is2) h)

@@ -21,6 +21,7 @@ use Rattle.std.proofs.Common.{
   length,
 }
 use Rattle.std.specs.Prelude.{Contains, MatchOption}
+use Rattle.std.proofs.lemmas.Option.{MatchOption-at_some}
 use Rattle.mp_base.specs.declared.refusal.Place.{Place}
 use Rattle.mp_program.specs.declared.program.FormKind.{FormKind}
 use Rattle.mp_program.specs.declared.program.FormKind.TheVariants as forms
@@ -30,6 +31,7 @@ use Rattle.mp_program.specs.declared.program.Program.{Program}
 use Rattle.mp_program.specs.Names.{index_of}
 use Rattle.mp_program.specs.Step.{place_of_label}
 use Rattle.mp_rules.specs.Entries.{IsAt}
+use Rattle.mp_rules.proofs.ListEntries.{one_entry, some_entry}
 use Rattle.rtl_form.specs.declared.rtl.Cell as cells
 use Rattle.rtl_form.specs.declared.rtl.RtlExpr.{RtlExpr}
 use Rattle.rtl_form.specs.declared.rtl.RtlExpr.TheVariants.{Cell}
@@ -59,7 +61,6 @@ use Rattle.process_plan.specs.Plan.{
   empties,
   AreTransfers,
 }
-use Rattle.process_plan.proofs.Members.{one_entry, some_entry}
 use Rattle.process_transfers.specs.declared.jumps.Jumps.{Jumps}
 use Rattle.process_transfers.specs.declared.roles.Control.{Control}
 use Rattle.process_transfers.specs.declared.roles.Motion.{Motion}
@@ -76,10 +77,6 @@ use Rattle.process_transfers.specs.Wants.{
   RoleWants,
   CellWants,
 }
-
--- what stands where something is there
-there_is : {X : Type 0} (o : Option X) (x : X) (A : Type 0) (B : X → Type 0) → o ≡ Some x → MatchOption o A B → B x
-there_is o x A B is h = subst (λ z. MatchOption z A B) is h
 
 none_is_not : {X : Type 0} (o : Option X) (A : Type 0) (B : X → Type 0) → (A → ⊥) → MatchOption o A B
     → (x : X) × (o ≡ Some x)
@@ -126,13 +123,15 @@ module _ (p : Program) (roles : List Role) (xs : List cells.Cell) (enables : Lis
 
   calls_of : (k u : ℕ) (q : Process) (m : Jumps) → IsAt p.processes k q → IsAt x.jumps k m → m.calls ≡ Some u
       → IsUnionOf p exprs enables is_call k u
-  calls_of k u q m at_q at_m some = there_is m.calls u (HasMove p enables is_call k → ⊥)
-      (IsUnionOf p exprs enables is_call k) some (meant.jumps k q m at_q at_m).calls
+  calls_of k u q m at_q at_m some =
+      MatchOption-at_some (HasMove p enables is_call k → ⊥) (IsUnionOf p exprs enables is_call k) u
+      some (meant.jumps k q m at_q at_m).calls
 
   returns_of : (k u : ℕ) (q : Process) (m : Jumps) → IsAt p.processes k q → IsAt x.jumps k m → m.returns ≡ Some u
       → IsUnionOf p exprs enables is_return k u
-  returns_of k u q m at_q at_m some = there_is m.returns u (HasMove p enables is_return k → ⊥)
-      (IsUnionOf p exprs enables is_return k) some (meant.jumps k q m at_q at_m).returns
+  returns_of k u q m at_q at_m some =
+      MatchOption-at_some (HasMove p enables is_return k → ⊥) (IsUnionOf p exprs enables is_return k) u
+      some (meant.jumps k q m at_q at_m).returns
 
   -- ---- what is wanted is planned
 

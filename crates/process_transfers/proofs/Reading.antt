@@ -1,18 +1,16 @@
 -- Expressions that read cells.
 use Rattle.std.proofs.Common.{◌≡◌, inl, inr, ◌∙◌, ℕ, ◌+◌, List, [], ◌∷◌, ◌++◌, refl, sym, ap, subst, arith, length}
+use Rattle.std.proofs.lemmas.List.{length_push}
 use Rattle.mp_rules.specs.Entries.{IsAt}
+use Rattle.mp_rules.proofs.ListEntries.{one_entry, at_pushed, at_push_cases}
 use Rattle.rtl_form.specs.declared.rtl.RtlExpr.{RtlExpr}
 use Rattle.rtl_form.specs.declared.rtl.RtlExpr.TheVariants.{Cell}
 use Rattle.process_plan.specs.declared.role.Role.{Role}
-use Rattle.process_plan.proofs.Members.{one_entry}
+use Rattle.process_layout.proofs.Keeping.{keeps_more}
 use Rattle.process_transfers.specs.Growth.{IsPut}
 use Rattle.process_transfers.specs.Control.{IsReading, IsReadingMade, AreReadingsMade}
 use Rattle.process_transfers.proofs.Growing.{
-  long_pushed,
-  at_pushed,
   kept_pushed,
-  pushed_cases,
-  keeps_more,
   free_pushed,
   one_pushed,
 }
@@ -33,7 +31,7 @@ pub readings_more : (roles : List Role) (n e : ℕ) (s : Role) (old now next : L
     → AreReadingsMade roles (n + 1) old next more
 readings_more roles n e s old now next es more before at made added =
     let size = before.size in
-    let long = ap length added ∙ long_pushed es e in
+    let long = ap length added ∙ length_push es e in
     let earlier = before.grown in
     let later = made.grown in
     let cost_a = earlier.cost in
@@ -44,7 +42,7 @@ readings_more roles n e s old now next es more before at made added =
         cost = omega (arith, cost_a, cost_b);
         fits = λ w xs le fit. later.fits w xs le (earlier.fits w xs (omega (arith, le)) fit);
       };
-      each = λ c d r at_r at_d. elim (pushed_cases es e c d (subst (λ ds. IsAt ds c d) added at_d)) as
+      each = λ c d r at_r at_d. elim (at_push_cases es e c d (subst (λ ds. IsAt ds c d) added at_d)) as
           (λ _. IsReading next r c d) [
             | inl there ↦ λ k l j is. later.kept d (Cell c) (before.each c d r at_r there k l j is)
             | inr (last, same) ↦ λ k l j is.

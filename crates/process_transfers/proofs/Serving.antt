@@ -41,7 +41,10 @@ use Rattle.std.proofs.lemmas.Bool.{eq-eqb}
 use Rattle.std.proofs.lemmas.List.{at_drop_more}
 use Rattle.std.proofs.lemmas.List.Elements.{Contains-append_left, Contains-append_right, Contains-append_cases}
 use Rattle.std.proofs.lemmas.List.Sums.{sum_by-cons, sum_by_push, sum_by_more}
+use Rattle.std.proofs.lemmas.Option.{same_Some}
 use Rattle.mp_base.specs.declared.refusal.Place.{Place}
+use Rattle.mp_base.proofs.Contents.{only_one}
+use Rattle.mp_base.proofs.Numbers.{below_suc}
 use Rattle.mp_program.specs.declared.program.Def.{Def}
 use Rattle.mp_program.specs.declared.program.FormKind.{FormKind}
 use Rattle.mp_program.specs.declared.program.FormKind.TheVariants as forms
@@ -67,6 +70,7 @@ use Rattle.mp_program.specs.Step.{place_of_label}
 use Rattle.mp_program.proofs.Definitions.{named}
 use Rattle.mp_rules.specs.Entries.{IsAt}
 use Rattle.mp_rules.specs.Rules.{E27, is_unset}
+use Rattle.mp_rules.proofs.ListEntries.{one_entry}
 use Rattle.rtl_form.specs.declared.rtl.Cell.{Cell}
 use Rattle.rtl_form.specs.declared.rtl.Transfer.{Transfer}
 use Rattle.rtl_form.specs.Cost.{transfer_cost, target_cost}
@@ -79,7 +83,6 @@ use Rattle.process_plan.specs.Roles.{AreCells, def_cell}
 use Rattle.process_plan.specs.Enables.{copy_of}
 use Rattle.process_plan.specs.Bill.{transfers_cost, forms_bill, form_bill, named_bill, set_bill}
 use Rattle.process_plan.specs.Plan.{is_call}
-use Rattle.process_plan.proofs.Members.{one_entry, only_one, some_is}
 use Rattle.process_layout.specs.Counts.{is_go, is_of}
 use Rattle.process_transfers.specs.declared.roles.Control.{Control}
 use Rattle.process_transfers.specs.declared.roles.Motion.{Motion}
@@ -105,14 +108,6 @@ use Rattle.process_transfers.specs.Wants.{
 
 -- ---- what one thing wants
 
-split_less : (i n : ℕ) → i < n + 1 → (i < n) ⊎ (i ≡ n)
-split_less i zero lt = inr (omega (arith, lt))
-split_less zero (suc n) lt = inl (omega arith)
-split_less (suc i) (suc n) lt = elim (split_less i n (omega (arith, lt))) as (λ _. (suc i < suc n) ⊎ (suc i ≡ suc n)) [
-  | inl below ↦ inl (omega (arith, below))
-  | inr same ↦ inr (ap suc same)
-]
-
 pub serves_more : (W : ℕ → Transfer → Type 0) (n : ℕ) (old now next : List Transfer) (found : Option Transfer)
     → Serves W n old now → IsFound (W n) found → next ≡ now ++ option_to_list found → Serves W (n + 1) old next
 serves_more W n old now next None before none is =
@@ -123,7 +118,7 @@ serves_more W n old now next None before none is =
         | inl there ↦ inl there
         | inr (i, lt, wants) ↦ inr (i, omega (arith, lt), wants)
       ];
-      each = λ i t lt wants. elim (split_less i n lt) as (λ _. (u : Transfer) × W i u × Contains now u) [
+      each = λ i t lt wants. elim (below_suc i n lt) as (λ _. (u : Transfer) × W i u × Contains now u) [
         | inl below ↦ before.each i t below wants
         | inr last ↦ absurd (none t (subst (λ k. W k t) last wants))
       ];
@@ -136,9 +131,9 @@ serves_more W n old now next (Some u) before wanted is = subst (Serves W (n + 1)
           | inl earlier ↦ inl earlier
           | inr (i, lt, wants) ↦ inr (i, omega (arith, lt), wants)
         ]
-        | inr last ↦ inr (n, omega arith, subst (W n) (only_one t u last) wanted)
+        | inr last ↦ inr (n, omega arith, subst (W n) (only_one u t last) wanted)
       ];
-  each = λ i t lt wants. elim (split_less i n lt) as (λ _. (v : Transfer) × W i v × Contains (now ++ u ∷ []) v) [
+  each = λ i t lt wants. elim (below_suc i n lt) as (λ _. (v : Transfer) × W i v × Contains (now ++ u ∷ []) v) [
     | inl below ↦
         let (v, wants_v, there) = before.each i t below wants in
         (v, wants_v, Contains-append_left now (u ∷ []) v there)
@@ -263,14 +258,14 @@ target_bill ds d Phia x set h = absurd (cc)
 target_bill ds d Phib x set h = absurd (cc)
 target_bill ds d Phic x set h = absurd (cc)
 target_bill ds d (Constant n) x set h = absurd (cc)
-target_bill ds d Register x set h = ap (λ (z : Cell). target_cost z.word) (sym (some_is _ x h))
-target_bill ds d Flag x set h = ap (λ (z : Cell). target_cost z.word) (sym (some_is _ x h))
+target_bill ds d Register x set h = ap (λ (z : Cell). target_cost z.word) (sym (same_Some _ x h))
+target_bill ds d Flag x set h = ap (λ (z : Cell). target_cost z.word) (sym (same_Some _ x h))
 target_bill ds d (Port Input) x set h = absurd (set refl)
 target_bill ds d (Signal Input) x set h = absurd (set refl)
-target_bill ds d (Port Output) x set h = ap (λ (z : Cell). target_cost z.word) (sym (some_is _ x h))
-target_bill ds d (Port Internal) x set h = ap (λ (z : Cell). target_cost z.word) (sym (some_is _ x h))
-target_bill ds d (Signal Output) x set h = ap (λ (z : Cell). target_cost z.word) (sym (some_is _ x h))
-target_bill ds d (Signal Internal) x set h = ap (λ (z : Cell). target_cost z.word) (sym (some_is _ x h))
+target_bill ds d (Port Output) x set h = ap (λ (z : Cell). target_cost z.word) (sym (same_Some _ x h))
+target_bill ds d (Port Internal) x set h = ap (λ (z : Cell). target_cost z.word) (sym (same_Some _ x h))
+target_bill ds d (Signal Output) x set h = ap (λ (z : Cell). target_cost z.word) (sym (same_Some _ x h))
+target_bill ds d (Signal Internal) x set h = ap (λ (z : Cell). target_cost z.word) (sym (same_Some _ x h))
 
 -- a form with an enable in one of the first n processes lands
 lands_less : (n : ℕ) (y : Form) (ys : List Form) (x : Option Enable) (es : List (Option Enable))
@@ -303,7 +298,7 @@ lands_step (suc n) k y ys x es lt here moves = elim (last k n lt) as
     ]
   where
     last : (i n : ℕ) → i < suc n → (i ≡ n) ⊎ (i < n)
-    last i n lt = elim (split_less i n (omega (arith, lt))) as (λ _. (i ≡ n) ⊎ (i < n)) [
+    last i n lt = elim (below_suc i n (omega (arith, lt))) as (λ _. (i ≡ n) ⊎ (i < n)) [
       | inl below ↦ inr below
       | inr same ↦ inl same
     ]

@@ -4,6 +4,7 @@ use Rattle.std.proofs.Common.{slice_index_or, add-one, zero-add, add-zero, add-s
 use Rattle.std.specs.List.{flat_map, range_with_len}
 use Rattle.std.proofs.lemmas.List.{flat_map_more}
 use Rattle.std.proofs.Math.Seq.{take-suc}
+use Rattle.mp_base.proofs.Ranges.{range_suc}
 use Rattle.program_maker.specs.Draws.{after, next, below, draw}
 use Rattle.program_maker.specs.Texts.{registers, definition, clock, drawn_clock}
 
@@ -22,12 +23,6 @@ after-add seed m (suc n) = ap next (after-add seed m n) ∙ ap (after seed) {x =
 pub draw-on : (seed m k n : ℕ) → draw (after seed m) k n ≡ draw seed (m + k) n
 draw-on seed m k n = ap (below n) (after-add seed m (suc k) ∙ ap (after seed) (add-suc m k))
 
--- one number more
-range_more : (a n : ℕ) → range_with_len a (suc n) ≡ range_with_len a n ++ (a + n) ∷ []
-range_more a zero = ap (λ k. k ∷ []) (omega arith)
-range_more a (suc n) =
-    ap (λ ks. a ∷ ks) (range_more (a + 1) n ∙ ap (λ k. range_with_len (a + 1) n ++ k ∷ []) (omega arith))
-
 -- one row more
 pub kept_more : (row : ℕ → ℕ → List ℕ) (draws n seed state later : ℕ) (old new longer : List ℕ)
     → Kept row draws n seed state old new
@@ -37,7 +32,7 @@ kept_more row draws n seed state later old new longer kept drawn rows = record {
       ∙ ap (after seed) {x = draws * n + draws} (grind arith);
   rows = rows ∙ ap (λ t. t ++ row seed n) kept.rows ∙ flat_map_more (row seed) old (range_with_len 0 n) n
       ∙ ap (λ ks. old ++ flat_map (row seed) ks)
-      (sym (ap (λ k. range_with_len 0 k) (add-one n) ∙ range_more 0 n
+      (sym (ap (λ k. range_with_len 0 k) (add-one n) ∙ range_suc 0 n
       ∙ ap (λ k. range_with_len 0 n ++ k ∷ []) (zero-add n)));
 }
 

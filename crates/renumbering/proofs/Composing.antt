@@ -80,7 +80,8 @@ both_ways a b c f g h i p q = record {
   back_there = λ k l. ap h (p.back_there (i k) (q.back_within k l)) ∙ q.back_there k l;
 }
 
-pub same_through : (f g : ℕ → ℕ) (c d e : Channel) → SameChannel f c d → SameChannel g d e → SameChannel (λ k. g (f k)) c e
+pub same_through : (f g : ℕ → ℕ) (c d e : Channel) → SameChannel f c d → SameChannel g d e
+    → SameChannel (λ k. g (f k)) c e
 same_through f g c d e a b = record {
   gate = ap g a.gate ∙ b.gate;
   ends = λ y. (

@@ -1,5 +1,6 @@
 -- What a network gives a node, a renumbered one gives the node that stands for it.
-use Rattle.std.proofs.Common.{ℕ, zero, suc, ◌≡◌, ◌<◌, inl, inr, refl, sym, ◌∙◌, ap, subst, subst₂, arith, List, [], ◌∷◌, length, get_or, Contains}
+use Rattle.std.proofs.Common.{ℕ, zero, suc, ◌≡◌, ◌<◌, inl, inr, refl, sym, ◌∙◌, ap, subst, subst₂, arith, List, [], ◌∷◌}
+use Rattle.std.proofs.Common.{length, get_or, Contains}
 use Rattle.std.specs.Prelude.{◌≢◌, All, Any, Option, IsSome}
 use Rattle.std.specs.List.{AllZip}
 use Rattle.std.proofs.lemmas.List.{get_or_default}
@@ -8,7 +9,8 @@ use Rattle.mp_base.specs.declared.value.Trit.{Trit}
 use Rattle.switch_net.specs.declared.network.ChannelKind.TheVariants.{Depletion}
 use Rattle.switch_net.specs.declared.network.Channel.{Channel}
 use Rattle.switch_net.specs.declared.network.Network.{Network}
-use Rattle.switch_net.specs.Settled.{KindIsOn, KindMayBeOn, IsOn, MayBeOn, Path, IsStrong, IsPossible, IsAgainst, IsStronglyHeld, IsWeaklyHeld, IsKept, Gives}
+use Rattle.switch_net.specs.Settled.{KindIsOn, KindMayBeOn, IsOn, MayBeOn, Path, IsStrong, IsPossible, IsAgainst}
+use Rattle.switch_net.specs.Settled.{IsStronglyHeld, IsWeaklyHeld, IsKept, Gives}
 use Rattle.renumbering.specs.Same.{SameChannel, Renumbering, AreAlike}
 use Rattle.renumbering.specs.Laws.{setting}
 use Rattle.renumbering.proofs.Composing.{end_in, gate_in, flip, alike_back}

@@ -1,5 +1,6 @@
 -- A circuit that is the same up to numbering shows the same.
-use Rattle.std.proofs.Common.{ℕ, zero, suc, ◌≡◌, ◌<◌, inl, inr, refl, sym, ◌∙◌, ap, subst, arith, List, [], ◌∷◌, length, get_or, Contains}
+use Rattle.std.proofs.Common.{ℕ, zero, suc, ◌≡◌, ◌<◌, inl, inr, refl, sym, ◌∙◌, ap, subst, arith, List, [], ◌∷◌, length}
+use Rattle.std.proofs.Common.{get_or, Contains}
 use Rattle.std.specs.Prelude.{Option, Some, None}
 use Rattle.std.specs.List.{AllZip}
 use Rattle.std.proofs.lemmas.Bool.{cases_lt}
@@ -7,9 +8,11 @@ use Rattle.std.proofs.lemmas.List.Elements.{All-contains}
 use Rattle.mp_base.specs.declared.value.Trit.{Trit}
 use Rattle.mp_base.specs.declared.pad.Pad.{Pad}
 use Rattle.mp_base.specs.declared.pad.Pads.{Pads}
+use Rattle.mp_base.proofs.Zips.{zip_map}
 use Rattle.switch_net.specs.declared.network.Tag.{Tag}
 use Rattle.switch_net.specs.declared.network.Network.{Network}
-use Rattle.switch_net.specs.Clock.{Phases, Drive, drives, settings_until_outputs, settings_after_outputs, IsLabelled, AreDrivers, SettlesTo, RunsTo, HasValue, Shows, IsClock, IsCircuitTrace}
+use Rattle.switch_net.specs.Clock.{Phases, Drive, drives, settings_until_outputs, settings_after_outputs, IsLabelled}
+use Rattle.switch_net.specs.Clock.{AreDrivers, SettlesTo, RunsTo, HasValue, Shows, IsClock, IsCircuitTrace}
 use Rattle.switch_net.specs.Pads.{bit_labels}
 use Rattle.switch_net.specs.Laws.{SettledExists}
 use Rattle.renumbering.specs.Same.{Renumbering, SameTag, SameUpToNumbering, AreAlike}
@@ -27,13 +30,6 @@ partner R (x ∷ xs) (y ∷ ys) z zero d lt = (y, (0, omega arith, refl), z.0)
 partner R (x ∷ xs) (y ∷ ys) z (suc i) d lt =
     let w = partner R xs ys z.1 i d (omega (arith, lt)) in
     (w.0, (suc w.1.0, omega (arith, w.1.1), w.1.2), w.2)
-
-zip_map : {A B : Type 0} (R Q : A → B → Type 0) → ((a : A) (b : B) → R a b → Q a b) → (xs : List A) (ys : List B)
-    → AllZip R xs ys → AllZip Q xs ys
-zip_map R Q f [] [] h = tt
-zip_map R Q f [] (y ∷ ys) h = h
-zip_map R Q f (x ∷ xs) [] h = h
-zip_map R Q f (x ∷ xs) (y ∷ ys) h = (f x y h.0, zip_map R Q f xs ys h.1)
 
 -- a labelled number is a node
 labelled_low : (n : Network) (name : List ℕ) (k : ℕ) → IsLabelled n name k → k < n.nodes

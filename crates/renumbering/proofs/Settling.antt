@@ -1,9 +1,10 @@
 -- A renumbered network settles to the same values.
 use Rattle.std.proofs.Common.{ℕ, ◌≡◌, ◌<◌, ◌≤◌, ◌⊎◌, inl, inr, refl, sym, ◌∙◌, ap, subst, arith, List, [], ◌∷◌}
-use Rattle.std.specs.Prelude.{◌↔◌, Option, Some, None, IsSome}
+use Rattle.std.specs.Prelude.{◌↔◌, Option, Some, None}
 use Rattle.std.proofs.lemmas.Bool.{cases_lt}
 use Rattle.mp_base.specs.declared.value.Trit.{Trit}
 use Rattle.mp_base.specs.declared.value.Trit.TheVariants.{Zero, One}
+use Rattle.mp_base.proofs.Values.{none_not_some}
 use Rattle.switch_net.specs.declared.network.Channel.{Channel}
 use Rattle.switch_net.specs.declared.network.Network.{Network}
 use Rattle.switch_net.specs.Settled.{Path, Gives, IsSolution}
@@ -39,11 +40,6 @@ abbrev alone : Option Trit → Trit → Trit
 alone (Some t) b = t
 alone None b = b
 
--- what is none is not some
-unset : (o : Option Trit) → o ≡ None → IsSome o → ⊥
-unset None e h = cc
-unset (Some t) e h = cc
-
 module _ (m : Network) (driver : ℕ → Option Trit) (before : ℕ → Trit) where
   -- no channel leads to a number that is no node's
   no_way : (a : ℕ) (cs : List Channel) (j : ℕ) → m.nodes ≤ j → Path (setting m driver before) a cs j → a ≡ j
@@ -55,7 +51,7 @@ module _ (m : Network) (driver : ℕ → Option Trit) (before : ℕ → Trit) wh
   keeps_alone : (v : ℕ → Trit) (j : ℕ) → m.nodes ≤ j → driver j ≡ None → (b : Trit) → before j ≡ b
       → Gives (setting m driver before) v j b
   keeps_alone v j ge free b e = inr (inr (record {
-    alone = λ a cs some p may. unset (driver a) (ap driver (no_way a cs j ge p) ∙ free) some;
+    alone = λ a cs some p may. none_not_some (driver a) (ap driver (no_way a cs j ge p) ∙ free) some;
     charged = λ a cs p may. ap before (no_way a cs j ge p) ∙ e;
   }))
 

@@ -1,16 +1,15 @@
 -- The circuit of a chip follows its program along a stimulus.
-use Rattle.std.proofs.Common.{◌≡◌, ℕ, List, [], ◌∷◌, length, refl, sym, ap, subst, ◌∙◌, None, arith}
+use Rattle.std.proofs.Common.{◌≡◌, ℕ, List, [], ◌∷◌, length, refl, sym, subst, ◌∙◌, None, arith}
 use Rattle.std.specs.Prelude.{All}
 use Rattle.mp_base.specs.declared.value.Trit.{Trit}
 use Rattle.mp_base.specs.declared.value.Trit.TheVariants.{X}
 use Rattle.mp_base.specs.declared.pad.Pads.{Pads}
 use Rattle.mp_program.specs.declared.program.Program.{Program}
-use Rattle.mp_program.specs.State.{State, zero_state}
+use Rattle.mp_program.specs.State.{zero_state}
 use Rattle.mp_program.specs.Pads.{ArePadsOf}
-use Rattle.mp_program.specs.Trace.{IsTraceFrom}
+use Rattle.mp_program.proofs.Lengths.{length_trace}
 use Rattle.switch_net.specs.declared.network.Network.{Network}
 use Rattle.switch_net.specs.Breaks.{HasPads}
-use Rattle.switch_net.specs.Clock.{IsCircuitTrace}
 use Rattle.stimulus.specs.declared.given.Stimulus.{Stimulus}
 use Rattle.stimulus.specs.Inputs.{Fit, inputs_of}
 use Rattle.transcript.specs.Transcript.{RunsAlong}
@@ -19,17 +18,9 @@ use Rattle.mask_net.specs.Masks.{IsNetOf, OfMask}
 use Rattle.mask_net.specs.Laws.{OneNetwork, SoundWithPads}
 use Rattle.headline.specs.Headline.{IsChipOf, Follows}
 use Rattle.sim_run.specs.Transcript.{NetworkSteps}
+use Rattle.sim_run.proofs.Circuits.{circuit_trace}
 use Rattle.replay_run.specs.Replay.{IsReplay}
 use Rattle.replay_run.specs.Laws.{OnePads, FollowsProgram}
-
-circuit_trace : (net : Network) (pads : Pads) (before after : ℕ → Trit) (inputs : List (List ℕ))
-    (shown : List (List (List Trit))) → RunsAlong (NetworkSteps net pads) before inputs shown after
-    → IsCircuitTrace net pads before inputs shown after
-circuit_trace net pads before after [] [] runs = λ n. ap (λ v. v n) runs
-circuit_trace net pads before after [] (o ∷ os) runs = absurd runs
-circuit_trace net pads before after (i ∷ is) [] runs = absurd runs
-circuit_trace net pads before after (i ∷ is) (o ∷ os) runs =
-    (runs.0, runs.1, circuit_trace net pads runs.0 after is os runs.2)
 
 runs_many : (net : Network) (pads : Pads) (before after : ℕ → Trit) (inputs : List (List ℕ))
     (shown : List (List (List Trit))) → RunsAlong (NetworkSteps net pads) before inputs shown after
@@ -39,13 +30,6 @@ runs_many net pads before after [] (o ∷ os) runs = absurd runs
 runs_many net pads before after (i ∷ is) [] runs = absurd runs
 runs_many net pads before after (i ∷ is) (o ∷ os) runs =
     let e = runs_many net pads runs.0 after is os runs.2 in omega (arith, e)
-
-trace_many : (p : Program) (st : State) (inputs outputs : List (List ℕ)) → IsTraceFrom p st inputs outputs
-    → length outputs ≡ length inputs
-trace_many p st [] [] t = refl
-trace_many p st [] (o ∷ os) t = absurd t
-trace_many p st (i ∷ is) [] t = absurd t
-trace_many p st (i ∷ is) (o ∷ os) t = let e = trace_many p t.0 is os t.2 in omega (arith, e)
 
 module _ (one_network : OneNetwork) (sound : SoundWithPads) (one_pads : OnePads) (p : Program) (bytes : List ℕ)
     (chip : IsChipOf p bytes) where
@@ -87,7 +71,7 @@ module _ (one_network : OneNetwork) (sound : SoundWithPads) (one_pads : OnePads)
       record {
         outputs = f.outputs;
         trace = f.program;
-        as_many = many ∙ sym (trace_many p (zero_state p) inputs f.outputs f.program);
+        as_many = many ∙ sym (length_trace p (zero_state p) inputs f.outputs f.program);
         agrees = λ k lt settled.
             f.agrees (λ node. X) replay.end shown (circuit_trace net pads (λ node. X) replay.end inputs shown runs) k
             (omega (arith, lt, many)) settled;

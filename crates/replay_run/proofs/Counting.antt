@@ -10,14 +10,10 @@ use Rattle.std.proofs.Common.{
   sym,
   ◌∙◌,
   refl,
-  subst,
   append_assoc,
   arith,
   List,
   ◌++◌,
-  Option,
-  Result,
-  Err,
   length,
   take,
   cond,
@@ -27,9 +23,6 @@ use Rattle.std.proofs.lemmas.List.{take_all}
 use Rattle.std.proofs.lemmas.List.Sums.{sum_by_more}
 use Rattle.mp_base.specs.declared.value.Trit.{Trit}
 use Rattle.mp_base.specs.declared.value.Trit.TheVariants.{One, X}
-use Rattle.mp_base.specs.Outside.{Gains}
-use Rattle.mp_base.specs.Piece.{TakesAll}
-use Rattle.mp_base.proofs.Written.{cut_before}
 use Rattle.settle.specs.Values.{value_at}
 use Rattle.switch_net.specs.declared.network.Network.{Network}
 use Rattle.switch_net.specs.Sizes.{same_value, count_below, nodes_with}
@@ -59,13 +52,6 @@ counts_are net values size =
     counted values One net.nodes size in
     let x : count_by (same_value X) values ≡ nodes_with net (value_at values) X = counted values X net.nodes size in
     λ i. counts_text (one i) (x i)
-
--- a text that was cut short, before another, where the answer is an error that is known
-pub cut_at : {T E : Type 0} (x y : Option (List ℕ)) (a later : List ℕ) (e f : E) (r : Result T E) → r ≡ Err f
-    → TakesAll {T = T} {E = E} Gains x y a (Err e) → TakesAll {T = T} {E = E} Gains x y (a ++ later) r
-cut_at {T} {E} x y a later e f r is taken =
-    let P : Result T E → Type 0 = λ q. TakesAll {T = T} {E = E} Gains x y (a ++ later) q in
-    subst P (sym is) (cut_before {S = T} {T = T} e f x y a later taken)
 
 pub regrouped : (a b c d : List ℕ) → a ++ ((b ++ c) ++ d) ≡ ((a ++ b) ++ c) ++ d
 regrouped a b c d = sym (ap (λ t. t ++ d) (append_assoc a b c) ∙ append_assoc a (b ++ c) d)

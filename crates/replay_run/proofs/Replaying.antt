@@ -2,25 +2,17 @@
 use Rattle.std.proofs.Common.{◌≡◌, ℕ, List, ◌++◌, Option, Result, Ok, Err, refl, subst}
 use Rattle.mp_base.specs.declared.value.Trit.{Trit}
 use Rattle.mp_base.specs.declared.value.Trit.TheVariants.{X}
-use Rattle.mp_base.specs.declared.refusal.Broken.{Broken}
-use Rattle.mp_base.specs.declared.pad.Pads.{Pads}
 use Rattle.mp_base.specs.Outside.{Gains}
 use Rattle.mp_base.specs.Piece.{TakesAll}
 use Rattle.mp_base.proofs.Written.{written_then}
+use Rattle.mp_base.proofs.CutTexts.{cut_at}
 use Rattle.settle.specs.Values.{value_at}
 use Rattle.switch_net.specs.declared.network.Network.{Network}
-use Rattle.switch_net.specs.Breaks.{HasPads, IsFirstOfCircuit, n3, n4}
 use Rattle.stimulus.specs.declared.given.Stimulus.{Stimulus}
 use Rattle.transcript.specs.Running.{PrintsTranscript}
 use Rattle.mask_net.specs.SizeLine.{last_line}
 use Rattle.sim_run.specs.Transcript.{NetworkSteps, IsTranscript}
 use Rattle.replay_run.specs.Replay.{PrintsReplay}
-use Rattle.replay_run.proofs.Counting.{cut_at}
-
--- a network that has its pads breaks no rule with them
-pub breaks_nothing : (net : Network) (pads : Pads) (b : Broken) → HasPads net pads → IsFirstOfCircuit net pads b → ⊥
-breaks_nothing net pads b has (n3 i tag driven before) = has.apart i (tag, driven)
-breaks_nothing net pads b has (n4 apart i name missing before) = has.labelled i name missing
 
 from_unknown : (net : Network) (given : Stimulus) (before : ℕ → Trit) → before ≡ (λ node. X) → (end : ℕ → Trit)
     (text : List ℕ) → IsTranscript net given before end text → IsTranscript net given (λ node. X) end text

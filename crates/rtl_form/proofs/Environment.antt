@@ -1,9 +1,11 @@
 -- A state and inputs have exactly one environment.
-use Rattle.std.proofs.Common.{◌≡◌, ◌≢◌, ◌⊎◌, inl, inr, ◌∙◌, ℕ, zero, suc, ◌+◌, ◌<◌, ◌≤◌, List, [], ◌∷◌, Bool, true, false, refl, sym, ap, subst, length, arith}
+use Rattle.std.proofs.Common.{◌≡◌, ◌≢◌, ◌⊎◌, inl, inr, ◌∙◌, ℕ, zero, suc, ◌+◌, ◌<◌, ◌≤◌, List, [], ◌∷◌, Bool, true}
+use Rattle.std.proofs.Common.{false, refl, sym, ap, subst, length, arith}
 use Rattle.std.specs.Prelude.{slice_index, unwrap_or, slice_set as set}
 use Rattle.std.proofs.lemmas.Bool.{cases_lt}
 use Rattle.std.proofs.lemmas.List.{ext_get_or, get_or-set_same, get_or-set_other, length-set}
 use Rattle.mp_base.specs.Merge.{merged}
+use Rattle.mp_base.proofs.Induction.{by_test, upward}
 use Rattle.rtl_form.specs.declared.rtl.CellKind.{CellKind}
 use Rattle.rtl_form.specs.declared.rtl.CellKind.TheVariants.{Input, Output, Inner, Stored}
 use Rattle.rtl_form.specs.declared.rtl.Cell.{Cell}
@@ -13,7 +15,7 @@ use Rattle.rtl_form.specs.Entries.{IsAt}
 use Rattle.rtl_form.specs.Values.{value_of}
 use Rattle.rtl_form.specs.Environment.{is_driven, kind_value, driven_value, IsEnvironment}
 use Rattle.rtl_form.specs.Sound.{IsSound, HasSort, ReadsCell, itself, inside}
-use Rattle.rtl_form.proofs.Members.{some_entry, one_entry, by_test, upward}
+use Rattle.rtl_form.proofs.Members.{some_entry, one_entry}
 use Rattle.rtl_form.proofs.Values.{value_agrees, written_agrees}
 
 kind_given : (k : CellKind) (inputs : List ℕ) (stored a b : ℕ) → is_driven k ≡ false

@@ -1,14 +1,18 @@
 -- Values fit their widths.
-use Rattle.std.proofs.Common.{◌≡◌, ℕ, ◌<◌, ◌≤◌, ◌+◌, ◌-◌, ◌*◌, ◌^◌, zero, suc, ◌⊎◌, inl, inr, List, [], ◌∷◌, Option, Some, None, Bool, true, false, cond, length, map, get_or, ltb, replicate, refl, sym, ◌∙◌, ap, subst, arith}
+use Rattle.std.proofs.Common.{◌≡◌, ℕ, ◌<◌, ◌+◌, ◌-◌, ◌*◌, ◌^◌, zero, suc, inl, inr, List, [], ◌∷◌, Option, Some, None}
+use Rattle.std.proofs.Common.{Bool, true, false, cond, length, map, get_or, ltb, replicate, refl, sym, ◌∙◌, ap, subst}
+use Rattle.std.proofs.Common.{arith}
 use Rattle.std.specs.Prelude.{Contains, ◌==◌, not, if◌then◌else◌, slice_index, unwrap_or}
 use Rattle.std.proofs.Math.Nat.{div-le_self}
-use Rattle.std.proofs.lemmas.Bool.{false≢true, true≢false, cases_lt, le-ltb, eqb-true, eq-eqb}
+use Rattle.std.proofs.lemmas.Bool.{false≢true, true≢false, eqb-true, eq-eqb}
 use Rattle.std.proofs.lemmas.Nat.{pow_pos, mod_below, or_lt, xor_lt, and_le_l}
 use Rattle.std.proofs.lemmas.Nat.Bits.{bit_at-lt}
 use Rattle.mp_base.specs.declared.op.Op.{Op}
-use Rattle.mp_base.specs.declared.op.Op.TheVariants.{Add, Sub, Inc, Dec, WordAnd, WordOr, WordXor, WordNot, Left, Right, And, Or, Nor, Nand, Xor, Not, Bit, Zero, Equal, Less}
+use Rattle.mp_base.specs.declared.op.Op.TheVariants.{Add, Sub, Inc, Dec, WordAnd, WordOr, WordXor, WordNot, Left, Right}
+use Rattle.mp_base.specs.declared.op.Op.TheVariants.{And, Or, Nor, Nand, Xor, Not, Bit, Zero, Equal, Less}
 use Rattle.mp_base.specs.Apply.{apply, truth}
 use Rattle.mp_base.specs.Merge.{join, merged}
+use Rattle.mp_base.proofs.Tests.{truth_small, truth_apart}
 use Rattle.rtl_form.specs.declared.rtl.Cell as cells
 use Rattle.rtl_form.specs.declared.rtl.CellKind.{CellKind}
 use Rattle.rtl_form.specs.declared.rtl.CellKind.TheVariants as kinds
@@ -32,23 +36,6 @@ use Rattle.rtl_form.proofs.Reaching.{reached}
 positive : (w : ℕ) (word : Bool) → 0 < size_of w word
 positive w word = pow_pos (if word then w else 1)
 
-truth_lt : (b : Bool) → truth b < 2
-truth_lt true = omega arith
-truth_lt false = omega arith
-
-apart : (a b : ℕ) → truth (ltb a b) + truth (ltb b a) < 2
-apart a b = by_order (cases_lt a b)
-  where
-    by_order : (a < b) ⊎ (b ≤ a) → truth (ltb a b) + truth (ltb b a) < 2
-    by_order (inl l) =
-        let e : truth (ltb b a) ≡ 0 = ap truth (le-ltb b a (omega arith)) in
-        let t = truth_lt (ltb a b) in
-        omega (arith, e, t)
-    by_order (inr l) =
-        let e : truth (ltb a b) ≡ 0 = ap truth (le-ltb a b l) in
-        let t = truth_lt (ltb b a) in
-        omega (arith, e, t)
-
 -- an operator's value fits where its operands do
 apply_fits : (w : ℕ) (op : Op) (k : ℕ) (xs : List ℕ) → ((i : ℕ) → slice_index xs i < size_of w (takes_words op))
     → apply w op k xs < size_of w (gives_word op)
@@ -63,16 +50,16 @@ apply_fits w WordXor k xs h = xor_lt w (slice_index xs 0) (slice_index xs 1) (h 
 apply_fits w WordNot k xs h = let p = pow_pos w in omega (arith, p)
 apply_fits w Left k xs h = mod_below (2 * slice_index xs 0) (2 ^ w) (pow_pos w)
 apply_fits w Right k xs h = let a = h 0 in let l = div-le_self (slice_index xs 0) 2 in omega (arith, a, l)
-apply_fits w And k xs h = truth_lt (Rattle.std.specs.List.list_all (λ x. x == 1) xs)
-apply_fits w Or k xs h = truth_lt (Rattle.std.specs.List.list_any (λ x. x == 1) xs)
-apply_fits w Nor k xs h = truth_lt (Rattle.std.specs.List.list_all (λ x. x == 0) xs)
-apply_fits w Nand k xs h = truth_lt (Rattle.std.specs.List.list_any (λ x. x == 0) xs)
-apply_fits w Xor k xs h = apart (slice_index xs 0) (slice_index xs 1)
+apply_fits w And k xs h = truth_small (Rattle.std.specs.List.list_all (λ x. x == 1) xs)
+apply_fits w Or k xs h = truth_small (Rattle.std.specs.List.list_any (λ x. x == 1) xs)
+apply_fits w Nor k xs h = truth_small (Rattle.std.specs.List.list_all (λ x. x == 0) xs)
+apply_fits w Nand k xs h = truth_small (Rattle.std.specs.List.list_any (λ x. x == 0) xs)
+apply_fits w Xor k xs h = truth_apart (slice_index xs 0) (slice_index xs 1)
 apply_fits w Not k xs h = omega arith
 apply_fits w Bit k xs h = bit_at-lt (slice_index xs 0) k
-apply_fits w Zero k xs h = truth_lt (slice_index xs 0 == 0)
-apply_fits w Equal k xs h = truth_lt (slice_index xs 0 == slice_index xs 1)
-apply_fits w Less k xs h = truth_lt (ltb (slice_index xs 0) (slice_index xs 1))
+apply_fits w Zero k xs h = truth_small (slice_index xs 0 == 0)
+apply_fits w Equal k xs h = truth_small (slice_index xs 0 == slice_index xs 1)
+apply_fits w Less k xs h = truth_small (ltb (slice_index xs 0) (slice_index xs 1))
 
 -- what is written fits where the values do
 module _ (n : ℕ) where
@@ -160,7 +147,7 @@ module _ (r : Rtl) (sound : IsSound r) (state inputs env : List ℕ) (state_fits
       by_expr : (x : RtlExpr) → IsAt r.exprs e x → known.Ready E C x → Rattle.rtl_form.specs.Sound.ExprFits r e x
           → IsSort r.cells x word → expr_value r.width env x value < size_of r.width word
       by_expr (exprs.Number n) at ready fits sort = subst (λ w. n < size_of r.width w) (sym sort) fits
-      by_expr (exprs.Truth b) at ready fits sort = subst (λ w. truth b < size_of r.width w) (sym sort) (truth_lt b)
+      by_expr (exprs.Truth b) at ready fits sort = subst (λ w. truth b < size_of r.width w) (sym sort) (truth_small b)
       by_expr (exprs.Cell c) at ready fits sort =
           subst (λ w. slice_index env c < size_of r.width w) (sym sort.2) (ready sort.0 sort.1)
       by_expr (exprs.Apply op index args) at ready fits sort =

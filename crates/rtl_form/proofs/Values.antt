@@ -3,6 +3,8 @@ use Rattle.std.proofs.Common.{◌≡◌, ◌∙◌, ℕ, ◌<◌, List, [], ◌�
 use Rattle.std.specs.Prelude.{Contains, ◌==◌, ◌&&◌, slice_index}
 use Rattle.std.proofs.lemmas.Bool.{eqb-true}
 use Rattle.mp_base.specs.Apply.{apply}
+use Rattle.mp_base.proofs.Contents.{contains_head, contains_behind}
+use Rattle.mp_base.proofs.Induction.{by_test, upward}
 use Rattle.rtl_form.specs.declared.rtl.Transfer.{Transfer}
 use Rattle.rtl_form.specs.declared.rtl.RtlExpr.{RtlExpr}
 use Rattle.rtl_form.specs.declared.rtl.RtlExpr.TheVariants.{Number, Truth, Cell, Apply}
@@ -12,7 +14,7 @@ use Rattle.rtl_form.specs.Values.{expr_value, value_of}
 use Rattle.rtl_form.specs.Written.{written}
 use Rattle.rtl_form.specs.Sound.{IsSound, ExprFits, ReadsCell, itself, inside}
 use Rattle.rtl_form.proofs.Growing.{grown_at}
-use Rattle.rtl_form.proofs.Members.{here, there, some_entry, by_test, upward, map_same}
+use Rattle.rtl_form.proofs.Members.{some_entry, map_same}
 
 expr_before : (r : Rtl) (env : List ℕ) (e : ℕ) (x : RtlExpr) (g h : ℕ → ℕ) → ((k : ℕ) → k < e → g k ≡ h k)
     → ExprFits r e x
@@ -59,10 +61,10 @@ pub written_agrees : (v w : ℕ → ℕ) (c : ℕ) (ts : List Transfer)
     → written v c ts ≡ written w c ts
 written_agrees v w c [] same = refl
 written_agrees v w c (t ∷ ts) same =
-    let rest = written_agrees v w c ts (λ u cu. same u (there u t ts cu)) in
+    let rest = written_agrees v w c ts (λ u cu. same u (contains_behind u t ts cu)) in
     by_test (t.target == c)
     (λ e.
-    let now = same t (here t ts) (eqb-true t.target c e) in
+    let now = same t (contains_head t ts) (eqb-true t.target c e) in
     ap (λ n. cond ((t.target == c) && (n == 1)) (v t.value ∷ written v c ts) (written v c ts)) now.0
     ∙ ap (λ n. cond ((t.target == c) && (w t.guard == 1)) (n ∷ written v c ts) (written v c ts)) now.1
     ∙ ap (λ xs. cond ((t.target == c) && (w t.guard == 1)) (w t.value ∷ xs) xs) rest)

@@ -1,5 +1,6 @@
 -- Transfers that fit together.
-use Rattle.std.specs.Prelude.{◌≡◌, ◌≢◌, ◌⊎◌, ℕ, ◌<◌, ◌≤◌, ◌^◌, List, Bool, true, false, IfSome, IsSome, ◌==◌, not, codes, length, slice_index, Contains}
+use Rattle.std.specs.Prelude.{◌≡◌, ◌≢◌, ◌⊎◌, ℕ, ◌<◌, ◌≤◌, ◌^◌, List, Bool, true, false, IfSome, IsSome, ◌==◌, not}
+use Rattle.std.specs.Prelude.{codes, length, slice_index, Contains}
 use Rattle.mp_base.specs.declared.op.Op.{Op}
 use Rattle.mp_base.specs.declared.op.Op.TheVariants.{Bit}
 use Rattle.mp_base.specs.declared.pad.Pad.{Pad}

@@ -1,5 +1,6 @@
 -- The state after a clock, and what the clock shows.
-use Rattle.std.specs.Prelude.{◌≡◌, ℕ, suc, List, [], ◌∷◌, Bool, false, if◌then◌else◌, ◌==◌, length, replicate, slice_get, slice_index, unwrap_or, option_and_then}
+use Rattle.std.specs.Prelude.{◌≡◌, ℕ, suc, List, [], ◌∷◌, Bool, false, if◌then◌else◌, ◌==◌, length, replicate}
+use Rattle.std.specs.Prelude.{slice_get, slice_index, unwrap_or, option_and_then}
 use Rattle.std.specs.Option.{option_map_or}
 use Rattle.mp_base.specs.Merge.{merged}
 use Rattle.rtl_form.specs.declared.rtl.CellKind.{CellKind}

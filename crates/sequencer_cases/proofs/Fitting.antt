@@ -1,13 +1,15 @@
 -- Values that fit their pads fit those of the program.
-use Rattle.std.proofs.Common.{◌≡◌, ◌∙◌, inl, inr, ℕ, zero, suc, ◌+◌, ◌<◌, List, [], ◌∷◌, ◌++◌, refl, sym, ap, subst, arith}
-use Rattle.std.proofs.Common.{get_or, length, map, replicate}
+use Rattle.std.proofs.Common.{◌≡◌, ◌∙◌, inl, inr, ℕ, zero, suc, ◌+◌, ◌<◌, List, [], ◌∷◌, ◌++◌, refl, sym, ap, subst}
+use Rattle.std.proofs.Common.{arith}
+use Rattle.std.proofs.Common.{get_or, length, map}
 use Rattle.std.specs.Prelude.{slice_index}
 use Rattle.std.proofs.lemmas.Bool.{cases_lt}
-use Rattle.std.proofs.lemmas.List.{get_or-map, get_or_append_left, length-map, length-replicate, length_push}
+use Rattle.std.proofs.lemmas.List.{get_or-map, get_or_append_left, length-map, length_push}
 use Rattle.mp_base.specs.declared.pad.Pad.{Pad}
 use Rattle.mp_base.specs.declared.pad.Pads.{Pads}
+use Rattle.mp_base.proofs.Entries.{get_or_pushed}
 use Rattle.mp_program.specs.declared.program.Program.{Program}
-use Rattle.mp_program.specs.Pads.{ArePadsOf, Face, face, FitsPads, input_pads, output_pads, pad_limit}
+use Rattle.mp_program.specs.Pads.{ArePadsOf, Face, face, FitsPads, input_pads, pad_limit}
 use Rattle.mp_rules.specs.Entries.{IsAt}
 use Rattle.sequencer_cases.specs.Inputs.{AreInputsOf}
 
@@ -15,10 +17,6 @@ use Rattle.sequencer_cases.specs.Inputs.{AreInputsOf}
 pub record AreInputsOfFirst (n : ℕ) (pads : List Pad) (values : List ℕ) : Type 0 where
   pub size : length values ≡ n
   pub fits : (k : ℕ) (pad : Pad) → k < n → IsAt pads k pad → slice_index values k < pad_limit pad.width
-
-last_of : (xs : List ℕ) (x k : ℕ) → k ≡ length xs → get_or (xs ++ x ∷ []) k 0 ≡ x
-last_of [] x k e = ap (λ n. get_or (x ∷ []) n 0) e
-last_of (y ∷ xs) x k e = ap (λ n. get_or (y ∷ (xs ++ x ∷ [])) n 0) e ∙ last_of xs x (length xs) refl
 
 same_pad : (pads : List Pad) (k : ℕ) (a b : Pad) → IsAt pads k a → b ≡ get_or pads k b → a ≡ b
 same_pad [] k a b (lt, is) same = absurd (omega (arith, lt))
@@ -30,7 +28,8 @@ pub inputs_more : (pads : List Pad) (n x : ℕ) (values more : List ℕ) (pad : 
 inputs_more pads n x values more pad before is low added =
     let size = before.size in
     let long = ap length added ∙ length_push values x in
-    let at : (k : ℕ) → slice_index more k ≡ get_or (values ++ x ∷ []) k 0 = λ k. ap (λ xs. get_or xs k 0) added in record {
+    let at : (k : ℕ) → slice_index more k ≡ get_or (values ++ x ∷ []) k 0 = λ k. ap (λ xs. get_or xs k 0) added in
+    record {
       size = omega (arith, size, long);
       fits = λ k other lt there.
           elim (cases_lt k n) [
@@ -44,7 +43,7 @@ inputs_more pads n x values more pad before is low added =
                 let one : other ≡ pad = same_pad pads n other pad here is in
                 let Q : Pad → Type 0 = λ q. x < pad_limit q.width in
                 let R : ℕ → Type 0 = λ v. v < pad_limit other.width in
-                subst R (sym (at k ∙ last_of values x k (omega (arith, e, size)))) (subst Q (sym one) low)
+                subst R (sym (at k ∙ get_or_pushed values x k (omega (arith, e, size)))) (subst Q (sym one) low)
           ];
     }
 
@@ -84,9 +83,3 @@ inputs_fit p pads xs padded are =
     at_pad k (pad, at) =
         let Q : ℕ → Type 0 = λ w. slice_index xs k < pad_limit w in
         subst Q (sym (width_at k pad at)) (are.fits k pad at)
-
-pub zeros_long : (p : Program) (pads : Pads) (xs : List ℕ) → ArePadsOf p pads → xs ≡ replicate (length pads.outputs) 0
-    → length xs ≡ length (output_pads p)
-zeros_long p pads xs padded e =
-    ap length e ∙ length-replicate {A = ℕ} (length pads.outputs) 0
-    ∙ sym (length-map pads.outputs face) ∙ ap length padded.outputs

@@ -1,11 +1,13 @@
 -- Values that climb to the least solution by justified steps.
-use Rattle.std.proofs.Common.{◌≡◌, ◌<◌, ◌≤◌, ◌+◌, ℕ, zero, suc, List, [], ◌∷◌, Option, Some, None, Bool, true, false, length, get_or, take, refl, sym, ◌∙◌, ap, subst, inl, inr, ◌⊎◌, arith}
+use Rattle.std.proofs.Common.{◌≡◌, ◌<◌, ◌≤◌, ◌+◌, ℕ, zero, suc, List, [], ◌∷◌, Option, Some, None, Bool, true, false}
+use Rattle.std.proofs.Common.{length, get_or, take, refl, sym, ◌∙◌, ap, subst, inl, inr, ◌⊎◌, arith}
 use Rattle.std.specs.Prelude.{Contains, ◌≢◌, All, unwrap_or}
 use Rattle.std.proofs.Math.ListN.{set}
 use Rattle.std.proofs.lemmas.Bool.{cases_eq}
 use Rattle.std.proofs.lemmas.List.{get_or-set_same, get_or-set_other, take_all}
 use Rattle.mp_base.specs.declared.value.Trit.{Trit}
 use Rattle.mp_base.specs.declared.value.Trit.TheVariants.{Zero, One, X}
+use Rattle.mp_base.proofs.Contents.{nothing_in}
 use Rattle.switch_net.specs.declared.network.Channel.{Channel}
 use Rattle.switch_net.specs.Settled.{Setting, Gives, IsSolution, IsBelow, IsSettled}
 use Rattle.switch_net.specs.Reaching.{Reach, here, over, IsFor, GivesByReach}
@@ -13,7 +15,7 @@ use Rattle.switch_net.specs.Laws.{GivesGrow, GivesOnce, GivesAlongReach}
 use Rattle.settle.specs.Values.{value_at, IsMarked}
 use Rattle.settle.specs.Spread.{Picks}
 use Rattle.settle.specs.Climb.{unknown, Climbs, Steps, IsStuck, Writes}
-use Rattle.settle.proofs.Listing.{contains_more, contains_nothing}
+use Rattle.settle.proofs.Listing.{contains_more}
 
 same_or_not : (t : Trit) → (t ≡ X) ⊎ (t ≢ X)
 same_or_not Zero = inr (λ e. cc)
@@ -28,7 +30,8 @@ one_not_x e = cc
 
 module _ (s : Setting) (grow : GivesGrow) where
   -- what is given where v is below a solution, the solution has
-  solved : (v u : ℕ → Trit) → IsBelow v u → IsSolution s u → (n : ℕ) → s.driver n ≡ None → (t : Trit) → t ≢ X → Gives s v n t → t ≡ u n
+  solved : (v u : ℕ → Trit) → IsBelow v u → IsSolution s u → (n : ℕ) → s.driver n ≡ None → (t : Trit) → t ≢ X
+      → Gives s v n t → t ≡ u n
   solved v u below sol n free Zero def g = sym ((sol.zero n free).1 (grow s v u below n Zero g))
   solved v u below sol n free One def g = sym ((sol.one n free).1 (grow s v u below n One g))
   solved v u below sol n free X def g = absurd (def refl)
@@ -43,15 +46,18 @@ module _ (s : Setting) (grow : GivesGrow) where
     given = λ n free def. given n free def (steps n);
   }
     where
-      below : (u : ℕ → Trit) → IsSolution s u → (n : ℕ) → (w n ≡ v n) ⊎ ((s.driver n ≡ None) × (v n ≡ X) × (w n ≢ X) × Gives s v n (w n)) → (w n ≡ X) ⊎ (w n ≡ u n)
+      below : (u : ℕ → Trit) → IsSolution s u → (n : ℕ)
+          → (w n ≡ v n) ⊎ ((s.driver n ≡ None) × (v n ≡ X) × (w n ≢ X) × Gives s v n (w n)) → (w n ≡ X) ⊎ (w n ≡ u n)
       below u sol n (inl e) = elim (h.below u sol n) [ inl x ↦ inl (e ∙ x) | inr y ↦ inr (e ∙ y) ]
       below u sol n (inr p) = inr (solved v u (h.below u sol) sol n p.0 (w n) p.2 p.3)
 
-      driven : (n : ℕ) (t : Trit) → s.driver n ≡ Some t → (w n ≡ v n) ⊎ ((s.driver n ≡ None) × (v n ≡ X) × (w n ≢ X) × Gives s v n (w n)) → w n ≡ t
+      driven : (n : ℕ) (t : Trit) → s.driver n ≡ Some t
+          → (w n ≡ v n) ⊎ ((s.driver n ≡ None) × (v n ≡ X) × (w n ≢ X) × Gives s v n (w n)) → w n ≡ t
       driven n t e (inl same) = same ∙ h.driven n t e
       driven n t e (inr p) = let q = p.0 in absurd (cc)
 
-      given : (n : ℕ) → s.driver n ≡ None → w n ≢ X → (w n ≡ v n) ⊎ ((s.driver n ≡ None) × (v n ≡ X) × (w n ≢ X) × Gives s v n (w n)) → Gives s w n (w n)
+      given : (n : ℕ) → s.driver n ≡ None → w n ≢ X
+          → (w n ≡ v n) ⊎ ((s.driver n ≡ None) × (v n ≡ X) × (w n ≢ X) × Gives s v n (w n)) → Gives s w n (w n)
       given n free def (inl same) =
           grow s v w (steps_below v w steps) n (w n)
           (subst (λ t. Gives s v n t) (sym same) (h.given n free (λ x. def (same ∙ x))))
@@ -72,8 +78,16 @@ pub settled_from : (s : Setting) → GivesOnce → (v : ℕ → Trit) → Climbs
 settled_from s once v h stuck = record {
   solution = record {
     driven = h.driven;
-    zero = λ n free. (λ e. subst (λ t. Gives s v n t) e (h.given n free (λ x. let y = e in zero_not_x (sym y ∙ x))), λ g. is n free Zero zero_not_x g (v n) refl);
-    one = λ n free. (λ e. subst (λ t. Gives s v n t) e (h.given n free (λ x. let y = e in one_not_x (sym y ∙ x))), λ g. is n free One one_not_x g (v n) refl);
+    zero = λ n free. (
+      λ e. subst (λ t. Gives s v n t) e
+          (h.given n free (λ x. let y = e in zero_not_x (sym y ∙ x))),
+      λ g. is n free Zero zero_not_x g (v n) refl,
+    );
+    one = λ n free. (
+      λ e. subst (λ t. Gives s v n t) e
+          (h.given n free (λ x. let y = e in one_not_x (sym y ∙ x))),
+      λ g. is n free One one_not_x g (v n) refl,
+    );
   };
   least = h.below;
 }
@@ -86,12 +100,15 @@ settled_from s once v h stuck = record {
         by_value (inr y) = once s v n t b (subst (λ z. Gives s v n z) e (h.given n free (λ x. y (sym e ∙ x)))) g
 
 -- a number that is no node's is stuck
-pub past_stuck : (s : Setting) (v : ℕ → Trit) (nodes n : ℕ) → GivesAlongReach → All (λ (c : Channel). All (λ e. e < nodes) c.ends) s.channels → nodes ≤ n → s.driver n ≡ None → s.before n ≡ X → IsStuck s v n
+pub past_stuck : (s : Setting) (v : ℕ → Trit) (nodes n : ℕ) → GivesAlongReach
+    → All (λ (c : Channel). All (λ e. e < nodes) c.ends) s.channels → nodes ≤ n → s.driver n ≡ None → s.before n ≡ X
+    → IsStuck s v n
 past_stuck s v nodes n law ends far free had _ _ b def g = by_case ((law s v n b).0 g)
   where
     no_end : (c : Channel) → Contains s.channels c → Contains c.ends n → ⊥
     no_end c in' at =
-        let inside : All (λ e. e < nodes) c.ends = subst (λ (x : Channel). All (λ e. e < nodes) x.ends) in'.2 (ends in'.0 c in'.1) in
+        let inside : All (λ e. e < nodes) c.ends =
+        subst (λ (x : Channel). All (λ e. e < nodes) x.ends) in'.2 (ends in'.0 c in'.1) in
         let below : get_or c.ends at.0 n < nodes = inside at.0 n at.1 in
         let same : get_or c.ends at.0 n ≡ n = at.2 in
         omega arith
@@ -118,7 +135,8 @@ longer One vs ws h = h
 longer X vs ws h = omega arith
 
 -- one X less
-unknown_set : (vs : List Trit) (n : ℕ) (b : Trit) → n < length vs → value_at vs n ≡ X → b ≢ X → unknown (set vs n b) < unknown vs
+unknown_set : (vs : List Trit) (n : ℕ) (b : Trit) → n < length vs → value_at vs n ≡ X → b ≢ X
+    → unknown (set vs n b) < unknown vs
 unknown_set [] n b lt x d = absurd (omega arith)
 unknown_set (t ∷ vs) zero b lt x d = unknown_le t b vs vs x d refl
 unknown_set (t ∷ vs) (suc n) b lt x d = longer t vs (set vs n b) (unknown_set vs n b (omega arith) x d)
@@ -132,11 +150,15 @@ pub record WritesFirst (nodes : List ℕ) (i : ℕ) (b : Trit) (changed : Bool) 
 
 module _ (nodes : List ℕ) (b : Trit) (old : List Trit) where
   pub writes_none : WritesFirst nodes 0 b false old old
-  writes_none = record { writes = λ n. inl refl; more = λ e. cc; same = λ _. refl; none = λ _ n h. absurd (contains_nothing n h) }
+  writes_none =
+      record { writes = λ n. inl refl; more = λ e. cc; same = λ _. refl; none = λ _ n h. absurd (nothing_in n h) }
 
-  module _ (i e : ℕ) (changed : Bool) (mid : List Trit) (lt : i < length nodes) (is : e ≡ get_or nodes i e) (h : WritesFirst nodes i b changed old mid) where
-    wider : (n : ℕ) → (value_at mid n ≡ value_at old n) ⊎ (Contains (take i nodes) n × (value_at old n ≡ X) × (value_at mid n ≡ b))
-        → (value_at mid n ≡ value_at old n) ⊎ (Contains (take (i + 1) nodes) n × (value_at old n ≡ X) × (value_at mid n ≡ b))
+  module _ (i e : ℕ) (changed : Bool) (mid : List Trit) (lt : i < length nodes) (is : e ≡ get_or nodes i e)
+      (h : WritesFirst nodes i b changed old mid) where
+    wider : (n : ℕ)
+        → (value_at mid n ≡ value_at old n) ⊎ (Contains (take i nodes) n × (value_at old n ≡ X) × (value_at mid n ≡ b))
+        → (value_at mid n ≡ value_at old n)
+        ⊎ (Contains (take (i + 1) nodes) n × (value_at old n ≡ X) × (value_at mid n ≡ b))
     wider n (inl q) = inl q
     wider n (inr q) = inr ((contains_more nodes i e n lt is).1 (inl q.0), q.1, q.2)
 
@@ -160,22 +182,32 @@ module _ (nodes : List ℕ) (b : Trit) (old : List Trit) where
       none = λ c. cc;
     }
       where
-        was : (value_at mid e ≡ value_at old e) ⊎ (Contains (take i nodes) e × (value_at old e ≡ X) × (value_at mid e ≡ b)) → value_at old e ≡ X
+        was : (value_at mid e ≡ value_at old e)
+            ⊎ (Contains (take i nodes) e × (value_at old e ≡ X) × (value_at mid e ≡ b)) → value_at old e ≡ X
         was (inl q) = sym q ∙ x
         was (inr q) = q.1
 
-        writes : (n : ℕ) → (n ≡ e) ⊎ (n ≢ e) → (value_at (set mid e b) n ≡ value_at old n) ⊎ (Contains (take (i + 1) nodes) n × (value_at old n ≡ X) × (value_at (set mid e b) n ≡ b))
+        writes : (n : ℕ) → (n ≡ e) ⊎ (n ≢ e)
+            → (value_at (set mid e b) n ≡ value_at old n)
+            ⊎ (Contains (take (i + 1) nodes) n × (value_at old n ≡ X) × (value_at (set mid e b) n ≡ b))
         writes n (inl q) =
-            inr ((contains_more nodes i e n lt is).1 (inr (sym q)), ap (λ m. value_at old m) q ∙ was (h.writes e), ap (λ m. value_at (set mid e b) m) q ∙ get_or-set_same mid e b X in')
+            inr (
+              (contains_more nodes i e n lt is).1 (inr (sym q)),
+              ap (λ m. value_at old m) q
+                  ∙ was (h.writes e),
+              ap (λ m. value_at (set mid e b) m) q ∙ get_or-set_same mid e b X in',
+            )
         writes n (inr q) =
             let same : value_at (set mid e b) n ≡ value_at mid n = get_or-set_other mid e n b X q in
             elim (wider n (h.writes n)) [ inl r ↦ inl (same ∙ r) | inr r ↦ inr (r.0, r.1, same ∙ r.2) ]
 
         fewer : (c : Bool) → changed ≡ c → unknown (set mid e b) < unknown old
         fewer true c = let l = unknown_set mid e b in' x def in let m = h.more c in omega arith
-        fewer false c = let l = unknown_set mid e b in' x def in let m : unknown mid ≡ unknown old = ap unknown (h.same c) in omega arith
+        fewer false c = let l = unknown_set mid e b in' x def in
+            let m : unknown mid ≡ unknown old = ap unknown (h.same c) in omega arith
 
-  pub writes_all : (i : ℕ) (changed : Bool) (new : List Trit) → length nodes ≤ i → WritesFirst nodes i b changed old new → WritesFirst nodes (length nodes) b changed old new
+  pub writes_all : (i : ℕ) (changed : Bool) (new : List Trit) → length nodes ≤ i
+      → WritesFirst nodes i b changed old new → WritesFirst nodes (length nodes) b changed old new
   writes_all i changed new le h = record {
     writes = subst (λ (xs : List ℕ). Writes xs b (value_at old) (value_at new)) same h.writes;
     more = h.more;
@@ -190,21 +222,26 @@ pub whole : (nodes : List ℕ) → take (length nodes) nodes ≡ nodes
 whole nodes = take_all (length nodes) nodes (omega arith)
 
 -- two writes of what is given are a step
-module _ (s : Setting) (v w u : ℕ → Trit) (cluster zeros ones : List ℕ) (free : (n : ℕ) → Contains cluster n → s.driver n ≡ None)
+module _ (s : Setting) (v w u : ℕ → Trit) (cluster zeros ones : List ℕ)
+    (free : (n : ℕ) → Contains cluster n → s.driver n ≡ None)
     (Z : Picks (λ n. Gives s v n Zero) cluster zeros) (O : Picks (λ n. Gives s v n One) cluster ones) where
   pub steps_from : Writes zeros Zero v w → Writes ones One w u → Steps s v u
   steps_from low high n = by_high (high n) (low n)
     where
-      to : (b : Trit) → b ≢ X → u n ≡ b → s.driver n ≡ None → v n ≡ X → Gives s v n b → (u n ≡ v n) ⊎ ((s.driver n ≡ None) × (v n ≡ X) × (u n ≢ X) × Gives s v n (u n))
+      to : (b : Trit) → b ≢ X → u n ≡ b → s.driver n ≡ None → v n ≡ X → Gives s v n b
+          → (u n ≡ v n) ⊎ ((s.driver n ≡ None) × (v n ≡ X) × (u n ≢ X) × Gives s v n (u n))
       to b def e undriven x g = inr (undriven, x, (λ y. def (sym e ∙ y)), subst (λ t. Gives s v n t) (sym e) g)
 
-      by_high : (u n ≡ w n) ⊎ (Contains ones n × (w n ≡ X) × (u n ≡ One)) → (w n ≡ v n) ⊎ (Contains zeros n × (v n ≡ X) × (w n ≡ Zero)) → (u n ≡ v n) ⊎ ((s.driver n ≡ None) × (v n ≡ X) × (u n ≢ X) × Gives s v n (u n))
+      by_high : (u n ≡ w n) ⊎ (Contains ones n × (w n ≡ X) × (u n ≡ One))
+          → (w n ≡ v n) ⊎ (Contains zeros n × (v n ≡ X) × (w n ≡ Zero))
+          → (u n ≡ v n) ⊎ ((s.driver n ≡ None) × (v n ≡ X) × (u n ≢ X) × Gives s v n (u n))
       by_high (inl e) (inl f) = inl (e ∙ f)
       by_high (inl e) (inr p) = to Zero zero_not_x (e ∙ p.2) (free n ((Z n).0 p.0).0) p.1 ((Z n).0 p.0).1
       by_high (inr q) (inl f) = to One one_not_x q.2 (free n ((O n).0 q.0).0) (sym f ∙ q.1) ((O n).0 q.0).1
       by_high (inr q) (inr p) = absurd (zero_not_x (sym p.2 ∙ q.1))
 
-  pub stuck_from : ((n : ℕ) → Contains zeros n → v n ≢ X) → ((n : ℕ) → Contains ones n → v n ≢ X) → (n : ℕ) → Contains cluster n → IsStuck s v n
+  pub stuck_from : ((n : ℕ) → Contains zeros n → v n ≢ X) → ((n : ℕ) → Contains ones n → v n ≢ X) → (n : ℕ)
+      → Contains cluster n → IsStuck s v n
   stuck_from no_zero no_one n in' undriven x Zero def g = no_zero n ((Z n).1 (in', g)) x
   stuck_from no_zero no_one n in' undriven x One def g = no_one n ((O n).1 (in', g)) x
   stuck_from no_zero no_one n in' undriven x X def g = def refl

@@ -3,17 +3,20 @@ use Rattle.std.proofs.Common.{◌≡◌, ◌++◌, ◌∷◌, [], ℕ, List, Opt
 use Rattle.std.specs.Prelude.{Contains, ◌↔◌, ◌≢◌, IsSome}
 use Rattle.mp_base.specs.declared.value.Trit.{Trit}
 use Rattle.mp_base.specs.declared.value.Trit.TheVariants.{Zero, One, X}
+use Rattle.mp_base.proofs.Values.{is_some_trit}
+use Rattle.mp_base.proofs.Contents.{nothing_in}
 use Rattle.switch_net.specs.declared.network.Channel.{Channel}
 use Rattle.switch_net.specs.Settled.{Setting, IsOn, MayBeOn}
 use Rattle.switch_net.specs.Reaching.{Reach, here, over, IsStrongOn, IsFor, IsForeign, GivesByReach}
 use Rattle.switch_net.specs.Laws.{GivesAlongReach}
+use Rattle.switch_net.proofs.SwitchKinds.{on_may_be_on}
 use Rattle.settle.specs.declared.route.Route.TheVariants.{StrongOn, StrongMaybe, On}
 use Rattle.settle.specs.declared.route.Source.{Source}
 use Rattle.settle.specs.declared.route.Source.TheVariants.{For, Against, Any}
 use Rattle.settle.specs.Spread.{Uses, IsSource, Borders, Spreads, HoldsReached}
 use Rattle.settle.specs.Give.{IsCluster, TellGiven}
-use Rattle.settle.proofs.Listing.{contains_nothing, contains_push}
-use Rattle.settle.proofs.Spreading.{reach_then, driven_at, on_may}
+use Rattle.settle.proofs.Listing.{contains_push}
+use Rattle.settle.proofs.Spreading.{reach_then, driven_at}
 
 -- paths among undriven nodes go both ways
 module _ (s : Setting) (P : Channel → Type 0) (a : ℕ) (free_a : s.driver a ≡ None) where
@@ -28,13 +31,15 @@ module _ (s : Setting) (P : Channel → Type 0) (a : ℕ) (free_a : s.driver a �
       (λ k e. subst (λ x. Reach s P (λ j. j ≡ n) x) (sym e) (over c (here refl) at at_n at_m (undriven_along m r) ok))
       (reach_back m r)
 
-pub cluster_from : (s : Setting) (v : ℕ → Trit) (node : ℕ) (start nodes : List ℕ) → s.driver node ≡ None → start ≡ [] ++ node ∷ [] → Spreads s (MayBeOn v) start nodes → IsCluster s v nodes
+pub cluster_from : (s : Setting) (v : ℕ → Trit) (node : ℕ) (start nodes : List ℕ) → s.driver node ≡ None
+    → start ≡ [] ++ node ∷ [] → Spreads s (MayBeOn v) start nodes → IsCluster s v nodes
 cluster_from s v node start nodes free is h = record {
   undriven = λ n q. undriven_along s (MayBeOn v) node free n (from n q);
   closed = h.closed;
   joined = λ a n at_a at_n.
       reach_then s (MayBeOn v) (MayBeOn v) (λ k. k ≡ node) (λ k. k ≡ a) n (λ c ok. ok)
-      (λ k e. subst (λ x. Reach s (MayBeOn v) (λ j. j ≡ a) x) (sym e) (reach_back s (MayBeOn v) node free a (from a at_a)))
+      (λ k e. subst (λ x. Reach s (MayBeOn v) (λ j. j ≡ a) x) (sym e)
+      (reach_back s (MayBeOn v) node free a (from a at_a)))
       (from n at_n);
 }
   where
@@ -42,14 +47,13 @@ cluster_from s v node start nodes free is h = record {
     only k q = one ((contains_push [] node k).0 (subst (λ (xs : List ℕ). Contains xs k) is q))
       where
         one : Contains [] k ⊎ (node ≡ k) → k ≡ node
-        one (inl r) = absurd (contains_nothing k r)
+        one (inl r) = absurd (nothing_in k r)
         one (inr e) = sym e
 
     from : (n : ℕ) → Contains nodes n → Reach s (MayBeOn v) (λ k. k ≡ node) n
-    from n q = reach_then s (MayBeOn v) (MayBeOn v) (Contains start) (λ k. k ≡ node) n (λ c ok. ok) (λ k r. here (only k r)) (h.reached n q)
-
-some_driver : (d : Option Trit) (t : Trit) → d ≡ Some t → IsSome d
-some_driver d t e = rw e refl
+    from n q =
+        reach_then s (MayBeOn v) (MayBeOn v) (Contains start) (λ k. k ≡ node) n (λ c ok. ok) (λ k r. here (only k r))
+        (h.reached n q)
 
 module _ (s : Setting) (v : ℕ → Trit) (b : Trit) (nodes : List ℕ) (cluster : IsCluster s v nodes) where
   abbrev pub Meets : Source → Type 0
@@ -58,7 +62,8 @@ module _ (s : Setting) (v : ℕ → Trit) (b : Trit) (nodes : List ℕ) (cluster
   -- where a path from a source comes into the cluster, it meets the source
   pub enters : (source : Source) (n : ℕ) → Contains nodes n → Reach s (MayBeOn v) (IsSource source s) n → Meets source
   enters source n in' (here f) = absurd (driven_at source (s.driver n) f (cluster.undriven n in'))
-  enters source n in' (over {a} c r at at_a at_n free ok) = by_driver (s.driver a) refl (λ inside. enters source a inside r)
+  enters source n in' (over {a} c r at at_a at_n free ok) =
+      by_driver (s.driver a) refl (λ inside. enters source a inside r)
     where
       start : (t : Trit) → s.driver a ≡ Some t → Reach s (MayBeOn v) (IsSource source s) a → IsSource source s a
       start t d (here f) = f
@@ -69,7 +74,8 @@ module _ (s : Setting) (v : ℕ → Trit) (b : Trit) (nodes : List ℕ) (cluster
       by_driver None d again = again (cluster.closed n a in' (c, at, ok, at_n, at_a, d))
 
   -- a source that the cluster meets reaches each of its nodes
-  pub met_reaches : (source : Source) → Meets source → (n : ℕ) → Contains nodes n → Reach s (MayBeOn v) (IsSource source s) n
+  pub met_reaches : (source : Source) → Meets source → (n : ℕ) → Contains nodes n
+      → Reach s (MayBeOn v) (IsSource source s) n
   met_reaches source m n in' =
       reach_then s (MayBeOn v) (MayBeOn v) (λ k. k ≡ m.0) (IsSource source s) n (λ c ok. ok)
       (λ k e. subst (λ x. Reach s (MayBeOn v) (IsSource source s) x) (sym e)
@@ -80,32 +86,44 @@ module _ (s : Setting) (v : ℕ → Trit) (b : Trit) (nodes : List ℕ) (cluster
   foreign_from source a f = inl (driven (s.driver a) refl)
     where
       driven : (d : Option Trit) → s.driver a ≡ d → IsSome (s.driver a)
-      driven (Some t) e = some_driver (s.driver a) t e
+      driven (Some t) e = is_some_trit (s.driver a) t e
       driven None e = absurd (driven_at source (s.driver a) f e)
 
   foreign_met : (source : Source) → Meets source → (n : ℕ) → Contains nodes n → Reach s (MayBeOn v) (IsForeign s b) n
-  foreign_met source m n in' = reach_then s (MayBeOn v) (MayBeOn v) (IsSource source s) (IsForeign s b) n (λ c ok. ok) (λ a f. here (foreign_from source a f)) (met_reaches source m n in')
+  foreign_met source m n in' =
+      reach_then s (MayBeOn v) (MayBeOn v) (IsSource source s) (IsForeign s b) n (λ c ok. ok)
+      (λ a f. here (foreign_from source a f)) (met_reaches source m n in')
 
   strong_held : (n : ℕ) → Reach s (IsStrongOn v) (IsFor s b) n → Reach s (IsOn v) (IsFor s b) n
   strong_held n r = reach_then s (IsStrongOn v) (IsOn v) (IsFor s b) (IsFor s b) n (λ c ok. ok.1) (λ a f. here f) r
 
   held_any : (n : ℕ) → Reach s (IsOn v) (IsFor s b) n → Reach s (MayBeOn v) (IsSource Any s) n
-  held_any n r = reach_then s (IsOn v) (MayBeOn v) (IsFor s b) (IsSource Any s) n (λ c ok. on_may c.kind (v c.gate) ok) (λ a f. here (some_driver (s.driver a) b f)) r
+  held_any n r =
+      reach_then s (IsOn v) (MayBeOn v) (IsFor s b) (IsSource Any s) n (λ c ok. on_may_be_on c.kind (v c.gate) ok)
+      (λ a f. here (is_some_trit (s.driver a) b f)) r
 
   module _ (law : GivesAlongReach) (held against : List ℕ) where
-    pub given_opposed : Meets (Against b) → HoldsReached s (Uses StrongOn v) (IsSource (For b) s) nodes held → HoldsReached s (Uses StrongMaybe v) (IsSource (Against b) s) nodes against → TellGiven s v b nodes held against
-    given_opposed met H A n in' = (λ q. (law s v n b).1 (inl ((H n in').0 q.0, λ r. q.1 ((A n in').1 r))), λ g. back ((law s v n b).0 g))
+    pub given_opposed : Meets (Against b) → HoldsReached s (Uses StrongOn v) (IsSource (For b) s) nodes held
+        → HoldsReached s (Uses StrongMaybe v) (IsSource (Against b) s) nodes against
+        → TellGiven s v b nodes held against
+    given_opposed met H A n in' =
+        (λ q. (law s v n b).1 (inl ((H n in').0 q.0, λ r. q.1 ((A n in').1 r))), λ g. back ((law s v n b).0 g))
       where
         back : GivesByReach s v n b → Contains held n × (Contains against n → ⊥)
         back (inl g) = ((H n in').1 g.0, λ q. g.1 ((A n in').0 q))
         back (inr (inl g)) = absurd (g.1 (met_reaches (Against b) met n in'))
         back (inr (inr g)) = absurd (g (foreign_met (Against b) met n in'))
 
-    pub given_held : (Meets (Against b) → ⊥) → Meets Any → HoldsReached s (Uses On v) (IsSource (For b) s) nodes held → against ≡ [] → TellGiven s v b nodes held against
-    given_held free met H e n in' = (λ q. (law s v n b).1 (inr (inl ((H n in').0 q.0, λ r. free (enters (Against b) n in' r)))), λ g. (back ((law s v n b).0 g), none))
+    pub given_held : (Meets (Against b) → ⊥) → Meets Any → HoldsReached s (Uses On v) (IsSource (For b) s) nodes held
+        → against ≡ [] → TellGiven s v b nodes held against
+    given_held free met H e n in' = (
+      λ q. (law s v n b).1
+          (inr (inl ((H n in').0 q.0, λ r. free (enters (Against b) n in' r)))),
+      λ g. (back ((law s v n b).0 g), none),
+    )
       where
         none : Contains against n → ⊥
-        none q = contains_nothing n (subst (λ (xs : List ℕ). Contains xs n) e q)
+        none q = nothing_in n (subst (λ (xs : List ℕ). Contains xs n) e q)
 
         back : GivesByReach s v n b → Contains held n
         back (inl g) = (H n in').1 (strong_held n g.0)
@@ -121,13 +139,15 @@ module _ (s : Setting) (v : ℕ → Trit) (b : Trit) (nodes : List ℕ) (cluster
         by_case : (IsSome (s.driver n)) ⊎ (s.before n ≢ b) → ⊥
         by_case (inl d) = driven_at Any (s.driver n) d (cluster.undriven n in')
         by_case (inr ne) = ne (had n in')
-    kept_from alone had n in' (over {a} c r at at_a at_n free ok) = by_driver (s.driver a) refl (λ inside. kept_from alone had a inside r)
+    kept_from alone had n in' (over {a} c r at at_a at_n free ok) =
+        by_driver (s.driver a) refl (λ inside. kept_from alone had a inside r)
       where
         by_driver : (d : Option Trit) → s.driver a ≡ d → (Contains nodes a → ⊥) → ⊥
-        by_driver (Some t) d again = alone (n, in', (c, at, ok, at_n, a, at_a, some_driver (s.driver a) t d))
+        by_driver (Some t) d again = alone (n, in', (c, at, ok, at_n, a, at_a, is_some_trit (s.driver a) t d))
         by_driver None d again = again (cluster.closed n a in' (c, at, ok, at_n, at_a, d))
 
-    had_from : (n : ℕ) → Contains nodes n → (Reach s (MayBeOn v) (IsForeign s b) n → ⊥) → (same : (t : Trit) → (t ≡ b) ⊎ (t ≢ b)) → AllHad
+    had_from : (n : ℕ) → Contains nodes n → (Reach s (MayBeOn v) (IsForeign s b) n → ⊥)
+        → (same : (t : Trit) → (t ≡ b) ⊎ (t ≢ b)) → AllHad
     had_from n in' none same m at = by_case (same (s.before m))
       where
         by_case : (s.before m ≡ b) ⊎ (s.before m ≢ b) → s.before m ≡ b
@@ -136,15 +156,17 @@ module _ (s : Setting) (v : ℕ → Trit) (b : Trit) (nodes : List ℕ) (cluster
             absurd (none (reach_then s (MayBeOn v) (MayBeOn v) (λ k. k ≡ m) (IsForeign s b) n (λ c ok. ok)
             (λ k e. here (inr (subst (λ x. s.before x ≢ b) (sym e) ne))) (cluster.joined m n at in')))
 
-    given_alone : (Meets Any → ⊥) → (n : ℕ) → Contains nodes n → GivesByReach s v n b → Reach s (MayBeOn v) (IsForeign s b) n → ⊥
+    given_alone : (Meets Any → ⊥) → (n : ℕ) → Contains nodes n → GivesByReach s v n b
+        → Reach s (MayBeOn v) (IsForeign s b) n → ⊥
     given_alone alone n in' (inl g) = absurd (alone (enters Any n in' (held_any n (strong_held n g.0))))
     given_alone alone n in' (inr (inl g)) = absurd (alone (enters Any n in' (held_any n g.0)))
     given_alone alone n in' (inr (inr g)) = g
 
-    pub given_kept : (Meets Any → ⊥) → ((n : ℕ) → Contains nodes n → s.before n ≡ b) → ((n : ℕ) → Contains held n ↔ Contains nodes n) → against ≡ [] → TellGiven s v b nodes held against
+    pub given_kept : (Meets Any → ⊥) → ((n : ℕ) → Contains nodes n → s.before n ≡ b)
+        → ((n : ℕ) → Contains held n ↔ Contains nodes n) → against ≡ [] → TellGiven s v b nodes held against
     given_kept alone had copied e n in' = (
       λ _. (law s v n b).1 (inr (inr (kept_from alone had n in'))),
-      λ _. ((copied n).1 in', λ q. contains_nothing n (subst (λ (xs : List ℕ). Contains xs n) e q)),
+      λ _. ((copied n).1 in', λ q. nothing_in n (subst (λ (xs : List ℕ). Contains xs n) e q)),
     )
 
     same_trit : (t u : Trit) → (t ≡ u) ⊎ (t ≢ u)
@@ -158,8 +180,9 @@ module _ (s : Setting) (v : ℕ → Trit) (b : Trit) (nodes : List ℕ) (cluster
     same_trit X One = inr (λ e. cc)
     same_trit X X = inl refl
 
-    pub given_mixed : (Meets Any → ⊥) → (((n : ℕ) → Contains nodes n → s.before n ≡ b) → ⊥) → held ≡ [] → TellGiven s v b nodes held against
+    pub given_mixed : (Meets Any → ⊥) → (((n : ℕ) → Contains nodes n → s.before n ≡ b) → ⊥) → held ≡ []
+        → TellGiven s v b nodes held against
     given_mixed alone mixed e n in' = (
-      λ q. absurd (contains_nothing n (subst (λ (xs : List ℕ). Contains xs n) e q.0)),
+      λ q. absurd (nothing_in n (subst (λ (xs : List ℕ). Contains xs n) e q.0)),
       λ g. absurd (mixed (had_from n in' (given_alone alone n in' ((law s v n b).0 g)) (λ t. same_trit t b))),
     )

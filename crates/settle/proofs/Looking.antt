@@ -1,9 +1,11 @@
 -- What a look at a cluster tells.
-use Rattle.std.proofs.Common.{◌≡◌, ◌<◌, ℕ, List, [], ◌∷◌, Option, Some, None, Bool, zero, suc, length, get_or, refl, sym, ◌∙◌, ap, subst, inl, inr, ◌⊎◌, arith}
+use Rattle.std.proofs.Common.{◌≡◌, ◌<◌, ℕ, List, [], ◌∷◌, Option, Some, None, Bool, zero, suc, length, get_or, refl}
+use Rattle.std.proofs.Common.{sym, ◌∙◌, ap, subst, inl, inr, ◌⊎◌, arith}
 use Rattle.std.specs.Prelude.{Contains, All, ◌≢◌}
 use Rattle.std.proofs.lemmas.Bool.{cases_eq}
 use Rattle.mp_base.specs.declared.value.Trit.{Trit}
 use Rattle.mp_base.specs.declared.value.Trit.TheVariants.{Zero, One}
+use Rattle.mp_base.proofs.Contents.{nothing_in}
 use Rattle.switch_net.specs.declared.network.ChannelKind.TheVariants.{Enhancement}
 use Rattle.switch_net.specs.declared.network.Channel.{Channel}
 use Rattle.switch_net.specs.Settled.{Setting, Gives}
@@ -16,12 +18,11 @@ use Rattle.settle.specs.Spread.{Picks}
 use Rattle.settle.specs.Give.{IsCluster}
 use Rattle.settle.specs.Wake.{Renews}
 use Rattle.settle.specs.Start.{IsReady}
-use Rattle.settle.proofs.Listing.{contains_nothing}
 use Rattle.settle.proofs.Waking.{mark_at}
 
 -- a list has a number or not
 pub contains_cases : (xs : List ℕ) (n : ℕ) → Contains xs n ⊎ (Contains xs n → ⊥)
-contains_cases [] n = inr (contains_nothing n)
+contains_cases [] n = inr (nothing_in n)
 contains_cases (x ∷ xs) n = by_head (cases_eq x n) (contains_cases xs n)
   where
     tail : x ≢ n → Contains (x ∷ xs) n → Contains xs n
@@ -34,23 +35,30 @@ contains_cases (x ∷ xs) n = by_head (cases_eq x n) (contains_cases xs n)
     by_head (inr ne) (inr out) = inr (λ q. out (tail ne q))
 
 -- the ends of channels are nodes
-pub end_inside : (nodes : ℕ) (channels : List Channel) → All (λ (c : Channel). All (λ e. e < nodes) c.ends) channels → (c : Channel) (e : ℕ) → Contains channels c → Contains c.ends e → e < nodes
+pub end_inside : (nodes : ℕ) (channels : List Channel) → All (λ (c : Channel). All (λ e. e < nodes) c.ends) channels
+    → (c : Channel) (e : ℕ) → Contains channels c → Contains c.ends e → e < nodes
 end_inside nodes channels ends c e in' at =
-    let inside : All (λ k. k < nodes) c.ends = subst (λ (x : Channel). All (λ k. k < nodes) x.ends) in'.2 (ends in'.0 c in'.1) in
+    let inside : All (λ k. k < nodes) c.ends =
+    subst (λ (x : Channel). All (λ k. k < nodes) x.ends) in'.2 (ends in'.0 c in'.1) in
     let below : get_or c.ends at.0 e < nodes = inside at.0 e at.1 in
     let same : get_or c.ends at.0 e ≡ e = at.2 in
     omega arith
 
-module _ (s : Setting) (nodes : ℕ) (ends : All (λ (c : Channel). All (λ e. e < nodes) c.ends) s.channels) (gated : List (List ℕ)) (are : AreGated s.channels gated)
+module _ (s : Setting) (nodes : ℕ) (ends : All (λ (c : Channel). All (λ e. e < nodes) c.ends) s.channels)
+    (gated : List (List ℕ)) (are : AreGated s.channels gated)
     (old new : List Trit) (before mid after : List Bool) (sized : length after ≡ nodes)
     (cluster zeros ones : List ℕ) (is : IsCluster s (value_at old) cluster)
-    (Z : Picks (λ n. Gives s (value_at old) n Zero) cluster zeros) (O : Picks (λ n. Gives s (value_at old) n One) cluster ones)
-    (fewer : (n : ℕ) → IsMarked mid n → IsMarked before n) (rest : (n : ℕ) → IsMarked before n → IsMarked mid n ⊎ Contains cluster n)
+    (Z : Picks (λ n. Gives s (value_at old) n Zero) cluster zeros)
+    (O : Picks (λ n. Gives s (value_at old) n One) cluster ones)
+    (fewer : (n : ℕ) → IsMarked mid n → IsMarked before n)
+    (rest : (n : ℕ) → IsMarked before n → IsMarked mid n ⊎ Contains cluster n)
     (renews : Renews s.driver gated zeros ones cluster old new mid after) (ready : IsReady s old before) where
   given : (n : ℕ) → Contains cluster n → IsGiven s (value_at old) n (value_at new n)
   given n in' =
-      let v = renews.given n in' in
-      ((λ z. ((Z n).0 (v.zero.0 z)).1, λ g. v.zero.1 ((Z n).1 (in', g))), (λ z. ((O n).0 (v.one.0 z)).1, λ g. v.one.1 ((O n).1 (in', g))))
+      let v = renews.given n in' in (
+        (λ z. ((Z n).0 (v.zero.0 z)).1, λ g. v.zero.1 ((Z n).1 (in', g))),
+        (λ z. ((O n).0 (v.one.0 z)).1, λ g. v.one.1 ((O n).1 (in', g))),
+      )
 
   looks : IsLook s (value_at old) (value_at new) (Contains cluster) (IsMarked before) (IsMarked after)
   looks = record {
@@ -62,7 +70,8 @@ module _ (s : Setting) (nodes : ℕ) (ends : All (λ (c : Channel). All (λ e. e
     kept = renews.kept;
     gated = λ c e in' kind at free. elim (renews.told c.gate) [
       | inl same ↦ inl same
-      | inr w ↦ inr (w e (are c e in' kind at) (let l = end_inside nodes s.channels ends c e in' at in omega arith) free)
+      | inr w ↦
+          inr (w e (are c e in' kind at) (let l = end_inside nodes s.channels ends c e in' at in omega arith) free)
     ];
   }
 
@@ -74,6 +83,8 @@ module _ (s : Setting) (nodes : ℕ) (ends : All (λ (c : Channel). All (λ e. e
   }
 
 -- no node is given both
-pub apart_from : (s : Setting) (v : ℕ → Trit) (once : GivesOnce) (cluster zeros ones : List ℕ) → Picks (λ n. Gives s v n Zero) cluster zeros → Picks (λ n. Gives s v n One) cluster ones
+pub apart_from : (s : Setting) (v : ℕ → Trit) (once : GivesOnce) (cluster zeros ones : List ℕ)
+    → Picks (λ n. Gives s v n Zero) cluster zeros → Picks (λ n. Gives s v n One) cluster ones
     → (n : ℕ) → Contains zeros n → Contains ones n → ⊥
-apart_from s v once cluster zeros ones Z O n z o = let e : Zero ≡ One = once s v n Zero One ((Z n).0 z).1 ((O n).0 o).1 in absurd (cc)
+apart_from s v once cluster zeros ones Z O n z o =
+    let e : Zero ≡ One = once s v n Zero One ((Z n).0 z).1 ((O n).0 o).1 in absurd (cc)

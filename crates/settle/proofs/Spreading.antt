@@ -3,10 +3,10 @@ use Rattle.std.proofs.Common.{◌≡◌, ℕ, List, Option, Some, None, refl}
 use Rattle.std.specs.Prelude.{Contains}
 use Rattle.mp_base.specs.declared.value.Trit.{Trit}
 use Rattle.switch_net.specs.declared.network.ChannelKind.{ChannelKind}
-use Rattle.switch_net.specs.declared.network.ChannelKind.TheVariants.{Enhancement, Depletion, Partial}
 use Rattle.switch_net.specs.declared.network.Channel.{Channel}
-use Rattle.switch_net.specs.Settled.{Setting, KindIsOn, KindMayBeOn}
+use Rattle.switch_net.specs.Settled.{Setting, KindMayBeOn}
 use Rattle.switch_net.specs.Reaching.{Reach, here, over}
+use Rattle.switch_net.proofs.SwitchKinds.{on_may_be_on}
 use Rattle.settle.specs.declared.route.Route.{Route}
 use Rattle.settle.specs.declared.route.Route.TheVariants.{StrongOn, StrongMaybe, On, Maybe}
 use Rattle.settle.specs.declared.route.Source.{Source}
@@ -14,9 +14,11 @@ use Rattle.settle.specs.declared.route.Source.TheVariants.{For, Against, Any}
 use Rattle.settle.specs.Spread.{Uses, KindUses, IsSource, IsSourceOf, Borders, Spreads, Picks, HoldsReached}
 use Rattle.settle.specs.Give.{IsCluster}
 
-pub reach_then : (s : Setting) (P Q : Channel → Type 0) (F G : ℕ → Type 0) (n : ℕ) → ((c : Channel) → P c → Q c) → ((a : ℕ) → F a → Reach s Q G a) → Reach s P F n → Reach s Q G n
+pub reach_then : (s : Setting) (P Q : Channel → Type 0) (F G : ℕ → Type 0) (n : ℕ) → ((c : Channel) → P c → Q c)
+    → ((a : ℕ) → F a → Reach s Q G a) → Reach s P F n → Reach s Q G n
 reach_then s P Q F G n f g (here h) = g n h
-reach_then s P Q F G n f g (over {a} c r in' at_a at_b free ok) = over c (reach_then s P Q F G a f g r) in' at_a at_b free (f c ok)
+reach_then s P Q F G n f g (over {a} c r in' at_a at_b free ok) =
+    over c (reach_then s P Q F G a f g r) in' at_a at_b free (f c ok)
 
 -- a driver drives
 pub driven_at : (source : Source) (d : Option Trit) → IsSourceOf source d → d ≡ None → ⊥
@@ -25,19 +27,16 @@ driven_at (Against b) d h free = let e = h.1 in cc
 driven_at Any (Some t) h free = cc
 driven_at Any None h free = cc
 
-pub on_may : (k : ChannelKind) (t : Trit) → KindIsOn k t → KindMayBeOn k t
-on_may Enhancement t h = λ z. cc
-on_may Depletion t h = tt
-on_may Partial t h = tt
-
 route_may : (route : Route) (k : ChannelKind) (t : Trit) → KindUses route k t → KindMayBeOn k t
-route_may StrongOn k t h = on_may k t h.1
+route_may StrongOn k t h = on_may_be_on k t h.1
 route_may StrongMaybe k t h = h.1
-route_may On k t h = on_may k t h
+route_may On k t h = on_may_be_on k t h
 route_may Maybe k t h = h
 
-module _ (s : Setting) (v : ℕ → Trit) (nodes : List ℕ) (cluster : IsCluster s v nodes) (route : Route) (source : Source) (seeds held : List ℕ)
-    (are : Picks (Borders s (Uses route v) (IsSource source s)) nodes seeds) (spreads : Spreads s (Uses route v) seeds held) where
+module _ (s : Setting) (v : ℕ → Trit) (nodes : List ℕ) (cluster : IsCluster s v nodes) (route : Route)
+    (source : Source) (seeds held : List ℕ)
+    (are : Picks (Borders s (Uses route v) (IsSource source s)) nodes seeds)
+    (spreads : Spreads s (Uses route v) seeds held) where
   from_seed : (n : ℕ) → Contains seeds n → Reach s (Uses route v) (IsSource source s) n
   from_seed n q =
       let p = (are n).0 q in
@@ -60,5 +59,8 @@ module _ (s : Setting) (v : ℕ → Trit) (nodes : List ℕ) (cluster : IsCluste
           spreads.closed a n (again inside) (c, at, ok, at_a, at_n, free)
 
   pub holds_reached : HoldsReached s (Uses route v) (IsSource source s) nodes held
-  holds_reached n in' =
-      (λ q. reach_then s (Uses route v) (Uses route v) (Contains seeds) (IsSource source s) n (λ c ok. ok) from_seed (spreads.reached n q), to_held n in')
+  holds_reached n in' = (
+    λ q. reach_then s (Uses route v) (Uses route v) (Contains seeds) (IsSource source s) n (λ c ok. ok) from_seed
+        (spreads.reached n q),
+    to_held n in',
+  )

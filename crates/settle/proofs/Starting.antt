@@ -1,10 +1,12 @@
 -- What is told at the start of a settling.
-use Rattle.std.proofs.Common.{◌≡◌, ◌<◌, ◌≤◌, ◌+◌, ℕ, List, Option, Some, None, Bool, length, get_or, refl, sym, ◌∙◌, ap, subst, inl, inr, ◌⊎◌, arith}
+use Rattle.std.proofs.Common.{◌≡◌, ◌<◌, ◌≤◌, ◌+◌, ℕ, List, Option, Some, None, Bool, length, get_or, refl, sym, ◌∙◌, ap}
+use Rattle.std.proofs.Common.{subst, inl, inr, ◌⊎◌, arith}
 use Rattle.std.specs.Prelude.{Contains, All, ◌≢◌}
 use Rattle.std.proofs.lemmas.Bool.{cases_eq, cases_lt}
 use Rattle.std.proofs.lemmas.List.{get_or_past}
 use Rattle.mp_base.specs.declared.value.Trit.{Trit}
 use Rattle.mp_base.specs.declared.value.Trit.TheVariants.{Zero, One, X}
+use Rattle.mp_base.proofs.Numbers.{below_suc}
 use Rattle.switch_net.specs.declared.network.ChannelKind.TheVariants.{Enhancement}
 use Rattle.switch_net.specs.declared.network.Channel.{Channel}
 use Rattle.switch_net.specs.Settled.{Setting, MayBeOn, IsSolution}
@@ -16,22 +18,25 @@ use Rattle.settle.specs.Values.{value_at, driver_at, IsMarked}
 use Rattle.settle.specs.Links.{listed, AreGated}
 use Rattle.settle.specs.Wake.{Wakes, WakesBeside}
 use Rattle.settle.specs.Start.{IsReady, Redrives, RedrivesFirst}
-use Rattle.settle.proofs.Listing.{below_suc}
 use Rattle.settle.proofs.Climbing.{past_stuck, zero_not_x, one_not_x}
 use Rattle.settle.proofs.Waking.{mark_at, wakes_wider}
 use Rattle.settle.proofs.Looking.{end_inside}
 
 -- where all undriven nodes wait
-pub all_wait : (law : GivesAlongReach) (s : Setting) (nodes : ℕ) (values : List Trit) (waits : List Bool) → All (λ (c : Channel). All (λ e. e < nodes) c.ends) s.channels
-    → length values ≡ nodes → ((n : ℕ) → nodes ≤ n → s.before n ≡ X) → ((n : ℕ) → n < nodes → s.driver n ≡ None → IsMarked waits n) → IsTold s (value_at values) (IsMarked waits)
+pub all_wait : (law : GivesAlongReach) (s : Setting) (nodes : ℕ) (values : List Trit) (waits : List Bool)
+    → All (λ (c : Channel). All (λ e. e < nodes) c.ends) s.channels
+    → length values ≡ nodes → ((n : ℕ) → nodes ≤ n → s.before n ≡ X)
+    → ((n : ℕ) → n < nodes → s.driver n ≡ None → IsMarked waits n) → IsTold s (value_at values) (IsMarked waits)
 all_wait law s nodes values waits ends sized had waiting n free none = by_place (cases_lt n nodes)
   where
     by_place : (n < nodes) ⊎ (nodes ≤ n) → IsGiven s (value_at values) n (value_at values n)
     by_place (inl lt) = absurd (none (here (waiting n lt free)))
     by_place (inr far) =
         let x : value_at values n ≡ X = get_or_past values n X (omega arith) in
-        let stuck = past_stuck s (value_at values) nodes n law ends far free (had n far) free x in
-        ((λ z. absurd (zero_not_x (sym z ∙ x)), λ g. absurd (stuck Zero zero_not_x g)), (λ z. absurd (one_not_x (sym z ∙ x)), λ g. absurd (stuck One one_not_x g)))
+        let stuck = past_stuck s (value_at values) nodes n law ends far free (had n far) free x in (
+          (λ z. absurd (zero_not_x (sym z ∙ x)), λ g. absurd (stuck Zero zero_not_x g)),
+          (λ z. absurd (one_not_x (sym z ∙ x)), λ g. absurd (stuck One one_not_x g)),
+        )
 
 -- the first nodes, one by one
 module _ (channels : List Channel) (gated : List (List ℕ)) (last drive : List (Option Trit)) (old : List Trit) where
@@ -49,7 +54,8 @@ module _ (channels : List Channel) (gated : List (List ℕ)) (last drive : List 
   }
 
   module _ (i : ℕ) (mid : List Trit) (waits : List Bool) (h : First i mid waits) where
-    pub redrives_same : ((n : ℕ) (t : Trit) → driver_at last n ≡ Some t → value_at old n ≡ t) → driver_at drive i ≡ driver_at last i → First (i + 1) mid waits
+    pub redrives_same : ((n : ℕ) (t : Trit) → driver_at last n ≡ Some t → value_at old n ≡ t)
+        → driver_at drive i ≡ driver_at last i → First (i + 1) mid waits
     redrives_same was same = record {
       driven = λ n t lt d. driven n t d (below_suc n i lt);
       kept = λ n q. kept n q;
@@ -72,11 +78,13 @@ module _ (channels : List Channel) (gated : List (List ℕ)) (last drive : List 
         lost n free (inl lt) = h.lost n lt free
         lost n free (inr e) = inl (ap (driver_at last) e ∙ sym same ∙ ap (driver_at drive) (sym e) ∙ free)
 
-        beside : (n : ℕ) → (n < i) ⊎ (n ≡ i) → (driver_at drive n ≡ driver_at last n) ⊎ WakesBeside (driver_at drive) channels n waits
+        beside : (n : ℕ) → (n < i) ⊎ (n ≡ i)
+            → (driver_at drive n ≡ driver_at last n) ⊎ WakesBeside (driver_at drive) channels n waits
         beside n (inl lt) = h.beside n lt
         beside n (inr e) = inl (ap (driver_at drive) e ∙ same ∙ ap (driver_at last) (sym e))
 
-    pub redrives_more : (new : List Trit) (after : List Bool) → length after ≡ length waits → Redrives channels gated drive i mid new waits after → First (i + 1) new after
+    pub redrives_more : (new : List Trit) (after : List Bool) → length after ≡ length waits
+        → Redrives channels gated drive i mid new waits after → First (i + 1) new after
     redrives_more new after sized r = record {
       driven = λ n t lt d. driven n t d (below_suc n i lt) (cases_eq n i);
       kept = λ n q. kept n q (cases_eq n i);
@@ -86,7 +94,8 @@ module _ (channels : List Channel) (gated : List (List ℕ)) (last drive : List 
       undriven = λ n m. elim (r.widens.undriven n m) [ inl q ↦ h.undriven n q | inr free ↦ free ];
     }
       where
-        driven : (n : ℕ) (t : Trit) → driver_at drive n ≡ Some t → (n < i) ⊎ (n ≡ i) → (n ≡ i) ⊎ (n ≢ i) → value_at new n ≡ t
+        driven : (n : ℕ) (t : Trit) → driver_at drive n ≡ Some t → (n < i) ⊎ (n ≡ i) → (n ≡ i) ⊎ (n ≢ i)
+            → value_at new n ≡ t
         driven n t d _ (inl e) = ap (value_at new) e ∙ r.driven t (ap (driver_at drive) (sym e) ∙ d)
         driven n t d (inl lt) (inr ne) = r.kept n (inl ne) ∙ h.driven n t lt d
         driven n t d (inr e) (inr ne) = absurd (ne e)
@@ -99,9 +108,11 @@ module _ (channels : List Channel) (gated : List (List ℕ)) (last drive : List 
 
         lost : (n : ℕ) → driver_at drive n ≡ None → (n < i) ⊎ (n ≡ i) → (driver_at last n ≡ None) ⊎ IsMarked after n
         lost n free (inl lt) = elim (h.lost n lt free) [ inl q ↦ inl q | inr m ↦ inr (r.widens.kept n m) ]
-        lost n free (inr e) = inr (subst (λ k. IsMarked after k) (sym e) (r.waiting (ap (driver_at drive) (sym e) ∙ free)))
+        lost n free (inr e) =
+            inr (subst (λ k. IsMarked after k) (sym e) (r.waiting (ap (driver_at drive) (sym e) ∙ free)))
 
-        told : (g : ℕ) → (g ≡ i) ⊎ (g ≢ i) → (value_at new g ≡ value_at old g) ⊎ Wakes (driver_at drive) (listed gated g) after
+        told : (g : ℕ) → (g ≡ i) ⊎ (g ≢ i)
+            → (value_at new g ≡ value_at old g) ⊎ Wakes (driver_at drive) (listed gated g) after
         told g (inl e) = elim r.told [
           | inl same ↦ elim (h.told g) [
             | inl q ↦ inl (ap (value_at new) e ∙ same ∙ ap (value_at mid) (sym e) ∙ q)
@@ -114,17 +125,21 @@ module _ (channels : List Channel) (gated : List (List ℕ)) (last drive : List 
           | inr w ↦ inr (wakes_wider (driver_at drive) (listed gated g) waits after sized r.widens w)
         ]
 
-        wider : (n : ℕ) → WakesBeside (driver_at drive) channels n waits → WakesBeside (driver_at drive) channels n after
+        wider : (n : ℕ) → WakesBeside (driver_at drive) channels n waits
+            → WakesBeside (driver_at drive) channels n after
         wider n w c in' at = wakes_wider (driver_at drive) c.ends waits after sized r.widens (w c in' at)
 
-        beside : (n : ℕ) → (n < i) ⊎ (n ≡ i) → (driver_at drive n ≡ driver_at last n) ⊎ WakesBeside (driver_at drive) channels n after
+        beside : (n : ℕ) → (n < i) ⊎ (n ≡ i)
+            → (driver_at drive n ≡ driver_at last n) ⊎ WakesBeside (driver_at drive) channels n after
         beside n (inl lt) = elim (h.beside n lt) [ inl q ↦ inl q | inr w ↦ inr (wider n w) ]
         beside n (inr e) = inr (subst (λ k. WakesBeside (driver_at drive) channels k after) (sym e) r.beside)
 
 -- where all nodes have the other drivers
-module _ (channels : List Channel) (nodes : ℕ) (ends : All (λ (c : Channel). All (λ e. e < nodes) c.ends) channels) (gated : List (List ℕ)) (are : AreGated channels gated)
+module _ (channels : List Channel) (nodes : ℕ) (ends : All (λ (c : Channel). All (λ e. e < nodes) c.ends) channels)
+    (gated : List (List ℕ)) (are : AreGated channels gated)
     (last drive : List (Option Trit)) (last_sized : length last ≡ nodes) (drive_sized : length drive ≡ nodes)
-    (old new : List Trit) (waits : List Bool) (sized : length waits ≡ nodes) (h : RedrivesFirst channels gated last drive nodes old new waits) where
+    (old new : List Trit) (waits : List Bool) (sized : length waits ≡ nodes)
+    (h : RedrivesFirst channels gated last drive nodes old new waits) where
   abbrev Was : Setting
   Was = record { channels = channels; driver = driver_at last; before = value_at old }
 
@@ -148,7 +163,8 @@ module _ (channels : List Channel) (nodes : ℕ) (ends : All (λ (c : Channel). 
       inside : (c : Channel) (e : ℕ) → Contains channels c → Contains c.ends e → e < length waits
       inside c e in' at = let l = end_inside nodes channels ends c e in' at in omega arith
 
-      lost : (n : ℕ) → driver_at drive n ≡ None → (n < nodes) ⊎ (nodes ≤ n) → (driver_at last n ≡ None) ⊎ IsMarked waits n
+      lost : (n : ℕ) → driver_at drive n ≡ None → (n < nodes) ⊎ (nodes ≤ n)
+          → (driver_at last n ≡ None) ⊎ IsMarked waits n
       lost n free (inl lt) = h.lost n lt free
       lost n free (inr far) = inl (get_or_past last n None (omega arith))
 
@@ -161,4 +177,5 @@ module _ (channels : List Channel) (nodes : ℕ) (ends : All (λ (c : Channel). 
     where
       driven : (n : ℕ) (t : Trit) → driver_at drive n ≡ Some t → (n < nodes) ⊎ (nodes ≤ n) → value_at new n ≡ t
       driven n t d (inl lt) = h.driven n t lt d
-      driven n t d (inr far) = let past : driver_at drive n ≡ None = get_or_past drive n None (omega arith) in absurd (cc)
+      driven n t d (inr far) = let past : driver_at drive n ≡ None = get_or_past drive n None (omega arith) in
+          absurd (cc)

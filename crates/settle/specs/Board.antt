@@ -7,7 +7,8 @@ use Rattle.settle.specs.Values.{value_at, driver_at}
 use Rattle.settle.specs.Links.{AreLinked, AreGated}
 
 abbrev pub setting_of : Board → Setting
-setting_of b = record { channels = b.network.now.channels; driver = driver_at b.drive.now; before = value_at b.before.now }
+setting_of b =
+    record { channels = b.network.now.channels; driver = driver_at b.drive.now; before = value_at b.before.now }
 
 abbrev pub nodes_of : Board → ℕ
 nodes_of b = b.network.now.nodes

@@ -9,13 +9,15 @@ listed lists n = slice_index_or lists n []
 
 -- a number is added at each of these nodes, and nothing else
 abbrev pub AddsLink : List ℕ → ℕ → List (List ℕ) → List (List ℕ) → Type 0
-AddsLink nodes j old new = (n i : ℕ) → Contains (listed new n) i ↔ (Contains (listed old n) i ⊎ ((i ≡ j) × Contains nodes n))
+AddsLink nodes j old new = (n i : ℕ)
+    → Contains (listed new n) i ↔ (Contains (listed old n) i ⊎ ((i ≡ j) × Contains nodes n))
 
 -- each of the first channels is listed at its ends, and no other channel anywhere
 pub record AreLinked (channels : List Channel) (first : ℕ) (lists : List (List ℕ)) : Type 0 where
   pub inside : (n j : ℕ) → Contains (listed lists n) j → j < first
   pub ends : (n j : ℕ) (c : Channel) → Contains (listed lists n) j → Contains (slice_index_or channels j c).ends n
-  pub all : (n j : ℕ) (c : Channel) → j < first → Contains (slice_index_or channels j c).ends n → Contains (listed lists n) j
+  pub all : (n j : ℕ) (c : Channel) → j < first → Contains (slice_index_or channels j c).ends n
+      → Contains (listed lists n) j
 
 -- a channel's ends are added at its gate, where it is enhancement, and no entry goes
 pub record AddsGated (c : Channel) (old new : List (List ℕ)) : Type 0 where
@@ -24,4 +26,5 @@ pub record AddsGated (c : Channel) (old new : List (List ℕ)) : Type 0 where
 
 -- at each node the ends of each enhancement channel that it gates
 abbrev pub AreGated : List Channel → List (List ℕ) → Type 0
-AreGated channels lists = (c : Channel) (e : ℕ) → Contains channels c → c.kind ≡ Enhancement → Contains c.ends e → Contains (listed lists c.gate) e
+AreGated channels lists = (c : Channel) (e : ℕ) → Contains channels c → c.kind ≡ Enhancement → Contains c.ends e
+    → Contains (listed lists c.gate) e

@@ -9,7 +9,8 @@ use Rattle.settle.specs.Values.{value_at, driver_at}
 use Rattle.settle.specs.Links.{AreLinked, AreGated}
 use Rattle.settle.specs.Rooms.{HaveRoom}
 
-pub record AreSized (network : Network) (at ends : List (List ℕ)) (values before : List Trit) (last : List (Option Trit)) (sets : Sets) (marks : List Bool) : Type 0 where
+pub record AreSized (network : Network) (at ends : List (List ℕ)) (values before : List Trit)
+    (last : List (Option Trit)) (sets : Sets) (marks : List Bool) : Type 0 where
   pub linked : AreLinked network.channels (length network.channels) at
   pub at_sized : length at ≡ network.nodes
   pub gated : AreGated network.channels ends
@@ -28,4 +29,5 @@ pub record AreReady (network : Network) (orders : Orderings) : Type 0 where
 -- values that are settled where these are the drivers, with themselves as the charge
 abbrev pub AreAtRest : Network → List (Option Trit) → List Trit → Type 0
 AreAtRest network last values =
-    IsSettled (record { channels = network.channels; driver = driver_at last; before = value_at values }) (value_at values)
+    IsSettled (record { channels = network.channels; driver = driver_at last; before = value_at values })
+    (value_at values)

@@ -1,5 +1,6 @@
 -- Sets of nodes that spread over channels of one sort.
-use Rattle.std.specs.Prelude.{◌≡◌, ◌≢◌, ◌↔◌, ◌⊎◌, ℕ, ◌<◌, ◌≤◌, List, Option, Some, None, IsSome, length, slice_index, Contains}
+use Rattle.std.specs.Prelude.{◌≡◌, ◌≢◌, ◌↔◌, ◌⊎◌, ℕ, ◌<◌, ◌≤◌, List, Option, Some, None, IsSome, length, slice_index}
+use Rattle.std.specs.Prelude.{Contains}
 use Rattle.mp_base.specs.declared.value.Trit.{Trit}
 use Rattle.switch_net.specs.declared.network.ChannelKind.{ChannelKind}
 use Rattle.switch_net.specs.declared.network.ChannelKind.TheVariants.{Depletion}
@@ -37,7 +38,8 @@ Borders s allowed from m =
 
 -- a channel that is allowed joins a to the undriven node n
 abbrev pub Adjoins : Setting → (Channel → Type 0) → ℕ → ℕ → Type 0
-Adjoins s allowed a n = (c : Channel) × Contains s.channels c × allowed c × Contains c.ends a × Contains c.ends n × (s.driver n ≡ None)
+Adjoins s allowed a n =
+    (c : Channel) × Contains s.channels c × allowed c × Contains c.ends a × Contains c.ends n × (s.driver n ≡ None)
 
 -- the new list begins as the old one
 pub record Extends (old new : List ℕ) : Type 0 where

@@ -15,7 +15,8 @@ pub record IsReady (s : Setting) (values : List Trit) (waits : List Bool) : Type
   pub told : IsTold s (value_at values) (IsMarked waits)
 
 -- a node has another driver
-pub record Redrives (channels : List Channel) (gated : List (List ℕ)) (drive : List (Option Trit)) (node : ℕ) (old new : List Trit) (before after : List Bool) : Type 0 where
+pub record Redrives (channels : List Channel) (gated : List (List ℕ)) (drive : List (Option Trit)) (node : ℕ)
+    (old new : List Trit) (before after : List Bool) : Type 0 where
   pub driven : (t : Trit) → driver_at drive node ≡ Some t → value_at new node ≡ t
   pub kept : (n : ℕ) → (n ≢ node) ⊎ (driver_at drive node ≡ None) → value_at new n ≡ value_at old n
   pub waiting : driver_at drive node ≡ None → IsMarked after node
@@ -24,10 +25,12 @@ pub record Redrives (channels : List Channel) (gated : List (List ℕ)) (drive :
   pub widens : Widens (driver_at drive) before after
 
 -- the first nodes have other drivers
-pub record RedrivesFirst (channels : List Channel) (gated : List (List ℕ)) (last drive : List (Option Trit)) (first : ℕ) (old new : List Trit) (waits : List Bool) : Type 0 where
+pub record RedrivesFirst (channels : List Channel) (gated : List (List ℕ)) (last drive : List (Option Trit))
+    (first : ℕ) (old new : List Trit) (waits : List Bool) : Type 0 where
   pub driven : (n : ℕ) (t : Trit) → n < first → driver_at drive n ≡ Some t → value_at new n ≡ t
   pub kept : (n : ℕ) → (driver_at drive n ≡ None) ⊎ (first ≤ n) → value_at new n ≡ value_at old n
   pub lost : (n : ℕ) → n < first → driver_at drive n ≡ None → (driver_at last n ≡ None) ⊎ IsMarked waits n
   pub told : (g : ℕ) → (value_at new g ≡ value_at old g) ⊎ Wakes (driver_at drive) (listed gated g) waits
-  pub beside : (n : ℕ) → n < first → (driver_at drive n ≡ driver_at last n) ⊎ WakesBeside (driver_at drive) channels n waits
+  pub beside : (n : ℕ) → n < first
+      → (driver_at drive n ≡ driver_at last n) ⊎ WakesBeside (driver_at drive) channels n waits
   pub undriven : (n : ℕ) → IsMarked waits n → driver_at drive n ≡ None

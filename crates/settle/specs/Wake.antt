@@ -17,7 +17,8 @@ Wakes driver nodes waits = (n : ℕ) → Contains nodes n → n < length waits �
 
 -- the undriven ends of the channels at a node wait
 abbrev pub WakesBeside : (ℕ → Option Trit) → List Channel → ℕ → List Bool → Type 0
-WakesBeside driver channels node waits = (c : Channel) → Contains channels c → Contains c.ends node → Wakes driver c.ends waits
+WakesBeside driver channels node waits = (c : Channel) → Contains channels c → Contains c.ends node
+    → Wakes driver c.ends waits
 
 -- 0 where the one list has the node, 1 where the other has it, and else X
 pub record IsVerdict (zeros ones : List ℕ) (n : ℕ) (t : Trit) : Type 0 where
@@ -25,7 +26,8 @@ pub record IsVerdict (zeros ones : List ℕ) (n : ℕ) (t : Trit) : Type 0 where
   pub one : (t ≡ One) ↔ Contains ones n
 
 -- these nodes have their verdicts, the others what they had, and what a node gates that changed waits
-pub record Renews (driver : ℕ → Option Trit) (gated : List (List ℕ)) (zeros ones nodes : List ℕ) (old new : List Trit) (before after : List Bool) : Type 0 where
+pub record Renews (driver : ℕ → Option Trit) (gated : List (List ℕ)) (zeros ones nodes : List ℕ) (old new : List Trit)
+    (before after : List Bool) : Type 0 where
   pub given : (n : ℕ) → Contains nodes n → IsVerdict zeros ones n (value_at new n)
   pub kept : (n : ℕ) → (Contains nodes n → ⊥) → value_at new n ≡ value_at old n
   pub told : (g : ℕ) → (value_at new g ≡ value_at old g) ⊎ Wakes driver (listed gated g) after

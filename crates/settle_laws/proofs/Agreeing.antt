@@ -8,20 +8,19 @@ use Rattle.switch_net.specs.declared.network.Channel.{Channel}
 use Rattle.switch_net.specs.Settled.{Setting, KindIsOn, KindMayBeOn, IsOn, MayBeOn, IsAgainst, Gives}
 use Rattle.switch_net.specs.Reaching.{Reach, here, over, IsStrongOn, MayBeStrongOn, IsFor, IsForeign, GivesByReach}
 use Rattle.switch_net.specs.Laws.{GivesAlongReach}
+use Rattle.switch_net.proofs.SwitchKinds.{on_may_be_on}
 
 -- two settings of the same channels that agree at nodes, at the gates of the channels there, and at what these join
 pub record Agree (s t : Setting) (v w : ℕ → Trit) (K : ℕ → Type 0) : Type 0 where
   pub channels : (c : Channel) → Contains s.channels c → Contains t.channels c
   pub free : (n : ℕ) → K n → t.driver n ≡ None
   pub before : (n : ℕ) → K n → t.before n ≡ s.before n
-  pub gate : (c : Channel) (n : ℕ) → Contains s.channels c → Contains c.ends n → K n → c.kind ≡ Enhancement → w c.gate ≡ v c.gate
-  pub driver : (c : Channel) (n a : ℕ) → Contains s.channels c → Contains c.ends n → K n → MayBeOn v c → Contains c.ends a → t.driver a ≡ s.driver a
-  pub ends : (c : Channel) (n a : ℕ) → Contains s.channels c → Contains c.ends n → K n → MayBeOn v c → Contains c.ends a → s.driver a ≡ None → K a
-
-on_may : (k : ChannelKind) (t : Trit) → KindIsOn k t → KindMayBeOn k t
-on_may Enhancement t h = λ z. cc
-on_may Depletion t h = tt
-on_may Partial t h = tt
+  pub gate : (c : Channel) (n : ℕ) → Contains s.channels c → Contains c.ends n → K n → c.kind ≡ Enhancement
+      → w c.gate ≡ v c.gate
+  pub driver : (c : Channel) (n a : ℕ) → Contains s.channels c → Contains c.ends n → K n → MayBeOn v c
+      → Contains c.ends a → t.driver a ≡ s.driver a
+  pub ends : (c : Channel) (n a : ℕ) → Contains s.channels c → Contains c.ends n → K n → MayBeOn v c
+      → Contains c.ends a → s.driver a ≡ None → K a
 
 on_same : (k : ChannelKind) (t u : Trit) → (k ≡ Enhancement → u ≡ t) → KindIsOn k t → KindIsOn k u
 on_same Enhancement t u e h = e refl ∙ h
@@ -45,21 +44,24 @@ module _ (s t : Setting) (v w : ℕ → Trit) (K : ℕ → Type 0) (g : Agree s 
       → (n : ℕ) → K n → Reach s P F n → Reach t Q G n
   reach_agrees P Q F G may ok in_k driven n k (here f) = here (in_k n k f)
   reach_agrees P Q F G may ok in_k driven n k (over {a} c r in' at_a at_n free okc) =
-      over c (from r (λ k_a. reach_agrees P Q F G may ok in_k driven a k_a r) (driver_cases (s.driver a))) (g.channels c in') at_a at_n (g.free n k) (ok c n in' at_n k okc)
+      over c (from r (λ k_a. reach_agrees P Q F G may ok in_k driven a k_a r) (driver_cases (s.driver a)))
+      (g.channels c in') at_a at_n (g.free n k) (ok c n in' at_n k okc)
     where
       same : t.driver a ≡ s.driver a
       same = g.driver c n a in' at_n k (may c okc) at_a
 
       at_driver : Reach s P F a → IsSome (s.driver a) → Reach t Q G a
       at_driver (here f) d = here (driven a same d f)
-      at_driver (over _ _ _ _ _ none _) d = absurd (let q : IsSome (s.driver a) = d in let e : s.driver a ≡ None = none in cc)
+      at_driver (over _ _ _ _ _ none _) d =
+          absurd (let q : IsSome (s.driver a) = d in let e : s.driver a ≡ None = none in cc)
 
       from : Reach s P F a → (K a → Reach t Q G a) → (s.driver a ≡ None) ⊎ IsSome (s.driver a) → Reach t Q G a
       from q again (inl e) = again (g.ends c n a in' at_n k (may c okc) at_a e)
       from q again (inr d) = at_driver q d
 
 -- two settings that agree both ways
-module _ (law : GivesAlongReach) (s t : Setting) (v w : ℕ → Trit) (K : ℕ → Type 0) (g : Agree s t v w K) (back : Agree t s w v K) where
+module _ (law : GivesAlongReach) (s t : Setting) (v w : ℕ → Trit) (K : ℕ → Type 0) (g : Agree s t v w K)
+    (back : Agree t s w v K) where
   pub agree_gives : (n : ℕ) (b : Trit) → K n → Gives s v n b → Gives t w n b
   agree_gives n b k given = (law t w n b).1 (by_sets ((law s v n b).0 given))
     where
@@ -90,15 +92,23 @@ module _ (law : GivesAlongReach) (s t : Setting) (v w : ℕ → Trit) (K : ℕ �
 
       by_sets : GivesByReach s v n b → GivesByReach t w n b
       by_sets (inl h) = inl (
-        reach_agrees s t v w K g (IsStrongOn v) (IsStrongOn w) (IsFor s b) (IsFor t b) (λ c i. on_may c.kind (v c.gate) i.1)
+        reach_agrees s t v w K g (IsStrongOn v) (IsStrongOn w) (IsFor s b) (IsFor t b)
+            (λ c i. on_may_be_on c.kind (v c.gate) i.1)
             (λ c m in' at q i. (i.0, on c m in' at q i.1)) for_in for_driven n k h.0,
         λ o. h.1
-            (reach_agrees t s w v K back (MayBeStrongOn w) (MayBeStrongOn v) (IsAgainst t b) (IsAgainst s b) (λ c i. i.1)
+            (reach_agrees t s w v K back (MayBeStrongOn w) (MayBeStrongOn v) (IsAgainst t b) (IsAgainst s b)
+            (λ c i. i.1)
             (λ c m in' at q i. (i.0, may c m in' at q i.1)) against_in against_driven n k o),
       )
       by_sets (inr (inl h)) = inr (inl (
-        reach_agrees s t v w K g (IsOn v) (IsOn w) (IsFor s b) (IsFor t b) (λ c i. on_may c.kind (v c.gate) i) on for_in for_driven n k h.0,
-        λ o. h.1 (reach_agrees t s w v K back (MayBeOn w) (MayBeOn v) (IsAgainst t b) (IsAgainst s b) (λ c i. i) may against_in against_driven n k o),
+        reach_agrees s t v w K g (IsOn v) (IsOn w) (IsFor s b) (IsFor t b)
+            (λ c i. on_may_be_on c.kind (v c.gate) i) on for_in for_driven n k h.0,
+        λ o. h.1
+            (reach_agrees t s w v K back (MayBeOn w) (MayBeOn v) (IsAgainst t b) (IsAgainst s b)
+            (λ c i. i) may against_in against_driven n k o),
       ))
       by_sets (inr (inr none)) =
-          inr (inr (λ o. none (reach_agrees t s w v K back (MayBeOn w) (MayBeOn v) (IsForeign t b) (IsForeign s b) (λ c i. i) may foreign_in foreign_driven n k o)))
+          inr (inr
+          (λ o. none
+          (reach_agrees t s w v K back (MayBeOn w) (MayBeOn v) (IsForeign t b) (IsForeign s b)
+          (λ c i. i) may foreign_in foreign_driven n k o)))

@@ -2,7 +2,8 @@
 use Rattle.std.proofs.Common.{◌≡◌, ℕ, ◌<◌, Option, Some, None, zero, suc, refl, sym, ◌∙◌, inr, arith}
 use Rattle.std.specs.Prelude.{Contains}
 use Rattle.mp_base.specs.declared.value.Trit.{Trit}
-use Rattle.mp_base.specs.declared.value.Trit.TheVariants.{Zero, One, X}
+use Rattle.mp_base.specs.declared.value.Trit.TheVariants.{Zero, One}
+use Rattle.mp_base.proofs.Values.{same_trit}
 use Rattle.switch_net.specs.declared.network.ChannelKind.{ChannelKind}
 use Rattle.switch_net.specs.declared.network.ChannelKind.TheVariants.{Enhancement, Depletion, Partial}
 use Rattle.switch_net.specs.declared.network.Channel.{Channel}
@@ -10,13 +11,6 @@ use Rattle.switch_net.specs.Settled.{Setting, KindMayBeOn, MayBeOn, Gives, IsSol
 use Rattle.switch_net.specs.Laws.{GivesAlongReach}
 use Rattle.settle_laws.specs.Ordered.{IsCut, IsOrdered}
 use Rattle.settle_laws.proofs.Agreeing.{Agree, agree_gives}
-
-trit_same : (t u : Trit) → (t ≡ Zero → u ≡ Zero) → (t ≡ One → u ≡ One) → (u ≡ Zero → t ≡ Zero) → (u ≡ One → t ≡ One) → t ≡ u
-trit_same Zero u z o z' o' = sym (z refl)
-trit_same One u z o z' o' = sym (o refl)
-trit_same X Zero z o z' o' = z' refl
-trit_same X One z o z' o' = o' refl
-trit_same X X z o z' o' = refl
 
 not_cut : (s : Setting) (u : ℕ → Trit) → IsSolution s u → (c : Channel) → MayBeOn u c → IsCut s c → ⊥
 not_cut s u sol c may cut = off c.kind (u c.gate) cut.0 (sol.driven c.gate Zero cut.1) may
@@ -30,27 +24,31 @@ module _ (law : GivesAlongReach) (s : Setting) (r : ℕ → ℕ) (ordered : IsOr
   abbrev Rank : ℕ → ℕ → Type 0
   Rank k n = (s.driver n ≡ None) × (r n ≡ k)
 
-  agrees : (u w : ℕ → Trit) → IsSolution s u → IsSolution s w → (k : ℕ) → ((m : ℕ) → r m < k → s.driver m ≡ None → w m ≡ u m) → Agree s s u w (Rank k)
+  agrees : (u w : ℕ → Trit) → IsSolution s u → IsSolution s w → (k : ℕ)
+      → ((m : ℕ) → r m < k → s.driver m ≡ None → w m ≡ u m) → Agree s s u w (Rank k)
   agrees u w f h k below = record {
     channels = λ c in'. in';
     free = λ n q. q.0;
     before = λ n q. refl;
     gate = λ c n in' at q e. gate c n in' at q e (s.driver c.gate) refl;
     driver = λ c n a in' at q may at_a. refl;
-    ends = λ c n a in' at q may at_a none. (none, ordered.joined c a n in' (not_cut s u f c may) at_a at none q.0 ∙ q.1);
+    ends = λ c n a in' at q may at_a none.
+        (none, ordered.joined c a n in' (not_cut s u f c may) at_a at none q.0 ∙ q.1);
   }
     where
-      gate : (c : Channel) (n : ℕ) → Contains s.channels c → Contains c.ends n → Rank k n → c.kind ≡ Enhancement → (d : Option Trit) → s.driver c.gate ≡ d → w c.gate ≡ u c.gate
-      gate c n in' at q e None d = below c.gate (let lt = ordered.gates c n in' e d at q.0 in let y = q.1 in omega arith) d
+      gate : (c : Channel) (n : ℕ) → Contains s.channels c → Contains c.ends n → Rank k n → c.kind ≡ Enhancement
+          → (d : Option Trit) → s.driver c.gate ≡ d → w c.gate ≡ u c.gate
+      gate c n in' at q e None d =
+          below c.gate (let lt = ordered.gates c n in' e d at q.0 in let y = q.1 in omega arith) d
       gate c n in' at q e (Some t) d = h.driven c.gate t d ∙ sym (f.driven c.gate t d)
 
   same_below : (u w : ℕ → Trit) → IsSolution s u → IsSolution s w → (k m : ℕ) → r m < k → s.driver m ≡ None → w m ≡ u m
   same_below u w f h zero m lt free = absurd (omega arith)
   same_below u w f h (suc k) m lt free =
-      trit_same (w m) (u m)
+      same_trit (w m) (u m)
       (λ e. (f.zero m free).1 (to_u (same_below u w f h k) Zero ((h.zero m free).0 e)))
-      (λ e. (f.one m free).1 (to_u (same_below u w f h k) One ((h.one m free).0 e)))
       (λ e. (h.zero m free).1 (to_w (same_below u w f h k) Zero ((f.zero m free).0 e)))
+      (λ e. (f.one m free).1 (to_u (same_below u w f h k) One ((h.one m free).0 e)))
       (λ e. (h.one m free).1 (to_w (same_below u w f h k) One ((f.one m free).0 e)))
     where
       low : ((n : ℕ) → r n < k → s.driver n ≡ None → w n ≡ u n) → (n : ℕ) → r n < r m → s.driver n ≡ None → w n ≡ u n

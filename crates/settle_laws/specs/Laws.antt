@@ -16,16 +16,19 @@ Marked marks n = marks n ≡ true
 -- where nothing waits the values are a solution
 abbrev pub ToldSolves : Type 0
 ToldSolves =
-    (s : Setting) (v : ℕ → Trit) (waits : ℕ → Bool) → IsTold s v (Marked waits) → ((n : ℕ) → Marked waits n → ⊥) → ((n : ℕ) (t : Trit) → s.driver n ≡ Some t → v n ≡ t) → IsSolution s v
+    (s : Setting) (v : ℕ → Trit) (waits : ℕ → Bool) → IsTold s v (Marked waits) → ((n : ℕ) → Marked waits n → ⊥)
+    → ((n : ℕ) (t : Trit) → s.driver n ≡ Some t → v n ≡ t) → IsSolution s v
 
 -- a solution with other drivers
 abbrev pub RedrivenTells : Type 0
 RedrivenTells =
     (s : Setting) (driver : ℕ → Option Trit) (v w : ℕ → Trit) (waits : ℕ → Bool)
-    → IsSolution s v → IsRedriven s driver v w (Marked waits) → IsTold (record { channels = s.channels; driver = driver; before = s.before }) w (Marked waits)
+    → IsSolution s v → IsRedriven s driver v w (Marked waits)
+    → IsTold (record { channels = s.channels; driver = driver; before = s.before }) w (Marked waits)
 
 -- a look at a cluster
 abbrev pub LooksTell : Type 0
 LooksTell =
     (s : Setting) (v w : ℕ → Trit) (cluster : List ℕ) (before after : ℕ → Bool)
-    → IsTold s v (Marked before) → IsLook s v w (Contains cluster) (Marked before) (Marked after) → IsTold s w (Marked after)
+    → IsTold s v (Marked before) → IsLook s v w (Contains cluster) (Marked before) (Marked after)
+    → IsTold s w (Marked after)

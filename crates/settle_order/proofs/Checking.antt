@@ -1,5 +1,6 @@
 -- What is checked of an order at each channel orders the settings that it serves.
-use Rattle.std.proofs.Common.{◌≡◌, ◌<◌, ◌≤◌, ◌+◌, ℕ, List, Option, Some, None, length, get_or, refl, sym, ◌∙◌, ap, subst, inl, inr, ◌⊎◌, arith}
+use Rattle.std.proofs.Common.{◌≡◌, ◌<◌, ◌≤◌, ◌+◌, ℕ, List, Option, Some, None, length, get_or, refl, sym, ◌∙◌, ap}
+use Rattle.std.proofs.Common.{subst, inl, inr, ◌⊎◌, arith}
 use Rattle.std.specs.Prelude.{Contains}
 use Rattle.std.proofs.lemmas.List.{get_or_default}
 use Rattle.mp_base.specs.declared.value.Trit.{Trit}
@@ -25,7 +26,8 @@ module _ (channels : List Channel) (demands : List Demand) (ranks : List ℕ) wh
   abbrev pub OrderedFirst : ℕ → Type 0
   OrderedFirst i = (k : ℕ) (c : Channel) → k < i → c ≡ get_or channels k c → IsChannelOrdered demands ranks c
 
-  pub ordered_more : (i : ℕ) (ch : Channel) → i < length channels → ch ≡ get_or channels i ch → IsChannelOrdered demands ranks ch → OrderedFirst i → OrderedFirst (i + 1)
+  pub ordered_more : (i : ℕ) (ch : Channel) → i < length channels → ch ≡ get_or channels i ch
+      → IsChannelOrdered demands ranks ch → OrderedFirst i → OrderedFirst (i + 1)
   ordered_more i ch inside at here h k c lt is = by_place (below_suc k i lt)
     where
       below_suc : (k i : ℕ) → k < i + 1 → (k < i) ⊎ (k ≡ i)
@@ -40,10 +42,14 @@ module _ (channels : List Channel) (demands : List Demand) (ranks : List ℕ) wh
   pub ordered_serves : (i : ℕ) → length channels ≤ i → OrderedFirst i → Serves channels demands ranks
   ordered_serves i le h s same fits = record {
     gates = λ c e in' kind free at_e free_e.
-        (each c (inside c in')).gate e kind (undriven_of (demand_at demands c.gate) (s.driver c.gate) (fits c.gate) free) at_e (undriven_of (demand_at demands e) (s.driver e) (fits e) free_e);
+        (each c (inside c in')).gate e kind
+        (undriven_of (demand_at demands c.gate) (s.driver c.gate) (fits c.gate) free) at_e
+        (undriven_of (demand_at demands e) (s.driver e) (fits e) free_e);
     joined = λ c a b in' whole at_a at_b free_a free_b.
-        (each c (inside c in')).joined a b (λ cut. whole (cut.0, low_of (demand_at demands c.gate) (s.driver c.gate) (fits c.gate) cut.1)) at_a at_b
-        (undriven_of (demand_at demands a) (s.driver a) (fits a) free_a) (undriven_of (demand_at demands b) (s.driver b) (fits b) free_b);
+        (each c (inside c in')).joined a b
+        (λ cut. whole (cut.0, low_of (demand_at demands c.gate) (s.driver c.gate) (fits c.gate) cut.1)) at_a at_b
+        (undriven_of (demand_at demands a) (s.driver a) (fits a) free_a)
+        (undriven_of (demand_at demands b) (s.driver b) (fits b) free_b);
   }
     where
       inside : (c : Channel) → Contains s.channels c → Contains channels c

@@ -31,12 +31,16 @@ FitAll demands drive = (n : ℕ) → Fits (demand_at demands n) (driver_at drive
 
 -- what an order's ranks must be at a channel, by what is asked
 pub record IsChannelOrdered (demands : List Demand) (ranks : List ℕ) (c : Channel) : Type 0 where
-  pub gate : (e : ℕ) → c.kind ≡ Enhancement → demand_at demands c.gate ≡ Undriven → Contains c.ends e → demand_at demands e ≡ Undriven → rank_at ranks c.gate < rank_at ranks e
-  pub joined : (a b : ℕ) → ((c.kind ≡ Enhancement) × (demand_at demands c.gate ≡ Low) → ⊥) → Contains c.ends a → Contains c.ends b → demand_at demands a ≡ Undriven → demand_at demands b ≡ Undriven → rank_at ranks a ≡ rank_at ranks b
+  pub gate : (e : ℕ) → c.kind ≡ Enhancement → demand_at demands c.gate ≡ Undriven → Contains c.ends e
+      → demand_at demands e ≡ Undriven → rank_at ranks c.gate < rank_at ranks e
+  pub joined : (a b : ℕ) → ((c.kind ≡ Enhancement) × (demand_at demands c.gate ≡ Low) → ⊥) → Contains c.ends a
+      → Contains c.ends b → demand_at demands a ≡ Undriven → demand_at demands b ≡ Undriven
+      → rank_at ranks a ≡ rank_at ranks b
 
 -- the ranks order each setting of these channels whose drivers are as they are asked
 abbrev pub Serves : List Channel → List Demand → List ℕ → Type 0
-Serves channels demands ranks = (s : Setting) → s.channels ≡ channels → ((n : ℕ) → Fits (demand_at demands n) (s.driver n)) → IsOrdered s (rank_at ranks)
+Serves channels demands ranks = (s : Setting) → s.channels ≡ channels
+    → ((n : ℕ) → Fits (demand_at demands n) (s.driver n)) → IsOrdered s (rank_at ranks)
 
 -- an entry for each of so many nodes
 pub record AreRoomy (room : ℕ) (order : Order) : Type 0 where

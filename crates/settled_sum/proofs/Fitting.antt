@@ -1,5 +1,5 @@
 -- What a program shows along inputs that fit its pads fits its outputs.
-use Rattle.std.proofs.Common.{◌≡◌, ℕ, zero, suc, ◌<◌, List, [], ◌∷◌, length, refl, ap, arith}
+use Rattle.std.proofs.Common.{ℕ, zero, suc, ◌<◌, List, [], ◌∷◌, length, arith}
 use Rattle.std.specs.Prelude.{All, slice_index_or}
 use Rattle.mp_base.specs.declared.pad.Pads.{Pads}
 use Rattle.mp_program.specs.declared.program.Program.{Program}
@@ -10,14 +10,6 @@ use Rattle.mp_fitting.specs.Fitting.{StateFits}
 use Rattle.stimulus.specs.Inputs.{Fit}
 use Rattle.trace_run.specs.Laws.{ClocksFit, StatesLast}
 use Rattle.trace_run.proofs.Inputs.{clock_fits}
-
--- a trace is as long as its inputs
-pub trace_long : (p : Program) (st : State) (inputs outputs : List (List ℕ)) → IsTraceFrom p st inputs outputs
-    → length outputs ≡ length inputs
-trace_long p st [] [] trace = refl
-trace_long p st [] (o ∷ os) trace = absurd trace
-trace_long p st (i ∷ inputs) [] trace = absurd trace
-trace_long p st (i ∷ inputs) (o ∷ os) trace = ap suc (trace_long p trace.0 inputs os trace.2)
 
 module _ (p : Program) (pads : Pads) (fits : ClocksFit p) (last : StatesLast p) (padded : ArePadsOf p pads) where
   pub trace_fits : (st : State) → IsState p st → StateFits p st → (inputs outputs : List (List ℕ))

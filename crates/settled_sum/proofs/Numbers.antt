@@ -1,28 +1,19 @@
 -- The bits of a value are its number again.
-use Rattle.std.proofs.Common.{◌≡◌, ◌∙◌, ℕ, zero, suc, ◌+◌, ◌*◌, ◌<◌, ◌^◌, ◌%◌, List, [], ◌∷◌, ◌++◌, length}
+use Rattle.std.proofs.Common.{◌≡◌, ◌∙◌, ℕ, zero, suc, ◌+◌, ◌*◌, ◌<◌, ◌^◌, ◌%◌, List, [], ◌∷◌, length}
 use Rattle.std.proofs.Common.{get_or, refl, sym, ap, subst, arith}
 use Rattle.std.specs.Prelude.{slice_index}
 use Rattle.std.specs.Int.{bit_at}
-use Rattle.std.proofs.Math.Nat.{two-pow-succ, mod-eq_of_lt}
+use Rattle.std.proofs.Math.Nat.{mod-eq_of_lt}
 use Rattle.std.proofs.lemmas.List.{length-append}
 use Rattle.std.proofs.lemmas.Nat.{mod-pow-add}
 use Rattle.std.proofs.lemmas.Nat.Bits.{bit_at-lt}
-use Rattle.mp_base.specs.declared.value.Trit.{Trit}
-use Rattle.mp_base.specs.declared.value.Trit.TheVariants.{Zero, One, X}
 use Rattle.mp_base.specs.declared.pad.Pad.{Pad}
 use Rattle.stimulus.specs.Bits.{bit_count, trit_of, low_bits, value_bits}
 use Rattle.stimulus.specs.Fitting.{bound_at}
 use Rattle.stimulus.specs.Transcript.{weight, number_of}
+use Rattle.stimulus.proofs.Bits.{number_more}
 use Rattle.transcript.proofs.Inputs.{same_count}
 use Rattle.settled_sum.specs.Sum.{first_number}
-
-pub number_more : (bits : List Trit) (b : Trit) → number_of (bits ++ b ∷ []) ≡ number_of bits + weight b * 2 ^ length bits
-number_more [] Zero = refl
-number_more [] One = refl
-number_more [] X = refl
-number_more (x ∷ bits) Zero = let e = number_more bits Zero in omega (arith, e)
-number_more (x ∷ bits) One = let e = number_more bits One in let d = two-pow-succ (length bits) in omega (arith, e, d)
-number_more (x ∷ bits) X = let e = number_more bits X in omega (arith, e)
 
 weight_of : (b : ℕ) → b < 2 → weight (trit_of b) ≡ b
 weight_of zero less = refl

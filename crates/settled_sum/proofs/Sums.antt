@@ -9,6 +9,7 @@ use Rattle.mp_base.specs.declared.value.Trit.{Trit}
 use Rattle.mp_program.specs.declared.program.Program.{Program}
 use Rattle.mp_program.specs.State.{IsState, zero_state}
 use Rattle.mp_program.specs.Trace.{IsSettled}
+use Rattle.mp_program.proofs.Lengths.{length_trace}
 use Rattle.mp_fitting.specs.Fitting.{StateFits}
 use Rattle.stimulus.specs.Inputs.{Fit, inputs_at, inputs_of}
 use Rattle.transcript.proofs.Inputs.{clocks_fit}
@@ -17,7 +18,7 @@ use Rattle.trace_run.proofs.Inputs.{many_outputs, outputs_fit}
 use Rattle.settled_sum.specs.Sum.{IsSettledSum, first_number, sum_shown}
 use Rattle.settled_sum.specs.Laws.{SumsSettle}
 use Rattle.settled_sum.proofs.Numbers.{first_value}
-use Rattle.settled_sum.proofs.Fitting.{trace_fits, trace_long}
+use Rattle.settled_sum.proofs.Fitting.{trace_fits}
 
 abbrev first : List ℕ → ℕ
 first values = slice_index values 0
@@ -48,7 +49,8 @@ sum_of p inputs (v ∷ vs) (s ∷ ss) unsettled settled some many agree = record
   settled = behind;
   unsettled = before;
   total_is =
-      ap (λ n. n % 2 ^ 64) (same_sums ss vs (omega (arith, many)) (λ k lt. agree (suc k) (omega (arith, lt)) (settled k))
+      ap (λ n. n % 2 ^ 64)
+      (same_sums ss vs (omega (arith, many)) (λ k lt. agree (suc k) (omega (arith, lt)) (settled k))
       ∙ sym (sum-map first vs) ∙ sym (none (sum (map first vs)))
       ∙ sym (sum_by-cons (λ (n : ℕ). n) 0 (map first vs)));
 }
@@ -72,7 +74,7 @@ module _ (p : Program) (fits : ClocksFit p) (last : StatesLast p) (is : IsState 
       let pads = given.pads in
       let inputs = inputs_of given in
       let all : All (Fit pads.inputs) inputs = clocks_fit pads.inputs given.clocks 0 given.fits in
-      let long = trace_long p (zero_state p) inputs outputs told.trace in
+      let long = length_trace p (zero_state p) inputs outputs told.trace in
       let many = length-map given.clocks (inputs_at (length pads.inputs)) in
       sum_of p inputs outputs shown clocks.first clocks.later (omega (arith, long, many, any)) told.as_many
       (λ k lt settled.

@@ -14,7 +14,8 @@ use Rattle.board_command.specs.Work.{WhereGiven}
 use Rattle.silicon.specs.Parts.{Moving, Moved}
 
 abbrev pub usage_line : List ℕ
-usage_line = codes "usage: macpitts trace SRC STIM or compile SRC CIF or replay SRC STIM CIF or sim CIF STIM or net CIF or stats SRC or board SRC CIF N LINK.. or make N CIF" ++ 10 ∷ []
+usage_line =
+    codes "usage: macpitts trace SRC STIM or compile SRC CIF or replay SRC STIM CIF or sim CIF STIM or net CIF or stats SRC or board SRC CIF N LINK.. or make N CIF" ++ 10 ∷ []
 
 -- the words are in no form exactly where this is said; then nothing is read
 abbrev pub IsForWords : Option Command → Status → Type 0

@@ -1,10 +1,11 @@
 -- Masks with a stimulus have one first fault at most.
 use Rattle.std.proofs.Common.{◌≡◌, List, ℕ, None, Option}
 use Rattle.mp_base.specs.Outside.{Files, bytes_of}
+use Rattle.mp_base.proofs.Decisions.{IsDetermined}
 use Rattle.switch_net.specs.Laws.{OneFirstOfCircuit}
 use Rattle.mask_net.specs.Laws.{OneNetwork}
 use Rattle.outcome.specs.Order.{Fault, OfRule}
-use Rattle.outcome.proofs.Determined.{IsDetermined, one_of_two, one_of_rule}
+use Rattle.outcome.proofs.Determined.{one_of_two, one_of_rule}
 use Rattle.source_files.specs.Faults.{PadsFault}
 use Rattle.mask_files.specs.Faults.{MaskFault}
 use Rattle.sim_command.specs.Simulated.{OfCircuit}
@@ -13,7 +14,8 @@ use Rattle.sim_command.proofs.Simulating.{SamePads, one_of_circuit}
 
 -- the laws of the crates below
 pub record Laws : Type 0 where
-  pub masks : (cif : List ℕ) (files : Files) (a b : Option Fault) → MaskFault cif files a → MaskFault cif files b → a ≡ b
+  pub masks : (cif : List ℕ) (files : Files) (a b : Option Fault) → MaskFault cif files a → MaskFault cif files b
+      → a ≡ b
   pub headed : (stimulus : List ℕ) (files : Files) (a b : Option Fault) → PadsFault None stimulus files a
       → PadsFault None stimulus files b → a ≡ b
   pub same_pads : SamePads

@@ -7,11 +7,13 @@ use Rattle.mp_base.specs.declared.refusal.Broken.{Broken}
 use Rattle.mp_base.specs.declared.refusal.Refusal.{Refusal}
 use Rattle.mp_base.specs.declared.refusal.Refusal.TheVariants as refusals
 use Rattle.mp_base.specs.Outside.{Files, bytes_of}
+use Rattle.mp_base.proofs.Decisions.{IsDetermined}
 use Rattle.switch_net.specs.declared.network.Network.{Network}
-use Rattle.switch_net.specs.Breaks.{HasPads, IsFirstOfCircuit, n3, n4}
+use Rattle.switch_net.specs.Breaks.{HasPads, IsFirstOfCircuit}
 use Rattle.switch_net.specs.Laws.{OneFirstOfCircuit}
 use Rattle.stimulus.specs.declared.given.Stimulus.{Stimulus}
 use Rattle.stimulus.specs.Reading.{IsStimulus}
+use Rattle.switch_net.proofs.Circuits.{breaks_nothing}
 use Rattle.mask_net.specs.Masks.{IsNetOf}
 use Rattle.mask_net.specs.Laws.{OneNetwork}
 use Rattle.clock_run.specs.Refused.{IsRefused}
@@ -21,16 +23,11 @@ use Rattle.sim_command.specs.Work.{work, SetUpFault}
 use Rattle.outcome.specs.Halt.{EndsBy, halt_of}
 use Rattle.sim_command.specs.Simulated.{IsSetUp, OfCircuit}
 use Rattle.outcome.specs.declared.halt.Halt.{Halt}
-use Rattle.outcome.proofs.Determined.{IsDetermined}
 use Rattle.outcome.proofs.Reasons.{ends_first, ends_second, if_second}
 
 -- a stimulus of a text has the same pads everywhere
 abbrev pub SamePads : Type 0
 SamePads = (text : List ℕ) (s t : Stimulus) → IsStimulus text None s → IsStimulus text None t → s.pads ≡ t.pads
-
-fits_breaks_nothing : (net : Network) (pads : Pads) (b : Broken) → HasPads net pads → IsFirstOfCircuit net pads b → ⊥
-fits_breaks_nothing net pads b fits (n3 i tag driven before) = fits.apart i (tag, driven)
-fits_breaks_nothing net pads b fits (n4 apart i name missing before) = fits.labelled i name missing
 
 module _ (network : OneNetwork) (same : SamePads) (first : OneFirstOfCircuit) (masks text : List ℕ) where
   -- what holds of a circuit holds of the same circuit, found again
@@ -46,13 +43,13 @@ module _ (network : OneNetwork) (same : SamePads) (first : OneFirstOfCircuit) (m
     t,
     y,
     broken,
-  ) = absurd (fits_breaks_nothing m t.pads b (again HasPads n m s t x y fits) broken)
+  ) = absurd (breaks_nothing m t.pads b (again HasPads n m s t x y fits) broken)
   one_of_circuit (Some a) None (n, s, x, broken) (
     m,
     t,
     y,
     fits,
-  ) = absurd (fits_breaks_nothing n s.pads a (again HasPads m n t s y x fits) broken)
+  ) = absurd (breaks_nothing n s.pads a (again HasPads m n t s y x fits) broken)
   one_of_circuit (Some a) (Some b) (n, s, x, broken) (m, t, y, other) =
       let e = first m t.pads a b (again (λ net pads. IsFirstOfCircuit net pads a) n m s t x y broken) other in cc
 

@@ -15,6 +15,7 @@ TranscriptExists =
 -- the transcript, and the values after, are determined
 abbrev pub TranscriptOnce : Type 0
 TranscriptOnce =
-    (net : Network) (given : Stimulus) (before v w : ℕ → Trit) (text other : List ℕ) → IsTranscript net given before v text
+    (net : Network) (given : Stimulus) (before v w : ℕ → Trit) (text other : List ℕ)
+    → IsTranscript net given before v text
     → IsTranscript net given before w other
     → (text ≡ other) × (v ≡ w)

@@ -40,7 +40,8 @@ impl<'a> Simulation<'a> {
     ///
     /// # Errors
     ///
-    /// N3 where a node has two drivers, or else N4 where a label of a pad, of power, of ground or of a phase is missing.
+    /// N3 where a node has two drivers, or else N4 where a label of a pad, of power, of ground or of a phase is
+    /// missing.
     pub fn open(
         alloc: Global,
         network: Network,
@@ -71,8 +72,8 @@ impl<'a> Simulation<'a> {
         self.circuit.values()
     }
 
-    /// Runs the circuit along the stimulus from the values that it has, and prints the line of each clock as it ends: its
-    /// number, from 0, and ` NAME=VALUE` for each output pad, where the value is `X` if one of its bits is unknown.
+    /// Runs the circuit along the stimulus from the values that it has, and prints the line of each clock as it ends:
+    /// its number, from 0, and ` NAME=VALUE` for each output pad, where the value is `X` if one of its bits is unknown.
     ///
     /// # Errors
     ///
@@ -80,7 +81,8 @@ impl<'a> Simulation<'a> {
     pub fn run<O: Sink>(&mut self, out: &mut O) -> Result<(), Failed>
         ensures network { self.new.network ≡ self.old.network }
         ensures given { self.new.given ≡ self.old.given }
-        ensures printed { PrintsTranscript (NetworkSteps self.old.network self.old.given.pads) self.old.given (value_at self.old.values) (value_at self.new.values) (O.held out.old) (O.held out.new) result }
+        ensures printed { PrintsTranscript (NetworkSteps self.old.network self.old.given.pads) self.old.given
+            (value_at self.old.values) (value_at self.new.values) (O.held out.old) (O.held out.new) result }
         ensures cause { HasCause (O.faults out.old) (O.faults out.new) result }
     {
         circuits_run();

@@ -3,8 +3,10 @@ use Rattle.std.proofs.Common.{◌≡◌, inl, inr, ℕ, zero, suc, ◌<◌, ◌�
 use Rattle.std.proofs.Common.{cond, List, [], ◌∷◌, ◌++◌, length, map, refl, sym, ◌∙◌, ap, subst, arith, not}
 use Rattle.std.specs.Prelude.{slice_get, slice_index, ◌==◌, ◌||◌}
 use Rattle.std.specs.List.{list_any, range_with_len}
-use Rattle.std.proofs.lemmas.Bool.{cases_eq, cases_lt, true≢false}
+use Rattle.std.proofs.lemmas.Bool.{cases_eq, cases_lt, true≢false, or_cases}
 use Rattle.std.proofs.lemmas.Option.{none-some, slice_get_cases}
+use Rattle.mp_base.proofs.Members.{Member, member_contains, contains_member, member_map, member_filter, range_members}
+use Rattle.mp_base.proofs.Entries.{some_entry, any_found}
 use Rattle.fabric.specs.declared.thing.Mark.{Mark}
 use Rattle.fabric.specs.declared.thing.Segment.{Segment}
 use Rattle.fabric.specs.declared.thing.Side.TheVariants.{L, R}
@@ -16,7 +18,7 @@ use Rattle.nor_net.specs.declared.net.Part.{Part}
 use Rattle.nor_net.specs.declared.net.Part.TheVariants.{Input, Gate, Latch}
 use Rattle.nor_net.specs.Elements.{spot}
 use Rattle.track_assign.specs.declared.packing.Tracks.{Tracks}
-use Rattle.array_form.specs.Homes.{beats, greatest, home, is_of, least, marks, numbers, phase_marks}
+use Rattle.array_form.specs.Homes.{beats, greatest, home, least, marks, numbers, phase_marks}
 use Rattle.array_form.specs.Homes.{phase_number, reads}
 use Rattle.array_form.specs.Laying.{AreTracks, band_segment, band_segments}
 use Rattle.array_form.specs.Lists.{mark_of}
@@ -25,11 +27,10 @@ use Rattle.array_form.specs.Wires.{Wire, row, beat, left, right, trunk, extra, p
 use Rattle.array_form.specs.Wires.{latch_data, latch_phase, stub_own}
 use Rattle.array_form.proofs.Homes.{greatest_in, least_in}
 use Rattle.array_form.proofs.Laid.{all_at}
-use Rattle.array_form.proofs.Listing.{has_member, in_range, same_from}
-use Rattle.array_form.proofs.Members.{Member, contains_member, member_append, member_contains, member_filter}
+use Rattle.array_form.proofs.Listing.{has_member, same_from}
+use Rattle.array_form.proofs.Members.{member_append}
 use Rattle.array_form.proofs.Members.{member_flat}
-use Rattle.array_form.proofs.Members.{member_map}
-use Rattle.array_form.proofs.Room.{any_member, or_cases}
+use Rattle.array_form.proofs.Ends.{one_phase}
 use Rattle.slice_form.specs.Path.{Path, Carry, Cast, Lift, Programmed, IsSlice, parts}
 use Rattle.slice_form.specs.PathLists.{slices_of}
 use Rattle.slice_form.specs.PathWires.{Across, cast_line, lift_line, lift_stub, chain_line, side_of, below, above}
@@ -41,10 +42,10 @@ use Rattle.slice_form.specs.Slices.{control_stub, is_input, is_some, lift_column
 use Rattle.slice_form.specs.Slices.{slice_columns, slice_homed, slice_stub}
 use Rattle.slice_form.specs.Whole.{path_of}
 use Rattle.slice_form.proofs.Lists.{slice_in}
+use Rattle.slice_form.proofs.Columned.{cast_of_column, lift_of_column, chain_of_column}
 use Rattle.slice_laying.specs.Added.{slice_cols, slice_segments}
 use Rattle.slice_laying.specs.Fitting.{AreSliceTracks}
 use Rattle.slice_laying.specs.Paths.{IsPlaceable}
-use Rattle.slice_laying.proofs.JointLines.{element_at}
 use Rattle.slice_laying.proofs.WholePaths.{placeable}
 use Rattle.slice_chip.specs.Ends.{EndsAreMarked, IsMarkedAt}
 use Rattle.slice_chip.specs.Sliced.{AreControlTracks, control_cols, path_laid}
@@ -53,70 +54,6 @@ use Rattle.slice_chip.proofs.MarksOf.{has_tie}
 use Rattle.slice_chip.proofs.TapsStand as stand
 
 -- ---- how a column comes to a list
-
--- a cast whose column is this
-pub cast_of_column : (test : Cast → Bool) (at : ℕ) (cs : List Cast) (x : ℕ) → Member (cast_columns test at cs) x
-    → (i : ℕ) × (c : Cast) × (slice_get cs i ≡ Some c) × (test c ≡ true) × (at + i ≡ x)
-cast_of_column test at [] x m = absurd m
-cast_of_column test at (a ∷ cs) x m =
-    elim (member_append (cond (test a) (at ∷ []) []) (cast_columns test (suc at) cs) x m) [
-      | inl k ↦ head (test a) refl k
-      | inr k ↦ (let w = cast_of_column test (suc at) cs x k in
-          (suc w.0, w.1, w.2, w.3, (let e = w.4 in let f : at + suc w.0 ≡ x = omega (arith, e) in f)))
-    ]
-  where
-    head : (t : Bool) → test a ≡ t → Member (cond t (at ∷ []) []) x
-        → (i : ℕ) × (c : Cast) × (slice_get (a ∷ cs) i ≡ Some c) × (test c ≡ true) × (at + i ≡ x)
-    head true e (inl q) = (0, a, refl, e, (let f : at + 0 ≡ x = omega (arith, q) in f))
-    head true e (inr q) = absurd q
-    head false e q = absurd q
-
-pub lift_of_column : (test : Lift → Bool) (at : ℕ) (cs : List Lift) (x : ℕ) → Member (lift_columns_of test at cs) x
-    → (i : ℕ) × (c : Lift) × (slice_get cs i ≡ Some c) × (test c ≡ true) × (at + i ≡ x)
-lift_of_column test at [] x m = absurd m
-lift_of_column test at (a ∷ cs) x m =
-    elim (member_append (cond (test a) (at ∷ []) []) (lift_columns_of test (suc at) cs) x m) [
-      | inl k ↦ head (test a) refl k
-      | inr k ↦ (let w = lift_of_column test (suc at) cs x k in
-          (suc w.0, w.1, w.2, w.3, (let e = w.4 in let f : at + suc w.0 ≡ x = omega (arith, e) in f)))
-    ]
-  where
-    head : (t : Bool) → test a ≡ t → Member (cond t (at ∷ []) []) x
-        → (i : ℕ) × (c : Lift) × (slice_get (a ∷ cs) i ≡ Some c) × (test c ≡ true) × (at + i ≡ x)
-    head true e (inl q) = (0, a, refl, e, (let f : at + 0 ≡ x = omega (arith, q) in f))
-    head true e (inr q) = absurd q
-    head false e q = absurd q
-
-pub chain_of_column : (at : ℕ → ℕ) (n : ℕ) (cs : List Carry) (x : ℕ) → Member (chain_starts at n cs) x
-    → (i : ℕ) × (c : Carry) × (slice_get cs i ≡ Some c) × (c.start ≡ n) × (at c.to ≡ x)
-chain_of_column at n [] x m = absurd m
-chain_of_column at n (a ∷ cs) x m =
-    elim (member_append (cond (a.start == n) (at a.to ∷ []) []) (chain_starts at n cs) x m) [
-      | inl k ↦ head (a.start == n) refl k
-      | inr k ↦ (let w = chain_of_column at n cs x k in (suc w.0, w.1, w.2, w.3, w.4))
-    ]
-  where
-    head : (t : Bool) → (a.start == n) ≡ t → Member (cond t (at a.to ∷ []) []) x
-        → (i : ℕ) × (c : Carry) × (slice_get (a ∷ cs) i ≡ Some c) × (c.start ≡ n) × (at c.to ≡ x)
-    head true e (inl q) = (0, a, refl, same_from a.start n e, q)
-    head true e (inr q) = absurd q
-    head false e q = absurd q
-
--- a test that some element passes
-any_of : {X : Type 0} (test : X → Bool) (xs : List X) → list_any test xs ≡ true
-    → (i : ℕ) × (x : X) × (slice_get xs i ≡ Some x) × (test x ≡ true)
-any_of test xs e = let w = any_member test xs e in (w.0, w.1, w.2, w.3)
-
-one_phase : (p q : Phase) → is_of p q ≡ true → p ≡ q
-one_phase A A e = refl
-one_phase A B e = absurd (cc e)
-one_phase A C e = absurd (cc e)
-one_phase B A e = absurd (cc e)
-one_phase B B e = refl
-one_phase B C e = absurd (cc e)
-one_phase C A e = absurd (cc e)
-one_phase C B e = absurd (cc e)
-one_phase C C e = refl
 
 -- three segments stand behind those of nets, one for each phase
 phase_of : (k n : ℕ) → n ≤ k → k < n + 3 → (ph : Phase) × (n + phase_number ph ≡ k)
@@ -199,7 +136,7 @@ module _ (p : Path) (ready : IsPlaceable p) (control slices : Tracks) (control_t
     bit_tie i g k h lt = by_bit there.0 there.1
       where
         there : (b : Bool) × (slice_get g.bits k ≡ Some b)
-        there = element_at g.bits k (let l = ((ready.path).programs i g h).1 in omega (arith, l, lt))
+        there = some_entry g.bits k (let l = ((ready.path).programs i g h).1 in omega (arith, l, lt))
 
         by_bit : (b : Bool) → slice_get g.bits k ≡ Some b → HasTie (suc k) g.net (home (plain_slice p) g.net)
         by_bit true e = record {
@@ -257,11 +194,11 @@ module _ (p : Path) (ready : IsPlaceable p) (control slices : Tracks) (control_t
           | inl q ↦ absurd (true≢false (sym q ∙ ap (is_some (λ q. not (is_input q))) h))
           | inr q ↦ elim (or_cases (list_any (λ (c : Carry). c.to == n) p.chains)
               (list_any (λ (g : Programmed). g.net == n) p.programs || slice_stub p n) q) [
-                | inl r ↦ (let w = any_of (λ (c : Carry). c.to == n) p.chains r in
+                | inl r ↦ (let w = any_found (λ (c : Carry). c.to == n) p.chains r in
                     let same = same_from w.1.to n w.3 in
                     subst (λ m. HasTie (suc k) m (home (plain_slice p) m)) same (chain_tie w.0 w.1 k w.2 lt).0)
                 | inr r ↦ elim (or_cases (list_any (λ (g : Programmed). g.net == n) p.programs) (slice_stub p n) r) [
-                  | inl s ↦ (let w = any_of (λ (g : Programmed). g.net == n) p.programs s in
+                  | inl s ↦ (let w = any_found (λ (g : Programmed). g.net == n) p.programs s in
                       let same = same_from w.1.net n w.3 in
                       subst (λ m. HasTie (suc k) m (home (plain_slice p) m)) same (bit_tie w.0 w.1 k w.2 lt))
                   | inr s ↦ stub_tie (suc k) n (omega (arith, lt)) h s
@@ -515,7 +452,7 @@ module _ (p : Path) (ready : IsPlaceable p) (control slices : Tracks) (control_t
     of_slice (suc b) s i k some =
         let w = member_map (band_segment (suc b) (slice_cols p) (slice_index slices.row))
         (range_with_len 0 (length p.slice + 3)) s k in
-        let r = (in_range 0 (length p.slice + 3) w.0 w.1).1 in
+        let r = (range_members 0 (length p.slice + 3) w.0 w.1).1 in
         ends_marked (suc b) w.0 s i.1 (omega (arith, r)) w.2 some
 
     pub each_marked : (s : Segment) → Member all.segments s → 1 ≤ s.first
@@ -525,7 +462,7 @@ module _ (p : Path) (ready : IsPlaceable p) (control slices : Tracks) (control_t
       | inl q ↦ elim (member_append low high s q) [
         | inl r ↦ (let w = member_map (band_segment 0 (control_cols p) (slice_index control.row))
             (range_with_len 0 (length p.control + 3)) s r in
-            let l = (in_range 0 (length p.control + 3) w.0 w.1).1 in
+            let l = (range_members 0 (length p.control + 3) w.0 w.1).1 in
             ends_marked 0 w.0 s (omega arith) (omega (arith, l)) w.2 some)
         | inr r ↦ (let w = member_flat (λ b. band_segments b (slice_cols p) (slice_index slices.row) p.slice)
             (slices_of p) s r in of_slice w.0 s (slice_in p (λ b n. false) w.0 w.1) w.2 some)

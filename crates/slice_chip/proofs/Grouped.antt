@@ -102,7 +102,8 @@ module _ (p : DataPath) (control slices : Tracks)
     of_control =
         ap (map span_of)
         (split 0
-        ∙ (λ i. own (control_cols whole) (slice_index control.row) p.control 0 (range_with_len 0 (length p.control + 3)) i
+        ∙ (λ i. own (control_cols whole) (slice_index control.row) p.control 0
+        (range_with_len 0 (length p.control + 3)) i
         ++ above (slice_cols whole) (slice_index slices.row) p.slices.net 0 1 p.width (omega arith) i)
         ∙ append-nil low)
         ∙ spans_packed 0 (control_columns whole) p.control (slice_index control.row)

@@ -4,6 +4,7 @@ use Rattle.std.proofs.Common.{List, [], ◌∷◌, ◌++◌, length, map, refl, 
 use Rattle.std.specs.Prelude.{slice_get, flat_map, slice_index}
 use Rattle.std.specs.List.{range_with_len}
 use Rattle.std.proofs.lemmas.List.{append-nil}
+use Rattle.mp_base.proofs.Lists.{map_append}
 use Rattle.fabric.specs.declared.thing.Side.TheVariants.{L, R}
 use Rattle.fabric.specs.declared.thing.Line.{Line}
 use Rattle.fabric.specs.Plan.{Plan}
@@ -31,10 +32,6 @@ use Rattle.slice_laying.specs.Fitting.{AreSliceTracks}
 use Rattle.slice_laying.specs.Paths.{IsPlaceable}
 use Rattle.slice_chip.specs.Sliced.{AreControlTracks, control_cols, path_laid}
 use Rattle.slice_chip.proofs.TapsStand.{cols, rows, counts, tops, tracks_at}
-
-map_append : {A B : Type 0} (g : A → B) (xs ys : List A) → map g (xs ++ ys) ≡ map g xs ++ map g ys
-map_append g [] ys = refl
-map_append g (x ∷ xs) ys = ap (λ l. g x ∷ l) (map_append g xs ys)
 
 -- lists that are the same in each band are the same in all
 flat_named : {A B D : Type 0} (g : ℕ → List A) (h : ℕ → List B) (k : A → D) (q : B → D)

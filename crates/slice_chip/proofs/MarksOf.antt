@@ -4,6 +4,8 @@ use Rattle.std.proofs.Common.{List, ◌∷◌, ◌++◌, length, map, refl, sym,
 use Rattle.std.specs.Prelude.{Contains, slice_get, flat_map, slice_index, max, ◌==◌}
 use Rattle.std.specs.List.{range_with_len}
 use Rattle.std.proofs.lemmas.Option.{slice_get_within}
+use Rattle.mp_base.proofs.Members.{Member, member_contains, contains_member, member_map, map_member, member_filter}
+use Rattle.mp_base.proofs.Members.{filter_member, range_members, range_has}
 use Rattle.tile_cells.specs.declared.tile.Tile.TheVariants.{TapL, TapR, PullUp}
 use Rattle.fabric.specs.declared.thing.Side.TheVariants.{L, R}
 use Rattle.fabric.specs.declared.thing.Mark.{Mark}
@@ -17,10 +19,10 @@ use Rattle.array_form.specs.Lists.{IsMadeOf, mark, mark_of, tap_tile}
 use Rattle.array_form.specs.Named.{Tie, tap, pull}
 use Rattle.array_form.specs.Wires.{Wire, row, beat, left, right, trunk, extra, to_ground, place}
 use Rattle.array_form.proofs.Bands.{marks_named}
-use Rattle.array_form.proofs.Listing.{in_range, range_has, listed_tie, tie_listed}
-use Rattle.array_form.proofs.Members.{Member, member_contains, contains_member, member_append, append_left}
+use Rattle.array_form.proofs.Listing.{listed_tie, tie_listed}
+use Rattle.array_form.proofs.Members.{member_append, append_left}
 use Rattle.array_form.proofs.Members.{append_right}
-use Rattle.array_form.proofs.Members.{member_map, map_member, member_flat, flat_member, member_filter, filter_member}
+use Rattle.array_form.proofs.Members.{member_flat, flat_member}
 use Rattle.slice_form.specs.Path.{Path, Carry, Cast, Lift, Programmed, IsSlice, parts}
 use Rattle.slice_form.specs.PathLists.{slices_of, others_of, path_rows, path_columns, path_ties}
 use Rattle.slice_form.specs.PathWires.{Across, cast_line, lift_line, lift_stub, chain_line, side_of, below, above}
@@ -71,7 +73,7 @@ module _ (p : Path) (ready : IsPlaceable p) (control slices : Tracks) (control_t
     -- ---- each mark is of a tie
 
     in_below : (k : ℕ) → Member (range_with_len 0 p.width) k → k < p.width
-    in_below k h = let r = (in_range 0 p.width k h).1 in omega (arith, r)
+    in_below k h = let r = (range_members 0 p.width k h).1 in omega (arith, r)
 
     of_control : (k : Mark) → Member (band_marks 0 (suc control.rows) crow (control_columns p) p.control) k → IsTied k
     of_control k h =

@@ -1,12 +1,12 @@
 -- The marks of a path's fabric are taps, transistors and pull-ups.
 use Rattle.std.proofs.Common.{◌≢◌, ◌∙◌, sym, ap, subst}
+use Rattle.mp_base.proofs.Members.{contains_member, member_map}
 use Rattle.tile_cells.specs.declared.tile.Tile.TheVariants.{Under}
 use Rattle.fabric.specs.declared.thing.Mark.{Mark}
 use Rattle.fabric.specs.declared.thing.Side.TheVariants.{L, R}
 use Rattle.array_form.specs.Lists.{Layout, mark_of}
 use Rattle.array_form.specs.Named.{Tie, tap, tran, pull}
 use Rattle.array_form.specs.Wires.{Wire}
-use Rattle.array_form.proofs.Members.{contains_member, member_map}
 use Rattle.slice_form.specs.PathLists.{path_ties}
 use Rattle.slice_form.specs.PathWires.{Across}
 use Rattle.slice_form.specs.Whole.{path_of}

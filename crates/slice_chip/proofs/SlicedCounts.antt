@@ -1,13 +1,14 @@
 -- How much stands in the fabric of a path.
-use Rattle.std.proofs.Common.{◌≡◌, ℕ, zero, suc, ◌≤◌, ◌+◌, ◌*◌, Option, Some, None, Bool, true, false, cond}
-use Rattle.std.proofs.Common.{List, [], ◌∷◌, ◌++◌, length, map, filter, refl, sym, ◌∙◌, ap, subst, arith, not, inl, inr}
+use Rattle.std.proofs.Common.{◌≡◌, ℕ, suc, ◌≤◌, ◌+◌, ◌*◌, Option, Some, None, Bool, true, false}
+use Rattle.std.proofs.Common.{List, [], ◌∷◌, ◌++◌, length, map, sym, ◌∙◌, ap, subst, arith, not}
 use Rattle.std.specs.Prelude.{slice_get, flat_map, slice_index, max, ◌==◌}
 use Rattle.std.specs.List.{range_with_len, sum_by}
 use Rattle.std.proofs.Math.Nat.{mul-le-mul_left, mul-le-mul_right}
-use Rattle.std.proofs.lemmas.Bool.{cases_Bool}
 use Rattle.std.proofs.lemmas.List.{length-append, length-map}
 use Rattle.std.proofs.lemmas.List.FromFn.{length-range_with_len, length-map-range_with_len}
 use Rattle.std.proofs.lemmas.List.Sums.{sum_by-cons, sum_by-append}
+use Rattle.mp_base.proofs.Ranges.{flat_most, ones, flat_count}
+use Rattle.mp_base.proofs.Lists.{filter_few}
 use Rattle.tile_cells.specs.declared.tile.Tile.TheVariants.{TapL, TapR, PullUp}
 use Rattle.fabric.specs.declared.thing.Side.{Side}
 use Rattle.fabric.specs.declared.thing.Side.TheVariants.{L, R}
@@ -43,14 +44,6 @@ use Rattle.slice_chip.proofs.ControlRoom.{bands_are, rows_above}
 
 -- ---- sums
 
-flat_most : {A : Type 0} (size : A → ℕ) (g : ℕ → List A) (most a n : ℕ) → ((i : ℕ) → sum_by size (g i) ≤ most)
-    → sum_by size (flat_map g (range_with_len a n)) ≤ n * most
-flat_most size g most a zero h = omega arith
-flat_most size g most a (suc n) h =
-    let i = flat_most size g most (a + 1) n h in
-    let s = sum_by-append size (g a) (flat_map g (range_with_len (a + 1) n)) in
-    let b = h a in omega (arith, i, s, b)
-
 map_most : {A : Type 0} (size : A → ℕ) (g : ℕ → A) (most : ℕ) → ((i : ℕ) → size (g i) ≤ most) → (xs : List ℕ)
     → sum_by size (map g xs) ≤ length xs * most
 map_most size g most h [] = omega arith
@@ -58,26 +51,6 @@ map_most size g most h (x ∷ xs) =
     let i = map_most size g most h xs in
     let s = sum_by-cons size (g x) (map g xs) in
     let b = h x in omega (arith, i, s, b)
-
-filter_few : {A : Type 0} (test : A → Bool) (xs : List A) → length (filter test xs) ≤ length xs
-filter_few test [] = omega arith
-filter_few test (x ∷ xs) = let i = filter_few test xs in elim (cases_Bool (test x)) [
-  | inl e ↦ subst (λ t. length (cond t (x ∷ filter test xs) (filter test xs)) ≤ length (x ∷ xs)) (sym e)
-      (omega (arith, i))
-  | inr e ↦ subst (λ t. length (cond t (x ∷ filter test xs) (filter test xs)) ≤ length (x ∷ xs)) (sym e)
-      (omega (arith, i))
-]
-
-ones : {A : Type 0} (xs : List A) → sum_by (λ (a : A). 1) xs ≡ length xs
-ones [] = refl
-ones (x ∷ xs) = let i = ones xs in let e = sum_by-cons (λ a. 1) x xs in omega (arith, i, e)
-
--- at most so many in each of n places
-flat_count : {A : Type 0} (g : ℕ → List A) (most a n : ℕ) → ((i : ℕ) → length (g i) ≤ most)
-    → length (flat_map g (range_with_len a n)) ≤ n * most
-flat_count g most a n h =
-    let m = flat_most (λ x. 1) g most a n (λ i. (let o = ones (g i) in let b = h i in omega (arith, o, b))) in
-    let o = ones (flat_map g (range_with_len a n)) in omega (arith, m, o)
 
 module _ (p : Path) where
   slices_long : length (slices_of p) ≡ p.width

@@ -3,6 +3,7 @@ use Rattle.std.proofs.Common.{◌≡◌, inl, inr, ℕ, zero, suc, ◌<◌, ◌�
 use Rattle.std.proofs.Common.{List, [], ◌++◌, length, refl, sym, ap, subst, arith}
 use Rattle.std.specs.Prelude.{slice_get, flat_map, slice_index}
 use Rattle.std.specs.List.{range_with_len}
+use Rattle.mp_base.proofs.Members.{Member, map_member, range_members, range_has}
 use Rattle.tile_cells.specs.declared.tile.Tile.TheVariants.{TapL}
 use Rattle.fabric.specs.declared.thing.Line.{Line}
 use Rattle.fabric.specs.declared.thing.Mark.{Mark}
@@ -13,8 +14,7 @@ use Rattle.array_form.specs.Homes.{phase_number}
 use Rattle.array_form.specs.Laying.{AreTracks, band_segment, band_marks}
 use Rattle.array_form.specs.Lists.{mark}
 use Rattle.array_form.proofs.Added.{added_is_fabric}
-use Rattle.array_form.proofs.Listing.{in_range, range_has}
-use Rattle.array_form.proofs.Members.{Member, member_append, append_left, append_right, member_flat, map_member}
+use Rattle.array_form.proofs.Members.{member_append, append_left, append_right, member_flat}
 use Rattle.array_form.proofs.Pairs.{Pairs, pairs_append, pairs_flat_range}
 use Rattle.slice_form.specs.Joints.{joint_lines}
 use Rattle.slice_form.specs.Path.{Path, Cast, Lift, parts}
@@ -150,7 +150,7 @@ module _ (p : Path) (ready : IsPlaceable p) (control slices : Tracks) (below : A
         let w = member_flat (λ i. control_cast_taps crow i (slice_get p.casts i)) (range_with_len 0
         (length p.casts)) m k
         in
-        let r = (in_range 0 (length p.casts) w.0 w.1).1 in
+        let r = (range_members 0 (length p.casts) w.0 w.1).1 in
         let u = cast_stands w.0 (slice_get p.casts w.0) m refl w.2 in let c = u.2 in
         (u.0, u.1, omega (arith, c), omega (arith, c, r))
 
@@ -160,7 +160,7 @@ module _ (p : Path) (ready : IsPlaceable p) (control slices : Tracks) (below : A
         let w = member_flat (λ i. control_lift_taps p crow i (slice_get p.lifts i)) (range_with_len 0
         (length p.lifts)) m
         k in
-        let r = (in_range 0 (length p.lifts) w.0 w.1).1 in
+        let r = (range_members 0 (length p.lifts) w.0 w.1).1 in
         let u = lift_stands w.0 (slice_get p.lifts w.0) m refl w.2 in let c = u.2 in
         (u.0, u.1, omega (arith, c), omega (arith, c, r))
 
@@ -234,7 +234,7 @@ module _ (p : Path) (ready : IsPlaceable p) (control slices : Tracks) (below : A
     -- ---- nor where another mark stands
 
     in_slices : (b : ℕ) → Member (slices_of p) b → 1 ≤ b
-    in_slices b m = (in_range 1 p.width b m).0
+    in_slices b m = (range_members 1 p.width b m).0
 
     taps_new : (m k : Mark) → Member before.marks m → Member (control_taps p crow) k → MarksApart m k
     taps_new m k q s b r e =

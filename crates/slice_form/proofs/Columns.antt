@@ -37,6 +37,9 @@ use Rattle.std.specs.Prelude.{Contains, slice_get, flat_map, ◌≢◌}
 use Rattle.std.specs.List.{range_with_len}
 use Rattle.std.proofs.lemmas.Bool.{cases_Bool}
 use Rattle.std.proofs.lemmas.Option.{slice_get_within}
+use Rattle.mp_base.proofs.Members.{Member, member_contains, contains_member, member_map, map_member, member_filter}
+use Rattle.mp_base.proofs.Members.{filter_member, range_members, range_has}
+use Rattle.mp_base.proofs.Entries.{some_entry}
 use Rattle.nor_net.specs.declared.net.Phase.{Phase}
 use Rattle.nor_net.specs.declared.net.Phase.TheVariants.{A, B, C}
 use Rattle.nor_net.specs.declared.net.NetId.{NetId}
@@ -47,20 +50,12 @@ use Rattle.array_form.specs.Wires.{Wire, row, beat, left, right, trunk, extra, t
 use Rattle.array_form.specs.Band.{band_rows, band_columns, net_columns}
 use Rattle.array_form.specs.Lists.{InLists}
 use Rattle.array_form.proofs.Members.{
-  Member,
-  member_contains,
-  contains_member,
   member_append,
   append_left,
   append_right,
-  member_map,
-  map_member,
   member_flat,
   flat_member,
-  member_filter,
-  filter_member,
 }
-use Rattle.array_form.proofs.Listing.{in_range, range_has}
 use Rattle.slice_form.specs.Path.{Path, Carry, Cast, Lift, Programmed, parts, IsSlice}
 use Rattle.slice_form.specs.PathWires.{
   Across,
@@ -85,13 +80,6 @@ use Rattle.slice_form.specs.PathLists.{
   path_columns,
 }
 use Rattle.slice_form.proofs.Lists.{band_in, in_bands, slice_in, in_slices, not_same, same_not}
-
-some_at : {A : Type 0} (xs : List A) (i : ℕ) → i < length xs → (x : A) × (slice_get xs i ≡ Some x)
-some_at xs i h = elim (Rattle.std.proofs.lemmas.Option.slice_get_cases xs i).1 [
-  | inl w ↦ (w.0, w.2)
-  | inr w ↦ absurd
-      (omega (arith, w.0))
-]
 
 module _ (p : Path) (stub : ℕ → ℕ → Bool) where
   abbrev Wires : Type 0
@@ -166,8 +154,8 @@ module _ (p : Path) (stub : ℕ → ℕ → Bool) where
       | inl k ↦ of_trunk k
       | inr k ↦ elim (member_append casts (lifts ++ (bits ++ chains)) w k) [
         | inl k ↦ (let u = member_map (λ i. extra (cast_line i)) (range_with_len 0 (length p.casts)) w k in
-            let r = (in_range 0 (length p.casts) u.0 u.1).1 in
-            subst (InPath p stub) u.2 (some_at p.casts u.0 (omega arith)))
+            let r = (range_members 0 (length p.casts) u.0 u.1).1 in
+            subst (InPath p stub) u.2 (some_entry p.casts u.0 (omega arith)))
         | inr k ↦ elim (member_append lifts (bits ++ chains) w k) [
           | inl k ↦ (let u = member_flat (λ i. lift_columns p i (slice_get p.lifts i))
               (range_with_len 0 (length p.lifts)) w k in lift_column u.0 (slice_get p.lifts u.0) w refl u.2)
@@ -176,9 +164,9 @@ module _ (p : Path) (stub : ℕ → ℕ → Bool) where
                 (range_with_len 0 (length p.programs)) w k in bit_column u.0 (slice_get p.programs u.0) w refl u.2)
             | inr k ↦ (let u = member_flat (λ i. map (λ g. extra (chain_line i g)) (bands_of p))
                 (range_with_len 0 (length p.chains)) w k in
-                let r = (in_range 0 (length p.chains) u.0 u.1).1 in
+                let r = (range_members 0 (length p.chains) u.0 u.1).1 in
                 let v = member_map (λ g. extra (chain_line u.0 g)) (bands_of p) w u.2 in
-                let c = some_at p.chains u.0 (omega arith) in
+                let c = some_entry p.chains u.0 (omega arith) in
                 subst (InPath p stub) v.2 (c.0, c.1, band_in p stub v.0 v.1))
           ]
         ]
@@ -198,7 +186,7 @@ module _ (p : Path) (stub : ℕ → ℕ → Bool) where
       elim (member_append (map (λ n. row (place u.0 n)) (range_with_len 0 (length (parts p u.0))))
       (beat u.0 A ∷ beat u.0 B ∷ beat u.0 C ∷ []) w u.2) [
         | inl k ↦ (let v = member_map (λ n. row (place u.0 n)) (range_with_len 0 (length (parts p u.0))) w k in
-            let r = (in_range 0 (length (parts p u.0)) v.0 v.1).1 in
+            let r = (range_members 0 (length (parts p u.0)) v.0 v.1).1 in
             subst (InPath p stub) v.2 (band_in p stub u.0 u.1, (omega arith)))
         | inr k ↦ of_beat u.0 (band_in p stub u.0 u.1) k
       ]

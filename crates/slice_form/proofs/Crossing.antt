@@ -35,8 +35,10 @@ use Rattle.std.proofs.Common.{
 }
 use Rattle.std.specs.Prelude.{Contains, slice_get, ◌≢◌, ◌||◌, min, max}
 use Rattle.std.specs.List.{list_any}
-use Rattle.std.proofs.lemmas.Bool.{cases_Bool}
 use Rattle.std.proofs.lemmas.Option.{slice_get_within}
+use Rattle.mp_base.proofs.Members.{Member}
+use Rattle.std.proofs.lemmas.Map.Keys.{any_passes_from_place}
+use Rattle.std.proofs.lemmas.Bool.{or_right, or_left}
 use Rattle.fabric.specs.declared.thing.Side.{Side}
 use Rattle.fabric.specs.declared.thing.Side.TheVariants.{L, R}
 use Rattle.fabric.specs.Plan.{Passes, Crosses}
@@ -50,7 +52,7 @@ use Rattle.array_form.specs.Lists.{Layout, Crossing, upright, stretch}
 use Rattle.array_form.specs.Homes.{Columns, home, marks, phase_marks, phase_number, least, greatest}
 use Rattle.array_form.specs.Laying.{AreTracks, band_segment}
 use Rattle.array_form.specs.BandLayout.{Bands, layout}
-use Rattle.array_form.proofs.Members.{Member, contains_member, append_left, append_right, member_contains}
+use Rattle.array_form.proofs.Members.{append_left, append_right}
 use Rattle.array_form.proofs.Listing.{same_to}
 use Rattle.array_form.proofs.Homes.{least_below, greatest_above, own_mark, more_mark}
 use Rattle.array_form.proofs.Bands.{net_crossing}
@@ -102,16 +104,7 @@ use Rattle.slice_form.specs.Slices.{
   lift_top,
 }
 
-any_has : {A : Type 0} (test : A → Bool) (xs : List A) (i : ℕ) (x : A) → slice_get xs i ≡ Some x → test x ≡ true
-    → list_any test xs ≡ true
-any_has test [] i x h e = absurd (cc h)
-any_has test (a ∷ xs) zero x h e = let same : a ≡ x = cc in ap (λ t. t || list_any test xs) (ap test same ∙ e)
-any_has test (a ∷ xs) (suc i) x h e = elim (cases_Bool (test a)) [
-  | inl q ↦ ap (λ t. t || list_any test xs) q
-  | inr q ↦ ap (λ t. t || list_any test xs) q ∙ any_has test xs i x h e
-]
-
-cast_has : (test : Cast → Bool) (at : ℕ) (cs : List Cast) (i : ℕ) (c : Cast) → slice_get cs i ≡ Some c
+pub cast_has : (test : Cast → Bool) (at : ℕ) (cs : List Cast) (i : ℕ) (c : Cast) → slice_get cs i ≡ Some c
     → test c ≡ true → Member (cast_columns test at cs) (at + i)
 cast_has test at [] i c h e = absurd (cc h)
 cast_has test at (a ∷ cs) zero c h e =
@@ -123,7 +116,7 @@ cast_has test at (a ∷ cs) (suc i) c h e =
     append_right (cond (test a) (at ∷ []) []) (cast_columns test (suc at) cs) (at + suc i)
     (subst (Member (cast_columns test (suc at) cs)) z (cast_has test (suc at) cs i c h e))
 
-lift_has : (test : Lift → Bool) (at : ℕ) (cs : List Lift) (i : ℕ) (c : Lift) → slice_get cs i ≡ Some c
+pub lift_has : (test : Lift → Bool) (at : ℕ) (cs : List Lift) (i : ℕ) (c : Lift) → slice_get cs i ≡ Some c
     → test c ≡ true → Member (lift_columns_of test at cs) (at + i)
 lift_has test at [] i c h e = absurd (cc h)
 lift_has test at (a ∷ cs) zero c h e =
@@ -146,14 +139,6 @@ start_has at (a ∷ cs) zero c h =
 start_has at (a ∷ cs) (suc i) c h = append_right (cond (a.start == c.start) (at a.to ∷ []) [])
     (chain_starts at c.start cs) (at c.to) (start_has at cs i c h)
 
-or_right : (a b : Bool) → b ≡ true → (a || b) ≡ true
-or_right true b e = refl
-or_right false b e = e
-
-or_left : (a b : Bool) → a ≡ true → (a || b) ≡ true
-or_left true b e = refl
-or_left false b e = absurd (cc e)
-
 module _ (p : Path) where
   pub homed_end : (i : ℕ) (c : Carry) → slice_get p.chains i ≡ Some c → slice_homed p c.to ≡ true
   homed_end i c h =
@@ -162,7 +147,7 @@ module _ (p : Path) where
       (list_any (λ (g : Programmed). g.net == c.to) p.programs || slice_stub p c.to))
       (or_left (list_any (λ (a : Carry). a.to == c.to) p.chains)
       (list_any (λ (g : Programmed). g.net == c.to) p.programs || slice_stub p c.to)
-      (any_has (λ (a : Carry). a.to == c.to) p.chains i c h (same_to c.to c.to refl)))
+      (any_passes_from_place (λ (a : Carry). a.to == c.to) p.chains i c h (same_to c.to c.to refl)))
 
   pub homed_bit : (i : ℕ) (g : Programmed) → slice_get p.programs i ≡ Some g → slice_homed p g.net ≡ true
   homed_bit i g h =
@@ -172,7 +157,7 @@ module _ (p : Path) where
       (or_right (list_any (λ (a : Carry). a.to == g.net) p.chains)
       (list_any (λ (a : Programmed). a.net == g.net) p.programs || slice_stub p g.net)
       (or_left (list_any (λ (a : Programmed). a.net == g.net) p.programs) (slice_stub p g.net)
-      (any_has (λ (a : Programmed). a.net == g.net) p.programs i g h (same_to g.net g.net refl))))
+      (any_passes_from_place (λ (a : Programmed). a.net == g.net) p.programs i g h (same_to g.net g.net refl))))
 
 module _ (p : Path) (path : IsPath p) (cols : ℕ → ℕ → List ℕ) (row_of : ℕ → ℕ → ℕ) (rows : ℕ → ℕ) (k : ℕ → ℕ)
     (tracks : (b : ℕ) → b ≤ p.width → AreTracks (columns_of p b) (parts p b) (cols b) (row_of b) (k b)) where

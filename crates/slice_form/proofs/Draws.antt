@@ -1,6 +1,7 @@
 -- A fabric whose marks tie what a placed path ties draws the path's nets.
 use Rattle.std.proofs.Common.{◌≡◌, ℕ, ◌<◌, ◌≤◌, Option, Some, Bool, true, List, refl, sym}
 use Rattle.std.specs.Prelude.{Contains, slice_get}
+use Rattle.mp_base.proofs.Members.{member_contains, contains_member}
 use Rattle.switch_net.specs.declared.network.Network.{Network}
 use Rattle.fabric.specs.Plan.{Plan, IsFabric}
 use Rattle.fabric.specs.Switches.{Net, power, AreSwitches}
@@ -18,7 +19,6 @@ use Rattle.slice_form.proofs.Tapped.{rooted, hubs, switches}
 use Rattle.array_form.specs.Named.{Tie}
 use Rattle.array_form.specs.Lists.{Layout, net_of, Crossing, IsMadeOf}
 use Rattle.array_form.proofs.Made.{named}
-use Rattle.array_form.proofs.Members.{member_contains, contains_member}
 use Rattle.slice_form.specs.PathLists.{path_rows, path_columns, path_ties}
 use Rattle.slice_form.proofs.Lists.{path_listed, path_in_list}
 use Rattle.slice_form.proofs.Columns.{path_lists, lists_path}

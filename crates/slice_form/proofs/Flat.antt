@@ -35,6 +35,7 @@ use Rattle.std.specs.List.{range_with_len}
 use Rattle.std.proofs.lemmas.Bool.{cases_eq}
 use Rattle.std.proofs.lemmas.Option.{slice_get_within}
 use Rattle.std.proofs.lemmas.List.Elements.{All-contains}
+use Rattle.mp_base.proofs.Members.{member_contains, range_has}
 use Rattle.switch_net.specs.declared.network.Network.{Network}
 use Rattle.fabric.specs.Plan.{Plan, IsFabric}
 use Rattle.fabric.specs.Switches.{Net, AreSwitches}
@@ -50,8 +51,6 @@ use Rattle.array_form.specs.Named.{Tie}
 use Rattle.array_form.specs.Wires.{Wire, place}
 use Rattle.array_form.specs.Lists.{IsMadeOf, net_of}
 use Rattle.array_form.specs.Laying.{AreTracks}
-use Rattle.array_form.proofs.Members.{member_contains}
-use Rattle.array_form.proofs.Listing.{range_has}
 use Rattle.slice_form.specs.Path.{
   Path,
   Carry,

@@ -19,7 +19,6 @@ use Rattle.std.proofs.Common.{
   ◌&&◌,
   List,
   [],
-  ◌∷◌,
   length,
   get_or,
   refl,
@@ -33,6 +32,8 @@ use Rattle.std.specs.Prelude.{slice_get, ◌||◌, take, map, filter, max}
 use Rattle.std.specs.List.{list_any}
 use Rattle.std.proofs.lemmas.List.Folds.{list_any_more}
 use Rattle.std.proofs.lemmas.Option.{slice_get-get_or}
+use Rattle.mp_base.proofs.Tests.{cond_true_is_or}
+use Rattle.mp_base.proofs.Lists.{take_whole}
 use Rattle.nor_net.specs.declared.net.Part.{Part}
 use Rattle.nor_net.specs.declared.net.Part.TheVariants.{Input, Gate, Latch}
 use Rattle.array_form.specs.declared.band.Band.{Band}
@@ -43,13 +44,7 @@ use Rattle.slice_form.specs.Slices as slices
 use Rattle.slice_form.specs.Slices.{any_below, is_some, is_unread, control_stub, control_columns}
 use Rattle.slice_form.proofs.Flat.{flat}
 
-last_or : (a b : Bool) → cond b true a ≡ (a || b)
-last_or true true = refl
-last_or true false = refl
-last_or false true = refl
-last_or false false = refl
-
-below_any : (k : ℕ) (xs : List Part) (n : ℕ) → n ≤ length xs
+pub below_any : (k : ℕ) (xs : List Part) (n : ℕ) → n ≤ length xs
     → any_below (λ j. reads k (slice_get xs j)) n ≡ list_any (λ q. reads k (Some q)) (take n xs)
 below_any k xs zero h = refl
 below_any k xs (suc n) h =
@@ -58,28 +53,24 @@ below_any k xs (suc n) h =
     let e : suc n ≡ n + 1 = omega arith in
     ap (λ b. cond b true (any_below (λ j. reads k (slice_get xs j)) n)) (ap (reads k) (slice_get-get_or xs n Input lt))
     ∙ ap (λ a. cond (reads k (Some (get_or xs n Input))) true a) i
-    ∙ last_or (list_any (λ q. reads k (Some q)) (take n xs)) (reads k (Some (get_or xs n Input)))
+    ∙ cond_true_is_or (list_any (λ q. reads k (Some q)) (take n xs)) (reads k (Some (get_or xs n Input)))
     ∙ sym (list_any_more (λ q. reads k (Some q)) xs n Input lt)
     ∙ ap (λ m. list_any (λ q. reads k (Some q)) (take m xs)) (sym e)
 
-take_whole : {A : Type 0} (xs : List A) → take (length xs) xs ≡ xs
-take_whole [] = refl
-take_whole (x ∷ xs) = ap (λ ys. x ∷ ys) (take_whole xs)
-
-read_same : (parts : List Part) (n : ℕ) → is_unread parts n ≡ not (is_read parts n)
+pub read_same : (parts : List Part) (n : ℕ) → is_unread parts n ≡ not (is_read parts n)
 read_same parts n = ap not (below_any n parts (length parts) (omega arith)
     ∙ ap (list_any (λ q. reads n (Some q))) (take_whole parts))
 
-input_same : (q : Part) → slices.is_input q ≡ is_input q
+pub input_same : (q : Part) → slices.is_input q ≡ is_input q
 input_same Input = refl
 input_same (Gate ins) = refl
 input_same (Latch ph s) = refl
 
-test_same : (o : Option Part) → is_some slices.is_input o ≡ part_is is_input o
+pub test_same : (o : Option Part) → is_some slices.is_input o ≡ part_is is_input o
 test_same None = refl
 test_same (Some q) = input_same q
 
-other_same : (o : Option Part) → is_some (λ q. not (slices.is_input q)) o ≡ part_is (λ q. not (is_input q)) o
+pub other_same : (o : Option Part) → is_some (λ q. not (slices.is_input q)) o ≡ part_is (λ q. not (is_input q)) o
 other_same None = refl
 other_same (Some q) = ap not (input_same q)
 

@@ -37,6 +37,7 @@ use Rattle.std.specs.Prelude.{Contains, slice_get, flat_map, ◌≢◌, min, max
 use Rattle.std.specs.List.{range_with_len}
 use Rattle.std.proofs.lemmas.Bool.{cases_Bool}
 use Rattle.std.proofs.lemmas.Option.{slice_get_within}
+use Rattle.mp_base.proofs.Members.{Member, member_map, member_filter, range_members}
 use Rattle.fabric.specs.declared.thing.Mark.{Mark}
 use Rattle.fabric.specs.declared.thing.Side.TheVariants.{L, R}
 use Rattle.fabric.specs.Plan.{MarksApart}
@@ -47,10 +48,10 @@ use Rattle.array_form.specs.Wires.{Wire, row, beat, left, right, trunk, extra, t
 use Rattle.array_form.specs.Lists.{Layout, mark_of}
 use Rattle.array_form.specs.Homes.{home, phase_number, least, greatest}
 use Rattle.array_form.specs.Laying.{AreTracks}
-use Rattle.array_form.proofs.Members.{Member, member_append, member_map, member_flat, member_filter}
-use Rattle.array_form.proofs.Listing.{in_range}
+use Rattle.array_form.proofs.Members.{member_append, member_flat}
 use Rattle.array_form.proofs.Homes.{least_below, greatest_above}
 use Rattle.array_form.proofs.Pairs.{Each, each_at, each_from, Pairs, pairs_append, pairs_map_range, pairs_flat_range}
+use Rattle.array_form.proofs.Pairs.{pairs_filter}
 use Rattle.slice_form.specs.Path.{Path, Carry, Cast, Lift, Programmed, parts, IsPath, IsSlice}
 use Rattle.slice_form.specs.PathWires.{
   Across,
@@ -76,7 +77,7 @@ use Rattle.slice_form.specs.PathLists.{
 }
 use Rattle.slice_form.specs.Slices.{columns_of, chain_column, lift_column, plain_slice}
 use Rattle.slice_form.proofs.Lists.{slice_in, not_same}
-use Rattle.slice_form.proofs.Joints.{pairs_filter, pairs_map_of, range_rises}
+use Rattle.slice_form.proofs.Joints.{pairs_map_of, range_rises}
 use Rattle.slice_form.proofs.Crossing.{y, chain_col, chain_col_above}
 
 -- pairs through a map, from pairs of what is mapped
@@ -109,7 +110,7 @@ module _ (p : Path) (path : IsPath p) (cols : ℕ → ℕ → List ℕ) (row_of 
   cast_pairs i None = tt
   cast_pairs i (Some c) = (
     each_from (Apart first) (map each (slices_of p))
-        (λ t h. let w = member_map each (slices_of p) t h in let s = (in_range 1 p.width w.0 w.1).0 in
+        (λ t h. let w = member_map each (slices_of p) t h in let s = (range_members 1 p.width w.0 w.1).0 in
         subst (Apart first) w.2 (far_bands first (each w.0) (omega arith))),
     pairs_map_range Apart each 1 p.width (λ a b lo lt hi. far_bands (each a) (each b) lt),
   )
@@ -127,7 +128,7 @@ module _ (p : Path) (path : IsPath p) (cols : ℕ → ℕ → List ℕ) (row_of 
       far_bands first own (omega arith),
       each_from (Apart first) (map each (others_of p l)) (λ t h. let w = member_map each (others_of p l) t h in
           let u = member_filter (λ b. not (b == suc l.slice)) (slices_of p) w.0 w.1 in let s =
-          (in_range 1 p.width w.0 u.0).0 in
+          (range_members 1 p.width w.0 u.0).0 in
           subst (Apart first) w.2 (far_bands first (each w.0) (omega arith))),
     ),
     (

@@ -13,13 +13,10 @@ use Rattle.std.proofs.Common.{
   Option,
   Some,
   None,
-  Bool,
   true,
   false,
-  cond,
   not,
   ◌==◌,
-  filter,
   List,
   [],
   ◌∷◌,
@@ -35,8 +32,9 @@ use Rattle.std.proofs.Common.{
 }
 use Rattle.std.specs.Prelude.{Contains, slice_get, flat_map, ◌≢◌, min, max}
 use Rattle.std.specs.List.{range_with_len}
-use Rattle.std.proofs.lemmas.Bool.{cases_Bool, cases_lt, cases_eq}
+use Rattle.std.proofs.lemmas.Bool.{cases_lt, cases_eq}
 use Rattle.std.proofs.lemmas.Option.{slice_get_within}
+use Rattle.mp_base.proofs.Members.{Member, member_map, range_members}
 use Rattle.fabric.specs.declared.thing.Side.{Side}
 use Rattle.fabric.specs.declared.thing.Side.TheVariants.{L, R}
 use Rattle.fabric.specs.declared.thing.Line.{Line}
@@ -45,10 +43,10 @@ use Rattle.nor_net.specs.declared.net.Phase.{Phase}
 use Rattle.nor_net.specs.declared.net.Phase.TheVariants.{A, B, C}
 use Rattle.array_form.specs.Lists.{upright}
 use Rattle.array_form.specs.Homes.{home, phase_number}
-use Rattle.array_form.proofs.Members.{Member, member_append, member_map, member_flat, member_filter}
-use Rattle.array_form.proofs.Listing.{in_range}
+use Rattle.array_form.proofs.Members.{member_append, member_flat}
 use Rattle.array_form.proofs.Homes.{home_once}
 use Rattle.array_form.proofs.Pairs.{Each, each_at, each_from, Pairs, pairs_append, pairs_map_range, pairs_flat_range}
+use Rattle.array_form.proofs.Pairs.{pairs_filter}
 use Rattle.slice_form.specs.Path.{Path, Carry, Cast, Lift, Programmed, IsSlice, IsPath}
 use Rattle.slice_form.specs.PathWires.{Across, cast_line, lift_line, lift_stub, chain_line, side_of}
 use Rattle.slice_form.specs.PathLists.{bands_of, slices_of, others_of}
@@ -64,16 +62,6 @@ use Rattle.slice_form.specs.Slices.{
 use Rattle.slice_form.specs.Joints.{trunk_line, lift_lines, bit_lines, joint_lines, AreJoinedOnce}
 use Rattle.slice_form.proofs.Crossing.{homed_end, homed_bit}
 
-pub pairs_filter : {A : Type 0} (P : A → A → Type 0) (t : A → Bool) (xs : List A) → Pairs P xs → Pairs P (filter t xs)
-pairs_filter P t [] h = tt
-pairs_filter P t (x ∷ xs) h = elim (cases_Bool (t x)) [
-  | inl e ↦ subst (λ z. Pairs P (cond z (x ∷ filter t xs) (filter t xs))) (sym e) (
-    each_from (P x) (filter t xs) (λ y m. each_at (P x) xs h.0 y (member_filter t xs y m).0),
-    pairs_filter P t xs h.1,
-  )
-  | inr e ↦ subst (λ z. Pairs P (cond z (x ∷ filter t xs) (filter t xs))) (sym e) (pairs_filter P t xs h.1)
-]
-
 pub pairs_map_of : {A B : Type 0} (Q : A → A → Type 0) (P : B → B → Type 0) (g : A → B) (xs : List A)
     → ((a b : A) → Q a b → P (g a) (g b)) → Pairs Q xs → Pairs P (map g xs)
 pairs_map_of Q P g [] to h = tt
@@ -86,7 +74,7 @@ pairs_map_of Q P g (x ∷ xs) to h = (
 pub range_rises : (a n : ℕ) → Pairs (λ x y. x < y) (range_with_len a n)
 range_rises a zero = tt
 range_rises a (suc n) = (
-  each_from (λ y. a < y) (range_with_len (a + 1) n) (λ y m. let r = (in_range (a + 1) n y m).0 in
+  each_from (λ y. a < y) (range_with_len (a + 1) n) (λ y m. let r = (range_members (a + 1) n y m).0 in
       omega arith),
   range_rises (a + 1) n,
 )
@@ -235,12 +223,13 @@ module _ (p : Path) (path : IsPath p) (once : AreJoinedOnce p) where
   cast_at : (l : Line) → Member casts l → (4 ≤ l.column) × (l.column < 4 + length p.casts)
   cast_at l m =
       let w = member_map (λ i. across_of p (cast_line i)) (range_with_len 0 (length p.casts)) l m in
-      let r = (in_range 0 (length p.casts) w.0 w.1).1 in let q = ap (λ z. z.column) w.2 in (omega arith, omega arith)
+      let r = (range_members 0 (length p.casts) w.0 w.1).1 in let q = ap (λ z. z.column) w.2 in
+      (omega arith, omega arith)
 
   lift_at : (l : Line) → Member lifts l → (4 + length p.casts ≤ l.column) × (l.column < base_of p)
   lift_at l m =
       let w = member_flat (λ i. lift_lines p i (slice_get p.lifts i)) (range_with_len 0 (length p.lifts)) l m in
-      let r = (in_range 0 (length p.lifts) w.0 w.1).1 in let q = in_lift w.0 (slice_get p.lifts w.0) l w.2 in
+      let r = (range_members 0 (length p.lifts) w.0 w.1).1 in let q = in_lift w.0 (slice_get p.lifts w.0) l w.2 in
       (omega arith, omega arith)
 
   bit_at : (l : Line) → Member bits l → (i : ℕ) × (g : Programmed) × (slice_get p.programs i ≡ Some g)
@@ -254,7 +243,7 @@ module _ (p : Path) (path : IsPath p) (once : AreJoinedOnce p) where
   chain_in l m =
       let w = member_flat (λ i. map (λ g. across_of p (chain_line i g)) (bands_of p))
       (range_with_len 0 (length p.chains)) l m in
-      let r = (in_range 0 (length p.chains) w.0 w.1).1 in (w.0, omega arith, in_chain w.0 l w.2)
+      let r = (range_members 0 (length p.chains) w.0 w.1).1 in (w.0, omega arith, in_chain w.0 l w.2)
 
   late_bit : (l : Line) → Member bits l → base_of p ≤ l.column
   late_bit l m = let w = bit_at l m in let e = w.3 in let b = behind_base w.1.net in omega arith

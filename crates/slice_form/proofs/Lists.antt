@@ -37,6 +37,9 @@ use Rattle.std.specs.Prelude.{Contains, slice_get, flat_map, ◌≢◌}
 use Rattle.std.specs.List.{range_with_len}
 use Rattle.std.proofs.lemmas.Bool.{cases_Bool, cases_eq}
 use Rattle.std.proofs.lemmas.Option.{slice_get_within}
+use Rattle.mp_base.proofs.Members.{Member, member_map, map_member, member_filter, filter_member, range_members}
+use Rattle.mp_base.proofs.Members.{range_has}
+use Rattle.mp_base.proofs.Tests.{false_true}
 use Rattle.fabric.specs.declared.thing.Side.TheVariants.{L, R}
 use Rattle.nor_net.specs.declared.net.Phase.{Phase}
 use Rattle.nor_net.specs.declared.net.Phase.TheVariants.{A, B, C}
@@ -44,20 +47,13 @@ use Rattle.array_form.specs.Named.{Tie, tap, tran, pull}
 use Rattle.array_form.specs.Wires.{Wire, row, beat, left, right, trunk, extra, to_ground, to_power, place}
 use Rattle.array_form.specs.Band.{band_rows, band_columns, band_ties}
 use Rattle.array_form.proofs.Members.{
-  Member,
-  member_contains,
-  contains_member,
   member_append,
   append_left,
   append_right,
-  member_map,
-  map_member,
   member_flat,
   flat_member,
-  member_filter,
-  filter_member,
 }
-use Rattle.array_form.proofs.Listing.{in_range, range_has, listed_tie, tie_listed, same_from, same_to}
+use Rattle.array_form.proofs.Listing.{listed_tie, tie_listed, same_from, same_to}
 use Rattle.slice_form.specs.Path.{Path, Carry, Cast, Lift, Programmed, parts, IsSlice}
 use Rattle.slice_form.specs.PathWires.{
   Across,
@@ -98,12 +94,6 @@ use Rattle.slice_form.specs.PathLists.{
   path_ties,
 }
 
-false_true : false ≡ true → ⊥
-false_true e = cc e
-
-true_false : true ≡ false → ⊥
-true_false e = cc e
-
 module _ (p : Path) (stub : ℕ → ℕ → Bool) where
   abbrev Ties : Type 0
   Ties = List (Tie (Wire Across))
@@ -128,13 +118,13 @@ module _ (p : Path) (stub : ℕ → ℕ → Bool) where
   chains = flat_map (λ i. chain_ties p i (slice_get p.chains i)) (range_with_len 0 (length p.chains))
 
   pub band_in : (b : ℕ) → Member (bands_of p) b → b ≤ p.width
-  band_in b m = let r = (in_range 0 (suc p.width) b m).1 in omega arith
+  band_in b m = let r = (range_members 0 (suc p.width) b m).1 in omega arith
 
   pub in_bands : (b : ℕ) → b ≤ p.width → Member (bands_of p) b
   in_bands b h = range_has 0 (suc p.width) b (omega arith) (omega arith)
 
   pub slice_in : (b : ℕ) → Member (slices_of p) b → IsSlice p b
-  slice_in b m = let r = in_range 1 p.width b m in let r0 = r.0 in let r1 = r.1 in (omega arith, omega arith)
+  slice_in b m = let r = range_members 1 p.width b m in let r0 = r.0 in let r1 = r.1 in (omega arith, omega arith)
 
   pub in_slices : (b : ℕ) → IsSlice p b → Member (slices_of p) b
   in_slices b h = let h0 = h.0 in let h1 = h.1 in range_has 1 p.width b (omega arith) (omega arith)
@@ -177,7 +167,7 @@ module _ (p : Path) (stub : ℕ → ℕ → Bool) where
   chain_tie i None t h m = absurd m
   chain_tie i (Some c) t h (inl e) = subst (PathTie p stub) e (of_open i c h)
   chain_tie i (Some c) t h (inr m) = let w = member_flat (slice_ties c i) (range_with_len 0 p.width) t m in
-      of_slice w.0 (in_range 0 p.width w.0 w.1).1 w.2
+      of_slice w.0 (range_members 0 p.width w.0 w.1).1 w.2
     where
       of_slice : (k : ℕ) → k < 0 + p.width → Member (slice_ties c i k) t → PathTie p stub t
       of_slice k lt (inl e) = subst (PathTie p stub) e (of_below i c k h (omega arith))
@@ -190,7 +180,7 @@ module _ (p : Path) (stub : ℕ → ℕ → Bool) where
   program_tie i (Some g) t h m =
       let w = member_flat (λ k. tap R (right (place (suc k) g.net)) to_ground ∷ pull
       (left (place (suc k) g.net)) ∷ bit_tie (suc k) g.net (slice_get g.bits k)) (range_with_len 0 p.width) t m in
-      of_bit w.0 (in_range 0 p.width w.0 w.1).1 (slice_get g.bits w.0) refl w.2
+      of_bit w.0 (range_members 0 p.width w.0 w.1).1 (slice_get g.bits w.0) refl w.2
     where
       of_bit : (k : ℕ) → k < 0 + p.width → (o : Option Bool) → slice_get g.bits k ≡ o
           → Member (tap R (right (place (suc k) g.net)) to_ground ∷ pull (left (place (suc k) g.net)) ∷ bit_tie

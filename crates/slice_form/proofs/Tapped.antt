@@ -34,6 +34,7 @@ use Rattle.std.specs.Prelude.{Contains, slice_get}
 use Rattle.std.proofs.lemmas.Bool.{cases_Bool, cases_eq, cases_lt}
 use Rattle.std.proofs.lemmas.List.Elements.{All-contains}
 use Rattle.std.proofs.lemmas.Option.{slice_get_within, slice_get_cases, slice_get-get_or}
+use Rattle.mp_base.proofs.Members.{member_contains, contains_member, member_map}
 use Rattle.lam_geom.specs.Chains.{Chain}
 use Rattle.lam_geom.specs.Chains.Chain.{here, link}
 use Rattle.fabric.specs.declared.thing.Side.{Side}
@@ -87,7 +88,6 @@ use Rattle.array_form.specs.Wires.{
   AreElements,
 }
 use Rattle.array_form.proofs.Placing.{net_tapped, net_switch}
-use Rattle.array_form.proofs.Members.{member_map, contains_member, member_contains}
 use Rattle.slice_form.specs.Path.{
   Path,
   Carry,

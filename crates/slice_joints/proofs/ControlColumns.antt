@@ -1,66 +1,23 @@
 -- With taps at the columns of casts and lifts, the closed form of a band is that of a path's control.
-use Rattle.std.proofs.Common.{◌≡◌, ℕ, zero, suc, ◌+◌, ◌<◌, ◌≤◌, ◌==◌, get_or, Option, Some, None, Bool, true, false}
+use Rattle.std.proofs.Common.{◌≡◌, ℕ, zero, suc, ◌+◌, ◌==◌, Option, Some, None, Bool, true, false}
 use Rattle.std.proofs.Common.{cond, not, ◌&&◌}
 use Rattle.std.proofs.Common.{List, [], ◌∷◌, ◌++◌, length, map, filter, refl, sym, ◌∙◌, ap, arith}
-use Rattle.std.specs.Prelude.{◌||◌, flat_map, slice_get, max, take}
+use Rattle.std.specs.Prelude.{◌||◌, flat_map, slice_get, max}
 use Rattle.std.specs.List.{list_any, range_with_len}
 use Rattle.std.proofs.lemmas.List.{map-append}
-use Rattle.std.proofs.lemmas.List.Folds.{list_any_more}
-use Rattle.std.proofs.lemmas.Option.{slice_get-get_or}
 use Rattle.std.proofs.lemmas.List.Elements.{filter-append}
-use Rattle.nor_net.specs.declared.net.Part.{Part}
-use Rattle.nor_net.specs.declared.net.Part.TheVariants.{Input, Gate, Latch}
+use Rattle.std.proofs.lemmas.List.Folds.{list_any-append}
 use Rattle.array_form.specs.declared.band.Band.{Band}
 use Rattle.array_form.specs.declared.band.Tap.{Tap}
-use Rattle.array_form.specs.Homes.{reads, greatest}
+use Rattle.array_form.specs.Homes.{greatest}
 use Rattle.array_form.specs.Place.{is_input, part_is, is_read, is_tapped, is_stub, columns_in}
 use Rattle.slice_form.specs.Path.{Path, Cast, Lift}
-use Rattle.slice_form.specs.Slices.{any_below, is_some, is_unread, control_stub, control_columns, cast_columns}
+use Rattle.slice_form.specs.Slices.{is_unread, control_stub, control_columns, cast_columns}
 use Rattle.slice_form.specs.Slices.{lift_columns_of}
-use Rattle.slice_form.specs.Slices as slices
+use Rattle.slice_form.proofs.FlatColumns.{read_same, test_same, other_same}
 use Rattle.slice_joints.specs.Control.{tap, cast_tap, lift_tap, cast_taps, lift_taps, IsControlBand, ControlsMatch}
 
 -- ---- what reads a net, and what is an input, in the words of both
-last_or : (a b : Bool) → cond b true a ≡ (a || b)
-last_or true true = refl
-last_or true false = refl
-last_or false true = refl
-last_or false false = refl
-
-below_any : (k : ℕ) (xs : List Part) (n : ℕ) → n ≤ length xs
-    → any_below (λ j. reads k (slice_get xs j)) n ≡ list_any (λ q. reads k (Some q)) (take n xs)
-below_any k xs zero h = refl
-below_any k xs (suc n) h =
-    let lt : n < length xs = omega (arith, h) in
-    let i = below_any k xs n (omega (arith, h)) in
-    let e : suc n ≡ n + 1 = omega arith in
-    ap (λ b. cond b true (any_below (λ j. reads k (slice_get xs j)) n)) (ap (reads k) (slice_get-get_or xs n Input lt))
-    ∙ ap (λ a. cond (reads k (Some (get_or xs n Input))) true a) i
-    ∙ last_or (list_any (λ q. reads k (Some q)) (take n xs)) (reads k (Some (get_or xs n Input)))
-    ∙ sym (list_any_more (λ q. reads k (Some q)) xs n Input lt)
-    ∙ ap (λ m. list_any (λ q. reads k (Some q)) (take m xs)) (sym e)
-
-take_whole : {A : Type 0} (xs : List A) → take (length xs) xs ≡ xs
-take_whole [] = refl
-take_whole (x ∷ xs) = ap (λ ys. x ∷ ys) (take_whole xs)
-
-read_same : (parts : List Part) (n : ℕ) → is_unread parts n ≡ not (is_read parts n)
-read_same parts n = ap not (below_any n parts (length parts) (omega arith)
-    ∙ ap (list_any (λ q. reads n (Some q))) (take_whole parts))
-
-input_same : (q : Part) → slices.is_input q ≡ is_input q
-input_same Input = refl
-input_same (Gate ins) = refl
-input_same (Latch ph s) = refl
-
-test_same : (o : Option Part) → is_some slices.is_input o ≡ part_is is_input o
-test_same None = refl
-test_same (Some q) = input_same q
-
-other_same : (o : Option Part) → is_some (λ q. not (slices.is_input q)) o ≡ part_is (λ q. not (is_input q)) o
-other_same None = refl
-other_same (Some q) = ap not (input_same q)
-
 -- ---- the taps one after another
 casts_from : ℕ → List Cast → List Tap
 casts_from at [] = []
@@ -198,16 +155,6 @@ lifts_more n at (l ∷ ls) = go (l.control == n) (lifts_more n (suc at) ls)
     go false i = i
 
 -- ---- stubs
-any_append : {A : Type 0} (test : A → Bool) (xs ys : List A)
-    → list_any test (xs ++ ys) ≡ (list_any test xs || list_any test ys)
-any_append test [] ys = refl
-any_append test (x ∷ xs) ys = go (test x) (any_append test xs ys)
-  where
-    go : (t : Bool) → list_any test (xs ++ ys) ≡ (list_any test xs || list_any test ys)
-        → (t || list_any test (xs ++ ys)) ≡ ((t || list_any test xs) || list_any test ys)
-    go true i = refl
-    go false i = i
-
 casts_tapped : (n at : ℕ) (cs : List Cast)
     → list_any (λ (t : Tap). t.net.0 == n) (casts_from at cs) ≡ list_any (λ (c : Cast). c.control == n) cs
 unfolding casts_from
@@ -239,7 +186,7 @@ module _ (p : Path) (band : Band) (is : IsControlBand p band) where
   tapped_is n =
       let a = casts_tapped n 4 p.casts in let b = lifts_tapped n (4 + length p.casts) p.lifts in
       ap (λ ts. is_tapped ts n) taps_is
-      ∙ (any_append (λ (t : Tap). t.net.0 == n) (casts_from 4 p.casts) (lifts_from (4 + length p.casts) p.lifts)
+      ∙ (list_any-append (λ (t : Tap). t.net.0 == n) (casts_from 4 p.casts) (lifts_from (4 + length p.casts) p.lifts)
       ∙ (λ i. a i || b i))
 
   stub_same : (n : ℕ) → control_stub p n ≡ is_stub band p.control n

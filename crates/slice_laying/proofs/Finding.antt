@@ -2,7 +2,6 @@
 use Rattle.std.proofs.Common.{◌≡◌, inl, inr, ℕ, zero, suc, ◌<◌, ◌≤◌, ◌+◌, Option, Some, None, Bool, true, false}
 use Rattle.std.proofs.Common.{cond, eqb, List, [], ◌∷◌, map, refl, sym, ◌∙◌, ap, arith}
 use Rattle.std.specs.Prelude.{Contains, slice_get}
-use Rattle.std.specs.List.{range_with_len}
 use Rattle.std.specs.Option.{option_or}
 use Rattle.std.proofs.lemmas.Bool.{cases_Bool, eq-eqb, eqb-true, true≢false}
 use Rattle.std.proofs.lemmas.Option.{none-some, same_Some}
@@ -10,30 +9,6 @@ use Rattle.nor_net.specs.declared.net.NetId.{NetId}
 use Rattle.nor_net.specs.Elements.{Element}
 use Rattle.organelles.specs.Slices.{first_some}
 use Rattle.path_form.specs.Shape.{times}
-
-pub get_map : {A B : Type 0} (g : A → B) (xs : List A) (i : ℕ) (y : B) → slice_get (map g xs) i ≡ Some y
-    → (x : A) × (slice_get xs i ≡ Some x) × (g x ≡ y)
-get_map g [] i y h = absurd (none-some y h)
-get_map g (x ∷ xs) zero y h = (x, refl, same_Some (g x) y h)
-get_map g (x ∷ xs) (suc i) y h = get_map g xs i y h
-
-pub map_get : {A B : Type 0} (g : A → B) (xs : List A) (i : ℕ) (x : A) → slice_get xs i ≡ Some x
-    → slice_get (map g xs) i ≡ Some (g x)
-map_get g [] i x h = absurd (none-some x h)
-map_get g (y ∷ xs) zero x h = ap (λ z. Some (g z)) (same_Some y x h)
-map_get g (y ∷ xs) (suc i) x h = map_get g xs i x h
-
-pub get_range : (a n i : ℕ) → i < n → slice_get (range_with_len a n) i ≡ Some (a + i)
-get_range a zero i h = absurd (omega arith)
-get_range a (suc n) zero h = ap Some (let e : a ≡ a + 0 = omega arith in e)
-get_range a (suc n) (suc i) h =
-    get_range (a + 1) n i (omega arith) ∙ ap Some (let e : a + 1 + i ≡ a + suc i = omega arith in e)
-
-pub get_contains : {A : Type 0} (xs : List A) (i : ℕ) (x : A) → slice_get xs i ≡ Some x → Contains xs x
-get_contains [] i x h = absurd (none-some x h)
-get_contains (y ∷ xs) zero x h = (0, omega arith, same_Some y x h)
-get_contains (y ∷ xs) (suc i) x h =
-    let c = get_contains xs i x h in (suc c.0, (let m = c.1 in omega (arith, m)), c.2)
 
 -- the head of a count
 pub head_off : (t : Bool) (m k : ℕ) → t ≡ false → cond t 1 0 + m ≤ k → m ≤ k

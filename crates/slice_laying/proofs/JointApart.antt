@@ -1,29 +1,30 @@
 -- The marks of the lines that join bands, in the slices: where they stand, and that no two stand at one place.
-use Rattle.std.proofs.Common.{◌≡◌, ◌⊎◌, inl, inr, ℕ, zero, suc, ◌<◌, ◌≤◌, ◌+◌, Option, Some, None, Bool, true, false}
-use Rattle.std.proofs.Common.{cond, List, [], ◌∷◌, ◌++◌, length, map, refl, sym, ◌∙◌, ap, subst, arith, not}
+use Rattle.std.proofs.Common.{◌≡◌, ◌⊎◌, inl, inr, ℕ, suc, ◌<◌, ◌≤◌, ◌+◌, Option, Some, None, Bool, true, false}
+use Rattle.std.proofs.Common.{cond, List, ◌∷◌, ◌++◌, length, map, refl, sym, ◌∙◌, ap, subst, arith, not}
 use Rattle.std.specs.Prelude.{slice_get, flat_map, max, ◌==◌, ◌≢◌}
 use Rattle.std.specs.List.{range_with_len}
 use Rattle.std.proofs.lemmas.Bool.{true≢false}
 use Rattle.std.proofs.lemmas.Option.{slice_get_within}
+use Rattle.mp_base.proofs.Members.{Member, member_map, member_filter, range_members}
 use Rattle.tile_cells.specs.declared.tile.Tile.{Tile}
 use Rattle.tile_cells.specs.declared.tile.Tile.TheVariants.{TapL, TapR, PullUp}
 use Rattle.fabric.specs.declared.thing.Mark.{Mark}
 use Rattle.fabric.specs.Plan.{MarksApart}
-use Rattle.nor_net.specs.declared.net.Phase.TheVariants.{A, B}
 use Rattle.nor_net.specs.declared.net.Part.TheVariants.{Input}
 use Rattle.array_form.specs.Homes.{home}
 use Rattle.array_form.specs.Laying.{AreTracks}
 use Rattle.array_form.specs.Lists.{mark, tap_tile}
 use Rattle.array_form.proofs.Homes.{home_once, least_below, greatest_above, own_mark, more_mark}
-use Rattle.array_form.proofs.Listing.{in_range, same_to}
-use Rattle.array_form.proofs.Members.{Member, member_append, member_map, member_flat, member_filter, append_right}
-use Rattle.array_form.proofs.Pairs.{each_from, each_at, Pairs, pairs_append, pairs_map_range, pairs_flat_range}
+use Rattle.array_form.proofs.Listing.{same_to}
+use Rattle.array_form.proofs.Members.{member_append, member_flat, append_right}
+use Rattle.array_form.proofs.Pairs.{each_from, Pairs, pairs_append, pairs_map_range, pairs_flat_range}
 use Rattle.array_form.proofs.Pairs.{pairs_filter}
 use Rattle.slice_form.specs.Path.{Path, Carry, Cast, Lift, Programmed, IsSlice}
 use Rattle.slice_form.specs.PathLists.{slices_of, others_of}
 use Rattle.slice_form.specs.PathWires.{side_of, below, above, open_gap}
 use Rattle.slice_form.specs.Slices.{base_of, cast_column, lift_column, plain_slice, slice_columns, cast_columns}
 use Rattle.slice_form.specs.Slices.{lift_columns_of, chain_starts}
+use Rattle.slice_form.proofs.Joints.{pairs_map_of, range_rises}
 use Rattle.slice_laying.specs.Added.{slice_cols, trunk_taps, cast_taps, lift_taps, bit_tap, bit_marks, link_taps}
 use Rattle.slice_laying.specs.Added.{chain_taps, joint_marks}
 use Rattle.slice_laying.specs.Paths.{IsPlaceable}
@@ -34,22 +35,6 @@ pub record IsJointMark (p : Path) (m : Mark) : Type 0 where
   pub band : IsSlice p m.band
   pub column : (1 ≤ m.column) × (m.column < base_of p)
       ⊎ (n : ℕ) × IsEnd p n × (m.column ≡ home (plain_slice p) n)
-
-pairs_through : {A B : Type 0} (Q : A → A → Type 0) (P : B → B → Type 0) (g : A → B) (xs : List A)
-    → ((a b : A) → Q a b → P (g a) (g b)) → Pairs Q xs → Pairs P (map g xs)
-pairs_through Q P g [] to h = tt
-pairs_through Q P g (x ∷ xs) to h = (
-  each_from (P (g x)) (map g xs) (λ y m. let w = member_map g xs y m in
-      subst (P (g x)) w.2 (to x w.0 (each_at (Q x) xs h.0 w.0 w.1))),
-  pairs_through Q P g xs to h.1,
-)
-
-range_rises : (a n : ℕ) → Pairs (λ x y. x < y) (range_with_len a n)
-range_rises a zero = tt
-range_rises a (suc n) = (
-  each_from (λ y. a < y) (range_with_len (a + 1) n) (λ y m. let r = (in_range (a + 1) n y m).0 in omega (arith, r)),
-  range_rises (a + 1) n,
-)
 
 band_of_mark : (t : Tile) (b r c : ℕ) (m : Mark) → mark t b r c ≡ m → m.band ≡ b
 band_of_mark t b r c m e = sym (ap (λ (m : Mark). m.band) e)
@@ -74,10 +59,10 @@ module _ (p : Path) (ready : IsPlaceable p) (row : ℕ → ℕ) (rows : ℕ)
     top = suc rows
 
     in_slices : (b : ℕ) → Member (slices_of p) b → IsSlice p b
-    in_slices b m = let r = in_range 1 p.width b m in let u = r.0 in let v = r.1 in (u, omega (arith, v))
+    in_slices b m = let r = range_members 1 p.width b m in let u = r.0 in let v = r.1 in (u, omega (arith, v))
 
     in_below : (k : ℕ) → Member (range_with_len 0 p.width) k → k < p.width
-    in_below k m = let r = (in_range 0 p.width k m).1 in omega (arith, r)
+    in_below k m = let r = (range_members 0 p.width k m).1 in omega (arith, r)
 
     early : (t : Tile) (b r c : ℕ) → IsSlice p b → 1 ≤ c → c < base_of p → IsJointMark p (mark t b r c)
     early t b r c s lo hi = record { band = s; column = inl (lo, hi) }
@@ -153,7 +138,7 @@ module _ (p : Path) (ready : IsPlaceable p) (row : ℕ → ℕ) (rows : ℕ)
         → IsJointMark p m × (4 ≤ m.column) × (m.column < 4 + length p.casts)
     casts_in m k =
         let w = member_flat (λ i. cast_taps p row i (slice_get p.casts i)) (range_with_len 0 (length p.casts)) m k in
-        let r = (in_range 0 (length p.casts) w.0 w.1).1 in
+        let r = (range_members 0 (length p.casts) w.0 w.1).1 in
         let i = cast_is w.0 (slice_get p.casts w.0) m (omega (arith, r)) w.2 in let e = i.1 in
         (i.0, omega (arith, e), omega (arith, e, r))
 
@@ -198,7 +183,7 @@ module _ (p : Path) (ready : IsPlaceable p) (row : ℕ → ℕ) (rows : ℕ)
         → IsJointMark p m × (4 + length p.casts ≤ m.column) × (m.column < base_of p)
     lifts_in m k =
         let w = member_flat (λ i. lift_taps p row i (slice_get p.lifts i)) (range_with_len 0 (length p.lifts)) m k in
-        let r = (in_range 0 (length p.lifts) w.0 w.1).1 in
+        let r = (range_members 0 (length p.lifts) w.0 w.1).1 in
         let i = lift_is w.0 (slice_get p.lifts w.0) m refl (omega (arith, r)) w.2 in let e = i.1 in
         (i.0, omega (arith, e), omega (arith, e, r))
 
@@ -219,7 +204,7 @@ module _ (p : Path) (ready : IsPlaceable p) (row : ℕ → ℕ) (rows : ℕ)
           let u = member_filter (λ b. not (b == suc l.slice)) (slices_of p) w.0 w.1 in
           subst (MarksApart (own_tap i l)) w.2
           (by_band (own_tap i l) (other_tap i l w.0) (λ q. not_own w.0 (suc l.slice) u.1 (sym q)))),
-      pairs_through (λ a b. a < b) MarksApart (other_tap i l) (others_of p l)
+      pairs_map_of (λ a b. a < b) MarksApart (other_tap i l) (others_of p l)
           (λ a b lt. by_band (other_tap i l a) (other_tap i l b) (λ q. omega (arith, q, lt)))
           (pairs_filter (λ a b. a < b) (λ b. not (b == suc l.slice)) (slices_of p) (range_rises 1 p.width)),
     )

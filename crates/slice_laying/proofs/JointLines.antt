@@ -3,7 +3,8 @@ use Rattle.std.proofs.Common.{◌≡◌, ◌⊎◌, inl, inr, ℕ, suc, ◌<◌,
 use Rattle.std.proofs.Common.{List, [], ◌∷◌, ◌++◌, length, map, refl, sym, subst, arith, not}
 use Rattle.std.specs.Prelude.{slice_get, flat_map, min, max, ◌==◌}
 use Rattle.std.specs.List.{range_with_len}
-use Rattle.std.proofs.lemmas.Option.{slice_get_cases}
+use Rattle.mp_base.proofs.Members.{Member, member_map, member_filter, range_members}
+use Rattle.mp_base.proofs.Entries.{some_entry}
 use Rattle.fabric.specs.declared.thing.Side.{Side}
 use Rattle.fabric.specs.declared.thing.Side.TheVariants.{L, R}
 use Rattle.fabric.specs.declared.thing.Line.{Line}
@@ -12,8 +13,7 @@ use Rattle.nor_net.specs.declared.net.Phase.{Phase}
 use Rattle.nor_net.specs.declared.net.Phase.TheVariants.{A, B, C}
 use Rattle.array_form.specs.Homes.{home, end_of, phase_number}
 use Rattle.array_form.specs.Lists.{upright}
-use Rattle.array_form.proofs.Listing.{in_range}
-use Rattle.array_form.proofs.Members.{Member, member_append, member_map, member_flat, member_filter}
+use Rattle.array_form.proofs.Members.{member_append, member_flat}
 use Rattle.slice_form.specs.Joints.{trunk_line, lift_lines, bit_lines, joint_lines}
 use Rattle.slice_form.specs.Path.{Path, Carry, Lift, Programmed, IsSlice}
 use Rattle.slice_form.specs.PathLists.{bands_of, slices_of, others_of}
@@ -22,11 +22,6 @@ use Rattle.slice_form.specs.Slices.{across_of, base_of, chain_column, lift_colum
 use Rattle.slice_form.specs.Slices.{slice_columns}
 use Rattle.slice_laying.specs.Paths.{IsPlaceable}
 use Rattle.slice_laying.proofs.SliceColumns.{IsEnd, of_chain, of_program, base_below, end_inside}
-
--- each number below a length has an element
-pub element_at : {A : Type 0} (xs : List A) (i : ℕ) → i < length xs → (x : A) × (slice_get xs i ≡ Some x)
-element_at xs i h = elim (slice_get_cases xs i).1
-    [ inl w ↦ (w.0, w.2) | inr w ↦ absurd (let v = w.0 in omega (arith, v, h)) ]
 
 -- where a line that joins bands stands: in the columns of phases, casts and lifts, or in that of a joined net
 pub record IsJoint (p : Path) (l : Line) : Type 0 where
@@ -37,7 +32,7 @@ pub record IsJoint (p : Path) (l : Line) : Type 0 where
 
 module _ (p : Path) (ready : IsPlaceable p) where
   in_slices : (b : ℕ) → Member (slices_of p) b → IsSlice p b
-  in_slices b m = let r = in_range 1 p.width b m in let u = r.0 in let v = r.1 in (u, omega (arith, v))
+  in_slices b m = let r = range_members 1 p.width b m in let u = r.0 in let v = r.1 in (u, omega (arith, v))
 
   -- a line from band a to band z in an early column
   early : (c a z : ℕ) (side : Side) → a ≤ z → z ≤ p.width → 1 ≤ c → c < base_of p → IsJoint p (upright c side a z)
@@ -67,7 +62,7 @@ module _ (p : Path) (ready : IsPlaceable p) where
       → IsJoint p l
   of_casts l m =
       let w = member_map (λ i. across_of p (cast_line i)) (range_with_len 0 (length p.casts)) l m in
-      let r = (in_range 0 (length p.casts) w.0 w.1).1 in
+      let r = (range_members 0 (length p.casts) w.0 w.1).1 in
       subst (IsJoint p) w.2
       (early (4 + w.0) 0 p.width L (omega arith) (omega arith) (omega arith) (omega (arith, r)))
 
@@ -90,7 +85,7 @@ module _ (p : Path) (ready : IsPlaceable p) where
       → IsJoint p l
   of_lifts l m =
       let w = member_flat (λ i. lift_lines p i (slice_get p.lifts i)) (range_with_len 0 (length p.lifts)) l m in
-      let r = (in_range 0 (length p.lifts) w.0 w.1).1 in
+      let r = (range_members 0 (length p.lifts) w.0 w.1).1 in
       of_lift w.0 (slice_get p.lifts w.0) l refl (omega (arith, r)) w.2
 
   of_bit : (i : ℕ) (q : Option Programmed) (l : Line) → slice_get p.programs i ≡ q → Member (bit_lines p q) l
@@ -120,7 +115,7 @@ module _ (p : Path) (ready : IsPlaceable p) where
       → Member (map (λ g. across_of p (chain_line i g)) (bands_of p)) l → IsJoint p l
   of_chain_lines i c l h m =
       let w = member_map (λ g. across_of p (chain_line i g)) (bands_of p) l m in
-      let r = (in_range 0 (suc p.width) w.0 w.1).1 in
+      let r = (range_members 0 (suc p.width) w.0 w.1).1 in
       let wide = ((ready.path).chains i c h).2 in
       subst (IsJoint p) w.2
       (subst (λ q. IsJoint p (upright (chain_column p q) (side_of w.0) (max 1 w.0) (min (suc w.0) p.width))) (sym h)
@@ -135,8 +130,8 @@ module _ (p : Path) (ready : IsPlaceable p) where
   of_chains l m =
       let w = member_flat (λ i. map (λ g. across_of p (chain_line i g)) (bands_of p))
       (range_with_len 0 (length p.chains)) l m in
-      let r = (in_range 0 (length p.chains) w.0 w.1).1 in
-      let e = element_at p.chains w.0 (omega (arith, r)) in
+      let r = (range_members 0 (length p.chains) w.0 w.1).1 in
+      let e = some_entry p.chains w.0 (omega (arith, r)) in
       of_chain_lines w.0 e.0 l e.1 w.2
 
   abbrev trunks : List Line

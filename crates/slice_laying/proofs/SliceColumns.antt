@@ -3,8 +3,9 @@ use Rattle.std.proofs.Common.{◌≡◌, inl, inr, ℕ, zero, suc, ◌<◌, ◌�
 use Rattle.std.proofs.Common.{cond, List, [], ◌∷◌, ◌++◌, length, refl, sym, ◌∙◌, ap, subst, arith, not}
 use Rattle.std.specs.Prelude.{Contains, slice_get, ◌==◌, ◌||◌, ◌&&◌, ◌≢◌}
 use Rattle.std.specs.List.{list_any}
-use Rattle.std.proofs.lemmas.Bool.{cases_Bool, true≢false}
+use Rattle.std.proofs.lemmas.Bool.{cases_Bool, true≢false, or_left, or_right, and_from}
 use Rattle.std.proofs.lemmas.Option.{none-some, same_Some, slice_get_within, slice_get_cases}
+use Rattle.mp_base.proofs.Members.{Member, member_contains, contains_member}
 use Rattle.nor_net.specs.declared.net.Part.{Part}
 use Rattle.nor_net.specs.declared.net.Part.TheVariants.{Input, Gate, Latch}
 use Rattle.nor_net.specs.Elements.{Spot, Element}
@@ -12,41 +13,18 @@ use Rattle.array_form.specs.Homes.{Columns, home, marks, reads, end_of}
 use Rattle.array_form.specs.Wires.{place}
 use Rattle.array_form.proofs.Homes.{home_once, home_inside, own_mark, reader_mark, more_mark}
 use Rattle.array_form.proofs.Listing.{same_from, same_to}
-use Rattle.array_form.proofs.Members.{Member, member_contains, contains_member, member_append, append_left}
+use Rattle.array_form.proofs.Members.{member_append, append_left}
 use Rattle.array_form.proofs.Members.{append_right}
-use Rattle.array_form.proofs.Room.{any_member, or_left, or_right, and_of}
+use Rattle.array_form.proofs.Room.{any_member}
 use Rattle.slice_form.specs.Path.{Path, Carry, Cast, Lift, Programmed, IsElement, gate, store, pad}
 use Rattle.slice_form.specs.Path.{cast, lift, next, open_end, one, zero_bit}
 use Rattle.slice_form.specs.Slices.{any_below, base_of, cast_columns, lift_columns_of, chain_starts, is_input, is_some}
 use Rattle.slice_form.specs.Slices.{is_unread, plain_slice, slice_columns, slice_homed, slice_stub}
-use Rattle.slice_form.proofs.Crossing.{homed_end, homed_bit}
+use Rattle.slice_form.proofs.Crossing.{cast_has, lift_has, homed_end, homed_bit}
+use Rattle.slice_form.proofs.Below.{below_member}
 use Rattle.slice_laying.specs.Paths.{IsPlaceable}
 
 -- ---- the columns of casts, lifts and chains
-
-pub cast_has : (test : Cast → Bool) (at : ℕ) (cs : List Cast) (i : ℕ) (c : Cast) → slice_get cs i ≡ Some c
-    → test c ≡ true → Member (cast_columns test at cs) (at + i)
-cast_has test at [] i c h e = absurd (none-some c h)
-cast_has test at (a ∷ cs) zero c h e =
-    append_left (cond (test a) (at ∷ []) []) (cast_columns test (suc at) cs) (at + 0)
-    (subst (λ t. Member (cond t (at ∷ []) []) (at + 0)) (sym (ap test (same_Some a c h) ∙ e))
-    (inl (let z : at ≡ at + 0 = omega arith in z)))
-cast_has test at (a ∷ cs) (suc i) c h e =
-    append_right (cond (test a) (at ∷ []) []) (cast_columns test (suc at) cs) (at + suc i)
-    (subst (Member (cast_columns test (suc at) cs)) (let z : suc at + i ≡ at + suc i = omega arith in z)
-    (cast_has test (suc at) cs i c h e))
-
-pub lift_has : (test : Lift → Bool) (at : ℕ) (cs : List Lift) (i : ℕ) (c : Lift) → slice_get cs i ≡ Some c
-    → test c ≡ true → Member (lift_columns_of test at cs) (at + i)
-lift_has test at [] i c h e = absurd (none-some c h)
-lift_has test at (a ∷ cs) zero c h e =
-    append_left (cond (test a) (at ∷ []) []) (lift_columns_of test (suc at) cs) (at + 0)
-    (subst (λ t. Member (cond t (at ∷ []) []) (at + 0)) (sym (ap test (same_Some a c h) ∙ e))
-    (inl (let z : at ≡ at + 0 = omega arith in z)))
-lift_has test at (a ∷ cs) (suc i) c h e =
-    append_right (cond (test a) (at ∷ []) []) (lift_columns_of test (suc at) cs) (at + suc i)
-    (subst (Member (lift_columns_of test (suc at) cs)) (let z : suc at + i ≡ at + suc i = omega arith in z)
-    (lift_has test (suc at) cs i c h e))
 
 pub start_has : (at : ℕ → ℕ) (cs : List Carry) (i : ℕ) (c : Carry) (n : ℕ) → slice_get cs i ≡ Some c → c.start ≡ n
     → Member (chain_starts at n cs) (at c.to)
@@ -104,14 +82,6 @@ start_from at n (a ∷ cs) x m =
     head true (inl e) = (0, a, refl, e)
     head true (inr k) = absurd k
     head false k = absurd k
-
-below_member : (test : ℕ → Bool) (n : ℕ) → any_below test n ≡ true → (j : ℕ) × (j < n) × (test j ≡ true)
-below_member test zero e = absurd (true≢false (sym e))
-below_member test (suc n) e = elim (cases_Bool (test n)) [
-  | inl t ↦ (n, omega arith, t)
-  | inr t ↦ (let w = below_member test n (sym (ap (λ b. cond b true (any_below test n)) t) ∙ e) in
-      (w.0, (let m = w.1 in omega (arith, m)), w.2))
-]
 
 reads_some : (n : ℕ) (o : Option Part) → reads n o ≡ true → (q : Part) × (o ≡ Some q)
 reads_some n None e = absurd (true≢false (sym e))
@@ -221,12 +191,12 @@ module _ (p : Path) (ready : IsPlaceable p) where
             (chain_starts (home (plain_slice p)) n p.chains) (home (plain_slice p) (w.1).to)
             (start_has (home (plain_slice p)) p.chains w.0 w.1 n w.2 (same_from (w.1).start n w.3)))))
         | inr s ↦ own_of n (homed_stub n
-            (and_of (list_any (λ w. w == n) p.words)
+            (and_from (list_any (λ w. w == n) p.words)
             (is_unread p.slice n && (not (list_any (λ (l : Lift). l.start == n) p.lifts) && not
             (list_any (λ (c : Carry). c.start == n) p.chains))) in_words
-            (and_of (is_unread p.slice n) (not (list_any (λ (l : Lift). l.start == n) p.lifts) && not
+            (and_from (is_unread p.slice n) (not (list_any (λ (l : Lift). l.start == n) p.lifts) && not
             (list_any (λ (c : Carry). c.start == n) p.chains)) (ap not e)
-            (and_of (not (list_any (λ (l : Lift). l.start == n) p.lifts))
+            (and_from (not (list_any (λ (l : Lift). l.start == n) p.lifts))
             (not (list_any (λ (c : Carry). c.start == n) p.chains)) (ap not t) (ap not s)))))
       ]
     ]

@@ -4,6 +4,8 @@ use Rattle.std.proofs.Common.{List, [], ◌∷◌, ◌++◌, length, refl, sym, 
 use Rattle.std.specs.Prelude.{slice_get, flat_map, slice_index, max, ◌==◌, ◌≢◌}
 use Rattle.std.specs.List.{range_with_len}
 use Rattle.std.proofs.lemmas.List.{append-nil}
+use Rattle.mp_base.proofs.Members.{Member, member_contains, member_map, map_member, member_filter, range_members}
+use Rattle.mp_base.proofs.Members.{range_has}
 use Rattle.tile_cells.specs.declared.tile.Tile.TheVariants.{TapL, TapR, PullUp}
 use Rattle.fabric.specs.declared.thing.Line.{Line}
 use Rattle.fabric.specs.declared.thing.Mark.{Mark}
@@ -16,9 +18,8 @@ use Rattle.array_form.specs.Lists.{mark, tap_tile}
 use Rattle.array_form.specs.Place.{cols_in}
 use Rattle.array_form.proofs.Added.{added_is_fabric}
 use Rattle.array_form.proofs.Laid.{all_at}
-use Rattle.array_form.proofs.Listing.{in_range, range_has}
-use Rattle.array_form.proofs.Members.{Member, member_contains, member_append, append_left, append_right}
-use Rattle.array_form.proofs.Members.{member_map, map_member, member_flat, flat_member, member_filter}
+use Rattle.array_form.proofs.Members.{member_append, append_left, append_right}
+use Rattle.array_form.proofs.Members.{member_flat, flat_member}
 use Rattle.array_form.proofs.Tracking.{tracks_from}
 use Rattle.slice_form.specs.Joints.{joint_lines}
 use Rattle.slice_form.specs.Path.{Path, Carry, Cast, Lift, Programmed, IsSlice, parts}
@@ -79,10 +80,10 @@ module _ (p : Path) (ready : IsPlaceable p) (row : ℕ → ℕ) (rows : ℕ)
         (tops : (b : ℕ) → IsSlice p b → rows_of f b ≡ suc rows)
       where
         in_slices : (b : ℕ) → Member (slices_of p) b → IsSlice p b
-        in_slices b m = let r = in_range 1 p.width b m in let u = r.0 in let v = r.1 in (u, omega (arith, v))
+        in_slices b m = let r = range_members 1 p.width b m in let u = r.0 in let v = r.1 in (u, omega (arith, v))
 
         in_below : (k : ℕ) → Member (range_with_len 0 p.width) k → k < p.width
-        in_below k m = let r = (in_range 0 p.width k m).1 in omega (arith, r)
+        in_below k m = let r = (range_members 0 p.width k m).1 in omega (arith, r)
 
         trunks_stand : (b : ℕ) → IsSlice p b → (m : Mark) → Member (trunk_taps p row b) m → IsMark f m
         trunks_stand zero s m k = absurd (let z = s.0 in omega (arith, z))

@@ -1,11 +1,12 @@
 -- The stubs of a data path are bits of pads, and where the path is narrow it has none.
-use Rattle.std.proofs.Common.{◌≡◌, inl, inr, ℕ, zero, suc, ◌<◌, ◌+◌, Option, Some, None, Bool, true, false}
+use Rattle.std.proofs.Common.{◌≡◌, inl, inr, ℕ, ◌+◌, Option, Some, None, Bool, true, false}
 use Rattle.std.proofs.Common.{cond, List, [], ◌∷◌, length, map, refl, sym, ◌∙◌, ap, subst, arith, not}
 use Rattle.std.specs.Prelude.{Contains, slice_get, ◌==◌, ◌||◌, ◌&&◌}
 use Rattle.std.specs.List.{list_any, sum_by}
-use Rattle.std.proofs.lemmas.Bool.{cases_Bool, cases_eq, true≢false}
+use Rattle.std.proofs.lemmas.Bool.{cases_Bool, true≢false, or_cases, and_parts, not-true}
 use Rattle.std.proofs.lemmas.List.{length-map}
 use Rattle.std.proofs.lemmas.Option.{slice_get_within}
+use Rattle.mp_base.proofs.Members.{member_contains, contains_member, member_map}
 use Rattle.nor_net.specs.declared.net.NetId.{NetId}
 use Rattle.nor_net.specs.declared.net.Part.{Part}
 use Rattle.nor_net.specs.declared.net.Part.TheVariants.{Input, Gate, Latch}
@@ -18,24 +19,16 @@ use Rattle.path_form.specs.Shape as shape
 use Rattle.path_form.specs.Sizes as sizes
 use Rattle.array_form.specs.Band.{has}
 use Rattle.array_form.specs.Homes.{reads}
-use Rattle.array_form.proofs.Members.{member_map, contains_member, member_contains}
-use Rattle.array_form.proofs.Room.{any_member, or_cases}
+use Rattle.array_form.proofs.Room.{any_member}
 use Rattle.slice_form.specs.Narrow.{active, IsNarrow}
 use Rattle.slice_form.specs.Path.{Path, Carry, Cast, Lift}
-use Rattle.slice_form.specs.Slices.{any_below, control_stub, is_input, is_some, is_unread, slice_stub}
+use Rattle.slice_form.specs.Slices.{control_stub, is_input, is_some, is_unread, slice_stub}
 use Rattle.slice_form.specs.Whole.{carry_of, cast_of, lift_of, programmed_of, numbers_of, path_of, StubsArePads}
 use Rattle.slice_form.specs.Whole.{WholesAreNarrow}
+use Rattle.slice_form.proofs.Below.{below_any}
 use Rattle.slice_laying.proofs.Finding.{counted_there}
 use Rattle.slice_laying.proofs.SliceColumns.{words_of_stub}
 use Rattle.slice_laying.proofs.WholeNets.{control_counts, signals, start_same, words}
-
-and_parts : (a b : Bool) → (a && b) ≡ true → (a ≡ true) × (b ≡ true)
-and_parts true b e = (refl, e)
-and_parts false b e = absurd (true≢false (sym e))
-
-not_true : (a : Bool) → not a ≡ true → a ≡ false
-not_true true e = absurd (true≢false (sym e))
-not_true false e = refl
 
 or_false : (a b : Bool) → a ≡ false → (a || b) ≡ true → b ≡ true
 or_false true b e h = absurd (true≢false e)
@@ -75,19 +68,6 @@ reads_so n (Gate ins) e = has_any n ins e
 reads_so n (Latch ph None) e = absurd (true≢false (sym e))
 reads_so n (Latch ph (Some d)) e = e
 
-below_any : (test : ℕ → Bool) (n j : ℕ) → j < n → test j ≡ true → any_below test n ≡ true
-below_any test zero j lt e = absurd (omega (arith, lt))
-below_any test (suc n) j lt e = elim (cases_Bool (test n)) [
-  | inl t ↦ ap (λ b. cond b true (any_below test n)) t
-  | inr t ↦ ap (λ b. cond b true (any_below test n)) t ∙ below_any test n j (less t) e
-]
-  where
-    less : test n ≡ false → j < n
-    less t = elim (cases_eq j n) [
-      | inl q ↦ absurd (true≢false (sym e ∙ ap test q ∙ t))
-      | inr q ↦ omega (arith, lt, q)
-    ]
-
 read_not_unread : (net : List Part) (n : ℕ) → sizes.is_read net n ≡ true → is_unread net n ≡ true → ⊥
 read_not_unread net n r u =
     let w = any_member (sizes.reads n) net r in
@@ -119,9 +99,9 @@ module _ (p : DataPath) where
         there = a.0;
         unread = b.0;
         lifts = sym (any_through (λ (l : Lift). l.control == n) lift_of p.lifts)
-            ∙ not_true (list_any (λ (l : Lift). l.control == n) whole.lifts) c.0;
+            ∙ not-true (list_any (λ (l : Lift). l.control == n) whole.lifts) c.0;
         casts = sym (any_through (λ (c : Cast). c.control == n) cast_of p.casts)
-            ∙ not_true (list_any (λ (c : Cast). c.control == n) whole.casts) c.1;
+            ∙ not-true (list_any (λ (c : Cast). c.control == n) whole.casts) c.1;
       }
 
   input_of : (o : Option Part) → is_some is_input o ≡ true → o ≡ Some Input
@@ -183,9 +163,9 @@ module _ (p : DataPath) where
           let c = and_parts (not (list_any (λ (l : Lift). l.start == n) whole.lifts)) (not
           (list_any (λ (c : Carry). c.start == n) whole.chains)) b.1 in
           let lifts = sym (any_through (λ (l : Lift). l.start == n) lift_of p.lifts)
-          ∙ not_true (list_any (λ (l : Lift). l.start == n) whole.lifts) c.0 in
+          ∙ not-true (list_any (λ (l : Lift). l.start == n) whole.lifts) c.0 in
           let chains = sym (start_any n p.slices.chains)
-          ∙ not_true (list_any (λ (c : Carry). c.start == n) whole.chains) c.1 in
+          ∙ not-true (list_any (λ (c : Carry). c.start == n) whole.chains) c.1 in
           let used = subst (λ m. (sizes.is_read p.slices.net m || (list_any (λ
           (l : lifting.Lift). l.from.0 == m) p.lifts
           || list_any (λ (c : chain.Chain). (chain_from c).0 == m) p.slices.chains)) ≡ true) id.2

@@ -8,6 +8,8 @@ use Rattle.std.specs.Option.{option_or}
 use Rattle.std.proofs.lemmas.Bool.{cases_Bool, eq-eqb, ne_eqb, eqb-true, eqb-false, lt-ltb, ltb-true, true≢false}
 use Rattle.std.proofs.lemmas.List.Elements.{All-contains, Contains-append_left, Contains-append_right}
 use Rattle.std.proofs.lemmas.Option.{none-some, same_Some}
+use Rattle.mp_base.proofs.Entries.{get_map, map_get, contains_from_get}
+use Rattle.mp_base.proofs.Ranges.{get_range}
 use Rattle.nor_net.specs.declared.net.NetId.{NetId}
 use Rattle.nor_net.specs.declared.net.Part.{Part}
 use Rattle.nor_net.specs.declared.net.Part.TheVariants.{Input, Gate, Latch}
@@ -28,8 +30,8 @@ use Rattle.slice_form.specs.Path.{from_above, open_band, IsElement, gate, store,
 use Rattle.slice_form.specs.Path.{one, zero_bit}
 use Rattle.slice_form.specs.Whole.{carry_of, cast_of, lift_of, programmed_of, numbers_of, path_of, WholesHaveNets}
 use Rattle.array_form.specs.Wires.{place}
-use Rattle.slice_laying.proofs.Finding.{get_map, map_get, get_range, counted_there, counted, found_at, absent}
-use Rattle.slice_laying.proofs.Finding.{none_counted, found, get_contains}
+use Rattle.slice_laying.proofs.Finding.{counted_there, counted, found_at, absent}
+use Rattle.slice_laying.proofs.Finding.{none_counted, found}
 
 -- what a chain gives slice k of w
 abbrev pub chain_gives : ℕ → ℕ → chain.Chain → Element
@@ -305,7 +307,7 @@ module _ (p : DataPath) where
       input_of (slice_get p.slices.net (chain_to c).0)
       (slice_end (chain_to c) (Contains-append_right words (tos ++ (cast_ends ++ program_ends)) (chain_to c)
       (Contains-append_left tos (cast_ends ++ program_ends) (chain_to c)
-      (get_contains tos i (chain_to c) (map_get chain_to p.slices.chains i c h)))))
+      (contains_from_get tos i (chain_to c) (map_get chain_to p.slices.chains i c h)))))
 
   pub cast_input : (i : ℕ) (c : casting.Cast) → slice_get p.casts i ≡ Some c
       → slice_get p.slices.net c.slice.0 ≡ Some Input
@@ -314,7 +316,7 @@ module _ (p : DataPath) where
       (slice_end c.slice (Contains-append_right words (tos ++ (cast_ends ++ program_ends)) c.slice
       (Contains-append_right tos (cast_ends ++ program_ends) c.slice
       (Contains-append_left cast_ends program_ends c.slice
-      (get_contains cast_ends i c.slice
+      (contains_from_get cast_ends i c.slice
       (map_get (λ (c : casting.Cast). c.slice) p.casts i c h))))))
 
   pub program_input : (i : ℕ) (g : programmed.Programmed) → slice_get p.slices.programs i ≡ Some g
@@ -324,7 +326,7 @@ module _ (p : DataPath) where
       (slice_end g.net (Contains-append_right words (tos ++ (cast_ends ++ program_ends)) g.net
       (Contains-append_right tos (cast_ends ++ program_ends) g.net
       (Contains-append_right cast_ends program_ends g.net
-      (get_contains program_ends i g.net
+      (contains_from_get program_ends i g.net
       (map_get (λ (g : programmed.Programmed). g.net) p.slices.programs i g h))))))
 
   pub lift_input : (i : ℕ) (l : lifting.Lift) → slice_get p.lifts i ≡ Some l
@@ -333,7 +335,7 @@ module _ (p : DataPath) where
       input_of (slice_get p.control l.control.0)
       (All-contains (λ (id : NetId). is_input (slice_get p.control id.0) ≡ true) (signals ++ lift_ends) l.control
       p.whole.control_inputs.0 (Contains-append_right signals lift_ends l.control
-      (get_contains lift_ends i l.control
+      (contains_from_get lift_ends i l.control
       (map_get (λ (l : lifting.Lift). l.control) p.lifts i l h))))
 
   chain_of : (k i : ℕ) (c : chain.Chain) → k < p.width → slice_get p.slices.chains i ≡ Some c

@@ -8,6 +8,8 @@ use Rattle.std.proofs.lemmas.Bool.{lt-ltb, true≢false}
 use Rattle.std.proofs.lemmas.List.Elements.{All-contains}
 use Rattle.std.proofs.lemmas.List.FromFn.{length-map-range_with_len}
 use Rattle.std.proofs.lemmas.Option.{slice_get_within, slice_get_cases}
+use Rattle.mp_base.proofs.Members.{member_contains, contains_member, member_map}
+use Rattle.mp_base.proofs.Entries.{get_map, contains_from_get}
 use Rattle.nor_net.specs.declared.net.NetId.{NetId}
 use Rattle.nor_net.specs.declared.net.Phase.{Phase}
 use Rattle.nor_net.specs.declared.net.Part.{Part}
@@ -28,9 +30,8 @@ use Rattle.slice_form.specs.Whole.{carry_of, cast_of, lift_of, programmed_of, nu
 use Rattle.slice_form.specs.Whole as wholes
 use Rattle.array_form.specs.Wires.{place}
 use Rattle.path_form.proofs.Joining.{there}
-use Rattle.array_form.proofs.Members.{member_map, contains_member, member_contains}
 use Rattle.slice_laying.specs.Paths.{IsPlaceable, PathsArePlaceable}
-use Rattle.slice_laying.proofs.Finding.{get_map, get_contains, counted, once}
+use Rattle.slice_laying.proofs.Finding.{counted, once}
 use Rattle.slice_laying.proofs.WholeNets.{chain_input, cast_input, program_input, lift_input, from_nets, slice_counts}
 use Rattle.slice_laying.proofs.WholeNets.{to_same, start_same, words}
 
@@ -73,7 +74,8 @@ module _ (p : DataPath) (control : IsNet p.control) (slices : IsNet p.slices.net
       → slice_get ps n ≡ Some (Latch ph None) → ⊥
   unfed ps n ph all h =
       true≢false
-      (sym (All-contains (λ part. is_fed part ≡ true) ps (Latch ph None) all (get_contains ps n (Latch ph None) h)))
+      (sym (All-contains (λ part. is_fed part ≡ true) ps (Latch ph None) all
+      (contains_from_get ps n (Latch ph None) h)))
 
   fed : (b n : ℕ) (ph : Phase) → slice_get (parts whole b) n ≡ Some (Latch ph None) → ⊥
   fed zero n ph h = unfed p.control n ph p.whole.fed.0 h
@@ -99,7 +101,7 @@ module _ (p : DataPath) (control : IsNet p.control) (slices : IsNet p.slices.net
       let w = get_map cast_of p.casts i c h in
       subst (λ (c : Cast). (c.control < length p.control) × (slice_get p.slices.net c.slice ≡ Some Input)) w.2 (
         All-contains (λ (c : casting.Cast). c.control.0 < length p.control) p.casts w.0 p.whole.casts_in
-            (get_contains p.casts i w.0 w.1),
+            (contains_from_get p.casts i w.0 w.1),
         cast_input p i w.0 w.1,
       )
 
@@ -108,7 +110,7 @@ module _ (p : DataPath) (control : IsNet p.control) (slices : IsNet p.slices.net
   lifts i l h =
       let w = get_map lift_of p.lifts i l h in
       let r = All-contains (λ (l : lifting.Lift). (l.slice < p.width) × (l.from.0 < length p.slices.net)) p.lifts w.0
-      p.whole.lifts_in (get_contains p.lifts i w.0 w.1) in
+      p.whole.lifts_in (contains_from_get p.lifts i w.0 w.1) in
       subst (λ (l : Lift). (l.slice < p.width) × (l.start < length p.slices.net)
       × (slice_get p.control l.control ≡ Some Input)) w.2 (r.0, r.1, lift_input p i w.0 w.1)
 
@@ -117,7 +119,7 @@ module _ (p : DataPath) (control : IsNet p.control) (slices : IsNet p.slices.net
   chains i c h =
       let w = get_map carry_of p.slices.chains i c h in
       let r = All-contains (λ c. ((chain_from c).0 < length p.slices.net) × ((chain_to c).0 < length p.slices.net))
-      p.slices.chains w.0 p.whole.chains_in (get_contains p.slices.chains i w.0 w.1) in
+      p.slices.chains w.0 p.whole.chains_in (contains_from_get p.slices.chains i w.0 w.1) in
       subst (λ (c : Carry). (c.start < length p.slices.net) × (slice_get p.slices.net c.to ≡ Some Input)
       × (1 ≤ p.width)) w.2 (
         subst (λ n. n < length p.slices.net) (sym (start_same w.0)) r.0,
@@ -219,7 +221,7 @@ module _ (p : DataPath) (control : IsNet p.control) (slices : IsNet p.slices.net
   ends_differ i c h q =
       let w = get_map carry_of p.slices.chains i c h in
       let d = All-contains (λ c. (chain_from c).0 ≢ (chain_to c).0) p.slices.chains w.0 p.whole.ends_differ
-      (get_contains p.slices.chains i w.0 w.1) in
+      (contains_from_get p.slices.chains i w.0 w.1) in
       d (sym (start_same w.0) ∙ ap (λ (c : Carry). c.start) w.2 ∙ sym q ∙ sym (ap (λ (c : Carry). c.to) w.2)
       ∙ to_same w.0)
 

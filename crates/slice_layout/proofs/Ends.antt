@@ -1,5 +1,5 @@
 -- Each input of a slice is given by one thing: a pad, a chain, a cast or a program. So there are few of these.
-use Rattle.std.proofs.Common.{◌≡◌, ◌⊎◌, inl, inr, ℕ, zero, suc, ◌+◌, ◌*◌, ◌<◌, ◌≤◌, ◌==◌, Option, Some, None, Bool}
+use Rattle.std.proofs.Common.{◌≡◌, ◌⊎◌, inl, inr, ℕ, zero, suc, ◌+◌, ◌<◌, ◌≤◌, ◌==◌, Some, Bool}
 use Rattle.std.proofs.Common.{true}
 use Rattle.std.proofs.Common.{false, List, [], ◌∷◌, ◌++◌, length, map, refl, sym, ◌∙◌, ap, subst, arith}
 use Rattle.std.specs.Prelude.{◌||◌, ◌^◌, slice_get, if◌then◌else◌}
@@ -7,9 +7,11 @@ use Rattle.std.specs.List.{list_any}
 use Rattle.std.proofs.lemmas.Bool.{cases_Bool, cases_lt, cases_eq}
 use Rattle.std.proofs.lemmas.List.Elements.{All-contains}
 use Rattle.std.proofs.lemmas.Option.{slice_get_within}
+use Rattle.mp_base.proofs.Members.{Member, member_contains, map_member}
+use Rattle.mp_base.proofs.Numbers.{at_most_times}
 use Rattle.nor_net.specs.declared.net.NetId.{NetId}
 use Rattle.nor_net.specs.declared.net.Part.{Part}
-use Rattle.nor_net.specs.declared.net.Part.TheVariants.{Input, Gate, Latch}
+use Rattle.nor_net.specs.declared.net.Part.TheVariants.{Input}
 use Rattle.organelles.specs.declared.slices.Chain as chain
 use Rattle.organelles.specs.declared.slices.Chain.TheVariants.{Up, Down}
 use Rattle.organelles.specs.declared.slices.Programmed as programmed
@@ -17,17 +19,13 @@ use Rattle.path_form.specs.declared.path.Cast as cast
 use Rattle.path_form.specs.declared.path.Lift as lift
 use Rattle.path_form.specs.declared.path.DataPath.{DataPath}
 use Rattle.path_form.specs.Shape.{is_input, times, AreInputs, entries_of, chain_to, chain_from, control_ends}
-use Rattle.array_form.proofs.Members.{Member, member_contains, append_left, append_right}
-use Rattle.array_form.proofs.Members.{map_member}
+use Rattle.path_form.proofs.Joining.{times_append, is_one_input}
+use Rattle.array_form.proofs.Members.{append_left, append_right}
 use Rattle.array_form.proofs.Listing.{same_from, same_to}
 use Rattle.slice_form.specs.Path.{Path, Carry, Cast, Lift, Programmed}
 use Rattle.slice_form.specs.Whole.{path_of, carry_of, cast_of, lift_of, programmed_of}
 
 -- ---- how often a number is among these
-times_append : (n : ℕ) (xs ys : List NetId) → times n (xs ++ ys) ≡ times n xs + times n ys
-times_append n [] ys = omega arith
-times_append n (x ∷ xs) ys = let i = times_append n xs ys in omega arith
-
 one_here : (n : ℕ) (x : NetId) (xs : List NetId) → (x.0 == n) ≡ true → times n (x ∷ xs) ≡ 1 + times n xs
 one_here n x xs e = ap (λ t. (if t then 1 else 0) + times n xs) e
 
@@ -78,12 +76,6 @@ any_alike : {A : Type 0} (f g : A → Bool) (xs : List A) → ((x : A) → f x �
 any_alike f g [] h = refl
 any_alike f g (x ∷ xs) h = (λ i. h x i || list_any f xs) ∙ ap (λ b. g x || b) (any_alike f g xs h)
 
-pub map_get : {A B : Type 0} (f : A → B) (xs : List A) (i : ℕ) (x : A) → slice_get xs i ≡ Some x
-    → slice_get (map f xs) i ≡ Some (f x)
-map_get f [] i x h = absurd (cc h)
-map_get f (y ∷ ys) zero x h = let e : y ≡ x = cc h in ap (λ z. Some (f z)) e
-map_get f (y ∷ ys) (suc i) x h = map_get f ys i x h
-
 get_map : {A B : Type 0} (f : A → B) (xs : List A) (i : ℕ) (b : B) → slice_get (map f xs) i ≡ Some b
     → (x : A) × Member xs x × (f x ≡ b)
 get_map f [] i b h = absurd (cc h)
@@ -93,12 +85,6 @@ get_map f (y ∷ ys) (suc i) b h = let w = get_map f ys i b h in (w.0, inr w.1, 
 pub map_long : {A B : Type 0} (f : A → B) (xs : List A) → length (map f xs) ≡ length xs
 map_long f [] = refl
 map_long f (x ∷ xs) = ap suc (map_long f xs)
-
-input_is : (q : Option Part) → is_input q ≡ true → q ≡ Some Input
-input_is None e = absurd (cc e)
-input_is (Some Input) e = refl
-input_is (Some (Gate ins)) e = absurd (cc e)
-input_is (Some (Latch ph d)) e = absurd (cc e)
 
 -- ---- numbers below a bound, each at most once, are at most as many
 all_times : ℕ → List NetId → ℕ
@@ -155,7 +141,7 @@ all_few (suc n) xs h = let i = all_few n xs h in let o = h n in omega arith
 
 inputs_few : (net : List Part) (ids : List NetId) → AreInputs net ids → length ids ≤ length net
 inputs_few net ids are =
-    let l = all_long (length net) ids (λ x m. slice_get_within net x.0 Input (input_is (slice_get net x.0)
+    let l = all_long (length net) ids (λ x m. slice_get_within net x.0 Input (is_one_input (slice_get net x.0)
     (All-contains (λ (id : NetId). is_input (slice_get net id.0) ≡ true) ids x are.0 (member_contains ids x m)))) in
     let f = all_few (length net) ids (λ k. go k (is_input (slice_get net k)) refl) in omega arith
   where
@@ -198,10 +184,6 @@ pub record HasEnds (p : Path) : Type 0 where
       → (is_end p n ≡ true → ⊥) × (is_cast p n ≡ true → ⊥) × (is_program p n ≡ true → ⊥)
   pub few : length p.casts + length p.lifts < 2 ^ 25
 
-whole_times : (w n : ℕ) → 0 < w → n ≤ w * n
-whole_times zero n h = absurd (omega arith)
-whole_times (suc w) n h = omega arith
-
 module _ (p : DataPath) where
   abbrev net : List Part
   net = p.slices.net
@@ -225,7 +207,7 @@ module _ (p : DataPath) where
   are_inputs = p.whole.slice_inputs
 
   input_at : (x : NetId) → Member all_ends x → slice_get net x.0 ≡ Some Input
-  input_at x m = input_is (slice_get net x.0)
+  input_at x m = is_one_input (slice_get net x.0)
       (All-contains (λ (id : NetId). is_input (slice_get net id.0) ≡ true) all_ends x are_inputs.0
       (member_contains all_ends x m))
 
@@ -321,7 +303,7 @@ module _ (p : DataPath) where
   few_nets : (length net < 2 ^ 24) × (length p.control < 2 ^ 24)
   few_nets =
       let f = p.whole.few_nets in
-      let g = whole_times p.width (length net + length p.slices.chains + length p.slices.programs) p.whole.width.0 in
+      let g = at_most_times p.width (length net + length p.slices.chains + length p.slices.programs) p.whole.width.0 in
       (omega arith, omega arith)
 
   pub has_ends : HasEnds (path_of p)

@@ -6,12 +6,13 @@ use Rattle.std.specs.Int.{bit_at}
 use Rattle.std.specs.List.{range_with_len}
 use Rattle.std.proofs.lemmas.List.FromFn.{get_or-map-range_with_len, length-map-range_with_len}
 use Rattle.std.proofs.lemmas.Option.{slice_get_within, slice_get-get_or}
+use Rattle.mp_base.proofs.Entries.{map_get}
 use Rattle.nor_net.specs.declared.net.Part.TheVariants.{Input}
 use Rattle.organelles.specs.declared.slices.Programmed as programmed
 use Rattle.path_form.specs.declared.path.Cast as cast
 use Rattle.path_form.specs.declared.path.DataPath.{DataPath}
 use Rattle.slice_form.specs.Whole.{path_of, cast_of, programmed_of}
-use Rattle.slice_layout.proofs.Ends.{map_get, map_long, has_ends}
+use Rattle.slice_layout.proofs.Ends.{map_long, has_ends}
 
 -- a cast and a programmed net are on nets that there are
 pub cast_within : (p : DataPath) (i : ℕ) (d : cast.Cast) (l : List cast.Cast) → l ≡ p.casts

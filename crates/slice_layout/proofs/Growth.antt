@@ -4,7 +4,8 @@ use Rattle.std.proofs.Common.{◌∙◌, ap, arith, append_assoc}
 use Rattle.std.specs.Prelude.{flat_map}
 use Rattle.std.specs.List.{range_with_len}
 use Rattle.std.proofs.lemmas.List.{map-append}
-use Rattle.band_lists.proofs.Growing.{range_more, flat_from}
+use Rattle.mp_base.proofs.Ranges.{range_more}
+use Rattle.band_lists.proofs.Growing.{flat_from}
 
 pub map_from : {B : Type 0} (base : List B) (g : ℕ → B) (a n : ℕ) (items more : List B)
     → items ≡ base ++ map g (range_with_len a n) → more ≡ items ++ g (a + n) ∷ []

@@ -4,9 +4,9 @@ use Rattle.std.proofs.Common.{subst, arith}
 use Rattle.std.specs.Prelude.{slice_get}
 use Rattle.std.specs.List.{range_with_len}
 use Rattle.std.proofs.lemmas.Option.{slice_get_within}
-use Rattle.array_form.proofs.Members.{Member, member_append, append_left, append_right, member_map, map_member}
+use Rattle.mp_base.proofs.Members.{Member, member_map, map_member, range_members, range_has}
+use Rattle.array_form.proofs.Members.{member_append, append_left, append_right}
 use Rattle.array_form.proofs.Members.{member_flat, flat_member}
-use Rattle.array_form.proofs.Listing.{in_range, range_has}
 use Rattle.slice_form.specs.Path.{Path, Carry, Cast, Lift, Programmed}
 use Rattle.slice_form.specs.Slices.{cast_column, lift_column}
 use Rattle.band_lists.specs.declared.pins.Pin.{Pin}
@@ -99,7 +99,7 @@ module _ (p : Path) where
         ]
         | inr a ↦ (
             let w = member_map (phase_pin (length p.slice) 1) (range_with_len 0 3) q a in
-            of_phase w.0 (let r = (in_range 0 3 w.0 w.1).1 in omega arith) w.2)
+            of_phase w.0 (let r = (range_members 0 3 w.0 w.1).1 in omega arith) w.2)
       ]
 
   -- ---- each of these is a pin

@@ -8,97 +8,44 @@ use Rattle.std.specs.List.{list_any, range_with_len}
 use Rattle.std.proofs.lemmas.Bool.{cases_Bool}
 use Rattle.std.proofs.lemmas.Option.{slice_get_within}
 use Rattle.std.proofs.lemmas.List.Elements.{All-contains}
+use Rattle.mp_base.proofs.Members.{Member, member_contains, member_map, map_member, member_filter, filter_member}
+use Rattle.std.proofs.lemmas.Map.Keys.{any_passes_from_place}
 use Rattle.nor_net.specs.declared.net.Phase.{Phase}
 use Rattle.nor_net.specs.declared.net.NetId.{NetId}
 use Rattle.nor_net.specs.declared.net.Part.{Part}
 use Rattle.nor_net.specs.declared.net.Part.TheVariants.{Input, Gate, Latch}
 use Rattle.nor_net.specs.Shape.{IsNet}
+use Rattle.nor_net.proofs.Parts.{fed_by}
 use Rattle.track_assign.specs.Density.{IsInterval}
 use Rattle.array_form.specs.Homes.{Columns, home, numbers, reads, beats, marks, phase_marks, phase_number}
 use Rattle.array_form.specs.Place.{cols_in, interval_of}
-use Rattle.array_form.proofs.Members.{Member, member_contains, member_append, append_left, append_right, member_map}
-use Rattle.array_form.proofs.Members.{map_member, member_filter, filter_member}
+use Rattle.array_form.proofs.Members.{member_append, append_left, append_right}
 use Rattle.array_form.proofs.Listing.{has_member, same_from, same_to}
 use Rattle.array_form.proofs.Homes.{count_most, own_mark, reader_mark, more_mark, phase_mark, least_below}
 use Rattle.array_form.proofs.Homes.{greatest_above}
 use Rattle.array_form.proofs.Laid.{all_from}
 use Rattle.array_form.proofs.Tracking.{cols_nets, cols_phases}
+use Rattle.array_form.proofs.Greatest.{greatest_most}
+use Rattle.array_form.proofs.Phases.{phase_small, one_phase, IsSegmentOf, for_net, for_phase, segment_of_number}
+use Rattle.array_form.proofs.Ends.{one_phase as same_phase}
 use Rattle.slice_form.specs.Path.{Path, Carry, Cast, Lift, Programmed}
 use Rattle.slice_form.specs.Slices.{cast_column, lift_column, plain_slice, slice_columns, slice_stub, slice_homed}
 use Rattle.slice_form.specs.Slices.{cast_columns, lift_columns_of, chain_starts}
 use Rattle.band_lists.specs.declared.pins.Pin.{Pin}
 use Rattle.band_lists.specs.Pins.{pin, phase_pin, stub_pins}
 use Rattle.band_lists.specs.Spans.{IsPin, column_at, columns_at, span_of}
-use Rattle.band_lists.proofs.Feeding.{fed_by}
 use Rattle.band_lists.proofs.NetPins.{own, read, beat, stub_pin_is, stub_pin_in}
-use Rattle.band_lists.proofs.SameSpans.{IsSegmentOf, for_net, for_phase, which, same_span, greatest_most, phase_small}
-use Rattle.band_lists.proofs.SameSpans.{one_phase, same_phase}
+use Rattle.band_lists.proofs.SameSpans.{same_span}
+use Rattle.slice_form.proofs.Columned.{cast_of_column, lift_of_column, chain_of_column}
+use Rattle.slice_form.proofs.Crossing.{cast_has, lift_has}
 use Rattle.slice_layout.specs.Pins.{slice_pins}
 use Rattle.slice_layout.proofs.Ends.{HasEnds}
 use Rattle.slice_layout.proofs.SlicePins.{IsSlicePin, of_net, of_cast, of_lift, of_end, of_start, of_program, of_phase}
 use Rattle.slice_layout.proofs.SlicePins.{slice_pin_is, slice_pin_in, cast_place, lift_place}
-use Rattle.slice_layout.proofs.SliceStubs.{any_at, homed_part, homed_to, homed_program, homed_stub, homed_own, pin_of}
+use Rattle.slice_layout.proofs.SliceStubs.{homed_part, homed_to, homed_program, homed_stub, homed_own, pin_of}
 use Rattle.slice_layout.proofs.SliceStubs.{stub_same}
 
 -- ---- the columns of casts, lifts and chains
-cast_has : (test : Cast → Bool) (at : ℕ) (cs : List Cast) (i : ℕ) (c : Cast) → slice_get cs i ≡ Some c
-    → test c ≡ true → Member (cast_columns test at cs) (at + i)
-cast_has test at [] i c h e = absurd (cc h)
-cast_has test at (a ∷ cs) zero c h e =
-    let same : a ≡ c = cc h in let z : at ≡ at + 0 = omega arith in
-    append_left (cond (test a) (at ∷ []) []) (cast_columns test (suc at) cs) (at + 0)
-    (subst (λ t. Member (cond t (at ∷ []) []) (at + 0)) (sym (ap test same ∙ e)) (inl z))
-cast_has test at (a ∷ cs) (suc i) c h e =
-    let z : suc at + i ≡ at + suc i = omega arith in
-    append_right (cond (test a) (at ∷ []) []) (cast_columns test (suc at) cs) (at + suc i)
-    (subst (Member (cast_columns test (suc at) cs)) z (cast_has test (suc at) cs i c h e))
-
-has_cast : (test : Cast → Bool) (at : ℕ) (cs : List Cast) (x : ℕ) → Member (cast_columns test at cs) x
-    → (i : ℕ) × (c : Cast) × (slice_get cs i ≡ Some c) × (test c ≡ true) × (at + i ≡ x)
-has_cast test at [] x m = absurd m
-has_cast test at (a ∷ cs) x m =
-    elim (member_append (cond (test a) (at ∷ []) []) (cast_columns test (suc at) cs) x m) [
-      | inl h ↦ here (test a) refl h
-      | inr h ↦ (
-          let w = has_cast test (suc at) cs x h in
-          let e = w.4 in (suc w.0, w.1, w.2, w.3, omega arith))
-    ]
-  where
-    here : (t : Bool) → test a ≡ t → Member (cond t (at ∷ []) []) x
-        → (i : ℕ) × (c : Cast) × (slice_get (a ∷ cs) i ≡ Some c) × (test c ≡ true) × (at + i ≡ x)
-    here true e (inl s) = (0, a, refl, e, omega arith)
-    here true e (inr z) = absurd z
-    here false e h = absurd h
-
-lift_has : (test : Lift → Bool) (at : ℕ) (ls : List Lift) (i : ℕ) (l : Lift) → slice_get ls i ≡ Some l
-    → test l ≡ true → Member (lift_columns_of test at ls) (at + i)
-lift_has test at [] i l h e = absurd (cc h)
-lift_has test at (a ∷ ls) zero l h e =
-    let same : a ≡ l = cc h in let z : at ≡ at + 0 = omega arith in
-    append_left (cond (test a) (at ∷ []) []) (lift_columns_of test (suc at) ls) (at + 0)
-    (subst (λ t. Member (cond t (at ∷ []) []) (at + 0)) (sym (ap test same ∙ e)) (inl z))
-lift_has test at (a ∷ ls) (suc i) l h e =
-    let z : suc at + i ≡ at + suc i = omega arith in
-    append_right (cond (test a) (at ∷ []) []) (lift_columns_of test (suc at) ls) (at + suc i)
-    (subst (Member (lift_columns_of test (suc at) ls)) z (lift_has test (suc at) ls i l h e))
-
-has_lift : (test : Lift → Bool) (at : ℕ) (ls : List Lift) (x : ℕ) → Member (lift_columns_of test at ls) x
-    → (i : ℕ) × (l : Lift) × (slice_get ls i ≡ Some l) × (test l ≡ true) × (at + i ≡ x)
-has_lift test at [] x m = absurd m
-has_lift test at (a ∷ ls) x m =
-    elim (member_append (cond (test a) (at ∷ []) []) (lift_columns_of test (suc at) ls) x m) [
-      | inl h ↦ here (test a) refl h
-      | inr h ↦ (
-          let w = has_lift test (suc at) ls x h in
-          let e = w.4 in (suc w.0, w.1, w.2, w.3, omega arith))
-    ]
-  where
-    here : (t : Bool) → test a ≡ t → Member (cond t (at ∷ []) []) x
-        → (i : ℕ) × (l : Lift) × (slice_get (a ∷ ls) i ≡ Some l) × (test l ≡ true) × (at + i ≡ x)
-    here true e (inl s) = (0, a, refl, e, omega arith)
-    here true e (inr z) = absurd z
-    here false e h = absurd h
-
 start_has : (at : ℕ → ℕ) (n : ℕ) (cs : List Carry) (i : ℕ) (c : Carry) → slice_get cs i ≡ Some c → c.start ≡ n
     → Member (chain_starts at n cs) (at c.to)
 start_has at n [] i c h s = absurd (cc h)
@@ -109,21 +56,6 @@ start_has at n (a ∷ cs) zero c h s =
     (sym (same_to a.start n (ap (λ z. z.start) same ∙ s))) (inl (ap (λ z. at z.to) same)))
 start_has at n (a ∷ cs) (suc i) c h s =
     append_right (cond (a.start == n) (at a.to ∷ []) []) (chain_starts at n cs) (at c.to) (start_has at n cs i c h s)
-
-has_start : (at : ℕ → ℕ) (n : ℕ) (cs : List Carry) (x : ℕ) → Member (chain_starts at n cs) x
-    → (i : ℕ) × (c : Carry) × (slice_get cs i ≡ Some c) × (c.start ≡ n) × (at c.to ≡ x)
-has_start at n [] x m = absurd m
-has_start at n (a ∷ cs) x m =
-    elim (member_append (cond (a.start == n) (at a.to ∷ []) []) (chain_starts at n cs) x m) [
-      | inl h ↦ here (a.start == n) refl h
-      | inr h ↦ (let w = has_start at n cs x h in (suc w.0, w.1, w.2, w.3, w.4))
-    ]
-  where
-    here : (t : Bool) → (a.start == n) ≡ t → Member (cond t (at a.to ∷ []) []) x
-        → (i : ℕ) × (c : Carry) × (slice_get (a ∷ cs) i ≡ Some c) × (c.start ≡ n) × (at c.to ≡ x)
-    here true e (inl s) = (0, a, refl, same_from a.start n e, s)
-    here true e (inr z) = absurd z
-    here false e h = absurd h
 
 module _ (p : Path) (ends : HasEnds p) (is_net : IsNet p.slice) where
   -- ---- what a part reads is a net
@@ -304,14 +236,15 @@ module _ (p : Path) (ends : HasEnds p) (is_net : IsNet p.slice) where
       net_marks k c q lt s e (by_slice (of_end i a h r)) =
           own_marks a.to k c q (end_within i a h)
           (homed_to p ends stubs stubs_are stubs_long a.to
-          (any_at (λ (b : Carry). b.to == a.to) p.chains i a h (same_to a.to a.to refl))) r s e
+          (any_passes_from_place (λ (b : Carry). b.to == a.to) p.chains i a h (same_to a.to a.to refl))) r s e
       net_marks k c q lt s e (by_slice (of_start i a h r)) =
           more_marks a.start k c (home y a.to) (start_more i a h) (ap (λ z. z.segment) r ∙ s)
           (home_is a.to k a.start c q (end_within i a h) r e)
       net_marks k c q lt s e (by_slice (of_program i g h r)) =
           own_marks g.net k c q (program_within i g h)
           (homed_program p ends stubs stubs_are stubs_long g.net
-          (any_at (λ (b : Programmed). b.net == g.net) p.programs i g h (same_to g.net g.net refl))) r s e
+          (any_passes_from_place (λ (b : Programmed). b.net == g.net) p.programs i g h (same_to g.net g.net refl))) r s
+          e
       net_marks k c q lt s e (by_slice (of_phase j jl r)) =
           let f : length p.slice + j ≡ k = ap (λ z. z.segment) r ∙ s in absurd (omega arith)
       net_marks k c q lt s e (by_stub n nl g r) =
@@ -330,17 +263,17 @@ module _ (p : Path) (ends : HasEnds p) (is_net : IsNet p.slice) where
           (lift_columns_of (λ l. l.start == k) (4 + length p.casts) p.lifts
           ++ chain_starts (home (plain_slice p)) k p.chains) c m) [
             | inl h ↦ (
-                let w = has_cast (λ (a : Cast). a.slice == k) 4 p.casts c h in
+                let w = cast_of_column (λ (a : Cast). a.slice == k) 4 p.casts c h in
                 to_pin k c (cast_place w.0 w.1) (slice_in (cast_place w.0 w.1) (of_cast w.0 w.1 w.2 refl))
                 (same_from w.1.slice k w.3) w.4)
             | inr h ↦ elim (member_append (lift_columns_of (λ l. l.start == k) (4 + length p.casts) p.lifts)
                 (chain_starts (home (plain_slice p)) k p.chains) c h) [
                   | inl a ↦ (
-                      let w = has_lift (λ (l : Lift). l.start == k) (4 + length p.casts) p.lifts c a in
+                      let w = lift_of_column (λ (l : Lift). l.start == k) (4 + length p.casts) p.lifts c a in
                       to_pin k c (lift_place p w.0 w.1) (slice_in (lift_place p w.0 w.1) (of_lift w.0 w.1 w.2 refl))
                       (same_from w.1.start k w.3) w.4)
                   | inr a ↦ (
-                      let w = has_start (home (plain_slice p)) k p.chains c a in
+                      let w = chain_of_column (home (plain_slice p)) k p.chains c a in
                       to_pin k c (pin w.1.start w.1.to) (slice_in (pin w.1.start w.1.to) (of_start w.0 w.1 w.2 refl))
                       w.3 (columns_are w.1.to (end_within w.0 w.1 w.2) ∙ w.4))
                 ]
@@ -523,7 +456,7 @@ module _ (p : Path) (ends : HasEnds p) (is_net : IsNet p.slice) where
           → span_of (columns_at columns pins k) ≡ interval_of (cols_in y p.slice k)
       unfolding few_columns
       span_is k lt =
-          let s = which (length p.slice) k lt in
+          let s = segment_of_number (length p.slice) k lt in
           let c = some_column k s in
           same_span (columns_at columns pins k) (cols_in y p.slice k) c.0 c.1
           (λ a m. (cols_have k a s m, let b = small k a m in omega arith)) (λ a m. have_cols k a s m)
@@ -532,7 +465,7 @@ module _ (p : Path) (ends : HasEnds p) (is_net : IsNet p.slice) where
       pub is_interval : (k : ℕ) → k < length p.slice + 3 → IsInterval (interval_of (cols_in y p.slice k))
       unfolding few_columns
       is_interval k lt =
-          let s = which (length p.slice) k lt in
+          let s = segment_of_number (length p.slice) k lt in
           let c = some_column k s in
           let a = least_below (cols_in y p.slice k) c.0 c.1 in
           let b = greatest_above (cols_in y p.slice k) c.0 c.1 in

@@ -1,66 +1,35 @@
 -- A net that no pin is on is a pad's bit that nothing uses; and which nets have columns of their own.
-use Rattle.std.proofs.Common.{◌≡◌, inl, inr, ℕ, zero, suc, ◌+◌, ◌<◌, ◌≤◌, ◌==◌, Option, Some, None, Bool, true}
-use Rattle.std.proofs.Common.{false, cond, not, ◌&&◌, List, [], ◌∷◌, ◌++◌, length, map, get_or, refl, sym, ◌∙◌, ap}
+use Rattle.std.proofs.Common.{◌≡◌, inl, inr, ℕ, ◌+◌, ◌<◌, ◌≤◌, ◌==◌, Option, Some, None, Bool, true}
+use Rattle.std.proofs.Common.{false, not, ◌&&◌, List, ◌++◌, length, map, get_or, refl, sym, ◌∙◌, ap}
 use Rattle.std.proofs.Common.{subst}
 use Rattle.std.proofs.Common.{arith}
 use Rattle.std.specs.Prelude.{◌||◌, slice_get}
 use Rattle.std.specs.List.{list_any, range_with_len}
-use Rattle.std.proofs.lemmas.Bool.{cases_Bool, cases_lt, and_parts}
+use Rattle.std.proofs.lemmas.Bool.{and_parts, or_left, or_right, or_cases, not-true}
 use Rattle.std.proofs.lemmas.Option.{slice_get_within, slice_get_cases}
+use Rattle.mp_base.proofs.Members.{Member, any_of}
+use Rattle.mp_base.proofs.Ranges.{map_same}
+use Rattle.mp_base.proofs.Tests.{same_bools, false_true}
+use Rattle.std.proofs.lemmas.Map.Keys.{any_passes_from_place}
 use Rattle.nor_net.specs.declared.net.Part.{Part}
 use Rattle.nor_net.specs.declared.net.Part.TheVariants.{Input, Gate, Latch}
 use Rattle.array_form.specs.Homes.{reads, phase_number, home}
 use Rattle.array_form.specs.Place as place
-use Rattle.array_form.proofs.Members.{Member, member_append, append_left, append_right}
+use Rattle.array_form.proofs.Members.{member_append, append_left, append_right}
 use Rattle.array_form.proofs.Listing.{same_from, same_to}
-use Rattle.array_form.proofs.Room.{any_member, or_left, or_right, or_cases}
+use Rattle.array_form.proofs.Room.{any_member}
+use Rattle.array_form.proofs.Below.{count_same}
 use Rattle.slice_form.specs.Path.{Path, Carry, Cast, Lift, Programmed}
 use Rattle.slice_form.specs.Slices.{any_below, is_some, is_input, is_unread, slice_stub, slice_homed, slice_columns}
 use Rattle.band_lists.specs.declared.pins.Pin.{Pin}
 use Rattle.band_lists.specs.Homed.{is_homed, is_unpinned, home_by}
 use Rattle.band_lists.specs.Pins.{pin, is_own, stub_pins}
-use Rattle.band_lists.proofs.Counts.{any_of, same_bools, count_same, map_same}
 use Rattle.band_lists.proofs.NetPins.{own, read, beat, stub_pin_is, stub_pin_in}
+use Rattle.slice_form.proofs.Below.{below_any, below_member}
 use Rattle.slice_layout.specs.Pins.{slice_pins}
 use Rattle.slice_layout.proofs.Ends.{HasEnds, is_word, is_end, is_cast, is_program}
 use Rattle.slice_layout.proofs.SlicePins.{IsSlicePin, of_net, of_cast, of_lift, of_end, of_start, of_program, of_phase}
 use Rattle.slice_layout.proofs.SlicePins.{slice_pin_is, slice_pin_in, cast_place, lift_place}
-
-false_true : false ≡ true → ⊥
-false_true e = cc e
-
--- what passes a test at some number
-pub any_at : {A : Type 0} (test : A → Bool) (xs : List A) (i : ℕ) (x : A) → slice_get xs i ≡ Some x → test x ≡ true
-    → list_any test xs ≡ true
-any_at test [] i x h e = absurd (cc h)
-any_at test (y ∷ ys) zero x h e = let s : y ≡ x = cc h in ap (λ t. t || list_any test ys) (ap test s ∙ e)
-any_at test (y ∷ ys) (suc i) x h e = or_right (test y) (list_any test ys) (any_at test ys i x h e)
-
-below_has : (test : ℕ → Bool) (n j : ℕ) → j < n → test j ≡ true → any_below test n ≡ true
-below_has test zero j lt e = absurd (omega arith)
-below_has test (suc n) j lt e = elim (cases_Bool (test n)) [
-  | inl q ↦ ap (λ t. cond t true (any_below test n)) q
-  | inr q ↦ ap (λ t. cond t true (any_below test n)) q ∙ below_has test n j (go q) e
-]
-  where
-    go : test n ≡ false → j < n
-    go q = elim (cases_lt j n) [
-      | inl l ↦ l
-      | inr g ↦ (let s : j ≡ n = omega arith in absurd (false_true (sym q ∙ (ap test (sym s) ∙ e))))
-    ]
-
-has_below : (test : ℕ → Bool) (n : ℕ) → any_below test n ≡ true → (j : ℕ) × (j < n) × (test j ≡ true)
-has_below test zero e = absurd (cc e)
-has_below test (suc n) e = elim (cases_Bool (test n)) [
-  | inl q ↦ (n, omega arith, q)
-  | inr q ↦ (
-      let w = has_below test n (sym (ap (λ t. cond t true (any_below test n)) q) ∙ e) in
-      let l = w.1 in (w.0, omega arith, w.2))
-]
-
-not_false : (t : Bool) → not t ≡ true → t ≡ false
-not_false true e = absurd (cc e)
-not_false false e = refl
 
 not_true : (t : Bool) → (t ≡ true → ⊥) → not t ≡ true
 not_true true h = absurd (h refl)
@@ -104,7 +73,7 @@ module _ (p : Path) (ends : HasEnds p) where
 
   bare_unread : (n : ℕ) → (has_pin n ≡ true → ⊥) → is_unread p.slice n ≡ true
   bare_unread n bare = not_true (any_below (λ j. reads n (slice_get p.slice j)) (length p.slice))
-      (λ e. let w = has_below (λ j. reads n (slice_get p.slice j)) (length p.slice) e in
+      (λ e. let w = below_member (λ j. reads n (slice_get p.slice j)) (length p.slice) e in
       bare (reader n w.0 (slice_get p.slice w.0) refl w.2))
 
   bare_lift : (n : ℕ) → (has_pin n ≡ true → ⊥) → lifted n ≡ true → ⊥
@@ -176,8 +145,8 @@ module _ (p : Path) (ends : HasEnds p) where
       record {
         word = a.0;
         unread = b.0;
-        unlifted = not_false (list_any (λ (l : Lift). l.start == n) p.lifts) d.0;
-        uncarried = not_false (list_any (λ (c : Carry). c.start == n) p.chains) d.1;
+        unlifted = not-true (list_any (λ (l : Lift). l.start == n) p.lifts) d.0;
+        uncarried = not-true (list_any (λ (c : Carry). c.start == n) p.chains) d.1;
       }
 
   input_differs : (q : Part) → place.is_input q ≡ false → Some q ≡ Some Input → ⊥
@@ -190,26 +159,26 @@ module _ (p : Path) (ends : HasEnds p) where
       input_differs x e (sym g ∙ (ap (slice_get p.slice) (ap (λ z. z.segment) r ∙ s) ∙ ends.words n u.word))
   unpinned n u q s (of_net (read m i x g e r)) =
       let lt = slice_get_within p.slice m x g in
-      false_true (sym (not_false (any_below (λ j. reads n (slice_get p.slice j)) (length p.slice)) u.unread)
-      ∙ below_has (λ j. reads n (slice_get p.slice j)) (length p.slice) m lt
+      false_true (sym (not-true (any_below (λ j. reads n (slice_get p.slice j)) (length p.slice)) u.unread)
+      ∙ below_any (λ j. reads n (slice_get p.slice j)) (length p.slice) m lt
       (ap (reads n) g ∙ subst (λ z. reads z (Some x) ≡ true) (ap (λ z. z.segment) r ∙ s) e))
   unpinned n u q s (of_net (beat m ph d g r)) =
       let lt = slice_get_within p.slice n Input (ends.words n u.word) in
       let e : length p.slice + phase_number ph ≡ n = ap (λ z. z.segment) r ∙ s in absurd (omega arith)
   unpinned n u q s (of_cast i c h r) =
-      (ends.alone n u.word).1 (any_at (λ (c : Cast). c.slice == n) p.casts i c h
+      (ends.alone n u.word).1 (any_passes_from_place (λ (c : Cast). c.slice == n) p.casts i c h
       (same_to c.slice n (ap (λ z. z.segment) r ∙ s)))
   unpinned n u q s (of_lift i l h r) =
-      false_true (sym u.unlifted ∙ any_at (λ (l : Lift). l.start == n) p.lifts i l h
+      false_true (sym u.unlifted ∙ any_passes_from_place (λ (l : Lift). l.start == n) p.lifts i l h
       (same_to l.start n (ap (λ z. z.segment) r ∙ s)))
   unpinned n u q s (of_end i c h r) =
-      (ends.alone n u.word).0 (any_at (λ (c : Carry). c.to == n) p.chains i c h
+      (ends.alone n u.word).0 (any_passes_from_place (λ (c : Carry). c.to == n) p.chains i c h
       (same_to c.to n (ap (λ z. z.segment) r ∙ s)))
   unpinned n u q s (of_start i c h r) =
-      false_true (sym u.uncarried ∙ any_at (λ (c : Carry). c.start == n) p.chains i c h
+      false_true (sym u.uncarried ∙ any_passes_from_place (λ (c : Carry). c.start == n) p.chains i c h
       (same_to c.start n (ap (λ z. z.segment) r ∙ s)))
   unpinned n u q s (of_program i g h r) =
-      (ends.alone n u.word).2 (any_at (λ (g : Programmed). g.net == n) p.programs i g h
+      (ends.alone n u.word).2 (any_passes_from_place (λ (g : Programmed). g.net == n) p.programs i g h
       (same_to g.net n (ap (λ z. z.segment) r ∙ s)))
   unpinned n u q s (of_phase j lt r) =
       let l = slice_get_within p.slice n Input (ends.words n u.word) in
@@ -217,7 +186,7 @@ module _ (p : Path) (ends : HasEnds p) where
 
   pub stub_same : (n : ℕ) → n < length p.slice → not (has_pin n) ≡ slice_stub p n
   stub_same n lt = same_bools (not (has_pin n)) (slice_stub p n)
-      (λ e. bare_stub n lt (λ t. false_true (sym (not_false (has_pin n) e) ∙ t)))
+      (λ e. bare_stub n lt (λ t. false_true (sym (not-true (has_pin n) e) ∙ t)))
       (λ e. not_true (has_pin n) (λ t. let w = pin_of n t in unpinned n (unused n e) w.0 w.2 w.1))
 
   pub stubs_same : (flags : List Bool) → ((k : ℕ) → k < length p.slice + 3 → get_or flags k false ≡ has_pin k)
@@ -287,13 +256,14 @@ module _ (p : Path) (ends : HasEnds p) where
     own_homed n lt q s o (of_cast i c h r) = absurd (false_true (ap is_own r ∙ o))
     own_homed n lt q s o (of_lift i l h r) = absurd (false_true (ap is_own r ∙ o))
     own_homed n lt q s o (of_end i c h r) =
-        homed_to n (any_at (λ (c : Carry). c.to == n) p.chains i c h (same_to c.to n (ap (λ z. z.segment) r ∙ s)))
+        homed_to n
+        (any_passes_from_place (λ (c : Carry). c.to == n) p.chains i c h (same_to c.to n (ap (λ z. z.segment) r ∙ s)))
     own_homed n lt q s o (of_start i c h r) =
         let e : c.to ≡ c.start = same_from c.to c.start (ap is_own r ∙ o) in
-        homed_to n (any_at (λ (c : Carry). c.to == n) p.chains i c h
+        homed_to n (any_passes_from_place (λ (c : Carry). c.to == n) p.chains i c h
         (same_to c.to n (e ∙ (ap (λ z. z.segment) r ∙ s))))
     own_homed n lt q s o (of_program i g h r) =
-        homed_program n (any_at (λ (g : Programmed). g.net == n) p.programs i g h
+        homed_program n (any_passes_from_place (λ (g : Programmed). g.net == n) p.programs i g h
         (same_to g.net n (ap (λ z. z.segment) r ∙ s)))
     own_homed n lt q s o (of_phase j l r) = absurd (false_true (ap is_own r ∙ o))
 

@@ -1,17 +1,19 @@
 -- A fabric with space for slices has room for what is added.
-use Rattle.std.proofs.Common.{◌≡◌, ℕ, zero, suc, ◌+◌, ◌*◌, ◌≤◌, ◌==◌, Option, Some, None, Bool, true, false}
-use Rattle.std.proofs.Common.{cond, not}
-use Rattle.std.proofs.Common.{List, [], ◌∷◌, ◌++◌, length, map, filter, ◌∙◌, arith}
+use Rattle.std.proofs.Common.{◌≡◌, ℕ, suc, ◌+◌, ◌*◌, ◌≤◌, ◌==◌, Option, Some, None, Bool, true, false}
+use Rattle.std.proofs.Common.{not}
+use Rattle.std.proofs.Common.{[], ◌∷◌, ◌++◌, length, map, arith}
 use Rattle.std.specs.Prelude.{flat_map, slice_get}
 use Rattle.std.specs.List.{range_with_len}
 use Rattle.std.proofs.lemmas.List.{length-append}
+use Rattle.std.proofs.lemmas.List.FromFn.{length-range_with_len, length-map-range_with_len}
+use Rattle.mp_base.proofs.Ranges.{flat_count}
+use Rattle.mp_base.proofs.Lists.{filter_few}
 use Rattle.fabric.specs.Plan.{Plan}
 use Rattle.fabric.specs.Room.{IsRoomy}
 use Rattle.nor_net.specs.declared.net.Phase.TheVariants.{A, B, C}
 use Rattle.nor_net.specs.Shape.{gate_inputs}
 use Rattle.array_form.specs.Laying.{band_segments, band_lines, band_marks}
 use Rattle.array_form.proofs.Counting.{segments_count, lines_count, marks_count}
-use Rattle.array_form.proofs.Tracking.{length_range}
 use Rattle.slice_form.specs.Joints.{joint_lines, lift_lines, bit_lines, trunk_line}
 use Rattle.slice_form.specs.Path.{Path, Carry, Cast, Lift, Programmed}
 use Rattle.slice_form.specs.PathLists.{slices_of, bands_of, others_of}
@@ -29,52 +31,30 @@ use Rattle.slice_layout.proofs.Ends.{map_long}
 times_more : (n m : ℕ) → suc n * m ≡ m + n * m
 times_more n m = omega arith
 
--- a bound for each number bounds all together
-pub flat_most : {B : Type 0} (g : ℕ → List B) (most a n : ℕ) → ((i : ℕ) → length (g i) ≤ most)
-    → length (flat_map g (range_with_len a n)) ≤ n * most
-flat_most g most a zero h = omega arith
-flat_most g most a (suc n) h =
-    let l = length-append (g a) (flat_map g (range_with_len (a + 1) n)) in
-    let i = flat_most g most (a + 1) n h in
-    let b = h a in
-    let t = times_more n most in omega arith
-
-map_most : {B : Type 0} (g : ℕ → B) (a n : ℕ) → length (map g (range_with_len a n)) ≡ n
-map_most g a n = map_long g (range_with_len a n) ∙ length_range a n
-
-filter_most : {B : Type 0} (test : B → Bool) (xs : List B) → length (filter test xs) ≤ length xs
-filter_most test [] = omega arith
-filter_most test (x ∷ xs) = go (test x) (filter_most test xs)
-  where
-    go : (t : Bool) → length (filter test xs) ≤ length xs
-        → length (cond t (x ∷ filter test xs) (filter test xs)) ≤ length (x ∷ xs)
-    go true i = omega arith
-    go false i = omega arith
-
 module _ (p : Path) where
   abbrev w : ℕ
   w = p.width
 
   segments_most : (row : ℕ → ℕ) → length (slice_segments p row) ≤ w * (length p.slice + 3)
   segments_most row =
-      flat_most (λ b. band_segments b (slice_cols p) row p.slice) (length p.slice + 3) 1 w
+      flat_count (λ b. band_segments b (slice_cols p) row p.slice) (length p.slice + 3) 1 w
       (λ b. let e = segments_count b (slice_cols p) row p.slice in omega arith)
 
   lines_most : length (slice_lines p) ≤ w * (2 * length p.slice)
-  lines_most = flat_most (λ b. band_lines b (slice_columns p) p.slice) (2 * length p.slice) 1 w
+  lines_most = flat_count (λ b. band_lines b (slice_columns p) p.slice) (2 * length p.slice) 1 w
       (λ b. lines_count b (slice_columns p) p.slice)
 
   pub marks_most : (top : ℕ) (row : ℕ → ℕ)
       → length (slice_marks p top row) ≤ w * (3 * length p.slice + gate_inputs p.slice)
   marks_most top row =
-      flat_most (λ b. band_marks b top row (slice_columns p) p.slice) (3 * length p.slice + gate_inputs p.slice) 1 w
+      flat_count (λ b. band_marks b top row (slice_columns p) p.slice) (3 * length p.slice + gate_inputs p.slice) 1 w
       (λ b. marks_count b top row (slice_columns p) p.slice)
 
   -- ---- the lines of joints
   others_most : (l : Lift) → length (others_of p l) ≤ w
   others_most l =
-      let f = filter_most (λ b. not (b == suc l.slice)) (slices_of p) in
-      let r = length_range 1 w in omega arith
+      let f = filter_few (λ b. not (b == suc l.slice)) (slices_of p) in
+      let r = length-range_with_len 1 w in omega arith
 
   lift_most : (i : ℕ) (q : Option Lift) → length (lift_lines p i q) ≤ 1 + w
   lift_most i None = omega arith
@@ -86,10 +66,10 @@ module _ (p : Path) where
   bit_most None = omega arith
   bit_most (Some g) =
       let column = home (plain_slice p) g.net in
-      flat_most (λ b. upright column L b b ∷ upright column R b b ∷ []) 2 1 w (λ b. omega arith)
+      flat_count (λ b. upright column L b b ∷ upright column R b b ∷ []) 2 1 w (λ b. omega arith)
 
   chain_most : (i : ℕ) → length (map (λ g. across_of p (chain_line i g)) (bands_of p)) ≤ suc w
-  chain_most i = let m = map_most (λ g. across_of p (chain_line i g)) 0 (suc w) in omega arith
+  chain_most i = let m = length-map-range_with_len (λ g. across_of p (chain_line i g)) 0 (suc w) in omega arith
 
   joints_most : length (joint_lines p) ≤ w * (2 * joints p) + joints p + 3
   joints_most =
@@ -103,12 +83,12 @@ module _ (p : Path) where
       let b = length-append casts (lifts ++ (bits ++ chains)) in
       let c = length-append lifts (bits ++ chains) in
       let d = length-append bits chains in
-      let m = map_most (λ i. across_of p (cast_line i)) 0 (length p.casts) in
-      let l = flat_most (λ i. lift_lines p i (slice_get p.lifts i)) (1 + w) 0 (length p.lifts)
+      let m = length-map-range_with_len (λ i. across_of p (cast_line i)) 0 (length p.casts) in
+      let l = flat_count (λ i. lift_lines p i (slice_get p.lifts i)) (1 + w) 0 (length p.lifts)
       (λ i. lift_most i (slice_get p.lifts i)) in
-      let g = flat_most (λ i. bit_lines p (slice_get p.programs i)) (w * 2) 0 (length p.programs)
+      let g = flat_count (λ i. bit_lines p (slice_get p.programs i)) (w * 2) 0 (length p.programs)
       (λ i. bit_most (slice_get p.programs i)) in
-      let k = flat_most (λ i. map (λ g. across_of p (chain_line i g)) (bands_of p)) (suc w) 0 (length p.chains)
+      let k = flat_count (λ i. map (λ g. across_of p (chain_line i g)) (bands_of p)) (suc w) 0 (length p.chains)
       chain_most in
       omega (arith, a, b, c, d, m, l, g, k)
 
@@ -116,7 +96,7 @@ module _ (p : Path) where
   cast_marks_most : (row : ℕ → ℕ) (i : ℕ) (q : Option Cast) → length (cast_taps p row i q) ≤ w
   cast_marks_most row i None = omega arith
   cast_marks_most row i (Some c) =
-      let m = map_most (λ b. mark TapL b (suc (row c.slice)) (cast_column i)) 1 w in omega (arith, m)
+      let m = length-map-range_with_len (λ b. mark TapL b (suc (row c.slice)) (cast_column i)) 1 w in omega (arith, m)
 
   lift_marks_most : (row : ℕ → ℕ) (i : ℕ) (q : Option Lift) → length (lift_taps p row i q) ≤ 1 + w
   lift_marks_most row i None = omega arith
@@ -133,13 +113,13 @@ module _ (p : Path) where
   bit_marks_most top row None = omega arith
   bit_marks_most top row (Some g) =
       let column = home (plain_slice p) g.net in
-      flat_most (λ k. mark TapR (suc k) 0 column ∷ mark PullUp (suc k) top column
+      flat_count (λ k. mark TapR (suc k) 0 column ∷ mark PullUp (suc k) top column
       ∷ bit_tap row (suc k) g.net column (slice_get g.bits k)) 3 0 w
       (λ k. let b = bit_tap_most row (suc k) g.net column (slice_get g.bits k) in omega (arith, b))
 
   chain_marks_most : (row : ℕ → ℕ) (q : Option Carry) → length (chain_taps p row q) ≤ 1 + w * 2
   chain_marks_most row None = omega arith
-  chain_marks_most row (Some c) = let f = flat_most (link_taps p row c) 2 0 w (λ k. omega arith) in omega arith
+  chain_marks_most row (Some c) = let f = flat_count (link_taps p row c) 2 0 w (λ k. omega arith) in omega arith
 
   pub joint_marks_most : (top : ℕ) (row : ℕ → ℕ)
       → length (joint_marks p top row) ≤ w * (3 + 3 * joints p) + joints p
@@ -154,14 +134,14 @@ module _ (p : Path) where
       let b = length-append casts (lifts ++ (bits ++ chains)) in
       let c = length-append lifts (bits ++ chains) in
       let d = length-append bits chains in
-      let t = flat_most (trunk_taps p row) 3 1 w (λ b. omega arith) in
-      let m = flat_most (λ i. cast_taps p row i (slice_get p.casts i)) w 0 (length p.casts)
+      let t = flat_count (trunk_taps p row) 3 1 w (λ b. omega arith) in
+      let m = flat_count (λ i. cast_taps p row i (slice_get p.casts i)) w 0 (length p.casts)
       (λ i. cast_marks_most row i (slice_get p.casts i)) in
-      let l = flat_most (λ i. lift_taps p row i (slice_get p.lifts i)) (1 + w) 0 (length p.lifts)
+      let l = flat_count (λ i. lift_taps p row i (slice_get p.lifts i)) (1 + w) 0 (length p.lifts)
       (λ i. lift_marks_most row i (slice_get p.lifts i)) in
-      let g = flat_most (λ i. bit_marks p top row (slice_get p.programs i)) (w * 3) 0 (length p.programs)
+      let g = flat_count (λ i. bit_marks p top row (slice_get p.programs i)) (w * 3) 0 (length p.programs)
       (λ i. bit_marks_most top row (slice_get p.programs i)) in
-      let k = flat_most (λ i. chain_taps p row (slice_get p.chains i)) (1 + w * 2) 0 (length p.chains)
+      let k = flat_count (λ i. chain_taps p row (slice_get p.chains i)) (1 + w * 2) 0 (length p.chains)
       (λ i. chain_marks_most row (slice_get p.chains i)) in
       omega (arith, a, b, c, d, t, m, l, g, k)
 

@@ -2,9 +2,10 @@
 use Rattle.std.proofs.Common.{List, ℕ, None}
 use Rattle.std.specs.FinMap.{get}
 use Rattle.mp_base.specs.Outside.{Files, bytes_of}
+use Rattle.mp_base.proofs.Decisions.{IsDetermined}
 use Rattle.source_files.specs.declared.limits.TheConstants.{TEXT_LIMIT}
 use Rattle.mp_source.specs.Source.{OfSource}
-use Rattle.outcome.proofs.Determined.{IsDetermined, one_of_two, one_of_file}
+use Rattle.outcome.proofs.Determined.{one_of_two, one_of_file}
 use Rattle.source_files.specs.Faults.{SourceFault, StimulusFault, RunFault, PadsFault}
 use Rattle.source_files.specs.Stimulus.{OfPads, OfStimulus}
 use Rattle.source_files.proofs.Sources.{OneSource, OneVerdict, one_program}
@@ -23,7 +24,8 @@ module _ (laws : Laws) (files : Files) where
       (one_of_pads laws.first laws.whole None (bytes_of files stimulus))
 
   pub one_of_source : (source : List ℕ) → IsDetermined (SourceFault source files)
-  one_of_source source = one_of_file TEXT_LIMIT OfSource source (get files source) (laws.verdict (bytes_of files source))
+  one_of_source source =
+      one_of_file TEXT_LIMIT OfSource source (get files source) (laws.verdict (bytes_of files source))
 
   pub one_of_run : (source stimulus : List ℕ) → IsDetermined (RunFault source stimulus files)
   one_of_run source stimulus =

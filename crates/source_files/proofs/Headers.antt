@@ -1,7 +1,7 @@
 -- A stimulus with pads of its own has at most 256 of them.
-use Rattle.std.proofs.Common.{◌≡◌, ◌&&◌, ◌==◌, refl, ℕ, ◌+◌, ◌<◌, ◌≤◌, List, [], ◌∷◌, Bool, true, false, nat_lt, None, length, ap, arith}
+use Rattle.std.proofs.Common.{◌≡◌, ◌==◌, ℕ, ◌+◌, ◌<◌, ◌≤◌, List, [], ◌∷◌, true, nat_lt, None, length, ap, arith}
 use Rattle.std.proofs.lemmas.List.{length-append}
-use Rattle.std.proofs.lemmas.Bool.{ltb-true}
+use Rattle.std.proofs.lemmas.Bool.{ltb-true, and_parts}
 use Rattle.mp_base.specs.declared.pad.Pad.{Pad}
 use Rattle.stimulus.specs.declared.given.Stimulus.{Stimulus}
 use Rattle.stimulus.specs.declared.piece.Piece.{Piece}
@@ -16,15 +16,10 @@ use Rattle.stimulus.specs.Reading.{IsStimulus, Reads, nothing}
 abbrev pads_in : Reading → ℕ
 pads_in r = length r.inputs + length r.outputs
 
-both_true : (a b : Bool) → (a && b) ≡ true → (a ≡ true) × (b ≡ true)
-both_true true true e = (refl, refl)
-both_true true false e = absurd (let f : false ≡ true = e in cc)
-both_true false b e = absurd (let f : false ≡ true = e in cc)
-
 has_room : (r : Reading) (name : List ℕ) → is_new_pad r name ≡ true → pads_in r < 256
 has_room r name h =
-    let rest = (both_true (length r.clocks == 0) _ h).1 in
-    ltb-true (pads_in r) 256 (both_true (nat_lt (pads_in r) 256) _ rest).0
+    let rest = (and_parts (length r.clocks == 0) _ h).1 in
+    ltb-true (pads_in r) 256 (and_parts (nat_lt (pads_in r) 256) _ rest).0
 
 form_few : (r t : Reading) (f : Form) → IsInPlace r f → AddsForm None r f t → pads_in r ≤ 256 → pads_in t ≤ 256
 form_few r t (Input p) place adds few = let e = ap pads_in adds.1 in let more = length-append r.inputs (p ∷ []) in

@@ -1,5 +1,6 @@
 -- A program that breaks no rule has at most 256 inputs and at most 256 outputs.
-use Rattle.std.proofs.Common.{◌≡◌, ℕ, ◌≤◌, List, [], ◌∷◌, Bool, true, false, cond, refl, sym, ◌∙◌, ap, inl, inr, length, map, arith}
+use Rattle.std.proofs.Common.{◌≡◌, ℕ, ◌≤◌, List, [], ◌∷◌, Bool, true, false, cond, refl, sym, ◌∙◌, ap, inl, inr, length}
+use Rattle.std.proofs.Common.{map, arith}
 use Rattle.std.specs.Prelude.{not, filter}
 use Rattle.std.proofs.lemmas.List.{length-map, length-append}
 use Rattle.mp_base.specs.declared.refusal.Place.{Place}
@@ -7,7 +8,8 @@ use Rattle.mp_base.specs.declared.pad.Pads.{Pads}
 use Rattle.mp_program.specs.declared.program.Def.{Def}
 use Rattle.mp_program.specs.declared.program.Program.{Program}
 use Rattle.mp_program.specs.declared.program.What.{What}
-use Rattle.mp_program.specs.declared.program.What.TheVariants.{Power, Ground, Phia, Phib, Phic, Constant, Register, Flag, Port, Signal}
+use Rattle.mp_program.specs.declared.program.What.TheVariants.{Power, Ground, Phia, Phib, Phic, Constant, Register}
+use Rattle.mp_program.specs.declared.program.What.TheVariants.{Flag, Port, Signal}
 use Rattle.mp_program.specs.Names.{is_input, is_output, is_supply}
 use Rattle.mp_program.specs.Pads.{ArePadsOf, Face, face, pad_width}
 use Rattle.mp_rules.specs.Naming.{namings, def_naming, process_naming}

@@ -1,5 +1,6 @@
 -- A stimulus breaks at most one rule first.
-use Rattle.std.proofs.Common.{◌≡◌, ◌≤◌, ℕ, List, [], ◌∷◌, length, map, refl, sym, ap, subst, ◌∙◌, Option, Some, None, Result, Ok, Err, IfOk, IfErr, IfSome, arith}
+use Rattle.std.proofs.Common.{◌≡◌, ◌≤◌, ℕ, List, length, map, refl, sym, ap, subst, ◌∙◌, Option, Some, None, Result, Ok}
+use Rattle.std.proofs.Common.{Err, IfOk, IfErr, IfSome, arith}
 use Rattle.std.proofs.Props.{props}
 use Rattle.mp_base.specs.declared.refusal.Place.{Place}
 use Rattle.mp_base.specs.declared.refusal.Broken.{Broken}
@@ -11,10 +12,9 @@ use Rattle.mp_base.specs.declared.refusal.Refusal.{Refusal}
 use Rattle.mp_base.specs.declared.refusal.Refusal.TheVariants as refusal
 use Rattle.mp_base.specs.declared.pad.Pad.{Pad}
 use Rattle.mp_base.specs.declared.pad.Pads.{Pads}
-use Rattle.mp_base.specs.PadNames.{ArePadNames, names_of}
 use Rattle.mp_base.specs.Refuses.{RefusesAt, SpotIs}
 use Rattle.mp_program.specs.declared.program.Program.{Program}
-use Rattle.mp_program.specs.Pads.{ArePadsOf, Face, face}
+use Rattle.mp_program.specs.Pads.{ArePadsOf, face}
 use Rattle.stimulus.specs.declared.given.Stimulus.{Stimulus}
 use Rattle.stimulus.specs.Reading.{IsStimulus, IsFirst}
 use Rattle.mp_source.specs.Source.{IsSource}
@@ -25,49 +25,15 @@ use Rattle.source_files.specs.Faults.{PadsFault, StimulusFault}
 use Rattle.mp_base.specs.Outside.{Files, bytes_of}
 use Rattle.mp_checker.specs.Checking.{CheckedProgram}
 use Rattle.std.specs.FinMap.{get}
+use Rattle.mp_base.proofs.Decisions.{IsDetermined}
+use Rattle.mp_program.proofs.Faces.{same_list}
+use Rattle.mp_base.proofs.SamePads.{same_pads}
 use Rattle.source_files.specs.declared.limits.TheConstants.{TEXT_LIMIT}
 use Rattle.outcome.proofs.Reasons.{file_map}
 use Rattle.source_files.proofs.Clocks.{few_clocks}
-use Rattle.outcome.proofs.Determined.{IsDetermined}
-
-abbrev make_pad : (name : List ℕ) (width : ℕ) → width ≤ 64 → Pad
-make_pad name width h = record { name = name; width = width; narrow = h }
 
 one_narrow : (w : ℕ) → IsProp (w ≤ 64)
 one_narrow w = hlevel props
-
-same_pad : (p q : Pad) → face p ≡ face q → p ≡ q
-same_pad p q e =
-    let P : Face → Type 0 = λ f. (h : f.1 ≤ 64) → make_pad p.name p.width p.narrow ≡ make_pad f.0 f.1 h in
-    subst P e (λ h. ap (make_pad p.name p.width) (one_narrow p.width p.narrow h)) q.narrow
-
-same_list : (ps qs : List Pad) → map face ps ≡ map face qs → ps ≡ qs
-same_list [] [] e = refl
-same_list [] (q ∷ qs) e = cc
-same_list (p ∷ ps) [] e = cc
-same_list (p ∷ ps) (q ∷ qs) e =
-    let head : face p ≡ face q = cc in
-    let tail : map face ps ≡ map face qs = cc in
-    ap (λ x. x ∷ ps) (same_pad p q head) ∙ ap (λ xs. q ∷ xs) (same_list ps qs tail)
-
-abbrev Lists : Type 0
-Lists = List Pad × List Pad
-
-abbrev Names : Lists → Type 0
-Names l = ArePadNames (names_of l.0 l.1 (λ (pad : Pad). pad.name))
-
-abbrev make_pads : (l : Lists) → Names l → Pads
-make_pads l h = record { inputs = l.0; outputs = l.1; named = h }
-
-one_naming : (l : Lists) → IsProp (Names l)
-one_naming l = hlevel props
-
-pub same_pads : (p q : Pads) → p.inputs ≡ q.inputs → p.outputs ≡ q.outputs → p ≡ q
-same_pads p q e f =
-    let P : Lists → Type 0 = λ l. (h : Names l) → make_pads (p.inputs, p.outputs) p.named ≡ make_pads l h in
-    let both : (p.inputs, p.outputs) ≡ (q.inputs, q.outputs) = ap (λ x. let y : Lists = (x, p.outputs) in y) e
-    ∙ ap (λ x. let y : Lists = (q.inputs, x) in y) f in
-    subst P both (λ h. ap (make_pads (p.inputs, p.outputs)) (one_naming (p.inputs, p.outputs) p.named h)) q.named
 
 -- a program has the same pads everywhere
 pub one_pads : (program : Program) (p q : Pads) → ArePadsOf program p → ArePadsOf program q → p ≡ q

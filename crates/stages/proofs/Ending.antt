@@ -1,5 +1,6 @@
 -- How work in two stages ends.
-use Rattle.std.proofs.Common.{◌≡◌, ◌≤◌, ◌⊎◌, ℕ, List, sym, subst, inl, inr, Option, Some, None, Result, Ok, Err, IfSome, ◌∙◌}
+use Rattle.std.proofs.Common.{◌≡◌, ◌≤◌, ◌⊎◌, ℕ, List, sym, subst, inl, inr, Option, Some, None, Result, Ok, Err, IfSome}
+use Rattle.std.proofs.Common.{◌∙◌}
 use Rattle.std.specs.Prelude.{IsErrAnd}
 use Rattle.mp_base.specs.Outside.{Files, Rose, WhereTold, Keeps, Gains}
 use Rattle.outcome.specs.Order.{Fault, IsStrayBy}
@@ -112,7 +113,8 @@ pub causes_halted : (First : Files → Option Fault → Type 0) (held : Option F
     → HasCauses (status_of result) (IsStrayBy First held) before after
 causes_halted First held halt (Ok v) before after is ends w p = absurd is
 causes_halted First held halt (Err e) before after is ends w p =
-    subst (λ h. HasCauses (status_of {T = Unit {0}} (Err h)) (IsStrayBy First held) before after) (sym is) (by halt ends)
+    subst (λ h. HasCauses (status_of {T = Unit {0}} (Err h)) (IsStrayBy First held) before after) (sym is)
+    (by halt ends)
   where
     by : (h : Halt) → EndsBy First held before.reads after.reads h
         → HasCauses (status_of {T = Unit {0}} (Err h)) (IsStrayBy First held) before after

@@ -1,5 +1,6 @@
 -- The bits of words, and the number that they are.
-use Rattle.std.proofs.Common.{◌≡◌, ◌∙◌, ℕ, zero, suc, ◌+◌, ◌-◌, ◌*◌, ◌<◌, ◌≤◌, ◌^◌, ◌%◌, ◌≢◌, List, [], ◌∷◌, ◌++◌, Bool, true, false, cond, eqb, length, decimal, codes, inl, inr, refl, sym, ap, subst, arith}
+use Rattle.std.proofs.Common.{◌≡◌, ◌∙◌, ℕ, zero, suc, ◌+◌, ◌-◌, ◌*◌, ◌<◌, ◌≤◌, ◌^◌, ◌%◌, ◌≢◌, List, [], ◌∷◌, ◌++◌, Bool}
+use Rattle.std.proofs.Common.{true, false, cond, eqb, length, decimal, codes, inl, inr, refl, sym, ap, subst, arith}
 use Rattle.std.specs.Prelude.{bit_and, not, ◌||◌, min}
 use Rattle.std.specs.Int.{bit_at}
 use Rattle.std.specs.List.{list_any}
@@ -23,7 +24,8 @@ pub same_count : (w : ℕ) → cond (eqb w 0) 1 w ≡ bit_count w
 same_count zero = refl
 same_count (suc w) = cond-false (eqb (suc w) 0) 1 (suc w) (ne_eqb (suc w) 0 (λ e. omega (arith, e)))
 
-number_more : (bits : List Trit) (b : Trit) → number_of (bits ++ b ∷ []) ≡ number_of bits + weight b * 2 ^ length bits
+pub number_more : (bits : List Trit) (b : Trit)
+    → number_of (bits ++ b ∷ []) ≡ number_of bits + weight b * 2 ^ length bits
 number_more [] Zero = refl
 number_more [] One = refl
 number_more [] X = refl

@@ -6,7 +6,8 @@ use Rattle.stimulus.specs.Inputs.{inputs_at}
 use Rattle.stimulus.specs.Transcript.{lines_text}
 
 -- a word whose lowest bit stands first, and a bit of it that is unknown
-two_lines : lines_text 0 (record { name = codes "q"; width = 3; narrow = omega arith } ∷ []) (((Zero ∷ One ∷ One ∷ []) ∷ []) ∷ ((One ∷ X ∷ Zero ∷ []) ∷ []) ∷ [])
+two_lines : lines_text 0 (record { name = codes "q"; width = 3; narrow = omega arith } ∷ [])
+    (((Zero ∷ One ∷ One ∷ []) ∷ []) ∷ ((One ∷ X ∷ Zero ∷ []) ∷ []) ∷ [])
     ≡ codes "0 q=6\n" ++ codes "1 q=X\n"
 unfolding digits
 two_lines = refl

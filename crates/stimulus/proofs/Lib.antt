@@ -13,4 +13,5 @@ pub mod Values
 pub mod Texts
 pub mod FirstOnce
 pub mod Verdict
+pub mod Words
 mod Examples

@@ -1,5 +1,6 @@
 -- Lines one after another.
-use Rattle.std.proofs.Common.{ℕ, ◌+◌, ◌<◌, ◌≤◌, List, [], ◌∷◌, Bool, true, false, cond, sym, ap, subst, inl, inr, length, arith, Option, Some, None, ◌^◌}
+use Rattle.std.proofs.Common.{ℕ, ◌+◌, ◌<◌, ◌≤◌, List, [], ◌∷◌, Bool, true, false, cond, sym, ap, subst, inl, inr}
+use Rattle.std.proofs.Common.{length, arith, Option, Some, None, ◌^◌}
 use Rattle.std.specs.Prelude.{IfSome}
 use Rattle.std.specs.Borrow.{Bor}
 use Rattle.std.specs.Option.{option_copied}
@@ -28,21 +29,25 @@ pub broken_here : (known : Option Pads) (r : Reading) (ws : List Piece) (rest : 
     → FirstBroken known r (kept_before ws []) k at → FirstBroken known r (kept_before ws rest) k at
 broken_here known r ws rest k at h = either (is_skipped ws) h
   where
-    either : (b : Bool) → FirstBroken known r (cond b [] (ws ∷ [])) k at → FirstBroken known r (cond b rest (ws ∷ rest)) k at
+    either : (b : Bool) → FirstBroken known r (cond b [] (ws ∷ [])) k at
+        → FirstBroken known r (cond b rest (ws ∷ rest)) k at
     either true e = absurd e
     either false e = elim e [ inl here ↦ inl here | inr later ↦ absurd later.2 ]
 
 -- a line, and then one that breaks a rule
 pub broken_later : (known : Option Pads) (r s : Reading) (ws : List Piece) (rest : List (List Piece)) (k at : ℕ)
-    → Reads known r (kept_before ws []) s → FirstBroken known s rest k at → FirstBroken known r (kept_before ws rest) k at
+    → Reads known r (kept_before ws []) s → FirstBroken known s rest k at
+    → FirstBroken known r (kept_before ws rest) k at
 broken_later known r s ws rest k at h f = either (is_skipped ws) h
   where
     either : (b : Bool) → Reads known r (cond b [] (ws ∷ [])) s → FirstBroken known r (cond b rest (ws ∷ rest)) k at
     either true e = let P : Reading → Type 0 = λ q. FirstBroken known q rest k at in subst P (sym e) f
-    either false e = let P : Reading → Type 0 = λ q. FirstBroken known q rest k at in inr (e.0, e.1, subst P (sym e.2) f)
+    either false e = let P : Reading → Type 0 = λ q. FirstBroken known q rest k at in
+        inr (e.0, e.1, subst P (sym e.2) f)
 
 -- a header has few pads
-few_form : (known : Option Pads) (r : Reading) (f : Form) (t : Reading) → IsInPlace r f → AddsForm known r f t → length r.inputs ≤ 256 → length t.inputs ≤ 256
+few_form : (known : Option Pads) (r : Reading) (f : Form) (t : Reading) → IsInPlace r f → AddsForm known r f t
+    → length r.inputs ≤ 256 → length t.inputs ≤ 256
 few_form known r (Input p) t here adds few =
     let parts = and_parts _ _ here in
     let room = ltb-true (length r.inputs + length r.outputs) 256 (and_parts _ _ parts.1).0 in
@@ -50,10 +55,14 @@ few_form known r (Input p) t here adds few =
 few_form known r (Output p) t here adds few = omega (arith, ap (λ (q : Reading). length q.inputs) adds.1)
 few_form known r (Clock xs) t here adds few = omega (arith, ap (λ (q : Reading). length q.inputs) adds.2)
 
-pub few_more : (known : Option Pads) (r t : Reading) (ls : List (List Piece)) → Reads known r ls t → length r.inputs ≤ 256 → length t.inputs ≤ 256
+pub few_more : (known : Option Pads) (r t : Reading) (ls : List (List Piece)) → Reads known r ls t
+    → length r.inputs ≤ 256 → length t.inputs ≤ 256
 few_more known r t [] h few = omega (arith, ap (λ (q : Reading). length q.inputs) h)
-few_more known r t (l ∷ ls) h few = few_more known h.0 t ls h.2 (few_form known r (h.1).form h.0 (h.1).«in_place» (h.1).adds few)
+few_more known r t (l ∷ ls) h few =
+    few_more known h.0 t ls h.2 (few_form known r (h.1).form h.0 (h.1).«in_place» (h.1).adds few)
 
-pub few_inputs : (known : Option (Bor Pads)) (r : Reading) → IfSome known (λ (pads : Bor Pads). length (pads.now).inputs < 2 ^ 32) → length r.inputs ≤ 256 → length (inputs_of (option_copied known) r) < 2 ^ 32
+pub few_inputs : (known : Option (Bor Pads)) (r : Reading)
+    → IfSome known (λ (pads : Bor Pads). length (pads.now).inputs < 2 ^ 32) → length r.inputs ≤ 256
+    → length (inputs_of (option_copied known) r) < 2 ^ 32
 few_inputs None r h few = omega arith
 few_inputs (Some pads) r h few = h

@@ -1,16 +1,18 @@
 -- A text spells a stimulus, or has a first broken rule.
-use Rattle.std.proofs.Common.{◌≡◌, ◌⊎◌, inl, inr, ℕ, zero, suc, ◌+◌, ◌<◌, ◌≤◌, ◌^◌, List, [], ◌∷◌, ◌++◌, Bool, true, false, Option, Some, None, length, take, drop, refl, sym, ◌∙◌, ap, subst, arith, get_or}
+use Rattle.std.proofs.Common.{◌≡◌, ◌⊎◌, inl, inr, ℕ, zero, suc, ◌+◌, ◌<◌, ◌≤◌, ◌^◌, List, [], ◌∷◌, ◌++◌, true, Option}
+use Rattle.std.proofs.Common.{Some, None, length, take, drop, refl, sym, ◌∙◌, ap, subst, arith, get_or}
 use Rattle.std.specs.Prelude.{codes, decimal}
-use Rattle.std.specs.Str.{bytes_eq}
 use Rattle.std.specs.Char.{digit_value}
 use Rattle.std.specs.Str.Parse.{AllDigits, digits_value}
 use Rattle.std.proofs.lemmas.Bool.{cases_lt, cases_eq, cases_Bool}
 use Rattle.std.proofs.lemmas.List.{get_or_default}
-use Rattle.std.proofs.lemmas.Slice.Eq.{bytes_eq-Decides}
 use Rattle.mp_base.specs.Lines.{place_at}
 use Rattle.mp_base.specs.declared.pad.Pad.{Pad}
 use Rattle.mp_base.specs.declared.pad.Pads.{Pads}
 use Rattle.mp_base.specs.declared.refusal.Place.{Place}
+use Rattle.mp_base.proofs.Decisions.{Decided, same_claim, both_of, one_of, is_true, decided_below, is_within}
+use Rattle.mp_base.proofs.Decisions.{is_name as are_same, some_below}
+use Rattle.mp_base.proofs.Entries.{own_default}
 use Rattle.stimulus.specs.declared.form.Assignment.{Assignment}
 use Rattle.stimulus.specs.declared.form.Form.{Form}
 use Rattle.stimulus.specs.declared.form.Form.TheVariants.{Input, Output, Clock}
@@ -21,7 +23,9 @@ use Rattle.stimulus.specs.declared.reading.Reading.{Reading}
 use Rattle.stimulus.specs.Words.{lines}
 use Rattle.stimulus.specs.Forms.{is_name, IsNumber, IsWidth, IsAssignment, AreAssignments, IsPad, IsForm, is_clock}
 use Rattle.stimulus.specs.Reading.{nothing, Reads, FirstBroken, IsStimulus, IsFirst}
-use Rattle.stimulus.specs.Rules.{is_new_pad, is_known, bound, input_named, inputs_of, IsInPlace, IsFull, IsGiven, AreGiven, IsMisfit, FirstMisfit, start_of, second_of, Adds, FirstIn, full, formless, misfit}
+use Rattle.stimulus.specs.Rules.{is_new_pad, is_known, bound, input_named, inputs_of, IsInPlace, IsFull, IsGiven}
+use Rattle.stimulus.specs.Rules.{AreGiven, IsMisfit, FirstMisfit, start_of, second_of, Adds, FirstIn, full, formless}
+use Rattle.stimulus.specs.Rules.{misfit}
 use Rattle.stimulus.proofs.Apart.{AreApart, has_name, apart_more, apart_not}
 use Rattle.stimulus.proofs.Fitness.{in_range, fits_read}
 use Rattle.stimulus.proofs.Naming.{named_read}
@@ -29,58 +33,15 @@ use Rattle.stimulus.proofs.Unique.{form_once}
 
 -- ---- claims that are decided
 
-abbrev Decided : Type 0 → Type 0
-Decided A = A ⊎ (A → ⊥)
-
-same_claim : {A B : Type 0} → Decided A → (A → B) → (B → A) → Decided B
-same_claim (inl a) f g = inl (f a)
-same_claim (inr none) f g = inr (λ b. none (g b))
-
-both_of : {A B : Type 0} → Decided A → Decided B → Decided (A × B)
-both_of (inl a) (inl b) = inl (a, b)
-both_of (inl a) (inr none) = inr (λ (x, y). none y)
-both_of (inr none) other = inr (λ (x, y). none x)
-
-one_of : {A B : Type 0} → Decided A → Decided B → Decided (A ⊎ B)
-one_of (inl a) other = inl (inl a)
-one_of (inr none) (inl b) = inl (inr b)
-one_of (inr none) (inr nor) = inr (λ h. elim h [ inl a ↦ none a | inr b ↦ nor b ])
-
-is_true : (b : Bool) → Decided (b ≡ true)
-is_true true = inl refl
-is_true false = inr (λ e. absurd (cc))
-
-is_below : (m n : ℕ) → Decided (m < n)
-is_below m n = elim (cases_lt m n) [ inl lt ↦ inl lt | inr ge ↦ inr (λ lt. omega (arith, lt, ge)) ]
-
-is_within : (m n : ℕ) → Decided (m ≤ n)
-is_within m n = elim (cases_lt n m) [ inl lt ↦ inr (λ le. omega (arith, lt, le)) | inr ge ↦ inl ge ]
-
-are_same : (x y : List ℕ) → Decided (x ≡ y)
-are_same x y = same_claim (is_true (bytes_eq x y)) (bytes_eq-Decides x y).0 (bytes_eq-Decides x y).1
-
--- some number below n has a property
-some_below : (P : ℕ → Type 0) → ((i : ℕ) → Decided (P i)) → (n : ℕ) → Decided ((i : ℕ) × (i < n) × P i)
-some_below P known zero = inr (λ (i, lt, h). omega (arith, lt))
-some_below P known (suc n) = by (known n) (some_below P known n)
-  where
-    by : Decided (P n) → Decided ((i : ℕ) × (i < n) × P i) → Decided ((i : ℕ) × (i < suc n) × P i)
-    by (inl h) rest = inl (n, omega arith, h)
-    by (inr none) (inl (i, lt, h)) = inl (i, omega (arith, lt), h)
-    by (inr none) (inr nor) = inr (λ (i, lt, h). elim (cases_lt i n) [
-      | inl less ↦ nor (i, less, h)
-      | inr ge ↦ (let same : i ≡ n = omega (arith, lt, ge) in none (subst P same h))
-    ])
-
 -- ---- words
 
 all_digits : (ds : List ℕ) → Decided (AllDigits 10 ds)
 all_digits [] = inl tt
-all_digits (c ∷ cs) = both_of (is_below (digit_value c) 10) (all_digits cs)
+all_digits (c ∷ cs) = both_of (decided_below (digit_value c) 10) (all_digits cs)
 
 number_in : (ds : List ℕ) → Decided ((n : ℕ) × IsNumber ds n)
-number_in ds = same_claim (both_of (both_of (is_below 0 (length ds)) (all_digits ds))
-    (both_of (is_within (length ds) 20) (is_below (digits_value 10 ds) (2 ^ 64))))
+number_in ds = same_claim (both_of (both_of (decided_below 0 (length ds)) (all_digits ds))
+    (both_of (is_within (length ds) 20) (decided_below (digits_value 10 ds) (2 ^ 64))))
     (λ ((some, digits), (short, low)). (digits_value 10 ds, ((some, digits), short, refl, low)))
     (λ (n, (numeral, short, is, low)). (numeral, (short, subst (λ k. k < 2 ^ 64) is low)))
 
@@ -161,8 +122,9 @@ assignments_in (w ∷ ws) = same_claim (both_of (assignment_in w) (assignments_i
 
 width_in : (w : List ℕ) → Decided ((n : ℕ) × IsWidth w n)
 width_in w = same_claim (some_below (λ n. (w ≡ decimal n) × (0 < n))
-    (λ n. both_of (are_same w (decimal n)) (is_below 0 n)) 65)
-    (λ (n, lt, (is, some)). (n, (is, some, omega (arith, lt)))) (λ (n, (is, some, le)). (n, omega (arith, le), (is, some)))
+    (λ n. both_of (are_same w (decimal n)) (decided_below 0 n)) 65)
+    (λ (n, lt, (is, some)). (n, (is, some, omega (arith, lt))))
+    (λ (n, (is, some, le)). (n, omega (arith, le), (is, some)))
 
 pad_in : (ws : List Piece) → Decided ((p : Pad) × IsPad ws p)
 pad_in [] = inr (λ (p, h). absurd h)
@@ -198,11 +160,6 @@ form_in (w ∷ ws) = same_claim (one_of (both_of (are_same w.bytes (codes "in"))
     aft (Output p, (word, pad)) = inr (inl (word, (p, pad)))
     aft (Clock xs, (word, clock)) = inr (inr (word, (xs, clock)))
 
-some_entry : {X : Type 0} (xs : List X) (k : ℕ) → k < length xs → (x : X) × (x ≡ get_or xs k x)
-some_entry [] k lt = absurd (omega (arith, lt))
-some_entry (x ∷ xs) zero lt = (x, refl)
-some_entry (x ∷ xs) (suc k) lt = some_entry xs k (omega (arith, lt))
-
 apart_upto : (xs : List Assignment) (n : ℕ) → n ≤ length xs → AreApart (take n xs) ⊎ (AreApart xs → ⊥)
 apart_upto xs zero le = inl (λ i j d less lt. absurd (omega (arith, less, lt)))
 apart_upto xs (suc n) le = by (apart_upto xs n (omega (arith, le)))
@@ -210,7 +167,7 @@ apart_upto xs (suc n) le = by (apart_upto xs n (omega (arith, le)))
     by : AreApart (take n xs) ⊎ (AreApart xs → ⊥) → AreApart (take (suc n) xs) ⊎ (AreApart xs → ⊥)
     by (inr twice) = inr twice
     by (inl apart) =
-        let (x, is) = some_entry xs n (omega (arith, le)) in
+        let (x, is) = own_default xs n (omega (arith, le)) in
         elim (cases_Bool (has_name x.name (take n xs))) [
           | inl old ↦ inr (λ all. apart_not xs n x (omega (arith, le)) is old all)
           | inr new ↦ (let same : n + 1 ≡ suc n = omega arith in inl
@@ -237,7 +194,7 @@ given inputs a = by (input_named inputs a.name) refl
     by None none = inr (2, inl (refl, none))
     by (Some i) named =
         let lt = in_range inputs a.name i named in
-        let (p, is) = some_entry inputs i lt in
+        let (p, is) = own_default inputs i lt in
         elim (cases_lt a.value (bound p)) [
           | inl low ↦ inl (
             record { input = i; value = a.value },

@@ -18,7 +18,8 @@ is_fitting inputs g = nat_lt g.value (bound_at inputs g.input)
 -- each value fits, and no input comes twice
 abbrev pub is_fitting_clock : List Pad → List Given → Bool
 is_fitting_clock inputs [] = true
-is_fitting_clock inputs (g ∷ gs) = is_fitting inputs g && (not (list_any (λ (h : Given). h.input == g.input) gs) && is_fitting_clock inputs gs)
+is_fitting_clock inputs (g ∷ gs) =
+    is_fitting inputs g && (not (list_any (λ (h : Given). h.input == g.input) gs) && is_fitting_clock inputs gs)
 
 -- so it is in each clock
 abbrev pub are_fitting : List Pad → List (List Given) → Bool

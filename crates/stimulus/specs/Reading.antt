@@ -21,7 +21,8 @@ Reads known r (line ∷ more) t = (s : Reading) × Adds known r line s × Reads 
 -- the first line that breaks a rule, and of its rules the first
 abbrev pub FirstBroken : Option Pads → Reading → List (List Piece) → ℕ → ℕ → Type 0
 FirstBroken known r [] k at = ⊥
-FirstBroken known r (line ∷ more) k at = FirstIn known r line k at ⊎ ((s : Reading) × Adds known r line s × FirstBroken known s more k at)
+FirstBroken known r (line ∷ more) k at =
+    FirstIn known r line k at ⊎ ((s : Reading) × Adds known r line s × FirstBroken known s more k at)
 
 -- the text breaks no rule, and spells this stimulus
 pub record IsStimulus (text : List ℕ) (known : Option Pads) (s : Stimulus) : Type 0 where

@@ -1,5 +1,6 @@
 -- What a line adds to what was read before it, or which of the rules S1 to S4 it breaks first.
-use Rattle.std.specs.Prelude.{◌≡◌, ◌≢◌, ◌⊎◌, ℕ, ◌+◌, ◌<◌, ◌≤◌, ◌^◌, List, [], ◌∷◌, ◌++◌, Bool, true, false, cond, not, ◌&&◌, ◌==◌, nat_lt, length, position, AllPairs, Option, Some, None, slice_index_or}
+use Rattle.std.specs.Prelude.{◌≡◌, ◌≢◌, ◌⊎◌, ℕ, ◌+◌, ◌<◌, ◌≤◌, ◌^◌, List, [], ◌∷◌, ◌++◌, Bool, true, false, cond, not}
+use Rattle.std.specs.Prelude.{◌&&◌, ◌==◌, nat_lt, length, position, AllPairs, Option, Some, None, slice_index_or}
 use Rattle.std.specs.List.{list_any}
 use Rattle.std.specs.Str.{bytes_eq}
 use Rattle.mp_base.specs.declared.pad.Pad.{Pad}
@@ -24,7 +25,8 @@ is_reserved name = list_any (λ label. bytes_eq name label) supplies
 abbrev pub has_pad : List ℕ → List Pad → Bool
 has_pad name pads = list_any (λ (p : Pad). bytes_eq p.name name) pads
 
--- a header line may have this pad here: no clock line came, the name is new and not reserved, and fewer than the limit came
+-- a header line may have this pad here: no clock line came, the name is new and not reserved, and fewer than the limit
+-- came
 abbrev pub is_new_pad : Reading → List ℕ → Bool
 is_new_pad r name =
     (length r.clocks == 0) && (nat_lt (length r.inputs + length r.outputs) PAD_LIMIT
@@ -86,12 +88,14 @@ AreGiven inputs (a ∷ xs) (g ∷ gs) = IsGiven inputs a g × AreGiven inputs xs
 abbrev pub IsMisfit : List Pad → Assignment → ℕ → Type 0
 IsMisfit inputs a k =
     ((k ≡ 2) × (input_named inputs a.name ≡ None))
-    ⊎ ((k ≡ 3) × (i : ℕ) × (input_named inputs a.name ≡ Some i) × ((p : Pad) → bound (slice_index_or inputs i p) ≤ a.value))
+    ⊎ ((k ≡ 3) × (i : ℕ) × (input_named inputs a.name ≡ Some i)
+    × ((p : Pad) → bound (slice_index_or inputs i p) ≤ a.value))
 
 -- the first word that breaks S2 or S3
 abbrev pub FirstMisfit : List Pad → List Assignment → ℕ → ℕ → Type 0
 FirstMisfit inputs [] k at = ⊥
-FirstMisfit inputs (a ∷ xs) k at = (IsMisfit inputs a k × (at ≡ a.at)) ⊎ ((g : Given) × IsGiven inputs a g × FirstMisfit inputs xs k at)
+FirstMisfit inputs (a ∷ xs) k at =
+    (IsMisfit inputs a k × (at ≡ a.at)) ⊎ ((g : Given) × IsGiven inputs a g × FirstMisfit inputs xs k at)
 
 -- where the line begins, and where its second word does
 abbrev pub start_of : List Piece → ℕ
@@ -116,7 +120,8 @@ AddsForm known r (Input p) t =
 AddsForm known r (Output p) t =
     (is_known known (λ q. q.outputs) p ≡ true)
     × (t ≡ record { inputs = r.inputs; outputs = r.outputs ++ p ∷ []; clocks = r.clocks })
-AddsForm known r (Clock xs) t = (gs : List Given) × AreGiven (inputs_of known r) xs gs × (t ≡ record { inputs = r.inputs; outputs = r.outputs; clocks = r.clocks ++ gs ∷ [] })
+AddsForm known r (Clock xs) t = (gs : List Given) × AreGiven (inputs_of known r) xs gs
+    × (t ≡ record { inputs = r.inputs; outputs = r.outputs; clocks = r.clocks ++ gs ∷ [] })
 
 -- the line breaks no rule behind r, and then t was read
 pub record Adds (known : Option Pads) (r : Reading) (line : List Piece) (t : Reading) : Type 0 where
@@ -129,8 +134,10 @@ pub record Adds (known : Option Pads) (r : Reading) (line : List Piece) (t : Rea
 -- the first rule that the line breaks behind r, and where: S4, then S1, then S2 and S3 word by word
 pub data FirstIn (known : Option Pads) (r : Reading) (line : List Piece) (k at : ℕ) : Type 0 where
   full : k ≡ 4 → at ≡ start_of line → IsFull r line → FirstIn known r line k at
-  formless : k ≡ 1 → at ≡ start_of line → (IsFull r line → ⊥) → ((f : Form) → IsForm line f → IsInPlace r f → ⊥) → FirstIn known r line k at
-  misfit : (f : Form) → (IsFull r line → ⊥) → IsForm line f → IsInPlace r f → Misfits known r line f k at → FirstIn known r line k at
+  formless : k ≡ 1 → at ≡ start_of line → (IsFull r line → ⊥) → ((f : Form) → IsForm line f → IsInPlace r f → ⊥)
+      → FirstIn known r line k at
+  misfit : (f : Form) → (IsFull r line → ⊥) → IsForm line f → IsInPlace r f → Misfits known r line f k at
+      → FirstIn known r line k at
 
 -- why a form can't be added: it is out of place, or it breaks S2 or S3
 pub data FormFault (known : Option Pads) (r : Reading) (line : List Piece) (f : Form) (k at : ℕ) : Type 0 where

@@ -34,7 +34,8 @@ kept_before words lines = cond (is_skipped words) lines (words ∷ lines)
 abbrev pub words_of_lines : ℕ → List (List ℕ) → List (List Piece)
 words_of_lines at [] = []
 words_of_lines at (line ∷ []) = kept_before (words_of at line) []
-words_of_lines at (line ∷ next ∷ more) = kept_before (words_of at (strip_carriage_return line)) (words_of_lines (at + length line + 1) (next ∷ more))
+words_of_lines at (line ∷ next ∷ more) =
+    kept_before (words_of at (strip_carriage_return line)) (words_of_lines (at + length line + 1) (next ∷ more))
 
 -- the words of each line that isn't skipped
 abbrev pub lines : List ℕ → List (List Piece)

@@ -15,13 +15,15 @@ use Rattle.strip_rows.proofs.Stepping.{all_begun, all_ended, open_now, ascending
 use Rattle.strip_rows.proofs.Meeting.{IsPaired, each_touches, all_paired, paired_once}
 
 -- runs that another list lacks lie in the row
-pub lost_within : (cells : ℕ) (runs among lost : List Run) → LieInRow cells runs → AreMissing runs among lost → All (λ r. r.left < cells) lost
+pub lost_within : (cells : ℕ) (runs among lost : List Run) → LieInRow cells runs → AreMissing runs among lost
+    → All (λ r. r.left < cells) lost
 lost_within cells runs among lost h m = All-from_get_or (λ r. r.left < cells) lost no_run (λ i l.
     let c = (m.each (run lost i) (Contains-get_or lost i no_run l)).0 in
     let a = All-contains (λ r. r.right ≤ cells) runs (run lost i) h.within c in
     let b = All-contains (λ r. r.left < r.right) runs (run lost i) h.wide c in omega arith)
 
-pub upon_same : (numbers numbers' : List ℕ) (lost lost' fresh fresh' : List Run) (first : ℕ) (old now : List Pair) → numbers' ≡ numbers → lost' ≡ lost
+pub upon_same : (numbers numbers' : List ℕ) (lost lost' fresh fresh' : List Run) (first : ℕ) (old now : List Pair)
+    → numbers' ≡ numbers → lost' ≡ lost
     → fresh' ≡ fresh → AreUpon numbers' first lost' fresh' (length lost') (length fresh') old now
     → AreUpon numbers first lost fresh (length lost) (length fresh) old now
 upon_same numbers numbers' lost lost' fresh fresh' first old now e f g h =
@@ -29,13 +31,16 @@ upon_same numbers numbers' lost lost' fresh fresh' first old now e f g h =
     (subst (λ l. AreUpon numbers' first l fresh (length l) (length fresh) old now) f
     (subst (λ l. AreUpon numbers' first lost' l (length lost') (length l) old now) g h))
 
-pub ended_same : (numbers numbers' : List ℕ) (lost lost' : List Run) (row : ℕ) (old now : List Strip) → numbers' ≡ numbers → lost' ≡ lost
+pub ended_same : (numbers numbers' : List ℕ) (lost lost' : List Run) (row : ℕ) (old now : List Strip)
+    → numbers' ≡ numbers → lost' ≡ lost
     → AreEnded numbers' lost' (length lost') row old now → AreEnded numbers lost (length lost) row old now
 ended_same numbers numbers' lost lost' row old now e f h =
-    subst (λ n. AreEnded n lost (length lost) row old now) e (subst (λ l. AreEnded numbers' l (length l) row old now) f h)
+    subst (λ n. AreEnded n lost (length lost) row old now) e
+    (subst (λ l. AreEnded numbers' l (length l) row old now) f h)
 
 pub begun_same : (fresh fresh' : List Run) (row : ℕ) (old now : List Strip) (numbers next : List ℕ) → fresh' ≡ fresh
-    → HaveBegun fresh' (length fresh') row old now numbers next → HaveBegun fresh (length fresh) row old now numbers next
+    → HaveBegun fresh' (length fresh') row old now numbers next
+    → HaveBegun fresh (length fresh) row old now numbers next
 begun_same fresh fresh' row old now numbers next e h = subst (λ l. HaveBegun l (length l) row old now numbers next) e h
 
 pub beside_same : (numbers numbers' : List ℕ) (first : ℕ) (runs : List Run) (old now : List Pair) → numbers' ≡ numbers
@@ -43,8 +48,10 @@ pub beside_same : (numbers numbers' : List ℕ) (first : ℕ) (runs : List Run) 
 beside_same numbers numbers' first runs old now e h = subst (λ n. AreBeside n first runs (length runs) old now) e h
 
 -- what one step has done makes what is swept
-pub advanced : (colour : ℕ → ℕ → ℕ) (y row : ℕ) (w v : StripRows) (olds news lost fresh : List Run) (mid : List Strip) (first : ℕ) (half : List Pair)
-    → IsSwept colour y w → IsChange colour y olds news → (cells : ℕ) → LieInRow cells news → row ≡ y + 1 → v.row ≡ row → first ≡ length (strips_of w)
+pub advanced : (colour : ℕ → ℕ → ℕ) (y row : ℕ) (w v : StripRows) (olds news lost fresh : List Run) (mid : List Strip)
+    (first : ℕ) (half : List Pair)
+    → IsSwept colour y w → IsChange colour y olds news → (cells : ℕ) → LieInRow cells news → row ≡ y + 1 → v.row ≡ row
+    → first ≡ length (strips_of w)
     → AreMissing olds news lost → AreMissing news olds fresh
     → AreUpon w.numbers.items first lost fresh (length lost) (length fresh) w.pairs.items half
     → AreEnded w.numbers.items lost (length lost) row (strips_of w) mid
@@ -58,7 +65,8 @@ advanced colour y row w v olds news lost fresh mid first half sw ch cells lie e 
       ended = subst (λ n. AreEnded w.numbers.items lost (length lost) n (strips_of w) mid) e en;
       begun = subst (λ n. HaveBegun fresh (length fresh) n mid (strips_of v) w.numbers.items v.numbers.items) e be;
     } in
-    let x : IsPaired colour y w olds news lost fresh mid (strips_of v) v.numbers.items first half v.pairs.items = record {
+    let x : IsPaired colour y w olds news lost fresh mid (strips_of v) v.numbers.items first half v.pairs.items =
+    record {
       stepped = t;
       first_is = fe;
       change = ch;
@@ -72,8 +80,12 @@ advanced colour y row w v olds news lost fresh mid first half sw ch cells lie e 
       all = λ u h b. all_ended colour y w lost fresh mid (strips_of v) v.numbers.items u t h b;
       open_ = λ r h. open_now colour y w lost fresh mid (strips_of v) v.numbers.items r t h;
       ascending = ascending_now colour y w lost fresh mid (strips_of v) v.numbers.items t;
-      touching = λ k d i. each_touches colour y w olds news lost fresh mid (strips_of v) v.numbers.items first half v.pairs.items (get_or v.pairs.items k d) x
+      touching =
+          λ k d i. each_touches colour y w olds news lost fresh mid
+          (strips_of v) v.numbers.items first half v.pairs.items (get_or v.pairs.items k d) x
           (Contains-get_or v.pairs.items k d i);
-      touch = λ p h. all_paired colour y w olds news lost fresh mid (strips_of v) v.numbers.items first half v.pairs.items p x h;
-      once = paired_once colour y w olds news lost fresh mid (strips_of v) v.numbers.items first half v.pairs.items l.apart x;
+      touch = λ p h. all_paired colour y w olds news lost fresh mid
+          (strips_of v) v.numbers.items first half v.pairs.items p x h;
+      once = paired_once colour y w olds news lost fresh mid
+          (strips_of v) v.numbers.items first half v.pairs.items l.apart x;
     }

@@ -1,9 +1,11 @@
 -- A merge finds the runs that another list lacks.
-use Rattle.std.proofs.Common.{◌≡◌, ℕ, ◌<◌, ◌≤◌, ◌+◌, inl, inr, List, [], ◌∷◌, length, get_or, arith, ap, subst, ◌∙◌, ◌⊎◌}
+use Rattle.std.proofs.Common.{◌≡◌, ℕ, ◌<◌, ◌≤◌, ◌+◌, inl, inr, List, [], ◌∷◌, length, get_or, arith, ap, subst, ◌∙◌}
+use Rattle.std.proofs.Common.{◌⊎◌}
 use Rattle.std.specs.Prelude.{Contains}
 use Rattle.std.proofs.lemmas.Bool.{cases_eq, cases_order}
 use Rattle.std.proofs.lemmas.List.{get_or_default}
-use Rattle.std.proofs.lemmas.List.Elements.{All-push, Contains-append_left, Contains-push, Contains-push_cases, Contains-get_or}
+use Rattle.std.proofs.lemmas.List.Elements.{All-push, Contains-append_left, Contains-push, Contains-push_cases}
+use Rattle.std.proofs.lemmas.List.Elements.{Contains-get_or}
 use Rattle.std.proofs.lemmas.List.Quantifiers.{all_pairs_push}
 use Rattle.mask_runs.specs.declared.run.Run.{Run}
 use Rattle.strip_rows.specs.Missing.{no_run, run, AreApart, LieBehind, IsAhead, IsAddedIfMissing, AreMissing}
@@ -12,18 +14,21 @@ pub record IsSought (runs : List Run) (place left : ℕ) : Type 0 where
   pub within : place ≤ length runs
   pub behind : LieBehind runs place left
 
-pub sought_more : (runs : List Run) (place left : ℕ) → IsSought runs place left → place < length runs → (run runs place).left < left → IsSought runs (place + 1) left
+pub sought_more : (runs : List Run) (place left : ℕ) → IsSought runs place left → place < length runs
+    → (run runs place).left < left → IsSought runs (place + 1) left
 sought_more runs place left s h k = record {
   within = omega arith;
   behind = record { each = λ i l. elim (cases_eq i place) [ inl e ↦ rw e k | inr n ↦ s.behind.each i (omega arith) ] };
 }
 
 -- runs that lie apart begin further and further right
-pub further : (runs : List Run) (j k : ℕ) → AreApart runs → j < k → k < length runs → (run runs j).left < (run runs k).left
+pub further : (runs : List Run) (j k : ℕ) → AreApart runs → j < k → k < length runs
+    → (run runs j).left < (run runs k).left
 further runs j k a l m = let u = a.ascending j k no_run l m in let w = a.wide j no_run (omega arith) in omega arith
 
 -- only the place itself can have the run
-pub not_in : (runs : List Run) (place : ℕ) (r : Run) → AreApart runs → LieBehind runs place r.left → IsAhead runs place r.left
+pub not_in : (runs : List Run) (place : ℕ) (r : Run) → AreApart runs → LieBehind runs place r.left
+    → IsAhead runs place r.left
     → (place < length runs → run runs place ≡ r → ⊥) → Contains runs r → ⊥
 not_in runs place r up b a n i =
     let m = i.1 in
@@ -50,7 +55,9 @@ pub missing_more : (runs among : List Run) (n place i : ℕ) (out now : List Run
     → IsAddedIfMissing among (run runs n) out now → IsMissingUpto runs among (n + 1) i now
 missing_more runs among n place i out now up inside w l b a = record {
   within = l;
-  behind = λ m h k. record { each = λ q g. let u = b.each q g in let v = further runs n m up (omega arith) k in omega arith };
+  behind =
+      λ m h k.
+      record { each = λ q g. let u = b.each q g in let v = further runs n m up (omega arith) k in omega arith };
   each = elim a.by [
     | inl z ↦ λ r c. let k = w.each r (subst (λ q. Contains q r) z.1 c) in let h = k.1 in (k.0, omega arith, k.2, k.3)
     | inr z ↦ λ r c. elim (Contains-push_cases out (run runs n) r (subst (λ q. Contains q r) z.1 c)) [
@@ -92,7 +99,8 @@ missing_none runs among out e = record {
   apart = rw e (record { wide = λ k d h. absurd (omega arith); ascending = λ i j d h g. absurd (omega arith) });
 }
 
-pub missing_all : (runs among : List Run) (place : ℕ) (out : List Run) → IsMissingUpto runs among (length runs) place out → AreMissing runs among out
+pub missing_all : (runs among : List Run) (place : ℕ) (out : List Run)
+    → IsMissingUpto runs among (length runs) place out → AreMissing runs among out
 missing_all runs among place out w = record {
   each = λ r c. let k = w.each r c in (subst (Contains runs) k.2 (Contains-get_or runs k.0 no_run k.1), k.3);
   all = λ r c. let e : run runs c.0 ≡ r = get_or_default runs c.0 no_run r c.1 ∙ c.2 in

@@ -1,14 +1,17 @@
 -- Pairs that touch are found, each once.
-use Rattle.std.proofs.Common.{◌≡◌, ◌≢◌, ℕ, ◌<◌, ◌≤◌, ◌+◌, ◌-◌, inl, inr, List, [], ◌∷◌, length, arith, ap, sym, subst, ◌∙◌, ◌⊎◌}
+use Rattle.std.proofs.Common.{◌≡◌, ◌≢◌, ℕ, ◌<◌, ◌≤◌, ◌+◌, ◌-◌, inl, inr, List, [], ◌∷◌, length, arith, ap, sym, subst}
+use Rattle.std.proofs.Common.{◌∙◌, ◌⊎◌}
 use Rattle.std.specs.Prelude.{Contains}
 use Rattle.std.proofs.lemmas.Bool.{cases_eq, cases_lt, cases_order}
-use Rattle.std.proofs.lemmas.List.Elements.{All-contains, Contains-append_left, Contains-push, Contains-push_cases, Contains-get_or}
+use Rattle.std.proofs.lemmas.List.Elements.{All-contains, Contains-append_left, Contains-push, Contains-push_cases}
+use Rattle.std.proofs.lemmas.List.Elements.{Contains-get_or}
 use Rattle.std.proofs.lemmas.List.Quantifiers.{all_pairs_push}
 use Rattle.mask_runs.specs.declared.run.Run.{Run}
 use Rattle.union_find.specs.declared.pair.Pair.{Pair}
 use Rattle.strip_rows.specs.Touching.{AreOnce}
 use Rattle.strip_rows.specs.Missing.{run, no_run, AreApart}
-use Rattle.strip_rows.specs.Steps.{number, Overlap, IsAddedIf, HaveOwn, upon, IsUpon, AreUpon, in_order, AreNew, AreBeside}
+use Rattle.strip_rows.specs.Steps.{number, Overlap, IsAddedIf, HaveOwn, upon, IsUpon, AreUpon, in_order, AreNew}
+use Rattle.strip_rows.specs.Steps.{AreBeside}
 
 -- what holds after a pair is added if P does
 added_kept : (P : Type 0) (p q : Pair) (old now : List Pair) → IsAddedIf P p old now → Contains old q → Contains now q
@@ -23,15 +26,22 @@ added P p old now a h = elim a.by [
   | inr z ↦ absurd (z.0 h)
 ]
 
-added_only : (P : Type 0) (p q : Pair) (old now : List Pair) → IsAddedIf P p old now → Contains now q → Contains old q ⊎ P × (p ≡ q)
+added_only : (P : Type 0) (p q : Pair) (old now : List Pair) → IsAddedIf P p old now → Contains now q
+    → Contains old q ⊎ P × (p ≡ q)
 added_only P p q old now a c = elim a.by [
-  | inl z ↦ elim (Contains-push_cases old p q (subst (λ l. Contains l q) z.1 c)) [ inl k ↦ inl k | inr e ↦ inr (z.0, e) ]
+  | inl z ↦ elim (Contains-push_cases old p q (subst (λ l. Contains l q) z.1 c)) [
+    | inl k ↦ inl k
+    | inr e ↦ inr (z.0, e)
+  ]
   | inr z ↦ inl (subst (λ l. Contains l q) z.1 c)
 ]
 
-added_once : (P : Type 0) (p : Pair) (old now : List Pair) → IsAddedIf P p old now → (P → ¬ Contains old p) → AreOnce old → AreOnce now
+added_once : (P : Type 0) (p : Pair) (old now : List Pair) → IsAddedIf P p old now → (P → ¬ Contains old p)
+    → AreOnce old → AreOnce now
 added_once P p old now a n o = elim a.by [
-  | inl z ↦ subst AreOnce (sym z.1) (all_pairs_push (λ x y. x ≢ y) old p o (λ k d l e. n z.0 (subst (Contains old) e (Contains-get_or old k d l))))
+  | inl z ↦
+      subst AreOnce (sym z.1)
+      (all_pairs_push (λ x y. x ≢ y) old p o (λ k d l e. n z.0 (subst (Contains old) e (Contains-get_or old k d l))))
   | inr z ↦ subst AreOnce (sym z.1) o
 ]
 
@@ -43,7 +53,8 @@ own_place numbers runs a b own l m e = elim (cases_order a b) [
   | inr k ↦ elim k [ inl h ↦ absurd (own a b h m e) | inr h ↦ absurd (own b a h l (sym e)) ]
 ]
 
-pub beside_none : (numbers : List ℕ) (first : ℕ) (runs : List Run) (pairs : List Pair) → AreBeside numbers first runs 1 pairs pairs
+pub beside_none : (numbers : List ℕ) (first : ℕ) (runs : List Run) (pairs : List Pair)
+    → AreBeside numbers first runs 1 pairs pairs
 beside_none numbers first runs pairs = record {
   kept = λ p c. c;
   all = λ p h. let b = h.behind in absurd (omega arith);
@@ -53,14 +64,16 @@ beside_none numbers first runs pairs = record {
 
 -- a pair further back is another one
 beside_other : (numbers : List ℕ) (runs : List Run) (k n : ℕ) → HaveOwn numbers runs → k < n → n + 1 < length runs
-    → in_order (number numbers (run runs k)) (number numbers (run runs (k + 1))) ≡ in_order (number numbers (run runs n)) (number numbers (run runs (n + 1))) → ⊥
+    → in_order (number numbers (run runs k)) (number numbers (run runs (k + 1)))
+    ≡ in_order (number numbers (run runs n)) (number numbers (run runs (n + 1))) → ⊥
 beside_other numbers runs k n own l m e =
     let a = own k (n + 1) (omega arith) m in let b = own (k + 1) (n + 1) (omega arith) m in
     let f = ap (λ (p : Pair). p.a) e in let g = ap (λ (p : Pair). p.b) e in
     elim (cases_order (number numbers (run runs n)) (number numbers (run runs (n + 1)))) [
       | inl h ↦ own n (n + 1) (omega arith) m h
       | inr h ↦
-          let either : (number numbers (run runs k) ≡ number numbers (run runs (n + 1))) ⊎ (number numbers (run runs (k + 1)) ≡ number numbers (run runs (n + 1)))
+          let either : (number numbers (run runs k) ≡ number numbers (run runs (n + 1)))
+          ⊎ (number numbers (run runs (k + 1)) ≡ number numbers (run runs (n + 1)))
           = elim (cases_lt (number numbers (run runs k)) (number numbers (run runs (k + 1)))) [
             | inl u ↦ elim h [ inl v ↦ inr (omega arith) | inr v ↦ inl (omega arith) ]
             | inr u ↦ elim h [ inl v ↦ inl (omega arith) | inr v ↦ inr (omega arith) ]
@@ -70,7 +83,8 @@ beside_other numbers runs k n own l m e =
 
 beside_next : (numbers : List ℕ) (first : ℕ) (runs : List Run) (n : ℕ) (old mid now : List Pair) → n + 1 < length runs
     → AreBeside numbers first runs (n + 1) old mid
-    → IsAddedIf (AreNew numbers first (run runs n) (run runs (n + 1))) (in_order (number numbers (run runs n)) (number numbers (run runs (n + 1)))) mid now
+    → IsAddedIf (AreNew numbers first (run runs n) (run runs (n + 1)))
+    (in_order (number numbers (run runs n)) (number numbers (run runs (n + 1)))) mid now
     → AreBeside numbers first runs (n + 1 + 1) old now
 beside_next numbers first runs n old mid now inside w a =
     let P : Type 0 = AreNew numbers first (run runs n) (run runs (n + 1)) in
@@ -78,14 +92,19 @@ beside_next numbers first runs n old mid now inside w a =
       kept = λ p c. added_kept P new p mid now a (w.kept p c);
       all = λ p h. let b = h.behind in elim (cases_eq h.k n) [
         | inl e ↦
-            let f : new ≡ p = sym (ap (λ i. in_order (number numbers (run runs i)) (number numbers (run runs (i + 1)))) e) ∙ h.is in
-            subst (Contains now) f (added P new mid now a (subst (λ i. AreNew numbers first (run runs i) (run runs (i + 1))) e h.new))
-        | inr ne ↦ added_kept P new p mid now a (w.all p (record { k = h.k; behind = omega arith; within = h.within; new = h.new; is = h.is }))
+            let f : new ≡ p =
+            sym (ap (λ i. in_order (number numbers (run runs i)) (number numbers (run runs (i + 1)))) e) ∙ h.is in
+            subst (Contains now) f
+            (added P new mid now a (subst (λ i. AreNew numbers first (run runs i) (run runs (i + 1))) e h.new))
+        | inr ne ↦
+            added_kept P new p mid now a
+            (w.all p (record { k = h.k; behind = omega arith; within = h.within; new = h.new; is = h.is }))
       ];
       only = λ p c. elim (added_only P new p mid now a c) [
         | inl k ↦ elim (w.only p k) [
           | inl o ↦ inl o
-          | inr o ↦ let b = o.behind in inr (record { k = o.k; behind = omega arith; within = o.within; new = o.new; is = o.is })
+          | inr o ↦ let b = o.behind in
+              inr (record { k = o.k; behind = omega arith; within = o.within; new = o.new; is = o.is })
         ]
         | inr k ↦ inr (record { k = n; behind = omega arith; within = inside; new = k.0; is = k.1 })
       ];
@@ -95,21 +114,26 @@ beside_next numbers first runs n old mid now inside w a =
       ]) (w.once own none o);
     }
 
-pub beside_more : (numbers : List ℕ) (first : ℕ) (runs : List Run) (i : ℕ) (old mid now : List Pair) → 1 ≤ i → i < length runs
+pub beside_more : (numbers : List ℕ) (first : ℕ) (runs : List Run) (i : ℕ) (old mid now : List Pair) → 1 ≤ i
+    → i < length runs
     → AreBeside numbers first runs i old mid
-    → IsAddedIf (AreNew numbers first (run runs (i - 1)) (run runs i)) (in_order (number numbers (run runs (i - 1))) (number numbers (run runs i))) mid now
+    → IsAddedIf (AreNew numbers first (run runs (i - 1)) (run runs i))
+    (in_order (number numbers (run runs (i - 1))) (number numbers (run runs i))) mid now
     → AreBeside numbers first runs (i + 1) old now
 beside_more numbers first runs i old mid now some inside w a =
     let e : i - 1 + 1 ≡ i = omega arith in
     subst (λ n. AreBeside numbers first runs (n + 1) old now) e
-    (beside_next numbers first runs (i - 1) old mid now (omega arith) (subst (λ n. AreBeside numbers first runs n old mid) (sym e) w)
-    (subst (λ n. IsAddedIf (AreNew numbers first (run runs (i - 1)) (run runs n)) (in_order (number numbers (run runs (i - 1))) (number numbers (run runs n))) mid now) (sym e) a))
+    (beside_next numbers first runs (i - 1) old mid now (omega arith)
+    (subst (λ n. AreBeside numbers first runs n old mid) (sym e) w)
+    (subst (λ n. IsAddedIf (AreNew numbers first (run runs (i - 1)) (run runs n))
+    (in_order (number numbers (run runs (i - 1))) (number numbers (run runs n))) mid now) (sym e) a))
 
 pub beside_all : (numbers : List ℕ) (first : ℕ) (runs : List Run) (i : ℕ) (old now : List Pair) → length runs ≤ i
     → AreBeside numbers first runs i old now → AreBeside numbers first runs (length runs) old now
 beside_all numbers first runs i old now l w = record {
   kept = w.kept;
-  all = λ p h. let b = h.behind in w.all p (record { k = h.k; behind = omega arith; within = h.within; new = h.new; is = h.is });
+  all = λ p h. let b = h.behind in
+      w.all p (record { k = h.k; behind = omega arith; within = h.within; new = h.new; is = h.is });
   only = λ p c. elim (w.only p c) [
     | inl o ↦ inl o
     | inr o ↦ inr (record { k = o.k; behind = o.within; within = o.within; new = o.new; is = o.is })
@@ -117,13 +141,15 @@ beside_all numbers first runs i old now l w = record {
   once = w.once;
 }
 
-pub record IsUponUpto (numbers : List ℕ) (first : ℕ) (lost fresh : List Run) (i j second : ℕ) (old now : List Pair) : Type 0 where
+pub record IsUponUpto (numbers : List ℕ) (first : ℕ) (lost fresh : List Run) (i j second : ℕ)
+    (old now : List Pair) : Type 0 where
   pub below : i ≤ length lost
   pub above : j ≤ length fresh
   pub next : second ≡ first + j
   pub done : AreUpon numbers first lost fresh i j old now
 
-pub upon_none : (numbers : List ℕ) (first : ℕ) (lost fresh : List Run) (pairs : List Pair) → IsUponUpto numbers first lost fresh 0 0 first pairs pairs
+pub upon_none : (numbers : List ℕ) (first : ℕ) (lost fresh : List Run) (pairs : List Pair)
+    → IsUponUpto numbers first lost fresh 0 0 first pairs pairs
 upon_none numbers first lost fresh pairs = record {
   below = omega arith;
   above = omega arith;
@@ -145,10 +171,13 @@ upon_other numbers first lost fresh i j own l h =
     elim h.behind [ inl u ↦ omega arith | inr u ↦ omega arith ]
 
 -- the pair of the two places has been looked at
-upon_here : (numbers : List ℕ) (first : ℕ) (lost fresh : List Run) (i j x y : ℕ) (old mid now : List Pair) → i < length lost → j < length fresh
+upon_here : (numbers : List ℕ) (first : ℕ) (lost fresh : List Run) (i j x y : ℕ) (old mid now : List Pair)
+    → i < length lost → j < length fresh
     → i ≤ x → j ≤ y → (i < x) ⊎ (j < y)
-    → AreUpon numbers first lost fresh i j old mid → IsAddedIf (Overlap (run lost i) (run fresh j)) (upon numbers first lost i j) mid now
-    → ((a b : ℕ) → a < length lost → b < length fresh → (a < x) ⊎ (b < y) → Overlap (run lost a) (run fresh b) → (a < i) ⊎ (b < j) ⊎ (a ≡ i) × (b ≡ j))
+    → AreUpon numbers first lost fresh i j old mid
+    → IsAddedIf (Overlap (run lost i) (run fresh j)) (upon numbers first lost i j) mid now
+    → ((a b : ℕ) → a < length lost → b < length fresh → (a < x) ⊎ (b < y) → Overlap (run lost a) (run fresh b)
+    → (a < i) ⊎ (b < j) ⊎ (a ≡ i) × (b ≡ j))
     → AreUpon numbers first lost fresh x y old now
 upon_here numbers first lost fresh i j x y old mid now h g ix jy step w a t =
     let P : Type 0 = Overlap (run lost i) (run fresh j) in
@@ -156,14 +185,34 @@ upon_here numbers first lost fresh i j x y old mid now h g ix jy step w a t =
       kept = λ p c. added_kept P new p mid now a (w.kept p c);
       all = λ p z. elim (t z.a z.b z.below z.above z.behind z.overlap) [
         | inl u ↦ added_kept P new p mid now a
-            (w.all p (record { a = z.a; b = z.b; below = z.below; above = z.above; behind = inl u; overlap = z.overlap; is = z.is }))
+            (w.all p
+            (record {
+              a = z.a;
+              b = z.b;
+              below = z.below;
+              above = z.above;
+              behind = inl u;
+              overlap = z.overlap;
+              is = z.is;
+            }))
         | inr u ↦ elim u [
           | inl v ↦ added_kept P new p mid now a
-              (w.all p (record { a = z.a; b = z.b; below = z.below; above = z.above; behind = inr v; overlap = z.overlap; is = z.is }))
+              (w.all p
+              (record {
+                a = z.a;
+                b = z.b;
+                below = z.below;
+                above = z.above;
+                behind = inr v;
+                overlap = z.overlap;
+                is = z.is;
+              }))
           | inr v ↦ let e = v.0 in let f = v.1 in
-              let same : new ≡ p = ap (λ q. upon numbers first lost q j) (sym e) ∙ ap (λ q. upon numbers first lost z.a q) (sym f) ∙ z.is in
+              let same : new ≡ p =
+              ap (λ q. upon numbers first lost q j) (sym e) ∙ ap (λ q. upon numbers first lost z.a q) (sym f) ∙ z.is in
               subst (Contains now) same (added P new mid now a
-              (subst (λ q. Overlap (run lost i) (run fresh q)) f (subst (λ q. Overlap (run lost q) (run fresh z.b)) e z.overlap)))
+              (subst (λ q. Overlap (run lost i) (run fresh q)) f
+              (subst (λ q. Overlap (run lost q) (run fresh z.b)) e z.overlap)))
         ]
       ];
       only = λ p c. elim (added_only P new p mid now a c) [
@@ -188,7 +237,8 @@ upon_here numbers first lost fresh i j x y old mid now h g ix jy step w a t =
     }
 
 -- the lower run ends first: it overlaps nothing further right
-pub upon_below : (numbers : List ℕ) (first : ℕ) (lost fresh : List Run) (i j second : ℕ) (old mid now : List Pair) → AreApart fresh
+pub upon_below : (numbers : List ℕ) (first : ℕ) (lost fresh : List Run) (i j second : ℕ) (old mid now : List Pair)
+    → AreApart fresh
     → i < length lost → j < length fresh → IsUponUpto numbers first lost fresh i j second old mid
     → IsAddedIf (Overlap (run lost i) (run fresh j)) (record { a = number numbers (run lost i); b = second }) mid now
     → (run lost i).right ≤ (run fresh j).right → IsUponUpto numbers first lost fresh (i + 1) j second old now
@@ -196,8 +246,10 @@ upon_below numbers first lost fresh i j second old mid now up h g w a r = record
   below = omega arith;
   above = w.above;
   next = w.next;
-  done = upon_here numbers first lost fresh i j (i + 1) j old mid now h g (omega arith) (omega arith) (inl (omega arith)) w.done
-      (subst (λ s. IsAddedIf (Overlap (run lost i) (run fresh j)) (record { a = number numbers (run lost i); b = s }) mid now) w.next a)
+  done = upon_here numbers first lost fresh i j (i + 1) j old mid now h g (omega arith) (omega arith)
+      (inl (omega arith)) w.done
+      (subst (λ s. IsAddedIf (Overlap (run lost i) (run fresh j))
+      (record { a = number numbers (run lost i); b = s }) mid now) w.next a)
       (λ m n l k z o. elim (cases_lt m i) [
         | inl u ↦ inl u
         | inr u ↦ elim (cases_lt n j) [
@@ -213,16 +265,20 @@ upon_below numbers first lost fresh i j second old mid now up h g w a r = record
 }
 
 -- the upper run ends first
-pub upon_above : (numbers : List ℕ) (first : ℕ) (lost fresh : List Run) (i j second third : ℕ) (old mid now : List Pair) → AreApart lost
+pub upon_above : (numbers : List ℕ) (first : ℕ) (lost fresh : List Run) (i j second third : ℕ)
+    (old mid now : List Pair) → AreApart lost
     → i < length lost → j < length fresh → IsUponUpto numbers first lost fresh i j second old mid
     → IsAddedIf (Overlap (run lost i) (run fresh j)) (record { a = number numbers (run lost i); b = second }) mid now
-    → (run fresh j).right < (run lost i).right → third ≡ second + 1 → IsUponUpto numbers first lost fresh i (j + 1) third old now
+    → (run fresh j).right < (run lost i).right → third ≡ second + 1
+    → IsUponUpto numbers first lost fresh i (j + 1) third old now
 upon_above numbers first lost fresh i j second third old mid now up h g w a r more = let next = w.next in record {
   below = w.below;
   above = omega arith;
   next = omega arith;
-  done = upon_here numbers first lost fresh i j i (j + 1) old mid now h g (omega arith) (omega arith) (inr (omega arith)) w.done
-      (subst (λ s. IsAddedIf (Overlap (run lost i) (run fresh j)) (record { a = number numbers (run lost i); b = s }) mid now) w.next a)
+  done = upon_here numbers first lost fresh i j i (j + 1) old mid now h g (omega arith) (omega arith)
+      (inr (omega arith)) w.done
+      (subst (λ s. IsAddedIf (Overlap (run lost i) (run fresh j))
+      (record { a = number numbers (run lost i); b = s }) mid now) w.next a)
       (λ m n l k z o. elim (cases_lt m i) [
         | inl u ↦ inl u
         | inr u ↦ elim (cases_lt n j) [
@@ -254,7 +310,16 @@ upon_all numbers first lost fresh i j second old now w e = record {
   });
   only = λ p c. elim (w.done.only p c) [
     | inl o ↦ inl o
-    | inr o ↦ inr (record { a = o.a; b = o.b; below = o.below; above = o.above; behind = inl o.below; overlap = o.overlap; is = o.is })
+    | inr o ↦
+        inr (record {
+          a = o.a;
+          b = o.b;
+          below = o.below;
+          above = o.above;
+          behind = inl o.below;
+          overlap = o.overlap;
+          is = o.is;
+        })
   ];
   once = w.done.once;
 }

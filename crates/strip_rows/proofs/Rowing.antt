@@ -14,7 +14,8 @@ pub record LieUpto (cells : ℕ) (runs : List Run) (n last : ℕ) : Type 0 where
   pub by : (k : ℕ) → k < n → (run runs k).right ≤ last
   pub ascending : (j k : ℕ) → j < k → k < n → (run runs j).right ≤ (run runs k).left
 
-pub lie_more : (cells : ℕ) (runs : List Run) (n last : ℕ) → LieUpto cells runs n last → last ≤ (run runs n).left → (run runs n).left < (run runs n).right
+pub lie_more : (cells : ℕ) (runs : List Run) (n last : ℕ) → LieUpto cells runs n last → last ≤ (run runs n).left
+    → (run runs n).left < (run runs n).right
     → (run runs n).right ≤ cells → LieUpto cells runs (n + 1) (run runs n).right
 lie_more cells runs n last w a b c = record {
   wide = λ k h. elim (cases_eq k n) [ inl e ↦ rw e b | inr f ↦ w.wide k (omega arith) ];
@@ -26,9 +27,12 @@ lie_more cells runs n last w a b c = record {
   ];
 }
 
-pub lie_all : (cells : ℕ) (runs : List Run) (n last : ℕ) → n ≡ length runs → LieUpto cells runs n last → LieInRow cells runs
+pub lie_all : (cells : ℕ) (runs : List Run) (n last : ℕ) → n ≡ length runs → LieUpto cells runs n last
+    → LieInRow cells runs
 lie_all cells runs n last e w = record {
   wide = All-from_get_or (λ r. r.left < r.right) runs no_run (λ k h. w.wide k (omega arith));
   within = All-from_get_or (λ r. r.right ≤ cells) runs no_run (λ k h. w.within k (omega arith));
-  ascending = λ j k d l h. rw (get_or_default runs j d no_run (omega arith), get_or_default runs k d no_run h) (w.ascending j k l (omega arith));
+  ascending =
+      λ j k d l h. rw (get_or_default runs j d no_run (omega arith), get_or_default runs k d no_run h)
+      (w.ascending j k l (omega arith));
 }

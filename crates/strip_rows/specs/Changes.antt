@@ -17,5 +17,6 @@ pub record IsChange (colour : ℕ → ℕ → ℕ) (y : ℕ) (old new : List Run
   pub goes : (r : Run) → IsRun (colour y) r → Contains old r ⊎ IsRun (colour (y + 1)) r
   pub comes : (r : Run) → IsRun (colour (y + 1)) r → Contains new r ⊎ IsRun (colour y) r
   pub stays : (r : Run) → IsRun (colour y) r → IsRun (colour (y + 1)) r → Contains old r ↔ Contains new r
-  pub beside : (p q : Run) → IsRun (colour (y + 1)) p → IsRun (colour (y + 1)) q → (p.right ≡ q.left) ⊎ (q.right ≡ p.left)
+  pub beside : (p q : Run) → IsRun (colour (y + 1)) p → IsRun (colour (y + 1)) q
+      → (p.right ≡ q.left) ⊎ (q.right ≡ p.left)
       → ¬ IsRun (colour y) q → Contains new p

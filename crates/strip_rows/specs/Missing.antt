@@ -1,5 +1,6 @@
 -- Runs of one list that another lacks.
-use Rattle.std.specs.Prelude.{◌≡◌, ℕ, ◌<◌, ◌≤◌, ◌⊎◌, List, [], ◌∷◌, ◌++◌, All, AllPairs, Contains, length, slice_index_or}
+use Rattle.std.specs.Prelude.{◌≡◌, ℕ, ◌<◌, ◌≤◌, ◌⊎◌, List, [], ◌∷◌, ◌++◌, All, AllPairs, Contains, length}
+use Rattle.std.specs.Prelude.{slice_index_or}
 use Rattle.mask_runs.specs.declared.run.Run.{Run}
 
 abbrev pub no_run : Run

@@ -1,5 +1,7 @@
--- What one step does to strips and pairs, by their numbers. `numbers` has at the left cell of a run the number of its strip.
-use Rattle.std.specs.Prelude.{◌≡◌, ◌≢◌, ℕ, ◌+◌, ◌<◌, ◌≤◌, ◌⊎◌, List, [], ◌∷◌, ◌++◌, All, Contains, length, slice_index, min, max}
+-- What one step does to strips and pairs, by their numbers. `numbers` has at the left cell of a run the number of its
+-- strip.
+use Rattle.std.specs.Prelude.{◌≡◌, ◌≢◌, ℕ, ◌+◌, ◌<◌, ◌≤◌, ◌⊎◌, List, [], ◌∷◌, ◌++◌, All, Contains, length, slice_index}
+use Rattle.std.specs.Prelude.{min, max}
 use Rattle.mask_runs.specs.declared.run.Run.{Run}
 use Rattle.union_find.specs.declared.pair.Pair.{Pair}
 use Rattle.strip_rows.specs.declared.strip.Strip.{Strip}
@@ -34,7 +36,8 @@ pub record IsEndedAt (n row : ℕ) (old now : List Strip) : Type 0 where
 pub record AreEnded (numbers : List ℕ) (lost : List Run) (n row : ℕ) (old now : List Strip) : Type 0 where
   pub as_many : length now ≡ length old
   pub each : (k : ℕ) → k < length old
-      → HasNumber numbers lost n k × (strip now k ≡ ended_at row (strip old k)) ⊎ (¬ HasNumber numbers lost n k) × (strip now k ≡ strip old k)
+      → HasNumber numbers lost n k × (strip now k ≡ ended_at row (strip old k)) ⊎ (¬ HasNumber numbers lost n k)
+      × (strip now k ≡ strip old k)
 
 -- the first n runs have begun strips, with the next numbers
 pub record HaveBegun (fresh : List Run) (n row : ℕ) (old now : List Strip) (old_numbers numbers : List ℕ) : Type 0 where
@@ -99,4 +102,5 @@ pub record AreBeside (numbers : List ℕ) (first : ℕ) (runs : List Run) (n : �
   pub kept : (p : Pair) → Contains old p → Contains now p
   pub all : (p : Pair) → IsBeside numbers first runs n p → Contains now p
   pub only : (p : Pair) → Contains now p → Contains old p ⊎ IsBeside numbers first runs n p
-  pub once : HaveOwn numbers runs → ((p : Pair) → IsBeside numbers first runs (length runs) p → ¬ Contains old p) → AreOnce old → AreOnce now
+  pub once : HaveOwn numbers runs → ((p : Pair) → IsBeside numbers first runs (length runs) p → ¬ Contains old p)
+      → AreOnce old → AreOnce now

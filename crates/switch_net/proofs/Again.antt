@@ -3,22 +3,25 @@ use Rattle.std.proofs.Common.{◌≡◌, ℕ, Option, Some, None, refl, sym, ◌
 use Rattle.std.specs.Prelude.{◌≢◌, IsSome}
 use Rattle.mp_base.specs.declared.value.Trit.{Trit}
 use Rattle.mp_base.specs.declared.value.Trit.TheVariants.{Zero, One, X}
+use Rattle.mp_base.proofs.Values.{same_trit_or_not}
 use Rattle.switch_net.specs.declared.network.Channel.{Channel}
 use Rattle.switch_net.specs.Settled.{Setting, IsOn, MayBeOn, IsAgainst, Gives, IsBelow, IsSettled}
 use Rattle.switch_net.specs.Reaching.{Reach, here, over, IsStrongOn, MayBeStrongOn, IsFor, IsForeign}
 use Rattle.switch_net.proofs.Rounds.{gives_kept, settled_once}
 use Rattle.switch_net.proofs.Bounds.{IsBound, IsLeastBound, settled_from_bound}
 use Rattle.switch_net.proofs.Exists.{least_bound_exists}
-use Rattle.switch_net.proofs.Marks.{GivesBySets, by_strong, by_held, by_kept, gives_from_sets, sets_from_gives, same_trit}
+use Rattle.switch_net.proofs.Marks.{GivesBySets, by_strong, by_held, by_kept, gives_from_sets, sets_from_gives}
 
 -- where a reach begins
-origin : (s : Setting) (ok : Channel → Type 0) (from : ℕ → Type 0) (n : ℕ) → Reach s ok from n → (a : ℕ) × from a × Reach s ok (λ x. x ≡ a) n
+origin : (s : Setting) (ok : Channel → Type 0) (from : ℕ → Type 0) (n : ℕ) → Reach s ok from n
+    → (a : ℕ) × from a × Reach s ok (λ x. x ≡ a) n
 origin s ok from n (here f) = (n, f, here refl)
 origin s ok from n (over {a} c r in' at_a at_n free okc) =
     let o = origin s ok from a r in
     (o.0, o.1, over c o.2 in' at_a at_n free okc)
 
-twice : (s : Setting) (ok : Channel → Type 0) (F G : ℕ → Type 0) → ((a : ℕ) → F a → Reach s ok G a) → (n : ℕ) → Reach s ok F n → Reach s ok G n
+twice : (s : Setting) (ok : Channel → Type 0) (F G : ℕ → Type 0) → ((a : ℕ) → F a → Reach s ok G a) → (n : ℕ)
+    → Reach s ok F n → Reach s ok G n
 twice s ok F G f n (here q) = f n q
 twice s ok F G f n (over {a} c r in' at_a at_n free okc) = over c (twice s ok F G f a r) in' at_a at_n free okc
 
@@ -26,11 +29,13 @@ abbrev pub after : Setting → (ℕ → Trit) → Setting
 after s v = record { channels = s.channels; driver = s.driver; before = v }
 
 -- paths do not depend on the values before
-to_after : (s : Setting) (v : ℕ → Trit) (ok : Channel → Type 0) (from : ℕ → Type 0) (n : ℕ) → Reach s ok from n → Reach (after s v) ok from n
+to_after : (s : Setting) (v : ℕ → Trit) (ok : Channel → Type 0) (from : ℕ → Type 0) (n : ℕ) → Reach s ok from n
+    → Reach (after s v) ok from n
 to_after s v ok from n (here f) = here f
 to_after s v ok from n (over {a} c r in' at_a at_n free okc) = over c (to_after s v ok from a r) in' at_a at_n free okc
 
-of_after : (s : Setting) (v : ℕ → Trit) (ok : Channel → Type 0) (from : ℕ → Type 0) (n : ℕ) → Reach (after s v) ok from n → Reach s ok from n
+of_after : (s : Setting) (v : ℕ → Trit) (ok : Channel → Type 0) (from : ℕ → Type 0) (n : ℕ)
+    → Reach (after s v) ok from n → Reach s ok from n
 of_after s v ok from n (here f) = here f
 of_after s v ok from n (over {a} c r in' at_a at_n free okc) = over c (of_after s v ok from a r) in' at_a at_n free okc
 
@@ -43,25 +48,37 @@ module _ (s : Setting) (v : ℕ → Trit) (b : Trit) (has : (n : ℕ) → s.driv
   again_given : (m : ℕ → Trit) → IsBelow m v → (n : ℕ) → Gives s m n b → Gives (after s v) m n b
   again_given m below n g = gives_from_sets (after s v) m n b (by_sets (sets_from_gives s m n b g))
     where
-      held_before : (Reach s (MayBeOn m) (IsForeign s b) n → ⊥) → (a : ℕ) → Reach s (MayBeOn m) (λ x. x ≡ a) n → (s.driver a ≡ None) ⊎ IsSome (s.driver a) → v a ≡ b
-      held_before none a r (inr d) = absurd (none (twice s (MayBeOn m) (λ x. x ≡ a) (IsForeign s b) (λ x e. here (subst (IsForeign s b) (sym e) (inl d))) n r))
+      held_before : (Reach s (MayBeOn m) (IsForeign s b) n → ⊥) → (a : ℕ) → Reach s (MayBeOn m) (λ x. x ≡ a) n
+          → (s.driver a ≡ None) ⊎ IsSome (s.driver a) → v a ≡ b
+      held_before none a r (inr d) =
+          absurd (none
+          (twice s (MayBeOn m) (λ x. x ≡ a) (IsForeign s b) (λ x e. here (subst (IsForeign s b) (sym e) (inl d))) n r))
       held_before none a r (inl free) =
           has a free
           (gives_kept s m v below a b
-          (gives_from_sets s m a b (by_kept (λ f. none (twice s (MayBeOn m) (λ x. x ≡ a) (IsForeign s b) (λ x e. subst (λ y. Reach s (MayBeOn m) (IsForeign s b) y) (sym e) f) n r)))))
+          (gives_from_sets s m a b
+          (by_kept
+          (λ f. none
+          (twice s (MayBeOn m) (λ x. x ≡ a) (IsForeign s b)
+          (λ x e. subst (λ y. Reach s (MayBeOn m) (IsForeign s b) y) (sym e) f) n r)))))
 
-      foreign : (Reach s (MayBeOn m) (IsForeign s b) n → ⊥) → (a : ℕ) → Reach s (MayBeOn m) (λ x. x ≡ a) n → IsForeign (after s v) b a → ⊥
-      foreign none a r (inl d) = none (twice s (MayBeOn m) (λ x. x ≡ a) (IsForeign s b) (λ x e. here (subst (IsForeign s b) (sym e) (inl d))) n r)
+      foreign : (Reach s (MayBeOn m) (IsForeign s b) n → ⊥) → (a : ℕ) → Reach s (MayBeOn m) (λ x. x ≡ a) n
+          → IsForeign (after s v) b a → ⊥
+      foreign none a r (inl d) =
+          none (twice s (MayBeOn m) (λ x. x ≡ a) (IsForeign s b)
+          (λ x e. here (subst (IsForeign s b) (sym e) (inl d))) n r)
       foreign none a r (inr ne) = ne (held_before none a r (driver_cases (s.driver a)))
 
       by_sets : GivesBySets s m n b → GivesBySets (after s v) m n b
       by_sets (by_strong r none) =
-          by_strong (to_after s v (IsStrongOn m) (IsFor s b) n r) (λ f. none (of_after s v (MayBeStrongOn m) (IsAgainst s b) n f))
+          by_strong (to_after s v (IsStrongOn m) (IsFor s b) n r)
+          (λ f. none (of_after s v (MayBeStrongOn m) (IsAgainst s b) n f))
       by_sets (by_held r none) =
           by_held (to_after s v (IsOn m) (IsFor s b) n r) (λ f. none (of_after s v (MayBeOn m) (IsAgainst s b) n f))
       by_sets (by_kept none) =
           by_kept (λ f.
-          let o = origin s (MayBeOn m) (IsForeign (after s v) b) n (of_after s v (MayBeOn m) (IsForeign (after s v) b) n f) in
+          let o = origin s (MayBeOn m) (IsForeign (after s v) b) n
+          (of_after s v (MayBeOn m) (IsForeign (after s v) b) n f) in
           foreign none o.0 o.2 o.1)
 
   -- and what is given after v, v has
@@ -75,11 +92,12 @@ module _ (s : Setting) (v : ℕ → Trit) (b : Trit) (has : (n : ℕ) → s.driv
       by_sets : GivesBySets (after s v) v n b → v n ≡ b
       by_sets (by_strong r none) =
           has n free (gives_from_sets s v n b
-          (by_strong (of_after s v (IsStrongOn v) (IsFor s b) n r) (λ f. none (to_after s v (MayBeStrongOn v) (IsAgainst s b) n f))))
+          (by_strong (of_after s v (IsStrongOn v) (IsFor s b) n r)
+          (λ f. none (to_after s v (MayBeStrongOn v) (IsAgainst s b) n f))))
       by_sets (by_held r none) =
           has n free (gives_from_sets s v n b
           (by_held (of_after s v (IsOn v) (IsFor s b) n r) (λ f. none (to_after s v (MayBeOn v) (IsAgainst s b) n f))))
-      by_sets (by_kept none) = kept none (same_trit (v n) b)
+      by_sets (by_kept none) = kept none (same_trit_or_not (v n) b)
 
 abbrev meet : Trit → Trit → Trit
 meet Zero Zero = Zero
@@ -120,8 +138,16 @@ settles_below : (s : Setting) (v : ℕ → Trit) → IsLeastBound s v → IsLeas
 settles_below s v h = record {
   solution = record {
     driven = h.solution.driven;
-    zero = λ n e. (λ z. again_given s v Zero has_zero v below_self n ((h.solution.zero n e).0 z), λ g. again_has s v Zero has_zero n e g);
-    one = λ n e. (λ z. again_given s v One has_one v below_self n ((h.solution.one n e).0 z), λ g. again_has s v One has_one n e g);
+    zero = λ n e. (
+      λ z. again_given s v Zero has_zero v below_self n
+          ((h.solution.zero n e).0 z),
+      λ g. again_has s v Zero has_zero n e g,
+    );
+    one = λ n e. (
+      λ z. again_given s v One has_one v below_self n
+          ((h.solution.one n e).0 z),
+      λ g. again_has s v One has_one n e g,
+    );
   };
   least = λ w b n. under w n (h.least (λ x. meet (v x) (w x)) (bound w b) n);
 }
@@ -147,11 +173,15 @@ settles_below s v h = record {
       zero = λ n e g.
           meet_same (v n) (w n) Zero
           (has_zero n e (gives_kept s (λ x. meet (v x) (w x)) v (below_v w) n Zero g))
-          (b.zero n e (gives_kept (after s v) (λ x. meet (v x) (w x)) w (below_w w) n Zero (again_given s v Zero has_zero (λ x. meet (v x) (w x)) (below_v w) n g)));
+          (b.zero n e
+          (gives_kept (after s v) (λ x. meet (v x) (w x)) w (below_w w) n Zero
+          (again_given s v Zero has_zero (λ x. meet (v x) (w x)) (below_v w) n g)));
       one = λ n e g.
           meet_same (v n) (w n) One
           (has_one n e (gives_kept s (λ x. meet (v x) (w x)) v (below_v w) n One g))
-          (b.one n e (gives_kept (after s v) (λ x. meet (v x) (w x)) w (below_w w) n One (again_given s v One has_one (λ x. meet (v x) (w x)) (below_v w) n g)));
+          (b.one n e
+          (gives_kept (after s v) (λ x. meet (v x) (w x)) w (below_w w) n One
+          (again_given s v One has_one (λ x. meet (v x) (w x)) (below_v w) n g)));
     }
 
     under : (w : ℕ → Trit) (n : ℕ) → (v n ≡ X) ⊎ (v n ≡ meet (v n) (w n)) → (v n ≡ X) ⊎ (v n ≡ w n)

@@ -1,29 +1,30 @@
 -- Every network has settled values.
-use Rattle.std.proofs.Common.{◌≡◌, ℕ, ◌<◌, ◌≤◌, ◌+◌, List, [], ◌∷◌, Option, Some, None, Bool, true, false, cond, eqb, zero, suc, length, get_or, refl, sym, ◌∙◌, ap, subst, inl, inr, ◌⊎◌, arith}
+use Rattle.std.proofs.Common.{◌≡◌, ℕ, ◌<◌, ◌≤◌, ◌+◌, List, [], ◌∷◌, Option, Some, None, Bool, true, false, cond, eqb}
+use Rattle.std.proofs.Common.{zero, suc, length, get_or, refl, sym, ◌∙◌, ap, subst, inl, inr, ◌⊎◌, arith}
 use Rattle.std.specs.Prelude.{◌≢◌, ◌↔◌, IsSome, Contains, All}
 use Rattle.std.proofs.lemmas.Bool.{cases_lt, cases_eq, eq-eqb, ne_eqb}
+use Rattle.std.proofs.lemmas.List.Elements.{All-contains}
 use Rattle.mp_base.specs.declared.value.Trit.{Trit}
 use Rattle.mp_base.specs.declared.value.Trit.TheVariants.{Zero, One, X}
+use Rattle.mp_base.proofs.Decisions.{Decided, both_of, not_so}
+use Rattle.mp_base.proofs.Values.{same_trit as trit_same, same_trit_or_not}
 use Rattle.switch_net.specs.declared.network.ChannelKind.{ChannelKind}
 use Rattle.switch_net.specs.declared.network.ChannelKind.TheVariants.{Enhancement, Depletion, Partial}
 use Rattle.switch_net.specs.declared.network.Channel.{Channel}
-use Rattle.switch_net.specs.Settled.{Setting, KindIsOn, KindMayBeOn, IsOn, MayBeOn, IsAgainst, Gives, Follows, IsBelow, IsSettled}
+use Rattle.switch_net.specs.Settled.{Setting, KindIsOn, KindMayBeOn, IsOn, MayBeOn, IsAgainst, Gives, Follows, IsBelow}
+use Rattle.switch_net.specs.Settled.{IsSettled}
 use Rattle.switch_net.specs.Reaching.{Reach, here, over, IsStrongOn, MayBeStrongOn, IsFor, IsForeign}
 use Rattle.switch_net.proofs.Rounds.{follows_kept, gives_once}
 use Rattle.switch_net.proofs.Bounds.{IsBound, IsLeastBound, round_below_bound, settled_from_bound}
-use Rattle.switch_net.proofs.Marks.{GivesBySets, by_strong, by_held, by_kept, gives_from_sets, sets_from_gives, same_trit}
+use Rattle.switch_net.proofs.Marks.{GivesBySets, by_strong, by_held, by_kept, gives_from_sets, sets_from_gives}
 
-abbrev Decided : Type 0 → Type 0
-Decided P = P ⊎ (P → ⊥)
-
-all_at : {Y : Type 0} (P : Y → Type 0) (xs : List Y) (x : Y) → All P xs → Contains xs x → P x
-all_at P xs x h in' = subst P in'.2 (h in'.0 x in'.1)
-
-pub all_or_one : {Y : Type 0} (P Q : Y → Type 0) → ((x : Y) → P x ⊎ Q x) → (xs : List Y) → All P xs ⊎ ((x : Y) × Contains xs x × Q x)
+pub all_or_one : {Y : Type 0} (P Q : Y → Type 0) → ((x : Y) → P x ⊎ Q x) → (xs : List Y)
+    → All P xs ⊎ ((x : Y) × Contains xs x × Q x)
 all_or_one P Q dec [] = inl (λ k d lt. absurd (omega arith))
 all_or_one {Y} P Q dec (x ∷ xs) = step (dec x) (all_or_one P Q dec xs)
   where
-    step : P x ⊎ Q x → All P xs ⊎ ((y : Y) × Contains xs y × Q y) → All P (x ∷ xs) ⊎ ((y : Y) × Contains (x ∷ xs) y × Q y)
+    step : P x ⊎ Q x → All P xs ⊎ ((y : Y) × Contains xs y × Q y)
+        → All P (x ∷ xs) ⊎ ((y : Y) × Contains (x ∷ xs) y × Q y)
     step (inr q) _ = inr (x, (0, omega arith, refl), q)
     step (inl p) (inr r) = inr (r.0, (suc r.1.0, omega arith, r.1.2), r.2)
     step (inl p) (inl h) = inl cover
@@ -67,7 +68,8 @@ missing_put : (k : ℕ) (m : ℕ → Bool) (b : ℕ) → b < k → m b ≡ false
 missing_put zero m b lt f = absurd (omega arith)
 missing_put (suc k) m b lt f = by_case (cases_eq k b) (missing_put k m b)
   where
-    by_case : (k ≡ b) ⊎ (k ≡ b → ⊥) → (b < k → m b ≡ false → missing k (put m b) < missing k m) → missing (suc k) (put m b) < missing (suc k) m
+    by_case : (k ≡ b) ⊎ (k ≡ b → ⊥) → (b < k → m b ≡ false → missing k (put m b) < missing k m)
+        → missing (suc k) (put m b) < missing (suc k) m
     by_case (inl e) _ =
         let now : gap (put m b k) ≡ 0 = ap (λ n. gap (put m b n)) e ∙ ap gap (put_same m b) in
         let was : gap (m k) ≡ 1 = ap (λ n. gap (m n)) e ∙ ap gap f in
@@ -78,8 +80,10 @@ missing_put (suc k) m b lt f = by_case (cases_eq k b) (missing_put k m b)
         let rest : missing k (put m b) < missing k m = again (omega arith) f in
         omega arith
 
-module _ (s : Setting) (nodes : ℕ) (ends_in : (c : Channel) (e : ℕ) → Contains s.channels c → Contains c.ends e → e < nodes) where
-  module _ (ok : Channel → Type 0) (dec_ok : (c : Channel) → Decided (ok c)) (from : ℕ → Type 0) (dec_from : (n : ℕ) → Decided (from n)) where
+module _ (s : Setting) (nodes : ℕ)
+    (ends_in : (c : Channel) (e : ℕ) → Contains s.channels c → Contains c.ends e → e < nodes) where
+  module _ (ok : Channel → Type 0) (dec_ok : (c : Channel) → Decided (ok c)) (from : ℕ → Type 0)
+      (dec_from : (n : ℕ) → Decided (from n)) where
     abbrev Fine : (ℕ → Bool) → ℕ → ℕ → Type 0
     Fine m a b = s.driver b ≡ None → m a ≡ true → m b ≡ true
 
@@ -89,7 +93,8 @@ module _ (s : Setting) (nodes : ℕ) (ends_in : (c : Channel) (e : ℕ) → Cont
     fine_or_open : (m : ℕ → Bool) (a b : ℕ) → Fine m a b ⊎ Open m a b
     fine_or_open m a b = by_case (s.driver b) refl (m a) refl (m b) refl
       where
-        by_case : (d : Option Trit) → s.driver b ≡ d → (x : Bool) → m a ≡ x → (y : Bool) → m b ≡ y → Fine m a b ⊎ Open m a b
+        by_case : (d : Option Trit) → s.driver b ≡ d → (x : Bool) → m a ≡ x → (y : Bool) → m b ≡ y
+            → Fine m a b ⊎ Open m a b
         by_case (Some t) d x ex y ey = inl (λ free. absurd (cc))
         by_case None d false ex y ey = inl (λ free h. absurd (cc))
         by_case None d true ex true ey = inl (λ free h. ey)
@@ -104,9 +109,13 @@ module _ (s : Setting) (nodes : ℕ) (ends_in : (c : Channel) (e : ℕ) → Cont
     channel_or_open : (m : ℕ → Bool) (c : Channel) → ChannelFine m c ⊎ ChannelOpen m c
     channel_or_open m c =
         by_ok (dec_ok c)
-        (all_or_one (λ a. All (λ b. Fine m a b) c.ends) (λ a. (b : ℕ) × Contains c.ends b × Open m a b) (λ a. all_or_one (λ b. Fine m a b) (λ b. Open m a b) (fine_or_open m a) c.ends) c.ends)
+        (all_or_one (λ a. All (λ b. Fine m a b) c.ends) (λ a. (b : ℕ) × Contains c.ends b × Open m a b)
+        (λ a. all_or_one (λ b. Fine m a b) (λ b. Open m a b) (fine_or_open m a) c.ends) c.ends)
       where
-        by_ok : Decided (ok c) → All (λ a. All (λ b. Fine m a b) c.ends) c.ends ⊎ ((a : ℕ) × Contains c.ends a × ((b : ℕ) × Contains c.ends b × Open m a b)) → ChannelFine m c ⊎ ChannelOpen m c
+        by_ok : Decided (ok c)
+            → All (λ a. All (λ b. Fine m a b) c.ends) c.ends
+            ⊎ ((a : ℕ) × Contains c.ends a × ((b : ℕ) × Contains c.ends b × Open m a b))
+            → ChannelFine m c ⊎ ChannelOpen m c
         by_ok (inr bad) _ = inl (λ okc. absurd (bad okc))
         by_ok (inl okc) (inl h) = inl (λ _. h)
         by_ok (inl okc) (inr q) = inr (okc, q)
@@ -119,8 +128,10 @@ module _ (s : Setting) (nodes : ℕ) (ends_in : (c : Channel) (e : ℕ) → Cont
     Closed = (m : ℕ → Bool) × Closure m × All (ChannelFine m) s.channels
 
     -- a channel that is open at a to b marks b
-    grown : (m : ℕ → Bool) → Closure m → (c : Channel) → Contains s.channels c → (o : ChannelOpen m c) → Closure (put m o.1.2.0)
-    grown m h c in' o = record { sound = λ n q. by_case n q (cases_eq n o.1.2.0); begun = λ n f. put_kept m o.1.2.0 n (h.begun n f) }
+    grown : (m : ℕ → Bool) → Closure m → (c : Channel) → Contains s.channels c → (o : ChannelOpen m c)
+        → Closure (put m o.1.2.0)
+    grown m h c in' o =
+        record { sound = λ n q. by_case n q (cases_eq n o.1.2.0); begun = λ n f. put_kept m o.1.2.0 n (h.begun n f) }
       where
         by_case : (n : ℕ) → put m o.1.2.0 n ≡ true → (n ≡ o.1.2.0) ⊎ (n ≡ o.1.2.0 → ⊥) → Reach s ok from n
         by_case n q (inl e) =
@@ -130,7 +141,8 @@ module _ (s : Setting) (nodes : ℕ) (ends_in : (c : Channel) (e : ℕ) → Cont
     close : (k : ℕ) (m : ℕ → Bool) → missing nodes m ≤ k → Closure m → Closed
     close k m le h = by_channels k m le h (all_or_one (ChannelFine m) (ChannelOpen m) (channel_or_open m) s.channels)
       where
-        by_channels : (k : ℕ) (m : ℕ → Bool) → missing nodes m ≤ k → Closure m → All (ChannelFine m) s.channels ⊎ ((c : Channel) × Contains s.channels c × ChannelOpen m c) → Closed
+        by_channels : (k : ℕ) (m : ℕ → Bool) → missing nodes m ≤ k → Closure m
+            → All (ChannelFine m) s.channels ⊎ ((c : Channel) × Contains s.channels c × ChannelOpen m c) → Closed
         by_channels k m le h (inl done) = (m, h, done)
         by_channels zero m le h (inr o) =
             let fewer = missing_put nodes m o.2.1.2.0 (ends_in o.0 o.2.1.2.0 o.1 o.2.1.2.1) o.2.1.2.2.2 in
@@ -139,7 +151,8 @@ module _ (s : Setting) (nodes : ℕ) (ends_in : (c : Channel) (e : ℕ) → Cont
             let b : ℕ = o.2.1.2.0 in
             let fewer = missing_put nodes m o.2.1.2.0 (ends_in o.0 o.2.1.2.0 o.1 o.2.1.2.1) o.2.1.2.2.2 in
             by_channels k (put m o.2.1.2.0) (omega (arith, fewer)) (grown m h o.0 o.1 o.2)
-            (all_or_one (ChannelFine (put m o.2.1.2.0)) (ChannelOpen (put m o.2.1.2.0)) (channel_or_open (put m o.2.1.2.0)) s.channels)
+            (all_or_one (ChannelFine (put m o.2.1.2.0)) (ChannelOpen (put m o.2.1.2.0))
+            (channel_or_open (put m o.2.1.2.0)) s.channels)
 
     abbrev test : {P : Type 0} → Decided P → Bool
     test (inl p) = true
@@ -161,8 +174,9 @@ module _ (s : Setting) (nodes : ℕ) (ends_in : (c : Channel) (e : ℕ) → Cont
     marked : (n : ℕ) → Reach s ok from n → closed.0 n ≡ true
     marked n (here f) = closed.1.begun n f
     marked n (over {a} c r in' at_a at_n free okc) =
-        all_at (λ b. Fine closed.0 a b) c.ends n
-        (all_at (λ x. All (λ b. Fine closed.0 x b) c.ends) c.ends a (all_at (ChannelFine closed.0) s.channels c closed.2 in' okc) at_a) at_n free (marked a r)
+        All-contains (λ b. Fine closed.0 a b) c.ends n
+        (All-contains (λ x. All (λ b. Fine closed.0 x b) c.ends) c.ends a
+        (All-contains (ChannelFine closed.0) s.channels c closed.2 in' okc) at_a) at_n free (marked a r)
 
     pub reach_decided : (n : ℕ) → Decided (Reach s ok from n)
     reach_decided n = by_mark (closed.0 n) refl
@@ -171,18 +185,13 @@ module _ (s : Setting) (nodes : ℕ) (ends_in : (c : Channel) (e : ℕ) → Cont
         by_mark true e = inl (closed.1.sound n e)
         by_mark false e = inr (λ r. let t = marked n r in cc)
 
-both_decided : {P Q : Type 0} → Decided P → Decided Q → Decided (P × Q)
-both_decided (inl p) (inl q) = inl (p, q)
-both_decided (inl p) (inr q) = inr (λ h. q h.1)
-both_decided (inr p) _ = inr (λ h. p h.0)
-
 strong_decided : (k : ChannelKind) → Decided (k ≢ Depletion)
 strong_decided Enhancement = inl (λ e. cc)
 strong_decided Depletion = inr (λ h. h refl)
 strong_decided Partial = inl (λ e. cc)
 
 on_decided : (k : ChannelKind) (g : Trit) → Decided (KindIsOn k g)
-on_decided Enhancement g = same_trit g One
+on_decided Enhancement g = same_trit_or_not g One
 on_decided Depletion g = inl tt
 on_decided Partial g = inr (λ h. h)
 
@@ -195,7 +204,7 @@ maybe_decided Partial g = inl tt
 
 for_decided : (d : Option Trit) (b : Trit) → Decided (d ≡ Some b)
 for_decided None b = inr (λ e. cc)
-for_decided (Some t) b = by_same (same_trit t b)
+for_decided (Some t) b = by_same (same_trit_or_not t b)
   where
     by_same : Decided (t ≡ b) → Decided (Some t ≡ Some b)
     by_same (inl e) = inl (ap (λ x. Some x) e)
@@ -203,7 +212,7 @@ for_decided (Some t) b = by_same (same_trit t b)
 
 against_decided : (d : Option Trit) (b : Trit) → Decided ((t : Trit) × (d ≡ Some t) × (t ≢ b))
 against_decided None b = inr (λ h. let e = h.1 in cc)
-against_decided (Some t) b = by_same (same_trit t b)
+against_decided (Some t) b = by_same (same_trit_or_not t b)
   where
     by_same : Decided (t ≡ b) → Decided ((u : Trit) × (Some t ≡ Some u) × (u ≢ b))
     by_same (inl e) = inr (λ h. let q = h.1 in h.2 (let same : h.0 ≡ t = cc in same ∙ e))
@@ -211,7 +220,7 @@ against_decided (Some t) b = by_same (same_trit t b)
 
 foreign_decided : (d : Option Trit) (x b : Trit) → Decided ((IsSome d) ⊎ (x ≢ b))
 foreign_decided (Some t) x b = inl (inl refl)
-foreign_decided None x b = by_same (same_trit x b)
+foreign_decided None x b = by_same (same_trit_or_not x b)
   where
     neither : x ≡ b → (IsSome {T = Trit} None) ⊎ (x ≢ b) → ⊥
     neither e (inl h) = cc
@@ -232,10 +241,6 @@ unopposed_decided (inl p) (inl q) = inr (λ h. h.1 q)
 unopposed_decided (inl p) (inr q) = inl (p, q)
 unopposed_decided (inr p) _ = inr (λ h. p h.0)
 
-none_decided : {P : Type 0} → Decided P → Decided (P → ⊥)
-none_decided (inl p) = inr (λ h. h p)
-none_decided (inr p) = inl p
-
 abbrev weight : Trit → ℕ
 weight Zero = 0
 weight One = 0
@@ -246,14 +251,8 @@ abbrev unsettled : ℕ → (ℕ → Trit) → ℕ
 unsettled zero v = 0
 unsettled (suc k) v = weight (v k) + unsettled k v
 
-trit_same : (t u : Trit) → (t ≡ Zero → u ≡ Zero) → (u ≡ Zero → t ≡ Zero) → (t ≡ One → u ≡ One) → (u ≡ One → t ≡ One) → t ≡ u
-trit_same Zero u zt zf ot of = sym (zt refl)
-trit_same One u zt zf ot of = sym (ot refl)
-trit_same X Zero zt zf ot of = zf refl
-trit_same X One zt zf ot of = of refl
-trit_same X X zt zf ot of = refl
-
-same_or_fewer : (k : ℕ) (v w : ℕ → Trit) → IsBelow v w → (((n : ℕ) → n < k → v n ≡ w n) × (unsettled k w ≡ unsettled k v)) ⊎ (unsettled k w < unsettled k v)
+same_or_fewer : (k : ℕ) (v w : ℕ → Trit) → IsBelow v w
+    → (((n : ℕ) → n < k → v n ≡ w n) × (unsettled k w ≡ unsettled k v)) ⊎ (unsettled k w < unsettled k v)
 same_or_fewer zero v w b = inl (λ n lt. absurd (omega arith), refl)
 same_or_fewer (suc k) v w b = step (v k) refl (w k) refl (b k) (same_or_fewer k v w b)
   where
@@ -264,33 +263,52 @@ same_or_fewer (suc k) v w b = step (v k) refl (w k) refl (b k) (same_or_fewer k 
     upto e h n (inl lt) = h n lt
     upto e h n (inr q) = ap v q ∙ e ∙ ap w (sym q)
 
-    both : v k ≡ w k → (((n : ℕ) → n < k → v n ≡ w n) × (unsettled k w ≡ unsettled k v)) ⊎ (unsettled k w < unsettled k v) → (((n : ℕ) → n < suc k → v n ≡ w n) × (unsettled (suc k) w ≡ unsettled (suc k) v)) ⊎ (unsettled (suc k) w < unsettled (suc k) v)
-    both e (inl h) = let q : weight (v k) ≡ weight (w k) = ap weight e in let r : unsettled k w ≡ unsettled k v = h.1 in inl (λ n lt. upto e h.0 n (below_suc n lt), omega arith)
+    both : v k ≡ w k
+        → (((n : ℕ) → n < k → v n ≡ w n) × (unsettled k w ≡ unsettled k v)) ⊎ (unsettled k w < unsettled k v)
+        → (((n : ℕ) → n < suc k → v n ≡ w n) × (unsettled (suc k) w ≡ unsettled (suc k) v))
+        ⊎ (unsettled (suc k) w < unsettled (suc k) v)
+    both e (inl h) = let q : weight (v k) ≡ weight (w k) = ap weight e in
+        let r : unsettled k w ≡ unsettled k v = h.1 in inl (λ n lt. upto e h.0 n (below_suc n lt), omega arith)
     both e (inr f) = let q : weight (v k) ≡ weight (w k) = ap weight e in inr (omega arith)
 
-    less : weight (v k) ≡ 1 → weight (w k) ≡ 0 → (((n : ℕ) → n < k → v n ≡ w n) × (unsettled k w ≡ unsettled k v)) ⊎ (unsettled k w < unsettled k v) → unsettled (suc k) w < unsettled (suc k) v
+    less : weight (v k) ≡ 1 → weight (w k) ≡ 0
+        → (((n : ℕ) → n < k → v n ≡ w n) × (unsettled k w ≡ unsettled k v)) ⊎ (unsettled k w < unsettled k v)
+        → unsettled (suc k) w < unsettled (suc k) v
     less p q (inl h) = let r : unsettled k w ≡ unsettled k v = h.1 in omega arith
     less p q (inr f) = omega arith
 
-    step : (t : Trit) → v k ≡ t → (u : Trit) → w k ≡ u → (v k ≡ X) ⊎ (v k ≡ w k) → (((n : ℕ) → n < k → v n ≡ w n) × (unsettled k w ≡ unsettled k v)) ⊎ (unsettled k w < unsettled k v) → (((n : ℕ) → n < suc k → v n ≡ w n) × (unsettled (suc k) w ≡ unsettled (suc k) v)) ⊎ (unsettled (suc k) w < unsettled (suc k) v)
+    step : (t : Trit) → v k ≡ t → (u : Trit) → w k ≡ u → (v k ≡ X) ⊎ (v k ≡ w k)
+        → (((n : ℕ) → n < k → v n ≡ w n) × (unsettled k w ≡ unsettled k v)) ⊎ (unsettled k w < unsettled k v)
+        → (((n : ℕ) → n < suc k → v n ≡ w n) × (unsettled (suc k) w ≡ unsettled (suc k) v))
+        ⊎ (unsettled (suc k) w < unsettled (suc k) v)
     step t e u f (inr q) r = both q r
     step t e Zero f (inl q) r = inr (less (ap weight q) (ap weight f) r)
     step t e One f (inl q) r = inr (less (ap weight q) (ap weight f) r)
     step t e X f (inl q) r = both (q ∙ sym f) r
 
-module _ (s : Setting) (nodes : ℕ) (ends_in : (c : Channel) (e : ℕ) → Contains s.channels c → Contains c.ends e → e < nodes) where
+module _ (s : Setting) (nodes : ℕ)
+    (ends_in : (c : Channel) (e : ℕ) → Contains s.channels c → Contains c.ends e → e < nodes) where
   gives_decided : (v : ℕ → Trit) (n : ℕ) (b : Trit) → Decided (Gives s v n b)
   gives_decided v n b =
       by_case
       (unopposed_decided
-      (reach_decided s nodes ends_in (IsStrongOn v) (λ c. both_decided (strong_decided c.kind) (on_decided c.kind (v c.gate))) (IsFor s b) (λ a. for_decided (s.driver a) b) n)
-      (reach_decided s nodes ends_in (MayBeStrongOn v) (λ c. both_decided (strong_decided c.kind) (maybe_decided c.kind (v c.gate))) (IsAgainst s b) (λ a. against_decided (s.driver a) b) n))
+      (reach_decided s nodes ends_in (IsStrongOn v)
+      (λ c. both_of (strong_decided c.kind) (on_decided c.kind (v c.gate))) (IsFor s b)
+      (λ a. for_decided (s.driver a) b) n)
+      (reach_decided s nodes ends_in (MayBeStrongOn v)
+      (λ c. both_of (strong_decided c.kind) (maybe_decided c.kind (v c.gate))) (IsAgainst s b)
+      (λ a. against_decided (s.driver a) b) n))
       (unopposed_decided
-      (reach_decided s nodes ends_in (IsOn v) (λ c. on_decided c.kind (v c.gate)) (IsFor s b) (λ a. for_decided (s.driver a) b) n)
-      (reach_decided s nodes ends_in (MayBeOn v) (λ c. maybe_decided c.kind (v c.gate)) (IsAgainst s b) (λ a. against_decided (s.driver a) b) n))
-      (none_decided (reach_decided s nodes ends_in (MayBeOn v) (λ c. maybe_decided c.kind (v c.gate)) (IsForeign s b) (λ a. foreign_decided (s.driver a) (s.before a) b) n))
+      (reach_decided s nodes ends_in (IsOn v) (λ c. on_decided c.kind (v c.gate)) (IsFor s b)
+      (λ a. for_decided (s.driver a) b) n)
+      (reach_decided s nodes ends_in (MayBeOn v) (λ c. maybe_decided c.kind (v c.gate)) (IsAgainst s b)
+      (λ a. against_decided (s.driver a) b) n))
+      (not_so (reach_decided s nodes ends_in (MayBeOn v) (λ c. maybe_decided c.kind (v c.gate)) (IsForeign s b)
+      (λ a. foreign_decided (s.driver a) (s.before a) b) n))
     where
-      by_case : Decided (Reach s (IsStrongOn v) (IsFor s b) n × (Reach s (MayBeStrongOn v) (IsAgainst s b) n → ⊥)) → Decided (Reach s (IsOn v) (IsFor s b) n × (Reach s (MayBeOn v) (IsAgainst s b) n → ⊥)) → Decided (Reach s (MayBeOn v) (IsForeign s b) n → ⊥) → Decided (Gives s v n b)
+      by_case : Decided (Reach s (IsStrongOn v) (IsFor s b) n × (Reach s (MayBeStrongOn v) (IsAgainst s b) n → ⊥))
+          → Decided (Reach s (IsOn v) (IsFor s b) n × (Reach s (MayBeOn v) (IsAgainst s b) n → ⊥))
+          → Decided (Reach s (MayBeOn v) (IsForeign s b) n → ⊥) → Decided (Gives s v n b)
       by_case (inl h) _ _ = inl (gives_from_sets s v n b (by_strong h.0 h.1))
       by_case (inr _) (inl h) _ = inl (gives_from_sets s v n b (by_held h.0 h.1))
       by_case (inr _) (inr _) (inl h) = inl (gives_from_sets s v n b (by_kept h))
@@ -312,16 +330,20 @@ module _ (s : Setting) (nodes : ℕ) (ends_in : (c : Channel) (e : ℕ) → Cont
   round_follows : (v : ℕ → Trit) → Follows s v (round v)
   round_follows v = record {
     driven = λ n t e. ap (λ d. value_of d (test_of (gives_decided v n Zero)) (test_of (gives_decided v n One))) e;
-    zero = λ n e. zero_at n (gives_decided v n Zero) (gives_decided v n One) (ap (λ d. value_of d (test_of (gives_decided v n Zero)) (test_of (gives_decided v n One))) e);
-    one = λ n e. one_at n (gives_decided v n Zero) (gives_decided v n One) (ap (λ d. value_of d (test_of (gives_decided v n Zero)) (test_of (gives_decided v n One))) e);
+    zero = λ n e. zero_at n (gives_decided v n Zero) (gives_decided v n One)
+        (ap (λ d. value_of d (test_of (gives_decided v n Zero)) (test_of (gives_decided v n One))) e);
+    one = λ n e. one_at n (gives_decided v n Zero) (gives_decided v n One)
+        (ap (λ d. value_of d (test_of (gives_decided v n Zero)) (test_of (gives_decided v n One))) e);
   }
     where
-      zero_at : (n : ℕ) (z : Decided (Gives s v n Zero)) (o : Decided (Gives s v n One)) {x : Trit} → x ≡ value_of None (test_of z) (test_of o) → (x ≡ Zero) ↔ Gives s v n Zero
+      zero_at : (n : ℕ) (z : Decided (Gives s v n Zero)) (o : Decided (Gives s v n One)) {x : Trit}
+          → x ≡ value_of None (test_of z) (test_of o) → (x ≡ Zero) ↔ Gives s v n Zero
       zero_at n (inl z) o e = (λ _. z, λ _. e)
       zero_at n (inr z) (inl o) e = (λ q. absurd (cc), λ g. absurd (z g))
       zero_at n (inr z) (inr o) e = (λ q. absurd (cc), λ g. absurd (z g))
 
-      one_at : (n : ℕ) (z : Decided (Gives s v n Zero)) (o : Decided (Gives s v n One)) {x : Trit} → x ≡ value_of None (test_of z) (test_of o) → (x ≡ One) ↔ Gives s v n One
+      one_at : (n : ℕ) (z : Decided (Gives s v n Zero)) (o : Decided (Gives s v n One)) {x : Trit}
+          → x ≡ value_of None (test_of z) (test_of o) → (x ≡ One) ↔ Gives s v n One
       one_at n (inl z) o e = (λ q. absurd (cc), λ g. absurd (gives_once s v n Zero One (λ q. cc) z g))
       one_at n (inr z) (inl o) e = (λ _. o, λ _. e)
       one_at n (inr z) (inr o) e = (λ q. absurd (cc), λ g. absurd (o g))
@@ -334,8 +356,12 @@ module _ (s : Setting) (nodes : ℕ) (ends_in : (c : Channel) (e : ℕ) → Cont
   gives_far v w n b far g = gives_from_sets s w n b (by_sets (sets_from_gives s v n b g))
     where
       by_sets : GivesBySets s v n b → GivesBySets s w n b
-      by_sets (by_strong r none) = by_strong (here (reach_far (IsStrongOn v) (IsFor s b) n far r)) (λ q. none (here (reach_far (MayBeStrongOn w) (IsAgainst s b) n far q)))
-      by_sets (by_held r none) = by_held (here (reach_far (IsOn v) (IsFor s b) n far r)) (λ q. none (here (reach_far (MayBeOn w) (IsAgainst s b) n far q)))
+      by_sets (by_strong r none) =
+          by_strong (here (reach_far (IsStrongOn v) (IsFor s b) n far r))
+          (λ q. none (here (reach_far (MayBeStrongOn w) (IsAgainst s b) n far q)))
+      by_sets (by_held r none) =
+          by_held (here (reach_far (IsOn v) (IsFor s b) n far r))
+          (λ q. none (here (reach_far (MayBeOn w) (IsAgainst s b) n far q)))
       by_sets (by_kept none) = by_kept (λ q. none (here (reach_far (MayBeOn w) (IsForeign s b) n far q)))
 
   round_far : (v w : ℕ → Trit) (n : ℕ) → nodes ≤ n → round v n ≡ round w n
@@ -364,16 +390,21 @@ module _ (s : Setting) (nodes : ℕ) (ends_in : (c : Channel) (e : ℕ) → Cont
   settled_at v h same = record {
     solution = record {
       driven = λ n t e. same n ∙ (round_follows v).driven n t e;
-      zero = λ n e. (λ z. ((round_follows v).zero n e).0 (sym (same n) ∙ z), λ g. same n ∙ ((round_follows v).zero n e).1 g);
-      one = λ n e. (λ z. ((round_follows v).one n e).0 (sym (same n) ∙ z), λ g. same n ∙ ((round_follows v).one n e).1 g);
+      zero = λ n e.
+          (λ z. ((round_follows v).zero n e).0 (sym (same n) ∙ z), λ g. same n ∙ ((round_follows v).zero n e).1 g);
+      one = λ n e.
+          (λ z. ((round_follows v).one n e).0 (sym (same n) ∙ z), λ g. same n ∙ ((round_follows v).one n e).1 g);
     };
     least = h.below;
   }
 
-  climb : (k : ℕ) (v : ℕ → Trit) → unsettled nodes v ≤ k → Climbs v → ((n : ℕ) → nodes ≤ n → v n ≡ round v n) → (w : ℕ → Trit) × IsLeastBound s w
+  climb : (k : ℕ) (v : ℕ → Trit) → unsettled nodes v ≤ k → Climbs v → ((n : ℕ) → nodes ≤ n → v n ≡ round v n)
+      → (w : ℕ → Trit) × IsLeastBound s w
   climb k v le h far = by_rounds k v le h far (same_or_fewer nodes v (round v) (h.grows (round v) (round_follows v)))
     where
-      by_rounds : (k : ℕ) (v : ℕ → Trit) → unsettled nodes v ≤ k → Climbs v → ((n : ℕ) → nodes ≤ n → v n ≡ round v n) → (((n : ℕ) → n < nodes → v n ≡ round v n) × (unsettled nodes (round v) ≡ unsettled nodes v)) ⊎ (unsettled nodes (round v) < unsettled nodes v) → (w : ℕ → Trit) × IsLeastBound s w
+      by_rounds : (k : ℕ) (v : ℕ → Trit) → unsettled nodes v ≤ k → Climbs v → ((n : ℕ) → nodes ≤ n → v n ≡ round v n)
+          → (((n : ℕ) → n < nodes → v n ≡ round v n) × (unsettled nodes (round v) ≡ unsettled nodes v))
+          ⊎ (unsettled nodes (round v) < unsettled nodes v) → (w : ℕ → Trit) × IsLeastBound s w
       by_rounds k v le h far (inl q) = (v, settled_at v h (λ n. near n (cases_lt n nodes)))
         where
           near : (n : ℕ) → (n < nodes) ⊎ (nodes ≤ n) → v n ≡ round v n
@@ -382,7 +413,8 @@ module _ (s : Setting) (nodes : ℕ) (ends_in : (c : Channel) (e : ℕ) → Cont
       by_rounds zero v le h far (inr fewer) = absurd (omega arith)
       by_rounds (suc k) v le h far (inr fewer) =
           by_rounds k (round v) (omega arith) (climbs_round v h) (λ n past. round_far v (round v) n past)
-          (same_or_fewer nodes (round v) (round (round v)) ((climbs_round v h).grows (round (round v)) (round_follows (round v))))
+          (same_or_fewer nodes (round v) (round (round v))
+          ((climbs_round v h).grows (round (round v)) (round_follows (round v))))
 
   bound_among : (w : ℕ → Trit) × IsLeastBound s w
   bound_among =
@@ -397,7 +429,8 @@ above_all (y ∷ ys) =
     let rest = above_all ys in
     (suc (y + rest.0), λ x h. by_place h.0 x h.1 h.2 rest.0 rest.1)
   where
-    by_place : (k x : ℕ) → k < length (y ∷ ys) → get_or (y ∷ ys) k x ≡ x → (n : ℕ) → ((z : ℕ) → Contains ys z → z < n) → x < suc (y + n)
+    by_place : (k x : ℕ) → k < length (y ∷ ys) → get_or (y ∷ ys) k x ≡ x → (n : ℕ) → ((z : ℕ) → Contains ys z → z < n)
+        → x < suc (y + n)
     by_place zero x lt e n h = omega arith
     by_place (suc k) x lt e n h = let b = h x (k, omega arith, e) in omega arith
 
@@ -410,7 +443,8 @@ above_ends (d ∷ ds) =
     (first.0 + rest.0, λ c e h at. by_place h.0 c h.1 h.2 e at first.0 first.1 rest.0 rest.1)
   where
     by_place : (k : ℕ) (c : Channel) → k < length (d ∷ ds) → get_or (d ∷ ds) k c ≡ c → (e : ℕ) → Contains c.ends e
-        → (m : ℕ) → ((x : ℕ) → Contains d.ends x → x < m) → (n : ℕ) → ((b : Channel) (x : ℕ) → Contains ds b → Contains b.ends x → x < n) → e < m + n
+        → (m : ℕ) → ((x : ℕ) → Contains d.ends x → x < m) → (n : ℕ)
+        → ((b : Channel) (x : ℕ) → Contains ds b → Contains b.ends x → x < n) → e < m + n
     by_place zero c lt same e at m f n g =
         let b = f e (subst (λ x. Contains x.ends e) (sym same) at) in omega arith
     by_place (suc k) c lt same e at m f n g = let b = g c e (k, omega arith, same) at in omega arith

@@ -7,6 +7,9 @@ mod Again
 mod Owners
 pub mod Joins
 pub mod Naming
+pub mod Circuits
+pub mod SwitchKinds
+pub mod Labels
 mod Pieces
 mod Unique
 mod FirstBroken

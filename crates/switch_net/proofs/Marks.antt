@@ -1,25 +1,15 @@
 -- The three cases by sets of nodes that are reached.
 use Rattle.std.proofs.Common.{◌≡◌, ℕ, List, [], ◌∷◌, refl, inl, inr, ◌⊎◌, arith, suc}
 use Rattle.std.specs.Prelude.{◌≢◌, ◌↔◌, Any}
+use Rattle.std.proofs.lemmas.List.Elements.{All-cons}
 use Rattle.mp_base.specs.declared.value.Trit.{Trit}
-use Rattle.mp_base.specs.declared.value.Trit.TheVariants.{Zero, One, X}
+use Rattle.mp_base.proofs.Values.{same_trit_or_not}
 use Rattle.switch_net.specs.declared.network.ChannelKind.{ChannelKind}
 use Rattle.switch_net.specs.declared.network.ChannelKind.TheVariants.{Enhancement, Depletion, Partial}
 use Rattle.switch_net.specs.declared.network.Channel.{Channel}
 use Rattle.switch_net.specs.Settled.{Setting, IsOn, MayBeOn, Path, IsStrong, IsWeak, IsPossible, IsAgainst, Gives}
 use Rattle.switch_net.specs.Reaching.{Reach, IsStrongOn, MayBeStrongOn, IsFor, IsForeign, GivesByReach}
-use Rattle.switch_net.proofs.Reaching.{HasPath, All-cons, path_from_reach, reach_from_path, reach_then}
-
-pub same_trit : (t u : Trit) → (t ≡ u) ⊎ (t ≢ u)
-same_trit Zero Zero = inl refl
-same_trit Zero One = inr (λ e. cc)
-same_trit Zero X = inr (λ e. cc)
-same_trit One Zero = inr (λ e. cc)
-same_trit One One = inl refl
-same_trit One X = inr (λ e. cc)
-same_trit X Zero = inr (λ e. cc)
-same_trit X One = inr (λ e. cc)
-same_trit X X = inl refl
+use Rattle.switch_net.proofs.Reaching.{HasPath, path_from_reach, reach_from_path, reach_then}
 
 kind_cases : (k : ChannelKind) → (k ≢ Depletion) ⊎ (k ≡ Depletion)
 kind_cases Enhancement = inl (λ e. cc)
@@ -64,11 +54,14 @@ module _ (s : Setting) (v : ℕ → Trit) (n : ℕ) (b : Trit) where
       let p : HasPath s (IsStrongOn v) (IsFor s b) n = path_from_reach s (IsStrongOn v) (IsFor s b) n r in
       inl (record {
         held = (p.0, p.1, p.2, p.3, (λ k d h. (p.4 k d h).0), (λ k d h. (p.4 k d h).1));
-        unopposed = λ a cs o path st po. none (reach_from_path s (MayBeStrongOn v) (IsAgainst s b) a cs n o path (λ k d h. (st k d h, po k d h)));
+        unopposed =
+            λ a cs o path st po. none
+            (reach_from_path s (MayBeStrongOn v) (IsAgainst s b) a cs n o path (λ k d h. (st k d h, po k d h)));
       })
 
   strong_against_held : StrongAgainst → HeldAgainst
-  strong_against_held r = reach_then s (MayBeStrongOn v) (MayBeOn v) (IsAgainst s b) (IsAgainst s b) n (λ c h. h.1) (λ a h. h) r
+  strong_against_held r =
+      reach_then s (MayBeStrongOn v) (MayBeOn v) (IsAgainst s b) (IsAgainst s b) n (λ c h. h.1) (λ a h. h) r
 
   pub gives_from_held : Held → (HeldAgainst → ⊥) → Gives s v n b
   gives_from_held r none =
@@ -90,10 +83,11 @@ module _ (s : Setting) (v : ℕ → Trit) (n : ℕ) (b : Trit) where
   gives_from_kept none =
       inr (inr (record {
         alone = λ a cs d path po. none (reach_from_path s (MayBeOn v) (IsForeign s b) a cs n (inl d) path po);
-        charged = λ a cs path po. kept a cs path po (same_trit (s.before a) b);
+        charged = λ a cs path po. kept a cs path po (same_trit_or_not (s.before a) b);
       }))
     where
-      kept : (a : ℕ) (cs : List Channel) → Path s a cs n → IsPossible v cs → (s.before a ≡ b) ⊎ (s.before a ≢ b) → s.before a ≡ b
+      kept : (a : ℕ) (cs : List Channel) → Path s a cs n → IsPossible v cs → (s.before a ≡ b) ⊎ (s.before a ≢ b)
+          → s.before a ≡ b
       kept a cs path po (inl e) = e
       kept a cs path po (inr e) = absurd (none (reach_from_path s (MayBeOn v) (IsForeign s b) a cs n (inr e) path po))
 
@@ -111,8 +105,10 @@ module _ (s : Setting) (v : ℕ → Trit) (n : ℕ) (b : Trit) where
   pub sets_from_gives : Gives s v n b → GivesBySets
   sets_from_gives (inl h) =
       by_strong
-      (reach_from_path s (IsStrongOn v) (IsFor s b) h.held.0 h.held.1 n h.held.2 h.held.3 (λ k d i. (h.held.4 k d i, h.held.5 k d i)))
-      (λ r. let p : HasPath s (MayBeStrongOn v) (IsAgainst s b) n = path_from_reach s (MayBeStrongOn v) (IsAgainst s b) n r in
+      (reach_from_path s (IsStrongOn v) (IsFor s b) h.held.0 h.held.1 n h.held.2 h.held.3
+      (λ k d i. (h.held.4 k d i, h.held.5 k d i)))
+      (λ r. let p : HasPath s (MayBeStrongOn v) (IsAgainst s b) n =
+      path_from_reach s (MayBeStrongOn v) (IsAgainst s b) n r in
       h.unopposed p.0 p.1 p.2 p.3 (λ k d i. (p.4 k d i).0) (λ k d i. (p.4 k d i).1))
   sets_from_gives (inr (inl h)) =
       by_held
@@ -120,7 +116,8 @@ module _ (s : Setting) (v : ℕ → Trit) (n : ℕ) (b : Trit) where
       (λ r. let p : HasPath s (MayBeOn v) (IsAgainst s b) n = path_from_reach s (MayBeOn v) (IsAgainst s b) n r in
       h.unopposed p.0 p.1 p.2 p.3 p.4)
   sets_from_gives (inr (inr h)) =
-      by_kept (λ r. let p : HasPath s (MayBeOn v) (IsForeign s b) n = path_from_reach s (MayBeOn v) (IsForeign s b) n r in
+      by_kept (λ r. let p : HasPath s (MayBeOn v) (IsForeign s b) n =
+      path_from_reach s (MayBeOn v) (IsForeign s b) n r in
       foreign p.0 p.1 p.2 p.3 p.4)
     where
       foreign : (a : ℕ) (cs : List Channel) → IsForeign s b a → Path s a cs n → IsPossible v cs → ⊥

@@ -2,16 +2,7 @@
 use Rattle.lam_geom.specs.Chains.{Chain}
 use Rattle.lam_geom.specs.Chains.Chain.{here, link}
 use Rattle.lam_geom.proofs.Chains.{join_chains}
-
--- Joins of S that lead from what o owns to what p owns are followed by chains among the owners.
-pub follow : {S O : Type 0} {J : S → S → Type 0} {L : O → O → Type 0} (Owns : O → S → Type 0)
-    → ((s t : S) (o : O) → J s t → Owns o s → (p : O) × Owns p t × Chain L o p)
-    → {s t : S} → Chain J s t → (o : O) → Owns o s → (p : O) × Owns p t × Chain L o p
-follow Owns step here o h = (o, h, here)
-follow Owns step (link {s = s} {t = t} j c) o h =
-    let a = step s t o j h in
-    let b = follow Owns step c a.0 a.1 in
-    (b.0, b.1, join_chains a.2 b.2)
+use Rattle.lam_geom.proofs.Following.{follow}
 
 -- Chains of owners are followed by chains among what they own.
 pub follow_back : {S O : Type 0} {J : S → S → Type 0} {L : O → O → Type 0} (Owns : O → S → Type 0)
@@ -43,5 +34,6 @@ owners_from_things {Owns = Owns} f {t = t} {o = o} {p = p} hs ht c =
 pub things_from_owners : {S O : Type 0} {J : S → S → Type 0} {L : O → O → Type 0} {Owns : O → S → Type 0}
     → Follows J L Owns → {s t : S} {o p : O} → Owns o s → Owns p t → Chain L o p → Chain J s t
 things_from_owners {J = J} {Owns = Owns} f {s = s} {t = t} {p = p} hs ht c =
-    let a = follow_back Owns (λ o q u l h. let b = f.bridge o q l in (b.1, b.3, join_chains (f.one o u b.0 h b.2) b.4)) c s hs in
+    let a = follow_back Owns
+    (λ o q u l h. let b = f.bridge o q l in (b.1, b.3, join_chains (f.one o u b.0 h b.2) b.4)) c s hs in
     join_chains a.2 (f.one p a.0 t a.1 ht)

@@ -31,10 +31,12 @@ module _ (joined : RectanglesAreJoined) (Is : Square → Type 0) (pieces : List 
   inside : (r : Rect) (s t : Square) → Owns pieces r s → Owns pieces r t → Chain (Adjoin Is) s t
   inside r s t h k =
       map_chain
-      (λ a b j. record { from = cut.within r a h.in_ j.from; to = cut.within r b h.in_ j.to; same = j.same; beside = j.beside })
+      (λ a b j.
+      record { from = cut.within r a h.in_ j.from; to = cut.within r b h.in_ j.to; same = j.same; beside = j.beside })
       (joined r s t h.is k.is)
 
-  step : (s t : Square) (r : Rect) → Adjoin Is s t → Owns pieces r s → (q : Rect) × Owns pieces q t × Touching pieces r q
+  step : (s t : Square) (r : Rect) → Adjoin Is s t → Owns pieces r s
+      → (q : Rect) × Owns pieces q t × Touching pieces r q
   step s t r j h =
       let w = cut.whole t j.to in (
         w.0,
@@ -60,9 +62,16 @@ module _ (joined : RectanglesAreJoined) (Is : Square → Type 0) (pieces : List 
       let s : Square = w.touch.s in
       let t : Square = w.touch.t in
       let same : s.layer ≡ t.layer = sym w.touch.in_first.same ∙ w.same ∙ w.touch.in_second.same in
-      let at_one : (s.x ≡ t.x) × (s.y ≡ t.y) → Chain (Adjoin Is) s t = λ e. subst (Chain (Adjoin Is) s) (same_square s t same e.0 e.1) here in
+      let at_one : (s.x ≡ t.x) × (s.y ≡ t.y)
+      → Chain (Adjoin Is) s t = λ e. subst (Chain (Adjoin Is) s) (same_square s t same e.0 e.1) here in
       let across : ShareEdge s t → Chain (Adjoin Is) s t = λ e.
-      one_link (record { from = cut.within r s w.one w.touch.in_first; to = cut.within q t w.other w.touch.in_second; same = same; beside = e }) in
+      one_link
+      (record {
+        from = cut.within r s w.one w.touch.in_first;
+        to = cut.within q t w.other w.touch.in_second;
+        same = same;
+        beside = e;
+      }) in
       record {
         s = s;
         t = t;
@@ -79,9 +88,12 @@ module _ (joined : RectanglesAreJoined) (Is : Square → Type 0) (pieces : List 
     bridge = λ r q w. let b = bridge r q w in (b.s, b.t, b.one, b.other, b.chain);
   }
 
-module _ (joined : RectanglesAreJoined) (covers : Layer → ℤ → ℤ → Type 0) (pieces : List Rect) (cut : AreCut (Conducts covers) pieces) where
-  linked_step : (s t : Square) (r : Rect) → Joined covers s t → Owns pieces r s → (q : Rect) × Owns pieces q t × Chain (Linked covers pieces) r q
-  linked_step s t r (beside j) h = let w = step joined (Conducts covers) pieces cut s t r j h in (w.0, w.1, one_link (touch w.2))
+module _ (joined : RectanglesAreJoined) (covers : Layer → ℤ → ℤ → Type 0) (pieces : List Rect)
+    (cut : AreCut (Conducts covers) pieces) where
+  linked_step : (s t : Square) (r : Rect) → Joined covers s t → Owns pieces r s
+      → (q : Rect) × Owns pieces q t × Chain (Linked covers pieces) r q
+  linked_step s t r (beside j) h = let w = step joined (Conducts covers) pieces cut s t r j h in
+      (w.0, w.1, one_link (touch w.2))
   linked_step s t r (contact j) h =
       let w = cut.whole t j.to in (
         w.0,
@@ -89,12 +101,19 @@ module _ (joined : RectanglesAreJoined) (covers : Layer → ℤ → ℤ → Type
         one_link (meet (record { one = h.in_; other = w.1; s = s; t = t; in_one = h.is; in_other = w.2; contact = j })),
       )
 
-  linked_bridge : (r q : Rect) → Linked covers pieces r q → (s : Square) × (t : Square) × Owns pieces r s × Owns pieces q t × Chain (Joined covers) s t
+  linked_bridge : (r q : Rect) → Linked covers pieces r q
+      → (s : Square) × (t : Square) × Owns pieces r s × Owns pieces q t × Chain (Joined covers) s t
   linked_bridge r q (touch w) =
       let b = bridge joined (Conducts covers) pieces cut r q w in
       (b.s, b.t, b.one, b.other, map_chain (λ s t j. beside j) b.chain)
-  linked_bridge r q (meet w) =
-      (w.s, w.t, record { in_ = w.one; is = w.in_one }, record { in_ = w.other; is = w.in_other }, one_link (contact w.contact))
+  linked_bridge r q (meet w) = (
+    w.s,
+    w.t,
+    record { in_ = w.one; is = w.in_one },
+    record { in_ = w.other; is = w.in_other },
+    one_link
+        (contact w.contact),
+  )
 
   linked_follow : Follows (Joined covers) (Linked covers pieces) (Owns pieces)
   linked_follow = record {

@@ -1,13 +1,15 @@
 -- Values that grow, and the least solution by rounds.
 use Rattle.std.proofs.Common.{◌≡◌, ℕ, List, [], Option, Some, None, refl, sym, ◌∙◌, inl, inr, ◌⊎◌, arith}
 use Rattle.std.specs.Prelude.{◌≢◌}
+use Rattle.std.proofs.lemmas.List.Elements.{All-weaker}
 use Rattle.mp_base.specs.declared.value.Trit.{Trit}
 use Rattle.mp_base.specs.declared.value.Trit.TheVariants.{Zero, One, X}
 use Rattle.switch_net.specs.declared.network.ChannelKind.{ChannelKind}
 use Rattle.switch_net.specs.declared.network.ChannelKind.TheVariants.{Enhancement, Depletion, Partial}
 use Rattle.switch_net.specs.declared.network.Channel.{Channel}
-use Rattle.switch_net.specs.Settled.{Setting, KindIsOn, KindMayBeOn, IsOn, MayBeOn, IsDefinite, IsPossible, Gives, Follows, IsBelow, IsSettled}
-use Rattle.switch_net.proofs.Reaching.{All-then}
+use Rattle.switch_net.specs.Settled.{Setting, KindIsOn, KindMayBeOn, IsOn, MayBeOn, IsDefinite, IsPossible, Gives}
+use Rattle.switch_net.specs.Settled.{Follows, IsBelow, IsSettled}
+use Rattle.switch_net.proofs.SwitchKinds.{on_may_be_on}
 
 one_kept : (t u : Trit) → (t ≡ X) ⊎ (t ≡ u) → t ≡ One → u ≡ One
 one_kept t u (inl e) o = cc
@@ -29,10 +31,11 @@ maybe_kept Partial t u b h = tt
 
 module _ (s : Setting) (v w : ℕ → Trit) (below : IsBelow v w) where
   pub definite_kept : (cs : List Channel) → IsDefinite v cs → IsDefinite w cs
-  definite_kept cs h = All-then (IsOn v) (IsOn w) cs (λ c. on_kept c.kind (v c.gate) (w c.gate) (below c.gate)) h
+  definite_kept cs h = All-weaker (IsOn v) (IsOn w) (λ c. on_kept c.kind (v c.gate) (w c.gate) (below c.gate)) cs h
 
   pub possible_kept : (cs : List Channel) → IsPossible w cs → IsPossible v cs
-  possible_kept cs h = All-then (MayBeOn w) (MayBeOn v) cs (λ c. maybe_kept c.kind (v c.gate) (w c.gate) (below c.gate)) h
+  possible_kept cs h =
+      All-weaker (MayBeOn w) (MayBeOn v) (λ c. maybe_kept c.kind (v c.gate) (w c.gate) (below c.gate)) cs h
 
   -- a case that holds keeps holding as values grow
   pub gives_kept : (n : ℕ) (b : Trit) → Gives s v n b → Gives s w n b
@@ -57,7 +60,8 @@ trit_below Zero u z o = inr (sym (z refl))
 trit_below One u z o = inr (sym (o refl))
 trit_below X u z o = inl refl
 
-follows_at : (s : Setting) (v w v' w' : ℕ → Trit) → IsBelow v w → Follows s v v' → Follows s w w' → (n : ℕ) (d : Option Trit) → s.driver n ≡ d → (v' n ≡ X) ⊎ (v' n ≡ w' n)
+follows_at : (s : Setting) (v w v' w' : ℕ → Trit) → IsBelow v w → Follows s v v' → Follows s w w'
+    → (n : ℕ) (d : Option Trit) → s.driver n ≡ d → (v' n ≡ X) ⊎ (v' n ≡ w' n)
 follows_at s v w v' w' below f g n None e =
     trit_below (v' n) (w' n)
     (λ z. (g.zero n e).1 (gives_kept s v w below n Zero ((f.zero n e).0 z)))
@@ -77,13 +81,8 @@ settled_once s v w f g = λ i n. same (v n) (w n) (f.least w g.solution n) (g.le
     same t u (inl e) (inr g) = sym g
     same t u (inl e) (inl g) = e ∙ sym g
 
-on_may : (k : ChannelKind) (t : Trit) → KindIsOn k t → KindMayBeOn k t
-on_may Enhancement t h = λ z. cc
-on_may Depletion t h = tt
-on_may Partial t h = tt
-
 definite_may : (v : ℕ → Trit) (cs : List Channel) → IsDefinite v cs → IsPossible v cs
-definite_may v cs h = All-then (IsOn v) (MayBeOn v) cs (λ c. on_may c.kind (v c.gate)) h
+definite_may v cs h = All-weaker (IsOn v) (MayBeOn v) (λ c. on_may_be_on c.kind (v c.gate)) cs h
 
 -- at most one value is given
 pub gives_once : (s : Setting) (v : ℕ → Trit) (n : ℕ) (b c : Trit) → b ≢ c → Gives s v n b → Gives s v n c → ⊥

@@ -10,7 +10,8 @@ use Rattle.mp_base.specs.declared.pad.Pads.{Pads}
 use Rattle.switch_net.specs.declared.network.Tag.{Tag}
 use Rattle.switch_net.specs.declared.network.Network.{Network}
 use Rattle.switch_net.specs.Pads.{bit_labels, Fit, driver_labels, chip_labels}
-use Rattle.switch_net.specs.Clock.{Phases, drives, SettlesTo, RunsTo, HasValue, Shows, IsClock, IsCircuitTrace, settings_until_outputs, settings_after_outputs}
+use Rattle.switch_net.specs.Clock.{Phases, drives, SettlesTo, RunsTo, HasValue, Shows, IsClock, IsCircuitTrace}
+use Rattle.switch_net.specs.Clock.{settings_until_outputs, settings_after_outputs}
 use Rattle.switch_net.specs.Breaks.{HasPads}
 use Rattle.switch_net.specs.Laws.{TraceExists}
 use Rattle.switch_net.proofs.Exists.{all_or_one, settled_exists}
@@ -19,13 +20,17 @@ use Rattle.switch_net.proofs.Labelling.{labels_differ}
 
 -- ---- what is shown
 
-in_flat : (f : Pad → List (List ℕ)) (pads : List Pad) (pad : Pad) (name : List ℕ) → Contains pads pad → Contains (f pad) name → Contains (flat_map f pads) name
+in_flat : (f : Pad → List (List ℕ)) (pads : List Pad) (pad : Pad) (name : List ℕ) → Contains pads pad
+    → Contains (f pad) name → Contains (flat_map f pads) name
 in_flat f [] pad name c k = absurd (omega (arith, c.1))
-in_flat f (p ∷ ps) pad name (zero, l, e) k = Contains-append_left (f p) (flat_map f ps) name (subst (λ x. Contains (f x) name) (sym e) k)
-in_flat f (p ∷ ps) pad name (suc n, l, e) k = Contains-append_right (f p) (flat_map f ps) name (in_flat f ps pad name (n, omega arith, e) k)
+in_flat f (p ∷ ps) pad name (zero, l, e) k =
+    Contains-append_left (f p) (flat_map f ps) name (subst (λ x. Contains (f x) name) (sym e) k)
+in_flat f (p ∷ ps) pad name (suc n, l, e) k =
+    Contains-append_right (f p) (flat_map f ps) name (in_flat f ps pad name (n, omega arith, e) k)
 
 -- where each item has a partner, there is a list of them
-zip_exists : {A B : Type 0} (R : A → B → Type 0) (xs : List A) → ((x : A) → Contains xs x → (y : B) × R x y) → (ys : List B) × AllZip R xs ys
+zip_exists : {A B : Type 0} (R : A → B → Type 0) (xs : List A) → ((x : A) → Contains xs x → (y : B) × R x y)
+    → (ys : List B) × AllZip R xs ys
 zip_exists R [] f = ([], tt)
 zip_exists R (x ∷ xs) f =
     let y = f x (0, omega arith, refl) in
@@ -39,7 +44,8 @@ module _ (net : Network) (pads : Pads) (has : HasPads net pads) where
       cases : (t : Tag) → (t.name ≢ name) ⊎ (t.name ≡ name)
       cases t = elim (same_name t.name name) [ inl e ↦ inr e | inr n ↦ inl n ]
 
-      found : All (λ (t : Tag). t.name ≢ name) net.tags ⊎ ((t : Tag) × Contains net.tags t × (t.name ≡ name)) → (t : Tag) × Contains net.tags t × (t.name ≡ name)
+      found : All (λ (t : Tag). t.name ≢ name) net.tags ⊎ ((t : Tag) × Contains net.tags t × (t.name ≡ name))
+          → (t : Tag) × Contains net.tags t × (t.name ≡ name)
       found (inr w) = w
       found (inl h) =
           absurd (has.labelled c.0 name (record {
@@ -47,7 +53,8 @@ module _ (net : Network) (pads : Pads) (has : HasPads net pads) where
             none = λ t k. subst (λ (x : Tag). x.name ≢ name) k.2 (h k.0 t k.1);
           }))
 
-  value_exists : (values : ℕ → Trit) (name : List ℕ) → Contains (chip_labels pads) name → (b : Trit) × HasValue net values name b
+  value_exists : (values : ℕ → Trit) (name : List ℕ) → Contains (chip_labels pads) name
+      → (b : Trit) × HasValue net values name b
   value_exists values name c =
       let t = labelled name c in
       (values t.0.node, (t.0.node, (t.0, t.1, t.2, refl), refl))
@@ -55,22 +62,28 @@ module _ (net : Network) (pads : Pads) (has : HasPads net pads) where
   shown_exists : (values : ℕ → Trit) → (shown : List (List Trit)) × AllZip (Shows net values) pads.outputs shown
   shown_exists values = zip_exists (Shows net values) pads.outputs (λ pad c.
       zip_exists (HasValue net values) (bit_labels pad) (λ name k.
-      value_exists values name (Contains-append_right (driver_labels pads.inputs) (flat_map bit_labels pads.outputs) name (in_flat bit_labels pads.outputs pad name c k))))
+      value_exists values name
+      (Contains-append_right (driver_labels pads.inputs) (flat_map bit_labels pads.outputs) name
+      (in_flat bit_labels pads.outputs pad name c k))))
 
-  settles : (phases : Phases) (words : List ℕ) (before : ℕ → Trit) → Fit pads.inputs words → (after : ℕ → Trit) × SettlesTo net (drives phases pads.inputs words) before after
+  settles : (phases : Phases) (words : List ℕ) (before : ℕ → Trit) → Fit pads.inputs words
+      → (after : ℕ → Trit) × SettlesTo net (drives phases pads.inputs words) before after
   settles phases words before f =
-      let d = drivers_exist net (driver_labels pads.inputs) has.apart (drives phases pads.inputs words) (names_of_drives phases pads.inputs words f) (labels_differ pads) in
+      let d = drivers_exist net (driver_labels pads.inputs) has.apart (drives phases pads.inputs words)
+      (names_of_drives phases pads.inputs words f) (labels_differ pads) in
       let s = settled_exists (record { channels = net.channels; driver = d.0; before = before }) in
       (s.0, record { driver = d.0; drivers = d.1; settled = s.1 })
 
-  runs : (ps : List Phases) (words : List ℕ) (before : ℕ → Trit) → Fit pads.inputs words → (after : ℕ → Trit) × RunsTo net pads.inputs words ps before after
+  runs : (ps : List Phases) (words : List ℕ) (before : ℕ → Trit) → Fit pads.inputs words
+      → (after : ℕ → Trit) × RunsTo net pads.inputs words ps before after
   runs [] words before f = (before, λ n. refl)
   runs (p ∷ ps) words before f =
       let s = settles p words before f in
       let r = runs ps words s.0 f in
       (r.0, (s.0, s.1, r.1))
 
-  clock : (words : List ℕ) (before : ℕ → Trit) → Fit pads.inputs words → (shown : List (List Trit)) × (after : ℕ → Trit) × IsClock net pads words before shown after
+  clock : (words : List ℕ) (before : ℕ → Trit) → Fit pads.inputs words
+      → (shown : List (List Trit)) × (after : ℕ → Trit) × IsClock net pads words before shown after
   clock words before f =
       let until = runs settings_until_outputs words before f in
       let rest = runs settings_after_outputs words until.0 f in

@@ -1,5 +1,6 @@
 -- The classes of joined things are determined, and so is the network that a mask draws.
-use Rattle.std.proofs.Common.{ℕ, zero, suc, ◌≡◌, ◌<◌, ◌⊎◌, inl, inr, refl, sym, ◌∙◌, ap, subst, subst₂, arith, List, [], ◌∷◌, length, get_or, Contains}
+use Rattle.std.proofs.Common.{ℕ, ◌≡◌, ◌<◌, ◌⊎◌, inl, inr, refl, sym, ◌∙◌, ap, subst, subst₂, arith, List, [], ◌∷◌}
+use Rattle.std.proofs.Common.{length, get_or, Contains}
 use Rattle.std.specs.Prelude.{All, AllPairs, ℤ}
 use Rattle.std.proofs.Props.{props}
 use mathlib.Core.HLevel.{is_prop→PathP}
@@ -7,6 +8,7 @@ use Rattle.std.specs.List.{AllZip}
 use Rattle.std.proofs.lemmas.Bool.{cases_lt}
 use Rattle.std.proofs.lemmas.List.{get_or_default}
 use Rattle.std.proofs.lemmas.List.Elements.{All-contains}
+use Rattle.mp_base.proofs.Members.{Member, member_contains, contains_member, pairs_head, pairs_tail}
 use Rattle.lam_geom.specs.declared.layer.Layer.{Layer}
 use Rattle.switch_net.specs.declared.network.ChannelKind.{ChannelKind}
 use Rattle.switch_net.specs.declared.network.ChannelKind.TheVariants.{Enhancement, Depletion, Partial}
@@ -27,42 +29,18 @@ use Rattle.lam_geom.proofs.SquareOrder.{before_asymmetric, before_total}
 use Rattle.switch_net.proofs.Joins.{join_flip}
 use Rattle.switch_net.proofs.Naming.{one_square}
 
-abbrev Member : {A : Type 0} → List A → A → Type 0
-Member [] a = ⊥
-Member (x ∷ xs) a = (x ≡ a) ⊎ Member xs a
-
-member_at : {A : Type 0} (xs : List A) (i : ℕ) (d : A) → i < length xs → Member xs (get_or xs i d)
-member_at [] i d h = absurd (omega arith)
-member_at (x ∷ xs) zero d h = inl refl
-member_at (x ∷ xs) (suc i) d h = inr (member_at xs i d (omega arith))
-
 -- a strict order in which any two things are comparable
 record IsStrictTotal {S : Type 0} (Before : S → S → Type 0) : Type 0 where
   pub asymmetric : (s t : S) → Before s t → Before t s → ⊥
   pub total : (s t : S) → Before s t ⊎ (s ≡ t) ⊎ Before t s
-
-member_contains : {S : Type 0} (xs : List S) (s : S) → Member xs s → Contains xs s
-member_contains [] s m = absurd m
-member_contains (x ∷ xs) s (inl e) = (0, omega arith, e)
-member_contains (x ∷ xs) s (inr m) = let c = member_contains xs s m in (suc c.0, omega arith, c.2)
-
-contains_member : {S : Type 0} (xs : List S) (s : S) → Contains xs s → Member xs s
-contains_member xs s c = subst (Member xs) c.2 (member_at xs c.0 s c.1)
-
-pairs_head : {S : Type 0} (B : S → S → Type 0) (x : S) (xs : List S) → AllPairs B (x ∷ xs) → (y : S) → Member xs y → B x y
-pairs_head B x xs h y m =
-    let c = member_contains xs y m in
-    subst (B x) c.2 (h 0 (suc c.0) y (omega arith) (omega arith))
-
-pairs_tail : {S : Type 0} (B : S → S → Type 0) (x : S) (xs : List S) → AllPairs B (x ∷ xs) → AllPairs B xs
-pairs_tail B x xs h i j d l k = h (suc i) (suc j) d (omega arith) (omega arith)
 
 drop_head : {S : Type 0} {z : S} (zs : List S) {s : S} → Member (z ∷ zs) s → (z ≡ s → ⊥) → Member zs s
 drop_head zs (inl k) n = absurd (n k)
 drop_head zs (inr m) n = m
 
 -- two lists in strict order with the same elements are one
-same_lists : {S : Type 0} (B : S → S → Type 0) → ((s t : S) → B s t → B t s → ⊥) → (xs ys : List S) → AllPairs B xs → AllPairs B ys
+same_lists : {S : Type 0} (B : S → S → Type 0) → ((s t : S) → B s t → B t s → ⊥) → (xs ys : List S) → AllPairs B xs
+    → AllPairs B ys
     → ((s : S) → Member xs s → Member ys s) → ((s : S) → Member ys s → Member xs s) → xs ≡ ys
 same_lists B asym [] [] a b f g = refl
 same_lists B asym [] (y ∷ ys) a b f g = absurd (g y (inl refl))
@@ -70,8 +48,10 @@ same_lists B asym (x ∷ xs) [] a b f g = absurd (f x (inl refl))
 same_lists B asym (x ∷ xs) (y ∷ ys) a b f g =
     let e : x ≡ y = heads (f x (inl refl)) (g y (inl refl)) in
     let r : xs ≡ ys = same_lists B asym xs ys (pairs_tail B x xs a) (pairs_tail B y ys b)
-    (λ s m. drop_head ys (f s (inr m)) (λ k. let w = subst (B x) (sym k ∙ sym e) (pairs_head B x xs a s m) in asym x x w w))
-    (λ s m. drop_head xs (g s (inr m)) (λ k. let w = subst (B y) (sym k ∙ e) (pairs_head B y ys b s m) in asym y y w w)) in
+    (λ s m. drop_head ys (f s (inr m))
+    (λ k. let w = subst (B x) (sym k ∙ sym e) (pairs_head B x xs a s m) in asym x x w w))
+    (λ s m. drop_head xs (g s (inr m))
+    (λ k. let w = subst (B y) (sym k ∙ e) (pairs_head B y ys b s m) in asym y y w w)) in
     cc
   where
     heads : Member (y ∷ ys) x → Member (x ∷ xs) y → x ≡ y
@@ -79,7 +59,8 @@ same_lists B asym (x ∷ xs) (y ∷ ys) a b f g =
     heads (inr m) (inl k) = k
     heads (inr m) (inr n) = absurd (asym x y (pairs_head B x xs a y n) (pairs_head B y ys b x m))
 
-classes_part : {S : Type 0} {Is : S → Type 0} {J B : S → S → Type 0} → IsStrictTotal B → ((s t : S) → J s t → J t s) → (xs ys : List S)
+classes_part : {S : Type 0} {Is : S → Type 0} {J B : S → S → Type 0} → IsStrictTotal B → ((s t : S) → J s t → J t s)
+    → (xs ys : List S)
     → AreClasses Is J B xs → AreClasses Is J B ys → (s : S) → Member xs s → Member ys s
 classes_part {S = S} {Is = Is} {J = J} {B = B} o flip xs ys a b s m =
     let c = member_contains xs s m in
@@ -94,15 +75,21 @@ classes_part {S = S} {Is = Is} {J = J} {B = B} o flip xs ys a b s m =
     go r k (inr (inr h)) f g = absurd (g h)
 
 -- The least elements of the classes are determined.
-one_classes : {S : Type 0} {Is : S → Type 0} {J B : S → S → Type 0} → IsStrictTotal B → ((s t : S) → J s t → J t s) → (xs ys : List S)
+one_classes : {S : Type 0} {Is : S → Type 0} {J B : S → S → Type 0} → IsStrictTotal B → ((s t : S) → J s t → J t s)
+    → (xs ys : List S)
     → AreClasses Is J B xs → AreClasses Is J B ys → xs ≡ ys
-one_classes {B = B} o flip xs ys a b = same_lists B o.asymmetric xs ys a.ascending b.ascending (classes_part o flip xs ys a b) (classes_part o flip ys xs b a)
+one_classes {B = B} o flip xs ys a b =
+    same_lists B o.asymmetric xs ys a.ascending b.ascending (classes_part o flip xs ys a b)
+    (classes_part o flip ys xs b a)
 
 -- A thing is in one class.
-one_class : {S : Type 0} {Is : S → Type 0} {J B : S → S → Type 0} → IsStrictTotal B → ((s t : S) → J s t → J t s) → (xs : List S) → AreClasses Is J B xs
+one_class : {S : Type 0} {Is : S → Type 0} {J B : S → S → Type 0} → IsStrictTotal B → ((s t : S) → J s t → J t s)
+    → (xs : List S) → AreClasses Is J B xs
     → (j k : ℕ) (s : S) → IsInClass J xs j s → IsInClass J xs k s → j ≡ k
-one_class {S = S} {Is = Is} {J = J} {B = B} o flip xs a j k s h i = elim (cases_lt j k)
-    [ inl l ↦ absurd (apart j k h i l) | inr l ↦ elim (cases_lt k j) [ inl m ↦ absurd (apart k j i h m) | inr m ↦ omega arith ] ]
+one_class {S = S} {Is = Is} {J = J} {B = B} o flip xs a j k s h i = elim (cases_lt j k) [
+  | inl l ↦ absurd (apart j k h i l)
+  | inr l ↦ elim (cases_lt k j) [ inl m ↦ absurd (apart k j i h m) | inr m ↦ omega arith ]
+]
   where
     apart : (j k : ℕ) → IsInClass J xs j s → IsInClass J xs k s → j < k → ⊥
     apart j k h i l =
@@ -115,7 +102,8 @@ square_order = record { asymmetric = before_asymmetric; total = before_total }
 
 -- ---- the parts of a network
 
-zip_same : {A B : Type 0} (P : A → Type 0) (R : A → B → Type 0) → ((a : A) (b c : B) → P a → R a b → R a c → b ≡ c) → (xs : List A) (ys zs : List B) → ((a : A) → Member xs a → P a)
+zip_same : {A B : Type 0} (P : A → Type 0) (R : A → B → Type 0) → ((a : A) (b c : B) → P a → R a b → R a c → b ≡ c)
+    → (xs : List A) (ys zs : List B) → ((a : A) → Member xs a → P a)
     → AllZip R xs ys → AllZip R xs zs → ys ≡ zs
 zip_same P R f [] [] [] p a b = refl
 zip_same P R f [] [] (z ∷ zs) p a b = absurd b
@@ -140,7 +128,8 @@ module _ (covers : Layer → ℤ → ℤ → Type 0) (nodes : List Square) (are 
   one_kind r Partial Enhancement i a b = absurd (b a.0.0 a.0.1 a.0.2)
   one_kind r Partial Depletion i a b = absurd (a.1.2 (b a.1.0 a.1.1))
 
-  one_channel : (r : Square) (c d : Channel) → IsChannelSquare covers r → IsChannelAt covers nodes r c → IsChannelAt covers nodes r d → c ≡ d
+  one_channel : (r : Square) (c d : Channel) → IsChannelSquare covers r → IsChannelAt covers nodes r c
+      → IsChannelAt covers nodes r d → c ≡ d
   one_channel r c d i a b =
       let e : c.gate ≡ d.gate = one_node c.gate d.gate r a.gate b.gate in
       let f : c.ends ≡ d.ends = same_lists (λ j k. j < k) (λ j k h l. omega arith) c.ends d.ends a.ascending b.ascending
@@ -152,7 +141,8 @@ module _ (covers : Layer → ℤ → ℤ → Type 0) (nodes : List Square) (are 
   one_tag : (label : FlatLabel) (t u : Tag) → IsTag covers nodes label t → IsTag covers nodes label u → t ≡ u
   one_tag label t u a b =
       let s : a.square ≡ b.square = one_square covers label a.square b.square a.names b.names in
-      let n : t.node ≡ u.node = one_node t.node u.node b.square (subst (IsInClass (Joined covers) nodes t.node) s a.node) b.node in
+      let n : t.node ≡ u.node =
+      one_node t.node u.node b.square (subst (IsInClass (Joined covers) nodes t.node) s a.node) b.node in
       let o : t.offset ≡ u.offset = sym a.offset ∙ b.offset in
       let e : t.name ≡ u.name = sym a.name ∙ b.name in
       λ z. record { offset = o z; name = e z; node = n z }
@@ -160,7 +150,8 @@ module _ (covers : Layer → ℤ → ℤ → Type 0) (nodes : List Square) (are 
 same_network : (n m : Network) → n.nodes ≡ m.nodes → n.channels ≡ m.channels → n.tags ≡ m.tags → n ≡ m
 same_network n m p q r =
     let gates = is_prop→PathP (λ i. All (λ c. c.gate < p i) (q i)) (λ i. hlevel props) n.gates_in m.gates_in in
-    let ends = is_prop→PathP (λ i. All (λ c. All (λ e. e < p i) c.ends) (q i)) (λ i. hlevel props) n.ends_in m.ends_in in
+    let ends =
+    is_prop→PathP (λ i. All (λ c. All (λ e. e < p i) c.ends) (q i)) (λ i. hlevel props) n.ends_in m.ends_in in
     let nodes = is_prop→PathP (λ i. All (λ t. t.node < p i) (r i)) (λ i. hlevel props) n.tags_in m.tags_in in
     let one = is_prop→PathP (λ i. OneNodeEach (r i)) (λ i. hlevel props) n.one_node_each m.one_node_each in
     λ i. record {
@@ -174,21 +165,32 @@ same_network n m p q r =
     }
 
 -- The network of what is covered is determined.
-one_network : (covers : Layer → ℤ → ℤ → Type 0) (labels : List FlatLabel) (n m : Network) → IsNetwork covers labels n → IsNetwork covers labels m → n ≡ m
+one_network : (covers : Layer → ℤ → ℤ → Type 0) (labels : List FlatLabel) (n m : Network) → IsNetwork covers labels n
+    → IsNetwork covers labels m → n ≡ m
 one_network covers labels n m a b =
     let e : a.nodes ≡ b.nodes = one_classes square_order (join_flip covers) a.nodes b.nodes a.are_nodes b.are_nodes in
-    let f : a.regions ≡ b.regions = one_classes square_order (adjoin_flip (IsChannelSquare covers)) a.regions b.regions a.are_regions b.are_regions in
-    let c : AllZip (IsChannelAt covers b.nodes) b.regions n.channels = subst₂ (λ x y. AllZip (IsChannelAt covers x) y n.channels) e f a.channels in
+    let f : a.regions ≡ b.regions =
+    one_classes square_order (adjoin_flip (IsChannelSquare covers)) a.regions b.regions a.are_regions b.are_regions in
+    let c : AllZip (IsChannelAt covers b.nodes) b.regions n.channels =
+    subst₂ (λ x y. AllZip (IsChannelAt covers x) y n.channels) e f a.channels in
     let t : AllZip (IsTag covers b.nodes) labels n.tags = subst (λ x. AllZip (IsTag covers x) labels n.tags) e a.tags in
     let p : n.nodes ≡ m.nodes = a.count ∙ ap length e ∙ sym b.count in
-    let q : n.channels ≡ m.channels = zip_same (IsChannelSquare covers) (IsChannelAt covers b.nodes) (λ x y z i h k. one_channel covers b.nodes b.are_nodes x y z i h k) b.regions n.channels m.channels
-    (λ s h. All-contains (IsChannelSquare covers) b.regions s b.are_regions.each (member_contains b.regions s h)) c b.channels in
-    let r : n.tags ≡ m.tags = zip_same (λ l. Unit {0}) (IsTag covers b.nodes) (λ x y z i h k. one_tag covers b.nodes b.are_nodes x y z h k) labels n.tags m.tags (λ l h. tt) t b.tags in
+    let q : n.channels ≡ m.channels =
+    zip_same (IsChannelSquare covers) (IsChannelAt covers b.nodes)
+    (λ x y z i h k. one_channel covers b.nodes b.are_nodes x y z i h k) b.regions n.channels m.channels
+    (λ s h. All-contains (IsChannelSquare covers) b.regions s b.are_regions.each (member_contains b.regions s h)) c
+    b.channels in
+    let r : n.tags ≡ m.tags =
+    zip_same (λ l. Unit {0}) (IsTag covers b.nodes)
+    (λ x y z i h k. one_tag covers b.nodes b.are_nodes x y z h k) labels n.tags m.tags (λ l h. tt) t b.tags in
     same_network n m p q r
 
 pub drawn_once : OneNetwork
 drawn_once shapes labels n m a b = one_network (covered shapes) labels n m a b
 
 pub numbered_once : OneNumbering
-numbered_once shapes =
-    (one_classes square_order (join_flip (covered shapes)), one_classes square_order (adjoin_flip (IsChannelSquare (covered shapes))))
+numbered_once shapes = (
+  one_classes square_order (join_flip (covered shapes)),
+  one_classes square_order
+      (adjoin_flip (IsChannelSquare (covered shapes))),
+)

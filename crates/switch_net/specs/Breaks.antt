@@ -19,7 +19,8 @@ use Rattle.switch_net.specs.Pads.{driver_labels, chip_labels}
 use Rattle.switch_net.specs.Drawn.{AreNodes, AreRegions, IsNetwork}
 
 -- N1: an earlier label of that name is on another node
-pub record IsOnTwoNodes (covers : Layer → ℤ → ℤ → Type 0) (labels : List FlatLabel) (i : ℕ) (label : FlatLabel) : Type 0 where
+pub record IsOnTwoNodes (covers : Layer → ℤ → ℤ → Type 0) (labels : List FlatLabel) (i : ℕ)
+    (label : FlatLabel) : Type 0 where
   pub at : slice_get labels i ≡ Some label
   pub j : ℕ
   pub before : j < i
@@ -33,7 +34,8 @@ pub record IsOnTwoNodes (covers : Layer → ℤ → ℤ → Type 0) (labels : Li
   pub apart : ¬ Chain (Joined covers) t s
 
 -- N2: no conductor is there
-pub record IsOnNothing (covers : Layer → ℤ → ℤ → Type 0) (labels : List FlatLabel) (i : ℕ) (label : FlatLabel) : Type 0 where
+pub record IsOnNothing (covers : Layer → ℤ → ℤ → Type 0) (labels : List FlatLabel) (i : ℕ)
+    (label : FlatLabel) : Type 0 where
   pub at : slice_get labels i ≡ Some label
   pub none : (s : Square) → ¬ Names covers label s
 
@@ -75,23 +77,28 @@ MeetsDriver drivers tags i = (tag : Tag) × IsDrivenTwice drivers tags i tag
 abbrev pub broken : ℕ → Spot → Broken
 broken number spot = record { rule = record { family = N; number = number }; spot = spot }
 
--- the first rule that a mask with labels breaks: N1 and N2 label by label, then N3 among power, ground and phases, then N5
+-- the first rule that a mask with labels breaks: N1 and N2 label by label, then N3 among power, ground and phases, then
+-- N5
 pub data IsFirstOfMask (covers : Layer → ℤ → ℤ → Type 0) (labels : List FlatLabel) : Broken → Type 0 where
   n1 : (i : ℕ) (label : FlatLabel) → IsOnTwoNodes covers labels i label → ((j : ℕ) → j < i → ¬ BreaksAt covers labels j)
       → IsFirstOfMask covers labels (broken 1 (Offset label.offset))
   n2 : (i : ℕ) (label : FlatLabel) → IsOnNothing covers labels i label → ((j : ℕ) → j < i → ¬ BreaksAt covers labels j)
       → IsFirstOfMask covers labels (broken 2 (Offset label.offset))
   n3 : (net : Network) → IsNetwork covers labels net → (i : ℕ) (tag : Tag) → IsDrivenTwice supplies net.tags i tag
-      → ((j : ℕ) → j < i → ¬ MeetsDriver supplies net.tags j) → IsFirstOfMask covers labels (broken 3 (Offset tag.offset))
+      → ((j : ℕ) → j < i → ¬ MeetsDriver supplies net.tags j)
+      → IsFirstOfMask covers labels (broken 3 (Offset tag.offset))
   n5 : (net : Network) → IsNetwork covers labels net → ((i : ℕ) → ¬ MeetsDriver supplies net.tags i) → AreTooMany covers
       → IsFirstOfMask covers labels (broken 5 Nowhere)
 
 -- the first rule that a network breaks with these pads: N3 with the input pads among the drivers, then N4
 pub data IsFirstOfCircuit (net : Network) (pads : Pads) : Broken → Type 0 where
   n3 : (i : ℕ) (tag : Tag) → IsDrivenTwice (driver_labels pads.inputs) net.tags i tag
-      → ((j : ℕ) → j < i → ¬ MeetsDriver (driver_labels pads.inputs) net.tags j) → IsFirstOfCircuit net pads (broken 3 (Offset tag.offset))
-  n4 : ((i : ℕ) → ¬ MeetsDriver (driver_labels pads.inputs) net.tags i) → (i : ℕ) (name : List ℕ) → IsMissing net (chip_labels pads) i name
-      → ((j : ℕ) (other : List ℕ) → j < i → ¬ IsMissing net (chip_labels pads) j other) → IsFirstOfCircuit net pads (broken 4 (Named name))
+      → ((j : ℕ) → j < i → ¬ MeetsDriver (driver_labels pads.inputs) net.tags j)
+      → IsFirstOfCircuit net pads (broken 3 (Offset tag.offset))
+  n4 : ((i : ℕ) → ¬ MeetsDriver (driver_labels pads.inputs) net.tags i) → (i : ℕ) (name : List ℕ)
+      → IsMissing net (chip_labels pads) i name
+      → ((j : ℕ) (other : List ℕ) → j < i → ¬ IsMissing net (chip_labels pads) j other)
+      → IsFirstOfCircuit net pads (broken 4 (Named name))
 
 -- drivers are on different nodes, and no label of the chip is missing
 pub record HasPads (net : Network) (pads : Pads) : Type 0 where
@@ -99,7 +106,8 @@ pub record HasPads (net : Network) (pads : Pads) : Type 0 where
   pub labelled : (i : ℕ) (name : List ℕ) → ¬ IsMissing net (chip_labels pads) i name
 
 -- the mask with these labels draws this network, and none of N1 to N5 is broken with these pads
-pub record IsSoundMask (covers : Layer → ℤ → ℤ → Type 0) (labels : List FlatLabel) (net : Network) (pads : Pads) : Type 0 where
+pub record IsSoundMask (covers : Layer → ℤ → ℤ → Type 0) (labels : List FlatLabel) (net : Network)
+    (pads : Pads) : Type 0 where
   pub network : IsNetwork covers labels net
   pub labels_fit : (i : ℕ) → ¬ BreaksAt covers labels i
   pub few : ¬ AreTooMany covers

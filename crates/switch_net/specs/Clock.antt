@@ -62,7 +62,8 @@ IsLabelled net name node = (t : Tag) × Contains net.tags t × (t.name ≡ name)
 -- the drivers are exactly the nodes with such labels
 pub record AreDrivers (net : Network) (driven : List Drive) (driver : ℕ → Option Trit) : Type 0 where
   pub each : (d : Drive) (n : ℕ) → Contains driven d → IsLabelled net d.name n → driver n ≡ Some d.value
-  pub only : (n : ℕ) (b : Trit) → driver n ≡ Some b → (d : Drive) × Contains driven d × IsLabelled net d.name n × (d.value ≡ b)
+  pub only : (n : ℕ) (b : Trit) → driver n ≡ Some b
+      → (d : Drive) × Contains driven d × IsLabelled net d.name n × (d.value ≡ b)
 
 -- with these drivers the network settles from the values before to those after
 pub record SettlesTo (net : Network) (driven : List Drive) (before after : ℕ → Trit) : Type 0 where
@@ -74,7 +75,8 @@ pub record SettlesTo (net : Network) (driven : List Drive) (before after : ℕ �
 abbrev pub RunsTo : Network → List Pad → List ℕ → List Phases → (ℕ → Trit) → (ℕ → Trit) → Type 0
 RunsTo net inputs words [] before after = (n : ℕ) → after n ≡ before n
 RunsTo net inputs words (p ∷ ps) before after =
-    (between : ℕ → Trit) × SettlesTo net (drives p inputs words) before between × RunsTo net inputs words ps between after
+    (between : ℕ → Trit) × SettlesTo net (drives p inputs words) before between
+    × RunsTo net inputs words ps between after
 
 -- the node with this label has this value
 abbrev pub HasValue : Network → (ℕ → Trit) → List ℕ → Trit → Type 0
@@ -85,16 +87,19 @@ abbrev pub Shows : Network → (ℕ → Trit) → Pad → List Trit → Type 0
 Shows net values pad bits = AllZip (HasValue net values) (bit_labels pad) bits
 
 -- one clock: the output pads show their bits after the second setting
-pub record IsClock (net : Network) (pads : Pads) (words : List ℕ) (before : ℕ → Trit) (shown : List (List Trit)) (after : ℕ → Trit) : Type 0 where
+pub record IsClock (net : Network) (pads : Pads) (words : List ℕ) (before : ℕ → Trit) (shown : List (List Trit))
+    (after : ℕ → Trit) : Type 0 where
   pub values : ℕ → Trit
   pub until : RunsTo net pads.inputs words settings_until_outputs before values
   pub shows : AllZip (Shows net values) pads.outputs shown
   pub rest : RunsTo net pads.inputs words settings_after_outputs values after
 
 -- From these values before, under this list of inputs, the output pads show these bits in each clock, and these are the
--- values after the last. Inputs are one number for each input pad, and what is shown is a list of bits for each output pad.
+-- values after the last. Inputs are one number for each input pad, and what is shown is a list of bits for each output
+-- pad.
 abbrev pub IsCircuitTrace : Network → Pads → (ℕ → Trit) → List (List ℕ) → List (List (List Trit)) → (ℕ → Trit) → Type 0
 IsCircuitTrace net pads before [] [] after = (n : ℕ) → after n ≡ before n
 IsCircuitTrace net pads before (words ∷ inputs) (shown ∷ outputs) after =
-    (between : ℕ → Trit) × IsClock net pads words before shown between × IsCircuitTrace net pads between inputs outputs after
+    (between : ℕ → Trit) × IsClock net pads words before shown between
+    × IsCircuitTrace net pads between inputs outputs after
 IsCircuitTrace net pads before _ _ after = ⊥

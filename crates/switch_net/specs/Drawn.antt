@@ -45,9 +45,11 @@ abbrev pub IsKind : (Layer → ℤ → ℤ → Type 0) → Square → ChannelKin
 IsKind covers r Enhancement = (s : Square) → IsOfChannel covers r s → ¬ covers NI s.x s.y
 IsKind covers r Depletion = (s : Square) → IsOfChannel covers r s → covers NI s.x s.y
 IsKind covers r Partial =
-    ((s : Square) × IsOfChannel covers r s × covers NI s.x s.y) × ((s : Square) × IsOfChannel covers r s × ¬ covers NI s.x s.y)
+    ((s : Square) × IsOfChannel covers r s × covers NI s.x s.y)
+    × ((s : Square) × IsOfChannel covers r s × ¬ covers NI s.x s.y)
 
--- c is the channel whose least square is r: its gate is the node of its polysilicon, its ends those of the diffusion beside it
+-- c is the channel whose least square is r: its gate is the node of its polysilicon, its ends those of the diffusion
+-- beside it
 pub record IsChannelAt (covers : Layer → ℤ → ℤ → Type 0) (nodes : List Square) (r : Square) (c : Channel) : Type 0 where
   pub gate : IsOfNode covers nodes c.gate r
   pub ascending : AllPairs (λ j k. j < k) c.ends
@@ -62,7 +64,8 @@ pub record IsTag (covers : Layer → ℤ → ℤ → Type 0) (nodes : List Squar
   pub names : Names covers label square
   pub node : IsOfNode covers nodes tag.node square
 
--- the network of what is covered, with these labels: nodes and channels are numbered in the order of their least squares,
+-- the network of what is covered, with these labels: nodes and channels are numbered in the order of their least
+-- squares,
 -- and the tags are in the order of the labels
 pub record IsNetwork (covers : Layer → ℤ → ℤ → Type 0) (labels : List FlatLabel) (net : Network) : Type 0 where
   pub nodes : List Square

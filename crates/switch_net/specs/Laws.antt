@@ -23,16 +23,19 @@ OneNumbering = (shapes : List Rect)
 -- shapes with labels draw at most one network
 abbrev pub OneNetwork : Type 0
 OneNetwork =
-    (shapes : List Rect) (labels : List FlatLabel) (n m : Network) → IsNetwork (covered shapes) labels n → IsNetwork (covered shapes) labels m → n ≡ m
+    (shapes : List Rect) (labels : List FlatLabel) (n m : Network) → IsNetwork (covered shapes) labels n
+    → IsNetwork (covered shapes) labels m → n ≡ m
 
 -- at most one rule is the first that a mask with labels breaks
 abbrev pub OneFirstOfMask : Type 0
 OneFirstOfMask =
-    (shapes : List Rect) (labels : List FlatLabel) (a b : Broken) → IsFirstOfMask (covered shapes) labels a → IsFirstOfMask (covered shapes) labels b → a ≡ b
+    (shapes : List Rect) (labels : List FlatLabel) (a b : Broken) → IsFirstOfMask (covered shapes) labels a
+    → IsFirstOfMask (covered shapes) labels b → a ≡ b
 
 -- at most one rule is the first that a network breaks with these pads
 abbrev pub OneFirstOfCircuit : Type 0
-OneFirstOfCircuit = (net : Network) (pads : Pads) (a b : Broken) → IsFirstOfCircuit net pads a → IsFirstOfCircuit net pads b → a ≡ b
+OneFirstOfCircuit = (net : Network) (pads : Pads) (a b : Broken) → IsFirstOfCircuit net pads a
+    → IsFirstOfCircuit net pads b → a ≡ b
 
 -- what is given stays given as values grow
 abbrev pub GivesGrow : Type 0
@@ -61,14 +64,17 @@ SettlesAgain = (s : Setting) (v : ℕ → Trit) → IsSettled s v → IsSettled 
 -- a network that has its pads runs from all values before under all inputs that fit
 abbrev pub TraceExists : Type 0
 TraceExists =
-    (net : Network) (pads : Pads) (before : ℕ → Trit) (inputs : List (List ℕ)) → HasPads net pads → All (Fit pads.inputs) inputs
+    (net : Network) (pads : Pads) (before : ℕ → Trit) (inputs : List (List ℕ)) → HasPads net pads
+    → All (Fit pads.inputs) inputs
     → (outputs : List (List (List Trit))) × (after : ℕ → Trit) × IsCircuitTrace net pads before inputs outputs after
 
 -- what is shown, and the values after, are determined
 abbrev pub TraceOnce : Type 0
 TraceOnce =
-    (net : Network) (pads : Pads) (before : ℕ → Trit) (inputs : List (List ℕ)) (shown other : List (List (List Trit))) (v w : ℕ → Trit)
-    → IsCircuitTrace net pads before inputs shown v → IsCircuitTrace net pads before inputs other w → (shown ≡ other) × (v ≡ w)
+    (net : Network) (pads : Pads) (before : ℕ → Trit) (inputs : List (List ℕ)) (shown other : List (List (List Trit)))
+    (v w : ℕ → Trit)
+    → IsCircuitTrace net pads before inputs shown v → IsCircuitTrace net pads before inputs other w
+    → (shown ≡ other) × (v ≡ w)
 
 -- no two labels of a chip are the same, whatever its pads
 abbrev pub ChipLabelsDiffer : Type 0

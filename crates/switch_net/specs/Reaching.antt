@@ -8,7 +8,8 @@ use Rattle.switch_net.specs.Settled.{Setting, IsOn, MayBeOn, IsAgainst}
 -- n is reached from a node of which `from` holds, over channels that are allowed
 pub data Reach (s : Setting) (allowed : Channel → Type 0) (from : ℕ → Type 0) : ℕ → Type 0 where
   here : {n : ℕ} → from n → Reach s allowed from n
-  over : {a b : ℕ} → (c : Channel) → Reach s allowed from a → Contains s.channels c → Contains c.ends a → Contains c.ends b → s.driver b ≡ None → allowed c → Reach s allowed from b
+  over : {a b : ℕ} → (c : Channel) → Reach s allowed from a → Contains s.channels c → Contains c.ends a
+      → Contains c.ends b → s.driver b ≡ None → allowed c → Reach s allowed from b
 
 -- a channel of a strong path that is on
 abbrev pub IsStrongOn : (ℕ → Trit) → Channel → Type 0

@@ -1,6 +1,6 @@
 -- The bits of words of which all bits are known.
-use Rattle.std.proofs.Common.{◌≡◌, ℕ, zero, suc, ◌+◌, ◌-◌, ◌^◌, ◌/◌, ◌<◌, ◌≤◌, List, [], ◌∷◌, ◌++◌, Bool, true, false, cond, refl, sym, ◌∙◌, ap, length, take, get_or, set, arith, bit_and}
-use Rattle.std.specs.Prelude.{◌==◌}
+use Rattle.std.proofs.Common.{◌≡◌, ℕ, zero, suc, ◌+◌, ◌-◌, ◌^◌, ◌/◌, ◌<◌, ◌≤◌, List, [], ◌∷◌, ◌++◌, refl, sym, ◌∙◌, ap}
+use Rattle.std.proofs.Common.{length, take, get_or, set, arith, bit_and}
 use Rattle.std.specs.Int.{bit_at}
 use Rattle.std.proofs.lemmas.Bool.{cond-true, eq-eqb}
 use Rattle.std.proofs.Math.Nat.{mod-eq_of_lt}
@@ -10,16 +10,10 @@ use Rattle.mp_base.specs.declared.pad.Pad.{Pad}
 use Rattle.mp_base.specs.declared.value.TritWord.{TritWord}
 use Rattle.stimulus.specs.Rules.{bits_of, bound}
 use Rattle.stimulus.specs.Fitting.{bound_at}
-use Rattle.stimulus.specs.Bits.{bit_count, trit_of, trit_at, low_bits, low_trits, pad_bits, pad_trits, trits_of, value_bits}
+use Rattle.stimulus.specs.Bits.{bit_count, trit_of, trit_at, low_bits, low_trits, pad_bits, pad_trits, trits_of}
+use Rattle.stimulus.specs.Bits.{value_bits}
+use Rattle.stimulus.proofs.Values.{few_bits}
 use Rattle.transcript.proofs.Inputs.{same_count}
-
--- a pad has at most 64 bits
-few_bits : (p : Pad) → bits_of p ≤ 64
-few_bits p = either (p.width == 0)
-  where
-    either : (b : Bool) → cond b 1 p.width ≤ 64
-    either true = omega arith
-    either false = p.narrow
 
 -- the ones of a pad
 pub ones : (p : Pad) (b : ℕ) → b ≡ bits_of p → (2 ^ 64 - 1) / 2 ^ (64 - b) ≡ bound p - 1

@@ -61,8 +61,8 @@ impl<'a> Tracer<'a> {
         })
     }
 
-    /// Runs the program along the stimulus from the state that it is in, and prints the line of each clock as it ends: its
-    /// number, from 0, and ` NAME=VALUE` for each output pad.
+    /// Runs the program along the stimulus from the state that it is in, and prints the line of each clock as it ends:
+    /// its number, from 0, and ` NAME=VALUE` for each output pad.
     ///
     /// # Errors
     ///
@@ -70,7 +70,8 @@ impl<'a> Tracer<'a> {
     pub fn run<O: Sink>(&mut self, out: &mut O) -> Result<(), Failed>
         ensures program { self.new.program ≡ self.old.program }
         ensures given { self.new.given ≡ self.old.given }
-        ensures printed { PrintsTranscript (ProgramSteps self.old.program self.old.given.pads.outputs) self.old.given self.old.state self.new.state (O.held out.old) (O.held out.new) result }
+        ensures printed { PrintsTranscript (ProgramSteps self.old.program self.old.given.pads.outputs) self.old.given
+            self.old.state self.new.state (O.held out.old) (O.held out.new) result }
         ensures cause { HasCause (O.faults out.old) (O.faults out.new) result }
     {
         clocks_fit(self.source.checked());

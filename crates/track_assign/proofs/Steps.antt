@@ -1,9 +1,11 @@
 -- One more interval in its row.
-use Rattle.std.proofs.Common.{ℕ, ◌≡◌, ◌<◌, ◌≤◌, ◌+◌, ◌⊎◌, inl, inr, refl, sym, ap, ◌∙◌, arith, List, [], ◌∷◌, ◌++◌, length, get_or, set, All, slice_index, get_or-set_same, get_or-set_other}
+use Rattle.std.proofs.Common.{ℕ, ◌≡◌, ◌<◌, ◌≤◌, ◌+◌, ◌⊎◌, inl, inr, refl, sym, ap, ◌∙◌, arith, List, [], ◌∷◌, ◌++◌}
+use Rattle.std.proofs.Common.{length, get_or, set, All, slice_index, get_or-set_same, get_or-set_other}
 use Rattle.std.proofs.lemmas.Bool.{cases_lt, cases_eq}
 use Rattle.std.proofs.lemmas.List.{length_push, length-set, get_or_push, get_or_append_left}
 use Rattle.std.proofs.lemmas.List.Elements.{All-nil, All-head, All-tail, All-push}
 use Rattle.std.proofs.lemmas.List.Sums.{sum_by-cons, sum_by_push, sum_by-set, sum_by-le}
+use Rattle.mp_base.proofs.Lists.{below_or_pushed}
 use Rattle.track_assign.specs.declared.rows.Entry.{Entry}
 use Rattle.track_assign.specs.Rows.{entry_over, over, reaches, reaching, IsPlaced, taken, opened, IsPacking}
 
@@ -57,10 +59,6 @@ reaching_all c (e ∷ es) h =
     let rest = reaching_all c es (All-tail (λ end. c ≤ end) e es h) in
     sum_by-cons (reaches c) e es ∙ omega (arith, one, rest)
 
--- an index of a list with one more element
-at_last : {X : Type 0} (xs : List X) (x : X) (i : ℕ) → i < length (xs ++ x ∷ []) → (i < length xs) ⊎ (i ≡ length xs)
-at_last xs x i lt = let l = length_push xs x in grind (arith, l, lt)
-
 module _ (done : List Entry) (rows ends : List ℕ) (column low : ℕ) (e : Entry) (g : IsGoing done rows ends column low)
     (ascends : low ≤ e.first) (some : e.first ≤ e.end) where
   abbrev more : List Entry
@@ -90,7 +88,7 @@ module _ (done : List Entry) (rows ends : List ℕ) (column low : ℕ) (e : Entr
   -- the row of an interval, which may be the last
   row_of : (row i : ℕ) → i < length more → ((i < length done) × (slice_index (more_rows row) i ≡ slice_index rows i))
       ⊎ ((i ≡ length done) × (slice_index (more_rows row) i ≡ row))
-  row_of row i lt = elim (at_last done e i lt) [
+  row_of row i lt = elim (below_or_pushed done e i lt) [
     | inl l ↦ inl (l, get_or_append_left rows (row ∷ []) 0 i (omega (arith, l, g.packing.long)))
     | inr h ↦ inr (h, get_or_push rows row 0 i (omega (arith, h, g.packing.long)))
   ]
@@ -112,7 +110,8 @@ module _ (done : List Entry) (rows ends : List ℕ) (column low : ℕ) (e : Entr
   apart row ahead i j d lt inside same = elim (row_of row j inside) [
     | inl b ↦ elim (row_of row i (omega (arith, lt, inside))) [
       | inl a ↦ (let h = g.packing.apart i j d lt b.0 (sym a.1 ∙ same ∙ b.1) in
-          let p = ap (λ (x : Entry). x.end) (entry_of i d a.0) in let q = ap (λ (x : Entry). x.first) (entry_of j d b.0) in
+          let p = ap (λ (x : Entry). x.end) (entry_of i d a.0) in
+          let q = ap (λ (x : Entry). x.first) (entry_of j d b.0) in
           omega (arith, h, p, q))
       | inr a ↦ absurd (omega (arith, a.0, b.0, lt))
     ]
@@ -164,7 +163,8 @@ module _ (done : List Entry) (rows ends : List ℕ) (column low : ℕ) (e : Entr
               elim (cases_eq (slice_index rows i) row) [
                 | inl eq ↦ (let u = ap (slice_index ends) eq in let w = ap (slice_index new) eq in
                     omega (arith, h, p, q, u, w, here, before, some))
-                | inr ne ↦ (let u = put (slice_index rows i) ∙ get_or-set_other ends row (slice_index rows i) e.end 0 ne in
+                | inr ne ↦
+                    (let u = put (slice_index rows i) ∙ get_or-set_other ends row (slice_index rows i) e.end 0 ne in
                     omega (arith, h, p, q, u))
               ])
           | inr a ↦ (let p = ap (λ (x : Entry). x.end) (entry_last i d a.0) in let q = ap (slice_index new) a.1 in

@@ -1,18 +1,18 @@
 -- The rows that are told at the indices of intervals.
-use Rattle.std.proofs.Common.{ℕ, ◌≡◌, ◌<◌, ◌≤◌, ◌+◌, ◌⊎◌, inl, inr, sym, ap, subst, ◌∙◌, arith, List, [], ◌∷◌, ◌++◌, length, get_or, set, take, slice_index, get_or-set_same, get_or-set_other}
-use Rattle.std.proofs.lemmas.List.{length_push, length-set, length-take, get_or_push, get_or_append_left, get_or-take, get_or_default, take_more}
+use Rattle.std.proofs.Common.{ℕ, ◌≡◌, ◌<◌, ◌≤◌, ◌+◌, inl, inr, sym, ap, subst, ◌∙◌, arith, List, [], ◌∷◌, ◌++◌, length}
+use Rattle.std.proofs.Common.{get_or, set, take, slice_index, get_or-set_same, get_or-set_other}
+use Rattle.std.proofs.lemmas.List.{length_push, length-set, length-take, get_or_push, get_or_append_left, get_or-take}
+use Rattle.std.proofs.lemmas.List.{get_or_default, take_more}
+use Rattle.mp_base.proofs.Lists.{below_or_pushed}
 use Rattle.track_assign.specs.declared.rows.Entry.{Entry}
 use Rattle.track_assign.specs.Rows.{IsPlaced, taken, opened, AreAscending, AreDistinct, AreAt}
 use Rattle.track_assign.proofs.Steps.{IsGoing, going_on}
-
-at_last : {X : Type 0} (xs : List X) (x : X) (i : ℕ) → i < length (xs ++ x ∷ []) → (i < length xs) ⊎ (i ≡ length xs)
-at_last xs x i lt = let l = length_push xs x in grind (arith, l, lt)
 
 told_more : (told : List ℕ) (done : List Entry) (rows : List ℕ) (e : Entry) (row : ℕ) → AreAt told done rows
     → length rows ≡ length done → e.index < length told
     → ((k : ℕ) (d : Entry) → k < length done → (get_or done k d).index ≡ e.index → ⊥)
     → AreAt (set told e.index row) (done ++ e ∷ []) (rows ++ row ∷ [])
-told_more told done rows e row at long inside apart i d lt = elim (at_last done e i lt) [
+told_more told done rows e row at long inside apart i d lt = elim (below_or_pushed done e i lt) [
   | inl l ↦ (let p : get_or (done ++ e ∷ []) i d ≡ get_or done i d = get_or_append_left done (e ∷ []) d i l in
       ap (λ (x : Entry). slice_index (set told e.index row) x.index) p
       ∙ get_or-set_other told e.index (get_or done i d).index row 0 (apart i d l)

@@ -1,5 +1,6 @@
 -- Rows as they are filled, by the last columns that they end at.
-use Rattle.std.specs.Prelude.{◌≡◌, ◌≢◌, ℕ, suc, ◌+◌, ◌<◌, ◌≤◌, List, [], ◌∷◌, ◌++◌, length, ◌&&◌, nat_le, if◌then◌else◌, slice_index, slice_index_or, slice_set, All}
+use Rattle.std.specs.Prelude.{◌≡◌, ◌≢◌, ℕ, suc, ◌+◌, ◌<◌, ◌≤◌, List, [], ◌∷◌, ◌++◌, length, ◌&&◌, nat_le, if◌then◌else◌}
+use Rattle.std.specs.Prelude.{slice_index, slice_index_or, slice_set, All}
 use Rattle.std.specs.List.{sum_by}
 use Rattle.track_assign.specs.declared.packing.Interval.{Interval}
 use Rattle.track_assign.specs.declared.rows.Entry.{Entry}

@@ -1,5 +1,6 @@
 -- What a stimulus gives its input pads fits them.
-use Rattle.std.proofs.Common.{◌≡◌, ℕ, zero, suc, ◌+◌, ◌<◌, ◌^◌, List, [], ◌∷◌, true, cond, inl, inr, length, map, drop, get_or, refl, sym, subst, arith}
+use Rattle.std.proofs.Common.{◌≡◌, ℕ, zero, suc, ◌+◌, ◌<◌, ◌^◌, List, [], ◌∷◌, true, cond, inl, inr, length, map, drop}
+use Rattle.std.proofs.Common.{get_or, refl, sym, subst, arith}
 use Rattle.std.specs.Prelude.{not, ◌==◌, All}
 use Rattle.std.specs.List.{list_any, range_with_len}
 use Rattle.std.proofs.Math.Pow.{pow_mono}

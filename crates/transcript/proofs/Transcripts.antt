@@ -1,7 +1,9 @@
 -- Runs along inputs, and what they print.
-use Rattle.std.proofs.Common.{◌≡◌, ◌∙◌, ℕ, zero, suc, ◌+◌, ◌-◌, ◌<◌, ◌≤◌, List, [], ◌∷◌, ◌++◌, append_assoc, Option, Result, Ok, Err, length, map, take, drop, get_or, refl, sym, ap, subst, arith}
+use Rattle.std.proofs.Common.{◌≡◌, ◌∙◌, ℕ, zero, suc, ◌+◌, ◌-◌, ◌<◌, ◌≤◌, List, [], ◌∷◌, ◌++◌, append_assoc, Option}
+use Rattle.std.proofs.Common.{Result, Ok, Err, length, map, take, drop, get_or, refl, sym, ap, subst, arith}
 use Rattle.std.specs.Prelude.{All}
-use Rattle.std.proofs.lemmas.List.{append-nil, length-append, length-map, length-take, take_all, take-append-le, take-append-drop}
+use Rattle.std.proofs.lemmas.List.{append-nil, length-append, length-map, length-take, take_all, take-append-le}
+use Rattle.std.proofs.lemmas.List.{take-append-drop}
 use Rattle.mp_base.specs.declared.value.Trit.{Trit}
 use Rattle.mp_base.specs.declared.pad.Pad.{Pad}
 use Rattle.mp_base.specs.Outside.{WhereTold, Gains}
@@ -19,7 +21,7 @@ use Rattle.mp_base.proofs.Written.{gained, written, cut_before}
 use Rattle.transcript.proofs.Printing.{cut_short}
 
 -- the lines of some clocks, and of those behind them
-lines_more : (k n : ℕ) (pads : List Pad) (os us : List (List (List Trit))) → n ≡ k + length os
+pub lines_more : (k n : ℕ) (pads : List Pad) (os us : List (List (List Trit))) → n ≡ k + length os
     → lines_text k pads (os ++ us) ≡ lines_text k pads os ++ lines_text n pads us
 lines_more k n pads [] us is = ap (λ m. lines_text m pads us) (let e : k ≡ n = omega arith in e)
 lines_more k n pads (o ∷ os) us is =

@@ -22,7 +22,8 @@ pub record PrintsClock {S T E : Type 0} (Steps : S → List ℕ → List (List T
   pub steps : Steps before (inputs_at (length (given.pads).inputs) (slice_index_or given.clocks clock [])) shown after
   pub taken : TakesAll Gains old new (line_text clock (given.pads).outputs shown) result
 
--- The first clocks were run, from this state to that, and their lines printed: at `Ok` all clocks and all of their text, and
+-- The first clocks were run, from this state to that, and their lines printed: at `Ok` all clocks and all of their
+-- text, and
 -- else all lines but the last, and a first part of the last, but not all of it.
 pub record PrintsClocks {S T E : Type 0} (Steps : S → List ℕ → List (List Trit) → S → Type 0) (given : Stimulus)
     (before after : S) (old new : Option (List ℕ)) (result : Result T E) : Type 0 where
@@ -32,7 +33,8 @@ pub record PrintsClocks {S T E : Type 0} (Steps : S → List ℕ → List (List 
   pub taken : TakesAll Gains old new (lines_text 0 (given.pads).outputs shown) result
   pub lines : OnErr result (length (lines_text 0 (given.pads).outputs (take (length shown - 1) shown)) ≤ taken.count)
 
--- the transcript from this state was printed, all of it at `Ok`, with that state after, and else a first part, but not all
+-- the transcript from this state was printed, all of it at `Ok`, with that state after, and else a first part, but not
+-- all
 pub record PrintsTranscript {S T E : Type 0} (Steps : S → List ℕ → List (List Trit) → S → Type 0) (given : Stimulus)
     (before after : S) (old new : Option (List ℕ)) (result : Result T E) : Type 0 where
   pub end : S

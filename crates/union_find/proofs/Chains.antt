@@ -10,21 +10,15 @@ use Rattle.union_find.specs.Roots.{IsBelow, root, moved, AreJoined}
 use Rattle.union_find.specs.Leasts.{Paired, AreLeasts}
 use Rattle.lam_geom.specs.Chains.{Chain}
 use Rattle.lam_geom.specs.Chains.Chain.{here, link}
+use Rattle.lam_geom.proofs.Chains.{join_chains, turn_chain}
 use Rattle.union_find.proofs.Roots.{root_at, root_below, moved_same, moved_kept, moved_pair}
-
-pub join_chains : {S : Type 0} {J : S → S → Type 0} {s t u : S} → Chain J s t → Chain J t u → Chain J s u
-join_chains here b = b
-join_chains (link h a) b = link h (join_chains a b)
-
-pub turn_chain : {S : Type 0} {J : S → S → Type 0} {s t : S} → ((a b : S) → J a b → J b a) → Chain J s t → Chain J t s
-turn_chain flip here = here
-turn_chain {s} flip (link {t} h a) = join_chains (turn_chain flip a) (link (flip s t h) here)
 
 pub turn_pair : (pairs : List Pair) (i j : ℕ) → Paired pairs i j → Paired pairs j i
 turn_pair pairs i j h = record { pair = h.pair; among = h.among; ends = elim h.ends [ inl e ↦ inr e | inr e ↦ inl e ] }
 
 -- what a chain keeps
-pub keep_chain : {S : Type 0} {J : S → S → Type 0} (F : S → ℕ) → ((a b : S) → J a b → F a ≡ F b) → {s t : S} → Chain J s t → F s ≡ F t
+pub keep_chain : {S : Type 0} {J : S → S → Type 0} (F : S → ℕ) → ((a b : S) → J a b → F a ≡ F b) → {s t : S}
+    → Chain J s t → F s ≡ F t
 keep_chain F k here = refl
 keep_chain F k {s} (link {t} h a) = k s t h ∙ keep_chain F k a
 
@@ -57,7 +51,8 @@ join_more pairs place p q c w h at ia ib e below m =
       ]);
       joined = λ k d l f. rw (m d.a, m d.b) (elim (cases_eq k place) [
         | inl g ↦ let same : d ≡ c = sym f ∙ (ap (λ n. get_or pairs n d) g ∙ (get_or_default pairs place d c h ∙ at)) in
-            subst (λ x. moved (max r s) (min r s) (root p x.a) ≡ moved (max r s) (min r s) (root p x.b)) (sym same) (moved_pair r s)
+            subst (λ x. moved (max r s) (min r s) (root p x.a) ≡ moved (max r s) (min r s) (root p x.b)) (sym same)
+            (moved_pair r s)
         | inr n ↦ ap (moved (max r s) (min r s)) (w.joined k d (omega arith) f)
       ]);
     }
@@ -67,7 +62,8 @@ pub joined_leasts : (pairs : List Pair) (count : ℕ) (p q : List ℕ) → AreJo
     → length q ≡ count → ((k : ℕ) → k < count → get_or q k 0 ≡ root p k)
     → All (λ c. (c.a < count) × (c.b < count)) pairs → AreLeasts count pairs q
 joined_leasts pairs count p q w e f at inside =
-    let inner : (c : Pair) → Contains pairs c → (c.a < count) × (c.b < count) = λ c m. All-contains (λ d. (d.a < count) × (d.b < count)) pairs c inside m in
+    let inner : (c : Pair) → Contains pairs c
+    → (c.a < count) × (c.b < count) = λ c m. All-contains (λ d. (d.a < count) × (d.b < count)) pairs c inside m in
     let one : (i j : ℕ) → Paired pairs i j → get_or q i 0 ≡ get_or q j 0 = λ i j h.
     let c : Pair = h.pair in
     let ab : root p c.a ≡ root p c.b = let m = h.among in w.joined m.0 c m.1 m.2 in
@@ -84,7 +80,8 @@ joined_leasts pairs count p q w e f at inside =
     }
 
 -- each thing as its own root
-pub apart_joined : (pairs : List Pair) (count : ℕ) (p : List ℕ) → (length p ≡ count) × ((k : ℕ) → k < count → get_or p k 0 ≡ k) → AreJoined pairs 0 p
+pub apart_joined : (pairs : List Pair) (count : ℕ) (p : List ℕ)
+    → (length p ≡ count) × ((k : ℕ) → k < count → get_or p k 0 ≡ k) → AreJoined pairs 0 p
 apart_joined pairs count p (e, h) = record {
   below = λ k. elim (cases_lt k count) [
     | inl l ↦ rw (h k l) (omega arith)

@@ -22,7 +22,8 @@ pub record IsFlat (old now : List ℕ) (i : ℕ) : Type 0 where
   pub same : (k : ℕ) → root now k ≡ root old k
   pub done : (k : ℕ) → k < i → get_or now k 0 ≡ root old k
 
-pub flat_more : (old now : List ℕ) (i : ℕ) → IsFlat old now i → i < length now → IsFlat old (set now i (get_or now (get_or now i 0) 0)) (i + 1)
+pub flat_more : (old now : List ℕ) (i : ℕ) → IsFlat old now i → i < length now
+    → IsFlat old (set now i (get_or now (get_or now i 0) 0)) (i + 1)
 flat_more old now i f l =
     let u : ℕ = get_or now i 0 in
     let v : ℕ = get_or now u 0 in
@@ -41,5 +42,6 @@ flat_more old now i f l =
       ];
     }
 
-pub put_back : (n : ℕ) (xs ys : List ℕ) → length xs ≡ length ys → n ≡ length ys → take n (xs ++ drop (length xs) ys) ≡ xs
+pub put_back : (n : ℕ) (xs ys : List ℕ) → length xs ≡ length ys → n ≡ length ys
+    → take n (xs ++ drop (length xs) ys) ≡ xs
 put_back n xs ys e f = grind (arith, common_steps)

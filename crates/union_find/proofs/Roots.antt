@@ -1,5 +1,6 @@
 -- The root of a place is the only map that keeps its value along the table and fixes what the table fixes.
-use Rattle.std.proofs.Common.{max, min, zero-add, suc-add, ◌-◌, ◌≡◌, ℕ, ◌+◌, ◌<◌, ◌≤◌, inl, inr, List, get_or, set, length, refl, sym, ◌∙◌, ap, subst, suc, zero, arith}
+use Rattle.std.proofs.Common.{max, min, zero-add, suc-add, ◌-◌, ◌≡◌, ℕ, ◌+◌, ◌<◌, ◌≤◌, inl, inr, List, get_or, set}
+use Rattle.std.proofs.Common.{length, refl, sym, ◌∙◌, ap, subst, suc, zero, arith}
 use Rattle.std.proofs.lemmas.Bool.{cases_eq}
 use Rattle.std.proofs.lemmas.List.{get_or-set_same, get_or-set_other}
 use Rattle.std.proofs.lemmas.Bool.Decides.{nat_tests}
@@ -39,7 +40,8 @@ climb_add p (suc f) g i = climb_add p f g (get_or p i 0) ∙ ap (λ n. climb n p
 climb_more : (p : List ℕ) → IsBelow p → (f i : ℕ) → i ≤ f → climb f p i ≡ climb i p i
 climb_more p b f i h =
     let e : i + (f - i) ≡ f = omega arith in
-    subst (λ n. climb n p i ≡ climb i p i) e (sym (climb_add p i (f - i) i) ∙ fixed_climb p (climb i p i) (f - i) (climb_fixed p b i i (omega arith)))
+    subst (λ n. climb n p i ≡ climb i p i) e
+    (sym (climb_add p i (f - i) i) ∙ fixed_climb p (climb i p i) (f - i) (climb_fixed p b i i (omega arith)))
 
 pub root_along : (p : List ℕ) → IsBelow p → (i : ℕ) → root p (get_or p i 0) ≡ root p i
 unfolding root

@@ -4,6 +4,7 @@ use Rattle.std.proofs.Common.{◌∷◌, ◌++◌, length, map, get_or, refl, sy
 use Rattle.std.specs.Prelude.{slice_get}
 use Rattle.std.specs.List.{range_with_len}
 use Rattle.std.proofs.lemmas.Option.{slice_get_within}
+use Rattle.mp_base.proofs.Members.{Member, member_map, map_member, range_members, range_has}
 use Rattle.nor_net.specs.declared.net.Phase.{Phase}
 use Rattle.nor_net.specs.declared.net.NetId.{NetId}
 use Rattle.nor_net.specs.declared.net.Part.{Part}
@@ -12,9 +13,9 @@ use Rattle.array_form.specs.declared.band.Tap.{Tap}
 use Rattle.array_form.specs.declared.band.Band.{Band}
 use Rattle.array_form.specs.Homes.{reads, phase_number}
 use Rattle.array_form.specs.Place.{is_input}
-use Rattle.array_form.proofs.Members.{Member, member_append, append_left, append_right, member_map, map_member}
+use Rattle.array_form.proofs.Members.{member_append, append_left, append_right}
 use Rattle.array_form.proofs.Members.{member_flat, flat_member}
-use Rattle.array_form.proofs.Listing.{in_range, range_has, has_member, same_from, same_to}
+use Rattle.array_form.proofs.Listing.{has_member, same_from, same_to}
 use Rattle.array_form.proofs.Homes.{has_of}
 use Rattle.weinberger.specs.declared.pins.Pin.{Pin}
 use Rattle.weinberger.specs.Pins.{pin, part_pins, net_pins, tap_pin, tap_pins, phase_pin, phase_pins, band_pins}
@@ -95,7 +96,7 @@ module _ (band : Band) (parts : List Part) where
         ]
         | inr k ↦ (
             let w = member_map (phase_pin (length parts) band.first_column) (range_with_len 0 3) p k in
-            of_phase w.0 (let r = (in_range 0 3 w.0 w.1).1 in omega arith) w.2)
+            of_phase w.0 (let r = (range_members 0 3 w.0 w.1).1 in omega arith) w.2)
       ]
 
   pub band_pin_in : (p : Pin) → IsBandPin band parts p → Member (band_pins band parts) p
@@ -116,7 +117,7 @@ module _ (band : Band) (parts : List Part) where
 pub stub_pin_is : (stubs : List Bool) (p : Pin) → Member (stub_pins stubs) p
     → (n : ℕ) × (n < length stubs) × (get_or stubs n false ≡ true) × (pin n n ≡ p)
 stub_pin_is stubs p m =
-    go w.0 (let r = (in_range 0 (length stubs) w.0 w.1).1 in omega arith) (get_or stubs w.0 false) refl w.2
+    go w.0 (let r = (range_members 0 (length stubs) w.0 w.1).1 in omega arith) (get_or stubs w.0 false) refl w.2
   where
     w : (n : ℕ) × Member (range_with_len 0 (length stubs)) n × Member (stub_pin stubs n) p
     w = member_flat (stub_pin stubs) (range_with_len 0 (length stubs)) p m

@@ -1,70 +1,30 @@
 -- The columns that nets are given are those of the closed form.
-use Rattle.std.proofs.Common.{◌≡◌, inl, inr, ℕ, zero, suc, ◌+◌, ◌<◌, ◌≤◌, ◌==◌, Option, Some, None, Bool, true}
-use Rattle.std.proofs.Common.{false, cond, not, ◌&&◌, List, [], ◌∷◌, length, map, get_or, refl, sym, ◌∙◌, ap, subst}
+use Rattle.std.proofs.Common.{◌≡◌, inl, inr, ℕ, ◌+◌, ◌<◌, ◌≤◌, ◌==◌, Option, Some, None, Bool, true}
+use Rattle.std.proofs.Common.{false, not, ◌&&◌, List, length, get_or, refl, sym, ◌∙◌, ap, subst}
 use Rattle.std.proofs.Common.{arith}
 use Rattle.std.specs.Prelude.{◌||◌, slice_get}
-use Rattle.std.specs.List.{list_any, range_with_len}
+use Rattle.std.specs.List.{list_any}
 use Rattle.std.proofs.lemmas.Option.{slice_get_cases, slice_get_within}
+use Rattle.std.proofs.lemmas.Bool.{or_left, or_right, or_cases}
+use Rattle.mp_base.proofs.Ranges.{map_same}
+use Rattle.mp_base.proofs.Members.{any_of}
+use Rattle.mp_base.proofs.Tests.{same_bools}
 use Rattle.nor_net.specs.declared.net.Part.{Part}
 use Rattle.nor_net.specs.declared.net.Part.TheVariants.{Input, Gate, Latch}
+use Rattle.nor_net.proofs.Parts.{part_member}
 use Rattle.array_form.specs.declared.band.Tap.{Tap}
 use Rattle.array_form.specs.declared.band.Band.{Band}
-use Rattle.array_form.specs.Homes.{count_below, home, reads, phase_number}
+use Rattle.array_form.specs.Homes.{home, reads, phase_number}
 use Rattle.array_form.specs.Place.{is_input, part_is, is_read, is_tapped, is_stub, columns_in}
-use Rattle.array_form.proofs.Members.{Member}
 use Rattle.array_form.proofs.Listing.{same_from, same_to}
-use Rattle.array_form.proofs.Room.{any_member, or_left, or_right, or_cases}
+use Rattle.array_form.proofs.Room.{any_member}
+use Rattle.array_form.proofs.Below.{count_same}
 use Rattle.weinberger.specs.declared.pins.Pin.{Pin}
 use Rattle.weinberger.specs.declared.homes.Homes.{Homes}
 use Rattle.weinberger.specs.Pins.{pin, tap_pin, band_pins}
 use Rattle.weinberger.specs.Homed.{is_stub_by, is_homed_by, home_by, AreHomes}
 use Rattle.weinberger.specs.Layouts.{AreHomesOf}
 use Rattle.weinberger.proofs.BandPins.{own, read, beat, IsBandPin, of_net, of_tap, of_phase, band_pin_is, band_pin_in}
-
--- how many pass with one number more
-pub count_more : (test : ℕ → Bool) (n : ℕ) → count_below test (n + 1) ≡ count_below test n + cond (test n) 1 0
-count_more test n =
-    subst (λ z. count_below test z ≡ count_below test n + cond (test n) 1 0) (let e : suc n ≡ n + 1 = omega arith in
-    e) (omega arith)
-
-pub one_more : (t : Bool) → cond t 1 0 ≤ 1
-one_more true = omega arith
-one_more false = omega arith
-
--- tests that agree below a number count the same
-pub count_same : (test other : ℕ → Bool) (n : ℕ) → ((i : ℕ) → i < n → test i ≡ other i)
-    → count_below test n ≡ count_below other n
-count_same test other zero h = refl
-count_same test other (suc n) h =
-    ap (λ t. cond t 1 0 + count_below test n) (h n (omega arith))
-    ∙ ap (λ z. cond (other n) 1 0 + z) (count_same test other n (λ i lt. h i (omega arith)))
-
-pub map_same : {B : Type 0} (f g : ℕ → B) (a n : ℕ) → ((i : ℕ) → a ≤ i → i < a + n → f i ≡ g i)
-    → map f (range_with_len a n) ≡ map g (range_with_len a n)
-map_same f g a zero h = refl
-map_same f g a (suc n) h =
-    ap (λ z. z ∷ map f (range_with_len (a + 1) n)) (h a (omega arith) (omega arith))
-    ∙ ap (λ l. g a ∷ l) (map_same f g (a + 1) n (λ i lo hi. h i (omega arith) (omega arith)))
-
--- a test that some member passes
-any_of : {A : Type 0} (test : A → Bool) (xs : List A) (x : A) → Member xs x → test x ≡ true → list_any test xs ≡ true
-any_of test [] x m e = absurd m
-any_of test (y ∷ ys) x (inl s) e = ap (λ t. t || list_any test ys) (ap test s ∙ e)
-any_of test (y ∷ ys) x (inr m) e = ap (λ t. test y || t) (any_of test ys x m e) ∙ go (test y)
-  where
-    go : (t : Bool) → (t || true) ≡ true
-    go true = refl
-    go false = refl
-
-part_member : (parts : List Part) (n : ℕ) (q : Part) → slice_get parts n ≡ Some q → Member parts q
-part_member [] n q h = absurd (cc h)
-part_member (p ∷ ps) zero q h = inl (cc h)
-part_member (p ∷ ps) (suc n) q h = inr (part_member ps n q h)
-
-same_bools : (a b : Bool) → (a ≡ true → b ≡ true) → (b ≡ true → a ≡ true) → a ≡ b
-same_bools true b there back = sym (there refl)
-same_bools false true there back = back refl
-same_bools false false there back = refl
 
 module _ (band : Band) (parts : List Part) (pinned : List Bool)
     (flags : (k : ℕ) → k < length parts + 3

@@ -1,9 +1,7 @@
 mod Growing
-mod Distinct
 mod BandPins
 mod Homing
 mod SpanSteps
 mod Spanning
-mod Feeding
 mod Rowed
 mod Intervals

@@ -1,19 +1,21 @@
 -- Rows as they are packed are the tracks of a band, and what is listed in them is what is placed.
-use Rattle.std.proofs.Common.{◌≡◌, ◌⊎◌, ℕ, zero, suc, ◌+◌, ◌<◌, ◌≤◌, ◌^◌, Some, None, Bool, false, List, [], ◌∷◌}
-use Rattle.std.proofs.Common.{◌++◌, length, map, get_or, refl, sym, ◌∙◌, ap, subst, arith}
-use Rattle.std.specs.Prelude.{◌≢◌, All, flat_map, slice_get, slice_index}
+use Rattle.std.proofs.Common.{◌≡◌, ◌⊎◌, ℕ, suc, ◌+◌, ◌<◌, ◌^◌, Some, Bool, false, List}
+use Rattle.std.proofs.Common.{length, map, get_or, sym, ◌∙◌, ap, subst, arith}
+use Rattle.std.specs.Prelude.{◌≢◌, All, slice_get, slice_index}
 use Rattle.std.specs.List.{range_with_len}
 use Rattle.std.proofs.lemmas.Option.{slice_get-get_or}
 use Rattle.std.proofs.lemmas.List.FromFn.{get_or-map-range_with_len, length-map-range_with_len}
+use Rattle.mp_base.proofs.Members.{member_contains, map_member}
+use Rattle.mp_base.proofs.Ranges.{map_same, flat_same}
 use Rattle.fabric.specs.Plan.{Plan, IsFabric, rows_of, with_added}
 use Rattle.fabric.specs.Room.{limit, IsRoomy}
-use Rattle.nor_net.specs.declared.net.Phase.{Phase}
 use Rattle.nor_net.specs.declared.net.Part.{Part}
-use Rattle.nor_net.specs.declared.net.Part.TheVariants.{Latch}
-use Rattle.nor_net.specs.Shape.{IsNet, IsFed, Fed}
+use Rattle.nor_net.specs.Shape.{IsNet, IsFed}
+use Rattle.nor_net.proofs.Parts.{fed_parts}
 use Rattle.track_assign.specs.declared.packing.Interval.{Interval}
 use Rattle.track_assign.specs.declared.packing.Tracks.{Tracks}
 use Rattle.track_assign.specs.Density.{AreApart, IsDensity, IsInterval}
+use Rattle.track_assign.proofs.Densities.{density_once}
 use Rattle.array_form.specs.declared.band.Tap.{Tap}
 use Rattle.array_form.specs.declared.band.Band.{Band}
 use Rattle.array_form.specs.Homes.{home, greatest, least}
@@ -21,7 +23,6 @@ use Rattle.array_form.specs.Lists.{stretch}
 use Rattle.array_form.specs.Laying.{AreTracks, band_segment, band_segments, column_lines, band_lines, column_marks}
 use Rattle.array_form.specs.Laying.{band_marks, with_net}
 use Rattle.array_form.specs.Place.{columns_in, cols_in, interval_of, intervals_in, IsBandOf, IsFitted, HasSpace}
-use Rattle.array_form.proofs.Members.{map_member, member_contains}
 use Rattle.array_form.proofs.Homes.{greatest_above}
 use Rattle.array_form.proofs.Laid.{all_from, placed_is_fabric}
 use Rattle.array_form.proofs.Room.{has_room}
@@ -30,29 +31,6 @@ use Rattle.array_form.proofs.Rows.{rows_few}
 use Rattle.array_form.proofs.Tracking.{tracks_from}
 use Rattle.weinberger.specs.Listed.{segment_of, segments_of, nowhere, lines_at, lines_of, marks_in, marks_of}
 use Rattle.weinberger.specs.Layouts.{AreTracksOf}
-use Rattle.weinberger.proofs.Homing.{map_same}
-
--- lists that agree at each number below a count
-pub flat_same : {B : Type 0} (f g : ℕ → List B) (a n : ℕ) → ((i : ℕ) → a ≤ i → i < a + n → f i ≡ g i)
-    → flat_map f (range_with_len a n) ≡ flat_map g (range_with_len a n)
-flat_same f g a zero h = refl
-flat_same f g a (suc n) h =
-    ap (λ l. l ++ flat_map f (range_with_len (a + 1) n)) (h a (omega arith) (omega arith))
-    ∙ ap (λ l. g a ++ l) (flat_same f g (a + 1) n (λ i lo hi. h i (omega arith) (omega arith)))
-
--- intervals have one density
-pub density_once : (intervals : List Interval) (rows column other place : ℕ) → IsDensity intervals rows column
-    → IsDensity intervals other place → rows ≡ other
-density_once intervals rows column other place d e =
-    let a = d.most place in let b = e.most column in let f = d.reached in let g = e.reached in omega arith
-
-fed_parts : (parts : List Part) → IsFed parts → (n : ℕ) (ph : Phase) → slice_get parts n ≡ Some (Latch ph None) → ⊥
-fed_parts [] h n ph e = absurd (cc e)
-fed_parts (p ∷ ps) h zero ph e =
-    let q : p ≡ Latch ph None = cc e in
-    let none : Fed (Latch ph None) = subst Fed q (h 0 p (omega arith)) in
-    absurd (cc none)
-fed_parts (p ∷ ps) h (suc n) ph e = fed_parts ps (λ k d lt. h (suc k) d (omega arith)) n ph e
 
 module _ (band : Band) (parts : List Part) where
   pub intervals_long : length (intervals_in (columns_in band parts) parts) ≡ length parts + 3

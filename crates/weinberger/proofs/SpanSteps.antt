@@ -7,9 +7,10 @@ use Rattle.std.proofs.lemmas.List.{map-append, append-nil, get_or-set_same, get_
 use Rattle.std.proofs.lemmas.List.Elements.{filter_more}
 use Rattle.track_assign.specs.declared.packing.Interval.{Interval}
 use Rattle.array_form.proofs.Listing.{same_from, same_to}
+use Rattle.array_form.proofs.Greatest.{greatest_push}
 use Rattle.weinberger.specs.declared.pins.Pin.{Pin}
 use Rattle.weinberger.specs.Spans.{column_at, columns_at, span_of, widened_by}
-use Rattle.weinberger.proofs.Growing.{lowest_push, greatest_push}
+use Rattle.weinberger.proofs.Growing.{lowest_push}
 
 -- a span with one column more
 pub span_push : (xs : List ℕ) (c : ℕ) → span_of (xs ++ c ∷ []) ≡ widened_by (span_of xs) c

@@ -4,35 +4,39 @@ use Rattle.std.proofs.Common.{false, cond, not, List, [], ◌∷◌, ◌++◌, l
 use Rattle.std.proofs.Common.{ap, subst, arith}
 use Rattle.std.specs.Prelude.{slice_get, ◌||◌, min, All}
 use Rattle.std.specs.List.{range_with_len}
-use Rattle.std.proofs.lemmas.Bool.{cases_lt, cases_eq}
+use Rattle.std.proofs.lemmas.Bool.{cases_lt}
 use Rattle.std.proofs.lemmas.Option.{slice_get_within, slice_get_cases}
 use Rattle.std.proofs.lemmas.List.Elements.{All-contains}
 use Rattle.std.proofs.lemmas.List.FromFn.{get_or-map-range_with_len, length-map-range_with_len}
+use Rattle.mp_base.proofs.Members.{Member, member_contains, contains_member, member_map, map_member, member_filter}
+use Rattle.mp_base.proofs.Members.{filter_member}
 use Rattle.nor_net.specs.declared.net.Phase.{Phase}
-use Rattle.nor_net.specs.declared.net.Phase.TheVariants.{A, B, C}
 use Rattle.nor_net.specs.declared.net.NetId.{NetId}
 use Rattle.nor_net.specs.declared.net.Part.{Part}
 use Rattle.nor_net.specs.declared.net.Part.TheVariants.{Input, Gate, Latch}
 use Rattle.nor_net.specs.Shape.{IsNet}
 use Rattle.fabric.specs.Room.{limit}
+use Rattle.nor_net.proofs.Parts.{fed_by}
 use Rattle.track_assign.specs.Density.{IsInterval}
 use Rattle.array_form.specs.declared.band.Tap.{Tap}
 use Rattle.array_form.specs.declared.band.Band.{Band}
-use Rattle.array_form.specs.Homes.{Columns, home, numbers, reads, beats, is_of, marks, phase_marks, phase_number}
+use Rattle.array_form.specs.Homes.{Columns, home, numbers, reads, beats, marks, phase_marks, phase_number}
 use Rattle.array_form.specs.Homes.{least, greatest}
 use Rattle.array_form.specs.Place.{is_input, part_is, is_stub, columns_in, cols_in, interval_of, IsBandOf}
-use Rattle.array_form.proofs.Members.{Member, member_contains, contains_member, member_append, append_left}
-use Rattle.array_form.proofs.Members.{append_right, member_map, map_member, member_filter, filter_member}
+use Rattle.array_form.proofs.Members.{member_append, append_left}
+use Rattle.array_form.proofs.Members.{append_right}
 use Rattle.array_form.proofs.Listing.{has_member, same_from, same_to}
 use Rattle.array_form.proofs.Homes.{count_most, own_mark, reader_mark, more_mark, phase_mark, least_below}
-use Rattle.array_form.proofs.Homes.{greatest_above, least_in, greatest_in}
+use Rattle.array_form.proofs.Homes.{greatest_above, least_in}
 use Rattle.array_form.proofs.Room.{part_homed, stub_homed, some_mark}
 use Rattle.array_form.proofs.Laid.{all_from}
 use Rattle.array_form.proofs.Tracking.{cols_nets, cols_phases}
+use Rattle.array_form.proofs.Greatest.{greatest_within, greatest_most}
+use Rattle.array_form.proofs.Phases.{phase_small, one_phase, IsSegmentOf, for_net, for_phase, segment_of_number}
+use Rattle.array_form.proofs.Ends.{one_phase as same_phase}
 use Rattle.weinberger.specs.declared.pins.Pin.{Pin}
 use Rattle.weinberger.specs.Pins.{pin, tap_pin, phase_pin, band_pins, stub_pins}
 use Rattle.weinberger.specs.Spans.{IsPin, column_at, columns_at, lowest, span_of}
-use Rattle.weinberger.proofs.Feeding.{fed_by}
 use Rattle.weinberger.proofs.BandPins.{own, read, beat, IsBandPin, of_net, of_tap, of_phase, band_pin_is}
 use Rattle.weinberger.proofs.BandPins.{band_pin_in, stub_pin_is, stub_pin_in}
 
@@ -53,13 +57,6 @@ lowest_in (x ∷ xs) = elim (cases_lt (lowest xs) x) [
   | inr ge ↦ inl (inl (omega arith))
 ]
 
--- the greatest of numbers that are all among others is among them
-greatest_within : (xs ys : List ℕ) (c : ℕ) → Member xs c → ((a : ℕ) → Member xs a → Member ys a)
-    → greatest xs ≤ greatest ys
-greatest_within [] ys c m sub = absurd m
-greatest_within (x ∷ xs) ys c m sub =
-    greatest_above ys (greatest (x ∷ xs)) (sub (greatest (x ∷ xs)) (greatest_in x xs))
-
 pub same_span : (xs ys : List ℕ) (c : ℕ) → Member ys c → ((a : ℕ) → Member xs a → Member ys a × (a < 2 ^ 32))
     → ((a : ℕ) → Member ys a → Member xs a) → span_of xs ≡ interval_of ys
 same_span xs [] c m to from = absurd m
@@ -76,58 +73,6 @@ same_span xs (y ∷ ys) c m to from =
     let a : lowest xs ≡ least (y ∷ ys) = omega arith in
     let b : greatest xs ≡ greatest (y ∷ ys) = omega arith in
     λ i. record { first = a i; last = b i }
-
-greatest_most : (xs : List ℕ) (most : ℕ) → ((a : ℕ) → Member xs a → a ≤ most) → greatest xs ≤ most
-greatest_most [] most h = omega arith
-greatest_most (x ∷ xs) most h =
-    let a = h x (inl refl) in let b = greatest_most xs most (λ z m. h z (inr m)) in omega arith
-
-phase_small : (ph : Phase) → phase_number ph < 3
-phase_small A = omega arith
-phase_small B = omega arith
-phase_small C = omega arith
-
-one_phase : (p q : Phase) → phase_number p ≡ phase_number q → p ≡ q
-one_phase A A e = refl
-one_phase A B e = absurd (omega arith)
-one_phase A C e = absurd (omega arith)
-one_phase B A e = absurd (omega arith)
-one_phase B B e = refl
-one_phase B C e = absurd (omega arith)
-one_phase C A e = absurd (omega arith)
-one_phase C B e = absurd (omega arith)
-one_phase C C e = refl
-
-same_phase : (p q : Phase) → is_of p q ≡ true → p ≡ q
-same_phase A A e = refl
-same_phase A B e = absurd (cc e)
-same_phase A C e = absurd (cc e)
-same_phase B A e = absurd (cc e)
-same_phase B B e = refl
-same_phase B C e = absurd (cc e)
-same_phase C A e = absurd (cc e)
-same_phase C B e = absurd (cc e)
-same_phase C C e = refl
-
--- segment k is the one of a net, or of a phase
-pub data IsSegmentOf (nets k : ℕ) : Type 0 where
-  for_net : k < nets → IsSegmentOf nets k
-  for_phase : (ph : Phase) → k ≡ nets + phase_number ph → IsSegmentOf nets k
-
-pub which : (nets k : ℕ) → k < nets + 3 → IsSegmentOf nets k
-which nets k h = elim (cases_lt k nets) [
-  | inl lt ↦ for_net lt
-  | inr ge ↦ elim (cases_eq k nets) [
-    | inl e ↦ for_phase A (omega arith)
-    | inr e ↦ elim (cases_eq k (nets + 1)) [ inl d ↦ for_phase B (omega arith) | inr d ↦ for_phase C (omega arith) ]
-  ]
-]
-
-pub phase_of : (j : ℕ) → j < 3 → (ph : Phase) × (phase_number ph ≡ j)
-phase_of j h = elim (cases_eq j 0) [
-  | inl e ↦ (A, omega arith)
-  | inr e ↦ elim (cases_eq j 1) [ inl d ↦ (B, omega arith) | inr d ↦ (C, omega arith) ]
-]
 
 module _ (band : Band) (parts : List Part) (is_band : IsBandOf band parts) (is_net : IsNet parts) where
   -- ---- what a part reads is a net
@@ -424,7 +369,7 @@ module _ (band : Band) (parts : List Part) (is_band : IsBandOf band parts) (is_n
   -- the span of the pins of a segment
   pub span_is : (k : ℕ) → k < length parts + 3 → span_of (columns_at columns pins k) ≡ interval_of (cols_in y parts k)
   span_is k lt =
-      let s = which (length parts) k lt in
+      let s = segment_of_number (length parts) k lt in
       let c = some_column k s in
       same_span (columns_at columns pins k) (cols_in y parts k) c.0 c.1
       (λ a m. (cols_have k a s m, let b = small k a m in omega arith)) (λ a m. have_cols k a s m)
@@ -432,7 +377,7 @@ module _ (band : Band) (parts : List Part) (is_band : IsBandOf band parts) (is_n
   -- it is an interval
   pub is_interval : (k : ℕ) → k < length parts + 3 → IsInterval (interval_of (cols_in y parts k))
   is_interval k lt =
-      let s = which (length parts) k lt in
+      let s = segment_of_number (length parts) k lt in
       let c = some_column k s in
       let a = least_below (cols_in y parts k) c.0 c.1 in
       let b = greatest_above (cols_in y parts k) c.0 c.1 in

@@ -1,15 +1,16 @@
 use Rattle.std.proofs.Common.{◌∙◌, [], ◌∷◌, ◌++◌, ap, arith, ℕ}
+use Rattle.mp_base.proofs.Tests.{bit_at_most_one}
+use Rattle.mp_base.proofs.Ranges.{map_grown}
 use Rattle.array_form.proofs.Homes.{count_most}
+use Rattle.array_form.proofs.Below.{count_more}
 use Rattle.band_lists.specs.Homed.{home_by, is_homed}
-use Rattle.band_lists.proofs.Growing.{map_grown}
-use Rattle.band_lists.proofs.Counts.{count_more, one_more}
 use Rattle.band_lists.proofs.homes.give_columns.Goals as goal
 
 pub overflow_add-end : goal.overflow_add-end
 overflow_add-end c =
     let homed = is_homed c.args.homed.now in
     let m = count_most homed c.loop-n.n in
-    let o = one_more (homed c.loop-n.n) in
+    let o = bit_at_most_one (homed c.loop-n.n) in
     let e = c.own_columns-end.ensures in
     let i = c.loop-n.invariant.end in
     let t = c.loop-n-test.true in

@@ -1,6 +1,6 @@
 use Rattle.std.proofs.Common.{[]}
+use Rattle.mp_base.proofs.Ranges.{map_grown}
 use Rattle.band_lists.specs.Homed.{is_unpinned}
-use Rattle.band_lists.proofs.Growing.{map_grown}
 use Rattle.band_lists.proofs.homes.unpinned.Goals as goal
 
 pub loop-n-preserved : goal.loop-n-preserved

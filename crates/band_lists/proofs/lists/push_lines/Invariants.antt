@@ -5,4 +5,5 @@ use Rattle.band_lists.specs.Listed.{lines_at}
 use Rattle.band_lists.proofs.lists.push_lines.Given as goal
 
 abbrev pub invariant-loop-n : goal.invariant-loop-n
-invariant-loop-n l = l.lines.items ≡ l.fn.lines.items ++ flat_map (lines_at l.band l.columns l.stubs l.net) (range_with_len 0 l.n)
+invariant-loop-n l =
+    l.lines.items ≡ l.fn.lines.items ++ flat_map (lines_at l.band l.columns l.stubs l.net) (range_with_len 0 l.n)

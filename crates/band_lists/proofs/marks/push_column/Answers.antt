@@ -1,7 +1,7 @@
 use Rattle.std.proofs.Common.{◌<◌, sym, subst, arith}
 use Rattle.std.specs.Prelude.{IfSome}
 use Rattle.nor_net.specs.declared.net.Part.TheVariants.{Gate}
-use Rattle.band_lists.proofs.Feeding.{latch_data}
+use Rattle.nor_net.proofs.Parts.{latch_data}
 use Rattle.band_lists.proofs.marks.push_column.Goals as goal
 
 pub push_gate-requires-clause-inputs : goal.push_gate-requires-clause-inputs

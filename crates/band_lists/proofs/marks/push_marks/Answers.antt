@@ -1,8 +1,8 @@
 use Rattle.std.proofs.Common.{◌≡◌, ◌<◌, ◌+◌, ◌∙◌, ℕ, List, length, drop, sym, ap, subst, arith}
 use Rattle.std.specs.Prelude.{All}
 use Rattle.std.proofs.lemmas.List.{take_at}
+use Rattle.mp_base.proofs.Ranges.{flat_grown}
 use Rattle.band_lists.specs.Listed.{marks_in}
-use Rattle.band_lists.proofs.Growing.{flat_grown}
 use Rattle.band_lists.proofs.marks.push_marks.Goals as goal
 
 pub loop-n-preserved : goal.loop-n-preserved

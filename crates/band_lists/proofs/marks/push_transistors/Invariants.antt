@@ -1,7 +1,7 @@
 use Rattle.std.proofs.Common.{◌≡◌, ◌++◌, length, map, take}
 use Rattle.nor_net.specs.declared.net.NetId.{NetId}
+use Rattle.array_form.proofs.Distinct.{AreSeen}
 use Rattle.band_lists.specs.Listed.{transistors_of}
-use Rattle.band_lists.proofs.Distinct.{AreSeen}
 use Rattle.band_lists.proofs.marks.push_transistors.Given as goal
 
 abbrev pub invariant-loop-input : goal.invariant-loop-input

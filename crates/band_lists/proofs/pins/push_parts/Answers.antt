@@ -1,7 +1,7 @@
 use Rattle.std.proofs.Common.{length}
 use Rattle.std.specs.Prelude.{slice_get}
+use Rattle.mp_base.proofs.Ranges.{flat_grown}
 use Rattle.band_lists.specs.Pins.{part_pins}
-use Rattle.band_lists.proofs.Growing.{flat_grown}
 use Rattle.band_lists.proofs.pins.push_parts.Goals as goal
 
 pub loop-n-preserved : goal.loop-n-preserved

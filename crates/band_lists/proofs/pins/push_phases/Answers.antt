@@ -1,5 +1,5 @@
 use Rattle.band_lists.specs.Pins.{phase_pin}
-use Rattle.band_lists.proofs.Growing.{map_grown}
+use Rattle.mp_base.proofs.Ranges.{map_grown}
 use Rattle.band_lists.proofs.pins.push_phases.Goals as goal
 
 pub loop-phase-preserved : goal.loop-phase-preserved

@@ -1,5 +1,5 @@
 use Rattle.band_lists.specs.Pins.{stub_pin}
-use Rattle.band_lists.proofs.Growing.{flat_grown}
+use Rattle.mp_base.proofs.Ranges.{flat_grown}
 use Rattle.band_lists.proofs.pins.push_stubs.Goals as goal
 
 pub loop-n-preserved : goal.loop-n-preserved

@@ -10,7 +10,8 @@ returns-clause-some c =
     let w = c.args.word in
     let p = c.args.place in
     IfSome_then c.highest.result c.highest.ensures.some (λ k h.
-    highest_of w p (bit_and w (1 * 2 ^ p % 2 ^ 64 - 1)) c.requires (ap (λ n. bit_and w (n - 1)) (one_shl p 64 c.requires)) k h)
+    highest_of w p (bit_and w (1 * 2 ^ p % 2 ^ 64 - 1)) c.requires
+    (ap (λ n. bit_and w (n - 1)) (one_shl p 64 c.requires)) k h)
 
 -- src/bits.rt
 pub returns-clause-none : goal.returns-clause-none
@@ -18,4 +19,5 @@ returns-clause-none c =
     let w = c.args.word in
     let p = c.args.place in
     none_then c.highest.result _ _ c.highest.ensures.none (λ e.
-    none_below w p (bit_and w (1 * 2 ^ p % 2 ^ 64 - 1)) c.requires (ap (λ n. bit_and w (n - 1)) (one_shl p 64 c.requires)) e)
+    none_below w p (bit_and w (1 * 2 ^ p % 2 ^ 64 - 1)) c.requires
+    (ap (λ n. bit_and w (n - 1)) (one_shl p 64 c.requires)) e)

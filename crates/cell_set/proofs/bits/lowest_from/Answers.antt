@@ -9,7 +9,8 @@ pub returns-then-rest-eq0-clause-none : goal.returns-then-rest-eq0-clause-none
 returns-then-rest-eq0-clause-none c =
     let w = c.args.word in
     let p = c.args.place in
-    none_from w p (bit_and w ((2 ^ 64 - 1) * 2 ^ p % 2 ^ 64)) (omega arith) c.requires (ap (bit_and w) (ones_shl 64 p (omega arith))) c.if-rest-eq0.true
+    none_from w p (bit_and w ((2 ^ 64 - 1) * 2 ^ p % 2 ^ 64)) (omega arith) c.requires
+    (ap (bit_and w) (ones_shl 64 p (omega arith))) c.if-rest-eq0.true
 
 -- src/bits.rt
 pub returns-clause-some : goal.returns-clause-some
@@ -17,4 +18,5 @@ returns-clause-some c =
     let w = c.args.word in
     let p = c.args.place in
     let less = and_le_l w ((2 ^ 64 - 1) * 2 ^ p % 2 ^ 64) in
-    lowest_is w p (bit_and w ((2 ^ 64 - 1) * 2 ^ p % 2 ^ 64)) (omega arith) c.requires (ap (bit_and w) (ones_shl 64 p (omega arith))) (omega arith) (omega arith)
+    lowest_is w p (bit_and w ((2 ^ 64 - 1) * 2 ^ p % 2 ^ 64)) (omega arith) c.requires
+    (ap (bit_and w) (ones_shl 64 p (omega arith))) (omega arith) (omega arith)

@@ -5,7 +5,9 @@ use Rattle.cell_set.proofs.tree.lowest_in.Goals as goal
 
 -- src/tree.rt
 pub returns-in-Some-clause-some : goal.returns-in-Some-clause-some
-returns-in-Some-clause-some c = first_in_word c.args.words.now c.args.at 0 (64 * c.args.at) c.in-Some.place (omega arith) c.requires.within c.in-Some.ensures.some
+returns-in-Some-clause-some c =
+    first_in_word c.args.words.now c.args.at 0 (64 * c.args.at) c.in-Some.place
+    (omega arith) c.requires.within c.in-Some.ensures.some
 
 -- src/tree.rt
 pub returns-in-None-clause-none : goal.returns-in-None-clause-none

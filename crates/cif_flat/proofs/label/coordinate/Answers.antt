@@ -12,7 +12,13 @@ returns-then-first-eq45-clause-some c =
       neg_ℤ (pos n),
       omega (arith, ints, s.0),
       small_negative n s.0,
-      (n, inr (refl, (45 ∷ [], c.in_ok-first.rest.now, k ∙ ap (λ b. b ∷ c.in_ok-first.rest.now) c.if-first-eq45.true, refl, s.1))),
+      (
+        n,
+        inr (
+          refl,
+          (45 ∷ [], c.in_ok-first.rest.now, k ∙ ap (λ b. b ∷ c.in_ok-first.rest.now) c.if-first-eq45.true, refl, s.1),
+        ),
+      ),
     )
 
 pub returns-clause-some : goal.returns-clause-some

@@ -15,9 +15,11 @@ gone n k h x e = grind (arith, nat_tests)
 pub returns-clause-below : goal.returns-clause-below
 returns-clause-below g c = λ k h.
     ap (lookup (is_at (nat_cmp k))) c.in_ok-split_off.ensures.below
-    ∙ lookup-filter-keys (is_at (nat_cmp k)) (λ x. is_gt (nat_cmp c.args.number x)) true (kept c.args.number k h) c.args.table.now.entries
+    ∙ lookup-filter-keys (is_at (nat_cmp k)) (λ x. is_gt (nat_cmp c.args.number x)) true
+    (kept c.args.number k h) c.args.table.now.entries
 
 pub returns-clause-above : goal.returns-clause-above
 returns-clause-above g c = λ k h.
     ap (lookup (is_at (nat_cmp k))) c.in_ok-split_off.ensures.below
-    ∙ lookup-filter-keys (is_at (nat_cmp k)) (λ x. is_gt (nat_cmp c.args.number x)) false (gone c.args.number k h) c.args.table.now.entries
+    ∙ lookup-filter-keys (is_at (nat_cmp k)) (λ x. is_gt (nat_cmp c.args.number x)) false
+    (gone c.args.number k h) c.args.table.now.entries

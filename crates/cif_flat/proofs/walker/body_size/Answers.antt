@@ -15,7 +15,9 @@ returns-in-Finish c =
     let i = item_shown c.at.result in
     let body = slice_range c.args.items.now c.args.first c.args.end in
     let k = c.loop-size.size in
-    let here = in_body c.args.items.now c.args.first c.args.end k i c.requires.forward c.requires.within c.loop-size-test.true c.at.ensures in
+    let here =
+    in_body c.args.items.now c.args.first c.args.end k i c.requires.forward c.requires.within c.loop-size-test.true
+    c.at.ensures in
     let d = at_drop body k i here.0 here.1 in
     let is : i.command ≡ Finish = ap command_shown c.in-Finish.is in
     let same : i ≡ item_at i.offset Finish = λ j. record { offset = i.offset; command = is j } in
@@ -31,12 +33,17 @@ loop-size-preserved c =
     let i = item_shown c.at.result in
     let body = slice_range c.args.items.now c.args.first c.args.end in
     let k = c.loop-size.size in
-    let here = in_body c.args.items.now c.args.first c.args.end k i c.requires.forward c.requires.within c.loop-size-test.true c.at.ensures in
+    let here =
+    in_body c.args.items.now c.args.first c.args.end k i c.requires.forward c.requires.within c.loop-size-test.true
+    c.at.ensures in
     let d = at_drop body k i here.0 here.1 in
-    let m = one_more_inside i (drop (k + 1) body) (subst (AreClosed true) d c.loop-size.invariant.closed) (λ f. c.in_default.not-Finish (shown_finish c.at.result.command f)) in
+    let m = one_more_inside i (drop (k + 1) body) (subst (AreClosed true) d c.loop-size.invariant.closed)
+    (λ f. c.in_default.not-Finish (shown_finish c.at.result.command f)) in
     record {
       closed = m.1;
-      inside = All-more (λ i. IsInside i.command) body k i here.0 c.loop-size.invariant.inside (subst (λ j. IsInside j.command) here.1 m.0);
+      inside =
+          All-more (λ i. IsInside i.command) body k i here.0 c.loop-size.invariant.inside
+          (subst (λ j. IsInside j.command) here.1 m.0);
     }
 
 pub returns : goal.returns

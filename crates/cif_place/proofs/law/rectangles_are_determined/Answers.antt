@@ -1,4 +1,4 @@
-use Rattle.cif_place.proofs.Shapes.{one_box, one_wire}
+use Rattle.cif_form.proofs.OnePlace.{one_box, one_wire}
 use Rattle.cif_place.proofs.law.rectangles_are_determined.Goals as goal
 
 pub returns-clause-boxes : goal.returns-clause-boxes

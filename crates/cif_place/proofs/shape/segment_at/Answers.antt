@@ -8,10 +8,14 @@ within : (ps : List Point) (k : ℕ) → 0 < length ps → (length ps ≡ 1 → 
 within ps k some more h = let m = segments_more ps (omega arith) in omega (arith, m)
 
 pub bounds-path-index : goal.bounds-path-index
-bounds-path-index c = let l = within c.args.path.now c.args.index c.requires.some (λ e. c.if-path-eq1.false e) c.requires.within in omega (arith, l)
+bounds-path-index c =
+    let l = within c.args.path.now c.args.index c.requires.some (λ e. c.if-path-eq1.false e) c.requires.within in
+    omega (arith, l)
 
 pub bounds-path-index-2 : goal.bounds-path-index-2
-bounds-path-index-2 c = let l = within c.args.path.now c.args.index c.requires.some (λ e. c.if-path-eq1.false e) c.requires.within in omega (arith, l)
+bounds-path-index-2 c =
+    let l = within c.args.path.now c.args.index c.requires.some (λ e. c.if-path-eq1.false e) c.requires.within in
+    omega (arith, l)
 
 pub offset_bounds-path-index : goal.offset_bounds-path-index
 offset_bounds-path-index c =

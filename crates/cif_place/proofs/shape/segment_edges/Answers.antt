@@ -10,9 +10,14 @@ returns-then-segment-2 c =
     let g = c.args.segment in
     let h : IsRise g.from g.to = (omega (arith, ints), omega (arith, ints)) in
     record {
-      whole = whole_up (scale_of c.args.ratio) g.from g.to c.args.extent c.requires.extent.1 c.requires.straight h c.around.result c.around.ensures.whole;
+      whole = whole_up
+          (scale_of c.args.ratio) g.from g.to c.args.extent c.requires.extent.1 c.requires.straight h c.around.result
+          c.around.ensures.whole;
       small = c.around.ensures.small;
-      uneven = uneven_up (scale_of c.args.ratio) g.from g.to c.args.extent c.requires.extent.1 c.requires.straight h c.around.result c.around.ensures.uneven;
+      uneven =
+          uneven_up
+          (scale_of c.args.ratio) g.from g.to c.args.extent c.requires.extent.1 c.requires.straight h c.around.result
+          c.around.ensures.uneven;
     }
 
 pub returns : goal.returns
@@ -23,7 +28,12 @@ returns c =
       | else-segment w ↦ omega (arith, ints, r.0, r.1)
     ]) in
     record {
-      whole = whole_down (scale_of c.args.ratio) g.from g.to c.args.extent c.requires.extent.1 c.requires.straight h c.around-2.result c.around-2.ensures.whole;
+      whole = whole_down
+          (scale_of c.args.ratio) g.from g.to c.args.extent c.requires.extent.1 c.requires.straight h c.around-2.result
+          c.around-2.ensures.whole;
       small = c.around-2.ensures.small;
-      uneven = uneven_down (scale_of c.args.ratio) g.from g.to c.args.extent c.requires.extent.1 c.requires.straight h c.around-2.result c.around-2.ensures.uneven;
+      uneven =
+          uneven_down
+          (scale_of c.args.ratio) g.from g.to c.args.extent c.requires.extent.1 c.requires.straight h c.around-2.result
+          c.around-2.ensures.uneven;
     }

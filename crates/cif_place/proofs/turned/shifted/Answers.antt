@@ -14,7 +14,8 @@ returns-in_default-clause-turned c =
     let v = c.twice_more.ensures.value in
     let p = c.requires.short in
     let e : to_z w64 (of_z w64 c.twice_more.result) ≡ pos 2 *ℤ c.args.by.x = omega (arith, ints) in
-    uneven (scale_of c.args.ratio) c.args.by (λ w. c.in_default.ensures.uneven w.0.0 (subst (λ v. IsScaled (scale_of c.args.ratio) v w.0.0) (sym e) w.0.1))
+    uneven (scale_of c.args.ratio) c.args.by
+    (λ w. c.in_default.ensures.uneven w.0.0 (subst (λ v. IsScaled (scale_of c.args.ratio) v w.0.0) (sym e) w.0.1))
 
 pub returns-in_default-scaled-clause-turned : goal.returns-in_default-scaled-clause-turned
 returns-in_default-scaled-clause-turned c =
@@ -22,7 +23,9 @@ returns-in_default-scaled-clause-turned c =
     let v = c.twice_more-2.ensures.value in
     let p = c.requires.short in
     let e : to_z w64 (of_z w64 c.twice_more-2.result) ≡ pos 2 *ℤ c.args.by.y = omega (arith, ints) in
-    uneven (scale_of c.args.ratio) c.args.by (λ w. c.in_default-scaled.ensures.uneven w.1.0 (subst (λ v. IsScaled (scale_of c.args.ratio) v w.1.0) (sym e) w.1.1))
+    uneven (scale_of c.args.ratio) c.args.by
+    (λ w. c.in_default-scaled.ensures.uneven w.1.0
+    (subst (λ v. IsScaled (scale_of c.args.ratio) v w.1.0) (sym e) w.1.1))
 
 pub returns : goal.returns
 returns c =

@@ -9,6 +9,7 @@ abbrev pub invariant-loop-number : goal.invariant-loop-number
 invariant-loop-number g l =
     let sink = g.O.Sink in
     record {
-      going : Going (sink.held l.fn.out) (sink.held l.out) (flat_map number_text l.numbers) (flat_map number_text (drop l.number-index l.numbers));
+      going : Going (sink.held l.fn.out) (sink.held l.out) (flat_map number_text l.numbers)
+          (flat_map number_text (drop l.number-index l.numbers));
       quiet : sink.faults l.out ≡ sink.faults l.fn.out;
     }

@@ -8,6 +8,7 @@ abbrev pub invariant-loop-point : goal.invariant-loop-point
 invariant-loop-point g l =
     let sink = g.O.Sink in
     record {
-      going : Going (sink.held l.fn.out) (sink.held l.out) (path_text l.points) (path_text (drop l.point-index l.points));
+      going : Going (sink.held l.fn.out) (sink.held l.out) (path_text l.points)
+          (path_text (drop l.point-index l.points));
       quiet : sink.faults l.out ≡ sink.faults l.fn.out;
     }

@@ -6,11 +6,12 @@ use Rattle.mp_base.specs.Outside.{Gains}
 use Rattle.mp_base.specs.Piece.{TakesAll}
 use Rattle.mp_base.specs.declared.outside.Failed.{Failed}
 use Rattle.std.specs.Prelude.{map}
+use Rattle.mp_base.proofs.Written.{written_then}
+use Rattle.mp_base.proofs.CutTexts.{cut_at}
 use Rattle.cif_form.specs.Writing.{turns_text}
 use Rattle.cif_list.specs.Turning.{wide_turn}
 use Rattle.cif_writer.specs.Texts.{number_text}
 use Rattle.cif_writer.proofs.Numbers.{one_text}
-use Rattle.cif_writer.proofs.Wrote.{took_then, cut_at}
 use Rattle.cif_writer.proofs.view.write_short_call.Goals as goal
 
 pub returns-in_err-write_tagged-clause-taken : goal.returns-in_err-write_tagged-clause-taken
@@ -34,6 +35,7 @@ returns-clause-taken g c =
     (g.O.Sink.held c.write_short_turns.new.out)
     (67 ∷ (t ++ turns_text (map wide_turn c.args.turns.now))) c.write_short_turns.result in
     subst P (one_text _ c.args.number same)
-    (took_then _ _ _ (67 ∷ flat_map number_text (to_z w64 (of_z w64 c.args.number) ∷ []))
-    (turns_text (map wide_turn c.args.turns.now)) c.in_ok-write_tagged.field-0 c.write_short_turns.result
+    (written_then c.in_ok-write_tagged.field-0 _ _ _
+    (67 ∷ flat_map number_text (to_z w64 (of_z w64 c.args.number) ∷ []))
+    (turns_text (map wide_turn c.args.turns.now)) c.write_short_turns.result
     c.in_ok-write_tagged.ensures.taken c.write_short_turns.ensures.taken)

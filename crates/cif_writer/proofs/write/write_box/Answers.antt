@@ -15,9 +15,13 @@ returns-then-eq-clause-taken g c =
     let w : to_z w64 (of_z w64 c.args.width) ≡ c.args.width = omega (arith, ints) in
     let x : to_z w64 (of_z w64 c.args.center.x) ≡ c.args.center.x = omega (arith, ints) in
     let y : to_z w64 (of_z w64 c.args.center.y) ≡ c.args.center.y = omega (arith, ints) in
-    let P : List ℕ → Type 0 = λ t. TakesAll {T = Unit {0}} {E = Failed} Gains (g.O.Sink.held c.args.out.now) (g.O.Sink.held c.write_tagged.new.out) (66 ∷ t) c.write_tagged.result in
-    subst P ((λ i. flat_map number_text (l i ∷ w i ∷ x i ∷ y i ∷ [])) ∙ plain_box c.args.length c.args.width c.args.center
-    ∙ ap (λ t. number_text c.args.length ++ (number_text c.args.width ++ (space ++ (point_text c.args.center ++ t)))) (sym (direction_is c.args.direction true (sym c.eq.ensures ∙ c.if-eq.true))))
+    let P : List ℕ
+    → Type 0 = λ t. TakesAll {T = Unit {0}} {E = Failed} Gains (g.O.Sink.held c.args.out.now)
+    (g.O.Sink.held c.write_tagged.new.out) (66 ∷ t) c.write_tagged.result in
+    subst P ((λ i. flat_map number_text (l i ∷ w i ∷ x i ∷ y i ∷ []))
+    ∙ plain_box c.args.length c.args.width c.args.center
+    ∙ ap (λ t. number_text c.args.length ++ (number_text c.args.width ++ (space ++ (point_text c.args.center ++ t))))
+    (sym (direction_is c.args.direction true (sym c.eq.ensures ∙ c.if-eq.true))))
     c.write_tagged.ensures.taken
 
 pub returns-else-eq-clause-taken : goal.returns-else-eq-clause-taken
@@ -28,7 +32,11 @@ returns-else-eq-clause-taken g c =
     let y : to_z w64 (of_z w64 c.args.center.y) ≡ c.args.center.y = omega (arith, ints) in
     let u : to_z w64 (of_z w64 c.args.direction.x) ≡ c.args.direction.x = omega (arith, ints) in
     let v : to_z w64 (of_z w64 c.args.direction.y) ≡ c.args.direction.y = omega (arith, ints) in
-    let P : List ℕ → Type 0 = λ t. TakesAll {T = Unit {0}} {E = Failed} Gains (g.O.Sink.held c.args.out.now) (g.O.Sink.held c.write_tagged-else-eq.new.out) (66 ∷ t) c.write_tagged-else-eq.result in
-    subst P ((λ i. flat_map number_text (l i ∷ w i ∷ x i ∷ y i ∷ u i ∷ v i ∷ [])) ∙ directed_box c.args.length c.args.width c.args.center c.args.direction
-    ∙ ap (λ t. number_text c.args.length ++ (number_text c.args.width ++ (space ++ (point_text c.args.center ++ t)))) (sym (direction_is c.args.direction false (sym c.eq.ensures ∙ c.if-eq.false))))
+    let P : List ℕ
+    → Type 0 = λ t. TakesAll {T = Unit {0}} {E = Failed} Gains (g.O.Sink.held c.args.out.now)
+    (g.O.Sink.held c.write_tagged-else-eq.new.out) (66 ∷ t) c.write_tagged-else-eq.result in
+    subst P ((λ i. flat_map number_text (l i ∷ w i ∷ x i ∷ y i ∷ u i ∷ v i ∷ []))
+    ∙ directed_box c.args.length c.args.width c.args.center c.args.direction
+    ∙ ap (λ t. number_text c.args.length ++ (number_text c.args.width ++ (space ++ (point_text c.args.center ++ t))))
+    (sym (direction_is c.args.direction false (sym c.eq.ensures ∙ c.if-eq.false))))
     c.write_tagged-else-eq.ensures.taken

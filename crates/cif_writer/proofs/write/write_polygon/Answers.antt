@@ -1,8 +1,9 @@
 use Rattle.std.proofs.Common.{◌∷◌, []}
+use Rattle.mp_base.proofs.Written.{written_then}
 use Rattle.cif_form.specs.Writing.{path_text}
-use Rattle.cif_writer.proofs.Wrote.{took_then}
 use Rattle.cif_writer.proofs.write.write_polygon.Goals as goal
 
 pub returns-clause-taken : goal.returns-clause-taken
 returns-clause-taken g c =
-    took_then _ _ _ (80 ∷ []) (path_text c.args.path.now) c.in_ok-write_all.field-0 c.write_path.result c.in_ok-write_all.ensures.taken c.write_path.ensures.taken
+    written_then c.in_ok-write_all.field-0 _ _ _ (80 ∷ [])
+    (path_text c.args.path.now) c.write_path.result c.in_ok-write_all.ensures.taken c.write_path.ensures.taken

@@ -5,5 +5,6 @@ use Rattle.clock_run.specs.Driving.{IsDriven, AreSet}
 use Rattle.clock_run.proofs.drive.drive_levels.Given as goal
 
 abbrev pub invariant-loop-k : goal.invariant-loop-k
-invariant-loop-k l = (driver : ℕ → Option Trit) → AllZip (IsDriven driver) l.nodes l.levels → AreSet driver (take l.k l.nodes)
+invariant-loop-k l = (driver : ℕ → Option Trit) → AllZip (IsDriven driver) l.nodes l.levels
+    → AreSet driver (take l.k l.nodes)
     l.initial.drive l.drive

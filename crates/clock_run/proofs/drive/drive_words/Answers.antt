@@ -13,7 +13,10 @@ loop-k-preserved c = λ driver z.
     let lt : k < length nodes = c.loop-k-test.true in
     let word = get_or words k 0 in
     let step : AreDriven driver ns word → AreSet driver ns c.loop-k.drive c.drive_word.new.drive =
-    subst (λ (xs : List ℕ). AreDriven driver xs word → AreSet driver xs c.loop-k.drive c.drive_word.new.drive) c.as_slice.ensures
+    subst (λ (xs : List ℕ). AreDriven driver xs word → AreSet driver xs c.loop-k.drive c.drive_word.new.drive)
+    c.as_slice.ensures
     (c.drive_word.ensures driver) in
-    set_more_words driver nodes words k ns word c.args.drive.now c.loop-k.drive c.drive_word.new.drive lt c.index-nodes-k.is
-    (get_or_default words k 0 word (let l = c.requires.as_many in omega (arith, lt, l))) z step (c.loop-k.invariant driver z)
+    set_more_words driver nodes words k ns word c.args.drive.now c.loop-k.drive c.drive_word.new.drive lt
+    c.index-nodes-k.is
+    (get_or_default words k 0 word (let l = c.requires.as_many in omega (arith, lt, l))) z step
+    (c.loop-k.invariant driver z)

@@ -1,11 +1,14 @@
-use Rattle.std.proofs.Common.{◌≡◌, ◌≢◌, ◌∙◌, ℕ, ◌<◌, List, refl, ap, sym, subst, arith, ◌+◌, length, get_or, set, Option, Some, None, rules, Vec, Global}
+use Rattle.std.proofs.Common.{◌≡◌, ◌≢◌, ◌∙◌, ℕ, ◌<◌, List, refl, ap, sym, subst, arith, ◌+◌, length, get_or, set}
+use Rattle.std.proofs.Common.{Option, Some, None, rules, Vec, Global}
 use Rattle.std.proofs.lemmas.Slice.Eq.{bytes_eq-Decides}
 use Rattle.std.proofs.lemmas.List.{length-set}
+use Rattle.std.proofs.lemmas.Option.{slice_get_within}
 use Rattle.switch_net.specs.declared.network.Tag.{Tag}
-use Rattle.clock_run.proofs.Missing.{stands_at, place_inside}
+use Rattle.clock_run.proofs.Missing.{stands_at}
 use Rattle.clock_run.proofs.Owning.{Owners, read_at, node_inside, owners_skip, owners_same, owners_new, owners_meet}
 use Rattle.clock_run.proofs.owners.driven_twice.Goals as goal
-use Rattle.clock_run.proofs.owners.driven_twice.Goals.{then-is_driver+in-None, then-is_driver+in-Some+else-not-same_name, else-is_driver}
+use Rattle.clock_run.proofs.owners.driven_twice.Goals.{then-is_driver+in-None}
+use Rattle.clock_run.proofs.owners.driven_twice.Goals.{then-is_driver+in-Some+else-not-same_name, else-is_driver}
 
 pub offset_bounds-tags-first : goal.offset_bounds-tags-first
 offset_bounds-tags-first c =
@@ -50,14 +53,16 @@ returns-then-not-same_name c =
     let is = c.index-tags-i.is ∙ ap (λ (xs : List Tag). get_or xs i t) e in
     let inside = node_inside net i t (omega (arith, l, c.loop-i-test.true)) is in
     let o = c.loop-i.invariant.owners in
-    let own = read_at owners t.node c.index.result.now (Some j) (omega (arith, inside, c.loop-i.invariant.sized)) c.index.ensures
+    let own =
+    read_at owners t.node c.index.result.now (Some j) (omega (arith, inside, c.loop-i.invariant.sized)) c.index.ensures
     c.in-Some.is in
     let lt : j < i = (o.held t.node j own).0 in
     let at = stands_at net.tags i t (omega (arith, l, c.loop-i-test.true)) is in
     let there = stands_at net.tags j first (omega (arith, l, lt, c.loop-i-test.true))
     (c.index-tags-first.is ∙ ap (λ (xs : List Tag). get_or xs j first) e) in
     let driver = (c.in_ok-names.ensures t.name).0 (sym c.is_driver.ensures ∙ c.if-is_driver.true) in
-    let differ : first.name ≢ t.name = λ q. let yes = (bytes_eq-Decides first.name t.name).1 q in let no = sym c.same_name.ensures
+    let differ : first.name ≢ t.name = λ q. let yes = (bytes_eq-Decides first.name t.name).1 q in
+    let no = sym c.same_name.ensures
     ∙ c.if-not-same_name.true in cc in
     record {
       i = i;
@@ -69,9 +74,10 @@ returns-then-not-same_name c =
 
 pub returns : goal.returns
 returns c = λ i m.
-    let l : length c.as_slice-tags.result.now ≡ length c.args.network.now.tags = ap (λ (xs : List Tag). length xs) c.as_slice-tags.ensures in
+    let l : length c.as_slice-tags.result.now ≡ length c.args.network.now.tags =
+    ap (λ (xs : List Tag). length xs) c.as_slice-tags.ensures in
     c.loop-i.invariant.owners.none i
-    (let lt = place_inside c.args.network.now.tags i m.0 m.1.at in omega (arith, l, lt, c.loop-i-test.false)) m
+    (let lt = slice_get_within c.args.network.now.tags i m.0 m.1.at in omega (arith, l, lt, c.loop-i-test.false)) m
 
 pub loop-i-preserved : goal.loop-i-preserved
 loop-i-preserved c =
@@ -91,7 +97,8 @@ loop-i-preserved c =
     (omega (arith, inside, sized)) is e in
     elim c.if-is_driver.branch [
       | then-is_driver+in-None w ↦
-          let now : c.if-is_driver.owners.items ≡ set owners t.node (Some i) = ap (λ (v : Vec (Option ℕ) Global). v.items) w.owners-is in
+          let now : c.if-is_driver.owners.items ≡ set owners t.node (Some i) =
+          ap (λ (v : Vec (Option ℕ) Global). v.items) w.owners-is in
           let driver = (c.in_ok-names.ensures t.name).0 (sym c.is_driver.ensures ∙ w.if-is_driver.true) in
           record {
             sized = ap (λ (xs : List (Option ℕ)). length xs) now ∙ length-set owners t.node (Some i) ∙ sized;
@@ -119,6 +126,7 @@ loop-i-preserved c =
             sized = ap (λ (xs : List (Option ℕ)). length xs) now ∙ sized;
             owners = subst (λ (xs : List (Option ℕ)). Owners drivers net.tags xs (i + 1)) (sym now)
                 (owners_skip drivers net.tags i t at owners o
-                (λ k. let yes = (c.in_ok-names.ensures t.name).1 k in let no = sym c.is_driver.ensures ∙ w.if-is_driver.false in cc));
+                (λ k. let yes = (c.in_ok-names.ensures t.name).1 k in
+                let no = sym c.is_driver.ensures ∙ w.if-is_driver.false in cc));
           }
     ]

@@ -30,11 +30,13 @@ loop-pad-preserved c =
     let place = c.loop-pad.invariant.place in
     let items = c.from_vec.ensures ∙ c.in_ok-to_vec.ensures.items_if_clones_equal (λ x y e. e) in
     record {
-      place = end_more pads k c.pad-item.result (omega arith) c.pad-item.is c.loop-pad.start c.bit_count.result place c.bit_count.ensures;
+      place = end_more pads k c.pad-item.result
+          (omega arith) c.pad-item.is c.loop-pad.start c.bit_count.result place c.bit_count.ensures;
       own = λ net z.
           subst (λ (xs : List (List ℕ)). AllZip (AreNodesOf net) (take (k + 1) pads) xs) (sym c.in_ok-push.ensures.ok)
           (subst (λ (xs : List ℕ). AllZip (AreNodesOf net) (take (k + 1) pads) (c.loop-pad.own ++ xs ∷ [])) (sym items)
-          (own_more pads k c.pad-item.result (omega arith) c.pad-item.is net c.args.nodes.now c.loop-pad.own c.loop-pad.start
+          (own_more pads k c.pad-item.result
+          (omega arith) c.pad-item.is net c.args.nodes.now c.loop-pad.own c.loop-pad.start
           c.bit_count.result place
           c.bit_count.ensures z (c.loop-pad.invariant.own net z)));
     }

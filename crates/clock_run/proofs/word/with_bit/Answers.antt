@@ -22,7 +22,8 @@ pub returns-clause-narrow : goal.returns-clause-narrow
 returns-clause-narrow c =
     let k = c.args.k in
     let e : c.flag.result ≡ flag c.is_known.result k = c.flag.ensures in
-    subst (λ f. bit_or c.args.word.known f < 2 ^ (k + 1)) (sym e) (flagged_narrow c.args.word.known k c.is_known.result c.requires.narrow)
+    subst (λ f. bit_or c.args.word.known f < 2 ^ (k + 1)) (sym e)
+    (flagged_narrow c.args.word.known k c.is_known.result c.requires.narrow)
 
 pub returns-clause-below : goal.returns-clause-below
 returns-clause-below c = λ j lt.

@@ -9,7 +9,9 @@ loop-k-init c = record { masked = refl; narrow = omega arith; each = λ j lt. ab
 pub loop-k-preserved : goal.loop-k-preserved
 loop-k-preserved c =
     let w = c.with_bit-word in
-    word_more (value_at c.args.values.now) c.args.nodes.now c.loop-k.k c.loop-k.word.0 c.loop-k.word.1.0 w.result c.loop-k.invariant
+    word_more
+    (value_at c.args.values.now) c.args.nodes.now c.loop-k.k c.loop-k.word.0 c.loop-k.word.1.0 w.result
+    c.loop-k.invariant
     w.ensures.narrow w.ensures.below (w.ensures.bit ∙ c.value_at.ensures)
 
 pub invariant_of-word : goal.invariant_of-word
@@ -27,4 +29,5 @@ returns-clause-narrow c =
     subst (λ n. c.loop-k.word.0 < 2 ^ n) e c.loop-k.invariant.narrow
 
 pub returns-clause-bits : goal.returns-clause-bits
-returns-clause-bits c = word_all (value_at c.args.values.now) c.args.nodes.now c.loop-k.k _ c.loop-k.invariant c.loop-k-test.false
+returns-clause-bits c =
+    word_all (value_at c.args.values.now) c.args.nodes.now c.loop-k.k _ c.loop-k.invariant c.loop-k-test.false

@@ -1,15 +1,15 @@
 use Rattle.std.proofs.Common.{◌∷◌, ◌++◌, [], length, arith, length-append}
+use Rattle.std.proofs.lemmas.Slice.Zip.{AllZip-long}
 use Rattle.nor_net.specs.declared.net.Part.TheVariants.{Gate}
 use Rattle.control_nor.specs.Cells.{GuardOf, IsTerm}
 use Rattle.control_nor.proofs.Adding.{added_counted, added_three}
 use Rattle.control_nor.proofs.Next.{below_later, guards_below}
 use Rattle.control_nor.proofs.Terms.{terms_below}
-use Rattle.control_nor.proofs.Zipping.{zip_length}
 use Rattle.control_nor.proofs.cells.add_source.Goals as goal
 
 pub add_gate_on-requires-clause-inputs_room : goal.add_gate_on-requires-clause-inputs_room
 add_gate_on-requires-clause-inputs_room c =
-    let n = zip_length (GuardOf c.args.exprs.now) c.args.transfers.now c.in_ok-guards.guards c.in_ok-guards.ensures in
+    let n = AllZip-long (GuardOf c.args.exprs.now) c.args.transfers.now c.in_ok-guards.guards c.in_ok-guards.ensures in
     let i = c.in_ok-terms.ensures.counted.input_count in
     let r = c.requires.room.inputs_room in
     omega (arith, n, i, r)
@@ -23,8 +23,8 @@ add_gate_on-requires-clause-inputs c =
 
 pub add_gate_on-requires-2-clause-inputs_room : goal.add_gate_on-requires-2-clause-inputs_room
 add_gate_on-requires-2-clause-inputs_room c =
-    let n = zip_length (GuardOf c.args.exprs.now) c.args.transfers.now c.in_ok-guards.guards c.in_ok-guards.ensures in
-    let m = zip_length (IsTerm c.args.exprs.now (length c.args.net.now) c.add_terms.new.net) c.args.transfers.now
+    let n = AllZip-long (GuardOf c.args.exprs.now) c.args.transfers.now c.in_ok-guards.guards c.in_ok-guards.ensures in
+    let m = AllZip-long (IsTerm c.args.exprs.now (length c.args.net.now) c.add_terms.new.net) c.args.transfers.now
     c.in_ok-terms.terms c.in_ok-terms.ensures.each in
     let i = c.in_ok-terms.ensures.counted.input_count in
     let h = (added_counted c.add_terms.new.net c.add_gate_on.new.net
@@ -45,8 +45,8 @@ add_gate_on-requires-2-clause-inputs c =
 
 pub gate-requires-clause-inputs_room : goal.gate-requires-clause-inputs_room
 gate-requires-clause-inputs_room c =
-    let n = zip_length (GuardOf c.args.exprs.now) c.args.transfers.now c.in_ok-guards.guards c.in_ok-guards.ensures in
-    let m = zip_length (IsTerm c.args.exprs.now (length c.args.net.now) c.add_terms.new.net) c.args.transfers.now
+    let n = AllZip-long (GuardOf c.args.exprs.now) c.args.transfers.now c.in_ok-guards.guards c.in_ok-guards.ensures in
+    let m = AllZip-long (IsTerm c.args.exprs.now (length c.args.net.now) c.add_terms.new.net) c.args.transfers.now
     c.in_ok-terms.terms c.in_ok-terms.ensures.each in
     let i = c.in_ok-terms.ensures.counted.input_count in
     let h = (added_counted c.add_terms.new.net c.add_gate_on.new.net

@@ -1,14 +1,14 @@
 use Rattle.std.proofs.Common.{◌<◌, length, subst, sym, ap, arith}
 use Rattle.std.specs.Prelude.{All}
+use Rattle.std.proofs.lemmas.Slice.Zip.{AllZip-long}
 use Rattle.nor_net.specs.declared.net.NetId.{NetId}
 use Rattle.control_nor.specs.Cells.{IsTerm}
 use Rattle.control_nor.proofs.Terms.{terms_below}
-use Rattle.control_nor.proofs.Zipping.{zip_length}
 use Rattle.control_nor.proofs.cells.lower_driven.Goals as goal
 
 pub add_pair-requires-clause-inputs_room : goal.add_pair-requires-clause-inputs_room
 add_pair-requires-clause-inputs_room c =
-    let n = zip_length (IsTerm c.args.exprs.now (length c.args.net.now) c.add_terms.new.net) c.args.transfers.now
+    let n = AllZip-long (IsTerm c.args.exprs.now (length c.args.net.now) c.add_terms.new.net) c.args.transfers.now
     c.in_ok-terms.terms c.in_ok-terms.ensures.each in
     let s = ap length c.as_slice.ensures in
     let i = c.in_ok-terms.ensures.counted.input_count in

@@ -1,9 +1,9 @@
 use Rattle.std.proofs.Common.{refl, subst, sym, None, get_or}
 use Rattle.std.specs.Prelude.{All}
+use Rattle.std.proofs.lemmas.Option.{slice_get-get_or}
 use Rattle.rtl_form.specs.declared.rtl.RtlExpr.TheVariants.{Apply, Cell}
 use Rattle.control_nor.specs.Exprs.{IsExprMade, IsExprReady}
 use Rattle.control_nor.specs.Rails.{IsNamed}
-use Rattle.control_nor.proofs.Adding.{get_inside}
 use Rattle.control_nor.proofs.exprs.lower_expr.Goals as goal
 
 pub lower_operator-requires-clause-named : goal.lower_operator-requires-clause-named
@@ -18,4 +18,4 @@ returns-in-Cell c =
     subst (IsExprReady c.args.cells.now c.args.exprs.now) c.in-Cell.is c.requires.ready in
     subst (λ x. IsExprMade c.args.cells.now c.args.exprs.now x c.args.net.now c.args.net.now
     (get_or c.args.cells.now c.in-Cell.cell None)) (sym c.in-Cell.is)
-    (get_inside c.args.cells.now c.in-Cell.cell None r, refl)
+    (slice_get-get_or c.args.cells.now c.in-Cell.cell None r, refl)

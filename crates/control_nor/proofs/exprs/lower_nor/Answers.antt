@@ -1,14 +1,14 @@
 use Rattle.std.proofs.Common.{◌<◌, length, subst, sym, ap, arith}
 use Rattle.std.specs.Prelude.{All}
+use Rattle.std.proofs.lemmas.Slice.Zip.{AllZip-long}
 use Rattle.nor_net.specs.declared.net.NetId.{NetId}
 use Rattle.control_nor.specs.Rails.{BitOf}
 use Rattle.control_nor.proofs.Naming.{bits_below}
-use Rattle.control_nor.proofs.Zipping.{zip_length}
 use Rattle.control_nor.proofs.exprs.lower_nor.Goals as goal
 
 pub add_pair-requires-clause-inputs_room : goal.add_pair-requires-clause-inputs_room
 add_pair-requires-clause-inputs_room c =
-    let n = zip_length (BitOf c.args.exprs.now) c.args.args.now c.in_ok-inputs.inputs c.in_ok-inputs.ensures in
+    let n = AllZip-long (BitOf c.args.exprs.now) c.args.args.now c.in_ok-inputs.inputs c.in_ok-inputs.ensures in
     let s = ap length c.as_slice.ensures in
     let r = c.requires.room.inputs_room in
     omega (arith, n, s, r)

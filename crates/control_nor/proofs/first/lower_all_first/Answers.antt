@@ -1,4 +1,5 @@
-use Rattle.std.proofs.Common.{◌≡◌, ◌<◌, ◌+◌, [], List, Option, None, false, length, replicate, subst, sym, ap, ◌∙◌, get_or, arith}
+use Rattle.std.proofs.Common.{◌≡◌, ◌<◌, ◌+◌, [], List, Option, None, false, length, replicate, subst, sym, ap, ◌∙◌}
+use Rattle.std.proofs.Common.{get_or, arith}
 use Rattle.std.proofs.lemmas.Option.{get_or_from_slice_get, slice_get-get_or}
 use Rattle.nor_net.specs.declared.net.NetId.{NetId}
 use Rattle.rtl_form.specs.declared.rtl.Cell as cells

@@ -1,19 +1,14 @@
-use Rattle.std.proofs.Common.{Result, Ok, Err, List, Option, subst}
-use Rattle.std.specs.Prelude.{OnOk}
+use Rattle.std.proofs.Common.{List, Option, subst}
+use Rattle.std.proofs.lemmas.Result.{on_ok_weaker}
 use Rattle.control_nor.specs.declared.rails.Rails.{Rails}
-use Rattle.control_nor.specs.NextValues.{AreNextValues, AreStored}
 use Rattle.control_nor.specs.Rails.{Named}
 use Rattle.control_nor.proofs.Begins.{all_next}
 use Rattle.control_nor.proofs.lower.lower_next_values.Goals as goal
 
-weaker : {T E : Type 0} (P Q : Type 0) (o : Result T E) → (P → Q) → OnOk o P → OnOk o Q
-weaker P Q (Ok t) f h = f h
-weaker P Q (Err e) f h = h
-
 pub returns-in-Some : goal.returns-in-Some
 returns-in-Some c =
-    weaker (AreStored c.args.rtl.now c.args.bits.now _ c.named.result.bit c.args.net.now c.lower_all_next.new.net)
-    (AreNextValues c.args.rtl.now c.args.bits.now c.args.net.now c.lower_all_next.new.net) c.lower_all_next.result
+    on_ok_weaker
+    c.lower_all_next.result
     (all_next c.args.rtl.now c.args.bits.now c.in-Some.index c.named.result c.args.net.now c.lower_all_next.new.net
     c.in-Some.is
     (subst (λ (xs : List (Option Rails)). Named xs c.in-Some.index c.named.result) c.as_slice.ensures

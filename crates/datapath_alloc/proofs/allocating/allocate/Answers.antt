@@ -1,4 +1,5 @@
 use Rattle.std.proofs.Common.{List, subst, sym}
+use Rattle.std.proofs.lemmas.Result.{IfOk-weaker}
 use Rattle.nor_net.specs.declared.net.Part.{Part}
 use Rattle.rtl_form.specs.Cost.{cost}
 use Rattle.control_nor.specs.Lowering.{IsLowered}
@@ -13,7 +14,6 @@ use Rattle.datapath_alloc.proofs.Ending.{complete}
 use Rattle.datapath_alloc.proofs.Finished.{allocated, allocated_once, narrow, within}
 use Rattle.datapath_alloc.proofs.Marks.{nothing_made}
 use Rattle.datapath_alloc.proofs.Reaching.{reset_named}
-use Rattle.datapath_sharing.proofs.Results.{ok_then}
 use Rattle.datapath_alloc.proofs.allocating.allocate.Goals as goal
 
 pub reset_of-reset-requires : goal.reset_of-reset-requires
@@ -47,19 +47,19 @@ finish-requires-clause-complete c =
 pub returns-clause-allocated : goal.returns-clause-allocated
 returns-clause-allocated c =
     let m = c.add_next_values.new.making in
-    ok_then (IsFinished c.args.rtl.now m) (IsAllocated c.args.rtl.now) c.finish.result
+    IfOk-weaker c.finish.result (IsFinished c.args.rtl.now m) (IsAllocated c.args.rtl.now)
     (λ p fin. allocated c.args.rtl.now m.control m.names m p c.in_ok-add_next_values.ensures.made fin) c.finish.ensures
 
 pub returns-clause-within : goal.returns-clause-within
 returns-clause-within c =
     let m = c.add_next_values.new.making in
-    ok_then (IsFinished c.args.rtl.now m) (IsWithin (cost c.args.rtl.now)) c.finish.result
+    IfOk-weaker c.finish.result (IsFinished c.args.rtl.now m) (IsWithin (cost c.args.rtl.now))
     (λ p fin. within c.args.rtl.now m.control m.names m p c.in_ok-add_next_values.ensures.made fin) c.finish.ensures
 
 pub returns-clause-narrow : goal.returns-clause-narrow
 returns-clause-narrow c =
     let m = c.add_next_values.new.making in
-    ok_then (IsFinished c.args.rtl.now m) (IsNarrow (cost c.args.rtl.now)) c.finish.result
+    IfOk-weaker c.finish.result (IsFinished c.args.rtl.now m) (IsNarrow (cost c.args.rtl.now))
     (λ p fin. narrow c.args.rtl.now m.control m.names m p c.in_ok-add_next_values.ensures.made fin) c.finish.ensures
 
 pub returns-clause-once : goal.returns-clause-once
@@ -70,6 +70,6 @@ returns-clause-once c =
     let shared = subst (λ n. SharesNets c.args.rtl.now n m.words m.lifts) (sym same.names)
     (subst (λ ws. SharesNets c.args.rtl.now was.names ws m.lifts) (sym same.words)
     (subst (SharesNets c.args.rtl.now was.names was.words) (sym same.lifts) c.in_ok-add_tasks.ensures.shared)) in
-    ok_then (IsFinished c.args.rtl.now m) (IsAllocatedOnce c.args.rtl.now) c.finish.result
+    IfOk-weaker c.finish.result (IsFinished c.args.rtl.now m) (IsAllocatedOnce c.args.rtl.now)
     (λ p fin. allocated_once c.args.rtl.now m.control m.names m p c.in_ok-add_next_values.ensures.made fin shared)
     c.finish.ensures

@@ -1,10 +1,11 @@
 use Rattle.std.proofs.Common.{ap, arith, suc}
+use Rattle.std.proofs.lemmas.Bool.{not-false}
 use Rattle.rtl_form.specs.Environment.{is_driven}
 use Rattle.datapath_making.specs.Steps.{IsPortMade, IsSlaveMade, IsStep}
 use Rattle.datapath_alloc.specs.Progress.{IsMadeTo}
 use Rattle.datapath_alloc.proofs.Marks.{rebased}
 use Rattle.datapath_alloc.proofs.Reaching.{free_first, free_pad}
-use Rattle.datapath_sharing.proofs.Results.{done_two, not_false}
+use Rattle.datapath_sharing.proofs.Results.{done_two}
 use Rattle.datapath_alloc.proofs.Rounds.{port_done, room, slave_done}
 use Rattle.datapath_alloc.proofs.latches.add_latch.Goals as goal
 
@@ -42,7 +43,7 @@ add_port-requires-clause-pad c =
       c.at-cell.result.now,
       (c.requires.cell, c.at-cell.ensures),
       c.in-Input.is,
-      not_false c.at-cell.result.now.word c.if-not-cell.false,
+      not-false c.at-cell.result.now.word c.if-not-cell.false,
     ) p.begun p.cells
 
 pub returns-in-Input-clause-made : goal.returns-in-Input-clause-made
@@ -56,7 +57,7 @@ returns-in-Input-clause-made c =
       c.at-cell.result.now,
       (c.requires.cell, c.at-cell.ensures),
       c.in-Input.is,
-      not_false c.at-cell.result.now.word c.if-not-cell.false,
+      not-false c.at-cell.result.now.word c.if-not-cell.false,
     ) step port))
     c.add_port.ensures.step c.add_port.ensures.port
 
@@ -71,6 +72,6 @@ returns-in-Stored-clause-made c =
       c.at-cell.result.now,
       (c.requires.cell, c.at-cell.ensures),
       c.in-Stored.is,
-      not_false c.at-cell.result.now.word c.if-not-cell.false,
+      not-false c.at-cell.result.now.word c.if-not-cell.false,
     ) step slave))
     c.add_slave.ensures.step c.add_slave.ensures.slave

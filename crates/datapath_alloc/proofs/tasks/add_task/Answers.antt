@@ -1,4 +1,5 @@
 use Rattle.std.proofs.Common.{◌+◌, ◌*◌, ◌∙◌, Some, suc, length, refl, ap, subst, sym, arith}
+use Rattle.std.proofs.lemmas.Result.{on_ok_weaker}
 use Rattle.rtl_form.specs.declared.rtl.RtlExpr.TheVariants.{Apply, Number}
 use Rattle.rtl_form.specs.declared.rtl.RtlExpr.TheVariants as exprs
 use Rattle.rtl_form.specs.declared.rtl.Cell as cells
@@ -8,15 +9,13 @@ use Rattle.control_nor.specs.declared.names.Task.TheVariants.{Cell, Expr}
 use Rattle.path_values.specs.Allocated.{transfers_to}
 use Rattle.datapath_making.specs.Steps.{IsDrivenMade, IsNumberMade, IsStep, read_cell}
 use Rattle.datapath_making.specs.WellMade.{IsWellMade}
-use Rattle.datapath_alloc.specs.Progress.{IsMadeTo, KeepsMarks}
-use Rattle.datapath_sharing.specs.Asking.{IsAnswered}
+use Rattle.datapath_alloc.specs.Progress.{IsMadeTo}
 use Rattle.datapath_alloc.specs.Noting.{IsSharing}
-use Rattle.datapath_sharing.specs.Sharing.{IsShared}
 use Rattle.datapath_alloc.proofs.Idle.{bit_cell_done, read_done, truth_done}
 use Rattle.datapath_alloc.proofs.Marks.{rebased}
 use Rattle.datapath_alloc.proofs.Operating.{answer_keeps, answered, asked}
 use Rattle.datapath_alloc.proofs.Reaching.{cell_reads, free_cell, free_word, transfers_reached}
-use Rattle.datapath_sharing.proofs.Results.{done_one, done_two}
+use Rattle.datapath_sharing.proofs.Results.{done_two}
 use Rattle.datapath_alloc.proofs.Rounds.{room, room_task}
 use Rattle.datapath_alloc.proofs.Noting.{cell_on, nothing_on, shared_on}
 use Rattle.datapath_sharing.proofs.Sharing.{all_last, read_stays, stays_same}
@@ -162,8 +161,8 @@ returns-in-Apply-clause-made c =
     (Apply c.in-Apply.op c.in-Apply.index c.as_slice.result.now)
     = subst (IsAt c.args.rtl.now.exprs c.in-Expr.expr)
     (c.in-Apply.is ∙ ap (Apply c.in-Apply.op c.in-Apply.index) (sym c.as_slice.ensures)) (l, c.at.ensures) in
-    done_one (IsAnswered c.in-Expr.expr c.in-Apply.op c.in-Apply.index c.as_slice.result.now m new)
-    (IsMadeTo c.args.rtl.now (length c.args.rtl.now.cells) (suc c.args.index) 0 new) c.add_operator.result
+    on_ok_weaker
+    c.add_operator.result
     (λ h. rebased c.args.rtl.now m.control m.names (length c.args.rtl.now.cells) (suc c.args.index) 0 new
     (answered c.args.rtl.now m.control m.names m c.args.index p c.in-Expr.expr c.in-Apply.op c.in-Apply.index
     c.as_slice.result.now is at new h))
@@ -173,8 +172,8 @@ pub returns-in-Apply-clause-marks : goal.returns-in-Apply-clause-marks
 returns-in-Apply-clause-marks c =
     let m = c.args.making.now in
     let new = c.add_operator.new.making in
-    done_one (IsAnswered c.in-Expr.expr c.in-Apply.op c.in-Apply.index c.as_slice.result.now m new)
-    (KeepsMarks m new) c.add_operator.result
+    on_ok_weaker
+    c.add_operator.result
     (answer_keeps c.in-Expr.expr c.in-Apply.op c.in-Apply.index c.as_slice.result.now m new)
     c.add_operator.ensures.answered
 
@@ -216,7 +215,7 @@ returns-in-Number-clause-sharing c =
     let l = c.requires.made.given.lowered.placed.schedule.only c.args.index (Expr c.in-Expr.expr) is in
     let at : IsAt r.exprs c.in-Expr.expr (Number c.in-Number.bits)
     = subst (IsAt r.exprs c.in-Expr.expr) c.in-Number.is (l, c.at.ensures) in
-    done_one (IsShared c.in-Expr.expr (Number c.in-Number.bits) b now m new) (IsSharing r (suc c.args.index) now new)
+    on_ok_weaker
     c.add_number.result
     (shared_on r c.args.index b m c.requires.sharing now new c.in-Expr.expr (Number c.in-Number.bits) is at)
     c.add_number.ensures.shared
@@ -261,8 +260,8 @@ returns-in-Apply-clause-sharing c =
     let at : IsAt r.exprs e (Apply c.in-Apply.op c.in-Apply.index c.as_slice.result.now)
     = subst (IsAt r.exprs e)
     (c.in-Apply.is ∙ ap (Apply c.in-Apply.op c.in-Apply.index) (sym c.as_slice.ensures)) (l, c.at.ensures) in
-    done_one (IsShared e (Apply c.in-Apply.op c.in-Apply.index c.as_slice.result.now) b now m new)
-    (IsSharing r (suc c.args.index) now new) c.add_operator.result
+    on_ok_weaker
+    c.add_operator.result
     (shared_on r c.args.index b m c.requires.sharing now new e
     (Apply c.in-Apply.op c.in-Apply.index c.as_slice.result.now) is at)
     c.add_operator.ensures.shared

@@ -1,9 +1,9 @@
 use Rattle.std.proofs.Common.{◌≡◌, ◌∙◌, List, length, refl, ap, subst}
+use Rattle.mp_base.proofs.SamePads.{same_pads}
 use Rattle.path_order.specs.declared.order.Mark.{Mark}
 use Rattle.path_order.specs.Order.{order_from, start}
 use Rattle.datapath_making.specs.Steps.{marked}
 use Rattle.datapath_making.specs.WellMade.{IsWellMade}
-use Rattle.datapath_finish.proofs.SamePads.{same_pads}
 use Rattle.datapath_finish.proofs.WholePath.{finished_now, whole_now}
 use Rattle.datapath_finish.proofs.finishing.finish.Goals as goal
 

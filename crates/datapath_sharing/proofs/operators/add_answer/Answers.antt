@@ -1,5 +1,6 @@
 use Rattle.std.proofs.Common.{◌≡◌, ◌-◌, ◌<◌, ◌∙◌, ℕ, List, Option, Some, false, get_or, length, sym, subst, arith}
 use Rattle.std.specs.Prelude.{slice_get}
+use Rattle.std.proofs.lemmas.Result.{on_ok_weaker}
 use Rattle.mp_base.specs.declared.op.Op.{Op}
 use Rattle.nor_net.specs.declared.net.NetId.{NetId}
 use Rattle.rtl_form.specs.Cost.{op_cost}
@@ -9,8 +10,9 @@ use Rattle.path_form.specs.declared.path.Lift.{Lift}
 use Rattle.datapath_making.specs.Steps.{IsStep, IsTestMade}
 use Rattle.datapath_making.proofs.Tables.{some_taken}
 use Rattle.datapath_sharing.specs.Sharing.{IsLiftMade, IsShared, key_of, number_in, operator_in, same_key}
-use Rattle.datapath_sharing.proofs.Shares.{answer_again, answer_noted, answer_shared, done_three, some_lifts, step_within, tests_cost}
-use Rattle.datapath_sharing.proofs.Results.{done_one, done_two}
+use Rattle.datapath_sharing.proofs.Shares.{answer_again, answer_noted, answer_shared, done_three, some_lifts}
+use Rattle.datapath_sharing.proofs.Shares.{step_within, tests_cost}
+use Rattle.datapath_sharing.proofs.Results.{done_two}
 use Rattle.datapath_sharing.proofs.operators.add_answer.Goals as goal
 
 pub net_of-first-requires : goal.net_of-first-requires
@@ -40,7 +42,7 @@ pub returns-in-Some-clause-step : goal.returns-in-Some-clause-step
 returns-in-Some-clause-step c =
     let m = c.args.making.now in
     let new = c.add_lift.new.making in
-    done_one (IsStep 1 1 m new) (IsStep (op_cost c.args.op (length c.args.args.now)) 1 m new) c.add_lift.result
+    on_ok_weaker c.add_lift.result
     (step_within 1 1 (op_cost c.args.op (length c.args.args.now)) 1 m new
     (tests_cost c.args.op (length c.args.args.now) c.requires.words c.requires.bit) (omega arith))
     c.add_lift.ensures.step
@@ -60,7 +62,8 @@ returns-in-Some-clause-test c =
     c.as_slice-2.ensures c.net_of-last.ensures in
     let new = c.add_lift.new.making in
     done_two (IsStep 1 1 m new) (IsLiftMade e c.in-Some.from m new) (IsTestMade e op args m new) c.add_lift.result
-    (λ step lifted. let names = step.grows.names in answer_again e op c.args.index args b m first last c.requires.built is_first is_last c.requires.bit new
+    (λ step lifted. let names = step.grows.names in
+    answer_again e op c.args.index args b m first last c.requires.built is_first is_last c.requires.bit new
     names lifted.words c.in-Some.from (sym c.operator.ensures ∙ c.in-Some.is) lifted)
     c.add_lift.ensures.step c.add_lift.ensures.lift
 
@@ -80,7 +83,8 @@ returns-in-Some-clause-shared c =
     let new = c.add_lift.new.making in
     done_two (IsStep 1 1 m new) (IsLiftMade e c.in-Some.from m new) (IsShared e (Apply op c.args.index args) b b m new)
     c.add_lift.result
-    (λ step lifted. let names = step.grows.names in answer_shared e op c.args.index args b m first last c.requires.built is_first is_last c.requires.bit new
+    (λ step lifted. let names = step.grows.names in
+    answer_shared e op c.args.index args b m first last c.requires.built is_first is_last c.requires.bit new
     names lifted.words c.in-Some.from (sym c.operator.ensures ∙ c.in-Some.is) lifted)
     c.add_lift.ensures.step c.add_lift.ensures.lift
 

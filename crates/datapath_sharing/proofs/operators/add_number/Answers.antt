@@ -6,7 +6,8 @@ use Rattle.rtl_form.specs.declared.rtl.RtlExpr.TheVariants.{Number}
 use Rattle.control_nor.specs.Lowering.{Stands}
 use Rattle.datapath_making.specs.Steps.{IsNumberMade}
 use Rattle.datapath_sharing.specs.Sharing.{IsShared, number_in, operator_in}
-use Rattle.datapath_sharing.proofs.Shares.{done_three, number_again, number_noted, number_shared, number_stands, step_within}
+use Rattle.datapath_sharing.proofs.Shares.{done_three, number_again, number_noted, number_shared, number_stands}
+use Rattle.datapath_sharing.proofs.Shares.{step_within}
 use Rattle.datapath_sharing.proofs.operators.add_number.Goals as goal
 
 pub share_word-requires-clause-expr : goal.share_word-requires-clause-expr
@@ -57,7 +58,8 @@ returns-in_ok-add_number-in-None-clause-shared c =
     done_three (number_in now bits ≡ Some word) ((n : ℕ) → n ≢ bits → number_in now n ≡ number_in b n)
     ((op : Op) (x y : NetId) → operator_in now op x y ≡ operator_in b op x y) (IsShared e (Number bits) b now m new)
     c.note_number.result
-    (λ here others operators. number_noted e bits b now m new word c.requires.built c.in_ok-add_number-in-None.ensures.step
+    (λ here others operators. number_noted e bits b now m new word c.requires.built
+    c.in_ok-add_number-in-None.ensures.step
     c.in_ok-add_number-in-None.ensures.number stands (sym c.number.ensures ∙ c.in-None.is) c.requires.free here
     others operators)
     c.note_number.ensures.here c.note_number.ensures.others c.note_number.ensures.operators

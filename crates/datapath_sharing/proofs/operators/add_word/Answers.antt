@@ -8,7 +8,8 @@ use Rattle.control_nor.specs.Lowering.{Stands}
 use Rattle.datapath_making.specs.Steps.{IsOperatorMade}
 use Rattle.datapath_making.proofs.Tables.{some_taken}
 use Rattle.datapath_sharing.specs.Sharing.{IsShared, key_of, number_in, operator_in, same_key}
-use Rattle.datapath_sharing.proofs.Shares.{done_three, operator_stands, step_within, word_again, word_noted, word_shared}
+use Rattle.datapath_sharing.proofs.Shares.{done_three, operator_stands, step_within, word_again, word_noted}
+use Rattle.datapath_sharing.proofs.Shares.{word_shared}
 use Rattle.datapath_sharing.proofs.operators.add_word.Goals as goal
 
 pub net_of-first-requires : goal.net_of-first-requires
@@ -101,13 +102,15 @@ returns-in_ok-add_operator-in-None-clause-shared c =
     let new = c.add_operator.new.making in
     let now = c.note_operator.new.self in
     let word = c.net_of-word.result in
-    let stands = subst (λ (ws : List (Option NetId)). Stands ws e word) c.as_slice-in-None.ensures c.net_of-word.ensures in
+    let stands =
+    subst (λ (ws : List (Option NetId)). Stands ws e word) c.as_slice-in-None.ensures c.net_of-word.ensures in
     done_three (operator_in now op first last ≡ Some word)
     ((q : Op) (x y : NetId) → same_key (key_of op first last) (key_of q x y) ≡ false
     → operator_in now q x y ≡ operator_in b q x y)
     ((n : ℕ) → number_in now n ≡ number_in b n) (IsShared e (Apply op c.args.index args) b now m new)
     c.note_operator.result
     (λ here others numbers. word_noted e op c.args.index args b m first last c.requires.built is_first is_last
-    c.requires.word c.requires.asked.free now new word (op_cost op (length args)) c.in_ok-add_operator-in-None.ensures.step
+    c.requires.word c.requires.asked.free now new word
+    (op_cost op (length args)) c.in_ok-add_operator-in-None.ensures.step
     c.in_ok-add_operator-in-None.ensures.operator stands (sym c.operator.ensures ∙ c.in-None.is) here others numbers)
     c.note_operator.ensures.here c.note_operator.ensures.others c.note_operator.ensures.numbers

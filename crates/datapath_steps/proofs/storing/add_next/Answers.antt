@@ -1,9 +1,9 @@
 use Rattle.std.proofs.Common.{◌-◌, ◌<◌, ◌∙◌, List, Option, length, subst, arith}
 use Rattle.std.proofs.lemmas.List.Elements.{All-weaker}
+use Rattle.std.proofs.lemmas.Slice.Zip.{AllZip-long}
 use Rattle.nor_net.specs.declared.net.NetId.{NetId}
 use Rattle.rtl_form.specs.declared.rtl.Transfer.{Transfer}
 use Rattle.control_nor.specs.Lowering.{Stands}
-use Rattle.control_nor.proofs.Zipping.{zip_length}
 use Rattle.path_values.specs.Allocated.{IsGuard, IsTerm, transfers_to}
 use Rattle.datapath_steps.specs.Continuing.{AreTerms}
 use Rattle.datapath_steps.proofs.Continuing.{cast_within, terms_in}
@@ -16,9 +16,9 @@ add_source-requires-clause-inputs_room c =
     c.in_ok-terms.terms =
     subst (λ (ts : List Transfer). AreTerms ts c.args.making.now c.add_terms.new.making c.in_ok-terms.terms)
     (c.as_slice.ensures ∙ c.in_ok-transfers.ensures) c.in_ok-terms.ensures in
-    let n = zip_length (IsTerm c.add_terms.new.making.slices c.add_terms.new.making.casts c.args.making.now.names
+    let n = AllZip-long (IsTerm c.add_terms.new.making.slices c.add_terms.new.making.casts c.args.making.now.names
     c.args.making.now.words) (transfers_to c.args.rtl.now c.args.cell) c.in_ok-terms.terms.nets are.are_terms in
-    let g = zip_length (λ (t : Transfer) g. IsGuard c.add_terms.new.making.casts c.args.making.now.names t.guard g)
+    let g = AllZip-long (λ (t : Transfer) g. IsGuard c.add_terms.new.making.casts c.args.making.now.names t.guard g)
     (transfers_to c.args.rtl.now c.args.cell) c.in_ok-terms.terms.guards are.are_guards in
     let a = are.continues.bounded.inputs in
     let b = c.in_ok-clear.ensures.continues.bounded.inputs in
@@ -43,9 +43,9 @@ add_masters-requires-clause-inputs_room c =
     c.in_ok-terms.terms =
     subst (λ (ts : List Transfer). AreTerms ts c.args.making.now c.add_terms.new.making c.in_ok-terms.terms)
     (c.as_slice.ensures ∙ c.in_ok-transfers.ensures) c.in_ok-terms.ensures in
-    let n = zip_length (IsTerm c.add_terms.new.making.slices c.add_terms.new.making.casts c.args.making.now.names
+    let n = AllZip-long (IsTerm c.add_terms.new.making.slices c.add_terms.new.making.casts c.args.making.now.names
     c.args.making.now.words) (transfers_to c.args.rtl.now c.args.cell) c.in_ok-terms.terms.nets are.are_terms in
-    let g = zip_length (λ (t : Transfer) g. IsGuard c.add_terms.new.making.casts c.args.making.now.names t.guard g)
+    let g = AllZip-long (λ (t : Transfer) g. IsGuard c.add_terms.new.making.casts c.args.making.now.names t.guard g)
     (transfers_to c.args.rtl.now c.args.cell) c.in_ok-terms.terms.guards are.are_guards in
     let a = are.continues.bounded.inputs in
     let b = c.in_ok-clear.ensures.continues.bounded.inputs in

@@ -1,7 +1,7 @@
 use Rattle.std.proofs.Common.{◌<◌, List, None, ◌∙◌, length, ap, subst, sym, arith}
 use Rattle.std.specs.Prelude.{All}
 use Rattle.std.proofs.lemmas.Option.{slice_get_within}
-use Rattle.control_nor.proofs.Zipping.{zip_length}
+use Rattle.std.proofs.lemmas.Slice.Zip.{AllZip-long}
 use Rattle.nor_net.specs.declared.net.NetId.{NetId}
 use Rattle.rtl_form.specs.declared.rtl.Transfer.{Transfer}
 use Rattle.path_values.specs.Allocated.{IsTerm, transfers_to}
@@ -16,7 +16,7 @@ add_gate-requires-clause-inputs_room c =
     c.in_ok-terms.terms =
     subst (λ (ts : List Transfer). AreTerms ts c.args.making.now c.add_terms.new.making c.in_ok-terms.terms)
     (c.as_slice.ensures ∙ c.in_ok-transfers.ensures) c.in_ok-terms.ensures in
-    let n = zip_length (IsTerm c.add_terms.new.making.slices c.add_terms.new.making.casts c.args.making.now.names
+    let n = AllZip-long (IsTerm c.add_terms.new.making.slices c.add_terms.new.making.casts c.args.making.now.names
     c.args.making.now.words) (transfers_to c.args.rtl.now c.args.cell) c.in_ok-terms.terms.nets t.are_terms in
     let b = t.continues.bounded.inputs in
     let s = ap length c.as_slice-2.ensures in
@@ -35,7 +35,7 @@ add_gate-requires-2-clause-inputs_room c =
     c.in_ok-terms.terms =
     subst (λ (ts : List Transfer). AreTerms ts c.args.making.now c.add_terms.new.making c.in_ok-terms.terms)
     (c.as_slice.ensures ∙ c.in_ok-transfers.ensures) c.in_ok-terms.ensures in
-    let n = zip_length (IsTerm c.add_terms.new.making.slices c.add_terms.new.making.casts c.args.making.now.names
+    let n = AllZip-long (IsTerm c.add_terms.new.making.slices c.add_terms.new.making.casts c.args.making.now.names
     c.args.making.now.words) (transfers_to c.args.rtl.now c.args.cell) c.in_ok-terms.terms.nets t.are_terms in
     let b = t.continues.bounded.inputs in
     let o = c.in_ok-off.ensures.continues.bounded.inputs in

@@ -37,5 +37,6 @@ loop-transfer-preserved c =
     (record { nets = c.loop-transfer.nets ++ c.in_ok-term.term.net ∷ []; guards = gs }))
     (sym c.in_ok-push-2.ensures.ok)
     (terms_more c.args.transfers.now i (record { guard = 0; target = 0; value = 0 }) c.args.making.now
-    c.loop-transfer.making c.add_term.new.making (record { nets = c.loop-transfer.nets; guards = c.loop-transfer.guards })
+    c.loop-transfer.making c.add_term.new.making
+    (record { nets = c.loop-transfer.nets; guards = c.loop-transfer.guards })
     c.in_ok-term.term c.loop-transfer-test.true c.loop-transfer.invariant c.in_ok-term.ensures))

@@ -18,14 +18,16 @@ use Rattle.extractor.proofs.Extracting.{among, labelled, refuses}
 use Rattle.extractor.proofs.extraction.labelled.Goals as goal
 
 -- what is drawn, of the labels' places
-drawn_at : (shapes : List Rect) (labels : List FlatLabel) (d : Drawing) {places now : List Point} → places ≡ map point_of labels → now ≡ places
+drawn_at : (shapes : List Rect) (labels : List FlatLabel) (d : Drawing) {places now : List Point}
+    → places ≡ map point_of labels → now ≡ places
     → IsDrawn shapes now d → IsDrawn shapes (map point_of labels) d
 drawn_at shapes labels d p n h = subst (λ ps. IsDrawn shapes ps d) (n ∙ p) h
 
 -- the nodes that labels name, of the columns
 named_at : (labels : List FlatLabel) (d : Drawing) (named : List (Option ℕ)) {m p e : List (Option ℕ)}
     → m ≡ d.metal → p ≡ d.polysilicon → e ≡ d.diffusion
-    → AreNamed labels m p e (length labels) named → AreNamed labels d.metal d.polysilicon d.diffusion (length labels) named
+    → AreNamed labels m p e (length labels) named
+    → AreNamed labels d.metal d.polysilicon d.diffusion (length labels) named
 named_at labels d named {p = p} {e = e} a b k h =
     subst (λ x. AreNamed labels d.metal d.polysilicon x (length labels) named) k
     (subst (λ x. AreNamed labels d.metal x e (length labels) named) b
@@ -48,14 +50,16 @@ nodes_named-requires-clause-polysilicon c =
     let labels : List FlatLabel = c.args.labels.now in
     let d : Drawing = c.in_ok-nodes.field-0 in
     let h = drawn_at c.args.shapes.now labels d c.in_ok-places.ensures c.as_slice.ensures c.in_ok-nodes.ensures in
-    long_at labels d.polysilicon c.as_slice-3.ensures (column_long c.args.shapes.now h.nodes labels NP d.polysilicon h.on_polysilicon)
+    long_at labels d.polysilicon c.as_slice-3.ensures
+    (column_long c.args.shapes.now h.nodes labels NP d.polysilicon h.on_polysilicon)
 
 pub nodes_named-requires-clause-diffusion : goal.nodes_named-requires-clause-diffusion
 nodes_named-requires-clause-diffusion c =
     let labels : List FlatLabel = c.args.labels.now in
     let d : Drawing = c.in_ok-nodes.field-0 in
     let h = drawn_at c.args.shapes.now labels d c.in_ok-places.ensures c.as_slice.ensures c.in_ok-nodes.ensures in
-    long_at labels d.diffusion c.as_slice-4.ensures (column_long c.args.shapes.now h.nodes labels ND d.diffusion h.on_diffusion)
+    long_at labels d.diffusion c.as_slice-4.ensures
+    (column_long c.args.shapes.now h.nodes labels ND d.diffusion h.on_diffusion)
 
 pub returns-in_err-tags-clause-err : goal.returns-in_err-tags-clause-err
 returns-in_err-tags-clause-err c =
@@ -64,9 +68,11 @@ returns-in_err-tags-clause-err c =
     let d : Drawing = c.in_ok-nodes.field-0 in
     let named : List (Option ℕ) = c.in_ok-named.named in
     let h = drawn_at shapes labels d c.in_ok-places.ensures c.as_slice.ensures c.in_ok-nodes.ensures in
-    let are = named_at labels d named c.as_slice-2.ensures c.as_slice-3.ensures c.as_slice-4.ensures c.in_ok-named.ensures in
+    let are =
+    named_at labels d named c.as_slice-2.ensures c.as_slice-3.ensures c.as_slice-4.ensures c.in_ok-named.ensures in
     let e : Refusal = c.in_err-tags.field-0.0 in
-    let first : RefusesFirst labels named e = subst (λ ns. RefusesFirst labels ns e) c.as_slice-5.ensures c.in_err-tags.ensures.refused in
+    let first : RefusesFirst labels named e =
+    subst (λ ns. RefusesFirst labels ns e) c.as_slice-5.ensures c.in_err-tags.ensures.refused in
     let told : RefusesMask shapes labels e = refuses shapes labels d h named are e first in
     let p = err_from_is_err_and c.from_residual-in_err-tags.result c.from_residual-in_err-tags.ensures.1 in
     let P : Refusal → Type 0 = RefusesMask shapes labels in
@@ -81,8 +87,10 @@ unwrap-requires c =
     let named : List (Option ℕ) = c.in_ok-named.named in
     let tags : List Tag = c.in_ok-tags.tags in
     let h = drawn_at shapes labels d c.in_ok-places.ensures c.as_slice.ensures c.in_ok-nodes.ensures in
-    let are = named_at labels d named c.as_slice-2.ensures c.as_slice-3.ensures c.as_slice-4.ensures c.in_ok-named.ensures in
-    let tagged = subst (λ ns. AreTagged labels ns (length labels) tags) c.as_slice-5.ensures c.in_ok-tags.ensures.tags in
+    let are =
+    named_at labels d named c.as_slice-2.ensures c.as_slice-3.ensures c.as_slice-4.ensures c.in_ok-named.ensures in
+    let tagged =
+    subst (λ ns. AreTagged labels ns (length labels) tags) c.as_slice-5.ensures c.in_ok-tags.ensures.tags in
     c.checked.ensures.among.1 (among shapes labels d h named are tags tagged c.in-Ok.nodes c.in-Ok.ensures.1)
 
 pub returns-clause-ok : goal.returns-clause-ok
@@ -93,8 +101,10 @@ returns-clause-ok c =
     let named : List (Option ℕ) = c.in_ok-named.named in
     let tags : List Tag = c.in_ok-tags.tags in
     let h = drawn_at shapes labels d c.in_ok-places.ensures c.as_slice.ensures c.in_ok-nodes.ensures in
-    let are = named_at labels d named c.as_slice-2.ensures c.as_slice-3.ensures c.as_slice-4.ensures c.in_ok-named.ensures in
-    let tagged = subst (λ ns. AreTagged labels ns (length labels) tags) c.as_slice-5.ensures c.in_ok-tags.ensures.tags in
+    let are =
+    named_at labels d named c.as_slice-2.ensures c.as_slice-3.ensures c.as_slice-4.ensures c.in_ok-named.ensures in
+    let tagged =
+    subst (λ ns. AreTagged labels ns (length labels) tags) c.as_slice-5.ensures c.in_ok-tags.ensures.tags in
     let P : Network → Type 0 = λ n. (n.nodes ≡ c.in-Ok.nodes) × (n.channels ≡ d.channels) × (n.tags ≡ tags) in
     let Q : Option Network → Type 0 = λ o. IfSome o P in
     let k : P c.unwrap.result = subst Q c.unwrap.ensures c.checked.ensures.parts in

@@ -2,4 +2,5 @@ use Rattle.std.proofs.lemmas.Map.Text.{btree_map_updates_str}
 use Rattle.extractor.proofs.tags.note.Goals as goal
 
 pub returns : goal.returns
-returns c = λ q. btree_map_updates_str c.args.name.now c.args.seen.now c.insert.new.self _ c.in_ok-insert.ensures.updates q
+returns c =
+    λ q. btree_map_updates_str c.args.name.now c.args.seen.now c.insert.new.self _ c.in_ok-insert.ensures.updates q

@@ -9,15 +9,22 @@ pub returns-clause-whole : goal.returns-clause-whole
 returns-clause-whole c = (c.in_ok-items.ensures.found.ended refl).whole
 
 pub returns-clause-sound : goal.returns-clause-sound
-returns-clause-sound c = sound c.args.bytes.now _ (spells_all c.args.bytes.now 0 c.new-nodes.result c.list.new.nodes c.in_ok-items.field-0.items c.in_ok-items.field-0.end c.new-nodes.ensures c.in_ok-items.ensures.found)
+returns-clause-sound c =
+    sound c.args.bytes.now _
+    (spells_all c.args.bytes.now 0 c.new-nodes.result c.list.new.nodes c.in_ok-items.field-0.items
+    c.in_ok-items.field-0.end c.new-nodes.ensures c.in_ok-items.ensures.found)
 
 pub returns-clause-symbols : goal.returns-clause-symbols
 returns-clause-symbols c =
-    has_symbols c.args.bytes.now _ (spells_all c.args.bytes.now 0 c.new-nodes.result c.list.new.nodes c.in_ok-items.field-0.items c.in_ok-items.field-0.end c.new-nodes.ensures c.in_ok-items.ensures.found)
+    has_symbols c.args.bytes.now _
+    (spells_all c.args.bytes.now 0 c.new-nodes.result c.list.new.nodes c.in_ok-items.field-0.items
+    c.in_ok-items.field-0.end c.new-nodes.ensures c.in_ok-items.ensures.found)
 
 pub returns-clause-read : goal.returns-clause-read
 returns-clause-read c = λ f spells.
-    one_value c.args.bytes.now _ f (spells_all c.args.bytes.now 0 c.new-nodes.result c.list.new.nodes c.in_ok-items.field-0.items c.in_ok-items.field-0.end c.new-nodes.ensures c.in_ok-items.ensures.found) spells
+    one_value c.args.bytes.now _ f
+    (spells_all c.args.bytes.now 0 c.new-nodes.result c.list.new.nodes c.in_ok-items.field-0.items
+    c.in_ok-items.field-0.end c.new-nodes.ensures c.in_ok-items.ensures.found) spells
 
 pub returns-in_err-items-clause-read : goal.returns-in_err-items-clause-read
 returns-in_err-items-clause-read c = λ f spells.

@@ -7,7 +7,8 @@ pub loop-i-preserved : goal.loop-i-preserved
 loop-i-preserved c =
     let xs = c.args.bytes.now in
     record {
-      run = all_more is_token xs c.args.from.offset c.loop-i.i c.loop-i.auto.i c.loop-i-test.true c.loop-i.invariant.run (sym c.is_token.ensures ∙ c.if-not-is_token.false);
+      run = all_more is_token xs c.args.from.offset c.loop-i.i c.loop-i.auto.i c.loop-i-test.true
+          c.loop-i.invariant.run (sym c.is_token.ensures ∙ c.if-not-is_token.false);
       offset = offset_of xs c.behind-place.result _ c.behind-place.ensures ∙ ap (λ z. z + 1) c.loop-i.invariant.offset;
       place = own_place xs c.behind-place.result _ c.behind-place.ensures;
     }

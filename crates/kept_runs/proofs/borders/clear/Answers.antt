@@ -1,4 +1,4 @@
-use Rattle.std.proofs.Common.{◌≡◌, ℕ, false, ◌+◌, inl, inr, ◌∙◌, subst, sym, arith}
+use Rattle.std.proofs.Common.{◌≡◌, false, inl, inr, ◌∙◌, subst, sym, arith}
 use Rattle.std.proofs.lemmas.Bool.{cases_lt, cases_eq}
 use Rattle.cell_set.specs.Sets.{has}
 use Rattle.kept_runs.proofs.borders.clear.Goals as goal
@@ -18,6 +18,9 @@ loop-at-preserved c =
           | inr m ↦ s.none d m (omega arith)
         ]
       ];
-      beside = λ d h. c.remove.ensures.others d (λ e. let p = inv.order in elim h [ inl m ↦ absurd (omega arith) | inr m ↦ absurd (omega arith) ]) ∙ inv.beside d h;
+      beside =
+          λ d h. c.remove.ensures.others d
+          (λ e. let p = inv.order in elim h [ inl m ↦ absurd (omega arith) | inr m ↦ absurd (omega arith) ])
+          ∙ inv.beside d h;
       room = c.remove.ensures.room ∙ inv.room;
     }

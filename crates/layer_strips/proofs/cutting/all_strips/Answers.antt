@@ -5,7 +5,8 @@ use Rattle.layer_strips.proofs.cutting.all_strips.Goals as goal
 
 pub loop-number-preserved : goal.loop-number-preserved
 loop-number-preserved c =
-    up_more c.args.shapes.now c.loop-number.number c.layer.result c.loop-number.strips c.add_layer.new.strips c.layer.ensures c.in_ok-add_layer.ensures
+    up_more c.args.shapes.now c.loop-number.number c.layer.result c.loop-number.strips c.add_layer.new.strips
+    c.layer.ensures c.in_ok-add_layer.ensures
     c.loop-number.invariant
 
 pub returns : goal.returns

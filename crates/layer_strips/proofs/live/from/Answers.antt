@@ -14,5 +14,8 @@ pub returns-in-Some : goal.returns-in-Some
 returns-in-Some c =
     let p = c.args.place in
     let fits : FitsSigned w64 c.in-Some.right.now = search rules in
-    rw (to_z-of_z w64 c.in-Some.right.now fits) (first_is c.args.live.now (Included p) (λ k. p ≤ℤ k) _ _ (c.in-Some.right.now, c.in-Some.index.now)
-    (subst (λ k. IsRangeOf int_cmp (Included k) Unbounded c.args.live.now c.range.result) (to_z-of_z w64 p c.ranges.place) (c.range.ensures.in_range tt)) c.in-Some.ensures.steps (to_included p) (from_included p c.in-Some.right.now))
+    rw (to_z-of_z w64 c.in-Some.right.now fits)
+    (first_is c.args.live.now (Included p) (λ k. p ≤ℤ k) _ _ (c.in-Some.right.now, c.in-Some.index.now)
+    (subst (λ k. IsRangeOf int_cmp (Included k) Unbounded c.args.live.now c.range.result)
+    (to_z-of_z w64 p c.ranges.place) (c.range.ensures.in_range tt)) c.in-Some.ensures.steps (to_included p)
+    (from_included p c.in-Some.right.now))

@@ -17,8 +17,12 @@ returns-in_ok-put-in-Begin c =
     let x : ℤ = (strip c.args.strips.now i).x1 in
     let fits : FitsSigned w64 x = search rules in
     let e = to_z-of_z w64 x fits in
-    subst (λ t. Does c.args.strips.now t i old new c.args.pairs.now c.args.pairs.now) (sym c.in-Begin.is)
-    (subst (λ k. new k ≡ Some i) e c.in_ok-put-in-Begin.ensures.here, subst (λ k. (q : ℤ) → q ≢ k → new q ≡ old q) e c.in_ok-put-in-Begin.ensures.others, refl)
+    subst (λ t. Does c.args.strips.now t i old new c.args.pairs.now c.args.pairs.now) (sym c.in-Begin.is) (
+      subst (λ k. new k ≡ Some i) e c.in_ok-put-in-Begin.ensures.here,
+      subst
+          (λ k. (q : ℤ) → q ≢ k → new q ≡ old q) e c.in_ok-put-in-Begin.ensures.others,
+      refl,
+    )
 
 pub returns-in-Finish : goal.returns-in-Finish
 returns-in-Finish c =
@@ -28,5 +32,9 @@ returns-in-Finish c =
     let x : ℤ = (strip c.args.strips.now i).x1 in
     let fits : FitsSigned w64 x = search rules in
     let e = to_z-of_z w64 x fits in
-    subst (λ t. Does c.args.strips.now t i old new c.args.pairs.now c.args.pairs.now) (sym c.in-Finish.is)
-    (subst (λ k. new k ≡ None) e c.cut.ensures.here, subst (λ k. (q : ℤ) → q ≢ k → new q ≡ old q) e c.cut.ensures.others, refl)
+    subst (λ t. Does c.args.strips.now t i old new c.args.pairs.now c.args.pairs.now) (sym c.in-Finish.is) (
+      subst (λ k. new k ≡ None) e c.cut.ensures.here,
+      subst
+          (λ k. (q : ℤ) → q ≢ k → new q ≡ old q) e c.cut.ensures.others,
+      refl,
+    )

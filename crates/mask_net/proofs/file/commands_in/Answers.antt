@@ -4,7 +4,8 @@ use Rattle.mask_net.proofs.file.commands_in.Goals as goal
 
 pub returns-clause-ok : goal.returns-clause-ok
 returns-clause-ok c =
-    IfOk-weaker c.read_cif.result _ _ (λ cif whole. record { read = c.scan_is_reading.ensures c.args.bytes.now cif whole; well_formed = whole })
+    IfOk-weaker c.read_cif.result _ _
+    (λ cif whole. record { read = c.scan_is_reading.ensures c.args.bytes.now cif whole; well_formed = whole })
     c.read_cif.ensures.whole
 
 pub returns-clause-err : goal.returns-clause-err

@@ -2,4 +2,10 @@ use Rattle.mask_net.proofs.Verdict.{one_network}
 use Rattle.mask_net.proofs.laws.one_network.Goals as goal
 
 pub returns : goal.returns
-returns c = one_network (record { scan = c.scan_is_unique.ensures; walk = c.walk_is_unique.ensures; network = c.network_is_determined.ensures.network })
+returns c =
+    one_network
+    (record {
+      scan = c.scan_is_unique.ensures;
+      walk = c.walk_is_unique.ensures;
+      network = c.network_is_determined.ensures.network;
+    })

@@ -2,4 +2,10 @@ use Rattle.mask_net.proofs.Verdict.{one_verdict}
 use Rattle.mask_net.proofs.laws.one_verdict.Goals as goal
 
 pub returns : goal.returns
-returns c = λ bytes. one_verdict (record { scan = c.scan_is_unique.ensures; walk = c.walk_is_unique.ensures; network = c.network_is_determined.ensures.network }) bytes c.first_rule_is_determined.ensures.mask
+returns c =
+    λ bytes. one_verdict
+    (record {
+      scan = c.scan_is_unique.ensures;
+      walk = c.walk_is_unique.ensures;
+      network = c.network_is_determined.ensures.network;
+    }) bytes c.first_rule_is_determined.ensures.mask

@@ -19,9 +19,15 @@ loop-i-preserved c =
     let a = c.link_both.new.links in
     let b = c.link_both-in-loop-i.new.links in
     let e = c.link_both-in-loop-i-2.new.links in
-    contacts_more contacts c.args.metal.now c.args.polysilicon.now c.args.diffusion.now i (get_or contacts i no_tile) (slice_get-get_or contacts i no_tile h) m p d
-    (slice_get-get_or c.args.metal.now i none (omega arith)) (slice_get-get_or c.args.polysilicon.now i none (omega arith)) (slice_get-get_or c.args.diffusion.now i none (omega arith))
+    contacts_more contacts c.args.metal.now c.args.polysilicon.now c.args.diffusion.now i (get_or contacts i no_tile)
+    (slice_get-get_or contacts i no_tile h) m p d
+    (slice_get-get_or c.args.metal.now i none (omega arith))
+    (slice_get-get_or c.args.polysilicon.now i none (omega arith))
+    (slice_get-get_or c.args.diffusion.now i none (omega arith))
     c.args.links.now c.loop-i.links a b e c.loop-i.invariant
-    (subst₂ (λ x y. Gains c.loop-i.links a (AreBoth x y)) c.if_joined-upper.ensures c.if_joined-middle.ensures c.in_ok-link_both.ensures)
-    (subst₂ (λ x y. Gains a b (AreBoth x y)) c.if_joined-upper.ensures c.if_joined-lower.ensures c.in_ok-link_both-2.ensures)
-    (subst₂ (λ x y. Gains b e (AreBoth x y)) c.if_joined-middle.ensures c.if_joined-lower.ensures c.in_ok-link_both-3.ensures)
+    (subst₂ (λ x y. Gains c.loop-i.links a (AreBoth x y)) c.if_joined-upper.ensures c.if_joined-middle.ensures
+    c.in_ok-link_both.ensures)
+    (subst₂ (λ x y. Gains a b (AreBoth x y)) c.if_joined-upper.ensures c.if_joined-lower.ensures
+    c.in_ok-link_both-2.ensures)
+    (subst₂ (λ x y. Gains b e (AreBoth x y)) c.if_joined-middle.ensures c.if_joined-lower.ensures
+    c.in_ok-link_both-3.ensures)

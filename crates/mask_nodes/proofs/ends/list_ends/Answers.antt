@@ -7,11 +7,16 @@ use Rattle.mask_nodes.proofs.Ending.{given_none, ends_more}
 use Rattle.mask_nodes.proofs.ends.list_ends.Goals as goal
 
 pub loop-pair-init : goal.loop-pair-init
-loop-pair-init c = gains_none c.args.ends.now _ (given_none (IsEndOf c.args.numbers.now c.args.pieces.now c.args.channels.now c.args.nodes.now) c.args.touching.now)
+loop-pair-init c =
+    gains_none c.args.ends.now _
+    (given_none (IsEndOf c.args.numbers.now c.args.pieces.now c.args.channels.now c.args.nodes.now) c.args.touching.now)
 
 pub loop-pair-preserved : goal.loop-pair-preserved
 loop-pair-preserved c =
     let touching : List Pair = c.args.touching.now in
     let i : ℕ = c.loop-pair.pair-index in
-    ends_more c.args.numbers.now c.args.pieces.now c.args.channels.now c.args.nodes.now touching i (get_or touching i (pair_of 0 0)) c.args.ends.now c.loop-pair.ends c.add_end.new.ends c.add_end-in-loop-pair.new.ends
-    (slice_get-get_or touching i (pair_of 0 0) c.loop-pair-test.true) c.loop-pair.invariant c.in_ok-add_end.ensures c.in_ok-add_end-2.ensures
+    ends_more c.args.numbers.now c.args.pieces.now c.args.channels.now c.args.nodes.now touching i
+    (get_or touching i (pair_of 0 0)) c.args.ends.now c.loop-pair.ends c.add_end.new.ends
+    c.add_end-in-loop-pair.new.ends
+    (slice_get-get_or touching i (pair_of 0 0) c.loop-pair-test.true) c.loop-pair.invariant c.in_ok-add_end.ensures
+    c.in_ok-add_end-2.ensures

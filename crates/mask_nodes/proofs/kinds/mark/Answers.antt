@@ -7,7 +7,9 @@ use Rattle.mask_nodes.proofs.kinds.mark.Goals as goal
 use Rattle.mask_nodes.proofs.kinds.mark.Goals.{then-eq, else-eq}
 
 pub loop-i-init : goal.loop-i-init
-loop-i-init c = marks_none c.args.pieces.now c.args.channels.now c.args.part c.args.count c.in_ok-marks.marks.items (c.in_ok-marks.ensures.items_if_clones_equal (λ y e. e))
+loop-i-init c =
+    marks_none c.args.pieces.now c.args.channels.now c.args.part c.args.count c.in_ok-marks.marks.items
+    (c.in_ok-marks.ensures.items_if_clones_equal (λ y e. e))
 
 pub loop-i-preserved : goal.loop-i-preserved
 loop-i-preserved c =
@@ -19,10 +21,13 @@ loop-i-preserved c =
     elim c.if-eq.branch [
       | then-eq w ↦
           let e : p.part ≡ c.args.part = search rules in
-          let items : c.if-eq.marks.items ≡ set c.loop-i.marks.items (get_or cs i 0) true = ap (λ v. v.items) w.marks-is in
+          let items : c.if-eq.marks.items ≡ set c.loop-i.marks.items (get_or cs i 0) true =
+          ap (λ v. v.items) w.marks-is in
           subst (AreMarks ps cs c.args.part c.args.count (i + 1)) (sym items)
-          (marks_more ps cs c.args.part c.args.count i (get_or cs i 0) p c.loop-i.marks.items c.loop-i.invariant at e refl (c.requires.within i p at e))
+          (marks_more ps cs c.args.part c.args.count i
+          (get_or cs i 0) p c.loop-i.marks.items c.loop-i.invariant at e refl (c.requires.within i p at e))
       | else-eq w ↦
           let e : p.part ≢ c.args.part = search rules in
-          subst (AreMarks ps cs c.args.part c.args.count (i + 1)) (sym (ap (λ v. v.items) w.marks-is)) (marks_kept ps cs c.args.part c.args.count i p c.loop-i.marks.items c.loop-i.invariant at e)
+          subst (AreMarks ps cs c.args.part c.args.count (i + 1)) (sym (ap (λ v. v.items) w.marks-is))
+          (marks_kept ps cs c.args.part c.args.count i p c.loop-i.marks.items c.loop-i.invariant at e)
     ]

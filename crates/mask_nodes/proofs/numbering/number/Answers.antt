@@ -1,10 +1,15 @@
-use Rattle.std.proofs.Common.{◌≡◌, ◌≢◌, ℕ, ◌+◌, ◌<◌, ◌≤◌, List, [], ◌∷◌, ◌++◌, length, get_or, sym, ◌∙◌, ap, subst, subst₂, rules, refl, arith}
+use Rattle.std.proofs.Common.{◌≡◌, ◌≢◌, ℕ, ◌+◌, ◌<◌, ◌≤◌, List, [], ◌∷◌, ◌++◌, length, get_or, sym, ◌∙◌, ap, subst}
+use Rattle.std.proofs.Common.{subst₂, rules, refl, arith}
 use Rattle.std.proofs.lemmas.List.{get_or_default}
-use Rattle.mask_nodes.proofs.Listing.{beq_true, beq_false, not_true, not_false}
+use Rattle.mp_base.proofs.Tests.{same_bool}
+use Rattle.std.proofs.lemmas.Bool.{not-true, not-false}
+use Rattle.mask_nodes.proofs.Listing.{beq_false}
 use Rattle.mask_nodes.specs.Numbers.{Conducts}
 use Rattle.mask_nodes.proofs.Numbered.{IsNumbered, numbered_other, numbered_root, numbered_same}
 use Rattle.mask_nodes.proofs.numbering.number.Goals as goal
-use Rattle.mask_nodes.proofs.numbering.number.Goals.{then-conducts-conducting, else-conducts-conducting+then-least-i+in_ok-number, else-conducts-conducting+else-least-i}
+use Rattle.mask_nodes.proofs.numbering.number.Goals.{then-conducts-conducting}
+use Rattle.mask_nodes.proofs.numbering.number.Goals.{else-conducts-conducting+then-least-i+in_ok-number}
+use Rattle.mask_nodes.proofs.numbering.number.Goals.{else-conducts-conducting+else-least-i}
 
 pub loop-i-preserved : goal.loop-i-preserved
 loop-i-preserved c =
@@ -17,22 +22,35 @@ loop-i-preserved c =
     let cls = c.if-conducts-conducting.classes in
     elim c.if-conducts-conducting.branch [
       | then-conducts-conducting w ↦
-          let other : c.conducts.result ≢ c.args.conducting = beq_false c.conducts.result c.args.conducting (not_true _ w.if-conducts-conducting.true) in
-          subst₂ (IsNumbered (Conducts pieces c.args.conducting) least (i + 1)) (sym (ap (λ x. x.roots) w.classes-is)) (sym (new ∙ ap (λ x. x.numbers ++ c.if-conducts-conducting.number ∷ []) w.classes-is))
-          (numbered_other (Conducts pieces c.args.conducting) least i roots numbers c.loop-i.invariant c.if-conducts-conducting.number (λ h. other (c.conducts.ensures ∙ h)))
+          let other : c.conducts.result ≢ c.args.conducting =
+          beq_false c.conducts.result c.args.conducting (not-true _ w.if-conducts-conducting.true) in
+          subst₂ (IsNumbered (Conducts pieces c.args.conducting) least (i + 1)) (sym (ap (λ x. x.roots) w.classes-is))
+          (sym (new ∙ ap (λ x. x.numbers ++ c.if-conducts-conducting.number ∷ []) w.classes-is))
+          (numbered_other
+          (Conducts pieces c.args.conducting) least i roots numbers c.loop-i.invariant c.if-conducts-conducting.number
+          (λ h. other (c.conducts.ensures ∙ h)))
       | else-conducts-conducting+then-least-i+in_ok-number w ↦
-          let same : c.conducts.result ≡ c.args.conducting = beq_true c.conducts.result c.args.conducting (not_false _ w.if-conducts-conducting.false) in
+          let same : c.conducts.result ≡ c.args.conducting =
+          same_bool c.conducts.result c.args.conducting (not-false _ w.if-conducts-conducting.false) in
           let e : get_or least i 0 ≡ i = w.if-least-i.true in
-          subst₂ (IsNumbered (Conducts pieces c.args.conducting) least (i + 1)) (sym (ap (λ x. x.roots) (w.classes-is ∙ w.in_ok-number.ensures.1)))
-          (sym (new ∙ ap (λ x. x.numbers ++ c.if-conducts-conducting.number ∷ []) (w.classes-is ∙ w.in_ok-number.ensures.1)))
-          (numbered_root (Conducts pieces c.args.conducting) least i roots numbers c.loop-i.invariant (get_or least i 0) c.if-conducts-conducting.number (sym c.conducts.ensures ∙ same) e e (w.number-is ∙ w.in_ok-number.ensures.0))
+          subst₂ (IsNumbered (Conducts pieces c.args.conducting) least (i + 1))
+          (sym (ap (λ x. x.roots) (w.classes-is ∙ w.in_ok-number.ensures.1)))
+          (sym (new
+          ∙ ap (λ x. x.numbers ++ c.if-conducts-conducting.number ∷ []) (w.classes-is ∙ w.in_ok-number.ensures.1)))
+          (numbered_root (Conducts pieces c.args.conducting) least i roots numbers c.loop-i.invariant
+          (get_or least i 0) c.if-conducts-conducting.number (sym c.conducts.ensures ∙ same) e e
+          (w.number-is ∙ w.in_ok-number.ensures.0))
       | else-conducts-conducting+else-least-i w ↦
           let l = c.loop-i-test.true in
           let many = c.requires.as_many in
           let below = c.requires.below i (omega arith) in
           let n = w.if-least-i.false in
           let length_ = c.loop-i.invariant.are_numbers.as_many in
-          let at : c.if-conducts-conducting.number ≡ get_or numbers (get_or least i 0) 0 = w.number-is ∙ w.at.ensures ∙ get_or_default numbers (get_or least i 0) _ 0 (omega arith) in
-          subst₂ (IsNumbered (Conducts pieces c.args.conducting) least (i + 1)) (sym (ap (λ x. x.roots) w.classes-is)) (sym (new ∙ ap (λ x. x.numbers ++ c.if-conducts-conducting.number ∷ []) w.classes-is))
-          (numbered_same (Conducts pieces c.args.conducting) least i roots numbers c.loop-i.invariant c.if-conducts-conducting.number (c.requires.stay i (omega arith)) (omega arith) (c.requires.still i (omega arith)) at)
+          let at : c.if-conducts-conducting.number ≡ get_or numbers (get_or least i 0) 0 =
+          w.number-is ∙ w.at.ensures ∙ get_or_default numbers (get_or least i 0) _ 0 (omega arith) in
+          subst₂ (IsNumbered (Conducts pieces c.args.conducting) least (i + 1)) (sym (ap (λ x. x.roots) w.classes-is))
+          (sym (new ∙ ap (λ x. x.numbers ++ c.if-conducts-conducting.number ∷ []) w.classes-is))
+          (numbered_same
+          (Conducts pieces c.args.conducting) least i roots numbers c.loop-i.invariant c.if-conducts-conducting.number
+          (c.requires.stay i (omega arith)) (omega arith) (c.requires.still i (omega arith)) at)
     ]

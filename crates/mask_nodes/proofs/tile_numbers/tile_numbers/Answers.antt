@@ -15,11 +15,13 @@ loop-i-preserved c =
     elim c.if-eq.branch [
       | then-eq w ↦
           let e : p.rect.layer ≡ c.args.layer = search rules in
-          let items : c.if-eq.numbers.items ≡ set c.loop-i.numbers.items p.tile c.in-Ok.number = ap (λ v. v.items) w.numbers-is in
+          let items : c.if-eq.numbers.items ≡ set c.loop-i.numbers.items p.tile c.in-Ok.number =
+          ap (λ v. v.items) w.numbers-is in
           let inside : p.tile < c.args.count = c.requires i p at e in
           let many = c.loop-i.invariant.as_many in
           subst (AreTileNumbers c.args.layer c.args.count ps (i + 1)) (sym items)
-          (numbers_more c.args.layer c.args.count ps i c.in-Ok.number p c.loop-i.numbers.items c.loop-i.invariant at e c.in-Ok.ensures.1 (omega arith))
+          (numbers_more c.args.layer c.args.count ps i c.in-Ok.number p c.loop-i.numbers.items c.loop-i.invariant at e
+          c.in-Ok.ensures.1 (omega arith))
       | else-eq w ↦
           let e : p.rect.layer ≢ c.args.layer = search rules in
           subst (AreTileNumbers c.args.layer c.args.count ps (i + 1)) (sym (ap (λ v. v.items) w.numbers-is))

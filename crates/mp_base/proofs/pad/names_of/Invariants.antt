@@ -6,4 +6,5 @@ abbrev pub invariant-loop-pad : goal.invariant-loop-pad
 invariant-loop-pad l = map (λ name. name.now) l.names.items ≡ map (λ pad. pad.name) (take l.pad-index l.inputs)
 
 abbrev pub invariant-loop-pad-2 : goal.invariant-loop-pad-2
-invariant-loop-pad-2 l = map (λ name. name.now) l.names.items ≡ map (λ pad. pad.name) l.inputs ++ map (λ pad. pad.name) (take l.pad-index l.outputs)
+invariant-loop-pad-2 l = map (λ name. name.now) l.names.items ≡ map (λ pad. pad.name) l.inputs
+    ++ map (λ pad. pad.name) (take l.pad-index l.outputs)

@@ -11,6 +11,8 @@ pub returns : goal.returns
 returns c =
     let p = c.args.program.now in
     items_from_collect _ c.collect.ensures.ran (YieldsList-from_chain
-    (YieldsList-from_map _ (λ (d : Def). (d.place).offset) (YieldsList-from_filter _ (λ (d : Def). not (is_supply d.what)) (YieldsList-from_slice p.defs cc)
+    (YieldsList-from_map _ (λ (d : Def). (d.place).offset)
+    (YieldsList-from_filter _ (λ (d : Def). not (is_supply d.what)) (YieldsList-from_slice p.defs cc)
     c.filter.ensures.closure (λ x r q k. search (rules, tests))) (cc) (λ x r q k. search rules))
-    (YieldsList-from_map _ (λ (q : Process). (q.place).offset) (YieldsList-from_slice p.processes cc) (cc) (λ x r q k. search rules)) (cc) (cc))
+    (YieldsList-from_map _ (λ (q : Process). (q.place).offset) (YieldsList-from_slice p.processes cc) (cc)
+    (λ x r q k. search rules)) (cc) (cc))

@@ -18,7 +18,8 @@ pub returns-in-None-clause-err : goal.returns-in-None-clause-err
 returns-in-None-clause-err c =
     let p = c.args.program.now in
     let Within : Option ℕ → Type 0 = λ found. MatchOption found (1024 < weight p) (λ w. (w ≡ weight p) × (w ≤ 1024)) in
-    refuses_first p 44 p.place c.refusal.result c.refusal.ensures c.requires.kept (heavy p (subst Within c.in-None.is c.in_ok-weight_within.ensures))
+    refuses_first p 44 p.place c.refusal.result c.refusal.ensures c.requires.kept
+    (heavy p (subst Within c.in-None.is c.in_ok-weight_within.ensures))
 
 pub returns-in_ok-judge-in-Some-clause-ok : goal.returns-in_ok-judge-in-Some-clause-ok
 returns-in_ok-judge-in-Some-clause-ok c =

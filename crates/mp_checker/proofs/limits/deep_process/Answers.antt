@@ -11,5 +11,8 @@ use Rattle.mp_checker.proofs.limits.deep_process.Goals as goal
 pub returns : goal.returns
 returns c =
     let p = c.args.program.now in
-    deep_earliest p c.fold.result (fold_from_yields_List _ earlier _ _ c.fold.ensures.ran (YieldsList-from_filter_map _ (place_that depth_place (λ (q : Process). nat_lt 8 q.depth))
-    (YieldsList-from_slice p.processes cc) c.filter_map.ensures.closure (λ x r q k. search (rules, tests))) (λ a x b q k. search (rules, tests)))
+    deep_earliest p c.fold.result
+    (fold_from_yields_List _ earlier _ _ c.fold.ensures.ran
+    (YieldsList-from_filter_map _ (place_that depth_place (λ (q : Process). nat_lt 8 q.depth))
+    (YieldsList-from_slice p.processes cc) c.filter_map.ensures.closure (λ x r q k. search (rules, tests)))
+    (λ a x b q k. search (rules, tests)))

@@ -9,5 +9,7 @@ use Rattle.mp_checker.proofs.limits.long_process.Goals as goal
 pub returns : goal.returns
 returns c =
     let p = c.args.program.now in
-    long_earliest p c.fold.result (fold_from_yields_List _ earlier _ _ c.fold.ensures.ran (YieldsList-from_filter_map _ (far_form p.forms)
-    (YieldsList-from_slice p.processes cc) c.filter_map.ensures.closure (λ x r q k. search (rules, tests))) (λ a x b q k. search (rules, tests)))
+    long_earliest p c.fold.result
+    (fold_from_yields_List _ earlier _ _ c.fold.ensures.ran (YieldsList-from_filter_map _ (far_form p.forms)
+    (YieldsList-from_slice p.processes cc) c.filter_map.ensures.closure (λ x r q k. search (rules, tests)))
+    (λ a x b q k. search (rules, tests)))

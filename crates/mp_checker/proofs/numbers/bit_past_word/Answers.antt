@@ -11,5 +11,7 @@ pub returns : goal.returns
 returns c =
     let p = c.args.program.now in
     past_earliest p c.fold.result
-    (fold_from_yields_List _ earlier _ _ c.fold.ensures.ran (YieldsList-from_filter_map _ (place_that expr_place (λ (e : Expr). is_past_word p.width e.kind))
-    (YieldsList-from_slice p.exprs cc) c.filter_map.ensures.closure (λ x r q k. search (rules, tests))) (λ a x b q k. search (rules, tests)))
+    (fold_from_yields_List _ earlier _ _ c.fold.ensures.ran
+    (YieldsList-from_filter_map _ (place_that expr_place (λ (e : Expr). is_past_word p.width e.kind))
+    (YieldsList-from_slice p.exprs cc) c.filter_map.ensures.closure (λ x r q k. search (rules, tests)))
+    (λ a x b q k. search (rules, tests)))

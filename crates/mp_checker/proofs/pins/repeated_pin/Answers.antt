@@ -6,8 +6,9 @@ use Rattle.mp_rules.specs.Breaking.{IsEarliest}
 use Rattle.mp_rules.specs.Rules.{pins}
 use Rattle.std.specs.List.{flat_map, list_any}
 use Rattle.std.specs.BTreeMap.{is_at}
+use Rattle.mp_base.proofs.Lists.{take_whole}
 use Rattle.mp_checker.specs.Finding.{IsRepeatedIn, pins_before}
-use Rattle.mp_checker.proofs.Seen.{seen_none, take_whole}
+use Rattle.mp_checker.proofs.Seen.{seen_none}
 use Rattle.mp_checker.proofs.pins.repeated_pin.Goals as goal
 
 pub loop-index-init : goal.loop-index-init
@@ -17,6 +18,7 @@ pub returns : goal.returns
 returns c =
     let end : c.loop-index.index ≡ length c.as_slice-defs.result.now = omega arith in
     let whole : pins_before c.as_slice-defs.result.now c.loop-index.index ≡ pins c.args.program.now =
-    ap (pins_before c.as_slice-defs.result.now) end ∙ ap (flat_map (λ (d : Def). d.pins)) (take_whole c.as_slice-defs.result.now ∙ c.as_slice-defs.ensures) in
+    ap (pins_before c.as_slice-defs.result.now) end
+    ∙ ap (flat_map (λ (d : Def). d.pins)) (take_whole c.as_slice-defs.result.now ∙ c.as_slice-defs.ensures) in
     let P : List Pin → Type 0 = λ ps. IsEarliest (IsRepeatedIn ps) c.loop-index.found in
     subst P whole c.loop-index.invariant.earliest

@@ -12,5 +12,7 @@ pub returns : goal.returns
 returns c =
     let p = c.args.program.now in
     empty_earliest p c.fold.result
-    (fold_from_yields_List _ earlier _ _ c.fold.ensures.ran (YieldsList-from_filter_map _ (place_that process_place (λ (q : Process). length q.forms == 0))
-    (YieldsList-from_slice p.processes cc) c.filter_map.ensures.closure (λ x r q k. search (rules, tests))) (λ a x b q k. search (rules, tests)))
+    (fold_from_yields_List _ earlier _ _ c.fold.ensures.ran
+    (YieldsList-from_filter_map _ (place_that process_place (λ (q : Process). length q.forms == 0))
+    (YieldsList-from_slice p.processes cc) c.filter_map.ensures.closure (λ x r q k. search (rules, tests)))
+    (λ a x b q k. search (rules, tests)))

@@ -7,7 +7,13 @@ use Rattle.mp_checker.proofs.Present.{missing, supplied}
 use Rattle.mp_checker.proofs.presence.missing_supply.Goals as goal
 
 pub returns-then-are_supplied : goal.returns-then-are_supplied
-returns-then-are_supplied c = supplied c.args.program.now (ap (λ (ds : List Def). list_all (defines ds) supplies) (sym c.as_slice.ensures) ∙ sym c.are_supplied.ensures ∙ c.if-are_supplied.true)
+returns-then-are_supplied c =
+    supplied c.args.program.now
+    (ap (λ (ds : List Def). list_all (defines ds) supplies) (sym c.as_slice.ensures) ∙ sym c.are_supplied.ensures
+    ∙ c.if-are_supplied.true)
 
 pub returns-else-are_supplied : goal.returns-else-are_supplied
-returns-else-are_supplied c = missing c.args.program.now (ap (λ (ds : List Def). list_all (defines ds) supplies) (sym c.as_slice.ensures) ∙ sym c.are_supplied.ensures ∙ c.if-are_supplied.false)
+returns-else-are_supplied c =
+    missing c.args.program.now
+    (ap (λ (ds : List Def). list_all (defines ds) supplies) (sym c.as_slice.ensures) ∙ sym c.are_supplied.ensures
+    ∙ c.if-are_supplied.false)

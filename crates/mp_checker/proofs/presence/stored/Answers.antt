@@ -13,7 +13,12 @@ pub returns : goal.returns
 returns c =
     let p = c.args.program.now in
     let first : c.fold-found.result ≡ earliest_in (place_that def_place (λ (d : Def). is_stored d.what)) None p.defs =
-    fold_from_yields_List _ earlier _ _ c.fold-found.ensures.ran (YieldsList-from_filter_map _ (place_that def_place (λ (d : Def). is_stored d.what))
-    (YieldsList-from_slice p.defs cc) c.filter_map.ensures.closure (λ x r q k. search (rules, tests))) (λ a x b q k. search (rules, tests)) in
-    rw first at (fold_from_yields_List _ earlier _ _ c.fold.ensures.ran (YieldsList-from_filter_map _ (λ (q : Process). Some q.place)
-    (YieldsList-from_slice p.processes cc) c.filter_map-2.ensures.closure (λ x r q k. search (rules, tests))) (λ a x b q k. search (rules, tests)))
+    fold_from_yields_List _ earlier _ _ c.fold-found.ensures.ran
+    (YieldsList-from_filter_map _ (place_that def_place (λ (d : Def). is_stored d.what))
+    (YieldsList-from_slice p.defs cc) c.filter_map.ensures.closure (λ x r q k. search (rules, tests)))
+    (λ a x b q k. search (rules, tests)) in
+    rw first at
+    (fold_from_yields_List _ earlier _ _ c.fold.ensures.ran
+    (YieldsList-from_filter_map _ (λ (q : Process). Some q.place)
+    (YieldsList-from_slice p.processes cc) c.filter_map-2.ensures.closure (λ x r q k. search (rules, tests)))
+    (λ a x b q k. search (rules, tests)))

@@ -10,7 +10,8 @@ use Rattle.mp_order.proofs.demands.mark_roots.Goals as goal
 pub loop-process-init : goal.loop-process-init
 loop-process-init c =
     let P : List ℕ → Type 0 = λ xs. Lifted (λ f k. Contains xs f × (k ≡ 1)) c.args.marks.now c.lift_all.new.numbers in
-    lifted_as (λ f k. Contains c.args.program.now.always f × (k ≡ 1)) (λ f k. RootBelow c.args.program.now 0 f × (k ≡ 1)) c.args.marks.now c.lift_all.new.numbers
+    lifted_as (λ f k. Contains c.args.program.now.always f × (k ≡ 1))
+    (λ f k. RootBelow c.args.program.now 0 f × (k ≡ 1)) c.args.marks.now c.lift_all.new.numbers
     (subst P c.as_slice.ensures c.lift_all.ensures)
     (λ f k (h, e). (inl h, e))
     (λ f k (h, e). (first f h, e))
@@ -22,12 +23,18 @@ loop-process-init c =
 pub loop-process-preserved : goal.loop-process-preserved
 loop-process-preserved c =
     let A : List Process → Type 0 = λ xs. IsAt xs c.loop-process.process-index c.process-item.result in
-    let at : IsAt c.args.program.now.processes c.loop-process.process-index c.process-item.result = subst A c.as_slice-process-items.ensures (c.loop-process-test.true, c.process-item.is) in
-    let P : List ℕ → Type 0 = λ xs. Lifted (λ f k. Contains xs f × (k ≡ 1)) c.loop-process.marks c.lift_all-in-loop-process.new.numbers in
-    roots_more c.args.program.now c.loop-process.process-index c.process-item.result c.args.marks.now c.loop-process.marks c.lift_all-in-loop-process.new.numbers at
+    let at : IsAt c.args.program.now.processes c.loop-process.process-index c.process-item.result =
+    subst A c.as_slice-process-items.ensures (c.loop-process-test.true, c.process-item.is) in
+    let P : List ℕ
+    → Type 0 = λ xs. Lifted
+    (λ f k. Contains xs f × (k ≡ 1)) c.loop-process.marks c.lift_all-in-loop-process.new.numbers in
+    roots_more c.args.program.now c.loop-process.process-index c.process-item.result c.args.marks.now
+    c.loop-process.marks c.lift_all-in-loop-process.new.numbers at
     c.loop-process.invariant (subst P c.as_slice-in-loop-process.ensures c.lift_all-in-loop-process.ensures)
 
 pub returns : goal.returns
 returns c =
-    let e : length c.as_slice-process-items.result.now ≡ length c.args.program.now.processes = ap (length {A = Process}) c.as_slice-process-items.ensures in
-    roots_done c.args.program.now c.loop-process.process-index c.args.marks.now c.loop-process.marks (omega (arith, e, c.loop-process-test.false)) c.loop-process.invariant
+    let e : length c.as_slice-process-items.result.now ≡ length c.args.program.now.processes =
+    ap (length {A = Process}) c.as_slice-process-items.ensures in
+    roots_done c.args.program.now c.loop-process.process-index c.args.marks.now c.loop-process.marks
+    (omega (arith, e, c.loop-process-test.false)) c.loop-process.invariant

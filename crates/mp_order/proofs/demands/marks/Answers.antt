@@ -16,20 +16,30 @@ loop-n-init c =
 pub loop-n-preserved : goal.loop-n-preserved
 loop-n-preserved c =
     let A : List Form → Type 0 = λ xs. IsAt xs c.loop-n.n c.index-forms-n.result in
-    let at : IsAt c.args.program.now.forms c.loop-n.n c.index-forms-n.result = subst A c.as_slice-forms.ensures (c.loop-n-test.true, c.index-forms-n.is) in
+    let at : IsAt c.args.program.now.forms c.loop-n.n c.index-forms-n.result =
+    subst A c.as_slice-forms.ensures (c.loop-n-test.true, c.index-forms-n.is) in
     let P : List ℕ → Type 0 = λ xs. Marking c.args.program.now c.args.tops.now (c.loop-n.n + 1) xs in
     elim c.if-mark-gt0.branch [
       | then-mark-gt0 w ↦
-          let some : 0 < get_or c.loop-n.marks c.loop-n.n 0 = omega (arith, c.read_wide-mark.ensures, w.if-mark-gt0.true) in
-          let Q : ℕ → Type 0 = λ v. Lifted (Gives c.args.tops.now c.index-forms-n.result.kind v) c.loop-n.marks w.mark_inner.new.marks in
-          subst P (sym w.marks-is) (marking_more c.args.program.now c.sound.ensures c.args.tops.now c.loop-n.marks w.mark_inner.new.marks c.loop-n.n c.index-forms-n.result
+          let some : 0 < get_or c.loop-n.marks c.loop-n.n 0 =
+          omega (arith, c.read_wide-mark.ensures, w.if-mark-gt0.true) in
+          let Q : ℕ
+          → Type 0 = λ v. Lifted
+          (Gives c.args.tops.now c.index-forms-n.result.kind v) c.loop-n.marks w.mark_inner.new.marks in
+          subst P (sym w.marks-is)
+          (marking_more c.args.program.now c.sound.ensures c.args.tops.now c.loop-n.marks w.mark_inner.new.marks
+          c.loop-n.n c.index-forms-n.result
           c.loop-n.invariant at some (subst Q c.read_wide-mark.ensures w.mark_inner.ensures))
       | else-mark-gt0 w ↦
-          let none : get_or c.loop-n.marks c.loop-n.n 0 ≡ 0 = omega (arith, c.read_wide-mark.ensures, w.if-mark-gt0.false) in
-          subst P (sym w.marks-is) (marking_skip c.args.program.now c.args.tops.now c.loop-n.marks c.loop-n.n c.loop-n.invariant none)
+          let none : get_or c.loop-n.marks c.loop-n.n 0 ≡ 0 =
+          omega (arith, c.read_wide-mark.ensures, w.if-mark-gt0.false) in
+          subst P (sym w.marks-is)
+          (marking_skip c.args.program.now c.args.tops.now c.loop-n.marks c.loop-n.n c.loop-n.invariant none)
     ]
 
 pub returns : goal.returns
 returns c =
-    let e : length c.as_slice-forms.result.now ≡ length c.args.program.now.forms = ap (length {A = Form}) c.as_slice-forms.ensures in
-    marking_done c.args.program.now c.args.tops.now c.loop-n.marks c.loop-n.n (omega (arith, e, c.loop-n-test.false)) c.loop-n.invariant
+    let e : length c.as_slice-forms.result.now ≡ length c.args.program.now.forms =
+    ap (length {A = Form}) c.as_slice-forms.ensures in
+    marking_done c.args.program.now c.args.tops.now c.loop-n.marks c.loop-n.n
+    (omega (arith, e, c.loop-n-test.false)) c.loop-n.invariant

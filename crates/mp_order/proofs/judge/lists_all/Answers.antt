@@ -7,8 +7,11 @@ use Rattle.mp_order.proofs.judge.lists_all.Goals as goal
 pub loop-d-preserved : goal.loop-d-preserved
 loop-d-preserved c =
     let A : List Def → Type 0 = λ xs. IsAt xs c.loop-d.d c.def-item.result in
-    let at : IsAt c.args.program.now.defs c.loop-d.d c.def-item.result = subst A c.as_slice-def-items.ensures (c.loop-d-test.true, c.def-item.is) in
+    let at : IsAt c.args.program.now.defs c.loop-d.d c.def-item.result =
+    subst A c.as_slice-def-items.ensures (c.loop-d-test.true, c.def-item.is) in
     driven_more c.args.program.now
-    (λ e. (k : ℕ) × (k < length c.args.order.now) × (get_or c.args.order.now k 0 ≡ e) × (get_or c.args.ranks.now e 0 ≡ k + 1))
+    (λ e. (k : ℕ) × (k < length c.args.order.now) × (get_or c.args.order.now k 0 ≡ e)
+    × (get_or c.args.ranks.now e 0 ≡ k + 1))
     c.loop-d.d c.def-item.result at c.loop-d.invariant
-    (λ driven. let (k, kl, here, rank) = c.stands.ensures c.if-not-stands.false driven in (k, kl, here, sym c.read.ensures ∙ rank))
+    (λ driven. let (k, kl, here, rank) = c.stands.ensures c.if-not-stands.false driven in
+    (k, kl, here, sym c.read.ensures ∙ rank))

@@ -6,10 +6,12 @@ use Rattle.mp_order.proofs.search.reachers.Goals as goal
 pub spread-preserved : goal.spread-preserved
 spread-preserved c =
     let P : List ℕ → Type 0 = λ xs. AreDemands c.args.program.now xs c.in_ok-reach.reach in
-    reaching_more c.args.program.now c.args.target c.spread.weights c.widen.new.weights c.in_ok-reach.reach c.spread.invariant (subst P c.as_slice.ensures c.in_ok-reach.ensures) c.widen.ensures.wider
+    reaching_more c.args.program.now c.args.target c.spread.weights c.widen.new.weights c.in_ok-reach.reach
+    c.spread.invariant (subst P c.as_slice.ensures c.in_ok-reach.ensures) c.widen.ensures.wider
 
 pub returns-then-not-widen : goal.returns-then-not-widen
 returns-then-not-widen c =
     let P : List ℕ → Type 0 = λ xs. AreDemands c.args.program.now xs c.in_ok-reach.reach in
-    reaching_done c.args.program.now c.args.target c.spread.weights c.widen.new.weights c.in_ok-reach.reach c.spread.invariant (subst P c.as_slice.ensures c.in_ok-reach.ensures) c.widen.ensures.wider
+    reaching_done c.args.program.now c.args.target c.spread.weights c.widen.new.weights c.in_ok-reach.reach
+    c.spread.invariant (subst P c.as_slice.ensures c.in_ok-reach.ensures) c.widen.ensures.wider
     (c.widen.ensures.same c.if-not-widen.true)

@@ -2,12 +2,14 @@ use Rattle.std.proofs.Common.{◌≡◌, ◌<◌, ◌≤◌, length, refl, sym, 
 use Rattle.mp_base.specs.declared.refusal.Place.{Place}
 use Rattle.mp_shapes.specs.Standing.{IsFirstE10}
 use Rattle.mp_shapes.proofs.Finding.{place_read}
-use Rattle.mp_shapes.proofs.Firsts.{no_form, second_form, refuses, refused_first, none_broken, rooted, no_items, second_root, second_inside}
+use Rattle.mp_shapes.proofs.Firsts.{no_form, second_form, refuses, refused_first, none_broken, rooted, no_items}
+use Rattle.mp_shapes.proofs.Firsts.{second_root, second_inside}
 use Rattle.mp_shapes.proofs.classes.judge_shapes.Goals as goal
 
 pub returns-then-len-eq0-clause-err : goal.returns-then-len-eq0-clause-err
 returns-then-len-eq0-clause-err c =
-    refuses c.no_shape.result c.args.forms.now.end (λ k at. (k ≡ 10) × IsFirstE10 c.args.forms.now at) c.no_shape.ensures
+    refuses c.no_shape.result c.args.forms.now.end
+    (λ k at. (k ≡ 10) × IsFirstE10 c.args.forms.now at) c.no_shape.ensures
     (refl, no_form c.args.forms.now (no_items c.args.forms.now.roots (sym c.len.ensures ∙ c.if-len-eq0.true)))
 
 pub returns-in-Err-clause-err : goal.returns-in-Err-clause-err
@@ -19,8 +21,10 @@ returns-then-len-gt1-clause-err c =
     let (x, rs, is) = second_root c.args.forms.now.roots c.at.result.now two c.at.ensures in
     let lt = second_inside c.args.forms.now c.requires.sound x c.at.result.now rs is in
     let P : Place → Type 0 = λ p. (10 ≡ 10) × IsFirstE10 c.args.forms.now p in
-    refuses c.no_shape-then-len-gt1.result c.at-then-len-gt1.result.now.place (λ k at. (k ≡ 10) × IsFirstE10 c.args.forms.now at) c.no_shape-then-len-gt1.ensures
-    (subst P (sym (place_read c.args.forms.now c.at.result.now c.at-then-len-gt1.result.now lt c.at-then-len-gt1.ensures))
+    refuses c.no_shape-then-len-gt1.result c.at-then-len-gt1.result.now.place
+    (λ k at. (k ≡ 10) × IsFirstE10 c.args.forms.now at) c.no_shape-then-len-gt1.ensures
+    (subst P
+    (sym (place_read c.args.forms.now c.at.result.now c.at-then-len-gt1.result.now lt c.at-then-len-gt1.ensures))
     (refl, second_form c.args.forms.now x c.at.result.now rs c.in-Ok.ensures.ok.clean is))
 
 pub returns-clause-whole : goal.returns-clause-whole

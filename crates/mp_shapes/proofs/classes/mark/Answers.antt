@@ -14,12 +14,18 @@ set-requires c = omega (arith, c.loop-j.invariant.size, c.requires.inside c.loop
 pub loop-j-preserved : goal.loop-j-preserved
 loop-j-preserved c = elim c.match-item_class.branch [
   | in-Some w ↦
-      let P : List (Option Class) → Type 0 = λ xs. Marked c.args.layout c.args.items.now (c.loop-j.j + 1) c.args.classes.now xs in
-      subst P (sym (w.classes-is ∙ w.set.ensures)) (mark_set c.args.layout c.args.items.now c.loop-j.j w.in-Some.class c.args.classes.now c.loop-j.classes c.loop-j.invariant
-      (sym c.item_class.ensures ∙ w.in-Some.is) c.loop-j-test.true (omega (arith, c.loop-j.invariant.size, c.requires.inside c.loop-j.j c.loop-j-test.true)) c.requires.apart)
+      let P : List (Option Class)
+      → Type 0 = λ xs. Marked c.args.layout c.args.items.now (c.loop-j.j + 1) c.args.classes.now xs in
+      subst P (sym (w.classes-is ∙ w.set.ensures))
+      (mark_set c.args.layout c.args.items.now c.loop-j.j w.in-Some.class c.args.classes.now c.loop-j.classes
+      c.loop-j.invariant
+      (sym c.item_class.ensures ∙ w.in-Some.is) c.loop-j-test.true
+      (omega (arith, c.loop-j.invariant.size, c.requires.inside c.loop-j.j c.loop-j-test.true)) c.requires.apart)
   | in_default w ↦
-      let P : List (Option Class) → Type 0 = λ xs. Marked c.args.layout c.args.items.now (c.loop-j.j + 1) c.args.classes.now xs in
-      subst P (sym w.classes-is) (mark_skip c.args.layout c.args.items.now c.loop-j.j c.args.classes.now c.loop-j.classes c.loop-j.invariant
+      let P : List (Option Class)
+      → Type 0 = λ xs. Marked c.args.layout c.args.items.now (c.loop-j.j + 1) c.args.classes.now xs in
+      subst P (sym w.classes-is)
+      (mark_skip c.args.layout c.args.items.now c.loop-j.j c.args.classes.now c.loop-j.classes c.loop-j.invariant
       (sym c.item_class.ensures ∙ w.in_default.is))
 ]
 

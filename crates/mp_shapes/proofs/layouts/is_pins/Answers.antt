@@ -6,5 +6,6 @@ use Rattle.mp_shapes.proofs.layouts.is_pins.Goals as goal
 
 pub are_numbers-requires : goal.are_numbers-requires
 are_numbers-requires c =
-    All-from_get_or (λ i. i < length c.args.forms.now.nodes) c.as_slice.result.now 0 (items_inside c.args.forms.now c.requires.sound c.args.node c.as_slice.result.now c.requires.inside
+    All-from_get_or (λ i. i < length c.args.forms.now.nodes) c.as_slice.result.now 0
+    (items_inside c.args.forms.now c.requires.sound c.args.node c.as_slice.result.now c.requires.inside
     (c.as_slice.ensures ∙ sym (ap items_of (sym c.kind_at.ensures ∙ c.in-Group.is))))

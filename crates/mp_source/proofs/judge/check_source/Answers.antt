@@ -43,4 +43,5 @@ returns-clause-judged c =
     let sound : IsSound c.in-Ok.forms = c.in-Ok.ensures.sound in
     let shape : IsShape c.in-Ok.forms c.in-Ok-parse.program = c.in-Ok-parse.ensures.shape in
     let first : RefusesProgram c.in-Ok-parse.program c.in-Err-check.refusal = c.in-Err-check.ensures.err in
-    of_program CheckedProgram c.args.text.now c.in-Ok.forms c.in-Ok-parse.program spells sound shape c.broken_at_a_place.ensures c.in-Err-check.refusal first
+    of_program CheckedProgram c.args.text.now c.in-Ok.forms c.in-Ok-parse.program spells sound shape
+    c.broken_at_a_place.ensures c.in-Err-check.refusal first

@@ -1,4 +1,5 @@
-use Rattle.std.proofs.Common.{◌≡◌, ◌<◌, ◌+◌, ◌++◌, ◌∷◌, [], ℕ, List, None, length, sym, ◌∙◌, ap, map, arith, slice_index, slice_index_or}
+use Rattle.std.proofs.Common.{◌≡◌, ◌<◌, ◌+◌, ◌++◌, ◌∷◌, [], ℕ, List, None, length, sym, ◌∙◌, ap, map, arith}
+use Rattle.std.proofs.Common.{slice_index, slice_index_or}
 use Rattle.std.proofs.lemmas.List.{get_or_read}
 use Rattle.mp_program.specs.declared.program.Expr.{Expr}
 use Rattle.mp_syntax.specs.Shape.{expr_at, is_expr, nodes_below, stands_for_expr}
@@ -17,6 +18,8 @@ loop-node-preserved c =
     elim c.if-is_expr.branch [
       | then-is_expr+in_ok-expr_of+in_ok-push w ↦
           w.exprs-is ∙ w.in_ok-push.ensures.ok ∙ ap (λ xs. xs ++ w.in_ok-expr_of.field-0 ∷ []) c.loop-node.invariant
-          ∙ ap (λ x. map entry (nodes_below (is_expr cs) n) ++ x ∷ []) w.in_ok-expr_of.ensures ∙ sym (entries_with entry (is_expr cs) n (sym test ∙ w.if-is_expr.true))
-      | else-is_expr w ↦ w.exprs-is ∙ c.loop-node.invariant ∙ sym (entries_without entry (is_expr cs) n (sym test ∙ w.if-is_expr.false))
+          ∙ ap (λ x. map entry (nodes_below (is_expr cs) n) ++ x ∷ []) w.in_ok-expr_of.ensures
+          ∙ sym (entries_with entry (is_expr cs) n (sym test ∙ w.if-is_expr.true))
+      | else-is_expr w ↦ w.exprs-is ∙ c.loop-node.invariant
+          ∙ sym (entries_without entry (is_expr cs) n (sym test ∙ w.if-is_expr.false))
     ]

@@ -3,4 +3,5 @@ use Rattle.mp_syntax.specs.Shape.{branch_at}
 use Rattle.mp_syntax.proofs.forms.branches_of.Given as goal
 
 abbrev pub invariant-loop-node : goal.invariant-loop-node
-invariant-loop-node l = l.branches ≡ map (branch_at l.forms (slice_index l.ranks.exprs) (slice_index l.ranks.forms)) (take l.node-index l.nodes)
+invariant-loop-node l = l.branches
+    ≡ map (branch_at l.forms (slice_index l.ranks.exprs) (slice_index l.ranks.forms)) (take l.node-index l.nodes)

@@ -3,4 +3,6 @@ use Rattle.mp_syntax.specs.Shape.{form_at, is_form, nodes_below}
 use Rattle.mp_syntax.proofs.forms.forms_of.Given as goal
 
 abbrev pub invariant-loop-node : goal.invariant-loop-node
-invariant-loop-node l = l.list ≡ map (form_at l.forms (slice_index l.ranks.exprs) (slice_index l.ranks.forms)) (nodes_below (is_form l.forms l.classes) l.node)
+invariant-loop-node l = l.list
+    ≡ map (form_at l.forms (slice_index l.ranks.exprs) (slice_index l.ranks.forms))
+    (nodes_below (is_form l.forms l.classes) l.node)

@@ -5,4 +5,5 @@ use Rattle.mp_shapes.specs.Layout.{is_symbol}
 use Rattle.mp_syntax.proofs.items.top_forms.Given as goal
 
 abbrev pub invariant-loop-node : goal.invariant-loop-node
-invariant-loop-node l = l.list ≡ map (slice_index l.ranks) (filter (λ n. not (is_symbol (kind_at l.forms n))) (take l.node-index l.elements))
+invariant-loop-node l = l.list
+    ≡ map (slice_index l.ranks) (filter (λ n. not (is_symbol (kind_at l.forms n))) (take l.node-index l.elements))

@@ -7,8 +7,16 @@ use Rattle.mp_syntax.proofs.nodes.elements_at.Goals as goal
 pub returns-clause-inside : goal.returns-clause-inside
 returns-clause-inside c =
     let P : List ℕ → Type 0 = λ xs. (k : ℕ) → k < length xs → slice_index xs k < length c.args.forms.now.nodes in
-    subst P (sym c.behind.ensures) (drop_inside c.items_at.result.now 3 (length c.args.forms.now.nodes) c.items_at.ensures.inside)
+    subst P (sym c.behind.ensures)
+    (drop_inside c.items_at.result.now 3 (length c.args.forms.now.nodes) c.items_at.ensures.inside)
 
 pub returns-clause-few : goal.returns-clause-few
 returns-clause-few c =
-    omega (arith, ap length c.behind.ensures, ap length c.items_at.ensures.value, length-drop 3 c.items_at.result.now, items_few c.args.forms.now c.requires.sound c.args.node c.requires.inside)
+    omega (
+      arith,
+      ap length c.behind.ensures,
+      ap length c.items_at.ensures.value,
+      length-drop 3
+          c.items_at.result.now,
+      items_few c.args.forms.now c.requires.sound c.args.node c.requires.inside,
+    )

@@ -7,6 +7,7 @@ use Rattle.mp_syntax.proofs.nodes.items_at.Goals as goal
 pub returns-in-Group-clause-inside : goal.returns-in-Group-clause-inside
 returns-in-Group-clause-inside c =
     let kind = ap (λ (n : Node). items_of n.kind) c.node_at.ensures in
-    let is : c.as_slice.result.now ≡ items_of (kind_at c.args.forms.now c.args.node) = c.as_slice.ensures ∙ sym (ap items_of c.in-Group.is) ∙ kind in
+    let is : c.as_slice.result.now ≡ items_of (kind_at c.args.forms.now c.args.node) =
+    c.as_slice.ensures ∙ sym (ap items_of c.in-Group.is) ∙ kind in
     let P : List ℕ → Type 0 = λ xs. (k : ℕ) → k < length xs → slice_index xs k < length c.args.forms.now.nodes in
     subst P (sym is) (items_inside c.args.forms.now c.requires.sound c.args.node c.requires.inside)

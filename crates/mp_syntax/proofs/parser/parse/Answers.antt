@@ -1,4 +1,5 @@
-use Rattle.std.proofs.Common.{◌≡◌, ◌≢◌, ◌⊎◌, inl, inr, ◌<◌, ◌≤◌, ℕ, List, [], ◌∷◌, length, refl, sym, ◌∙◌, ap, subst, arith, slice_index}
+use Rattle.std.proofs.Common.{◌≡◌, ◌≢◌, ◌⊎◌, inl, inr, ◌<◌, ◌≤◌, ℕ, List, [], ◌∷◌, length, refl, sym, ◌∙◌, ap, subst}
+use Rattle.std.proofs.Common.{arith, slice_index}
 use Rattle.mp_base.specs.declared.refusal.Place.{Place}
 use Rattle.form_reader.specs.declared.forms.Node.{Node}
 use Rattle.form_reader.specs.Sound.{node, kind_at, items_of}
@@ -16,49 +17,77 @@ returns-in-Err-clause-err c = shape_refused c.args.forms.now c.in-Err.refusal c.
 
 pub items_at-requires-clause-inside : goal.items_at-requires-clause-inside
 items_at-requires-clause-inside c =
-    root_inside c.args.forms.now c.requires.sound c.at-root.result.now [] (root_read c.args.forms.now c.in-Ok.ensures.whole c.at-root.result.now c.at-root.ensures)
+    root_inside c.args.forms.now c.requires.sound c.at-root.result.now []
+    (root_read c.args.forms.now c.in-Ok.ensures.whole c.at-root.result.now c.at-root.ensures)
 
 pub number_at-width-requires : goal.number_at-width-requires
 number_at-width-requires c =
     let f = c.args.forms.now in
-    let known : Known f c.in-Ok.classes = record { sound = c.requires.sound; symbols = c.requires.symbols; classes = c.in-Ok.ensures.ok } in
+    let known : Known f c.in-Ok.classes =
+    record { sound = c.requires.sound; symbols = c.requires.symbols; classes = c.in-Ok.ensures.ok } in
     let is : c.item-width_at.result ≡ slice_index (items_of (kind_at f c.at-root.result.now)) 2 = cc in
-    omega (arith, is, width_inside f c.in-Ok.classes known c.at-root.result.now [] (root_read f c.in-Ok.ensures.whole c.at-root.result.now c.at-root.ensures))
+    omega (
+      arith,
+      is,
+      width_inside f c.in-Ok.classes known c.at-root.result.now []
+          (root_read f c.in-Ok.ensures.whole c.at-root.result.now c.at-root.ensures),
+    )
 
 pub node_at-requires : goal.node_at-requires
 node_at-requires c =
     let f = c.args.forms.now in
-    let known : Known f c.in-Ok.classes = record { sound = c.requires.sound; symbols = c.requires.symbols; classes = c.in-Ok.ensures.ok } in
+    let known : Known f c.in-Ok.classes =
+    record { sound = c.requires.sound; symbols = c.requires.symbols; classes = c.in-Ok.ensures.ok } in
     let is : c.item-width_at.result ≡ slice_index (items_of (kind_at f c.at-root.result.now)) 2 = cc in
-    omega (arith, is, width_inside f c.in-Ok.classes known c.at-root.result.now [] (root_read f c.in-Ok.ensures.whole c.at-root.result.now c.at-root.ensures))
+    omega (
+      arith,
+      is,
+      width_inside f c.in-Ok.classes known c.at-root.result.now []
+          (root_read f c.in-Ok.ensures.whole c.at-root.result.now c.at-root.ensures),
+    )
 
 pub returns-then-width-eq0-clause-err : goal.returns-then-width-eq0-clause-err
 returns-then-width-eq0-clause-err c =
     let f = c.args.forms.now in
-    let known : Known f c.in-Ok.classes = record { sound = c.requires.sound; symbols = c.requires.symbols; classes = c.in-Ok.ensures.ok } in
+    let known : Known f c.in-Ok.classes =
+    record { sound = c.requires.sound; symbols = c.requires.symbols; classes = c.in-Ok.ensures.ok } in
     let is : c.item-width_at.result ≡ slice_index (items_of (kind_at f c.at-root.result.now)) 2 = cc in
-    width_refused f c.in-Ok.classes known c.at-root.result.now c.item-width_at.result (root_read f c.in-Ok.ensures.whole c.at-root.result.now c.at-root.ensures) c.in-Ok.ensures.whole is
-    (inl (sym c.number_at-width.ensures ∙ c.if-width-eq0.true)) c.wrong_width.result c.node_at.result.now.place (ap (λ (n : Node). n.place) c.node_at.ensures) c.wrong_width.ensures
+    width_refused f c.in-Ok.classes known c.at-root.result.now c.item-width_at.result
+    (root_read f c.in-Ok.ensures.whole c.at-root.result.now c.at-root.ensures) c.in-Ok.ensures.whole is
+    (inl (sym c.number_at-width.ensures ∙ c.if-width-eq0.true)) c.wrong_width.result c.node_at.result.now.place
+    (ap (λ (n : Node). n.place) c.node_at.ensures) c.wrong_width.ensures
 
 pub returns-then-width-gt32-clause-err : goal.returns-then-width-gt32-clause-err
 returns-then-width-gt32-clause-err c =
     let f = c.args.forms.now in
-    let known : Known f c.in-Ok.classes = record { sound = c.requires.sound; symbols = c.requires.symbols; classes = c.in-Ok.ensures.ok } in
+    let known : Known f c.in-Ok.classes =
+    record { sound = c.requires.sound; symbols = c.requires.symbols; classes = c.in-Ok.ensures.ok } in
     let is : c.item-width_at.result ≡ slice_index (items_of (kind_at f c.at-root.result.now)) 2 = cc in
-    let many : 32 < number_at f c.item-width_at.result = omega (arith, c.number_at-width.ensures, c.if-width-gt32.true) in
-    width_refused f c.in-Ok.classes known c.at-root.result.now c.item-width_at.result (root_read f c.in-Ok.ensures.whole c.at-root.result.now c.at-root.ensures) c.in-Ok.ensures.whole is
-    (inr many) c.wrong_width-then-width-gt32.result c.node_at-then-width-gt32.result.now.place (ap (λ (n : Node). n.place) c.node_at-then-width-gt32.ensures) c.wrong_width-then-width-gt32.ensures
+    let many : 32 < number_at f c.item-width_at.result =
+    omega (arith, c.number_at-width.ensures, c.if-width-gt32.true) in
+    width_refused f c.in-Ok.classes known c.at-root.result.now c.item-width_at.result
+    (root_read f c.in-Ok.ensures.whole c.at-root.result.now c.at-root.ensures) c.in-Ok.ensures.whole is
+    (inr many) c.wrong_width-then-width-gt32.result c.node_at-then-width-gt32.result.now.place
+    (ap (λ (n : Node). n.place) c.node_at-then-width-gt32.ensures) c.wrong_width-then-width-gt32.ensures
 
 pub program_of-requires-clause-one : goal.program_of-requires-clause-one
-program_of-requires-clause-one c = root_read c.args.forms.now c.in-Ok.ensures.whole c.at-root.result.now c.at-root.ensures
+program_of-requires-clause-one c =
+    root_read c.args.forms.now c.in-Ok.ensures.whole c.at-root.result.now c.at-root.ensures
 
 pub returns-clause-whole : goal.returns-clause-whole
 returns-clause-whole c = λ at e.
     let f = c.args.forms.now in
-    let one : f.roots ≡ c.at-root.result.now ∷ [] = root_read f c.in-Ok.ensures.whole c.at-root.result.now c.at-root.ensures in
+    let one : f.roots ≡ c.at-root.result.now ∷ [] =
+    root_read f c.in-Ok.ensures.whole c.at-root.result.now c.at-root.ensures in
     let is : c.item-width_at.result ≡ slice_index (items_of (kind_at f c.at-root.result.now)) 2 = cc in
-    let width : c.number_at-width.result ≡ number_at f (slice_index (items_of (kind_at f c.at-root.result.now)) 2) = c.number_at-width.ensures ∙ ap (number_at f) is in
+    let width : c.number_at-width.result ≡ number_at f (slice_index (items_of (kind_at f c.at-root.result.now)) 2) =
+    c.number_at-width.ensures ∙ ap (number_at f) is in
     let some : c.number_at-width.result ≢ 0 = c.if-width-eq0.false in
-    let low : 1 ≤ number_at f (slice_index (items_of (kind_at f c.at-root.result.now)) 2) = omega (arith, width, some) in
-    let high : number_at f (slice_index (items_of (kind_at f c.at-root.result.now)) 2) ≤ 32 = omega (arith, width, c.if-width-gt32.false) in
-    elim e [ inl ten ↦ c.in-Ok.ensures.whole at ten | inr eleven ↦ width_kept f c.at-root.result.now one low high at eleven ]
+    let low : 1 ≤ number_at f (slice_index (items_of (kind_at f c.at-root.result.now)) 2) =
+    omega (arith, width, some) in
+    let high : number_at f (slice_index (items_of (kind_at f c.at-root.result.now)) 2) ≤ 32 =
+    omega (arith, width, c.if-width-gt32.false) in
+    elim e [
+      | inl ten ↦ c.in-Ok.ensures.whole at ten
+      | inr eleven ↦ width_kept f c.at-root.result.now one low high at eleven
+    ]

@@ -1,7 +1,8 @@
 use Rattle.std.proofs.Common.{◌≡◌, ℕ, List, [], drop, map, sym, ◌∙◌, ap, slice_index, length}
 use Rattle.std.specs.List.{filter_map, flat_map}
 use Rattle.form_reader.specs.Sound.{kind_at, items_of}
-use Rattle.mp_syntax.specs.Shape.{number_at, name_at, def_at, always_at, process_at, expr_at, form_at, expr_index, form_index, is_expr, is_form, nodes_below}
+use Rattle.mp_syntax.specs.Shape.{number_at, name_at, def_at, always_at, process_at, expr_at, form_at, expr_index}
+use Rattle.mp_syntax.specs.Shape.{form_index, is_expr, is_form, nodes_below}
 use Rattle.mp_syntax.proofs.Fitting.{Known, fits_at}
 use Rattle.mp_syntax.proofs.Trees.{tree_at}
 use Rattle.mp_syntax.proofs.parser.program_of.Goals as goal
@@ -10,25 +11,41 @@ pub invariant_of-result : goal.invariant_of-result
 invariant_of-result c =
     let f = c.args.forms.now in
     let cs = c.args.classes.now in
-    let known : Known f cs = record { sound = c.requires.sound; symbols = c.requires.symbols; classes = c.requires.known } in
+    let known : Known f cs =
+    record { sound = c.requires.sound; symbols = c.requires.symbols; classes = c.requires.known } in
     let items = items_of (kind_at f c.args.root) in
     let width : c.number_at.result ≡ number_at f (slice_index items 2) = cc in
-    let name : c.in_ok-name_at.field-0 ≡ name_at f (slice_index items 1) = c.in_ok-name_at.ensures ∙ ap (name_at f) (c.item.ensures ∙ ap (λ xs. slice_index xs 1) c.items_at-items.ensures.value) in
-    let defs : c.in_ok-defs_of.field-0 ≡ filter_map (def_at f) (drop 3 items) = c.in_ok-defs_of.ensures ∙ ap (filter_map (def_at f)) c.elements_at-rest.ensures.value in
-    let exprs : c.in_ok-exprs_of.field-0 ≡ map (expr_at f (expr_index f cs)) (nodes_below (is_expr cs) (length f.nodes)) =
-    c.in_ok-exprs_of.ensures ∙ ap (λ ranks. map (expr_at f (slice_index ranks)) (nodes_below (is_expr cs) (length f.nodes))) c.in_ok-ranks.ensures.exprs in
-    let forms : c.in_ok-forms_of.field-0 ≡ map (form_at f (expr_index f cs) (form_index f cs)) (nodes_below (is_form f cs) (length f.nodes)) =
-    c.in_ok-forms_of.ensures ∙ ap (λ ranks. map (form_at f (slice_index ranks) (slice_index c.in_ok-ranks.ranks.forms)) (nodes_below (is_form f cs) (length f.nodes))) c.in_ok-ranks.ensures.exprs
-    ∙ ap (λ ranks. map (form_at f (expr_index f cs) (slice_index ranks)) (nodes_below (is_form f cs) (length f.nodes))) c.in_ok-ranks.ensures.forms in
+    let name : c.in_ok-name_at.field-0 ≡ name_at f (slice_index items 1) =
+    c.in_ok-name_at.ensures
+    ∙ ap (name_at f) (c.item.ensures ∙ ap (λ xs. slice_index xs 1) c.items_at-items.ensures.value) in
+    let defs : c.in_ok-defs_of.field-0 ≡ filter_map (def_at f) (drop 3 items) =
+    c.in_ok-defs_of.ensures ∙ ap (filter_map (def_at f)) c.elements_at-rest.ensures.value in
+    let exprs : c.in_ok-exprs_of.field-0
+    ≡ map (expr_at f (expr_index f cs)) (nodes_below (is_expr cs) (length f.nodes)) =
+    c.in_ok-exprs_of.ensures
+    ∙ ap (λ ranks. map (expr_at f (slice_index ranks)) (nodes_below (is_expr cs) (length f.nodes)))
+    c.in_ok-ranks.ensures.exprs in
+    let forms : c.in_ok-forms_of.field-0
+    ≡ map (form_at f (expr_index f cs) (form_index f cs)) (nodes_below (is_form f cs) (length f.nodes)) =
+    c.in_ok-forms_of.ensures
+    ∙ ap (λ ranks. map (form_at f (slice_index ranks) (slice_index c.in_ok-ranks.ranks.forms))
+    (nodes_below (is_form f cs) (length f.nodes))) c.in_ok-ranks.ensures.exprs
+    ∙ ap (λ ranks. map (form_at f (expr_index f cs) (slice_index ranks)) (nodes_below (is_form f cs) (length f.nodes)))
+    c.in_ok-ranks.ensures.forms in
     let always : c.in_ok-always_of.field-0 ≡ flat_map (always_at f (form_index f cs)) (drop 3 items) =
-    c.in_ok-always_of.ensures ∙ ap (flat_map (always_at f (slice_index c.in_ok-ranks.ranks.forms))) c.elements_at-rest.ensures.value
+    c.in_ok-always_of.ensures
+    ∙ ap (flat_map (always_at f (slice_index c.in_ok-ranks.ranks.forms))) c.elements_at-rest.ensures.value
     ∙ ap (λ ranks. flat_map (always_at f (slice_index ranks)) (drop 3 items)) c.in_ok-ranks.ensures.forms in
     let processes : c.in_ok-processes_of.field-0 ≡ filter_map (process_at f (form_index f cs)) (drop 3 items) =
-    c.in_ok-processes_of.ensures ∙ ap (filter_map (process_at f (slice_index c.in_ok-ranks.ranks.forms))) c.elements_at-rest.ensures.value
+    c.in_ok-processes_of.ensures
+    ∙ ap (filter_map (process_at f (slice_index c.in_ok-ranks.ranks.forms))) c.elements_at-rest.ensures.value
     ∙ ap (λ ranks. filter_map (process_at f (slice_index ranks)) (drop 3 items)) c.in_ok-ranks.ensures.forms in
     record {
-      fits = fits_at f cs known c.args.root [] c.requires.one c.requires.low c.requires.high c.number_at.result c.in_ok-name_at.field-0 c.in_ok-defs_of.field-0 c.in_ok-exprs_of.field-0
-          c.in_ok-forms_of.field-0 c.in_ok-always_of.field-0 c.in_ok-processes_of.field-0 width name defs exprs forms always processes;
-      tree = tree_at f cs known c.args.root [] c.requires.one c.in_ok-exprs_of.field-0 c.in_ok-forms_of.field-0 c.in_ok-always_of.field-0
+      fits = fits_at f cs known c.args.root [] c.requires.one c.requires.low c.requires.high c.number_at.result
+          c.in_ok-name_at.field-0 c.in_ok-defs_of.field-0 c.in_ok-exprs_of.field-0
+          c.in_ok-forms_of.field-0 c.in_ok-always_of.field-0 c.in_ok-processes_of.field-0 width name defs exprs forms
+          always processes;
+      tree = tree_at f cs known c.args.root [] c.requires.one c.in_ok-exprs_of.field-0 c.in_ok-forms_of.field-0
+          c.in_ok-always_of.field-0
           c.in_ok-processes_of.field-0 exprs forms always processes;
     }

@@ -7,6 +7,9 @@ use Rattle.mp_transfers.proofs.labels.names_of.Goals as goal
 
 pub loop-label-preserved : goal.loop-label-preserved
 loop-label-preserved c =
-    let U : List ℕ → Type 0 = λ key. UpdatesBy (λ (x y : Bor (List ℕ)). slice_cmp nat_cmp x.now y.now) (λ k. slice_cmp nat_cmp key k.now) c.loop-label.names c.insert.new.self true in
-    names_more c.loop-label.names c.insert.new.self c.args.labels.now c.loop-label.label-index c.label-item.result c.loop-label.invariant
+    let U : List ℕ
+    → Type 0 = λ key. UpdatesBy (λ (x y : Bor (List ℕ)). slice_cmp nat_cmp x.now y.now)
+    (λ k. slice_cmp nat_cmp key k.now) c.loop-label.names c.insert.new.self true in
+    names_more c.loop-label.names c.insert.new.self c.args.labels.now c.loop-label.label-index c.label-item.result
+    c.loop-label.invariant
     (omega arith, c.label-item.is) (subst U c.bytes.ensures c.in_ok-insert.ensures.updates)

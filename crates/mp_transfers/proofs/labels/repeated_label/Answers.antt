@@ -12,8 +12,13 @@ pub loop-process-preserved : goal.loop-process-preserved
 loop-process-preserved c =
     let q : Process = c.process-item.result in
     let P : List Process → Type 0 = λ xs. IsAt xs c.loop-process.process-index q in
-    let Q : List Label → Type 0 = λ xs. IsEarliest (λ at. (c.loop-process.found ≡ Some at) ⊎ IsRepeated xs at) c.in_ok-found.found in
-    upto_then c.loop-process.invariant q (subst P c.as_slice-process-items.ensures (omega arith, c.process-item.is)) c.in_ok-found.found (subst Q c.as_slice.ensures c.in_ok-found.ensures)
+    let Q : List Label
+    → Type 0 = λ xs. IsEarliest (λ at. (c.loop-process.found ≡ Some at) ⊎ IsRepeated xs at) c.in_ok-found.found in
+    upto_then c.loop-process.invariant q
+    (subst P c.as_slice-process-items.ensures (omega arith, c.process-item.is)) c.in_ok-found.found
+    (subst Q c.as_slice.ensures c.in_ok-found.ensures)
 
 pub returns : goal.returns
-returns c = repeated_broken c.args.program.now c.loop-process.found (upto_all c.loop-process.invariant (omega (arith, ap length c.as_slice-process-items.ensures)))
+returns c =
+    repeated_broken c.args.program.now c.loop-process.found
+    (upto_all c.loop-process.invariant (omega (arith, ap length c.as_slice-process-items.ensures)))

@@ -14,9 +14,11 @@ use Rattle.mp_transfers.proofs.tables.firsts.Goals as goal
 pub least_inside-first-requires : goal.least_inside-first-requires
 least_inside-first-requires c =
     let P : List Form → Type 0 = λ xs. IsAt xs (c.loop-f.f - 1) c.index-forms-f.result in
-    let at : IsAt c.args.program.now.forms (c.loop-f.f - 1) c.index-forms-f.result = subst P c.as_slice-forms.ensures (omega arith, c.index-forms-f.is) in
+    let at : IsAt c.args.program.now.forms (c.loop-f.f - 1) c.index-forms-f.result =
+    subst P c.as_slice-forms.ensures (omega arith, c.index-forms-f.is) in
     let Q : ℕ → Type 0 = λ n. All (λ g. g < n) (inner c.index-forms-f.result.kind) in
-    subst Q (sym c.loop-f.invariant.size) (inner_inside c.args.program.now c.sound.ensures (c.loop-f.f - 1) c.index-forms-f.result at)
+    subst Q (sym c.loop-f.invariant.size)
+    (inner_inside c.args.program.now c.sound.ensures (c.loop-f.f - 1) c.index-forms-f.result at)
 
 pub loop-f-preserved : goal.loop-f-preserved
 loop-f-preserved c =
@@ -27,11 +29,17 @@ loop-f-preserved c =
     let Q : ℕ → Type 0 = λ n. Done c.args.program.now (IsFound c.args.program.now c.args.sought) n c.loop-f.table in
     let e : c.loop-f.f ≡ f + 1 = omega arith in
     let done = subst Q e c.loop-f.invariant in
-    let R : List (Option Place) → Type 0 = λ t. Done c.args.program.now (IsFound c.args.program.now c.args.sought) f t in
+    let R : List (Option Place)
+    → Type 0 = λ t. Done c.args.program.now (IsFound c.args.program.now c.args.sought) f t in
     let S : Option Place → Type 0 = IsEarliest (IsFound c.args.program.now c.args.sought f) in
-    subst R (sym c.put.ensures) (done_more c.args.program.now (IsFound c.args.program.now c.args.sought) f c.loop-f.table c.if-is_sought.first at.0 done (elim c.if-is_sought.branch [
+    subst R (sym c.put.ensures)
+    (done_more c.args.program.now
+    (IsFound c.args.program.now c.args.sought) f c.loop-f.table c.if-is_sought.first at.0 done
+    (elim c.if-is_sought.branch [
       | then-is_sought w ↦ subst S (sym (w.first-is ∙ w.earlier-first.ensures))
-          (first_own c.args.program.now c.args.sought f c.loop-f.table y c.least_inside-first.result c.sound.ensures at done c.least_inside-first.ensures (sym c.is_sought.ensures ∙ w.if-is_sought.true))
+          (first_own c.args.program.now c.args.sought f c.loop-f.table y c.least_inside-first.result c.sound.ensures at
+          done c.least_inside-first.ensures (sym c.is_sought.ensures ∙ w.if-is_sought.true))
       | else-is_sought w ↦ subst S (sym w.first-is)
-          (first_other c.args.program.now c.args.sought f c.loop-f.table y c.least_inside-first.result c.sound.ensures at done c.least_inside-first.ensures (sym c.is_sought.ensures ∙ w.if-is_sought.false))
+          (first_other c.args.program.now c.args.sought f c.loop-f.table y c.least_inside-first.result c.sound.ensures
+          at done c.least_inside-first.ensures (sym c.is_sought.ensures ∙ w.if-is_sought.false))
     ]))

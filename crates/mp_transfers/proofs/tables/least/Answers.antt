@@ -9,14 +9,20 @@ pub loop-form-preserved : goal.loop-form-preserved
 loop-form-preserved c =
     let i : ℕ = c.loop-form.form-index in
     let x : ℕ = get_or c.args.forms.now i 0 in
-    let e : c.at.result.now ≡ entry c.args.table.now x = get_or_read c.args.table.now x c.at.result.now (c.requires i 0 (omega arith)) c.at.ensures _ in
-    let P : Option Place → Type 0 = Upto (λ at. c.args.found ≡ Some at) c.args.forms.now (λ k f at. entry c.args.table.now f ≡ Some at) (i + 1) in
+    let e : c.at.result.now ≡ entry c.args.table.now x =
+    get_or_read c.args.table.now x c.at.result.now (c.requires i 0 (omega arith)) c.at.ensures _ in
+    let P : Option Place
+    → Type 0 = Upto (λ at. c.args.found ≡ Some at) c.args.forms.now (λ k f at. entry c.args.table.now f ≡ Some at)
+    (i + 1) in
     subst P (sym (c.join-found.ensures ∙ ap (join c.loop-form.found) e))
-    (upto_join c.loop-form.invariant x (at_index c.args.forms.now i 0 (omega arith)) (entry c.args.table.now x) (earliest_itself (entry c.args.table.now x)))
+    (upto_join c.loop-form.invariant x (at_index c.args.forms.now i 0 (omega arith)) (entry c.args.table.now x)
+    (earliest_itself (entry c.args.table.now x)))
 
 pub returns : goal.returns
 returns c =
-    earliest_same (λ at. (c.args.found ≡ Some at) ⊎ InAny c.args.forms.now (λ k f at. entry c.args.table.now f ≡ Some at) at) (λ at. (c.args.found ≡ Some at) ⊎ IsAmong c.args.table.now c.args.forms.now at)
+    earliest_same
+    (λ at. (c.args.found ≡ Some at) ⊎ InAny c.args.forms.now (λ k f at. entry c.args.table.now f ≡ Some at) at)
+    (λ at. (c.args.found ≡ Some at) ⊎ IsAmong c.args.table.now c.args.forms.now at)
     c.loop-form.found (upto_all c.loop-form.invariant (omega arith))
     (λ at there. elim there [ inl e ↦ inl e | inr (k, x, is, e) ↦ inr (x, (k, is.0, sym is.1), e) ])
     (λ at there. elim there [ inl e ↦ inl e | inr (x, among, e) ↦ inr (among.0, x, (among.1, sym among.2), e) ])

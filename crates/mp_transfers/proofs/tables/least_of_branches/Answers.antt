@@ -11,17 +11,27 @@ use Rattle.mp_transfers.proofs.tables.least_of_branches.Goals as goal
 pub least-found-requires : goal.least-found-requires
 least-found-requires c =
     let P : List ℕ → Type 0 = All (λ f. f < length c.args.table.now) in
-    subst P (sym c.as_slice.ensures) (all_flat (λ f. f < length c.args.table.now) (λ (b : Branch). b.body) c.args.branches.now c.loop-branch.branch-index c.branch-item.result c.requires
+    subst P (sym c.as_slice.ensures)
+    (all_flat (λ f. f < length c.args.table.now)
+    (λ (b : Branch). b.body) c.args.branches.now c.loop-branch.branch-index c.branch-item.result c.requires
     (omega arith, c.branch-item.is))
 
 pub loop-branch-preserved : goal.loop-branch-preserved
 loop-branch-preserved c =
-    let P : List ℕ → Type 0 = λ xs. IsEarliest (λ at. (c.loop-branch.found ≡ Some at) ⊎ IsAmong c.args.table.now xs at) c.least-found.result in
-    upto_then c.loop-branch.invariant c.branch-item.result (omega arith, c.branch-item.is) c.least-found.result (subst P c.as_slice.ensures c.least-found.ensures)
+    let P : List ℕ
+    → Type 0 = λ xs. IsEarliest
+    (λ at. (c.loop-branch.found ≡ Some at) ⊎ IsAmong c.args.table.now xs at) c.least-found.result in
+    upto_then c.loop-branch.invariant c.branch-item.result (omega arith, c.branch-item.is) c.least-found.result
+    (subst P c.as_slice.ensures c.least-found.ensures)
 
 pub returns : goal.returns
 returns c =
-    earliest_same (λ at. ⊥ ⊎ InAny c.args.branches.now (λ k (b : Branch) at. IsAmong c.args.table.now b.body at) at) (IsAmong c.args.table.now (flat_map (λ (b : Branch). b.body) c.args.branches.now))
+    earliest_same (λ at. ⊥ ⊎ InAny c.args.branches.now (λ k (b : Branch) at. IsAmong c.args.table.now b.body at) at)
+    (IsAmong c.args.table.now (flat_map (λ (b : Branch). b.body) c.args.branches.now))
     c.loop-branch.found (upto_all c.loop-branch.invariant (omega arith))
-    (λ at there. elim there [ inl e ↦ absurd e | inr (k, b, is, (f, in_b, e)) ↦ (f, flat_out (λ (x : Branch). x.body) c.args.branches.now k b f is in_b, e) ])
-    (λ at (f, in_any, e). let (k, b, is, in_b) = flat_in (λ (x : Branch). x.body) c.args.branches.now f in_any in inr (k, b, is, (f, in_b, e)))
+    (λ at there. elim there [
+      | inl e ↦ absurd e
+      | inr (k, b, is, (f, in_b, e)) ↦ (f, flat_out (λ (x : Branch). x.body) c.args.branches.now k b f is in_b, e)
+    ])
+    (λ at (f, in_any, e). let (k, b, is, in_b) = flat_in (λ (x : Branch). x.body) c.args.branches.now f in_any in
+    inr (k, b, is, (f, in_b, e)))

@@ -14,17 +14,22 @@ loop-form-preserved c =
     let i : ℕ = c.loop-form.form-index in
     let x : ℕ = get_or c.args.forms.now i 0 in
     let at : IsAt c.args.forms.now i x = at_index c.args.forms.now i 0 (omega arith) in
-    let e : c.at.result.now ≡ entry c.args.table.now x = get_or_read c.args.table.now x c.at.result.now (c.requires i 0 (omega arith)) c.at.ensures _ in
-    let P : Bool → Option Place → Type 0 = λ b o. Run (λ at. c.args.found ≡ Some at) c.args.table.now c.args.forms.now (i + 1) b o in
+    let e : c.at.result.now ≡ entry c.args.table.now x =
+    get_or_read c.args.table.now x c.at.result.now (c.requires i 0 (omega arith)) c.at.ensures _ in
+    let P : Bool → Option Place
+    → Type 0 = λ b o. Run (λ at. c.args.found ≡ Some at) c.args.table.now c.args.forms.now (i + 1) b o in
     elim c.if-begun.branch [
       | then-begun w ↦
           let Q : Bool → Type 0 = λ b. P b c.if-begun.found in
           let R : Option Place → Type 0 = P c.loop-form.begun in
-          subst Q (sym w.begun-is) (subst R (sym (w.found-is ∙ w.join-found.ensures ∙ ap (join c.loop-form.found) e)) (run_on c.loop-form.invariant x at w.if-begun.true))
+          subst Q (sym w.begun-is)
+          (subst R (sym (w.found-is ∙ w.join-found.ensures ∙ ap (join c.loop-form.found) e))
+          (run_on c.loop-form.invariant x at w.if-begun.true))
       | else-begun w ↦
           let Q : Bool → Type 0 = λ b. P b c.if-begun.found in
           let R : Option Place → Type 0 = P (is_some (entry c.args.table.now x)) in
-          subst Q (sym (w.begun-is ∙ w.is_some-begun.ensures ∙ ap is_some e)) (subst R (sym w.found-is) (run_first c.loop-form.invariant x at w.if-begun.false))
+          subst Q (sym (w.begun-is ∙ w.is_some-begun.ensures ∙ ap is_some e))
+          (subst R (sym w.found-is) (run_first c.loop-form.invariant x at w.if-begun.false))
     ]
 
 pub returns : goal.returns

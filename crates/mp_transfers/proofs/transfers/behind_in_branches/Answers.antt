@@ -10,20 +10,31 @@ use Rattle.mp_transfers.proofs.transfers.behind_in_branches.Goals as goal
 pub behind_first-found-requires : goal.behind_first-found-requires
 behind_first-found-requires c =
     let P : List ℕ → Type 0 = All (λ f. f < length c.args.table.now) in
-    subst P (sym c.as_slice.ensures) (all_flat (λ f. f < length c.args.table.now) (λ (b : Branch). b.body) c.args.branches.now c.loop-branch.branch-index c.branch-item.result c.requires
+    subst P (sym c.as_slice.ensures)
+    (all_flat (λ f. f < length c.args.table.now)
+    (λ (b : Branch). b.body) c.args.branches.now c.loop-branch.branch-index c.branch-item.result c.requires
     (omega arith, c.branch-item.is))
 
 pub loop-branch-preserved : goal.loop-branch-preserved
 loop-branch-preserved c =
-    let P : List ℕ → Type 0 = λ xs. IsEarliest (λ at. (c.loop-branch.found ≡ Some at) ⊎ IsBehind c.args.table.now xs at) c.behind_first-found.result in
-    upto_then c.loop-branch.invariant c.branch-item.result (omega arith, c.branch-item.is) c.behind_first-found.result (subst P c.as_slice.ensures c.behind_first-found.ensures)
+    let P : List ℕ
+    → Type 0 = λ xs. IsEarliest
+    (λ at. (c.loop-branch.found ≡ Some at) ⊎ IsBehind c.args.table.now xs at) c.behind_first-found.result in
+    upto_then c.loop-branch.invariant c.branch-item.result (omega arith, c.branch-item.is) c.behind_first-found.result
+    (subst P c.as_slice.ensures c.behind_first-found.ensures)
 
 pub returns : goal.returns
 returns c =
-    earliest_same (λ at. (c.args.found ≡ Some at) ⊎ InAny c.args.branches.now (λ k (b : Branch) at. IsBehind c.args.table.now b.body at) at)
-    (λ at. (c.args.found ≡ Some at) ⊎ IsBehindInOne c.args.table.now (map (λ (b : Branch). b.body) c.args.branches.now) at)
+    earliest_same
+    (λ at. (c.args.found ≡ Some at)
+    ⊎ InAny c.args.branches.now (λ k (b : Branch) at. IsBehind c.args.table.now b.body at) at)
+    (λ at. (c.args.found ≡ Some at)
+    ⊎ IsBehindInOne c.args.table.now (map (λ (b : Branch). b.body) c.args.branches.now) at)
     c.loop-branch.found (upto_all c.loop-branch.invariant (omega arith))
-    (λ at there. elim there [ inl e ↦ inl e | inr (k, b, is, behind) ↦ inr (b.body, map_out (λ (x : Branch). x.body) c.args.branches.now k b is, behind) ])
+    (λ at there. elim there [
+      | inl e ↦ inl e
+      | inr (k, b, is, behind) ↦ inr (b.body, map_out (λ (x : Branch). x.body) c.args.branches.now k b is, behind)
+    ])
     (λ at there. elim there [
       | inl e ↦ inl e
       | inr (forms, in_any, behind) ↦ (

@@ -12,10 +12,15 @@ loop-process-preserved c =
     let i : ℕ = c.loop-process.process-index in
     let q : Process = c.process-item.result in
     let P : List Process → Type 0 = λ xs. IsAt xs i q in
-    let Q : List ℕ → Type 0 = λ xs. IsEarliest (λ at. (c.loop-process.found ≡ Some at) ⊎ IsAmong c.in_ok-seconds.seconds xs at) c.least-found.result in
-    upto_then c.loop-process.invariant q (subst P c.as_slice-process-items.ensures (omega arith, c.process-item.is)) c.least-found.result (subst Q c.as_slice.ensures c.least-found.ensures)
+    let Q : List ℕ
+    → Type 0 = λ xs. IsEarliest
+    (λ at. (c.loop-process.found ≡ Some at) ⊎ IsAmong c.in_ok-seconds.seconds xs at) c.least-found.result in
+    upto_then c.loop-process.invariant q
+    (subst P c.as_slice-process-items.ensures (omega arith, c.process-item.is)) c.least-found.result
+    (subst Q c.as_slice.ensures c.least-found.ensures)
 
 pub returns : goal.returns
 returns c =
-    second_broken c.args.program.now c.in_ok-seconds.seconds c.loop-process.found c.sound.ensures c.in_ok-seconds.ensures
+    second_broken c.args.program.now c.in_ok-seconds.seconds c.loop-process.found c.sound.ensures
+    c.in_ok-seconds.ensures
     (upto_all c.loop-process.invariant (omega (arith, ap length c.as_slice-process-items.ensures)))

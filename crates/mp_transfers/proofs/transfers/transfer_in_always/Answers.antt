@@ -9,4 +9,5 @@ pub returns : goal.returns
 returns c =
     let P : List ℕ → Type 0 = λ xs. IsEarliest (IsAmong c.in_ok-firsts.firsts xs) c.least.result in
     always_broken c.args.program.now c.in_ok-firsts.firsts c.least.result c.sound.ensures c.in_ok-firsts.ensures
-    (subst P c.as_slice.ensures (from_none (IsAmong c.in_ok-firsts.firsts c.as_slice.result.now) c.least.result c.least.ensures))
+    (subst P c.as_slice.ensures
+    (from_none (IsAmong c.in_ok-firsts.firsts c.as_slice.result.now) c.least.result c.least.ensures))

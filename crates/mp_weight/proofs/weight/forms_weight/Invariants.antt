@@ -5,4 +5,5 @@ use Rattle.mp_program.specs.Weight.{form_weight}
 use Rattle.mp_weight.proofs.weight.forms_weight.Given as goal
 
 abbrev pub invariant-loop-form : goal.invariant-loop-form
-invariant-loop-form l = l.weight ≡ min l.cap (sum_by (λ (f : Form). form_weight f.kind) (take l.form-index l.form-items))
+invariant-loop-form l =
+    l.weight ≡ min l.cap (sum_by (λ (f : Form). form_weight f.kind) (take l.form-index l.form-items))

@@ -4,4 +4,5 @@ use Rattle.mp_program.specs.Weight.{process_weight}
 use Rattle.mp_weight.proofs.weight.processes_weight.Given as goal
 
 abbrev pub invariant-loop-process : goal.invariant-loop-process
-invariant-loop-process l = l.weight ≡ min l.cap (sum_by (process_weight l.program) (take l.process-index l.process-items))
+invariant-loop-process l =
+    l.weight ≡ min l.cap (sum_by (process_weight l.program) (take l.process-index l.process-items))

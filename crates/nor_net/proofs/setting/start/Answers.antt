@@ -1,9 +1,9 @@
 use Rattle.std.proofs.Common.{◌≡◌, ◌<◌, ◌+◌, length, take, get_or, refl, subst, ◌∙◌, ap, arith}
 use Rattle.std.specs.Prelude.{IfSome, slice_get}
 use Rattle.mp_base.specs.declared.value.Trit.TheVariants.{X}
+use Rattle.mp_base.proofs.Entries.{some_entry}
 use Rattle.nor_net.specs.Shape.{count_inputs, input_count}
 use Rattle.nor_net.specs.Passing.{first_value}
-use Rattle.nor_net.proofs.Passing.{entry}
 use Rattle.nor_net.proofs.Counting.{count_more, count_small, one_input}
 use Rattle.nor_net.proofs.Starting.{one_started}
 use Rattle.nor_net.proofs.setting.start.Goals as goal
@@ -12,7 +12,7 @@ pub overflow_add-next : goal.overflow_add-next
 overflow_add-next c =
     let inside : c.loop-number.number < length c.args.net.now =
     omega (arith, c.loop-number-test.true, c.len-number-end.ensures.len) in
-    let p = entry c.args.net.now c.loop-number.number inside in
+    let p = some_entry c.args.net.now c.loop-number.number inside in
     let i : c.inputs_in-next.result ≡ input_count p.0 =
     subst (λ o. IfSome o (λ p. c.inputs_in-next.result ≡ input_count p)) p.1 c.inputs_in-next.ensures in
     let one = one_input p.0 in
@@ -25,7 +25,7 @@ pub loop-number-preserved : goal.loop-number-preserved
 loop-number-preserved c =
     let inside : c.loop-number.number < length c.args.net.now =
     omega (arith, c.loop-number-test.true, c.len-number-end.ensures.len) in
-    let p = entry c.args.net.now c.loop-number.number inside in
+    let p = some_entry c.args.net.now c.loop-number.number inside in
     let i : c.inputs_in-next.result ≡ input_count p.0 =
     subst (λ o. IfSome o (λ p. c.inputs_in-next.result ≡ input_count p)) p.1 c.inputs_in-next.ensures in
     let more = count_more c.args.net.now c.loop-number.number p.0 p.1 in

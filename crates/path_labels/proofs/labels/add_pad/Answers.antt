@@ -1,16 +1,13 @@
 use Rattle.std.proofs.Common.{◌≢◌, ◌∙◌, map, subst, arith}
-use Rattle.std.specs.Prelude.{Err, Ok, OnOk, Result, suc}
+use Rattle.std.specs.Prelude.{suc}
 use Rattle.std.specs.List.{range_with_len}
+use Rattle.std.proofs.lemmas.Result.{on_ok_weaker}
 use Rattle.switch_net.specs.Pads.{word_labels}
 use Rattle.nor_net.specs.Elements.{spot}
 use Rattle.drawing.specs.Draws.{OfNet}
 use Rattle.path_labels.specs.Labels.{Adds}
 use Rattle.path_labels.proofs.Adding.{signal_added, word_added}
 use Rattle.path_labels.proofs.labels.add_pad.Goals as goal
-
-on_more : {T E : Type 0} (r : Result T E) (P Q : Type 0) → (P → Q) → OnOk r P → OnOk r Q
-on_more (Ok x) P Q f h = f h
-on_more (Err e) P Q f h = h
 
 pub returns-in_ok-push : goal.returns-in_ok-push
 returns-in_ok-push c =
@@ -26,7 +23,8 @@ returns-else-pad-eq0 c =
     let new = c.add_word.new.labels in
     let bits = map (λ k. OfNet (spot (suc k) c.args.net)) (range_with_len 0 p.width) in
     let word : pad.width ≢ 0 = λ e. omega (arith, c.if-pad-eq0.false, e) in
-    on_more c.add_word.result _ _
+    on_ok_weaker c.add_word.result
     (λ added. word_added p c.args.fabric.now pad c.args.net p.width old new word (c.requires.entry.wide word)
     (subst (λ name. Adds p c.args.fabric.now bits (word_labels name p.width) old new) c.bytes-else-pad-eq0.ensures
-    added)) c.add_word.ensures
+    added))
+    c.add_word.ensures

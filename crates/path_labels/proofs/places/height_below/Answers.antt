@@ -1,5 +1,6 @@
 use Rattle.std.proofs.Common.{◌+◌, get_or, ap, arith}
-use Rattle.path_labels.proofs.Heights.{base_next, top_low}
+use Rattle.fabric.proofs.Bases.{top_low}
+use Rattle.path_labels.proofs.Heights.{base_next}
 use Rattle.path_labels.proofs.places.height_below.Goals as goal
 
 pub overflow_add-height-in-loop-index : goal.overflow_add-height-in-loop-index

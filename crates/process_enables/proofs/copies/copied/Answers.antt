@@ -1,8 +1,8 @@
 use Rattle.std.proofs.Common.{ℕ, arith, ◌∙◌}
 use Rattle.std.proofs.lemmas.List.{get_or_default}
+use Rattle.std.proofs.lemmas.Result.{IfOk-weaker}
 use Rattle.rtl_form.specs.declared.rtl.RtlExpr.{RtlExpr}
 use Rattle.process_enables.specs.Copies.{IsNamedCopy, IsCopyAt}
-use Rattle.process_enables.proofs.Adding.{if_ok}
 use Rattle.process_enables.proofs.Copying.{copied_named}
 use Rattle.process_enables.proofs.copies.copied.Goals as goal
 
@@ -19,7 +19,7 @@ returns-in-Named c =
     let index = c.at-in-Named.ensures
     ∙ get_or_default c.args.meanings.now.exprs e d 0 (omega (arith, lt, as_many))
     ∙ c.requires.meanings.exprs e c.at.result.now c.in-Named.field-0 (lt, c.at.ensures) c.in-Named.is in
-    if_ok c.copied_name.result P Q
+    IfOk-weaker c.copied_name.result P Q
     (λ y named. copied_named p roles e c.at.result.now y (c.requires.inside, c.at.ensures) c.in-Named.field-0
     d c.in-Named.is index named)
     c.copied_name.ensures

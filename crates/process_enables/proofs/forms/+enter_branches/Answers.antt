@@ -1,7 +1,7 @@
-use Rattle.std.proofs.Common.{rules, ◌-◌, ℕ, length, arith, subst, take, drop}
+use Rattle.std.proofs.Common.{rules, ℕ, arith, subst}
+use Rattle.std.proofs.lemmas.Result.{on_ok_weaker}
 use Rattle.process_plan.specs.declared.enable.Enable.{Enable}
-use Rattle.process_enables.specs.Forms.{Narrows, EntersBranches}
-use Rattle.process_enables.proofs.Adding.{on_ok}
+use Rattle.process_enables.specs.Forms.{Narrows}
 use Rattle.process_enables.proofs.Branching.{first_in, other_in, branches_one, branches_more}
 use Rattle.process_enables.proofs.forms.+enter_branches.Goals as goal
 
@@ -52,8 +52,8 @@ returns-in_ok-expr-in-len1-up t c =
     let new = c.enter_branches.new.enables in
     let y : Enable = record { origin = x.origin; expr = m } in
     let N : ℕ → Type 0 = λ g. Narrows x.expr g e1 e2 m in
-    on_ok c.enter_branches.result (EntersBranches p y (take (length bs - 1) (drop 1 bs)) e2 e3 mid new)
-    (EntersBranches p x bs c.args.exprs.now e3 c.args.enables.now new)
+    on_ok_weaker
+    c.enter_branches.result
     (λ later. branches_more p x bs b m c.args.exprs.now e1 e2 e3 c.args.enables.now mid new
     c.in-len1-up.len_at_least c.first-item.is c.in_ok-guard-in-len1-up.ensures.entered
     (subst N c.in_ok-guard-in-len1-up.ensures.guard c.in_ok-expr-in-len1-up.ensures) later)

@@ -1,9 +1,10 @@
 use Rattle.std.proofs.Common.{◌≡◌, ◌∙◌, ◌++◌, ℕ, List, Bool, false}
 use Rattle.std.specs.Prelude.{slice_index_or}
+use Rattle.std.proofs.lemmas.Result.{IfOk-weaker}
 use Rattle.process_layout.specs.declared.laid.Laid.{Laid}
 use Rattle.process_layout.specs.Holding.{KeepCells}
 use Rattle.process_layout.specs.Laying.{entry_roles, process_roles}
-use Rattle.process_layout.proofs.Growth.{ok_then, process_laid}
+use Rattle.process_layout.proofs.Growth.{process_laid}
 use Rattle.process_layout.proofs.places.lay_process.Goals as goal
 
 abbrev told : List Bool → ℕ → Bool
@@ -15,7 +16,7 @@ returns-clause-roles c =
     let q = c.args.process.now in
     let before = c.args.before.roles in
     let laid = c.in_ok-laid.laid.roles in
-    ok_then c.lay_stack.result
+    IfOk-weaker c.lay_stack.result
     (λ (now : Laid). now.roles ≡ laid ++ entry_roles k c.as_slice.result.now q.depth)
     (λ (now : Laid). now.roles ≡ before ++ process_roles (told c.args.calling.now) k q)
     (λ now is. process_laid (told c.args.calling.now) k q c.as_slice-forms.result.now c.as_slice.result.now
@@ -25,5 +26,5 @@ returns-clause-roles c =
 
 pub returns-clause-cells : goal.returns-clause-cells
 returns-clause-cells c =
-    ok_then c.lay_stack.result (KeepCells c.in_ok-laid.laid) (KeepCells c.args.before)
+    IfOk-weaker c.lay_stack.result (KeepCells c.in_ok-laid.laid) (KeepCells c.args.before)
     (λ now kept ds held. kept ds (c.in_ok-laid.ensures.cells ds held)) c.lay_stack.ensures.cells

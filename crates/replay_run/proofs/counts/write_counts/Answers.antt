@@ -7,8 +7,9 @@ use Rattle.mp_base.specs.declared.value.Trit.TheVariants.{One, X}
 use Rattle.mp_base.specs.Outside.{Gains}
 use Rattle.mp_base.specs.Piece.{TakesAll}
 use Rattle.mp_base.proofs.Written.{written_then}
+use Rattle.mp_base.proofs.CutTexts.{cut_at}
 use Rattle.switch_net.specs.Sizes.{same_value}
-use Rattle.replay_run.proofs.Counting.{cut_at, regrouped}
+use Rattle.replay_run.proofs.Counting.{regrouped}
 use Rattle.replay_run.proofs.counts.write_counts.Goals as goal
 
 pub returns-in_err-write_number-2-clause-taken : goal.returns-in_err-write_number-2-clause-taken

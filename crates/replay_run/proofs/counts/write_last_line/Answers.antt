@@ -5,10 +5,11 @@ use Rattle.mp_base.specs.declared.value.Trit.TheVariants.{One, X}
 use Rattle.mp_base.specs.Outside.{Gains}
 use Rattle.mp_base.specs.Piece.{TakesAll}
 use Rattle.mp_base.proofs.Written.{written_then}
+use Rattle.mp_base.proofs.CutTexts.{cut_at}
 use Rattle.settle.specs.Values.{value_at}
 use Rattle.switch_net.specs.Sizes.{nodes_with}
 use Rattle.mask_net.specs.SizeLine.{counts_text, size_text}
-use Rattle.replay_run.proofs.Counting.{counts_are, cut_at}
+use Rattle.replay_run.proofs.Counting.{counts_are}
 use Rattle.replay_run.proofs.counts.write_last_line.Goals as goal
 
 pub returns-in_err-write_all-clause-taken : goal.returns-in_err-write_all-clause-taken

@@ -1,6 +1,6 @@
 use Rattle.std.proofs.Common.{subst}
+use Rattle.switch_net.proofs.Circuits.{breaks_nothing}
 use Rattle.clock_run.specs.Refused.{IsRefused}
-use Rattle.replay_run.proofs.Replaying.{breaks_nothing}
 use Rattle.replay_run.proofs.replay.simulation.Goals as goal
 
 pub unreachable-requires : goal.unreachable-requires

@@ -1,8 +1,7 @@
-use Rattle.std.proofs.Common.{sym, subst, refl, arith, slice_index}
+use Rattle.std.proofs.Common.{sym, subst, refl, arith, slice_index, below_more}
 use Rattle.std.specs.Prelude.{IsTrue}
 use Rattle.std.proofs.lemmas.Bool.{false≢true}
 use Rattle.rtl_check.specs.Parts.{ArgFits}
-use Rattle.rtl_check.proofs.Each.{all_more}
 use Rattle.rtl_check.proofs.exprs.args_fit.Goals as goal
 
 pub returns-then-not-arg_fits : goal.returns-then-not-arg_fits
@@ -13,5 +12,5 @@ returns-then-not-arg_fits c = (
 
 pub loop-k-preserved : goal.loop-k-preserved
 loop-k-preserved c =
-    all_more (λ j. ArgFits c.args.rtl.now c.args.index c.args.words (slice_index c.args.args.now j)) c.loop-k.k
+    below_more (λ j. ArgFits c.args.rtl.now c.args.index c.args.words (slice_index c.args.args.now j)) c.loop-k.k
     c.loop-k.invariant (c.arg_fits.ensures.0 (subst IsTrue (sym c.if-not-arg_fits.false) refl))

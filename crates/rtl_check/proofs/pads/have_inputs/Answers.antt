@@ -1,9 +1,8 @@
-use Rattle.std.proofs.Common.{sym, subst, refl, arith}
+use Rattle.std.proofs.Common.{sym, subst, refl, arith, below_more}
 use Rattle.std.specs.Prelude.{IsTrue}
 use Rattle.std.proofs.lemmas.Bool.{false≢true}
 use Rattle.rtl_form.specs.declared.rtl.CellKind.TheVariants.{Input}
 use Rattle.rtl_check.specs.Parts.{HasOne}
-use Rattle.rtl_check.proofs.Each.{all_more}
 use Rattle.rtl_check.proofs.pads.have_inputs.Goals as goal
 
 pub returns-then-not-has_input : goal.returns-then-not-has_input
@@ -16,5 +15,5 @@ returns-then-not-has_input c = (
 
 pub loop-pad-preserved : goal.loop-pad-preserved
 loop-pad-preserved c =
-    all_more (λ k. HasOne c.args.cells.now (Input k)) c.loop-pad.pad c.loop-pad.invariant
+    below_more (λ k. HasOne c.args.cells.now (Input k)) c.loop-pad.pad c.loop-pad.invariant
     (c.has_input.ensures.0 (subst IsTrue (sym c.if-not-has_input.false) refl))

@@ -1,4 +1,5 @@
-use Rattle.sequencer_cases.proofs.Fitting.{inputs_fit, zeros_long}
+use Rattle.sequencer_cases.proofs.Fitting.{inputs_fit}
+use Rattle.mp_program.proofs.Lengths.{length_zero_outputs}
 use Rattle.sequencer_cases.proofs.running.agree.Goals as goal
 
 pub clock-requires-clause-inputs : goal.clock-requires-clause-inputs
@@ -8,5 +9,5 @@ clock-requires-clause-inputs c =
 
 pub clock-requires-clause-outputs : goal.clock-requires-clause-outputs
 clock-requires-clause-outputs c =
-    zeros_long c.args.machine.now.program c.pads-pads.result.now c.in_ok-outputs.outputs c.pads-pads.ensures
+    length_zero_outputs c.args.machine.now.program c.pads-pads.result.now c.in_ok-outputs.outputs c.pads-pads.ensures
     c.in_ok-outputs.ensures

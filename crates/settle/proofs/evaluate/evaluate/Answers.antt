@@ -14,7 +14,8 @@ returns-else-low-clause-stuck c still =
     stuck_from (setting_of c.args.board.now) v v v c.gather.new.cluster.members c.give.new.given.members ones
     c.gather.ensures.cluster.undriven c.give.ensures.given c.give-2.ensures.given
     (c.write-low.ensures.none c.if-low.false)
-    (subst (λ (vs : List Trit). (n : ℕ) → Contains ones n → value_at vs n ≢ X) (c.write-low.ensures.same c.if-low.false) (c.write-high.ensures.none still))
+    (subst (λ (vs : List Trit). (n : ℕ) → Contains ones n → value_at vs n ≢ X)
+    (c.write-low.ensures.same c.if-low.false) (c.write-high.ensures.none still))
     c.args.node c.gather.ensures.node
 
 pub returns-else-low-clause-marked : goal.returns-else-low-clause-marked
@@ -27,6 +28,7 @@ returns-else-low-clause-marked c still n q =
           (stuck_from (setting_of c.args.board.now) v v v c.gather.new.cluster.members c.give.new.given.members ones
           c.gather.ensures.cluster.undriven c.give.ensures.given c.give-2.ensures.given
           (c.write-low.ensures.none c.if-low.false)
-          (subst (λ (vs : List Trit). (n : ℕ) → Contains ones n → value_at vs n ≢ X) (c.write-low.ensures.same c.if-low.false) (c.write-high.ensures.none still))
+          (subst (λ (vs : List Trit). (n : ℕ) → Contains ones n → value_at vs n ≢ X)
+          (c.write-low.ensures.same c.if-low.false) (c.write-high.ensures.none still))
           n r)
     ]

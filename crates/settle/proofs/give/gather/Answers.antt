@@ -6,5 +6,7 @@ use Rattle.settle.proofs.give.gather.Goals as goal
 
 pub returns-clause-cluster : goal.returns-clause-cluster
 returns-clause-cluster c =
-    cluster_from (setting_of c.args.board.now) (value_at c.args.values.now) c.args.node c.insert.new.self.members c.grow.new.set.members c.requires.undriven
-    (c.insert.ensures.members ∙ ap (λ (xs : List ℕ). xs ++ c.args.node ∷ []) c.clear.ensures.none) c.grow.ensures.spreads
+    cluster_from (setting_of c.args.board.now)
+    (value_at c.args.values.now) c.args.node c.insert.new.self.members c.grow.new.set.members c.requires.undriven
+    (c.insert.ensures.members ∙ ap (λ (xs : List ℕ). xs ++ c.args.node ∷ []) c.clear.ensures.none)
+    c.grow.ensures.spreads

@@ -7,4 +7,6 @@ use Rattle.settle.proofs.give.meets.Given as goal
 
 abbrev pub invariant-loop-node : goal.invariant-loop-node
 invariant-loop-node l =
-    (k : ℕ) → k < l.node-index → Borders (setting_of l.board) (MayBeOn (value_at l.values)) (IsSource l.source (setting_of l.board)) (get_or l.cluster.members k 0) → ⊥
+    (k : ℕ) → k < l.node-index
+    → Borders (setting_of l.board) (MayBeOn (value_at l.values)) (IsSource l.source (setting_of l.board))
+    (get_or l.cluster.members k 0) → ⊥

@@ -11,5 +11,7 @@ returns-then-matches c =
     let inside = c.requires in
     let new = c.add_ends.new.list in
     let was = get_or_default lists ch.gate c.index-lists-channel.result [] inside in
-    let is : new ≡ listed lists ch.gate ++ ch.ends = c.in_ok-add_ends.ensures ∙ ap (λ (xs : List ℕ). xs ++ c.as_slice.result.now) was ∙ ap (λ (ys : List ℕ). listed lists ch.gate ++ ys) c.as_slice.ensures in
+    let is : new ≡ listed lists ch.gate ++ ch.ends =
+    c.in_ok-add_ends.ensures ∙ ap (λ (xs : List ℕ). xs ++ c.as_slice.result.now) was
+    ∙ ap (λ (ys : List ℕ). listed lists ch.gate ++ ys) c.as_slice.ensures in
     adds_gated ch lists new inside is

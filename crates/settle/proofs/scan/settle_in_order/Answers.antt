@@ -10,4 +10,5 @@ returns-clause-settled c none =
     let order = c.requires.order (c.if-not-has_order.false) in
     let ready = c.scan.ensures.ready in
     let law = c.ordered_settings_settle.ensures in
-    law.settle s order.0 v order.1 (law.solve s v (mark_at c.scan.new.waits) ready.told (c.is_none_waiting.ensures none) ready.driven)
+    law.settle s order.0 v order.1
+    (law.solve s v (mark_at c.scan.new.waits) ready.told (c.is_none_waiting.ensures none) ready.driven)

@@ -13,7 +13,8 @@ loop-round-preserved c =
       | then-waits+then-node-board+then-is_open w ↦
           rw (w.sets-is, w.values-is) (
             w.evaluate.ensures.sets,
-            climbs_step s c.nodes_are_given.ensures.grow (value_at c.loop-round.values) (value_at w.evaluate.new.values) h.1 w.evaluate.ensures.steps,
+            climbs_step s c.nodes_are_given.ensures.grow (value_at c.loop-round.values)
+                (value_at w.evaluate.new.values) h.1 w.evaluate.ensures.steps,
             let less = w.evaluate.ensures.fewer in let before = h.2 in omega arith,
           )
       | else-waits w ↦ rw (w.sets-is, w.values-is) h

@@ -7,4 +7,5 @@ use Rattle.settle.proofs.solve.drain.Given as goal
 
 abbrev pub invariant-loop-round : goal.invariant-loop-round
 invariant-loop-round l =
-    HaveRoom (nodes_of l.board) l.sets × Climbs (setting_of l.board) (value_at l.values) × (unknown l.values ≤ unknown l.initial.values)
+    HaveRoom (nodes_of l.board) l.sets × Climbs (setting_of l.board) (value_at l.values)
+    × (unknown l.values ≤ unknown l.initial.values)

@@ -5,11 +5,15 @@ use Rattle.settle.specs.Board.{setting_of}
 use Rattle.settle.proofs.Climbing.{climbs_step}
 use Rattle.settle.proofs.Passing.{passes_skip, passes_more, passes_look}
 use Rattle.settle.proofs.solve.pass.Goals as goal
-use Rattle.settle.proofs.solve.pass.Goals.{then-is_open+then-not-looked-node+then-evaluate, then-is_open+then-not-looked-node+else-evaluate, else-is_open, else-is_open-via-then-is_open+else-not-looked-node, else-is_open-via-else-is_open}
+use Rattle.settle.proofs.solve.pass.Goals.{then-is_open+then-not-looked-node+then-evaluate}
+use Rattle.settle.proofs.solve.pass.Goals.{then-is_open+then-not-looked-node+else-evaluate, else-is_open}
+use Rattle.settle.proofs.solve.pass.Goals.{else-is_open-via-then-is_open+else-not-looked-node}
+use Rattle.settle.proofs.solve.pass.Goals.{else-is_open-via-else-is_open}
 
 pub drain-requires-clause-climbs : goal.drain-requires-clause-climbs
 drain-requires-clause-climbs c =
-    climbs_step (setting_of c.args.board.now) c.nodes_are_given.ensures.grow (value_at c.loop-node.values) (value_at c.evaluate.new.values) c.loop-node.invariant.climbs c.evaluate.ensures.steps
+    climbs_step (setting_of c.args.board.now) c.nodes_are_given.ensures.grow (value_at c.loop-node.values)
+    (value_at c.evaluate.new.values) c.loop-node.invariant.climbs c.evaluate.ensures.steps
 
 pub loop-node-preserved : goal.loop-node-preserved
 loop-node-preserved c =
@@ -24,18 +28,24 @@ loop-node-preserved c =
     elim c.if-is_open.branch [
       | then-is_open+then-not-looked-node+then-evaluate w ↦
           rw (w.values-is, w.sets-is, w.looked-is, w.changed-is)
-          (passes_more b i old (i + 1) w.drain.new.sets w.drain.new.looked w.drain.new.values w.drain.ensures.sets w.drain.ensures.climbs
-          (let first = w.evaluate.ensures.more w.if-evaluate.true in let then = w.drain.ensures.fewer in let before = h.fewer in omega arith))
+          (passes_more b i old
+          (i + 1) w.drain.new.sets w.drain.new.looked w.drain.new.values w.drain.ensures.sets w.drain.ensures.climbs
+          (let first = w.evaluate.ensures.more w.if-evaluate.true in let then = w.drain.ensures.fewer in
+          let before = h.fewer in omega arith))
       | then-is_open+then-not-looked-node+else-evaluate w ↦
           rw (w.values-is, w.sets-is, w.looked-is, w.changed-is)
-          (passes_look b i old changed sets w.evaluate.new.sets looked w.evaluate.new.looked mid w.evaluate.new.values h w.evaluate.ensures.sets
-          (w.evaluate.ensures.same w.if-evaluate.false) (w.evaluate.ensures.stuck w.if-evaluate.false) (w.evaluate.ensures.marked w.if-evaluate.false))
+          (passes_look b i old changed sets w.evaluate.new.sets looked w.evaluate.new.looked mid w.evaluate.new.values
+          h w.evaluate.ensures.sets
+          (w.evaluate.ensures.same w.if-evaluate.false) (w.evaluate.ensures.stuck w.if-evaluate.false)
+          (w.evaluate.ensures.marked w.if-evaluate.false))
       | else-is_open w ↦
           rw (w.values-is, w.sets-is, w.looked-is, w.changed-is)
           (passes_skip b i old changed sets looked mid h
           (elim w.else-is_open.branch [
-            | else-is_open-via-then-is_open+else-not-looked-node w' ↦ λ still. h.marked still i w'.if-not-looked-node.false
-            | else-is_open-via-else-is_open w' ↦ λ _ free x. absurd (iff_false c.is_open.ensures w'.if-is_open.false (free, x))
+            | else-is_open-via-then-is_open+else-not-looked-node w' ↦
+                λ still. h.marked still i w'.if-not-looked-node.false
+            | else-is_open-via-else-is_open w' ↦
+                λ _ free x. absurd (iff_false c.is_open.ensures w'.if-is_open.false (free, x))
           ]))
     ]
 

@@ -8,7 +8,8 @@ use Rattle.settle.proofs.Climbing.{climbs_start, settled_from, past_stuck}
 use Rattle.settle.proofs.solve.solve.Goals as goal
 
 pub loop-changed-init : goal.loop-changed-init
-loop-changed-init c = (c.requires.sets, climbs_start (setting_of c.args.board.now) (value_at c.start.new.values) c.start.ensures)
+loop-changed-init c =
+    (c.requires.sets, climbs_start (setting_of c.args.board.now) (value_at c.start.new.values) c.start.ensures)
 
 pub returns-then-not-changed-clause-settled : goal.returns-then-not-changed-clause-settled
 returns-then-not-changed-clause-settled c =

@@ -9,4 +9,5 @@ use Rattle.settle.proofs.spread.add_adjoining.Given as goal
 abbrev pub invariant-loop-number : goal.invariant-loop-number
 invariant-loop-number l =
     (l.set.room ≡ l.initial.set.room)
-    × AddsFirst (setting_of l.board) (Uses l.route (value_at l.values)) l.node (listed l.board.at.now l.node) l.number-index l.initial.set.members l.set.members
+    × AddsFirst (setting_of l.board) (Uses l.route (value_at l.values)) l.node
+    (listed l.board.at.now l.node) l.number-index l.initial.set.members l.set.members

@@ -10,4 +10,5 @@ use Rattle.settle.proofs.spread.borders.Given as goal
 abbrev pub invariant-loop-number : goal.invariant-loop-number
 invariant-loop-number l =
     (k : ℕ) (c : Channel) → k < l.number-index
-    → NoBorder (setting_of l.board) (Uses l.route (value_at l.values)) (IsSource l.source (setting_of l.board)) (get_or (setting_of l.board).channels (get_or (listed l.board.at.now l.node) k 0) c)
+    → NoBorder (setting_of l.board) (Uses l.route (value_at l.values)) (IsSource l.source (setting_of l.board))
+    (get_or (setting_of l.board).channels (get_or (listed l.board.at.now l.node) k 0) c)

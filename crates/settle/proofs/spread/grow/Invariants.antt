@@ -7,7 +7,8 @@ use Rattle.settle.proofs.spread.grow.Given as goal
 
 abbrev pub invariant-loop-next : goal.invariant-loop-next
 invariant-loop-next l =
-    (l.set.room ≡ l.initial.set.room) × GrowsFirst (setting_of l.board) (Uses l.route (value_at l.values)) l.next l.initial.set.members l.set.members
+    (l.set.room ≡ l.initial.set.room)
+    × GrowsFirst (setting_of l.board) (Uses l.route (value_at l.values)) l.next l.initial.set.members l.set.members
 
 abbrev pub decreases-loop-next : goal.decreases-loop-next
 decreases-loop-next l = l.set.room - l.next

@@ -7,4 +7,5 @@ use Rattle.settle.proofs.spread.seed.Given as goal
 abbrev pub invariant-loop-node : goal.invariant-loop-node
 invariant-loop-node l =
     (l.set.room ≡ l.initial.set.room)
-    × Picks (Borders (setting_of l.board) (Uses l.route (value_at l.values)) (IsSource l.source (setting_of l.board))) (take l.node-index l.cluster.members) l.set.members
+    × Picks (Borders (setting_of l.board) (Uses l.route (value_at l.values)) (IsSource l.source (setting_of l.board)))
+    (take l.node-index l.cluster.members) l.set.members

@@ -5,5 +5,6 @@ use Rattle.settle.proofs.spread.spread.Goals as goal
 
 pub returns-clause-reached : goal.returns-clause-reached
 returns-clause-reached c =
-    holds_reached (setting_of c.args.board.now) (value_at c.args.values.now) c.args.cluster.now.members c.requires.cluster c.args.route c.args.source
+    holds_reached (setting_of c.args.board.now)
+    (value_at c.args.values.now) c.args.cluster.now.members c.requires.cluster c.args.route c.args.source
     c.seed.new.set.members c.grow.new.set.members c.seed.ensures.seeds c.grow.ensures.spreads

@@ -26,7 +26,9 @@ returns-in-None c =
       kept = λ n _. refl;
       waiting = λ _. marked_here mid node lt;
       told = inl refl;
-      beside = λ ch in' at. wakes_wider driver ch.ends mid (set mid node true) (length-set mid node true) mark (c.wake_beside.ensures.wakes ch in' at);
+      beside =
+          λ ch in' at. wakes_wider driver ch.ends mid (set mid node true) (length-set mid node true) mark
+          (c.wake_beside.ensures.wakes ch in' at);
       widens = widens_then driver old mid (set mid node true) c.wake_beside.ensures.widens mark;
     }
 
@@ -52,6 +54,8 @@ returns-in-Some c =
       kept = λ n q. elim q [ inl ne ↦ get_or-set_other values node n v X ne | inr free ↦ absurd (cc) ];
       waiting = λ free. absurd (cc);
       told = inr (subst (λ (xs : List ℕ). Wakes driver xs after) list c.wake.ensures.wakes);
-      beside = λ ch in' at. wakes_wider driver ch.ends mid after c.wake.auto.waits c.wake.ensures.widens (c.wake_beside.ensures.wakes ch in' at);
+      beside =
+          λ ch in' at. wakes_wider driver ch.ends mid after c.wake.auto.waits c.wake.ensures.widens
+          (c.wake_beside.ensures.wakes ch in' at);
       widens = widens_then driver c.args.waits.now mid after c.wake_beside.ensures.widens c.wake.ensures.widens;
     }

@@ -8,7 +8,8 @@ use Rattle.settle.proofs.start.change_all.Goals.{then-not-is_same, else-not-is_s
 pub loop-node-init : goal.loop-node-init
 loop-node-init c =
     let b = c.args.board.now in
-    redrives_none b.network.now.channels b.gated.now c.args.last.now b.drive.now c.args.values.now c.args.waits.now c.requires.none
+    redrives_none b.network.now.channels b.gated.now c.args.last.now b.drive.now c.args.values.now c.args.waits.now
+    c.requires.none
 
 pub loop-node-preserved : goal.loop-node-preserved
 loop-node-preserved c =
@@ -27,8 +28,12 @@ loop-node-preserved c =
     elim c.if-not-is_same.branch [
       | then-not-is_same w ↦
           rw (w.values-is, w.waits-is)
-          (redrives_more channels gated last drive old i mid waits h w.change.new.values w.change.new.waits w.change.auto.waits w.change.ensures)
+          (redrives_more channels gated last drive old i mid waits h w.change.new.values w.change.new.waits
+          w.change.auto.waits w.change.ensures)
       | else-not-is_same w ↦
-          let same : driver_at drive i ≡ driver_at last i = get_or_default drive i None _ (omega arith) ∙ c.is_same.ensures.0 w.if-not-is_same.false ∙ get_or_default last i _ None (omega arith) in
-          rw (w.values-is, w.waits-is) (redrives_same channels gated last drive old i mid waits h c.requires.driven same)
+          let same : driver_at drive i ≡ driver_at last i =
+          get_or_default drive i None _ (omega arith) ∙ c.is_same.ensures.0 w.if-not-is_same.false
+          ∙ get_or_default last i _ None (omega arith) in
+          rw (w.values-is, w.waits-is)
+          (redrives_same channels gated last drive old i mid waits h c.requires.driven same)
     ]

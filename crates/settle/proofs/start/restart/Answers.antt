@@ -17,6 +17,7 @@ returns c =
     record {
       driven = c.wake_all.ensures.driven;
       undriven = c.wake_all.ensures.undriven;
-      told = all_wait c.nodes_are_given.ensures.reach (setting_of b) net.nodes c.wake_all.new.values c.wake_all.new.waits net.ends_in (omega arith)
+      told = all_wait c.nodes_are_given.ensures.reach
+          (setting_of b) net.nodes c.wake_all.new.values c.wake_all.new.waits net.ends_in (omega arith)
           (λ n far. get_or_past b.before.now n X (omega arith)) (λ n lt. c.wake_all.ensures.waiting n (omega arith));
     }

@@ -27,9 +27,12 @@ loop-node-preserved c =
           let lt = free.0 in
           rw w.waits-is (wakes_more driver nodes i e old mid (omega arith) is h (omega arith) free.1)
       | else-is_undriven w ↦
-          rw w.waits-is (wakes_skip driver nodes i e old mid (omega arith) is h (λ lt free. iff_false c.is_undriven.ensures w.if-is_undriven.false (omega arith, free)))
+          rw w.waits-is
+          (wakes_skip driver nodes i e old mid (omega arith) is h
+          (λ lt free. iff_false c.is_undriven.ensures w.if-is_undriven.false (omega arith, free)))
     ]
 
 pub returns-clause-wakes : goal.returns-clause-wakes
 returns-clause-wakes c =
-    wakes_all (driver_at c.args.drive.now) c.args.nodes.now c.loop-node.node-index c.args.waits.now c.loop-node.waits (omega arith) c.loop-node.invariant
+    wakes_all (driver_at c.args.drive.now) c.args.nodes.now c.loop-node.node-index c.args.waits.now c.loop-node.waits
+    (omega arith) c.loop-node.invariant

@@ -15,6 +15,10 @@ returns-clause-wakes c =
     let b = c.args.board.now in
     let node = c.args.node in
     let list = listed b.at.now node in
-    let is_list = c.as_slice-number-items.ensures ∙ get_or_default b.at.now node c.index-board-node.result [] (let l = c.requires.node in omega arith) in
+    let is_list =
+    c.as_slice-number-items.ensures
+    ∙ get_or_default b.at.now node c.index-board-node.result [] (let l = c.requires.node in omega arith) in
     let same : length c.as_slice-number-items.result.now ≡ length list = ap (λ (xs : List ℕ). length xs) is_list in
-    beside_all (driver_at b.drive.now) b.network.now.channels list b.at.now node c.loop-number.number-index c.args.waits.now c.loop-number.waits c.requires.linked refl (omega arith) c.loop-number.invariant
+    beside_all
+    (driver_at b.drive.now) b.network.now.channels list b.at.now node c.loop-number.number-index c.args.waits.now
+    c.loop-number.waits c.requires.linked refl (omega arith) c.loop-number.invariant

@@ -11,7 +11,9 @@ pub returns-clause-solve : goal.returns-clause-solve
 returns-clause-solve c s v waits = told_solves s v (Marked waits)
 
 pub returns-clause-redriven : goal.returns-clause-redriven
-returns-clause-redriven c s driver v w waits = redriven_tells c.nodes_are_given.ensures.reach s driver v w (Marked waits)
+returns-clause-redriven c s driver v w waits =
+    redriven_tells c.nodes_are_given.ensures.reach s driver v w (Marked waits)
 
 pub returns-clause-look : goal.returns-clause-look
-returns-clause-look c s v w cluster before after = look_tells c.nodes_are_given.ensures.reach s v w (Contains cluster) (Marked before) (Marked after)
+returns-clause-look c s v w cluster before after =
+    look_tells c.nodes_are_given.ensures.reach s v w (Contains cluster) (Marked before) (Marked after)

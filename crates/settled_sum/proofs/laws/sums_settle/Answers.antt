@@ -1,17 +1,12 @@
-use Rattle.std.proofs.Common.{refl, inl, inr, subst, sym}
+use Rattle.std.proofs.Common.{subst, sym}
 use Rattle.mp_base.specs.declared.refusal.Place.{Place}
 use Rattle.mp_program.specs.declared.program.Program.{Program}
 use Rattle.mp_program.specs.State.{IsState, zero_state}
-use Rattle.mp_rules.specs.Breaking.{IsUnbroken}
 use Rattle.mp_rules.specs.Rules.{E36}
+use Rattle.mp_rules.proofs.Unbroken.{keeps_36}
 use Rattle.mp_fitting.specs.Fitting.{StateFits}
 use Rattle.settled_sum.proofs.Sums.{settle}
 use Rattle.settled_sum.proofs.laws.sums_settle.Goals as goal
-
-keeps_36 : (p : Program) → IsUnbroken p → (at : Place) → E36 p at → ⊥
-keeps_36 p unbroken at e =
-    unbroken 36 at
-    (inr (inr (inr (inr (inr (inr (inr (inr (inr (inr (inr (inr (inr (inr (inr (inr (inl (refl, e))))))))))))))))))
 
 pub zero_is_a_state-requires : goal.zero_is_a_state-requires
 zero_is_a_state-requires c =

@@ -1,5 +1,5 @@
 use Rattle.std.proofs.Common.{None}
-use Rattle.source_files.proofs.StimulusRules.{same_pads}
+use Rattle.mp_base.proofs.SamePads.{same_pads}
 use Rattle.sim_command.proofs.FirstFault.{one_fault}
 use Rattle.sim_command.proofs.laws.one_circuit_fault.Goals as goal
 

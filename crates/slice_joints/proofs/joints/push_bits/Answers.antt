@@ -2,8 +2,8 @@ use Rattle.std.proofs.Common.{◌≡◌, ◌++◌, ◌∙◌, length, ap, arith}
 use Rattle.std.specs.Prelude.{flat_map}
 use Rattle.std.specs.List.{range_with_len}
 use Rattle.std.specs.Prelude.{slice_get}
+use Rattle.mp_base.proofs.Ranges.{flat_grown}
 use Rattle.slice_form.specs.Whole.{path_of}
-use Rattle.band_lists.proofs.Growing.{flat_grown}
 use Rattle.slice_form.specs.Joints.{bit_lines}
 use Rattle.slice_joints.proofs.joints.push_bits.Goals as goal
 

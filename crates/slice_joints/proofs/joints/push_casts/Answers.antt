@@ -1,10 +1,10 @@
 use Rattle.std.proofs.Common.{[], ◌∷◌, ◌++◌, ◌∙◌, ap}
+use Rattle.mp_base.proofs.Ranges.{map_grown}
 use Rattle.fabric.specs.declared.thing.Side.TheVariants.{L}
 use Rattle.array_form.specs.Lists.{upright}
 use Rattle.slice_form.specs.PathWires.{cast_line}
 use Rattle.slice_form.specs.Slices.{across_of}
 use Rattle.slice_form.specs.Whole.{path_of}
-use Rattle.band_lists.proofs.Growing.{map_grown}
 use Rattle.slice_joints.proofs.joints.push_casts.Goals as goal
 
 pub loop-i-preserved : goal.loop-i-preserved

@@ -1,10 +1,10 @@
 use Rattle.std.proofs.Common.{suc, ◌≡◌, ◌+◌, [], ◌∷◌, ◌++◌, ◌∙◌, ap, map, arith}
 use Rattle.std.specs.List.{range_with_len}
+use Rattle.mp_base.proofs.Ranges.{map_grown}
 use Rattle.array_form.specs.Lists.{upright}
 use Rattle.slice_form.specs.PathWires.{chain_line}
 use Rattle.slice_form.specs.Slices.{across_of}
 use Rattle.slice_form.specs.Whole.{path_of}
-use Rattle.band_lists.proofs.Growing.{map_grown}
 use Rattle.slice_layout.specs.Links.{carry_by}
 use Rattle.slice_joints.proofs.Joined.{chain_joined}
 use Rattle.slice_joints.proofs.joints.push_chain.Goals as goal

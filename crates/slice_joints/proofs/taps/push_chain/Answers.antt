@@ -1,8 +1,8 @@
 use Rattle.std.proofs.Common.{ℕ, ◌≡◌, ◌++◌, ◌∙◌, ap, arith}
 use Rattle.std.specs.Prelude.{flat_map, slice_index}
 use Rattle.std.specs.List.{range_with_len}
+use Rattle.mp_base.proofs.Ranges.{flat_grown}
 use Rattle.slice_form.specs.Whole.{path_of}
-use Rattle.band_lists.proofs.Growing.{flat_grown}
 use Rattle.slice_layout.specs.Links.{carry_by}
 use Rattle.slice_joints.specs.Tapping.{link_marks}
 use Rattle.slice_joints.proofs.Joined.{chain_tapped}

@@ -1,7 +1,7 @@
 use Rattle.std.proofs.Common.{ℕ, suc, ◌≡◌, ◌+◌, [], ◌∷◌, ◌++◌, ◌∙◌, ap, arith}
 use Rattle.std.specs.Prelude.{slice_index}
 use Rattle.array_form.specs.Lists.{mark, tap_tile}
-use Rattle.slice_form.specs.PathWires.{side_of, below, above}
+use Rattle.slice_form.specs.PathWires.{side_of}
 use Rattle.slice_layout.proofs.Growth.{two_more}
 use Rattle.slice_joints.proofs.taps.push_link.Goals as goal
 

@@ -1,8 +1,8 @@
 use Rattle.std.proofs.Common.{ℕ, ◌≡◌, suc, ◌++◌, ◌∙◌, ap, arith}
 use Rattle.std.specs.Prelude.{flat_map, slice_get, slice_index}
 use Rattle.std.specs.List.{range_with_len}
+use Rattle.mp_base.proofs.Ranges.{flat_grown}
 use Rattle.slice_form.specs.Whole.{path_of, programmed_of}
-use Rattle.band_lists.proofs.Growing.{flat_grown}
 use Rattle.slice_joints.specs.Tapping.{bit_marks_at}
 use Rattle.slice_joints.proofs.Joined.{program_tapped}
 use Rattle.slice_joints.proofs.taps.push_program.Goals as goal

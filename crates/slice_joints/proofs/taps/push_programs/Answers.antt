@@ -1,8 +1,8 @@
 use Rattle.std.proofs.Common.{ℕ, ◌≡◌, ◌++◌, ◌∙◌, length, ap, arith}
 use Rattle.std.specs.Prelude.{flat_map, slice_get, slice_index, suc}
 use Rattle.std.specs.List.{range_with_len}
+use Rattle.mp_base.proofs.Ranges.{flat_grown}
 use Rattle.slice_form.specs.Whole.{path_of}
-use Rattle.band_lists.proofs.Growing.{flat_grown}
 use Rattle.slice_laying.specs.Added.{bit_marks}
 use Rattle.slice_joints.proofs.taps.push_programs.Goals as goal
 

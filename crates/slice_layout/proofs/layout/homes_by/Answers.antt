@@ -2,13 +2,13 @@ use Rattle.std.proofs.Common.{ℕ, ◌≡◌, ◌<◌, ◌+◌, ◌++◌, ◌==�
 use Rattle.std.proofs.Common.{subst, arith}
 use Rattle.std.specs.Prelude.{All, ◌&&◌}
 use Rattle.std.specs.List.{list_any, range_with_len}
+use Rattle.mp_base.proofs.Ranges.{map_same}
 use Rattle.array_form.specs.Homes.{home}
 use Rattle.slice_form.specs.Slices.{slice_columns}
 use Rattle.slice_form.specs.Whole.{path_of}
 use Rattle.band_lists.specs.declared.pins.Pin.{Pin}
 use Rattle.band_lists.specs.Homed.{home_by}
 use Rattle.band_lists.specs.Pins.{is_own, stub_pins}
-use Rattle.band_lists.proofs.Counts.{map_same}
 use Rattle.slice_layout.specs.Pins.{slice_pins}
 use Rattle.slice_layout.proofs.Ends.{has_ends}
 use Rattle.slice_layout.proofs.SliceSpans.{pins_on}

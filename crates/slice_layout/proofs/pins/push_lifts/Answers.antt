@@ -1,9 +1,9 @@
 use Rattle.std.proofs.Common.{ℕ, [], ◌∷◌, ◌++◌, ◌∙◌, ap, sym}
 use Rattle.std.specs.Prelude.{slice_get}
+use Rattle.mp_base.proofs.Ranges.{flat_grown}
 use Rattle.slice_form.specs.Whole.{path_of}
 use Rattle.band_lists.specs.declared.pins.Pin.{Pin}
 use Rattle.band_lists.specs.declared.pins.At.TheVariants.{Column}
-use Rattle.band_lists.proofs.Growing.{flat_grown}
 use Rattle.slice_layout.specs.Pins.{lift_pin}
 use Rattle.slice_layout.proofs.pins.push_lifts.Goals as goal
 

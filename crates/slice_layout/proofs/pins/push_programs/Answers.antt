@@ -1,7 +1,7 @@
 use Rattle.std.proofs.Common.{ℕ, [], ◌∷◌, ◌++◌, ◌∙◌, ap, sym}
 use Rattle.std.specs.Prelude.{slice_get}
+use Rattle.mp_base.proofs.Ranges.{flat_grown}
 use Rattle.slice_form.specs.Whole.{path_of}
-use Rattle.band_lists.proofs.Growing.{flat_grown}
 use Rattle.slice_layout.specs.Pins.{program_pin}
 use Rattle.slice_layout.proofs.pins.push_programs.Goals as goal
 

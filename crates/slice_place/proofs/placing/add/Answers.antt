@@ -1,12 +1,12 @@
 use Rattle.std.proofs.Common.{◌≡◌, ◌∙◌, suc, sym, subst, slice_index}
 use Rattle.fabric.specs.Plan.{Plan, IsFabric, with_added}
 use Rattle.fabric.specs.Room.{IsRoomy}
+use Rattle.track_assign.proofs.Densities.{density_once}
 use Rattle.array_form.specs.Place.{intervals_in}
 use Rattle.slice_form.specs.Slices.{slice_columns}
 use Rattle.slice_form.specs.Whole.{path_of}
 use Rattle.slice_laying.specs.Added.{with_slices}
 use Rattle.slice_laying.specs.Fitting.{HasRoomFor}
-use Rattle.band_lists.proofs.Banded.{density_once}
 use Rattle.slice_place.proofs.Roomy.{slices_are_roomy}
 use Rattle.slice_place.proofs.placing.add.Goals as goal
 

@@ -1,8 +1,8 @@
 use Rattle.std.proofs.Common.{[], ◌∷◌, ◌++◌, ◌∙◌, ap, length, map}
 use Rattle.std.specs.List.{range_with_len}
+use Rattle.mp_base.proofs.Ranges.{map_grown}
 use Rattle.slice_form.specs.Slices.{cast_column, lift_column}
 use Rattle.slice_form.specs.Whole.{path_of}
-use Rattle.band_lists.proofs.Growing.{map_grown}
 use Rattle.slice_place.proofs.placing.taps_of.Goals as goal
 
 pub loop-cast-preserved : goal.loop-cast-preserved

@@ -8,4 +8,5 @@ pub returns-clause-first : goal.returns-clause-first
 returns-clause-first c = first_once
 
 pub returns-clause-whole : goal.returns-clause-whole
-returns-clause-whole c = λ text known s k at h f. reads_no known nothing h.reading (lines text) k at.offset h.reads f.broken
+returns-clause-whole c =
+    λ text known s k at h f. reads_no known nothing h.reading (lines text) k at.offset h.reads f.broken

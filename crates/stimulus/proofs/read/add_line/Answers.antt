@@ -9,5 +9,9 @@ use Rattle.stimulus.proofs.read.add_line.Goals as goal
 
 pub returns-clause-err : goal.returns-clause-err
 returns-clause-err c =
-    let kept : kept_before c.args.words.now [] ≡ c.args.words.now ∷ [] = cond-false _ _ _ (sym c.is_skipped.ensures ∙ c.if-is_skipped.false) in
-    fault_weaker _ _ _ (λ k at h. let Q : List (List Piece) → Type 0 = λ ls. FirstBroken (option_copied c.args.known) c.args.reading.now ls k at in subst Q (sym kept) (inl h)) c.add.ensures.err
+    let kept : kept_before c.args.words.now [] ≡ c.args.words.now ∷ [] =
+    cond-false _ _ _ (sym c.is_skipped.ensures ∙ c.if-is_skipped.false) in
+    fault_weaker _ _ _
+    (λ k at h. let Q : List (List Piece)
+    → Type 0 = λ ls. FirstBroken (option_copied c.args.known) c.args.reading.now ls k at in subst Q (sym kept) (inl h))
+    c.add.ensures.err

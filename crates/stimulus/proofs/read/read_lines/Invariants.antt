@@ -10,8 +10,13 @@ abbrev pub invariant-lines : goal.invariant-lines
 invariant-lines l = record {
   within : l.start ≤ length l.text;
   few : length (l.reading).inputs ≤ 256;
-  reads : (t : Reading) → Reads (option_copied l.known) l.reading (words_of_lines l.start (slice_split is_feed (drop l.start l.text))) t → Reads (option_copied l.known) nothing (lines l.text) t;
-  breaks : (k at : ℕ) → FirstBroken (option_copied l.known) l.reading (words_of_lines l.start (slice_split is_feed (drop l.start l.text))) k at → FirstBroken (option_copied l.known) nothing (lines l.text) k at;
+  reads : (t : Reading)
+      → Reads (option_copied l.known) l.reading (words_of_lines l.start (slice_split is_feed (drop l.start l.text))) t
+      → Reads (option_copied l.known) nothing (lines l.text) t;
+  breaks : (k at : ℕ)
+      → FirstBroken (option_copied l.known) l.reading
+      (words_of_lines l.start (slice_split is_feed (drop l.start l.text))) k at
+      → FirstBroken (option_copied l.known) nothing (lines l.text) k at;
 }
 
 abbrev pub decreases-lines : goal.decreases-lines

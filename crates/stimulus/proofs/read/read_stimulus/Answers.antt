@@ -7,10 +7,12 @@ use Rattle.stimulus.proofs.read.read_stimulus.Goals as goal
 
 pub stimulus_of-requires-clause-named : goal.stimulus_of-requires-clause-named
 stimulus_of-requires-clause-named c =
-    let reads : Reads (option_copied c.args.known) nothing (lines c.args.bytes.now) c.in-Ok.reading = c.in-Ok.ensures.ok in
+    let reads : Reads (option_copied c.args.known) nothing (lines c.args.bytes.now) c.in-Ok.reading =
+    c.in-Ok.ensures.ok in
     named_read (option_copied c.args.known) c.in-Ok.reading (lines c.args.bytes.now) reads
 
 pub stimulus_of-requires-clause-fitting : goal.stimulus_of-requires-clause-fitting
 stimulus_of-requires-clause-fitting c =
-    let reads : Reads (option_copied c.args.known) nothing (lines c.args.bytes.now) c.in-Ok.reading = c.in-Ok.ensures.ok in
+    let reads : Reads (option_copied c.args.known) nothing (lines c.args.bytes.now) c.in-Ok.reading =
+    c.in-Ok.ensures.ok in
     fits_read (option_copied c.args.known) c.in-Ok.reading (lines c.args.bytes.now) reads

@@ -12,8 +12,11 @@ returns-then-has_name c =
     let x : Assignment = c.index-words-i.result in
     let has : has_name x.name (take i words) ≡ true =
     ap (λ (a : Assignment). has_name a.name (take i words)) c.index-words-i.is
-    ∙ ap (λ n. has_name n (take i words)) (sym c.bytes.ensures) ∙ sym c.has_name.ensures ∙ c.if-has_name.true in
-    ((λ e. absurd (false≢true e)), λ apart. absurd (apart_not words i x c.loop-i-test.true c.index-words-i.is has apart))
+    ∙ ap (λ n. has_name n (take i words)) (sym c.bytes.ensures) ∙ sym c.has_name.ensures ∙ c.if-has_name.true in (
+      (λ e. absurd (false≢true e)),
+      λ apart. absurd
+          (apart_not words i x c.loop-i-test.true c.index-words-i.is has apart),
+    )
 
 pub loop-i-preserved : goal.loop-i-preserved
 loop-i-preserved c =

@@ -1,4 +1,5 @@
-use Rattle.std.proofs.Common.{◌≡◌, ℕ, suc, ◌+◌, ◌≤◌, List, ◌++◌, Err, take, drop, length, sym, ◌∙◌, ap, subst, arith, append_assoc, codes}
+use Rattle.std.proofs.Common.{◌≡◌, ℕ, suc, ◌+◌, ◌≤◌, List, ◌++◌, Err, take, drop, length, sym, ◌∙◌, ap, subst, arith}
+use Rattle.std.proofs.Common.{append_assoc, codes}
 use Rattle.std.specs.Prelude.{decimal}
 use Rattle.std.proofs.lemmas.List.{take_all}
 use Rattle.std.proofs.lemmas.Result.{err_from_is_err_and}
@@ -87,6 +88,7 @@ returns-clause-taken g c =
     let P : List ℕ → Type 0 = λ t. TakesAll {T = Unit {0}} {E = Failed} Gains h0 h2 t c.write_all-2.result in
     let same : length ps ≡ length vs =
     ap length c.as_slice-outputs.ensures ∙ sym c.requires ∙ ap length (sym c.as_slice-values.ensures) in
-    subst P (whole_line start ps c.args.pads.now.outputs vs c.args.values.now c.loop-i.i same c.loop-i-test.false c.as_slice-outputs.ensures c.as_slice-values.ensures)
+    subst P (whole_line start ps c.args.pads.now.outputs vs c.args.values.now c.loop-i.i same c.loop-i-test.false
+    c.as_slice-outputs.ensures c.as_slice-values.ensures)
     (gained_then h0 h1 h2 (start ++ word_texts (take c.loop-i.i ps) (take c.loop-i.i vs))
     (codes "\n") c.write_all-2.result c.loop-i.invariant.held c.write_all-2.ensures.taken)

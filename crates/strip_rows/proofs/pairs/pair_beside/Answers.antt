@@ -8,9 +8,12 @@ loop-i-init c = beside_none c.args.numbers.now c.args.first c.args.runs.now c.ar
 
 -- src/pairs.rt
 pub loop-i-preserved : goal.loop-i-preserved
-loop-i-preserved c = beside_more c.args.numbers.now c.args.first c.args.runs.now c.loop-i.i c.args.pairs.now.items c.loop-i.pairs.items
+loop-i-preserved c =
+    beside_more c.args.numbers.now c.args.first c.args.runs.now c.loop-i.i c.args.pairs.now.items c.loop-i.pairs.items
     c.add_if_beside.new.pairs.items (omega arith) c.loop-i-test.true c.loop-i.invariant c.in_ok-add_if_beside.ensures
 
 -- src/pairs.rt
 pub returns : goal.returns
-returns c = beside_all c.args.numbers.now c.args.first c.args.runs.now c.loop-i.i c.args.pairs.now.items c.loop-i.pairs.items (omega arith) c.loop-i.invariant
+returns c =
+    beside_all c.args.numbers.now c.args.first c.args.runs.now c.loop-i.i c.args.pairs.now.items c.loop-i.pairs.items
+    (omega arith) c.loop-i.invariant

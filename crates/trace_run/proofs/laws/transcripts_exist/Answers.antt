@@ -12,7 +12,11 @@ returns-clause-exist c given before is =
     let run = c.traces_exist.ensures.exist before (inputs_of given) is in (
       run.1,
       lines_text 0 pads (map (value_bits pads) run.0),
-      record { shown = map (value_bits pads) run.0; runs = trace_runs p pads before run.1 (inputs_of given) run.0 run.2; lines = refl },
+      record {
+        shown = map (value_bits pads) run.0;
+        runs = trace_runs p pads before run.1 (inputs_of given) run.0 run.2;
+        lines = refl;
+      },
     )
 
 pub returns-clause-once : goal.returns-clause-once

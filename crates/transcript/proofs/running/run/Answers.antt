@@ -19,7 +19,8 @@ returns-in_err-step-clause-printed g c =
     rw (q.1) (printed_cut g.D.Device.steps c.args.given.now k c.args.device.now c.loop-clock.device c.step.new.device
     (g.O.Sink.held c.args.out.now) (g.O.Sink.held c.loop-clock.out)
     (g.O.Sink.held c.step.new.out) c.in_err-step.field-0.0 q.0
-    (omega (arith, c.loop-clock-test.true, c.len-clock-end.ensures, c.requires.few_clocks)) c.loop-clock.invariant.printed c.in_err-step.ensures.printed)
+    (omega (arith, c.loop-clock-test.true, c.len-clock-end.ensures, c.requires.few_clocks))
+    c.loop-clock.invariant.printed c.in_err-step.ensures.printed)
 
 pub loop-clock-preserved : goal.loop-clock-preserved
 loop-clock-preserved g c =
@@ -28,10 +29,12 @@ loop-clock-preserved g c =
       pads = c.in_ok-step.ensures.pads;
       room = c.in_ok-step.ensures.room;
       printed =
-          printed_more g.D.Device.steps {E = Failed} c.args.given.now k c.args.device.now c.loop-clock.device c.step.new.device
+          printed_more g.D.Device.steps {E = Failed} c.args.given.now k c.args.device.now c.loop-clock.device
+          c.step.new.device
           (g.O.Sink.held c.args.out.now) (g.O.Sink.held c.loop-clock.out)
           (g.O.Sink.held c.step.new.out) c.in_ok-step.field-0
-          (omega (arith, c.loop-clock-test.true, c.len-clock-end.ensures, c.requires.few_clocks)) c.loop-clock.invariant.printed c.in_ok-step.ensures.printed;
+          (omega (arith, c.loop-clock-test.true, c.len-clock-end.ensures, c.requires.few_clocks))
+          c.loop-clock.invariant.printed c.in_ok-step.ensures.printed;
       faults = c.in_ok-step.ensures.cause.ok ∙ c.loop-clock.invariant.faults;
     }
 
@@ -40,4 +43,5 @@ returns-clause-printed g c =
     printed_all g.D.Device.steps c.args.given.now c.loop-clock.clock c.args.device.now c.loop-clock.device
     (g.O.Sink.held c.args.out.now)
     (g.O.Sink.held c.loop-clock.out) tt
-    (omega (arith, c.loop-clock-test.false, c.len-clock-end.ensures, c.requires.few_clocks)) c.loop-clock.invariant.printed
+    (omega (arith, c.loop-clock-test.false, c.len-clock-end.ensures, c.requires.few_clocks))
+    c.loop-clock.invariant.printed

@@ -20,4 +20,5 @@ loop-parents-preserved c =
     }
 
 pub returns-clause-root : goal.returns-clause-root
-returns-clause-root c = sym (root_at c.loop-parents.parents c.loop-parents.x c.loop-parents-test.false) ∙ c.loop-parents.invariant.here
+returns-clause-root c =
+    sym (root_at c.loop-parents.parents c.loop-parents.x c.loop-parents-test.false) ∙ c.loop-parents.invariant.here

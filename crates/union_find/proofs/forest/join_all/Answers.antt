@@ -17,4 +17,5 @@ loop-pair-preserved c =
     let ka = k.0 in
     let kb = k.1 in
     join_more pairs i c.loop-pair.parents c.join.new.parents pair c.loop-pair.invariant
-    h (get_or_default pairs i pair none h) (omega arith) (omega arith) (search rules) c.join.ensures.still c.join.ensures.moved
+    h (get_or_default pairs i pair none h) (omega arith) (omega arith)
+    (search rules) c.join.ensures.still c.join.ensures.moved

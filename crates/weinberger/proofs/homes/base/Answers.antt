@@ -3,7 +3,7 @@ use Rattle.std.specs.Prelude.{max}
 use Rattle.std.proofs.lemmas.List.{map_more}
 use Rattle.array_form.specs.declared.band.Tap.{Tap}
 use Rattle.array_form.specs.Homes.{greatest}
-use Rattle.weinberger.proofs.Growing.{greatest_push}
+use Rattle.array_form.proofs.Greatest.{greatest_push}
 use Rattle.weinberger.proofs.homes.base.Goals as goal
 
 pub loop-tap-preserved : goal.loop-tap-preserved

@@ -1,6 +1,6 @@
 use Rattle.std.proofs.Common.{[]}
+use Rattle.mp_base.proofs.Ranges.{flat_grown}
 use Rattle.weinberger.specs.Listed.{lines_at}
-use Rattle.weinberger.proofs.Growing.{flat_grown}
 use Rattle.weinberger.proofs.lists.lines.Goals as goal
 
 pub loop-n-preserved : goal.loop-n-preserved

@@ -1,8 +1,8 @@
 use Rattle.std.proofs.Common.{ℕ, [], ◌∷◌, ◌++◌, ◌≡◌, ◌<◌, ◌+◌, ◌∙◌, ap, length, slice_index, suc, arith}
 use Rattle.std.specs.Prelude.{slice_index_or}
+use Rattle.mp_base.proofs.Ranges.{map_grown}
 use Rattle.array_form.specs.Lists.{stretch}
 use Rattle.weinberger.specs.Listed.{segment_of, nowhere}
-use Rattle.weinberger.proofs.Growing.{map_grown}
 use Rattle.weinberger.proofs.lists.segments.Goals as goal
 
 pub overflow_add-rows : goal.overflow_add-rows

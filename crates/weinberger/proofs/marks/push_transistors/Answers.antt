@@ -6,7 +6,7 @@ use Rattle.fabric.specs.declared.thing.Mark.{Mark}
 use Rattle.nor_net.specs.declared.net.NetId.{NetId}
 use Rattle.array_form.specs.Lists.{mark}
 use Rattle.array_form.specs.Band.{distinct}
-use Rattle.weinberger.proofs.Distinct.{AreSeen, made_new, made_again, seen_new, seen_again, unseen}
+use Rattle.array_form.proofs.Distinct.{AreSeen, seen_again, seen_new, unseen, made_new, made_again}
 use Rattle.weinberger.proofs.marks.push_transistors.Goals as goal
 use Rattle.weinberger.proofs.marks.push_transistors.Goals.{then-seen-segment+in_ok-push, else-seen-segment}
 

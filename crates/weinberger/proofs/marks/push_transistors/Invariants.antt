@@ -1,7 +1,7 @@
 use Rattle.std.proofs.Common.{◌≡◌, ◌++◌, length, map, take}
 use Rattle.nor_net.specs.declared.net.NetId.{NetId}
+use Rattle.array_form.proofs.Distinct.{AreSeen}
 use Rattle.weinberger.specs.Listed.{transistors_of}
-use Rattle.weinberger.proofs.Distinct.{AreSeen}
 use Rattle.weinberger.proofs.marks.push_transistors.Given as goal
 
 abbrev pub invariant-loop-input : goal.invariant-loop-input

@@ -1,5 +1,5 @@
 use Rattle.weinberger.specs.Pins.{phase_pin}
-use Rattle.weinberger.proofs.Growing.{map_grown}
+use Rattle.mp_base.proofs.Ranges.{map_grown}
 use Rattle.weinberger.proofs.pins.push_phases.Goals as goal
 
 pub loop-phase-preserved : goal.loop-phase-preserved

@@ -1,5 +1,5 @@
 use Rattle.weinberger.specs.Pins.{stub_pin}
-use Rattle.weinberger.proofs.Growing.{flat_grown}
+use Rattle.mp_base.proofs.Ranges.{flat_grown}
 use Rattle.weinberger.proofs.pins.push_stubs.Goals as goal
 
 pub loop-n-preserved : goal.loop-n-preserved

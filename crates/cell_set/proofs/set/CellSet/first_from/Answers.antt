@@ -18,7 +18,8 @@ pub returns-in_err-item-clause-none : goal.returns-in_err-item-clause-none
 unfolding has
 returns-in_err-item-clause-none c =
     let w : List ℕ = c.args.self.now.words.items in
-    let n : (i : ℕ) → c.len-leaf.result - 1 + c.args.cell ≤ i → ¬ IsMarked w i = rw c.deref.ensures.value at c.in_err-item.ensures.none in
+    let n : (i : ℕ) → c.len-leaf.result - 1 + c.args.cell ≤ i
+    → ¬ IsMarked w i = rw c.deref.ensures.value at c.in_err-item.ensures.none in
     rw c.from_residual.ensures (λ d h. untested w _ (n (length w - 1 + d) (omega arith)))
 
 -- src/set.rt
@@ -26,7 +27,8 @@ pub returns-clause-some : goal.returns-clause-some
 unfolding has
 returns-clause-some c =
     let w : List ℕ = c.args.self.now.words.items in
-    let l : IsFirst w (c.len-leaf.result - 1 + c.args.cell) c.in_ok-item.item = rw c.deref.ensures.value at c.in_ok-item.ensures.some in
+    let l : IsFirst w (c.len-leaf.result - 1 + c.args.cell) c.in_ok-item.item =
+    rw c.deref.ensures.value at c.in_ok-item.ensures.some in
     let o = l.order in
     let e : c.in_ok-item.item ≡ length w - 1 + (c.in_ok-item.item - (c.len-leaf.result - 1)) = omega arith in
     record {

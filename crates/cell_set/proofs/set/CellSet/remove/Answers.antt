@@ -29,7 +29,8 @@ returns-clause-others c = λ d n.
     let s = c.args.self.now.sound.some in
     let e : length old ≡ length new = sym c.clear.ensures.as_many in
     subst (λ m. test new (m - 1 + d) ≡ test old (length old - 1 + d)) e
-    (same_test old new (length old - 1 + d) (c.clear.ensures.leaves _ (omega arith) (λ f. n (omega arith))) (c.clear.ensures.fewer _))
+    (same_test old new (length old - 1 + d) (c.clear.ensures.leaves _ (omega arith) (λ f. n (omega arith)))
+    (c.clear.ensures.fewer _))
 
 -- src/set.rt
 pub returns-clause-room : goal.returns-clause-room

@@ -4,9 +4,14 @@ use Rattle.cif_flat.proofs.Defines.{delete_counted, deleted}
 use Rattle.cif_flat.proofs.walker.Walker.delete.Goals as goal
 
 pub returns-then-self-ge-WALK_LIMIT-clause-err : goal.returns-then-self-ge-WALK_LIMIT-clause-err
-returns-then-self-ge-WALK_LIMIT-clause-err c = subst (RefusesWalk c.args.items.now) (sym c.broken.ensures) (delete_counted c.args.items.now c.args.self.now c.args.level c.args.offset c.args.number.now c.requires (omega arith))
+returns-then-self-ge-WALK_LIMIT-clause-err c =
+    subst (RefusesWalk c.args.items.now) (sym c.broken.ensures)
+    (delete_counted c.args.items.now c.args.self.now c.args.level c.args.offset c.args.number.now c.requires
+    (omega arith))
 
 pub returns-clause-ok : goal.returns-clause-ok
 returns-clause-ok c =
-    deleted c.args.items.now c.args.self.now c.args.level c.args.offset c.args.number.now c.requires (omega arith) c.key_of.result c.key_of.ensures c.cut.new.table c.in_ok-cut.ensures.below c.in_ok-cut.ensures.above
-    c.go_on.new.self c.in_ok-go_on.ensures.kept (c.in_ok-go_on.ensures.pushed ∙ ap (λ u. c.args.self.now.levels.items ++ u ∷ []) c.onward.ensures)
+    deleted c.args.items.now c.args.self.now c.args.level c.args.offset c.args.number.now c.requires
+    (omega arith) c.key_of.result c.key_of.ensures c.cut.new.table c.in_ok-cut.ensures.below c.in_ok-cut.ensures.above
+    c.go_on.new.self c.in_ok-go_on.ensures.kept
+    (c.in_ok-go_on.ensures.pushed ∙ ap (λ u. c.args.self.now.levels.items ++ u ∷ []) c.onward.ensures)

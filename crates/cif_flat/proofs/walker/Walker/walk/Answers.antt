@@ -7,14 +7,17 @@ use Rattle.cif_flat.proofs.walker.Walker.walk.Goals as goal
 pub visit-requires : goal.visit-requires
 visit-requires c = record {
   fit = c.requires.fit;
-  walking = same_walking c.args.items.now c.loop-level.walker _ _ refl (subst (IsWalking c.args.items.now c.loop-level.walker) c.in-Some.ensures.items c.loop-level.invariant);
+  walking =
+      same_walking c.args.items.now c.loop-level.walker _ _ refl
+      (subst (IsWalking c.args.items.now c.loop-level.walker) c.in-Some.ensures.items c.loop-level.invariant);
   more = c.if-level.true;
 }
 
 pub loop-level-preserved : goal.loop-level-preserved
 loop-level-preserved c =
     let h = subst (IsWalking c.args.items.now c.loop-level.walker) c.in-Some.ensures.items c.loop-level.invariant in
-    same_walking c.args.items.now c.loop-level.walker _ _ refl (walking_back c.args.items.now c.loop-level.walker _ c.in-Some.level h c.if-level.false)
+    same_walking c.args.items.now c.loop-level.walker _ _ refl
+    (walking_back c.args.items.now c.loop-level.walker _ c.in-Some.level h c.if-level.false)
 
 pub returns-clause-ok : goal.returns-clause-ok
 returns-clause-ok c =

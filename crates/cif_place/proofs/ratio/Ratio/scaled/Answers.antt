@@ -10,10 +10,12 @@ quotient-requires-clause-product c =
     let f = c.requires.fit in
     let t = c.product.type_inv in
     let w : IsWithin (2_147_483_647 * 2 ^ 33) (c.args.self.a *ℤ c.args.distance) =
-    within_times 2_147_483_647 (2 ^ 33) c.args.self.a c.args.distance (omega (arith, ints, f.a, f.short_a), omega (arith, ints, f.short_a)) c.requires.short in
+    within_times 2_147_483_647 (2 ^ 33) c.args.self.a c.args.distance
+    (omega (arith, ints, f.a, f.short_a), omega (arith, ints, f.short_a)) c.requires.short in
     let r = c.ranges.distance in
     let a : to_z w64 (of_z w64 c.args.self.a) ≡ c.args.self.a = omega (arith, ints, f.a, f.short_a) in
     let d : to_z w64 (of_z w64 c.args.distance) ≡ c.args.distance = omega (arith, ints) in
     let e : c.product.result ≡ c.args.self.a *ℤ c.args.distance = c.product.ensures ∙ (λ i. a i *ℤ d i) in
-    let k : IsWithin (2 ^ 64) c.product.result = subst (IsWithin (2 ^ 64)) (sym e) (within_more (2_147_483_647 * 2 ^ 33) (2 ^ 64) _ (lit≤ tt) w) in
+    let k : IsWithin (2 ^ 64) c.product.result =
+    subst (IsWithin (2 ^ 64)) (sym e) (within_more (2_147_483_647 * 2 ^ 33) (2 ^ 64) _ (lit≤ tt) w) in
     (omega (arith, ints, k.0), omega (arith, ints, k.1))

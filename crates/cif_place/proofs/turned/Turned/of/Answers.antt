@@ -17,11 +17,15 @@ returns-in-Move-clause-turned c = same_turn (scale_of c.args.ratio) _ _ _ c.in-M
 
 pub returns-in-MirrorX-clause-turned : goal.returns-in-MirrorX-clause-turned
 returns-in-MirrorX-clause-turned c = same_turn (scale_of c.args.ratio) _ MirrorX (Placed c.turn.result) c.in-MirrorX.is
-    (subst (λ p. IsTurned (scale_of c.args.ratio) (MirrorX ∷ []) (Placed p)) (sym c.turn.ensures) (mirror_x_turned (scale_of c.args.ratio)))
+    (subst (λ p. IsTurned (scale_of c.args.ratio) (MirrorX ∷ []) (Placed p)) (sym c.turn.ensures)
+    (mirror_x_turned (scale_of c.args.ratio)))
 
 pub returns-in-MirrorY-clause-turned : goal.returns-in-MirrorY-clause-turned
-returns-in-MirrorY-clause-turned c = same_turn (scale_of c.args.ratio) _ MirrorY (Placed c.turn-in-MirrorY.result) c.in-MirrorY.is
-    (subst (λ p. IsTurned (scale_of c.args.ratio) (MirrorY ∷ []) (Placed p)) (sym c.turn-in-MirrorY.ensures) (mirror_y_turned (scale_of c.args.ratio)))
+returns-in-MirrorY-clause-turned c =
+    same_turn (scale_of c.args.ratio) _ MirrorY (Placed c.turn-in-MirrorY.result) c.in-MirrorY.is
+    (subst (λ p. IsTurned (scale_of c.args.ratio) (MirrorY ∷ []) (Placed p)) (sym c.turn-in-MirrorY.ensures)
+    (mirror_y_turned (scale_of c.args.ratio)))
 
 pub returns-in-Rotate-clause-turned : goal.returns-in-Rotate-clause-turned
-returns-in-Rotate-clause-turned c = same_turn (scale_of c.args.ratio) _ _ _ c.in-Rotate.is (c.rotated.ensures.turned (scale_of c.args.ratio))
+returns-in-Rotate-clause-turned c =
+    same_turn (scale_of c.args.ratio) _ _ _ c.in-Rotate.is (c.rotated.ensures.turned (scale_of c.args.ratio))

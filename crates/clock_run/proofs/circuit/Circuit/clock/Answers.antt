@@ -13,10 +13,13 @@ returns-clause-clock c =
     let a = c.args.self.now in
     let b = c.set.new.self in
     let d = c.set-2.new.self in
-    let shown : AllZip (Shows d.network (value_at d.values)) d.pads.outputs (trits_of a.pads.outputs c.show.new.outputs) =
-    subst (λ (x : Pads). AllZip (Shows d.network (value_at d.values)) d.pads.outputs (trits_of x.outputs c.show.new.outputs))
+    let shown : AllZip (Shows d.network (value_at d.values)) d.pads.outputs
+    (trits_of a.pads.outputs c.show.new.outputs) =
+    subst (λ (x : Pads). AllZip (Shows d.network (value_at d.values)) d.pads.outputs
+    (trits_of x.outputs c.show.new.outputs))
     (c.set-2.ensures.pads ∙ c.set.ensures.pads) c.show.ensures.shown in
-    six_settings words a b d c.set-3.new.self c.set-4.new.self c.set-5.new.self c.set-6.new.self (trits_of a.pads.outputs c.show.new.outputs)
+    six_settings words a b d c.set-3.new.self c.set-4.new.self c.set-5.new.self c.set-6.new.self
+    (trits_of a.pads.outputs c.show.new.outputs)
     (record { network = c.set.ensures.network; pads = c.set.ensures.pads; settled = c.set.ensures.settled })
     (record { network = c.set-2.ensures.network; pads = c.set-2.ensures.pads; settled = c.set-2.ensures.settled })
     shown

@@ -1,4 +1,4 @@
-use Rattle.std.proofs.Common.{◌+◌, ◌<◌, length, inl, inr, arith}
+use Rattle.std.proofs.Common.{◌<◌, length, inl, inr, arith}
 use Rattle.kept_runs.specs.Kept.{width_of}
 use Rattle.kept_runs.proofs.runs.KeptRuns.border_after.Goals as goal
 
@@ -13,7 +13,8 @@ overflow_add-cell c =
 -- src/runs.rt
 pub first_from-requires : goal.first_from-requires
 unfolding width_of
-first_from-requires c = let r = c.args.self.now.kept.room in let h : c.args.cell < length c.args.self.now.colours.items = c.requires in omega arith
+first_from-requires c = let r = c.args.self.now.kept.room in
+    let h : c.args.cell < length c.args.self.now.colours.items = c.requires in omega arith
 
 -- src/runs.rt
 pub returns-in-Some : goal.returns-in-Some
@@ -28,4 +29,9 @@ returns-in-Some c =
 pub returns-in-None : goal.returns-in-None
 returns-in-None c =
     let e = c.cells.ensures in
-    record { order = omega arith; within = omega arith; none = λ d h l. c.in-None.ensures.none d (omega arith); own = inl e }
+    record {
+      order = omega arith;
+      within = omega arith;
+      none = λ d h l. c.in-None.ensures.none d (omega arith);
+      own = inl e;
+    }

@@ -1,4 +1,4 @@
-use Rattle.std.proofs.Common.{◌+◌, ◌<◌, length, arith}
+use Rattle.std.proofs.Common.{◌<◌, length, arith}
 use Rattle.std.proofs.lemmas.Bool.{both_ways}
 use Rattle.kept_runs.specs.Kept.{width_of}
 use Rattle.kept_runs.proofs.runs.KeptRuns.border_to.Goals as goal
@@ -14,7 +14,8 @@ overflow_add-cell c =
 -- src/runs.rt
 pub last_before-requires : goal.last_before-requires
 unfolding width_of
-last_before-requires c = let r = c.args.self.now.kept.room in let h : c.args.cell < length c.args.self.now.colours.items = c.requires in omega arith
+last_before-requires c = let r = c.args.self.now.kept.room in
+    let h : c.args.cell < length c.args.self.now.colours.items = c.requires in omega arith
 
 -- src/runs.rt
 pub returns-in-Some : goal.returns-in-Some

@@ -1,5 +1,6 @@
 -- Run by run.
-use Rattle.std.proofs.Common.{◌≡◌, ◌≢◌, ◌⊎◌, ℕ, ◌+◌, ◌-◌, ◌<◌, ◌≤◌, true, [], length, inl, inr, rules, refl, sym, ◌∙◌, subst, arith}
+use Rattle.std.proofs.Common.{◌≡◌, ◌≢◌, ◌⊎◌, ◌-◌, ◌≤◌, true, [], length, inl, inr, rules, refl, sym, ◌∙◌}
+use Rattle.std.proofs.Common.{subst, arith}
 use Rattle.std.proofs.lemmas.Bool.{cases_eq, cases_lt}
 use Rattle.cell_set.specs.Sets.{has}
 use Rattle.mask_runs.specs.Runs.{AreRuns}
@@ -17,7 +18,8 @@ loop-at-init c =
       order = omega arith;
       bound = inr refl;
       border = inl refl;
-      runs = subst (AreRuns (windowed c.args.from c.args.from (colours_of c.args.self.now))) (sym e) (no_runs c.args.from c.args.from (omega arith) (colours_of c.args.self.now));
+      runs = subst (AreRuns (windowed c.args.from c.args.from (colours_of c.args.self.now))) (sym e)
+          (no_runs c.args.from c.args.from (omega arith) (colours_of c.args.self.now));
     }
 
 -- src/runs.rt
@@ -51,12 +53,15 @@ loop-at-preserved c =
         ]
         | inr l ↦ inr (inl (omega arith))
       ];
-      runs = rw c.in_ok-add.ensures (grown_by c.args.from at _ c.colour_at.result (colours_of k) c.loop-at.runs.items inv.runs o (omega arith)
-          (λ d h l. goes_on k k.kept at c.border_after.result (omega arith) a d h (omega arith) ∙ sym c.colour_at.ensures) before);
+      runs = rw c.in_ok-add.ensures
+          (grown_by c.args.from at _ c.colour_at.result (colours_of k) c.loop-at.runs.items inv.runs o (omega arith)
+          (λ d h l. goes_on k k.kept at c.border_after.result (omega arith) a d h (omega arith)
+          ∙ sym c.colour_at.ensures) before);
     }
 
 -- src/runs.rt
 pub returns : goal.returns
 returns c =
     let inv = c.loop-at.invariant in
-    whole c.args.from c.loop-at.at c.args.to (colours_of c.args.self.now) c.loop-at.runs.items inv.order c.loop-at-test.false inv.bound inv.runs
+    whole c.args.from c.loop-at.at c.args.to
+    (colours_of c.args.self.now) c.loop-at.runs.items inv.order c.loop-at-test.false inv.bound inv.runs

@@ -1,4 +1,4 @@
-use Rattle.std.proofs.Common.{◌≡◌, ℕ, ◌<◌, replicate, length, rules, sym, subst, ◌∙◌, arith}
+use Rattle.std.proofs.Common.{◌≡◌, ℕ, replicate, length, rules, sym, subst, ◌∙◌, arith}
 use Rattle.std.proofs.lemmas.List.{length-replicate}
 use Rattle.kept_runs.specs.Borders.{noted}
 use Rattle.kept_runs.specs.Kept.{width_of}
@@ -14,7 +14,8 @@ invariant_of-result c =
     let r = c.insert.ensures.room in
     let s = c.in_ok-borders.ensures.room in
     record {
-      kept = one_border c.insert.new.self c.in_ok-colours.colours.items (omega arith) (omega arith) (omega arith) c.insert.ensures.own
+      kept = one_border c.insert.new.self c.in_ok-colours.colours.items (omega arith) (omega arith)
+          (omega arith) c.insert.ensures.own
           (λ d n. c.insert.ensures.others d n ∙ c.in_ok-borders.ensures.empty d);
     }
 

@@ -1,4 +1,4 @@
-use Rattle.std.proofs.Common.{◌≡◌, ◌↔◌, ◌+◌, ◌<◌, ◌≤◌, true, length, sym, ◌∙◌, arith}
+use Rattle.std.proofs.Common.{◌≡◌, ◌<◌, ◌≤◌, length, ◌∙◌, arith}
 use Rattle.std.proofs.lemmas.List.{length-set}
 use Rattle.cell_set.specs.Sets.{room_of}
 use Rattle.kept_runs.specs.Kept.{width_of}
@@ -20,8 +20,12 @@ invariant_of-self c =
     let l : length k.colours.items ≤ c.args.to = rw c.cells.ensures at c.if-cells-to.true in
     let o = c.requires.order in
     let b = begins_at k k.kept c.args.from c.args.colour c.begins-begins.result (omega arith) c.begins-begins.ensures in
-    let p = painted_end k.borders c.fill.new.borders k.colours.items c.fill.new.colours.items c.args.from c.args.to c.args.colour c.begins-begins.result o w c.fill.ensures b l in
-    record { kept = still_borders k.borders c.fill.new.borders k.colours.items c.fill.new.colours.items c.args.from c.args.to c.args.colour k.kept o w p }
+    let p = painted_end k.borders c.fill.new.borders k.colours.items c.fill.new.colours.items c.args.from c.args.to
+    c.args.colour c.begins-begins.result o w c.fill.ensures b l in
+    record {
+      kept = still_borders k.borders c.fill.new.borders k.colours.items c.fill.new.colours.items c.args.from
+          c.args.to c.args.colour k.kept o w p;
+    }
 
 -- src/runs.rt
 pub returns-then-cells-to : goal.returns-then-cells-to
@@ -32,7 +36,8 @@ returns-then-cells-to c =
     let l : length k.colours.items ≤ c.args.to = rw c.cells.ensures at c.if-cells-to.true in
     let o = c.requires.order in
     let b = begins_at k k.kept c.args.from c.args.colour c.begins-begins.result (omega arith) c.begins-begins.ensures in
-    let p = painted_end k.borders c.fill.new.borders k.colours.items c.fill.new.colours.items c.args.from c.args.to c.args.colour c.begins-begins.result o w c.fill.ensures b l in
+    let p = painted_end k.borders c.fill.new.borders k.colours.items c.fill.new.colours.items c.args.from c.args.to
+    c.args.colour c.begins-begins.result o w c.fill.ensures b l in
     record {
       inside = row_in k _ c.args.from c.args.to c.args.colour k.kept o w p;
       beside = row_beside k _ c.args.from c.args.to c.args.colour k.kept o w p;
@@ -71,10 +76,15 @@ invariant_of-self-2 c =
     let l : c.args.to < length k.colours.items = rw c.cells.ensures at c.if-cells-to.false in
     let o = c.requires.order in
     let b = begins_at k k.kept c.args.from c.args.colour c.begins-begins.result (omega arith) c.begins-begins.ensures in
-    let p = painted_on k.borders c.fill-2.new.borders k.colours.items c.fill-2.new.colours.items c.args.from c.args.to c.args.colour c.begins-begins.result o w
-    c.fill-2.ensures b c.put.new.borders c.put.new.colours.items c.colour_at-after.result c.differ.result l (c.colour_at-after.ensures ∙ in_row k k.kept c.args.to l)
+    let p = painted_on k.borders c.fill-2.new.borders k.colours.items c.fill-2.new.colours.items c.args.from c.args.to
+    c.args.colour c.begins-begins.result o w
+    c.fill-2.ensures b c.put.new.borders c.put.new.colours.items c.colour_at-after.result c.differ.result l
+    (c.colour_at-after.ensures ∙ in_row k k.kept c.args.to l)
     c.differ.ensures c.put.ensures.own c.put.ensures.others c.put.ensures.noted c.put.ensures.room in
-    record { kept = still_borders k.borders c.put.new.borders k.colours.items c.put.new.colours.items c.args.from c.args.to c.args.colour k.kept o w p }
+    record {
+      kept = still_borders k.borders c.put.new.borders k.colours.items c.put.new.colours.items c.args.from
+          c.args.to c.args.colour k.kept o w p;
+    }
 
 -- src/runs.rt
 pub returns : goal.returns
@@ -85,8 +95,10 @@ returns c =
     let l : c.args.to < length k.colours.items = rw c.cells.ensures at c.if-cells-to.false in
     let o = c.requires.order in
     let b = begins_at k k.kept c.args.from c.args.colour c.begins-begins.result (omega arith) c.begins-begins.ensures in
-    let p = painted_on k.borders c.fill-2.new.borders k.colours.items c.fill-2.new.colours.items c.args.from c.args.to c.args.colour c.begins-begins.result o w
-    c.fill-2.ensures b c.put.new.borders c.put.new.colours.items c.colour_at-after.result c.differ.result l (c.colour_at-after.ensures ∙ in_row k k.kept c.args.to l)
+    let p = painted_on k.borders c.fill-2.new.borders k.colours.items c.fill-2.new.colours.items c.args.from c.args.to
+    c.args.colour c.begins-begins.result o w
+    c.fill-2.ensures b c.put.new.borders c.put.new.colours.items c.colour_at-after.result c.differ.result l
+    (c.colour_at-after.ensures ∙ in_row k k.kept c.args.to l)
     c.differ.ensures c.put.ensures.own c.put.ensures.others c.put.ensures.noted c.put.ensures.room in
     record {
       inside = row_in k _ c.args.from c.args.to c.args.colour k.kept o w p;

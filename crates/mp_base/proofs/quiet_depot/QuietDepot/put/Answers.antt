@@ -3,7 +3,8 @@ use Rattle.std.specs.Option.{option_map}
 use Rattle.std.specs.FinMap.{insert}
 use Rattle.mp_base.specs.Outside.{Files}
 use Rattle.mp_base.specs.QuietLog.{files_in}
-use Rattle.mp_base.proofs.QuietLemmas.{entry_parts, entry_put, stays_part, put_is_part, kept_part, put_part, told_step, told_same}
+use Rattle.mp_base.proofs.QuietLemmas.{entry_parts, entry_put, stays_part, put_is_part, kept_part, put_part, told_step}
+use Rattle.mp_base.proofs.QuietLemmas.{told_same}
 use Rattle.mp_base.proofs.quiet_depot.QuietDepot.put.Goals as goal
 
 pub invariant_of-self-clause-parts : goal.invariant_of-self-clause-parts

@@ -3,7 +3,8 @@ use Rattle.std.proofs.Math.Seq.{take-length}
 use Rattle.std.specs.FinMap.{insert}
 use Rattle.mp_base.specs.Outside.{Files, Grows, bytes_of}
 use Rattle.mp_base.specs.QuietLog.{part_of, is_part, files_in}
-use Rattle.mp_base.proofs.QuietLemmas.{entry_parts, entry_put, stays_part, put_is_part, kept_part, put_part, told_fits, told_step, where_told}
+use Rattle.mp_base.proofs.QuietLemmas.{entry_parts, entry_put, stays_part, put_is_part, kept_part, put_part, told_fits}
+use Rattle.mp_base.proofs.QuietLemmas.{told_step, where_told}
 use Rattle.mp_base.proofs.quiet_depot.QuietDepotDepot.append.Goals as goal
 
 pub invariant_of-self-in-Some-clause-parts : goal.invariant_of-self-in-Some-clause-parts

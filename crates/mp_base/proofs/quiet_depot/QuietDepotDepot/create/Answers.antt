@@ -2,7 +2,8 @@ use Rattle.std.proofs.Common.{◌∙◌, ◌+◌, [], ap, sym, length, refl, ari
 use Rattle.std.specs.FinMap.{insert}
 use Rattle.mp_base.specs.Outside.{Files, Creates}
 use Rattle.mp_base.specs.QuietLog.{files_in}
-use Rattle.mp_base.proofs.QuietLemmas.{entry_parts, put_is_part, part_stands, file_made, told_fits, told_step, where_told}
+use Rattle.mp_base.proofs.QuietLemmas.{entry_parts, put_is_part, part_stands, file_made, told_fits, told_step}
+use Rattle.mp_base.proofs.QuietLemmas.{where_told}
 use Rattle.mp_base.proofs.quiet_depot.QuietDepotDepot.create.Goals as goal
 
 pub invariant_of-self-2-clause-parts : goal.invariant_of-self-2-clause-parts

@@ -6,7 +6,8 @@ use Rattle.path_form.specs.declared.path.Lift.{Lift}
 use Rattle.path_form.specs.Shape.{chain_to}
 use Rattle.path_flat.specs.declared.sources.Source.{Source}
 use Rattle.path_flat.specs.declared.sources.Source.TheVariants.{Pad}
-use Rattle.path_flat.specs.Sources.{cast_source, chain_source, control_source, lift_source, or_source, program_source, source_at, told}
+use Rattle.path_flat.specs.Sources.{cast_source, chain_source, control_source, lift_source, or_source, program_source}
+use Rattle.path_flat.specs.Sources.{source_at, told}
 use Rattle.path_flat.proofs.Ends.{casts_inside, lifts_inside, programs_inside}
 use Rattle.path_flat.proofs.Telling.{told_list}
 use Rattle.path_flat.proofs.sources.Sources.new.Goals as goal

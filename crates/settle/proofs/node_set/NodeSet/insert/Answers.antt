@@ -12,7 +12,9 @@ index-other-requires c =
     let n = c.args.node in
     let room : length s.order.items ≡ c.args.self.now.room = ap (λ (x : Nodes). x.room) c.self.view_is in
     let members : take s.count s.order.items ≡ c.args.self.now.members = ap (λ (x : Nodes). x.members) c.self.view_is in
-    let past : s.count ≤ get_or s.place.items n 0 = absent_past s.count s.order.items s.place.items h n (omega arith) (λ m. c.requires.absent (subst (λ (xs : List ℕ). Contains xs n) members m)) in
+    let past : s.count ≤ get_or s.place.items n 0 =
+    absent_past s.count s.order.items s.place.items h n (omega arith)
+    (λ m. c.requires.absent (subst (λ (xs : List ℕ). Contains xs n) members m)) in
     let within = h.places n (omega arith) in
     omega arith
 
@@ -23,7 +25,9 @@ index_mut-requires-2 c =
     let n = c.args.node in
     let room : length s.order.items ≡ c.args.self.now.room = ap (λ (x : Nodes). x.room) c.self.view_is in
     let members : take s.count s.order.items ≡ c.args.self.now.members = ap (λ (x : Nodes). x.members) c.self.view_is in
-    let past : s.count ≤ get_or s.place.items n 0 = absent_past s.count s.order.items s.place.items h n (omega arith) (λ m. c.requires.absent (subst (λ (xs : List ℕ). Contains xs n) members m)) in
+    let past : s.count ≤ get_or s.place.items n 0 =
+    absent_past s.count s.order.items s.place.items h n (omega arith)
+    (λ m. c.requires.absent (subst (λ (xs : List ℕ). Contains xs n) members m)) in
     let within = h.places n (omega arith) in
     omega arith
 
@@ -34,7 +38,9 @@ index_mut-requires-3 c =
     let n = c.args.node in
     let room : length s.order.items ≡ c.args.self.now.room = ap (λ (x : Nodes). x.room) c.self.view_is in
     let members : take s.count s.order.items ≡ c.args.self.now.members = ap (λ (x : Nodes). x.members) c.self.view_is in
-    let past : s.count ≤ get_or s.place.items n 0 = absent_past s.count s.order.items s.place.items h n (omega arith) (λ m. c.requires.absent (subst (λ (xs : List ℕ). Contains xs n) members m)) in
+    let past : s.count ≤ get_or s.place.items n 0 =
+    absent_past s.count s.order.items s.place.items h n (omega arith)
+    (λ m. c.requires.absent (subst (λ (xs : List ℕ). Contains xs n) members m)) in
     let within = h.places n (omega arith) in
     let other_is = get_or_read s.order.items s.count c.index-other.result.now (omega arith) c.index-other.ensures 0 in
     let other_in = h.nodes s.count (omega arith) in
@@ -47,7 +53,9 @@ overflow_add-self c =
     let n = c.args.node in
     let room : length s.order.items ≡ c.args.self.now.room = ap (λ (x : Nodes). x.room) c.self.view_is in
     let members : take s.count s.order.items ≡ c.args.self.now.members = ap (λ (x : Nodes). x.members) c.self.view_is in
-    let past : s.count ≤ get_or s.place.items n 0 = absent_past s.count s.order.items s.place.items h n (omega arith) (λ m. c.requires.absent (subst (λ (xs : List ℕ). Contains xs n) members m)) in
+    let past : s.count ≤ get_or s.place.items n 0 =
+    absent_past s.count s.order.items s.place.items h n (omega arith)
+    (λ m. c.requires.absent (subst (λ (xs : List ℕ). Contains xs n) members m)) in
     let within = h.places n (omega arith) in
     omega arith
 
@@ -58,11 +66,14 @@ invariant_of-self c =
     let n = c.args.node in
     let room : length s.order.items ≡ c.args.self.now.room = ap (λ (x : Nodes). x.room) c.self.view_is in
     let members : take s.count s.order.items ≡ c.args.self.now.members = ap (λ (x : Nodes). x.members) c.self.view_is in
-    let past : s.count ≤ get_or s.place.items n 0 = absent_past s.count s.order.items s.place.items h n (omega arith) (λ m. c.requires.absent (subst (λ (xs : List ℕ). Contains xs n) members m)) in
+    let past : s.count ≤ get_or s.place.items n 0 =
+    absent_past s.count s.order.items s.place.items h n (omega arith)
+    (λ m. c.requires.absent (subst (λ (xs : List ℕ). Contains xs n) members m)) in
     let within = h.places n (omega arith) in
     let from_is = get_or_read s.place.items n c.index-from.result.now (omega arith) c.index-from.ensures 0 in
     let other_is = get_or_read s.order.items s.count c.index-other.result.now (omega arith) c.index-other.ensures 0 in
-    placed_more s.count s.order.items s.place.items h n c.index-from.result.now c.index-other.result.now (omega arith) from_is other_is (omega arith)
+    placed_more s.count s.order.items s.place.items h n c.index-from.result.now c.index-other.result.now
+    (omega arith) from_is other_is (omega arith)
 
 pub returns-clause-members : goal.returns-clause-members
 returns-clause-members c =
@@ -71,9 +82,12 @@ returns-clause-members c =
     let n = c.args.node in
     let room : length s.order.items ≡ c.args.self.now.room = ap (λ (x : Nodes). x.room) c.self.view_is in
     let members : take s.count s.order.items ≡ c.args.self.now.members = ap (λ (x : Nodes). x.members) c.self.view_is in
-    let past : s.count ≤ get_or s.place.items n 0 = absent_past s.count s.order.items s.place.items h n (omega arith) (λ m. c.requires.absent (subst (λ (xs : List ℕ). Contains xs n) members m)) in
+    let past : s.count ≤ get_or s.place.items n 0 =
+    absent_past s.count s.order.items s.place.items h n (omega arith)
+    (λ m. c.requires.absent (subst (λ (xs : List ℕ). Contains xs n) members m)) in
     let within = h.places n (omega arith) in
     let from_is = get_or_read s.place.items n c.index-from.result.now (omega arith) c.index-from.ensures 0 in
     let other_is = get_or_read s.order.items s.count c.index-other.result.now (omega arith) c.index-other.ensures 0 in
-    members_more s.count s.order.items s.place.items h n c.index-from.result.now c.index-other.result.now (omega arith) from_is other_is (omega arith)
+    members_more s.count s.order.items s.place.items h n c.index-from.result.now c.index-other.result.now
+    (omega arith) from_is other_is (omega arith)
     ∙ ap (λ (xs : List ℕ). xs ++ n ∷ []) members

@@ -8,7 +8,14 @@ use Rattle.settle_order.proofs.orders.Orders.recall.Goals as goal
 pub returns-then-is_serving-clause-served : goal.returns-then-is_serving-clause-served
 returns-then-is_serving-clause-served c _ =
     let same : c.self.inside.orders.items ≡ c.args.self.now.orders = ap (λ (x : Orderings). x.orders) c.self.view_is in
-    subst (λ (xs : List Order). Any (IsServing c.args.drive.now) xs) same (c.self.inside.last, c.index.result.now, omega arith, sym c.index.ensures, c.is_serving.ensures c.if-is_serving.true)
+    subst (λ (xs : List Order). Any (IsServing c.args.drive.now) xs) same (
+      c.self.inside.last,
+      c.index.result.now,
+      omega arith,
+      sym c.index.ensures,
+      c.is_serving.ensures
+          c.if-is_serving.true,
+    )
 
 pub returns-in-Some-clause-served : goal.returns-in-Some-clause-served
 returns-in-Some-clause-served c _ =

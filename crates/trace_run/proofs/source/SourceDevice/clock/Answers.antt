@@ -28,7 +28,8 @@ fill_words-requires-clause-outputs c =
     let R : Program → Type 0 =
     λ q. IsClock q c.self.inside.machine.state c.args.inputs.now c.clock.new.outputs c.clock.new.self.state in
     let fit =
-    clock_fits p pads c.self.inside.machine.state c.clock.new.self.state c.args.inputs.now c.clock.new.outputs c.clocks_fit.ensures.fit
+    clock_fits p pads c.self.inside.machine.state c.clock.new.self.state c.args.inputs.now c.clock.new.outputs
+    c.clocks_fit.ensures.fit
     was.state was.fits was.padded (subst F (sym c.self.view_is) c.requires.fit)
     (subst R was.program c.clock.ensures.clock) in
     ap length c.as_slice-2.ensures ∙ fit.0.size ∙ sym (many_outputs p pads was.padded)
@@ -43,7 +44,8 @@ fill_words-requires-clause-fits c =
     let R : Program → Type 0 =
     λ q. IsClock q c.self.inside.machine.state c.args.inputs.now c.clock.new.outputs c.clock.new.self.state in
     let fit =
-    clock_fits p pads c.self.inside.machine.state c.clock.new.self.state c.args.inputs.now c.clock.new.outputs c.clocks_fit.ensures.fit
+    clock_fits p pads c.self.inside.machine.state c.clock.new.self.state c.args.inputs.now c.clock.new.outputs
+    c.clocks_fit.ensures.fit
     was.state was.fits was.padded (subst F (sym c.self.view_is) c.requires.fit)
     (subst R was.program c.clock.ensures.clock) in
     let A : List Pad → Type 0 = λ ps. (k : ℕ) → k < length ps → get_or c.as_slice-2.result.now k 0 < bound_at ps k in
@@ -87,5 +89,9 @@ returns-clause-steps c =
       program = refl;
       pads = refl;
       clock =
-          record { outputs = c.clock.new.outputs; clock = subst R c.self.invariant.program c.clock.ensures.clock; bits = bits };
+          record {
+            outputs = c.clock.new.outputs;
+            clock = subst R c.self.invariant.program c.clock.ensures.clock;
+            bits = bits;
+          };
     })

@@ -1,15 +1,15 @@
--- Numbers that are kept once, and the stamps by which those seen are known.
-use Rattle.std.proofs.Common.{◌≡◌, inl, inr, ℕ, ◌<◌, ◌≤◌, ◌==◌, Bool, true, false, cond, not, map, append_assoc}
-use Rattle.std.proofs.Common.{List, [], ◌∷◌, ◌++◌, length, get_or, set, refl, sym, ◌∙◌, ap, subst, arith}
-use Rattle.std.specs.Prelude.{All, ◌≢◌}
+-- Numbers that stand once in a list, and stamps that tell which were seen, for all crates above.
+use Rattle.std.proofs.Common.{[], ℕ, List, ◌++◌, ◌∷◌, ◌≡◌, cond, true, ◌==◌, Bool, false, refl, ◌∙◌, ap}
+use Rattle.std.proofs.Common.{inl, inr, sym, not, subst, ◌≤◌, ◌<◌, length, get_or, arith, set, map}
+use Rattle.std.proofs.Common.{append_assoc}
+use Rattle.std.specs.Prelude.{◌≢◌, All}
 use Rattle.std.proofs.lemmas.Bool.{cases_Bool, cases_eq}
-use Rattle.std.proofs.lemmas.List.{get_or-set_same, get_or-set_other, length-set, map_push}
 use Rattle.std.proofs.lemmas.List.Elements.{filter-append}
-use Rattle.array_form.specs.Band.{has, distinct, without}
-use Rattle.array_form.proofs.Listing.{same_from, same_to, differs_to}
-
-true_false : true ≡ false → ⊥
-true_false e = cc e
+use Rattle.std.proofs.lemmas.List.{append-nil, length-set, get_or-set_same, get_or-set_other}
+use Rattle.std.proofs.lemmas.List.{map_push}
+use Rattle.mp_base.proofs.Tests.{true_false}
+use Rattle.array_form.specs.Band.{has, without, distinct}
+use Rattle.array_form.proofs.Listing.{same_to, same_from, differs_to}
 
 -- the number is among these and one more
 pub has_push : (a : ℕ) (xs : List ℕ) (x : ℕ) → has a (xs ++ x ∷ []) ≡ cond (has a xs) true (x == a)
@@ -47,19 +47,15 @@ has_before a xs x ne e = elim (cases_Bool (x == a)) [
     go true h = refl
     go false h = h
 
-without_last : (x : ℕ) (ys : List ℕ) (z : ℕ) → z ≢ x → without x (ys ++ z ∷ []) ≡ without x ys ++ z ∷ []
+pub without_last : (x : ℕ) (ys : List ℕ) (z : ℕ) → z ≢ x → without x (ys ++ z ∷ []) ≡ without x ys ++ z ∷ []
 without_last x ys z ne =
     filter-append (λ y. not (y == x)) ys (z ∷ [])
     ∙ ap (λ t. without x ys ++ cond t (z ∷ []) []) (differs_to x z ne)
 
-without_same : (x : ℕ) (ys : List ℕ) → without x (ys ++ x ∷ []) ≡ without x ys ++ []
+pub without_same : (x : ℕ) (ys : List ℕ) → without x (ys ++ x ∷ []) ≡ without x ys ++ []
 without_same x ys =
     filter-append (λ y. not (y == x)) ys (x ∷ [])
     ∙ ap (λ t. without x ys ++ cond (not t) (x ∷ []) []) (same_to x x refl)
-
-no_more : {A : Type 0} (xs : List A) → xs ++ [] ≡ xs
-no_more [] = refl
-no_more (x ∷ xs) = ap (λ l. x ∷ l) (no_more xs)
 
 pub distinct_new : (xs : List ℕ) (x : ℕ) → has x xs ≡ false → distinct (xs ++ x ∷ []) ≡ distinct xs ++ x ∷ []
 distinct_new [] x e = refl
@@ -80,7 +76,7 @@ distinct_again (y ∷ ys) x e = elim (cases_Bool (has x ys)) [
         let s : y ≡ x = same_from y x q in
         ap (λ l. y ∷ without y l) (distinct_new ys x h)
         ∙ ap (λ l. y ∷ l) (subst (λ z. without y (distinct ys ++ z ∷ []) ≡ without y (distinct ys)) s
-        (without_same y (distinct ys) ∙ no_more (without y (distinct ys)))))
+        (without_same y (distinct ys) ∙ append-nil (without y (distinct ys)))))
     | inr q ↦ absurd (true_false (sym e ∙ (ap (λ t. cond t true (has x ys)) q ∙ h)))
   ]
 ]
