@@ -139,6 +139,47 @@ def under_polysilicon(count):
     return buried(count)[:-2] + plane("NP", count // 2) + "E\n"
 
 
+def gate_column(x, top):
+    """A NOR gate of a Weinberger array at a column, in lambda: its output, its ground and its pull-up, by layers."""
+    return {"ND": [(x + 2, 0, x + 6, top + 6), (x + 14, 0, x + 18, top), (x + 3, top + 6, x + 5, top + 27), (x + 2, top + 27, x + 6, top + 31)],
+            "NP": [(x + 8, top + 2, x + 12, top + 8), (x + 1, top + 8, x + 12, top + 24)],
+            "NI": [(x + 1, top + 6, x + 7, top + 26)], "NM": [(x + 2, top + 2, x + 12, top + 6)],
+            "NC": [(x + 3, top + 3, x + 5, top + 5), (x + 9, top + 3, x + 11, top + 5), (x + 3, top + 28, x + 5, top + 30), (x + 15, 7, x + 17, 9)]}
+
+
+def gate_input(x, y):
+    """A switch between output and ground, under a track."""
+    return {"ND": [(x + 6, y - 4, x + 14, y - 2)], "NP": [(x + 9, y - 6, x + 11, y), (x + 8, y, x + 12, y + 4)], "NC": [(x + 9, y + 1, x + 11, y + 3)]}
+
+
+def band(draw, columns, tracks):
+    """A row of gates, each of which drives some of the next 16 along a track."""
+    top, free = 12 + 12 * tracks, [0] * tracks
+    parts = [{"NM": [(0, 6, 20 * columns, 10), (0, top + 27, 20 * columns, top + 31)]}]
+    for k in range(columns):
+        track = draw.choice([t for t in range(tracks) if free[t] <= k])
+        readers = sorted(draw.sample(range(k + 1, k + 17), draw.randrange(1, 4)))
+        readers = [j for j in readers if j < columns]
+        free[track] = (readers or [k])[-1] + 1
+        x, y = 20 * k, 18 + 12 * track
+        parts += [gate_column(x, top), {"NM": [(x, y, 20 * free[track], y + 4)], "NC": [(x + 3, y + 1, x + 5, y + 3)]}]
+        parts += [gate_input(20 * j, y) for j in readers]
+    return {layer: [r for part in parts for r in part.get(layer, [])] for layer in ["NI", "ND", "NP", "NM", "NC"]}, top + 44
+
+
+def bands(count, defined):
+    """Rows of 125 gates above one another, about so many rectangles: as a compiled chip, but at random. With a definition for each row, or flat."""
+    draw, text, up = random.Random(4), [], 0
+    for number in range(1, count // 2670 + 1):
+        layers, height = band(draw, 125, 24)
+        shift = 0 if defined else up
+        boxes = "".join("L %s;\n%s" % (layer, "".join("B %d %d %d %d;\n" % (250 * (r - l), 250 * (t - b), 125 * (l + r), 125 * (b + t + 2 * shift))
+                                                     for l, b, r, t in layers[layer])) for layer in layers)
+        text.append("DS %d 1 1;\n%sDF;\nC %d T 0 %d;\n" % (number, boxes, number, 250 * up) if defined else boxes)
+        up += height
+    return "".join(text) + "E\n"
+
+
 # ---- for the simulator
 
 def inverters(count):

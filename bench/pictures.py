@@ -7,7 +7,7 @@ It reads docs/LOOKING.md and the definitions of mask_svg anew, and shares no lin
 import sys
 
 STYLE = (
-    "<style>text{font-family:sans-serif}path,rect{fill-opacity:.6}"
+    "<style>text{font-family:sans-serif;paint-order:stroke;stroke:#fff;stroke-width:.2em;stroke-opacity:.7}path,rect{fill-opacity:.6}"
     ".ND{fill:#2e9e4f}.NP{fill:#d93636}.NC{fill:#000;fill-opacity:1}.NM{fill:#3a6fd8;fill-opacity:.45}"
     ".NI{fill:#f2c500;fill-opacity:.35}"
     "path.NI{stroke:#8a6a00;stroke-dasharray:1 3;vector-effect:non-scaling-stroke}"
@@ -36,9 +36,15 @@ def path(layer, rects):
     return f"<path class='{layer}' d='{shapes}'/>\n"
 
 
-def label(name, x, y):
-    place = f"x='{x}' y='{-y}'"
-    return f"<use href='#mark' {place}/><text {place} dx='.3em'>{escaped(name)}</text>\n"
+def height(x, y, labels, unit):
+    """The unit, or the distance of the nearest label where that is less, of which a name takes four times as much upwards."""
+    gaps = (max(abs(x - i), abs(y - j) // 4) for _, i, j in labels[:256])
+    return min([unit] + [gap for gap in gaps if gap])
+
+
+def label(name, x, y, labels, unit):
+    return (f"<g transform='translate({x} {-y}) rotate(-90) scale({height(x, y, labels, unit)})'>"
+            f"<circle r='.2'/><text x='.3'>{escaped(name)}</text></g>\n")
 
 
 def picture(rects, labels):
@@ -50,12 +56,11 @@ def picture(rects, labels):
     unit = count * grain
     yield f"<svg xmlns='http://www.w3.org/2000/svg' viewBox='0 0 {max(width, 42 * unit) + 4 * unit} {height + 8 * unit}'>\n"
     yield STYLE
-    yield f"<defs><circle id='mark' r='.2' transform='scale({unit})'/></defs>\n"
     yield f"<g transform='translate({2 * unit} {2 * unit}) translate({-left} {top})'>\n"
     yield "<g transform='scale(1 -1)'>\n"
     yield from (path(layer, rects) for layer in DRAWN)
-    yield f"</g>\n<g font-size='{unit}'>\n"
-    yield from (label(*l) for l in labels)
+    yield "</g>\n<g font-size='1'>\n"
+    yield from (label(*l, labels, unit) for l in labels)
     yield f"</g>\n<g font-size='.8' transform='translate({left} {-bottom}) scale({unit})'>\n"
     yield from key()
     yield f"<text x='11' y='5'>{10 * count} {'half-units' if grain == 1 else 'lambda'}</text>\n</g>\n</g>\n</svg>\n"
