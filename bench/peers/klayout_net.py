@@ -37,14 +37,13 @@ for lower, upper in [(cut, metal), (cut, polysilicon), (cut, ends), (joined, pol
 found.extract_netlist()
 
 
-def counted(circuit, kind):
-    """The transistors of a kind in a circuit, with those of the circuits in it."""
-    own = sum(device.device_class().name == kind for device in circuit.each_device())
-    return own + sum(counts[part.circuit_ref().name, kind] for part in circuit.each_subcircuit())
-
-
-counts = {}
-for circuit in found.netlist().each_circuit_bottom_up():
-    for kind in ["enhancement", "depletion"]:
-        counts[circuit.name, kind] = counted(circuit, kind)
-print("enhancement", counts[top.name, "enhancement"], "depletion", counts[top.name, "depletion"])
+# A circuit stands for each call of its definition; one whose nets lead nowhere else is no part of another.
+times = {top.name: 1}
+for index in layout.each_cell_top_down():
+    for call in layout.cell(index).each_inst():
+        times[call.cell.name] = times.get(call.cell.name, 0) + times[layout.cell(index).name] * call.size()
+counts = {"enhancement": 0, "depletion": 0}
+for circuit in found.netlist().each_circuit():
+    for device in circuit.each_device():
+        counts[device.device_class().name] += times[circuit.name]
+print("enhancement", counts["enhancement"], "depletion", counts["depletion"])
