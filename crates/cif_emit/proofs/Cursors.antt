@@ -13,12 +13,13 @@ use Rattle.cif_form.specs.declared.command.Command.TheVariants as commands
 use Rattle.cif_form.specs.declared.command.Item.{Item}
 use Rattle.cif_form.specs.Place.{layer_name}
 use Rattle.cif_writer.specs.Texts.{commands_of}
+use Rattle.fabric.specs.declared.chip.Chip.{Chip}
 use Rattle.fabric.specs.declared.chip.ChipLabel.{ChipLabel}
 use Rattle.slice_symbols.specs.declared.symbols.Symbol.{Symbol}
 use Rattle.cif_emit.specs.Commands.{layers, is_on, drawn_on, box_of, layer_commands, box_commands, label_of}
 use Rattle.cif_emit.specs.Commands.{chip_commands}
 use Rattle.cif_emit.specs.Commands.{all_symbols, call_at, symbol}
-use Rattle.cif_emit.specs.Emitted.{AreCommandsOf, AreSymbolsFor, IsEmitted}
+use Rattle.cif_emit.specs.Emitted.{AreCommandsOf, AreSymbolsOfChip, IsEmitted}
 use Rattle.cif_emit.specs.Rest.{calls_from, from_symbol, no_symbol, rest_of_symbol, symbol_at, IsNextOn, IsNextLayer}
 
 -- ---- the rectangles of a layer
@@ -228,13 +229,13 @@ all_listed items left all none same =
     sym (append-nil (commands_of items)) ∙ ap (λ cs. commands_of items ++ cs) (sym none) ∙ same
 
 -- what is listed are commands of the chip's symbols
-pub listed_form : (result : Result (List Item) NoMemory) (rects : List Rect) (symbols : List Symbol)
-    (labels own : List ChipLabel) → labels ≡ own
-    → IfOk result (λ cif. commands_of cif ≡ chip_commands symbols labels) → AreSymbolsFor rects own symbols
-    → IfOk result (λ cif. AreCommandsOf rects own (commands_of cif))
-listed_form (Ok cif) rects symbols labels own e same drawing =
-    record { symbols = symbols; drawing = drawing; are = same ∙ ap (chip_commands symbols) e }
-listed_form (Err e) rects symbols labels own _ same drawing = same
+pub listed_form : (result : Result (List Item) NoMemory) (chip : Chip) (symbols : List Symbol)
+    (labels : List ChipLabel) → labels ≡ chip.labels
+    → IfOk result (λ cif. commands_of cif ≡ chip_commands symbols labels) → AreSymbolsOfChip chip symbols
+    → IfOk result (λ cif. AreCommandsOf chip (commands_of cif))
+listed_form (Ok cif) chip symbols labels e same of_chip =
+    record { symbols = symbols; of_chip = of_chip; are = same ∙ ap (chip_commands symbols) e }
+listed_form (Err e) chip symbols labels _ same of_chip = same
 
 -- what is listed draws the chip
 pub listed_drawn : (result : Result (List Item) NoMemory) (rects : List Rect) (symbols : List Symbol)

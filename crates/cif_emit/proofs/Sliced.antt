@@ -1,24 +1,23 @@
--- The symbols of a chip can be drawn.
-use Rattle.std.proofs.Common.{ℕ, ◌≡◌, ◌*◌, ◌<◌, ◌≤◌, ◌↔◌, refl, sym, ◌∙◌, ap, subst, arith, lit<, lit≤}
-use Rattle.std.proofs.Common.{List, [], ◌∷◌, ◌++◌, length, map}
-use Rattle.std.specs.Prelude.{ℤ, pos, All, Contains, Result, Ok, Err, IfOk}
+-- The symbols of a chip can be drawn, and are determined by it.
+use Rattle.std.proofs.Common.{ℕ, ◌≡◌, ◌+◌, ◌*◌, ◌<◌, ◌≤◌, inl, inr, refl, sym, ◌∙◌, ap, subst, arith, lit<, lit≤}
+use Rattle.std.proofs.Common.{List, ◌∷◌, length, get_or, drop}
+use Rattle.std.specs.Prelude.{ℤ, pos, All, Contains}
 use Rattle.std.proofs.lemmas.Int.{ints}
-use Rattle.std.proofs.lemmas.List.{append-nil}
-use Rattle.std.proofs.lemmas.List.Elements.{All-cons, All-contains, All-nil, All-weaker}
+use Rattle.std.proofs.lemmas.List.Elements.{All-contains, All-weaker}
 use Rattle.std.proofs.Math.Nat.{mul-le-mul_left}
-use Rattle.mp_base.specs.declared.refusal.NoMemory.{NoMemory}
 use Rattle.lam_geom.specs.declared.rect.Rect.{Rect}
 use Rattle.lam_geom.specs.Moves.{IsNear, IsNearRect}
-use Rattle.lam_geom.specs.Squares.{covered}
 use Rattle.cif_form.specs.Fits.{IsSmall}
+use Rattle.fabric.specs.declared.chip.Chip.{Chip}
 use Rattle.fabric.specs.declared.chip.ChipLabel.{ChipLabel}
 use Rattle.slice_symbols.specs.declared.bands.Bands.{Bands}
 use Rattle.slice_symbols.specs.declared.symbols.Symbol.{Symbol}
 use Rattle.slice_symbols.specs.Heights.{raised}
-use Rattle.slice_symbols.specs.Drawn.{AreSymbolsOf, IsHeight, IsSymbolOf, drawn_rects}
-use Rattle.slice_symbols.proofs.Lifting.{raised_by_none}
-use Rattle.cif_emit.specs.Emittable.{AreBands, AreDrawable, IsDrawable, IsEmittable, IsOnGrid, IsOnLambda}
-use Rattle.cif_emit.specs.Emitted.{AreSymbolsFor}
+use Rattle.slice_symbols.specs.Drawn.{AreSymbolsOf, IsHeight, IsSymbolOf, SymbolsAreUnique}
+use Rattle.cif_emit.specs.Emittable.{AreBands, AreBandsAbove, AreDrawable, CanShare, IsDrawable}
+use Rattle.cif_emit.specs.Emittable.{IsEmittable, IsOnGrid, IsOnLambda, bands_above, chip_rects, far_band}
+use Rattle.cif_emit.specs.Emitted.{AreCommandsOf, AreSymbolsFor, AreSymbolsOfChip, CommandsAreUnique}
+use Rattle.cif_emit.specs.Commands.{chip_commands}
 
 near : (z : ℤ) → IsSmall z → IsNear z
 near z h = (omega (arith, ints), omega (arith, ints))
@@ -63,8 +62,9 @@ module _ (rects : List Rect) (labels : List ChipLabel) (emittable : IsEmittable 
       few = is.few;
     }
 
-    symbols_for : (symbols : List Symbol) → AreSymbolsOf rects b symbols → AreSymbolsFor rects labels symbols
-    symbols_for symbols of = record {
+    -- the symbols can be drawn, and draw the rectangles
+    pub can_be_drawn : (symbols : List Symbol) → AreSymbolsOf rects b symbols → AreSymbolsFor rects labels symbols
+    can_be_drawn symbols of = record {
       drawable = record {
         each = All-weaker (IsSymbolOf rects b) IsDrawable drawable symbols of.each;
         two = of.two;
@@ -74,51 +74,93 @@ module _ (rects : List Rect) (labels : List ChipLabel) (emittable : IsEmittable 
       few = of.few;
     }
 
-    -- what a call made of the rectangles that it read
-    pub symbols_made : (read : List Rect) → read ≡ rects → (result : Result (List Symbol) NoMemory)
-        → IfOk result (AreSymbolsOf read b) → IfOk result (AreSymbolsFor rects labels)
-    symbols_made read e (Ok symbols) of = symbols_for symbols (subst (λ rs. AreSymbolsOf rs b symbols) e of)
-    symbols_made read e (Err f) of = of
+-- ---- the bands
 
--- the symbols that were made can be drawn with the labels that are read
-pub drawable_here : (rects : List Rect) (own labels : List ChipLabel) (made symbols : List Symbol) → symbols ≡ made
-    → labels ≡ own → AreSymbolsFor rects own made → AreDrawable symbols labels
-drawable_here rects own labels made symbols e f are =
-    subst (λ ss. AreDrawable ss labels) (sym e) (subst (AreDrawable made) (sym f) are.drawable)
+lowest_near : (lowest : ℕ) → lowest < 100_000 → IsNear (pos (500 * (12 * lowest + 36)))
+lowest_near lowest l = (omega (arith, ints), omega (arith, ints))
 
--- ---- a chip as one symbol
+far_near : IsNear (pos 1_099_511_627_776)
+far_near = (omega (arith, ints), omega (arith, ints))
 
--- one symbol of the whole, which stays where it is
-abbrev pub whole : List Rect → Symbol
-whole rects = record { shapes = rects; heights = pos 0 ∷ [] }
-
-raised_none : (rs : List Rect) → map (raised (pos 0)) rs ≡ rs
-raised_none [] = refl
-raised_none (r ∷ rs) = λ i. raised_by_none (pos 0) r refl i ∷ raised_none rs i
-
-drawn_whole : (rects : List Rect) → drawn_rects (whole rects ∷ []) ≡ rects
-drawn_whole rects =
-    let rs = map (raised (pos 0)) rects in append-nil (rs ++ []) ∙ append-nil rs ∙ raised_none rects
-
-whole_near : (r : Rect) → IsOnGrid r → IsNearRect (raised (pos 0) r)
-whole_near r g = subst IsNearRect (sym (raised_by_none (pos 0) r refl)) (near_rect r g)
-
-pub whole_for : (rects : List Rect) (labels : List ChipLabel) → IsEmittable rects labels
-    → AreSymbolsFor rects labels (whole rects ∷ [])
-whole_for rects labels emittable =
-    let AreNear : ℤ → Type 0 = λ h. All (λ r. IsNearRect (raised h r)) rects in
+above_are_bands : (rows : List ℕ) (lowest each : ℕ) (upper : List ℕ) → CanShare rows lowest each upper
+    → AreBands (bands_above lowest each (length upper))
+above_are_bands rows lowest each upper can =
+    let several = can.several in
+    let few = can.few in
+    let lower = can.lower in
     record {
-      drawable = record {
-        each = All-cons IsDrawable (whole rects) [] (record {
-          corners = emittable.corners;
-          heights = All-cons IsOnLambda (pos 0) [] (on_lambda (pos 0) 0 0 refl refl (lit< tt)) (All-nil IsOnLambda);
-          near = All-cons AreNear (pos 0) [] (All-weaker IsOnGrid (λ r. IsNearRect (raised (pos 0) r)) whole_near rects
-              emittable.corners) (All-nil AreNear);
-          few = lit≤ tt;
-        }) (All-nil IsDrawable);
-        two = lit≤ tt;
-        names = emittable.names;
+      usable = record {
+        low = lowest_near lowest can.low;
+        height = omega arith;
+        few = few;
       };
-      same = λ l x y. subst (λ rs. covered rects l x y ↔ covered rs l x y) (sym (drawn_whole rects)) (λ c. c, λ c. c);
-      few = let n = ap length (drawn_whole rects) in omega (arith, n);
+      some = omega (arith, several);
+      whole = (12 * each + 36, refl);
+      low = omega (arith, lower);
     }
+
+far_is_band : AreBands far_band
+far_is_band = record {
+  usable = record { low = far_near; height = lit< tt; few = lit≤ tt };
+  some = lit≤ tt;
+  whole = (1, refl);
+  low = lit< tt;
+}
+
+pub are_bands : (rows : List ℕ) (b : Bands) → AreBandsAbove rows b → AreBands b
+are_bands rows b (inl (lowest, each, upper, can, e)) =
+    subst AreBands (sym e) (above_are_bands rows lowest each upper can)
+are_bands rows b (inr (none, e)) = subst AreBands (sym e) far_is_band
+
+-- lists with the same head and rest, of which each element of the rest is as the first
+one_share : (rows : List ℕ) (lowest each : ℕ) (upper : List ℕ) (low all : ℕ) (others : List ℕ)
+    → CanShare rows lowest each upper → CanShare rows low all others
+    → bands_above lowest each (length upper) ≡ bands_above low all (length others)
+one_share rows lowest each upper low all others a b =
+    let same : lowest ∷ upper ≡ low ∷ others = sym a.are ∙ b.are in
+    let first : lowest ≡ low = ap (λ xs. get_or xs 0 0) same in
+    let rest : upper ≡ others = ap (drop 1) same in
+    let one : get_or upper 0 0 ≡ each = a.alike 0 0 (let n = a.several in omega (arith, n)) in
+    let two : get_or others 0 0 ≡ all = b.alike 0 0 (let n = b.several in omega (arith, n)) in
+    let height : each ≡ all = sym one ∙ ap (λ xs. get_or xs 0 0) rest ∙ two in
+    λ i. bands_above (first i) (height i) (length (rest i))
+
+pub one_above : (rows : List ℕ) (b d : Bands) → AreBandsAbove rows b → AreBandsAbove rows d → b ≡ d
+one_above rows b d (inl (lowest, each, upper, can, e)) (inl (low, all, others, too, f)) =
+    e ∙ one_share rows lowest each upper low all others can too ∙ sym f
+one_above rows b d (inl (lowest, each, upper, can, e)) (inr (none, f)) = absurd (none lowest each upper can)
+one_above rows b d (inr (none, e)) (inl (low, all, others, too, f)) = absurd (none low all others too)
+one_above rows b d (inr (none, e)) (inr (never, f)) = e ∙ sym f
+
+-- ---- the commands
+
+pub commands_unique : SymbolsAreUnique → CommandsAreUnique
+commands_unique symbols_unique chip commands others p q =
+    let a = p.of_chip in
+    let b = q.of_chip in
+    let bands : a.bands ≡ b.bands = one_above (chip.fabric).rows a.bands b.bands a.above b.above in
+    let same : p.symbols ≡ q.symbols = symbols_unique (chip_rects chip) b.bands p.symbols q.symbols
+    (subst (λ d. AreSymbolsOf (chip_rects chip) d p.symbols) bands a.sharing) b.sharing in
+    p.are ∙ ap (λ ss. chip_commands ss chip.labels) same ∙ sym q.are
+
+module _ (chip : Chip) (emittable : IsEmittable (chip_rects chip) chip.labels) (b : Bands)
+    (above : AreBandsAbove (chip.fabric).rows b) (made symbols : List Symbol) (is : symbols ≡ made)
+    (sharing : AreSymbolsOf (chip_rects chip) b made)
+  where
+    -- the symbols that were made are those of the chip
+    pub made_of_chip : AreSymbolsOfChip chip symbols
+    made_of_chip = record {
+      bands = b;
+      above = above;
+      sharing = subst (AreSymbolsOf (chip_rects chip) b) (sym is) sharing;
+    }
+
+    -- they draw it
+    pub made_drawn : AreSymbolsFor (chip_rects chip) chip.labels symbols
+    made_drawn =
+        can_be_drawn (chip_rects chip) chip.labels emittable b (are_bands (chip.fabric).rows b above) symbols
+        (subst (AreSymbolsOf (chip_rects chip) b) (sym is) sharing)
+
+    -- also with the labels that are read
+    pub made_drawable : (labels : List ChipLabel) → labels ≡ chip.labels → AreDrawable symbols labels
+    made_drawable labels e = subst (AreDrawable symbols) (sym e) made_drawn.drawable

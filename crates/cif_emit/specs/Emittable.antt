@@ -1,5 +1,6 @@
 -- The chips that can be written as commands.
-use Rattle.std.specs.Prelude.{ℕ, ◌≡◌, ◌≢◌, ◌⊎◌, ◌*◌, ◌<◌, ◌≤◌, List, ◌++◌, length, All, ℤ, pos, ◌*ℤ◌, ◌<ℤ◌}
+use Rattle.std.specs.Prelude.{ℕ, ◌≡◌, ◌≢◌, ◌⊎◌, ◌+◌, ◌*◌, ◌<◌, ◌≤◌, List, ◌∷◌, ◌++◌, length, All, ℤ, pos, ◌*ℤ◌}
+use Rattle.std.specs.Prelude.{◌<ℤ◌}
 use Rattle.lam_geom.specs.declared.layer.Layer.TheVariants.{NM, NP, ND}
 use Rattle.lam_geom.specs.declared.rect.Rect.{Rect}
 use Rattle.lam_geom.specs.Extent.{lambda}
@@ -65,6 +66,35 @@ pub record AreBands (b : Bands) : Type 0 where
   pub some : 1 ≤ b.count
   pub whole : (m : ℕ) × (b.height ≡ lambda * m)
   pub low : b.height < 33_554_432
+
+-- how high a band of so many signal rows is, in half-units
+abbrev pub band_height : ℕ → ℕ
+band_height rows = lambda * (12 * rows + 36)
+
+-- The bands above the lowest of a fabric with these numbers of rows are two to 64 of one height, and neither they nor
+-- the lowest one are too high.
+pub record CanShare (rows : List ℕ) (lowest each : ℕ) (upper : List ℕ) : Type 0 where
+  pub are : rows ≡ lowest ∷ upper
+  pub alike : All (λ other. other ≡ each) upper
+  pub several : 2 ≤ length upper
+  pub few : length upper ≤ 64
+  pub low : lowest < 100_000
+  pub lower : each < 5_000
+
+abbrev pub bands_above : ℕ → ℕ → ℕ → Bands
+bands_above lowest each many =
+    record { low = pos (band_height lowest); height = band_height each; count = many }
+
+-- a band so far up that nothing stands in it
+abbrev pub far_band : Bands
+far_band = record { low = pos 1_099_511_627_776; height = lambda; count = 1 }
+
+-- the bands that a fabric with these numbers of rows shares its symbols in: those above the lowest, if they can
+abbrev pub AreBandsAbove : List ℕ → Bands → Type 0
+AreBandsAbove rows b =
+    ((lowest each : ℕ) × (upper : List ℕ) × CanShare rows lowest each upper
+    × (b ≡ bands_above lowest each (length upper)))
+    ⊎ (((lowest each : ℕ) (upper : List ℕ) → ¬ CanShare rows lowest each upper) × (b ≡ far_band))
 
 -- how many lambda are small in half-units
 abbrev pub farthest : ℕ

@@ -15,11 +15,13 @@ use Rattle.cif_form.specs.Walk.DrawRule.{F7}
 use Rattle.cif_form.specs.Walk.WalkEnd.{Whole, Broken}
 use Rattle.cif_form.specs.Counts.{FileCounts}
 use Rattle.cif_writer.specs.Texts.{file_text}
+use Rattle.fabric.specs.declared.chip.Chip.{Chip}
 use Rattle.fabric.specs.declared.chip.ChipLabel.{ChipLabel}
 use Rattle.fabric.specs.Labelled.{AreLabelsOf}
+use Rattle.slice_symbols.specs.declared.bands.Bands.{Bands}
 use Rattle.slice_symbols.specs.declared.symbols.Symbol.{Symbol}
-use Rattle.slice_symbols.specs.Drawn.{drawn_rects}
-use Rattle.cif_emit.specs.Emittable.{AreDrawable}
+use Rattle.slice_symbols.specs.Drawn.{AreSymbolsOf, drawn_rects}
+use Rattle.cif_emit.specs.Emittable.{AreBandsAbove, AreDrawable, chip_rects}
 use Rattle.cif_emit.specs.Commands.{chip_commands}
 
 -- the symbols draw the squares of the rectangles in no more shapes, and can be drawn with the labels
@@ -28,11 +30,22 @@ pub record AreSymbolsFor (rects : List Rect) (labels : List ChipLabel) (symbols 
   pub same : SameSquares (covered rects) (covered (drawn_rects symbols))
   pub few : length (drawn_rects symbols) ≤ length rects
 
--- the commands are those of such symbols: their boxes and calls, and the labels
-pub record AreCommandsOf (rects : List Rect) (labels : List ChipLabel) (commands : List Command) : Type 0 where
+-- the symbols of a chip: what stands alike in each band of its fabric but the lowest, and the rest
+pub record AreSymbolsOfChip (chip : Chip) (symbols : List Symbol) : Type 0 where
+  pub bands : Bands
+  pub above : AreBandsAbove (chip.fabric).rows bands
+  pub sharing : AreSymbolsOf (chip_rects chip) bands symbols
+
+-- the commands of a chip: the boxes and calls of its symbols, and its labels
+pub record AreCommandsOf (chip : Chip) (commands : List Command) : Type 0 where
   pub symbols : List Symbol
-  pub drawing : AreSymbolsFor rects labels symbols
-  pub are : commands ≡ chip_commands symbols labels
+  pub of_chip : AreSymbolsOfChip chip symbols
+  pub are : commands ≡ chip_commands symbols chip.labels
+
+-- there are no two lists of commands of one chip
+abbrev pub CommandsAreUnique : Type 0
+CommandsAreUnique = (chip : Chip) (commands others : List Command) → AreCommandsOf chip commands
+    → AreCommandsOf chip others → commands ≡ others
 
 -- The items draw the squares of the rectangles in no more shapes, and the labels. Their walk counts at most the
 -- rectangles, the labels and 65,536 more, and no rule but that of the count can be broken.
@@ -56,10 +69,9 @@ pub record IsEmitted (rects : List Rect) (labels : List ChipLabel) (commands : L
   pub nest : Nests false commands
   pub drawn : (items : List Item) → map (λ (i : Item). i.command) items ≡ commands → IsDrawnBy rects labels items
 
--- the output took the text of commands that draw the chip, or a first part of it
-pub record IsTaken {T E : Type 0} (rects : List Rect) (labels : List ChipLabel) (before after : Option (List ℕ))
-    (result : Result T E) : Type 0 where
+-- the output took the text of the chip's commands, which draw it, or a first part of it
+pub record IsTaken {T E : Type 0} (chip : Chip) (before after : Option (List ℕ)) (result : Result T E) : Type 0 where
   pub commands : List Command
-  pub formed : AreCommandsOf rects labels commands
-  pub drawn : IsEmitted rects labels commands
+  pub formed : AreCommandsOf chip commands
+  pub drawn : IsEmitted (chip_rects chip) chip.labels commands
   pub taken : TakesAll Gains before after (file_text commands) result

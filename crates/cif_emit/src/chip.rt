@@ -8,7 +8,7 @@ ghost use Rattle.cif_emit.specs.Commands.{chip_commands};
 
 use crate::cursor::Cursor;
 use crate::laws::commands_draw_the_chip;
-use crate::slices::symbols_for;
+use crate::slices::{bands_of, symbols_for};
 use cif_list::Cif;
 use fabric::{Chip, ChipLabel};
 use mp_base::NoMemory;
@@ -44,10 +44,10 @@ fn cif_of(alloc: Global, symbols: &[Symbol], labels: &[ChipLabel]) -> Result<Cif
 /// `NoMemory`, also for 2^32 commands or more.
 pub fn emit(alloc: Global, chip: &Chip) -> Result<Cif, NoMemory>
     requires { IsEmittable (chip_rects chip.now) chip.now.labels }
-    ensures commands { IfOk result (λ cif. AreCommandsOf (chip_rects chip.now) chip.now.labels (commands_of cif)) }
+    ensures commands { IfOk result (λ cif. AreCommandsOf chip.now (commands_of cif)) }
     ensures drawn { IfOk result (λ cif. IsEmitted (chip_rects chip.now) chip.now.labels (commands_of cif)) }
 {
     commands_draw_the_chip();
-    let symbols = symbols_for(alloc, chip)?;
+    let symbols = symbols_for(alloc, chip, bands_of(&chip.fabric))?;
     cif_of(alloc, symbols.as_slice(), chip.labels.as_slice())
 }

@@ -5,10 +5,11 @@ ghost use Rattle.lam_geom.specs.declared.rect.Rect.{Rect};
 ghost use Rattle.fabric.specs.declared.chip.ChipLabel.{ChipLabel};
 ghost use Rattle.slice_symbols.specs.declared.symbols.Symbol.{Symbol};
 ghost use Rattle.cif_emit.specs.Emittable.{FabricsAreOnGrid};
-ghost use Rattle.cif_emit.specs.Emitted.{AreSymbolsFor, IsEmitted};
+ghost use Rattle.cif_emit.specs.Emitted.{AreSymbolsFor, CommandsAreUnique, IsEmitted};
 ghost use Rattle.cif_emit.specs.Commands.{chip_commands};
 
 use cif_form::laws;
+use slice_symbols::laws::symbols_are_unique;
 
 /// The commands of a chip's symbols draw it.
 pub(crate) fn commands_draw_the_chip()
@@ -26,3 +27,11 @@ pub(crate) fn commands_draw_the_chip()
 pub fn fabrics_are_on_grid()
     ensures { FabricsAreOnGrid }
 {}
+
+/// The commands of a chip are determined by it: what [`emit`](crate::emit) gives is what [`emit_to`](crate::emit_to)
+/// writes the text of.
+pub fn commands_are_unique()
+    ensures { CommandsAreUnique }
+{
+    symbols_are_unique();
+}

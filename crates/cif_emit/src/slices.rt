@@ -1,9 +1,8 @@
 //! The symbols of a chip.
 
-ghost use Rattle.std.specs.Prelude.{◌≡◌, IfOk};
+ghost use Rattle.std.specs.Prelude.{◌≡◌, ◌<◌, ◌∷◌, ◌↔◌, All, IfOk, IsTrue};
 ghost use Rattle.slice_symbols.specs.Drawn.{AreSymbolsOf};
-ghost use Rattle.cif_emit.specs.Emittable.{AreBands, AreDrawable, IsEmittable, chip_rects};
-ghost use Rattle.cif_emit.specs.Emitted.{AreSymbolsFor};
+ghost use Rattle.cif_emit.specs.Emittable.{AreBands, AreBandsAbove, CanShare, IsEmittable, bands_above, chip_rects};
 
 use fabric::{Chip, Fabric};
 use lam_geom::{Rect, Shape};
@@ -21,9 +20,40 @@ const NONE: Bands = Bands {
     count: 1,
 };
 
-// The bands above the lowest, where there are several, of one height, and they are neither too high nor too many.
-fn bands_of(fabric: &Fabric) -> Bands
-    ensures { AreBands result }
+// Whether all bands have so many rows.
+fn are_alike(bands: &[u32], rows: u32) -> bool
+    ensures { IsTrue result ↔ All (λ other. other ≡ rows) bands.now }
+{
+    bands.iter().all(|other| *other == rows)
+}
+
+// Whether two to 64 bands of `rows` rows each stand above one of `lowest` rows, and none is too high.
+fn can_share(lowest: u32, rows: u32, upper: &[u32]) -> bool
+    ensures { IsTrue result ↔ CanShare (lowest ∷ upper.now) lowest rows upper.now }
+{
+    upper.len() >= 2
+        && upper.len() <= 64
+        && lowest < 100_000
+        && rows < 5_000
+        && are_alike(upper, rows)
+}
+
+// So many bands of these rows, above one of `lowest` rows.
+fn bands_above(lowest: u32, rows: u32, many: u32) -> Bands
+    requires low { lowest < 100_000 }
+    requires lower { rows < 5_000 }
+    ensures { result ≡ bands_above lowest rows many }
+{
+    Bands {
+        low: i64::from(LAMBDA * (12 * lowest + 36)),
+        height: LAMBDA * (12 * rows + 36),
+        count: many,
+    }
+}
+
+/// The bands above the lowest, where there are several, of one height, and they are neither too high nor too many.
+pub(crate) fn bands_of(fabric: &Fabric) -> Bands
+    ensures { AreBandsAbove fabric.now.rows result }
 {
     let Some((lowest, upper)) = fabric.rows().split_first() else {
         return NONE;
@@ -31,17 +61,10 @@ fn bands_of(fabric: &Fabric) -> Bands
     let Some(rows) = upper.first() else {
         return NONE;
     };
-    let (lowest, rows) = (*lowest, *rows);
-    if upper.len() < 2 || upper.len() > 64 || lowest >= 100_000 || rows >= 5_000 {
-        return NONE;
-    }
-    if upper.iter().any(|other| *other != rows) {
-        return NONE;
-    }
-    Bands {
-        low: i64::from(LAMBDA * (12 * lowest + 36)),
-        height: LAMBDA * (12 * rows + 36),
-        count: upper.len() as u32,
+    if can_share(*lowest, *rows, upper) {
+        bands_above(*lowest, *rows, upper.len() as u32)
+    } else {
+        NONE
     }
 }
 
@@ -54,12 +77,16 @@ pub(crate) fn rects_of(alloc: Global, chip: &Chip) -> Result<Shape, NoMemory>
     Ok(List::from_vec(rects))
 }
 
-/// The symbols of a chip: one has what stands alike in each band but the lowest, and one has the rest.
-pub(crate) fn symbols_for(alloc: Global, chip: &Chip) -> Result<List<Symbol>, NoMemory>
-    requires { IsEmittable (chip_rects chip.now) chip.now.labels }
-    ensures { IfOk result (AreSymbolsFor (chip_rects chip.now) chip.now.labels) }
+/// The symbols of a chip: one has what stands alike in each of the bands, and one has the rest.
+pub(crate) fn symbols_for(
+    alloc: Global,
+    chip: &Chip,
+    bands: Bands,
+) -> Result<List<Symbol>, NoMemory>
+    requires emittable { IsEmittable (chip_rects chip.now) chip.now.labels }
+    requires bands { AreBands bands }
+    ensures { IfOk result (AreSymbolsOf (chip_rects chip.now) bands) }
 {
-    let bands = bands_of(&chip.fabric);
     let rects = rects_of(alloc, chip)?;
     symbols_of(alloc, rects.as_slice(), bands)
 }

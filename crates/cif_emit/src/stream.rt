@@ -13,13 +13,14 @@ ghost use Rattle.cif_emit.specs.Stream.{PutsOff, FaultHasCause};
 
 use crate::cursor::Cursor;
 use crate::laws::commands_draw_the_chip;
-use crate::slices::symbols_for;
+use crate::slices::{bands_of, symbols_for};
 use crate::text::Text;
 use cif_form::Command;
 use cif_writer::{write_command, write_end};
 use fabric::{Chip, ChipLabel};
 use mp_base::{Failed, Fault, NoMemory, Sink, write_all};
 use slice_symbols::Symbol;
+use slice_symbols::laws::symbols_exist;
 use std::alloc::Global;
 
 const PIECE: usize = 65536;
@@ -81,7 +82,7 @@ fn write_pieces<O: Sink>(
     Ok(())
 }
 
-/// Writes the text of commands as [`emit`](crate::emit) gives them and the end of the file, in pieces, and holds one
+/// Writes the text of the commands that [`emit`](crate::emit) gives and the end of the file, in pieces, and holds one
 /// command at a time. The condition on the chip is that of `emit`.
 ///
 /// # Errors
@@ -89,11 +90,12 @@ fn write_pieces<O: Sink>(
 /// `Write` where the output failed, and `NoMemory`. A first part of the text was written then, but not all.
 pub fn emit_to<O: Sink>(alloc: Global, chip: &Chip, out: &mut O) -> Result<(), Fault>
     requires { IsEmittable (chip_rects chip.now) chip.now.labels }
-    ensures taken { IsTaken (chip_rects chip.now) chip.now.labels (O.held out.old) (O.held out.new) result }
+    ensures taken { IsTaken chip.now (O.held out.old) (O.held out.new) result }
     ensures cause { FaultHasCause (O.faults out.old) (O.faults out.new) result }
 {
     commands_draw_the_chip();
-    let symbols = symbols_for(alloc, chip)?;
+    symbols_exist();
+    let symbols = symbols_for(alloc, chip, bands_of(&chip.fabric))?;
     let mut waiting = Text::new(alloc);
     write_pieces(
         alloc,

@@ -17,8 +17,9 @@ use std::{fs, io};
 // A line with many boxes.
 fn long_line(alloc: Global) -> Result<String, AllocError> {
     let mut line = String::from_str(alloc, "3 1")?;
-    for _ in 0..12_000 {
-        line.push_str("; ND 0 0 1 1")?;
+    for left in 0..12_000 {
+        let right = left + 1;
+        line.push_str(&format!(in alloc; "; ND {left} 0 {right} 1")?)?;
     }
     Ok(line)
 }

@@ -1,7 +1,7 @@
--- What the two symbols draw.
+-- What the symbols draw.
 use Rattle.std.proofs.Common.{ℕ, zero, suc, ◌≡◌, ◌+◌, ◌*◌, ◌<◌, ◌≤◌, ◌⊎◌, inl, inr, refl, sym, ◌∙◌, ap, subst, arith}
 use Rattle.std.proofs.Common.{List, [], ◌∷◌, ◌++◌, map, length, length-append, eqb-true}
-use Rattle.std.specs.Prelude.{◌==◌, All, Contains, ℤ, Result, Ok, Err, IfOk, true}
+use Rattle.std.specs.Prelude.{◌==◌, All, Contains, ℤ, Result, Ok, Err, IfOk, false, true}
 use Rattle.mp_base.specs.declared.refusal.NoMemory.{NoMemory}
 use Rattle.std.specs.List.{flat_map}
 use Rattle.std.proofs.lemmas.List.{length-map}
@@ -13,8 +13,11 @@ use Rattle.lam_geom.specs.Squares.{covered, SameSquares}
 use Rattle.slice_symbols.specs.declared.bands.Bands.{Bands}
 use Rattle.slice_symbols.specs.declared.symbols.Symbol.{Symbol}
 use Rattle.slice_symbols.specs.Heights.{height_of, raised}
+use Rattle.slice_symbols.specs.Shared.{AreSharedOut}
 use Rattle.slice_symbols.specs.Standing.{AreShared}
-use Rattle.slice_symbols.specs.Drawn.{AreHeights, AreSymbolsOf, IsHeight, IsSymbolOf, drawn_rects, symbol_rects}
+use Rattle.slice_symbols.specs.Drawn.{AreSymbolsOf, IsHeight, IsSymbolOf, drawn_rects, symbol_of, symbol_rects}
+use Rattle.slice_symbols.specs.Drawn.{symbols_of_both}
+use Rattle.slice_symbols.proofs.Heights.{AreHeights, are_heights}
 use Rattle.slice_symbols.proofs.Lifting.{at_first}
 use Rattle.slice_symbols.proofs.Members.{all_of, covered_by, covers_all, flat_in, in_flat}
 
@@ -127,8 +130,13 @@ module _ (rects : List Rect) (b : Bands) (common rest : List Rect) (shared : Are
           only u (zero, h, e) = sym e
           only u (suc k, h, e) = absurd (omega (arith, h))
 
-      pub rest_alone : (symbols : List Symbol) → symbols ≡ [] ++ t ∷ [] → AreSymbolsOf rects b symbols
-      rest_alone symbols e = subst (AreSymbolsOf rects b) (sym e) (record {
+      pub rest_alone : AreSharedOut rects b common rest → alone ≡ symbols_of_both b common rest
+          → AreSymbolsOf rects b alone
+      rest_alone out e = record {
+        common = common;
+        rest = rest;
+        out = out;
+        are = e;
         each = All-cons (IsSymbolOf rects b) t [] of_rest (All-nil (IsSymbolOf rects b));
         two = omega arith;
         same = same_covered rects (drawn_rects alone)
@@ -136,9 +144,9 @@ module _ (rects : List Rect) (b : Bands) (common rest : List Rect) (shared : Are
         few =
             let c = length-append (symbol_rects t) [] in
             let m = rest_length in
-            let all = shared.counted in
+            let all = shared.few in
             omega (arith, c, m, all);
-      })
+      }
 
     module _ (some : 1 ≤ b.count) (most : b.count ≤ 64) (s : Symbol) (commons : s.shapes ≡ common)
         (heights : AreHeights b b.count s.heights)
@@ -189,8 +197,13 @@ module _ (rects : List Rect) (b : Bands) (common rest : List Rect) (shared : Are
           few = let n = heights.count in omega (arith, n, most);
         }
 
-        pub are_symbols : (symbols : List Symbol) → symbols ≡ ([] ++ s ∷ []) ++ t ∷ [] → AreSymbolsOf rects b symbols
-        are_symbols symbols e = subst (AreSymbolsOf rects b) (sym e) (record {
+        pub are_symbols : AreSharedOut rects b common rest → two_symbols ≡ symbols_of_both b common rest
+            → AreSymbolsOf rects b two_symbols
+        are_symbols out e = record {
+          common = common;
+          rest = rest;
+          out = out;
+          are = e;
           each = All-cons (IsSymbolOf rects b) s (t ∷ []) of_common (All-cons (IsSymbolOf rects b) t [] of_rest
               (All-nil (IsSymbolOf rects b)));
           two = omega arith;
@@ -202,21 +215,43 @@ module _ (rects : List Rect) (b : Bands) (common rest : List Rect) (shared : Are
               let n : length (symbol_rects s) ≡ b.count * length common =
               length_at s.shapes s.heights ∙ (λ i. heights.count i * length (commons i)) in
               let m = rest_length in
-              let all = shared.counted in
+              let all = shared.few in
               omega (arith, a, c, n, m, all);
-        })
+        }
 
--- what a call gave for all rectangles it gave for these
-pub at_all : (P : List Rect → Type 0) (Q : List Rect → List Symbol → Type 0) (rects : List Rect)
-    (result : Result (List Symbol) NoMemory) → IfOk result (λ symbols. (rs : List Rect) → P rs → Q rs symbols)
-    → P rects → IfOk result (Q rects)
-at_all P Q rects (Ok symbols) told p = told rects p
-at_all P Q rects (Err e) told p = told
+-- the symbols of both draw the rectangles
+pub drawn_by_both : (rects : List Rect) (b : Bands) (common rest : List Rect) → 1 ≤ b.count → b.count ≤ 64
+    → AreSharedOut rects b common rest → AreShared rects b common rest
+    → AreSymbolsOf rects b (symbols_of_both b common rest)
+drawn_by_both rects b [] rest some most out shared =
+    rest_alone rects b [] rest shared (symbol_of b 1 rest) refl (are_heights b 1) refl out refl
+drawn_by_both rects b (c ∷ cs) rest some most out shared =
+    are_symbols rects b (c ∷ cs) rest shared (symbol_of b 1 rest) refl (are_heights b 1) some most
+    (symbol_of b b.count (c ∷ cs)) refl (are_heights b b.count) out refl
 
--- a list of length 0 has no elements
-pub none_of : (xs ys : List Rect) → xs ≡ ys → true ≡ (length xs == 0) → ys ≡ []
-none_of xs [] e h = refl
-none_of xs (y ∷ ys) e h =
-    let a : length xs ≡ 0 = eqb-true (length xs) 0 (sym h) in
-    let b : length xs ≡ length (y ∷ ys) = ap length e in
-    absurd (omega (arith, a, b))
+-- what a call made of them
+pub made_of_both : (rects : List Rect) (b : Bands) (both : List Symbol) (result : Result (List Symbol) NoMemory)
+    → AreSymbolsOf rects b both → IfOk result (λ symbols. symbols ≡ both) → IfOk result (AreSymbolsOf rects b)
+made_of_both rects b both (Ok symbols) are e = subst (AreSymbolsOf rects b) (sym e) are
+made_of_both rects b both (Err e) are told = told
+
+module _ (b : Bands) where
+  -- the rest alone, where nothing is common
+  pub of_both_none : (common rest read : List Rect) (t : Symbol) (symbols : List Symbol) → read ≡ common
+      → true ≡ (length read == 0) → t ≡ symbol_of b 1 rest → symbols ≡ [] ++ t ∷ []
+      → symbols ≡ symbols_of_both b common rest
+  of_both_none [] rest read t symbols e none f g = g ∙ (λ i. f i ∷ [])
+  of_both_none (c ∷ cs) rest read t symbols e none f g =
+      let a : length read ≡ 0 = eqb-true (length read) 0 (sym none) in
+      let d : length read ≡ length (c ∷ cs) = ap length e in
+      absurd (omega (arith, a, d))
+
+  -- or both
+  pub of_both_some : (common rest read : List Rect) (s t : Symbol) (symbols : List Symbol) → read ≡ common
+      → false ≡ (length read == 0) → s ≡ symbol_of b b.count common → t ≡ symbol_of b 1 rest
+      → symbols ≡ ([] ++ s ∷ []) ++ t ∷ [] → symbols ≡ symbols_of_both b common rest
+  of_both_some [] rest read s t symbols e some f g h = absurd (none e some)
+    where
+      none : read ≡ [] → false ≡ (length read == 0) → ⊥
+      none p q = let z : false ≡ (length {A = Rect} [] == 0) = subst (λ rs. false ≡ (length rs == 0)) p q in cc
+  of_both_some (c ∷ cs) rest read s t symbols e some f g h = h ∙ (λ i. f i ∷ g i ∷ [])

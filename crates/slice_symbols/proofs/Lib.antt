@@ -1,5 +1,13 @@
 mod Members
+mod InOrder
+mod Orders
 pub mod Lifting
+mod Banded
 mod Stood
-mod Shared
+mod Parted
+mod Sharing
+mod Heights
 mod Drawn
+mod Unique
+mod Puts
+mod Existing

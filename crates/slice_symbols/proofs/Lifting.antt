@@ -6,11 +6,8 @@ use Rattle.lam_geom.specs.declared.layer.Layer.{Layer}
 use Rattle.lam_geom.specs.declared.layer.Layer.TheVariants.{ND}
 use Rattle.lam_geom.specs.declared.rect.Rect.{Rect}
 use Rattle.lam_geom.specs.Moves.{IsNear, shifted}
-use Rattle.lam_geom.proofs.SquareOrder.{of_ranks}
 use Rattle.slice_symbols.specs.declared.bands.Bands.{Bands}
-use Rattle.slice_symbols.specs.declared.standing.Standing.{Standing}
 use Rattle.slice_symbols.specs.Heights.{height_of, raised}
-use Rattle.slice_symbols.specs.Standing.{HaveSameSides}
 
 pub raised_by_none : (h : ℤ) (r : Rect) → h ≡ pos 0 → raised h r ≡ r
 unfolding shifted
@@ -42,14 +39,3 @@ pub equal_sides : (l : Layer) (a b c d p q r s : ℤ) → a ≡ p → b ≡ q �
     → ◌≡◌ {A = Rect} (record { layer = l; x0 = a; y0 = b; x1 = c; y1 = d })
     (record { layer = l; x0 = p; y0 = q; x1 = r; y1 = s })
 equal_sides l a b c d p q r s e f g h = λ i. record { layer = l; x0 = e i; y0 = f i; x1 = g i; y1 = h i }
-
-same_rect : (r q : Rect) → HaveSameSides r q → r ≡ q
-same_rect r q (layer, x0, y0, x1, y1) =
-    let e : r.layer ≡ q.layer = of_ranks r.layer q.layer layer in
-    λ i. record { layer = e i; x0 = x0 i; y0 = y0 i; x1 = x1 i; y1 = y1 i }
-
--- a standing rectangle with these parts
-pub same_standing : (s : Standing) (first : Rect) (band : ℕ) → HaveSameSides s.first first → s.band ≡ band
-    → s ≡ (record { first = first; band = band })
-same_standing s first band same e =
-    let f = same_rect s.first first same in λ i. record { first = f i; band = e i }

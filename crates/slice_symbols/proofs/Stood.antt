@@ -1,5 +1,5 @@
 -- Rectangles that are put to those of bands or to the rest, one after another.
-use Rattle.std.proofs.Common.{ℕ, ◌≡◌, ◌+◌, ◌<◌, ◌≤◌, inl, inr, refl, sym, ◌∙◌, subst, arith}
+use Rattle.std.proofs.Common.{ℕ, ◌≡◌, ◌+◌, ◌<◌, ◌≤◌, inl, inr, refl, sym, subst, arith}
 use Rattle.std.proofs.Common.{List, [], ◌∷◌, ◌++◌, length, length-append, take, get_or}
 use Rattle.std.specs.Prelude.{All, Contains}
 use Rattle.std.proofs.lemmas.List.{take_all}
@@ -15,7 +15,7 @@ use Rattle.std.proofs.lemmas.List.Elements.{
 use Rattle.lam_geom.specs.declared.rect.Rect.{Rect}
 use Rattle.slice_symbols.specs.declared.bands.Bands.{Bands}
 use Rattle.slice_symbols.specs.declared.standing.Standing.{Standing}
-use Rattle.slice_symbols.specs.Standing.{AreStood, IsOfBand, IsTold, own}
+use Rattle.slice_symbols.specs.Standing.{AreStood, IsOfBand, IsTold, StandsInNone, own}
 
 -- what is so of the first i rectangles
 pub record AreStoodTo (rects : List Rect) (b : Bands) (i : ℕ) (standing : List Standing) (rest : List Rect) :
@@ -24,7 +24,7 @@ pub record AreStoodTo (rects : List Rect) (b : Bands) (i : ℕ) (standing : List
   pub each : All (IsTold b standing rest) (take i rects)
   pub of_bands : All (IsOfBand b) standing
   pub held : All (λ s. Contains rects (own b s)) standing
-  pub among : All (Contains rects) rest
+  pub among : All (λ r. Contains rects r × StandsInNone b r) rest
   pub counted : length standing + length rest ≡ i
 
 module _ (rects : List Rect) (b : Bands) where
@@ -38,15 +38,16 @@ module _ (rects : List Rect) (b : Bands) where
         each = All-nil (IsTold b [] []);
         of_bands = All-nil (IsOfBand b);
         held = All-nil (λ s. Contains rects (own b s));
-        among = All-nil (Contains rects);
+        among = All-nil (λ r. Contains rects r × StandsInNone b r);
         counted = refl;
       }))
 
   module _ (i : ℕ) (standing : List Standing) (rest : List Rect) (d : Rect) (within : i < length rects)
       (far : AreStoodTo rects b i standing rest) where
     -- one more of the rest
-    pub rest_stood : (new : List Rect) → new ≡ rest ++ get_or rects i d ∷ [] → AreStoodTo rects b (i + 1) standing new
-    rest_stood new e =
+    pub rest_stood : (new : List Rect) → new ≡ rest ++ get_or rects i d ∷ [] → StandsInNone b (get_or rects i d)
+        → AreStoodTo rects b (i + 1) standing new
+    rest_stood new e none =
         let r : Rect = get_or rects i d in
         let P : List Rect → Type 0 = λ rs. AreStoodTo rects b (i + 1) standing rs in
         let n = far.counted in
@@ -57,7 +58,8 @@ module _ (rects : List Rect) (b : Bands) where
               (inl (Contains-push rest r));
           of_bands = far.of_bands;
           held = far.held;
-          among = All-push (Contains rects) rest r far.among (Contains-get_or rects i d within);
+          among = All-push (λ r. Contains rects r × StandsInNone b r) rest r far.among
+              (Contains-get_or rects i d within, none);
           counted = omega (arith, length-append rest (r ∷ []), n);
         })
       where
@@ -98,5 +100,5 @@ module _ (rects : List Rect) (b : Bands) where
     of_bands = far.of_bands;
     held = far.held;
     among = far.among;
-    counted = far.counted ∙ e;
+    few = let n = far.counted in omega (arith, n, w);
   }

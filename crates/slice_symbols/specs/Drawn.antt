@@ -1,11 +1,13 @@
 -- What symbols draw.
-use Rattle.std.specs.Prelude.{ℕ, ◌≡◌, ◌<◌, ◌≤◌, List, length, map, All, Contains, Some, slice_get, ℤ}
+use Rattle.std.specs.Prelude.{ℕ, ◌≡◌, ◌<◌, ◌≤◌, List, [], ◌∷◌, length, map, All, Contains, ℤ}
 use Rattle.std.specs.List.{flat_map}
 use Rattle.lam_geom.specs.declared.rect.Rect.{Rect}
+use Rattle.lam_geom.specs.Moves.{IsNearRect}
 use Rattle.lam_geom.specs.Squares.{covered, SameSquares}
 use Rattle.slice_symbols.specs.declared.bands.Bands.{Bands}
 use Rattle.slice_symbols.specs.declared.symbols.Symbol.{Symbol}
-use Rattle.slice_symbols.specs.Heights.{height_of, raised}
+use Rattle.slice_symbols.specs.Heights.{AreUsable, height_of, heights, raised}
+use Rattle.slice_symbols.specs.Shared.{AreSharedOut}
 
 -- the rectangles of a symbol, at each of its heights
 abbrev pub symbol_rects : Symbol → List Rect
@@ -13,11 +15,6 @@ symbol_rects s = flat_map (λ h. map (raised h) s.shapes) s.heights
 
 abbrev pub drawn_rects : List Symbol → List Rect
 drawn_rects symbols = flat_map symbol_rects symbols
-
--- the heights of so many bands, from the first on
-pub record AreHeights (b : Bands) (many : ℕ) (heights : List ℤ) : Type 0 where
-  pub count : length heights ≡ many
-  pub each : (k : ℕ) → k < many → slice_get heights k ≡ Some (height_of b k)
 
 -- how far one of at most 64 bands lies above the first
 abbrev pub IsHeight : Bands → ℤ → Type 0
@@ -30,9 +27,33 @@ pub record IsSymbolOf (rects : List Rect) (b : Bands) (s : Symbol) : Type 0 wher
   pub among : All (λ h. All (λ r. Contains rects (raised h r)) s.shapes) s.heights
   pub few : length s.heights ≤ 64
 
--- at most two symbols, which draw the squares of the rectangles in no more shapes
+-- the rectangles, drawn in so many bands
+abbrev pub symbol_of : Bands → ℕ → List Rect → Symbol
+symbol_of b many rects = record { shapes = rects; heights = heights b many }
+
+-- a symbol of what is common, drawn in each band, if anything is, and one of the rest
+abbrev pub symbols_of_both : Bands → List Rect → List Rect → List Symbol
+symbols_of_both b [] rest = symbol_of b 1 rest ∷ []
+symbols_of_both b (c ∷ cs) rest = symbol_of b b.count (c ∷ cs) ∷ symbol_of b 1 rest ∷ []
+
+-- The symbols of what stands alike in each band and of the rest: at most two, which draw the squares of the rectangles
+-- in no more shapes.
 pub record AreSymbolsOf (rects : List Rect) (b : Bands) (symbols : List Symbol) : Type 0 where
+  pub common : List Rect
+  pub rest : List Rect
+  pub out : AreSharedOut rects b common rest
+  pub are : symbols ≡ symbols_of_both b common rest
   pub each : All (IsSymbolOf rects b) symbols
   pub two : length symbols ≤ 2
   pub same : SameSquares (covered rects) (covered (drawn_rects symbols))
   pub few : length (drawn_rects symbols) ≤ length rects
+
+-- there are no two lists of symbols of the same rectangles
+abbrev pub SymbolsAreUnique : Type 0
+SymbolsAreUnique = (rects : List Rect) (b : Bands) (symbols others : List Symbol) → AreSymbolsOf rects b symbols
+    → AreSymbolsOf rects b others → symbols ≡ others
+
+-- usable bands and rectangles that are near have symbols
+abbrev pub SymbolsExist : Type 0
+SymbolsExist = (rects : List Rect) (b : Bands) → AreUsable b → 1 ≤ b.count → All IsNearRect rects
+    → (symbols : List Symbol) × AreSymbolsOf rects b symbols

@@ -1,8 +1,9 @@
 //! Bands of one height, one above the other.
 
-ghost use Rattle.std.specs.Prelude.{◌≡◌, ◌<◌, IfSome};
+ghost use Rattle.std.specs.Prelude.{◌≡◌, ◌<◌, MatchOption};
 ghost use Rattle.lam_geom.specs.Moves.{IsNear, IsNearRect};
-ghost use Rattle.slice_symbols.specs.Heights.{AreUsable, IsShift, height_of, raised};
+ghost use Rattle.slice_symbols.specs.Heights.{AreUsable, IsShift, StandsIn, height_of, raised};
+ghost use Rattle.slice_symbols.specs.Standing.{StandsInNone};
 
 use lam_geom::Rect;
 
@@ -29,16 +30,17 @@ impl Bands {
     pub(crate) fn band_of(self, rect: &Rect) -> Option<u32>
         requires usable { AreUsable self }
         requires near { IsNearRect rect.now }
-        ensures { IfSome result (λ band. band < self.count) }
+        ensures { MatchOption result (StandsInNone self rect.now) (λ band. (band < self.count)
+            × StandsIn self band rect.now) }
     {
         let bottom = rect.y0 - self.low;
         let top = rect.y1 - self.low;
-        if bottom < 0 || top < 0 {
+        if bottom < 0 {
             return None;
         }
         let height = u64::from(self.height);
         let band = bottom as u64 / height;
-        if band < u64::from(self.count) && top as u64 <= (band + 1) * height {
+        if band < u64::from(self.count) && top <= ((band + 1) * height) as i64 {
             Some(band as u32)
         } else {
             None

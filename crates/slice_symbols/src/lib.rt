@@ -2,6 +2,8 @@
 #![tactic(auto)]
 
 mod bands;
+pub mod laws;
+mod order;
 mod standing;
 mod symbols;
 

@@ -1,45 +1,24 @@
 //! Rectangles by the bands in which they stand.
 
 ghost use Rattle.std.specs.Prelude.{◌≡◌, ◌<◌, All, IfOk, length};
-ghost use Rattle.std.specs.List.Sorted.{IsPermutation};
-ghost use Rattle.std.specs.Bool.{OnTrue};
+ghost use Rattle.std.specs.Bool.{MatchBool};
 ghost use Rattle.lam_geom.specs.Moves.{IsNearRect};
 ghost use Rattle.slice_symbols.specs.Heights.{AreUsable};
-ghost use Rattle.lam_geom.specs.Squares.{rank};
-ghost use Rattle.slice_symbols.specs.Standing.{AreAlike, AreStood, HaveSameSides, IsOfBand, own};
+ghost use Rattle.slice_symbols.specs.Ordered.{EachOnce};
+ghost use Rattle.slice_symbols.specs.Standing.{AreAlike, AreStood, IsOfBand, own, standing_cmp};
 
 use crate::bands::{Bands, lifted, lowered};
-use lam_geom::{Layer, Rect, Shape};
+use crate::order::compare;
+use lam_geom::{Rect, Shape};
 use mp_base::{List, NoMemory};
 use std::alloc::Global;
+use std::cmp::Ordering;
 
 /// A rectangle as it would stand in the first band, and the band in which it stands.
 #[derive(Clone, Copy)]
 pub(crate) struct Standing {
     pub first: Rect,
     pub band: u32,
-}
-
-// Layers by number.
-fn rank(layer: Layer) -> u8
-    ensures { result ≡ rank layer }
-{
-    match layer {
-        Layer::NM => 0,
-        Layer::NP => 1,
-        Layer::ND => 2,
-        Layer::NC => 3,
-        Layer::NI => 4,
-        Layer::NB => 5,
-        Layer::NG => 6,
-    }
-}
-
-// Whether two rectangles are the same.
-fn are_same(a: &Rect, b: &Rect) -> bool
-    ensures { OnTrue result (HaveSameSides a.now b.now) }
-{
-    rank(a.layer) == rank(b.layer) && a.x0 == b.x0 && a.y0 == b.y0 && a.x1 == b.x1 && a.y1 == b.y1
 }
 
 impl Standing {
@@ -50,6 +29,13 @@ impl Standing {
         ensures { result ≡ own bands self.now }
     {
         lifted(&self.first, bands.height_of(self.band))
+    }
+
+    // The order of two: by the rectangle in the first band, and then by band.
+    fn compare(&self, other: &Standing) -> Ordering
+        ensures { result ≡ standing_cmp self.now other.now }
+    {
+        compare(&self.first, &other.first).then(self.band.cmp(&other.band))
     }
 }
 
@@ -76,26 +62,25 @@ pub(crate) fn stand(
     Ok((standing, rest))
 }
 
-/// The same in an order in which those that are alike stand beside one another, from band to band.
-pub(crate) fn sorted(standing: List<Standing>) -> List<Standing>
-    ensures { IsPermutation standing result }
+/// The same in an order in which those that are alike stand beside one another, from band to band, each once.
+pub(crate) fn in_order(standing: List<Standing>) -> List<Standing>
+    ensures { EachOnce standing_cmp standing result }
 {
     let mut standing = standing.into_vec();
-    standing.sort_unstable_by_key(|s| {
-        let r = &s.first;
-        ((rank(r.layer), r.x0, r.y0), (r.x1, r.y1, s.band))
-    });
+    standing.sort_unstable_by(|s, t| s.compare(t));
+    standing.dedup_by(|s, t| s.compare(t).is_eq());
     List::from_vec(standing)
 }
 
 /// Whether from this place on those of all bands are as the first of them.
 pub(crate) fn are_alike(standing: &[Standing], at: usize, count: u32, first: Rect) -> bool
     requires { at < length standing.now }
-    ensures { OnTrue result (AreAlike standing.now at count first) }
+    ensures { MatchBool result (AreAlike standing.now at count first) (¬ AreAlike standing.now at count first) }
 {
     for band in 0..count {
+        let wanted = Standing { first, band };
         match standing.get(at + band as usize) {
-            Some(s) if s.band == band && are_same(&s.first, &first) => {}
+            Some(s) if s.compare(&wanted).is_eq() => {}
             _ => return false,
         }
     }

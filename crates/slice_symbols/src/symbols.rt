@@ -1,14 +1,15 @@
 //! Symbols.
 
-ghost use Rattle.std.specs.Prelude.{◌≡◌, ◌≤◌, All, IfOk, List};
-ghost use Rattle.lam_geom.specs.declared.rect.Rect.{Rect};
+ghost use Rattle.std.specs.Prelude.{◌≡◌, ◌≤◌, All, IfOk};
+ghost use Rattle.std.specs.List.Sorted.{IsStrictlySortedBy};
 ghost use Rattle.lam_geom.specs.Moves.{IsNearRect};
-ghost use Rattle.slice_symbols.specs.Drawn.{AreHeights, AreSymbolsOf};
-ghost use Rattle.slice_symbols.specs.Heights.{AreUsable};
-ghost use Rattle.slice_symbols.specs.Standing.{AreShared, AreStood, IsOfBand};
+ghost use Rattle.slice_symbols.specs.Drawn.{AreSymbolsOf, symbol_of, symbols_of_both};
+ghost use Rattle.slice_symbols.specs.Heights.{AreUsable, heights};
+ghost use Rattle.slice_symbols.specs.Standing.{AreParted, IsOfBand, standing_cmp};
 
 use crate::bands::Bands;
-use crate::standing::{Standing, are_alike, sorted, stand};
+use crate::order::each_once;
+use crate::standing::{Standing, are_alike, in_order, stand};
 use lam_geom::{Rect, Shape};
 use mp_base::{List, NoMemory};
 use std::alloc::Global;
@@ -30,8 +31,8 @@ fn share(
     requires usable { AreUsable bands }
     requires some { 1 ≤ bands.count }
     requires of_bands { All (IsOfBand bands) standing.now }
-    ensures { IfOk result (λ common. (rects : List Rect) → AreStood rects bands standing.now rest.old
-        → AreShared rects bands common rest.new) }
+    requires ascending { IsStrictlySortedBy standing_cmp standing.now }
+    ensures { IfOk result (λ common. AreParted bands standing.now rest.old common rest.new) }
 {
     let mut common = List::new(alloc);
     let mut at = 0;
@@ -51,7 +52,7 @@ fn share(
 // The heights of so many bands.
 fn heights(alloc: Global, bands: Bands, count: u32) -> Result<List<i64>, NoMemory>
     requires { count ≤ 64 }
-    ensures { IfOk result (AreHeights bands count) }
+    ensures { IfOk result (λ those. those ≡ heights bands count) }
 {
     let mut heights = List::new(alloc);
     for band in 0..count {
@@ -63,8 +64,7 @@ fn heights(alloc: Global, bands: Bands, count: u32) -> Result<List<i64>, NoMemor
 // The symbol of rectangles that are drawn in so many bands.
 fn make_symbol(alloc: Global, shapes: Shape, bands: Bands, count: u32) -> Result<Symbol, NoMemory>
     requires { count ≤ 64 }
-    ensures shapes { IfOk result (λ s. s.shapes ≡ shapes) }
-    ensures heights { IfOk result (λ s. AreHeights bands count s.heights) }
+    ensures { IfOk result (λ s. s ≡ symbol_of bands count shapes) }
 {
     let heights = heights(alloc, bands, count)?;
     Ok(Symbol { shapes, heights })
@@ -73,9 +73,7 @@ fn make_symbol(alloc: Global, shapes: Shape, bands: Bands, count: u32) -> Result
 // The symbol of the common ones, if there are any, and that of the rest.
 fn both(alloc: Global, common: Shape, rest: Shape, bands: Bands) -> Result<List<Symbol>, NoMemory>
     requires usable { AreUsable bands }
-    requires some { 1 ≤ bands.count }
-    ensures { IfOk result (λ symbols. (rects : List Rect) → AreShared rects bands common rest
-        → AreSymbolsOf rects bands symbols) }
+    ensures { IfOk result (λ symbols. symbols ≡ symbols_of_both bands common rest) }
 {
     let mut symbols = List::new(alloc);
     if common.as_slice().is_empty() {
@@ -88,7 +86,8 @@ fn both(alloc: Global, common: Shape, rest: Shape, bands: Bands) -> Result<List<
 }
 
 /// The symbols that draw the rectangles: one has those that stand alike in each band, as they stand in the first, and
-/// is drawn once for each band, and one has the others.
+/// is drawn once for each band, if any do, and one has the others. Both have each rectangle once, in the order of their
+/// layers, and then of their left, lower, right and upper sides.
 ///
 /// # Errors
 ///
@@ -100,7 +99,7 @@ pub fn symbols_of(alloc: Global, rects: &[Rect], bands: Bands) -> Result<List<Sy
     ensures { IfOk result (AreSymbolsOf rects.now bands) }
 {
     let (standing, mut rest) = stand(alloc, rects, bands)?;
-    let standing = sorted(standing);
+    let standing = in_order(standing);
     let common = share(alloc, standing.as_slice(), bands, &mut rest)?;
-    both(alloc, common, rest, bands)
+    both(alloc, common, each_once(rest), bands)
 }

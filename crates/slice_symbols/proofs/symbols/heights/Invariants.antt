@@ -1,4 +1,4 @@
-use Rattle.slice_symbols.specs.Drawn.{AreHeights}
+use Rattle.slice_symbols.proofs.Heights.{AreHeights}
 use Rattle.slice_symbols.proofs.symbols.heights.Given as goal
 
 abbrev pub invariant-loop-band : goal.invariant-loop-band
