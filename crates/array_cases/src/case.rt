@@ -5,7 +5,7 @@
 ghost use Rattle.std.specs.Prelude.{◌≡◌, ◌<◌, ◌+◌, ◌≤◌, All, IfOk, IfSome, length, slice_get};
 ghost use Rattle.std.specs.Bool.{OnTrue};
 ghost use Rattle.nor_net.specs.Shape.{MayTake, fan_in, gate_inputs, net_limit};
-ghost use Rattle.weinberger.specs.Kinds.{IsOfKind};
+ghost use Rattle.band_lists.specs.Kinds.{IsOfKind};
 ghost use Rattle.array_cases.specs.Usable.{IsSource};
 
 use mp_base::{List, NoMemory};

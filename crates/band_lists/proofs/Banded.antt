@@ -94,11 +94,11 @@ module _ (y : Columns) (parts : List Part) where
 module _ (y : Columns) (parts : List Part) (columns : List ℕ) (stubs : List Bool)
     (columns_are : columns ≡ map (home y) (range_with_len 0 (length parts)))
     (stubs_are : stubs ≡ map y.stub (range_with_len 0 (length parts))) where
-  column_is : (n : ℕ) → n < length parts → get_or columns n 0 ≡ home y n
+  pub column_is : (n : ℕ) → n < length parts → get_or columns n 0 ≡ home y n
   column_is n lt = ap (λ l. get_or l n 0) columns_are
       ∙ get_or-map-range_with_len (home y) 0 (length parts) n n 0 lt (omega arith)
 
-  stub_is : (n : ℕ) → n < length parts → get_or stubs n false ≡ y.stub n
+  pub stub_is : (n : ℕ) → n < length parts → get_or stubs n false ≡ y.stub n
   stub_is n lt = ap (λ l. get_or l n false) stubs_are
       ∙ get_or-map-range_with_len y.stub 0 (length parts) n n false lt (omega arith)
 

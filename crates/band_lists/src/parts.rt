@@ -2,7 +2,6 @@
 
 ghost use Rattle.std.specs.Prelude.{◌≡◌, ◌<◌, List, length, slice_get, Some};
 ghost use Rattle.array_form.specs.Homes.{phase_number};
-ghost use Rattle.array_form.specs.Place.{is_input, part_is};
 ghost use Rattle.nor_net.specs.declared.net.NetId as ids;
 ghost use Rattle.nor_net.specs.declared.net.Part.TheVariants as part;
 ghost use Rattle.band_lists.specs.Kinds.{IsOfKind};
@@ -15,14 +14,6 @@ pub fn kind_at(net: &Net, n: u32) -> NetKind
     ensures { IsOfKind result (slice_get net.now n) }
 {
     net.kind(NetId(n))
-}
-
-/// Whether a net is an input.
-pub fn is_input(net: &Net, n: u32) -> bool
-    requires { n < length net.now }
-    ensures { result ≡ part_is is_input (slice_get net.now n) }
-{
-    matches!(kind_at(net, n), NetKind::Input)
 }
 
 /// The inputs of a gate.

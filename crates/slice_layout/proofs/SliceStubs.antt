@@ -196,78 +196,43 @@ module _ (p : Path) (ends : HasEnds p) where
       (λ n lo hi. ap not (h n (omega arith)) ∙ stub_same n (omega arith))
 
   -- ---- columns of their own
+  pub homed_part : (n : ℕ) (q : Part) → slice_get p.slice n ≡ Some q → place.is_input q
+      ≡ false → slice_homed p n ≡ true
+  homed_part n q h e =
+      or_left (is_some (λ z. not (is_input z)) (slice_get p.slice n))
+      (is_end p n || (is_program p n || slice_stub p n)) (ap (is_some (λ z. not (is_input z))) h ∙ go q e)
+    where
+      go : (q : Part) → place.is_input q ≡ false → not (is_input q) ≡ true
+      go Input e = absurd (cc e)
+      go (Gate ins) e = refl
+      go (Latch ph d) e = refl
+
+  pub homed_to : (n : ℕ) → is_end p n ≡ true → slice_homed p n ≡ true
+  homed_to n e =
+      or_right (is_some (λ z. not (is_input z)) (slice_get p.slice n))
+      (is_end p n || (is_program p n || slice_stub p n))
+      (or_left (is_end p n) (is_program p n || slice_stub p n) e)
+
+  pub homed_program : (n : ℕ) → is_program p n ≡ true → slice_homed p n ≡ true
+  homed_program n e =
+      or_right (is_some (λ z. not (is_input z)) (slice_get p.slice n))
+      (is_end p n || (is_program p n || slice_stub p n))
+      (or_right (is_end p n) (is_program p n || slice_stub p n)
+      (or_left (is_program p n) (slice_stub p n) e))
+
+  pub homed_stub : (n : ℕ) → slice_stub p n ≡ true → slice_homed p n ≡ true
+  homed_stub n e =
+      or_right (is_some (λ z. not (is_input z)) (slice_get p.slice n))
+      (is_end p n || (is_program p n || slice_stub p n))
+      (or_right (is_end p n) (is_program p n || slice_stub p n)
+      (or_right (is_program p n) (slice_stub p n) e))
+
   module _ (stubs : List Bool) (stubs_are : (n : ℕ) → n < length p.slice → get_or stubs n false ≡ slice_stub p n)
       (stubs_long : length stubs ≡ length p.slice) where
     abbrev all_pins : List Pin
     all_pins = slice_pins p ++ stub_pins stubs
 
-    abbrev owns : ℕ → Pin → Bool
-    owns n q = q.segment == n && is_own q
-
-    own_home : (n : ℕ) → owns n (pin n n) ≡ true
-    own_home n = ap (λ t. t && t) (same_to n n refl)
-
-    pub homed_part : (n : ℕ) (q : Part) → slice_get p.slice n ≡ Some q → place.is_input q
-        ≡ false → slice_homed p n ≡ true
-    homed_part n q h e =
-        or_left (is_some (λ z. not (is_input z)) (slice_get p.slice n))
-        (is_end p n || (is_program p n || slice_stub p n)) (ap (is_some (λ z. not (is_input z))) h ∙ go q e)
-      where
-        go : (q : Part) → place.is_input q ≡ false → not (is_input q) ≡ true
-        go Input e = absurd (cc e)
-        go (Gate ins) e = refl
-        go (Latch ph d) e = refl
-
-    pub homed_to : (n : ℕ) → is_end p n ≡ true → slice_homed p n ≡ true
-    homed_to n e =
-        or_right (is_some (λ z. not (is_input z)) (slice_get p.slice n))
-        (is_end p n || (is_program p n || slice_stub p n))
-        (or_left (is_end p n) (is_program p n || slice_stub p n) e)
-
-    pub homed_program : (n : ℕ) → is_program p n ≡ true → slice_homed p n ≡ true
-    homed_program n e =
-        or_right (is_some (λ z. not (is_input z)) (slice_get p.slice n))
-        (is_end p n || (is_program p n || slice_stub p n))
-        (or_right (is_end p n) (is_program p n || slice_stub p n)
-        (or_left (is_program p n) (slice_stub p n) e))
-
-    pub homed_stub : (n : ℕ) → slice_stub p n ≡ true → slice_homed p n ≡ true
-    homed_stub n e =
-        or_right (is_some (λ z. not (is_input z)) (slice_get p.slice n))
-        (is_end p n || (is_program p n || slice_stub p n))
-        (or_right (is_end p n) (is_program p n || slice_stub p n)
-        (or_right (is_program p n) (slice_stub p n) e))
-
-    -- a pin of a net in its own column shows that it has one
-    reads_part : (i : ℕ) (q : Part) → reads i (Some q) ≡ true → place.is_input q ≡ false
-    reads_part i Input e = absurd (cc e)
-    reads_part i (Gate ins) e = refl
-    reads_part i (Latch ph d) e = refl
-
-    own_homed : (n : ℕ) → n < length p.slice → (q : Pin) → q.segment ≡ n → is_own q ≡ true → IsSlicePin p q
-        → slice_homed p n ≡ true
-    own_homed n lt q s o (of_net (own m x g e r)) =
-        homed_part n x (sym (ap (slice_get p.slice) (ap (λ z. z.segment) r ∙ s)) ∙ g) e
-    own_homed n lt q s o (of_net (read m i x g e r)) =
-        let mi : m ≡ i = same_from m i (ap is_own r ∙ o) in
-        homed_part n x (sym (ap (slice_get p.slice) (mi ∙ (ap (λ z. z.segment) r ∙ s))) ∙ g) (reads_part i x e)
-    own_homed n lt q s o (of_net (beat m ph d g r)) =
-        let e : length p.slice + phase_number ph ≡ n = ap (λ z. z.segment) r ∙ s in absurd (omega arith)
-    own_homed n lt q s o (of_cast i c h r) = absurd (false_true (ap is_own r ∙ o))
-    own_homed n lt q s o (of_lift i l h r) = absurd (false_true (ap is_own r ∙ o))
-    own_homed n lt q s o (of_end i c h r) =
-        homed_to n
-        (any_passes_from_place (λ (c : Carry). c.to == n) p.chains i c h (same_to c.to n (ap (λ z. z.segment) r ∙ s)))
-    own_homed n lt q s o (of_start i c h r) =
-        let e : c.to ≡ c.start = same_from c.to c.start (ap is_own r ∙ o) in
-        homed_to n (any_passes_from_place (λ (c : Carry). c.to == n) p.chains i c h
-        (same_to c.to n (e ∙ (ap (λ z. z.segment) r ∙ s))))
-    own_homed n lt q s o (of_program i g h r) =
-        homed_program n (any_passes_from_place (λ (g : Programmed). g.net == n) p.programs i g h
-        (same_to g.net n (ap (λ z. z.segment) r ∙ s)))
-    own_homed n lt q s o (of_phase j l r) = absurd (false_true (ap is_own r ∙ o))
-
-    -- and each has such a pin
+    -- each such net has a pin there
     pub homed_own : (n : ℕ) (q : Option Part) → slice_get p.slice n ≡ q → n < length p.slice → slice_homed p n ≡ true
         → Member all_pins (pin n n)
     homed_own n None h lt e =
@@ -296,31 +261,3 @@ module _ (p : Path) (ends : HasEnds p) where
                 (stub_pin_in stubs n (let l = stubs_long in omega arith) (stubs_are n lt ∙ g)))
           ]
         ]
-
-    own_pin_homed : (n : ℕ) → n < length p.slice → (q : Pin) → Member all_pins q → q.segment ≡ n → is_own q ≡ true
-        → slice_homed p n ≡ true
-    own_pin_homed n lt q m s o = elim (member_append (slice_pins p) (stub_pins stubs) q m) [
-      | inl a ↦ own_homed n lt q s o (slice_pin_is p q a)
-      | inr a ↦ (
-          let w = stub_pin_is stubs q a in
-          let l = stubs_long in
-          let b : w.0 < length p.slice = (let k = w.1 in omega arith) in
-          let e : w.0 ≡ n = ap (λ z. z.segment) w.3 ∙ s in
-          homed_stub n (subst (λ z. slice_stub p z ≡ true) e (sym (stubs_are w.0 b) ∙ w.2)))
-    ]
-
-    pub homed_same : (n : ℕ) → n < length p.slice → list_any (owns n) all_pins ≡ slice_homed p n
-    homed_same n lt = same_bools (list_any (owns n) all_pins) (slice_homed p n)
-        (λ e. let w = any_member (owns n) all_pins e in
-        let a = and_parts (w.1.segment == n) (is_own w.1) w.3 in
-        own_pin_homed n lt w.1 w.4 (same_from w.1.segment n a.0) a.1)
-        (λ e. any_of (owns n) all_pins (pin n n) (homed_own n (slice_get p.slice n) refl lt e) (own_home n))
-
-    pub homes_same : (flags : List Bool)
-        → ((k : ℕ) → k < length p.slice + 3 → get_or flags k false ≡ list_any (owns k) all_pins)
-        → (n : ℕ) → n ≤ length p.slice
-        → home_by (slice_columns p).base flags n ≡ home (slice_columns p) n
-    homes_same flags h n le =
-        ap (λ z. (slice_columns p).base + z)
-        (count_same (is_homed flags) (slice_columns p).homed n
-        (λ i lt. h i (omega arith) ∙ homed_same i (omega arith)))

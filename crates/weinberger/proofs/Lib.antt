@@ -1,7 +1,4 @@
-mod Growing
 mod BandPins
-mod Homing
-mod SpanSteps
-mod Spanning
-mod Rowed
-mod Intervals
+mod Stubs
+mod AllPins
+mod Fitted

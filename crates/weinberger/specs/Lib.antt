@@ -1,6 +1,2 @@
-pub mod Kinds
 pub mod Pins
-pub mod Homed
-pub mod Spans
-pub mod Listed
 pub mod Layouts

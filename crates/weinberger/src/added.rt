@@ -5,9 +5,9 @@ ghost use Rattle.nor_net.specs.Shape.{IsNet};
 ghost use Rattle.weinberger.specs.Layouts.{AreListed, IsLayout};
 
 use crate::layout::Layout;
-use crate::lists::{lines, segments};
-use crate::marks::marks;
 use array_form::Band;
+use band_lists::lists::{push_lines, push_segments};
+use band_lists::marks::push_marks;
 use fabric::{Line, Mark, Segment};
 use nor_net::Net;
 use std::alloc::{AllocError, Global};
@@ -32,12 +32,26 @@ pub(crate) fn listed(
     ensures { IfOk result (λ listed. AreListed band.now net.now layout.now.tracks listed) }
 {
     let columns = layout.homes.columns.as_slice();
-    let stubs = layout.homes.stubs.as_slice();
+    let stubs = layout.stubs.as_slice();
     let spans = layout.spans.as_slice();
     let rows = layout.tracks.row.as_slice();
+    let mut segments = Vec::new(alloc);
+    push_segments(&mut segments, band.index, spans, rows)?;
+    let mut lines = Vec::new(alloc);
+    push_lines(&mut lines, net, band.index, columns, stubs)?;
+    let mut marks = Vec::new(alloc);
+    push_marks(
+        alloc,
+        &mut marks,
+        net,
+        band.index,
+        columns,
+        stubs,
+        &layout.tracks,
+    )?;
     Ok(Added {
-        segments: segments(alloc, band.index, spans, rows)?,
-        lines: lines(alloc, net, band.index, columns, stubs)?,
-        marks: marks(alloc, net, band.index, columns, stubs, &layout.tracks)?,
+        segments,
+        lines,
+        marks,
     })
 }

@@ -2,14 +2,9 @@
 #![tactic(auto)]
 
 mod added;
-mod homes;
 mod layout;
-mod lists;
-mod marks;
-mod parts;
 mod pins;
 mod placing;
-mod spans;
 
 pub use array_form::{Band, Placed, Size, Tap};
 pub use placing::{measure, place};

@@ -1,81 +1,13 @@
-//! Where segments are marked: in the columns of nets, in those of taps and in those of the phases.
+//! Where the segments of a band are marked: in the columns of nets, in those of taps and in those of the phases.
 
-ghost use Rattle.std.specs.Prelude.{◌≡◌, ◌<◌, ◌+◌, ◌^◌, [], ◌∷◌, ◌++◌, if◌then◌else◌, All, IfOk, OnOk, length};
-ghost use Rattle.std.specs.Prelude.{slice_get};
+ghost use Rattle.std.specs.Prelude.{◌≡◌, ◌++◌, IfOk, OnOk};
 ghost use Rattle.array_form.specs.Place.{IsBandOf};
-ghost use Rattle.weinberger.specs.Pins.{pin, net_pins, gate_pins, latch_pins, part_pins, tap_pins, phase_pins};
-ghost use Rattle.weinberger.specs.Pins.{band_pins, stub_pins};
+ghost use Rattle.weinberger.specs.Pins.{band_pins, tap_pins};
 
-use crate::parts::{gate_inputs, kind_at, phase_index};
 use array_form::{Band, Tap};
-use nor_net::{Net, NetId, NetKind, Phase};
+use band_lists::pins::{At, Pin, push_parts, push_phases};
+use nor_net::Net;
 use std::alloc::{AllocError, Global};
-
-/// A column: that of a net, or one that is given.
-#[derive(Clone, Copy)]
-pub(crate) enum At {
-    Home(u32),
-    Column(u32),
-}
-
-/// A segment, by its place among those of a band, and a column in which it is marked.
-#[derive(Clone, Copy)]
-pub(crate) struct Pin {
-    pub segment: u32,
-    pub at: At,
-}
-
-// A pin in the column of a net.
-fn home_pin(segment: u32, net: u32) -> Pin
-    ensures { result ≡ pin segment net }
-{
-    Pin {
-        segment,
-        at: At::Home(net),
-    }
-}
-
-fn push_gate(pins: &mut Vec<Pin>, n: u32, inputs: &[NetId]) -> Result<(), AllocError>
-    ensures { OnOk result (pins.new.items ≡ pins.old.items ++ gate_pins n inputs.now) }
-{
-    pins.push(home_pin(n, n))?;
-    for input in inputs {
-        pins.push(home_pin(input.0, n))?;
-    }
-    Ok(())
-}
-
-fn push_latch(
-    pins: &mut Vec<Pin>,
-    nets: u32,
-    n: u32,
-    phase: Phase,
-    source: Option<NetId>,
-) -> Result<(), AllocError>
-    requires { nets + 3 < 2 ^ 32 }
-    ensures { OnOk result (pins.new.items ≡ pins.old.items ++ latch_pins nets n phase source) }
-{
-    pins.push(home_pin(n, n))?;
-    let Some(data) = source else {
-        return Ok(());
-    };
-    pins.push(home_pin(data.0, n))?;
-    pins.push(home_pin(nets + phase_index(phase), n))?;
-    Ok(())
-}
-
-// The pins in the column of a net.
-fn push_part(pins: &mut Vec<Pin>, net: &Net, n: u32) -> Result<(), AllocError>
-    requires room { length net.now + 3 < 2 ^ 32 }
-    requires there { n < length net.now }
-    ensures { OnOk result (pins.new.items ≡ pins.old.items ++ part_pins (length net.now) n (slice_get net.now n)) }
-{
-    match kind_at(net, n) {
-        NetKind::Input => Ok(()),
-        NetKind::Gate => push_gate(pins, n, gate_inputs(net, n)),
-        NetKind::Latch { phase, source } => push_latch(pins, net.len(), n, phase, source),
-    }
-}
 
 fn push_taps(pins: &mut Vec<Pin>, taps: &[Tap]) -> Result<(), AllocError>
     ensures { OnOk result (pins.new.items ≡ pins.old.items ++ tap_pins taps.now) }
@@ -85,29 +17,6 @@ fn push_taps(pins: &mut Vec<Pin>, taps: &[Tap]) -> Result<(), AllocError>
             segment: tap.net.0,
             at: At::Column(tap.column),
         })?;
-    }
-    Ok(())
-}
-
-fn push_phases(pins: &mut Vec<Pin>, nets: u32, first_column: u32) -> Result<(), AllocError>
-    requires room { nets + 3 < 2 ^ 32 }
-    requires columns { first_column + 3 < 2 ^ 32 }
-    ensures { OnOk result (pins.new.items ≡ pins.old.items ++ phase_pins nets first_column) }
-{
-    for phase in 0..3 {
-        pins.push(Pin {
-            segment: nets + phase,
-            at: At::Column(first_column + phase),
-        })?;
-    }
-    Ok(())
-}
-
-fn push_parts(pins: &mut Vec<Pin>, net: &Net) -> Result<(), AllocError>
-    ensures { OnOk result (pins.new.items ≡ pins.old.items ++ net_pins net.now) }
-{
-    for n in 0..net.len() {
-        push_part(pins, net, n)?;
     }
     Ok(())
 }
@@ -122,24 +31,4 @@ pub(crate) fn pins(alloc: Global, net: &Net, band: &Band) -> Result<Vec<Pin>, Al
     push_taps(&mut pins, band.taps.as_slice())?;
     push_phases(&mut pins, net.len(), band.first_column)?;
     Ok(pins)
-}
-
-fn push_stub(pins: &mut Vec<Pin>, n: u32, stub: bool) -> Result<(), AllocError>
-    ensures { OnOk result (pins.new.items ≡ pins.old.items ++ (if stub then pin n n ∷ [] else [])) }
-{
-    if stub {
-        pins.push(home_pin(n, n))?;
-    }
-    Ok(())
-}
-
-/// The pins of stubs, each in its own column.
-pub(crate) fn push_stubs(pins: &mut Vec<Pin>, stubs: &[bool]) -> Result<(), AllocError>
-    requires { length stubs.now < 2 ^ 32 }
-    ensures { OnOk result (pins.new.items ≡ pins.old.items ++ stub_pins stubs.now) }
-{
-    for n in 0..stubs.len() {
-        push_stub(pins, n as u32, stubs[n])?;
-    }
-    Ok(())
 }

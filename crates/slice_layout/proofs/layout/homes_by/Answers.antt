@@ -11,8 +11,7 @@ use Rattle.band_lists.specs.Homed.{home_by}
 use Rattle.band_lists.specs.Pins.{is_own, stub_pins}
 use Rattle.slice_layout.specs.Pins.{slice_pins}
 use Rattle.slice_layout.proofs.Ends.{has_ends}
-use Rattle.slice_layout.proofs.SliceSpans.{pins_on}
-use Rattle.slice_layout.proofs.SliceStubs.{homes_same}
+use Rattle.slice_layout.proofs.SliceSpans.{homes_same, pins_on}
 use Rattle.slice_layout.proofs.SliceLayout.{stubs_at, stubs_long, end_small}
 use Rattle.slice_layout.proofs.layout.homes_by.Goals as goal
 
@@ -40,8 +39,8 @@ returns c =
     let same : (n : ℕ) → n < length p.slices.net + 1
     → home_by c.base.result flags n ≡ home (slice_columns q) n =
     λ n lt. ap (λ b. home_by b flags n) c.base.ensures.value
-    ∙ homes_same q (has_ends p) stubs (stubs_at p stubs c.requires.stubs) (stubs_long p stubs c.requires.stubs)
-    flags has n (omega arith) in
+    ∙ homes_same q (has_ends p) c.len-nets.ensures.shape stubs (stubs_at p stubs c.requires.stubs)
+    (stubs_long p stubs c.requires.stubs) flags has n (omega arith) in
     let n = c.len-nets.ensures.len in
     let homes = c.in_ok-homes.ensures in
     let end = homes.end ∙ (ap (home_by c.base.result flags) n ∙ same (length p.slices.net) (omega arith)) in

@@ -6,7 +6,7 @@ use Rattle.array_form.specs.Laying.{with_net}
 use Rattle.array_form.specs.Place.{columns_in, cols_in}
 use Rattle.fabric.specs.Plan.{Plan, IsFabric, with_added}
 use Rattle.fabric.specs.Room.{IsRoomy}
-use Rattle.weinberger.proofs.Rowed.{same_fabric, is_fabric, is_roomy}
+use Rattle.weinberger.proofs.Fitted.{same_fabric, is_fabric, is_roomy}
 use Rattle.weinberger.proofs.placing.add.Goals as goal
 
 pub add-requires-clause-met : goal.add-requires-clause-met

@@ -5,7 +5,7 @@ use Rattle.fabric.specs.declared.thing.Segment.{Segment}
 use Rattle.array_form.specs.declared.band.Band.{Band}
 use Rattle.array_form.specs.Laying.{band_segment}
 use Rattle.array_form.specs.Place.{columns_in, cols_in}
-use Rattle.weinberger.proofs.Rowed.{band_of}
+use Rattle.weinberger.proofs.Fitted.{band_of}
 use Rattle.weinberger.proofs.placing.place.Goals as goal
 
 pub lay_out-requires : goal.lay_out-requires

@@ -4,7 +4,7 @@ use Rattle.std.proofs.lemmas.List.{map_more}
 use Rattle.array_form.specs.declared.band.Tap.{Tap}
 use Rattle.array_form.specs.Homes.{greatest}
 use Rattle.array_form.proofs.Greatest.{greatest_push}
-use Rattle.weinberger.proofs.homes.base.Goals as goal
+use Rattle.weinberger.proofs.layout.base.Goals as goal
 
 pub loop-tap-preserved : goal.loop-tap-preserved
 loop-tap-preserved c =

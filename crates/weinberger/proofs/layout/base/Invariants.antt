@@ -1,7 +1,7 @@
 use Rattle.std.proofs.Common.{◌≡◌, ◌+◌, ◌<◌, take}
 use Rattle.fabric.specs.Room.{limit}
-use Rattle.weinberger.specs.Homed.{base_of}
-use Rattle.weinberger.proofs.homes.base.Given as goal
+use Rattle.weinberger.specs.Layouts.{base_of}
+use Rattle.weinberger.proofs.layout.base.Given as goal
 
 abbrev pub invariant-loop-tap : goal.invariant-loop-tap
 invariant-loop-tap l = record {

@@ -1,8 +1,0 @@
-use Rattle.std.proofs.Common.{◌≡◌}
-use Rattle.std.specs.Prelude.{flat_map}
-use Rattle.std.specs.List.{range_with_len}
-use Rattle.weinberger.specs.Listed.{lines_at}
-use Rattle.weinberger.proofs.lists.lines.Given as goal
-
-abbrev pub invariant-loop-n : goal.invariant-loop-n
-invariant-loop-n l = l.lines.items ≡ flat_map (lines_at l.band l.columns l.stubs l.net) (range_with_len 0 l.n)

@@ -1,6 +1,0 @@
-use Rattle.std.proofs.Common.{◌≡◌, ◌++◌, take}
-use Rattle.weinberger.specs.Pins.{gate_pins}
-use Rattle.weinberger.proofs.pins.push_gate.Given as goal
-
-abbrev pub invariant-loop-input : goal.invariant-loop-input
-invariant-loop-input l = l.pins.items ≡ l.fn.pins.items ++ gate_pins l.n (take l.input-index l.inputs)

@@ -1,8 +1,0 @@
-use Rattle.std.proofs.Common.{◌≡◌, ◌++◌, map}
-use Rattle.std.specs.List.{range_with_len}
-use Rattle.weinberger.specs.Pins.{phase_pin}
-use Rattle.weinberger.proofs.pins.push_phases.Given as goal
-
-abbrev pub invariant-loop-phase : goal.invariant-loop-phase
-invariant-loop-phase l =
-    l.pins.items ≡ l.fn.pins.items ++ map (phase_pin l.nets l.first_column) (range_with_len 0 l.phase)

@@ -1,8 +1,0 @@
-use Rattle.std.proofs.Common.{◌≡◌, ◌++◌}
-use Rattle.std.specs.Prelude.{flat_map}
-use Rattle.std.specs.List.{range_with_len}
-use Rattle.weinberger.specs.Pins.{stub_pin}
-use Rattle.weinberger.proofs.pins.push_stubs.Given as goal
-
-abbrev pub invariant-loop-n : goal.invariant-loop-n
-invariant-loop-n l = l.pins.items ≡ l.fn.pins.items ++ flat_map (stub_pin l.stubs) (range_with_len 0 l.n)
