@@ -1,146 +1,128 @@
 -- The changes of a part's cells, by those of its halves, and what is told of all cells.
-use Rattle.std.proofs.Common.{◌≡◌, ◌≢◌, ℕ, ◌+◌, ◌-◌, ◌/◌, ◌<◌, ◌≤◌, Bool, true, List, refl, sym, ◌∙◌, ap, arith}
-use Rattle.std.specs.Prelude.{◌&&◌, ◌==◌, not, nat_lt, nat_le}
-use Rattle.std.proofs.Math.Bool.{or_comm}
-use Rattle.std.proofs.lemmas.Bool.{lt-ltb, ltb-true, le-leb, leb-true, and_parts, eq-eqb, ne_eqb, not-true}
-use Rattle.std.proofs.lemmas.Bool.{not_from_true, not_from_false, false≢true}
-use Rattle.lam_geom.specs.declared.layer.Layer.TheVariants.{ND, NP, NC, NM, NI, NB, NG}
-use Rattle.mask_runs.specs.declared.mask.Layers.{Layers}
+use Rattle.std.proofs.Common.{◌≡◌, ℕ, ◌+◌, ◌-◌, ◌/◌, ◌<◌, ◌≤◌, true, false, List, [], refl, sym, ◌∙◌, ap, arith}
+use Rattle.std.specs.Prelude.{Result, Ok, IfOk, nat_lt, if◌then◌else◌}
+use Rattle.std.proofs.lemmas.Bool.{lt-ltb}
+use Rattle.lam_geom.specs.declared.layer.Layer.{Layer}
+use Rattle.mp_base.specs.declared.refusal.NoMemory.{NoMemory}
 use Rattle.mask_runs.specs.declared.mask.Mask.{Mask}
+use Rattle.mask_runs.specs.declared.run.Run.{Run}
 use Rattle.mask_runs.specs.Colours.{bare, colour_of}
 use Rattle.cover_tree.specs.declared.changes.Known.{Known}
-use Rattle.cover_tree.specs.declared.look.Line.{Line}
-use Rattle.cover_tree.specs.declared.kinds.Effect.{Effect}
-use Rattle.cover_tree.specs.declared.kinds.Effect.TheVariants.{Nowhere, Everywhere, Somewhere}
 use Rattle.cover_tree.specs.declared.kinds.Kinds.{Kinds}
 use Rattle.cover_tree.specs.declared.part.Part.{Part}
-use Rattle.cover_tree.specs.declared.span.Span.{Span}
 use Rattle.cover_tree.specs.declared.trees.Trees.{Trees}
-use Rattle.cover_tree.specs.Covers.{layers_at}
-use Rattle.cover_tree.specs.Parts.{InPart, root, left_half, right_half, top_of}
-use Rattle.cover_tree.specs.Layered.{cover, tree}
-use Rattle.cover_tree.specs.Looking.{seen, own_at}
-use Rattle.cover_tree.specs.Kinds.{both, HasKind, IsEffect}
-use Rattle.cover_tree.specs.Telling.{TurnsUnder, IsTold}
-use Rattle.cover_tree.specs.Changing.{IsChange, IsHandedDown, Tells, differs, differs_in, with_last}
-use Rattle.cover_tree.proofs.Found.{root_colour}
-use Rattle.cover_tree.proofs.Looking.{seen_leaf, seen_left, seen_right}
-use Rattle.cover_tree.proofs.Telling.{alike, in_turn, told_same, blank, all_told}
+use Rattle.cover_tree.specs.Changes.{AreChanges}
+use Rattle.cover_tree.specs.Covers.{row_colour}
+use Rattle.cover_tree.specs.Parts.{InPart, root, left_half, right_half}
+use Rattle.cover_tree.specs.Layered.{tree, told_tree, cover}
+use Rattle.cover_tree.specs.Looking.{seen_by, seen, told, IsHandedDown}
+use Rattle.cover_tree.specs.Kinds.{both, HasKind, AreOneColour, Keeps as KeepsKinds}
+use Rattle.cover_tree.specs.Notes.{IsTold, IsOnlyIn}
+use Rattle.cover_tree.specs.Changing.{was, is, Keeps, Turns, Tells, with_last}
+use Rattle.cover_tree.proofs.Covering.{root_colour}
+use Rattle.cover_tree.proofs.Noting.{seen_same, told_same}
+use Rattle.cover_tree.proofs.Raising.{right_was}
+use Rattle.cover_tree.proofs.Telling.{alike, in_turn, blank, all_told}
 
--- whether two sets of layers have other colours
-abbrev pub unlike : Mask → Layers → Layers → Bool
-unlike mask a b = not (colour_of mask a == colour_of mask b)
+-- a part that is told: all depends on the layers that cover it as a whole
+module _ (mask : Mask) (t : Trees) (p : Part) (known : Known) (s : IsTold t p) where
+  was_under : (c : ℕ) → InPart p c
+      → was mask t p known c ≡ colour_of mask (both known.before (seen t t.since p bare c))
+  was_under c i = ap (λ l. colour_of mask (both known.before l)) (s.each c i)
 
-module _ (t : Trees) (line : Line) (span : Span) (p : Part) (known down : Known)
-    (a : IsHandedDown t line.row p known.before down.before)
-    (b : IsHandedDown t (line.row + 1) p known.after down.after) where
-  left_differs : (c : ℕ) → 2 ≤ p.width → InPart (left_half p) c
-      → differs_in span t line p known c ≡ differs_in span t line (left_half p) down c
-  left_differs c w i = ap (λ b. nat_le span.from c && nat_lt c span.to && b)
-      (ap (λ l. unlike line.mask l (seen t (line.row + 1) p known.after c)) (sym (a.left c w i))
-      ∙ ap (unlike line.mask (seen t line.row (left_half p) down.before c)) (sym (b.left c w i)))
+  pub alike_change : known.before ≡ known.after → Keeps (was mask t p known) (is mask t p known) p
+  alike_change e = record {
+    each = λ c i. was_under c i ∙ ap (λ k. colour_of mask (both k (seen t t.since p bare c))) e;
+  }
 
-  right_differs : (c : ℕ) → 2 ≤ p.width → InPart (right_half p) c
-      → differs_in span t line p known c ≡ differs_in span t line (right_half p) down c
-  right_differs c w i = ap (λ b. nat_le span.from c && nat_lt c span.to && b)
-      (ap (λ l. unlike line.mask l (seen t (line.row + 1) p known.after c)) (sym (a.right c w i))
-      ∙ ap (unlike line.mask (seen t line.row (right_half p) down.before c)) (sym (b.right c w i)))
+  module _ (kinds : Kinds) (k : (c : ℕ) → InPart p c → HasKind mask kinds (seen t t.since p bare c)) where
+    pub kept_change : KeepsKinds mask kinds known.before known.after true
+        → Keeps (was mask t p known) (is mask t p known) p
+    kept_change f = record { each = λ c i. was_under c i ∙ f.each (seen t t.since p bare c) (k c i) }
 
-  pub both_halves : (old mid now : List Span) (last middle next : Span) → 2 ≤ p.width
-      → Tells (differs_in span t line (left_half p) down) old mid last middle p.base (p.base + p.width / 2)
-      → Tells (differs_in span t line (right_half p) down) mid now middle next (p.base + p.width / 2)
-      (p.base + p.width / 2 + (p.width - p.width / 2))
-      → Tells (differs_in span t line p known) old now last next p.base (p.base + p.width)
-  both_halves old mid now last middle next w l r =
-      let own : ℕ → Bool = differs_in span t line p known in
-      let half = p.base + p.width / 2 in
-      let end = p.base + p.width in
-      let e : p.base + p.width / 2 + (p.width - p.width / 2) ≡ p.base + p.width = omega arith in
-      let r2 : Tells (differs_in span t line (right_half p) down) mid now middle next half end = rw e at r in
-      in_turn own old mid now last middle next p.base half end (omega arith) (omega arith)
-      (alike _ own old mid last middle p.base half (λ c h k. left_differs c w (record { from = h; to = k })) l)
-      (alike _ own mid now middle next half end (λ c h k. right_differs c w (record { from = h; to = omega arith })) r2)
+    pub turned_change : (colour : ℕ) → KeepsKinds mask kinds known.before known.after false
+        → AreOneColour mask kinds known.after colour → Turns (was mask t p known) (is mask t p known) p colour
+    turned_change colour f o = record {
+      now = λ c i. o.each (seen t t.since p bare c) (k c i);
+      other = λ c i e. f.each (seen t t.since p bare c) (k c i)
+          (sym (was_under c i) ∙ e ∙ sym (o.each (seen t t.since p bare c) (k c i)));
+    }
 
--- the layers over the halves of a part
-pub handed_down : (t : Trees) (p : Part) (row : ℕ) (known : Layers)
-    → IsHandedDown t row p known (both known (own_at t row p.at))
-handed_down t p row known = record {
-  left = λ c h i. let k = i.to in sym (seen_left t p row known c h k);
-  right = λ c h i. let k = i.from in sym (seen_right t p row known c h k);
-  leaf = λ c h i. seen_leaf t p row known c h;
-}
+module _ (mask : Mask) (t : Trees) (p : Part) (known down : Known)
+    (a : IsHandedDown (told_tree t) 0 p known.before down.before)
+    (b : IsHandedDown (tree t) t.since p known.after down.after) where
+  -- a part of one cell
+  pub leaf_told : (old now : List Run) (last next : Result Run NoMemory) → p.width < 2
+      → Tells (λ _. colour_of mask down.before) (λ _. colour_of mask down.after) old now last next p.base
+      (p.base + p.width)
+      → Tells (was mask t p known) (is mask t p known) old now last next p.base (p.base + p.width)
+  leaf_told old now last next w l =
+      alike _ _ (was mask t p known) (is mask t p known) old now last next p.base (p.base + p.width)
+      (λ c i j. ap (colour_of mask) (a.leaf c w (record { from = i; to = j })))
+      (λ c i j. ap (colour_of mask) (b.leaf c w (record { from = i; to = j }))) l
 
--- a part whose layers are the same in both rows: all depends on those that cover it as a whole
-module _ (t : Trees) (line : Line) (p : Part) (known : Known)
-    (s : (c : ℕ) → InPart p c → seen t line.row p bare c ≡ seen t (line.row + 1) p bare c) where
-  same_differs : (c : ℕ) → InPart p c
-      → differs t line p known c
-      ≡ unlike line.mask (both known.before (seen t line.row p bare c)) (both known.after (seen t line.row p bare c))
-  same_differs c i = ap (λ l. unlike line.mask (seen t line.row p known.before c) (both known.after l)) (sym (s c i))
+  -- a part with halves, of which the left one is told first
+  module _ (u : Trees) (o : IsOnlyIn (left_half p) t u) (w : 2 ≤ p.width) where
+    left_was : (c : ℕ) → p.base ≤ c → c < p.base + p.width / 2 → was mask t p known c ≡ was mask t (left_half p) down c
+    left_was c i j = sym (ap (colour_of mask) (a.left c w (record { from = i; to = j })))
 
-  pub alike_change : known.before ≡ known.after → IsChange (differs t line p known) p Nowhere
-  alike_change e = λ c i. same_differs c i
-      ∙ not_from_true _ (eq-eqb _ _ (ap (λ k. colour_of line.mask (both k (seen t line.row p bare c))) e))
+    left_is : (c : ℕ) → p.base ≤ c → c < p.base + p.width / 2 → is mask t p known c ≡ is mask t (left_half p) down c
+    left_is c i j = sym (ap (colour_of mask) (b.left c w (record { from = i; to = j })))
 
-  pub effect_change : (kinds : Kinds) (e : Effect) → 2 ≤ p.width
-      → ((c : ℕ) → InPart p c → HasKind line.mask kinds (seen t line.row p bare c))
-      → IsEffect line.mask kinds known.before known.after e → IsChange (differs t line p known) p e
-  effect_change kinds Nowhere w k f =
-      λ c i. same_differs c i ∙ not_from_true _ (eq-eqb _ _ (f.each (seen t line.row p bare c) (k c i)))
-  effect_change kinds Everywhere w k f =
-      λ c i. same_differs c i ∙ not_from_false _ (ne_eqb _ _ (f.each (seen t line.row p bare c) (k c i)))
-  effect_change kinds Somewhere w k f = w
+    right_was_told : (c : ℕ) → p.base + p.width / 2 ≤ c → c < p.base + p.width
+        → was mask t p known c ≡ was mask u (right_half p) down c
+    right_was_told c i j = sym (ap (colour_of mask)
+        (told_same (right_half p) t u (omega arith) (right_was t u p w o) down.before c
+        ∙ a.right c w (record { from = i; to = omega arith })))
+
+    right_is : (c : ℕ) → p.base + p.width / 2 ≤ c → c < p.base + p.width
+        → is mask t p known c ≡ is mask u (right_half p) down c
+    right_is c i j = sym (ap (colour_of mask)
+        (ap (λ r. seen u r (right_half p) down.after c) o.since
+        ∙ seen_same (right_half p) t u (omega arith) (right_was t u p w o) t.since down.after c
+        ∙ b.right c w (record { from = i; to = omega arith })))
+
+    pub halves_told : (old mid now : List Run) (last middle next : Result Run NoMemory)
+        → Tells (was mask t (left_half p) down) (is mask t (left_half p) down) old mid last middle p.base
+        (p.base + p.width / 2)
+        → Tells (was mask u (right_half p) down) (is mask u (right_half p) down) mid now middle next
+        (p.base + p.width / 2) (p.base + p.width / 2 + (p.width - p.width / 2))
+        → Tells (was mask t p known) (is mask t p known) old now last next p.base (p.base + p.width)
+    halves_told old mid now last middle next l r =
+        let half = p.base + p.width / 2 in
+        let end = p.base + p.width in
+        let e : p.base + p.width / 2 + (p.width - p.width / 2) ≡ p.base + p.width = omega arith in
+        let r2 : Tells (was mask u (right_half p) down) (is mask u (right_half p) down) mid now middle next half end =
+        rw e at r in
+        in_turn (was mask t p known) (is mask t p known) old mid now last middle next p.base half end (omega arith)
+        (omega arith)
+        (alike _ _ (was mask t p known) (is mask t p known) old mid last middle p.base half left_was left_is l)
+        (alike _ _ (was mask t p known) (is mask t p known) mid now middle next half end right_was_told right_is r2)
 
 -- what is told of all cells
-module _ (mask : Mask) (cells : ℕ) (t : Trees) (row : ℕ) (gained : Layers) (span : Span) where
-  under_layers : (c : ℕ) → c < cells
-      → both (layers_at (cover mask cells t) (row + 1) c) gained ≡ seen t (row + 1) (root cells) gained c
-  under_layers c h = rw (lt-ltb c cells h) (λ i. record {
-    nd = or_comm (nat_lt (row + 1) (top_of (tree t ND) (root cells) c)) gained.nd i;
-    np = or_comm (nat_lt (row + 1) (top_of (tree t NP) (root cells) c)) gained.np i;
-    nc = or_comm (nat_lt (row + 1) (top_of (tree t NC) (root cells) c)) gained.nc i;
-    nm = or_comm (nat_lt (row + 1) (top_of (tree t NM) (root cells) c)) gained.nm i;
-    ni = or_comm (nat_lt (row + 1) (top_of (tree t NI) (root cells) c)) gained.ni i;
-    nb = or_comm (nat_lt (row + 1) (top_of (tree t NB) (root cells) c)) gained.nb i;
-    ng = or_comm (nat_lt (row + 1) (top_of (tree t NG) (root cells) c)) gained.ng i;
-  })
+module _ (mask : Mask) (cells : ℕ) (t : Trees) (row c : ℕ) (h : c < cells) where
+  pub told_below : (if nat_lt c cells then colour_of mask (told t (root cells) bare c) else 0)
+      ≡ colour_of mask (told t (root cells) bare c)
+  told_below = rw (lt-ltb c cells h) refl
 
-  abbrev is_different : ℕ → Type 0
-  is_different c =
-      (c < cells)
-      × (differs_in span t (record { mask = mask; row = row }) (root cells)
-      (record { before = bare; after = gained }) c ≡ true)
+  pub told_root : (u : Trees) → IsTold u (root cells) → u.since ≡ row → ((l : Layer) → tree u l ≡ tree t l)
+      → colour_of mask (told u (root cells) bare c) ≡ row_colour (cover mask cells t) row c
+  told_root u s e f =
+      ap (colour_of mask) (s.each c (record { from = omega arith; to = omega arith })
+      ∙ (λ x. seen_by (λ l. f l x) (e x) (root cells) bare c)) ∙ sym (root_colour mask cells t row c h)
 
-  turn : (c : ℕ) → is_different c → TurnsUnder (cover mask cells t) gained span.from span.to row c
-  turn c d =
-      let now : Layers = seen t row (root cells) bare c in
-      let next : Layers = seen t (row + 1) (root cells) gained c in
-      let a = and_parts (nat_le span.from c && nat_lt c span.to) (unlike mask now next) d.1 in
-      let b = and_parts (nat_le span.from c) (nat_lt c span.to) a.0 in
-      let n = not-true (colour_of mask now == colour_of mask next) a.1 in
-      record {
-        order = leb-true span.from c b.0;
-        within = ltb-true c span.to b.1;
-        another =
-            λ q. false≢true
-            (sym n ∙ eq-eqb _ _
-            (sym (root_colour mask cells t row c d.0) ∙ sym q ∙ ap (colour_of mask) (under_layers c d.0)));
-      }
-
-  different : span.to ≤ cells → (c : ℕ) → TurnsUnder (cover mask cells t) gained span.from span.to row c
-      → is_different c
-  different w c g =
-      let h = g.within in
-      let m : c < cells = omega arith in
-      let n : colour_of mask (seen t row (root cells) bare c) ≢ colour_of mask (seen t (row + 1) (root cells) gained c)
-      = λ q. g.another (ap (colour_of mask) (under_layers c m) ∙ sym q ∙ sym (root_colour mask cells t row c m)) in
-      (m, rw (le-leb span.from c g.order, lt-ltb c span.to h, ne_eqb _ _ n) refl)
-
-  pub turns_under : (old now : List Span) (last : Span) → span.to ≤ cells
-      → Tells (differs_in span t (record { mask = mask; row = row }) (root cells)
-      (record { before = bare; after = gained })) old now blank last 0 (0 + cells)
-      → IsTold old (with_last now last) (TurnsUnder (cover mask cells t) gained span.from span.to row)
-  turns_under old now last w p =
-      told_same is_different (TurnsUnder (cover mask cells t) gained span.from span.to row) old
-      (with_last now last) turn (different w)
-      (all_told _ old now last cells p)
+pub told_pieces : (mask : Mask) (cells : ℕ) (t : Trees) (row : ℕ) (p : Part) (known : Known) (old now : List Run)
+    (last : Result Run NoMemory) → p ≡ root cells → known ≡ record { before = bare; after = bare } → old ≡ []
+    → Tells (was mask (record t { since = row }) p known) (is mask (record t { since = row }) p known) old now
+    (Ok blank) last p.base (p.base + p.width)
+    → IfOk last (λ l. AreChanges (λ c. if nat_lt c cells then colour_of mask (told t (root cells) bare c) else 0)
+    (row_colour (cover mask cells t) row) cells (with_last now l))
+told_pieces mask cells t row p known old now last e f g s =
+    let u : Trees = record t { since = row } in
+    let bared : Known = record { before = bare; after = bare } in
+    let a : Tells (was mask u (root cells) bared) (is mask u (root cells) bared) [] now (Ok blank) last 0 (0 + cells) =
+    rw (e, f, g) at s in
+    all_told (was mask u (root cells) bared) (is mask u (root cells) bared)
+    (λ c. if nat_lt c cells then colour_of mask (told t (root cells) bare c) else 0)
+    (row_colour (cover mask cells t) row) now last cells a
+    (λ c h. told_below mask cells t row c h) (λ c h. root_colour mask cells t row c h)

@@ -8,20 +8,21 @@ use Rattle.std.proofs.Math.ListN.{length-replicate}
 use Rattle.lam_geom.specs.declared.layer.Layer.{Layer}
 use Rattle.lam_geom.specs.declared.layer.Layer.TheVariants.{ND, NP, NC, NM, NI, NB, NG}
 use Rattle.mask_runs.specs.declared.mask.Mask.{Mask}
-use Rattle.mask_runs.specs.Colours.{bare}
+use Rattle.mask_runs.specs.declared.mask.Mask.TheVariants.{Only, Diffusion, Contacts}
+use Rattle.mask_runs.specs.Colours.{bare, colour_of}
 use Rattle.cover_tree.specs.declared.node.Node.{Node}
 use Rattle.cover_tree.specs.declared.note.Note.{Note}
 use Rattle.cover_tree.specs.declared.part.Part.{Part}
 use Rattle.cover_tree.specs.declared.span.Span.{Span}
 use Rattle.cover_tree.specs.declared.trees.Trees.{Trees}
-use Rattle.cover_tree.specs.Covers.{IsBare, IsRaised}
+use Rattle.cover_tree.specs.Covers.{IsBare, IsRaised, row_colour}
 use Rattle.cover_tree.specs.Parts.{top_at, root, left_half, right_half, top_to, top_of, IsPartRaised}
-use Rattle.cover_tree.specs.Nodes.{layer_top, no_tops, blank}
-use Rattle.cover_tree.specs.Layered.{node_at, tree, cover}
+use Rattle.cover_tree.specs.Nodes.{layer_top, no_tops, no_layers, set_tops, blank}
+use Rattle.cover_tree.specs.Layered.{node_at, tree, told_tree, cover}
 use Rattle.cover_tree.specs.Kinds.{HasKind}
-use Rattle.cover_tree.specs.Looking.{is_seen, seen}
+use Rattle.cover_tree.specs.Looking.{is_seen, seen_by, told, part_colour}
 use Rattle.cover_tree.specs.Notes.{IsNoted, AreNoted}
-use Rattle.cover_tree.proofs.Nodes.{no_top, node_top}
+use Rattle.cover_tree.proofs.Nodes.{no_top, node_top, told_top}
 use Rattle.cover_tree.proofs.Noting.{stale_note}
 use Rattle.cover_tree.proofs.Tops.{zero_top, at_leaf, at_left, at_right}
 
@@ -42,44 +43,67 @@ bare_top (suc depth) s p c h = let e = h p.at in elim (cases_lt p.width 2) [
 bare_seen : (s : List ℕ) (row : ℕ) (p : Part) (c : ℕ) → ((k : ℕ) → top_at s k ≡ 0) → is_seen s row p false c ≡ false
 bare_seen s row p c h = le-ltb row (top_of s p c) (omega (arith, bare_top p.width s p c h))
 
-bare_layers : (t : Trees) → AreBare t → (row : ℕ) (p : Part) (c : ℕ) → seen t row p bare c ≡ bare
-bare_layers t f row p c = λ j. record {
-  nd = bare_seen (tree t ND) row p c (f ND) j;
-  np = bare_seen (tree t NP) row p c (f NP) j;
-  nc = bare_seen (tree t NC) row p c (f NC) j;
-  nm = bare_seen (tree t NM) row p c (f NM) j;
-  ni = bare_seen (tree t NI) row p c (f NI) j;
-  nb = bare_seen (tree t NB) row p c (f NB) j;
-  ng = bare_seen (tree t NG) row p c (f NG) j;
+bare_layers : (tree : Layer → List ℕ) → ((l : Layer) (k : ℕ) → top_at (tree l) k ≡ 0) → (row : ℕ) (p : Part) (c : ℕ)
+    → seen_by tree row p bare c ≡ bare
+bare_layers tree f row p c = λ j. record {
+  nd = bare_seen (tree ND) row p c (f ND) j;
+  np = bare_seen (tree NP) row p c (f NP) j;
+  nc = bare_seen (tree NC) row p c (f NC) j;
+  nm = bare_seen (tree NM) row p c (f NM) j;
+  ni = bare_seen (tree NI) row p c (f NI) j;
+  nb = bare_seen (tree NB) row p c (f NB) j;
+  ng = bare_seen (tree NG) row p c (f NG) j;
 }
 
 bare_note : (mask : Mask) (t : Trees) → AreBare t → (n : Note) → HasKind mask n.kinds bare → (q : Part)
     → IsNoted mask t q n
 bare_note mask t f n k q = record {
-  steady = λ row c i j h. bare_layers t f row q c ∙ sym (bare_layers t f t.since q c);
-  kinds = λ c i h. rw (bare_layers t f t.since q c) k;
+  steady = λ row c i j h. bare_layers (tree t) f row q c ∙ sym (bare_layers (tree t) f t.since q c);
+  kinds = λ c i h. rw (bare_layers (tree t) f t.since q c) k;
 }
+
+pub bare_colour : (mask : Mask) → colour_of mask bare ≡ 0
+bare_colour (Only ND) = refl
+bare_colour (Only NP) = refl
+bare_colour (Only NC) = refl
+bare_colour (Only NM) = refl
+bare_colour (Only NI) = refl
+bare_colour (Only NB) = refl
+bare_colour (Only NG) = refl
+bare_colour Diffusion = refl
+bare_colour Contacts = refl
 
 -- new trees
 module _ (t : Trees) (count : ℕ) (n : Note)
-    (e : t.nodes.items ≡ replicate count (record { tops = no_tops; note = n })) where
+    (e : t.nodes.items ≡ replicate count (record { tops = no_tops; told = no_layers; note = n })) where
+  abbrev own : Node
+  own = record { tops = no_tops; told = no_layers; note = n }
+
   pub new_room : length t.nodes.items ≡ count
   new_room = ap length e ∙ length-replicate count _
 
-  node_in : (k : ℕ) → k < count → node_at t k ≡ record { tops = no_tops; note = n }
+  node_in : (k : ℕ) → k < count → node_at t k ≡ own
   node_in k h = ap (λ s. get_or s k blank) e ∙ get_or-replicate count k _ blank h
 
   node_out : (k : ℕ) → count ≤ k → node_at t k ≡ blank
   node_out k h = ap (λ s. get_or s k blank) e
       ∙ get_or_past (replicate count _) k blank
-      (omega (arith, length-replicate {A = Node} count (record { tops = no_tops; note = n })))
+      (omega (arith, length-replicate {A = Node} count (record { tops = no_tops; told = no_layers; note = n })))
 
   new_tops : (k : ℕ) → (node_at t k).tops ≡ no_tops
   new_tops k =
       elim (cases_lt k count) [ inl h ↦ ap (λ m. m.tops) (node_in k h) | inr h ↦ ap (λ m. m.tops) (node_out k h) ]
 
+  new_told : (k : ℕ) → (node_at t k).told ≡ no_layers
+  new_told k =
+      elim (cases_lt k count) [ inl h ↦ ap (λ m. m.told) (node_in k h) | inr h ↦ ap (λ m. m.told) (node_out k h) ]
+
   pub new_bare : AreBare t
   new_bare l k = node_top t l k ∙ ap (layer_top l t.further) (new_tops k) ∙ no_top l t.further
+
+  pub told_bare : (p : Part) (c : ℕ) → told t p bare c ≡ bare
+  told_bare p c = bare_layers (told_tree t)
+      (λ l k. told_top t l k ∙ ap (λ s. layer_top l t.further (set_tops s)) (new_told k) ∙ no_top l t.further) 0 p c
 
   pub new_noted : (mask : Mask) → HasKind mask n.kinds bare → (p : Part) → AreNoted mask t p
   new_noted mask k p = record {
@@ -87,6 +111,7 @@ module _ (t : Trees) (count : ℕ) (n : Note)
       | inl h ↦ subst (λ m. IsNoted mask t q m.note) (sym (node_in q.at h)) (bare_note mask t new_bare n k q)
       | inr h ↦ subst (λ m. IsNoted mask t q m.note) (sym (node_out q.at h)) (stale_note mask t q)
     ];
+    told = λ q w l. record { each = λ c i. told_bare q c ∙ sym (bare_layers (tree t) new_bare t.since q c) };
   }
 
 pub top_in : (own : Mask) (cells : ℕ) (trees : Trees) (l : Layer) (c : ℕ) → c < cells
@@ -134,3 +159,9 @@ same_cover own cells t u e = λ i. record {
   cells = cells;
   top = λ l c. if nat_lt c cells then top_of (e l i) (root cells) c else 0;
 }
+
+-- the colours of a row, by the trees
+module _ (mask : Mask) (cells : ℕ) (t : Trees) (row : ℕ) where
+  pub root_colour : (c : ℕ) → c < cells
+      → row_colour (cover mask cells t) row c ≡ part_colour mask t row (root cells) bare c
+  root_colour c h = rw (lt-ltb c cells h) refl

@@ -2,11 +2,7 @@ pub mod Nodes
 pub mod Tops
 pub mod Raising
 pub mod Covering
-pub mod Building
 pub mod Looking
-pub mod Collecting
-pub mod Going
-pub mod Found
 pub mod Sets
 pub mod Colours
 pub mod Noting

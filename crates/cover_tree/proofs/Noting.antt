@@ -1,43 +1,46 @@
 -- Notes, as the trees change.
-use Rattle.std.proofs.Common.{◌≡◌, ◌≢◌, ℕ, ◌+◌, ◌*◌, ◌/◌, ◌<◌, ◌≤◌, inl, inr, set, length, refl, sym, ◌∙◌, ap, arith}
-use Rattle.std.specs.Prelude.{nat_lt, ◌||◌}
+use Rattle.std.proofs.Common.{◌≡◌, ◌≢◌, ℕ, ◌+◌, ◌*◌, ◌/◌, ◌<◌, ◌≤◌, inl, inr, List, set, length, refl, sym, ◌∙◌, ap}
+use Rattle.std.proofs.Common.{arith}
 use Rattle.std.proofs.lemmas.Bool.{cases_lt}
 use Rattle.lam_geom.specs.declared.layer.Layer.{Layer}
-use Rattle.lam_geom.specs.declared.layer.Layer.TheVariants.{ND, NP, NC, NM, NI, NB, NG}
 use Rattle.mask_runs.specs.declared.mask.Layers.{Layers}
 use Rattle.mask_runs.specs.declared.mask.Mask.{Mask}
 use Rattle.mask_runs.specs.Colours.{bare}
+use Rattle.cover_tree.specs.declared.node.Node.{Node}
 use Rattle.cover_tree.specs.declared.note.Note.{Note}
 use Rattle.cover_tree.specs.declared.part.Part.{Part}
 use Rattle.cover_tree.specs.declared.trees.Trees.{Trees}
-use Rattle.cover_tree.specs.Parts.{left_half, right_half, top_at, InPart, Within}
+use Rattle.cover_tree.specs.Parts.{left_half, right_half, top_of, InPart, Within}
 use Rattle.cover_tree.specs.Parts.Within.{here, left, right}
 use Rattle.cover_tree.specs.Kinds.{both, HasKind}
-use Rattle.cover_tree.specs.Nodes.{stale}
-use Rattle.cover_tree.specs.Layered.{tree, node_at}
-use Rattle.cover_tree.specs.Looking.{seen, own_at}
-use Rattle.cover_tree.specs.Notes.{note_at, IsNoted, AreNoted, AreHalvesNoted, Beside, IsOnlyIn}
-use Rattle.cover_tree.proofs.Nodes.{tree_same, node_other, node_own, as_many}
-use Rattle.cover_tree.proofs.Tops.{SamePart, same_left, same_right, same_top}
-use Rattle.cover_tree.proofs.Looking.{seen_leaf, seen_left, seen_right}
+use Rattle.cover_tree.specs.Nodes.{layer_top, layers_of, set_tops, stale}
+use Rattle.cover_tree.specs.Layered.{tree, told_tree, node_at}
+use Rattle.cover_tree.specs.Looking.{seen_by, seen, told, own_by, own_at, told_at}
+use Rattle.cover_tree.specs.Notes.{note_at, IsNoted, IsTold, AreNoted, AreHalvesNoted, AreHalvesTold, Beside, IsOnlyIn}
+use Rattle.cover_tree.proofs.Nodes.{node_top, told_top, told_above, tree_same, node_other, node_own, as_many}
+use Rattle.cover_tree.proofs.Tops.{SamePart, same_top}
+use Rattle.cover_tree.proofs.Looking.{seen_leaf, seen_left, seen_right, seen_alike}
+
+pub beside_own : (p : Part) (k at : ℕ) → 0 < p.width → p.at ≡ at → Beside p k → k ≢ at
+beside_own p k at v e b f = elim b [ inl h ↦ absurd (omega arith) | inr h ↦ absurd (omega arith) ]
 
 -- the trees are the same at the part's places
 pub record SameIn (p : Part) (t u : Trees) : Type 0 where
-  pub tops : (l : Layer) → SamePart (tree t l) (tree u l) p
-  pub notes : (k : ℕ) → p.at ≤ k → k + 1 < p.at + 2 * p.width → note_at u k ≡ note_at t k
+  pub nodes : (k : ℕ) → p.at ≤ k → k + 1 < p.at + 2 * p.width → node_at u k ≡ node_at t k
+  pub further : u.further ≡ t.further
   pub since : u.since ≡ t.since
 
-in_left : (p : Part) (t u : Trees) → 2 ≤ p.width → SameIn p t u → SameIn (left_half p) t u
+pub in_left : (p : Part) (t u : Trees) → 2 ≤ p.width → SameIn p t u → SameIn (left_half p) t u
 in_left p t u h e = record {
-  tops = λ l. same_left (tree t l) (tree u l) p h (e.tops l);
-  notes = λ k i j. e.notes k (omega arith) (omega arith);
+  nodes = λ k i j. e.nodes k (omega arith) (omega arith);
+  further = e.further;
   since = e.since;
 }
 
-in_right : (p : Part) (t u : Trees) → 2 ≤ p.width → SameIn p t u → SameIn (right_half p) t u
+pub in_right : (p : Part) (t u : Trees) → 2 ≤ p.width → SameIn p t u → SameIn (right_half p) t u
 in_right p t u h e = record {
-  tops = λ l. same_right (tree t l) (tree u l) p h (e.tops l);
-  notes = λ k i j. e.notes k (omega arith) (omega arith);
+  nodes = λ k i j. e.nodes k (omega arith) (omega arith);
+  further = e.further;
   since = e.since;
 }
 
@@ -46,26 +49,44 @@ in_within q p t u v here e = (v, e)
 in_within q p t u v (left h w) e = in_within q (left_half p) t u (omega arith) w (in_left p t u h e)
 in_within q p t u v (right h w) e = in_within q (right_half p) t u (omega arith) w (in_right p t u h e)
 
-seen_same : (p : Part) (t u : Trees) → 0 < p.width → ((l : Layer) → SamePart (tree t l) (tree u l) p)
-    → (row : ℕ) (known : Layers) (c : ℕ) → seen u row p known c ≡ seen t row p known c
-seen_same p t u v e row known c = λ j. record {
-  nd = known.nd || nat_lt row (same_top (tree t ND) (tree u ND) p c v (e ND) j);
-  np = known.np || nat_lt row (same_top (tree t NP) (tree u NP) p c v (e NP) j);
-  nc = known.nc || nat_lt row (same_top (tree t NC) (tree u NC) p c v (e NC) j);
-  nm = known.nm || nat_lt row (same_top (tree t NM) (tree u NM) p c v (e NM) j);
-  ni = known.ni || nat_lt row (same_top (tree t NI) (tree u NI) p c v (e NI) j);
-  nb = known.nb || nat_lt row (same_top (tree t NB) (tree u NB) p c v (e NB) j);
-  ng = known.ng || nat_lt row (same_top (tree t NG) (tree u NG) p c v (e NG) j);
+pub same_tops : (p : Part) (t u : Trees) → SameIn p t u → (l : Layer) → SamePart (tree t l) (tree u l) p
+same_tops p t u e l = record {
+  same = λ k i j. node_top u l k ∙ (λ x. layer_top l (e.further x) (e.nodes k i j x).tops) ∙ sym (node_top t l k);
 }
 
-pub noted_same : (mask : Mask) (p : Part) (t u : Trees) (n : Note) → 0 < p.width
-    → ((l : Layer) → SamePart (tree t l) (tree u l) p) → u.since ≡ t.since
+same_told : (p : Part) (t u : Trees) → SameIn p t u → (l : Layer) → SamePart (told_tree t l) (told_tree u l) p
+same_told p t u e l = record {
+  same = λ k i j. told_top u l k ∙ (λ x. layer_top l (e.further x) (set_tops (e.nodes k i j x).told))
+      ∙ sym (told_top t l k);
+}
+
+part_same : (a b : Layer → List ℕ) (p : Part) → 0 < p.width → ((l : Layer) → SamePart (a l) (b l) p) → (row : ℕ)
+    (known : Layers) (c : ℕ)
+    → seen_by b row p known c ≡ seen_by a row p known c
+part_same a b p v e row known c = seen_alike a b p (λ l i c. same_top (a l) (b l) p c v (e l) i) row known c
+
+-- and have the same layers over its cells
+pub seen_same : (p : Part) (t u : Trees) → 0 < p.width → SameIn p t u → (row : ℕ) (known : Layers) (c : ℕ)
+    → seen u row p known c ≡ seen t row p known c
+seen_same p t u v e row known c = part_same (tree t) (tree u) p v (same_tops p t u e) row known c
+
+pub told_same : (p : Part) (t u : Trees) → 0 < p.width → SameIn p t u → (known : Layers) (c : ℕ)
+    → told u p known c ≡ told t p known c
+told_same p t u v e known c = part_same (told_tree t) (told_tree u) p v (same_told p t u e) 0 known c
+
+noted_alike : (mask : Mask) (p : Part) (t u : Trees) (n : Note)
+    → ((row c : ℕ) → seen u row p bare c ≡ seen t row p bare c) → u.since ≡ t.since
     → IsNoted mask t p n → IsNoted mask u p n
-noted_same mask p t u n v e f h = record {
+noted_alike mask p t u n e f h = record {
   steady =
-      λ row c i j k. rw (f, seen_same p t u v e row bare c, seen_same p t u v e t.since bare c)
-      (h.steady row c (omega (arith, f)) j k);
-  kinds = λ c j k. rw (f, seen_same p t u v e t.since bare c) (h.kinds c (omega (arith, f)) k);
+      λ row c i j k. rw (f, e row c, e t.since c) (h.steady row c (omega (arith, f)) j k);
+  kinds = λ c j k. rw (f, e t.since c) (h.kinds c (omega (arith, f)) k);
+}
+
+pub is_told_same : (p : Part) (t u : Trees) → 0 < p.width → SameIn p t u → IsTold t p → IsTold u p
+is_told_same p t u v e h = record {
+  each = λ c i. told_same p t u v e bare c ∙ h.each c i ∙ sym (seen_same p t u v e t.since bare c)
+      ∙ ap (λ r. seen u r p bare c) (sym e.since);
 }
 
 pub are_noted_same : (mask : Mask) (p : Part) (t u : Trees) → 0 < p.width → SameIn p t u → AreNoted mask t p
@@ -74,65 +95,111 @@ are_noted_same mask p t u v e h = record {
   each = λ q w.
       let m = in_within q p t u v w e in
       let n = m.0 in
-      let o = m.1 in
-      rw (o.notes q.at (omega arith) (omega arith))
-      (noted_same mask q t u (note_at t q.at) n o.tops o.since (h.each q w));
+      let o : SameIn q t u = m.1 in
+      let e : note_at u q.at ≡ note_at t q.at = ap (λ m. m.note) (o.nodes q.at (omega arith) (omega arith)) in
+      rw e
+      (noted_alike mask q t u (note_at t q.at) (λ row c. seen_same q t u n o row bare c) o.since (h.each q w));
+  told = λ q w l.
+      let m = in_within q p t u v w e in
+      let n = m.0 in
+      let o : SameIn q t u = m.1 in
+      let e : note_at u q.at ≡ note_at t q.at = ap (λ m. m.note) (o.nodes q.at (omega arith) (omega arith)) in
+      is_told_same q t u n o (h.told q w (rw (e, o.since) at l));
 }
 
 pub noted_left : (mask : Mask) (t : Trees) (p : Part) → 2 ≤ p.width → AreNoted mask t p → AreNoted mask t (left_half p)
-noted_left mask t p h k = record { each = λ q w. k.each q (left h w) }
+noted_left mask t p h k = record { each = λ q w. k.each q (left h w); told = λ q w. k.told q (left h w) }
 
 pub noted_right : (mask : Mask) (t : Trees) (p : Part) → 2 ≤ p.width → AreNoted mask t p
     → AreNoted mask t (right_half p)
-noted_right mask t p h k = record { each = λ q w. k.each q (right h w) }
+noted_right mask t p h k = record { each = λ q w. k.each q (right h w); told = λ q w. k.told q (right h w) }
 
-whole : (mask : Mask) (t : Trees) (p q : Part) → IsNoted mask t p (note_at t p.at) → AreHalvesNoted mask t p
-    → Within q p
-    → IsNoted mask t q (note_at t q.at)
-whole mask t p q a h here = a
-whole mask t p q a h (left i w) = (h.left i).each q w
-whole mask t p q a h (right i w) = (h.right i).each q w
+module _ (mask : Mask) (t : Trees) (p : Part) (a : IsNoted mask t p (note_at t p.at))
+    (b : t.since < (note_at t p.at).until → IsTold t p) (h : AreHalvesNoted mask t p) where
+  whole : (q : Part) → Within q p → IsNoted mask t q (note_at t q.at)
+  whole q here = a
+  whole q (left i w) = (h.left i).each q w
+  whole q (right i w) = (h.right i).each q w
 
-pub noted_whole : (mask : Mask) (t : Trees) (p : Part) → IsNoted mask t p (note_at t p.at) → AreHalvesNoted mask t p
-    → AreNoted mask t p
-noted_whole mask t p a h = record { each = λ q w. whole mask t p q a h w }
+  whole_told : (q : Part) → Within q p → t.since < (note_at t q.at).until → IsTold t q
+  whole_told q here = b
+  whole_told q (left i w) = (h.left i).told q w
+  whole_told q (right i w) = (h.right i).told q w
 
--- a part is noted anew over its halves
-module _ (t u : Trees) (p : Part) (n : Note) (v : 0 < p.width) (i : p.at < length t.nodes.items)
-    (nodes : u.nodes.items ≡ set t.nodes.items p.at (record { tops = (node_at t p.at).tops; note = n }))
-    (further : u.further ≡ t.further)
-    (since : u.since ≡ t.since) where
-  other_note : (k : ℕ) → k ≢ p.at → note_at u k ≡ note_at t k
-  other_note k f = ap (λ m. m.note) (node_other t u p.at _ nodes further k f)
+  pub noted_whole : AreNoted mask t p
+  noted_whole = record { each = whole; told = whole_told }
 
-  own_note : note_at u p.at ≡ n
-  own_note = ap (λ m. m.note) (node_own t u p.at _ nodes further i)
+-- a part is told, by its own node and its halves
+pub told_whole : (t : Trees) (p : Part) → told_at t p.at ≡ own_at t t.since p.at → AreHalvesTold t p → IsTold t p
+told_whole t p e a = record {
+  each = λ c i. let i0 = i.from in let i1 = i.to in elim (cases_lt p.width 2) [
+    | inl h ↦ seen_leaf (told_tree t) p 0 bare c h ∙ e ∙ sym (seen_leaf (tree t) p t.since bare c h)
+    | inr h ↦ elim (cases_lt c (p.base + p.width / 2)) [
+      | inl w ↦
+          let o : InPart (left_half p) c = record { from = omega arith; to = omega arith } in
+          seen_left (told_tree t) p 0 bare c h w
+          ∙ (λ x. both (e x) ((a.left h).each c o x)) ∙ sym (seen_left (tree t) p t.since bare c h w)
+      | inr w ↦
+          let o : InPart (right_half p) c = record { from = omega arith; to = omega arith } in
+          seen_right (told_tree t) p 0 bare c h w
+          ∙ (λ x. both (e x) ((a.right h).each c o x)) ∙ sym (seen_right (tree t) p t.since bare c h w)
+    ]
+  ];
+}
+
+-- a part has another node with the same tops
+module _ (t u : Trees) (p : Part) (n : Node) (v : 0 < p.width) (i : p.at < length t.nodes.items)
+    (nodes : u.nodes.items ≡ set t.nodes.items p.at n)
+    (tops : n.tops ≡ (node_at t p.at).tops) (further : u.further ≡ t.further) (since : u.since ≡ t.since) where
+  own_node : node_at u p.at ≡ n
+  own_node = node_own t u p.at n nodes further i
+
+  own_note : note_at u p.at ≡ n.note
+  own_note = ap (λ m. m.note) own_node
 
   pub anew_tops : (l : Layer) → tree u l ≡ tree t l
-  anew_tops l = tree_same t u p.at _ nodes further l refl
+  anew_tops l = tree_same t u p.at n nodes further l (ap (λ m. layer_top l t.further m) tops)
 
-  same_tops : (q : Part) (l : Layer) → SamePart (tree t l) (tree u l) q
-  same_tops q l = record { same = λ k a b. ap (λ s. top_at s k) (anew_tops l) }
+  anew_seen : (q : Part) (row : ℕ) (known : Layers) (c : ℕ) → seen u row q known c ≡ seen t row q known c
+  anew_seen q row known c = seen_alike (tree t) (tree u) q (λ l. ap (λ s. top_of s q) (anew_tops l)) row known c
 
   same_behind : (q : Part) → p.at < q.at → SameIn q t u
-  same_behind q h = record { tops = same_tops q; notes = λ k a b. other_note k (omega arith); since = since }
+  same_behind q h = record {
+    nodes = λ k a b. node_other t u p.at n nodes further k (omega arith);
+    further = further;
+    since = since;
+  }
 
-  pub noted_anew : (mask : Mask) → IsNoted mask t p n → AreHalvesNoted mask t p → AreNoted mask u p
-  noted_anew mask h a = noted_whole mask u p (rw own_note (noted_same mask p t u n v (same_tops p) since h)) (record {
+  halves_anew : (mask : Mask) → AreHalvesNoted mask t p → AreHalvesNoted mask u p
+  halves_anew mask a = record {
     left = λ w. are_noted_same mask (left_half p) t u (omega arith) (same_behind (left_half p) (omega arith))
         (a.left w);
     right = λ w. are_noted_same mask (right_half p) t u (omega arith) (same_behind (right_half p) (omega arith))
         (a.right w);
-  })
+  }
 
-  beside_other : (k : ℕ) → Beside p k → k ≢ p.at
-  beside_other k b e = elim b [ inl h ↦ absurd (omega arith) | inr h ↦ absurd (omega arith) ]
+  -- it is told where it has the layers of its own that cover it in the row
+  pub told_anew : layers_of t.further n.told ≡ own_at t t.since p.at → AreHalvesTold t p → IsTold u p
+  told_anew e a = told_whole u p
+      (told_above u p.at ∙ (λ x. layers_of (further x) (own_node x).told) ∙ e
+      ∙ (λ x. own_by (λ l. sym (anew_tops l) x) (sym since x) p.at))
+      (record {
+        left = λ w. is_told_same (left_half p) t u (omega arith) (same_behind (left_half p) (omega arith)) (a.left w);
+        right = λ w. is_told_same (right_half p) t u (omega arith) (same_behind (right_half p) (omega arith))
+            (a.right w);
+      })
+
+  -- and noted anew over its halves
+  pub noted_anew : (mask : Mask) → IsNoted mask t p n.note → (t.since < n.note.until → IsTold u p)
+      → AreHalvesNoted mask t p → AreNoted mask u p
+  noted_anew mask h b a = noted_whole mask u p
+      (rw own_note (noted_alike mask p t u n.note (λ row c. anew_seen p row bare c) since h))
+      (λ l. b (rw (own_note, since) at l)) (halves_anew mask a)
 
   pub anew_only : IsOnlyIn p t u
   anew_only = record {
-    tops = λ l k b. ap (λ s. top_at s k) (anew_tops l);
-    notes = λ k b. other_note k (beside_other k b);
-    as_many = as_many t u p.at _ nodes further;
+    nodes = λ k b. node_other t u p.at n nodes further k (beside_own p k p.at v refl b);
+    as_many = as_many t u p.at n nodes further;
     further = further;
     since = since;
   }
@@ -140,14 +207,6 @@ module _ (t u : Trees) (p : Part) (n : Note) (v : 0 < p.width) (i : p.at < lengt
 -- a note of no row is true
 pub stale_note : (mask : Mask) (t : Trees) (q : Part) → IsNoted mask t q stale
 stale_note mask t q = record { steady = λ row c i j h. absurd (omega arith); kinds = λ c i h. absurd (omega arith) }
-
--- what a note says of the rows before its end
-module _ (mask : Mask) (t : Trees) (p : Part) (n : Note) (h : IsNoted mask t p n) (row : ℕ) (i : t.since ≤ row) where
-  pub steady_on : row + 1 < n.until → (c : ℕ) → InPart p c → seen t row p bare c ≡ seen t (row + 1) p bare c
-  steady_on j c k = h.steady row c i (omega arith) k ∙ sym (h.steady (row + 1) c (omega arith) j k)
-
-  pub noted_kinds : row < n.until → (c : ℕ) → InPart p c → HasKind mask n.kinds (seen t row p bare c)
-  noted_kinds j c k = rw (h.steady row c i j k) (h.kinds c (omega arith) k)
 
 -- the notes hold from a later row on
 pub later : (mask : Mask) (t : Trees) (p : Part) (row : ℕ) → t.since ≤ row → AreNoted mask t p
@@ -157,6 +216,9 @@ later mask t p row l h = record {
     steady = λ r c i j k. n.steady r c (omega arith) j k ∙ sym (n.steady row c l (omega arith) k);
     kinds = λ c i k. rw (n.steady row c l i k) (n.kinds c (omega arith) k);
   };
+  told = λ q w i. record {
+    each = λ c k. (h.told q w (omega arith)).each c k ∙ sym ((h.each q w).steady row c l i k);
+  };
 }
 
 -- a note by the nodes of the part alone, and by the notes of its halves
@@ -164,8 +226,8 @@ pub leaf_noted : (mask : Mask) (t : Trees) (p : Part) (n : Note) → p.width < 2
     → ((row : ℕ) → t.since ≤ row → row < n.until → own_at t row p.at ≡ own_at t t.since p.at)
     → HasKind mask n.kinds (own_at t t.since p.at) → IsNoted mask t p n
 leaf_noted mask t p n h s k = record {
-  steady = λ row c i j m. seen_leaf t p row bare c h ∙ s row i j ∙ sym (seen_leaf t p t.since bare c h);
-  kinds = λ c j m. rw (seen_leaf t p t.since bare c h) k;
+  steady = λ row c i j m. seen_leaf (tree t) p row bare c h ∙ s row i j ∙ sym (seen_leaf (tree t) p t.since bare c h);
+  kinds = λ c j m. rw (seen_leaf (tree t) p t.since bare c h) k;
 }
 
 pub halves_note : (mask : Mask) (t : Trees) (p : Part) (n l r : Note) → 2 ≤ p.width
@@ -179,19 +241,23 @@ halves_note mask t p n l r h s a b i j k m = record {
   steady = λ row c x y z. let z0 = z.from in let z1 = z.to in elim (cases_lt c (p.base + p.width / 2)) [
     | inl w ↦
         let o : InPart (left_half p) c = record { from = omega arith; to = omega arith } in
-        seen_left t p row bare c h w ∙ ap (λ own. both own (seen t row (left_half p) bare c)) (s row x y)
-        ∙ ap (both (own_at t t.since p.at)) (a.steady row c x (omega arith) o) ∙ sym (seen_left t p t.since bare c h w)
+        seen_left (tree t) p row bare c h w ∙ ap (λ own. both own (seen t row (left_half p) bare c)) (s row x y)
+        ∙ ap (both (own_at t t.since p.at)) (a.steady row c x (omega arith) o)
+        ∙ sym (seen_left (tree t) p t.since bare c h w)
     | inr w ↦
         let o : InPart (right_half p) c = record { from = omega arith; to = omega arith } in
-        seen_right t p row bare c h w ∙ ap (λ own. both own (seen t row (right_half p) bare c)) (s row x y)
-        ∙ ap (both (own_at t t.since p.at)) (b.steady row c x (omega arith) o) ∙ sym (seen_right t p t.since bare c h w)
+        seen_right (tree t) p row bare c h w ∙ ap (λ own. both own (seen t row (right_half p) bare c)) (s row x y)
+        ∙ ap (both (own_at t t.since p.at)) (b.steady row c x (omega arith) o)
+        ∙ sym (seen_right (tree t) p t.since bare c h w)
   ];
   kinds = λ c y z. let z0 = z.from in let z1 = z.to in elim (cases_lt c (p.base + p.width / 2)) [
     | inl w ↦
         let o : InPart (left_half p) c = record { from = omega arith; to = omega arith } in
-        rw (seen_left t p t.since bare c h w) (k (seen t t.since (left_half p) bare c) (a.kinds c (omega arith) o))
+        rw (seen_left (tree t) p t.since bare c h w)
+        (k (seen t t.since (left_half p) bare c) (a.kinds c (omega arith) o))
     | inr w ↦
         let o : InPart (right_half p) c = record { from = omega arith; to = omega arith } in
-        rw (seen_right t p t.since bare c h w) (m (seen t t.since (right_half p) bare c) (b.kinds c (omega arith) o))
+        rw (seen_right (tree t) p t.since bare c h w)
+        (m (seen t t.since (right_half p) bare c) (b.kinds c (omega arith) o))
   ];
 }

@@ -1,5 +1,6 @@
 -- What a part covers after its halves, or it as a whole, are raised.
-use Rattle.std.proofs.Common.{◌≡◌, ◌≢◌, ℕ, ◌+◌, ◌-◌, ◌/◌, ◌<◌, ◌≤◌, inl, inr, List, set, length, sym, ◌∙◌, max, arith}
+use Rattle.std.proofs.Common.{◌≡◌, ◌≢◌, ℕ, ◌+◌, ◌-◌, ◌/◌, ◌<◌, ◌≤◌, inl, inr, List, set, length, refl, sym, ◌∙◌}
+use Rattle.std.proofs.Common.{max, arith}
 use Rattle.std.proofs.lemmas.Bool.{cases_lt}
 use Rattle.std.proofs.lemmas.List.{get_or-set_same, get_or-set_other}
 use Rattle.lam_geom.specs.declared.layer.Layer.{Layer}
@@ -10,10 +11,11 @@ use Rattle.cover_tree.specs.declared.trees.Trees.{Trees}
 use Rattle.cover_tree.specs.Parts.{left_half, right_half, top_at, top_of, IsPartRaised, clamped}
 use Rattle.cover_tree.specs.Nodes.{layer_top}
 use Rattle.cover_tree.specs.Layered.{node_at, tree}
-use Rattle.cover_tree.specs.Notes.{note_at, AreNoted, AreHalvesNoted, Beside, IsOnlyIn}
+use Rattle.cover_tree.specs.Notes.{AreNoted, AreHalvesNoted, AreHalvesTold, IsTold, Beside, IsOnlyIn}
 use Rattle.cover_tree.proofs.Nodes.{node_top}
 use Rattle.cover_tree.proofs.Tops.{top_leaf, top_left, top_right, SamePart, same_top}
-use Rattle.cover_tree.proofs.Noting.{SameIn, noted_left, noted_right, are_noted_same}
+use Rattle.cover_tree.proofs.Noting.{SameIn, same_tops, beside_own, is_told_same, noted_left, noted_right}
+use Rattle.cover_tree.proofs.Noting.{are_noted_same}
 
 top_same : (s : List ℕ) (k n : ℕ) → k < length s → top_at (set s k n) k ≡ n
 top_same s k n h = get_or-set_same s k n 0 h
@@ -59,28 +61,20 @@ raised_all s p span row v i f = record {
       elim k [ inl l ↦ absurd (omega arith) | inr l ↦ absurd (omega arith) ];
 }
 
-beside_own : (p : Part) (k at : ℕ) → 0 < p.width → p.at ≡ at → Beside p k → k ≢ at
-beside_own p k at v e b f = elim b [ inl h ↦ absurd (omega arith) | inr h ↦ absurd (omega arith) ]
-
--- trees of which one has another node at one place, with the same note
+-- trees of which one has another node at one place
 module _ (t u : Trees) (at : ℕ) (beside : (k : ℕ) → k ≢ at → node_at u k ≡ node_at t k)
-    (notes : (k : ℕ) → note_at u k ≡ note_at t k)
     (many : length u.nodes.items ≡ length t.nodes.items) (further : u.further ≡ t.further)
     (since : u.since ≡ t.since) where
-  lifted_other : (l : Layer) (k : ℕ) → k ≢ at → top_at (tree u l) k ≡ top_at (tree t l) k
-  lifted_other l k n = node_top u l k ∙ (λ i. layer_top l (further i) (beside k n i).tops) ∙ sym (node_top t l k)
-
-  pub lifted_in : (p : Part) → at < p.at → SameIn p t u
+  lifted_in : (p : Part) → at < p.at → SameIn p t u
   lifted_in p h = record {
-    tops = λ l. record { same = λ k i j. lifted_other l k (omega arith) };
-    notes = λ k i j. notes k;
+    nodes = λ k i j. beside k (omega arith);
+    further = further;
     since = since;
   }
 
   pub lifted_only : (p : Part) → p.at ≡ at → 0 < p.width → IsOnlyIn p t u
   lifted_only p h v = record {
-    tops = λ l k b. lifted_other l k (beside_own p k at v h b);
-    notes = λ k b. notes k;
+    nodes = λ k b. beside k (beside_own p k at v h b);
     as_many = many;
     further = further;
     since = since;
@@ -101,17 +95,17 @@ beside_left p k h b = elim b [ inl i ↦ inl (omega arith) | inr i ↦ inr (omeg
 beside_right : (p : Part) (k : ℕ) → 2 ≤ p.width → Beside p k → Beside (right_half p) k
 beside_right p k h b = elim b [ inl i ↦ inl (omega arith) | inr i ↦ inr (omega arith) ]
 
-right_was : (t u : Trees) (p : Part) → 2 ≤ p.width → IsOnlyIn (left_half p) t u → SameIn (right_half p) t u
+pub right_was : (t u : Trees) (p : Part) → 2 ≤ p.width → IsOnlyIn (left_half p) t u → SameIn (right_half p) t u
 right_was t u p h o = record {
-  tops = λ l. record { same = λ k i j. o.tops l k (inr (omega arith)) };
-  notes = λ k i j. o.notes k (inr (omega arith));
+  nodes = λ k i j. o.nodes k (inr (omega arith));
+  further = o.further;
   since = o.since;
 }
 
-left_was : (t u : Trees) (p : Part) → 2 ≤ p.width → IsOnlyIn (right_half p) t u → SameIn (left_half p) t u
+pub left_was : (t u : Trees) (p : Part) → 2 ≤ p.width → IsOnlyIn (right_half p) t u → SameIn (left_half p) t u
 left_was t u p h o = record {
-  tops = λ l. record { same = λ k i j. o.tops l k (inl (omega arith)) };
-  notes = λ k i j. o.notes k (inl (omega arith));
+  nodes = λ k i j. o.nodes k (inl (omega arith));
+  further = o.further;
   since = o.since;
 }
 
@@ -126,10 +120,22 @@ pub both_noted : (t u : Trees) (p : Part) → 2 ≤ p.width → IsOnlyIn (right_
 both_noted t u p h o mask a b =
     record { left = λ _. are_noted_same mask (left_half p) t u (omega arith) (left_was t u p h o) a; right = λ _. b }
 
+-- and both are told
+pub both_told : (t u : Trees) (p : Part) → 2 ≤ p.width → IsOnlyIn (right_half p) t u → IsTold t (left_half p)
+    → IsTold u (right_half p) → AreHalvesTold u p
+both_told t u p h o a b =
+    record { left = λ _. is_told_same (left_half p) t u (omega arith) (left_was t u p h o) a; right = λ _. b }
+
+top_beside : (t u : Trees) (p : Part) → IsOnlyIn p t u → (l : Layer) (k : ℕ) → Beside p k
+    → top_at (tree u l) k ≡ top_at (tree t l) k
+top_beside t u p o l k b =
+    node_top u l k ∙ (λ x. layer_top l (o.further x) (o.nodes k b x).tops) ∙ sym (node_top t l k)
+
 module _ (old one two : Trees) (p : Part) (h : 2 ≤ p.width)
     (lo : IsOnlyIn (left_half p) old one) (ro : IsOnlyIn (right_half p) one two) where
   own_top : (l : Layer) → top_at (tree two l) p.at ≡ top_at (tree old l) p.at
-  own_top l = ro.tops l p.at (inl (omega arith)) ∙ lo.tops l p.at (inl (omega arith))
+  own_top l = top_beside one two (right_half p) ro l p.at (inl (omega arith))
+      ∙ top_beside old one (left_half p) lo l p.at (inl (omega arith))
 
   pub both_raised : (layer : Layer) (span : Span) (row : ℕ)
       → IsPartRaised (tree old layer) (tree one layer) (left_half p) span row
@@ -139,10 +145,10 @@ module _ (old one two : Trees) (p : Part) (h : 2 ≤ p.width)
       let o = own_top layer in
       let left_top =
       λ (c : ℕ). same_top (tree one layer) (tree two layer) (left_half p) c (omega arith)
-      ((left_was one two p h ro).tops layer) in
+      (same_tops (left_half p) one two (left_was one two p h ro) layer) in
       let right_top =
       λ (c : ℕ). same_top (tree old layer) (tree one layer) (right_half p) c (omega arith)
-      ((right_was old one p h lo).tops layer) in
+      (same_tops (right_half p) old one (right_was old one p h lo) layer) in
       record {
         inside = λ c i f g. let i0 = i.from in let i1 = i.to in elim (cases_lt c (p.base + p.width / 2)) [
           | inl k ↦
@@ -176,8 +182,7 @@ module _ (old one two : Trees) (p : Part) (h : 2 ≤ p.width)
 
   pub both_only : (new : Trees) → IsOnlyIn p two new → IsOnlyIn p old new
   both_only new n = record {
-    tops = λ l k b. n.tops l k b ∙ ro.tops l k (beside_right p k h b) ∙ lo.tops l k (beside_left p k h b);
-    notes = λ k b. n.notes k b ∙ ro.notes k (beside_right p k h b) ∙ lo.notes k (beside_left p k h b);
+    nodes = λ k b. n.nodes k b ∙ ro.nodes k (beside_right p k h b) ∙ lo.nodes k (beside_left p k h b);
     as_many = n.as_many ∙ ro.as_many ∙ lo.as_many;
     further = n.further ∙ ro.further ∙ lo.further;
     since = n.since ∙ ro.since ∙ lo.since;
@@ -186,9 +191,12 @@ module _ (old one two : Trees) (p : Part) (h : 2 ≤ p.width)
 -- a change in the same part in turn
 pub only_in_turn : (p : Part) (old one new : Trees) → IsOnlyIn p old one → IsOnlyIn p one new → IsOnlyIn p old new
 only_in_turn p old one new a b = record {
-  tops = λ l k i. b.tops l k i ∙ a.tops l k i;
-  notes = λ k i. b.notes k i ∙ a.notes k i;
+  nodes = λ k i. b.nodes k i ∙ a.nodes k i;
   as_many = b.as_many ∙ a.as_many;
   further = b.further ∙ a.further;
   since = b.since ∙ a.since;
 }
+
+-- no change
+pub only_none : (p : Part) (t : Trees) → IsOnlyIn p t t
+only_none p t = record { nodes = λ k b. refl; as_many = refl; further = refl; since = refl }

@@ -2,7 +2,7 @@
 use Rattle.std.proofs.Common.{◌≡◌, ◌≢◌, ℕ, ◌+◌, ◌*◌, ◌/◌, ◌%◌, ◌^◌, ◌<◌, ◌≤◌, ◌⊎◌, ◌↔◌, inl, inr, Bool, true, false}
 use Rattle.std.proofs.Common.{ltb, refl, sym, ◌∙◌, ap, subst, arith, ◌-◌, min, zero, suc, w32, if◌then◌else◌, bit_and}
 use Rattle.std.proofs.Common.{bit_or}
-use Rattle.std.specs.Prelude.{◌||◌, ◌&&◌, ◌==◌}
+use Rattle.std.specs.Prelude.{◌||◌, ◌&&◌, ◌==◌, nat_lt}
 use Rattle.std.specs.Int.{bit_at, bit_not}
 use Rattle.std.proofs.lemmas.Bool.{cases_eq, cases_lt, and_parts, eqb-true, ltb-true, agree_below_at}
 use Rattle.std.proofs.lemmas.Nat.Bits.{bit_at_and, bit_at_or, bit_at-lt, bit_at-zero, bit_at-pow_other, bit_at_above}
@@ -15,6 +15,8 @@ use Rattle.mask_runs.specs.declared.mask.Mask.{Mask}
 use Rattle.mask_runs.specs.declared.mask.Mask.TheVariants.{Only, Diffusion, Contacts}
 use Rattle.mask_runs.specs.Colours.{has}
 use Rattle.cover_tree.specs.declared.kinds.Kinds.{Kinds}
+use Rattle.cover_tree.specs.declared.node.Tops.{Tops}
+use Rattle.cover_tree.specs.Nodes.{above, keeps, layers_of}
 use Rattle.cover_tree.specs.Kinds.{bit, both, further, index, raised, HasKind, IsWith, IsBeside, Share}
 
 both_bits : {n : ℕ} → n ≡ 1 → n ≡ 0 → ⊥
@@ -385,3 +387,44 @@ at_kinds mask kinds P small h i e = elim (cases_lt i 32) [
   | inl l ↦ let f = index-set_at mask i l in subst P f (h (set_at i) (record { set = ap (bit_at kinds.bits) f ∙ e }))
   | inr l ↦ absurd (both_bits e (bit_at_above kinds.bits 32 i small l))
 ]
+
+-- the layers of a set, by its digits
+above_digit : (b : Bool) (n : ℕ) → n ≡ bit b → nat_lt 0 n ≡ b
+above_digit true n e = rw e refl
+above_digit false n e = rw e refl
+
+digit_nd : (a b c d e : Bool) → place a b c d e % 2 ≡ bit a
+digit_nd = same_for_five (λ a b c d e. place a b c d e % 2) (λ a b c d e. bit a) refl
+
+digit_np : (a b c d e : Bool) → place a b c d e / 2 % 2 ≡ bit b
+digit_np = same_for_five (λ a b c d e. place a b c d e / 2 % 2) (λ a b c d e. bit b) refl
+
+digit_nb : (a b c d e : Bool) → place a b c d e / 4 % 2 ≡ bit c
+digit_nb = same_for_five (λ a b c d e. place a b c d e / 4 % 2) (λ a b c d e. bit c) refl
+
+digit_further : (a b c d e : Bool) → place a b c d e / 8 % 2 ≡ bit d
+digit_further = same_for_five (λ a b c d e. place a b c d e / 8 % 2) (λ a b c d e. bit d) refl
+
+digit_nm : (a b c d e : Bool) → place a b c d e / 16 % 2 ≡ bit e
+digit_nm = same_for_five (λ a b c d e. place a b c d e / 16 % 2) (λ a b c d e. bit e) refl
+
+pub set_layers : (f : Layer) (t : Tops) (row bits : ℕ)
+    → bits
+    ≡ place (nat_lt row t.nd) (nat_lt row t.np) (nat_lt row t.nb) (nat_lt row t.further) (nat_lt row t.nm)
+    → layers_of f (record { bits = bits }) ≡ above f t row
+set_layers f t row bits g =
+    let nd = nat_lt row t.nd in
+    let np = nat_lt row t.np in
+    let nb = nat_lt row t.nb in
+    let own = nat_lt row t.further in
+    let nm = nat_lt row t.nm in
+    let other = above_digit own (bits / 8 % 2) (ap (λ n. n / 8 % 2) g ∙ digit_further nd np nb own nm) in
+    λ i. record {
+      nd = above_digit nd (bits % 2) (ap (λ n. n % 2) g ∙ digit_nd nd np nb own nm) i;
+      np = above_digit np (bits / 2 % 2) (ap (λ n. n / 2 % 2) g ∙ digit_np nd np nb own nm) i;
+      nc = keeps NC f && other i;
+      nm = above_digit nm (bits / 16 % 2) (ap (λ n. n / 16 % 2) g ∙ digit_nm nd np nb own nm) i;
+      ni = keeps NI f && other i;
+      nb = above_digit nb (bits / 4 % 2) (ap (λ n. n / 4 % 2) g ∙ digit_nb nd np nb own nm) i;
+      ng = keeps NG f && other i;
+    }

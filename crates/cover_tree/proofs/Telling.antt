@@ -1,192 +1,182 @@
--- Stretches, as cells are told to the right.
-use Rattle.std.proofs.Common.{◌≡◌, ◌≢◌, ℕ, ◌+◌, ◌<◌, ◌≤◌, Bool, true, false, inl, inr, List, [], ◌∷◌, ◌++◌, refl, sym}
-use Rattle.std.proofs.Common.{◌∙◌, ap, arith}
-use Rattle.std.specs.Prelude.{◌&&◌, All, nat_lt}
-use Rattle.std.proofs.lemmas.Bool.{cases_lt, lt-ltb, le-ltb, ltb-true, and_parts, false≢true}
-use Rattle.std.proofs.lemmas.List.{append_assoc, append-nil}
+-- Pieces, as cells are told to the right.
+use Rattle.std.proofs.Common.{◌≡◌, ◌≢◌, ℕ, ◌+◌, ◌<◌, ◌≤◌, inl, inr, List, [], ◌∷◌, ◌++◌, sym, ◌∙◌, subst, arith}
+use Rattle.std.specs.Prelude.{Result, Ok, IfOk}
+use Rattle.std.proofs.lemmas.Bool.{cases_lt, lt-ltb, le-ltb}
+use Rattle.std.proofs.lemmas.Result.{IfOk-weaker}
 use Rattle.std.proofs.lemmas.List.Elements.{All-push, Contains-push, Contains-append_left}
 use Rattle.std.proofs.lemmas.List.Quantifiers.{all_pairs_push}
-use Rattle.cover_tree.specs.declared.span.Span.{Span}
-use Rattle.cover_tree.specs.Telling.{IsTold}
-use Rattle.cover_tree.specs.Changing.{IsTelling, Tells, with_last}
+use Rattle.mp_base.specs.declared.refusal.NoMemory.{NoMemory}
+use Rattle.mask_runs.specs.declared.run.Run.{Run}
+use Rattle.cover_tree.specs.declared.part.Part.{Part}
+use Rattle.cover_tree.specs.Changes.{AreChanges}
+use Rattle.cover_tree.specs.Changing.{IsTelling, AreLike, Tells, Keeps, Turns, with_last}
 
--- the cells before `stop` that are so are told
-pub record IsClosed (is : ℕ → Bool) (base told : List Span) (stop : ℕ) : Type 0 where
-  pub before : IsTold base told (λ c. (c < stop) × (is c ≡ true))
-  pub apart : All (λ s. s.to < stop) before.more
-
-module _ (is : ℕ → Bool) (base told : List Span) (last : Span) (end stop : ℕ)
-    (b : IsTelling is base told last end) (o : last.to < stop)
-    (n : (c : ℕ) → end ≤ c → c < stop → is c ≡ false) where
-  none_after : (c : ℕ) → last.to ≤ c → c < stop → is c ≡ false
-  none_after c h k = elim (cases_lt c end) [ inl m ↦ b.none c h m | inr m ↦ n c m k ]
-
-  more : List Span
-  more = b.before.more
-
-  closed_empty : last.to ≤ last.from → IsClosed is base told stop
-  closed_empty e = let f = b.order in record {
-    before = record {
-      more = b.before.more;
-      behind = b.before.behind;
-      added = record {
-        wide = b.before.added.wide;
-        each = λ k d h c i j. let x = b.before.added.each k d h c i j in let x0 = x.0 in (omega arith, x.1);
-        all = λ c p. elim (cases_lt c last.from) [
-          | inl h ↦ b.before.added.all c (h, p.1)
-          | inr h ↦ absurd (false≢true (sym (none_after c (omega arith) p.0) ∙ p.1))
-        ];
-        apart = b.before.added.apart;
-      };
-    };
-    apart = λ k d h. let x = b.apart k d h in omega arith;
+module _ (before after : ℕ → ℕ) (pieces : List Run) (last : Run) (end : ℕ)
+    (b : IsTelling before after pieces last end) where
+  closed_empty : last.right ≤ last.left → AreChanges before after end pieces
+  closed_empty e = let o = b.order in let w = b.within in record {
+    wide = b.complete.wide;
+    within = λ k d h. let x = b.complete.within k d h in omega arith;
+    each = b.complete.each;
+    other = b.complete.other;
+    all = λ c h n. elim (cases_lt c last.left) [
+      | inl m ↦ b.complete.all c m n
+      | inr m ↦ absurd (n (b.rest c (omega arith) h))
+    ];
+    ascending = b.complete.ascending;
   }
 
-  closed_some : last.from < last.to → IsClosed is base (told ++ last ∷ []) stop
-  closed_some e = record {
-    before = record {
-      more = b.before.more ++ last ∷ [];
-      behind = ap (λ l. l ++ last ∷ []) b.before.behind ∙ append_assoc base b.before.more (last ∷ []);
-      added = record {
-        wide = All-push (λ s. s.from < s.to) b.before.more last b.before.added.wide e;
-        each = All-push (λ s. (c : ℕ) → s.from ≤ c → c < s.to → (c < stop) × (is c ≡ true)) b.before.more last
-            (λ k d h c i j. let x = b.before.added.each k d h c i j in let x0 = x.0 in (omega arith, x.1))
-            (λ c i j. (omega arith, b.each c i j));
-        all = λ c p. elim (cases_lt c last.from) [
-          | inl h ↦ let q = b.before.added.all c (h, p.1) in record {
-            stretch = q.stretch;
-            listed = Contains-append_left b.before.more (last ∷ []) q.stretch q.listed;
-            order = q.order;
-            within = q.within;
-          }
-          | inr h ↦ elim (cases_lt c last.to) [
-            | inl k ↦ record { stretch = last; listed = Contains-push b.before.more last; order = h; within = k }
-            | inr k ↦ absurd (false≢true (sym (none_after c k p.0) ∙ p.1))
-          ]
-        ];
-        apart = all_pairs_push (λ s t. s.to < t.from) b.before.more last b.before.added.apart b.apart;
-      };
-    };
-    apart = All-push (λ s. s.to < stop) b.before.more last (λ k d h. let x = b.apart k d h in omega arith) o;
+  closed_some : last.left < last.right → AreChanges before after end (pieces ++ last ∷ [])
+  closed_some e = let w = b.within in record {
+    wide = All-push (λ p. p.left < p.right) pieces last b.complete.wide e;
+    within = All-push (λ p. p.right ≤ end) pieces last (λ k d h. let x = b.complete.within k d h in omega arith) w;
+    each = All-push (λ p. (c : ℕ) → p.left ≤ c → c < p.right → after c ≡ p.colour) pieces last b.complete.each b.each;
+    other = All-push (λ p. (c : ℕ) → p.left ≤ c → c < p.right → before c ≢ p.colour) pieces last b.complete.other
+        b.other;
+    all = λ c h n. elim (cases_lt c last.left) [
+      | inl m ↦ let q = b.complete.all c m n in record {
+        piece = q.piece;
+        listed = Contains-append_left pieces (last ∷ []) q.piece q.listed;
+        from = q.from;
+        to = q.to;
+      }
+      | inr m ↦ elim (cases_lt c last.right) [
+        | inl k ↦ record { piece = last; listed = Contains-push pieces last; from = m; to = k }
+        | inr k ↦ absurd (n (b.rest c k h))
+      ]
+    ];
+    ascending = all_pairs_push (λ p q. p.right ≤ q.left) pieces last b.complete.ascending b.complete.within;
   }
 
-  pub closed : IsClosed is base (with_last told last) stop
-  closed = elim (cases_lt last.from last.to) [
-    | inl h ↦ rw (lt-ltb last.from last.to h) (closed_some h)
-    | inr h ↦ rw (le-ltb last.from last.to h) (closed_empty h)
+  pub closed : AreChanges before after end (with_last pieces last)
+  closed = elim (cases_lt last.left last.right) [
+    | inl h ↦ rw (lt-ltb last.left last.right h) (closed_some h)
+    | inr h ↦ rw (le-ltb last.left last.right h) (closed_empty h)
   ]
 
--- cells that touch the open stretch make it longer
-pub lengthens : (told : List Span) (last : Span) (from end : ℕ) → from < end → last.to ≡ from
-    → Tells (λ _. true) told told last (record { from = last.from; to = end }) from end
-lengthens told last from end h e = record {
-  told = λ base is f b. let o = b.order in record {
-    before = b.before;
-    apart = b.apart;
-    order = omega arith;
-    within = omega arith;
-    each = λ c i j. elim (cases_lt c last.to) [ inl m ↦ b.each c i m | inr m ↦ f c (omega arith) j ];
-    none = λ c i j. absurd (omega arith);
-  };
-}
-
--- and others begin the next
-pub begins : (told : List Span) (last : Span) (from end : ℕ) → from < end → last.to ≢ from
-    → Tells (λ _. true) told (with_last told last) last (record { from = from; to = end }) from end
-begins told last from end h e = record {
-  told = λ base is f b.
-      let w = b.within in
-      let k = closed is base told last from from b (omega arith) (λ c i j. absurd (omega arith)) in
-      record {
-        before = k.before;
-        apart = k.apart;
-        order = omega arith;
-        within = omega arith;
-        each = f;
-        none = λ c i j. absurd (omega arith);
-      };
-}
-
-pub stays : (own : ℕ → Bool) (told : List Span) (last : Span) (from end : ℕ) → from ≤ end
-    → ((c : ℕ) → from ≤ c → c < end → own c ≡ false) → Tells own told told last last from end
-stays own told last from end h n = record {
-  told = λ base is f b. let w = b.within in record {
-    before = b.before;
-    apart = b.apart;
+-- a part that keeps its colours, and one that turns to a colour
+module _ (before after : ℕ → ℕ) (pieces : List Run) (last : Run) (p : Part)
+    (b : IsTelling before after pieces last p.base) where
+  keeps_on : Keeps before after p → IsTelling before after pieces last (p.base + p.width)
+  keeps_on k = let w = b.within in record {
+    complete = b.complete;
     order = b.order;
     within = omega arith;
     each = b.each;
-    none = λ c i j. elim (cases_lt c from) [ inl m ↦ b.none c i m | inr m ↦ f c m j ∙ n c m j ];
-  };
+    other = b.other;
+    rest = λ c i j. elim (cases_lt c p.base) [
+      | inl m ↦ b.rest c i m
+      | inr m ↦ k.each c (record { from = m; to = j })
+    ];
+  }
+
+  lengthens : (colour : ℕ) → last.right ≡ p.base → last.colour ≡ colour → Turns before after p colour
+      → IsTelling before after pieces (record { left = last.left; right = p.base + p.width; colour = last.colour })
+      (p.base + p.width)
+  lengthens colour e f t = let o = b.order in record {
+    complete = b.complete;
+    order = omega arith;
+    within = omega arith;
+    each = λ c i j. elim (cases_lt c last.right) [
+      | inl m ↦ b.each c i m
+      | inr m ↦ t.now c (record { from = omega arith; to = j }) ∙ sym f
+    ];
+    other = λ c i j. elim (cases_lt c last.right) [
+      | inl m ↦ b.other c i m
+      | inr m ↦ λ g. t.other c (record { from = omega arith; to = j }) (g ∙ f)
+    ];
+    rest = λ c i j. absurd (omega arith);
+  }
+
+  begins : (colour : ℕ) → Turns before after p colour
+      → IsTelling before after (with_last pieces last)
+      (record { left = p.base; right = p.base + p.width; colour = colour }) (p.base + p.width)
+  begins colour t = record {
+    complete = closed before after pieces last p.base b;
+    order = omega arith;
+    within = omega arith;
+    each = λ c i j. t.now c (record { from = i; to = j });
+    other = λ c i j. t.other c (record { from = i; to = j });
+    rest = λ c i j. absurd (omega arith);
+  }
+
+-- two rows that are alike where the part's cells keep their colours, or turn
+module _ (before after was is : ℕ → ℕ) (p : Part) (a : AreLike before after was is p.base (p.base + p.width)) where
+  keeps_like : Keeps was is p → Keeps before after p
+  keeps_like k = record {
+    each = λ c i. a.told c i.from i.to ∙ k.each c i ∙ sym (a.now c i.from i.to);
+  }
+
+  turns_like : (colour : ℕ) → Turns was is p colour → Turns before after p colour
+  turns_like colour t = record {
+    now = λ c i. a.now c i.from i.to ∙ t.now c i;
+    other = λ c i e. t.other c i (sym (a.told c i.from i.to) ∙ e);
+  }
+
+pub stays : (was is : ℕ → ℕ) (pieces : List Run) (last : Result Run NoMemory) (p : Part) → Keeps was is p
+    → Tells was is pieces pieces last last p.base (p.base + p.width)
+stays was is pieces last p k = record {
+  told = λ before after a b.
+      IfOk-weaker last _ _ (λ l c. keeps_on before after pieces l p c (keeps_like before after was is p a k)) b;
 }
 
-pub in_turn : (own : ℕ → Bool) (old mid now : List Span) (last middle next : Span) (from half end : ℕ)
+pub begins_next : (was is : ℕ → ℕ) (pieces : List Run) (last : Run) (p : Part) (colour : ℕ) → Turns was is p colour
+    → Tells was is pieces (with_last pieces last) (Ok last)
+    (Ok (record { left = p.base; right = p.base + p.width; colour = colour })) p.base (p.base + p.width)
+begins_next was is pieces last p colour t = record {
+  told = λ before after a b. begins before after pieces last p b colour (turns_like before after was is p a colour t);
+}
+
+pub in_turn : (was is : ℕ → ℕ) (old mid now : List Run) (last middle next : Result Run NoMemory) (from half end : ℕ)
     → from ≤ half → half ≤ end
-    → Tells own old mid last middle from half → Tells own mid now middle next half end
-    → Tells own old now last next from end
-in_turn own old mid now last middle next from half end h k p q = record {
-  told = λ base is f b. q.told base is (λ c i j. f c (omega arith) j) (p.told base is (λ c i j. f c i (omega arith)) b);
+    → Tells was is old mid last middle from half → Tells was is mid now middle next half end
+    → Tells was is old now last next from end
+in_turn was is old mid now last middle next from half end h k p q = record {
+  told = λ before after a b.
+      q.told before after
+      (record { told = λ c i j. a.told c (omega arith) j; now = λ c i j. a.now c (omega arith) j })
+      (p.told before after
+      (record { told = λ c i j. a.told c i (omega arith); now = λ c i j. a.now c i (omega arith) }) b);
 }
 
-pub alike : (f g : ℕ → Bool) (old now : List Span) (last next : Span) (from end : ℕ)
-    → ((c : ℕ) → from ≤ c → c < end → g c ≡ f c)
-    → Tells f old now last next from end → Tells g old now last next from end
-alike f g old now last next from end e p =
-    record { told = λ base is h b. p.told base is (λ c i j. h c i j ∙ e c i j) b }
-
-pub told_same : (P Q : ℕ → Type 0) (old now : List Span) → ((c : ℕ) → P c → Q c) → ((c : ℕ) → Q c → P c)
-    → IsTold old now P → IsTold old now Q
-told_same P Q old now f g t = record {
-  more = t.more;
-  behind = t.behind;
-  added = record {
-    wide = t.added.wide;
-    each = λ k d h c i j. f c (t.added.each k d h c i j);
-    all = λ c q. t.added.all c (g c q);
-    apart = t.added.apart;
-  };
+pub alike : (was is f g : ℕ → ℕ) (old now : List Run) (last next : Result Run NoMemory) (from end : ℕ)
+    → ((c : ℕ) → from ≤ c → c < end → f c ≡ was c) → ((c : ℕ) → from ≤ c → c < end → g c ≡ is c)
+    → Tells was is old now last next from end → Tells f g old now last next from end
+alike was is f g old now last next from end d e p = record {
+  told = λ before after a b. p.told before after
+      (record { told = λ c i j. a.told c i j ∙ d c i j; now = λ c i j. a.now c i j ∙ e c i j }) b;
 }
 
 -- at first nothing is told
-abbrev pub blank : Span
-blank = record { from = 0; to = 0 }
+abbrev pub blank : Run
+blank = record { left = 0; right = 0; colour = 0 }
 
-none_told : (is : ℕ → Bool) (old : List Span) → IsTelling is old old blank 0
-none_told is old = record {
-  before = record {
-    more = [];
-    behind = sym (append-nil old);
-    added = record {
-      wide = λ k d h. absurd (omega arith);
-      each = λ k d h c i j. absurd (omega arith);
-      all = λ c p. let p0 = p.0 in absurd (omega arith);
-      apart = λ i j d k l. absurd (omega arith);
-    };
+none_told : (before after : ℕ → ℕ) → IsTelling before after [] blank 0
+none_told before after = record {
+  complete = record {
+    wide = λ k d h. absurd (omega arith);
+    within = λ k d h. absurd (omega arith);
+    each = λ k d h. absurd (omega arith);
+    other = λ k d h. absurd (omega arith);
+    all = λ c h. absurd (omega arith);
+    ascending = λ i j d k l. absurd (omega arith);
   };
-  apart = λ k d h. absurd (omega arith);
   order = omega arith;
   within = omega arith;
   each = λ c i j. absurd (omega arith);
-  none = λ c i j. absurd (omega arith);
+  other = λ c i j. absurd (omega arith);
+  rest = λ c i j. absurd (omega arith);
 }
 
-upto_in : (cells : ℕ) (own : ℕ → Bool) (c : ℕ) → c < cells → (nat_lt c cells && own c) ≡ own c
-upto_in cells own c h = rw (lt-ltb c cells h) refl
-
-upto_out : (cells : ℕ) (own : ℕ → Bool) (c : ℕ) → cells ≤ c → (nat_lt c cells && own c) ≡ false
-upto_out cells own c h = rw (le-ltb c cells h) refl
-
-pub all_told : (own : ℕ → Bool) (old now : List Span) (last : Span) (cells : ℕ)
-    → Tells own old now blank last 0 (0 + cells)
-    → IsTold old (with_last now last) (λ c. (c < cells) × (own c ≡ true))
-all_told own old now last cells p =
-    let is : ℕ → Bool = λ c. nat_lt c cells && own c in
-    let b : IsTelling is old now last (0 + cells) =
-    p.told old is (λ c h k. upto_in cells own c (omega arith)) (none_told is old) in
-    let w = b.within in
-    let k = closed is old now last (0 + cells) (cells + 1) b (omega arith)
-    (λ c h k. upto_out cells own c (omega arith)) in
-    told_same (λ c. (c < cells + 1) × (is c ≡ true)) (λ c. (c < cells) × (own c ≡ true)) old (with_last now last)
-    (λ c q. let a = and_parts (nat_lt c cells) (own c) q.1 in (ltb-true c cells a.0, a.1))
-    (λ c q. let h = q.0 in (omega arith, upto_in cells own c h ∙ q.1))
-    k.before
+-- and at last all cells are
+pub all_told : (was is before after : ℕ → ℕ) (now : List Run) (last : Result Run NoMemory) (cells : ℕ)
+    → Tells was is [] now (Ok blank) last 0 (0 + cells) → ((c : ℕ) → c < cells → before c ≡ was c)
+    → ((c : ℕ) → c < cells → after c ≡ is c) → IfOk last (λ l. AreChanges before after cells (with_last now l))
+all_told was is before after now last cells t d e =
+    let same : 0 + cells ≡ cells = omega arith in
+    let b : IfOk last (λ n. IsTelling before after now n (0 + cells)) =
+    t.told before after (record { told = λ c i j. d c (omega arith); now = λ c i j. e c (omega arith) })
+    (none_told before after) in
+    let f : IfOk last (λ n. IsTelling before after now n cells) =
+    subst (λ end. IfOk last (λ n. IsTelling before after now n end)) same b in
+    IfOk-weaker last _ _ (λ l x. closed before after now l cells x) f

@@ -1,53 +1,61 @@
--- The changes of the colours of a part's cells, from a row to the next, and what is told of them on the way.
-use Rattle.std.specs.Prelude.{◌≡◌, ◌==◌, ◌&&◌, ℕ, ◌+◌, ◌<◌, ◌≤◌, Bool, true, false, not, List, [], ◌∷◌, ◌++◌, All}
-use Rattle.std.specs.Prelude.{nat_lt, nat_le, if◌then◌else◌}
+-- The changes of the colours of a part's cells, from the row told last to the next, and what is told of them on the
+-- way.
+use Rattle.std.specs.Prelude.{◌≡◌, ◌≢◌, ℕ, ◌<◌, ◌≤◌, ⊤, Result, IfOk, List, [], ◌∷◌, ◌++◌, nat_lt, if◌then◌else◌}
+use Rattle.mp_base.specs.declared.refusal.NoMemory.{NoMemory}
+use Rattle.mask_runs.specs.declared.run.Run.{Run}
+use Rattle.mask_runs.specs.declared.mask.Mask.{Mask}
+use Rattle.cover_tree.specs.declared.changes.Change.{Change}
+use Rattle.cover_tree.specs.declared.changes.Change.TheVariants.{Nowhere, Everywhere, Somewhere}
 use Rattle.cover_tree.specs.declared.changes.Known.{Known}
-use Rattle.cover_tree.specs.declared.look.Line.{Line}
-use Rattle.mask_runs.specs.declared.mask.Layers.{Layers}
-use Rattle.cover_tree.specs.declared.kinds.Effect.{Effect}
-use Rattle.cover_tree.specs.declared.kinds.Effect.TheVariants.{Nowhere, Everywhere, Somewhere}
 use Rattle.cover_tree.specs.declared.part.Part.{Part}
-use Rattle.cover_tree.specs.declared.span.Span.{Span}
 use Rattle.cover_tree.specs.declared.trees.Trees.{Trees}
-use Rattle.cover_tree.specs.Parts.{InPart, left_half, right_half}
-use Rattle.cover_tree.specs.Looking.{seen, part_colour}
-use Rattle.cover_tree.specs.Telling.{IsTold}
+use Rattle.cover_tree.specs.Parts.{InPart}
+use Rattle.cover_tree.specs.Looking.{part_colour, told_colour}
+use Rattle.cover_tree.specs.Notes.{IsTold}
+use Rattle.cover_tree.specs.Changes.{AreChanges}
 
--- whether the colour of the part's cell is another in the next row
-abbrev pub differs : Trees → Line → Part → Known → ℕ → Bool
-differs t line p known c =
-    not (part_colour line.mask t line.row p known.before c == part_colour line.mask t (line.row + 1) p known.after c)
+-- the colours of the part's cells in the row told last, and in that of the trees
+abbrev pub was : Mask → Trees → Part → Known → ℕ → ℕ
+was mask t p known c = told_colour mask t p known.before c
 
--- whether it is, and the cell is in the span
-abbrev pub differs_in : Span → Trees → Line → Part → Known → ℕ → Bool
-differs_in span t line p known c = nat_le span.from c && nat_lt c span.to && differs t line p known c
+abbrev pub is : Mask → Trees → Part → Known → ℕ → ℕ
+is mask t p known c = part_colour mask t t.since p known.after c
 
--- whether no cell of the part is so, or each, or neither is told and it has halves
-abbrev pub IsChange : (ℕ → Bool) → Part → Effect → Type 0
-IsChange is p Nowhere = (c : ℕ) → InPart p c → is c ≡ false
-IsChange is p Everywhere = (c : ℕ) → InPart p c → is c ≡ true
-IsChange is p Somewhere = 2 ≤ p.width
+-- the part's cells keep their colours
+pub record Keeps (before after : ℕ → ℕ) (p : Part) : Type 0 where
+  pub each : (c : ℕ) → InPart p c → before c ≡ after c
 
--- the cells of the halves, or of a part of one cell, have these layers where those cover the part as a whole
-pub record IsHandedDown (t : Trees) (row : ℕ) (p : Part) (known full : Layers) : Type 0 where
-  pub left : (c : ℕ) → 2 ≤ p.width → InPart (left_half p) c → seen t row (left_half p) full c ≡ seen t row p known c
-  pub right : (c : ℕ) → 2 ≤ p.width → InPart (right_half p) c → seen t row (right_half p) full c ≡ seen t row p known c
-  pub leaf : (c : ℕ) → p.width < 2 → InPart p c → seen t row p known c ≡ full
+-- they get another one, which is this
+pub record Turns (before after : ℕ → ℕ) (p : Part) (colour : ℕ) : Type 0 where
+  pub now : (c : ℕ) → InPart p c → after c ≡ colour
+  pub other : (c : ℕ) → InPart p c → before c ≢ colour
 
--- the stretches with the open one
-abbrev pub with_last : List Span → Span → List Span
-with_last told last = if nat_lt last.from last.to then told ++ last ∷ [] else told
+-- a part that is told keeps its colours or gets one other, or neither is known
+abbrev pub IsChange : Mask → Trees → Part → Known → Change → Type 0
+IsChange mask t p known Nowhere = IsTold t p × Keeps (was mask t p known) (is mask t p known) p
+IsChange mask t p known (Everywhere k) = IsTold t p × Turns (was mask t p known) (is mask t p known) p k
+IsChange mask t p known Somewhere = ⊤
 
--- the cells up to `end` that are so are told, but for those of the open stretch, after which there are none
-pub record IsTelling (is : ℕ → Bool) (base told : List Span) (last : Span) (end : ℕ) : Type 0 where
-  pub before : IsTold base told (λ c. (c < last.from) × (is c ≡ true))
-  pub apart : All (λ s. s.to < last.from) before.more
-  pub order : last.from ≤ last.to
-  pub within : last.to ≤ end
-  pub each : (c : ℕ) → last.from ≤ c → c < last.to → is c ≡ true
-  pub none : (c : ℕ) → last.to ≤ c → c < end → is c ≡ false
+-- the pieces with the open one
+abbrev pub with_last : List Run → Run → List Run
+with_last told last = if nat_lt last.left last.right then told ++ last ∷ [] else told
 
--- where the cells up to `from` were told, those up to `end` are, if they are so as `own` says
-pub record Tells (own : ℕ → Bool) (old now : List Span) (last next : Span) (from end : ℕ) : Type 0 where
-  pub told : (base : List Span) (is : ℕ → Bool) → ((c : ℕ) → from ≤ c → c < end → is c ≡ own c)
-      → IsTelling is base old last from → IsTelling is base now next end
+-- the cells up to `end` that change are in the pieces, but for those of the open one, after which there are none
+pub record IsTelling (before after : ℕ → ℕ) (pieces : List Run) (last : Run) (end : ℕ) : Type 0 where
+  pub complete : AreChanges before after last.left pieces
+  pub order : last.left ≤ last.right
+  pub within : last.right ≤ end
+  pub each : (c : ℕ) → last.left ≤ c → c < last.right → after c ≡ last.colour
+  pub other : (c : ℕ) → last.left ≤ c → c < last.right → before c ≢ last.colour
+  pub rest : (c : ℕ) → last.right ≤ c → c < end → before c ≡ after c
+
+-- the rows have the part's colours there
+pub record AreLike (before after was is : ℕ → ℕ) (from end : ℕ) : Type 0 where
+  pub told : (c : ℕ) → from ≤ c → c < end → before c ≡ was c
+  pub now : (c : ℕ) → from ≤ c → c < end → after c ≡ is c
+
+-- where the cells of two rows up to `from` were told, those up to `end` are, if they have the part's colours; unless
+-- memory is wanting
+pub record Tells (was is : ℕ → ℕ) (old now : List Run) (last next : Result Run NoMemory) (from end : ℕ) : Type 0 where
+  pub told : (before after : ℕ → ℕ) → AreLike before after was is from end
+      → IfOk last (λ l. IsTelling before after old l from) → IfOk next (λ n. IsTelling before after now n end)

@@ -1,12 +1,10 @@
 -- Up to which row each cell of each layer is covered.
-use Rattle.std.specs.Prelude.{◌≡◌, ◌≢◌, ◌⊎◌, ◌&&◌, ℕ, ◌<◌, ◌≤◌, max, nat_lt, nat_le, if◌then◌else◌}
+use Rattle.std.specs.Prelude.{◌≡◌, ◌≢◌, ◌⊎◌, ℕ, ◌<◌, ◌≤◌, max, nat_lt}
 use Rattle.lam_geom.specs.declared.layer.Layer.{Layer}
 use Rattle.lam_geom.specs.declared.layer.Layer.TheVariants.{ND, NP, NC, NM, NI, NB, NG}
 use Rattle.mask_runs.specs.declared.mask.Layers.{Layers}
 use Rattle.mask_runs.specs.declared.mask.Mask.{Mask}
-use Rattle.mask_runs.specs.declared.run.Run.{Run}
 use Rattle.mask_runs.specs.Colours.{colour_of}
-use Rattle.mask_runs.specs.Runs.{IsRun}
 
 -- a layer covers a cell in the rows below its top there
 pub record Cover : Type 0 where
@@ -30,10 +28,6 @@ layers_at cover row cell = record {
 abbrev pub row_colour : Cover → ℕ → ℕ → ℕ
 row_colour cover row cell = colour_of cover.mask (layers_at cover row cell)
 
--- the colours of the cells from `from` up to `to`, and 0 beside them
-abbrev pub windowed : ℕ → ℕ → (ℕ → ℕ) → ℕ → ℕ
-windowed from to colour c = if nat_le from c && nat_lt c to then colour c else 0
-
 -- no cell is covered
 pub record IsBare (mask : Mask) (cells : ℕ) (cover : Cover) : Type 0 where
   pub of_mask : cover.mask ≡ mask
@@ -47,19 +41,3 @@ pub record IsRaised (old now : Cover) (layer : Layer) (from to row : ℕ) : Type
   pub within : (c : ℕ) → from ≤ c → c < to → now.top layer c ≡ max (old.top layer c) row
   pub beside : (c : ℕ) → (c < from) ⊎ (to ≤ c) → now.top layer c ≡ old.top layer c
   pub others : (l : Layer) (c : ℕ) → l ≢ layer → now.top l c ≡ old.top l c
-
--- a run of the row from there on has the cell
-pub record IsRunStart (colour : ℕ → ℕ) (cell start : ℕ) : Type 0 where
-  pub run : Run
-  pub is : IsRun colour run
-  pub left : run.left ≡ start
-  pub order : start ≤ cell
-  pub within : cell < run.right
-
--- a run of the row up to there has the cell
-pub record IsRunEnd (colour : ℕ → ℕ) (cell end : ℕ) : Type 0 where
-  pub run : Run
-  pub is : IsRun colour run
-  pub right : run.right ≡ end
-  pub order : run.left ≤ cell
-  pub within : cell < end

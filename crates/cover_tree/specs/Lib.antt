@@ -1,13 +1,11 @@
 pub mod Covers
+pub mod Changes
 pub mod Parts
 pub mod Nodes
 pub mod Layered
 pub mod Trees
-pub mod Building
-pub mod Going
 pub mod Kinds
 pub mod Planes
 pub mod Looking
 pub mod Notes
-pub mod Telling
 pub mod Changing

@@ -1,10 +1,10 @@
--- Nodes of a tree: up to which row each of some layers covers a part as a whole, and a note. The layers are ND, NP, NB,
--- NM
--- and a further one.
-use Rattle.std.specs.Prelude.{◌&&◌, ℕ, Bool, true, false, nat_lt, if◌then◌else◌}
+-- Nodes of a tree: up to which row each of some layers covers a part as a whole, which of them did so in the row told
+-- last, and a note. The layers are ND, NP, NB, NM and a further one.
+use Rattle.std.specs.Prelude.{◌&&◌, ℕ, ◌/◌, ◌%◌, Bool, true, false, nat_lt, if◌then◌else◌}
 use Rattle.lam_geom.specs.declared.layer.Layer.{Layer}
 use Rattle.lam_geom.specs.declared.layer.Layer.TheVariants.{ND, NP, NC, NM, NI, NB, NG}
 use Rattle.mask_runs.specs.declared.mask.Layers.{Layers}
+use Rattle.cover_tree.specs.declared.layer_set.LayerSet.{LayerSet}
 use Rattle.cover_tree.specs.declared.node.Node.{Node}
 use Rattle.cover_tree.specs.declared.node.Tops.{Tops}
 use Rattle.cover_tree.specs.declared.note.Note.{Note}
@@ -47,8 +47,25 @@ above further tops row = record {
 abbrev pub no_tops : Tops
 no_tops = record { nd = 0; np = 0; nb = 0; further = 0; nm = 0 }
 
+-- tops above row 0 for the layers of a set
+abbrev pub set_tops : LayerSet → Tops
+set_tops s = record {
+  nd = s.bits % 2;
+  np = s.bits / 2 % 2;
+  nb = s.bits / 4 % 2;
+  further = s.bits / 8 % 2;
+  nm = s.bits / 16 % 2;
+}
+
+-- the layers of a set
+abbrev pub layers_of : Layer → LayerSet → Layers
+layers_of further s = above further (set_tops s) 0
+
+abbrev pub no_layers : LayerSet
+no_layers = record { bits = 0 }
+
 abbrev pub stale : Note
 stale = record { until = 0; kinds = record { bits = 0 } }
 
 abbrev pub blank : Node
-blank = record { tops = no_tops; note = stale }
+blank = record { tops = no_tops; told = no_layers; note = stale }

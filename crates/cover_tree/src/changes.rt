@@ -1,136 +1,168 @@
 //! The cells of a part whose colours change.
 
-ghost use Rattle.std.specs.Bool.{OnTrue};
-ghost use Rattle.std.specs.Prelude.{◌≡◌, ◌+◌, ◌<◌, ◌^◌, true, IfOk};
+ghost use Rattle.std.specs.Prelude.{ℕ, ◌≡◌, ◌*◌, ◌+◌, ◌<◌, ◌≤◌, IfOk, length};
+ghost use Rattle.lam_geom.specs.declared.layer.Layer.{Layer};
+ghost use Rattle.mask_runs.specs.Colours.{colour_of};
 ghost use Rattle.cover_tree.specs.Parts.{IsSmall};
-ghost use Rattle.cover_tree.specs.Notes.{AreNoted};
-ghost use Rattle.cover_tree.specs.Changing.{IsChange, IsHandedDown, Tells, differs, differs_in, with_last};
+ghost use Rattle.cover_tree.specs.Layered.{tree, told_tree};
+ghost use Rattle.cover_tree.specs.Looking.{IsHandedDown};
+ghost use Rattle.cover_tree.specs.Notes.{AreNoted, IsTold, IsOnlyIn};
+ghost use Rattle.cover_tree.specs.Changing.{IsChange, Tells, Turns, was, is, with_last};
 
 use crate::kinds::{Effect, both};
-use crate::look::{Line, is_steady, kinds_at};
 use crate::part::Part;
-use crate::span::Span;
 use crate::trees::Trees;
-use mask_runs::Layers;
+use mask_runs::{Layers, Mask, Run};
 use mp_base::NoMemory;
 use std::alloc::AllocError;
 
-/// The layers that cover a part as a whole, in the row and in the next.
+/// The layers that cover a part as a whole, in the row told last and in the next.
 #[derive(Clone, Copy)]
 pub(crate) struct Known {
     pub before: Layers,
     pub after: Layers,
 }
 
-/// Adds the stretches of the part's cells in the span whose colours change from the row to the next, of which `last` is open,
-/// and gives the next open one.
-pub(crate) fn tell_part(
-    trees: &Trees,
-    line: Line,
-    span: Span,
-    part: Part,
-    known: Known,
-    last: Span,
-    told: &mut Vec<Span>,
-) -> Result<Span, NoMemory>
-    requires small { IsSmall part }
-    requires room { line.row + 1 < 2 ^ 32 }
-    requires noted { AreNoted line.mask trees.now part }
-    ensures { IfOk result (λ next. Tells (differs_in span trees.now line part known) told.old.items told.new.items last next part.base (part.base + part.width)) }
-{
-    match change_in(trees, line, span, part, known) {
-        Effect::Nowhere => Ok(last),
-        Effect::Everywhere => extend(told, last, part.base, part.end()),
-        Effect::Somewhere => {
-            let down = handed_down(trees, line, part, known);
-            let middle = tell_part(trees, line, span, part.left(), down, last, told)?;
-            tell_part(trees, line, span, part.right(), down, middle, told)
+impl Known {
+    ghost use Rattle.mask_runs.specs.Colours.{bare};
+
+    /// No layer.
+    pub fn none() -> Known
+        ensures { result ≡ record { before = bare; after = bare } }
+    {
+        Known {
+            before: Layers::none(),
+            after: Layers::none(),
         }
     }
 }
 
-/// Adds the open stretch, unless it is empty.
-pub(crate) fn tell_last(told: &mut Vec<Span>, last: Span) -> Result<(), AllocError>
-    ensures { IfOk result (λ _. told.new.items ≡ with_last told.old.items last) }
+/// What becomes of the colours of a part's cells: all stay, or all turn to one, or neither is known.
+#[derive(Clone, Copy)]
+pub(crate) enum Change {
+    Nowhere,
+    Everywhere(u8),
+    Somewhere,
+}
+
+/// Tells a part in the row of the trees: adds the pieces of its cells whose colours aren't those told last, of which `last` is
+/// open, and gives the next open one. Once memory is wanting the pieces are lost, but the part is told.
+pub(crate) fn tell_part(
+    trees: &mut Trees,
+    mask: Mask,
+    part: Part,
+    known: Known,
+    last: Result<Run, NoMemory>,
+    pieces: &mut Vec<Run>,
+) -> Result<Run, NoMemory>
+    requires small { IsSmall part }
+    requires room { part.at + 2 * part.width ≤ length trees.old.nodes.items + 1 }
+    requires noted { AreNoted mask trees.old part }
+    ensures noted { AreNoted mask trees.new part }
+    ensures told { IsTold trees.new part }
+    ensures only { IsOnlyIn part trees.old trees.new }
+    ensures tops { (l : Layer) → tree trees.new l ≡ tree trees.old l }
+    ensures pieces { Tells (was mask trees.old part known) (is mask trees.old part known) pieces.old.items pieces.new.items last result part.base (part.base + part.width) }
 {
-    if last.from < last.to {
-        told.push(last)?;
+    match change_of(trees, mask, part, known) {
+        Change::Nowhere => last,
+        Change::Everywhere(colour) => add(pieces, last, part, colour),
+        Change::Somewhere => {
+            let down = handed_down(trees, part, known);
+            if part.width < 2 {
+                trees.settle(mask, part);
+                return tell_cell(mask, part, down, last, pieces);
+            }
+            let middle = tell_part(trees, mask, part.left(), down, last, pieces);
+            let next = tell_part(trees, mask, part.right(), down, middle, pieces);
+            trees.settle(mask, part);
+            next
+        }
+    }
+}
+
+/// Adds the open piece, unless it is empty.
+pub(crate) fn close(pieces: &mut Vec<Run>, last: Run) -> Result<(), AllocError>
+    ensures { IfOk result (λ _. pieces.new.items ≡ with_last pieces.old.items last) }
+{
+    if last.left < last.right {
+        pieces.push(last)?;
     }
     Ok(())
 }
 
-// Takes in the cells from `from` up to `to`, and gives the next open stretch.
-fn extend(told: &mut Vec<Span>, last: Span, from: u32, to: u32) -> Result<Span, NoMemory>
-    requires { from < to }
-    ensures { IfOk result (λ next. Tells (λ _. true) told.old.items told.new.items last next from to) }
-{
-    if last.to == from {
-        return Ok(Span { to, ..last });
-    }
-    tell_last(told, last)?;
-    Ok(Span { from, to })
-}
-
-// Whether none or all of the part's cells are in the span and change their colours.
-fn change_in(trees: &Trees, line: Line, span: Span, part: Part, known: Known) -> Effect
+// Adds the part's cells, which turn to a colour, and gives the next open piece.
+fn add(
+    pieces: &mut Vec<Run>,
+    last: Result<Run, NoMemory>,
+    part: Part,
+    colour: u8,
+) -> Result<Run, NoMemory>
     requires small { IsSmall part }
-    requires room { line.row + 1 < 2 ^ 32 }
-    requires noted { AreNoted line.mask trees.now part }
-    ensures { IsChange (differs_in span trees.now line part known) part result }
+    ensures { (before after : ℕ → ℕ) → Turns before after part colour → Tells before after pieces.old.items pieces.new.items last result part.base (part.base + part.width) }
 {
-    let from = span.clamped(part.base);
-    let to = span.clamped(part.end());
-    if from == to {
-        return Effect::Nowhere;
+    let last = last?;
+    if last.right == part.base && last.colour == colour {
+        return Ok(Run {
+            right: part.end(),
+            ..last
+        });
     }
-    if to - from == part.width {
-        return change_of(trees, line, part, known);
-    }
-    if stays(trees, line, part, known) {
-        return Effect::Nowhere;
-    }
-    Effect::Somewhere
+    close(pieces, last)?;
+    Ok(Run {
+        left: part.base,
+        right: part.end(),
+        colour,
+    })
 }
 
-// Whether it is known that no cell of the part changes its colour.
-fn stays(trees: &Trees, line: Line, part: Part, known: Known) -> bool
-    requires room { line.row + 1 < 2 ^ 32 }
-    requires noted { AreNoted line.mask trees.now part }
-    ensures { OnTrue result (IsChange (differs trees.now line part known) part Effect.Nowhere) }
+// Adds the cell of a part that has but one, of which all layers are known, if it changes its colour.
+fn tell_cell(
+    mask: Mask,
+    part: Part,
+    known: Known,
+    last: Result<Run, NoMemory>,
+    pieces: &mut Vec<Run>,
+) -> Result<Run, NoMemory>
+    requires small { IsSmall part }
+    ensures { Tells (λ _. colour_of mask known.before) (λ _. colour_of mask known.after) pieces.old.items pieces.new.items last result part.base (part.base + part.width) }
 {
-    known.before == known.after && is_steady(trees, line.mask, part, line.row)
+    let colour = mask.colour(known.after);
+    if mask.colour(known.before) == colour {
+        return last;
+    }
+    add(pieces, last, part, colour)
 }
 
-// Whether none or all of the part's cells change their colours.
-fn change_of(trees: &Trees, line: Line, part: Part, known: Known) -> Effect
-    requires room { line.row + 1 < 2 ^ 32 }
-    requires noted { AreNoted line.mask trees.now part }
-    ensures { IsChange (differs trees.now line part known) part result }
+// What becomes of the part's cells, as far as its note tells it.
+fn change_of(trees: &Trees, mask: Mask, part: Part, known: Known) -> Change
+    requires { AreNoted mask trees.now part }
+    ensures { IsChange mask trees.now part known result }
 {
-    if part.width < 2 {
-        let down = handed_down(trees, line, part, known);
-        if line.mask.colour(down.before) == line.mask.colour(down.after) {
-            return Effect::Nowhere;
-        }
-        return Effect::Everywhere;
-    }
-    if !is_steady(trees, line.mask, part, line.row) {
-        return Effect::Somewhere;
+    let note = trees.note_at(part.at);
+    if note.until <= trees.since {
+        return Change::Somewhere;
     }
     if known.before == known.after {
-        return Effect::Nowhere;
+        return Change::Nowhere;
     }
-    kinds_at(trees, line, part).effect(line.mask, known.before, known.after)
+    match note.kinds.effect(mask, known.before, known.after) {
+        Effect::Nowhere => Change::Nowhere,
+        Effect::Everywhere => match note.kinds.colour(mask, known.after) {
+            Some(colour) => Change::Everywhere(colour),
+            None => Change::Somewhere,
+        },
+        Effect::Somewhere => Change::Somewhere,
+    }
 }
 
-// The layers that cover the part as a whole, by its nodes too.
-fn handed_down(trees: &Trees, line: Line, part: Part, known: Known) -> Known
-    requires { line.row + 1 < 2 ^ 32 }
-    ensures before { IsHandedDown trees.now line.row part known.before result.before }
-    ensures after { IsHandedDown trees.now (line.row + 1) part known.after result.after }
+// The layers that cover the part as a whole, by its node too.
+fn handed_down(trees: &Trees, part: Part, known: Known) -> Known
+    ensures before { IsHandedDown (told_tree trees.now) 0 part known.before result.before }
+    ensures after { IsHandedDown (tree trees.now) trees.now.since part known.after result.after }
 {
     Known {
-        before: both(known.before, trees.own_at(line.row, part.at)),
-        after: both(known.after, trees.own_at(line.row + 1, part.at)),
+        before: both(known.before, trees.told_at(part.at)),
+        after: both(known.after, trees.own_at(trees.since, part.at)),
     }
 }

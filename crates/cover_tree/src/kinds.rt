@@ -25,13 +25,6 @@ pub(crate) enum Effect {
 }
 
 impl Kinds {
-    /// Each set.
-    pub fn all() -> Kinds
-        ensures { (mask : Mask) (s : Layers) → HasKind mask result s }
-    {
-        Kinds { bits: u32::MAX }
-    }
-
     /// One set alone.
     pub fn one(mask: Mask, layers: Layers) -> Kinds
         ensures has { HasKind mask result layers }

@@ -1,11 +1,9 @@
-//! Cells of a row that layers cover up to some row above, and the runs of one colour that the layers of a mask make.
+//! Cells of a row that layers cover up to some row above, and how the colours change that the layers of a mask make.
 #![tactic(auto)]
 
 mod changes;
-mod collect;
 mod kinds;
-mod look;
-mod nearest;
+mod layer_set;
 mod node;
 mod note;
 mod part;
@@ -15,5 +13,4 @@ mod span;
 mod tree;
 mod trees;
 
-pub use span::Span;
 pub use tree::CoverTree;

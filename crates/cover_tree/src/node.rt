@@ -3,14 +3,16 @@
 ghost use Rattle.std.specs.Prelude.{ℕ, ◌≡◌, ◌≢◌, ◌≤◌, ◌<◌, true, max, nat_lt};
 ghost use Rattle.lam_geom.specs.declared.layer.Layer.{Layer};
 
+use crate::layer_set::LayerSet;
 use crate::note::Note;
 use lam_geom::Layer;
 use mask_runs::Layers;
 
-/// What a part's node says of the part as a whole, and the note of what lies over its cells.
+/// What a part's node says of the part as a whole, now and in the row told last, and the note of what lies over its cells.
 #[derive(Clone, Copy, Drop)]
 pub(crate) struct Node {
     pub tops: Tops,
+    pub told: LayerSet,
     pub note: Note,
 }
 
@@ -33,13 +35,14 @@ impl Node {
     {
         Node {
             tops: Tops::none(),
+            told: LayerSet::none(),
             note: Note::stale(),
         }
     }
 }
 
 impl Tops {
-    ghost use Rattle.cover_tree.specs.Nodes.{no_tops, keeps, layer_top, above};
+    ghost use Rattle.cover_tree.specs.Nodes.{no_tops, keeps, layer_top, layers_of, above};
 
     /// Those of a part that isn't covered as a whole.
     pub fn none() -> Tops
@@ -71,6 +74,16 @@ impl Tops {
             Layer::NI => Layers { ni: own, ..low },
             Layer::NG => Layers { ng: own, ..low },
             _ => low,
+        }
+    }
+
+    /// The set of these layers.
+    pub fn set(self, row: u32) -> LayerSet
+        ensures { (f : Layer) → layers_of f result ≡ above f self row }
+    {
+        let low = (row < self.nd) as u8 + 2 * (row < self.np) as u8 + 4 * (row < self.nb) as u8;
+        LayerSet {
+            bits: low + 8 * (row < self.further) as u8 + 16 * (row < self.nm) as u8,
         }
     }
 

@@ -5,13 +5,14 @@ ghost use Rattle.lam_geom.specs.declared.layer.Layer.{Layer};
 ghost use Rattle.mask_runs.specs.declared.mask.Mask.{Mask};
 ghost use Rattle.mask_runs.specs.Colours.{bare};
 ghost use Rattle.cover_tree.specs.Parts.{IsSmall, top_at};
-ghost use Rattle.cover_tree.specs.Nodes.{keeps, no_tops};
-ghost use Rattle.cover_tree.specs.Layered.{node_at, tree};
-ghost use Rattle.cover_tree.specs.Looking.{own_at};
+ghost use Rattle.cover_tree.specs.Nodes.{keeps, no_layers, no_tops};
+ghost use Rattle.cover_tree.specs.Layered.{node_at, tree, told_tree};
+ghost use Rattle.cover_tree.specs.Looking.{own_at, told_at};
 ghost use Rattle.cover_tree.specs.Kinds.{HasKind, further};
-ghost use Rattle.cover_tree.specs.Notes.{IsNoted, AreNoted, AreHalvesNoted, IsOnlyIn, note_at};
+ghost use Rattle.cover_tree.specs.Notes.{IsNoted, IsTold, AreNoted, AreHalvesNoted, AreHalvesTold, IsOnlyIn, note_at};
 
 use crate::kinds::{Kinds, further};
+use crate::layer_set::LayerSet;
 use crate::node::{Node, Tops};
 use crate::note::Note;
 use crate::part::Part;
@@ -21,7 +22,7 @@ use mp_base::NoMemory;
 use std::alloc::Global;
 
 /// The nodes of the trees of all layers, side by side: up to which row each covers a part as a whole, with a note of the rows
-/// from `since` on. They have tops of ND, NP, NB, NM and the further layer, which are all that a mask uses.
+/// from the one told last on. They have tops of ND, NP, NB, NM and the further layer, which are all that a mask uses.
 #[derive(Drop)]
 pub(crate) struct Trees {
     pub nodes: Vec<Node>,
@@ -33,8 +34,9 @@ impl Trees {
     /// Trees over a number of cells, of which none is covered.
     pub fn new(alloc: Global, mask: Mask, cells: u32) -> Result<Trees, NoMemory>
         requires { cells < 2 ^ 31 }
-        ensures nodes { IfOk result (λ t. (n : Note) × (t.nodes.items ≡ replicate (2 * cells) (record { tops = no_tops; note = n })) × HasKind mask n.kinds bare) }
+        ensures nodes { IfOk result (λ t. (n : Note) × (t.nodes.items ≡ replicate (2 * cells) (record { tops = no_tops; told = no_layers; note = n })) × HasKind mask n.kinds bare) }
         ensures kept { IfOk result (λ t. t.further ≡ further mask) }
+        ensures since { IfOk result (λ t. t.since ≡ 0) }
     {
         let note = Note {
             until: u32::MAX,
@@ -42,6 +44,7 @@ impl Trees {
         };
         let node = Node {
             tops: Tops::none(),
+            told: LayerSet::none(),
             note,
         };
         Ok(Trees {
@@ -56,6 +59,13 @@ impl Trees {
         ensures { result ≡ own_at self.now row at }
     {
         self.node_at(at).tops.above(self.further, row)
+    }
+
+    /// The layers that did so in the row told last.
+    pub fn told_at(&self, at: usize) -> Layers
+        ensures { result ≡ told_at self.now at }
+    {
+        self.node_at(at).told.layers(self.further)
     }
 
     /// The note of a part.
@@ -80,7 +90,7 @@ impl Trees {
         requires kept { keeps layer self.old.further ≡ true }
         ensures own { tree self.new layer ≡ set (tree self.old layer) at (max (top_at (tree self.old layer) at) row) }
         ensures others { (l : Layer) → l ≢ layer → tree self.new l ≡ tree self.old l }
-        ensures notes { (k : ℕ) → note_at self.new k ≡ note_at self.old k }
+        ensures told { (l : Layer) → told_tree self.new l ≡ told_tree self.old l }
         ensures beside { (k : ℕ) → k ≢ at → node_at self.new k ≡ node_at self.old k }
         ensures as_many { length self.new.nodes.items ≡ length self.old.nodes.items }
         ensures further { self.new.further ≡ self.old.further }
@@ -91,33 +101,38 @@ impl Trees {
         self.set_node(at, Node { tops, ..node });
     }
 
-    /// Forgets the note of a part, so that it's noted anew when the trees advance.
+    /// Forgets the note of a part, so that it's noted anew when it is told next.
     pub fn forget(&mut self, part: Part)
         requires small { IsSmall part }
         requires room { part.at + 2 * part.width ≤ length self.old.nodes.items + 1 }
         ensures noted { (mask : Mask) → AreHalvesNoted mask self.old part → AreNoted mask self.new part }
         ensures only { IsOnlyIn part self.old self.new }
         ensures tops { (l : Layer) → tree self.new l ≡ tree self.old l }
+        ensures told { (l : Layer) → told_tree self.new l ≡ told_tree self.old l }
     {
         self.set_note(part.at, Note::stale());
     }
 
-    // Notes anew what lies over a part, by its own node and the notes of its halves.
-    fn sum_up(&mut self, mask: Mask, part: Part)
+    /// Takes a part as told in the row of the trees, and notes anew what lies over it, where its halves are told and noted.
+    pub fn settle(&mut self, mask: Mask, part: Part)
         requires small { IsSmall part }
         requires room { part.at + 2 * part.width ≤ length self.old.nodes.items + 1 }
         requires halves { AreHalvesNoted mask self.old part }
+        requires told_halves { AreHalvesTold self.old part }
         ensures noted { AreNoted mask self.new part }
+        ensures told { IsTold self.new part }
         ensures only { IsOnlyIn part self.old self.new }
         ensures tops { (l : Layer) → tree self.new l ≡ tree self.old l }
     {
         let note = self.summed(mask, part);
-        self.set_note(part.at, note);
+        let tops = self.node_at(part.at).tops;
+        let told = tops.set(self.since);
+        self.set_node(part.at, Node { tops, told, note });
     }
 
     fn set_note(&mut self, at: usize, note: Note)
         requires { at < length self.old.nodes.items }
-        ensures nodes { self.new.nodes.items ≡ set self.old.nodes.items at (record { tops = (node_at self.old at).tops; note = note }) }
+        ensures nodes { self.new.nodes.items ≡ set self.old.nodes.items at (record (node_at self.old at) { note = note }) }
         ensures further { self.new.further ≡ self.old.further }
         ensures since { self.new.since ≡ self.old.since }
     {
@@ -161,42 +176,5 @@ impl Trees {
         ensures { (row : ℕ) → self.now.since ≤ row → row < result → own_at self.now row at ≡ own_at self.now self.now.since at }
     {
         self.node_at(at).tops.until(self.since)
-    }
-
-    /// Lets the notes speak of the rows from this one on, if they don't begin later, and notes anew what has changed or was
-    /// forgotten.
-    pub fn advance(&mut self, mask: Mask, part: Part, row: u32)
-        requires small { IsSmall part }
-        requires room { part.at + 2 * part.width ≤ length self.old.nodes.items + 1 }
-        requires noted { AreNoted mask self.old part }
-        ensures noted { AreNoted mask self.new part }
-        ensures tops { (l : Layer) → tree self.new l ≡ tree self.old l }
-        ensures as_many { length self.new.nodes.items ≡ length self.old.nodes.items }
-        ensures further { self.new.further ≡ self.old.further }
-        ensures since { self.new.since ≡ max self.old.since row }
-    {
-        self.since = self.since.max(row);
-        self.refresh(mask, part);
-    }
-
-    // Notes anew what lies over a part where its note has come to its end, as a stale one always has.
-    fn refresh(&mut self, mask: Mask, part: Part)
-        requires small { IsSmall part }
-        requires room { part.at + 2 * part.width ≤ length self.old.nodes.items + 1 }
-        requires noted { AreNoted mask self.old part }
-        ensures noted { AreNoted mask self.new part }
-        ensures only { IsOnlyIn part self.old self.new }
-        ensures tops { (l : Layer) → tree self.new l ≡ tree self.old l }
-    {
-        if self.since < self.note_at(part.at).until {
-            return;
-        }
-        if part.width < 2 {
-            self.sum_up(mask, part);
-            return;
-        }
-        self.refresh(mask, part.left());
-        self.refresh(mask, part.right());
-        self.sum_up(mask, part);
     }
 }

@@ -1,6 +1,6 @@
 -- The grid, its blocks and its spots, one more at a time.
 use Rattle.std.proofs.Common.{ℕ, ◌≡◌, ◌+◌, ◌<◌, ◌≤◌, ◌⊎◌, ◌↔◌, List, [], ◌∷◌, ◌++◌, true, false, inl, inr, refl, sym}
-use Rattle.std.proofs.Common.{ap, ◌∙◌, subst, arith, length, get_or, take, map, eq-or-lt_of_le, zero, suc}
+use Rattle.std.proofs.Common.{ap, ◌∙◌, subst, arith, length, get_or, take, map, eq-or-lt_of_le}
 use Rattle.std.specs.Prelude.{ℤ, All, Contains}
 use Rattle.std.specs.List.Sorted.{IsPermutation, IsNonDecreasingBy}
 use Rattle.std.proofs.lemmas.List.Elements.{All-more, All-weaker, All-push, Contains-append_left, Contains-push}
@@ -21,7 +21,7 @@ use Rattle.region_sweep.specs.Grid.{IsDrawn, AreDrawn, AreBlocks, block_of, AreS
 use Rattle.region_sweep.specs.Grid.{tile_of}
 use Rattle.strip_rows.specs.declared.strip.Strip.{Strip}
 use Rattle.region_sweep.specs.declared.tile.Tile.{Tile}
-use Rattle.region_sweep.specs.Rows.{block, no_block, AreAsked, no_spot}
+use Rattle.region_sweep.specs.Rows.{AreAsked, no_spot}
 use Rattle.region_sweep.specs.Blocks.{IsInside}
 use Rattle.region_sweep.proofs.Axes.{in_cell}
 
@@ -153,27 +153,6 @@ blocks_sorted xs ys mask shapes n old new l p h =
           (λ b. (q : Rect) × Contains shapes q × (uses mask q.layer ≡ true) × (b ≡ block_of xs ys q)) old new p g.each;
       all = λ q has v. Contains-permutation old new (block_of xs ys q) p (g.all q has v);
     }
-
--- the blocks of a row stand from left to right, where each two beside one another do
-pub ties_rise : (blocks : List Block) → IsNonDecreasingBy (λ b. b.low) blocks
-    → ((k : ℕ) → k + 1 < length blocks → (block blocks k).low ≡ (block blocks (k + 1)).low
-    → (block blocks k).left ≤ (block blocks (k + 1)).left)
-    → (j k : ℕ) → j ≤ k → k < length blocks → (block blocks j).low ≡ (block blocks k).low
-    → (block blocks j).left ≤ (block blocks k).left
-ties_rise blocks up next j zero l m e = let i : j ≡ 0 = omega arith in
-    subst (λ n. (block blocks n).left ≤ (block blocks 0).left) (sym i) (omega arith)
-ties_rise blocks up next j (suc k) l m e = elim (eq-or-lt_of_le l) [
-  | inl i ↦ subst (λ n. (block blocks n).left ≤ (block blocks (suc k)).left) (sym i) (omega arith)
-  | inr p ↦
-      let n : k + 1 ≡ suc k = omega arith in
-      let a = up j k no_block (omega arith) (omega arith) in
-      let b = up k (suc k) no_block (omega arith) m in
-      let rise =
-      subst (λ i. (block blocks k).low ≡ (block blocks i).low → (block blocks k).left ≤ (block blocks i).left) n
-      (next k (omega arith)) (omega arith) in
-      let rest = ties_rise blocks up next j k (omega arith) (omega arith) (omega arith) in
-      omega arith
-]
 
 mark_some : (ms : List ℤ) (m : ℤ) → Ascending ms → Contains ms m → 0 < cell_of ms m
 mark_some ms m up has = elim (cases_lt 0 (cell_of ms m)) [

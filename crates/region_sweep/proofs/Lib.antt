@@ -3,7 +3,6 @@ mod Axes
 mod Blank
 mod Blocks
 mod Painting
-mod Beginning
 mod Changing
 mod Squares
 mod Stretches

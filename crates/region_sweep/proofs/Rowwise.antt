@@ -2,15 +2,19 @@
 use Rattle.std.proofs.Common.{ℕ, ◌≡◌, ◌+◌, ◌-◌, ◌<◌, ◌≤◌, ◌⊎◌, List, Some, None, Option, inl, inr, refl, sym, ap, ◌∙◌}
 use Rattle.std.proofs.Common.{subst, arith, length, get_or, set, max, eq-or-lt_of_le, get_or-set_other, get_or-set_same}
 use Rattle.std.specs.Prelude.{All}
+use Rattle.std.specs.List.Sorted.{IsNonDecreasingBy}
 use Rattle.std.proofs.lemmas.Bool.{cases_lt, cases_eq, cases_Bool}
 use Rattle.lam_geom.proofs.Ranks.{layer_or_not}
-use Rattle.cover_tree.specs.declared.span.Span.{Span}
+use Rattle.row_windows.specs.declared.window.Window.{Window}
 use Rattle.row_windows.specs.Windows.{seen, in_windows, IsGuarded, ChangeAt, TellChange}
 use Rattle.mask_runs.specs.declared.mask.Mask.{Mask}
 use Rattle.mask_runs.specs.declared.run.Run.{Run}
 use Rattle.mask_runs.specs.Runs.{IsRun, AreRuns}
 use Rattle.mask_runs.specs.Laws.{ColoursByLayers}
+use Rattle.cover_tree.specs.declared.tree.CoverTree.{CoverTree}
+use Rattle.cover_tree.specs.Changes.{AreChanges}
 use Rattle.cover_tree.specs.Covers.{Cover, IsBare, IsRaised, row_colour}
+use Rattle.cover_tree.specs.Trees.{cover_of, told_of, row_of}
 use Rattle.kept_runs.specs.declared.runs.KeptRuns.{KeptRuns}
 use Rattle.kept_runs.specs.Kept.{colours_of, width_of}
 use Rattle.strip_rows.specs.declared.rows.StripRows.{StripRows}
@@ -20,15 +24,18 @@ use Rattle.strip_rows.specs.Swept.{strips_of, cells_of, IsOpenAt, IsSwept, KeepN
 use Rattle.region_sweep.specs.declared.block.Block.{Block}
 use Rattle.region_sweep.specs.declared.spot.Spot.{Spot}
 use Rattle.region_sweep.specs.Blocks.{painted, AreStacked}
-use Rattle.region_sweep.specs.Rows.{block, no_block, spot, no_spot, ReachesOver, AreInOrder, AreWithin, AreRaised}
+use Rattle.region_sweep.specs.Rows.{block, no_block, spot, no_spot, ReachesOver, AreWithin, AreRaised}
 use Rattle.region_sweep.specs.Rows.{IsUpTo, AreAsked, IsFront, IsAnswer, AreAnswered}
+use Rattle.region_sweep.proofs.Changing.{AreTold, told}
 use Rattle.region_sweep.proofs.Painting.{row_painted, blank_right, blank_below}
 
 -- what is known of the rows up to one, in the middle of the loop
-pub record IsAt (mask : Mask) (cells : ℕ) (blocks : List Block) (row : ℕ) (cover : Cover) (kept : KeptRuns)
+pub record IsAt (mask : Mask) (cells : ℕ) (blocks : List Block) (row : ℕ) (tree : CoverTree) (kept : KeptRuns)
     (strips : StripRows) (raised : ℕ)
     (spots : List Spot) (answered : ℕ) (found : List (Option ℕ)) : Type 0 where
-  pub up_to : IsUpTo mask cells blocks row raised cover
+  pub up_to : IsUpTo mask cells blocks row raised (cover_of tree)
+  pub told : (c : ℕ) → c < cells → painted mask blocks row c ≡ told_of tree c
+  pub last : row_of tree ≡ row
   pub wide : width_of kept ≡ cells
   pub same : (c : ℕ) → painted mask blocks row c ≡ colours_of kept c
   pub as_wide : cells_of strips ≡ cells
@@ -93,10 +100,10 @@ raised_more blocks row n old now h l m r =
     }
 
 -- those that begin above the row wait
-pub rest_waits : (blocks : List Block) (row n : ℕ) → AreInOrder blocks
+pub rest_waits : (blocks : List Block) (row n : ℕ) → IsNonDecreasingBy (λ b. b.low) blocks
     → (n < length blocks → row < (block blocks n).low)
     → (k : ℕ) → n ≤ k → k < length blocks → row < (block blocks k).low
-rest_waits blocks row n up h k l m = let a = up.rows n k no_block l m in let b = h (omega arith) in omega arith
+rest_waits blocks row n up h k l m = let a = up n k no_block l m in let b = h (omega arith) in omega arith
 
 pub nothing_raised : (mask : Mask) (cells : ℕ) (blocks : List Block) (cover : Cover) → IsBare mask cells cover
     → AreRaised blocks 0 0 cover
@@ -160,19 +167,19 @@ guarded law mask cells rows blocks row kept st w same =
     λ c l. sym (same c) ∙ blank_right law mask cells rows blocks row c st (omega arith)
 
 -- runs in windows as those of the row that is painted
-pub runs_painted : (colour : ℕ → ℕ) (kept : KeptRuns) (windows : List Span) (runs : List Run)
+pub runs_painted : (colour : ℕ → ℕ) (kept : KeptRuns) (windows : List Window) (runs : List Run)
     → ((c : ℕ) → colour c ≡ colours_of kept c)
     → AreRuns (seen windows (colours_of kept)) runs → AreRuns (seen windows colour) runs
 runs_painted colour kept windows runs same are =
     let e : colours_of kept ≡ colour = λ i c. sym (same c) i in
     subst (λ f. AreRuns (seen windows f) runs) e are
 
-seen_blank : (windows : List Span) (f : ℕ → ℕ) (c : ℕ) → f c ≡ 0 → seen windows f c ≡ 0
+seen_blank : (windows : List Window) (f : ℕ → ℕ) (c : ℕ) → f c ≡ 0 → seen windows f c ≡ 0
 seen_blank windows f c e = elim (cases_Bool (in_windows windows c)) [ inl t ↦ rw t e | inr t ↦ rw t refl ]
 
 -- and they lie in the row
 pub lie_in : ColoursByLayers
-    → (mask : Mask) (cells rows : ℕ) (blocks : List Block) (row wide : ℕ) (windows : List Span) (runs : List Run)
+    → (mask : Mask) (cells rows : ℕ) (blocks : List Block) (row wide : ℕ) (windows : List Window) (runs : List Run)
     → AreStacked mask cells rows blocks → wide ≡ cells → AreRuns (seen windows (painted mask blocks row)) runs
     → LieInRow wide runs
 lie_in law mask cells rows blocks row wide windows runs st e are =
@@ -273,8 +280,8 @@ pub fit_tree : (mask m : Mask) (cells n rows : ℕ) (blocks : List Block) → m 
 fit_tree mask m cells n rows blocks e f st = rw (e, f) (fits mask cells rows blocks st)
 
 -- what windows tell is told of the rows that are painted
-pub whole_step : (colour : ℕ → ℕ → ℕ) (below : ℕ) (old now : KeptRuns) (changed same : List Span)
-    (windows first second : List Span) (olds news : List Run)
+pub whole_step : (colour : ℕ → ℕ → ℕ) (below : ℕ) (old now : KeptRuns) (changed same : List Run)
+    (windows first second : List Window) (olds news : List Run)
     → ((c : ℕ) → colour below c ≡ colours_of old c) → ((c : ℕ) → colour (below + 1) c ≡ colours_of now c)
     → ChangeAt changed (colour below) (colour (below + 1)) → same ≡ changed → first ≡ windows → second ≡ windows
     → ((f : ℕ → ℕ → ℕ) (y : ℕ) → ((c : ℕ) → f y c ≡ colours_of old c) → ChangeAt same (f y) (f (y + 1))
@@ -315,3 +322,24 @@ all_answered spots rows below answered h l m waiting = elim (cases_lt answered (
   | inr k ↦ omega arith
   | inl k ↦ let a = waiting answered (omega arith) k in let b = h answered no_spot k in absurd (omega arith)
 ]
+
+pub up_to_own : {mask m : Mask} {cells n : ℕ} {blocks : List Block} {row raised : ℕ} {cover : Cover} → m ≡ mask
+    → n ≡ cells → IsUpTo m n blocks row raised cover → IsUpTo mask cells blocks row raised cover
+up_to_own e f h = record { of_mask = h.of_mask ∙ e; wide = h.wide ∙ f; are = h.are; waiting = h.waiting }
+
+-- what the tree tells of the next row, when the blocks are raised that begin in it
+pub next_told : {mask : Mask} {cells rows : ℕ} {blocks : List Block} {below : ℕ} {tree : CoverTree} {kept : KeptRuns}
+    {strips : StripRows} {raised next : ℕ} {spots : List Spot} {answered : ℕ} {found : List (Option ℕ)}
+    {changed : List Run} (upper : CoverTree) → ColoursByLayers → AreStacked mask cells rows blocks
+    → IsAt mask cells blocks below tree kept strips raised spots answered found
+    → IsUpTo (cover_of tree).mask (cover_of tree).cells blocks (below + 1) next (cover_of upper)
+    → ((c : ℕ) → told_of upper c ≡ told_of tree c)
+    → AreChanges (told_of upper) (row_colour (cover_of upper) (below + 1)) (cover_of upper).cells changed
+    → AreTold (painted mask blocks below) (painted mask blocks (below + 1)) cells changed
+next_told {mask} {cells} {rows} {blocks} {below} {next = next} {changed = changed} upper law st inv up same h =
+    let own = up_to_own inv.up_to.of_mask inv.up_to.wide up in
+    told (told_of upper) (row_colour (cover_of upper) (below + 1)) (painted mask blocks below)
+    (painted mask blocks (below + 1)) cells changed (λ c l. inv.told c l ∙ sym (same c))
+    (tree_tells law mask blocks (below + 1) next (cover_of upper) own.of_mask own.are own.waiting)
+    (last_alike law mask cells rows blocks below st)
+    (subst (λ n. AreChanges (told_of upper) (row_colour (cover_of upper) (below + 1)) n changed) own.wide h)

@@ -1,5 +1,6 @@
 -- Blocks of cells, and the colours that they make.
 use Rattle.std.specs.Prelude.{◌≡◌, ◌&&◌, ◌||◌, ℕ, ◌<◌, List, [], ◌∷◌, All, Bool, false, true, nat_le, nat_lt}
+use Rattle.std.specs.List.Sorted.{IsNonDecreasingBy}
 use Rattle.lam_geom.specs.declared.layer.Layer.{Layer}
 use Rattle.lam_geom.specs.declared.layer.Layer.TheVariants.{ND, NP, NC, NM, NI, NB, NG}
 use Rattle.mask_runs.specs.declared.mask.Layers.{Layers}
@@ -7,7 +8,6 @@ use Rattle.mask_runs.specs.declared.mask.Mask.{Mask}
 use Rattle.mask_runs.specs.declared.mask.Mask.TheVariants.{Only}
 use Rattle.mask_runs.specs.Colours.{uses, colour_of}
 use Rattle.region_sweep.specs.declared.block.Block.{Block}
-use Rattle.region_sweep.specs.Rows.{AreInOrder}
 
 -- whether the block covers that cell of the layer
 abbrev pub covers : Block → Layer → ℕ → ℕ → Bool
@@ -42,7 +42,7 @@ pub record IsInside (mask : Mask) (cells rows : ℕ) (b : Block) : Type 0 where
   pub low : 0 < b.low
   pub high : b.high < rows
 
--- such blocks in order
+-- such blocks, those first that begin in lower rows
 pub record AreStacked (mask : Mask) (cells rows : ℕ) (blocks : List Block) : Type 0 where
   pub each : All (IsInside mask cells rows) blocks
-  pub order : AreInOrder blocks
+  pub order : IsNonDecreasingBy (λ b. b.low) blocks

@@ -3,5 +3,4 @@ pub mod Touching
 pub mod Grid
 pub mod Blocks
 pub mod Rows
-pub mod Begins
 pub mod Repainting

@@ -1,16 +1,15 @@
 -- Rows that get the colours of the next one.
-use Rattle.std.specs.Prelude.{◌≡◌, ℕ, ◌<◌, ◌≤◌, List}
-use Rattle.cover_tree.specs.declared.span.Span.{Span}
+use Rattle.std.specs.Prelude.{◌≡◌, ℕ, ◌<◌, ◌≤◌, List, All}
+use Rattle.mask_runs.specs.declared.run.Run.{Run}
 use Rattle.kept_runs.specs.declared.runs.KeptRuns.{KeptRuns}
-use Rattle.kept_runs.specs.Kept.{colours_of, width_of}
+use Rattle.kept_runs.specs.Kept.{colours_of}
 use Rattle.row_windows.specs.Windows.{Touches}
 
--- the cells of the stretch have these colours
-abbrev pub IsShown : (ℕ → ℕ) → Span → KeptRuns → Type 0
-IsShown colour stretch kept = (c : ℕ) → stretch.from ≤ c → c < stretch.to → colours_of kept c ≡ colour c
+-- the cells of each stretch have its colour in this row
+abbrev pub HaveColours : (ℕ → ℕ) → List Run → Type 0
+HaveColours colour stretches = All (λ s. (c : ℕ) → s.left ≤ c → c < s.right → colour c ≡ s.colour) stretches
 
--- the cells of all stretches have them, and the others have theirs still
-pub record IsRepainted (colour : ℕ → ℕ) (old now : KeptRuns) (stretches : List Span) : Type 0 where
+-- the cells of all stretches have the colours of the row, and the others have theirs still
+pub record IsRepainted (colour : ℕ → ℕ) (old now : KeptRuns) (stretches : List Run) : Type 0 where
   pub touched : (c : ℕ) → Touches stretches c → colours_of now c ≡ colour c
   pub others : (c : ℕ) → (¬ Touches stretches c) → colours_of now c ≡ colours_of old c
-  pub cells : width_of now ≡ width_of old

@@ -38,17 +38,11 @@ pub record AreRaised (blocks : List Block) (row raised : ℕ) (cover : Cover) : 
   pub begun : (k : ℕ) → k < raised → (block blocks k).low ≤ row
   pub tops : (l : Layer) (c z : ℕ) → (z < cover.top l c) ↔ ((k : ℕ) × (k < raised) × ReachesOver (block blocks k) l c z)
 
--- those that begin in lower rows stand first, and those of a row from left to right
-pub record AreInOrder (blocks : List Block) : Type 0 where
-  pub rows : IsNonDecreasingBy (λ b. b.low) blocks
-  pub ties : (j k : ℕ) → j ≤ k → k < length blocks → (block blocks j).low ≡ (block blocks k).low
-      → (block blocks j).left ≤ (block blocks k).left
-
--- the mask uses the blocks, which lie before the last of so many cells
+-- the mask uses the blocks, which lie before the last of so many cells and stand in the order of the rows where they begin
 pub record AreWithin (mask : Mask) (cells : ℕ) (blocks : List Block) : Type 0 where
   pub used : All (λ b. uses mask b.layer ≡ true) blocks
   pub within : All (λ b. b.right < cells) blocks
-  pub order : AreInOrder blocks
+  pub order : IsNonDecreasingBy (λ b. b.low) blocks
 
 -- the tree covers what the blocks cover that begin at the row or below, which are the first `raised` ones
 pub record IsUpTo (mask : Mask) (cells : ℕ) (blocks : List Block) (row raised : ℕ) (cover : Cover) : Type 0 where

@@ -40,7 +40,7 @@ impl Grid {
         Ok(Grid { columns, rows })
     }
 
-    /// The blocks of the rectangles that the mask uses, lowest rows first, and each row from left to right.
+    /// The blocks of the rectangles that the mask uses, lowest rows first.
     pub(crate) fn blocks(
         &self,
         alloc: Global,
@@ -58,7 +58,6 @@ impl Grid {
             }
         }
         let mut blocks = blocks.into_vec();
-        blocks.sort_by_key(|block| block.left)?;
         blocks.sort_by_key(|block| block.low)?;
         Ok(blocks)
     }

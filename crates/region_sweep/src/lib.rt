@@ -3,9 +3,7 @@
 
 mod axis;
 mod block;
-mod changes;
 mod grid;
-mod reach;
 mod repaint;
 mod rows;
 mod spot;

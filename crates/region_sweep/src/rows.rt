@@ -1,7 +1,7 @@
 //! The sweep over rows of cells.
 
 ghost use Rattle.std.specs.Prelude.{◌≡◌, ℕ, ◌+◌, ◌<◌, ◌≤◌, ◌^◌, All, IfOk, length};
-ghost use Rattle.cover_tree.specs.Trees.{cover_of};
+ghost use Rattle.cover_tree.specs.Trees.{cover_of, told_of, row_of};
 ghost use Rattle.kept_runs.specs.Kept.{width_of};
 ghost use Rattle.strip_rows.specs.Swept.{strips_of, cells_of};
 ghost use Rattle.region_sweep.specs.Blocks.{painted, AreStacked};
@@ -9,7 +9,6 @@ ghost use Rattle.region_sweep.specs.declared.spot.Spot.{Spot};
 ghost use Rattle.region_sweep.specs.Rows.{spot, AreWithin, AreRaised, IsUpTo, AreAsked, IsFront, IsAnswer, AreAnswered, IsSweep};
 
 use crate::block::Block;
-use crate::changes::find_changes;
 use crate::repaint::repaint;
 use crate::spot::Spot;
 use cover_tree::CoverTree;
@@ -59,11 +58,11 @@ pub(crate) fn sweep_rows(
     let mut answered = answer(&strips, &kept, spots, 0, 0, found);
     for below in 0..size.rows - 1 {
         let row = below + 1;
-        find_changes(&tree, size.cells, blocks, raised, below, &mut changed)?;
+        raised = raise(&mut tree, blocks, raised, row);
+        tree.advance(row, &mut changed)?;
         find_windows(&kept, &changed, &mut windows)?;
         collect_windows(&kept, &windows, &mut piece, &mut old)?;
-        raised = raise(&mut tree, blocks, raised, row);
-        repaint(&tree, row, &changed, &mut piece, &mut kept)?;
+        repaint(&changed, &mut kept);
         collect_windows(&kept, &windows, &mut piece, &mut new)?;
         strips.step(&old, &new)?;
         answered = answer(&strips, &kept, spots, answered, row, found);
@@ -75,7 +74,9 @@ pub(crate) fn sweep_rows(
 fn raise(tree: &mut CoverTree, blocks: &[Block], raised: usize, row: u32) -> usize
     requires within { AreWithin (cover_of tree.old).mask (cover_of tree.old).cells blocks.now }
     requires raised { AreRaised blocks.now row raised (cover_of tree.old) }
-    ensures { IsUpTo (cover_of tree.old).mask (cover_of tree.old).cells blocks.now row result (cover_of tree.new) }
+    ensures up_to { IsUpTo (cover_of tree.old).mask (cover_of tree.old).cells blocks.now row result (cover_of tree.new) }
+    ensures row { row_of tree.new ≡ row_of tree.old }
+    ensures told { (c : ℕ) → told_of tree.new c ≡ told_of tree.old c }
 {
     let mut next = raised;
     while next < blocks.len() && blocks[next].low <= row {
@@ -83,7 +84,6 @@ fn raise(tree: &mut CoverTree, blocks: &[Block], raised: usize, row: u32) -> usi
         tree.raise(block.layer, block.left, block.right, block.high);
         next += 1;
     }
-    tree.advance(row);
     next
 }
 

@@ -9,26 +9,26 @@ use Rattle.std.proofs.lemmas.List.{get_or_default}
 use Rattle.mp_base.proofs.Tests.{decides_at_most}
 use Rattle.mask_runs.specs.declared.run.Run.{Run}
 use Rattle.mask_runs.specs.Runs.{IsRun}
-use Rattle.cover_tree.specs.declared.span.Span.{Span}
+use Rattle.row_windows.specs.declared.window.Window.{Window}
 use Rattle.row_windows.specs.Windows.{in_windows, seen}
 
-abbrev pub no_window : Span
+abbrev pub no_window : Window
 no_window = record { from = 0; to = 0 }
 
-abbrev pub window : List Span → ℕ → Span
+abbrev pub window : List Window → ℕ → Window
 window windows k = slice_index_or windows k no_window
 
 -- one of the windows has the cell
-pub record InWindow (windows : List Span) (c : ℕ) : Type 0 where
+pub record InWindow (windows : List Window) (c : ℕ) : Type 0 where
   pub place : ℕ
   pub among : place < length windows
   pub from : (window windows place).from ≤ c
   pub to : c < (window windows place).to
 
-abbrev Has : ℕ → Span → Type 0
+abbrev Has : ℕ → Window → Type 0
 Has c w = (w.from ≤ c) × (c < w.to)
 
-pub in_decides : (windows : List Span) (c : ℕ) → Decides (in_windows windows c) (InWindow windows c)
+pub in_decides : (windows : List Window) (c : ℕ) → Decides (in_windows windows c) (InWindow windows c)
 unfolding in_windows
 in_decides windows c = Decides-like (in_windows windows c)
     (λ h. record { place = h.0; among = h.1; from = (h.2 no_window).0; to = (h.2 no_window).1 })
@@ -36,22 +36,22 @@ in_decides windows c = Decides-like (in_windows windows c)
     (Decides-by_or (λ w. nat_le w.from c && nat_lt c w.to) (Has c) (λ ws. in_windows ws c)
     (λ w. Decides-and _ _ (decides_at_most w.from c) (Decides-ltb c w.to)) refl (λ _ _. refl) windows)
 
-pub in_or_not : (windows : List Span) (c : ℕ) → InWindow windows c ⊎ (¬ InWindow windows c)
+pub in_or_not : (windows : List Window) (c : ℕ) → InWindow windows c ⊎ (¬ InWindow windows c)
 in_or_not windows c = elim (cases_Bool (in_windows windows c)) [
   | inl e ↦ inl ((in_decides windows c).0 e)
   | inr e ↦ inr (not_from_Decides (in_windows windows c) (in_decides windows c) e)
 ]
 
-pub seen_in : (windows : List Span) (f : ℕ → ℕ) (c : ℕ) → InWindow windows c → seen windows f c ≡ f c
+pub seen_in : (windows : List Window) (f : ℕ → ℕ) (c : ℕ) → InWindow windows c → seen windows f c ≡ f c
 seen_in windows f c h = rw ((in_decides windows c).1 h) refl
 
-pub seen_out : (windows : List Span) (f : ℕ → ℕ) (c : ℕ) → (¬ InWindow windows c) → seen windows f c ≡ 0
+pub seen_out : (windows : List Window) (f : ℕ → ℕ) (c : ℕ) → (¬ InWindow windows c) → seen windows f c ≡ 0
 seen_out windows f c h = elim (cases_Bool (in_windows windows c)) [
   | inl e ↦ absurd (h ((in_decides windows c).0 e))
   | inr e ↦ rw e refl
 ]
 
-pub seen_some : (windows : List Span) (f : ℕ → ℕ) (c k : ℕ) → seen windows f c ≡ k → 0 < k
+pub seen_some : (windows : List Window) (f : ℕ → ℕ) (c k : ℕ) → seen windows f c ≡ k → 0 < k
     → InWindow windows c × (f c ≡ k)
 seen_some windows f c k e p = elim (in_or_not windows c) [
   | inl h ↦ (h, sym (seen_in windows f c h) ∙ e)
@@ -63,11 +63,11 @@ pub record IsFirm (f : ℕ → ℕ) (cell : ℕ) : Type 0 where
   pub ends : (c : ℕ) → c + 1 ≡ cell → 0 < f c → f c ≢ f cell
 
 -- nor over the ends of windows
-pub record AreFirm (f : ℕ → ℕ) (windows : List Span) : Type 0 where
+pub record AreFirm (f : ℕ → ℕ) (windows : List Window) : Type 0 where
   pub from : (k : ℕ) → k < length windows → IsFirm f (window windows k).from
   pub to : (k : ℕ) → k < length windows → IsFirm f (window windows k).to
 
-module _ (windows : List Span) (f : ℕ → ℕ) (firm : AreFirm f windows) where
+module _ (windows : List Window) (f : ℕ → ℕ) (firm : AreFirm f windows) where
   -- where a window begins or ends, a row of cells of one colour doesn't go on
   into : (c k : ℕ) → 0 < k → (¬ InWindow windows c) → InWindow windows (c + 1) → f c ≡ k → f (c + 1) ≢ k
   into c k p out w e =

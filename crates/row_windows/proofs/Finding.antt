@@ -9,7 +9,7 @@ use Rattle.std.proofs.lemmas.List.Quantifiers.{all_pairs_push}
 use Rattle.mask_runs.specs.declared.run.Run.{Run}
 use Rattle.mask_runs.specs.Runs.{IsRun}
 use Rattle.mask_runs.proofs.Runs.{same_run}
-use Rattle.cover_tree.specs.declared.span.Span.{Span}
+use Rattle.row_windows.specs.declared.window.Window.{Window}
 use Rattle.strip_rows.proofs.Turning.{same_run as one_from}
 use Rattle.row_windows.specs.Windows.{stretch, no_stretch, Touches, ChangeAt, AreFit, AreApart, TellChange}
 use Rattle.row_windows.specs.Reaching.{IsLeftOf, IsRightOf, IsJoined, IsBegun, IsOpened}
@@ -17,33 +17,33 @@ use Rattle.row_windows.proofs.Cutting.{window, no_window, IsFirm}
 use Rattle.row_windows.proofs.Telling.{AreWindows, tell_change}
 
 -- the cell before has no colour and no stretch has it
-pub record IsFreeBefore (colour : ℕ → ℕ) (stretches : List Span) (a : ℕ) : Type 0 where
+pub record IsFreeBefore (colour : ℕ → ℕ) (stretches : List Run) (a : ℕ) : Type 0 where
   pub blank : (c : ℕ) → c + 1 ≡ a → colour c ≡ 0
   pub free : (c : ℕ) → c + 1 ≡ a → ¬ Touches stretches c
 
 -- a run begins there, and no stretch has a cell of it nor one of the two beside it
-pub record IsFreeRun (colour : ℕ → ℕ) (stretches : List Span) (r : Run) : Type 0 where
+pub record IsFreeRun (colour : ℕ → ℕ) (stretches : List Run) (r : Run) : Type 0 where
   pub is : IsRun colour r
   pub free : (c : ℕ) → r.left ≤ c + 1 → c ≤ r.right → ¬ Touches stretches c
 
-pub data IsStart (colour : ℕ → ℕ) (stretches : List Span) (a : ℕ) : Type 0 where
+pub data IsStart (colour : ℕ → ℕ) (stretches : List Run) (a : ℕ) : Type 0 where
   blank_before : IsFreeBefore colour stretches a → IsStart colour stretches a
   run_from : (r : Run) → IsFreeRun colour stretches r → r.left ≡ a → IsStart colour stretches a
 
-pub data IsStop (colour : ℕ → ℕ) (stretches : List Span) (b : ℕ) : Type 0 where
+pub data IsStop (colour : ℕ → ℕ) (stretches : List Run) (b : ℕ) : Type 0 where
   blank_after : colour b ≡ 0 → (¬ Touches stretches b) → IsStop colour stretches b
   run_upto : (r : Run) → IsFreeRun colour stretches r → r.right ≡ b → IsStop colour stretches b
 
 -- the windows so far, and the stretches before the n-th, which are in them or in the open window
-pub record IsFinding (colour : ℕ → ℕ) (cells : ℕ) (stretches : List Span) (n : ℕ) (out : List Span)
-    (current : Span) : Type 0 where
-  pub ahead : (k : ℕ) → n ≤ k → k < length stretches → current.from ≤ (stretch stretches k).from
-  pub behind : (k : ℕ) → k < n → (stretch stretches k).to ≤ current.to
+pub record IsFinding (colour : ℕ → ℕ) (cells : ℕ) (stretches : List Run) (n : ℕ) (out : List Window)
+    (current : Window) : Type 0 where
+  pub ahead : (k : ℕ) → n ≤ k → k < length stretches → current.from ≤ (stretch stretches k).left
+  pub behind : (k : ℕ) → k < n → (stretch stretches k).right ≤ current.to
   pub order : current.from ≤ current.to
   pub within : current.to < cells
-  pub held : (k : ℕ) → k < n → (current.from ≤ (stretch stretches k).from)
-      ⊎ ((j : ℕ) × (j < length out) × ((window out j).from ≤ (stretch stretches k).from)
-      × ((stretch stretches k).to ≤ (window out j).to))
+  pub held : (k : ℕ) → k < n → (current.from ≤ (stretch stretches k).left)
+      ⊎ ((j : ℕ) × (j < length out) × ((window out j).from ≤ (stretch stretches k).left)
+      × ((stretch stretches k).right ≤ (window out j).to))
   pub first : IsStart colour stretches current.from
   pub starts : All (λ w. IsStart colour stretches w.from) out
   pub stops : All (λ w. IsStop colour stretches w.to) out
@@ -51,17 +51,17 @@ pub record IsFinding (colour : ℕ → ℕ) (cells : ℕ) (stretches : List Span
   pub before : All (λ w. w.to < current.from) out
 
 -- no stretch has a cell between those that end by it and those that begin after it
-free_at : (stretches : List Span) (n c : ℕ) → ((k : ℕ) → k < n → (stretch stretches k).to ≤ c)
-    → ((k : ℕ) → n ≤ k → k < length stretches → c < (stretch stretches k).from)
+free_at : (stretches : List Run) (n c : ℕ) → ((k : ℕ) → k < n → (stretch stretches k).right ≤ c)
+    → ((k : ℕ) → n ≤ k → k < length stretches → c < (stretch stretches k).left)
     → ¬ Touches stretches c
 free_at stretches n c h g = λ t. let a = t.from in let b = t.to in elim (cases_lt t.place n) [
   | inl l ↦ let x = h t.place l in absurd (omega arith)
   | inr l ↦ let x = g t.place l t.among in absurd (omega arith)
 ]
 
-start_at : (colour : ℕ → ℕ) (stretches : List Span) (n bound cell a : ℕ)
-    → ((k : ℕ) → k < n → (stretch stretches k).to ≤ bound)
-    → ((k : ℕ) → n ≤ k → k < length stretches → cell ≤ (stretch stretches k).from) → (bound < a ⊎ (n ≡ 0))
+start_at : (colour : ℕ → ℕ) (stretches : List Run) (n bound cell a : ℕ)
+    → ((k : ℕ) → k < n → (stretch stretches k).right ≤ bound)
+    → ((k : ℕ) → n ≤ k → k < length stretches → cell ≤ (stretch stretches k).left) → (bound < a ⊎ (n ≡ 0))
     → IsLeftOf colour cell a → IsStart colour stretches a
 start_at colour stretches n bound cell a h g low l =
     let o = l.order in
@@ -76,9 +76,9 @@ start_at colour stretches n bound cell a h g low l =
           run_from e.run (record { is = e.is; free = λ c x y. free c (omega arith) (omega arith) }) e.left
     ]
 
-stop_at : (colour : ℕ → ℕ) (stretches : List Span) (n cell b : ℕ)
-    → ((k : ℕ) → k < n → (stretch stretches k).to ≤ cell)
-    → ((k : ℕ) → n ≤ k → k < length stretches → b < (stretch stretches k).from) → IsRightOf colour cell b
+stop_at : (colour : ℕ → ℕ) (stretches : List Run) (n cell b : ℕ)
+    → ((k : ℕ) → k < n → (stretch stretches k).right ≤ cell)
+    → ((k : ℕ) → n ≤ k → k < length stretches → b < (stretch stretches k).left) → IsRightOf colour cell b
     → IsStop colour stretches b
 stop_at colour stretches n cell b h g r =
     let o = r.order in
@@ -92,13 +92,13 @@ stop_at colour stretches n cell b h g r =
           run_upto e.run (record { is = e.is; free = λ c x y. free c (omega arith) (omega arith) }) e.right
     ]
 
-rises : (cells : ℕ) (stretches : List Span) (j k : ℕ) → AreFit cells stretches → j ≤ k → k < length stretches
-    → (stretch stretches j).from ≤ (stretch stretches k).from
+rises : (cells : ℕ) (stretches : List Run) (j k : ℕ) → AreFit cells stretches → j ≤ k → k < length stretches
+    → (stretch stretches j).left ≤ (stretch stretches k).left
 rises cells stretches j k fit l m = fit.ascending j k no_stretch l m
 
-pub none_found : (colour : ℕ → ℕ) (cells : ℕ) (stretches : List Span) (out : List Span) (current : Span)
+pub none_found : (colour : ℕ → ℕ) (cells : ℕ) (stretches : List Run) (out : List Window) (current : Window)
     → AreFit cells stretches → 0 < length stretches → out ≡ []
-    → IsLeftOf colour (stretch stretches 0).from current.from → current.to ≡ (stretch stretches 0).to
+    → IsLeftOf colour (stretch stretches 0).left current.from → current.to ≡ (stretch stretches 0).right
     → IsFinding colour cells stretches 1 out current
 none_found colour cells stretches out current fit some none l e =
     let o = l.order in
@@ -106,11 +106,11 @@ none_found colour cells stretches out current fit some none l e =
     let empty : length out ≡ 0 = ap length none in
     record {
       ahead = λ k a b. let r = rises cells stretches 0 k fit (omega arith) b in omega arith;
-      behind = λ k a. let z : k ≡ 0 = omega arith in let q = ap (λ j. (stretch stretches j).to) z in omega arith;
+      behind = λ k a. let z : k ≡ 0 = omega arith in let q = ap (λ j. (stretch stretches j).right) z in omega arith;
       order = let x = fit.wide 0 no_stretch some in omega arith;
       within = omega arith;
-      held = λ k a. let z : k ≡ 0 = omega arith in let q = ap (λ j. (stretch stretches j).from) z in inl (omega arith);
-      first = start_at colour stretches 0 0 (stretch stretches 0).from current.from (λ k a. absurd (omega arith))
+      held = λ k a. let z : k ≡ 0 = omega arith in let q = ap (λ j. (stretch stretches j).left) z in inl (omega arith);
+      first = start_at colour stretches 0 0 (stretch stretches 0).left current.from (λ k a. absurd (omega arith))
           (λ k a b. rises cells stretches 0 k fit (omega arith) b) (inr refl) l;
       starts = λ k d a. absurd (omega arith);
       stops = λ k d a. absurd (omega arith);
@@ -118,8 +118,8 @@ none_found colour cells stretches out current fit some none l e =
       before = λ k d a. absurd (omega arith);
     }
 
-joined_more : (colour : ℕ → ℕ) (cells : ℕ) (stretches : List Span) (n : ℕ) (out now : List Span)
-    (current next : Span) → AreFit cells stretches → n < length stretches
+joined_more : (colour : ℕ → ℕ) (cells : ℕ) (stretches : List Run) (n : ℕ) (out now : List Window)
+    (current next : Window) → AreFit cells stretches → n < length stretches
     → IsFinding colour cells stretches n out current → IsJoined current (stretch stretches n) out now next
     → IsFinding colour cells stretches (n + 1) now next
 joined_more colour cells stretches n out now current next fit l h j =
@@ -130,13 +130,13 @@ joined_more colour cells stretches n out now current next fit l h j =
     record {
       ahead = λ k a b. let z = h.ahead k (omega arith) b in omega arith;
       behind = λ k a. elim (cases_eq k n) [
-        | inl e ↦ let q = ap (λ j. (stretch stretches j).to) e in omega arith
+        | inl e ↦ let q = ap (λ j. (stretch stretches j).right) e in omega arith
         | inr e ↦ let z = h.behind k (omega arith) in omega arith
       ];
       order = let x = h.order in omega arith;
       within = omega arith;
       held = λ k a. elim (cases_eq k n) [
-        | inl e ↦ let z = h.ahead n (omega arith) l in let q = ap (λ j. (stretch stretches j).from) e in
+        | inl e ↦ let z = h.ahead n (omega arith) l in let q = ap (λ j. (stretch stretches j).left) e in
             inl (omega arith)
         | inr e ↦ elim (h.held k (omega arith)) [
           | inl z ↦ inl (omega arith)
@@ -151,22 +151,22 @@ joined_more colour cells stretches n out now current next fit l h j =
     }
 
 -- what windows hold with the one that is added
-record IsClosed (colour : ℕ → ℕ) (cells : ℕ) (stretches : List Span) (n : ℕ) (out : List Span)
+record IsClosed (colour : ℕ → ℕ) (cells : ℕ) (stretches : List Run) (n : ℕ) (out : List Window)
     (end : ℕ) : Type 0 where
   pub held : (k : ℕ) → k < n
-      → (j : ℕ) × (j < length out) × ((window out j).from ≤ (stretch stretches k).from)
-      × ((stretch stretches k).to ≤ (window out j).to)
+      → (j : ℕ) × (j < length out) × ((window out j).from ≤ (stretch stretches k).left)
+      × ((stretch stretches k).right ≤ (window out j).to)
   pub starts : All (λ w. IsStart colour stretches w.from) out
   pub stops : All (λ w. IsStop colour stretches w.to) out
   pub apart : AreApart cells out
   pub before : All (λ w. w.to ≤ end) out
 
-close : (colour : ℕ → ℕ) (cells : ℕ) (stretches : List Span) (n : ℕ) (out : List Span) (current : Span) (end : ℕ)
+close : (colour : ℕ → ℕ) (cells : ℕ) (stretches : List Run) (n : ℕ) (out : List Window) (current : Window) (end : ℕ)
     → IsFinding colour cells stretches n out current → IsRightOf colour current.to end → end < cells
-    → ((k : ℕ) → n ≤ k → k < length stretches → end < (stretch stretches k).from)
+    → ((k : ℕ) → n ≤ k → k < length stretches → end < (stretch stretches k).left)
     → IsClosed colour cells stretches n (out ++ record { from = current.from; to = end } ∷ []) end
 close colour cells stretches n out current end h r m g =
-    let w : Span = record { from = current.from; to = end } in
+    let w : Window = record { from = current.from; to = end } in
     let o = r.order in
     let u = h.order in
     record {
@@ -174,16 +174,16 @@ close colour cells stretches n out current end h r m g =
         | inl z ↦
             let p = Contains-push out w in
             let e = get_or_default (out ++ w ∷ []) p.0 no_window w p.1 ∙ p.2 in
-            let q = ap (λ (v : Span). v.from) e in
-            let s = ap (λ (v : Span). v.to) e in
+            let q = ap (λ (v : Window). v.from) e in
+            let s = ap (λ (v : Window). v.to) e in
             let b = h.behind k a in
             (p.0, p.1, omega arith, omega arith)
         | inr z ↦
             let p = Contains-append_left out (w ∷ []) (window out z.0)
             (z.0, z.1, get_or_default out z.0 (window out z.0) no_window z.1) in
             let e = get_or_default (out ++ w ∷ []) p.0 no_window (window out z.0) p.1 ∙ p.2 in
-            let q = ap (λ (v : Span). v.from) e in
-            let s = ap (λ (v : Span). v.to) e in
+            let q = ap (λ (v : Window). v.from) e in
+            let s = ap (λ (v : Window). v.to) e in
             let a1 = z.2 in
             let a2 = z.3 in
             (p.0, p.1, omega arith, omega arith)
@@ -198,8 +198,8 @@ close colour cells stretches n out current end h r m g =
       before = All-push (λ v. v.to ≤ end) out w (λ k d l. let z = h.before k d l in omega arith) (omega arith);
     }
 
-begun_more : (colour : ℕ → ℕ) (cells : ℕ) (stretches : List Span) (n : ℕ) (out now : List Span)
-    (current next : Span) → AreFit cells stretches → n < length stretches
+begun_more : (colour : ℕ → ℕ) (cells : ℕ) (stretches : List Run) (n : ℕ) (out now : List Window)
+    (current next : Window) → AreFit cells stretches → n < length stretches
     → IsFinding colour cells stretches n out current → IsBegun colour cells current (stretch stretches n) out now next
     → IsFinding colour cells stretches (n + 1) now next
 begun_more colour cells stretches n out now current next fit l h b =
@@ -214,16 +214,16 @@ begun_more colour cells stretches n out now current next fit l h b =
     record {
       ahead = λ k x y. let z = rises cells stretches n k fit (omega arith) y in omega arith;
       behind = λ k x. elim (cases_eq k n) [
-        | inl e ↦ let q = ap (λ j. (stretch stretches j).to) e in omega arith
+        | inl e ↦ let q = ap (λ j. (stretch stretches j).right) e in omega arith
         | inr e ↦ let z = h.behind k (omega arith) in omega arith
       ];
       order = omega arith;
       within = omega arith;
       held = λ k x. elim (cases_eq k n) [
-        | inl e ↦ let q = ap (λ j. (stretch stretches j).from) e in inl (omega arith)
+        | inl e ↦ let q = ap (λ j. (stretch stretches j).left) e in inl (omega arith)
         | inr e ↦ inr (rw b.added (c.held k (omega arith)))
       ];
-      first = start_at colour stretches n b.end (stretch stretches n).from next.from
+      first = start_at colour stretches n b.end (stretch stretches n).left next.from
           (λ k x. let z = h.behind k x in omega arith)
           (λ k x y. rises cells stretches n k fit x y) (inl a) b.left;
       starts = rw b.added c.starts;
@@ -232,8 +232,8 @@ begun_more colour cells stretches n out now current next fit l h b =
       before = rw b.added (λ k d x. let z = c.before k d x in omega arith);
     }
 
-pub finding_more : (colour : ℕ → ℕ) (cells : ℕ) (stretches : List Span) (n : ℕ) (out now : List Span)
-    (current next : Span) → AreFit cells stretches → n < length stretches
+pub finding_more : (colour : ℕ → ℕ) (cells : ℕ) (stretches : List Run) (n : ℕ) (out now : List Window)
+    (current next : Window) → AreFit cells stretches → n < length stretches
     → IsFinding colour cells stretches n out current → IsOpened colour cells current (stretch stretches n) out now next
     → IsFinding colour cells stretches (n + 1) now next
 finding_more colour cells stretches n out now current next fit l h (inl j) =
@@ -242,7 +242,7 @@ finding_more colour cells stretches n out now current next fit l h (inr b) =
     begun_more colour cells stretches n out now current next fit l h b
 
 -- a run that both rows have, since no stretch changes it
-free_run : (old new : ℕ → ℕ) (stretches : List Span) (r : Run) → ChangeAt stretches old new
+free_run : (old new : ℕ → ℕ) (stretches : List Run) (r : Run) → ChangeAt stretches old new
     → IsFreeRun old stretches r → IsRun new r
 free_run old new stretches r change f =
     let w = f.is.wide in
@@ -269,7 +269,7 @@ one_upto f p q a b e =
       ]
     ]) e k
 
-module _ (old new : ℕ → ℕ) (stretches : List Span) (change : ChangeAt stretches old new) where
+module _ (old new : ℕ → ℕ) (stretches : List Run) (change : ChangeAt stretches old new) where
   -- no run goes on over the left end of a run
   firm_from : (f : ℕ → ℕ) (r : Run) (a : ℕ) → IsRun f r → r.left ≡ a → IsFirm f a
   firm_from f r a is e =
@@ -313,7 +313,7 @@ module _ (old new : ℕ → ℕ) (stretches : List Span) (change : ChangeAt stre
   stop_last b (run_upto r f g) q is e s =
       subst (IsRun old) (one_upto new r q (free_run old new stretches r change f) is (g ∙ sym e)) f.is
 
-  are_windows : (cells : ℕ) (windows : List Span) (end : ℕ)
+  are_windows : (cells : ℕ) (windows : List Window) (end : ℕ)
       → IsClosed old cells stretches (length stretches) windows end → AreWindows old new windows
   are_windows cells windows end h = record {
     same = λ c n. change c (λ t.
@@ -336,14 +336,14 @@ module _ (old new : ℕ → ℕ) (stretches : List Span) (change : ChangeAt stre
   }
 
 -- all stretches are in the windows with the one that is open
-module _ (row : ℕ → ℕ) (cells : ℕ) (stretches : List Span) (n : ℕ) (out now : List Span) (current w : Span)
+module _ (row : ℕ → ℕ) (cells : ℕ) (stretches : List Run) (n : ℕ) (out now : List Window) (current w : Window)
     (h : IsFinding row cells stretches n out current)
     (all : n ≡ length stretches) (from : w.from ≡ current.from) (right : IsRightOf row current.to w.to)
     (within : w.to < cells) (added : now ≡ out ++ w ∷ []) where
   complete : IsClosed row cells stretches n now w.to
   complete =
       let e : record { from = current.from; to = w.to } ≡ w = λ i. record { from = sym from i; to = w.to } in
-      subst (λ v. IsClosed row cells stretches n v w.to) (ap (λ (v : Span). out ++ v ∷ []) e ∙ sym added)
+      subst (λ v. IsClosed row cells stretches n v w.to) (ap (λ (v : Window). out ++ v ∷ []) e ∙ sym added)
       (close row cells stretches n out current w.to h right within (λ k a b. absurd (omega arith)))
 
   pub found_apart : AreApart cells now
@@ -358,12 +358,12 @@ module _ (row : ℕ → ℕ) (cells : ℕ) (stretches : List Span) (n : ℕ) (ou
       (subst (λ m. IsClosed (colour y) cells stretches m now w.to) all c))
 
 -- where there are no stretches nothing changes
-pub nothing_apart : (cells : ℕ) (windows : List Span) → windows ≡ [] → AreApart cells windows
+pub nothing_apart : (cells : ℕ) (windows : List Window) → windows ≡ [] → AreApart cells windows
 nothing_apart cells windows e =
     subst (AreApart cells) (sym e)
     (record { within = λ k d a. absurd (omega arith); ascending = λ i j d a b. absurd (omega arith) })
 
-pub nothing_tells : (colour : ℕ → ℕ → ℕ) (y : ℕ) (stretches : List Span) (windows : List Span)
+pub nothing_tells : (colour : ℕ → ℕ → ℕ) (y : ℕ) (stretches : List Run) (windows : List Window)
     → length stretches ≡ 0 → windows ≡ []
     → ChangeAt stretches (colour y) (colour (y + 1)) → TellChange colour y windows
 nothing_tells colour y stretches windows none e change = subst (TellChange colour y) (sym e)

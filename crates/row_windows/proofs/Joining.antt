@@ -10,7 +10,7 @@ use Rattle.std.proofs.lemmas.List.Elements.{All-append, Contains-append_left, Co
 use Rattle.mask_runs.specs.declared.run.Run.{Run}
 use Rattle.mask_runs.specs.Runs.{IsRun, AreRuns}
 use Rattle.kept_runs.specs.Borders.{windowed}
-use Rattle.cover_tree.specs.declared.span.Span.{Span}
+use Rattle.row_windows.specs.declared.window.Window.{Window}
 use Rattle.row_windows.specs.Windows.{AreApart, seen}
 use Rattle.row_windows.proofs.Cutting.{window, no_window, InWindow, in_or_not, seen_in, seen_out}
 
@@ -141,19 +141,19 @@ windowed_out : (a b : ℕ) (f : ℕ → ℕ) (c : ℕ) → (c < a) ⊎ (b ≤ c)
 windowed_out a b f c l = let e : (nat_le a c && nat_lt c b) ≡ false = grind (arith, nat_tests) in rw e refl
 
 -- one of the first n windows has the cell
-record HasCell (windows : List Span) (n c : ℕ) : Type 0 where
+record HasCell (windows : List Window) (n c : ℕ) : Type 0 where
   place : ℕ
   among : place < n
   from : (window windows place).from ≤ c
   to : c < (window windows place).to
 
-module _ (windows : List Span) (n : ℕ) (l : n ≤ length windows) (c : ℕ) where
+module _ (windows : List Window) (n : ℕ) (l : n ≤ length windows) (c : ℕ) where
   in_first : InWindow (take n windows) c → HasCell windows n c
   in_first w =
       let m : w.place < n = let a = w.among in let b = length-take n windows in omega arith in
       let e = get_or-take n windows w.place no_window m in
-      let s = ap (λ (v : Span). v.from) e in
-      let t = ap (λ (v : Span). v.to) e in
+      let s = ap (λ (v : Window). v.from) e in
+      let t = ap (λ (v : Window). v.to) e in
       let a = w.from in
       let b = w.to in
       record { place = w.place; among = m; from = omega arith; to = omega arith }
@@ -162,14 +162,14 @@ module _ (windows : List Span) (n : ℕ) (l : n ≤ length windows) (c : ℕ) wh
   first_in w =
       let m = w.among in
       let e = get_or-take n windows w.place no_window m in
-      let s = ap (λ (v : Span). v.from) e in
-      let t = ap (λ (v : Span). v.to) e in
+      let s = ap (λ (v : Window). v.from) e in
+      let t = ap (λ (v : Window). v.to) e in
       let a = w.from in
       let b = w.to in
       let k = length-take-le n windows l in
       record { place = w.place; among = omega arith; from = omega arith; to = omega arith }
 
-module _ (cells : ℕ) (windows : List Span) (i : ℕ) (f : ℕ → ℕ) (apart : AreApart cells windows)
+module _ (cells : ℕ) (windows : List Window) (i : ℕ) (f : ℕ → ℕ) (apart : AreApart cells windows)
     (l : i < length windows) where
   -- the windows before one end before it begins
   ends_left : (k : ℕ) → k < i → (window windows k).to < (window windows i).from
@@ -232,7 +232,7 @@ module _ (cells : ℕ) (windows : List Span) (i : ℕ) (f : ℕ → ℕ) (apart 
       (window windows i).from joint
 
 -- no window has a run
-pub no_runs : (f : ℕ → ℕ) (windows : List Span) (runs : List Run) → windows ≡ [] → runs ≡ []
+pub no_runs : (f : ℕ → ℕ) (windows : List Window) (runs : List Run) → windows ≡ [] → runs ≡ []
     → AreRuns (seen windows f) runs
 no_runs f windows runs w e = subst (AreRuns (seen windows f)) (sym e) (record {
   each = λ k d l. absurd (omega arith);

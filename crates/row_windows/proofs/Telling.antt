@@ -6,13 +6,13 @@ use Rattle.std.proofs.lemmas.List.Elements.{All-contains}
 use Rattle.mask_runs.specs.declared.run.Run.{Run}
 use Rattle.mask_runs.specs.Runs.{IsRun, AreRuns}
 use Rattle.strip_rows.specs.Changes.{IsChange}
-use Rattle.cover_tree.specs.declared.span.Span.{Span}
+use Rattle.row_windows.specs.declared.window.Window.{Window}
 use Rattle.row_windows.specs.Windows.{seen}
 use Rattle.row_windows.proofs.Cutting.{window, InWindow, AreFirm, in_or_not, seen_run, run_seen, in_all, in_none}
 
 -- the rows are alike beside the windows, and no run goes on over an end of a window; one that adjoins another there is
 -- of both rows
-pub record AreWindows (old new : ℕ → ℕ) (windows : List Span) : Type 0 where
+pub record AreWindows (old new : ℕ → ℕ) (windows : List Window) : Type 0 where
   pub same : (c : ℕ) → (¬ InWindow windows c) → old c ≡ new c
   pub old_firm : AreFirm old windows
   pub new_firm : AreFirm new windows
@@ -22,7 +22,7 @@ pub record AreWindows (old new : ℕ → ℕ) (windows : List Span) : Type 0 whe
       → IsRun old q
 
 -- a run beside the windows is one of the other row too
-unchanged : (f g : ℕ → ℕ) (windows : List Span) → AreFirm f windows → AreFirm g windows
+unchanged : (f g : ℕ → ℕ) (windows : List Window) → AreFirm f windows → AreFirm g windows
     → ((c : ℕ) → (¬ InWindow windows c) → f c ≡ g c)
     → (r : Run) → IsRun f r → (¬ InWindow windows r.left) → IsRun g r
 unchanged f g windows ff gf same r is out =
@@ -63,7 +63,7 @@ unchanged f g windows ff gf same r is out =
     }
 
 -- a run that adjoins one which only the new row has lies in a window
-beside : (old new : ℕ → ℕ) (windows : List Span) → AreWindows old new windows → (p q : Run) → IsRun new p
+beside : (old new : ℕ → ℕ) (windows : List Window) → AreWindows old new windows → (p q : Run) → IsRun new p
     → IsRun new q
     → (p.right ≡ q.left) ⊎ (q.right ≡ p.left) → (¬ IsRun old q) → InWindow windows p.left
 beside old new windows are p q is iq adjoin n = elim (in_or_not windows p.left) [
@@ -100,7 +100,7 @@ beside old new windows are p q is iq adjoin n = elim (in_or_not windows p.left) 
   ])
 ]
 
-pub tell_change : (colour : ℕ → ℕ → ℕ) (y : ℕ) (windows : List Span) → AreWindows (colour y) (colour (y + 1)) windows
+pub tell_change : (colour : ℕ → ℕ → ℕ) (y : ℕ) (windows : List Window) → AreWindows (colour y) (colour (y + 1)) windows
     → (olds news : List Run) → AreRuns (seen windows (colour y)) olds → AreRuns (seen windows (colour (y + 1))) news
     → IsChange colour y olds news
 tell_change colour y windows are olds news h g =

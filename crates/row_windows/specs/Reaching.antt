@@ -2,7 +2,7 @@
 use Rattle.std.specs.Prelude.{◌≡◌, ◌⊎◌, ℕ, ◌+◌, ◌<◌, ◌≤◌, List, [], ◌∷◌, ◌++◌, max}
 use Rattle.mask_runs.specs.declared.run.Run.{Run}
 use Rattle.mask_runs.specs.Runs.{IsRun}
-use Rattle.cover_tree.specs.declared.span.Span.{Span}
+use Rattle.row_windows.specs.declared.window.Window.{Window}
 
 -- the cell before has no colour
 abbrev pub IsBlankBefore : (ℕ → ℕ) → ℕ → Type 0
@@ -55,22 +55,22 @@ pub record IsRightOf (colour : ℕ → ℕ) (cell reached : ℕ) : Type 0 where
   pub by : (colour reached ≡ 0) ⊎ BeginsAfter colour cell reached
 
 -- the open window goes on over the stretch
-pub record IsJoined (current : Span) (e : Span) (old now : List Span) (next : Span) : Type 0 where
+pub record IsJoined (current : Window) (e : Run) (old now : List Window) (next : Window) : Type 0 where
   pub same : now ≡ old
   pub from : next.from ≡ current.from
-  pub to : next.to ≡ max current.to e.to
+  pub to : next.to ≡ max current.to e.right
 
 -- it has been added, and the next one opens at the stretch
-pub record IsBegun (colour : ℕ → ℕ) (cells : ℕ) (current : Span) (e : Span) (old now : List Span)
-    (next : Span) : Type 0 where
+pub record IsBegun (colour : ℕ → ℕ) (cells : ℕ) (current : Window) (e : Run) (old now : List Window)
+    (next : Window) : Type 0 where
   pub end : ℕ
   pub right : IsRightOf colour current.to end
   pub within : end < cells
   pub added : now ≡ old ++ record { from = current.from; to = end } ∷ []
-  pub left : IsLeftOf colour e.from next.from
-  pub to : next.to ≡ e.to
+  pub left : IsLeftOf colour e.left next.from
+  pub to : next.to ≡ e.right
   pub apart : end < next.from
 
-abbrev pub IsOpened : (ℕ → ℕ) → ℕ → Span → Span → List Span → List Span → Span → Type 0
+abbrev pub IsOpened : (ℕ → ℕ) → ℕ → Window → Run → List Window → List Window → Window → Type 0
 IsOpened colour cells current e old now next =
     IsJoined current e old now next ⊎ IsBegun colour cells current e old now next

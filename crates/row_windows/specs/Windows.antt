@@ -5,52 +5,52 @@ use Rattle.std.specs.List.Sorted.{IsNonDecreasingBy}
 use Rattle.mask_runs.specs.declared.run.Run.{Run}
 use Rattle.mask_runs.specs.Runs.{AreRuns}
 use Rattle.strip_rows.specs.Changes.{IsChange}
-use Rattle.cover_tree.specs.declared.span.Span.{Span}
+use Rattle.row_windows.specs.declared.window.Window.{Window}
 
-abbrev pub no_stretch : Span
-no_stretch = record { from = 0; to = 0 }
+abbrev pub no_stretch : Run
+no_stretch = record { left = 0; right = 0; colour = 0 }
 
 -- the stretch at this place
-abbrev pub stretch : List Span → ℕ → Span
+abbrev pub stretch : List Run → ℕ → Run
 stretch stretches k = slice_index_or stretches k no_stretch
 
 -- one of the stretches has the cell
-pub record Touches (stretches : List Span) (c : ℕ) : Type 0 where
+pub record Touches (stretches : List Run) (c : ℕ) : Type 0 where
   pub place : ℕ
   pub among : place < length stretches
-  pub from : (stretch stretches place).from ≤ c
-  pub to : c < (stretch stretches place).to
+  pub from : (stretch stretches place).left ≤ c
+  pub to : c < (stretch stretches place).right
 
 -- cells that no stretch has are of one colour in both rows
-abbrev pub ChangeAt : List Span → (ℕ → ℕ) → (ℕ → ℕ) → Type 0
+abbrev pub ChangeAt : List Run → (ℕ → ℕ) → (ℕ → ℕ) → Type 0
 ChangeAt stretches old new = (c : ℕ) → (¬ Touches stretches c) → old c ≡ new c
 
 -- each stretch has cells, before the last one of so many, and they stand from left to right
-pub record AreFit (cells : ℕ) (stretches : List Span) : Type 0 where
-  pub wide : All (λ e. e.from < e.to) stretches
-  pub within : All (λ e. e.to < cells) stretches
-  pub ascending : IsNonDecreasingBy (λ e. e.from) stretches
+pub record AreFit (cells : ℕ) (stretches : List Run) : Type 0 where
+  pub wide : All (λ e. e.left < e.right) stretches
+  pub within : All (λ e. e.right < cells) stretches
+  pub ascending : IsNonDecreasingBy (λ e. e.left) stretches
 
 -- the last cell of the row has no colour, nor has any past it
 abbrev pub IsGuarded : ℕ → (ℕ → ℕ) → Type 0
 IsGuarded cells colour = (c : ℕ) → cells ≤ c + 1 → colour c ≡ 0
 
 -- they lie apart, from left to right, in so many cells
-pub record AreApart (cells : ℕ) (windows : List Span) : Type 0 where
+pub record AreApart (cells : ℕ) (windows : List Window) : Type 0 where
   pub within : All (λ w. w.to ≤ cells) windows
   pub ascending : AllPairs (λ v w. v.to < w.from) windows
 
 -- whether one of the windows has the cell
-unfoldable pub in_windows : List Span → ℕ → Bool
+unfoldable pub in_windows : List Window → ℕ → Bool
 in_windows [] c = false
 in_windows (w ∷ ws) c = nat_le w.from c && nat_lt c w.to || in_windows ws c
 
 -- the colours of the cells in the windows, and 0 beside them
-abbrev pub seen : List Span → (ℕ → ℕ) → ℕ → ℕ
+abbrev pub seen : List Window → (ℕ → ℕ) → ℕ → ℕ
 seen windows colour c = if in_windows windows c then colour c else 0
 
 -- the runs in the windows, in row y and in the next row, tell all that changes
-abbrev pub TellChange : (ℕ → ℕ → ℕ) → ℕ → List Span → Type 0
+abbrev pub TellChange : (ℕ → ℕ → ℕ) → ℕ → List Window → Type 0
 TellChange colour y windows = (old new : List Run) → AreRuns (seen windows (colour y)) old
     → AreRuns (seen windows (colour (y + 1))) new
     → IsChange colour y old new

@@ -5,7 +5,7 @@ ghost use Rattle.mask_runs.specs.Runs.{AreRuns};
 ghost use Rattle.kept_runs.specs.Kept.{colours_of, width_of};
 ghost use Rattle.row_windows.specs.Windows.{AreApart, seen};
 
-use cover_tree::Span;
+use crate::window::Window;
 use kept_runs::KeptRuns;
 use mask_runs::Run;
 use mp_base::NoMemory;
@@ -14,7 +14,7 @@ use mp_base::NoMemory;
 /// one window.
 pub fn collect_windows(
     kept: &KeptRuns,
-    windows: &[Span],
+    windows: &[Window],
     piece: &mut Vec<Run>,
     runs: &mut Vec<Run>,
 ) -> Result<(), NoMemory>

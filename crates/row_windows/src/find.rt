@@ -6,8 +6,9 @@ ghost use Rattle.row_windows.specs.Windows.{AreFit, AreApart, ChangeAt, TellChan
 ghost use Rattle.row_windows.specs.Reaching.{IsOpened, IsRightOf};
 
 use crate::reach::{left_of, right_of};
-use cover_tree::Span;
+use crate::window::Window;
 use kept_runs::KeptRuns;
+use mask_runs::Run;
 use mp_base::NoMemory;
 use std::alloc::AllocError;
 
@@ -15,13 +16,14 @@ use std::alloc::AllocError;
 // are collected sooner than the ends of two windows are looked up.
 const NEAR: u32 = 32;
 
-/// The windows of a row, from left to right, around the cells that these stretches have, from left to right too. Each
-/// window reaches over two runs beside such cells, if they lie next to one another, so that the runs in the windows, in
-/// this row and in the next, tell all that changes. Its time is that of the stretches times the logarithm of the cells.
+/// The windows of a row, from left to right, around the cells that these stretches have, from left to right too, of any
+/// colours. Each window reaches over two runs beside such cells, if they lie next to one another, so that the runs in the
+/// windows, in this row and in the next, tell all that changes. Its time is that of the stretches times the logarithm of the
+/// cells.
 pub fn find_windows(
     kept: &KeptRuns,
-    stretches: &[Span],
-    windows: &mut Vec<Span>,
+    stretches: &[Run],
+    windows: &mut Vec<Window>,
 ) -> Result<(), NoMemory>
     requires fit { AreFit (width_of kept.now) stretches.now }
     requires guarded { IsGuarded (width_of kept.now) (colours_of kept.now) }
@@ -33,9 +35,9 @@ pub fn find_windows(
     if stretches.is_empty() {
         return Ok(());
     }
-    let mut current = Span {
-        from: left_of(kept, stretches[0].from),
-        to: stretches[0].to,
+    let mut current = Window {
+        from: left_of(kept, stretches[0].left),
+        to: stretches[0].right,
     };
     for next in 1..stretches.len() {
         current = add_stretch(kept, current, stretches[next], windows)?;
@@ -48,49 +50,49 @@ pub fn find_windows(
 // it has.
 fn add_stretch(
     kept: &KeptRuns,
-    current: Span,
-    stretch: Span,
-    windows: &mut Vec<Span>,
-) -> Result<Span, NoMemory>
+    current: Window,
+    stretch: Run,
+    windows: &mut Vec<Window>,
+) -> Result<Window, NoMemory>
     requires current { current.to < width_of kept.now }
-    requires stretch { stretch.from < width_of kept.now }
+    requires stretch { stretch.left < width_of kept.now }
     requires guarded { IsGuarded (width_of kept.now) (colours_of kept.now) }
     ensures { IfOk result (λ next. IsOpened (colours_of kept.now) (width_of kept.now) current stretch windows.old.items windows.new.items next) }
 {
-    let joined = Span {
+    let joined = Window {
         from: current.from,
-        to: current.to.max(stretch.to),
+        to: current.to.max(stretch.right),
     };
-    if stretch.from.saturating_sub(current.to) <= NEAR {
+    if stretch.left.saturating_sub(current.to) <= NEAR {
         return Ok(joined);
     }
     let window = closed(kept, current);
-    let from = left_of(kept, stretch.from);
+    let from = left_of(kept, stretch.left);
     if from <= window.to {
         return Ok(joined);
     }
     add(windows, window)?;
-    Ok(Span {
+    Ok(Window {
         from,
-        to: stretch.to,
+        to: stretch.right,
     })
 }
 
 // The window with the runs to the right of its stretches.
-fn closed(kept: &KeptRuns, current: Span) -> Span
+fn closed(kept: &KeptRuns, current: Window) -> Window
     requires current { current.to < width_of kept.now }
     requires guarded { IsGuarded (width_of kept.now) (colours_of kept.now) }
     ensures from { result.from ≡ current.from }
     ensures to { IsRightOf (colours_of kept.now) current.to result.to }
     ensures within { result.to < width_of kept.now }
 {
-    Span {
+    Window {
         from: current.from,
         to: right_of(kept, current.to),
     }
 }
 
-fn add(windows: &mut Vec<Span>, window: Span) -> Result<(), AllocError>
+fn add(windows: &mut Vec<Window>, window: Window) -> Result<(), AllocError>
     ensures { OnOk result (windows.new.items ≡ windows.old.items ++ window ∷ []) }
 {
     windows.push(window)?;

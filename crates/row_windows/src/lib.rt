@@ -4,6 +4,8 @@
 mod collect;
 mod find;
 mod reach;
+mod window;
 
 pub use collect::collect_windows;
 pub use find::find_windows;
+pub use window::Window;

@@ -1,17 +1,44 @@
-use Rattle.std.proofs.Common.{arith, refl, sym, ◌∙◌}
+use Rattle.std.proofs.Common.{◌<◌, sym, ◌∙◌, arith}
+use Rattle.cover_tree.specs.Notes.{IsTold, note_at}
+use Rattle.cover_tree.specs.Parts.Within.{here}
 use Rattle.cover_tree.proofs.Alike.{same_layers}
-use Rattle.cover_tree.proofs.Changing.{alike_change, effect_change}
+use Rattle.cover_tree.proofs.Changing.{alike_change, kept_change, turned_change}
 use Rattle.cover_tree.proofs.changes.change_of.Goals as goal
 
 -- src/changes.rt
 pub returns-then-eq : goal.returns-then-eq
 returns-then-eq c =
-    alike_change c.args.trees.now c.args.line c.args.part c.args.known (c.if-not-is_steady.ensures refl)
-    (same_layers _ _ (sym c.eq.ensures ∙ c.if-eq.true))
+    let h : c.args.trees.now.since < c.note_at-note.result.until = omega arith in
+    let l : c.args.trees.now.since < (note_at c.args.trees.now c.args.part.at).until =
+    rw (← c.note_at-note.ensures) h in
+    let s : IsTold c.args.trees.now c.args.part = c.requires.told c.args.part here l in (
+      s,
+      alike_change c.args.mask c.args.trees.now c.args.part c.args.known s
+          (same_layers _ _ (sym c.eq.ensures ∙ c.if-eq.true)),
+    )
 
 -- src/changes.rt
-pub returns : goal.returns
-returns c =
-    effect_change c.args.trees.now c.args.line c.args.part c.args.known
-    (c.if-not-is_steady.ensures refl) c.kinds_at.result c.effect.result (omega arith)
-    c.kinds_at.ensures c.effect.ensures
+pub returns-in-Nowhere : goal.returns-in-Nowhere
+returns-in-Nowhere c =
+    let h : c.args.trees.now.since < c.note_at-note.result.until = omega arith in
+    let l : c.args.trees.now.since < (note_at c.args.trees.now c.args.part.at).until =
+    rw (← c.note_at-note.ensures) h in
+    let s : IsTold c.args.trees.now c.args.part = c.requires.told c.args.part here l in (
+      s,
+      kept_change c.args.mask c.args.trees.now c.args.part c.args.known s c.note_at-note.result.kinds
+          (λ n i. (rw (← c.note_at-note.ensures) at (c.requires.each c.args.part here)).kinds n h i)
+          c.in-Nowhere.ensures,
+    )
+
+-- src/changes.rt
+pub returns-in-Some : goal.returns-in-Some
+returns-in-Some c =
+    let h : c.args.trees.now.since < c.note_at-note.result.until = omega arith in
+    let l : c.args.trees.now.since < (note_at c.args.trees.now c.args.part.at).until =
+    rw (← c.note_at-note.ensures) h in
+    let s : IsTold c.args.trees.now c.args.part = c.requires.told c.args.part here l in (
+      s,
+      turned_change c.args.mask c.args.trees.now c.args.part c.args.known s c.note_at-note.result.kinds
+          (λ n i. (rw (← c.note_at-note.ensures) at (c.requires.each c.args.part here)).kinds n h i)
+          c.in-Some.colour c.in-Everywhere.ensures c.in-Some.ensures.some,
+    )

@@ -13,7 +13,7 @@ use Rattle.cover_tree.proofs.raise.+raise_part.Goals as goal
 pub returns-then-to-from-clause-noted : goal.returns-then-to-from-clause-noted
 returns-then-to-from-clause-noted t c = λ mask h.
     c.forget.ensures.noted mask (lifted_halves c.args.trees.now c.lift.new.self c.args.part.at
-    c.lift.ensures.beside c.lift.ensures.notes c.lift.ensures.as_many c.lift.ensures.further c.lift.ensures.since mask
+    c.lift.ensures.beside c.lift.ensures.as_many c.lift.ensures.further c.lift.ensures.since mask
     c.args.part refl c.requires.small.some h)
 
 -- src/raise.rt
@@ -29,7 +29,7 @@ returns-then-to-from-clause-raised t c =
 pub returns-then-to-from-clause-only : goal.returns-then-to-from-clause-only
 returns-then-to-from-clause-only t c =
     only_in_turn c.args.part c.args.trees.now c.lift.new.self c.forget.new.self
-    (lifted_only c.args.trees.now c.lift.new.self c.args.part.at c.lift.ensures.beside c.lift.ensures.notes
+    (lifted_only c.args.trees.now c.lift.new.self c.args.part.at c.lift.ensures.beside
     c.lift.ensures.as_many c.lift.ensures.further c.lift.ensures.since
     c.args.part refl c.requires.small.some) c.forget.ensures.only
 

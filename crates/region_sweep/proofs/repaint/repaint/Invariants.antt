@@ -1,9 +1,13 @@
 -- The stretches so far are repainted.
-use Rattle.cover_tree.specs.Covers.{row_colour}
-use Rattle.cover_tree.specs.Trees.{cover_of}
+use Rattle.std.proofs.Common.{ℕ, ◌≡◌}
+use Rattle.kept_runs.specs.Kept.{width_of}
+use Rattle.region_sweep.specs.Repainting.{HaveColours}
 use Rattle.region_sweep.proofs.Repainting.{IsRepainting}
 use Rattle.region_sweep.proofs.repaint.repaint.Given as goal
 
 abbrev pub invariant-loop-stretch : goal.invariant-loop-stretch
-invariant-loop-stretch l =
-    IsRepainting (row_colour (cover_of l.tree) l.row) l.fn.kept l.kept l.stretches l.stretch-index
+invariant-loop-stretch l = record {
+  cells : width_of l.kept ≡ width_of l.fn.kept;
+  painted : (colour : ℕ → ℕ) → HaveColours colour l.stretches
+      → IsRepainting colour l.fn.kept l.kept l.stretches l.stretch-index;
+}

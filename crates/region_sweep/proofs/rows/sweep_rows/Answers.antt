@@ -1,38 +1,28 @@
 -- Row by row.
 use Rattle.std.proofs.Common.{ℕ, ◌+◌, ◌≤◌, ◌<◌, sym, ◌∙◌, subst, arith, length}
 use Rattle.std.specs.Prelude.{All}
-use Rattle.cover_tree.specs.Covers.{row_colour}
 use Rattle.cover_tree.specs.Trees.{cover_of}
 use Rattle.kept_runs.specs.Kept.{width_of}
 use Rattle.strip_rows.specs.Changes.{LieInRow, IsChange}
 use Rattle.strip_rows.specs.Swept.{strips_of, cells_of}
 use Rattle.row_windows.specs.Windows.{AreFit}
-use Rattle.region_sweep.specs.Begins.{AreChanges}
 use Rattle.region_sweep.specs.Blocks.{painted}
+use Rattle.region_sweep.specs.Repainting.{HaveColours, IsRepainted}
 use Rattle.region_sweep.specs.Rows.{AreAnswered, IsUpTo}
-use Rattle.region_sweep.proofs.Changing.{changes_at, changes_fit}
-use Rattle.region_sweep.specs.Repainting.{IsRepainted}
 use Rattle.region_sweep.proofs.Painting.{blank_above, blank_below}
 use Rattle.region_sweep.proofs.Repainting.{next_kept}
 use Rattle.region_sweep.proofs.Rowwise.{nothing_raised, nothing_answered, guarded, runs_painted, lie_in, tree_tells}
-use Rattle.region_sweep.proofs.Rowwise.{still_answered, all_answered, last_alike, whole_step, rest_above, swept_first}
+use Rattle.region_sweep.proofs.Rowwise.{still_answered, all_answered, whole_step, rest_above, swept_first, up_to_own}
+use Rattle.region_sweep.proofs.Rowwise.{next_told}
 use Rattle.region_sweep.proofs.rows.sweep_rows.Goals as goal
 
 pub find_windows-requires-clause-fit : goal.find_windows-requires-clause-fit
 find_windows-requires-clause-fit c =
-    let inv = c.loop-below.invariant in
-    let mask = c.args.mask in
-    let cells = c.args.size.cells in
-    let blocks = c.args.blocks.now in
-    let below = c.loop-below.below in
     let told =
-    subst (λ m. AreChanges (painted m blocks below)
-    (painted m blocks (below + 1)) cells c.find_changes.new.changed.items) inv.up_to.of_mask
-    c.in_ok-find_changes.ensures in
+    next_told c.raise-raised.new.tree c.colours_by_layers.ensures c.requires.stacked c.loop-below.invariant
+    c.raise-raised.ensures.up_to c.raise-raised.ensures.told c.in_ok-advance.ensures.changes in
     subst (AreFit (width_of c.loop-below.kept)) (sym c.deref.ensures.value)
-    (subst (λ n. AreFit n c.find_changes.new.changed.items) (sym inv.wide)
-    (changes_fit (painted mask blocks below) (painted mask blocks (below + 1)) cells c.find_changes.new.changed.items
-    (last_alike c.colours_by_layers.ensures mask cells c.args.size.rows blocks below c.requires.stacked) told))
+    (subst (λ n. AreFit n c.advance.new.changes.items) (sym c.loop-below.invariant.wide) told.fit)
 
 pub find_windows-requires-clause-guarded : goal.find_windows-requires-clause-guarded
 find_windows-requires-clause-guarded c =
@@ -43,17 +33,15 @@ find_windows-requires-clause-guarded c =
 
 pub repaint-requires-clause-wide : goal.repaint-requires-clause-wide
 repaint-requires-clause-wide c =
-    subst (All (λ s. s.from < s.to)) (sym c.deref-in-loop-below-2.ensures.value) c.in_ok-find_changes.ensures.wide
+    subst (All (λ s. s.left < s.right)) (sym c.deref-in-loop-below-2.ensures.value) c.in_ok-advance.ensures.changes.wide
 
 pub repaint-requires-clause-within : goal.repaint-requires-clause-within
 repaint-requires-clause-within c =
-    subst (All (λ s. s.to ≤ width_of c.loop-below.kept)) (sym c.deref-in-loop-below-2.ensures.value)
-    (subst (λ n. All (λ s. s.to ≤ n) c.find_changes.new.changed.items)
-    (sym c.loop-below.invariant.wide) c.in_ok-find_changes.ensures.within)
-
-pub repaint-requires-clause-cells : goal.repaint-requires-clause-cells
-repaint-requires-clause-cells c =
-    c.loop-below.invariant.wide ∙ sym (c.raise-raised.ensures.wide ∙ c.loop-below.invariant.up_to.wide)
+    let told =
+    next_told c.raise-raised.new.tree c.colours_by_layers.ensures c.requires.stacked c.loop-below.invariant
+    c.raise-raised.ensures.up_to c.raise-raised.ensures.told c.in_ok-advance.ensures.changes in
+    subst (All (λ s. s.right ≤ width_of c.loop-below.kept)) (sym c.deref-in-loop-below-2.ensures.value)
+    (λ k d l. let w = c.loop-below.invariant.wide in let r = told.fit.within k d l in omega arith)
 
 pub step-requires-clause-old : goal.step-requires-clause-old
 step-requires-clause-old c =
@@ -76,21 +64,16 @@ step-requires-clause-new c =
     let blocks = c.args.blocks.now in
     let below = c.loop-below.below in
     let colour = painted mask blocks in
-    let changed = c.find_changes.new.changed.items in
-    let up = c.raise-raised.ensures in
-    let new = cover_of c.raise-raised.new.tree in
+    let changed = c.advance.new.changes.items in
     let kept = c.repaint.new.kept in
     let told =
-    subst (λ m. AreChanges (painted m blocks below) (painted m blocks (below + 1)) cells changed) inv.up_to.of_mask
-    c.in_ok-find_changes.ensures in
-    let at =
-    changes_at (colour below) (colour (below + 1)) cells changed
-    (last_alike law mask cells c.args.size.rows blocks below c.requires.stacked) told in
-    let same = next_kept colour below (row_colour new (below + 1)) c.loop-below.kept kept changed inv.same
-    (tree_tells law mask blocks (below + 1) c.raise-raised.result new
-    (up.of_mask ∙ inv.up_to.of_mask) up.are up.waiting) at
-    (subst (IsRepainted (row_colour new (below + 1)) c.loop-below.kept kept) c.deref-in-loop-below-2.ensures.value
-    c.in_ok-repaint.ensures) in
+    next_told c.raise-raised.new.tree c.colours_by_layers.ensures c.requires.stacked c.loop-below.invariant
+    c.raise-raised.ensures.up_to c.raise-raised.ensures.told c.in_ok-advance.ensures.changes in
+    let same =
+    next_kept (colour below) (colour (below + 1)) c.loop-below.kept kept changed inv.same told.at
+    (subst (IsRepainted (colour (below + 1)) c.loop-below.kept kept) c.deref-in-loop-below-2.ensures.value
+    (c.repaint.ensures.painted (colour (below + 1))
+    (subst (HaveColours (colour (below + 1))) (sym c.deref-in-loop-below-2.ensures.value) told.have))) in
     let runs = c.collect_windows-in-loop-below.new.runs.items in
     let windows = c.deref-in-loop-below-3.result.now in
     let are = runs_painted (colour (below + 1)) kept windows runs same c.in_ok-collect_windows-2.ensures in
@@ -108,17 +91,19 @@ loop-below-init c =
     let kept = c.in_ok-kept.kept in
     let cover = cover_of c.in_ok-tree.tree in
     let stacked = c.requires.stacked in
-    let raised = nothing_raised mask cells blocks cover c.in_ok-tree.ensures in
+    let raised = nothing_raised mask cells blocks cover c.in_ok-tree.ensures.bare in
     let rest = λ (k : ℕ) (l : 0 ≤ k) (m : k < length blocks). rest_above mask cells rows blocks stacked k m in
     let swept = swept_first law mask cells rows blocks strips stacked c.in_ok-strips.ensures.strips in
     let same = λ (x : ℕ). blank_below law mask cells rows blocks x stacked ∙ sym (c.in_ok-kept.ensures.blank x) in
     record {
       up_to = record {
-        of_mask = c.in_ok-tree.ensures.of_mask;
-        wide = c.in_ok-tree.ensures.wide;
+        of_mask = c.in_ok-tree.ensures.bare.of_mask;
+        wide = c.in_ok-tree.ensures.bare.wide;
         are = raised;
         waiting = rest;
       };
+      told = λ x l. blank_below law mask cells rows blocks x stacked ∙ sym (c.in_ok-tree.ensures.told x);
+      last = c.in_ok-tree.ensures.row;
       wide = c.in_ok-kept.ensures.cells;
       same = same;
       as_wide = c.in_ok-strips.ensures.cells;
@@ -137,31 +122,24 @@ loop-below-preserved c =
     let blocks = c.args.blocks.now in
     let below = c.loop-below.below in
     let colour = painted mask blocks in
-    let changed = c.find_changes.new.changed.items in
-    let new = cover_of c.raise-raised.new.tree in
+    let changed = c.advance.new.changes.items in
+    let upper = c.raise-raised.new.tree in
     let kept = c.repaint.new.kept in
-    let up = inv.up_to in
-    let upper : IsUpTo mask cells blocks (below + 1) c.raise-raised.result new = record {
-      of_mask = c.raise-raised.ensures.of_mask ∙ up.of_mask;
-      wide = c.raise-raised.ensures.wide ∙ up.wide;
-      are = c.raise-raised.ensures.are;
-      waiting = c.raise-raised.ensures.waiting;
-    } in
+    let up : IsUpTo mask cells blocks (below + 1) c.raise-raised.result (cover_of upper) =
+    up_to_own inv.up_to.of_mask inv.up_to.wide c.raise-raised.ensures.up_to in
     let told =
-    subst (λ m. AreChanges (painted m blocks below) (painted m blocks (below + 1)) cells changed) up.of_mask
-    c.in_ok-find_changes.ensures in
-    let at =
-    changes_at (colour below) (colour (below + 1)) cells changed
-    (last_alike law mask cells c.args.size.rows blocks below c.requires.stacked) told in
-    let same = next_kept colour below (row_colour new (below + 1)) c.loop-below.kept kept changed inv.same
-    (tree_tells law mask blocks (below + 1) c.raise-raised.result new upper.of_mask upper.are upper.waiting) at
-    (subst (IsRepainted (row_colour new (below + 1)) c.loop-below.kept kept) c.deref-in-loop-below-2.ensures.value
-    c.in_ok-repaint.ensures) in
+    next_told c.raise-raised.new.tree c.colours_by_layers.ensures c.requires.stacked c.loop-below.invariant
+    c.raise-raised.ensures.up_to c.raise-raised.ensures.told c.in_ok-advance.ensures.changes in
+    let same =
+    next_kept (colour below) (colour (below + 1)) c.loop-below.kept kept changed inv.same told.at
+    (subst (IsRepainted (colour (below + 1)) c.loop-below.kept kept) c.deref-in-loop-below-2.ensures.value
+    (c.repaint.ensures.painted (colour (below + 1))
+    (subst (HaveColours (colour (below + 1))) (sym c.deref-in-loop-below-2.ensures.value) told.have))) in
     let olds = c.collect_windows.new.runs.items in
     let news = c.collect_windows-in-loop-below.new.runs.items in
     let change = whole_step colour below c.loop-below.kept kept changed c.deref.result.now
     c.find_windows.new.windows.items c.deref-in-loop-below.result.now c.deref-in-loop-below-3.result.now olds news
-    inv.same same at c.deref.ensures.value
+    inv.same same told.at c.deref.ensures.value
     c.deref-in-loop-below.ensures.value c.deref-in-loop-below-3.ensures.value c.in_ok-find_windows.ensures.tell
     c.in_ok-collect_windows.ensures
     c.in_ok-collect_windows-2.ensures in
@@ -169,8 +147,12 @@ loop-below-preserved c =
     (subst (λ v. IsChange colour below v c.deref-in-loop-below-5.result.now) (sym c.deref-in-loop-below-4.ensures.value)
     (subst (IsChange colour below olds) (sym c.deref-in-loop-below-5.ensures.value) change)) in
     record {
-      up_to = upper;
-      wide = c.in_ok-repaint.ensures.cells ∙ inv.wide;
+      up_to = subst (IsUpTo mask cells blocks (below + 1) c.raise-raised.result) (sym c.advance.ensures.cover) up;
+      told = λ x l.
+          tree_tells law mask blocks (below + 1) c.raise-raised.result (cover_of upper) up.of_mask up.are up.waiting x
+          ∙ sym (c.advance.ensures.told x (let w = up.wide in omega arith));
+      last = c.advance.ensures.row;
+      wide = c.repaint.ensures.cells ∙ inv.wide;
       same = same;
       as_wide = c.in_ok-step.ensures.cells ∙ inv.as_wide;
       swept = swept;

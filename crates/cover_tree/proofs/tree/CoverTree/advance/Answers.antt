@@ -1,10 +1,5 @@
-use Rattle.cover_tree.specs.Trees.{cover_of}
-use Rattle.cover_tree.proofs.Covering.{same_cover}
 use Rattle.cover_tree.proofs.tree.CoverTree.advance.Goals as goal
 
 -- src/tree.rt
-pub returns : goal.returns
-unfolding cover_of
-returns c =
-    same_cover c.args.self.now.mask c.args.self.now.cells c.args.self.now.trees c.advance.new.self
-    c.advance.ensures.tops
+pub returns-clause-changes : goal.returns-clause-changes
+returns-clause-changes c = rw c.in_ok-close.ensures c.in_ok-last.ensures.pieces

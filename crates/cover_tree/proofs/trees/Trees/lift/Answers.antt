@@ -1,11 +1,10 @@
-use Rattle.std.proofs.Common.{◌≡◌, ℕ, inl, inr, set, sym, ◌∙◌, ap, max}
-use Rattle.std.proofs.lemmas.Bool.{cases_eq}
+use Rattle.std.proofs.Common.{◌≡◌, ℕ, set, sym, ◌∙◌, ap, max}
 use Rattle.lam_geom.specs.declared.layer.Layer.{Layer}
 use Rattle.cover_tree.specs.declared.node.Node.{Node}
 use Rattle.cover_tree.specs.declared.trees.Trees.{Trees}
 use Rattle.cover_tree.specs.Nodes.{layer_top}
 use Rattle.cover_tree.specs.Layered.{node_at, tree}
-use Rattle.cover_tree.proofs.Nodes.{node_top, tree_set, tree_same, node_other, node_own, as_many}
+use Rattle.cover_tree.proofs.Nodes.{node_top, tree_set, tree_same, told_same, node_other, as_many}
 use Rattle.cover_tree.proofs.trees.Trees.lift.Goals as goal
 
 -- src/trees.rt
@@ -14,7 +13,7 @@ returns c =
     let t : Trees = c.args.self.now in
     let u : Trees = c.set_node.new.self in
     let at : ℕ = c.args.at in
-    let n : Node = record { tops = c.lifted-tops.result; note = c.node_at-node.result.note } in
+    let n : Node = record c.node_at-node.result { tops = c.lifted-tops.result } in
     let was : c.node_at-node.result ≡ node_at t at = c.node_at-node.ensures in
     let s = c.set_node.ensures in
     let up = c.lifted-tops.ensures in
@@ -24,12 +23,7 @@ returns c =
           ∙ ap (set (tree t c.args.layer) at) (up.own t.further c.requires.kept
           ∙ ap (λ x. max x c.args.row) (top c.args.layer ∙ sym (node_top t c.args.layer at)));
       others = λ l d. tree_same t u at n s.nodes s.further l (up.others t.further l c.requires.kept d ∙ top l);
-      notes = λ k. elim (cases_eq k at) [
-        | inl e ↦ ap (λ i. (node_at u i).note) e
-            ∙ ap (λ m. m.note) (node_own t u at n s.nodes s.further c.requires.within) ∙ ap (λ m. m.note) was
-            ∙ ap (λ i. (node_at t i).note) (sym e)
-        | inr d ↦ ap (λ m. m.note) (node_other t u at n s.nodes s.further k d)
-      ];
+      told = λ l. told_same t u at n s.nodes s.further l (ap (λ m. m.told) was);
       beside = node_other t u at n s.nodes s.further;
       as_many = as_many t u at n s.nodes s.further;
       further = s.further;

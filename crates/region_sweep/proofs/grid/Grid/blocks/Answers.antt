@@ -1,10 +1,8 @@
 -- Rectangle by rectangle.
-use Rattle.std.proofs.Common.{◌≡◌, sym, ◌∙◌, subst, take, ◌+◌, ap, ◌∷◌, [], ◌++◌, rules}
-use Rattle.std.proofs.lemmas.Fn.{always_returns_same}
-use Rattle.std.proofs.lemmas.List.Sorted.{IsNonDecreasingBy-from_sort_by_key, IsPermutation-trans, ties_still_rise}
+use Rattle.std.proofs.Common.{sym, ◌∙◌, subst, take, ◌+◌, ap, ◌∷◌, [], ◌++◌, rules}
+use Rattle.std.proofs.lemmas.List.Sorted.{IsNonDecreasingBy-from_sort_by_key}
 use Rattle.region_sweep.specs.Grid.{AreBlocks}
-use Rattle.region_sweep.specs.Rows.{no_block}
-use Rattle.region_sweep.proofs.Gridding.{ties_rise, no_rect, blocks_more, blocks_same, blocks_sorted, all_inside}
+use Rattle.region_sweep.proofs.Gridding.{no_rect, blocks_more, blocks_same, blocks_sorted, all_inside}
 use Rattle.region_sweep.proofs.grid.Grid.blocks.Goals as goal
 use Rattle.region_sweep.proofs.grid.Grid.blocks.Goals.{then-uses+in_ok-push, else-uses}
 
@@ -33,10 +31,9 @@ blocks_are c =
     let xs = grid.columns.marks.items in
     let ys = grid.rows.marks.items in
     blocks_sorted xs ys c.args.mask c.args.shapes.now c.loop-shape.shape-index c.into_vec-blocks.result.items
-    c.sort_by_key-2.new.self.items
+    c.sort_by_key.new.self.items
     c.loop-shape-test.false
-    (IsPermutation-trans _ c.sort_by_key.new.self.items _ c.in_ok-sort_by_key.ensures.permutation
-    c.in_ok-sort_by_key-2.ensures.permutation)
+    c.in_ok-sort_by_key.ensures.permutation
     (subst (λ bs. AreBlocks xs ys c.args.mask (take c.loop-shape.shape-index c.args.shapes.now) bs)
     (sym c.into_vec-blocks.ensures) c.loop-shape.invariant)
 
@@ -48,20 +45,9 @@ returns-clause-stacked c =
     let grid = c.args.self.now in
     let xs = grid.columns.marks.items in
     let ys = grid.rows.marks.items in
-    let first = c.sort_by_key.new.self.items in
-    let now = c.sort_by_key-2.new.self.items in
-    let rows =
-    IsNonDecreasingBy-from_sort_by_key (λ b. b.low) _ c.in_ok-sort_by_key-2.ensures.sorted (λ a r q k. search rules) in
     record {
-      each = all_inside xs ys c.args.mask c.args.shapes.now now grid.columns.ascending grid.rows.ascending c.requires
-          (blocks_are c);
-      order = record {
-        rows = rows;
-        ties = ties_rise now rows (λ k l e. ties_still_rise (λ b. b.left) (λ b. b.low) first now
-            (c.in_ok-sort_by_key.ensures.sorted (λ b. b.left)
-            (always_returns_same _ (λ a r. r ≡ a.0.now.left) _ (λ a r q k. search rules)))
-            (c.in_ok-sort_by_key-2.ensures.stable (λ b. b.low)
-            (always_returns_same _ (λ a r. r ≡ a.0.now.low) _ (λ a r q k. search rules)))
-            k no_block l e);
-      };
+      each = all_inside xs ys c.args.mask c.args.shapes.now c.sort_by_key.new.self.items grid.columns.ascending
+          grid.rows.ascending c.requires (blocks_are c);
+      order = IsNonDecreasingBy-from_sort_by_key (λ b. b.low) _ c.in_ok-sort_by_key.ensures.sorted
+          (λ a r q k. search rules);
     }

@@ -1,4 +1,0 @@
-use Rattle.cover_tree.proofs.nearest.+end_of.Given as goal
-
-abbrev pub decreases-end_of : goal.decreases-end_of
-decreases-end_of l = l.part.width

@@ -1,4 +1,0 @@
-use Rattle.cover_tree.proofs.nearest.+start_of.Given as goal
-
-abbrev pub decreases-start_of : goal.decreases-start_of
-decreases-start_of l = l.part.width

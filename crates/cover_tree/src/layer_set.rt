@@ -1,0 +1,43 @@
+//! Sets of the layers that a mask may use.
+
+use crate::node::Tops;
+use lam_geom::Layer;
+use mask_runs::Layers;
+
+/// Which of ND, NP, NB, one further layer and NM: a bit for each, in this order.
+#[derive(Clone, Copy, Drop)]
+pub(crate) struct LayerSet {
+    pub bits: u8,
+}
+
+impl LayerSet {
+    ghost use Rattle.std.specs.Prelude.{◌≡◌};
+    ghost use Rattle.cover_tree.specs.Nodes.{no_layers, set_tops, layers_of};
+
+    /// No layer.
+    pub fn none() -> LayerSet
+        ensures { result ≡ no_layers }
+    {
+        LayerSet { bits: 0 }
+    }
+
+    /// The layers, where the other one is the further layer.
+    pub fn layers(self, further: Layer) -> Layers
+        ensures { result ≡ layers_of further self }
+    {
+        self.tops().above(further, 0)
+    }
+
+    // Tops above row 0 for the layers that are there.
+    fn tops(self) -> Tops
+        ensures { result ≡ set_tops self }
+    {
+        Tops {
+            nd: self.bits as u32 % 2,
+            np: self.bits as u32 / 2 % 2,
+            nb: self.bits as u32 / 4 % 2,
+            further: self.bits as u32 / 8 % 2,
+            nm: self.bits as u32 / 16 % 2,
+        }
+    }
+}
