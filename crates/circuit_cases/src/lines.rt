@@ -1,8 +1,8 @@
 //! Tables: a case on each line.
 
-use crate::circuits::circuit;
-use crate::settled::settled;
-use crate::steps::steps;
+use circuit_words::circuits::circuit;
+use circuit_words::settled::settled;
+use circuit_words::steps::steps;
 use std::alloc::{AllocError, Global};
 use std::{fs, io};
 
@@ -12,14 +12,6 @@ pub(crate) enum Case {
     Settled,
     Steps,
     Circuit,
-}
-
-/// A part of a line, of which `|` ends each but the last.
-pub(crate) fn part(line: &[u8], index: usize) -> &[u8] {
-    match line.split(|byte| *byte == b'|').nth(index) {
-        Some(part) => part,
-        None => &[],
-    }
 }
 
 fn push_words(

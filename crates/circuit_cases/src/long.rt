@@ -2,8 +2,8 @@
 
 ghost use Rattle.std.specs.Prelude.{◌<◌};
 
-use crate::network::letter;
-use crate::settled::settle;
+use circuit_words::network::letter;
+use circuit_words::settled::settle;
 use mp_base::{List, Trit};
 use settle::Settler;
 use std::alloc::{AllocError, Global};

@@ -1,12 +1,8 @@
 //! Small networks that settle, and small circuits along stimuli.
 #![tactic(auto)]
 
-mod circuits;
 mod lines;
 mod long;
-mod network;
-mod settled;
-mod steps;
 
 use lines::{Case, show_list};
 use long::show_rows;

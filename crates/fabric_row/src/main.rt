@@ -2,17 +2,14 @@
 //! took goes to the standard error, and how long it took to write the text of the file that draws them.
 #![tactic(auto)]
 
-mod row;
-mod text;
-
 ghost use Rattle.std.specs.Prelude.{◌≤◌, ◌+◌};
-ghost use Rattle.fabric_row.specs.Row.{IsRow, most_written};
+ghost use Rattle.gate_row.specs.Row.{IsRow, most_written};
 
 use fabric::Fabric;
-use row::row;
+use gate_row::row::row;
+use gate_row::text::written;
 use std::time::Instant;
 use std::{env, io};
-use text::written;
 
 /// More gates have more lines and marks than a fabric may hold.
 const MOST_GATES: u32 = 4_000_000;

@@ -1,15 +1,8 @@
 //! Small sources, with what becomes of each at every step from its text to the checked program; and small stimuli.
 #![tactic(auto)]
 
-mod forms;
 mod limits;
-mod names;
-mod shapes;
-mod sources;
-mod stimuli;
-mod syntax;
 mod table;
-mod words;
 
 use limits::show_limits;
 use std::io;

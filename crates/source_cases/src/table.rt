@@ -2,12 +2,12 @@
 
 ghost use Rattle.std.specs.Prelude.{◌+◌, ◌<◌, ◌^◌, length};
 
-use crate::forms::{forms, nodes, stray};
-use crate::names::{names, weight};
-use crate::shapes::{classes, operator, shapes};
-use crate::sources::source;
-use crate::stimuli::{clocks, stimulus, stimulus_of_chip};
-use crate::syntax::syntax;
+use program_words::names::{names, weight};
+use program_words::syntax::syntax;
+use source_words::forms::{forms, nodes, stray};
+use source_words::shapes::{classes, operator, shapes};
+use source_words::sources::source;
+use source_words::stimuli::{clocks, stimulus, stimulus_of_chip};
 use std::alloc::{AllocError, Global};
 use std::{fs, io};
 
