@@ -14,7 +14,7 @@ use Rattle.fabric.specs.declared.thing.Line.{Line}
 use Rattle.fabric.specs.declared.thing.Mark.{Mark}
 use Rattle.fabric.specs.Plan.{Plan, bands, rows_of}
 
--- the height of a band's lowest row, in lambda: a row is 12 high and a pull-up row 36
+-- the height of a band's lowest row, in lambda: a row is 12 high, and a row of pull-ups takes 36
 abbrev pub base : Plan → ℕ → ℕ
 base f zero = 0
 base f (suc b) = base f b + (12 * rows_of f b + 36)

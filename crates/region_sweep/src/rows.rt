@@ -6,7 +6,8 @@ ghost use Rattle.kept_runs.specs.Kept.{width_of};
 ghost use Rattle.strip_rows.specs.Swept.{strips_of, cells_of};
 ghost use Rattle.region_sweep.specs.Blocks.{painted, AreStacked};
 ghost use Rattle.region_sweep.specs.declared.spot.Spot.{Spot};
-ghost use Rattle.region_sweep.specs.Rows.{spot, AreWithin, AreRaised, IsUpTo, AreAsked, IsFront, IsAnswer, AreAnswered, IsSweep};
+ghost use Rattle.region_sweep.specs.Rows.{spot, AreWithin, AreRaised, IsUpTo, AreAsked, IsFront, IsAnswer};
+ghost use Rattle.region_sweep.specs.Rows.{AreAnswered, IsSweep};
 
 use crate::block::Block;
 use crate::repaint::repaint;
@@ -74,7 +75,8 @@ pub(crate) fn sweep_rows(
 fn raise(tree: &mut CoverTree, blocks: &[Block], raised: usize, row: u32) -> usize
     requires within { AreWithin (cover_of tree.old).mask (cover_of tree.old).cells blocks.now }
     requires raised { AreRaised blocks.now row raised (cover_of tree.old) }
-    ensures up_to { IsUpTo (cover_of tree.old).mask (cover_of tree.old).cells blocks.now row result (cover_of tree.new) }
+    ensures up_to { IsUpTo (cover_of tree.old).mask (cover_of tree.old).cells blocks.now row result
+        (cover_of tree.new) }
     ensures row { row_of tree.new ≡ row_of tree.old }
     ensures told { (c : ℕ) → told_of tree.new c ≡ told_of tree.old c }
 {
@@ -101,7 +103,8 @@ fn answer(
     requires places { All (λ s. s.cell < width_of kept.now) spots.now }
     requires within { answered ≤ length spots.now }
     requires waiting { (j : ℕ) → answered ≤ j → j < length spots.now → row ≤ (spot spots.now j).row }
-    ensures answers { (colour : ℕ → ℕ → ℕ) → IsFront colour row strips.now kept.now → AreAnswered colour (strips_of strips.now) spots.now answered found.old
+    ensures answers { (colour : ℕ → ℕ → ℕ) → IsFront colour row strips.now kept.now
+        → AreAnswered colour (strips_of strips.now) spots.now answered found.old
         → AreAnswered colour (strips_of strips.now) spots.now result found.new }
     ensures within { result ≤ length spots.now }
     ensures waiting { (j : ℕ) → result ≤ j → j < length spots.now → row < (spot spots.now j).row }
@@ -119,8 +122,8 @@ fn answer(
 fn number_at(strips: &StripRows, kept: &KeptRuns, cell: u32) -> Option<u32>
     requires cells { width_of kept.now ≤ cells_of strips.now }
     requires cell { cell < width_of kept.now }
-    ensures { (colour : ℕ → ℕ → ℕ) (row : ℕ) (p : Spot) → IsFront colour row strips.now kept.now → p.row ≡ row → p.cell ≡ cell
-        → IsAnswer colour (strips_of strips.now) p result }
+    ensures { (colour : ℕ → ℕ → ℕ) (row : ℕ) (p : Spot) → IsFront colour row strips.now kept.now → p.row ≡ row
+        → p.cell ≡ cell → IsAnswer colour (strips_of strips.now) p result }
 {
     match kept.run_at(cell) {
         Some(run) => Some(strips.strip_at(run.left)),

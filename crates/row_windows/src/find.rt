@@ -12,14 +12,14 @@ use mask_runs::Run;
 use mp_base::NoMemory;
 use std::alloc::AllocError;
 
-// How many cells the next stretch may lie behind the current window's stretches without a window of its own: these cells
-// are collected sooner than the ends of two windows are looked up.
+// How many cells the next stretch may lie behind the current window's stretches without a window of its own: these
+// cells are collected sooner than the ends of two windows are looked up.
 const NEAR: u32 = 32;
 
 /// The windows of a row, from left to right, around the cells that these stretches have, from left to right too, of any
-/// colours. Each window reaches over two runs beside such cells, if they lie next to one another, so that the runs in the
-/// windows, in this row and in the next, tell all that changes. Its time is that of the stretches times the logarithm of the
-/// cells.
+/// colours. Each window reaches over two runs beside such cells, if they lie next to one another, so that the runs in
+/// the windows, in this row and in the next, tell all that changes. Its time is that of the stretches times the
+/// logarithm of the cells.
 pub fn find_windows(
     kept: &KeptRuns,
     stretches: &[Run],
@@ -46,8 +46,8 @@ pub fn find_windows(
     Ok(())
 }
 
-// Adds the current window if the stretch lies well beyond it, and gives the current one then, whose `to` is where the stretches end that
-// it has.
+// Adds the current window if the stretch lies well beyond it, and gives the current one then, whose `to` is where the
+// stretches end that it has.
 fn add_stretch(
     kept: &KeptRuns,
     current: Window,
@@ -57,7 +57,8 @@ fn add_stretch(
     requires current { current.to < width_of kept.now }
     requires stretch { stretch.left < width_of kept.now }
     requires guarded { IsGuarded (width_of kept.now) (colours_of kept.now) }
-    ensures { IfOk result (λ next. IsOpened (colours_of kept.now) (width_of kept.now) current stretch windows.old.items windows.new.items next) }
+    ensures { IfOk result (λ next.
+        IsOpened (colours_of kept.now) (width_of kept.now) current stretch windows.old.items windows.new.items next) }
 {
     let joined = Window {
         from: current.from,

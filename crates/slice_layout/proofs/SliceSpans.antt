@@ -179,7 +179,8 @@ module _ (p : Path) (ends : HasEnds p) (is_net : IsNet p.slice) where
                   | inr a ↦ (
                       let w = chain_of_column (home (plain_slice p)) k p.chains c a in
                       to_pin columns pins k c (pin w.1.start w.1.to)
-                      (slice_in (pin w.1.start w.1.to) (of_start w.0 w.1 w.2 refl)) w.3 (columns_are w.1.to (end_within w.0 w.1 w.2) ∙ w.4))
+                      (slice_in (pin w.1.start w.1.to) (of_start w.0 w.1 w.2 refl)) w.3
+                      (columns_are w.1.to (end_within w.0 w.1 w.2) ∙ w.4))
                 ]
           ]
 
