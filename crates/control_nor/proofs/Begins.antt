@@ -1,7 +1,7 @@
 -- What stands before the tasks, and before the next values.
 use Rattle.std.proofs.Common.{◌≡◌, ℕ, zero, suc, ◌<◌, inl, List, Option, Some, None, Bool, true, false, length}
 use Rattle.std.proofs.Common.{replicate, get_or, eqb, refl, sym, ◌∙◌, ap, subst, arith}
-use Rattle.std.specs.Prelude.{All, Contains, IfSome, IsSome, not, ◌&&◌, ◌==◌, slice_get, slice_index}
+use Rattle.std.specs.Prelude.{All, Contains, IfSome, IsSome, not, ◌&&◌, ◌==◌, slice_get}
 use Rattle.std.proofs.lemmas.Bool.{eqb-true}
 use Rattle.std.proofs.lemmas.List.{length-replicate}
 use Rattle.std.proofs.lemmas.List.Elements.{All-filter, Contains-get_or, filter_passes}
@@ -22,19 +22,19 @@ use Rattle.rtl_form.specs.Entries.{IsAt}
 use Rattle.rtl_form.specs.Environment.{is_driven, is_stored}
 use Rattle.rtl_form.specs.Sound.{CellFits, HasSort, IsReset, IsSound}
 use Rattle.rtl_form.proofs.Members.{one_entry, some_entry}
-use Rattle.control_nor.specs.declared.names.Task.{Task}
-use Rattle.control_nor.specs.declared.names.Task.TheVariants.{Expr, Cell}
-use Rattle.control_nor.specs.declared.rails.Rails.{Rails}
-use Rattle.control_nor.specs.declared.rails.Bits.{Bits}
-use Rattle.control_nor.specs.Cells.{IsTransferNamed, transfers_to}
+use Rattle.task_schedule.specs.declared.task.Task.{Task}
+use Rattle.task_schedule.specs.declared.task.Task.TheVariants.{Expr, Cell}
+use Rattle.bit_gates.specs.declared.rails.Rails.{Rails}
+use Rattle.control_nor.specs.declared.names.Bits.{Bits}
+use Rattle.bit_gates.specs.Cells.{IsTransferNamed, transfers_to}
 use Rattle.control_nor.specs.Done.{AreDone}
 use Rattle.control_nor.specs.First.{AreFirstDone}
 use Rattle.control_nor.specs.NextValues.{AreNextValues, AreStored, AreWaiting, IsStoring, SlavesBehind, is_stored_bit}
 use Rattle.control_nor.specs.Progress.{IsBegun, NamedTask}
-use Rattle.control_nor.specs.Rails.{AreBelow, IsNamed, Named}
-use Rattle.control_nor.specs.Schedule.{IsSchedule, IsTask}
+use Rattle.bit_gates.specs.Rails.{AreBelow, IsNamed, Named}
+use Rattle.task_schedule.specs.Schedule.{IsSchedule, IsTask}
 use Rattle.control_nor.specs.Tasks.{entry_of}
-use Rattle.control_nor.proofs.Adding.{logic_keep}
+use Rattle.bit_gates.proofs.Adding.{logic_keep}
 use Rattle.control_nor.proofs.Progress.{at_get}
 
 pub none_named : (n k : ℕ) (rails : Rails) → Named (replicate n None) k rails → ⊥

@@ -16,12 +16,12 @@ use Rattle.rtl_form.specs.declared.rtl.Rtl.{Rtl}
 use Rattle.rtl_form.specs.Cost.{cell_cost, cost, expr_cost, op_cost, target_cost, transfer_cost}
 use Rattle.rtl_form.specs.Environment.{is_driven, is_stored}
 use Rattle.rtl_form.specs.Operands.{gives_word}
-use Rattle.control_nor.specs.declared.rails.Rails.{Rails}
-use Rattle.control_nor.specs.declared.rails.Bits.{Bits}
-use Rattle.control_nor.specs.Cells.{first_cost, first_kind_cost}
+use Rattle.bit_gates.specs.declared.rails.Rails.{Rails}
+use Rattle.control_nor.specs.declared.names.Bits.{Bits}
+use Rattle.bit_gates.specs.Cells.{first_cost, first_kind_cost}
 use Rattle.control_nor.specs.NextValues.{next_cost, next_left, stored_count, stored_from}
 use Rattle.control_nor.specs.Progress.{cost_left, driven_cost, left_by, wait_of, waits}
-use Rattle.control_nor.specs.Size.{bit_cell_cost, bit_cost, bit_expr_cost, bit_transfer_cost}
+use Rattle.bit_gates.specs.Size.{bit_cell_cost, bit_cost, bit_expr_cost, bit_transfer_cost}
 
 sum_three : {X : Type 0} (f g h k : X → ℕ) → ((x : X) → f x + g x + h x ≤ k x) → (xs : List X)
     → sum_by f xs + sum_by g xs + sum_by h xs ≤ sum_by k xs

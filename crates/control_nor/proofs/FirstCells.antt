@@ -22,12 +22,12 @@ use Rattle.rtl_form.specs.Entries.{IsAt}
 use Rattle.rtl_form.specs.Environment.{is_driven}
 use Rattle.rtl_form.specs.Sound.{CellFits, IsSound}
 use Rattle.rtl_form.proofs.Members.{one_entry}
-use Rattle.control_nor.specs.declared.rails.Rails.{Rails}
-use Rattle.control_nor.specs.Adding.{HasRoom}
-use Rattle.control_nor.specs.Cells.{IsFirstBitMade, IsFirstMade, first_cost}
+use Rattle.bit_gates.specs.declared.rails.Rails.{Rails}
+use Rattle.bit_gates.specs.Adding.{HasRoom}
+use Rattle.bit_gates.specs.Cells.{IsFirstBitMade, IsFirstMade, first_cost}
 use Rattle.control_nor.specs.First.{AreFirstDone, AreFirstNamed, AreFirstNets}
 use Rattle.control_nor.specs.Lowering.{InputBit, Stands}
-use Rattle.control_nor.specs.Rails.{Named}
+use Rattle.bit_gates.specs.Rails.{Named}
 use Rattle.control_nor.proofs.FirstSteps.{IsFirstStep, none_step, port_step, slave_step}
 use Rattle.control_nor.proofs.Obeying.{obeys_less}
 

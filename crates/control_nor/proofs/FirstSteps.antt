@@ -18,14 +18,14 @@ use Rattle.nor_net.specs.Shape.{gate_inputs}
 use Rattle.rtl_form.specs.declared.rtl.Cell as cells
 use Rattle.rtl_form.specs.declared.rtl.CellKind.TheVariants as kinds
 use Rattle.rtl_form.specs.Environment.{is_driven}
-use Rattle.control_nor.specs.declared.rails.Rails.{Rails}
-use Rattle.control_nor.specs.Adding.{IsCounted, IsPort, IsSlave}
-use Rattle.control_nor.specs.Cells.{first_cost, first_kind_cost}
+use Rattle.bit_gates.specs.declared.rails.Rails.{Rails}
+use Rattle.bit_gates.specs.Adding.{IsCounted, IsPort, IsSlave}
+use Rattle.bit_gates.specs.Cells.{first_cost, first_kind_cost}
 use Rattle.control_nor.specs.First.{IsWaiting}
 use Rattle.control_nor.specs.Lowering.{InputBit, ObeysBehind, Stands}
-use Rattle.control_nor.specs.Rails.{Agree, AreBelow}
-use Rattle.control_nor.specs.Size.{IsWithinCost, active_count}
-use Rattle.control_nor.proofs.Adding.{counted_list, get_at}
+use Rattle.bit_gates.specs.Rails.{Agree, AreBelow}
+use Rattle.bit_gates.specs.Size.{IsWithinCost, active_count}
+use Rattle.bit_gates.proofs.Adding.{counted_list, get_at}
 use Rattle.control_nor.proofs.Obeying.{agree_bit, gate_obeyed, swap_agree}
 
 -- what one cell added

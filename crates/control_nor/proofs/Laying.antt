@@ -4,6 +4,7 @@ use Rattle.std.proofs.Common.{Bool, true, false, length, refl, sym, ◌∙◌, a
 use Rattle.std.specs.Prelude.{All, MatchBool, ◌==◌, slice_get, slice_index}
 use Rattle.std.specs.List.{list_any}
 use Rattle.std.proofs.lemmas.Bool.{eqb-true, cases_eq}
+use Rattle.std.proofs.lemmas.List.{get_or_append_left, get_or_push}
 use Rattle.std.proofs.lemmas.List.Elements.{All-filter, Contains-get_or, filter_passes}
 use Rattle.std.proofs.lemmas.Option.{none-some, same_Some, slice_get_within}
 use Rattle.mp_base.specs.declared.value.Trit.{Trit}
@@ -20,19 +21,19 @@ use Rattle.rtl_form.specs.Entries.{IsAt}
 use Rattle.rtl_form.specs.Sound.{IsSound}
 use Rattle.rtl_form.specs.Values.{value_of}
 use Rattle.rtl_form.proofs.Members.{one_entry}
-use Rattle.control_nor.specs.declared.names.Task.{Task}
-use Rattle.control_nor.specs.declared.names.Task.TheVariants.{Expr, Cell}
-use Rattle.control_nor.specs.declared.rails.Rails.{Rails}
-use Rattle.control_nor.specs.declared.rails.Bits.{Bits}
-use Rattle.control_nor.specs.Cells.{IsDrivenMade, transfers_to}
-use Rattle.control_nor.specs.Exprs.{IsExprMade}
+use Rattle.task_schedule.specs.declared.task.Task.{Task}
+use Rattle.task_schedule.specs.declared.task.Task.TheVariants.{Expr, Cell}
+use Rattle.bit_gates.specs.declared.rails.Rails.{Rails}
+use Rattle.control_nor.specs.declared.names.Bits.{Bits}
+use Rattle.bit_gates.specs.Cells.{IsDrivenMade, transfers_to}
+use Rattle.bit_gates.specs.Exprs.{IsExprMade}
 use Rattle.control_nor.specs.Lowering.{BitsFit, IsEntry, ObeysBehind}
 use Rattle.control_nor.specs.Meaning.{AreTransfersKnown, IsExprKnown, IsMeant, is_active}
 use Rattle.control_nor.specs.Progress.{IsBegun, IsLaid, IsProgress, NamedTask, level}
-use Rattle.control_nor.specs.Rails.{Agree, HasRails, Known, Named}
-use Rattle.control_nor.specs.Schedule.{IsSchedule}
+use Rattle.bit_gates.specs.Rails.{Agree, HasRails, Known, Named}
+use Rattle.task_schedule.specs.Schedule.{IsSchedule}
 use Rattle.control_nor.specs.Tasks.{IsTaskDone, IsTaskMade, entry_of, with_entry}
-use Rattle.control_nor.proofs.Adding.{get_at, gates_longer, logic_keep, logic_longer}
+use Rattle.bit_gates.proofs.Adding.{get_at, gates_longer, logic_keep, logic_longer}
 use Rattle.control_nor.proofs.Meaning.{driven_agree, driven_meant, expr_agree, expr_meant}
 use Rattle.control_nor.proofs.Obeying.{obeys_less}
 use Rattle.control_nor.proofs.Progress.{IsEntryTask, IsStep, entry_other, entry_same, named_after, names_stay}
@@ -40,22 +41,13 @@ use Rattle.control_nor.proofs.Running.{others, step, was}
 
 -- ---- levels
 
-pub index_kept : (xs : List ℕ) (x k : ℕ) → k < length xs → slice_index (xs ++ x ∷ []) k ≡ slice_index xs k
-index_kept [] x k l = absurd (omega arith)
-index_kept (y ∷ xs) x zero l = refl
-index_kept (y ∷ xs) x (suc k) l = index_kept xs x k (omega arith)
-
-pub index_last : (xs : List ℕ) (x : ℕ) → slice_index (xs ++ x ∷ []) (length xs) ≡ x
-index_last [] x = refl
-index_last (y ∷ xs) x = index_last xs x
-
 level_kept : (start : ℕ) (ends : List ℕ) (x s : ℕ) → s ≤ length ends
     → level start (ends ++ x ∷ []) s ≡ level start ends s
 level_kept start ends x zero l = refl
-level_kept start ends x (suc s) l = index_kept ends x s (omega arith)
+level_kept start ends x (suc s) l = get_or_append_left ends (x ∷ []) 0 s (omega arith)
 
 level_last : (start : ℕ) (ends : List ℕ) (x t : ℕ) → length ends ≡ t → level start (ends ++ x ∷ []) (suc t) ≡ x
-level_last start ends x t e = ap (slice_index (ends ++ x ∷ [])) (sym e) ∙ index_last ends x
+level_last start ends x t e = ap (slice_index (ends ++ x ∷ [])) (sym e) ∙ get_or_push ends x 0 (length ends) refl
 
 -- a driven bit is a gate on a gate
 driven_at : (entries : List (Option Rails)) (ts : List Transfer) (old new : List Part) (rails : Rails)

@@ -9,8 +9,8 @@ use Rattle.mp_base.proofs.Entries.{get_set_same, get_set_other}
 use Rattle.std.proofs.lemmas.Bool.{cases_eq}
 use Rattle.rtl_form.specs.declared.rtl.Cell as cells
 use Rattle.rtl_form.specs.declared.rtl.Transfer.{Transfer}
-use Rattle.control_nor.specs.declared.rails.Rails.{Rails}
-use Rattle.control_nor.specs.Cells.{transfers_to}
+use Rattle.bit_gates.specs.declared.rails.Rails.{Rails}
+use Rattle.bit_gates.specs.Cells.{transfers_to}
 use Rattle.control_nor.specs.Progress.{driven_count, left_by, wait_of, waits}
 
 module _ {X : Type 0} (f : X → ℕ) where

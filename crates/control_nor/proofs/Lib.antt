@@ -1,8 +1,3 @@
-pub mod Zipping
-pub mod Adding
-pub mod Naming
-pub mod Terms
-pub mod Next
 pub mod Made
 pub mod Left
 pub mod Progress
@@ -15,8 +10,6 @@ pub mod FirstSteps
 pub mod FirstCells
 pub mod StoredBits
 pub mod StoredCells
-pub mod Turns
-pub mod Scheduling
 pub mod Costs
 pub mod Begins
 pub mod Named

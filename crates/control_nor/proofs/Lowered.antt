@@ -26,21 +26,21 @@ use Rattle.rtl_form.specs.Operands.{takes_words, gives_word}
 use Rattle.rtl_form.specs.Sound.{CellFits, HasSort, IsSort, IsSound}
 use Rattle.rtl_form.proofs.Members.{one_entry}
 use Rattle.control_nor.specs.declared.names.Names.{Names}
-use Rattle.control_nor.specs.declared.names.Task.{Task}
-use Rattle.control_nor.specs.declared.names.Task.TheVariants.{Expr, Cell}
-use Rattle.control_nor.specs.declared.rails.Rails.{Rails}
-use Rattle.control_nor.specs.declared.rails.Bits.{Bits}
-use Rattle.control_nor.specs.Cells.{first_cost}
+use Rattle.task_schedule.specs.declared.task.Task.{Task}
+use Rattle.task_schedule.specs.declared.task.Task.TheVariants.{Expr, Cell}
+use Rattle.bit_gates.specs.declared.rails.Rails.{Rails}
+use Rattle.control_nor.specs.declared.names.Bits.{Bits}
+use Rattle.bit_gates.specs.Cells.{first_cost}
 use Rattle.control_nor.specs.Done.{AreDone}
 use Rattle.control_nor.specs.First.{AreFirstDone}
 use Rattle.control_nor.specs.Lowering.{AreInputs, ArePlaced, InputBit, IsEntered, IsEntry, IsLowered, Stands, StoredBit}
 use Rattle.control_nor.specs.Lowering.{nets_before}
 use Rattle.control_nor.specs.NextValues.{AreNextValues, IsStoring}
 use Rattle.control_nor.specs.Progress.{left_by, level}
-use Rattle.control_nor.specs.Rails.{IsNamed, Named, net_of}
-use Rattle.control_nor.specs.Schedule.{IsSchedule, IsTask}
-use Rattle.control_nor.specs.Size.{IsWithinCost, bit_cost, entry_count}
-use Rattle.control_nor.proofs.Adding.{get_at, logic_keep, logic_longer}
+use Rattle.bit_gates.specs.Rails.{IsNamed, Named, net_of}
+use Rattle.task_schedule.specs.Schedule.{IsSchedule, IsTask}
+use Rattle.bit_gates.specs.Size.{IsWithinCost, bit_cost, entry_count}
+use Rattle.bit_gates.proofs.Adding.{get_at, logic_keep, logic_longer}
 use Rattle.control_nor.proofs.Begins.{cell_named, expr_named, first_rails, has_reset, in_tasks, is_stored_from}
 use Rattle.control_nor.proofs.Begins.{slaves_behind, stored_kind}
 use Rattle.control_nor.proofs.Costs.{bit_cost_most, left_all, rounds}
@@ -50,13 +50,13 @@ use Rattle.control_nor.proofs.Meaning.{value_small}
 use Rattle.control_nor.proofs.Obeying.{gate_obeyed, obeys_less}
 use Rattle.control_nor.proofs.StoredBits.{obeys_kept}
 use Rattle.control_nor.proofs.Written.{written_is}
-use Rattle.control_nor.specs.Cells.{transfers_to}
+use Rattle.bit_gates.specs.Cells.{transfers_to}
 use Rattle.control_nor.specs.Lowering.{BitsFit, Fetched, Gives, HasBit, KnownCell, KnownExpr, ObeysBehind, Ready}
 use Rattle.control_nor.specs.Lowering.{next_bit}
 use Rattle.control_nor.specs.Meaning.{AreTransfersKnown, IsExprKnown, is_active}
 use Rattle.control_nor.specs.NextValues.{AreKnown, is_guarded, next_of}
 use Rattle.control_nor.specs.Progress.{NamedTask}
-use Rattle.control_nor.specs.Rails.{Agree, Known}
+use Rattle.bit_gates.specs.Rails.{Agree, Known}
 use Rattle.mp_base.specs.declared.value.Trit.{Trit}
 use Rattle.mp_base.specs.declared.value.Trit.TheVariants.{Zero, One}
 use Rattle.nor_net.specs.Elements.{Spot, spot}
@@ -140,7 +140,7 @@ module _ (r : Rtl) (sound : IsSound r) (old mid mid2 after : List Part) (named :
         (ap (λ ps. slice_get ps n) (sym done.progress.adds.1) ∙ e) in
         let w = slice_get_within done.progress.adds.0 m.0 (Latch phase source) m.2 in
         let a = done.progress.adds.2 m.0 (Latch phase source) w in
-        absurd (subst Rattle.control_nor.specs.Adding.IsLogic
+        absurd (subst Rattle.bit_gates.specs.Adding.IsLogic
         (Rattle.std.proofs.lemmas.Option.get_or_from_slice_get done.progress.adds.0 m.0 (Latch phase source)
         (Latch phase source) m.2) a)
   ]

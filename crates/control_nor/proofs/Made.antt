@@ -14,15 +14,15 @@ use Rattle.rtl_form.specs.declared.rtl.RtlExpr.TheVariants.{Number, Truth, Cell,
 use Rattle.rtl_form.specs.Cost.{op_cost}
 use Rattle.rtl_form.specs.Operands.{takes_words, gives_word}
 use Rattle.rtl_form.specs.declared.rtl.Transfer.{Transfer}
-use Rattle.control_nor.specs.declared.rails.Rails.{Rails}
-use Rattle.control_nor.specs.Adding.{AddsGates, AddsLogic, IsCounted, IsEntryPair, IsExclusive, IsGate, IsLogic, IsPair}
-use Rattle.control_nor.specs.Cells.{IsDrivenMade, IsTerm}
-use Rattle.control_nor.specs.Exprs.{IsExprMade, IsNorOfBits, IsNorOfNegations, IsOpMade}
+use Rattle.bit_gates.specs.declared.rails.Rails.{Rails}
+use Rattle.bit_gates.specs.Adding.{AddsGates, AddsLogic, IsCounted, IsEntryPair, IsExclusive, IsGate, IsLogic, IsPair}
+use Rattle.bit_gates.specs.Cells.{IsDrivenMade, IsTerm}
+use Rattle.bit_gates.specs.Exprs.{IsExprMade, IsNorOfBits, IsNorOfNegations, IsOpMade}
 use Rattle.control_nor.specs.Lowering.{IsEntry}
-use Rattle.control_nor.specs.Rails.{AllBelow, AreBelow, BitOf, Named, NegationOf, swapped}
-use Rattle.control_nor.specs.Size.{IsWithinCost, bit_expr_cost, entry_count}
-use Rattle.control_nor.proofs.Adding.{counted_list, counted_on, gates_are_logic, gates_none, gates_on, get_at}
-use Rattle.control_nor.proofs.Adding.{gate_before, logic_none, two_gates}
+use Rattle.bit_gates.specs.Rails.{AllBelow, AreBelow, BitOf, Named, NegationOf, swapped}
+use Rattle.bit_gates.specs.Size.{IsWithinCost, bit_expr_cost, entry_count}
+use Rattle.bit_gates.proofs.Adding.{counted_list, counted_on, gates_are_logic, gates_none, gates_on, get_at}
+use Rattle.bit_gates.proofs.Adding.{gate_before, logic_none, two_gates}
 use Rattle.std.proofs.lemmas.List.Elements.{All-nil, All-cons}
 use Rattle.mp_base.proofs.Entries.{get_behind}
 use Rattle.std.proofs.lemmas.Slice.Zip.{AllZip-long}
@@ -152,7 +152,7 @@ entry_added old new rails cost entered h enters two = record {
     inputs = let e = c.input_count in let f = ap Rattle.nor_net.specs.Shape.gate_inputs h.parts in
         omega (arith, e, f);
     active = let e = c.active_count in
-        let f = ap (Rattle.std.specs.List.sum_by Rattle.control_nor.specs.Size.active_count) h.parts in
+        let f = ap (Rattle.std.specs.List.sum_by Rattle.bit_gates.specs.Size.active_count) h.parts in
         omega (arith, e, f);
   };
   inputs = λ n l e. (enters, only n l e);

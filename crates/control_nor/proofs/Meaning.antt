@@ -26,15 +26,15 @@ use Rattle.rtl_form.specs.Operands.{takes, takes_words, gives_word}
 use Rattle.rtl_form.specs.Sound.{ExprFits, HasSort, IsSort, IsSound}
 use Rattle.rtl_form.specs.Values.{value_of, expr_value}
 use Rattle.rtl_form.proofs.Values.{value_is}
-use Rattle.control_nor.specs.declared.rails.Rails.{Rails}
-use Rattle.control_nor.specs.declared.rails.Bits.{Bits}
-use Rattle.control_nor.specs.Adding.{IsPair}
-use Rattle.control_nor.specs.Cells.{IsDrivenMade, IsTerm}
-use Rattle.control_nor.specs.Exprs.{IsExclusiveOf, IsExprMade, IsNorOfBits, IsNorOfNegations, IsOpMade}
+use Rattle.bit_gates.specs.declared.rails.Rails.{Rails}
+use Rattle.control_nor.specs.declared.names.Bits.{Bits}
+use Rattle.bit_gates.specs.Adding.{IsPair}
+use Rattle.bit_gates.specs.Cells.{IsDrivenMade, IsTerm}
+use Rattle.bit_gates.specs.Exprs.{IsExclusiveOf, IsExprMade, IsNorOfBits, IsNorOfNegations, IsOpMade}
 use Rattle.control_nor.specs.Lowering.{BitsFit, ObeysBehind}
 use Rattle.control_nor.specs.Meaning.{IsExprKnown, is_active}
-use Rattle.control_nor.specs.Rails.{Agree, HasRails, Known, Named, swapped}
-use Rattle.control_nor.proofs.Adding.{gates_keep, gates_longer}
+use Rattle.bit_gates.specs.Rails.{Agree, HasRails, Known, Named, swapped}
+use Rattle.bit_gates.proofs.Adding.{gates_keep, gates_longer}
 use Rattle.control_nor.proofs.Bits.{AreBits, exclusive_or, negation_of, nor_of_bits, nor_of_negations, some_one}
 use Rattle.control_nor.proofs.Bits.{some_zero, truth_one}
 use Rattle.control_nor.proofs.Made.{pair_gates}

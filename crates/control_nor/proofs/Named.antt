@@ -4,9 +4,9 @@ use Rattle.std.specs.Prelude.{slice_get}
 use Rattle.std.specs.Option.{option_map}
 use Rattle.std.proofs.lemmas.Option.{none-some, same_Some, slice_get-map}
 use Rattle.nor_net.specs.declared.net.NetId.{NetId}
-use Rattle.control_nor.specs.declared.rails.Rails.{Rails}
+use Rattle.bit_gates.specs.declared.rails.Rails.{Rails}
 use Rattle.control_nor.specs.Lowering.{Stands}
-use Rattle.control_nor.specs.Rails.{Named, net_of}
+use Rattle.bit_gates.specs.Rails.{Named, net_of}
 
 pub named_stands : (xs : List (Option Rails)) (k : ℕ) (rails : Rails) → Named xs k rails
     → Stands (map net_of xs) k rails.bit

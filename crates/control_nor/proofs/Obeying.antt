@@ -11,11 +11,11 @@ use Rattle.nor_net.specs.declared.net.Part.TheVariants.{Input, Gate}
 use Rattle.nor_net.specs.Elements.{Spot, spot, part_element}
 use Rattle.nor_net.specs.Laws.{bit}
 use Rattle.nor_net.specs.Settled.{Obeys, nor_value}
-use Rattle.control_nor.specs.declared.rails.Rails.{Rails}
-use Rattle.control_nor.specs.Adding.{IsEntryPair, IsExclusive, IsPair}
+use Rattle.bit_gates.specs.declared.rails.Rails.{Rails}
+use Rattle.bit_gates.specs.Adding.{IsEntryPair, IsExclusive, IsPair}
 use Rattle.control_nor.specs.Lowering.{ObeysBehind}
-use Rattle.control_nor.specs.Rails.{Agree, BitOf, HasRails, Known, NegationOf, swapped}
-use Rattle.control_nor.proofs.Adding.{get_at}
+use Rattle.bit_gates.specs.Rails.{Agree, BitOf, HasRails, Known, NegationOf, swapped}
+use Rattle.bit_gates.proofs.Adding.{get_at}
 
 -- values that obey more nets obey those of a part, where all stands as it stood
 pub obeys_less : (old new : List Part) (first later : ℕ) (v : Spot → Trit)

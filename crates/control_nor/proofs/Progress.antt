@@ -13,20 +13,20 @@ use Rattle.rtl_form.specs.declared.rtl.Rtl.{Rtl}
 use Rattle.rtl_form.specs.Entries.{IsAt}
 use Rattle.rtl_form.specs.Environment.{is_driven}
 use Rattle.rtl_form.proofs.Members.{one_entry}
-use Rattle.control_nor.specs.declared.names.Task.{Task}
-use Rattle.control_nor.specs.declared.names.Task.TheVariants.{Expr, Cell}
-use Rattle.control_nor.specs.declared.rails.Rails.{Rails}
-use Rattle.control_nor.specs.declared.rails.Bits.{Bits}
-use Rattle.control_nor.specs.Adding.{AddsLogic}
-use Rattle.control_nor.specs.Cells.{IsDrivenMade, transfers_to}
-use Rattle.control_nor.specs.Exprs.{IsExprMade}
+use Rattle.task_schedule.specs.declared.task.Task.{Task}
+use Rattle.task_schedule.specs.declared.task.Task.TheVariants.{Expr, Cell}
+use Rattle.bit_gates.specs.declared.rails.Rails.{Rails}
+use Rattle.control_nor.specs.declared.names.Bits.{Bits}
+use Rattle.bit_gates.specs.Adding.{AddsLogic}
+use Rattle.bit_gates.specs.Cells.{IsDrivenMade, transfers_to}
+use Rattle.bit_gates.specs.Exprs.{IsExprMade}
 use Rattle.control_nor.specs.Lowering.{IsEntry}
 use Rattle.control_nor.specs.Progress.{IsSpent, NamedTask, driven_cost, driven_count}
-use Rattle.control_nor.specs.Rails.{AllBelow, AreBelow}
-use Rattle.control_nor.specs.Schedule.{IsTask}
-use Rattle.control_nor.specs.Size.{IsWithinCost, bit_expr_cost, entry_count}
+use Rattle.bit_gates.specs.Rails.{AllBelow, AreBelow}
+use Rattle.task_schedule.specs.Schedule.{IsTask}
+use Rattle.bit_gates.specs.Size.{IsWithinCost, bit_expr_cost, entry_count}
 use Rattle.control_nor.specs.Tasks.{IsTaskMade, entry_of, with_entry}
-use Rattle.control_nor.proofs.Adding.{logic_none}
+use Rattle.bit_gates.proofs.Adding.{logic_none}
 use Rattle.control_nor.proofs.Left.{left_some, set_there, waits_fall}
 use Rattle.control_nor.proofs.Made.{AreAdded, driven_added, expr_added, nothing_added}
 

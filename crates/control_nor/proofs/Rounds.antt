@@ -8,11 +8,11 @@ use Rattle.nor_net.specs.Shape.{gate_inputs, net_limit}
 use Rattle.rtl_form.specs.declared.rtl.Cell as cells
 use Rattle.rtl_form.specs.declared.rtl.Rtl.{Rtl}
 use Rattle.rtl_form.specs.Cost.{cost}
-use Rattle.control_nor.specs.declared.names.Task.{Task}
-use Rattle.control_nor.specs.declared.rails.Rails.{Rails}
-use Rattle.control_nor.specs.declared.rails.Bits.{Bits}
-use Rattle.control_nor.specs.Adding.{HasRoom}
-use Rattle.control_nor.specs.Cells.{first_cost}
+use Rattle.task_schedule.specs.declared.task.Task.{Task}
+use Rattle.bit_gates.specs.declared.rails.Rails.{Rails}
+use Rattle.control_nor.specs.declared.names.Bits.{Bits}
+use Rattle.bit_gates.specs.Adding.{HasRoom}
+use Rattle.bit_gates.specs.Cells.{first_cost}
 use Rattle.control_nor.specs.Done.{AreDone}
 use Rattle.control_nor.specs.First.{AreFirstDone}
 use Rattle.control_nor.specs.Lowering.{IsLowered}

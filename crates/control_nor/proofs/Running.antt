@@ -16,19 +16,19 @@ use Rattle.rtl_form.specs.Entries.{IsAt}
 use Rattle.rtl_form.specs.Environment.{is_driven}
 use Rattle.rtl_form.specs.Sound.{ExprFits, HasSort, IsSort, IsSound}
 use Rattle.rtl_form.proofs.Members.{one_entry, some_entry}
-use Rattle.control_nor.specs.declared.names.Task.{Task}
-use Rattle.control_nor.specs.declared.names.Task.TheVariants.{Expr, Cell}
-use Rattle.control_nor.specs.declared.rails.Rails.{Rails}
-use Rattle.control_nor.specs.declared.rails.Bits.{Bits}
-use Rattle.control_nor.specs.Adding.{HasRoom}
-use Rattle.control_nor.specs.Cells.{IsDrivenMade, IsTransferNamed, transfers_to}
-use Rattle.control_nor.specs.Exprs.{IsExprMade, IsExprReady}
+use Rattle.task_schedule.specs.declared.task.Task.{Task}
+use Rattle.task_schedule.specs.declared.task.Task.TheVariants.{Expr, Cell}
+use Rattle.bit_gates.specs.declared.rails.Rails.{Rails}
+use Rattle.control_nor.specs.declared.names.Bits.{Bits}
+use Rattle.bit_gates.specs.Adding.{HasRoom}
+use Rattle.bit_gates.specs.Cells.{IsDrivenMade, IsTransferNamed, transfers_to}
+use Rattle.bit_gates.specs.Exprs.{IsExprMade, IsExprReady}
 use Rattle.control_nor.specs.Progress.{IsBegun, IsBitTask, IsProgress, NamedTask, cost_left, driven_cost, driven_count}
-use Rattle.control_nor.specs.Rails.{AreBelow, IsNamed}
-use Rattle.control_nor.specs.Schedule.{IsSchedule, IsTask, TaskReads}
-use Rattle.control_nor.specs.Size.{IsWithinCost, bit_expr_cost}
+use Rattle.bit_gates.specs.Rails.{AreBelow, IsNamed}
+use Rattle.task_schedule.specs.Schedule.{IsSchedule, IsTask, TaskReads}
+use Rattle.bit_gates.specs.Size.{IsWithinCost, bit_expr_cost}
 use Rattle.control_nor.specs.Tasks.{IsTaskDone, IsTaskMade, IsTaskReady, entry_of, with_entry}
-use Rattle.control_nor.proofs.Adding.{logic_none, logic_on, logic_longer}
+use Rattle.bit_gates.proofs.Adding.{logic_none, logic_on, logic_longer}
 use Rattle.control_nor.proofs.Left.{left_least, waits_fall}
 use Rattle.control_nor.proofs.Progress.{IsStep, at_get, cells_after, entry_other, entry_same, exprs_after, named_after}
 use Rattle.control_nor.proofs.Progress.{names_stay, task_step}
@@ -89,7 +89,7 @@ module _ (r : Rtl) (sound : IsSound r) (tasks : List Task) (schedule : IsSchedul
         by_expr x (sound.exprs e x at) (λ y h. subst (λ k. TaskReads r k y) (sym same) (x, at, h))
       where
         by_expr : (x : RtlExpr) → ExprFits r e x
-            → ((y : Task) → Rattle.control_nor.specs.Schedule.ExprReads x y → TaskReads r task y)
+            → ((y : Task) → Rattle.task_schedule.specs.Schedule.ExprReads x y → TaskReads r task y)
             → IsExprReady after.cells after.exprs x
         by_expr (exprs.Number n) fits reads = tt
         by_expr (exprs.Truth b) fits reads = tt

@@ -21,15 +21,15 @@ use Rattle.nor_net.specs.declared.net.Part.TheVariants.{Input, Gate, Latch}
 use Rattle.nor_net.proofs.Values.{nor_bits}
 use Rattle.rtl_form.specs.declared.rtl.Transfer.{Transfer}
 use Rattle.rtl_form.specs.declared.rtl.Rtl.{Rtl}
-use Rattle.control_nor.specs.declared.rails.Rails.{Rails}
-use Rattle.control_nor.specs.Cells.{GuardOf, IsNextMade, IsSourceMade}
+use Rattle.bit_gates.specs.declared.rails.Rails.{Rails}
+use Rattle.bit_gates.specs.Cells.{GuardOf, IsNextMade, IsSourceMade}
 use Rattle.control_nor.specs.Lowering.{ObeysBehind}
 use Rattle.control_nor.specs.Meaning.{is_active}
 use Rattle.control_nor.specs.NextValues.{AreKnown, IsStoring, is_guarded, next_of}
-use Rattle.control_nor.specs.Rails.{HasRails}
-use Rattle.control_nor.proofs.Adding.{gates_keep, gates_longer, get_at}
+use Rattle.bit_gates.specs.Rails.{HasRails}
+use Rattle.bit_gates.proofs.Adding.{gates_keep, gates_longer, get_at}
 use Rattle.control_nor.proofs.Meaning.{terms_known}
-use Rattle.control_nor.proofs.Next.{source_gates}
+use Rattle.bit_gates.proofs.Next.{source_gates}
 use Rattle.control_nor.proofs.Obeying.{gate_obeyed}
 
 pub never_fed : (phase : Phase) → Fed (Latch phase None) → ⊥

@@ -18,18 +18,18 @@ use Rattle.rtl_form.specs.declared.rtl.Transfer.{Transfer}
 use Rattle.rtl_form.specs.declared.rtl.Rtl.{Rtl}
 use Rattle.rtl_form.specs.Entries.{IsAt}
 use Rattle.rtl_form.proofs.Members.{one_entry}
-use Rattle.control_nor.specs.declared.rails.Rails.{Rails}
-use Rattle.control_nor.specs.declared.rails.Bits.{Bits}
-use Rattle.control_nor.specs.Adding.{HasRoom, IsCounted}
-use Rattle.control_nor.specs.Cells.{IsNextMade, transfers_to}
+use Rattle.bit_gates.specs.declared.rails.Rails.{Rails}
+use Rattle.control_nor.specs.declared.names.Bits.{Bits}
+use Rattle.bit_gates.specs.Adding.{HasRoom, IsCounted}
+use Rattle.bit_gates.specs.Cells.{IsNextMade, transfers_to}
 use Rattle.control_nor.specs.NextValues.{AreStored, AreWaiting, IsNextCellMade, IsStoring, is_stored_bit, next_cost}
 use Rattle.control_nor.specs.NextValues.{next_left, stored_count, stored_from}
-use Rattle.control_nor.specs.Rails.{Named}
-use Rattle.control_nor.specs.Size.{IsWithinCost, active_count}
-use Rattle.control_nor.proofs.Adding.{counted_list, counted_on}
+use Rattle.bit_gates.specs.Rails.{Named}
+use Rattle.bit_gates.specs.Size.{IsWithinCost, active_count}
+use Rattle.bit_gates.proofs.Adding.{counted_list, counted_on}
 use Rattle.control_nor.proofs.FirstSteps.{in_more}
 use Rattle.control_nor.proofs.Left.{one_if, sum_split}
-use Rattle.control_nor.proofs.Next.{source_counted, source_gates}
+use Rattle.bit_gates.proofs.Next.{source_counted, source_gates}
 use Rattle.control_nor.proofs.Progress.{at_get}
 use Rattle.control_nor.proofs.StoredBits.{elsewhere, grown_length, never_fed, new_length, obeys_kept, slave_below}
 use Rattle.control_nor.proofs.StoredBits.{slave_fed, stays, storing}
@@ -174,7 +174,7 @@ module _ (r : Rtl) (exprs : List (Option Rails)) (ts : List Transfer) (rails : R
   abbrev tail : List Part
   tail = Latch A (Some h.source) ∷ Gate (h.master ∷ []) ∷ []
 
-  gates : Rattle.control_nor.specs.Adding.AddsGates old h.middle
+  gates : Rattle.bit_gates.specs.Adding.AddsGates old h.middle
   gates = source_gates exprs ts rails.negation reset h.source old h.middle h.is_source
 
   grown_is : h.grown ≡ old ++ (gates.0 ++ tail)
@@ -194,13 +194,13 @@ module _ (r : Rtl) (exprs : List (Option Rails)) (ts : List Transfer) (rails : R
     | inr ne ↦ by_place ne (cases_lt n (length old)) (sym (elsewhere r exprs ts rails reset old new h waits n ne) ∙ e)
   ]
     where
-      of_gates : (ps : List Part) (i : ℕ) → All Rattle.control_nor.specs.Adding.IsGate ps → slice_get ps i ≡ Some p
+      of_gates : (ps : List Part) (i : ℕ) → All Rattle.bit_gates.specs.Adding.IsGate ps → slice_get ps i ≡ Some p
           → (inputs : List NetId) × (p ≡ Gate inputs)
       of_gates [] i g q = absurd (none-some p q)
       of_gates (x ∷ ps) (suc i) g q = of_gates ps i (λ k d l. g (suc k) d (omega arith)) q
       of_gates (x ∷ ps) zero g q = by_part x (g 0 x (omega arith)) q
         where
-          by_part : (x : Part) → Rattle.control_nor.specs.Adding.IsGate x → slice_get (x ∷ ps) zero ≡ Some p
+          by_part : (x : Part) → Rattle.bit_gates.specs.Adding.IsGate x → slice_get (x ∷ ps) zero ≡ Some p
               → (inputs : List NetId) × (p ≡ Gate inputs)
           by_part Input k q = absurd k
           by_part (Gate inputs) k q = (inputs, sym (same_Some (Gate inputs) p q))

@@ -10,7 +10,7 @@ use Rattle.rtl_form.specs.declared.rtl.Transfer.{Transfer}
 use Rattle.rtl_form.specs.Digits.{digit, writes_one}
 use Rattle.rtl_form.specs.Written.{writes, written}
 use Rattle.rtl_form.proofs.Digits.{written_digits}
-use Rattle.control_nor.specs.Cells.{transfers_to}
+use Rattle.bit_gates.specs.Cells.{transfers_to}
 use Rattle.control_nor.specs.Meaning.{is_active}
 use Rattle.control_nor.specs.NextValues.{is_guarded}
 

@@ -2,8 +2,8 @@
 use Rattle.std.specs.Prelude.{ℕ, List, length}
 use Rattle.nor_net.specs.declared.net.Part.{Part}
 use Rattle.rtl_form.specs.declared.rtl.Rtl.{Rtl}
-use Rattle.control_nor.specs.declared.names.Task.{Task}
-use Rattle.control_nor.specs.declared.rails.Bits.{Bits}
+use Rattle.task_schedule.specs.declared.task.Task.{Task}
+use Rattle.control_nor.specs.declared.names.Bits.{Bits}
 use Rattle.control_nor.specs.Meaning.{IsMeant}
 use Rattle.control_nor.specs.Progress.{IsLaid, IsProgress}
 

@@ -14,11 +14,11 @@ use Rattle.rtl_form.specs.declared.rtl.CellKind.TheVariants as kinds
 use Rattle.rtl_form.specs.declared.rtl.Rtl.{Rtl}
 use Rattle.rtl_form.specs.Entries.{IsAt}
 use Rattle.rtl_form.specs.Environment.{is_driven}
-use Rattle.control_nor.specs.declared.rails.Rails.{Rails}
-use Rattle.control_nor.specs.Cells.{first_cost}
+use Rattle.bit_gates.specs.declared.rails.Rails.{Rails}
+use Rattle.bit_gates.specs.Cells.{first_cost}
 use Rattle.control_nor.specs.Lowering.{InputBit, ObeysBehind, Stands}
-use Rattle.control_nor.specs.Rails.{Agree, AllBelow, Named}
-use Rattle.control_nor.specs.Size.{IsWithinCost}
+use Rattle.bit_gates.specs.Rails.{Agree, AllBelow, Named}
+use Rattle.bit_gates.specs.Size.{IsWithinCost}
 
 -- the slave of a stored bit, which waits for its data, and the bit behind it
 pub record IsWaiting (net : List Part) (rails : Rails) : Type 0 where

@@ -1,14 +1,7 @@
-pub mod Schedule
-pub mod Size
 pub mod Lowering
-pub mod Rails
-pub mod Adding
-pub mod Exprs
-pub mod Cells
 pub mod Tasks
 pub mod Progress
 pub mod Meaning
 pub mod Done
 pub mod First
 pub mod NextValues
-pub mod Turns

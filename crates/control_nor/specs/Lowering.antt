@@ -30,9 +30,9 @@ use Rattle.rtl_form.specs.Environment.{is_driven, driven_value}
 use Rattle.rtl_form.specs.Written.{written}
 use Rattle.rtl_form.specs.Cost.{cost}
 use Rattle.control_nor.specs.declared.names.Names.{Names}
-use Rattle.control_nor.specs.declared.names.Task.TheVariants as tasks
-use Rattle.control_nor.specs.Schedule.{IsSchedule}
-use Rattle.control_nor.specs.Size.{bit_cost, entry_count, IsWithinCost}
+use Rattle.task_schedule.specs.declared.task.Task.TheVariants as tasks
+use Rattle.task_schedule.specs.Schedule.{IsSchedule}
+use Rattle.bit_gates.specs.Size.{bit_cost, entry_count, IsWithinCost}
 
 -- the net that stands for entry k
 abbrev pub Stands : List (Option NetId) → ℕ → NetId → Type 0

@@ -11,14 +11,14 @@ use Rattle.rtl_form.specs.declared.rtl.Rtl.{Rtl}
 use Rattle.rtl_form.specs.Entries.{IsAt}
 use Rattle.rtl_form.specs.Operands.{takes_words}
 use Rattle.rtl_form.specs.Values.{value_of}
-use Rattle.control_nor.specs.declared.names.Task.{Task}
-use Rattle.control_nor.specs.declared.names.Task.TheVariants as variants
-use Rattle.control_nor.specs.declared.rails.Rails.{Rails}
-use Rattle.control_nor.specs.declared.rails.Bits.{Bits}
-use Rattle.control_nor.specs.Cells.{transfers_to}
+use Rattle.task_schedule.specs.declared.task.Task.{Task}
+use Rattle.task_schedule.specs.declared.task.Task.TheVariants as variants
+use Rattle.bit_gates.specs.declared.rails.Rails.{Rails}
+use Rattle.control_nor.specs.declared.names.Bits.{Bits}
+use Rattle.bit_gates.specs.Cells.{transfers_to}
 use Rattle.control_nor.specs.Lowering.{BitsFit, ObeysBehind}
 use Rattle.control_nor.specs.Progress.{NamedTask}
-use Rattle.control_nor.specs.Rails.{Agree, HasRails, Known, Named}
+use Rattle.bit_gates.specs.Rails.{Agree, HasRails, Known, Named}
 
 -- what an expression reads has its bits; where a word enters, nothing makes the bit known
 abbrev pub IsExprKnown : Rtl → (Spot → Trit) → List ℕ → Bits → RtlExpr → Type 0

@@ -17,13 +17,13 @@ use Rattle.rtl_form.specs.declared.rtl.Transfer.{Transfer}
 use Rattle.rtl_form.specs.declared.rtl.Rtl.{Rtl}
 use Rattle.rtl_form.specs.Entries.{IsAt}
 use Rattle.rtl_form.specs.Environment.{is_stored}
-use Rattle.control_nor.specs.declared.rails.Rails.{Rails}
-use Rattle.control_nor.specs.declared.rails.Bits.{Bits}
-use Rattle.control_nor.specs.Cells.{IsNextMade, IsTransferNamed, transfers_to}
+use Rattle.bit_gates.specs.declared.rails.Rails.{Rails}
+use Rattle.control_nor.specs.declared.names.Bits.{Bits}
+use Rattle.bit_gates.specs.Cells.{IsNextMade, IsTransferNamed, transfers_to}
 use Rattle.control_nor.specs.Lowering.{ObeysBehind}
 use Rattle.control_nor.specs.Meaning.{is_active}
-use Rattle.control_nor.specs.Rails.{AllBelow, HasRails, Known, Named}
-use Rattle.control_nor.specs.Size.{IsWithinCost}
+use Rattle.bit_gates.specs.Rails.{AllBelow, HasRails, Known, Named}
+use Rattle.bit_gates.specs.Size.{IsWithinCost}
 
 -- a bit that is stored
 abbrev pub is_stored_bit : cells.Cell → Bool

@@ -12,15 +12,15 @@ use Rattle.rtl_form.specs.declared.rtl.Rtl.{Rtl}
 use Rattle.rtl_form.specs.Entries.{IsAt}
 use Rattle.rtl_form.specs.Environment.{is_driven}
 use Rattle.rtl_form.specs.Sound.{HasSort}
-use Rattle.control_nor.specs.declared.names.Task.{Task}
-use Rattle.control_nor.specs.declared.names.Task.TheVariants.{Expr, Cell}
-use Rattle.control_nor.specs.declared.rails.Rails.{Rails}
-use Rattle.control_nor.specs.declared.rails.Bits.{Bits}
-use Rattle.control_nor.specs.Adding.{AddsLogic}
+use Rattle.task_schedule.specs.declared.task.Task.{Task}
+use Rattle.task_schedule.specs.declared.task.Task.TheVariants.{Expr, Cell}
+use Rattle.bit_gates.specs.declared.rails.Rails.{Rails}
+use Rattle.control_nor.specs.declared.names.Bits.{Bits}
+use Rattle.bit_gates.specs.Adding.{AddsLogic}
 use Rattle.control_nor.specs.Lowering.{IsEntry}
-use Rattle.control_nor.specs.Rails.{AreBelow, IsNamed, Named}
-use Rattle.control_nor.specs.Schedule.{IsTask}
-use Rattle.control_nor.specs.Size.{IsWithinCost, bit_expr_cost, entry_count}
+use Rattle.bit_gates.specs.Rails.{AreBelow, IsNamed, Named}
+use Rattle.task_schedule.specs.Schedule.{IsTask}
+use Rattle.bit_gates.specs.Size.{IsWithinCost, bit_expr_cost, entry_count}
 use Rattle.control_nor.specs.Tasks.{entry_of}
 
 -- the expression or cell of a task is a bit

@@ -6,14 +6,14 @@ use Rattle.rtl_form.specs.declared.rtl.Cell as cells
 use Rattle.rtl_form.specs.declared.rtl.RtlExpr.{RtlExpr}
 use Rattle.rtl_form.specs.declared.rtl.Rtl.{Rtl}
 use Rattle.rtl_form.specs.Entries.{IsAt}
-use Rattle.control_nor.specs.declared.names.Task.{Task}
-use Rattle.control_nor.specs.declared.names.Task.TheVariants.{Expr, Cell}
-use Rattle.control_nor.specs.declared.rails.Rails.{Rails}
-use Rattle.control_nor.specs.declared.rails.Bits.{Bits}
-use Rattle.control_nor.specs.Adding.{HasRoom}
-use Rattle.control_nor.specs.Cells.{IsDrivenMade, IsTransferNamed, transfers_to}
-use Rattle.control_nor.specs.Exprs.{IsExprMade, IsExprReady}
-use Rattle.control_nor.specs.Size.{bit_expr_cost}
+use Rattle.task_schedule.specs.declared.task.Task.{Task}
+use Rattle.task_schedule.specs.declared.task.Task.TheVariants.{Expr, Cell}
+use Rattle.bit_gates.specs.declared.rails.Rails.{Rails}
+use Rattle.control_nor.specs.declared.names.Bits.{Bits}
+use Rattle.bit_gates.specs.Adding.{HasRoom}
+use Rattle.bit_gates.specs.Cells.{IsDrivenMade, IsTransferNamed, transfers_to}
+use Rattle.bit_gates.specs.Exprs.{IsExprMade, IsExprReady}
+use Rattle.bit_gates.specs.Size.{bit_expr_cost}
 
 -- what stands for the expression or the cell of a task, so far
 abbrev pub entry_of : Bits → Task → Option (Option Rails)

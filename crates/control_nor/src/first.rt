@@ -3,12 +3,11 @@
 ghost use Rattle.std.specs.Prelude.{◌≡◌, None, IfOk, length, replicate};
 ghost use Rattle.std.specs.List.{sum_by};
 ghost use Rattle.rtl_form.specs.Sound.{IsSound};
-ghost use Rattle.control_nor.specs.Adding.{HasRoom};
-ghost use Rattle.control_nor.specs.Cells.{first_cost};
+ghost use Rattle.bit_gates.specs.Adding.{HasRoom};
+ghost use Rattle.bit_gates.specs.Cells.{first_cost};
 ghost use Rattle.control_nor.specs.First.{AreFirstDone};
 
-use crate::cells::lower_first;
-use crate::rails::Rails;
+use bit_gates::{Rails, lower_first};
 use mp_base::{List, NoMemory};
 use nor_net::{Net, NetId};
 use rtl_form::Rtl;

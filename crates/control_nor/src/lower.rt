@@ -4,21 +4,21 @@ ghost use Rattle.std.specs.Prelude.{◌≡◌, ◌+◌, ◌*◌, ◌<◌, ◌≤
 ghost use Rattle.nor_net.specs.Shape.{gate_inputs, net_limit};
 ghost use Rattle.rtl_form.specs.Cost.{cost};
 ghost use Rattle.rtl_form.specs.Sound.{IsSound};
-ghost use Rattle.control_nor.specs.Adding.{HasRoom};
+ghost use Rattle.bit_gates.specs.Adding.{HasRoom};
 ghost use Rattle.control_nor.specs.Lowering.{IsLowered};
 ghost use Rattle.control_nor.specs.NextValues.{AreNextValues, AreWaiting, next_left};
-ghost use Rattle.control_nor.specs.Rails.{AllBelow, IsNamed, net_of as the_net_of};
+ghost use Rattle.bit_gates.specs.Rails.{AllBelow, IsNamed, net_of as the_net_of};
 
 use crate::first::{First, lower_all_first, no_bits};
-use crate::names::Names;
-use crate::rails::{Bits, Rails, named};
-use crate::schedule::schedule;
+use crate::names::{Bits, Names};
 use crate::storing::lower_all_next;
 use crate::tasks::lower_tasks;
+use bit_gates::{Rails, named};
 use mp_base::{List, NoMemory};
 use nor_net::{Net, NetId};
 use rtl_form::Rtl;
 use std::alloc::Global;
+use task_schedule::schedule;
 
 // The next values of all stored bits, of which there are none where nothing resets.
 fn lower_next_values(alloc: Global, rtl: &Rtl, net: &mut Net, bits: &Bits) -> Result<(), NoMemory>

@@ -1,14 +1,9 @@
 //! Which nets stand for which bits.
 
+use bit_gates::Rails;
 use mp_base::List;
 use nor_net::NetId;
-
-/// What is made in one step: the nets of the expression, or of the driven cell, with this index.
-#[derive(Clone, Copy, PartialEq, Eq, Debug)]
-pub enum Task {
-    Expr(u32),
-    Cell(u32),
-}
+use task_schedule::Task;
 
 /// The nets of cells, expressions and input pads that are bits.
 ///
@@ -22,4 +17,11 @@ pub struct Names {
     pub tasks: List<Task>,
     pub start: u32,
     pub ends: List<u32>,
+}
+
+/// The bits of cells and expressions that have nets so far, by their indices.
+#[derive(Drop)]
+pub struct Bits {
+    pub cells: List<Option<Rails>>,
+    pub exprs: List<Option<Rails>>,
 }

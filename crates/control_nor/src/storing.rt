@@ -4,14 +4,14 @@ ghost use Rattle.std.specs.Prelude.{◌≡◌, ℕ, ◌<◌, ◌≤◌, ◌+◌,
 ghost use Rattle.nor_net.specs.declared.net.Phase.TheVariants.{B};
 ghost use Rattle.nor_net.specs.declared.net.Part.TheVariants.{Latch};
 ghost use Rattle.rtl_form.specs.Sound.{IsSound};
-ghost use Rattle.control_nor.specs.Adding.{HasRoom};
-ghost use Rattle.control_nor.specs.Cells.{IsTransferNamed, transfers_to};
+ghost use Rattle.bit_gates.specs.Adding.{HasRoom};
+ghost use Rattle.bit_gates.specs.Cells.{IsTransferNamed, transfers_to};
 ghost use Rattle.control_nor.specs.NextValues.{AreStored, AreWaiting, IsNextCellMade, is_stored_bit, next_left};
-ghost use Rattle.control_nor.specs.Rails.{AllBelow, IsNamed, Named};
-ghost use Rattle.control_nor.specs.declared.rails.Rails as the_rails;
+ghost use Rattle.bit_gates.specs.Rails.{AllBelow, IsNamed, Named};
+ghost use Rattle.bit_gates.specs.declared.rails.Rails as the_rails;
 
-use crate::cells::{lower_next, select_transfers};
-use crate::rails::{Bits, named};
+use crate::names::Bits;
+use bit_gates::{lower_next, named, select_transfers};
 use mp_base::NoMemory;
 use nor_net::{Net, NetId};
 use rtl_form::{Cell, CellKind, Rtl};

@@ -2,23 +2,22 @@
 
 ghost use Rattle.std.specs.Prelude.{◌≡◌, ◌<◌, ◌+◌, false, All, IfOk, OnOk, length};
 ghost use Rattle.rtl_form.specs.Entries.{IsAt};
-ghost use Rattle.control_nor.specs.Rails.{AllBelow};
+ghost use Rattle.bit_gates.specs.Rails.{AllBelow};
 ghost use Rattle.control_nor.specs.Tasks.{IsCellMade, IsTaskDone, IsTaskReady};
 ghost use Rattle.rtl_form.specs.Sound.{IsSound};
-ghost use Rattle.control_nor.specs.Adding.{HasRoom};
+ghost use Rattle.bit_gates.specs.Adding.{HasRoom};
 ghost use Rattle.control_nor.specs.Done.{AreDone};
 ghost use Rattle.control_nor.specs.Progress.{IsBegun, cost_left};
-ghost use Rattle.control_nor.specs.Schedule.{IsSchedule};
-ghost use Rattle.control_nor.specs.Cells.{IsTransferNamed, transfers_to};
+ghost use Rattle.task_schedule.specs.Schedule.{IsSchedule};
+ghost use Rattle.bit_gates.specs.Cells.{IsTransferNamed, transfers_to};
 
-use crate::cells::{lower_driven, select_transfers};
-use crate::exprs::lower_expr;
-use crate::names::Task;
-use crate::rails::{Bits, Rails};
+use crate::names::Bits;
+use bit_gates::{Rails, lower_driven, lower_expr, select_transfers};
 use mp_base::{List, NoMemory};
 use nor_net::Net;
 use rtl_form::{Cell, Rtl};
 use std::alloc::Global;
+use task_schedule::Task;
 
 // A driven cell, or nothing for a word.
 fn lower_cell(

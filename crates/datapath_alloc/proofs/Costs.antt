@@ -25,10 +25,10 @@ use Rattle.rtl_form.specs.Environment.{is_driven, is_stored}
 use Rattle.rtl_form.specs.Operands.{gives_word}
 use Rattle.rtl_form.specs.Sound.{CellFits, IsReset, IsSound}
 use Rattle.rtl_form.proofs.Members.{one_entry}
-use Rattle.control_nor.specs.declared.names.Task.{Task}
-use Rattle.control_nor.specs.declared.names.Task.TheVariants as tasks
-use Rattle.control_nor.specs.Schedule.{IsSchedule}
-use Rattle.control_nor.specs.Size.{active_count, bit_cell_cost, bit_cost, bit_expr_cost, bit_transfer_cost, entry_count}
+use Rattle.task_schedule.specs.declared.task.Task.{Task}
+use Rattle.task_schedule.specs.declared.task.Task.TheVariants as tasks
+use Rattle.task_schedule.specs.Schedule.{IsSchedule}
+use Rattle.bit_gates.specs.Size.{active_count, bit_cell_cost, bit_cost, bit_expr_cost, bit_transfer_cost, entry_count}
 use Rattle.control_nor.proofs.Progress.{at_get}
 use Rattle.path_form.specs.Sizes.{active}
 use Rattle.datapath_alloc.specs.Spending.{clear_cost, crossed, driven_cost, driven_crossings, first_cost, for_task}

@@ -22,7 +22,7 @@ use Rattle.rtl_form.specs.Environment.{is_driven, is_stored}
 use Rattle.rtl_form.specs.Sound.{CellFits}
 use Rattle.rtl_form.proofs.Members.{one_entry}
 use Rattle.control_nor.specs.declared.names.Names.{Names}
-use Rattle.control_nor.specs.declared.names.Task.TheVariants as tasks
+use Rattle.task_schedule.specs.declared.task.Task.TheVariants as tasks
 use Rattle.control_nor.specs.Lowering.{IsEntry, IsLowered, Stands}
 use Rattle.control_nor.proofs.Progress.{at_get}
 use Rattle.path_form.specs.declared.path.Lift.{Lift}

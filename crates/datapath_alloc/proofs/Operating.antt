@@ -11,7 +11,7 @@ use Rattle.rtl_form.specs.Entries.{IsAt}
 use Rattle.rtl_form.specs.Operands.{gives_word, takes_words}
 use Rattle.rtl_form.specs.Sound.{IndexFits}
 use Rattle.control_nor.specs.declared.names.Names.{Names}
-use Rattle.control_nor.specs.declared.names.Task.TheVariants as tasks
+use Rattle.task_schedule.specs.declared.task.Task.TheVariants as tasks
 use Rattle.control_nor.specs.Lowering.{nets_before}
 use Rattle.datapath_making.specs.declared.making.Making.{Making}
 use Rattle.datapath_making.specs.Marking.{last_mark}

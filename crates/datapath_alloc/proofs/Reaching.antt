@@ -2,7 +2,7 @@
 use Rattle.std.proofs.Common.{◌≡◌, ℕ, zero, suc, ◌<◌, ◌≤◌, inl, inr, List, [], ◌∷◌, Option, Some, None, true, false}
 use Rattle.std.proofs.Common.{length, map, refl, sym, ◌∙◌, ap, subst, arith}
 use Rattle.datapath_making.proofs.Lists.{times_entry}
-use Rattle.control_nor.specs.Schedule.{IsTask}
+use Rattle.task_schedule.specs.Schedule.{IsTask}
 use Rattle.std.specs.Prelude.{All, Contains, IfSome, MatchBool, ◌==◌, not, slice_get, slice_index_or}
 use Rattle.std.proofs.lemmas.Bool.{eq-eqb, eqb-true, true≢false, cases_eq}
 use Rattle.std.proofs.lemmas.Option.{slice_get_within, get_or_from_slice_get}
@@ -25,8 +25,8 @@ use Rattle.rtl_form.specs.Operands.{takes_words}
 use Rattle.rtl_form.specs.Sound.{CellFits, HasSort, IsReset, IsSort, IsSound}
 use Rattle.rtl_form.proofs.Members.{one_entry}
 use Rattle.control_nor.specs.declared.names.Names.{Names}
-use Rattle.control_nor.specs.declared.names.Task.{Task}
-use Rattle.control_nor.specs.declared.names.Task.TheVariants as tasks
+use Rattle.task_schedule.specs.declared.task.Task.{Task}
+use Rattle.task_schedule.specs.declared.task.Task.TheVariants as tasks
 use Rattle.control_nor.specs.Lowering.{IsEntry, IsLowered, Stands, nets_before}
 use Rattle.path_form.specs.declared.path.Lift.{Lift}
 use Rattle.path_form.specs.Shape.{times}

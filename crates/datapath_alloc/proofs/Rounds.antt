@@ -19,7 +19,7 @@ use Rattle.rtl_form.specs.Entries.{IsAt}
 use Rattle.rtl_form.specs.Environment.{is_driven, is_stored}
 use Rattle.rtl_form.proofs.Members.{one_entry}
 use Rattle.control_nor.specs.declared.names.Names.{Names}
-use Rattle.control_nor.specs.declared.names.Task.{Task}
+use Rattle.task_schedule.specs.declared.task.Task.{Task}
 use Rattle.control_nor.specs.Lowering.{Stands}
 use Rattle.control_nor.proofs.Progress.{at_get}
 use Rattle.path_values.specs.Allocated.{transfers_to, StoredWord}

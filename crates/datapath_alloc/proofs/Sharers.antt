@@ -11,7 +11,7 @@ use Rattle.rtl_form.specs.declared.rtl.Rtl.{Rtl}
 use Rattle.rtl_form.specs.Entries.{IsAt}
 use Rattle.rtl_form.specs.Operands.{gives_word}
 use Rattle.control_nor.specs.declared.names.Names.{Names}
-use Rattle.control_nor.specs.declared.names.Task.TheVariants as tasks
+use Rattle.task_schedule.specs.declared.task.Task.TheVariants as tasks
 use Rattle.control_nor.specs.Lowering.{Stands}
 use Rattle.path_form.specs.declared.path.Lift.{Lift}
 use Rattle.datapath_making.proofs.Tables.{some_taken}

@@ -5,7 +5,7 @@ use Rattle.rtl_form.specs.declared.rtl.RtlExpr.{RtlExpr}
 use Rattle.rtl_form.specs.declared.rtl.Rtl.{Rtl}
 use Rattle.rtl_form.specs.Entries.{IsAt}
 use Rattle.control_nor.specs.declared.names.Names.{Names}
-use Rattle.control_nor.specs.declared.names.Task.TheVariants as tasks
+use Rattle.task_schedule.specs.declared.task.Task.TheVariants as tasks
 use Rattle.path_form.specs.declared.path.Lift.{Lift}
 use Rattle.datapath_making.specs.declared.making.Making.{Making}
 use Rattle.datapath_sharing.specs.declared.built.Built.{Built}

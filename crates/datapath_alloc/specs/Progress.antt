@@ -20,8 +20,8 @@ use Rattle.rtl_form.specs.Operands.{gives_word, takes_words}
 use Rattle.rtl_form.specs.Sound.{IsSort, IsSound}
 use Rattle.rtl_form.specs.Cost.{cost}
 use Rattle.control_nor.specs.declared.names.Names.{Names}
-use Rattle.control_nor.specs.declared.names.Task.{Task}
-use Rattle.control_nor.specs.declared.names.Task.TheVariants as tasks
+use Rattle.task_schedule.specs.declared.task.Task.{Task}
+use Rattle.task_schedule.specs.declared.task.Task.TheVariants as tasks
 use Rattle.control_nor.specs.Lowering.{IsEntry, IsLowered, Stands, nets_before}
 use Rattle.path_form.specs.declared.path.Lift.{Lift}
 use Rattle.path_values.specs.Allocated.{DrivenWord, InputWord, Placed, StoredWord}

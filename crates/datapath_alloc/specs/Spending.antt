@@ -9,9 +9,9 @@ use Rattle.rtl_form.specs.declared.rtl.RtlExpr.{RtlExpr}
 use Rattle.rtl_form.specs.declared.rtl.Rtl.{Rtl}
 use Rattle.rtl_form.specs.Cost.{expr_cost}
 use Rattle.rtl_form.specs.Environment.{is_driven, is_stored}
-use Rattle.control_nor.specs.declared.names.Task.{Task}
-use Rattle.control_nor.specs.declared.names.Task.TheVariants.{Expr, Cell}
-use Rattle.control_nor.specs.Size.{entry_count}
+use Rattle.task_schedule.specs.declared.task.Task.{Task}
+use Rattle.task_schedule.specs.declared.task.Task.TheVariants.{Expr, Cell}
+use Rattle.bit_gates.specs.Size.{entry_count}
 use Rattle.path_values.specs.Allocated.{transfers_to}
 
 -- the sum of f over the numbers below n

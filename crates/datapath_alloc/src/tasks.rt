@@ -6,13 +6,14 @@ ghost use Rattle.datapath_alloc.specs.Progress.{IsMadeTo, IsMarkedAt, KeepsMarks
 ghost use Rattle.datapath_alloc.specs.Shared.{SharesNets};
 ghost use Rattle.datapath_alloc.specs.Noting.{IsSharing};
 
-use control_nor::{Names, Task};
+use control_nor::Names;
 use datapath_making::Making;
 use datapath_sharing::{Built, add_number, add_operator};
 use datapath_steps::{add_driven, read_cell};
 use mp_base::NoMemory;
 use rtl_form::{Rtl, RtlExpr};
 use std::alloc::Global;
+use task_schedule::Task;
 
 // The task at a place.
 fn task_at(names: &Names, index: usize) -> Task

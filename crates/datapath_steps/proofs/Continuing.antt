@@ -19,7 +19,7 @@ use Rattle.organelles.specs.declared.slices.Programmed.{Programmed}
 use Rattle.rtl_form.specs.declared.rtl.Transfer.{Transfer}
 use Rattle.control_nor.specs.declared.names.Names.{Names}
 use Rattle.control_nor.specs.Lowering.{Stands}
-use Rattle.control_nor.proofs.Zipping.{zip_more}
+use Rattle.bit_gates.proofs.Zipping.{zip_more}
 use Rattle.path_form.specs.declared.path.Cast.{Cast}
 use Rattle.path_form.specs.Shape.{chain_to, is_fed, is_input, slice_ends, times}
 use Rattle.path_form.specs.Sizes.{active}

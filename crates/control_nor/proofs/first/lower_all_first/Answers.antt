@@ -4,9 +4,9 @@ use Rattle.std.proofs.lemmas.Option.{get_or_from_slice_get, slice_get-get_or}
 use Rattle.nor_net.specs.declared.net.NetId.{NetId}
 use Rattle.rtl_form.specs.declared.rtl.Cell as cells
 use Rattle.rtl_form.specs.declared.rtl.CellKind.TheVariants.{Input}
-use Rattle.control_nor.specs.declared.rails.Rails.{Rails}
-use Rattle.control_nor.specs.Adding.{HasRoom}
-use Rattle.control_nor.specs.Cells.{IsFirstMade, first_cost}
+use Rattle.bit_gates.specs.declared.rails.Rails.{Rails}
+use Rattle.bit_gates.specs.Adding.{HasRoom}
+use Rattle.bit_gates.specs.Cells.{IsFirstMade, first_cost}
 use Rattle.control_nor.specs.First.{AreFirstDone}
 use Rattle.control_nor.proofs.FirstCells.{first_more, none_first, room_first}
 use Rattle.control_nor.proofs.first.lower_all_first.Goals as goal

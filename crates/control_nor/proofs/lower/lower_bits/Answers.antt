@@ -1,7 +1,7 @@
 use Rattle.std.proofs.Common.{◌∙◌, List, Option, None, length, map, replicate, ap}
-use Rattle.control_nor.specs.declared.names.Task.TheVariants.{Cell}
-use Rattle.control_nor.specs.declared.rails.Rails.{Rails}
-use Rattle.control_nor.specs.Rails.{net_of}
+use Rattle.task_schedule.specs.declared.task.Task.TheVariants.{Cell}
+use Rattle.bit_gates.specs.declared.rails.Rails.{Rails}
+use Rattle.bit_gates.specs.Rails.{net_of}
 use Rattle.control_nor.proofs.Begins.{begun, reset_named, waiting}
 use Rattle.control_nor.proofs.Costs.{few_cells}
 use Rattle.control_nor.proofs.Lowered.{lowered}

@@ -1,7 +1,7 @@
 use Rattle.std.proofs.Common.{List, Option, subst}
 use Rattle.std.proofs.lemmas.Result.{on_ok_weaker}
-use Rattle.control_nor.specs.declared.rails.Rails.{Rails}
-use Rattle.control_nor.specs.Rails.{Named}
+use Rattle.bit_gates.specs.declared.rails.Rails.{Rails}
+use Rattle.bit_gates.specs.Rails.{Named}
 use Rattle.control_nor.proofs.Begins.{all_next}
 use Rattle.control_nor.proofs.lower.lower_next_values.Goals as goal
 

@@ -1,5 +1,5 @@
 use Rattle.std.proofs.Common.{◌≡◌, map, take}
-use Rattle.control_nor.specs.Rails.{net_of}
+use Rattle.bit_gates.specs.Rails.{net_of}
 use Rattle.control_nor.proofs.lower.nets_of.Given as goal
 
 abbrev pub invariant-loop-entry : goal.invariant-loop-entry

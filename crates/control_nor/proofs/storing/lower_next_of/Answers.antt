@@ -1,8 +1,8 @@
 use Rattle.std.proofs.Common.{List, Option, subst, sym, ap, ◌∙◌}
 use Rattle.std.specs.Prelude.{All}
 use Rattle.rtl_form.specs.declared.rtl.Transfer.{Transfer}
-use Rattle.control_nor.specs.Cells.{IsTransferNamed, transfers_to}
-use Rattle.control_nor.specs.declared.rails.Rails.{Rails}
+use Rattle.bit_gates.specs.Cells.{IsTransferNamed, transfers_to}
+use Rattle.bit_gates.specs.declared.rails.Rails.{Rails}
 use Rattle.control_nor.proofs.storing.lower_next_of.Goals as goal
 
 pub lower_next-requires-clause-named : goal.lower_next-requires-clause-named

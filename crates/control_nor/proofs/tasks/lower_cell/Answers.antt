@@ -1,7 +1,7 @@
 use Rattle.std.proofs.Common.{List, subst, sym, ap, ◌∙◌}
 use Rattle.std.specs.Prelude.{All}
 use Rattle.rtl_form.specs.declared.rtl.Transfer.{Transfer}
-use Rattle.control_nor.specs.Cells.{IsTransferNamed, transfers_to}
+use Rattle.bit_gates.specs.Cells.{IsTransferNamed, transfers_to}
 use Rattle.control_nor.proofs.tasks.lower_cell.Goals as goal
 
 pub lower_driven-requires-clause-named : goal.lower_driven-requires-clause-named

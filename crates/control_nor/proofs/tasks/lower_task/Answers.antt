@@ -2,9 +2,9 @@ use Rattle.std.proofs.Common.{List, Option, subst, sym, ap, ◌∙◌}
 use Rattle.std.specs.Prelude.{All}
 use Rattle.rtl_form.specs.declared.rtl.Cell as cells
 use Rattle.rtl_form.proofs.Members.{one_entry}
-use Rattle.control_nor.specs.declared.names.Task.TheVariants.{Cell}
-use Rattle.control_nor.specs.declared.rails.Rails.{Rails}
-use Rattle.control_nor.specs.Cells.{IsTransferNamed, transfers_to}
+use Rattle.task_schedule.specs.declared.task.Task.TheVariants.{Cell}
+use Rattle.bit_gates.specs.declared.rails.Rails.{Rails}
+use Rattle.bit_gates.specs.Cells.{IsTransferNamed, transfers_to}
 use Rattle.control_nor.specs.Tasks.{IsTaskReady}
 use Rattle.control_nor.proofs.tasks.lower_task.Goals as goal
 

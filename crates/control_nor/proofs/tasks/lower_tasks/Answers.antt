@@ -1,6 +1,6 @@
 use Rattle.std.proofs.Common.{◌++◌, ◌∷◌, ◌+◌, [], subst, sym, ap, ◌∙◌}
 use Rattle.std.proofs.lemmas.Option.{slice_get-get_or}
-use Rattle.control_nor.specs.declared.names.Task.TheVariants.{Expr}
+use Rattle.task_schedule.specs.declared.task.Task.TheVariants.{Expr}
 use Rattle.control_nor.specs.Done.{AreDone}
 use Rattle.control_nor.proofs.Laying.{laid_more, meant_more, nothing_laid, nothing_meant}
 use Rattle.control_nor.proofs.Running.{is_ready, no_progress, progress_more}

@@ -5,7 +5,7 @@ use Rattle.rtl_form.specs.declared.rtl.RtlExpr.TheVariants as exprs
 use Rattle.rtl_form.specs.declared.rtl.Cell as cells
 use Rattle.rtl_form.specs.Entries.{IsAt}
 use Rattle.rtl_form.proofs.Members.{one_entry}
-use Rattle.control_nor.specs.declared.names.Task.TheVariants.{Cell, Expr}
+use Rattle.task_schedule.specs.declared.task.Task.TheVariants.{Cell, Expr}
 use Rattle.path_values.specs.Allocated.{transfers_to}
 use Rattle.datapath_making.specs.Steps.{IsDrivenMade, IsNumberMade, IsStep, read_cell}
 use Rattle.datapath_making.specs.WellMade.{IsWellMade}

@@ -1,4 +1,4 @@
-use Rattle.control_nor.proofs.Adding.{fed_last}
+use Rattle.bit_gates.proofs.Adding.{fed_last}
 use Rattle.datapath_steps.proofs.parts.add_latch.Goals as goal
 
 pub returns : goal.returns

@@ -1,0 +1,5 @@
+pub mod Zipping
+pub mod Adding
+mod Naming
+mod Terms
+pub mod Next

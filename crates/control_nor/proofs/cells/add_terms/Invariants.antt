@@ -1,6 +1,0 @@
-use Rattle.std.proofs.Common.{take}
-use Rattle.control_nor.specs.Cells.{AreTerms}
-use Rattle.control_nor.proofs.cells.add_terms.Given as goal
-
-abbrev pub invariant-loop-transfer : goal.invariant-loop-transfer
-invariant-loop-transfer l = AreTerms l.exprs (take l.transfer-index l.transfers) l.initial.net l.net l.terms

@@ -1,7 +1,0 @@
-use Rattle.std.proofs.Common.{take}
-use Rattle.std.specs.List.{AllZip}
-use Rattle.control_nor.specs.Cells.{GuardOf}
-use Rattle.control_nor.proofs.cells.guards_of.Given as goal
-
-abbrev pub invariant-loop-transfer : goal.invariant-loop-transfer
-invariant-loop-transfer l = AllZip (GuardOf l.exprs) (take l.transfer-index l.transfers) l.guards

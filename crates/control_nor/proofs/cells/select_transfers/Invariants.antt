@@ -1,6 +1,0 @@
-use Rattle.std.proofs.Common.{◌≡◌, take}
-use Rattle.control_nor.specs.Cells.{transfers_to}
-use Rattle.control_nor.proofs.cells.select_transfers.Given as goal
-
-abbrev pub invariant-loop-transfer : goal.invariant-loop-transfer
-invariant-loop-transfer l = l.selected ≡ transfers_to (take l.transfer-index l.transfers) l.target

@@ -1,7 +1,0 @@
-use Rattle.std.proofs.Common.{take}
-use Rattle.std.specs.List.{AllZip}
-use Rattle.control_nor.specs.Rails.{NegationOf}
-use Rattle.control_nor.proofs.rails.negations_of.Given as goal
-
-abbrev pub invariant-loop-index : goal.invariant-loop-index
-invariant-loop-index l = AllZip (NegationOf l.entries) (take l.index-index l.indices) l.ids

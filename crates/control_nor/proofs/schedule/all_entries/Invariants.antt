@@ -1,6 +1,0 @@
-use Rattle.std.proofs.Common.{length}
-use Rattle.control_nor.specs.Turns.{AreEntries}
-use Rattle.control_nor.proofs.schedule.all_entries.Given as goal
-
-abbrev pub invariant-loop-place : goal.invariant-loop-place
-invariant-loop-place l = AreEntries l.rtl l.turns (length l.rtl.exprs) l.place l.entries

@@ -1,9 +1,0 @@
-use Rattle.std.proofs.Common.{rules}
-use Rattle.std.proofs.lemmas.List.Sorted.{IsNonDecreasingBy-from_sort_by_key}
-use Rattle.control_nor.specs.declared.schedule.Entry.{Entry}
-use Rattle.control_nor.proofs.schedule.sorted_entries.Goals as goal
-
-pub returns-clause-rising : goal.returns-clause-rising
-returns-clause-rising c =
-    IsNonDecreasingBy-from_sort_by_key (λ (e : Entry). e.moment) _ c.sort_unstable_by_key.ensures.sorted
-    (λ a r q k. search rules)
