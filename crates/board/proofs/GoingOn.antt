@@ -1,6 +1,5 @@
 -- Loops that go on where they were cut short.
-use Rattle.std.proofs.Common.{◌≡◌, ◌∙◌, ℕ, zero, suc, ◌+◌, ◌-◌, List, [], ◌∷◌, ◌++◌, Option, Ok, Err, length, refl, sym}
-use Rattle.std.proofs.Common.{ap, subst, arith}
+use Rattle.std.proofs.Common.{◌≡◌, ℕ, suc, ◌-◌, List, ◌∷◌, ◌++◌, Option, Ok, Err, length, refl, sym, subst, arith}
 use Rattle.std.proofs.lemmas.List.{length-append}
 use Rattle.mp_base.specs.declared.value.Trit.{Trit}
 use Rattle.mp_base.specs.declared.outside.Failed.{Failed}
@@ -8,78 +7,14 @@ use Rattle.mp_base.specs.Outside.{WhereTold, Gains}
 use Rattle.mp_base.specs.Piece.{TakesAll}
 use Rattle.mp_base.proofs.Written.{written, cut_behind}
 use Rattle.stimulus.specs.Transcript.{line_text, lines_text}
-use Rattle.transcript.specs.Transcript.{RunsAlong}
-use Rattle.transcript.specs.Laws.{CanStep, StepsOn}
 use Rattle.transcript.proofs.Transcripts.{lines_more}
-use Rattle.board.specs.Face.{Face}
-use Rattle.board.specs.Loop.{Wired, inputs_at, faces_after, inputs_along, faces_along, IsLoop}
-use Rattle.board.specs.Laws.{GoesOn}
+use Rattle.board.specs.Loop.{inputs_at, faces_after, IsLoop}
+use Rattle.board.specs.Laws.{GoesOn, InputsFit}
+use Rattle.board.proofs.JoinedLoops.{loop_then, more}
 use Rattle.board.proofs.Ready.{inputs_fit}
 
-module _ (w : Wired) where
-  inputs_then : (k n : ℕ) (faces : List Face) (os us : List (List (List Trit))) → n ≡ k + length os
-      → inputs_along w k faces (os ++ us) ≡ inputs_along w k faces os ++ inputs_along w n (faces_along w k faces os) us
-  inputs_then k n faces [] us is = ap (λ m. inputs_along w m faces us) (let e : k ≡ n = omega (arith, is) in e)
-  inputs_then k n faces (o ∷ os) us is =
-      ap (λ is. inputs_at w k faces ∷ is) (inputs_then (suc k) n (faces_after w k o faces) os us (omega (arith, is)))
-
-  faces_then : (k n : ℕ) (faces : List Face) (os us : List (List (List Trit))) → n ≡ k + length os
-      → faces_along w k faces (os ++ us) ≡ faces_along w n (faces_along w k faces os) us
-  faces_then k n faces [] us is = ap (λ m. faces_along w m faces us) (let e : k ≡ n = omega (arith, is) in e)
-  faces_then k n faces (o ∷ os) us is = faces_then (suc k) n (faces_after w k o faces) os us (omega (arith, is))
-
-module _ {S : Type 0} (Steps : S → List ℕ → List (List Trit) → S → Type 0) (w : Wired) where
-  runs_then : (before mid after : S) (is js : List (List ℕ)) (os us : List (List (List Trit)))
-      → RunsAlong Steps before is os mid → RunsAlong Steps mid js us after
-      → RunsAlong Steps before (is ++ js) (os ++ us) after
-  runs_then before mid after [] js [] us h k = let P : S → Type 0 = λ s. RunsAlong Steps s js us after in subst P h k
-  runs_then before mid after [] js (o ∷ os) us h k = absurd h
-  runs_then before mid after (i ∷ is) js [] us h k = absurd h
-  runs_then before mid after (i ∷ is) js (o ∷ os) us h k = (h.0, h.1, runs_then h.0 mid after is js os us h.2 k)
-
-  -- a loop, and another from its end
-  loop_then : (k n : ℕ) (before mid after : S) (faces mids later : List Face) (os us : List (List (List Trit)))
-      → n ≡ k + length os → IsLoop Steps w k before faces os mid mids → IsLoop Steps w n mid mids us after later
-      → IsLoop Steps w k before faces (os ++ us) after later
-  loop_then k n before mid after faces mids later os us is a b =
-      let P : List Face → Type 0 = λ fs. RunsAlong Steps mid (inputs_along w n fs us) us after in
-      let R : List (List ℕ) → Type 0 = λ js. RunsAlong Steps before js (os ++ us) after in
-      record {
-        runs = subst R (sym (inputs_then w k n faces os us is))
-            (runs_then before mid after _ _ os us a.runs (subst P a.parts b.runs));
-        parts = b.parts ∙ ap (λ fs. faces_along w n fs us) a.parts ∙ sym (faces_then w k n faces os us is);
-      }
-
-  -- some clocks of a loop
-  pub record Loop (clock : ℕ) (before : S) (faces : List Face) (clocks : ℕ) : Type 0 where
-    pub shown : List (List (List Trit))
-    pub after : S
-    pub later : List Face
-    pub loop : IsLoop Steps w clock before faces shown after later
-    pub many : length shown ≡ clocks
-
-  module _ (on : StepsOn Steps (w.pads).inputs) where
-    more : (clocks clock : ℕ) (before : S) (faces : List Face) → CanStep Steps (w.pads).inputs before
-        → Loop clock before faces clocks
-    more zero clock before faces can = record {
-      shown = [];
-      after = before;
-      later = faces;
-      loop = record { runs = refl; parts = refl };
-      many = refl;
-    }
-    more (suc clocks) clock before faces can =
-        let given = inputs_at w clock faces in
-        let step = can given (inputs_fit w.links faces clock 0 (w.pads).inputs) in
-        let rest = more clocks (suc clock) step.1 (faces_after w clock step.0 faces)
-        (on before step.1 given step.0 step.2) in
-        record {
-          shown = step.0 ∷ rest.shown;
-          after = rest.after;
-          later = rest.later;
-          loop = record { runs = (step.1, step.2, (rest.loop).runs); parts = (rest.loop).parts };
-          many = let e = rest.many in omega (arith, e);
-        }
+fits : InputsFit
+fits w clock faces = inputs_fit w.links faces clock 0 (w.pads).inputs
 
 pub goes_on : {S : Type 0} (Steps : S → List ℕ → List (List Trit) → S → Type 0) → GoesOn Steps
 goes_on {S} Steps w clock done clocks before after faces later x y (Ok u) on p =
@@ -103,7 +38,7 @@ goes_on {S} Steps w clock done clocks before after faces later x y (Err f) on p 
     let c = p.cut in
     let o = (c.1).shown in
     let here = on p.end after (inputs_at w done later) o (c.1).steps in
-    let rest = more Steps w on (clocks - length os - 1) (suc done) after (faces_after w done o later) here in
+    let rest = more Steps w fits on (clocks - length os - 1) (suc done) after (faces_after w done o later) here in
     let us = o ∷ rest.shown in
     let next : IsLoop Steps w done p.end later us rest.after rest.later =
     record { runs = (after, (c.1).steps, (rest.loop).runs); parts = (rest.loop).parts } in

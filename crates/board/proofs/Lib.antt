@@ -4,5 +4,6 @@ mod Given
 mod Ready
 mod Loops
 mod Words
+pub mod JoinedLoops
 mod GoingOn
 mod Verdict

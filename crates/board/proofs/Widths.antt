@@ -27,6 +27,7 @@ use Rattle.std.proofs.Common.{
 }
 use Rattle.std.specs.Prelude.{slice_index_or}
 use Rattle.std.specs.Int.{bit_at}
+use Rattle.std.proofs.Math.Nat.{add_comm}
 use Rattle.std.proofs.lemmas.List.{length-append}
 use Rattle.std.proofs.lemmas.Nat.{and_mask, mod-pow-add}
 use Rattle.std.proofs.lemmas.Nat.Bits.{bit_at-lt, bit_at_and, ones_shr}
@@ -72,11 +73,8 @@ module _ (word : TritWord) where
       ∙ ap (λ x. both % 2 ^ n + x * 2 ^ n)
       (weight_both (bit_at word.known n) (bit_at word.bits n) (bit_at-lt word.known n) (bit_at-lt word.bits n)
       ∙ sym (bit_at_and word.known word.bits n))
-      ∙ swap (both % 2 ^ n) (bit_at both n * 2 ^ n)
+      ∙ add_comm (both % 2 ^ n) (bit_at both n * 2 ^ n)
       ∙ sym (mod-pow-add both 1 n) ∙ ap (λ m. both % 2 ^ m) (let e : 1 + n ≡ suc n = omega arith in e)
-    where
-      swap : (a b : ℕ) → a + b ≡ b + a
-      swap a b = omega arith
 
   pub shown_number : (p : Pad) (all : ℕ) → all ≡ 2 ^ bit_count p.width - 1
       → bit_and (bit_and word.known word.bits) all ≡ number_of (pad_trits p word)

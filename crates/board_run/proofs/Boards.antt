@@ -1,5 +1,5 @@
 -- The run of a circuit on a board, from its clocks and its last line.
-use Rattle.std.proofs.Common.{◌≡◌, ◌∙◌, ℕ, suc, ◌+◌, ◌-◌, ◌<◌, ◌≤◌, List, [], ◌∷◌, ◌++◌, append_assoc, Bool, Option}
+use Rattle.std.proofs.Common.{◌≡◌, ◌∙◌, ℕ, suc, ◌+◌, ◌-◌, ◌<◌, ◌≤◌, List, ◌∷◌, ◌++◌, append_assoc, Bool, Option}
 use Rattle.std.proofs.Common.{Result, Ok, Err, length, take, refl, sym, ap, subst, arith}
 use Rattle.std.specs.Prelude.{OnOk, OnErr}
 use Rattle.std.proofs.lemmas.List.{length-append, take_all, take-append-le}
@@ -25,14 +25,14 @@ use Rattle.transcript.proofs.Transcripts.{runs_keep, lines_more}
 use Rattle.sim_run.specs.Transcript.{NetworkSteps}
 use Rattle.sim_run.proofs.Transcripts.{can_step, steps_on}
 use Rattle.board.specs.Face.{Face}
-use Rattle.board.specs.Loop.{Wired, IsLoop, faces_after, faces_along, inputs_at, inputs_along}
+use Rattle.board.specs.Loop.{Wired, IsLoop, faces_after, faces_along, inputs_at}
 use Rattle.board.specs.Printing.{PrintsLoop}
 use Rattle.board.specs.Laws.{InputsFit}
+use Rattle.board.proofs.JoinedLoops.{loop_then, more}
 use Rattle.board_laws.specs.Laws.{CircuitsLoop}
-use Rattle.board_run.specs.Boarded.{IsBoarded, PrintsBoard, whole_lines}
+use Rattle.board_run.specs.Boarded.{PrintsBoard, whole_lines}
 use Rattle.board_run.specs.Laws.{BoardsRun}
 use Rattle.board_run.specs.Standing.{Standing}
-use Rattle.board_run.proofs.Loops.{loop_then, more}
 use Rattle.board_run.proofs.Feeds.{lines_of_two, lines_counted, no_line}
 
 pub boards_run : InputsFit → TraceExists → BoardsRun

@@ -1,7 +1,7 @@
 -- The line feeds of transcripts: one ends each line, and no other stands in it.
-use Rattle.std.proofs.Common.{◌≡◌, ◌∙◌, ℕ, zero, suc, ◌+◌, ◌-◌, ◌<◌, ◌≤◌, List, [], ◌∷◌, ◌++◌, append_assoc, Bool, true}
-use Rattle.std.proofs.Common.{false, cond, eqb, length, map, take, drop, get_or, refl, sym, ap, subst, codes, arith}
-use Rattle.std.specs.Prelude.{◌||◌, ◌==◌, IsTrue, decimal, nat_le, nat_lt, ◌/◌, ◌%◌, slice_index_or}
+use Rattle.std.proofs.Common.{◌≡◌, ◌∙◌, ℕ, zero, suc, ◌+◌, ◌-◌, ◌<◌, List, [], ◌∷◌, ◌++◌, append_assoc, Bool, true}
+use Rattle.std.proofs.Common.{false, cond, length, map, take, get_or, refl, sym, ap, codes, arith}
+use Rattle.std.specs.Prelude.{◌==◌, IsTrue, decimal, nat_lt, ◌/◌, ◌%◌}
 use Rattle.std.specs.List.{list_all, list_any}
 use Rattle.std.specs.Fmt.{digits, digits_onto, digit_glyph}
 use Rattle.std.proofs.lemmas.List.{length-append, take-append-le}

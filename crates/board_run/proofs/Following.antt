@@ -1,5 +1,5 @@
 -- What a chip shows on a board follows its program.
-use Rattle.std.proofs.Common.{◌≡◌, ◌∙◌, ℕ, zero, suc, ◌+◌, List, [], ◌∷◌, length, take, refl, sym, arith}
+use Rattle.std.proofs.Common.{◌≡◌, ◌∙◌, ℕ, zero, suc, List, [], ◌∷◌, length, take, refl, arith}
 use Rattle.mp_base.specs.declared.value.Trit.{Trit}
 use Rattle.board.specs.Loop.{Wired}
 use Rattle.board.specs.Laws.{AgreeWhereSettled, LoopsAgree}

@@ -22,6 +22,7 @@ use Rattle.switch_net.specs.Breaks.BreaksAt.{one, two}
 use Rattle.switch_net.specs.Breaks.IsFirstOfMask.{n1, n2}
 use Rattle.switch_net.specs.Labels.{Names}
 use Rattle.switch_net.specs.OneNode.{AreAmong}
+use Rattle.switch_net.proofs.Naming.{one_square}
 use Rattle.std.proofs.lemmas.List.{get_or_default}
 use Rattle.mp_base.proofs.Zips.{zip_from_places}
 use Rattle.mp_base.proofs.Entries.{contains_from_get}
@@ -31,7 +32,7 @@ use Rattle.extractor.specs.Naming.{AreNamed, over_at, point_of}
 use Rattle.extractor.specs.Tagging.{AreTagged, IsTwice, IsUnnamed, RefusesFirst}
 use Rattle.extractor.specs.Extracted.{IsLabelled, RefusesMask}
 use Rattle.extractor.proofs.Naming.{no_label}
-use Rattle.extractor.proofs.Nodes.{apart_nodes, joined_there, one_square}
+use Rattle.extractor.proofs.Nodes.{apart_nodes, joined_there}
 use Rattle.extractor.proofs.Overs.{IsNodeNamed, IsOnNode, entry, node_named}
 
 no_tag : Tag

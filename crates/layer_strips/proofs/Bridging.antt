@@ -14,10 +14,10 @@ use Rattle.mask_runs.specs.Colours.{HasColour}
 use Rattle.region_sweep.specs.declared.tile.Tile.{Tile}
 use Rattle.region_sweep.specs.Tiles.{IsLongest, IsSpan, IsTile, Before, AreTiles}
 use Rattle.region_sweep.proofs.Longest.{longest_once}
+use Rattle.region_sweep.proofs.SeenLayers.{covered_only, only_covered}
 use Rattle.layer_strips.specs.Strips.{IsRun, IsStrip}
 use Rattle.layer_strips.specs.Layers.{rect_of, AreStripsOf}
 use Rattle.layer_strips.specs.Sweep.{IsSolid, AreApart, strip, no_strip}
-use Rattle.layer_strips.proofs.Covering.{has_colour, is_covered}
 
 -- ---- longest stretches
 
@@ -62,20 +62,26 @@ are_apart shapes strips each once i j l x y m n h k =
 -- ---- tiles
 
 module _ (shapes : List Rect) (l : Layer) where
+  is_covered : (k : ℕ) (x y : ℤ) → 0 < k → HasColour shapes (Only l) k x y → covered shapes l x y × (k ≡ 1)
+  is_covered k x y some c = elim (covered_only shapes l k x y c) [
+    | inl on ↦ on
+    | inr off ↦ absurd (let none = off.1 in omega (arith, some, none))
+  ]
+
   one_colour : (t : Tile) → IsTile shapes (Only l) t → t.colour ≡ 1
   one_colour t h =
       let s = h.stack.some in
       let row = h.stack.each t.y0 (omega (arith, ints)) s in
       let w = row.some in
-      (is_covered shapes l t.colour t.x0 t.y0 h.some (row.each t.x0 (omega (arith, ints)) w)).1
+      (is_covered t.colour t.x0 t.y0 h.some (row.each t.x0 (omega (arith, ints)) w)).1
 
   run_of_span : (x0 x1 y : ℤ) → IsSpan shapes (Only l) 1 x0 x1 y → IsRun shapes l x0 x1 y
   run_of_span x0 x1 y h = longest_map (λ x. HasColour shapes (Only l) 1 x y) (λ x. covered shapes l x y) x0 x1
-      (λ x c. (is_covered shapes l 1 x y (omega arith) c).0) (λ x c. has_colour shapes l x y c) h
+      (λ x c. (is_covered 1 x y (omega arith) c).0) (λ x c. only_covered shapes l x y c) h
 
   span_of_run : (x0 x1 y : ℤ) → IsRun shapes l x0 x1 y → IsSpan shapes (Only l) 1 x0 x1 y
   span_of_run x0 x1 y h = longest_map (λ x. covered shapes l x y) (λ x. HasColour shapes (Only l) 1 x y) x0 x1
-      (λ x c. has_colour shapes l x y c) (λ x c. (is_covered shapes l 1 x y (omega arith) c).0) h
+      (λ x c. only_covered shapes l x y c) (λ x c. (is_covered 1 x y (omega arith) c).0) h
 
   strip_of_tile : (t : Tile) → IsTile shapes (Only l) t → IsStrip shapes (rect_of l t)
   strip_of_tile t h = longest_map (IsSpan shapes (Only l) 1 t.x0 t.x1) (IsRun shapes l t.x0 t.x1) t.y0 t.y1

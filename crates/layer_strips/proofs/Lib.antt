@@ -1,6 +1,5 @@
 mod Bridging
 mod Collected
-mod Covering
 mod Listing
 mod Nexts
 mod Meeting

@@ -3,7 +3,7 @@ use Rattle.std.proofs.Common.{◌≡◌, ◌∙◌, ℕ, zero, suc, ◌+◌, ◌
 use Rattle.std.proofs.Common.{get_or, refl, sym, ap, arith, bit_and}
 use Rattle.std.specs.Int.{bit_at}
 use Rattle.std.specs.List.{AllZip}
-use Rattle.std.proofs.Math.Nat.{mod-eq_of_lt}
+use Rattle.std.proofs.Math.Nat.{add_comm, mod-eq_of_lt}
 use Rattle.std.proofs.lemmas.List.{length-append}
 use Rattle.std.proofs.lemmas.Nat.{and_comm, and_le_r, mod-pow-add}
 use Rattle.std.proofs.lemmas.Nat.Bits.{bit_at-lt, bit_at_and}
@@ -31,11 +31,8 @@ number_low word (suc n) =
     ∙ ap (λ x. both % 2 ^ n + x * 2 ^ n)
     (weight_both (bit_at word.known n) (bit_at word.bits n) (bit_at-lt word.known n) (bit_at-lt word.bits n)
     ∙ sym (bit_at_and word.known word.bits n))
-    ∙ swap (both % 2 ^ n) (bit_at both n * 2 ^ n)
+    ∙ add_comm (both % 2 ^ n) (bit_at both n * 2 ^ n)
     ∙ sym (mod-pow-add both 1 n) ∙ ap (λ m. both % 2 ^ m) (let e : 1 + n ≡ suc n = omega arith in e)
-  where
-    swap : (a b : ℕ) → a + b ≡ b + a
-    swap a b = omega arith
 
 -- the known bits of a word lie within a pad
 abbrev pub IsNarrow : Pad → TritWord → Type 0

@@ -1,15 +1,15 @@
 -- Pieces of three masks in one list.
-use Rattle.std.proofs.Common.{◌≡◌, ◌≢◌, ℕ, ◌+◌, ◌<◌, ◌≤◌, ◌⊎◌, inl, inr, List, length, get_or, refl, sym, ◌∙◌, ap}
+use Rattle.std.proofs.Common.{◌≡◌, ◌≢◌, ℕ, ◌⊎◌, inl, inr, List, length, get_or, refl, sym, ◌∙◌, ap}
 use Rattle.std.proofs.Common.{subst, arith}
-use Rattle.std.specs.Prelude.{◌↔◌, Result, Ok, Err, IfOk, AllPairs, Contains, Option, Some, slice_get}
-use Rattle.std.proofs.lemmas.Option.{same_Some, slice_get_within, slice_get-get_or, get_or_from_slice_get}
+use Rattle.std.specs.Prelude.{◌↔◌, Result, Ok, Err, IfOk, AllPairs, Contains, Some, slice_get}
+use Rattle.std.proofs.lemmas.Option.{same_Some, slice_get_within, slice_get-get_or}
 use Rattle.mp_base.proofs.Entries.{get_from_contains, contains_from_get}
 use Rattle.lam_geom.specs.declared.layer.Layer.{Layer}
 use Rattle.lam_geom.specs.declared.layer.Layer.TheVariants.{ND, NP, NM}
 use Rattle.region_sweep.specs.declared.tile.Tile.{Tile}
 use Rattle.region_sweep.specs.Tiles as tiles
 use Rattle.mask_nodes.specs.declared.piece.Piece.{Piece}
-use Rattle.mask_nodes.specs.Pieces.{no_piece, piece_of, IsBefore, AreApart, AreTilePieces, AreTileNumbers, AreOfTiles}
+use Rattle.mask_nodes.specs.Pieces.{piece_of, IsBefore, AreApart, AreTilePieces, AreTileNumbers, AreOfTiles}
 use Rattle.mask_nodes.specs.Pieces.{AreCutUp, AreNumbersOf}
 use Rattle.mask_nodes.proofs.CutUp.{pairs_at}
 

@@ -1,15 +1,12 @@
 -- The channels of classes of pieces.
-use Rattle.std.proofs.Common.{◌≡◌, ◌≢◌, ℕ, zero, suc, ◌+◌, ◌<◌, ◌≤◌, ◌⊎◌, inl, inr, List, [], ◌∷◌, ◌++◌, length, map}
+use Rattle.std.proofs.Common.{◌≡◌, ◌≢◌, ℕ, inl, inr, List, length}
 use Rattle.std.proofs.Common.{get_or, refl, sym, ◌∙◌, ap, subst, subst₂, arith, Bool, true, false}
-use Rattle.std.specs.Prelude.{◌↔◌, ℤ, ◌≤ℤ◌, ◌<ℤ◌, All, AllPairs, Contains, Option, Some, None, slice_get}
-use Rattle.std.specs.Prelude.{slice_index_or}
-use Rattle.std.specs.List.{AllZip}
+use Rattle.std.specs.Prelude.{ℤ, Some, slice_get}
 use Rattle.std.proofs.lemmas.Bool.{cases_eq, cases_lt}
-use Rattle.std.proofs.lemmas.List.{length-map, length-append}
-use Rattle.std.proofs.lemmas.Option.{same_Some, slice_get_within, slice_get-get_or, get_or_from_slice_get}
+use Rattle.std.proofs.lemmas.Option.{same_Some, slice_get_within, get_or_from_slice_get}
 use Rattle.mp_base.proofs.Entries.{get_from_contains, contains_from_get, all_at}
 use Rattle.lam_geom.specs.declared.layer.Layer.{Layer}
-use Rattle.lam_geom.specs.declared.layer.Layer.TheVariants.{ND, NP, NM, NI}
+use Rattle.lam_geom.specs.declared.layer.Layer.TheVariants.{ND, NP}
 use Rattle.lam_geom.specs.declared.place.Point.{Point}
 use Rattle.lam_geom.specs.declared.rect.Rect.{Rect}
 use Rattle.lam_geom.specs.Chains.{Chain}
@@ -18,17 +15,17 @@ use Rattle.mask_runs.specs.Laws.{OneColour}
 use Rattle.region_sweep.specs.declared.tile.Tile.{Tile}
 use Rattle.region_sweep.specs.declared.swept.Swept.{Swept}
 use Rattle.region_sweep.specs.Tiles.{InTile}
-use Rattle.region_sweep.specs.Touching.{TouchAt, AreTouching}
+use Rattle.region_sweep.specs.Touching.{TouchAt}
 use Rattle.switch_net.specs.Classes.{IsInClass}
-use Rattle.switch_net.specs.Conductors.{Conducts, ConductsOn, Joined, IsChannelSquare}
+use Rattle.switch_net.specs.Conductors.{IsChannelSquare}
 use Rattle.switch_net.specs.Drawn.{IsOfNode, IsOfChannel, IsEnd}
 use Rattle.union_find.specs.declared.pair.Pair.{Pair}
 use Rattle.mask_nodes.specs.declared.piece.Part.{Part}
-use Rattle.mask_nodes.specs.declared.piece.Part.TheVariants.{Conductor, Plain, Implanted}
+use Rattle.mask_nodes.specs.declared.piece.Part.TheVariants.{Conductor}
 use Rattle.mask_nodes.specs.declared.piece.Piece.{Piece}
 use Rattle.mask_nodes.specs.declared.cut.Cut.{Cut}
 use Rattle.mask_nodes.specs.declared.numbering.Classes.{Classes}
-use Rattle.mask_nodes.specs.Pieces.{no_piece, is_conductor, part_of, piece_of, corner_on, on, AreNumbersOf, AreCutUp}
+use Rattle.mask_nodes.specs.Pieces.{no_piece, is_conductor, piece_of, corner_on, on}
 use Rattle.mask_nodes.specs.Pieces.{HasConductor, HasChannel}
 use Rattle.mask_nodes.specs.Linking.{conducts_at}
 use Rattle.mask_nodes.specs.Masks.{AreMasks}
@@ -36,12 +33,8 @@ use Rattle.mask_nodes.specs.CutOf.{IsCutOf}
 use Rattle.mask_nodes.specs.Classed.{AreClassed, node_squares, channel_squares}
 use Rattle.mask_nodes.specs.Ends.{pair_of, IsGivenBy, IsEndAt, IsEndOf}
 use Rattle.mask_nodes.proofs.CutUp.{one_place, channel_layer}
-use Rattle.mask_nodes.proofs.Linked.{conductor_part}
+use Rattle.mask_nodes.proofs.Linked.{conductor_part, turned_edge}
 use Rattle.mask_nodes.proofs.LinksMade.{not_conductor}
-
-turned : (s t : Square) → ShareEdge s t → ShareEdge t s
-turned s t (inl a) = inl (sym a.0, elim a.1 [ inl e ↦ inr e | inr e ↦ inl e ])
-turned s t (inr a) = inr (sym a.0, elim a.1 [ inl e ↦ inr e | inr e ↦ inl e ])
 
 -- a square of a piece is one of its tile
 in_tile : (p : Piece) (n : ℕ) (t : Tile) (l : Layer) (s : Square) → p ≡ piece_of ND n t → IsIn (on l p.rect) s
@@ -176,7 +169,7 @@ module _ (one : OneColour) (shapes : List Rect) (places : List Point) (contacts 
           | inr e ↦
               from_sides k g.pair.b g.pair.a w.second w.first w.at_second w.at_first (square NP u.u u.v)
               (square ND u.x u.y) refl refl u.in_second u.in_first
-              (turned (square NP u.x u.y) (square ND u.u u.v) u.beside) e
+              (turned_edge (square NP u.x u.y) (square ND u.u u.v) u.beside) e
         ]
 
     pub end_to : (k : ℕ) (t : Square) → IsEnd covers r t → IsOfNode covers node_list k t
@@ -247,7 +240,7 @@ module _ (one : OneColour) (shapes : List Rect) (places : List Point) (contacts 
                     v = s.y;
                     in_first = in_b;
                     in_second = in_a;
-                    beside = turned s t e.beside;
+                    beside = turned_edge s t e.beside;
                   };
                 })) in
                 record {

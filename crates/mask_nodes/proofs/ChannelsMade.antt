@@ -1,7 +1,7 @@
 -- Channels that are listed are those of the mask.
-use Rattle.std.proofs.Common.{◌≡◌, ◌≢◌, ℕ, zero, suc, ◌+◌, ◌<◌, ◌≤◌, ◌⊎◌, inl, inr, List, [], ◌∷◌, ◌++◌, length, map}
+use Rattle.std.proofs.Common.{◌≡◌, ◌≢◌, ℕ, suc, ◌+◌, ◌<◌, ◌⊎◌, inl, inr, List, [], ◌∷◌, ◌++◌, length, map}
 use Rattle.std.proofs.Common.{get_or, refl, sym, ◌∙◌, ap, subst, subst₂, arith, Bool, true, false}
-use Rattle.std.specs.Prelude.{◌↔◌, ℤ, All, AllPairs, Contains, Option, Some, None, slice_get, slice_index_or}
+use Rattle.std.specs.Prelude.{◌↔◌, ℤ, All, Contains, Option, Some, None, slice_get}
 use Rattle.std.specs.Option.{option_map}
 use Rattle.std.specs.List.{AllZip}
 use Rattle.std.proofs.lemmas.List.{length-map, length-append}
@@ -11,25 +11,23 @@ use Rattle.mp_base.proofs.Zips.{zip_from_places}
 use Rattle.std.proofs.lemmas.Slice.Zip.{AllZip-long}
 use Rattle.mp_base.proofs.Entries.{push_cases}
 use Rattle.lam_geom.specs.declared.layer.Layer.{Layer}
-use Rattle.lam_geom.specs.declared.layer.Layer.TheVariants.{ND, NP, NM, NI}
+use Rattle.lam_geom.specs.declared.layer.Layer.TheVariants.{NP, NI}
 use Rattle.lam_geom.specs.declared.place.Point.{Point}
 use Rattle.lam_geom.specs.declared.rect.Rect.{Rect}
 use Rattle.lam_geom.specs.Squares.{Square, covered}
 use Rattle.mask_runs.specs.Laws.{OneColour}
 use Rattle.region_sweep.specs.declared.tile.Tile.{Tile}
 use Rattle.region_sweep.specs.declared.swept.Swept.{Swept}
-use Rattle.switch_net.specs.declared.network.ChannelKind.{ChannelKind}
-use Rattle.switch_net.specs.declared.network.ChannelKind.TheVariants.{Enhancement, Depletion, Partial}
 use Rattle.switch_net.specs.declared.network.Channel.{Channel}
 use Rattle.switch_net.specs.Conductors.{ConductsOn, IsChannelSquare}
-use Rattle.switch_net.specs.Drawn.{IsOfNode, IsOfChannel, IsEnd, IsKind, IsChannelAt}
+use Rattle.switch_net.specs.Drawn.{IsOfNode, IsOfChannel, IsKind, IsChannelAt}
 use Rattle.union_find.specs.declared.pair.Pair.{Pair}
 use Rattle.mask_nodes.specs.declared.piece.Part.{Part}
 use Rattle.mask_nodes.specs.declared.piece.Part.TheVariants.{Conductor, Plain, Implanted}
 use Rattle.mask_nodes.specs.declared.piece.Piece.{Piece}
 use Rattle.mask_nodes.specs.declared.cut.Cut.{Cut}
 use Rattle.mask_nodes.specs.declared.numbering.Classes.{Classes}
-use Rattle.mask_nodes.specs.Pieces.{no_piece, is_conductor, piece_of, corner_on, HasConductor, HasChannel}
+use Rattle.mask_nodes.specs.Pieces.{no_piece, is_conductor, corner_on, HasConductor, HasChannel}
 use Rattle.mask_nodes.specs.Pieces.{first_channel}
 use Rattle.mask_nodes.specs.Linking.{conducts_at}
 use Rattle.mask_nodes.specs.Columns.{corner_point, square_at, IsPieceOver, AreOver}

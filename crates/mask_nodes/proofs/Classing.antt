@@ -1,5 +1,5 @@
 -- What the numbering of classes asks for.
-use Rattle.std.proofs.Common.{◌≡◌, ℕ, ◌+◌, ◌<◌, ◌≤◌, List, length, map, get_or, sym, ◌∙◌, ap, subst, subst₂, arith}
+use Rattle.std.proofs.Common.{◌≡◌, ℕ, ◌<◌, ◌≤◌, List, length, map, get_or, sym, ◌∙◌, ap, subst, subst₂, arith}
 use Rattle.std.proofs.Common.{true, false}
 use Rattle.std.specs.Prelude.{◌++◌, All, Option}
 use Rattle.std.proofs.lemmas.List.{length-map, length-append}
@@ -19,7 +19,7 @@ use Rattle.mask_nodes.specs.declared.piece.Piece.{Piece}
 use Rattle.mask_nodes.specs.declared.cut.Cut.{Cut}
 use Rattle.mask_nodes.specs.declared.numbering.Classes.{Classes}
 use Rattle.mask_nodes.specs.Numbers.{Conducts, AreRoots, AreNumbers}
-use Rattle.mask_nodes.specs.Linking.{over, AreAllLinks}
+use Rattle.mask_nodes.specs.Linking.{AreAllLinks}
 use Rattle.mask_nodes.specs.Columns.{corner_point}
 use Rattle.mask_nodes.specs.Masks.{asked, AreMasks}
 use Rattle.mask_nodes.specs.CutOf.{IsCutOf}

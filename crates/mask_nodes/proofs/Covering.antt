@@ -1,10 +1,10 @@
 -- The pieces over places, from the tiles that were found there.
-use Rattle.std.proofs.Common.{◌≡◌, ◌≢◌, ℕ, zero, suc, ◌+◌, ◌<◌, ◌≤◌, ◌⊎◌, inl, inr, List, [], ◌∷◌, ◌++◌, length, map}
-use Rattle.std.proofs.Common.{get_or, refl, sym, ◌∙◌, ap, subst, subst₂, arith, Bool, true, false, cond}
-use Rattle.std.specs.Prelude.{◌↔◌, ℤ, All, AllPairs, Contains, Option, Some, None, MatchOption, slice_get}
+use Rattle.std.proofs.Common.{◌≡◌, ℕ, zero, suc, ◌<◌, inl, inr, List, [], ◌∷◌, ◌++◌, length, map}
+use Rattle.std.proofs.Common.{get_or, refl, sym, ◌∙◌, ap, subst, arith, true, false, cond}
+use Rattle.std.specs.Prelude.{All, Option, Some, None, slice_get}
 use Rattle.std.specs.Option.{ForSome, option_map}
 use Rattle.std.specs.List.{AllZip}
-use Rattle.std.proofs.lemmas.List.{length-map, length-append}
+use Rattle.std.proofs.lemmas.List.{length-map}
 use Rattle.std.proofs.lemmas.Option.{same_Some, slice_get_within, slice_get-get_or, get_or_from_slice_get}
 use Rattle.std.proofs.lemmas.Option.{slice_get-map}
 use Rattle.mp_base.proofs.Zips.{zip_all_right}
@@ -15,19 +15,19 @@ use Rattle.lam_geom.specs.declared.place.Point.{Point}
 use Rattle.lam_geom.specs.declared.rect.Rect.{Rect}
 use Rattle.lam_geom.specs.Squares.{covered}
 use Rattle.mask_runs.specs.declared.mask.Mask.{Mask}
-use Rattle.mask_runs.specs.declared.mask.Mask.TheVariants.{Only, Diffusion, Contacts}
-use Rattle.mask_runs.specs.Colours.{HasColour}
+use Rattle.mask_runs.specs.declared.mask.Mask.TheVariants.{Only, Diffusion}
 use Rattle.region_sweep.specs.declared.tile.Tile.{Tile}
 use Rattle.region_sweep.specs.Tiles.{IsTile, AreTiles, InTile, IsTileOf}
-use Rattle.region_sweep.specs.Touching.{TouchAt, AreTouching}
+use Rattle.region_sweep.specs.Touching.{AreTouching}
+use Rattle.region_sweep.proofs.SeenLayers.{covered_only}
 use Rattle.switch_net.specs.Conductors.{ConductsOn}
 use Rattle.union_find.specs.declared.pair.Pair.{Pair}
-use Rattle.mask_nodes.specs.declared.piece.Part.TheVariants.{Conductor, Plain, Implanted}
+use Rattle.mask_nodes.specs.declared.piece.Part.TheVariants.{Conductor}
 use Rattle.mask_nodes.specs.declared.piece.Piece.{Piece}
-use Rattle.mask_nodes.specs.Pieces.{no_piece, is_conductor, part_of, piece_of, AreOfTiles, AreNumbersOf, HasConductor}
+use Rattle.mask_nodes.specs.Pieces.{no_piece, is_conductor, part_of, piece_of, AreNumbersOf}
 use Rattle.mask_nodes.specs.Linking.{conducts_at, over, AreInside}
-use Rattle.mask_nodes.specs.Columns.{corner_point, square_at, IsPieceOver, AreOver}
-use Rattle.mask_nodes.proofs.Seeing.{covered_only, on_diffusion, OnDiffusion}
+use Rattle.mask_nodes.specs.Columns.{corner_point, IsPieceOver, AreOver}
+use Rattle.mask_nodes.proofs.Seeing.{on_diffusion}
 use Rattle.mask_nodes.proofs.Seeing.OnDiffusion.{none, conductor, plain, implant}
 use Rattle.mask_nodes.proofs.CutUp.{tile_colour}
 

@@ -1,5 +1,5 @@
 -- The pieces of slices that are the tiles of masks.
-use Rattle.std.proofs.Common.{◌≡◌, List, sym, subst, subst₂}
+use Rattle.std.proofs.Common.{◌≡◌, List, subst, subst₂}
 use Rattle.region_sweep.specs.declared.tile.Tile.{Tile}
 use Rattle.mask_nodes.specs.declared.piece.Piece.{Piece}
 use Rattle.mask_nodes.specs.Pieces.{AreCutUp}

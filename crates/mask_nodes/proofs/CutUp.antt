@@ -1,29 +1,28 @@
 -- Pieces of tiles have exactly the conductors and the squares of channels, each in one piece.
-use Rattle.std.proofs.Common.{◌≡◌, ◌≢◌, ℕ, ◌+◌, ◌<◌, ◌≤◌, ◌⊎◌, inl, inr, List, length, get_or, refl, sym, ◌∙◌, ap}
+use Rattle.std.proofs.Common.{◌≡◌, ◌≢◌, ℕ, ◌<◌, inl, inr, List, refl, sym, ◌∙◌, ap}
 use Rattle.std.proofs.Common.{subst, subst₂, arith}
-use Rattle.std.specs.Prelude.{ℤ, ◌≤ℤ◌, ◌<ℤ◌, AllPairs, Option, Some, slice_get}
+use Rattle.std.specs.Prelude.{ℤ, AllPairs, Some, slice_get}
 use Rattle.std.proofs.lemmas.Bool.{cases_eq, cases_lt}
-use Rattle.std.proofs.lemmas.Int.{ints, by_lt_z}
-use Rattle.std.proofs.lemmas.List.{get_or_default}
-use Rattle.std.proofs.lemmas.Option.{same_Some, slice_get_within, get_or_from_slice_get}
+use Rattle.std.proofs.lemmas.Int.{ints}
+use Rattle.std.proofs.lemmas.Option.{slice_get_within, get_or_from_slice_get}
 use Rattle.mp_base.proofs.Entries.{get_from_contains, contains_from_get, all_at}
 use Rattle.lam_geom.specs.declared.layer.Layer.{Layer}
 use Rattle.lam_geom.specs.declared.layer.Layer.TheVariants.{ND, NP, NC, NM, NI, NB, NG}
 use Rattle.lam_geom.specs.declared.rect.Rect.{Rect}
-use Rattle.lam_geom.specs.Squares.{Square, IsIn, Before, rank, covered}
+use Rattle.lam_geom.specs.Squares.{Square, IsIn, Before, covered}
 use Rattle.mask_runs.specs.declared.mask.Mask.{Mask}
-use Rattle.mask_runs.specs.declared.mask.Mask.TheVariants.{Only, Diffusion, Contacts}
+use Rattle.mask_runs.specs.declared.mask.Mask.TheVariants.{Only, Diffusion}
 use Rattle.mask_runs.specs.Colours.{HasColour}
 use Rattle.mask_runs.specs.Laws.{OneColour}
 use Rattle.region_sweep.specs.declared.tile.Tile.{Tile}
 use Rattle.region_sweep.specs.Tiles.{IsTile, AreTiles, AreWhole, InTile}
-use Rattle.switch_net.specs.Conductors.{Conducts, ConductsOn, IsChannel, IsChannelSquare}
-use Rattle.mask_nodes.specs.declared.piece.Part.{Part}
+use Rattle.region_sweep.proofs.SeenLayers.{covered_only, only_covered}
+use Rattle.switch_net.specs.Conductors.{Conducts, ConductsOn, IsChannel}
 use Rattle.mask_nodes.specs.declared.piece.Part.TheVariants.{Conductor, Plain, Implanted}
 use Rattle.mask_nodes.specs.declared.piece.Piece.{Piece}
 use Rattle.mask_nodes.specs.Pieces.{part_of, piece_of, corner_on, IsBefore, AreOfTiles, AreCutUp, HasConductor}
 use Rattle.mask_nodes.specs.Pieces.{HasChannel, ArePieces}
-use Rattle.mask_nodes.proofs.Seeing.{only_covered, covered_only, coloured, on_diffusion, OnDiffusion}
+use Rattle.mask_nodes.proofs.Seeing.{coloured, on_diffusion, OnDiffusion}
 use Rattle.mask_nodes.proofs.Seeing.OnDiffusion.{none, conductor, plain, implant}
 use Rattle.mask_nodes.proofs.Tiling.{tile_once}
 

@@ -1,14 +1,14 @@
 -- The ends of channels in lists.
-use Rattle.std.proofs.Common.{◌≡◌, ◌≢◌, ℕ, ◌+◌, ◌<◌, ◌≤◌, ◌⊎◌, inl, inr, List, [], ◌∷◌, ◌++◌, length, get_or, set, refl}
-use Rattle.std.proofs.Common.{sym, ◌∙◌, ap, subst, subst₂, arith, Bool, true, false, eqb, replicate}
-use Rattle.std.specs.Prelude.{◌↔◌, All, AllPairs, Contains, Some, slice_get}
+use Rattle.std.proofs.Common.{◌≡◌, ◌≢◌, ℕ, ◌+◌, ◌<◌, ◌≤◌, ◌⊎◌, inl, inr, List, [], ◌∷◌, ◌++◌, length, get_or, set}
+use Rattle.std.proofs.Common.{sym, ◌∙◌, ap, subst, arith, Bool, true, false, eqb, replicate}
+use Rattle.std.specs.Prelude.{◌↔◌, AllPairs, Contains, Some, slice_get}
 use Rattle.std.specs.List.{dedup}
 use Rattle.std.specs.List.Sorted.{IsPermutation, IsNonDecreasingBy, IsSorted}
 use Rattle.std.specs.Ordering.{nat_cmp}
 use Rattle.std.proofs.Math.ListN.{length-replicate}
 use Rattle.std.proofs.lemmas.List.Kept.{AllPairs-from_increasing, Contains-dedup_nat, Contains-from_dedup}
 use Rattle.std.proofs.lemmas.Map.Keys.{IsStrictlyIncreasing-dedup}
-use Rattle.std.proofs.lemmas.Bool.{cases_eq, cases_lt}
+use Rattle.std.proofs.lemmas.Bool.{both_ways, cases_eq, cases_lt}
 use Rattle.std.proofs.lemmas.List.{get_or-set_same, get_or-set_other, length-set, get_or-replicate}
 use Rattle.std.proofs.lemmas.List.Sorted.{Contains-permutation, IsPermutation-sym}
 use Rattle.std.proofs.lemmas.List.Elements.{Contains-append_left, Contains-append_cases, Contains-push}
@@ -78,12 +78,9 @@ pub end_left : (pieces : List Piece) (channels nodes : List ℕ) (i j : ℕ) (ol
 end_left pieces channels nodes i j old n =
     gains_none old (IsEndAt pieces channels nodes i j)
     (λ x h. elim n [
-      | inl e ↦ two (conducts_at pieces i) e h.channel
-      | inr e ↦ two (conducts_at pieces j) h.conductor e
+      | inl e ↦ both_ways (conducts_at pieces i) h.channel e
+      | inr e ↦ both_ways (conducts_at pieces j) e h.conductor
     ])
-  where
-    two : (b : Bool) → b ≡ true → b ≡ false → ⊥
-    two b t f = cc
 
 -- the ends in another order
 pub ends_sorted : (P : Pair → Type 0) (old new : List Pair) → Gains [] old P → IsPermutation old new → (x : Pair)
@@ -279,10 +276,8 @@ marks_none pieces channels part count marks e = record {
   as_many = ap length e ∙ length-replicate count false;
   each = λ c l. (
     λ t. absurd
-        (two (get_or marks c false) t (ap (λ xs. get_or xs c false) e ∙ get_or-replicate count c false false l)),
+        (both_ways (get_or marks c false)
+        (ap (λ xs. get_or xs c false) e ∙ get_or-replicate count c false false l) t),
     λ w. let b = w.before in absurd (omega arith),
   );
 }
-  where
-    two : (b : Bool) → b ≡ true → b ≡ false → ⊥
-    two b t f = cc

@@ -1,28 +1,23 @@
 -- The links of tiles that touch and of contacts are those that conductors and channels ask for.
-use Rattle.std.proofs.Common.{◌≡◌, ◌≢◌, ℕ, ◌+◌, ◌<◌, ◌≤◌, ◌⊎◌, inl, inr, List, length, get_or, refl, sym, ◌∙◌, ap}
-use Rattle.std.proofs.Common.{subst, subst₂, arith, Bool, true, false}
-use Rattle.std.specs.Prelude.{◌↔◌, ℤ, pos, ◌+ℤ◌, ◌≤ℤ◌, ◌<ℤ◌, AllPairs, Contains, Option, Some, None, MatchOption}
+use Rattle.std.proofs.Common.{◌≡◌, ◌≢◌, ℕ, ◌<◌, ◌⊎◌, inl, inr, List, length, get_or, refl, sym, ◌∙◌, ap}
+use Rattle.std.proofs.Common.{subst₂, arith, true}
+use Rattle.std.specs.Prelude.{ℤ, AllPairs, Contains, Some}
 use Rattle.std.specs.Prelude.{slice_get}
 use Rattle.std.proofs.lemmas.Bool.{cases_eq, cases_lt}
 use Rattle.std.proofs.lemmas.Int.{ints}
-use Rattle.std.proofs.lemmas.Option.{same_Some, slice_get_within, slice_get-get_or, get_or_from_slice_get}
+use Rattle.std.proofs.lemmas.Option.{same_Some, slice_get_within, get_or_from_slice_get}
 use Rattle.mp_base.proofs.Entries.{get_from_contains, all_at}
 use Rattle.lam_geom.specs.declared.layer.Layer.{Layer}
 use Rattle.lam_geom.specs.declared.layer.Layer.TheVariants.{ND, NP, NC, NM, NI, NB, NG}
-use Rattle.lam_geom.specs.declared.place.Point.{Point}
 use Rattle.lam_geom.specs.declared.rect.Rect.{Rect}
 use Rattle.lam_geom.specs.Chains.{Chain}
-use Rattle.lam_geom.specs.Chains.Chain.{here, link}
 use Rattle.lam_geom.specs.Squares.{Square, Adjoin, IsIn, ShareEdge, covered, RectanglesAreJoined}
 use Rattle.lam_geom.proofs.Chains.{join_chains, one_link, turn_chain}
 use Rattle.mask_runs.specs.declared.mask.Mask.{Mask}
-use Rattle.mask_runs.specs.declared.mask.Mask.TheVariants.{Only, Diffusion, Contacts}
-use Rattle.mask_runs.specs.Colours.{HasColour}
-use Rattle.mask_runs.specs.Laws.{OneColour}
 use Rattle.region_sweep.specs.declared.tile.Tile.{Tile}
-use Rattle.region_sweep.specs.Tiles.{IsTile, AreTiles, AreWhole, InTile}
+use Rattle.region_sweep.specs.Tiles.{IsTile, InTile}
 use Rattle.region_sweep.specs.Touching.{Beside, Touch, TouchAt, AreTouching}
-use Rattle.switch_net.specs.Conductors.{Conducts, ConductsOn, Contact, Joined, IsChannelSquare}
+use Rattle.switch_net.specs.Conductors.{ConductsOn, Contact, Joined, IsChannelSquare}
 use Rattle.switch_net.specs.Conductors.Joined.{beside, contact}
 use Rattle.union_find.specs.declared.pair.Pair.{Pair}
 use Rattle.union_find.specs.Leasts.{Paired}
@@ -30,13 +25,11 @@ use Rattle.union_find.proofs.Chains.{turn_pair}
 use Rattle.mask_nodes.specs.declared.piece.Part.{Part}
 use Rattle.mask_nodes.specs.declared.piece.Part.TheVariants.{Conductor, Plain, Implanted}
 use Rattle.mask_nodes.specs.declared.piece.Piece.{Piece}
-use Rattle.mask_nodes.specs.Pieces.{no_piece, is_conductor, part_of, piece_of, corner_on, on, IsBefore, AreOfTiles}
-use Rattle.mask_nodes.specs.Pieces.{AreNumbersOf, AreCutUp, HasConductor, HasChannel, ArePieces, AreLinks}
-use Rattle.mask_nodes.specs.Linking.{conducts_at, IsTouchLink, joins, AreTwo, column_of, IsContactLink}
+use Rattle.mask_nodes.specs.Pieces.{no_piece, is_conductor, piece_of, corner_on, on, IsBefore}
+use Rattle.mask_nodes.specs.Pieces.{AreNumbersOf, HasConductor, HasChannel, ArePieces}
+use Rattle.mask_nodes.specs.Linking.{IsTouchLink, AreTwo}
 use Rattle.mask_nodes.specs.Linking.AreTwo.{upper, outer, lower}
-use Rattle.mask_nodes.specs.Columns.{square_at, AreOver}
-use Rattle.mask_nodes.proofs.Seeing.{IsBy, joined_by, contact_coloured}
-use Rattle.mask_nodes.proofs.CutUp.{one_place, Tiled, tile_colour}
+use Rattle.mask_nodes.proofs.CutUp.{one_place, Tiled}
 use Rattle.mask_nodes.proofs.Owning.{same_chain, conductor_one, channel_one}
 
 -- ---- tiles that touch
@@ -50,7 +43,7 @@ pub record Edge (p q : Piece) : Type 0 where
   pub beside : ShareEdge s t
   pub same : p.rect.layer ≡ q.rect.layer
 
-turned_edge : (s t : Square) → ShareEdge s t → ShareEdge t s
+pub turned_edge : (s t : Square) → ShareEdge s t → ShareEdge t s
 turned_edge s t (inl a) = inl (sym a.0, elim a.1 [ inl e ↦ inr e | inr e ↦ inl e ])
 turned_edge s t (inr a) = inr (sym a.0, elim a.1 [ inl e ↦ inr e | inr e ↦ inl e ])
 

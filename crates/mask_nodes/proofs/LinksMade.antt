@@ -1,25 +1,24 @@
 -- The links that are made are those that conductors and channels ask for.
-use Rattle.std.proofs.Common.{◌≡◌, ◌≢◌, ℕ, ◌+◌, ◌<◌, ◌≤◌, ◌⊎◌, inl, inr, List, length, get_or, refl, sym, ◌∙◌, ap}
-use Rattle.std.proofs.Common.{subst, subst₂, arith, Bool, true, false}
-use Rattle.std.specs.Prelude.{◌↔◌, ℤ, AllPairs, Contains, Option, Some, None, MatchOption, slice_get}
+use Rattle.std.proofs.Common.{◌≡◌, ◌≢◌, ℕ, ◌⊎◌, inl, inr, List, length, refl, sym, ◌∙◌, ap}
+use Rattle.std.proofs.Common.{subst, subst₂, true, false}
+use Rattle.std.specs.Prelude.{◌↔◌, ℤ, Contains, Option, Some, None, slice_get}
 use Rattle.std.proofs.lemmas.Option.{same_Some, slice_get_within}
 use Rattle.mp_base.proofs.Entries.{get_from_contains, contains_from_get, all_at}
 use Rattle.lam_geom.specs.declared.layer.Layer.{Layer}
-use Rattle.lam_geom.specs.declared.layer.Layer.TheVariants.{ND, NP, NC, NM, NI, NB, NG}
+use Rattle.lam_geom.specs.declared.layer.Layer.TheVariants.{ND, NP, NM}
 use Rattle.lam_geom.specs.declared.place.Point.{Point}
 use Rattle.lam_geom.specs.declared.rect.Rect.{Rect}
 use Rattle.lam_geom.specs.Chains.{Chain}
 use Rattle.lam_geom.specs.Chains.Chain.{here, link}
 use Rattle.lam_geom.specs.Squares.{Square, Adjoin, IsIn, ShareEdge, covered, RectanglesAreJoined}
 use Rattle.lam_geom.proofs.Chains.{join_chains, one_link, turn_chain, map_chain}
-use Rattle.mask_runs.specs.declared.mask.Mask.{Mask}
 use Rattle.mask_runs.specs.declared.mask.Mask.TheVariants.{Only, Diffusion, Contacts}
 use Rattle.mask_runs.specs.Colours.{HasColour}
 use Rattle.mask_runs.specs.Laws.{OneColour}
 use Rattle.region_sweep.specs.declared.tile.Tile.{Tile}
 use Rattle.region_sweep.specs.Tiles.{IsTile, AreTiles, AreWhole, InTile}
 use Rattle.region_sweep.specs.Touching.{AreTouching}
-use Rattle.switch_net.specs.Conductors.{Conducts, ConductsOn, Contact, Joined, IsChannelSquare}
+use Rattle.switch_net.specs.Conductors.{Conducts, ConductsOn, Joined, IsChannelSquare}
 use Rattle.switch_net.specs.Conductors.Joined.{beside, contact}
 use Rattle.union_find.specs.declared.pair.Pair.{Pair}
 use Rattle.union_find.specs.Leasts.{Paired}
@@ -32,7 +31,7 @@ use Rattle.mask_nodes.specs.Linking.{IsTouchLink, joins, AreTwo, column_of, IsCo
 use Rattle.mask_nodes.specs.Linking.AreTwo.{upper, outer, lower}
 use Rattle.mask_nodes.specs.Columns.{corner_point, square_at, IsPieceOver, AreOver}
 use Rattle.mask_nodes.proofs.Seeing.{IsBy, joined_by, contact_coloured}
-use Rattle.mask_nodes.proofs.CutUp.{Tiled, tile_colour, tiled_metal, tiled_polysilicon, tiled_diffusion, conductor_in}
+use Rattle.mask_nodes.proofs.CutUp.{tile_colour, tiled_metal, tiled_polysilicon, tiled_diffusion, conductor_in}
 use Rattle.mask_nodes.proofs.CutUp.{channel_in, channel_layer, are_pieces}
 use Rattle.mask_nodes.proofs.Owning.{same_chain}
 use Rattle.mask_nodes.proofs.Linked.{EdgeLink, link_turned, edge_link, edge_chain, Through, through_turned}

@@ -2,7 +2,7 @@
 use Rattle.std.proofs.Common.{◌≡◌, ◌≢◌, ℕ, ◌+◌, ◌<◌, ◌≤◌, ◌⊎◌, inl, inr, List, [], ◌∷◌, ◌++◌, length, get_or, set, refl}
 use Rattle.std.proofs.Common.{sym, ◌∙◌, ap, subst, subst₂, arith}
 use mathlib.Core.Bool.{beq}
-use Rattle.std.specs.Prelude.{ℤ, pos, AllPairs, Contains, Option, Some, slice_get, Bool, true, false, IsTrue, ◌↔◌}
+use Rattle.std.specs.Prelude.{pos, AllPairs, Contains, Some, slice_get, Bool, true, false, IsTrue, ◌↔◌}
 use Rattle.std.specs.Prelude.{MatchBool}
 use Rattle.std.proofs.lemmas.Bool.{cases_eq, cases_lt}
 use Rattle.std.proofs.lemmas.Int.{ints, by_lt_z}

@@ -1,12 +1,12 @@
 -- Pieces own the conductors and the squares of channels.
-use Rattle.std.proofs.Common.{◌≡◌, ℕ, ◌<◌, ◌≤◌, ◌⊎◌, inl, inr, List, length, get_or, refl, sym, ◌∙◌, ap, subst, subst₂}
+use Rattle.std.proofs.Common.{◌≡◌, ℕ, ◌<◌, ◌≤◌, inl, inr, List, length, refl, sym, ◌∙◌, ap, subst, subst₂}
 use Rattle.std.proofs.Common.{arith}
-use Rattle.std.specs.Prelude.{ℤ, ◌≤ℤ◌, ◌<ℤ◌, AllPairs, Option, Some, slice_get}
-use Rattle.std.proofs.lemmas.Bool.{cases_eq, cases_lt}
+use Rattle.std.specs.Prelude.{AllPairs}
+use Rattle.std.proofs.lemmas.Bool.{cases_eq}
 use Rattle.std.proofs.lemmas.Int.{ints}
 use Rattle.std.proofs.lemmas.Option.{same_Some, slice_get_within, get_or_from_slice_get}
 use Rattle.lam_geom.specs.declared.layer.Layer.{Layer}
-use Rattle.lam_geom.specs.declared.layer.Layer.TheVariants.{ND, NP, NM}
+use Rattle.lam_geom.specs.declared.layer.Layer.TheVariants.{ND, NP}
 use Rattle.lam_geom.specs.declared.rect.Rect.{Rect}
 use Rattle.lam_geom.specs.Chains.{Chain}
 use Rattle.lam_geom.specs.Chains.Chain.{here}
@@ -16,7 +16,6 @@ use Rattle.switch_net.specs.Conductors.{Conducts, Joined, IsChannelSquare}
 use Rattle.switch_net.specs.Conductors.Joined.{beside, contact}
 use Rattle.union_find.specs.declared.pair.Pair.{Pair}
 use Rattle.union_find.specs.Leasts.{Paired}
-use Rattle.mask_nodes.specs.declared.piece.Part.TheVariants.{Conductor}
 use Rattle.mask_nodes.specs.declared.piece.Piece.{Piece}
 use Rattle.mask_nodes.specs.Pieces.{corner_on, on, IsBefore, HasConductor, HasChannel, ArePieces, AreLinks}
 use Rattle.mask_nodes.specs.Pieces.{first_conductor, first_channel}

@@ -1,110 +1,26 @@
 -- What the colours of squares say of conductors and channels.
-use Rattle.std.proofs.Common.{◌≡◌, ◌≢◌, ℕ, ◌+◌, ◌<◌, ◌≤◌, ◌⊎◌, inl, inr, List, [], ◌∷◌, Bool, true, false, not, ◌&&◌}
-use Rattle.std.proofs.Common.{◌||◌, eqb, refl, sym, ◌∙◌, ap, subst, arith}
-use Rattle.std.specs.Prelude.{◌↔◌, ℤ, ◌≤ℤ◌, ◌<ℤ◌, if◌then◌else◌}
-use Rattle.std.proofs.lemmas.Bool.{cases_eq, cases_Bool, both_ways, false_from_ne_true}
-use Rattle.std.proofs.lemmas.Int.{ints, by_lt_z}
+use Rattle.std.proofs.Common.{◌≡◌, ◌≢◌, ℕ, ◌<◌, ◌⊎◌, inl, inr, List, Bool, true, false, not, ◌&&◌}
+use Rattle.std.proofs.Common.{◌||◌, refl, sym, ◌∙◌, ap, arith}
+use Rattle.std.specs.Prelude.{ℤ, if◌then◌else◌}
+use Rattle.std.proofs.lemmas.Bool.{cases_Bool, both_ways, false_from_ne_true, not-true}
 use Rattle.lam_geom.specs.declared.layer.Layer.{Layer}
-use Rattle.lam_geom.specs.declared.layer.Layer.TheVariants.{ND, NP, NC, NM, NI, NB, NG}
+use Rattle.lam_geom.specs.declared.layer.Layer.TheVariants.{ND, NP, NC, NM, NI, NB}
 use Rattle.lam_geom.specs.declared.rect.Rect.{Rect}
-use Rattle.lam_geom.specs.Squares.{Covers, covered, rank}
-use Rattle.lam_geom.proofs.SquareOrder.{of_ranks}
+use Rattle.lam_geom.specs.Squares.{covered}
 use Rattle.mask_runs.specs.declared.mask.Layers.{Layers}
 use Rattle.mask_runs.specs.declared.mask.Mask.{Mask}
-use Rattle.mask_runs.specs.declared.mask.Mask.TheVariants.{Only, Diffusion, Contacts}
-use Rattle.mask_runs.specs.Colours.{has, is_channel, implanted, colour_of, Sees, HasColour}
+use Rattle.mask_runs.specs.declared.mask.Mask.TheVariants.{Diffusion, Contacts}
+use Rattle.mask_runs.specs.Colours.{has, is_channel, colour_of, Sees, HasColour}
 use Rattle.switch_net.specs.Conductors.{IsChannel, ConductsOn}
+use Rattle.region_sweep.proofs.SeenLayers.{layers_of}
 use Rattle.mask_nodes.specs.Linking.{joins, AreTwo}
 use Rattle.mask_nodes.specs.Linking.AreTwo.{upper, outer, lower}
-
-abbrev layer_at : ℕ → Layer
-layer_at k = if eqb k 0 then NM else if eqb k 1 then NP else if eqb k 2 then ND else if eqb k 3 then NC
-    else if eqb k 4 then NI else if eqb k 5 then NB else NG
-
-layer_at-rank : (l : Layer) → layer_at (rank l) ≡ l
-layer_at-rank NM = refl
-layer_at-rank NP = refl
-layer_at-rank ND = refl
-layer_at-rank NC = refl
-layer_at-rank NI = refl
-layer_at-rank NB = refl
-layer_at-rank NG = refl
-
--- it is so or not
-abbrev pub Either : Type 0 → Type 0
-Either P = P ⊎ ¬ P
-
-covers_or_not : (r : Rect) (l : Layer) (x y : ℤ) → Either (Covers r l x y)
-covers_or_not r l x y = elim (cases_eq (rank r.layer) (rank l)) [
-  | inr n ↦ inr (λ c. n (ap rank c.same))
-  | inl e ↦ by_lt_z x r.x0 (λ a. inr (λ c. let d = c.left in omega (arith, ints)))
-      (λ a. by_lt_z x r.x1
-      (λ b. by_lt_z y r.y0 (λ g. inr (λ c. let d = c.bottom in omega (arith, ints)))
-      (λ g. by_lt_z y r.y1 (λ h. inl (record { same = of_ranks r.layer l e; left = a; right = b; bottom = g; top = h }))
-      (λ h. inr (λ c. let d = c.top in omega (arith, ints)))))
-      (λ b. inr (λ c. let d = c.right in omega (arith, ints))))
-]
-
-pub covered_or_not : (shapes : List Rect) (l : Layer) (x y : ℤ) → Either (covered shapes l x y)
-covered_or_not [] l x y = inr (λ c. c)
-covered_or_not (r ∷ rs) l x y = elim (covers_or_not r l x y) [
-  | inl c ↦ inl (inl c)
-  | inr n ↦ elim (covered_or_not rs l x y) [
-    | inl c ↦ inl (inr c)
-    | inr m ↦ inr (λ c. elim c [ inl d ↦ n d | inr d ↦ m d ])
-  ]
-]
-
-abbrev holds : {P : Type 0} → Either P → Bool
-holds (inl p) = true
-holds (inr n) = false
-
-holds_is : {P : Type 0} (e : Either P) → (holds e ≡ true) ↔ P
-holds_is (inl p) = (λ h. p, λ q. refl)
-holds_is (inr n) = (λ h. absurd (cc), λ q. absurd (n q))
-
--- each square is covered by some set of layers
-pub seen : (shapes : List Rect) (x y : ℤ) → (layers : Layers) × Sees shapes x y layers
-seen shapes x y = (all, record { each = each })
-  where
-    test : Layer → Bool
-    test l = holds (covered_or_not shapes l x y)
-
-    all : Layers
-    all = record { nd = test ND; np = test NP; nc = test NC; nm = test NM; ni = test NI; nb = test NB; ng = test NG }
-
-    each : (l : Layer) → (has all l ≡ true) ↔ covered shapes l x y
-    each ND = holds_is (covered_or_not shapes ND x y)
-    each NP = holds_is (covered_or_not shapes NP x y)
-    each NC = holds_is (covered_or_not shapes NC x y)
-    each NM = holds_is (covered_or_not shapes NM x y)
-    each NI = holds_is (covered_or_not shapes NI x y)
-    each NB = holds_is (covered_or_not shapes NB x y)
-    each NG = holds_is (covered_or_not shapes NG x y)
 
 -- each square has a colour
 pub coloured : (shapes : List Rect) (mask : Mask) (x y : ℤ) → (k : ℕ) × HasColour shapes mask k x y
 coloured shapes mask x y =
-    let s = seen shapes x y in
+    let s = layers_of shapes x y in
     (colour_of mask s.0, record { layers = s.0; sees = s.1; same = refl })
-
--- ---- one layer
-
-pub only_covered : (shapes : List Rect) (l : Layer) (x y : ℤ) → covered shapes l x y → HasColour shapes (Only l) 1 x y
-only_covered shapes l x y c =
-    let s = seen shapes x y in
-    record { layers = s.0; sees = s.1; same = ap (λ t. if t then 1 else 0) ((s.1.each l).1 c) }
-
-one_or_none : (t : Bool) (k : ℕ) → (if t then 1 else 0) ≡ k → (t ≡ true) × (k ≡ 1) ⊎ (t ≡ false) × (k ≡ 0)
-one_or_none true k e = inl (refl, sym e)
-one_or_none false k e = inr (refl, sym e)
-
-pub covered_only : (shapes : List Rect) (l : Layer) (k : ℕ) (x y : ℤ) → HasColour shapes (Only l) k x y
-    → (covered shapes l x y × (k ≡ 1)) ⊎ (¬ covered shapes l x y × (k ≡ 0))
-covered_only shapes l k x y h = elim (one_or_none (has h.layers l) k h.same) [
-  | inl a ↦ inl ((h.sees.each l).0 a.0, a.1)
-  | inr a ↦ inr (λ c. both_ways (has h.layers l) a.0 ((h.sees.each l).1 c), a.1)
-]
 
 -- ---- diffusion
 
@@ -249,14 +165,10 @@ module _ (shapes : List Rect) (x y : ℤ) (s : Layers) (sees : Sees shapes x y s
   both_true : (a b : Bool) → (a && b) ≡ true → (a ≡ true) × (b ≡ true)
   both_true a b h = grind arith
 
-  unless : (a : Bool) → not a ≡ true → a ≡ false
-  unless true h = absurd (cc)
-  unless false h = refl
-
   diffusion_conducts : diffusion ≡ true → ConductsOn (covered shapes) ND x y
   diffusion_conducts h =
       let b = both_true s.nd (not (is_channel s)) h in
-      let f : is_channel s ≡ false = unless (is_channel s) b.1 in (
+      let f : is_channel s ≡ false = not-true (is_channel s) b.1 in (
         yes ND b.0,
         λ c.
             let e : is_channel s ≡ true =
@@ -315,6 +227,6 @@ pub contact_coloured : (shapes : List Rect) (x y : ℤ) {l m : Layer} → AreTwo
     → ConductsOn (covered shapes) m x y → IsBy shapes x y l m
     → (k : ℕ) × HasColour shapes Contacts k x y × (0 < k) × (joins k l ≡ true) × (joins k m ≡ true)
 contact_coloured shapes x y two c d by =
-    let s = seen shapes x y in
+    let s = layers_of shapes x y in
     let w = here_joined shapes x y s.0 s.1 two c d by in
     (colour_of Contacts s.0, record { layers = s.0; sees = s.1; same = refl }, w.0, w.1, w.2)

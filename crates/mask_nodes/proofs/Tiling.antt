@@ -1,6 +1,6 @@
 -- Tiles of one mask have no square in common.
 use Rattle.std.proofs.Common.{◌≡◌, sym, subst, arith, List}
-use Rattle.std.specs.Prelude.{ℤ, pos, negsuc, ◌+ℤ◌, ◌≤ℤ◌, ◌<ℤ◌}
+use Rattle.std.specs.Prelude.{ℤ, negsuc, ◌+ℤ◌, ◌≤ℤ◌, ◌<ℤ◌}
 use Rattle.std.proofs.lemmas.Int.{ints, by_lt_z}
 use Rattle.lam_geom.specs.declared.rect.Rect.{Rect}
 use Rattle.mask_runs.specs.declared.mask.Mask.{Mask}

@@ -1,17 +1,15 @@
 -- All that is known of the pieces of a mask and their links.
-use Rattle.std.proofs.Common.{◌≡◌, ◌≢◌, ℕ, ◌+◌, ◌<◌, ◌≤◌, ◌⊎◌, inl, inr, List, length, map, get_or, refl, sym, ◌∙◌, ap}
-use Rattle.std.proofs.Common.{subst, subst₂, arith, Bool, true, false}
-use Rattle.std.specs.Prelude.{◌↔◌, ℤ, ◌≤ℤ◌, ◌<ℤ◌, ◌++◌, All, AllPairs, Contains, Option, Some, slice_get}
-use Rattle.std.specs.List.{AllZip}
+use Rattle.std.proofs.Common.{◌≡◌, ℕ, ◌<◌, ◌≤◌, inl, inr, List, length, map, get_or, refl, sym, ◌∙◌, ap}
+use Rattle.std.proofs.Common.{subst, arith, true, false}
+use Rattle.std.specs.Prelude.{◌↔◌, ◌<ℤ◌, ◌++◌, All, Option, Some, slice_get}
 use Rattle.std.proofs.lemmas.Int.{ints}
-use Rattle.std.proofs.lemmas.Option.{same_Some, slice_get_within, slice_get-get_or, get_or_from_slice_get}
+use Rattle.std.proofs.lemmas.Option.{same_Some, slice_get_within, slice_get-get_or}
 use Rattle.std.proofs.lemmas.List.Elements.{All-weaker}
 use Rattle.mp_base.proofs.Entries.{contains_from_get}
 use Rattle.lam_geom.specs.declared.layer.Layer.{Layer}
 use Rattle.lam_geom.specs.declared.layer.Layer.TheVariants.{ND, NP, NM}
 use Rattle.lam_geom.specs.declared.place.Point.{Point}
 use Rattle.lam_geom.specs.declared.rect.Rect.{Rect}
-use Rattle.lam_geom.specs.Chains.{Chain}
 use Rattle.lam_geom.specs.Squares.{Square, Adjoin, Before, IsIn, covered, RectanglesAreJoined}
 use Rattle.mask_runs.specs.declared.mask.Mask.{Mask}
 use Rattle.mask_runs.specs.Laws.{OneColour}
@@ -19,12 +17,10 @@ use Rattle.region_sweep.specs.declared.tile.Tile.{Tile}
 use Rattle.region_sweep.specs.declared.swept.Swept.{Swept}
 use Rattle.switch_net.specs.Conductors.{Conducts, Joined, IsChannelSquare}
 use Rattle.union_find.specs.declared.pair.Pair.{Pair}
-use Rattle.union_find.specs.Leasts.{Paired, AreLeasts}
-use Rattle.mask_nodes.specs.declared.piece.Part.{Part}
-use Rattle.mask_nodes.specs.declared.piece.Part.TheVariants.{Conductor, Plain, Implanted}
+use Rattle.union_find.specs.Leasts.{AreLeasts}
 use Rattle.mask_nodes.specs.declared.piece.Piece.{Piece}
 use Rattle.mask_nodes.specs.declared.numbering.Classes.{Classes}
-use Rattle.mask_nodes.specs.Pieces.{no_piece, is_conductor, corner_on, on, piece_of, AreNumbersOf, AreCutUp}
+use Rattle.mask_nodes.specs.Pieces.{no_piece, is_conductor, corner_on, on, AreNumbersOf, AreCutUp}
 use Rattle.mask_nodes.specs.Pieces.{HasConductor, HasChannel, ArePieces, AreLinks, first_conductor, first_channel}
 use Rattle.mask_nodes.specs.Numbers as numbers
 use Rattle.mask_nodes.specs.Numbers.{AreRoots, AreNumbers}
@@ -35,7 +31,7 @@ use Rattle.mask_nodes.specs.Classed.{AreClassed}
 use Rattle.mask_nodes.proofs.Classes.{AreOwners, backward, classes, in_class, only_class}
 use Rattle.mask_nodes.proofs.CutUp.{Tiled, tiled_metal, tiled_polysilicon, tiled_diffusion, channel_layer, are_pieces}
 use Rattle.mask_nodes.proofs.Owning.{conductor_owners, channel_owners}
-use Rattle.mask_nodes.proofs.Linked.{conductor_part, EdgeLink}
+use Rattle.mask_nodes.proofs.Linked.{conductor_part}
 use Rattle.mask_nodes.proofs.LinksMade.{not_conductor, kind, are_links}
 use Rattle.mask_nodes.proofs.Covering.{metal_over, polysilicon_over, diffusion_over, over_fewer, corner_at}
 

@@ -1,7 +1,7 @@
 -- What the sweeps of the masks of contacts and conductors find.
-use Rattle.std.specs.Prelude.{◌≡◌, ◌++◌, ℕ, List, [], map, Option}
+use Rattle.std.specs.Prelude.{◌++◌, List, [], map}
 use Rattle.std.specs.List.{AllZip}
-use Rattle.lam_geom.specs.declared.layer.Layer.TheVariants.{NM, NP, ND}
+use Rattle.lam_geom.specs.declared.layer.Layer.TheVariants.{NM, NP}
 use Rattle.lam_geom.specs.declared.place.Point.{Point}
 use Rattle.lam_geom.specs.declared.rect.Rect.{Rect}
 use Rattle.mask_runs.specs.declared.mask.Mask.{Mask}

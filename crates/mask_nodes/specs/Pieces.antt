@@ -1,8 +1,8 @@
 -- The pieces that conductors and channels are cut into, and what joins them.
 use Rattle.std.specs.Prelude.{◌≡◌, ◌≢◌, ◌⊎◌, ℕ, ◌<◌, if◌then◌else◌, ◌==◌, Bool, true, false, List, length, get_or}
-use Rattle.std.specs.Prelude.{AllPairs, Contains, Option, Some, ℤ, pos, slice_get, slice_index_or}
+use Rattle.std.specs.Prelude.{AllPairs, Contains, Some, pos, slice_get, slice_index_or}
 use Rattle.lam_geom.specs.declared.layer.Layer.{Layer}
-use Rattle.lam_geom.specs.declared.layer.Layer.TheVariants.{ND, NP, NC, NM, NI, NB, NG}
+use Rattle.lam_geom.specs.declared.layer.Layer.TheVariants.{ND, NP, NM, NI}
 use Rattle.lam_geom.specs.declared.rect.Rect.{Rect}
 use Rattle.lam_geom.specs.Chains.{Chain}
 use Rattle.lam_geom.specs.Squares.{Square, Adjoin, IsIn, Before, covered}

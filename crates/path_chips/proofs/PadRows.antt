@@ -3,7 +3,7 @@ use Rattle.std.proofs.Common.{◌≡◌, ℕ, zero, suc, ◌<◌, ◌≤◌, ◌
 use Rattle.std.proofs.Common.{cond, List, [], ◌∷◌, length, map, refl, sym, ◌∙◌, ap, subst, arith, not}
 use Rattle.std.specs.Prelude.{All, Contains, slice_get, ◌==◌, ◌≢◌}
 use Rattle.std.specs.List.{range_with_len}
-use Rattle.std.proofs.lemmas.Bool.{eq-eqb, ne_eqb, true≢false}
+use Rattle.std.proofs.lemmas.Bool.{eq-eqb, ne_eqb, not-false, not-true, true≢false}
 use Rattle.std.proofs.lemmas.List.Elements.{All-contains}
 use Rattle.std.proofs.lemmas.List.FromFn.{length-map-range_with_len}
 use Rattle.std.proofs.lemmas.Option.{none-some, same_Some, slice_get_within}
@@ -231,18 +231,10 @@ module _ (p : DataPath) where
     row_has pad id k lt,
   )
 
-  not_off : (b : Bool) → not b ≡ false → b ≡ true
-  not_off true e = refl
-  not_off false e = absurd (true≢false e)
-
-  not_on : (b : Bool) → not b ≡ true → b ≡ false
-  not_on true e = absurd (true≢false (sym e))
-  not_on false e = refl
-
   pub signal_bit : (n : ℕ) → Contains (numbers_of (entries_of false ins p.inputs)) n → IsBit (place 0 n)
   signal_bit n c =
       let w = entry_at false ins p.inputs n c in
-      let sort = not_off (w.1.pad.width == 0) w.1.sort in
+      let sort = not-false (w.1.pad.width == 0) w.1.sort in
       let lt : 0 < pad_bits w.1.pad = subst (λ b. 0 < cond b 1 w.1.pad.width) (sym sort) (omega arith) in
       subst IsBit
       (ap (λ b. spot (cond b 0 1) w.1.id) sort ∙ ap (λ m. place 0 m) w.1.net)
@@ -258,7 +250,7 @@ module _ (p : DataPath) where
       → IsBit (place (suc k) n)
   word_bit k n l c =
       let w = entry_at true ins p.inputs n c in
-      let sort = not_on (w.1.pad.width == 0) w.1.sort in
+      let sort = not-true (w.1.pad.width == 0) w.1.sort in
       let wide = wide_pad w.0 w.1.pad w.1.is_pad sort in
       let lt : k < pad_bits w.1.pad = subst (λ b. k < cond b 1 w.1.pad.width) (sym sort) (omega (arith, l, wide)) in
       subst IsBit

@@ -6,6 +6,7 @@ use Rattle.std.proofs.lemmas.List.{length-replicate}
 use Rattle.std.proofs.lemmas.List.Folds.{sum_by-replicate}
 use Rattle.std.proofs.lemmas.List.Elements.{All-replicate}
 use Rattle.std.proofs.lemmas.List.Sums.{sum_by-cons}
+use Rattle.mp_base.proofs.Lists.{length_map}
 use Rattle.mp_base.proofs.Members.{contains_member}
 use Rattle.track_assign.specs.Density.{IsDensity}
 use Rattle.fabric.specs.Plan.{Plan, rows_of}
@@ -22,7 +23,6 @@ use Rattle.path_form.specs.declared.path.DataPath.{DataPath}
 use Rattle.slice_form.specs.Path.{Path, IsPath}
 use Rattle.slice_form.specs.Slices.{base_of, columns_wanted, control_columns, slice_columns}
 use Rattle.slice_form.specs.Whole.{path_of, cast_of, lift_of, carry_of, programmed_of}
-use Rattle.slice_layout.proofs.Ends.{map_long}
 use Rattle.slice_joints.specs.Control.{IsControlBand}
 use Rattle.slice_place.specs.declared.placing.SliceSize.{SliceSize}
 use Rattle.slice_place.specs.Placed.{IsSliceSize}
@@ -43,10 +43,10 @@ pub record IsFew (p : Path) : Type 0 where
 
 pub few : (p : DataPath) → IsSmallPath p → IsFew (path_of p)
 few p small =
-    let a = map_long cast_of p.casts in
-    let b = map_long lift_of p.lifts in
-    let c = map_long carry_of p.slices.chains in
-    let d = map_long (programmed_of p.width) p.slices.programs in
+    let a = length_map cast_of p.casts in
+    let b = length_map lift_of p.lifts in
+    let c = length_map carry_of p.slices.chains in
+    let d = length_map (programmed_of p.width) p.slices.programs in
     let j = small.joints in
     let g = small.programs in
     record {

@@ -14,6 +14,7 @@ use Rattle.mp_base.specs.declared.pad.Pad.{Pad}
 use Rattle.mp_base.specs.declared.pad.Pads.{Pads}
 use Rattle.mp_base.specs.PadNames.{is_run, is_pad_name, is_supply, supplies}
 use Rattle.mp_base.specs.Token.{is_token}
+use Rattle.mp_base.proofs.Tests.{false_true, true_false}
 use Rattle.cif_form.specs.Labels.{IsSpace}
 use Rattle.switch_net.specs.Pads.{bit_labels, chip_labels, labels_of, word_labels}
 
@@ -26,23 +27,20 @@ IsPlainName name = (0 < length name) × All IsNameByte name
 
 -- ---- bytes
 
-no_token : (b : ℕ) → is_token b ≡ false → is_token b ≡ true → ⊥
-no_token b e f = true_not_false (sym f ∙ e)
-  where
-    true_not_false : true ≡ false → ⊥
-    true_not_false e = cc e
-
-token : (b : ℕ) → is_token b ≡ true → IsNameByte b
-token b t = (
-  λ e. no_token 59 refl (subst (λ c. is_token c ≡ true) e t),
-  λ s. space s,
-)
+unlike : (b : ℕ) → b ≢ 59 → b ≢ 32 → b ≢ 9 → b ≢ 10 → b ≢ 13 → IsNameByte b
+unlike b semicolon blank tab feed back = (semicolon, space)
   where
     space : ¬ IsSpace b
-    space (inl e) = no_token 32 refl (subst (λ c. is_token c ≡ true) e t)
-    space (inr (inl e)) = no_token 9 refl (subst (λ c. is_token c ≡ true) e t)
-    space (inr (inr (inl e))) = no_token 10 refl (subst (λ c. is_token c ≡ true) e t)
-    space (inr (inr (inr e))) = no_token 13 refl (subst (λ c. is_token c ≡ true) e t)
+    space (inl e) = blank e
+    space (inr (inl e)) = tab e
+    space (inr (inr (inl e))) = feed e
+    space (inr (inr (inr e))) = back e
+
+token : (b : ℕ) → is_token b ≡ true → IsNameByte b
+token b t = unlike b (other 59 refl) (other 32 refl) (other 9 refl) (other 10 refl) (other 13 refl)
+  where
+    other : (c : ℕ) → is_token c ≡ false → b ≢ c
+    other c f e = true_false (sym (subst (λ x. is_token x ≡ true) e t) ∙ f)
 
 tokens : (name : List ℕ) → list_all is_token name ≡ true → All IsNameByte name
 tokens [] t = All-nil IsNameByte
@@ -51,37 +49,24 @@ tokens (c ∷ cs) t =
     All-cons IsNameByte c cs (token c p.0) (tokens cs p.1)
 
 digit : (b : ℕ) → digit_value b < 10 → IsNameByte b
-digit b h = (λ e. no_digit 59 e (omega arith), λ s. space s)
+digit b h =
+    unlike b (other 59 (omega arith)) (other 32 (omega arith)) (other 9 (omega arith)) (other 10 (omega arith))
+    (other 13 (omega arith))
   where
-    no_digit : (c : ℕ) → b ≡ c → 10 ≤ digit_value c → ⊥
-    no_digit c e k = let d : digit_value c < 10 = subst (λ x. digit_value x < 10) e h in absurd (omega arith)
-
-    space : ¬ IsSpace b
-    space (inl e) = no_digit 32 e (omega arith)
-    space (inr (inl e)) = no_digit 9 e (omega arith)
-    space (inr (inr (inl e))) = no_digit 10 e (omega arith)
-    space (inr (inr (inr e))) = no_digit 13 e (omega arith)
+    other : (c : ℕ) → 10 ≤ digit_value c → b ≢ c
+    other c k e = let d : digit_value c < 10 = subst (λ x. digit_value x < 10) e h in absurd (omega arith)
 
 digits : (ds : List ℕ) → AllDigits 10 ds → All IsNameByte ds
 digits [] h = All-nil IsNameByte
 digits (c ∷ cs) h = All-cons IsNameByte c cs (digit c h.0) (digits cs h.1)
 
 dot : IsNameByte 46
-dot = (λ e. omega arith, λ s. space s)
-  where
-    space : ¬ IsSpace 46
-    space (inl e) = omega arith
-    space (inr (inl e)) = omega arith
-    space (inr (inr (inl e))) = omega arith
-    space (inr (inr (inr e))) = omega arith
+dot = unlike 46 (λ e. omega arith) (λ e. omega arith) (λ e. omega arith) (λ e. omega arith) (λ e. omega arith)
 
 -- ---- names
 
 run : (name : List ℕ) → is_run name ≡ true → IsPlainName name
-run [] h = absurd (no h)
-  where
-    no : false ≡ true → ⊥
-    no e = cc e
+run [] h = absurd (false_true h)
 run (c ∷ cs) h = (omega arith, tokens (c ∷ cs) h)
 
 abbrev ArePlain : List (List ℕ) → Type 0

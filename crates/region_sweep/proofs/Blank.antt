@@ -16,7 +16,8 @@ use Rattle.mask_runs.specs.Colours.{has, needs, Sees, HasColour}
 use Rattle.mask_runs.specs.Laws.{BlankWithoutNeeded}
 use Rattle.region_sweep.specs.declared.tile.Tile.{Tile}
 use Rattle.region_sweep.specs.Tiles.{AreTiles, AreWhole, IsTileOf}
-use Rattle.region_sweep.proofs.Squares.{covered_by, layers_of}
+use Rattle.region_sweep.proofs.SeenLayers.{layers_of}
+use Rattle.region_sweep.proofs.Squares.{covered_by}
 
 -- no rectangle has a layer that the mask needs
 abbrev Lacks : Mask → List Rect → Type 0

@@ -1,4 +1,5 @@
 pub mod Longest
+pub mod SeenLayers
 mod Axes
 mod Blank
 mod Blocks

@@ -1,5 +1,5 @@
 -- The colour of a square is that of its cell.
-use Rattle.std.proofs.Common.{ℕ, zero, suc, ◌≡◌, ◌+◌, ◌<◌, ◌⊎◌, ◌↔◌, List, [], ◌∷◌, Bool, true, false, true≢false, inl}
+use Rattle.std.proofs.Common.{ℕ, zero, suc, ◌≡◌, ◌+◌, ◌<◌, ◌↔◌, List, [], ◌∷◌, true, inl}
 use Rattle.std.proofs.Common.{inr, refl, sym, ◌∙◌, subst, arith, length, get_or}
 use Rattle.std.specs.Prelude.{ℤ, ◌<ℤ◌, Contains}
 use Rattle.std.proofs.lemmas.Int.{ints, by_lt_z}
@@ -9,10 +9,8 @@ use Rattle.std.proofs.lemmas.List.Elements.{All-contains}
 use Rattle.std.proofs.Common.{add-one}
 use Rattle.mp_base.proofs.Tests.{same_test}
 use Rattle.lam_geom.specs.declared.layer.Layer.{Layer}
-use Rattle.lam_geom.specs.declared.layer.Layer.TheVariants.{ND, NP, NC, NM, NI, NB, NG}
 use Rattle.lam_geom.specs.declared.rect.Rect.{Rect}
 use Rattle.lam_geom.specs.Squares.{Covers, covered}
-use Rattle.lam_geom.proofs.Ranks.{layer_or_not}
 use Rattle.mask_runs.specs.declared.mask.Layers.{Layers}
 use Rattle.mask_runs.specs.declared.mask.Mask.{Mask}
 use Rattle.mask_runs.specs.Colours.{has, uses, colour_of, Sees, HasColour}
@@ -22,6 +20,7 @@ use Rattle.region_sweep.specs.Blocks.{is_covered, painted}
 use Rattle.region_sweep.specs.Rows.{block, no_block}
 use Rattle.region_sweep.specs.Grid.{Ascending, cell_of, IsDrawn, AreDrawn, AreBlocks, block_of}
 use Rattle.region_sweep.proofs.Axes.{mark_before}
+use Rattle.region_sweep.proofs.SeenLayers.{layers_of}
 use Rattle.region_sweep.proofs.Painting.{CoversCell, Covered, covered_decides, painted_is}
 
 -- the grid of a mask, and its blocks
@@ -105,24 +104,6 @@ square_covered xs ys mask shapes blocks l x y g u = (
       (subst (λ b. CoversCell b l (cell_of ys y) (cell_of xs x)) e.3 h.2)),
 )
 
-covers_or_not : (r : Rect) (l : Layer) (x y : ℤ) → Covers r l x y ⊎ (¬ Covers r l x y)
-covers_or_not r l x y = elim (layer_or_not r.layer l) [
-  | inr n ↦ inr (λ h. n h.same)
-  | inl e ↦ by_lt_z x r.x0 (λ m. inr (λ h. let g = h.left in omega (arith, ints)))
-      (λ a. by_lt_z x r.x1 (λ b. by_lt_z y r.y0 (λ m. inr (λ h. let g = h.bottom in omega (arith, ints)))
-      (λ c. by_lt_z y r.y1 (λ d. inl (record { same = e; left = a; right = b; bottom = c; top = d }))
-      (λ m. inr (λ h. let g = h.top in omega (arith, ints)))))
-      (λ m. inr (λ h. let g = h.right in omega (arith, ints))))
-]
-
--- whether the layer covers the square
-seen : (shapes : List Rect) (l : Layer) (x y : ℤ) → (b : Bool) × ((b ≡ true) ↔ covered shapes l x y)
-seen [] l x y = (false, (λ e. absurd (true≢false (sym e)), λ h. absurd h))
-seen (r ∷ rs) l x y = elim (covers_or_not r l x y) [
-  | inl h ↦ (true, (λ e. inl h, λ g. refl))
-  | inr n ↦ let s = seen rs l x y in (s.0, (λ e. inr (s.1.0 e), λ g. elim g [ inl h ↦ absurd (n h) | inr h ↦ s.1.1 h ]))
-]
-
 pub square_painted : ColoursByLayers
     → (xs ys : List ℤ) (mask : Mask) (shapes : List Rect) (blocks : List Block) (x y : ℤ)
     → IsGrid xs ys mask shapes blocks → (s : Layers) → Sees shapes x y s
@@ -133,31 +114,6 @@ square_painted law xs ys mask shapes blocks x y g s h = painted_is law mask bloc
     let d = covered_decides blocks l (cell_of ys y) (cell_of xs x) in
     same_test (has s l) (is_covered blocks l (cell_of ys y) (cell_of xs x)) (h.each l)
     (λ e. c.1 (d.0 e), λ k. d.1 (c.0 k)))
-
-layers_by : (Layer → Bool) → Layers
-layers_by t = record { nd = t ND; np = t NP; nc = t NC; nm = t NM; ni = t NI; nb = t NB; ng = t NG }
-
-has_by : (t : Layer → Bool) (l : Layer) → has (layers_by t) l ≡ t l
-unfolding layers_by
-has_by t ND = refl
-has_by t NP = refl
-has_by t NC = refl
-has_by t NM = refl
-has_by t NI = refl
-has_by t NB = refl
-has_by t NG = refl
-
-sees_some : (shapes : List Rect) (x y : ℤ) → Sees shapes x y (layers_by (λ l. (seen shapes l x y).0))
-sees_some shapes x y = record {
-  each = λ l.
-      let e = has_by (λ m. (seen shapes m x y).0) l in
-      let s = (seen shapes l x y).1 in
-      (λ h. s.0 (sym e ∙ h), λ h. e ∙ s.1 h);
-}
-
--- the layers that cover a square
-pub layers_of : (shapes : List Rect) (x y : ℤ) → (s : Layers) × Sees shapes x y s
-layers_of shapes x y = (layers_by (λ l. (seen shapes l x y).0), sees_some shapes x y)
 
 -- a square has a colour exactly where its cell has it
 pub has_colour : ColoursByLayers

@@ -47,7 +47,7 @@ module _ (one_network : OneNetwork) (sound : SoundWithPads) (one_pads : OnePads)
   draws = (chip.network, drawn_of_chip)
 
   -- what holds of the chip's network and pads holds of these
-  again : (P : Network → Pads → Type 0) (net : Network) (pads : Pads) → ArePadsOf p pads → IsNetOf bytes net
+  pub again : (P : Network → Pads → Type 0) (net : Network) (pads : Pads) → ArePadsOf p pads → IsNetOf bytes net
       → P chip.network chip.pads → P net pads
   again P net pads are drawn h =
       subst (λ n. P n pads) (one_network bytes chip.network net drawn_of_chip drawn)

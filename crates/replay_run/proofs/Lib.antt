@@ -1,4 +1,4 @@
 mod ProgramPads
 mod Counting
 mod Replaying
-mod Chips
+pub mod Chips

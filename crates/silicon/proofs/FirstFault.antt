@@ -3,7 +3,6 @@ use Rattle.std.proofs.Common.{◌≡◌, ◌∙◌, sym, List, ℕ, Option}
 use Rattle.mp_base.specs.Outside.{Files}
 use Rattle.command_line.specs.Command.{Command, Trace, Compile, Replay, Sim, Net, Stats, Board, Make}
 use Rattle.outcome.specs.Order.{Fault}
-use Rattle.outcome.specs.Work.{Work}
 use Rattle.source_files.specs.Faults.{SourceFault, RunFault}
 use Rattle.mask_files.specs.Faults.{MaskFault}
 use Rattle.sim_command.specs.Work as simulations

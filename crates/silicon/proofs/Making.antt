@@ -5,7 +5,7 @@ use Rattle.outcome.specs.Halt.{status_of}
 use Rattle.outcome.specs.declared.halt.Halt.{Halt}
 use Rattle.outcome.specs.declared.halt.Halt.TheVariants as halt
 use Rattle.outcome.specs.declared.status.Status.{Status}
-use Rattle.outcome.specs.declared.status.Status.TheVariants.{Refused, Usage, NoMemory}
+use Rattle.outcome.specs.declared.status.Status.TheVariants.{Refused, NoMemory}
 use Rattle.make_command.specs.Work.{IsUnrefused}
 use Rattle.silicon.specs.Run.{EndsMade}
 

@@ -1,5 +1,5 @@
 -- How the parts are left by a command, and by what is told of its end.
-use Rattle.std.proofs.Common.{◌≡◌, ◌⊎◌, ℕ, List, refl, sym, subst, inl, inr, Option, Some, None, Result, Ok, Err}
+use Rattle.std.proofs.Common.{◌≡◌, ℕ, List, refl, sym, subst, inl, inr, Option, Some, None, Result, Ok, Err}
 use Rattle.mp_base.specs.Outside.{Files, WhereTold}
 use Rattle.mp_base.specs.declared.refusal.Broken.{Broken}
 use Rattle.mp_base.proofs.Told.{told_map}

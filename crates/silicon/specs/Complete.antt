@@ -1,5 +1,5 @@
 -- What the clauses of a run leave no choice of.
-use Rattle.std.specs.Prelude.{◌≡◌, ◌⊎◌, ◌<◌, List, Option, Some, None}
+use Rattle.std.specs.Prelude.{◌⊎◌, ◌<◌, List, Option, Some, None}
 use Rattle.mp_base.specs.Outside.{Rose}
 use Rattle.command_line.specs.Command.{Command}
 use Rattle.outcome.specs.Order.{Fault, Stray, Breaks}

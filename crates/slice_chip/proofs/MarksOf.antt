@@ -3,9 +3,8 @@ use Rattle.std.proofs.Common.{◌≡◌, inl, inr, ℕ, zero, suc, ◌<◌, ◌�
 use Rattle.std.proofs.Common.{List, ◌∷◌, ◌++◌, length, map, refl, sym, ◌∙◌, ap, subst, arith, not}
 use Rattle.std.specs.Prelude.{Contains, slice_get, flat_map, slice_index, max, ◌==◌}
 use Rattle.std.specs.List.{range_with_len}
-use Rattle.std.proofs.lemmas.Option.{slice_get_within}
 use Rattle.mp_base.proofs.Members.{Member, member_contains, contains_member, member_map, map_member, member_filter}
-use Rattle.mp_base.proofs.Members.{filter_member, range_members, range_has}
+use Rattle.mp_base.proofs.Members.{filter_member, range_has}
 use Rattle.tile_cells.specs.declared.tile.Tile.TheVariants.{TapL, TapR, PullUp}
 use Rattle.fabric.specs.declared.thing.Side.TheVariants.{L, R}
 use Rattle.fabric.specs.declared.thing.Mark.{Mark}
@@ -37,6 +36,8 @@ use Rattle.slice_laying.specs.Added.{bit_marks, link_taps, chain_taps, joint_mar
 use Rattle.slice_laying.specs.Fitting.{AreSliceTracks}
 use Rattle.slice_laying.specs.Paths.{IsPlaceable}
 use Rattle.slice_laying.specs.Taps.{control_cast_taps, control_lift_taps, control_taps}
+use Rattle.slice_laying.proofs.JointApart.{in_below}
+use Rattle.slice_laying.proofs.Standing.{numbered}
 use Rattle.slice_chip.specs.Sliced.{AreControlTracks, path_laid}
 use Rattle.slice_chip.proofs.MadeOf as made
 
@@ -71,9 +72,6 @@ module _ (p : Path) (ready : IsPlaceable p) (control slices : Tracks) (control_t
     tied t k is here = record { tie = t; is = is; here = here }
 
     -- ---- each mark is of a tie
-
-    in_below : (k : ℕ) → Member (range_with_len 0 p.width) k → k < p.width
-    in_below k h = let r = (range_members 0 p.width k h).1 in omega (arith, r)
 
     of_control : (k : Mark) → Member (band_marks 0 (suc control.rows) crow (control_columns p) p.control) k → IsTied k
     of_control k h =
@@ -153,7 +151,7 @@ module _ (p : Path) (ready : IsPlaceable p) (control slices : Tracks) (control_t
     of_bits i None k h n = absurd n
     of_bits i (Some g) k h n =
         let w = member_flat (λ j. of_bit g j (slice_get g.bits j)) (range_with_len 0 p.width) k n in
-        of_bit_tap i g w.0 (slice_get g.bits w.0) k h (in_below w.0 w.1) refl w.2
+        of_bit_tap i g w.0 (slice_get g.bits w.0) k h (in_below p w.0 w.1) refl w.2
 
     -- the column of a chain is that of its end
     chain_same : (i : ℕ) (c : Carry) → slice_get p.chains i ≡ Some c
@@ -179,7 +177,7 @@ module _ (p : Path) (ready : IsPlaceable p) (control slices : Tracks) (control_t
         (ap (mark (tap_tile (side_of (open_gap p c))) (max 1 (open_gap p c)) 0) (chain_same i c h) ∙ e)
     of_chains i (Some c) k h (inr n) =
         let w = member_flat (link_taps p srow c) (range_with_len 0 p.width) k n in
-        of_links i c w.0 k h (in_below w.0 w.1) w.2
+        of_links i c w.0 k h (in_below p w.0 w.1) w.2
 
     abbrev trunks : List Mark
     trunks = flat_map (trunk_taps p srow) (slices_of p)
@@ -299,11 +297,6 @@ module _ (p : Path) (ready : IsPlaceable p) (control slices : Tracks) (control_t
 
     in_taps : (k : Mark) → Member (control_taps p crow) k → Member all k
     in_taps k h = append_right (of_band ++ (of_slices ++ of_all_joints)) (control_taps p crow) k h
-
-    numbered : {X : Type 0} (xs : List X) (i : ℕ) (x : X) → slice_get xs i ≡ Some x
-        → Member (range_with_len 0 (length xs)) i
-    numbered xs i x h =
-        range_has 0 (length xs) i (omega arith) (let w = slice_get_within xs i x h in omega (arith, w))
 
     has_net : (b : ℕ) (t : Tie (Wire Across)) → b ≤ p.width → Member (band_ties Across b (stub b) (parts p b)) t
         → Member all (m t)

@@ -25,7 +25,7 @@ use Rattle.slice_laying.specs.Added.{slice_segments, slice_lines, slice_marks, j
 use Rattle.slice_laying.specs.Fitting.{AreSliceTracks}
 use Rattle.slice_laying.specs.Paths.{IsPlaceable}
 use Rattle.slice_laying.specs.Taps.{control_cast_taps, control_lift_taps, control_taps}
-use Rattle.slice_laying.proofs.JointApart.{mark_is}
+use Rattle.slice_laying.proofs.JointApart.{by_column, mark_is, phases_apart}
 use Rattle.slice_laying.proofs.SlicesStand.{cols_at, row_at, count_at}
 use Rattle.slice_laying.proofs.Stacked.{mark_owned}
 use Rattle.slice_laying.proofs.Standing as standing
@@ -176,24 +176,6 @@ module _ (p : Path) (ready : IsPlaceable p) (control slices : Tracks) (below : A
 
     -- ---- no two at one place
 
-    by_column : (l m : Mark) → (l.column ≡ m.column → ⊥) → MarksApart l m
-    by_column l m h b r c = h c
-
-    phases_apart : Pairs MarksApart phases
-    phases_apart = (
-      (λ d r c. one_two c, (λ d r c. one_three c, tt)),
-      ((λ d r c. two_three c, tt), (tt, tt)),
-    )
-      where
-        one_two : 1 + 0 ≡ 1 + 1 → ⊥
-        one_two e = absurd (omega (arith, e))
-
-        one_three : 1 + 0 ≡ 1 + 2 → ⊥
-        one_three e = absurd (omega (arith, e))
-
-        two_three : 1 + 1 ≡ 1 + 2 → ⊥
-        two_three e = absurd (omega (arith, e))
-
     cast_alone : (i : ℕ) (q : Option Cast) → Pairs MarksApart (control_cast_taps crow i q)
     cast_alone i None = tt
     cast_alone i (Some c) = (tt, tt)
@@ -224,7 +206,8 @@ module _ (p : Path) (ready : IsPlaceable p) (control slices : Tracks) (below : A
 
     taps_apart : Pairs MarksApart (control_taps p crow)
     taps_apart =
-        pairs_append MarksApart phases (casts ++ lifts) phases_apart
+        pairs_append MarksApart phases (casts ++ lifts)
+        (phases_apart 0 (λ ph. suc (crow (length p.control + phase_number ph))))
         (pairs_append MarksApart casts lifts casts_apart lifts_apart
         (λ l m a b. by_column l m
         (λ e. let u = (casts_stand l a).3 in let v = (lifts_stand m b).2 in omega (arith, e, u, v))))

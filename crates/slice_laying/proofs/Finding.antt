@@ -3,6 +3,7 @@ use Rattle.std.proofs.Common.{◌≡◌, inl, inr, ℕ, zero, suc, ◌<◌, ◌�
 use Rattle.std.proofs.Common.{cond, eqb, List, [], ◌∷◌, map, refl, sym, ◌∙◌, ap, arith}
 use Rattle.std.specs.Prelude.{Contains, slice_get}
 use Rattle.std.specs.Option.{option_or}
+use Rattle.std.proofs.Math.Arith.{le-zero}
 use Rattle.std.proofs.lemmas.Bool.{cases_Bool, eq-eqb, eqb-true, true≢false}
 use Rattle.std.proofs.lemmas.Option.{none-some, same_Some}
 use Rattle.nor_net.specs.declared.net.NetId.{NetId}
@@ -19,16 +20,13 @@ pub head_on : (t : Bool) (m : ℕ) → t ≡ true → cond t 1 0 + m ≤ 1 → m
 head_on true m e h = omega (arith, h)
 head_on false m e h = absurd (true≢false (sym e))
 
-some_on : (t : Bool) (m : ℕ) → t ≡ true → 0 < cond t 1 0 + m
+pub some_on : (t : Bool) (m : ℕ) → t ≡ true → 0 < cond t 1 0 + m
 some_on true m e = omega arith
 some_on false m e = absurd (true≢false (sym e))
 
-more_on : (t : Bool) (m : ℕ) → 0 < m → 0 < cond t 1 0 + m
+pub more_on : (t : Bool) (m : ℕ) → 0 < m → 0 < cond t 1 0 + m
 more_on true m h = omega arith
 more_on false m h = omega (arith, h)
-
-pub none_of : (m : ℕ) → m ≤ 0 → m ≡ 0
-none_of m h = omega (arith, h)
 
 -- a net that is counted is there
 pub counted_there : (ids : List NetId) (n : ℕ) → 0 < times n ids → Contains (map (λ (id : NetId). id.0) ids) n
@@ -101,7 +99,7 @@ module _ {A : Type 0} (key : A → NetId) where
             (let s = some_on (eqb (key x).0 n) (times n (map key xs)) t in
             let z : cond (eqb (key x).0 n) 1 0 + times n (map key xs) ≡ 0 = e in omega (arith, s, z))
         | inr t ↦ off x xs t
-            ∙ absent xs (none_of (times n (map key xs))
+            ∙ absent xs (le-zero
             (head_off (eqb (key x).0 n) (times n (map key xs)) 0 t
             (let z : cond (eqb (key x).0 n) 1 0 + times n (map key xs) ≡ 0 = e in omega (arith, z))))
       ]

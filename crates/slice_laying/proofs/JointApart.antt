@@ -11,7 +11,8 @@ use Rattle.tile_cells.specs.declared.tile.Tile.TheVariants.{TapL, TapR, PullUp}
 use Rattle.fabric.specs.declared.thing.Mark.{Mark}
 use Rattle.fabric.specs.Plan.{MarksApart}
 use Rattle.nor_net.specs.declared.net.Part.TheVariants.{Input}
-use Rattle.array_form.specs.Homes.{home}
+use Rattle.nor_net.specs.declared.net.Phase.{Phase}
+use Rattle.array_form.specs.Homes.{home, phase_number}
 use Rattle.array_form.specs.Laying.{AreTracks}
 use Rattle.array_form.specs.Lists.{mark, tap_tile}
 use Rattle.array_form.proofs.Homes.{home_once, least_below, greatest_above, own_mark, more_mark}
@@ -25,8 +26,9 @@ use Rattle.slice_form.specs.PathWires.{side_of, below, above, open_gap}
 use Rattle.slice_form.specs.Slices.{base_of, cast_column, lift_column, plain_slice, slice_columns, cast_columns}
 use Rattle.slice_form.specs.Slices.{lift_columns_of, chain_starts}
 use Rattle.slice_form.proofs.Joints.{pairs_map_of, range_rises}
+use Rattle.slice_form.proofs.Lists.{slice_in}
 use Rattle.slice_laying.specs.Added.{slice_cols, trunk_taps, cast_taps, lift_taps, bit_tap, bit_marks, link_taps}
-use Rattle.slice_laying.specs.Added.{chain_taps, joint_marks}
+use Rattle.slice_laying.specs.Added.{chain_taps, joint_marks, of_phases}
 use Rattle.slice_laying.specs.Paths.{IsPlaceable}
 use Rattle.slice_laying.proofs.SliceColumns.{IsEnd, of_chain, of_program, end_homed, start_has}
 
@@ -46,23 +48,40 @@ column_of_mark t b r c m e = sym (ap (λ (m : Mark). m.column) e)
 by_band : (l m : Mark) → (l.band ≡ m.band → ⊥) → MarksApart l m
 by_band l m h b r c = h b
 
-by_column : (l m : Mark) → (l.column ≡ m.column → ⊥) → MarksApart l m
+pub by_column : (l m : Mark) → (l.column ≡ m.column → ⊥) → MarksApart l m
 by_column l m h b r c = h c
 
 by_row : (l m : Mark) → (l.row ≡ m.row → ⊥) → MarksApart l m
 by_row l m h b r c = h r
+
+pub in_below : (p : Path) (k : ℕ) → Member (range_with_len 0 p.width) k → k < p.width
+in_below p k m = let r = (range_members 0 p.width k m).1 in omega (arith, r)
+
+pub base_first : (p : Path) (n : ℕ) → base_of p ≤ home (plain_slice p) n
+base_first p n = omega arith
+
+-- the taps of the phases in a band
+pub phases_apart : (b : ℕ) (row : Phase → ℕ)
+    → Pairs MarksApart (of_phases (λ ph. mark TapL b (row ph) (1 + phase_number ph)))
+phases_apart b row = (
+  (λ d r c. one_two c, (λ d r c. one_three c, tt)),
+  ((λ d r c. two_three c, tt), (tt, tt)),
+)
+  where
+    one_two : 1 + 0 ≡ 1 + 1 → ⊥
+    one_two e = absurd (omega (arith, e))
+
+    one_three : 1 + 0 ≡ 1 + 2 → ⊥
+    one_three e = absurd (omega (arith, e))
+
+    two_three : 1 + 1 ≡ 1 + 2 → ⊥
+    two_three e = absurd (omega (arith, e))
 
 module _ (p : Path) (ready : IsPlaceable p) (row : ℕ → ℕ) (rows : ℕ)
     (tracks : AreTracks (slice_columns p) p.slice (slice_cols p) row rows)
   where
     abbrev top : ℕ
     top = suc rows
-
-    in_slices : (b : ℕ) → Member (slices_of p) b → IsSlice p b
-    in_slices b m = let r = range_members 1 p.width b m in let u = r.0 in let v = r.1 in (u, omega (arith, v))
-
-    in_below : (k : ℕ) → Member (range_with_len 0 p.width) k → k < p.width
-    in_below k m = let r = (range_members 0 p.width k m).1 in omega (arith, r)
 
     early : (t : Tile) (b r c : ℕ) → IsSlice p b → 1 ≤ c → c < base_of p → IsJointMark p (mark t b r c)
     early t b r c s lo hi = record { band = s; column = inl (lo, hi) }
@@ -97,27 +116,15 @@ module _ (p : Path) (ready : IsPlaceable p) (row : ℕ → ℕ) (rows : ℕ)
     trunks_in : (m : Mark) → Member trunks m → IsJointMark p m × (m.column < 4)
     trunks_in m k =
         let w = member_flat (trunk_taps p row) (slices_of p) m k in
-        let i = trunk_is w.0 m (in_slices w.0 w.1) w.2 in (i.0, i.2)
+        let i = trunk_is w.0 m (slice_in p (λ b n. false) w.0 w.1) w.2 in (i.0, i.2)
 
     trunks_apart : Pairs MarksApart trunks
     trunks_apart =
         pairs_flat_range MarksApart (trunk_taps p row) 1 p.width
-        (λ b lo hi. (
-          (λ d r c. one_two c, (λ d r c. one_three c, tt)),
-          ((λ d r c. two_three c, tt), (tt, tt)),
-        ))
+        (λ b lo hi. phases_apart b (λ ph. suc (row (length p.slice + phase_number ph))))
         (λ b d l m lo lt hi u v. by_band l m (λ e.
         let x = (trunk_is b l (omega (arith, lo), omega (arith, lt, hi)) u).1 in
         let y = (trunk_is d m (omega (arith, lo, lt), omega (arith, hi)) v).1 in omega (arith, e, x, y, lt)))
-      where
-        one_two : 1 + 0 ≡ 1 + 1 → ⊥
-        one_two e = absurd (omega (arith, e))
-
-        one_three : 1 + 0 ≡ 1 + 2 → ⊥
-        one_three e = absurd (omega (arith, e))
-
-        two_three : 1 + 1 ≡ 1 + 2 → ⊥
-        two_three e = absurd (omega (arith, e))
 
     -- ---- casts
 
@@ -127,7 +134,8 @@ module _ (p : Path) (ready : IsPlaceable p) (row : ℕ → ℕ) (rows : ℕ)
     cast_is i (Some c) m lt k =
         let w = member_map (λ b. mark TapL b (suc (row c.slice)) (cast_column i)) (slices_of p) m k in (
           subst (IsJointMark p) w.2
-              (early TapL w.0 (suc (row c.slice)) (4 + i) (in_slices w.0 w.1) (omega arith) (omega (arith, lt))),
+              (early TapL w.0 (suc (row c.slice)) (4 + i) (slice_in p (λ b n. false) w.0 w.1) (omega arith)
+              (omega (arith, lt))),
           column_of_mark TapL w.0 (suc (row c.slice)) (4 + i) m w.2,
         )
 
@@ -170,7 +178,7 @@ module _ (p : Path) (ready : IsPlaceable p) (row : ℕ → ℕ) (rows : ℕ)
         )
     lift_is i (Some l) m h lt (inr k) =
         let w = member_map (λ b. mark TapR b (suc (row l.start)) (lift_column p i)) (others_of p l) m k in
-        let s = in_slices w.0 (member_filter (λ b. not (b == suc l.slice)) (slices_of p) w.0 w.1).0 in (
+        let s = slice_in p (λ b n. false) w.0 (member_filter (λ b. not (b == suc l.slice)) (slices_of p) w.0 w.1).0 in (
           subst (IsJointMark p) w.2
               (early TapR w.0 (suc (row l.start)) (lift_column p i) s (omega arith) (omega (arith, lt))),
           column_of_mark TapR w.0 (suc (row l.start)) (lift_column p i) m w.2,
@@ -261,7 +269,7 @@ module _ (p : Path) (ready : IsPlaceable p) (row : ℕ → ℕ) (rows : ℕ)
     bits_is None i m h k = absurd k
     bits_is (Some g) i m h k =
         let w = member_flat (of_bit g) (range_with_len 0 p.width) m k in
-        let u = bit_is g w.0 m (in_below w.0 w.1) (of_program i g h refl) w.2 in (g, refl, u.0, u.2)
+        let u = bit_is g w.0 m (in_below p w.0 w.1) (of_program i g h refl) w.2 in (g, refl, u.0, u.2)
 
     abbrev bits : List Mark
     bits = flat_map (λ i. bit_marks p top row (slice_get p.programs i)) (range_with_len 0 (length p.programs))
@@ -363,7 +371,7 @@ module _ (p : Path) (ready : IsPlaceable p) (row : ℕ → ℕ) (rows : ℕ)
         (c, refl, subst (IsJointMark p) e (open_is i c h), sym (ap (λ (m : Mark). m.column) e))
     chain_is (Some c) i m h (inr k) =
         let w = member_flat (link_taps p row c) (range_with_len 0 p.width) m k in
-        let u = link_is i c w.0 m h (in_below w.0 w.1) w.2 in (c, refl, u.0, u.2)
+        let u = link_is i c w.0 m h (in_below p w.0 w.1) w.2 in (c, refl, u.0, u.2)
 
     abbrev chains : List Mark
     chains = flat_map (λ i. chain_taps p row (slice_get p.chains i)) (range_with_len 0 (length p.chains))
@@ -421,7 +429,7 @@ module _ (p : Path) (ready : IsPlaceable p) (row : ℕ → ℕ) (rows : ℕ)
     chain_pairs (Some c) i h = (
       each_from (MarksApart (open_tap c)) (flat_map (link_taps p row c) (range_with_len 0 p.width)) (λ m k.
           let w = member_flat (link_taps p row c) (range_with_len 0 p.width) m k in
-          let u = (link_is i c w.0 m h (in_below w.0 w.1) w.2).3 in
+          let u = (link_is i c w.0 m h (in_below p w.0 w.1) w.2).3 in
           by_row (open_tap c) m (λ e. omega (arith, e, u))),
       pairs_flat_range MarksApart (link_taps p row c) 0 p.width
           (λ k lo hi. ((λ d r e. links_differ i c h r, tt), (tt, tt)))
@@ -444,14 +452,11 @@ module _ (p : Path) (ready : IsPlaceable p) (row : ℕ → ℕ) (rows : ℕ)
 
     -- ---- all
 
-    base_first : (n : ℕ) → base_of p ≤ home (plain_slice p) n
-    base_first n = omega arith
-
     late_bit : (m : Mark) → Member bits m → base_of p ≤ m.column
-    late_bit m k = let w = bits_in m k in let e = w.4 in let b = base_first (w.1).net in omega (arith, e, b)
+    late_bit m k = let w = bits_in m k in let e = w.4 in let b = base_first p (w.1).net in omega (arith, e, b)
 
     late_chain : (m : Mark) → Member chains m → base_of p ≤ m.column
-    late_chain m k = let w = chains_in m k in let e = w.4 in let b = base_first (w.1).to in omega (arith, e, b)
+    late_chain m k = let w = chains_in m k in let e = w.4 in let b = base_first p (w.1).to in omega (arith, e, b)
 
     late_both : (m : Mark) → Member (bits ++ chains) m → base_of p ≤ m.column
     late_both m k = elim (member_append bits chains m k) [ inl q ↦ late_bit m q | inr q ↦ late_chain m q ]

@@ -1,6 +1,6 @@
 -- The lines that join bands stand in a fabric's columns and bands, and apart from those of the slices' nets.
 use Rattle.std.proofs.Common.{◌≡◌, ◌⊎◌, inl, inr, ℕ, suc, ◌<◌, ◌≤◌, ◌+◌, Option, Some, None}
-use Rattle.std.proofs.Common.{List, [], ◌∷◌, ◌++◌, length, map, refl, sym, subst, arith, not}
+use Rattle.std.proofs.Common.{false, List, [], ◌∷◌, ◌++◌, length, map, refl, sym, subst, arith, not}
 use Rattle.std.specs.Prelude.{slice_get, flat_map, min, max, ◌==◌}
 use Rattle.std.specs.List.{range_with_len}
 use Rattle.mp_base.proofs.Members.{Member, member_map, member_filter, range_members}
@@ -14,12 +14,14 @@ use Rattle.nor_net.specs.declared.net.Phase.TheVariants.{A, B, C}
 use Rattle.array_form.specs.Homes.{home, end_of, phase_number}
 use Rattle.array_form.specs.Lists.{upright}
 use Rattle.array_form.proofs.Members.{member_append, member_flat}
+use Rattle.array_form.proofs.Phases.{phase_small}
 use Rattle.slice_form.specs.Joints.{trunk_line, lift_lines, bit_lines, joint_lines}
 use Rattle.slice_form.specs.Path.{Path, Carry, Lift, Programmed, IsSlice}
 use Rattle.slice_form.specs.PathLists.{bands_of, slices_of, others_of}
 use Rattle.slice_form.specs.PathWires.{cast_line, lift_stub, chain_line, side_of}
 use Rattle.slice_form.specs.Slices.{across_of, base_of, chain_column, lift_column, lift_top, plain_slice}
 use Rattle.slice_form.specs.Slices.{slice_columns}
+use Rattle.slice_form.proofs.Lists.{slice_in}
 use Rattle.slice_laying.specs.Paths.{IsPlaceable}
 use Rattle.slice_laying.proofs.SliceColumns.{IsEnd, of_chain, of_program, base_below, end_inside}
 
@@ -31,9 +33,6 @@ pub record IsJoint (p : Path) (l : Line) : Type 0 where
       ⊎ (n : ℕ) × IsEnd p n × (l.column ≡ home (plain_slice p) n) × (1 ≤ l.first_band)
 
 module _ (p : Path) (ready : IsPlaceable p) where
-  in_slices : (b : ℕ) → Member (slices_of p) b → IsSlice p b
-  in_slices b m = let r = range_members 1 p.width b m in let u = r.0 in let v = r.1 in (u, omega (arith, v))
-
   -- a line from band a to band z in an early column
   early : (c a z : ℕ) (side : Side) → a ≤ z → z ≤ p.width → 1 ≤ c → c < base_of p → IsJoint p (upright c side a z)
   early c a z side h k lo hi = record { order = h; last = k; column = inl (lo, hi) }
@@ -42,14 +41,9 @@ module _ (p : Path) (ready : IsPlaceable p) where
       → IsJoint p (upright (home (plain_slice p) n) side a z)
   late n a z side end lo h k = record { order = h; last = k; column = inr (n, end, refl, lo) }
 
-  phase_low : (ph : Phase) → phase_number ph < 3
-  phase_low A = omega arith
-  phase_low B = omega arith
-  phase_low C = omega arith
-
   trunk : (ph : Phase) → IsJoint p (trunk_line p ph)
   trunk ph =
-      let f = phase_low ph in
+      let f = phase_small ph in
       early (suc (phase_number ph)) 0 p.width L (omega arith) (omega arith) (omega arith) (omega (arith, f))
 
   of_trunks : (l : Line) → Member (trunk_line p A ∷ trunk_line p B ∷ trunk_line p C ∷ []) l → IsJoint p l
@@ -76,7 +70,7 @@ module _ (p : Path) (ready : IsPlaceable p) where
       (early (lift_column p i) 0 (suc x.slice) L (omega arith) (omega (arith, t)) (omega arith) (omega (arith, lt))))
   of_lift i (Some x) l h lt (inr m) =
       let w = member_map (λ b. across_of p (lift_stub i b)) (others_of p x) l m in
-      let s = in_slices w.0 (member_filter (λ b. not (b == suc x.slice)) (slices_of p) w.0 w.1).0 in
+      let s = slice_in p (λ b n. false) w.0 (member_filter (λ b. not (b == suc x.slice)) (slices_of p) w.0 w.1).0 in
       subst (IsJoint p) w.2
       (early (lift_column p i) w.0 w.0 R (omega arith) s.1 (omega arith) (omega (arith, lt)))
 
@@ -94,7 +88,7 @@ module _ (p : Path) (ready : IsPlaceable p) where
   of_bit i (Some g) l h m =
       let w = member_flat (λ b. upright (home (plain_slice p) g.net) L b b ∷ upright
       (home (plain_slice p) g.net) R b b ∷ []) (slices_of p) l m in
-      two w.0 (in_slices w.0 w.1) w.2
+      two w.0 (slice_in p (λ b n. false) w.0 w.1) w.2
     where
       two : (b : ℕ) → IsSlice p b → Member (upright (home (plain_slice p) g.net) L b b ∷ upright
           (home (plain_slice p) g.net) R b b ∷ []) l → IsJoint p l

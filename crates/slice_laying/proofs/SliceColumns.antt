@@ -6,6 +6,7 @@ use Rattle.std.specs.List.{list_any}
 use Rattle.std.proofs.lemmas.Bool.{cases_Bool, true≢false, or_left, or_right, and_from}
 use Rattle.std.proofs.lemmas.Option.{none-some, same_Some, slice_get_within, slice_get_cases}
 use Rattle.mp_base.proofs.Members.{Member, member_contains, contains_member}
+use Rattle.mp_base.proofs.Tests.{and_left}
 use Rattle.nor_net.specs.declared.net.Part.{Part}
 use Rattle.nor_net.specs.declared.net.Part.TheVariants.{Input, Gate, Latch}
 use Rattle.nor_net.specs.Elements.{Spot, Element}
@@ -38,35 +39,31 @@ start_has at (a ∷ cs) (suc i) c n h e =
     append_right (cond (a.start == n) (at a.to ∷ []) []) (chain_starts at n cs) (at c.to)
     (start_has at cs i c n h e)
 
+-- the one column, if any, of the first of some
+one_inside : (t : Bool) (at x more : ℕ) → Member (cond t (at ∷ []) []) x → (at ≤ x) × (x < at + suc more)
+one_inside true at x more (inl e) = (omega (arith, e), omega (arith, e))
+one_inside true at x more (inr k) = absurd k
+one_inside false at x more k = absurd k
+
 pub cast_inside : (test : Cast → Bool) (at : ℕ) (cs : List Cast) (x : ℕ) → Member (cast_columns test at cs) x
     → (at ≤ x) × (x < at + length cs)
 cast_inside test at [] x m = absurd m
 cast_inside test at (a ∷ cs) x m = elim (member_append (cond (test a) (at ∷ []) []) (cast_columns test
     (suc at) cs) x m) [
-      | inl k ↦ head (test a) k
+      | inl k ↦ one_inside (test a) at x (length cs) k
       | inr k ↦ (let i = cast_inside test (suc at) cs x k in let u = i.0 in let v = i.1 in
           (omega (arith, u), omega (arith, v)))
     ]
-  where
-    head : (t : Bool) → Member (cond t (at ∷ []) []) x → (at ≤ x) × (x < at + length (a ∷ cs))
-    head true (inl e) = (omega (arith, e), omega (arith, e))
-    head true (inr k) = absurd k
-    head false k = absurd k
 
 pub lift_inside : (test : Lift → Bool) (at : ℕ) (cs : List Lift) (x : ℕ) → Member (lift_columns_of test at cs) x
     → (at ≤ x) × (x < at + length cs)
 lift_inside test at [] x m = absurd m
 lift_inside test at (a ∷ cs) x m =
     elim (member_append (cond (test a) (at ∷ []) []) (lift_columns_of test (suc at) cs) x m) [
-      | inl k ↦ head (test a) k
+      | inl k ↦ one_inside (test a) at x (length cs) k
       | inr k ↦ (let i = lift_inside test (suc at) cs x k in let u = i.0 in let v = i.1 in
           (omega (arith, u), omega (arith, v)))
     ]
-  where
-    head : (t : Bool) → Member (cond t (at ∷ []) []) x → (at ≤ x) × (x < at + length (a ∷ cs))
-    head true (inl e) = (omega (arith, e), omega (arith, e))
-    head true (inr k) = absurd k
-    head false k = absurd k
 
 pub start_from : (at : ℕ → ℕ) (n : ℕ) (cs : List Carry) (x : ℕ) → Member (chain_starts at n cs) x
     → (i : ℕ) × (c : Carry) × (slice_get cs i ≡ Some c) × (at c.to ≡ x)
@@ -91,14 +88,10 @@ reads_some n (Some q) e = (q, refl)
 pub words_of_stub : (p : Path) (n : ℕ) → slice_stub p n ≡ true → Contains p.words n
 words_of_stub p n e =
     let w = any_member (λ w. w == n) p.words
-    (first_of_and (list_any (λ w. w == n) p.words)
+    (and_left (list_any (λ w. w == n) p.words)
     (is_unread p.slice n && (not (list_any (λ (l : Lift). l.start == n) p.lifts) && not
     (list_any (λ (c : Carry). c.start == n) p.chains))) e) in
     subst (Contains p.words) (same_from w.1 n w.3) (member_contains p.words w.1 w.4)
-  where
-    first_of_and : (a b : Bool) → (a && b) ≡ true → a ≡ true
-    first_of_and true b e = refl
-    first_of_and false b e = e
 
 -- a net whose column a joint stands in
 pub data IsEnd (p : Path) (n : ℕ) : Type 0 where

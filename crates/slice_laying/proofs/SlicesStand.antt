@@ -4,7 +4,7 @@ use Rattle.std.proofs.Common.{List, [], ◌∷◌, ◌++◌, length, refl, sym, 
 use Rattle.std.specs.Prelude.{slice_get, flat_map, slice_index, max, ◌==◌, ◌≢◌}
 use Rattle.std.specs.List.{range_with_len}
 use Rattle.std.proofs.lemmas.List.{append-nil}
-use Rattle.mp_base.proofs.Members.{Member, member_contains, member_map, map_member, member_filter, range_members}
+use Rattle.mp_base.proofs.Members.{Member, member_contains, member_map, map_member, member_filter}
 use Rattle.mp_base.proofs.Members.{range_has}
 use Rattle.tile_cells.specs.declared.tile.Tile.TheVariants.{TapL, TapR, PullUp}
 use Rattle.fabric.specs.declared.thing.Line.{Line}
@@ -25,17 +25,17 @@ use Rattle.slice_form.specs.Joints.{joint_lines}
 use Rattle.slice_form.specs.Path.{Path, Carry, Cast, Lift, Programmed, IsSlice, parts}
 use Rattle.slice_form.specs.PathLists.{slices_of, others_of}
 use Rattle.slice_form.specs.PathWires.{side_of, below, above, open_gap}
-use Rattle.slice_form.specs.Slices.{base_of, cast_column, chain_column, columns_of, control_columns, lift_column}
+use Rattle.slice_form.specs.Slices.{cast_column, chain_column, columns_of, control_columns, lift_column}
 use Rattle.slice_form.specs.Slices.{plain_slice, slice_columns}
 use Rattle.slice_form.specs.Whole.{path_of}
 use Rattle.slice_form.proofs.Joints.{joints_apart}
-use Rattle.slice_form.proofs.Lists.{not_same}
+use Rattle.slice_form.proofs.Lists.{not_same, slice_in}
 use Rattle.slice_laying.specs.Added.{slice_cols, slice_segments, slice_lines, slice_marks, trunk_taps}
 use Rattle.slice_laying.specs.Added.{cast_taps, lift_taps, bit_tap, bit_marks, link_taps, chain_taps, joint_marks}
 use Rattle.slice_laying.specs.Added.{with_slices}
 use Rattle.slice_laying.specs.Fitting.{HasRoomFor, SlicesFit}
 use Rattle.slice_laying.specs.Paths.{IsPlaceable}
-use Rattle.slice_laying.proofs.JointApart.{IsJointMark, mark_is, marks_apart}
+use Rattle.slice_laying.proofs.JointApart.{IsJointMark, base_first, in_below, mark_is, marks_apart}
 use Rattle.slice_laying.proofs.JointLines.{IsJoint, joint_is, joint_fits}
 use Rattle.slice_laying.proofs.SliceColumns.{columns_differ}
 use Rattle.slice_laying.proofs.Stacked.{added_twice, line_owned, mark_owned, nets_fit}
@@ -79,12 +79,6 @@ module _ (p : Path) (ready : IsPlaceable p) (row : ℕ → ℕ) (rows : ℕ)
         → Member f.segments (band_segment b (cols_at p b) (row_at each_own row b) n))
         (tops : (b : ℕ) → IsSlice p b → rows_of f b ≡ suc rows)
       where
-        in_slices : (b : ℕ) → Member (slices_of p) b → IsSlice p b
-        in_slices b m = let r = range_members 1 p.width b m in let u = r.0 in let v = r.1 in (u, omega (arith, v))
-
-        in_below : (k : ℕ) → Member (range_with_len 0 p.width) k → k < p.width
-        in_below k m = let r = (range_members 0 p.width k m).1 in omega (arith, r)
-
         trunks_stand : (b : ℕ) → IsSlice p b → (m : Mark) → Member (trunk_taps p row b) m → IsMark f m
         trunks_stand zero s m k = absurd (let z = s.0 in omega (arith, z))
         trunks_stand (suc b) s m (inl e) =
@@ -113,7 +107,7 @@ module _ (p : Path) (ready : IsPlaceable p) (row : ℕ → ℕ) (rows : ℕ)
         casts_stand i None m h k = absurd k
         casts_stand i (Some c) m h k =
             let w = member_map (λ b. mark TapL b (suc (row c.slice)) (cast_column i)) (slices_of p) m k in
-            subst (IsMark f) w.2 (cast_stands i c w.0 h (in_slices w.0 w.1))
+            subst (IsMark f) w.2 (cast_stands i c w.0 h (slice_in p (λ b n. false) w.0 w.1))
 
         stub_stands : (i : ℕ) (l : Lift) (b : ℕ) → slice_get p.lifts i ≡ Some l → IsSlice p b → b ≢ suc l.slice
             → IsMark f (mark TapR b (suc (row l.start)) (lift_column p i))
@@ -133,7 +127,8 @@ module _ (p : Path) (ready : IsPlaceable p) (row : ℕ → ℕ) (rows : ℕ)
             let w = member_map (λ b. mark TapR b (suc (row l.start)) (lift_column p i)) (others_of p l) m k in
             let u = member_filter (λ b. not (b == suc l.slice)) (slices_of p) w.0 w.1 in
             subst (IsMark f) w.2
-            (stub_stands i l w.0 h (in_slices w.0 u.0) (not_same p (λ b n. false) w.0 (suc l.slice) u.1))
+            (stub_stands i l w.0 h (slice_in p (λ b n. false) w.0 u.0)
+            (not_same p (λ b n. false) w.0 (suc l.slice) u.1))
 
         tap_of_bit : (i : ℕ) (g : Programmed) (k : ℕ) (o : Option Bool) (m : Mark) → slice_get p.programs i ≡ Some g
             → suc k ≤ p.width → slice_get g.bits k ≡ o
@@ -173,7 +168,7 @@ module _ (p : Path) (ready : IsPlaceable p) (row : ℕ → ℕ) (rows : ℕ)
             let w = member_flat (λ k. mark TapR (suc k) 0 (home (plain_slice p) g.net) ∷ mark PullUp (suc k) (suc rows)
             (home (plain_slice p) g.net) ∷ bit_tap row (suc k) g.net (home (plain_slice p) g.net) (slice_get g.bits k))
             (range_with_len 0 p.width) m k in
-            of_bit i g w.0 m h (let l = in_below w.0 w.1 in omega (arith, l)) w.2
+            of_bit i g w.0 m h (let l = in_below p w.0 w.1 in omega (arith, l)) w.2
 
         link_stands : (i : ℕ) (c : Carry) (k : ℕ) (m : Mark) → slice_get p.chains i ≡ Some c → k < p.width
             → Member (link_taps p row c k) m → IsMark f m
@@ -203,7 +198,7 @@ module _ (p : Path) (ready : IsPlaceable p) (row : ℕ → ℕ) (rows : ℕ)
             (count_at (length p.control + 3) rows) tracks_at f lines IsAbove segments i c h))
         chains_stand i (Some c) m h (inr k) =
             let w = member_flat (link_taps p row c) (range_with_len 0 p.width) m k in
-            link_stands i c w.0 m h (in_below w.0 w.1) w.2
+            link_stands i c w.0 m h (in_below p w.0 w.1) w.2
 
         abbrev trunks : List Mark
         trunks = flat_map (trunk_taps p row) (slices_of p)
@@ -224,7 +219,7 @@ module _ (p : Path) (ready : IsPlaceable p) (row : ℕ → ℕ) (rows : ℕ)
         marks_stand : (m : Mark) → Member (joint_marks p (suc rows) row) m → IsMark f m
         marks_stand m k = elim (member_append trunks (casts ++ (lifts ++ (bits ++ chains))) m k) [
           | inl q ↦ (let w = member_flat (trunk_taps p row) (slices_of p) m q in
-              trunks_stand w.0 (in_slices w.0 w.1) m w.2)
+              trunks_stand w.0 (slice_in p (λ b n. false) w.0 w.1) m w.2)
           | inr q ↦ elim (member_append casts (lifts ++ (bits ++ chains)) m q) [
             | inl s ↦ (let w = member_flat (λ i. cast_taps p row i (slice_get p.casts i))
                 (range_with_len 0 (length p.casts)) m s in casts_stand w.0 (slice_get p.casts w.0) m refl w.2)
@@ -259,9 +254,6 @@ module _ (p : Path) (ready : IsPlaceable p) (row : ℕ → ℕ) (rows : ℕ)
         lines_fit : (l : Line) → Member (joint_lines p) l → IsLine nets l
         lines_fit l m = joint_fits p ready nets room.high room.columns l (joint_is p ready l m)
 
-        base_first : (n : ℕ) → base_of p ≤ home (plain_slice p) n
-        base_first n = omega arith
-
         old_lines_apart : (l m : Line) → Member f.lines l → IsJoint p m → LinesApart l m
         old_lines_apart l m k j e s = elim (room.no_lines l (member_contains f.lines l k)) [
           | inr far ↦ inr (let t = j.last in omega (arith, far, t))
@@ -280,7 +272,7 @@ module _ (p : Path) (ready : IsPlaceable p) (row : ℕ → ℕ) (rows : ℕ)
             let o = line_owned p ready w.0 l w.2 in
             let at = (o.2).column in
             absurd (elim j.column [
-              | inl c ↦ (let b = base_first o.0 in let u = c.1 in omega (arith, e, at, b, u))
+              | inl c ↦ (let b = base_first p o.0 in let u = c.1 in omega (arith, e, at, b, u))
               | inr c ↦ columns_differ p ready o.0 c.0 o.1 c.1 (sym at ∙ e ∙ c.2)
             ])
 
@@ -296,7 +288,7 @@ module _ (p : Path) (ready : IsPlaceable p) (row : ℕ → ℕ) (rows : ℕ)
             let o = mark_owned p ready w.0 (suc rows) row m w.2 in
             let at = (o.2).column in
             elim j.column [
-              | inl c ↦ (let b = base_first o.0 in let u = c.1 in omega (arith, e, at, b, u))
+              | inl c ↦ (let b = base_first p o.0 in let u = c.1 in omega (arith, e, at, b, u))
               | inr c ↦ columns_differ p ready o.0 c.0 o.1 c.1 (sym at ∙ e ∙ c.2)
             ]
 

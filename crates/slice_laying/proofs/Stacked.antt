@@ -178,17 +178,9 @@ module _ (p : Path) (ready : IsPlaceable p) where
           → slice_get p.slice n ≡ Some (Latch ph (Some d)) → (d.0 < length p.slice) × (d.0 ≢ n)
       data_is n ph d None h m l = absurd m
       data_is n ph d (Some Input) h m l =
-          (slice_get_within p.slice d.0 Input h, λ e. absurd (differs (sym h ∙ (ap (slice_get p.slice) e ∙ l))))
-        where
-          differs : Some Input ≡ Some (Latch ph (Some d)) → ⊥
-          differs e = cc e
-      data_is n ph d (Some (Gate ins)) h m l = (
-        slice_get_within p.slice d.0 (Gate ins) h,
-        λ e. absurd (differs (sym h ∙ (ap (slice_get p.slice) e ∙ l))),
-      )
-        where
-          differs : Some (Gate ins) ≡ Some (Latch ph (Some d)) → ⊥
-          differs e = cc e
+          (slice_get_within p.slice d.0 Input h, λ e. absurd (cc (sym h ∙ (ap (slice_get p.slice) e ∙ l))))
+      data_is n ph d (Some (Gate ins)) h m l =
+          (slice_get_within p.slice d.0 (Gate ins) h, λ e. absurd (cc (sym h ∙ (ap (slice_get p.slice) e ∙ l))))
       data_is n ph d (Some (Latch q s)) h m l = absurd m
 
       room : (f : Plan) (b n : ℕ) → IsFree f b (suc n) → HasRoom f b y p.slice rows

@@ -20,6 +20,7 @@ use Rattle.array_form.specs.Lists.{mark, tap_tile, upright}
 use Rattle.array_form.specs.Named.{tap}
 use Rattle.array_form.specs.Wires.{row, beat, left, right, trunk, extra, to_ground, place}
 use Rattle.array_form.proofs.Members.{append_left, append_right, flat_member}
+use Rattle.array_form.proofs.Phases.{phase_small}
 use Rattle.slice_form.specs.Joints.{trunk_line, lift_lines, bit_lines, joint_lines}
 use Rattle.slice_form.specs.Path.{Path, Carry, Cast, Lift, Programmed, IsPath, IsSlice, parts}
 use Rattle.slice_form.specs.PathLists.{bands_of, slices_of, others_of}
@@ -29,6 +30,12 @@ use Rattle.slice_form.specs.PathWires.{of_below, of_above, of_open, of_one, of_z
 use Rattle.slice_form.specs.Slices.{across_of, cast_column, chain_column, columns_of, lift_column, plain_slice}
 use Rattle.slice_form.proofs.Crossing.{path_crossing}
 use Rattle.slice_form.proofs.Lists.{in_slices, same_not}
+
+-- each has a number
+pub numbered : {A : Type 0} (xs : List A) (i : ℕ) (x : A) → slice_get xs i ≡ Some x
+    → Member (range_with_len 0 (length xs)) i
+numbered xs i x h =
+    range_has 0 (length xs) i (omega arith) (let w = slice_get_within xs i x h in omega (arith, w))
 
 -- ---- the lines that join bands are listed
 
@@ -47,11 +54,6 @@ module _ (p : Path) where
 
   abbrev chains : List Line
   chains = flat_map (λ i. map (λ g. across_of p (chain_line i g)) (bands_of p)) (range_with_len 0 (length p.chains))
-
-  numbered : {A : Type 0} (xs : List A) (i : ℕ) (x : A) → slice_get xs i ≡ Some x
-      → Member (range_with_len 0 (length xs)) i
-  numbered xs i x h =
-      range_has 0 (length xs) i (omega arith) (let w = slice_get_within xs i x h in omega (arith, w))
 
   among_trunks : (l : Line) → Member trunks l → Member (joint_lines p) l
   among_trunks l m = append_left trunks (casts ++ (lifts ++ (bits ++ chains))) l m
@@ -154,11 +156,6 @@ module _ (p : Path) (path : IsPath p) (cols : ℕ → ℕ → List ℕ) (row_of 
     above_ground (inl e) = absurd (let z = e.0 in omega (arith, z))
     above_ground (inr q) = q
 
-    phase_low : (ph : Phase) → phase_number ph < 3
-    phase_low A = omega arith
-    phase_low B = omega arith
-    phase_low C = omega arith
-
     pub trunk_stands : (b : ℕ) (ph : Phase) → b ≤ p.width → In b
         → IsMark f (mark TapL b (suc (row_of b (length (parts p b) + phase_number ph))) (1 + phase_number ph))
     trunk_stands b ph le i =
@@ -166,7 +163,7 @@ module _ (p : Path) (path : IsPath p) (cols : ℕ → ℕ → List ℕ) (row_of 
         let x = path_crossing p path cols row_of rows k tracks (tap L (trunk ph) (beat b ph)) (of_phase b ph le) in
         tap_stands f L (upright (1 + phase_number ph) L 0 p.width) (band_segment b (cols b) (row_of b) n) b
         (suc (row_of b n)) (1 + phase_number ph) (lines _ (has_trunk p ph))
-        (segments b n le i (let l = phase_low ph in omega (arith, l))) x.0 (above_ground x.1)
+        (segments b n le i (let l = phase_small ph in omega (arith, l))) x.0 (above_ground x.1)
 
     pub cast_stands : (i : ℕ) (c : Cast) → slice_get p.casts i ≡ Some c → In 0
         → IsMark f (mark TapL 0 (suc (row_of 0 c.control)) (cast_column i))

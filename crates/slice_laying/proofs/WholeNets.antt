@@ -24,14 +24,14 @@ use Rattle.path_form.specs.declared.path.DataPath.{DataPath}
 use Rattle.path_form.specs.Nets.{cast_element, lift_element, control_part, slice_part}
 use Rattle.path_form.specs.Shape.{is_input, times, chain_to, chain_from, entries_of}
 use Rattle.path_form.specs.Showing.{path_nets}
-use Rattle.path_form.proofs.Joining.{times_append}
+use Rattle.path_form.proofs.Joining.{times_append, is_one_input}
 use Rattle.slice_form.specs.Path.{Path, Carry, Cast, Lift, Programmed, parts, pads, IsSlice, Feeds, from_below}
 use Rattle.slice_form.specs.Path.{from_above, open_band, IsElement, gate, store, pad, cast, lift, next, open_end}
 use Rattle.slice_form.specs.Path.{one, zero_bit}
 use Rattle.slice_form.specs.Whole.{carry_of, cast_of, lift_of, programmed_of, numbers_of, path_of, WholesHaveNets}
 use Rattle.array_form.specs.Wires.{place}
 use Rattle.slice_laying.proofs.Finding.{counted_there, counted, found_at, absent}
-use Rattle.slice_laying.proofs.Finding.{none_counted, found}
+use Rattle.slice_laying.proofs.Finding.{more_on, none_counted, found, some_on}
 
 -- what a chain gives slice k of w
 abbrev pub chain_gives : ℕ → ℕ → chain.Chain → Element
@@ -268,12 +268,8 @@ module _ (p : DataPath) where
 
   times_from : (ids : List NetId) (n : ℕ) → Contains (numbers_of ids) n → 0 < times n ids
   times_from [] n c = absurd (omega (arith, c.1))
-  times_from (x ∷ xs) n (zero, l, e) =
-      subst (λ b. 0 < cond b 1 0 + times n xs) (sym (eq-eqb x.0 n e)) (let h : 0 < 1 + times n xs = omega arith in h)
-  times_from (x ∷ xs) n (suc k, l, e) = more (cond (eqb x.0 n) 1 0) (times_from xs n (k, omega (arith, l), e))
-    where
-      more : (a : ℕ) → 0 < times n xs → 0 < a + times n xs
-      more a h = omega (arith, h)
+  times_from (x ∷ xs) n (zero, l, e) = some_on (eqb x.0 n) (times n xs) (eq-eqb x.0 n e)
+  times_from (x ∷ xs) n (suc k, l, e) = more_on (eqb x.0 n) (times n xs) (times_from xs n (k, omega (arith, l), e))
 
   pad_of : (b n : ℕ) → b ≤ p.width → slice_get (parts whole b) n ≡ Some Input → Contains (pads whole b) n
       → in_band b n (Some Input) ≡ Some Given
@@ -295,16 +291,10 @@ module _ (p : DataPath) where
   slice_end id c = All-contains (λ (id : NetId). is_input (slice_get p.slices.net id.0) ≡ true)
       (words ++ (tos ++ (cast_ends ++ program_ends))) id p.whole.slice_inputs.0 c
 
-  input_of : (o : Option Part) → is_input o ≡ true → o ≡ Some Input
-  input_of None e = absurd (true≢false (sym e))
-  input_of (Some Input) e = refl
-  input_of (Some (Gate ins)) e = absurd (true≢false (sym e))
-  input_of (Some (Latch ph s)) e = absurd (true≢false (sym e))
-
   pub chain_input : (i : ℕ) (c : chain.Chain) → slice_get p.slices.chains i ≡ Some c
       → slice_get p.slices.net (chain_to c).0 ≡ Some Input
   chain_input i c h =
-      input_of (slice_get p.slices.net (chain_to c).0)
+      is_one_input (slice_get p.slices.net (chain_to c).0)
       (slice_end (chain_to c) (Contains-append_right words (tos ++ (cast_ends ++ program_ends)) (chain_to c)
       (Contains-append_left tos (cast_ends ++ program_ends) (chain_to c)
       (contains_from_get tos i (chain_to c) (map_get chain_to p.slices.chains i c h)))))
@@ -312,7 +302,7 @@ module _ (p : DataPath) where
   pub cast_input : (i : ℕ) (c : casting.Cast) → slice_get p.casts i ≡ Some c
       → slice_get p.slices.net c.slice.0 ≡ Some Input
   cast_input i c h =
-      input_of (slice_get p.slices.net c.slice.0)
+      is_one_input (slice_get p.slices.net c.slice.0)
       (slice_end c.slice (Contains-append_right words (tos ++ (cast_ends ++ program_ends)) c.slice
       (Contains-append_right tos (cast_ends ++ program_ends) c.slice
       (Contains-append_left cast_ends program_ends c.slice
@@ -322,7 +312,7 @@ module _ (p : DataPath) where
   pub program_input : (i : ℕ) (g : programmed.Programmed) → slice_get p.slices.programs i ≡ Some g
       → slice_get p.slices.net g.net.0 ≡ Some Input
   program_input i g h =
-      input_of (slice_get p.slices.net g.net.0)
+      is_one_input (slice_get p.slices.net g.net.0)
       (slice_end g.net (Contains-append_right words (tos ++ (cast_ends ++ program_ends)) g.net
       (Contains-append_right tos (cast_ends ++ program_ends) g.net
       (Contains-append_right cast_ends program_ends g.net
@@ -332,7 +322,7 @@ module _ (p : DataPath) where
   pub lift_input : (i : ℕ) (l : lifting.Lift) → slice_get p.lifts i ≡ Some l
       → slice_get p.control l.control.0 ≡ Some Input
   lift_input i l h =
-      input_of (slice_get p.control l.control.0)
+      is_one_input (slice_get p.control l.control.0)
       (All-contains (λ (id : NetId). is_input (slice_get p.control id.0) ≡ true) (signals ++ lift_ends) l.control
       p.whole.control_inputs.0 (Contains-append_right signals lift_ends l.control
       (contains_from_get lift_ends i l.control

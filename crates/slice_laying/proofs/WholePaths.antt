@@ -1,5 +1,5 @@
 -- A data path of nets is one that can be placed; its stubs are pads, and it has few columns where it is narrow.
-use Rattle.std.proofs.Common.{◌≡◌, inl, inr, ℕ, zero, suc, ◌<◌, ◌≤◌, Option, Some, None, true, false}
+use Rattle.std.proofs.Common.{◌≡◌, inl, inr, ℕ, zero, suc, ◌<◌, ◌≤◌, Option, Some, None, true}
 use Rattle.std.proofs.Common.{cond, List, length, refl, sym, ◌∙◌, ap, subst, arith}
 use Rattle.std.specs.Prelude.{Contains, slice_get, All, ◌==◌, ◌≢◌}
 use Rattle.std.specs.Int.{bit_at}
@@ -16,7 +16,6 @@ use Rattle.nor_net.specs.declared.net.Part.{Part}
 use Rattle.nor_net.specs.declared.net.Part.TheVariants.{Input, Gate, Latch}
 use Rattle.nor_net.specs.Elements.{Element, Given}
 use Rattle.nor_net.specs.Shape.{IsNet, MayFeed}
-use Rattle.organelles.specs.declared.slices.Chain as chain
 use Rattle.organelles.specs.declared.slices.Programmed as programmed
 use Rattle.organelles.specs.Slices.{first_some, slice_input}
 use Rattle.path_form.specs.declared.path.Cast as casting
@@ -27,7 +26,6 @@ use Rattle.path_form.specs.Shape.{is_fed, is_input, times, chain_to, chain_from}
 use Rattle.slice_form.specs.Joints.{AreJoinedOnce}
 use Rattle.slice_form.specs.Path.{Path, Carry, Cast, Lift, Programmed, parts, IsElement, IsPath}
 use Rattle.slice_form.specs.Whole.{carry_of, cast_of, lift_of, programmed_of, numbers_of, path_of}
-use Rattle.slice_form.specs.Whole as wholes
 use Rattle.array_form.specs.Wires.{place}
 use Rattle.path_form.proofs.Joining.{there}
 use Rattle.slice_laying.specs.Paths.{IsPlaceable, PathsArePlaceable}

@@ -7,6 +7,7 @@ use Rattle.std.specs.List.{list_any}
 use Rattle.std.proofs.lemmas.Bool.{cases_Bool, cases_lt, cases_eq}
 use Rattle.std.proofs.lemmas.List.Elements.{All-contains}
 use Rattle.std.proofs.lemmas.Option.{slice_get_within}
+use Rattle.mp_base.proofs.Lists.{length_map}
 use Rattle.mp_base.proofs.Members.{Member, member_contains, map_member}
 use Rattle.mp_base.proofs.Numbers.{at_most_times}
 use Rattle.nor_net.specs.declared.net.NetId.{NetId}
@@ -81,10 +82,6 @@ get_map : {A B : Type 0} (f : A → B) (xs : List A) (i : ℕ) (b : B) → slice
 get_map f [] i b h = absurd (cc h)
 get_map f (y ∷ ys) zero b h = (y, inl refl, cc h)
 get_map f (y ∷ ys) (suc i) b h = let w = get_map f ys i b h in (w.0, inr w.1, w.2)
-
-pub map_long : {A B : Type 0} (f : A → B) (xs : List A) → length (map f xs) ≡ length xs
-map_long f [] = refl
-map_long f (x ∷ xs) = ap suc (map_long f xs)
 
 -- ---- numbers below a bound, each at most once, are at most as many
 all_times : ℕ → List NetId → ℕ
@@ -291,14 +288,14 @@ module _ (p : DataPath) where
       let a = append_long words_of (ends_of ++ (casts_of ++ programs_of)) in
       let b = append_long ends_of (casts_of ++ programs_of) in
       let d = append_long casts_of programs_of in
-      let m = map_long (λ (c : cast.Cast). c.slice) p.casts in omega arith
+      let m = length_map (λ (c : cast.Cast). c.slice) p.casts in omega arith
 
   lifts_few : length p.lifts ≤ length p.control
   lifts_few =
       let signals : List NetId = entries_of false (p.pads).inputs p.inputs in
       let f = inputs_few p.control (control_ends signals p.lifts) p.whole.control_inputs in
       let a = append_long signals (map (λ (l : lift.Lift). l.control) p.lifts) in
-      let m = map_long (λ (l : lift.Lift). l.control) p.lifts in omega arith
+      let m = length_map (λ (l : lift.Lift). l.control) p.lifts in omega arith
 
   few_nets : (length net < 2 ^ 24) × (length p.control < 2 ^ 24)
   few_nets =
@@ -339,5 +336,5 @@ module _ (p : DataPath) where
     alone = alone_at;
     few = (
         let a = casts_few in let b = lifts_few in let f = few_nets.0 in let g = few_nets.1 in
-        let m = map_long cast_of p.casts in let n = map_long lift_of p.lifts in omega arith);
+        let m = length_map cast_of p.casts in let n = length_map lift_of p.lifts in omega arith);
   }

@@ -1,5 +1,5 @@
 -- A net that no pin is on is a pad's bit that nothing uses; and which nets have columns of their own.
-use Rattle.std.proofs.Common.{◌≡◌, inl, inr, ℕ, ◌+◌, ◌<◌, ◌≤◌, ◌==◌, Option, Some, None, Bool, true}
+use Rattle.std.proofs.Common.{◌≡◌, inl, inr, ℕ, ◌+◌, ◌<◌, ◌==◌, Option, Some, None, Bool, true}
 use Rattle.std.proofs.Common.{false, not, ◌&&◌, List, ◌++◌, length, map, get_or, refl, sym, ◌∙◌, ap}
 use Rattle.std.proofs.Common.{subst}
 use Rattle.std.proofs.Common.{arith}
@@ -13,18 +13,17 @@ use Rattle.mp_base.proofs.Tests.{same_bools, false_true}
 use Rattle.std.proofs.lemmas.Map.Keys.{any_passes_from_place}
 use Rattle.nor_net.specs.declared.net.Part.{Part}
 use Rattle.nor_net.specs.declared.net.Part.TheVariants.{Input, Gate, Latch}
-use Rattle.array_form.specs.Homes.{reads, phase_number, home}
+use Rattle.array_form.specs.Homes.{reads, phase_number}
 use Rattle.array_form.specs.Place as place
-use Rattle.array_form.proofs.Members.{member_append, append_left, append_right}
+use Rattle.array_form.proofs.Members.{append_left, append_right}
 use Rattle.array_form.proofs.Listing.{same_from, same_to}
 use Rattle.array_form.proofs.Room.{any_member}
-use Rattle.array_form.proofs.Below.{count_same}
 use Rattle.slice_form.specs.Path.{Path, Carry, Cast, Lift, Programmed}
-use Rattle.slice_form.specs.Slices.{any_below, is_some, is_input, is_unread, slice_stub, slice_homed, slice_columns}
+use Rattle.slice_form.specs.Slices.{any_below, is_some, is_input, is_unread, slice_stub, slice_homed}
 use Rattle.band_lists.specs.declared.pins.Pin.{Pin}
-use Rattle.band_lists.specs.Homed.{is_homed, is_unpinned, home_by}
-use Rattle.band_lists.specs.Pins.{pin, is_own, stub_pins}
-use Rattle.band_lists.proofs.NetPins.{own, read, beat, stub_pin_is, stub_pin_in}
+use Rattle.band_lists.specs.Homed.{is_unpinned}
+use Rattle.band_lists.specs.Pins.{pin, stub_pins}
+use Rattle.band_lists.proofs.NetPins.{own, read, beat, stub_pin_in}
 use Rattle.slice_form.proofs.Below.{below_any, below_member}
 use Rattle.slice_layout.specs.Pins.{slice_pins}
 use Rattle.slice_layout.proofs.Ends.{HasEnds, is_word, is_end, is_cast, is_program}

@@ -1,5 +1,5 @@
 //! What joins the bands of a path, by number, and the columns where that stands.
-#![tactic(auto, using(crate::proofs::Ends::map_long))]
+#![tactic(auto, using(mp_base::proofs::Lists::length_map))]
 
 ghost use Rattle.std.specs.Prelude.{◌≡◌, ◌<◌, ◌≤◌, ◌^◌, Some, cond, length, slice_get};
 ghost use Rattle.slice_form.specs.PathWires as wires;

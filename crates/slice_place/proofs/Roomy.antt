@@ -7,7 +7,7 @@ use Rattle.std.specs.List.{range_with_len}
 use Rattle.std.proofs.lemmas.List.{length-append}
 use Rattle.std.proofs.lemmas.List.FromFn.{length-range_with_len, length-map-range_with_len}
 use Rattle.mp_base.proofs.Ranges.{flat_count}
-use Rattle.mp_base.proofs.Lists.{filter_few}
+use Rattle.mp_base.proofs.Lists.{filter_few, length_map}
 use Rattle.fabric.specs.Plan.{Plan}
 use Rattle.fabric.specs.Room.{IsRoomy}
 use Rattle.nor_net.specs.declared.net.Phase.TheVariants.{A, B, C}
@@ -26,7 +26,6 @@ use Rattle.array_form.specs.Lists.{mark, upright}
 use Rattle.slice_laying.specs.Added.{slice_cols, slice_segments, slice_lines, slice_marks, joint_marks, with_slices}
 use Rattle.slice_laying.specs.Added.{trunk_taps, cast_taps, lift_taps, bit_tap, bit_marks, link_taps, chain_taps}
 use Rattle.slice_place.specs.Placed.{joints, HasSlicesSpace}
-use Rattle.slice_layout.proofs.Ends.{map_long}
 
 times_more : (n m : ℕ) → suc n * m ≡ m + n * m
 times_more n m = omega arith
@@ -59,7 +58,7 @@ module _ (p : Path) where
   lift_most : (i : ℕ) (q : Option Lift) → length (lift_lines p i q) ≤ 1 + w
   lift_most i None = omega arith
   lift_most i (Some l) =
-      let m = map_long (λ b. across_of p (lift_stub i b)) (others_of p l) in
+      let m = length_map (λ b. across_of p (lift_stub i b)) (others_of p l) in
       let o = others_most l in omega arith
 
   bit_most : (q : Option Programmed) → length (bit_lines p q) ≤ w * 2
@@ -101,7 +100,7 @@ module _ (p : Path) where
   lift_marks_most : (row : ℕ → ℕ) (i : ℕ) (q : Option Lift) → length (lift_taps p row i q) ≤ 1 + w
   lift_marks_most row i None = omega arith
   lift_marks_most row i (Some l) =
-      let m = map_long (λ b. mark TapR b (suc (row l.start)) (lift_column p i)) (others_of p l) in
+      let m = length_map (λ b. mark TapR b (suc (row l.start)) (lift_column p i)) (others_of p l) in
       let o = others_most l in omega (arith, m, o)
 
   bit_tap_most : (row : ℕ → ℕ) (b n c : ℕ) (q : Option Bool) → length (bit_tap row b n c q) ≤ 1

@@ -1,6 +1,6 @@
-use Rattle.std.proofs.Common.{◌≡◌, ◌+◌, ℕ, List, get_or, sym, subst, arith, refl}
+use Rattle.std.proofs.Common.{◌≡◌, ◌+◌, ℕ, get_or, sym, subst, arith, refl}
 use Rattle.std.specs.Prelude.{◌↔◌, Contains}
-use Rattle.mask_nodes.specs.Ends.{pair_of, IsListedAs, AreListed}
+use Rattle.mask_nodes.specs.Ends.{pair_of, AreListed}
 use Rattle.mask_nodes.proofs.ChannelsMade.{listed_none, listed_more}
 use Rattle.mask_nodes.proofs.channels.list_channels.Goals as goal
 

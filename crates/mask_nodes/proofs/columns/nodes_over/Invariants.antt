@@ -1,4 +1,4 @@
-use Rattle.std.proofs.Common.{◌≡◌, map, take, drop, get_or}
+use Rattle.std.proofs.Common.{◌≡◌, map, take, get_or}
 use Rattle.std.specs.Option.{option_map}
 use Rattle.mask_nodes.proofs.columns.nodes_over.Given as goal
 

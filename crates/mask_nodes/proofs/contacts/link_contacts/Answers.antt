@@ -1,4 +1,4 @@
-use Rattle.std.proofs.Common.{◌≡◌, ℕ, List, get_or, arith, subst₂, None, Option}
+use Rattle.std.proofs.Common.{ℕ, List, get_or, arith, subst₂, None, Option}
 use Rattle.std.proofs.lemmas.Option.{slice_get-get_or}
 use Rattle.region_sweep.specs.declared.tile.Tile.{Tile}
 use Rattle.mask_nodes.specs.Linking.{Gains, AreBoth}

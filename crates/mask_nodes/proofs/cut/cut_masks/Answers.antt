@@ -2,7 +2,7 @@ use Rattle.std.proofs.Common.{◌≡◌, sym, subst, map}
 use Rattle.std.specs.Prelude.{AllPairs}
 use Rattle.lam_geom.specs.declared.layer.Layer.TheVariants.{NM, NP, ND}
 use Rattle.region_sweep.specs.Tiles.{Before}
-use Rattle.mask_nodes.specs.Pieces.{AreCutUp, AreOfTiles, AreNumbersOf}
+use Rattle.mask_nodes.specs.Pieces.{AreOfTiles, AreNumbersOf}
 use Rattle.mask_nodes.specs.Linking.{over}
 use Rattle.mask_nodes.proofs.CutLemmas.{cut_same}
 use Rattle.mask_nodes.proofs.cut.cut_masks.Goals as goal

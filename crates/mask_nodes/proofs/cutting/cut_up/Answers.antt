@@ -1,4 +1,4 @@
-use Rattle.std.proofs.Common.{◌≡◌, subst, subst₂, sym, ◌≢◌, ◌⊎◌, ℕ}
+use Rattle.std.proofs.Common.{subst, subst₂, sym, ◌≢◌, ◌⊎◌}
 use Rattle.std.specs.Prelude.{AllPairs, ◌↔◌, Contains, IfOk}
 use Rattle.mask_nodes.specs.declared.piece.Piece.{Piece}
 use Rattle.lam_geom.specs.declared.layer.Layer.TheVariants.{ND, NP, NM}

@@ -1,9 +1,9 @@
-use Rattle.std.proofs.Common.{◌≡◌, ◌≢◌, ◌+◌, ◌<◌, ℕ, List, length, get_or, sym, subst, arith, refl, ◌∙◌}
+use Rattle.std.proofs.Common.{◌≢◌, ◌+◌, ◌<◌, ℕ, List, length, get_or, sym, subst, arith, refl, ◌∙◌}
 use Rattle.std.specs.Prelude.{◌↔◌, Contains}
 use Rattle.std.proofs.lemmas.List.Filters.{dedup_is}
 use Rattle.union_find.specs.declared.pair.Pair.{Pair}
 use Rattle.mask_nodes.specs.Ends.{pair_of}
-use Rattle.mask_nodes.proofs.Ending.{AreTaken, AreAllTaken, taken_none, taken_more, all_taken, nodes_rise, nodes_same}
+use Rattle.mask_nodes.proofs.Ending.{AreTaken, taken_none, taken_more, all_taken, nodes_rise, nodes_same}
 use Rattle.mask_nodes.proofs.ends.take_ends.Goals as goal
 use Rattle.mask_nodes.proofs.ends.take_ends.Goals.{then-loop-place-test+else-ends-place, else-loop-place-test}
 

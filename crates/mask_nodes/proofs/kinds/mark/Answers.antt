@@ -1,4 +1,4 @@
-use Rattle.std.proofs.Common.{◌≡◌, ◌≢◌, ℕ, List, ◌+◌, get_or, set, true, ap, sym, subst, rules, refl, arith}
+use Rattle.std.proofs.Common.{◌≡◌, ◌≢◌, ℕ, List, ◌+◌, get_or, set, true, ap, sym, subst, rules, refl}
 use Rattle.std.proofs.lemmas.Option.{slice_get-get_or}
 use Rattle.mask_nodes.specs.declared.piece.Piece.{Piece}
 use Rattle.mask_nodes.specs.Pieces.{no_piece}

@@ -1,4 +1,4 @@
-use Rattle.std.proofs.Common.{◌≡◌, ◌<◌, ◌∙◌, sym, subst, arith, length, All, ℕ}
+use Rattle.std.proofs.Common.{◌<◌, sym, subst, arith, length, All}
 use Rattle.std.proofs.lemmas.Option.{slice_get_within}
 use Rattle.mp_base.proofs.Entries.{contains_from_get}
 use Rattle.mask_nodes.specs.Pieces.{AreNumbersOf}

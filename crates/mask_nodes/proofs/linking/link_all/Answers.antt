@@ -1,4 +1,3 @@
-use Rattle.std.proofs.Common.{◌≡◌}
 use Rattle.mask_nodes.proofs.Gaining.{touch_same, contact_same, all_links}
 use Rattle.mask_nodes.proofs.linking.link_all.Goals as goal
 

@@ -1,5 +1,5 @@
-use Rattle.std.proofs.Common.{◌≡◌, ◌≢◌, ℕ, ◌+◌, ◌<◌, ◌≤◌, List, [], ◌∷◌, ◌++◌, length, get_or, sym, ◌∙◌, ap, subst}
-use Rattle.std.proofs.Common.{subst₂, rules, refl, arith}
+use Rattle.std.proofs.Common.{◌≡◌, ◌≢◌, ℕ, ◌+◌, List, [], ◌∷◌, ◌++◌, get_or, sym, ◌∙◌, ap}
+use Rattle.std.proofs.Common.{subst₂, arith}
 use Rattle.std.proofs.lemmas.List.{get_or_default}
 use Rattle.mp_base.proofs.Tests.{same_bool}
 use Rattle.std.proofs.lemmas.Bool.{not-true, not-false}

@@ -1,4 +1,4 @@
-use Rattle.std.proofs.Common.{◌≡◌, ◌≢◌, ap, subst, sym, ◌∙◌, rules, set, ◌<◌, length, arith, ◌+◌, ℕ, List, get_or}
+use Rattle.std.proofs.Common.{◌≡◌, ◌≢◌, ap, subst, sym, rules, set, ◌<◌, arith, ◌+◌, ℕ, List, get_or}
 use Rattle.std.proofs.lemmas.Option.{slice_get-get_or}
 use Rattle.mask_nodes.specs.declared.piece.Piece.{Piece}
 use Rattle.mask_nodes.specs.Pieces.{no_piece, AreTileNumbers}

@@ -1,4 +1,4 @@
-use Rattle.std.proofs.Common.{◌≡◌, ◌≢◌, ℕ, ◌+◌, List, [], ◌∷◌, ◌++◌, get_or, sym, ◌∙◌, subst, rules, refl}
+use Rattle.std.proofs.Common.{◌≡◌, ◌≢◌, ℕ, ◌+◌, List, [], ◌∷◌, ◌++◌, get_or, sym, ◌∙◌, subst, refl}
 use Rattle.std.proofs.lemmas.Option.{slice_get-get_or}
 use Rattle.mp_base.proofs.Tests.{same_bool}
 use Rattle.union_find.specs.declared.pair.Pair.{Pair}

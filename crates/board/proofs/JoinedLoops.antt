@@ -1,4 +1,4 @@
--- Loops that go on.
+-- A loop and another from its end, and loops of as many clocks as are asked for.
 use Rattle.std.proofs.Common.{◌≡◌, ◌∙◌, ℕ, zero, suc, ◌+◌, List, [], ◌∷◌, ◌++◌, length, refl, sym, ap, subst, arith}
 use Rattle.mp_base.specs.declared.value.Trit.{Trit}
 use Rattle.transcript.specs.Transcript.{RunsAlong}
