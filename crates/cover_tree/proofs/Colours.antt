@@ -1,41 +1,67 @@
 -- The colours of all sets of layers, by the bits of numbers.
-use Rattle.std.proofs.Common.{◌≡◌, ℕ, ◌+◌, ◌-◌, ◌*◌, ◌/◌, ◌%◌, ◌^◌, ◌<◌, ◌↔◌, inl, inr, Bool, true, false, refl, sym}
-use Rattle.std.proofs.Common.{◌∙◌, arith, bit_and, bit_or, bit_xor, min, max, w32}
-use Rattle.std.specs.Prelude.{◌||◌, ◌&&◌, not, if◌then◌else◌}
+use Rattle.std.proofs.Common.{◌≡◌, ℕ, ◌+◌, ◌-◌, ◌*◌, ◌/◌, ◌%◌, ◌^◌, ◌<◌, ◌↔◌, inl, inr, Bool, true, false, zero, suc}
+use Rattle.std.proofs.Common.{refl, sym, ap, ◌∙◌, arith, bit_and, bit_or, bit_xor, min, max, w32}
+use Rattle.std.specs.Prelude.{◌||◌, ◌&&◌, ◌==◌, not, nat_lt, if◌then◌else◌}
 use Rattle.std.specs.Int.{bit_at, bit_not}
-use Rattle.std.proofs.lemmas.Bool.{cases_eq}
+use Rattle.std.proofs.lemmas.Bool.{cases_eq, eqb-true, agree_below, agree_below_at}
 use Rattle.std.proofs.lemmas.Nat.{and_le_l}
 use Rattle.std.proofs.lemmas.Nat.Bits.{bit_at_and, bit_at_or, bit_at_xor, bit_at_not, bit_at-lt, bit_at-zero}
+use Rattle.lam_geom.specs.declared.layer.Layer.TheVariants.{NC, NG}
 use Rattle.mask_runs.specs.declared.mask.Layers.{Layers}
 use Rattle.mask_runs.specs.declared.mask.Mask.{Mask}
-use Rattle.mask_runs.specs.declared.mask.Mask.TheVariants.{Diffusion, Contacts}
+use Rattle.mask_runs.specs.declared.mask.Mask.TheVariants.{Only, Diffusion, Contacts}
 use Rattle.mask_runs.specs.Colours.{has, colour_of}
 use Rattle.cover_tree.specs.declared.kinds.Kinds.{Kinds}
+use Rattle.cover_tree.specs.declared.layer_set.LayerSet.{LayerSet}
+use Rattle.cover_tree.specs.declared.node.Tops.{Tops}
 use Rattle.cover_tree.specs.declared.planes.Holders.{Holders}
 use Rattle.cover_tree.specs.declared.planes.Planes.{Planes}
-use Rattle.cover_tree.specs.Kinds.{bit, both, further as further_layer, index, AreOneColour, Keeps, Share}
+use Rattle.cover_tree.specs.Nodes.{above}
+use Rattle.cover_tree.specs.Kinds.{bit, further as further_layer, index, set_colour, union, AreOneColour, Keeps, Share}
 use Rattle.cover_tree.specs.Planes.{AreLayersAt, colour_at}
-use Rattle.cover_tree.proofs.Sets.{same_for_five, place, nd_sets, np_sets, nb_sets, further_sets, nm_sets, at_kinds}
+use Rattle.cover_tree.proofs.Sets.{same_for_five, nd_sets, np_sets, nb_sets, further_sets, nm_sets, at_kinds}
 
--- the sets that have a layer, by the digits of their numbers
-pub at_nd : (a b c d e : Bool) → bit_at nd_sets (place a b c d e) ≡ bit a
-at_nd = same_for_five (λ a b c d e. bit_at nd_sets (place a b c d e)) (λ a b c d e. bit a) refl
+-- the sets that have a layer, by the bits of their numbers
+same_below : (f g : ℕ → ℕ) → agree_below (λ i. f i == g i) (λ _. true) 32 ≡ true → (i : ℕ) → i < 32 → f i ≡ g i
+same_below f g h i l = eqb-true _ _ (agree_below_at (λ i. f i == g i) (λ _. true) 32 i h l)
 
-pub at_np : (a b c d e : Bool) → bit_at np_sets (place a b c d e) ≡ bit b
-at_np = same_for_five (λ a b c d e. bit_at np_sets (place a b c d e)) (λ a b c d e. bit b) refl
+pub at_nd : (n : ℕ) → bit_at nd_sets (n % 32) ≡ n / 1 % 2
+at_nd n = same_below (bit_at nd_sets) (λ i. i / 1 % 2) refl (n % 32) (omega arith) ∙ omega arith
 
-pub at_nb : (a b c d e : Bool) → bit_at nb_sets (place a b c d e) ≡ bit c
-at_nb = same_for_five (λ a b c d e. bit_at nb_sets (place a b c d e)) (λ a b c d e. bit c) refl
+pub at_np : (n : ℕ) → bit_at np_sets (n % 32) ≡ n / 2 % 2
+at_np n = same_below (bit_at np_sets) (λ i. i / 2 % 2) refl (n % 32) (omega arith) ∙ omega arith
 
-pub at_further : (a b c d e : Bool) → bit_at further_sets (place a b c d e) ≡ bit d
-at_further = same_for_five (λ a b c d e. bit_at further_sets (place a b c d e)) (λ a b c d e. bit d) refl
+pub at_nb : (n : ℕ) → bit_at nb_sets (n % 32) ≡ n / 4 % 2
+at_nb n = same_below (bit_at nb_sets) (λ i. i / 4 % 2) refl (n % 32) (omega arith) ∙ omega arith
 
-pub at_nm : (a b c d e : Bool) → bit_at nm_sets (place a b c d e) ≡ bit e
-at_nm = same_for_five (λ a b c d e. bit_at nm_sets (place a b c d e)) (λ a b c d e. bit e) refl
+pub at_further : (n : ℕ) → bit_at further_sets (n % 32) ≡ n / 8 % 2
+at_further n = same_below (bit_at further_sets) (λ i. i / 8 % 2) refl (n % 32) (omega arith) ∙ omega arith
 
-pub known_bit : (known own : Bool) (n : ℕ) → n ≡ bit own → (if known then 1 else n) ≡ bit (known || own)
-known_bit true own n e = refl
-known_bit false own n e = e
+pub at_nm : (n : ℕ) → bit_at nm_sets (n % 32) ≡ n / 16 % 2
+at_nm n = same_below (bit_at nm_sets) (λ i. i / 16 % 2) refl (n % 32) (omega arith) ∙ omega arith
+
+-- a known layer besides
+known_digit : (a b n k : ℕ) → a < 2 → b < 2 → n ≡ max a b → k ≡ b → (if a == 1 then 1 else k) ≡ bit (nat_lt 0 n)
+known_digit zero zero n k h l e f = f ∙ ap (λ n. bit (nat_lt 0 n)) (sym e)
+known_digit zero (suc zero) n k h l e f = f ∙ ap (λ n. bit (nat_lt 0 n)) (sym e)
+known_digit (suc zero) zero n k h l e f = ap (λ n. bit (nat_lt 0 n)) (sym e)
+known_digit (suc zero) (suc zero) n k h l e f = ap (λ n. bit (nat_lt 0 n)) (sym e)
+known_digit zero (suc (suc b)) n k h l e f = absurd (omega arith)
+known_digit (suc zero) (suc (suc b)) n k h l e f = absurd (omega arith)
+known_digit (suc (suc a)) b n k h l e f = absurd (omega arith)
+
+pub known_bit : (known s i k : ℕ) → k ≡ bit_at s i
+    → (if bit_at known i == 1 then 1 else k) ≡ bit (nat_lt 0 (bit_at (bit_or known s) i))
+known_bit known s i k e =
+    known_digit (bit_at known i) (bit_at s i) _ k (bit_at-lt known i) (bit_at-lt s i) (bit_at_or known s i) e
+
+pub has_further : (mask : Mask) (t : Tops) (row : ℕ)
+    → has (above (further_layer mask) t row) (further_layer mask) ≡ nat_lt row t.further
+has_further (Only NC) t row = refl
+has_further (Only NG) t row = refl
+has_further (Only _) t row = refl
+has_further Diffusion t row = refl
+has_further Contacts t row = refl
 
 -- a number's bit at a place
 record Says (n i : ℕ) (b : Bool) : Type 0 where
@@ -190,8 +216,8 @@ module _ (p q : Planes) (i : ℕ) where
       )
 
 -- the colours of all sets with these layers
-abbrev pub AreColours : Mask → Layers → Planes → Type 0
-AreColours mask known p = (s : Layers) → colour_of mask (both known s) ≡ colour_at p (index mask s)
+abbrev pub AreColours : Mask → LayerSet → Planes → Type 0
+AreColours mask known p = (s : LayerSet) → set_colour mask (union known s) ≡ colour_at p (index s)
 
 digits_of : (p : Planes) (i k : ℕ) → colour_at p i ≡ k
     → (bit_at p.low i ≡ k % 2) × (bit_at p.middle i ≡ k / 2 % 2) × (bit_at p.high i ≡ k / 4)
@@ -202,10 +228,10 @@ digits_of p i k e =
     (omega arith, omega arith, omega arith)
 
 module _ (mask : Mask) (kinds : Kinds) (small : kinds.bits < 2 ^ 32) where
-  module _ (known : Layers) (p : Planes) (h : AreColours mask known p) (k : ℕ)
+  module _ (known : LayerSet) (p : Planes) (h : AreColours mask known p) (k : ℕ)
       (one : AreOneColour mask kinds known k) where
     at_kind : (i : ℕ) → bit_at kinds.bits i ≡ 1 → colour_at p i ≡ k
-    at_kind = at_kinds mask kinds (λ i. colour_at p i ≡ k) small (λ s e. sym (h s) ∙ one.each s e)
+    at_kind = at_kinds kinds (λ i. colour_at p i ≡ k) small (λ s e. sym (h s) ∙ one.each s e)
 
     pub low_shared : Share kinds p.low (k % 2)
     low_shared = record { each = λ i e. (digits_of p i k (at_kind i e)).0 }
@@ -216,20 +242,20 @@ module _ (mask : Mask) (kinds : Kinds) (small : kinds.bits < 2 ^ 32) where
     pub high_shared : Share kinds p.high (k / 4)
     high_shared = record { each = λ i e. (digits_of p i k (at_kind i e)).2 }
 
-  module _ (old new : Layers) (p q : Planes) (differing : ℕ) (h : AreColours mask old p) (j : AreColours mask new q)
+  module _ (old new : LayerSet) (p q : Planes) (differing : ℕ) (h : AreColours mask old p) (j : AreColours mask new q)
       (d : (i : ℕ) → (bit_at differing i ≡ 0) ↔ (colour_at p i ≡ colour_at q i)) where
     pub none_differ : Keeps mask kinds old new true → Share kinds differing 0
     none_differ k = record {
-      each = at_kinds mask kinds (λ i. bit_at differing i ≡ 0) small
-          (λ s e. (d (index mask s)).1 (sym (h s) ∙ k.each s e ∙ j s));
+      each = at_kinds kinds (λ i. bit_at differing i ≡ 0) small
+          (λ s e. (d (index s)).1 (sym (h s) ∙ k.each s e ∙ j s));
     }
 
     pub all_differ : Keeps mask kinds old new false → Share kinds differing 1
     all_differ k = record {
-      each = at_kinds mask kinds (λ i. bit_at differing i ≡ 1) small (λ s e.
-          let l = bit_at-lt differing (index mask s) in
-          elim (cases_eq (bit_at differing (index mask s)) 0) [
-            | inl f ↦ absurd (k.each s e (h s ∙ (d (index mask s)).0 f ∙ sym (j s)))
+      each = at_kinds kinds (λ i. bit_at differing i ≡ 1) small (λ s e.
+          let l = bit_at-lt differing (index s) in
+          elim (cases_eq (bit_at differing (index s)) 0) [
+            | inl f ↦ absurd (k.each s e (h s ∙ (d (index s)).0 f ∙ sym (j s)))
             | inr f ↦ omega arith
           ]);
     }

@@ -17,7 +17,7 @@ use Rattle.cover_tree.specs.declared.span.Span.{Span}
 use Rattle.cover_tree.specs.declared.trees.Trees.{Trees}
 use Rattle.cover_tree.specs.Covers.{IsBare, IsRaised, row_colour}
 use Rattle.cover_tree.specs.Parts.{top_at, root, left_half, right_half, top_to, top_of, IsPartRaised}
-use Rattle.cover_tree.specs.Nodes.{layer_top, no_tops, no_layers, set_tops, blank}
+use Rattle.cover_tree.specs.Nodes.{layer_top, layers_of, no_tops, no_layers, set_tops, blank}
 use Rattle.cover_tree.specs.Layered.{node_at, tree, told_tree, cover}
 use Rattle.cover_tree.specs.Kinds.{HasKind}
 use Rattle.cover_tree.specs.Looking.{is_seen, seen_by, told, part_colour}
@@ -55,11 +55,23 @@ bare_layers tree f row p c = λ j. record {
   ng = bare_seen (tree NG) row p c (f NG) j;
 }
 
-bare_note : (mask : Mask) (t : Trees) → AreBare t → (n : Note) → HasKind mask n.kinds bare → (q : Part)
-    → IsNoted mask t q n
-bare_note mask t f n k q = record {
+pub no_layer : (other : Layer) → layers_of other no_layers ≡ bare
+no_layer ND = refl
+no_layer NP = refl
+no_layer NC = refl
+no_layer NM = refl
+no_layer NI = refl
+no_layer NB = refl
+no_layer NG = refl
+
+bare_note : (t : Trees) → AreBare t → (n : Note) → HasKind n.kinds no_layers → (q : Part) → IsNoted t q n
+bare_note t f n k q = record {
   steady = λ row c i j h. bare_layers (tree t) f row q c ∙ sym (bare_layers (tree t) f t.since q c);
-  kinds = λ c i h. rw (bare_layers (tree t) f t.since q c) k;
+  kinds = λ c i h. ∣ record {
+    kind = no_layers;
+    has = k;
+    same = bare_layers (tree t) f t.since q c ∙ sym (no_layer t.further);
+  } ∣₁;
 }
 
 pub bare_colour : (mask : Mask) → colour_of mask bare ≡ 0
@@ -105,11 +117,11 @@ module _ (t : Trees) (count : ℕ) (n : Note)
   told_bare p c = bare_layers (told_tree t)
       (λ l k. told_top t l k ∙ ap (λ s. layer_top l t.further (set_tops s)) (new_told k) ∙ no_top l t.further) 0 p c
 
-  pub new_noted : (mask : Mask) → HasKind mask n.kinds bare → (p : Part) → AreNoted mask t p
-  new_noted mask k p = record {
+  pub new_noted : HasKind n.kinds no_layers → (p : Part) → AreNoted t p
+  new_noted k p = record {
     each = λ q w. elim (cases_lt q.at count) [
-      | inl h ↦ subst (λ m. IsNoted mask t q m.note) (sym (node_in q.at h)) (bare_note mask t new_bare n k q)
-      | inr h ↦ subst (λ m. IsNoted mask t q m.note) (sym (node_out q.at h)) (stale_note mask t q)
+      | inl h ↦ subst (λ m. IsNoted t q m.note) (sym (node_in q.at h)) (bare_note t new_bare n k q)
+      | inr h ↦ subst (λ m. IsNoted t q m.note) (sym (node_out q.at h)) (stale_note t q)
     ];
     told = λ q w l. record { each = λ c i. told_bare q c ∙ sym (bare_layers (tree t) new_bare t.since q c) };
   }

@@ -12,7 +12,7 @@ use Rattle.cover_tree.specs.Looking.{own_by, is_seen, seen_by, IsHandedDown}
 use Rattle.cover_tree.proofs.Tops.{top_leaf, top_left, top_right}
 
 -- a row that lies below one of two tops lies below the greater
-joint_tests : (known : Bool) (row own t u : ℕ) → u ≡ max own t
+pub joint_tests : (known : Bool) (row own t u : ℕ) → u ≡ max own t
     → (known || nat_lt row u) ≡ ((known || nat_lt row own) || nat_lt row t)
 joint_tests true row own t u e = refl
 joint_tests false row own t u e = elim (cases_lt row u) [

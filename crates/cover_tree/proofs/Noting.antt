@@ -1,10 +1,10 @@
 -- Notes, as the trees change.
 use Rattle.std.proofs.Common.{◌≡◌, ◌≢◌, ℕ, ◌+◌, ◌*◌, ◌/◌, ◌<◌, ◌≤◌, inl, inr, List, set, length, refl, sym, ◌∙◌, ap}
 use Rattle.std.proofs.Common.{arith}
+use Rattle.std.proofs.Math.Logic.{∥∥₁_map}
 use Rattle.std.proofs.lemmas.Bool.{cases_lt}
 use Rattle.lam_geom.specs.declared.layer.Layer.{Layer}
 use Rattle.mask_runs.specs.declared.mask.Layers.{Layers}
-use Rattle.mask_runs.specs.declared.mask.Mask.{Mask}
 use Rattle.mask_runs.specs.Colours.{bare}
 use Rattle.cover_tree.specs.declared.node.Node.{Node}
 use Rattle.cover_tree.specs.declared.note.Note.{Note}
@@ -12,13 +12,15 @@ use Rattle.cover_tree.specs.declared.part.Part.{Part}
 use Rattle.cover_tree.specs.declared.trees.Trees.{Trees}
 use Rattle.cover_tree.specs.Parts.{left_half, right_half, top_of, InPart, Within}
 use Rattle.cover_tree.specs.Parts.Within.{here, left, right}
-use Rattle.cover_tree.specs.Kinds.{both, HasKind}
+use Rattle.cover_tree.specs.declared.layer_set.LayerSet.{LayerSet}
+use Rattle.cover_tree.specs.Kinds.{both, union, HasKind}
 use Rattle.cover_tree.specs.Nodes.{layer_top, layers_of, set_tops, stale}
 use Rattle.cover_tree.specs.Layered.{tree, told_tree, node_at}
 use Rattle.cover_tree.specs.Looking.{seen_by, seen, told, own_by, own_at, told_at}
 use Rattle.cover_tree.specs.Notes.{note_at, IsNoted, IsTold, AreNoted, AreHalvesNoted, AreHalvesTold, Beside, IsOnlyIn}
 use Rattle.cover_tree.proofs.Nodes.{node_top, told_top, told_above, tree_same, node_other, node_own, as_many}
 use Rattle.cover_tree.proofs.Tops.{SamePart, same_top}
+use Rattle.cover_tree.proofs.Sets.{layers_union}
 use Rattle.cover_tree.proofs.Looking.{seen_leaf, seen_left, seen_right, seen_alike}
 
 pub beside_own : (p : Part) (k at : ℕ) → 0 < p.width → p.at ≡ at → Beside p k → k ≢ at
@@ -74,13 +76,17 @@ pub told_same : (p : Part) (t u : Trees) → 0 < p.width → SameIn p t u → (k
     → told u p known c ≡ told t p known c
 told_same p t u v e known c = part_same (told_tree t) (told_tree u) p v (same_told p t u e) 0 known c
 
-noted_alike : (mask : Mask) (p : Part) (t u : Trees) (n : Note)
-    → ((row c : ℕ) → seen u row p bare c ≡ seen t row p bare c) → u.since ≡ t.since
-    → IsNoted mask t p n → IsNoted mask u p n
-noted_alike mask p t u n e f h = record {
+noted_alike : (p : Part) (t u : Trees) (n : Note)
+    → ((row c : ℕ) → seen u row p bare c ≡ seen t row p bare c) → u.since ≡ t.since → u.further ≡ t.further
+    → IsNoted t p n → IsNoted u p n
+noted_alike p t u n e f g h = record {
   steady =
       λ row c i j k. rw (f, e row c, e t.since c) (h.steady row c (omega (arith, f)) j k);
-  kinds = λ c j k. rw (f, e t.since c) (h.kinds c (omega (arith, f)) k);
+  kinds = λ c j k. ∥∥₁_map (h.kinds c (omega (arith, f)) k) (λ q. record {
+    kind = q.kind;
+    has = q.has;
+    same = ap (λ r. seen u r p bare c) f ∙ e t.since c ∙ q.same ∙ ap (λ l. layers_of l q.kind) (sym g);
+  });
 }
 
 pub is_told_same : (p : Part) (t u : Trees) → 0 < p.width → SameIn p t u → IsTold t p → IsTold u p
@@ -89,16 +95,16 @@ is_told_same p t u v e h = record {
       ∙ ap (λ r. seen u r p bare c) (sym e.since);
 }
 
-pub are_noted_same : (mask : Mask) (p : Part) (t u : Trees) → 0 < p.width → SameIn p t u → AreNoted mask t p
-    → AreNoted mask u p
-are_noted_same mask p t u v e h = record {
+pub are_noted_same : (p : Part) (t u : Trees) → 0 < p.width → SameIn p t u → AreNoted t p
+    → AreNoted u p
+are_noted_same p t u v e h = record {
   each = λ q w.
       let m = in_within q p t u v w e in
       let n = m.0 in
       let o : SameIn q t u = m.1 in
       let e : note_at u q.at ≡ note_at t q.at = ap (λ m. m.note) (o.nodes q.at (omega arith) (omega arith)) in
       rw e
-      (noted_alike mask q t u (note_at t q.at) (λ row c. seen_same q t u n o row bare c) o.since (h.each q w));
+      (noted_alike q t u (note_at t q.at) (λ row c. seen_same q t u n o row bare c) o.since o.further (h.each q w));
   told = λ q w l.
       let m = in_within q p t u v w e in
       let n = m.0 in
@@ -107,16 +113,16 @@ are_noted_same mask p t u v e h = record {
       is_told_same q t u n o (h.told q w (rw (e, o.since) at l));
 }
 
-pub noted_left : (mask : Mask) (t : Trees) (p : Part) → 2 ≤ p.width → AreNoted mask t p → AreNoted mask t (left_half p)
-noted_left mask t p h k = record { each = λ q w. k.each q (left h w); told = λ q w. k.told q (left h w) }
+pub noted_left : (t : Trees) (p : Part) → 2 ≤ p.width → AreNoted t p → AreNoted t (left_half p)
+noted_left t p h k = record { each = λ q w. k.each q (left h w); told = λ q w. k.told q (left h w) }
 
-pub noted_right : (mask : Mask) (t : Trees) (p : Part) → 2 ≤ p.width → AreNoted mask t p
-    → AreNoted mask t (right_half p)
-noted_right mask t p h k = record { each = λ q w. k.each q (right h w); told = λ q w. k.told q (right h w) }
+pub noted_right : (t : Trees) (p : Part) → 2 ≤ p.width → AreNoted t p
+    → AreNoted t (right_half p)
+noted_right t p h k = record { each = λ q w. k.each q (right h w); told = λ q w. k.told q (right h w) }
 
-module _ (mask : Mask) (t : Trees) (p : Part) (a : IsNoted mask t p (note_at t p.at))
-    (b : t.since < (note_at t p.at).until → IsTold t p) (h : AreHalvesNoted mask t p) where
-  whole : (q : Part) → Within q p → IsNoted mask t q (note_at t q.at)
+module _ (t : Trees) (p : Part) (a : IsNoted t p (note_at t p.at))
+    (b : t.since < (note_at t p.at).until → IsTold t p) (h : AreHalvesNoted t p) where
+  whole : (q : Part) → Within q p → IsNoted t q (note_at t q.at)
   whole q here = a
   whole q (left i w) = (h.left i).each q w
   whole q (right i w) = (h.right i).each q w
@@ -126,8 +132,15 @@ module _ (mask : Mask) (t : Trees) (p : Part) (a : IsNoted mask t p (note_at t p
   whole_told q (left i w) = (h.left i).told q w
   whole_told q (right i w) = (h.right i).told q w
 
-  pub noted_whole : AreNoted mask t p
+  pub noted_whole : AreNoted t p
   noted_whole = record { each = whole; told = whole_told }
+
+-- the layers of a node stay while the tops do
+pub own_same : (t u : Trees) (own : LayerSet) (k : ℕ) → u.further ≡ t.further → u.since ≡ t.since
+    → ((l : Layer) → tree u l ≡ tree t l) → layers_of t.further own ≡ own_at t t.since k
+    → layers_of u.further own ≡ own_at u u.since k
+own_same t u own k further since tops e =
+    ap (λ l. layers_of l own) further ∙ e ∙ (λ i. own_by (λ l. sym (tops l) i) (sym since i) k)
 
 -- a part is told, by its own node and its halves
 pub told_whole : (t : Trees) (p : Part) → told_at t p.at ≡ own_at t t.since p.at → AreHalvesTold t p → IsTold t p
@@ -170,11 +183,11 @@ module _ (t u : Trees) (p : Part) (n : Node) (v : 0 < p.width) (i : p.at < lengt
     since = since;
   }
 
-  halves_anew : (mask : Mask) → AreHalvesNoted mask t p → AreHalvesNoted mask u p
-  halves_anew mask a = record {
-    left = λ w. are_noted_same mask (left_half p) t u (omega arith) (same_behind (left_half p) (omega arith))
+  halves_anew : AreHalvesNoted t p → AreHalvesNoted u p
+  halves_anew a = record {
+    left = λ w. are_noted_same (left_half p) t u (omega arith) (same_behind (left_half p) (omega arith))
         (a.left w);
-    right = λ w. are_noted_same mask (right_half p) t u (omega arith) (same_behind (right_half p) (omega arith))
+    right = λ w. are_noted_same (right_half p) t u (omega arith) (same_behind (right_half p) (omega arith))
         (a.right w);
   }
 
@@ -190,11 +203,11 @@ module _ (t u : Trees) (p : Part) (n : Node) (v : 0 < p.width) (i : p.at < lengt
       })
 
   -- and noted anew over its halves
-  pub noted_anew : (mask : Mask) → IsNoted mask t p n.note → (t.since < n.note.until → IsTold u p)
-      → AreHalvesNoted mask t p → AreNoted mask u p
-  noted_anew mask h b a = noted_whole mask u p
-      (rw own_note (noted_alike mask p t u n.note (λ row c. anew_seen p row bare c) since h))
-      (λ l. b (rw (own_note, since) at l)) (halves_anew mask a)
+  pub noted_anew : IsNoted t p n.note → (t.since < n.note.until → IsTold u p)
+      → AreHalvesNoted t p → AreNoted u p
+  noted_anew h b a = noted_whole u p
+      (rw own_note (noted_alike p t u n.note (λ row c. anew_seen p row bare c) since further h))
+      (λ l. b (rw (own_note, since) at l)) (halves_anew a)
 
   pub anew_only : IsOnlyIn p t u
   anew_only = record {
@@ -205,13 +218,13 @@ module _ (t u : Trees) (p : Part) (n : Node) (v : 0 < p.width) (i : p.at < lengt
   }
 
 -- a note of no row is true
-pub stale_note : (mask : Mask) (t : Trees) (q : Part) → IsNoted mask t q stale
-stale_note mask t q = record { steady = λ row c i j h. absurd (omega arith); kinds = λ c i h. absurd (omega arith) }
+pub stale_note : (t : Trees) (q : Part) → IsNoted t q stale
+stale_note t q = record { steady = λ row c i j h. absurd (omega arith); kinds = λ c i h. absurd (omega arith) }
 
 -- the notes hold from a later row on
-pub later : (mask : Mask) (t : Trees) (p : Part) (row : ℕ) → t.since ≤ row → AreNoted mask t p
-    → AreNoted mask (record t { since = row }) p
-later mask t p row l h = record {
+pub later : (t : Trees) (p : Part) (row : ℕ) → t.since ≤ row → AreNoted t p
+    → AreNoted (record t { since = row }) p
+later t p row l h = record {
   each = λ q w. let n = h.each q w in record {
     steady = λ r c i j k. n.steady r c (omega arith) j k ∙ sym (n.steady row c l (omega arith) k);
     kinds = λ c i k. rw (n.steady row c l i k) (n.kinds c (omega arith) k);
@@ -222,42 +235,51 @@ later mask t p row l h = record {
 }
 
 -- a note by the nodes of the part alone, and by the notes of its halves
-pub leaf_noted : (mask : Mask) (t : Trees) (p : Part) (n : Note) → p.width < 2
-    → ((row : ℕ) → t.since ≤ row → row < n.until → own_at t row p.at ≡ own_at t t.since p.at)
-    → HasKind mask n.kinds (own_at t t.since p.at) → IsNoted mask t p n
-leaf_noted mask t p n h s k = record {
-  steady = λ row c i j m. seen_leaf (tree t) p row bare c h ∙ s row i j ∙ sym (seen_leaf (tree t) p t.since bare c h);
-  kinds = λ c j m. rw (seen_leaf (tree t) p t.since bare c h) k;
-}
+module _ (t : Trees) (p : Part) (n : Note) (own : LayerSet)
+    (e : layers_of t.further own ≡ own_at t t.since p.at)
+    (s : (row : ℕ) → t.since ≤ row → row < n.until → own_at t row p.at ≡ own_at t t.since p.at) where
+  pub leaf_noted : p.width < 2 → HasKind n.kinds own → IsNoted t p n
+  leaf_noted h k = record {
+    steady = λ row c i j m. seen_leaf (tree t) p row bare c h ∙ s row i j ∙ sym (seen_leaf (tree t) p t.since bare c h);
+    kinds = λ c j m. ∣ record { kind = own; has = k; same = seen_leaf (tree t) p t.since bare c h ∙ sym e } ∣₁;
+  }
 
-pub halves_note : (mask : Mask) (t : Trees) (p : Part) (n l r : Note) → 2 ≤ p.width
-    → ((row : ℕ) → t.since ≤ row → row < n.until → own_at t row p.at ≡ own_at t t.since p.at)
-    → IsNoted mask t (left_half p) l → IsNoted mask t (right_half p) r
-    → n.until ≤ l.until → n.until ≤ r.until
-    → ((s : Layers) → HasKind mask l.kinds s → HasKind mask n.kinds (both (own_at t t.since p.at) s))
-    → ((s : Layers) → HasKind mask r.kinds s → HasKind mask n.kinds (both (own_at t t.since p.at) s))
-    → IsNoted mask t p n
-halves_note mask t p n l r h s a b i j k m = record {
-  steady = λ row c x y z. let z0 = z.from in let z1 = z.to in elim (cases_lt c (p.base + p.width / 2)) [
-    | inl w ↦
-        let o : InPart (left_half p) c = record { from = omega arith; to = omega arith } in
-        seen_left (tree t) p row bare c h w ∙ ap (λ own. both own (seen t row (left_half p) bare c)) (s row x y)
-        ∙ ap (both (own_at t t.since p.at)) (a.steady row c x (omega arith) o)
-        ∙ sym (seen_left (tree t) p t.since bare c h w)
-    | inr w ↦
-        let o : InPart (right_half p) c = record { from = omega arith; to = omega arith } in
-        seen_right (tree t) p row bare c h w ∙ ap (λ own. both own (seen t row (right_half p) bare c)) (s row x y)
-        ∙ ap (both (own_at t t.since p.at)) (b.steady row c x (omega arith) o)
-        ∙ sym (seen_right (tree t) p t.since bare c h w)
-  ];
-  kinds = λ c y z. let z0 = z.from in let z1 = z.to in elim (cases_lt c (p.base + p.width / 2)) [
-    | inl w ↦
-        let o : InPart (left_half p) c = record { from = omega arith; to = omega arith } in
-        rw (seen_left (tree t) p t.since bare c h w)
-        (k (seen t t.since (left_half p) bare c) (a.kinds c (omega arith) o))
-    | inr w ↦
-        let o : InPart (right_half p) c = record { from = omega arith; to = omega arith } in
-        rw (seen_right (tree t) p t.since bare c h w)
-        (m (seen t t.since (right_half p) bare c) (b.kinds c (omega arith) o))
-  ];
-}
+  with_kind : (kind : LayerSet) (layers : Layers) → layers ≡ layers_of t.further kind
+      → both (own_at t t.since p.at) layers ≡ layers_of t.further (union own kind)
+  with_kind kind layers f = (λ i. both (sym e i) (f i)) ∙ sym (layers_union t.further own kind)
+
+  pub halves_note : (l r : Note) → 2 ≤ p.width → IsNoted t (left_half p) l → IsNoted t (right_half p) r
+      → n.until ≤ l.until → n.until ≤ r.until
+      → ((kind : LayerSet) → HasKind l.kinds kind → HasKind n.kinds (union own kind))
+      → ((kind : LayerSet) → HasKind r.kinds kind → HasKind n.kinds (union own kind))
+      → IsNoted t p n
+  halves_note l r h a b i j k m = record {
+    steady = λ row c x y z. let z0 = z.from in let z1 = z.to in elim (cases_lt c (p.base + p.width / 2)) [
+      | inl w ↦
+          let o : InPart (left_half p) c = record { from = omega arith; to = omega arith } in
+          seen_left (tree t) p row bare c h w ∙ ap (λ own. both own (seen t row (left_half p) bare c)) (s row x y)
+          ∙ ap (both (own_at t t.since p.at)) (a.steady row c x (omega arith) o)
+          ∙ sym (seen_left (tree t) p t.since bare c h w)
+      | inr w ↦
+          let o : InPart (right_half p) c = record { from = omega arith; to = omega arith } in
+          seen_right (tree t) p row bare c h w ∙ ap (λ own. both own (seen t row (right_half p) bare c)) (s row x y)
+          ∙ ap (both (own_at t t.since p.at)) (b.steady row c x (omega arith) o)
+          ∙ sym (seen_right (tree t) p t.since bare c h w)
+    ];
+    kinds = λ c y z. let z0 = z.from in let z1 = z.to in elim (cases_lt c (p.base + p.width / 2)) [
+      | inl w ↦
+          let o : InPart (left_half p) c = record { from = omega arith; to = omega arith } in
+          ∥∥₁_map (a.kinds c (omega arith) o) (λ q. record {
+            kind = union own q.kind;
+            has = k q.kind q.has;
+            same = seen_left (tree t) p t.since bare c h w ∙ with_kind q.kind _ q.same;
+          })
+      | inr w ↦
+          let o : InPart (right_half p) c = record { from = omega arith; to = omega arith } in
+          ∥∥₁_map (b.kinds c (omega arith) o) (λ q. record {
+            kind = union own q.kind;
+            has = m q.kind q.has;
+            same = seen_right (tree t) p t.since bare c h w ∙ with_kind q.kind _ q.same;
+          })
+    ];
+  }

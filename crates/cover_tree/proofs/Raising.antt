@@ -4,7 +4,6 @@ use Rattle.std.proofs.Common.{max, arith}
 use Rattle.std.proofs.lemmas.Bool.{cases_lt}
 use Rattle.std.proofs.lemmas.List.{get_or-set_same, get_or-set_other}
 use Rattle.lam_geom.specs.declared.layer.Layer.{Layer}
-use Rattle.mask_runs.specs.declared.mask.Mask.{Mask}
 use Rattle.cover_tree.specs.declared.part.Part.{Part}
 use Rattle.cover_tree.specs.declared.span.Span.{Span}
 use Rattle.cover_tree.specs.declared.trees.Trees.{Trees}
@@ -80,12 +79,12 @@ module _ (t u : Trees) (at : ℕ) (beside : (k : ℕ) → k ≢ at → node_at u
     since = since;
   }
 
-  pub lifted_halves : (mask : Mask) (p : Part) → p.at ≡ at → 0 < p.width → AreNoted mask t p → AreHalvesNoted mask u p
-  lifted_halves mask p h v k = record {
-    left = λ w. are_noted_same mask (left_half p) t u (omega arith) (lifted_in (left_half p) (omega arith))
-        (noted_left mask t p w k);
-    right = λ w. are_noted_same mask (right_half p) t u (omega arith) (lifted_in (right_half p) (omega arith))
-        (noted_right mask t p w k);
+  pub lifted_halves : (p : Part) → p.at ≡ at → 0 < p.width → AreNoted t p → AreHalvesNoted u p
+  lifted_halves p h v k = record {
+    left = λ w. are_noted_same (left_half p) t u (omega arith) (lifted_in (left_half p) (omega arith))
+        (noted_left t p w k);
+    right = λ w. are_noted_same (right_half p) t u (omega arith) (lifted_in (right_half p) (omega arith))
+        (noted_right t p w k);
   }
 
 -- the right half is as before after the left one has changed, and the left one as then after the right one has
@@ -109,16 +108,16 @@ left_was t u p h o = record {
   since = o.since;
 }
 
-pub right_noted : (t u : Trees) (p : Part) → 2 ≤ p.width → IsOnlyIn (left_half p) t u → (mask : Mask)
-    → AreNoted mask t p → AreNoted mask u (right_half p)
-right_noted t u p h o mask k =
-    are_noted_same mask (right_half p) t u (omega arith) (right_was t u p h o) (noted_right mask t p h k)
+pub right_noted : (t u : Trees) (p : Part) → 2 ≤ p.width → IsOnlyIn (left_half p) t u
+    → AreNoted t p → AreNoted u (right_half p)
+right_noted t u p h o k =
+    are_noted_same (right_half p) t u (omega arith) (right_was t u p h o) (noted_right t p h k)
 
-pub both_noted : (t u : Trees) (p : Part) → 2 ≤ p.width → IsOnlyIn (right_half p) t u → (mask : Mask)
-    → AreNoted mask t (left_half p)
-    → AreNoted mask u (right_half p) → AreHalvesNoted mask u p
-both_noted t u p h o mask a b =
-    record { left = λ _. are_noted_same mask (left_half p) t u (omega arith) (left_was t u p h o) a; right = λ _. b }
+pub both_noted : (t u : Trees) (p : Part) → 2 ≤ p.width → IsOnlyIn (right_half p) t u
+    → AreNoted t (left_half p)
+    → AreNoted u (right_half p) → AreHalvesNoted u p
+both_noted t u p h o a b =
+    record { left = λ _. are_noted_same (left_half p) t u (omega arith) (left_was t u p h o) a; right = λ _. b }
 
 -- and both are told
 pub both_told : (t u : Trees) (p : Part) → 2 ≤ p.width → IsOnlyIn (right_half p) t u → IsTold t (left_half p)

@@ -1,23 +1,22 @@
--- Sets of layers by their indexes, and sets of these by their bits.
+-- Sets of layers by their numbers, and sets of these by their bits.
 use Rattle.std.proofs.Common.{◌≡◌, ◌≢◌, ℕ, ◌+◌, ◌*◌, ◌/◌, ◌%◌, ◌^◌, ◌<◌, ◌≤◌, ◌⊎◌, ◌↔◌, inl, inr, Bool, true, false}
 use Rattle.std.proofs.Common.{ltb, refl, sym, ◌∙◌, ap, subst, arith, ◌-◌, min, zero, suc, w32, if◌then◌else◌, bit_and}
-use Rattle.std.proofs.Common.{bit_or}
+use Rattle.std.proofs.Common.{bit_or, max}
 use Rattle.std.specs.Prelude.{◌||◌, ◌&&◌, ◌==◌, nat_lt}
 use Rattle.std.specs.Int.{bit_at, bit_not}
 use Rattle.std.proofs.lemmas.Bool.{cases_eq, cases_lt, and_parts, eqb-true, ltb-true, agree_below_at}
 use Rattle.std.proofs.lemmas.Nat.Bits.{bit_at_and, bit_at_or, bit_at-lt, bit_at-zero, bit_at-pow_other, bit_at_above}
 use Rattle.std.proofs.lemmas.Nat.Bits.{bit_at_not, bit_at_cat_low, bit_at_cat_high, same_from_bits}
+use lib.Bits.{or_zero_l}
 use Rattle.std.proofs.lemmas.Nat.{pow_pos, div-add-mod'}
 use Rattle.lam_geom.specs.declared.layer.Layer.{Layer}
-use Rattle.lam_geom.specs.declared.layer.Layer.TheVariants.{ND, NP, NC, NM, NI, NB, NG}
-use Rattle.mask_runs.specs.declared.mask.Layers.{Layers}
-use Rattle.mask_runs.specs.declared.mask.Mask.{Mask}
-use Rattle.mask_runs.specs.declared.mask.Mask.TheVariants.{Only, Diffusion, Contacts}
-use Rattle.mask_runs.specs.Colours.{has}
+use Rattle.lam_geom.specs.declared.layer.Layer.TheVariants.{NC, NI, NG}
 use Rattle.cover_tree.specs.declared.kinds.Kinds.{Kinds}
+use Rattle.cover_tree.specs.declared.layer_set.LayerSet.{LayerSet}
 use Rattle.cover_tree.specs.declared.node.Tops.{Tops}
 use Rattle.cover_tree.specs.Nodes.{above, keeps, layers_of}
-use Rattle.cover_tree.specs.Kinds.{bit, both, further, index, raised, HasKind, IsWith, IsBeside, Share}
+use Rattle.cover_tree.specs.Kinds.{bit, both, has_bit, index, raised, union, HasKind, IsWith, IsBeside, Share}
+use Rattle.cover_tree.proofs.Looking.{joint_tests}
 
 both_bits : {n : ℕ} → n ≡ 1 → n ≡ 0 → ⊥
 both_bits e f = absurd (omega arith)
@@ -56,27 +55,26 @@ place_small : (a b c d e : Bool) → place a b c d e < 32
 place_small a b c d e =
     ltb-true (place a b c d e) 32 (each_five-at (λ a b c d e. ltb (place a b c d e) 32) refl a b c d e)
 
-pub index_small : (mask : Mask) (s : Layers) → index mask s < 32
-index_small mask s = place_small s.nd s.np s.nb (has s (further mask)) s.nm
+pub index_small : (s : LayerSet) → index s < 32
+index_small s = omega arith
 
 -- one set alone
-pub one_kind : (mask : Mask) (s : Layers) (bits : ℕ) → bits ≡ 2 ^ index mask s → (r : Layers)
-    → HasKind mask (record { bits = bits }) r
-    → index mask r ≡ index mask s
-one_kind mask s bits e r h = elim (cases_eq (index mask r) (index mask s)) [
+pub one_kind : (set : LayerSet) (bits : ℕ) → bits ≡ 2 ^ index set → (s : LayerSet) → HasKind (record { bits = bits }) s
+    → index s ≡ index set
+one_kind set bits e s h = elim (cases_eq (index s) (index set)) [
   | inl f ↦ f
   | inr f ↦
-      let g = bit_at-pow_other (index mask s) (index mask r) f in
-      absurd (both_bits (ap (λ n. bit_at n (index mask r)) (sym e) ∙ h.set) g)
+      let g = bit_at-pow_other (index set) (index s) f in
+      absurd (both_bits (ap (λ n. bit_at n (index s)) (sym e) ∙ h.set) g)
 ]
 
-pub either_kind : (mask : Mask) (a b : Kinds) (s : Layers)
-    → HasKind mask (record { bits = bit_or a.bits b.bits }) s ↔ (HasKind mask a s ⊎ HasKind mask b s)
-either_kind mask a b s =
-    let e = bit_at_or a.bits b.bits (index mask s) in
-    let i = bit_at-lt a.bits (index mask s) in
-    let j = bit_at-lt b.bits (index mask s) in (
-      λ h. let k = h.set in elim (cases_eq (bit_at a.bits (index mask s)) 1) [
+pub either_kind : (a b : Kinds) (s : LayerSet)
+    → HasKind (record { bits = bit_or a.bits b.bits }) s ↔ (HasKind a s ⊎ HasKind b s)
+either_kind a b s =
+    let e = bit_at_or a.bits b.bits (index s) in
+    let i = bit_at-lt a.bits (index s) in
+    let j = bit_at-lt b.bits (index s) in (
+      λ h. let k = h.set in elim (cases_eq (bit_at a.bits (index s)) 1) [
         | inl f ↦ inl (record { set = f })
         | inr f ↦ inr (record { set = omega arith })
       ],
@@ -86,30 +84,48 @@ either_kind mask a b s =
       ],
     )
 
--- the set of an index
-abbrev digit : ℕ → ℕ → Bool
-digit i weight = i / weight % 2 == 1
-
-abbrev pub set_at : ℕ → Layers
-set_at i = let own = digit i 8 in
-    record { nd = digit i 1; np = digit i 2; nc = own; nm = digit i 16; ni = own; nb = digit i 4; ng = own }
-
-own_digit : (mask : Mask) (i : ℕ) → has (set_at i) (further mask) ≡ digit i 8
-own_digit (Only NC) i = refl
-own_digit (Only NG) i = refl
-own_digit (Only _) i = refl
-own_digit Diffusion i = refl
-own_digit Contacts i = refl
-
-from_digits : (i : ℕ) → i < 32 → place (digit i 1) (digit i 2) (digit i 4) (digit i 8) (digit i 16) ≡ i
-from_digits i l =
+-- a number by its bits
+from_bits : (i : ℕ) → i < 32 → place (has_bit i 1) (has_bit i 2) (has_bit i 4) (has_bit i 8) (has_bit i 16) ≡ i
+from_bits i l =
     eqb-true _ i
-    (agree_below_at (λ i. place (digit i 1) (digit i 2) (digit i 4) (digit i 8) (digit i 16) == i)
+    (agree_below_at (λ i. place (has_bit i 1) (has_bit i 2) (has_bit i 4) (has_bit i 8) (has_bit i 16) == i)
     (λ _. true) 32 i refl l)
 
-pub index-set_at : (mask : Mask) (i : ℕ) → i < 32 → index mask (set_at i) ≡ i
-index-set_at mask i l =
-    ap (λ b. place (digit i 1) (digit i 2) (digit i 4) b (digit i 16)) (own_digit mask i) ∙ from_digits i l
+is_one : (m n : ℕ) → m ≡ n → (m == 1) ≡ (n == 1)
+is_one m n e = ap (λ k. k == 1) e
+
+index_place : (n : ℕ) → place (has_bit n 1) (has_bit n 2) (has_bit n 4) (has_bit n 8) (has_bit n 16) ≡ n % 32
+index_place n =
+    let a = is_one (n / 1 % 2) (n % 32 / 1 % 2) (omega arith) in
+    let b = is_one (n / 2 % 2) (n % 32 / 2 % 2) (omega arith) in
+    let c = is_one (n / 4 % 2) (n % 32 / 4 % 2) (omega arith) in
+    let d = is_one (n / 8 % 2) (n % 32 / 8 % 2) (omega arith) in
+    let e = is_one (n / 16 % 2) (n % 32 / 16 % 2) (omega arith) in
+    (λ i. place (a i) (b i) (c i) (d i) (e i)) ∙ from_bits (n % 32) (omega arith)
+
+-- the bits of two numbers together
+joint_bit : (a b n : ℕ) → a < 2 → b < 2 → n ≡ max a b → (n == 1) ≡ ((a == 1) || (b == 1))
+joint_bit zero zero n h k e = is_one n 0 e
+joint_bit zero (suc zero) n h k e = is_one n 1 e
+joint_bit (suc zero) zero n h k e = is_one n 1 e
+joint_bit (suc zero) (suc zero) n h k e = is_one n 1 e
+joint_bit zero (suc (suc b)) n h k e = absurd (omega arith)
+joint_bit (suc zero) (suc (suc b)) n h k e = absurd (omega arith)
+joint_bit (suc (suc a)) b n h k e = absurd (omega arith)
+
+either_bit : (m n i : ℕ) → (bit_at (bit_or m n) i == 1) ≡ ((bit_at m i == 1) || (bit_at n i == 1))
+either_bit m n i = joint_bit (bit_at m i) (bit_at n i) _ (bit_at-lt m i) (bit_at-lt n i) (bit_at_or m n i)
+
+index_union : (a b : LayerSet) → index (union a b)
+    ≡ place (has_bit a.bits 1 || has_bit b.bits 1) (has_bit a.bits 2 || has_bit b.bits 2)
+    (has_bit a.bits 4 || has_bit b.bits 4) (has_bit a.bits 8 || has_bit b.bits 8)
+    (has_bit a.bits 16 || has_bit b.bits 16)
+index_union a b =
+    let m = a.bits in
+    let n = b.bits in
+    sym (index_place (bit_or m n))
+    ∙ (λ i. place (either_bit m n 0 i) (either_bit m n 1 i) (either_bit m n 2 i) (either_bit m n 3 i)
+    (either_bit m n 4 i))
 
 -- the numbers of the sets that have a layer, as bits
 abbrev pub nd_sets : ℕ
@@ -229,41 +245,38 @@ module _ (f g h i j : Bool) (kinds after : Kinds) (steps : Steps f g h i j kinds
         same = rw (← a.same, ← b.same, ← c.same, ← d.same) e.same;
       }
 
-pub has_both : (k s : Layers) (l : Layer) → has (both k s) l ≡ (has k l || has s l)
-has_both k s ND = refl
-has_both k s NP = refl
-has_both k s NC = refl
-has_both k s NM = refl
-has_both k s NI = refl
-has_both k s NB = refl
-has_both k s NG = refl
-
-module _ (mask : Mask) (own : Layers) (kinds after : Kinds)
-    (steps : Steps own.nd own.np own.nb (has own (further mask)) own.nm kinds after) where
-  index_both : (s : Layers) → index mask (both own s)
-      ≡ place (own.nd || s.nd) (own.np || s.np) (own.nb || s.nb) (has own (further mask) || has s (further mask))
-      (own.nm || s.nm)
-  index_both s =
-      ap (λ b. place (own.nd || s.nd) (own.np || s.np) (own.nb || s.nb) b (own.nm || s.nm))
-      (has_both own s (further mask))
-
-  pub with_own : (s : Layers) → HasKind mask after s ↔ IsWith mask kinds own s
+module _ (own : LayerSet) (kinds after : Kinds)
+    (steps : Steps (has_bit own.bits 1) (has_bit own.bits 2) (has_bit own.bits 4) (has_bit own.bits 8)
+    (has_bit own.bits 16) kinds after) where
+  pub with_own : (s : LayerSet) → HasKind after s ↔ IsWith kinds own s
   with_own s = (
     λ h.
-        let w = is_from _ _ _ _ _ kinds after steps (index mask s) (index_small mask s) h.set in
-        let r = set_at w.place in
-        let e = index-set_at mask w.place w.small in
-        let f = raised_place _ _ _ _ _ kinds after steps r.nd r.np r.nb (has r (further mask)) r.nm in
+        let w = is_from _ _ _ _ _ kinds after steps (index s) (index_small s) h.set in
+        let n = w.place in
+        let r : LayerSet = record { bits = n } in
+        let l = w.small in
+        let e : n % 32 ≡ n = omega arith in
+        let f = raised_place _ _ _ _ _ kinds after steps (has_bit n 1) (has_bit n 2) (has_bit n 4) (has_bit n 8)
+        (has_bit n 16) in
         record {
           kind = r;
           has = record { set = ap (bit_at kinds.bits) e ∙ w.has };
-          same = w.same ∙ rw e at f ∙ sym (index_both r);
+          same = w.same ∙ rw (index_place n ∙ e) at f ∙ sym (index_union own r);
         },
     λ h.
-        let r = h.kind in
-        let f = all_more _ _ _ _ _ kinds after steps r.nd r.np r.nb (has r (further mask)) r.nm h.has.set in
-        record { set = ap (bit_at after.bits) (h.same ∙ index_both r) ∙ f },
+        let n = h.kind.bits in
+        let f = all_more _ _ _ _ _ kinds after steps (has_bit n 1) (has_bit n 2) (has_bit n 4) (has_bit n 8)
+        (has_bit n 16) (ap (bit_at kinds.bits) (index_place n) ∙ h.has.set) in
+        record { set = ap (bit_at after.bits) (h.same ∙ index_union own h.kind) ∙ f },
   )
+
+-- with no layer besides
+pub with_none : (kinds : Kinds) (own : LayerSet) → own.bits ≡ 0 → (s : LayerSet) → HasKind kinds s ↔ IsWith kinds own s
+with_none kinds own e s =
+    let same = λ (r : LayerSet). (ap (λ n. bit_or n r.bits % 32) e ∙ ap (λ n. n % 32) (or_zero_l r.bits)) in (
+      λ h. record { kind = s; has = h; same = sym (same s) },
+      λ h. record { set = ap (bit_at kinds.bits) (h.same ∙ same h.kind) ∙ h.has.set },
+    )
 
 -- a shift at 32 bits
 module _ (n weight i : ℕ) (l : i < 32) where
@@ -380,13 +393,38 @@ module _ (kinds : Kinds) (plane : ℕ) where
       ]))
 
 -- what holds of all kinds holds at all their bits
-pub at_kinds : (mask : Mask) (kinds : Kinds) (P : ℕ → Type 0) → kinds.bits < 2 ^ 32
-    → ((s : Layers) → HasKind mask kinds s → P (index mask s))
+pub at_kinds : (kinds : Kinds) (P : ℕ → Type 0) → kinds.bits < 2 ^ 32 → ((s : LayerSet) → HasKind kinds s → P (index s))
     → (i : ℕ) → bit_at kinds.bits i ≡ 1 → P i
-at_kinds mask kinds P small h i e = elim (cases_lt i 32) [
-  | inl l ↦ let f = index-set_at mask i l in subst P f (h (set_at i) (record { set = ap (bit_at kinds.bits) f ∙ e }))
+at_kinds kinds P small h i e = elim (cases_lt i 32) [
+  | inl l ↦
+      let f : i % 32 ≡ i = omega arith in
+      subst P f (h (record { bits = i }) (record { set = ap (bit_at kinds.bits) f ∙ e }))
   | inr l ↦ absurd (both_bits e (bit_at_above kinds.bits 32 i small l))
 ]
+
+-- the layers of two sets
+joint_own : (kept x y z : Bool) → z ≡ (x || y) → (kept && z) ≡ ((kept && x) || (kept && y))
+joint_own true x y z e = e
+joint_own false x y z e = refl
+
+pub layers_union : (f : Layer) (a b : LayerSet) → layers_of f (union a b) ≡ both (layers_of f a) (layers_of f b)
+layers_union f a b =
+    let m = a.bits in
+    let n = b.bits in
+    let first = bit_at_or m n 0 in
+    let before = nat_lt 0 (m / 8 % 2) in
+    let more = nat_lt 0 (n / 8 % 2) in
+    let both_own = nat_lt 0 (bit_or m n / 8 % 2) in
+    let own = joint_tests false 0 (m / 8 % 2) (n / 8 % 2) (bit_or m n / 8 % 2) (bit_at_or m n 3) in
+    λ i. record {
+      nd = joint_tests false 0 (m % 2) (n % 2) (bit_or m n % 2) (omega arith) i;
+      np = joint_tests false 0 (m / 2 % 2) (n / 2 % 2) (bit_or m n / 2 % 2) (bit_at_or m n 1) i;
+      nc = joint_own (keeps NC f) before more both_own own i;
+      nm = joint_tests false 0 (m / 16 % 2) (n / 16 % 2) (bit_or m n / 16 % 2) (bit_at_or m n 4) i;
+      ni = joint_own (keeps NI f) before more both_own own i;
+      nb = joint_tests false 0 (m / 4 % 2) (n / 4 % 2) (bit_or m n / 4 % 2) (bit_at_or m n 2) i;
+      ng = joint_own (keeps NG f) before more both_own own i;
+    }
 
 -- the layers of a set, by its digits
 above_digit : (b : Bool) (n : ℕ) → n ≡ bit b → nat_lt 0 n ≡ b

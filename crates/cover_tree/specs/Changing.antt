@@ -10,16 +10,16 @@ use Rattle.cover_tree.specs.declared.changes.Known.{Known}
 use Rattle.cover_tree.specs.declared.part.Part.{Part}
 use Rattle.cover_tree.specs.declared.trees.Trees.{Trees}
 use Rattle.cover_tree.specs.Parts.{InPart}
+use Rattle.cover_tree.specs.Nodes.{layers_of}
 use Rattle.cover_tree.specs.Looking.{part_colour, told_colour}
-use Rattle.cover_tree.specs.Notes.{IsTold}
 use Rattle.cover_tree.specs.Changes.{AreChanges}
 
 -- the colours of the part's cells in the row told last, and in that of the trees
 abbrev pub was : Mask → Trees → Part → Known → ℕ → ℕ
-was mask t p known c = told_colour mask t p known.before c
+was mask t p known c = told_colour mask t p (layers_of t.further known.before) c
 
 abbrev pub is : Mask → Trees → Part → Known → ℕ → ℕ
-is mask t p known c = part_colour mask t t.since p known.after c
+is mask t p known c = part_colour mask t t.since p (layers_of t.further known.after) c
 
 -- the part's cells keep their colours
 pub record Keeps (before after : ℕ → ℕ) (p : Part) : Type 0 where
@@ -30,10 +30,10 @@ pub record Turns (before after : ℕ → ℕ) (p : Part) (colour : ℕ) : Type 0
   pub now : (c : ℕ) → InPart p c → after c ≡ colour
   pub other : (c : ℕ) → InPart p c → before c ≢ colour
 
--- a part that is told keeps its colours or gets one other, or neither is known
+-- a part keeps its colours or gets one other, or neither is known
 abbrev pub IsChange : Mask → Trees → Part → Known → Change → Type 0
-IsChange mask t p known Nowhere = IsTold t p × Keeps (was mask t p known) (is mask t p known) p
-IsChange mask t p known (Everywhere k) = IsTold t p × Turns (was mask t p known) (is mask t p known) p k
+IsChange mask t p known Nowhere = Keeps (was mask t p known) (is mask t p known) p
+IsChange mask t p known (Everywhere k) = Turns (was mask t p known) (is mask t p known) p k
 IsChange mask t p known Somewhere = ⊤
 
 -- the pieces with the open one

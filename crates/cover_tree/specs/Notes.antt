@@ -8,7 +8,7 @@ use Rattle.cover_tree.specs.declared.part.Part.{Part}
 use Rattle.cover_tree.specs.declared.trees.Trees.{Trees}
 use Rattle.cover_tree.specs.Parts.{root, InPart, Within, left_half, right_half}
 use Rattle.cover_tree.specs.Nodes.{keeps}
-use Rattle.cover_tree.specs.Kinds.{HasKind, further}
+use Rattle.cover_tree.specs.Kinds.{IsOfKind, further}
 use Rattle.cover_tree.specs.Layered.{node_at}
 use Rattle.cover_tree.specs.Looking.{seen, told}
 
@@ -18,23 +18,24 @@ note_at t k = (node_at t k).note
 
 -- in the rows from that of the trees up to the note's end each cell of the part has the layers of the first of these
 -- rows, and they are one of the kinds
-pub record IsNoted (mask : Mask) (t : Trees) (q : Part) (n : Note) : Type 0 where
+pub record IsNoted (t : Trees) (q : Part) (n : Note) : Type 0 where
   pub steady : (row c : ℕ) → t.since ≤ row → row < n.until → InPart q c → seen t row q bare c ≡ seen t t.since q bare c
-  pub kinds : (c : ℕ) → t.since < n.until → InPart q c → HasKind mask n.kinds (seen t t.since q bare c)
+  pub kinds : (c : ℕ) → t.since < n.until → InPart q c
+      → ∥ IsOfKind t.further n.kinds (seen t t.since q bare c) ∥₁
 
 -- the row of the trees is the one in which the part was told last
 pub record IsTold (t : Trees) (p : Part) : Type 0 where
   pub each : (c : ℕ) → InPart p c → told t p bare c ≡ seen t t.since p bare c
 
 -- the notes are true of the part and all parts in it, of which those are told whose notes speak of the row
-pub record AreNoted (mask : Mask) (t : Trees) (p : Part) : Type 0 where
-  pub each : (q : Part) → Within q p → IsNoted mask t q (note_at t q.at)
+pub record AreNoted (t : Trees) (p : Part) : Type 0 where
+  pub each : (q : Part) → Within q p → IsNoted t q (note_at t q.at)
   pub told : (q : Part) → Within q p → t.since < (note_at t q.at).until → IsTold t q
 
 -- and of its halves, if it has any
-pub record AreHalvesNoted (mask : Mask) (t : Trees) (p : Part) : Type 0 where
-  pub left : 2 ≤ p.width → AreNoted mask t (left_half p)
-  pub right : 2 ≤ p.width → AreNoted mask t (right_half p)
+pub record AreHalvesNoted (t : Trees) (p : Part) : Type 0 where
+  pub left : 2 ≤ p.width → AreNoted t (left_half p)
+  pub right : 2 ≤ p.width → AreNoted t (right_half p)
 
 pub record AreHalvesTold (t : Trees) (p : Part) : Type 0 where
   pub left : 2 ≤ p.width → IsTold t (left_half p)
@@ -60,6 +61,6 @@ pub record IsOnlyIn (p : Part) (old now : Trees) : Type 0 where
 pub record AreSound (mask : Mask) (cells : ℕ) (trees : Trees) : Type 0 where
   pub some : 0 < cells
   pub small : cells < 2 ^ 31
-  pub noted : AreNoted mask trees (root cells)
+  pub noted : AreNoted trees (root cells)
   pub kept : trees.further ≡ further mask
   pub room : length trees.nodes.items ≡ 2 * cells

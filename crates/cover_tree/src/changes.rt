@@ -2,37 +2,39 @@
 
 ghost use Rattle.std.specs.Prelude.{ℕ, ◌≡◌, ◌*◌, ◌+◌, ◌<◌, ◌≤◌, IfOk, length};
 ghost use Rattle.lam_geom.specs.declared.layer.Layer.{Layer};
-ghost use Rattle.mask_runs.specs.Colours.{colour_of};
 ghost use Rattle.cover_tree.specs.Parts.{IsSmall};
+ghost use Rattle.cover_tree.specs.Nodes.{layers_of};
+ghost use Rattle.cover_tree.specs.Kinds.{further, set_colour};
 ghost use Rattle.cover_tree.specs.Layered.{tree, told_tree};
-ghost use Rattle.cover_tree.specs.Looking.{IsHandedDown};
+ghost use Rattle.cover_tree.specs.Looking.{own_at, IsHandedDown};
 ghost use Rattle.cover_tree.specs.Notes.{AreNoted, IsTold, IsOnlyIn};
 ghost use Rattle.cover_tree.specs.Changing.{IsChange, Tells, Turns, was, is, with_last};
 
-use crate::kinds::{Effect, both};
+use crate::kinds::{Effect, further};
+use crate::layer_set::LayerSet;
 use crate::part::Part;
 use crate::trees::Trees;
-use mask_runs::{Layers, Mask, Run};
+use mask_runs::{Mask, Run};
 use mp_base::NoMemory;
 use std::alloc::AllocError;
 
 /// The layers that cover a part as a whole, in the row told last and in the next.
 #[derive(Clone, Copy)]
 pub(crate) struct Known {
-    pub before: Layers,
-    pub after: Layers,
+    pub before: LayerSet,
+    pub after: LayerSet,
 }
 
 impl Known {
-    ghost use Rattle.mask_runs.specs.Colours.{bare};
+    ghost use Rattle.cover_tree.specs.Nodes.{no_layers};
 
     /// No layer.
     pub fn none() -> Known
-        ensures { result ≡ record { before = bare; after = bare } }
+        ensures { result ≡ record { before = no_layers; after = no_layers } }
     {
         Known {
-            before: Layers::none(),
-            after: Layers::none(),
+            before: LayerSet::none(),
+            after: LayerSet::none(),
         }
     }
 }
@@ -45,8 +47,8 @@ pub(crate) enum Change {
     Somewhere,
 }
 
-/// Tells a part in the row of the trees: adds the pieces of its cells whose colours aren't those told last, of which `last` is
-/// open, and gives the next open one. Once memory is wanting the pieces are lost, but the part is told.
+/// Tells a part in the row of the trees: adds the pieces of its cells whose colours aren't those told last, of which
+/// `last` is open, and gives the next open one. Once memory is wanting the pieces are lost, but the part is told.
 pub(crate) fn tell_part(
     trees: &mut Trees,
     mask: Mask,
@@ -57,26 +59,55 @@ pub(crate) fn tell_part(
 ) -> Result<Run, NoMemory>
     requires small { IsSmall part }
     requires room { part.at + 2 * part.width ≤ length trees.old.nodes.items + 1 }
-    requires noted { AreNoted mask trees.old part }
-    ensures noted { AreNoted mask trees.new part }
+    requires further { trees.old.further ≡ further mask }
+    requires noted { AreNoted trees.old part }
+    ensures noted { AreNoted trees.new part }
     ensures told { IsTold trees.new part }
     ensures only { IsOnlyIn part trees.old trees.new }
     ensures tops { (l : Layer) → tree trees.new l ≡ tree trees.old l }
-    ensures pieces { Tells (was mask trees.old part known) (is mask trees.old part known) pieces.old.items pieces.new.items last result part.base (part.base + part.width) }
+    ensures pieces { Tells (was mask trees.old part known) (is mask trees.old part known)
+        pieces.old.items pieces.new.items last result part.base (part.base + part.width) }
+{
+    if trees.since < trees.note_at(part.at).until {
+        return tell_noted(trees, mask, part, known, last, pieces);
+    }
+    let own = trees.own_at(part.at);
+    let down = handed_down(trees, part, own, known);
+    if part.width < 2 {
+        trees.settle(part, own);
+        return tell_cell(mask, part, down, last, pieces);
+    }
+    let middle = tell_part(trees, mask, part.left(), down, last, pieces);
+    let next = tell_part(trees, mask, part.right(), down, middle, pieces);
+    trees.settle(part, own);
+    next
+}
+
+// Does so where the part is told, but for the layers that cover it as a whole.
+fn tell_noted(
+    trees: &Trees,
+    mask: Mask,
+    part: Part,
+    known: Known,
+    last: Result<Run, NoMemory>,
+    pieces: &mut Vec<Run>,
+) -> Result<Run, NoMemory>
+    requires small { IsSmall part }
+    requires further { trees.now.further ≡ further mask }
+    requires noted { AreNoted trees.now part }
+    ensures { Tells (was mask trees.now part known) (is mask trees.now part known)
+        pieces.old.items pieces.new.items last result part.base (part.base + part.width) }
 {
     match change_of(trees, mask, part, known) {
         Change::Nowhere => last,
         Change::Everywhere(colour) => add(pieces, last, part, colour),
         Change::Somewhere => {
-            let down = handed_down(trees, part, known);
+            let down = handed_down(trees, part, trees.own_at(part.at), known);
             if part.width < 2 {
-                trees.settle(mask, part);
                 return tell_cell(mask, part, down, last, pieces);
             }
-            let middle = tell_part(trees, mask, part.left(), down, last, pieces);
-            let next = tell_part(trees, mask, part.right(), down, middle, pieces);
-            trees.settle(mask, part);
-            next
+            let middle = tell_noted(trees, mask, part.left(), down, last, pieces);
+            tell_noted(trees, mask, part.right(), down, middle, pieces)
         }
     }
 }
@@ -99,7 +130,8 @@ fn add(
     colour: u8,
 ) -> Result<Run, NoMemory>
     requires small { IsSmall part }
-    ensures { (before after : ℕ → ℕ) → Turns before after part colour → Tells before after pieces.old.items pieces.new.items last result part.base (part.base + part.width) }
+    ensures { (before after : ℕ → ℕ) → Turns before after part colour
+        → Tells before after pieces.old.items pieces.new.items last result part.base (part.base + part.width) }
 {
     let last = last?;
     if last.right == part.base && last.colour == colour {
@@ -125,18 +157,27 @@ fn tell_cell(
     pieces: &mut Vec<Run>,
 ) -> Result<Run, NoMemory>
     requires small { IsSmall part }
-    ensures { Tells (λ _. colour_of mask known.before) (λ _. colour_of mask known.after) pieces.old.items pieces.new.items last result part.base (part.base + part.width) }
+    ensures { Tells (λ _. set_colour mask known.before) (λ _. set_colour mask known.after)
+        pieces.old.items pieces.new.items last result part.base (part.base + part.width) }
 {
-    let colour = mask.colour(known.after);
-    if mask.colour(known.before) == colour {
+    let colour = set_colour(mask, known.after);
+    if set_colour(mask, known.before) == colour {
         return last;
     }
     add(pieces, last, part, colour)
 }
 
+// The colour of a set on a mask.
+fn set_colour(mask: Mask, set: LayerSet) -> u8
+    ensures { result ≡ set_colour mask set }
+{
+    mask.colour(set.layers(further(mask)))
+}
+
 // What becomes of the part's cells, as far as its note tells it.
 fn change_of(trees: &Trees, mask: Mask, part: Part, known: Known) -> Change
-    requires { AreNoted mask trees.now part }
+    requires further { trees.now.further ≡ further mask }
+    requires noted { AreNoted trees.now part }
     ensures { IsChange mask trees.now part known result }
 {
     let note = trees.note_at(part.at);
@@ -156,13 +197,16 @@ fn change_of(trees: &Trees, mask: Mask, part: Part, known: Known) -> Change
     }
 }
 
-// The layers that cover the part as a whole, by its node too.
-fn handed_down(trees: &Trees, part: Part, known: Known) -> Known
-    ensures before { IsHandedDown (told_tree trees.now) 0 part known.before result.before }
-    ensures after { IsHandedDown (tree trees.now) trees.now.since part known.after result.after }
+// The layers that cover the part as a whole, by its node too, whose layers in the row are `own`.
+fn handed_down(trees: &Trees, part: Part, own: LayerSet, known: Known) -> Known
+    requires { layers_of trees.now.further own ≡ own_at trees.now trees.now.since part.at }
+    ensures before { IsHandedDown (told_tree trees.now) 0 part
+        (layers_of trees.now.further known.before) (layers_of trees.now.further result.before) }
+    ensures after { IsHandedDown (tree trees.now) trees.now.since part
+        (layers_of trees.now.further known.after) (layers_of trees.now.further result.after) }
 {
     Known {
-        before: both(known.before, trees.told_at(part.at)),
-        after: both(known.after, trees.own_at(trees.since, part.at)),
+        before: known.before.union(trees.told_at(part.at)),
+        after: known.after.union(own),
     }
 }

@@ -2,15 +2,15 @@
 
 ghost use Rattle.std.specs.Prelude.{◌≡◌, ◌↔◌, ◌<◌, ◌⊎◌, ℕ, IfSome, IfNone};
 ghost use Rattle.std.specs.Int.{bit_at};
-ghost use Rattle.mask_runs.specs.declared.mask.Layers.{Layers};
-ghost use Rattle.mask_runs.specs.declared.mask.Mask.{Mask};
-ghost use Rattle.cover_tree.specs.Kinds.{bit, both, further, index, HasKind, IsWith, IsBeside, IsEffect, AreOneColour, Share};
+ghost use Rattle.cover_tree.specs.declared.layer_set.LayerSet.{LayerSet};
+ghost use Rattle.cover_tree.specs.Kinds.{bit, further, index, HasKind, IsWith, IsBeside, IsEffect, AreOneColour, Share};
 
+use crate::layer_set::LayerSet;
 use crate::planes::{FURTHER, NB, ND, NM, NP, Planes};
 use lam_geom::Layer;
-use mask_runs::{Layers, Mask};
+use mask_runs::Mask;
 
-/// Sets of the layers that a mask uses: a bit for each, at the set's index.
+/// Sets of the layers that a mask may use: a bit for each, at the number that the set is.
 #[derive(Clone, Copy, Drop)]
 pub(crate) struct Kinds {
     pub bits: u32,
@@ -26,18 +26,18 @@ pub(crate) enum Effect {
 
 impl Kinds {
     /// One set alone.
-    pub fn one(mask: Mask, layers: Layers) -> Kinds
-        ensures has { HasKind mask result layers }
-        ensures only { (s : Layers) → HasKind mask result s → index mask s ≡ index mask layers }
+    pub fn one(set: LayerSet) -> Kinds
+        ensures has { HasKind result set }
+        ensures only { (s : LayerSet) → HasKind result s → index s ≡ index set }
     {
         Kinds {
-            bits: 1 << index(mask, layers),
+            bits: 1 << (set.bits % 32),
         }
     }
 
     /// The sets of either.
     pub fn union(self, more: Kinds) -> Kinds
-        ensures { (mask : Mask) (s : Layers) → HasKind mask result s ↔ (HasKind mask self s ⊎ HasKind mask more s) }
+        ensures { (s : LayerSet) → HasKind result s ↔ (HasKind self s ⊎ HasKind more s) }
     {
         Kinds {
             bits: self.bits | more.bits,
@@ -45,18 +45,21 @@ impl Kinds {
     }
 
     /// The sets with these layers besides.
-    pub fn with(self, mask: Mask, own: Layers) -> Kinds
-        ensures { (s : Layers) → HasKind mask result s ↔ IsWith mask self own s }
+    pub fn with(self, own: LayerSet) -> Kinds
+        ensures { (s : LayerSet) → HasKind result s ↔ IsWith self own s }
     {
-        self.besides(own.nd, ND, 1)
-            .besides(own.np, NP, 2)
-            .besides(own.nb, NB, 4)
-            .besides(own.has(further(mask)), FURTHER, 8)
-            .besides(own.nm, NM, 16)
+        if own.bits == 0 {
+            return self;
+        }
+        self.besides(own.has(1), ND, 1)
+            .besides(own.has(2), NP, 2)
+            .besides(own.has(4), NB, 4)
+            .besides(own.has(8), FURTHER, 8)
+            .besides(own.has(16), NM, 16)
     }
 
     /// The one colour of all these sets with the layers known besides, if they have one.
-    pub fn colour(self, mask: Mask, known: Layers) -> Option<u8>
+    pub fn colour(self, mask: Mask, known: LayerSet) -> Option<u8>
         ensures some { IfSome result (λ k. AreOneColour mask self known k) }
         ensures none { IfNone result ((k : ℕ) → ¬ AreOneColour mask self known k) }
     {
@@ -68,7 +71,7 @@ impl Kinds {
     }
 
     /// What becomes of the sets' colours where they lie with the layers `new` in place of `old`.
-    pub fn effect(self, mask: Mask, old: Layers, new: Layers) -> Effect
+    pub fn effect(self, mask: Mask, old: LayerSet, new: LayerSet) -> Effect
         ensures { IsEffect mask self old new result }
     {
         let differing = Planes::new(mask, old).differing(Planes::new(mask, new));
@@ -79,7 +82,8 @@ impl Kinds {
         }
     }
 
-    // The sets with a layer besides, if it is to be there. All `holders` have it, and their indexes are larger by `weight` for it.
+    // The sets with a layer besides, if it is to be there. All `holders` have it, and their numbers are larger by
+    // `weight` for it.
     fn besides(self, own: bool, holders: u32, weight: u32) -> Kinds
         requires { weight < 32 }
         ensures { (i : ℕ) → i < 32 → (bit_at result.bits i ≡ 1) ↔ IsBeside self own holders weight i }
@@ -108,21 +112,6 @@ impl Kinds {
     }
 }
 
-/// The layers of either set.
-pub(crate) fn both(left: Layers, right: Layers) -> Layers
-    ensures { result ≡ both left right }
-{
-    Layers {
-        nd: left.nd || right.nd,
-        np: left.np || right.np,
-        nc: left.nc || right.nc,
-        nm: left.nm || right.nm,
-        ni: left.ni || right.ni,
-        nb: left.nb || right.nb,
-        ng: left.ng || right.ng,
-    }
-}
-
 /// The layer that the mask may use besides ND, NP, NB and NM.
 pub(crate) fn further(mask: Mask) -> Layer
     ensures { result ≡ further mask }
@@ -132,13 +121,4 @@ pub(crate) fn further(mask: Mask) -> Layer
         Mask::Only(Layer::NG) => Layer::NG,
         _ => Layer::NI,
     }
-}
-
-// The index of a set of layers, below 32.
-fn index(mask: Mask, layers: Layers) -> u32
-    ensures value { result ≡ index mask layers }
-    ensures small { result < 32 }
-{
-    let low = layers.nd as u32 + 2 * layers.np as u32 + 4 * layers.nb as u32;
-    low + 8 * layers.has(further(mask)) as u32 + 16 * layers.nm as u32
 }

@@ -8,7 +8,8 @@ use crate::note::Note;
 use lam_geom::Layer;
 use mask_runs::Layers;
 
-/// What a part's node says of the part as a whole, now and in the row told last, and the note of what lies over its cells.
+/// What a part's node says of the part as a whole, now and in the row told last, and the note of what lies over its
+/// cells.
 #[derive(Clone, Copy, Drop)]
 pub(crate) struct Node {
     pub tops: Tops,

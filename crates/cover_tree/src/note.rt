@@ -2,8 +2,8 @@
 
 use crate::kinds::Kinds;
 
-/// What lies over a part's cells by the nodes of the part and of its halves, in the rows from the trees' `since` up to `until`,
-/// which is outside: nothing changes in these rows, and the layers over each cell are one of the kinds.
+/// What lies over a part's cells by the nodes of the part and of its halves, in the rows from the trees' `since` up
+/// to `until`, which is outside: nothing changes in these rows, and the layers over each cell are one of the kinds.
 #[derive(Clone, Copy, Drop)]
 pub(crate) struct Note {
     pub until: u32,

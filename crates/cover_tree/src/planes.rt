@@ -4,13 +4,16 @@ ghost use Rattle.std.specs.Prelude.{◌≡◌, ◌↔◌, ◌<◌, ℕ, if◌the
 ghost use Rattle.std.specs.Int.{bit_at};
 ghost use Rattle.mask_runs.specs.Colours.{colour_of};
 ghost use Rattle.mask_runs.specs.declared.mask.Layers.{Layers};
+ghost use Rattle.mask_runs.specs.declared.mask.Mask.{Mask};
 ghost use Rattle.mask_runs.specs.declared.mask.Mask.TheVariants.{Only, Diffusion, Contacts};
-ghost use Rattle.cover_tree.specs.Kinds.{both, index};
+ghost use Rattle.cover_tree.specs.declared.layer_set.LayerSet.{LayerSet};
+ghost use Rattle.cover_tree.specs.Nodes.{layers_of};
+ghost use Rattle.cover_tree.specs.Kinds.{further, index, set_colour, union};
 ghost use Rattle.cover_tree.specs.Planes.{AreLayersAt, colour_at};
 
-use crate::kinds::further;
+use crate::layer_set::LayerSet;
 use lam_geom::Layer;
-use mask_runs::{Layers, Mask};
+use mask_runs::Mask;
 
 // For each layer that a mask may use, the sets that have it, as bits at their indexes.
 pub(crate) const ND: u32 = 0xAAAA_AAAA;
@@ -43,10 +46,10 @@ struct Holders {
 
 impl Planes {
     /// The colours with the layers known besides.
-    pub fn new(mask: Mask, known: Layers) -> Planes
-        ensures { (s : Layers) → colour_of mask (both known s) ≡ colour_at result (index mask s) }
+    pub fn new(mask: Mask, known: LayerSet) -> Planes
+        ensures { (s : LayerSet) → set_colour mask (union known s) ≡ colour_at result (index s) }
     {
-        let holders = Holders::new(mask, known);
+        let holders = Holders::new(known);
         match mask {
             Mask::Only(layer) => holders.only(layer),
             Mask::Diffusion => holders.diffusion(),
@@ -63,20 +66,22 @@ impl Planes {
 }
 
 impl Holders {
-    fn new(mask: Mask, known: Layers) -> Holders
-        ensures { (s : Layers) → AreLayersAt mask result (index mask s) (both known s) }
+    fn new(known: LayerSet) -> Holders
+        ensures { (mask : Mask) (s : LayerSet)
+            → AreLayersAt mask result (index s) (layers_of (further mask) (union known s)) }
     {
         Holders {
-            nd: known_or(known.nd, ND),
-            np: known_or(known.np, NP),
-            nb: known_or(known.nb, NB),
-            further: known_or(known.has(further(mask)), FURTHER),
-            nm: known_or(known.nm, NM),
+            nd: known_or(known.has(1), ND),
+            np: known_or(known.has(2), NP),
+            nb: known_or(known.has(4), NB),
+            further: known_or(known.has(8), FURTHER),
+            nm: known_or(known.has(16), NM),
         }
     }
 
     fn only(self, layer: Layer) -> Planes
-        ensures { (i : ℕ) (s : Layers) → AreLayersAt (Only layer) self i s → colour_of (Only layer) s ≡ colour_at result i }
+        ensures { (i : ℕ) (s : Layers) → AreLayersAt (Only layer) self i s
+            → colour_of (Only layer) s ≡ colour_at result i }
     {
         let low = match layer {
             Layer::ND => self.nd,
@@ -93,7 +98,8 @@ impl Holders {
     }
 
     fn diffusion(self) -> Planes
-        ensures { (i : ℕ) (s : Layers) → i < 32 → AreLayersAt Diffusion self i s → colour_of Diffusion s ≡ colour_at result i }
+        ensures { (i : ℕ) (s : Layers) → i < 32 → AreLayersAt Diffusion self i s
+            → colour_of Diffusion s ≡ colour_at result i }
     {
         let channel = self.nd & self.np & !self.nb;
         Planes {
@@ -104,7 +110,8 @@ impl Holders {
     }
 
     fn contacts(self) -> Planes
-        ensures { (i : ℕ) (s : Layers) → i < 32 → AreLayersAt Contacts self i s → colour_of Contacts s ≡ colour_at result i }
+        ensures { (i : ℕ) (s : Layers) → i < 32 → AreLayersAt Contacts self i s
+            → colour_of Contacts s ≡ colour_at result i }
     {
         let diffusion = self.nd & !(self.np & !self.nb);
         let cut = self.further & self.nm;

@@ -2,7 +2,6 @@
 
 ghost use Rattle.std.specs.Prelude.{◌≡◌, ◌≢◌};
 ghost use Rattle.lam_geom.specs.declared.layer.Layer.{Layer};
-ghost use Rattle.mask_runs.specs.declared.mask.Mask.{Mask};
 ghost use Rattle.cover_tree.specs.Parts.{IsSmall, IsPartRaised};
 ghost use Rattle.cover_tree.specs.Layered.{tree, told_tree};
 ghost use Rattle.cover_tree.specs.Notes.{HasPart, AreNoted, IsOnlyIn};
@@ -12,15 +11,15 @@ use crate::span::Span;
 use crate::trees::Trees;
 use lam_geom::Layer;
 
-/// Covers the part's cells in the span with a layer in the rows below `row` besides. The notes of the parts on the way are
-/// forgotten: where many raises come before the next row, each part is told and noted anew but once.
+/// Covers the part's cells in the span with a layer in the rows below `row` besides. The notes of the parts on the
+/// way are forgotten: where many raises come before the next row, each part is told and noted anew but once.
 pub(crate) fn raise_part(trees: &mut Trees, layer: Layer, part: Part, span: Span, row: u32)
     requires small { IsSmall part }
     requires room { HasPart trees.old layer part }
     ensures raised { IsPartRaised (tree trees.old layer) (tree trees.new layer) part span row }
     ensures others { (l : Layer) → l ≢ layer → tree trees.new l ≡ tree trees.old l }
     ensures told { (l : Layer) → told_tree trees.new l ≡ told_tree trees.old l }
-    ensures noted { (mask : Mask) → AreNoted mask trees.old part → AreNoted mask trees.new part }
+    ensures noted { AreNoted trees.old part → AreNoted trees.new part }
     ensures only { IsOnlyIn part trees.old trees.new }
 {
     let from = span.clamped(part.base);

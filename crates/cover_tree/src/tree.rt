@@ -12,8 +12,8 @@ use mask_runs::{Mask, Run};
 use mp_base::NoMemory;
 use std::alloc::Global;
 
-/// Up to which row the layers of a mask cover each of a row of cells, and which row was told last: a tree of halves, whose nodes
-/// take 64 bytes a cell. What covers a part of the cells as a whole is kept at the part.
+/// Up to which row the layers of a mask cover each of a row of cells, and which row was told last: a tree of halves,
+/// whose nodes take 64 bytes a cell. What covers a part of the cells as a whole is kept at the part.
 #[derive(Drop)]
 pub struct CoverTree {
     mask: Mask,
@@ -42,8 +42,8 @@ impl CoverTree {
         Ok(CoverTree { mask, cells, trees })
     }
 
-    /// Covers the cells from `from` up to `to` with a layer in the rows below `row` besides. Its time is the logarithm of the
-    /// cells.
+    /// Covers the cells from `from` up to `to` with a layer in the rows below `row` besides. Its time is the
+    /// logarithm of the cells.
     pub fn raise(&mut self, layer: Layer, from: u32, to: u32, row: u32)
         requires used { uses (cover_of self.old).mask layer ≡ true }
         requires within { to ≤ (cover_of self.old).cells }
@@ -56,16 +56,20 @@ impl CoverTree {
         raise_part(&mut self.trees, layer, root, span, row);
     }
 
-    /// Goes on to a row, and gives the cells whose colour in it is another than in the row told last: as pieces with their new
-    /// colours, from left to right, in place of those that the list has. The rows before it are past then. The cells stay covered
-    /// as they are. Its time is that of the pieces and of the places where a layer was raised or ends since the row told last, times
-    /// the logarithm of the cells. Where memory is wanting the list may have any pieces.
+    /// Goes on to a row, and gives the cells whose colour in it is another than in the row told last: as pieces with
+    /// their new colours, from left to right, in place of those that the list has. The rows before it are past then.
+    /// The cells stay covered as they are. Its time is that of the pieces and of the places where a layer was raised
+    /// or ends since the row told last, times the logarithm of the cells. Where memory is wanting the list may have
+    /// any pieces.
     pub fn advance(&mut self, row: u32, changes: &mut Vec<Run>) -> Result<(), NoMemory>
         requires order { row_of self.old ≤ row }
         ensures cover { cover_of self.new ≡ cover_of self.old }
         ensures row { row_of self.new ≡ row }
-        ensures told { (c : ℕ) → c < (cover_of self.old).cells → told_of self.new c ≡ row_colour (cover_of self.old) row c }
-        ensures changes { IfOk result (λ _. AreChanges (told_of self.old) (row_colour (cover_of self.old) row) (cover_of self.old).cells changes.new.items) }
+        ensures told { (c : ℕ) → c < (cover_of self.old).cells
+            → told_of self.new c ≡ row_colour (cover_of self.old) row c }
+        ensures changes { IfOk result (λ _.
+            AreChanges (told_of self.old) (row_colour (cover_of self.old) row) (cover_of self.old).cells
+            changes.new.items) }
     {
         let last = self.tell(row, changes)?;
         close(changes, last)?;
@@ -77,8 +81,11 @@ impl CoverTree {
         requires order { row_of self.old ≤ row }
         ensures cover { cover_of self.new ≡ cover_of self.old }
         ensures row { row_of self.new ≡ row }
-        ensures told { (c : ℕ) → c < (cover_of self.old).cells → told_of self.new c ≡ row_colour (cover_of self.old) row c }
-        ensures pieces { IfOk result (λ last. AreChanges (told_of self.old) (row_colour (cover_of self.old) row) (cover_of self.old).cells (with_last pieces.new.items last)) }
+        ensures told { (c : ℕ) → c < (cover_of self.old).cells
+            → told_of self.new c ≡ row_colour (cover_of self.old) row c }
+        ensures pieces { IfOk result (λ last.
+            AreChanges (told_of self.old) (row_colour (cover_of self.old) row) (cover_of self.old).cells
+            (with_last pieces.new.items last)) }
     {
         pieces.clear();
         self.trees.since = row;

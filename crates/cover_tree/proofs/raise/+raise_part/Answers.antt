@@ -11,9 +11,9 @@ use Rattle.cover_tree.proofs.raise.+raise_part.Goals as goal
 
 -- src/raise.rt
 pub returns-then-to-from-clause-noted : goal.returns-then-to-from-clause-noted
-returns-then-to-from-clause-noted t c = λ mask h.
-    c.forget.ensures.noted mask (lifted_halves c.args.trees.now c.lift.new.self c.args.part.at
-    c.lift.ensures.beside c.lift.ensures.as_many c.lift.ensures.further c.lift.ensures.since mask
+returns-then-to-from-clause-noted t c = λ h.
+    c.forget.ensures.noted (lifted_halves c.args.trees.now c.lift.new.self c.args.part.at
+    c.lift.ensures.beside c.lift.ensures.as_many c.lift.ensures.further c.lift.ensures.since
     c.args.part refl c.requires.small.some h)
 
 -- src/raise.rt
@@ -62,21 +62,21 @@ raise_part-requires-2 t c =
 
 -- src/raise.rt
 pub returns-clause-noted : goal.returns-clause-noted
-returns-clause-noted t c = λ mask n.
+returns-clause-noted t c = λ n.
     let h : 2 ≤ c.args.part.width = omega arith in
     let l : IsOnlyIn (left_half c.args.part) c.args.trees.now c.raise_part.new.trees =
     rw (← c.left.ensures) c.raise_part.ensures.only in
     let r : IsOnlyIn (right_half c.args.part) c.raise_part.new.trees c.raise_part-2.new.trees =
     rw (← c.right.ensures) c.raise_part-2.ensures.only in
-    let a : AreNoted mask c.args.trees.now (left_half c.args.part)
-    → AreNoted mask c.raise_part.new.trees (left_half c.args.part)
-    = rw (← c.left.ensures) (c.raise_part.ensures.noted mask) in
-    let b : AreNoted mask c.raise_part.new.trees (right_half c.args.part)
-    → AreNoted mask c.raise_part-2.new.trees (right_half c.args.part)
-    = rw (← c.right.ensures) (c.raise_part-2.ensures.noted mask) in
-    c.forget-2.ensures.noted mask (both_noted c.raise_part.new.trees c.raise_part-2.new.trees c.args.part h r mask
-    (a (noted_left mask c.args.trees.now c.args.part h n))
-    (b (right_noted c.args.trees.now c.raise_part.new.trees c.args.part h l mask n)))
+    let a : AreNoted c.args.trees.now (left_half c.args.part)
+    → AreNoted c.raise_part.new.trees (left_half c.args.part)
+    = rw (← c.left.ensures) (c.raise_part.ensures.noted) in
+    let b : AreNoted c.raise_part.new.trees (right_half c.args.part)
+    → AreNoted c.raise_part-2.new.trees (right_half c.args.part)
+    = rw (← c.right.ensures) (c.raise_part-2.ensures.noted) in
+    c.forget-2.ensures.noted (both_noted c.raise_part.new.trees c.raise_part-2.new.trees c.args.part h r
+    (a (noted_left c.args.trees.now c.args.part h n))
+    (b (right_noted c.args.trees.now c.raise_part.new.trees c.args.part h l n)))
 
 -- src/raise.rt
 pub returns-clause-raised : goal.returns-clause-raised

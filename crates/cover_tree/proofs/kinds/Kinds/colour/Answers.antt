@@ -33,9 +33,9 @@ returns-in_err-high-clause-none c = rw c.from_residual-in_err-high.ensures (λ k
 pub returns-clause-some : goal.returns-clause-some
 returns-clause-some c = record {
   each = λ s h.
-      let e = c.in_ok-low.ensures.some.each (index c.args.mask s) h.set in
-      let f = c.in_ok-middle.ensures.some.each (index c.args.mask s) h.set in
-      let g = c.in_ok-high.ensures.some.each (index c.args.mask s) h.set in
+      let e = c.in_ok-low.ensures.some.each (index s) h.set in
+      let f = c.in_ok-middle.ensures.some.each (index s) h.set in
+      let g = c.in_ok-high.ensures.some.each (index s) h.set in
       c.new-planes.ensures s
       ∙ rw (e, f, g, same_byte c.in_ok-low.low, same_byte c.in_ok-middle.middle, same_byte c.in_ok-high.high) refl;
 }

@@ -3,4 +3,4 @@ use Rattle.cover_tree.proofs.kinds.Kinds.union.Goals as goal
 
 -- src/kinds.rt
 pub returns : goal.returns
-returns c = λ mask s. either_kind mask c.args.self c.args.more s
+returns c = λ s. either_kind c.args.self c.args.more s

@@ -14,9 +14,9 @@ invariant_of-result c =
       sound = record {
         some = c.requires.some;
         small = c.requires.small;
-        noted = new_noted c.in_ok-trees.trees (2 * c.args.cells) n.0 n.1 c.args.mask n.2 (root c.args.cells);
+        noted = new_noted c.in_ok-trees.trees (2 * c.args.cells) n.0 n.2 n.1 (root c.args.cells);
         kept = c.in_ok-trees.ensures.kept;
-        room = new_room c.in_ok-trees.trees (2 * c.args.cells) n.0 n.1;
+        room = new_room c.in_ok-trees.trees (2 * c.args.cells) n.0 n.2;
       };
     }
 
@@ -25,7 +25,7 @@ pub returns-clause-bare : goal.returns-clause-bare
 unfolding cover_of
 returns-clause-bare c =
     let n = c.in_ok-trees.ensures.nodes in
-    bare_cover c.args.mask c.args.cells c.in_ok-trees.trees (new_bare c.in_ok-trees.trees (2 * c.args.cells) n.0 n.1)
+    bare_cover c.args.mask c.args.cells c.in_ok-trees.trees (new_bare c.in_ok-trees.trees (2 * c.args.cells) n.0 n.2)
 
 -- src/tree.rt
 pub returns-clause-row : goal.returns-clause-row
@@ -40,7 +40,7 @@ returns-clause-told c = λ cell.
     elim (cases_lt cell c.args.cells) [
       | inl h ↦ rw (lt-ltb cell c.args.cells h)
           (ap (colour_of c.args.mask)
-          (told_bare c.in_ok-trees.trees (2 * c.args.cells) n.0 n.1 (root c.args.cells) cell)
+          (told_bare c.in_ok-trees.trees (2 * c.args.cells) n.0 n.2 (root c.args.cells) cell)
           ∙ bare_colour c.args.mask)
       | inr h ↦ rw (le-ltb cell c.args.cells h) refl
     ]

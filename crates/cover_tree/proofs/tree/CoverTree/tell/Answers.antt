@@ -11,7 +11,7 @@ use Rattle.cover_tree.proofs.tree.CoverTree.tell.Goals as goal
 pub tell_part-requires-clause-noted : goal.tell_part-requires-clause-noted
 unfolding row_of
 tell_part-requires-clause-noted c = rw c.root-root.ensures
-    (later c.args.self.now.mask c.args.self.now.trees (root c.args.self.now.cells) c.args.row c.requires.order
+    (later c.args.self.now.trees (root c.args.self.now.cells) c.args.row c.requires.order
     c.args.self.now.sound.noted)
 
 -- src/tree.rt

@@ -18,8 +18,8 @@ returns c =
     let s = c.set_note.ensures in
     let e : u.nodes.items ≡ set t.nodes.items c.args.part.at n = rw c.stale.ensures at s.nodes in
     record {
-      noted = λ mask a. noted_anew t u c.args.part n h i e refl s.further s.since mask
-          (stale_note mask t c.args.part) (λ l. absurd (omega arith)) a;
+      noted = noted_anew t u c.args.part n h i e refl s.further s.since
+          (stale_note t c.args.part) (λ l. absurd (omega arith));
       only = anew_only t u c.args.part n h i e refl s.further s.since;
       tops = anew_tops t u c.args.part n h i e refl s.further s.since;
       told = λ l. told_same t u c.args.part.at n e s.further l refl;

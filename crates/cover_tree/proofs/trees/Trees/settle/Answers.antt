@@ -1,11 +1,8 @@
-use Rattle.std.proofs.Common.{◌≡◌, ◌<◌, length, sym, ◌∙◌, ap, arith}
+use Rattle.std.proofs.Common.{◌≡◌, ◌<◌, length, ap, arith}
 use Rattle.cover_tree.specs.declared.node.Node.{Node}
 use Rattle.cover_tree.specs.declared.trees.Trees.{Trees}
 use Rattle.cover_tree.specs.Layered.{node_at}
-use Rattle.cover_tree.specs.Nodes.{above, layers_of}
-use Rattle.cover_tree.specs.Looking.{own_at}
 use Rattle.cover_tree.specs.Notes.{IsTold}
-use Rattle.cover_tree.proofs.Nodes.{own_above}
 use Rattle.cover_tree.proofs.Noting.{noted_anew, anew_only, anew_tops, told_anew}
 use Rattle.cover_tree.proofs.trees.Trees.settle.Goals as goal
 
@@ -16,16 +13,13 @@ returns c =
     let u : Trees = c.set_node.new.self in
     let h = c.requires.small.some in
     let i : c.args.part.at < length t.nodes.items = omega (arith, c.requires.room) in
-    let n : Node = record { tops = c.node_at.result.tops; told = c.set-told.result; note = c.summed-note.result } in
+    let n : Node = record { tops = c.node_at.result.tops; told = c.args.own; note = c.summed-note.result } in
     let same : n.tops ≡ (node_at t c.args.part.at).tops = ap (λ m. m.tops) c.node_at.ensures in
     let s = c.set_node.ensures in
-    let e : layers_of t.further n.told ≡ own_at t t.since c.args.part.at =
-    c.set-told.ensures t.further ∙ ap (λ m. above t.further m t.since) same
-    ∙ sym (own_above t t.since c.args.part.at) in
     let told : IsTold u c.args.part =
-    told_anew t u c.args.part n h i s.nodes same s.further s.since e c.requires.told_halves in
+    told_anew t u c.args.part n h i s.nodes same s.further s.since c.requires.own c.requires.told_halves in
     record {
-      noted = noted_anew t u c.args.part n h i s.nodes same s.further s.since c.args.mask
+      noted = noted_anew t u c.args.part n h i s.nodes same s.further s.since
           c.summed-note.ensures (λ _. told) c.requires.halves;
       told = told;
       only = anew_only t u c.args.part n h i s.nodes same s.further s.since;

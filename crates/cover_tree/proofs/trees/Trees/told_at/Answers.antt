@@ -4,4 +4,4 @@ use Rattle.cover_tree.proofs.trees.Trees.told_at.Goals as goal
 
 -- src/trees.rt
 pub returns : goal.returns
-returns c = rw (c.layers.ensures, c.node_at.ensures) (sym (told_above c.args.self.now c.args.at))
+returns c = rw c.node_at.ensures (sym (told_above c.args.self.now c.args.at))
