@@ -7,6 +7,7 @@ ghost use Rattle.gate_row.specs.Row.{IsRow, most_written};
 
 use fabric::Fabric;
 use gate_row::row::row;
+use gate_row::size::{Size, network, rectangles};
 use gate_row::text::written;
 use std::time::Instant;
 use std::{env, io};
@@ -30,6 +31,22 @@ fn show_written(rt: &HostRuntime, fabric: Fabric, gates: u32) -> io::Result<()>
     eprintln!(rt; "{gates} gates: {bytes} bytes written in {took:?}")
 }
 
+// How large a row is.
+fn show_size(rt: &HostRuntime, fabric: &Fabric, gates: u32) -> io::Result<()> {
+    let start = Instant::now(rt)?;
+    let Ok(rectangles) = rectangles(rt.alloc(), fabric) else {
+        return println!(rt; "no memory");
+    };
+    let drawn = start.elapsed(rt)?;
+    let start = Instant::now(rt)?;
+    let Ok(Size { nodes, channels }) = network(rt.alloc(), fabric) else {
+        return println!(rt; "no memory");
+    };
+    let meant = start.elapsed(rt)?;
+    println!(rt; "{gates} gates: {rectangles} rectangles, {nodes} nodes, {channels} channels")?;
+    eprintln!(rt; "{gates} gates: shape {drawn:?}, switches {meant:?}")
+}
+
 fn show(rt: &HostRuntime, gates: u32) -> io::Result<()>
     requires some { 1 ≤ gates }
     requires few { gates ≤ MOST_GATES }
@@ -37,19 +54,7 @@ fn show(rt: &HostRuntime, gates: u32) -> io::Result<()>
     let Ok(fabric) = row(rt.alloc(), gates) else {
         return println!(rt; "no memory");
     };
-    let start = Instant::now(rt)?;
-    let Ok(shape) = fabric.shape(rt.alloc()) else {
-        return println!(rt; "no memory");
-    };
-    let drawn = start.elapsed(rt)?;
-    let start = Instant::now(rt)?;
-    let Ok(network) = fabric.switches(rt.alloc()) else {
-        return println!(rt; "no memory");
-    };
-    let meant = start.elapsed(rt)?;
-    let (rectangles, nodes, channels) = (shape.len(), network.nodes, network.channels.len());
-    println!(rt; "{gates} gates: {rectangles} rectangles, {nodes} nodes, {channels} channels")?;
-    eprintln!(rt; "{gates} gates: shape {drawn:?}, switches {meant:?}")?;
+    show_size(rt, &fabric, gates)?;
     if gates <= MOST_WRITTEN {
         show_written(rt, fabric, gates)?;
     }
