@@ -2,23 +2,70 @@
 //! statuses over the system's files.
 #![tactic(auto)]
 
-mod answer;
-mod counted;
-mod endless;
-mod ends;
-mod exits;
-mod files;
-mod script;
-mod sized;
-mod step;
+use mp_base::{Depot, NoMemory, Sink};
+use run_ends::{Runner, exit_text, push_line};
+use run_script::exit_of;
+use silicon::{Status, run};
+use std::alloc::Global;
+use std::env::Args;
+use std::fs;
+use std::io::{self, ErrorKind};
+use system_run::{exit_status, perform};
 
-use std::{fs, io};
+// The whole program, without parts.
+struct Whole;
+
+impl Runner for Whole {
+    fn run<D: Depot, O: Sink>(
+        &self,
+        alloc: Global,
+        words: &Vec<String>,
+        depot: &mut D,
+        out: &mut O,
+    ) -> Status {
+        let mut parts = Vec::new(alloc);
+        run(alloc, words, depot, out, &mut parts)
+    }
+}
+
+// What comes of the lines of a list.
+fn follow(rt: &HostRuntime, name: &str) -> io::Result<()> {
+    let list = fs::read_to_string(rt, name)?;
+    let mut files = Vec::new(rt.alloc());
+    for line in list.lines() {
+        let mut told = String::new(rt.alloc());
+        if let Err(NoMemory) = push_line(rt.alloc(), &mut told, &Whole, &mut files, line) {
+            return Err(io::Error::from(ErrorKind::OutOfMemory));
+        }
+        print!(rt; "{told}")?;
+    }
+    Ok(())
+}
+
+// The exit status of a run over the system's files, with so much room for its output.
+fn status_of(rt: &HostRuntime, room: &mut [u8], args: io::Result<Args>) -> u8 {
+    exit_status(perform(rt.alloc(), rt, room, args))
+}
+
+fn show_exit(rt: &HostRuntime, line: &str) -> io::Result<()> {
+    let mut exit = exit_of(rt.alloc(), line)?;
+    let args = exit.args(rt.alloc());
+    let told = exit.told;
+    let status = status_of(rt, &mut exit.room, args);
+    exit.room.truncate(told);
+    let text = exit_text(rt.alloc(), status, &exit.room)?;
+    print!(rt; "{line}\n{text}")
+}
 
 fn main(rt: HostRuntime) -> io::Result<()> {
     for name in ["sources.txt", "masks.txt", "words.txt", "chips.txt"] {
-        let text = fs::read_to_string(&rt, name)?;
-        script::follow(&rt, text.as_str())?;
+        follow(&rt, name)?;
     }
-    let text = fs::read_to_string(&rt, "exits.txt")?;
-    exits::follow(&rt, text.as_str())
+    let list = fs::read_to_string(&rt, "exits.txt")?;
+    for line in list.lines() {
+        show_exit(&rt, line)?;
+    }
+    let want = Err(io::Error::from(ErrorKind::OutOfMemory));
+    let status = status_of(&rt, &mut [0; 200], want);
+    println!(rt; "no memory for words\n    {status}")
 }

@@ -6,7 +6,7 @@ use mp_base::{Depot, Failed};
 
 /// Each name is that of a file of blanks without an end, which tells nothing.
 #[derive(Drop)]
-pub(crate) struct Endless;
+pub struct Endless;
 
 impl Depot for Endless {
     ghost held = { λ _. None };

@@ -1,24 +1,20 @@
 //! The lines of a list.
 
+use crate::failing::Side;
+use crate::files::Content;
+use std::alloc::{AllocError, Global};
+
 /// What a line of a list says.
 #[derive(Clone, Copy)]
-pub(crate) enum Step<'a> {
-    /// Sets a file to a text.
-    File(&'a str, &'a str),
-    /// Sets a file to the lines that slashes keep apart.
-    Lines(&'a str, &'a str),
-    /// Sets a file to one blank more than a source may have.
-    Blanks(&'a str),
+pub enum Step<'a> {
+    /// Sets a file.
+    Set(&'a str, Content<'a>),
     /// Runs `net` over each front of a text.
     Fronts(&'a str),
-    /// Runs words while each call of the output fails in turn, told in full.
-    Cut(&'a str),
-    /// The same of the files.
-    Stop(&'a str),
-    /// Runs words while each call of the files fails in turn, told in short.
-    FilesFail(&'a str),
-    /// The same of the output.
-    OutputFails(&'a str),
+    /// Runs words while each call of the files or of the output fails in turn, told in full.
+    EachFails(Side, &'a str),
+    /// The same, told in short.
+    EachEnds(Side, &'a str),
     /// Runs words over files whose appends take a byte, while a call of them fails.
     Bytewise(u64, &'a str),
     /// Runs words over files and an output whose calls never fail.
@@ -29,7 +25,7 @@ pub(crate) enum Step<'a> {
     Run(&'a str),
 }
 
-/// The first word of a text, and the rest.
+// The first word of a text, and the rest.
 pub(crate) fn first_word(text: &str) -> (&str, &str) {
     match text.split_once(' ') {
         Some(parts) => parts,
@@ -37,24 +33,20 @@ pub(crate) fn first_word(text: &str) -> (&str, &str) {
     }
 }
 
-/// The number that digits spell.
+// The number that digits spell, or 0.
 pub(crate) fn number(digits: &str) -> u64 {
-    let mut number = 0u64;
-    for digit in digits.bytes() {
-        number = number.wrapping_mul(10).wrapping_add(u64::from(digit & 15));
-    }
-    number
+    digits.parse::<u64>().unwrap_or(0)
 }
 
 // A line that sets a file.
 fn setting<'a>(first: &str, rest: &'a str) -> Option<Step<'a>> {
     let (name, text) = first_word(rest);
     if first == "file" {
-        Some(Step::File(name, text))
+        Some(Step::Set(name, Content::Text(text)))
     } else if first == "lines" {
-        Some(Step::Lines(name, text))
+        Some(Step::Set(name, Content::Lines(text)))
     } else if first == "blanks" {
-        Some(Step::Blanks(name))
+        Some(Step::Set(name, Content::Blanks))
     } else {
         None
     }
@@ -63,13 +55,13 @@ fn setting<'a>(first: &str, rest: &'a str) -> Option<Step<'a>> {
 // A line of runs of which each call fails in turn, or one.
 fn failing<'a>(first: &str, rest: &'a str) -> Option<Step<'a>> {
     if first == "cut" {
-        Some(Step::Cut(rest))
+        Some(Step::EachFails(Side::Output, rest))
     } else if first == "stop" {
-        Some(Step::Stop(rest))
+        Some(Step::EachFails(Side::Files, rest))
     } else if first == "files-fail" {
-        Some(Step::FilesFail(rest))
+        Some(Step::EachEnds(Side::Files, rest))
     } else if first == "output-fails" {
-        Some(Step::OutputFails(rest))
+        Some(Step::EachEnds(Side::Output, rest))
     } else if first == "bytewise" {
         let (call, words) = first_word(rest);
         Some(Step::Bytewise(number(call), words))
@@ -92,10 +84,19 @@ fn elsewhere<'a>(first: &str, rest: &'a str) -> Option<Step<'a>> {
 }
 
 /// What a line says, by its first word; a line with another first word is the words of a run.
-pub(crate) fn step_of(line: &str) -> Step<'_> {
+pub fn step_of(line: &str) -> Step<'_> {
     let (first, rest) = first_word(line);
     setting(first, rest)
         .or(failing(first, rest))
         .or(elsewhere(first, rest))
         .unwrap_or(Step::Run(line))
+}
+
+/// Words that are kept apart by blanks.
+pub fn words_of(alloc: Global, text: &str) -> Result<Vec<String>, AllocError> {
+    let mut words = Vec::new(alloc);
+    for word in text.split_whitespace() {
+        words.push(String::from_str(alloc, word)?)?;
+    }
+    Ok(words)
 }

@@ -1,9 +1,10 @@
 //! The size of a chip, counted from its masks.
 
-use crate::files::{File, text_of};
-use cif_flat::{flatten, read_is_well_formed};
-use cif_reader::read_cif;
+ghost use Rattle.std.specs.Prelude.{IsSome, IsTrue};
+ghost use Rattle.drawn_sizes.specs.Told.{IsDrawn};
+
 use lam_geom::{Layer, Rect};
+use mask_net::drawing_of;
 use mp_base::push_number;
 use std::alloc::{AllocError, Global};
 
@@ -171,17 +172,17 @@ fn push_line(lines: &mut Vec<u8>, word: &str, number: u64) -> Result<(), AllocEr
     Ok(())
 }
 
-fn drawn(alloc: Global, text: &[u8]) -> Option<Masks> {
-    read_is_well_formed();
-    let Ok(cif) = read_cif(alloc, text) else {
-        return None;
-    };
-    let flat = flatten(alloc, &cif).ok()?;
+fn drawn(alloc: Global, text: &[u8]) -> Option<Masks>
+    ensures { IsSome result → IsDrawn text.now }
+{
+    let flat = drawing_of(alloc, Vec::from_slice(alloc, text).ok()?).ok()?;
     masks_of(alloc, flat.shapes.as_slice())
 }
 
 // What is told of the size of the chip that masks draw, from the line of its columns on.
-fn size_of(alloc: Global, text: &[u8]) -> Option<Vec<u8>> {
+fn size_of(alloc: Global, text: &[u8]) -> Option<Vec<u8>>
+    ensures { IsSome result → IsDrawn text.now }
+{
     let masks = drawn(alloc, text)?;
     let tops = masks.band_tops(alloc)?;
     let mut lines = Vec::new(alloc);
@@ -189,11 +190,10 @@ fn size_of(alloc: Global, text: &[u8]) -> Option<Vec<u8>> {
     Some(lines)
 }
 
-/// Whether lines tell the size of the chip that the masks in the file `c` draw.
-pub(crate) fn is_size_of_chip(alloc: Global, files: &[File], lines: &str) -> bool {
-    let Some(masks) = text_of(files, "c") else {
-        return false;
-    };
+/// Whether lines tell the size of the chip that masks draw.
+pub fn is_size_of_chip(alloc: Global, masks: &[u8], lines: &str) -> bool
+    ensures { IsTrue result → IsDrawn masks.now }
+{
     match size_of(alloc, masks) {
         Some(size) => size.as_slice() == lines.as_bytes(),
         None => false,

@@ -1,0 +1,144 @@
+//! A run, and what is told of it.
+
+use crate::runner::Runner;
+use drawn_sizes::{is_size_at_end, is_size_of_chip};
+use mp_base::{List, MemSink, NoMemory, QuietSink};
+use outcome::Status;
+use run_script::{Endless, Failing, File, quiet_depot_of, text_of, words_of};
+use std::alloc::{AllocError, Global};
+
+/// How a run ended, what it printed, and the file `c` afterwards.
+#[derive(Drop)]
+pub(crate) struct Outcome {
+    pub status: Status,
+    pub printed: Vec<u8>,
+    pub written: Option<Vec<u8>>,
+}
+
+fn ended(
+    alloc: Global,
+    status: Status,
+    printed: &[u8],
+    written: Option<&[u8]>,
+) -> Result<Outcome, NoMemory> {
+    let written = match written {
+        Some(text) => Some(Vec::from_slice(alloc, text)?),
+        None => None,
+    };
+    Ok(Outcome {
+        status,
+        printed: Vec::from_slice(alloc, printed)?,
+        written,
+    })
+}
+
+/// A run over these files, where calls fail.
+pub(crate) fn answer<R: Runner>(
+    alloc: Global,
+    runner: &R,
+    files: &[File],
+    words: &str,
+    failing: Failing,
+) -> Result<Outcome, NoMemory> {
+    let words = words_of(alloc, words)?;
+    let mut depot = failing.depot(alloc, files)?;
+    let mut out = failing.sink(alloc)?;
+    let status = runner.run(alloc, &words, &mut depot, &mut out);
+    ended(alloc, status, out.bytes(), depot.get("c"))
+}
+
+// The room of files and output whose calls never fail.
+const ROOM: usize = 16_777_216;
+
+/// A run over these files, whose calls never fail.
+pub(crate) fn quiet_answer<R: Runner>(
+    alloc: Global,
+    runner: &R,
+    files: &[File],
+    words: &str,
+) -> Result<Outcome, NoMemory> {
+    let words = words_of(alloc, words)?;
+    let mut depot = quiet_depot_of(alloc, files, ROOM)?;
+    let mut out = QuietSink::new(alloc, ROOM)?;
+    let status = runner.run(alloc, &words, &mut depot, &mut out);
+    ended(alloc, status, out.bytes().unwrap_or(b"untold"), None)
+}
+
+/// A run over files that never end.
+pub(crate) fn endless_answer<R: Runner>(
+    alloc: Global,
+    runner: &R,
+    words: &str,
+) -> Result<Outcome, NoMemory> {
+    let words = words_of(alloc, words)?;
+    let mut depot = Endless;
+    let mut out = MemSink::new(alloc, List::new(alloc));
+    let status = runner.run(alloc, &words, &mut depot, &mut out);
+    ended(alloc, status, out.bytes(), None)
+}
+
+// Whether lines tell the size of the chip in the file `c`.
+fn tells_chip(alloc: Global, files: &[File], lines: &str) -> bool {
+    match text_of(files, "c") {
+        Some(masks) => is_size_of_chip(alloc, masks, lines),
+        None => false,
+    }
+}
+
+// Whether a line tells the size of the masks in the file `c` at the end of the stimulus in the file `t`.
+fn tells_end(alloc: Global, files: &[File], line: &str) -> bool {
+    match (text_of(files, "c"), text_of(files, "t")) {
+        (Some(masks), Some(stimulus)) => is_size_at_end(alloc, masks, stimulus, line),
+        _ => false,
+    }
+}
+
+impl Outcome {
+    /// The file `c` afterwards.
+    pub(crate) fn text(&self) -> Option<&[u8]> {
+        match &self.written {
+            Some(text) => Some(text),
+            None => None,
+        }
+    }
+
+    /// Whether the line that it printed begins so.
+    pub(crate) fn is_refused_by(&self, rule: &str) -> bool {
+        self.status == Status::Refused && self.printed.starts_with(rule.as_bytes())
+    }
+
+    /// Tells the status and what was printed. In place of the size of the masks in the file `c`, alone or at the end of
+    /// the stimulus in the file `t`, it says so, since the layout is free.
+    pub(crate) fn push(
+        &self,
+        alloc: Global,
+        told: &mut String,
+        files: &[File],
+    ) -> Result<(), AllocError> {
+        writeln!(told, "    {:?}", self.status)?;
+        let printed = String::from_utf8_lossy(alloc, &self.printed)?;
+        if let Some((weight, size)) = printed.split_once('\n') {
+            if tells_chip(alloc, files, size) {
+                let bands = size.lines().count().wrapping_sub(2);
+                return writeln!(told, "    {weight}\n    the size of c in {bands} bands");
+            }
+        }
+        for line in printed.lines() {
+            push_printed(alloc, told, files, line)?;
+        }
+        Ok(())
+    }
+}
+
+fn push_printed(
+    alloc: Global,
+    told: &mut String,
+    files: &[File],
+    line: &str,
+) -> Result<(), AllocError> {
+    if tells_end(alloc, files, line) {
+        told.push_str("    the size of c at the end of t\n")
+    } else {
+        writeln!(told, "    {line}")
+    }
+}

@@ -1,0 +1,13 @@
+//! How runs end, for programs of cases: what words over files in memory, as lists say, print and write, also where a
+//! call fails.
+#![tactic(auto)]
+
+mod answer;
+mod ends;
+mod exit;
+mod list;
+mod runner;
+
+pub use exit::exit_text;
+pub use list::push_line;
+pub use runner::Runner;

@@ -1,0 +1,150 @@
+//! Lists of files and runs.
+
+use crate::answer::{answer, endless_answer, quiet_answer};
+use crate::ends::{push_bytewise, push_ends};
+use crate::runner::Runner;
+use mp_base::NoMemory;
+use outcome::Status;
+use run_script::{File, NONE, Side, Step, set, step_of, text_of};
+use std::alloc::{AllocError, Global};
+
+// Whether a run that ended so is the last of those whose calls fail in turn.
+fn is_last(side: Side, status: Status) -> bool {
+    match side {
+        Side::Files => status == Status::Done,
+        Side::Output => status != Status::WriteFault,
+    }
+}
+
+fn push_call(told: &mut String, side: Side, call: u64) -> Result<(), AllocError> {
+    match side {
+        Side::Files => writeln!(told, "    call {call} of the files fails"),
+        Side::Output => writeln!(told, "    call {call} of the output fails"),
+    }
+}
+
+// Each call of the files or of the output fails in turn.
+fn push_fails<R: Runner>(
+    alloc: Global,
+    told: &mut String,
+    runner: &R,
+    files: &[File],
+    words: &str,
+    side: Side,
+) -> Result<(), NoMemory> {
+    for call in 0..20 {
+        push_call(told, side, call)?;
+        let found = answer(alloc, runner, files, words, side.failing(call))?;
+        found.push(alloc, told, files)?;
+        if is_last(side, found.status) {
+            return Ok(());
+        }
+    }
+    Ok(())
+}
+
+// The only file `f`.
+fn only_file(alloc: Global, text: &[u8]) -> Result<Vec<File>, AllocError> {
+    let mut files = Vec::new(alloc);
+    set(alloc, &mut files, "f", Vec::from_slice(alloc, text)?)?;
+    Ok(files)
+}
+
+// A front of masks, where `net` doesn't refuse it by C1.
+fn push_front<R: Runner>(
+    alloc: Global,
+    told: &mut String,
+    runner: &R,
+    front: &[u8],
+) -> Result<(), NoMemory> {
+    let files = only_file(alloc, front)?;
+    let found = answer(alloc, runner, &files, "net f", NONE)?;
+    if found.is_refused_by("error C1 at ") {
+        return Ok(());
+    }
+    writeln!(told, "    {} bytes", front.len())?;
+    Ok(found.push(alloc, told, &files)?)
+}
+
+// The fronts of a text of masks that `net` refuses by another rule than C1.
+fn push_fronts<R: Runner>(
+    alloc: Global,
+    told: &mut String,
+    runner: &R,
+    text: &str,
+) -> Result<(), NoMemory> {
+    let bytes = text.as_bytes();
+    for size in 0..bytes.len() {
+        push_front(alloc, told, runner, &bytes[..size])?;
+    }
+    Ok(())
+}
+
+// Sets the file `c`, where a run has written it anew.
+fn keep(
+    alloc: Global,
+    told: &mut String,
+    files: &mut Vec<File>,
+    written: &[u8],
+) -> Result<(), AllocError> {
+    if text_of(files, "c") == Some(written) {
+        return Ok(());
+    }
+    set(alloc, files, "c", Vec::from_slice(alloc, written)?)?;
+    told.push_str("    c is new\n")
+}
+
+// Runs words over the files.
+fn push_run<R: Runner>(
+    alloc: Global,
+    told: &mut String,
+    runner: &R,
+    files: &mut Vec<File>,
+    words: &str,
+) -> Result<(), NoMemory> {
+    let found = answer(alloc, runner, files, words, NONE)?;
+    if let Some(written) = found.text() {
+        keep(alloc, told, files, written)?;
+    }
+    Ok(found.push(alloc, told, files)?)
+}
+
+fn push_step<R: Runner>(
+    alloc: Global,
+    told: &mut String,
+    runner: &R,
+    files: &mut Vec<File>,
+    step: Step<'_>,
+) -> Result<(), NoMemory> {
+    match step {
+        Step::Set(name, content) => Ok(set(alloc, files, name, content.bytes(alloc)?)?),
+        Step::Fronts(text) => push_fronts(alloc, told, runner, text),
+        Step::EachFails(side, words) => push_fails(alloc, told, runner, files, words, side),
+        Step::EachEnds(side, words) => push_ends(alloc, told, runner, files, words, side),
+        Step::Bytewise(call, words) => push_bytewise(alloc, told, runner, files, words, call),
+        Step::Quiet(words) => {
+            Ok(quiet_answer(alloc, runner, files, words)?.push(alloc, told, files)?)
+        }
+        Step::Endless(words) => {
+            Ok(endless_answer(alloc, runner, words)?.push(alloc, told, files)?)
+        }
+        Step::Run(words) => push_run(alloc, told, runner, files, words),
+    }
+}
+
+/// Follows a line of a list, and tells the line and what came of it. A line sets a file, or runs words over the files
+/// that are set.
+///
+/// # Errors
+///
+/// Want of memory here; that of a run is told.
+pub fn push_line<R: Runner>(
+    alloc: Global,
+    told: &mut String,
+    runner: &R,
+    files: &mut Vec<File>,
+    line: &str,
+) -> Result<(), NoMemory> {
+    writeln!(told, "{line}")?;
+    push_step(alloc, told, runner, files, step_of(line))
+}

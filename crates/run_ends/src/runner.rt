@@ -1,0 +1,16 @@
+//! What is run.
+
+use mp_base::{Depot, Sink};
+use outcome::Status;
+use std::alloc::Global;
+
+/// A program that words set to work on files and an output.
+pub trait Runner {
+    fn run<D: Depot, O: Sink>(
+        &self,
+        alloc: Global,
+        words: &Vec<String>,
+        depot: &mut D,
+        out: &mut O,
+    ) -> Status;
+}

@@ -1,0 +1,15 @@
+//! What lists of runs say, for programs of cases: the files that they set, the words that are run over these, and which
+//! calls fail.
+#![tactic(auto)]
+
+mod endless;
+mod exit;
+mod failing;
+mod files;
+mod step;
+
+pub use endless::Endless;
+pub use exit::{Exit, exit_of};
+pub use failing::{Failing, NONE, Side};
+pub use files::{Content, File, quiet_depot_of, set, text_of};
+pub use step::{Step, step_of, words_of};
