@@ -2,7 +2,7 @@
 use Rattle.std.proofs.Common.{◌≡◌, ◌≢◌, ℕ, zero, suc, ◌+◌, ◌/◌, ◌<◌, ◌≤◌, inl, inr, List, get_or, length, replicate}
 use Rattle.std.proofs.Common.{false, refl, sym, ◌∙◌, ap, subst, arith}
 use Rattle.std.specs.Prelude.{nat_lt, if◌then◌else◌}
-use Rattle.std.proofs.lemmas.Bool.{cases_lt, lt-ltb, le-ltb}
+use Rattle.std.proofs.lemmas.Bool.{cases_lt, lt-ltb, le-ltb, true≢false}
 use Rattle.std.proofs.lemmas.List.{get_or-replicate, get_or_past}
 use Rattle.std.proofs.Math.ListN.{length-replicate}
 use Rattle.lam_geom.specs.declared.layer.Layer.{Layer}
@@ -10,6 +10,7 @@ use Rattle.lam_geom.specs.declared.layer.Layer.TheVariants.{ND, NP, NC, NM, NI, 
 use Rattle.mask_runs.specs.declared.mask.Mask.{Mask}
 use Rattle.mask_runs.specs.declared.mask.Mask.TheVariants.{Only, Diffusion, Contacts}
 use Rattle.mask_runs.specs.Colours.{bare, colour_of}
+use Rattle.cover_tree.specs.declared.layer_set.LayerSet.{LayerSet}
 use Rattle.cover_tree.specs.declared.node.Node.{Node}
 use Rattle.cover_tree.specs.declared.note.Note.{Note}
 use Rattle.cover_tree.specs.declared.part.Part.{Part}
@@ -20,7 +21,7 @@ use Rattle.cover_tree.specs.Parts.{top_at, root, left_half, right_half, top_to, 
 use Rattle.cover_tree.specs.Nodes.{layer_top, layers_of, no_tops, no_layers, set_tops, blank}
 use Rattle.cover_tree.specs.Layered.{node_at, tree, told_tree, cover}
 use Rattle.cover_tree.specs.Kinds.{HasKind}
-use Rattle.cover_tree.specs.Looking.{is_seen, seen_by, told, part_colour}
+use Rattle.cover_tree.specs.Looking.{is_seen, own_at, seen_by, told, part_colour}
 use Rattle.cover_tree.specs.Notes.{IsNoted, AreNoted}
 use Rattle.cover_tree.proofs.Nodes.{no_top, node_top, told_top}
 use Rattle.cover_tree.proofs.Noting.{stale_note}
@@ -63,6 +64,28 @@ no_layer NM = refl
 no_layer NI = refl
 no_layer NB = refl
 no_layer NG = refl
+
+-- a node that gives no layer in a row gives none in a later one
+none_later : (row since top : ℕ) → nat_lt since top ≡ false → since ≤ row → nat_lt row top ≡ nat_lt since top
+none_later row since top e h = elim (cases_lt since top) [
+  | inl l ↦ absurd (true≢false (sym (lt-ltb since top l) ∙ e))
+  | inr l ↦ le-ltb row top (omega arith) ∙ sym e
+]
+
+pub own_later : (t : Trees) (own : LayerSet) (k : ℕ) → own.bits ≡ 0
+    → layers_of t.further own ≡ own_at t t.since k → (row : ℕ) → t.since ≤ row → own_at t row k ≡ own_at t t.since k
+own_later t own k z e row h =
+    let none : own_at t t.since k ≡ bare =
+    sym e ∙ ap (λ b. layers_of t.further (record { bits = b })) z ∙ no_layer t.further in
+    λ i. record {
+      nd = none_later row t.since (top_at (tree t ND) k) (ap (λ l. l.nd) none) h i;
+      np = none_later row t.since (top_at (tree t NP) k) (ap (λ l. l.np) none) h i;
+      nc = none_later row t.since (top_at (tree t NC) k) (ap (λ l. l.nc) none) h i;
+      nm = none_later row t.since (top_at (tree t NM) k) (ap (λ l. l.nm) none) h i;
+      ni = none_later row t.since (top_at (tree t NI) k) (ap (λ l. l.ni) none) h i;
+      nb = none_later row t.since (top_at (tree t NB) k) (ap (λ l. l.nb) none) h i;
+      ng = none_later row t.since (top_at (tree t NG) k) (ap (λ l. l.ng) none) h i;
+    }
 
 bare_note : (t : Trees) → AreBare t → (n : Note) → HasKind n.kinds no_layers → (q : Part) → IsNoted t q n
 bare_note t f n k q = record {

@@ -271,6 +271,10 @@ module _ (own : LayerSet) (kinds after : Kinds)
   )
 
 -- with no layer besides
+pub union_none : (own s : LayerSet) → own.bits ≡ 0 → union own s ≡ s
+union_none own s e =
+    let same = ap (λ n. bit_or n s.bits) e ∙ or_zero_l s.bits in λ i. record { bits = same i }
+
 pub with_none : (kinds : Kinds) (own : LayerSet) → own.bits ≡ 0 → (s : LayerSet) → HasKind kinds s ↔ IsWith kinds own s
 with_none kinds own e s =
     let same = λ (r : LayerSet). (ap (λ n. bit_or n r.bits % 32) e ∙ ap (λ n. n % 32) (or_zero_l r.bits)) in (

@@ -10,11 +10,12 @@ ghost use Rattle.cover_tree.specs.Looking.{own_at, IsHandedDown};
 ghost use Rattle.cover_tree.specs.Notes.{AreNoted, IsTold, IsOnlyIn};
 ghost use Rattle.cover_tree.specs.Changing.{IsChange, Tells, Turns, was, is, with_last};
 
-use crate::kinds::{Effect, further};
+use crate::kinds::Effect;
 use crate::layer_set::LayerSet;
+use crate::palette::Palette;
 use crate::part::Part;
 use crate::trees::Trees;
-use mask_runs::{Mask, Run};
+use mask_runs::Run;
 use mp_base::NoMemory;
 use std::alloc::AllocError;
 
@@ -51,7 +52,7 @@ pub(crate) enum Change {
 /// `last` is open, and gives the next open one. Once memory is wanting the pieces are lost, but the part is told.
 pub(crate) fn tell_part(
     trees: &mut Trees,
-    mask: Mask,
+    palette: &Palette,
     part: Part,
     known: Known,
     last: Result<Run, NoMemory>,
@@ -59,26 +60,29 @@ pub(crate) fn tell_part(
 ) -> Result<Run, NoMemory>
     requires small { IsSmall part }
     requires room { part.at + 2 * part.width ≤ length trees.old.nodes.items + 1 }
-    requires further { trees.old.further ≡ further mask }
+    requires further { trees.old.further ≡ further palette.now.mask }
     requires noted { AreNoted trees.old part }
     ensures noted { AreNoted trees.new part }
     ensures told { IsTold trees.new part }
     ensures only { IsOnlyIn part trees.old trees.new }
     ensures tops { (l : Layer) → tree trees.new l ≡ tree trees.old l }
-    ensures pieces { Tells (was mask trees.old part known) (is mask trees.old part known)
+    ensures pieces { Tells (was palette.now.mask trees.old part known) (is palette.now.mask trees.old part known)
         pieces.old.items pieces.new.items last result part.base (part.base + part.width) }
 {
     if trees.since < trees.note_at(part.at).until {
-        return tell_noted(trees, mask, part, known, last, pieces);
+        if known.before == known.after {
+            return last;
+        }
+        return tell_noted(trees, palette, part, known, last, pieces);
     }
     let own = trees.own_at(part.at);
     let down = handed_down(trees, part, own, known);
     if part.width < 2 {
         trees.settle(part, own);
-        return tell_cell(mask, part, down, last, pieces);
+        return tell_cell(palette, part, down, last, pieces);
     }
-    let middle = tell_part(trees, mask, part.left(), down, last, pieces);
-    let next = tell_part(trees, mask, part.right(), down, middle, pieces);
+    let middle = tell_part(trees, palette, part.left(), down, last, pieces);
+    let next = tell_part(trees, palette, part.right(), down, middle, pieces);
     trees.settle(part, own);
     next
 }
@@ -86,28 +90,28 @@ pub(crate) fn tell_part(
 // Does so where the part is told, but for the layers that cover it as a whole.
 fn tell_noted(
     trees: &Trees,
-    mask: Mask,
+    palette: &Palette,
     part: Part,
     known: Known,
     last: Result<Run, NoMemory>,
     pieces: &mut Vec<Run>,
 ) -> Result<Run, NoMemory>
     requires small { IsSmall part }
-    requires further { trees.now.further ≡ further mask }
+    requires further { trees.now.further ≡ further palette.now.mask }
     requires noted { AreNoted trees.now part }
-    ensures { Tells (was mask trees.now part known) (is mask trees.now part known)
+    ensures { Tells (was palette.now.mask trees.now part known) (is palette.now.mask trees.now part known)
         pieces.old.items pieces.new.items last result part.base (part.base + part.width) }
 {
-    match change_of(trees, mask, part, known) {
+    match change_of(trees, palette, part, known) {
         Change::Nowhere => last,
         Change::Everywhere(colour) => add(pieces, last, part, colour),
         Change::Somewhere => {
             let down = handed_down(trees, part, trees.own_at(part.at), known);
             if part.width < 2 {
-                return tell_cell(mask, part, down, last, pieces);
+                return tell_cell(palette, part, down, last, pieces);
             }
-            let middle = tell_noted(trees, mask, part.left(), down, last, pieces);
-            tell_noted(trees, mask, part.right(), down, middle, pieces)
+            let middle = tell_noted(trees, palette, part.left(), down, last, pieces);
+            tell_noted(trees, palette, part.right(), down, middle, pieces)
         }
     }
 }
@@ -150,35 +154,31 @@ fn add(
 
 // Adds the cell of a part that has but one, of which all layers are known, if it changes its colour.
 fn tell_cell(
-    mask: Mask,
+    palette: &Palette,
     part: Part,
     known: Known,
     last: Result<Run, NoMemory>,
     pieces: &mut Vec<Run>,
 ) -> Result<Run, NoMemory>
     requires small { IsSmall part }
-    ensures { Tells (λ _. set_colour mask known.before) (λ _. set_colour mask known.after)
+    ensures { Tells (λ _. set_colour palette.now.mask known.before) (λ _. set_colour palette.now.mask known.after)
         pieces.old.items pieces.new.items last result part.base (part.base + part.width) }
 {
-    let colour = set_colour(mask, known.after);
-    if set_colour(mask, known.before) == colour {
+    if known.before == known.after {
+        return last;
+    }
+    let colour = palette.colour(known.after);
+    if palette.colour(known.before) == colour {
         return last;
     }
     add(pieces, last, part, colour)
 }
 
-// The colour of a set on a mask.
-fn set_colour(mask: Mask, set: LayerSet) -> u8
-    ensures { result ≡ set_colour mask set }
-{
-    mask.colour(set.layers(further(mask)))
-}
-
 // What becomes of the part's cells, as far as its note tells it.
-fn change_of(trees: &Trees, mask: Mask, part: Part, known: Known) -> Change
-    requires further { trees.now.further ≡ further mask }
+fn change_of(trees: &Trees, palette: &Palette, part: Part, known: Known) -> Change
+    requires further { trees.now.further ≡ further palette.now.mask }
     requires noted { AreNoted trees.now part }
-    ensures { IsChange mask trees.now part known result }
+    ensures { IsChange palette.now.mask trees.now part known result }
 {
     let note = trees.note_at(part.at);
     if note.until <= trees.since {
@@ -187,9 +187,9 @@ fn change_of(trees: &Trees, mask: Mask, part: Part, known: Known) -> Change
     if known.before == known.after {
         return Change::Nowhere;
     }
-    match note.kinds.effect(mask, known.before, known.after) {
+    match note.kinds.effect(palette, known.before, known.after) {
         Effect::Nowhere => Change::Nowhere,
-        Effect::Everywhere => match note.kinds.colour(mask, known.after) {
+        Effect::Everywhere => match note.kinds.colour(palette, known.after) {
             Some(colour) => Change::Everywhere(colour),
             None => Change::Somewhere,
         },

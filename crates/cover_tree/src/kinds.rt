@@ -6,7 +6,8 @@ ghost use Rattle.cover_tree.specs.declared.layer_set.LayerSet.{LayerSet};
 ghost use Rattle.cover_tree.specs.Kinds.{bit, further, index, HasKind, IsWith, IsBeside, IsEffect, AreOneColour, Share};
 
 use crate::layer_set::LayerSet;
-use crate::planes::{FURTHER, NB, ND, NM, NP, Planes};
+use crate::palette::Palette;
+use crate::planes::{FURTHER, NB, ND, NM, NP};
 use lam_geom::Layer;
 use mask_runs::Mask;
 
@@ -59,11 +60,11 @@ impl Kinds {
     }
 
     /// The one colour of all these sets with the layers known besides, if they have one.
-    pub fn colour(self, mask: Mask, known: LayerSet) -> Option<u8>
-        ensures some { IfSome result (λ k. AreOneColour mask self known k) }
-        ensures none { IfNone result ((k : ℕ) → ¬ AreOneColour mask self known k) }
+    pub fn colour(self, palette: &Palette, known: LayerSet) -> Option<u8>
+        ensures some { IfSome result (λ k. AreOneColour palette.now.mask self known k) }
+        ensures none { IfNone result ((k : ℕ) → ¬ AreOneColour palette.now.mask self known k) }
     {
-        let planes = Planes::new(mask, known);
+        let planes = palette.with(known);
         let low = self.shared(planes.low)?;
         let middle = self.shared(planes.middle)?;
         let high = self.shared(planes.high)?;
@@ -71,10 +72,10 @@ impl Kinds {
     }
 
     /// What becomes of the sets' colours where they lie with the layers `new` in place of `old`.
-    pub fn effect(self, mask: Mask, old: LayerSet, new: LayerSet) -> Effect
-        ensures { IsEffect mask self old new result }
+    pub fn effect(self, palette: &Palette, old: LayerSet, new: LayerSet) -> Effect
+        ensures { IsEffect palette.now.mask self old new result }
     {
-        let differing = Planes::new(mask, old).differing(Planes::new(mask, new));
+        let differing = palette.with(old).differing(palette.with(new));
         match self.shared(differing) {
             Some(false) => Effect::Nowhere,
             Some(true) => Effect::Everywhere,

@@ -1,9 +1,5 @@
 //! Sets of the layers that a mask may use.
 
-use crate::node::Tops;
-use lam_geom::Layer;
-use mask_runs::Layers;
-
 /// Which of ND, NP, NB, one further layer and NM: a bit for each, in this order.
 #[derive(Clone, Copy, PartialEq, Eq, Drop)]
 pub(crate) struct LayerSet {
@@ -12,7 +8,7 @@ pub(crate) struct LayerSet {
 
 impl LayerSet {
     ghost use Rattle.std.specs.Prelude.{◌≡◌, ◌<◌};
-    ghost use Rattle.cover_tree.specs.Nodes.{no_layers, set_tops, layers_of};
+    ghost use Rattle.cover_tree.specs.Nodes.{no_layers};
     ghost use Rattle.cover_tree.specs.Kinds.{has_bit, union};
 
     /// No layer.
@@ -37,25 +33,5 @@ impl LayerSet {
         ensures { result ≡ has_bit self.bits weight }
     {
         self.bits / weight % 2 == 1
-    }
-
-    /// The layers, where the other one is the further layer.
-    pub fn layers(self, further: Layer) -> Layers
-        ensures { result ≡ layers_of further self }
-    {
-        self.tops().above(further, 0)
-    }
-
-    // Tops above row 0 for the layers that are there.
-    fn tops(self) -> Tops
-        ensures { result ≡ set_tops self }
-    {
-        Tops {
-            nd: self.bits as u32 % 2,
-            np: self.bits as u32 / 2 % 2,
-            nb: self.bits as u32 / 4 % 2,
-            further: self.bits as u32 / 8 % 2,
-            nm: self.bits as u32 / 16 % 2,
-        }
     }
 }

@@ -6,6 +6,7 @@ mod kinds;
 mod layer_set;
 mod node;
 mod note;
+mod palette;
 mod part;
 mod planes;
 mod raise;

@@ -6,7 +6,6 @@ ghost use Rattle.lam_geom.specs.declared.layer.Layer.{Layer};
 use crate::layer_set::LayerSet;
 use crate::note::Note;
 use lam_geom::Layer;
-use mask_runs::Layers;
 
 /// What a part's node says of the part as a whole, now and in the row told last, and the note of what lies over its
 /// cells.
@@ -58,27 +57,7 @@ impl Tops {
         }
     }
 
-    /// The layers that cover the part in a row.
-    pub fn above(self, further: Layer, row: u32) -> Layers
-        ensures { result ≡ above further self row }
-    {
-        let low = Layers {
-            nd: row < self.nd,
-            np: row < self.np,
-            nb: row < self.nb,
-            nm: row < self.nm,
-            ..Layers::none()
-        };
-        let own = row < self.further;
-        match further {
-            Layer::NC => Layers { nc: own, ..low },
-            Layer::NI => Layers { ni: own, ..low },
-            Layer::NG => Layers { ng: own, ..low },
-            _ => low,
-        }
-    }
-
-    /// The set of these layers.
+    /// The set of the layers that cover the part in a row.
     pub fn set(self, row: u32) -> LayerSet
         ensures { (f : Layer) → layers_of f result ≡ above f self row }
     {

@@ -57,6 +57,17 @@ impl Planes {
         }
     }
 
+    /// The colour of a set.
+    pub fn colour(self, set: LayerSet) -> u8
+        ensures { result ≡ colour_at self (index set) }
+    {
+        let at = set.bits % 32;
+        let low = (self.low >> at) % 2;
+        let middle = (self.middle >> at) % 2;
+        let high = (self.high >> at) % 2;
+        low as u8 + 2 * middle as u8 + 4 * high as u8
+    }
+
     /// The sets that have another colour here than there.
     pub fn differing(self, other: Planes) -> u32
         ensures { (i : ℕ) → (bit_at result i ≡ 0) ↔ (colour_at self i ≡ colour_at other i) }

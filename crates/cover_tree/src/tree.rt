@@ -3,6 +3,7 @@
 ghost use Rattle.cover_tree.specs.Notes.{AreSound};
 
 use crate::changes::{Known, close, tell_part};
+use crate::palette::Palette;
 use crate::part::Part;
 use crate::raise::raise_part;
 use crate::span::Span;
@@ -96,6 +97,7 @@ impl CoverTree {
         };
         let root = Part::root(self.cells);
         let bare = Known::none();
-        tell_part(&mut self.trees, self.mask, root, bare, Ok(blank), pieces)
+        let palette = Palette::new(self.mask);
+        tell_part(&mut self.trees, &palette, root, bare, Ok(blank), pieces)
     }
 }

@@ -166,7 +166,7 @@ impl Trees {
         requires halves { AreHalvesNoted self.now part }
         ensures { IsNoted self.now part result }
     {
-        let until = self.own_until(part.at);
+        let until = self.own_until(part.at, own);
         if part.width < 2 {
             return Note {
                 until,
@@ -181,11 +181,15 @@ impl Trees {
         }
     }
 
-    // Up to which row a part's own node gives the same layers as now.
-    fn own_until(&self, at: usize) -> u32
+    // Up to which row a part's own node gives the same layers as now, which are `own`.
+    fn own_until(&self, at: usize, own: LayerSet) -> u32
+        requires { layers_of self.now.further own ≡ own_at self.now self.now.since at }
         ensures { (row : ℕ) → self.now.since ≤ row → row < result
             → own_at self.now row at ≡ own_at self.now self.now.since at }
     {
+        if own.bits == 0 {
+            return u32::MAX;
+        }
         self.node_at(at).tops.until(self.since)
     }
 }

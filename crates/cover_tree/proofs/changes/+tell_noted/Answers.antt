@@ -11,20 +11,20 @@ use Rattle.cover_tree.proofs.changes.+tell_noted.Goals as goal
 -- src/changes.rt
 pub returns-in-Nowhere : goal.returns-in-Nowhere
 returns-in-Nowhere t c =
-    stays (was c.args.mask c.args.trees.now c.args.part c.args.known)
-    (is c.args.mask c.args.trees.now c.args.part c.args.known) c.args.pieces.now.items c.args.last c.args.part
+    stays (was c.args.palette.now.mask c.args.trees.now c.args.part c.args.known)
+    (is c.args.palette.now.mask c.args.trees.now c.args.part c.args.known) c.args.pieces.now.items c.args.last c.args.part
     c.in-Nowhere.ensures
 
 -- src/changes.rt
 pub returns-in-Everywhere : goal.returns-in-Everywhere
 returns-in-Everywhere t c =
-    c.add.ensures (was c.args.mask c.args.trees.now c.args.part c.args.known)
-    (is c.args.mask c.args.trees.now c.args.part c.args.known) c.in-Everywhere.ensures
+    c.add.ensures (was c.args.palette.now.mask c.args.trees.now c.args.part c.args.known)
+    (is c.args.palette.now.mask c.args.trees.now c.args.part c.args.known) c.in-Everywhere.ensures
 
 -- src/changes.rt
 pub returns-then-part-lt2 : goal.returns-then-part-lt2
 returns-then-part-lt2 t c =
-    leaf_told c.args.mask c.args.trees.now c.args.part c.args.known c.handed_down-down.result
+    leaf_told c.args.palette.now.mask c.args.trees.now c.args.part c.args.known c.handed_down-down.result
     c.handed_down-down.ensures.before c.handed_down-down.ensures.after c.args.pieces.now.items
     c.tell_cell.new.pieces.items c.args.last c.tell_cell.result c.requires.further c.if-part-lt2.true
     c.tell_cell.ensures
@@ -57,7 +57,7 @@ tell_noted-requires t c =
 pub returns-else-part-lt2 : goal.returns-else-part-lt2
 returns-else-part-lt2 t c =
     let h : 2 ≤ c.args.part.width = omega arith in
-    halves_told c.args.mask c.args.trees.now c.args.part c.args.known c.handed_down-down.result
+    halves_told c.args.palette.now.mask c.args.trees.now c.args.part c.args.known c.handed_down-down.result
     c.handed_down-down.ensures.before c.handed_down-down.ensures.after c.args.trees.now
     (only_none (left_half c.args.part) c.args.trees.now) h
     c.args.pieces.now.items c.tell_noted-middle.new.pieces.items c.tell_noted.new.pieces.items

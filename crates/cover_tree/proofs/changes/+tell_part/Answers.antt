@@ -1,11 +1,14 @@
-use Rattle.std.proofs.Common.{◌≤◌, refl, ◌∙◌, arith}
+use Rattle.std.proofs.Common.{◌≤◌, refl, sym, ◌∙◌, arith}
 use Rattle.cover_tree.specs.Parts.Within.{here}
 use Rattle.cover_tree.specs.Parts.{left_half, right_half}
-use Rattle.cover_tree.specs.Notes.{IsOnlyIn}
+use Rattle.cover_tree.specs.Changing.{was, is}
+use Rattle.cover_tree.specs.Notes.{IsTold, IsOnlyIn}
 use Rattle.cover_tree.proofs.Tops.{small_left, small_right}
 use Rattle.cover_tree.proofs.Noting.{noted_left, own_same}
 use Rattle.cover_tree.proofs.Raising.{right_noted, both_noted, both_told, both_only, only_none}
-use Rattle.cover_tree.proofs.Changing.{leaf_told, halves_told}
+use Rattle.cover_tree.proofs.Alike.{same_set}
+use Rattle.cover_tree.proofs.Telling.{stays}
+use Rattle.cover_tree.proofs.Changing.{alike_change, leaf_told, halves_told}
 use Rattle.cover_tree.proofs.changes.+tell_part.Goals as goal
 
 -- src/changes.rt
@@ -17,6 +20,22 @@ returns-then-trees-note_at t c = record {
   tops = λ l. refl;
   pieces = c.tell_noted.ensures;
 }
+
+-- src/changes.rt
+pub returns-then-eq : goal.returns-then-eq
+returns-then-eq t c =
+    let told : IsTold c.args.trees.now c.args.part =
+    c.requires.noted.told c.args.part here (rw (← c.note_at.ensures) c.if-trees-note_at.true) in
+    record {
+      noted = c.requires.noted;
+      told = told;
+      only = only_none c.args.part c.args.trees.now;
+      tops = λ l. refl;
+      pieces = stays (was c.args.palette.now.mask c.args.trees.now c.args.part c.args.known)
+          (is c.args.palette.now.mask c.args.trees.now c.args.part c.args.known) c.args.pieces.now.items c.args.last c.args.part
+          (alike_change c.args.palette.now.mask c.args.trees.now c.args.part c.args.known told
+          (same_set _ _ (sym c.eq.ensures ∙ c.if-eq.true)));
+    }
 
 -- src/changes.rt
 pub settle-requires-clause-halves : goal.settle-requires-clause-halves
@@ -33,7 +52,7 @@ returns-then-part-lt2 t c = record {
   told = c.settle.ensures.told;
   only = c.settle.ensures.only;
   tops = c.settle.ensures.tops;
-  pieces = leaf_told c.args.mask c.args.trees.now c.args.part c.args.known c.handed_down-down.result
+  pieces = leaf_told c.args.palette.now.mask c.args.trees.now c.args.part c.args.known c.handed_down-down.result
       c.handed_down-down.ensures.before c.handed_down-down.ensures.after c.args.pieces.now.items
       c.tell_cell.new.pieces.items c.args.last c.tell_cell.result c.requires.further
       c.if-part-lt2.true c.tell_cell.ensures;
@@ -115,7 +134,7 @@ returns t c =
           c.settle-2.new.self c.settle-2.ensures.only;
       tops = λ k. c.settle-2.ensures.tops k ∙ c.tell_part-next.ensures.tops k
           ∙ c.tell_part-middle.ensures.tops k;
-      pieces = halves_told c.args.mask c.args.trees.now c.args.part c.args.known c.handed_down-down.result
+      pieces = halves_told c.args.palette.now.mask c.args.trees.now c.args.part c.args.known c.handed_down-down.result
           c.handed_down-down.ensures.before c.handed_down-down.ensures.after c.tell_part-middle.new.trees l h
           c.args.pieces.now.items c.tell_part-middle.new.pieces.items c.tell_part-next.new.pieces.items
           c.args.last c.tell_part-middle.result c.tell_part-next.result

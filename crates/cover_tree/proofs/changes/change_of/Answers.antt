@@ -12,7 +12,7 @@ returns-then-eq c =
     let l : c.args.trees.now.since < (note_at c.args.trees.now c.args.part.at).until =
     rw (← c.note_at-note.ensures) h in
     let s : IsTold c.args.trees.now c.args.part = c.requires.noted.told c.args.part here l in
-    alike_change c.args.mask c.args.trees.now c.args.part c.args.known s
+    alike_change c.args.palette.now.mask c.args.trees.now c.args.part c.args.known s
     (same_set _ _ (sym c.eq.ensures ∙ c.if-eq.true))
 
 -- src/changes.rt
@@ -22,7 +22,7 @@ returns-in-Nowhere c =
     let l : c.args.trees.now.since < (note_at c.args.trees.now c.args.part.at).until =
     rw (← c.note_at-note.ensures) h in
     let s : IsTold c.args.trees.now c.args.part = c.requires.noted.told c.args.part here l in
-    kept_change c.args.mask c.args.trees.now c.args.part c.args.known s c.requires.further
+    kept_change c.args.palette.now.mask c.args.trees.now c.args.part c.args.known s c.requires.further
     c.note_at-note.result.kinds
     (λ n i. (rw (← c.note_at-note.ensures) at (c.requires.noted.each c.args.part here)).kinds n h i)
     c.in-Nowhere.ensures
@@ -34,7 +34,7 @@ returns-in-Some c =
     let l : c.args.trees.now.since < (note_at c.args.trees.now c.args.part.at).until =
     rw (← c.note_at-note.ensures) h in
     let s : IsTold c.args.trees.now c.args.part = c.requires.noted.told c.args.part here l in
-    turned_change c.args.mask c.args.trees.now c.args.part c.args.known s c.requires.further
+    turned_change c.args.palette.now.mask c.args.trees.now c.args.part c.args.known s c.requires.further
     c.note_at-note.result.kinds
     (λ n i. (rw (← c.note_at-note.ensures) at (c.requires.noted.each c.args.part here)).kinds n h i)
     c.in-Some.colour c.in-Everywhere.ensures c.in-Some.ensures.some

@@ -13,21 +13,21 @@ pub returns-in_err-low-clause-none : goal.returns-in_err-low-clause-none
 returns-in_err-low-clause-none c = rw c.from_residual.ensures (λ k h.
     let small : c.args.self.bits < 2 ^ 32 = omega arith in
     c.in_err-low.ensures.none (k % 2)
-    (low_shared c.args.mask c.args.self small c.args.known c.new-planes.result c.new-planes.ensures k h))
+    (low_shared c.args.palette.now.mask c.args.self small c.args.known c.with-planes.result c.with-planes.ensures k h))
 
 -- src/kinds.rt
 pub returns-in_err-middle-clause-none : goal.returns-in_err-middle-clause-none
 returns-in_err-middle-clause-none c = rw c.from_residual-in_err-middle.ensures (λ k h.
     let small : c.args.self.bits < 2 ^ 32 = omega arith in
     c.in_err-middle.ensures.none (k / 2 % 2)
-    (middle_shared c.args.mask c.args.self small c.args.known c.new-planes.result c.new-planes.ensures k h))
+    (middle_shared c.args.palette.now.mask c.args.self small c.args.known c.with-planes.result c.with-planes.ensures k h))
 
 -- src/kinds.rt
 pub returns-in_err-high-clause-none : goal.returns-in_err-high-clause-none
 returns-in_err-high-clause-none c = rw c.from_residual-in_err-high.ensures (λ k h.
     let small : c.args.self.bits < 2 ^ 32 = omega arith in
     c.in_err-high.ensures.none (k / 4)
-    (high_shared c.args.mask c.args.self small c.args.known c.new-planes.result c.new-planes.ensures k h))
+    (high_shared c.args.palette.now.mask c.args.self small c.args.known c.with-planes.result c.with-planes.ensures k h))
 
 -- src/kinds.rt
 pub returns-clause-some : goal.returns-clause-some
@@ -36,6 +36,6 @@ returns-clause-some c = record {
       let e = c.in_ok-low.ensures.some.each (index s) h.set in
       let f = c.in_ok-middle.ensures.some.each (index s) h.set in
       let g = c.in_ok-high.ensures.some.each (index s) h.set in
-      c.new-planes.ensures s
+      c.with-planes.ensures s
       ∙ rw (e, f, g, same_byte c.in_ok-low.low, same_byte c.in_ok-middle.middle, same_byte c.in_ok-high.high) refl;
 }
