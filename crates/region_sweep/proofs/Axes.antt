@@ -1,20 +1,20 @@
 -- The law of a place and its cell.
 use Rattle.std.proofs.Common.{ℕ, zero, suc, ◌≡◌, ◌+◌, ◌-◌, ◌<◌, ◌≤◌, ◌⊎◌, ◌↔◌, List, [], ◌∷◌, true, false, inl, inr}
-use Rattle.std.proofs.Common.{sym, ◌∙◌, subst, arith, length, get_or, eq-or-lt_of_le}
-use Rattle.std.proofs.lemmas.List.{get_or_default}
+use Rattle.std.proofs.Common.{sym, ap, ◌∙◌, subst, arith, drop, length, get_or, eq-or-lt_of_le}
+use Rattle.std.proofs.lemmas.List.{get_or_default, get_or-drop, get_or-take, length-drop, length-take}
 use Rattle.std.proofs.lemmas.List.Elements.{All-from_recursion}
 use Rattle.std.proofs.lemmas.List.Kept.{AllPairs-cons, Contains-dedup, Contains-from_dedup, IsStrictlySortedBy-dedup}
 use Rattle.std.proofs.lemmas.List.Sorted.{Contains-permutation, IsPermutation-sym}
 use Rattle.std.proofs.lemmas.Bool.Decides.{nat_tests}
 use Rattle.std.proofs.lemmas.Cmp.{int_cmp_total, int_eq_equiv}
-use Rattle.std.specs.List.{dedup, AllByRecursion}
+use Rattle.std.specs.List.{dedup, slice_range, AllByRecursion}
 use Rattle.std.specs.List.Sorted.{IsPartitionPoint, IsPartitionedBy, IsSorted, IsPermutation, IsStrictlySortedBy}
 use Rattle.std.specs.Ordering.{int_cmp, int_eq}
 use Rattle.std.proofs.Common.{Less}
 use Rattle.std.proofs.lemmas.Bool.{cases_order, cases_lt}
 use Rattle.std.specs.Prelude.{ℤ, pos, negsuc, ◌+ℤ◌, ◌≤ℤ◌, ◌<ℤ◌, int_le, Contains}
 use Rattle.std.proofs.lemmas.Int.{ints, by_lt_z}
-use Rattle.region_sweep.specs.Grid.{Ascending, cell_of, start_of}
+use Rattle.region_sweep.specs.Grid.{Ascending, Surrounds, cell_of, start_of}
 
 -- the marks before the cell's end are at or before the place, and the others after it
 pub record InCell (marks : List ℤ) (z : ℤ) (c : ℕ) : Type 0 where
@@ -152,14 +152,68 @@ pub step_back : (ms : List ℤ) (z : ℤ) → Ascending ms
     × (cell_of ms (z +ℤ negsuc 0) + 1 ≡ cell_of ms z) × (start_of ms (cell_of ms z) ≡ z)
 step_back ms z up = at_cell ms z up (cell_of ms z) (in_cell ms z up)
 
--- the place where the marks cease to be at or before a place counts them
-pub cell_from_point : (ms : List ℤ) (z : ℤ) (i : ℕ) → Ascending ms → i ≤ length ms
-    → IsPartitionPoint (λ m. int_le m z ≡ true) (λ m. int_le m z ≡ false) ms i → i ≡ cell_of ms z
-cell_from_point ms z i up l h = sym (cell_is ms z i up (record {
-  within = l;
-  below = λ k m. let e = h.0 k (pos 0) (omega arith) m in grind (arith, ints);
-  above = λ k m n. let e = h.1 k (pos 0) m n in grind (arith, ints);
-}))
+part_at : (ms : List ℤ) (a b k : ℕ) (d : ℤ) → a ≤ k → k < b → get_or (slice_range ms a b) (k - a) d ≡ get_or ms k d
+part_at ms a b k d l m =
+    let back : a + (k - a) ≡ k = omega arith in
+    get_or-take (b - a) (drop a ms) (k - a) d (omega arith) ∙ get_or-drop a ms (k - a) d ∙ ap (λ n. get_or ms n d) back
+
+part_length : (ms : List ℤ) (a b : ℕ) → a ≤ b → b ≤ length ms → length (slice_range ms a b) ≡ b - a
+part_length ms a b l m = simp (length-take, length-drop) (omega arith)
+
+pub part_rises : (ms : List ℤ) (a b : ℕ) → Ascending ms → a ≤ b → b ≤ length ms → Ascending (slice_range ms a b)
+part_rises ms a b up l m i j d h n =
+    let size = part_length ms a b l m in
+    let at : (k : ℕ) → k < b - a → get_or (slice_range ms a b) k d ≡ get_or ms (a + k) d =
+    λ k o. get_or-take (b - a) (drop a ms) k d o ∙ get_or-drop a ms k d in
+    let u : get_or ms (a + i) d <ℤ get_or ms (a + j) d = up (a + i) (a + j) d (omega arith) (omega arith) in
+    rw (at i (omega arith), at j (omega arith)) u
+
+-- where the marks cease to be at or before a place, among those that surround it, counts all such marks
+pub cell_from_part : (ms : List ℤ) (z : ℤ) (a b i : ℕ) → Ascending ms → Surrounds ms z a b
+    → i ≤ length (slice_range ms a b)
+    → IsPartitionPoint (λ m. int_le m z ≡ true) (λ m. int_le m z ≡ false) (slice_range ms a b) i → a + i ≡ cell_of ms z
+cell_from_part ms z a b i up s l h =
+    let size = part_length ms a b s.ordered s.within in
+    let inside : i ≤ b - a = omega arith in
+    sym (cell_is ms z (a + i) up (record {
+      within = let w = s.within in let o = s.ordered in omega arith;
+      below = λ k m. elim (cases_lt k a) [
+        | inl n ↦ s.below k n
+        | inr n ↦ let e = h.0 (k - a) (pos 0) (omega arith) (omega arith) in
+            let same = part_at ms a b k (pos 0) n (omega arith) in
+            let t : int_le (get_or ms k (pos 0)) z ≡ true = subst (λ x. int_le x z ≡ true) same e in
+            grind (arith, ints)
+      ];
+      above = λ k m n. elim (cases_lt k b) [
+        | inl o ↦ let e = h.1 (k - a) (pos 0) (omega arith) (omega arith) in
+            let same = part_at ms a b k (pos 0) (omega arith) o in
+            let t : int_le (get_or ms k (pos 0)) z ≡ false = subst (λ x. int_le x z ≡ false) same e in
+            grind (arith, ints)
+        | inr o ↦ s.above k o n
+      ];
+    }))
+
+-- the marks on both sides of a stretch surround the place
+pub surrounds : (ms : List ℤ) (z : ℤ) (a b : ℕ) → Ascending ms → a ≤ b → b ≤ length ms
+    → (a ≡ 0) ⊎ (get_or ms (a - 1) (pos 0) ≤ℤ z) → (b ≡ length ms) ⊎ (z <ℤ get_or ms b (pos 0)) → Surrounds ms z a b
+surrounds ms z a b up l m before after = record {
+  ordered = l;
+  within = m;
+  below = λ k h. elim before [
+    | inl e ↦ absurd (omega arith)
+    | inr t ↦ elim (eq-or-lt_of_le {n = k} {m = a - 1} (omega arith)) [
+      | inl e ↦ rw e t
+      | inr n ↦ let u = up k (a - 1) (pos 0) n (omega arith) in omega (arith, ints)
+    ]
+  ];
+  above = λ k h n. elim after [
+    | inl e ↦ absurd (omega arith)
+    | inr t ↦ elim (eq-or-lt_of_le h) [
+      | inl e ↦ subst (λ j. z <ℤ get_or ms j (pos 0)) e t
+      | inr o ↦ let u = up b k (pos 0) o n in omega (arith, ints)
+    ]
+  ];
+}
 
 pub parted : (ms : List ℤ) (z : ℤ) → Ascending ms → IsPartitionedBy (λ m. int_le m z) ms
 parted ms z up i j d l m e = elim (eq-or-lt_of_le l) [

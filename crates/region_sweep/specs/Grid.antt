@@ -1,7 +1,7 @@
 -- The grid that coordinates draw. Of n marks in order there are n + 1 cells: cell 0 is before the first mark, and each
 -- other cell begins at its mark.
 use Rattle.std.specs.Prelude.{◌≡◌, ℕ, suc, ◌-◌, ◌<◌, ◌≤◌, ℤ, pos, ◌<ℤ◌, List, [], ◌∷◌, All, AllPairs, Contains, cond}
-use Rattle.std.specs.Prelude.{int_le, slice_index_or, length, true}
+use Rattle.std.specs.Prelude.{◌≤ℤ◌, int_le, slice_index_or, length, true}
 use Rattle.lam_geom.specs.declared.rect.Rect.{Rect}
 use Rattle.lam_geom.specs.declared.place.Point.{Point}
 use Rattle.mask_runs.specs.declared.mask.Mask.{Mask}
@@ -23,6 +23,13 @@ cell_of (m ∷ ms) z = cond (int_le m z) (suc (cell_of ms z)) 0
 -- where a cell above 0 begins
 abbrev pub start_of : List ℤ → ℕ → ℤ
 start_of marks c = slice_index_or marks (c - 1) (pos 0)
+
+-- the marks before the first of a stretch are at or before the place, and those from its end on after it
+pub record Surrounds (marks : List ℤ) (z : ℤ) (first end : ℕ) : Type 0 where
+  pub ordered : first ≤ end
+  pub within : end ≤ length marks
+  pub below : (k : ℕ) → k < first → slice_index_or marks k (pos 0) ≤ℤ z
+  pub above : (k : ℕ) → end ≤ k → k < length marks → z <ℤ slice_index_or marks k (pos 0)
 
 -- the sides of the rectangle stand on marks
 pub record IsDrawn (xs ys : List ℤ) (r : Rect) : Type 0 where

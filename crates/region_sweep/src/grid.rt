@@ -35,8 +35,8 @@ impl Grid {
                 draw(&mut xs, &mut ys, shape)?;
             }
         }
-        let columns = Axis::new(xs.into_vec())?;
-        let rows = Axis::new(ys.into_vec())?;
+        let columns = Axis::new(alloc, xs.into_vec())?;
+        let rows = Axis::new(alloc, ys.into_vec())?;
         Ok(Grid { columns, rows })
     }
 

@@ -4,6 +4,7 @@
 mod axis;
 mod block;
 mod grid;
+mod hints;
 mod repaint;
 mod rows;
 mod spot;
