@@ -7,7 +7,6 @@ mod faults;
 mod grammar;
 mod inputs;
 mod running;
-mod stepper;
 
 use cases::show_cases;
 use faults::show_faults;

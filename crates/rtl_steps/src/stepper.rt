@@ -67,7 +67,7 @@ fn set(values: &mut [u64], index: u32, value: u64) {
 }
 
 /// A clock: from the values of the stored cells it goes to the next, and answers the values of all cells.
-pub(crate) fn step(
+pub fn step(
     alloc: Global,
     rtl: &Rtl,
     stored: &mut [u64],
@@ -104,7 +104,7 @@ pub(crate) fn step(
 }
 
 /// Whether an output pad shows the value of each output cell.
-pub(crate) fn shows(rtl: &Rtl, cells: &[u64], outputs: &[u64]) -> bool {
+pub fn shows(rtl: &Rtl, cells: &[u64], outputs: &[u64]) -> bool {
     let mut index = 0u32;
     for cell in rtl.cells.as_slice() {
         if let CellKind::Output(pad) = cell.kind {
