@@ -1,40 +1,29 @@
 //! The size of a circuit at the end of its run, counted from the masks.
 
-ghost use Rattle.std.specs.Prelude.{◌≡◌, ◌<◌, ◌^◌, ◌++◌, IfSome, IsTrue, OnOk, count_by, length};
-ghost use Rattle.switch_net.specs.Sizes.{same_value};
-ghost use Rattle.mask_net.specs.Masks.{IsNetOf};
-ghost use Rattle.drawn_sizes.specs.Told.{counts, TellsValues, TellsSize};
+ghost use Rattle.std.specs.Prelude.{◌<◌, ◌^◌, IfSome, length};
 
-use mask_net::{network_of, size_text};
+use mask_net::{network_of, size_line};
 use mp_base::{List, MemSink, Trit, push_number};
 use sim_run::Simulation;
 use std::alloc::{AllocError, Global};
 use stimulus::{Stimulus, read_stimulus};
 use switch_net::Network;
 
-fn same_value(a: Trit, b: Trit) -> bool
-    ensures { result ≡ same_value a b }
-{
-    matches!(
-        (a, b),
-        (Trit::Zero, Trit::Zero) | (Trit::One, Trit::One) | (Trit::X, Trit::X)
-    )
+fn count(values: &[Trit], value: Trit) -> u64 {
+    let mut count = 0u64;
+    for one in values {
+        if *one == value {
+            count = count.wrapping_add(1);
+        }
+    }
+    count
 }
 
-// How many nodes have a value.
-fn count(values: &[Trit], value: Trit) -> usize
-    ensures { result ≡ count_by (same_value value) values.now }
-{
-    values.iter().filter(|x| same_value(value, **x)).count()
-}
-
-fn push_counts(line: &mut Vec<u8>, values: &[Trit]) -> Result<(), AllocError>
-    ensures { OnOk result (line.new.items ≡ line.old.items ++ counts values.now) }
-{
+fn push_counts(line: &mut Vec<u8>, values: &[Trit]) -> Result<(), AllocError> {
     line.extend_from_slice(b" ones ")?;
-    push_number(line, count(values, Trit::One) as u64)?;
+    push_number(line, count(values, Trit::One))?;
     line.extend_from_slice(b" unknown ")?;
-    push_number(line, count(values, Trit::X) as u64)
+    push_number(line, count(values, Trit::X))
 }
 
 // A stimulus with pads of its own, if it is small.
@@ -53,9 +42,7 @@ fn small_stimulus(alloc: Global, text: &[u8]) -> Option<Stimulus>
     }
 }
 
-fn drawn(alloc: Global, masks: &[u8]) -> Option<Network>
-    ensures { IfSome result (IsNetOf masks.now) }
-{
+fn drawn(alloc: Global, masks: &[u8]) -> Option<Network> {
     network_of(alloc, Vec::from_slice(alloc, masks).ok()?).ok()
 }
 
@@ -63,37 +50,49 @@ fn drawn(alloc: Global, masks: &[u8]) -> Option<Network>
 fn run_circuit<'a>(alloc: Global, network: Network, given: &'a Stimulus) -> Option<Simulation<'a>>
     requires inputs { length given.now.pads.inputs < 2 ^ 32 }
     requires clocks { length given.now.clocks < 2 ^ 32 }
-    ensures network { IfSome result (λ s. s.network ≡ network) }
 {
-    let Ok(mut simulation) = Simulation::open(alloc, network, given) else {
-        return None;
-    };
+    let mut simulation = Simulation::open(alloc, network, given).ok()?;
     let mut out = MemSink::new(alloc, List::new(alloc));
-    match simulation.run(&mut out) {
-        Ok(()) => Some(simulation),
-        Err(_) => None,
-    }
+    simulation.run(&mut out).ok()?;
+    Some(simulation)
 }
 
-// The size line of a circuit when the stimulus is over, without its line feed.
-fn size_after(alloc: Global, network: Network, given: &Stimulus) -> Option<Vec<u8>>
+// The size of a network, without its line feed.
+fn size_of(alloc: Global, network: &Network) -> Option<Vec<u8>> {
+    let mut line = size_line(alloc, network).ok()?;
+    line.pop();
+    Some(line)
+}
+
+// Adds the counts of a circuit's nodes at 1 and at X when the stimulus is over.
+fn push_counts_at_end(
+    alloc: Global,
+    line: &mut Vec<u8>,
+    network: Network,
+    given: &Stimulus,
+) -> Option<()>
     requires inputs { length given.now.pads.inputs < 2 ^ 32 }
     requires clocks { length given.now.clocks < 2 ^ 32 }
-    ensures { IfSome result (λ line. TellsValues network line.items) }
 {
-    let mut line = size_text(alloc, &network).ok()?;
     let simulation = run_circuit(alloc, network, given)?;
-    push_counts(&mut line, simulation.values()).ok()?;
+    push_counts(line, simulation.values()).ok()
+}
+
+// The size of a circuit, with these counts.
+fn size_behind(alloc: Global, network: Network, given: &Stimulus) -> Option<Vec<u8>>
+    requires inputs { length given.now.pads.inputs < 2 ^ 32 }
+    requires clocks { length given.now.clocks < 2 ^ 32 }
+{
+    let mut line = size_of(alloc, &network)?;
+    push_counts_at_end(alloc, &mut line, network, given)?;
     Some(line)
 }
 
 // The same of the circuit of masks.
-fn size_at_end(alloc: Global, masks: &[u8], stimulus: &[u8]) -> Option<Vec<u8>>
-    ensures { IfSome result (λ line. TellsSize masks.now line.items) }
-{
+fn size_at_end(alloc: Global, masks: &[u8], stimulus: &[u8]) -> Option<Vec<u8>> {
     let given = small_stimulus(alloc, stimulus)?;
     let network = drawn(alloc, masks)?;
-    size_after(alloc, network, &given)
+    size_behind(alloc, network, &given)
 }
 
 // Whether a line is such a size, of any circuit.
@@ -111,11 +110,8 @@ fn tells_size(line: &str) -> bool {
     false
 }
 
-/// Whether a line is the size of masks at the end of a stimulus: of one of less than 10,000 bytes, with less than 99
-/// inputs.
-pub fn is_size_at_end(alloc: Global, masks: &[u8], stimulus: &[u8], line: &str) -> bool
-    ensures { IsTrue result → TellsSize masks.now line.now }
-{
+/// Whether a line is the size of masks at the end of a stimulus.
+pub fn is_size_at_end(alloc: Global, masks: &[u8], stimulus: &[u8], line: &str) -> bool {
     if !tells_size(line) {
         return false;
     }
