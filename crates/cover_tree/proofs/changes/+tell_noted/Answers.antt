@@ -12,8 +12,8 @@ use Rattle.cover_tree.proofs.changes.+tell_noted.Goals as goal
 pub returns-in-Nowhere : goal.returns-in-Nowhere
 returns-in-Nowhere t c =
     stays (was c.args.palette.now.mask c.args.trees.now c.args.part c.args.known)
-    (is c.args.palette.now.mask c.args.trees.now c.args.part c.args.known) c.args.pieces.now.items c.args.last c.args.part
-    c.in-Nowhere.ensures
+    (is c.args.palette.now.mask c.args.trees.now c.args.part c.args.known)
+    c.args.pieces.now.items c.args.last c.args.part c.in-Nowhere.ensures
 
 -- src/changes.rt
 pub returns-in-Everywhere : goal.returns-in-Everywhere

@@ -32,7 +32,8 @@ returns-then-eq t c =
       only = only_none c.args.part c.args.trees.now;
       tops = λ l. refl;
       pieces = stays (was c.args.palette.now.mask c.args.trees.now c.args.part c.args.known)
-          (is c.args.palette.now.mask c.args.trees.now c.args.part c.args.known) c.args.pieces.now.items c.args.last c.args.part
+          (is c.args.palette.now.mask c.args.trees.now c.args.part c.args.known)
+          c.args.pieces.now.items c.args.last c.args.part
           (alike_change c.args.palette.now.mask c.args.trees.now c.args.part c.args.known told
           (same_set _ _ (sym c.eq.ensures ∙ c.if-eq.true)));
     }

@@ -20,7 +20,8 @@ pub returns-in_err-middle-clause-none : goal.returns-in_err-middle-clause-none
 returns-in_err-middle-clause-none c = rw c.from_residual-in_err-middle.ensures (λ k h.
     let small : c.args.self.bits < 2 ^ 32 = omega arith in
     c.in_err-middle.ensures.none (k / 2 % 2)
-    (middle_shared c.args.palette.now.mask c.args.self small c.args.known c.with-planes.result c.with-planes.ensures k h))
+    (middle_shared c.args.palette.now.mask c.args.self small c.args.known c.with-planes.result
+    c.with-planes.ensures k h))
 
 -- src/kinds.rt
 pub returns-in_err-high-clause-none : goal.returns-in_err-high-clause-none
