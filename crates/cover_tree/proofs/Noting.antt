@@ -120,6 +120,9 @@ pub noted_right : (t : Trees) (p : Part) → 2 ≤ p.width → AreNoted t p
     → AreNoted t (right_half p)
 noted_right t p h k = record { each = λ q w. k.each q (right h w); told = λ q w. k.told q (right h w) }
 
+pub noted_halves : (t : Trees) (p : Part) → AreNoted t p → AreHalvesNoted t p
+noted_halves t p k = record { left = λ w. noted_left t p w k; right = λ w. noted_right t p w k }
+
 module _ (t : Trees) (p : Part) (a : IsNoted t p (note_at t p.at))
     (b : t.since < (note_at t p.at).until → IsTold t p) (h : AreHalvesNoted t p) where
   whole : (q : Part) → Within q p → IsNoted t q (note_at t q.at)
@@ -167,8 +170,8 @@ module _ (t u : Trees) (p : Part) (n : Node) (v : 0 < p.width) (i : p.at < lengt
   own_node : node_at u p.at ≡ n
   own_node = node_own t u p.at n nodes further i
 
-  own_note : note_at u p.at ≡ n.note
-  own_note = ap (λ m. m.note) own_node
+  pub anew_note : note_at u p.at ≡ n.note
+  anew_note = ap (λ m. m.note) own_node
 
   pub anew_tops : (l : Layer) → tree u l ≡ tree t l
   anew_tops l = tree_same t u p.at n nodes further l (ap (λ m. layer_top l t.further m) tops)
@@ -206,8 +209,8 @@ module _ (t u : Trees) (p : Part) (n : Node) (v : 0 < p.width) (i : p.at < lengt
   pub noted_anew : IsNoted t p n.note → (t.since < n.note.until → IsTold u p)
       → AreHalvesNoted t p → AreNoted u p
   noted_anew h b a = noted_whole u p
-      (rw own_note (noted_alike p t u n.note (λ row c. anew_seen p row bare c) since further h))
-      (λ l. b (rw (own_note, since) at l)) (halves_anew a)
+      (rw anew_note (noted_alike p t u n.note (λ row c. anew_seen p row bare c) since further h))
+      (λ l. b (rw (anew_note, since) at l)) (halves_anew a)
 
   pub anew_only : IsOnlyIn p t u
   anew_only = record {
@@ -220,6 +223,10 @@ module _ (t u : Trees) (p : Part) (n : Node) (v : 0 < p.width) (i : p.at < lengt
 -- a note of no row is true
 pub stale_note : (t : Trees) (q : Part) → IsNoted t q stale
 stale_note t q = record { steady = λ row c i j h. absurd (omega arith); kinds = λ c i h. absurd (omega arith) }
+
+pub stale_whole : (t : Trees) (p : Part) → note_at t p.at ≡ stale → AreHalvesNoted t p → AreNoted t p
+stale_whole t p e h =
+    noted_whole t p (rw e (stale_note t p)) (λ l. absurd (omega (arith, ap (λ n. n.until) e))) h
 
 -- the notes hold from a later row on
 pub later : (t : Trees) (p : Part) (row : ℕ) → t.since ≤ row → AreNoted t p

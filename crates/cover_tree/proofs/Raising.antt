@@ -1,20 +1,20 @@
 -- What a part covers after its halves, or it as a whole, are raised.
-use Rattle.std.proofs.Common.{◌≡◌, ◌≢◌, ℕ, ◌+◌, ◌-◌, ◌/◌, ◌<◌, ◌≤◌, inl, inr, List, set, length, refl, sym, ◌∙◌}
-use Rattle.std.proofs.Common.{max, arith}
+use Rattle.std.proofs.Common.{◌≡◌, ◌≢◌, ℕ, ◌+◌, ◌/◌, ◌<◌, ◌≤◌, inl, inr, List, set, length, refl, sym, ◌∙◌}
+use Rattle.std.proofs.Common.{ap, max, arith}
 use Rattle.std.proofs.lemmas.Bool.{cases_lt}
 use Rattle.std.proofs.lemmas.List.{get_or-set_same, get_or-set_other}
 use Rattle.lam_geom.specs.declared.layer.Layer.{Layer}
 use Rattle.cover_tree.specs.declared.part.Part.{Part}
 use Rattle.cover_tree.specs.declared.span.Span.{Span}
 use Rattle.cover_tree.specs.declared.trees.Trees.{Trees}
-use Rattle.cover_tree.specs.Parts.{left_half, right_half, top_at, top_of, IsPartRaised, clamped}
-use Rattle.cover_tree.specs.Nodes.{layer_top}
+use Rattle.cover_tree.specs.Parts.{left_half, right_half, top_at, top_of, InPart, IsPartRaised}
+use Rattle.cover_tree.specs.Nodes.{layer_top, stale}
 use Rattle.cover_tree.specs.Layered.{node_at, tree}
-use Rattle.cover_tree.specs.Notes.{AreNoted, AreHalvesNoted, AreHalvesTold, IsTold, Beside, IsOnlyIn}
+use Rattle.cover_tree.specs.Notes.{note_at, AreNoted, AreHalvesNoted, AreHalvesTold, IsTold, Beside, IsOnlyIn}
 use Rattle.cover_tree.proofs.Nodes.{node_top}
 use Rattle.cover_tree.proofs.Tops.{top_leaf, top_left, top_right, SamePart, same_top}
-use Rattle.cover_tree.proofs.Noting.{SameIn, same_tops, beside_own, is_told_same, noted_left, noted_right}
-use Rattle.cover_tree.proofs.Noting.{are_noted_same}
+use Rattle.cover_tree.proofs.Noting.{SameIn, same_tops, is_told_same, noted_left, noted_right}
+use Rattle.cover_tree.proofs.Noting.{are_noted_same, stale_whole}
 
 top_same : (s : List ℕ) (k n : ℕ) → k < length s → top_at (set s k n) k ≡ n
 top_same s k n h = get_or-set_same s k n 0 h
@@ -52,12 +52,20 @@ lifted_top s p row c v i =
     ]
 
 pub raised_all : (s : List ℕ) (p : Part) (span : Span) (row : ℕ) → 0 < p.width → p.at < length s
-    → clamped span (p.base + p.width) - clamped span p.base ≡ p.width
+    → span.from ≤ p.base → p.base + p.width ≤ span.to
     → IsPartRaised s (set s p.at (max (top_at s p.at) row)) p span row
-raised_all s p span row v i f = record {
+raised_all s p span row v i from to = record {
   inside = λ c h k l. lifted_top s p row c v i;
   beside = λ c h k. let h0 = h.from in let h1 = h.to in
       elim k [ inl l ↦ absurd (omega arith) | inr l ↦ absurd (omega arith) ];
+}
+
+-- the span has no cell of the part
+raised_none : (s : List ℕ) (p : Part) (span : Span) (row : ℕ)
+    → ((c : ℕ) → InPart p c → span.from ≤ c → span.to ≤ c) → IsPartRaised s s p span row
+raised_none s p span row past = record {
+  inside = λ c i k l. let m = past c i k in absurd (omega arith);
+  beside = λ c i k. refl;
 }
 
 -- trees of which one has another node at one place
@@ -67,14 +75,6 @@ module _ (t u : Trees) (at : ℕ) (beside : (k : ℕ) → k ≢ at → node_at u
   lifted_in : (p : Part) → at < p.at → SameIn p t u
   lifted_in p h = record {
     nodes = λ k i j. beside k (omega arith);
-    further = further;
-    since = since;
-  }
-
-  pub lifted_only : (p : Part) → p.at ≡ at → 0 < p.width → IsOnlyIn p t u
-  lifted_only p h v = record {
-    nodes = λ k b. beside k (beside_own p k at v h b);
-    as_many = many;
     further = further;
     since = since;
   }
@@ -179,6 +179,14 @@ module _ (old one two : Trees) (p : Part) (h : 2 ≤ p.width)
         ];
       }
 
+  own_note : note_at old p.at ≡ stale → note_at two p.at ≡ stale
+  own_note e =
+      ap (λ n. n.note) (ro.nodes p.at (inl (omega arith)) ∙ lo.nodes p.at (inl (omega arith))) ∙ e
+
+  -- a part whose note is forgotten stays noted
+  pub both_whole : note_at old p.at ≡ stale → AreNoted one (left_half p) → AreNoted two (right_half p) → AreNoted two p
+  both_whole e a b = stale_whole two p (own_note e) (both_noted one two p h ro a b)
+
   pub both_only : (new : Trees) → IsOnlyIn p two new → IsOnlyIn p old new
   both_only new n = record {
     nodes = λ k b. n.nodes k b ∙ ro.nodes k (beside_right p k h b) ∙ lo.nodes k (beside_left p k h b);
@@ -187,15 +195,32 @@ module _ (old one two : Trees) (p : Part) (h : 2 ≤ p.width)
     since = n.since ∙ ro.since ∙ lo.since;
   }
 
--- a change in the same part in turn
-pub only_in_turn : (p : Part) (old one new : Trees) → IsOnlyIn p old one → IsOnlyIn p one new → IsOnlyIn p old new
-only_in_turn p old one new a b = record {
-  nodes = λ k i. b.nodes k i ∙ a.nodes k i;
-  as_many = b.as_many ∙ a.as_many;
-  further = b.further ∙ a.further;
-  since = b.since ∙ a.since;
-}
-
 -- no change
 pub only_none : (p : Part) (t : Trees) → IsOnlyIn p t t
 only_none p t = record { nodes = λ k b. refl; as_many = refl; further = refl; since = refl }
+
+-- one half alone is raised, since the span has no cell of the other
+module _ (t u : Trees) (p : Part) (h : 2 ≤ p.width) where
+  pub left_raised : IsOnlyIn (left_half p) t u → (layer : Layer) (span : Span) (row : ℕ)
+      → span.to ≤ p.base + p.width / 2
+      → IsPartRaised (tree t layer) (tree u layer) (left_half p) span row
+      → IsPartRaised (tree t layer) (tree u layer) p span row
+  left_raised o layer span row e a =
+      both_raised t u u p h o (only_none (right_half p) u) layer span row a
+      (raised_none (tree u layer) (right_half p) span row (λ c i k. let i0 = i.from in omega arith))
+
+  pub right_raised : IsOnlyIn (right_half p) t u → (layer : Layer) (span : Span) (row : ℕ)
+      → p.base + p.width / 2 ≤ span.from
+      → IsPartRaised (tree t layer) (tree u layer) (right_half p) span row
+      → IsPartRaised (tree t layer) (tree u layer) p span row
+  right_raised o layer span row e b =
+      both_raised t t u p h (only_none (left_half p) t) o layer span row
+      (raised_none (tree t layer) (left_half p) span row (λ c i k. let i1 = i.to in absurd (omega arith))) b
+
+  pub left_whole : IsOnlyIn (left_half p) t u → note_at t p.at ≡ stale → AreNoted t p → AreNoted u (left_half p)
+      → AreNoted u p
+  left_whole o e n a = both_whole t u u p h o (only_none (right_half p) u) e a (right_noted t u p h o n)
+
+  pub right_whole : IsOnlyIn (right_half p) t u → note_at t p.at ≡ stale → AreNoted t p → AreNoted u (right_half p)
+      → AreNoted u p
+  right_whole o e n b = both_whole t t u p h (only_none (left_half p) t) o e (noted_left t p h n) b

@@ -1,6 +1,6 @@
 -- Trees over cells. A part stands for the cells from its base on, and takes twice as many nodes as it has cells, less
 -- one: its own node, then those of its left half, then those of its right half.
-use Rattle.std.specs.Prelude.{◌≡◌, ℕ, zero, suc, ◌+◌, ◌-◌, ◌*◌, ◌/◌, ◌^◌, ◌<◌, ◌≤◌, ◌⊎◌, List, get_or, max, min, nat_lt}
+use Rattle.std.specs.Prelude.{◌≡◌, ℕ, zero, suc, ◌+◌, ◌-◌, ◌*◌, ◌/◌, ◌^◌, ◌<◌, ◌≤◌, ◌⊎◌, List, get_or, max, nat_lt}
 use Rattle.std.specs.Prelude.{if◌then◌else◌}
 use Rattle.cover_tree.specs.declared.part.Part.{Part}
 use Rattle.cover_tree.specs.declared.span.Span.{Span}
@@ -45,11 +45,13 @@ pub record IsSmall (p : Part) : Type 0 where
   pub places : p.at + 2 * p.width ≤ 2 ^ 32
   pub cells : p.base + p.width ≤ 2 ^ 31
 
+-- the span has cells, and some of them in the part
+pub record IsReached (p : Part) (span : Span) : Type 0 where
+  pub some : span.from < span.to
+  pub from : span.from < p.base + p.width
+  pub to : p.base < span.to
+
 -- the part's cells in the span are covered up to the row besides
 pub record IsPartRaised (old now : List ℕ) (p : Part) (span : Span) (row : ℕ) : Type 0 where
   pub inside : (c : ℕ) → InPart p c → span.from ≤ c → c < span.to → top_of now p c ≡ max (top_of old p c) row
   pub beside : (c : ℕ) → InPart p c → (c < span.from) ⊎ (span.to ≤ c) → top_of now p c ≡ top_of old p c
-
--- the cell of the span that is nearest to a cell, or its end
-abbrev pub clamped : Span → ℕ → ℕ
-clamped span c = max span.from (min c span.to)

@@ -2,7 +2,7 @@
 
 ghost use Rattle.std.specs.Prelude.{◌≡◌, ◌≢◌};
 ghost use Rattle.lam_geom.specs.declared.layer.Layer.{Layer};
-ghost use Rattle.cover_tree.specs.Parts.{IsSmall, IsPartRaised};
+ghost use Rattle.cover_tree.specs.Parts.{IsSmall, IsReached, IsPartRaised};
 ghost use Rattle.cover_tree.specs.Layered.{tree, told_tree};
 ghost use Rattle.cover_tree.specs.Notes.{HasPart, AreNoted, IsOnlyIn};
 
@@ -13,9 +13,9 @@ use lam_geom::Layer;
 
 /// Covers the part's cells in the span with a layer in the rows below `row` besides. The notes of the parts on the
 /// way are forgotten: where many raises come before the next row, each part is told and noted anew but once.
-#[cycle(raising)]
 pub(crate) fn raise_part(trees: &mut Trees, layer: Layer, part: Part, span: Span, row: u32)
     requires small { IsSmall part }
+    requires reached { IsReached part span }
     requires room { HasPart trees.old layer part }
     ensures raised { IsPartRaised (tree trees.old layer) (tree trees.new layer) part span row }
     ensures others { (l : Layer) → l ≢ layer → tree trees.new l ≡ tree trees.old l }
@@ -23,33 +23,18 @@ pub(crate) fn raise_part(trees: &mut Trees, layer: Layer, part: Part, span: Span
     ensures noted { AreNoted trees.old part → AreNoted trees.new part }
     ensures only { IsOnlyIn part trees.old trees.new }
 {
-    let from = span.clamped(part.base);
-    let to = span.clamped(part.end());
-    if from == to {
-        return;
-    }
-    if to - from == part.width {
-        trees.lift(layer, part.at, row);
-        trees.forget(part);
-        return;
-    }
-    raise_half(trees, layer, part.left(), span, row);
-    raise_half(trees, layer, part.right(), span, row);
     trees.forget(part);
-}
-
-// Does so to a half, which the span may not reach.
-#[cycle(raising)]
-fn raise_half(trees: &mut Trees, layer: Layer, half: Part, span: Span, row: u32)
-    requires small { IsSmall half }
-    requires room { HasPart trees.old layer half }
-    ensures raised { IsPartRaised (tree trees.old layer) (tree trees.new layer) half span row }
-    ensures others { (l : Layer) → l ≢ layer → tree trees.new l ≡ tree trees.old l }
-    ensures told { (l : Layer) → told_tree trees.new l ≡ told_tree trees.old l }
-    ensures noted { AreNoted trees.old half → AreNoted trees.new half }
-    ensures only { IsOnlyIn half trees.old trees.new }
-{
-    if span.from < half.end() && half.base < span.to {
-        raise_part(trees, layer, half, span, row);
+    if span.from <= part.base && part.end() <= span.to {
+        trees.lift(layer, part.at, row);
+        return;
+    }
+    let right = part.right();
+    if span.to <= right.base {
+        raise_part(trees, layer, part.left(), span, row);
+    } else if right.base <= span.from {
+        raise_part(trees, layer, right, span, row);
+    } else {
+        raise_part(trees, layer, part.left(), span, row);
+        raise_part(trees, layer, right, span, row);
     }
 }

@@ -54,7 +54,9 @@ impl CoverTree {
     {
         let root = Part::root(self.cells);
         let span = Span { from, to };
-        raise_part(&mut self.trees, layer, root, span, row);
+        if from < to {
+            raise_part(&mut self.trees, layer, root, span, row);
+        }
     }
 
     /// Goes on to a row, and gives the cells whose colour in it is another than in the row told last: as pieces with

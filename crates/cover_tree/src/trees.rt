@@ -3,7 +3,7 @@
 ghost use Rattle.std.specs.Prelude.{ℕ, ◌≡◌, ◌≢◌, ◌*◌, ◌+◌, ◌<◌, ◌≤◌, ◌^◌, true, IfOk, max, length, replicate, set};
 ghost use Rattle.lam_geom.specs.declared.layer.Layer.{Layer};
 ghost use Rattle.cover_tree.specs.Parts.{IsSmall, top_at};
-ghost use Rattle.cover_tree.specs.Nodes.{keeps, layers_of, no_layers, no_tops};
+ghost use Rattle.cover_tree.specs.Nodes.{keeps, layers_of, no_layers, no_tops, stale};
 ghost use Rattle.cover_tree.specs.Layered.{node_at, tree, told_tree};
 ghost use Rattle.cover_tree.specs.Looking.{own_at, told_at};
 ghost use Rattle.cover_tree.specs.Kinds.{HasKind, further};
@@ -93,6 +93,7 @@ impl Trees {
         ensures others { (l : Layer) → l ≢ layer → tree self.new l ≡ tree self.old l }
         ensures told { (l : Layer) → told_tree self.new l ≡ told_tree self.old l }
         ensures beside { (k : ℕ) → k ≢ at → node_at self.new k ≡ node_at self.old k }
+        ensures note { note_at self.new at ≡ note_at self.old at }
         ensures as_many { length self.new.nodes.items ≡ length self.old.nodes.items }
         ensures further { self.new.further ≡ self.old.further }
         ensures since { self.new.since ≡ self.old.since }
@@ -107,6 +108,7 @@ impl Trees {
         requires small { IsSmall part }
         requires room { part.at + 2 * part.width ≤ length self.old.nodes.items + 1 }
         ensures noted { AreHalvesNoted self.old part → AreNoted self.new part }
+        ensures stale { note_at self.new part.at ≡ stale }
         ensures only { IsOnlyIn part self.old self.new }
         ensures tops { (l : Layer) → tree self.new l ≡ tree self.old l }
         ensures told { (l : Layer) → told_tree self.new l ≡ told_tree self.old l }

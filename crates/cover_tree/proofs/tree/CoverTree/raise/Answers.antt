@@ -10,6 +10,14 @@ use Rattle.cover_tree.proofs.Covering.{raised_cover}
 use Rattle.cover_tree.proofs.tree.CoverTree.raise.Goals as goal
 
 -- src/tree.rt
+pub raise_part-requires-clause-reached : goal.raise_part-requires-clause-reached
+unfolding cover_of
+raise_part-requires-clause-reached c =
+    let s = c.if-from-to.true in
+    let w = c.requires.within in
+    rw c.root-root.ensures (record { some = s; from = omega arith; to = omega arith })
+
+-- src/tree.rt
 pub raise_part-requires-clause-room : goal.raise_part-requires-clause-room
 unfolding cover_of
 raise_part-requires-clause-room c =
@@ -19,22 +27,22 @@ raise_part-requires-clause-room c =
     (record { kept = rw s.kept (uses_kept c.args.self.now.mask c.args.layer c.requires.used); room = omega arith })
 
 -- src/tree.rt
-pub returns-clause-raised : goal.returns-clause-raised
+pub returns-then-from-to-clause-raised : goal.returns-then-from-to-clause-raised
 unfolding cover_of
-returns-clause-raised c =
+returns-then-from-to-clause-raised c =
     raised_cover c.args.self.now.mask c.args.self.now.cells c.args.self.now.trees c.raise_part.new.trees c.args.layer
     (record { from = c.args.from; to = c.args.to }) c.args.row
     c.requires.within (rw (← c.root-root.ensures) c.raise_part.ensures.raised) c.raise_part.ensures.others
 
 -- src/tree.rt
-pub returns-clause-row : goal.returns-clause-row
+pub returns-then-from-to-clause-row : goal.returns-then-from-to-clause-row
 unfolding row_of
-returns-clause-row c = c.raise_part.ensures.only.since
+returns-then-from-to-clause-row c = c.raise_part.ensures.only.since
 
 -- src/tree.rt
-pub returns-clause-told : goal.returns-clause-told
+pub returns-then-from-to-clause-told : goal.returns-then-from-to-clause-told
 unfolding told_of
-returns-clause-told c = λ cell.
+returns-then-from-to-clause-told c = λ cell.
     ap (λ s. if nat_lt cell c.args.self.now.cells then colour_of c.args.self.now.mask s else 0)
     (seen_alike (told_tree c.args.self.now.trees) (told_tree c.raise_part.new.trees) (root c.args.self.now.cells)
     (λ l. ap (λ s. top_of s (root c.args.self.now.cells)) (c.raise_part.ensures.told l)) 0 bare cell)

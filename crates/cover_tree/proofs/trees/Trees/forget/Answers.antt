@@ -4,7 +4,7 @@ use Rattle.cover_tree.specs.declared.trees.Trees.{Trees}
 use Rattle.cover_tree.specs.Nodes.{stale}
 use Rattle.cover_tree.specs.Layered.{node_at}
 use Rattle.cover_tree.proofs.Nodes.{told_same}
-use Rattle.cover_tree.proofs.Noting.{noted_anew, anew_only, anew_tops, stale_note}
+use Rattle.cover_tree.proofs.Noting.{noted_anew, anew_note, anew_only, anew_tops, stale_note}
 use Rattle.cover_tree.proofs.trees.Trees.forget.Goals as goal
 
 -- src/trees.rt
@@ -20,6 +20,7 @@ returns c =
     record {
       noted = noted_anew t u c.args.part n h i e refl s.further s.since
           (stale_note t c.args.part) (λ l. absurd (omega arith));
+      stale = anew_note t u c.args.part n h i e refl s.further s.since;
       only = anew_only t u c.args.part n h i e refl s.further s.since;
       tops = anew_tops t u c.args.part n h i e refl s.further s.since;
       told = λ l. told_same t u c.args.part.at n e s.further l refl;

@@ -4,7 +4,7 @@ use Rattle.cover_tree.specs.declared.node.Node.{Node}
 use Rattle.cover_tree.specs.declared.trees.Trees.{Trees}
 use Rattle.cover_tree.specs.Nodes.{layer_top}
 use Rattle.cover_tree.specs.Layered.{node_at, tree}
-use Rattle.cover_tree.proofs.Nodes.{node_top, tree_set, tree_same, told_same, node_other, as_many}
+use Rattle.cover_tree.proofs.Nodes.{node_top, tree_set, tree_same, told_same, node_other, node_own, as_many}
 use Rattle.cover_tree.proofs.trees.Trees.lift.Goals as goal
 
 -- src/trees.rt
@@ -25,6 +25,7 @@ returns c =
       others = λ l d. tree_same t u at n s.nodes s.further l (up.others t.further l c.requires.kept d ∙ top l);
       told = λ l. told_same t u at n s.nodes s.further l (ap (λ m. m.told) was);
       beside = node_other t u at n s.nodes s.further;
+      note = ap (λ m. m.note) (node_own t u at n s.nodes s.further c.requires.within) ∙ ap (λ m. m.note) was;
       as_many = as_many t u at n s.nodes s.further;
       further = s.further;
       since = s.since;
