@@ -49,15 +49,15 @@ pub(crate) enum Change {
 }
 
 /// Tells a part in the row of the trees: adds the pieces of its cells whose colours aren't those told last, of which
-/// `last` is open, and gives the next open one. Once memory is wanting the pieces are lost, but the part is told.
+/// `last` is open. Once memory is wanting the pieces are lost, but the part is told.
 pub(crate) fn tell_part(
     trees: &mut Trees,
     palette: &Palette,
     part: Part,
     known: Known,
-    last: Result<Run, NoMemory>,
+    last: &mut Result<Run, NoMemory>,
     pieces: &mut Vec<Run>,
-) -> Result<Run, NoMemory>
+)
     requires small { IsSmall part }
     requires room { part.at + 2 * part.width ≤ length trees.old.nodes.items + 1 }
     requires further { trees.old.further ≡ further palette.now.mask }
@@ -67,24 +67,25 @@ pub(crate) fn tell_part(
     ensures only { IsOnlyIn part trees.old trees.new }
     ensures tops { (l : Layer) → tree trees.new l ≡ tree trees.old l }
     ensures pieces { Tells (was palette.now.mask trees.old part known) (is palette.now.mask trees.old part known)
-        pieces.old.items pieces.new.items last result part.base (part.base + part.width) }
+        pieces.old.items pieces.new.items last.old last.new part.base (part.base + part.width) }
 {
     if trees.since < trees.note_at(part.at).until {
         if known.before == known.after {
-            return last;
+            return;
         }
-        return tell_noted(trees, palette, part, known, last, pieces);
+        tell_noted(trees, palette, part, known, last, pieces);
+        return;
     }
     let own = trees.own_at(part.at);
     let down = handed_down(trees, part, own, known);
     if part.width < 2 {
         trees.settle(part, own);
-        return tell_cell(palette, part, down, last, pieces);
+        tell_cell(palette, part, down, last, pieces);
+        return;
     }
-    let middle = tell_part(trees, palette, part.left(), down, last, pieces);
-    let next = tell_part(trees, palette, part.right(), down, middle, pieces);
+    tell_part(trees, palette, part.left(), down, last, pieces);
+    tell_part(trees, palette, part.right(), down, last, pieces);
     trees.settle(part, own);
-    next
 }
 
 // Does so where the part is told, but for the layers that cover it as a whole.
@@ -93,25 +94,26 @@ fn tell_noted(
     palette: &Palette,
     part: Part,
     known: Known,
-    last: Result<Run, NoMemory>,
+    last: &mut Result<Run, NoMemory>,
     pieces: &mut Vec<Run>,
-) -> Result<Run, NoMemory>
+)
     requires small { IsSmall part }
     requires further { trees.now.further ≡ further palette.now.mask }
     requires noted { AreNoted trees.now part }
     ensures { Tells (was palette.now.mask trees.now part known) (is palette.now.mask trees.now part known)
-        pieces.old.items pieces.new.items last result part.base (part.base + part.width) }
+        pieces.old.items pieces.new.items last.old last.new part.base (part.base + part.width) }
 {
     match change_of(trees, palette, part, known) {
-        Change::Nowhere => last,
+        Change::Nowhere => {}
         Change::Everywhere(colour) => add(pieces, last, part, colour),
         Change::Somewhere => {
             let down = handed_down(trees, part, trees.own_at(part.at), known);
             if part.width < 2 {
-                return tell_cell(palette, part, down, last, pieces);
+                tell_cell(palette, part, down, last, pieces);
+                return;
             }
-            let middle = tell_noted(trees, palette, part.left(), down, last, pieces);
-            tell_noted(trees, palette, part.right(), down, middle, pieces)
+            tell_noted(trees, palette, part.left(), down, last, pieces);
+            tell_noted(trees, palette, part.right(), down, last, pieces);
         }
     }
 }
@@ -126,30 +128,31 @@ pub(crate) fn close(pieces: &mut Vec<Run>, last: Run) -> Result<(), AllocError>
     Ok(())
 }
 
-// Adds the part's cells, which turn to a colour, and gives the next open piece.
-fn add(
-    pieces: &mut Vec<Run>,
-    last: Result<Run, NoMemory>,
-    part: Part,
-    colour: u8,
-) -> Result<Run, NoMemory>
+// Adds the part's cells, which turn to a colour, to the open piece or as the next one.
+fn add(pieces: &mut Vec<Run>, last: &mut Result<Run, NoMemory>, part: Part, colour: u8)
     requires small { IsSmall part }
     ensures { (before after : ℕ → ℕ) → Turns before after part colour
-        → Tells before after pieces.old.items pieces.new.items last result part.base (part.base + part.width) }
+        → Tells before after pieces.old.items pieces.new.items last.old last.new part.base (part.base + part.width) }
 {
-    let last = last?;
-    if last.right == part.base && last.colour == colour {
-        return Ok(Run {
+    let open = match *last {
+        Ok(open) => open,
+        Err(_) => return,
+    };
+    if open.right == part.base && open.colour == colour {
+        *last = Ok(Run {
             right: part.end(),
-            ..last
+            ..open
         });
+        return;
     }
-    close(pieces, last)?;
-    Ok(Run {
-        left: part.base,
-        right: part.end(),
-        colour,
-    })
+    *last = match close(pieces, open) {
+        Ok(()) => Ok(Run {
+            left: part.base,
+            right: part.end(),
+            colour,
+        }),
+        Err(_) => Err(NoMemory),
+    };
 }
 
 // Adds the cell of a part that has but one, of which all layers are known, if it changes its colour.
@@ -157,21 +160,21 @@ fn tell_cell(
     palette: &Palette,
     part: Part,
     known: Known,
-    last: Result<Run, NoMemory>,
+    last: &mut Result<Run, NoMemory>,
     pieces: &mut Vec<Run>,
-) -> Result<Run, NoMemory>
+)
     requires small { IsSmall part }
     ensures { Tells (λ _. set_colour palette.now.mask known.before) (λ _. set_colour palette.now.mask known.after)
-        pieces.old.items pieces.new.items last result part.base (part.base + part.width) }
+        pieces.old.items pieces.new.items last.old last.new part.base (part.base + part.width) }
 {
     if known.before == known.after {
-        return last;
+        return;
     }
     let colour = palette.colour(known.after);
     if palette.colour(known.before) == colour {
-        return last;
+        return;
     }
-    add(pieces, last, part, colour)
+    add(pieces, last, part, colour);
 }
 
 // What becomes of the part's cells, as far as its note tells it.

@@ -100,6 +100,8 @@ impl CoverTree {
         let root = Part::root(self.cells);
         let bare = Known::none();
         let palette = Palette::new(self.mask);
-        tell_part(&mut self.trees, &palette, root, bare, Ok(blank), pieces)
+        let mut last = Ok(blank);
+        tell_part(&mut self.trees, &palette, root, bare, &mut last, pieces);
+        last
     }
 }

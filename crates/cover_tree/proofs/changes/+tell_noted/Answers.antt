@@ -13,7 +13,7 @@ pub returns-in-Nowhere : goal.returns-in-Nowhere
 returns-in-Nowhere t c =
     stays (was c.args.palette.now.mask c.args.trees.now c.args.part c.args.known)
     (is c.args.palette.now.mask c.args.trees.now c.args.part c.args.known)
-    c.args.pieces.now.items c.args.last c.args.part c.in-Nowhere.ensures
+    c.args.pieces.now.items c.args.last.now c.args.part c.in-Nowhere.ensures
 
 -- src/changes.rt
 pub returns-in-Everywhere : goal.returns-in-Everywhere
@@ -26,12 +26,12 @@ pub returns-then-part-lt2 : goal.returns-then-part-lt2
 returns-then-part-lt2 t c =
     leaf_told c.args.palette.now.mask c.args.trees.now c.args.part c.args.known c.handed_down-down.result
     c.handed_down-down.ensures.before c.handed_down-down.ensures.after c.args.pieces.now.items
-    c.tell_cell.new.pieces.items c.args.last c.tell_cell.result c.requires.further c.if-part-lt2.true
+    c.tell_cell.new.pieces.items c.args.last.now c.tell_cell.new.last c.requires.further c.if-part-lt2.true
     c.tell_cell.ensures
 
 -- src/changes.rt
-pub tell_noted-middle-requires : goal.tell_noted-middle-requires
-tell_noted-middle-requires t c =
+pub tell_noted-requires : goal.tell_noted-requires
+tell_noted-requires t c =
     let h : 2 ≤ c.args.part.width = omega arith in
     rw c.left.ensures (
       omega arith,
@@ -42,8 +42,8 @@ tell_noted-middle-requires t c =
     )
 
 -- src/changes.rt
-pub tell_noted-requires : goal.tell_noted-requires
-tell_noted-requires t c =
+pub tell_noted-requires-in-Somewhere : goal.tell_noted-requires-in-Somewhere
+tell_noted-requires-in-Somewhere t c =
     let h : 2 ≤ c.args.part.width = omega arith in
     rw c.right.ensures (
       omega arith,
@@ -60,6 +60,6 @@ returns-else-part-lt2 t c =
     halves_told c.args.palette.now.mask c.args.trees.now c.args.part c.args.known c.handed_down-down.result
     c.handed_down-down.ensures.before c.handed_down-down.ensures.after c.args.trees.now
     (only_none (left_half c.args.part) c.args.trees.now) h
-    c.args.pieces.now.items c.tell_noted-middle.new.pieces.items c.tell_noted.new.pieces.items
-    c.args.last c.tell_noted-middle.result c.tell_noted.result
-    (rw c.left.ensures at c.tell_noted-middle.ensures) (rw c.right.ensures at c.tell_noted.ensures)
+    c.args.pieces.now.items c.tell_noted.new.pieces.items c.tell_noted-in-Somewhere.new.pieces.items
+    c.args.last.now c.tell_noted.new.last c.tell_noted-in-Somewhere.new.last
+    (rw c.left.ensures at c.tell_noted.ensures) (rw c.right.ensures at c.tell_noted-in-Somewhere.ensures)

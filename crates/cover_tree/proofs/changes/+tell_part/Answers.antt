@@ -33,7 +33,7 @@ returns-then-eq t c =
       tops = λ l. refl;
       pieces = stays (was c.args.palette.now.mask c.args.trees.now c.args.part c.args.known)
           (is c.args.palette.now.mask c.args.trees.now c.args.part c.args.known)
-          c.args.pieces.now.items c.args.last c.args.part
+          c.args.pieces.now.items c.args.last.now c.args.part
           (alike_change c.args.palette.now.mask c.args.trees.now c.args.part c.args.known told
           (same_set _ _ (sym c.eq.ensures ∙ c.if-eq.true)));
     }
@@ -55,13 +55,13 @@ returns-then-part-lt2 t c = record {
   tops = c.settle.ensures.tops;
   pieces = leaf_told c.args.palette.now.mask c.args.trees.now c.args.part c.args.known c.handed_down-down.result
       c.handed_down-down.ensures.before c.handed_down-down.ensures.after c.args.pieces.now.items
-      c.tell_cell.new.pieces.items c.args.last c.tell_cell.result c.requires.further
+      c.tell_cell.new.pieces.items c.args.last.now c.tell_cell.new.last c.requires.further
       c.if-part-lt2.true c.tell_cell.ensures;
 }
 
 -- src/changes.rt
-pub tell_part-middle-requires : goal.tell_part-middle-requires
-tell_part-middle-requires t c =
+pub tell_part-requires : goal.tell_part-requires
+tell_part-requires t c =
     let h : 2 ≤ c.args.part.width = omega arith in
     let b = c.requires.room in
     rw c.left.ensures (
@@ -73,12 +73,12 @@ tell_part-middle-requires t c =
     )
 
 -- src/changes.rt
-pub tell_part-next-requires : goal.tell_part-next-requires
-tell_part-next-requires t c =
+pub tell_part-requires-2 : goal.tell_part-requires-2
+tell_part-requires-2 t c =
     let h : 2 ≤ c.args.part.width = omega arith in
     let b = c.requires.room in
-    let l : IsOnlyIn (left_half c.args.part) c.args.trees.now c.tell_part-middle.new.trees =
-    rw (← c.left.ensures) c.tell_part-middle.ensures.only in
+    let l : IsOnlyIn (left_half c.args.part) c.args.trees.now c.tell_part.new.trees =
+    rw (← c.left.ensures) c.tell_part.ensures.only in
     let n = l.as_many in
     rw c.right.ensures (
       omega arith,
@@ -88,7 +88,7 @@ tell_part-next-requires t c =
           omega arith,
           (
             l.further ∙ c.requires.further,
-            right_noted c.args.trees.now c.tell_part-middle.new.trees c.args.part h l c.requires.noted,
+            right_noted c.args.trees.now c.tell_part.new.trees c.args.part h l c.requires.noted,
           ),
         ),
       ),
@@ -97,48 +97,48 @@ tell_part-next-requires t c =
 -- src/changes.rt
 pub settle-requires-2-clause-own : goal.settle-requires-2-clause-own
 settle-requires-2-clause-own t c =
-    let m = c.tell_part-middle.ensures in
-    let n = c.tell_part-next.ensures in
-    own_same c.args.trees.now c.tell_part-next.new.trees c.own_at-own.result c.args.part.at
+    let m = c.tell_part.ensures in
+    let n = c.tell_part-2.ensures in
+    own_same c.args.trees.now c.tell_part-2.new.trees c.own_at-own.result c.args.part.at
     (n.only.further ∙ m.only.further) (n.only.since ∙ m.only.since) (λ l. n.tops l ∙ m.tops l) c.own_at-own.ensures
 
 -- src/changes.rt
 pub settle-requires-2-clause-halves : goal.settle-requires-2-clause-halves
 settle-requires-2-clause-halves t c =
     let h : 2 ≤ c.args.part.width = omega arith in
-    let r : IsOnlyIn (right_half c.args.part) c.tell_part-middle.new.trees c.tell_part-next.new.trees =
-    rw (← c.right.ensures) c.tell_part-next.ensures.only in
-    both_noted c.tell_part-middle.new.trees c.tell_part-next.new.trees c.args.part h r
-    (rw (← c.left.ensures) c.tell_part-middle.ensures.noted) (rw (← c.right.ensures) c.tell_part-next.ensures.noted)
+    let r : IsOnlyIn (right_half c.args.part) c.tell_part.new.trees c.tell_part-2.new.trees =
+    rw (← c.right.ensures) c.tell_part-2.ensures.only in
+    both_noted c.tell_part.new.trees c.tell_part-2.new.trees c.args.part h r
+    (rw (← c.left.ensures) c.tell_part.ensures.noted) (rw (← c.right.ensures) c.tell_part-2.ensures.noted)
 
 -- src/changes.rt
 pub settle-requires-2-clause-told_halves : goal.settle-requires-2-clause-told_halves
 settle-requires-2-clause-told_halves t c =
     let h : 2 ≤ c.args.part.width = omega arith in
-    let r : IsOnlyIn (right_half c.args.part) c.tell_part-middle.new.trees c.tell_part-next.new.trees =
-    rw (← c.right.ensures) c.tell_part-next.ensures.only in
-    both_told c.tell_part-middle.new.trees c.tell_part-next.new.trees c.args.part h r
-    (rw (← c.left.ensures) c.tell_part-middle.ensures.told) (rw (← c.right.ensures) c.tell_part-next.ensures.told)
+    let r : IsOnlyIn (right_half c.args.part) c.tell_part.new.trees c.tell_part-2.new.trees =
+    rw (← c.right.ensures) c.tell_part-2.ensures.only in
+    both_told c.tell_part.new.trees c.tell_part-2.new.trees c.args.part h r
+    (rw (← c.left.ensures) c.tell_part.ensures.told) (rw (← c.right.ensures) c.tell_part-2.ensures.told)
 
 -- src/changes.rt
 pub returns : goal.returns
 returns t c =
     let h : 2 ≤ c.args.part.width = omega arith in
-    let l : IsOnlyIn (left_half c.args.part) c.args.trees.now c.tell_part-middle.new.trees =
-    rw (← c.left.ensures) c.tell_part-middle.ensures.only in
-    let r : IsOnlyIn (right_half c.args.part) c.tell_part-middle.new.trees c.tell_part-next.new.trees =
-    rw (← c.right.ensures) c.tell_part-next.ensures.only in
+    let l : IsOnlyIn (left_half c.args.part) c.args.trees.now c.tell_part.new.trees =
+    rw (← c.left.ensures) c.tell_part.ensures.only in
+    let r : IsOnlyIn (right_half c.args.part) c.tell_part.new.trees c.tell_part-2.new.trees =
+    rw (← c.right.ensures) c.tell_part-2.ensures.only in
     record {
       noted = c.settle-2.ensures.noted;
       told = c.settle-2.ensures.told;
-      only = both_only c.args.trees.now c.tell_part-middle.new.trees c.tell_part-next.new.trees c.args.part h l r
+      only = both_only c.args.trees.now c.tell_part.new.trees c.tell_part-2.new.trees c.args.part h l r
           c.settle-2.new.self c.settle-2.ensures.only;
-      tops = λ k. c.settle-2.ensures.tops k ∙ c.tell_part-next.ensures.tops k
-          ∙ c.tell_part-middle.ensures.tops k;
+      tops = λ k. c.settle-2.ensures.tops k ∙ c.tell_part-2.ensures.tops k
+          ∙ c.tell_part.ensures.tops k;
       pieces = halves_told c.args.palette.now.mask c.args.trees.now c.args.part c.args.known c.handed_down-down.result
-          c.handed_down-down.ensures.before c.handed_down-down.ensures.after c.tell_part-middle.new.trees l h
-          c.args.pieces.now.items c.tell_part-middle.new.pieces.items c.tell_part-next.new.pieces.items
-          c.args.last c.tell_part-middle.result c.tell_part-next.result
-          (rw c.left.ensures at c.tell_part-middle.ensures.pieces)
-          (rw c.right.ensures at c.tell_part-next.ensures.pieces);
+          c.handed_down-down.ensures.before c.handed_down-down.ensures.after c.tell_part.new.trees l h
+          c.args.pieces.now.items c.tell_part.new.pieces.items c.tell_part-2.new.pieces.items
+          c.args.last.now c.tell_part.new.last c.tell_part-2.new.last
+          (rw c.left.ensures at c.tell_part.ensures.pieces)
+          (rw c.right.ensures at c.tell_part-2.ensures.pieces);
     }

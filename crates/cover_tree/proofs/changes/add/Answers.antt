@@ -2,7 +2,7 @@ use Rattle.cover_tree.proofs.Telling.{begins_next}
 use Rattle.cover_tree.proofs.changes.add.Goals as goal
 
 -- src/changes.rt
-pub returns : goal.returns
-returns c = λ before after t.
-    rw (c.in_ok-last.was, c.in_ok-close.ensures, c.end-2.ensures)
-    (begins_next before after c.args.pieces.now.items c.in_ok-last.last c.args.part c.args.colour t)
+pub returns-in-Ok-close : goal.returns-in-Ok-close
+returns-in-Ok-close c = λ before after t.
+    rw (c.in-Ok.is, c.in-Ok-close.ensures, c.end-in-Ok-close.ensures)
+    (begins_next before after c.args.pieces.now.items c.in-Ok.open c.args.part c.args.colour t)

@@ -41,5 +41,5 @@ pub returns-clause-pieces : goal.returns-clause-pieces
 unfolding cover_of told_of
 returns-clause-pieces c =
     told_pieces c.args.self.now.mask c.args.self.now.cells c.args.self.now.trees c.args.row c.root-root.result
-    c.none-bare.result c.clear.new.self.items c.tell_part.new.pieces.items c.tell_part.result c.root-root.ensures
+    c.none-bare.result c.clear.new.self.items c.tell_part.new.pieces.items c.tell_part.new.last c.root-root.ensures
     c.none-bare.ensures c.clear.ensures.items (rw c.new-palette.ensures at c.tell_part.ensures.pieces)
