@@ -1,5 +1,5 @@
 -- Cells of one colour, and the runs that they make.
-use Rattle.std.proofs.Common.{◌≡◌, ◌≢◌, ℕ, zero, suc, ◌-◌, ◌^◌, ◌<◌, ◌≤◌, true, false, inl, inr, List, length}
+use Rattle.std.proofs.Common.{◌≡◌, ◌≢◌, ◌⊎◌, ℕ, zero, suc, ◌-◌, ◌^◌, ◌<◌, ◌≤◌, true, false, inl, inr, List, length}
 use Rattle.std.proofs.Common.{replicate, refl, sym, ◌∙◌, subst, arith}
 use Rattle.std.proofs.lemmas.Bool.{cases_eq, cases_lt, cases_Bool, both_ways, lt-ltb, le-ltb}
 use Rattle.std.proofs.lemmas.List.{get_or-replicate, get_or_past, length-replicate}
@@ -107,6 +107,17 @@ module _ (k : KeptRuns) (b : AreBorders k.borders k.colours.items) where
       let w = a.within in
       in_row c (omega arith) ∙ steady k.borders k.colours.items cell c h (λ d i j. a.none d i (omega arith))
       ∙ sym (in_row cell l)
+
+  -- before a cell that is the first, or a border, another colour is
+  pub other_before : (from cell colour : ℕ) → from ≤ cell → (cell ≡ from) ⊎ (has k.borders cell ≡ true)
+      → colour ≡ colours_of k cell → (cell ≡ from) ⊎ (colours_of k (cell - 1) ≢ colour)
+  other_before from cell colour o border own = elim border [
+    | inl e ↦ inl e
+    | inr h ↦ elim (cases_eq cell 0) [
+      | inl z ↦ inl (omega arith)
+      | inr n ↦ inr (λ f. differs (cell - 1) cell (omega arith) h (f ∙ own))
+    ]
+  ]
 
   module _ (cell left right : ℕ) (t : IsBorderTo k.borders cell left)
       (a : IsBorderAfter k.borders (length k.colours.items) cell right) where

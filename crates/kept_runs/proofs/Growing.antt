@@ -174,18 +174,3 @@ module _ (from at end colour : ℕ) (row : ℕ → ℕ) (runs : List Run) (a : A
     | inl e ↦ rw (eq-eqb colour 0 e) (grown_blank e)
     | inr n ↦ rw (ne_eqb colour 0 n) (grown (omega arith) border)
   ]
-
--- the window as far as it was to grow
-pub whole : (from at to : ℕ) (row : ℕ → ℕ) (runs : List Run) → from ≤ at → to ≤ at → (at ≤ to) ⊎ (at ≡ from)
-    → AreRuns (windowed from at row) runs
-    → AreRuns (windowed from to row) runs
-whole from at to row runs h l b a = elim b [
-  | inl k ↦ let e : at ≡ to = omega arith in subst (λ n. AreRuns (windowed from n row) runs) e a
-  | inr e ↦
-      let same : (c : ℕ) → windowed from at row c ≡ windowed from to row c = λ c. elim (cases_lt c from) [
-        | inl m ↦ left_of_it from at row c m ∙ sym (left_of_it from to row c m)
-        | inr m ↦ right_of_it from at row c (omega arith) ∙ sym (right_of_it from to row c (omega arith))
-      ] in
-      let f : windowed from at row ≡ windowed from to row = λ i c. same c i in
-      subst (λ g. AreRuns g runs) f a
-]

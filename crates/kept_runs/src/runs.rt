@@ -158,16 +158,33 @@ impl KeptRuns {
         ensures { IfOk result (λ _. AreRuns (windowed from to (colours_of self.now)) runs.new.items) }
     {
         runs.clear();
-        let mut at = from;
-        while at < to {
-            let run = Run {
-                left: at,
-                right: self.border_after(at).min(to),
-                colour: self.colour_at(at),
-            };
-            add(runs, run)?;
-            at = run.right;
+        if to <= from {
+            return Ok(());
         }
+        let mut left = from;
+        let mut colour = self.colour_at(from);
+        let mut right = self.border_after(from);
+        while right < to {
+            add(
+                runs,
+                Run {
+                    left,
+                    right,
+                    colour,
+                },
+            )?;
+            left = right;
+            colour = self.noted_at(left);
+            right = self.border_after(left);
+        }
+        add(
+            runs,
+            Run {
+                left,
+                right: to,
+                colour,
+            },
+        )?;
         Ok(())
     }
 }
