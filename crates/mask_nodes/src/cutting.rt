@@ -19,7 +19,7 @@ pub(crate) fn pieces_of(
 ) -> Result<List<Piece>, NoMemory>
     ensures { IfOk result (λ v. AreTilePieces layer tiles.now v) }
 {
-    let mut pieces = List::new(alloc);
+    let mut pieces = List::from_vec(Vec::with_capacity(alloc, tiles.len())?);
     for (i, tile) in tiles.iter().enumerate() {
         let Ok(number) = u32::try_from(i) else {
             return Err(NoMemory);

@@ -20,7 +20,7 @@ pub(crate) fn gates(
     requires { All (HasGate first over.now pieces.now nodes.now) roots.now }
     ensures { IfOk result (λ v. v ≡ map (gate_of first over.now pieces.now nodes.now) roots.now) }
 {
-    let mut gates = List::new(alloc);
+    let mut gates = List::from_vec(Vec::with_capacity(alloc, roots.len())?);
     for root in roots {
         gates.push(gate(first, over, pieces, nodes, *root))?;
     }

@@ -17,7 +17,7 @@ pub(crate) fn merge(alloc: Global, a: &[Piece], b: &[Piece]) -> Result<List<Piec
     ensures ascending { IfOk result (λ v. AllPairs IsBefore v) }
     ensures all { IfOk result (λ v. (p : Piece) → Contains v p ↔ (Contains a.now p ⊎ Contains b.now p)) }
 {
-    let mut merged = List::new(alloc);
+    let mut merged = List::from_vec(Vec::with_capacity(alloc, a.len() + b.len())?);
     let mut i = 0;
     let mut j = 0;
     while i < a.len() || j < b.len() {

@@ -30,7 +30,7 @@ pub(crate) fn number(
 {
     let mut classes = Classes {
         roots: List::new(alloc),
-        numbers: List::new(alloc),
+        numbers: List::from_vec(Vec::with_capacity(alloc, pieces.len())?),
     };
     for (i, piece) in pieces.iter().enumerate() {
         let number = if piece.part.conducts() != conducting {

@@ -19,7 +19,7 @@ pub(crate) fn pieces_over(
     requires pieces { All (λ k. k < length pieces.now) numbers.now }
     ensures { IfOk result (λ v. v ≡ map (over numbers.now pieces.now) found.now) }
 {
-    let mut pieces_there = List::new(alloc);
+    let mut pieces_there = List::from_vec(Vec::with_capacity(alloc, found.len())?);
     for tile in found {
         pieces_there.push(piece_over(*tile, numbers, pieces))?;
     }

@@ -17,7 +17,8 @@ pub(crate) fn spots(
 ) -> Result<List<Point>, NoMemory>
     ensures { IfOk result (λ v. v ≡ (map corner_point first.now ++ places.now) ++ map corner_point last.now) }
 {
-    let mut spots = List::new(alloc);
+    let count = first.len() + places.len() + last.len();
+    let mut spots = List::from_vec(Vec::with_capacity(alloc, count)?);
     add_corners(&mut spots, first)?;
     add_places(&mut spots, places)?;
     add_corners(&mut spots, last)?;

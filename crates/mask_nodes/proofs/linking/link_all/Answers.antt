@@ -1,3 +1,4 @@
+use Rattle.std.proofs.Common.{◌∙◌}
 use Rattle.mask_nodes.proofs.Gaining.{touch_same, contact_same, all_links}
 use Rattle.mask_nodes.proofs.linking.link_all.Goals as goal
 
@@ -7,9 +8,9 @@ returns c =
     let ps = c.args.pieces.now in
     all_links m.metal.pairs m.polysilicon.pairs m.diffusion.pairs m.contacts.tiles ps c.args.metal.now.numbers
     c.args.polysilicon.now.numbers c.args.diffusion.now.numbers
-    c.args.metal.now.over c.args.polysilicon.now.over c.args.diffusion.now.over c.new-links.result
+    c.args.metal.now.over c.args.polysilicon.now.over c.args.diffusion.now.over c.from_vec-links.result
     c.link_touching.new.links c.link_touching-2.new.links c.link_touching-3.new.links c.link_contacts.new.links
-    c.new-links.ensures
+    (c.from_vec-links.ensures ∙ c.in_ok-with_capacity.ensures.items)
     (touch_same _ _ _ _ _ _ ps c.as_slice.ensures c.as_slice-2.ensures c.in_ok-link_touching.ensures)
     (touch_same _ _ _ _ _ _ ps c.as_slice-3.ensures c.as_slice-4.ensures c.in_ok-link_touching-2.ensures)
     (touch_same _ _ _ _ _ _ ps c.as_slice-5.ensures c.as_slice-6.ensures c.in_ok-link_touching-3.ensures)
