@@ -1,4 +1,5 @@
 mod ProgramPads
+pub mod Causes
 mod Counting
 mod Replaying
 pub mod Chips

@@ -1,6 +1,6 @@
 //! The line that ends a run.
 
-ghost use Rattle.std.specs.Prelude.{◌≡◌, ◌++◌, count_by, length};
+ghost use Rattle.std.specs.Prelude.{◌≡◌, [], ◌∷◌, ◌++◌, codes, count_by, length};
 ghost use Rattle.std.specs.Fmt.{decimal};
 ghost use Rattle.mp_base.specs.declared.value.Trit.TheVariants.{One, X};
 ghost use Rattle.mp_base.specs.Outside.{Gains, HasCause};
@@ -47,6 +47,16 @@ fn write_number<O: Sink>(out: &mut O, words: &[u8], number: usize) -> Result<(),
     write_both(out, words, buffer.format(number).as_bytes())
 }
 
+// Writes how many nodes are at X, and ends the line.
+fn write_unknown<O: Sink>(out: &mut O, values: &[Trit]) -> Result<(), Failed>
+    ensures taken { TakesAll Gains (O.held out.old) (O.held out.new)
+        (codes " unknown " ++ decimal (count_by (same_value X) values.now) ++ 10 ∷ []) result }
+    ensures cause { HasCause (O.faults out.old) (O.faults out.new) result }
+{
+    write_number(out, b" unknown ", count(values, Trit::X))?;
+    write_all(out, b"\n")
+}
+
 // Writes how many nodes are at 1 and at X, and ends the line.
 fn write_counts<O: Sink>(out: &mut O, values: &[Trit]) -> Result<(), Failed>
     ensures taken { TakesAll Gains (O.held out.old) (O.held out.new)
@@ -54,8 +64,7 @@ fn write_counts<O: Sink>(out: &mut O, values: &[Trit]) -> Result<(), Failed>
     ensures cause { HasCause (O.faults out.old) (O.faults out.new) result }
 {
     write_number(out, b" ones ", count(values, Trit::One))?;
-    write_number(out, b" unknown ", count(values, Trit::X))?;
-    write_all(out, b"\n")
+    write_unknown(out, values)
 }
 
 /// Writes the size line at the end of a run: the size of a network, which was made before the run, and how many of its

@@ -5,7 +5,7 @@ ghost use Rattle.mp_base.specs.Outside.{HasCause};
 ghost use Rattle.mp_base.specs.declared.value.Trit.TheVariants.{X};
 ghost use Rattle.settle.specs.Values.{value_at};
 ghost use Rattle.switch_net.specs.Breaks.{HasPads};
-ghost use Rattle.replay_run.specs.Replay.{PrintsReplay};
+ghost use Rattle.replay_run.specs.Replay.{IsReady, PrintsReplay};
 
 use crate::counts::write_last_line;
 use mask_net::size_text;
@@ -54,6 +54,21 @@ fn simulation<'a>(
     }
 }
 
+// Runs a circuit that has run no clock, and prints all of it.
+fn run_clocks<O: Sink>(
+    simulation: &mut Simulation<'_>,
+    size: &[u8],
+    out: &mut O,
+) -> Result<(), Failed>
+    requires ready { IsReady simulation.old size.now }
+    ensures printed { PrintsReplay simulation.old.network simulation.old.given
+        (O.held out.old) (O.held out.new) result }
+    ensures cause { HasCause (O.faults out.old) (O.faults out.new) result }
+{
+    simulation.run(out)?;
+    write_last_line(out, size, simulation.values())
+}
+
 impl<'a> Replay<'a> {
     /// The circuit of a network that has the stimulus's pads, all of whose nodes are X.
     ///
@@ -82,11 +97,14 @@ impl<'a> Replay<'a> {
     /// # Errors
     ///
     /// `Failed` where the sink failed: then a first part was printed, but not all.
-    pub fn run<O: Sink>(mut self, out: &mut O) -> Result<(), Failed>
+    pub fn run<O: Sink>(self, out: &mut O) -> Result<(), Failed>
         ensures printed { PrintsReplay self.entry.network self.entry.given (O.held out.old) (O.held out.new) result }
         ensures cause { HasCause (O.faults out.old) (O.faults out.new) result }
     {
-        self.simulation.run(out)?;
-        write_last_line(out, &self.size, self.simulation.values())
+        let Replay {
+            mut simulation,
+            size,
+        } = self;
+        run_clocks(&mut simulation, &size, out)
     }
 }
