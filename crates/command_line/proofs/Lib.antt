@@ -1,3 +1,4 @@
+pub mod Settings
 pub mod Plain
 pub mod Levels
 pub mod Links

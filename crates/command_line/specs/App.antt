@@ -1,8 +1,10 @@
 -- The command that clap is given.
-use Rattle.std.specs.Prelude.{true, false, List, [], ◌∷◌, Some, codes, map}
+use Rattle.std.specs.Prelude.{◌≡◌, true, false, List, [], ◌∷◌, Some, codes, map}
 use Rattle.clap.specs.Lexer.{usize_max}
-use Rattle.clap.specs.Simple.{App, Shape, new_rule, new_shape}
+use Rattle.clap.specs.Simple.{App, Shape, app_of, new_rule, new_shape, with_subcommand}
 use Rattle.clap.specs.Walk.{Rule, Text}
+use Rattle.clap.specs.declared.builder.command.Command.{Command}
+use Rattle.clap.specs.declared.builder.command.Command.TheViews.{out-Command}
 
 -- a word that has to be there
 abbrev pub word : Text → Rule
@@ -62,3 +64,12 @@ top = record bare_top { is_leaf = false }
 -- the program with its forms
 abbrev pub app : App
 app = record { top = top; subs = trace ∷ compile ∷ replay ∷ sim ∷ net ∷ stats ∷ board ∷ make ∷ [] }
+
+-- a command that is a form, and has nothing for commands below it
+pub record IsForm (form : Shape) (command : Command) : Type 0 where
+  pub app : app_of command ≡ alone form
+  pub local : (out-Command command).has_globals ≡ false
+
+-- the old command with one more form, the last
+pub record AddsForm (old : Command) (form : Shape) (new : Command) : Type 0 where
+  pub app : app_of new ≡ with_subcommand (app_of old) form

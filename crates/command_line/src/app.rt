@@ -1,8 +1,7 @@
 //! The command that clap is given.
 
 ghost use Rattle.std.specs.Prelude.{◌≡◌, IfOk, false, map};
-ghost use Rattle.clap.specs.Words.{app_of, rule_of, with_subcommand};
-ghost use Rattle.clap.specs.declared.builder.command.Command.TheViews.{out-Command as fields_of};
+ghost use Rattle.clap.specs.Words.{app_of, rule_of};
 ghost use Rattle.command_line.specs.App as spec;
 
 use clap::{Arg, Command};
@@ -26,8 +25,7 @@ fn words<'a>(alloc: Global, id: &'a str) -> Arg<'a>
 
 // A subcommand that takes a word for each id.
 fn form<'a>(alloc: Global, name: &'a str, ids: &[&'a str]) -> Result<Command<'a>, AllocError>
-    ensures app { IfOk result (λ c. app_of c ≡ spec.alone (spec.form name.entry.now (map (λ id. id.now) ids.now))) }
-    ensures local { IfOk result (λ c. (fields_of c).has_globals ≡ false) }
+    ensures { IfOk result (spec.IsForm (spec.form name.entry.now (map (λ id. id.now) ids.now))) }
 {
     let mut form = Command::new(alloc, name);
     for id in ids {
@@ -38,8 +36,7 @@ fn form<'a>(alloc: Global, name: &'a str, ids: &[&'a str]) -> Result<Command<'a>
 
 // The subcommand that takes links behind its other words.
 fn board<'a>(alloc: Global) -> Result<Command<'a>, AllocError>
-    ensures app { IfOk result (λ c. app_of c ≡ spec.alone spec.board) }
-    ensures local { IfOk result (λ c. (fields_of c).has_globals ≡ false) }
+    ensures { IfOk result (spec.IsForm spec.board) }
 {
     form(alloc, "board", &["source", "cif", "clocks"])?.arg(words(alloc, "links"))
 }
@@ -63,15 +60,15 @@ fn with_form<'a>(
     name: &'a str,
     ids: &[&'a str],
 ) -> Result<Command<'a>, AllocError>
-    ensures { IfOk result (λ c. app_of c ≡ with_subcommand (app_of command.entry)
-        (spec.form name.entry.now (map (λ id. id.now) ids.now))) }
+    ensures { IfOk result
+        (spec.AddsForm command.entry (spec.form name.entry.now (map (λ id. id.now) ids.now))) }
 {
     command.subcommand(form(alloc, name, ids)?)
 }
 
 // The command with the form of a board.
 fn with_board<'a>(alloc: Global, command: Command<'a>) -> Result<Command<'a>, AllocError>
-    ensures { IfOk result (λ c. app_of c ≡ with_subcommand (app_of command.entry) spec.board) }
+    ensures { IfOk result (spec.AddsForm command.entry spec.board) }
 {
     command.subcommand(board(alloc)?)
 }

@@ -1,17 +1,17 @@
-use Rattle.std.proofs.Common.{◌∙◌, ap}
 use Rattle.std.proofs.lemmas.Result.{IfOk-weaker}
-use Rattle.clap.specs.Words.{App, with_subcommand}
 use Rattle.command_line.specs.App as spec
+use Rattle.command_line.proofs.Settings.{one_more_form}
 use Rattle.command_line.proofs.app.app.Goals as goal
 
 pub returns : goal.returns
 returns c =
-    let trace = c.in_ok-trace.ensures ∙ ap (λ (a : App). with_subcommand a spec.trace) c.top.ensures in
-    let compile = c.in_ok-compile.ensures ∙ ap (λ (a : App). with_subcommand a spec.compile) trace in
-    let replay = c.in_ok-replay.ensures ∙ ap (λ (a : App). with_subcommand a spec.replay) compile in
-    let sim = c.in_ok-sim.ensures ∙ ap (λ (a : App). with_subcommand a spec.sim) replay in
-    let net = c.in_ok-net.ensures ∙ ap (λ (a : App). with_subcommand a spec.net) sim in
-    let stats = c.in_ok-stats.ensures ∙ ap (λ (a : App). with_subcommand a spec.stats) net in
-    let board = c.in_ok-board.ensures ∙ ap (λ (a : App). with_subcommand a spec.board) stats in
-    IfOk-weaker c.with_form-7.result _ _ (λ r h. h ∙ ap (λ (a : App). with_subcommand a spec.make) board)
-    c.with_form-7.ensures
+    let trace = one_more_form c.top.result spec.trace _ c.top.ensures c.in_ok-trace.trace c.in_ok-trace.ensures in
+    let compile =
+    one_more_form c.in_ok-trace.trace spec.compile _ trace c.in_ok-compile.compile c.in_ok-compile.ensures in
+    let replay =
+    one_more_form c.in_ok-compile.compile spec.replay _ compile c.in_ok-replay.replay c.in_ok-replay.ensures in
+    let sim = one_more_form c.in_ok-replay.replay spec.sim _ replay c.in_ok-sim.sim c.in_ok-sim.ensures in
+    let net = one_more_form c.in_ok-sim.sim spec.net _ sim c.in_ok-net.net c.in_ok-net.ensures in
+    let stats = one_more_form c.in_ok-net.net spec.stats _ net c.in_ok-stats.stats c.in_ok-stats.ensures in
+    let board = one_more_form c.in_ok-stats.stats spec.board _ stats c.in_ok-board.board c.in_ok-board.ensures in
+    IfOk-weaker c.with_form-7.result _ _ (one_more_form c.in_ok-board.board spec.make _ board) c.with_form-7.ensures
