@@ -1,51 +1,13 @@
 //! Runs each example over files in memory, and tells whether it prints what stands beside it.
 #![tactic(auto)]
 
-use board_parts::Memory;
-use mp_base::{List, MemDepot, MemSink, NoMemory};
-use silicon::{NamedPart, Part, Status, run};
-use std::alloc::{AllocError, Global};
+use mp_base::{MemSink, NoMemory};
+use outcome::Status;
+use run_script::{File, NONE, set, text_of, words_of};
+use std::alloc::Global;
 use std::{fs, io};
-
-/// Sources, each with a stimulus.
-const EXAMPLES: [&str; 10] = [
-    "inverter",
-    "half_adder",
-    "multiplexer",
-    "decoder",
-    "voter",
-    "counter",
-    "gcd",
-    "swap",
-    "subroutines",
-    "traffic",
-];
-
-/// Sources that break a rule.
-const MISTAKES: [&str; 6] = [
-    "broken",
-    "unknown_name",
-    "wrong_sort",
-    "taken_pin",
-    "closed_loop",
-    "no_reset",
-];
-
-fn words_of(alloc: Global, words: &[&str]) -> Result<Vec<String>, AllocError> {
-    let mut list = Vec::new(alloc);
-    for word in words {
-        list.push(String::from_str(alloc, word)?)?;
-    }
-    Ok(list)
-}
-
-// The only part of a list.
-fn only_part(alloc: Global, name: &str, part: Box<dyn Part>) -> Result<Vec<NamedPart>, AllocError> {
-    let mut parts = Vec::new(alloc);
-    let name = String::from_str(alloc, name)?;
-    parts.push(NamedPart { name, part })?;
-    Ok(parts)
-}
+use system_run::run_with_parts;
+use transcript_likeness::{Likeness, likeness_of};
 
 /// How a run ended, and what it printed.
 #[derive(Drop)]
@@ -54,163 +16,65 @@ struct Outcome {
     out: MemSink,
 }
 
-// A run over the files `first` and `second`, with a memory as the only part.
-fn outcome_of(
-    alloc: Global,
-    words: &[&str],
-    first: &[u8],
-    second: &[u8],
-) -> Result<Outcome, NoMemory> {
-    let mut depot = MemDepot::new(alloc, 4096, List::new(alloc));
-    depot.put("first", first)?;
-    depot.put("second", second)?;
-    let mut out = MemSink::new(alloc, List::new(alloc));
+// Reads the files that a list names, by words with a dot.
+fn files_of(rt: &HostRuntime, list: &str) -> io::Result<Vec<File>> {
+    let mut files = Vec::new(rt.alloc());
+    for word in list.split_whitespace() {
+        if word.as_bytes().contains(&b'.') {
+            let text = fs::read(rt, word)?;
+            set(rt.alloc(), &mut files, word, text)?;
+        }
+    }
+    Ok(files)
+}
+
+// What words do over the files, with the parts that a chip may be joined to.
+fn outcome_of(alloc: Global, files: &[File], words: &str) -> Result<Outcome, NoMemory> {
     let words = words_of(alloc, words)?;
-    let Ok(memory) = Box::new(alloc, Memory::new()) else {
-        return Err(NoMemory);
-    };
-    let mut parts = only_part(alloc, "memory", memory)?;
-    let status = run(alloc, &words, &mut depot, &mut out, &mut parts);
+    let mut depot = NONE.depot(alloc, files)?;
+    let mut out = NONE.sink(alloc)?;
+    let status = run_with_parts(alloc, &words, &mut depot, &mut out);
     Ok(Outcome { status, out })
 }
 
-fn show(
-    rt: &HostRuntime,
-    command: &str,
-    first: &str,
-    second: &str,
-    wanted: &str,
-) -> io::Result<()> {
-    println!(rt; "{command} {first} {second}")?;
-    let first = fs::read(rt, first)?;
-    let second = fs::read(rt, second)?;
-    let wanted = fs::read(rt, wanted)?;
-    let words = [command, "first", "second"];
-    let Ok(found) = outcome_of(rt.alloc(), &words, &first, &second) else {
-        return println!(rt; "    not enough memory");
-    };
-    if found.out.bytes() == wanted.as_slice() {
-        return println!(rt; "    as it should");
-    }
-    let text = String::from_utf8_lossy(rt.alloc(), found.out.bytes())?;
-    println!(rt; "{text}")
-}
-
-// Whether a value of a line isn't known.
-fn has_unknown(line: &str) -> bool {
-    for value in line.as_bytes().split(|byte| *byte == b'=').skip(1) {
-        if let [b'X', ..] = value {
-            return true;
-        }
-    }
-    false
-}
-
-// How many lines have values that aren't known, if the others are those of the transcript and the size of the masks is
-// the last.
-fn unknown_lines(printed: &str, transcript: &str) -> Option<u32> {
-    let mut lines = printed.lines();
-    let mut unknown = 0u32;
-    for wanted in transcript.lines() {
-        let line = lines.next()?;
-        if line != wanted {
-            if !has_unknown(line) {
-                return None;
-            }
-            unknown = unknown.wrapping_add(1);
-        }
-    }
-    match lines.next()?.split_once(' ') {
-        Some((first, _)) if first == "nodes" => Some(unknown),
-        _ => None,
-    }
-}
-
-// The chip of a source is written and run along its stimulus, beside the source's transcript.
-fn show_replay(rt: &HostRuntime, name: &str) -> io::Result<()> {
-    let alloc = rt.alloc();
-    println!(rt; "replay {name}.mp {name}.stim")?;
-    let source = fs::read(rt, format!(in alloc; "{name}.mp")?.as_str())?;
-    let stimulus = fs::read(rt, format!(in alloc; "{name}.stim")?.as_str())?;
-    let words = ["replay", "first", "second", "third"];
-    show_chip(rt, name, &words, &source, &stimulus)
-}
-
-// A chip is joined to the memory for some clocks, beside the source's transcript.
-fn show_board(rt: &HostRuntime, name: &str, clocks: &str, link: &str) -> io::Result<()> {
-    println!(rt; "board {name}.mp {clocks} {link}")?;
-    let source = fs::read(rt, format!(in rt.alloc(); "{name}.mp")?.as_str())?;
-    let words = ["board", "first", "third", clocks, link];
-    show_chip(rt, name, &words, &source, b"")
-}
-
-// What words print of the chip that they write, beside a transcript.
-fn show_chip(
-    rt: &HostRuntime,
-    name: &str,
-    words: &[&str],
-    first: &[u8],
-    second: &[u8],
-) -> io::Result<()> {
-    let alloc = rt.alloc();
-    let wanted = fs::read(rt, format!(in alloc; "{name}.transcript")?.as_str())?;
-    let Ok(found) = outcome_of(alloc, words, first, second) else {
-        return println!(rt; "    not enough memory");
-    };
-    let printed = String::from_utf8_lossy(alloc, found.out.bytes())?;
-    let wanted = String::from_utf8_lossy(alloc, &wanted)?;
-    match unknown_lines(&printed, &wanted) {
-        Some(unknown) => {
+// Tells how a run ended, and what it printed where no transcript says so.
+fn show_end(rt: &HostRuntime, outcome: &Outcome, likeness: Likeness) -> io::Result<()> {
+    let status = outcome.status;
+    match likeness {
+        Likeness::Same => println!(rt; "    as it should"),
+        Likeness::ButUnknown(unknown) => {
             println!(rt;
-                "    {:?}, as it should, {unknown} lines with values that aren't known",
-                found.status
+                "    {status:?}, as it should, {unknown} lines with values that aren't known"
             )
         }
-        None => println!(rt; "{printed}"),
+        Likeness::Another => {
+            let printed = String::from_utf8_lossy(rt.alloc(), outcome.out.bytes())?;
+            print!(rt; "    {status:?}\n{printed}")
+        }
     }
 }
 
-// The masks of a source are written.
-fn show_compile(rt: &HostRuntime, name: &str) -> io::Result<()> {
-    let alloc = rt.alloc();
-    println!(rt; "compile {name}.mp")?;
-    let source = fs::read(rt, format!(in alloc; "{name}.mp")?.as_str())?;
-    match outcome_of(alloc, &["compile", "first", "third"], &source, b"") {
-        Ok(found) => println!(rt; "    {:?}", found.status),
-        Err(NoMemory) => println!(rt; "    not enough memory"),
-    }
-}
-
-fn show_trace(rt: &HostRuntime, name: &str, stimulus: &str) -> io::Result<()> {
-    let source = format!(in rt.alloc(); "{name}.mp")?;
-    let stimulus = format!(in rt.alloc(); "{stimulus}.stim")?;
-    let wanted = format!(in rt.alloc(); "{name}.transcript")?;
-    show(
-        rt,
-        "trace",
-        source.as_str(),
-        stimulus.as_str(),
-        wanted.as_str(),
-    )
+// What comes of a line: the name of a transcript, or a dash where none is printed, and words. The words are told without
+// the file `masks` that they write, which is in memory alone.
+fn show(rt: &HostRuntime, files: &[File], line: &str) -> io::Result<()> {
+    let (name, words) = line.split_once(' ').unwrap_or((line, ""));
+    let (front, back) = words.split_once(" masks").unwrap_or((words, ""));
+    println!(rt; "{front}{back}")?;
+    let Ok(outcome) = outcome_of(rt.alloc(), files, words) else {
+        return println!(rt; "    not enough memory");
+    };
+    let likeness = match text_of(files, name) {
+        Some(transcript) => likeness_of(outcome.out.bytes(), transcript),
+        None => Likeness::Another,
+    };
+    show_end(rt, &outcome, likeness)
 }
 
 fn main(rt: HostRuntime) -> io::Result<()> {
-    for name in EXAMPLES {
-        show_trace(&rt, name, name)?;
+    let list = fs::read_to_string(&rt, "examples.txt")?;
+    let files = files_of(&rt, &list)?;
+    for line in list.lines() {
+        show(&rt, &files, line)?;
     }
-    for name in EXAMPLES {
-        show_compile(&rt, name)?;
-        show_replay(&rt, name)?;
-    }
-    show_board(&rt, "fibonacci", "13", "memory:bus:word")?;
-    for name in MISTAKES {
-        show_trace(&rt, name, "inverter")?;
-    }
-    show(
-        &rt,
-        "sim",
-        "inverter.cif",
-        "inverter.stim",
-        "inverter.transcript",
-    )
+    Ok(())
 }

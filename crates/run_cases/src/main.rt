@@ -3,16 +3,15 @@
 #![tactic(auto)]
 
 use mp_base::{Depot, NoMemory, Sink};
+use outcome::Status;
 use run_ends::{Runner, exit_text, push_line};
 use run_script::exit_of;
-use silicon::{Status, run};
-use std::alloc::Global;
+use std::alloc::{AllocError, Global};
 use std::env::Args;
-use std::fs;
-use std::io::{self, ErrorKind};
-use system_run::{exit_status, perform};
+use std::{fs, io};
+use system_run::{exit_status, perform, run_with_parts};
 
-// The whole program, without parts.
+// The whole program.
 struct Whole;
 
 impl Runner for Whole {
@@ -23,8 +22,7 @@ impl Runner for Whole {
         depot: &mut D,
         out: &mut O,
     ) -> Status {
-        let mut parts = Vec::new(alloc);
-        run(alloc, words, depot, out, &mut parts)
+        run_with_parts(alloc, words, depot, out)
     }
 }
 
@@ -35,7 +33,7 @@ fn follow(rt: &HostRuntime, name: &str) -> io::Result<()> {
     for line in list.lines() {
         let mut told = String::new(rt.alloc());
         if let Err(NoMemory) = push_line(rt.alloc(), &mut told, &Whole, &mut files, line) {
-            return Err(io::Error::from(ErrorKind::OutOfMemory));
+            return Err(io::Error::from(AllocError));
         }
         print!(rt; "{told}")?;
     }
@@ -65,7 +63,7 @@ fn main(rt: HostRuntime) -> io::Result<()> {
     for line in list.lines() {
         show_exit(&rt, line)?;
     }
-    let want = Err(io::Error::from(ErrorKind::OutOfMemory));
+    let want = Err(io::Error::from(AllocError));
     let status = status_of(&rt, &mut [0; 200], want);
     println!(rt; "no memory for words\n    {status}")
 }

@@ -47,8 +47,8 @@ fn push_part(
     Ok(())
 }
 
-// Does what the words say, with the parts that a chip may be joined to.
-fn run_with_parts<D: Depot, O: Sink>(
+// Does what the words say, with the parts that a chip may be joined to, if they can be made.
+fn run_with_made<D: Depot, O: Sink>(
     alloc: Global,
     words: &Vec<String>,
     depot: &mut D,
@@ -72,6 +72,20 @@ fn run_with_parts<D: Depot, O: Sink>(
     Ok(run(alloc, words, depot, out, &mut parts))
 }
 
+/// Does what the words say, with the parts that a chip may be joined to. Parts that can't be had for want of memory end
+/// as any want of memory.
+pub fn run_with_parts<D: Depot, O: Sink>(
+    alloc: Global,
+    words: &Vec<String>,
+    depot: &mut D,
+    out: &mut O,
+) -> Status {
+    match run_with_made(alloc, words, depot, out) {
+        Ok(status) => status,
+        Err(AllocError) => Status::NoMemory,
+    }
+}
+
 /// Does what the words behind the program's name say, with these files, this output, and the parts that a chip may be
 /// joined to. Words that can't be had for want of memory end as any want of memory.
 pub fn perform<R: Files, W: Write + Drop>(
@@ -86,10 +100,7 @@ pub fn perform<R: Files, W: Write + Drop>(
     };
     let mut depot = FileDepot::new(files);
     let mut out = OutSink::new(output);
-    let status = match run_with_parts(alloc, &words, &mut depot, &mut out) {
-        Ok(status) => status,
-        Err(AllocError) => Status::NoMemory,
-    };
+    let status = run_with_parts(alloc, &words, &mut depot, &mut out);
     match out.flush() {
         Ok(()) => status,
         Err(Failed) => Status::WriteFault,
