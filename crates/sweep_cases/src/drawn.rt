@@ -1,7 +1,8 @@
 //! Drawings as they are written in the tables: rectangles by their layer, left, lower, right and upper edges; places by
-//! their left and lower edges; `;` ends each.
+//! their left and lower edges; `;` ends each. `|` ends each part of a line.
 
 use lam_geom::{Layer, Point, Rect};
+use mask_runs::Mask;
 use std::alloc::{AllocError, Global};
 
 pub(crate) const fn rect(layer: Layer, x0: i64, y0: i64, x1: i64, y1: i64) -> Rect {
@@ -14,8 +15,26 @@ pub(crate) const fn rect(layer: Layer, x0: i64, y0: i64, x1: i64, y1: i64) -> Re
     }
 }
 
-// The layer whose second letter this is.
-fn layer(letter: u8) -> Layer {
+/// A part of a line, of which `|` ends each but the last.
+pub(crate) fn part(line: &[u8], index: usize) -> &[u8] {
+    match line.split(|byte| *byte == b'|').nth(index) {
+        Some(part) => part,
+        None => &[],
+    }
+}
+
+/// The mask whose name begins so.
+pub(crate) fn mask(name: &[u8]) -> Option<Mask> {
+    match name {
+        [b'd', ..] => Some(Mask::Diffusion),
+        [b'c', ..] => Some(Mask::Contacts),
+        [b'm', ..] => Some(Mask::Only(Layer::NM)),
+        _ => None,
+    }
+}
+
+/// The layer whose second letter this is.
+pub(crate) fn layer(letter: u8) -> Layer {
     match letter {
         b'D' => Layer::ND,
         b'P' => Layer::NP,
@@ -90,12 +109,17 @@ pub(crate) fn places(alloc: Global, text: &[u8]) -> Result<Vec<Point>, AllocErro
     Ok(places)
 }
 
+/// The number, below 2^32.
+pub(crate) fn count(text: &[u8]) -> u32 {
+    u32::try_from(natural(text)).unwrap_or(0)
+}
+
 /// The numbers of the lines.
 pub(crate) fn counts(alloc: Global, text: &[u8]) -> Result<Vec<u32>, AllocError> {
     let mut counts = Vec::new(alloc);
     for line in text.split(|byte| *byte == b'\n') {
         if !line.is_empty() {
-            counts.push(u32::try_from(natural(line)).unwrap_or(0))?;
+            counts.push(count(line))?;
         }
     }
     Ok(counts)

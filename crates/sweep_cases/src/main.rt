@@ -4,6 +4,8 @@
 mod drawn;
 mod large;
 mod show;
+mod sums;
+mod wide;
 
 use drawn::counts;
 use lam_geom::Layer;
@@ -54,6 +56,7 @@ fn main(rt: HostRuntime) -> io::Result<()> {
     show_list(&rt, "masks.txt")?;
     show_list(&rt, "random.txt")?;
     show_list(&rt, "layers.txt")?;
+    show_list(&rt, "wide.txt")?;
     show_flights(&rt)?;
     show_stairs(&rt, COUNT)?;
     show_comb(&rt)?;

@@ -1,6 +1,7 @@
 //! What a sweep finds, in words.
 
-use crate::drawn::{places, shapes};
+use crate::drawn::{mask, part, places, shapes};
+use crate::sums::show_wide;
 use lam_geom::{Layer, Point, Rect};
 use layer_strips::{Regions, regions};
 use mask_runs::Mask;
@@ -8,15 +9,8 @@ use region_sweep::{Pair, Swept, Tile, sweep};
 use std::alloc::{AllocError, Global};
 use std::{fs, io};
 
-// A part of a line, of which `|` ends each but the last.
-fn part(line: &[u8], index: usize) -> &[u8] {
-    match line.split(|byte| *byte == b'|').nth(index) {
-        Some(part) => part,
-        None => &[],
-    }
-}
-
-fn sorted(alloc: Global, pairs: &[Pair]) -> Result<Vec<(u32, u32)>, AllocError> {
+/// The pairs by their numbers, in order.
+pub(crate) fn sorted(alloc: Global, pairs: &[Pair]) -> Result<Vec<(u32, u32)>, AllocError> {
     let mut sorted = Vec::new(alloc);
     for pair in pairs {
         sorted.push((pair.a, pair.b))?;
@@ -87,16 +81,6 @@ fn show_layers(rt: &HostRuntime, shapes: &[Rect]) -> io::Result<()> {
     }
 }
 
-// The mask whose name begins so.
-fn mask(name: &[u8]) -> Option<Mask> {
-    match name {
-        [b'd', ..] => Some(Mask::Diffusion),
-        [b'c', ..] => Some(Mask::Contacts),
-        [b'm', ..] => Some(Mask::Only(Layer::NM)),
-        _ => None,
-    }
-}
-
 fn show_drawing(rt: &HostRuntime, of: &[u8], shapes: &[Rect], places: &[Point]) -> io::Result<()> {
     match mask(of) {
         Some(mask) => show_mask(rt, shapes, mask, places),
@@ -109,8 +93,11 @@ fn show_name(rt: &HostRuntime, name: &[u8]) -> io::Result<()> {
     println!(rt; "{name}")
 }
 
-// A name, what is swept, the rectangles, and the places.
+// A name, what is swept, the rectangles, and the places. A line with more parts is that of a wide drawing.
 fn show_line(rt: &HostRuntime, line: &[u8]) -> io::Result<()> {
+    if !part(line, 4).is_empty() {
+        return show_wide(rt, line);
+    }
     show_name(rt, part(line, 0))?;
     let shapes = shapes(rt.alloc(), part(line, 2))?;
     let places = places(rt.alloc(), part(line, 3))?;
