@@ -1,24 +1,24 @@
 //! Transfers as data paths, flattened and run clock by clock: from unknown values, and from random ones.
 #![tactic(auto)]
 
-mod circuit;
-mod cost;
-mod dice;
 mod hand;
-mod source;
+mod reading;
+mod running;
+mod shown;
+mod sized;
 
 use hand::show_counter;
-use source::{show_size, show_source};
+use running::show_source;
+use sized::show_size;
 use std::io;
 
 fn main(rt: HostRuntime) -> io::Result<()> {
     show_counter(&rt)?;
-    show_source(&rt, "counter")?;
-    show_source(&rt, "subroutines")?;
-    show_source(&rt, "gcd")?;
-    show_size(&rt, "sum")?;
-    show_size(&rt, "sums")?;
-    show_size(&rt, "tests")?;
-    show_size(&rt, "heavy")?;
-    show_size(&rt, "brim")
+    for name in ["counter", "subroutines", "gcd"] {
+        show_source(&rt, name)?;
+    }
+    for name in ["sum", "sums", "tests", "heavy", "brim"] {
+        show_size(&rt, name)?;
+    }
+    Ok(())
 }

@@ -1,11 +1,12 @@
 -- The cost of the counter.
 use Rattle.std.proofs.Common.{◌≡◌, ◌≤◌, ◌+◌, ℕ, List, refl, sym, subst, arith}
 use Rattle.std.specs.List.{sum_by}
-use Rattle.rtl_form.specs.Cost.{cell_cost, expr_cost, transfer_cost}
+use Rattle.rtl_form.specs.Cost.{cell_cost, expr_cost, transfer_cost, cost}
 use Rattle.rtl_form.specs.declared.rtl.Cell as cells
+use Rattle.rtl_form.specs.declared.rtl.Rtl.{Rtl}
 use Rattle.rtl_form.specs.declared.rtl.RtlExpr.{RtlExpr}
 use Rattle.rtl_form.specs.declared.rtl.Transfer.{Transfer}
-use Rattle.path_cases.specs.Hand.{counter_cells, counter_exprs, counter_transfers}
+use Rattle.path_steps.specs.Counter.{IsCounter, counter_cells, counter_exprs, counter_transfers}
 
 abbrev total : List cells.Cell → List RtlExpr → List Transfer → ℕ
 total xs es ts =
@@ -14,10 +15,9 @@ total xs es ts =
 counter_is : total counter_cells counter_exprs counter_transfers ≡ 27
 counter_is = refl
 
-pub counter_light : (xs : List cells.Cell) (es : List RtlExpr) (ts : List Transfer) → xs ≡ counter_cells
-    → es ≡ counter_exprs → ts ≡ counter_transfers → total xs es ts ≤ 1024
-counter_light xs es ts cells exprs transfers =
-    subst (λ ys. total ys es ts ≤ 1024) (sym cells)
-    (subst (λ ys. total counter_cells ys ts ≤ 1024) (sym exprs)
-    (subst (λ ys. total counter_cells counter_exprs ys ≤ 1024) (sym transfers)
+pub counter_light : (r : Rtl) → IsCounter r → cost r ≤ 1024
+counter_light r counter =
+    subst (λ ys. total ys r.exprs r.transfers ≤ 1024) (sym counter.cells)
+    (subst (λ ys. total counter_cells ys r.transfers ≤ 1024) (sym counter.exprs)
+    (subst (λ ys. total counter_cells counter_exprs ys ≤ 1024) (sym counter.transfers)
     (let e = counter_is in omega (arith, e))))
