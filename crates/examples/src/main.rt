@@ -54,8 +54,8 @@ fn show_end(rt: &HostRuntime, outcome: &Outcome, likeness: Likeness) -> io::Resu
     }
 }
 
-// What comes of a line: the name of a transcript, or a dash where none is printed, and words. The words are told without
-// the file `masks` that they write, which is in memory alone.
+// What comes of a line: the name of a transcript, or a dash where none is printed, and words. The words are told
+// without the file `masks` that they write, which is in memory alone.
 fn show(rt: &HostRuntime, files: &[File], line: &str) -> io::Result<()> {
     let (name, words) = line.split_once(' ').unwrap_or((line, ""));
     let (front, back) = words.split_once(" masks").unwrap_or((words, ""));
