@@ -2,10 +2,10 @@
 use Rattle.std.proofs.Common.{◌≡◌, ℕ, suc, ◌-◌, List, ◌∷◌, ◌++◌, Option, Ok, Err, length, refl, sym, subst, arith}
 use Rattle.std.proofs.lemmas.List.{length-append}
 use Rattle.mp_base.specs.declared.value.Trit.{Trit}
-use Rattle.mp_base.specs.declared.outside.Failed.{Failed}
-use Rattle.mp_base.specs.Outside.{WhereTold, Gains}
-use Rattle.mp_base.specs.Piece.{TakesAll}
-use Rattle.mp_base.proofs.Written.{written, cut_behind}
+use Rattle.outside.specs.declared.calls.Failed.{Failed}
+use Rattle.outside.specs.Outside.{WhereTold, Gains}
+use Rattle.outside.specs.Piece.{TakesAll}
+use Rattle.outside.proofs.Written.{written, cut_behind}
 use Rattle.stimulus.specs.Transcript.{line_text, lines_text}
 use Rattle.transcript.proofs.Transcripts.{lines_more}
 use Rattle.board.specs.Loop.{inputs_at, faces_after, IsLoop}

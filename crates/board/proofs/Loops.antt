@@ -4,9 +4,9 @@ use Rattle.std.proofs.Common.{cond, Option, Ok, Err, length, refl, sym, ap, subs
 use Rattle.std.proofs.lemmas.List.{append-nil, length-append}
 use Rattle.mp_base.specs.declared.value.Trit.{Trit}
 use Rattle.mp_base.specs.declared.pad.Pad.{Pad}
-use Rattle.mp_base.specs.Outside.{WhereTold, Gains}
-use Rattle.mp_base.proofs.Told.{gains_nothing, gains_twice}
-use Rattle.mp_base.proofs.Written.{gained}
+use Rattle.outside.specs.Outside.{WhereTold, Gains}
+use Rattle.outside.proofs.Told.{gains_nothing, gains_twice}
+use Rattle.outside.proofs.Written.{gained}
 use Rattle.stimulus.specs.Transcript.{line_text, lines_text}
 use Rattle.transcript.specs.Transcript.{RunsAlong}
 use Rattle.board.specs.Face.{Face}

@@ -1,8 +1,8 @@
 -- What a board prints and leaves.
 use Rattle.std.specs.Prelude.{◌≡◌, ℕ, ◌+◌, ◌<◌, List, Option, Result, OnOk, OnErr, length}
 use Rattle.mp_base.specs.declared.value.Trit.{Trit}
-use Rattle.mp_base.specs.Outside.{WhereTold, Gains}
-use Rattle.mp_base.specs.Piece.{TakesAll}
+use Rattle.outside.specs.Outside.{WhereTold, Gains}
+use Rattle.outside.specs.Piece.{TakesAll}
 use Rattle.stimulus.specs.Transcript.{line_text, lines_text}
 use Rattle.board.specs.Face.{Face}
 use Rattle.board.specs.Loop.{Wired, inputs_at, faces_after, IsLoop}

@@ -1,7 +1,7 @@
 //! A board: a device and its parts, clock by clock.
 
 ghost use Rattle.std.specs.Prelude.{◌≡◌, ◌+◌, ◌<◌, ◌^◌, List, All, map, length, IfOk, OnOk, OnErr, string_bytes};
-ghost use Rattle.mp_base.specs.Outside.{HasCause};
+ghost use Rattle.outside.specs.Outside.{HasCause};
 ghost use Rattle.transcript.specs.Running.{HasRoom};
 ghost use Rattle.board.specs.Boarding.{AreWires};
 ghost use Rattle.board.specs.Face.{Face};
@@ -12,7 +12,8 @@ use crate::link::Link;
 use crate::moving::{give, show};
 use crate::pads::any_reset;
 use crate::part::{NamedPart, Part};
-use mp_base::{Failed, List, NoMemory, Pads, Sink};
+use mp_base::{List, NoMemory, Pads};
+use outside::{Failed, Sink};
 use std::alloc::Global;
 use std::marker::Model;
 use stimulus::line;

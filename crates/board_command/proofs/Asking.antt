@@ -1,6 +1,6 @@
 -- Why reading a source and links for it ended.
 use Rattle.std.proofs.Common.{ℕ, List, refl, Option, Some, None, Result, Ok, Err, IfOk, IfErr, IfSome}
-use Rattle.mp_base.specs.Outside.{Files, bytes_of}
+use Rattle.outside.specs.Outside.{Files, bytes_of}
 use Rattle.mp_base.specs.declared.pad.Pads.{Pads}
 use Rattle.mp_base.specs.declared.refusal.Refusal.{Refusal}
 use Rattle.mp_base.specs.declared.refusal.Refusal.TheVariants as refusals

@@ -1,8 +1,8 @@
 -- How a board ends that stored nothing.
 use Rattle.std.proofs.Common.{◌≡◌, ℕ, List, [], refl, sym, subst, inl, Option, Some, None, Result, Ok, Err}
 use Rattle.std.specs.Prelude.{IsErrAnd}
-use Rattle.mp_base.specs.Outside.{Files, WhereTold, Keeps, Gains}
-use Rattle.mp_base.proofs.Told.{gains_nothing}
+use Rattle.outside.specs.Outside.{Files, WhereTold, Keeps, Gains}
+use Rattle.outside.proofs.Told.{gains_nothing}
 use Rattle.outcome.specs.Order.{Breaks}
 use Rattle.outcome.specs.World.{World, Leaves}
 use Rattle.outcome.specs.Halt.{EndsBy}

@@ -1,6 +1,6 @@
 -- A source with links has one first fault at most.
 use Rattle.std.proofs.Common.{◌≡◌, ℕ, List, Option, Some, None, ap, subst, refl}
-use Rattle.mp_base.specs.Outside.{Files, bytes_of}
+use Rattle.outside.specs.Outside.{Files, bytes_of}
 use Rattle.mp_base.specs.declared.pad.Pads.{Pads}
 use Rattle.mp_base.proofs.Decisions.{IsDetermined}
 use Rattle.mp_program.specs.declared.program.Program.{Program}

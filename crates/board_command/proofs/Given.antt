@@ -1,9 +1,9 @@
 -- How storing a chip's file and running its circuit with parts ends.
 use Rattle.std.proofs.Common.{◌≡◌, ◌∙◌, ℕ, List, [], take, refl, sym, ap, subst, inl, inr, Some, Result, Ok, Err}
 use Rattle.std.specs.Prelude.{IsErrAnd}
-use Rattle.mp_base.specs.Outside.{Files, WhereTold, Gains}
-use Rattle.mp_base.specs.Transfer.{Holds, HoldsPart}
-use Rattle.mp_base.proofs.Told.{told_map, gains_nothing}
+use Rattle.outside.specs.Outside.{Files, WhereTold, Gains}
+use Rattle.outside.specs.Transfer.{Holds, HoldsPart}
+use Rattle.outside.proofs.Told.{told_map, gains_nothing}
 use Rattle.switch_net.specs.declared.network.Network.{Network}
 use Rattle.outcome.specs.Work.{Work, IsDone, IsCutShort}
 use Rattle.outcome.specs.World.{World, Leaves}

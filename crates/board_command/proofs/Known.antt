@@ -1,6 +1,6 @@
 -- What a board shows of the chip of a source, and how it leaves the parts.
 use Rattle.std.proofs.Common.{◌≡◌, ◌∙◌, ℕ, List, [], take, subst, sym, ap, Option, Some, None, Result, Ok, Err, IfSome}
-use Rattle.mp_base.specs.Outside.{Files, bytes_of}
+use Rattle.outside.specs.Outside.{Files, bytes_of}
 use Rattle.mp_program.specs.declared.program.Program.{Program}
 use Rattle.mp_rules.specs.Breaking.{IsUnbroken}
 use Rattle.mp_source.specs.Source.{IsSource}

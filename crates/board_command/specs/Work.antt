@@ -1,6 +1,6 @@
 -- What a board owes.
 use Rattle.std.specs.Prelude.{◌≡◌, ⊤, ℕ, List, Some, Result, Ok, Err}
-use Rattle.mp_base.specs.Outside.{bytes_of}
+use Rattle.outside.specs.Outside.{bytes_of}
 use Rattle.outcome.specs.Order.{Then, OfRule}
 use Rattle.outcome.specs.Work.{Work}
 use Rattle.outcome.specs.declared.halt.Halt.{Halt}

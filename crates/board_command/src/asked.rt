@@ -1,7 +1,7 @@
 //! A source and links for it, read and judged.
 
 ghost use Rattle.std.specs.Prelude.{◌≡◌, ◌<◌, ◌^◌, All, length, map, IfOk, IfSome, string_bytes};
-ghost use Rattle.mp_base.specs.Outside.{Keeps, bytes_of};
+ghost use Rattle.outside.specs.Outside.{Keeps, bytes_of};
 ghost use Rattle.mp_program.specs.Pads.{ArePadsOf};
 ghost use Rattle.mp_source.specs.Source.{IsJudged, IsSource};
 ghost use Rattle.outcome.specs.Order.{OfRule, Then};
@@ -12,7 +12,8 @@ ghost use Rattle.board.specs.Links.{AreLinks};
 ghost use Rattle.board_command.specs.Linked.{OfLinks, OfWords};
 
 use board::{Link, NamedPart, read_links};
-use mp_base::{Depot, List, Refusal};
+use mp_base::{List, Refusal};
+use outside::Depot;
 use mp_checker::Checked;
 use mp_rules::laws::few_namings;
 use outcome::Halt;

@@ -1,7 +1,7 @@
 //! The masks of a source from file to file, and the circuit that they draw on a board.
 
 ghost use Rattle.std.specs.Prelude.{◌≡◌, ⊤, map, string_bytes};
-ghost use Rattle.mp_base.specs.Outside.{bytes_of};
+ghost use Rattle.outside.specs.Outside.{bytes_of};
 ghost use Rattle.outcome.specs.Order.{IsStrayBy};
 ghost use Rattle.outcome.specs.World.{world_of, HasCauses, Leaves};
 ghost use Rattle.outcome.specs.Halt.{Ends, IsQuiet, status_of};
@@ -14,7 +14,7 @@ use crate::playing::play;
 use crate::ready::{Ready, chip_on_board};
 use board::{NamedPart, Part};
 use board_run::laws::boards_follow;
-use mp_base::{Depot, Sink};
+use outside::{Depot, Sink};
 use outcome::Halt;
 use std::alloc::Global;
 

@@ -12,7 +12,7 @@ ghost use Rattle.board_command.specs.Work.{Plays, Rests};
 use board::{NamedPart, Part};
 use board_run::BoardRun;
 use board_run::laws::boards_run;
-use mp_base::{Depot, Sink, store};
+use outside::{Depot, Sink, store};
 use outcome::Halt;
 
 /// Stores the bytes of a chip, and runs their circuit with the parts of its links.

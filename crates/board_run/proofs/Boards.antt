@@ -7,9 +7,9 @@ use Rattle.std.proofs.Math.Seq.{take-append-add}
 use Rattle.mp_base.specs.declared.value.Trit.{Trit}
 use Rattle.mp_base.specs.declared.value.Trit.TheVariants.{X}
 use Rattle.mp_base.specs.declared.pad.Pads.{Pads}
-use Rattle.mp_base.specs.Outside.{WhereTold, Gains}
-use Rattle.mp_base.specs.Piece.{TakesAll}
-use Rattle.mp_base.proofs.Told.{gains_twice}
+use Rattle.outside.specs.Outside.{WhereTold, Gains}
+use Rattle.outside.specs.Piece.{TakesAll}
+use Rattle.outside.proofs.Told.{gains_twice}
 use Rattle.stimulus.specs.Transcript.{line_text, lines_text}
 use Rattle.switch_net.specs.declared.network.Network.{Network}
 use Rattle.switch_net.specs.Breaks.{HasPads}

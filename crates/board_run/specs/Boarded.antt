@@ -3,7 +3,7 @@ use Rattle.std.specs.Prelude.{◌≡◌, ◌==◌, if◌then◌else◌, ℕ, ◌
 use Rattle.std.specs.Prelude.{length, take}
 use Rattle.mp_base.specs.declared.value.Trit.{Trit}
 use Rattle.mp_base.specs.declared.value.Trit.TheVariants.{X}
-use Rattle.mp_base.specs.Outside.{WhereTold, Gains}
+use Rattle.outside.specs.Outside.{WhereTold, Gains}
 use Rattle.stimulus.specs.Transcript.{lines_text}
 use Rattle.switch_net.specs.declared.network.Network.{Network}
 use Rattle.mask_net.specs.SizeLine.{last_line}

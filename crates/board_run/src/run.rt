@@ -1,7 +1,7 @@
 //! The circuit of a chip on a board.
 
 ghost use Rattle.std.specs.Prelude.{◌≡◌, ◌<◌, ◌^◌, All, length, map, IfOk, string_bytes};
-ghost use Rattle.mp_base.specs.Outside.{HasCause};
+ghost use Rattle.outside.specs.Outside.{HasCause};
 ghost use Rattle.mp_base.specs.declared.value.Trit.TheVariants.{X};
 ghost use Rattle.settle.specs.Values.{value_at};
 ghost use Rattle.switch_net.specs.Breaks.{HasPads};
@@ -15,7 +15,8 @@ use board::{Board, Link, NamedPart, Part};
 use board_laws::laws::circuits_loop;
 use clock_run::Circuit;
 use mask_net::size_text;
-use mp_base::{Failed, List, NoMemory, Pads, Refusal, Sink};
+use mp_base::{List, NoMemory, Pads, Refusal};
+use outside::{Failed, Sink};
 use replay_run::write_last_line;
 use std::alloc::Global;
 use std::marker::Model;

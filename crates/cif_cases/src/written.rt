@@ -5,7 +5,8 @@ use cif_list::{CommandView, ShortTurn};
 use cif_reader::read_cif;
 use cif_writer::{write_command, write_end};
 use lam_geom::Point;
-use mp_base::{List, MemSink, Name};
+use mp_base::{List, Name};
+use outside_doubles::MemSink;
 use std::alloc::{AllocError, Global};
 
 fn points(alloc: Global, points: &[Point]) -> Result<List<Point>, AllocError> {

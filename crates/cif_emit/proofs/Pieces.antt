@@ -5,10 +5,10 @@ use Rattle.std.proofs.Common.{append_assoc, length-append, Option, Result, Ok, E
 use Rattle.std.proofs.lemmas.List.{append-nil, length-drop, take-append-drop}
 use Rattle.std.proofs.Math.Seq.{take-append_seam}
 use Rattle.std.specs.Prelude.{codes}
-use Rattle.mp_base.specs.Outside.{WhereTold, Gains}
-use Rattle.mp_base.specs.Piece.{TakesAll}
-use Rattle.mp_base.proofs.Told.{gains_twice, gains_nothing}
-use Rattle.mp_base.proofs.Written.{gained, gained_then}
+use Rattle.outside.specs.Outside.{WhereTold, Gains}
+use Rattle.outside.specs.Piece.{TakesAll}
+use Rattle.outside.proofs.Told.{gains_twice, gains_nothing}
+use Rattle.outside.proofs.Written.{gained, gained_then}
 use Rattle.cif_form.specs.declared.command.Command.{Command}
 use Rattle.cif_form.specs.Writing.{text_of}
 use Rattle.cif_writer.specs.Texts.{file_text}

@@ -1,7 +1,7 @@
 -- What the commands of a chip draw.
 use Rattle.std.specs.Prelude.{ℕ, ◌≡◌, ◌+◌, ◌≤◌, List, [], length, map, All, Option, None, Result, false}
-use Rattle.mp_base.specs.Outside.{Gains}
-use Rattle.mp_base.specs.Piece.{TakesAll}
+use Rattle.outside.specs.Outside.{Gains}
+use Rattle.outside.specs.Piece.{TakesAll}
 use Rattle.lam_geom.specs.declared.rect.Rect.{Rect}
 use Rattle.lam_geom.specs.declared.label.FlatLabel.{FlatLabel}
 use Rattle.lam_geom.specs.Squares.{covered, SameSquares}

@@ -1,8 +1,8 @@
 -- Texts that are written in pieces, of which some wait.
 use Rattle.std.specs.Prelude.{ℕ, ◌≡◌, ◌<◌, ◌≤◌, List, ◌++◌, length, Option, Result, Ok, Err, OnOk, OnErr}
-use Rattle.mp_base.specs.declared.transfer.Fault.{Fault}
-use Rattle.mp_base.specs.declared.transfer.Fault.TheVariants.{Write, NoMemory}
-use Rattle.mp_base.specs.Outside.{WhereTold, Gains, Rose}
+use Rattle.outside.specs.declared.transfer.Fault.{Fault}
+use Rattle.outside.specs.declared.transfer.Fault.TheVariants.{Write, NoMemory}
+use Rattle.outside.specs.Outside.{WhereTold, Gains, Rose}
 
 -- a first part of the text was written; at `Ok` the rest waits, and else there is one
 pub record PutsOff {T E : Type 0} (before after : Option (List ℕ)) (text waiting : List ℕ)

@@ -1,8 +1,8 @@
 //! The text of a chip, in pieces.
 
 ghost use Rattle.std.specs.Prelude.{◌≡◌, ◌++◌, [], codes, OnOk, Some};
-ghost use Rattle.mp_base.specs.Outside.{Gains, HasCause};
-ghost use Rattle.mp_base.specs.Piece.{TakesAll};
+ghost use Rattle.outside.specs.Outside.{Gains, HasCause};
+ghost use Rattle.outside.specs.Piece.{TakesAll};
 ghost use Rattle.cif_form.specs.Fits.{Fits};
 ghost use Rattle.cif_form.specs.Writing.{text_of};
 ghost use Rattle.cif_writer.specs.Texts.{file_text};
@@ -18,7 +18,8 @@ use crate::text::Text;
 use cif_form::Command;
 use cif_writer::{write_command, write_end};
 use fabric::{Chip, ChipLabel};
-use mp_base::{Failed, Fault, NoMemory, Sink, write_all};
+use mp_base::NoMemory;
+use outside::{Failed, Fault, Sink, write_all};
 use slice_symbols::Symbol;
 use slice_symbols::laws::symbols_exist;
 use std::alloc::Global;

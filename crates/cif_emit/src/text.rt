@@ -1,10 +1,10 @@
 //! Texts in memory.
 
 ghost use Rattle.std.specs.Prelude.{◌≡◌, [], Some};
-ghost use Rattle.mp_base.specs.Outside.{Gains, HasCause};
-ghost use Rattle.mp_base.specs.Piece.{TakesPiece};
+ghost use Rattle.outside.specs.Outside.{Gains, HasCause};
+ghost use Rattle.outside.specs.Piece.{TakesPiece};
 
-use mp_base::{Failed, Sink};
+use outside::{Failed, Sink};
 use std::alloc::Global;
 
 /// A text in memory, as an output. A write fails only for want of memory.

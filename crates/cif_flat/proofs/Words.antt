@@ -8,7 +8,7 @@ use Rattle.std.proofs.lemmas.Int.{ints}
 use Rattle.std.proofs.lemmas.List.{take-append-drop, take_all, length-take}
 use Rattle.std.proofs.lemmas.List.Elements.{All-head, All-tail}
 use Rattle.mp_base.proofs.Lists.{head_of, tail_of}
-use Rattle.mp_base.proofs.FilesLemmas.{rest_of}
+use Rattle.outside.proofs.FilesLemmas.{rest_of}
 use Rattle.lam_geom.specs.declared.layer.Layer.{Layer}
 use Rattle.lam_geom.specs.declared.label.FlatLabel.{FlatLabel}
 use Rattle.cif_form.specs.Place.{layer_name}

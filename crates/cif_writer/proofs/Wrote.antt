@@ -4,8 +4,8 @@ use Rattle.std.proofs.Common.{drop-cons, arith, Option, Some, None, Result, Ok, 
 use Rattle.std.proofs.lemmas.List.{length-append, take_all, take-append-le}
 use Rattle.std.proofs.Math.Seq.{take-append-add}
 use Rattle.std.specs.Prelude.{OnOk, OnErr}
-use Rattle.mp_base.specs.Outside.{WhereTold, Gains}
-use Rattle.mp_base.specs.Piece.{TakesAll}
+use Rattle.outside.specs.Outside.{WhereTold, Gains}
+use Rattle.outside.specs.Piece.{TakesAll}
 
 -- what was held gained this text
 abbrev pub Wrote : Option (List ℕ) → Option (List ℕ) → List ℕ → Type 0

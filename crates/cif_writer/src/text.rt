@@ -2,15 +2,15 @@
 
 ghost use Rattle.std.specs.Prelude.{◌≡◌, ◌≤◌, ◌++◌, ◌∷◌, codes};
 ghost use Rattle.std.specs.List.{flat_map};
-ghost use Rattle.mp_base.specs.Outside.{Gains, HasCause};
-ghost use Rattle.mp_base.specs.Piece.{TakesAll};
+ghost use Rattle.outside.specs.Outside.{Gains, HasCause};
+ghost use Rattle.outside.specs.Piece.{TakesAll};
 ghost use Rattle.cif_form.specs.Writing.{space, point_text, path_text, turn_text, turns_text};
 ghost use Rattle.cif_writer.specs.Texts.{number_text};
 
 use cif_form::{Turn, Turns};
 use itoa::Buffer;
 use lam_geom::Point;
-use mp_base::{Failed, Sink, write_all};
+use outside::{Failed, Sink, write_all};
 
 /// Writes a text and then another.
 pub(crate) fn write_both<O: Sink>(out: &mut O, first: &[u8], then: &[u8]) -> Result<(), Failed>

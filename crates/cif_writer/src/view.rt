@@ -1,8 +1,8 @@
 //! Commands that are lent, and the whole text of a list of them.
 
 ghost use Rattle.std.specs.Prelude.{◌≡◌, ◌≤◌, ◌++◌, ◌∷◌, All, codes, map};
-ghost use Rattle.mp_base.specs.Outside.{Gains, HasCause};
-ghost use Rattle.mp_base.specs.Piece.{TakesAll};
+ghost use Rattle.outside.specs.Outside.{Gains, HasCause};
+ghost use Rattle.outside.specs.Piece.{TakesAll};
 ghost use Rattle.cif_form.specs.Fits.{Fits};
 ghost use Rattle.cif_form.specs.Writing.{text_of, turns_text};
 ghost use Rattle.cif_list.specs.Showing.{command_shown};
@@ -12,7 +12,7 @@ ghost use Rattle.cif_writer.specs.Texts.{number_text, file_text, commands_of};
 use crate::text::{write_both, write_path, write_tagged, write_turn};
 use crate::write::{write_box, write_comment, write_end, write_polygon, write_wire};
 use cif_list::{Cif, CommandView, ShortTurn};
-use mp_base::{Failed, Sink, write_all};
+use outside::{Failed, Sink, write_all};
 
 fn write_short_turns<O: Sink>(out: &mut O, turns: &[ShortTurn]) -> Result<(), Failed>
     ensures taken { TakesAll Gains (O.held out.old) (O.held out.new) (turns_text (map wide_turn turns.now)) result }

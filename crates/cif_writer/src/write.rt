@@ -1,8 +1,8 @@
 //! Commands and the end.
 
 ghost use Rattle.std.specs.Prelude.{◌≡◌, ◌≤◌, ◌++◌, ◌∷◌, [], codes};
-ghost use Rattle.mp_base.specs.Outside.{Gains, HasCause};
-ghost use Rattle.mp_base.specs.Piece.{TakesAll};
+ghost use Rattle.outside.specs.Outside.{Gains, HasCause};
+ghost use Rattle.outside.specs.Piece.{TakesAll};
 ghost use Rattle.cif_form.specs.Fits.{Fits};
 ghost use Rattle.cif_form.specs.Writing.{path_text, turns_text, text_of};
 ghost use Rattle.cif_writer.specs.Texts.{number_text};
@@ -10,7 +10,7 @@ ghost use Rattle.cif_writer.specs.Texts.{number_text};
 use crate::text::{write_both, write_path, write_tagged, write_turns};
 use cif_form::{Command, Turns};
 use lam_geom::Point;
-use mp_base::{Failed, Sink, write_all};
+use outside::{Failed, Sink, write_all};
 
 pub(crate) fn write_box<O: Sink>(
     out: &mut O,

@@ -4,7 +4,8 @@ ghost use Rattle.std.specs.Prelude.{◌<◌, ◌^◌, ◌≡◌, IfSome, IsTrue,
 ghost use Rattle.switch_net.specs.OneNode.{OneNodeEach};
 
 use crate::network::{channels, digit, part};
-use mp_base::{List, MemSink, Name, Refusal, Rule, Spot, Trit};
+use mp_base::{List, Name, Refusal, Rule, Spot, Trit};
+use outside_doubles::MemSink;
 use sim_run::Simulation;
 use std::alloc::{AllocError, Global};
 use stimulus::{Stimulus, read_stimulus};

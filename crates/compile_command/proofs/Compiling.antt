@@ -1,6 +1,6 @@
 -- The chip that a source gets.
 use Rattle.std.proofs.Common.{List, ℕ, [], refl, Option, Some, None, IfSome}
-use Rattle.mp_base.specs.Outside.{Files, bytes_of}
+use Rattle.outside.specs.Outside.{Files, bytes_of}
 use Rattle.mp_program.specs.declared.program.Program.{Program}
 use Rattle.mp_source.specs.Source.{IsSource}
 use Rattle.compile_laws.specs.Laws.{IsSmallChipOf}

@@ -1,6 +1,6 @@
 -- What a compilation owes.
 use Rattle.std.specs.Prelude.{◌≡◌, ℕ, List, [], Some}
-use Rattle.mp_base.specs.Outside.{bytes_of}
+use Rattle.outside.specs.Outside.{bytes_of}
 use Rattle.outcome.specs.Work.{Work}
 use Rattle.source_files.specs.Faults.{SourceFault}
 use Rattle.compile_command.specs.Compiled.{IsCompiled}

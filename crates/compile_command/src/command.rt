@@ -1,14 +1,14 @@
 //! The masks of a source, from file to file.
 
 ghost use Rattle.std.specs.Prelude.{◌≡◌, IfOk, IfSome, []};
-ghost use Rattle.mp_base.specs.Outside.{Keeps};
+ghost use Rattle.outside.specs.Outside.{Keeps};
 ghost use Rattle.outcome.specs.Order.{IsStrayBy};
 ghost use Rattle.outcome.specs.World.{world_of, HasCauses, Leaves};
 ghost use Rattle.outcome.specs.Halt.{HasReason, Ends, IsQuiet, status_of};
 ghost use Rattle.compile_command.specs.Work.{work};
 
 use chip_text::chip_text;
-use mp_base::{Depot, Sink, store};
+use outside::{Depot, Sink, store};
 use outcome::Halt;
 use source_files::read_source;
 use std::alloc::Global;

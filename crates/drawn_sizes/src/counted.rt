@@ -3,7 +3,8 @@
 ghost use Rattle.std.specs.Prelude.{◌<◌, ◌^◌, IfSome, length};
 
 use mask_net::{network_of, size_line};
-use mp_base::{List, MemSink, Trit, push_number};
+use mp_base::{List, Trit, push_number};
+use outside_doubles::MemSink;
 use sim_run::Simulation;
 use std::alloc::{AllocError, Global};
 use stimulus::{Stimulus, read_stimulus};

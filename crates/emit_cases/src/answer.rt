@@ -8,7 +8,8 @@ use cif_flat::{Flat, flatten, read_is_well_formed};
 use cif_reader::read_cif;
 use cif_writer::write_file;
 use fabric::Chip;
-use mp_base::{List, MemSink};
+use mp_base::List;
+use outside_doubles::MemSink;
 use std::io;
 
 fn show_flat(rt: &HostRuntime, flat: &Flat) -> io::Result<()> {

@@ -4,7 +4,8 @@ ghost use Rattle.cif_emit.specs.Emittable.{IsEmittable, chip_rects};
 
 use cif_emit::emit_to;
 use fabric::Chip;
-use mp_base::{List, MemSink};
+use mp_base::List;
+use outside_doubles::MemSink;
 use std::io;
 use std::time::Instant;
 

@@ -1,7 +1,8 @@
 //! Runs each example over files in memory, and tells whether it prints what stands beside it.
 #![tactic(auto)]
 
-use mp_base::{MemSink, NoMemory};
+use mp_base::NoMemory;
+use outside_doubles::MemSink;
 use outcome::Status;
 use run_script::{File, NONE, set, text_of, words_of};
 use std::alloc::Global;

@@ -7,7 +7,8 @@ ghost use Rattle.made_run.specs.Summary.{IsSummedRun};
 
 use crate::summing::Summing;
 use cif_emit::Text;
-use mp_base::{Failed, NoMemory};
+use mp_base::NoMemory;
+use outside::Failed;
 use std::alloc::Global;
 use stimulus::Stimulus;
 use switch_net::Network;

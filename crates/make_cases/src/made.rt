@@ -1,7 +1,8 @@
 //! What a number is made into.
 
 use make_command::make;
-use mp_base::{List, MemDepot, MemSink, NoMemory};
+use mp_base::{List, NoMemory};
+use outside_doubles::{MemDepot, MemSink};
 use outcome::Halt;
 use std::alloc::{AllocError, Global};
 use std::io;

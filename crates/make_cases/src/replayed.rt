@@ -1,7 +1,8 @@
 //! The replay of the texts that are made of a number.
 
 use crate::made::Outcome;
-use mp_base::{List, MemDepot, MemSink};
+use mp_base::List;
+use outside_doubles::{MemDepot, MemSink};
 use outcome::Halt;
 use program_maker::make;
 use replay_command::replay;

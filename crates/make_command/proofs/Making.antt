@@ -2,7 +2,7 @@
 use Rattle.std.proofs.Common.{◌≡◌, ℕ, List, ◌++◌, length, refl, sym, subst, arith}
 use Rattle.std.proofs.Common.{Option, Some, None, Result, Ok, Err, IfSome}
 use Rattle.std.specs.Prelude.{IsErrAnd}
-use Rattle.mp_base.specs.Outside.{Files}
+use Rattle.outside.specs.Outside.{Files}
 use Rattle.mp_program.specs.declared.program.Program.{Program}
 use Rattle.mp_program.specs.Pads.{ArePadsOf}
 use Rattle.mp_program.specs.Weight.{weight}

@@ -1,7 +1,7 @@
 -- The faults of a file that holds masks.
 use Rattle.std.specs.Prelude.{ℕ, List, Option}
 use Rattle.std.specs.FinMap.{get}
-use Rattle.mp_base.specs.Outside.{Files}
+use Rattle.outside.specs.Outside.{Files}
 use Rattle.mask_files.specs.declared.limits.TheConstants.{MASK_LIMIT}
 use Rattle.mask_net.specs.Masks.{OfMask}
 use Rattle.outcome.specs.Order.{Fault, OfFile}

@@ -1,7 +1,7 @@
 //! A law of files of masks: a call of it does nothing, and tells the caller's proof what it ensures.
 
 ghost use Rattle.std.specs.Prelude.{◌≡◌, ℕ, List, Option};
-ghost use Rattle.mp_base.specs.Outside.{Files};
+ghost use Rattle.outside.specs.Outside.{Files};
 ghost use Rattle.outcome.specs.Order.{Fault};
 ghost use Rattle.mask_files.specs.Faults.{MaskFault};
 

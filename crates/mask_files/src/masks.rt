@@ -1,14 +1,14 @@
 //! Masks that are read and judged.
 
 ghost use Rattle.std.specs.Prelude.{◌≡◌, IfOk, IfSome};
-ghost use Rattle.mp_base.specs.Outside.{Keeps, bytes_of};
+ghost use Rattle.outside.specs.Outside.{Keeps, bytes_of};
 ghost use Rattle.mask_net.specs.Masks.{IsNetOf};
 ghost use Rattle.outcome.specs.Halt.{HasReason};
 ghost use Rattle.mask_files.specs.Faults.{MaskFault};
 
 use crate::limits::MASK_LIMIT;
 use mask_net::network_of;
-use mp_base::Depot;
+use outside::Depot;
 use outcome::{Halt, read_text};
 use std::alloc::Global;
 use switch_net::Network;

@@ -4,16 +4,5 @@ pub mod Merge
 pub mod Table
 pub mod Token
 pub mod Refuses
-pub mod Outside
-pub mod Piece
-pub mod Memory
-pub mod Transfer
-pub mod MemDepot
-pub mod MemSink
 pub mod Meet
-pub mod Quiet
-pub mod QuietSink
-pub mod QuietLog
-pub mod QuietReading
-pub mod QuietDepot
 pub mod PadNames

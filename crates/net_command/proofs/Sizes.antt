@@ -1,6 +1,6 @@
 -- What is shown of a file of masks.
 use Rattle.std.proofs.Common.{◌≡◌, ℕ, List, [], refl, Option, Some, None, IfSome}
-use Rattle.mp_base.specs.Outside.{Files, bytes_of}
+use Rattle.outside.specs.Outside.{Files, bytes_of}
 use Rattle.switch_net.specs.declared.network.Network.{Network}
 use Rattle.mask_net.specs.Masks.{IsNetOf}
 use Rattle.mask_net.specs.SizeLine.{size_line}

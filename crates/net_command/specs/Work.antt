@@ -1,6 +1,6 @@
 -- What a size owes.
 use Rattle.std.specs.Prelude.{◌≡◌, ℕ, List, [], None}
-use Rattle.mp_base.specs.Outside.{bytes_of}
+use Rattle.outside.specs.Outside.{bytes_of}
 use Rattle.switch_net.specs.declared.network.Network.{Network}
 use Rattle.mask_net.specs.Masks.{IsNetOf}
 use Rattle.mask_net.specs.SizeLine.{size_line}

@@ -1,7 +1,7 @@
 //! The size of the network that masks draw, from a file.
 
 ghost use Rattle.std.specs.Prelude.{◌≡◌, IfOk, IfSome, []};
-ghost use Rattle.mp_base.specs.Outside.{Keeps};
+ghost use Rattle.outside.specs.Outside.{Keeps};
 ghost use Rattle.outcome.specs.Order.{IsStrayBy};
 ghost use Rattle.outcome.specs.World.{world_of, HasCauses, Leaves};
 ghost use Rattle.outcome.specs.Halt.{HasReason, Ends, IsQuiet, status_of};
@@ -9,7 +9,7 @@ ghost use Rattle.net_command.specs.Work.{work};
 
 use mask_files::read_network;
 use mask_net::size_line;
-use mp_base::{Depot, Sink, write_all};
+use outside::{Depot, Sink, write_all};
 use outcome::Halt;
 use std::alloc::Global;
 

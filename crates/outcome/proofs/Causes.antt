@@ -1,7 +1,7 @@
 -- Why no fault is told without its cause.
 use Rattle.std.proofs.Common.{◌≡◌, ◌≤◌, sym, subst, inl, inr, Result, Ok, Err, arith}
 use Rattle.std.specs.Prelude.{IsErrAnd}
-use Rattle.mp_base.specs.Outside.{Rose}
+use Rattle.outside.specs.Outside.{Rose}
 use Rattle.outcome.specs.World.{World, HasCauses}
 use Rattle.outcome.specs.Halt.{status_of}
 use Rattle.outcome.specs.declared.halt.Halt.{Halt}

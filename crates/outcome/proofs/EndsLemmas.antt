@@ -2,17 +2,17 @@
 use Rattle.std.proofs.Common.{◌≡◌, ℕ, List, [], take, refl, sym, ap, subst, inl, inr, Option, Some, None, Result, Ok}
 use Rattle.std.proofs.Common.{Err, IfSome, arith}
 use Rattle.std.specs.Prelude.{IsErrAnd}
-use Rattle.mp_base.specs.Outside.{Files, WhereTold, Keeps, Gains}
-use Rattle.mp_base.specs.Piece.{TakesAll}
-use Rattle.mp_base.specs.declared.outside.Failed.{Failed}
+use Rattle.outside.specs.Outside.{Files, WhereTold, Keeps, Gains}
+use Rattle.outside.specs.Piece.{TakesAll}
+use Rattle.outside.specs.declared.calls.Failed.{Failed}
 use Rattle.outcome.specs.Order.{Breaks}
 use Rattle.outcome.specs.Work.{Work, IsDone, IsCutShort, IsPartOf, Stores, StoresPart}
 use Rattle.outcome.specs.World.{World, Leaves}
 use Rattle.outcome.specs.Halt.{EndsBy, Ends}
 use Rattle.outcome.specs.declared.halt.Halt.{Halt}
 use Rattle.outcome.specs.declared.halt.Halt.TheVariants.{Refused, ReadFault, WriteFault, NoMemory}
-use Rattle.mp_base.proofs.Told.{gains_nothing}
-use Rattle.mp_base.proofs.Written.{gained}
+use Rattle.outside.proofs.Told.{gains_nothing}
+use Rattle.outside.proofs.Written.{gained}
 
 -- ended while it read and judged
 halted_told : (work : Work) (halt : Halt) (x y : Option Files) (r r' : ℕ) → Keeps x y

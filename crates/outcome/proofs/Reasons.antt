@@ -3,7 +3,7 @@ use Rattle.std.proofs.Common.{◌≡◌, ◌⊎◌, ℕ, ◌≤◌, List, [], re
 use Rattle.std.proofs.Common.{Ok, Err, IfSome, unwrap_or}
 use Rattle.std.specs.Prelude.{IsErrAnd}
 use Rattle.std.specs.FinMap.{get}
-use Rattle.mp_base.specs.Outside.{Files, Rose, Keeps, bytes_of}
+use Rattle.outside.specs.Outside.{Files, Rose, Keeps, bytes_of}
 use Rattle.mp_base.specs.declared.refusal.Broken.{Broken}
 use Rattle.mp_base.specs.declared.refusal.Refusal.{Refusal}
 use Rattle.mp_base.specs.declared.refusal.Refusal.TheVariants as refusal

@@ -1,6 +1,6 @@
 -- What work did, from its end and the line that was told.
 use Rattle.std.proofs.Common.{◌≡◌, ℕ, List, [], ◌++◌, refl, sym, subst, inl, inr, Option, Some, Err}
-use Rattle.mp_base.specs.Outside.{Files, WhereTold, Gains}
+use Rattle.outside.specs.Outside.{Files, WhereTold, Gains}
 use Rattle.mp_base.specs.declared.refusal.Broken.{Broken}
 use Rattle.outcome.specs.Order.{Breaks}
 use Rattle.outcome.specs.Work.{Work, IsRefused, IsPartOf}
@@ -9,7 +9,7 @@ use Rattle.outcome.specs.World.{World, Leaves, whole, cut, IsTold, DidWork}
 use Rattle.outcome.specs.Halt.{Ends}
 use Rattle.outcome.specs.declared.halt.Halt.TheVariants as halt
 use Rattle.outcome.specs.declared.status.Status.{Status}
-use Rattle.mp_base.proofs.Told.{told_map, gains_twice}
+use Rattle.outside.proofs.Told.{told_map, gains_twice}
 
 module _ (work : Work) (broken : Broken) where
   -- what refused work did

@@ -1,10 +1,10 @@
 -- How work ends before its line or its status is told.
 use Rattle.std.specs.Prelude.{◌≡◌, ◌⊎◌, ℕ, ◌≤◌, List, [], ⊤, Option, Some, None, Result, Ok, Err, IfSome, MatchResult}
-use Rattle.mp_base.specs.Outside.{Files, Rose}
+use Rattle.outside.specs.Outside.{Files, Rose}
 use Rattle.mp_base.specs.declared.refusal.Refusal.{Refusal}
 use Rattle.mp_base.specs.declared.refusal.Refusal.TheVariants as refusal
-use Rattle.mp_base.specs.declared.transfer.ReadError.{ReadError}
-use Rattle.mp_base.specs.declared.transfer.ReadError.TheVariants as read_error
+use Rattle.outside.specs.declared.transfer.ReadError.{ReadError}
+use Rattle.outside.specs.declared.transfer.ReadError.TheVariants as read_error
 use Rattle.outcome.specs.Order.{Fault, Breaks, IsStrayBy}
 use Rattle.outcome.specs.Work.{Work, IsDone, IsCutShort}
 use Rattle.outcome.specs.declared.status.Status.{Status}

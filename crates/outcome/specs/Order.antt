@@ -1,6 +1,6 @@
 -- The first fault of some files, where stages of work come one after another.
 use Rattle.std.specs.Prelude.{◌≡◌, ◌⊎◌, ℕ, ◌≤◌, ◌<◌, List, [], length, Option, Some, None, unwrap_or}
-use Rattle.mp_base.specs.Outside.{Files}
+use Rattle.outside.specs.Outside.{Files}
 use Rattle.mp_base.specs.declared.refusal.Family.TheVariants.{L}
 use Rattle.mp_base.specs.declared.refusal.Spot.TheVariants.{Named}
 use Rattle.mp_base.specs.declared.refusal.Broken.{Broken}

@@ -1,7 +1,7 @@
 -- A piece of work on some files, and what it leaves of its output.
 use Rattle.std.specs.Prelude.{◌≡◌, ◌⊎◌, ℕ, ◌<◌, List, [], length, take, Option, Some, None}
-use Rattle.mp_base.specs.Outside.{Files}
-use Rattle.mp_base.specs.Transfer.{Holds, HoldsPart}
+use Rattle.outside.specs.Outside.{Files}
+use Rattle.outside.specs.Transfer.{Holds, HoldsPart}
 use Rattle.mp_base.specs.declared.refusal.Broken.{Broken}
 use Rattle.outcome.specs.Order.{Fault, Breaks}
 

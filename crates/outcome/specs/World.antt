@@ -1,6 +1,6 @@
 -- What work can see of the outside, and what it did there, by its status.
 use Rattle.std.specs.Prelude.{◌≡◌, ◌⊎◌, ℕ, ◌≤◌, List, [], ⊤, Option, Some, None}
-use Rattle.mp_base.specs.Outside.{Files, Rose, WhereTold, Keeps, Gains}
+use Rattle.outside.specs.Outside.{Files, Rose, WhereTold, Keeps, Gains}
 use Rattle.outcome.specs.Work.{Work, IsPartOf, IsDone, IsCutShort, IsRefused}
 use Rattle.outcome.specs.Line.{line_of}
 use Rattle.outcome.specs.declared.status.Status.{Status}

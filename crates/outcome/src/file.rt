@@ -2,12 +2,13 @@
 
 ghost use Rattle.std.specs.Prelude.{◌≡◌, ◌≤◌, ◌<◌, ◌^◌, length, IfOk, IfSome};
 ghost use Rattle.std.specs.FinMap.{get};
-ghost use Rattle.mp_base.specs.Outside.{Keeps};
+ghost use Rattle.outside.specs.Outside.{Keeps};
 ghost use Rattle.outcome.specs.Order.{OfLength, IsContent, too_long};
 ghost use Rattle.outcome.specs.Halt.{HasReason};
 
 use crate::halt::Halt;
-use mp_base::{Broken, Depot, Family, Name, Rule, Spot, read_file};
+use mp_base::{Broken, Family, Name, Rule, Spot};
+use outside::{Depot, read_file};
 use std::alloc::{AllocError, Global};
 
 fn too_long(alloc: Global, name: &str) -> Result<Broken, AllocError>

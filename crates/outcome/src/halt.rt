@@ -4,7 +4,8 @@ ghost use Rattle.std.specs.Prelude.{◌≡◌};
 ghost use Rattle.outcome.specs.declared.halt.Halt.TheVariants.{WriteFault, NoMemory};
 ghost use Rattle.outcome.specs.Halt.{halt_of, halt_of_read};
 
-use mp_base::{Broken, Failed, NoMemory, ReadError, Refusal};
+use mp_base::{Broken, NoMemory, Refusal};
+use outside::{Failed, ReadError};
 use std::alloc::AllocError;
 
 /// How a piece of work ended before all of its output was given.

@@ -5,7 +5,8 @@ ghost use Rattle.outcome.specs.World.{IsSaid, IsTold};
 
 use crate::line::line;
 use crate::status::Status;
-use mp_base::{Broken, Failed, Sink, write_all};
+use mp_base::Broken;
+use outside::{Failed, Sink, write_all};
 use std::alloc::Global;
 
 /// Prints a text, and answers the status, or a write fault where it could not be printed whole.

@@ -1,6 +1,8 @@
 //! Files and outputs in memory, of which each call fails in turn.
 
-use mp_base::{Depot, List, MemDepot, MemSink, NoMemory, Sink, read_file, store, write_all};
+use mp_base::{List, NoMemory};
+use outside::{Depot, Sink, read_file, store, write_all};
+use outside_doubles::{MemDepot, MemSink};
 use std::alloc::{AllocError, Global};
 use std::io;
 

@@ -1,6 +1,8 @@
 //! Files and outputs whose calls never fail, at the call that fits exactly and the one that doesn't.
 
-use mp_base::{Depot, Failed, NoMemory, QuietDepot, QuietSink, Sink, read_file, store, write_all};
+use mp_base::NoMemory;
+use outside::{Depot, Failed, Sink, read_file, store, write_all};
+use outside_doubles::{QuietDepot, QuietSink};
 use std::alloc::Global;
 use std::io;
 

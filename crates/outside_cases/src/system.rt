@@ -1,6 +1,6 @@
 //! The system's files, and outputs over writers that are soon full.
 
-use mp_base::{Depot, Sink, write_all};
+use outside::{Depot, Sink, write_all};
 use std::io;
 use system_outside::{FileDepot, OutSink};
 

@@ -1,6 +1,6 @@
 -- What a replay shows, and that it follows the source.
 use Rattle.std.proofs.Common.{◌++◌, ℕ, List, refl, ap, sym, subst, ◌∙◌, map, Option, Some, None, IfSome}
-use Rattle.mp_base.specs.Outside.{Files, bytes_of}
+use Rattle.outside.specs.Outside.{Files, bytes_of}
 use Rattle.mp_base.specs.declared.value.Trit.TheVariants.{X}
 use Rattle.mp_base.specs.declared.pad.Pads.{Pads}
 use Rattle.mp_program.specs.declared.program.Program.{Program}

@@ -1,7 +1,7 @@
 //! A source and a stimulus for it, read and judged, and the bytes of the source's chip.
 
 ghost use Rattle.std.specs.Prelude.{◌≡◌, Some, IfOk, IfSome};
-ghost use Rattle.mp_base.specs.Outside.{Keeps, bytes_of};
+ghost use Rattle.outside.specs.Outside.{Keeps, bytes_of};
 ghost use Rattle.stimulus.specs.Reading.{IsStimulus};
 ghost use Rattle.mp_source.specs.Source.{IsSource};
 ghost use Rattle.outcome.specs.Halt.{HasReason};
@@ -9,7 +9,7 @@ ghost use Rattle.source_files.specs.Faults.{RunFault};
 ghost use Rattle.replay_command.specs.Played.{IsAsked};
 
 use chip_text::chip_text;
-use mp_base::Depot;
+use outside::Depot;
 use outcome::Halt;
 use source_files::{Prepared, prepare};
 use std::alloc::Global;

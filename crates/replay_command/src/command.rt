@@ -8,7 +8,7 @@ ghost use Rattle.replay_command.specs.Work.{work};
 
 use crate::asked::ask;
 use crate::played::play;
-use mp_base::{Depot, Sink};
+use outside::{Depot, Sink};
 use outcome::Halt;
 use std::alloc::Global;
 

@@ -10,7 +10,8 @@ ghost use Rattle.replay_command.specs.Played.{IsAsked, Plays};
 
 use crate::asked::Asked;
 use mask_net::drawn_network;
-use mp_base::{Depot, NoMemory, Sink, store};
+use mp_base::NoMemory;
+use outside::{Depot, Sink, store};
 use outcome::Halt;
 use replay_run::Replay;
 use replay_run::laws::chips_run;

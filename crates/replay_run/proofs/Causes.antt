@@ -1,6 +1,6 @@
 -- The cause of a fault, of calls one after another.
 use Rattle.std.proofs.Common.{◌≡◌, ℕ, sym, subst, Result, Ok, Err}
-use Rattle.mp_base.specs.Outside.{HasCause}
+use Rattle.outside.specs.Outside.{HasCause}
 
 -- behind a call that met none
 pub cause_behind : {S F T E : Type 0} (v : S) (a b c : ℕ) (r : Result T E) → HasCause {T = S} {E = F} a b (Ok v)

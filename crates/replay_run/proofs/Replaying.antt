@@ -2,10 +2,10 @@
 use Rattle.std.proofs.Common.{◌≡◌, ℕ, List, ◌++◌, Option, Result, Ok, Err, refl, subst}
 use Rattle.mp_base.specs.declared.value.Trit.{Trit}
 use Rattle.mp_base.specs.declared.value.Trit.TheVariants.{X}
-use Rattle.mp_base.specs.Outside.{Gains}
-use Rattle.mp_base.specs.Piece.{TakesAll}
-use Rattle.mp_base.proofs.Written.{written_then}
-use Rattle.mp_base.proofs.CutTexts.{cut_at}
+use Rattle.outside.specs.Outside.{Gains}
+use Rattle.outside.specs.Piece.{TakesAll}
+use Rattle.outside.proofs.Written.{written_then}
+use Rattle.outside.proofs.CutTexts.{cut_at}
 use Rattle.settle.specs.Values.{value_at}
 use Rattle.switch_net.specs.declared.network.Network.{Network}
 use Rattle.stimulus.specs.declared.given.Stimulus.{Stimulus}

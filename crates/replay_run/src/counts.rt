@@ -3,15 +3,16 @@
 ghost use Rattle.std.specs.Prelude.{◌≡◌, [], ◌∷◌, ◌++◌, codes, count_by, length};
 ghost use Rattle.std.specs.Fmt.{decimal};
 ghost use Rattle.mp_base.specs.declared.value.Trit.TheVariants.{One, X};
-ghost use Rattle.mp_base.specs.Outside.{Gains, HasCause};
-ghost use Rattle.mp_base.specs.Piece.{TakesAll};
+ghost use Rattle.outside.specs.Outside.{Gains, HasCause};
+ghost use Rattle.outside.specs.Piece.{TakesAll};
 ghost use Rattle.settle.specs.Values.{value_at};
 ghost use Rattle.switch_net.specs.declared.network.Network.{Network};
 ghost use Rattle.switch_net.specs.Sizes.{same_value};
 ghost use Rattle.mask_net.specs.SizeLine.{counts_text, last_line, size_text};
 
 use itoa::Buffer;
-use mp_base::{Failed, Sink, Trit, write_all};
+use mp_base::Trit;
+use outside::{Failed, Sink, write_all};
 
 fn same_value(a: Trit, b: Trit) -> bool
     ensures { result ≡ same_value a b }

@@ -1,7 +1,7 @@
 //! The circuit of a chip along a stimulus.
 
 ghost use Rattle.std.specs.Prelude.{◌≡◌, ◌<◌, ◌^◌, length, IfOk};
-ghost use Rattle.mp_base.specs.Outside.{HasCause};
+ghost use Rattle.outside.specs.Outside.{HasCause};
 ghost use Rattle.mp_base.specs.declared.value.Trit.TheVariants.{X};
 ghost use Rattle.settle.specs.Values.{value_at};
 ghost use Rattle.switch_net.specs.Breaks.{HasPads};
@@ -9,7 +9,8 @@ ghost use Rattle.replay_run.specs.Replay.{IsReady, PrintsReplay};
 
 use crate::counts::write_last_line;
 use mask_net::size_text;
-use mp_base::{Failed, NoMemory, Refusal, Sink};
+use mp_base::{NoMemory, Refusal};
+use outside::{Failed, Sink};
 use sim_run::Simulation;
 use std::alloc::Global;
 use std::marker::Model;

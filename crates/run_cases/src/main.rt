@@ -2,7 +2,8 @@
 //! statuses over the system's files.
 #![tactic(auto)]
 
-use mp_base::{Depot, NoMemory, Sink};
+use mp_base::NoMemory;
+use outside::{Depot, Sink};
 use outcome::Status;
 use run_ends::{Runner, exit_text, push_line};
 use run_script::exit_of;

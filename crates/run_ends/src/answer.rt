@@ -2,7 +2,8 @@
 
 use crate::runner::Runner;
 use drawn_sizes::{is_size_at_end, is_size_of_chip};
-use mp_base::{List, MemSink, NoMemory, QuietSink};
+use mp_base::{List, NoMemory};
+use outside_doubles::{MemSink, QuietSink};
 use outcome::Status;
 use run_script::{Endless, Failing, File, quiet_depot_of, text_of, words_of};
 use std::alloc::{AllocError, Global};

@@ -1,6 +1,6 @@
 //! What is run.
 
-use mp_base::{Depot, Sink};
+use outside::{Depot, Sink};
 use outcome::Status;
 use std::alloc::Global;
 

@@ -2,7 +2,7 @@
 
 ghost use Rattle.std.specs.Prelude.{None};
 
-use mp_base::{Depot, Failed};
+use outside::{Depot, Failed};
 
 /// Each name is that of a file of blanks without an end, which tells nothing.
 #[derive(Drop)]

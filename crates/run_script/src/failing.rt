@@ -3,7 +3,8 @@
 ghost use Rattle.std.specs.Prelude.{◌<◌};
 
 use crate::files::File;
-use mp_base::{List, MemDepot, MemSink, NoMemory};
+use mp_base::{List, NoMemory};
+use outside_doubles::{MemDepot, MemSink};
 use std::alloc::{AllocError, Global};
 
 /// Whose calls fail.

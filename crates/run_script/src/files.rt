@@ -1,6 +1,7 @@
 //! Files that a list sets.
 
-use mp_base::{NoMemory, QuietDepot};
+use mp_base::NoMemory;
+use outside_doubles::QuietDepot;
 use std::alloc::{AllocError, Global};
 
 /// A file of a name.

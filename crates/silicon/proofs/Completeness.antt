@@ -1,6 +1,6 @@
 -- What the clauses of a run leave no choice of.
 use Rattle.std.proofs.Common.{◌≡◌, ◌⊎◌, ◌<◌, ℕ, List, refl, ap, subst, inl, inr, Option, Some, None, arith}
-use Rattle.mp_base.specs.Outside.{Files, WhereTold, Rose}
+use Rattle.outside.specs.Outside.{Files, WhereTold, Rose}
 use Rattle.command_line.specs.Command.{Command}
 use Rattle.outcome.specs.Order.{Fault, Stray, Breaks}
 use Rattle.outcome.specs.World.{World}

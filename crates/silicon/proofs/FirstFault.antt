@@ -1,6 +1,6 @@
 -- A command has one first fault at most.
 use Rattle.std.proofs.Common.{◌≡◌, ◌∙◌, sym, List, ℕ, Option}
-use Rattle.mp_base.specs.Outside.{Files}
+use Rattle.outside.specs.Outside.{Files}
 use Rattle.command_line.specs.Command.{Command, Trace, Compile, Replay, Sim, Net, Stats, Board, Make}
 use Rattle.outcome.specs.Order.{Fault}
 use Rattle.source_files.specs.Faults.{SourceFault, RunFault}

@@ -1,8 +1,8 @@
 -- How the parts are left by a command, and by what is told of its end.
 use Rattle.std.proofs.Common.{◌≡◌, ℕ, List, refl, sym, subst, inl, inr, Option, Some, None, Result, Ok, Err}
-use Rattle.mp_base.specs.Outside.{Files, WhereTold}
+use Rattle.outside.specs.Outside.{Files, WhereTold}
 use Rattle.mp_base.specs.declared.refusal.Broken.{Broken}
-use Rattle.mp_base.proofs.Told.{told_map}
+use Rattle.outside.proofs.Told.{told_map}
 use Rattle.command_line.specs.Command.{Command, Trace, Compile, Replay, Sim, Net, Stats, Board, Make}
 use Rattle.outcome.specs.Order.{Breaks}
 use Rattle.outcome.specs.Line.{line_of}

@@ -1,7 +1,7 @@
 -- A run, from what its command did.
 use Rattle.std.proofs.Common.{◌≡◌, ℕ, List, [], refl, sym, subst, inl, Option, Some, None}
-use Rattle.mp_base.specs.Outside.{Files, WhereTold, Gains}
-use Rattle.mp_base.proofs.Told.{told_map, keeps_same, gains_nothing}
+use Rattle.outside.specs.Outside.{Files, WhereTold, Gains}
+use Rattle.outside.proofs.Told.{told_map, keeps_same, gains_nothing}
 use Rattle.command_line.specs.Command.{Command}
 use Rattle.outcome.specs.World.{World, Leaves, IsSaid, whole, cut}
 use Rattle.outcome.specs.declared.status.Status.{Status}

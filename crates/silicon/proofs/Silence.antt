@@ -1,7 +1,7 @@
 -- What is not printed, and not written.
 use Rattle.std.proofs.Common.{◌≡◌, ℕ, List, refl, sym, subst, Option, Some, None}
-use Rattle.mp_base.specs.Outside.{Files}
-use Rattle.mp_base.proofs.Told.{keeps_same}
+use Rattle.outside.specs.Outside.{Files}
+use Rattle.outside.proofs.Told.{keeps_same}
 use Rattle.command_line.specs.Command.{Command}
 use Rattle.outcome.specs.World.{IsSaid, whole, cut, IsSilent, SparesFiles}
 use Rattle.outcome.specs.declared.status.Status.{Status}

@@ -1,6 +1,6 @@
 -- What the clauses of a run leave no choice of.
 use Rattle.std.specs.Prelude.{◌⊎◌, ◌<◌, List, Option, Some, None}
-use Rattle.mp_base.specs.Outside.{Rose}
+use Rattle.outside.specs.Outside.{Rose}
 use Rattle.command_line.specs.Command.{Command}
 use Rattle.outcome.specs.Order.{Fault, Stray, Breaks}
 use Rattle.outcome.specs.World.{World, HasCauses, Leaves}

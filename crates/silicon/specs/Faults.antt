@@ -1,6 +1,6 @@
 -- What a command owes on some files, with the parts that are lent.
 use Rattle.std.specs.Prelude.{ℕ, List, Option, Some, None}
-use Rattle.mp_base.specs.Outside.{Files}
+use Rattle.outside.specs.Outside.{Files}
 use Rattle.command_line.specs.Command.{Command, Trace, Compile, Replay, Sim, Net, Stats, Board, Make}
 use Rattle.outcome.specs.Order.{Fault, IsStrayBy}
 use Rattle.outcome.specs.Work.{Work}

@@ -1,6 +1,6 @@
 -- How a run leaves the parts that are lent.
 use Rattle.std.specs.Prelude.{◌≡◌, ◌⊎◌, ⊤, ℕ, List, Option, Some, Result}
-use Rattle.mp_base.specs.Outside.{Files, bytes_of}
+use Rattle.outside.specs.Outside.{Files, bytes_of}
 use Rattle.mp_base.specs.declared.refusal.Broken.{Broken}
 use Rattle.command_line.specs.Command.{Command, Board}
 use Rattle.outcome.specs.Order.{Breaks}

@@ -1,6 +1,6 @@
 -- What a run did, by its words and its status.
 use Rattle.std.specs.Prelude.{◌≡◌, ℕ, List, [], ◌∷◌, ◌++◌, ⊤, Option, Some, None, Result, codes}
-use Rattle.mp_base.specs.Outside.{Files, WhereTold, Keeps, Gains}
+use Rattle.outside.specs.Outside.{Files, WhereTold, Keeps, Gains}
 use Rattle.command_line.specs.Command.{Command, Make}
 use Rattle.outcome.specs.World.{DidWork, GainsPart}
 use Rattle.outcome.specs.Halt.{Ends}

@@ -1,7 +1,7 @@
 //! Laws of commands: a call of one does nothing, and tells the caller's proof what it ensures.
 
 ghost use Rattle.std.specs.Prelude.{◌≡◌, ◌⊎◌, List, Option, Some, None};
-ghost use Rattle.mp_base.specs.Outside.{Files};
+ghost use Rattle.outside.specs.Outside.{Files};
 ghost use Rattle.command_line.specs.Command.{Command};
 ghost use Rattle.outcome.specs.Order.{Fault};
 ghost use Rattle.outcome.specs.World.{World};

@@ -15,7 +15,7 @@ use board_command::board;
 use command_line::{Command, command_of};
 use compile_command::compile;
 use make_command::make;
-use mp_base::{Depot, Sink};
+use outside::{Depot, Sink};
 use net_command::net;
 use outcome::{Halt, Status, refuse, say};
 use replay_command::replay;

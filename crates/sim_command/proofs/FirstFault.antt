@@ -1,6 +1,6 @@
 -- Masks with a stimulus have one first fault at most.
 use Rattle.std.proofs.Common.{◌≡◌, List, ℕ, None, Option}
-use Rattle.mp_base.specs.Outside.{Files, bytes_of}
+use Rattle.outside.specs.Outside.{Files, bytes_of}
 use Rattle.mp_base.proofs.Decisions.{IsDetermined}
 use Rattle.switch_net.specs.Laws.{OneFirstOfCircuit}
 use Rattle.mask_net.specs.Laws.{OneNetwork}

@@ -1,6 +1,6 @@
 -- What a simulation owes.
 use Rattle.std.specs.Prelude.{◌≡◌, ℕ, List, [], Option, None}
-use Rattle.mp_base.specs.Outside.{Files, bytes_of}
+use Rattle.outside.specs.Outside.{Files, bytes_of}
 use Rattle.outcome.specs.Order.{Fault, Then, OfRule}
 use Rattle.outcome.specs.Work.{Work}
 use Rattle.source_files.specs.Faults.{PadsFault}

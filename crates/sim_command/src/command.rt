@@ -1,7 +1,7 @@
 //! The run of the circuit that masks draw, from files.
 
 ghost use Rattle.std.specs.Prelude.{◌≡◌, ◌≤◌, length, IfOk, IfSome};
-ghost use Rattle.mp_base.specs.Outside.{Keeps, bytes_of};
+ghost use Rattle.outside.specs.Outside.{Keeps, bytes_of};
 ghost use Rattle.stimulus.specs.declared.limits.TheConstants.{CLOCK_LIMIT, PAD_LIMIT};
 ghost use Rattle.outcome.specs.Order.{IsStrayBy};
 ghost use Rattle.outcome.specs.World.{world_of, HasCauses, Leaves};
@@ -10,7 +10,7 @@ ghost use Rattle.sim_command.specs.Simulated.{IsSetUp};
 ghost use Rattle.sim_command.specs.Work.{work, SetUpFault};
 
 use mask_files::read_network;
-use mp_base::{Depot, Sink};
+use outside::{Depot, Sink};
 use outcome::Halt;
 use sim_run::Simulation;
 use source_files::read_headed;

@@ -2,7 +2,7 @@
 
 ghost use Rattle.std.specs.Prelude.{◌≡◌, ◌<◌, ◌^◌, length, IfOk, IfErr};
 ghost use Rattle.mp_base.specs.declared.value.Trit.TheVariants.{X};
-ghost use Rattle.mp_base.specs.Outside.{HasCause};
+ghost use Rattle.outside.specs.Outside.{HasCause};
 ghost use Rattle.switch_net.specs.Breaks.{HasPads};
 ghost use Rattle.settle.specs.Values.{value_at};
 ghost use Rattle.clock_run.specs.Refused.{IsRefused};
@@ -10,7 +10,8 @@ ghost use Rattle.transcript.specs.Running.{PrintsTranscript};
 ghost use Rattle.sim_run.specs.Transcript.{NetworkSteps};
 
 use clock_run::Circuit;
-use mp_base::{Failed, Refusal, Sink, Trit};
+use mp_base::{Refusal, Trit};
+use outside::{Failed, Sink};
 use std::alloc::Global;
 use std::marker::Model;
 use stimulus::Stimulus;

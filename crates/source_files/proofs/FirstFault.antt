@@ -1,7 +1,7 @@
 -- Sources and stimuli have one first fault at most.
 use Rattle.std.proofs.Common.{List, ℕ, None}
 use Rattle.std.specs.FinMap.{get}
-use Rattle.mp_base.specs.Outside.{Files, bytes_of}
+use Rattle.outside.specs.Outside.{Files, bytes_of}
 use Rattle.mp_base.proofs.Decisions.{IsDetermined}
 use Rattle.source_files.specs.declared.limits.TheConstants.{TEXT_LIMIT}
 use Rattle.mp_source.specs.Source.{OfSource}

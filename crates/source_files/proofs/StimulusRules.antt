@@ -22,7 +22,7 @@ use Rattle.source_files.specs.Stimulus.{OfPads, OfStimulus}
 use Rattle.mp_source.specs.Source.{IsJudged}
 use Rattle.outcome.specs.Order.{Fault}
 use Rattle.source_files.specs.Faults.{PadsFault, StimulusFault}
-use Rattle.mp_base.specs.Outside.{Files, bytes_of}
+use Rattle.outside.specs.Outside.{Files, bytes_of}
 use Rattle.mp_checker.specs.Checking.{CheckedProgram}
 use Rattle.std.specs.FinMap.{get}
 use Rattle.mp_base.proofs.Decisions.{IsDetermined}

@@ -1,7 +1,7 @@
 -- The faults of the files that hold sources and stimuli.
 use Rattle.std.specs.Prelude.{ℕ, List, Option}
 use Rattle.std.specs.FinMap.{get}
-use Rattle.mp_base.specs.Outside.{Files, bytes_of}
+use Rattle.outside.specs.Outside.{Files, bytes_of}
 use Rattle.mp_base.specs.declared.pad.Pads.{Pads}
 use Rattle.source_files.specs.declared.limits.TheConstants.{TEXT_LIMIT}
 use Rattle.mp_source.specs.Source.{OfSource}

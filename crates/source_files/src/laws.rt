@@ -1,7 +1,7 @@
 //! Laws of files: a call of one does nothing, and tells the caller's proof what it ensures.
 
 ghost use Rattle.std.specs.Prelude.{◌≡◌, ℕ, List, Option, None};
-ghost use Rattle.mp_base.specs.Outside.{Files};
+ghost use Rattle.outside.specs.Outside.{Files};
 ghost use Rattle.outcome.specs.Order.{Fault};
 ghost use Rattle.source_files.specs.Faults.{PadsFault, RunFault, SourceFault};
 

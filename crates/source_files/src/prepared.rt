@@ -1,7 +1,7 @@
 //! A source and a stimulus for it, read and judged.
 
 ghost use Rattle.std.specs.Prelude.{◌≡◌, ◌≤◌, Some, length, IfOk, IfSome};
-ghost use Rattle.mp_base.specs.Outside.{Keeps, bytes_of};
+ghost use Rattle.outside.specs.Outside.{Keeps, bytes_of};
 ghost use Rattle.stimulus.specs.declared.limits.TheConstants.{CLOCK_LIMIT, PAD_LIMIT};
 ghost use Rattle.mp_program.specs.Pads.{ArePadsOf};
 ghost use Rattle.stimulus.specs.Reading.{IsStimulus};
@@ -11,7 +11,7 @@ ghost use Rattle.source_files.specs.Faults.{RunFault};
 
 use crate::source::read_source;
 use crate::stimuli::read_stimulus;
-use mp_base::Depot;
+use outside::Depot;
 use mp_checker::Checked;
 use outcome::Halt;
 use std::alloc::Global;

@@ -1,13 +1,13 @@
 //! A source that is read and judged.
 
 ghost use Rattle.std.specs.Prelude.{◌≡◌, IfOk, IfSome};
-ghost use Rattle.mp_base.specs.Outside.{Keeps, bytes_of};
+ghost use Rattle.outside.specs.Outside.{Keeps, bytes_of};
 ghost use Rattle.mp_source.specs.Source.{IsSource};
 ghost use Rattle.outcome.specs.Halt.{HasReason};
 ghost use Rattle.source_files.specs.Faults.{SourceFault};
 
 use crate::limits::TEXT_LIMIT;
-use mp_base::Depot;
+use outside::Depot;
 use mp_checker::Checked;
 use mp_source::check_source;
 use outcome::{Halt, read_text};

@@ -1,7 +1,7 @@
 //! Stimuli that are read and judged.
 
 ghost use Rattle.std.specs.Prelude.{◌≡◌, ◌≤◌, None, Some, length, IfOk, IfSome};
-ghost use Rattle.mp_base.specs.Outside.{Keeps, bytes_of};
+ghost use Rattle.outside.specs.Outside.{Keeps, bytes_of};
 ghost use Rattle.source_files.specs.declared.limits.TheConstants.{TEXT_LIMIT};
 ghost use Rattle.stimulus.specs.declared.limits.TheConstants.{CLOCK_LIMIT, PAD_LIMIT};
 ghost use Rattle.mp_program.specs.Pads.{ArePadsOf};
@@ -12,7 +12,8 @@ ghost use Rattle.source_files.specs.Stimulus.{OfPads};
 ghost use Rattle.source_files.specs.Faults.{PadsFault};
 
 use crate::limits::TEXT_LIMIT;
-use mp_base::{Depot, Refusal};
+use mp_base::Refusal;
+use outside::Depot;
 use mp_checker::Checked;
 use mp_rules::laws::few_namings;
 use outcome::{Halt, read_text};

@@ -2,7 +2,8 @@
 
 ghost use Rattle.std.specs.Prelude.{◌+◌, ◌<◌, ◌^◌, length};
 
-use mp_base::{List, MemSink, Pads, TritOutputs, TritWord};
+use mp_base::{List, Pads, TritOutputs, TritWord};
+use outside_doubles::MemSink;
 use program_words::words::push_refusal;
 use std::alloc::{AllocError, Global};
 use stimulus::{Stimulus, line, read_stimulus};

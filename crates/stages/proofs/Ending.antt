@@ -2,7 +2,7 @@
 use Rattle.std.proofs.Common.{◌≡◌, ◌≤◌, ◌⊎◌, ℕ, List, sym, subst, inl, inr, Option, Some, None, Result, Ok, Err, IfSome}
 use Rattle.std.proofs.Common.{◌∙◌}
 use Rattle.std.specs.Prelude.{IsErrAnd}
-use Rattle.mp_base.specs.Outside.{Files, Rose, WhereTold, Keeps, Gains}
+use Rattle.outside.specs.Outside.{Files, Rose, WhereTold, Keeps, Gains}
 use Rattle.outcome.specs.Order.{Fault, IsStrayBy}
 use Rattle.outcome.specs.Work.{Work, IsCutShort}
 use Rattle.outcome.specs.World.{World, Leaves, HasCauses}

@@ -1,6 +1,6 @@
 -- Work in two stages: files are read and judged, and then a file is stored and a text is printed.
 use Rattle.std.specs.Prelude.{ℕ, List, ⊤, Option, Some, None}
-use Rattle.mp_base.specs.Outside.{Files}
+use Rattle.outside.specs.Outside.{Files}
 use Rattle.outcome.specs.Order.{Fault}
 use Rattle.outcome.specs.Work.{Work}
 

@@ -1,6 +1,6 @@
 -- What is shown of a source's chip.
 use Rattle.std.proofs.Common.{ℕ, List, [], refl, Option, Some, None, IfSome}
-use Rattle.mp_base.specs.Outside.{Files, bytes_of}
+use Rattle.outside.specs.Outside.{Files, bytes_of}
 use Rattle.mp_program.specs.declared.program.Program.{Program}
 use Rattle.mp_source.specs.Source.{IsSource}
 use Rattle.plan_stats.specs.Stats.{IsStatsOf}

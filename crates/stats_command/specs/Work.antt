@@ -1,6 +1,6 @@
 -- What the size of a source's chip owes.
 use Rattle.std.specs.Prelude.{◌≡◌, ℕ, List, [], None}
-use Rattle.mp_base.specs.Outside.{bytes_of}
+use Rattle.outside.specs.Outside.{bytes_of}
 use Rattle.mp_program.specs.declared.program.Program.{Program}
 use Rattle.mp_source.specs.Source.{IsSource}
 use Rattle.outcome.specs.Work.{Work}

@@ -1,13 +1,13 @@
 //! The size of the chip of a source, from a file.
 
 ghost use Rattle.std.specs.Prelude.{◌≡◌, IfOk, IfSome, []};
-ghost use Rattle.mp_base.specs.Outside.{Keeps};
+ghost use Rattle.outside.specs.Outside.{Keeps};
 ghost use Rattle.outcome.specs.Order.{IsStrayBy};
 ghost use Rattle.outcome.specs.World.{world_of, HasCauses, Leaves};
 ghost use Rattle.outcome.specs.Halt.{HasReason, Ends, IsQuiet, status_of};
 ghost use Rattle.stats_command.specs.Work.{work};
 
-use mp_base::{Depot, Sink, write_all};
+use outside::{Depot, Sink, write_all};
 use outcome::Halt;
 use plan_stats::stats_text;
 use source_files::read_source;

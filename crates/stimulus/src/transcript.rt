@@ -1,15 +1,16 @@
 //! The lines of a transcript.
 
 ghost use Rattle.std.specs.Prelude.{◌≡◌, ◌-◌, length};
-ghost use Rattle.mp_base.specs.Outside.{Gains, HasCause};
-ghost use Rattle.mp_base.specs.Piece.{TakesAll};
+ghost use Rattle.outside.specs.Outside.{Gains, HasCause};
+ghost use Rattle.outside.specs.Piece.{TakesAll};
 ghost use Rattle.stimulus.specs.Rules.{bound};
 ghost use Rattle.stimulus.specs.Bits.{pad_trits, trits_of};
 ghost use Rattle.stimulus.specs.Transcript.{bits_text, pad_text, line_text};
 
 use crate::rules::bits_of;
 use itoa::Buffer;
-use mp_base::{Failed, Pad, Pads, Sink, TritOutputs, TritWord, write_all};
+use mp_base::{Pad, Pads, TritOutputs, TritWord};
+use outside::{Failed, Sink, write_all};
 
 // All bits of a pad.
 fn all_bits(pad: &Pad) -> u64

@@ -1,9 +1,9 @@
 //! An output of the system.
 
 ghost use Rattle.std.specs.Prelude.{◌≡◌, None, ◌<◌, ◌≤◌};
-ghost use Rattle.mp_base.specs.Outside.{HasCause};
+ghost use Rattle.outside.specs.Outside.{HasCause};
 
-use mp_base::{Failed, Sink};
+use outside::{Failed, Sink};
 use std::io::Write;
 
 const ROOM: usize = 4096;

@@ -5,7 +5,7 @@ ghost use Rattle.std.specs.Prelude.{◌≡◌};
 ghost use Rattle.system_run.specs.Statuses.{exit_status};
 
 use board_parts::{Counter, Echo, Memory, Shifter};
-use mp_base::{Depot, Failed, Sink};
+use outside::{Depot, Failed, Sink};
 use silicon::{NamedPart, Part, Status, run};
 use std::alloc::{AllocError, Global};
 use std::env::{self, Args};

@@ -1,6 +1,6 @@
 -- The text that a trace shows.
 use Rattle.std.proofs.Common.{ℕ, List, [], map, refl, ap, ◌∙◌, Option, Some, None, IfSome}
-use Rattle.mp_base.specs.Outside.{Files, bytes_of}
+use Rattle.outside.specs.Outside.{Files, bytes_of}
 use Rattle.mp_program.specs.Pads.{ArePadsOf}
 use Rattle.mp_program.specs.State.{State, zero_state}
 use Rattle.mp_checker.specs.Checking.{CheckedProgram}

@@ -1,13 +1,13 @@
 //! The trace of a source along a stimulus, from files.
 
 ghost use Rattle.std.specs.Prelude.{◌≡◌};
-ghost use Rattle.mp_base.specs.Outside.{Keeps};
+ghost use Rattle.outside.specs.Outside.{Keeps};
 ghost use Rattle.outcome.specs.Order.{IsStrayBy};
 ghost use Rattle.outcome.specs.World.{world_of, HasCauses, Leaves};
 ghost use Rattle.outcome.specs.Halt.{Ends, IsQuiet, status_of};
 ghost use Rattle.trace_command.specs.Work.{work};
 
-use mp_base::{Depot, Sink};
+use outside::{Depot, Sink};
 use outcome::Halt;
 use source_files::prepare;
 use std::alloc::Global;

@@ -1,7 +1,7 @@
 //! A program along a stimulus.
 
 ghost use Rattle.std.specs.Prelude.{◌≡◌, ◌<◌, ◌^◌, length, IfOk};
-ghost use Rattle.mp_base.specs.Outside.{HasCause};
+ghost use Rattle.outside.specs.Outside.{HasCause};
 ghost use Rattle.mp_program.specs.Pads.{ArePadsOf};
 ghost use Rattle.mp_program.specs.State.{zero_state};
 ghost use Rattle.transcript.specs.Running.{PrintsTranscript};
@@ -9,7 +9,8 @@ ghost use Rattle.trace_run.specs.Transcript.{ProgramSteps};
 
 use crate::laws::{clocks_fit, traces_exist};
 use crate::source::Source;
-use mp_base::{Failed, NoMemory, Sink};
+use mp_base::NoMemory;
+use outside::{Failed, Sink};
 use mp_checker::Checked;
 use std::alloc::Global;
 use std::marker::Model;

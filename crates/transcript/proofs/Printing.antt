@@ -2,9 +2,9 @@
 use Rattle.std.proofs.Common.{◌≡◌, ◌∙◌, ℕ, ◌+◌, ◌<◌, ◌≤◌, List, ◌++◌, length, take, Option, Err, sym, ap, subst, arith}
 use Rattle.std.proofs.lemmas.List.{length-append, take-append-le}
 use Rattle.std.proofs.Math.Seq.{take-append-add}
-use Rattle.mp_base.specs.Outside.{WhereTold, Gains}
-use Rattle.mp_base.specs.Piece.{TakesAll}
-use Rattle.mp_base.proofs.Told.{gains_twice}
+use Rattle.outside.specs.Outside.{WhereTold, Gains}
+use Rattle.outside.specs.Piece.{TakesAll}
+use Rattle.outside.proofs.Told.{gains_twice}
 
 -- a first text was gained, and of the next, before another, a first part, but not all
 pub cut_short : {T E : Type 0} (e f : E) (x y z : Option (List ℕ)) (a b later all : List ℕ) → a ++ (b ++ later) ≡ all

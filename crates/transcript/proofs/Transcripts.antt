@@ -6,8 +6,8 @@ use Rattle.std.proofs.lemmas.List.{append-nil, length-append, length-map, length
 use Rattle.std.proofs.lemmas.List.{take-append-drop}
 use Rattle.mp_base.specs.declared.value.Trit.{Trit}
 use Rattle.mp_base.specs.declared.pad.Pad.{Pad}
-use Rattle.mp_base.specs.Outside.{WhereTold, Gains}
-use Rattle.mp_base.specs.Piece.{TakesAll}
+use Rattle.outside.specs.Outside.{WhereTold, Gains}
+use Rattle.outside.specs.Piece.{TakesAll}
 use Rattle.stimulus.specs.declared.given.Given.{Given}
 use Rattle.stimulus.specs.declared.given.Stimulus.{Stimulus}
 use Rattle.stimulus.specs.Inputs.{Fit, inputs_at, inputs_of}
@@ -16,8 +16,8 @@ use Rattle.transcript.specs.Transcript.{RunsAlong, IsTranscript}
 use Rattle.transcript.specs.Running.{PrintsClock, PrintsClocks, PrintsTranscript}
 use Rattle.transcript.specs.Laws.{IsDetermined, CanStep, StepsOn}
 use Rattle.transcript.proofs.Inputs.{clocks_fit}
-use Rattle.mp_base.proofs.Told.{gains_nothing, gains_twice}
-use Rattle.mp_base.proofs.Written.{gained, written, cut_before}
+use Rattle.outside.proofs.Told.{gains_nothing, gains_twice}
+use Rattle.outside.proofs.Written.{gained, written, cut_before}
 use Rattle.transcript.proofs.Printing.{cut_short}
 
 -- the lines of some clocks, and of those behind them

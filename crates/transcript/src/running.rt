@@ -1,12 +1,12 @@
 //! A device along a stimulus.
 
 ghost use Rattle.std.specs.Prelude.{◌≡◌, ◌<◌, ◌^◌, length};
-ghost use Rattle.mp_base.specs.Outside.{HasCause};
+ghost use Rattle.outside.specs.Outside.{HasCause};
 ghost use Rattle.transcript.specs.Running.{HasRoom, PrintsClock, PrintsClocks};
 
 use crate::device::Device;
 use crate::room::Room;
-use mp_base::{Failed, Sink};
+use outside::{Failed, Sink};
 use stimulus::{Stimulus, line};
 
 // Runs one clock, and prints its line.

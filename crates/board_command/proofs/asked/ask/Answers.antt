@@ -1,6 +1,6 @@
 use Rattle.std.proofs.Common.{ℕ, List, Option, None, map}
 use Rattle.std.specs.Prelude.{string_bytes}
-use Rattle.mp_base.specs.Outside.{Files, bytes_of}
+use Rattle.outside.specs.Outside.{Files, bytes_of}
 use Rattle.outcome.specs.Order.{Fault, Then, OfRule}
 use Rattle.outcome.specs.Halt.{halt_of}
 use Rattle.outcome.proofs.Reasons.{ends_first, ends_second, if_second, reason_err}

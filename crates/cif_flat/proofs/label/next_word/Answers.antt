@@ -1,5 +1,5 @@
 use Rattle.std.proofs.Common.{◌-◌, subst, arith, drop, take, length}
-use Rattle.mp_base.proofs.FilesLemmas.{rest_of}
+use Rattle.outside.proofs.FilesLemmas.{rest_of}
 use Rattle.cif_form.specs.Labels.{IsSpace}
 use Rattle.cif_flat.specs.Labelling.{Begins}
 use Rattle.cif_flat.proofs.Words.{no_spaces, no_word, next_word_of}

@@ -1,4 +1,4 @@
-use Rattle.mp_base.proofs.Written.{written_then}
+use Rattle.outside.proofs.Written.{written_then}
 use Rattle.cif_writer.proofs.text.write_both.Goals as goal
 
 pub returns-clause-taken : goal.returns-clause-taken

@@ -1,5 +1,5 @@
 use Rattle.std.specs.List.{flat_map}
-use Rattle.mp_base.proofs.Written.{written_then}
+use Rattle.outside.proofs.Written.{written_then}
 use Rattle.cif_writer.specs.Texts.{number_text}
 use Rattle.cif_writer.proofs.text.write_tagged.Goals as goal
 

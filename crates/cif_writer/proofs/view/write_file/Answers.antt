@@ -2,8 +2,8 @@ use Rattle.std.proofs.Common.{List, ℕ, ◌≡◌, ◌≤◌, ◌+◌, ◌++◌
 use Rattle.std.specs.Prelude.{codes}
 use Rattle.std.proofs.lemmas.List.{at_drop_all}
 use Rattle.std.proofs.lemmas.Result.{err_from_is_err_and}
-use Rattle.mp_base.specs.Outside.{Gains}
-use Rattle.mp_base.specs.Piece.{TakesAll}
+use Rattle.outside.specs.Outside.{Gains}
+use Rattle.outside.specs.Piece.{TakesAll}
 use Rattle.cif_form.specs.declared.command.Item.{Item}
 use Rattle.cif_list.specs.Showing.{item_shown}
 use Rattle.cif_writer.specs.Texts.{file_text, commands_of}

@@ -1,5 +1,5 @@
 use Rattle.std.proofs.Common.{◌∷◌, []}
-use Rattle.mp_base.proofs.Written.{written_then}
+use Rattle.outside.proofs.Written.{written_then}
 use Rattle.cif_form.specs.Writing.{text_of}
 use Rattle.cif_list.specs.Showing.{command_shown}
 use Rattle.cif_writer.proofs.view.write_view.Goals as goal

@@ -1,9 +1,9 @@
 use Rattle.std.proofs.Common.{◌≡◌, ℕ, List, [], ◌∷◌, ◌++◌, sym, ◌∙◌, ap, subst, arith, true, false, w64, to_z, of_z}
 use Rattle.std.proofs.lemmas.Int.{ints}
 use Rattle.std.specs.List.{flat_map}
-use Rattle.mp_base.specs.Outside.{Gains}
-use Rattle.mp_base.specs.Piece.{TakesAll}
-use Rattle.mp_base.specs.declared.outside.Failed.{Failed}
+use Rattle.outside.specs.Outside.{Gains}
+use Rattle.outside.specs.Piece.{TakesAll}
+use Rattle.outside.specs.declared.calls.Failed.{Failed}
 use Rattle.cif_form.specs.Writing.{space, point_text}
 use Rattle.cif_writer.specs.Texts.{number_text}
 use Rattle.cif_writer.proofs.Numbers.{plain_box, directed_box, direction_is}

@@ -1,5 +1,5 @@
 use Rattle.std.proofs.Common.{◌∷◌, []}
-use Rattle.mp_base.proofs.Written.{written_then}
+use Rattle.outside.proofs.Written.{written_then}
 use Rattle.cif_writer.proofs.write.write_comment.Goals as goal
 
 pub returns-clause-taken : goal.returns-clause-taken

@@ -2,11 +2,11 @@ use Rattle.std.proofs.Common.{◌≡◌, ℕ, List, [], ◌∷◌, ◌++◌, sub
 use Rattle.std.proofs.lemmas.Int.{ints}
 use Rattle.std.proofs.lemmas.Result.{err_from_is_err_and}
 use Rattle.std.specs.List.{flat_map}
-use Rattle.mp_base.specs.Outside.{Gains}
-use Rattle.mp_base.specs.Piece.{TakesAll}
-use Rattle.mp_base.specs.declared.outside.Failed.{Failed}
-use Rattle.mp_base.proofs.Written.{written_then}
-use Rattle.mp_base.proofs.CutTexts.{cut_at}
+use Rattle.outside.specs.Outside.{Gains}
+use Rattle.outside.specs.Piece.{TakesAll}
+use Rattle.outside.specs.declared.calls.Failed.{Failed}
+use Rattle.outside.proofs.Written.{written_then}
+use Rattle.outside.proofs.CutTexts.{cut_at}
 use Rattle.cif_form.specs.Writing.{path_text}
 use Rattle.cif_writer.specs.Texts.{number_text}
 use Rattle.cif_writer.proofs.Numbers.{one_text}

@@ -1,5 +1,5 @@
 use Rattle.std.proofs.Common.{refl}
-use Rattle.mp_base.proofs.Told.{keeps_same}
+use Rattle.outside.proofs.Told.{keeps_same}
 use Rattle.outcome.specs.declared.halt.Halt.TheVariants.{NoMemory}
 use Rattle.outcome.proofs.EndsLemmas.{leaves_halted, leaves_done, leaves_cut, leaves_stored_in_part}
 use Rattle.outcome.proofs.Causes.{without_memory, store_failed, print_failed}

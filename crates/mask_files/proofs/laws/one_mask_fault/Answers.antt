@@ -1,5 +1,5 @@
 use Rattle.std.specs.FinMap.{get}
-use Rattle.mp_base.specs.Outside.{bytes_of}
+use Rattle.outside.specs.Outside.{bytes_of}
 use Rattle.mask_files.specs.declared.limits.TheConstants.{MASK_LIMIT}
 use Rattle.mask_net.specs.Masks.{OfMask}
 use Rattle.outcome.proofs.Determined.{one_of_file}

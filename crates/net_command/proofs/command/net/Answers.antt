@@ -1,6 +1,6 @@
 use Rattle.std.proofs.Common.{refl, []}
 use Rattle.net_command.specs.Work.{work}
-use Rattle.mp_base.proofs.Told.{keeps_same}
+use Rattle.outside.proofs.Told.{keeps_same}
 use Rattle.outcome.proofs.EndsLemmas.{leaves_halted, leaves_done, leaves_cut}
 use Rattle.outcome.proofs.Silence.{quiet_same, quiet_cut}
 use Rattle.net_command.proofs.command.net.Goals as goal

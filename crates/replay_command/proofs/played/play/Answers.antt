@@ -1,5 +1,5 @@
 use Rattle.std.proofs.Common.{refl}
-use Rattle.mp_base.proofs.Told.{keeps_same}
+use Rattle.outside.proofs.Told.{keeps_same}
 use Rattle.outcome.proofs.EndsLemmas.{leaves_halted}
 use Rattle.outcome.proofs.Causes.{without_memory}
 use Rattle.outcome.proofs.Silence.{quiet_same}

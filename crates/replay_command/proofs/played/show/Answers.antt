@@ -1,6 +1,6 @@
 use Rattle.std.proofs.Common.{refl}
 use Rattle.std.specs.Prelude.{Some}
-use Rattle.mp_base.proofs.Told.{keeps_same}
+use Rattle.outside.proofs.Told.{keeps_same}
 use Rattle.outcome.proofs.EndsLemmas.{leaves_done, leaves_cut, leaves_stored_in_part}
 use Rattle.outcome.proofs.Causes.{store_failed, print_failed}
 use Rattle.outcome.proofs.Silence.{quiet_same, quiet_cut}

@@ -1,6 +1,6 @@
 use Rattle.std.proofs.lemmas.Result.{err_from_is_err_and}
-use Rattle.mp_base.proofs.Written.{written_then}
-use Rattle.mp_base.proofs.CutTexts.{cut_at}
+use Rattle.outside.proofs.Written.{written_then}
+use Rattle.outside.proofs.CutTexts.{cut_at}
 use Rattle.replay_run.proofs.Causes.{cause_behind, cause_passed}
 use Rattle.replay_run.proofs.counts.write_both.Goals as goal
 

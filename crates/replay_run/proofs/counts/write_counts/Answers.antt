@@ -2,12 +2,12 @@ use Rattle.std.proofs.Common.{ℕ, List, [], ◌∷◌, ◌++◌, subst}
 use Rattle.std.specs.Prelude.{codes, count_by}
 use Rattle.std.specs.Fmt.{decimal}
 use Rattle.std.proofs.lemmas.Result.{err_from_is_err_and}
-use Rattle.mp_base.specs.declared.outside.Failed.{Failed}
+use Rattle.outside.specs.declared.calls.Failed.{Failed}
 use Rattle.mp_base.specs.declared.value.Trit.TheVariants.{One, X}
-use Rattle.mp_base.specs.Outside.{Gains}
-use Rattle.mp_base.specs.Piece.{TakesAll}
-use Rattle.mp_base.proofs.Written.{written_then}
-use Rattle.mp_base.proofs.CutTexts.{cut_at}
+use Rattle.outside.specs.Outside.{Gains}
+use Rattle.outside.specs.Piece.{TakesAll}
+use Rattle.outside.proofs.Written.{written_then}
+use Rattle.outside.proofs.CutTexts.{cut_at}
 use Rattle.switch_net.specs.Sizes.{same_value}
 use Rattle.replay_run.proofs.Causes.{cause_behind, cause_passed}
 use Rattle.replay_run.proofs.Counting.{regrouped}

@@ -3,8 +3,8 @@ use Rattle.std.specs.Prelude.{codes, count_by}
 use Rattle.std.specs.Fmt.{decimal}
 use Rattle.std.proofs.lemmas.Result.{err_from_is_err_and}
 use Rattle.mp_base.specs.declared.value.Trit.TheVariants.{X}
-use Rattle.mp_base.proofs.Written.{written_then}
-use Rattle.mp_base.proofs.CutTexts.{cut_at}
+use Rattle.outside.proofs.Written.{written_then}
+use Rattle.outside.proofs.CutTexts.{cut_at}
 use Rattle.switch_net.specs.Sizes.{same_value}
 use Rattle.replay_run.proofs.Causes.{cause_behind, cause_passed}
 use Rattle.replay_run.proofs.counts.write_unknown.Goals as goal

@@ -1,5 +1,5 @@
 use Rattle.std.proofs.Common.{Option, None, Result, Ok}
-use Rattle.mp_base.specs.Outside.{Files}
+use Rattle.outside.specs.Outside.{Files}
 use Rattle.stimulus.specs.declared.given.Stimulus.{Stimulus}
 use Rattle.outcome.specs.declared.halt.Halt.{Halt}
 use Rattle.outcome.specs.Order.{Fault}

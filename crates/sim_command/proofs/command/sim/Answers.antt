@@ -1,7 +1,7 @@
 use Rattle.std.proofs.Common.{refl, []}
 use Rattle.sim_command.specs.Work.{work}
 use Rattle.outcome.specs.Halt.{halt_of}
-use Rattle.mp_base.proofs.Told.{keeps_same}
+use Rattle.outside.proofs.Told.{keeps_same}
 use Rattle.outcome.proofs.EndsLemmas.{leaves_halted, leaves_done, leaves_cut}
 use Rattle.sim_command.proofs.Simulating.{ends_set_up, ends_refused, no_fault, shows_simulation}
 use Rattle.outcome.proofs.Causes.{print_failed}

@@ -1,7 +1,7 @@
 use Rattle.std.proofs.Common.{Option, Some, Result, Ok, subst}
 use Rattle.mp_program.specs.Pads.{ArePadsOf}
 use Rattle.mp_checker.specs.Checking.{CheckedProgram}
-use Rattle.mp_base.specs.Outside.{Files, bytes_of}
+use Rattle.outside.specs.Outside.{Files, bytes_of}
 use Rattle.stimulus.specs.declared.given.Stimulus.{Stimulus}
 use Rattle.outcome.specs.declared.halt.Halt.{Halt}
 use Rattle.outcome.specs.Order.{Fault}

@@ -3,13 +3,13 @@ use Rattle.std.proofs.Common.{append_assoc, codes}
 use Rattle.std.specs.Prelude.{decimal}
 use Rattle.std.proofs.lemmas.List.{take_all}
 use Rattle.std.proofs.lemmas.Result.{err_from_is_err_and}
-use Rattle.mp_base.specs.Outside.{WhereTold, Gains}
-use Rattle.mp_base.specs.Piece.{TakesAll}
-use Rattle.mp_base.specs.declared.outside.Failed.{Failed}
+use Rattle.outside.specs.Outside.{WhereTold, Gains}
+use Rattle.outside.specs.Piece.{TakesAll}
+use Rattle.outside.specs.declared.calls.Failed.{Failed}
 use Rattle.mp_base.specs.declared.pad.Pad.{Pad}
 use Rattle.mp_base.specs.declared.value.TritWord.{TritWord}
-use Rattle.mp_base.proofs.Told.{gains_twice}
-use Rattle.mp_base.proofs.Written.{gained, gained_then, cut_before}
+use Rattle.outside.proofs.Told.{gains_twice}
+use Rattle.outside.proofs.Written.{gained, gained_then, cut_before}
 use Rattle.stimulus.proofs.Texts.{word_text, word_texts, line_split, texts_more}
 use Rattle.stimulus.proofs.transcript.line.Goals as goal
 

@@ -1,6 +1,6 @@
 use Rattle.std.proofs.Common.{◌≡◌, ◌++◌, take}
 use Rattle.std.specs.Prelude.{decimal}
-use Rattle.mp_base.specs.Outside.{WhereTold, Gains}
+use Rattle.outside.specs.Outside.{WhereTold, Gains}
 use Rattle.stimulus.proofs.Texts.{word_texts}
 use Rattle.stimulus.proofs.transcript.line.Given as goal
 

@@ -1,11 +1,11 @@
 use Rattle.std.proofs.Common.{ℕ, List, ◌++◌, Err, codes, subst}
 use Rattle.std.proofs.lemmas.Result.{err_from_is_err_and}
-use Rattle.mp_base.specs.Outside.{WhereTold, Gains}
-use Rattle.mp_base.specs.Piece.{TakesAll}
-use Rattle.mp_base.specs.declared.outside.Failed.{Failed}
+use Rattle.outside.specs.Outside.{WhereTold, Gains}
+use Rattle.outside.specs.Piece.{TakesAll}
+use Rattle.outside.specs.declared.calls.Failed.{Failed}
 use Rattle.stimulus.specs.Bits.{pad_trits}
 use Rattle.stimulus.specs.Transcript.{bits_text}
-use Rattle.mp_base.proofs.Written.{gained, gained_then, cut_before}
+use Rattle.outside.proofs.Written.{gained, gained_then, cut_before}
 use Rattle.stimulus.proofs.transcript.write_pad.Goals as goal
 
 pub returns-in_err-write_all-2-clause-taken : goal.returns-in_err-write_all-2-clause-taken

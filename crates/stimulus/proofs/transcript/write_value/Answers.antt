@@ -1,6 +1,6 @@
 use Rattle.std.proofs.Common.{List, ℕ, ◌∙◌, subst}
-use Rattle.mp_base.specs.Outside.{Gains}
-use Rattle.mp_base.specs.Piece.{TakesAll}
+use Rattle.outside.specs.Outside.{Gains}
+use Rattle.outside.specs.Piece.{TakesAll}
 use Rattle.stimulus.proofs.Bits.{text_where_known, text_where_unknown}
 use Rattle.stimulus.proofs.transcript.write_value.Goals as goal
 

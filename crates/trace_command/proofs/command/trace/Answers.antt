@@ -1,7 +1,7 @@
 use Rattle.std.proofs.Common.{refl, []}
 use Rattle.trace_command.specs.Work.{work}
 use Rattle.outcome.specs.declared.halt.Halt.TheVariants.{NoMemory}
-use Rattle.mp_base.proofs.Told.{keeps_same}
+use Rattle.outside.proofs.Told.{keeps_same}
 use Rattle.outcome.proofs.EndsLemmas.{leaves_halted, leaves_done, leaves_cut}
 use Rattle.outcome.proofs.Causes.{without_memory, print_failed}
 use Rattle.stages.proofs.Ending.{causes_halted}

@@ -1,6 +1,6 @@
 use Rattle.std.proofs.Common.{◌∙◌, ℕ, refl, arith}
 use Rattle.std.proofs.lemmas.Result.{err_from_is_err_and}
-use Rattle.mp_base.specs.declared.outside.Failed.{Failed}
+use Rattle.outside.specs.declared.calls.Failed.{Failed}
 use Rattle.transcript.proofs.Transcripts.{printed_none, printed_more, printed_all, printed_cut}
 use Rattle.transcript.proofs.running.run.Goals as goal
 

@@ -1,5 +1,5 @@
 use Rattle.std.proofs.Common.{sym, subst}
-use Rattle.mp_base.specs.declared.outside.Failed.{Failed}
+use Rattle.outside.specs.declared.calls.Failed.{Failed}
 use Rattle.sim_run.specs.Simulation.{Simulating}
 use Rattle.replay_run.specs.Replay.{IsReady, PrintsReplay}
 use Rattle.replay_run.proofs.replay.Replay.run.Goals as goal
