@@ -9,15 +9,15 @@ use Rattle.std.proofs.lemmas.Fmt.{decimal_is_IsNumeral, length-decimal-le}
 use Rattle.mp_base.specs.declared.pad.Pads.{Pads}
 use Rattle.stimulus.specs.declared.given.Given.{Given}
 use Rattle.stimulus.specs.declared.given.Stimulus.{Stimulus}
-use Rattle.stimulus.specs.declared.piece.Piece.{Piece}
-use Rattle.stimulus.specs.declared.form.Assignment.{Assignment}
-use Rattle.stimulus.specs.declared.form.Form.TheVariants.{Clock}
+use Rattle.stimulus_lines.specs.declared.piece.Piece.{Piece}
+use Rattle.stimulus_lines.specs.declared.form.Assignment.{Assignment}
+use Rattle.stimulus_lines.specs.declared.form.Form.TheVariants.{Clock}
 use Rattle.stimulus.specs.declared.reading.Reading.{Reading}
-use Rattle.stimulus.specs.Forms.{IsNumber}
+use Rattle.stimulus_lines.specs.Forms.{IsNumber}
 use Rattle.stimulus.specs.Rules.{AreGiven, Adds}
 use Rattle.stimulus.specs.Reading.{Reads, nothing, IsStimulus}
 use Rattle.stimulus.specs.Fitting.{is_fitting_clock, are_fitting}
-use Rattle.stimulus.specs.Words.{words_of_lines, lines}
+use Rattle.stimulus_lines.specs.Words.{words_of_lines, lines}
 use Rattle.program_maker.specs.Draws.{after, draw, below}
 use Rattle.program_maker.specs.Texts as made
 use Rattle.program_maker.specs.Texts.{stimulus_text}

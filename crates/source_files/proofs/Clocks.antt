@@ -7,12 +7,12 @@ use Rattle.std.specs.Str.{bytes_eq}
 use Rattle.mp_base.specs.declared.pad.Pads.{Pads}
 use Rattle.stimulus.specs.declared.given.Given.{Given}
 use Rattle.stimulus.specs.declared.given.Stimulus.{Stimulus}
-use Rattle.stimulus.specs.declared.piece.Piece.{Piece}
-use Rattle.stimulus.specs.declared.form.Form.{Form}
-use Rattle.stimulus.specs.declared.form.Form.TheVariants.{Input, Output, Clock}
+use Rattle.stimulus_lines.specs.declared.piece.Piece.{Piece}
+use Rattle.stimulus_lines.specs.declared.form.Form.{Form}
+use Rattle.stimulus_lines.specs.declared.form.Form.TheVariants.{Input, Output, Clock}
 use Rattle.stimulus.specs.declared.reading.Reading.{Reading}
-use Rattle.stimulus.specs.Words.{lines}
-use Rattle.stimulus.specs.Forms.{IsForm, is_clock}
+use Rattle.stimulus_lines.specs.Words.{lines}
+use Rattle.stimulus_lines.specs.Forms.{IsForm, is_clock}
 use Rattle.stimulus.specs.Rules.{AddsForm, IsFull}
 use Rattle.stimulus.specs.Reading.{IsStimulus, Reads, nothing}
 

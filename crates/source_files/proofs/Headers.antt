@@ -4,11 +4,11 @@ use Rattle.std.proofs.lemmas.List.{length-append}
 use Rattle.std.proofs.lemmas.Bool.{ltb-true, and_parts}
 use Rattle.mp_base.specs.declared.pad.Pad.{Pad}
 use Rattle.stimulus.specs.declared.given.Stimulus.{Stimulus}
-use Rattle.stimulus.specs.declared.piece.Piece.{Piece}
-use Rattle.stimulus.specs.declared.form.Form.{Form}
-use Rattle.stimulus.specs.declared.form.Form.TheVariants.{Input, Output, Clock}
+use Rattle.stimulus_lines.specs.declared.piece.Piece.{Piece}
+use Rattle.stimulus_lines.specs.declared.form.Form.{Form}
+use Rattle.stimulus_lines.specs.declared.form.Form.TheVariants.{Input, Output, Clock}
 use Rattle.stimulus.specs.declared.reading.Reading.{Reading}
-use Rattle.stimulus.specs.Words.{lines}
+use Rattle.stimulus_lines.specs.Words.{lines}
 use Rattle.stimulus.specs.Rules.{AddsForm, IsInPlace, is_new_pad}
 use Rattle.stimulus.specs.Reading.{IsStimulus, Reads, nothing}
 

@@ -7,14 +7,14 @@ use Rattle.stimulus.specs.declared.fault.Fault.TheVariants.{NoMemory, Breaks}
 use Rattle.mp_base.specs.declared.pad.Pad.{Pad}
 use Rattle.mp_base.specs.declared.pad.Pads.{Pads}
 use Rattle.stimulus.specs.declared.given.Given.{Given}
-use Rattle.stimulus.specs.declared.piece.Piece.{Piece}
-use Rattle.stimulus.specs.declared.form.Assignment.{Assignment}
-use Rattle.stimulus.specs.declared.form.Form.{Form}
+use Rattle.stimulus_lines.specs.declared.piece.Piece.{Piece}
+use Rattle.stimulus_lines.specs.declared.form.Assignment.{Assignment}
+use Rattle.stimulus_lines.specs.declared.form.Form.{Form}
 use Rattle.stimulus.specs.declared.reading.Reading.{Reading}
-use Rattle.stimulus.specs.Forms.{IsForm}
+use Rattle.stimulus_lines.specs.Forms.{IsForm}
 use Rattle.stimulus.specs.Rules.{IsGiven, IsMisfit, AreGiven, FirstMisfit, IsInPlace, IsFull, AddsForm, Adds, FirstIn}
 use Rattle.stimulus.specs.Rules.{FormFault, IsFault, formless, misfit, misplaced, unfit}
-use Rattle.stimulus.proofs.Unique.{form_once}
+use Rattle.stimulus_lines.proofs.Unique.{form_once}
 
 -- one word more
 pub given_push : (inputs : List Pad) (xs : List Assignment) (x : Assignment) (gs : List Given) (g : Given)

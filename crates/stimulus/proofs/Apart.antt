@@ -12,7 +12,7 @@ use Rattle.std.proofs.lemmas.Map.Text.{is_eq-slice_cmp}
 use Rattle.std.proofs.lemmas.Bool.Decides.{same_from_decides, Decides-like}
 use Rattle.std.proofs.lemmas.List.Folds.{list_any_more}
 use Rattle.std.proofs.lemmas.Slice.Eq.{bytes_eq-Decides}
-use Rattle.stimulus.specs.declared.form.Assignment.{Assignment}
+use Rattle.stimulus_lines.specs.declared.form.Assignment.{Assignment}
 
 abbrev pub AreApart : List Assignment → Type 0
 AreApart xs = AllPairs (λ (a b : Assignment). a.name ≢ b.name) xs

@@ -1,19 +1,19 @@
 -- A text has at most one first broken rule, at one place.
-use Rattle.std.proofs.Common.{◌≡◌, ℕ, List, [], ◌∷◌, refl, sym, ◌∙◌, ap, subst, inl, inr, Option, Some, None}
+use Rattle.std.proofs.Common.{◌≡◌, ℕ, List, [], ◌∷◌, sym, ◌∙◌, ap, subst, inl, inr, Option, Some, None}
 use Rattle.mp_base.specs.Lines.{place_at}
 use Rattle.mp_base.specs.declared.pad.Pad.{Pad}
 use Rattle.mp_base.specs.declared.pad.Pads.{Pads}
 use Rattle.mp_base.specs.declared.refusal.Place.{Place}
-use Rattle.stimulus.specs.declared.piece.Piece.{Piece}
-use Rattle.stimulus.specs.declared.form.Assignment.{Assignment}
-use Rattle.stimulus.specs.declared.form.Form.{Form}
-use Rattle.stimulus.specs.declared.form.Form.TheVariants.{Input, Output, Clock}
+use Rattle.stimulus_lines.specs.declared.piece.Piece.{Piece}
+use Rattle.stimulus_lines.specs.declared.form.Assignment.{Assignment}
+use Rattle.stimulus_lines.specs.declared.form.Form.{Form}
+use Rattle.stimulus_lines.specs.declared.form.Form.TheVariants.{Input, Output, Clock}
 use Rattle.stimulus.specs.declared.reading.Reading.{Reading}
-use Rattle.stimulus.specs.Words.{lines}
-use Rattle.stimulus.specs.Rules.{input_named, inputs_of, IsMisfit, FirstMisfit, Misfits, FirstIn, full, formless}
+use Rattle.stimulus_lines.specs.Words.{lines}
+use Rattle.stimulus.specs.Rules.{inputs_of, IsMisfit, FirstMisfit, Misfits, FirstIn, full, formless}
 use Rattle.stimulus.specs.Rules.{misfit}
 use Rattle.stimulus.specs.Reading.{nothing, FirstBroken, IsFirst}
-use Rattle.stimulus.proofs.Unique.{form_once}
+use Rattle.stimulus_lines.proofs.Unique.{form_once}
 use Rattle.stimulus.proofs.Once.{adds_once, fits_no_misfit, line_no}
 
 no_some : {i : ℕ} {o : Option ℕ} → o ≡ None → o ≡ Some i → ⊥

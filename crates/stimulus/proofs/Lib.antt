@@ -1,14 +1,11 @@
 pub mod Adding
 pub mod Apart
 pub mod Bits
-pub mod Cutting
 pub mod Fitness
 pub mod Giving
 pub mod Naming
-pub mod Numbers
 pub mod Once
 pub mod Stepping
-pub mod Unique
 pub mod Values
 pub mod Texts
 pub mod FirstOnce

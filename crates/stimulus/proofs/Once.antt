@@ -6,16 +6,16 @@ use Rattle.mp_base.specs.declared.pad.Pad.{Pad}
 use Rattle.mp_base.specs.declared.pad.Pads.{Pads}
 use Rattle.stimulus.specs.declared.given.Given.{Given}
 use Rattle.stimulus.specs.declared.given.Stimulus.{Stimulus}
-use Rattle.stimulus.specs.declared.piece.Piece.{Piece}
-use Rattle.stimulus.specs.declared.form.Assignment.{Assignment}
-use Rattle.stimulus.specs.declared.form.Form.{Form}
-use Rattle.stimulus.specs.declared.form.Form.TheVariants.{Input, Output, Clock}
+use Rattle.stimulus_lines.specs.declared.piece.Piece.{Piece}
+use Rattle.stimulus_lines.specs.declared.form.Assignment.{Assignment}
+use Rattle.stimulus_lines.specs.declared.form.Form.{Form}
+use Rattle.stimulus_lines.specs.declared.form.Form.TheVariants.{Input, Output, Clock}
 use Rattle.stimulus.specs.declared.reading.Reading.{Reading}
-use Rattle.stimulus.specs.Words.{lines}
+use Rattle.stimulus_lines.specs.Words.{lines}
 use Rattle.stimulus.specs.Rules.{bound, input_named, inputs_of, IsGiven, IsMisfit, AreGiven, FirstMisfit, Misfits}
 use Rattle.stimulus.specs.Rules.{AddsForm, Adds, FirstIn, full, formless, misfit}
 use Rattle.stimulus.specs.Reading.{nothing, Reads, FirstBroken, IsStimulus}
-use Rattle.stimulus.proofs.Unique.{form_once}
+use Rattle.stimulus_lines.proofs.Unique.{form_once}
 
 given_once : (inputs : List Pad) (a : Assignment) (g h : Given) → IsGiven inputs a g → IsGiven inputs a h → g ≡ h
 given_once inputs a g h p q =

@@ -7,11 +7,11 @@ use Rattle.std.specs.Option.{option_copied}
 use Rattle.std.proofs.lemmas.Bool.{and_parts, ltb-true}
 use Rattle.std.proofs.lemmas.List.{length-append}
 use Rattle.mp_base.specs.declared.pad.Pads.{Pads}
-use Rattle.stimulus.specs.declared.piece.Piece.{Piece}
-use Rattle.stimulus.specs.declared.form.Form.{Form}
-use Rattle.stimulus.specs.declared.form.Form.TheVariants.{Input, Output, Clock}
+use Rattle.stimulus_lines.specs.declared.piece.Piece.{Piece}
+use Rattle.stimulus_lines.specs.declared.form.Form.{Form}
+use Rattle.stimulus_lines.specs.declared.form.Form.TheVariants.{Input, Output, Clock}
 use Rattle.stimulus.specs.declared.reading.Reading.{Reading}
-use Rattle.stimulus.specs.Words.{is_skipped, kept_before}
+use Rattle.stimulus_lines.specs.Words.{is_skipped, kept_before}
 use Rattle.stimulus.specs.Rules.{inputs_of, IsInPlace, AddsForm}
 use Rattle.stimulus.specs.Reading.{Reads, FirstBroken}
 

@@ -1,5 +1,3 @@
-pub mod Words
-pub mod Forms
 pub mod Rules
 pub mod Reading
 pub mod Fitting

@@ -4,9 +4,9 @@ use Rattle.mp_base.specs.declared.pad.Pads.{Pads}
 use Rattle.mp_base.specs.declared.refusal.Place.{Place}
 use Rattle.mp_base.specs.Lines.{place_at}
 use Rattle.stimulus.specs.declared.given.Stimulus.{Stimulus}
-use Rattle.stimulus.specs.declared.piece.Piece.{Piece}
+use Rattle.stimulus_lines.specs.declared.piece.Piece.{Piece}
 use Rattle.stimulus.specs.declared.reading.Reading.{Reading}
-use Rattle.stimulus.specs.Words.{lines}
+use Rattle.stimulus_lines.specs.Words.{lines}
 use Rattle.stimulus.specs.Rules.{Adds, FirstIn, inputs_of, outputs_of}
 
 -- before the first line

@@ -8,14 +8,14 @@ use Rattle.mp_base.specs.declared.pad.Pads.{Pads}
 use Rattle.mp_base.specs.PadNames.{supplies}
 use Rattle.stimulus.specs.declared.limits.TheConstants.{CLOCK_LIMIT, PAD_LIMIT}
 use Rattle.stimulus.specs.declared.given.Given.{Given}
-use Rattle.stimulus.specs.declared.piece.Piece.{Piece}
-use Rattle.stimulus.specs.declared.form.Assignment.{Assignment}
-use Rattle.stimulus.specs.declared.form.Form.{Form}
-use Rattle.stimulus.specs.declared.form.Form.TheVariants.{Input, Output, Clock}
+use Rattle.stimulus_lines.specs.declared.piece.Piece.{Piece}
+use Rattle.stimulus_lines.specs.declared.form.Assignment.{Assignment}
+use Rattle.stimulus_lines.specs.declared.form.Form.{Form}
+use Rattle.stimulus_lines.specs.declared.form.Form.TheVariants.{Input, Output, Clock}
 use Rattle.stimulus.specs.declared.reading.Reading.{Reading}
 use Rattle.stimulus.specs.declared.fault.Fault.{Fault}
 use Rattle.stimulus.specs.declared.fault.Fault.TheVariants.{NoMemory, Breaks}
-use Rattle.stimulus.specs.Forms.{IsForm, is_clock}
+use Rattle.stimulus_lines.specs.Forms.{IsForm, is_clock}
 
 -- the names that no pad of a header may have
 abbrev pub is_reserved : List ℕ → Bool

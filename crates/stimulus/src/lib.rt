@@ -2,13 +2,10 @@
 #![tactic(auto)]
 
 mod fault;
-mod form;
 mod given;
 mod law;
 mod limits;
 mod lines;
-mod part;
-mod piece;
 mod read;
 mod reading;
 mod rules;

@@ -2,19 +2,18 @@
 
 ghost use Rattle.std.specs.Prelude.{◌≡◌, ◌↔◌, IsTrue, ◌+◌, ◌<◌, ◌≤◌, ◌^◌, List, length, OnOk, IfOk, IfErr};
 ghost use Rattle.std.specs.Option.{option_copied};
-ghost use Rattle.stimulus.specs.declared.form.Form.TheVariants.{Input, Output, Clock};
+ghost use Rattle.stimulus_lines.specs.declared.form.Form.TheVariants.{Input, Output, Clock};
 ghost use Rattle.stimulus.specs.Rules.{is_new_pad, is_known, IsFull, start_of, second_of, inputs_of, IsGiven, IsMisfit, AreGiven, FirstMisfit, IsFault, IsInPlace, AddsForm, FormFault, Adds, FirstIn};
 ghost use Rattle.stimulus.specs.Reading.{nothing};
 
 use crate::fault::Fault;
-use crate::form::{Assignment, Form, is_clock, read_form};
 use crate::given::Given;
 use crate::limits::{CLOCK_LIMIT, PAD_LIMIT};
-use crate::piece::Piece;
 use crate::reading::Reading;
 use crate::rules::{are_apart, fits, has_pad, has_same, input_named, is_reserved};
 use mp_base::{List, Pad, Pads};
 use std::alloc::Global;
+use stimulus_lines::{Assignment, Form, Piece, is_clock, read_form};
 
 fn start_of(line: &[Piece]) -> u32
     ensures { result ≡ start_of line.now }

@@ -1,37 +1,22 @@
 //! Reading a stimulus file.
 
-ghost use Rattle.std.specs.Prelude.{◌≡◌, ◌+◌, ◌<◌, ◌≤◌, ◌^◌, List, [], length, OnOk, IfOk, IfErr, IfSome, IsTrue, cond, nat_lt, slice_range, true};
+ghost use Rattle.std.specs.Prelude.{◌≡◌, ◌+◌, ◌<◌, ◌^◌, [], length, OnOk, IfOk, IfErr, IfSome, true};
 ghost use Rattle.std.specs.Option.{option_copied};
-ghost use Rattle.std.specs.Str.Lines.{strip_carriage_return};
 ghost use Rattle.mp_base.specs.Lines.{place_at};
 ghost use Rattle.mp_base.specs.PadNames.{ArePadNames, names_of};
 ghost use Rattle.mp_base.specs.Refuses.{RefusesAt};
 ghost use Rattle.mp_base.specs.declared.refusal.Family.TheVariants.{S};
-ghost use Rattle.stimulus.specs.Words.{lines, kept_before};
+ghost use Rattle.stimulus_lines.specs.Words.{lines, kept_before};
 ghost use Rattle.stimulus.specs.Rules.{inputs_of, outputs_of, IsFault};
 ghost use Rattle.stimulus.specs.Reading.{nothing, Reads, FirstBroken, IsStimulus, IsFirst};
 ghost use Rattle.stimulus.specs.Fitting.{are_fitting};
 
 use crate::fault::Fault;
 use crate::given::Stimulus;
-use crate::piece::{Piece, is_skipped, line_end, take_words, without_return};
 use crate::reading::Reading;
 use mp_base::{Broken, Family, List, NoMemory, Pads, Place, Refusal, Rule, Spot};
 use std::alloc::Global;
-
-/// The line from its start to its end, without a carriage return before its line feed.
-fn line_at(text: &[u8], start: usize, end: usize) -> &[u8]
-    requires order { start ≤ end }
-    requires within { end ≤ length text.now }
-    ensures { result.now ≡ cond (nat_lt end (length text.now)) (strip_carriage_return (slice_range text.now start end)) (slice_range text.now start end) }
-{
-    let line = &text[start..end];
-    if end < text.len() {
-        without_return(line)
-    } else {
-        line
-    }
-}
+use stimulus_lines::{Piece, is_skipped, line_at, line_end, take_words};
 
 /// Adds what a line says, unless it is skipped.
 fn add_line(

@@ -4,13 +4,13 @@ ghost use Rattle.std.specs.Prelude.{◌≡◌, ◌≢◌, ℕ, ◌<◌, ◌≤�
 ghost use Rattle.std.specs.List.{list_any};
 ghost use Rattle.std.specs.Str.{bytes_eq};
 ghost use Rattle.stimulus.specs.Rules.{has_pad, is_reserved, is_same, bits_of, bound, input_named};
-ghost use Rattle.stimulus.specs.declared.form.Assignment.{Assignment as Word};
+ghost use Rattle.stimulus_lines.specs.declared.form.Assignment.{Assignment as Word};
 
-use crate::form::Assignment;
 use crate::given::Given;
 use mp_base::{List, Pad};
 use std::alloc::{AllocError, Global};
 use std::collections::BTreeSet;
+use stimulus_lines::Assignment;
 
 /// Whether one of the pads has this name.
 pub(crate) fn has_pad(name: &[u8], pads: &[Pad]) -> bool

@@ -1,4 +1,4 @@
-use Rattle.stimulus.specs.Words.{lines}
+use Rattle.stimulus_lines.specs.Words.{lines}
 use Rattle.stimulus.specs.Reading.{nothing}
 use Rattle.stimulus.proofs.Once.{reads_no}
 use Rattle.stimulus.proofs.FirstOnce.{first_once}

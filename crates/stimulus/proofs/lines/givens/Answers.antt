@@ -1,7 +1,7 @@
 use Rattle.std.proofs.Common.{◌≡◌, ℕ, ◌+◌, List, [], ◌∷◌, ◌++◌, take, sym, ◌∙◌, ap, subst}
 use Rattle.std.proofs.lemmas.Result.{err_from_is_err_and}
 use Rattle.std.proofs.lemmas.List.{take_more}
-use Rattle.stimulus.specs.declared.form.Assignment.{Assignment}
+use Rattle.stimulus_lines.specs.declared.form.Assignment.{Assignment}
 use Rattle.stimulus.specs.declared.given.Given.{Given}
 use Rattle.stimulus.specs.Rules.{IsGiven, IsMisfit, AreGiven, FirstMisfit, IsFault}
 use Rattle.stimulus.proofs.Adding.{given_push, first_misfit, fault_at}

@@ -1,7 +1,7 @@
 use Rattle.std.proofs.Common.{◌≡◌, List, [], ◌∷◌, sym, ◌∙◌, subst, inl}
 use Rattle.std.specs.Option.{option_copied}
-use Rattle.stimulus.specs.declared.piece.Piece.{Piece}
-use Rattle.stimulus.specs.Words.{kept_before}
+use Rattle.stimulus_lines.specs.declared.piece.Piece.{Piece}
+use Rattle.stimulus_lines.specs.Words.{kept_before}
 use Rattle.stimulus.specs.Reading.{FirstBroken}
 use Rattle.stimulus.proofs.Adding.{fault_weaker}
 use Rattle.std.proofs.lemmas.Bool.{cond-false}

@@ -7,13 +7,13 @@ use Rattle.std.specs.Str.Lines.{strip_carriage_return}
 use Rattle.std.proofs.lemmas.Bool.{cond-true, cond-false, lt-ltb, le-ltb, cases_lt}
 use Rattle.std.proofs.lemmas.Result.{err_from_is_err_and}
 use Rattle.mp_base.specs.declared.pad.Pads.{Pads}
-use Rattle.stimulus.specs.declared.piece.Piece.{Piece}
+use Rattle.stimulus_lines.specs.declared.piece.Piece.{Piece}
 use Rattle.stimulus.specs.declared.reading.Reading.{Reading}
-use Rattle.stimulus.specs.Words.{is_feed, words_of, words_of_lines, kept_before}
+use Rattle.stimulus_lines.specs.Words.{is_feed, words_of, words_of_lines, kept_before}
 use Rattle.stimulus.specs.Rules.{IsFault}
 use Rattle.stimulus.specs.Reading.{Reads, FirstBroken}
 use Rattle.stimulus.proofs.Adding.{fault_at}
-use Rattle.stimulus.proofs.Cutting.{lines_more, lines_last}
+use Rattle.stimulus_lines.proofs.Cutting.{lines_more, lines_last}
 use Rattle.stimulus.proofs.Stepping.{reads_more, broken_here, broken_later, few_more, few_inputs}
 use Rattle.stimulus.proofs.read.read_lines.Goals as goal
 

@@ -1,5 +1,5 @@
 use Rattle.std.specs.Option.{option_copied}
-use Rattle.stimulus.specs.Words.{lines}
+use Rattle.stimulus_lines.specs.Words.{lines}
 use Rattle.stimulus.specs.Reading.{Reads, nothing}
 use Rattle.stimulus.proofs.Naming.{named_read}
 use Rattle.stimulus.proofs.Fitness.{fits_read}

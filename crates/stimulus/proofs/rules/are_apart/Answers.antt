@@ -6,7 +6,7 @@ use Rattle.std.specs.Cmp.Lexicographic.{slice_cmp}
 use Rattle.std.specs.Ordering.{nat_cmp, is_eq}
 use Rattle.std.proofs.lemmas.Bool.{false≢true, not-true, not-false}
 use Rattle.std.proofs.lemmas.List.{take_all}
-use Rattle.stimulus.specs.declared.form.Assignment.{Assignment}
+use Rattle.stimulus_lines.specs.declared.form.Assignment.{Assignment}
 use Rattle.stimulus.proofs.Apart.{AreApart, has_name, apart_more, apart_not, seen_more}
 use Rattle.stimulus.proofs.rules.are_apart.Goals as goal
 

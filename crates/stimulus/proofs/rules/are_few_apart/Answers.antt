@@ -1,7 +1,7 @@
 use Rattle.std.proofs.Common.{◌≡◌, ℕ, List, true, false, take, refl, sym, ◌∙◌, ap, subst}
 use Rattle.std.proofs.lemmas.Bool.{false≢true}
 use Rattle.std.proofs.lemmas.List.{take_all}
-use Rattle.stimulus.specs.declared.form.Assignment.{Assignment}
+use Rattle.stimulus_lines.specs.declared.form.Assignment.{Assignment}
 use Rattle.stimulus.proofs.Apart.{AreApart, has_name, apart_more, apart_not}
 use Rattle.stimulus.proofs.rules.are_few_apart.Goals as goal
 

@@ -2,9 +2,9 @@ use Rattle.std.proofs.Common.{Option, Some, ◌∙◌, ap, subst}
 use Rattle.std.specs.Prelude.{MatchOption}
 use Rattle.std.specs.Option.{option_copied}
 use Rattle.std.proofs.lemmas.Bool.{iff_false}
-use Rattle.stimulus.specs.declared.form.Form.{Form}
-use Rattle.stimulus.specs.declared.form.Form.TheVariants.{Input, Output, Clock}
-use Rattle.stimulus.specs.Forms.{IsForm}
+use Rattle.stimulus_lines.specs.declared.form.Form.{Form}
+use Rattle.stimulus_lines.specs.declared.form.Form.TheVariants.{Input, Output, Clock}
+use Rattle.stimulus_lines.specs.Forms.{IsForm}
 use Rattle.stimulus.proofs.Adding.{first_fault, fault_weaker}
 use Rattle.stimulus.proofs.reading.Reading.add.Goals as goal
 

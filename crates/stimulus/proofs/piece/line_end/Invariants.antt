@@ -1,6 +1,0 @@
-use Rattle.std.proofs.Common.{◌≡◌, ℕ, ◌<◌, ◌≤◌, false, slice_index}
-use Rattle.stimulus.specs.Words.{is_feed}
-use Rattle.stimulus.proofs.piece.line_end.Given as goal
-
-abbrev pub invariant-loop-i : goal.invariant-loop-i
-invariant-loop-i l = (k : ℕ) → l.from ≤ k → k < l.i → is_feed (slice_index l.text k) ≡ false

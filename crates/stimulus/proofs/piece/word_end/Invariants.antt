@@ -1,6 +1,0 @@
-use Rattle.std.proofs.Common.{◌≡◌, ℕ, ◌<◌, ◌≤◌, false, slice_index}
-use Rattle.stimulus.specs.Words.{is_blank}
-use Rattle.stimulus.proofs.piece.word_end.Given as goal
-
-abbrev pub invariant-loop-i : goal.invariant-loop-i
-invariant-loop-i l = (k : ℕ) → l.from ≤ k → k < l.i → is_blank (slice_index l.line k) ≡ false

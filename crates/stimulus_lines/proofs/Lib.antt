@@ -1,0 +1,4 @@
+pub mod Cutting
+pub mod FormsDecided
+pub mod Numbers
+pub mod Unique

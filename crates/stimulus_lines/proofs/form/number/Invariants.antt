@@ -1,0 +1,10 @@
+use Rattle.std.proofs.Common.{◌≡◌, ◌<◌, ◌^◌, take}
+use Rattle.std.specs.Str.Parse.{AllDigits, digits_value}
+use Rattle.stimulus_lines.proofs.form.number.Given as goal
+
+abbrev pub invariant-loop-digit : goal.invariant-loop-digit
+invariant-loop-digit l = record {
+  digits : AllDigits 10 (take l.digit-index l.digits);
+  number : l.number ≡ digits_value 10 (take l.digit-index l.digits);
+  below : l.number < 2 ^ 64;
+}
