@@ -16,7 +16,7 @@ use Rattle.mp_shapes.specs.declared.table.Class.TheVariants.{Whole, Item, Elemen
 use Rattle.mp_shapes.specs.Layout.{value_layout}
 use Rattle.mp_program.specs.declared.program.ExprKind.TheVariants.{Named, True, False, Apply}
 use Rattle.mp_program.specs.declared.program.Expr.{Expr}
-use Rattle.mp_syntax.specs.Shape.{nodes_below, ranks, stands_for_expr, stands_for_form, list_expr, symbol_expr}
+use Rattle.mp_entries.specs.Entries.{nodes_below, ranks, stands_for_expr, stands_for_form, list_expr, symbol_expr}
 use Rattle.program_maker.specs.Texts.{operands}
 use Rattle.mp_program.specs.Names.{is_same}
 use Rattle.made_program.specs.Made.{Row, AreRows, exprs_from}

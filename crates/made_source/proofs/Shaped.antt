@@ -6,8 +6,9 @@ use Rattle.mp_base.specs.declared.refusal.Place.{Place}
 use Rattle.form_reader.specs.declared.forms.Forms.{Forms}
 use Rattle.form_reader.specs.Sound.{kind_at, items_of}
 use Rattle.mp_program.specs.declared.program.Program.{Program}
-use Rattle.mp_syntax.specs.Shape.{nodes_below, ranks, stands_for_expr, is_expr, is_form, number_at, expr_at, form_at}
-use Rattle.mp_syntax.specs.Shape.{def_at, process_at, expr_index, form_index, IsShape}
+use Rattle.mp_entries.specs.Entries.{nodes_below, ranks, stands_for_expr, is_expr, is_form, number_at, expr_at, form_at}
+use Rattle.mp_entries.specs.Entries.{expr_index, form_index}
+use Rattle.mp_syntax.specs.Shape.{def_at, process_at, IsShape}
 use Rattle.made_program.specs.Made.{Row, AreRows, defs_of, exprs_from, forms_from, targets, IsMade}
 use Rattle.made_source.proofs.Table.{classes, thirteen, made_forms}
 use Rattle.made_source.proofs.Standing.{classes_are}

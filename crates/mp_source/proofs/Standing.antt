@@ -21,9 +21,10 @@ use Rattle.mp_program.specs.declared.program.Form.{Form}
 use Rattle.mp_program.specs.declared.program.Label.{Label}
 use Rattle.mp_program.specs.declared.program.Process.{Process}
 use Rattle.mp_program.specs.declared.program.Program.{Program}
-use Rattle.mp_syntax.specs.Shape.{IsShape, name_at, pin_at, pin_nodes, def_of, def_in, def_at, form_kind, form_at}
-use Rattle.mp_syntax.specs.Shape.{expr_at, labels_from, process_of, process_in, process_at, nodes_below, expr_index}
-use Rattle.mp_syntax.specs.Shape.{form_index, is_expr, is_form}
+use Rattle.mp_entries.specs.Entries.{name_at, form_kind, form_at, expr_at, nodes_below, expr_index, form_index, is_expr}
+use Rattle.mp_entries.specs.Entries.{is_form}
+use Rattle.mp_syntax.specs.Shape.{IsShape, pin_at, pin_nodes, def_of, def_in, def_at, labels_from, process_of}
+use Rattle.mp_syntax.specs.Shape.{process_in, process_at}
 use Rattle.mp_rules.specs.Entries.{IsAt}
 use Rattle.mp_rules.specs.Places.{HasPlace}
 use Rattle.mp_rules.proofs.ListEntries.{at_map, at_filter}

@@ -28,12 +28,11 @@ use Rattle.mp_program.specs.declared.program.Form.{Form}
 use Rattle.mp_program.specs.declared.program.Label.{Label}
 use Rattle.mp_program.specs.declared.program.Process.{Process}
 use Rattle.mp_program.specs.Fits as fits
-use Rattle.mp_syntax.specs.Shape.{always_at, always_in, branch_at, def_at, def_in, expr_at, expr_index, expr_kind}
-use Rattle.mp_syntax.specs.Shape.{form_at, form_index, form_kind, is_expr, is_form, labels_from, list_expr, name_at}
-use Rattle.mp_syntax.specs.Shape.{nodes_below, number_at, number_of, process_at, process_in, process_of, ranks}
-use Rattle.mp_syntax.specs.Shape.{symbol_expr}
+use Rattle.mp_entries.specs.Entries.{branch_at, expr_at, expr_index, expr_kind, form_at, form_index, form_kind, is_expr}
+use Rattle.mp_entries.specs.Entries.{is_form, list_expr, name_at, nodes_below, number_at, number_of, ranks, symbol_expr}
+use Rattle.mp_syntax.specs.Shape.{always_at, always_in, def_at, def_in, labels_from, process_at, process_in, process_of}
 use Rattle.mp_syntax.proofs.Counts.{Counts, HasCounts, layout_counts, shaped, NamesFit, definition_fits}
-use Rattle.mp_syntax.proofs.Numbering.{nodes_below_with, nodes_below_without}
+use Rattle.mp_entries.proofs.Numbering.{nodes_below_with, nodes_below_without}
 use Rattle.mp_syntax.proofs.Standing.{child, passes_expr, passes_form, passes_element, expr_stands, form_stands}
 use Rattle.mp_syntax.proofs.Standing.{word_fits, in_range, behind_it, less}
 

@@ -15,10 +15,10 @@ use Rattle.form_reader.specs.Sound.{IsItem, IsSound, NestsIn, nests}
 use Rattle.form_reader.proofs.Nested.{deeper}
 use Rattle.mp_program.specs.Tree.{are_low, tallest}
 use Rattle.mp_program.proofs.Tables.{table_at}
-use Rattle.mp_syntax.specs.Shape.{nodes_below}
+use Rattle.mp_entries.specs.Entries.{nodes_below}
 use Rattle.mp_syntax.proofs.Distinct.{Among}
 use Rattle.mp_syntax.proofs.Holding.{index_of}
-use Rattle.mp_syntax.proofs.Numbering.{nodes_below_with, nodes_below_without}
+use Rattle.mp_entries.proofs.Numbering.{nodes_below_with, nodes_below_without}
 use Rattle.mp_syntax.proofs.Standing.{index_is, less}
 
 tallest_within : (h : ℕ → ℕ) (d : ℕ) (ks : List ℕ) → ((z : ℕ) → Among z ks → h z ≤ d) → tallest h ks ≤ d

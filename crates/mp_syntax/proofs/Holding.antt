@@ -11,7 +11,7 @@ use Rattle.mp_shapes.specs.declared.table.Layout.{Layout}
 use Rattle.mp_shapes.specs.declared.table.Layout.TheVariants.{Guarded}
 use Rattle.mp_shapes.specs.Layout.{layout, item_class}
 use Rattle.mp_shapes.specs.Standing.{StandsFor}
-use Rattle.mp_syntax.specs.Shape.{nodes_below, ranks}
+use Rattle.mp_entries.specs.Entries.{nodes_below, ranks}
 use Rattle.mp_syntax.proofs.Fitting.{Known, inner}
 use Rattle.mp_syntax.proofs.Standing.{index_is, less}
 use Rattle.mp_syntax.proofs.Distinct.{Among, Distinct, among_drop, among_flat, among_map, distinct_drop, distinct_flat}

@@ -1,5 +1,3 @@
-pub mod Numbering
-pub mod InRange
 pub mod Standing
 pub mod Counts
 pub mod Fitting

@@ -23,9 +23,9 @@ use Rattle.mp_program.specs.declared.program.Expr.{Expr}
 use Rattle.mp_program.specs.declared.program.Form.{Form}
 use Rattle.mp_program.specs.declared.program.Process.{Process}
 use Rattle.mp_program.specs.Tree.{is_distinct, operands, exprs_in, inner as inner_forms, expr_places, form_places}
-use Rattle.mp_syntax.specs.Shape.{always_at, always_in, branch_at, expr_at, expr_index, expr_kind, form_at, form_index}
-use Rattle.mp_syntax.specs.Shape.{form_kind, is_expr, is_form, list_expr, nodes_below, process_at, process_in}
-use Rattle.mp_syntax.specs.Shape.{process_of}
+use Rattle.mp_entries.specs.Entries.{branch_at, expr_at, expr_index, expr_kind, form_at, form_index, form_kind, is_expr}
+use Rattle.mp_entries.specs.Entries.{is_form, list_expr, nodes_below}
+use Rattle.mp_syntax.specs.Shape.{always_at, always_in, process_at, process_in, process_of}
 use Rattle.mp_syntax.proofs.Fitting.{Known, inner, counts, guarded as guarded_shape, not_head, not_first, not_number}
 use Rattle.mp_syntax.proofs.Standing.{expr_stands, form_stands, passes_element, passes_expr, passes_form}
 use Rattle.mp_syntax.proofs.Distinct.{Among, Distinct, among_append, among_drop, among_filter, among_flat, among_map}

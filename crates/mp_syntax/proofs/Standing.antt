@@ -15,9 +15,9 @@ use Rattle.mp_shapes.specs.declared.table.Layout.{Layout}
 use Rattle.mp_shapes.specs.Layout.{layout, item_class, word_of, is_symbol}
 use Rattle.mp_shapes.specs.Standing.{StandsFor, root, item, AreClasses}
 use Rattle.mp_program.specs.Fits as fits
-use Rattle.mp_syntax.specs.Shape.{nodes_below, ranks, is_expr, is_form, stands_for_expr, stands_for_form, expr_index}
-use Rattle.mp_syntax.specs.Shape.{form_index, name_at}
-use Rattle.mp_syntax.proofs.Numbering.{nodes_below_with, nodes_below_without}
+use Rattle.mp_entries.specs.Entries.{nodes_below, ranks, is_expr, is_form, stands_for_expr, stands_for_form, expr_index}
+use Rattle.mp_entries.specs.Entries.{form_index, name_at}
+use Rattle.mp_entries.proofs.Numbering.{nodes_below_with, nodes_below_without}
 
 -- more nodes below a greater bound
 pub grows : (test : ℕ → Bool) (a k : ℕ) → length (nodes_below test a) ≤ length (nodes_below test (a + k))

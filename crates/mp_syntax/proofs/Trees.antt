@@ -16,8 +16,8 @@ use Rattle.mp_program.specs.declared.program.Form.{Form}
 use Rattle.mp_program.specs.declared.program.Process.{Process}
 use Rattle.mp_program.specs.Tree.{are_low, exprs_in, expr_heights, expr_places, form_heights, form_places}
 use Rattle.mp_program.specs.Tree.{inner as inner_forms, is_distinct, is_tree, operands}
-use Rattle.mp_syntax.specs.Shape.{always_at, expr_at, expr_index, form_at, form_index, is_expr, is_form, nodes_below}
-use Rattle.mp_syntax.specs.Shape.{process_at}
+use Rattle.mp_entries.specs.Entries.{expr_at, expr_index, form_at, form_index, is_expr, is_form, nodes_below}
+use Rattle.mp_syntax.specs.Shape.{always_at, process_at}
 use Rattle.mp_syntax.proofs.Distinct.{Among, Distinct, among_drop, distinct_drop}
 use Rattle.mp_syntax.proofs.Fitting.{Known, inner, is_program, not_number, root_inside}
 use Rattle.mp_syntax.proofs.Heights.{Under, child, grandchild, all_low}

@@ -18,8 +18,9 @@ use Rattle.mp_program.specs.declared.program.Process.{Process}
 use Rattle.mp_program.specs.declared.program.Program.{Program}
 use Rattle.mp_program.specs.Fits as fits
 use Rattle.mp_program.specs.Tree.{is_tree}
-use Rattle.mp_syntax.specs.Shape.{always_at, def_at, expr_at, expr_index, form_at, form_index, is_expr, is_form}
-use Rattle.mp_syntax.specs.Shape.{name_at, nodes_below, number_at, process_at, E11, IsShape}
+use Rattle.mp_entries.specs.Entries.{expr_at, expr_index, form_at, form_index, is_expr, is_form, name_at, nodes_below}
+use Rattle.mp_entries.specs.Entries.{number_at}
+use Rattle.mp_syntax.specs.Shape.{always_at, def_at, process_at, E11, IsShape}
 use Rattle.mp_syntax.proofs.Widths.{form_kept, width_kept}
 
 same_classes : (f : Forms) (xs ys : List (Option Class)) → AreClasses f xs → AreClasses f ys → xs ≡ ys

@@ -13,8 +13,9 @@ use Rattle.form_reader.specs.Sound.{IsSound, HasSymbols, node, kind_at, items_of
 use Rattle.mp_shapes.specs.declared.table.Class.{Class}
 use Rattle.mp_shapes.specs.Standing.{AreClasses, E10, IsFirstE10}
 use Rattle.mp_program.specs.declared.program.Program.{Program}
-use Rattle.mp_syntax.specs.Shape.{IsShape, IsFirst, number_at, name_at, def_at, always_at, process_at, expr_at, form_at}
-use Rattle.mp_syntax.specs.Shape.{expr_index, form_index, is_expr, is_form, nodes_below}
+use Rattle.mp_entries.specs.Entries.{number_at, name_at, expr_at, form_at, expr_index, form_index, is_expr, is_form}
+use Rattle.mp_entries.specs.Entries.{nodes_below}
+use Rattle.mp_syntax.specs.Shape.{IsShape, IsFirst, def_at, always_at, process_at}
 use Rattle.mp_syntax.proofs.Fitting.{Known, fits_at}
 use Rattle.mp_syntax.proofs.Trees.{whole_tree}
 use Rattle.mp_syntax.proofs.Widths.{one_form, width_refused}

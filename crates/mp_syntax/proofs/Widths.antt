@@ -14,7 +14,8 @@ use Rattle.form_reader.specs.declared.forms.Forms.{Forms}
 use Rattle.form_reader.specs.Sound.{node, kind_at, items_of}
 use Rattle.mp_shapes.specs.declared.table.Class.{Class}
 use Rattle.mp_shapes.specs.Standing.{IsDefect, E10, IsFirstE10}
-use Rattle.mp_syntax.specs.Shape.{E11, IsFirst, number_at, number_of}
+use Rattle.mp_entries.specs.Entries.{number_at, number_of}
+use Rattle.mp_syntax.specs.Shape.{E11, IsFirst}
 use Rattle.mp_syntax.proofs.Fitting.{Known, is_program, is_width}
 
 -- forms that keep rule E10 are one form

@@ -5,9 +5,9 @@ ghost use Rattle.std.specs.List.{filter_map};
 ghost use Rattle.form_reader.specs.Sound.{IsSound, items_of, kind_at};
 ghost use Rattle.mp_syntax.specs.Shape.{def_at, def_of, pin_at, pin_nodes, what_of};
 
-use crate::nodes::{item, items_at, name_at, node_at, number_at};
 use form_reader::Forms;
 use mp_base::List;
+use mp_entries::{item, items_at, name_at, node_at, number_at};
 use mp_program::{Def, Pin, Way, What};
 use mp_shapes::{Class, Definition, Layout, shape_of};
 use std::alloc::{AllocError, Global};

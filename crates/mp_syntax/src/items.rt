@@ -6,10 +6,11 @@ ghost use Rattle.form_reader.specs.Sound.{IsSound, items_of, kind_at};
 ghost use Rattle.mp_shapes.specs.Layout.{is_symbol};
 ghost use Rattle.mp_syntax.specs.Shape.{always_at, labels_from, process_at, process_of};
 
-use crate::exprs::append_entries;
-use crate::nodes::{behind, elements_at, is_symbol, item, items_at, name_at, node_at, number_at};
 use form_reader::Forms;
 use mp_base::List;
+use mp_entries::{
+    append_entries, behind, elements_at, is_symbol, item, items_at, name_at, node_at, number_at,
+};
 use mp_program::{Label, Process};
 use mp_shapes::{Class, Layout, shape_of};
 use std::alloc::{AllocError, Global};

@@ -2,13 +2,9 @@
 #![tactic(auto)]
 
 mod defs;
-mod exprs;
-mod forms;
 mod items;
 mod laws;
-mod nodes;
 mod parser;
-mod ranks;
 
 pub use laws::{forms_verdict, one_program, shaped_is_unbroken};
 pub use mp_program::{

@@ -6,16 +6,16 @@ ghost use Rattle.mp_base.specs.Refuses.{RefusesAt};
 ghost use Rattle.mp_base.specs.declared.refusal.Family.TheVariants.{E};
 ghost use Rattle.mp_base.specs.declared.refusal.Place.{Place};
 ghost use Rattle.mp_shapes.specs.Standing.{AreClasses, E10};
-ghost use Rattle.mp_syntax.specs.Shape.{E11, IsFirst, IsShape, number_at};
+ghost use Rattle.mp_entries.specs.Entries.{number_at};
+ghost use Rattle.mp_syntax.specs.Shape.{E11, IsFirst, IsShape};
 
 use crate::defs::defs_of;
-use crate::exprs::exprs_of;
-use crate::forms::forms_of;
 use crate::items::{always_of, processes_of};
-use crate::nodes::{elements_at, item, items_at, name_at, node_at, number_at};
-use crate::ranks::number;
 use form_reader::Forms;
 use mp_base::{Broken, Family, List, Place, Refusal, Rule, Spot};
+use mp_entries::{
+    elements_at, exprs_of, forms_of, item, items_at, name_at, node_at, number_at, ranks_of,
+};
 use mp_program::Program;
 use mp_shapes::{Class, judge_shapes};
 use std::alloc::{AllocError, Global};
@@ -47,7 +47,7 @@ fn program_of(
     requires high { number_at forms.now (slice_index (items_of (kind_at forms.now root)) 2) ≤ 32 }
     ensures { IfOk result (IsShape forms.now) }
 {
-    let ranks = number(alloc, forms, classes)?;
+    let ranks = ranks_of(alloc, forms, classes)?;
     let items = items_at(forms, root);
     let rest = elements_at(forms, root);
     Ok(Program {

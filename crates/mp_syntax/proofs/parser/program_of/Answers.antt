@@ -1,8 +1,9 @@
 use Rattle.std.proofs.Common.{◌≡◌, ℕ, List, [], drop, map, sym, ◌∙◌, ap, slice_index, length}
 use Rattle.std.specs.List.{filter_map, flat_map}
 use Rattle.form_reader.specs.Sound.{kind_at, items_of}
-use Rattle.mp_syntax.specs.Shape.{number_at, name_at, def_at, always_at, process_at, expr_at, form_at, expr_index}
-use Rattle.mp_syntax.specs.Shape.{form_index, is_expr, is_form, nodes_below}
+use Rattle.mp_entries.specs.Entries.{number_at, name_at, expr_at, form_at, expr_index, form_index, is_expr, is_form}
+use Rattle.mp_entries.specs.Entries.{nodes_below}
+use Rattle.mp_syntax.specs.Shape.{def_at, always_at, process_at}
 use Rattle.mp_syntax.proofs.Fitting.{Known, fits_at}
 use Rattle.mp_syntax.proofs.Trees.{tree_at}
 use Rattle.mp_syntax.proofs.parser.program_of.Goals as goal

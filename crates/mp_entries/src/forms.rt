@@ -2,7 +2,7 @@
 
 ghost use Rattle.std.specs.Prelude.{◌≡◌, ◌<◌, ◌^◌, ℕ, IfOk, length, map, slice_index};
 ghost use Rattle.form_reader.specs.Sound.{IsSound};
-ghost use Rattle.mp_syntax.specs.Shape.{branch_at, form_at, form_kind, is_form, nodes_below};
+ghost use Rattle.mp_entries.specs.Entries.{branch_at, form_at, form_kind, is_form, nodes_below};
 
 use crate::exprs::entries;
 use crate::nodes::{behind, item, items_at, name_at, node_at};

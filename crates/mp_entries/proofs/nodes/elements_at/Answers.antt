@@ -1,8 +1,8 @@
 use Rattle.std.proofs.Common.{◌≡◌, ◌<◌, ℕ, List, length, sym, ap, subst, drop, slice_index, arith}
 use Rattle.std.proofs.lemmas.List.{length-drop}
 use Rattle.form_reader.specs.Sound.{items_of, kind_at}
-use Rattle.mp_syntax.proofs.InRange.{items_few, drop_inside}
-use Rattle.mp_syntax.proofs.nodes.elements_at.Goals as goal
+use Rattle.mp_entries.proofs.InRange.{items_few, drop_inside}
+use Rattle.mp_entries.proofs.nodes.elements_at.Goals as goal
 
 pub returns-clause-inside : goal.returns-clause-inside
 returns-clause-inside c =

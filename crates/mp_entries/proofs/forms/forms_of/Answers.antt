@@ -3,10 +3,10 @@ use Rattle.std.proofs.Common.{slice_index, slice_index_or}
 use Rattle.std.proofs.lemmas.List.{get_or_read}
 use Rattle.form_reader.specs.Sound.{kind_at}
 use Rattle.mp_program.specs.declared.program.Form.{Form}
-use Rattle.mp_syntax.specs.Shape.{form_at, is_form, nodes_below, stands_for_form}
-use Rattle.mp_syntax.proofs.Numbering.{entries_with, entries_without}
-use Rattle.mp_syntax.proofs.forms.forms_of.Goals.{then-is_form+in_ok-form_of+in_ok-push, else-is_form}
-use Rattle.mp_syntax.proofs.forms.forms_of.Goals as goal
+use Rattle.mp_entries.specs.Entries.{form_at, is_form, nodes_below, stands_for_form}
+use Rattle.mp_entries.proofs.Numbering.{entries_with, entries_without}
+use Rattle.mp_entries.proofs.forms.forms_of.Goals.{then-is_form+in_ok-form_of+in_ok-push, else-is_form}
+use Rattle.mp_entries.proofs.forms.forms_of.Goals as goal
 
 pub loop-node-preserved : goal.loop-node-preserved
 loop-node-preserved c =

@@ -1,6 +1,6 @@
 use Rattle.std.proofs.Common.{◌≡◌, map, take, slice_index}
-use Rattle.mp_syntax.specs.Shape.{branch_at}
-use Rattle.mp_syntax.proofs.forms.branches_of.Given as goal
+use Rattle.mp_entries.specs.Entries.{branch_at}
+use Rattle.mp_entries.proofs.forms.branches_of.Given as goal
 
 abbrev pub invariant-loop-node : goal.invariant-loop-node
 invariant-loop-node l = l.branches

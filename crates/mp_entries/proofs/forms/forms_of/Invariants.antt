@@ -1,6 +1,6 @@
 use Rattle.std.proofs.Common.{◌≡◌, map, slice_index}
-use Rattle.mp_syntax.specs.Shape.{form_at, is_form, nodes_below}
-use Rattle.mp_syntax.proofs.forms.forms_of.Given as goal
+use Rattle.mp_entries.specs.Entries.{form_at, is_form, nodes_below}
+use Rattle.mp_entries.proofs.forms.forms_of.Given as goal
 
 abbrev pub invariant-loop-node : goal.invariant-loop-node
 invariant-loop-node l = l.list

@@ -1,6 +1,6 @@
-use Rattle.mp_syntax.specs.Shape.{is_expr, is_form}
-use Rattle.mp_syntax.proofs.Numbering.{Numbered}
-use Rattle.mp_syntax.proofs.ranks.number.Given as goal
+use Rattle.mp_entries.specs.Entries.{is_expr, is_form}
+use Rattle.mp_entries.proofs.Numbering.{Numbered}
+use Rattle.mp_entries.proofs.ranks.ranks_of.Given as goal
 
 abbrev pub invariant-loop-node : goal.invariant-loop-node
 invariant-loop-node l = record {

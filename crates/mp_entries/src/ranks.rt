@@ -2,7 +2,7 @@
 
 ghost use Rattle.std.specs.Prelude.{◌≡◌, ◌<◌, ◌^◌, IfOk, length};
 ghost use Rattle.form_reader.specs.Sound.{kind_at};
-ghost use Rattle.mp_syntax.specs.Shape.{is_expr, is_form, ranks, stands_for_expr, stands_for_form};
+ghost use Rattle.mp_entries.specs.Entries.{is_expr, is_form, ranks, stands_for_expr, stands_for_form};
 
 use crate::nodes::is_symbol;
 use form_reader::Forms;
@@ -40,7 +40,7 @@ pub fn is_form(forms: &Forms, node: u32, class: Option<Class>) -> bool
 }
 
 /// The index of the entry of each node.
-pub fn number(
+pub fn ranks_of(
     alloc: Global,
     forms: &Forms,
     classes: &List<Option<Class>>,

@@ -4,7 +4,7 @@ use Rattle.std.proofs.Common.{subst, length, map, arith, get_or, take}
 use Rattle.std.specs.List.{filter, filter_map, flat_map, range_with_len}
 use Rattle.std.proofs.lemmas.List.{map-id, map-append, append-nil, length-append, length_push, map_more}
 use Rattle.std.proofs.lemmas.List.FromFn.{filter_of_map_range_with_len_more, map-range_with_len_more}
-use Rattle.mp_syntax.specs.Shape.{nodes_below, ranks}
+use Rattle.mp_entries.specs.Entries.{nodes_below, ranks}
 
 pub nodes_below_more : (test : ℕ → Bool) (n : ℕ)
     → nodes_below test (n + 1) ≡ nodes_below test n ++ cond (test n) (n ∷ []) []

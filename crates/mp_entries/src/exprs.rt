@@ -2,7 +2,7 @@
 
 ghost use Rattle.std.specs.Prelude.{◌≡◌, ◌<◌, ◌^◌, ◌++◌, ℕ, IfOk, OnOk, length, map, slice_index};
 ghost use Rattle.form_reader.specs.Sound.{IsSound};
-ghost use Rattle.mp_syntax.specs.Shape.{expr_at, is_expr, list_expr, nodes_below, symbol_expr};
+ghost use Rattle.mp_entries.specs.Entries.{expr_at, is_expr, list_expr, nodes_below, symbol_expr};
 
 use crate::nodes::{behind, item, items_at, node_at, number_at};
 use crate::ranks::is_expr;

@@ -2,10 +2,10 @@ use Rattle.std.proofs.Common.{◌≡◌, ◌<◌, ◌+◌, ◌++◌, ◌∷◌, 
 use Rattle.std.proofs.Common.{slice_index, slice_index_or}
 use Rattle.std.proofs.lemmas.List.{get_or_read}
 use Rattle.mp_program.specs.declared.program.Expr.{Expr}
-use Rattle.mp_syntax.specs.Shape.{expr_at, is_expr, nodes_below, stands_for_expr}
-use Rattle.mp_syntax.proofs.Numbering.{entries_with, entries_without}
-use Rattle.mp_syntax.proofs.exprs.exprs_of.Goals.{then-is_expr+in_ok-expr_of+in_ok-push, else-is_expr}
-use Rattle.mp_syntax.proofs.exprs.exprs_of.Goals as goal
+use Rattle.mp_entries.specs.Entries.{expr_at, is_expr, nodes_below, stands_for_expr}
+use Rattle.mp_entries.proofs.Numbering.{entries_with, entries_without}
+use Rattle.mp_entries.proofs.exprs.exprs_of.Goals.{then-is_expr+in_ok-expr_of+in_ok-push, else-is_expr}
+use Rattle.mp_entries.proofs.exprs.exprs_of.Goals as goal
 
 pub loop-node-preserved : goal.loop-node-preserved
 loop-node-preserved c =

@@ -3,7 +3,7 @@
 ghost use Rattle.std.specs.Prelude.{◌≡◌, ◌<◌, ◌≤◌, ℕ, IfOk, drop, length, slice_index};
 ghost use Rattle.form_reader.specs.Sound.{IsSound, items_of, kind_at, node};
 ghost use Rattle.mp_shapes.specs.Layout.{is_symbol};
-ghost use Rattle.mp_syntax.specs.Shape.{name_at, number_at};
+ghost use Rattle.mp_entries.specs.Entries.{name_at, number_at};
 
 use form_reader::{Forms, Kind, Node};
 use mp_base::Name;

@@ -1,8 +1,8 @@
 use Rattle.std.proofs.Common.{◌≡◌, ◌<◌, ℕ, List, length, sym, ◌∙◌, ap, subst, slice_index}
 use Rattle.form_reader.specs.declared.forms.Node.{Node}
 use Rattle.form_reader.specs.Sound.{items_of, kind_at}
-use Rattle.mp_syntax.proofs.InRange.{items_inside}
-use Rattle.mp_syntax.proofs.nodes.items_at.Goals as goal
+use Rattle.mp_entries.proofs.InRange.{items_inside}
+use Rattle.mp_entries.proofs.nodes.items_at.Goals as goal
 
 pub returns-in-Group-clause-inside : goal.returns-in-Group-clause-inside
 returns-in-Group-clause-inside c =

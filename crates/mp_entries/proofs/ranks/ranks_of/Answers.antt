@@ -2,10 +2,10 @@ use Rattle.std.proofs.Common.{◌≡◌, ◌+◌, ◌<◌, ℕ, ◌++◌, ◌∷
 use Rattle.std.proofs.Common.{slice_index_or}
 use Rattle.std.proofs.lemmas.List.{get_or_read}
 use Rattle.form_reader.specs.Sound.{kind_at}
-use Rattle.mp_syntax.specs.Shape.{is_expr, is_form, stands_for_expr, stands_for_form}
-use Rattle.mp_syntax.proofs.Numbering.{Numbered, numbered_with, numbered_without}
-use Rattle.mp_syntax.proofs.ranks.number.Goals.{then-is_expr, else-is_expr, then-is_form, else-is_form}
-use Rattle.mp_syntax.proofs.ranks.number.Goals as goal
+use Rattle.mp_entries.specs.Entries.{is_expr, is_form, stands_for_expr, stands_for_form}
+use Rattle.mp_entries.proofs.Numbering.{Numbered, numbered_with, numbered_without}
+use Rattle.mp_entries.proofs.ranks.ranks_of.Goals.{then-is_expr, else-is_expr, then-is_form, else-is_form}
+use Rattle.mp_entries.proofs.ranks.ranks_of.Goals as goal
 
 pub loop-node-preserved : goal.loop-node-preserved
 loop-node-preserved c =
