@@ -9,7 +9,7 @@ use Rattle.drawing.specs.Draws.{Point}
 use Rattle.fabric.specs.Plan.{Plan}
 use Rattle.fabric.specs.Shape.{shape}
 use Rattle.fabric.specs.Switches.{Net, IsNet}
-use Rattle.fabric.specs.Theorem.{IsLabelOn, FabricDrawsSwitches}
+use Rattle.fabric_laws.specs.Theorem.{IsLabelOn, FabricDrawsSwitches}
 use Rattle.fabric.specs.declared.chip.ChipLabel.{ChipLabel}
 use Rattle.fabric.specs.Labelled.{AreLabelsOf}
 use Rattle.chip_laws.specs.Laws.{points, names_of}

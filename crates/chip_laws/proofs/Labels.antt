@@ -7,7 +7,7 @@ use Rattle.fabric.specs.Plan.{Plan, IsFabric, IsSegment, IsLine, bands, rows_of}
 use Rattle.fabric.specs.Shape.{base}
 use Rattle.fabric.specs.Switches.{Net, IsNet}
 use Rattle.fabric.specs.Switches.Net.{segment, line, ground, power}
-use Rattle.fabric.specs.Theorem.{IsOn}
+use Rattle.fabric_laws.specs.Theorem.{IsOn}
 use Rattle.chip_laws.specs.Labels.{corner_of, LabelsStand}
 
 rises : (f : Plan) (a k : ℕ) → base f a ≤ base f (k + a)

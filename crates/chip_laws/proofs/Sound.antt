@@ -17,7 +17,7 @@ use Rattle.mask_laws.specs.Laws.{NetworkExists}
 use Rattle.fabric.specs.declared.chip.ChipLabel.{ChipLabel}
 use Rattle.fabric.specs.Labelled.{IsLabelOf, AreLabelsOf}
 use Rattle.fabric.specs.Shape.{shape}
-use Rattle.fabric.specs.Theorem.{LabelsName, FabricsAreSmall}
+use Rattle.fabric_laws.specs.Theorem.{LabelsName, FabricsAreSmall}
 use Rattle.chip_laws.specs.Laws.{names_of}
 use Rattle.chip_laws.specs.Sound.{IsOnNet, LabelsFit, FabricsAreFew}
 

@@ -12,7 +12,7 @@ use Rattle.drawing.specs.Draws.{Point, HasOwnNode, Draws}
 use Rattle.fabric.specs.Plan.{Plan, IsFabric}
 use Rattle.fabric.specs.Shape.{shape}
 use Rattle.fabric.specs.Switches.{Net, IsNet, AreSwitches}
-use Rattle.fabric.specs.Theorem.{IsLabelOn}
+use Rattle.fabric_laws.specs.Theorem.{IsLabelOn}
 use Rattle.fabric.specs.declared.chip.ChipLabel.{ChipLabel}
 use Rattle.fabric.specs.Labelled.{IsLabelOf, AreLabelsOf}
 use Rattle.chip_laws.specs.Laws.{points, names_of, IsExtracted}

@@ -11,7 +11,7 @@ use Rattle.fabric.specs.Plan.{Plan, IsFabric}
 use Rattle.fabric.specs.Shape.{base, last_column, offset}
 use Rattle.fabric.specs.Switches.{Net, IsNet}
 use Rattle.fabric.specs.Switches.Net.{segment, line, ground, power}
-use Rattle.fabric.specs.Theorem.{IsLabelOn}
+use Rattle.fabric_laws.specs.Theorem.{IsLabelOn}
 
 -- the square of the layer whose lower left corner is so many lambda from the left and from the bottom
 abbrev pub square_at : Layer → ℕ → ℕ → Square

@@ -11,7 +11,7 @@ use Rattle.fabric.specs.Labelled.{IsLabelOf, AreLabelsOf}
 use Rattle.fabric.specs.Plan.{Plan, IsFabric}
 use Rattle.fabric.specs.Shape.{shape}
 use Rattle.fabric.specs.Switches.{Net, IsNet, AreSwitches}
-use Rattle.fabric.specs.Theorem.{IsLabelOn}
+use Rattle.fabric_laws.specs.Theorem.{IsLabelOn}
 use Rattle.chip_laws.specs.Laws.{names_of}
 
 -- the label stands on a net of the fabric, at whatever offset

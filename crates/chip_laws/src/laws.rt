@@ -9,7 +9,7 @@ ghost use Rattle.chip_laws.specs.Sound.{FabricsAreFew, LabelsFit};
 
 use drawing::laws::drawings_carry_over;
 use drawn_nets::laws::circuits_are_drawn;
-use fabric::laws::{fabric_draws_its_switches, fabrics_are_small, labels_name_conductors};
+use fabric_laws::laws::{fabric_draws_its_switches, fabrics_are_small, labels_name_conductors};
 use mask_laws::laws::masks_draw_networks;
 use path_form::laws::flat_nets_follow;
 use switch_net::network_is_determined;

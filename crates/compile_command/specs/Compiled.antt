@@ -5,7 +5,7 @@ use Rattle.lam_geom.specs.Squares.{covered}
 use Rattle.mp_program.specs.declared.program.Program.{Program}
 use Rattle.mp_program.specs.Weight.{weight}
 use Rattle.mp_source.specs.Source.{IsSource}
-use Rattle.fabric.specs.Sized.{AreSized}
+use Rattle.fabric_laws.specs.Sized.{AreSized}
 use Rattle.ground_ways.specs.Ratioed.{IsRatioed}
 use Rattle.headline.specs.Headline.{IsChipOf}
 

@@ -2,8 +2,8 @@
 use Rattle.lam_geom.specs.Squares.{SameSquares, Square}
 use Rattle.switch_net.specs.declared.network.ChannelKind.TheVariants.{Enhancement, Depletion}
 use Rattle.mask_laws.proofs.SameSquares.{Covers, turn, channel_square, of_channel, kind}
-use Rattle.fabric.specs.Sized.{AreSized, IsOblong}
-use Rattle.fabric.specs.Sized.IsSized.{transistor, pull_up}
+use Rattle.fabric_laws.specs.Sized.{AreSized, IsOblong}
+use Rattle.fabric_laws.specs.Sized.IsSized.{transistor, pull_up}
 use Rattle.std.specs.Prelude.{ℕ}
 
 module _ (c d : Covers) (same : SameSquares c d) where

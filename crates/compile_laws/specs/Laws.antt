@@ -13,7 +13,7 @@ use Rattle.mp_program.specs.Weight.{weight}
 use Rattle.headline.specs.Headline.{IsChipOf}
 use Rattle.fabric.specs.declared.chip.ChipLabel.{ChipLabel}
 use Rattle.fabric.specs.Labelled.{AreLabelsOf}
-use Rattle.fabric.specs.Sized.{AreSized}
+use Rattle.fabric_laws.specs.Sized.{AreSized}
 use Rattle.rtl_form.specs.declared.rtl.Rtl.{Rtl}
 use Rattle.rtl_form.specs.Cost.{cost}
 use Rattle.process_plan.specs.Same.{IsSame}

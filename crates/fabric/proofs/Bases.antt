@@ -1,6 +1,6 @@
 -- How high the bands of a fabric stand, and how many rectangles it draws, for all crates above.
 use Rattle.std.proofs.Common.{[], List, length, ◌≡◌, ◌∙◌, ap, ◌*◌, ◌+◌, ◌∷◌, map, ◌++◌, arith, ℕ, ◌<◌}
-use Rattle.std.proofs.Common.{◌≤◌, zero, suc, inl, inr, take, refl}
+use Rattle.std.proofs.Common.{◌≤◌, ◌⊎◌, zero, suc, inl, inr, take, refl}
 use Rattle.std.specs.Prelude.{flat_map, sum_by, sum}
 use Rattle.std.proofs.lemmas.List.Concat.{length-flat_map}
 use Rattle.std.proofs.lemmas.List.{length-map, length-append}
@@ -64,3 +64,17 @@ top_low f r b h =
     let s = r.rows_fit in let n = r.bands_fit in
     let same : sum f.rows ≡ sum_by (λ x. x) f.rows = refl in
     omega (arith, i, m, s, n, same)
+
+-- how two bands lie
+pub record BandsLie (f : Plan) (b c : ℕ) : Type 0 where
+  pub lie : (b < c) × (base f b + 12 * rows_of f b + 36 ≤ base f c) ⊎ (b ≡ c) × (base f b ≡ base f c)
+      × (rows_of f b ≡ rows_of f c) ⊎ (c < b) × (base f c + 12 * rows_of f c + 36 ≤ base f b)
+
+pub bands_lie : (f : Plan) (b c : ℕ) → BandsLie f b c
+bands_lie f b c = elim (cases_lt b c) [
+  | inl h ↦ record { lie = inl (h, bases_rise f b c h) }
+  | inr h ↦ elim (cases_lt c b) [
+    | inl k ↦ record { lie = inr (inr (k, bases_rise f c b k)) }
+    | inr k ↦ (let e : b ≡ c = omega arith in record { lie = inr (inl (e, ap (base f) e, ap (rows_of f) e)) })
+  ]
+]

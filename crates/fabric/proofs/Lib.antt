@@ -1,22 +1,6 @@
 pub mod Bases
-mod Tile
-mod Heights
-mod Lists
-mod Filters
-mod Local
-mod Back
-mod Tables
-mod Spots
-mod Nets
-mod Zones
-mod Conductors
-mod Owners
-mod Joins
-mod Together
-mod Marks
-mod Nodes
-mod Channels
-mod Network
+pub mod Lying
+pub mod Apart
 mod Adding
 mod Low
 mod Counts
@@ -24,5 +8,3 @@ mod Classes
 mod Entries
 mod Lookups
 mod Switching
-mod Small
-mod Sizes

@@ -15,9 +15,9 @@ use Rattle.fabric.specs.Switches.Net.{segment, line}
 use Rattle.fabric.specs.Numbers.{IsNumbered, side_number}
 use Rattle.fabric.specs.Numbers.IsNumbered.{a_segment, a_line}
 use Rattle.fabric.specs.Places.{key_in_row, key_in_column, segment_key, line_key, AreEntries, HasUpTo, IsLastUpTo}
-use Rattle.fabric.proofs.Heights.{bands_lie}
-use Rattle.fabric.proofs.Local.{segment_lies, line_lies}
-use Rattle.fabric.proofs.Nets.{one_segment, near_lines}
+use Rattle.fabric.proofs.Bases.{bands_lie}
+use Rattle.fabric.proofs.Lying.{segment_lies, line_lies}
+use Rattle.fabric.proofs.Apart.{one_segment, near_lines}
 
 -- one place of the first key has the second's row or column, where the places along both are below the limit
 same_group : (g h x y : ℕ) → x < limit → y < limit → g * limit + x ≤ h * limit + y → g ≤ h

@@ -2,14 +2,14 @@
 use Rattle.std.proofs.Common.{◌++◌, ◌-◌, ℕ, zero, suc, ◌≡◌, ◌+◌, ◌*◌, ◌^◌, ◌<◌, ◌≤◌, inl, inr, refl, sym, ◌∙◌, ap}
 use Rattle.std.proofs.Common.{arith, Bool, true, false, ◌&&◌, leb, eqb, List, [], ◌∷◌, map, length, get_or}
 use Rattle.std.specs.Prelude.{All, cond, ℤ, pos, negsuc, ◌+ℤ◌, ◌*ℤ◌, ◌≤ℤ◌, flat_map}
-use Rattle.std.specs.List.{range_with_len}
+use Rattle.std.specs.List.{range_with_len, list_all}
 use Rattle.std.proofs.lemmas.List.{append_assoc, append-nil}
 use Rattle.lam_geom.specs.declared.layer.Layer.{Layer}
 use Rattle.lam_geom.specs.declared.layer.Layer.TheVariants.{NM}
 use Rattle.lam_geom.specs.declared.rect.Rect.{Rect}
 use Rattle.fabric.specs.Plan.{Plan, bands, rows_of, IsFabric, IsMark}
 use Rattle.fabric.specs.declared.thing.Mark.{Mark}
-use Rattle.fabric.proofs.Local.{lies, RowOf}
+use Rattle.fabric.proofs.Lying.{lies, RowOf}
 use Rattle.fabric.specs.Shape.{base, lambdas, last_column, ground_row, power_rail, band_rects, placed, lift}
 use Rattle.fabric.specs.Room.{IsRoomy}
 use Rattle.fabric.specs.Drawing.{AreBases, IsSmall, placed_rect}
@@ -20,9 +20,7 @@ use Rattle.std.proofs.lemmas.Bool.{and_parts, leb-true}
 use Rattle.tile_cells.specs.declared.tile.Tile.{Tile}
 use Rattle.tile_cells.specs.declared.tile.Tile.TheVariants.{TapL, TapR, Tran, PullUp, Under}
 use Rattle.tile_cells.specs.Tiles.{Cell, cells, in_lambda}
-use Rattle.fabric.proofs.Lists.{every}
-use Rattle.fabric.proofs.Heights.{bands_lie}
-use Rattle.fabric.proofs.Bases.{top_low}
+use Rattle.fabric.proofs.Bases.{bands_lie, top_low}
 
 -- a row of a band lies below the top
 pub row_low : (f : Plan) (bases : List ℕ) (b r : ℕ) → AreBases f bases → b < bands f → r ≤ rows_of f b
@@ -110,10 +108,10 @@ band_drawn f bases b last a h e start was more new r q w m n er eq =
 abbrev in_36 : Cell → Bool
 in_36 k = leb k.x0 36 && (leb k.y0 36 && (leb k.x1 36 && leb k.y1 36))
 
-small_cells : (ks : List Cell) → every in_36 ks ≡ true → All IsSmall (map in_lambda ks)
+small_cells : (ks : List Cell) → list_all in_36 ks ≡ true → All IsSmall (map in_lambda ks)
 small_cells [] e i d h = absurd (omega arith)
 small_cells (k ∷ ks) e zero d h =
-    let a = and_parts (in_36 k) (every in_36 ks) e in
+    let a = and_parts (in_36 k) (list_all in_36 ks) e in
     let b = and_parts (leb k.x0 36) (leb k.y0 36 && (leb k.x1 36 && leb k.y1 36)) a.0 in
     let c = and_parts (leb k.y0 36) (leb k.x1 36 && leb k.y1 36) b.1 in
     let g = and_parts (leb k.x1 36) (leb k.y1 36) c.1 in
@@ -125,7 +123,7 @@ small_cells (k ∷ ks) e zero d h =
       x1 = (omega (arith, ints), omega (arith, ints));
       y1 = (omega (arith, ints), omega (arith, ints));
     }
-small_cells (k ∷ ks) e (suc i) d h = small_cells ks (and_parts (in_36 k) (every in_36 ks) e).1 i d (omega arith)
+small_cells (k ∷ ks) e (suc i) d h = small_cells ks (and_parts (in_36 k) (list_all in_36 ks) e).1 i d (omega arith)
 
 -- the rectangles of tiles are small
 pub small_tile : (t : Tile) → All IsSmall (map in_lambda (cells t))

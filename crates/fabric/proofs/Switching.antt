@@ -30,10 +30,11 @@ use Rattle.fabric.specs.Switches.{IsSwitch, AreSwitches, is_switch}
 use Rattle.fabric.specs.Switches.Net.{segment, line, ground, power}
 use Rattle.fabric.specs.Switches.Tapped.{up, down}
 use Rattle.fabric.specs.Numbers.{place_of, same_segment, side_number, same_line, index, number_of, net_count}
-use Rattle.fabric.specs.Numbers.{IsNumbered, is_tap, IsTapPair, AreClassNumbers}
+use Rattle.fabric.specs.declared.numbers.Classes.{Classes}
+use Rattle.fabric.specs.Numbers.{IsNumbered, is_tap, IsTapPair, AreClassNumbers, AreNetNumbers, IsUntagged}
 use Rattle.fabric.specs.Numbers.IsNumbered.{a_segment, a_line, the_ground, the_power}
-use Rattle.fabric.proofs.Local.{segment_lies, line_lies}
-use Rattle.fabric.proofs.Nets.{one_segment, one_line}
+use Rattle.fabric.proofs.Lying.{segment_lies, line_lies}
+use Rattle.fabric.proofs.Apart.{one_segment, one_line}
 use Rattle.lam_geom.proofs.Chains.{join_chains, one_link, turn_chain}
 use Rattle.lam_geom.proofs.Following.{follow}
 
@@ -540,22 +541,6 @@ are_among f count number ms cs tags a z e = record {
 pub no_tags : (tags : List Tag) → tags ≡ [] → OneNodeEach tags
 no_tags tags e = subst OneNodeEach (sym e) (λ a b i j q. let h = i.1 in absurd (omega arith))
 
-pub are_switches : (f : Plan) (w : IsFabric f) (count : ℕ) (pairs : List Pair) (least numbers : List ℕ)
-    (cs : List Channel) (tags : List Tag) (net : Network)
-    → AllZip (IsTapPair f) (filter is_tap f.marks) pairs → AreLeasts (net_count f) pairs least
-    → AreClassNumbers least numbers count → AreChannels f (number_of f numbers) cs
-    → tags ≡ []
-    → (net.nodes ≡ count) × (net.channels ≡ cs) × (net.tags ≡ tags) → (number : Net → ℕ) × AreSwitches f number net
-are_switches f w count pairs least numbers cs tags net z l c s e g = (
-  number_of f numbers,
-  record {
-    nodes = subst (λ y. AreNumbers f y (number_of f numbers)) (sym g.0)
-        (are_numbers f w pairs z least numbers count l c);
-    channels = subst (AllZip (IsSwitch f (number_of f numbers)) (filter is_switch f.marks)) (sym g.1) s;
-    tags = g.2 ∙ e;
-  },
-)
-
 -- what is known once the classes are numbered
 pub numbers_are : (f : Plan) (w : IsFabric f) (k : ℕ) (made pairs : List Pair) (items least numbers : List ℕ)
     (count : ℕ) → IsNumbered f k power → AllZip (IsTapPair f) (filter is_tap f.marks) made → pairs ≡ made
@@ -565,15 +550,20 @@ numbers_are f w k made pairs items least numbers count p z e l g c =
     are_numbers f w made z items numbers count (subst₂ (λ x y. AreLeasts x y items) (power_last f k p) e l)
     (subst (λ y. AreClassNumbers y numbers count) g c)
 
-pub switches_are : (f : Plan) (number : Net → ℕ) (count : ℕ) (cs : List Channel) (tags : List Tag) (net : Network)
-    → AreNumbers f count number → AreChannels f number cs → tags ≡ []
-    → (net.nodes ≡ count) × (net.channels ≡ cs) × (net.tags ≡ tags) → (number : Net → ℕ) × AreSwitches f number net
-switches_are f number count cs tags net a s e g = (
-  number,
+-- there is a number for each net
+pub numbers_many : (f : Plan) (k : ℕ) (pairs : List Pair) (items least numbers : List ℕ) (count : ℕ)
+    → IsNumbered f k power → AreLeasts (k + 1) pairs items → least ≡ items → AreClassNumbers least numbers count
+    → length numbers ≡ net_count f
+numbers_many f k pairs items least numbers count p l g c = c.as_many ∙ ap length g ∙ l.as_many ∙ power_last f k p
+
+pub switches_are : (f : Plan) (c : Classes) (cs : List Channel) (net : Network) → AreNetNumbers f c
+    → AreChannels f (number_of f c.numbers) cs → IsUntagged c.count cs net → (number : Net → ℕ) × AreSwitches f number net
+switches_are f c cs net a s u = (
+  number_of f c.numbers,
   record {
-    nodes = subst (λ y. AreNumbers f y number) (sym g.0) a;
-    channels = subst (AllZip (IsSwitch f number) (filter is_switch f.marks)) (sym g.1) s;
-    tags = g.2 ∙ e;
+    nodes = subst (λ y. AreNumbers f y (number_of f c.numbers)) (sym u.nodes_are) a.numbers;
+    channels = subst (AllZip (IsSwitch f (number_of f c.numbers)) (filter is_switch f.marks)) (sym u.channels_are) s;
+    tags = u.no_tags;
   },
 )
 

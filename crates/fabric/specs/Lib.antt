@@ -5,8 +5,6 @@ pub mod Drawing
 pub mod Switches
 pub mod Numbers
 pub mod Places
-pub mod Theorem
 pub mod Counted
 pub mod Even
 pub mod Labelled
-pub mod Sized

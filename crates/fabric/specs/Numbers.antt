@@ -2,6 +2,8 @@
 use Rattle.std.specs.Prelude.{ℕ, suc, ◌≡◌, ◌↔◌, ◌+◌, ◌<◌, Bool, true, false, cond, ◌&&◌, eqb, List, [], ◌∷◌}
 use Rattle.std.specs.Prelude.{length, get_or}
 use Rattle.union_find.specs.declared.pair.Pair.{Pair}
+use Rattle.switch_net.specs.declared.network.Channel.{Channel}
+use Rattle.switch_net.specs.declared.network.Network.{Network}
 use Rattle.tile_cells.specs.declared.tile.Tile.TheVariants.{TapL, TapR, Tran, PullUp, Under}
 use Rattle.fabric.specs.declared.thing.Side.{Side}
 use Rattle.fabric.specs.declared.thing.Side.TheVariants.{L, R}
@@ -9,7 +11,8 @@ use Rattle.fabric.specs.declared.thing.Segment.{Segment}
 use Rattle.fabric.specs.declared.thing.Line.{Line}
 use Rattle.fabric.specs.declared.thing.Mark.{Mark}
 use Rattle.fabric.specs.Plan.{Plan}
-use Rattle.fabric.specs.Switches.{Net, LineOf, IsTapped, IsTapOn}
+use Rattle.fabric.specs.declared.numbers.Classes.{Classes}
+use Rattle.fabric.specs.Switches.{Net, LineOf, IsTapped, IsTapOn, AreNumbers}
 use Rattle.fabric.specs.Switches.Net.{segment, line, ground, power}
 
 abbrev pub net_count : Plan → ℕ
@@ -71,3 +74,14 @@ index f power = length f.segments + length f.lines + 1
 -- the entry of a table for a net
 unfoldable pub number_of : Plan → List ℕ → Net → ℕ
 number_of f numbers n = get_or numbers (index f n) 0
+
+-- numbers of the nets of a fabric, below their count, where taps join those with one number
+pub record AreNetNumbers (f : Plan) (c : Classes) : Type 0 where
+  pub as_many : length c.numbers ≡ net_count f
+  pub numbers : AreNumbers f c.count (number_of f c.numbers)
+
+-- the network has so many nodes, these channels and no tags
+pub record IsUntagged (nodes : ℕ) (channels : List Channel) (net : Network) : Type 0 where
+  pub nodes_are : net.nodes ≡ nodes
+  pub channels_are : net.channels ≡ channels
+  pub no_tags : net.tags ≡ []

@@ -3,7 +3,7 @@
 ghost use Rattle.std.specs.Prelude.{◌≡◌, ◌<◌, ◌≤◌, ◌+◌, ◌*◌, ◌++◌, ◌∷◌, [], length, map, flat_map, All, IfOk, OnOk};
 ghost use Rattle.std.specs.List.{range_with_len};
 ghost use Rattle.fabric.specs.Plan.{Plan, bands, rows_of, IsFabric, IsSegment, IsLine, IsMark};
-ghost use Rattle.fabric.specs.Shape.{lambdas as in_lambdas, last_column, band_rects};
+ghost use Rattle.fabric.specs.Shape.{lambdas as in_lambdas, last_column, ground_trunk, power_trunk, band_rects};
 ghost use Rattle.fabric.specs.Shape.{segment_rect as rect_of, line_rect as rect_of_line, mark_rects};
 ghost use Rattle.fabric.specs.Shape.{placed as in_place, lift as lift_of};
 ghost use Rattle.tile_cells.specs.Tiles.{cells};
@@ -18,7 +18,7 @@ use std::alloc::Global;
 use tile_cells::{Tile, rects};
 
 // A rectangle whose corners are given in lambda.
-pub(crate) fn lambdas(layer: Layer, x0: u32, y0: u32, x1: u32, y1: u32) -> Rect
+fn lambdas(layer: Layer, x0: u32, y0: u32, x1: u32, y1: u32) -> Rect
     ensures { result ≡ in_lambdas layer x0 y0 x1 y1 }
 {
     Rect {
@@ -111,12 +111,7 @@ pub(crate) fn draw_lines(
 }
 
 // The ground row and the power rail of each band.
-pub(crate) fn draw_bands(
-    plan: &Fabric,
-    bases: &[u32],
-    last: u32,
-    shape: &mut Shape,
-) -> Result<(), NoMemory>
+fn draw_bands(plan: &Fabric, bases: &[u32], last: u32, shape: &mut Shape) -> Result<(), NoMemory>
     requires bases { AreBases plan.now bases.now }
     requires last { last ≡ last_column plan.now }
     requires room { IsRoomy plan.now }
@@ -130,6 +125,23 @@ pub(crate) fn draw_bands(
         shape.push(lambdas(Layer::NM, 20, power, 20 * last + 13, power + 4))?;
     }
     Ok(())
+}
+
+/// The trunks, and what each band has of its own.
+pub(crate) fn frame(alloc: Global, plan: &Fabric, bases: &[u32]) -> Result<Shape, NoMemory>
+    requires bases { AreBases plan.now bases.now }
+    requires met { IsFabric plan.now }
+    requires room { IsRoomy plan.now }
+    ensures { IfOk result (λ s. s ≡ ground_trunk plan.now ∷ power_trunk plan.now
+        ∷ flat_map (band_rects plan.now) (range_with_len 0 (bands plan.now))) }
+{
+    let top = bases[bases.len() - 1];
+    let last = plan.columns - 1;
+    let mut shape = List::new(alloc);
+    shape.push(lambdas(Layer::NM, 7, 0, 13, top))?;
+    shape.push(lambdas(Layer::NM, 20 * last + 7, 0, 20 * last + 13, top))?;
+    draw_bands(plan, bases, last, &mut shape)?;
+    Ok(shape)
 }
 
 // A rectangle of a tile, where the tile's corner is at (x, y) in lambda.

@@ -8,9 +8,9 @@ ghost use Rattle.fabric.specs.Room.{limit, IsRoomy};
 ghost use Rattle.fabric.specs.Shape.{shape};
 ghost use Rattle.fabric.specs.Counted.{rectangle_count, thing_count};
 
-use crate::drawing::{bases, draw_bands, draw_lines, draw_marks, draw_segments, lambdas};
+use crate::drawing::{bases, draw_lines, draw_marks, draw_segments, frame};
 use crate::thing::{Line, Mark, Segment};
-use lam_geom::{Layer, Shape};
+use lam_geom::Shape;
 use mp_base::{List, NoMemory};
 use std::alloc::Global;
 use std::marker::Model;
@@ -203,12 +203,7 @@ impl Fabric {
     {
         let bases = bases(alloc, self, self.rows.as_slice())?;
         let bases = bases.as_slice();
-        let top = bases[self.rows.len()];
-        let last = self.columns - 1;
-        let mut shape = List::new(alloc);
-        shape.push(lambdas(Layer::NM, 7, 0, 13, top))?;
-        shape.push(lambdas(Layer::NM, 20 * last + 7, 0, 20 * last + 13, top))?;
-        draw_bands(self, bases, last, &mut shape)?;
+        let mut shape = frame(alloc, self, bases)?;
         draw_segments(self, bases, self.segments.as_slice(), &mut shape)?;
         draw_lines(self, bases, self.lines.as_slice(), &mut shape)?;
         draw_marks(self, bases, self.marks.as_slice(), &mut shape)?;

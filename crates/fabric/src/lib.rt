@@ -4,7 +4,6 @@
 mod chip;
 mod drawing;
 mod fabric;
-pub mod laws;
 mod numbers;
 mod places;
 mod switches;

@@ -1,6 +1,7 @@
 //! Numbers of classes, and ends in order.
 
-ghost use Rattle.std.specs.Prelude.{◌⊎◌, ◌↔◌, AllPairs, Contains, ℕ, ◌≡◌, ◌<◌, ◌≤◌, ◌+◌, length, get_or, IfOk, IfSome};
+ghost use Rattle.std.specs.Prelude.{◌⊎◌, ◌↔◌, AllPairs, Contains, ℕ, ◌≡◌, ◌<◌, ◌≤◌, ◌+◌, ◌∷◌, [], length, get_or};
+ghost use Rattle.std.specs.Prelude.{IfOk, IfSome};
 ghost use Rattle.std.specs.Prelude.{IfNone};
 ghost use Rattle.fabric.specs.Numbers.{AreClassNumbers};
 
@@ -36,20 +37,34 @@ pub(crate) fn number(alloc: Global, least: &[u32]) -> Result<Classes, NoMemory>
     Ok(Classes { numbers, count })
 }
 
+// A lesser and a greater number.
+fn ascending(alloc: Global, low: u32, high: u32) -> Result<List<u32>, NoMemory>
+    ensures { IfOk result (λ v. v ≡ low ∷ high ∷ []) }
+{
+    let mut ends = List::new(alloc);
+    ends.push(low)?;
+    ends.push(high)?;
+    Ok(ends)
+}
+
+fn one(alloc: Global, number: u32) -> Result<List<u32>, NoMemory>
+    ensures { IfOk result (λ v. v ≡ number ∷ []) }
+{
+    let mut ends = List::new(alloc);
+    ends.push(number)?;
+    Ok(ends)
+}
+
 // Two numbers in ascending order, or the one that both are.
 pub(crate) fn two(alloc: Global, a: u32, b: u32) -> Result<List<u32>, NoMemory>
     ensures ascending { IfOk result (λ v. AllPairs (λ j k. j < k) v) }
     ensures all { IfOk result (λ v. (x : ℕ) → Contains v x ↔ ((x ≡ a) ⊎ (x ≡ b))) }
 {
-    let mut ends = List::new(alloc);
     if a < b {
-        ends.push(a)?;
-        ends.push(b)?;
+        ascending(alloc, a, b)
     } else if b < a {
-        ends.push(b)?;
-        ends.push(a)?;
+        ascending(alloc, b, a)
     } else {
-        ends.push(a)?;
+        one(alloc, a)
     }
-    Ok(ends)
 }

@@ -1,16 +1,17 @@
 //! The network that the segments, lines and marks of a fabric mean.
 
-ghost use Rattle.std.specs.Prelude.{ℕ, ◌⊎◌, ◌≡◌, false, length, filter, IfOk, MatchOption};
+ghost use Rattle.std.specs.Prelude.{ℕ, ◌⊎◌, ◌≡◌, [], false, length, filter, IfOk, MatchOption};
 ghost use Rattle.std.specs.List.{AllZip};
+ghost use Rattle.switch_net.specs.OneNode.{AreAmong};
 ghost use Rattle.tile_cells.specs.declared.tile.Tile.TheVariants.{Tran, PullUp};
 ghost use Rattle.fabric.specs.Plan.{IsMark, SegmentAt, LineAt};
 ghost use Rattle.fabric.specs.Switches.{Net, LineOf, SegmentOf, IsTapped, IsTapOn, IsSwitch, AreChannels, AreSwitches};
 ghost use Rattle.fabric.specs.Switches.Net.{ground, power};
-ghost use Rattle.fabric.specs.Numbers.{is_tap, IsNumbered, IsTapPair, net_count, number_of};
+ghost use Rattle.fabric.specs.Numbers.{AreNetNumbers, is_tap, IsNumbered, IsTapPair, IsUntagged, net_count, number_of};
 ghost use Rattle.fabric.specs.Places.{ArePlaces};
 
 use crate::fabric::Fabric;
-use crate::numbers::{number, two};
+use crate::numbers::{Classes, number, two};
 use crate::places::{Places, column_key, last_up_to, places_of, row_key};
 use crate::thing::{Mark, Side};
 use mp_base::{List, NoMemory};
@@ -180,19 +181,36 @@ impl Fabric {
         Ok(channels)
     }
 
+    // The numbers of the nets, where those that taps join have one.
+    fn classes(&self, alloc: Global, places: &Places) -> Result<Classes, NoMemory>
+        requires { ArePlaces self.now places.now }
+        ensures { IfOk result (AreNetNumbers self.now) }
+    {
+        self.conditions();
+        let pairs = self.pairs(alloc, places)?;
+        let count = self.power_number() + 1;
+        let least = leasts(alloc, count, pairs.as_slice())?;
+        let classes = number(alloc, least.as_slice())?;
+        Ok(classes)
+    }
+
     /// The network of a fabric, by its segments, lines and marks alone: taps join nets, and each transistor and each
     /// pull-up is a channel, in the order of the marks.
     pub fn switches(&self, alloc: Global) -> Result<Network, NoMemory>
         ensures { IfOk result (λ net. (number : Net → ℕ) × AreSwitches self.now number net) }
     {
-        self.conditions();
         let places = places_of(alloc, self)?;
-        let pairs = self.pairs(alloc, &places)?;
-        let count = self.power_number() + 1;
-        let least = leasts(alloc, count, pairs.as_slice())?;
-        let classes = number(alloc, least.as_slice())?;
+        let classes = self.classes(alloc, &places)?;
         let channels = self.channels(alloc, &places, classes.numbers.as_slice())?;
-        let tags = List::new(alloc);
-        Ok(Network::checked(classes.count, channels, tags).unwrap())
+        Ok(untagged(alloc, classes.count, channels))
     }
+}
+
+// The network of these channels, with no tags.
+fn untagged(alloc: Global, nodes: u32, channels: List<Channel>) -> Network
+    requires { AreAmong nodes channels [] }
+    ensures { IsUntagged nodes channels result }
+{
+    let tags = List::new(alloc);
+    Network::checked(nodes, channels, tags).unwrap()
 }

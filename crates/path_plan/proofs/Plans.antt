@@ -11,7 +11,7 @@ use Rattle.fabric.specs.declared.chip.ChipLabel.{ChipLabel}
 use Rattle.fabric.specs.declared.thing.Segment.{Segment}
 use Rattle.fabric.specs.Plan.{Plan, IsFabric}
 use Rattle.fabric.specs.Shape.{shape}
-use Rattle.fabric.specs.Sized.{AreSized, FabricsAreSized}
+use Rattle.fabric_laws.specs.Sized.{AreSized, FabricsAreSized}
 use Rattle.fabric.proofs.Bases.{rectangles_counted}
 use Rattle.fabric_extent.specs.Bounds.{SmallFabrics}
 use Rattle.track_assign.specs.declared.packing.Tracks.{Tracks}

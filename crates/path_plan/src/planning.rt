@@ -10,7 +10,7 @@ ghost use Rattle.path_plan.specs.Plans.{IsMeasured};
 
 use crate::chips::chip_of;
 use crate::laws::labels_are_few;
-use fabric::laws::channels_are_sized;
+use fabric_laws::laws::channels_are_sized;
 use fabric::{Chip, Fabric};
 use fabric_extent::laws::small_fabrics_are_small;
 use mp_base::{List, NoMemory};

@@ -1,7 +1,4 @@
-mod Growing
 mod Serving
-mod Moving
-mod Jumping
 mod Reading
 mod Planned
 mod Billing

@@ -61,11 +61,11 @@ use Rattle.process_plan.specs.Plan.{
   empties,
   AreTransfers,
 }
-use Rattle.process_transfers.specs.declared.jumps.Jumps.{Jumps}
+use Rattle.process_jumps.specs.declared.jumps.Jumps.{Jumps}
 use Rattle.process_transfers.specs.declared.roles.Control.{Control}
 use Rattle.process_transfers.specs.declared.roles.Motion.{Motion}
 use Rattle.process_transfers.specs.declared.roles.Motion.TheVariants.{Fall, Push, Pop, Back}
-use Rattle.process_transfers.specs.Jumps.{IsJumps, IsFallAt}
+use Rattle.process_jumps.specs.Jumps.{IsJumps, IsFallAt}
 use Rattle.process_transfers.specs.Control.{IsReading, IsControl}
 use Rattle.process_transfers.specs.Wants.{
   Serves,

@@ -7,9 +7,9 @@ use Rattle.rtl_form.specs.declared.rtl.RtlExpr.{RtlExpr}
 use Rattle.rtl_form.specs.declared.rtl.RtlExpr.TheVariants.{Cell}
 use Rattle.process_plan.specs.declared.role.Role.{Role}
 use Rattle.process_layout.proofs.Keeping.{keeps_more}
-use Rattle.process_transfers.specs.Growth.{IsPut}
+use Rattle.process_jumps.specs.Growth.{IsPut}
 use Rattle.process_transfers.specs.Control.{IsReading, IsReadingMade, AreReadingsMade}
-use Rattle.process_transfers.proofs.Growing.{
+use Rattle.process_jumps.proofs.Growing.{
   kept_pushed,
   free_pushed,
   one_pushed,

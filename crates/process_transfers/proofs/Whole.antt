@@ -16,13 +16,13 @@ use Rattle.process_layout.specs.declared.enabling.Enabling.{Enabling}
 use Rattle.process_layout.specs.Counts.{tallies_of}
 use Rattle.process_layout.specs.Steps.{IsEnabling, IsTransferring, moves_cost}
 use Rattle.process_layout.proofs.Keeping.{keeps_same, keeps_more}
-use Rattle.process_transfers.specs.declared.jumps.Jumps.{Jumps}
+use Rattle.process_jumps.specs.declared.jumps.Jumps.{Jumps}
 use Rattle.process_transfers.specs.declared.roles.Control.{Control}
 use Rattle.process_transfers.specs.declared.roles.Motion.TheVariants.{Fall, Push, Pop, Back}
-use Rattle.process_transfers.specs.Jumps.{AreRooted, IsExtended, AreJumpsMade, AllJumpsMade}
+use Rattle.process_jumps.specs.Jumps.{AreRooted, IsExtended, AreJumpsMade, AllJumpsMade}
 use Rattle.process_transfers.specs.Control.{AreReadingsMade, IsControl}
 use Rattle.process_transfers.specs.Wants.{Serves, WantsAt, CellWants, is_moved, lands_in}
-use Rattle.process_transfers.proofs.Jumping.{jumps_kept, place_kept}
+use Rattle.process_jumps.proofs.Jumping.{jumps_kept, place_kept}
 use Rattle.process_transfers.proofs.Planned.{IsMeant, all_transfers}
 use Rattle.process_transfers.proofs.Billing.{all_billed, all_tallies}
 

@@ -12,7 +12,7 @@ use Rattle.process_plan.specs.Roles.{AreCells}
 use Rattle.process_plan.specs.Bill.{exprs_cost}
 use Rattle.process_plan.specs.Fits.{ExprsFit}
 use Rattle.process_layout.specs.Steps.{Keeps}
-use Rattle.process_transfers.specs.declared.jumps.Jumps.{Jumps}
+use Rattle.process_jumps.specs.declared.jumps.Jumps.{Jumps}
 use Rattle.process_transfers.specs.declared.roles.Control.{Control}
 
 -- expressions are only added, at no price; all fit where those did that were there, and there are cells below n

@@ -35,7 +35,7 @@ use Rattle.process_plan.specs.declared.enable.Enable.{Enable}
 use Rattle.process_plan.specs.Enables.{copy_of}
 use Rattle.process_plan.specs.Plan.{is_call}
 use Rattle.process_layout.specs.Counts.{count_of, is_go}
-use Rattle.process_transfers.specs.declared.jumps.Jumps.{Jumps}
+use Rattle.process_jumps.specs.declared.jumps.Jumps.{Jumps}
 use Rattle.process_transfers.specs.declared.roles.Control.{Control}
 use Rattle.process_transfers.specs.declared.roles.Motion.{Motion}
 use Rattle.process_transfers.specs.declared.roles.Motion.TheVariants.{Fall, Push, Pop, Back}

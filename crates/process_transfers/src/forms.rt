@@ -11,10 +11,10 @@ ghost use Rattle.process_plan.specs.Roles.{AreCells};
 ghost use Rattle.process_transfers.specs.Wants.{IsFound, Serves, SetsWithin, lands_in};
 ghost use Rattle.process_transfers.specs.Wants.{SetWants, LandWants, FormWants, WantsAt};
 
-use crate::exprs::add;
 use mp_base::{List, NoMemory};
 use mp_program::laws::sound;
 use mp_program::{Def, FormKind, Process, Program};
+use process_jumps::add;
 use process_layout::Layout;
 use process_plan::{Enable, Origin, Role};
 use rtl_form::Transfer;

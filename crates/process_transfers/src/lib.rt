@@ -2,10 +2,7 @@
 //! those by which its processes go from place to place and keep the entries of their stacks.
 #![tactic(auto)]
 
-mod exprs;
 mod forms;
-mod jumps;
-mod moves;
 mod roles;
 mod transfers;
 

@@ -8,10 +8,9 @@ ghost use Rattle.process_transfers.specs.Control.{IsReadingMade, AreReadingsMade
 ghost use Rattle.process_transfers.specs.Wants.{IsFound, Serves, IsRead, IsPushed, IsPopped, is_moved};
 ghost use Rattle.process_transfers.specs.Wants.{FallWants, PushWants, PopWants, BackWants, RoleWants, CellWants};
 
-use crate::exprs::{add, put};
-use crate::jumps::Jumps;
 use mp_base::{List, NoMemory};
 use mp_program::Program;
+use process_jumps::{Jumps, add, put};
 use process_layout::Layout;
 use process_plan::Role;
 use rtl_form::{RtlExpr, Transfer};

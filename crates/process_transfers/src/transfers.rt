@@ -6,11 +6,10 @@ ghost use Rattle.process_plan.specs.Roles.{AreCells};
 ghost use Rattle.process_layout.specs.Steps.{IsEnabling, IsTransferring};
 
 use crate::forms::form_transfers;
-use crate::jumps::all_jumps;
-use crate::moves::moves_in;
 use crate::roles::{Control, Motion, motion_transfers, readings_of};
 use mp_base::{List, NoMemory};
 use mp_program::Program;
+use process_jumps::{all_jumps, moves_in};
 use process_layout::{Enabling, Layout};
 use rtl_form::{RtlExpr, Transfer};
 use std::alloc::Global;

@@ -1,6 +1,6 @@
 use Rattle.std.proofs.lemmas.Result.{IfOk-weaker}
 use Rattle.rtl_form.specs.declared.rtl.RtlExpr.TheVariants.{Cell}
-use Rattle.process_transfers.specs.Growth.{IsPut}
+use Rattle.process_jumps.specs.Growth.{IsPut}
 use Rattle.process_transfers.specs.Control.{IsReadingMade}
 use Rattle.process_transfers.proofs.Reading.{reading_put}
 use Rattle.process_transfers.proofs.roles.reading_of.Goals as goal

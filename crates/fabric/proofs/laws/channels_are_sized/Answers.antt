@@ -1,5 +1,0 @@
-use Rattle.fabric.proofs.Sizes.{are_sized}
-use Rattle.fabric.proofs.laws.channels_are_sized.Goals as goal
-
-pub returns : goal.returns
-returns c = are_sized c.rectangles_are_joined.ensures

@@ -1,5 +1,0 @@
-use Rattle.fabric.proofs.Small as proofs
-use Rattle.fabric.proofs.laws.fabrics_are_small.Goals as goal
-
-pub returns : goal.returns
-returns c = proofs.fabrics_are_small c.fabric_draws_its_switches.ensures.labelled

@@ -1,0 +1,36 @@
+//! Laws of fabrics.
+
+ghost use Rattle.fabric_laws.specs.Theorem.{FabricDrawsSwitches, FabricIsSwitches, FabricsAreSmall, LabelsName};
+ghost use Rattle.fabric_laws.specs.Sized.{FabricsAreSized};
+
+use lam_geom::rectangles_are_joined;
+
+/// The squares of a fabric draw the network of its switches, up to the numbering of nodes and channels, and a label on
+/// a net is on the node of that net.
+pub fn fabric_draws_its_switches()
+    ensures labelled { FabricDrawsSwitches }
+    ensures same { FabricIsSwitches }
+{
+    rectangles_are_joined();
+}
+
+/// A label on a net of a fabric names a conductor.
+pub fn labels_name_conductors()
+    ensures { LabelsName }
+{
+    rectangles_are_joined();
+}
+
+/// A fabric has no more nodes and channels than it has segments, lines and marks, and two.
+pub fn fabrics_are_small()
+    ensures { FabricsAreSmall }
+{
+    fabric_draws_its_switches();
+}
+
+/// Each channel of a fabric is a transistor's, 2 by 2 lambda, or a pull-up's, 2 wide and 16 high.
+pub fn channels_are_sized()
+    ensures { FabricsAreSized }
+{
+    rectangles_are_joined();
+}

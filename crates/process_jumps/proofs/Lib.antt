@@ -1,0 +1,3 @@
+pub mod Growing
+mod Moving
+pub mod Jumping

@@ -1,5 +1,0 @@
-use Rattle.process_transfers.proofs.Jumping.{FallsSoFar}
-use Rattle.process_transfers.proofs.jumps.falls_of.Given as goal
-
-abbrev pub invariant-loop-place : goal.invariant-loop-place
-invariant-loop-place l = FallsSoFar l.program l.enables l.process l.place l.fn.exprs l.exprs l.falls
