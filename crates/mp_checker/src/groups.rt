@@ -5,8 +5,8 @@ ghost use Rattle.mp_program.specs.Reads.{IsOrder};
 ghost use Rattle.mp_program.specs.Weight.{weight};
 ghost use Rattle.mp_rules.specs.Breaking.{RefusesFirst, IsUnbroken};
 ghost use Rattle.mp_rules.specs.Naming.{OwnNames};
-ghost use Rattle.mp_names.specs.Meaning.{AreMeanings};
-ghost use Rattle.mp_names.specs.Table.{IsNameTable};
+ghost use Rattle.name_meanings.specs.Meaning.{AreMeanings};
+ghost use Rattle.name_meanings.specs.Table.{IsNameTable};
 ghost use Rattle.mp_checker.specs.Kept.{KeepsBelow};
 
 use crate::crowds::crowded_name;

@@ -4,6 +4,5 @@ mod Misuses
 mod Naming
 mod Rules
 mod Supplies
-mod Noting
 mod Sorting
 mod Definitions

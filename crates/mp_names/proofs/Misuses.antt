@@ -10,9 +10,9 @@ use Rattle.mp_program.specs.declared.program.Form.{Form}
 use Rattle.mp_program.specs.declared.program.Program.{Program}
 use Rattle.mp_rules.specs.Naming.{Uses}
 use Rattle.mp_rules.specs.Breaking.{IsEarliest}
-use Rattle.mp_names.specs.declared.table.NameTable.{NameTable}
+use Rattle.name_meanings.specs.declared.table.NameTable.{NameTable}
 use Rattle.mp_names.specs.declared.uses.Misuse.{Misuse}
-use Rattle.mp_names.specs.Table.{known}
+use Rattle.name_meanings.specs.Table.{known}
 use Rattle.mp_names.specs.Finding.{earliest}
 use Rattle.mp_names.specs.Misuse.{is_misuse, misuse_at, target_misuse, earliest_misuse}
 use Rattle.mp_names.proofs.Entries.{Found}

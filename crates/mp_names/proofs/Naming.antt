@@ -10,8 +10,8 @@ use Rattle.mp_program.specs.Names.{is_same, is_supply}
 use Rattle.mp_program.proofs.Definitions.{is_same_of, same_is}
 use Rattle.mp_rules.specs.Entries.{IsAt}
 use Rattle.mp_rules.specs.Naming.{Naming, namings, def_naming, process_naming}
-use Rattle.mp_names.specs.Named.{least_offset, second_offset}
-use Rattle.mp_names.specs.Seconds.{lesser, second_with}
+use Rattle.name_meanings.specs.Named.{least_offset, second_offset}
+use Rattle.name_meanings.specs.Seconds.{lesser, second_with}
 use Rattle.mp_names.specs.Repeats.{is_up_to}
 use Rattle.mp_names.proofs.Entries.{Found, nothing_in, here, behind, first_or_behind, in_left, in_right, in_either}
 use Rattle.mp_names.proofs.Entries.{in_map, of_map, in_filter, of_filter, Passing}

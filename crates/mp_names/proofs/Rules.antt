@@ -13,12 +13,12 @@ use Rattle.mp_rules.specs.Entries.{IsAt}
 use Rattle.mp_rules.specs.Rules.{E20, E21, E22, E27, is_unset}
 use Rattle.mp_rules.specs.Naming.{Naming, namings, def_naming, process_naming, is_reserved, Uses}
 use Rattle.mp_rules.specs.Breaking.{IsEarliest}
-use Rattle.mp_names.specs.declared.named.Named.{Named}
-use Rattle.mp_names.specs.declared.table.NameTable.{NameTable}
+use Rattle.name_meanings.specs.declared.named.Named.{Named}
+use Rattle.name_meanings.specs.declared.table.NameTable.{NameTable}
 use Rattle.mp_names.specs.declared.uses.Misuse.{Misuse}
 use Rattle.mp_names.specs.declared.uses.Misuse.TheVariants.{Undefined, OfProcess, OfUnset}
-use Rattle.mp_names.specs.Named.{named_of, least_offset, second_offset}
-use Rattle.mp_names.specs.Table.{IsNameTable, known}
+use Rattle.name_meanings.specs.Named.{named_of, least_offset, second_offset}
+use Rattle.name_meanings.specs.Table.{IsNameTable, known}
 use Rattle.mp_names.specs.Finding.{earlier_of, earliest}
 use Rattle.mp_names.specs.Misuse.{is_misuse, target_misuse, earliest_misuse}
 use Rattle.mp_names.specs.Repeats.{is_up_to, is_repeated, repeated_def, repeated_process, RepeatsSupply}

@@ -21,10 +21,10 @@ use Rattle.mp_rules.specs.Sorts.{Sort, IsWord, IsBit, what_sort, name_sort, oper
 use Rattle.mp_rules.specs.Breaking.{IsEarliest}
 use Rattle.mp_rules.proofs.ListEntries.{at_get, get_at, contains_from_at}
 use Rattle.mp_rules.proofs.Sorts.{same_sort}
-use Rattle.mp_names.specs.declared.named.Named as known_names
-use Rattle.mp_names.specs.declared.table.NameTable.{NameTable}
-use Rattle.mp_names.specs.Named.{first_of}
-use Rattle.mp_names.specs.Table.{IsNameTable}
+use Rattle.name_meanings.specs.declared.named.Named as known_names
+use Rattle.name_meanings.specs.declared.table.NameTable.{NameTable}
+use Rattle.name_meanings.specs.Named.{first_of}
+use Rattle.name_meanings.specs.Table.{IsNameTable}
 use Rattle.mp_names.specs.Finding.{earliest}
 use Rattle.mp_names.specs.Sorting.{sort_in, kind_sort, unless_same, misfit, operand_misfit, value_misfit, form_misfit}
 use Rattle.mp_names.specs.Sorting.{earliest_misfit}

@@ -1,10 +1,5 @@
-pub mod Meaning
-pub mod Seconds
-pub mod Named
-pub mod Keys
-pub mod Table
+pub mod Defined
 pub mod Finding
 pub mod Misuse
 pub mod Repeats
 pub mod Sorting
-pub mod Meant

@@ -8,11 +8,11 @@ use Rattle.mp_program.specs.declared.program.FormKind.TheVariants.{Set}
 use Rattle.mp_program.specs.declared.program.Expr.{Expr}
 use Rattle.mp_program.specs.declared.program.Form.{Form}
 use Rattle.mp_program.specs.declared.program.Program.{Program}
-use Rattle.mp_names.specs.declared.named.Named.{Named}
+use Rattle.name_meanings.specs.declared.named.Named.{Named}
 use Rattle.mp_names.specs.declared.uses.Misuse.{Misuse}
 use Rattle.mp_names.specs.declared.uses.Misuse.TheVariants.{Undefined, OfProcess, OfUnset}
-use Rattle.mp_names.specs.declared.table.NameTable.{NameTable}
-use Rattle.mp_names.specs.Table.{known}
+use Rattle.name_meanings.specs.declared.table.NameTable.{NameTable}
+use Rattle.name_meanings.specs.Table.{known}
 use Rattle.mp_names.specs.Finding.{earlier_of, earliest}
 
 -- to use a name of which this is known is such a misuse

@@ -8,8 +8,8 @@ use Rattle.mp_program.specs.declared.program.Process.{Process}
 use Rattle.mp_program.specs.Names.{is_supply}
 use Rattle.mp_rules.specs.Entries.{IsAt}
 use Rattle.mp_rules.specs.Naming.{is_reserved}
-use Rattle.mp_names.specs.declared.table.NameTable.{NameTable}
-use Rattle.mp_names.specs.Table.{known}
+use Rattle.name_meanings.specs.declared.table.NameTable.{NameTable}
+use Rattle.name_meanings.specs.Table.{known}
 
 -- an offset was found that isn't above another
 abbrev pub is_up_to : Option ℕ → ℕ → Bool

@@ -14,8 +14,8 @@ use Rattle.mp_program.specs.declared.program.Program.{Program}
 use Rattle.mp_rules.specs.Sorts.{Sort, IsWord, IsBit, what_sort, operand_sort, result_sort}
 use Rattle.mp_names.specs.declared.sorts.Sort as coded
 use Rattle.mp_names.specs.declared.sorts.Sort.TheVariants as codes
-use Rattle.mp_names.specs.declared.table.NameTable.{NameTable}
-use Rattle.mp_names.specs.Table.{known}
+use Rattle.name_meanings.specs.declared.table.NameTable.{NameTable}
+use Rattle.name_meanings.specs.Table.{known}
 use Rattle.mp_names.specs.Finding.{earlier_of, earliest}
 
 -- the sort that the code means

@@ -5,10 +5,11 @@ ghost use Rattle.mp_base.specs.declared.refusal.Place.{Place};
 ghost use Rattle.mp_program.specs.declared.program.Expr.{Expr};
 ghost use Rattle.mp_program.specs.declared.program.Form.{Form};
 ghost use Rattle.mp_rules.specs.Rules.{E21, E22};
-ghost use Rattle.mp_names.specs.Meaning.{AreMeanings, NamesDefinitions};
+ghost use Rattle.mp_names.specs.Defined.{NamesDefinitions};
+ghost use Rattle.name_meanings.specs.Meaning.{AreMeanings};
 
-use crate::meaning::Meanings;
 use mp_program::Program;
+use name_meanings::Meanings;
 
 /// Where rules E21 and E22 aren't broken, each name that is used is that of a definition.
 pub fn meanings_are_definitions(program: &Program, meanings: &Meanings)

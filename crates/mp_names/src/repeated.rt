@@ -5,14 +5,14 @@ ghost use Rattle.mp_rules.specs.Naming.{is_reserved};
 ghost use Rattle.mp_rules.specs.Rules.{E20};
 ghost use Rattle.mp_rules.specs.Breaking.{IsEarliest};
 ghost use Rattle.mp_names.specs.Finding.{earliest};
-ghost use Rattle.mp_names.specs.Table.{IsNameTable};
+ghost use Rattle.name_meanings.specs.Table.{IsNameTable};
 ghost use Rattle.mp_names.specs.Repeats.{is_repeated, repeated_def, repeated_process, Repeats, RepeatsSupply};
 
 use crate::find::earlier_of;
-use crate::table::NameTable;
 use mp_base::Place;
 use mp_program::{Def, Process, Program, What};
 use mp_rules::earlier;
+use name_meanings::NameTable;
 
 // Whether nothing may have this name.
 fn is_reserved(name: &[u8]) -> bool

@@ -9,14 +9,14 @@ ghost use Rattle.mp_rules.specs.Rules.{E22};
 ghost use Rattle.mp_rules.specs.Breaking.{IsEarliest};
 ghost use Rattle.mp_rules.specs.Sorts.{IsBit, what_sort, operand_sort, result_sort};
 ghost use Rattle.mp_names.specs.Finding.{earliest};
-ghost use Rattle.mp_names.specs.Table.{IsNameTable};
+ghost use Rattle.name_meanings.specs.Table.{IsNameTable};
 ghost use Rattle.mp_names.specs.Sorting.{meant, sort_in, kind_sort, misfit, operand_misfit, form_misfit, earliest_misfit};
 
 use crate::find::earlier_of;
-use crate::table::NameTable;
 use crate::uses::Misuse;
 use mp_base::{Op, Place};
 use mp_program::{Branch, Expr, ExprKind, Form, FormKind, Program, What};
+use name_meanings::NameTable;
 
 /// What an expression is.
 #[derive(Clone, Copy, PartialEq, Eq)]

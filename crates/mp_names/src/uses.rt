@@ -5,13 +5,12 @@ ghost use Rattle.mp_rules.specs.Rules.{E21, E27};
 ghost use Rattle.mp_rules.specs.Breaking.{IsEarliest};
 ghost use Rattle.mp_program.specs.declared.program.Expr.{Expr};
 ghost use Rattle.mp_program.specs.declared.program.Form.{Form};
-ghost use Rattle.mp_names.specs.Table.{IsNameTable};
+ghost use Rattle.name_meanings.specs.Table.{IsNameTable};
 
 use crate::find::earlier_of;
-use crate::named::Named;
-use crate::table::NameTable;
 use mp_base::Place;
 use mp_program::{Expr, ExprKind, Form, FormKind, Program};
+use name_meanings::{NameTable, Named};
 
 /// A misuse of a name: of one that nothing has, of one of a process, or of one that no form may set.
 #[derive(Clone, Copy)]

@@ -11,8 +11,8 @@ use Rattle.mp_program.specs.Names.{is_driven, index_of}
 use Rattle.mp_program.specs.Sound.{IsSound}
 use Rattle.mp_program.specs.Reads.{Reads, Chain, link, more, form_reads, roots}
 use Rattle.mp_program.proofs.Definitions.{same_is}
-use Rattle.mp_names.specs.declared.meaning.Meanings.{Meanings}
-use Rattle.mp_names.specs.Meaning.{AreMeanings}
+use Rattle.name_meanings.specs.declared.meaning.Meanings.{Meanings}
+use Rattle.name_meanings.specs.Meaning.{AreMeanings}
 use Rattle.mp_rules.specs.Entries.{IsAt}
 use Rattle.mp_rules.specs.Breaking.{IsEarliest}
 use Rattle.mp_rules.specs.Rules.{E33}

@@ -16,8 +16,8 @@ use Rattle.mp_program.specs.Names.{is_same, index_of}
 use Rattle.mp_program.specs.Reads.{mentions, sets, kind_sets, form_reads, kind_reads, roots, Reads}
 use Rattle.mp_program.specs.Sound.{IsSound, InnerFit}
 use Rattle.mp_program.proofs.Definitions.{is_same_of, same_is}
-use Rattle.mp_names.specs.declared.meaning.Meanings.{Meanings}
-use Rattle.mp_names.specs.Meaning.{AreMeanings}
+use Rattle.name_meanings.specs.declared.meaning.Meanings.{Meanings}
+use Rattle.name_meanings.specs.Meaning.{AreMeanings}
 use Rattle.mp_rules.specs.Entries.{IsAt}
 use Rattle.mp_order.specs.Tables.{Lifted}
 use Rattle.mp_order.specs.Demands.{IsDriven, OwnNames, AreTops, Marked, root, AreMarks, Asks, AreDemands}

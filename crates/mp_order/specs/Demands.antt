@@ -10,7 +10,7 @@ use Rattle.mp_program.specs.declared.program.Program.{Program}
 use Rattle.mp_program.specs.Names.{is_driven, index_of}
 use Rattle.mp_program.specs.Reads.{mentions, roots, Reads}
 use Rattle.mp_rules.specs.Entries.{IsAt}
-use Rattle.mp_names.specs.declared.meaning.Meanings.{Meanings}
+use Rattle.name_meanings.specs.declared.meaning.Meanings.{Meanings}
 
 -- the definition at an index, which is x, is driven
 abbrev pub IsDriven : Program → ℕ → Def → Type 0

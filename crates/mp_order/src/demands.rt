@@ -2,14 +2,14 @@
 
 ghost use Rattle.std.specs.Prelude.{◌≡◌, ℕ, ◌+◌, ◌<◌, length, replicate, slice_index, Contains, IfOk};
 ghost use Rattle.mp_program.specs.Reads.{roots};
-ghost use Rattle.mp_names.specs.Meaning.{AreMeanings};
+ghost use Rattle.name_meanings.specs.Meaning.{AreMeanings};
 ghost use Rattle.mp_order.specs.Tables.{Lifted};
 ghost use Rattle.mp_order.specs.Demands.{OwnNames, WeighsDriven, AreTops, Gives, AreMarks, Asks, AreDemands};
 
 use crate::table::{greatest, lift, lift_all, read, read_wide, wide_zeros, zeros};
 use mp_base::List;
-use mp_names::Meanings;
 use mp_program::{Branch, ExprKind, FormKind, Program, laws};
+use name_meanings::Meanings;
 use std::alloc::{AllocError, Global};
 
 /// For each expression the greatest weight of a driven definition whose name stands in it.

@@ -6,8 +6,8 @@ ghost use Rattle.mp_order.specs.Chains.{IsSet, SetsFlagged, FlaggedSet};
 
 use crate::table::read;
 use mp_base::Place;
-use mp_names::Meanings;
 use mp_program::{FormKind, Program};
+use name_meanings::Meanings;
 
 /// A `setq`: its place, and the index of the definition that it sets.
 #[derive(Clone, Copy)]

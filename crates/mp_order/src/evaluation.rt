@@ -1,20 +1,19 @@
 //! Orders of evaluation.
 
 ghost use Rattle.std.specs.Prelude.{◌≡◌, length, MatchOption, IfOk};
-ghost use Rattle.mp_names.specs.Meaning.{AreMeanings};
+ghost use Rattle.name_meanings.specs.Meaning.{AreMeanings};
 ghost use Rattle.mp_order.specs.Demands.{OwnNames};
 ghost use Rattle.mp_order.specs.Ranks.{IsListing};
 ghost use Rattle.mp_order.specs.Evaluation.{IsEvaluation};
 
 use crate::earliest::earliest;
-use crate::graph::Graph;
-use crate::hint::{climb, guess_ranks};
 use crate::judge::{is_closed, is_listing, is_ranking, keep_driven};
 use crate::search::search;
 use crate::table::read;
+use evaluation_guesses::{Graph, climb, guess_ranks};
 use mp_base::{List, Place};
-use mp_names::Meanings;
 use mp_program::{Program, laws};
+use name_meanings::Meanings;
 use std::alloc::{AllocError, Global};
 
 /// How the driven definitions of a program can be evaluated.
@@ -50,6 +49,12 @@ fn list_by(
     }
 }
 
+/// What leads from definitions to the definitions that they read.
+fn graph_of(alloc: Global, program: &Program, meanings: &Meanings) -> Result<Graph, AllocError> {
+    let named = meanings.exprs.as_slice();
+    Graph::new(alloc, program, named, meanings.targets.as_slice())
+}
+
 /// The same by a guess, where that stands the test: linear.
 fn guess(
     alloc: Global,
@@ -64,7 +69,7 @@ fn guess(
     laws::sound(program);
     laws::sets(program);
     laws::reads(program);
-    let graph = Graph::new(alloc, program, meanings)?;
+    let graph = graph_of(alloc, program, meanings)?;
     let guessed = guess_ranks(alloc, &graph, program)?;
     let loose = guessed.loose.as_slice();
     let ranks = keep_driven(alloc, program, guessed.ranks.as_slice())?;

@@ -4,15 +4,15 @@ ghost use Rattle.std.specs.Prelude.{◌≡◌, ℕ, ◌+◌, ◌<◌, ◌≤◌,
 ghost use Rattle.mp_program.specs.declared.program.Def.{Def};
 ghost use Rattle.mp_program.specs.Names.{is_driven};
 ghost use Rattle.mp_program.specs.Reads.{Chain};
-ghost use Rattle.mp_names.specs.Meaning.{AreMeanings};
+ghost use Rattle.name_meanings.specs.Meaning.{AreMeanings};
 ghost use Rattle.mp_order.specs.Demands.{OwnNames, WeighsDriven, IsDriven};
 ghost use Rattle.mp_order.specs.Ranks.{IsRanking, IsListing, Climbs};
 
 use crate::demands::demands;
 use crate::table::{read, read_wide, zeros};
 use mp_base::List;
-use mp_names::Meanings;
 use mp_program::{Def, Program};
+use name_meanings::Meanings;
 use std::alloc::{AllocError, Global};
 
 /// The numbers of the driven definitions, and 0 for each other one.

@@ -2,11 +2,8 @@
 #![tactic(auto)]
 
 mod demands;
-mod driven;
 mod earliest;
 mod evaluation;
-mod graph;
-mod hint;
 mod judge;
 pub mod laws;
 mod search;

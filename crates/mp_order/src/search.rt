@@ -2,7 +2,7 @@
 
 ghost use Rattle.std.specs.Prelude.{◌≡◌, ℕ, ◌+◌, ◌<◌, ◌≤◌, false, if◌then◌else◌, length, slice_index, IfOk, OnOk};
 ghost use Rattle.mp_program.specs.declared.program.Def.{Def};
-ghost use Rattle.mp_names.specs.Meaning.{AreMeanings};
+ghost use Rattle.name_meanings.specs.Meaning.{AreMeanings};
 ghost use Rattle.mp_order.specs.Demands.{OwnNames, IsDriven};
 ghost use Rattle.mp_order.specs.Chains.{Widened, blanks, AreReachers, Placed};
 ghost use Rattle.mp_order.specs.Evaluation.{IsEvaluation};
@@ -12,8 +12,8 @@ use crate::earliest::earliest;
 use crate::evaluation::Evaluation;
 use crate::table::{read, read_wide, zeros};
 use mp_base::List;
-use mp_names::Meanings;
 use mp_program::{Program, laws};
+use name_meanings::Meanings;
 use std::alloc::{AllocError, Global};
 
 /// Gives the weight 1 to each driven definition that has none and reads one that has; whether there is any.

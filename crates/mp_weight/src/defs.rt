@@ -4,14 +4,14 @@ ghost use Rattle.std.specs.Prelude.{◌≡◌, ◌+◌, ◌<◌, ◌^◌, ℕ, I
 ghost use Rattle.std.specs.List.{sum_by};
 ghost use Rattle.mp_program.specs.declared.program.Def.{Def};
 ghost use Rattle.mp_program.specs.Weight.{def_weight, sets_of};
-ghost use Rattle.mp_names.specs.Meaning.{AreMeanings};
+ghost use Rattle.name_meanings.specs.Meaning.{AreMeanings};
 ghost use Rattle.mp_rules.specs.Naming.{OwnNames};
 ghost use Rattle.mp_weight.specs.Weighing.{AreSetCounts, counted};
 
 use crate::capped::{linear, plus};
 use mp_base::List;
-use mp_names::Meanings;
 use mp_program::{FormKind, Program, Way, What};
+use name_meanings::Meanings;
 use std::alloc::{AllocError, Global};
 
 fn count_set(kind: &FormKind, target: u32, counts: &mut List<u64>)

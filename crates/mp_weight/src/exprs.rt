@@ -4,13 +4,13 @@ ghost use Rattle.std.specs.Prelude.{◌≡◌, ◌<◌, ◌^◌, length, min};
 ghost use Rattle.std.specs.List.{sum_by};
 ghost use Rattle.mp_program.specs.declared.program.Expr.{Expr};
 ghost use Rattle.mp_program.specs.Weight.{is_constant, op_weight, expr_weight};
-ghost use Rattle.mp_names.specs.Meaning.{AreMeanings};
+ghost use Rattle.name_meanings.specs.Meaning.{AreMeanings};
 ghost use Rattle.mp_weight.specs.Weighing.{is_constant_at, expr_weight_of};
 
 use crate::capped::plus;
 use mp_base::Op;
-use mp_names::Meanings;
 use mp_program::{Def, ExprKind, Program, What};
+use name_meanings::Meanings;
 
 fn op_weight(op: Op, operands: u64) -> u64
     requires { operands < 2 ^ 63 }

@@ -4,7 +4,7 @@ ghost use Rattle.std.specs.Prelude.{◌≡◌, ◌<◌, ◌≤◌, ℕ, IfOk, Ma
 ghost use Rattle.std.specs.List.{sum_by};
 ghost use Rattle.mp_program.specs.declared.program.Form.{Form};
 ghost use Rattle.mp_program.specs.Weight.{calls_in, form_weight, process_weight, weight};
-ghost use Rattle.mp_names.specs.Meaning.{AreMeanings};
+ghost use Rattle.name_meanings.specs.Meaning.{AreMeanings};
 ghost use Rattle.mp_rules.specs.Naming.{OwnNames};
 ghost use Rattle.mp_weight.specs.Weighing.{process_weight_of};
 
@@ -12,8 +12,8 @@ use crate::calls::{calls, sum_at};
 use crate::capped::{linear, plus, times};
 use crate::defs::defs_weight;
 use crate::exprs::exprs_weight;
-use mp_names::Meanings;
 use mp_program::{FormKind, Process, Program};
+use name_meanings::Meanings;
 use std::alloc::{AllocError, Global};
 
 /// The weight of a form, without what stands in it.

@@ -2,7 +2,8 @@
 
 ghost use Rattle.std.specs.Prelude.{◌≡◌, ◌<◌, ◌∷◌, [], ℕ, Contains, length, map, true, IfOk};
 ghost use Rattle.mp_base.specs.declared.op.Op.TheVariants.{Not};
-ghost use Rattle.mp_names.specs.Meaning.{AreMeanings, NamesDefinitions};
+ghost use Rattle.mp_names.specs.Defined.{NamesDefinitions};
+ghost use Rattle.name_meanings.specs.Meaning.{AreMeanings};
 ghost use Rattle.mp_rules.specs.Breaking.{IsUnbroken};
 ghost use Rattle.rtl_form.specs.declared.rtl.RtlExpr.TheVariants.{Truth, Apply};
 ghost use Rattle.process_plan.specs.Roles.{AreCells};

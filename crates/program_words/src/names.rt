@@ -1,8 +1,8 @@
 //! Where names are wrong, what they mean, and what a program weighs.
 
 ghost use Rattle.std.specs.Prelude.{◌+◌, ◌<◌, ◌^◌, length};
-ghost use Rattle.mp_names.specs.Meaning.{AreMeanings};
-ghost use Rattle.mp_names.specs.Table.{IsNameTable};
+ghost use Rattle.name_meanings.specs.Meaning.{AreMeanings};
+ghost use Rattle.name_meanings.specs.Table.{IsNameTable};
 ghost use Rattle.mp_rules.specs.Naming.{OwnNames};
 
 use crate::syntax::program_of;

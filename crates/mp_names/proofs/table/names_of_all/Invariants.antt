@@ -1,6 +1,0 @@
-use Rattle.std.proofs.Common.{take}
-use Rattle.mp_names.specs.Keys.{HoldsNames}
-use Rattle.mp_names.proofs.table.names_of_all.Given as goal
-
-abbrev pub invariant-loop-process : goal.invariant-loop-process
-invariant-loop-process l = HoldsNames l.defs (take l.process-index l.processes) l.names
