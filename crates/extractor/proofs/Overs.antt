@@ -12,7 +12,7 @@ use Rattle.lam_geom.specs.Squares.{Square, rank, covered}
 use Rattle.switch_net.specs.Conductors.{ConductsOn}
 use Rattle.switch_net.specs.Drawn.{AreNodes, IsOfNode}
 use Rattle.switch_net.specs.Labels.{Names, IsNamed, IsFirst}
-use Rattle.mask_nodes.specs.Columns.{square_at}
+use Rattle.mask_pieces.specs.Columns.{square_at}
 use Rattle.mask_nodes.specs.Drawn.{AreNodesOver, IsNodeOver}
 use Rattle.extractor.specs.declared.over.Over.{Over}
 use Rattle.extractor.specs.Naming.{first_node, named_node, node_on, or_else, point_of}

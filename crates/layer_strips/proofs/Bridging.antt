@@ -11,10 +11,10 @@ use Rattle.lam_geom.specs.declared.rect.Rect.{Rect}
 use Rattle.lam_geom.specs.Squares.{Covers, covered}
 use Rattle.mask_runs.specs.declared.mask.Mask.TheVariants.{Only}
 use Rattle.mask_runs.specs.Colours.{HasColour}
-use Rattle.region_sweep.specs.declared.tile.Tile.{Tile}
-use Rattle.region_sweep.specs.Tiles.{IsLongest, IsSpan, IsTile, Before, AreTiles}
-use Rattle.region_sweep.proofs.Longest.{longest_once}
-use Rattle.region_sweep.proofs.SeenLayers.{covered_only, only_covered}
+use Rattle.mask_tiles.specs.declared.tile.Tile.{Tile}
+use Rattle.mask_tiles.specs.Tiles.{IsLongest, IsSpan, IsTile, Before, AreTiles}
+use Rattle.mask_tiles.proofs.Longest.{longest_once}
+use Rattle.mask_tiles.proofs.SeenLayers.{covered_only, only_covered}
 use Rattle.layer_strips.specs.Strips.{IsRun, IsStrip}
 use Rattle.layer_strips.specs.Layers.{rect_of, AreStripsOf}
 use Rattle.layer_strips.specs.Sweep.{IsSolid, AreApart, strip, no_strip}

@@ -3,7 +3,7 @@ use Rattle.std.specs.Prelude.{◌≡◌, ◌≢◌, ℕ, ◌<◌, List, ◌++◌
 use Rattle.lam_geom.specs.declared.layer.Layer.{Layer}
 use Rattle.lam_geom.specs.declared.rect.Rect.{Rect}
 use Rattle.lam_geom.specs.Squares.{rank}
-use Rattle.region_sweep.specs.declared.tile.Tile.{Tile}
+use Rattle.mask_tiles.specs.declared.tile.Tile.{Tile}
 use Rattle.union_find.specs.declared.pair.Pair.{Pair}
 use Rattle.layer_strips.specs.Strips.{IsStrip}
 

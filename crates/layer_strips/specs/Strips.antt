@@ -3,7 +3,7 @@ use Rattle.std.specs.Prelude.{◌≡◌, ◌≢◌, ℕ, ◌<◌, ℤ, List, All
 use Rattle.lam_geom.specs.declared.layer.Layer.{Layer}
 use Rattle.lam_geom.specs.declared.rect.Rect.{Rect}
 use Rattle.lam_geom.specs.Squares.{covered, Touch}
-use Rattle.region_sweep.specs.Tiles.{IsLongest}
+use Rattle.mask_tiles.specs.Tiles.{IsLongest}
 use Rattle.union_find.specs.declared.pair.Pair.{Pair}
 
 -- a longest row of covered squares of one layer

@@ -12,29 +12,28 @@ use Rattle.lam_geom.specs.declared.rect.Rect.{Rect}
 use Rattle.lam_geom.specs.Chains.{Chain}
 use Rattle.lam_geom.specs.Squares.{Square, Adjoin, IsIn, ShareEdge, covered}
 use Rattle.mask_runs.specs.Laws.{OneColour}
-use Rattle.region_sweep.specs.declared.tile.Tile.{Tile}
-use Rattle.region_sweep.specs.declared.swept.Swept.{Swept}
-use Rattle.region_sweep.specs.Tiles.{InTile}
-use Rattle.region_sweep.specs.Touching.{TouchAt}
+use Rattle.mask_tiles.specs.declared.tile.Tile.{Tile}
+use Rattle.mask_tiles.specs.declared.swept.Swept.{Swept}
+use Rattle.mask_tiles.specs.Tiles.{InTile}
+use Rattle.mask_tiles.specs.Touching.{TouchAt}
 use Rattle.switch_net.specs.Classes.{IsInClass}
 use Rattle.switch_net.specs.Conductors.{IsChannelSquare}
 use Rattle.switch_net.specs.Drawn.{IsOfNode, IsOfChannel, IsEnd}
 use Rattle.union_find.specs.declared.pair.Pair.{Pair}
-use Rattle.mask_nodes.specs.declared.piece.Part.{Part}
-use Rattle.mask_nodes.specs.declared.piece.Part.TheVariants.{Conductor}
-use Rattle.mask_nodes.specs.declared.piece.Piece.{Piece}
-use Rattle.mask_nodes.specs.declared.cut.Cut.{Cut}
-use Rattle.mask_nodes.specs.declared.numbering.Classes.{Classes}
-use Rattle.mask_nodes.specs.Pieces.{no_piece, is_conductor, piece_of, corner_on, on}
-use Rattle.mask_nodes.specs.Pieces.{HasConductor, HasChannel}
-use Rattle.mask_nodes.specs.Linking.{conducts_at}
-use Rattle.mask_nodes.specs.Masks.{AreMasks}
-use Rattle.mask_nodes.specs.CutOf.{IsCutOf}
-use Rattle.mask_nodes.specs.Classed.{AreClassed, node_squares, channel_squares}
+use Rattle.mask_pieces.specs.declared.piece.Part.{Part}
+use Rattle.mask_pieces.specs.declared.piece.Part.TheVariants.{Conductor}
+use Rattle.mask_pieces.specs.declared.piece.Piece.{Piece}
+use Rattle.mask_pieces.specs.declared.cut.Cut.{Cut}
+use Rattle.piece_classes.specs.declared.numbering.Classes.{Classes}
+use Rattle.mask_pieces.specs.Pieces.{no_piece, is_conductor, piece_of, corner_on, on, HasConductor, HasChannel}
+use Rattle.mask_pieces.specs.Pieces.{conducts_at}
+use Rattle.mask_pieces.specs.Masks.{AreMasks}
+use Rattle.mask_pieces.specs.CutOf.{IsCutOf}
+use Rattle.piece_classes.specs.Classed.{AreClassed, node_squares, channel_squares}
 use Rattle.mask_nodes.specs.Ends.{pair_of, IsGivenBy, IsEndAt, IsEndOf}
-use Rattle.mask_nodes.proofs.CutUp.{one_place, channel_layer}
-use Rattle.mask_nodes.proofs.Linked.{conductor_part, turned_edge}
-use Rattle.mask_nodes.proofs.LinksMade.{not_conductor}
+use Rattle.mask_pieces.proofs.CutUp.{one_place, channel_layer}
+use Rattle.piece_classes.proofs.Linked.{conductor_part, turned_edge}
+use Rattle.piece_classes.proofs.LinksMade.{not_conductor}
 
 -- a square of a piece is one of its tile
 in_tile : (p : Piece) (n : ℕ) (t : Tile) (l : Layer) (s : Square) → p ≡ piece_of ND n t → IsIn (on l p.rect) s

@@ -16,27 +16,26 @@ use Rattle.lam_geom.specs.declared.place.Point.{Point}
 use Rattle.lam_geom.specs.declared.rect.Rect.{Rect}
 use Rattle.lam_geom.specs.Squares.{Square, covered}
 use Rattle.mask_runs.specs.Laws.{OneColour}
-use Rattle.region_sweep.specs.declared.tile.Tile.{Tile}
-use Rattle.region_sweep.specs.declared.swept.Swept.{Swept}
+use Rattle.mask_tiles.specs.declared.tile.Tile.{Tile}
+use Rattle.mask_tiles.specs.declared.swept.Swept.{Swept}
 use Rattle.switch_net.specs.declared.network.Channel.{Channel}
 use Rattle.switch_net.specs.Conductors.{ConductsOn, IsChannelSquare}
 use Rattle.switch_net.specs.Drawn.{IsOfNode, IsOfChannel, IsKind, IsChannelAt}
 use Rattle.union_find.specs.declared.pair.Pair.{Pair}
-use Rattle.mask_nodes.specs.declared.piece.Part.{Part}
-use Rattle.mask_nodes.specs.declared.piece.Part.TheVariants.{Conductor, Plain, Implanted}
-use Rattle.mask_nodes.specs.declared.piece.Piece.{Piece}
-use Rattle.mask_nodes.specs.declared.cut.Cut.{Cut}
-use Rattle.mask_nodes.specs.declared.numbering.Classes.{Classes}
-use Rattle.mask_nodes.specs.Pieces.{no_piece, is_conductor, corner_on, HasConductor, HasChannel}
-use Rattle.mask_nodes.specs.Pieces.{first_channel}
-use Rattle.mask_nodes.specs.Linking.{conducts_at}
-use Rattle.mask_nodes.specs.Columns.{corner_point, square_at, IsPieceOver, AreOver}
-use Rattle.mask_nodes.specs.Masks.{asked, AreMasks}
-use Rattle.mask_nodes.specs.CutOf.{IsCutOf}
-use Rattle.mask_nodes.specs.Classed.{AreClassed, node_squares, channel_squares}
+use Rattle.mask_pieces.specs.declared.piece.Part.{Part}
+use Rattle.mask_pieces.specs.declared.piece.Part.TheVariants.{Conductor, Plain, Implanted}
+use Rattle.mask_pieces.specs.declared.piece.Piece.{Piece}
+use Rattle.mask_pieces.specs.declared.cut.Cut.{Cut}
+use Rattle.piece_classes.specs.declared.numbering.Classes.{Classes}
+use Rattle.mask_pieces.specs.Pieces.{no_piece, is_conductor, corner_on, HasConductor, HasChannel, first_channel}
+use Rattle.mask_pieces.specs.Pieces.{conducts_at}
+use Rattle.mask_pieces.specs.Columns.{corner_point, square_at, IsPieceOver, AreOver}
+use Rattle.mask_pieces.specs.Masks.{asked, AreMasks}
+use Rattle.mask_pieces.specs.CutOf.{IsCutOf}
+use Rattle.piece_classes.specs.Classed.{AreClassed, node_squares, channel_squares}
 use Rattle.mask_nodes.specs.Ends.{pair_of, IsGivenBy, IsEndOf, HasPart, or_zero, gate_of, HasGate, kind_of, IsListedAs}
 use Rattle.mask_nodes.specs.Ends.{AreListed}
-use Rattle.mask_nodes.proofs.Covering.{polysilicon_over}
+use Rattle.mask_pieces.proofs.Covering.{polysilicon_over}
 use Rattle.mask_nodes.proofs.Bordering.{of_channel, number_of, end_from, end_to, tile_of, on_diffusion}
 
 -- one of the later places

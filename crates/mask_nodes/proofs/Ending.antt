@@ -16,11 +16,12 @@ use Rattle.std.proofs.lemmas.Option.{same_Some, slice_get_within, slice_get-get_
 use Rattle.mp_base.proofs.Entries.{get_from_contains, contains_from_get}
 use Rattle.mp_base.proofs.Contents.{only_one}
 use Rattle.union_find.specs.declared.pair.Pair.{Pair}
-use Rattle.mask_nodes.specs.declared.piece.Part.{Part}
-use Rattle.mask_nodes.specs.declared.piece.Piece.{Piece}
-use Rattle.mask_nodes.specs.Linking.{Gains, conducts_at}
+use Rattle.mask_pieces.specs.declared.piece.Part.{Part}
+use Rattle.mask_pieces.specs.declared.piece.Piece.{Piece}
+use Rattle.piece_classes.specs.Linking.{Gains}
+use Rattle.mask_pieces.specs.Pieces.{conducts_at}
 use Rattle.mask_nodes.specs.Ends.{pair_of, IsGivenBy, IsEndAt, IsEndOf, HasPart}
-use Rattle.mask_nodes.proofs.Gaining.{gains_one, gains_then, gains_none}
+use Rattle.piece_classes.proofs.Gaining.{gains_one, gains_then, gains_none}
 
 -- what one more pair gives
 pub given_more : (Gives : Pair → Pair → Type 0) (touching : List Pair) (place : ℕ) (p : Pair)

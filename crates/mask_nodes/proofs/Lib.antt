@@ -1,19 +1,4 @@
-pub mod Classes
-pub mod Seeing
-pub mod Tiling
-pub mod CutUp
-pub mod Owning
-pub mod Listing
-pub mod Gaining
-pub mod Numbered
-pub mod Assembling
-pub mod Linked
-pub mod LinksMade
-pub mod Covering
-pub mod Together
-pub mod CutLemmas
-pub mod Classing
-pub mod Placing
-pub mod Ending
-pub mod Bordering
-pub mod ChannelsMade
+mod Placing
+mod Ending
+mod Bordering
+mod ChannelsMade

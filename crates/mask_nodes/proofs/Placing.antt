@@ -14,19 +14,18 @@ use Rattle.lam_geom.specs.declared.layer.Layer.{Layer}
 use Rattle.lam_geom.specs.declared.place.Point.{Point}
 use Rattle.lam_geom.specs.declared.rect.Rect.{Rect}
 use Rattle.mask_runs.specs.declared.mask.Mask.{Mask}
-use Rattle.region_sweep.specs.declared.tile.Tile.{Tile}
-use Rattle.region_sweep.specs.declared.swept.Swept.{Swept}
-use Rattle.region_sweep.specs.Tiles.{IsTileOf}
-use Rattle.mask_nodes.specs.declared.piece.Piece.{Piece}
-use Rattle.mask_nodes.specs.declared.numbering.Classes.{Classes}
-use Rattle.mask_nodes.specs.Pieces.{AreNumbersOf}
-use Rattle.mask_nodes.specs.Linking.{conducts_at, over}
-use Rattle.mask_nodes.specs.Columns.{corner_point, IsPieceOver, AreOver}
-use Rattle.mask_nodes.specs.Masks.{asked, IsSwept}
-use Rattle.mask_nodes.specs.CutOf.{IsReady}
-use Rattle.mask_nodes.specs.Classed.{node_squares, AreClassed}
+use Rattle.mask_tiles.specs.declared.tile.Tile.{Tile}
+use Rattle.mask_tiles.specs.declared.swept.Swept.{Swept}
+use Rattle.mask_tiles.specs.Tiles.{IsTileOf}
+use Rattle.mask_pieces.specs.declared.piece.Piece.{Piece}
+use Rattle.piece_classes.specs.declared.numbering.Classes.{Classes}
+use Rattle.mask_pieces.specs.Pieces.{AreNumbersOf, conducts_at, over}
+use Rattle.mask_pieces.specs.Columns.{corner_point, IsPieceOver, AreOver}
+use Rattle.mask_pieces.specs.Masks.{asked, IsSwept}
+use Rattle.mask_pieces.specs.CutOf.{IsReady}
+use Rattle.piece_classes.specs.Classed.{node_squares, AreClassed}
 use Rattle.mask_nodes.specs.Drawn.{IsNodeOver, AreNodesOver}
-use Rattle.mask_nodes.proofs.Covering.{found_inside, numbers_inside}
+use Rattle.mask_pieces.proofs.Covering.{found_inside, numbers_inside}
 
 pub is_ready : (shapes : List Rect) (mask : Mask) (places : List Point) (s : Swept) → IsSwept shapes mask places s
     → IsReady s

@@ -9,7 +9,7 @@ use Rattle.lam_geom.specs.Squares.{Square, covered}
 use Rattle.switch_net.specs.Conductors.{ConductsOn}
 use Rattle.switch_net.specs.Drawn.{AreNodes, AreRegions, IsOfNode, IsChannelAt}
 use Rattle.mask_nodes.specs.declared.drawing.Drawing.{Drawing}
-use Rattle.mask_nodes.specs.Columns.{square_at}
+use Rattle.mask_pieces.specs.Columns.{square_at}
 
 -- the number of the node of the conductor of the layer at a place, or none where nothing conducts there
 abbrev pub IsNodeOver : List Rect → List Square → Layer → Point → Option ℕ → Type 0

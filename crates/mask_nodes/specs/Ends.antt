@@ -5,10 +5,9 @@ use Rattle.switch_net.specs.declared.network.ChannelKind.{ChannelKind}
 use Rattle.switch_net.specs.declared.network.ChannelKind.TheVariants.{Enhancement, Depletion, Partial}
 use Rattle.switch_net.specs.declared.network.Channel.{Channel}
 use Rattle.union_find.specs.declared.pair.Pair.{Pair}
-use Rattle.mask_nodes.specs.declared.piece.Part.{Part}
-use Rattle.mask_nodes.specs.declared.piece.Piece.{Piece}
-use Rattle.mask_nodes.specs.Pieces.{no_piece}
-use Rattle.mask_nodes.specs.Linking.{conducts_at}
+use Rattle.mask_pieces.specs.declared.piece.Part.{Part}
+use Rattle.mask_pieces.specs.declared.piece.Piece.{Piece}
+use Rattle.mask_pieces.specs.Pieces.{no_piece, conducts_at}
 
 -- two numbers
 abbrev pub pair_of : ℕ → ℕ → Pair

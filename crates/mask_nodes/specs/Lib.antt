@@ -1,10 +1,2 @@
-pub mod Numbers
-pub mod Pieces
-pub mod Merging
-pub mod Linking
-pub mod Columns
-pub mod Masks
-pub mod Classed
-pub mod CutOf
 pub mod Drawn
 pub mod Ends

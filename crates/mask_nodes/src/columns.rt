@@ -5,15 +5,14 @@ ghost use Rattle.std.specs.Option.{ForSome, option_map};
 ghost use Rattle.lam_geom.specs.declared.layer.Layer.TheVariants.{NM, NP, ND};
 ghost use Rattle.lam_geom.specs.declared.place.Point.{Point};
 ghost use Rattle.lam_geom.specs.declared.rect.Rect.{Rect};
-ghost use Rattle.mask_nodes.specs.Masks.{AreMasks};
-ghost use Rattle.mask_nodes.specs.CutOf.{IsCutOf};
-ghost use Rattle.mask_nodes.specs.Classed.{AreClassed, node_squares};
+ghost use Rattle.mask_pieces.specs.Masks.{AreMasks};
+ghost use Rattle.mask_pieces.specs.CutOf.{IsCutOf};
+ghost use Rattle.piece_classes.specs.Classed.{AreClassed, node_squares};
 ghost use Rattle.mask_nodes.specs.Drawn.{AreNodesOver};
 
-use crate::classify::Classed;
-use crate::cut::Cut;
-use crate::masks::Masks;
+use mask_pieces::{Cut, Masks};
 use mp_base::{List, NoMemory};
+use piece_classes::Classed;
 use std::alloc::Global;
 
 /// For each of the places that were asked for the node of the conductor there, layer by layer.

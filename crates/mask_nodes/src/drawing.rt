@@ -3,18 +3,18 @@
 ghost use Rattle.std.specs.Prelude.{◌≡◌, length, IfOk, List};
 ghost use Rattle.lam_geom.specs.declared.place.Point.{Point};
 ghost use Rattle.lam_geom.specs.declared.rect.Rect.{Rect};
-ghost use Rattle.mask_nodes.specs.Masks.{AreMasks};
-ghost use Rattle.mask_nodes.specs.CutOf.{IsCutOf};
-ghost use Rattle.mask_nodes.specs.Classed.{AreClassed};
+ghost use Rattle.mask_pieces.specs.Masks.{AreMasks};
+ghost use Rattle.mask_pieces.specs.CutOf.{IsCutOf};
+ghost use Rattle.piece_classes.specs.Classed.{AreClassed};
 ghost use Rattle.mask_nodes.specs.Drawn.{IsDrawn};
 
 use crate::channels::channels;
-use crate::classify::{Classed, classify};
 use crate::columns::{Columns, node_columns};
-use crate::cut::{Cut, cut_masks};
-use crate::masks::{Masks, sweep_masks};
+use crate::masks::sweep_masks;
 use lam_geom::{Point, Rect};
+use mask_pieces::{Cut, Masks, cut_masks};
 use mp_base::{List, NoMemory};
+use piece_classes::{Classed, classify};
 use std::alloc::Global;
 use switch_net::Channel;
 

@@ -3,10 +3,10 @@
 ghost use Rattle.std.specs.Prelude.{◌≡◌, ◌↔◌, ◌<◌, ◌≤◌, ℕ, length, get_or, All, AllPairs, Contains, IfOk, OnOk};
 ghost use Rattle.std.specs.List.Sorted.{IsNonDecreasingBy};
 ghost use Rattle.union_find.specs.declared.pair.Pair.{Pair};
-ghost use Rattle.mask_nodes.specs.Linking.{Gains};
+ghost use Rattle.piece_classes.specs.Linking.{Gains};
 ghost use Rattle.mask_nodes.specs.Ends.{pair_of, IsGivenBy, IsEndAt, IsEndOf};
 
-use crate::piece::Piece;
+use mask_pieces::Piece;
 use mp_base::{List, NoMemory};
 use std::alloc::Global;
 use union_find::Pair;

@@ -3,7 +3,7 @@
 ghost use Rattle.std.specs.Prelude.{◌≡◌, ◌<◌, ◌+◌, All, IfOk, map};
 ghost use Rattle.mask_nodes.specs.Ends.{gate_of, HasGate};
 
-use crate::piece::Piece;
+use mask_pieces::Piece;
 use mp_base::{List, NoMemory};
 use std::alloc::Global;
 

@@ -1,10 +1,10 @@
 //! The kinds of channels.
 
 ghost use Rattle.std.specs.Prelude.{◌≡◌, ◌↔◌, ◌<◌, ℕ, true, false, length, get_or, Some, IfOk, slice_get};
-ghost use Rattle.mask_nodes.specs.declared.piece.Piece.{Piece};
+ghost use Rattle.mask_pieces.specs.declared.piece.Piece.{Piece};
 ghost use Rattle.mask_nodes.specs.Ends.{HasPart, kind_of};
 
-use crate::piece::{Part, Piece};
+use mask_pieces::{Part, Piece};
 use mp_base::NoMemory;
 use std::alloc::Global;
 use switch_net::ChannelKind;

@@ -1,24 +1,15 @@
-//! The masks of contacts and conductors.
+//! The sweeps of the masks of contacts and conductors.
 
 ghost use Rattle.std.specs.Prelude.{IfOk};
-ghost use Rattle.mask_nodes.specs.Masks.{AreMasks};
+ghost use Rattle.mask_pieces.specs.Masks.{AreMasks};
 
 use crate::spots::spots;
 use lam_geom::{Layer, Point, Rect};
+use mask_pieces::Masks;
 use mask_runs::Mask;
-use mp_base::{List, NoMemory};
-use region_sweep::{Swept, sweep};
+use mp_base::NoMemory;
+use region_sweep::sweep;
 use std::alloc::Global;
-
-/// What the sweeps of the masks find. On metal and diffusion the first squares of contacts and some places are asked
-/// for; on polysilicon these, and then the first squares of the tiles of diffusion.
-#[derive(Drop)]
-pub(crate) struct Masks {
-    pub(crate) contacts: Swept,
-    pub(crate) metal: Swept,
-    pub(crate) polysilicon: Swept,
-    pub(crate) diffusion: Swept,
-}
 
 pub(crate) fn sweep_masks(
     alloc: Global,

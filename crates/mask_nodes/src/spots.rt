@@ -1,11 +1,11 @@
 //! Places to ask for.
 
 ghost use Rattle.std.specs.Prelude.{◌≡◌, ◌++◌, map, IfOk, OnOk};
-ghost use Rattle.mask_nodes.specs.Columns.{corner_point};
+ghost use Rattle.mask_pieces.specs.Columns.{corner_point};
 
 use lam_geom::Point;
+use mask_tiles::Tile;
 use mp_base::{List, NoMemory};
-use region_sweep::Tile;
 use std::alloc::Global;
 
 /// The first squares of some tiles, these places, and the first squares of other tiles.

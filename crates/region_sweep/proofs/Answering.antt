@@ -14,7 +14,7 @@ use Rattle.strip_rows.specs.declared.strip.Strip.{Strip}
 use Rattle.strip_rows.specs.Strips.{strip, no_strip, IsStrip, AreStrips}
 use Rattle.region_sweep.specs.declared.block.Block.{Block}
 use Rattle.region_sweep.specs.declared.spot.Spot.{Spot}
-use Rattle.region_sweep.specs.Tiles.{IsTileOf}
+use Rattle.mask_tiles.specs.Tiles.{IsTileOf}
 use Rattle.region_sweep.specs.Grid.{cell_of, tile_of, spot_of, AreSpots}
 use Rattle.region_sweep.specs.Blocks.{painted}
 use Rattle.region_sweep.specs.Rows.{Holds, IsAnswer, AreAnswered, spot, no_spot}

@@ -14,9 +14,9 @@ use Rattle.mask_runs.specs.declared.mask.Layers.{Layers}
 use Rattle.mask_runs.specs.declared.mask.Mask.{Mask}
 use Rattle.mask_runs.specs.Colours.{has, needs, Sees, HasColour}
 use Rattle.mask_runs.specs.Laws.{BlankWithoutNeeded}
-use Rattle.region_sweep.specs.declared.tile.Tile.{Tile}
-use Rattle.region_sweep.specs.Tiles.{AreTiles, AreWhole, IsTileOf}
-use Rattle.region_sweep.proofs.SeenLayers.{layers_of}
+use Rattle.mask_tiles.specs.declared.tile.Tile.{Tile}
+use Rattle.mask_tiles.specs.Tiles.{AreTiles, AreWhole, IsTileOf}
+use Rattle.mask_tiles.proofs.SeenLayers.{layers_of}
 use Rattle.region_sweep.proofs.Squares.{covered_by}
 
 -- no rectangle has a layer that the mask needs

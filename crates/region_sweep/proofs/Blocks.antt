@@ -2,7 +2,7 @@
 use Rattle.std.proofs.Common.{ℕ, ◌≡◌, ◌+◌, ◌-◌, ◌<◌, ◌≤◌, ◌↔◌, List, inl, inr, sym, subst, arith, length}
 use Rattle.std.specs.Prelude.{ℤ, negsuc, ◌+ℤ◌, ◌≤ℤ◌, ◌<ℤ◌}
 use Rattle.std.proofs.lemmas.Int.{ints, by_lt_z}
-use Rattle.region_sweep.specs.Tiles.{IsLongest}
+use Rattle.mask_tiles.specs.Tiles.{IsLongest}
 use Rattle.region_sweep.specs.Grid.{Ascending, cell_of, start_of}
 use Rattle.region_sweep.proofs.Axes.{in_cell, cells_rise, start_is_in, step_back}
 

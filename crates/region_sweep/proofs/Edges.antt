@@ -15,9 +15,9 @@ use Rattle.strip_rows.specs.Strips.{strip, no_strip, AreStrips}
 use Rattle.strip_rows.specs.Touching as cells
 use Rattle.strip_rows.specs.Touching.Touch.{beside, upon}
 use Rattle.region_sweep.specs.declared.block.Block.{Block}
-use Rattle.region_sweep.specs.declared.tile.Tile.{Tile}
-use Rattle.region_sweep.specs.Tiles.{InTile}
-use Rattle.region_sweep.specs.Touching.{Touch, TouchAt, AreTouching}
+use Rattle.mask_tiles.specs.declared.tile.Tile.{Tile}
+use Rattle.mask_tiles.specs.Tiles.{InTile}
+use Rattle.mask_tiles.specs.Touching.{Touch, TouchAt, AreTouching}
 use Rattle.region_sweep.specs.Grid.{Ascending, cell_of, start_of, tile_of, IsFit}
 use Rattle.region_sweep.specs.Blocks.{painted}
 use Rattle.region_sweep.proofs.Axes.{start_is_in}

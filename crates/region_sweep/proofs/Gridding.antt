@@ -1,6 +1,6 @@
 -- The grid, its blocks and its spots, one more at a time.
 use Rattle.std.proofs.Common.{ℕ, ◌≡◌, ◌+◌, ◌<◌, ◌≤◌, ◌⊎◌, ◌↔◌, List, [], ◌∷◌, ◌++◌, true, false, inl, inr, refl, sym}
-use Rattle.std.proofs.Common.{ap, ◌∙◌, subst, arith, length, get_or, take, map, eq-or-lt_of_le}
+use Rattle.std.proofs.Common.{ap, ◌∙◌, subst, arith, length, get_or, take, map, eq-or-lt_of_le, true≢false, pos}
 use Rattle.std.specs.Prelude.{ℤ, All, Contains}
 use Rattle.std.specs.List.Sorted.{IsPermutation, IsNonDecreasingBy}
 use Rattle.std.proofs.lemmas.List.Elements.{All-more, All-weaker, All-push, Contains-append_left, Contains-push}
@@ -8,7 +8,6 @@ use Rattle.std.proofs.lemmas.List.Elements.{Contains-push_cases, All-contains}
 use Rattle.std.proofs.lemmas.List.{map-append, take_all, take_more, get_or_default}
 use Rattle.std.proofs.lemmas.Bool.{cases_lt}
 use Rattle.std.proofs.lemmas.Int.{ints}
-use Rattle.std.proofs.Common.{true≢false, pos}
 use Rattle.std.proofs.lemmas.List.Sorted.{All-permutation, Contains-permutation}
 use Rattle.lam_geom.specs.declared.layer.Layer.TheVariants.{ND}
 use Rattle.lam_geom.specs.declared.rect.Rect.{Rect}
@@ -20,7 +19,7 @@ use Rattle.region_sweep.specs.declared.spot.Spot.{Spot}
 use Rattle.region_sweep.specs.Grid.{IsDrawn, AreDrawn, AreBlocks, block_of, AreSpots, spot_of, Ascending, cell_of}
 use Rattle.region_sweep.specs.Grid.{tile_of}
 use Rattle.strip_rows.specs.declared.strip.Strip.{Strip}
-use Rattle.region_sweep.specs.declared.tile.Tile.{Tile}
+use Rattle.mask_tiles.specs.declared.tile.Tile.{Tile}
 use Rattle.region_sweep.specs.Rows.{AreAsked, no_spot}
 use Rattle.region_sweep.specs.Blocks.{IsInside}
 use Rattle.region_sweep.proofs.Axes.{in_cell}

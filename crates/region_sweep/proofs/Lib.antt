@@ -1,5 +1,3 @@
-pub mod Longest
-pub mod SeenLayers
 mod Axes
 mod Blank
 mod Blocks

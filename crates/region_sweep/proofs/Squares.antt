@@ -1,12 +1,11 @@
 -- The colour of a square is that of its cell.
 use Rattle.std.proofs.Common.{ℕ, zero, suc, ◌≡◌, ◌+◌, ◌<◌, ◌↔◌, List, [], ◌∷◌, true, inl}
-use Rattle.std.proofs.Common.{inr, refl, sym, ◌∙◌, subst, arith, length, get_or}
+use Rattle.std.proofs.Common.{inr, refl, sym, ◌∙◌, subst, arith, length, get_or, add-one}
 use Rattle.std.specs.Prelude.{ℤ, ◌<ℤ◌, Contains}
 use Rattle.std.proofs.lemmas.Int.{ints, by_lt_z}
 use Rattle.std.proofs.lemmas.Bool.{cases_lt}
 use Rattle.std.proofs.lemmas.List.{get_or_default}
 use Rattle.std.proofs.lemmas.List.Elements.{All-contains}
-use Rattle.std.proofs.Common.{add-one}
 use Rattle.mp_base.proofs.Tests.{same_test}
 use Rattle.lam_geom.specs.declared.layer.Layer.{Layer}
 use Rattle.lam_geom.specs.declared.rect.Rect.{Rect}
@@ -20,7 +19,7 @@ use Rattle.region_sweep.specs.Blocks.{is_covered, painted}
 use Rattle.region_sweep.specs.Rows.{block, no_block}
 use Rattle.region_sweep.specs.Grid.{Ascending, cell_of, IsDrawn, AreDrawn, AreBlocks, block_of}
 use Rattle.region_sweep.proofs.Axes.{mark_before}
-use Rattle.region_sweep.proofs.SeenLayers.{layers_of}
+use Rattle.mask_tiles.proofs.SeenLayers.{layers_of}
 use Rattle.region_sweep.proofs.Painting.{CoversCell, Covered, covered_decides, painted_is}
 
 -- the grid of a mask, and its blocks

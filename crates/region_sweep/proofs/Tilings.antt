@@ -16,8 +16,8 @@ use Rattle.mask_runs.proofs.Runs.{same_run}
 use Rattle.strip_rows.specs.declared.strip.Strip.{Strip}
 use Rattle.strip_rows.specs.Strips.{run_of, strip, no_strip, IsStrip, IsBefore, AreStrips}
 use Rattle.region_sweep.specs.declared.block.Block.{Block}
-use Rattle.region_sweep.specs.declared.tile.Tile.{Tile}
-use Rattle.region_sweep.specs.Tiles.{IsLongest, IsSpan, IsTile, AreTiles, AreWhole, Before, InTile}
+use Rattle.mask_tiles.specs.declared.tile.Tile.{Tile}
+use Rattle.mask_tiles.specs.Tiles.{IsLongest, IsSpan, IsTile, AreTiles, AreWhole, Before, InTile}
 use Rattle.region_sweep.specs.Grid.{Ascending, cell_of, start_of, tile_of, IsFit}
 use Rattle.region_sweep.specs.Blocks.{painted, AreStacked}
 use Rattle.region_sweep.proofs.Axes.{in_cell, start_is_in, mark_before}

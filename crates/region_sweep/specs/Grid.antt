@@ -9,7 +9,7 @@ use Rattle.mask_runs.specs.Colours.{uses}
 use Rattle.region_sweep.specs.declared.block.Block.{Block}
 use Rattle.strip_rows.specs.declared.strip.Strip.{Strip}
 use Rattle.region_sweep.specs.declared.spot.Spot.{Spot}
-use Rattle.region_sweep.specs.declared.tile.Tile.{Tile}
+use Rattle.mask_tiles.specs.declared.tile.Tile.{Tile}
 
 -- the marks stand in order, each once
 abbrev pub Ascending : List ℤ → Type 0

@@ -1,5 +1,3 @@
-pub mod Tiles
-pub mod Touching
 pub mod Grid
 pub mod Blocks
 pub mod Rows

@@ -1,4 +1,4 @@
-//! The tiles of a mask: its squares of one colour, cut into rectangles along the rows.
+//! The sweep over a mask: its tiles, those that share an edge, and the tile at a place.
 #![tactic(auto)]
 
 mod axis;
@@ -9,8 +9,7 @@ mod repaint;
 mod rows;
 mod spot;
 mod swept;
-mod tile;
 
-pub use swept::{Swept, sweep};
-pub use tile::Tile;
+pub use mask_tiles::{Swept, Tile};
+pub use swept::sweep;
 pub use union_find::Pair;

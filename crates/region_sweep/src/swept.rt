@@ -3,26 +3,16 @@
 ghost use Rattle.std.specs.Prelude.{◌≡◌, [], All, IfOk, None, true, false};
 ghost use Rattle.std.specs.List.{AllZip};
 ghost use Rattle.mask_runs.specs.Colours.{needs};
-ghost use Rattle.region_sweep.specs.Tiles.{AreTiles, AreWhole, IsTileOf};
-ghost use Rattle.region_sweep.specs.Touching.{AreTouching};
+ghost use Rattle.mask_tiles.specs.Tiles.{AreTiles, AreWhole, IsTileOf};
+ghost use Rattle.mask_tiles.specs.Touching.{AreTouching};
 
 use crate::grid::Grid;
 use crate::rows::sweep_rows;
-use crate::tile::Tile;
 use lam_geom::{Point, Rect};
 use mask_runs::{Mask, blank_without_needed, colours_by_layers};
+use mask_tiles::Swept;
 use mp_base::{List, NoMemory};
 use std::alloc::Global;
-use union_find::Pair;
-
-/// What a sweep finds: the tiles of the mask in the order of their lower left squares, by y and then by x; the numbers
-/// of those that share an edge; and for each place in its turn the number of the tile that has its square.
-#[derive(Drop)]
-pub struct Swept {
-    pub tiles: List<Tile>,
-    pub pairs: List<Pair>,
-    pub found: List<Option<u32>>,
-}
 
 /// Cuts the mask that these rectangles draw into tiles. A rectangle without squares draws nothing. A place names the
 /// square of which it is the lower left corner. More than 2^31 different coordinates of one axis, or tiles, count as

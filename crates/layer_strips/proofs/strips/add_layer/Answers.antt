@@ -2,7 +2,7 @@
 use Rattle.std.proofs.Common.{arith, sym, subst, ap, ◌∙◌, ◌++◌, ◌∷◌, [], map}
 use Rattle.std.proofs.lemmas.List.{take_all}
 use Rattle.mask_runs.specs.declared.mask.Mask.TheVariants.{Only}
-use Rattle.region_sweep.specs.Tiles.{AreTiles}
+use Rattle.mask_tiles.specs.Tiles.{AreTiles}
 use Rattle.layer_strips.specs.Layers.{rect_of}
 use Rattle.layer_strips.proofs.Bridging.{are_strips_of, tiles_more}
 use Rattle.layer_strips.proofs.strips.add_layer.Goals as goal

@@ -2,8 +2,8 @@ use Rattle.std.proofs.Common.{◌≡◌, ◌+◌, ◌-◌, ◌<◌, length, ap, 
 use Rattle.std.specs.Prelude.{All}
 use Rattle.lam_geom.specs.declared.layer.Layer.TheVariants.{ND}
 use Rattle.union_find.specs.declared.pair.Pair.{Pair}
-use Rattle.mask_nodes.specs.declared.piece.Part.TheVariants.{Plain, Implanted}
-use Rattle.mask_nodes.proofs.Covering.{are_inside}
+use Rattle.mask_pieces.specs.declared.piece.Part.TheVariants.{Plain, Implanted}
+use Rattle.mask_pieces.proofs.Covering.{are_inside}
 use Rattle.mask_nodes.proofs.ChannelsMade.{over_length, has_gate, channels_then, number_inside}
 use Rattle.mask_nodes.proofs.channels.channels.Goals as goal
 

@@ -1,5 +1,5 @@
 use Rattle.lam_geom.specs.declared.layer.Layer.TheVariants.{NM, NP, ND}
-use Rattle.mask_nodes.proofs.Covering.{found_inside, over_fewer, metal_over, polysilicon_over, diffusion_over}
+use Rattle.mask_pieces.proofs.Covering.{found_inside, over_fewer, metal_over, polysilicon_over, diffusion_over}
 use Rattle.mask_nodes.proofs.Placing.{inside_slice, slice_long, column_long, column_longer, nodes_then}
 use Rattle.mask_nodes.proofs.columns.node_columns.Goals as goal
 

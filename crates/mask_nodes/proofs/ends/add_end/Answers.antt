@@ -1,5 +1,5 @@
 use Rattle.std.proofs.Common.{get_or, sym, subst, inl, inr, refl, ◌∙◌}
-use Rattle.mask_nodes.specs.Linking.{Gains}
+use Rattle.piece_classes.specs.Linking.{Gains}
 use Rattle.mask_nodes.specs.Ends.{pair_of, IsEndAt}
 use Rattle.mask_nodes.proofs.Ending.{end_added, end_left}
 use Rattle.mask_nodes.proofs.ends.add_end.Goals as goal

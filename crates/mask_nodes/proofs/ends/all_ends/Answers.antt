@@ -1,7 +1,7 @@
 use Rattle.std.proofs.Common.{rules, subst, sym, length}
 use Rattle.std.proofs.lemmas.List.Sorted.{IsNonDecreasingBy-from_sort_by_key}
 use Rattle.union_find.specs.declared.pair.Pair.{Pair}
-use Rattle.mask_nodes.specs.Linking.{Gains}
+use Rattle.piece_classes.specs.Linking.{Gains}
 use Rattle.mask_nodes.specs.Ends.{IsGivenBy, IsEndOf}
 use Rattle.mask_nodes.proofs.Ending.{ends_sorted}
 use Rattle.mask_nodes.proofs.ends.all_ends.Goals as goal

@@ -2,7 +2,7 @@ use Rattle.std.proofs.Common.{ℕ, List, get_or}
 use Rattle.std.proofs.lemmas.Option.{slice_get-get_or}
 use Rattle.union_find.specs.declared.pair.Pair.{Pair}
 use Rattle.mask_nodes.specs.Ends.{pair_of, IsEndOf}
-use Rattle.mask_nodes.proofs.Gaining.{gains_none}
+use Rattle.piece_classes.proofs.Gaining.{gains_none}
 use Rattle.mask_nodes.proofs.Ending.{given_none, ends_more}
 use Rattle.mask_nodes.proofs.ends.list_ends.Goals as goal
 

@@ -1,4 +1,4 @@
-use Rattle.mask_nodes.specs.Linking.{Gains}
+use Rattle.piece_classes.specs.Linking.{Gains}
 use Rattle.mask_nodes.specs.Ends.{IsGivenBy, IsEndOf}
 use Rattle.mask_nodes.proofs.ends.list_ends.Given as goal
 

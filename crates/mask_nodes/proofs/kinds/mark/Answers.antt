@@ -1,7 +1,7 @@
 use Rattle.std.proofs.Common.{◌≡◌, ◌≢◌, ℕ, List, ◌+◌, get_or, set, true, ap, sym, subst, rules, refl}
 use Rattle.std.proofs.lemmas.Option.{slice_get-get_or}
-use Rattle.mask_nodes.specs.declared.piece.Piece.{Piece}
-use Rattle.mask_nodes.specs.Pieces.{no_piece}
+use Rattle.mask_pieces.specs.declared.piece.Piece.{Piece}
+use Rattle.mask_pieces.specs.Pieces.{no_piece}
 use Rattle.mask_nodes.proofs.Ending.{AreMarks, marks_none, marks_more, marks_kept}
 use Rattle.mask_nodes.proofs.kinds.mark.Goals as goal
 use Rattle.mask_nodes.proofs.kinds.mark.Goals.{then-eq, else-eq}

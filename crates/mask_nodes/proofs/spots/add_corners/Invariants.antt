@@ -1,5 +1,5 @@
 use Rattle.std.proofs.Common.{◌≡◌, ◌++◌, map, take}
-use Rattle.mask_nodes.specs.Columns.{corner_point}
+use Rattle.mask_pieces.specs.Columns.{corner_point}
 use Rattle.mask_nodes.proofs.spots.add_corners.Given as goal
 
 abbrev pub invariant-loop-tile : goal.invariant-loop-tile

@@ -2,8 +2,8 @@
 use Rattle.std.proofs.Common.{◌∙◌, ◌<◌, sym, ap, subst, map, length, All}
 use Rattle.std.specs.List.{AllZip}
 use Rattle.std.proofs.lemmas.Result.{IfOk-weaker}
-use Rattle.region_sweep.specs.Tiles.{AreTiles, AreWhole, IsTileOf}
-use Rattle.region_sweep.specs.Touching.{AreTouching}
+use Rattle.mask_tiles.specs.Tiles.{AreTiles, AreWhole, IsTileOf}
+use Rattle.mask_tiles.specs.Touching.{AreTouching}
 use Rattle.region_sweep.specs.Grid.{IsFit, tile_of}
 use Rattle.region_sweep.specs.Blocks.{painted}
 use Rattle.region_sweep.specs.Rows.{IsSweep, AreAsked, AreAnswered}

@@ -1,5 +1,0 @@
-use Rattle.mask_nodes.specs.Pieces.{AreTileNumbers}
-use Rattle.mask_nodes.proofs.tile_numbers.tile_numbers.Given as goal
-
-abbrev pub invariant-loop-i : goal.invariant-loop-i
-invariant-loop-i l = AreTileNumbers l.layer l.count l.pieces l.i l.numbers.items

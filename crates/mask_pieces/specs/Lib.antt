@@ -1,0 +1,5 @@
+pub mod Pieces
+pub mod Merging
+pub mod Columns
+pub mod Masks
+pub mod CutOf
