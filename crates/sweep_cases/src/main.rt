@@ -1,15 +1,11 @@
 //! Sweeps over masks that are drawn by hand, over random ones, and over large ones.
 #![tactic(auto)]
 
-mod drawn;
-mod large;
 mod show;
 mod sums;
-mod wide;
 
-use drawn::counts;
+use drawn_shapes::{comb, counts, stairs, woven};
 use lam_geom::Layer;
-use large::{comb, stairs, woven};
 use mask_runs::Mask;
 use show::{show_list, show_size};
 use std::{fs, io};

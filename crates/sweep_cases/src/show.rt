@@ -1,7 +1,7 @@
 //! What a sweep finds, in words.
 
-use crate::drawn::{mask, part, places, shapes};
 use crate::sums::show_wide;
+use drawn_shapes::{mask, part, places, shapes};
 use lam_geom::{Layer, Point, Rect};
 use layer_strips::{Regions, regions};
 use mask_runs::Mask;

@@ -1,8 +1,7 @@
 //! What a sweep finds in wide drawings, in counts and sums.
 
-use crate::drawn::{mask, part};
 use crate::show::sorted;
-use crate::wide::wide_drawing;
+use drawn_shapes::{mask, part, wide_drawing};
 use lam_geom::Rect;
 use mask_runs::Mask;
 use region_sweep::{Pair, Swept, Tile, sweep};

@@ -16,15 +16,15 @@ pub(crate) const fn rect(layer: Layer, x0: i64, y0: i64, x1: i64, y1: i64) -> Re
 }
 
 /// A part of a line, of which `|` ends each but the last.
-pub(crate) fn part(line: &[u8], index: usize) -> &[u8] {
+pub fn part(line: &[u8], index: usize) -> &[u8] {
     match line.split(|byte| *byte == b'|').nth(index) {
         Some(part) => part,
         None => &[],
     }
 }
 
-/// The mask whose name begins so.
-pub(crate) fn mask(name: &[u8]) -> Option<Mask> {
+/// The mask whose name begins so: `d` for diffusion, `c` for contacts, `m` for metal alone.
+pub fn mask(name: &[u8]) -> Option<Mask> {
     match name {
         [b'd', ..] => Some(Mask::Diffusion),
         [b'c', ..] => Some(Mask::Contacts),
@@ -33,7 +33,7 @@ pub(crate) fn mask(name: &[u8]) -> Option<Mask> {
     }
 }
 
-/// The layer whose second letter this is.
+// The layer whose second letter this is.
 pub(crate) fn layer(letter: u8) -> Layer {
     match letter {
         b'D' => Layer::ND,
@@ -83,7 +83,8 @@ fn push_shape(
     Ok(())
 }
 
-pub(crate) fn shapes(alloc: Global, text: &[u8]) -> Result<Vec<Rect>, AllocError> {
+/// The rectangles of a text: `N` and the second letter of the layer, then the edges; what has not four is left out.
+pub fn shapes(alloc: Global, text: &[u8]) -> Result<Vec<Rect>, AllocError> {
     let mut shapes = Vec::new(alloc);
     for part in text.split(|byte| *byte == b';') {
         if let [b'N', letter, b' ', edges @ ..] = part {
@@ -101,7 +102,8 @@ fn push_place(alloc: Global, places: &mut Vec<Point>, edges: &[u8]) -> Result<()
     Ok(())
 }
 
-pub(crate) fn places(alloc: Global, text: &[u8]) -> Result<Vec<Point>, AllocError> {
+/// The places of a text; what has not two edges is left out.
+pub fn places(alloc: Global, text: &[u8]) -> Result<Vec<Point>, AllocError> {
     let mut places = Vec::new(alloc);
     for part in text.split(|byte| *byte == b';') {
         push_place(alloc, &mut places, part)?;
@@ -109,13 +111,13 @@ pub(crate) fn places(alloc: Global, text: &[u8]) -> Result<Vec<Point>, AllocErro
     Ok(places)
 }
 
-/// The number, below 2^32.
+// The number, below 2^32.
 pub(crate) fn count(text: &[u8]) -> u32 {
     u32::try_from(natural(text)).unwrap_or(0)
 }
 
-/// The numbers of the lines.
-pub(crate) fn counts(alloc: Global, text: &[u8]) -> Result<Vec<u32>, AllocError> {
+/// The numbers of the lines that aren't empty, each below 2^32.
+pub fn counts(alloc: Global, text: &[u8]) -> Result<Vec<u32>, AllocError> {
     let mut counts = Vec::new(alloc);
     for line in text.split(|byte| *byte == b'\n') {
         if !line.is_empty() {

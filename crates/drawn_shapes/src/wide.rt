@@ -88,7 +88,7 @@ fn rectangles(
 
 /// The drawing of a line: after a name and what is swept the letters of the layers, the seed, the width in squares, and
 /// the number of rectangles.
-pub(crate) fn wide_drawing(alloc: Global, line: &[u8]) -> Result<Vec<Rect>, AllocError> {
+pub fn wide_drawing(alloc: Global, line: &[u8]) -> Result<Vec<Rect>, AllocError> {
     let seed = count(part(line, 3));
     let width = count(part(line, 4));
     rectangles(alloc, part(line, 2), seed, width, count(part(line, 5)))

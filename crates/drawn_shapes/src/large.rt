@@ -5,7 +5,7 @@ use lam_geom::{Layer, Rect};
 use std::alloc::{AllocError, Global};
 
 /// Boxes side by side, each of which begins and ends above the one before it, while all others go on.
-pub(crate) fn stairs(alloc: Global, count: u32) -> Result<Vec<Rect>, AllocError> {
+pub fn stairs(alloc: Global, count: u32) -> Result<Vec<Rect>, AllocError> {
     let mut shapes: Vec<Rect> = Vec::new(alloc);
     for number in 0..count {
         let place = number as i64;
@@ -16,7 +16,7 @@ pub(crate) fn stairs(alloc: Global, count: u32) -> Result<Vec<Rect>, AllocError>
 }
 
 /// Teeth side by side from a bar upwards, and teeth from a higher bar downwards, each to another row.
-pub(crate) fn comb(alloc: Global, count: u32) -> Result<Vec<Rect>, AllocError> {
+pub fn comb(alloc: Global, count: u32) -> Result<Vec<Rect>, AllocError> {
     let top = 4 * count as i64;
     let wide = 10 * count as i64;
     let mut shapes: Vec<Rect> = Vec::new(alloc);
@@ -32,7 +32,7 @@ pub(crate) fn comb(alloc: Global, count: u32) -> Result<Vec<Rect>, AllocError> {
 }
 
 /// Wires side by side, under bars of two layers in turn, each on the one before.
-pub(crate) fn woven(
+pub fn woven(
     alloc: Global,
     count: u32,
     wire: Layer,
