@@ -1,12 +1,3 @@
-pub mod Placing
-pub mod Listing
-pub mod Linking
-pub mod Adding
-pub mod Spreading
-pub mod Picking
-pub mod Giving
-pub mod Climbing
-pub mod Passing
-pub mod Waking
-pub mod Looking
-pub mod Starting
+mod Waking
+mod Looking
+mod Starting

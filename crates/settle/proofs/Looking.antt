@@ -1,21 +1,20 @@
 -- What a look at a cluster tells.
-use Rattle.std.proofs.Common.{◌≡◌, ◌<◌, ℕ, List, [], ◌∷◌, Option, Some, None, Bool, zero, suc, length, get_or, refl}
-use Rattle.std.proofs.Common.{sym, ◌∙◌, ap, subst, inl, inr, ◌⊎◌, arith}
+use Rattle.std.proofs.Common.{◌≡◌, ◌<◌, ℕ, List, [], ◌∷◌, Bool, zero, suc, length, get_or}
+use Rattle.std.proofs.Common.{◌∙◌, subst, inl, inr, ◌⊎◌, arith}
 use Rattle.std.specs.Prelude.{Contains, All, ◌≢◌}
 use Rattle.std.proofs.lemmas.Bool.{cases_eq}
 use Rattle.mp_base.specs.declared.value.Trit.{Trit}
 use Rattle.mp_base.specs.declared.value.Trit.TheVariants.{Zero, One}
 use Rattle.mp_base.proofs.Contents.{nothing_in}
-use Rattle.switch_net.specs.declared.network.ChannelKind.TheVariants.{Enhancement}
 use Rattle.switch_net.specs.declared.network.Channel.{Channel}
 use Rattle.switch_net.specs.Settled.{Setting, Gives}
 use Rattle.switch_net.specs.Laws.{GivesOnce}
 use Rattle.settle_laws.specs.Told.{IsGiven, IsLook}
 use Rattle.settle_laws.specs.Laws.{LooksTell}
-use Rattle.settle.specs.Values.{value_at, IsMarked}
-use Rattle.settle.specs.Links.{AreGated}
-use Rattle.settle.specs.Spread.{Picks}
-use Rattle.settle.specs.Give.{IsCluster}
+use Rattle.node_clusters.specs.Values.{value_at, IsMarked}
+use Rattle.node_clusters.specs.Links.{AreGated}
+use Rattle.node_clusters.specs.Spread.{Picks}
+use Rattle.node_clusters.specs.Give.{IsCluster}
 use Rattle.settle.specs.Wake.{Renews}
 use Rattle.settle.specs.Start.{IsReady}
 use Rattle.settle.proofs.Waking.{mark_at}

@@ -1,5 +1,5 @@
 -- What is told at the start of a settling.
-use Rattle.std.proofs.Common.{◌≡◌, ◌<◌, ◌≤◌, ◌+◌, ℕ, List, Option, Some, None, Bool, length, get_or, refl, sym, ◌∙◌, ap}
+use Rattle.std.proofs.Common.{◌≡◌, ◌<◌, ◌≤◌, ◌+◌, ℕ, List, Option, Some, None, Bool, length, refl, sym, ◌∙◌, ap}
 use Rattle.std.proofs.Common.{subst, inl, inr, ◌⊎◌, arith}
 use Rattle.std.specs.Prelude.{Contains, All, ◌≢◌}
 use Rattle.std.proofs.lemmas.Bool.{cases_eq, cases_lt}
@@ -7,18 +7,17 @@ use Rattle.std.proofs.lemmas.List.{get_or_past}
 use Rattle.mp_base.specs.declared.value.Trit.{Trit}
 use Rattle.mp_base.specs.declared.value.Trit.TheVariants.{Zero, One, X}
 use Rattle.mp_base.proofs.Numbers.{below_suc}
-use Rattle.switch_net.specs.declared.network.ChannelKind.TheVariants.{Enhancement}
 use Rattle.switch_net.specs.declared.network.Channel.{Channel}
-use Rattle.switch_net.specs.Settled.{Setting, MayBeOn, IsSolution}
-use Rattle.switch_net.specs.Reaching.{Reach, here}
+use Rattle.switch_net.specs.Settled.{Setting, IsSolution}
+use Rattle.switch_net.specs.Reaching.{here}
 use Rattle.switch_net.specs.Laws.{GivesAlongReach}
 use Rattle.settle_laws.specs.Told.{IsGiven, IsTold, IsRedriven}
 use Rattle.settle_laws.specs.Laws.{RedrivenTells}
-use Rattle.settle.specs.Values.{value_at, driver_at, IsMarked}
-use Rattle.settle.specs.Links.{listed, AreGated}
+use Rattle.node_clusters.specs.Values.{value_at, driver_at, IsMarked}
+use Rattle.node_clusters.specs.Links.{listed, AreGated}
 use Rattle.settle.specs.Wake.{Wakes, WakesBeside}
 use Rattle.settle.specs.Start.{IsReady, Redrives, RedrivesFirst}
-use Rattle.settle.proofs.Climbing.{past_stuck, zero_not_x, one_not_x}
+use Rattle.node_clusters.proofs.Unknown.{past_nodes, zero_not_x, one_not_x}
 use Rattle.settle.proofs.Waking.{mark_at, wakes_wider}
 use Rattle.settle.proofs.Looking.{end_inside}
 
@@ -33,9 +32,9 @@ all_wait law s nodes values waits ends sized had waiting n free none = by_place 
     by_place (inl lt) = absurd (none (here (waiting n lt free)))
     by_place (inr far) =
         let x : value_at values n ≡ X = get_or_past values n X (omega arith) in
-        let stuck = past_stuck s (value_at values) nodes n law ends far free (had n far) free x in (
-          (λ z. absurd (zero_not_x (sym z ∙ x)), λ g. absurd (stuck Zero zero_not_x g)),
-          (λ z. absurd (one_not_x (sym z ∙ x)), λ g. absurd (stuck One one_not_x g)),
+        let no_more = past_nodes s (value_at values) nodes n law ends far free (had n far) in (
+          (λ z. absurd (zero_not_x (sym z ∙ x)), λ g. absurd (no_more Zero zero_not_x g)),
+          (λ z. absurd (one_not_x (sym z ∙ x)), λ g. absurd (no_more One one_not_x g)),
         )
 
 -- the first nodes, one by one

@@ -9,11 +9,11 @@ use Rattle.mp_base.specs.declared.value.Trit.{Trit}
 use Rattle.mp_base.specs.declared.value.Trit.TheVariants.{X}
 use Rattle.mp_base.proofs.Numbers.{below_suc}
 use Rattle.mp_base.proofs.Contents.{nothing_in}
-use Rattle.settle.specs.Values.{value_at, IsMarked}
+use Rattle.node_clusters.specs.Values.{value_at, IsMarked}
 use Rattle.switch_net.specs.declared.network.Channel.{Channel}
-use Rattle.settle.specs.Links.{listed, AreLinked}
+use Rattle.node_clusters.specs.Links.{listed, AreLinked}
 use Rattle.settle.specs.Wake.{Widens, Wakes, WakesBeside, IsVerdict, Renews}
-use Rattle.settle.proofs.Listing.{contains_more, index_of}
+use Rattle.node_clusters.proofs.Listing.{contains_more, index_of}
 
 abbrev pub mark_at : List Bool → ℕ → Bool
 mark_at marks n = get_or marks n false

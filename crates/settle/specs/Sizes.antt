@@ -2,12 +2,12 @@
 use Rattle.std.specs.Prelude.{◌≡◌, ℕ, List, Option, Bool, length}
 use Rattle.mp_base.specs.declared.value.Trit.{Trit}
 use Rattle.switch_net.specs.declared.network.Network.{Network}
-use Rattle.settle.specs.declared.evaluate.Sets.{Sets}
+use Rattle.node_clusters.specs.declared.sets.Sets.{Sets}
 use Rattle.switch_net.specs.Settled.{IsSettled}
 use Rattle.settle_order.specs.Orders.{Orderings, AreSound}
-use Rattle.settle.specs.Values.{value_at, driver_at}
-use Rattle.settle.specs.Links.{AreLinked, AreGated}
-use Rattle.settle.specs.Rooms.{HaveRoom}
+use Rattle.node_clusters.specs.Values.{value_at, driver_at}
+use Rattle.node_clusters.specs.Links.{AreLinked, AreGated}
+use Rattle.node_clusters.specs.Rooms.{HaveRoom}
 
 pub record AreSized (network : Network) (at ends : List (List ℕ)) (values before : List Trit)
     (last : List (Option Trit)) (sets : Sets) (marks : List Bool) : Type 0 where

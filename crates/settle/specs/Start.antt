@@ -4,8 +4,8 @@ use Rattle.mp_base.specs.declared.value.Trit.{Trit}
 use Rattle.switch_net.specs.declared.network.Channel.{Channel}
 use Rattle.switch_net.specs.Settled.{Setting}
 use Rattle.settle_laws.specs.Told.{IsTold}
-use Rattle.settle.specs.Values.{value_at, driver_at, IsMarked}
-use Rattle.settle.specs.Links.{listed}
+use Rattle.node_clusters.specs.Values.{value_at, driver_at, IsMarked}
+use Rattle.node_clusters.specs.Links.{listed}
 use Rattle.settle.specs.Wake.{Widens, Wakes, WakesBeside}
 
 -- driven nodes have what drives them, undriven nodes alone wait, and it is told where values may not be what is given

@@ -1,10 +1,10 @@
 -- What waits.
-use Rattle.std.specs.Prelude.{◌≡◌, ◌≢◌, ◌<◌, ◌⊎◌, ◌↔◌, ℕ, List, Bool, Option, None, length, Contains}
+use Rattle.std.specs.Prelude.{◌≡◌, ◌<◌, ◌⊎◌, ◌↔◌, ℕ, List, Bool, Option, None, length, Contains}
 use Rattle.mp_base.specs.declared.value.Trit.{Trit}
 use Rattle.mp_base.specs.declared.value.Trit.TheVariants.{Zero, One}
 use Rattle.switch_net.specs.declared.network.Channel.{Channel}
-use Rattle.settle.specs.Values.{value_at, IsMarked}
-use Rattle.settle.specs.Links.{listed}
+use Rattle.node_clusters.specs.Values.{value_at, IsMarked}
+use Rattle.node_clusters.specs.Links.{listed}
 
 -- what waited waits, and of the other nodes undriven ones at most
 pub record Widens (driver : ℕ → Option Trit) (old new : List Bool) : Type 0 where

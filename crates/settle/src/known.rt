@@ -2,19 +2,17 @@
 
 ghost use Rattle.std.specs.Prelude.{◌≡◌, IsTrue, length};
 ghost use Rattle.switch_net.specs.Settled.{IsSettled};
+ghost use Rattle.node_clusters.specs.Values.{value_at};
+ghost use Rattle.node_clusters.specs.Board.{setting_of, nodes_of, IsMoment};
+ghost use Rattle.node_clusters.specs.Rooms.{HaveRoom};
 ghost use Rattle.settle_order.specs.Orders.{HasOrder};
-ghost use Rattle.settle.specs.Values.{value_at};
-ghost use Rattle.settle.specs.Board.{setting_of, nodes_of, IsMoment};
-ghost use Rattle.settle.specs.Rooms.{HaveRoom};
 ghost use Rattle.settle.specs.Sizes.{AreAtRest};
 
-use crate::board::Board;
-use crate::evaluate::Sets;
-use crate::queue::Queue;
 use crate::scan::settle_in_order;
-use crate::solve::solve_unless;
 use crate::start::start;
 use mp_base::Trit;
+use node_clusters::{Board, Sets};
+use settle_events::{Queue, solve};
 
 /// Whether the values are settled under the last drivers, and the nodes in order, where there is one.
 #[derive(Clone, Copy)]
@@ -23,6 +21,27 @@ pub(crate) struct Known<'a> {
     pub last: &'a [Option<Trit>],
     pub has_order: bool,
     pub order: &'a [u32],
+}
+
+// Sets the values to the settled ones where they aren't yet.
+fn solve_unless(
+    is_settled: bool,
+    board: &Board<'_>,
+    values: &mut [Trit],
+    sets: &mut Sets,
+    looked: &mut [bool],
+    queue: &mut Queue,
+)
+    requires settled { IsTrue is_settled → IsSettled (setting_of board.now) (value_at values.old) }
+    requires moment { IsMoment board.now values.old }
+    requires sets { HaveRoom (nodes_of board.now) sets.old }
+    requires looked { length looked.old ≡ nodes_of board.now }
+    ensures sets { HaveRoom (nodes_of board.now) sets.new }
+    ensures settled { IsSettled (setting_of board.now) (value_at values.new) }
+{
+    if !is_settled {
+        solve(board, values, sets, looked, queue);
+    }
 }
 
 /// Sets the values to the settled ones.

@@ -1,19 +1,10 @@
-//! Settling a network: the least solution, by events.
+//! Settling a network: the least solution, in an order of its gates or by events.
 #![tactic(auto)]
 
-mod board;
-mod evaluate;
-mod give;
 mod known;
-mod links;
 mod look;
-mod node_set;
-mod queue;
-mod route;
 mod scan;
 mod settler;
-mod solve;
-mod spread;
 mod start;
 mod wake;
 

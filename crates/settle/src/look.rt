@@ -1,18 +1,16 @@
 //! A look at a cluster that waits: its nodes get what they are given, X too.
 
 ghost use Rattle.std.specs.Prelude.{◌≡◌, ◌<◌, ◌↔◌, ℕ, None, IsTrue, Contains, length};
-ghost use Rattle.settle.specs.Values.{driver_at};
-ghost use Rattle.settle.specs.Board.{setting_of, nodes_of, IsMoment};
-ghost use Rattle.settle.specs.Rooms.{HaveRoom};
+ghost use Rattle.node_clusters.specs.Values.{driver_at};
+ghost use Rattle.node_clusters.specs.Board.{setting_of, nodes_of, IsMoment};
+ghost use Rattle.node_clusters.specs.Rooms.{HaveRoom};
 ghost use Rattle.settle.specs.Start.{IsReady};
 ghost use Rattle.settle.specs.Wake.{IsVerdict, Renews};
 
-use crate::board::Board;
-use crate::evaluate::Sets;
-use crate::give::{gather, give};
-use crate::node_set::NodeSet;
 use crate::wake::{rest, wake};
 use mp_base::Trit;
+use node_clusters::{Board, Sets};
+use node_set::NodeSet;
 use settle_laws::laws::ordered_settings_settle;
 use switch_net::nodes_are_given;
 
@@ -82,25 +80,7 @@ pub(crate) fn look(
 {
     nodes_are_given();
     ordered_settings_settle();
-    gather(board, values, node, &mut sets.cluster);
-    give(
-        board,
-        values,
-        Trit::Zero,
-        &sets.cluster,
-        &mut sets.held,
-        &mut sets.against,
-        &mut sets.zeros,
-    );
-    give(
-        board,
-        values,
-        Trit::One,
-        &sets.cluster,
-        &mut sets.held,
-        &mut sets.against,
-        &mut sets.ones,
-    );
+    sets.fill(board, values, node);
     rest(&sets.cluster, waits);
     renew(board, &sets.cluster, &sets.zeros, &sets.ones, values, waits);
 }

@@ -2,16 +2,15 @@
 
 ghost use Rattle.std.specs.Prelude.{◌≡◌, ◌<◌, ℕ, IsTrue, length};
 ghost use Rattle.switch_net.specs.Settled.{IsSettled};
+ghost use Rattle.node_clusters.specs.Values.{value_at, IsMarked};
+ghost use Rattle.node_clusters.specs.Board.{setting_of, nodes_of, IsMoment};
+ghost use Rattle.node_clusters.specs.Rooms.{HaveRoom};
 ghost use Rattle.settle_order.specs.Orders.{HasOrder};
-ghost use Rattle.settle.specs.Values.{value_at, IsMarked};
-ghost use Rattle.settle.specs.Board.{setting_of, nodes_of, IsMoment};
-ghost use Rattle.settle.specs.Rooms.{HaveRoom};
 ghost use Rattle.settle.specs.Start.{IsReady};
 
-use crate::board::Board;
-use crate::evaluate::Sets;
 use crate::look::look;
 use mp_base::Trit;
+use node_clusters::{Board, Sets};
 use settle_laws::laws::ordered_settings_settle;
 
 fn is_waiting(waits: &[bool], node: u32) -> bool

@@ -3,14 +3,12 @@
 ghost use Rattle.std.specs.Prelude.{◌≡◌, length, IfOk, replicate};
 ghost use Rattle.mp_base.specs.declared.value.Trit.TheVariants.{X};
 ghost use Rattle.switch_net.specs.Settled.{IsSettled};
-ghost use Rattle.settle.specs.Values.{value_at, driver_at};
+ghost use Rattle.node_clusters.specs.Values.{value_at, driver_at};
 
-use crate::board::Board;
-use crate::evaluate::Sets;
 use crate::known::{Known, settle_values};
-use crate::links::{ends_gated, links_at_ends};
-use crate::queue::Queue;
 use mp_base::{List, NoMemory, Trit};
+use node_clusters::{Board, Sets, ends_gated, links_at_ends};
+use settle_events::Queue;
 use settle_order::Orders;
 use std::alloc::Global;
 use std::marker::Model;

@@ -2,14 +2,14 @@
 
 ghost use Rattle.std.specs.Prelude.{◌≡◌, ◌<◌, ◌↔◌, ℕ, Some, None, IsTrue, length};
 ghost use Rattle.mp_base.specs.declared.value.Trit.{Trit as TritValue};
-ghost use Rattle.settle.specs.Values.{value_at, driver_at, IsMarked};
-ghost use Rattle.settle.specs.Board.{setting_of, nodes_of, IsMoment};
+ghost use Rattle.node_clusters.specs.Values.{value_at, driver_at, IsMarked};
+ghost use Rattle.node_clusters.specs.Board.{setting_of, nodes_of, IsMoment};
 ghost use Rattle.settle.specs.Start.{IsReady, Redrives, RedrivesFirst};
 ghost use Rattle.settle.specs.Sizes.{AreAtRest};
 
-use crate::board::Board;
 use crate::wake::{wake, wake_beside};
 use mp_base::Trit;
+use node_clusters::Board;
 use settle_laws::laws::ordered_settings_settle;
 use switch_net::nodes_are_given;
 

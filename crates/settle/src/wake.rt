@@ -1,13 +1,13 @@
 //! Nodes that wait for a look.
 
 ghost use Rattle.std.specs.Prelude.{◌≡◌, ◌<◌, ◌↔◌, ◌⊎◌, ℕ, None, IsTrue, Contains, length};
-ghost use Rattle.settle.specs.Values.{driver_at, IsMarked};
-ghost use Rattle.settle.specs.Links.{AreLinked};
+ghost use Rattle.node_clusters.specs.Values.{driver_at, IsMarked};
+ghost use Rattle.node_clusters.specs.Links.{AreLinked};
 ghost use Rattle.settle.specs.Wake.{Widens, Wakes, WakesBeside};
 
-use crate::board::Board;
-use crate::node_set::NodeSet;
 use mp_base::Trit;
+use node_clusters::Board;
+use node_set::NodeSet;
 
 fn is_undriven(drive: &[Option<Trit>], node: u32) -> bool
     ensures { IsTrue result ↔ ((node < length drive.now) × (driver_at drive.now node ≡ None)) }

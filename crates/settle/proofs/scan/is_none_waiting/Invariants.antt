@@ -1,5 +1,5 @@
 use Rattle.std.proofs.Common.{◌<◌, ℕ}
-use Rattle.settle.specs.Values.{IsMarked}
+use Rattle.node_clusters.specs.Values.{IsMarked}
 use Rattle.settle.proofs.scan.is_none_waiting.Given as goal
 
 abbrev pub invariant-loop-waiting : goal.invariant-loop-waiting

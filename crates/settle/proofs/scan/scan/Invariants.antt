@@ -1,5 +1,5 @@
-use Rattle.settle.specs.Board.{setting_of, nodes_of}
-use Rattle.settle.specs.Rooms.{HaveRoom}
+use Rattle.node_clusters.specs.Board.{setting_of, nodes_of}
+use Rattle.node_clusters.specs.Rooms.{HaveRoom}
 use Rattle.settle.specs.Start.{IsReady}
 use Rattle.settle.proofs.scan.scan.Given as goal
 

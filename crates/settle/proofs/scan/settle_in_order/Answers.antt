@@ -1,5 +1,5 @@
-use Rattle.settle.specs.Values.{value_at}
-use Rattle.settle.specs.Board.{setting_of}
+use Rattle.node_clusters.specs.Values.{value_at}
+use Rattle.node_clusters.specs.Board.{setting_of}
 use Rattle.settle.proofs.Waking.{mark_at}
 use Rattle.settle.proofs.scan.settle_in_order.Goals as goal
 

@@ -1,7 +1,7 @@
 use Rattle.std.proofs.Common.{arith}
 use Rattle.std.proofs.lemmas.List.{get_or_past}
 use Rattle.mp_base.specs.declared.value.Trit.TheVariants.{X}
-use Rattle.settle.specs.Board.{setting_of}
+use Rattle.node_clusters.specs.Board.{setting_of}
 use Rattle.settle.proofs.Starting.{all_wait}
 use Rattle.settle.proofs.start.restart.Goals as goal
 

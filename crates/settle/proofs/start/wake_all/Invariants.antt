@@ -1,6 +1,6 @@
 use Rattle.std.proofs.Common.{◌≡◌, ◌<◌, ℕ, Some, None}
 use Rattle.mp_base.specs.declared.value.Trit.{Trit}
-use Rattle.settle.specs.Values.{value_at, driver_at, IsMarked}
+use Rattle.node_clusters.specs.Values.{value_at, driver_at, IsMarked}
 use Rattle.settle.proofs.start.wake_all.Given as goal
 
 abbrev pub invariant-loop-node : goal.invariant-loop-node

@@ -1,7 +1,7 @@
 use Rattle.std.proofs.Common.{◌≡◌, ◌∙◌, ℕ, List, get_or, length, ap, subst, arith, inl, ◌⊎◌}
 use Rattle.std.specs.Prelude.{Contains}
 use Rattle.std.proofs.lemmas.List.{get_or_default, take_all}
-use Rattle.settle.specs.Values.{IsMarked}
+use Rattle.node_clusters.specs.Values.{IsMarked}
 use Rattle.settle.proofs.Waking.{rests_more, rests_fewer}
 use Rattle.settle.proofs.wake.rest.Goals as goal
 

@@ -1,6 +1,6 @@
 use Rattle.std.proofs.Common.{ℕ, take, ◌⊎◌}
 use Rattle.std.specs.Prelude.{Contains}
-use Rattle.settle.specs.Values.{IsMarked}
+use Rattle.node_clusters.specs.Values.{IsMarked}
 use Rattle.settle.proofs.wake.rest.Given as goal
 
 abbrev pub invariant-loop-node : goal.invariant-loop-node

@@ -1,5 +1,5 @@
-use Rattle.settle.specs.Values.{driver_at}
-use Rattle.settle.specs.Links.{listed}
+use Rattle.node_clusters.specs.Values.{driver_at}
+use Rattle.node_clusters.specs.Links.{listed}
 use Rattle.settle.proofs.Waking.{BesideFirst}
 use Rattle.settle.proofs.wake.wake_beside.Given as goal
 

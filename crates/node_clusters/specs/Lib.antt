@@ -1,0 +1,6 @@
+pub mod Values
+pub mod Links
+pub mod Board
+pub mod Spread
+pub mod Give
+pub mod Rooms

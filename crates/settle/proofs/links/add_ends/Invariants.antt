@@ -1,5 +1,0 @@
-use Rattle.std.proofs.Common.{◌≡◌, ◌++◌, take}
-use Rattle.settle.proofs.links.add_ends.Given as goal
-
-abbrev pub invariant-loop-end : goal.invariant-loop-end
-invariant-loop-end l = l.list ≡ l.initial.list ++ take l.end-index l.ends

@@ -1,6 +1,0 @@
-use Rattle.std.proofs.Common.{take}
-use Rattle.settle.specs.Links.{AddsLink}
-use Rattle.settle.proofs.links.link.Given as goal
-
-abbrev pub invariant-loop-node : goal.invariant-loop-node
-invariant-loop-node l = AddsLink (take l.node-index l.nodes) l.number l.initial.lists l.lists

@@ -1,5 +1,0 @@
-use Rattle.std.proofs.Common.{◌≡◌, ◌<◌, ℕ, length, get_or}
-use Rattle.settle.proofs.node_set.numbers.Given as goal
-
-abbrev pub invariant-loop-k : goal.invariant-loop-k
-invariant-loop-k l = (length l.numbers.items ≡ l.k) × ((i : ℕ) → i < l.k → get_or l.numbers.items i 0 ≡ i)
