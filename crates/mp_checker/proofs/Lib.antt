@@ -1,9 +1,3 @@
-pub mod Scans
-pub mod Wide
-pub mod Present
-pub mod Limited
-pub mod Seen
-pub mod Crowded
 pub mod Ruled
 pub mod Keeping
 pub mod Padded

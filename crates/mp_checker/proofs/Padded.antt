@@ -27,7 +27,7 @@ use Rattle.mp_program.proofs.FormKinds.{defs_fit}
 use Rattle.mp_rules.specs.Entries.{IsAt}
 use Rattle.mp_rules.specs.Naming.{OwnNames, is_reserved, def_naming}
 use Rattle.mp_rules.specs.Rules.{E20}
-use Rattle.mp_checker.proofs.Crowded.{def_named}
+use Rattle.mp_limits.proofs.Namings.{def_named}
 
 -- the pads of definitions of a kind
 abbrev pub faces : (What → Bool) → ℕ → List Def → List Face

@@ -6,7 +6,7 @@ use Rattle.mp_program.specs.declared.program.Program.{Program}
 use Rattle.mp_rules.specs.Breaking.{Breaks, IsEarliest}
 use Rattle.mp_rules.specs.Rules.{E20, E21, E22, E23, E24, E25, E26, E27, E28, E29, E30, E31, E32, E33, E34, E35, E36}
 use Rattle.mp_rules.specs.Rules.{E40, E41, E42, E43, E44, E45}
-use Rattle.mp_checker.proofs.Scans.{earliest_same}
+use Rattle.mp_limits.proofs.Scans.{earliest_same}
 
 -- where the rule of a number is broken: its definition, once the number is known
 abbrev pub rule : ℕ → Program → Place → Type 0

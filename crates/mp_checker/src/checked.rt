@@ -9,7 +9,9 @@ ghost use Rattle.mp_program.specs.Reads.{IsOrder};
 ghost use Rattle.mp_program.specs.Trace.{stores};
 ghost use Rattle.mp_program.specs.Weight.{weight};
 ghost use Rattle.mp_rules.specs.Breaking.{IsUnbroken, RefusesFirst};
+ghost use Rattle.name_meanings.specs.Meaning.{AreMeanings};
 ghost use Rattle.mp_checker.specs.Checking.{AreFindings};
+ghost use Rattle.mp_checker.specs.Kept.{KeepsBelow};
 
 use crate::groups::{
     judge_counts, judge_forms, judge_names, judge_numbers, judge_order, judge_presence,
@@ -17,7 +19,7 @@ use crate::groups::{
 };
 use crate::pads::pads_of;
 use mp_base::{List, Pads, Refusal};
-use mp_names::{NameTable, meanings_of};
+use mp_names::{Meanings, NameTable, meanings_of};
 use mp_program::{Def, Program};
 use mp_rules::laws::own_names;
 use std::alloc::Global;
@@ -115,16 +117,25 @@ struct Findings {
     weight: u32,
 }
 
-fn findings_of(alloc: Global, program: &Program) -> Result<Findings, Refusal>
-    ensures ok { IfOk result (λ found. AreFindings program.now found.pads found.order found.weight) }
+// Rules E20 to E32, and what the names mean.
+fn judge_meanings(alloc: Global, program: &Program) -> Result<Meanings, Refusal>
+    ensures ok { IfOk result (λ meanings. AreMeanings program.now meanings × KeepsBelow program.now 33) }
     ensures err { IfErr result (RefusesFirst program.now) }
 {
     let names = NameTable::of(alloc, program)?;
     judge_names(program, &names)?;
     judge_numbers(alloc, program)?;
     judge_forms(alloc, program, &names)?;
-    own_names(program);
     let meanings = meanings_of(alloc, program, &names)?;
+    Ok(meanings)
+}
+
+fn findings_of(alloc: Global, program: &Program) -> Result<Findings, Refusal>
+    ensures ok { IfOk result (λ found. AreFindings program.now found.pads found.order found.weight) }
+    ensures err { IfErr result (RefusesFirst program.now) }
+{
+    let meanings = judge_meanings(alloc, program)?;
+    own_names(program);
     let order = judge_order(alloc, program, &meanings)?;
     judge_presence(program)?;
     judge_counts(alloc, program)?;

@@ -9,13 +9,12 @@ ghost use Rattle.name_meanings.specs.Meaning.{AreMeanings};
 ghost use Rattle.name_meanings.specs.Table.{IsNameTable};
 ghost use Rattle.mp_checker.specs.Kept.{KeepsBelow};
 
-use crate::crowds::crowded_name;
 use crate::judge::{judge, refusal};
-use crate::limits::{deep_process, far_process, long_process, many_exprs};
-use crate::numbers::{bit_past_word, wide_number};
-use crate::pins::{repeated_pin, uneven_pins};
-use crate::presence::{empty_process, missing_supply, without_reset};
 use mp_base::{List, Refusal};
+use mp_limits::{
+    bit_past_word, crowded_name, deep_process, empty_process, far_process, long_process,
+    many_exprs, missing_supply, repeated_pin, uneven_pins, wide_number, without_reset,
+};
 use mp_names::{Meanings, NameTable, repeated_name, set_input, undefined_name, wrong_sort};
 use mp_order::{Evaluation, evaluation_order};
 use mp_program::Program;

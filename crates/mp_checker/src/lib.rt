@@ -2,13 +2,8 @@
 #![tactic(auto)]
 
 mod checked;
-mod crowds;
 mod groups;
 mod judge;
-mod limits;
-mod numbers;
 mod pads;
-mod pins;
-mod presence;
 
 pub use checked::{Checked, check, weight};
