@@ -1,7 +1,1 @@
-pub mod Linked
-pub mod Written
-pub mod Remembered
-pub mod Settled
-pub mod Jumps
-pub mod Running
 pub mod Inside

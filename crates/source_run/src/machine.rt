@@ -1,33 +1,23 @@
 //! The machine: a program, and the state that it is in.
 
 use crate::fit::states_fit;
-use crate::link::Links;
-use crate::memory::{clear, step};
-use crate::seat::{Memory, zero_seats};
-use crate::seats::take_places;
-use crate::settle::{fixed_values, settle};
-use crate::step::show;
 use mp_base::{Inputs, List, NoMemory, Outputs, Pads};
 use mp_checker::Checked;
 use mp_fitting::{zero_is_a_state, zero_state_fits};
-use mp_program::Program;
+use program_clock::Clockwork;
 use std::alloc::Global;
 use std::marker::Model;
 
 /// A program that runs.
 #[derive(Drop)]
 pub struct Machine<'a> {
-    program: &'a Program,
     pads: &'a Pads,
     order: &'a List<u32>,
-    links: Links,
-    memory: Memory,
-    places: Vec<u32>,
-    env: Vec<u64>,
+    clockwork: Clockwork<'a>,
 }
 
 impl<'a> Model for Machine<'a> {
-    ghost use Rattle.source_run.specs.Running.{Running};
+    ghost use Rattle.program_clock.specs.Running.{Running};
 
     ghost Value = { Running };
 
@@ -52,26 +42,13 @@ impl<'a> Machine<'a> {
         ensures state { IfOk result (λ m. m.state ≡ zero_state checked.now.program) }
     {
         let program = checked.program();
-        let pads = checked.pads();
-        let order = checked.order();
         checked.unbroken();
         zero_is_a_state(program);
         zero_state_fits(program);
-        let links = Links::find(alloc, program)?;
-        let memory = Memory {
-            stored: vec![in alloc; 0; program.defs.len()]?,
-            seats: zero_seats(alloc, program.processes.as_slice())?,
-        };
-        let places = vec![in alloc; 0; program.processes.len()]?;
-        let env = fixed_values(alloc, program.defs.as_slice())?;
         Ok(Machine {
-            program,
-            pads,
-            order,
-            links,
-            memory,
-            places,
-            env,
+            pads: checked.pads(),
+            order: checked.order(),
+            clockwork: Clockwork::open(alloc, program)?,
         })
     }
 
@@ -89,7 +66,7 @@ impl<'a> Machine<'a> {
         ensures state { IsState self.now.program self.now.state }
         ensures fits { StateFits self.now.program self.now.state }
     {
-        let _ = &self.program;
+        self.clockwork.sound();
     }
 
     /// Runs one clock: gives the values of the input pads, and takes those of the output pads.
@@ -99,26 +76,11 @@ impl<'a> Machine<'a> {
         ensures program { self.new.program ≡ self.old.program }
         ensures clock { IsClock self.old.program self.old.state inputs.now outputs.new self.new.state }
     {
-        states_fit(self.program, self.order.as_slice());
-        take_places(self.program, &self.memory.seats, &mut self.places);
-        settle(
-            self.program,
-            &self.links,
-            self.order.as_slice(),
-            &self.memory,
-            &self.places,
-            inputs.as_slice(),
-            &mut self.env,
-        );
-        show(self.program, &self.links, &self.env, outputs);
-        step(
-            self.program,
-            &self.links,
-            &self.places,
-            inputs.as_slice(),
-            &self.env,
-            &mut self.memory,
-        );
+        let order = self.order.as_slice();
+        let program = self.clockwork.program();
+        states_fit(program, order);
+        self.clockwork.sound();
+        self.clockwork.clock(order, inputs, outputs);
     }
 
     /// Returns to the zero state.
@@ -126,6 +88,6 @@ impl<'a> Machine<'a> {
         ensures program { self.new.program ≡ self.old.program }
         ensures state { self.new.state ≡ zero_state self.old.program }
     {
-        clear(self.program, &mut self.memory);
+        self.clockwork.clear();
     }
 }

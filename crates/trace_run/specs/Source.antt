@@ -6,7 +6,7 @@ use Rattle.mp_program.specs.declared.program.Program.{Program}
 use Rattle.mp_program.specs.Pads.{ArePadsOf}
 use Rattle.mp_program.specs.State.{State, IsState}
 use Rattle.mp_fitting.specs.Fitting.{StateFits}
-use Rattle.source_run.specs.Running.{Running}
+use Rattle.program_clock.specs.Running.{Running}
 use Rattle.trace_run.specs.Transcript.{ProgramSteps}
 
 -- a program, its pads, and the state that it is in

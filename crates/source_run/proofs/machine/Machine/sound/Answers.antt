@@ -1,6 +1,6 @@
 use Rattle.std.proofs.Common.{subst}
 use Rattle.mp_rules.specs.Breaking.{IsUnbroken}
-use Rattle.source_run.specs.Running.{Running}
+use Rattle.program_clock.specs.Running.{Running}
 use Rattle.source_run.proofs.machine.Machine.sound.Goals as goal
 
 pub returns-clause-unbroken : goal.returns-clause-unbroken

@@ -1,0 +1,5 @@
+mod Entries
+mod Gathering
+mod Targets
+mod Jumping
+mod Indices

@@ -1,0 +1,3 @@
+pub mod Linked
+pub mod Written
+pub mod Jumps

@@ -1,0 +1,5 @@
+pub mod Moved
+pub mod Remembered
+pub mod Settled
+pub mod Running
+pub mod Inside

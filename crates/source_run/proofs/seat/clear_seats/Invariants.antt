@@ -1,9 +1,0 @@
-use Rattle.std.proofs.Common.{map}
-use Rattle.source_run.specs.Remembered.{seat_of, emptied}
-use Rattle.source_run.proofs.Making.{MadeTo}
-use Rattle.source_run.proofs.Seating.{no_seat}
-use Rattle.source_run.proofs.seat.clear_seats.Given as goal
-
-abbrev pub invariant-loop-i : goal.invariant-loop-i
-invariant-loop-i l =
-    MadeTo (map seat_of l.seats) (map emptied (map seat_of l.initial.seats)) (map seat_of l.initial.seats) no_seat l.i

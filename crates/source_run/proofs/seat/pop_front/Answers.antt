@@ -1,7 +1,0 @@
-use Rattle.std.proofs.Common.{arith}
-use Rattle.source_run.proofs.Seating.{popped}
-use Rattle.source_run.proofs.seat.pop_front.Goals as goal
-
-pub returns-clause-rest : goal.returns-clause-rest
-returns-clause-rest c =
-    popped c.args.stack.now c.loop-i.stack (omega arith) (λ k lt. c.loop-i.invariant.done k (omega (arith, lt)))
