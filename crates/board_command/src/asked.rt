@@ -13,10 +13,10 @@ ghost use Rattle.board_command.specs.Linked.{OfLinks, OfWords};
 
 use board::{Link, NamedPart, read_links};
 use mp_base::{List, Refusal};
-use outside::Depot;
 use mp_checker::Checked;
 use mp_rules::laws::few_namings;
 use outcome::Halt;
+use outside::Depot;
 use source_files::read_source;
 use std::alloc::Global;
 

@@ -14,8 +14,8 @@ use crate::playing::play;
 use crate::ready::{Ready, chip_on_board};
 use board::{NamedPart, Part};
 use board_run::laws::boards_follow;
-use outside::{Depot, Sink};
 use outcome::Halt;
+use outside::{Depot, Sink};
 use std::alloc::Global;
 
 /// Writes the CIF file of a chip for the source, and prints the transcript of the circuit that its bytes draw, for some

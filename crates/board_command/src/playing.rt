@@ -12,8 +12,8 @@ ghost use Rattle.board_command.specs.Work.{Plays, Rests};
 use board::{NamedPart, Part};
 use board_run::BoardRun;
 use board_run::laws::boards_run;
-use outside::{Depot, Sink, store};
 use outcome::Halt;
+use outside::{Depot, Sink, store};
 
 /// Stores the bytes of a chip, and runs their circuit with the parts of its links.
 pub(crate) fn play<'a, D: Depot, O: Sink>(

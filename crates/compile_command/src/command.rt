@@ -8,8 +8,8 @@ ghost use Rattle.outcome.specs.Halt.{HasReason, Ends, IsQuiet, status_of};
 ghost use Rattle.compile_command.specs.Work.{work};
 
 use chip_text::chip_text;
-use outside::{Depot, Sink, store};
 use outcome::Halt;
+use outside::{Depot, Sink, store};
 use source_files::read_source;
 use std::alloc::Global;
 

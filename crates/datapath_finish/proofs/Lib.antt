@@ -2,4 +2,3 @@ pub mod Ending
 pub mod Finished
 pub mod WholePath
 pub mod PadNets
-pub mod SamePads

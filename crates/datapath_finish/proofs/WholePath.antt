@@ -36,7 +36,7 @@ use Rattle.path_order.specs.declared.order.Mark.{Mark}
 use Rattle.path_order.specs.Marked.{IsMarked, OrdersAreWhole, RiseTo}
 use Rattle.path_order.specs.Order.{order_from, start}
 use Rattle.datapath_making.specs.declared.making.Making.{Making}
-use Rattle.datapath_finish.specs.Finishing.{AreInputNets, AreOutputNets, IsComplete, IsFinished}
+use Rattle.datapath_finish.specs.Finishing.{AreInputNets, AreOutputNets, IsComplete, IsFinished, IsOrdered, IsPathOf}
 use Rattle.datapath_making.specs.Steps.{marked}
 use Rattle.datapath_making.specs.WellMade.{IsWellMade}
 use Rattle.datapath_making.proofs.Beginning.{last_push}
@@ -295,17 +295,16 @@ module _ (r : Rtl) (m : Making) (sound : IsSound r) (light : cost r ≤ 1024) (h
                 (length m.slices.programs) (omega (arith, i, light)) (omega (arith, j));
           }
 
-      -- the same where the last mark was set
-      pub whole_now : (now : Making) → now ≡ marked (length m.control) m → (pads : Pads) → pads ≡ r.pads
-          → (order : List Piece) → order ≡ order_from now.width start now.marks
-          → IsPath now.width now.control now.slices now.casts now.lifts pads inputs outputs order
-      whole_now now e =
-          subst (λ (n : Making). (pads : Pads) → pads ≡ r.pads → (order : List Piece)
-          → order ≡ order_from n.width start n.marks
-          → IsPath n.width n.control n.slices n.casts n.lifts pads inputs outputs order) (sym e)
-          (λ pads p order o.
-          subst (λ (q : Pads). IsPath m.width m.control m.slices m.casts m.lifts q inputs outputs order) (sym p)
-          (subst (IsPath m.width m.control m.slices m.casts m.lifts r.pads inputs outputs) (sym o) whole_path))
+  -- the same where the last mark was set
+  pub whole_now : OrdersAreWhole → (now : Making) (order : List Piece) → IsOrdered m now order → (pads : Pads)
+      → pads ≡ r.pads → IsPath now.width now.control now.slices now.casts now.lifts pads inputs outputs order
+  whole_now orders now order o pads p =
+      let well : IsWellMade (marked (length m.control) m) = subst IsWellMade o.marked o.made in
+      subst (λ (n : Making). order ≡ order_from n.width start n.marks
+      → IsPath n.width n.control n.slices n.casts n.lifts pads inputs outputs order) (sym o.marked)
+      (λ e. subst (λ (q : Pads). IsPath m.width m.control m.slices m.casts m.lifts q inputs outputs order) (sym p)
+      (subst (IsPath m.width m.control m.slices m.casts m.lifts r.pads inputs outputs) (sym e)
+      (whole_path well o.control o.slices orders))) o.order
 
   -- ---- what is said of it
 
@@ -393,10 +392,10 @@ module _ (r : Rtl) (m : Making) (sound : IsSound r) (light : cost r ≤ 1024) (h
         (outs.each c k x id at.0 at kind (ap (λ xs. slice_get xs k) (sym outs_are) ∙ e)).1 bit;
   }
 
-  pub finished_now : (now : Making) → now ≡ marked (length m.control) m → (p : DataPath) → p.width ≡ now.width
-      → p.control ≡ now.control → p.slices ≡ now.slices → p.casts ≡ now.casts → p.lifts ≡ now.lifts
-      → p.pads ≡ r.pads → p.inputs ≡ inputs → p.outputs ≡ outputs → IsFinished r m p
-  finished_now now e p =
-      subst (λ (n : Making). p.width ≡ n.width → p.control ≡ n.control → p.slices ≡ n.slices → p.casts ≡ n.casts
-      → p.lifts ≡ n.lifts → p.pads ≡ r.pads → p.inputs ≡ inputs → p.outputs ≡ outputs → IsFinished r m p) (sym e)
-      (finished p)
+  pub finished_now : (now : Making) (order : List Piece) → IsOrdered m now order → (pads : Pads) → pads ≡ r.pads
+      → (p : DataPath)
+      → IsPathOf now (record { pads = pads; inputs = inputs; outputs = outputs; order = order }) p → IsFinished r m p
+  finished_now now order o pads e p =
+      subst (λ (n : Making).
+      IsPathOf n (record { pads = pads; inputs = inputs; outputs = outputs; order = order }) p → IsFinished r m p)
+      (sym o.marked) (λ q. finished p q.width q.control q.slices q.casts q.lifts (q.pads ∙ e) q.inputs q.outputs)

@@ -2,7 +2,7 @@
 use Rattle.std.specs.Prelude.{◌≡◌, ◌≢◌, ◌≤◌, ◌<◌, ◌+◌, ℕ, List, [], Some, true, false, Contains, length, slice_get}
 use Rattle.std.specs.Prelude.{slice_set}
 use Rattle.nor_net.specs.declared.net.NetId.{NetId}
-use Rattle.nor_net.specs.Shape.{gate_inputs}
+use Rattle.nor_net.specs.Shape.{IsNet, gate_inputs}
 use Rattle.mp_base.specs.declared.pad.Pad.{Pad}
 use Rattle.rtl_form.specs.declared.rtl.Cell as cells
 use Rattle.rtl_form.specs.declared.rtl.CellKind.{CellKind}
@@ -13,10 +13,14 @@ use Rattle.rtl_form.specs.Entries.{IsAt}
 use Rattle.control_nor.specs.Lowering.{IsEntry, IsLowered, Stands}
 use Rattle.path_form.specs.declared.path.Lift.{Lift}
 use Rattle.path_form.specs.declared.path.DataPath.{DataPath}
-use Rattle.path_form.specs.Shape.{entries_of}
+use Rattle.path_form.specs.declared.path.Piece.{Piece}
+use Rattle.path_form.specs.Shape.{IsPath, entries_of}
+use Rattle.path_order.specs.Order.{order_from, start}
 use Rattle.datapath_making.specs.declared.making.Making.{Making}
 use Rattle.datapath_making.specs.Growing.{IsUnfed}
+use Rattle.datapath_making.specs.Steps.{marked}
 use Rattle.datapath_making.specs.WellMade.{IsWellMade}
+use Rattle.datapath_finish.specs.declared.finishing.Ends.{Ends}
 
 -- All is made: words, the answers that the control waits for, and the data of latches.
 pub record IsComplete (r : Rtl) (m : Making) : Type 0 where
@@ -56,6 +60,30 @@ pub record IsFinished (r : Rtl) (m : Making) (p : DataPath) : Type 0 where
       → x.word ≡ true → slice_get p.outputs k ≡ Some id → Stands m.cell_words c id
   pub bit_outputs : (c k : ℕ) (x : cells.Cell) (id : NetId) → IsAt r.cells c x → x.kind ≡ Output k
       → x.word ≡ false → slice_get p.outputs k ≡ Some id → Stands m.names.cells c id
+
+-- the path in the making with a mark at its end, and the order along its marks
+pub record IsOrdered (m now : Making) (pieces : List Piece) : Type 0 where
+  pub marked : now ≡ marked (length m.control) m
+  pub made : IsWellMade now
+  pub control : IsNet m.control
+  pub slices : IsNet m.slices.net
+  pub order : pieces ≡ order_from now.width start now.marks
+
+-- the path of these nets, with these ends
+pub record IsPathOf (m : Making) (e : Ends) (p : DataPath) : Type 0 where
+  pub width : p.width ≡ m.width
+  pub control : p.control ≡ m.control
+  pub slices : p.slices ≡ m.slices
+  pub casts : p.casts ≡ m.casts
+  pub lifts : p.lifts ≡ m.lifts
+  pub pads : p.pads ≡ e.pads
+  pub inputs : p.inputs ≡ e.inputs
+  pub outputs : p.outputs ≡ e.outputs
+
+-- with these ends the nets are a path, which is that which was made
+pub record AreEnds (r : Rtl) (m now : Making) (e : Ends) : Type 0 where
+  pub whole : IsPath now.width now.control now.slices now.casts now.lifts e.pads e.inputs e.outputs e.order
+  pub finished : (p : DataPath) → IsPathOf now e p → IsFinished r m p
 
 -- the net of an input pad, and of a cell
 abbrev pub IsPadNet : Making → ℕ → Pad → NetId → Type 0

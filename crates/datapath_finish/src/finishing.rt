@@ -6,13 +6,15 @@ ghost use Rattle.rtl_form.specs.Cost.{cost};
 ghost use Rattle.rtl_form.specs.Sound.{IsSound};
 ghost use Rattle.rtl_form.specs.declared.rtl.CellKind.TheVariants.{Output};
 ghost use Rattle.control_nor.specs.Lowering.{Stands};
+ghost use Rattle.path_form.specs.Shape.{IsPath};
+ghost use Rattle.datapath_making.specs.WellMade.{IsWellMade};
 ghost use Rattle.datapath_finish.specs.Finishing.{AreInputNets, AreOutputNets, IsCellNet, IsComplete};
-ghost use Rattle.datapath_finish.specs.Finishing.{IsFinished, IsOutputPut, IsPadNet};
+ghost use Rattle.datapath_finish.specs.Finishing.{AreEnds, IsFinished, IsOrdered, IsOutputPut, IsPadNet, IsPathOf};
 
 use datapath_making::{Making, entry};
-use mp_base::{List, NoMemory, Pad};
+use mp_base::{List, NoMemory, Pad, Pads};
 use nor_net::NetId;
-use path_form::DataPath;
+use path_form::{DataPath, Piece};
 use path_order::{laws, order_of};
 use rtl_form::{Cell, CellKind, Rtl};
 use std::alloc::Global;
@@ -89,6 +91,88 @@ fn output_nets(alloc: Global, rtl: &Rtl, making: &Making) -> Result<List<NetId>,
     Ok(outputs)
 }
 
+// The pads of transfers.
+fn pads_of(alloc: Global, rtl: &Rtl) -> Result<Pads, NoMemory>
+    ensures { IfOk result (λ pads. pads ≡ rtl.now.pads) }
+{
+    let pads = rtl.pads.copy(alloc)?;
+    Ok(pads)
+}
+
+// Marks the end, and gives the order along the marks.
+fn ordered(alloc: Global, making: &mut Making) -> Result<List<Piece>, NoMemory>
+    requires { IsWellMade making.old }
+    ensures { IfOk result (IsOrdered making.old making.new) }
+{
+    let control_nets = making.control.len();
+    let _slice_nets = making.slices.net.len();
+    making.mark(control_nets)?;
+    let order = order_of(alloc, making.width, making.marks.as_slice())?;
+    Ok(order)
+}
+
+// What a path has beside its nets.
+#[derive(Drop)]
+struct Ends {
+    pads: Pads,
+    inputs: List<NetId>,
+    outputs: List<NetId>,
+    order: List<Piece>,
+}
+
+// The ends of a path in the making, which is marked at its end.
+fn ends_of(alloc: Global, rtl: &Rtl, making: &mut Making) -> Result<Ends, NoMemory>
+    requires sound { IsSound rtl.now }
+    requires light { cost rtl.now ≤ 1024 }
+    requires complete { IsComplete rtl.now making.old }
+    ensures { IfOk result (AreEnds rtl.now making.old making.new) }
+{
+    let inputs = input_nets(alloc, rtl, making)?;
+    let outputs = output_nets(alloc, rtl, making)?;
+    let pads = pads_of(alloc, rtl)?;
+    let order = ordered(alloc, making)?;
+    laws::orders_are_whole();
+    Ok(Ends {
+        pads,
+        inputs,
+        outputs,
+        order,
+    })
+}
+
+// The path of these nets, with these ends.
+fn path_of(making: Making, ends: Ends) -> DataPath
+    requires { IsPath making.width making.control making.slices making.casts making.lifts ends.pads ends.inputs ends.outputs
+        ends.order }
+    ensures { IsPathOf making ends result }
+{
+    let Making {
+        width,
+        control,
+        slices,
+        casts,
+        lifts,
+        ..
+    } = making;
+    let Ends {
+        pads,
+        inputs,
+        outputs,
+        order,
+    } = ends;
+    DataPath {
+        width,
+        control,
+        slices,
+        casts,
+        lifts,
+        pads,
+        inputs,
+        outputs,
+        order,
+    }
+}
+
 /// The path, with an order along the marks, and the nets of the pads.
 ///
 /// # Errors
@@ -101,31 +185,6 @@ pub fn finish(alloc: Global, rtl: &Rtl, making: Making) -> Result<DataPath, NoMe
     ensures { IfOk result (IsFinished rtl.now making) }
 {
     let mut making = making;
-    let inputs = input_nets(alloc, rtl, &making)?;
-    let outputs = output_nets(alloc, rtl, &making)?;
-    let control_nets = making.control.len();
-    let _slice_nets = making.slices.net.len();
-    making.mark(control_nets)?;
-    laws::orders_are_whole();
-    let order = order_of(alloc, making.width, making.marks.as_slice())?;
-    let pads = rtl.pads.copy(alloc)?;
-    let Making {
-        width,
-        control,
-        slices,
-        casts,
-        lifts,
-        ..
-    } = making;
-    Ok(DataPath {
-        width,
-        control,
-        slices,
-        casts,
-        lifts,
-        pads,
-        inputs,
-        outputs,
-        order,
-    })
+    let ends = ends_of(alloc, rtl, &mut making)?;
+    Ok(path_of(making, ends))
 }

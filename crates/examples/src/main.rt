@@ -2,8 +2,8 @@
 #![tactic(auto)]
 
 use mp_base::NoMemory;
-use outside_doubles::MemSink;
 use outcome::Status;
+use outside_doubles::MemSink;
 use run_script::{File, NONE, set, text_of, words_of};
 use std::alloc::Global;
 use std::{fs, io};

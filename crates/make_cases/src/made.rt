@@ -2,8 +2,8 @@
 
 use make_command::make;
 use mp_base::{List, NoMemory};
-use outside_doubles::{MemDepot, MemSink};
 use outcome::Halt;
+use outside_doubles::{MemDepot, MemSink};
 use std::alloc::{AllocError, Global};
 use std::io;
 

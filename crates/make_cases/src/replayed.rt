@@ -2,8 +2,8 @@
 
 use crate::made::Outcome;
 use mp_base::List;
-use outside_doubles::{MemDepot, MemSink};
 use outcome::Halt;
+use outside_doubles::{MemDepot, MemSink};
 use program_maker::make;
 use replay_command::replay;
 use std::alloc::Global;

@@ -8,8 +8,8 @@ ghost use Rattle.mask_files.specs.Faults.{MaskFault};
 
 use crate::limits::MASK_LIMIT;
 use mask_net::network_of;
-use outside::Depot;
 use outcome::{Halt, read_text};
+use outside::Depot;
 use std::alloc::Global;
 use switch_net::Network;
 

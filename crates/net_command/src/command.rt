@@ -9,8 +9,8 @@ ghost use Rattle.net_command.specs.Work.{work};
 
 use mask_files::read_network;
 use mask_net::size_line;
-use outside::{Depot, Sink, write_all};
 use outcome::Halt;
+use outside::{Depot, Sink, write_all};
 use std::alloc::Global;
 
 // Reads and judges the masks, and gives their size line.

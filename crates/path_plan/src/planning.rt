@@ -10,9 +10,9 @@ ghost use Rattle.path_plan.specs.Plans.{IsMeasured};
 
 use crate::chips::chip_of;
 use crate::laws::labels_are_few;
-use fabric_laws::laws::channels_are_sized;
 use fabric::{Chip, Fabric};
 use fabric_extent::laws::small_fabrics_are_small;
+use fabric_laws::laws::channels_are_sized;
 use mp_base::{List, NoMemory};
 use path_chips::laws::{paths_are_planned, paths_are_ratioed};
 use path_form::DataPath;

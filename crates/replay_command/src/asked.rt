@@ -9,8 +9,8 @@ ghost use Rattle.source_files.specs.Faults.{RunFault};
 ghost use Rattle.replay_command.specs.Played.{IsAsked};
 
 use chip_text::chip_text;
-use outside::Depot;
 use outcome::Halt;
+use outside::Depot;
 use source_files::{Prepared, prepare};
 use std::alloc::Global;
 

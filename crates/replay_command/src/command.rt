@@ -8,8 +8,8 @@ ghost use Rattle.replay_command.specs.Work.{work};
 
 use crate::asked::ask;
 use crate::played::play;
-use outside::{Depot, Sink};
 use outcome::Halt;
+use outside::{Depot, Sink};
 use std::alloc::Global;
 
 /// Writes the CIF file of a chip for the source, and prints the transcript of the circuit that its bytes draw, along

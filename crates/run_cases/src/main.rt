@@ -3,8 +3,8 @@
 #![tactic(auto)]
 
 use mp_base::NoMemory;
-use outside::{Depot, Sink};
 use outcome::Status;
+use outside::{Depot, Sink};
 use run_ends::{Runner, exit_text, push_line};
 use run_script::exit_of;
 use std::alloc::{AllocError, Global};

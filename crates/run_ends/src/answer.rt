@@ -3,8 +3,8 @@
 use crate::runner::Runner;
 use drawn_sizes::{is_size_at_end, is_size_of_chip};
 use mp_base::{List, NoMemory};
-use outside_doubles::{MemSink, QuietSink};
 use outcome::Status;
+use outside_doubles::{MemSink, QuietSink};
 use run_script::{Endless, Failing, File, quiet_depot_of, text_of, words_of};
 use std::alloc::{AllocError, Global};
 

@@ -1,7 +1,7 @@
 //! What is run.
 
-use outside::{Depot, Sink};
 use outcome::Status;
+use outside::{Depot, Sink};
 use std::alloc::Global;
 
 /// A program that words set to work on files and an output.

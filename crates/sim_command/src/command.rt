@@ -10,8 +10,8 @@ ghost use Rattle.sim_command.specs.Simulated.{IsSetUp};
 ghost use Rattle.sim_command.specs.Work.{work, SetUpFault};
 
 use mask_files::read_network;
-use outside::{Depot, Sink};
 use outcome::Halt;
+use outside::{Depot, Sink};
 use sim_run::Simulation;
 use source_files::read_headed;
 use std::alloc::Global;

@@ -11,9 +11,9 @@ ghost use Rattle.source_files.specs.Faults.{RunFault};
 
 use crate::source::read_source;
 use crate::stimuli::read_stimulus;
-use outside::Depot;
 use mp_checker::Checked;
 use outcome::Halt;
+use outside::Depot;
 use std::alloc::Global;
 use stimulus::Stimulus;
 

@@ -7,10 +7,10 @@ ghost use Rattle.outcome.specs.Halt.{HasReason};
 ghost use Rattle.source_files.specs.Faults.{SourceFault};
 
 use crate::limits::TEXT_LIMIT;
-use outside::Depot;
 use mp_checker::Checked;
 use mp_source::check_source;
 use outcome::{Halt, read_text};
+use outside::Depot;
 use std::alloc::Global;
 
 /// Reads a source that breaks no rule.

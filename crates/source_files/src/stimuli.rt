@@ -13,10 +13,10 @@ ghost use Rattle.source_files.specs.Faults.{PadsFault};
 
 use crate::limits::TEXT_LIMIT;
 use mp_base::Refusal;
-use outside::Depot;
 use mp_checker::Checked;
 use mp_rules::laws::few_namings;
 use outcome::{Halt, read_text};
+use outside::Depot;
 use std::alloc::Global;
 use stimulus::Stimulus;
 

@@ -7,8 +7,8 @@ ghost use Rattle.outcome.specs.World.{world_of, HasCauses, Leaves};
 ghost use Rattle.outcome.specs.Halt.{HasReason, Ends, IsQuiet, status_of};
 ghost use Rattle.stats_command.specs.Work.{work};
 
-use outside::{Depot, Sink, write_all};
 use outcome::Halt;
+use outside::{Depot, Sink, write_all};
 use plan_stats::stats_text;
 use source_files::read_source;
 use std::alloc::Global;

@@ -7,8 +7,8 @@ ghost use Rattle.outcome.specs.World.{world_of, HasCauses, Leaves};
 ghost use Rattle.outcome.specs.Halt.{Ends, IsQuiet, status_of};
 ghost use Rattle.trace_command.specs.Work.{work};
 
-use outside::{Depot, Sink};
 use outcome::Halt;
+use outside::{Depot, Sink};
 use source_files::prepare;
 use std::alloc::Global;
 use trace_run::Tracer;
