@@ -1,16 +1,14 @@
 //! CIF files, read and flattened: what is drawn of each, or the rule that it breaks and where; and commands written.
 #![tactic(auto)]
 
-mod answer;
 mod limits;
 mod unfit;
-mod written;
 
-use answer::answer;
+use cif_words::answer::answer;
+use cif_words::written::written;
 use limits::{doubled, nearly_full};
 use std::{fs, io};
 use unfit::show_unfit;
-use written::written;
 
 /// Files of which each line is a text.
 const LISTS: [&str; 5] = ["texts", "rules", "several", "shapes", "labels"];

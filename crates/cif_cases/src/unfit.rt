@@ -1,7 +1,7 @@
 //! Commands that have no text, and one that has the largest number.
 
-use crate::written::text_of;
 use cif_form::Command;
+use cif_words::written::text_of;
 use mp_base::{List, Name};
 use std::alloc::{AllocError, Global};
 use std::io;

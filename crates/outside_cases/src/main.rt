@@ -1,19 +1,15 @@
-//! What public calls of the base answer: operators, words, files and outputs in memory, and names of pads; and the
-//! system's files and outputs.
+//! What public calls answer: operators, words, files and outputs in memory, each call of which fails in turn, and names
+//! of pads.
 #![tactic(auto)]
 
+mod memory;
 mod operators;
-mod outside;
 mod pads;
-mod quiet;
-mod system;
 
 use std::io;
 
 fn main(rt: HostRuntime) -> io::Result<()> {
     operators::show(&rt)?;
-    outside::show(&rt)?;
-    quiet::show(&rt)?;
-    pads::show(&rt)?;
-    system::show(&rt)
+    memory::show(&rt)?;
+    pads::show(&rt)
 }

@@ -88,6 +88,7 @@ impl<'a> Machine<'a> {
         ensures program { self.new.program ≡ self.old.program }
         ensures state { self.new.state ≡ zero_state self.old.program }
     {
+        zero_state_fits(self.clockwork.program());
         self.clockwork.clear();
     }
 }

@@ -1,33 +1,8 @@
-//! The system's files, and outputs over writers that are soon full.
+//! Outputs over writers that are soon full.
 
-use outside::{Depot, Sink, write_all};
+use outside::{Sink, write_all};
 use std::io;
-use system_outside::{FileDepot, OutSink};
-
-// A file is looked for, made, grown, read up to its end, and emptied.
-fn show_files(rt: &HostRuntime) -> io::Result<()> {
-    let mut depot = FileDepot::new(rt);
-    let mut buf = [0u8; 4];
-    let early = depot.read_at("made", 0, &mut buf);
-    let made = depot.create("made");
-    println!(rt; "a file is read: {early:?}, and made: {made:?}")?;
-    let (three, two) = (depot.append("made", b"abc"), depot.append("made", b"de"));
-    println!(rt; "3 bytes go to its end: {three:?}, and 2: {two:?}")?;
-    let count = depot.read_at("made", 3, &mut buf);
-    let read = String::from_utf8_lossy(rt.alloc(), &buf[..2])?;
-    println!(rt; "it is read from 3 on: {count:?}, {read}")?;
-    let end = depot.read_at("made", 5, &mut buf);
-    let made = depot.create("made");
-    let count = depot.read_at("made", 0, &mut buf);
-    println!(rt; "from 5 on: {end:?}. It is made again: {made:?}, and read: {count:?}")
-}
-
-fn show_faults(rt: &HostRuntime) -> io::Result<()> {
-    let mut depot = FileDepot::new(rt);
-    let made = depot.create("no such folder/made");
-    let grown = depot.append("absent", b"abc");
-    println!(rt; "a file is made in no folder: {made:?}; one grows that isn't there: {grown:?}")
-}
+use system_outside::OutSink;
 
 // Writes texts to an output over these bytes, which is flushed behind each.
 fn show_output(rt: &HostRuntime, room: &mut [u8], texts: [&str; 3]) -> io::Result<()> {
@@ -66,8 +41,6 @@ fn show_long(rt: &HostRuntime) -> io::Result<()> {
 }
 
 pub(crate) fn show(rt: &HostRuntime) -> io::Result<()> {
-    show_files(rt)?;
-    show_faults(rt)?;
     show_small(rt)?;
     show_long(rt)
 }

@@ -61,7 +61,7 @@ fn owned(alloc: Global, view: CommandView<'_>) -> Result<Command, AllocError> {
 }
 
 /// What is written of a command.
-pub(crate) fn text_of(alloc: Global, command: &Command) -> Result<String, AllocError> {
+pub fn text_of(alloc: Global, command: &Command) -> Result<String, AllocError> {
     if !command.fits() {
         return format!(in alloc; "no text");
     }
@@ -81,7 +81,7 @@ fn end(alloc: Global) -> Result<String, AllocError> {
 }
 
 /// Each command of a text with its offset, and the end, as they are written.
-pub(crate) fn written(alloc: Global, text: &[u8]) -> Result<String, AllocError> {
+pub fn written(alloc: Global, text: &[u8]) -> Result<String, AllocError> {
     let Ok(cif) = read_cif(alloc, text) else {
         return format!(in alloc; "refused");
     };

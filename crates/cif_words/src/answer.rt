@@ -43,7 +43,7 @@ fn drawn(alloc: Global, flat: &Flat) -> Result<String, AllocError> {
 
 /// What is drawn, each rectangle as its layer and edges in half-units, and then the labels with their offsets; or the
 /// rule that is broken and its offset.
-pub(crate) fn answer(alloc: Global, text: &[u8]) -> Result<String, AllocError> {
+pub fn answer(alloc: Global, text: &[u8]) -> Result<String, AllocError> {
     read_is_well_formed();
     let cif = match read_cif(alloc, text) {
         Ok(cif) => cif,

@@ -9,14 +9,24 @@ use std::io;
 /// How many bytes were read, where the read didn't fail.
 type Count = Result<usize, Failed>;
 
-// Stores 5 bytes in a depot with this room, and reads a file that is held and one that isn't.
-fn reads(alloc: Global, room: usize) -> Result<(Count, Count), NoMemory> {
+// A depot with this room, in which 5 bytes are stored beside a file.
+fn depot(alloc: Global, room: usize) -> Result<QuietDepot, NoMemory> {
     let mut depot = QuietDepot::new(alloc, room)?;
     depot.put("b", b"kept")?;
     let _ = store(&mut depot, "a", b"hello");
+    Ok(depot)
+}
+
+fn read(depot: &mut QuietDepot, name: &str, at: u64) -> Count {
     let mut buf = [0; 9];
-    let held = depot.read_at("b", 1, &mut buf);
-    let stray = depot.read_at("c", 0, &mut buf);
+    depot.read_at(name, at, &mut buf)
+}
+
+// Reads a file that is held and one that isn't.
+fn reads(alloc: Global, room: usize) -> Result<(Count, Count), NoMemory> {
+    let mut depot = depot(alloc, room)?;
+    let held = read(&mut depot, "b", 1);
+    let stray = read(&mut depot, "c", 0);
     Ok((held, stray))
 }
 
@@ -25,9 +35,13 @@ fn stored(alloc: Global) -> Result<Option<usize>, NoMemory> {
     let mut depot = QuietDepot::new(alloc, 134)?;
     let _ = store(&mut depot, "a", b"hello");
     match read_file(alloc, &mut depot, "a", 9) {
-        Ok(text) => Ok(text.map(|text| text.len())),
-        Err(_) => Ok(None),
+        Ok(Some(text)) => Ok(Some(text.len())),
+        _ => Ok(None),
     }
+}
+
+fn size(out: &QuietSink) -> Option<usize> {
+    Some(out.bytes()?.len())
 }
 
 // How many bytes an output with room for 6 tells, after the call that fits and the one that doesn't.
@@ -35,22 +49,30 @@ fn told(alloc: Global) -> Result<(Option<usize>, Option<usize>), NoMemory> {
     let mut out = QuietSink::new(alloc, 6)?;
     let _ = write_all(&mut out, b"one");
     let _ = out.write(b"two");
-    let fits = out.bytes().map(|bytes| bytes.len());
+    let fits = size(&out);
     let _ = out.write(b"!");
-    Ok((fits, out.bytes().map(|bytes| bytes.len())))
+    Ok((fits, size(&out)))
 }
 
-pub(crate) fn show(rt: &HostRuntime) -> io::Result<()> {
-    for room in [134, 133, 65, 64] {
-        match reads(rt.alloc(), room) {
-            Ok((held, stray)) => println!(rt; "room {room}: held {held:?}, stray {stray:?}")?,
-            Err(NoMemory) => println!(rt; "no memory")?,
-        }
+fn show_reads(rt: &HostRuntime, room: usize) -> io::Result<()> {
+    match reads(rt.alloc(), room) {
+        Ok((held, stray)) => println!(rt; "room {room}: held {held:?}, stray {stray:?}"),
+        Err(NoMemory) => println!(rt; "no memory"),
     }
+}
+
+fn show_told(rt: &HostRuntime) -> io::Result<()> {
     match (stored(rt.alloc()), told(rt.alloc())) {
         (Ok(size), Ok((fits, more))) => {
             println!(rt; "read back {size:?}, told {fits:?} and then {more:?}")
         }
         _ => println!(rt; "no memory"),
     }
+}
+
+pub(crate) fn show(rt: &HostRuntime) -> io::Result<()> {
+    for room in [134, 133, 65, 64] {
+        show_reads(rt, room)?;
+    }
+    show_told(rt)
 }
