@@ -5,11 +5,10 @@
 #![tactic(auto)]
 
 mod answer;
-mod chip;
 mod pieces;
 
 use answer::show;
-use chip::chip;
+use chip_lines::chip::chip;
 use pieces::show_fault;
 use std::alloc::{AllocError, Global};
 use std::{fs, io};

@@ -2,10 +2,7 @@
 #![tactic(auto)]
 
 mod cases;
-mod dice;
 mod faults;
-mod grammar;
-mod inputs;
 mod running;
 
 use cases::show_cases;

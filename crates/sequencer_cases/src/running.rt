@@ -1,19 +1,15 @@
 //! Runs of programs beside their transfers.
 
-ghost use Rattle.std.specs.Prelude.{◌≡◌, length, IfOk, replicate};
-
-use crate::dice::Dice;
-use crate::grammar::{Rule, rules_of, write_text};
-use crate::inputs::inputs_of;
-use mp_base::{List, NoMemory, Pad};
+use mp_base::NoMemory;
 use mp_checker::Checked;
 use mp_source::check_source;
 use process_sequencer::sequence;
+use random_programs::{Dice, Rule, inputs_of, random_source, rules_of, zeros};
 use rtl_check::is_sound;
 use rtl_form::Rtl;
 use rtl_steps::{shows, step};
 use source_run::Machine;
-use std::alloc::{AllocError, Global};
+use std::alloc::Global;
 use std::io;
 
 /// The clocks of a program that is written down, and of a random one.
@@ -23,8 +19,6 @@ const FEW_CLOCKS: u32 = 16;
 
 const PROGRAMS: u32 = 200;
 
-const DEPTH: u32 = 6;
-
 const MOST_BYTES: usize = 1_048_576;
 
 /// Whether transfers are sound, and in how many of some clocks they show what the program shows.
@@ -33,12 +27,6 @@ pub(crate) struct Run {
     pub sound: bool,
     pub clocks: u32,
     pub same: u32,
-}
-
-fn zeros(alloc: Global, pads: &List<Pad>) -> Result<List<u64>, AllocError>
-    ensures { IfOk result (λ zeros. zeros ≡ replicate (length pads.now) 0) }
-{
-    Ok(List::from_vec(vec![in alloc; 0; pads.len()]?))
 }
 
 // Whether the transfers show in a clock what the program shows.
@@ -108,9 +96,7 @@ pub(crate) fn run_of_source(alloc: Global, source: &[u8], given: &str) -> Option
 
 // A random program, where the text that comes up breaks no rule: it may weigh too much.
 fn random_program(alloc: Global, rules: &[Rule<'_>], seed: u64) -> Option<Checked> {
-    let mut dice = Dice::new(seed);
-    let mut source = Vec::new(alloc);
-    write_text(&mut source, rules, b'P', &mut dice, DEPTH).ok()?;
+    let source = random_source(alloc, rules, seed).ok()?;
     program_of(alloc, &source)
 }
 

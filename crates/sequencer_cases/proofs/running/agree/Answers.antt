@@ -1,4 +1,4 @@
-use Rattle.sequencer_cases.proofs.Fitting.{inputs_fit}
+use Rattle.random_programs.proofs.Fitting.{inputs_fit}
 use Rattle.mp_program.proofs.Lengths.{length_zero_outputs}
 use Rattle.sequencer_cases.proofs.running.agree.Goals as goal
 

@@ -5,13 +5,18 @@ ghost use Rattle.std.specs.Prelude.{◌<◌};
 use crate::dice::Dice;
 use std::alloc::{AllocError, Global};
 
+// How deep the words of a random text nest, at most.
+const DEPTH: u32 = 6;
+
+/// A text that may stand for a letter.
 #[derive(Clone, Copy)]
-pub(crate) struct Rule<'a> {
+pub struct Rule<'a> {
     letter: u8,
     text: &'a [u8],
 }
 
-pub(crate) fn rules_of(alloc: Global, grammar: &[u8]) -> Result<Vec<Rule<'_>>, AllocError> {
+/// The rules of a grammar; lines of another form are none.
+pub fn rules_of(alloc: Global, grammar: &[u8]) -> Result<Vec<Rule<'_>>, AllocError> {
     let mut rules = Vec::new(alloc);
     for line in grammar.split(|byte| *byte == b'\n') {
         if let [letter, b' ', text @ ..] = line {
@@ -43,8 +48,8 @@ fn text_for<'a>(rules: &[Rule<'a>], letter: u8, dice: &mut Dice, depth: u32) -> 
     b""
 }
 
-/// Writes a random text that stands for a letter.
-pub(crate) fn write_text(
+// Writes a random text that stands for a letter.
+fn write_text(
     out: &mut Vec<u8>,
     rules: &[Rule<'_>],
     letter: u8,
@@ -59,4 +64,11 @@ pub(crate) fn write_text(
         }
     }
     Ok(())
+}
+
+/// The random text of a seed that stands for the letter `P`.
+pub fn random_source(alloc: Global, rules: &[Rule<'_>], seed: u64) -> Result<Vec<u8>, AllocError> {
+    let mut source = Vec::new(alloc);
+    write_text(&mut source, rules, b'P', &mut Dice::new(seed), DEPTH)?;
+    Ok(source)
 }

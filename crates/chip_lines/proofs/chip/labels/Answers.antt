@@ -2,7 +2,7 @@ use Rattle.std.proofs.Common.{All, sym, subst}
 use Rattle.std.specs.Prelude.{IfSome}
 use Rattle.std.proofs.lemmas.List.Elements.{All-push}
 use Rattle.cif_emit.specs.Emittable.{IsPlainLabel}
-use Rattle.emit_cases.proofs.chip.labels.Goals as goal
+use Rattle.chip_lines.proofs.chip.labels.Goals as goal
 
 pub loop-part-preserved-in-Continue-branch-3 : goal.loop-part-preserved-in-Continue-branch-3
 loop-part-preserved-in-Continue-branch-3 c =

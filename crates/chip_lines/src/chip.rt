@@ -166,7 +166,7 @@ fn fabric(alloc: Global, columns: u32, rows: u32) -> Result<Fabric, NoMemory>
 }
 
 /// The chip of a line, if its front has the numbers of a fabric. What is no rectangle and no label is passed over.
-pub(crate) fn chip(alloc: Global, line: &str) -> Result<Option<Chip>, NoMemory>
+pub fn chip(alloc: Global, line: &str) -> Result<Option<Chip>, NoMemory>
     ensures { IfOk result (λ chip. IfSome chip (λ c. IsEmittable (chip_rects c) c.labels)) }
 {
     let Some((columns, rows)) = size(line) else {

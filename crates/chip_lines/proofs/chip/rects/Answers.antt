@@ -1,7 +1,7 @@
 use Rattle.std.proofs.Common.{All, sym, subst}
 use Rattle.std.proofs.lemmas.List.Elements.{All-push}
 use Rattle.cif_emit.specs.Emittable.{IsOnGrid}
-use Rattle.emit_cases.proofs.chip.rects.Goals as goal
+use Rattle.chip_lines.proofs.chip.rects.Goals as goal
 
 pub loop-part-preserved-in-Continue-1 : goal.loop-part-preserved-in-Continue-1
 loop-part-preserved-in-Continue-1 c =

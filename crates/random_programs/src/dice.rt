@@ -2,13 +2,15 @@
 
 ghost use Rattle.std.specs.Prelude.{◌<◌};
 
+/// Where the numbers come from.
 #[derive(Drop)]
-pub(crate) struct Dice {
+pub struct Dice {
     state: u64,
 }
 
 impl Dice {
-    pub(crate) fn new(seed: u64) -> Dice {
+    /// Dice whose numbers this seed tells.
+    pub fn new(seed: u64) -> Dice {
         Dice {
             state: seed.wrapping_mul(0x9e37_79b9_7f4a_7c15),
         }

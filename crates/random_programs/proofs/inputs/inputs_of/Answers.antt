@@ -1,5 +1,5 @@
-use Rattle.sequencer_cases.proofs.Fitting.{inputs_more}
-use Rattle.sequencer_cases.proofs.inputs.inputs_of.Goals as goal
+use Rattle.random_programs.proofs.Fitting.{inputs_more}
+use Rattle.random_programs.proofs.inputs.inputs_of.Goals as goal
 
 pub loop-k-preserved : goal.loop-k-preserved
 loop-k-preserved c =

@@ -1,8 +1,8 @@
-//! The inputs of a clock, given or random.
+//! Values for pads: the inputs of a clock, given or random, and zeros.
 
-ghost use Rattle.std.specs.Prelude.{◌<◌, ◌≤◌, IfOk};
+ghost use Rattle.std.specs.Prelude.{◌≡◌, ◌<◌, ◌≤◌, length, IfOk, replicate};
 ghost use Rattle.mp_program.specs.Pads.{pad_limit};
-ghost use Rattle.sequencer_cases.specs.Inputs.{AreInputsOf};
+ghost use Rattle.random_programs.specs.Inputs.{AreInputsOf};
 
 use crate::dice::Dice;
 use mp_base::{List, Pad};
@@ -49,8 +49,8 @@ fn input_for(pad: &Pad, given: Option<&str>, place: usize, dice: &mut Dice) -> u
     limited(number, pad.width)
 }
 
-/// The inputs of a clock: those that are given, or random ones.
-pub(crate) fn inputs_of(
+/// The inputs of a clock: numbers with blanks between them, or random ones where none are given.
+pub fn inputs_of(
     alloc: Global,
     pads: &List<Pad>,
     given: Option<&str>,
@@ -65,4 +65,11 @@ pub(crate) fn inputs_of(
         inputs.push(input)?;
     }
     Ok(inputs)
+}
+
+/// A 0 for each pad.
+pub fn zeros(alloc: Global, pads: &List<Pad>) -> Result<List<u64>, AllocError>
+    ensures { IfOk result (λ zeros. zeros ≡ replicate (length pads.now) 0) }
+{
+    Ok(List::from_vec(vec![in alloc; 0; pads.len()]?))
 }

@@ -1,6 +1,6 @@
 use Rattle.std.proofs.Common.{All}
 use Rattle.cif_emit.specs.Emittable.{IsPlainLabel}
-use Rattle.emit_cases.proofs.chip.labels.Given as goal
+use Rattle.chip_lines.proofs.chip.labels.Given as goal
 
 abbrev pub invariant-loop-part : goal.invariant-loop-part
 invariant-loop-part l = All IsPlainLabel l.labels

@@ -11,7 +11,7 @@ use Rattle.mp_base.proofs.Entries.{get_or_pushed}
 use Rattle.mp_program.specs.declared.program.Program.{Program}
 use Rattle.mp_program.specs.Pads.{ArePadsOf, Face, face, FitsPads, input_pads, pad_limit}
 use Rattle.mp_rules.specs.Entries.{IsAt}
-use Rattle.sequencer_cases.specs.Inputs.{AreInputsOf}
+use Rattle.random_programs.specs.Inputs.{AreInputsOf}
 
 -- a value for each of the first n pads, which fits it
 pub record AreInputsOfFirst (n : ℕ) (pads : List Pad) (values : List ℕ) : Type 0 where

@@ -1,6 +1,6 @@
 use Rattle.std.proofs.Common.{ap, ◌∙◌, ◌++◌, ◌∷◌, []}
-use Rattle.emit_cases.proofs.Fabrics.{one_band}
-use Rattle.emit_cases.proofs.chip.fabric.Goals as goal
+use Rattle.chip_lines.proofs.Fabrics.{one_band}
+use Rattle.chip_lines.proofs.chip.fabric.Goals as goal
 
 pub returns : goal.returns
 returns c =
