@@ -1,8 +1,8 @@
 //! Tables: a case on each line.
 
 use circuit_words::circuits::circuit;
-use circuit_words::settled::settled;
-use circuit_words::steps::steps;
+use settle_words::settled::settled;
+use settle_words::steps::steps;
 use std::alloc::{AllocError, Global};
 use std::{fs, io};
 

@@ -2,10 +2,10 @@
 
 ghost use Rattle.std.specs.Prelude.{◌<◌};
 
-use circuit_words::network::letter;
-use circuit_words::settled::settle;
 use mp_base::{List, Trit};
 use settle::Settler;
+use settle_words::network::letter;
+use settle_words::settled::settle;
 use std::alloc::{AllocError, Global};
 use std::io;
 use switch_net::{Channel, ChannelKind, Network};

@@ -3,9 +3,9 @@
 ghost use Rattle.std.specs.Prelude.{◌<◌, ◌^◌, ◌≡◌, IfSome, IsTrue, length};
 ghost use Rattle.switch_net.specs.OneNode.{OneNodeEach};
 
-use crate::network::{channels, digit, part};
 use mp_base::{List, Name, Refusal, Rule, Spot, Trit};
 use outside_doubles::MemSink;
+use settle_words::network::{channels, digit, part};
 use sim_run::Simulation;
 use std::alloc::{AllocError, Global};
 use stimulus::{Stimulus, read_stimulus};

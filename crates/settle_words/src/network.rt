@@ -5,14 +5,14 @@ use std::alloc::{AllocError, Global};
 use switch_net::{Channel, ChannelKind};
 
 /// A part of a line, of which `|` ends each but the last.
-pub(crate) fn part(line: &[u8], index: usize) -> &[u8] {
+pub fn part(line: &[u8], index: usize) -> &[u8] {
     match line.split(|byte| *byte == b'|').nth(index) {
         Some(part) => part,
         None => &[],
     }
 }
 
-pub(crate) fn digit(letter: u8) -> u32 {
+pub fn digit(letter: u8) -> u32 {
     match letter {
         b'0'..=b'9' => u32::from(letter - b'0'),
         _ => 0,
@@ -51,7 +51,7 @@ fn push_channel(
 }
 
 /// Each channel by the letter of its kind, its gate and its ends.
-pub(crate) fn channels(alloc: Global, text: &[u8]) -> Result<List<Channel>, AllocError> {
+pub fn channels(alloc: Global, text: &[u8]) -> Result<List<Channel>, AllocError> {
     let mut channels = List::new(alloc);
     for part in text.split(|byte| *byte == b' ') {
         push_channel(alloc, &mut channels, part)?;
