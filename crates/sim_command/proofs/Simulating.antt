@@ -1,17 +1,19 @@
 -- A circuit that runs along a stimulus: how it is refused, and what it shows.
-use Rattle.std.proofs.Common.{◌≡◌, ℕ, List, [], refl, subst, Option, Some, None, IfSome}
+use Rattle.std.proofs.Common.{◌≡◌, ◌≤◌, ◌<◌, ◌^◌, ◌∙◌, ℕ, List, [], refl, ap, subst, arith, Option, Some, None}
+use Rattle.std.proofs.Common.{IfSome}
 use Rattle.mp_base.specs.declared.value.Trit.{Trit}
 use Rattle.mp_base.specs.declared.value.Trit.TheVariants.{X}
 use Rattle.mp_base.specs.declared.pad.Pads.{Pads}
-use Rattle.mp_base.specs.declared.refusal.Broken.{Broken}
 use Rattle.mp_base.specs.declared.refusal.Refusal.{Refusal}
 use Rattle.mp_base.specs.declared.refusal.Refusal.TheVariants as refusals
-use Rattle.outside.specs.Outside.{Files, bytes_of}
+use Rattle.outside.specs.Outside.{Files, Keeps, bytes_of}
 use Rattle.mp_base.proofs.Decisions.{IsDetermined}
+use Rattle.outside.proofs.Told.{told_then}
 use Rattle.switch_net.specs.declared.network.Network.{Network}
 use Rattle.switch_net.specs.Breaks.{HasPads, IsFirstOfCircuit}
 use Rattle.switch_net.specs.Laws.{OneFirstOfCircuit}
 use Rattle.stimulus.specs.declared.given.Stimulus.{Stimulus}
+use Rattle.stimulus.specs.declared.limits.TheConstants.{CLOCK_LIMIT, PAD_LIMIT}
 use Rattle.stimulus.specs.Reading.{IsStimulus}
 use Rattle.switch_net.proofs.Circuits.{breaks_nothing}
 use Rattle.mask_net.specs.Masks.{IsNetOf}
@@ -51,7 +53,7 @@ module _ (network : OneNetwork) (same : SamePads) (first : OneFirstOfCircuit) (m
     fits,
   ) = absurd (breaks_nothing n s.pads a (again HasPads m n t s y x fits) broken)
   one_of_circuit (Some a) (Some b) (n, s, x, broken) (m, t, y, other) =
-      let e = first m t.pads a b (again (λ net pads. IsFirstOfCircuit net pads a) n m s t x y broken) other in cc
+      ap Some (first m t.pads a b (again (λ net pads. IsFirstOfCircuit net pads a) n m s t x y broken) other)
 
 -- the files were refused
 pub ends_set_up : (cif stimulus : List ℕ) (held : Option Files) (r m : ℕ) (halt : Halt)
@@ -87,6 +89,16 @@ module _ (cif stimulus : List ℕ) (net : Network) (given : Stimulus) (held : Op
   -- no rule is broken
   pub no_fault : HasPads net given.pads → IfSome held (λ files. (work cif stimulus).First files None)
   no_fault h = if_second (SetUpFault cif stimulus) Rest held None fits.1 (rest_fits held set_up h)
+
+-- a stimulus of a file fits a simulation
+pub few_inputs : (n : ℕ) → n ≤ PAD_LIMIT → n < 2 ^ 32
+few_inputs n few = omega arith
+
+pub few_clocks : (n : ℕ) → n ≤ CLOCK_LIMIT → n < 2 ^ 32
+few_clocks n few = omega arith
+
+pub keeps_twice : {X : Type 0} (x y z : Option X) → Keeps x y → Keeps y z → Keeps x z
+keeps_twice x y z kept still = told_then _ _ _ x y z (λ a b c e f. f ∙ e) kept still
 
 -- what was read of the files
 pub is_set_up : (cif stimulus : List ℕ) (net : Network) (given : Stimulus) (held : Option Files)

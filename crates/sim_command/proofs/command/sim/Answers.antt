@@ -4,9 +4,17 @@ use Rattle.outcome.specs.Halt.{halt_of}
 use Rattle.outside.proofs.Told.{keeps_same}
 use Rattle.outcome.proofs.EndsLemmas.{leaves_halted, leaves_done, leaves_cut}
 use Rattle.sim_command.proofs.Simulating.{ends_set_up, ends_refused, no_fault, shows_simulation}
+use Rattle.sim_command.proofs.Simulating.{few_inputs, few_clocks}
 use Rattle.outcome.proofs.Causes.{print_failed}
 use Rattle.outcome.proofs.Silence.{quiet_same, quiet_cut}
+use Rattle.stages.proofs.Ending.{causes_halted}
 use Rattle.sim_command.proofs.command.sim.Goals as goal
+
+pub open-requires-clause-few_inputs : goal.open-requires-clause-few_inputs
+open-requires-clause-few_inputs g c = few_inputs _ c.in_ok-network.ensures.few_inputs
+
+pub open-requires-clause-few_clocks : goal.open-requires-clause-few_clocks
+open-requires-clause-few_clocks g c = few_clocks _ c.in_ok-network.ensures.few_clocks
 
 pub returns-in_err-network-clause-content : goal.returns-in_err-network-clause-content
 returns-in_err-network-clause-content g c =
@@ -71,3 +79,52 @@ returns-in_err-simulation-clause-silent g c = quiet_same c.from_residual-in_err-
 pub returns-in_err-run-clause-silent : goal.returns-in_err-run-clause-silent
 returns-in_err-run-clause-silent g c = quiet_cut c.from_residual-in_err-run.result _ _
     c.from_residual-in_err-run.ensures.1
+
+pub returns-clause-silent : goal.returns-clause-silent
+returns-clause-silent g c = tt
+
+pub returns-in_err-network-clause-causes : goal.returns-in_err-network-clause-causes
+returns-in_err-network-clause-causes g c =
+    causes_halted (work c.args.cif.now c.args.stimulus.now).First (g.D.Depot.held c.prepare.new.depot)
+    c.in_err-network.field-0.0 c.from_residual.result _ _ c.from_residual.ensures.1
+    (ends_set_up c.args.cif.now c.args.stimulus.now _ _ _ c.in_err-network.field-0.0 c.in_err-network.ensures.reason)
+    c.in_err-network.ensures.writes refl
+
+pub returns-in_err-simulation-clause-causes : goal.returns-in_err-simulation-clause-causes
+returns-in_err-simulation-clause-causes g c =
+    let told = c.in_ok-network.ensures in
+    causes_halted (work c.args.cif.now c.args.stimulus.now).First (g.D.Depot.held c.prepare.new.depot)
+    (halt_of c.in_err-simulation.field-0.0) c.from_residual-in_err-simulation.result _ _
+    c.from_residual-in_err-simulation.ensures.1
+    (ends_refused c.args.cif.now c.args.stimulus.now c.in_ok-network.field-0.network c.in_ok-network.field-0.given
+    (g.D.Depot.held c.prepare.new.depot) _ _ told.set_up told.reason
+    c.in_err-simulation.field-0.0 c.in_err-simulation.ensures.refused)
+    told.writes refl
+
+pub returns-clause-causes : goal.returns-clause-causes
+returns-clause-causes g c =
+    (c.in_ok-network.ensures.reason.0, c.in_ok-network.ensures.writes, c.in_ok-run.ensures.cause.ok)
+
+pub returns-in_err-network-clause-held : goal.returns-in_err-network-clause-held
+returns-in_err-network-clause-held g c = c.in_err-network.ensures.held
+
+pub returns-in_err-simulation-clause-held : goal.returns-in_err-simulation-clause-held
+returns-in_err-simulation-clause-held g c = c.in_ok-network.ensures.held
+
+pub returns-in_err-run-clause-held : goal.returns-in_err-run-clause-held
+returns-in_err-run-clause-held g c = c.in_ok-network.ensures.held
+
+pub returns-clause-held : goal.returns-clause-held
+returns-clause-held g c = c.in_ok-network.ensures.held
+
+pub returns-in_err-network-clause-writes : goal.returns-in_err-network-clause-writes
+returns-in_err-network-clause-writes g c = c.in_err-network.ensures.writes
+
+pub returns-in_err-simulation-clause-writes : goal.returns-in_err-simulation-clause-writes
+returns-in_err-simulation-clause-writes g c = c.in_ok-network.ensures.writes
+
+pub returns-in_err-run-clause-writes : goal.returns-in_err-run-clause-writes
+returns-in_err-run-clause-writes g c = c.in_ok-network.ensures.writes
+
+pub returns-clause-writes : goal.returns-clause-writes
+returns-clause-writes g c = c.in_ok-network.ensures.writes
