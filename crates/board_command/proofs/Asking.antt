@@ -1,5 +1,7 @@
 -- Why reading a source and links for it ended.
-use Rattle.std.proofs.Common.{ℕ, List, refl, Option, Some, None, Result, Ok, Err, IfOk, IfErr, IfSome}
+use Rattle.std.proofs.Common.{◌≡◌, ℕ, ◌<◌, ◌^◌, List, length, refl, sym, subst, Option, Some, None, Result, Ok, Err}
+use Rattle.std.proofs.Common.{IfOk, IfErr, IfSome}
+use Rattle.std.specs.Prelude.{All}
 use Rattle.outside.specs.Outside.{Files, bytes_of}
 use Rattle.mp_base.specs.declared.pad.Pads.{Pads}
 use Rattle.mp_base.specs.declared.refusal.Refusal.{Refusal}
@@ -10,8 +12,13 @@ use Rattle.mp_source.specs.Source.{IsSource, IsJudged}
 use Rattle.outcome.specs.Order.{Fault, OfRule}
 use Rattle.outcome.specs.Halt.{EndsBy, halt_of}
 use Rattle.board.specs.declared.link.Link.{Link}
+use Rattle.board.specs.Boarding.{AreWires}
 use Rattle.board.specs.Links.{AreLinks, Refuses}
-use Rattle.board_command.specs.Linked.{OfWords, OfLinks}
+use Rattle.board_command.specs.Linked.{OfWords, OfLinks, IsLinked}
+
+-- nothing is said of what wasn't made
+pub if_failed : {T E : Type 0} (P : T → Type 0) (result : Result T E) (e : E) → result ≡ Err e → IfOk result P
+if_failed {T} {E} P result e is = let Q : Result T E → Type 0 = λ r. IfOk r P in subst Q (sym is) tt
 
 -- what the reader of links says
 pub judged_words : (names words : List (List ℕ)) (pads : Pads) (result : Result (List Link) Refusal)
@@ -20,6 +27,15 @@ pub judged_words : (names words : List (List ℕ)) (pads : Pads) (result : Resul
 judged_words names words pads (Ok links) ok err = (links, ok)
 judged_words names words pads (Err (refusals.Broken b)) ok err = err
 judged_words names words pads (Err refusals.NoMemory) ok err = tt
+
+pub judged_links : (names words : List (List ℕ)) (parts : ℕ) (program : Program) (pads : Pads)
+    (result : Result (List Link) Refusal) → ArePadsOf program pads → length pads.inputs < 2 ^ 32
+    → IfOk result (AreLinks names pads words) → IfOk result (AreWires pads)
+    → IfOk result (λ links. All (λ (l : Link). l.part < parts) links)
+    → IfOk result (IsLinked names parts words program pads)
+judged_links names words parts program pads (Ok links) padded few linked wires within =
+    record { padded = padded; few = few; linked = linked; wires = wires; within = within }
+judged_links names words parts program pads (Err e) padded few linked wires within = tt
 
 module _ (names words : List (List ℕ)) (source : List ℕ) (program : Program) (pads : Pads)
     (padded : ArePadsOf program pads) where

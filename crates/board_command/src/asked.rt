@@ -1,15 +1,13 @@
 //! A source and links for it, read and judged.
 
-ghost use Rattle.std.specs.Prelude.{◌≡◌, ◌<◌, ◌^◌, All, length, map, IfOk, IfSome, string_bytes};
+ghost use Rattle.std.specs.Prelude.{◌≡◌, length, map, IfOk, IfSome, string_bytes};
 ghost use Rattle.outside.specs.Outside.{Keeps, bytes_of};
 ghost use Rattle.mp_program.specs.Pads.{ArePadsOf};
 ghost use Rattle.mp_source.specs.Source.{IsJudged, IsSource};
 ghost use Rattle.outcome.specs.Order.{OfRule, Then};
 ghost use Rattle.outcome.specs.Halt.{HasReason};
 ghost use Rattle.source_files.specs.Faults.{SourceFault};
-ghost use Rattle.board.specs.Boarding.{AreWires};
-ghost use Rattle.board.specs.Links.{AreLinks};
-ghost use Rattle.board_command.specs.Linked.{OfLinks, OfWords};
+ghost use Rattle.board_command.specs.Linked.{IsLinked, OfLinks, OfWords};
 
 use board::{Link, NamedPart, read_links};
 use mp_base::{List, Refusal};
@@ -36,12 +34,9 @@ fn judge_links(
 ) -> Result<List<Link>, Refusal>
     ensures judged { IsJudged (OfWords (map (λ p. string_bytes p.name) parts.now) checked.now.pads
         (map string_bytes words.now)) result }
-    ensures links { IfOk result
-        (AreLinks (map (λ p. string_bytes p.name) parts.now) checked.now.pads (map string_bytes words.now)) }
-    ensures wires { IfOk result (AreWires checked.now.pads) }
-    ensures parts { IfOk result (λ links. All (λ l. l.part < length parts.now) links) }
+    ensures linked { IfOk result (IsLinked (map (λ p. string_bytes p.name) parts.now) (length parts.now)
+        (map string_bytes words.now) checked.now.program checked.now.pads) }
     ensures padded { ArePadsOf checked.now.program checked.now.pads }
-    ensures few { length checked.now.pads.inputs < 2 ^ 32 }
 {
     checked.unbroken();
     few_namings();
@@ -61,14 +56,10 @@ pub(crate) fn ask<D: Depot>(
     parts: &[NamedPart],
 ) -> Result<Asked, Halt>
     ensures held { Keeps (D.held depot.old) (D.held depot.new) }
-    ensures padded { IfOk result (λ asked. ArePadsOf asked.checked.program asked.checked.pads) }
-    ensures few { IfOk result (λ asked. length asked.checked.pads.inputs < 2 ^ 32) }
     ensures source { IfOk result (λ asked. IfSome (D.held depot.new)
         (λ files. IsSource (bytes_of files source.now) asked.checked.program)) }
-    ensures links { IfOk result (λ asked. AreLinks (map (λ p. string_bytes p.name) parts.now) asked.checked.pads
-        (map string_bytes words.now) asked.links) }
-    ensures wires { IfOk result (λ asked. AreWires asked.checked.pads asked.links) }
-    ensures parts { IfOk result (λ asked. All (λ l. l.part < length parts.now) asked.links) }
+    ensures linked { IfOk result (λ asked. IsLinked (map (λ p. string_bytes p.name) parts.now) (length parts.now)
+        (map string_bytes words.now) asked.checked.program asked.checked.pads asked.links) }
     ensures reason { HasReason (λ files. Then (SourceFault source.now files)
         (OfRule (OfLinks (map (λ p. string_bytes p.name) parts.now) (bytes_of files source.now)
         (map string_bytes words.now)))) (D.held depot.new) (D.read_faults depot.old) (D.read_faults depot.new) result }

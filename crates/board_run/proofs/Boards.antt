@@ -17,13 +17,14 @@ use Rattle.board.specs.declared.link.Link.{Link}
 use Rattle.switch_net.specs.Clock.{IsClock}
 use Rattle.switch_net.specs.Laws.{TraceExists}
 use Rattle.settle.specs.Values.{value_at}
-use Rattle.mask_net.specs.SizeLine.{last_line}
+use Rattle.mask_net.specs.SizeLine.{last_line, size_text}
 use Rattle.clock_run.specs.Circuit.{Running}
 use Rattle.clock_run.specs.Device.{CircuitSteps}
 use Rattle.transcript.specs.Transcript.{RunsAlong}
 use Rattle.transcript.proofs.Transcripts.{runs_keep, lines_more}
 use Rattle.sim_run.specs.Transcript.{NetworkSteps}
 use Rattle.sim_run.proofs.Transcripts.{can_step, steps_on}
+use Rattle.board.specs.Boarding.{Boarding}
 use Rattle.board.specs.Face.{Face}
 use Rattle.board.specs.Loop.{Wired, IsLoop, faces_after, faces_along, inputs_at}
 use Rattle.board.specs.Printing.{PrintsLoop}
@@ -32,7 +33,7 @@ use Rattle.board.proofs.JoinedLoops.{loop_then, more}
 use Rattle.board_laws.specs.Laws.{CircuitsLoop}
 use Rattle.board_run.specs.Boarded.{PrintsBoard, whole_lines}
 use Rattle.board_run.specs.Laws.{BoardsRun}
-use Rattle.board_run.specs.Standing.{Standing}
+use Rattle.board_run.specs.Standing.{Standing, IsReady}
 use Rattle.board_run.proofs.Feeds.{lines_of_two, lines_counted, no_line}
 
 pub boards_run : InputsFit → TraceExists → BoardsRun
@@ -59,7 +60,7 @@ kept before after is shown runs =
     (λ s t i o same step. (step.network ∙ same.0, step.pads ∙ same.1)) before after is shown (refl, refl) runs
 
 -- the network after all clocks were run
-pub network_after : {T E : Type 0} (w : Wired) (done clocks : ℕ) (before after : Running) (faces later : List Face)
+network_after : {T E : Type 0} (w : Wired) (done clocks : ℕ) (before after : Running) (faces later : List Face)
     (x y : Option (List ℕ)) (u : T)
     → PrintsLoop {T = T} {E = E} CircuitSteps w 0 done clocks before after faces later x y (Ok u)
     → after.network ≡ before.network
@@ -106,7 +107,7 @@ module _ (fits : InputsFit) (circuits : CircuitsLoop) (exist : TraceExists) (w :
 
   module _ {T E : Type 0} (done clocks : ℕ) (after : Running) (faces later : List Face) (x y : Option (List ℕ)) where
     -- a line was cut short
-    pub cut_in_lines : (e f : E) (r : Result T E) → r ≡ Err f
+    cut_in_lines : (e f : E) (r : Result T E) → r ≡ Err f
         → PrintsLoop {T = T} {E = E} CircuitSteps w 0 done clocks before after faces later x y (Err e)
         → PrintsBoard {T = T} {E = E} net w clocks faces later x y r
     cut_in_lines e f r is p =
@@ -161,7 +162,7 @@ module _ (fits : InputsFit) (circuits : CircuitsLoop) (exist : TraceExists) (w :
         }
 
     -- all lines were printed, and then the last one, or a part of it
-    pub line_behind : (u : T) (r : Result T E) (z : Option (List ℕ))
+    line_behind : (u : T) (r : Result T E) (z : Option (List ℕ))
         → PrintsLoop {T = T} {E = E} CircuitSteps w 0 done clocks before after faces later x y (Ok u)
         → TakesAll {T = T} {E = E} Gains y z (last_line net (value_at after.values)) r
         → PrintsBoard {T = T} {E = E} net w clocks faces later x z r
@@ -221,3 +222,40 @@ pub printed_as : {T E : Type 0} (s t : Standing) (clocks : ℕ) (faces later : L
     → PrintsBoard {T = T} {E = E} t.network t.wired clocks faces later x y r
 printed_as {T} {E} s t clocks faces later x y r is prints =
     subst (λ (z : Standing). PrintsBoard {T = T} {E = E} z.network z.wired clocks faces later x y r) is prints
+
+-- ---- a circuit that has run no clock
+
+has_its_pads : (circuit : Running) (board : Boarding) (size : List ℕ) → IsReady circuit board size
+    → HasPads circuit.network (board.wired).pads
+has_its_pads circuit board size ready = subst (HasPads circuit.network) ready.pads ready.has_pads
+
+module _ (fits : InputsFit) (circuits : CircuitsLoop) (exist : TraceExists) (circuit : Running) (board : Boarding)
+    (size : List ℕ) (ready : IsReady circuit board size) {T E : Type 0} (done clocks : ℕ) (after : Running)
+    (faces later : List Face) (x y : Option (List ℕ)) where
+  abbrev Printed : Result T E → Type 0
+  Printed r = PrintsLoop {T = T} {E = E} CircuitSteps board.wired board.done done clocks circuit after faces later x y r
+
+  from_first : (r : Result T E) → Printed r
+      → PrintsLoop {T = T} {E = E} CircuitSteps board.wired 0 done clocks circuit after faces later x y r
+  from_first r p =
+      subst (λ n. PrintsLoop {T = T} {E = E} CircuitSteps board.wired n done clocks circuit after faces later x y r)
+      ready.unrun p
+
+  -- a line was cut short
+  pub cut_run : (e f : E) (r : Result T E) → r ≡ Err f → Printed (Err e)
+      → PrintsBoard {T = T} {E = E} circuit.network board.wired clocks faces later x y r
+  cut_run e f r is p =
+      cut_in_lines fits circuits exist board.wired circuit ready.pads
+      (has_its_pads circuit board size ready) ready.unknown done clocks after faces later x y e f r is
+      (from_first (Err e) p)
+
+  -- all lines were printed, and the size line behind them, or a part of it
+  pub whole_run : (u : T) (r : Result T E) (z : Option (List ℕ)) → Printed (Ok u)
+      → ((net : Network) → size ≡ size_text net → after.network ≡ net
+      → TakesAll {T = T} {E = E} Gains y z (last_line net (value_at after.values)) r)
+      → PrintsBoard {T = T} {E = E} circuit.network board.wired clocks faces later x z r
+  whole_run u r z p line =
+      let q = from_first (Ok u) p in
+      line_behind fits circuits exist board.wired circuit ready.pads
+      (has_its_pads circuit board size ready) ready.unknown done clocks after faces later x y u r z q
+      (line circuit.network ready.sized (network_after board.wired done clocks circuit after faces later x y u q))

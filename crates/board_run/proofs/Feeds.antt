@@ -1,5 +1,5 @@
 -- The line feeds of transcripts: one ends each line, and no other stands in it.
-use Rattle.std.proofs.Common.{◌≡◌, ◌∙◌, ℕ, zero, suc, ◌+◌, ◌-◌, ◌<◌, List, [], ◌∷◌, ◌++◌, append_assoc, Bool, true}
+use Rattle.std.proofs.Common.{◌≡◌, ◌∙◌, ℕ, zero, suc, ◌+◌, ◌<◌, List, [], ◌∷◌, ◌++◌, append_assoc, Bool, true}
 use Rattle.std.proofs.Common.{false, cond, length, map, take, get_or, refl, sym, ap, codes, arith}
 use Rattle.std.specs.Prelude.{◌==◌, IsTrue, decimal, nat_lt, ◌/◌, ◌%◌}
 use Rattle.std.specs.List.{list_all, list_any}

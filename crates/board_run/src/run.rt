@@ -1,14 +1,18 @@
 //! The circuit of a chip on a board.
 
 ghost use Rattle.std.specs.Prelude.{◌≡◌, ◌<◌, ◌^◌, All, length, map, IfOk, string_bytes};
-ghost use Rattle.outside.specs.Outside.{HasCause};
+ghost use Rattle.outside.specs.Outside.{Gains, HasCause};
+ghost use Rattle.outside.specs.Piece.{TakesAll};
 ghost use Rattle.mp_base.specs.declared.value.Trit.TheVariants.{X};
 ghost use Rattle.settle.specs.Values.{value_at};
+ghost use Rattle.switch_net.specs.declared.network.Network.{Network};
 ghost use Rattle.switch_net.specs.Breaks.{HasPads};
+ghost use Rattle.mask_net.specs.SizeLine.{last_line, size_text};
 ghost use Rattle.board.specs.Boarding.{AreWires};
 ghost use Rattle.board.specs.Face.{Face};
 ghost use Rattle.board.specs.Loop.{Wired};
 ghost use Rattle.board_run.specs.Boarded.{PrintsBoard};
+ghost use Rattle.board_run.specs.Standing.{IsReady};
 
 use board::laws::inputs_fit;
 use board::{Board, Link, NamedPart, Part};
@@ -52,6 +56,43 @@ fn circuit<'a>(alloc: Global, network: Network, pads: &'a Pads) -> Result<Circui
         Err(Refusal::NoMemory) => Err(NoMemory),
         Err(Refusal::Broken(_)) => unreachable!(),
     }
+}
+
+// Prints the size line of a circuit whose run has ended.
+fn write_end<O: Sink>(out: &mut O, size: &[u8], circuit: &Circuit<'_>) -> Result<(), Failed>
+    ensures taken { (net : Network) → size.now ≡ size_text net → circuit.now.network ≡ net
+        → TakesAll Gains (O.held out.old) (O.held out.new) (last_line net (value_at circuit.now.values)) result }
+    ensures cause { HasCause (O.faults out.old) (O.faults out.new) result }
+{
+    write_last_line(out, size, circuit.values())
+}
+
+// Runs a circuit that has run no clock, and prints all of it.
+fn run_clocks<O: Sink>(
+    circuit: &mut Circuit<'_>,
+    board: &mut Board<'_>,
+    size: &[u8],
+    parts: &mut Vec<NamedPart>,
+    clocks: u32,
+    out: &mut O,
+) -> Result<(), Failed>
+    requires ready { IsReady circuit.old board.old size.now }
+    requires parts { All (λ l. l.part < length parts.old.items) board.old.wired.links }
+    ensures names { map (λ p. string_bytes p.name) parts.new.items ≡ map (λ p. string_bytes p.name) parts.old.items }
+    ensures printed { let faces = map (λ p. let f : Face = record {
+      state = (⟦<dyn Part as Part>⟧ p.part.vtable).state p.part.value;
+      drives = (⟦<dyn Part as Part>⟧ p.part.vtable).driven_in;
+      sees = (⟦<dyn Part as Part>⟧ p.part.vtable).after_seeing;
+    } in f) in
+        PrintsBoard circuit.old.network board.old.wired clocks (faces parts.old.items) (faces parts.new.items)
+        (O.held out.old) (O.held out.new) result }
+    ensures cause { HasCause (O.faults out.old) (O.faults out.new) result }
+{
+    circuits_run();
+    circuits_loop();
+    inputs_fit();
+    board.run(circuit, parts, clocks, out)?;
+    write_end(out, size, circuit)
 }
 
 impl<'a> BoardRun<'a> {
@@ -110,15 +151,11 @@ impl<'a> BoardRun<'a> {
             (O.held out.old) (O.held out.new) result }
         ensures cause { HasCause (O.faults out.old) (O.faults out.new) result }
     {
-        circuits_run();
-        circuits_loop();
-        inputs_fit();
         let BoardRun {
             mut circuit,
             mut board,
             size,
         } = self;
-        board.run(&mut circuit, parts, clocks, out)?;
-        write_last_line(out, &size, circuit.values())
+        run_clocks(&mut circuit, &mut board, &size, parts, clocks, out)
     }
 }

@@ -1,12 +1,13 @@
 use Rattle.std.proofs.Common.{ℕ, List, Option, None, map}
 use Rattle.std.specs.Prelude.{string_bytes}
+use Rattle.std.proofs.lemmas.Result.{err_from_is_err_and}
 use Rattle.outside.specs.Outside.{Files, bytes_of}
 use Rattle.outcome.specs.Order.{Fault, Then, OfRule}
 use Rattle.outcome.specs.Halt.{halt_of}
 use Rattle.outcome.proofs.Reasons.{ends_first, ends_second, if_second, reason_err}
 use Rattle.source_files.specs.Faults.{SourceFault}
 use Rattle.board_command.specs.Linked.{OfLinks}
-use Rattle.board_command.proofs.Asking.{links_end, links_fit}
+use Rattle.board_command.proofs.Asking.{if_failed, links_end, links_fit}
 use Rattle.board_command.proofs.asked.ask.Goals as goal
 
 pub returns-in_err-checked-clause-reason : goal.returns-in_err-checked-clause-reason
@@ -45,5 +46,49 @@ returns-clause-reason g c =
       told.reason.0,
       if_second F G _ None told.reason.1
           (links_fit names words c.args.source.now checked.program checked.pads c.in_ok-links.ensures.padded _
-          told.source c.in_ok-links.links c.in_ok-links.ensures.links),
+          told.source c.in_ok-links.links c.in_ok-links.ensures.linked.linked),
     )
+
+pub returns-in_err-checked-clause-held : goal.returns-in_err-checked-clause-held
+returns-in_err-checked-clause-held g c = c.in_err-checked.ensures.held
+
+pub returns-in_err-checked-clause-source : goal.returns-in_err-checked-clause-source
+returns-in_err-checked-clause-source g c =
+    let r = c.from_residual.result in
+    let q = err_from_is_err_and r c.from_residual.ensures.1 in if_failed _ r q.0 q.1
+
+pub returns-in_err-checked-clause-linked : goal.returns-in_err-checked-clause-linked
+returns-in_err-checked-clause-linked g c =
+    let r = c.from_residual.result in
+    let q = err_from_is_err_and r c.from_residual.ensures.1 in if_failed _ r q.0 q.1
+
+pub returns-in_err-checked-clause-writes : goal.returns-in_err-checked-clause-writes
+returns-in_err-checked-clause-writes g c = c.in_err-checked.ensures.writes
+
+pub returns-in_err-links-clause-held : goal.returns-in_err-links-clause-held
+returns-in_err-links-clause-held g c = c.in_ok-checked.ensures.held
+
+pub returns-in_err-links-clause-source : goal.returns-in_err-links-clause-source
+returns-in_err-links-clause-source g c =
+    let r = c.from_residual-in_err-links.result in
+    let q = err_from_is_err_and r c.from_residual-in_err-links.ensures.1 in if_failed _ r q.0 q.1
+
+pub returns-in_err-links-clause-linked : goal.returns-in_err-links-clause-linked
+returns-in_err-links-clause-linked g c =
+    let r = c.from_residual-in_err-links.result in
+    let q = err_from_is_err_and r c.from_residual-in_err-links.ensures.1 in if_failed _ r q.0 q.1
+
+pub returns-in_err-links-clause-writes : goal.returns-in_err-links-clause-writes
+returns-in_err-links-clause-writes g c = c.in_ok-checked.ensures.writes
+
+pub returns-clause-held : goal.returns-clause-held
+returns-clause-held g c = c.in_ok-checked.ensures.held
+
+pub returns-clause-source : goal.returns-clause-source
+returns-clause-source g c = c.in_ok-checked.ensures.source
+
+pub returns-clause-linked : goal.returns-clause-linked
+returns-clause-linked g c = c.in_ok-links.ensures.linked
+
+pub returns-clause-writes : goal.returns-clause-writes
+returns-clause-writes g c = c.in_ok-checked.ensures.writes

@@ -1,5 +1,8 @@
-use Rattle.std.proofs.Common.{arith}
+use Rattle.std.proofs.Common.{length, map, arith}
+use Rattle.std.specs.Prelude.{string_bytes}
+use Rattle.mp_program.specs.Pads.{ArePadsOf}
 use Rattle.source_files.proofs.ProgramPads.{few_inputs, few_outputs, keeps_40}
+use Rattle.board_command.proofs.Asking.{judged_links, judged_words}
 use Rattle.board_command.proofs.asked.judge_links.Goals as goal
 
 pub read_links-requires-clause-inputs : goal.read_links-requires-clause-inputs
@@ -16,16 +19,32 @@ read_links-requires-clause-outputs g c =
     (c.few_namings.ensures p (keeps_40 p c.unbroken.ensures)) in
     omega (arith, few)
 
-pub returns-then-parts-clause-few : goal.returns-then-parts-clause-few
-returns-then-parts-clause-few g c =
-    let p = c.args.checked.now.program in
-    let few = few_inputs p c.args.checked.now.pads (rw c.pads-pads.ensures.same at c.pads-pads.ensures.padded)
-    (c.few_namings.ensures p (keeps_40 p c.unbroken.ensures)) in
-    omega (arith, few)
+pub returns-then-parts-clause-judged : goal.returns-then-parts-clause-judged
+returns-then-parts-clause-judged g c = tt
 
-pub returns-clause-few : goal.returns-clause-few
-returns-clause-few g c =
-    let p = c.args.checked.now.program in
-    let few = few_inputs p c.args.checked.now.pads (rw c.pads-pads.ensures.same at c.pads-pads.ensures.padded)
-    (c.few_namings.ensures p (keeps_40 p c.unbroken.ensures)) in
-    omega (arith, few)
+pub returns-then-parts-clause-linked : goal.returns-then-parts-clause-linked
+returns-then-parts-clause-linked g c = tt
+
+pub returns-then-parts-clause-padded : goal.returns-then-parts-clause-padded
+returns-then-parts-clause-padded g c = rw c.pads-pads.ensures.same at c.pads-pads.ensures.padded
+
+pub returns-clause-judged : goal.returns-clause-judged
+returns-clause-judged g c =
+    let same = c.pads-pads.ensures.same in
+    judged_words (map (λ p. string_bytes p.name) c.args.parts.now) (map string_bytes c.args.words.now)
+    c.args.checked.now.pads c.read_links.result (rw same at c.read_links.ensures.links)
+    (rw same at c.read_links.ensures.refused)
+
+pub returns-clause-linked : goal.returns-clause-linked
+returns-clause-linked g c =
+    let checked = c.args.checked.now in
+    let same = c.pads-pads.ensures.same in
+    let padded : ArePadsOf checked.program checked.pads = rw same at c.pads-pads.ensures.padded in
+    let few = few_inputs checked.program checked.pads padded
+    (c.few_namings.ensures checked.program (keeps_40 checked.program c.unbroken.ensures)) in
+    judged_links (map (λ p. string_bytes p.name) c.args.parts.now) (map string_bytes c.args.words.now)
+    (length c.args.parts.now) checked.program checked.pads c.read_links.result padded (omega (arith, few))
+    (rw same at c.read_links.ensures.links) (rw same at c.read_links.ensures.wires) c.read_links.ensures.parts
+
+pub returns-clause-padded : goal.returns-clause-padded
+returns-clause-padded g c = rw c.pads-pads.ensures.same at c.pads-pads.ensures.padded

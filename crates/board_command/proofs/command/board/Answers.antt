@@ -18,10 +18,10 @@ use Rattle.board_command.proofs.Endings.{rests, plays_halted}
 use Rattle.board_command.proofs.command.board.Goals as goal
 
 pub chip_on_board-requires-clause-few : goal.chip_on_board-requires-clause-few
-chip_on_board-requires-clause-few g c = c.in_ok-checked.ensures.few
+chip_on_board-requires-clause-few g c = c.in_ok-checked.ensures.linked.few
 
 pub chip_on_board-requires-clause-wires : goal.chip_on_board-requires-clause-wires
-chip_on_board-requires-clause-wires g c = c.in_ok-checked.ensures.wires
+chip_on_board-requires-clause-wires g c = c.in_ok-checked.ensures.linked.wires
 
 pub play-requires-clause-has_pads : goal.play-requires-clause-has_pads
 play-requires-clause-has_pads g c =
@@ -31,7 +31,7 @@ play-requires-clause-has_pads g c =
 pub play-requires-clause-parts : goal.play-requires-clause-parts
 play-requires-clause-parts g c =
     subst (λ (w : Wired). All (λ (l : Link). l.part < length c.args.parts.now.items) w.links)
-    (sym c.in_ok-chip.ensures.wired) (rw c.deref.ensures.value at c.in_ok-checked.ensures.parts)
+    (sym c.in_ok-chip.ensures.wired) (rw c.deref.ensures.value at c.in_ok-checked.ensures.linked.within)
 
 pub returns-in_err-checked-clause-content : goal.returns-in_err-checked-clause-content
 returns-in_err-checked-clause-content g c =
@@ -98,9 +98,9 @@ returns-clause-content g c =
       unbroken = c.unbroken.ensures;
       is_chip = opened.chip;
       is_board = subst (IsBoardOf checked.program) (sym opened.wired)
-          (record { are_pads = told.padded; wires = told.wires; stores = refl });
+          (record { are_pads = told.linked.padded; wires = told.linked.wires; stores = refl });
       linked = subst (λ (w : Wired). AreLinks lent.names w.pads words w.links) (sym opened.wired)
-          (rw c.deref.ensures.value at told.links);
+          (rw c.deref.ensures.value at told.linked.linked);
       drawn = opened.drawn;
     } in
     leaves_on (Given cif chip circuit.network circuit.wired clocks lent.faces left c.play.result)

@@ -5,6 +5,12 @@ use Rattle.clock_run.specs.Refused.{IsRefused}
 use Rattle.sim_run.proofs.Transcripts.{all_unknown}
 use Rattle.board_run.proofs.run.circuit.Goals as goal
 
+pub returns-in-Ok-clause-network : goal.returns-in-Ok-clause-network
+returns-in-Ok-clause-network c = c.in-Ok.ensures.network
+
+pub returns-in-Ok-clause-pads : goal.returns-in-Ok-clause-pads
+returns-in-Ok-clause-pads c = c.in-Ok.ensures.pads
+
 pub returns-in-Ok-clause-unknown : goal.returns-in-Ok-clause-unknown
 returns-in-Ok-clause-unknown c = ap value_at c.in-Ok.ensures.unknown ∙ all_unknown c.args.network.nodes
 
