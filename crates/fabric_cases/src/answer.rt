@@ -2,6 +2,7 @@
 
 use crate::build::{build, copy};
 use extractor::extract;
+use fabric::Fabric;
 use mp_base::{NoMemory, Refusal};
 use std::alloc::{AllocError, Global};
 use switch_net::{Channel, Network};
@@ -23,19 +24,31 @@ fn shown(alloc: Global, net: &Network) -> Result<String, AllocError> {
     Ok(words)
 }
 
+// The network that a fabric draws, where its masks break no rule.
+fn drawn(alloc: Global, fabric: &Fabric) -> Result<Option<Network>, NoMemory> {
+    let shape = fabric.shape(alloc)?;
+    match extract(alloc, shape.as_slice(), &[]) {
+        Ok(network) => Ok(Some(network)),
+        Err(Refusal::NoMemory) => Err(NoMemory),
+        Err(Refusal::Broken(_)) => Ok(None),
+    }
+}
+
+// The network that a fabric means.
+fn meant(alloc: Global, fabric: &Fabric) -> Result<Network, NoMemory> {
+    fabric.switches(alloc)
+}
+
 // The network that is drawn, and the one that is meant.
 fn networks(alloc: Global, text: &[u8]) -> Result<Option<(Network, Network)>, NoMemory> {
     let Some(fabric) = build(alloc, text)? else {
         return Ok(None);
     };
     let fabric = copy(alloc, &fabric)?;
-    let shape = fabric.shape(alloc)?;
-    let meant = fabric.switches(alloc)?;
-    match extract(alloc, shape.as_slice(), &[]) {
-        Ok(drawn) => Ok(Some((drawn, meant))),
-        Err(Refusal::NoMemory) => Err(NoMemory),
-        Err(Refusal::Broken(_)) => Ok(None),
-    }
+    let Some(drawn) = drawn(alloc, &fabric)? else {
+        return Ok(None);
+    };
+    Ok(Some((drawn, meant(alloc, &fabric)?)))
 }
 
 /// The network that a fabric draws, and on a second line that of its segments, lines and marks.
