@@ -1,81 +1,29 @@
 //! Runs each example over files in memory, and tells whether it prints what stands beside it.
 #![tactic(auto)]
 
-use mp_base::NoMemory;
+use example_runs::show_examples;
 use outcome::Status;
-use outside_doubles::MemSink;
-use run_script::{File, NONE, set, text_of, words_of};
+use outside::{Depot, Sink};
+use run_ends::Runner;
 use std::alloc::Global;
-use std::{fs, io};
+use std::io;
 use system_run::run_with_parts;
-use transcript_likeness::{Likeness, likeness_of};
 
-/// How a run ended, and what it printed.
-#[derive(Drop)]
-struct Outcome {
-    status: Status,
-    out: MemSink,
-}
+// The whole program, with the parts that a chip may be joined to.
+struct Whole;
 
-// Reads the files that a list names, by words with a dot.
-fn files_of(rt: &HostRuntime, list: &str) -> io::Result<Vec<File>> {
-    let mut files = Vec::new(rt.alloc());
-    for word in list.split_whitespace() {
-        if word.as_bytes().contains(&b'.') {
-            let text = fs::read(rt, word)?;
-            set(rt.alloc(), &mut files, word, text)?;
-        }
+impl Runner for Whole {
+    fn run<D: Depot, O: Sink>(
+        &self,
+        alloc: Global,
+        words: &Vec<String>,
+        depot: &mut D,
+        out: &mut O,
+    ) -> Status {
+        run_with_parts(alloc, words, depot, out)
     }
-    Ok(files)
-}
-
-// What words do over the files, with the parts that a chip may be joined to.
-fn outcome_of(alloc: Global, files: &[File], words: &str) -> Result<Outcome, NoMemory> {
-    let words = words_of(alloc, words)?;
-    let mut depot = NONE.depot(alloc, files)?;
-    let mut out = NONE.sink(alloc)?;
-    let status = run_with_parts(alloc, &words, &mut depot, &mut out);
-    Ok(Outcome { status, out })
-}
-
-// Tells how a run ended, and what it printed where no transcript says so.
-fn show_end(rt: &HostRuntime, outcome: &Outcome, likeness: Likeness) -> io::Result<()> {
-    let status = outcome.status;
-    match likeness {
-        Likeness::Same => println!(rt; "    as it should"),
-        Likeness::ButUnknown(unknown) => {
-            println!(rt;
-                "    {status:?}, as it should, {unknown} lines with values that aren't known"
-            )
-        }
-        Likeness::Another => {
-            let printed = String::from_utf8_lossy(rt.alloc(), outcome.out.bytes())?;
-            print!(rt; "    {status:?}\n{printed}")
-        }
-    }
-}
-
-// What comes of a line: the name of a transcript, or a dash where none is printed, and words. The words are told
-// without the file `masks` that they write, which is in memory alone.
-fn show(rt: &HostRuntime, files: &[File], line: &str) -> io::Result<()> {
-    let (name, words) = line.split_once(' ').unwrap_or((line, ""));
-    let (front, back) = words.split_once(" masks").unwrap_or((words, ""));
-    println!(rt; "{front}{back}")?;
-    let Ok(outcome) = outcome_of(rt.alloc(), files, words) else {
-        return println!(rt; "    not enough memory");
-    };
-    let likeness = match text_of(files, name) {
-        Some(transcript) => likeness_of(outcome.out.bytes(), transcript),
-        None => Likeness::Another,
-    };
-    show_end(rt, &outcome, likeness)
 }
 
 fn main(rt: HostRuntime) -> io::Result<()> {
-    let list = fs::read_to_string(&rt, "examples.txt")?;
-    let files = files_of(&rt, &list)?;
-    for line in list.lines() {
-        show(&rt, &files, line)?;
-    }
-    Ok(())
+    show_examples(&rt, &Whole, "examples.txt")
 }
