@@ -1,5 +1,5 @@
-//! What a band of a Weinberger array is made of, in lists: the columns of nets, the columns in which segments are marked
-//! and those that they span, and the segments, lines and marks of nets.
+//! What a band of a Weinberger array is made of, in lists: the columns of nets, the columns in which segments are
+//! marked and those that they span, and the segments, lines and marks of nets.
 #![tactic(auto)]
 
 pub mod homes;

@@ -1,13 +1,15 @@
 //! Gates and latches of cells.
 
-ghost use Rattle.std.specs.Prelude.{◌≡◌, ℕ, ◌<◌, ◌+◌, ◌*◌, ◌++◌, ◌∷◌, [], Some, None, All, IfOk, OnOk, length, slice_get};
+ghost use Rattle.std.specs.Prelude.{◌≡◌, ℕ, ◌<◌, ◌+◌, ◌*◌, ◌++◌, ◌∷◌, [], Some, None, All, IfOk, OnOk, length};
+ghost use Rattle.std.specs.Prelude.{slice_get};
 ghost use Rattle.std.specs.List.{AllZip};
 ghost use Rattle.nor_net.specs.Shape.{gate_inputs, net_limit, IsAdded};
 ghost use Rattle.nor_net.specs.declared.net.Phase.TheVariants.{B};
 ghost use Rattle.nor_net.specs.declared.net.Part.TheVariants.{Gate, Latch};
 ghost use Rattle.rtl_form.specs.declared.rtl.CellKind.TheVariants.{Input};
 ghost use Rattle.bit_gates.specs.Adding.{HasRoom};
-ghost use Rattle.bit_gates.specs.Cells.{AreTerms, GuardOf, IsDrivenMade, IsFirstMade, IsNextMade, IsSourceMade, IsTransferNamed, first_cost, transfers_to};
+ghost use Rattle.bit_gates.specs.Cells.{AreTerms, GuardOf, IsDrivenMade, IsFirstMade, IsNextMade, IsSourceMade};
+ghost use Rattle.bit_gates.specs.Cells.{IsTransferNamed, first_cost, transfers_to};
 ghost use Rattle.bit_gates.specs.Rails.{AllBelow, AreBelow};
 
 use crate::gates::{add_latch, add_pair, add_port, add_slave};

@@ -126,13 +126,13 @@ impl<'a> BoardRun<'a> {
         })
     }
 
-    /// Runs the circuit for some clocks with the parts of its links, and prints its transcript, every clock in full, and
-    /// its size line. Takes no memory.
+    /// Runs the circuit for some clocks with the parts of its links, and prints its transcript, every clock in full,
+    /// and its size line. Takes no memory.
     ///
     /// # Errors
     ///
-    /// `Failed` where the sink failed: then a first part was printed, but not all, and the parts are as after the clocks
-    /// whose lines were printed whole.
+    /// `Failed` where the sink failed: then a first part was printed, but not all, and the parts are as after the
+    /// clocks whose lines were printed whole.
     pub fn run<O: Sink>(
         self,
         parts: &mut Vec<NamedPart>,

@@ -6,8 +6,8 @@ use crate::tree::{clear, first_from, last_before, mark};
 use mp_base::NoMemory;
 use std::alloc::Global;
 
-/// A set of cells: a tree of words of 64 bits, a bit for each cell, and for each word but the first, whether it has a bit. It
-/// takes an eighth of a byte a cell, and each call the time of the logarithm of the cells, by 64.
+/// A set of cells: a tree of words of 64 bits, a bit for each cell, and for each word but the first, whether it has a
+/// bit. It takes an eighth of a byte a cell, and each call the time of the logarithm of the cells, by 64.
 #[derive(Drop)]
 pub struct CellSet {
     words: Vec<u64>,

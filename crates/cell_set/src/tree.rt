@@ -1,5 +1,6 @@
-//! Trees of words. The item of number i has bit i % 64 of word i / 64. The items before the last words are the words but the first,
-//! in their order: item i is word i + 1, and is marked exactly where that word has a bit. The other items are leaves.
+//! Trees of words. The item of number i has bit i % 64 of word i / 64. The items before the last words are the words
+//! but the first, in their order: item i is word i + 1, and is marked exactly where that word has a bit. The other
+//! items are leaves.
 
 ghost use Rattle.std.specs.Prelude.{◌≡◌, ◌≢◌, ℕ, ◌+◌, ◌*◌, ◌^◌, ◌<◌, ◌≤◌, length, IfSome, IfNone};
 ghost use Rattle.cell_set.specs.Tree.{word_at, IsMarked, AreNoted, AreNotedBut, AreSound, IsLast, IsFirst};
@@ -14,7 +15,8 @@ pub(crate) fn mark(words: &mut Vec<u64>, item: usize)
     ensures noted { AreNoted words.new.items }
     ensures marked { IsMarked words.new.items item }
     ensures more { (i : ℕ) → IsMarked words.old.items i → IsMarked words.new.items i }
-    ensures leaves { (i : ℕ) → length words.old.items ≤ i + 1 → i ≢ item → IsMarked words.new.items i → IsMarked words.old.items i }
+    ensures leaves { (i : ℕ) → length words.old.items ≤ i + 1 → i ≢ item → IsMarked words.new.items i
+        → IsMarked words.old.items i }
     ensures as_many { length words.new.items ≡ length words.old.items }
 {
     let at = item / 64;
@@ -34,7 +36,8 @@ pub(crate) fn clear(words: &mut Vec<u64>, item: usize)
     ensures noted { AreNoted words.new.items }
     ensures cleared { ¬ IsMarked words.new.items item }
     ensures fewer { (i : ℕ) → IsMarked words.new.items i → IsMarked words.old.items i }
-    ensures leaves { (i : ℕ) → length words.old.items ≤ i + 1 → i ≢ item → IsMarked words.old.items i → IsMarked words.new.items i }
+    ensures leaves { (i : ℕ) → length words.old.items ≤ i + 1 → i ≢ item → IsMarked words.old.items i
+        → IsMarked words.new.items i }
     ensures as_many { length words.new.items ≡ length words.old.items }
 {
     let at = item / 64;

@@ -48,8 +48,8 @@ pub(crate) fn turned_at(
     Ok(turned)
 }
 
-/// The placement of a call of a definition with this scale, or the first rule of its turns, that scale and the count that
-/// is broken.
+/// The placement of a call of a definition with this scale, or the first rule of its turns, that scale and the count
+/// that is broken.
 pub(crate) fn placement_of(turned: Turned, ratio: Ratio, count: u64) -> Result<Placement, Fault>
     ensures called { (s : Scale) (ts : List Turn) → IsTurned s ts turned → IsCalled s ts ratio count result }
     ensures held { IsHeldTurned (2 ^ 104) turned → IfOk result (IsHeld (2 ^ 104)) }

@@ -19,8 +19,8 @@ pub struct Flat {
     pub labels: List<FlatLabel>,
 }
 
-/// Expands, moves and scales the commands of a file. The first broken rule F in the order of the walk is refused, at the
-/// offset of its command.
+/// Expands, moves and scales the commands of a file. The first broken rule F in the order of the walk is refused, at
+/// the offset of its command.
 pub fn flatten(alloc: Global, cif: &Cif) -> Result<Flat, Refusal>
     requires { IsWellFormed cif.now }
     ensures ok { IfOk result (λ flat. FileWalks cif.now flat.shapes flat.labels Whole) }

@@ -1,6 +1,7 @@
 //! Labels.
 
-ghost use Rattle.std.specs.Prelude.{◌≡◌, ◌≢◌, ◌<◌, ◌≤◌, ◌^◌, ℕ, List, ℤ, Option, All, length, take, drop, IfOk, IfSome, IfNone};
+ghost use Rattle.std.specs.Prelude.{◌≡◌, ◌≢◌, ◌<◌, ◌≤◌, ◌^◌, ℕ, List, ℤ, Option, All, length, take, drop, IfOk};
+ghost use Rattle.std.specs.Prelude.{IfSome, IfNone};
 ghost use Rattle.std.specs.Bool.{OnTrue, OnFalse};
 ghost use Rattle.lam_geom.specs.declared.layer.Layer.{Layer};
 ghost use Rattle.cif_form.specs.declared.limits.TheConstants.{NUMBER_LIMIT};

@@ -1,6 +1,7 @@
 //! The walk.
 
-ghost use Rattle.std.specs.Prelude.{◌≡◌, ◌≢◌, ◌+◌, ◌^◌, ◌<◌, ◌≤◌, ◌++◌, ◌∷◌, [], ℕ, All, true, false, pos, ◌≤ℤ◌, length, map, slice_range, Some, IfOk, IfErr, OnOk};
+ghost use Rattle.std.specs.Prelude.{◌≡◌, ◌≢◌, ◌+◌, ◌^◌, ◌<◌, ◌≤◌, ◌++◌, ◌∷◌, [], ℕ, All, true, false, pos, ◌≤ℤ◌};
+ghost use Rattle.std.specs.Prelude.{length, map, slice_range, Some, IfOk, IfErr, OnOk};
 ghost use Rattle.std.specs.Bool.{OnTrue, OnFalse};
 ghost use Rattle.std.specs.BTreeMap.{get};
 ghost use Rattle.std.specs.Ordering.{nat_cmp};
@@ -12,7 +13,8 @@ ghost use Rattle.cif_form.specs.Expansion.{item_at};
 ghost use Rattle.cif_form.specs.declared.command.Command.TheVariants as commands;
 ghost use Rattle.cif_list.specs.Turning.{wide_turn};
 ghost use Rattle.cif_flat.specs.Sound.{AreClosed};
-ghost use Rattle.cif_flat.specs.Walking.{EachLevel, IsNumbered, IsOpen, entered, IsBodySize, IsWalking, IsVisit, IsAfter};
+ghost use Rattle.cif_flat.specs.Walking.{EachLevel, IsNumbered, IsOpen, entered, IsBodySize, IsWalking, IsVisit};
+ghost use Rattle.cif_flat.specs.Walking.{IsAfter};
 ghost use Rattle.cif_flat.specs.Refusing.{RefusesWalk};
 
 use crate::called::{Composed, placement_of, turned_at};
@@ -33,9 +35,9 @@ use lam_geom::{FlatLabel, Layer, Point, Rect};
 use mp_base::{List, Refusal};
 use std::alloc::{AllocError, Global};
 
-/// A walk of the items of a file: the definitions that stand, by number; the depth where each number was opened last; the
-/// turns of calls that were composed, by the index of the call; the lists of commands that are being walked, the innermost
-/// last; and what was counted and drawn.
+/// A walk of the items of a file: the definitions that stand, by number; the depth where each number was opened last;
+/// the turns of calls that were composed, by the index of the call; the lists of commands that are being walked, the
+/// innermost last; and what was counted and drawn.
 #[derive(Drop)]
 pub(crate) struct Walker {
     pub symbols: Table<Symbol>,
@@ -51,7 +53,8 @@ impl Walker {
     /// Goes on in a list of commands.
     fn go_on(&mut self, level: Level, weight: u64) -> Result<(), AllocError>
         requires { self.old.count + weight ≤ walk_limit }
-        ensures kept { OnOk result (self.new ≡ record self.old { count = self.old.count + weight; levels = self.new.levels }) }
+        ensures kept { OnOk result
+            (self.new ≡ record self.old { count = self.old.count + weight; levels = self.new.levels }) }
         ensures pushed { OnOk result (self.new.levels.items ≡ self.old.levels.items ++ level ∷ []) }
     {
         self.count += weight;
@@ -107,7 +110,8 @@ impl Walker {
         center: &Point,
         direction: &Point,
     ) -> Result<(), Refusal>
-        requires { IsVisit items.now self.old level (item_at offset (commands.Box extent.across extent.up center.now direction.now)) }
+        requires { IsVisit items.now self.old level
+            (item_at offset (commands.Box extent.across extent.up center.now direction.now)) }
         ensures ok { OnOk result (IsAfter items.now self.old level self.new) }
         ensures err { IfErr result (RefusesWalk items.now) }
     {
@@ -210,10 +214,13 @@ impl Walker {
         requires more { level.next < level.end }
         requires outer { IsHeld (2 ^ 126) level.placement }
         requires inner { IsHeld (2 ^ 104) placement }
-        ensures kept { OnOk result (self.new ≡ record self.old { opened = self.new.opened; count = self.old.count + 1; levels = self.new.levels }) }
-        ensures pushed { OnOk result (self.new.levels.items ≡ (self.old.levels.items ++ (record level { next = level.next + 1 } ∷ [])) ++ entered level number symbol placement ∷ []) }
+        ensures kept { OnOk result (self.new
+            ≡ record self.old { opened = self.new.opened; count = self.old.count + 1; levels = self.new.levels }) }
+        ensures pushed { OnOk result (self.new.levels.items ≡ (self.old.levels.items
+            ++ (record level { next = level.next + 1 } ∷ [])) ++ entered level number symbol placement ∷ []) }
         ensures here { OnOk result (get nat_cmp self.new.opened number ≡ Some (length self.old.levels.items + 1)) }
-        ensures others { OnOk result ((k : ℕ) → k ≢ number → get nat_cmp self.new.opened k ≡ get nat_cmp self.old.opened k) }
+        ensures others { OnOk result ((k : ℕ) → k ≢ number
+            → get nat_cmp self.new.opened k ≡ get nat_cmp self.old.opened k) }
     {
         let depth = self.levels.len() + 1;
         set(&mut self.opened, number, depth)?;
@@ -238,7 +245,8 @@ impl Walker {
         number: &i64,
         turns: &[ShortTurn],
     ) -> Result<(), Refusal>
-        requires { IsVisit items.now self.old level (item_at offset (commands.Call number.now (map wide_turn turns.now))) }
+        requires { IsVisit items.now self.old level
+            (item_at offset (commands.Call number.now (map wide_turn turns.now))) }
         ensures ok { OnOk result (IsAfter items.now self.old level self.new) }
         ensures err { IfErr result (RefusesWalk items.now) }
     {

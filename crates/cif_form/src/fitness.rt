@@ -114,9 +114,9 @@ fn is_balanced(text: &[u8]) -> bool
 }
 
 impl Command {
-    /// Whether the command has a text: its numbers are at most 2^31 - 1 in size, those without a sign aren't negative, a path
-    /// has a point, a layer's name has one to four digits or upper-case letters, a user command's digit is at most 9 and its
-    /// text has no `;`, and the parentheses of a comment are balanced.
+    /// Whether the command has a text: its numbers are at most 2^31 - 1 in size, those without a sign aren't
+    /// negative, a path has a point, a layer's name has one to four digits or upper-case letters, a user command's
+    /// digit is at most 9 and its text has no `;`, and the parentheses of a comment are balanced.
     pub fn fits(&self) -> bool
         ensures { IsTrue result ↔ Fits self.now }
     {

@@ -24,7 +24,8 @@ pub fn written_is_read()
 
 /// The law of whole files: what is written of commands that fit, each where it may stand, breaks no rule of texts.
 pub fn written_is_whole()
-    ensures { (semi last : List ℕ) → (Byte 59 ▹ Blanks) semi → Blanks last → (cs : List Command) → All Fits cs → Nests false cs
+    ensures { (semi last : List ℕ) → (Byte 59 ▹ Blanks) semi → Blanks last → (cs : List Command) → All Fits cs
+        → Nests false cs
         → FileScans (written semi last cs) (placed_items semi 0 cs) TextEnd.Whole }
 {}
 
@@ -68,7 +69,8 @@ pub fn command_is_found()
 
 /// A command that is read fits, if none of its numbers is too big.
 pub fn read_command_fits()
-    ensures { (text : List ℕ) (c : Command) (size : ℕ) (rest : List ℕ) → IsReadAs text c size rest → ¬ HasBig c → Fits c }
+    ensures { (text : List ℕ) (c : Command) (size : ℕ) (rest : List ℕ) → IsReadAs text c size rest → ¬ HasBig c
+        → Fits c }
 {}
 
 /// The commands of a file that breaks no rule of texts fit, and each may stand where it does.

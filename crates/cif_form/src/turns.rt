@@ -25,7 +25,8 @@ const _: () = prove!(size_of::<TurnKind>() == 1);
 impl TurnKind {
     // The turn of this kind with the first of these points, if it has one, and the points behind.
     fn turn(self, points: &[Point]) -> Option<(Turn, &[Point])>
-        ensures { (ks : List TurnKind) → let turns = turns_of (self ∷ ks) points.now in MatchOption result (turns ≡ []) (λ t. turns ≡ t.0 ∷ turns_of ks t.1.now) }
+        ensures { (ks : List TurnKind) → let turns = turns_of (self ∷ ks) points.now in
+            MatchOption result (turns ≡ []) (λ t. turns ≡ t.0 ∷ turns_of ks t.1.now) }
     {
         match self {
             TurnKind::MirrorX => Some((Turn::MirrorX, points)),
@@ -42,8 +43,8 @@ impl TurnKind {
     }
 }
 
-/// The turns of a call, from left to right, which contracts see as a list of turns: one byte for each, and the points of
-/// moves and rotations.
+/// The turns of a call, from left to right, which contracts see as a list of turns: one byte for each, and the points
+/// of moves and rotations.
 #[derive(Drop)]
 pub struct Turns {
     kinds: Vec<TurnKind>,

@@ -60,8 +60,8 @@ impl Cif {
         self.entries.len()
     }
 
-    /// Adds a copy of a command. `NoMemory`, which leaves the list as it was, is also for an offset of 2^32 or more, and
-    /// for what would make 2^32 of one kind of part: points, turns, bytes, boxes and so on.
+    /// Adds a copy of a command. `NoMemory`, which leaves the list as it was, is also for an offset of 2^32 or more,
+    /// and for what would make 2^32 of one kind of part: points, turns, bytes, boxes and so on.
     pub fn push(&mut self, offset: u64, command: &Command) -> Result<(), NoMemory>
         requires { Fits command.now }
         ensures ok { OnOk result (self.new ≡ self.old ++ record { offset = offset; command = command.now } ∷ []) }

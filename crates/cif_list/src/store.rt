@@ -103,7 +103,8 @@ impl Store {
 
     fn put_box(&mut self, parts: BoxParts) -> Result<Head, NoMemory>
         ensures grows { Grows self.old self.new }
-        ensures ok { IfOk result (λ head. Holds self.new head (commands.Box parts.length parts.width parts.center parts.direction)) }
+        ensures ok { IfOk result (λ head. Holds self.new head
+            (commands.Box parts.length parts.width parts.center parts.direction)) }
     {
         let index = add(&mut self.boxes, parts)?;
         Ok(Head::Box(index))

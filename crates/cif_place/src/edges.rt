@@ -6,7 +6,8 @@ ghost use Rattle.lam_geom.specs.declared.layer.Layer.{Layer};
 ghost use Rattle.lam_geom.specs.declared.rect.Rect.{Rect};
 ghost use Rattle.lam_geom.specs.Moves.{IsNearRect};
 ghost use Rattle.cif_form.specs.Place.{IsAround};
-ghost use Rattle.cif_place.specs.Placing.{IsWithin, IsShort, IsShortPoint, IsFitRatio, AreSmall, scale_of, rect_of, turned, exchanged_if};
+ghost use Rattle.cif_place.specs.Placing.{IsWithin, IsShort, IsShortPoint, IsFitRatio, AreSmall, scale_of, rect_of};
+ghost use Rattle.cif_place.specs.Placing.{turned, exchanged_if};
 
 use crate::ratio::{Ratio, twice_less, twice_more};
 use lam_geom::{Layer, Point, Rect};
@@ -64,15 +65,18 @@ fn narrow(edge: i128) -> i64
 }
 
 impl Edges {
-    /// The edges around the rectangle between two corners, half an extent out, scaled, or nothing where one isn't whole.
+    /// The edges around the rectangle between two corners, half an extent out, scaled, or nothing where one isn't
+    /// whole.
     pub(crate) fn around(ratio: Ratio, low: Point, high: Point, extent: Extent) -> Option<Edges>
         requires fit { IsFitRatio ratio }
         requires low { IsShortPoint low }
         requires high { IsShortPoint high }
         requires extent { IsShort extent.across × IsShort extent.up }
-        ensures whole { IfSome result (λ e. (l : Layer) → IsAround (scale_of ratio) l low high extent.across extent.up (rect_of l e)) }
+        ensures whole { IfSome result (λ e. (l : Layer)
+            → IsAround (scale_of ratio) l low high extent.across extent.up (rect_of l e)) }
         ensures small { IfSome result AreSmall }
-        ensures uneven { IfNone result ((l : Layer) (r : Rect) → ¬ IsAround (scale_of ratio) l low high extent.across extent.up r) }
+        ensures uneven { IfNone result ((l : Layer) (r : Rect)
+            → ¬ IsAround (scale_of ratio) l low high extent.across extent.up r) }
     {
         let left = ratio.scaled(twice_less(low.x, extent.across))?;
         let bottom = ratio.scaled(twice_less(low.y, extent.up))?;

@@ -2,7 +2,8 @@
 
 ghost use Rattle.std.specs.Prelude.{◌≡◌, ◌^◌, ◌+ℤ◌};
 ghost use Rattle.lam_geom.specs.declared.layer.Layer.{Layer};
-ghost use Rattle.cif_place.specs.Placing.{IsWithin, IsHeld, AreSmall, rect_of, either, flipped, low_end, high_end, here, laid, place_of, switched_if, after};
+ghost use Rattle.cif_place.specs.Placing.{IsWithin, IsHeld, AreSmall, rect_of, either, flipped, low_end, high_end};
+ghost use Rattle.cif_place.specs.Placing.{here, laid, place_of, switched_if, after};
 
 use crate::edges::Edges;
 

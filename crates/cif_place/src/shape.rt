@@ -6,7 +6,8 @@ ghost use Rattle.lam_geom.specs.declared.layer.Layer.{Layer};
 ghost use Rattle.lam_geom.specs.declared.rect.Rect.{Rect};
 ghost use Rattle.cif_form.specs.Place.{segments, IsSegment};
 ghost use Rattle.cif_place.specs.Placing.{IsShort, IsShortPoint, IsFitRatio, AreSmall, IsHeld, scale_of, rect_of};
-ghost use Rattle.cif_place.specs.Shaping.{IsAroundCenter, IsUneven, IsBoxEdges, IsBoxFault, IsStraight, HasAskewSegment, IsDrawnIfNear, IsWired};
+ghost use Rattle.cif_place.specs.Shaping.{IsAroundCenter, IsUneven, IsBoxEdges, IsBoxFault, IsStraight};
+ghost use Rattle.cif_place.specs.Shaping.{HasAskewSegment, IsDrawnIfNear, IsWired};
 
 use crate::edges::{Edges, Extent};
 use crate::placement::Placement;
@@ -37,7 +38,8 @@ fn edges_around(ratio: Ratio, center: Point, extent: Extent) -> Result<Edges, Bo
     }
 }
 
-/// The edges of a box whose length lies along its direction, or the first rule of its direction and edges that is broken.
+/// The edges of a box whose length lies along its direction, or the first rule of its direction and edges that is
+/// broken.
 pub fn box_edges(
     ratio: Ratio,
     extent: Extent,
@@ -117,9 +119,11 @@ fn segment_edges(ratio: Ratio, extent: Extent, segment: Segment) -> Option<Edges
     requires from { IsShortPoint segment.from }
     requires to { IsShortPoint segment.to }
     requires straight { IsStraight (segment.from, segment.to) }
-    ensures whole { IfSome result (λ e. (l : Layer) → IsSegment (scale_of ratio) l extent.across segment.from segment.to (rect_of l e)) }
+    ensures whole { IfSome result (λ e. (l : Layer)
+        → IsSegment (scale_of ratio) l extent.across segment.from segment.to (rect_of l e)) }
     ensures small { IfSome result AreSmall }
-    ensures uneven { IfNone result ((l : Layer) (r : Rect) → ¬ IsSegment (scale_of ratio) l extent.across segment.from segment.to r) }
+    ensures uneven { IfNone result ((l : Layer) (r : Rect)
+        → ¬ IsSegment (scale_of ratio) l extent.across segment.from segment.to r) }
 {
     if segment.from.x <= segment.to.x {
         if segment.from.y <= segment.to.y {
@@ -171,7 +175,8 @@ pub fn draw_wire(
     requires some { 0 < length path.now }
     requires short { All IsShortPoint path.now }
     requires straight { All IsStraight (segments path.now) }
-    ensures { IfOk result (IsWired (scale_of ratio) placement layer extent.across (segments path.now) shapes.old shapes.new) }
+    ensures { IfOk result (IsWired (scale_of ratio) placement layer extent.across
+        (segments path.now) shapes.old shapes.new) }
 {
     let mut near = true;
     for index in 0..segment_count(path) {

@@ -47,7 +47,8 @@ pub(crate) fn write_tagged<O: Sink>(
     letters: &[u8],
     numbers: &[i64],
 ) -> Result<(), Failed>
-    ensures taken { TakesAll Gains (O.held out.old) (O.held out.new) (letters.now ++ flat_map number_text numbers.now) result }
+    ensures taken { TakesAll Gains (O.held out.old) (O.held out.new)
+        (letters.now ++ flat_map number_text numbers.now) result }
     ensures cause { HasCause (O.faults out.old) (O.faults out.new) result }
 {
     write_all(out, letters)?;

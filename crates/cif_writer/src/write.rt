@@ -19,7 +19,8 @@ pub(crate) fn write_box<O: Sink>(
     center: Point,
     direction: Point,
 ) -> Result<(), Failed>
-    ensures taken { TakesAll Gains (O.held out.old) (O.held out.new) (text_of (Command.Box length width center direction)) result }
+    ensures taken { TakesAll Gains (O.held out.old) (O.held out.new)
+        (text_of (Command.Box length width center direction)) result }
     ensures cause { HasCause (O.faults out.old) (O.faults out.new) result }
 {
     if direction == (Point { x: 1, y: 0 }) {
@@ -42,7 +43,8 @@ pub(crate) fn write_polygon<O: Sink>(out: &mut O, path: &[Point]) -> Result<(), 
 }
 
 pub(crate) fn write_wire<O: Sink>(out: &mut O, width: i64, path: &[Point]) -> Result<(), Failed>
-    ensures taken { TakesAll Gains (O.held out.old) (O.held out.new) (codes "W" ++ (number_text width ++ path_text path.now)) result }
+    ensures taken { TakesAll Gains (O.held out.old) (O.held out.new)
+        (codes "W" ++ (number_text width ++ path_text path.now)) result }
     ensures cause { HasCause (O.faults out.old) (O.faults out.new) result }
 {
     write_tagged(out, b"W", &[width])?;
@@ -50,7 +52,8 @@ pub(crate) fn write_wire<O: Sink>(out: &mut O, width: i64, path: &[Point]) -> Re
 }
 
 fn write_call<O: Sink>(out: &mut O, number: i64, turns: &Turns) -> Result<(), Failed>
-    ensures taken { TakesAll Gains (O.held out.old) (O.held out.new) (codes "C" ++ (number_text number ++ turns_text turns.now)) result }
+    ensures taken { TakesAll Gains (O.held out.old) (O.held out.new)
+        (codes "C" ++ (number_text number ++ turns_text turns.now)) result }
     ensures cause { HasCause (O.faults out.old) (O.faults out.new) result }
 {
     write_tagged(out, b"C", &[number])?;

@@ -142,7 +142,8 @@ fn ends_of(alloc: Global, rtl: &Rtl, making: &mut Making) -> Result<Ends, NoMemo
 
 // The path of these nets, with these ends.
 fn path_of(making: Making, ends: Ends) -> DataPath
-    requires { IsPath making.width making.control making.slices making.casts making.lifts ends.pads ends.inputs ends.outputs
+    requires { IsPath making.width making.control making.slices making.casts making.lifts ends.pads ends.inputs
+        ends.outputs
         ends.order }
     ensures { IsPathOf making ends result }
 {

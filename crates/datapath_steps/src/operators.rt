@@ -8,7 +8,8 @@ ghost use Rattle.control_nor.specs.Lowering.{Stands};
 ghost use Rattle.rtl_form.specs.Cost.{op_cost};
 ghost use Rattle.rtl_form.specs.Operands.{gives_word, takes, takes_words};
 ghost use Rattle.datapath_making.specs.Sizes.{HasRoom};
-ghost use Rattle.datapath_making.specs.Steps.{IsBitMade, IsFree, IsNumberMade, IsOperatorAdded, IsOperatorMade, IsReached, IsStep, IsTestMade, IsWaited, read_cell};
+ghost use Rattle.datapath_making.specs.Steps.{IsBitMade, IsFree, IsNumberMade, IsOperatorAdded, IsOperatorMade};
+ghost use Rattle.datapath_making.specs.Steps.{IsReached, IsStep, IsTestMade, IsWaited, read_cell};
 ghost use Rattle.datapath_making.specs.WellMade.{IsWellMade};
 
 use datapath_making::{Making, net_of};

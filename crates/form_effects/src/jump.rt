@@ -71,7 +71,8 @@ fn jump_chosen(
     requires linked { AreLinks program.now links.now }
     requires process { index < length program.now.processes }
     requires fit { BranchesFit (length program.now.exprs) before (length program.now.forms) branches.now }
-    ensures { result ≡ jump_from (process_at program.now index) (branch_effects (value_of program.now env.now) branches.now (effects_of program.now env.now)) }
+    ensures { result ≡ jump_from (process_at program.now index)
+        (branch_effects (value_of program.now env.now) branches.now (effects_of program.now env.now)) }
 {
     for branch in branches {
         if value(program, links, env, branch.guard) == 1 {

@@ -1,5 +1,5 @@
-//! What the forms of a program do: its names linked once, and by that the values of expressions, what active forms write
-//! and where they jump.
+//! What the forms of a program do: its names linked once, and by that the values of expressions, what active forms
+//! write and where they jump.
 #![tactic(auto)]
 
 mod jump;

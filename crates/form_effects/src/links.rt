@@ -1,6 +1,7 @@
 //! What the names of a program mean, found once.
 
-ghost use Rattle.std.specs.Prelude.{◌≡◌, ◌<◌, ◌≤◌, [], false, length, map, position, slice_index, slice_index_or, IfOk, IfSome};
+ghost use Rattle.std.specs.Prelude.{◌≡◌, ◌<◌, ◌≤◌, [], false, length, map, position, slice_index, slice_index_or};
+ghost use Rattle.std.specs.Prelude.{IfOk, IfSome};
 ghost use Rattle.std.specs.List.{list_any};
 ghost use Rattle.mp_program.specs.declared.program.Def.{Def};
 ghost use Rattle.mp_program.specs.declared.program.Expr.{Expr};
@@ -8,7 +9,8 @@ ghost use Rattle.mp_program.specs.declared.program.Form.{Form};
 ghost use Rattle.mp_program.specs.Names.{index_of, is_reset, pad_number};
 ghost use Rattle.mp_program.specs.Sound.{AllBetween, BranchesFit};
 ghost use Rattle.mp_program.specs.Reads.{sets, branches_set};
-ghost use Rattle.form_effects.specs.Linked.{AreLinks, AreQuiet, AllQuiet, named, target, setters_of, reset_pad, is_kind, indices_where};
+ghost use Rattle.form_effects.specs.Linked.{AreLinks, AreQuiet, AllQuiet, named, target, setters_of, reset_pad};
+ghost use Rattle.form_effects.specs.Linked.{is_kind, indices_where};
 
 use crate::landing::landings;
 use crate::link::{Kind, Links};

@@ -25,7 +25,8 @@ pub(crate) fn written_by(
 ) -> Option<u64>
     requires linked { AreLinks program.now links.now }
     requires inside { AllByRecursion (λ f. f < length program.now.forms) forms.now }
-    ensures { result ≡ merged (written_at program.now.defs target (flat_map (effects_of program.now env.now) forms.now)) }
+    ensures { result ≡ merged (written_at program.now.defs target
+        (flat_map (effects_of program.now env.now) forms.now)) }
 {
     let mut all = None;
     for form in forms {
@@ -88,7 +89,8 @@ fn gather_chosen(
 ) -> Option<u64>
     requires linked { AreLinks program.now links.now }
     requires fit { BranchesFit (length program.now.exprs) before (length program.now.forms) branches.now }
-    ensures { result ≡ merged (written_at program.now.defs target (branch_effects (value_of program.now env.now) branches.now (effects_of program.now env.now))) }
+    ensures { result ≡ merged (written_at program.now.defs target
+        (branch_effects (value_of program.now env.now) branches.now (effects_of program.now env.now))) }
 {
     for branch in branches {
         if value(program, links, env, branch.guard) == 1 {
@@ -110,7 +112,8 @@ fn gather_all(
 ) -> Option<u64>
     requires linked { AreLinks program.now links.now }
     requires behind { AllBetween before (length program.now.forms) forms.now }
-    ensures { result ≡ merged (written_at program.now.defs target (flat_map (effects_of program.now env.now) forms.now)) }
+    ensures { result ≡ merged (written_at program.now.defs target
+        (flat_map (effects_of program.now env.now) forms.now)) }
 {
     let mut all = None;
     for form in forms {
@@ -132,7 +135,8 @@ pub fn written_to(
     requires placed { AllByRecursion (λ f. f < length program.now.forms) places.now }
     requires inside { target < length program.now.defs }
     ensures { (x : Def) → x ≡ slice_index_or program.now.defs target x
-        → result ≡ merged (written x.name (flat_map (effects_of program.now env.now) (program.now.always ++ places.now))) }
+        → result ≡ merged (written x.name
+        (flat_map (effects_of program.now env.now) (program.now.always ++ places.now))) }
 {
     laws::sound(program);
     laws::silence(program);

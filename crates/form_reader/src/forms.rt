@@ -17,7 +17,8 @@ pub struct Node {
     pub kind: Kind,
 }
 
-/// The forms of a text: all nodes in text order, the indices of those outside all lists, and the place of the text's end.
+/// The forms of a text: all nodes in text order, the indices of those outside all lists, and the place of the text's
+/// end.
 #[derive(Drop)]
 pub struct Forms {
     pub nodes: List<Node>,

@@ -1,6 +1,7 @@
 //! Reading forms.
 
-ghost use Rattle.std.specs.Prelude.{◌≡◌, ◌≢◌, ℕ, ◌+◌, ◌<◌, ◌≤◌, ◌^◌, true, false, length, slice_index, IfOk, IfErr, OnOk, MatchResult};
+ghost use Rattle.std.specs.Prelude.{◌≡◌, ◌≢◌, ℕ, ◌+◌, ◌<◌, ◌≤◌, ◌^◌, true, false, length, slice_index, IfOk, IfErr};
+ghost use Rattle.std.specs.Prelude.{OnOk, MatchResult};
 ghost use Rattle.std.specs.List.{list_all};
 ghost use Rattle.std.specs.Str.Parse.{digits_value};
 ghost use Rattle.mp_base.specs.Token.{is_digit};
@@ -68,7 +69,8 @@ fn broken(number: u16, place: Place) -> Refusal
 /// The kind of the run of token characters at this place.
 fn kind_of(alloc: Global, run: &[u8], place: Place) -> Result<Kind, Refusal>
     ensures ok { IfOk result (IsKindOf run.now) }
-    ensures err { IfErr result (λ e. RefusesAt E e (λ k at. (k ≡ 4) × (at ≡ place) × (list_all is_digit run.now ≡ true) × (2 ^ 64 ≤ digits_value 10 run.now))) }
+    ensures err { IfErr result (λ e. RefusesAt E e (λ k at. (k ≡ 4) × (at ≡ place) × (list_all is_digit run.now ≡ true)
+        × (2 ^ 64 ≤ digits_value 10 run.now))) }
 {
     if all_digits(run) {
         match number(run) {
@@ -94,8 +96,10 @@ fn list(
     requires reached { Reached bytes.now nesting.depth nesting.outer from }
     requires shallow { nesting.depth ≤ 64 }
     requires few { length nodes.old ≤ from.offset }
-    ensures found { IfOk result (λ r. HasListed bytes.now nesting.depth nesting.outer.offset from.offset nodes.old nodes.new r.items r.end) }
-    ensures bounds { IfOk result (λ r. (from.offset ≤ r.end.offset) × (r.end.offset ≤ length bytes.now) × (length nodes.new ≤ r.end.offset)) }
+    ensures found { IfOk result
+        (λ r. HasListed bytes.now nesting.depth nesting.outer.offset from.offset nodes.old nodes.new r.items r.end) }
+    ensures bounds { IfOk result (λ r. (from.offset ≤ r.end.offset) × (r.end.offset ≤ length bytes.now)
+        × (length nodes.new ≤ r.end.offset)) }
     ensures first { IfErr result (RefusesFirst bytes.now) }
 {
     let mut items = List::new(alloc);
@@ -209,7 +213,8 @@ pub fn read_forms(alloc: Global, bytes: &[u8]) -> Result<Forms, Refusal>
     ensures few { IfOk result (λ f. length f.nodes ≤ length bytes.now) }
     ensures whole { OnOk result ((k o : ℕ) → Breaks bytes.now k o → ⊥) }
     ensures first { IfErr result (RefusesFirst bytes.now) }
-    ensures read { (f : forms.Forms) → Spells bytes.now f → MatchResult result (λ r. r ≡ f) (λ e. e ≡ refusals.NoMemory) }
+    ensures read { (f : forms.Forms) → Spells bytes.now f
+        → MatchResult result (λ r. r ≡ f) (λ e. e ≡ refusals.NoMemory) }
 {
     let mut nodes = List::new(alloc);
     let nesting = Nesting {

@@ -1,6 +1,7 @@
 //! Gaps, runs of token characters, numerals and places.
 
-ghost use Rattle.std.specs.Prelude.{◌≡◌, ℕ, ◌+◌, ◌<◌, ◌≤◌, ◌^◌, [], ◌∷◌, ◌++◌, ◌||◌, true, false, length, drop, slice_index, slice_range, MatchOption};
+ghost use Rattle.std.specs.Prelude.{◌≡◌, ℕ, ◌+◌, ◌<◌, ◌≤◌, ◌^◌, [], ◌∷◌, ◌++◌, ◌||◌, true, false, length, drop};
+ghost use Rattle.std.specs.Prelude.{slice_index, slice_range, MatchOption};
 ghost use Rattle.std.specs.List.{list_all};
 ghost use Rattle.std.specs.Str.Parse.{digits_value};
 ghost use Rattle.mp_base.specs.Token.{is_digit, is_token};
@@ -82,7 +83,8 @@ pub(crate) fn skip(bytes: &[u8], from: Place) -> Place
     ensures place { result ≡ place_at bytes.now result.offset }
     ensures after { from.offset ≤ result.offset }
     ensures within { result.offset ≤ length bytes.now }
-    ensures gap { result.offset < length bytes.now → is_gap false (slice_range bytes.now from.offset result.offset) ≡ true }
+    ensures gap { result.offset < length bytes.now
+        → is_gap false (slice_range bytes.now from.offset result.offset) ≡ true }
     ensures stop { result.offset < length bytes.now → fills_gap false (slice_index bytes.now result.offset) ≡ false }
     ensures rest { result.offset ≡ length bytes.now → is_gap false (drop from.offset bytes.now ++ 10 ∷ []) ≡ true }
 {
@@ -141,7 +143,8 @@ pub(crate) fn number(digits: &[u8]) -> Option<u64>
 /// bracket, `;` or token character.
 pub fn find_stray(bytes: &[u8]) -> Option<Place>
     requires { length bytes.now + 1 < 2 ^ 32 }
-    ensures { MatchOption result ((o : ℕ) → E1 bytes.now o → ⊥) (λ at. (at ≡ place_at bytes.now at.offset) × E1 bytes.now at.offset × ((o : ℕ) → E1 bytes.now o → at.offset ≤ o)) }
+    ensures { MatchOption result ((o : ℕ) → E1 bytes.now o → ⊥) (λ at. (at ≡ place_at bytes.now at.offset)
+        × E1 bytes.now at.offset × ((o : ℕ) → E1 bytes.now o → at.offset ≤ o)) }
 {
     let mut comment = false;
     let mut place = START;

@@ -9,8 +9,9 @@ use mask_runs::Run;
 use mp_base::NoMemory;
 use std::alloc::{AllocError, Global};
 
-/// The colours of the cells of a row, of which 0 is none: a set of the borders between cells of different colours, and the colour
-/// from each border on. It takes some nine bits a cell, and no call asks for memory but `new` and the list that `collect` fills.
+/// The colours of the cells of a row, of which 0 is none: a set of the borders between cells of different colours,
+/// and the colour from each border on. It takes some nine bits a cell, and no call asks for memory but `new` and the
+/// list that `collect` fills.
 #[derive(Drop)]
 pub struct KeptRuns {
     borders: CellSet,
@@ -19,7 +20,8 @@ pub struct KeptRuns {
 }
 
 impl KeptRuns {
-    ghost use Rattle.std.specs.Prelude.{◌≡◌, ◌≢◌, ◌↔◌, ◌⊎◌, ℕ, ◌+◌, ◌<◌, ◌≤◌, ◌^◌, true, false, IfOk, IfSome, IsNone, IsTrue, length};
+    ghost use Rattle.std.specs.Prelude.{◌≡◌, ◌≢◌, ◌↔◌, ◌⊎◌, ℕ, ◌+◌, ◌<◌, ◌≤◌, ◌^◌, true, false, IfOk, IfSome};
+    ghost use Rattle.std.specs.Prelude.{IsNone, IsTrue, length};
     ghost use Rattle.cell_set.specs.Sets.{has};
     ghost use Rattle.mask_runs.specs.Runs.{IsRun, AreRuns};
     ghost use Rattle.kept_runs.specs.Borders.{noted, windowed, IsBorderTo, IsBorderAfter, Begins};
@@ -44,8 +46,8 @@ impl KeptRuns {
         self.colours.len() as u32
     }
 
-    /// Gives the cells from `from` up to `to` a colour. Its time is that of the borders which it moves, times the logarithm of
-    /// the cells, by 64.
+    /// Gives the cells from `from` up to `to` a colour. Its time is that of the borders which it moves, times the
+    /// logarithm of the cells, by 64.
     pub fn paint(&mut self, from: u32, to: u32, colour: u8)
         requires order { from < to }
         requires within { to ≤ width_of self.old }
@@ -150,9 +152,9 @@ impl KeptRuns {
         })
     }
 
-    /// The runs among the cells from `from` up to `to`, from left to right, in place of those that the list has; a run ends where
-    /// these cells end. Its time is that of the borders there, times the logarithm of the cells, by 64. Where memory is wanting
-    /// the list may hold any of the runs.
+    /// The runs among the cells from `from` up to `to`, from left to right, in place of those that the list has; a
+    /// run ends where these cells end. Its time is that of the borders there, times the logarithm of the cells, by
+    /// 64. Where memory is wanting the list may hold any of the runs.
     pub fn collect(&self, from: u32, to: u32, runs: &mut Vec<Run>) -> Result<(), NoMemory>
         requires { to ≤ width_of self.now }
         ensures { IfOk result (λ _. AreRuns (windowed from to (colours_of self.now)) runs.new.items) }

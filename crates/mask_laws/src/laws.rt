@@ -1,6 +1,7 @@
 //! Laws of masks, for the proofs of crates above. A call of one does nothing.
 
-ghost use Rattle.mask_laws.specs.Laws.{NumberingExists, NetworkExists, MaskIsJudged, CircuitIsJudged, NetworkBySquares, FirstBySquares, SoundBySquares};
+ghost use Rattle.mask_laws.specs.Laws.{NumberingExists, NetworkExists, MaskIsJudged, CircuitIsJudged};
+ghost use Rattle.mask_laws.specs.Laws.{NetworkBySquares, FirstBySquares, SoundBySquares};
 
 use switch_net::network_is_determined;
 

@@ -33,10 +33,12 @@ pub(crate) fn channels(
     classes: &Classed,
 ) -> Result<List<Channel>, NoMemory>
     ghost drawn: { List Rect × List Point }
-    requires masks { AreMasks drawn.0 drawn.1 masks.now.contacts masks.now.metal masks.now.polysilicon masks.now.diffusion }
+    requires masks { AreMasks drawn.0 drawn.1 masks.now.contacts masks.now.metal masks.now.polysilicon
+        masks.now.diffusion }
     requires cut { IsCutOf masks.now.metal masks.now.polysilicon masks.now.diffusion cut.now }
     requires classed { AreClassed drawn.0 cut.now.pieces classes.now.nodes classes.now.channels }
-    ensures { IfOk result (AllZip (IsChannelAt (covered drawn.0) (node_squares cut.now.pieces classes.now.nodes)) (channel_squares cut.now.pieces classes.now.channels)) }
+    ensures { IfOk result (AllZip (IsChannelAt (covered drawn.0) (node_squares cut.now.pieces classes.now.nodes))
+        (channel_squares cut.now.pieces classes.now.channels)) }
 {
     one_colour();
     let pieces = cut.pieces.as_slice();

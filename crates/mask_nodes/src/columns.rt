@@ -31,13 +31,17 @@ pub(crate) fn node_columns(
     classes: &Classed,
 ) -> Result<Columns, NoMemory>
     ghost drawn: { List Rect × List Point }
-    requires masks { AreMasks drawn.0 drawn.1 masks.now.contacts masks.now.metal masks.now.polysilicon masks.now.diffusion }
+    requires masks { AreMasks drawn.0 drawn.1 masks.now.contacts masks.now.metal masks.now.polysilicon
+        masks.now.diffusion }
     requires cut { IsCutOf masks.now.metal masks.now.polysilicon masks.now.diffusion cut.now }
     requires classed { AreClassed drawn.0 cut.now.pieces classes.now.nodes classes.now.channels }
     requires count { count ≡ length drawn.1 }
-    ensures metal { IfOk result (λ c. AreNodesOver drawn.0 (node_squares cut.now.pieces classes.now.nodes) NM drawn.1 c.metal) }
-    ensures polysilicon { IfOk result (λ c. AreNodesOver drawn.0 (node_squares cut.now.pieces classes.now.nodes) NP drawn.1 c.polysilicon) }
-    ensures diffusion { IfOk result (λ c. AreNodesOver drawn.0 (node_squares cut.now.pieces classes.now.nodes) ND drawn.1 c.diffusion) }
+    ensures metal { IfOk result
+        (λ c. AreNodesOver drawn.0 (node_squares cut.now.pieces classes.now.nodes) NM drawn.1 c.metal) }
+    ensures polysilicon { IfOk result
+        (λ c. AreNodesOver drawn.0 (node_squares cut.now.pieces classes.now.nodes) NP drawn.1 c.polysilicon) }
+    ensures diffusion { IfOk result
+        (λ c. AreNodesOver drawn.0 (node_squares cut.now.pieces classes.now.nodes) ND drawn.1 c.diffusion) }
 {
     let first = masks.contacts.tiles.len();
     let numbers = classes.nodes.numbers.as_slice();

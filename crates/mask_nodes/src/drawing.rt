@@ -50,7 +50,8 @@ fn finish(
     cut: &Cut,
 ) -> Result<Drawing, NoMemory>
     ghost drawn: { List Rect × List Point }
-    requires masks { AreMasks drawn.0 drawn.1 masks.now.contacts masks.now.metal masks.now.polysilicon masks.now.diffusion }
+    requires masks { AreMasks drawn.0 drawn.1 masks.now.contacts masks.now.metal masks.now.polysilicon
+        masks.now.diffusion }
     requires cut { IsCutOf masks.now.metal masks.now.polysilicon masks.now.diffusion cut.now }
     requires places { places.now ≡ drawn.1 }
     ensures { IfOk result (IsDrawn drawn.0 drawn.1) }
@@ -69,7 +70,8 @@ fn assemble(
     classes: &Classed,
 ) -> Result<Drawing, NoMemory>
     ghost drawn: { List Rect × List Point }
-    requires masks { AreMasks drawn.0 drawn.1 masks.now.contacts masks.now.metal masks.now.polysilicon masks.now.diffusion }
+    requires masks { AreMasks drawn.0 drawn.1 masks.now.contacts masks.now.metal masks.now.polysilicon
+        masks.now.diffusion }
     requires cut { IsCutOf masks.now.metal masks.now.polysilicon masks.now.diffusion cut.now }
     requires classed { AreClassed drawn.0 cut.now.pieces classes.now.nodes classes.now.channels }
     requires count { count ≡ length drawn.1 }

@@ -11,9 +11,9 @@ use mp_base::{List, NoMemory};
 use std::alloc::Global;
 use union_find::Pair;
 
-/// The numbers of each channel and each node of diffusion beside it, those of the first channels first. The pairs are of
-/// tiles of diffusion that touch, and the other lists have the number of each tile's piece, and for each piece that of
-/// its channel and that of its node.
+/// The numbers of each channel and each node of diffusion beside it, those of the first channels first. The pairs are
+/// of tiles of diffusion that touch, and the other lists have the number of each tile's piece, and for each piece
+/// that of its channel and that of its node.
 pub(crate) fn all_ends(
     alloc: Global,
     touching: &[Pair],
@@ -26,7 +26,8 @@ pub(crate) fn all_ends(
     requires pieces { All (λ k. k < length pieces.now) numbers.now }
     requires channels { length channels.now ≡ length pieces.now }
     requires nodes { length nodes.now ≡ length pieces.now }
-    ensures each { IfOk result (λ v. (x : Pair) → Contains v.items x ↔ IsGivenBy (IsEndOf numbers.now pieces.now channels.now nodes.now) touching.now (length touching.now) x) }
+    ensures each { IfOk result (λ v. (x : Pair) → Contains v.items x
+        ↔ IsGivenBy (IsEndOf numbers.now pieces.now channels.now nodes.now) touching.now (length touching.now) x) }
     ensures sorted { IfOk result (λ v. IsNonDecreasingBy (λ (x : Pair). x.a) v.items) }
 {
     let mut ends = List::new(alloc);
@@ -48,7 +49,8 @@ fn list_ends(
     requires pieces { All (λ k. k < length pieces.now) numbers.now }
     requires channels { length channels.now ≡ length pieces.now }
     requires nodes { length nodes.now ≡ length pieces.now }
-    ensures { OnOk result (Gains ends.old ends.new (IsGivenBy (IsEndOf numbers.now pieces.now channels.now nodes.now) touching.now (length touching.now))) }
+    ensures { OnOk result (Gains ends.old ends.new
+        (IsGivenBy (IsEndOf numbers.now pieces.now channels.now nodes.now) touching.now (length touching.now))) }
 {
     for pair in touching {
         let a = numbers[pair.a as usize];
@@ -97,7 +99,8 @@ pub(crate) fn take_ends(
     requires after { (j : ℕ) → place.old ≤ j → j < length ends.now → channel ≤ (get_or ends.now j (pair_of 0 0)).a }
     ensures within { OnOk result (place.new ≤ length ends.now) }
     ensures before { OnOk result ((j : ℕ) → j < place.new → (get_or ends.now j (pair_of 0 0)).a ≤ channel) }
-    ensures after { OnOk result ((j : ℕ) → place.new ≤ j → j < length ends.now → channel < (get_or ends.now j (pair_of 0 0)).a) }
+    ensures after { OnOk result ((j : ℕ) → place.new ≤ j → j < length ends.now
+        → channel < (get_or ends.now j (pair_of 0 0)).a) }
     ensures ascending { IfOk result (λ v. AllPairs ◌<◌ v) }
     ensures each { IfOk result (λ v. (k : ℕ) → Contains v k ↔ Contains ends.now (pair_of channel k)) }
 {

@@ -18,9 +18,11 @@ pub(crate) fn mark(
     channels: &[u32],
 ) -> Result<Vec<bool>, NoMemory>
     requires numbers { length channels.now ≡ length pieces.now }
-    requires within { (k : ℕ) (p : Piece) → slice_get pieces.now k ≡ Some p → p.part ≡ part → get_or channels.now k 0 < count }
+    requires within { (k : ℕ) (p : Piece) → slice_get pieces.now k ≡ Some p → p.part ≡ part
+        → get_or channels.now k 0 < count }
     ensures as_many { IfOk result (λ v. length v.items ≡ count) }
-    ensures each { IfOk result (λ v. (c : ℕ) → c < count → (get_or v.items c false ≡ true) ↔ HasPart pieces.now channels.now part (length pieces.now) c) }
+    ensures each { IfOk result (λ v. (c : ℕ) → c < count
+        → (get_or v.items c false ≡ true) ↔ HasPart pieces.now channels.now part (length pieces.now) c) }
 {
     let mut marks = vec![in alloc; false; count]?;
     for (i, piece) in pieces.iter().enumerate() {

@@ -33,7 +33,8 @@ fn names_of<'a>(
     inputs: &'a [Pad],
     outputs: &'a [Pad],
 ) -> Result<Vec<&'a [u8]>, AllocError>
-    ensures { IfOk result (λ names. map (λ name. name.now) names.items ≡ names_of inputs.now outputs.now (λ pad. pad.name)) }
+    ensures { IfOk result (λ names. map (λ name. name.now) names.items
+        ≡ names_of inputs.now outputs.now (λ pad. pad.name)) }
 {
     let mut names = Vec::new(alloc);
     for pad in inputs {

@@ -42,7 +42,8 @@ fn is_pad_name(name: &[u8]) -> bool
 
 /// Whether each may name a pad, and all differ.
 pub(crate) fn are_pad_names(alloc: Global, names: &[&[u8]]) -> Result<bool, AllocError>
-    ensures { IfOk result (λ holds. MatchBool holds (ArePadNames (map (λ name. name.now) names.now)) (ArePadNames (map (λ name. name.now) names.now) → ⊥)) }
+    ensures { IfOk result (λ holds. MatchBool holds (ArePadNames (map (λ name. name.now) names.now))
+        (ArePadNames (map (λ name. name.now) names.now) → ⊥)) }
 {
     let mut seen = BTreeSet::new(alloc);
     for name in names {

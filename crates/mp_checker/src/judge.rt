@@ -9,7 +9,8 @@ use mp_program::Program;
 
 /// A refusal by the rule of a number, at a place.
 pub fn refusal(number: u16, at: Place) -> Refusal
-    ensures { result ≡ Refusal.Broken (record { rule = record { family = Family.E; number = number }; spot = Spot.At at }) }
+    ensures { result ≡ Refusal.Broken
+        (record { rule = record { family = Family.E; number = number }; spot = Spot.At at }) }
 {
     Refusal::Broken(Broken {
         rule: Rule {

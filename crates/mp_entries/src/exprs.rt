@@ -103,7 +103,8 @@ pub fn exprs_of(
     requires sound { IsSound forms.now }
     requires size { length classes.now ≡ length forms.now.nodes }
     requires small { length forms.now.nodes < 2 ^ 32 }
-    ensures { IfOk result (λ exprs. exprs ≡ map (expr_at forms.now (slice_index ranks.now)) (nodes_below (is_expr classes.now) (length forms.now.nodes))) }
+    ensures { IfOk result (λ exprs. exprs ≡ map (expr_at forms.now (slice_index ranks.now))
+        (nodes_below (is_expr classes.now) (length forms.now.nodes))) }
 {
     let mut exprs = List::new(alloc);
     for node in 0..forms.nodes.len() as u32 {

@@ -16,7 +16,8 @@ use std::alloc::{AllocError, Global};
 fn branch_of(alloc: Global, forms: &Forms, ranks: &Ranks, node: u32) -> Result<Branch, AllocError>
     requires sound { IsSound forms.now }
     requires inside { node < length forms.now.nodes }
-    ensures { IfOk result (λ branch. branch ≡ branch_at forms.now (slice_index ranks.now.exprs) (slice_index ranks.now.forms) node) }
+    ensures { IfOk result (λ branch. branch
+        ≡ branch_at forms.now (slice_index ranks.now.exprs) (slice_index ranks.now.forms) node) }
 {
     let items = items_at(forms, node);
     let guard = item(ranks.exprs.as_slice(), item(items, 0) as usize);
@@ -32,7 +33,8 @@ fn branches_of(
 ) -> Result<List<Branch>, AllocError>
     requires sound { IsSound forms.now }
     requires inside { (k : ℕ) → k < length nodes.now → slice_index nodes.now k < length forms.now.nodes }
-    ensures { IfOk result (λ branches. branches ≡ map (branch_at forms.now (slice_index ranks.now.exprs) (slice_index ranks.now.forms)) nodes.now) }
+    ensures { IfOk result (λ branches. branches
+        ≡ map (branch_at forms.now (slice_index ranks.now.exprs) (slice_index ranks.now.forms)) nodes.now) }
 {
     let mut branches = List::new(alloc);
     for node in nodes {
@@ -51,7 +53,8 @@ fn kind_of(
     requires sound { IsSound forms.now }
     requires some { 0 < length forms.now.nodes }
     requires inside { (k : ℕ) → k < length items.now → slice_index items.now k < length forms.now.nodes }
-    ensures { IfOk result (λ kind. kind ≡ form_kind forms.now (slice_index ranks.now.exprs) (slice_index ranks.now.forms) items.now layout) }
+    ensures { IfOk result (λ kind. kind
+        ≡ form_kind forms.now (slice_index ranks.now.exprs) (slice_index ranks.now.forms) items.now layout) }
 {
     match layout {
         Some(Layout::Setq) => Ok(FormKind::Set {
@@ -76,7 +79,8 @@ fn kind_of(
 fn form_of(alloc: Global, forms: &Forms, ranks: &Ranks, node: u32) -> Result<Form, AllocError>
     requires sound { IsSound forms.now }
     requires inside { node < length forms.now.nodes }
-    ensures { IfOk result (λ form. form ≡ form_at forms.now (slice_index ranks.now.exprs) (slice_index ranks.now.forms) node) }
+    ensures { IfOk result (λ form. form
+        ≡ form_at forms.now (slice_index ranks.now.exprs) (slice_index ranks.now.forms) node) }
 {
     let place = node_at(forms, node).place;
     let layout = shape_of(forms, Class::Action, node);
@@ -94,7 +98,8 @@ pub fn forms_of(
     requires sound { IsSound forms.now }
     requires size { length classes.now ≡ length forms.now.nodes }
     requires small { length forms.now.nodes < 2 ^ 32 }
-    ensures { IfOk result (λ list. list ≡ map (form_at forms.now (slice_index ranks.now.exprs) (slice_index ranks.now.forms)) (nodes_below (is_form forms.now classes.now) (length forms.now.nodes))) }
+    ensures { IfOk result (λ list. list ≡ map (form_at forms.now (slice_index ranks.now.exprs)
+        (slice_index ranks.now.forms)) (nodes_below (is_form forms.now classes.now) (length forms.now.nodes))) }
 {
     let mut list = List::new(alloc);
     for node in 0..forms.nodes.len() as u32 {

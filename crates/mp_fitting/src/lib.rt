@@ -39,7 +39,8 @@ pub fn environments_fit(program: &Program, order: &[u32])
     requires sorts { (at : Place) → E22 program.now at → ⊥ }
     requires sizes { (at : Place) → E23 program.now at → ⊥ }
     ensures { (st : State) (inputs env : List ℕ) → IsState program.now st → StateFits program.now st
-        → FitsPads (input_pads program.now) inputs → IsEnvironment program.now st inputs env → ValuesFit program.now env }
+        → FitsPads (input_pads program.now) inputs → IsEnvironment program.now st inputs env
+        → ValuesFit program.now env }
 {
     sound(program);
     values(program);
@@ -65,7 +66,8 @@ pub fn guards_fit(program: &Program)
 
 /// Where all values of the clock fit, so do the outputs.
 pub fn outputs_fit(program: &Program)
-    ensures { (env : List ℕ) → ValuesFit program.now env → FitsPads (output_pads program.now) (outputs_of program.now.defs env) }
+    ensures { (env : List ℕ) → ValuesFit program.now env
+        → FitsPads (output_pads program.now) (outputs_of program.now.defs env) }
 {
     sound(program);
 }

@@ -15,7 +15,8 @@ use std::alloc::{AllocError, Global};
 
 // The offsets of all that has a name.
 fn offsets(alloc: Global, program: &Program) -> Result<Vec<u64>, AllocError>
-    ensures { IfOk result (λ offsets. offsets.items ≡ map (λ (d : Def). (d.place).offset) (filter (λ (d : Def). not (is_supply d.what)) program.now.defs)
+    ensures { IfOk result (λ offsets. offsets.items
+        ≡ map (λ (d : Def). (d.place).offset) (filter (λ (d : Def). not (is_supply d.what)) program.now.defs)
         ++ map (λ (q : Process). (q.place).offset) program.now.processes) }
 {
     let defs = program

@@ -10,7 +10,8 @@ ghost use Rattle.mp_rules.specs.Breaking.{IsEarliest};
 ghost use Rattle.mp_rules.specs.Sorts.{IsBit, what_sort, operand_sort, result_sort};
 ghost use Rattle.mp_names.specs.Finding.{earliest};
 ghost use Rattle.name_meanings.specs.Table.{IsNameTable};
-ghost use Rattle.mp_names.specs.Sorting.{meant, sort_in, kind_sort, misfit, operand_misfit, form_misfit, earliest_misfit};
+ghost use Rattle.mp_names.specs.Sorting.{meant, sort_in, kind_sort, misfit, operand_misfit, form_misfit};
+ghost use Rattle.mp_names.specs.Sorting.{earliest_misfit};
 
 use crate::find::earlier_of;
 use crate::uses::Misuse;

@@ -101,7 +101,8 @@ fn ask(
     marks: &List<u64>,
     demands: &mut List<u64>,
 )
-    ensures { Lifted (Asks program.now meanings.now tops.now marks.now (length program.now.forms)) demands.old demands.new }
+    ensures { Lifted (Asks program.now meanings.now tops.now marks.now (length program.now.forms)) demands.old
+        demands.new }
 {
     for (n, form) in program.forms.as_slice().iter().enumerate() {
         if let FormKind::Set { value, .. } = &form.kind {

@@ -42,7 +42,8 @@ fn falls_at(def: &Def, demand: u64, rank: u32, loose: u32) -> bool
 
 /// Whether each driven definition demands no more than its rank, and less unless it is loose.
 fn falls(program: &Program, demands: &List<u64>, ranks: &[u32], loose: &[u32]) -> bool
-    ensures { result ≡ true → (d : ℕ) (x : Def) → IsDriven program.now d x → (slice_index demands.now d ≤ slice_index ranks.now d)
+    ensures { result ≡ true → (d : ℕ) (x : Def) → IsDriven program.now d x
+        → (slice_index demands.now d ≤ slice_index ranks.now d)
         × (slice_index loose.now d ≡ 0 → slice_index demands.now d < slice_index ranks.now d) }
 {
     for (d, def) in program.defs.as_slice().iter().enumerate() {
@@ -95,7 +96,8 @@ fn stands_at(order: &[u32], d: usize, rank: u32) -> bool
 
 /// The same where it is driven.
 fn stands(def: &Def, order: &[u32], d: usize, rank: u32) -> bool
-    ensures { result ≡ true → is_driven def.now.what ≡ true → (k : ℕ) × (k < length order.now) × (slice_index order.now k ≡ d) × (rank ≡ k + 1) }
+    ensures { result ≡ true → is_driven def.now.what ≡ true → (k : ℕ) × (k < length order.now)
+        × (slice_index order.now k ≡ d) × (rank ≡ k + 1) }
 {
     !def.what.is_driven() || stands_at(order, d, rank)
 }
@@ -113,7 +115,8 @@ fn has_rank(program: &Program, ranks: &[u32], d: u32, rank: usize) -> bool
 /// Whether each entry of a list is a driven definition at its rank.
 fn lists_only(program: &Program, ranks: &[u32], order: &[u32]) -> bool
     ensures { result ≡ true → (k : ℕ) → k < length order.now
-        → ((x : Def) × IsDriven program.now (slice_index order.now k) x) × (slice_index ranks.now (slice_index order.now k) ≡ k + 1) }
+        → ((x : Def) × IsDriven program.now (slice_index order.now k) x)
+        × (slice_index ranks.now (slice_index order.now k) ≡ k + 1) }
 {
     for (k, d) in order.iter().enumerate() {
         if !has_rank(program, ranks, *d, k + 1) {

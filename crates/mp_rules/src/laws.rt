@@ -20,7 +20,8 @@ use mp_program::laws::{effects, sound};
 
 /// A program has at most one first broken rule, and one offset where it is broken.
 pub fn one_first_rule()
-    ensures { (p : spec.Program) (k l : ℕ) (at there : Place) → IsFirst p k at → IsFirst p l there → (k ≡ l) × (at.offset ≡ there.offset) }
+    ensures { (p : spec.Program) (k l : ℕ) (at there : Place) → IsFirst p k at → IsFirst p l there → (k ≡ l)
+        × (at.offset ≡ there.offset) }
 {}
 
 /// A rule is broken at the place of something in the program.

@@ -17,7 +17,8 @@ use std::alloc::{AllocError, Global};
 /// Gives the items of a list their classes.
 fn mark(layout: Layout, items: &[u32], classes: &mut List<Option<Class>>)
     requires inside { (k : ℕ) → k < length items.now → slice_index items.now k < length classes.old }
-    requires apart { (j k : ℕ) → j < length items.now → k < length items.now → slice_index items.now j ≡ slice_index items.now k → j ≡ k }
+    requires apart { (j k : ℕ) → j < length items.now → k < length items.now
+        → slice_index items.now j ≡ slice_index items.now k → j ≡ k }
     ensures { Marked layout items.now (length items.now) classes.old classes.new }
 {
     for (j, item) in items.iter().enumerate() {
@@ -28,7 +29,8 @@ fn mark(layout: Layout, items: &[u32], classes: &mut List<Option<Class>>)
 }
 
 fn no_shape(place: Place) -> Refusal
-    ensures { result ≡ Refusal.Broken (record { rule = record { family = Family.E; number = 10 }; spot = Spot.At place }) }
+    ensures { result ≡ Refusal.Broken
+        (record { rule = record { family = Family.E; number = 10 }; spot = Spot.At place }) }
 {
     Refusal::Broken(Broken {
         rule: Rule {
@@ -52,7 +54,8 @@ fn classify(alloc: Global, forms: &Forms, root: u32) -> Result<List<Option<Class
     requires rooted { (rs : List ℕ) × (forms.now.roots ≡ root ∷ rs) }
     requires small { length forms.now.nodes < 2 ^ 32 }
     ensures ok { IfOk result (AreClasses forms.now) }
-    ensures err { IfErr result (λ e. RefusesAt E e (λ k at. (k ≡ 10) × (n : ℕ) × IsFirstDefect forms.now n × (at ≡ (node forms.now n).place))) }
+    ensures err { IfErr result (λ e. RefusesAt E e (λ k at. (k ≡ 10) × (n : ℕ) × IsFirstDefect forms.now n
+        × (at ≡ (node forms.now n).place))) }
 {
     let count = forms.nodes.len();
     let mut classes = unset(alloc, count)?;

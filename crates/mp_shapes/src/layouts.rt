@@ -3,7 +3,11 @@
 ghost use Rattle.std.specs.Prelude.{◌≡◌, ◌<◌, ℕ, length, slice_index, All};
 ghost use Rattle.std.specs.List.{list_all};
 ghost use Rattle.form_reader.specs.Sound.{IsSound, kind_at, items_of};
-ghost use Rattle.mp_shapes.specs.Layout.{word_of, is_symbol, is_number, is_pins, supply_of, stored_of, three, four, internal, way, five, definition, item_layout, form_layout, word_op, bit_op, op_of, takes, value_layout, list_layout, number_layout, symbol_layout, layout, when, behind_head, behind_first, behind_number, item_class};
+ghost use Rattle.mp_shapes.specs.Layout.{word_of, is_symbol, is_number, is_pins, supply_of, stored_of, three, four};
+ghost use Rattle.mp_shapes.specs.Layout.{internal, way, five, definition, item_layout, form_layout, word_op};
+ghost use Rattle.mp_shapes.specs.Layout.{bit_op, op_of, takes, value_layout, list_layout, number_layout};
+ghost use Rattle.mp_shapes.specs.Layout.{symbol_layout, layout, when, behind_head, behind_first, behind_number};
+ghost use Rattle.mp_shapes.specs.Layout.{item_class};
 
 use crate::table::{Class, Definition, Layout};
 use form_reader::{Forms, Kind};

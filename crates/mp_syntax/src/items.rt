@@ -43,7 +43,8 @@ fn top_forms(
     elements: &[u32],
 ) -> Result<List<u32>, AllocError>
     requires { (k : ℕ) → k < length elements.now → slice_index elements.now k < length forms.now.nodes }
-    ensures { IfOk result (λ list. list ≡ map (slice_index ranks.now) (filter (λ n. not (is_symbol (kind_at forms.now n))) elements.now)) }
+    ensures { IfOk result (λ list. list
+        ≡ map (slice_index ranks.now) (filter (λ n. not (is_symbol (kind_at forms.now n))) elements.now)) }
 {
     let mut list = List::new(alloc);
     for node in elements {
@@ -63,7 +64,8 @@ fn process_of(
     requires sound { IsSound forms.now }
     requires inside { node < length forms.now.nodes }
     requires small { length forms.now.nodes < 2 ^ 32 }
-    ensures { IfOk result (λ process. process ≡ process_of forms.now (slice_index ranks.now) node (items_of (kind_at forms.now node))) }
+    ensures { IfOk result (λ process. process
+        ≡ process_of forms.now (slice_index ranks.now) node (items_of (kind_at forms.now node))) }
 {
     let items = items_at(forms, node);
     let elements = elements_at(forms, node);
@@ -87,7 +89,8 @@ pub fn processes_of(
     requires sound { IsSound forms.now }
     requires inside { (k : ℕ) → k < length items.now → slice_index items.now k < length forms.now.nodes }
     requires small { length forms.now.nodes < 2 ^ 32 }
-    ensures { IfOk result (λ processes. processes ≡ filter_map (process_at forms.now (slice_index ranks.now)) items.now) }
+    ensures { IfOk result (λ processes. processes
+        ≡ filter_map (process_at forms.now (slice_index ranks.now)) items.now) }
 {
     let mut processes = List::new(alloc);
     for node in items {

@@ -21,7 +21,8 @@ use mp_shapes::{Class, judge_shapes};
 use std::alloc::{AllocError, Global};
 
 fn wrong_width(place: Place) -> Refusal
-    ensures { result ≡ Refusal.Broken (record { rule = record { family = Family.E; number = 11 }; spot = Spot.At place }) }
+    ensures { result ≡ Refusal.Broken
+        (record { rule = record { family = Family.E; number = 11 }; spot = Spot.At place }) }
 {
     Refusal::Broken(Broken {
         rule: Rule {

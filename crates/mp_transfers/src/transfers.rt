@@ -40,7 +40,8 @@ fn behind_in_branches(
     found: Option<Place>,
 ) -> Option<Place>
     requires { All (λ f. f < length table.now) (flat_map (λ (b : BranchValue). b.body) branches.now) }
-    ensures { IsEarliest (λ at. (found ≡ Some at) ⊎ IsBehindInOne table.now (map (λ (b : BranchValue). b.body) branches.now) at) result }
+    ensures { IsEarliest (λ at. (found ≡ Some at)
+        ⊎ IsBehindInOne table.now (map (λ (b : BranchValue). b.body) branches.now) at) result }
 {
     let mut found = found;
     for branch in branches {

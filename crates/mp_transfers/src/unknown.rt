@@ -1,6 +1,7 @@
 //! Rule E28: labels that aren't there.
 
-ghost use Rattle.std.specs.Prelude.{◌≡◌, ◌⊎◌, ◌↔◌, ◌<◌, ◌≤◌, ℕ, List, Option, Some, None, IfOk, IsTrue, length, slice_index, true};
+ghost use Rattle.std.specs.Prelude.{◌≡◌, ◌⊎◌, ◌↔◌, ◌<◌, ◌≤◌, ℕ, List, Option, Some, None, IfOk, IsTrue, length};
+ghost use Rattle.std.specs.Prelude.{slice_index, true};
 ghost use Rattle.mp_program.specs.declared.program.Form.{Form as FormValue};
 ghost use Rattle.mp_program.specs.declared.program.Label.{Label as LabelValue};
 ghost use Rattle.mp_rules.specs.Breaking.{IsEarliest};
@@ -19,7 +20,8 @@ use std::collections::BTreeSet;
 
 /// Whether a form goes to a label that isn't among these.
 fn is_astray<'a>(names: &BTreeSet<&'a [u8]>, kind: &'a FormKind) -> bool
-    ensures { (labels : List LabelValue) → ((x : List ℕ) → (has names.now x ≡ true) ↔ IsLabel labels x) → IsTrue result ↔ IsAstray labels kind.now }
+    ensures { (labels : List LabelValue) → ((x : List ℕ) → (has names.now x ≡ true) ↔ IsLabel labels x)
+        → IsTrue result ↔ IsAstray labels kind.now }
 {
     match kind {
         FormKind::Go(label) | FormKind::Call(label) => !names.contains(&label.bytes()),
@@ -40,7 +42,8 @@ fn astray_in<'a>(
     requires size { length marks.now ≡ length program.now.forms }
     requires inside { span.end ≤ length program.now.forms }
     requires names { (x : List ℕ) → (has names.now x ≡ true) ↔ IsLabel labels.now x }
-    ensures { IsEarliest (λ at. (found ≡ Some at) ⊎ ((f : ℕ) × (y : FormValue) × (span.from ≤ f) × (f < span.end) × (slice_index marks.now f ≡ number)
+    ensures { IsEarliest (λ at. (found ≡ Some at)
+        ⊎ ((f : ℕ) × (y : FormValue) × (span.from ≤ f) × (f < span.end) × (slice_index marks.now f ≡ number)
         × IsAt program.now.forms f y × IsAstray labels.now y.kind × (at ≡ y.place))) result }
 {
     let forms = program.forms.as_slice();

@@ -68,7 +68,8 @@ pub fn defs_weight(
 ) -> Result<u64, AllocError>
     requires meant { AreMeanings program.now meanings.now }
     requires own { OwnNames program.now }
-    ensures { IfOk result (λ weight. weight ≡ min cap (sum_by (λ (d : Def). def_weight d.what (sets_of program.now d.name)) program.now.defs)) }
+    ensures { IfOk result (λ weight. weight
+        ≡ min cap (sum_by (λ (d : Def). def_weight d.what (sets_of program.now d.name)) program.now.defs)) }
 {
     let counts = set_counts(alloc, program, meanings)?;
     let counts = counts.as_slice();

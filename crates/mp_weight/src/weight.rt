@@ -69,7 +69,8 @@ pub fn weight_within(
 ) -> Result<Option<u32>, AllocError>
     requires meant { AreMeanings program.now meanings.now }
     requires own { OwnNames program.now }
-    ensures { IfOk result (λ found. MatchOption found (limit < weight program.now) (λ w. (w ≡ weight program.now) × (w ≤ limit))) }
+    ensures { IfOk result (λ found. MatchOption found (limit < weight program.now) (λ w. (w ≡ weight program.now)
+        × (w ≤ limit))) }
 {
     let cap = u64::from(limit) + 1;
     let calls = calls(alloc, program, cap)?;

@@ -33,7 +33,8 @@ pub(crate) fn gather(board: &Board<'_>, values: &[Trit], node: u32, cluster: &mu
 fn meets(board: &Board<'_>, values: &[Trit], source: Source, cluster: &NodeSet) -> bool
     requires moment { IsMoment board.now values.now }
     requires room { cluster.now.room ≡ nodes_of board.now }
-    ensures { IsTrue result ↔ ((n : ℕ) × Contains cluster.now.members n × Borders (setting_of board.now) (MayBeOn (value_at values.now)) (IsSource source (setting_of board.now)) n) }
+    ensures { IsTrue result ↔ ((n : ℕ) × Contains cluster.now.members n
+        × Borders (setting_of board.now) (MayBeOn (value_at values.now)) (IsSource source (setting_of board.now)) n) }
 {
     for node in cluster.as_slice() {
         if borders(board, values, Route::Maybe, source, *node) {
@@ -62,7 +63,8 @@ fn add_unopposed(nodes: &NodeSet, held: &NodeSet, against: &NodeSet, given: &mut
     requires against { against.now.room ≡ nodes.now.room }
     requires given { given.old.room ≡ nodes.now.room }
     ensures room { given.new.room ≡ given.old.room }
-    ensures given { Picks (λ n. Contains held.now.members n × (Contains against.now.members n → ⊥)) nodes.now.members given.new.members }
+    ensures given { Picks (λ n. Contains held.now.members n
+        × (Contains against.now.members n → ⊥)) nodes.now.members given.new.members }
 {
     given.clear();
     for node in nodes.as_slice() {
@@ -101,7 +103,8 @@ fn tell_given(
     requires against { against.old.room ≡ nodes_of board.now }
     ensures held { held.new.room ≡ held.old.room }
     ensures against { against.new.room ≡ against.old.room }
-    ensures given { TellGiven (setting_of board.now) (value_at values.now) value cluster.now.members held.new.members against.new.members }
+    ensures given { TellGiven (setting_of board.now)
+        (value_at values.now) value cluster.now.members held.new.members against.new.members }
 {
     nodes_are_given();
     if meets(board, values, Source::Against(value), cluster) {
@@ -153,7 +156,8 @@ pub(crate) fn give(
     ensures held { held.new.room ≡ held.old.room }
     ensures against { against.new.room ≡ against.old.room }
     ensures given_room { given.new.room ≡ given.old.room }
-    ensures given { Picks (λ n. Gives (setting_of board.now) (value_at values.now) n value) cluster.now.members given.new.members }
+    ensures given { Picks (λ n. Gives (setting_of board.now) (value_at values.now) n value) cluster.now.members
+        given.new.members }
 {
     tell_given(board, values, value, cluster, held, against);
     add_unopposed(cluster, held, against, given);

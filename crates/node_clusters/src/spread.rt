@@ -4,7 +4,8 @@ ghost use Rattle.std.specs.Prelude.{◌≡◌, ◌<◌, ◌↔◌, ℕ, IsTrue, 
 ghost use Rattle.switch_net.specs.Settled.{MayBeOn};
 ghost use Rattle.node_clusters.specs.Values.{value_at, driver_at};
 ghost use Rattle.node_clusters.specs.Board.{setting_of, nodes_of, IsMoment};
-ghost use Rattle.node_clusters.specs.Spread.{Uses, IsSource, IsSourceOf, Borders, AddsEnds, AddsAdjoining, Spreads, Picks, HoldsReached};
+ghost use Rattle.node_clusters.specs.Spread.{Uses, IsSource, IsSourceOf, Borders, AddsEnds, AddsAdjoining, Spreads};
+ghost use Rattle.node_clusters.specs.Spread.{Picks, HoldsReached};
 ghost use Rattle.node_clusters.specs.Give.{IsCluster};
 
 use crate::board::Board;
@@ -29,7 +30,8 @@ pub(crate) fn borders(
 ) -> bool
     requires moment { IsMoment board.now values.now }
     requires node { node < nodes_of board.now }
-    ensures { IsTrue result ↔ Borders (setting_of board.now) (Uses route (value_at values.now)) (IsSource source (setting_of board.now)) node }
+    ensures { IsTrue result ↔ Borders (setting_of board.now) (Uses route (value_at values.now))
+        (IsSource source (setting_of board.now)) node }
 {
     let channels = board.network.channels.as_slice();
     for number in board.at[node as usize].as_slice() {
@@ -59,7 +61,8 @@ fn add_adjoining(board: &Board<'_>, values: &[Trit], route: Route, node: u32, se
     requires node { node < nodes_of board.now }
     requires room { set.old.room ≡ nodes_of board.now }
     ensures room { set.new.room ≡ set.old.room }
-    ensures adds { AddsAdjoining (setting_of board.now) (Uses route (value_at values.now)) node set.old.members set.new.members }
+    ensures adds { AddsAdjoining (setting_of board.now)
+        (Uses route (value_at values.now)) node set.old.members set.new.members }
 {
     let channels = board.network.channels.as_slice();
     for number in board.at[node as usize].as_slice() {
@@ -75,7 +78,8 @@ pub(crate) fn grow(board: &Board<'_>, values: &[Trit], route: Route, set: &mut N
     requires moment { IsMoment board.now values.now }
     requires room { set.old.room ≡ nodes_of board.now }
     ensures room { set.new.room ≡ set.old.room }
-    ensures spreads { Spreads (setting_of board.now) (Uses route (value_at values.now)) set.old.members set.new.members }
+    ensures spreads { Spreads (setting_of board.now)
+        (Uses route (value_at values.now)) set.old.members set.new.members }
 {
     let mut next: u32 = 0;
     while next < set.len() {
@@ -97,7 +101,8 @@ fn seed(
     requires cluster { cluster.now.room ≡ nodes_of board.now }
     requires room { set.old.room ≡ nodes_of board.now }
     ensures room { set.new.room ≡ set.old.room }
-    ensures seeds { Picks (Borders (setting_of board.now) (Uses route (value_at values.now)) (IsSource source (setting_of board.now))) cluster.now.members set.new.members }
+    ensures seeds { Picks (Borders (setting_of board.now) (Uses route (value_at values.now))
+        (IsSource source (setting_of board.now))) cluster.now.members set.new.members }
 {
     set.clear();
     for node in cluster.as_slice() {
@@ -121,7 +126,8 @@ pub(crate) fn spread(
     requires cluster_room { cluster.now.room ≡ nodes_of board.now }
     requires room { set.old.room ≡ nodes_of board.now }
     ensures room { set.new.room ≡ set.old.room }
-    ensures reached { HoldsReached (setting_of board.now) (Uses route (value_at values.now)) (IsSource source (setting_of board.now)) cluster.now.members set.new.members }
+    ensures reached { HoldsReached (setting_of board.now) (Uses route (value_at values.now))
+        (IsSource source (setting_of board.now)) cluster.now.members set.new.members }
 {
     seed(board, values, route, source, cluster, set);
     grow(board, values, route, set);

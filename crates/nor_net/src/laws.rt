@@ -1,6 +1,7 @@
 //! Laws of nets: a call of one does nothing, and tells the caller's proof what it ensures.
 
-ghost use Rattle.nor_net.specs.Laws.{BitsAreTold, OneInputDecides, SettledExists, SettledOnce, TraceExists, TraceLoosens, TraceOnce};
+ghost use Rattle.nor_net.specs.Laws.{BitsAreTold, OneInputDecides, SettledExists, SettledOnce, TraceExists};
+ghost use Rattle.nor_net.specs.Laws.{TraceLoosens, TraceOnce};
 ghost use Rattle.nor_net.specs.Machine.{ClockSteps, ResetClears};
 
 /// Finitely many nets have settled values in each setting, exactly one each.

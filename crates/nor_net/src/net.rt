@@ -1,7 +1,9 @@
 //! Nets of inputs, NOR gates and latches.
 
-ghost use Rattle.std.specs.Prelude.{◌≡◌, ◌<◌, ◌≤◌, ◌↔◌, ◌+◌, [], Some, None, All, IfSome, IfOk, IsTrue, MatchOption, OnErr, length, slice_get, slice_set};
-ghost use Rattle.nor_net.specs.Shape.{Fed, IsAdded, IsFed, IsNet, MayTake, count_inputs, fed, gate_inputs, input_count, kind_of, net_limit};
+ghost use Rattle.std.specs.Prelude.{◌≡◌, ◌<◌, ◌≤◌, ◌↔◌, ◌+◌, [], Some, None, All, IfSome, IfOk, IsTrue};
+ghost use Rattle.std.specs.Prelude.{MatchOption, OnErr, length, slice_get, slice_set};
+ghost use Rattle.nor_net.specs.Shape.{Fed, IsAdded, IsFed, IsNet, MayTake, count_inputs, fed, gate_inputs};
+ghost use Rattle.nor_net.specs.Shape.{input_count, kind_of, net_limit};
 ghost use Rattle.nor_net.specs.declared.net.NetKind.TheVariants as kind;
 ghost use Rattle.nor_net.specs.declared.net.Part.TheVariants as part;
 

@@ -3,7 +3,8 @@
 ghost use Rattle.std.specs.Prelude.{◌≡◌, ℕ, List, length, Option, IfSome, IfOk, OnOk, OnErr};
 ghost use Rattle.std.specs.FinMap as map;
 ghost use Rattle.std.specs.Io.{ReadsAtMost};
-ghost use Rattle.outside.specs.Outside.{Files, WhereTold, Keeps, HasCause, ReadHasCause, GivesPiece, IsStray, IsHeld, Creates, Grows, Gains};
+ghost use Rattle.outside.specs.Outside.{Files, WhereTold, Keeps, HasCause, ReadHasCause, GivesPiece, IsStray};
+ghost use Rattle.outside.specs.Outside.{IsHeld, Creates, Grows, Gains};
 ghost use Rattle.outside.specs.Piece.{TakesPiece};
 
 /// A call failed.
@@ -22,8 +23,10 @@ pub trait Depot {
     fn read_at(&mut self, name: &str, at: u64, buf: &mut [u8]) -> Result<usize, Failed>
         ensures bound { ReadsAtMost result buf.new }
         ensures held { Keeps (held self.old) (held self.new) }
-        ensures bytes { IfOk result (λ n. IfSome (held self.new) (λ files. GivesPiece (map.get files name.now) at n buf.new)) }
-        ensures cause { ReadHasCause (read_faults self.old) (read_faults self.new) (IsStray (held self.new) name.now) result }
+        ensures bytes { IfOk result
+            (λ n. IfSome (held self.new) (λ files. GivesPiece (map.get files name.now) at n buf.new)) }
+        ensures cause { ReadHasCause (read_faults self.old) (read_faults self.new)
+            (IsStray (held self.new) name.now) result }
         ensures writes { write_faults self.new ≡ write_faults self.old };
 
     /// Makes a file, or empties it.

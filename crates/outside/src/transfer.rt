@@ -1,6 +1,7 @@
 //! Whole files and whole texts, through the calls that take a piece.
 
-ghost use Rattle.std.specs.Prelude.{◌≡◌, ◌⊎◌, ◌<◌, ◌≤◌, ◌+◌, ◌^◌, ℕ, List, length, take, IfSome, IfOk, OnOk, OnErr, IsErrOf, vec_len};
+ghost use Rattle.std.specs.Prelude.{◌≡◌, ◌⊎◌, ◌<◌, ◌≤◌, ◌+◌, ◌^◌, ℕ, List, length, take, IfSome, IfOk, OnOk, OnErr};
+ghost use Rattle.std.specs.Prelude.{IsErrOf, vec_len};
 ghost use Rattle.std.specs.FinMap as map;
 ghost use Rattle.outside.specs.Outside.{WhereTold, Keeps, HasCause, IsStray, IsHeld, Gains, Grows};
 ghost use Rattle.outside.specs.Transfer.{IsReading, AddsPiece, SizeGrows, FileReadHasCause, Holds, HoldsPart};
@@ -128,9 +129,11 @@ fn read_piece<D: Depot>(
 ) -> Result<bool, ReadError>
     requires { 0 < length room.old }
     ensures held { Keeps (D.held depot.old) (D.held depot.new) }
-    ensures piece { IfOk result (λ more. IfSome (D.held depot.new) (λ files. AddsPiece (map.get files name.now) text.old.items text.new.items more)) }
+    ensures piece { IfOk result (λ more. IfSome (D.held depot.new)
+        (λ files. AddsPiece (map.get files name.now) text.old.items text.new.items more)) }
     ensures size { IfOk result (λ more. SizeGrows (vec_len text.old) (vec_len text.new) (length room.old) more) }
-    ensures cause { FileReadHasCause (D.read_faults depot.old) (D.read_faults depot.new) (IsStray (D.held depot.new) name.now) result }
+    ensures cause { FileReadHasCause (D.read_faults depot.old) (D.read_faults depot.new)
+        (IsStray (D.held depot.new) name.now) result }
     ensures writes { D.write_faults depot.new ≡ D.write_faults depot.old }
 {
     let count = depot.read_at(name, text.len() as u64, room)?;
@@ -147,9 +150,11 @@ pub fn read_file<D: Depot>(
 ) -> Result<Option<Vec<u8>>, ReadError>
     requires { limit < 2 ^ 32 }
     ensures held { Keeps (D.held depot.old) (D.held depot.new) }
-    ensures bytes { IfOk result (λ text. IfSome (D.held depot.new) (λ files. IsReading (map.get files name.now) limit text)) }
+    ensures bytes { IfOk result
+        (λ text. IfSome (D.held depot.new) (λ files. IsReading (map.get files name.now) limit text)) }
     ensures within { IfOk result (λ text. IfSome text (λ all. vec_len all ≤ limit)) }
-    ensures cause { FileReadHasCause (D.read_faults depot.old) (D.read_faults depot.new) (IsStray (D.held depot.new) name.now) result }
+    ensures cause { FileReadHasCause (D.read_faults depot.old) (D.read_faults depot.new)
+        (IsStray (D.held depot.new) name.now) result }
     ensures writes { D.write_faults depot.new ≡ D.write_faults depot.old }
 {
     let mut text = Vec::new(alloc);

@@ -1,11 +1,13 @@
 //! Files and an output in memory. A call whose number is in a list fails.
 
-ghost use Rattle.std.specs.Prelude.{◌≡◌, ◌⊎◌, ◌+◌, ◌-◌, ◌^◌, ◌<◌, ◌≤◌, ◌==◌, ℕ, List, [], length, take, min, Some, OnOk, OnErr, IfOk, IfSome, IsErr, IsSome, IsTrue};
+ghost use Rattle.std.specs.Prelude.{◌≡◌, ◌⊎◌, ◌+◌, ◌-◌, ◌^◌, ◌<◌, ◌≤◌, ◌==◌, ℕ, List, [], length, take, min, Some};
+ghost use Rattle.std.specs.Prelude.{OnOk, OnErr, IfOk, IfSome, IsErr, IsSome, IsTrue};
 ghost use Rattle.std.specs.List.{list_any};
 ghost use Rattle.std.specs.Option.{option_copied};
 ghost use Rattle.std.specs.Io.{ReadsAtMost};
 ghost use Rattle.std.specs.FinMap as map;
-ghost use Rattle.outside.specs.Outside.{Creates, Grows, Gains, GivesPiece, Rose, HasCause, ReadHasCause, IsStray, IsHeld};
+ghost use Rattle.outside.specs.Outside.{Creates, Grows, Gains, GivesPiece, Rose, HasCause, ReadHasCause, IsStray};
+ghost use Rattle.outside.specs.Outside.{IsHeld};
 ghost use Rattle.outside.specs.Piece.{TakesPiece};
 ghost use Rattle.outside_doubles.specs.Memory.{files_of, counted};
 
@@ -18,7 +20,8 @@ type Texts = BTreeMap<String, Vec<u8>>;
 
 // Sets a file.
 fn set_text(files: &mut Texts, alloc: Global, name: &str, text: Vec<u8>) -> Result<(), AllocError>
-    ensures ok { OnOk result (files_of files.new.entries ≡ map.insert (files_of files.old.entries) name.now text.items) }
+    ensures ok { OnOk result (files_of files.new.entries
+        ≡ map.insert (files_of files.old.entries) name.now text.items) }
     ensures err { OnErr result (files_of files.new.entries ≡ files_of files.old.entries) }
 {
     let key = String::from_str(alloc, name)?;
@@ -151,7 +154,8 @@ impl Depot for MemDepot {
         ensures bound { ReadsAtMost result buf.new }
         ensures held { files self.new ≡ files self.old }
         ensures bytes { IfOk result (λ n. GivesPiece (map.get (files self.new) name.now) at n buf.new) }
-        ensures cause { ReadHasCause self.old.read_faults self.new.read_faults (map.get (files self.new) name.now ≡ None) result }
+        ensures cause { ReadHasCause self.old.read_faults self.new.read_faults
+            (map.get (files self.new) name.now ≡ None) result }
         ensures writes { self.new.write_faults ≡ self.old.write_faults }
         ensures listed { IsTrue (next_fails self.old) → IsErr result }
         ensures failed { OnErr result (IsTrue (next_fails self.old) ⊎ (map.get (files self.old) name.now ≡ None)) }

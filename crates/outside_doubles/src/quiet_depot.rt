@@ -1,10 +1,12 @@
 //! Files in memory whose calls never fail.
 
-ghost use Rattle.std.specs.Prelude.{◌≡◌, ◌≤◌, ◌+◌, ◌*◌, ◌++◌, ℕ, List, [], length, true, None, Ok, IsErr, OnErr, OnOk, IfOk, IfSome, IsOk, nat_le, vec_len, vec_capacity, if◌then◌else◌, Some};
+ghost use Rattle.std.specs.Prelude.{◌≡◌, ◌≤◌, ◌+◌, ◌*◌, ◌++◌, ℕ, List, [], length, true, None, Ok, IsErr, OnErr};
+ghost use Rattle.std.specs.Prelude.{OnOk, IfOk, IfSome, IsOk, nat_le, vec_len, vec_capacity, if◌then◌else◌, Some};
 ghost use Rattle.std.specs.Option.{option_map};
 ghost use Rattle.std.specs.Io.{ReadsAtMost};
 ghost use Rattle.std.specs.FinMap as map;
-ghost use Rattle.outside.specs.Outside.{Creates, Grows, GivesPiece, HasCause, ReadHasCause, IsStray, IsHeld, Keeps, WhereTold, bytes_of};
+ghost use Rattle.outside.specs.Outside.{Creates, Grows, GivesPiece, HasCause, ReadHasCause, IsStray, IsHeld, Keeps};
+ghost use Rattle.outside.specs.Outside.{WhereTold, bytes_of};
 ghost use Rattle.outside.specs.Piece.{TakesPiece};
 ghost use Rattle.outside_doubles.specs.Quiet.{room_after, told_after};
 ghost use Rattle.outside_doubles.specs.QuietLog.{are_parts, files_in};

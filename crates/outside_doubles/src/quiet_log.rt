@@ -1,6 +1,7 @@
 //! A log of what files were set to and what they gained. Its names and texts are parts of one run of bytes.
 
-ghost use Rattle.std.specs.Prelude.{◌≡◌, ◌≤◌, ◌+◌, ◌++◌, ℕ, List, [], ◌∷◌, length, take, IfSome, IfNone, None, true, vec_len, vec_capacity, if◌then◌else◌};
+ghost use Rattle.std.specs.Prelude.{◌≡◌, ◌≤◌, ◌+◌, ◌++◌, ℕ, List, [], ◌∷◌, length, take, IfSome, IfNone, None};
+ghost use Rattle.std.specs.Prelude.{true, vec_len, vec_capacity, if◌then◌else◌};
 ghost use Rattle.std.specs.FinMap as map;
 ghost use Rattle.outside.specs.Outside.{GivesPiece};
 ghost use Rattle.outside_doubles.specs.QuietLog.{part_of, is_part, are_parts, files_in};

@@ -16,8 +16,8 @@ pub fn checked(alloc: Global, text: &[u8]) -> Option<Checked> {
     check_source(alloc, text).ok()
 }
 
-/// The stimulus of a text for the pads of a program, or none where it breaks a rule or is longer than a million bytes, or
-/// where the program has more than a thousand inputs.
+/// The stimulus of a text for the pads of a program, or none where it breaks a rule or is longer than a million
+/// bytes, or where the program has more than a thousand inputs.
 pub fn stimulus_for(alloc: Global, text: &[u8], program: &Checked) -> Option<Stimulus> {
     let pads = program.pads();
     if text.len() > MOST_BYTES || pads.inputs.len() > 1000 {

@@ -34,7 +34,8 @@ use Rattle.mask_pieces.proofs.CutUp.{tile_colour, tiled_metal, tiled_polysilicon
 use Rattle.mask_pieces.proofs.CutUp.{channel_in, channel_layer, are_pieces}
 use Rattle.piece_classes.proofs.Owning.{same_chain}
 use Rattle.piece_classes.proofs.Linked.{EdgeLink, link_turned, edge_link, edge_chain, Through, through_turned}
-use Rattle.piece_classes.proofs.Linked.{conductors_over_edge, channels_over_edge, conductors_through, no_channel_through}
+use Rattle.piece_classes.proofs.Linked.{conductors_over_edge, channels_over_edge}
+use Rattle.piece_classes.proofs.Linked.{conductors_through, no_channel_through}
 use Rattle.piece_classes.proofs.Linked.{in_corner, conducting_layer, two_layers}
 
 pub not_conductor : (p : Part) → p ≢ Conductor → is_conductor p ≡ false

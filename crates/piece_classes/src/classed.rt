@@ -27,7 +27,8 @@ pub struct Classed {
 /// count as want of memory.
 pub fn classify(alloc: Global, masks: &Masks, cut: &Cut) -> Result<Classed, NoMemory>
     ghost drawn: { List Rect × List Point }
-    requires masks { AreMasks drawn.0 drawn.1 masks.now.contacts masks.now.metal masks.now.polysilicon masks.now.diffusion }
+    requires masks { AreMasks drawn.0 drawn.1 masks.now.contacts masks.now.metal masks.now.polysilicon
+        masks.now.diffusion }
     requires cut { IsCutOf masks.now.metal masks.now.polysilicon masks.now.diffusion cut.now }
     ensures { IfOk result (λ c. AreClassed drawn.0 cut.now.pieces c.nodes c.channels) }
 {

@@ -20,7 +20,8 @@ pub(crate) fn link_contacts(
     requires metal { length contacts.now ≤ length metal.now }
     requires polysilicon { length contacts.now ≤ length polysilicon.now }
     requires diffusion { length contacts.now ≤ length diffusion.now }
-    ensures { OnOk result (Gains links.old links.new (IsContactLink contacts.now metal.now polysilicon.now diffusion.now (length contacts.now))) }
+    ensures { OnOk result (Gains links.old links.new
+        (IsContactLink contacts.now metal.now polysilicon.now diffusion.now (length contacts.now))) }
 {
     for (i, contact) in contacts.iter().enumerate() {
         let upper = if_joined(contact.colour, Layer::NM, metal[i]);

@@ -26,7 +26,9 @@ pub(crate) fn link_all(
     requires metal_over { length masks.now.contacts.tiles ≤ length metal.now.over }
     requires polysilicon_over { length masks.now.contacts.tiles ≤ length polysilicon.now.over }
     requires diffusion_over { length masks.now.contacts.tiles ≤ length diffusion.now.over }
-    ensures { IfOk result (λ v. AreAllLinks masks.now.metal.pairs masks.now.polysilicon.pairs masks.now.diffusion.pairs masks.now.contacts.tiles pieces.now metal.now.numbers polysilicon.now.numbers diffusion.now.numbers metal.now.over polysilicon.now.over diffusion.now.over v) }
+    ensures { IfOk result (λ v. AreAllLinks masks.now.metal.pairs masks.now.polysilicon.pairs masks.now.diffusion.pairs
+        masks.now.contacts.tiles pieces.now metal.now.numbers polysilicon.now.numbers diffusion.now.numbers
+        metal.now.over polysilicon.now.over diffusion.now.over v) }
 {
     // There are about as many links as pieces.
     let mut links = List::from_vec(Vec::with_capacity(alloc, pieces.len())?);

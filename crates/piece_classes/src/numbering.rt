@@ -23,10 +23,12 @@ pub(crate) fn number(
 ) -> Result<Classes, NoMemory>
     requires as_many { length least.now ≡ length pieces.now }
     requires below { (k : ℕ) → k < length least.now → get_or least.now k 0 ≤ k }
-    requires stay { (k : ℕ) → k < length least.now → Conducts pieces.now conducting k → Conducts pieces.now conducting (get_or least.now k 0) }
+    requires stay { (k : ℕ) → k < length least.now → Conducts pieces.now conducting k
+        → Conducts pieces.now conducting (get_or least.now k 0) }
     requires still { (k : ℕ) → k < length least.now → get_or least.now (get_or least.now k 0) 0 ≡ get_or least.now k 0 }
     ensures roots { IfOk result (λ c. AreRoots (Conducts pieces.now conducting) least.now (length least.now) c.roots) }
-    ensures numbers { IfOk result (λ c. AreNumbers (Conducts pieces.now conducting) least.now (length least.now) c.roots c.numbers) }
+    ensures numbers { IfOk result
+        (λ c. AreNumbers (Conducts pieces.now conducting) least.now (length least.now) c.roots c.numbers) }
 {
     let mut classes = Classes {
         roots: List::new(alloc),
@@ -48,7 +50,8 @@ pub(crate) fn number(
 impl Classes {
     // Adds a class, and gives its number.
     fn add_root(&mut self, root: u32) -> Result<u32, NoMemory>
-        ensures { IfOk result (λ n. (n ≡ length self.old.roots) × (self.new ≡ record self.old { roots = self.old.roots ++ root ∷ [] })) }
+        ensures { IfOk result (λ n. (n ≡ length self.old.roots)
+            × (self.new ≡ record self.old { roots = self.old.roots ++ root ∷ [] })) }
     {
         let Ok(number) = u32::try_from(self.roots.len()) else {
             return Err(NoMemory);

@@ -16,7 +16,8 @@ pub(crate) fn link_touching(
 ) -> Result<(), NoMemory>
     requires tiles { All (λ p. (p.a < length numbers.now) × (p.b < length numbers.now)) touching.now }
     requires pieces { All (λ k. k < length pieces.now) numbers.now }
-    ensures { OnOk result (Gains links.old links.new (IsTouchLink touching.now numbers.now pieces.now (length touching.now))) }
+    ensures { OnOk result (Gains links.old links.new
+        (IsTouchLink touching.now numbers.now pieces.now (length touching.now))) }
 {
     for pair in touching {
         let a = numbers[pair.a as usize];

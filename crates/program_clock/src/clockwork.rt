@@ -76,7 +76,8 @@ impl<'a> Clockwork<'a> {
         let _ = &self.program;
     }
 
-    /// Runs one clock, in an order of evaluation: gives the values of the input pads, and takes those of the output pads.
+    /// Runs one clock, in an order of evaluation: gives the values of the input pads, and takes those of the output
+    /// pads.
     pub fn clock(&mut self, order: &[u32], inputs: &Inputs, outputs: &mut Outputs)
         requires ordered { IsOrder self.old.program order.now }
         requires outputs { length outputs.old ≡ length (output_pads self.old.program) }

@@ -1,6 +1,7 @@
 //! What lasts from clock to clock.
 
-ghost use Rattle.std.specs.Prelude.{◌≡◌, ◌+◌, ◌<◌, ◌∷◌, ◌++◌, [], length, take, drop, replicate, map, slice_index, IfOk};
+ghost use Rattle.std.specs.Prelude.{◌≡◌, ◌+◌, ◌<◌, ◌∷◌, ◌++◌, [], length, take, drop, replicate, map, slice_index};
+ghost use Rattle.std.specs.Prelude.{IfOk};
 ghost use Rattle.mp_program.specs.State.{zero_seat};
 ghost use Rattle.mp_program.specs.Step.{wrapped};
 ghost use Rattle.program_clock.specs.Remembered.{seat_of, emptied};

@@ -25,7 +25,8 @@ pub(crate) fn advance(
     requires placed { AllByRecursion (λ f. f < length program.now.forms) places.now }
     requires size { length stored.old ≡ length program.now.defs }
     requires bare { IsBare program.now.defs stored.old }
-    ensures { stored.new ≡ next_stored (flat_map (effects_of program.now env.now) (program.now.always ++ places.now)) 0 program.now.defs stored.old }
+    ensures { stored.new ≡ next_stored
+        (flat_map (effects_of program.now env.now) (program.now.always ++ places.now)) 0 program.now.defs stored.old }
 {
     for k in 0..links.stored.len() {
         let target = links.stored[k];

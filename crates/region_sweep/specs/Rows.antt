@@ -38,7 +38,8 @@ pub record AreRaised (blocks : List Block) (row raised : ℕ) (cover : Cover) : 
   pub begun : (k : ℕ) → k < raised → (block blocks k).low ≤ row
   pub tops : (l : Layer) (c z : ℕ) → (z < cover.top l c) ↔ ((k : ℕ) × (k < raised) × ReachesOver (block blocks k) l c z)
 
--- the mask uses the blocks, which lie before the last of so many cells and stand in the order of the rows where they begin
+-- the mask uses the blocks, which lie before the last of so many cells and stand in the order of the rows where they
+-- begin
 pub record AreWithin (mask : Mask) (cells : ℕ) (blocks : List Block) : Type 0 where
   pub used : All (λ b. uses mask b.layer ≡ true) blocks
   pub within : All (λ b. b.right < cells) blocks

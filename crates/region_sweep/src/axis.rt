@@ -9,8 +9,8 @@ use std::alloc::Global;
 
 const MOST_CELLS: usize = (1 << 31) - 1;
 
-/// Different coordinates in order, so few that there are less than 2^31 cells. They cut the axis into cells, each from its
-/// mark up to the next; cell 0 is before the first mark.
+/// Different coordinates in order, so few that there are less than 2^31 cells. They cut the axis into cells, each
+/// from its mark up to the next; cell 0 is before the first mark.
 #[derive(Drop)]
 pub(crate) struct Axis {
     marks: Vec<i64>,

@@ -48,8 +48,10 @@ impl Grid {
         mask: Mask,
     ) -> Result<Vec<Block>, NoMemory>
         requires { AreDrawn self.now.columns.marks.items self.now.rows.marks.items mask shapes.now }
-        ensures blocks { IfOk result (λ v. AreBlocks self.now.columns.marks.items self.now.rows.marks.items mask shapes.now v.items) }
-        ensures stacked { IfOk result (λ v. AreStacked mask (length self.now.columns.marks.items + 1) (length self.now.rows.marks.items + 1) v.items) }
+        ensures blocks { IfOk result
+            (λ v. AreBlocks self.now.columns.marks.items self.now.rows.marks.items mask shapes.now v.items) }
+        ensures stacked { IfOk result (λ v. AreStacked mask (length self.now.columns.marks.items + 1)
+            (length self.now.rows.marks.items + 1) v.items) }
     {
         let mut blocks = List::new(alloc);
         for shape in shapes {
@@ -88,7 +90,8 @@ impl Grid {
     /// The tiles of strips.
     pub(crate) fn tiles(&self, alloc: Global, strips: &[Strip]) -> Result<List<Tile>, NoMemory>
         requires { All (IsFit self.now.columns.marks.items self.now.rows.marks.items) strips.now }
-        ensures { IfOk result (λ v. v ≡ map (tile_of self.now.columns.marks.items self.now.rows.marks.items) strips.now) }
+        ensures { IfOk result (λ v. v
+            ≡ map (tile_of self.now.columns.marks.items self.now.rows.marks.items) strips.now) }
     {
         let mut tiles = List::new(alloc);
         for strip in strips {
@@ -112,7 +115,8 @@ impl Grid {
 
     /// The spots of places, lowest rows first.
     pub(crate) fn spots(&self, alloc: Global, places: &[Point]) -> Result<Vec<Spot>, NoMemory>
-        ensures spots { IfOk result (λ v. AreSpots self.now.columns.marks.items self.now.rows.marks.items places.now v.items) }
+        ensures spots { IfOk result
+            (λ v. AreSpots self.now.columns.marks.items self.now.rows.marks.items places.now v.items) }
         ensures ascending { IfOk result (λ v. IsNonDecreasingBy (λ s. s.row) v.items) }
     {
         let mut spots = List::new(alloc);

@@ -11,7 +11,8 @@ use mask_runs::Run;
 pub(crate) fn repaint(stretches: &[Run], kept: &mut KeptRuns)
     requires wide { All (λ s. s.left < s.right) stretches.now }
     requires within { All (λ s. s.right ≤ width_of kept.old) stretches.now }
-    ensures painted { (colour : ℕ → ℕ) → HaveColours colour stretches.now → IsRepainted colour kept.old kept.new stretches.now }
+    ensures painted { (colour : ℕ → ℕ) → HaveColours colour stretches.now
+        → IsRepainted colour kept.old kept.new stretches.now }
     ensures cells { width_of kept.new ≡ width_of kept.old }
 {
     for stretch in stretches {

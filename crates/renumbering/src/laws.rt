@@ -1,6 +1,7 @@
 //! Laws of renumbered networks, for the proofs of crates above. A call of one does nothing.
 
-ghost use Rattle.renumbering.specs.Laws.{RenumberingsTurn, RenumberingsCompose, SameTurns, SameComposes, SettlesAlike, RunsAlike};
+ghost use Rattle.renumbering.specs.Laws.{RenumberingsTurn, RenumberingsCompose, SameTurns, SameComposes};
+ghost use Rattle.renumbering.specs.Laws.{SettlesAlike, RunsAlike};
 
 use switch_net::networks_settle;
 

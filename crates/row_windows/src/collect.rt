@@ -10,8 +10,8 @@ use kept_runs::KeptRuns;
 use mask_runs::Run;
 use mp_base::NoMemory;
 
-/// The runs of the row in the windows, from left to right, in place of those that the list has. `piece` is room for those of
-/// one window.
+/// The runs of the row in the windows, from left to right, in place of those that the list has. `piece` is room for
+/// those of one window.
 pub fn collect_windows(
     kept: &KeptRuns,
     windows: &[Window],

@@ -39,8 +39,8 @@ pub enum RtlExpr {
     Apply { op: Op, index: u64, args: List<u32> },
 }
 
-/// Guarded transfers between cells. `order` is an order in which the driven cells can be evaluated, and `reset` the cell
-/// of the input signal `reset`.
+/// Guarded transfers between cells. `order` is an order in which the driven cells can be evaluated, and `reset` the
+/// cell of the input signal `reset`.
 #[derive(Drop)]
 pub struct Rtl {
     pub width: u8,

@@ -50,7 +50,8 @@ fn renew(
     requires ones { ones.now.room ≡ nodes_of board.now }
     requires waits { length waits.old ≡ nodes_of board.now }
     requires apart { (n : ℕ) → Contains zeros.now.members n → Contains ones.now.members n → ⊥ }
-    ensures { Renews (driver_at board.now.drive.now) board.now.gated.now zeros.now.members ones.now.members cluster.now.members values.old values.new waits.old waits.new }
+    ensures { Renews (driver_at board.now.drive.now) board.now.gated.now zeros.now.members ones.now.members
+        cluster.now.members values.old values.new waits.old waits.new }
 {
     for node in cluster.as_slice() {
         let value = verdict(zeros, ones, *node);

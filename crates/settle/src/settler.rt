@@ -40,7 +40,9 @@ impl Model for Settler {
 
     ghost view = { λ s. record { network = s.network; values = s.values.items } };
 
-    ghost invariant = { λ s. AreSized s.network s.at.items s.gated.items s.values.items s.before.items s.last.items s.sets s.marks.items × AreReady s.network s.orders × (s.is_at_rest ≡ true → AreAtRest s.network s.last.items s.values.items) };
+    ghost invariant = { λ s. AreSized s.network s.at.items s.gated.items s.values.items s.before.items s.last.items
+        s.sets s.marks.items × AreReady s.network s.orders
+        × (s.is_at_rest ≡ true → AreAtRest s.network s.last.items s.values.items) };
 }
 
 impl Settler {
@@ -97,7 +99,11 @@ impl Settler {
         requires { length drive.now ≡ self.old.network.nodes }
         ensures network { self.new.network ≡ self.old.network }
         ensures sized { length self.new.values ≡ self.old.network.nodes }
-        ensures settled { IsSettled (record { channels = self.old.network.channels; driver = driver_at drive.now; before = value_at self.old.values }) (value_at self.new.values) }
+        ensures settled { IsSettled (record {
+          channels = self.old.network.channels;
+          driver = driver_at drive.now;
+          before = value_at self.old.values;
+        }) (value_at self.new.values) }
     {
         networks_settle();
         self.before.copy_from_slice(&self.values);

@@ -57,7 +57,8 @@ fn change(board: &Board<'_>, node: u32, values: &mut [Trit], waits: &mut [bool])
     requires moment { IsMoment board.now values.old }
     requires node { node < nodes_of board.now }
     requires waits { length waits.old ≡ nodes_of board.now }
-    ensures { Redrives board.now.network.now.channels board.now.gated.now board.now.drive.now node values.old values.new waits.old waits.new }
+    ensures { Redrives board.now.network.now.channels board.now.gated.now board.now.drive.now node values.old
+        values.new waits.old waits.new }
 {
     wake_beside(board, node, waits);
     match board.drive[node as usize] {
@@ -76,7 +77,8 @@ fn change_all(board: &Board<'_>, last: &[Option<Trit>], values: &mut [Trit], wai
     requires last { length last.now ≡ nodes_of board.now }
     requires none { (n : ℕ) → IsMarked waits.old n → ⊥ }
     requires driven { (n : ℕ) (t : TritValue) → driver_at last.now n ≡ Some t → value_at values.old n ≡ t }
-    ensures { RedrivesFirst board.now.network.now.channels board.now.gated.now last.now board.now.drive.now (nodes_of board.now) values.old values.new waits.new }
+    ensures { RedrivesFirst board.now.network.now.channels board.now.gated.now last.now board.now.drive.now
+        (nodes_of board.now) values.old values.new waits.new }
 {
     for node in 0..board.network.nodes {
         if !is_same(board.drive[node as usize], last[node as usize]) {

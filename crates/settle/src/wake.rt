@@ -31,7 +31,8 @@ pub(crate) fn wake(nodes: &[u32], drive: &[Option<Trit>], waits: &mut [bool])
 
 /// Lets the undriven ends of the channels at a node wait.
 pub(crate) fn wake_beside(board: &Board<'_>, node: u32, waits: &mut [bool])
-    requires linked { AreLinked board.now.network.now.channels (length board.now.network.now.channels) board.now.at.now }
+    requires linked { AreLinked board.now.network.now.channels
+        (length board.now.network.now.channels) board.now.at.now }
     requires node { node < length board.now.at.now }
     requires waits { length board.now.drive.now ≡ length waits.old }
     ensures widens { Widens (driver_at board.now.drive.now) waits.old waits.new }

@@ -82,7 +82,8 @@ pub(crate) fn evaluate(
     ensures fewer { unknown values.new ≤ unknown values.old }
     ensures same { IsFalse result → values.new ≡ values.old }
     ensures stuck { IsFalse result → IsStuck (setting_of board.now) (value_at values.old) node }
-    ensures marked { IsFalse result → (n : ℕ) → IsMarked looked.new n → IsMarked looked.old n ⊎ IsStuck (setting_of board.now) (value_at values.old) n }
+    ensures marked { IsFalse result → (n : ℕ) → IsMarked looked.new n → IsMarked looked.old n
+        ⊎ IsStuck (setting_of board.now) (value_at values.old) n }
 {
     sets.fill(board, values, node);
     mark(&sets.cluster, looked);

@@ -83,7 +83,8 @@ fn pass(
     ensures sets { HaveRoom (nodes_of board.now) sets.new }
     ensures climbs { Climbs (setting_of board.now) (value_at values.new) }
     ensures more { IsTrue result → unknown values.new < unknown values.old }
-    ensures stuck { IsFalse result → (n : ℕ) → n < nodes_of board.now → IsStuck (setting_of board.now) (value_at values.new) n }
+    ensures stuck { IsFalse result → (n : ℕ) → n < nodes_of board.now
+        → IsStuck (setting_of board.now) (value_at values.new) n }
 {
     nodes_are_given();
     looked.fill(false);

@@ -30,7 +30,8 @@ fn level(ends: &[u32], demands: &[Demand], ranks: &[u32]) -> u32
 fn are_level(ends: &[u32], demands: &[Demand], ranks: &[u32], rank: u32) -> bool
     requires ends { All (λ e. e < length demands.now) ends.now }
     requires ranks { length ranks.now ≡ length demands.now }
-    ensures { IsTrue result → (e : ℕ) → Contains ends.now e → demand_at demands.now e ≡ Undriven → rank_at ranks.now e ≡ rank }
+    ensures { IsTrue result → (e : ℕ) → Contains ends.now e → demand_at demands.now e ≡ Undriven
+        → rank_at ranks.now e ≡ rank }
 {
     for end in ends {
         if is_undriven(demands[*end as usize]) && ranks[*end as usize] != rank {

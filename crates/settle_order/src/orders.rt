@@ -145,7 +145,8 @@ impl Orders {
         requires sound { AreSound network.now.channels self.old }
         ensures room { self.new.room ≡ self.old.room }
         ensures sound { AreSound network.now.channels self.new }
-        ensures order { IsTrue result → (before : ℕ → TritValue) → HasOrder (record { channels = network.now.channels; driver = driver_at drive.now; before = before }) }
+        ensures order { IsTrue result → (before : ℕ → TritValue)
+            → HasOrder (record { channels = network.now.channels; driver = driver_at drive.now; before = before }) }
     {
         if self.recall(drive) {
             return true;

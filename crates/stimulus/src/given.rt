@@ -38,7 +38,8 @@ impl Stimulus {
         requires places { length into.old ≡ length self.now.pads.inputs }
         requires few { length into.old < 2 ^ 32 }
         ensures len { length into.new ≡ length into.old }
-        ensures values { EachIndex into.new (λ i. slice_index into.new i ≡ value_given (slice_index_or self.now.clocks clock []) i) }
+        ensures values { EachIndex into.new
+            (λ i. slice_index into.new i ≡ value_given (slice_index_or self.now.clocks clock []) i) }
     {
         clear(into);
         for given in self.clocks.at(clock).as_slice() {

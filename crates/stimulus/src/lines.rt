@@ -3,7 +3,9 @@
 ghost use Rattle.std.specs.Prelude.{◌≡◌, ◌↔◌, IsTrue, ◌+◌, ◌<◌, ◌≤◌, ◌^◌, List, length, OnOk, IfOk, IfErr};
 ghost use Rattle.std.specs.Option.{option_copied};
 ghost use Rattle.stimulus_lines.specs.declared.form.Form.TheVariants.{Input, Output, Clock};
-ghost use Rattle.stimulus.specs.Rules.{is_new_pad, is_known, IsFull, start_of, second_of, inputs_of, IsGiven, IsMisfit, AreGiven, FirstMisfit, IsFault, IsInPlace, AddsForm, FormFault, Adds, FirstIn};
+ghost use Rattle.stimulus.specs.Rules.{is_new_pad, is_known, IsFull, start_of, second_of, inputs_of, IsGiven};
+ghost use Rattle.stimulus.specs.Rules.{IsMisfit, AreGiven, FirstMisfit, IsFault, IsInPlace, AddsForm, FormFault};
+ghost use Rattle.stimulus.specs.Rules.{Adds, FirstIn};
 ghost use Rattle.stimulus.specs.Reading.{nothing};
 
 use crate::fault::Fault;
@@ -118,8 +120,10 @@ impl Reading {
     }
 
     fn add_input(&mut self, line: &[Piece], pad: Pad, known: Option<&Pads>) -> Result<(), Fault>
-        ensures ok { OnOk result (IsInPlace self.old (Input pad) × AddsForm (option_copied known.entry) self.old (Input pad) self.new) }
-        ensures err { IfErr result (λ e. IsFault e (FormFault (option_copied known.entry) self.old line.now (Input pad))) }
+        ensures ok { OnOk result (IsInPlace self.old (Input pad)
+            × AddsForm (option_copied known.entry) self.old (Input pad) self.new) }
+        ensures err { IfErr result
+            (λ e. IsFault e (FormFault (option_copied known.entry) self.old line.now (Input pad))) }
     {
         if !self.is_new_pad(pad.name.bytes()) {
             return Err(Fault::Breaks(1, start_of(line)));
@@ -132,8 +136,10 @@ impl Reading {
     }
 
     fn add_output(&mut self, line: &[Piece], pad: Pad, known: Option<&Pads>) -> Result<(), Fault>
-        ensures ok { OnOk result (IsInPlace self.old (Output pad) × AddsForm (option_copied known.entry) self.old (Output pad) self.new) }
-        ensures err { IfErr result (λ e. IsFault e (FormFault (option_copied known.entry) self.old line.now (Output pad))) }
+        ensures ok { OnOk result (IsInPlace self.old (Output pad)
+            × AddsForm (option_copied known.entry) self.old (Output pad) self.new) }
+        ensures err { IfErr result
+            (λ e. IsFault e (FormFault (option_copied known.entry) self.old line.now (Output pad))) }
     {
         if !self.is_new_pad(pad.name.bytes()) {
             return Err(Fault::Breaks(1, start_of(line)));
@@ -153,8 +159,10 @@ impl Reading {
         known: Option<&Pads>,
     ) -> Result<(), Fault>
         requires { length (inputs_of (option_copied known) self.old) < 2 ^ 32 }
-        ensures ok { OnOk result (IsInPlace self.old (Clock words.entry) × AddsForm (option_copied known.entry) self.old (Clock words.entry) self.new) }
-        ensures err { IfErr result (λ e. IsFault e (FormFault (option_copied known.entry) self.old line.now (Clock words.entry))) }
+        ensures ok { OnOk result (IsInPlace self.old (Clock words.entry)
+            × AddsForm (option_copied known.entry) self.old (Clock words.entry) self.new) }
+        ensures err { IfErr result
+            (λ e. IsFault e (FormFault (option_copied known.entry) self.old line.now (Clock words.entry))) }
     {
         if !are_apart(alloc, words.as_slice())? {
             return Err(Fault::Breaks(1, start_of(line)));

@@ -27,7 +27,8 @@ fn add_line(
 ) -> Result<(), Fault>
     requires { length (inputs_of (option_copied known) reading.old) < 2 ^ 32 }
     ensures ok { OnOk result (Reads (option_copied known.entry) reading.old (kept_before words.now []) reading.new) }
-    ensures err { IfErr result (λ e. IsFault e (FirstBroken (option_copied known.entry) reading.old (kept_before words.now []))) }
+    ensures err { IfErr result
+        (λ e. IsFault e (FirstBroken (option_copied known.entry) reading.old (kept_before words.now []))) }
 {
     if is_skipped(words) {
         return Ok(());
@@ -106,7 +107,8 @@ fn stimulus_of(alloc: Global, reading: Reading, known: Option<&Pads>) -> Result<
 ///
 /// # Errors
 ///
-/// S1 to S4, the first that the text breaks, at its place: line by line, and in a line S4, S1, then S2 and S3 word by word.
+/// S1 to S4, the first that the text breaks, at its place: line by line, and in a line S4, S1, then S2 and S3 word by
+/// word.
 pub fn read_stimulus(alloc: Global, bytes: &[u8], known: Option<&Pads>) -> Result<Stimulus, Refusal>
     requires short { length bytes.now + 1 < 2 ^ 32 }
     requires few { IfSome known (λ pads. length pads.now.inputs < 2 ^ 32) }

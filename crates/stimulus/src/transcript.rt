@@ -33,7 +33,8 @@ fn write_value<O: Sink>(out: &mut O, pad: &Pad, value: TritWord) -> Result<(), F
 }
 
 fn write_pad<O: Sink>(out: &mut O, pad: &Pad, value: TritWord) -> Result<(), Failed>
-    ensures taken { TakesAll Gains (O.held out.old) (O.held out.new) (pad_text pad.now (pad_trits pad.now value)) result }
+    ensures taken { TakesAll Gains (O.held out.old) (O.held out.new)
+        (pad_text pad.now (pad_trits pad.now value)) result }
     ensures cause { HasCause (O.faults out.old) (O.faults out.new) result }
 {
     write_all(out, b" ")?;
@@ -51,7 +52,8 @@ pub fn line<O: Sink>(
     out: &mut O,
 ) -> Result<(), Failed>
     requires { length values.now ≡ length pads.now.outputs }
-    ensures taken { TakesAll Gains (O.held out.old) (O.held out.new) (line_text clock pads.now.outputs (trits_of pads.now.outputs values.now)) result }
+    ensures taken { TakesAll Gains (O.held out.old) (O.held out.new)
+        (line_text clock pads.now.outputs (trits_of pads.now.outputs values.now)) result }
     ensures cause { HasCause (O.faults out.old) (O.faults out.new) result }
 {
     let mut buffer = Buffer::new();

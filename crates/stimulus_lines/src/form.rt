@@ -3,7 +3,8 @@
 ghost use Rattle.std.specs.Prelude.{◌≡◌, ◌≢◌, ℕ, ◌<◌, length, slice_index, IfOk, MatchOption};
 ghost use Rattle.std.specs.List.{list_all};
 ghost use Rattle.mp_base.specs.Token.{is_token};
-ghost use Rattle.stimulus_lines.specs.Forms.{is_name, is_clock, IsNumber, IsWidth, IsAssignment, AreAssignments, IsPad, IsForm};
+ghost use Rattle.stimulus_lines.specs.Forms.{is_name, is_clock, IsNumber, IsWidth, IsAssignment, AreAssignments};
+ghost use Rattle.stimulus_lines.specs.Forms.{IsPad, IsForm};
 
 use crate::part::Part;
 use crate::piece::Piece;
@@ -71,7 +72,8 @@ fn width(word: &[u8]) -> Option<u8>
 /// The place of the last `=`.
 fn last_equals(word: &[u8]) -> Option<usize>
     ensures { MatchOption result ((k : ℕ) → k < length word.now → slice_index word.now k ≢ 61)
-        (λ i. (i < length word.now) × (slice_index word.now i ≡ 61) × ((k : ℕ) → i < k → k < length word.now → slice_index word.now k ≢ 61)) }
+        (λ i. (i < length word.now) × (slice_index word.now i ≡ 61)
+        × ((k : ℕ) → i < k → k < length word.now → slice_index word.now k ≢ 61)) }
 {
     for i in (0..word.len()).rev() {
         if word[i] == b'=' {
@@ -106,7 +108,8 @@ fn read_assignments<'a>(
     alloc: Global,
     words: &[Piece<'a>],
 ) -> Result<Option<List<Assignment<'a>>>, AllocError>
-    ensures { IfOk result (λ found. MatchOption found ((xs : List Assignment) → AreAssignments words.now xs → ⊥) (AreAssignments words.now)) }
+    ensures { IfOk result (λ found.
+        MatchOption found ((xs : List Assignment) → AreAssignments words.now xs → ⊥) (AreAssignments words.now)) }
 {
     let mut all = List::new(alloc);
     for word in words {

@@ -1,6 +1,7 @@
 //! Lines, and their words.
 
-ghost use Rattle.std.specs.Prelude.{◌≡◌, ℕ, ◌+◌, ◌<◌, ◌≤◌, ◌^◌, true, false, cond, nat_lt, length, slice_index, slice_range, OnOk};
+ghost use Rattle.std.specs.Prelude.{◌≡◌, ℕ, ◌+◌, ◌<◌, ◌≤◌, ◌^◌, true, false, cond, nat_lt, length, slice_index};
+ghost use Rattle.std.specs.Prelude.{slice_range, OnOk};
 ghost use Rattle.std.specs.Str.Lines.{strip_carriage_return};
 ghost use Rattle.stimulus_lines.specs.Words.{is_blank, is_feed, is_skipped, words_of};
 
@@ -100,7 +101,8 @@ fn without_return(line: &[u8]) -> &[u8]
 pub fn line_at(text: &[u8], start: usize, end: usize) -> &[u8]
     requires order { start ≤ end }
     requires within { end ≤ length text.now }
-    ensures { result.now ≡ cond (nat_lt end (length text.now)) (strip_carriage_return (slice_range text.now start end)) (slice_range text.now start end) }
+    ensures { result.now ≡ cond (nat_lt end (length text.now)) (strip_carriage_return (slice_range text.now start end))
+        (slice_range text.now start end) }
 {
     let line = &text[start..end];
     if end < text.len() {

@@ -36,7 +36,8 @@ pub(crate) fn begin_strips(
 ) -> Result<(), NoMemory>
     requires known { All (λ r. r.left < length numbers.old.items) fresh.now }
     requires apart { AreApart fresh.now }
-    ensures { OnOk result (HaveBegun fresh.now (length fresh.now) row strips.old.items strips.new.items numbers.old.items numbers.new.items) }
+    ensures { OnOk result (HaveBegun fresh.now
+        (length fresh.now) row strips.old.items strips.new.items numbers.old.items numbers.new.items) }
 {
     for run in fresh {
         let Ok(number) = u32::try_from(strips.len()) else {

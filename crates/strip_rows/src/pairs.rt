@@ -19,8 +19,8 @@ pub(crate) fn next(number: u32) -> Result<u32, NoMemory>
     }
 }
 
-/// Adds the pairs of a strip that ends, of a run of the row below, and one that begins above it. The first that begins has
-/// this number.
+/// Adds the pairs of a strip that ends, of a run of the row below, and one that begins above it. The first that
+/// begins has this number.
 pub(crate) fn pair_upon(
     numbers: &[u32],
     first: u32,
@@ -31,7 +31,8 @@ pub(crate) fn pair_upon(
     requires known { All (λ r. r.left < length numbers.now) lost.now }
     requires lost { AreApart lost.now }
     requires fresh { AreApart fresh.now }
-    ensures { OnOk result (AreUpon numbers.now first lost.now fresh.now (length lost.now) (length fresh.now) pairs.old.items pairs.new.items) }
+    ensures { OnOk result (AreUpon numbers.now first lost.now fresh.now (length lost.now)
+        (length fresh.now) pairs.old.items pairs.new.items) }
 {
     let mut i = 0;
     let mut j = 0;
@@ -95,7 +96,8 @@ fn add_if_beside(
 ) -> Result<(), AllocError>
     requires left { left.left < length numbers.now }
     requires right { right.left < length numbers.now }
-    ensures { OnOk result (IsAddedIf (AreNew numbers.now first left right) (in_order (number numbers.now left) (number numbers.now right)) pairs.old.items pairs.new.items) }
+    ensures { OnOk result (IsAddedIf (AreNew numbers.now first left right)
+        (in_order (number numbers.now left) (number numbers.now right)) pairs.old.items pairs.new.items) }
 {
     if left.right != right.left {
         return Ok(());

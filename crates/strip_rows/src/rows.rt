@@ -44,13 +44,14 @@ impl StripRows {
         })
     }
 
-    /// Goes up one row, with runs of the row that was last and of the new one: at least those that only one of them has and
-    /// their neighbours in the new row. Past 2^32 rows or strips it is want of memory.
+    /// Goes up one row, with runs of the row that was last and of the new one: at least those that only one of them
+    /// has and their neighbours in the new row. Past 2^32 rows or strips it is want of memory.
     pub fn step(&mut self, old: &[Run], new: &[Run]) -> Result<(), NoMemory>
         requires old { LieInRow (cells_of self.old) old.now }
         requires new { LieInRow (cells_of self.old) new.now }
         ensures cells { OnOk result (cells_of self.new ≡ cells_of self.old) }
-        ensures swept { OnOk result ((colour : ℕ → ℕ → ℕ) (y : ℕ) → IsSwept colour y self.old → IsChange colour y old.now new.now
+        ensures swept { OnOk result ((colour : ℕ → ℕ → ℕ) (y : ℕ) → IsSwept colour y self.old
+            → IsChange colour y old.now new.now
             → IsSwept colour (y + 1) self.new) }
         ensures numbers { OnOk result (KeepNumbers (strips_of self.old) (strips_of self.new)) }
     {

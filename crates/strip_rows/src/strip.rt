@@ -2,8 +2,8 @@
 
 use union_find::Pair;
 
-/// The cells from column `left` up to `right` in the rows from `low` up to `high`, of one colour above 0; `right` and `high`
-/// are outside.
+/// The cells from column `left` up to `right` in the rows from `low` up to `high`, of one colour above 0; `right` and
+/// `high` are outside.
 #[derive(Clone, Copy, PartialEq, Eq, Debug)]
 pub struct Strip {
     pub left: u32,

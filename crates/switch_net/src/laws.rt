@@ -1,7 +1,9 @@
 //! Laws of networks, for the proofs of crates above. A call of one does nothing.
 
 ghost use Rattle.switch_net.specs.Cutting.{ChannelsFollowPieces, ConductorsFollowPieces};
-ghost use Rattle.switch_net.specs.Laws.{ChipLabelsDiffer, GivesAlongReach, GivesGrow, GivesOnce, OneFirstOfCircuit, OneFirstOfMask, OneNetwork, OneNumbering, SettledExists, SettledOnce, SettlesAgain, TraceExists, TraceOnce};
+ghost use Rattle.switch_net.specs.Laws.{ChipLabelsDiffer, GivesAlongReach, GivesGrow, GivesOnce, OneFirstOfCircuit};
+ghost use Rattle.switch_net.specs.Laws.{OneFirstOfMask, OneNetwork, OneNumbering, SettledExists, SettledOnce};
+ghost use Rattle.switch_net.specs.Laws.{SettlesAgain, TraceExists, TraceOnce};
 
 use lam_geom::rectangles_are_joined;
 

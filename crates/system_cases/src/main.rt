@@ -1,5 +1,5 @@
-//! What files and outputs answer of which no call is told to fail: the system's, writers that are soon full, and doubles
-//! that keep what is told to them as long as there is room.
+//! What files and outputs answer of which no call is told to fail: the system's, writers that are soon full, and
+//! doubles that keep what is told to them as long as there is room.
 #![tactic(auto)]
 
 mod files;

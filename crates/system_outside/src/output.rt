@@ -8,8 +8,8 @@ use std::io::Write;
 
 const ROOM: usize = 4096;
 
-/// An output over any writer, to which full rooms are given, and the rest at the end: a call of the system for each line
-/// would cost more than the line.
+/// An output over any writer, to which full rooms are given, and the rest at the end: a call of the system for each
+/// line would cost more than the line.
 #[derive(Drop)]
 pub struct OutSink<W> {
     inner: W,

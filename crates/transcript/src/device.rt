@@ -8,8 +8,8 @@ ghost use Rattle.stimulus.specs.Inputs.{Fit};
 
 use mp_base::{Inputs, Pads, TritOutputs};
 
-/// A device with pads. Which states follow on which, with which bits shown at which inputs, is a relation that belongs to
-/// the kind of device. The state includes the program or the network that it runs.
+/// A device with pads. Which states follow on which, with which bits shown at which inputs, is a relation that
+/// belongs to the kind of device. The state includes the program or the network that it runs.
 pub trait Device {
     ghost pads_of: { Self → PadsValue };
 

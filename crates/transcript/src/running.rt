@@ -23,7 +23,8 @@ fn step<D: Device, O: Sink>(
     requires clock { clock < length given.now.clocks }
     ensures pads { D.pads_of device.new ≡ given.now.pads }
     ensures room { HasRoom given.now.pads room.new }
-    ensures printed { PrintsClock D.steps given.now clock device.old device.new (O.held out.old) (O.held out.new) result }
+    ensures printed { PrintsClock D.steps given.now clock device.old device.new (O.held out.old)
+        (O.held out.new) result }
     ensures cause { HasCause (O.faults out.old) (O.faults out.new) result }
 {
     given.inputs(clock, &mut room.inputs);
@@ -31,12 +32,14 @@ fn step<D: Device, O: Sink>(
     line(clock, &given.pads, &room.outputs, out)
 }
 
-/// Runs a device along a stimulus from the state that it is in, and prints the line of each clock as it ends: its number,
-/// from 0, and ` NAME=VALUE` for each output pad, where the value is `X` exactly if one of its bits is unknown.
+/// Runs a device along a stimulus from the state that it is in, and prints the line of each clock as it ends: its
+/// number, from 0, and ` NAME=VALUE` for each output pad, where the value is `X` exactly if one of its bits is
+/// unknown.
 ///
 /// # Errors
 ///
-/// `Failed` where the sink failed: then the lines before the last clock that ran were printed whole, and its own in part.
+/// `Failed` where the sink failed: then the lines before the last clock that ran were printed whole, and its own in
+/// part.
 pub fn run<D: Device, O: Sink>(
     device: &mut D,
     given: &Stimulus,

@@ -47,7 +47,8 @@ fn join(parents: &mut [u32], a: u32, b: u32)
     requires a_in { a < length parents.old }
     requires b_in { b < length parents.old }
     requires below { IsBelow parents.old }
-    ensures moved { let r = root parents.old a in let s = root parents.old b in (k : ℕ) → root parents.new k ≡ moved (max r s) (min r s) (root parents.old k) }
+    ensures moved { let r = root parents.old a in let s = root parents.old b in (k : ℕ)
+        → root parents.new k ≡ moved (max r s) (min r s) (root parents.old k) }
     ensures still { IsBelow parents.new }
 {
     let r = find(parents, a);

@@ -3,7 +3,8 @@ use Rattle.std.specs.Option.{option_map}
 use Rattle.std.specs.FinMap.{insert}
 use Rattle.outside.specs.Outside.{Files}
 use Rattle.outside_doubles.specs.QuietLog.{files_in}
-use Rattle.outside_doubles.proofs.QuietLemmas.{entry_parts, entry_put, stays_part, put_is_part, kept_part, put_part, told_step}
+use Rattle.outside_doubles.proofs.QuietLemmas.{entry_parts, entry_put, stays_part, put_is_part}
+use Rattle.outside_doubles.proofs.QuietLemmas.{kept_part, put_part, told_step}
 use Rattle.outside_doubles.proofs.QuietLemmas.{told_same}
 use Rattle.outside_doubles.proofs.quiet_depot.QuietDepot.put.Goals as goal
 

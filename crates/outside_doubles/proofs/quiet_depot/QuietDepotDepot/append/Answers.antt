@@ -3,7 +3,8 @@ use Rattle.std.proofs.Math.Seq.{take-length}
 use Rattle.std.specs.FinMap.{insert}
 use Rattle.outside.specs.Outside.{Files, Grows, bytes_of}
 use Rattle.outside_doubles.specs.QuietLog.{part_of, is_part, files_in}
-use Rattle.outside_doubles.proofs.QuietLemmas.{entry_parts, entry_put, stays_part, put_is_part, kept_part, put_part, told_fits}
+use Rattle.outside_doubles.proofs.QuietLemmas.{entry_parts, entry_put, stays_part, put_is_part}
+use Rattle.outside_doubles.proofs.QuietLemmas.{kept_part, put_part, told_fits}
 use Rattle.outside_doubles.proofs.QuietLemmas.{told_step, where_told}
 use Rattle.outside_doubles.proofs.quiet_depot.QuietDepotDepot.append.Goals as goal
 
