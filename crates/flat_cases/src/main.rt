@@ -1,23 +1,18 @@
 //! A small path made by hand, flattened: its net, its rows, and what it settles to.
 #![tactic(auto)]
 
-mod hand;
 mod show;
 
-use hand::hand_path;
-use path_flat::flatten;
+use hand_path::flat_hand_path;
 use show::{show_net, show_rows, show_values};
 use std::io;
 
 fn main(rt: HostRuntime) -> io::Result<()> {
-    let Ok(path) = hand_path(rt.alloc()) else {
+    let Ok(flat) = flat_hand_path(rt.alloc()) else {
         return println!(rt; "not enough memory");
     };
-    let Some(path) = path else {
+    let Some(flat) = flat else {
         return println!(rt; "the names of the pads may not stand side by side");
-    };
-    let Ok(flat) = flatten(rt.alloc(), &path) else {
-        return println!(rt; "not enough memory");
     };
     show_net(&rt, &flat.net)?;
     show_rows(&rt, "inputs", &flat.inputs)?;

@@ -1,8 +1,8 @@
 use Rattle.std.proofs.Common.{subst}
 use Rattle.std.specs.Prelude.{IfSome}
-use Rattle.flat_cases.specs.Hand.{HasHandPads}
-use Rattle.flat_cases.proofs.HandPath.{hand_is_path}
-use Rattle.flat_cases.proofs.hand.hand_path.Goals as goal
+use Rattle.hand_path.specs.Hand.{HasHandPads}
+use Rattle.hand_path.proofs.HandPath.{hand_is_path}
+use Rattle.hand_path.proofs.hand.hand_path.Goals as goal
 
 pub invariant_of-result : goal.invariant_of-result
 invariant_of-result c =

@@ -1,7 +1,7 @@
 //! The path.
 
 ghost use Rattle.std.specs.Prelude.{◌≡◌, ◌≤◌, [], ◌∷◌, IfOk, IfSome};
-ghost use Rattle.flat_cases.specs.Hand.{HasHandPads, hand_control, hand_order, hand_parts, hand_slices, net};
+ghost use Rattle.hand_path.specs.Hand.{HasHandPads, hand_control, hand_order, hand_parts, hand_slices, net};
 
 use mp_base::{List, Name, NoMemory, Pad, Pads};
 use nor_net::{Net, NetId, Phase};

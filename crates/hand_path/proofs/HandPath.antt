@@ -21,8 +21,8 @@ use Rattle.path_form.specs.Nets.{band_nets, slice_part}
 use Rattle.path_form.specs.Shape.{AreInputs, EntriesFit, IsPath, PadsFit, chain_from, chain_to, control_ends}
 use Rattle.path_form.specs.Shape.{entries_of, is_fed, is_in, is_input, pieces_of, slice_ends, stands_behind, takes_pad}
 use Rattle.path_form.specs.Shape.{times}
-use Rattle.flat_cases.specs.Hand.{HasHandPads, hand_casts, hand_control, hand_inputs, hand_lifts, hand_order}
-use Rattle.flat_cases.specs.Hand.{hand_outputs, hand_parts, hand_slices, net}
+use Rattle.hand_path.specs.Hand.{HasHandPads, hand_casts, hand_control, hand_inputs, hand_lifts, hand_order}
+use Rattle.hand_path.specs.Hand.{hand_outputs, hand_parts, hand_slices, net}
 
 -- ---- the order
 
