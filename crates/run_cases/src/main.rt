@@ -2,6 +2,7 @@
 //! statuses over the system's files.
 #![tactic(auto)]
 
+use made_runs::show_numbers;
 use outcome::Status;
 use outside::{Depot, Sink};
 use run_ends::Runner;
@@ -38,5 +39,6 @@ fn main(rt: HostRuntime) -> io::Result<()> {
         &Whole,
         &["sources.txt", "masks.txt", "words.txt", "chips.txt"],
     )?;
+    show_numbers(&rt, &Whole, "numbers.txt")?;
     show_exits(&rt, &Whole, "exits.txt")
 }

@@ -1,6 +1,6 @@
 //! How runs end of which a call fails, in short.
 
-use crate::answer::{Outcome, answer};
+use crate::one_run::{Outcome, answer};
 use crate::runner::Runner;
 use mp_base::NoMemory;
 use outcome::Status;

@@ -2,12 +2,13 @@
 //! call fails.
 #![tactic(auto)]
 
-mod answer;
 mod ends;
 mod exit;
 mod list;
+mod one_run;
 mod runner;
 
 pub use exit::exit_text;
 pub use list::push_line;
+pub use one_run::{Outcome, answer};
 pub use runner::Runner;

@@ -1,12 +1,13 @@
 //! Lists of files and runs.
 
-use crate::answer::{answer, endless_answer, quiet_answer};
 use crate::ends::{push_bytewise, push_ends};
+use crate::one_run::{answer, endless_answer, quiet_answer};
 use crate::runner::Runner;
 use mp_base::NoMemory;
 use outcome::Status;
 use run_script::{File, NONE, Side, Step, set, step_of, text_of};
 use std::alloc::{AllocError, Global};
+use symbol_calls::push_symbols;
 
 // Whether a run that ended so is the last of those whose calls fail in turn.
 fn is_last(side: Side, status: Status) -> bool {
@@ -109,6 +110,19 @@ fn push_run<R: Runner>(
     Ok(found.push(alloc, told, files)?)
 }
 
+// The symbols of the masks in a file.
+fn push_masks(
+    alloc: Global,
+    told: &mut String,
+    files: &[File],
+    name: &str,
+) -> Result<(), NoMemory> {
+    if let Some(masks) = text_of(files, name) {
+        push_symbols(alloc, told, masks)?;
+    }
+    Ok(())
+}
+
 fn push_step<R: Runner>(
     alloc: Global,
     told: &mut String,
@@ -128,6 +142,7 @@ fn push_step<R: Runner>(
         Step::Endless(words) => {
             Ok(endless_answer(alloc, runner, words)?.push(alloc, told, files)?)
         }
+        Step::Symbols(name) => push_masks(alloc, told, files, name),
         Step::Run(words) => push_run(alloc, told, runner, files, words),
     }
 }

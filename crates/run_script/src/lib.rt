@@ -2,14 +2,14 @@
 //! calls fail.
 #![tactic(auto)]
 
-mod endless;
 mod exit;
 mod failing;
 mod files;
 mod step;
+mod store;
 
-pub use endless::Endless;
 pub use exit::{Exit, exit_of};
 pub use failing::{Failing, NONE, Side};
 pub use files::{Content, File, quiet_depot_of, set, text_of};
 pub use step::{Step, step_of, words_of};
+pub use store::{Output, Store};

@@ -21,6 +21,8 @@ pub enum Step<'a> {
     Quiet(&'a str),
     /// Runs words over files without an end.
     Endless(&'a str),
+    /// The symbols of the masks in a file.
+    Symbols(&'a str),
     /// Runs words.
     Run(&'a str),
 }
@@ -70,7 +72,7 @@ fn failing<'a>(first: &str, rest: &'a str) -> Option<Step<'a>> {
     }
 }
 
-// A line of runs over other files.
+// A line of runs over other files, or of no run.
 fn elsewhere<'a>(first: &str, rest: &'a str) -> Option<Step<'a>> {
     if first == "fronts" {
         Some(Step::Fronts(rest))
@@ -78,6 +80,8 @@ fn elsewhere<'a>(first: &str, rest: &'a str) -> Option<Step<'a>> {
         Some(Step::Quiet(rest))
     } else if first == "endless" {
         Some(Step::Endless(rest))
+    } else if first == "symbols" {
+        Some(Step::Symbols(rest))
     } else {
         None
     }

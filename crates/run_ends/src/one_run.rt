@@ -2,50 +2,53 @@
 
 use crate::runner::Runner;
 use drawn_sizes::{is_size_at_end, is_size_of_chip};
-use mp_base::{List, NoMemory};
+use mp_base::NoMemory;
 use outcome::Status;
-use outside_doubles::{MemSink, QuietSink};
-use run_script::{Endless, Failing, File, quiet_depot_of, text_of, words_of};
+use outside_doubles::QuietSink;
+use run_script::{Failing, File, NONE, Output, Store, quiet_depot_of, text_of, words_of};
 use std::alloc::{AllocError, Global};
 
 /// How a run ended, what it printed, and the file `c` afterwards.
 #[derive(Drop)]
-pub(crate) struct Outcome {
+pub struct Outcome {
     pub status: Status,
     pub printed: Vec<u8>,
     pub written: Option<Vec<u8>>,
 }
 
-fn ended(
+// How a run over these files and this output ends.
+fn outcome_of<R: Runner>(
     alloc: Global,
-    status: Status,
-    printed: &[u8],
-    written: Option<&[u8]>,
+    runner: &R,
+    words: &str,
+    mut store: Store,
+    mut out: Output,
 ) -> Result<Outcome, NoMemory> {
-    let written = match written {
+    let words = words_of(alloc, words)?;
+    let status = runner.run(alloc, &words, &mut store, &mut out);
+    let written = match store.get("c") {
         Some(text) => Some(Vec::from_slice(alloc, text)?),
         None => None,
     };
+    let printed = Vec::from_slice(alloc, out.told().unwrap_or(b"untold"))?;
     Ok(Outcome {
         status,
-        printed: Vec::from_slice(alloc, printed)?,
+        printed,
         written,
     })
 }
 
 /// A run over these files, where calls fail.
-pub(crate) fn answer<R: Runner>(
+pub fn answer<R: Runner>(
     alloc: Global,
     runner: &R,
     files: &[File],
     words: &str,
     failing: Failing,
 ) -> Result<Outcome, NoMemory> {
-    let words = words_of(alloc, words)?;
-    let mut depot = failing.depot(alloc, files)?;
-    let mut out = failing.sink(alloc)?;
-    let status = runner.run(alloc, &words, &mut depot, &mut out);
-    ended(alloc, status, out.bytes(), depot.get("c"))
+    let store = Store::Failing(failing.depot(alloc, files)?);
+    let out = Output::Failing(failing.sink(alloc)?);
+    outcome_of(alloc, runner, words, store, out)
 }
 
 // The room of files and output whose calls never fail.
@@ -58,11 +61,9 @@ pub(crate) fn quiet_answer<R: Runner>(
     files: &[File],
     words: &str,
 ) -> Result<Outcome, NoMemory> {
-    let words = words_of(alloc, words)?;
-    let mut depot = quiet_depot_of(alloc, files, ROOM)?;
-    let mut out = QuietSink::new(alloc, ROOM)?;
-    let status = runner.run(alloc, &words, &mut depot, &mut out);
-    ended(alloc, status, out.bytes().unwrap_or(b"untold"), None)
+    let store = Store::Quiet(quiet_depot_of(alloc, files, ROOM)?);
+    let out = Output::Quiet(QuietSink::new(alloc, ROOM)?);
+    outcome_of(alloc, runner, words, store, out)
 }
 
 /// A run over files that never end.
@@ -71,11 +72,8 @@ pub(crate) fn endless_answer<R: Runner>(
     runner: &R,
     words: &str,
 ) -> Result<Outcome, NoMemory> {
-    let words = words_of(alloc, words)?;
-    let mut depot = Endless;
-    let mut out = MemSink::new(alloc, List::new(alloc));
-    let status = runner.run(alloc, &words, &mut depot, &mut out);
-    ended(alloc, status, out.bytes(), None)
+    let out = Output::Failing(NONE.sink(alloc)?);
+    outcome_of(alloc, runner, words, Store::Endless, out)
 }
 
 // Whether lines tell the size of the chip in the file `c`.
@@ -96,7 +94,7 @@ fn tells_end(alloc: Global, files: &[File], line: &str) -> bool {
 
 impl Outcome {
     /// The file `c` afterwards.
-    pub(crate) fn text(&self) -> Option<&[u8]> {
+    pub fn text(&self) -> Option<&[u8]> {
         match &self.written {
             Some(text) => Some(text),
             None => None,

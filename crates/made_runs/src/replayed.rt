@@ -1,23 +1,29 @@
 //! The replay of the texts that are made of a number.
 
-use crate::made::Outcome;
-use mp_base::List;
-use outcome::Halt;
-use outside_doubles::{MemDepot, MemSink};
+use mp_base::NoMemory;
 use program_maker::make;
-use replay_command::replay;
+use run_ends::{Outcome, Runner, answer};
+use run_script::{NONE, set};
 use std::alloc::Global;
 use std::io;
 
-// What the replay of the texts prints.
-fn replayed(alloc: Global, seed: u64) -> Result<Vec<u8>, Halt> {
+// The replay of the texts.
+fn replayed<R: Runner>(alloc: Global, runner: &R, seed: u64) -> Result<Outcome, NoMemory> {
     let made = make(alloc, seed)?;
-    let mut depot = MemDepot::new(alloc, 100_000, List::new(alloc));
-    depot.put("s", made.source.bytes())?;
-    depot.put("t", made.stimulus.bytes())?;
-    let mut out = MemSink::new(alloc, List::new(alloc));
-    replay(alloc, &mut depot, &mut out, "s", "t", "c")?;
-    Ok(Vec::from_slice(alloc, out.bytes())?)
+    let mut files = Vec::new(alloc);
+    set(
+        alloc,
+        &mut files,
+        "s",
+        Vec::from_slice(alloc, made.source.bytes())?,
+    )?;
+    set(
+        alloc,
+        &mut files,
+        "t",
+        Vec::from_slice(alloc, made.stimulus.bytes())?,
+    )?;
+    answer(alloc, runner, &files, "replay s t c", NONE)
 }
 
 // The number that a line shows behind its `=`, or 0.
@@ -37,7 +43,7 @@ fn sum_of(text: &str) -> u64 {
     sum
 }
 
-// The bytes of the line that ends a text.
+// The line that ends a text.
 fn last_line(text: &str) -> &str {
     text.lines().last().unwrap_or("")
 }
@@ -46,7 +52,7 @@ fn show_text(rt: &HostRuntime, whole: &Outcome, text: &str) -> io::Result<()> {
     let sum = sum_of(text);
     println!(rt; "    replayed: sum {sum}")?;
     let printed = String::from_utf8_lossy(rt.alloc(), &whole.printed)?;
-    if last_line(printed.as_str()) == last_line(text) {
+    if last_line(&printed) == last_line(text) {
         println!(rt; "    the last lines are the same")
     } else {
         println!(rt; "    the last lines differ")
@@ -54,12 +60,18 @@ fn show_text(rt: &HostRuntime, whole: &Outcome, text: &str) -> io::Result<()> {
 }
 
 /// Shows what is added up in the replay of a number's texts, and whether it ends as the number's making did.
-pub(crate) fn show_replayed(rt: &HostRuntime, seed: u64, whole: &Outcome) -> io::Result<()> {
-    match replayed(rt.alloc(), seed) {
-        Ok(printed) => {
-            let text = String::from_utf8_lossy(rt.alloc(), &printed)?;
-            show_text(rt, whole, text.as_str())
+pub(crate) fn show_replayed<R: Runner>(
+    rt: &HostRuntime,
+    runner: &R,
+    number: &str,
+    whole: &Outcome,
+) -> io::Result<()> {
+    let seed = number.parse().unwrap_or(0);
+    match replayed(rt.alloc(), runner, seed) {
+        Ok(outcome) => {
+            let text = String::from_utf8_lossy(rt.alloc(), &outcome.printed)?;
+            show_text(rt, whole, &text)
         }
-        Err(_) => println!(rt; "    no replay"),
+        Err(NoMemory) => println!(rt; "    not enough memory"),
     }
 }

@@ -1,1 +1,0 @@
-(program x 32 (def 1 power)(def 2 ground)(def 3 phia)(def 4 phib)(def 5 phic) (def a port input (6 7 8 9 10 11 12 13 14 15 16 17 18 19 20 21 22 23 24 25 26 27 28 29 30 31 32 33 34 35 36 37))(def q port output (38 39 40 41 42 43 44 45 46 47 48 49 50 51 52 53 54 55 56 57 58 59 60 61 62 63 64 65 66 67 68 69)) (always (setq q (+ a 1))))
