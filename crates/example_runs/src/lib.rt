@@ -3,9 +3,8 @@
 
 use mp_base::NoMemory;
 use outcome::Status;
-use outside_doubles::MemSink;
 use run_ends::Runner;
-use run_script::{File, NONE, set, text_of, words_of};
+use run_script::{File, NONE, Output, Store, set, text_of, words_of};
 use std::alloc::Global;
 use std::{fs, io};
 use transcript_likeness::{Likeness, likeness_of};
@@ -14,7 +13,13 @@ use transcript_likeness::{Likeness, likeness_of};
 #[derive(Drop)]
 struct Outcome {
     status: Status,
-    out: MemSink,
+    out: Output,
+}
+
+impl Outcome {
+    fn printed(&self) -> &[u8] {
+        self.out.told().unwrap_or(b"untold")
+    }
 }
 
 // Reads the files that a list names, by words with a dot.
@@ -37,9 +42,9 @@ fn outcome_of<R: Runner>(
     words: &str,
 ) -> Result<Outcome, NoMemory> {
     let words = words_of(alloc, words)?;
-    let mut depot = NONE.depot(alloc, files)?;
-    let mut out = NONE.sink(alloc)?;
-    let status = runner.run(alloc, &words, &mut depot, &mut out);
+    let mut store = Store::Failing(NONE.depot(alloc, files)?);
+    let mut out = Output::Failing(NONE.sink(alloc)?);
+    let status = runner.run(alloc, &words, &mut store, &mut out);
     Ok(Outcome { status, out })
 }
 
@@ -54,7 +59,7 @@ fn show_end(rt: &HostRuntime, outcome: &Outcome, likeness: Likeness) -> io::Resu
             )
         }
         Likeness::Another => {
-            let printed = String::from_utf8_lossy(rt.alloc(), outcome.out.bytes())?;
+            let printed = String::from_utf8_lossy(rt.alloc(), outcome.printed())?;
             print!(rt; "    {status:?}\n{printed}")
         }
     }
@@ -70,7 +75,7 @@ fn show<R: Runner>(rt: &HostRuntime, runner: &R, files: &[File], line: &str) -> 
         return println!(rt; "    not enough memory");
     };
     let likeness = match text_of(files, name) {
-        Some(transcript) => likeness_of(outcome.out.bytes(), transcript),
+        Some(transcript) => likeness_of(outcome.printed(), transcript),
         None => Likeness::Another,
     };
     show_end(rt, &outcome, likeness)

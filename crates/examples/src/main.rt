@@ -1,13 +1,17 @@
-//! Runs each example over files in memory, and tells whether it prints what stands beside it.
+//! Runs of the whole program over files in memory: whether each example prints what stands beside it; of lists of runs,
+//! how each ends, what it prints and what it writes; and exit statuses over the system's files.
 #![tactic(auto)]
 
 use example_runs::show_examples;
+use made_runs::show_numbers;
 use outcome::Status;
 use outside::{Depot, Sink};
 use run_ends::Runner;
+use run_lists::{Exits, show_exits, show_lists};
 use std::alloc::Global;
+use std::env::Args;
 use std::io;
-use system_run::run_with_parts;
+use system_run::{exit_status, perform, run_with_parts};
 
 // The whole program, with the parts that a chip may be joined to.
 struct Whole;
@@ -24,6 +28,19 @@ impl Runner for Whole {
     }
 }
 
+impl Exits for Whole {
+    fn status(&self, rt: &HostRuntime, room: &mut [u8], args: io::Result<Args>) -> u8 {
+        exit_status(perform(rt.alloc(), rt, room, args))
+    }
+}
+
 fn main(rt: HostRuntime) -> io::Result<()> {
-    show_examples(&rt, &Whole, "examples.txt")
+    show_examples(&rt, &Whole, "examples.txt")?;
+    show_lists(
+        &rt,
+        &Whole,
+        &["sources.txt", "masks.txt", "words.txt", "chips.txt"],
+    )?;
+    show_numbers(&rt, &Whole, "numbers.txt")?;
+    show_exits(&rt, &Whole, "exits.txt")
 }

@@ -39,16 +39,24 @@ fn meant(alloc: Global, fabric: &Fabric) -> Result<Network, NoMemory> {
     fabric.switches(alloc)
 }
 
+// The network that a fabric draws, and the one that it means.
+fn both(alloc: Global, fabric: &Fabric) -> Result<Option<(Network, Network)>, NoMemory> {
+    let meant = meant(alloc, fabric)?;
+    Ok(drawn(alloc, fabric)?.map(|drawn| (drawn, meant)))
+}
+
+// The networks of a fabric that is filled with the same things at once.
+fn of_copy(alloc: Global, fabric: &Fabric) -> Result<Option<(Network, Network)>, NoMemory> {
+    let copy = copy(alloc, fabric)?;
+    both(alloc, &copy)
+}
+
 // The network that is drawn, and the one that is meant.
 fn networks(alloc: Global, text: &[u8]) -> Result<Option<(Network, Network)>, NoMemory> {
-    let Some(fabric) = build(alloc, text)? else {
-        return Ok(None);
-    };
-    let fabric = copy(alloc, &fabric)?;
-    let Some(drawn) = drawn(alloc, &fabric)? else {
-        return Ok(None);
-    };
-    Ok(Some((drawn, meant(alloc, &fabric)?)))
+    match build(alloc, text)? {
+        Some(fabric) => of_copy(alloc, &fabric),
+        None => Ok(None),
+    }
 }
 
 /// The network that a fabric draws, and on a second line that of its segments, lines and marks.

@@ -17,10 +17,22 @@ fn add(fabric: &mut Fabric, asked: Option<Thing>) -> Result<bool, NoMemory> {
     Ok(true)
 }
 
+// Adds what the parts of a line behind its first ask for, if the fabric takes all of it.
+fn fill(alloc: Global, fabric: &mut Fabric, text: &[u8]) -> Result<bool, NoMemory> {
+    let mut parts = text.split(|byte| *byte == b';');
+    parts.next();
+    for part in parts {
+        let asked = words_of(alloc, part)?;
+        if !add(fabric, thing_of(asked.first, asked.numbers.as_slice()))? {
+            return Ok(false);
+        }
+    }
+    Ok(true)
+}
+
 /// The fabric of a line, if it is one.
 pub(crate) fn build(alloc: Global, text: &[u8]) -> Result<Option<Fabric>, NoMemory> {
-    let mut parts = text.split(|byte| *byte == b';');
-    let Some(head) = parts.next() else {
+    let Some(head) = text.split(|byte| *byte == b';').next() else {
         return Ok(None);
     };
     let head = words_of(alloc, head)?;
@@ -29,13 +41,11 @@ pub(crate) fn build(alloc: Global, text: &[u8]) -> Result<Option<Fabric>, NoMemo
         return Ok(None);
     }
     let mut fabric = Fabric::new(alloc, columns, List::from_vec(head.numbers))?;
-    for part in parts {
-        let asked = words_of(alloc, part)?;
-        if !add(&mut fabric, thing_of(asked.first, asked.numbers.as_slice()))? {
-            return Ok(None);
-        }
-    }
-    Ok(Some(fabric))
+    Ok(if fill(alloc, &mut fabric, text)? {
+        Some(fabric)
+    } else {
+        None
+    })
 }
 
 /// A fabric with the same things, added all at once.

@@ -1,9 +1,14 @@
 //! How large the paths of sources are.
 
+ghost use Rattle.std.specs.Prelude.{◌≤◌};
+ghost use Rattle.rtl_form.specs.Cost.{cost};
+ghost use Rattle.rtl_form.specs.Sound.{IsSound};
+
 use crate::reading::checked_of;
 use mp_base::NoMemory;
 use mp_checker::Checked;
 use path_steps::{Sizes, sizes_of, transfers_of};
+use rtl_form::Rtl;
 use std::io;
 use std::time::Instant;
 
@@ -16,21 +21,28 @@ fn show_sizes(rt: &HostRuntime, sizes: &Sizes) -> io::Result<()> {
     println!(rt; " flat {flat}")
 }
 
-// The sizes of the path of a checked program. How long it took to make it goes to the standard error.
+// The sizes of the path of transfers. How long it took to make it goes to the standard error.
+fn timed(rt: &HostRuntime, name: &str, rtl: &Rtl) -> io::Result<Result<Sizes, NoMemory>>
+    requires sound { IsSound rtl.now }
+    requires light { cost rtl.now ≤ 1024 }
+{
+    let start = Instant::now(rt)?;
+    let sizes = sizes_of(rt.alloc(), rtl);
+    let took = start.elapsed(rt)?;
+    eprintln!(rt; "{name}: {took:?}")?;
+    Ok(sizes)
+}
+
+// The sizes of the path of a checked program.
 fn measured(
     rt: &HostRuntime,
     name: &str,
     program: &Checked,
 ) -> io::Result<Result<Sizes, NoMemory>> {
-    let rtl = match transfers_of(rt.alloc(), program) {
-        Ok(rtl) => rtl,
-        Err(error) => return Ok(Err(error)),
-    };
-    let start = Instant::now(rt)?;
-    let sizes = sizes_of(rt.alloc(), &rtl);
-    let took = start.elapsed(rt)?;
-    eprintln!(rt; "{name}: {took:?}")?;
-    Ok(sizes)
+    match transfers_of(rt.alloc(), program) {
+        Ok(rtl) => timed(rt, name, &rtl),
+        Err(error) => Ok(Err(error)),
+    }
 }
 
 /// The cost of a source's transfers, and how large their path is.
