@@ -36,12 +36,25 @@ pub fn draw(alloc: Global, shapes: &[Rect], places: &[Point]) -> Result<Drawing,
     ensures { IfOk result (IsDrawn shapes.now places.now) }
 {
     let masks = sweep_masks(alloc, shapes, places)?;
-    let cut = cut_masks(alloc, &masks.metal, &masks.polysilicon, &masks.diffusion)?;
-    let drawing = finish(alloc, shapes, places, &masks, &cut)?;
-    Ok(drawing)
+    drawn(alloc, shapes, places, &masks)
 }
 
-// What is drawn, from the pieces. The rectangles are those of the contract alone.
+// What is drawn, from the masks. The rectangles are those of the contract alone.
+fn drawn(
+    alloc: Global,
+    shapes: &[Rect],
+    places: &[Point],
+    masks: &Masks,
+) -> Result<Drawing, NoMemory>
+    requires { AreMasks shapes.now places.now masks.now.contacts masks.now.metal masks.now.polysilicon
+        masks.now.diffusion }
+    ensures { IfOk result (IsDrawn shapes.now places.now) }
+{
+    let cut = cut_masks(alloc, &masks.metal, &masks.polysilicon, &masks.diffusion)?;
+    finish(alloc, shapes, places, masks, &cut)
+}
+
+// What is drawn, from the pieces.
 fn finish(
     alloc: Global,
     shapes: &[Rect],
@@ -57,8 +70,7 @@ fn finish(
     ensures { IfOk result (IsDrawn drawn.0 drawn.1) }
 {
     let classes = classify(alloc, masks, cut)?;
-    let drawing = assemble(alloc, places.len(), masks, cut, &classes)?;
-    Ok(drawing)
+    assemble(alloc, places.len(), masks, cut, &classes)
 }
 
 // What is drawn, from the classes of pieces. So many places were asked for.
