@@ -1,22 +1,23 @@
 //! The program that forms spell, or the first broken rule.
 
-ghost use Rattle.std.specs.Prelude.{◌≡◌, ◌<◌, ◌≤◌, ◌^◌, ◌⊎◌, [], ◌∷◌, IfErr, IfOk, length, slice_index};
+ghost use Rattle.std.specs.Prelude.{◌≡◌, ◌<◌, ◌≤◌, ◌^◌, ◌⊎◌, ℕ, [], ◌∷◌, IfErr, IfOk, length, map, slice_index};
+ghost use Rattle.std.specs.List.{filter_map, flat_map};
 ghost use Rattle.form_reader.specs.Sound.{HasSymbols, IsSound, items_of, kind_at};
 ghost use Rattle.mp_base.specs.Refuses.{RefusesAt};
 ghost use Rattle.mp_base.specs.declared.refusal.Family.TheVariants.{E};
 ghost use Rattle.mp_base.specs.declared.refusal.Place.{Place};
 ghost use Rattle.mp_shapes.specs.Standing.{AreClasses, E10};
-ghost use Rattle.mp_entries.specs.Entries.{number_at};
-ghost use Rattle.mp_syntax.specs.Shape.{E11, IsFirst, IsShape};
+ghost use Rattle.mp_entries.specs.Entries.{expr_at, form_at, is_expr, is_form, name_at, nodes_below, number_at};
+ghost use Rattle.mp_syntax.specs.Shape.{E11, IsFirst, IsShape, always_at, def_at, process_at};
 
 use crate::defs::defs_of;
 use crate::items::{always_of, processes_of};
 use form_reader::Forms;
-use mp_base::{Broken, Family, List, Place, Refusal, Rule, Spot};
+use mp_base::{Broken, Family, List, Name, Place, Refusal, Rule, Spot};
 use mp_entries::{
-    elements_at, exprs_of, forms_of, item, items_at, name_at, node_at, number_at, ranks_of,
+    Ranks, elements_at, exprs_of, forms_of, item, items_at, name_at, node_at, number_at, ranks_of,
 };
-use mp_program::Program;
+use mp_program::{Def, Expr, Form, Process, Program};
 use mp_shapes::{Class, judge_shapes};
 use std::alloc::{AllocError, Global};
 
@@ -30,6 +31,79 @@ fn wrong_width(place: Place) -> Refusal
             number: 11,
         },
         spot: Spot::At(place),
+    })
+}
+
+/// The name of a program, and its definitions.
+#[derive(Drop)]
+struct Head {
+    name: Name,
+    defs: List<Def>,
+}
+
+fn head_of(alloc: Global, forms: &Forms, name: u32, items: &[u32]) -> Result<Head, AllocError>
+    requires sound { IsSound forms.now }
+    requires named { name < length forms.now.nodes }
+    requires inside { (k : ℕ) → k < length items.now → slice_index items.now k < length forms.now.nodes }
+    ensures name { IfOk result (λ h. h.name ≡ name_at forms.now name) }
+    ensures defs { IfOk result (λ h. h.defs ≡ filter_map (def_at forms.now) items.now) }
+{
+    Ok(Head {
+        name: name_at(alloc, forms, name)?,
+        defs: defs_of(alloc, forms, items)?,
+    })
+}
+
+/// Its expressions, and its forms.
+#[derive(Drop)]
+struct Entries {
+    exprs: List<Expr>,
+    forms: List<Form>,
+}
+
+fn entries_of(
+    alloc: Global,
+    forms: &Forms,
+    classes: &List<Option<Class>>,
+    ranks: &Ranks,
+) -> Result<Entries, AllocError>
+    requires sound { IsSound forms.now }
+    requires size { length classes.now ≡ length forms.now.nodes }
+    requires small { length forms.now.nodes < 2 ^ 32 }
+    ensures exprs { IfOk result (λ e. e.exprs ≡ map (expr_at forms.now (slice_index ranks.now.exprs))
+        (nodes_below (is_expr classes.now) (length forms.now.nodes))) }
+    ensures forms { IfOk result (λ e. e.forms ≡ map (form_at forms.now (slice_index ranks.now.exprs)
+        (slice_index ranks.now.forms)) (nodes_below (is_form forms.now classes.now) (length forms.now.nodes))) }
+{
+    Ok(Entries {
+        exprs: exprs_of(alloc, forms, classes, &ranks.exprs)?,
+        forms: forms_of(alloc, forms, classes, ranks)?,
+    })
+}
+
+/// Its forms that are always active, and its processes.
+#[derive(Drop)]
+struct Active {
+    always: List<u32>,
+    processes: List<Process>,
+}
+
+fn active_of(
+    alloc: Global,
+    forms: &Forms,
+    ranks: &List<u32>,
+    items: &[u32],
+) -> Result<Active, AllocError>
+    requires sound { IsSound forms.now }
+    requires inside { (k : ℕ) → k < length items.now → slice_index items.now k < length forms.now.nodes }
+    requires small { length forms.now.nodes < 2 ^ 32 }
+    ensures always { IfOk result (λ a. a.always ≡ flat_map (always_at forms.now (slice_index ranks.now)) items.now) }
+    ensures processes { IfOk result (λ a. a.processes
+        ≡ filter_map (process_at forms.now (slice_index ranks.now)) items.now) }
+{
+    Ok(Active {
+        always: always_of(alloc, forms, ranks, items)?,
+        processes: processes_of(alloc, forms, ranks, items)?,
     })
 }
 
@@ -51,15 +125,18 @@ fn program_of(
     let ranks = ranks_of(alloc, forms, classes)?;
     let items = items_at(forms, root);
     let rest = elements_at(forms, root);
+    let entries = entries_of(alloc, forms, classes, &ranks)?;
+    let active = active_of(alloc, forms, &ranks.forms, rest)?;
+    let head = head_of(alloc, forms, item(items, 1), rest)?;
     Ok(Program {
         place: node_at(forms, root).place,
-        name: name_at(alloc, forms, item(items, 1))?,
+        name: head.name,
         width: number_at(forms, item(items, 2)) as u8,
-        defs: defs_of(alloc, forms, rest)?,
-        exprs: exprs_of(alloc, forms, classes, &ranks.exprs)?,
-        forms: forms_of(alloc, forms, classes, &ranks)?,
-        always: always_of(alloc, forms, &ranks.forms, rest)?,
-        processes: processes_of(alloc, forms, &ranks.forms, rest)?,
+        defs: head.defs,
+        exprs: entries.exprs,
+        forms: entries.forms,
+        always: active.always,
+        processes: active.processes,
     })
 }
 
