@@ -46,13 +46,13 @@ impl<'a> Clockwork<'a> {
         ensures program { IfOk result (λ c. c.program ≡ program.now) }
         ensures state { IfOk result (λ c. c.state ≡ zero_state program.now) }
     {
-        let links = Links::find(alloc, program)?;
         let memory = Memory {
             stored: vec![in alloc; 0; program.defs.len()]?,
             seats: zero_seats(alloc, program.processes.as_slice())?,
         };
         let places = vec![in alloc; 0; program.processes.len()]?;
         let env = fixed_values(alloc, program.defs.as_slice())?;
+        let links = Links::find(alloc, program)?;
         Ok(Clockwork {
             program,
             links,
