@@ -3,6 +3,7 @@
 
 mod known;
 mod look;
+mod memory;
 mod scan;
 mod settler;
 mod start;

@@ -6,8 +6,9 @@ ghost use Rattle.switch_net.specs.Settled.{IsSettled};
 ghost use Rattle.node_clusters.specs.Values.{value_at, driver_at};
 
 use crate::known::{Known, settle_values};
+use crate::memory::Memory;
 use mp_base::{List, NoMemory, Trit};
-use node_clusters::{Board, Sets, ends_gated, links_at_ends};
+use node_clusters::{Board, Sets};
 use settle_events::Queue;
 use settle_order::Orders;
 use std::alloc::Global;
@@ -51,20 +52,18 @@ impl Settler {
         ensures network { IfOk result (λ s. s.network ≡ network) }
         ensures unknown { IfOk result (λ s. s.values ≡ replicate network.nodes X) }
     {
-        let at = links_at_ends(alloc, &network)?;
-        let gated = ends_gated(alloc, &network)?;
-        let nodes = network.nodes as usize;
+        let memory = Memory::new(alloc, &network)?;
         Ok(Settler {
-            at,
-            gated,
-            values: vec![in alloc; Trit::X; nodes]?,
-            before: vec![in alloc; Trit::X; nodes]?,
-            last: vec![in alloc; None; nodes]?,
+            at: memory.links.at,
+            gated: memory.links.gated,
+            values: memory.levels.values,
+            before: memory.levels.before,
+            last: memory.levels.last,
             is_at_rest: false,
-            orders: Orders::new(alloc, network.nodes)?,
-            sets: Sets::new(alloc, network.nodes)?,
-            marks: vec![in alloc; false; nodes]?,
-            queue: Queue::new(alloc, network.nodes)?,
+            orders: memory.orders,
+            sets: memory.tools.sets,
+            marks: memory.tools.marks,
+            queue: memory.tools.queue,
             network,
         })
     }
