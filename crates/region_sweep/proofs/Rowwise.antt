@@ -14,18 +14,18 @@ use Rattle.mask_runs.specs.Laws.{ColoursByLayers}
 use Rattle.cover_tree.specs.declared.tree.CoverTree.{CoverTree}
 use Rattle.cover_tree.specs.Changes.{AreChanges}
 use Rattle.cover_tree.specs.Covers.{Cover, IsBare, IsRaised, row_colour}
-use Rattle.cover_tree.specs.Trees.{cover_of, told_of, row_of}
+use Rattle.cover_tree.specs.Trees.{cover_of, told_of}
 use Rattle.kept_runs.specs.declared.runs.KeptRuns.{KeptRuns}
 use Rattle.kept_runs.specs.Kept.{colours_of, width_of}
 use Rattle.strip_rows.specs.declared.rows.StripRows.{StripRows}
 use Rattle.strip_rows.specs.declared.strip.Strip.{Strip}
 use Rattle.strip_rows.specs.Changes.{LieInRow, IsChange}
-use Rattle.strip_rows.specs.Swept.{strips_of, cells_of, IsOpenAt, IsSwept, KeepNumbers}
+use Rattle.strip_rows.specs.Swept.{strips_of, IsOpenAt, IsSwept, KeepNumbers}
 use Rattle.region_sweep.specs.declared.block.Block.{Block}
 use Rattle.region_sweep.specs.declared.spot.Spot.{Spot}
 use Rattle.region_sweep.specs.Blocks.{painted, AreStacked}
 use Rattle.region_sweep.specs.Rows.{block, no_block, spot, no_spot, ReachesOver, AreWithin, AreRaised}
-use Rattle.region_sweep.specs.Rows.{IsUpTo, AreAsked, IsFront, IsAnswer, AreAnswered}
+use Rattle.region_sweep.specs.Rows.{IsUpTo, IsSweptTo, AreAsked, IsFront, IsAnswer, AreAnswered}
 use Rattle.region_sweep.proofs.Changing.{AreTold, told}
 use Rattle.region_sweep.proofs.Painting.{row_painted, blank_right, blank_below}
 
@@ -33,15 +33,15 @@ use Rattle.region_sweep.proofs.Painting.{row_painted, blank_right, blank_below}
 pub record IsAt (mask : Mask) (cells : ℕ) (blocks : List Block) (row : ℕ) (tree : CoverTree) (kept : KeptRuns)
     (strips : StripRows) (raised : ℕ)
     (spots : List Spot) (answered : ℕ) (found : List (Option ℕ)) : Type 0 where
-  pub up_to : IsUpTo mask cells blocks row raised (cover_of tree)
-  pub told : (c : ℕ) → c < cells → painted mask blocks row c ≡ told_of tree c
-  pub last : row_of tree ≡ row
-  pub wide : width_of kept ≡ cells
-  pub same : (c : ℕ) → painted mask blocks row c ≡ colours_of kept c
-  pub as_wide : cells_of strips ≡ cells
-  pub swept : IsSwept (painted mask blocks) row strips
+  pub to : IsSweptTo mask cells blocks row raised tree kept strips
   pub answers : AreAnswered (painted mask blocks) (strips_of strips) spots answered found
   pub waiting : (j : ℕ) → answered ≤ j → j < length spots → row < (spot spots j).row
+
+-- the same of an equal mask and as many cells
+pub same_grid : {mask m : Mask} {cells n : ℕ} {blocks : List Block} {row raised : ℕ} {tree : CoverTree}
+    {kept : KeptRuns} {strips : StripRows} → m ≡ mask → n ≡ cells
+    → IsSweptTo mask cells blocks row raised tree kept strips → IsSweptTo m n blocks row raised tree kept strips
+same_grid e f h = rw (e, f) h
 
 in_or_out : (a b c : ℕ) → (a ≤ c) × (c < b) ⊎ ((c < a) ⊎ (b ≤ c))
 in_or_out a b c = elim (cases_lt c a) [
@@ -329,9 +329,9 @@ up_to_own e f h = record { of_mask = h.of_mask ∙ e; wide = h.wide ∙ f; are =
 
 -- what the tree tells of the next row, when the blocks are raised that begin in it
 pub next_told : {mask : Mask} {cells rows : ℕ} {blocks : List Block} {below : ℕ} {tree : CoverTree} {kept : KeptRuns}
-    {strips : StripRows} {raised next : ℕ} {spots : List Spot} {answered : ℕ} {found : List (Option ℕ)}
-    {changed : List Run} (upper : CoverTree) → ColoursByLayers → AreStacked mask cells rows blocks
-    → IsAt mask cells blocks below tree kept strips raised spots answered found
+    {strips : StripRows} {raised next : ℕ} {changed : List Run} (upper : CoverTree) → ColoursByLayers
+    → AreStacked mask cells rows blocks
+    → IsSweptTo mask cells blocks below raised tree kept strips
     → IsUpTo (cover_of tree).mask (cover_of tree).cells blocks (below + 1) next (cover_of upper)
     → ((c : ℕ) → told_of upper c ≡ told_of tree c)
     → AreChanges (told_of upper) (row_colour (cover_of upper) (below + 1)) (cover_of upper).cells changed

@@ -65,10 +65,10 @@ by_rows xs ys mask shapes blocks k x0 x1 h some a b = record {
 }
 
 -- strips have cells, and keep off the guard cells and rows
-pub strip_within : (xs ys : List ℤ) (mask : Mask) (shapes : List Rect) (blocks : List Block) (s : Strip)
-    → IsLaid xs ys mask shapes blocks
+strip_fits : (xs ys : List ℤ) (mask : Mask) (blocks : List Block) (s : Strip) → ColoursByLayers
+    → AreStacked mask (length xs + 1) (length ys + 1) blocks
     → IsStrip (painted mask blocks) s → IsFit xs ys s
-strip_within xs ys mask shapes blocks s h is =
+strip_fits xs ys mask blocks s law stacked is =
     let tall = is.tall in
     let bottom = is.each s.low (omega arith) is.tall in
     let top = is.each (s.high - 1) (omega arith) (omega arith) in
@@ -81,14 +81,14 @@ strip_within xs ys mask shapes blocks s h is =
         | inl l ↦ l
         | inr l ↦
             let e = bottom.each 0 l (omega arith) in
-            let b = blank_left h.law mask (length xs + 1) (length ys + 1) blocks s.low h.stacked in
+            let b = blank_left law mask (length xs + 1) (length ys + 1) blocks s.low stacked in
             absurd (omega arith)
       ];
       right = elim (cases_lt (length xs) s.right) [
         | inr l ↦ l
         | inl l ↦
             let e = bottom.each (s.right - 1) (omega arith) (omega arith) in
-            let b = blank_right h.law mask (length xs + 1) (length ys + 1) blocks s.low (s.right - 1) h.stacked
+            let b = blank_right law mask (length xs + 1) (length ys + 1) blocks s.low (s.right - 1) stacked
             (omega arith) in
             absurd (omega arith)
       ];
@@ -96,18 +96,23 @@ strip_within xs ys mask shapes blocks s h is =
         | inl l ↦ l
         | inr l ↦
             let e = (is.each 0 l (omega arith)).each s.left (omega arith) wide in
-            let b = blank_below h.law mask (length xs + 1) (length ys + 1) blocks s.left h.stacked in
+            let b = blank_below law mask (length xs + 1) (length ys + 1) blocks s.left stacked in
             absurd (omega arith)
       ];
       high = elim (cases_lt (length ys) s.high) [
         | inr l ↦ l
         | inl l ↦
             let e = top.each s.left (omega arith) wide in
-            let b = blank_above h.law mask (length xs + 1) (length ys + 1) blocks (s.high - 1) s.left h.stacked
+            let b = blank_above law mask (length xs + 1) (length ys + 1) blocks (s.high - 1) s.left stacked
             (omega arith) in
             absurd (omega arith)
       ];
     }
+
+pub strip_within : (xs ys : List ℤ) (mask : Mask) (shapes : List Rect) (blocks : List Block) (s : Strip)
+    → IsLaid xs ys mask shapes blocks
+    → IsStrip (painted mask blocks) s → IsFit xs ys s
+strip_within xs ys mask shapes blocks s h is = strip_fits xs ys mask blocks s h.law h.stacked is
 
 pub tile_from_strip : (xs ys : List ℤ) (mask : Mask) (shapes : List Rect) (blocks : List Block) (s : Strip)
     → IsLaid xs ys mask shapes blocks
@@ -173,11 +178,11 @@ pub starts_rise : (ms : List ℤ) (a b : ℕ) → Ascending ms → 0 < a → b �
     → start_of ms a <ℤ start_of ms b
 starts_rise ms a b up some l m = up (a - 1) (b - 1) (pos 0) (omega arith) (omega arith)
 
-pub strips_within : (xs ys : List ℤ) (mask : Mask) (shapes : List Rect) (blocks : List Block) (strips : List Strip)
-    → IsLaid xs ys mask shapes blocks
+pub strips_fit : (xs ys : List ℤ) (mask : Mask) (blocks : List Block) (strips : List Strip) → ColoursByLayers
+    → AreStacked mask (length xs + 1) (length ys + 1) blocks
     → AreStrips (painted mask blocks) strips → All (IsFit xs ys) strips
-strips_within xs ys mask shapes blocks strips h are = All-weaker (IsStrip (painted mask blocks)) (IsFit xs ys)
-    (λ s is. strip_within xs ys mask shapes blocks s h is) strips are.each
+strips_fit xs ys mask blocks strips law stacked are = All-weaker (IsStrip (painted mask blocks)) (IsFit xs ys)
+    (λ s is. strip_fits xs ys mask blocks s law stacked is) strips are.each
 
 tile_at : (xs ys : List ℤ) (strips : List Strip) (n : ℕ) (d : Tile) → n < length strips
     → get_or (map (tile_of xs ys) strips) n d ≡ tile_of xs ys (strip strips n)
@@ -213,7 +218,7 @@ are_tiles xs ys mask shapes blocks strips h are = record {
   ascending = λ i j d l m.
       let m' : j < length strips = simp length-map at m in
       let l' : i < length strips = omega arith in
-      let w = strips_within xs ys mask shapes blocks strips h are in
+      let w = strips_fit xs ys mask blocks strips h.law h.stacked are in
       let a = are.each i no_strip l' in
       let b = are.each j no_strip m' in
       let x = a.each (strip strips i).low (omega arith) a.tall in

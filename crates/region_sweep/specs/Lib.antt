@@ -2,3 +2,4 @@ pub mod Grid
 pub mod Blocks
 pub mod Rows
 pub mod Repainting
+pub mod Sweeps

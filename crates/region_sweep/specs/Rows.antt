@@ -6,16 +6,19 @@ use Rattle.lam_geom.specs.declared.layer.Layer.TheVariants.{ND}
 use Rattle.mask_runs.specs.declared.mask.Mask.{Mask}
 use Rattle.mask_runs.specs.Runs.{IsRun}
 use Rattle.mask_runs.specs.Colours.{uses}
-use Rattle.cover_tree.specs.Covers.{Cover}
+use Rattle.cover_tree.specs.declared.tree.CoverTree.{CoverTree}
+use Rattle.cover_tree.specs.Covers.{Cover, IsBare}
+use Rattle.cover_tree.specs.Trees.{cover_of, told_of, row_of}
 use Rattle.kept_runs.specs.declared.runs.KeptRuns.{KeptRuns}
-use Rattle.kept_runs.specs.Kept.{colours_of}
+use Rattle.kept_runs.specs.Kept.{colours_of, width_of}
 use Rattle.strip_rows.specs.declared.rows.StripRows.{StripRows}
-use Rattle.strip_rows.specs.Swept.{IsSwept}
+use Rattle.strip_rows.specs.Swept.{IsSwept, cells_of}
 use Rattle.strip_rows.specs.declared.strip.Strip.{Strip}
 use Rattle.strip_rows.specs.declared.strip.Strips.{Strips}
 use Rattle.strip_rows.specs.Strips.{run_of, strip, AreStrips}
 use Rattle.strip_rows.specs.Touching.{AreTouching}
 use Rattle.region_sweep.specs.declared.block.Block.{Block}
+use Rattle.region_sweep.specs.Blocks.{painted}
 use Rattle.region_sweep.specs.declared.spot.Spot.{Spot}
 
 abbrev pub no_block : Block
@@ -64,6 +67,27 @@ pub record AreAsked (places : ℕ) (spots : List Spot) : Type 0 where
   pub ascending : IsNonDecreasingBy (λ s. s.row) spots
   pub one : (i j : ℕ) → i < length spots → j < length spots → (spot spots i).index ≡ (spot spots j).index
       → spot spots i ≡ spot spots j
+
+-- what is kept of row 0, which has no colours, in so many cells
+pub record IsBlank (mask : Mask) (cells : ℕ) (tree : CoverTree) (kept : KeptRuns) (strips : StripRows) : Type 0 where
+  pub bare : IsBare mask cells (cover_of tree)
+  pub row : row_of tree ≡ 0
+  pub told : (c : ℕ) → told_of tree c ≡ 0
+  pub wide : width_of kept ≡ cells
+  pub blank : (c : ℕ) → colours_of kept c ≡ 0
+  pub as_wide : cells_of strips ≡ cells
+  pub swept : (colour : ℕ → ℕ → ℕ) → ((c : ℕ) → colour 0 c ≡ 0) → IsSwept colour 0 strips
+
+-- the tree has told the row, whose blocks are raised, its runs are kept, and the strips reach up to it
+pub record IsSweptTo (mask : Mask) (cells : ℕ) (blocks : List Block) (row raised : ℕ) (tree : CoverTree)
+    (kept : KeptRuns) (strips : StripRows) : Type 0 where
+  pub up_to : IsUpTo mask cells blocks row raised (cover_of tree)
+  pub told : (c : ℕ) → c < cells → painted mask blocks row c ≡ told_of tree c
+  pub last : row_of tree ≡ row
+  pub wide : width_of kept ≡ cells
+  pub same : (c : ℕ) → painted mask blocks row c ≡ colours_of kept c
+  pub as_wide : cells_of strips ≡ cells
+  pub swept : IsSwept (painted mask blocks) row strips
 
 -- the strips up to a row, and the runs that are kept of that row
 pub record IsFront (colour : ℕ → ℕ → ℕ) (row : ℕ) (strips : StripRows) (kept : KeptRuns) : Type 0 where

@@ -144,9 +144,15 @@ fn draw(xs: &mut List<i64>, ys: &mut List<i64>, shape: &Rect) -> Result<(), NoMe
     ensures columns { OnOk result (xs.new ≡ (xs.old ++ shape.now.x0 ∷ []) ++ shape.now.x1 ∷ []) }
     ensures rows { OnOk result (ys.new ≡ (ys.old ++ shape.now.y0 ∷ []) ++ shape.now.y1 ∷ []) }
 {
-    xs.push(shape.x0)?;
-    xs.push(shape.x1)?;
-    ys.push(shape.y0)?;
-    ys.push(shape.y1)?;
+    draw_sides(xs, shape.x0, shape.x1)?;
+    draw_sides(ys, shape.y0, shape.y1)
+}
+
+// Adds two sides along one axis.
+fn draw_sides(marks: &mut List<i64>, low: i64, high: i64) -> Result<(), NoMemory>
+    ensures { OnOk result (marks.new ≡ (marks.old ++ low ∷ []) ++ high ∷ []) }
+{
+    marks.push(low)?;
+    marks.push(high)?;
     Ok(())
 }
