@@ -70,15 +70,13 @@ pub record Resolved (net : Network) (pads : Pads) (nodes : List ℕ) (count : �
   pub labelled : AllZip (IsLabelled net) (chip_labels pads) nodes
   pub counted : count ≡ length (driver_labels pads.inputs)
 
-pub resolved : (net : Network) (pads : Pads) (ins outs : List Pad) (drivers labels shown : List (List ℕ))
-    (all nodes : List ℕ) (count : ℕ)
-    → ins ≡ pads.inputs → outs ≡ pads.outputs → drivers ≡ driver_labels ins → count ≡ length drivers
-    → labels ≡ drivers ++ flat_map bit_labels outs
-    → shown ≡ labels → AllZip (IsLabelled net) shown all → nodes ≡ all → Resolved net pads nodes count
-resolved net pads ins outs drivers labels shown all nodes count i o d n l s z e = record {
-  labelled = subst (λ xs. AllZip (IsLabelled net) xs nodes) (chip_is pads ins outs drivers labels shown i o d l s)
-      (subst (λ ns. AllZip (IsLabelled net) shown ns) (sym e) z);
-  counted = n ∙ ap (λ xs. length xs) (drivers_are pads ins drivers drivers i d refl);
+pub resolved : (net : Network) (pads : Pads) (labels : List (List ℕ)) (all nodes : List ℕ) (count : ℕ)
+    → labels ≡ chip_labels pads → AllZip (IsLabelled net) labels all → nodes ≡ all
+    → count ≡ length (driver_labels pads.inputs) → Resolved net pads nodes count
+resolved net pads labels all nodes count l z e n = record {
+  labelled = subst (λ xs. AllZip (IsLabelled net) xs nodes) l
+      (subst (λ ns. AllZip (IsLabelled net) labels ns) (sym e) z);
+  counted = n;
 }
 
 module _ (net : Network) (pads : Pads) (nodes : List ℕ) (count : ℕ) (r : Resolved net pads nodes count) where

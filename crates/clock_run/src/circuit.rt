@@ -12,6 +12,7 @@ ghost use Rattle.switch_net.specs.Clock.{SettlesTo, Shows, IsClock, drives};
 ghost use Rattle.stimulus.specs.Bits.{trits_of};
 ghost use Rattle.clock_run.specs.Settings.{phases_of};
 ghost use Rattle.clock_run.specs.Refused.{IsRefused};
+ghost use Rattle.clock_run.specs.Circuit.{IsReady};
 
 use crate::plan::Plan;
 use crate::setting::Setting;
@@ -21,6 +22,24 @@ use settle::Settler;
 use std::alloc::Global;
 use std::marker::Model;
 use switch_net::{Network, circuits_run};
+
+/// The plan of a network with pads, and room for what drives each node.
+#[derive(Drop)]
+struct Ready {
+    plan: Plan,
+    drive: Vec<Option<Trit>>,
+}
+
+impl Ready {
+    fn new(alloc: Global, network: &Network, pads: &Pads) -> Result<Ready, Refusal>
+        ensures ok { IfOk result (λ r. IsReady network.now pads.now r.plan r.drive.items) }
+        ensures err { IfErr result (IsRefused network.now pads.now) }
+    {
+        let plan = Plan::new(alloc, network, pads)?;
+        let drive = vec![in alloc; None; network.nodes as usize]?;
+        Ok(Ready { plan, drive })
+    }
+}
 
 /// A network that has its pads, with a value at each node, and all the memory that a clock takes.
 #[derive(Drop)]
@@ -52,14 +71,13 @@ impl<'a> Circuit<'a> {
         ensures sound { IfOk result (λ _. HasPads network pads.now) }
         ensures refused { IfErr result (IsRefused network pads.now) }
     {
-        let plan = Plan::new(alloc, &network, pads)?;
-        let drive = vec![in alloc; None; network.nodes as usize]?;
+        let ready = Ready::new(alloc, &network, pads)?;
         let settler = Settler::open(alloc, network)?;
         Ok(Circuit {
             pads,
             settler,
-            plan,
-            drive,
+            plan: ready.plan,
+            drive: ready.drive,
         })
     }
 

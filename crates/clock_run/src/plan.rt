@@ -6,7 +6,8 @@ ghost use Rattle.std.specs.List.{AllZip};
 ghost use Rattle.mp_base.specs.declared.value.Trit.{Trit as TritValue};
 ghost use Rattle.mp_base.specs.declared.refusal.Refusal.TheVariants as refusals;
 ghost use Rattle.mp_base.specs.declared.refusal.Spot.TheVariants as spots;
-ghost use Rattle.switch_net.specs.Breaks.{broken};
+ghost use Rattle.switch_net.specs.Breaks.{MeetsDriver, broken};
+ghost use Rattle.switch_net.specs.Pads.{driver_labels, chip_labels};
 ghost use Rattle.clock_run.specs.Driving.{IsDriven, AreDriven, AreSet};
 ghost use Rattle.clock_run.specs.Settings.{phases_of, levels};
 ghost use Rattle.clock_run.specs.Plan.{IsPlan};
@@ -18,7 +19,7 @@ use crate::owners::driven_twice;
 use crate::resolve::resolve;
 use crate::setting::Setting;
 use crate::split::split;
-use mp_base::{Broken, Family, Inputs, List, Pads, Refusal, Rule, Spot, Trit};
+use mp_base::{Broken, Family, Inputs, List, Name, Pads, Refusal, Rule, Spot, Trit};
 use std::alloc::Global;
 use switch_net::Network;
 
@@ -43,6 +44,32 @@ fn driven_at(offset: u64) -> Refusal
     })
 }
 
+/// The plan by the labels of a chip with these pads, of which the first so many are those of drivers, on different
+/// nodes; or the first label that is missing.
+fn resolved_plan(
+    alloc: Global,
+    network: &Network,
+    pads: &Pads,
+    labels: &[Name],
+    driver_count: usize,
+) -> Result<Plan, Refusal>
+    requires labels { labels.now ≡ chip_labels pads.now }
+    requires drivers { driver_count ≡ length (driver_labels pads.now.inputs) }
+    requires apart { (i : ℕ) → ¬ MeetsDriver (driver_labels pads.now.inputs) network.now.tags i }
+    ensures ok { IfOk result (λ p. IsPlan network.now pads.now p.supplies p.inputs p.outputs) }
+    ensures err { IfErr result (IsRefused network.now pads.now) }
+{
+    let all = resolve(alloc, network, labels)?;
+    let nodes = all.as_slice();
+    let inputs = pads.inputs.as_slice();
+    let outputs = pads.outputs.as_slice();
+    Ok(Plan {
+        supplies: List::from_vec(nodes[..5].to_vec(alloc)?),
+        inputs: split(alloc, inputs, &nodes[5..driver_count])?,
+        outputs: split(alloc, outputs, &nodes[driver_count..])?,
+    })
+}
+
 impl Plan {
     /// The plan of a network that has these pads, or the first rule that is broken.
     pub(crate) fn new(alloc: Global, network: &Network, pads: &Pads) -> Result<Plan, Refusal>
@@ -57,13 +84,7 @@ impl Plan {
             return Err(driven_at(offset));
         }
         add_pads(alloc, &mut labels, outputs)?;
-        let all = resolve(alloc, network, labels.as_slice())?;
-        let nodes = all.as_slice();
-        Ok(Plan {
-            supplies: List::from_vec(nodes[..5].to_vec(alloc)?),
-            inputs: split(alloc, inputs, &nodes[5..driver_count])?,
-            outputs: split(alloc, outputs, &nodes[driver_count..])?,
-        })
+        resolved_plan(alloc, network, pads, labels.as_slice(), driver_count)
     }
 
     /// Writes what drives each node in a setting.
