@@ -21,11 +21,16 @@ struct Outcome {
     told: String,
 }
 
-fn words_of(alloc: Global, text: &str) -> Result<Vec<String>, AllocError> {
-    let mut words = Vec::new(alloc);
+fn add_words(alloc: Global, words: &mut Vec<String>, text: &str) -> Result<(), AllocError> {
     for word in text.split(' ') {
         words.push(String::from_str(alloc, word)?)?;
     }
+    Ok(())
+}
+
+fn words_of(alloc: Global, text: &str) -> Result<Vec<String>, AllocError> {
+    let mut words = Vec::new(alloc);
+    add_words(alloc, &mut words, text)?;
     Ok(words)
 }
 
@@ -172,33 +177,53 @@ fn show_next(
     Ok(outcome.failed)
 }
 
+// Tells the run in which this write fails. Whether one did.
+fn show_call(
+    rt: &HostRuntime,
+    checked: &Checked,
+    row: Row<'_>,
+    call: u64,
+    whole: &[u8],
+    told: &mut Option<u64>,
+) -> io::Result<bool> {
+    match outcome_of(rt.alloc(), checked, row, Some(call))? {
+        Ok(outcome) => show_next(rt, &outcome, whole, told),
+        Err(refusal) => {
+            show_refusal(rt, &refusal)?;
+            Ok(false)
+        }
+    }
+}
+
 // Each write fails in turn. Those in one line are told once.
 fn show_cuts(rt: &HostRuntime, checked: &Checked, row: Row<'_>, whole: &[u8]) -> io::Result<()> {
     let mut told = None;
     for call in 0..1000 {
-        match outcome_of(rt.alloc(), checked, row, Some(call))? {
-            Err(refusal) => return show_refusal(rt, &refusal),
-            Ok(outcome) => {
-                if !show_next(rt, &outcome, whole, &mut told)? {
-                    return Ok(());
-                }
-            }
+        if !show_call(rt, checked, row, call, whole, &mut told)? {
+            return Ok(());
         }
+    }
+    Ok(())
+}
+
+fn show_outcome(
+    rt: &HostRuntime,
+    checked: &Checked,
+    row: Row<'_>,
+    outcome: &Outcome,
+) -> io::Result<()> {
+    show_lines(rt, &outcome.printed)?;
+    println!(rt; "   {}", outcome.told)?;
+    if row.fails {
+        show_cuts(rt, checked, row, &outcome.printed)?;
     }
     Ok(())
 }
 
 fn show_run(rt: &HostRuntime, checked: &Checked, row: Row<'_>) -> io::Result<()> {
     match outcome_of(rt.alloc(), checked, row, None)? {
+        Ok(outcome) => show_outcome(rt, checked, row, &outcome),
         Err(refusal) => show_refusal(rt, &refusal),
-        Ok(outcome) => {
-            show_lines(rt, &outcome.printed)?;
-            println!(rt; "   {}", outcome.told)?;
-            if row.fails {
-                show_cuts(rt, checked, row, &outcome.printed)?;
-            }
-            Ok(())
-        }
     }
 }
 

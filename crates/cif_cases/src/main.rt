@@ -30,14 +30,36 @@ fn show(rt: &HostRuntime, name: &str, text: &[u8]) -> io::Result<()> {
     println!(rt; "{name}\n    {words}")
 }
 
+fn show_again(rt: &HostRuntime, text: &[u8]) -> io::Result<()> {
+    let name = String::from_utf8_lossy(rt.alloc(), text)?;
+    let words = written(rt.alloc(), text)?;
+    println!(rt; "{name}\n    {words}")
+}
+
+fn show_each_again(rt: &HostRuntime, texts: &[u8]) -> io::Result<()> {
+    for text in texts.split(|byte| *byte == b'\n') {
+        if !text.is_empty() {
+            show_again(rt, text)?;
+        }
+    }
+    Ok(())
+}
+
 /// Texts of which the commands are written again.
 fn show_written(rt: &HostRuntime) -> io::Result<()> {
     let texts = fs::read(rt, "written.txt")?;
+    show_each_again(rt, &texts)
+}
+
+fn show_text(rt: &HostRuntime, text: &[u8]) -> io::Result<()> {
+    let name = String::from_utf8_lossy(rt.alloc(), text)?;
+    show(rt, name.as_str(), text)
+}
+
+fn show_texts(rt: &HostRuntime, texts: &[u8]) -> io::Result<()> {
     for text in texts.split(|byte| *byte == b'\n') {
         if !text.is_empty() {
-            let name = String::from_utf8_lossy(rt.alloc(), text)?;
-            let words = written(rt.alloc(), text)?;
-            println!(rt; "{name}\n    {words}")?;
+            show_text(rt, text)?;
         }
     }
     Ok(())
@@ -46,13 +68,7 @@ fn show_written(rt: &HostRuntime) -> io::Result<()> {
 fn show_list(rt: &HostRuntime, name: &str) -> io::Result<()> {
     let path = format!(in rt.alloc(); "{name}.txt")?;
     let texts = fs::read(rt, path.as_str())?;
-    for text in texts.split(|byte| *byte == b'\n') {
-        if !text.is_empty() {
-            let name = String::from_utf8_lossy(rt.alloc(), text)?;
-            show(rt, name.as_str(), text)?;
-        }
-    }
-    Ok(())
+    show_texts(rt, &texts)
 }
 
 /// The fronts of a file that are refused by another rule than C1.
@@ -66,12 +82,27 @@ fn show_fronts(rt: &HostRuntime, text: &[u8]) -> io::Result<()> {
     Ok(())
 }
 
+fn show_inverter(rt: &HostRuntime) -> io::Result<()> {
+    let inverter = fs::read(rt, "inverter.cif")?;
+    show(rt, "an inverter", &inverter)?;
+    show_fronts(rt, &inverter)
+}
+
+fn show_behind(rt: &HostRuntime, rest: &str) -> io::Result<()> {
+    let text = nearly_full(rt.alloc(), rest)?;
+    show(rt, rest, text.as_bytes())
+}
+
 fn show_last(rt: &HostRuntime) -> io::Result<()> {
     for rest in LAST {
-        let text = nearly_full(rt.alloc(), rest)?;
-        show(rt, rest, text.as_bytes())?;
+        show_behind(rt, rest)?;
     }
     Ok(())
+}
+
+fn show_doubled(rt: &HostRuntime) -> io::Result<()> {
+    let text = doubled(rt.alloc())?;
+    show(rt, "calls, doubled 40 times", text.as_bytes())
 }
 
 fn main(rt: HostRuntime) -> io::Result<()> {
@@ -80,12 +111,9 @@ fn main(rt: HostRuntime) -> io::Result<()> {
     }
     show(&rt, "an empty file", b"")?;
     show(&rt, "a blank file", b" \n ")?;
-    let inverter = fs::read(&rt, "inverter.cif")?;
-    show(&rt, "an inverter", &inverter)?;
-    show_fronts(&rt, &inverter)?;
+    show_inverter(&rt)?;
     show_last(&rt)?;
-    let text = doubled(rt.alloc())?;
-    show(&rt, "calls, doubled 40 times", text.as_bytes())?;
+    show_doubled(&rt)?;
     show_written(&rt)?;
     show_unfit(&rt)
 }

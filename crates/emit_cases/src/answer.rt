@@ -40,6 +40,20 @@ fn show_read(rt: &HostRuntime, text: &[u8]) -> io::Result<()> {
     }
 }
 
+fn print(rt: &HostRuntime, text: &[u8]) -> io::Result<()> {
+    let words = String::from_utf8_lossy(rt.alloc(), text)?;
+    print!(rt; "{words}")
+}
+
+fn show_text(rt: &HostRuntime, chip: &Chip, text: &[u8]) -> io::Result<()>
+    requires { IsEmittable (chip_rects chip.now) chip.now.labels }
+{
+    print(rt, text)?;
+    show_pieces(rt, chip, text)?;
+    show_fault(rt, chip, 0)?;
+    show_read(rt, text)
+}
+
 /// The text of a chip, and what is read back of it.
 pub(crate) fn show(rt: &HostRuntime, chip: &Chip) -> io::Result<()>
     requires { IsEmittable (chip_rects chip.now) chip.now.labels }
@@ -51,10 +65,5 @@ pub(crate) fn show(rt: &HostRuntime, chip: &Chip) -> io::Result<()>
     if write_file(&commands, &mut sink).is_err() {
         return println!(rt; "a fault");
     }
-    let text = sink.bytes();
-    let words = String::from_utf8_lossy(rt.alloc(), text)?;
-    print!(rt; "{words}")?;
-    show_pieces(rt, chip, text)?;
-    show_fault(rt, chip, 0)?;
-    show_read(rt, text)
+    show_text(rt, chip, sink.bytes())
 }

@@ -45,14 +45,18 @@ fn measured(
     }
 }
 
+fn show_checked(rt: &HostRuntime, name: &str, program: &Checked) -> io::Result<()> {
+    match measured(rt, name, program)? {
+        Ok(sizes) => show_sizes(rt, &sizes),
+        Err(_) => println!(rt; "not enough memory"),
+    }
+}
+
 /// The cost of a source's transfers, and how large their path is.
 pub(crate) fn show_size(rt: &HostRuntime, name: &str) -> io::Result<()> {
     println!(rt; "{name}")?;
-    let Some(program) = checked_of(rt, name)? else {
-        return println!(rt; "a rule is broken");
-    };
-    match measured(rt, name, &program)? {
-        Ok(sizes) => show_sizes(rt, &sizes),
-        Err(_) => println!(rt; "not enough memory"),
+    match checked_of(rt, name)? {
+        Some(program) => show_checked(rt, name, &program),
+        None => println!(rt; "a rule is broken"),
     }
 }

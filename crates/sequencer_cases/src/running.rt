@@ -47,6 +47,27 @@ fn agree(
 }
 
 // In how many of so many clocks they do: first those whose inputs are given, then others.
+fn count_agreed(
+    alloc: Global,
+    machine: &mut Machine<'_>,
+    rtl: &Rtl,
+    stored: &mut [u64],
+    given: &str,
+    count: u32,
+    dice: &mut Dice,
+) -> Result<u32, NoMemory> {
+    let mut clocks = given.split(',');
+    let mut same = 0u32;
+    for _ in 0..count {
+        let given = clocks.next().filter(|clock| !clock.is_empty());
+        if agree(alloc, machine, rtl, stored, given, dice)? {
+            same = same.saturating_add(1);
+        }
+    }
+    Ok(same)
+}
+
+// The same from the start of a program and of its transfers.
 fn agreed(
     alloc: Global,
     checked: &Checked,
@@ -55,29 +76,33 @@ fn agreed(
     count: u32,
     dice: &mut Dice,
 ) -> Result<u32, NoMemory> {
-    let mut machine = Machine::open(alloc, checked)?;
     let mut stored = vec![in alloc; 0; rtl.cells.len()]?;
-    let mut clocks = given.split(',');
-    let mut same = 0u32;
-    for _ in 0..count {
-        let given = clocks.next().filter(|clock| !clock.is_empty());
-        if agree(alloc, &mut machine, rtl, &mut stored, given, dice)? {
-            same = same.saturating_add(1);
-        }
-    }
-    Ok(same)
+    let mut machine = Machine::open(alloc, checked)?;
+    count_agreed(alloc, &mut machine, rtl, &mut stored, given, count, dice)
+}
+
+// The run of a program beside its transfers, where there is memory.
+fn run_beside(
+    alloc: Global,
+    checked: &Checked,
+    rtl: &Rtl,
+    given: &str,
+    clocks: u32,
+    seed: u64,
+) -> Option<Run> {
+    let mut dice = Dice::new(seed);
+    let same = agreed(alloc, checked, rtl, given, clocks, &mut dice).ok()?;
+    Some(Run {
+        sound: is_sound(rtl),
+        clocks,
+        same,
+    })
 }
 
 // The run of a program, where there is memory.
 fn run_of(alloc: Global, checked: &Checked, given: &str, clocks: u32, seed: u64) -> Option<Run> {
     let rtl = sequence(alloc, checked).ok()?;
-    let mut dice = Dice::new(seed);
-    let same = agreed(alloc, checked, &rtl, given, clocks, &mut dice).ok()?;
-    Some(Run {
-        sound: is_sound(&rtl),
-        clocks,
-        same,
-    })
+    run_beside(alloc, checked, &rtl, given, clocks, seed)
 }
 
 // The program of a source that is not too long and breaks no rule.
