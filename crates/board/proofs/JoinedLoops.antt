@@ -3,6 +3,7 @@ use Rattle.std.proofs.Common.{◌≡◌, ◌∙◌, ℕ, zero, suc, ◌+◌, Lis
 use Rattle.mp_base.specs.declared.value.Trit.{Trit}
 use Rattle.transcript.specs.Transcript.{RunsAlong}
 use Rattle.transcript.specs.Laws.{CanStep, StepsOn}
+use Rattle.transcript.proofs.Transcripts.{runs_then}
 use Rattle.board.specs.Face.{Face}
 use Rattle.board.specs.Loop.{Wired, inputs_at, faces_after, inputs_along, faces_along, IsLoop}
 use Rattle.board.specs.Laws.{InputsFit}
@@ -20,14 +21,6 @@ module _ (w : Wired) where
   faces_then k n faces (o ∷ os) us is = faces_then (suc k) n (faces_after w k o faces) os us (omega (arith, is))
 
 module _ {S : Type 0} (Steps : S → List ℕ → List (List Trit) → S → Type 0) (w : Wired) where
-  runs_then : (before mid after : S) (is js : List (List ℕ)) (os us : List (List (List Trit)))
-      → RunsAlong Steps before is os mid → RunsAlong Steps mid js us after
-      → RunsAlong Steps before (is ++ js) (os ++ us) after
-  runs_then before mid after [] js [] us h k = let P : S → Type 0 = λ s. RunsAlong Steps s js us after in subst P h k
-  runs_then before mid after [] js (o ∷ os) us h k = absurd h
-  runs_then before mid after (i ∷ is) js [] us h k = absurd h
-  runs_then before mid after (i ∷ is) js (o ∷ os) us h k = (h.0, h.1, runs_then h.0 mid after is js os us h.2 k)
-
   -- a loop, and another from its end
   pub loop_then : (k n : ℕ) (before mid after : S) (faces mids later : List Face) (os us : List (List (List Trit)))
       → n ≡ k + length os → IsLoop Steps w k before faces os mid mids → IsLoop Steps w n mid mids us after later
@@ -37,7 +30,7 @@ module _ {S : Type 0} (Steps : S → List ℕ → List (List Trit) → S → Typ
       let R : List (List ℕ) → Type 0 = λ js. RunsAlong Steps before js (os ++ us) after in
       record {
         runs = subst R (sym (inputs_then w k n faces os us is))
-            (runs_then before mid after _ _ os us a.runs (subst P a.parts b.runs));
+            (runs_then Steps before mid after _ _ os us a.runs (subst P a.parts b.runs));
         parts = b.parts ∙ ap (λ fs. faces_along w n fs us) a.parts ∙ sym (faces_then w k n faces os us is);
       }
 

@@ -1,42 +1,14 @@
 -- The bits of pads, and the numbers that words show.
-use Rattle.std.proofs.Common.{
-  ◌≡◌,
-  ◌∙◌,
-  ℕ,
-  zero,
-  suc,
-  ◌+◌,
-  ◌-◌,
-  ◌*◌,
-  ◌/◌,
-  ◌%◌,
-  ◌<◌,
-  ◌≤◌,
-  ◌^◌,
-  List,
-  [],
-  ◌∷◌,
-  length,
-  get_or,
-  refl,
-  sym,
-  ap,
-  ap₂,
-  arith,
-  bit_and,
-}
+use Rattle.std.proofs.Common.{◌≡◌, ◌∙◌, ℕ, zero, suc, ◌-◌, ◌/◌, ◌%◌, ◌<◌, ◌≤◌, ◌^◌, List, [], ◌∷◌, length, get_or}
+use Rattle.std.proofs.Common.{sym, ap, ap₂, arith, bit_and}
 use Rattle.std.specs.Prelude.{slice_index_or}
-use Rattle.std.specs.Int.{bit_at}
-use Rattle.std.proofs.Math.Nat.{add_comm}
-use Rattle.std.proofs.lemmas.List.{length-append}
-use Rattle.std.proofs.lemmas.Nat.{and_mask, mod-pow-add}
-use Rattle.std.proofs.lemmas.Nat.Bits.{bit_at-lt, bit_at_and, ones_shr}
+use Rattle.std.proofs.lemmas.Nat.{and_mask}
+use Rattle.std.proofs.lemmas.Nat.Bits.{ones_shr}
 use Rattle.mp_base.specs.declared.value.TritWord.{TritWord}
 use Rattle.mp_base.specs.declared.pad.Pad.{Pad}
-use Rattle.stimulus.specs.Bits.{bit_count, trit_at, low_trits, pad_trits, trits_of}
-use Rattle.stimulus.specs.Transcript.{weight, number_of}
-use Rattle.stimulus.proofs.Bits.{number_more}
-use Rattle.stimulus.proofs.Words.{weight_both}
+use Rattle.stimulus.specs.Bits.{bit_count, pad_trits, trits_of}
+use Rattle.stimulus.specs.Transcript.{number_of}
+use Rattle.stimulus.proofs.Words.{number_low}
 
 -- a pad has at most 64 bits
 few_bits : (p : Pad) → bit_count p.width ≤ 64
@@ -58,28 +30,10 @@ masked value all n is = ap (bit_and value) is ∙ and_mask value n
 -- ---- the number of a word, of which an unknown bit counts nothing
 
 module _ (word : TritWord) where
-  many_trits : (n : ℕ) → length (low_trits n word) ≡ n
-  many_trits zero = refl
-  many_trits (suc n) =
-      length-append (low_trits n word) (trit_at word n ∷ []) ∙ (let e = many_trits n in omega (arith, e))
-
-  number_low : (n : ℕ) → number_of (low_trits n word) ≡ bit_and word.known word.bits % 2 ^ n
-  number_low zero = let e : bit_and word.known word.bits % 1 ≡ 0 = omega arith in sym e
-  number_low (suc n) =
-      let both = bit_and word.known word.bits in
-      number_more (low_trits n word) (trit_at word n)
-      ∙ ap (λ x. number_of (low_trits n word) + weight (trit_at word n) * 2 ^ x) (many_trits n)
-      ∙ ap (λ x. x + weight (trit_at word n) * 2 ^ n) (number_low n)
-      ∙ ap (λ x. both % 2 ^ n + x * 2 ^ n)
-      (weight_both (bit_at word.known n) (bit_at word.bits n) (bit_at-lt word.known n) (bit_at-lt word.bits n)
-      ∙ sym (bit_at_and word.known word.bits n))
-      ∙ add_comm (both % 2 ^ n) (bit_at both n * 2 ^ n)
-      ∙ sym (mod-pow-add both 1 n) ∙ ap (λ m. both % 2 ^ m) (let e : 1 + n ≡ suc n = omega arith in e)
-
   pub shown_number : (p : Pad) (all : ℕ) → all ≡ 2 ^ bit_count p.width - 1
       → bit_and (bit_and word.known word.bits) all ≡ number_of (pad_trits p word)
   shown_number p all is = masked (bit_and word.known word.bits) all (bit_count p.width) is
-      ∙ sym (number_low (bit_count p.width))
+      ∙ sym (number_low word (bit_count p.width))
 
 -- what a pad shows among all
 pub shown_at : (pads : List Pad) (words : List TritWord) (k : ℕ) (p : Pad) (w : TritWord) → k < length pads

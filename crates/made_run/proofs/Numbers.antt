@@ -1,38 +1,16 @@
 -- The number that a narrow word shows is its bits.
-use Rattle.std.proofs.Common.{◌≡◌, ◌∙◌, ℕ, zero, suc, ◌+◌, ◌*◌, ◌%◌, ◌^◌, ◌<◌, ◌≤◌, List, [], ◌∷◌, length}
+use Rattle.std.proofs.Common.{◌≡◌, ◌∙◌, ℕ, zero, suc, ◌%◌, ◌^◌, ◌<◌, ◌≤◌, List, [], ◌∷◌, length}
 use Rattle.std.proofs.Common.{get_or, refl, sym, ap, arith, bit_and}
-use Rattle.std.specs.Int.{bit_at}
 use Rattle.std.specs.List.{AllZip}
-use Rattle.std.proofs.Math.Nat.{add_comm, mod-eq_of_lt}
-use Rattle.std.proofs.lemmas.List.{length-append}
-use Rattle.std.proofs.lemmas.Nat.{and_comm, and_le_r, mod-pow-add}
-use Rattle.std.proofs.lemmas.Nat.Bits.{bit_at-lt, bit_at_and}
+use Rattle.std.proofs.Math.Nat.{mod-eq_of_lt}
+use Rattle.std.proofs.lemmas.Nat.{and_comm, and_le_r}
 use Rattle.std.proofs.lemmas.Slice.Zip.{AllZip-long}
 use Rattle.mp_base.specs.declared.value.TritWord.{TritWord}
 use Rattle.mp_base.specs.declared.pad.Pad.{Pad}
-use Rattle.stimulus.specs.Bits.{bit_count, trit_at, low_trits, pad_trits, trits_of}
-use Rattle.stimulus.specs.Transcript.{weight, number_of}
-use Rattle.stimulus.proofs.Bits.{number_more}
-use Rattle.stimulus.proofs.Words.{weight_both}
+use Rattle.stimulus.specs.Bits.{bit_count, pad_trits, trits_of}
+use Rattle.stimulus.specs.Transcript.{number_of}
+use Rattle.stimulus.proofs.Words.{number_low}
 use Rattle.settled_sum.specs.Sum.{first_number}
-
-many_trits : (word : TritWord) (n : ℕ) → length (low_trits n word) ≡ n
-many_trits word zero = refl
-many_trits word (suc n) =
-    length-append (low_trits n word) (trit_at word n ∷ []) ∙ (let e = many_trits word n in omega (arith, e))
-
-number_low : (word : TritWord) (n : ℕ) → number_of (low_trits n word) ≡ bit_and word.known word.bits % 2 ^ n
-number_low word zero = let e : bit_and word.known word.bits % 1 ≡ 0 = omega arith in sym e
-number_low word (suc n) =
-    let both = bit_and word.known word.bits in
-    number_more (low_trits n word) (trit_at word n)
-    ∙ ap (λ x. number_of (low_trits n word) + weight (trit_at word n) * 2 ^ x) (many_trits word n)
-    ∙ ap (λ x. x + weight (trit_at word n) * 2 ^ n) (number_low word n)
-    ∙ ap (λ x. both % 2 ^ n + x * 2 ^ n)
-    (weight_both (bit_at word.known n) (bit_at word.bits n) (bit_at-lt word.known n) (bit_at-lt word.bits n)
-    ∙ sym (bit_at_and word.known word.bits n))
-    ∙ add_comm (both % 2 ^ n) (bit_at both n * 2 ^ n)
-    ∙ sym (mod-pow-add both 1 n) ∙ ap (λ m. both % 2 ^ m) (let e : 1 + n ≡ suc n = omega arith in e)
 
 -- the known bits of a word lie within a pad
 abbrev pub IsNarrow : Pad → TritWord → Type 0

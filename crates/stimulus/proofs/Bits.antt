@@ -55,7 +55,7 @@ abbrev AreKnown : TritWord → ℕ → Type 0
 AreKnown word n = (k : ℕ) → k < n → bit_at word.known k ≡ 1
 
 module _ (word : TritWord) where
-  many_trits : (n : ℕ) → length (low_trits n word) ≡ n
+  pub many_trits : (n : ℕ) → length (low_trits n word) ≡ n
   many_trits zero = refl
   many_trits (suc n) =
       length-append (low_trits n word) (trit_at word n ∷ []) ∙ (let e = many_trits n in omega (arith, e))

@@ -36,7 +36,7 @@ one_more f (suc k) (c ∷ cs) lt = ap (λ is. f c ∷ is) (one_more f k cs (omeg
 
 module _ {S : Type 0} (Steps : S → List ℕ → List (List Trit) → S → Type 0) where
   -- a run, and another from its end
-  runs_then : (before mid after : S) (is js : List (List ℕ)) (os us : List (List (List Trit)))
+  pub runs_then : (before mid after : S) (is js : List (List ℕ)) (os us : List (List (List Trit)))
       → RunsAlong Steps before is os mid → RunsAlong Steps mid js us after
       → RunsAlong Steps before (is ++ js) (os ++ us) after
   runs_then before mid after [] js [] us h k = let P : S → Type 0 = λ s. RunsAlong Steps s js us after in subst P h k
