@@ -1,13 +1,12 @@
 -- A fabric stays one where lines and marks are added that fit; and each call of what adds them one by one is met.
-use Rattle.std.proofs.Common.{◌≡◌, ◌⊎◌, inl, inr, ℕ, zero, suc, ◌<◌, ◌≤◌, ◌+◌, List, [], ◌∷◌, ◌++◌, length, map}
+use Rattle.std.proofs.Common.{◌≡◌, inl, inr, ℕ, zero, suc, ◌<◌, List, [], ◌∷◌, ◌++◌, length}
 use Rattle.std.proofs.Common.{get_or, take, sym, ◌∙◌, ap, subst, arith, drop, append_assoc}
-use Rattle.std.proofs.lemmas.List.{append-nil, get_or-append-add, take-append-drop}
-use Rattle.std.specs.Prelude.{Contains, AllPairs, All}
+use Rattle.std.proofs.lemmas.List.{append-nil, take-append-drop}
+use Rattle.std.specs.Prelude.{AllPairs, All}
 use Rattle.mp_base.proofs.Members.{Member, member_contains, contains_member}
 use Rattle.tile_cells.specs.declared.tile.Tile.{Tile}
 use Rattle.tile_cells.specs.declared.tile.Tile.TheVariants.{TapL, TapR, Tran, PullUp, Under}
 use Rattle.fabric.specs.declared.thing.Side.{Side}
-use Rattle.fabric.specs.declared.thing.Segment.{Segment}
 use Rattle.fabric.specs.declared.thing.Line.{Line}
 use Rattle.fabric.specs.declared.thing.Mark.{Mark}
 use Rattle.fabric.specs.Plan.{Plan, IsFabric, IsSegment, IsLine, IsMark, Stands, LineAt, SegmentAt, LinesApart}
@@ -15,7 +14,7 @@ use Rattle.fabric.specs.Plan.{SegmentsApart, MarksApart}
 use Rattle.fabric.specs.Plan.{with_added}
 use Rattle.array_form.proofs.Members.{member_append, append_left}
 use Rattle.array_form.proofs.Members.{append_right}
-use Rattle.array_form.proofs.Pairs.{Each, each_at, Pairs, pairs_all, pairs_from, pairs_append}
+use Rattle.array_form.proofs.Pairs.{each_at, Pairs, pairs_all, pairs_from, pairs_append}
 use Rattle.array_form.proofs.Laid.{all_from, all_at}
 
 module _ (f : Plan) (lawful : IsFabric f) (ls : List Line) (ms : List Mark) where

@@ -1,31 +1,30 @@
 -- What is added for a band is what its names say, and each tie stands where its wires cross.
-use Rattle.std.proofs.Common.{◌≡◌, ◌⊎◌, inl, inr, ℕ, zero, suc, ◌<◌, ◌≤◌, ◌+◌, Option, Some, None, Bool, true}
-use Rattle.std.proofs.Common.{false, cond, List, [], ◌∷◌, ◌++◌, length, map, refl, sym, ◌∙◌, ap, subst, arith}
+use Rattle.std.proofs.Common.{◌≡◌, inl, inr, ℕ, zero, suc, ◌<◌, ◌+◌, Option, Some, None, Bool, true}
+use Rattle.std.proofs.Common.{false, List, [], ◌∷◌, ◌++◌, length, map, refl, sym, ◌∙◌, ap, subst, arith}
 use Rattle.std.specs.Prelude.{Contains, flat_map, slice_get}
 use Rattle.std.specs.List.{range_with_len}
 use Rattle.std.proofs.lemmas.Option.{slice_get_within}
 use Rattle.mp_base.proofs.Lists.{map_append}
 use Rattle.std.proofs.lemmas.Simd.{map-map}
 use Rattle.mp_base.proofs.Members.{Member}
-use Rattle.tile_cells.specs.declared.tile.Tile.TheVariants.{TapL, TapR, Tran, PullUp}
+use Rattle.tile_cells.specs.declared.tile.Tile.TheVariants.{TapL, TapR, PullUp}
 use Rattle.fabric.specs.declared.thing.Side.{Side}
 use Rattle.fabric.specs.declared.thing.Side.TheVariants.{L, R}
 use Rattle.fabric.specs.declared.thing.Line.{Line}
-use Rattle.fabric.specs.Switches.{Net, segment, line, ground, power}
+use Rattle.fabric.specs.Switches.{Net, segment, line}
 use Rattle.nor_net.specs.declared.net.Phase.{Phase}
 use Rattle.nor_net.specs.declared.net.Phase.TheVariants.{A, B, C}
 use Rattle.nor_net.specs.declared.net.NetId.{NetId}
 use Rattle.nor_net.specs.declared.net.Part.{Part}
 use Rattle.nor_net.specs.declared.net.Part.TheVariants.{Input, Gate, Latch}
-use Rattle.nor_net.specs.Elements.{spot}
-use Rattle.array_form.specs.Named.{Tie, tap, tran, pull}
-use Rattle.array_form.specs.Wires.{Wire, row, beat, left, right, to_ground, place, NetTie, gate_own, gate_ground}
+use Rattle.array_form.specs.Named.{Tie, tran}
+use Rattle.array_form.specs.Wires.{Wire, row, beat, left, right, place, NetTie, gate_own, gate_ground}
 use Rattle.array_form.specs.Wires.{gate_pull, gate_input, latch_own, latch_data, latch_phase, stub_own}
-use Rattle.array_form.specs.Lists.{Layout, net_of, mark_of, Crossing, stretch, upright, mark}
+use Rattle.array_form.specs.Lists.{Layout, net_of, mark_of, Crossing, upright, mark}
 use Rattle.array_form.specs.Band.{inputs_of, net_columns, net_ties, band_rows, band_columns, band_ties}
-use Rattle.array_form.specs.Homes.{Columns, home, marks, phase_marks, phase_number, least, greatest}
+use Rattle.array_form.specs.Homes.{home, marks, phase_number}
 use Rattle.array_form.specs.Laying.{band_segment, band_segments, column_lines, band_lines, column_marks, band_marks}
-use Rattle.array_form.specs.Laying.{AreTracks, HasRoom}
+use Rattle.array_form.specs.Laying.{AreTracks}
 use Rattle.array_form.specs.BandLayout.{Bands, layout}
 use Rattle.array_form.proofs.Homes.{least_below, greatest_above, own_mark, input_mark, data_mark, phase_mark}
 

@@ -1,22 +1,17 @@
 -- How much one placed net adds.
-use Rattle.std.proofs.Common.{◌≡◌, ◌⊎◌, ℕ, zero, suc, ◌<◌, ◌≤◌, ◌+◌, ◌*◌, Option, Some, None, Bool, true}
-use Rattle.std.proofs.Common.{false, List, [], ◌∷◌, ◌++◌, length, map, refl, sym, ◌∙◌, ap, subst, arith}
+use Rattle.std.proofs.Common.{◌≡◌, ℕ, zero, suc, ◌≤◌, ◌+◌, ◌*◌, Option, Some, None, Bool, true}
+use Rattle.std.proofs.Common.{false, List, [], ◌∷◌, length, map, refl, sym, ◌∙◌, ap, subst, arith}
 use Rattle.std.specs.Prelude.{slice_get, flat_map, not, ◌==◌}
 use Rattle.std.specs.List.{range_with_len, sum_by}
-use Rattle.tile_cells.specs.declared.tile.Tile.{Tile}
 use Rattle.tile_cells.specs.declared.tile.Tile.TheVariants.{TapL, TapR, Tran, PullUp}
-use Rattle.tile_cells.specs.Tiles.{cells}
 use Rattle.fabric.specs.Counted.{mark_size}
 use Rattle.std.proofs.lemmas.List.Sums.{sum_by-cons, sum_by-append}
-use Rattle.fabric.specs.declared.thing.Side.TheVariants.{L, R}
-use Rattle.fabric.specs.declared.thing.Line.{Line}
-use Rattle.fabric.specs.declared.thing.Mark.{Mark}
 use Rattle.nor_net.specs.declared.net.NetId.{NetId}
 use Rattle.nor_net.specs.declared.net.Part.{Part}
 use Rattle.nor_net.specs.declared.net.Part.TheVariants.{Input, Gate, Latch}
 use Rattle.nor_net.specs.Shape.{fan_in, gate_inputs}
-use Rattle.array_form.specs.Lists.{upright, mark}
-use Rattle.array_form.specs.Band.{inputs_of, distinct, has}
+use Rattle.array_form.specs.Lists.{mark}
+use Rattle.array_form.specs.Band.{inputs_of, distinct}
 use Rattle.array_form.specs.Homes.{Columns, home}
 use Rattle.fabric.specs.Plan.{Plan, rows_of}
 use Rattle.fabric.specs.Room.{IsRoomy}

@@ -1,13 +1,10 @@
 -- A fabric whose ties are those of the nets draws the nets.
-use Rattle.std.proofs.Common.{◌≡◌, ◌⊎◌, inl, inr, ◌↔◌, ℕ, ◌<◌, List, Option, Some, None, refl, sym, ◌∙◌, ap, subst}
+use Rattle.std.proofs.Common.{◌≡◌, ◌⊎◌, inl, inr, ℕ, ◌<◌, List, Some, refl, sym, ◌∙◌, ap, subst}
 use Rattle.std.proofs.Common.{Bool, true, false, filter}
 use Rattle.std.specs.Prelude.{Contains, ◌≢◌}
-use Rattle.std.specs.List.{AllZip}
 use Rattle.mp_base.proofs.Tests.{false_true}
 use Rattle.mp_base.proofs.Members.{member_contains, contains_member, member_filter, filter_member}
-use Rattle.tile_cells.specs.declared.tile.Tile.{Tile}
 use Rattle.tile_cells.specs.declared.tile.Tile.TheVariants.{TapL, TapR, Tran, PullUp, Under}
-use Rattle.switch_net.specs.declared.network.ChannelKind.{ChannelKind}
 use Rattle.switch_net.specs.declared.network.ChannelKind.TheVariants.{Enhancement, Depletion}
 use Rattle.switch_net.specs.declared.network.Channel.{Channel}
 use Rattle.switch_net.specs.declared.network.Network.{Network}
@@ -15,18 +12,18 @@ use Rattle.fabric.specs.declared.thing.Side.{Side}
 use Rattle.fabric.specs.declared.thing.Side.TheVariants.{L, R}
 use Rattle.fabric.specs.declared.thing.Mark.{Mark}
 use Rattle.fabric.specs.Plan.{Plan, IsFabric}
-use Rattle.fabric.specs.Switches.{Net, power, IsNet, LineOf, SegmentOf, IsTapOn, AreNumbers, is_switch, IsSwitch}
-use Rattle.fabric.specs.Switches.{AreSwitches, HasEnd}
+use Rattle.fabric.specs.Switches.{Net, power, IsTapOn, is_switch, IsSwitch}
+use Rattle.fabric.specs.Switches.{AreSwitches}
 use Rattle.nor_net.specs.declared.net.Phase.{Phase}
-use Rattle.nor_net.specs.Elements.{Spot, Element, Given, Nor, Latched, Joined, Low, Nets}
+use Rattle.nor_net.specs.Elements.{Spot, Nor, Latched, Nets}
 use Rattle.drawing.specs.Draws.{Point, OfNet, Ground, Power, OfPhase, IsOwn, HasOwnNode, HasEnds, IsPullDown}
 use Rattle.drawing.specs.Draws.{IsPullUp, IsPass, IsDrawn, pull_down, pull_up, pass, lone, Draws}
-use Rattle.array_form.specs.Named.{Tie, tap, tran, pull, IsAt, IsNamed, Speaks, Joins}
-use Rattle.array_form.specs.Roots.{Root, at, alone, AreRoots, AreRooted, IsSwitchOf, no_switch, down_of, pass_of}
+use Rattle.array_form.specs.Named.{Tie, tap, tran, pull, IsAt, IsNamed}
+use Rattle.array_form.specs.Roots.{Root, at, alone, AreRoots, AreRooted, IsSwitchOf, down_of, pass_of}
 use Rattle.array_form.specs.Roots.{up_of, lone_of, AreSwitchesOf, AreHubs}
 use Rattle.array_form.proofs.Members.{zip_left, zip_right}
 use Rattle.array_form.proofs.Once.{line_once, segment_once}
-use Rattle.array_form.proofs.Naming.{numbers_from_roots, roots_from_numbers, hub_number}
+use Rattle.array_form.proofs.Naming.{roots_from_numbers, hub_number}
 
 tap_is_no_switch : (s : Side) (m : Mark) → IsTapOn s m.tile → is_switch m ≡ true → ⊥
 tap_is_no_switch L m a b =

@@ -1,6 +1,6 @@
 -- Columns differ, and segments span their marks.
-use Rattle.std.proofs.Common.{◌≡◌, ◌⊎◌, inl, inr, ℕ, zero, suc, ◌<◌, ◌≤◌, ◌+◌, ◌==◌, Option, Some, None, Bool, true}
-use Rattle.std.proofs.Common.{false, cond, List, [], ◌∷◌, ◌++◌, length, map, filter, refl, sym, ◌∙◌, ap, subst}
+use Rattle.std.proofs.Common.{◌≡◌, inl, inr, ℕ, zero, suc, ◌<◌, ◌≤◌, ◌+◌, ◌==◌, Option, Some, Bool, true}
+use Rattle.std.proofs.Common.{cond, List, [], ◌∷◌, ◌++◌, length, map, refl, sym, ◌∙◌, ap, subst}
 use Rattle.std.proofs.Common.{arith}
 use Rattle.std.specs.Prelude.{Contains, slice_get, min, max}
 use Rattle.std.specs.List.{range_with_len}
@@ -11,13 +11,13 @@ use Rattle.nor_net.specs.declared.net.Phase.{Phase}
 use Rattle.nor_net.specs.declared.net.Phase.TheVariants.{A, B, C}
 use Rattle.nor_net.specs.declared.net.NetId.{NetId}
 use Rattle.nor_net.specs.declared.net.Part.{Part}
-use Rattle.nor_net.specs.declared.net.Part.TheVariants.{Input, Gate, Latch}
+use Rattle.nor_net.specs.declared.net.Part.TheVariants.{Gate, Latch}
 use Rattle.array_form.specs.Band.{has}
 use Rattle.array_form.specs.Homes.{reads, beats, is_of, count_below, Columns, home, end_of, numbers, marks}
-use Rattle.array_form.specs.Homes.{phase_marks, phase_number, least, greatest}
+use Rattle.array_form.specs.Homes.{phase_marks, least, greatest}
 use Rattle.array_form.proofs.Members.{append_left}
 use Rattle.array_form.proofs.Members.{append_right}
-use Rattle.array_form.proofs.Listing.{same_from, same_to}
+use Rattle.array_form.proofs.Listing.{same_to}
 
 -- ---- counting
 pub count_grows : (test : ℕ → Bool) (a b : ℕ) → a ≤ b → count_below test a ≤ count_below test b

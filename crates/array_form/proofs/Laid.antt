@@ -1,8 +1,8 @@
 -- A fabric stays one where a net is placed.
-use Rattle.std.proofs.Common.{◌≡◌, ◌⊎◌, inl, inr, ℕ, zero, suc, ◌<◌, ◌≤◌, ◌+◌, ◌*◌, Option, Some, None, Bool, true}
+use Rattle.std.proofs.Common.{◌≡◌, ◌⊎◌, inl, inr, ℕ, suc, ◌<◌, ◌≤◌, ◌+◌, Option, Some, None, Bool, true}
 use Rattle.std.proofs.Common.{false, cond, List, [], ◌∷◌, ◌++◌, length, map, get_or, refl, sym, ◌∙◌, ap, subst}
 use Rattle.std.proofs.Common.{arith}
-use Rattle.std.specs.Prelude.{Contains, AllPairs, All, flat_map, slice_get, ◌≢◌, ◌==◌, not}
+use Rattle.std.specs.Prelude.{AllPairs, All, slice_get, ◌≢◌, ◌==◌, not}
 use Rattle.std.specs.List.{range_with_len}
 use Rattle.std.proofs.lemmas.Bool.{cases_Bool, cases_eq, cases_lt}
 use Rattle.std.proofs.lemmas.List.{get_or_default}
@@ -17,16 +17,16 @@ use Rattle.fabric.specs.declared.thing.Side.TheVariants.{L, R}
 use Rattle.fabric.specs.declared.thing.Segment.{Segment}
 use Rattle.fabric.specs.declared.thing.Line.{Line}
 use Rattle.fabric.specs.declared.thing.Mark.{Mark}
-use Rattle.fabric.specs.Plan.{with_added, Plan, bands, rows_of, Passes, Crosses, IsFabric, IsSegment, IsLine}
+use Rattle.fabric.specs.Plan.{Plan, bands, rows_of, IsFabric, IsSegment, IsLine}
 use Rattle.fabric.specs.Plan.{IsMark, Stands, LineAt, SegmentAt, LinesApart, SegmentsApart, MarksApart}
 use Rattle.nor_net.specs.declared.net.Phase.{Phase}
 use Rattle.nor_net.specs.declared.net.Phase.TheVariants.{A, B, C}
 use Rattle.nor_net.specs.declared.net.NetId.{NetId}
 use Rattle.nor_net.specs.declared.net.Part.{Part}
 use Rattle.nor_net.specs.declared.net.Part.TheVariants.{Input, Gate, Latch}
-use Rattle.array_form.specs.Lists.{stretch, upright, mark}
+use Rattle.array_form.specs.Lists.{upright, mark}
 use Rattle.array_form.specs.Band.{inputs_of, distinct, without}
-use Rattle.array_form.specs.Homes.{Columns, home, end_of, marks, numbers, reads, phase_marks, phase_number, least}
+use Rattle.array_form.specs.Homes.{Columns, home, marks, numbers, reads, phase_marks, phase_number, least}
 use Rattle.array_form.specs.Homes.{greatest}
 use Rattle.array_form.specs.Laying.{with_net, band_segment, band_segments, column_lines, band_lines, column_marks}
 use Rattle.array_form.specs.Laying.{band_marks, AreTracks, HasRoom}
@@ -34,9 +34,9 @@ use Rattle.array_form.proofs.Members.{member_append}
 use Rattle.array_form.proofs.Members.{member_flat, flat_member, append_left}
 use Rattle.array_form.proofs.Members.{append_right}
 use Rattle.array_form.proofs.Listing.{distinct_from, differs_from}
-use Rattle.array_form.proofs.Homes.{home_once, home_inside, home_rises, least_below, greatest_above, least_in}
+use Rattle.array_form.proofs.Homes.{home_inside, home_rises, least_below, greatest_above, least_in}
 use Rattle.array_form.proofs.Homes.{greatest_in, own_mark, input_mark, data_mark, phase_mark}
-use Rattle.array_form.proofs.Pairs.{Each, each_at, Pairs, pairs_all, pairs_from, pairs_append, pairs_map_range}
+use Rattle.array_form.proofs.Pairs.{each_at, Pairs, pairs_all, pairs_from, pairs_append, pairs_map_range}
 use Rattle.array_form.proofs.Pairs.{pairs_flat_range, pairs_filter, each_from}
 
 pub all_from : {X : Type 0} (P : X → Type 0) (xs : List X) → ((x : X) → Member xs x → P x) → All P xs

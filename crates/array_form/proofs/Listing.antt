@@ -1,26 +1,24 @@
 -- The lists of a band have exactly its ties and lines.
-use Rattle.std.proofs.Common.{◌≡◌, ◌⊎◌, inl, inr, ℕ, ◌==◌, Option, Some, None, Bool, true}
-use Rattle.std.proofs.Common.{false, cond, List, [], ◌∷◌, ◌++◌, length, map, get_or, refl, sym, ◌∙◌, ap, subst}
+use Rattle.std.proofs.Common.{◌≡◌, inl, inr, ℕ, ◌==◌, Option, Some, None, Bool, true}
+use Rattle.std.proofs.Common.{false, cond, List, [], ◌∷◌, length, map, refl, sym, ◌∙◌, ap, subst}
 use Rattle.std.proofs.Common.{arith}
-use Rattle.std.specs.Prelude.{Contains, slice_get, flat_map, not, ◌≢◌}
+use Rattle.std.specs.Prelude.{slice_get, not, ◌≢◌}
 use Rattle.std.specs.List.{range_with_len}
 use Rattle.std.proofs.lemmas.Bool.{cases_Bool, cases_eq}
 use Rattle.std.proofs.lemmas.Option.{slice_get_within}
 use Rattle.mp_base.proofs.Tests.{false_true}
 use Rattle.mp_base.proofs.Members.{Member, member_contains, contains_member, member_map, map_member, member_filter}
 use Rattle.mp_base.proofs.Members.{filter_member, range_has}
-use Rattle.fabric.specs.declared.thing.Side.TheVariants.{L, R}
-use Rattle.nor_net.specs.declared.net.Phase.{Phase}
+use Rattle.fabric.specs.declared.thing.Side.TheVariants.{L}
 use Rattle.nor_net.specs.declared.net.NetId.{NetId}
 use Rattle.nor_net.specs.declared.net.Part.{Part}
 use Rattle.nor_net.specs.declared.net.Part.TheVariants.{Input, Gate, Latch}
-use Rattle.nor_net.specs.Elements.{Spot, spot}
-use Rattle.array_form.specs.Named.{Tie, tap, tran, pull}
-use Rattle.array_form.specs.Wires.{Wire, row, beat, left, right, to_ground, place, NetTie, gate_own, gate_ground}
+use Rattle.array_form.specs.Named.{Tie, tap, tran}
+use Rattle.array_form.specs.Wires.{Wire, row, left, right, place, NetTie, gate_own, gate_ground}
 use Rattle.array_form.specs.Wires.{gate_pull, gate_input, latch_own, latch_data, latch_phase, stub_own}
-use Rattle.array_form.specs.Band.{has, distinct, inputs_of, net_columns, net_ties, band_rows, band_columns, band_ties}
+use Rattle.array_form.specs.Band.{has, distinct, inputs_of, net_ties, band_ties}
 use Rattle.array_form.proofs.Members.{member_flat}
-use Rattle.array_form.proofs.Members.{flat_member, member_append, append_left, append_right}
+use Rattle.array_form.proofs.Members.{flat_member}
 
 pub same_from : (x a : ℕ) → (x == a) ≡ true → x ≡ a
 same_from x a e = grind arith

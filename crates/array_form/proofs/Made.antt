@@ -1,23 +1,21 @@
 -- A fabric that is made of lists of names is named.
-use Rattle.std.proofs.Common.{◌≡◌, ◌⊎◌, inl, inr, ℕ, suc, ◌<◌, ◌≤◌, ◌+◌, List, [], ◌∷◌, map, length, get_or}
+use Rattle.std.proofs.Common.{◌≡◌, inl, inr, ℕ, suc, ◌<◌, List, [], ◌∷◌, map, length, get_or}
 use Rattle.std.proofs.Common.{refl, sym, ◌∙◌, ap, subst, arith}
-use Rattle.std.specs.Prelude.{Contains, AllPairs, All, ◌≢◌}
+use Rattle.std.specs.Prelude.{Contains, AllPairs}
 use Rattle.std.proofs.lemmas.Bool.{cases_order}
 use Rattle.std.proofs.lemmas.List.Elements.{All-contains}
 use Rattle.std.proofs.lemmas.List.{get_or-map}
 use Rattle.mp_base.proofs.Lists.{length_map}
 use Rattle.mp_base.proofs.Members.{Member, member_contains, contains_member, member_map, map_member}
-use Rattle.tile_cells.specs.declared.tile.Tile.{Tile}
-use Rattle.tile_cells.specs.declared.tile.Tile.TheVariants.{TapL, TapR, Tran, PullUp, Under}
 use Rattle.fabric.specs.declared.thing.Side.{Side}
 use Rattle.fabric.specs.declared.thing.Side.TheVariants.{L, R}
 use Rattle.fabric.specs.declared.thing.Segment.{Segment}
 use Rattle.fabric.specs.declared.thing.Line.{Line}
 use Rattle.fabric.specs.declared.thing.Mark.{Mark}
-use Rattle.fabric.specs.Plan.{Plan, Passes, Crosses, IsFabric, IsSegment, IsLine, LinesApart, SegmentsApart}
+use Rattle.fabric.specs.Plan.{Plan, IsFabric, IsSegment, IsLine, LinesApart, SegmentsApart}
 use Rattle.fabric.specs.Switches.{Net, segment, line, ground, power, IsNet, LineOf, SegmentOf, IsTapOn}
 use Rattle.array_form.specs.Named.{Tie, tap, tran, pull, IsAt, IsNamed, Speaks}
-use Rattle.array_form.specs.Wires.{Wire, row, beat, left, right, trunk, extra, to_ground, to_power}
+use Rattle.array_form.specs.Wires.{Wire, row, to_ground, to_power}
 use Rattle.array_form.specs.Lists.{Layout, net_of, mark_of, Crossing, IsLineAt, IsSegmentAt, IsMadeOf, InLists}
 use Rattle.array_form.specs.Lists.{tap_tile}
 

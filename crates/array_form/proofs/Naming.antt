@@ -1,15 +1,14 @@
 -- Names that taps join have one number exactly where they have one root.
-use Rattle.std.proofs.Common.{◌≡◌, ◌⊎◌, inl, inr, ◌↔◌, ℕ, ◌<◌, List, refl, sym, ◌∙◌, ap, subst}
-use Rattle.std.specs.Prelude.{Contains, ◌≢◌}
+use Rattle.std.proofs.Common.{◌≡◌, inl, inr, ℕ, refl, sym, ◌∙◌, ap, subst}
+use Rattle.std.specs.Prelude.{◌≢◌}
 use Rattle.lam_geom.specs.Chains.{Chain}
 use Rattle.lam_geom.specs.Chains.Chain.{here, link}
 use Rattle.tile_cells.specs.declared.tile.Tile.{Tile}
-use Rattle.tile_cells.specs.declared.tile.Tile.TheVariants.{TapL, TapR, Tran, PullUp, Under}
+use Rattle.tile_cells.specs.declared.tile.Tile.TheVariants.{Tran, PullUp, Under}
 use Rattle.fabric.specs.declared.thing.Side.{Side}
 use Rattle.fabric.specs.declared.thing.Side.TheVariants.{L, R}
-use Rattle.fabric.specs.declared.thing.Mark.{Mark}
 use Rattle.fabric.specs.Plan.{Plan, IsFabric}
-use Rattle.fabric.specs.Switches.{Net, segment, line, ground, power, IsNet, LineOf, SegmentOf, IsTapOn, Taps}
+use Rattle.fabric.specs.Switches.{Net, IsNet, LineOf, IsTapOn, Taps}
 use Rattle.fabric.specs.Switches.{Tapped, up, down, AreNumbers}
 use Rattle.array_form.specs.Named.{Tie, tap, tran, pull, IsAt, IsNamed, Speaks, Joins, forth, back}
 use Rattle.array_form.specs.Roots.{Root, AreRooted}

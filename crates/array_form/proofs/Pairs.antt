@@ -1,13 +1,13 @@
 -- Pairs of members of lists that are put together.
-use Rattle.std.proofs.Common.{Bool, cond, filter, ◌≡◌, ◌⊎◌, inl, inr, ℕ, zero, suc, ◌<◌, ◌≤◌, ◌+◌, List, [], ◌∷◌}
-use Rattle.std.proofs.Common.{◌++◌, length, map, get_or, refl, sym, ◌∙◌, ap, subst, arith}
-use Rattle.std.specs.Prelude.{Contains, AllPairs, All, flat_map}
+use Rattle.std.proofs.Common.{Bool, cond, filter, inl, inr, ℕ, zero, suc, ◌<◌, ◌≤◌, ◌+◌, List, [], ◌∷◌}
+use Rattle.std.proofs.Common.{◌++◌, map, get_or, refl, sym, subst, arith}
+use Rattle.std.specs.Prelude.{AllPairs, flat_map}
 use Rattle.std.specs.List.{range_with_len}
 use Rattle.std.proofs.lemmas.List.{get_or_default}
 use Rattle.std.proofs.lemmas.Bool.{cases_Bool}
 use Rattle.mp_base.proofs.Members.{Member, member_contains, contains_member, member_map, member_filter, range_members}
 use Rattle.array_form.proofs.Members.{member_append}
-use Rattle.array_form.proofs.Members.{member_flat, append_left, append_right}
+use Rattle.array_form.proofs.Members.{member_flat}
 
 -- pairs by recursion
 abbrev pub Each : {A : Type 0} → (A → Type 0) → List A → Type 0

@@ -1,20 +1,18 @@
 -- What the marks of one placed net tie: equal roots, and the switches of its parts.
-use Rattle.std.proofs.Common.{◌≡◌, ℕ, List, Option, Some, None, Bool, true, refl, sym, ◌∙◌, ap, subst, map}
-use Rattle.std.specs.Prelude.{Contains, slice_get}
+use Rattle.std.proofs.Common.{◌≡◌, ℕ, List, Some, Bool, refl, sym, ◌∙◌, ap, subst, map}
+use Rattle.std.specs.Prelude.{slice_get}
 use Rattle.mp_base.proofs.Members.{member_contains, contains_member, map_member}
-use Rattle.lam_geom.specs.Chains.{Chain}
-use Rattle.lam_geom.specs.Chains.Chain.{here, link}
 use Rattle.fabric.specs.declared.thing.Side.{Side}
 use Rattle.nor_net.specs.declared.net.Phase.{Phase}
 use Rattle.nor_net.specs.declared.net.NetId.{NetId}
 use Rattle.nor_net.specs.declared.net.Part.{Part}
-use Rattle.nor_net.specs.declared.net.Part.TheVariants.{Input, Gate, Latch}
-use Rattle.nor_net.specs.Elements.{Spot, spot, Element, Given, Nor, Latched, Joined, Low, Nets}
-use Rattle.drawing.specs.Draws.{Point, OfNet, Ground, Power, OfPhase, IsOwn}
-use Rattle.array_form.specs.Named.{Tie, tap, tran, pull, Joins, forth, back}
-use Rattle.array_form.specs.Roots.{Root, at, alone, AreRoots, IsSwitchOf, no_switch, down_of, pass_of, up_of, lone_of}
-use Rattle.array_form.specs.Wires.{Wire, row, beat, left, right, trunk, extra, to_ground, to_power, place, NetTie}
-use Rattle.array_form.specs.Wires.{left_root, right_root, root, hub, AreElements}
+use Rattle.nor_net.specs.declared.net.Part.TheVariants.{Gate, Latch}
+use Rattle.nor_net.specs.Elements.{Spot, spot, Element, Given, Nor, Latched, Nets}
+use Rattle.drawing.specs.Draws.{OfNet, Ground, IsOwn}
+use Rattle.array_form.specs.Named.{Tie, tap}
+use Rattle.array_form.specs.Roots.{Root, at, AreRoots, IsSwitchOf, no_switch, down_of, pass_of, up_of}
+use Rattle.array_form.specs.Wires.{Wire, place, NetTie}
+use Rattle.array_form.specs.Wires.{left_root, right_root, root, AreElements}
 use Rattle.array_form.specs.Wires.NetTie.{gate_own, gate_ground, gate_pull, gate_input, latch_own, latch_data}
 use Rattle.array_form.specs.Wires.NetTie.{latch_phase, stub_own}
 

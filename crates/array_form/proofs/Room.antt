@@ -1,9 +1,9 @@
 -- A net with the conditions of `place` has room.
-use Rattle.std.proofs.Common.{◌≡◌, inl, inr, ℕ, zero, suc, ◌<◌, ◌≤◌, ◌+◌, ◌==◌, Option, Some, None, Bool, true}
-use Rattle.std.proofs.Common.{false, cond, not, List, [], ◌∷◌, ◌++◌, length, map, filter, refl, sym, ◌∙◌, ap}
-use Rattle.std.proofs.Common.{subst, arith}
-use Rattle.std.specs.Prelude.{Contains, slice_get, ◌≢◌, ◌||◌, max}
-use Rattle.std.specs.List.{list_any, range_with_len}
+use Rattle.std.proofs.Common.{◌≡◌, inl, inr, ℕ, suc, ◌<◌, ◌≤◌, ◌+◌, ◌==◌, Option, Some, None, Bool, true}
+use Rattle.std.proofs.Common.{false, not, List, [], ◌∷◌, length, map, filter, refl, sym, ◌∙◌, ap}
+use Rattle.std.proofs.Common.{arith}
+use Rattle.std.specs.Prelude.{Contains, slice_get, ◌≢◌, ◌||◌}
+use Rattle.std.specs.List.{list_any}
 use Rattle.std.proofs.lemmas.Bool.{cases_Bool, or_left, or_right, or_cases, and_from}
 use Rattle.std.proofs.lemmas.List.Elements.{All-contains}
 use Rattle.std.proofs.lemmas.Option.{slice_get_within, slice_get_cases}
@@ -17,10 +17,9 @@ use Rattle.nor_net.specs.declared.net.Part.TheVariants.{Input, Gate, Latch}
 use Rattle.nor_net.specs.Shape.{IsNet, MayFeed}
 use Rattle.array_form.specs.declared.band.Tap.{Tap}
 use Rattle.array_form.specs.declared.band.Band.{Band}
-use Rattle.array_form.specs.Homes.{Columns, home, end_of, marks, reads, greatest, count_below}
+use Rattle.array_form.specs.Homes.{Columns, home, end_of, marks, reads}
 use Rattle.array_form.specs.Laying.{HasRoom}
 use Rattle.array_form.specs.Place.{is_input, part_is, is_read, is_tapped, is_stub, columns_in, MayPlace}
-use Rattle.array_form.proofs.Listing.{same_from}
 use Rattle.array_form.proofs.Homes.{greatest_above, own_mark, reader_mark, more_mark}
 
 -- what passes a test that some member passes

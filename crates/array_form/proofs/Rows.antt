@@ -1,6 +1,6 @@
 -- A band has at most as many rows as segments.
-use Rattle.std.proofs.Common.{ℕ, zero, ◌≤◌, ◌+◌, ◌&&◌, List, [], ◌∷◌, length}
-use Rattle.std.proofs.Common.{sym, ◌∙◌, subst, arith}
+use Rattle.std.proofs.Common.{ℕ, ◌≤◌, ◌+◌, ◌&&◌, List, [], ◌∷◌, length}
+use Rattle.std.proofs.Common.{arith}
 use Rattle.std.specs.Prelude.{nat_le}
 use Rattle.std.specs.List.{range_with_len, sum_by}
 use Rattle.std.proofs.lemmas.List.Sums.{sum_by-cons}

@@ -1,10 +1,8 @@
 -- What one placed net adds to a fabric, in a list.
-use Rattle.std.specs.Prelude.{◌+◌, ◌==◌, ◌<◌, ◌≤◌, ℕ, zero, suc, List, [], ◌∷◌, ◌++◌, Option, Some, None, Bool}
-use Rattle.std.specs.Prelude.{true, false, ◌&&◌, ◌||◌, not, cond, map, flat_map, filter, length, slice_get}
-use Rattle.std.specs.Prelude.{slice_index_or, count_by, max}
-use Rattle.std.specs.List.{list_any, range_with_len}
+use Rattle.std.specs.Prelude.{◌==◌, ℕ, List, [], ◌∷◌, ◌++◌, Option, Some, None, Bool}
+use Rattle.std.specs.Prelude.{true, false, not, cond, map, flat_map, filter, length, slice_get}
+use Rattle.std.specs.List.{range_with_len}
 use Rattle.fabric.specs.declared.thing.Side.TheVariants.{L, R}
-use Rattle.nor_net.specs.declared.net.Phase.{Phase}
 use Rattle.nor_net.specs.declared.net.Phase.TheVariants.{A, B, C}
 use Rattle.nor_net.specs.declared.net.NetId.{NetId}
 use Rattle.nor_net.specs.declared.net.Part.{Part}

@@ -1,9 +1,8 @@
 -- The numbers of a layout, by those of its bands.
-use Rattle.std.specs.Prelude.{◌+◌, ℕ, zero, suc, List, length}
+use Rattle.std.specs.Prelude.{◌+◌, ℕ, suc, List, length}
 use Rattle.fabric.specs.declared.thing.Line.{Line}
 use Rattle.nor_net.specs.declared.net.Phase.{Phase}
 use Rattle.nor_net.specs.declared.net.Part.{Part}
-use Rattle.nor_net.specs.Elements.{Spot}
 use Rattle.array_form.specs.Homes.{Columns, home, phase_number, least, greatest}
 use Rattle.array_form.specs.Lists.{Layout}
 

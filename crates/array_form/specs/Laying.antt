@@ -1,6 +1,6 @@
 -- What `place` adds to a fabric, and what it asks of the fabric.
-use Rattle.std.specs.Prelude.{◌≡◌, ◌≢◌, ◌⊎◌, ◌+◌, ◌<◌, ◌≤◌, ℕ, zero, suc, List, [], ◌∷◌, ◌++◌, Option, Some, None}
-use Rattle.std.specs.Prelude.{Bool, true, false, cond, map, flat_map, length, slice_get, Contains}
+use Rattle.std.specs.Prelude.{◌≡◌, ◌≢◌, ◌⊎◌, ◌+◌, ◌<◌, ◌≤◌, ℕ, suc, List, [], ◌∷◌, Option, Some, None}
+use Rattle.std.specs.Prelude.{Bool, true, cond, map, flat_map, length, slice_get, Contains}
 use Rattle.std.specs.List.{range_with_len}
 use Rattle.tile_cells.specs.declared.tile.Tile.TheVariants.{TapL, TapR, Tran, PullUp}
 use Rattle.fabric.specs.declared.thing.Side.TheVariants.{L, R}

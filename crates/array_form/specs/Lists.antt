@@ -1,5 +1,5 @@
 -- Where named wires and ties stand in a fabric.
-use Rattle.std.specs.Prelude.{◌≡◌, ◌≢◌, ◌↔◌, ◌⊎◌, ◌+◌, ◌≤◌, ℕ, List, map, Contains}
+use Rattle.std.specs.Prelude.{◌≡◌, ◌↔◌, ◌⊎◌, ℕ, List, map, Contains}
 use Rattle.tile_cells.specs.declared.tile.Tile.{Tile}
 use Rattle.tile_cells.specs.declared.tile.Tile.TheVariants.{TapL, TapR, Tran, PullUp}
 use Rattle.fabric.specs.declared.thing.Side.{Side}

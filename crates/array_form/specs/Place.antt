@@ -1,8 +1,8 @@
 -- What `measure` and `place` give.
-use Rattle.std.specs.Prelude.{◌≡◌, ◌≢◌, ◌⊎◌, ◌+◌, ◌<◌, ◌≤◌, ◌==◌, ℕ, zero, suc, List, [], ◌∷◌, ◌++◌, Option, Some}
-use Rattle.std.specs.Prelude.{None, Bool, true, false, ◌&&◌, ◌||◌, not, cond, map, filter, length, max, slice_get}
-use Rattle.std.specs.Prelude.{slice_index, slice_index_or, Contains, All, ◌*◌, nat_le}
-use Rattle.std.specs.List.{range_with_len, list_any, sum_by}
+use Rattle.std.specs.Prelude.{◌≡◌, ◌≢◌, ◌+◌, ◌<◌, ◌≤◌, ◌==◌, ℕ, suc, List, [], ◌∷◌, ◌++◌, Option, Some}
+use Rattle.std.specs.Prelude.{None, Bool, true, false, ◌&&◌, ◌||◌, not, map, filter, length, max, slice_get}
+use Rattle.std.specs.Prelude.{slice_index, slice_index_or, Contains, All, ◌*◌}
+use Rattle.std.specs.List.{range_with_len, list_any}
 use Rattle.fabric.specs.declared.thing.Segment.{Segment}
 use Rattle.fabric.specs.declared.thing.Line.{Line}
 use Rattle.fabric.specs.declared.thing.Mark.{Mark}
@@ -10,9 +10,8 @@ use Rattle.fabric.specs.Plan.{Plan, rows_of}
 use Rattle.fabric.specs.Room.{limit}
 use Rattle.nor_net.specs.Shape.{gate_inputs}
 use Rattle.nor_net.specs.declared.net.Phase.TheVariants.{A, B, C}
-use Rattle.nor_net.specs.declared.net.NetId.{NetId}
 use Rattle.nor_net.specs.declared.net.Part.{Part}
-use Rattle.nor_net.specs.declared.net.Part.TheVariants.{Input, Gate, Latch}
+use Rattle.nor_net.specs.declared.net.Part.TheVariants.{Input}
 use Rattle.array_form.specs.declared.band.Tap.{Tap}
 use Rattle.array_form.specs.declared.band.Band.{Band}
 use Rattle.array_form.specs.declared.band.Size.{Size}
@@ -20,9 +19,8 @@ use Rattle.track_assign.specs.declared.packing.Interval.{Interval}
 use Rattle.track_assign.specs.declared.packing.Tracks.{Tracks}
 use Rattle.track_assign.specs.Density.{IsDensity}
 use Rattle.array_form.specs.declared.band.Placed.{Placed}
-use Rattle.array_form.specs.Homes.{Columns, reads, marks, phase_marks, phase_number, least, greatest, end_of, home}
-use Rattle.array_form.specs.Homes.{count_below}
-use Rattle.array_form.specs.Laying.{with_net, band_segments, band_segment, AreTracks, HasRoom}
+use Rattle.array_form.specs.Homes.{Columns, reads, marks, phase_marks, least, greatest, end_of}
+use Rattle.array_form.specs.Laying.{with_net, band_segment, AreTracks}
 
 abbrev pub is_input : Part → Bool
 is_input Input = true

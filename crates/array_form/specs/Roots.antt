@@ -1,9 +1,9 @@
 -- What the wires of placed nets stand for.
-use Rattle.std.specs.Prelude.{◌≡◌, ◌⊎◌, ℕ, ◌<◌, List, Option, Some, None, Contains}
+use Rattle.std.specs.Prelude.{◌≡◌, ℕ, ◌<◌, List, Some, Contains}
 use Rattle.lam_geom.specs.Chains.{Chain}
 use Rattle.nor_net.specs.declared.net.Phase.{Phase}
-use Rattle.nor_net.specs.Elements.{Spot, Element, Given, Nor, Latched, Joined, Low, Nets}
-use Rattle.drawing.specs.Draws.{Point, OfNet, Ground, Power, OfPhase, IsOwn, HasOwnNode}
+use Rattle.nor_net.specs.Elements.{Spot, Nor, Latched, Joined, Low, Nets}
+use Rattle.drawing.specs.Draws.{Point, OfNet, Ground, OfPhase, IsOwn, HasOwnNode}
 use Rattle.array_form.specs.Named.{Tie, tap, tran, pull, Joins, Speaks}
 
 -- what a wire stands for in the end: a point with a node of its own, or the pull-up of no net

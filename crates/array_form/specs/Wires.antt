@@ -1,13 +1,12 @@
 -- The wires of placed nets by names, and what the marks of one placed net tie.
-use Rattle.std.specs.Prelude.{◌≡◌, ◌<◌, ℕ, List, Option, Some, None, Bool, true, Contains, length, map, slice_get}
-use Rattle.fabric.specs.declared.thing.Side.{Side}
+use Rattle.std.specs.Prelude.{◌≡◌, ℕ, List, Option, Some, Bool, true, Contains, map, slice_get}
 use Rattle.fabric.specs.declared.thing.Side.TheVariants.{L, R}
 use Rattle.nor_net.specs.declared.net.Phase.{Phase}
 use Rattle.nor_net.specs.declared.net.NetId.{NetId}
 use Rattle.nor_net.specs.declared.net.Part.{Part}
 use Rattle.nor_net.specs.declared.net.Part.TheVariants.{Input, Gate, Latch}
-use Rattle.nor_net.specs.Elements.{Spot, spot, Element, Given, Nor, Latched, Joined, Low, Nets}
-use Rattle.drawing.specs.Draws.{Point, OfNet, Ground, Power, OfPhase}
+use Rattle.nor_net.specs.Elements.{Spot, spot, Element, Given, Nor, Latched, Low, Nets}
+use Rattle.drawing.specs.Draws.{OfNet, Ground, Power, OfPhase}
 use Rattle.array_form.specs.Named.{Tie, tap, tran, pull}
 use Rattle.array_form.specs.Roots.{Root, at, alone}
 

@@ -1,6 +1,6 @@
 -- What the pins of nets and of stubs are.
 use Rattle.std.proofs.Common.{◌≡◌, inl, inr, ℕ, ◌<◌, ◌+◌, Option, Some, None, Bool, true, false, cond, List, []}
-use Rattle.std.proofs.Common.{◌∷◌, ◌++◌, length, map, get_or, refl, sym, ◌∙◌, ap, subst, arith}
+use Rattle.std.proofs.Common.{◌∷◌, length, map, get_or, refl, sym, ◌∙◌, ap, subst, arith}
 use Rattle.std.specs.Prelude.{slice_get}
 use Rattle.std.specs.List.{range_with_len}
 use Rattle.std.proofs.lemmas.Option.{slice_get_within}
@@ -11,12 +11,11 @@ use Rattle.nor_net.specs.declared.net.Part.{Part}
 use Rattle.nor_net.specs.declared.net.Part.TheVariants.{Input, Gate, Latch}
 use Rattle.array_form.specs.Homes.{reads, phase_number}
 use Rattle.array_form.specs.Place.{is_input}
-use Rattle.array_form.proofs.Members.{member_append, append_left, append_right}
 use Rattle.array_form.proofs.Members.{member_flat, flat_member}
 use Rattle.array_form.proofs.Listing.{has_member, same_from, same_to}
 use Rattle.array_form.proofs.Homes.{has_of}
 use Rattle.band_lists.specs.declared.pins.Pin.{Pin}
-use Rattle.band_lists.specs.Pins.{pin, part_pins, net_pins, phase_pin, phase_pins}
+use Rattle.band_lists.specs.Pins.{pin, part_pins, net_pins}
 use Rattle.band_lists.specs.Pins.{stub_pin, stub_pins}
 
 -- The pin is in the column of a net: on the net's own segment, on one that it reads, or on that of its phase.

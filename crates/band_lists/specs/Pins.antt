@@ -1,5 +1,5 @@
 -- The pins of a band: each column in which a segment is marked. Segments are numbered: those of nets, then of phases.
-use Rattle.std.specs.Prelude.{ℕ, ◌+◌, ◌==◌, List, [], ◌∷◌, ◌++◌, Option, Some, None, Bool, false, cond, map, flat_map}
+use Rattle.std.specs.Prelude.{ℕ, ◌+◌, ◌==◌, List, [], ◌∷◌, Option, Some, None, Bool, false, cond, map, flat_map}
 use Rattle.std.specs.Prelude.{length, slice_get, slice_index_or}
 use Rattle.std.specs.List.{range_with_len}
 use Rattle.nor_net.specs.declared.net.Phase.{Phase}

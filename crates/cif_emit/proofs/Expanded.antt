@@ -8,7 +8,6 @@ use Rattle.lam_geom.specs.declared.rect.Rect.{Rect}
 use Rattle.lam_geom.specs.declared.label.FlatLabel.{FlatLabel}
 use Rattle.cif_form.specs.declared.command.Command.{Command}
 use Rattle.cif_form.specs.declared.command.Command.TheVariants as commands
-use Rattle.cif_form.specs.declared.command.Command.TheVariants.{User}
 use Rattle.cif_form.specs.declared.command.Item.{Item}
 use Rattle.cif_form.specs.Place.{layer_name}
 use Rattle.cif_form.specs.Expansion.{Definition, Draws, Expands, IsInside, item_at}

@@ -16,7 +16,7 @@ use Rattle.slice_symbols.specs.Heights.{raised}
 use Rattle.slice_symbols.specs.Drawn.{AreSymbolsOf, IsHeight, IsSymbolOf, SymbolsAreUnique}
 use Rattle.cif_emit.specs.Emittable.{AreBands, AreBandsAbove, AreDrawable, CanShare, IsDrawable}
 use Rattle.cif_emit.specs.Emittable.{IsEmittable, IsOnGrid, IsOnLambda, bands_above, chip_rects, far_band}
-use Rattle.cif_emit.specs.Emitted.{AreCommandsOf, AreSymbolsFor, AreSymbolsOfChip, CommandsAreUnique}
+use Rattle.cif_emit.specs.Emitted.{AreSymbolsFor, AreSymbolsOfChip, CommandsAreUnique}
 use Rattle.cif_emit.specs.Commands.{chip_commands}
 
 near : (z : ℤ) → IsSmall z → IsNear z

@@ -1,39 +1,7 @@
 -- Each tie of a placed path stands where its wires cross.
-use Rattle.std.proofs.Common.{
-  ◌≡◌,
-  ◌⊎◌,
-  inl,
-  inr,
-  ℕ,
-  zero,
-  suc,
-  ◌<◌,
-  ◌≤◌,
-  ◌+◌,
-  ◌==◌,
-  Option,
-  Some,
-  None,
-  Bool,
-  true,
-  false,
-  cond,
-  not,
-  ◌&&◌,
-  List,
-  [],
-  ◌∷◌,
-  ◌++◌,
-  length,
-  map,
-  refl,
-  sym,
-  ◌∙◌,
-  ap,
-  subst,
-  arith,
-}
-use Rattle.std.specs.Prelude.{Contains, slice_get, ◌≢◌, ◌||◌, min, max}
+use Rattle.std.proofs.Common.{◌≡◌, inl, inr, ℕ, zero, suc, ◌<◌, ◌≤◌, ◌+◌, ◌==◌, Some, Bool, true, false, cond, not}
+use Rattle.std.proofs.Common.{List, [], ◌∷◌, ◌++◌, length, refl, sym, ◌∙◌, ap, subst, arith}
+use Rattle.std.specs.Prelude.{slice_get, ◌||◌, min, max}
 use Rattle.std.specs.List.{list_any}
 use Rattle.std.proofs.lemmas.Option.{slice_get_within}
 use Rattle.mp_base.proofs.Members.{Member}
@@ -42,14 +10,12 @@ use Rattle.std.proofs.lemmas.Bool.{or_right, or_left}
 use Rattle.fabric.specs.declared.thing.Side.{Side}
 use Rattle.fabric.specs.declared.thing.Side.TheVariants.{L, R}
 use Rattle.fabric.specs.Plan.{Passes, Crosses}
-use Rattle.nor_net.specs.declared.net.Phase.{Phase}
-use Rattle.nor_net.specs.declared.net.NetId.{NetId}
 use Rattle.nor_net.specs.declared.net.Part.{Part}
 use Rattle.nor_net.specs.declared.net.Part.TheVariants.{Input, Gate, Latch}
-use Rattle.array_form.specs.Named.{Tie, tap, tran, pull}
-use Rattle.array_form.specs.Wires.{Wire, row, beat, left, right, trunk, extra, to_ground, place}
-use Rattle.array_form.specs.Lists.{Layout, Crossing, upright, stretch}
-use Rattle.array_form.specs.Homes.{Columns, home, marks, phase_marks, phase_number, least, greatest}
+use Rattle.array_form.specs.Named.{Tie}
+use Rattle.array_form.specs.Wires.{Wire, row}
+use Rattle.array_form.specs.Lists.{Layout, Crossing, upright}
+use Rattle.array_form.specs.Homes.{home, marks, phase_marks, phase_number}
 use Rattle.array_form.specs.Laying.{AreTracks, band_segment}
 use Rattle.array_form.specs.BandLayout.{Bands, layout}
 use Rattle.array_form.proofs.Members.{append_left, append_right}
@@ -57,32 +23,9 @@ use Rattle.array_form.proofs.Listing.{same_to}
 use Rattle.array_form.proofs.Homes.{least_below, greatest_above, own_mark, more_mark}
 use Rattle.array_form.proofs.Bands.{net_crossing}
 use Rattle.slice_form.specs.Path.{Path, Carry, Cast, Lift, Programmed, parts, IsSlice, IsPath}
-use Rattle.slice_form.specs.PathWires.{
-  Across,
-  cast_line,
-  lift_line,
-  lift_stub,
-  chain_line,
-  side_of,
-  below,
-  above,
-  open_gap,
-  PathTie,
-  of_net,
-  of_phase,
-  of_cast,
-  of_cast_slice,
-  of_lift,
-  of_lift_slice,
-  of_lift_stub,
-  of_below,
-  of_above,
-  of_open,
-  of_bit_ground,
-  of_bit_pull,
-  of_one,
-  of_zero,
-}
+use Rattle.slice_form.specs.PathWires.{Across, side_of, below, above, open_gap, PathTie, of_net, of_phase, of_cast}
+use Rattle.slice_form.specs.PathWires.{of_cast_slice, of_lift, of_lift_slice, of_lift_stub, of_below, of_above, of_open}
+use Rattle.slice_form.specs.PathWires.{of_bit_ground, of_bit_pull, of_one, of_zero}
 use Rattle.slice_form.specs.Slices.{
   cast_columns,
   lift_columns_of,

@@ -1,5 +1,5 @@
 -- A fabric whose marks tie what a placed path ties draws the path's nets.
-use Rattle.std.proofs.Common.{◌≡◌, ℕ, ◌<◌, ◌≤◌, Option, Some, Bool, true, List, refl, sym}
+use Rattle.std.proofs.Common.{◌≡◌, ℕ, ◌<◌, ◌≤◌, Some, Bool, true, refl, sym}
 use Rattle.std.specs.Prelude.{Contains, slice_get}
 use Rattle.mp_base.proofs.Members.{member_contains, contains_member}
 use Rattle.switch_net.specs.declared.network.Network.{Network}

@@ -1,40 +1,9 @@
 -- A net that stands alone, in one band, is a path without slices.
-use Rattle.std.proofs.Common.{
-  ◌≡◌,
-  ◌⊎◌,
-  inl,
-  inr,
-  ℕ,
-  zero,
-  suc,
-  ◌<◌,
-  ◌≤◌,
-  ◌+◌,
-  ◌==◌,
-  Option,
-  Some,
-  None,
-  Bool,
-  true,
-  false,
-  cond,
-  List,
-  [],
-  ◌∷◌,
-  length,
-  map,
-  refl,
-  sym,
-  ◌∙◌,
-  ap,
-  subst,
-  arith,
-}
-use Rattle.std.specs.Prelude.{Contains, slice_get, All, ◌↔◌, IfSome}
+use Rattle.std.proofs.Common.{◌≡◌, ℕ, zero, suc, ◌<◌, ◌≤◌, ◌==◌, Option, Some, None, true, false, cond, List, []}
+use Rattle.std.proofs.Common.{length, map, refl, sym, ◌∙◌, ap, subst, arith}
+use Rattle.std.specs.Prelude.{Contains, slice_get, All}
 use Rattle.std.specs.List.{range_with_len}
-use Rattle.std.proofs.lemmas.Bool.{cases_eq}
 use Rattle.std.proofs.lemmas.Option.{slice_get_within}
-use Rattle.std.proofs.lemmas.List.Elements.{All-contains}
 use Rattle.mp_base.proofs.Members.{member_contains, range_has}
 use Rattle.switch_net.specs.declared.network.Network.{Network}
 use Rattle.fabric.specs.Plan.{Plan, IsFabric}
@@ -43,35 +12,15 @@ use Rattle.nor_net.specs.declared.net.Phase.{Phase}
 use Rattle.nor_net.specs.declared.net.NetId.{NetId}
 use Rattle.nor_net.specs.declared.net.Part.{Part}
 use Rattle.nor_net.specs.declared.net.Part.TheVariants.{Input, Gate, Latch}
-use Rattle.nor_net.specs.Elements.{Spot, spot, Element, Given, Nor, Latched, Joined, Low, Nets, nets_of, part_element}
-use Rattle.nor_net.specs.Shape.{IsNet, MayFeed, Stands}
+use Rattle.nor_net.specs.Elements.{Spot, spot, Element, Given, Nor, Latched, Joined, nets_of, part_element}
+use Rattle.nor_net.specs.Shape.{IsNet, MayFeed}
 use Rattle.drawing.specs.Draws.{Point}
 use Rattle.slice_form.specs.Along.{DrawsAlong}
-use Rattle.array_form.specs.Named.{Tie}
-use Rattle.array_form.specs.Wires.{Wire, place}
+use Rattle.array_form.specs.Wires.{place}
 use Rattle.array_form.specs.Lists.{IsMadeOf, net_of}
 use Rattle.array_form.specs.Laying.{AreTracks}
-use Rattle.slice_form.specs.Path.{
-  Path,
-  Carry,
-  Cast,
-  Lift,
-  Programmed,
-  parts,
-  pads,
-  IsElement,
-  gate,
-  store,
-  pad,
-  cast,
-  lift,
-  next,
-  open_end,
-  one,
-  zero_bit,
-  AreNetsOf,
-  IsPath,
-}
+use Rattle.slice_form.specs.Path.{Path, parts, pads, IsElement, gate, store, pad, cast, lift, next, open_end, one}
+use Rattle.slice_form.specs.Path.{zero_bit, AreNetsOf, IsPath}
 use Rattle.slice_form.specs.PathWires.{Across}
 use Rattle.slice_form.specs.PathLists.{path_rows, path_columns, path_ties}
 use Rattle.slice_form.specs.Slices.{columns_of}

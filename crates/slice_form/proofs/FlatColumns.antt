@@ -38,7 +38,7 @@ use Rattle.nor_net.specs.declared.net.Part.{Part}
 use Rattle.nor_net.specs.declared.net.Part.TheVariants.{Input, Gate, Latch}
 use Rattle.array_form.specs.declared.band.Band.{Band}
 use Rattle.array_form.specs.declared.band.Tap.{Tap}
-use Rattle.array_form.specs.Homes.{Columns, reads, greatest}
+use Rattle.array_form.specs.Homes.{reads, greatest}
 use Rattle.array_form.specs.Place.{is_input, part_is, is_read, is_stub, columns_in}
 use Rattle.slice_form.specs.Slices as slices
 use Rattle.slice_form.specs.Slices.{any_below, is_some, is_unread, control_stub, control_columns}

@@ -1,41 +1,8 @@
 -- The marks of the lines that join bands stand in different places.
-use Rattle.std.proofs.Common.{
-  ◌≡◌,
-  ◌⊎◌,
-  inl,
-  inr,
-  ℕ,
-  zero,
-  suc,
-  ◌<◌,
-  ◌≤◌,
-  ◌+◌,
-  ◌==◌,
-  Option,
-  Some,
-  None,
-  Bool,
-  true,
-  false,
-  cond,
-  not,
-  List,
-  [],
-  ◌∷◌,
-  ◌++◌,
-  length,
-  map,
-  filter,
-  refl,
-  sym,
-  ◌∙◌,
-  ap,
-  subst,
-  arith,
-}
-use Rattle.std.specs.Prelude.{Contains, slice_get, flat_map, ◌≢◌, min, max}
+use Rattle.std.proofs.Common.{◌≡◌, inl, inr, ℕ, suc, ◌<◌, ◌≤◌, ◌+◌, ◌==◌, Option, Some, None, Bool, true, false, cond}
+use Rattle.std.proofs.Common.{not, List, [], ◌∷◌, length, map, sym, ap, subst, arith}
+use Rattle.std.specs.Prelude.{slice_get, flat_map, ◌≢◌}
 use Rattle.std.specs.List.{range_with_len}
-use Rattle.std.proofs.lemmas.Bool.{cases_Bool}
 use Rattle.std.proofs.lemmas.Option.{slice_get_within}
 use Rattle.mp_base.proofs.Members.{Member, member_map, member_filter, range_members}
 use Rattle.fabric.specs.declared.thing.Mark.{Mark}
@@ -43,16 +10,15 @@ use Rattle.fabric.specs.declared.thing.Side.TheVariants.{L, R}
 use Rattle.fabric.specs.Plan.{MarksApart}
 use Rattle.nor_net.specs.declared.net.Phase.TheVariants.{A, B, C}
 use Rattle.nor_net.specs.declared.net.Part.TheVariants.{Input}
-use Rattle.array_form.specs.Named.{Tie, tap, tran, pull}
+use Rattle.array_form.specs.Named.{Tie, tap, pull}
 use Rattle.array_form.specs.Wires.{Wire, row, beat, left, right, trunk, extra, to_ground, place}
 use Rattle.array_form.specs.Lists.{Layout, mark_of}
-use Rattle.array_form.specs.Homes.{home, phase_number, least, greatest}
 use Rattle.array_form.specs.Laying.{AreTracks}
-use Rattle.array_form.proofs.Members.{member_append, member_flat}
+use Rattle.array_form.proofs.Members.{member_flat}
 use Rattle.array_form.proofs.Homes.{least_below, greatest_above}
-use Rattle.array_form.proofs.Pairs.{Each, each_at, each_from, Pairs, pairs_append, pairs_map_range, pairs_flat_range}
+use Rattle.array_form.proofs.Pairs.{each_from, Pairs, pairs_map_range, pairs_flat_range}
 use Rattle.array_form.proofs.Pairs.{pairs_filter}
-use Rattle.slice_form.specs.Path.{Path, Carry, Cast, Lift, Programmed, parts, IsPath, IsSlice}
+use Rattle.slice_form.specs.Path.{Path, Carry, Cast, Lift, Programmed, parts, IsPath}
 use Rattle.slice_form.specs.PathWires.{
   Across,
   cast_line,
@@ -75,10 +41,10 @@ use Rattle.slice_form.specs.PathLists.{
   bit_tie,
   bit_ties,
 }
-use Rattle.slice_form.specs.Slices.{columns_of, chain_column, lift_column, plain_slice}
-use Rattle.slice_form.proofs.Lists.{slice_in, not_same}
+use Rattle.slice_form.specs.Slices.{columns_of, chain_column}
+use Rattle.slice_form.proofs.Lists.{not_same}
 use Rattle.slice_form.proofs.Joints.{pairs_map_of, range_rises}
-use Rattle.slice_form.proofs.Crossing.{y, chain_col, chain_col_above}
+use Rattle.slice_form.proofs.Crossing.{y, chain_col}
 
 -- pairs through a map, from pairs of what is mapped
 pairs_of_map : {A B : Type 0} (P : B → B → Type 0) (g : A → B) (xs : List A) → Pairs (λ a b. P (g a) (g b)) xs

@@ -1,64 +1,23 @@
 -- The lines that join bands share no place.
-use Rattle.std.proofs.Common.{
-  ◌≡◌,
-  ◌⊎◌,
-  inl,
-  inr,
-  ℕ,
-  zero,
-  suc,
-  ◌<◌,
-  ◌≤◌,
-  ◌+◌,
-  Option,
-  Some,
-  None,
-  true,
-  false,
-  not,
-  ◌==◌,
-  List,
-  [],
-  ◌∷◌,
-  ◌++◌,
-  length,
-  map,
-  refl,
-  sym,
-  ◌∙◌,
-  ap,
-  subst,
-  arith,
-}
-use Rattle.std.specs.Prelude.{Contains, slice_get, flat_map, ◌≢◌, min, max}
+use Rattle.std.proofs.Common.{◌≡◌, inl, inr, ℕ, zero, suc, ◌<◌, ◌≤◌, ◌+◌, Option, Some, None, true, not, ◌==◌, List, []}
+use Rattle.std.proofs.Common.{◌∷◌, ◌++◌, length, map, refl, sym, ◌∙◌, ap, subst, arith}
+use Rattle.std.specs.Prelude.{slice_get, flat_map}
 use Rattle.std.specs.List.{range_with_len}
-use Rattle.std.proofs.lemmas.Bool.{cases_lt, cases_eq}
-use Rattle.std.proofs.lemmas.Option.{slice_get_within}
 use Rattle.mp_base.proofs.Members.{Member, member_map, range_members}
-use Rattle.fabric.specs.declared.thing.Side.{Side}
 use Rattle.fabric.specs.declared.thing.Side.TheVariants.{L, R}
 use Rattle.fabric.specs.declared.thing.Line.{Line}
 use Rattle.fabric.specs.Plan.{LinesApart}
-use Rattle.nor_net.specs.declared.net.Phase.{Phase}
 use Rattle.nor_net.specs.declared.net.Phase.TheVariants.{A, B, C}
 use Rattle.array_form.specs.Lists.{upright}
-use Rattle.array_form.specs.Homes.{home, phase_number}
+use Rattle.array_form.specs.Homes.{home}
 use Rattle.array_form.proofs.Members.{member_append, member_flat}
 use Rattle.array_form.proofs.Homes.{home_once}
-use Rattle.array_form.proofs.Pairs.{Each, each_at, each_from, Pairs, pairs_append, pairs_map_range, pairs_flat_range}
+use Rattle.array_form.proofs.Pairs.{each_at, each_from, Pairs, pairs_append, pairs_map_range, pairs_flat_range}
 use Rattle.array_form.proofs.Pairs.{pairs_filter}
-use Rattle.slice_form.specs.Path.{Path, Carry, Cast, Lift, Programmed, IsSlice, IsPath}
-use Rattle.slice_form.specs.PathWires.{Across, cast_line, lift_line, lift_stub, chain_line, side_of}
+use Rattle.slice_form.specs.Path.{Path, Carry, Lift, Programmed, IsPath}
+use Rattle.slice_form.specs.PathWires.{cast_line, lift_line, lift_stub, chain_line, side_of}
 use Rattle.slice_form.specs.PathLists.{bands_of, slices_of, others_of}
-use Rattle.slice_form.specs.Slices.{
-  across_of,
-  plain_slice,
-  cast_column,
-  lift_column,
-  chain_column,
-  base_of,
-  slice_homed,
-}
+use Rattle.slice_form.specs.Slices.{across_of, plain_slice, lift_column, chain_column, base_of, slice_homed}
 use Rattle.slice_form.specs.Joints.{trunk_line, lift_lines, bit_lines, joint_lines, AreJoinedOnce}
 use Rattle.slice_form.proofs.Crossing.{homed_end, homed_bit}
 

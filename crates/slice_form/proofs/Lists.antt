@@ -1,41 +1,9 @@
 -- The lists of a placed path have exactly its wires and ties.
-use Rattle.std.proofs.Common.{
-  ◌≡◌,
-  ◌⊎◌,
-  inl,
-  inr,
-  ℕ,
-  zero,
-  suc,
-  ◌<◌,
-  ◌≤◌,
-  ◌+◌,
-  ◌==◌,
-  Option,
-  Some,
-  None,
-  Bool,
-  true,
-  false,
-  cond,
-  not,
-  List,
-  [],
-  ◌∷◌,
-  ◌++◌,
-  length,
-  map,
-  filter,
-  refl,
-  sym,
-  ◌∙◌,
-  ap,
-  subst,
-  arith,
-}
-use Rattle.std.specs.Prelude.{Contains, slice_get, flat_map, ◌≢◌}
+use Rattle.std.proofs.Common.{◌≡◌, inl, inr, ℕ, suc, ◌<◌, ◌≤◌, ◌+◌, ◌==◌, Option, Some, None, Bool, true, false, not}
+use Rattle.std.proofs.Common.{List, [], ◌∷◌, ◌++◌, length, refl, sym, ◌∙◌, ap, subst, arith}
+use Rattle.std.specs.Prelude.{slice_get, flat_map, ◌≢◌}
 use Rattle.std.specs.List.{range_with_len}
-use Rattle.std.proofs.lemmas.Bool.{cases_Bool, cases_eq}
+use Rattle.std.proofs.lemmas.Bool.{cases_Bool}
 use Rattle.std.proofs.lemmas.Option.{slice_get_within}
 use Rattle.mp_base.proofs.Members.{Member, member_map, map_member, member_filter, filter_member, range_members}
 use Rattle.mp_base.proofs.Members.{range_has}
@@ -43,9 +11,9 @@ use Rattle.mp_base.proofs.Tests.{false_true}
 use Rattle.fabric.specs.declared.thing.Side.TheVariants.{L, R}
 use Rattle.nor_net.specs.declared.net.Phase.{Phase}
 use Rattle.nor_net.specs.declared.net.Phase.TheVariants.{A, B, C}
-use Rattle.array_form.specs.Named.{Tie, tap, tran, pull}
-use Rattle.array_form.specs.Wires.{Wire, row, beat, left, right, trunk, extra, to_ground, to_power, place}
-use Rattle.array_form.specs.Band.{band_rows, band_columns, band_ties}
+use Rattle.array_form.specs.Named.{Tie, tap, pull}
+use Rattle.array_form.specs.Wires.{Wire, row, beat, left, right, trunk, extra, to_ground, place}
+use Rattle.array_form.specs.Band.{band_ties}
 use Rattle.array_form.proofs.Members.{
   member_append,
   append_left,
@@ -55,32 +23,9 @@ use Rattle.array_form.proofs.Members.{
 }
 use Rattle.array_form.proofs.Listing.{listed_tie, tie_listed, same_from, same_to}
 use Rattle.slice_form.specs.Path.{Path, Carry, Cast, Lift, Programmed, parts, IsSlice}
-use Rattle.slice_form.specs.PathWires.{
-  Across,
-  cast_line,
-  lift_line,
-  lift_stub,
-  chain_line,
-  side_of,
-  below,
-  above,
-  open_gap,
-  PathTie,
-  of_net,
-  of_phase,
-  of_cast,
-  of_cast_slice,
-  of_lift,
-  of_lift_slice,
-  of_lift_stub,
-  of_below,
-  of_above,
-  of_open,
-  of_bit_ground,
-  of_bit_pull,
-  of_one,
-  of_zero,
-}
+use Rattle.slice_form.specs.PathWires.{Across, cast_line, lift_stub, PathTie, of_net, of_phase, of_cast, of_cast_slice}
+use Rattle.slice_form.specs.PathWires.{of_lift, of_lift_slice, of_lift_stub, of_below, of_above, of_open, of_bit_ground}
+use Rattle.slice_form.specs.PathWires.{of_bit_pull, of_one, of_zero}
 use Rattle.slice_form.specs.PathLists.{
   bands_of,
   slices_of,

@@ -1,54 +1,17 @@
 -- Columns by the cost.
-use Rattle.std.proofs.Common.{
-  ◌≡◌,
-  ℕ,
-  zero,
-  suc,
-  ◌<◌,
-  ◌≤◌,
-  ◌+◌,
-  ◌==◌,
-  Option,
-  Some,
-  None,
-  Bool,
-  true,
-  false,
-  cond,
-  not,
-  List,
-  [],
-  ◌∷◌,
-  length,
-  refl,
-  sym,
-  ◌∙◌,
-  ap,
-  subst,
-  arith,
-  inl,
-  inr,
-}
+use Rattle.std.proofs.Common.{◌≡◌, ℕ, zero, suc, ◌≤◌, ◌+◌, ◌==◌, Bool, true, false, cond, not, List, [], ◌∷◌, length}
+use Rattle.std.proofs.Common.{refl, sym, ◌∙◌, ap, arith, inl, inr}
 use Rattle.std.specs.Prelude.{slice_get, ◌||◌, max}
 use Rattle.std.specs.List.{list_any, sum_by}
 use Rattle.std.proofs.lemmas.Bool.{cases_Bool}
 use Rattle.std.proofs.lemmas.List.Sums.{sum_by-cons}
 use Rattle.nor_net.specs.declared.net.Part.{Part}
 use Rattle.nor_net.specs.declared.net.Part.TheVariants.{Input, Gate, Latch}
-use Rattle.array_form.specs.Homes.{Columns, count_below, end_of}
+use Rattle.array_form.specs.Homes.{count_below, end_of}
 use Rattle.array_form.proofs.Listing.{same_from}
 use Rattle.slice_form.specs.Path.{Path, Carry, Programmed}
-use Rattle.slice_form.specs.Slices.{
-  is_some,
-  is_input,
-  control_stub,
-  slice_stub,
-  slice_homed,
-  control_columns,
-  slice_columns,
-  columns_wanted,
-  base_of,
-}
+use Rattle.slice_form.specs.Slices.{is_some, is_input, control_stub, slice_stub, control_columns, slice_columns}
+use Rattle.slice_form.specs.Slices.{columns_wanted}
 use Rattle.slice_form.specs.Narrow.{active, IsNarrow}
 
 abbrev bit : Bool → ℕ

@@ -1,29 +1,8 @@
 -- Each net of a path has a root.
-use Rattle.std.proofs.Common.{
-  ◌≡◌,
-  ◌⊎◌,
-  inl,
-  inr,
-  ℕ,
-  zero,
-  suc,
-  ◌<◌,
-  ◌≤◌,
-  ◌+◌,
-  Option,
-  Some,
-  None,
-  refl,
-  sym,
-  ◌∙◌,
-  ap,
-  subst,
-  arith,
-}
-use Rattle.nor_net.specs.declared.net.Phase.{Phase}
+use Rattle.std.proofs.Common.{◌≡◌, ℕ, zero, suc, ◌<◌, Option, Some, None, refl, ◌∙◌, ap, arith}
 use Rattle.nor_net.specs.Elements.{Spot, Element, Given, Nor, Latched, Joined, Low, Nets}
-use Rattle.drawing.specs.Draws.{Point, OfNet, Ground, IsOwn}
-use Rattle.array_form.specs.Roots.{Root, at, alone, AreRoots}
+use Rattle.drawing.specs.Draws.{OfNet, Ground, IsOwn}
+use Rattle.array_form.specs.Roots.{Root, at, AreRoots}
 
 step : (Spot → Root) → Spot → Option Element → Root
 step next s None = at (OfNet s)

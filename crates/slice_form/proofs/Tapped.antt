@@ -46,21 +46,8 @@ use Rattle.nor_net.specs.declared.net.Part.TheVariants.{Input, Gate, Latch}
 use Rattle.nor_net.specs.Elements.{Spot, spot, Element, Given, Nor, Latched, Joined, Low, Nets}
 use Rattle.drawing.specs.Draws.{Point, OfNet, Ground, Power, OfPhase, IsOwn, HasOwnNode}
 use Rattle.array_form.specs.Named.{Tie, tap, tran, pull, Joins, forth, back, Speaks}
-use Rattle.array_form.specs.Roots.{
-  Root,
-  at,
-  alone,
-  AreRoots,
-  AreRooted,
-  AreHubs,
-  IsSwitchOf,
-  no_switch,
-  down_of,
-  pass_of,
-  up_of,
-  lone_of,
-  AreSwitchesOf,
-}
+use Rattle.array_form.specs.Roots.{Root, at, AreRoots, AreRooted, AreHubs, IsSwitchOf, no_switch, up_of, lone_of}
+use Rattle.array_form.specs.Roots.{AreSwitchesOf}
 use Rattle.array_form.specs.Wires.{
   Wire,
   row,
@@ -88,32 +75,9 @@ use Rattle.array_form.specs.Wires.{
   AreElements,
 }
 use Rattle.array_form.proofs.Placing.{net_tapped, net_switch}
-use Rattle.slice_form.specs.Path.{
-  Path,
-  Carry,
-  Cast,
-  Lift,
-  Programmed,
-  parts,
-  pads,
-  IsSlice,
-  Feeds,
-  from_below,
-  from_above,
-  open_band,
-  IsElement,
-  gate,
-  store,
-  pad,
-  cast,
-  lift,
-  next,
-  open_end,
-  one,
-  zero_bit,
-  AreNetsOf,
-  IsPath,
-}
+use Rattle.slice_form.specs.Path.{Path, Carry, Programmed, parts, pads, Feeds, from_below, from_above, open_band}
+use Rattle.slice_form.specs.Path.{IsElement, gate, store, pad, cast, lift, next, open_end, one, zero_bit, AreNetsOf}
+use Rattle.slice_form.specs.Path.{IsPath}
 use Rattle.slice_form.specs.PathWires.{
   Across,
   cast_line,

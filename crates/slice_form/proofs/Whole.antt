@@ -1,10 +1,7 @@
 -- A data path, as its placing takes it.
-use Rattle.std.proofs.Common.{◌≡◌, ◌<◌, ℕ, Some}
 use Rattle.std.proofs.lemmas.Bool.{ltb-true}
-use Rattle.nor_net.specs.Elements.{Spot, Joined}
-use Rattle.path_form.specs.declared.path.DataPath.{DataPath}
+use Rattle.nor_net.specs.Elements.{Joined}
 use Rattle.path_form.specs.Shape.{rank}
-use Rattle.path_form.specs.Showing.{path_nets}
 use Rattle.slice_form.specs.Whole.{JointsFall}
 
 pub joints_fall : JointsFall

@@ -1,23 +1,6 @@
 -- The lines that join bands, and when they may be added.
-use Rattle.std.specs.Prelude.{
-  ◌≡◌,
-  ◌≢◌,
-  ℕ,
-  suc,
-  List,
-  [],
-  ◌∷◌,
-  ◌++◌,
-  Option,
-  Some,
-  None,
-  Bool,
-  true,
-  map,
-  flat_map,
-  length,
-  slice_get,
-}
+use Rattle.std.specs.Prelude.{◌≡◌, ◌≢◌, ℕ, suc, List, [], ◌∷◌, ◌++◌, Option, Some, None, map, flat_map, length}
+use Rattle.std.specs.Prelude.{slice_get}
 use Rattle.std.specs.List.{range_with_len}
 use Rattle.fabric.specs.declared.thing.Line.{Line}
 use Rattle.fabric.specs.declared.thing.Side.TheVariants.{L, R}
@@ -25,8 +8,8 @@ use Rattle.nor_net.specs.declared.net.Phase.{Phase}
 use Rattle.nor_net.specs.declared.net.Phase.TheVariants.{A, B, C}
 use Rattle.array_form.specs.Lists.{upright}
 use Rattle.array_form.specs.Homes.{home, phase_number}
-use Rattle.slice_form.specs.Path.{Path, Carry, Cast, Lift, Programmed}
-use Rattle.slice_form.specs.PathWires.{Across, cast_line, lift_line, lift_stub, chain_line}
+use Rattle.slice_form.specs.Path.{Path, Carry, Lift, Programmed}
+use Rattle.slice_form.specs.PathWires.{cast_line, lift_line, lift_stub, chain_line}
 use Rattle.slice_form.specs.PathLists.{bands_of, slices_of, others_of}
 use Rattle.slice_form.specs.Slices.{across_of, plain_slice}
 

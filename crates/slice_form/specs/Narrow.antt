@@ -1,6 +1,5 @@
 -- What a path must give so that its columns are few.
-use Rattle.std.specs.Prelude.{◌≡◌, ◌+◌, ◌≤◌, ℕ, List, Bool, true, false, not, length}
-use Rattle.array_form.specs.Homes.{count_below}
+use Rattle.std.specs.Prelude.{◌≡◌, ◌+◌, ◌≤◌, ℕ, false, length}
 use Rattle.nor_net.specs.declared.net.Part.{Part}
 use Rattle.slice_form.specs.Path.{Path}
 use Rattle.slice_form.specs.Slices.{is_input, control_stub, slice_stub}

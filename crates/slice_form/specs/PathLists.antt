@@ -1,34 +1,11 @@
 -- All wires and ties of a placed data path, in lists.
-use Rattle.std.specs.Prelude.{
-  ◌≡◌,
-  ◌+◌,
-  ◌==◌,
-  ℕ,
-  zero,
-  suc,
-  List,
-  [],
-  ◌∷◌,
-  ◌++◌,
-  Option,
-  Some,
-  None,
-  Bool,
-  true,
-  false,
-  not,
-  cond,
-  map,
-  flat_map,
-  filter,
-  length,
-  slice_get,
-}
+use Rattle.std.specs.Prelude.{◌==◌, ℕ, suc, List, [], ◌∷◌, ◌++◌, Option, Some, None, Bool, true, false, not, map}
+use Rattle.std.specs.Prelude.{flat_map, filter, length, slice_get}
 use Rattle.std.specs.List.{range_with_len}
 use Rattle.fabric.specs.declared.thing.Side.TheVariants.{L, R}
 use Rattle.nor_net.specs.declared.net.Phase.TheVariants.{A, B, C}
-use Rattle.array_form.specs.Named.{Tie, tap, tran, pull}
-use Rattle.array_form.specs.Wires.{Wire, row, beat, left, right, trunk, extra, to_ground, to_power, place}
+use Rattle.array_form.specs.Named.{Tie, tap, pull}
+use Rattle.array_form.specs.Wires.{Wire, row, beat, left, right, trunk, extra, to_ground, place}
 use Rattle.array_form.specs.Band.{band_rows, band_columns, band_ties}
 use Rattle.slice_form.specs.Path.{Path, Carry, Cast, Lift, Programmed, parts}
 use Rattle.slice_form.specs.PathWires.{

@@ -1,36 +1,15 @@
 -- The wires of a placed data path by names, and what all marks tie.
-use Rattle.std.specs.Prelude.{
-  ◌≡◌,
-  ◌≢◌,
-  ◌⊎◌,
-  ◌+◌,
-  ◌<◌,
-  ◌≤◌,
-  ◌==◌,
-  ℕ,
-  zero,
-  suc,
-  List,
-  Option,
-  Some,
-  None,
-  Bool,
-  true,
-  false,
-  length,
-  slice_get,
-  cond,
-}
+use Rattle.std.specs.Prelude.{◌≡◌, ◌≢◌, ◌⊎◌, ◌<◌, ◌≤◌, ◌==◌, ℕ, zero, suc, List, Option, Some, None, Bool, true, false}
+use Rattle.std.specs.Prelude.{length, slice_get, cond}
 use Rattle.fabric.specs.declared.thing.Side.{Side}
 use Rattle.fabric.specs.declared.thing.Side.TheVariants.{L, R}
 use Rattle.nor_net.specs.declared.net.Phase.{Phase}
 use Rattle.nor_net.specs.declared.net.NetId.{NetId}
-use Rattle.nor_net.specs.declared.net.Part.{Part}
 use Rattle.nor_net.specs.declared.net.Part.TheVariants.{Input, Gate, Latch}
 use Rattle.nor_net.specs.Elements.{Spot}
-use Rattle.drawing.specs.Draws.{Point, OfNet, Ground, Power, OfPhase}
-use Rattle.array_form.specs.Named.{Tie, tap, tran, pull}
-use Rattle.array_form.specs.Roots.{Root, at, alone}
+use Rattle.drawing.specs.Draws.{Ground}
+use Rattle.array_form.specs.Named.{Tie, tap, pull}
+use Rattle.array_form.specs.Roots.{Root, at}
 use Rattle.array_form.specs.Wires.{Wire, row, beat, left, right, trunk, extra, to_ground, to_power, place, NetTie}
 use Rattle.slice_form.specs.Path.{Carry, Cast, Lift, Programmed, Path, parts, IsSlice}
 

@@ -1,43 +1,13 @@
 -- Where the columns of a data path stand: the same in every slice.
-use Rattle.std.specs.Prelude.{
-  ◌≡◌,
-  ◌+◌,
-  ◌*◌,
-  ◌==◌,
-  ℕ,
-  zero,
-  suc,
-  List,
-  [],
-  ◌∷◌,
-  ◌++◌,
-  Option,
-  Some,
-  None,
-  Bool,
-  true,
-  false,
-  ◌&&◌,
-  ◌||◌,
-  not,
-  cond,
-  map,
-  flat_map,
-  filter,
-  length,
-  slice_get,
-  min,
-  max,
-}
-use Rattle.std.specs.List.{range_with_len, list_any}
+use Rattle.std.specs.Prelude.{◌+◌, ◌==◌, ℕ, zero, suc, List, [], ◌∷◌, ◌++◌, Option, Some, None, Bool, true, false, ◌&&◌}
+use Rattle.std.specs.Prelude.{◌||◌, not, cond, length, slice_get, min, max}
+use Rattle.std.specs.List.{list_any}
 use Rattle.fabric.specs.declared.thing.Side.TheVariants.{L, R}
 use Rattle.fabric.specs.declared.thing.Line.{Line}
-use Rattle.nor_net.specs.declared.net.Phase.{Phase}
 use Rattle.nor_net.specs.declared.net.Part.{Part}
-use Rattle.nor_net.specs.declared.net.Part.TheVariants.{Input, Gate, Latch}
-use Rattle.array_form.specs.Lists.{Layout, upright}
-use Rattle.array_form.specs.Homes.{Columns, home, end_of, reads, numbers, phase_number}
-use Rattle.array_form.specs.BandLayout.{Bands, layout}
+use Rattle.nor_net.specs.declared.net.Part.TheVariants.{Input}
+use Rattle.array_form.specs.Lists.{upright}
+use Rattle.array_form.specs.Homes.{Columns, home, end_of, reads}
 use Rattle.slice_form.specs.Path.{Path, Carry, Cast, Lift, Programmed, parts}
 use Rattle.slice_form.specs.PathWires.{Across, cast_line, lift_line, lift_stub, chain_line, side_of}
 

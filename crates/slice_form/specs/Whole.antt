@@ -1,5 +1,5 @@
 -- A data path, as its placing takes it; and what is still to be shown of it.
-use Rattle.std.specs.Prelude.{◌≡◌, ◌<◌, ◌≤◌, ◌==◌, ℕ, List, Some, Bool, true, false, Contains, map, slice_get}
+use Rattle.std.specs.Prelude.{◌≡◌, ◌<◌, ◌==◌, ℕ, List, Some, true, false, Contains, map, slice_get}
 use Rattle.std.specs.List.{range_with_len}
 use Rattle.std.specs.Int.{bit_at}
 use Rattle.nor_net.specs.declared.net.NetId.{NetId}
@@ -14,7 +14,7 @@ use Rattle.path_form.specs.declared.path.DataPath.{DataPath}
 use Rattle.path_form.specs.Shape.{entries_of, rank}
 use Rattle.path_form.specs.Showing.{path_nets}
 use Rattle.path_form.specs.Sizes as sizes
-use Rattle.slice_form.specs.Path.{Path, Carry, Cast, Lift, Programmed, parts, pads, AreNetsOf, IsPath}
+use Rattle.slice_form.specs.Path.{Path, Carry, Cast, Lift, Programmed, pads, AreNetsOf, IsPath}
 use Rattle.slice_form.specs.Narrow.{IsNarrow}
 use Rattle.slice_form.specs.Slices.{control_stub, slice_stub}
 

@@ -1,5 +1,5 @@
 -- The band of the control, with the taps of casts and lifts.
-use Rattle.std.specs.Prelude.{◌≡◌, ◌+◌, ℕ, List, [], ◌∷◌, ◌++◌, Option, Some, None, flat_map, length, slice_get}
+use Rattle.std.specs.Prelude.{◌≡◌, ℕ, List, [], ◌∷◌, ◌++◌, Option, Some, None, flat_map, length, slice_get}
 use Rattle.std.specs.List.{range_with_len}
 use Rattle.array_form.specs.declared.band.Band.{Band}
 use Rattle.array_form.specs.declared.band.Tap.{Tap}

@@ -1,7 +1,7 @@
 -- The marks of the lines that join bands, in the slices: where they stand, and that no two stand at one place.
 use Rattle.std.proofs.Common.{◌≡◌, ◌⊎◌, inl, inr, ℕ, suc, ◌<◌, ◌≤◌, ◌+◌, Option, Some, None, Bool, true, false}
 use Rattle.std.proofs.Common.{cond, List, ◌∷◌, ◌++◌, length, map, refl, sym, ◌∙◌, ap, subst, arith, not}
-use Rattle.std.specs.Prelude.{slice_get, flat_map, max, ◌==◌, ◌≢◌}
+use Rattle.std.specs.Prelude.{slice_get, flat_map, max, ◌==◌}
 use Rattle.std.specs.List.{range_with_len}
 use Rattle.std.proofs.lemmas.Bool.{true≢false}
 use Rattle.std.proofs.lemmas.Option.{slice_get_within}

@@ -1,7 +1,7 @@
 -- The columns of a slice: where its nets have marks, and that those of joined nets are no others'.
 use Rattle.std.proofs.Common.{◌≡◌, inl, inr, ℕ, zero, suc, ◌<◌, ◌≤◌, ◌+◌, Option, Some, None, Bool, true, false}
 use Rattle.std.proofs.Common.{cond, List, [], ◌∷◌, ◌++◌, length, refl, sym, ◌∙◌, ap, subst, arith, not}
-use Rattle.std.specs.Prelude.{Contains, slice_get, ◌==◌, ◌||◌, ◌&&◌, ◌≢◌}
+use Rattle.std.specs.Prelude.{Contains, slice_get, ◌==◌, ◌||◌, ◌&&◌}
 use Rattle.std.specs.List.{list_any}
 use Rattle.std.proofs.lemmas.Bool.{cases_Bool, true≢false, or_left, or_right, and_from}
 use Rattle.std.proofs.lemmas.Option.{none-some, same_Some, slice_get_within, slice_get_cases}

@@ -23,7 +23,6 @@ use Rattle.array_form.proofs.Laid.{all_from}
 use Rattle.array_form.proofs.Greatest.{greatest_most}
 use Rattle.band_lists.specs.declared.pins.Pin.{Pin}
 use Rattle.band_lists.specs.Pins.{pin, stub_pins}
-use Rattle.band_lists.specs.Spans.{columns_at}
 use Rattle.band_lists.proofs.NetPins.{own, stub_pin_is, stub_pin_in}
 use Rattle.band_lists.proofs.BandPins.{IsPinIn, of_part, of_home, of_more, of_beat, ArePins, AreNarrow}
 use Rattle.band_lists.proofs.BandPins.{to_pin, some_pin, pin_on, is_interval}

@@ -1,6 +1,6 @@
 -- A fabric with what is laid out in a band, under the conditions of a caller.
 use Rattle.std.proofs.Common.{◌≡◌, suc, ◌+◌, ◌<◌, List, length, map, sym, ◌∙◌, ap, subst, arith}
-use Rattle.std.specs.Prelude.{All, slice_index}
+use Rattle.std.specs.Prelude.{slice_index}
 use Rattle.mp_base.proofs.Members.{member_contains, map_member}
 use Rattle.fabric.specs.Plan.{Plan, IsFabric, rows_of, with_added}
 use Rattle.fabric.specs.Room.{limit, IsRoomy}

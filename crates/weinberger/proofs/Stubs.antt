@@ -6,7 +6,7 @@ use Rattle.std.specs.List.{list_any, range_with_len}
 use Rattle.std.proofs.lemmas.Option.{slice_get_cases, slice_get_within}
 use Rattle.std.proofs.lemmas.Bool.{or_left, or_right, or_cases}
 use Rattle.mp_base.proofs.Ranges.{map_same}
-use Rattle.mp_base.proofs.Members.{Member, any_of}
+use Rattle.mp_base.proofs.Members.{any_of}
 use Rattle.mp_base.proofs.Tests.{same_bools}
 use Rattle.nor_net.specs.declared.net.Part.{Part}
 use Rattle.nor_net.specs.declared.net.Part.TheVariants.{Input, Gate, Latch}

@@ -1,4 +1,4 @@
-use Rattle.std.proofs.Common.{suc, ◌≡◌, ◌+◌, [], ◌∷◌, ◌++◌, ◌∙◌, ap, map, arith}
+use Rattle.std.proofs.Common.{suc, ◌≡◌, [], ◌∷◌, ◌++◌, ◌∙◌, ap, map, arith}
 use Rattle.std.specs.List.{range_with_len}
 use Rattle.mp_base.proofs.Ranges.{map_grown}
 use Rattle.array_form.specs.Lists.{upright}
