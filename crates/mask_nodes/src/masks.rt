@@ -1,6 +1,8 @@
 //! The sweeps of the masks of contacts and conductors.
 
 ghost use Rattle.std.specs.Prelude.{◌++◌, IfOk, map};
+ghost use Rattle.lam_geom.specs.declared.layer.Layer.TheVariants.{NM, NP};
+ghost use Rattle.mask_runs.specs.declared.mask.Mask.TheVariants.{Only, Diffusion};
 ghost use Rattle.mask_pieces.specs.Columns.{corner_point};
 ghost use Rattle.mask_pieces.specs.Masks.{AreMasks, IsSwept, asked};
 
@@ -22,10 +24,9 @@ pub(crate) fn sweep_masks(
 {
     let contacts = sweep(alloc, shapes, Mask::Contacts, &[])?;
     let first = contacts.tiles.as_slice();
-    let metal = sweep_at(alloc, shapes, Mask::Only(Layer::NM), first, places, &[])?;
-    let diffusion = sweep_at(alloc, shapes, Mask::Diffusion, first, places, &[])?;
+    let (metal, diffusion) = sweep_both(alloc, shapes, first, places)?;
     let last = diffusion.tiles.as_slice();
-    let polysilicon = sweep_at(alloc, shapes, Mask::Only(Layer::NP), first, places, last)?;
+    let polysilicon = sweep_polysilicon(alloc, shapes, first, places, last)?;
     Ok(Masks {
         contacts,
         metal,
@@ -34,18 +35,40 @@ pub(crate) fn sweep_masks(
     })
 }
 
-// The sweep of a mask that is asked for the first squares of some tiles, these places, and the first squares of other
-// tiles.
-fn sweep_at(
+// The sweeps of metal and diffusion, both asked for the first squares of some tiles and for these places.
+fn sweep_both(
     alloc: Global,
     shapes: &[Rect],
-    mask: Mask,
+    first: &[Tile],
+    places: &[Point],
+) -> Result<(Swept, Swept), NoMemory>
+    ensures metal { IfOk result (λ m. IsSwept shapes.now (Only NM) (asked first.now places.now) m.0) }
+    ensures diffusion { IfOk result (λ m. IsSwept shapes.now Diffusion (asked first.now places.now) m.1) }
+{
+    let asked = spots(alloc, first, places, &[])?;
+    sweep_asked(alloc, shapes, asked.as_slice())
+}
+
+fn sweep_asked(alloc: Global, shapes: &[Rect], asked: &[Point]) -> Result<(Swept, Swept), NoMemory>
+    ensures metal { IfOk result (λ m. IsSwept shapes.now (Only NM) asked.now m.0) }
+    ensures diffusion { IfOk result (λ m. IsSwept shapes.now Diffusion asked.now m.1) }
+{
+    let metal = sweep(alloc, shapes, Mask::Only(Layer::NM), asked)?;
+    let diffusion = sweep(alloc, shapes, Mask::Diffusion, asked)?;
+    Ok((metal, diffusion))
+}
+
+// The sweep of polysilicon, asked for the first squares of the contacts, these places, and the first squares of other
+// tiles.
+fn sweep_polysilicon(
+    alloc: Global,
+    shapes: &[Rect],
     first: &[Tile],
     places: &[Point],
     last: &[Tile],
 ) -> Result<Swept, NoMemory>
-    ensures { IfOk result (IsSwept shapes.now mask (asked first.now places.now ++ map corner_point last.now)) }
+    ensures { IfOk result (IsSwept shapes.now (Only NP) (asked first.now places.now ++ map corner_point last.now)) }
 {
     let asked = spots(alloc, first, places, last)?;
-    sweep(alloc, shapes, mask, asked.as_slice())
+    sweep(alloc, shapes, Mask::Only(Layer::NP), asked.as_slice())
 }
