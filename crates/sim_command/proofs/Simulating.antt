@@ -1,14 +1,17 @@
 -- A circuit that runs along a stimulus: how it is refused, and what it shows.
-use Rattle.std.proofs.Common.{◌≡◌, ◌≤◌, ◌<◌, ◌^◌, ◌∙◌, ℕ, List, [], refl, ap, subst, arith, Option, Some, None}
-use Rattle.std.proofs.Common.{IfSome}
+use Rattle.std.proofs.Common.{◌≡◌, ◌≤◌, ◌<◌, ◌^◌, ◌∙◌, ℕ, List, [], refl, sym, ap, subst, arith, Option, Some, None}
+use Rattle.std.proofs.Common.{IfSome, Result, Ok, Err}
+use Rattle.std.specs.Prelude.{IsErrAnd}
 use Rattle.mp_base.specs.declared.value.Trit.{Trit}
 use Rattle.mp_base.specs.declared.value.Trit.TheVariants.{X}
 use Rattle.mp_base.specs.declared.pad.Pads.{Pads}
 use Rattle.mp_base.specs.declared.refusal.Refusal.{Refusal}
 use Rattle.mp_base.specs.declared.refusal.Refusal.TheVariants as refusals
-use Rattle.outside.specs.Outside.{Files, Keeps, bytes_of}
+use Rattle.outside.specs.Outside.{Files, Keeps, Gains, HasCause, bytes_of}
+use Rattle.outside.specs.Piece.{TakesAll}
+use Rattle.outside.specs.declared.calls.Failed.{Failed}
 use Rattle.mp_base.proofs.Decisions.{IsDetermined}
-use Rattle.outside.proofs.Told.{told_then}
+use Rattle.outside.proofs.Told.{told_then, keeps_same}
 use Rattle.switch_net.specs.declared.network.Network.{Network}
 use Rattle.switch_net.specs.Breaks.{HasPads, IsFirstOfCircuit}
 use Rattle.switch_net.specs.Laws.{OneFirstOfCircuit}
@@ -20,12 +23,19 @@ use Rattle.mask_net.specs.Masks.{IsNetOf}
 use Rattle.mask_net.specs.Laws.{OneNetwork}
 use Rattle.clock_run.specs.Refused.{IsRefused}
 use Rattle.sim_run.specs.Transcript.{IsTranscript}
-use Rattle.outcome.specs.Order.{Fault, OfRule}
+use Rattle.outcome.specs.Order.{Fault, IsStrayBy, OfRule}
 use Rattle.sim_command.specs.Work.{work, SetUpFault}
-use Rattle.outcome.specs.Halt.{EndsBy, halt_of}
+use Rattle.outcome.specs.Halt.{Ends, EndsBy, IsQuiet, halt_of, status_of}
+use Rattle.outcome.specs.World.{World, HasCauses, Leaves}
+use Rattle.sim_command.specs.Showing.{IsShown, refused, ran}
 use Rattle.sim_command.specs.Simulated.{IsSetUp, OfCircuit}
 use Rattle.outcome.specs.declared.halt.Halt.{Halt}
+use Rattle.outcome.specs.declared.halt.Halt.TheVariants.{WriteFault}
+use Rattle.outcome.proofs.Causes.{print_failed}
+use Rattle.outcome.proofs.EndsLemmas.{leaves_halted, leaves_done, leaves_cut}
 use Rattle.outcome.proofs.Reasons.{ends_first, ends_second, if_second}
+use Rattle.outcome.proofs.Silence.{quiet_same, quiet_cut}
+use Rattle.stages.proofs.Ending.{causes_halted}
 
 -- a stimulus of a text has the same pads everywhere
 abbrev pub SamePads : Type 0
@@ -118,3 +128,88 @@ shows_simulation cif stimulus text net given after (Some files) is transcript = 
   refl,
   record { network = net; given = given; set_up = is; after = after; transcript = transcript },
 )
+
+-- a whole or a part of a text was taken, whatever the fault is
+retaken : {E : Type 0} (e : E) (before after : Option (List ℕ)) (text : List ℕ) (result : Result (Unit {0}) Halt)
+    → IsErrAnd result (λ halt. halt ≡ WriteFault) → TakesAll {T = Unit {0}} Gains before after text (Err e)
+    → TakesAll Gains before after text result
+retaken e before after text (Ok v) is t = absurd is
+retaken e before after text (Err halt) is t = record {
+  count = t.count;
+  within = t.within;
+  all = tt;
+  cut = t.cut;
+  taken = t.taken;
+}
+
+-- the circuit ran, and a write failed
+pub cut_shown : (net : Network) (given : Stimulus) (before after : Option (List ℕ)) (faults now : ℕ)
+    (result : Result (Unit {0}) Halt) (e : Failed) (end : ℕ → Trit) (text : List ℕ) → HasPads net given.pads
+    → IsErrAnd result (λ halt. halt ≡ WriteFault) → IsTranscript net given (λ node. X) end text
+    → TakesAll {T = Unit {0}} Gains before after text (Err e) → HasCause {T = Unit {0}} faults now (Err e)
+    → IsShown net given before after faults now result
+cut_shown net given before after faults now (Ok v) e end text pads is transcript taken cause = absurd is
+cut_shown net given before after faults now (Err halt) e end text pads is transcript taken cause =
+    ran end text pads transcript (retaken e before after text (Err halt) is taken)
+    record { later = cause.later; ok = tt; failed = cause.failed } is
+
+-- the circuit ran, and all was printed
+pub whole_shown : (net : Network) (given : Stimulus) (before after : Option (List ℕ)) (faults now : ℕ) (v w : Unit {0})
+    (end : ℕ → Trit) (text : List ℕ) → HasPads net given.pads → IsTranscript net given (λ node. X) end text
+    → TakesAll {E = Failed} Gains before after text (Ok v) → HasCause {E = Failed} faults now (Ok v)
+    → IsShown net given before after faults now (Ok w)
+whole_shown net given before after faults now v w end text pads transcript taken cause =
+    ran end text pads transcript
+    record { count = taken.count; within = taken.within; all = taken.all; cut = tt; taken = taken.taken }
+    record { later = cause.later; ok = cause.ok; failed = tt } tt
+
+-- work that was refused has printed nothing
+pub shown_quiet : (net : Network) (given : Stimulus) (before after : Option (List ℕ)) (faults now : ℕ)
+    (result : Result (Unit {0}) Halt) → IsShown net given before after faults now result
+    → IsQuiet result before after
+shown_quiet net given before after faults now result (refused why broken is text prints) =
+    subst (IsQuiet result before) (sym text) (quiet_same result before)
+shown_quiet net given before after faults now (Ok v) (ran end text pads transcript taken cause cut) = tt
+shown_quiet net given before after faults now (Err halt) (ran end text pads transcript taken cause cut) =
+    quiet_cut {T = Unit {0}} (Err halt) before after cut
+
+-- the circuit was refused, or it ran: what the command did by that
+module _ (cif stimulus : List ℕ) (net : Network) (given : Stimulus) (before after : World)
+    (set_up : IfSome after.files (λ files. IsSetUp (bytes_of files cif) (bytes_of files stimulus) net given))
+    (fits : (after.reads ≡ before.reads) × IfSome after.files (λ files. SetUpFault cif stimulus files None)) where
+  abbrev Shown : Result (Unit {0}) Halt → Type 0
+  Shown = IsShown net given before.text after.text before.prints after.prints
+
+  why_ends : (why : Refusal) → IsRefused net given.pads why
+      → EndsBy (work cif stimulus).First after.files before.reads after.reads (halt_of why)
+  why_ends = ends_refused cif stimulus net given after.files before.reads after.reads set_up fits
+
+  finds : (end : ℕ → Trit) (text : List ℕ) → HasPads net given.pads → IsTranscript net given (λ node. X) end text
+      → IfSome after.files (λ files. (work cif stimulus).First files None)
+      × IfSome after.files (λ files. (work cif stimulus).Shows files [] text)
+  finds end text pads transcript = (
+    no_fault cif stimulus net given after.files before.reads after.reads set_up fits pads,
+    shows_simulation cif stimulus text net given end after.files set_up transcript,
+  )
+
+  pub shown_leaves : (result : Result (Unit {0}) Halt) → Keeps before.files after.files → Shown result
+      → Leaves (Ends (work cif stimulus) result) before after
+  shown_leaves result kept (refused why broken is text prints) =
+      leaves_halted (work cif stimulus) (halt_of why) result before after before.reads after.reads is kept text
+      (why_ends why broken)
+  shown_leaves (Ok v) kept (ran end text pads transcript taken cause cut) =
+      leaves_done (work cif stimulus) [] text v v before after after.files kept (finds end text pads transcript)
+      (keeps_same after.files) taken
+  shown_leaves (Err halt) kept (ran end text pads transcript taken cause cut) =
+      leaves_cut (work cif stimulus) [] text halt (Err halt) before after after.files cut kept
+      (finds end text pads transcript) (keeps_same after.files) taken
+
+  pub shown_causes : (result : Result (Unit {0}) Halt) → after.writes ≡ before.writes → Shown result
+      → HasCauses (status_of result) (IsStrayBy (work cif stimulus).First after.files) before after
+  shown_causes result writes (refused why broken is text prints) =
+      causes_halted (work cif stimulus).First after.files (halt_of why) result before after is (why_ends why broken)
+      writes prints
+  shown_causes (Ok v) writes (ran end text pads transcript taken cause cut) = (fits.0, writes, cause.ok)
+  shown_causes (Err halt) writes (ran end text pads transcript taken cause cut) =
+      print_failed (Err halt) (IsStrayBy (work cif stimulus).First after.files) before after cut fits.0 writes
+      cause.later cause.failed

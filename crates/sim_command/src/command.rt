@@ -6,6 +6,7 @@ ghost use Rattle.stimulus.specs.declared.limits.TheConstants.{CLOCK_LIMIT, PAD_L
 ghost use Rattle.outcome.specs.Order.{IsStrayBy};
 ghost use Rattle.outcome.specs.World.{world_of, HasCauses, Leaves};
 ghost use Rattle.outcome.specs.Halt.{HasReason, Ends, IsQuiet, status_of};
+ghost use Rattle.sim_command.specs.Showing.{IsShown};
 ghost use Rattle.sim_command.specs.Simulated.{IsSetUp};
 ghost use Rattle.sim_command.specs.Work.{work, SetUpFault};
 
@@ -40,6 +41,18 @@ fn prepare<D: Depot>(alloc: Global, depot: &mut D, cif: &str, stimulus: &str) ->
     Ok(SetUp { network, given })
 }
 
+// Runs the circuit of a network along a stimulus.
+fn show<O: Sink>(alloc: Global, network: Network, given: &Stimulus, out: &mut O) -> Result<(), Halt>
+    requires few_inputs { length given.now.pads.inputs ≤ PAD_LIMIT }
+    requires few_clocks { length given.now.clocks ≤ CLOCK_LIMIT }
+    ensures { IsShown network given.now (O.held out.old) (O.held out.new) (O.faults out.old) (O.faults out.new)
+        result }
+{
+    let mut simulation = Simulation::open(alloc, network, given)?;
+    simulation.run(out)?;
+    Ok(())
+}
+
 /// Prints the transcript of the circuit, from unknown values.
 ///
 /// # Errors
@@ -63,7 +76,5 @@ pub fn sim<D: Depot, O: Sink>(
     ensures writes { D.write_faults depot.new ≡ D.write_faults depot.old }
 {
     let SetUp { network, given } = prepare(alloc, depot, cif, stimulus)?;
-    let mut simulation = Simulation::open(alloc, network, &given)?;
-    simulation.run(out)?;
-    Ok(())
+    show(alloc, network, &given, out)
 }
