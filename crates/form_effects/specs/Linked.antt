@@ -1,6 +1,6 @@
 -- What the names of a program mean, by index.
 use Rattle.std.specs.Prelude.{◌≡◌, ℕ, suc, ◌<◌, List, [], ◌∷◌, if◌then◌else◌, Bool, true, false, length, map, filter}
-use Rattle.std.specs.Prelude.{position, slice_index_or, Option}
+use Rattle.std.specs.Prelude.{position, slice_get, slice_index_or, Option, Some}
 use Rattle.std.specs.Option.{option_map}
 use Rattle.mp_base.specs.declared.refusal.Place.{Place}
 use Rattle.mp_program.specs.declared.program.ExprKind.{ExprKind}
@@ -41,7 +41,7 @@ AreQuiet p x marks = (f : ℕ) → f < length p.forms → slice_index_or marks f
 -- the same for each definition
 pub record AllQuiet (p : Program) (marks : List (List Bool)) : Type 0 where
   pub size : length marks ≡ length p.defs
-  pub each : (d : ℕ) (x : Def) → d < length p.defs → x ≡ slice_index_or p.defs d x
+  pub each : (d : ℕ) (x : Def) → slice_get p.defs d ≡ Some x
       → AreQuiet p x.name (slice_index_or marks d [])
 
 -- a process without labels and forms, which stands past the last one

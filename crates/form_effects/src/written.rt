@@ -1,6 +1,6 @@
 //! What forms write.
 
-ghost use Rattle.std.specs.Prelude.{◌≡◌, ◌<◌, ◌++◌, length, slice_index_or};
+ghost use Rattle.std.specs.Prelude.{◌≡◌, ◌<◌, ◌++◌, length, slice_get, Some};
 ghost use Rattle.std.specs.List.{flat_map, AllByRecursion};
 ghost use Rattle.mp_base.specs.Merge.{merged};
 ghost use Rattle.mp_program.specs.declared.program.Def.{Def};
@@ -134,7 +134,7 @@ pub fn written_to(
     requires linked { AreLinks program.now links.now }
     requires placed { AllByRecursion (λ f. f < length program.now.forms) places.now }
     requires inside { target < length program.now.defs }
-    ensures { (x : Def) → x ≡ slice_index_or program.now.defs target x
+    ensures { (x : Def) → slice_get program.now.defs target ≡ Some x
         → result ≡ merged (written x.name
         (flat_map (effects_of program.now env.now) (program.now.always ++ places.now))) }
 {

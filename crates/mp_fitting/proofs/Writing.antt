@@ -1,7 +1,7 @@
 -- The values of expressions, and what forms write.
 use Rattle.std.proofs.Common.{◌≡◌, ◌≢◌, inl, inr, ◌∙◌, ℕ, zero, suc, ◌+◌, ◌<◌, ◌≤◌, ◌^◌, List, [], ◌∷◌, ◌++◌, Bool}
 use Rattle.std.proofs.Common.{true, false, cond, Option, Some, None, refl, sym, ap, subst, arith, length, get_or, map}
-use Rattle.std.specs.Prelude.{slice_index, slice_index_or, unwrap_or, Contains, All, ◌==◌}
+use Rattle.std.specs.Prelude.{slice_index, slice_get, Some, unwrap_or, Contains, All, ◌==◌}
 use Rattle.std.specs.List.{AllByRecursion, flat_map}
 use Rattle.std.proofs.lemmas.Bool.{cases_lt}
 use Rattle.std.proofs.lemmas.List.{get_or_past}
@@ -30,7 +30,7 @@ use Rattle.mp_rules.specs.Entries.{IsAt}
 use Rattle.mp_rules.specs.Naming.{OwnNames}
 use Rattle.mp_rules.specs.Rules.{E22, E23}
 use Rattle.mp_rules.specs.Sorts.{Sort, IsWord, IsBit, name_sort, operand_sort, expr_sort, IsWanted}
-use Rattle.mp_rules.proofs.ListEntries.{some_entry}
+use Rattle.mp_rules.proofs.ListEntries.{some_entry, get_at}
 use Rattle.mp_fitting.specs.Fitting.{def_limit, ValuesFit}
 use Rattle.mp_fitting.proofs.Sizes.{sort_limit, limit_positive, limit_is, sort_of, or_fits}
 use Rattle.mp_fitting.proofs.Operators.{apply_fits}
@@ -112,9 +112,9 @@ merged_fits w s (v ∷ vs) z h low = both (merged vs) (merged_fits w s vs z h.1 
 
 pub record Fitting (p : Program) : Type 0 where
   pub sound : IsSound p
-  pub values : (env : List ℕ) (e : ℕ) (x : Expr) → e < length p.exprs → x ≡ slice_index_or p.exprs e x
+  pub values : (env : List ℕ) (e : ℕ) (x : Expr) → slice_get p.exprs e ≡ Some x
       → value_of p env e ≡ kind_value p env x.kind (value_of p env)
-  pub effects : (env : List ℕ) (f : ℕ) (x : Form) → f < length p.forms → x ≡ slice_index_or p.forms f x
+  pub effects : (env : List ℕ) (f : ℕ) (x : Form) → slice_get p.forms f ≡ Some x
       → effects_of p env f ≡ kind_effects (value_of p env) x.kind (effects_of p env)
   pub names : OwnNames p
   pub sorts : (at : Place) → E22 p at → ⊥
@@ -165,7 +165,8 @@ module _ (p : Program) (a : Fitting p) (env : List ℕ) (f : ValuesFit p env) wh
       args_behind : All (λ b. (e < b) × (b < length p.exprs)) args
       args_behind =
           let P : ExprKind → Type 0 = ArgsFit e (length p.exprs) in
-          let h : ArgsFit e (length p.exprs) (Apply op k args) = subst P same (a.sound.exprs e x is.0 is.1) in
+          let h : ArgsFit e (length p.exprs) (Apply op k args) =
+          subst P same (a.sound.exprs e x (get_at p.exprs e x is)) in
           All-from_recursion (λ b. (e < b) × (b < length p.exprs)) args h.1
 
       argument : (b : ℕ) → Contains args b → value_of p env b < sort_limit p.width (Some (operand_sort op))
@@ -178,7 +179,7 @@ module _ (p : Program) (a : Fitting p) (env : List ℕ) (f : ValuesFit p env) wh
   fit_from zero e x le is = absurd (let l : e < length p.exprs = is.0 in omega (arith, le, l))
   fit_from (suc m) e x le is =
       let P : ℕ → Type 0 = λ v. v < sort_limit p.width (expr_sort p.defs x.kind) in
-      subst P (sym (a.values env e x is.0 is.1))
+      subst P (sym (a.values env e x (get_at p.exprs e x is)))
       (kind_fit e x is (λ b y lt at. fit_from m b y (omega (arith, le, lt)) at) x.kind refl)
 
   guard_in : (g n : ℕ) (bs : List Branch) (b : Branch) → BranchesFit (length p.exprs) g n bs → Contains bs b
@@ -196,7 +197,8 @@ module _ (p : Program) (a : Fitting p) (env : List ℕ) (f : ValuesFit p env) wh
       → Contains bs b → value_of p env b.guard < 2
   guard_fit g y bs b is same among =
       let P : FormKind → Type 0 = InnerFit (length p.exprs) g (length p.forms) in
-      let (inside, guarded) = guard_in g (length p.forms) bs b (subst P same (a.sound.forms g y is.0 is.1)) among in
+      let fit : P (Cond bs) = subst P same (a.sound.forms g y (get_at p.forms g y is)) in
+      let (inside, guarded) = guard_in g (length p.forms) bs b fit among in
       let (x, at) = some_entry p.exprs b.guard inside in
       wanted b.guard x IsBit at (inr (inl (g, y, bs, is, same, guarded, refl)))
       (fit_from (length p.exprs) b.guard x (omega arith) at)
@@ -209,7 +211,7 @@ module _ (p : Program) (a : Fitting p) (env : List ℕ) (f : ValuesFit p env) wh
     where
       inside : e < length p.exprs
       inside = let P : FormKind → Type 0 = InnerFit (length p.exprs) g (length p.forms) in
-          subst P same (a.sound.forms g y is.0 is.1)
+          subst P same (a.sound.forms g y (get_at p.forms g y is))
 
       value : (s : Sort) → name_sort p.defs name ≡ Some s → value_of p env e < sort_limit p.width (Some s)
       value s sort =
@@ -218,12 +220,13 @@ module _ (p : Program) (a : Fitting p) (env : List ℕ) (f : ValuesFit p env) wh
           (fit_from (length p.exprs) e x (omega arith) at_e)
   form_fit g y is rest (Cond bs) same =
       let P : FormKind → Type 0 = InnerFit (length p.exprs) g (length p.forms) in
-      branches_fit p (value_of p env) (effects_of p env) g bs rest (subst P same (a.sound.forms g y is.0 is.1))
+      branches_fit p (value_of p env) (effects_of p env) g bs rest
+      (subst P same (a.sound.forms g y (get_at p.forms g y is)))
   form_fit g y is rest (Par fs) same =
       let P : FormKind → Type 0 = InnerFit (length p.exprs) g (length p.forms) in
       flat_fits p (effects_of p env) fs
       (all_between (λ j. WritesFit p (effects_of p env j)) g (length p.forms) fs rest
-      (subst P same (a.sound.forms g y is.0 is.1)))
+      (subst P same (a.sound.forms g y (get_at p.forms g y is))))
   form_fit g y is rest (Go l) same = (tt, tt)
   form_fit g y is rest (Call l) same = (tt, tt)
   form_fit g y is rest Return same = (tt, tt)
@@ -242,7 +245,7 @@ module _ (p : Program) (a : Fitting p) (env : List ℕ) (f : ValuesFit p env) wh
     | inl lt ↦ (
         let (y, is) = some_entry p.forms g lt in
         let P : List Effect → Type 0 = WritesFit p in
-        subst P (sym (a.effects env g y is.0 is.1))
+        subst P (sym (a.effects env g y (get_at p.forms g y is)))
         (form_fit g y is (λ j gj jl. writes_from m j (omega (arith, le, gj))) y.kind refl))
     | inr ge ↦ nothing_past g ge
   ]

@@ -16,6 +16,7 @@ use Rattle.name_meanings.specs.Meaning.{AreMeanings}
 use Rattle.mp_rules.specs.Entries.{IsAt}
 use Rattle.mp_rules.specs.Breaking.{IsEarliest}
 use Rattle.mp_rules.specs.Rules.{E33}
+use Rattle.mp_rules.proofs.ListEntries.{at_get}
 use Rattle.mp_order.specs.declared.earliest.Setting.{Setting}
 use Rattle.mp_order.specs.Demands.{IsDriven, OwnNames, root}
 use Rattle.mp_order.specs.Chains.{SetsFlagged, FlaggedSet}
@@ -26,10 +27,10 @@ use Rattle.mp_order.proofs.Marks.{marked_inside}
 use Rattle.mp_order.proofs.Reading.{SetsLaw, ReadsLaw, read_down}
 
 pub reader_driven : (p : Program) (a b : ℕ) → Reads p a b → (x : Def) × IsDriven p a x
-reader_driven p a b (x, y, al, bl, xa, yb, dx, dy, any) = (x, ((al, xa), dx))
+reader_driven p a b (x, y, xa, yb, dx, dy, any) = (x, (at_get p.defs a x xa, dx))
 
 pub read_driven : (p : Program) (a b : ℕ) → Reads p a b → (y : Def) × IsDriven p b y
-read_driven p a b (x, y, al, bl, xa, yb, dx, dy, any) = (y, ((bl, yb), dy))
+read_driven p a b (x, y, xa, yb, dx, dy, any) = (y, (at_get p.defs b y yb, dy))
 
 pub start_driven : (p : Program) (a b : ℕ) → Chain p a b → (x : Def) × IsDriven p a x
 start_driven p a b (link reads) = reader_driven p a b reads
@@ -47,7 +48,7 @@ IsSetBy p m d = (f : ℕ) × (y : Form) × (name : List ℕ) × (there : Place) 
 -- what reads is set
 pub reader_set : (p : Program) (m : Meanings) → IsSound p → SetsLaw p → ReadsLaw p → AreMeanings p m → OwnNames p
     → (a b : ℕ) → Reads p a b → IsSetBy p m a
-reader_set p m s sl rl means own a b (x, y, al, bl, xa, yb, dx, dy, any) =
+reader_set p m s sl rl means own a b (x, y, xa, yb, dx, dy, any) =
     let (r, rooted, reads) = any_of (form_reads p x.name y.name) (roots p) any in
     let lt : r < length p.forms = marked_inside p s [] r 1 (root rooted) in
     let z = own_default p.forms r lt in
@@ -62,7 +63,7 @@ reader_set p m s sl rl means own a b (x, y, al, bl, xa, yb, dx, dy, any) =
       wg,
       kind,
       means.targets g w t at v wg kind ∙ ap (index_of p.defs) (same_is t x.name same)
-          ∙ own a x ((al, xa), dx),
+          ∙ own a x (at_get p.defs a x xa, dx),
     )
 
 pub start_set : (p : Program) (m : Meanings) → IsSound p → SetsLaw p → ReadsLaw p → AreMeanings p m → OwnNames p

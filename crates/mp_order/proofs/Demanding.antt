@@ -19,6 +19,7 @@ use Rattle.mp_program.proofs.Definitions.{is_same_of, same_is}
 use Rattle.name_meanings.specs.declared.meaning.Meanings.{Meanings}
 use Rattle.name_meanings.specs.Meaning.{AreMeanings}
 use Rattle.mp_rules.specs.Entries.{IsAt}
+use Rattle.mp_rules.proofs.ListEntries.{at_get, get_at}
 use Rattle.mp_order.specs.Tables.{Lifted}
 use Rattle.mp_order.specs.Demands.{IsDriven, OwnNames, AreTops, Marked, root, AreMarks, Asks, AreDemands}
 use Rattle.mp_order.proofs.Mentions.{any_of}
@@ -30,7 +31,7 @@ value_inside : (p : Program) → IsSound p → (f : ℕ) (y : Form) (name : List
     → y.kind ≡ Set name at v → v < length p.exprs
 value_inside p s f y name at v yf is =
     let Q : FormKind → Type 0 = λ kind. InnerFit (length p.exprs) f (length p.forms) kind in
-    let fit : Q (Set name at v) = subst Q is (s.forms f y yf.0 yf.1) in fit
+    let fit : Q (Set name at v) = subst Q is (s.forms f y (get_at p.forms f y yf)) in fit
 
 pub are_demands : (p : Program) (m : Meanings) (weights tops marks zeros demands : List ℕ) → IsSound p → SetsLaw p
     → ReadsLaw p → AreMeanings p m → OwnNames p
@@ -75,18 +76,19 @@ are_demands p m weights tops marks zeros demands s sl rl means own t mk none l =
             )
 
     bounds : (a b : ℕ) → Reads p a b → slice_index weights b ≤ slice_index demands a
-    bounds a b (x, y, al, bl, xa, yb, dx, dy, reads) =
+    bounds a b (x, y, xa, yb, dx, dy, reads) =
+        let driven : IsDriven p b y = (at_get p.defs b y yb, dy) in
         let (r, rooted, reads_r) = any_of (form_reads p x.name y.name) (roots p) reads in
         let lt : r < length p.forms = marked_inside p s tops r 1 (root rooted) in
         let z = own_default p.forms r lt in
-        worth a b x y ((al, xa), dx) ((bl, yb), dy)
+        worth a b x y (at_get p.defs a x xa, dx) driven
         (read_down p s sl rl tops x.name y.name (slice_index weights b)
-        (λ e el mention. t.bound e b y (omega arith) el ((bl, yb), dy) mention)
+        (λ e el mention. t.bound e b y (omega arith) el driven mention)
         (length p.forms) r 1 z.0 (omega arith) (lt, z.1) (root rooted) reads_r)
 
     reads_of : (a b : ℕ) (x y : Def) → IsDriven p a x → IsDriven p b y
         → list_any (form_reads p x.name y.name) (roots p) ≡ true → Reads p a b
-    reads_of a b x y ((al, xa), dx) ((bl, yb), dy) reads = (x, y, al, bl, xa, yb, dx, dy, reads)
+    reads_of a b x y (xa, dx) (yb, dy) reads = (x, y, get_at p.defs a x xa, get_at p.defs b y yb, dx, dy, reads)
 
     from_weight : (a k : ℕ) (x : Def) → IsDriven p a x → ReadWeight p weights x.name (k + 1)
         → (b : ℕ) × Reads p a b × (slice_index weights b ≡ k)
@@ -109,13 +111,13 @@ are_demands p m weights tops marks zeros demands s sl rl means own t mk none l =
         by_why (inl e) =
             let (b, z, dz, mention, w) =
             t.met v (omega arith) (value_inside p s f y name at v yf kind) (omega (arith, some, e)) in
-            let here : form_reads p x.name z.name f ≡ true = rl x.name z.name f y yf.0 yf.1
+            let here : form_reads p x.name z.name f ≡ true = rl x.name z.name f y (get_at p.forms f y yf)
             ∙ ap (λ k. kind_reads (mentions p z.name) (sets p x.name) x.name k (form_reads p x.name z.name)) kind
             ∙ and_from (is_same name x.name) (mentions p z.name v) same mention in
             (b, reads_of a b x z dx dz (read_up p rl tops x.name z.name f (slice_index marks f) marked here), w ∙ sym e)
         by_why (inr e) =
             let here : sets p x.name f ≡ true =
-            sl x.name f y yf.0 yf.1 ∙ ap (λ k. kind_sets x.name k (sets p x.name)) kind ∙ same in
+            sl x.name f y (get_at p.forms f y yf) ∙ ap (λ k. kind_sets x.name k (sets p x.name)) kind ∙ same in
             let P : ℕ → Type 0 = λ k. ReadWeight p weights x.name k in
             from_weight a (slice_index demands a) x dx
             (subst P (sym e)

@@ -1,18 +1,20 @@
 -- Where no definition reads itself through a chain, there is an order of evaluation.
 use Rattle.std.proofs.Common.{◌≡◌, ◌⊎◌, inl, inr, ℕ, zero, suc, ◌+◌, ◌<◌, ◌≤◌, List, [], ◌∷◌, true, false, replicate}
-use Rattle.std.proofs.Common.{refl, sym, ap, subst, length, arith, get_or}
-use Rattle.std.specs.Prelude.{slice_index, slice_set}
+use Rattle.std.proofs.Common.{refl, sym, ◌∙◌, ap, subst, length, arith, get_or}
+use Rattle.std.specs.Prelude.{slice_index, slice_set, slice_get, Some}
 use Rattle.std.specs.List.{insert, list_any}
 use Rattle.std.proofs.lemmas.Bool.{cases_lt, cases_Bool}
+use Rattle.std.proofs.lemmas.Option.{same_Some, slice_get_within}
 use Rattle.mp_base.specs.declared.refusal.Place.{Place}
 use Rattle.mp_base.proofs.Decisions.{Decided}
-use Rattle.mp_base.proofs.Entries.{own_default}
+use Rattle.mp_base.proofs.Entries.{own_default, some_entry}
 use Rattle.mp_program.specs.declared.program.Def.{Def}
 use Rattle.mp_program.specs.declared.program.Program.{Program}
 use Rattle.mp_program.specs.Names.{is_driven}
 use Rattle.mp_program.specs.Sound.{IsSound}
 use Rattle.mp_program.specs.Reads.{Reads, Chain, link, more, IsOrder, form_reads, roots}
 use Rattle.mp_rules.specs.Rules.{E33}
+use Rattle.mp_rules.proofs.ListEntries.{at_get}
 use Rattle.mp_order.specs.Demands.{IsDriven, root}
 use Rattle.mp_order.specs.Chains.{AreReachers, Placed}
 use Rattle.mp_order.proofs.Tables.{one_entry}
@@ -61,29 +63,31 @@ module _ (p : Program) where
   reads_decided a b = by (cases_lt a (length p.defs)) (cases_lt b (length p.defs))
     where
       by : (a < length p.defs) ⊎ (length p.defs ≤ a) → (b < length p.defs) ⊎ (length p.defs ≤ b) → Decided (Reads p a b)
-      by (inr past) right = inr (λ (x, y, al, bl, xa, yb, dx, dy, any). omega (arith, al, past))
-      by (inl al) (inr past) = inr (λ (x, y, al, bl, xa, yb, dx, dy, any). omega (arith, bl, past))
+      by (inr past) right = inr (λ (x, y, xa, yb, dx, dy, any).
+          let al = slice_get_within p.defs a x xa in omega (arith, al, past))
+      by (inl al) (inr past) = inr (λ (x, y, xa, yb, dx, dy, any).
+          let bl = slice_get_within p.defs b y yb in omega (arith, bl, past))
       by (inl al) (inl bl) =
-          let (x, xa) = own_default p.defs a al in
-          let (y, yb) = own_default p.defs b bl in
+          let (x, xa) = some_entry p.defs a al in
+          let (y, yb) = some_entry p.defs b bl in
           test x y xa yb (cases_Bool (is_driven x.what)) (cases_Bool (is_driven y.what))
           (cases_Bool (list_any (form_reads p x.name y.name) (roots p)))
         where
-          test : (x y : Def) → x ≡ get_or p.defs a x → y ≡ get_or p.defs b y → (is_driven x.what ≡ true)
+          test : (x y : Def) → slice_get p.defs a ≡ Some x → slice_get p.defs b ≡ Some y → (is_driven x.what ≡ true)
               ⊎ (is_driven x.what ≡ false)
               → (is_driven y.what ≡ true) ⊎ (is_driven y.what ≡ false)
               → (list_any (form_reads p x.name y.name) (roots p) ≡ true)
               ⊎ (list_any (form_reads p x.name y.name) (roots p) ≡ false) → Decided (Reads p a b)
-          test x y xa yb (inl dx) (inl dy) (inl any) = inl (x, y, al, bl, xa, yb, dx, dy, any)
-          test x y xa yb (inr still) dy any = inr (λ (z, w, zl, wl, za, wb, dz, dw, other).
-              let e = ap (λ (u : Def). is_driven u.what) (one_entry p.defs a a x z refl (al, xa) (zl, za)) in cc)
-          test x y xa yb dx (inr still) any = inr (λ (z, w, zl, wl, za, wb, dz, dw, other).
-              let e = ap (λ (u : Def). is_driven u.what) (one_entry p.defs b b y w refl (bl, yb) (wl, wb)) in cc)
-          test x y xa yb dx dy (inr none) = inr (λ (z, w, zl, wl, za, wb, dz, dw, other).
+          test x y xa yb (inl dx) (inl dy) (inl any) = inl (x, y, xa, yb, dx, dy, any)
+          test x y xa yb (inr still) dy any = inr (λ (z, w, za, wb, dz, dw, other).
+              let e = ap (λ (u : Def). is_driven u.what) (same_Some x z (sym xa ∙ za)) in cc)
+          test x y xa yb dx (inr still) any = inr (λ (z, w, za, wb, dz, dw, other).
+              let e = ap (λ (u : Def). is_driven u.what) (same_Some y w (sym yb ∙ wb)) in cc)
+          test x y xa yb dx dy (inr none) = inr (λ (z, w, za, wb, dz, dw, other).
               let e = ap (λ (u : Def). list_any (form_reads p u.name y.name) (roots p))
-              (one_entry p.defs a a x z refl (al, xa) (zl, za)) in
+              (same_Some x z (sym xa ∙ za)) in
               let g = ap (λ (u : Def). list_any (form_reads p z.name u.name) (roots p))
-              (one_entry p.defs b b y w refl (bl, yb) (wl, wb)) in cc)
+              (same_Some y w (sym yb ∙ wb)) in cc)
 
   path_chain : (k a b : ℕ) → Path (Reads p) k a b → Chain p a b
   path_chain zero a b reads = link reads
@@ -93,12 +97,11 @@ module _ (p : Program) where
   chain_path : (a b : ℕ) → Chain p a b → Path (Reads p) (length p.defs) a b
   chain_path a b (link reads) = path_more (Reads p) (length p.defs) a b reads
   chain_path a b (more {b = c} reads chain) =
-      let (x, y, al, cl, rest) = ends reads in
-      path_joined (Reads p) (length p.defs) c a b cl (path_more (Reads p) (length p.defs) a c reads)
+      path_joined (Reads p) (length p.defs) c a b (end a c reads) (path_more (Reads p) (length p.defs) a c reads)
       (chain_path c b chain)
     where
-      ends : {a c : ℕ} → Reads p a c → (x y : Def) × (a < length p.defs) × (c < length p.defs) × Unit {0}
-      ends (x, y, al, cl, xa, yc, dx, dy, any) = (x, y, al, cl, tt)
+      end : (a c : ℕ) → Reads p a c → c < length p.defs
+      end a c (x, y, xa, yc, dx, dy, any) = slice_get_within p.defs c y yc
 
   pub chain_decided : (a b : ℕ) → Decided (Chain p a b)
   chain_decided a b = elim (path_decided (Reads p) reads_decided (length p.defs) a b) [
@@ -189,14 +192,15 @@ module _ (p : Program) where
       first (more {b = b} r rest) = (b, r)
 
       by : Chain p d d → (c : ℕ) × Reads p d c → (at : Place) × E33 p at
-      by chain (c, (x, y, dl, cl, xd, yc, dx, dy, any)) =
+      by chain (c, (x, y, xd, yc, dx, dy, any)) =
           let (r, rooted, read) = any_of (form_reads p x.name y.name) (roots p) any in
           let lt : r < length p.forms = marked_inside p sound [] r 1 (root rooted) in
           let z = own_default p.forms r lt in
           let (g, w, name, there, v, k, wg, kind, same, marked, why) =
           read_down p sound sets reads [] x.name y.name 0 (λ e el mention. omega arith) (length p.forms) r 1 z.0
           (omega arith) (lt, z.1) (root rooted) read in
-          (w.place, (g, w, name, there, v, d, x, wg, kind, (dl, xd), sym (same_is name x.name same), chain, refl))
+          let at_d = at_get p.defs d x xd in
+          (w.place, (g, w, name, there, v, d, x, wg, kind, at_d, sym (same_is name x.name same), chain, refl))
 
   pub order_exists : IsSound p → SetsLaw p → ReadsLaw p → ((at : Place) → E33 p at → ⊥) → (order : List ℕ)
       × IsOrder p order

@@ -9,6 +9,7 @@ use Rattle.mp_program.specs.declared.program.Program.{Program}
 use Rattle.mp_program.specs.Names.{is_driven}
 use Rattle.mp_program.specs.Reads.{Reads, Chain, link, more, IsOrder}
 use Rattle.mp_rules.specs.Entries.{IsAt}
+use Rattle.mp_rules.proofs.ListEntries.{at_get, get_at}
 use Rattle.mp_order.specs.Demands.{IsDriven, WeighsDriven, AreDemands}
 use Rattle.mp_order.specs.Ranks.{IsRanking, IsListing, Climbs}
 use Rattle.mp_order.proofs.Tables.{one_entry}
@@ -37,10 +38,11 @@ kept_driven p xs n v z driven w d some = elim (cases_eq d n) [
 pub listing_order : (p : Program) (ranks loose order : List ℕ) → IsRanking p ranks loose → IsListing p ranks order
     → ((a b : ℕ) → Reads p a b → slice_index loose a ≡ 0) → IsOrder p order
 listing_order p ranks loose order r l none = record {
-  driven = λ k kl. (let ((x, ((lt, is), driven)), rank) = l.only k kl in (x, lt, is, driven));
+  driven = λ k kl. (let ((x, (at, driven)), rank) = l.only k kl in
+      (x, get_at p.defs (slice_index order k) x at, driven));
   once = λ j k jk kl same. omega
       (arith, (l.only j (omega (arith, jk, kl))).1, (l.only k kl).1, ap (λ i. get_or ranks i 0) same, jk);
-  all = λ d x lt is driven. (let (k, kl, at, rank) = l.all d x ((lt, is), driven) in (k, kl, at));
+  all = λ d x is driven. (let (k, kl, at, rank) = l.all d x (at_get p.defs d x is, driven) in (k, kl, at));
   after = λ k b kl reads.
       let (y, driven) = read_driven p (get_or order k 0) b reads in
       let (j, jl, at, rank) = l.all b y driven in (

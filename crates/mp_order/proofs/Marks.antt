@@ -16,7 +16,7 @@ use Rattle.mp_program.specs.declared.program.Form.{Form}
 use Rattle.mp_program.specs.declared.program.FormKind.{FormKind}
 use Rattle.mp_program.specs.declared.program.FormKind.TheVariants.{Set, Cond, Par, Go, Call, Return}
 use Rattle.mp_program.specs.Sound.{IsSound, InnerFit, AllBetween}
-use Rattle.mp_rules.proofs.ListEntries.{all_at}
+use Rattle.mp_rules.proofs.ListEntries.{all_at, get_at}
 use Rattle.mp_order.specs.Tables.{Lifted}
 use Rattle.mp_order.specs.Demands.{Gives, Marked, root, inner, AreMarks}
 use Rattle.mp_order.proofs.Tables.{lifted_as, lifted_join, one_entry}
@@ -112,7 +112,7 @@ gives_fit tops e i n mark g k Return fit none = absurd none
 pub given_inside : (p : Program) → IsSound p → (tops : List ℕ) (f : ℕ) (y : Form) (mark g k : ℕ) → IsAt p.forms f y
     → Gives tops y.kind mark g k → (f < g) × (g < length p.forms)
 given_inside p s tops f y mark g k at gives =
-    gives_fit tops (length p.exprs) f (length p.forms) mark g k y.kind (s.forms f y at.0 at.1) gives
+    gives_fit tops (length p.exprs) f (length p.forms) mark g k y.kind (s.forms f y (get_at p.forms f y at)) gives
 
 pub root_inside : (p : Program) → IsSound p → (f : ℕ) → Contains (roots p) f → f < length p.forms
 root_inside p s f h = elim (Contains-append_cases p.always (process_roots p.processes) f h) [

@@ -9,6 +9,7 @@ use Rattle.std.proofs.lemmas.List.Edits.{get_or-insert_at, get_or-insert_below, 
 use Rattle.mp_program.specs.declared.program.Def.{Def}
 use Rattle.mp_program.specs.declared.program.Program.{Program}
 use Rattle.mp_program.specs.Reads.{Reads, Chain, link, IsOrder}
+use Rattle.mp_rules.proofs.ListEntries.{at_get, get_at}
 use Rattle.mp_order.specs.Demands.{IsDriven}
 use Rattle.mp_order.specs.Chains.{AreReachers, Placed}
 use Rattle.mp_order.proofs.Closing.{FlagsClosed, read_driven, start_driven, join}
@@ -198,9 +199,9 @@ ordering_flags p n closed order le o = λ d chain. flag d chain
 pub ordering_done : (p : Program) (n : ℕ) (closed order : List ℕ) → length p.defs ≤ n → Ordering p n closed order
     → ((d : ℕ) → 0 < slice_index closed d → ⊥) → IsOrder p order
 ordering_done p n closed order le o none = record {
-  driven = λ k kl. (let (lt, (x, ((dl, xd), d))) = o.driven k kl in (x, dl, xd, d));
+  driven = λ k kl. (let (lt, (x, (at, d))) = o.driven k kl in (x, get_at p.defs (get_or order k 0) x at, d));
   once = o.once;
-  all = λ d x lt is driven. placed d x ((lt, is), driven);
+  all = λ d x at driven. placed d x (at_get p.defs d x at, driven);
   after = λ k b kl reads.
       let (y, dy) = read_driven p (get_or order k 0) b reads in
       let (j, jl, e) = placed b y dy in

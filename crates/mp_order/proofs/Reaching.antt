@@ -8,6 +8,7 @@ use Rattle.std.proofs.lemmas.List.Sums.{sum_by-set}
 use Rattle.mp_program.specs.declared.program.Def.{Def}
 use Rattle.mp_program.specs.declared.program.Program.{Program}
 use Rattle.mp_program.specs.Reads.{Reads, Chain, link, more}
+use Rattle.mp_rules.proofs.ListEntries.{at_get}
 use Rattle.mp_order.specs.Demands.{IsDriven, WeighsDriven, AreDemands}
 use Rattle.mp_order.specs.Chains.{Widened, blanks, AreReachers}
 use Rattle.mp_order.proofs.Marks.{zero_at}
@@ -137,8 +138,9 @@ reaching_done p target old new demands r h w still = record {
     found : (a : ℕ) → Chain p a target → 0 < slice_index demands a
     found a (link reads) = omega (arith, h.bound a target reads, r.start)
     found a (more {b = b} reads chain) =
-        let (x, y, al, bl, xa, yb, dx, dy, any) = reads in
-        let some : 0 < slice_index new b = w.full b y bl ((bl, yb), dy) (found b chain) in
+        let (x, y, xa, yb, dx, dy, any) = reads in
+        let at = at_get p.defs b y yb in
+        let some : 0 < slice_index new b = w.full b y at.0 (at, dy) (found b chain) in
         let P : List ℕ → Type 0 = λ xs. 0 < slice_index xs b in
         let was : 0 < slice_index old b = subst P still some in
         omega (arith, h.bound a b reads, was)

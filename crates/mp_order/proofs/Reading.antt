@@ -1,7 +1,7 @@
 -- What marks say of reads.
 use Rattle.std.proofs.Common.{◌≡◌, ◌⊎◌, inl, inr, ℕ, zero, suc, ◌+◌, ◌<◌, ◌≤◌, List, [], ◌∷◌, Bool, true, false, refl}
-use Rattle.std.proofs.Common.{sym, ◌∙◌, ap, subst, length, arith, get_or}
-use Rattle.std.specs.Prelude.{◌||◌, ◌&&◌, slice_index, Contains}
+use Rattle.std.proofs.Common.{sym, ◌∙◌, ap, subst, length, arith}
+use Rattle.std.specs.Prelude.{◌||◌, ◌&&◌, slice_index, Contains, slice_get, Some}
 use Rattle.std.specs.List.{list_any}
 use Rattle.std.proofs.lemmas.Bool.{and_parts, or_cases, or_left, or_right, and_from}
 use Rattle.mp_base.specs.declared.refusal.Place.{Place}
@@ -17,7 +17,7 @@ use Rattle.mp_program.specs.Reads.{mentions, sets, kind_sets, branches_set, form
 use Rattle.mp_program.specs.Reads.{roots}
 use Rattle.mp_program.specs.Sound.{IsSound, InnerFit, AllBetween}
 use Rattle.mp_rules.specs.Entries.{IsAt}
-use Rattle.mp_rules.proofs.ListEntries.{all_at}
+use Rattle.mp_rules.proofs.ListEntries.{all_at, get_at}
 use Rattle.mp_order.specs.Demands.{IsDriven, AreTops, Gives, Marked, root, inner}
 use Rattle.mp_order.proofs.Mentions.{any_of, any_at}
 use Rattle.mp_order.proofs.Marks.{entry, given_inside}
@@ -129,11 +129,11 @@ in_sets bs s j b c at inside t =
 -- ---- the laws of programs
 
 abbrev pub SetsLaw : Program → Type 0
-SetsLaw p = (name : List ℕ) (f : ℕ) (x : Form) → f < length p.forms → x ≡ get_or p.forms f x
+SetsLaw p = (name : List ℕ) (f : ℕ) (x : Form) → slice_get p.forms f ≡ Some x
     → sets p name f ≡ kind_sets name x.kind (sets p name)
 
 abbrev pub ReadsLaw : Program → Type 0
-ReadsLaw p = (name other : List ℕ) (f : ℕ) (x : Form) → f < length p.forms → x ≡ get_or p.forms f x
+ReadsLaw p = (name other : List ℕ) (f : ℕ) (x : Form) → slice_get p.forms f ≡ Some x
     → form_reads p name other f ≡ kind_reads (mentions p other) (sets p name) name x.kind (form_reads p name other)
 
 -- ---- from a form that sets or reads down to a `setq`
@@ -148,7 +148,7 @@ set_down : (p : Program) → IsSound p → SetsLaw p → (tops x : List ℕ) (m 
     → SetMarked p tops x k
 set_down p s law tops x zero f k y le at marked set = absurd (omega (arith, le, at.0))
 set_down p s law tops x (suc m) f k y le at marked set =
-    by_kind y.kind refl (sym (law x f y at.0 at.1) ∙ set)
+    by_kind y.kind refl (sym (law x f y (get_at p.forms f y at)) ∙ set)
     (λ c l gives t. let b = given_inside p s tops f y k c l at gives in let z = own_default p.forms c b.1 in
     set_down p s law tops x m c l z.0 (omega (arith, le, b.0)) (b.1, z.1) (inner y marked at gives) t)
   where
@@ -178,7 +178,7 @@ pub read_down : (p : Program) → IsSound p → SetsLaw p → ReadsLaw p → (to
     → form_reads p x n f ≡ true → ReadMarked p tops x n w
 read_down p s sl rl tops x n w top zero f k y le at marked reads = absurd (omega (arith, le, at.0))
 read_down p s sl rl tops x n w top (suc m) f k y le at marked reads =
-    by_kind y.kind refl (sym (rl x n f y at.0 at.1) ∙ reads)
+    by_kind y.kind refl (sym (rl x n f y (get_at p.forms f y at)) ∙ reads)
     (λ c l gives t. let b = given_inside p s tops f y k c l at gives in let z = own_default p.forms c b.1 in
     read_down p s sl rl tops x n w top m c l z.0 (omega (arith, le, b.0)) (b.1, z.1) (inner y marked at gives) t)
     (λ c l gives t. let b = given_inside p s tops f y k c l at gives in let z = own_default p.forms c b.1 in
@@ -197,7 +197,7 @@ read_down p s sl rl tops x n w top (suc m) f k y le at marked reads =
     by_branch bs is (j, b, c, bj, inside, inr (t, inr (i, g, gi, under, e))) step sets_step =
         let P : FormKind → Type 0 = λ kind. Gives tops kind k c (slice_index tops g.guard + 1) in
         let Q : FormKind → Type 0 = λ kind. InnerFit (length p.exprs) f (length p.forms) kind in
-        let fit : Q (Cond bs) = subst Q is (s.forms f y at.0 at.1) in
+        let fit : Q (Cond bs) = subst Q is (s.forms f y (get_at p.forms f y at)) in
         let inside_exprs =
         (all_at (λ (x : Branch). (x.guard < length p.exprs) × AllBetween f (length p.forms) x.body) bs i g fit gi).0 in
         by_guard (slice_index tops g.guard + 1) (omega (arith, top g.guard inside_exprs e))
@@ -235,7 +235,8 @@ pub read_up : (p : Program) → ReadsLaw p → (tops x n : List ℕ) (f k : ℕ)
 read_up p law tops x n f k (root h) t = any_at (form_reads p x n) (roots p) f h t
 read_up p law tops x n f k (inner {f = c} {mark = mark} y up at gives) t =
     read_up p law tops x n c mark up
-    (law x n c y at.0 at.1 ∙ kind_up tops x (mentions p n) (sets p x) (form_reads p x n) y.kind mark f k gives t)
+    (law x n c y (get_at p.forms c y at)
+    ∙ kind_up tops x (mentions p n) (sets p x) (form_reads p x n) y.kind mark f k gives t)
 
 -- a driven definition of weight k - 1 that top-level forms read for x
 abbrev pub ReadWeight : Program → List ℕ → List ℕ → ℕ → Type 0
@@ -247,7 +248,8 @@ pub mark_up : (p : Program) → IsSound p → SetsLaw p → ReadsLaw p → (weig
     → (f k : ℕ) → Marked p tops f k → 1 < k → sets p x f ≡ true → ReadWeight p weights x k
 mark_up p s sl rl weights tops x t f k (root h) more set = absurd (omega (arith, more))
 mark_up p s sl rl weights tops x t f k (inner {f = c} {mark = mark} y up at gives) more set =
-    by_kind y.kind refl gives (λ some h. mark_up p s sl rl weights tops x t c mark up some (sl x c y at.0 at.1 ∙ h))
+    by_kind y.kind refl gives (λ some h. mark_up p s sl rl weights tops x t c mark up some
+    (sl x c y (get_at p.forms c y at) ∙ h))
   where
     same : k ≡ mark → ReadWeight p weights x mark → ReadWeight p weights x k
     same e (b, z, driven, w, reads) = (b, z, driven, w ∙ sym e, reads)
@@ -259,7 +261,7 @@ mark_up p s sl rl weights tops x t f k (inner {f = c} {mark = mark} y up at give
         (ap (λ kind. kind_sets x kind (sets p x)) is ∙ in_sets bs (sets p x) j b f bj inside set))
     by_kind (Cond bs) is (j, b, bj, inside, inr (i, g, gi, under, e)) step =
         let Q : FormKind → Type 0 = λ kind. InnerFit (length p.exprs) c (length p.forms) kind in
-        let fit : Q (Cond bs) = subst Q is (s.forms c y at.0 at.1) in
+        let fit : Q (Cond bs) = subst Q is (s.forms c y (get_at p.forms c y at)) in
         let lt =
         (all_at (λ (x : Branch). (x.guard < length p.exprs) × AllBetween c (length p.forms) x.body) bs i g fit gi).0 in
         let (d, z, driven, m, w) = t.met g.guard (omega arith) lt (omega (arith, e, more)) in (
@@ -268,7 +270,7 @@ mark_up p s sl rl weights tops x t f k (inner {f = c} {mark = mark} y up at give
           driven,
           omega (arith, w, e),
           read_up p rl tops x z.name c mark up
-              (rl x z.name c y at.0 at.1
+              (rl x z.name c y (get_at p.forms c y at)
               ∙ ap (λ kind. kind_reads (mentions p z.name) (sets p x) x kind (form_reads p x z.name)) is
               ∙ in_reads (mentions p z.name) (sets p x) false bs (form_reads p x z.name)
               (j, b, f, bj, inside, inr (set, inr (i, g, gi, under, m)))),

@@ -1,10 +1,9 @@
 -- The equation of a form's effects, and what its writes to a name depend on.
 use Rattle.std.proofs.Common.{◌≡◌, ℕ, ◌<◌, List, [], ◌∷◌, ◌++◌, Bool, true, false, cond, refl, sym, ◌∙◌, ap, length}
-use Rattle.std.proofs.Common.{get_or}
-use Rattle.std.specs.Prelude.{◌||◌, ◌&&◌, ◌==◌}
+use Rattle.std.specs.Prelude.{◌||◌, ◌&&◌, ◌==◌, slice_get, Some}
 use Rattle.std.specs.List.{list_any, flat_map, AllByRecursion}
 use Rattle.mp_base.proofs.Induction.{downward, by_test}
-use Rattle.mp_base.proofs.Entries.{own_default}
+use Rattle.mp_base.proofs.Entries.{some_entry}
 use Rattle.std.proofs.lemmas.Bool.{or_left, or_right, or_parts}
 use Rattle.mp_program.specs.declared.program.FormKind.{FormKind}
 use Rattle.mp_program.specs.declared.program.FormKind.TheVariants.{Set, Cond, Par, Go, Call, Return}
@@ -17,6 +16,7 @@ use Rattle.mp_program.specs.Values.{value_of}
 use Rattle.mp_program.specs.Effects.{Effect, Writes, Goes, Calls, Returns, branch_effects, kind_effects, effects_of}
 use Rattle.mp_program.specs.Effects.{written}
 use Rattle.mp_program.specs.Reads.{mentions, kind_sets, sets, branches_set, kind_reads, form_reads, branches_read}
+use Rattle.mp_program.proofs.Elements.{read_of}
 use Rattle.mp_program.proofs.Tables.{table_at}
 use Rattle.mp_program.proofs.Walks.{flat_map-behind, list_any-behind}
 use Rattle.mp_program.proofs.Values.{Agrees, value_agrees}
@@ -41,13 +41,12 @@ kind_effects-behind v ne i n (Go l) g h same fit = refl
 kind_effects-behind v ne i n (Call l) g h same fit = refl
 kind_effects-behind v ne i n Return g h same fit = refl
 
-pub effects_is : (p : Program) (env : List ℕ) (f : ℕ) (x : Form) → IsSound p → f < length p.forms
-    → x ≡ get_or p.forms f x
+pub effects_is : (p : Program) (env : List ℕ) (f : ℕ) (x : Form) → IsSound p → slice_get p.forms f ≡ Some x
     → effects_of p env f ≡ kind_effects (value_of p env) x.kind (effects_of p env)
-effects_is p env f x sound lt is =
+effects_is p env f x sound at = let (lt, is) = read_of p.forms f x at in
     table_at [] (λ (y : Form) e. kind_effects (value_of p env) y.kind e) p.forms f x lt is
     (λ g h same. kind_effects-behind (value_of p env) (length p.exprs) f (length p.forms) x.kind g h same
-    (sound.forms f x lt is))
+    (sound.forms f x at))
 
 branches_set-behind : (ne i n : ℕ) (bs : List Branch) (g h : ℕ → Bool) → ((j : ℕ) → i < j → g j ≡ h j)
     → AllByRecursion (λ (b : Branch). (b.guard < ne) × AllBetween i n b.body) bs → branches_set bs g ≡ branches_set bs h
@@ -65,11 +64,11 @@ kind_sets-behind x ne i n (Go l) g h same fit = refl
 kind_sets-behind x ne i n (Call l) g h same fit = refl
 kind_sets-behind x ne i n Return g h same fit = refl
 
-pub sets_is : (p : Program) (x : List ℕ) (f : ℕ) (y : Form) → IsSound p → f < length p.forms → y ≡ get_or p.forms f y
+pub sets_is : (p : Program) (x : List ℕ) (f : ℕ) (y : Form) → IsSound p → slice_get p.forms f ≡ Some y
     → sets p x f ≡ kind_sets x y.kind (sets p x)
-sets_is p x f y sound lt is =
+sets_is p x f y sound at = let (lt, is) = read_of p.forms f y at in
     table_at false (λ (z : Form) s. kind_sets x z.kind s) p.forms f y lt is
-    (λ g h same. kind_sets-behind x (length p.exprs) f (length p.forms) y.kind g h same (sound.forms f y lt is))
+    (λ g h same. kind_sets-behind x (length p.exprs) f (length p.forms) y.kind g h same (sound.forms f y at))
 
 branches_read-behind : (m s : ℕ → Bool) (before : Bool) (ne i n : ℕ) (bs : List Branch) (g h : ℕ → Bool)
     → ((j : ℕ) → i < j → g j ≡ h j)
@@ -91,13 +90,12 @@ kind_reads-behind m s x ne i n (Go l) g h same fit = refl
 kind_reads-behind m s x ne i n (Call l) g h same fit = refl
 kind_reads-behind m s x ne i n Return g h same fit = refl
 
-pub form_reads_is : (p : Program) (x name : List ℕ) (f : ℕ) (y : Form) → IsSound p → f < length p.forms
-    → y ≡ get_or p.forms f y
+pub form_reads_is : (p : Program) (x name : List ℕ) (f : ℕ) (y : Form) → IsSound p → slice_get p.forms f ≡ Some y
     → form_reads p x name f ≡ kind_reads (mentions p name) (sets p x) x y.kind (form_reads p x name)
-form_reads_is p x name f y sound lt is =
+form_reads_is p x name f y sound at = let (lt, is) = read_of p.forms f y at in
     table_at false (λ (z : Form) r. kind_reads (mentions p name) (sets p x) x z.kind r) p.forms f y lt is
     (λ g h same. kind_reads-behind (mentions p name) (sets p x) x (length p.exprs) f (length p.forms) y.kind g h same
-    (sound.forms f y lt is))
+    (sound.forms f y at))
 
 -- ---- what is written
 
@@ -157,9 +155,9 @@ pub silent : (p : Program) (env x : List ℕ) → IsSound p → (f : ℕ) → f 
     → written x (effects_of p env f) ≡ []
 silent p env x sound =
     downward (SilentAt p env x) (length p.forms) (λ i lt below none.
-    let y = own_default p.forms i lt in
-    ap (written x) (effects_is p env i y.0 sound lt y.1)
-    ∙ kind_silent p env x i (y.0).kind below (sym (sets_is p x i y.0 sound lt y.1) ∙ none) (sound.forms i y.0 lt y.1))
+    let y = some_entry p.forms i lt in
+    ap (written x) (effects_is p env i y.0 sound y.1)
+    ∙ kind_silent p env x i (y.0).kind below (sym (sets_is p x i y.0 sound y.1) ∙ none) (sound.forms i y.0 y.1))
 
 -- what is written to x depends on the names that x reads alone
 abbrev WritesAgreeAt : Program → List ℕ → List ℕ → List ℕ → ℕ → Type 0
@@ -256,8 +254,8 @@ pub writes_agree : (p : Program) (env env' x : List ℕ) → IsSound p → (f : 
     → written x (effects_of p env f) ≡ written x (effects_of p env' f)
 writes_agree p env env' x sound =
     downward (WritesAgreeAt p env env' x) (length p.forms) (λ i lt below same.
-    let y = own_default p.forms i lt in
-    ap (written x) (effects_is p env i y.0 sound lt y.1)
-    ∙ kind_agrees p env env' x i (y.0).kind sound below (λ n h. same n (form_reads_is p x n i y.0 sound lt y.1 ∙ h))
-    (sound.forms i y.0 lt y.1)
-    ∙ sym (ap (written x) (effects_is p env' i y.0 sound lt y.1)))
+    let y = some_entry p.forms i lt in
+    ap (written x) (effects_is p env i y.0 sound y.1)
+    ∙ kind_agrees p env env' x i (y.0).kind sound below (λ n h. same n (form_reads_is p x n i y.0 sound y.1 ∙ h))
+    (sound.forms i y.0 y.1)
+    ∙ sym (ap (written x) (effects_is p env' i y.0 sound y.1)))

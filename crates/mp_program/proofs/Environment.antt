@@ -1,32 +1,28 @@
 -- There is at most one environment, given an order.
-use Rattle.std.proofs.Common.{◌≡◌, ℕ, zero, suc, ◌<◌, List, [], ◌∷◌, ◌++◌, Bool, true, false, cond, refl, sym, ◌∙◌, ap}
-use Rattle.std.proofs.Common.{subst, inl, inr, length, arith, get_or}
-use Rattle.std.specs.Prelude.{slice_index, unwrap_or, ◌||◌}
+use Rattle.std.proofs.Common.{◌≡◌, ℕ, zero, suc, ◌<◌, List, [], ◌∷◌, ◌++◌, Bool, true, false, refl, sym, ◌∙◌, ap}
+use Rattle.std.proofs.Common.{subst, inl, inr, length, arith}
+use Rattle.std.specs.Prelude.{slice_index, slice_get, Some, unwrap_or, ◌||◌}
 use Rattle.std.specs.List.{list_any, flat_map, AllByRecursion}
-use Rattle.std.proofs.lemmas.Slice.Eq.{bytes_eq-Decides}
 use Rattle.std.proofs.lemmas.Bool.{cases_lt, or_left, or_right}
 use Rattle.std.proofs.lemmas.List.{get_or_past}
 use Rattle.std.proofs.lemmas.List.Folds.{list_any-append}
 use Rattle.std.proofs.lemmas.Grind.{same_number_lists}
-use Rattle.mp_program.specs.declared.program.What.{What}
-use Rattle.mp_program.specs.declared.program.What.TheVariants.{Power, Ground, Phia, Phib, Phic, Constant, Register}
-use Rattle.mp_program.specs.declared.program.What.TheVariants.{Flag, Port, Signal}
-use Rattle.mp_program.specs.declared.program.Way.TheVariants.{Input, Output, Internal}
 use Rattle.mp_program.specs.declared.program.Def.{Def}
 use Rattle.mp_program.specs.declared.program.Process.{Process}
 use Rattle.mp_program.specs.declared.program.Program.{Program}
 use Rattle.mp_program.specs.Sound.{IsSound}
 use Rattle.mp_program.specs.State.{SeatsFit, IsState, Seat, State, active, places_taken}
-use Rattle.mp_program.specs.Names.{index_of, is_same, is_driven, pad_number}
+use Rattle.mp_program.specs.Names.{index_of, is_driven, pad_number}
 use Rattle.mp_program.specs.Effects.{effects_of, written}
 use Rattle.mp_program.specs.Environment.{clock_effects, what_value, driven_value, IsEnvironment}
 use Rattle.mp_base.specs.Merge.{merged}
-use Rattle.mp_base.proofs.Entries.{place_in, own_default}
+use Rattle.mp_base.proofs.Entries.{place_in, some_entry}
 use Rattle.mp_base.proofs.Induction.{upward, by_test}
 use Rattle.mp_program.specs.Reads.{form_reads, process_roots, roots, Reads, IsOrder}
 use Rattle.mp_program.proofs.Definitions.{named, what_value-given}
 use Rattle.mp_program.proofs.Values.{Agrees}
 use Rattle.mp_program.proofs.Effects.{written-append, writes_agree}
+use Rattle.mp_program.proofs.Elements.{read_of}
 
 -- ---- the clock's writes
 
@@ -108,33 +104,32 @@ clock_agrees p st env env' x sound fits same =
 -- what is driven to a definition depends on what it reads and on what is not driven
 pub driven_agrees : (p : Program) (st : State) (env env' : List ℕ) (a : ℕ) (x : Def) → IsSound p → IsState p st
     → length env ≡ length p.defs → length env' ≡ length p.defs
-    → a < length p.defs → x ≡ get_or p.defs a x → is_driven x.what ≡ true
-    → ((b : ℕ) (y : Def) → b < length p.defs → y ≡ get_or p.defs b y → is_driven y.what ≡ false
+    → slice_get p.defs a ≡ Some x → is_driven x.what ≡ true
+    → ((b : ℕ) (y : Def) → slice_get p.defs b ≡ Some y → is_driven y.what ≡ false
     → slice_index env b ≡ slice_index env' b)
     → ((b : ℕ) → Reads p a b → slice_index env b ≡ slice_index env' b)
     → driven_value p st env x ≡ driven_value p st env' x
-driven_agrees p st env env' a x sound fits size size' inside is driven given read =
+driven_agrees p st env env' a x sound fits size size' at driven given read =
     ap (λ ws. unwrap_or (merged ws) 0) (clock_agrees p st env env' x.name sound fits same)
   where
     same : (n : List ℕ) → list_any (form_reads p x.name n) (roots p) ≡ true → Agrees p env env' n
     same n h =
         elim (cases_lt (index_of p.defs n) (length p.defs)) [
           | inl there ↦
-              let y = own_default p.defs (index_of p.defs n) there in
+              let y = some_entry p.defs (index_of p.defs n) there in
+              let named_at = named p.defs n y.0 there (read_of p.defs (index_of p.defs n) y.0 y.1).1 in
               by_test (is_driven (y.0).what)
               (λ d. read (index_of p.defs n) (
                 x,
                 y.0,
-                inside,
-                there,
-                is,
+                at,
                 y.1,
                 driven,
                 d,
                 subst
-                    (λ m. list_any (form_reads p x.name m) (roots p) ≡ true) (sym (named p.defs n y.0 there y.1)) h,
+                    (λ m. list_any (form_reads p x.name m) (roots p) ≡ true) (sym named_at) h,
               ))
-              (λ d. given (index_of p.defs n) y.0 there y.1 d)
+              (λ d. given (index_of p.defs n) y.0 y.1 d)
           | inr past ↦ get_or_past env (index_of p.defs n) 0 (omega (arith, size, past))
               ∙ sym (get_or_past env' (index_of p.defs n) 0 (omega (arith, size', past)))
         ]
@@ -142,13 +137,13 @@ driven_agrees p st env env' a x sound fits size size' inside is driven given rea
 module _ (p : Program) (st : State) (inputs order env env' : List ℕ) (sound : IsSound p) (fits : IsState p st)
     (ordered : IsOrder p order)
     (one : IsEnvironment p st inputs env) (two : IsEnvironment p st inputs env') where
-  given_same : (d : ℕ) (x : Def) → d < length p.defs → x ≡ get_or p.defs d x → is_driven x.what ≡ false
+  given_same : (d : ℕ) (x : Def) → slice_get p.defs d ≡ Some x → is_driven x.what ≡ false
       → slice_index env d ≡ slice_index env' d
-  given_same d x lt is h =
-      one.values d x lt is
+  given_same d x at h =
+      one.values d x at
       ∙ what_value-given x.what (slice_index st.stored d) (slice_index inputs (pad_number p.defs d))
       (driven_value p st env x) (driven_value p st env' x) h
-      ∙ sym (two.values d x lt is)
+      ∙ sym (two.values d x at)
 
   SameAt : ℕ → Type 0
   SameAt k = k < length order → slice_index env (slice_index order k) ≡ slice_index env' (slice_index order k)
@@ -157,21 +152,21 @@ module _ (p : Program) (st : State) (inputs order env env' : List ℕ) (sound : 
   unfolding SameAt
   order_same = upward SameAt (λ k below lt.
       let t = ordered.driven k lt in
-      one.values (slice_index order k) t.0 t.1 t.2
+      one.values (slice_index order k) t.0 t.1
       ∙ ap (what_value (t.0).what (slice_index st.stored (slice_index order k))
       (slice_index inputs (pad_number p.defs (slice_index order k))))
-      (driven_agrees p st env env' (slice_index order k) t.0 sound fits one.size two.size t.1 t.2 t.3 given_same
+      (driven_agrees p st env env' (slice_index order k) t.0 sound fits one.size two.size t.1 t.2 given_same
       (λ b reads. let found = ordered.after k b lt reads in
       subst (λ m. slice_index env m ≡ slice_index env' m) found.2 (below found.0 found.1 (omega (arith, lt, found.1)))))
-      ∙ sym (two.values (slice_index order k) t.0 t.1 t.2))
+      ∙ sym (two.values (slice_index order k) t.0 t.1))
 
   -- two environments are equal
   pub one_environment : env ≡ env'
   unfolding SameAt
   one_environment = same_number_lists env env' (one.size ∙ sym two.size) (λ d lt.
       let inside : d < length p.defs = omega (arith, one.size, lt) in
-      let x = own_default p.defs d inside in
+      let x = some_entry p.defs d inside in
       by_test (is_driven (x.0).what)
-      (λ h. let found = ordered.all d x.0 inside x.1 h in
+      (λ h. let found = ordered.all d x.0 x.1 h in
       subst (λ m. slice_index env m ≡ slice_index env' m) found.2 (order_same found.0 found.1))
-      (λ h. given_same d x.0 inside x.1 h))
+      (λ h. given_same d x.0 x.1 h))

@@ -1,14 +1,12 @@
 -- A state and inputs have an environment, and inputs a trace, given an order.
 use Rattle.std.proofs.Common.{◌≡◌, ◌≢◌, ℕ, zero, suc, ◌+◌, ◌<◌, ◌≤◌, List, [], ◌∷◌, true, false, refl, sym, ◌∙◌, ap}
 use Rattle.std.proofs.Common.{inl, inr, length, arith, get_or}
-use Rattle.std.specs.Prelude.{slice_index, slice_set as set}
+use Rattle.std.specs.Prelude.{slice_index, slice_get, Some, slice_set as set}
+use Rattle.std.proofs.lemmas.Option.{same_Some, slice_get_within}
+use Rattle.mp_base.proofs.Entries.{same_at}
 use Rattle.std.proofs.lemmas.Bool.{cases_lt}
-use Rattle.std.proofs.lemmas.List.{get_or_default, get_or-set_same, get_or-set_other, length-set}
+use Rattle.std.proofs.lemmas.List.{get_or-set_same, get_or-set_other, length-set}
 use Rattle.mp_base.proofs.Induction.{by_test}
-use Rattle.mp_program.specs.declared.program.What.{What}
-use Rattle.mp_program.specs.declared.program.What.TheVariants.{Power, Ground, Phia, Phib, Phic, Constant, Register}
-use Rattle.mp_program.specs.declared.program.What.TheVariants.{Flag, Port, Signal}
-use Rattle.mp_program.specs.declared.program.Way.TheVariants.{Input, Output, Internal}
 use Rattle.mp_program.specs.declared.program.Def.{Def}
 use Rattle.mp_program.specs.declared.program.Program.{Program}
 use Rattle.mp_program.specs.State.{State, IsState, zero_state}
@@ -17,6 +15,7 @@ use Rattle.mp_program.specs.Environment.{what_value, driven_value, IsEnvironment
 use Rattle.mp_program.specs.Step.{next_state, outputs_of}
 use Rattle.mp_program.specs.Trace.{IsTraceFrom}
 use Rattle.mp_program.specs.Reads.{IsOrder}
+use Rattle.mp_program.proofs.Elements.{read_of}
 use Rattle.mp_program.proofs.Soundness.{sound}
 use Rattle.mp_program.proofs.Definitions.{what_value-driven, what_value-given}
 use Rattle.mp_program.proofs.Environment.{driven_agrees}
@@ -53,32 +52,33 @@ given_at defs stored inputs d (y ∷ ys) (suc i) x lt is =
 -- the definitions that are not driven have their values, and so do the first k of an order
 record IsSettled (p : Program) (st : State) (inputs order : List ℕ) (k : ℕ) (env : List ℕ) : Type 0 where
   size : length env ≡ length p.defs
-  given : (d : ℕ) (x : Def) → d < length p.defs → x ≡ get_or p.defs d x → is_driven x.what ≡ false
+  given : (d : ℕ) (x : Def) → slice_get p.defs d ≡ Some x → is_driven x.what ≡ false
       → slice_index env d ≡ given_value p.defs st.stored inputs d x
-  driven : (j : ℕ) (x : Def) → j < k → x ≡ get_or p.defs (slice_index order j) x
+  driven : (j : ℕ) (x : Def) → j < k → slice_get p.defs (slice_index order j) ≡ Some x
       → slice_index env (slice_index order j) ≡ driven_value p st env x
 
 module _ (p : Program) (st : State) (inputs order : List ℕ) (fits : IsState p st) (ordered : IsOrder p order) where
   -- a definition that is not driven is none of the order
-  apart : (k d : ℕ) (x : Def) → k < length order → d < length p.defs → x ≡ get_or p.defs d x → is_driven x.what ≡ false
+  apart : (k d : ℕ) (x : Def) → k < length order → slice_get p.defs d ≡ Some x → is_driven x.what ≡ false
       → d ≢ slice_index order k
-  apart k d x lt inside is still = λ e.
+  apart k d x lt at still = λ e.
       let t = ordered.driven k lt in
-      let one : x ≡ t.0 = is ∙ get_or_default p.defs d x t.0 inside ∙ ap (λ m. get_or p.defs m t.0) e ∙ sym t.2 in
-      let clash : true ≡ false = sym t.3 ∙ ap (λ (z : Def). is_driven z.what) (sym one) ∙ still in
+      let one : x ≡ t.0 = same_at p.defs d (slice_index order k) x t.0 e at t.1 in
+      let clash : true ≡ false = sym t.2 ∙ ap (λ (z : Def). is_driven z.what) (sym one) ∙ still in
       cc
 
   -- a value put at the one at k changes nothing for those up to it
-  keeps : (env : List ℕ) (j k v : ℕ) (y : Def) → j ≤ k → k < length order → y ≡ get_or p.defs (slice_index order j) y
+  keeps : (env : List ℕ) (j k v : ℕ) (y : Def) → j ≤ k → k < length order
+      → slice_get p.defs (slice_index order j) ≡ Some y
       → length env ≡ length p.defs → driven_value p st env y ≡ driven_value p st (set env (slice_index order k) v) y
-  keeps env j k v y jk lt is size =
+  keeps env j k v y jk lt at size =
       let t = ordered.driven j (omega (arith, jk, lt)) in
-      let same : y ≡ t.0 = is ∙ get_or_default p.defs (slice_index order j) y t.0 t.1 ∙ sym t.2 in
+      let same : y ≡ t.0 = same_Some y t.0 (sym at ∙ t.1) in
       driven_agrees p st env (set env (slice_index order k) v) (slice_index order j) y (sound p) fits size
-      (simp length-set size) t.1 is
-      (ap (λ (z : Def). is_driven z.what) same ∙ t.3)
-      (λ b z inside here still. sym
-      (get_or-set_other env (slice_index order k) b v 0 (apart k b z lt inside here still)))
+      (simp length-set size) at
+      (ap (λ (z : Def). is_driven z.what) same ∙ t.2)
+      (λ b z here still. sym
+      (get_or-set_other env (slice_index order k) b v 0 (apart k b z lt here still)))
       (λ b reads. let found = ordered.after j b (omega (arith, jk, lt)) reads in
       sym (get_or-set_other env (slice_index order k) b v 0
       (λ e. ordered.once found.0 k (omega (arith, found.1, jk)) lt (found.2 ∙ e))))
@@ -86,20 +86,21 @@ module _ (p : Program) (st : State) (inputs order : List ℕ) (fits : IsState p 
   settled_none : IsSettled p st inputs order 0 (given_from p.defs st.stored inputs 0 p.defs)
   settled_none = record {
     size = length-given_from p.defs st.stored inputs 0 p.defs;
-    given = λ d x lt is still. let same : 0 + d ≡ d = omega arith in
+    given = λ d x at still. let same : 0 + d ≡ d = omega arith in let (lt, is) = read_of p.defs d x at in
         given_at p.defs st.stored inputs 0 p.defs d x lt is ∙ ap (λ k. given_value p.defs st.stored inputs k x) same;
-    driven = λ j x lt is. absurd (omega (arith, lt));
+    driven = λ j x lt at. absurd (omega (arith, lt));
   }
 
-  settled_more : (env : List ℕ) (k : ℕ) (x : Def) → k < length order → slice_index order k < length p.defs
-      → x ≡ get_or p.defs (slice_index order k) x
+  settled_more : (env : List ℕ) (k : ℕ) (x : Def) → k < length order
+      → slice_get p.defs (slice_index order k) ≡ Some x
       → IsSettled p st inputs order k env
       → IsSettled p st inputs order (suc k) (set env (slice_index order k) (driven_value p st env x))
-  settled_more env k x lt inside is settled =
-      let v = driven_value p st env x in record {
+  settled_more env k x lt at settled =
+      let v = driven_value p st env x in
+      let inside = slice_get_within p.defs (slice_index order k) x at in record {
         size = simp length-set settled.size;
-        given = λ d y dl here still. get_or-set_other env (slice_index order k) d v 0 (apart k d y lt dl here still)
-            ∙ settled.given d y dl here still;
+        given = λ d y here still. get_or-set_other env (slice_index order k) d v 0 (apart k d y lt here still)
+            ∙ settled.given d y here still;
         driven = λ j y jk here.
             let after = keeps env j k v y (omega (arith, jk)) lt here settled.size in
             elim (cases_lt j k) [
@@ -108,9 +109,9 @@ module _ (p : Program) (st : State) (inputs order : List ℕ) (fits : IsState p 
                   (λ e. ordered.once j k below lt e) ∙ settled.driven j y below here ∙ after
               | inr from ↦
                   let e : j ≡ k = omega (arith, jk, from) in
-                  let there : y ≡ get_or p.defs (slice_index order k) y =
-                  here ∙ ap (λ m. get_or p.defs (slice_index order m) y) e in
-                  let one : x ≡ y = is ∙ get_or_default p.defs (slice_index order k) x y inside ∙ sym there in
+                  let one : x ≡ y =
+                  same_at p.defs (slice_index order k) (slice_index order j) x y (ap (slice_index order) (sym e)) at
+                  here in
                   ap (λ m. get_or (set env (slice_index order k) v) (slice_index order m) 0) e
                   ∙ get_or-set_same env (slice_index order k) v 0 (omega (arith, settled.size, inside))
                   ∙ ap (driven_value p st env) one ∙ after
@@ -125,19 +126,19 @@ module _ (p : Program) (st : State) (inputs order : List ℕ) (fits : IsState p 
       let t = ordered.driven k lt in (
         set before.0 (slice_index order k)
             (driven_value p st before.0 t.0),
-        settled_more before.0 k t.0 lt t.1 t.2 before.1,
+        settled_more before.0 k t.0 lt t.1 before.1,
       )
 
   -- where the whole order has its values, all definitions have
   environment : (env : List ℕ) → IsSettled p st inputs order (length order) env → IsEnvironment p st inputs env
   environment env s = record {
     size = s.size;
-    values = λ d x lt is. by_test (is_driven x.what)
-        (λ h. let found = ordered.all d x lt is h in
+    values = λ d x at. by_test (is_driven x.what)
+        (λ h. let found = ordered.all d x at h in
         ap (slice_index env) (sym found.2)
-        ∙ s.driven found.0 x found.1 (is ∙ ap (λ m. get_or p.defs m x) (sym found.2))
+        ∙ s.driven found.0 x found.1 (ap (slice_get p.defs) found.2 ∙ at)
         ∙ sym (what_value-driven x.what _ _ _ h))
-        (λ h. s.given d x lt is h ∙ what_value-given x.what _ _ _ _ h);
+        (λ h. s.given d x at h ∙ what_value-given x.what _ _ _ _ h);
   }
 
   pub an_environment : (env : List ℕ) × IsEnvironment p st inputs env

@@ -1,4 +1,5 @@
 mod Rows
+pub mod Elements
 pub mod Tables
 pub mod Walks
 pub mod Definitions

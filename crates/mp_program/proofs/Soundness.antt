@@ -16,6 +16,7 @@ use Rattle.mp_program.specs.declared.program.Program.{Program}
 use Rattle.mp_program.specs.Fits.{is_symbol, takes, all_behind, expr_fits, form_fits, exprs_fit, forms_fit, def_fits}
 use Rattle.mp_program.specs.Fits.{process_fits}
 use Rattle.mp_program.specs.Sound.{AllBetween, ArgsFit, InnerFit, IsSound}
+use Rattle.mp_program.proofs.Elements.{read_of}
 
 all_by : {X : Type 0} (P : X → Type 0) (test : X → Bool) → ((x : X) → test x ≡ true → P x) → (xs : List X)
     → list_all test xs ≡ true → AllByRecursion P xs
@@ -113,9 +114,9 @@ sound p =
     let t6 = and_parts (nat_le 1 p.width) (nat_le p.width 32) t5.0 in
     record {
       width = (leb-true 1 p.width t6.0, leb-true p.width 32 t6.1);
-      exprs = λ i x lt is. let same : 0 + i ≡ i = omega arith in
+      exprs = λ i x at. let same : 0 + i ≡ i = omega arith in let (lt, is) = read_of p.exprs i x at in
           subst (λ j. ArgsFit j e x.kind) same (expr_at e 0 p.exprs t3.1 i x lt is);
-      forms = λ i x lt is. let same : 0 + i ≡ i = omega arith in
+      forms = λ i x at. let same : 0 + i ≡ i = omega arith in let (lt, is) = read_of p.forms i x at in
           subst (λ j. InnerFit e j n x.kind) same (form_at e n 0 p.forms t2.1 i x lt is);
       always = below n p.always t1.1;
       processes = processes_inside n p.processes t0.1;

@@ -1,11 +1,11 @@
 -- That a program is a tree, from the test to each index.
-use Rattle.std.proofs.Common.{◌≡◌, ℕ, zero, suc, ◌<◌, ◌≤◌, List, [], ◌∷◌, true, false, not, refl, sym, ◌∙◌, arith}
+use Rattle.std.proofs.Common.{◌≡◌, ℕ, zero, suc, ◌<◌, ◌≤◌, List, [], ◌∷◌, true, false, not, refl, sym, arith}
 use Rattle.std.proofs.Common.{length, get_or}
-use Rattle.std.specs.Prelude.{◌&&◌, ◌||◌, ◌==◌, nat_le, slice_index}
-use Rattle.std.specs.List.{list_all, list_any}
+use Rattle.std.specs.Prelude.{◌&&◌, ◌==◌, nat_le}
+use Rattle.std.specs.List.{list_any}
 use Rattle.std.proofs.lemmas.Bool.{and_parts, eq-eqb, leb-true, not-true, or_parts}
 use Rattle.mp_program.specs.declared.program.Program.{Program}
-use Rattle.mp_program.specs.Tree.{is_distinct, are_low, is_tree, expr_places, form_places, expr_heights, form_heights}
+use Rattle.mp_program.specs.Tree.{is_distinct, are_low, expr_places, form_places, expr_heights, form_heights}
 use Rattle.mp_program.specs.Tree.{height_limit}
 use Rattle.mp_program.specs.Sound.{AreApart, IsTree}
 

@@ -1,5 +1,5 @@
 -- The values of all definitions in a clock.
-use Rattle.std.specs.Prelude.{◌≡◌, ℕ, ◌<◌, List, length, slice_index, slice_index_or, unwrap_or}
+use Rattle.std.specs.Prelude.{◌≡◌, ℕ, List, length, slice_index, slice_get, Some, unwrap_or}
 use Rattle.std.specs.List.{flat_map}
 use Rattle.mp_base.specs.Merge.{merged}
 use Rattle.mp_program.specs.declared.program.What.{What}
@@ -40,5 +40,4 @@ def_value p st inputs env d x =
 -- the environment of a state and inputs: all of these equations hold at once
 pub record IsEnvironment (p : Program) (st : State) (inputs env : List ℕ) : Type 0 where
   pub size : length env ≡ length p.defs
-  pub values : (d : ℕ) (x : Def) → d < length p.defs → x ≡ slice_index_or p.defs d x
-      → slice_index env d ≡ def_value p st inputs env d x
+  pub values : (d : ℕ) (x : Def) → slice_get p.defs d ≡ Some x → slice_index env d ≡ def_value p st inputs env d x

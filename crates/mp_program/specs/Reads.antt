@@ -1,6 +1,6 @@
 -- What ports and signals read of each other, and the orders in which they can be evaluated.
 use Rattle.std.specs.Prelude.{◌≡◌, ℕ, ◌<◌, List, [], ◌∷◌, ◌++◌, Bool, true, false, ◌||◌, ◌&&◌, length, slice_index}
-use Rattle.std.specs.Prelude.{slice_index_or}
+use Rattle.std.specs.Prelude.{slice_index_or, slice_get, Some}
 use Rattle.std.specs.List.{list_any}
 use Rattle.mp_program.specs.declared.program.ExprKind.{ExprKind}
 use Rattle.mp_program.specs.declared.program.ExprKind.TheVariants.{Named, Apply}
@@ -73,8 +73,7 @@ roots p = p.always ++ process_roots p.processes
 
 -- definition a reads definition b: both are driven, and a top-level form has a `setq` of a that reads b
 abbrev pub Reads : Program → ℕ → ℕ → Type 0
-Reads p a b = (x y : Def) × (a < length p.defs) × (b < length p.defs) × (x ≡ slice_index_or p.defs a x)
-    × (y ≡ slice_index_or p.defs b y)
+Reads p a b = (x y : Def) × (slice_get p.defs a ≡ Some x) × (slice_get p.defs b ≡ Some y)
     × (is_driven x.what ≡ true) × (is_driven y.what ≡ true) × (list_any (form_reads p x.name y.name) (roots p) ≡ true)
 
 -- a chain of definitions, each read by the one before it, from a to b
@@ -85,10 +84,9 @@ pub data Chain (p : Program) : ℕ → ℕ → Type 0 where
 -- an order of evaluation: the driven definitions, each once, each after all that it reads
 pub record IsOrder (p : Program) (order : List ℕ) : Type 0 where
   pub driven : (k : ℕ) → k < length order
-      → (x : Def) × (slice_index order k < length p.defs) × (x ≡ slice_index_or p.defs (slice_index order k) x)
-      × (is_driven x.what ≡ true)
+      → (x : Def) × (slice_get p.defs (slice_index order k) ≡ Some x) × (is_driven x.what ≡ true)
   pub once : (j k : ℕ) → j < k → k < length order → slice_index order j ≡ slice_index order k → ⊥
-  pub all : (d : ℕ) (x : Def) → d < length p.defs → x ≡ slice_index_or p.defs d x → is_driven x.what ≡ true
+  pub all : (d : ℕ) (x : Def) → slice_get p.defs d ≡ Some x → is_driven x.what ≡ true
       → (k : ℕ) × (k < length order) × (slice_index order k ≡ d)
   pub after : (k b : ℕ) → k < length order → Reads p (slice_index order k) b
       → (j : ℕ) × (j < k) × (slice_index order j ≡ b)

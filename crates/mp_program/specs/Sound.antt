@@ -1,5 +1,5 @@
 -- What a program's type says, index by index.
-use Rattle.std.specs.Prelude.{◌≡◌, ℕ, ◌<◌, ◌≤◌, List, length, slice_index, slice_index_or, true}
+use Rattle.std.specs.Prelude.{◌≡◌, ℕ, ◌<◌, ◌≤◌, List, length, slice_index, slice_get, Some, true}
 use Rattle.std.specs.List.{AllByRecursion}
 use Rattle.mp_program.specs.declared.program.ExprKind.{ExprKind}
 use Rattle.mp_program.specs.declared.program.ExprKind.TheVariants.{Apply}
@@ -49,9 +49,7 @@ pub record IsTree (p : Program) : Type 0 where
 -- what they stand in
 pub record IsSound (p : Program) : Type 0 where
   pub width : (1 ≤ p.width) × (p.width ≤ 32)
-  pub exprs : (i : ℕ) (x : Expr) → i < length p.exprs → x ≡ slice_index_or p.exprs i x
-      → ArgsFit i (length p.exprs) x.kind
-  pub forms : (i : ℕ) (x : Form) → i < length p.forms → x ≡ slice_index_or p.forms i x
-      → InnerFit (length p.exprs) i (length p.forms) x.kind
+  pub exprs : (i : ℕ) (x : Expr) → slice_get p.exprs i ≡ Some x → ArgsFit i (length p.exprs) x.kind
+  pub forms : (i : ℕ) (x : Form) → slice_get p.forms i ≡ Some x → InnerFit (length p.exprs) i (length p.forms) x.kind
   pub always : AllByRecursion (λ f. f < length p.forms) p.always
   pub processes : AllByRecursion (λ (q : Process). AllByRecursion (λ f. f < length p.forms) q.forms) p.processes

@@ -1,6 +1,6 @@
 -- The weight of a program, which bounds the work of all that reads it.
 use Rattle.std.specs.Prelude.{ℕ, ◌+◌, ◌*◌, List, [], ◌∷◌, Bool, true, false, if◌then◌else◌, length, slice_index_or}
-use Rattle.std.specs.List.{flat_map, sum_by, count_by}
+use Rattle.std.specs.List.{sum_by, count_by}
 use Rattle.mp_base.specs.declared.op.Op.{Op}
 use Rattle.mp_base.specs.declared.op.Op.TheVariants.{Add, Sub, Inc, Dec, WordAnd, WordOr, WordXor, WordNot, Left, Right}
 use Rattle.mp_base.specs.declared.op.Op.TheVariants.{And, Or, Nor, Nand, Xor, Not, Bit, Zero, Equal, Less}
@@ -11,7 +11,6 @@ use Rattle.mp_program.specs.declared.program.FormKind.TheVariants.{Set, Cond, Pa
 use Rattle.mp_program.specs.declared.program.What.{What}
 use Rattle.mp_program.specs.declared.program.What.TheVariants.{Constant, Register, Flag, Port, Signal}
 use Rattle.mp_program.specs.declared.program.Way.TheVariants.{Input, Output, Internal}
-use Rattle.mp_program.specs.declared.program.Branch.{Branch}
 use Rattle.mp_program.specs.declared.program.Def.{Def}
 use Rattle.mp_program.specs.declared.program.Expr.{Expr}
 use Rattle.mp_program.specs.declared.program.Form.{Form}

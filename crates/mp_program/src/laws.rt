@@ -1,6 +1,6 @@
 //! Laws of programs: a call of one does nothing, and tells the caller's proof what it ensures.
 
-ghost use Rattle.std.specs.Prelude.{◌≡◌, ℕ, ◌<◌, List, [], true, false, length, slice_index_or};
+ghost use Rattle.std.specs.Prelude.{◌≡◌, ℕ, ◌<◌, List, [], true, false, length, slice_get, slice_index_or, Some};
 ghost use Rattle.mp_program.specs.declared.program.Expr.{Expr};
 ghost use Rattle.mp_program.specs.declared.program.Form.{Form};
 ghost use Rattle.mp_program.specs.declared.program.Def.{Def};
@@ -36,36 +36,31 @@ pub fn tree(program: &Program)
 
 /// The value of an expression is that of its kind on the values of its arguments.
 pub fn values(program: &Program)
-    ensures { (env : List ℕ) (e : ℕ) (x : Expr) → e < length program.now.exprs
-        → x ≡ slice_index_or program.now.exprs e x
+    ensures { (env : List ℕ) (e : ℕ) (x : Expr) → slice_get program.now.exprs e ≡ Some x
         → value_of program.now env e ≡ kind_value program.now env x.kind (value_of program.now env) }
 {}
 
 /// The effects of a form are those of its kind on the effects of the forms in it.
 pub fn effects(program: &Program)
-    ensures { (env : List ℕ) (f : ℕ) (x : Form) → f < length program.now.forms
-        → x ≡ slice_index_or program.now.forms f x
+    ensures { (env : List ℕ) (f : ℕ) (x : Form) → slice_get program.now.forms f ≡ Some x
         → effects_of program.now env f ≡ kind_effects (value_of program.now env) x.kind (effects_of program.now env) }
 {}
 
 /// A form sets a name as its kind does, by what the forms in it set.
 pub fn sets(program: &Program)
-    ensures { (name : List ℕ) (f : ℕ) (x : Form) → f < length program.now.forms
-        → x ≡ slice_index_or program.now.forms f x
+    ensures { (name : List ℕ) (f : ℕ) (x : Form) → slice_get program.now.forms f ≡ Some x
         → sets program.now name f ≡ kind_sets name x.kind (sets program.now name) }
 {}
 
 /// An expression mentions a name as its kind does, by what its arguments mention.
 pub fn mentions(program: &Program)
-    ensures { (name : List ℕ) (e : ℕ) (x : Expr) → e < length program.now.exprs
-        → x ≡ slice_index_or program.now.exprs e x
+    ensures { (name : List ℕ) (e : ℕ) (x : Expr) → slice_get program.now.exprs e ≡ Some x
         → mentions program.now name e ≡ kind_mentions name x.kind (mentions program.now name) }
 {}
 
 /// A form reads for a name as its kind does, by what the forms in it read.
 pub fn reads(program: &Program)
-    ensures { (name other : List ℕ) (f : ℕ) (x : Form) → f < length program.now.forms
-        → x ≡ slice_index_or program.now.forms f x
+    ensures { (name other : List ℕ) (f : ℕ) (x : Form) → slice_get program.now.forms f ≡ Some x
         → form_reads program.now name other f
         ≡ kind_reads (mentions program.now other) (sets program.now name) name x.kind
         (form_reads program.now name other) }
@@ -81,9 +76,8 @@ pub fn silence(program: &Program)
 pub fn driven_by_reads(program: &Program)
     ensures { (st : State) (env other : List ℕ) (a : ℕ) (x : Def) → IsState program.now st
         → length env ≡ length program.now.defs → length other ≡ length program.now.defs
-        → a < length program.now.defs → x ≡ slice_index_or program.now.defs a x → is_driven x.what ≡ true
-        → ((b : ℕ) (y : Def) → b < length program.now.defs → y ≡ slice_index_or program.now.defs b y
-        → is_driven y.what ≡ false
+        → slice_get program.now.defs a ≡ Some x → is_driven x.what ≡ true
+        → ((b : ℕ) (y : Def) → slice_get program.now.defs b ≡ Some y → is_driven y.what ≡ false
         → slice_index_or env b 0 ≡ slice_index_or other b 0)
         → ((b : ℕ) → Reads program.now a b → slice_index_or env b 0 ≡ slice_index_or other b 0)
         → driven_value program.now st env x ≡ driven_value program.now st other x }

@@ -1,7 +1,7 @@
 -- At most one move is among what a form of a process does.
 use Rattle.std.proofs.Common.{◌≡◌, ◌⊎◌, inl, inr, ℕ, zero, suc, ◌+◌, ◌<◌, ◌≤◌, List, [], ◌∷◌, ◌++◌, Bool, true, false}
 use Rattle.std.proofs.Common.{cond, length, map, refl, sym, ◌∙◌, ap, subst, arith}
-use Rattle.std.specs.Prelude.{◌==◌, Contains, slice_index_or}
+use Rattle.std.specs.Prelude.{◌==◌, Contains, slice_get, Some}
 use Rattle.std.specs.List.{flat_map, AllByRecursion}
 use Rattle.std.specs.List.Sorted.{IsPermutation}
 use Rattle.std.proofs.lemmas.Bool.{cases_eq}
@@ -24,7 +24,7 @@ use Rattle.mp_rules.specs.Entries.{IsAt}
 use Rattle.mp_rules.specs.Moves.{is_move, moves}
 use Rattle.mp_rules.specs.Rules.{E30, E32}
 use Rattle.mp_rules.specs.Standing.{Under, itself, deeper, IsLater, is_transfer, sequences}
-use Rattle.mp_rules.proofs.ListEntries.{some_entry}
+use Rattle.mp_rules.proofs.ListEntries.{some_entry, get_at}
 use Rattle.mp_rules.proofs.Sequences.{in_sequence, under_more}
 
 -- ---- members of lists
@@ -137,7 +137,7 @@ does v (Call l) e = inr (inl (refl, refl))
 does v Return e = inr (inl (refl, refl))
 
 abbrev pub EffectsLaw : Program → Type 0
-EffectsLaw p = (env : List ℕ) (f : ℕ) (x : Form) → f < length p.forms → x ≡ slice_index_or p.forms f x
+EffectsLaw p = (env : List ℕ) (f : ℕ) (x : Form) → slice_get p.forms f ≡ Some x
     → effects_of p env f ≡ kind_effects (value_of p env) x.kind (effects_of p env)
 
 module _ (p : Program) (env : List ℕ) (sound : IsSound p) (law : EffectsLaw p) where
@@ -149,7 +149,7 @@ module _ (p : Program) (env : List ℕ) (sound : IsSound p) (law : EffectsLaw p)
       (λ g z lt. mover m g z (omega (arith, le, lt)))
     where
       is : moves (effects_of p env f) ≡ moves (kind_effects (value_of p env) y.kind (effects_of p env))
-      is = ap (λ es. moves es) (law env f y at.0 at.1)
+      is = ap (λ es. moves es) (law env f y (get_at p.forms f y at))
 
       by : Does (value_of p env) y.kind (effects_of p env)
           → ((g : ℕ) (z : Form) → f < g → IsAt p.forms g z → 0 < moves (effects_of p env g) → (a : ℕ) × (x : Form)
@@ -160,7 +160,8 @@ module _ (p : Program) (env : List ℕ) (sound : IsSound p) (law : EffectsLaw p)
       by (inr (inr (fs, seq, same))) deep =
           let (g, c, more) = some_form (effects_of p env) fs
           (let e = ap (λ es. moves es) same in omega (arith, is, e, some)) in
-          let (fg, gn) = behind (length p.exprs) f (length p.forms) y.kind fs g (sound.forms f y at.0 at.1) seq c in
+          let fit = sound.forms f y (get_at p.forms f y at) in
+          let (fg, gn) = behind (length p.exprs) f (length p.forms) y.kind fs g fit seq c in
           let (z, at_g) = some_entry p.forms g gn in
           let (a, x, under, at_a, own) = deep g z fg at_g more in
           (a, x, deeper y at (in_sequence y.kind fs g seq c) under, at_a, own)
@@ -186,10 +187,11 @@ module _ (p : Program) (env : List ℕ) (sound : IsSound p) (law : EffectsLaw p)
       (λ g z lt. moves_once r apart m g z (omega (arith, le, lt)))
     where
       is : moves (effects_of p env f) ≡ moves (kind_effects (value_of p env) y.kind (effects_of p env))
-      is = ap (λ es. moves es) (law env f y at.0 at.1)
+      is = ap (λ es. moves es) (law env f y (get_at p.forms f y at))
 
       within : (fs : List ℕ) (g : ℕ) → Contains (sequences y.kind) fs → Contains fs g → (f < g) × (g < length p.forms)
-      within fs g seq c = behind (length p.exprs) f (length p.forms) y.kind fs g (sound.forms f y at.0 at.1) seq c
+      within fs g seq c = behind (length p.exprs) f (length p.forms) y.kind fs g
+          (sound.forms f y (get_at p.forms f y at)) seq c
 
       parted : (fs : List ℕ) → Contains (sequences y.kind) fs → (i j g h : ℕ) → IsAt fs i g → IsAt fs j h → i < j
           → 0 < moves (effects_of p env g) → 0 < moves (effects_of p env h) → ⊥

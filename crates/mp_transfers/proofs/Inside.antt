@@ -11,12 +11,12 @@ use Rattle.mp_program.specs.Sound.{IsSound}
 use Rattle.mp_program.proofs.Inside.{Between, kind_between}
 use Rattle.mp_rules.specs.Entries.{IsAt}
 use Rattle.mp_rules.specs.Standing.{Under, itself, deeper}
-use Rattle.mp_rules.proofs.ListEntries.{one_entry, contains_from_at}
+use Rattle.mp_rules.proofs.ListEntries.{one_entry, contains_from_at, get_at}
 
 -- the forms directly in a form
 pub inner_between : (p : Program) → IsSound p → (f : ℕ) (y : Form) → IsAt p.forms f y
     → All (Between f (length p.forms)) (inner y.kind)
-inner_between p s f y is = kind_between (length p.exprs) f (length p.forms) y.kind (s.forms f y is.0 is.1)
+inner_between p s f y is = kind_between (length p.exprs) f (length p.forms) y.kind (s.forms f y (get_at p.forms f y is))
 
 pub inner_inside : (p : Program) → IsSound p → (f : ℕ) (y : Form) → IsAt p.forms f y
     → All (λ g. g < length p.forms) (inner y.kind)

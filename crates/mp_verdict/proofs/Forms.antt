@@ -13,7 +13,7 @@ use Rattle.mp_program.specs.Sound.{IsSound}
 use Rattle.mp_program.proofs.Inside.{Between, kind_between}
 use Rattle.mp_rules.specs.Entries.{IsAt}
 use Rattle.mp_rules.specs.Standing.{Under, itself, deeper, StandsIn, is_transfer, label_of, sequences, IsLater}
-use Rattle.mp_rules.proofs.ListEntries.{one_entry, some_entry}
+use Rattle.mp_rules.proofs.ListEntries.{one_entry, some_entry, get_at}
 use Rattle.mp_verdict.proofs.Deciding.{some_at, some_in}
 
 module _ (p : Program) (sound : IsSound p) where
@@ -41,7 +41,7 @@ module _ (p : Program) (sound : IsSound p) where
 
   within : (r g : ℕ) (y : Form) → IsAt p.forms r y → Contains (inner y.kind) g → (r < g) × (g < length p.forms)
   within r g y at c = All-contains (Between r (length p.forms)) (inner y.kind) g
-      (kind_between (length p.exprs) r (length p.forms) y.kind (sound.forms r y at.0 at.1)) c
+      (kind_between (length p.exprs) r (length p.forms) y.kind (sound.forms r y (get_at p.forms r y at))) c
 
   under_from : (m r f : ℕ) → length p.forms ≤ r + m → Decided (Under p r f)
   under_from zero r f le = under_past r f (omega (arith, le)) (cases_eq r f)

@@ -47,7 +47,7 @@ use Rattle.mp_program.specs.Weight.{names_constant, is_constant}
 use Rattle.mp_rules.specs.Breaking.{IsUnbroken}
 use Rattle.mp_rules.specs.Entries.{IsAt}
 use Rattle.mp_rules.specs.Rules.{E21}
-use Rattle.mp_rules.proofs.ListEntries.{one_entry}
+use Rattle.mp_rules.proofs.ListEntries.{one_entry, get_at}
 use Rattle.rtl_form.specs.declared.rtl.Cell as cells
 use Rattle.rtl_form.specs.declared.rtl.RtlExpr.{RtlExpr}
 use Rattle.rtl_form.specs.declared.rtl.RtlExpr.TheVariants.{Number, Truth, Apply}
@@ -81,7 +81,7 @@ sorted_of p unbroken sound = record {
 pub args_in : (p : Program) → IsSound p → (e : ℕ) (x : Expr) (op : Op) (index : ℕ) (args : List ℕ) → IsAt p.exprs e x
     → x.kind ≡ source.Apply op index args → (a : ℕ) → Contains args a → a < length p.exprs
 args_in p sound e x op index args at is a c = (between_in e (length p.exprs) args a
-    (subst (ArgsFit e (length p.exprs)) is (sound.exprs e x at.0 at.1)).1 c).1
+    (subst (ArgsFit e (length p.exprs)) is (sound.exprs e x (get_at p.exprs e x at))).1 c).1
 
 copy_at : (p : Program) (roles : List Role) (e : ℕ) (x : Expr) (k : ExprKind) (y : RtlExpr) → IsAt p.exprs e x
     → x.kind ≡ k → IsCopy p roles k y → expr_cost y ≤ copy_bill p k → IsCopyAt p roles e y

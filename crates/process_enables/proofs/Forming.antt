@@ -37,7 +37,7 @@ use Rattle.mp_program.specs.declared.program.Form.{Form}
 use Rattle.mp_program.specs.declared.program.Program.{Program}
 use Rattle.mp_program.specs.Sound.{IsSound, InnerFit, BranchesFit}
 use Rattle.mp_rules.specs.Entries.{IsAt}
-use Rattle.mp_rules.proofs.ListEntries.{one_entry, some_entry}
+use Rattle.mp_rules.proofs.ListEntries.{one_entry, some_entry, get_at}
 use Rattle.rtl_form.specs.declared.rtl.Cell.{Cell}
 use Rattle.rtl_form.specs.declared.rtl.RtlExpr.{RtlExpr}
 use Rattle.rtl_form.specs.declared.rtl.RtlExpr.TheVariants.{Apply}
@@ -83,7 +83,7 @@ inside_behind e i n Return f fit h = absurd h
 
 module _ (p : Program) (sound : IsSound p) (f : ℕ) (y : Form) (at : IsAt p.forms f y) where
   fits_inside : InnerFit (length p.exprs) f (length p.forms) y.kind
-  fits_inside = sound.forms f y at.0 at.1
+  fits_inside = sound.forms f y (get_at p.forms f y at)
 
   pub inside_later : (g : ℕ) → StandsInside y.kind g → f < g
   inside_later g inside = (inside_behind (length p.exprs) f (length p.forms) y.kind g fits_inside inside).0

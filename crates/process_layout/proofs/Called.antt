@@ -36,6 +36,7 @@ use Rattle.mp_program.specs.declared.program.Form.{Form}
 use Rattle.mp_program.specs.declared.program.Program.{Program}
 use Rattle.mp_program.specs.Sound.{AllBetween, BranchesFit, InnerFit}
 use Rattle.mp_program.specs.Weight.{inner, is_call, calls_in}
+use Rattle.mp_rules.proofs.ListEntries.{get_at}
 use Rattle.mp_rules.specs.Entries.{IsAt}
 use Rattle.process_plan.specs.Lawful.{Known}
 use Rattle.process_plan.proofs.Counting.{calls_is}
@@ -111,5 +112,5 @@ told_more p known f x calling b at told is kept = record {
 
     now : b ≡ nat_lt 0 (calls_in p f)
     now = is ∙ kind_told (λ g. slice_index_or calling g false) (calls_in p) (length p.exprs) f (length p.forms) x.kind
-        (λ g above lt. told.each g (omega (arith, above)) lt) (known.sound.forms f x at.0 at.1)
+        (λ g above lt. told.each g (omega (arith, above)) lt) (known.sound.forms f x (get_at p.forms f x at))
         ∙ ap (nat_lt 0) (sym (calls_is p known f x at))

@@ -50,7 +50,7 @@ use Rattle.mp_program.specs.declared.program.Program.{Program}
 use Rattle.mp_program.specs.Names.{is_driven, is_input_signal, is_reset, pad_number}
 use Rattle.mp_program.specs.Reads.{IsOrder}
 use Rattle.mp_rules.specs.Entries.{IsAt}
-use Rattle.mp_rules.proofs.ListEntries.{one_entry, at_pushed, number_at}
+use Rattle.mp_rules.proofs.ListEntries.{one_entry, at_pushed, number_at, at_get}
 use Rattle.rtl_form.specs.declared.rtl.Cell.{Cell}
 use Rattle.rtl_form.specs.declared.rtl.CellKind.TheVariants as kinds
 use Rattle.process_plan.specs.declared.role.Role.{Role}
@@ -129,9 +129,9 @@ driven_cell ds d Phic h = absurd (cc)
 pub order_cells : (p : Program) (roles : List Role) (cells : List Cell) (order : List ℕ) → AreCells p roles cells
     → IsOrder p order → HaveCells roles order
 order_cells p roles cells order are ordered k lt =
-    let (y, inside, is, driven) = ordered.driven k lt in
+    let (y, there, driven) = ordered.driven k lt in
     let (x, made) = driven_cell p.defs (slice_index order k) y.what driven in
-    are.all (Value (slice_index order k)) x (y, (inside, is), made)
+    are.all (Value (slice_index order k)) x (y, at_get p.defs (slice_index order k) y there, made)
 
 -- ---- the input `reset`
 

@@ -14,7 +14,7 @@ use Rattle.mp_program.specs.State.{State, Seat}
 use Rattle.mp_program.specs.Environment.{IsEnvironment, what_value, driven_value}
 use Rattle.mp_program.specs.Values as from
 use Rattle.mp_rules.specs.Entries.{IsAt}
-use Rattle.mp_rules.proofs.ListEntries.{some_entry}
+use Rattle.mp_rules.proofs.ListEntries.{some_entry, get_at}
 use Rattle.rtl_form.specs.declared.rtl.Rtl.{Rtl}
 use Rattle.rtl_form.specs.declared.rtl.RtlExpr.{RtlExpr}
 use Rattle.rtl_form.specs.declared.rtl.RtlExpr.TheVariants.{Truth, Cell, Apply}
@@ -73,7 +73,7 @@ module _ {p : Program} {r : Rtl} {roles : List Role} {enables : List (Option Ena
   kind_copied i (source.Number n) y below fit is = ap (λ z. expr_value r.width (cell_values roles env st.seats) z V) is
   kind_copied i (source.Named x) y below fit (d, at, inl (n, what, is)) =
       ap (λ z. expr_value r.width (cell_values roles env st.seats) z V) is
-      ∙ sym (clock.values (index_of p.defs x) d at.0 at.1
+      ∙ sym (clock.values (index_of p.defs x) d (get_at p.defs (index_of p.defs x) d at)
       ∙ ap (λ w. what_value w (slice_index st.stored (index_of p.defs x))
       (slice_index inputs (pad_number p.defs (index_of p.defs x))) (driven_value p st env d)) what)
   kind_copied i (source.Named x) y below fit (d, at, inr (c, role, is)) =
@@ -93,5 +93,6 @@ module _ {p : Program} {r : Rtl} {roles : List Role} {enables : List (Option Ena
   copied = downward CopiedAt (length p.exprs) (λ e lt below.
       let (x, at) = some_entry p.exprs e lt in
       let (y, at_y, is) = plan.copies e x at in
-      value_is (copy_of p e) y at_y ∙ kind_copied e x.kind y below (known.sound.exprs e x lt at.1) is
-      ∙ sym (known.values env e x lt at.1))
+      let there = get_at p.exprs e x at in
+      value_is (copy_of p e) y at_y ∙ kind_copied e x.kind y below (known.sound.exprs e x there) is
+      ∙ sym (known.values env e x there))

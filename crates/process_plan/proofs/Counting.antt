@@ -14,6 +14,7 @@ use Rattle.mp_program.specs.Sound.{AllBetween}
 use Rattle.mp_program.specs.Values.{value_of}
 use Rattle.mp_program.specs.Weight.{inner, is_call, calls_in}
 use Rattle.mp_program.proofs.Inside.{inner_behind}
+use Rattle.mp_rules.proofs.ListEntries.{get_at}
 use Rattle.mp_rules.specs.Entries.{IsAt}
 use Rattle.mp_rules.specs.Standing as standing
 use Rattle.mp_rules.specs.Standing.{Under}
@@ -40,7 +41,7 @@ pub calls_is : (p : Program) → Known p → (f : ℕ) (x : Form) → IsAt p.for
 calls_is p known f x (lt, is) =
     table_at 0 (λ (y : Form) v. is_call y.kind + sum_by v (inner y.kind)) p.forms f x lt is
     (λ g h same. ap (λ n. is_call x.kind + n) (sum_behind f (length p.forms) (inner x.kind) g h same
-    (inner_behind (length p.exprs) f (length p.forms) x.kind ((known.sound).forms f x lt is))))
+    (inner_behind (length p.exprs) f (length p.forms) x.kind ((known.sound).forms f x (get_at p.forms f x (lt, is))))))
 
 pub in_sum : (v : ℕ → ℕ) (fs : List ℕ) (f : ℕ) → Contains fs f → v f ≤ sum_by v fs
 in_sum v [] f c = absurd (nothing_in f c)

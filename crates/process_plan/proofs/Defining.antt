@@ -56,7 +56,7 @@ use Rattle.process_plan.specs.Enables.{Enable, copy_of}
 use Rattle.process_plan.specs.Plan.{IsPlanned, sets, falls, lands, returns, pushes, sinks, rises, empties}
 use Rattle.process_plan.proofs.Merging.{same_merge}
 use Rattle.mp_program.proofs.Definitions.{named}
-use Rattle.mp_rules.proofs.ListEntries.{one_entry}
+use Rattle.mp_rules.proofs.ListEntries.{one_entry, get_at}
 use Rattle.process_plan.proofs.Members.{cases_of, in_flat, flat_in}
 use Rattle.process_plan.proofs.Doing.{effect_source, source_effect}
 use Rattle.process_plan.proofs.Copying.{copied}
@@ -215,7 +215,7 @@ module _ {p : Program} {r : Rtl} {roles : List Role} {enables : List (Option Ena
   set_value : (f : ℕ) (y : Form) (x : List ℕ) (at : Place) (e : ℕ) → IsAt p.forms f y → y.kind ≡ Set x at e
       → e < length p.exprs
   set_value f y x at e here_y is = subst (λ k. InnerFit (length p.exprs) f (length p.forms) k) is
-      (((s.known).sound).forms f y here_y.0 here_y.1)
+      (((s.known).sound).forms f y (get_at p.forms f y here_y))
 
   -- a transfer to the cell of a definition is that of an active `setq`
   planned_write : (c d : ℕ) (x : Def) (w : ℕ) → IsAt p.defs d x → IsAt roles c (Value d) → (t : Transfer)

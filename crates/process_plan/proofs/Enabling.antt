@@ -47,7 +47,7 @@ use Rattle.mp_program.specs.State.{State, Seat, SeatsFit, IsState}
 use Rattle.mp_program.specs.Environment.{IsEnvironment}
 use Rattle.mp_program.specs.Values as from
 use Rattle.mp_rules.specs.Entries.{IsAt}
-use Rattle.mp_rules.proofs.ListEntries.{one_entry}
+use Rattle.mp_rules.proofs.ListEntries.{one_entry, get_at}
 use Rattle.rtl_form.specs.declared.rtl.Rtl.{Rtl}
 use Rattle.rtl_form.specs.declared.rtl.RtlExpr.{RtlExpr}
 use Rattle.rtl_form.specs.declared.rtl.RtlExpr.TheVariants.{Cell, Apply}
@@ -326,7 +326,7 @@ module _ {p : Program} {r : Rtl} {roles : List Role} {enables : List (Option Ena
   low_guards : (g : ℕ) (y : Form) (bs : List Branch) → IsAt p.forms g y → y.kind ≡ Cond bs → LowGuards bs
   low_guards g y bs at is b c = (
     branches_low g (length p.forms) bs (subst (λ t. InnerFit (length p.exprs) g (length p.forms) t) is
-        ((known.sound).forms g y at.0 at.1)) b c,
+        ((known.sound).forms g y (get_at p.forms g y at))) b c,
     bits g y bs at is b c,
   )
 

@@ -55,7 +55,7 @@ use Rattle.mp_program.proofs.Definitions.{named}
 use Rattle.mp_rules.specs.Entries.{IsAt}
 use Rattle.mp_rules.specs.Rules.{E27, is_unset}
 use Rattle.mp_rules.specs.Sorts.{IsWanted}
-use Rattle.mp_rules.proofs.ListEntries.{some_entry}
+use Rattle.mp_rules.proofs.ListEntries.{some_entry, get_at}
 use Rattle.rtl_form.specs.declared.rtl.CellKind.{CellKind}
 use Rattle.rtl_form.specs.declared.rtl.CellKind.TheVariants as kinds
 use Rattle.rtl_form.specs.declared.rtl.Cell as cells
@@ -241,7 +241,8 @@ module _ {p : Program} {r : Rtl} {roles : List Role} {enables : List (Option Ena
   set_fits sorted settable f y x at e o a c at_f kind has role =
       let (z, at_z, (d, at_d, made)) = (plan.cells).each c (Value (index_of p.defs x)) role in
       let inside : e < length p.exprs =
-      subst (λ k. InnerFit (length p.exprs) f (length p.forms) k) kind ((sorted.sound).forms f y at_f.0 at_f.1) in
+      subst (λ k. InnerFit (length p.exprs) f (length p.forms) k) kind
+      ((sorted.sound).forms f y (get_at p.forms f y at_f)) in
       let (w, at_w) = some_entry p.exprs e inside in
       let wanted : IsWanted p e (Some (sort_of z.word)) = inr (inr (
         f,

@@ -87,10 +87,7 @@ use Rattle.mp_base.proofs.Contents.{
   nothing_in,
   contains_from_map,
 }
-use Rattle.mp_rules.proofs.ListEntries.{
-  one_entry,
-  some_entry,
-}
+use Rattle.mp_rules.proofs.ListEntries.{one_entry, some_entry, get_at}
 use Rattle.mp_base.proofs.Induction.{downward, upward}
 
 -- ---- expressions and the cells that they read
@@ -262,8 +259,8 @@ module _ (p : Program) (r : Rtl) (roles : List Role) (enables : List (Option Ena
   mentioned = downward MentionedAt (length p.exprs) (λ e lt below h.
       let (x, at_x) = some_entry p.exprs e lt in
       let (z, at_z, is) = plan.copies e x at_x in
-      names.mentions_is y.name e x lt at_x.1 ∙ kind_mentioned e x.kind z below
-      ((known.sound).exprs e x lt at_x.1) is at_z h)
+      let there = get_at p.exprs e x at_x in
+      names.mentions_is y.name e x there ∙ kind_mentioned e x.kind z below ((known.sound).exprs e x there) is at_z h)
 
   -- ---- enables
 
@@ -396,7 +393,7 @@ module _ (p : Program) (r : Rtl) (roles : List Role) (enables : List (Option Ena
   inner_touches x g z (Cond bs) o b2 f a at_g is enabling (d, cd, cf) has set h =
       branch_touches x o b2 bs d f a (form_reads p x y.name)
       (branches_low g (length p.forms) bs (subst (λ t. InnerFit (length p.exprs) g (length p.forms) t) is
-      ((known.sound).forms g z at_g.0 at_g.1)))
+      ((known.sound).forms g z (get_at p.forms g z at_g))))
       enabling cd cf has set h
   inner_touches x g z (Par fs) o b2 f a at_g is enabling inside_k has set h =
       inl (subst Touches (one_enable enables f o o a b2 has (enabling f inside_k)).1 h)
@@ -415,15 +412,16 @@ module _ (p : Program) (r : Rtl) (roles : List Role) (enables : List (Option Ena
       elim ((plan.enabled).reasons f o a has) [
         | inl (is_root, is_expr) ↦ (f, is_root, λ x. (λ h. h, λ set h. absurd (origin_quiet o a is_expr h)))
         | inr (g, z, b2, at_g, lt, has_g, inside_g) ↦
+            let there = get_at p.forms g z at_g in
             let (root, is_root, rest) = below g lt o b2 has_g in (
               root,
               is_root,
               λ x. (
-                λ h. (rest x).0 (names.reads_is x y.name g z at_g.0 at_g.1 ∙ inner_reads x z.kind f inside_g h),
+                λ h. (rest x).0 (names.reads_is x y.name g z there ∙ inner_reads x z.kind f inside_g h),
                 λ set h. elim (inner_touches x g z z.kind o b2 f a at_g refl
                     ((plan.enabled).inner g z o b2 at_g has_g) inside_g has set h) [
-                      | inl up ↦ (rest x).1 (names.sets_is x g z at_g.0 at_g.1 ∙ inner_sets x z.kind f inside_g set) up
-                      | inr read ↦ (rest x).0 (names.reads_is x y.name g z at_g.0 at_g.1 ∙ read)
+                      | inl up ↦ (rest x).1 (names.sets_is x g z there ∙ inner_sets x z.kind f inside_g set) up
+                      | inr read ↦ (rest x).0 (names.reads_is x y.name g z there ∙ read)
                     ],
               ),
             )
@@ -453,23 +451,22 @@ module _ (p : Program) (r : Rtl) (roles : List Role) (enables : List (Option Ena
       let name : x.name ≡ n = named p.defs n x (subst (λ i. i < length p.defs) (sym index) at_d.0)
       (at_d.1 ∙ ap (λ i. slice_index_or p.defs i x) (sym index)) in
       let same : is_same n x.name ≡ true = (bytes_eq-Decides n x.name).1 (sym name) in
+      let there = get_at p.forms f z at_f in
       let (root, is_root, up) = root_reads f o a has in
       let e_in : e < length p.exprs = subst (λ k. InnerFit (length p.exprs) f (length p.forms) k) is
-      ((known.sound).forms f z at_f.0 at_f.1) in
-      let set : sets p x.name f ≡ true = names.sets_is x.name f z at_f.0 at_f.1
+      ((known.sound).forms f z there) in
+      let set : sets p x.name f ≡ true = names.sets_is x.name f z there
       ∙ ap (λ k. kind_sets x.name k (sets p x.name)) is ∙ same in
       let root_read : form_reads p x.name y.name root ≡ true = elim touches [
         | inl guard ↦ (up x.name).1 set guard
-        | inr value ↦ (up x.name).0 (names.reads_is x.name y.name f z at_f.0 at_f.1
+        | inr value ↦ (up x.name).0 (names.reads_is x.name y.name f z there
             ∙ ap (λ k. kind_reads (mentions p y.name) (sets p x.name) x.name k (form_reads p x.name y.name)) is
             ∙ ap (λ t2. t2 && mentions p y.name e) same ∙ mentioned e e_in value)
       ] in (
         x,
         y,
-        at_d.0,
-        at_b.0,
-        at_d.1,
-        at_b.1,
+        get_at p.defs d x at_d,
+        get_at p.defs b y at_b,
         dx,
         dy,
         any_in (form_reads p x.name y.name) (roots p) root

@@ -33,7 +33,7 @@ use Rattle.mp_program.specs.Sound.{AllBetween, BranchesFit, InnerFit}
 use Rattle.mp_program.specs.State.{zero_state}
 use Rattle.mp_program.specs.Trace as source
 use Rattle.mp_rules.specs.Entries.{IsAt}
-use Rattle.mp_rules.proofs.ListEntries.{some_entry}
+use Rattle.mp_rules.proofs.ListEntries.{some_entry, get_at}
 use Rattle.rtl_form.specs.declared.rtl.Rtl.{Rtl}
 use Rattle.rtl_form.specs.declared.rtl.RtlExpr.{RtlExpr}
 use Rattle.rtl_form.specs.declared.rtl.Transfer.{Transfer}
@@ -177,9 +177,9 @@ module _ {p : Program} {order : List ℕ} (lawful : Lawful p order) where
   none_set : (r : Rtl) → IsIdle p order r → (name : List ℕ) (f : ℕ) → f < length p.forms → sets p name f ≡ false
   none_set r idle name = downward (λ f. sets p name f ≡ false) (length p.forms) (λ f lt below.
       let (y, at) = some_entry p.forms f lt in
-      (lawful.named).sets_is name f y at.0 at.1
+      (lawful.named).sets_is name f y (get_at p.forms f y at)
       ∙ none_of_kind name (length p.exprs) f (length p.forms) y.kind (sets p name) (idle.unset f y at)
-      (((lawful.known).sound).forms f y at.0 at.1) below)
+      (((lawful.known).sound).forms f y (get_at p.forms f y at)) below)
 
   pub idle_sound : (r : Rtl) → IsIdle p order r → IsSound r
   idle_sound r idle =

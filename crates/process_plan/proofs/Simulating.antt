@@ -74,7 +74,7 @@ use Rattle.mp_program.specs.Environment.{IsEnvironment, what_value, driven_value
 use Rattle.mp_program.specs.Step.{wrapped, next_stored, next_seat, next_seats}
 use Rattle.mp_program.specs.Weight.{calls_in}
 use Rattle.mp_rules.specs.Entries.{IsAt}
-use Rattle.mp_rules.proofs.ListEntries.{one_entry, some_entry}
+use Rattle.mp_rules.proofs.ListEntries.{one_entry, some_entry, get_at}
 use Rattle.rtl_form.specs.declared.rtl.Cell.{Cell}
 use Rattle.rtl_form.specs.declared.rtl.Rtl.{Rtl}
 use Rattle.rtl_form.specs.Written.{written}
@@ -278,7 +278,7 @@ module _ {p : Program} {r : Rtl} {roles : List Role} {st : State} {inputs env : 
       let driven : rtl.driven_value r envr c ≡ driven_value p st env y =
       ap (λ m. unwrap_or m 0) (s.values c d y at_y (cell_named p.defs d y.what x is) at_t) in
       cell_at roles env st.seats c (Value d) at_t
-      ∙ (s.clock).values d y at_y.0 at_y.1
+      ∙ (s.clock).values d y (get_at p.defs d y at_y)
       ∙ sym (ap (rtl.kind_value x.kind inputs (slice_index state c)) driven
       ∙ ap (λ n. rtl.kind_value x.kind inputs n (driven_value p st env y))
       (cell_at roles st.stored st.seats c (Value d) at_t)

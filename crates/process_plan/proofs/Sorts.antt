@@ -91,7 +91,7 @@ use Rattle.mp_rules.specs.Sorts.{
   expr_sort,
   IsWanted,
 }
-use Rattle.mp_rules.proofs.ListEntries.{some_entry}
+use Rattle.mp_rules.proofs.ListEntries.{some_entry, get_at}
 use Rattle.rtl_form.specs.declared.rtl.Cell as cells
 use Rattle.rtl_form.specs.declared.rtl.RtlExpr.{RtlExpr}
 use Rattle.rtl_form.specs.declared.rtl.RtlExpr.TheVariants.{Number, Truth, Cell, Apply}
@@ -355,7 +355,7 @@ module _ (p : Program) (roles : List Role) (xs : List cells.Cell) (are : AreCell
         )
 
     pub copy_fits : (y : RtlExpr) → IsCopy p roles x.kind y → ExprFitsIn p.width xs exprs (copy_of p e) y
-    copy_fits y is = kind_fits x.kind y refl ((sorted.sound).exprs e x at.0 at.1) is
+    copy_fits y is = kind_fits x.kind y refl ((sorted.sound).exprs e x (get_at p.exprs e x at)) is
 
 -- ---- what fits still fits where lists grow
 

@@ -23,7 +23,7 @@ use Rattle.mp_program.specs.declared.program.Program.{Program}
 use Rattle.mp_program.specs.Names.{is_driven}
 use Rattle.mp_program.specs.Reads as source
 use Rattle.mp_rules.specs.Entries.{IsAt}
-use Rattle.mp_rules.proofs.ListEntries.{one_entry, some_entry, number_at}
+use Rattle.mp_rules.proofs.ListEntries.{one_entry, some_entry, number_at, at_get, get_at}
 use Rattle.rtl_form.specs.declared.rtl.Cell.{Cell}
 use Rattle.rtl_form.specs.declared.rtl.Rtl.{Rtl}
 use Rattle.rtl_form.specs.Environment as rtl
@@ -93,10 +93,11 @@ module _ {p : Program} {r : Rtl} {roles : List Role} {order : List ℕ} (cells :
   pub order_kept : IsOrder r
   order_kept = record {
     driven = λ k lt.
-        let (y, inside_d, is, h) = ordered.driven k (at_order k lt) in
+        let (y, there, h) = ordered.driven k (at_order k lt) in
+        let at_y = at_get p.defs (slice_index order k) y there in
         let (x, at_x, (z, at_z, is_cell)) = cells.each (slice_index r.order k) (Value (slice_index order k))
         (follow k (at_order k lt)).0 in
-        let same : z ≡ y = one_entry p.defs (slice_index order k) z y at_z (inside_d, is) in (
+        let same : z ≡ y = one_entry p.defs (slice_index order k) z y at_z at_y in (
           x,
           at_x,
           cell_driven p.defs (slice_index order k) z.what x is_cell ∙ ap (λ (t : Def). is_driven t.what) same
@@ -110,7 +111,7 @@ module _ {p : Program} {r : Rtl} {roles : List Role} {order : List ℕ} (cells :
         (slice_index order k) a (follow k lt_k).0);
     all = λ c x at h.
         let (d, y, role, at_y, drv) = driven_role c x at h in
-        let (k, lt, is) = ordered.all d y at_y.0 at_y.1 drv in
+        let (k, lt, is) = ordered.all d y (get_at p.defs d y at_y) drv in
         let (at_c2, lt_r) = follow k lt in (
           k,
           lt_r,
@@ -121,8 +122,9 @@ module _ {p : Program} {r : Rtl} {roles : List Role} {order : List ℕ} (cells :
         let (t, z, ct, target, at, h, touches) = read in
         let lt_k = at_order k lt in
         let (b, y, role, at_y, drv) = driven_role c z at h in
-        let (x, inside_d, is, drv_x) = ordered.driven k lt_k in
-        let reads = alike (slice_index order k) b (slice_index r.order k) c x y (inside_d, is) drv_x
+        let (x, there, drv_x) = ordered.driven k lt_k in
+        let at_x = at_get p.defs (slice_index order k) x there in
+        let reads = alike (slice_index order k) b (slice_index r.order k) c x y at_x drv_x
         (follow k lt_k).0 at_y drv role read in
         let (j, jk, is_b) = ordered.after k b lt_k reads in
         let (at_c2, lt_r) = follow j (omega (arith, jk, lt_k)) in (

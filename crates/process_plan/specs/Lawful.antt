@@ -1,5 +1,5 @@
 -- What laws say of a program that breaks no rule.
-use Rattle.std.specs.Prelude.{◌≡◌, ℕ, ◌<◌, ◌≤◌, List, [], false, length, slice_index_or, Contains}
+use Rattle.std.specs.Prelude.{◌≡◌, ℕ, ◌<◌, ◌≤◌, List, [], false, length, slice_get, Some, Contains}
 use Rattle.mp_program.specs.declared.program.FormKind.TheVariants.{Cond}
 use Rattle.mp_program.specs.declared.program.Branch.{Branch}
 use Rattle.mp_program.specs.declared.program.Expr.{Expr}
@@ -24,18 +24,18 @@ use Rattle.mp_fitting.specs.Fitting.{ValuesFit, StateFits}
 -- of values and effects
 pub record Known (p : Program) : Type 0 where
   pub sound : IsSound p
-  pub values : (env : List ℕ) (e : ℕ) (x : Expr) → e < length p.exprs → x ≡ slice_index_or p.exprs e x
+  pub values : (env : List ℕ) (e : ℕ) (x : Expr) → slice_get p.exprs e ≡ Some x
       → value_of p env e ≡ kind_value p env x.kind (value_of p env)
-  pub effects : (env : List ℕ) (f : ℕ) (x : Form) → f < length p.forms → x ≡ slice_index_or p.forms f x
+  pub effects : (env : List ℕ) (f : ℕ) (x : Form) → slice_get p.forms f ≡ Some x
       → effects_of p env f ≡ kind_effects (value_of p env) x.kind (effects_of p env)
 
 -- of names
 pub record KnownNames (p : Program) : Type 0 where
-  pub mentions_is : (n : List ℕ) (e : ℕ) (x : Expr) → e < length p.exprs → x ≡ slice_index_or p.exprs e x
+  pub mentions_is : (n : List ℕ) (e : ℕ) (x : Expr) → slice_get p.exprs e ≡ Some x
       → mentions p n e ≡ kind_mentions n x.kind (mentions p n)
-  pub sets_is : (n : List ℕ) (f : ℕ) (y : Form) → f < length p.forms → y ≡ slice_index_or p.forms f y
+  pub sets_is : (n : List ℕ) (f : ℕ) (y : Form) → slice_get p.forms f ≡ Some y
       → sets p n f ≡ kind_sets n y.kind (sets p n)
-  pub reads_is : (x n : List ℕ) (f : ℕ) (y : Form) → f < length p.forms → y ≡ slice_index_or p.forms f y
+  pub reads_is : (x n : List ℕ) (f : ℕ) (y : Form) → slice_get p.forms f ≡ Some y
       → form_reads p x n f ≡ kind_reads (mentions p n) (sets p x) x y.kind (form_reads p x n)
 
 -- a top-level form of a process has at most one move

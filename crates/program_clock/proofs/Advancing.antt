@@ -1,10 +1,10 @@
 -- The next value of each definition.
 use Rattle.std.proofs.Common.{◌≡◌, ℕ, zero, suc, ◌+◌, ◌<◌, ◌≤◌, List, [], ◌∷◌, Bool, Option, cond, sym, ◌∙◌, ap, subst}
 use Rattle.std.proofs.Common.{true, false, length, replicate, arith, get_or}
-use Rattle.std.specs.Prelude.{slice_set as set, unwrap_or}
+use Rattle.std.specs.Prelude.{slice_set as set, slice_get, Some, unwrap_or}
 use Rattle.std.proofs.lemmas.Grind.{same_number_lists}
 use Rattle.mp_base.specs.Merge.{merged}
-use Rattle.mp_base.proofs.Entries.{own_default, zeros_at}
+use Rattle.mp_base.proofs.Entries.{some_entry, zeros_at}
 use Rattle.mp_base.proofs.Induction.{by_test}
 use Rattle.mp_program.specs.declared.program.Def.{Def}
 use Rattle.mp_program.specs.declared.program.Program.{Program}
@@ -13,6 +13,7 @@ use Rattle.mp_program.specs.Effects.{Effect, written}
 use Rattle.mp_program.specs.Environment.{clock_effects}
 use Rattle.mp_program.specs.State.{State, zero_state}
 use Rattle.mp_program.specs.Step.{next_seats, next_stored, next_state, resets}
+use Rattle.mp_program.proofs.Elements.{read_of, got}
 use Rattle.mp_program.proofs.States.{length-next_stored}
 use Rattle.form_effects.specs.Linked.{indices_where}
 use Rattle.program_clock.specs.Settled.{IsBare}
@@ -43,10 +44,10 @@ next_at es xs old k x lt is =
 
 -- nothing is stored for what is no register and no flag
 pub bare_zero : (defs : List Def) (n : ℕ) → IsBare defs (replicate n 0)
-bare_zero defs n d x lt is other = zeros_at n d
+bare_zero defs n d x at other = zeros_at n d
 
 bare_next : (es : List Effect) (defs : List Def) (old : List ℕ) → IsBare defs (next_stored es 0 defs old)
-bare_next es defs old d x lt is other =
+bare_next es defs old d x at other = let (lt, is) = read_of defs d x at in
     next_at es defs old d x lt is
     ∙ ap (λ b. cond b (unwrap_or (merged (written x.name es)) (get_or old d 0)) 0) other
 
@@ -66,7 +67,7 @@ bare_state p st inputs env = by_state (resets p.defs inputs)
 -- with the next value of one definition more
 pub advanced_more : (es : List Effect) (defs : List Def) (old now list : List ℕ) (k place : ℕ) (found : Option ℕ)
     (v : ℕ) → list ≡ indices_where is_stored defs → k < length list → place ≡ get_or list k place
-    → ((x : Def) → x ≡ get_or defs place x → found ≡ merged (written x.name es))
+    → ((x : Def) → slice_get defs place ≡ Some x → found ≡ merged (written x.name es))
     → v ≡ unwrap_or found (get_or now place 0)
     → WrittenTo is_stored defs now old (stored_value defs (next_stored es 0 defs old)) k
     → WrittenTo is_stored defs (set now place v) old (stored_value defs (next_stored es 0 defs old)) (k + 1)
@@ -81,7 +82,8 @@ advanced_more es defs old now list k place found v are lt at finds is so_far =
     next_at es defs old place one.def one.inside one.is
     ∙ ap (λ b. cond b (unwrap_or (merged (written (one.def).name es)) (get_or old place 0)) 0) one.test in
     let value : v ≡ stored_value defs next k =
-    is ∙ ap (unwrap_or found) kept ∙ ap (λ o. unwrap_or o (get_or old place 0)) (finds one.def one.is) ∙ sym here
+    is ∙ ap (unwrap_or found) kept
+    ∙ ap (λ o. unwrap_or o (get_or old place 0)) (finds one.def (got defs place one.def one.inside one.is)) ∙ sym here
     ∙ ap (λ i. get_or next i 0) place_is in
     written_more is_stored defs old (stored_value defs next) list now k place v are lt at value so_far
 
@@ -95,10 +97,10 @@ advanced_all es defs old now list k bare are over so_far =
     let long = length-next_stored es 0 defs old in
     same_number_lists now next (so_far.size ∙ sym long) (λ d lt.
     let inside : d < length defs = omega (arith, lt, so_far.size) in
-    let x = own_default defs d inside in
+    let x = some_entry defs d inside in
     by_test (is_stored (x.0).what)
     (λ here. let w =
-    written_all is_stored defs old (stored_value defs next) list now k are over so_far d x.0 inside x.1 here in
+    written_all is_stored defs old (stored_value defs next) list now k are over so_far d x.0 x.1 here in
     w.3 ∙ ap (λ i. get_or next i 0) w.1)
-    (λ other. so_far.others d x.0 inside x.1 other ∙ bare d x.0 inside x.1 other
-    ∙ sym (bare_next es defs old d x.0 inside x.1 other)))
+    (λ other. so_far.others d x.0 x.1 other ∙ bare d x.0 x.1 other
+    ∙ sym (bare_next es defs old d x.0 x.1 other)))

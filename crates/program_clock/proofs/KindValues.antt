@@ -12,6 +12,7 @@ use Rattle.mp_program.specs.declared.program.Program.{Program}
 use Rattle.mp_program.specs.Names.{is_driven, is_input, is_stored, pad_number}
 use Rattle.mp_program.specs.State.{State}
 use Rattle.mp_program.specs.Environment.{what_value, IsEnvironment}
+use Rattle.mp_program.proofs.Elements.{read_of}
 use Rattle.form_effects.specs.Linked.{indices_where}
 use Rattle.program_clock.specs.Settled.{HasInputs, HasStored, LeavesOthers, IsSteady, IsGiven}
 use Rattle.program_clock.proofs.Placing.{WrittenTo, written_all}
@@ -70,32 +71,32 @@ pub given_all : (defs : List Def) (stored inputs before between after : List ℕ
     → HasInputs defs inputs between → LeavesOthers is_input defs before between
     → HasStored defs stored after → LeavesOthers is_stored defs between after
     → IsGiven defs stored inputs after
-given_all defs stored inputs before between after steady taken left held kept d x lt is still =
+given_all defs stored inputs before between after steady taken left held kept d x at still =
     let s : ℕ = get_or stored d 0 in
     let g : ℕ = get_or inputs (pad_number defs d) 0 in
     by_test (is_stored x.what)
-    (λ here. held d x lt is here ∙ sym (what_value-stored x.what s g 0 here))
-    (λ other. kept d x lt is other ∙ by_test (is_input x.what)
-    (λ here. taken d x lt is here ∙ sym (what_value-input x.what s g 0 here))
-    (λ none. left d x lt is none ∙ steady d x lt is still none other
+    (λ here. held d x at here ∙ sym (what_value-stored x.what s g 0 here))
+    (λ other. kept d x at other ∙ by_test (is_input x.what)
+    (λ here. taken d x at here ∙ sym (what_value-input x.what s g 0 here))
+    (λ none. left d x at none ∙ steady d x at still none other
     ∙ sym (what_value-fixed x.what s g 0 still none other)))
 
 -- an environment has the values that never change
 pub steady_env : (p : Program) (st : State) (inputs env : List ℕ) → IsEnvironment p st inputs env → IsSteady p.defs env
-steady_env p st inputs env is d x lt here still none other =
-    is.values d x lt here ∙ what_value-fixed x.what _ _ _ still none other
+steady_env p st inputs env is d x at still none other =
+    is.values d x at ∙ what_value-fixed x.what _ _ _ still none other
 
 -- what is written of the kinds alone is steady
 pub steady_fixed : (defs : List Def) (env : List ℕ) → env ≡ map (λ (x : Def). what_value x.what 0 0 0) defs
     → IsSteady defs env
-steady_fixed defs env made d x lt is still none other =
+steady_fixed defs env made d x at still none other = let (lt, is) = read_of defs d x at in
     ap (λ zs. get_or zs d 0) made ∙ get_or-map (λ (y : Def). what_value y.what 0 0 0) defs d x 0 lt
     ∙ ap (λ (y : Def). what_value y.what 0 0 0) (sym is)
 
 pub has_inputs : (defs : List Def) (list inputs old now : List ℕ) (k : ℕ) → list ≡ indices_where is_input defs
     → length list ≤ k → WrittenTo is_input defs now old (slice_index inputs) k → HasInputs defs inputs now
-has_inputs defs list inputs old now k are over so_far d x lt is test =
-    let w = written_all is_input defs old (slice_index inputs) list now k are over so_far d x lt is test in
+has_inputs defs list inputs old now k are over so_far d x at test =
+    let w = written_all is_input defs old (slice_index inputs) list now k are over so_far d x at test in
     w.3 ∙ ap (slice_index inputs) (sym w.2)
 
 -- what is stored for the definition at an index of those that are stored
@@ -104,6 +105,6 @@ stored_value defs stored j = slice_index stored (get_or (indices_where is_stored
 
 pub has_stored : (defs : List Def) (list stored old now : List ℕ) (k : ℕ) → list ≡ indices_where is_stored defs
     → length list ≤ k → WrittenTo is_stored defs now old (stored_value defs stored) k → HasStored defs stored now
-has_stored defs list stored old now k are over so_far d x lt is test =
-    let w = written_all is_stored defs old (stored_value defs stored) list now k are over so_far d x lt is test in
+has_stored defs list stored old now k are over so_far d x at test =
+    let w = written_all is_stored defs old (stored_value defs stored) list now k are over so_far d x at test in
     w.3 ∙ ap (slice_index stored) w.1

@@ -1,13 +1,14 @@
 -- The definitions of a kind, by their indices, and writes to each of them.
 use Rattle.std.proofs.Common.{◌≡◌, ◌≢◌, ℕ, zero, suc, ◌+◌, ◌<◌, ◌≤◌, List, [], ◌∷◌, Bool, true, false, cond, refl}
 use Rattle.std.proofs.Common.{sym, ◌∙◌, ap, subst, inl, inr, length, map, take, arith, get_or}
-use Rattle.std.specs.Prelude.{slice_set as set, count_by}
+use Rattle.std.specs.Prelude.{slice_set as set, slice_get, Some, count_by}
 use Rattle.std.proofs.lemmas.Bool.{cases_lt, both_ways, false≢true}
 use Rattle.std.proofs.lemmas.List.{length-map, length-set, get_or-map}
 use Rattle.std.proofs.lemmas.List.{get_or-set_same, get_or-set_other, get_or_read}
 use Rattle.std.proofs.lemmas.List.Sums.{sum_by-cons}
 use Rattle.mp_program.specs.declared.program.What.{What}
 use Rattle.mp_program.specs.declared.program.Def.{Def}
+use Rattle.mp_program.proofs.Elements.{read_of}
 use Rattle.form_effects.specs.Linked.{indices_where}
 use Rattle.program_clock.specs.Settled.{LeavesOthers}
 use Rattle.program_clock.proofs.Entries.{same_element}
@@ -104,7 +105,7 @@ module _ (f : What → Bool) (defs : List Def) (old : List ℕ) (value : ℕ →
     size = size;
     done = λ j lt within. absurd (omega (arith, lt));
     rest = λ j le within. refl;
-    others = λ d x lt is other. refl;
+    others = λ d x at other. refl;
   }
 
   -- no two have the same place
@@ -138,12 +139,12 @@ module _ (f : What → Bool) (defs : List Def) (old : List ℕ) (value : ℕ →
             let same = once j k within lt e in omega (arith, kj, same) in
             get_or-set_other now place (get_or (indices_where f defs) j 0) v 0 apart
             ∙ so_far.rest j (omega (arith, kj)) within;
-        others = λ d x inside here other.
+        others = λ d x at other. let (inside, here) = read_of defs d x at in
             let apart : d ≢ place = λ e.
             let same : x ≡ one.def =
             same_element defs d x one.def inside here (one.is ∙ ap (λ i. get_or defs i one.def) (sym e)) in
             both_ways (f x.what) other (ap (λ (z : Def). f z.what) same ∙ one.test) in
-            get_or-set_other now place d v 0 apart ∙ so_far.others d x inside here other;
+            get_or-set_other now place d v 0 apart ∙ so_far.others d x at other;
       }
 
   -- with one write more
@@ -157,10 +158,11 @@ module _ (f : What → Bool) (defs : List Def) (old : List ℕ) (value : ℕ →
   -- where all are written, each has its value
   pub written_all : (list now : List ℕ) (k : ℕ) → list ≡ indices_where f defs → length list ≤ k
       → WrittenTo f defs now old value k
-      → (d : ℕ) (x : Def) → d < length defs → x ≡ get_or defs d x → f x.what ≡ true
+      → (d : ℕ) (x : Def) → slice_get defs d ≡ Some x → f x.what ≡ true
       → (j : ℕ) × (get_or (indices_where f defs) j 0 ≡ d)
       × (count_by (λ (y : Def). f y.what) (take d defs) ≡ j) × (get_or now d 0 ≡ value j)
-  written_all list now k are over so_far d x inside is test =
+  written_all list now k are over so_far d x here test =
+      let (inside, is) = read_of defs d x here in
       let at = found f defs d x inside is test in
       let end : length (indices_where f defs) ≤ k = subst (λ zs. length zs ≤ k) are over in (
         at.0,

@@ -11,6 +11,7 @@ use Rattle.form_effects.specs.Written.{written_at}
 use Rattle.form_effects.proofs.Entries.{made_at}
 use Rattle.mp_program.proofs.Definitions.{first_inside}
 use Rattle.form_effects.proofs.Targets.{all_filter, together}
+use Rattle.mp_program.proofs.Elements.{read_of}
 use Rattle.form_effects.proofs.written.written_to.Goals as goal
 
 pub written_by-always-requires-clause-inside : goal.written_by-always-requires-clause-inside
@@ -26,8 +27,9 @@ written_by-always-requires-clause-inside c =
     (all_filter (λ f. f < length p.forms) (sets p (x.0).name) p.always c.sound.ensures.always)
 
 pub returns : goal.returns
-returns c = λ x is.
+returns c = λ x at.
     let p = c.args.program.now in
+    let is = (read_of p.defs c.args.target x at).1 in
     let env = c.args.env.now in
     let are =
     c.as_slice-2.ensures

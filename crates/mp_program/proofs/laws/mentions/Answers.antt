@@ -3,4 +3,4 @@ use Rattle.mp_program.proofs.Values.{mentions_is}
 use Rattle.mp_program.proofs.laws.mentions.Goals as goal
 
 pub returns : goal.returns
-returns c = λ name e x lt is. mentions_is c.args.program.now name e x (sound c.args.program.now) lt is
+returns c = λ name e x at. mentions_is c.args.program.now name e x (sound c.args.program.now) at

@@ -4,6 +4,7 @@ use Rattle.std.specs.List.{sum_by}
 use Rattle.mp_program.specs.declared.program.Form.{Form}
 use Rattle.mp_program.specs.Weight.{inner, is_call}
 use Rattle.mp_program.proofs.Inside.{inner_behind}
+use Rattle.mp_program.proofs.Elements.{got}
 use Rattle.mp_weight.specs.Weighing.{AreCalls, calls_from}
 use Rattle.mp_weight.proofs.Calling.{no_calls, more_calls, all_calls}
 use Rattle.mp_weight.proofs.calls.calls.Goals as goal
@@ -40,7 +41,8 @@ loop-f-preserved c =
     (length c.args.program.now.forms) i c.index-forms-f.result c.loop-f.calls c.calls_of-count.result lt
     c.index-forms-f.is
     (inner_behind (length c.args.program.now.exprs) i (length c.args.program.now.forms) c.index-forms-f.result.kind
-    (c.sound.ensures.forms i c.index-forms-f.result at.0 at.1))
+    (c.sound.ensures.forms i c.index-forms-f.result
+    (got c.args.program.now.forms i c.index-forms-f.result at.0 at.1)))
     (subst done next c.loop-f.invariant) count)
 
 pub returns : goal.returns
