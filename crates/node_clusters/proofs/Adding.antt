@@ -1,11 +1,13 @@
 -- Nodes that come into a set one by one.
-use Rattle.std.proofs.Common.{◌≡◌, ◌<◌, ◌≤◌, ◌+◌, ◌++◌, ◌∷◌, [], ℕ, List, Option, None, length, get_or, take, refl, sym}
-use Rattle.std.proofs.Common.{◌∙◌, ap, subst, inl, inr, ◌⊎◌, arith}
-use Rattle.std.specs.Prelude.{Contains, Any}
-use Rattle.std.proofs.lemmas.List.{get_or_default, get_or_append_left, length_push, take_all}
+use Rattle.std.proofs.Common.{◌≡◌, ◌<◌, ◌≤◌, ◌+◌, ◌++◌, ◌∷◌, [], ℕ, List, Option, None, Some, length, get_or, take}
+use Rattle.std.proofs.Common.{refl, sym, ◌∙◌, ap, subst, inl, inr, ◌⊎◌, arith}
+use Rattle.std.specs.Prelude.{Contains, Any, slice_get}
+use Rattle.std.proofs.lemmas.List.{get_or_append_left, length_push, take_all}
+use Rattle.std.proofs.lemmas.Option.{get_or_from_slice_get}
 use Rattle.mp_base.specs.declared.value.Trit.{Trit}
 use Rattle.mp_base.proofs.Numbers.{below_suc}
 use Rattle.mp_base.proofs.Contents.{nothing_in}
+use Rattle.mp_base.proofs.Entries.{contains_from_get}
 use Rattle.switch_net.specs.declared.network.Channel.{Channel}
 use Rattle.switch_net.specs.Settled.{Setting}
 use Rattle.switch_net.specs.Reaching.{Reach, here, over}
@@ -86,13 +88,13 @@ module _ (s : Setting) (allowed : Channel → Type 0) where
 
   -- a channel of a list of numbers that has the node as an end and a source as another
   pub borders_here : (from : ℕ → Type 0) (lists : List (List ℕ)) (node j : ℕ) (c : Channel)
-      → AreLinked s.channels (length s.channels) lists → Contains (listed lists node) j → c ≡ get_or s.channels j c
-      → allowed c → Any from c.ends → Borders s allowed from node
+      → AreLinked s.channels (length s.channels) lists → Contains (listed lists node) j
+      → slice_get s.channels j ≡ Some c → allowed c → Any from c.ends → Borders s allowed from node
   borders_here from lists node j c linked at is ok any = (
     c,
-    (j, linked.inside node j at, sym is),
+    contains_from_get s.channels j c is,
     ok,
-    subst (λ (x : Channel). Contains x.ends node) (sym is) (linked.ends node j c at),
+    subst (λ (x : Channel). Contains x.ends node) (get_or_from_slice_get s.channels j c c is) (linked.ends node j c at),
     any.1,
     (any.0, any.2, any.3),
     any.4,
@@ -233,34 +235,18 @@ module _ (s : Setting) (allowed : Channel → Type 0) where
         h.closed k.0 n (let l = k.1 in omega arith) (subst (λ (m : ℕ). Adjoins s allowed m n) (sym k.2) q);
   }
 
--- the channel that stands at a place of a node's list
-module _ (channels items : List Channel) (same : items ≡ channels) (lists : List (List ℕ))
-    (linked : AreLinked channels (length channels) lists) (node : ℕ) (list : List ℕ)
-    (is_list : list ≡ listed lists node) (i : ℕ) (lt : i < length list) where
-  pub number_in : get_or list i 0 < length channels
-  number_in =
-      linked.inside node (get_or list i 0)
-      (subst (λ (xs : List ℕ). Contains xs (get_or list i 0)) is_list (contains_index list i lt))
+-- the channel whose number stands at a place of a node's list
+module _ (channels : List Channel) (lists : List (List ℕ)) (linked : AreLinked channels (length channels) lists)
+    (node : ℕ) (list : List ℕ) (is_list : list ≡ listed lists node) (i : ℕ) (lt : i < length list) where
+  pub number_listed : Contains (listed lists node) (get_or list i 0)
+  number_listed = subst (λ (xs : List ℕ). Contains xs (get_or list i 0)) is_list (contains_index list i lt)
 
-  pub number_in_items : get_or list i 0 < length items
-  number_in_items = let e : length items ≡ length channels = ap (λ (xs : List Channel). length xs) same in
-      let l = number_in in omega arith
-
-  module _ (ch : Channel) (is : ch ≡ get_or items (get_or list i 0) ch) where
-    pub channel_at : (c : Channel) → get_or channels (get_or list i 0) c ≡ ch
-    channel_at c = get_or_default channels (get_or list i 0) c ch number_in
-        ∙ ap (λ (xs : List Channel). get_or xs (get_or list i 0) ch) (sym same) ∙ sym is
-
-    pub channel_in : Contains channels ch
-    channel_in = (get_or list i 0, number_in, channel_at ch)
-
-    pub channel_at_listed : (c : Channel) → get_or channels (get_or (listed lists node) i 0) c ≡ ch
-    channel_at_listed c = ap (λ (xs : List ℕ). get_or channels (get_or xs i 0) c) (sym is_list) ∙ channel_at c
+  module _ (ch : Channel) (is : slice_get channels (get_or list i 0) ≡ Some ch) where
+    pub channel_at : (c : Channel) → get_or channels (get_or (listed lists node) i 0) c ≡ ch
+    channel_at c = ap (λ (xs : List ℕ). get_or channels (get_or xs i 0) c) (sym is_list)
+        ∙ get_or_from_slice_get channels (get_or list i 0) ch c is
 
     pub channel_ends : Contains ch.ends node
-    channel_ends = subst (λ (x : Channel). Contains x.ends node) (channel_at ch)
-        (linked.ends node (get_or list i 0) ch
-        (subst (λ (xs : List ℕ). Contains xs (get_or list i 0)) is_list (contains_index list i lt)))
-
-    pub number_listed : Contains (listed lists node) (get_or list i 0)
-    number_listed = subst (λ (xs : List ℕ). Contains xs (get_or list i 0)) is_list (contains_index list i lt)
+    channel_ends = subst (λ (x : Channel). Contains x.ends node)
+        (get_or_from_slice_get channels (get_or list i 0) ch ch is)
+        (linked.ends node (get_or list i 0) ch number_listed)

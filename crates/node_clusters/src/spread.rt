@@ -33,9 +33,8 @@ pub(crate) fn borders(
     ensures { IsTrue result ↔ Borders (setting_of board.now) (Uses route (value_at values.now))
         (IsSource source (setting_of board.now)) node }
 {
-    let channels = board.network.channels.as_slice();
-    for number in board.at[node as usize].as_slice() {
-        let channel = &channels[*number];
+    for number in board.numbers_at(node) {
+        let channel = board.channel(*number);
         if route.uses(channel, values) && has_source(source, channel.ends.as_slice(), board.drive) {
             return true;
         }
@@ -64,9 +63,8 @@ fn add_adjoining(board: &Board<'_>, values: &[Trit], route: Route, node: u32, se
     ensures adds { AddsAdjoining (setting_of board.now)
         (Uses route (value_at values.now)) node set.old.members set.new.members }
 {
-    let channels = board.network.channels.as_slice();
-    for number in board.at[node as usize].as_slice() {
-        let channel = &channels[*number];
+    for number in board.numbers_at(node) {
+        let channel = board.channel(*number);
         if route.uses(channel, values) {
             add_ends(board.drive, channel.ends.as_slice(), set);
         }

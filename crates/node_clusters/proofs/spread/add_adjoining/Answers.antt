@@ -1,126 +1,41 @@
-use Rattle.std.proofs.Common.{◌≡◌, ◌<◌, ◌+◌, ◌∙◌, ℕ, List, [], length, get_or, refl, sym, ap, subst, arith, rules}
-use Rattle.std.specs.Prelude.{All}
-use Rattle.std.proofs.lemmas.List.{get_or_default}
+use Rattle.std.proofs.Common.{◌≡◌, ◌+◌, ◌∙◌, ℕ, List, length, get_or, refl, sym, ap, subst, arith}
 use Rattle.std.proofs.lemmas.Bool.{iff_false}
-use Rattle.switch_net.specs.declared.network.Channel.{Channel}
+use Rattle.mp_base.proofs.Entries.{contains_from_get}
 use Rattle.node_clusters.specs.Values.{value_at}
 use Rattle.node_clusters.specs.Board.{setting_of}
 use Rattle.node_clusters.specs.Links.{listed}
 use Rattle.node_set.specs.Nodes.{Nodes}
 use Rattle.node_clusters.specs.Spread.{Uses, AddsEnds}
 use Rattle.node_clusters.proofs.Adding.{AddsFirst, adds_first_none, adds_first_skip, adds_first_more, adds_first_all}
-use Rattle.node_clusters.proofs.Adding.{number_in, number_in_items, channel_at, channel_at_listed, channel_in}
-use Rattle.node_clusters.proofs.Adding.{channel_ends}
+use Rattle.node_clusters.proofs.Adding.{channel_at, channel_ends}
 use Rattle.node_clusters.proofs.spread.add_adjoining.Goals as goal
 use Rattle.node_clusters.proofs.spread.add_adjoining.Goals.{then-uses, else-uses}
 
-pub offset_bounds-channels-number : goal.offset_bounds-channels-number
-offset_bounds-channels-number c =
-    let b = c.args.board.now in
-    let net = b.network.now in
-    let node = c.args.node in
-    let i = c.loop-number.number-index in
-    let list = c.as_slice-number-items.result.now in
-    let items = c.as_slice-channels.result.now in
-    let j = get_or list i 0 in
-    let is_list =
-    c.as_slice-number-items.ensures
-    ∙ get_or_default b.at.now node c.index-board-node.result [] (let l = c.requires.moment.at_sized in omega arith) in
-    let lt : j < length items =
-    number_in_items net.channels items c.as_slice-channels.ensures b.at.now c.requires.moment.linked node list is_list
-    i (omega arith) in
-    search rules
-
-pub bounds-channels-number : goal.bounds-channels-number
-bounds-channels-number c =
-    let b = c.args.board.now in
-    let net = b.network.now in
-    let node = c.args.node in
-    let i = c.loop-number.number-index in
-    let list = c.as_slice-number-items.result.now in
-    let items = c.as_slice-channels.result.now in
-    let j = get_or list i 0 in
-    let is_list =
-    c.as_slice-number-items.ensures
-    ∙ get_or_default b.at.now node c.index-board-node.result [] (let l = c.requires.moment.at_sized in omega arith) in
-    number_in_items net.channels items c.as_slice-channels.ensures b.at.now c.requires.moment.linked node list is_list
-    i (omega arith)
-
-pub uses-requires : goal.uses-requires
-uses-requires c =
-    let b = c.args.board.now in
-    let net = b.network.now in
-    let node = c.args.node in
-    let i = c.loop-number.number-index in
-    let list = c.as_slice-number-items.result.now in
-    let items = c.as_slice-channels.result.now in
-    let j = get_or list i 0 in
-    let is_list =
-    c.as_slice-number-items.ensures
-    ∙ get_or_default b.at.now node c.index-board-node.result [] (let l = c.requires.moment.at_sized in omega arith) in
-    let ch = c.index-channels-number.result in
-    let lt =
-    number_in net.channels items c.as_slice-channels.ensures b.at.now c.requires.moment.linked node list is_list i
-    (omega arith) in
-    let at =
-    channel_at net.channels items c.as_slice-channels.ensures b.at.now c.requires.moment.linked node list is_list i
-    (omega arith) ch c.index-channels-number.is ch in
-    let inside : ch.gate < net.nodes = subst (λ (x : Channel). x.gate < net.nodes) at (net.gates_in j ch lt) in
-    let sized = c.requires.moment.values_sized in
-    omega arith
+pub channel-channel-requires : goal.channel-channel-requires
+channel-channel-requires c = c.numbers_at-number-items.ensures.inside c.loop-number.number-index 0 (omega arith)
 
 pub add_ends-requires-clause-ends : goal.add_ends-requires-clause-ends
 add_ends-requires-clause-ends c k d in' =
-    let b = c.args.board.now in
-    let net = b.network.now in
-    let node = c.args.node in
-    let i = c.loop-number.number-index in
-    let list = c.as_slice-number-items.result.now in
-    let items = c.as_slice-channels.result.now in
-    let j = get_or list i 0 in
-    let is_list =
-    c.as_slice-number-items.ensures
-    ∙ get_or_default b.at.now node c.index-board-node.result [] (let l = c.requires.moment.at_sized in omega arith) in
-    let ch = c.index-channels-number.result in
-    let lt =
-    number_in net.channels items c.as_slice-channels.ensures b.at.now c.requires.moment.linked node list is_list i
-    (omega arith) in
-    let at =
-    channel_at net.channels items c.as_slice-channels.ensures b.at.now c.requires.moment.linked node list is_list i
-    (omega arith) ch c.index-channels-number.is ch in
-    let inside : All (λ e. e < net.nodes) ch.ends =
-    subst (λ (x : Channel). All (λ e. e < net.nodes) x.ends) at (net.ends_in j ch lt) in
-    let same : length c.as_slice.result.now ≡ length ch.ends = ap (λ (xs : List ℕ). length xs) c.as_slice.ensures in
-    let there : get_or c.as_slice.result.now k d ≡ get_or ch.ends k d =
+    let ends = c.channel-channel.result.now.ends in
+    let same : length c.as_slice.result.now ≡ length ends = ap (λ (xs : List ℕ). length xs) c.as_slice.ensures in
+    let there : get_or c.as_slice.result.now k d ≡ get_or ends k d =
     ap (λ (xs : List ℕ). get_or xs k d) c.as_slice.ensures in
-    let fits = inside k d (omega arith) in
+    let inside = c.channel-channel.ensures.ends k d (omega arith) in
     let sized = c.requires.room in
     omega arith
 
 pub loop-number-preserved : goal.loop-number-preserved
 loop-number-preserved c =
     let b = c.args.board.now in
-    let net = b.network.now in
+    let s = setting_of b in
     let node = c.args.node in
     let i = c.loop-number.number-index in
-    let list = c.as_slice-number-items.result.now in
-    let items = c.as_slice-channels.result.now in
-    let j = get_or list i 0 in
-    let is_list =
-    c.as_slice-number-items.ensures
-    ∙ get_or_default b.at.now node c.index-board-node.result [] (let l = c.requires.moment.at_sized in omega arith) in
-    let ch = c.index-channels-number.result in
-    let lt =
-    number_in net.channels items c.as_slice-channels.ensures b.at.now c.requires.moment.linked node list is_list i
-    (omega arith) in
-    let at =
-    channel_at net.channels items c.as_slice-channels.ensures b.at.now c.requires.moment.linked node list is_list i
-    (omega arith) ch c.index-channels-number.is ch in
-    let s = setting_of b in
+    let list = c.numbers_at-number-items.result.now in
+    let is_list = c.numbers_at-number-items.ensures.listed in
+    let ch = c.channel-channel.result.now in
     let allowed = Uses c.args.route (value_at c.args.values.now) in
-    let is =
-    channel_at_listed net.channels items c.as_slice-channels.ensures b.at.now c.requires.moment.linked node list
-    is_list i (omega arith) ch c.index-channels-number.is in
+    let found = c.channel-channel.ensures.is in
+    let is = channel_at s.channels b.at.now c.requires.moment.linked node list is_list i (omega arith) ch found in
     let h = c.loop-number.invariant in
     let all = listed b.at.now node in
     elim c.if-uses.branch [
@@ -129,11 +44,8 @@ loop-number-preserved c =
         subst (λ (xs : List ℕ). AddsFirst s allowed node all (i + 1) c.args.set.now.members xs)
             (sym (ap (λ (x : Nodes). x.members) w.set-is))
             (adds_first_more s allowed node all i ch c.args.set.now.members c.loop-number.set.members
-            w.add_ends.new.set.members
-            (channel_in net.channels items c.as_slice-channels.ensures b.at.now c.requires.moment.linked node list
-            is_list i (omega arith) ch c.index-channels-number.is)
-            (channel_ends net.channels items c.as_slice-channels.ensures b.at.now c.requires.moment.linked node list
-            is_list i (omega arith) ch c.index-channels-number.is)
+            w.add_ends.new.set.members (contains_from_get s.channels (get_or list i 0) ch found)
+            (channel_ends s.channels b.at.now c.requires.moment.linked node list is_list i (omega arith) ch found)
             is (c.uses.ensures.0 w.if-uses.true)
             (subst (λ (xs : List ℕ). AddsEnds s.driver xs c.loop-number.set.members w.add_ends.new.set.members)
             w.as_slice.ensures w.add_ends.ensures.adds) h.1),
@@ -150,14 +62,10 @@ loop-number-preserved c =
 pub returns-clause-adds : goal.returns-clause-adds
 returns-clause-adds c =
     let b = c.args.board.now in
-    let s = setting_of b in
     let node = c.args.node in
-    let is_list =
-    c.as_slice-number-items.ensures
-    ∙ get_or_default b.at.now node c.index-board-node.result [] (let l = c.requires.moment.at_sized in omega arith) in
-    let same : length c.as_slice-number-items.result.now ≡ length (listed b.at.now node) =
-    ap (λ (xs : List ℕ). length xs) is_list in
-    adds_first_all s
+    let same : length c.numbers_at-number-items.result.now ≡ length (listed b.at.now node) =
+    ap (λ (xs : List ℕ). length xs) c.numbers_at-number-items.ensures.listed in
+    adds_first_all (setting_of b)
     (Uses c.args.route (value_at c.args.values.now)) b.at.now node c.loop-number.number-index c.args.set.now.members
     c.loop-number.set.members c.requires.moment.linked (omega arith) c.loop-number.invariant.1
 
