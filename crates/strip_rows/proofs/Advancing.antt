@@ -77,15 +77,15 @@ advanced colour y row w v olds news lost fresh mid first half sw ch cells lie e 
     } in record {
       row = re ∙ e;
       each = all_begun colour y w lost fresh mid (strips_of v) v.numbers.items t;
-      all = λ u h b. all_ended colour y w lost fresh mid (strips_of v) v.numbers.items u t h b;
-      open_ = λ r h. open_now colour y w lost fresh mid (strips_of v) v.numbers.items r t h;
+      all = all_ended colour y w lost fresh mid (strips_of v) v.numbers.items t;
+      open_ = open_now colour y w lost fresh mid (strips_of v) v.numbers.items t;
       ascending = ascending_now colour y w lost fresh mid (strips_of v) v.numbers.items t;
       touching =
           λ k d i. each_touches colour y w olds news lost fresh mid
-          (strips_of v) v.numbers.items first half v.pairs.items (get_or v.pairs.items k d) x
+          (strips_of v) v.numbers.items first half v.pairs.items x (get_or v.pairs.items k d)
           (Contains-get_or v.pairs.items k d i);
-      touch = λ p h. all_paired colour y w olds news lost fresh mid
-          (strips_of v) v.numbers.items first half v.pairs.items p x h;
+      touch = all_paired colour y w olds news lost fresh mid
+          (strips_of v) v.numbers.items first half v.pairs.items x;
       once = paired_once colour y w olds news lost fresh mid
-          (strips_of v) v.numbers.items first half v.pairs.items l.apart x;
+          (strips_of v) v.numbers.items first half v.pairs.items x l.apart;
     }

@@ -111,55 +111,51 @@ pub data Fate (colour : ℕ → ℕ → ℕ) (y k : ℕ) (numbers : List ℕ) (l
   over : IsStrip colour s → s.high ≤ y → t ≡ s → Fate colour y k numbers lost s t
   goes : IsSince colour y s → s.high ≡ 0 → IsRun (colour (y + 1)) (run_of s) → t ≡ s → Fate colour y k numbers lost s t
 
-fate_open : (colour : ℕ → ℕ → ℕ) (y : ℕ) (w : StripRows) (lost fresh : List Run) (mid now : List Strip) (next : List ℕ)
-    (k : ℕ)
-    → IsStepped colour y w lost fresh mid now next → k < length (strips_of w)
-    → (¬ HasNumber w.numbers.items lost (length lost) k)
-    → IsSince colour y (strip (strips_of w) k) → (strip (strips_of w) k).high ≡ 0 → strip now k ≡ strip (strips_of w) k
-    → Fate colour y k w.numbers.items lost (strip (strips_of w) k) (strip now k)
-fate_open colour y w lost fresh mid now next k t l none s h e =
-    let r : Run = run_of (strip (strips_of w) k) in
-    let here : IsRun (colour y) r = s.each y s.start (omega arith) in
-    elim (t.turn.goes r here) [
-      | inr g ↦ goes s h g e
-      | inl c ↦ let p = place_of lost r c in let o = t.swept.open_ r here in
-          let f = one_open colour y (strips_of w) k (number w.numbers.items r) t.swept.ascending l o.among
-          (sym o.run) s o.since in
-          absurd (none (record { place = p.0; behind = p.1; is = ap (number w.numbers.items) p.2 ∙ sym f }))
-    ]
-
-pub fate : (colour : ℕ → ℕ → ℕ) (y : ℕ) (w : StripRows) (lost fresh : List Run) (mid now : List Strip) (next : List ℕ)
-    (k : ℕ)
-    → IsStepped colour y w lost fresh mid now next → k < length (strips_of w)
-    → Fate colour y k w.numbers.items lost (strip (strips_of w) k) (strip now k)
-fate colour y w lost fresh mid now next k t l =
-    let many = t.ended.as_many in
-    let f : strip now k ≡ strip mid k = t.begun.kept k (omega arith) in
-    elim (t.ended.each k l) [
-      | inl z ↦ let n = z.0 in let r : Run = run lost n.place in
-          let d = t.turn.ends r (has_run lost n.place n.behind) in
-          let o : IsOpenAt colour y (strips_of w) k r =
-          subst (λ j. IsOpenAt colour y (strips_of w) j r) n.is (t.swept.open_ r d.0) in
-          ends n.place n.behind (sym o.run) n.is
-          (subst (λ q. ¬ IsRun (colour (y + 1)) q) (sym o.run) d.1) o.since o.open_ (f ∙ z.1)
-      | inr z ↦ elim (t.swept.each k no_strip l) [
-        | ended h b ↦ over h b (f ∙ z.1)
-        | open_ s e ↦ fate_open colour y w lost fresh mid now next k t l z.0 s e (f ∙ z.1)
+module _ (colour : ℕ → ℕ → ℕ) (y : ℕ) (w : StripRows) (lost fresh : List Run) (mid now : List Strip) (next : List ℕ)
+    (t : IsStepped colour y w lost fresh mid now next) where
+  fate_open : (k : ℕ) → k < length (strips_of w) → (¬ HasNumber w.numbers.items lost (length lost) k)
+      → IsSince colour y (strip (strips_of w) k) → (strip (strips_of w) k).high ≡ 0
+      → strip now k ≡ strip (strips_of w) k
+      → Fate colour y k w.numbers.items lost (strip (strips_of w) k) (strip now k)
+  fate_open k l none s h e =
+      let r : Run = run_of (strip (strips_of w) k) in
+      let here : IsRun (colour y) r = s.each y s.start (omega arith) in
+      elim (t.turn.goes r here) [
+        | inr g ↦ goes s h g e
+        | inl c ↦ let p = place_of lost r c in let o = t.swept.open_ r here in
+            let f = one_open colour y (strips_of w) k (number w.numbers.items r) t.swept.ascending l o.among
+            (sym o.run) s o.since in
+            absurd (none (record { place = p.0; behind = p.1; is = ap (number w.numbers.items) p.2 ∙ sym f }))
       ]
-    ]
 
--- a strip that has begun with this step
-pub newer : (colour : ℕ → ℕ → ℕ) (y : ℕ) (w : StripRows) (lost fresh : List Run) (mid now : List Strip) (next : List ℕ)
-    (k : ℕ)
-    → IsStepped colour y w lost fresh mid now next → length (strips_of w) ≤ k → k < length now
-    → (m : ℕ) × (m < length fresh) × (k ≡ length (strips_of w) + m) × (strip now k ≡ begun_at (y + 1) (run fresh m))
-newer colour y w lost fresh mid now next k t l h =
-    let many = t.ended.as_many in let more = t.begun.as_many in
-    let m : ℕ = k - length (strips_of w) in
-    let e : length mid + m ≡ k = omega arith in (
-      m,
-      omega arith,
-      omega arith,
-      subst (λ j. strip now j ≡ begun_at (y + 1) (run fresh m)) e
-          (t.begun.begun m (omega arith)),
-    )
+  pub fate : (k : ℕ) → k < length (strips_of w)
+      → Fate colour y k w.numbers.items lost (strip (strips_of w) k) (strip now k)
+  fate k l =
+      let many = t.ended.as_many in
+      let f : strip now k ≡ strip mid k = t.begun.kept k (omega arith) in
+      elim (t.ended.each k l) [
+        | inl z ↦ let n = z.0 in let r : Run = run lost n.place in
+            let d = t.turn.ends r (has_run lost n.place n.behind) in
+            let o : IsOpenAt colour y (strips_of w) k r =
+            subst (λ j. IsOpenAt colour y (strips_of w) j r) n.is (t.swept.open_ r d.0) in
+            ends n.place n.behind (sym o.run) n.is
+            (subst (λ q. ¬ IsRun (colour (y + 1)) q) (sym o.run) d.1) o.since o.open_ (f ∙ z.1)
+        | inr z ↦ elim (t.swept.each k no_strip l) [
+          | ended h b ↦ over h b (f ∙ z.1)
+          | open_ s e ↦ fate_open k l z.0 s e (f ∙ z.1)
+        ]
+      ]
+
+  -- a strip that has begun with this step
+  pub newer : (k : ℕ) → length (strips_of w) ≤ k → k < length now
+      → (m : ℕ) × (m < length fresh) × (k ≡ length (strips_of w) + m) × (strip now k ≡ begun_at (y + 1) (run fresh m))
+  newer k l h =
+      let many = t.ended.as_many in let more = t.begun.as_many in
+      let m : ℕ = k - length (strips_of w) in
+      let e : length mid + m ≡ k = omega arith in (
+        m,
+        omega arith,
+        omega arith,
+        subst (λ j. strip now j ≡ begun_at (y + 1) (run fresh m)) e
+            (t.begun.begun m (omega arith)),
+      )
