@@ -1,5 +1,5 @@
 -- What the numbering of classes asks for.
-use Rattle.std.proofs.Common.{◌≡◌, ℕ, ◌<◌, ◌≤◌, List, length, map, get_or, sym, ◌∙◌, ap, subst, subst₂, arith}
+use Rattle.std.proofs.Common.{◌≡◌, ℕ, ◌<◌, ◌≤◌, List, length, map, get_or, sym, ◌∙◌, ap, subst₂, arith}
 use Rattle.std.proofs.Common.{true, false}
 use Rattle.std.specs.Prelude.{◌++◌, All, Option}
 use Rattle.std.proofs.lemmas.List.{length-map, length-append}
@@ -11,12 +11,12 @@ use Rattle.lam_geom.specs.Squares.{RectanglesAreJoined}
 use Rattle.mask_runs.specs.Laws.{OneColour}
 use Rattle.mask_runs.specs.declared.mask.Mask.{Mask}
 use Rattle.mask_tiles.specs.declared.tile.Tile.{Tile}
-use Rattle.mask_tiles.specs.declared.swept.Swept.{Swept}
 use Rattle.mask_tiles.specs.Tiles.{IsTileOf}
 use Rattle.union_find.specs.declared.pair.Pair.{Pair}
 use Rattle.union_find.specs.Leasts.{AreLeasts}
 use Rattle.mask_pieces.specs.declared.piece.Piece.{Piece}
 use Rattle.mask_pieces.specs.declared.cut.Cut.{Cut}
+use Rattle.mask_pieces.specs.declared.masks.Masks.{Masks}
 use Rattle.piece_classes.specs.declared.numbering.Classes.{Classes}
 use Rattle.piece_classes.specs.Numbers.{Conducts, AreRoots, AreNumbers}
 use Rattle.piece_classes.specs.Linking.{AreAllLinks}
@@ -60,86 +60,36 @@ pub record CanNumber (pieces : List Piece) (least : List ℕ) : Type 0 where
   pub conductors : (k : ℕ) → k < length least → Conducts pieces true k → Conducts pieces true (get_or least k 0)
   pub channels : (k : ℕ) → k < length least → Conducts pieces false k → Conducts pieces false (get_or least k 0)
 
-module _ (one : OneColour) (joined : RectanglesAreJoined) (shapes : List Rect) (places : List Point)
-    (contacts metal polysilicon diffusion : Swept) (cut : Cut) (links : List Pair)
-    (masks : AreMasks shapes places contacts metal polysilicon diffusion) (h : IsCutOf metal polysilicon diffusion cut)
-    (all : AreAllLinks metal.pairs polysilicon.pairs diffusion.pairs contacts.tiles cut.pieces cut.metal.numbers
-    cut.polysilicon.numbers cut.diffusion.numbers cut.metal.over cut.polysilicon.over cut.diffusion.over links) where
-  pub inside : All (λ q. (q.a < length cut.pieces) × (q.b < length cut.pieces)) links
-  inside =
-      links_inside one joined shapes places contacts metal polysilicon diffusion cut.pieces cut.metal.numbers
-      cut.polysilicon.numbers cut.diffusion.numbers cut.metal.over cut.polysilicon.over cut.diffusion.over links masks
-      h.pieces h.metal_numbers h.polysilicon_numbers h.diffusion_numbers h.metal_over h.polysilicon_over
-      h.diffusion_over all
-
-  pub can_number : (least : List ℕ) → AreLeasts (length cut.pieces) links least → CanNumber cut.pieces least
-  can_number least leasts = record {
-    as_many = leasts.as_many;
-    below_ =
-        below one joined shapes places contacts metal polysilicon diffusion cut.pieces cut.metal.numbers
-        cut.polysilicon.numbers cut.diffusion.numbers cut.metal.over cut.polysilicon.over cut.diffusion.over links masks
-        h.pieces h.metal_numbers h.polysilicon_numbers h.diffusion_numbers h.metal_over h.polysilicon_over
-        h.diffusion_over all least leasts;
-    still_ =
-        still one joined shapes places contacts metal polysilicon diffusion cut.pieces cut.metal.numbers
-        cut.polysilicon.numbers cut.diffusion.numbers cut.metal.over cut.polysilicon.over cut.diffusion.over links masks
-        h.pieces h.metal_numbers h.polysilicon_numbers h.diffusion_numbers h.metal_over h.polysilicon_over
-        h.diffusion_over all least leasts;
-    conductors =
-        conductors_stay one joined shapes places contacts metal polysilicon diffusion cut.pieces cut.metal.numbers
-        cut.polysilicon.numbers cut.diffusion.numbers cut.metal.over cut.polysilicon.over cut.diffusion.over links masks
-        h.pieces h.metal_numbers h.polysilicon_numbers h.diffusion_numbers h.metal_over h.polysilicon_over
-        h.diffusion_over all least leasts;
-    channels =
-        channels_stay one joined shapes places contacts metal polysilicon diffusion cut.pieces cut.metal.numbers
-        cut.polysilicon.numbers cut.diffusion.numbers cut.metal.over cut.polysilicon.over cut.diffusion.over links masks
-        h.pieces h.metal_numbers h.polysilicon_numbers h.diffusion_numbers h.metal_over h.polysilicon_over
-        h.diffusion_over all least leasts;
-  }
-
-  pub all_classed : (least : List ℕ) → AreLeasts (length cut.pieces) links least → (nodes chans : Classes)
-      → AreRoots (Conducts cut.pieces true) least (length least) nodes.roots
-      → AreNumbers (Conducts cut.pieces true) least (length least) nodes.roots nodes.numbers
-      → AreRoots (Conducts cut.pieces false) least (length least) chans.roots
-      → AreNumbers (Conducts cut.pieces false) least (length least) chans.roots chans.numbers
-      → AreClassed shapes cut.pieces nodes chans
-  all_classed least leasts nodes chans rn nn rc nc =
-      classed one joined shapes places contacts metal polysilicon diffusion cut.pieces cut.metal.numbers
-      cut.polysilicon.numbers cut.diffusion.numbers cut.metal.over cut.polysilicon.over cut.diffusion.over links masks
-      h.pieces h.metal_numbers h.polysilicon_numbers h.diffusion_numbers h.metal_over h.polysilicon_over
-      h.diffusion_over all least leasts nodes chans rn nn rc nc
-
--- the same for slices that are these lists
-module _ (one : OneColour) (joined : RectanglesAreJoined) (shapes : List Rect) (places : List Point)
-    (contacts metal polysilicon diffusion : Swept) (cut : Cut) (links : List Pair)
-    (masks : AreMasks shapes places contacts metal polysilicon diffusion) (h : IsCutOf metal polysilicon diffusion cut)
+-- the slices that the code has are these lists
+module _ (one : OneColour) (joined : RectanglesAreJoined) (shapes : List Rect) (places : List Point) (masks : Masks)
+    (cut : Cut) (links : List Pair)
+    (swept : AreMasks shapes places masks.contacts masks.metal masks.polysilicon masks.diffusion)
+    (is_cut : IsCutOf masks.metal masks.polysilicon masks.diffusion cut) (all : AreAllLinks masks cut links)
     (ps : List Piece) (ep : ps ≡ cut.pieces)
-    (all : AreAllLinks metal.pairs polysilicon.pairs diffusion.pairs contacts.tiles ps cut.metal.numbers
-    cut.polysilicon.numbers cut.diffusion.numbers cut.metal.over cut.polysilicon.over cut.diffusion.over links)
     (count : ℕ) (ec : count ≡ length ps) (ls : List Pair) (el : ls ≡ links) where
-  there : AreAllLinks metal.pairs polysilicon.pairs diffusion.pairs contacts.tiles cut.pieces cut.metal.numbers
-      cut.polysilicon.numbers cut.diffusion.numbers cut.metal.over cut.polysilicon.over cut.diffusion.over links
-  there = subst
-      (λ xs. AreAllLinks metal.pairs polysilicon.pairs diffusion.pairs contacts.tiles xs cut.metal.numbers
-      cut.polysilicon.numbers cut.diffusion.numbers cut.metal.over cut.polysilicon.over cut.diffusion.over links) ep all
-
   counted : count ≡ length cut.pieces
   counted = ec ∙ ap length ep
 
   pub inside_then : All (λ q. (q.a < count) × (q.b < count)) ls
   inside_then =
       subst₂ (λ n xs. All (λ q. (q.a < n) × (q.b < n)) xs) (sym counted) (sym el)
-      (inside one joined shapes places contacts metal polysilicon diffusion cut links masks h there)
+      (links_inside one joined shapes places masks cut links swept is_cut all)
 
   module _ (least : List ℕ) (leasts : AreLeasts count ls least) where
     leasts_here : AreLeasts (length cut.pieces) links least
     leasts_here = subst₂ (λ n xs. AreLeasts n xs least) counted el leasts
 
+    can_number : CanNumber cut.pieces least
+    can_number = record {
+      as_many = leasts_here.as_many;
+      below_ = below one joined shapes places masks cut links swept is_cut all least leasts_here;
+      still_ = still one joined shapes places masks cut links swept is_cut all least leasts_here;
+      conductors = conductors_stay one joined shapes places masks cut links swept is_cut all least leasts_here;
+      channels = channels_stay one joined shapes places masks cut links swept is_cut all least leasts_here;
+    }
+
     pub number_then : (ns : List ℕ) → ns ≡ least → CanNumber ps ns
-    number_then ns en =
-        subst₂ CanNumber (sym ep) (sym en)
-        (can_number one joined shapes places contacts metal polysilicon diffusion cut links masks h there least
-        leasts_here)
+    number_then ns en = subst₂ CanNumber (sym ep) (sym en) can_number
 
     pub classed_then : (ns ms : List ℕ) → ns ≡ least → ms ≡ least → (nodes chans : Classes)
         → AreRoots (Conducts ps true) ns (length ns) nodes.roots
@@ -148,8 +98,7 @@ module _ (one : OneColour) (joined : RectanglesAreJoined) (shapes : List Rect) (
         → AreNumbers (Conducts ps false) ms (length ms) chans.roots chans.numbers
         → AreClassed shapes cut.pieces nodes chans
     classed_then ns ms en em nodes chans rn nn rc nc =
-        all_classed one joined shapes places contacts metal polysilicon diffusion cut links masks h there least
-        leasts_here nodes chans
+        classed one joined shapes places masks cut links swept is_cut all least leasts_here nodes chans
         (subst₂ (λ xs ys. AreRoots (Conducts xs true) ys (length ys) nodes.roots) ep en rn)
         (subst₂ (λ xs ys. AreNumbers (Conducts xs true) ys (length ys) nodes.roots nodes.numbers) ep en nn)
         (subst₂ (λ xs ys. AreRoots (Conducts xs false) ys (length ys) chans.roots) ep em rc)

@@ -11,10 +11,12 @@ use Rattle.lam_geom.specs.declared.layer.Layer.{Layer}
 use Rattle.lam_geom.specs.declared.layer.Layer.TheVariants.{ND, NP, NM}
 use Rattle.mask_tiles.specs.declared.tile.Tile.{Tile}
 use Rattle.union_find.specs.declared.pair.Pair.{Pair}
+use Rattle.mask_pieces.specs.declared.cut.Cut.{Cut}
+use Rattle.mask_pieces.specs.declared.masks.Masks.{Masks}
 use Rattle.mask_pieces.specs.declared.piece.Piece.{Piece}
 use Rattle.mask_pieces.specs.Pieces.{conducts_at}
 use Rattle.piece_classes.specs.Linking.{Gains, IsTouchLink, joins, AreTwo, AreBoth, column_of, IsContactLink}
-use Rattle.piece_classes.specs.Linking.{AreAllLinks}
+use Rattle.piece_classes.specs.Linking.{IsTouchOf, IsContactOf, AreAllLinks}
 use Rattle.piece_classes.specs.Linking.AreTwo.{upper, outer, lower}
 
 -- the tile that stands where a list has none
@@ -286,9 +288,11 @@ module _ (contacts : List Tile) (metal polysilicon diffusion : List (Option ℕ)
 
 -- ---- all links
 
-pub touch_same : (old new : List Pair) (ts us : List Pair) (ns ms : List ℕ) (pieces : List Piece) → ts ≡ us → ns ≡ ms
-    → Gains old new (IsTouchLink ts ns pieces (length ts)) → Gains old new (IsTouchLink us ms pieces (length us))
-touch_same old new ts us ns ms pieces e f g = subst₂ (λ t n. Gains old new (IsTouchLink t n pieces (length t))) e f g
+pub touch_same : (old new : List Pair) (ts us : List Pair) (ns ms : List ℕ) (ps qs : List Piece) → ts ≡ us → ns ≡ ms
+    → ps ≡ qs → Gains old new (IsTouchLink ts ns ps (length ts)) → Gains old new (IsTouchLink us ms qs (length us))
+touch_same old new ts us ns ms ps qs et en ep g =
+    subst (λ p. Gains old new (IsTouchLink us ms p (length us))) ep
+    (subst₂ (λ t n. Gains old new (IsTouchLink t n ps (length t))) et en g)
 
 pub contact_same : (old new : List Pair) (cs ds : List Tile) (m n p q d e : List (Option ℕ)) → cs ≡ ds → m ≡ n → p ≡ q
     → d ≡ e → Gains old new (IsContactLink cs m p d (length cs)) → Gains old new (IsContactLink ds n q e (length ds))
@@ -296,24 +300,21 @@ contact_same old new cs ds m n p q d e ec em ep ed g =
     subst₂ (λ x y. Gains old new (IsContactLink ds n x y (length ds))) ep ed
     (subst₂ (λ x y. Gains old new (IsContactLink x y p d (length x))) ec em g)
 
-pub all_links : (metal polysilicon diffusion : List Pair) (contacts : List Tile) (pieces : List Piece)
-    (nm np nd : List ℕ) (cm cp cd : List (Option ℕ)) (start a b e new : List Pair) → start ≡ []
-    → Gains start a (IsTouchLink metal nm pieces (length metal))
-    → Gains a b (IsTouchLink polysilicon np pieces (length polysilicon))
-    → Gains b e (IsTouchLink diffusion nd pieces (length diffusion))
-    → Gains e new (IsContactLink contacts cm cp cd (length contacts))
-    → AreAllLinks metal polysilicon diffusion contacts pieces nm np nd cm cp cd new
-all_links metal polysilicon diffusion contacts pieces nm np nd cm cp cd start a b e new none g1 g2 g3 g4 =
-    record { each = each }
+pub all_links : (masks : Masks) (cut : Cut) (start a b e new : List Pair) → start ≡ []
+    → Gains start a (IsTouchOf masks.metal cut.metal cut.pieces)
+    → Gains a b (IsTouchOf masks.polysilicon cut.polysilicon cut.pieces)
+    → Gains b e (IsTouchOf masks.diffusion cut.diffusion cut.pieces)
+    → Gains e new (IsContactOf masks.contacts cut) → AreAllLinks masks cut new
+all_links masks cut start a b e new none g1 g2 g3 g4 = record { each = each }
   where
     empty : (l : Pair) → Contains start l → ⊥
     empty l c = let k = subst (λ xs. Contains xs l) none c in absurd (omega (arith, k.1))
 
     each : (l : Pair)
         → Contains new l
-        ↔ (((IsTouchLink metal nm pieces (length metal) l ⊎ IsTouchLink polysilicon np pieces (length polysilicon) l)
-        ⊎ IsTouchLink diffusion nd pieces (length diffusion) l)
-        ⊎ IsContactLink contacts cm cp cd (length contacts) l)
+        ↔ (((IsTouchOf masks.metal cut.metal cut.pieces l ⊎ IsTouchOf masks.polysilicon cut.polysilicon cut.pieces l)
+        ⊎ IsTouchOf masks.diffusion cut.diffusion cut.pieces l)
+        ⊎ IsContactOf masks.contacts cut l)
     each l = (
       λ c. elim ((g4.each l).0 c) [
         | inr u ↦ inr u

@@ -1,5 +1,5 @@
 -- Links between pieces, and what joins them.
-use Rattle.std.specs.Prelude.{◌≡◌, ◌↔◌, ◌⊎◌, ℕ, ◌<◌, ◌==◌, ◌||◌, Bool, true, false, List, [], length, get_or}
+use Rattle.std.specs.Prelude.{◌≡◌, ◌↔◌, ◌⊎◌, ℕ, ◌<◌, ◌≤◌, ◌==◌, ◌||◌, Bool, true, false, List, [], length, get_or}
 use Rattle.std.specs.Prelude.{Contains, Option, Some, slice_get}
 use Rattle.lam_geom.specs.declared.layer.Layer.{Layer}
 use Rattle.lam_geom.specs.declared.layer.Layer.TheVariants.{ND, NP, NC, NM, NI, NB, NG}
@@ -7,11 +7,15 @@ use Rattle.lam_geom.specs.declared.rect.Rect.{Rect}
 use Rattle.lam_geom.specs.Chains.{Chain}
 use Rattle.lam_geom.specs.Squares.{Square, Adjoin, covered}
 use Rattle.mask_tiles.specs.declared.tile.Tile.{Tile}
+use Rattle.mask_tiles.specs.declared.swept.Swept.{Swept}
 use Rattle.switch_net.specs.Conductors.{Joined, IsChannelSquare}
 use Rattle.union_find.specs.declared.pair.Pair.{Pair}
 use Rattle.union_find.specs.Leasts.{Paired}
+use Rattle.mask_pieces.specs.declared.cut.Cut.{Cut}
+use Rattle.mask_pieces.specs.declared.layered.Numbered.{Numbered}
+use Rattle.mask_pieces.specs.declared.masks.Masks.{Masks}
 use Rattle.mask_pieces.specs.declared.piece.Piece.{Piece}
-use Rattle.mask_pieces.specs.Pieces.{conducts_at, HasConductor, HasChannel}
+use Rattle.mask_pieces.specs.Pieces.{conducts_at, HasConductor, HasChannel, AreInside}
 
 -- the new list has those of the old one and those of a kind
 pub record Gains (old new : List Pair) (Is : Pair → Type 0) : Type 0 where
@@ -73,14 +77,26 @@ pub record IsContactLink (contacts : List Tile) (metal polysilicon diffusion : L
   pub first : slice_get (column_of metal polysilicon diffusion one) at ≡ Some (Some l.a)
   pub second : slice_get (column_of metal polysilicon diffusion other) at ≡ Some (Some l.b)
 
+-- a mask's tiles that touch have pieces, and there is an entry for each contact
+pub record CanLink (contacts mask : Swept) (numbered : Numbered) (pieces : List Piece) : Type 0 where
+  pub inside : AreInside mask.pairs numbered.numbers pieces
+  pub over : length contacts.tiles ≤ length numbered.over
+
+-- a link of two tiles of the mask that touch
+abbrev pub IsTouchOf : Swept → Numbered → List Piece → Pair → Type 0
+IsTouchOf mask numbered pieces = IsTouchLink mask.pairs numbered.numbers pieces (length mask.pairs)
+
+-- a link of two conductors that a contact joins
+abbrev pub IsContactOf : Swept → Cut → Pair → Type 0
+IsContactOf contacts cut =
+    IsContactLink contacts.tiles cut.metal.over cut.polysilicon.over cut.diffusion.over (length contacts.tiles)
+
 -- these have exactly the links of metal, of polysilicon, of diffusion and of contacts
-pub record AreAllLinks (metal polysilicon diffusion : List Pair) (contacts : List Tile) (pieces : List Piece)
-    (nm np nd : List ℕ) (cm cp cd : List (Option ℕ)) (links : List Pair) : Type 0 where
-  pub each : (l : Pair)
-      → Contains links l
-      ↔ (((IsTouchLink metal nm pieces (length metal) l ⊎ IsTouchLink polysilicon np pieces (length polysilicon) l)
-      ⊎ IsTouchLink diffusion nd pieces (length diffusion) l)
-      ⊎ IsContactLink contacts cm cp cd (length contacts) l)
+pub record AreAllLinks (masks : Masks) (cut : Cut) (links : List Pair) : Type 0 where
+  pub each : (l : Pair) → Contains links l ↔ (((IsTouchOf masks.metal cut.metal cut.pieces l
+      ⊎ IsTouchOf masks.polysilicon cut.polysilicon cut.pieces l)
+      ⊎ IsTouchOf masks.diffusion cut.diffusion cut.pieces l)
+      ⊎ IsContactOf masks.contacts cut l)
 
 -- pieces are linked by chains of pairs exactly where their squares are joined
 pub record AreLinks (shapes : List Rect) (pieces : List Piece) (links : List Pair) : Type 0 where

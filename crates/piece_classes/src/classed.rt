@@ -35,14 +35,7 @@ pub fn classify(alloc: Global, masks: &Masks, cut: &Cut) -> Result<Classed, NoMe
     one_colour();
     rectangles_are_joined();
     let pieces = cut.pieces.as_slice();
-    let links = link_all(
-        alloc,
-        masks,
-        pieces,
-        &cut.metal,
-        &cut.polysilicon,
-        &cut.diffusion,
-    )?;
+    let links = link_all(alloc, masks, cut)?;
     let Ok(count) = u32::try_from(pieces.len()) else {
         return Err(NoMemory);
     };
