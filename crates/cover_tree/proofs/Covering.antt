@@ -14,7 +14,6 @@ use Rattle.cover_tree.specs.declared.layer_set.LayerSet.{LayerSet}
 use Rattle.cover_tree.specs.declared.node.Node.{Node}
 use Rattle.cover_tree.specs.declared.note.Note.{Note}
 use Rattle.cover_tree.specs.declared.part.Part.{Part}
-use Rattle.cover_tree.specs.declared.span.Span.{Span}
 use Rattle.cover_tree.specs.declared.trees.Trees.{Trees}
 use Rattle.cover_tree.specs.Covers.{IsBare, IsRaised, row_colour}
 use Rattle.cover_tree.specs.Parts.{top_at, root, left_half, right_half, top_to, top_of, IsPartRaised}
@@ -167,11 +166,11 @@ bare_cover own cells trees f = record {
   ];
 }
 
-pub raised_cover : (own : Mask) (cells : ℕ) (old now : Trees) (layer : Layer) (span : Span) (row : ℕ) → span.to ≤ cells
-    → IsPartRaised (tree old layer) (tree now layer) (root cells) span row
+pub raised_cover : (own : Mask) (cells : ℕ) (old now : Trees) (layer : Layer) (from to row : ℕ) → to ≤ cells
+    → IsPartRaised (tree old layer) (tree now layer) (root cells) from to row
     → ((l : Layer) → l ≢ layer → tree now l ≡ tree old l)
-    → IsRaised (cover own cells old) (cover own cells now) layer span.from span.to row
-raised_cover own cells old now layer span row h r f = record {
+    → IsRaised (cover own cells old) (cover own cells now) layer from to row
+raised_cover own cells old now layer from to row h r f = record {
   same_mask = refl;
   as_wide = refl;
   within = λ c k l.

@@ -5,7 +5,6 @@ use Rattle.std.proofs.lemmas.Bool.{cases_lt}
 use Rattle.std.proofs.lemmas.List.{get_or-set_same, get_or-set_other}
 use Rattle.lam_geom.specs.declared.layer.Layer.{Layer}
 use Rattle.cover_tree.specs.declared.part.Part.{Part}
-use Rattle.cover_tree.specs.declared.span.Span.{Span}
 use Rattle.cover_tree.specs.declared.trees.Trees.{Trees}
 use Rattle.cover_tree.specs.Parts.{left_half, right_half, top_at, top_of, InPart, IsPartRaised}
 use Rattle.cover_tree.specs.Nodes.{layer_top, stale}
@@ -51,19 +50,19 @@ lifted_top s p row c v i =
       ]
     ]
 
-pub raised_all : (s : List ℕ) (p : Part) (span : Span) (row : ℕ) → 0 < p.width → p.at < length s
-    → span.from ≤ p.base → p.base + p.width ≤ span.to
-    → IsPartRaised s (set s p.at (max (top_at s p.at) row)) p span row
-raised_all s p span row v i from to = record {
+pub raised_all : (s : List ℕ) (p : Part) (from to row : ℕ) → 0 < p.width → p.at < length s
+    → from ≤ p.base → p.base + p.width ≤ to
+    → IsPartRaised s (set s p.at (max (top_at s p.at) row)) p from to row
+raised_all s p from to row v i low high = record {
   inside = λ c h k l. lifted_top s p row c v i;
   beside = λ c h k. let h0 = h.from in let h1 = h.to in
       elim k [ inl l ↦ absurd (omega arith) | inr l ↦ absurd (omega arith) ];
 }
 
--- the span has no cell of the part
-raised_none : (s : List ℕ) (p : Part) (span : Span) (row : ℕ)
-    → ((c : ℕ) → InPart p c → span.from ≤ c → span.to ≤ c) → IsPartRaised s s p span row
-raised_none s p span row past = record {
+-- the part has none of these cells
+raised_none : (s : List ℕ) (p : Part) (from to row : ℕ)
+    → ((c : ℕ) → InPart p c → from ≤ c → to ≤ c) → IsPartRaised s s p from to row
+raised_none s p from to row past = record {
   inside = λ c i k l. let m = past c i k in absurd (omega arith);
   beside = λ c i k. refl;
 }
@@ -136,11 +135,11 @@ module _ (old one two : Trees) (p : Part) (h : 2 ≤ p.width)
   own_top l = top_beside one two (right_half p) ro l p.at (inl (omega arith))
       ∙ top_beside old one (left_half p) lo l p.at (inl (omega arith))
 
-  pub both_raised : (layer : Layer) (span : Span) (row : ℕ)
-      → IsPartRaised (tree old layer) (tree one layer) (left_half p) span row
-      → IsPartRaised (tree one layer) (tree two layer) (right_half p) span row
-      → IsPartRaised (tree old layer) (tree two layer) p span row
-  both_raised layer span row a b =
+  pub both_raised : (layer : Layer) (from to row : ℕ)
+      → IsPartRaised (tree old layer) (tree one layer) (left_half p) from to row
+      → IsPartRaised (tree one layer) (tree two layer) (right_half p) from to row
+      → IsPartRaised (tree old layer) (tree two layer) p from to row
+  both_raised layer from to row a b =
       let o = own_top layer in
       let left_top =
       λ (c : ℕ). same_top (tree one layer) (tree two layer) (left_half p) c (omega arith)
@@ -199,23 +198,23 @@ module _ (old one two : Trees) (p : Part) (h : 2 ≤ p.width)
 pub only_none : (p : Part) (t : Trees) → IsOnlyIn p t t
 only_none p t = record { nodes = λ k b. refl; as_many = refl; further = refl; since = refl }
 
--- one half alone is raised, since the span has no cell of the other
+-- one half alone is raised, since the other has none of these cells
 module _ (t u : Trees) (p : Part) (h : 2 ≤ p.width) where
-  pub left_raised : IsOnlyIn (left_half p) t u → (layer : Layer) (span : Span) (row : ℕ)
-      → span.to ≤ p.base + p.width / 2
-      → IsPartRaised (tree t layer) (tree u layer) (left_half p) span row
-      → IsPartRaised (tree t layer) (tree u layer) p span row
-  left_raised o layer span row e a =
-      both_raised t u u p h o (only_none (right_half p) u) layer span row a
-      (raised_none (tree u layer) (right_half p) span row (λ c i k. let i0 = i.from in omega arith))
+  pub left_raised : IsOnlyIn (left_half p) t u → (layer : Layer) (from to row : ℕ)
+      → to ≤ p.base + p.width / 2
+      → IsPartRaised (tree t layer) (tree u layer) (left_half p) from to row
+      → IsPartRaised (tree t layer) (tree u layer) p from to row
+  left_raised o layer from to row e a =
+      both_raised t u u p h o (only_none (right_half p) u) layer from to row a
+      (raised_none (tree u layer) (right_half p) from to row (λ c i k. let i0 = i.from in omega arith))
 
-  pub right_raised : IsOnlyIn (right_half p) t u → (layer : Layer) (span : Span) (row : ℕ)
-      → p.base + p.width / 2 ≤ span.from
-      → IsPartRaised (tree t layer) (tree u layer) (right_half p) span row
-      → IsPartRaised (tree t layer) (tree u layer) p span row
-  right_raised o layer span row e b =
-      both_raised t t u p h (only_none (left_half p) t) o layer span row
-      (raised_none (tree t layer) (left_half p) span row (λ c i k. let i1 = i.to in absurd (omega arith))) b
+  pub right_raised : IsOnlyIn (right_half p) t u → (layer : Layer) (from to row : ℕ)
+      → p.base + p.width / 2 ≤ from
+      → IsPartRaised (tree t layer) (tree u layer) (right_half p) from to row
+      → IsPartRaised (tree t layer) (tree u layer) p from to row
+  right_raised o layer from to row e b =
+      both_raised t t u p h (only_none (left_half p) t) o layer from to row
+      (raised_none (tree t layer) (left_half p) from to row (λ c i k. let i1 = i.to in absurd (omega arith))) b
 
   pub left_whole : IsOnlyIn (left_half p) t u → note_at t p.at ≡ stale → AreNoted t p → AreNoted u (left_half p)
       → AreNoted u p

@@ -3,7 +3,6 @@
 use Rattle.std.specs.Prelude.{◌≡◌, ℕ, zero, suc, ◌+◌, ◌-◌, ◌*◌, ◌/◌, ◌^◌, ◌<◌, ◌≤◌, ◌⊎◌, List, get_or, max, nat_lt}
 use Rattle.std.specs.Prelude.{if◌then◌else◌}
 use Rattle.cover_tree.specs.declared.part.Part.{Part}
-use Rattle.cover_tree.specs.declared.span.Span.{Span}
 
 -- up to which row the part whose node is at this place is covered as a whole
 abbrev pub top_at : List ℕ → ℕ → ℕ
@@ -45,13 +44,13 @@ pub record IsSmall (p : Part) : Type 0 where
   pub places : p.at + 2 * p.width ≤ 2 ^ 32
   pub cells : p.base + p.width ≤ 2 ^ 31
 
--- the span has cells, and some of them in the part
-pub record IsReached (p : Part) (span : Span) : Type 0 where
-  pub some : span.from < span.to
-  pub from : span.from < p.base + p.width
-  pub to : p.base < span.to
+-- there are cells from one up to the other, and some of them in the part
+pub record IsReached (p : Part) (from to : ℕ) : Type 0 where
+  pub some : from < to
+  pub starts : from < p.base + p.width
+  pub ends : p.base < to
 
--- the part's cells in the span are covered up to the row besides
-pub record IsPartRaised (old now : List ℕ) (p : Part) (span : Span) (row : ℕ) : Type 0 where
-  pub inside : (c : ℕ) → InPart p c → span.from ≤ c → c < span.to → top_of now p c ≡ max (top_of old p c) row
-  pub beside : (c : ℕ) → InPart p c → (c < span.from) ⊎ (span.to ≤ c) → top_of now p c ≡ top_of old p c
+-- the part's cells from one up to the other are covered up to the row besides
+pub record IsPartRaised (old now : List ℕ) (p : Part) (from to row : ℕ) : Type 0 where
+  pub inside : (c : ℕ) → InPart p c → from ≤ c → c < to → top_of now p c ≡ max (top_of old p c) row
+  pub beside : (c : ℕ) → InPart p c → (c < from) ⊎ (to ≤ c) → top_of now p c ≡ top_of old p c

@@ -10,7 +10,6 @@ mod palette;
 mod part;
 mod planes;
 mod raise;
-mod span;
 mod tree;
 mod trees;
 

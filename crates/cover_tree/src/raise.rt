@@ -7,34 +7,33 @@ ghost use Rattle.cover_tree.specs.Layered.{tree, told_tree};
 ghost use Rattle.cover_tree.specs.Notes.{HasPart, AreNoted, IsOnlyIn};
 
 use crate::part::Part;
-use crate::span::Span;
 use crate::trees::Trees;
 use lam_geom::Layer;
 
-/// Covers the part's cells in the span with a layer in the rows below `row` besides. The notes of the parts on the
-/// way are forgotten: where many raises come before the next row, each part is told and noted anew but once.
-pub(crate) fn raise_part(trees: &mut Trees, layer: Layer, part: Part, span: Span, row: u32)
+/// Covers the part's cells from `from` up to `to` with a layer in the rows below `row` besides. The notes of the parts
+/// on the way are forgotten: where many raises come before the next row, each part is told and noted anew but once.
+pub(crate) fn raise_part(trees: &mut Trees, layer: Layer, part: Part, from: u32, to: u32, row: u32)
     requires small { IsSmall part }
-    requires reached { IsReached part span }
+    requires reached { IsReached part from to }
     requires room { HasPart trees.old layer part }
-    ensures raised { IsPartRaised (tree trees.old layer) (tree trees.new layer) part span row }
+    ensures raised { IsPartRaised (tree trees.old layer) (tree trees.new layer) part from to row }
     ensures others { (l : Layer) → l ≢ layer → tree trees.new l ≡ tree trees.old l }
     ensures told { (l : Layer) → told_tree trees.new l ≡ told_tree trees.old l }
     ensures noted { AreNoted trees.old part → AreNoted trees.new part }
     ensures only { IsOnlyIn part trees.old trees.new }
 {
     trees.forget(part);
-    if span.from <= part.base && part.end() <= span.to {
+    if from <= part.base && part.end() <= to {
         trees.lift(layer, part.at, row);
         return;
     }
     let right = part.right();
-    if span.to <= right.base {
-        raise_part(trees, layer, part.left(), span, row);
-    } else if right.base <= span.from {
-        raise_part(trees, layer, right, span, row);
+    if to <= right.base {
+        raise_part(trees, layer, part.left(), from, to, row);
+    } else if right.base <= from {
+        raise_part(trees, layer, right, from, to, row);
     } else {
-        raise_part(trees, layer, part.left(), span, row);
-        raise_part(trees, layer, right, span, row);
+        raise_part(trees, layer, part.left(), from, to, row);
+        raise_part(trees, layer, right, from, to, row);
     }
 }

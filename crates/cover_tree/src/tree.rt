@@ -6,7 +6,6 @@ use crate::changes::{Known, close, tell_part};
 use crate::palette::Palette;
 use crate::part::Part;
 use crate::raise::raise_part;
-use crate::span::Span;
 use crate::trees::Trees;
 use lam_geom::Layer;
 use mask_runs::{Mask, Run};
@@ -53,9 +52,8 @@ impl CoverTree {
         ensures told { (c : ℕ) → told_of self.new c ≡ told_of self.old c }
     {
         let root = Part::root(self.cells);
-        let span = Span { from, to };
         if from < to {
-            raise_part(&mut self.trees, layer, root, span, row);
+            raise_part(&mut self.trees, layer, root, from, to, row);
         }
     }
 

@@ -15,7 +15,7 @@ unfolding cover_of
 raise_part-requires-clause-reached c =
     let s = c.if-from-to.true in
     let w = c.requires.within in
-    rw c.root-root.ensures (record { some = s; from = omega arith; to = omega arith })
+    rw c.root-root.ensures (record { some = s; starts = omega arith; ends = omega arith })
 
 -- src/tree.rt
 pub raise_part-requires-clause-room : goal.raise_part-requires-clause-room
@@ -31,7 +31,7 @@ pub returns-then-from-to-clause-raised : goal.returns-then-from-to-clause-raised
 unfolding cover_of
 returns-then-from-to-clause-raised c =
     raised_cover c.args.self.now.mask c.args.self.now.cells c.args.self.now.trees c.raise_part.new.trees c.args.layer
-    (record { from = c.args.from; to = c.args.to }) c.args.row
+    c.args.from c.args.to c.args.row
     c.requires.within (rw (← c.root-root.ensures) c.raise_part.ensures.raised) c.raise_part.ensures.others
 
 -- src/tree.rt
