@@ -1,13 +1,14 @@
--- The stretches of cells whose colours change, as a tree tells them.
+-- The runs of cells whose colours change, as a tree tells them.
 use Rattle.std.proofs.Common.{ℕ, ◌≡◌, ◌+◌, ◌-◌, ◌<◌, ◌≤◌, List, inl, inr, sym, ◌∙◌, subst, arith, get_or}
 use Rattle.std.proofs.lemmas.Bool.{cases_lt, cases_eq}
 use Rattle.std.proofs.lemmas.List.{get_or_default}
 use Rattle.mask_runs.specs.declared.run.Run.{Run}
 use Rattle.cover_tree.specs.Changes.{IsIn, AreChanges}
-use Rattle.row_windows.specs.Windows.{stretch, no_stretch, Touches, ChangeAt, AreFit}
+use Rattle.strip_rows.specs.Missing.{run, no_run}
+use Rattle.row_windows.specs.Windows.{Touches, ChangeAt, AreFit}
 use Rattle.region_sweep.specs.Repainting.{HaveColours}
 
--- the stretches have exactly the cells whose colours change from one row to the next, with their new colours
+-- the runs have exactly the cells whose colours change from one row to the next, with their new colours
 pub record AreTold (old new : ℕ → ℕ) (cells : ℕ) (changed : List Run) : Type 0 where
   pub fit : AreFit cells changed
   pub at : ChangeAt changed old new
@@ -16,7 +17,7 @@ pub record AreTold (old new : ℕ → ℕ) (cells : ℕ) (changed : List Run) : 
 touches : (changed : List Run) (c : ℕ) → IsIn changed c → Touches changed c
 touches changed c t =
     let place = t.listed.0 in
-    let at : stretch changed place ≡ t.piece = get_or_default changed place no_stretch t.piece t.listed.1 ∙ t.listed.2
+    let at : run changed place ≡ t.piece = get_or_default changed place no_run t.piece t.listed.1 ∙ t.listed.2
     in
     record {
       place = place;

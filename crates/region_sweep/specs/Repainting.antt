@@ -5,11 +5,11 @@ use Rattle.kept_runs.specs.declared.runs.KeptRuns.{KeptRuns}
 use Rattle.kept_runs.specs.Kept.{colours_of}
 use Rattle.row_windows.specs.Windows.{Touches}
 
--- the cells of each stretch have its colour in this row
+-- the cells of each run have its colour in this row
 abbrev pub HaveColours : (ℕ → ℕ) → List Run → Type 0
-HaveColours colour stretches = All (λ s. (c : ℕ) → s.left ≤ c → c < s.right → colour c ≡ s.colour) stretches
+HaveColours colour runs = All (λ s. (c : ℕ) → s.left ≤ c → c < s.right → colour c ≡ s.colour) runs
 
--- the cells of all stretches have the colours of the row, and the others have theirs still
-pub record IsRepainted (colour : ℕ → ℕ) (old now : KeptRuns) (stretches : List Run) : Type 0 where
-  pub touched : (c : ℕ) → Touches stretches c → colours_of now c ≡ colour c
-  pub others : (c : ℕ) → (¬ Touches stretches c) → colours_of now c ≡ colours_of old c
+-- the cells of all runs have the colours of the row, and the others have theirs still
+pub record IsRepainted (colour : ℕ → ℕ) (old now : KeptRuns) (runs : List Run) : Type 0 where
+  pub touched : (c : ℕ) → Touches runs c → colours_of now c ≡ colour c
+  pub others : (c : ℕ) → (¬ Touches runs c) → colours_of now c ≡ colours_of old c

@@ -54,13 +54,13 @@ pub record IsRightOf (colour : ℕ → ℕ) (cell reached : ℕ) : Type 0 where
   pub order : cell ≤ reached
   pub by : (colour reached ≡ 0) ⊎ BeginsAfter colour cell reached
 
--- the open window goes on over the stretch
+-- the open window goes on over the run
 pub record IsJoined (current : Window) (e : Run) (old now : List Window) (next : Window) : Type 0 where
   pub same : now ≡ old
   pub from : next.from ≡ current.from
   pub to : next.to ≡ max current.to e.right
 
--- it has been added, and the next one opens at the stretch
+-- it has been added, and the next one opens at the run
 pub record IsBegun (colour : ℕ → ℕ) (cells : ℕ) (current : Window) (e : Run) (old now : List Window)
     (next : Window) : Type 0 where
   pub end : ℕ

@@ -1,35 +1,29 @@
 -- Windows of a row, around the cells that may change.
 use Rattle.std.specs.Prelude.{◌≡◌, ◌||◌, ◌&&◌, ℕ, ◌+◌, ◌<◌, ◌≤◌, List, [], ◌∷◌, All, AllPairs, Bool, false, nat_le}
-use Rattle.std.specs.Prelude.{nat_lt, length, slice_index_or, if◌then◌else◌}
+use Rattle.std.specs.Prelude.{nat_lt, length, if◌then◌else◌}
 use Rattle.std.specs.List.Sorted.{IsNonDecreasingBy}
 use Rattle.mask_runs.specs.declared.run.Run.{Run}
 use Rattle.mask_runs.specs.Runs.{AreRuns}
 use Rattle.strip_rows.specs.Changes.{IsChange}
+use Rattle.strip_rows.specs.Missing.{run}
 use Rattle.row_windows.specs.declared.window.Window.{Window}
 
-abbrev pub no_stretch : Run
-no_stretch = record { left = 0; right = 0; colour = 0 }
-
--- the stretch at this place
-abbrev pub stretch : List Run → ℕ → Run
-stretch stretches k = slice_index_or stretches k no_stretch
-
--- one of the stretches has the cell
-pub record Touches (stretches : List Run) (c : ℕ) : Type 0 where
+-- one of the runs has the cell
+pub record Touches (runs : List Run) (c : ℕ) : Type 0 where
   pub place : ℕ
-  pub among : place < length stretches
-  pub from : (stretch stretches place).left ≤ c
-  pub to : c < (stretch stretches place).right
+  pub among : place < length runs
+  pub from : (run runs place).left ≤ c
+  pub to : c < (run runs place).right
 
--- cells that no stretch has are of one colour in both rows
+-- cells that none of these runs has are of one colour in both rows
 abbrev pub ChangeAt : List Run → (ℕ → ℕ) → (ℕ → ℕ) → Type 0
-ChangeAt stretches old new = (c : ℕ) → (¬ Touches stretches c) → old c ≡ new c
+ChangeAt runs old new = (c : ℕ) → (¬ Touches runs c) → old c ≡ new c
 
--- each stretch has cells, before the last one of so many, and they stand from left to right
-pub record AreFit (cells : ℕ) (stretches : List Run) : Type 0 where
-  pub wide : All (λ e. e.left < e.right) stretches
-  pub within : All (λ e. e.right < cells) stretches
-  pub ascending : IsNonDecreasingBy (λ e. e.left) stretches
+-- each run has cells, before the last one of so many, and they stand from left to right
+pub record AreFit (cells : ℕ) (runs : List Run) : Type 0 where
+  pub wide : All (λ e. e.left < e.right) runs
+  pub within : All (λ e. e.right < cells) runs
+  pub ascending : IsNonDecreasingBy (λ e. e.left) runs
 
 -- the last cell of the row has no colour, nor has any past it
 abbrev pub IsGuarded : ℕ → (ℕ → ℕ) → Type 0

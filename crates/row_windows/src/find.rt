@@ -12,74 +12,74 @@ use mask_runs::Run;
 use mp_base::NoMemory;
 use std::alloc::AllocError;
 
-// How many cells the next stretch may lie behind the current window's stretches without a window of its own: these
-// cells are collected sooner than the ends of two windows are looked up.
+// How many cells the next run may lie behind the current window's runs without a window of its own: these cells are
+// collected sooner than the ends of two windows are looked up.
 const NEAR: u32 = 32;
 
-/// The windows of a row, from left to right, around the cells that these stretches have, from left to right too, of any
-/// colours. Each window reaches over two runs beside such cells, if they lie next to one another, so that the runs in
-/// the windows, in this row and in the next, tell all that changes. Its time is that of the stretches times the
+/// The windows of a row, from left to right, around the cells that these runs have, from left to right too, of any
+/// colours. Each window reaches over two of the row's runs beside such cells, if they lie next to one another, so that
+/// the runs in the windows, in this row and in the next, tell all that changes. Its time is that of the runs times the
 /// logarithm of the cells.
 pub fn find_windows(
     kept: &KeptRuns,
-    stretches: &[Run],
+    runs: &[Run],
     windows: &mut Vec<Window>,
 ) -> Result<(), NoMemory>
-    requires fit { AreFit (width_of kept.now) stretches.now }
+    requires fit { AreFit (width_of kept.now) runs.now }
     requires guarded { IsGuarded (width_of kept.now) (colours_of kept.now) }
     ensures apart { IfOk result (λ _. AreApart (width_of kept.now) windows.new.items) }
     ensures tell { IfOk result (λ _. (colour : ℕ → ℕ → ℕ) (y : ℕ) → ((c : ℕ) → colour y c ≡ colours_of kept.now c)
-        → ChangeAt stretches.now (colour y) (colour (y + 1)) → TellChange colour y windows.new.items) }
+        → ChangeAt runs.now (colour y) (colour (y + 1)) → TellChange colour y windows.new.items) }
 {
     windows.clear();
-    if stretches.is_empty() {
+    if runs.is_empty() {
         return Ok(());
     }
     let mut current = Window {
-        from: left_of(kept, stretches[0].left),
-        to: stretches[0].right,
+        from: left_of(kept, runs[0].left),
+        to: runs[0].right,
     };
-    for next in 1..stretches.len() {
-        current = add_stretch(kept, current, stretches[next], windows)?;
+    for next in 1..runs.len() {
+        current = add_run(kept, current, runs[next], windows)?;
     }
     add(windows, closed(kept, current))?;
     Ok(())
 }
 
-// Adds the current window if the stretch lies well beyond it, and gives the current one then, whose `to` is where the
-// stretches end that it has.
-fn add_stretch(
+// Adds the current window if the run lies well beyond it, and gives the current one then, whose `to` is where the runs
+// end that it has.
+fn add_run(
     kept: &KeptRuns,
     current: Window,
-    stretch: Run,
+    run: Run,
     windows: &mut Vec<Window>,
 ) -> Result<Window, NoMemory>
     requires current { current.to < width_of kept.now }
-    requires stretch { stretch.left < width_of kept.now }
+    requires run { run.left < width_of kept.now }
     requires guarded { IsGuarded (width_of kept.now) (colours_of kept.now) }
     ensures { IfOk result (λ next.
-        IsOpened (colours_of kept.now) (width_of kept.now) current stretch windows.old.items windows.new.items next) }
+        IsOpened (colours_of kept.now) (width_of kept.now) current run windows.old.items windows.new.items next) }
 {
     let joined = Window {
         from: current.from,
-        to: current.to.max(stretch.right),
+        to: current.to.max(run.right),
     };
-    if stretch.left.saturating_sub(current.to) <= NEAR {
+    if run.left.saturating_sub(current.to) <= NEAR {
         return Ok(joined);
     }
     let window = closed(kept, current);
-    let from = left_of(kept, stretch.left);
+    let from = left_of(kept, run.left);
     if from <= window.to {
         return Ok(joined);
     }
     add(windows, window)?;
     Ok(Window {
         from,
-        to: stretch.right,
+        to: run.right,
     })
 }
 
-// The window with the runs to the right of its stretches.
+// The window with the row's runs to the right of its own.
 fn closed(kept: &KeptRuns, current: Window) -> Window
     requires current { current.to < width_of kept.now }
     requires guarded { IsGuarded (width_of kept.now) (colours_of kept.now) }
