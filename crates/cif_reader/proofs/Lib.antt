@@ -1,4 +1,5 @@
 pub mod Stepping
+pub mod Readers
 pub mod Paths
 pub mod Runs
 pub mod Sound

@@ -35,21 +35,28 @@ unread_open law text c rest h no_end (d, size, more, r) =
     let e = (same_some c d rest (r.blanks ++ (59 ∷ more)) (sym h ∙ law text d size more r)).1 in
     no_end more (ap past_blanks e ∙ blanks_past r.blanks (59 ∷ more) r.are_blanks)
 
-pub unread_cut : IsLaw → (bytes : List ℕ) (at semi end : ℕ) (value : Command)
-    → IsFound cut_command (command_from (drop at bytes)) bytes at value end
-    → drop semi bytes ≡ past_blanks (drop end bytes) → length bytes ≤ semi → IsReadable (drop at bytes) → ⊥
-unread_cut law bytes at semi end value f e h =
-    unread_open law (drop at bytes) f.exact (drop end bytes) f.found
-    (λ more k. absurd (let g : [] ≡ 59 ∷ more = sym (drop_all semi bytes h) ∙ e ∙ k in cc))
+-- ---- the semicolon
 
-pub unread_other : IsLaw → (bytes : List ℕ) (at semi end : ℕ) (value : Command)
-    → IsFound cut_command (command_from (drop at bytes)) bytes at value end
-    → drop semi bytes ≡ past_blanks (drop end bytes) → semi < length bytes → get_or bytes semi 0 ≢ 59
-    → IsReadable (drop at bytes) → ⊥
-unread_other law bytes at semi end value f e h n =
-    unread_open law (drop at bytes) f.exact (drop end bytes) f.found
-    (λ more k. n
-    (let g : get_or bytes semi 0 ∷ drop (semi + 1) bytes ≡ 59 ∷ more = sym (next bytes semi h) ∙ e ∙ k in cc))
+pub semicolon_stands : (bytes : List ℕ) (at semi : ℕ) → drop semi bytes ≡ past_blanks (drop at bytes) → at ≤ semi
+    → semi < length bytes → get_or bytes semi 0 ≡ 59
+    → (past_blanks (drop at bytes) ≡ 59 ∷ drop (semi + 1) bytes) × (at < semi + 1) × (semi + 1 ≤ length bytes)
+semicolon_stands bytes at semi rest le less b = (
+  sym rest ∙ next bytes semi less ∙ ap (λ b. b ∷ drop (semi + 1) bytes) b,
+  omega (arith, le),
+  omega (arith, less),
+)
+
+pub other_stands : (bytes : List ℕ) (at semi : ℕ) → drop semi bytes ≡ past_blanks (drop at bytes) → semi < length bytes
+    → get_or bytes semi 0 ≢ 59
+    → (more : List ℕ) → past_blanks (drop at bytes) ≢ 59 ∷ more
+other_stands bytes at semi rest less n more k =
+    n (let g : get_or bytes semi 0 ∷ drop (semi + 1) bytes ≡ 59 ∷ more = sym (next bytes semi less) ∙ rest ∙ k in cc)
+
+pub nothing_stands : (bytes : List ℕ) (at semi : ℕ) → drop semi bytes ≡ past_blanks (drop at bytes)
+    → length bytes ≤ semi
+    → (more : List ℕ) → past_blanks (drop at bytes) ≢ 59 ∷ more
+nothing_stands bytes at semi rest h more k =
+    absurd (let g : [] ≡ 59 ∷ more = sym (drop_all semi bytes h) ∙ rest ∙ k in cc)
 
 -- ---- what is read
 
@@ -57,23 +64,22 @@ pub no_blanks : (blanks rest : List ℕ) → Blanks blanks → Stops (blanks ++ 
 no_blanks [] rest h s = refl
 no_blanks (b ∷ bs) rest h s = absurd ((All-head IsBlank b bs h).5 s)
 
-pub command_read : (bytes : List ℕ) (at semi end : ℕ) (value : Command) → at ≤ length bytes
+pub command_read : (bytes : List ℕ) (at end behind : ℕ) (value : Command) → at ≤ length bytes
     → IsFound cut_command (command_from (drop at bytes)) bytes at value end
-    → drop semi bytes ≡ past_blanks (drop end bytes) → end ≤ semi → semi < length bytes → get_or bytes semi 0 ≡ 59
-    → IsRead bytes at value (semi + 1)
-command_read bytes at semi end value inside f e le less b =
+    → past_blanks (drop end bytes) ≡ 59 ∷ drop behind bytes → end < behind → behind ≤ length bytes
+    → IsRead bytes at value behind
+command_read bytes at end behind value inside f e less within =
     let s = command_sound (drop at bytes) f.exact (drop end bytes) f.found in
     let (blanks, g, are) = blanks_split (drop end bytes) in
-    let rest = drop (semi + 1) bytes in
-    let k : drop end bytes ≡ blanks ++ (59 ∷ rest) =
-    g ∙ ap (λ t. blanks ++ t) (sym e ∙ next bytes semi less ∙ ap (λ b. b ∷ rest) b) in
+    let rest = drop behind bytes in
+    let k : drop end bytes ≡ blanks ++ (59 ∷ rest) = g ∙ ap (λ t. blanks ++ t) e in
     let split : drop at bytes ≡ s.front ++ (blanks ++ (59 ∷ rest)) = s.split ∙ ap (λ t. s.front ++ t) k in
     let l = ap length split ∙ length-append s.front (blanks ++ (59 ∷ rest)) in
     let m = length-append blanks (59 ∷ rest) in
     let x = length-drop at bytes in
-    let y = length-drop (semi + 1) bytes in
+    let y = length-drop behind bytes in
     let z : length (59 ∷ rest) ≡ suc (length rest) = refl in
-    let behind = f.behind in
+    let le = f.behind in
     record {
       exact = f.exact;
       cut_is = f.value_is;

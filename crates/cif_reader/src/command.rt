@@ -5,8 +5,8 @@ ghost use Rattle.lam_geom.specs.declared.place.Point.{Point};
 ghost use Rattle.cif_form.specs.Text.{right};
 ghost use Rattle.cif_form.specs.Readers.{and_then, gives, integer_from, point_from, path_here, comment_from};
 ghost use Rattle.cif_form.specs.Readers.{past_blanks, tail_from, then_separator, box_long, round_of, wire_of, call_of};
-ghost use Rattle.cif_form.specs.Readers.{start_of, scale_from, definition_from, layer_from, letter_from, user_of};
-ghost use Rattle.cif_form.specs.Readers.{words_from, command_from};
+ghost use Rattle.cif_form.specs.Readers.{start_of, scale_from, scale_under, definition_from, layer_from, letter_from};
+ghost use Rattle.cif_form.specs.Readers.{user_of, words_from, command_from};
 ghost use Rattle.cif_reader.specs.Capped.{cut_command, cut_point, cut_number, cut_scale};
 ghost use Rattle.cif_reader.specs.Finding.{Answers};
 
@@ -120,22 +120,30 @@ fn layer(alloc: Global, bytes: &[u8], at: usize) -> Read
     }))
 }
 
-// The scale of a definition, 1 where none is written.
-fn scale(bytes: &[u8], at: usize) -> Option<Found<(i64, i64)>>
+// The scale that is written behind the number of a definition.
+fn written_scale(bytes: &[u8], at: usize) -> Option<Found<(i64, i64)>>
     requires { at ≤ length bytes.now }
-    ensures { Answers cut_scale scale_from bytes.now at result }
+    ensures { Answers cut_scale (then_separator (and_then integer_from scale_under)) bytes.now at result }
 {
-    if !number_follows(bytes, at) {
-        return Some(Found {
-            value: (1, 1),
-            end: at,
-        });
-    }
     let a = then_integer(bytes, at)?;
     let b = then_integer(bytes, a.end)?;
     Some(Found {
         value: (a.value, b.value),
         end: b.end,
+    })
+}
+
+// The scale of a definition, 1 where none is written.
+fn scale(bytes: &[u8], at: usize) -> Option<Found<(i64, i64)>>
+    requires { at ≤ length bytes.now }
+    ensures { Answers cut_scale scale_from bytes.now at result }
+{
+    if number_follows(bytes, at) {
+        return written_scale(bytes, at);
+    }
+    Some(Found {
+        value: (1, 1),
+        end: at,
     })
 }
 

@@ -1,9 +1,9 @@
 //! Numbers, points, paths and turns.
 
-ghost use Rattle.std.specs.Prelude.{◌≡◌, ℕ, ◌≤◌, ◌<◌, length, drop, IfOk, IfSome, MatchOption};
+ghost use Rattle.std.specs.Prelude.{◌≡◌, ℕ, ◌≤◌, ◌<◌, [], length, drop, pos, neg_ℤ, None, IfOk, IfSome, MatchOption};
 ghost use Rattle.cif_form.specs.declared.limits.TheConstants.{NUMBER_LIMIT};
 ghost use Rattle.cif_form.specs.Readers.{natural_from, integer_from, signed_from, point_from, path_here, turn_from};
-ghost use Rattle.cif_form.specs.Readers.{turns_here, past_blanks, then_separator, mirror_from};
+ghost use Rattle.cif_form.specs.Readers.{and_then, gives, turns_here, past_blanks, then_separator, mirror_from};
 ghost use Rattle.cif_reader.specs.Capped.{cut, cut_number, cut_point, cut_path, cut_turn, cut_turns};
 ghost use Rattle.cif_reader.specs.Finding.{Answers, IsFound};
 
@@ -37,17 +37,39 @@ fn natural(bytes: &[u8], at: usize) -> Option<Found<u64>>
     })
 }
 
+// The number of the digits that begin here.
+fn unsigned(bytes: &[u8], at: usize) -> Option<Found<i64>>
+    requires { at ≤ length bytes.now }
+    ensures answers { Answers cut_number (and_then natural_from (gives pos)) bytes.now at result }
+    ensures further { IfSome result (λ r. at < r.end) }
+{
+    let Found { value, end } = natural(bytes, at)?;
+    Some(Found {
+        value: value as i64,
+        end,
+    })
+}
+
+// The same behind a `-`.
+fn negative(bytes: &[u8], at: usize) -> Option<Found<i64>>
+    requires { at ≤ length bytes.now }
+    ensures answers { Answers cut_number (and_then natural_from (gives (λ n. neg_ℤ (pos n)))) bytes.now at result }
+    ensures further { IfSome result (λ r. at < r.end) }
+{
+    let Found { value, end } = natural(bytes, at)?;
+    Some(Found {
+        value: -(value as i64),
+        end,
+    })
+}
+
 /// A number without a sign.
 pub(crate) fn integer(bytes: &[u8], at: usize) -> Option<Found<i64>>
     requires { at ≤ length bytes.now }
     ensures answers { Answers cut_number integer_from bytes.now at result }
     ensures further { IfSome result (λ r. at < r.end) }
 {
-    let Found { value, end } = natural(bytes, past_separators(bytes, at))?;
-    Some(Found {
-        value: value as i64,
-        end,
-    })
+    unsigned(bytes, past_separators(bytes, at))
 }
 
 /// A number that may have a sign.
@@ -58,17 +80,9 @@ pub(crate) fn signed(bytes: &[u8], at: usize) -> Option<Found<i64>>
 {
     let start = past_separators(bytes, at);
     if start < bytes.len() && bytes[start] == b'-' {
-        let Found { value, end } = natural(bytes, start + 1)?;
-        return Some(Found {
-            value: -(value as i64),
-            end,
-        });
+        return negative(bytes, start + 1);
     }
-    let Found { value, end } = natural(bytes, start)?;
-    Some(Found {
-        value: value as i64,
-        end,
-    })
+    unsigned(bytes, start)
 }
 
 /// A point.
@@ -107,8 +121,34 @@ pub(crate) fn then_point(bytes: &[u8], at: usize) -> Option<Found<Point>>
     point(bytes, next)
 }
 
+// Adds the points of a path, and tells where it ends.
+fn add_points(
+    bytes: &[u8],
+    at: usize,
+    points: &mut List<Point>,
+) -> Result<Option<usize>, AllocError>
+    requires within { at ≤ length bytes.now }
+    requires empty { points.old ≡ [] }
+    ensures { IfOk result (λ end. MatchOption end (path_here (drop at bytes.now) ≡ None)
+        (IsFound cut_path (path_here (drop at bytes.now)) bytes.now at points.new)) }
+{
+    let mut from = at;
+    'points: loop {
+        let Some(Found { value, end }) = point(bytes, from) else {
+            return Ok(None);
+        };
+        points.push(value)?;
+        if !number_follows(bytes, end) {
+            return Ok(Some(end));
+        }
+        let Some(next) = separator(bytes, end) else {
+            return Ok(None);
+        };
+        from = next;
+    }
+}
+
 /// The points of a path.
-#[tactic(auto, using(crate::proofs::Paths::path_begins, crate::proofs::Paths::path_goes_on, crate::proofs::Paths::path_ends, crate::proofs::Paths::path_lacks, crate::proofs::Paths::path_stops))]
 pub(crate) fn path(
     alloc: Global,
     bytes: &[u8],
@@ -118,20 +158,10 @@ pub(crate) fn path(
     ensures { IfOk result (λ r. Answers cut_path path_here bytes.now at r) }
 {
     let mut points = List::new(alloc);
-    let mut from = at;
-    'points: loop {
-        let Some(Found { value, end }) = point(bytes, from) else {
-            return Ok(None);
-        };
-        points.push(value)?;
-        if !number_follows(bytes, end) {
-            return Ok(Some(Found { value: points, end }));
-        }
-        let Some(next) = separator(bytes, end) else {
-            return Ok(None);
-        };
-        from = next;
-    }
+    let Some(end) = add_points(bytes, at, &mut points)? else {
+        return Ok(None);
+    };
+    Ok(Some(Found { value: points, end }))
 }
 
 // The axis of a mirror.
@@ -143,12 +173,17 @@ fn mirror(bytes: &[u8], at: usize) -> Option<Found<Turn>>
     if at == bytes.len() {
         return None;
     }
-    let value = match bytes[at] {
-        b'X' => Turn::MirrorX,
-        b'Y' => Turn::MirrorY,
-        _ => return None,
-    };
-    Some(Found { value, end: at + 1 })
+    match bytes[at] {
+        b'X' => Some(Found {
+            value: Turn::MirrorX,
+            end: at + 1,
+        }),
+        b'Y' => Some(Found {
+            value: Turn::MirrorY,
+            end: at + 1,
+        }),
+        _ => None,
+    }
 }
 
 // A turn, with no blanks in front of it.

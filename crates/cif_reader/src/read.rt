@@ -1,13 +1,13 @@
 //! Files.
 
 ghost use Rattle.std.specs.Prelude.{◌≡◌, ◌≢◌, ℕ, ◌+◌, ◌-◌, ◌≤◌, ◌<◌, List, [], length, drop, slice_index, Bool, false};
-ghost use Rattle.std.specs.Prelude.{OnOk, IfOk, IfErr, MatchOption, MatchResult};
+ghost use Rattle.std.specs.Prelude.{◌∷◌, OnOk, IfOk, IfErr, MatchOption, MatchResult};
 ghost use Rattle.mp_base.specs.declared.refusal.Family.TheVariants.{C};
 ghost use Rattle.mp_base.specs.declared.refusal.Spot.TheVariants.{Offset};
 ghost use Rattle.mp_base.specs.declared.refusal.Refusal.TheVariants as refusals;
 ghost use Rattle.cif_form.specs.declared.command.Item.{Item};
 ghost use Rattle.cif_form.specs.Fits.{Fits};
-ghost use Rattle.cif_form.specs.Readers.{is_blank};
+ghost use Rattle.cif_form.specs.Readers.{is_blank, past_blanks};
 ghost use Rattle.cif_form.specs.Scans.{TextEnd, IsReadable, IsLateEnd, opens, Scans, FileScans};
 ghost use Rattle.cif_form.specs.Scans.TextEnd.{Whole};
 ghost use Rattle.cif_reader.specs.Refusing.{Refuses, RefusesAt, IsRead, IsStep};
@@ -35,8 +35,21 @@ fn broken(number: u16, offset: usize) -> Refusal
     })
 }
 
+// Where the rest begins behind blanks and a semicolon.
+fn past_semicolon(bytes: &[u8], at: usize) -> Option<usize>
+    requires { at ≤ length bytes.now }
+    ensures { MatchOption result ((more : List ℕ) → past_blanks (drop at bytes.now) ≢ 59 ∷ more)
+        (λ end. (past_blanks (drop at bytes.now) ≡ 59 ∷ drop end bytes.now) × (at < end) × (end ≤ length bytes.now)) }
+{
+    let semicolon = past_blanks(bytes, at);
+    if semicolon < bytes.len() && bytes[semicolon] == b';' {
+        Some(semicolon + 1)
+    } else {
+        None
+    }
+}
+
 // The command that begins here, up to its semicolon.
-#[tactic(auto, using(crate::proofs::Readable::unread_lacks, crate::proofs::Readable::unread_cut, crate::proofs::Readable::unread_other, crate::proofs::Readable::command_read))]
 fn whole_command(
     alloc: Global,
     bytes: &[u8],
@@ -50,17 +63,11 @@ fn whole_command(
     let Some(Found { value, end }) = command(alloc, bytes, at)? else {
         return Ok(None);
     };
-    let semicolon = past_blanks(bytes, end);
-    if semicolon == bytes.len() {
+    let Some(end) = past_semicolon(bytes, end) else {
+        drop(value);
         return Ok(None);
-    }
-    if bytes[semicolon] != b';' {
-        return Ok(None);
-    }
-    Ok(Some(Found {
-        value,
-        end: semicolon + 1,
-    }))
+    };
+    Ok(Some(Found { value, end }))
 }
 
 // Whether a definition is open behind a command, or nothing where the command can't stand there.
@@ -158,6 +165,32 @@ fn late_end(bytes: &[u8]) -> Option<usize>
     }
 }
 
+// Adds the commands of a file up to its end.
+fn add_commands(alloc: Global, bytes: &[u8], cif: &mut Cif) -> Result<(), Refusal>
+    requires empty { cif.old ≡ [] }
+    requires early { (offset : ℕ) → IsLateEnd bytes.now offset → ⊥ }
+    ensures whole { OnOk result (FileScans bytes.now cif.new Whole) }
+    ensures first { IfErr result (Refuses bytes.now) }
+{
+    let mut inside = false;
+    let mut at = 0;
+    'commands: loop {
+        let start = skip(bytes, at);
+        if start == bytes.len() {
+            return Err(broken(2, start));
+        }
+        if bytes[start] == b'E' {
+            finish(bytes, start, inside)?;
+            return Ok(());
+        }
+        let next = next_step(alloc, bytes, start, inside)?;
+        cif.push(start as u64, &next.command)?;
+        inside = next.inside;
+        at = next.end;
+        drop(next);
+    }
+}
+
 /// The commands of a CIF file, each with the offset of its first byte.
 ///
 /// Refuses a file that breaks a rule, the first of them as the file is read: C1 (no command can be read where one
@@ -172,21 +205,6 @@ pub fn read_cif(alloc: Global, bytes: &[u8]) -> Result<Cif, Refusal>
         return Err(broken(1, offset));
     }
     let mut cif = Cif::new(alloc);
-    let mut inside = false;
-    let mut at = 0;
-    'commands: loop {
-        let start = skip(bytes, at);
-        if start == bytes.len() {
-            return Err(broken(2, start));
-        }
-        if bytes[start] == b'E' {
-            finish(bytes, start, inside)?;
-            return Ok(cif);
-        }
-        let next = next_step(alloc, bytes, start, inside)?;
-        cif.push(start as u64, &next.command)?;
-        inside = next.inside;
-        at = next.end;
-        drop(next);
-    }
+    add_commands(alloc, bytes, &mut cif)?;
+    Ok(cif)
 }

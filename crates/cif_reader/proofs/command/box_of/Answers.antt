@@ -1,18 +1,10 @@
-use Rattle.std.proofs.Common.{◌≡◌, ℕ, List, refl, ◌∙◌, ap, arith, w64, to_z, of_z, drop, Option, Some, None}
+use Rattle.std.proofs.Common.{◌≡◌, ◌∙◌, ap, arith, w64, to_z, of_z, drop}
 use Rattle.std.proofs.lemmas.Int.{ints}
 use Rattle.cif_form.specs.declared.command.Command.TheVariants.{Box}
-use Rattle.cif_form.specs.Readers.{Reader, goes_on, and_then, gives, separator_from, then_separator, integer_from}
+use Rattle.cif_form.specs.Readers.{goes_on, gives, integer_from}
 use Rattle.cif_form.specs.Readers.{point_from, box_long, box_sized, box_at}
+use Rattle.cif_reader.proofs.Readers.{both}
 use Rattle.cif_reader.proofs.command.box_of.Goals as goal
-
--- a separator and the one, and then the other
-both : {A B : Type 0} (p : Reader A) (q : A → Reader B) (text : List ℕ)
-    → then_separator (and_then p q) text ≡ goes_on q (then_separator p text)
-both p q text = at (separator_from text)
-  where
-    at : (r : Option (Unit {0} × List ℕ)) → goes_on (λ _. and_then p q) r ≡ goes_on q (goes_on (λ _. p) r)
-    at None = refl
-    at (Some r) = refl
 
 pub returns : goal.returns
 returns c =

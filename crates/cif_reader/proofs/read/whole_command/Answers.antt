@@ -1,12 +1,21 @@
-use Rattle.std.proofs.Common.{◌<◌, ◌≤◌, length, arith}
-use Rattle.cif_reader.proofs.Readable.{command_read}
+use Rattle.std.proofs.Common.{drop, arith}
+use Rattle.cif_reader.proofs.Readable.{unread_lacks, unread_open, command_read}
 use Rattle.cif_reader.proofs.read.whole_command.Goals as goal
+
+pub returns-in_default : goal.returns-in_default
+returns-in_default c =
+    let none = rw c.in_default.is at c.in_ok-value.ensures in
+    unread_lacks c.command_is_found.ensures (drop c.args.at c.args.bytes.now) none
+
+pub returns-in_default-past_semicolon : goal.returns-in_default-past_semicolon
+returns-in_default-past_semicolon c =
+    let f = rw c.in-Some.is at c.in_ok-value.ensures in
+    unread_open c.command_is_found.ensures (drop c.args.at c.args.bytes.now) f.exact
+    (drop c.in-Some.field-0.end c.args.bytes.now) f.found c.in_default-past_semicolon.ensures
 
 pub returns : goal.returns
 returns c =
     let f = rw c.in-Some.is at c.in_ok-value.ensures in
-    let within : c.args.at ≤ length c.args.bytes.now = omega arith in
-    let less : c.past_blanks-semicolon.result < length c.args.bytes.now = omega arith in
-    command_read c.args.bytes.now c.args.at c.past_blanks-semicolon.result c.in-Some.field-0.end
-    c.in-Some.field-0.value within f c.past_blanks-semicolon.ensures.rest
-    c.past_blanks-semicolon.ensures.behind less c.if-bytes-semicolon-ne59.false
+    let (semicolon, behind, within) = c.in-Some-past_semicolon.ensures in
+    command_read c.args.bytes.now c.args.at c.in-Some.field-0.end c.in-Some-past_semicolon.end c.in-Some.field-0.value
+    (omega arith) f semicolon behind within

@@ -1,6 +1,6 @@
 use Rattle.std.proofs.Common.{◌≤◌, ◌-◌, length}
 use Rattle.cif_reader.proofs.Paths.{PathSoFar}
-use Rattle.cif_reader.proofs.numbers.path.Given as goal
+use Rattle.cif_reader.proofs.numbers.add_points.Given as goal
 
 abbrev pub invariant-points : goal.invariant-points
 invariant-points l = record {
