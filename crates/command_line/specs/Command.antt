@@ -5,6 +5,7 @@ use Rattle.std.specs.declared.alloc.Global.{Global}
 use Rattle.std.specs.List.{list_any}
 use Rattle.std.specs.Str.{bytes_eq}
 use Rattle.command_line.specs.Number.{number_in}
+use Rattle.command_line.specs.declared.command.TheConstants.{CLOCK_LIMIT}
 use Rattle.command_line.specs.declared.command.Command as rust
 use Rattle.command_line.specs.declared.command.Command.TheVariants as rust_variants
 
@@ -39,9 +40,9 @@ abbrev pub three : (List ℕ → List ℕ → List ℕ → Command) → List (Li
 three make (a ∷ b ∷ c ∷ []) = Some (make a b c)
 three make words = None
 
--- a board that runs for 1 to 65536 clocks, which a word of at most five digits spells
+-- a board that runs for 1 to CLOCK_LIMIT clocks, which a word of at most five digits spells
 abbrev pub board_for : List ℕ → List ℕ → List ℕ → List (List ℕ) → Option Command
-board_for source cif clocks links = option_map (λ n. Board source cif n links) (number_in 5 1 65536 clocks)
+board_for source cif clocks links = option_map (λ n. Board source cif n links) (number_in 5 1 CLOCK_LIMIT clocks)
 
 -- a board of three words, and one link or more
 abbrev pub board_of : List (List ℕ) → Option Command

@@ -20,7 +20,7 @@ fn words<'a>(alloc: Global, id: &'a str) -> Arg<'a>
     ensures rule { rule_of result ≡ spec.words id.entry.now }
     ensures local { result.global ≡ false }
 {
-    Arg::new(alloc, id).required(true).num_args(1..)
+    word(alloc, id).num_args(1..)
 }
 
 // A subcommand that takes a word for each id.

@@ -13,9 +13,12 @@ use clap::error::ErrorKind;
 use clap::{ArgMatches, Error};
 use std::alloc::{AllocError, Global};
 
+/// The most clocks that a board runs.
+pub const CLOCK_LIMIT: u64 = 65536;
+
 /// A command, by the names of its files. A board's links are the words as they stand; its number of clocks is from 1 to
-/// 65536.
-#[derive(Clone, Copy, Debug, PartialEq, Eq)]
+/// `CLOCK_LIMIT`.
+#[derive(Clone, Copy, Debug)]
 pub enum Command<'a> {
     Trace(&'a str, &'a str),
     Compile(&'a str, &'a str),

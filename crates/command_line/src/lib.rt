@@ -6,4 +6,4 @@ mod command;
 mod matched;
 mod number;
 
-pub use command::{Command, command_of};
+pub use command::{CLOCK_LIMIT, Command, command_of};

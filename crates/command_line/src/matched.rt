@@ -6,10 +6,11 @@ ghost use Rattle.clap.specs.Words.{first_of, found_of, rows_of, subcommand_rows_
 ghost use Rattle.command_line.specs.Command as spec;
 ghost use Rattle.command_line.specs.Command.{seen};
 ghost use Rattle.command_line.specs.Number.{number_in};
+ghost use Rattle.command_line.specs.declared.command.TheConstants.{CLOCK_LIMIT};
 ghost use Rattle.command_line.specs.Read.{read_board, read_make, read_met, read_named};
 ghost use Rattle.command_line.specs.Read.{read_one, read_two, read_three};
 
-use crate::command::Command;
+use crate::command::{CLOCK_LIMIT, Command};
 use crate::number::number_in;
 use clap::ArgMatches;
 
@@ -66,9 +67,9 @@ fn stats<'a>(matches: &ArgMatches<'a>) -> Option<Command<'a>>
 
 // How many clocks a board runs.
 fn clocks(word: &str) -> Option<u32>
-    ensures { result ≡ number_in 5 1 65536 word.now }
+    ensures { result ≡ number_in 5 1 CLOCK_LIMIT word.now }
 {
-    let clocks = number_in(word, 5, 1, 65536)?;
+    let clocks = number_in(word, 5, 1, CLOCK_LIMIT)?;
     Some(clocks as u32)
 }
 
