@@ -1,6 +1,6 @@
 -- A circuit that runs along a stimulus: how it is refused, and what it shows.
 use Rattle.std.proofs.Common.{◌≡◌, ◌≤◌, ◌<◌, ◌^◌, ◌∙◌, ℕ, List, [], refl, sym, ap, subst, arith, Option, Some, None}
-use Rattle.std.proofs.Common.{IfSome, Result, Ok, Err}
+use Rattle.std.proofs.Common.{IfSome, Result, Ok, Err, subst₂}
 use Rattle.std.specs.Prelude.{IsErrAnd}
 use Rattle.mp_base.specs.declared.value.Trit.{Trit}
 use Rattle.mp_base.specs.declared.value.Trit.TheVariants.{X}
@@ -162,6 +162,13 @@ whole_shown net given before after faults now v w end text pads transcript taken
     ran end text pads transcript
     record { count = taken.count; within = taken.within; all = taken.all; cut = tt; taken = taken.taken }
     record { later = cause.later; ok = cause.ok; failed = tt } tt
+
+-- what is shown of a simulation is shown of the network and the stimulus that it was opened with
+pub opened_shown : (net found : Network) (given told : Stimulus) (before after : Option (List ℕ)) (faults now : ℕ)
+    (result : Result (Unit {0}) Halt) → found ≡ net → told ≡ given
+    → IsShown found told before after faults now result → IsShown net given before after faults now result
+opened_shown net found given told before after faults now result e f =
+    subst₂ (λ n s. IsShown n s before after faults now result) e f
 
 -- work that was refused has printed nothing
 pub shown_quiet : (net : Network) (given : Stimulus) (before after : Option (List ℕ)) (faults now : ℕ)

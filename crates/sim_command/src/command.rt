@@ -1,7 +1,10 @@
 //! The run of the circuit that masks draw, from files.
 
 ghost use Rattle.std.specs.Prelude.{◌≡◌, ◌≤◌, length, IfOk, IfSome};
+ghost use Rattle.mp_base.specs.declared.value.Trit.TheVariants.{X};
 ghost use Rattle.outside.specs.Outside.{Keeps, bytes_of};
+ghost use Rattle.switch_net.specs.Breaks.{HasPads};
+ghost use Rattle.settle.specs.Values.{value_at};
 ghost use Rattle.stimulus.specs.declared.limits.TheConstants.{CLOCK_LIMIT, PAD_LIMIT};
 ghost use Rattle.outcome.specs.Order.{IsStrayBy};
 ghost use Rattle.outcome.specs.World.{world_of, HasCauses, Leaves};
@@ -41,6 +44,17 @@ fn prepare<D: Depot>(alloc: Global, depot: &mut D, cif: &str, stimulus: &str) ->
     Ok(SetUp { network, given })
 }
 
+// Runs a circuit from unknown values, and prints its transcript.
+fn print<O: Sink>(simulation: &mut Simulation<'_>, out: &mut O) -> Result<(), Halt>
+    requires unknown { value_at simulation.old.values ≡ (λ node. X) }
+    requires has_pads { HasPads simulation.old.network simulation.old.given.pads }
+    ensures { IsShown simulation.old.network simulation.old.given (O.held out.old) (O.held out.new)
+        (O.faults out.old) (O.faults out.new) result }
+{
+    simulation.run(out)?;
+    Ok(())
+}
+
 // Runs the circuit of a network along a stimulus.
 fn show<O: Sink>(alloc: Global, network: Network, given: &Stimulus, out: &mut O) -> Result<(), Halt>
     requires few_inputs { length given.now.pads.inputs ≤ PAD_LIMIT }
@@ -49,8 +63,9 @@ fn show<O: Sink>(alloc: Global, network: Network, given: &Stimulus, out: &mut O)
         result }
 {
     let mut simulation = Simulation::open(alloc, network, given)?;
-    simulation.run(out)?;
-    Ok(())
+    let result = print(&mut simulation, out);
+    drop(simulation);
+    result
 }
 
 /// Prints the transcript of the circuit, from unknown values.

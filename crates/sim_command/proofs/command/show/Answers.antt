@@ -1,6 +1,7 @@
-use Rattle.std.proofs.Common.{refl}
+use Rattle.std.proofs.Common.{refl, sym, subst₂}
+use Rattle.switch_net.specs.Breaks.{HasPads}
 use Rattle.sim_command.specs.Showing.{refused}
-use Rattle.sim_command.proofs.Simulating.{few_inputs, few_clocks, cut_shown, whole_shown}
+use Rattle.sim_command.proofs.Simulating.{few_inputs, few_clocks, opened_shown}
 use Rattle.sim_command.proofs.command.show.Goals as goal
 
 pub open-requires-clause-few_inputs : goal.open-requires-clause-few_inputs
@@ -13,18 +14,16 @@ pub returns-in_err-simulation : goal.returns-in_err-simulation
 returns-in_err-simulation g c =
     refused c.in_err-simulation.field-0.0 c.in_err-simulation.ensures.refused c.from_residual.ensures.1 refl refl
 
-pub returns-in_err-run : goal.returns-in_err-run
-returns-in_err-run g c =
+pub print-result-requires-clause-unknown : goal.print-result-requires-clause-unknown
+print-result-requires-clause-unknown g c = c.in_ok-simulation.ensures.unknown
+
+pub print-result-requires-clause-has_pads : goal.print-result-requires-clause-has_pads
+print-result-requires-clause-has_pads g c =
     let opened = c.in_ok-simulation.ensures in
-    let shows = c.in_err-run.ensures in
-    let prints = shows.printed in
-    cut_shown c.args.network c.args.given.now _ _ _ _ c.from_residual-in_err-run.result c.in_err-run.field-0.0
-    prints.end prints.text opened.has_pads c.from_residual-in_err-run.ensures.1
-    (rw (opened.network, opened.given, opened.unknown) at prints.transcript) prints.taken shows.cause
+    subst₂ (λ net given. HasPads net given.pads) (sym opened.network) (sym opened.given) opened.has_pads
 
 pub returns : goal.returns
 returns g c =
     let opened = c.in_ok-simulation.ensures in
-    let prints = c.in_ok-run.ensures.printed in
-    whole_shown c.args.network c.args.given.now _ _ _ _ c.in_ok-run.field-0 tt prints.end prints.text opened.has_pads
-    (rw (opened.network, opened.given, opened.unknown) at prints.transcript) prints.taken c.in_ok-run.ensures.cause
+    opened_shown c.args.network c.in_ok-simulation.simulation.network c.args.given.now
+    c.in_ok-simulation.simulation.given _ _ _ _ c.print-result.result opened.network opened.given c.print-result.ensures
