@@ -13,7 +13,7 @@ use Rattle.mp_program.specs.Effects.{Effect, written}
 use Rattle.mp_program.specs.Environment.{clock_effects}
 use Rattle.mp_program.specs.State.{State, zero_state}
 use Rattle.mp_program.specs.Step.{next_seats, next_stored, next_state, resets}
-use Rattle.mp_program.proofs.Elements.{read_of, got}
+use Rattle.mp_base.proofs.Elements.{read_of, got}
 use Rattle.mp_program.proofs.States.{length-next_stored}
 use Rattle.form_effects.specs.Linked.{indices_where}
 use Rattle.program_clock.specs.Settled.{IsBare}

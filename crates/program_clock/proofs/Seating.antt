@@ -43,6 +43,23 @@ seat_at (y ∷ qs) (s ∷ ss) zero q fit lt is =
     subst (λ (z : Process). (s.place < length z.forms) × (length s.stack ≡ z.depth)) (sym is) (fit.0, fit.1)
 seat_at (y ∷ qs) (s ∷ ss) (suc k) q fit lt is = seat_at qs ss k q fit.3 (omega (arith, lt)) is
 
+-- a process and its seat, where both stand at one place
+pub record IsSeated (qs : List Process) (ss : List Seat) (k : ℕ) (q : Process) : Type 0 where
+  pub within : k < length qs
+  pub is : q ≡ get_or qs k q
+  pub has_seat : k < length ss
+  pub at_form : (get_or ss k no_seat).place < length q.forms
+  pub deep : length (get_or ss k no_seat).stack ≡ q.depth
+
+pub seated : (qs xs : List Process) (ss : List Seat) (k : ℕ) (q : Process) → xs ≡ qs → k < length xs → q ≡ get_or xs k q
+    → SeatsFit qs ss → IsSeated qs ss k q
+seated qs xs ss k q same lt is fit =
+    let within : k < length qs = subst (λ zs. k < length zs) same lt in
+    let here : q ≡ get_or qs k q = subst (λ zs. q ≡ get_or zs k q) same is in
+    let at = seat_at qs ss k q fit within here in
+    let count = length-seats qs ss fit in
+    record { within = within; is = here; has_seat = omega (arith, within, count); at_form = at.0; deep = at.1 }
+
 pub taken_at : (qs : List Process) (ss : List Seat) (k : ℕ) (q : Process) → SeatsFit qs ss → k < length qs
     → q ≡ get_or qs k q
     → get_or (places_taken qs ss) k 0 ≡ slice_index q.forms (get_or ss k no_seat).place
