@@ -1,26 +1,23 @@
 -- A word that stands already, and a net that is lifted.
-use Rattle.std.proofs.Common.{◌≡◌, ℕ, suc, ◌<◌, ◌≤◌, ◌+◌, ◌⊎◌, inl, inr, List, [], ◌∷◌, ◌++◌, Some, length, map, refl}
-use Rattle.std.proofs.Common.{sym, ◌∙◌, ap, subst, arith}
-use Rattle.std.specs.Prelude.{All}
+use Rattle.std.proofs.Common.{◌≡◌, ℕ, suc, ◌<◌, ◌≤◌, ◌+◌, inl, inr, List, [], ◌∷◌, ◌++◌, Some, length, refl}
+use Rattle.std.proofs.Common.{sym, ap, arith}
 use Rattle.std.proofs.lemmas.Option.{none-some}
-use Rattle.std.proofs.lemmas.List.Elements.{All-nil, All-cons}
-use Rattle.std.proofs.lemmas.Bool.{cases_eq}
+use Rattle.std.proofs.lemmas.List.Elements.{All-nil}
 use Rattle.std.proofs.lemmas.List.{append-nil, length-set}
 use Rattle.nor_net.specs.declared.net.NetId.{NetId}
 use Rattle.nor_net.specs.declared.net.Part.TheVariants.{Latch}
 use Rattle.organelles.specs.declared.slices.Programmed.{Programmed}
 use Rattle.control_nor.specs.Lowering.{Stands}
 use Rattle.path_form.specs.declared.path.Lift.{Lift}
-use Rattle.path_form.specs.Shape.{AreApart, times}
 use Rattle.datapath_making.specs.declared.making.Making.{Making}
-use Rattle.datapath_making.specs.Additions.{Addition, Adds, CastFits, ChainFits, Fits, LiftFits}
+use Rattle.datapath_making.specs.Additions.{Addition, Adds, CastFits, ChainFits, Fits}
 use Rattle.datapath_making.specs.Steps.{IsStep, IsWaited}
 use Rattle.datapath_making.specs.WellMade.{IsWellMade}
 use Rattle.datapath_making.proofs.Added.{named_on}
 use Rattle.datapath_making.proofs.Keeping.{grows_refl}
-use Rattle.datapath_making.proofs.Lists.{one_at, one_else, one_here, set_cases}
+use Rattle.datapath_making.proofs.Lists.{set_cases}
 use Rattle.datapath_making.proofs.Stepping.{step_by, well_plain}
-use Rattle.datapath_making.proofs.Lists.{one_stands}
+use Rattle.datapath_steps.proofs.Words.{lift_fits, lifts_apart_on}
 use Rattle.datapath_sharing.specs.Sharing.{IsLiftMade, with_word}
 
 -- ---- a word that stands already
@@ -81,41 +78,6 @@ module _ (e : ℕ) (id : NetId) (old : Making) (well : IsWellMade old) (within :
   }
 
 -- ---- a net that is lifted
-
-module _ (m : Making) (e : ℕ) (lift : Lift) (entry : IsWaited m e) (is_entry : Stands m.names.exprs e lift.control)
-  where
-    same_entry : entry.0 ≡ lift.control
-    same_entry = one_stands m.names.exprs e entry.0 lift.control entry.1 is_entry
-
-    lift_fits : (end : ℕ) → lift.from.0 < end → lift.slice < m.width → All (LiftFits m end) (lift ∷ [])
-    lift_fits end from low =
-        All-cons (LiftFits m end) lift [] (record {
-          slice = low;
-          from = from;
-          ahead = let a = entry.2 in let q = ap (λ (i : NetId). i.0) same_entry in omega (arith, a, q);
-        }) (All-nil (LiftFits m end))
-
-    lifts_apart_on : AreApart (map (λ (l : Lift). l.control) m.lifts)
-        → AreApart (map (λ (l : Lift). l.control) (m.lifts ++ lift ∷ []))
-    lifts_apart_on apart n = by_place (cases_eq lift.control.0 n)
-      where
-        total : times n (map (λ (l : Lift). l.control) (m.lifts ++ lift ∷ []))
-            ≡ times n (map (λ (l : Lift). l.control) m.lifts) + one_at n lift.control
-        total = mapped_push m.lifts
-          where
-            mapped_push : (ls : List Lift) → times n (map (λ (l : Lift). l.control) (ls ++ lift ∷ []))
-                ≡ times n (map (λ (l : Lift). l.control) ls) + one_at n lift.control
-            mapped_push [] = omega arith
-            mapped_push (l ∷ ls) = let r = mapped_push ls in omega (arith, r)
-
-        by_place : (lift.control.0 ≡ n) ⊎ (lift.control.0 ≡ n → ⊥)
-            → times n (map (λ (l : Lift). l.control) (m.lifts ++ lift ∷ [])) ≤ 1
-        by_place (inl q) =
-            let z = subst (λ i. times i (map (λ (l : Lift). l.control) m.lifts) ≡ 0)
-            (ap (λ (i : NetId). i.0) same_entry ∙ q) entry.3 in
-            let o = one_here n lift.control q in omega (arith, total, z, o)
-        by_place (inr ne) =
-            let o = one_else n lift.control ne in let a = apart n in omega (arith, total, o, a)
 
 module _ (e : ℕ) (old : Making) (lift : Lift) (lifts : List Lift) (is_lifts : lifts ≡ old.lifts ++ lift ∷ [])
     (entry : IsWaited old e) (is_entry : Stands old.names.exprs e lift.control)

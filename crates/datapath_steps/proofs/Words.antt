@@ -159,10 +159,10 @@ read_well e c old well = record {
 
 module _ (m : Making) (e : ℕ) (lift : Lift) (entry : IsWaited m e) (is_entry : Stands m.names.exprs e lift.control)
   where
-    same_entry : entry.0 ≡ lift.control
+    pub same_entry : entry.0 ≡ lift.control
     same_entry = one_stands m.names.exprs e entry.0 lift.control entry.1 is_entry
 
-    lift_fits : (end : ℕ) → lift.from.0 < end → lift.slice < m.width → All (LiftFits m end) (lift ∷ [])
+    pub lift_fits : (end : ℕ) → lift.from.0 < end → lift.slice < m.width → All (LiftFits m end) (lift ∷ [])
     lift_fits end from low =
         All-cons (LiftFits m end) lift [] (record {
           slice = low;
@@ -170,7 +170,7 @@ module _ (m : Making) (e : ℕ) (lift : Lift) (entry : IsWaited m e) (is_entry :
           ahead = let a = entry.2 in let q = ap (λ (i : NetId). i.0) same_entry in omega (arith, a, q);
         }) (All-nil (LiftFits m end))
 
-    lifts_apart_on : AreApart (map (λ (l : Lift). l.control) m.lifts)
+    pub lifts_apart_on : AreApart (map (λ (l : Lift). l.control) m.lifts)
         → AreApart (map (λ (l : Lift). l.control) (m.lifts ++ lift ∷ []))
     lifts_apart_on apart n = by_place (cases_eq lift.control.0 n)
       where
