@@ -1,5 +1,5 @@
 -- The commands that have a text.
-use Rattle.std.specs.Prelude.{◌<◌, ◌≤◌, ◌≢◌, ◌^◌, List, [], ◌∷◌, ◌++◌, length, All, ℤ, pos, ◌≤ℤ◌, nat_abs}
+use Rattle.std.specs.Prelude.{◌<◌, ◌≤◌, ◌≢◌, List, [], ◌∷◌, ◌++◌, length, All, ℤ, pos, ◌≤ℤ◌, nat_abs}
 use Rattle.std.specs.List.{flat_map}
 use Rattle.lam_geom.specs.declared.place.Point.{Point}
 use Rattle.cif_form.specs.declared.command.Turn.{Turn}

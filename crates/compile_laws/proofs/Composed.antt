@@ -31,15 +31,7 @@ use Rattle.process_plan.specs.Same.{IsSame}
 use Rattle.chip_laws.specs.Planned.{IsPlanned}
 use Rattle.cif_emit.specs.Emitted.{IsEmitted}
 use Rattle.compile_laws.proofs.Sizes.{same_sizes}
-use Rattle.compile_laws.specs.Laws.{
-  most_high,
-  most_rects,
-  most_wide,
-  IsBounded,
-  IsSmallPlan,
-  IsSmallChipOf,
-  MakesChips,
-}
+use Rattle.compile_laws.specs.Laws.{most_high, most_rects, most_wide, IsBounded, IsSmallChipOf, MakesChips}
 use Rattle.compile_laws.proofs.Sequenced.{shows, settles}
 
 placed : (semi : List ℕ) (offset : ℕ) (cs : List Command)

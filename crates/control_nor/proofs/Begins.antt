@@ -18,10 +18,10 @@ use Rattle.rtl_form.specs.declared.rtl.CellKind.{CellKind}
 use Rattle.rtl_form.specs.declared.rtl.CellKind.TheVariants as kinds
 use Rattle.rtl_form.specs.declared.rtl.Transfer.{Transfer}
 use Rattle.rtl_form.specs.declared.rtl.Rtl.{Rtl}
-use Rattle.rtl_form.specs.Entries.{IsAt}
+use Rattle.mp_base.specs.Entries.{IsAt}
+use Rattle.mp_base.proofs.ListEntries.{one_entry, some_entry, get_at}
 use Rattle.rtl_form.specs.Environment.{is_driven, is_stored}
 use Rattle.rtl_form.specs.Sound.{CellFits, HasSort, IsReset, IsSound}
-use Rattle.rtl_form.proofs.Members.{one_entry, some_entry}
 use Rattle.task_schedule.specs.declared.task.Task.{Task}
 use Rattle.task_schedule.specs.declared.task.Task.TheVariants.{Expr, Cell}
 use Rattle.bit_gates.specs.declared.rails.Rails.{Rails}
@@ -35,7 +35,6 @@ use Rattle.bit_gates.specs.Rails.{AreBelow, IsNamed, Named}
 use Rattle.task_schedule.specs.Schedule.{IsSchedule, IsTask}
 use Rattle.control_nor.specs.Tasks.{entry_of}
 use Rattle.bit_gates.proofs.Adding.{logic_keep}
-use Rattle.control_nor.proofs.Progress.{at_get}
 
 pub none_named : (n k : ℕ) (rails : Rails) → Named (replicate n None) k rails → ⊥
 none_named zero k rails e = none-some (Some rails) e
@@ -67,7 +66,7 @@ pub has_reset : (r : Rtl) → IsSound r → (c : ℕ) (x : cells.Cell) → IsAt 
     → (reset : ℕ) × (r.reset ≡ Some reset)
 has_reset r sound c x at kind =
     by_reset r.reset refl (sound.resets (any_passes_from_place (λ (x : cells.Cell). is_stored x.kind) r.cells c x
-    (at_get r.cells c x at) (ap is_stored kind)))
+    (get_at r.cells c x at) (ap is_stored kind)))
   where
     by_reset : (o : Option ℕ) → r.reset ≡ o → IsSome o → (reset : ℕ) × (r.reset ≡ Some reset)
     by_reset None e h = absurd (cc h)

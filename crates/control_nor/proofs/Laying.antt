@@ -17,10 +17,10 @@ use Rattle.rtl_form.specs.declared.rtl.Transfer.{Transfer}
 use Rattle.rtl_form.specs.declared.rtl.RtlExpr.{RtlExpr}
 use Rattle.rtl_form.specs.declared.rtl.RtlExpr.TheVariants as exprs
 use Rattle.rtl_form.specs.declared.rtl.Rtl.{Rtl}
-use Rattle.rtl_form.specs.Entries.{IsAt}
+use Rattle.mp_base.specs.Entries.{IsAt}
+use Rattle.mp_base.proofs.ListEntries.{one_entry}
 use Rattle.rtl_form.specs.Sound.{IsSound}
 use Rattle.rtl_form.specs.Values.{value_of}
-use Rattle.rtl_form.proofs.Members.{one_entry}
 use Rattle.task_schedule.specs.declared.task.Task.{Task}
 use Rattle.task_schedule.specs.declared.task.Task.TheVariants.{Expr, Cell}
 use Rattle.bit_gates.specs.declared.rails.Rails.{Rails}

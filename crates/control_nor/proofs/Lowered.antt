@@ -1,5 +1,5 @@
 -- The nets of all bits, with their names.
-use Rattle.std.proofs.Common.{◌≡◌, ℕ, zero, suc, ◌+◌, ◌-◌, ◌*◌, ◌<◌, ◌≤◌, ◌⊎◌, inl, inr, List, [], ◌∷◌, ◌++◌, Option}
+use Rattle.std.proofs.Common.{◌≡◌, ℕ, zero, suc, ◌+◌, ◌<◌, ◌≤◌, ◌⊎◌, inl, inr, List, [], ◌∷◌, ◌++◌, Option}
 use Rattle.std.proofs.Common.{Some, None, Bool, true, false, length, map, replicate, get_or, refl, sym, ◌∙◌, ap, subst}
 use Rattle.std.proofs.Common.{arith, cond, eqb}
 use Rattle.std.specs.Prelude.{All, Contains, not, ◌&&◌, ◌||◌, ◌==◌, if◌then◌else◌, slice_get, slice_index, unwrap_or}
@@ -20,11 +20,10 @@ use Rattle.rtl_form.specs.declared.rtl.CellKind.TheVariants as kinds
 use Rattle.rtl_form.specs.declared.rtl.RtlExpr.{RtlExpr}
 use Rattle.rtl_form.specs.declared.rtl.RtlExpr.TheVariants as exprs
 use Rattle.rtl_form.specs.declared.rtl.Rtl.{Rtl}
-use Rattle.rtl_form.specs.Entries.{IsAt}
+use Rattle.mp_base.specs.Entries.{IsAt}
 use Rattle.rtl_form.specs.Environment.{is_driven}
 use Rattle.rtl_form.specs.Operands.{takes_words, gives_word}
 use Rattle.rtl_form.specs.Sound.{CellFits, HasSort, IsSort, IsSound}
-use Rattle.rtl_form.proofs.Members.{one_entry}
 use Rattle.control_nor.specs.declared.names.Names.{Names}
 use Rattle.task_schedule.specs.declared.task.Task.{Task}
 use Rattle.task_schedule.specs.declared.task.Task.TheVariants.{Expr, Cell}
@@ -42,7 +41,7 @@ use Rattle.task_schedule.specs.Schedule.{IsSchedule, IsTask}
 use Rattle.bit_gates.specs.Size.{IsWithinCost, bit_cost, entry_count}
 use Rattle.bit_gates.proofs.Adding.{get_at, logic_keep, logic_longer}
 use Rattle.control_nor.proofs.Begins.{cell_named, expr_named, first_rails, has_reset, in_tasks, is_stored_from}
-use Rattle.control_nor.proofs.Begins.{slaves_behind, stored_kind}
+use Rattle.control_nor.proofs.Begins.{slaves_behind}
 use Rattle.control_nor.proofs.Costs.{bit_cost_most, left_all, rounds}
 use Rattle.control_nor.proofs.FirstSteps.{in_more}
 use Rattle.control_nor.proofs.Named.{named_stands, stands_named}
@@ -69,6 +68,7 @@ use Rattle.rtl_form.specs.Written.{written}
 use Rattle.std.proofs.lemmas.List.Elements.{All-filter, Contains-get_or, filter_passes}
 use Rattle.mp_base.proofs.Induction.{by_test}
 use Rattle.mp_base.proofs.Entries.{get_front}
+use Rattle.mp_base.proofs.ListEntries.{one_entry}
 
 length_map : (xs : List (Option Rails)) → length (map net_of xs) ≡ length xs
 length_map [] = refl

@@ -21,7 +21,7 @@ use Rattle.rtl_form.specs.declared.rtl.Transfer.{Transfer}
 use Rattle.rtl_form.specs.declared.rtl.RtlExpr.{RtlExpr}
 use Rattle.rtl_form.specs.declared.rtl.RtlExpr.TheVariants as exprs
 use Rattle.rtl_form.specs.declared.rtl.Rtl.{Rtl}
-use Rattle.rtl_form.specs.Entries.{IsAt}
+use Rattle.mp_base.specs.Entries.{IsAt}
 use Rattle.rtl_form.specs.Operands.{takes, takes_words, gives_word}
 use Rattle.rtl_form.specs.Sound.{ExprFits, HasSort, IsSort, IsSound}
 use Rattle.rtl_form.specs.Values.{value_of, expr_value}

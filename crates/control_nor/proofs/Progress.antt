@@ -2,7 +2,7 @@
 use Rattle.std.proofs.Common.{◌≡◌, ℕ, ◌+◌, ◌≤◌, ◌⊎◌, inl, inr, List, Option, Some, None, Bool, true, false, length}
 use Rattle.std.proofs.Common.{refl, sym, ◌∙◌, ap, subst, arith}
 use Rattle.std.specs.Prelude.{MatchBool, ◌&&◌, not, slice_get, if◌then◌else◌}
-use Rattle.std.proofs.lemmas.Option.{none-some, same_Some, slice_get_within, slice_get-get_or}
+use Rattle.std.proofs.lemmas.Option.{none-some, same_Some, slice_get_within}
 use Rattle.std.proofs.lemmas.List.{length-set}
 use Rattle.mp_base.proofs.Entries.{get_set_same, get_set_other}
 use Rattle.std.proofs.lemmas.Bool.{cases_eq}
@@ -10,9 +10,9 @@ use Rattle.nor_net.specs.declared.net.Part.{Part}
 use Rattle.rtl_form.specs.declared.rtl.Cell as cells
 use Rattle.rtl_form.specs.declared.rtl.RtlExpr.{RtlExpr}
 use Rattle.rtl_form.specs.declared.rtl.Rtl.{Rtl}
-use Rattle.rtl_form.specs.Entries.{IsAt}
+use Rattle.mp_base.specs.Entries.{IsAt}
+use Rattle.mp_base.proofs.ListEntries.{one_entry, get_at}
 use Rattle.rtl_form.specs.Environment.{is_driven}
-use Rattle.rtl_form.proofs.Members.{one_entry}
 use Rattle.task_schedule.specs.declared.task.Task.{Task}
 use Rattle.task_schedule.specs.declared.task.Task.TheVariants.{Expr, Cell}
 use Rattle.bit_gates.specs.declared.rails.Rails.{Rails}
@@ -29,9 +29,6 @@ use Rattle.control_nor.specs.Tasks.{IsTaskMade, entry_of, with_entry}
 use Rattle.bit_gates.proofs.Adding.{logic_none}
 use Rattle.control_nor.proofs.Left.{left_some, set_there, waits_fall}
 use Rattle.control_nor.proofs.Made.{AreAdded, driven_added, expr_added, nothing_added}
-
-pub at_get : {X : Type 0} (xs : List X) (k : ℕ) (x : X) → IsAt xs k x → slice_get xs k ≡ Some x
-at_get xs k x h = slice_get-get_or xs k x h.0 ∙ ap Some (sym h.1)
 
 -- two tasks are the same or not
 pub task_cases : (x y : Task) → (x ≡ y) ⊎ (x ≡ y → ⊥)
@@ -149,9 +146,9 @@ module _ (r : Rtl) (old new : List Part) (before : Bits)
       cost = bit_expr_cost x;
       entries = entry_count x;
       within = added.within;
-      cost_is = let f = left_some bit_expr_cost before.exprs r.exprs e x rails was (at_get r.exprs e x at) in
+      cost_is = let f = left_some bit_expr_cost before.exprs r.exprs e x rails was (get_at r.exprs e x at) in
           omega (arith, f);
-      entries_is = left_some entry_count before.exprs r.exprs e x rails was (at_get r.exprs e x at);
+      entries_is = left_some entry_count before.exprs r.exprs e x rails was (get_at r.exprs e x at);
     };
   }
     where
@@ -171,8 +168,8 @@ module _ (r : Rtl) (old new : List Part) (before : Bits)
       cost = 2 + length (transfers_to r.transfers c);
       entries = 0;
       within = added.within;
-      cost_is = let f = left_some driven_cost before.cells r.cells c x rails was (at_get r.cells c x at) in
-          let g = waits_fall r.cells before.cells c x rails was (at_get r.cells c x at) driven r.transfers in
+      cost_is = let f = left_some driven_cost before.cells r.cells c x rails was (get_at r.cells c x at) in
+          let g = waits_fall r.cells before.cells c x rails was (get_at r.cells c x at) driven r.transfers in
           omega (arith, f, g, driven);
       entries_is = omega arith;
     };

@@ -12,10 +12,10 @@ use Rattle.rtl_form.specs.declared.rtl.Transfer.{Transfer}
 use Rattle.rtl_form.specs.declared.rtl.RtlExpr.{RtlExpr}
 use Rattle.rtl_form.specs.declared.rtl.RtlExpr.TheVariants as exprs
 use Rattle.rtl_form.specs.declared.rtl.Rtl.{Rtl}
-use Rattle.rtl_form.specs.Entries.{IsAt}
+use Rattle.mp_base.specs.Entries.{IsAt}
+use Rattle.mp_base.proofs.ListEntries.{one_entry, some_entry, get_at}
 use Rattle.rtl_form.specs.Environment.{is_driven}
 use Rattle.rtl_form.specs.Sound.{ExprFits, HasSort, IsSort, IsSound}
-use Rattle.rtl_form.proofs.Members.{one_entry, some_entry}
 use Rattle.task_schedule.specs.declared.task.Task.{Task}
 use Rattle.task_schedule.specs.declared.task.Task.TheVariants.{Expr, Cell}
 use Rattle.bit_gates.specs.declared.rails.Rails.{Rails}
@@ -30,7 +30,7 @@ use Rattle.bit_gates.specs.Size.{IsWithinCost, bit_expr_cost}
 use Rattle.control_nor.specs.Tasks.{IsTaskDone, IsTaskMade, IsTaskReady, entry_of, with_entry}
 use Rattle.bit_gates.proofs.Adding.{logic_none, logic_on, logic_longer}
 use Rattle.control_nor.proofs.Left.{left_least, waits_fall}
-use Rattle.control_nor.proofs.Progress.{IsStep, at_get, cells_after, entry_other, entry_same, exprs_after, named_after}
+use Rattle.control_nor.proofs.Progress.{IsStep, cells_after, entry_other, entry_same, exprs_after, named_after}
 use Rattle.control_nor.proofs.Progress.{names_stay, task_step}
 
 within_on : (c e d f : ℕ) (old middle new : List Part) → IsWithinCost c e old middle → IsWithinCost d f middle new
@@ -135,7 +135,7 @@ module _ (r : Rtl) (sound : IsSound r) (tasks : List Task) (schedule : IsSchedul
         by_task (Expr e) same =
             let x = some_entry r.exprs e (subst (IsTask r) same (schedule.only t task is)) in
             let waits = subst (λ k. entry_of after k ≡ Some None) same (progress.left t task (omega arith) is) in
-            let least = left_least bit_expr_cost after.exprs r.exprs e x.0 waits (at_get r.exprs e x.0 x.1) in
+            let least = left_least bit_expr_cost after.exprs r.exprs e x.0 waits (get_at r.exprs e x.0 x.1) in
             (x.0, x.1, exprs_ready e x.0 same x.1, room_for (bit_expr_cost x.0) room (omega (arith, least)))
         by_task (Cell c) same =
             let h = subst (IsTask r) same (schedule.only t task is) in
@@ -147,9 +147,9 @@ module _ (r : Rtl) (sound : IsSound r) (tasks : List Task) (schedule : IsSchedul
             cell_room c x at driven bit waiting =
                 let one : driven_count x ≡ 1 = ap (λ b. if b && not x.word then 1 else 0) driven
                 ∙ ap (λ b. if not b then 1 else 0) bit in
-                let least = left_least driven_cost after.cells r.cells c x waiting (at_get r.cells c x at) in
+                let least = left_least driven_cost after.cells r.cells c x waiting (get_at r.cells c x at) in
                 let rails : Rails = record { bit = record { 0 = 0 }; negation = record { 0 = 0 } } in
-                let fall = waits_fall r.cells after.cells c x rails waiting (at_get r.cells c x at) one r.transfers in
+                let fall = waits_fall r.cells after.cells c x rails waiting (get_at r.cells c x at) one r.transfers in
                 room_for (2 + length (transfers_to r.transfers c)) room (omega (arith, least, fall, one))
 
     -- one more task

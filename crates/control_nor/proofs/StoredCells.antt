@@ -16,8 +16,8 @@ use Rattle.nor_net.specs.declared.net.Part.TheVariants.{Input, Gate, Latch}
 use Rattle.rtl_form.specs.declared.rtl.Cell as cells
 use Rattle.rtl_form.specs.declared.rtl.Transfer.{Transfer}
 use Rattle.rtl_form.specs.declared.rtl.Rtl.{Rtl}
-use Rattle.rtl_form.specs.Entries.{IsAt}
-use Rattle.rtl_form.proofs.Members.{one_entry}
+use Rattle.mp_base.specs.Entries.{IsAt}
+use Rattle.mp_base.proofs.ListEntries.{one_entry, get_at}
 use Rattle.bit_gates.specs.declared.rails.Rails.{Rails}
 use Rattle.control_nor.specs.declared.names.Bits.{Bits}
 use Rattle.bit_gates.specs.Adding.{HasRoom, IsCounted}
@@ -30,8 +30,7 @@ use Rattle.bit_gates.proofs.Adding.{counted_list, counted_on}
 use Rattle.control_nor.proofs.FirstSteps.{in_more}
 use Rattle.control_nor.proofs.Left.{one_if, sum_split}
 use Rattle.bit_gates.proofs.Next.{source_counted, source_gates}
-use Rattle.control_nor.proofs.Progress.{at_get}
-use Rattle.control_nor.proofs.StoredBits.{elsewhere, grown_length, never_fed, new_length, obeys_kept, slave_below}
+use Rattle.control_nor.proofs.StoredBits.{elsewhere, new_length, obeys_kept}
 use Rattle.control_nor.proofs.StoredBits.{slave_fed, stays, storing}
 
 -- ---- the cost of one more cell
@@ -95,16 +94,16 @@ module _ (xs : List cells.Cell) (i : ℕ) (x : cells.Cell) (is : slice_get xs i 
 left_stored : (r : Rtl) (i : ℕ) (x : cells.Cell) → IsAt r.cells i x → is_stored_bit x ≡ true
     → next_left r i ≡ 5 + length (transfers_to r.transfers i) + next_left r (i + 1)
 left_stored r i x at on =
-    let a = sum_drop next_cost r.cells i x (at_get r.cells i x at) in
+    let a = sum_drop next_cost r.cells i x (get_at r.cells i x at) in
     let b = sum_split (stored_from r.cells i) (stored_from r.cells (i + 1)) (λ t. eqb t.target i)
-    (stored_split r.cells i x (at_get r.cells i x at) on) r.transfers in
+    (stored_split r.cells i x (get_at r.cells i x at) on) r.transfers in
     let c : next_cost x ≡ 5 = ap (λ b. if b then 5 else 0) on in omega (arith, a, b, c)
 
 left_other : (r : Rtl) (i : ℕ) (x : cells.Cell) → IsAt r.cells i x → is_stored_bit x ≡ false
     → next_left r i ≡ next_left r (i + 1)
 left_other r i x at off =
-    let a = sum_drop next_cost r.cells i x (at_get r.cells i x at) in
-    let b = other_same r.cells i x (at_get r.cells i x at) off r.transfers in
+    let a = sum_drop next_cost r.cells i x (get_at r.cells i x at) in
+    let b = other_same r.cells i x (get_at r.cells i x at) off r.transfers in
     let c : next_cost x ≡ 0 = ap (λ b. if b then 5 else 0) off in omega (arith, a, b, c)
 
 -- ---- before the first cell

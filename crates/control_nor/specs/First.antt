@@ -12,7 +12,7 @@ use Rattle.nor_net.specs.declared.net.Part.TheVariants as parts
 use Rattle.rtl_form.specs.declared.rtl.Cell as cells
 use Rattle.rtl_form.specs.declared.rtl.CellKind.TheVariants as kinds
 use Rattle.rtl_form.specs.declared.rtl.Rtl.{Rtl}
-use Rattle.rtl_form.specs.Entries.{IsAt}
+use Rattle.mp_base.specs.Entries.{IsAt}
 use Rattle.rtl_form.specs.Environment.{is_driven}
 use Rattle.bit_gates.specs.declared.rails.Rails.{Rails}
 use Rattle.bit_gates.specs.Cells.{first_cost}

@@ -5,7 +5,7 @@ use Rattle.nor_net.specs.declared.net.Part.{Part}
 use Rattle.rtl_form.specs.declared.rtl.Cell as cells
 use Rattle.rtl_form.specs.declared.rtl.RtlExpr.{RtlExpr}
 use Rattle.rtl_form.specs.declared.rtl.Rtl.{Rtl}
-use Rattle.rtl_form.specs.Entries.{IsAt}
+use Rattle.mp_base.specs.Entries.{IsAt}
 use Rattle.task_schedule.specs.declared.task.Task.{Task}
 use Rattle.task_schedule.specs.declared.task.Task.TheVariants.{Expr, Cell}
 use Rattle.bit_gates.specs.declared.rails.Rails.{Rails}

@@ -1,7 +1,7 @@
 //! Expressions and driven cells, one after the other.
 
 ghost use Rattle.std.specs.Prelude.{◌≡◌, ◌<◌, ◌+◌, false, All, IfOk, OnOk, length};
-ghost use Rattle.rtl_form.specs.Entries.{IsAt};
+ghost use Rattle.mp_base.specs.Entries.{IsAt};
 ghost use Rattle.bit_gates.specs.Rails.{AllBelow};
 ghost use Rattle.control_nor.specs.Tasks.{IsCellMade, IsTaskDone, IsTaskReady};
 ghost use Rattle.rtl_form.specs.Sound.{IsSound};

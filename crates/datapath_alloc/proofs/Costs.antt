@@ -11,6 +11,7 @@ use Rattle.std.proofs.lemmas.List.Sums.{sum_by-cons, sum_by-le-sum_by, sum_by-ta
 use Rattle.std.proofs.lemmas.Map.Keys.{any_passes_from_place}
 use Rattle.mp_base.specs.declared.pad.Pad.{Pad}
 use Rattle.mp_base.proofs.Entries.{any_found}
+use Rattle.mp_base.proofs.ListEntries.{one_entry, get_at}
 use Rattle.nor_net.specs.declared.net.Part.{Part}
 use Rattle.nor_net.specs.declared.net.Part.TheVariants as parts
 use Rattle.rtl_form.specs.declared.rtl.Cell as cells
@@ -24,12 +25,10 @@ use Rattle.rtl_form.specs.Cost.{cell_cost, cost, expr_cost, transfer_cost}
 use Rattle.rtl_form.specs.Environment.{is_driven, is_stored}
 use Rattle.rtl_form.specs.Operands.{gives_word}
 use Rattle.rtl_form.specs.Sound.{CellFits, IsReset, IsSound}
-use Rattle.rtl_form.proofs.Members.{one_entry}
 use Rattle.task_schedule.specs.declared.task.Task.{Task}
 use Rattle.task_schedule.specs.declared.task.Task.TheVariants as tasks
 use Rattle.task_schedule.specs.Schedule.{IsSchedule}
 use Rattle.bit_gates.specs.Size.{active_count, bit_cell_cost, bit_cost, bit_expr_cost, bit_transfer_cost, entry_count}
-use Rattle.control_nor.proofs.Progress.{at_get}
 use Rattle.path_form.specs.Sizes.{active}
 use Rattle.datapath_alloc.specs.Spending.{clear_cost, crossed, driven_cost, driven_crossings, first_cost, for_task}
 use Rattle.datapath_alloc.specs.Spending.{for_word, is_stored_word, latch_cost, next_cost, next_crossings, spent}
@@ -357,7 +356,7 @@ module _ (r : Rtl) where
               (one_entry (r.pads).inputs h.1 fits.0 h.2 fits.1 h.5) ∙ eq-eqb h.2.width 0 h.6) in
               let less : word_cell h.0 ≡ 0 = ap (λ b. if b then cell_cost h.0.kind else 0) bit in
               let two : all_cell h.0 ≡ 2 = ap cell_cost h.4 in
-              sum_slack word_cell all_cell 1 r.cells n h.0 (at_get r.cells n h.0 h.3) word_less
+              sum_slack word_cell all_cell 1 r.cells n h.0 (get_at r.cells n h.0 h.3) word_less
               (omega (arith, less, two))
 
           by_reset : (o : Option ℕ) → r.reset ≡ o → IsSome o → sum_by word_cell r.cells + 1 ≤ sum_by all_cell r.cells

@@ -3,7 +3,6 @@ use Rattle.std.proofs.Common.{◌≡◌, ℕ, inl, inr, List, [], Option, Some, 
 use Rattle.std.proofs.Common.{arith}
 use Rattle.std.specs.Prelude.{Contains, IsSome, ◌≢◌, ◌==◌, not}
 use Rattle.std.proofs.lemmas.Bool.{eq-eqb, false≢true, ne_eqb, true≢false}
-use Rattle.std.proofs.lemmas.Option.{same_Some}
 use Rattle.std.proofs.lemmas.List.{take_all}
 use Rattle.std.proofs.lemmas.Map.Keys.{any_passes_from_place}
 use Rattle.mp_base.specs.declared.pad.Pad.{Pad}
@@ -17,24 +16,21 @@ use Rattle.rtl_form.specs.declared.rtl.RtlExpr.{RtlExpr}
 use Rattle.rtl_form.specs.declared.rtl.RtlExpr.TheVariants.{Number, Truth, Cell, Apply}
 use Rattle.rtl_form.specs.declared.rtl.Rtl.{Rtl}
 use Rattle.rtl_form.specs.Cost.{cost}
-use Rattle.rtl_form.specs.Entries.{IsAt}
+use Rattle.mp_base.specs.Entries.{IsAt}
+use Rattle.mp_base.proofs.ListEntries.{one_entry, get_at}
 use Rattle.rtl_form.specs.Environment.{is_driven, is_stored}
 use Rattle.rtl_form.specs.Sound.{CellFits}
-use Rattle.rtl_form.proofs.Members.{one_entry}
 use Rattle.control_nor.specs.declared.names.Names.{Names}
 use Rattle.task_schedule.specs.declared.task.Task.TheVariants as tasks
 use Rattle.control_nor.specs.Lowering.{IsEntry, IsLowered, Stands}
-use Rattle.control_nor.proofs.Progress.{at_get}
 use Rattle.path_form.specs.declared.path.Lift.{Lift}
 use Rattle.datapath_making.specs.declared.making.Making.{Making}
+use Rattle.datapath_making.proofs.Lists.{one_stands}
 use Rattle.datapath_finish.specs.Finishing.{IsComplete}
 use Rattle.datapath_alloc.specs.Progress.{AreSpent, IsDone, IsProgress, IsWordOf}
 use Rattle.datapath_alloc.specs.Spending.{crossed}
 use Rattle.datapath_alloc.proofs.Costs.{all_spent, spent_below}
 use Rattle.datapath_alloc.proofs.Reaching.{all_done}
-
-pub same_net : (entries : List (Option NetId)) (k : ℕ) (a b : NetId) → Stands entries k a → Stands entries k b → a ≡ b
-same_net entries k a b p q = same_Some a b (same_Some (Some a) (Some b) (sym p ∙ q))
 
 module _ (r : Rtl) (bits : List Part) (names : Names) (m : Making)
     (p : IsProgress r bits names (length r.cells) (length names.tasks) (length r.cells) m) where
@@ -43,7 +39,7 @@ module _ (r : Rtl) (bits : List Part) (names : Names) (m : Making)
   -- where something is stored there is a reset
   reset_is : (c : ℕ) → IsWordOf r c kinds.Stored → (reset : ℕ) × (r.reset ≡ Some reset)
   reset_is c w = by_reset r.reset refl (p.given.sound.resets
-      (any_passes_from_place (λ (x : cells.Cell). is_stored x.kind) r.cells c w.0 (at_get r.cells c w.0 w.1)
+      (any_passes_from_place (λ (x : cells.Cell). is_stored x.kind) r.cells c w.0 (get_at r.cells c w.0 w.1)
       (ap is_stored w.2)))
     where
       by_reset : (o : Option ℕ) → r.reset ≡ o → IsSome o → (reset : ℕ) × (r.reset ≡ Some reset)
@@ -119,8 +115,8 @@ module _ (r : Rtl) (bits : List Part) (names : Names) (m : Making)
   lift_of e (Apply op index args) id at h s =
       let made = p.exprs.exprs e (Apply op index args) at (done_expr e (Apply op index args) at) in
       elim (bit_or_not op) [
-        | inl is ↦ let l = made.bit is in (l.0, l.1, same_net names.exprs e l.0.control id l.2 s)
-        | inr ne ↦ let l = made.test h.0 h.1 ne in (l.0, l.1, same_net names.exprs e l.0.control id l.2 s)
+        | inl is ↦ let l = made.bit is in (l.0, l.1, one_stands names.exprs e l.0.control id l.2 s)
+        | inr ne ↦ let l = made.test h.0 h.1 ne in (l.0, l.1, one_stands names.exprs e l.0.control id l.2 s)
       ]
 
   -- ---- what was spent

@@ -1,8 +1,8 @@
 -- The path that was made stands for the transfers, within their cost.
-use Rattle.std.proofs.Common.{◌≡◌, ℕ, suc, List, [], Some, Bool, true, false, length, refl, sym, ◌∙◌, ap, subst, arith}
+use Rattle.std.proofs.Common.{◌≡◌, ℕ, suc, List, [], Some, true, false, length, refl, sym, ◌∙◌, ap, subst, arith}
 use Rattle.nor_net.specs.Machine.{Stores, Ports}
-use Rattle.std.specs.Prelude.{Contains, ◌||◌, not, slice_get, slice_index_or}
-use Rattle.std.proofs.lemmas.Bool.{eq-eqb}
+use Rattle.std.specs.Prelude.{Contains, not, slice_get, slice_index_or}
+use Rattle.std.proofs.lemmas.Bool.{eq-eqb, or_left}
 use Rattle.std.proofs.lemmas.Option.{same_Some}
 use Rattle.std.proofs.lemmas.Map.Keys.{any_passes_from_place}
 use Rattle.mp_base.specs.declared.op.Op.{Op}
@@ -19,11 +19,11 @@ use Rattle.rtl_form.specs.declared.rtl.RtlExpr.{RtlExpr}
 use Rattle.rtl_form.specs.declared.rtl.RtlExpr.TheVariants.{Number, Cell, Apply}
 use Rattle.rtl_form.specs.declared.rtl.Rtl.{Rtl}
 use Rattle.rtl_form.specs.Cost.{cost}
-use Rattle.rtl_form.specs.Entries.{IsAt}
+use Rattle.mp_base.specs.Entries.{IsAt}
+use Rattle.mp_base.proofs.ListEntries.{one_entry}
 use Rattle.rtl_form.specs.Environment.{is_driven}
 use Rattle.rtl_form.specs.Operands.{takes_words}
 use Rattle.rtl_form.specs.Sound.{IsSort}
-use Rattle.rtl_form.proofs.Members.{one_entry}
 use Rattle.control_nor.specs.declared.names.Names.{Names}
 use Rattle.control_nor.specs.Lowering.{IsLowered, Stands}
 use Rattle.path_form.specs.declared.path.DataPath.{DataPath}
@@ -33,10 +33,11 @@ use Rattle.path_form.specs.Sizes.{IsNarrow, IsWithin, is_read, reads}
 use Rattle.path_values.specs.Allocated.{DrivenWord, IsAllocated, Placed, StoredWord, InputWord}
 use Rattle.datapath_making.specs.declared.making.Making.{Making}
 use Rattle.datapath_finish.specs.Finishing.{IsFinished}
+use Rattle.datapath_making.proofs.Lists.{one_stands}
 use Rattle.datapath_alloc.specs.Progress.{IsProgress}
 use Rattle.datapath_alloc.specs.Shared.{IsAllocatedOnce, SharesNets}
 use Rattle.datapath_alloc.proofs.Costs.{all_crossed}
-use Rattle.datapath_alloc.proofs.Ending.{cell_is_word, cell_of, done_cell, done_expr, same_net, spent_in_all, word_cell}
+use Rattle.datapath_alloc.proofs.Ending.{cell_is_word, cell_of, done_cell, done_expr, spent_in_all, word_cell}
 use Rattle.datapath_alloc.proofs.Reaching.{word_of}
 use Rattle.datapath_alloc.proofs.Stores.{
   bit_found,
@@ -93,20 +94,20 @@ module _ (r : Rtl) (bits : List Part) (names : Names) (was : Making) (d : DataPa
       → StoredWord r d.slices d.casts names m.words c reset id
   stored_words c reset x id at is res on =
       let h = p.cells.stored c reset at.0 (x, at, is, cell_is_word r bits names m p c x id at on) res in
-      subst (StoredWord r d.slices d.casts names m.words c reset) (same_net m.cell_words c h.0 id h.1 on) h.2
+      subst (StoredWord r d.slices d.casts names m.words c reset) (one_stands m.cell_words c h.0 id h.1 on) h.2
 
   driven_words : (c : ℕ) (x : cells.Cell) (id : NetId) → IsAt r.cells c x → is_driven x.kind ≡ true
       → Stands m.cell_words c id → DrivenWord r d.slices d.casts names m.words c id
   driven_words c x id at driven on =
       let h = p.cells.driven c (x, at, driven, cell_is_word r bits names m p c x id at on)
       (done_cell r bits names m p c x at driven) in
-      subst (DrivenWord r d.slices d.casts names m.words c) (same_net m.cell_words c h.0 id h.1 on) h.2
+      subst (DrivenWord r d.slices d.casts names m.words c) (one_stands m.cell_words c h.0 id h.1 on) h.2
 
   reads_cell : (e c : ℕ) (id : NetId) → IsAt r.exprs e (Cell c) → Stands m.words e id → Stands m.cell_words c id
   reads_cell e c id at s =
       let sort = word_sorts e (Cell c) id at s in
       let h = p.exprs.exprs e (Cell c) at (done_expr r bits names m p e (Cell c) at) sort.0 sort.1 (sym sort.2) in
-      subst (Stands m.cell_words c) (same_net m.words e h.0 id h.1 s) h.2
+      subst (Stands m.cell_words c) (one_stands m.words e h.0 id h.1 s) h.2
 
   placed_words : (e : ℕ) (op : Op) (index : ℕ) (args : List ℕ) (id : NetId) → IsAt r.exprs e (Apply op index args)
       → Stands m.words e id → Placed d.slices m.words op args id
@@ -114,7 +115,7 @@ module _ (r : Rtl) (bits : List Part) (names : Names) (was : Making) (d : DataPa
       let sort = word_sorts e (Apply op index args) id at s in
       let h = (p.exprs.exprs e (Apply op index args) at (done_expr r bits names m p e (Apply op index args) at)).word
       (sym sort) in
-      subst (Placed d.slices m.words op args) (same_net m.words e h.0 id h.1 s) h.2
+      subst (Placed d.slices m.words op args) (one_stands m.words e h.0 id h.1 s) h.2
 
   lifted_tests : (e : ℕ) (op : Op) (index : ℕ) (args : List ℕ) (id : NetId) → IsAt r.exprs e (Apply op index args)
       → takes_words op ≡ true → (op ≡ ops.Bit → ⊥) → Stands names.exprs e id
@@ -124,7 +125,7 @@ module _ (r : Rtl) (bits : List Part) (names : Names) (was : Making) (d : DataPa
       let sort = (lowered.expr_names e (Apply op index args) at).1 (id, on) in
       let h = (p.exprs.exprs e (Apply op index args) at (done_expr r bits names m p e (Apply op index args) at)).test
       takes (sym sort) ne in
-      (h.0, h.1, same_net names.exprs e h.0.control id h.2 on, h.3, h.4)
+      (h.0, h.1, one_stands names.exprs e h.0.control id h.2 on, h.3, h.4)
 
   lifted_bits : (e index : ℕ) (args : List ℕ) (id : NetId) → IsAt r.exprs e (Apply ops.Bit index args)
       → Stands names.exprs e id
@@ -133,7 +134,7 @@ module _ (r : Rtl) (bits : List Part) (names : Names) (was : Making) (d : DataPa
   lifted_bits e index args id at on =
       let h = (p.exprs.exprs e (Apply ops.Bit index args) at
       (done_expr r bits names m p e (Apply ops.Bit index args) at)).bit refl in
-      (h.0, h.1, same_net names.exprs e h.0.control id h.2 on, h.3, h.4)
+      (h.0, h.1, one_stands names.exprs e h.0.control id h.2 on, h.3, h.4)
 
   input_words : (c k : ℕ) (x : cells.Cell) (id pad : NetId) → IsAt r.cells c x → x.kind ≡ kinds.Input k
       → Stands m.cell_words c id → slice_get d.inputs k ≡ Some pad
@@ -143,7 +144,7 @@ module _ (r : Rtl) (bits : List Part) (names : Names) (was : Making) (d : DataPa
       let same_pad = same_Some h.1 pad (sym (fin.word_inputs k h.1 h.3) ∙ to) in
       subst (λ q. InputWord d.slices.net id q) same_pad
       (subst (λ i. InputWord d.slices.net i h.1)
-      (same_net m.cell_words c h.0 id h.2 on) h.4)
+      (one_stands m.cell_words c h.0 id h.2 on) h.4)
 
   abbrev the_stores : Stores
   the_stores = stores_of r d.control d.slices names.cells m.cell_words
@@ -167,7 +168,7 @@ module _ (r : Rtl) (bits : List Part) (names : Names) (was : Making) (d : DataPa
     );
     numbers = λ e n id at s.
         let h = p.exprs.exprs e (Number n) at (done_expr r bits names m p e (Number n) at) in
-        (h.0, h.1, same_net m.words e h.0.net id h.3 s, h.2);
+        (h.0, h.1, one_stands m.words e h.0.net id h.3 s, h.2);
     reads = reads_cell;
     operators = placed_words;
     tests = lifted_tests;
@@ -223,9 +224,6 @@ module _ (r : Rtl) (bits : List Part) (names : Names) (was : Making) (d : DataPa
   latch_reads net n phase id e =
       any_passes_from_place (reads id.0) net n (Latch phase (Some id)) e (eq-eqb id.0 id.0 refl)
 
-  first_true : (a b : Bool) → a ≡ true → (a || b) ≡ true
-  first_true a b e = ap (λ x. x || b) e
-
   control_read : (id : NetId) → Contains (entries_of false (r.pads).inputs d.inputs) id
       → is_read d.control id.0 ≡ true
   control_read id c =
@@ -244,7 +242,7 @@ module _ (r : Rtl) (bits : List Part) (names : Names) (was : Making) (d : DataPa
       let w = p.cells.pads o.0 id o.4 in
       let h = p.cells.ports w.0 o.0 w.1 w.2 in
       latch_reads d.slices.net h.0.0 phases.C id
-      (subst (λ q. slice_get d.slices.net h.0.0 ≡ Some (Latch phases.C (Some q))) (same_net m.pads o.0 h.1 id h.3 o.4)
+      (subst (λ q. slice_get d.slices.net h.0.0 ≡ Some (Latch phases.C (Some q))) (one_stands m.pads o.0 h.1 id h.3 o.4)
       h.4.0)
 
   pub narrow : IsNarrow (cost r) d
@@ -257,8 +255,8 @@ module _ (r : Rtl) (bits : List Part) (names : Names) (was : Making) (d : DataPa
             let b = s.crossings in
             omega (arith, a, b);
         slice = let a = s.columns in omega (arith, a);
-        control_used = λ id c. first_true (is_read d.control id.0) _ (control_read id
+        control_used = λ id c. or_left (is_read d.control id.0) _ (control_read id
             (subst (λ (ps : Pads). Contains (entries_of false ps.inputs d.inputs) id) fin.pads c));
-        slice_used = λ id c. first_true (is_read d.slices.net id.0) _ (slice_read id
+        slice_used = λ id c. or_left (is_read d.slices.net id.0) _ (slice_read id
             (subst (λ (ps : Pads). Contains (entries_of true ps.inputs d.inputs) id) fin.pads c));
       }

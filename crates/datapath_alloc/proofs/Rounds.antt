@@ -15,13 +15,12 @@ use Rattle.rtl_form.specs.declared.rtl.Cell as cells
 use Rattle.rtl_form.specs.declared.rtl.CellKind.{CellKind}
 use Rattle.rtl_form.specs.declared.rtl.CellKind.TheVariants as kinds
 use Rattle.rtl_form.specs.declared.rtl.Rtl.{Rtl}
-use Rattle.rtl_form.specs.Entries.{IsAt}
+use Rattle.mp_base.specs.Entries.{IsAt}
+use Rattle.mp_base.proofs.ListEntries.{one_entry, get_at}
 use Rattle.rtl_form.specs.Environment.{is_driven, is_stored}
-use Rattle.rtl_form.proofs.Members.{one_entry}
 use Rattle.control_nor.specs.declared.names.Names.{Names}
 use Rattle.task_schedule.specs.declared.task.Task.{Task}
 use Rattle.control_nor.specs.Lowering.{Stands}
-use Rattle.control_nor.proofs.Progress.{at_get}
 use Rattle.path_values.specs.Allocated.{transfers_to, StoredWord}
 use Rattle.datapath_making.specs.declared.making.Making.{Making}
 use Rattle.datapath_making.specs.Sizes.{HasRoom, cast_cost}
@@ -52,7 +51,7 @@ module _ (r : Rtl) (bits : List Part) (names : Names) (old new : Making) (i : �
     spends =
         let pays : first_cost r i ≡ latch_cost x.kind
         = ap (λ o. option_map_or (λ (y : cells.Cell). if y.word then latch_cost y.kind else 0) o 0)
-        (at_get r.cells i x at) ∙ ap (λ b. if b then latch_cost x.kind else 0) word in
+        (get_at r.cells i x at) ∙ ap (λ b. if b then latch_cost x.kind else 0) word in
         spent_within _ _ _ _ new (omega (arith, pays, lc)) (omega arith)
         (spent_more _ _ c 0 old new p.spends step.spends);
     cleared = λ e. absurd (false≢true e);
@@ -117,13 +116,13 @@ stored_parts r c x at e = let p = parts x.word x.kind e in (x, at, p.1, p.0)
 module _ (r : Rtl) (j : ℕ) (w : IsWordOf r j kinds.Stored) where
   pub next_pays : next_cost r j ≡ 5 + 4 * writes r j
   next_pays = ap (λ o. option_map_or (λ (y : cells.Cell). if y.word then (if is_stored y.kind then 5 + 4 * writes r j
-      else 0) else 0) o 0) (at_get r.cells j w.0 w.1)
+      else 0) else 0) o 0) (get_at r.cells j w.0 w.1)
       ∙ (ap (λ b. if b then (if is_stored w.0.kind then 5 + 4 * writes r j else 0) else 0) w.3
       ∙ ap (λ k. if is_stored k then 5 + 4 * writes r j else 0) w.2)
 
   next_crosses : next_crossings r j ≡ writes r j
   next_crosses = ap (λ o. option_map_or (λ (y : cells.Cell). if y.word then (if is_stored y.kind then writes r j
-      else 0) else 0) o 0) (at_get r.cells j w.0 w.1)
+      else 0) else 0) o 0) (get_at r.cells j w.0 w.1)
       ∙ (ap (λ b. if b then (if is_stored w.0.kind then writes r j else 0) else 0) w.3
       ∙ ap (λ k. if is_stored k then writes r j else 0) w.2)
 
@@ -205,7 +204,7 @@ module _ (r : Rtl) (bits : List Part) (names : Names) (old new : Making) (i t j 
       clears = by_test (list_any is_stored_word (take j r.cells)) refl
         where
           now : (b : Bool) → list_any is_stored_word (take j r.cells) ≡ b → clear_cost r (suc j) ≡ 1
-          now b e = ap (λ b. if b then 1 else 0) (take_any is_stored_word r.cells j w.0 (at_get r.cells j w.0 w.1)
+          now b e = ap (λ b. if b then 1 else 0) (take_any is_stored_word r.cells j w.0 (get_at r.cells j w.0 w.1)
               ∙ (ap (λ c. list_any is_stored_word (take j r.cells) || c)
               (ap (λ b. b && is_stored w.0.kind) w.3 ∙ ap is_stored w.2)
               ∙ or_true (list_any is_stored_word (take j r.cells))))
@@ -245,7 +244,7 @@ no_next_done r bits names m i t j x p at none = record {
 }
   where
     any_same : list_any is_stored_word (take (suc j) r.cells) ≡ list_any is_stored_word (take j r.cells)
-    any_same = take_any is_stored_word r.cells j x (at_get r.cells j x at)
+    any_same = take_any is_stored_word r.cells j x (get_at r.cells j x at)
         ∙ (ap (λ b. list_any is_stored_word (take j r.cells) || b) none ∙ or_false _)
       where
         or_false : (b : Bool) → (b || false) ≡ b
@@ -286,7 +285,7 @@ no_reset_done r bits names m i t none p = record {
   where
     not_stored : (c : ℕ) → IsWordOf r c kinds.Stored → ⊥
     not_stored c w = false≢true (subst IsSome none (p.given.sound.resets
-        (any_passes_from_place (λ (x : cells.Cell). is_stored x.kind) r.cells c w.0 (at_get r.cells c w.0 w.1)
+        (any_passes_from_place (λ (x : cells.Cell). is_stored x.kind) r.cells c w.0 (get_at r.cells c w.0 w.1)
         (ap is_stored w.2))))
 
 -- ---- room

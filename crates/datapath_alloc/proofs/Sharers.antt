@@ -8,7 +8,7 @@ use Rattle.nor_net.specs.declared.net.Part.{Part}
 use Rattle.rtl_form.specs.declared.rtl.RtlExpr.{RtlExpr}
 use Rattle.rtl_form.specs.declared.rtl.RtlExpr.TheVariants.{Number, Apply}
 use Rattle.rtl_form.specs.declared.rtl.Rtl.{Rtl}
-use Rattle.rtl_form.specs.Entries.{IsAt}
+use Rattle.mp_base.specs.Entries.{IsAt}
 use Rattle.rtl_form.specs.Operands.{gives_word}
 use Rattle.control_nor.specs.declared.names.Names.{Names}
 use Rattle.task_schedule.specs.declared.task.Task.TheVariants as tasks
@@ -20,8 +20,8 @@ use Rattle.datapath_alloc.specs.Progress.{IsGiven}
 use Rattle.datapath_alloc.specs.Shared.{OnSameNets, SharesNets}
 use Rattle.datapath_alloc.specs.Noting.{AreNoted}
 use Rattle.datapath_sharing.specs.Sharing.{IsExprNoted, IsNoted, operator_in}
-use Rattle.datapath_alloc.proofs.Ending.{same_net}
 use Rattle.datapath_alloc.proofs.Reaching.{all_done}
+use Rattle.datapath_making.proofs.Lists.{one_stands}
 
 -- the same operator on the same nets has one result
 one_result : (b : Built) (words : List (Option NetId)) (op : Op) (args others : List ℕ) (i j : NetId)
@@ -32,14 +32,14 @@ one_result b words op args others i j some same h k =
     first : h.0 ≡ k.0
     first =
         let s = same.each 0 some in
-        same_net words (slice_index_or args 0 0) h.0 s.0 h.2 s.1
-        ∙ same_net words (slice_index_or others 0 0) s.0 k.0 s.2 k.2
+        one_stands words (slice_index_or args 0 0) h.0 s.0 h.2 s.1
+        ∙ one_stands words (slice_index_or others 0 0) s.0 k.0 s.2 k.2
 
     last : h.1 ≡ k.1
     last =
         let s = same.each (length args - 1) (omega (arith, some)) in
-        same_net words (slice_index_or args (length args - 1) 0) h.1 s.0 h.3 s.1
-        ∙ same_net words (slice_index_or others (length args - 1) 0) s.0 k.1 s.2
+        one_stands words (slice_index_or args (length args - 1) 0) h.1 s.0 h.3 s.1
+        ∙ one_stands words (slice_index_or others (length args - 1) 0) s.0 k.1 s.2
         (subst (λ n. Stands words (slice_index_or others (n - 1) 0) k.1) (sym same.count) k.3)
 
 module _ (r : Rtl) (bits : List Part) (names : Names) (given : IsGiven r bits names) (b : Built)
@@ -56,7 +56,7 @@ module _ (r : Rtl) (bits : List Part) (names : Names) (given : IsGiven r bits na
     one_number e f n i j at bt s t =
         let h = noted_at e (Number n) at in
         let k = noted_at f (Number n) bt in
-        same_net words e i h.0 s h.1 ∙ (same_Some h.0 k.0 (sym h.2 ∙ k.2) ∙ same_net words f k.0 j k.1 t)
+        one_stands words e i h.0 s h.1 ∙ (same_Some h.0 k.0 (sym h.2 ∙ k.2) ∙ one_stands words f k.0 j k.1 t)
 
     one_word : (e f : ℕ) (op : Op) (index other : ℕ) (args others : List ℕ) (i j : NetId)
         → IsAt r.exprs e (Apply op index args) → IsAt r.exprs f (Apply op other others)
@@ -64,9 +64,9 @@ module _ (r : Rtl) (bits : List Part) (names : Names) (given : IsGiven r bits na
     one_word e f op index other args others i j at bt gives same s t =
         let h = (noted_at e (Apply op index args) at).word gives in
         let k = (noted_at f (Apply op other others) bt).word gives in
-        same_net words e i h.0 s h.1
+        one_stands words e i h.0 s h.1
         ∙ (one_result b words op args others h.0 k.0 (has_args e op index args at) same h.2 k.2
-        ∙ same_net words f k.0 j k.1 t)
+        ∙ one_stands words f k.0 j k.1 t)
 
     pub nets_are_shared : SharesNets r names words lifts
     nets_are_shared = record {

@@ -15,13 +15,12 @@ use Rattle.rtl_form.specs.declared.rtl.Cell as cells
 use Rattle.rtl_form.specs.declared.rtl.CellKind.{CellKind}
 use Rattle.rtl_form.specs.declared.rtl.CellKind.TheVariants as kinds
 use Rattle.rtl_form.specs.declared.rtl.Rtl.{Rtl}
-use Rattle.rtl_form.specs.Entries.{IsAt}
+use Rattle.mp_base.specs.Entries.{IsAt}
+use Rattle.mp_base.proofs.ListEntries.{one_entry, get_at}
 use Rattle.rtl_form.specs.Environment.{is_stored}
 use Rattle.rtl_form.specs.Sound.{CellFits, IsSound}
-use Rattle.rtl_form.proofs.Members.{one_entry}
 use Rattle.control_nor.specs.declared.names.Names.{Names}
 use Rattle.control_nor.specs.Lowering.{Stands, StoredBit}
-use Rattle.control_nor.proofs.Progress.{at_get}
 use Rattle.path_form.specs.declared.path.Cast.{Cast}
 use Rattle.path_values.specs.Allocated.{StoredWord, bit_store, cell_bits, port_at, word_store}
 
@@ -109,7 +108,7 @@ module _ (r : Rtl) (control : List Part) (s : SliceNet) (bits words : List (Opti
         → stores_of c k ≡ Some (if x.word then store_at (suc k) s.net (of_entry (slice_get words c))
         else store_at 0 control (of_entry (slice_get bits c)))
     found_cell k l =
-        ap (option_and_then (cell_store c k)) (at_get r.cells c x at)
+        ap (option_and_then (cell_store c k)) (get_at r.cells c x at)
         ∙ ap (λ b. if b then Some (if x.word then store_at (suc k) s.net (of_entry (slice_get words c))
         else store_at 0 control (of_entry (slice_get bits c))) else None)
         (ap (λ b. b && nat_lt k (cell_bits r x)) (ap is_stored is) ∙ lt-ltb k (cell_bits r x) l)

@@ -3,22 +3,16 @@ use Rattle.std.proofs.Common.{◌≡◌, ℕ, zero, suc, ◌<◌, ◌≤◌, ◌
 use Rattle.std.proofs.Common.{false, cond, eqb, length, not, refl, sym, ◌∙◌, ap, arith}
 use Rattle.std.specs.Prelude.{◌≢◌, All, Contains, slice_get, if◌then◌else◌, ◌==◌, nat_lt}
 use Rattle.std.proofs.lemmas.Bool.{eq-eqb, eqb-true, false≢true, lt-ltb, ne_eqb, true≢false, cases_eq}
-use Rattle.std.proofs.lemmas.Option.{get_or_from_slice_get, none-some, same_Some, slice_get_within}
+use Rattle.std.proofs.lemmas.Option.{none-some, same_Some}
 use Rattle.mp_base.specs.declared.pad.Pad.{Pad}
 use Rattle.mp_base.proofs.Entries.{all_from, contains_from_get}
 use Rattle.nor_net.specs.declared.net.NetId.{NetId}
 use Rattle.nor_net.specs.declared.net.Phase.{Phase}
 use Rattle.nor_net.specs.declared.net.Part.{Part}
 use Rattle.nor_net.specs.declared.net.Part.TheVariants.{Input, Gate, Latch}
-use Rattle.rtl_form.specs.Entries.{IsAt}
 use Rattle.path_form.specs.Shape.{AreInputs, entries_of, is_input, takes_pad, times}
 use Rattle.datapath_making.specs.WellMade.{present}
 use Rattle.datapath_making.proofs.Lists.{one_at, one_else, one_here, times_entry, times_some}
-
--- ---- entries
-
-pub at_of : {X : Type 0} (xs : List X) (k : ℕ) (x : X) → slice_get xs k ≡ Some x → IsAt xs k x
-at_of xs k x e = (slice_get_within xs k x e, sym (get_or_from_slice_get xs k x x e))
 
 -- ---- the pads that are words, or that are signals
 

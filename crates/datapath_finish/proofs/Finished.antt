@@ -11,13 +11,13 @@ use Rattle.nor_net.specs.declared.net.Part.{Part}
 use Rattle.nor_net.specs.declared.net.Part.TheVariants.{Input, Gate, Latch}
 use Rattle.nor_net.specs.Shape.{Fed}
 use Rattle.organelles.specs.Tables.{net_at}
-use Rattle.rtl_form.specs.Entries.{IsAt}
+use Rattle.mp_base.specs.Entries.{IsAt}
+use Rattle.mp_base.proofs.ListEntries.{one_entry, some_entry, at_get}
 use Rattle.rtl_form.specs.Sound.{CellFits, IsSound}
 use Rattle.rtl_form.specs.declared.rtl.Cell as cells
 use Rattle.rtl_form.specs.declared.rtl.CellKind.TheVariants as kinds
 use Rattle.rtl_form.specs.declared.rtl.RtlExpr.{RtlExpr}
 use Rattle.rtl_form.specs.declared.rtl.Rtl.{Rtl}
-use Rattle.rtl_form.proofs.Members.{one_entry, some_entry}
 use Rattle.task_schedule.specs.declared.task.Task.TheVariants as tasks
 use Rattle.control_nor.specs.Lowering.{IsEntry, IsEntered, Stands, nets_before}
 use Rattle.path_form.specs.declared.path.Lift.{Lift}
@@ -26,7 +26,7 @@ use Rattle.path_form.proofs.Joining.{times_append}
 use Rattle.datapath_making.specs.declared.making.Making.{Making}
 use Rattle.datapath_finish.specs.Finishing.{AreInputNets, AreOutputNets, IsComplete}
 use Rattle.datapath_making.specs.WellMade.{present}
-use Rattle.datapath_finish.proofs.Ending.{at_of, bit_width, entries_apart, entries_present, entry_pad, inputs_from}
+use Rattle.datapath_finish.proofs.Ending.{bit_width, entries_apart, entries_present, entry_pad, inputs_from}
 use Rattle.datapath_finish.proofs.Ending.{is_word, pad_entry, takes_from, width_bit, word_width}
 use Rattle.datapath_making.proofs.Entering.{ends_count}
 use Rattle.datapath_making.proofs.Lists.{one_else, one_here, one_stands, times_entry}
@@ -82,11 +82,11 @@ module _ (r : Rtl) (m : Making) (sound : IsSound r) (h : IsComplete r m) (inputs
 
     pub word_in : (k : ℕ) (pad : Pad) (id : NetId) → slice_get in_pads k ≡ Some pad → slice_get inputs k ≡ Some id
         → is_word pad ≡ true → Stands m.pads k id
-    word_in k pad id a b c = (ins.each k pad id (at_of in_pads k pad a) b).1 (word_width pad c)
+    word_in k pad id a b c = (ins.each k pad id (at_get in_pads k pad a) b).1 (word_width pad c)
 
     pub bit_in : (k : ℕ) (pad : Pad) (id : NetId) → slice_get in_pads k ≡ Some pad → slice_get inputs k ≡ Some id
         → is_word pad ≡ false → Stands m.names.inputs k id
-    bit_in k pad id a b c = (ins.each k pad id (at_of in_pads k pad a) b).0 (bit_width pad c)
+    bit_in k pad id a b c = (ins.each k pad id (at_get in_pads k pad a) b).0 (bit_width pad c)
 
     -- the cell of an output pad
     output_cell : (k : ℕ) (pad : Pad) → slice_get out_pads k ≡ Some pad
@@ -95,7 +95,7 @@ module _ (r : Rtl) (m : Making) (sound : IsSound r) (h : IsComplete r m) (inputs
         let only = sound.output_cells k (slice_get_within out_pads k pad a) in
         let x = only.1.0 in
         let fits = subst (CellFits r x) only.1.2 (sound.cells only.0 x only.1.1) in
-        let same = one_entry out_pads k fits.0 pad fits.1 (at_of out_pads k pad a) in
+        let same = one_entry out_pads k fits.0 pad fits.1 (at_get out_pads k pad a) in
         (only.0, x, only.1.1, only.1.2, fits.2 ∙ ap is_word same)
 
     pub word_out : (k : ℕ) (pad : Pad) (id : NetId) → slice_get out_pads k ≡ Some pad → slice_get outputs k ≡ Some id
@@ -123,7 +123,7 @@ module _ (r : Rtl) (m : Making) (sound : IsSound r) (h : IsComplete r m) (inputs
         by_kind k pad id entry a b c true q =
             same_Some entry (Some id) (sym c ∙ word_in k pad id a b q)
         by_kind k pad id (Some x) a b c false q =
-            absurd (h.bit_pads k pad x (at_of in_pads k pad a) c (bit_width pad q))
+            absurd (h.bit_pads k pad x (at_get in_pads k pad a) c (bit_width pad q))
         by_kind k pad id None a b c false q = refl
 
     abbrev words : List NetId
@@ -217,7 +217,7 @@ module _ (r : Rtl) (m : Making) (sound : IsSound r) (h : IsComplete r m) (inputs
         let in_l : k < length in_pads = let c = h.lowered.pad_count in omega (arith, l, c) in
         let pad = get_or in_pads k (get_or in_pads k (some_pad in_l)) in
         let at_pad = slice_get-get_or in_pads k (get_or in_pads k (some_pad in_l)) in_l in
-        let width = (h.lowered.pad_names k pad (at_of in_pads k pad at_pad)).1 (id, s) in
+        let width = (h.lowered.pad_names k pad (at_get in_pads k pad at_pad)).1 (id, s) in
         let ids_l : k < length inputs = let c = ins.count in omega (arith, in_l, c) in
         let other = get_or inputs k id in
         let at_id = slice_get-get_or inputs k id ids_l in

@@ -18,15 +18,14 @@ use Rattle.organelles.specs.declared.slices.Chain.TheVariants.{Up, Down}
 use Rattle.organelles.specs.Computing.{ChainIn}
 use Rattle.organelles.specs.Tables.{net_at}
 use Rattle.rtl_form.specs.Cost.{cost}
-use Rattle.rtl_form.specs.Entries.{IsAt}
+use Rattle.mp_base.specs.Entries.{IsAt}
+use Rattle.mp_base.proofs.ListEntries.{one_entry, some_entry, get_at, at_get}
 use Rattle.rtl_form.specs.Environment.{is_driven}
 use Rattle.rtl_form.specs.Sound.{IsSound}
 use Rattle.rtl_form.specs.declared.rtl.Cell as cells
 use Rattle.rtl_form.specs.declared.rtl.CellKind.TheVariants as kinds
 use Rattle.rtl_form.specs.declared.rtl.Rtl.{Rtl}
-use Rattle.rtl_form.proofs.Members.{one_entry, some_entry}
 use Rattle.control_nor.specs.Lowering.{Stands}
-use Rattle.control_nor.proofs.Progress.{at_get}
 use Rattle.path_form.specs.declared.path.DataPath.{DataPath}
 use Rattle.path_form.specs.declared.path.Lift.{Lift}
 use Rattle.path_form.specs.declared.path.Piece.{Piece}
@@ -40,7 +39,7 @@ use Rattle.datapath_finish.specs.Finishing.{AreInputNets, AreOutputNets, IsCompl
 use Rattle.datapath_making.specs.Steps.{marked}
 use Rattle.datapath_making.specs.WellMade.{IsWellMade}
 use Rattle.datapath_making.proofs.Beginning.{last_push}
-use Rattle.datapath_finish.proofs.Ending.{at_of, bit_width, entries_apart, entry_pad, is_word, width_bit, word_width}
+use Rattle.datapath_finish.proofs.Ending.{bit_width, entries_apart, entry_pad, is_word, width_bit, word_width}
 use Rattle.datapath_finish.proofs.Finished.{bit_in, bit_out, bit_some, bits_apart, control_inputs_are}
 use Rattle.datapath_finish.proofs.Finished.{control_latches_are, fed_test, input_some, slice_inputs_are}
 use Rattle.datapath_finish.proofs.Finished.{slice_latches_are, word_in, word_out, word_times}
@@ -205,11 +204,11 @@ module _ (r : Rtl) (m : Making) (sound : IsSound r) (light : cost r ≤ 1024) (h
 
   in_pads_fit : PadsFit m.width in_pads
   in_pads_fit = all_from (λ (p : Pad). p.width ≢ 0 → p.width ≡ m.width) in_pads
-      (λ k p e. fit p.width (sound.inputs k p (at_of in_pads k p e)))
+      (λ k p e. fit p.width (sound.inputs k p (at_get in_pads k p e)))
 
   out_pads_fit : PadsFit m.width out_pads
   out_pads_fit = all_from (λ (p : Pad). p.width ≢ 0 → p.width ≡ m.width) out_pads
-      (λ k p e. fit p.width (sound.outputs k p (at_of out_pads k p e)))
+      (λ k p e. fit p.width (sound.outputs k p (at_get out_pads k p e)))
 
   control_is_fed : IsFed m.control
   control_is_fed = subst (All Fed) (sym h.lowered.added.1) h.lowered.added.2
@@ -325,7 +324,7 @@ module _ (r : Rtl) (m : Making) (sound : IsSound r) (light : cost r ≤ 1024) (h
 
       by_kind : (t : Bool) → is_word pad ≡ t → slice_get inputs k ≡ Some id
       by_kind true q =
-          let w = word_in r m sound h inputs outputs ins outs k pad (get_or inputs k id) (at_get in_pads k pad at_pad)
+          let w = word_in r m sound h inputs outputs ins outs k pad (get_or inputs k id) (get_at in_pads k pad at_pad)
           there q in
           there ∙ ap Some (one_stands m.pads k (get_or inputs k id) id w s)
       by_kind false q = absurd (h.bit_pads k pad id at_pad s (bit_width pad q))
@@ -333,7 +332,7 @@ module _ (r : Rtl) (m : Making) (sound : IsSound r) (light : cost r ≤ 1024) (h
   bit_pad_at : (k : ℕ) (id : NetId) → Stands m.names.inputs k id → slice_get inputs k ≡ Some id
   bit_pad_at k id s =
       there ∙ ap Some (one_stands m.names.inputs k (get_or inputs k id) id
-      (bit_in r m sound h inputs outputs ins outs k pad (get_or inputs k id) (at_get in_pads k pad at_pad) there
+      (bit_in r m sound h inputs outputs ins outs k pad (get_or inputs k id) (get_at in_pads k pad at_pad) there
       (width_bit pad ((h.lowered.pad_names k pad at_pad).1 (id, s)))) s)
     where
       inside : k < length in_pads
@@ -355,7 +354,7 @@ module _ (r : Rtl) (m : Making) (sound : IsSound r) (light : cost r ≤ 1024) (h
       let e = entry_pad true in_pads inputs id c in (
         e.0,
         e.1,
-        at_of in_pads e.0 e.1 e.2,
+        at_get in_pads e.0 e.1 e.2,
         word_width e.1 e.4,
         word_in r m sound h inputs outputs ins outs e.0 e.1 id e.2 e.3 e.4,
       )
@@ -366,7 +365,7 @@ module _ (r : Rtl) (m : Making) (sound : IsSound r) (light : cost r ≤ 1024) (h
       let e = entry_pad false in_pads inputs id c in (
         e.0,
         e.1,
-        at_of in_pads e.0 e.1 e.2,
+        at_get in_pads e.0 e.1 e.2,
         bit_width e.1 e.4,
         bit_in r m sound h inputs outputs ins outs e.0 e.1 id e.2 e.3 e.4,
       )

@@ -1,6 +1,6 @@
 -- Zeros fit the pads of any program.
 use Rattle.std.proofs.Common.{◌≡◌, ℕ, ◌<◌, ◌^◌, Bool, true, false, cond, List, sym, ◌∙◌, ap, subst, arith}
-use Rattle.std.proofs.Common.{length, map, replicate, get_or}
+use Rattle.std.proofs.Common.{length, map, replicate}
 use Rattle.std.specs.Prelude.{◌==◌, slice_index}
 use Rattle.std.proofs.lemmas.List.{get_or-replicate, length-map, length-replicate}
 use Rattle.std.proofs.lemmas.Nat.{pow_pos}

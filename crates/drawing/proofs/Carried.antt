@@ -1,5 +1,5 @@
 -- What one network draws, another draws that is the same up to numbering.
-use Rattle.std.proofs.Common.{ℕ, ◌≡◌, ◌<◌, inl, inr, refl, sym, ◌∙◌, ap, subst, List, length, get_or, Contains}
+use Rattle.std.proofs.Common.{ℕ, ◌≡◌, ◌<◌, inl, inr, refl, sym, ◌∙◌, ap, subst, get_or, Contains}
 use Rattle.std.proofs.lemmas.List.{get_or_default}
 use Rattle.switch_net.specs.declared.network.Channel.{Channel}
 use Rattle.switch_net.specs.declared.network.Network.{Network}

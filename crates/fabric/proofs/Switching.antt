@@ -557,7 +557,8 @@ pub numbers_many : (f : Plan) (k : ℕ) (pairs : List Pair) (items least numbers
 numbers_many f k pairs items least numbers count p l g c = c.as_many ∙ ap length g ∙ l.as_many ∙ power_last f k p
 
 pub switches_are : (f : Plan) (c : Classes) (cs : List Channel) (net : Network) → AreNetNumbers f c
-    → AreChannels f (number_of f c.numbers) cs → IsUntagged c.count cs net → (number : Net → ℕ) × AreSwitches f number net
+    → AreChannels f (number_of f c.numbers) cs → IsUntagged c.count cs net
+    → (number : Net → ℕ) × AreSwitches f number net
 switches_are f c cs net a s u = (
   number_of f c.numbers,
   record {

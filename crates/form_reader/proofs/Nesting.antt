@@ -1,15 +1,13 @@
 -- Lists that a text spells are nested 64 deep at most.
-use Rattle.std.proofs.Common.{◌≡◌, ℕ, zero, suc, ◌+◌, ◌<◌, ◌≤◌, List, [], refl, ap, sym, ◌∙◌, subst, inl, inr, length}
+use Rattle.std.proofs.Common.{◌≡◌, ℕ, zero, suc, ◌+◌, ◌<◌, ◌≤◌, List, [], ap, sym, ◌∙◌, subst, inl, inr, length}
 use Rattle.std.proofs.Common.{arith}
 use Rattle.std.specs.Prelude.{slice_index, slice_range}
 use Rattle.std.proofs.lemmas.Bool.{cases_lt}
-use Rattle.form_reader.specs.declared.forms.Kind.{Kind}
-use Rattle.form_reader.specs.declared.forms.Kind.TheVariants.{Number, Symbol, Group}
 use Rattle.form_reader.specs.declared.forms.Node.{Node}
 use Rattle.form_reader.specs.declared.forms.Forms.{Forms}
-use Rattle.form_reader.specs.Sound.{IsItem, NestsIn, nests, items_of, kind_at}
-use Rattle.form_reader.specs.Spelling.{IsKindOf, Spelled, none, token, list}
-use Rattle.form_reader.proofs.Order.{IsOrdered, no_items, ordered}
+use Rattle.form_reader.specs.Sound.{NestsIn, nests, items_of, kind_at}
+use Rattle.form_reader.specs.Spelling.{Spelled, none, token, list}
+use Rattle.form_reader.proofs.Order.{no_items, ordered}
 use Rattle.form_reader.proofs.Nested.{deeper}
 
 leaf : (f : Forms) (d n : ℕ) → items_of (kind_at f n) ≡ [] → NestsIn f (suc d) n

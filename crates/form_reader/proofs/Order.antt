@@ -7,10 +7,9 @@ use Rattle.mp_base.specs.declared.refusal.Place.{Place}
 use Rattle.form_reader.specs.declared.forms.Kind.{Kind}
 use Rattle.form_reader.specs.declared.forms.Kind.TheVariants.{Number, Symbol, Group}
 use Rattle.form_reader.specs.declared.forms.Node.{Node}
-use Rattle.form_reader.specs.declared.forms.Forms.{Forms}
-use Rattle.form_reader.specs.Sound.{no_node, node, items_of, IsSound}
+use Rattle.form_reader.specs.Sound.{no_node, node, items_of}
 use Rattle.form_reader.specs.Text.{place_at}
-use Rattle.form_reader.specs.Spelling.{IsKindOf, IsNode, Spelled, none, token, list, Spells}
+use Rattle.form_reader.specs.Spelling.{IsKindOf, IsNode, Spelled, none, token, list}
 
 -- m stands in these items at p
 abbrev pub At : List ℕ → ℕ → ℕ → Type 0

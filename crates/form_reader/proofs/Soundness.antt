@@ -1,5 +1,5 @@
 -- Forms that a text spells are sound.
-use Rattle.std.proofs.Common.{◌≡◌, ℕ, ◌<◌, List, refl, subst, length, arith}
+use Rattle.std.proofs.Common.{◌≡◌, ℕ, List, refl, subst, length, arith}
 use Rattle.std.specs.Prelude.{slice_index}
 use Rattle.form_reader.specs.declared.forms.Forms.{Forms}
 use Rattle.form_reader.specs.Sound.{IsSound}

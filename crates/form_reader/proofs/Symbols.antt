@@ -1,6 +1,6 @@
 -- The symbols of a text are runs of token characters that are no numerals.
-use Rattle.std.proofs.Common.{◌≡◌, ◌⊎◌, inl, inr, ℕ, suc, ◌+◌, ◌<◌, ◌≤◌, Bool, true, false, not, ◌&&◌, List, [], ◌∷◌}
-use Rattle.std.proofs.Common.{refl, sym, ◌∙◌, ap, subst, length, arith, slice_index_or, slice_range}
+use Rattle.std.proofs.Common.{◌≡◌, inl, inr, ℕ, ◌<◌, ◌≤◌, true, not, ◌&&◌, List, []}
+use Rattle.std.proofs.Common.{sym, ◌∙◌, ap, subst, length, arith, slice_index_or, slice_range}
 use Rattle.std.specs.List.{list_all}
 use Rattle.std.proofs.lemmas.Bool.{and_from, cases_lt, cases_eq, not_from_false}
 use Rattle.std.proofs.lemmas.List.{get_or_past}
@@ -9,7 +9,7 @@ use Rattle.form_reader.specs.declared.forms.Kind.{Kind}
 use Rattle.form_reader.specs.declared.forms.Kind.TheVariants.{Number, Symbol, Group}
 use Rattle.form_reader.specs.declared.forms.Node.{Node}
 use Rattle.form_reader.specs.declared.forms.Forms.{Forms}
-use Rattle.form_reader.specs.Sound.{no_node, kind_at, HasSymbols}
+use Rattle.form_reader.specs.Sound.{no_node, HasSymbols}
 use Rattle.form_reader.specs.Spelling.{Spelled, Spells, IsKindOf, none, token, list}
 
 symbol_of : (run x : List ℕ) → IsKindOf run (Symbol x) → list_all is_token run ≡ true

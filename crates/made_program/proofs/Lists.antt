@@ -6,7 +6,7 @@ use Rattle.std.specs.List.{list_all, list_any}
 use Rattle.std.proofs.lemmas.Bool.{and_parts, cases_Bool, not-true}
 use Rattle.mp_program.specs.Names.{is_same}
 use Rattle.mp_program.proofs.Definitions.{same_is}
-use Rattle.mp_rules.specs.Entries.{IsAt}
+use Rattle.mp_base.specs.Entries.{IsAt}
 
 -- an entry behind the first
 pub behind : {X : Type 0} (y : X) (xs : List X) (k : ℕ) (x : X) → IsAt (y ∷ xs) (suc k) x → IsAt xs k x

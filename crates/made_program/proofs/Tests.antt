@@ -21,7 +21,7 @@ use Rattle.program_maker.specs.Texts.{operands}
 use Rattle.made_program.specs.Made.{Row, AreRows, is_drawn, targets, defs_of, exprs_from, forms_from, IsMade}
 use Rattle.made_program.proofs.Lists.{name_passes}
 use Rattle.std.proofs.lemmas.List.{append-nil}
-use Rattle.std.proofs.lemmas.Bool.{and_parts}
+use Rattle.std.proofs.lemmas.Bool.{and_parts, and_from}
 
 -- ---- operators
 
@@ -36,9 +36,6 @@ drawn_cases P a b c d e _ h = absurd (cc)
 
 -- ---- rows
 
-pub and_true : (a b : Bool) → a ≡ true → b ≡ true → (a && b) ≡ true
-and_true a b h g = ap (λ z. z && b) h ∙ g
-
 -- what holds of operators that are drawn and of operands holds of each expression
 pub exprs_pass : (test : ExprKind → Bool) (at : ℕ → Place)
     → ((op : Op) (args : List ℕ) → is_drawn op ≡ true → test (Apply op 0 args) ≡ true)
@@ -49,10 +46,10 @@ exprs_pass test at applied named e node [] are = refl
 exprs_pass test at applied named e node (row ∷ rows) are =
     let rest = list_all (λ (x : Expr). test x.kind) (exprs_from at (e + 3) (node + 9) rows) in
     let yes = exprs_pass test at applied named (e + 3) (node + 9) rows are.1 in
-    and_true (test (Apply row.op 0 ((e + 1) ∷ (e + 2) ∷ []))) (test (Named row.x) && (test (Named row.y) && rest))
+    and_from (test (Apply row.op 0 ((e + 1) ∷ (e + 2) ∷ []))) (test (Named row.x) && (test (Named row.y) && rest))
     (applied row.op ((e + 1) ∷ (e + 2) ∷ []) (are.0).op)
-    (and_true (test (Named row.x)) (test (Named row.y) && rest) (named row.x (are.0).x)
-    (and_true (test (Named row.y)) rest (named row.y (are.0).y) yes))
+    (and_from (test (Named row.x)) (test (Named row.y) && rest) (named row.x (are.0).x)
+    (and_from (test (Named row.y)) rest (named row.y (are.0).y) yes))
 
 -- what holds of targets holds of each form
 pub forms_pass : (test : FormKind → Bool) (at : ℕ → Place) → (good : List ℕ → Bool)
@@ -62,7 +59,7 @@ pub forms_pass : (test : FormKind → Bool) (at : ℕ → Place) → (good : Lis
 forms_pass test at good set e node [] all = refl
 forms_pass test at good set e node (row ∷ rows) all =
     let p = and_parts (good row.target) (list_all good (map (λ (row : Row). row.target) rows)) all in
-    and_true (test (Set row.target (at (node + 4)) e))
+    and_from (test (Set row.target (at (node + 4)) e))
     (list_all (λ (y : Form). test y.kind) (forms_from at (e + 3) (node + 9) rows))
     (set row.target (at (node + 4)) e p.0) (forms_pass test at good set (e + 3) (node + 9) rows p.1)
 

@@ -19,7 +19,7 @@ use Rattle.mp_program.specs.declared.program.Process.{Process}
 use Rattle.mp_program.specs.declared.program.Program.{Program}
 use Rattle.mp_program.specs.Names.{is_same, is_supply, is_reset}
 use Rattle.mp_program.proofs.Definitions.{same_is, is_same_of}
-use Rattle.mp_rules.specs.Entries.{IsAt}
+use Rattle.mp_base.specs.Entries.{IsAt}
 use Rattle.mp_rules.specs.Naming.{Naming, namings, is_reserved, supplies}
 use Rattle.mp_rules.specs.Rules.{pins, is_unset, namings_up_to, E20, E21, E22, E23, E24, E25, E26, E27, E28, E29, E30}
 use Rattle.mp_rules.specs.Rules.{E31, E32, E33, E34, E35, E36, E40, E41, E42, E43, E44, E45}

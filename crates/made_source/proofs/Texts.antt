@@ -3,7 +3,7 @@ use Rattle.std.proofs.Common.{◌≡◌, ℕ, zero, suc, ◌*◌, ◌<◌, List,
 use Rattle.std.proofs.Common.{ap, codes, length, map, arith, append_assoc, lit<}
 use Rattle.std.specs.Prelude.{not, ◌&&◌, ◌||◌, nat_lt, slice_index_or}
 use Rattle.std.specs.List.{flat_map, range_with_len, list_all, list_any}
-use Rattle.std.proofs.lemmas.Bool.{and_parts, not-true}
+use Rattle.std.proofs.lemmas.Bool.{and_from, and_parts, not-true}
 use Rattle.mp_base.specs.Token.{is_token, is_digit}
 use Rattle.mp_base.specs.declared.op.Op.{Op}
 use Rattle.mp_base.specs.declared.op.Op.TheVariants.{Add, Sub, WordAnd, WordOr, WordXor}
@@ -14,10 +14,10 @@ use Rattle.form_reader.specs.Text.{is_gap}
 use Rattle.form_text.specs.Items.{Items, nothing, symbol, group, text_of, first_of, is_fine, IsWritten}
 use Rattle.program_maker.specs.Draws.{after, draw, below}
 use Rattle.program_maker.specs.Texts as made
-use Rattle.program_maker.specs.Texts.{registers, operands, operators, drawn_setting, setting_from, source_text}
+use Rattle.program_maker.specs.Texts.{registers, operands, operators, drawn_setting, source_text}
 use Rattle.made_program.specs.Made.{Row, IsRow, AreRows, is_drawn, targets}
 use Rattle.made_program.proofs.Lists.{name_passes}
-use Rattle.made_program.proofs.Tests.{drawn_cases, and_true}
+use Rattle.made_program.proofs.Tests.{drawn_cases}
 use Rattle.made_source.specs.Written.{op_word, space, feed, setting, settings, heading, made_items}
 use Rattle.made_source.proofs.Table.{thirteen}
 
@@ -215,18 +215,18 @@ symbol_fine : (depth next : ℕ) (gap run : List ℕ) (more : Items) → is_gap 
     ≡ true
 symbol_fine depth next gap run more g t d e rest =
     let last_two = not (is_token (first_of next more)) && is_fine depth next more in
-    and_true (is_gap false gap) (list_all is_token run && (not (list_all is_digit run) && last_two)) g
-    (and_true (list_all is_token run) (not (list_all is_digit run) && last_two) t
-    (and_true (not (list_all is_digit run)) last_two (ap not d)
-    (and_true (not (is_token (first_of next more))) (is_fine depth next more) (ap not e) rest)))
+    and_from (is_gap false gap) (list_all is_token run && (not (list_all is_digit run) && last_two)) g
+    (and_from (list_all is_token run) (not (list_all is_digit run) && last_two) t
+    (and_from (not (list_all is_digit run)) last_two (ap not d)
+    (and_from (not (is_token (first_of next more))) (is_fine depth next more) (ap not e) rest)))
 
 group_fine : (depth next : ℕ) (gap : List ℕ) (inner more : Items) → is_gap false gap ≡ true → nat_lt depth 64 ≡ true
     → is_fine (suc depth) 41 inner ≡ true
     → is_fine depth next more ≡ true → is_fine depth next (group gap inner [] more) ≡ true
 group_fine depth next gap inner more g d i rest =
-    and_true (is_gap false gap) (nat_lt depth 64 && (is_fine (suc depth) 41 inner && is_fine depth next more)) g
-    (and_true (nat_lt depth 64) (is_fine (suc depth) 41 inner && is_fine depth next more) d
-    (and_true (is_fine (suc depth) 41 inner) (is_fine depth next more) i rest))
+    and_from (is_gap false gap) (nat_lt depth 64 && (is_fine (suc depth) 41 inner && is_fine depth next more)) g
+    (and_from (nat_lt depth 64) (is_fine (suc depth) 41 inner && is_fine depth next more) d
+    (and_from (is_fine (suc depth) 41 inner) (is_fine depth next more) i rest))
 
 abbrev is_word : List ℕ → Bool
 is_word x = list_all is_token x && not (list_all is_digit x)

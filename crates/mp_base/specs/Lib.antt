@@ -6,3 +6,4 @@ pub mod Token
 pub mod Refuses
 pub mod Meet
 pub mod PadNames
+pub mod Entries

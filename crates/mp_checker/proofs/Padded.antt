@@ -24,7 +24,7 @@ use Rattle.mp_program.specs.Names.{index_of, is_input, is_output, is_supply}
 use Rattle.mp_program.specs.Fits.{is_symbol, def_fits}
 use Rattle.mp_program.specs.Pads.{Face, face, pad_width}
 use Rattle.mp_program.proofs.FormKinds.{defs_fit}
-use Rattle.mp_rules.specs.Entries.{IsAt}
+use Rattle.mp_base.specs.Entries.{IsAt}
 use Rattle.mp_rules.specs.Naming.{OwnNames, is_reserved, def_naming}
 use Rattle.mp_rules.specs.Rules.{E20}
 use Rattle.mp_limits.proofs.Namings.{def_named}

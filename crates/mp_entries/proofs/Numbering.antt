@@ -1,8 +1,8 @@
 -- The numbering of nodes, one node on.
-use Rattle.std.proofs.Common.{◌≡◌, ℕ, ◌+◌, ◌<◌, ◌≤◌, Bool, true, false, cond, List, [], ◌∷◌, ◌++◌, refl, sym, ◌∙◌, ap}
-use Rattle.std.proofs.Common.{subst, length, map, arith, get_or, take}
-use Rattle.std.specs.List.{filter, filter_map, flat_map, range_with_len}
-use Rattle.std.proofs.lemmas.List.{map-id, map-append, append-nil, length-append, length_push, map_more}
+use Rattle.std.proofs.Common.{◌≡◌, ℕ, ◌+◌, ◌≤◌, Bool, true, false, cond, List, [], ◌∷◌, ◌++◌, refl, sym, ◌∙◌, ap}
+use Rattle.std.proofs.Common.{length, map, arith}
+use Rattle.std.specs.List.{filter, range_with_len}
+use Rattle.std.proofs.lemmas.List.{map-id, map-append, append-nil, length_push}
 use Rattle.std.proofs.lemmas.List.FromFn.{filter_of_map_range_with_len_more, map-range_with_len_more}
 use Rattle.mp_entries.specs.Entries.{nodes_below, ranks}
 

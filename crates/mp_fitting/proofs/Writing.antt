@@ -26,11 +26,11 @@ use Rattle.mp_program.specs.Effects.{Effect, Writes, Goes, Calls, Returns, branc
 use Rattle.mp_program.specs.Effects.{effects_of, written}
 use Rattle.mp_program.specs.State.{State, active}
 use Rattle.mp_program.specs.Environment.{clock_effects}
-use Rattle.mp_rules.specs.Entries.{IsAt}
+use Rattle.mp_base.specs.Entries.{IsAt}
 use Rattle.mp_rules.specs.Naming.{OwnNames}
 use Rattle.mp_rules.specs.Rules.{E22, E23}
 use Rattle.mp_rules.specs.Sorts.{Sort, IsWord, IsBit, name_sort, operand_sort, expr_sort, IsWanted}
-use Rattle.mp_rules.proofs.ListEntries.{some_entry, get_at}
+use Rattle.mp_base.proofs.ListEntries.{some_entry, get_at}
 use Rattle.mp_fitting.specs.Fitting.{def_limit, ValuesFit}
 use Rattle.mp_fitting.proofs.Sizes.{sort_limit, limit_positive, limit_is, sort_of, or_fits}
 use Rattle.mp_fitting.proofs.Operators.{apply_fits}

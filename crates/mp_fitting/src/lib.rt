@@ -13,7 +13,7 @@ ghost use Rattle.mp_program.specs.Reads.{IsOrder};
 ghost use Rattle.mp_program.specs.State.{State, IsState, zero_state};
 ghost use Rattle.mp_program.specs.Step.{next_state, outputs_of};
 ghost use Rattle.mp_program.specs.Values.{value_of};
-ghost use Rattle.mp_rules.specs.Entries.{IsAt};
+ghost use Rattle.mp_base.specs.Entries.{IsAt};
 ghost use Rattle.mp_rules.specs.Rules.{E20, E22, E23, E36};
 ghost use Rattle.mp_fitting.specs.Fitting.{ValuesFit, StateFits};
 

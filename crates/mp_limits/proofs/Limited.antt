@@ -7,10 +7,10 @@ use Rattle.mp_base.specs.declared.refusal.Place.{Place}
 use Rattle.mp_program.specs.declared.program.Form.{Form}
 use Rattle.mp_program.specs.declared.program.Process.{Process}
 use Rattle.mp_program.specs.declared.program.Program.{Program}
-use Rattle.mp_rules.specs.Entries.{IsAt}
+use Rattle.mp_base.specs.Entries.{IsAt}
 use Rattle.mp_rules.specs.Breaking.{IsEarliest}
 use Rattle.mp_rules.specs.Rules.{E42, E43}
-use Rattle.mp_rules.proofs.ListEntries.{at_get, get_at}
+use Rattle.mp_base.proofs.ListEntries.{at_get, get_at}
 use Rattle.mp_limits.specs.Finding.{earliest_in, place_that, far_form}
 use Rattle.mp_limits.proofs.Scans.{IsFoundIn, earliest_same, earliest_one, passes, passed}
 

@@ -20,10 +20,10 @@ use Rattle.mp_program.specs.declared.program.What.TheVariants.{Port}
 use Rattle.mp_program.specs.declared.program.Pin.{Pin}
 use Rattle.mp_program.specs.declared.program.Def.{Def}
 use Rattle.mp_program.specs.declared.program.Program.{Program}
-use Rattle.mp_rules.specs.Entries.{IsAt}
+use Rattle.mp_base.specs.Entries.{IsAt}
 use Rattle.mp_rules.specs.Breaking.{IsEarliest, earlier}
 use Rattle.mp_rules.specs.Rules.{E26}
-use Rattle.mp_rules.proofs.ListEntries.{at_get, get_at, at_pushed, at_push_cases}
+use Rattle.mp_base.proofs.ListEntries.{at_get, get_at, at_pushed, at_push_cases}
 use Rattle.mp_limits.specs.Finding.{earliest_in, is_padded_port, uneven_port, IsRepeatedIn, SeenPins, pins_before}
 use Rattle.mp_limits.proofs.Scans.{IsFoundIn, earliest_same, earliest_more, earliest_one}
 

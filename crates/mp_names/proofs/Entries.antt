@@ -2,7 +2,7 @@
 use Rattle.std.proofs.Common.{◌≡◌, ◌⊎◌, ℕ, zero, suc, List, [], ◌∷◌, ◌++◌, Bool, true, false, cond, refl, subst, inl}
 use Rattle.std.proofs.Common.{inr, arith, map, filter, ◌||◌}
 use Rattle.std.specs.List.{list_any}
-use Rattle.mp_rules.specs.Entries.{IsAt}
+use Rattle.mp_base.specs.Entries.{IsAt}
 
 -- an entry of which P is true
 abbrev pub Found : {X : Type 0} → List X → (X → Type 0) → Type 0

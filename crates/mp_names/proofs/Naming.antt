@@ -1,14 +1,13 @@
 -- What a table says of names.
 use Rattle.std.proofs.Common.{◌≡◌, ◌⊎◌, ℕ, zero, suc, ◌<◌, ◌≤◌, List, [], ◌∷◌, Bool, true, false, not, cond, leb, min}
 use Rattle.std.proofs.Common.{max, refl, subst, inl, inr, arith, Option, Some, None, is_some, map, filter}
-use Rattle.std.proofs.lemmas.Slice.Eq.{bytes_eq-Decides}
 use Rattle.std.proofs.lemmas.Bool.{leb-true, le-leb, leb-false}
 use Rattle.mp_program.specs.declared.program.Def.{Def}
 use Rattle.mp_program.specs.declared.program.Process.{Process}
 use Rattle.mp_program.specs.declared.program.Program.{Program}
 use Rattle.mp_program.specs.Names.{is_same, is_supply}
 use Rattle.mp_program.proofs.Definitions.{is_same_of, same_is}
-use Rattle.mp_rules.specs.Entries.{IsAt}
+use Rattle.mp_base.specs.Entries.{IsAt}
 use Rattle.mp_rules.specs.Naming.{Naming, namings, def_naming, process_naming}
 use Rattle.name_meanings.specs.Named.{least_offset, second_offset}
 use Rattle.name_meanings.specs.Seconds.{lesser, second_with}

@@ -9,7 +9,7 @@ use Rattle.mp_program.specs.declared.program.Form.{Form}
 use Rattle.mp_program.specs.declared.program.Program.{Program}
 use Rattle.mp_program.specs.Names.{is_same}
 use Rattle.mp_program.proofs.Definitions.{is_same_of, same_is}
-use Rattle.mp_rules.specs.Entries.{IsAt}
+use Rattle.mp_base.specs.Entries.{IsAt}
 use Rattle.mp_rules.specs.Rules.{E20, E21, E22, E27, is_unset}
 use Rattle.mp_rules.specs.Naming.{Naming, namings, def_naming, process_naming, is_reserved, Uses}
 use Rattle.mp_rules.specs.Breaking.{IsEarliest}

@@ -16,10 +16,10 @@ use Rattle.mp_program.specs.declared.program.Expr.{Expr}
 use Rattle.mp_program.specs.declared.program.Form.{Form}
 use Rattle.mp_program.specs.declared.program.Program.{Program}
 use Rattle.mp_program.specs.Names.{is_same}
-use Rattle.mp_rules.specs.Entries.{IsAt}
+use Rattle.mp_base.specs.Entries.{IsAt}
 use Rattle.mp_rules.specs.Sorts.{Sort, IsWord, IsBit, what_sort, name_sort, operand_sort, expr_sort, IsWanted}
 use Rattle.mp_rules.specs.Breaking.{IsEarliest}
-use Rattle.mp_rules.proofs.ListEntries.{at_get, get_at, contains_from_at}
+use Rattle.mp_base.proofs.ListEntries.{at_get, get_at, contains_from_at}
 use Rattle.mp_rules.proofs.Sorts.{same_sort}
 use Rattle.name_meanings.specs.declared.named.Named as known_names
 use Rattle.name_meanings.specs.declared.table.NameTable.{NameTable}

@@ -8,44 +8,31 @@ use Rattle.mp_program.specs.declared.program.What.TheVariants.{Power, Ground, Ph
 use Rattle.mp_program.specs.declared.program.What.TheVariants.{Flag, Port, Signal}
 use Rattle.mp_program.specs.declared.program.Def.{Def}
 use Rattle.mp_program.specs.Names.{is_supply}
-use Rattle.mp_rules.specs.Entries.{IsAt}
+use Rattle.mp_base.specs.Entries.{IsAt}
+use Rattle.mp_base.proofs.ListEntries.{at_push_cases, at_pushed}
 use Rattle.mp_rules.specs.Breaking.{IsEarliest, earlier}
 use Rattle.mp_names.specs.Finding.{earlier_of}
 use Rattle.mp_names.specs.Repeats.{Defines, Repeats, RepeatsSupply}
 use Rattle.mp_names.proofs.Earliest.{like, either}
 
--- an entry of a list with one more is one of the list, or the last
-at_push : (ds : List Def) (d : Def) (k : ℕ) (b : Def) → IsAt (ds ++ d ∷ []) k b
-    → IsAt ds k b ⊎ ((k ≡ length ds) × (b ≡ d))
-at_push [] d zero b (lt, is) = inr (refl, is)
-at_push [] d (suc k) b (lt, is) = absurd (omega (arith, lt))
-at_push (x ∷ xs) d zero b (lt, is) = inl (omega arith, is)
-at_push (x ∷ xs) d (suc k) b (lt, is) = elim (at_push xs d k b (omega (arith, lt), is)) [
-  | inl (below, same) ↦ inl (omega (arith, below), same)
-  | inr (e, same) ↦ inr (ap suc e, same)
-]
-
+-- an entry of a list is one of the list with one more
 push_at : (ds : List Def) (d : Def) (k : ℕ) (b : Def) → IsAt ds k b → IsAt (ds ++ d ∷ []) k b
 push_at [] d k b (lt, is) = absurd (omega (arith, lt))
 push_at (x ∷ xs) d zero b (lt, is) = (omega arith, is)
 push_at (x ∷ xs) d (suc k) b (lt, is) = let (below, same) = push_at xs d k b (omega (arith, lt), is) in
     (omega (arith, below), same)
 
-last_at : (ds : List Def) (d : Def) → IsAt (ds ++ d ∷ []) (length ds) d
-last_at [] d = (omega arith, refl)
-last_at (x ∷ xs) d = let (below, same) = last_at xs d in (omega (arith, below), same)
-
 -- what repeats in a list with one more definition repeats in the list, or is the last and the kind was there
 repeats_push : (ds : List Def) (d : Def) (w : What) (at : Place) → Repeats (ds ++ d ∷ []) w at
     → Repeats ds w at ⊎ (Defines ds w × (d.what ≡ w) × (at ≡ d.place))
-repeats_push ds d w at (j, k, a, b, first, second, lt, kind, same, is) = elim (at_push ds d j a first) [
+repeats_push ds d w at (j, k, a, b, first, second, lt, kind, same, is) = elim (at_push_cases ds d j a first) [
   | inr (e, _) ↦
-      absurd (let top = second.0 in let there = last_at ds d in
-      elim (at_push ds d k b second) [
+      absurd (let top = second.0 in let there = at_pushed ds d in
+      elim (at_push_cases ds d k b second) [
         | inl (below, _) ↦ omega (arith, below, lt, e)
         | inr (f, _) ↦ omega (arith, f, e, lt)
       ])
-  | inl before ↦ elim (at_push ds d k b second) [
+  | inl before ↦ elim (at_push_cases ds d k b second) [
     | inl there ↦ inl (j, k, a, b, before, there, lt, kind, same, is)
     | inr (f, last) ↦
         inr ((j, a, before, kind), sym (ap (λ (x : Def). x.what) last) ∙ same, is ∙ ap (λ (x : Def). x.place) last)
@@ -74,7 +61,7 @@ a_repeat ds d w found (j, a, before, kind) same h =
     like (λ at. Repeats ds w at ⊎ (at ≡ d.place)) (Repeats (ds ++ d ∷ []) w)
     (λ at g. elim g [
       | inl there ↦ repeats_before ds d w at there
-      | inr is ↦ (j, length ds, a, d, push_at ds d j a before, last_at ds d, before.0, kind, same, is)
+      | inr is ↦ (j, length ds, a, d, push_at ds d j a before, at_pushed ds d, before.0, kind, same, is)
     ])
     (λ at g. elim (repeats_push ds d w at g) [ inl there ↦ inl there | inr (defined, is_kind, is) ↦ inr is ])
     (earlier found d.place)
@@ -83,10 +70,10 @@ a_repeat ds d w found (j, a, before, kind) same h =
 
 defines_push : (ds : List Def) (d : Def) (w : What) → Defines ds w ⊎ (d.what ≡ w) → Defines (ds ++ d ∷ []) w
 defines_push ds d w (inl (j, a, there, kind)) = (j, a, push_at ds d j a there, kind)
-defines_push ds d w (inr kind) = (length ds, d, last_at ds d, kind)
+defines_push ds d w (inr kind) = (length ds, d, at_pushed ds d, kind)
 
 defines_before : (ds : List Def) (d : Def) (w : What) → Defines (ds ++ d ∷ []) w → Defines ds w ⊎ (d.what ≡ w)
-defines_before ds d w (j, a, there, kind) = elim (at_push ds d j a there) [
+defines_before ds d w (j, a, there, kind) = elim (at_push_cases ds d j a there) [
   | inl before ↦ inl (j, a, before, kind)
   | inr (e, last) ↦ inr (sym (ap (λ (x : Def). x.what) last) ∙ kind)
 ]

@@ -6,7 +6,7 @@ use Rattle.mp_program.specs.declared.program.What.{What}
 use Rattle.mp_program.specs.declared.program.Def.{Def}
 use Rattle.mp_program.specs.declared.program.Process.{Process}
 use Rattle.mp_program.specs.Names.{is_supply}
-use Rattle.mp_rules.specs.Entries.{IsAt}
+use Rattle.mp_base.specs.Entries.{IsAt}
 use Rattle.mp_rules.specs.Naming.{is_reserved}
 use Rattle.name_meanings.specs.declared.table.NameTable.{NameTable}
 use Rattle.name_meanings.specs.Table.{known}

@@ -13,10 +13,10 @@ use Rattle.mp_program.specs.Reads.{Reads, Chain, link, more, form_reads, roots}
 use Rattle.mp_program.proofs.Definitions.{same_is}
 use Rattle.name_meanings.specs.declared.meaning.Meanings.{Meanings}
 use Rattle.name_meanings.specs.Meaning.{AreMeanings}
-use Rattle.mp_rules.specs.Entries.{IsAt}
+use Rattle.mp_base.specs.Entries.{IsAt}
 use Rattle.mp_rules.specs.Breaking.{IsEarliest}
 use Rattle.mp_rules.specs.Rules.{E33}
-use Rattle.mp_rules.proofs.ListEntries.{at_get}
+use Rattle.mp_base.proofs.ListEntries.{at_get}
 use Rattle.mp_order.specs.declared.earliest.Setting.{Setting}
 use Rattle.mp_order.specs.Demands.{IsDriven, OwnNames, root}
 use Rattle.mp_order.specs.Chains.{SetsFlagged, FlaggedSet}

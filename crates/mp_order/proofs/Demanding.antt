@@ -18,8 +18,8 @@ use Rattle.mp_program.specs.Sound.{IsSound, InnerFit}
 use Rattle.mp_program.proofs.Definitions.{is_same_of, same_is}
 use Rattle.name_meanings.specs.declared.meaning.Meanings.{Meanings}
 use Rattle.name_meanings.specs.Meaning.{AreMeanings}
-use Rattle.mp_rules.specs.Entries.{IsAt}
-use Rattle.mp_rules.proofs.ListEntries.{at_get, get_at}
+use Rattle.mp_base.specs.Entries.{IsAt}
+use Rattle.mp_base.proofs.ListEntries.{at_get, get_at}
 use Rattle.mp_order.specs.Tables.{Lifted}
 use Rattle.mp_order.specs.Demands.{IsDriven, OwnNames, AreTops, Marked, root, AreMarks, Asks, AreDemands}
 use Rattle.mp_order.proofs.Mentions.{any_of}

@@ -14,7 +14,7 @@ use Rattle.mp_program.specs.Names.{is_driven}
 use Rattle.mp_program.specs.Sound.{IsSound}
 use Rattle.mp_program.specs.Reads.{Reads, Chain, link, more, IsOrder, form_reads, roots}
 use Rattle.mp_rules.specs.Rules.{E33}
-use Rattle.mp_rules.proofs.ListEntries.{at_get}
+use Rattle.mp_base.proofs.ListEntries.{at_get}
 use Rattle.mp_order.specs.Demands.{IsDriven, root}
 use Rattle.mp_order.specs.Chains.{AreReachers, Placed}
 use Rattle.mp_order.proofs.Tables.{one_entry}

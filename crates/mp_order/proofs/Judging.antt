@@ -8,8 +8,8 @@ use Rattle.mp_program.specs.declared.program.Def.{Def}
 use Rattle.mp_program.specs.declared.program.Program.{Program}
 use Rattle.mp_program.specs.Names.{is_driven}
 use Rattle.mp_program.specs.Reads.{Reads, Chain, link, more, IsOrder}
-use Rattle.mp_rules.specs.Entries.{IsAt}
-use Rattle.mp_rules.proofs.ListEntries.{at_get, get_at}
+use Rattle.mp_base.specs.Entries.{IsAt}
+use Rattle.mp_base.proofs.ListEntries.{at_get, get_at}
 use Rattle.mp_order.specs.Demands.{IsDriven, WeighsDriven, AreDemands}
 use Rattle.mp_order.specs.Ranks.{IsRanking, IsListing, Climbs}
 use Rattle.mp_order.proofs.Tables.{one_entry}

@@ -7,7 +7,7 @@ use Rattle.std.proofs.lemmas.List.Elements.{Contains-append_left, Contains-appen
 use Rattle.mp_program.specs.declared.program.Process.{Process}
 use Rattle.mp_program.specs.declared.program.Program.{Program}
 use Rattle.mp_program.specs.Reads.{process_roots, roots}
-use Rattle.mp_rules.specs.Entries.{IsAt}
+use Rattle.mp_base.specs.Entries.{IsAt}
 use Rattle.std.specs.List.{AllByRecursion}
 use Rattle.std.proofs.Common.{replicate}
 use Rattle.std.proofs.lemmas.List.{get_or-replicate, get_or_past, length-replicate}
@@ -16,7 +16,7 @@ use Rattle.mp_program.specs.declared.program.Form.{Form}
 use Rattle.mp_program.specs.declared.program.FormKind.{FormKind}
 use Rattle.mp_program.specs.declared.program.FormKind.TheVariants.{Set, Cond, Par, Go, Call, Return}
 use Rattle.mp_program.specs.Sound.{IsSound, InnerFit, AllBetween}
-use Rattle.mp_rules.proofs.ListEntries.{all_at, get_at}
+use Rattle.mp_base.proofs.ListEntries.{all_at, get_at}
 use Rattle.mp_order.specs.Tables.{Lifted}
 use Rattle.mp_order.specs.Demands.{Gives, Marked, root, inner, AreMarks}
 use Rattle.mp_order.proofs.Tables.{lifted_as, lifted_join, one_entry}

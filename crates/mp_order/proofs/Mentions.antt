@@ -18,8 +18,8 @@ use Rattle.mp_program.specs.Sound.{AllBetween}
 use Rattle.mp_program.proofs.Definitions.{is_same_of, same_is}
 use Rattle.name_meanings.specs.declared.meaning.Meanings.{Meanings}
 use Rattle.name_meanings.specs.Meaning.{AreMeanings}
-use Rattle.mp_rules.specs.Entries.{IsAt}
-use Rattle.mp_rules.proofs.ListEntries.{all_at}
+use Rattle.mp_base.specs.Entries.{IsAt}
+use Rattle.mp_base.proofs.ListEntries.{all_at}
 use Rattle.mp_order.specs.Demands.{IsDriven, OwnNames, WeighsDriven, AreTops}
 use Rattle.mp_order.proofs.Names.{meant}
 use Rattle.mp_order.proofs.Marks.{entry}

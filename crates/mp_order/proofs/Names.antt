@@ -5,7 +5,7 @@ use Rattle.std.proofs.lemmas.Slice.Eq.{bytes_eq-Decides}
 use Rattle.mp_program.specs.declared.program.Def.{Def}
 use Rattle.mp_program.specs.Names.{is_same, index_of}
 use Rattle.mp_program.proofs.Definitions.{same_is}
-use Rattle.mp_rules.specs.Entries.{IsAt}
+use Rattle.mp_base.specs.Entries.{IsAt}
 
 -- the definition that a name means has that name
 pub meant : (ds : List Def) (x : List ℕ) (d : ℕ) (y : Def) → IsAt ds d y → index_of ds x ≡ d → y.name ≡ x

@@ -9,7 +9,7 @@ use Rattle.std.proofs.lemmas.List.Edits.{get_or-insert_at, get_or-insert_below, 
 use Rattle.mp_program.specs.declared.program.Def.{Def}
 use Rattle.mp_program.specs.declared.program.Program.{Program}
 use Rattle.mp_program.specs.Reads.{Reads, Chain, link, IsOrder}
-use Rattle.mp_rules.proofs.ListEntries.{at_get, get_at}
+use Rattle.mp_base.proofs.ListEntries.{at_get, get_at}
 use Rattle.mp_order.specs.Demands.{IsDriven}
 use Rattle.mp_order.specs.Chains.{AreReachers, Placed}
 use Rattle.mp_order.proofs.Closing.{FlagsClosed, read_driven, start_driven, join}

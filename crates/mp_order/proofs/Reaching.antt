@@ -8,7 +8,7 @@ use Rattle.std.proofs.lemmas.List.Sums.{sum_by-set}
 use Rattle.mp_program.specs.declared.program.Def.{Def}
 use Rattle.mp_program.specs.declared.program.Program.{Program}
 use Rattle.mp_program.specs.Reads.{Reads, Chain, link, more}
-use Rattle.mp_rules.proofs.ListEntries.{at_get}
+use Rattle.mp_base.proofs.ListEntries.{at_get}
 use Rattle.mp_order.specs.Demands.{IsDriven, WeighsDriven, AreDemands}
 use Rattle.mp_order.specs.Chains.{Widened, blanks, AreReachers}
 use Rattle.mp_order.proofs.Marks.{zero_at}

@@ -16,8 +16,8 @@ use Rattle.mp_program.specs.Names.{is_same}
 use Rattle.mp_program.specs.Reads.{mentions, sets, kind_sets, branches_set, form_reads, kind_reads, branches_read}
 use Rattle.mp_program.specs.Reads.{roots}
 use Rattle.mp_program.specs.Sound.{IsSound, InnerFit, AllBetween}
-use Rattle.mp_rules.specs.Entries.{IsAt}
-use Rattle.mp_rules.proofs.ListEntries.{all_at, get_at}
+use Rattle.mp_base.specs.Entries.{IsAt}
+use Rattle.mp_base.proofs.ListEntries.{all_at, get_at}
 use Rattle.mp_order.specs.Demands.{IsDriven, AreTops, Gives, Marked, root, inner}
 use Rattle.mp_order.proofs.Mentions.{any_of, any_at}
 use Rattle.mp_order.proofs.Marks.{entry, given_inside}

@@ -8,7 +8,7 @@ use Rattle.mp_program.specs.declared.program.FormKind.TheVariants.{Set}
 use Rattle.mp_program.specs.declared.program.Form.{Form}
 use Rattle.mp_program.specs.declared.program.Program.{Program}
 use Rattle.name_meanings.specs.declared.meaning.Meanings.{Meanings}
-use Rattle.mp_rules.specs.Entries.{IsAt}
+use Rattle.mp_base.specs.Entries.{IsAt}
 use Rattle.mp_order.specs.declared.earliest.Setting.{Setting}
 use Rattle.mp_order.specs.Chains.{IsSet, SetsFlagged, FlaggedSet}
 use Rattle.mp_order.proofs.Tables.{one_entry}

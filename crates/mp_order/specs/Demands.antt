@@ -9,7 +9,7 @@ use Rattle.mp_program.specs.declared.program.Form.{Form}
 use Rattle.mp_program.specs.declared.program.Program.{Program}
 use Rattle.mp_program.specs.Names.{is_driven, index_of}
 use Rattle.mp_program.specs.Reads.{mentions, roots, Reads}
-use Rattle.mp_rules.specs.Entries.{IsAt}
+use Rattle.mp_base.specs.Entries.{IsAt}
 use Rattle.name_meanings.specs.declared.meaning.Meanings.{Meanings}
 
 -- the definition at an index, which is x, is driven

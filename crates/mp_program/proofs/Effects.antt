@@ -16,7 +16,7 @@ use Rattle.mp_program.specs.Values.{value_of}
 use Rattle.mp_program.specs.Effects.{Effect, Writes, Goes, Calls, Returns, branch_effects, kind_effects, effects_of}
 use Rattle.mp_program.specs.Effects.{written}
 use Rattle.mp_program.specs.Reads.{mentions, kind_sets, sets, branches_set, kind_reads, form_reads, branches_read}
-use Rattle.mp_program.proofs.Elements.{read_of}
+use Rattle.mp_base.proofs.Elements.{read_of}
 use Rattle.mp_program.proofs.Tables.{table_at}
 use Rattle.mp_program.proofs.Walks.{flat_map-behind, list_any-behind}
 use Rattle.mp_program.proofs.Values.{Agrees, value_agrees}

@@ -22,7 +22,7 @@ use Rattle.mp_program.specs.Reads.{form_reads, process_roots, roots, Reads, IsOr
 use Rattle.mp_program.proofs.Definitions.{named, what_value-given}
 use Rattle.mp_program.proofs.Values.{Agrees}
 use Rattle.mp_program.proofs.Effects.{written-append, writes_agree}
-use Rattle.mp_program.proofs.Elements.{read_of}
+use Rattle.mp_base.proofs.Elements.{read_of}
 
 -- ---- the clock's writes
 

@@ -15,7 +15,7 @@ use Rattle.mp_program.specs.Environment.{what_value, driven_value, IsEnvironment
 use Rattle.mp_program.specs.Step.{next_state, outputs_of}
 use Rattle.mp_program.specs.Trace.{IsTraceFrom}
 use Rattle.mp_program.specs.Reads.{IsOrder}
-use Rattle.mp_program.proofs.Elements.{read_of}
+use Rattle.mp_base.proofs.Elements.{read_of}
 use Rattle.mp_program.proofs.Soundness.{sound}
 use Rattle.mp_program.proofs.Definitions.{what_value-driven, what_value-given}
 use Rattle.mp_program.proofs.Environment.{driven_agrees}

@@ -1,5 +1,4 @@
 mod Rows
-pub mod Elements
 pub mod Tables
 pub mod Walks
 pub mod Definitions

@@ -15,7 +15,7 @@ use Rattle.mp_program.specs.Sound.{IsSound, ArgsFit, AllBetween}
 use Rattle.mp_program.specs.Names.{index_of, is_same}
 use Rattle.mp_program.specs.Values.{kind_value, value_of}
 use Rattle.mp_program.specs.Reads.{kind_mentions, mentions}
-use Rattle.mp_program.proofs.Elements.{read_of}
+use Rattle.mp_base.proofs.Elements.{read_of}
 use Rattle.mp_program.proofs.Tables.{table_at}
 use Rattle.mp_program.proofs.Walks.{map-behind, list_any-behind}
 

@@ -1,4 +1,3 @@
-pub mod ListEntries
 pub mod Sequences
 pub mod Sorts
 pub mod Unbroken

@@ -20,11 +20,11 @@ use Rattle.mp_program.specs.Effects.{Effect, Writes, Goes, Calls, Returns, branc
 use Rattle.mp_program.specs.Sound.{IsSound, AllBetween, BranchesFit, InnerFit}
 use Rattle.mp_program.specs.State.{Seat}
 use Rattle.mp_program.specs.Step.{next_seat}
-use Rattle.mp_rules.specs.Entries.{IsAt}
+use Rattle.mp_base.specs.Entries.{IsAt}
 use Rattle.mp_rules.specs.Moves.{is_move, moves}
 use Rattle.mp_rules.specs.Rules.{E30, E32}
 use Rattle.mp_rules.specs.Standing.{Under, itself, deeper, IsLater, is_transfer, sequences}
-use Rattle.mp_rules.proofs.ListEntries.{some_entry, get_at}
+use Rattle.mp_base.proofs.ListEntries.{some_entry, get_at}
 use Rattle.mp_rules.proofs.Sequences.{in_sequence, under_more}
 
 -- ---- members of lists

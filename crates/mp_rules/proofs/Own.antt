@@ -12,7 +12,7 @@ use Rattle.mp_program.specs.declared.program.Program.{Program}
 use Rattle.mp_program.specs.Names.{is_same, is_supply, index_of}
 use Rattle.mp_program.specs.Fits.{is_symbol, def_fits}
 use Rattle.mp_program.proofs.FormKinds.{defs_fit}
-use Rattle.mp_rules.specs.Entries.{IsAt}
+use Rattle.mp_base.specs.Entries.{IsAt}
 use Rattle.mp_rules.specs.Naming.{Naming, def_naming, process_naming, OwnNames}
 use Rattle.mp_rules.specs.Rules.{E20}
 

@@ -7,12 +7,12 @@ use Rattle.mp_program.specs.declared.program.Pin.{Pin}
 use Rattle.mp_program.specs.declared.program.Def.{Def}
 use Rattle.mp_program.specs.declared.program.Program.{Program}
 use Rattle.mp_program.specs.Names.{is_supply}
-use Rattle.mp_rules.specs.Entries.{IsAt}
+use Rattle.mp_base.specs.Entries.{IsAt}
 use Rattle.mp_rules.specs.Naming.{Naming, namings, def_naming, process_naming, Uses}
 use Rattle.mp_rules.specs.Rules.{pins}
 use Rattle.mp_rules.specs.Breaking.{Breaks}
 use Rattle.mp_rules.specs.Places.{HasPlace}
-use Rattle.mp_rules.proofs.ListEntries.{at_map, at_filter}
+use Rattle.mp_base.proofs.ListEntries.{at_map, at_filter}
 
 -- an entry of two lists is one of either
 at_append : {X : Type 0} (xs ys : List X) (k : ℕ) (x : X) → IsAt (xs ++ ys) k x

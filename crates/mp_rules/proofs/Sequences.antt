@@ -10,7 +10,7 @@ use Rattle.mp_program.specs.declared.program.FormKind.TheVariants.{Set, Cond, Pa
 use Rattle.mp_program.specs.declared.program.Program.{Program}
 use Rattle.mp_program.specs.declared.program.Form.{Form}
 use Rattle.mp_rules.specs.Standing.{sequences, Under, itself, deeper}
-use Rattle.mp_rules.specs.Entries.{IsAt}
+use Rattle.mp_base.specs.Entries.{IsAt}
 
 -- the body of a branch stands in the `cond`
 pub in_bodies : (bs : List Branch) (fs : List ℕ) (g : ℕ) → Contains (map (λ (b : Branch). b.body) bs) fs → Contains fs g

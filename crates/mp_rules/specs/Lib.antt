@@ -1,4 +1,3 @@
-pub mod Entries
 pub mod Naming
 pub mod Sorts
 pub mod Standing

@@ -19,7 +19,7 @@ use Rattle.mp_program.specs.declared.program.Program.{Program}
 use Rattle.mp_program.specs.Names.{is_input, is_stored, is_supply, is_reset}
 use Rattle.mp_program.specs.Reads.{Chain}
 use Rattle.mp_program.specs.Weight.{weight}
-use Rattle.mp_rules.specs.Entries.{IsAt}
+use Rattle.mp_base.specs.Entries.{IsAt}
 use Rattle.mp_rules.specs.Naming.{Naming, namings, is_reserved, supplies, Uses}
 use Rattle.mp_rules.specs.Sorts.{Sort, expr_sort, IsWanted}
 use Rattle.mp_rules.specs.Standing.{StandsIn, is_transfer, uses_stack, label_of, IsLater}

@@ -8,7 +8,7 @@ ghost use Rattle.mp_program.specs.declared.program.Program as spec;
 ghost use Rattle.mp_program.specs.Effects.{Effect, effects_of};
 ghost use Rattle.mp_program.specs.State.{Seat};
 ghost use Rattle.mp_program.specs.Step.{next_seat};
-ghost use Rattle.mp_rules.specs.Entries.{IsAt};
+ghost use Rattle.mp_base.specs.Entries.{IsAt};
 ghost use Rattle.mp_rules.specs.Moves.{moves};
 ghost use Rattle.mp_rules.specs.Naming.{namings, OwnNames};
 ghost use Rattle.mp_rules.specs.Rules.{E20, E30, E32, E40};

@@ -4,7 +4,7 @@ use Rattle.std.proofs.Common.{None}
 use Rattle.std.specs.List.{filter_map, cons_option, range_with_len}
 use Rattle.std.proofs.lemmas.List.FromFn.{length-range_with_len, get_or-range_with_len}
 use Rattle.std.proofs.lemmas.List.{get_or-drop, length-drop}
-use Rattle.mp_rules.specs.Entries.{IsAt}
+use Rattle.mp_base.specs.Entries.{IsAt}
 
 pub at_filter_map : {X Y : Type 0} (g : X → Option Y) (xs : List X) (k : ℕ) (y : Y) → IsAt (filter_map g xs) k y
     → (j : ℕ) × (x : X) × IsAt xs j x × (g x ≡ Some y)

@@ -25,9 +25,9 @@ use Rattle.mp_entries.specs.Entries.{name_at, form_kind, form_at, expr_at, nodes
 use Rattle.mp_entries.specs.Entries.{is_form}
 use Rattle.mp_syntax.specs.Shape.{IsShape, pin_at, pin_nodes, def_of, def_in, def_at, labels_from, process_of}
 use Rattle.mp_syntax.specs.Shape.{process_in, process_at}
-use Rattle.mp_rules.specs.Entries.{IsAt}
+use Rattle.mp_base.specs.Entries.{IsAt}
 use Rattle.mp_rules.specs.Places.{HasPlace}
-use Rattle.mp_rules.proofs.ListEntries.{at_map, at_filter}
+use Rattle.mp_base.proofs.ListEntries.{at_map, at_filter}
 use Rattle.mp_source.proofs.Members.{at_filter_map, at_drop, at_range}
 use Rattle.mp_source.proofs.Placed.{item_within}
 

@@ -1,6 +1,6 @@
 -- How many items a list of each shape has, and what may be the name of a definition.
-use Rattle.std.proofs.Common.{◌≡◌, ◌≢◌, ◌⊎◌, ℕ, suc, ◌+◌, ◌-◌, ◌<◌, ◌≤◌, Bool, true, false, not, cond, List, [], ◌∷◌}
-use Rattle.std.proofs.Common.{refl, sym, ◌∙◌, ap, subst, length, arith, Option, Some, None, slice_index, ◌&&◌, ◌||◌}
+use Rattle.std.proofs.Common.{◌≡◌, ◌≢◌, ℕ, ◌-◌, ◌<◌, ◌≤◌, Bool, true, false, not, cond, List, ◌∷◌}
+use Rattle.std.proofs.Common.{refl, ap, subst, length, arith, Option, Some, None, slice_index, ◌&&◌, ◌||◌}
 use Rattle.std.proofs.Common.{nat_lt, nat_le, ◌==◌, codes}
 use Rattle.std.specs.Str.{bytes_eq}
 use Rattle.std.proofs.lemmas.Bool.{and_parts, lt-ltb, eqb-true, eqb-false, eq-eqb, leb-true, ne_eqb}
@@ -15,7 +15,7 @@ use Rattle.mp_shapes.specs.declared.table.Class.TheVariants.{Whole, Item, Elemen
 use Rattle.mp_shapes.specs.declared.table.Definition.{Definition}
 use Rattle.mp_shapes.specs.declared.table.Definition.TheVariants as definitions
 use Rattle.mp_shapes.specs.declared.table.Layout.{Layout}
-use Rattle.mp_shapes.specs.declared.table.Layout.TheVariants.{Leaf, Program, Def, Always, Process, Setq, Cond, Par, Go}
+use Rattle.mp_shapes.specs.declared.table.Layout.TheVariants.{Program, Always, Process, Setq, Cond, Par, Go}
 use Rattle.mp_shapes.specs.declared.table.Layout.TheVariants.{Call, Return, Guarded, Apply, Bit}
 use Rattle.mp_shapes.specs.Layout as shapes
 use Rattle.mp_shapes.specs.Layout.{layout, when, word_of}

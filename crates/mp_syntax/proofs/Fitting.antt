@@ -1,11 +1,11 @@
 -- What the type of a program says, of the program that forms spell.
-use Rattle.std.proofs.Common.{◌≡◌, ◌⊎◌, inl, inr, ℕ, zero, suc, ◌+◌, ◌-◌, ◌<◌, ◌≤◌, Bool, true, false, not, cond, List}
+use Rattle.std.proofs.Common.{◌≡◌, ℕ, zero, suc, ◌+◌, ◌-◌, ◌<◌, ◌≤◌, Bool, true, false, not, cond, List}
 use Rattle.std.proofs.Common.{[], ◌∷◌, ◌++◌, refl, sym, ◌∙◌, ap, subst, length, map, arith, drop, Option, Some, None}
-use Rattle.std.proofs.Common.{slice_index, slice_index_or, ◌&&◌, ◌||◌, nat_lt, nat_le, ◌==◌, codes}
+use Rattle.std.proofs.Common.{slice_index, ◌&&◌, nat_lt, nat_le, ◌==◌, codes}
 use Rattle.std.specs.List.{list_all, filter, filter_map, flat_map, cons_option}
 use Rattle.std.specs.Str.{bytes_eq}
 use Rattle.std.proofs.lemmas.Bool.{and_from, and_parts, lt-ltb, le-leb, ne_eqb}
-use Rattle.std.proofs.lemmas.List.{get_or-drop, length-drop, length-map, length-append, append-nil, map-append}
+use Rattle.std.proofs.lemmas.List.{get_or-drop, length-drop, length-map, map-append}
 use Rattle.std.proofs.lemmas.List.Folds.{list_all-append}
 use Rattle.form_reader.specs.declared.forms.Kind.{Kind}
 use Rattle.form_reader.specs.declared.forms.Kind.TheVariants.{Number, Symbol, Group}
@@ -29,12 +29,12 @@ use Rattle.mp_program.specs.declared.program.Label.{Label}
 use Rattle.mp_program.specs.declared.program.Process.{Process}
 use Rattle.mp_program.specs.Fits as fits
 use Rattle.mp_entries.specs.Entries.{branch_at, expr_at, expr_index, expr_kind, form_at, form_index, form_kind, is_expr}
-use Rattle.mp_entries.specs.Entries.{is_form, list_expr, name_at, nodes_below, number_at, number_of, ranks, symbol_expr}
+use Rattle.mp_entries.specs.Entries.{is_form, list_expr, name_at, nodes_below, number_at, number_of}
 use Rattle.mp_syntax.specs.Shape.{always_at, always_in, def_at, def_in, labels_from, process_at, process_in, process_of}
-use Rattle.mp_syntax.proofs.Counts.{Counts, HasCounts, layout_counts, shaped, NamesFit, definition_fits}
+use Rattle.mp_syntax.proofs.Counts.{Counts, layout_counts, shaped, definition_fits}
 use Rattle.mp_entries.proofs.Numbering.{nodes_below_with, nodes_below_without}
 use Rattle.mp_syntax.proofs.Standing.{child, passes_expr, passes_form, passes_element, expr_stands, form_stands}
-use Rattle.mp_syntax.proofs.Standing.{word_fits, in_range, behind_it, less}
+use Rattle.mp_syntax.proofs.Standing.{word_fits, in_range, behind_it}
 
 all_map : {X : Type 0} (p : X → Bool) (h : ℕ → X) (xs : List ℕ)
     → ((k : ℕ) → k < length xs → p (h (slice_index xs k)) ≡ true) → list_all p (map h xs) ≡ true

@@ -1,5 +1,5 @@
 -- Which node holds what stands in a place of the program.
-use Rattle.std.proofs.Common.{◌≡◌, ◌⊎◌, inl, inr, ℕ, ◌<◌, ◌≤◌, Bool, true, List, [], ◌∷◌, refl, sym, ◌∙◌, subst, length}
+use Rattle.std.proofs.Common.{◌≡◌, inl, inr, ℕ, ◌<◌, ◌≤◌, Bool, true, List, [], refl, sym, ◌∙◌, subst, length}
 use Rattle.std.proofs.Common.{map, arith, drop, Option, Some, slice_index}
 use Rattle.std.specs.List.{flat_map}
 use Rattle.std.proofs.lemmas.Bool.{cases_lt}
@@ -11,7 +11,7 @@ use Rattle.mp_shapes.specs.declared.table.Layout.{Layout}
 use Rattle.mp_shapes.specs.declared.table.Layout.TheVariants.{Guarded}
 use Rattle.mp_shapes.specs.Layout.{layout, item_class}
 use Rattle.mp_shapes.specs.Standing.{StandsFor}
-use Rattle.mp_entries.specs.Entries.{nodes_below, ranks}
+use Rattle.mp_entries.specs.Entries.{ranks}
 use Rattle.mp_syntax.proofs.Fitting.{Known, inner}
 use Rattle.mp_syntax.proofs.Standing.{index_is, less}
 use Rattle.mp_syntax.proofs.Distinct.{Among, Distinct, among_drop, among_flat, among_map, distinct_drop, distinct_flat}

@@ -1,5 +1,5 @@
 -- In the program that forms spell nothing stands in two places.
-use Rattle.std.proofs.Common.{◌≡◌, ◌⊎◌, inl, inr, ℕ, ◌<◌, ◌≤◌, ◌==◌, Bool, true, false, not, cond, List, [], ◌∷◌, ◌++◌}
+use Rattle.std.proofs.Common.{◌≡◌, inl, inr, ℕ, ◌<◌, ◌≤◌, Bool, true, false, not, cond, List, [], ◌∷◌, ◌++◌}
 use Rattle.std.proofs.Common.{refl, sym, ◌∙◌, ap, subst, length, map, arith, drop, Option, Some, None, slice_index}
 use Rattle.std.proofs.Common.{codes}
 use Rattle.std.specs.List.{filter, filter_map, flat_map, cons_option, range_with_len}
@@ -25,15 +25,15 @@ use Rattle.mp_program.specs.declared.program.Process.{Process}
 use Rattle.mp_program.specs.Tree.{is_distinct, operands, exprs_in, inner as inner_forms, expr_places, form_places}
 use Rattle.mp_entries.specs.Entries.{branch_at, expr_at, expr_index, expr_kind, form_at, form_index, form_kind, is_expr}
 use Rattle.mp_entries.specs.Entries.{is_form, list_expr, nodes_below}
-use Rattle.mp_syntax.specs.Shape.{always_at, always_in, process_at, process_in, process_of}
+use Rattle.mp_syntax.specs.Shape.{always_at, always_in, process_at, process_in}
 use Rattle.mp_syntax.proofs.Fitting.{Known, inner, counts, guarded as guarded_shape, not_head, not_first, not_number}
 use Rattle.mp_syntax.proofs.Standing.{expr_stands, form_stands, passes_element, passes_expr, passes_form}
 use Rattle.mp_syntax.proofs.Distinct.{Among, Distinct, among_append, among_drop, among_filter, among_flat, among_map}
 use Rattle.mp_syntax.proofs.Distinct.{among_range, distinct_append, distinct_drop, distinct_filter, distinct_flat}
 use Rattle.mp_syntax.proofs.Distinct.{distinct_map, distinct_range, passes_distinct}
 use Rattle.mp_syntax.proofs.Holding.{items_at, AllHeld, AllStem, Group, Holds, Stemming, Stems, all_held, all_stem}
-use Rattle.mp_syntax.proofs.Holding.{direct, direct_stems, dropped, group, guarded, held_apart, index_of, no_group}
-use Rattle.mp_syntax.proofs.Holding.{no_stems, nodes_distinct, one_holder, one_shape, one_stem}
+use Rattle.mp_syntax.proofs.Holding.{direct_stems, dropped, group, guarded, held_apart, no_group}
+use Rattle.mp_syntax.proofs.Holding.{no_stems, nodes_distinct, one_holder, one_shape}
 
 -- the top-level forms of a process, if it is one
 abbrev pub roots_of : Option Process → List ℕ

@@ -1,22 +1,22 @@
 -- What the nodes of a form or expression stand for, and the indices of their entries.
-use Rattle.std.proofs.Common.{◌≡◌, ◌≢◌, ◌⊎◌, inl, inr, ℕ, zero, suc, ◌+◌, ◌-◌, ◌<◌, ◌≤◌, Bool, true, false, not, cond}
-use Rattle.std.proofs.Common.{List, [], ◌∷◌, ◌++◌, refl, sym, ◌∙◌, ap, subst, length, map, arith, drop, Option, Some}
-use Rattle.std.proofs.Common.{None, slice_index, slice_index_or, ◌&&◌, nat_lt, nat_le, ◌==◌}
-use Rattle.std.proofs.lemmas.Bool.{and_from, lt-ltb, eqb-true, leb-true, ne_eqb, and_parts}
+use Rattle.std.proofs.Common.{◌≡◌, ℕ, zero, suc, ◌+◌, ◌-◌, ◌<◌, ◌≤◌, Bool, true, false, not, cond}
+use Rattle.std.proofs.Common.{List, refl, ◌∙◌, ap, length, arith, Option, Some}
+use Rattle.std.proofs.Common.{None, slice_index, slice_index_or, ◌&&◌, nat_lt, ◌==◌}
+use Rattle.std.proofs.lemmas.Bool.{and_from, lt-ltb}
 use Rattle.std.proofs.lemmas.List.{length_push}
 use Rattle.std.proofs.lemmas.List.FromFn.{get_or-map-range_with_len}
 use Rattle.form_reader.specs.declared.forms.Kind.{Kind}
 use Rattle.form_reader.specs.declared.forms.Kind.TheVariants.{Number, Symbol, Group}
 use Rattle.form_reader.specs.declared.forms.Forms.{Forms}
-use Rattle.form_reader.specs.Sound.{IsSound, HasSymbols, kind_at, items_of}
+use Rattle.form_reader.specs.Sound.{HasSymbols, kind_at, items_of}
 use Rattle.mp_shapes.specs.declared.table.Class.{Class}
 use Rattle.mp_shapes.specs.declared.table.Class.TheVariants.{Whole, Item, Element, Action, Branch, Value, Word, Numeral}
 use Rattle.mp_shapes.specs.declared.table.Layout.{Layout}
 use Rattle.mp_shapes.specs.Layout.{layout, item_class, word_of, is_symbol}
-use Rattle.mp_shapes.specs.Standing.{StandsFor, root, item, AreClasses}
+use Rattle.mp_shapes.specs.Standing.{StandsFor, item, AreClasses}
 use Rattle.mp_program.specs.Fits as fits
-use Rattle.mp_entries.specs.Entries.{nodes_below, ranks, is_expr, is_form, stands_for_expr, stands_for_form, expr_index}
-use Rattle.mp_entries.specs.Entries.{form_index, name_at}
+use Rattle.mp_entries.specs.Entries.{nodes_below, ranks, is_expr, is_form, stands_for_expr, stands_for_form}
+use Rattle.mp_entries.specs.Entries.{name_at}
 use Rattle.mp_entries.proofs.Numbering.{nodes_below_with, nodes_below_without}
 
 -- more nodes below a greater bound

@@ -1,6 +1,6 @@
 -- The program that forms spell is a tree.
-use Rattle.std.proofs.Common.{◌≡◌, ℕ, ◌+◌, ◌<◌, ◌≤◌, Bool, true, List, [], ◌∷◌, refl, sym, ◌∙◌, ap, subst, length, map}
-use Rattle.std.proofs.Common.{arith, drop, Option, Some, slice_index, ◌&&◌}
+use Rattle.std.proofs.Common.{◌≡◌, ℕ, ◌<◌, true, List, ◌∷◌, sym, ◌∙◌, ap, subst, length, map}
+use Rattle.std.proofs.Common.{drop, Option}
 use Rattle.std.specs.List.{filter_map, flat_map}
 use Rattle.std.proofs.lemmas.Bool.{and_from}
 use Rattle.form_reader.specs.declared.forms.Forms.{Forms}
@@ -9,14 +9,13 @@ use Rattle.mp_shapes.specs.declared.table.Class.{Class}
 use Rattle.mp_shapes.specs.declared.table.Class.TheVariants as classes
 use Rattle.mp_shapes.specs.declared.table.Layout.{Layout}
 use Rattle.mp_shapes.specs.declared.table.Layout.TheVariants as layouts
-use Rattle.mp_shapes.specs.Layout.{layout}
 use Rattle.mp_shapes.specs.Standing.{StandsFor, root}
 use Rattle.mp_program.specs.declared.program.Expr.{Expr}
 use Rattle.mp_program.specs.declared.program.Form.{Form}
 use Rattle.mp_program.specs.declared.program.Process.{Process}
-use Rattle.mp_program.specs.Tree.{are_low, exprs_in, expr_heights, expr_places, form_heights, form_places}
-use Rattle.mp_program.specs.Tree.{inner as inner_forms, is_distinct, is_tree, operands}
-use Rattle.mp_entries.specs.Entries.{expr_at, expr_index, form_at, form_index, is_expr, is_form, nodes_below}
+use Rattle.mp_program.specs.Tree.{are_low, expr_heights, form_heights}
+use Rattle.mp_program.specs.Tree.{inner as inner_forms, is_tree, operands}
+use Rattle.mp_entries.specs.Entries.{expr_at, expr_index, form_index, is_expr, is_form}
 use Rattle.mp_syntax.specs.Shape.{always_at, process_at}
 use Rattle.mp_syntax.proofs.Distinct.{Among, Distinct, among_drop, distinct_drop}
 use Rattle.mp_syntax.proofs.Fitting.{Known, inner, is_program, not_number, root_inside}

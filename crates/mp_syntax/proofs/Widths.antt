@@ -1,5 +1,5 @@
 -- The one form, and the word length.
-use Rattle.std.proofs.Common.{◌≡◌, ◌⊎◌, inl, inr, ℕ, ◌+◌, ◌<◌, ◌≤◌, List, [], ◌∷◌, refl, sym, ◌∙◌, ap, subst, length}
+use Rattle.std.proofs.Common.{◌≡◌, ◌⊎◌, inl, inr, ℕ, ◌<◌, ◌≤◌, List, [], ◌∷◌, refl, sym, ◌∙◌, ap, subst, length}
 use Rattle.std.proofs.Common.{arith, Option, slice_index, slice_index_or}
 use Rattle.mp_base.specs.Refuses.{RefusesAt}
 use Rattle.mp_base.specs.declared.refusal.Place.{Place}

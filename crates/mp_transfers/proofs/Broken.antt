@@ -1,7 +1,7 @@
 -- The rules, from the entries of the tables.
 use Rattle.std.proofs.Common.{◌≡◌, ◌⊎◌, inl, inr, ℕ, ◌<◌, List, length, Option}
 use Rattle.std.specs.Prelude.{Contains}
-use Rattle.mp_rules.specs.Entries.{IsAt}
+use Rattle.mp_base.specs.Entries.{IsAt}
 use Rattle.std.proofs.lemmas.List.Elements.{All-contains}
 use Rattle.mp_base.specs.declared.refusal.Place.{Place}
 use Rattle.mp_program.specs.declared.program.Process.{Process}

@@ -5,9 +5,9 @@ use Rattle.std.specs.Prelude.{nat_le}
 use Rattle.std.proofs.lemmas.List.{get_or_default}
 use Rattle.std.proofs.lemmas.Bool.{cases_lt, leb-true, leb-false}
 use Rattle.mp_base.specs.declared.refusal.Place.{Place}
-use Rattle.mp_rules.specs.Entries.{IsAt}
+use Rattle.mp_base.specs.Entries.{IsAt}
 use Rattle.mp_rules.specs.Breaking.{IsEarliest, earlier}
-use Rattle.mp_rules.proofs.ListEntries.{one_entry}
+use Rattle.mp_base.proofs.ListEntries.{one_entry}
 use Rattle.mp_transfers.specs.Tables.{join}
 
 -- an entry of a list is what stands there

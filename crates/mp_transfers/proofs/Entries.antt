@@ -10,10 +10,10 @@ use Rattle.mp_program.specs.declared.program.Form.{Form}
 use Rattle.mp_program.specs.declared.program.Program.{Program}
 use Rattle.mp_program.specs.Weight.{inner}
 use Rattle.mp_program.specs.Sound.{IsSound}
-use Rattle.mp_rules.specs.Entries.{IsAt}
+use Rattle.mp_base.specs.Entries.{IsAt}
 use Rattle.mp_rules.specs.Standing.{itself, deeper, sequences}
 use Rattle.mp_rules.specs.Breaking.{IsEarliest, earlier}
-use Rattle.mp_rules.proofs.ListEntries.{one_entry, contains_from_at}
+use Rattle.mp_base.proofs.ListEntries.{one_entry, contains_from_at}
 use Rattle.mp_rules.proofs.Sequences.{in_sequence}
 use Rattle.mp_transfers.specs.declared.tables.Sought.{Sought}
 use Rattle.mp_transfers.specs.declared.tables.Sought.TheVariants.{Transfer}

@@ -9,9 +9,9 @@ use Rattle.mp_program.specs.declared.program.Program.{Program}
 use Rattle.mp_program.specs.Weight.{inner}
 use Rattle.mp_program.specs.Sound.{IsSound}
 use Rattle.mp_program.proofs.Inside.{Between, kind_between}
-use Rattle.mp_rules.specs.Entries.{IsAt}
+use Rattle.mp_base.specs.Entries.{IsAt}
 use Rattle.mp_rules.specs.Standing.{Under, itself, deeper}
-use Rattle.mp_rules.proofs.ListEntries.{one_entry, contains_from_at, get_at}
+use Rattle.mp_base.proofs.ListEntries.{one_entry, contains_from_at, get_at}
 
 -- the forms directly in a form
 pub inner_between : (p : Program) → IsSound p → (f : ℕ) (y : Form) → IsAt p.forms f y

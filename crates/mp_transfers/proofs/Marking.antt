@@ -13,9 +13,9 @@ use Rattle.mp_program.specs.declared.program.Form.{Form}
 use Rattle.mp_program.specs.declared.program.Program.{Program}
 use Rattle.mp_program.specs.Weight.{inner}
 use Rattle.mp_program.specs.Sound.{IsSound}
-use Rattle.mp_rules.specs.Entries.{IsAt}
+use Rattle.mp_base.specs.Entries.{IsAt}
 use Rattle.mp_rules.specs.Standing.{Under, itself, deeper}
-use Rattle.mp_rules.proofs.ListEntries.{one_entry}
+use Rattle.mp_base.proofs.ListEntries.{one_entry}
 use Rattle.mp_rules.proofs.Sequences.{under_more}
 use Rattle.mp_transfers.specs.Marks.{IsMarking, IsBelowAll, AreMarked}
 use Rattle.mp_transfers.proofs.Inside.{inner_behind, under_behind}

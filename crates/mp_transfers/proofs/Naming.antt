@@ -16,11 +16,11 @@ use Rattle.mp_program.specs.declared.program.FormKind.TheVariants.{Go, Call}
 use Rattle.mp_program.specs.declared.program.Label.{Label}
 use Rattle.mp_program.specs.declared.program.Process.{Process}
 use Rattle.mp_program.specs.declared.program.Program.{Program}
-use Rattle.mp_rules.specs.Entries.{IsAt}
+use Rattle.mp_base.specs.Entries.{IsAt}
 use Rattle.mp_rules.specs.Standing.{label_of}
 use Rattle.mp_rules.specs.Breaking.{IsEarliest, earlier}
 use Rattle.mp_rules.specs.Rules.{E29}
-use Rattle.mp_rules.proofs.ListEntries.{one_entry}
+use Rattle.mp_base.proofs.ListEntries.{one_entry}
 use Rattle.mp_transfers.specs.Labels.{has, IsLabel, IsRepeated, IsAstray}
 use Rattle.mp_transfers.proofs.Earliest.{at_index, Upto, upto_join, upto_skip, upto_all, InAny, earliest_same}
 use Rattle.mp_transfers.proofs.Earliest.{earliest_one}

@@ -5,7 +5,7 @@ ghost use Rattle.std.specs.Prelude.{slice_index, true};
 ghost use Rattle.mp_program.specs.declared.program.Form.{Form as FormValue};
 ghost use Rattle.mp_program.specs.declared.program.Label.{Label as LabelValue};
 ghost use Rattle.mp_rules.specs.Breaking.{IsEarliest};
-ghost use Rattle.mp_rules.specs.Entries.{IsAt};
+ghost use Rattle.mp_base.specs.Entries.{IsAt};
 ghost use Rattle.mp_rules.specs.Rules.{E28};
 ghost use Rattle.mp_transfers.specs.Labels.{has, IsLabel, IsAstray};
 

@@ -11,9 +11,9 @@ use Rattle.mp_program.specs.declared.program.Program.{Program}
 use Rattle.mp_program.specs.Weight.{inner}
 use Rattle.mp_program.specs.Sound.{IsSound}
 use Rattle.mp_program.proofs.Inside.{Between, kind_between}
-use Rattle.mp_rules.specs.Entries.{IsAt}
+use Rattle.mp_base.specs.Entries.{IsAt}
 use Rattle.mp_rules.specs.Standing.{Under, itself, deeper, StandsIn, is_transfer, label_of, sequences, IsLater}
-use Rattle.mp_rules.proofs.ListEntries.{one_entry, some_entry, get_at}
+use Rattle.mp_base.proofs.ListEntries.{one_entry, some_entry, get_at}
 use Rattle.mp_verdict.proofs.Deciding.{some_at, some_in}
 
 module _ (p : Program) (sound : IsSound p) where

@@ -24,7 +24,7 @@ use Rattle.mp_program.specs.Names.{is_stored, is_supply, is_reset}
 use Rattle.mp_program.specs.Reads.{Chain}
 use Rattle.mp_program.specs.Sound.{IsSound}
 use Rattle.mp_program.specs.Weight.{weight}
-use Rattle.mp_rules.specs.Entries.{IsAt}
+use Rattle.mp_base.specs.Entries.{IsAt}
 use Rattle.mp_rules.specs.Naming.{Naming, namings, is_reserved, supplies, Uses}
 use Rattle.mp_rules.specs.Rules.{E20, E21, E22, E23, E24, E25, E26, E27, E28, E29, E30, E31, E32, E33, E34, E35, E36}
 use Rattle.mp_rules.specs.Rules.{E40, E41, E42, E43, E44, E45, pins, is_unset, namings_up_to}

@@ -19,7 +19,7 @@ use Rattle.mp_program.specs.declared.program.Def.{Def}
 use Rattle.mp_program.specs.declared.program.Expr.{Expr}
 use Rattle.mp_program.specs.declared.program.Program.{Program}
 use Rattle.mp_program.specs.Names.{is_supply}
-use Rattle.mp_rules.specs.Entries.{IsAt}
+use Rattle.mp_base.specs.Entries.{IsAt}
 use Rattle.mp_rules.specs.Naming.{Naming, namings, Uses}
 use Rattle.mp_rules.specs.Sorts.{Sort, IsWord, IsBit, operand_sort, name_sort, expr_sort, IsWanted}
 use Rattle.mp_verdict.proofs.Deciding.{some_at, is_in, First, nowhere, earliest, same_places, either_place, this_place}

@@ -1,6 +1,6 @@
 -- How many `setq` there are of each definition.
-use Rattle.std.proofs.Common.{◌≡◌, inl, inr, ℕ, suc, ◌+◌, ◌<◌, ◌≤◌, List, [], ◌∷◌, refl, sym, ◌∙◌, ap, subst, arith}
-use Rattle.std.proofs.Common.{length, get_or, take, replicate, Bool, true, false, cond, slice_set, slice_index}
+use Rattle.std.proofs.Common.{◌≡◌, inl, inr, ℕ, ◌+◌, ◌<◌, ◌≤◌, List, [], refl, sym, ◌∙◌, ap, subst, arith}
+use Rattle.std.proofs.Common.{length, get_or, take, replicate, true, false, slice_set, slice_index}
 use Rattle.std.specs.List.{count_by}
 use Rattle.std.proofs.lemmas.Bool.{cases_lt, cases_eq, cases_Bool, true≢false, false≢true}
 use Rattle.std.proofs.lemmas.List.{get_or-set_same, get_or-set_other, get_or_past, length-set, length-replicate}
@@ -18,7 +18,7 @@ use Rattle.mp_program.specs.declared.program.Form.{Form}
 use Rattle.mp_program.specs.declared.program.Program.{Program}
 use Rattle.mp_program.specs.Names.{is_same, index_of, is_supply}
 use Rattle.mp_program.specs.Weight.{is_set_of, sets_of, def_weight}
-use Rattle.mp_rules.specs.Entries.{IsAt}
+use Rattle.mp_base.specs.Entries.{IsAt}
 use Rattle.mp_program.proofs.Definitions.{is_same_of, named as index_named, same_is}
 use Rattle.mp_rules.specs.Naming.{OwnNames}
 use Rattle.mp_weight.specs.Weighing.{AreSetCounts, counted}

@@ -10,7 +10,7 @@ use Rattle.mp_program.specs.declared.program.Process.{Process}
 use Rattle.mp_program.specs.declared.program.Program.{Program}
 use Rattle.mp_program.specs.Names.{is_same, index_of}
 use Rattle.mp_program.specs.Weight.{names_constant, expr_weight, calls_in, process_weight}
-use Rattle.mp_rules.specs.Entries.{IsAt}
+use Rattle.mp_base.specs.Entries.{IsAt}
 use Rattle.name_meanings.specs.declared.meaning.Meanings.{Meanings}
 use Rattle.name_meanings.specs.Meaning.{AreMeanings}
 use Rattle.mp_weight.specs.Weighing.{is_constant_at, expr_weight_of, process_weight_of}

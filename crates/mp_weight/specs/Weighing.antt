@@ -14,7 +14,7 @@ use Rattle.mp_program.specs.declared.program.Process.{Process}
 use Rattle.mp_program.specs.declared.program.Program.{Program}
 use Rattle.mp_program.specs.Names.{is_supply}
 use Rattle.mp_program.specs.Weight.{is_set_of, op_weight, is_constant, inner, is_call}
-use Rattle.mp_rules.specs.Entries.{IsAt}
+use Rattle.mp_base.specs.Entries.{IsAt}
 
 -- for each definition that has a name, how many of the first n forms are a `setq` of it
 pub record AreSetCounts (p : Program) (n : ℕ) (counts : List ℕ) : Type 0 where

@@ -8,7 +8,7 @@ use Rattle.mp_program.specs.declared.program.Expr.{Expr}
 use Rattle.mp_program.specs.declared.program.Form.{Form}
 use Rattle.mp_program.specs.declared.program.Program.{Program}
 use Rattle.mp_program.specs.Names.{is_same, index_of}
-use Rattle.mp_rules.specs.Entries.{IsAt}
+use Rattle.mp_base.specs.Entries.{IsAt}
 use Rattle.name_meanings.specs.declared.named.Named as known_names
 use Rattle.name_meanings.specs.declared.table.NameTable.{NameTable}
 use Rattle.name_meanings.specs.declared.meaning.Meanings.{Meanings}

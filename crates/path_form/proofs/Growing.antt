@@ -1,8 +1,7 @@
 -- What slices compute they compute in every path that they grew into.
-use Rattle.std.proofs.Common.{◌≡◌, ℕ, ◌<◌, ◌≤◌, zero, suc, List, [], ◌∷◌, ◌++◌, Option, Some, None, Bool, true, false}
+use Rattle.std.proofs.Common.{◌≡◌, ℕ, ◌<◌, ◌≤◌, suc, List, [], ◌∷◌, ◌++◌, Option, Some, None}
 use Rattle.std.proofs.Common.{cond, eqb, length, refl, sym, ◌∙◌, ap, subst, arith}
 use Rattle.std.specs.Prelude.{All, slice_get}
-use Rattle.std.specs.Int.{bit_at}
 use Rattle.std.proofs.lemmas.Bool.{ne_eqb, lt-ltb}
 use Rattle.std.proofs.lemmas.Option.{none-some, slice_get_within}
 use Rattle.mp_base.specs.declared.value.Trit.{Trit}
@@ -16,10 +15,10 @@ use Rattle.organelles.specs.declared.slices.Chain.TheVariants.{Up, Down}
 use Rattle.organelles.specs.declared.slices.SliceNet.{SliceNet}
 use Rattle.organelles.specs.Slices as slices
 use Rattle.std.specs.Option.{option_or}
-use Rattle.organelles.specs.Slices.{first_some, chain_element, program_element, slice_input, slice_nets, ObeysFrom}
+use Rattle.organelles.specs.Slices.{first_some, chain_element, program_element, slice_input, slice_nets}
 use Rattle.path_form.specs.declared.path.DataPath.{DataPath}
 use Rattle.path_form.specs.Nets as nets
-use Rattle.path_form.specs.Nets.{cast_element, nets_among}
+use Rattle.path_form.specs.Nets.{cast_element}
 use Rattle.path_form.specs.Shape.{chain_to}
 use Rattle.path_form.specs.Showing.{path_nets}
 use Rattle.path_form.specs.Extending.{Extends, SlicesObey}

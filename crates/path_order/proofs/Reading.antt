@@ -5,7 +5,7 @@ use Rattle.std.specs.Prelude.{Contains, slice_get, nat_lt, ◌==◌}
 use Rattle.std.specs.Option.{option_or}
 use Rattle.std.specs.Int.{bit_at}
 use Rattle.std.proofs.lemmas.Bool.{eqb-true, eqb-false, ne_eqb, cond-true, cond-false, lt-ltb, le-ltb}
-use Rattle.std.proofs.lemmas.Option.{none-some, same_Some}
+use Rattle.std.proofs.lemmas.Option.{none-some, same_Some, cond_some}
 use Rattle.mp_base.proofs.Contents.{contains_from_map}
 use Rattle.nor_net.specs.declared.net.NetId.{NetId}
 use Rattle.nor_net.specs.declared.net.Part.{Part}
@@ -42,10 +42,6 @@ found_first {A} {Y} f (x ∷ xs) y e = by_head (f x) refl e (found_first f xs y)
 either : {Y : Type 0} (o p : Option Y) (y : Y) → option_or o p ≡ Some y → (o ≡ Some y) ⊎ (p ≡ Some y)
 either (Some x) p y e = inl e
 either None p y e = inr e
-
-tested : (b : Bool) (y x : Element) → cond b (Some y) None ≡ Some x → (b ≡ true) × (y ≡ x)
-tested true y x e = (refl, same_Some y x e)
-tested false y x e = absurd (none-some x e)
 
 -- ---- how many nets of each band stand in the order: of the control c, and of a slice b, or a from slice k on
 
@@ -91,7 +87,7 @@ module _ (w : ℕ) (control : List Part) (s : SliceNet) (casts : List Cast) (lif
     by_up : (from to : NetId) → Contains s.chains (Up from to) → (x : Element)
         → chain_element w k j (Up from to) ≡ Some x → (m : Spot) → Reads x m → May m
     by_up from to has x e m r =
-        let t = tested (eqb to.0 j) (cond (eqb k 0) Low (Joined (spot k from))) x e in
+        let t = cond_some (eqb to.0 j) (cond (eqb k 0) Low (Joined (spot k from))) x e in
         by_slice k kw refl t.1
       where
         by_slice : (i : ℕ) → i < w → i ≡ k → cond (eqb i 0) Low (Joined (spot i from)) ≡ x → May m
@@ -100,7 +96,7 @@ module _ (w : ℕ) (control : List Part) (s : SliceNet) (casts : List Cast) (lif
             let y : Joined (spot (suc i) from) ≡ x =
             sym (cond-false (eqb (suc i) 0) Low (Joined (spot (suc i) from))
             (ne_eqb (suc i) 0 (λ q. absurd (omega arith)))) ∙ f in
-            let to_is = eqb-true to.0 j (tested (eqb to.0 j) (cond (eqb k 0) Low (Joined (spot k from))) x e).0 in
+            let to_is = eqb-true to.0 j (cond_some (eqb to.0 j) (cond (eqb k 0) Low (Joined (spot k from))) x e).0 in
             let under = marked.ups from to has b b_in (omega (arith, to_is, low)) in
             let n = ends_below w k a.slices b.slices a.control i (omega (arith, is)) in
             joined m (spot (suc i) from) (subst (λ y. Reads y m) (sym y) r) (omega (arith, under, n))
@@ -108,7 +104,7 @@ module _ (w : ℕ) (control : List Part) (s : SliceNet) (casts : List Cast) (lif
     by_down : (from to : NetId) → Contains s.chains (Down from to) → (x : Element)
         → chain_element w k j (Down from to) ≡ Some x → (m : Spot) → Reads x m → May m
     by_down from to has x e m r =
-        let t = tested (eqb to.0 j) (cond (eqb (suc k) w) Low (Joined (spot (suc (suc k)) from))) x e in
+        let t = cond_some (eqb to.0 j) (cond (eqb (suc k) w) Low (Joined (spot (suc (suc k)) from))) x e in
         by_top (eqb-true to.0 j t.0) (eqb (suc k) w) refl t.1
       where
         by_top : to.0 ≡ j → (t : Bool) → eqb (suc k) w ≡ t → cond t Low (Joined (spot (suc (suc k)) from)) ≡ x → May m
@@ -135,7 +131,7 @@ module _ (w : ℕ) (control : List Part) (s : SliceNet) (casts : List Cast) (lif
 
     by_program : (g : Programmed) → (x : Element) → program_element k j g ≡ Some x → (m : Spot) → Reads x m → May m
     by_program g x e m r =
-        by_bit (bit_at g.bits k == 1) (tested (eqb g.net.0 j) (cond (bit_at g.bits k == 1) (Nor []) Low) x e).1
+        by_bit (bit_at g.bits k == 1) (cond_some (eqb g.net.0 j) (cond (bit_at g.bits k == 1) (Nor []) Low) x e).1
       where
         by_bit : (t : Bool) → cond t (Nor []) Low ≡ x → May m
         by_bit true f = absurd (let c : Contains [] m = subst (λ y. Reads y m) (sym f) r in let l = c.1 in
@@ -145,7 +141,7 @@ module _ (w : ℕ) (control : List Part) (s : SliceNet) (casts : List Cast) (lif
     by_cast : (c : Cast) → Contains casts c → (x : Element) → cast_element j c ≡ Some x → (m : Spot) → Reads x m
         → May m
     by_cast c has x e m r =
-        let t = tested (eqb c.slice.0 j) (Joined (spot zero c.control)) x e in
+        let t = cond_some (eqb c.slice.0 j) (Joined (spot zero c.control)) x e in
         let d = marked.cast_marks c has in
         let d2 = d.2 in
         let d3 = d.3 in
@@ -206,7 +202,7 @@ module _ (w : ℕ) (control : List Part) (s : SliceNet) (casts : List Cast) (lif
     by_lift : (l : Lift) → Contains lifts l → (x : Element) → lift_element j l ≡ Some x → (m : Spot) → Reads x m
         → Can m
     by_lift l has x e m r =
-        let t = tested (eqb l.control.0 j) (Joined (spot (suc l.slice) l.from)) x e in
+        let t = cond_some (eqb l.control.0 j) (Joined (spot (suc l.slice) l.from)) x e in
         let at = eqb-true l.control.0 j t.0 in
         let d = marked.lift_marks l has in
         let under = d.1 b b_in (omega (arith, at, low)) in

@@ -9,7 +9,7 @@ use Rattle.rtl_form.specs.declared.rtl.CellKind.{CellKind}
 use Rattle.rtl_form.specs.declared.rtl.CellKind.TheVariants.{Input, Output, Inner, Stored}
 use Rattle.rtl_form.specs.declared.rtl.Rtl.{Rtl}
 use Rattle.rtl_form.specs.Cost.{cell_cost, cost}
-use Rattle.rtl_form.specs.Entries.{IsAt}
+use Rattle.mp_base.specs.Entries.{IsAt}
 use Rattle.rtl_form.specs.Sound.{IsSound}
 
 -- the number of the input pad of a cell, and of its output pad

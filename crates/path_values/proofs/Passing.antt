@@ -14,7 +14,7 @@ use Rattle.nor_net.specs.Machine.{Solves}
 use Rattle.nor_net.specs.Laws.{bit}
 use Rattle.rtl_form.specs.declared.rtl.RtlExpr.TheVariants.{Number, Apply}
 use Rattle.rtl_form.specs.declared.rtl.Rtl.{Rtl}
-use Rattle.rtl_form.specs.Entries.{IsAt}
+use Rattle.mp_base.specs.Entries.{IsAt}
 use Rattle.rtl_form.specs.Operands.{takes, takes_words, gives_word}
 use Rattle.rtl_form.specs.Sound.{IsSound, HasSort}
 use Rattle.rtl_form.specs.Values.{value_of}

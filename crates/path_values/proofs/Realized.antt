@@ -1,9 +1,9 @@
 -- A path that stands for transfers realizes them.
 use Rattle.std.proofs.Common.{◌≡◌, ℕ, ◌<◌, ◌+◌, ◌^◌, zero, suc, ◌⊎◌, inl, inr, List, [], ◌∷◌, ◌++◌, Option, Some, None}
 use Rattle.std.proofs.Common.{Bool, true, false, cond, length, map, replicate, refl, sym, ◌∙◌, ap, subst, arith}
-use Rattle.std.specs.Prelude.{All, Contains, IsSome, ◌&&◌, ◌==◌, not, if◌then◌else◌, slice_get, slice_index, unwrap_or}
+use Rattle.std.specs.Prelude.{Contains, IsSome, ◌==◌, not, if◌then◌else◌, slice_get, slice_index, unwrap_or}
 use Rattle.std.specs.Int.{bit_at}
-use Rattle.std.proofs.lemmas.Bool.{false≢true, true≢false, lt-ltb, eqb-true, eq-eqb, ne_eqb, cases_lt}
+use Rattle.std.proofs.lemmas.Bool.{false≢true, true≢false, lt-ltb, eqb-true, eq-eqb}
 use Rattle.std.proofs.lemmas.Option.{none-some, same_Some, slice_get_within, get_or_from_slice_get}
 use Rattle.mp_base.specs.declared.value.Trit.{Trit}
 use Rattle.mp_base.specs.declared.value.Trit.TheVariants.{Zero, One}
@@ -19,7 +19,7 @@ use Rattle.nor_net.specs.Laws.{bit}
 use Rattle.rtl_form.specs.declared.rtl.Cell as cells
 use Rattle.rtl_form.specs.declared.rtl.CellKind.TheVariants as kinds
 use Rattle.rtl_form.specs.declared.rtl.Rtl.{Rtl}
-use Rattle.rtl_form.specs.Entries.{IsAt}
+use Rattle.mp_base.specs.Entries.{IsAt}
 use Rattle.rtl_form.specs.Environment.{is_stored, IsEnvironment}
 use Rattle.rtl_form.specs.Sound.{IsSound, CellFits, IsCellOf}
 use Rattle.rtl_form.specs.Step.{zero_state, next_state, next_cells, next_stored, resets, Shows}
@@ -32,10 +32,10 @@ use Rattle.path_form.specs.declared.path.DataPath.{DataPath}
 use Rattle.organelles.specs.declared.slices.Programmed.{Programmed}
 use Rattle.std.specs.Option.{option_or}
 use Rattle.mp_base.proofs.Entries.{some_entry}
+use Rattle.mp_base.proofs.ListEntries.{get_at as got}
 use Rattle.std.proofs.lemmas.Map.Keys.{any_passes_from_place}
 use Rattle.organelles.specs.Slices.{first_some, program_element}
 use Rattle.control_nor.proofs.Written.{digit_of}
-use Rattle.control_nor.proofs.Progress.{at_get as got}
 use Rattle.path_form.specs.declared.path.Cast.{Cast}
 use Rattle.path_form.specs.declared.path.Lift.{Lift}
 use Rattle.path_form.specs.Nets.{control_part, slice_part, cast_element}

@@ -18,7 +18,7 @@ use Rattle.nor_net.specs.Machine.{HoldsState}
 use Rattle.nor_net.proofs.Machines.{clock_steps, reset_clears}
 use Rattle.rtl_form.specs.declared.rtl.Rtl.{Rtl}
 use Rattle.rtl_form.specs.Step.{zero_state, next_state, next_cells, resets}
-use Rattle.rtl_form.specs.Trace.{IsTraceFrom, stores}
+use Rattle.rtl_form.specs.Trace.{IsTraceFrom}
 use Rattle.rtl_form.specs.Trace as rtl
 use Rattle.path_form.specs.declared.path.DataPath.{DataPath}
 use Rattle.path_form.specs.Showing.{path_nets, HasPadValues, FitPads, ShowsTransfers}

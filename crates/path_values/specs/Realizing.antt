@@ -10,7 +10,7 @@ use Rattle.rtl_form.specs.declared.rtl.Rtl.{Rtl}
 use Rattle.rtl_form.specs.Environment.{IsEnvironment}
 use Rattle.rtl_form.specs.Step.{next_state, resets, Shows}
 use Rattle.rtl_form.specs.declared.rtl.Cell as cells
-use Rattle.rtl_form.specs.Entries.{IsAt}
+use Rattle.mp_base.specs.Entries.{IsAt}
 use Rattle.rtl_form.specs.Trace.{stores}
 use Rattle.rtl_form.specs.Trace as rtl
 use Rattle.path_form.specs.declared.path.DataPath.{DataPath}

@@ -24,11 +24,10 @@ use Rattle.std.proofs.Common.{
 use Rattle.std.specs.Prelude.{Contains, slice_set, slice_index_or}
 use Rattle.std.proofs.lemmas.Bool.{cases_eq}
 use Rattle.std.proofs.lemmas.List.{get_or-set_same, get_or-set_other, length-set, get_or_default}
-use Rattle.mp_rules.proofs.ListEntries.{one_entry}
-use Rattle.std.proofs.lemmas.Option.{same_Some}
 use Rattle.process_plan.specs.declared.enable.Origin.{Origin}
 use Rattle.process_plan.specs.declared.enable.Enable.{Enable}
 use Rattle.process_plan.specs.Enables.{HasEnable}
+use Rattle.process_plan.proofs.Enables.{one_enable}
 use Rattle.process_enables.specs.Forms.{KeepsEnables, Assigns}
 
 pub same_enables : (enables : List (Option Enable)) → KeepsEnables enables enables
@@ -60,15 +59,6 @@ none_there xs f x o a none (lt, is) =
     let y : Enable = record { origin = o; expr = a } in
     let e : Some y ≡ None = is ∙ get_or_default xs f (Some y) (Some x) lt ∙ none in
     absurd (cc)
-
--- a form has one enable
-pub one_enable : (xs : List (Option Enable)) (f : ℕ) (o u : Origin) (a b : ℕ) → HasEnable xs f o a → HasEnable xs f u b
-    → (o ≡ u) × (a ≡ b)
-one_enable xs f o u a b h g =
-    let x : Enable = record { origin = o; expr = a } in
-    let y : Enable = record { origin = u; expr = b } in
-    let same = same_Some x y (one_entry xs f (Some x) (Some y) h g) in
-    (ap (λ (z : Enable). z.origin) same, ap (λ (z : Enable). z.expr) same)
 
 -- a form that had none gets the enable x
 pub record Sets (f : ℕ) (x : Enable) (old new : List (Option Enable)) : Type 0 where

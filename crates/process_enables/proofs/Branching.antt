@@ -30,7 +30,7 @@ use Rattle.mp_base.proofs.Contents.{contains_head, contains_behind, only_one}
 use Rattle.mp_base.proofs.Lists.{take_whole}
 use Rattle.mp_program.specs.declared.program.Branch.{Branch}
 use Rattle.mp_program.specs.declared.program.Program.{Program}
-use Rattle.mp_rules.specs.Entries.{IsAt}
+use Rattle.mp_base.specs.Entries.{IsAt}
 use Rattle.rtl_form.specs.declared.rtl.RtlExpr.{RtlExpr}
 use Rattle.rtl_form.specs.declared.rtl.RtlExpr.TheVariants.{Apply}
 use Rattle.process_plan.specs.declared.enable.Enable.{Enable}

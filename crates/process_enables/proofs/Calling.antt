@@ -41,10 +41,10 @@ use Rattle.mp_program.specs.declared.program.Process.{Process}
 use Rattle.mp_program.specs.declared.program.Program.{Program}
 use Rattle.mp_program.specs.Weight.{inner, calls_in}
 use Rattle.mp_program.specs.Weight as weight
-use Rattle.mp_rules.specs.Entries.{IsAt}
+use Rattle.mp_base.specs.Entries.{IsAt}
 use Rattle.mp_rules.specs.Standing as standing
 use Rattle.mp_rules.specs.Standing.{Under}
-use Rattle.mp_rules.proofs.ListEntries.{contains_from_at, one_entry}
+use Rattle.mp_base.proofs.ListEntries.{contains_from_at, one_entry}
 use Rattle.mp_rules.proofs.Sequences.{under_more}
 use Rattle.rtl_form.specs.declared.rtl.RtlExpr.{RtlExpr}
 use Rattle.process_plan.specs.declared.role.Role.{Role}

@@ -45,9 +45,9 @@ use Rattle.mp_program.specs.Names.{index_of, is_same}
 use Rattle.mp_program.specs.Sound.{IsSound, ArgsFit}
 use Rattle.mp_program.specs.Weight.{names_constant, is_constant}
 use Rattle.mp_rules.specs.Breaking.{IsUnbroken}
-use Rattle.mp_rules.specs.Entries.{IsAt}
+use Rattle.mp_base.specs.Entries.{IsAt}
 use Rattle.mp_rules.specs.Rules.{E21}
-use Rattle.mp_rules.proofs.ListEntries.{one_entry, get_at}
+use Rattle.mp_base.proofs.ListEntries.{one_entry, get_at}
 use Rattle.rtl_form.specs.declared.rtl.Cell as cells
 use Rattle.rtl_form.specs.declared.rtl.RtlExpr.{RtlExpr}
 use Rattle.rtl_form.specs.declared.rtl.RtlExpr.TheVariants.{Number, Truth, Apply}

@@ -36,8 +36,8 @@ use Rattle.mp_program.specs.declared.program.Branch.{Branch}
 use Rattle.mp_program.specs.declared.program.Form.{Form}
 use Rattle.mp_program.specs.declared.program.Program.{Program}
 use Rattle.mp_program.specs.Sound.{IsSound, InnerFit, BranchesFit}
-use Rattle.mp_rules.specs.Entries.{IsAt}
-use Rattle.mp_rules.proofs.ListEntries.{one_entry, some_entry, get_at}
+use Rattle.mp_base.specs.Entries.{IsAt}
+use Rattle.mp_base.proofs.ListEntries.{one_entry, some_entry, get_at}
 use Rattle.rtl_form.specs.declared.rtl.Cell.{Cell}
 use Rattle.rtl_form.specs.declared.rtl.RtlExpr.{RtlExpr}
 use Rattle.rtl_form.specs.declared.rtl.RtlExpr.TheVariants.{Apply}
@@ -47,6 +47,7 @@ use Rattle.process_plan.specs.Bill.{exprs_cost, branches_bill}
 use Rattle.process_plan.specs.Enables.{HasEnable, copy_of, BranchEnables, InnerEnables, StandsInside}
 use Rattle.process_plan.specs.Fits.{HasSortIn}
 use Rattle.process_plan.proofs.Members.{between_in, cases_of}
+use Rattle.process_plan.proofs.Enables.{one_enable}
 use Rattle.process_layout.specs.Counts.{guards_of}
 use Rattle.process_layout.specs.Steps.{Keeps}
 use Rattle.process_layout.proofs.Keeping.{keeps_same, keeps_more}
@@ -60,7 +61,7 @@ use Rattle.process_enables.specs.Forms.{
   EnablesBelow,
 }
 use Rattle.process_enables.proofs.Adding.{bit_kept}
-use Rattle.process_enables.proofs.Assigning.{same_enables, more_enables, one_enable}
+use Rattle.process_enables.proofs.Assigning.{same_enables, more_enables}
 use Rattle.process_enables.proofs.Guarding.{guards_kept, guards_more}
 
 -- ---- what stands in a form stands behind it

@@ -19,7 +19,7 @@ use Rattle.std.proofs.Common.{
   take,
 }
 use Rattle.mp_program.specs.declared.program.Form.{Form}
-use Rattle.mp_rules.specs.Entries.{IsAt}
+use Rattle.mp_base.specs.Entries.{IsAt}
 use Rattle.process_plan.specs.declared.enable.Enable.{Enable}
 use Rattle.process_layout.specs.Counts.{guards_of}
 use Rattle.process_enables.specs.Forms.{KeepsEnables}

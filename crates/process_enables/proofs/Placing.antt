@@ -35,8 +35,8 @@ use Rattle.mp_base.specs.declared.op.Op.TheVariants.{Nor}
 use Rattle.mp_program.specs.declared.program.Process.{Process}
 use Rattle.mp_program.specs.declared.program.Program.{Program}
 use Rattle.mp_rules.specs.Breaking.{IsUnbroken}
-use Rattle.mp_rules.specs.Entries.{IsAt}
-use Rattle.mp_rules.proofs.ListEntries.{contains_from_at, one_entry, some_entry, at_push_cases}
+use Rattle.mp_base.specs.Entries.{IsAt}
+use Rattle.mp_base.proofs.ListEntries.{contains_from_at, one_entry, some_entry, at_push_cases}
 use Rattle.rtl_form.specs.declared.rtl.Cell as cells
 use Rattle.rtl_form.specs.declared.rtl.RtlExpr.{RtlExpr}
 use Rattle.rtl_form.specs.declared.rtl.RtlExpr.TheVariants.{Truth, Cell, Apply}

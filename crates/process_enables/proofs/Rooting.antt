@@ -29,8 +29,8 @@ use Rattle.mp_base.proofs.Contents.{holds_of_contained}
 use Rattle.mp_program.specs.declared.program.Process.{Process}
 use Rattle.mp_program.specs.declared.program.Program.{Program}
 use Rattle.mp_program.specs.Sound.{IsSound}
-use Rattle.mp_rules.specs.Entries.{IsAt}
-use Rattle.mp_rules.proofs.ListEntries.{contains_from_at, one_entry}
+use Rattle.mp_base.specs.Entries.{IsAt}
+use Rattle.mp_base.proofs.ListEntries.{contains_from_at, one_entry}
 use Rattle.process_plan.specs.declared.enable.Origin.{Origin}
 use Rattle.process_plan.specs.declared.enable.Origin.TheVariants.{Always, At}
 use Rattle.process_plan.specs.declared.enable.Enable.{Enable}

@@ -5,7 +5,7 @@ use Rattle.mp_program.specs.declared.program.FormKind.TheVariants.{Cond}
 use Rattle.mp_program.specs.declared.program.Branch.{Branch}
 use Rattle.mp_program.specs.declared.program.Form.{Form}
 use Rattle.mp_program.specs.declared.program.Program.{Program}
-use Rattle.mp_rules.specs.Entries.{IsAt}
+use Rattle.mp_base.specs.Entries.{IsAt}
 use Rattle.rtl_form.specs.declared.rtl.Cell.{Cell}
 use Rattle.rtl_form.specs.declared.rtl.RtlExpr.{RtlExpr}
 use Rattle.rtl_form.specs.declared.rtl.RtlExpr.TheVariants.{Apply}

@@ -2,7 +2,7 @@
 use Rattle.std.specs.Prelude.{◌≡◌, ◌⊎◌, ℕ, ◌<◌, List, Option, length, Contains}
 use Rattle.mp_program.specs.declared.program.Process.{Process}
 use Rattle.mp_program.specs.declared.program.Program.{Program}
-use Rattle.mp_rules.specs.Entries.{IsAt}
+use Rattle.mp_base.specs.Entries.{IsAt}
 use Rattle.process_plan.specs.declared.enable.Origin.{Origin}
 use Rattle.process_plan.specs.declared.enable.Origin.TheVariants.{Always, At}
 use Rattle.process_plan.specs.declared.enable.Enable.{Enable}

@@ -2,7 +2,7 @@
 
 ghost use Rattle.std.specs.Prelude.{◌≡◌, ◌<◌, ℕ, List as Items, Contains, None, length, replicate, OnOk, IfOk};
 ghost use Rattle.mp_program.specs.declared.program.Process.{Process};
-ghost use Rattle.mp_rules.specs.Entries.{IsAt};
+ghost use Rattle.mp_base.specs.Entries.{IsAt};
 ghost use Rattle.process_enables.specs.Roots.{AssignsPlaces, AreRootsBefore};
 
 use crate::forms::{assign, assign_all};

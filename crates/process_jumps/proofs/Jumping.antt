@@ -42,9 +42,9 @@ use Rattle.mp_program.specs.declared.program.FormKind.TheVariants as forms
 use Rattle.mp_program.specs.declared.program.Form.{Form}
 use Rattle.mp_program.specs.declared.program.Process.{Process}
 use Rattle.mp_program.specs.declared.program.Program.{Program}
-use Rattle.mp_rules.specs.Entries.{IsAt}
+use Rattle.mp_base.specs.Entries.{IsAt}
 use Rattle.mp_rules.specs.Standing.{is_transfer}
-use Rattle.mp_rules.proofs.ListEntries.{one_entry, some_entry, at_push_cases}
+use Rattle.mp_base.proofs.ListEntries.{one_entry, some_entry, at_push_cases}
 use Rattle.rtl_form.specs.declared.rtl.Cell as cells
 use Rattle.rtl_form.specs.declared.rtl.RtlExpr.{RtlExpr}
 use Rattle.rtl_form.specs.declared.rtl.RtlExpr.TheVariants.{Cell, Apply}

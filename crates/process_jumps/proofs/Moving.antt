@@ -43,7 +43,7 @@ use Rattle.mp_program.specs.declared.program.FormKind.{FormKind}
 use Rattle.mp_program.specs.declared.program.FormKind.TheVariants as forms
 use Rattle.mp_program.specs.declared.program.Form.{Form}
 use Rattle.mp_program.specs.declared.program.Program.{Program}
-use Rattle.mp_rules.specs.Entries.{IsAt}
+use Rattle.mp_base.specs.Entries.{IsAt}
 use Rattle.mp_rules.specs.Standing.{is_transfer}
 use Rattle.process_plan.specs.declared.enable.Enable.{Enable}
 use Rattle.process_plan.specs.declared.enable.Origin.{Origin}

@@ -20,7 +20,7 @@ use Rattle.mp_base.specs.declared.op.Op.TheVariants.{And, Not}
 use Rattle.rtl_form.specs.declared.rtl.Cell as cells
 use Rattle.rtl_form.specs.declared.rtl.RtlExpr.{RtlExpr}
 use Rattle.rtl_form.specs.declared.rtl.RtlExpr.TheVariants.{Apply}
-use Rattle.mp_rules.specs.Entries.{IsAt}
+use Rattle.mp_base.specs.Entries.{IsAt}
 use Rattle.process_plan.specs.Fits.{ExprsFit, HasSortIn}
 use Rattle.process_plan.specs.Bill.{exprs_cost}
 use Rattle.process_plan.specs.Plan.{AreNegations, IsUnion}

@@ -2,7 +2,7 @@
 
 ghost use Rattle.std.specs.Prelude.{◌≡◌, ◌<◌, ℕ, List, Some, length, IfOk};
 ghost use Rattle.mp_program.specs.declared.program.Process.{Process};
-ghost use Rattle.mp_rules.specs.Entries.{IsAt};
+ghost use Rattle.mp_base.specs.Entries.{IsAt};
 ghost use Rattle.process_plan.specs.declared.enable.Enable.{Enable};
 ghost use Rattle.process_jumps.specs.Moves.{moves_in};
 ghost use Rattle.process_jumps.specs.Jumps.{AreRooted, AllFallsMade, AllJumpsMade, MakesJumps};

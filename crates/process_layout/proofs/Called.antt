@@ -36,8 +36,8 @@ use Rattle.mp_program.specs.declared.program.Form.{Form}
 use Rattle.mp_program.specs.declared.program.Program.{Program}
 use Rattle.mp_program.specs.Sound.{AllBetween, BranchesFit, InnerFit}
 use Rattle.mp_program.specs.Weight.{inner, is_call, calls_in}
-use Rattle.mp_rules.proofs.ListEntries.{get_at}
-use Rattle.mp_rules.specs.Entries.{IsAt}
+use Rattle.mp_base.proofs.ListEntries.{get_at}
+use Rattle.mp_base.specs.Entries.{IsAt}
 use Rattle.process_plan.specs.Lawful.{Known}
 use Rattle.process_plan.proofs.Counting.{calls_is}
 use Rattle.process_layout.specs.Calling.{kind_calls}

@@ -59,8 +59,8 @@ use Rattle.mp_program.specs.declared.program.Program.{Program}
 use Rattle.mp_program.specs.Names.{is_input, is_output, pad_number}
 use Rattle.mp_program.specs.Sound.{IsSound}
 use Rattle.mp_program.specs.Weight.{calls_in}
-use Rattle.mp_rules.specs.Entries.{IsAt}
-use Rattle.mp_rules.proofs.ListEntries.{get_at}
+use Rattle.mp_base.specs.Entries.{IsAt}
+use Rattle.mp_base.proofs.ListEntries.{get_at}
 use Rattle.rtl_form.specs.declared.rtl.Cell.{Cell}
 use Rattle.process_plan.specs.declared.role.Role.{Role}
 use Rattle.process_plan.specs.declared.role.Role.TheVariants.{Placed, Stacked}

@@ -29,11 +29,11 @@ use Rattle.std.specs.Prelude.{◌&&◌}
 use Rattle.std.specs.Cmp.{unsigned_tied, tied_then}
 use Rattle.std.specs.Ordering.{is_eq, nat_cmp}
 use Rattle.std.proofs.lemmas.Bool.Decides.{eqb_tells}
-use Rattle.mp_rules.specs.Entries.{IsAt}
+use Rattle.mp_base.specs.Entries.{IsAt}
 use Rattle.process_plan.specs.declared.role.Role.{Role}
 use Rattle.process_plan.specs.declared.role.Role.TheVariants.{Value, Placed, Stacked}
 use Rattle.std.specs.BTreeMap.{BTreeMap, get}
-use Rattle.mp_rules.proofs.ListEntries.{at_pushed}
+use Rattle.mp_base.proofs.ListEntries.{at_pushed}
 use Rattle.process_layout.specs.declared.index.RoleIndex.{RoleIndex}
 use Rattle.process_layout.specs.Index.{IsCellFor, IsIndexOf, pair_cmp, triple_cmp}
 use Rattle.process_layout.proofs.Listing.{at_left, at_cases}

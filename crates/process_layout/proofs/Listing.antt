@@ -18,7 +18,7 @@ use Rattle.std.proofs.Common.{
   length,
   zero-add,
 }
-use Rattle.mp_rules.specs.Entries.{IsAt}
+use Rattle.mp_base.specs.Entries.{IsAt}
 
 pub at_left : {X : Type 0} (xs ys : List X) (k : ℕ) (x : X) → IsAt xs k x → IsAt (xs ++ ys) k x
 at_left [] ys k x (lt, is) = absurd (omega (arith, lt))

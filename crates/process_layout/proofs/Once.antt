@@ -1,8 +1,8 @@
 -- Lists in which nothing stands twice.
 use Rattle.std.proofs.Common.{◌≡◌, inl, inr, ◌∙◌, ℕ, zero, suc, List, [], ◌∷◌, ◌++◌, refl, sym, subst, arith, map}
 use Rattle.std.specs.Prelude.{Contains}
-use Rattle.mp_rules.specs.Entries.{IsAt}
-use Rattle.mp_rules.proofs.ListEntries.{contains_from_at}
+use Rattle.mp_base.specs.Entries.{IsAt}
+use Rattle.mp_base.proofs.ListEntries.{contains_from_at}
 use Rattle.process_plan.proofs.Census.{AreOnce}
 use Rattle.process_layout.proofs.Listing.{at_cases}
 

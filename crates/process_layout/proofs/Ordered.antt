@@ -49,8 +49,8 @@ use Rattle.mp_program.specs.declared.program.Def.{Def}
 use Rattle.mp_program.specs.declared.program.Program.{Program}
 use Rattle.mp_program.specs.Names.{is_driven, is_input_signal, is_reset, pad_number}
 use Rattle.mp_program.specs.Reads.{IsOrder}
-use Rattle.mp_rules.specs.Entries.{IsAt}
-use Rattle.mp_rules.proofs.ListEntries.{one_entry, at_pushed, number_at, at_get}
+use Rattle.mp_base.specs.Entries.{IsAt}
+use Rattle.mp_base.proofs.ListEntries.{one_entry, at_pushed, number_at, at_get}
 use Rattle.rtl_form.specs.declared.rtl.Cell.{Cell}
 use Rattle.rtl_form.specs.declared.rtl.CellKind.TheVariants as kinds
 use Rattle.process_plan.specs.declared.role.Role.{Role}

@@ -1,7 +1,7 @@
 -- The cells of a program.
 use Rattle.std.specs.Prelude.{◌≡◌, ℕ, ◌<◌, List, length, slice_index}
 use Rattle.mp_program.specs.declared.program.Program.{Program}
-use Rattle.mp_rules.specs.Entries.{IsAt}
+use Rattle.mp_base.specs.Entries.{IsAt}
 use Rattle.process_plan.specs.declared.role.Role.{Role}
 use Rattle.process_plan.specs.declared.role.Role.TheVariants.{Value}
 use Rattle.process_plan.specs.Roles.{AreCells}

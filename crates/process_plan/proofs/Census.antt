@@ -64,8 +64,8 @@ use Rattle.mp_program.specs.declared.program.Def.{Def}
 use Rattle.mp_program.specs.declared.program.Process.{Process}
 use Rattle.mp_program.specs.declared.program.Program.{Program}
 use Rattle.mp_program.specs.Weight.{calls_in}
-use Rattle.mp_rules.specs.Entries.{IsAt}
-use Rattle.mp_rules.proofs.ListEntries.{one_entry, some_entry}
+use Rattle.mp_base.specs.Entries.{IsAt}
+use Rattle.mp_base.proofs.ListEntries.{one_entry, some_entry, get_at}
 use Rattle.rtl_form.specs.declared.rtl.Cell.{Cell}
 use Rattle.rtl_form.specs.Cost.{cell_cost}
 use Rattle.process_plan.specs.Roles.{Role, Value, Placed, Stacked, AreCells, IsCellOf, def_cell}
@@ -320,11 +320,6 @@ none_taken : (xs : List Def) → take 0 xs ≡ []
 none_taken [] = refl
 none_taken (x ∷ xs) = refl
 
-got : (xs : List Def) (k : ℕ) (x : Def) → IsAt xs k x → slice_get xs k ≡ Some x
-got [] k x (lt, is) = absurd (omega (arith, lt))
-got (y ∷ ys) zero x (lt, is) = ap Some (sym is)
-got (y ∷ ys) (suc k) x (lt, is) = got ys k x (omega (arith, lt), is)
-
 more_taken : (xs : List Def) (k : ℕ) (x : Def) → IsAt xs k x → take (suc k) xs ≡ take k xs ++ x ∷ []
 more_taken [] k x (lt, is) = absurd (omega (arith, lt))
 more_taken (y ∷ ys) zero x (lt, is) = ap (λ z. z ∷ []) (sym is)
@@ -337,7 +332,7 @@ take_bill ds (suc n) le =
     let b = take_bill ds n (omega (arith, le)) in
     let (x, at) = some_entry ds n (omega (arith, le)) in
     let c : role_bill ds (Value n) ≡ def_bill x.what =
-    ap (λ o. option_map_or (λ (y : Def). def_bill y.what) o 0) (got ds n x at) in
+    ap (λ o. option_map_or (λ (y : Def). def_bill y.what) o 0) (get_at ds n x at) in
     let lt = at.0 in
     let e : take (suc n) ds ≡ take n ds ++ x ∷ [] = more_taken ds n x at in
     let d : defs_bill (take (suc n) ds) ≡ defs_bill (take n ds) + def_bill x.what =
@@ -366,7 +361,7 @@ def_costs ds d (Signal Internal) x h = ap (λ (z : Cell). cell_cost z.kind) (sym
 role_costs : (p : Program) (s : Role) (x : Cell) → IsCellOf p s x → cell_cost x.kind ≡ role_bill p.defs s
 role_costs p (Value d) x (y, at, made) =
     def_costs p.defs d y.what x made ∙ sym (ap (λ o. option_map_or (λ (z : Def). def_bill z.what) o 0)
-    (got p.defs d y at))
+    (get_at p.defs d y at))
 role_costs p (Placed k j) x (q, at, pos, lt, is) = ap (λ (z : Cell). cell_cost z.kind) is
 role_costs p (Stacked k l j) x (q, at, lt, place, is) = ap (λ (z : Cell). cell_cost z.kind) is
 

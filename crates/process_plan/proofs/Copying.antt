@@ -13,8 +13,8 @@ use Rattle.mp_program.specs.Sound.{ArgsFit, AllBetween}
 use Rattle.mp_program.specs.State.{State, Seat}
 use Rattle.mp_program.specs.Environment.{IsEnvironment, what_value, driven_value}
 use Rattle.mp_program.specs.Values as from
-use Rattle.mp_rules.specs.Entries.{IsAt}
-use Rattle.mp_rules.proofs.ListEntries.{some_entry, get_at}
+use Rattle.mp_base.specs.Entries.{IsAt}
+use Rattle.mp_base.proofs.ListEntries.{some_entry, get_at}
 use Rattle.rtl_form.specs.declared.rtl.Rtl.{Rtl}
 use Rattle.rtl_form.specs.declared.rtl.RtlExpr.{RtlExpr}
 use Rattle.rtl_form.specs.declared.rtl.RtlExpr.TheVariants.{Truth, Cell, Apply}

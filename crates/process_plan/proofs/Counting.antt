@@ -14,8 +14,8 @@ use Rattle.mp_program.specs.Sound.{AllBetween}
 use Rattle.mp_program.specs.Values.{value_of}
 use Rattle.mp_program.specs.Weight.{inner, is_call, calls_in}
 use Rattle.mp_program.proofs.Inside.{inner_behind}
-use Rattle.mp_rules.proofs.ListEntries.{get_at}
-use Rattle.mp_rules.specs.Entries.{IsAt}
+use Rattle.mp_base.proofs.ListEntries.{get_at}
+use Rattle.mp_base.specs.Entries.{IsAt}
 use Rattle.mp_rules.specs.Standing as standing
 use Rattle.mp_rules.specs.Standing.{Under}
 use Rattle.process_plan.specs.Lawful.{Known}

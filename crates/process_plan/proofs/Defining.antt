@@ -45,7 +45,7 @@ use Rattle.mp_program.specs.Effects as source
 use Rattle.mp_program.specs.State.{State, Seat, SeatsFit, IsState, places_taken, active}
 use Rattle.mp_program.specs.Environment.{clock_effects}
 use Rattle.mp_program.specs.Values as from
-use Rattle.mp_rules.specs.Entries.{IsAt}
+use Rattle.mp_base.specs.Entries.{IsAt}
 use Rattle.rtl_form.specs.declared.rtl.Rtl.{Rtl}
 use Rattle.rtl_form.specs.declared.rtl.Transfer.{Transfer}
 use Rattle.rtl_form.specs.Written.{written}
@@ -56,7 +56,7 @@ use Rattle.process_plan.specs.Enables.{Enable, copy_of}
 use Rattle.process_plan.specs.Plan.{IsPlanned, sets, falls, lands, returns, pushes, sinks, rises, empties}
 use Rattle.process_plan.proofs.Merging.{same_merge}
 use Rattle.mp_program.proofs.Definitions.{named}
-use Rattle.mp_rules.proofs.ListEntries.{one_entry, get_at}
+use Rattle.mp_base.proofs.ListEntries.{one_entry, get_at}
 use Rattle.process_plan.proofs.Members.{cases_of, in_flat, flat_in}
 use Rattle.process_plan.proofs.Doing.{effect_source, source_effect}
 use Rattle.process_plan.proofs.Copying.{copied}

@@ -32,8 +32,8 @@ use Rattle.mp_program.specs.declared.program.Program.{Program}
 use Rattle.mp_program.specs.Sound.{InnerFit, BranchesFit}
 use Rattle.mp_program.specs.Values.{value_of}
 use Rattle.mp_program.specs.Effects.{Effect, branch_effects, kind_effects, effects_of}
-use Rattle.mp_rules.specs.Entries.{IsAt}
-use Rattle.mp_rules.proofs.ListEntries.{some_entry, get_at}
+use Rattle.mp_base.specs.Entries.{IsAt}
+use Rattle.mp_base.proofs.ListEntries.{some_entry, get_at}
 use Rattle.process_plan.specs.Lawful.{Known}
 use Rattle.process_plan.specs.Active.{chosen_forms, chosen, own_effects, Runs, itself, deeper}
 use Rattle.process_plan.proofs.Members.{in_flat, flat_in, between_in}

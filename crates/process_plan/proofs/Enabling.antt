@@ -46,8 +46,8 @@ use Rattle.mp_program.specs.Sound.{BranchesFit, InnerFit}
 use Rattle.mp_program.specs.State.{State, Seat, SeatsFit, IsState}
 use Rattle.mp_program.specs.Environment.{IsEnvironment}
 use Rattle.mp_program.specs.Values as from
-use Rattle.mp_rules.specs.Entries.{IsAt}
-use Rattle.mp_rules.proofs.ListEntries.{one_entry, get_at}
+use Rattle.mp_base.specs.Entries.{IsAt}
+use Rattle.mp_base.proofs.ListEntries.{one_entry, get_at}
 use Rattle.rtl_form.specs.declared.rtl.Rtl.{Rtl}
 use Rattle.rtl_form.specs.declared.rtl.RtlExpr.{RtlExpr}
 use Rattle.rtl_form.specs.declared.rtl.RtlExpr.TheVariants.{Cell, Apply}

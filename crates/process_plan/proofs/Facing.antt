@@ -60,8 +60,8 @@ use Rattle.mp_program.specs.declared.program.Program.{Program}
 use Rattle.mp_program.specs.Names.{is_input, is_output, is_stored, pad_number}
 use Rattle.mp_program.specs.Pads.{Face, face, pad_width, ArePadsOf}
 use Rattle.mp_program.specs.Trace as source
-use Rattle.mp_rules.specs.Entries.{IsAt}
-use Rattle.mp_rules.proofs.ListEntries.{one_entry, some_entry}
+use Rattle.mp_base.specs.Entries.{IsAt}
+use Rattle.mp_base.proofs.ListEntries.{one_entry, some_entry}
 use Rattle.rtl_form.specs.declared.rtl.CellKind.{CellKind}
 use Rattle.rtl_form.specs.declared.rtl.CellKind.TheVariants as kinds
 use Rattle.rtl_form.specs.declared.rtl.Cell.{Cell}
@@ -69,7 +69,7 @@ use Rattle.rtl_form.specs.declared.rtl.Rtl.{Rtl}
 use Rattle.rtl_form.specs.Environment as rtl
 use Rattle.rtl_form.specs.Trace as rtl_trace
 use Rattle.rtl_form.specs.Sound.{IsOnly, CellFits}
-use Rattle.process_plan.specs.Roles.{Role, Value, Placed, Stacked, AreCells, def_cell, output_number, stored_bit}
+use Rattle.process_plan.specs.Roles.{Role, Value, Placed, Stacked, AreCells, def_cell, output_number}
 use Rattle.process_plan.specs.Roles as roles_of
 use Rattle.process_plan.proofs.Simulating.{cell_stored}
 

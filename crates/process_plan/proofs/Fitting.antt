@@ -52,10 +52,10 @@ use Rattle.mp_program.specs.declared.program.Program.{Program}
 use Rattle.mp_program.specs.Names.{index_of, is_input}
 use Rattle.mp_program.specs.Sound.{InnerFit}
 use Rattle.mp_program.proofs.Definitions.{named}
-use Rattle.mp_rules.specs.Entries.{IsAt}
+use Rattle.mp_base.specs.Entries.{IsAt}
 use Rattle.mp_rules.specs.Rules.{E27, is_unset}
 use Rattle.mp_rules.specs.Sorts.{IsWanted}
-use Rattle.mp_rules.proofs.ListEntries.{some_entry, get_at}
+use Rattle.mp_base.proofs.ListEntries.{some_entry, get_at}
 use Rattle.rtl_form.specs.declared.rtl.CellKind.{CellKind}
 use Rattle.rtl_form.specs.declared.rtl.CellKind.TheVariants as kinds
 use Rattle.rtl_form.specs.declared.rtl.Cell as cells

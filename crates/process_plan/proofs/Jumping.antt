@@ -48,9 +48,9 @@ use Rattle.mp_program.specs.Effects.{Effect, Writes, Goes, Calls, Returns, effec
 use Rattle.mp_program.specs.State.{State, Seat}
 use Rattle.mp_program.specs.Step.{wrapped, place_of_label, next_seat}
 use Rattle.mp_program.specs.Values as from
-use Rattle.mp_rules.specs.Entries.{IsAt}
+use Rattle.mp_base.specs.Entries.{IsAt}
 use Rattle.mp_rules.specs.Standing.{is_transfer}
-use Rattle.mp_rules.proofs.ListEntries.{one_entry}
+use Rattle.mp_base.proofs.ListEntries.{one_entry}
 use Rattle.rtl_form.specs.declared.rtl.Rtl.{Rtl}
 use Rattle.rtl_form.specs.declared.rtl.RtlExpr.TheVariants.{Apply}
 use Rattle.process_plan.specs.Roles.{Role, seat_at}

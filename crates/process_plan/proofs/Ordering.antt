@@ -52,7 +52,7 @@ use Rattle.mp_program.specs.Reads.{
   roots,
   Reads,
 }
-use Rattle.mp_rules.specs.Entries.{IsAt}
+use Rattle.mp_base.specs.Entries.{IsAt}
 use Rattle.rtl_form.specs.declared.rtl.Rtl.{Rtl}
 use Rattle.rtl_form.specs.declared.rtl.RtlExpr.{RtlExpr}
 use Rattle.rtl_form.specs.declared.rtl.RtlExpr.TheVariants.{Number, Truth, Cell, Apply}
@@ -87,7 +87,7 @@ use Rattle.mp_base.proofs.Contents.{
   nothing_in,
   contains_from_map,
 }
-use Rattle.mp_rules.proofs.ListEntries.{one_entry, some_entry, get_at}
+use Rattle.mp_base.proofs.ListEntries.{one_entry, some_entry, get_at}
 use Rattle.mp_base.proofs.Induction.{downward, upward}
 
 -- ---- expressions and the cells that they read

@@ -44,8 +44,8 @@ use Rattle.mp_program.specs.Effects.{Effect, Writes, Goes, Calls, Returns}
 use Rattle.mp_program.specs.State.{State, Seat}
 use Rattle.mp_program.specs.Step.{wrapped, place_of_label, next_seat}
 use Rattle.mp_program.specs.Values as from
-use Rattle.mp_rules.specs.Entries.{IsAt}
-use Rattle.mp_rules.proofs.ListEntries.{one_entry}
+use Rattle.mp_base.specs.Entries.{IsAt}
+use Rattle.mp_base.proofs.ListEntries.{one_entry}
 use Rattle.rtl_form.specs.declared.rtl.Rtl.{Rtl}
 use Rattle.rtl_form.specs.declared.rtl.Transfer.{Transfer}
 use Rattle.rtl_form.specs.Written.{written}

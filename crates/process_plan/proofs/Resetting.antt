@@ -58,9 +58,9 @@ use Rattle.mp_program.specs.Pads.{ArePadsOf, pad_width}
 use Rattle.mp_program.specs.Trace as source
 use Rattle.mp_program.proofs.Definitions.{same_is}
 use Rattle.mp_program.proofs.FormKinds.{input_signal}
-use Rattle.mp_rules.specs.Entries.{IsAt}
+use Rattle.mp_base.specs.Entries.{IsAt}
 use Rattle.mp_rules.specs.Rules.{E34}
-use Rattle.mp_rules.proofs.ListEntries.{some_entry}
+use Rattle.mp_base.proofs.ListEntries.{some_entry}
 use Rattle.rtl_form.specs.declared.rtl.CellKind.TheVariants as kinds
 use Rattle.rtl_form.specs.declared.rtl.Cell.{Cell}
 use Rattle.rtl_form.specs.declared.rtl.Rtl.{Rtl}

@@ -32,8 +32,8 @@ use Rattle.mp_program.specs.Reads.{sets, kind_sets, branches_set}
 use Rattle.mp_program.specs.Sound.{AllBetween, BranchesFit, InnerFit}
 use Rattle.mp_program.specs.State.{zero_state}
 use Rattle.mp_program.specs.Trace as source
-use Rattle.mp_rules.specs.Entries.{IsAt}
-use Rattle.mp_rules.proofs.ListEntries.{some_entry, get_at}
+use Rattle.mp_base.specs.Entries.{IsAt}
+use Rattle.mp_base.proofs.ListEntries.{some_entry, get_at}
 use Rattle.rtl_form.specs.declared.rtl.Rtl.{Rtl}
 use Rattle.rtl_form.specs.declared.rtl.RtlExpr.{RtlExpr}
 use Rattle.rtl_form.specs.declared.rtl.Transfer.{Transfer}

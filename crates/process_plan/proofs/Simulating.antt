@@ -73,8 +73,8 @@ use Rattle.mp_program.specs.State.{State, Seat, SeatsFit, IsState, zero_seat, ze
 use Rattle.mp_program.specs.Environment.{IsEnvironment, what_value, driven_value, clock_effects}
 use Rattle.mp_program.specs.Step.{wrapped, next_stored, next_seat, next_seats}
 use Rattle.mp_program.specs.Weight.{calls_in}
-use Rattle.mp_rules.specs.Entries.{IsAt}
-use Rattle.mp_rules.proofs.ListEntries.{one_entry, some_entry, get_at}
+use Rattle.mp_base.specs.Entries.{IsAt}
+use Rattle.mp_base.proofs.ListEntries.{one_entry, some_entry, get_at}
 use Rattle.rtl_form.specs.declared.rtl.Cell.{Cell}
 use Rattle.rtl_form.specs.declared.rtl.Rtl.{Rtl}
 use Rattle.rtl_form.specs.Written.{written}

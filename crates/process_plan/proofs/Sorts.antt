@@ -78,7 +78,7 @@ use Rattle.mp_program.specs.declared.program.Program.{Program}
 use Rattle.mp_program.specs.Fits as source_fits
 use Rattle.mp_program.specs.Names.{index_of, is_same}
 use Rattle.mp_program.specs.Sound.{IsSound, ArgsFit}
-use Rattle.mp_rules.specs.Entries.{IsAt}
+use Rattle.mp_base.specs.Entries.{IsAt}
 use Rattle.mp_rules.specs.Rules.{E22, E23, E24}
 use Rattle.mp_rules.specs.Sorts.{
   Sort,
@@ -91,7 +91,7 @@ use Rattle.mp_rules.specs.Sorts.{
   expr_sort,
   IsWanted,
 }
-use Rattle.mp_rules.proofs.ListEntries.{some_entry, get_at}
+use Rattle.mp_base.proofs.ListEntries.{some_entry, get_at}
 use Rattle.rtl_form.specs.declared.rtl.Cell as cells
 use Rattle.rtl_form.specs.declared.rtl.RtlExpr.{RtlExpr}
 use Rattle.rtl_form.specs.declared.rtl.RtlExpr.TheVariants.{Number, Truth, Cell, Apply}

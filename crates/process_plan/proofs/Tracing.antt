@@ -50,7 +50,8 @@ use Rattle.mp_base.proofs.Contents.{contains_head, contains_behind}
 use Rattle.mp_program.proofs.Lengths.{length-outputs_of}
 use Rattle.rtl_form.specs.Values.{value_of}
 use Rattle.rtl_form.specs.Written.{written}
-use Rattle.mp_rules.specs.Entries.{IsAt}
+use Rattle.mp_base.specs.Entries.{IsAt}
+use Rattle.mp_base.proofs.ListEntries.{get_at}
 use Rattle.mp_rules.specs.Naming.{OwnNames}
 use Rattle.mp_fitting.specs.Fitting.{StateFits}
 use Rattle.rtl_form.specs.declared.rtl.CellKind.{CellKind}
@@ -108,11 +109,6 @@ abbrev output_code : CellKind → ℕ
 output_code (kinds.Output k) = suc k
 output_code _ = 0
 
-got : (xs : List Cell) (c : ℕ) (x : Cell) → IsAt xs c x → slice_get xs c ≡ Some x
-got [] c x (lt, is) = absurd (omega (arith, lt))
-got (y ∷ ys) zero x (lt, is) = ap Some (sym is)
-got (y ∷ ys) (suc c) x (lt, is) = got ys c x (omega (arith, lt), is)
-
 -- the pads and `reset` are those of the program
 pub record IsFaced (p : Program) (r : Rtl) : Type 0 where
   pub padded : ArePadsOf p r.pads
@@ -130,7 +126,7 @@ module _ (p : Program) (r : Rtl) (reset : IsResetCell p r.cells r.reset) (inputs
       ap (λ (o : Option ℕ). option_map_or (λ (x : Cell). slice_index inputs (rtl_step.input_number x.kind) == 1)
       (option_and_then (slice_get r.cells) o) false) is
       ∙ ap (λ o. option_map_or (λ (x : Cell). slice_index inputs (rtl_step.input_number x.kind) == 1) o false)
-      (got r.cells c x at)
+      (get_at r.cells c x at)
       ∙ ap (λ z. slice_index inputs (rtl_step.input_number z) == 1) kind
 
   pub reset_same : rtl_step.resets r inputs ≡ resets p.defs inputs

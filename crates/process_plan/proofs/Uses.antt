@@ -48,10 +48,10 @@ use Rattle.mp_program.specs.declared.program.Def.{Def}
 use Rattle.mp_program.specs.declared.program.Program.{Program}
 use Rattle.mp_program.specs.Names.{index_of, is_same, is_supply}
 use Rattle.mp_program.proofs.Definitions.{same_is, is_same_of}
-use Rattle.mp_rules.specs.Entries.{IsAt}
+use Rattle.mp_base.specs.Entries.{IsAt}
 use Rattle.mp_rules.specs.Naming.{Naming, namings, def_naming, process_naming, Uses, OwnNames}
 use Rattle.mp_rules.specs.Rules.{E21, E22}
-use Rattle.mp_rules.proofs.ListEntries.{contains_from_at}
+use Rattle.mp_base.proofs.ListEntries.{contains_from_at}
 use Rattle.rtl_form.specs.declared.rtl.Cell.{Cell}
 use Rattle.process_plan.specs.Roles.{Role, Value, AreCells, def_cell}
 use Rattle.process_plan.proofs.Members.{in_entry}

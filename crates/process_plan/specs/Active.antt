@@ -11,7 +11,7 @@ use Rattle.mp_program.specs.declared.program.Program.{Program}
 use Rattle.mp_program.specs.Values.{value_of}
 use Rattle.mp_program.specs.Effects.{Effect, Writes, Goes, Calls, Returns}
 use Rattle.mp_program.specs.State.{Seat}
-use Rattle.mp_rules.specs.Entries.{IsAt}
+use Rattle.mp_base.specs.Entries.{IsAt}
 use Rattle.process_plan.specs.Roles.{seat_at}
 
 -- the forms of the first branch whose guard is 1; v gives values

@@ -16,7 +16,7 @@ use Rattle.mp_program.specs.Step.{next_state}
 use Rattle.mp_program.specs.Trace.{IsTraceFrom}
 use Rattle.mp_program.specs.Values.{value_of, kind_value}
 use Rattle.mp_rules.specs.Breaking.{IsUnbroken}
-use Rattle.mp_rules.specs.Entries.{IsAt}
+use Rattle.mp_base.specs.Entries.{IsAt}
 use Rattle.mp_rules.specs.Moves.{moves}
 use Rattle.mp_rules.specs.Naming.{OwnNames}
 use Rattle.mp_fitting.specs.Fitting.{ValuesFit, StateFits}

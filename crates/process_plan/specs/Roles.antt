@@ -31,7 +31,7 @@ use Rattle.mp_program.specs.declared.program.Program.{Program}
 use Rattle.mp_program.specs.Names.{is_output, pad_number}
 use Rattle.mp_program.specs.State.{Seat}
 use Rattle.mp_program.specs.Weight.{calls_in}
-use Rattle.mp_rules.specs.Entries.{IsAt}
+use Rattle.mp_base.specs.Entries.{IsAt}
 use Rattle.rtl_form.specs.declared.rtl.CellKind.TheVariants as kinds
 use Rattle.rtl_form.specs.declared.rtl.Cell.{Cell}
 

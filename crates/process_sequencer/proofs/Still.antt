@@ -27,7 +27,7 @@ use Rattle.std.proofs.lemmas.Bool.{eqb-true}
 use Rattle.mp_program.specs.declared.program.Form.{Form}
 use Rattle.mp_program.specs.declared.program.Process.{Process}
 use Rattle.mp_program.specs.declared.program.Program.{Program}
-use Rattle.mp_rules.specs.Entries.{IsAt}
+use Rattle.mp_base.specs.Entries.{IsAt}
 use Rattle.process_plan.specs.Built.{is_set}
 use Rattle.process_plan.proofs.Members.{zero_or_more}
 use Rattle.process_sequencer.specs.Stillness.{is_still, IsStill, IsMoving}

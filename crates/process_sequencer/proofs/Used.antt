@@ -47,10 +47,10 @@ use Rattle.mp_program.specs.Names.{index_of, is_supply}
 use Rattle.mp_program.specs.Weight.{is_set_of}
 use Rattle.mp_program.proofs.Definitions.{named, is_same_of}
 use Rattle.mp_rules.specs.Breaking.{IsUnbroken}
-use Rattle.mp_rules.specs.Entries.{IsAt}
+use Rattle.mp_base.specs.Entries.{IsAt}
 use Rattle.mp_rules.specs.Naming.{OwnNames}
 use Rattle.mp_rules.specs.Rules.{E21, is_unset}
-use Rattle.mp_rules.proofs.ListEntries.{contains_from_at}
+use Rattle.mp_base.proofs.ListEntries.{contains_from_at}
 use Rattle.process_plan.specs.Bill.{set_bill, IsUsed}
 use Rattle.process_plan.proofs.Keeping.{keeps_22, keeps_27}
 use Rattle.process_plan.proofs.Uses.{used_def}

@@ -30,8 +30,8 @@ use Rattle.mp_program.specs.declared.program.Process.{Process}
 use Rattle.mp_program.specs.declared.program.Program.{Program}
 use Rattle.mp_program.specs.Names.{index_of}
 use Rattle.mp_program.specs.Step.{place_of_label}
-use Rattle.mp_rules.specs.Entries.{IsAt}
-use Rattle.mp_rules.proofs.ListEntries.{one_entry, some_entry}
+use Rattle.mp_base.specs.Entries.{IsAt}
+use Rattle.mp_base.proofs.ListEntries.{one_entry, some_entry}
 use Rattle.rtl_form.specs.declared.rtl.Cell as cells
 use Rattle.rtl_form.specs.declared.rtl.RtlExpr.{RtlExpr}
 use Rattle.rtl_form.specs.declared.rtl.RtlExpr.TheVariants.{Cell}

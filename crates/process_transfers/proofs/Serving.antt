@@ -35,7 +35,7 @@ use Rattle.std.proofs.Common.{
   count_by,
   append-nil,
 }
-use Rattle.std.specs.Prelude.{Contains, option_to_list, slice_get, ◌&&◌}
+use Rattle.std.specs.Prelude.{Contains, option_to_list, ◌&&◌}
 use Rattle.std.specs.Option.{option_map_or}
 use Rattle.std.proofs.lemmas.Bool.{eq-eqb}
 use Rattle.std.proofs.lemmas.List.{at_drop_more}
@@ -68,9 +68,9 @@ use Rattle.mp_program.specs.declared.program.Way.TheVariants.{Input, Output, Int
 use Rattle.mp_program.specs.Names.{index_of, is_same}
 use Rattle.mp_program.specs.Step.{place_of_label}
 use Rattle.mp_program.proofs.Definitions.{named}
-use Rattle.mp_rules.specs.Entries.{IsAt}
+use Rattle.mp_base.specs.Entries.{IsAt}
 use Rattle.mp_rules.specs.Rules.{E27, is_unset}
-use Rattle.mp_rules.proofs.ListEntries.{one_entry}
+use Rattle.mp_base.proofs.ListEntries.{one_entry, get_at}
 use Rattle.rtl_form.specs.declared.rtl.Cell.{Cell}
 use Rattle.rtl_form.specs.declared.rtl.Transfer.{Transfer}
 use Rattle.rtl_form.specs.Cost.{transfer_cost, target_cost}
@@ -163,15 +163,10 @@ cost_more xs now next (Some t) price is cheap =
 
 -- ---- cells of processes
 
-got : (xs : List Cell) (k : ℕ) (x : Cell) → IsAt xs k x → slice_get xs k ≡ Some x
-got [] k x (lt, is) = absurd (omega (arith, lt))
-got (y ∷ ys) zero x (lt, is) = ap Some (sym is)
-got (y ∷ ys) (suc k) x (lt, is) = got ys k x (omega (arith, lt), is)
-
 -- what a transfer to a cell costs
 pub to_cell : (xs : List Cell) (c : ℕ) (x : Cell) (g v : ℕ) → IsAt xs c x
     → transfer_cost xs (record { guard = g; target = c; value = v }) ≡ target_cost x.word
-to_cell xs c x g v at = ap (λ o. target_cost (option_map_or (λ (z : Cell). z.word) o false)) (got xs c x at)
+to_cell xs c x g v at = ap (λ o. target_cost (option_map_or (λ (z : Cell). z.word) o false)) (get_at xs c x at)
 
 module _ (p : Program) (roles : List Role) (xs : List Cell) (are : AreCells p roles xs) where
   to_place : (c k j g v : ℕ) → IsAt roles c (Placed k j)

@@ -4,7 +4,7 @@ ghost use Rattle.std.specs.Prelude.{◌≡◌, ◌<◌, ◌≤◌, ◌+◌, leng
 ghost use Rattle.mp_program.specs.Names.{index_of};
 ghost use Rattle.mp_program.specs.Step.{wrapped, place_of_label};
 ghost use Rattle.mp_rules.specs.Breaking.{IsUnbroken};
-ghost use Rattle.mp_rules.specs.Entries.{IsAt};
+ghost use Rattle.mp_base.specs.Entries.{IsAt};
 ghost use Rattle.process_plan.specs.Bill.{forms_bill, transfers_cost};
 ghost use Rattle.process_plan.specs.Enables.{copy_of};
 ghost use Rattle.process_plan.specs.Roles.{AreCells};

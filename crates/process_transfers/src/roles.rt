@@ -1,7 +1,7 @@
 //! The transfers to and from the cells of processes.
 
 ghost use Rattle.std.specs.Prelude.{◌≡◌, ◌<◌, ◌≤◌, ◌+◌, length, count_by, IfOk, OnOk};
-ghost use Rattle.mp_rules.specs.Entries.{IsAt};
+ghost use Rattle.mp_base.specs.Entries.{IsAt};
 ghost use Rattle.process_plan.specs.Bill.{transfers_cost};
 ghost use Rattle.process_plan.specs.declared.role.Role as roles;
 ghost use Rattle.process_transfers.specs.Control.{IsReadingMade, AreReadingsMade, IsControl, PlaceFits};

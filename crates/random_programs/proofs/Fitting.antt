@@ -10,7 +10,7 @@ use Rattle.mp_base.specs.declared.pad.Pads.{Pads}
 use Rattle.mp_base.proofs.Entries.{get_or_pushed}
 use Rattle.mp_program.specs.declared.program.Program.{Program}
 use Rattle.mp_program.specs.Pads.{ArePadsOf, Face, face, FitsPads, input_pads, pad_limit}
-use Rattle.mp_rules.specs.Entries.{IsAt}
+use Rattle.mp_base.specs.Entries.{IsAt}
 use Rattle.random_programs.specs.Inputs.{AreInputsOf}
 
 -- a value for each of the first n pads, which fits it

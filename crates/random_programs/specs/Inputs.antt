@@ -2,7 +2,7 @@
 use Rattle.std.specs.Prelude.{◌≡◌, ◌<◌, ℕ, List, length, slice_index}
 use Rattle.mp_base.specs.declared.pad.Pad.{Pad}
 use Rattle.mp_program.specs.Pads.{pad_limit}
-use Rattle.mp_rules.specs.Entries.{IsAt}
+use Rattle.mp_base.specs.Entries.{IsAt}
 
 -- a value for each pad, which fits it
 pub record AreInputsOf (pads : List Pad) (values : List ℕ) : Type 0 where

@@ -1,6 +1,6 @@
 -- What holds of each element of a list.
-use Rattle.std.proofs.Common.{ℕ, ◌<◌, ◌⊎◌, List}
-use Rattle.rtl_form.specs.Entries.{IsAt}
+use Rattle.std.proofs.Common.{ℕ, ◌<◌, List}
+use Rattle.mp_base.specs.Entries.{IsAt}
 
 -- what holds of each element before the k-th
 abbrev pub EachBefore : {X : Type 0} → (ℕ → X → Type 0) → List X → ℕ → Type 0

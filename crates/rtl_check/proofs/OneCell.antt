@@ -1,5 +1,5 @@
 -- Exactly one cell of a kind, by a count.
-use Rattle.std.proofs.Common.{◌≡◌, ◌∙◌, ℕ, List, Bool, true, false, refl, sym, ap, subst, length}
+use Rattle.std.proofs.Common.{◌≡◌, ◌∙◌, ℕ, List, Bool, true, refl, sym, ap, subst}
 use Rattle.std.specs.Prelude.{◌↔◌, ◌==◌, not, IsTrue}
 use Rattle.std.specs.List.{count_by}
 use Rattle.std.proofs.lemmas.Bool.{eq-eqb, eqb-true, false≢true}
@@ -7,13 +7,13 @@ use Rattle.mp_base.specs.declared.pad.Pad.{Pad}
 use Rattle.rtl_form.specs.declared.rtl.Cell.{Cell}
 use Rattle.rtl_form.specs.declared.rtl.CellKind.{CellKind}
 use Rattle.rtl_form.specs.declared.rtl.CellKind.TheVariants.{Input, Output, Inner, Stored}
-use Rattle.rtl_form.specs.Entries.{IsAt}
+use Rattle.mp_base.specs.Entries.{IsAt}
+use Rattle.mp_base.proofs.ListEntries.{one_entry}
 use Rattle.rtl_check.specs.Kinds.{is_input, is_input_kind, is_output, is_output_kind}
 use Rattle.rtl_form.specs.Sound.{IsCellOf}
 use Rattle.rtl_form.specs.Step.{input_number}
-use Rattle.rtl_form.proofs.Members.{one_entry}
 use Rattle.rtl_check.specs.Parts.{HasOne, IsResetKind, IsResetPad}
-use Rattle.rtl_check.proofs.Counting.{IsOnce, once_counted, counted_once}
+use Rattle.rtl_check.proofs.Counting.{once_counted, counted_once}
 
 input_kind : (pad : ℕ) (k : CellKind) → is_input_kind pad k ≡ true → k ≡ Input pad
 input_kind pad (Input j) e = ap Input (eqb-true j pad e)

@@ -1,27 +1,5 @@
 -- What expressions read, argument by argument.
-use Rattle.std.proofs.Common.{
-  ◌≡◌,
-  ◌∙◌,
-  ◌⊎◌,
-  inl,
-  inr,
-  ℕ,
-  ◌<◌,
-  ◌≤◌,
-  List,
-  [],
-  ◌∷◌,
-  Bool,
-  true,
-  false,
-  refl,
-  sym,
-  ap,
-  subst,
-  arith,
-  length,
-  get_or,
-}
+use Rattle.std.proofs.Common.{◌≡◌, ◌∙◌, ◌⊎◌, inl, inr, ℕ, ◌<◌, ◌≤◌, List, [], Bool, sym, subst, arith, length, get_or}
 use Rattle.std.specs.Prelude.{Contains, IsTrue, ◌↔◌, slice_index}
 use Rattle.std.proofs.lemmas.List.{get_or_default}
 use Rattle.std.proofs.lemmas.List.Elements.{Contains-get_or}
@@ -29,9 +7,9 @@ use Rattle.rtl_form.specs.declared.rtl.Cell as cells
 use Rattle.rtl_form.specs.declared.rtl.Rtl.{Rtl}
 use Rattle.rtl_form.specs.declared.rtl.RtlExpr.{RtlExpr}
 use Rattle.rtl_form.specs.declared.rtl.RtlExpr.TheVariants.{Number, Truth, Cell, Apply}
-use Rattle.rtl_form.specs.Entries.{IsAt}
+use Rattle.mp_base.specs.Entries.{IsAt}
+use Rattle.mp_base.proofs.ListEntries.{one_entry}
 use Rattle.rtl_form.specs.Sound.{ExprFits, ReadsCell, itself, inside}
-use Rattle.rtl_form.proofs.Members.{one_entry}
 use Rattle.rtl_check.specs.Reading.{IsDriven, IsKnown, ReadsOnly, operands_of}
 
 -- an expression that reads a cell is the cell, or has an argument that reads it

@@ -1,33 +1,12 @@
 -- All conditions of soundness, from those that are tested.
-use Rattle.std.proofs.Common.{
-  ◌≡◌,
-  ◌∙◌,
-  ◌⊎◌,
-  inl,
-  inr,
-  ℕ,
-  ◌<◌,
-  ◌≤◌,
-  List,
-  true,
-  refl,
-  sym,
-  subst,
-  arith,
-  length,
-  All,
-  get_or,
-  take,
-  Option,
-  Some,
-  None,
-}
-use Rattle.std.specs.Prelude.{Contains, IfSome, IsSome, slice_index}
+use Rattle.std.proofs.Common.{◌≡◌, ◌∙◌, ◌⊎◌, inl, inr, ℕ, ◌<◌, List, sym, subst, arith, length, All, get_or, take}
+use Rattle.std.proofs.Common.{Option, Some, None}
+use Rattle.std.specs.Prelude.{Contains, IfSome, slice_index}
 use Rattle.std.proofs.lemmas.List.{get_or-take, get_or_default, length-take}
 use Rattle.mp_base.specs.declared.pad.Pad.{Pad}
 use Rattle.rtl_form.specs.declared.rtl.Rtl.{Rtl}
 use Rattle.rtl_form.specs.declared.rtl.Transfer.{Transfer}
-use Rattle.rtl_form.specs.Entries.{IsAt}
+use Rattle.mp_base.specs.Entries.{IsAt}
 use Rattle.rtl_form.specs.Sound.{IsOrder, IsReset, IsSound, Reads, ReadsCell}
 use Rattle.rtl_check.specs.Parts.{HasContents, HasPorts, IsFitting, IsResetCell}
 use Rattle.rtl_check.specs.Reading.{HasOrder, IsDriven, ReadsBefore}

@@ -7,7 +7,7 @@ use Rattle.rtl_form.specs.declared.rtl.CellKind.{CellKind}
 use Rattle.rtl_form.specs.declared.rtl.CellKind.TheVariants.{Input, Output}
 use Rattle.rtl_form.specs.declared.rtl.Rtl.{Rtl}
 use Rattle.rtl_form.specs.declared.rtl.Transfer.{Transfer}
-use Rattle.rtl_form.specs.Entries.{IsAt}
+use Rattle.mp_base.specs.Entries.{IsAt}
 use Rattle.rtl_form.specs.Operands.{takes, takes_words}
 use Rattle.rtl_form.specs.Sound.{CellFits, HasSort, IndexFits, IsOnly, TransferFits}
 use Rattle.rtl_form.specs.Trace.{stores}

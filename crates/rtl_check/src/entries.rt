@@ -1,7 +1,7 @@
 //! Look-ups.
 
 ghost use Rattle.std.specs.Prelude.{◌≤◌, MatchOption, length};
-ghost use Rattle.rtl_form.specs.Entries.{IsAt};
+ghost use Rattle.mp_base.specs.Entries.{IsAt};
 
 use mp_base::List;
 

@@ -11,11 +11,11 @@ use Rattle.rtl_form.specs.declared.rtl.CellKind.TheVariants.{Input, Output, Inne
 use Rattle.rtl_form.specs.declared.rtl.Cell.{Cell}
 use Rattle.rtl_form.specs.declared.rtl.RtlExpr.TheVariants as nodes
 use Rattle.rtl_form.specs.declared.rtl.Rtl.{Rtl}
-use Rattle.rtl_form.specs.Entries.{IsAt}
+use Rattle.mp_base.specs.Entries.{IsAt}
+use Rattle.mp_base.proofs.ListEntries.{some_entry, one_entry}
 use Rattle.rtl_form.specs.Values.{value_of}
 use Rattle.rtl_form.specs.Environment.{is_driven, kind_value, driven_value, IsEnvironment}
 use Rattle.rtl_form.specs.Sound.{IsSound, HasSort, ReadsCell, itself, inside}
-use Rattle.rtl_form.proofs.Members.{some_entry, one_entry}
 use Rattle.rtl_form.proofs.Values.{value_agrees, written_agrees}
 
 kind_given : (k : CellKind) (inputs : List ℕ) (stored a b : ℕ) → is_driven k ≡ false

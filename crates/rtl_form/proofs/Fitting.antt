@@ -20,7 +20,8 @@ use Rattle.rtl_form.specs.declared.rtl.RtlExpr.{RtlExpr}
 use Rattle.rtl_form.specs.declared.rtl.RtlExpr.TheVariants as exprs
 use Rattle.rtl_form.specs.declared.rtl.Transfer.{Transfer}
 use Rattle.rtl_form.specs.declared.rtl.Rtl.{Rtl}
-use Rattle.rtl_form.specs.Entries.{IsAt}
+use Rattle.mp_base.specs.Entries.{IsAt}
+use Rattle.mp_base.proofs.ListEntries.{one_entry}
 use Rattle.rtl_form.specs.Environment.{is_driven, is_stored, kind_value, driven_value, IsEnvironment}
 use Rattle.rtl_form.specs.Operands.{takes_words, gives_word}
 use Rattle.rtl_form.specs.Sound.{IsSound, IsSort, CellFits, IsCellOf}
@@ -29,7 +30,6 @@ use Rattle.rtl_form.specs.Values.{value_of, expr_value}
 use Rattle.rtl_form.specs.Written.{written}
 use Rattle.rtl_form.specs.Known as known
 use Rattle.rtl_form.specs.Fitting.{size_of, CellsFit, InputsFit, ValuesFit}
-use Rattle.rtl_form.proofs.Members.{one_entry}
 use Rattle.rtl_form.proofs.Values.{value_is}
 use Rattle.rtl_form.proofs.Reaching.{reached}
 

@@ -7,11 +7,11 @@ use Rattle.rtl_form.specs.declared.rtl.Cell as cells
 use Rattle.rtl_form.specs.declared.rtl.RtlExpr.{RtlExpr}
 use Rattle.rtl_form.specs.declared.rtl.RtlExpr.TheVariants.{Number, Truth, Cell, Apply}
 use Rattle.rtl_form.specs.declared.rtl.Rtl.{Rtl}
-use Rattle.rtl_form.specs.Entries.{IsAt}
+use Rattle.mp_base.specs.Entries.{IsAt}
+use Rattle.mp_base.proofs.ListEntries.{some_entry}
 use Rattle.rtl_form.specs.Environment.{is_driven}
 use Rattle.rtl_form.specs.Sound.{IsSound, ExprFits, ReadsCell, itself, inside}
 use Rattle.rtl_form.specs.Known.{Passes, Reached}
-use Rattle.rtl_form.proofs.Members.{some_entry}
 use Rattle.rtl_form.proofs.Environment.{read_in}
 
 module _ (r : Rtl) (sound : IsSound r) (E C : ℕ → Type 0) (passes : Passes r E C) where

@@ -7,7 +7,7 @@ use Rattle.std.proofs.lemmas.List.{ext_get_or}
 use Rattle.rtl_form.specs.declared.rtl.CellKind.TheVariants.{Output}
 use Rattle.rtl_form.specs.declared.rtl.Cell.{Cell}
 use Rattle.rtl_form.specs.declared.rtl.Rtl.{Rtl}
-use Rattle.rtl_form.specs.Entries.{IsAt}
+use Rattle.mp_base.specs.Entries.{IsAt}
 use Rattle.rtl_form.specs.Step.{next_state, Shows}
 use Rattle.rtl_form.specs.Trace.{IsTraceFrom}
 use Rattle.rtl_form.specs.Sound.{IsSound, CellFits}

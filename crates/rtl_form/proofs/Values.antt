@@ -9,12 +9,13 @@ use Rattle.rtl_form.specs.declared.rtl.Transfer.{Transfer}
 use Rattle.rtl_form.specs.declared.rtl.RtlExpr.{RtlExpr}
 use Rattle.rtl_form.specs.declared.rtl.RtlExpr.TheVariants.{Number, Truth, Cell, Apply}
 use Rattle.rtl_form.specs.declared.rtl.Rtl.{Rtl}
-use Rattle.rtl_form.specs.Entries.{IsAt}
+use Rattle.mp_base.specs.Entries.{IsAt}
+use Rattle.mp_base.proofs.ListEntries.{some_entry}
 use Rattle.rtl_form.specs.Values.{expr_value, value_of}
 use Rattle.rtl_form.specs.Written.{written}
 use Rattle.rtl_form.specs.Sound.{IsSound, ExprFits, ReadsCell, itself, inside}
 use Rattle.rtl_form.proofs.Growing.{grown_at}
-use Rattle.rtl_form.proofs.Members.{some_entry, map_same}
+use Rattle.rtl_form.proofs.Members.{map_same}
 
 expr_before : (r : Rtl) (env : List ℕ) (e : ℕ) (x : RtlExpr) (g h : ℕ → ℕ) → ((k : ℕ) → k < e → g k ≡ h k)
     → ExprFits r e x

@@ -2,7 +2,7 @@
 use Rattle.std.specs.Prelude.{◌<◌, ◌^◌, ℕ, List, Bool, ◌==◌, if◌then◌else◌, slice_index}
 use Rattle.rtl_form.specs.declared.rtl.Cell as cells
 use Rattle.rtl_form.specs.declared.rtl.Rtl.{Rtl}
-use Rattle.rtl_form.specs.Entries.{IsAt}
+use Rattle.mp_base.specs.Entries.{IsAt}
 use Rattle.rtl_form.specs.Environment.{IsEnvironment}
 use Rattle.rtl_form.specs.Sound.{IsSound, HasSort}
 use Rattle.rtl_form.specs.Step.{next_state}

@@ -2,7 +2,7 @@
 
 ghost use Rattle.std.specs.Prelude.{◌≡◌, ℕ, List};
 ghost use Rattle.rtl_form.specs.declared.rtl.RtlExpr.{RtlExpr};
-ghost use Rattle.rtl_form.specs.Entries.{IsAt};
+ghost use Rattle.mp_base.specs.Entries.{IsAt};
 ghost use Rattle.rtl_form.specs.Values.{value_of, expr_value};
 ghost use Rattle.rtl_form.specs.Environment.{IsEnvironment};
 ghost use Rattle.rtl_form.specs.Trace.{IsTrace, IsTraceFrom};

@@ -1,5 +1,5 @@
 -- A program that breaks no rule has at most 256 inputs and at most 256 outputs.
-use Rattle.std.proofs.Common.{◌≡◌, ℕ, ◌≤◌, List, [], ◌∷◌, Bool, true, false, cond, refl, sym, ◌∙◌, ap, inl, inr, length}
+use Rattle.std.proofs.Common.{◌≡◌, ◌≤◌, List, [], ◌∷◌, Bool, true, false, cond, refl, ap, inl, inr, length}
 use Rattle.std.proofs.Common.{map, arith}
 use Rattle.std.specs.Prelude.{not, filter}
 use Rattle.std.proofs.lemmas.List.{length-map, length-append}

@@ -11,9 +11,9 @@ use Rattle.mp_base.proofs.Entries.{get_set_same}
 use Rattle.rtl_form.specs.declared.rtl.RtlExpr.{RtlExpr}
 use Rattle.rtl_form.specs.declared.rtl.RtlExpr.TheVariants as exprs
 use Rattle.rtl_form.specs.declared.rtl.Rtl.{Rtl}
-use Rattle.rtl_form.specs.Entries.{IsAt}
+use Rattle.mp_base.specs.Entries.{IsAt}
+use Rattle.mp_base.proofs.ListEntries.{one_entry, some_entry}
 use Rattle.rtl_form.specs.Sound.{ExprFits, IsSound, ReadsCell, itself, inside}
-use Rattle.rtl_form.proofs.Members.{one_entry, some_entry}
 use Rattle.task_schedule.specs.Turns.{AreCellTurns, AreExprTurns, IsExprTurn, IsLatest}
 
 -- an element's index, whatever is read past the end

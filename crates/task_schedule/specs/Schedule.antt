@@ -5,7 +5,7 @@ use Rattle.rtl_form.specs.declared.rtl.Transfer as transfers
 use Rattle.rtl_form.specs.declared.rtl.RtlExpr.{RtlExpr}
 use Rattle.rtl_form.specs.declared.rtl.RtlExpr.TheVariants as exprs
 use Rattle.rtl_form.specs.declared.rtl.Rtl.{Rtl}
-use Rattle.rtl_form.specs.Entries.{IsAt}
+use Rattle.mp_base.specs.Entries.{IsAt}
 use Rattle.rtl_form.specs.Environment.{is_driven}
 use Rattle.task_schedule.specs.declared.task.Task.{Task}
 use Rattle.task_schedule.specs.declared.task.Task.TheVariants.{Expr, Cell}

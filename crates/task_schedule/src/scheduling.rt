@@ -4,7 +4,7 @@ ghost use Rattle.std.specs.Prelude.{◌≡◌, ◌<◌, ◌≤◌, ◌+◌, ◌*
 ghost use Rattle.std.specs.Prelude.{length, slice_index};
 ghost use Rattle.std.specs.List.Sorted.{IsNonDecreasingBy};
 ghost use Rattle.mp_base.specs.declared.op.Op as Op;
-ghost use Rattle.rtl_form.specs.Entries.{IsAt};
+ghost use Rattle.mp_base.specs.Entries.{IsAt};
 ghost use Rattle.rtl_form.specs.Sound.{IsSound};
 ghost use Rattle.task_schedule.specs.Schedule.{IsSchedule};
 ghost use Rattle.task_schedule.specs.Turns.{AreCellTurns, AreEntries, AreExprTurns, ArePermuted, IsExprTurn, IsLatest};

@@ -1,12 +1,12 @@
 use Rattle.std.proofs.Common.{List, Option, subst, sym, ap, ◌∙◌}
 use Rattle.std.specs.Prelude.{All}
 use Rattle.rtl_form.specs.declared.rtl.Cell as cells
-use Rattle.rtl_form.proofs.Members.{one_entry}
 use Rattle.task_schedule.specs.declared.task.Task.TheVariants.{Cell}
 use Rattle.bit_gates.specs.declared.rails.Rails.{Rails}
 use Rattle.bit_gates.specs.Cells.{IsTransferNamed, transfers_to}
 use Rattle.control_nor.specs.Tasks.{IsTaskReady}
 use Rattle.control_nor.proofs.tasks.lower_task.Goals as goal
+use Rattle.mp_base.proofs.ListEntries.{one_entry}
 
 pub lower_cell-requires-clause-named : goal.lower_cell-requires-clause-named
 lower_cell-requires-clause-named c word =

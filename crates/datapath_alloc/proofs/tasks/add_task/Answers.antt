@@ -3,8 +3,8 @@ use Rattle.std.proofs.lemmas.Result.{on_ok_weaker}
 use Rattle.rtl_form.specs.declared.rtl.RtlExpr.TheVariants.{Apply, Number}
 use Rattle.rtl_form.specs.declared.rtl.RtlExpr.TheVariants as exprs
 use Rattle.rtl_form.specs.declared.rtl.Cell as cells
-use Rattle.rtl_form.specs.Entries.{IsAt}
-use Rattle.rtl_form.proofs.Members.{one_entry}
+use Rattle.mp_base.specs.Entries.{IsAt}
+use Rattle.mp_base.proofs.ListEntries.{one_entry}
 use Rattle.task_schedule.specs.declared.task.Task.TheVariants.{Cell, Expr}
 use Rattle.path_values.specs.Allocated.{transfers_to}
 use Rattle.datapath_making.specs.Steps.{IsDrivenMade, IsNumberMade, IsStep, read_cell}

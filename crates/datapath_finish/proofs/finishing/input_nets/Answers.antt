@@ -1,7 +1,7 @@
 use Rattle.std.proofs.Common.{◌+◌, ◌∙◌, List, subst, sym}
 use Rattle.mp_base.specs.declared.pad.Pad.{Pad}
 use Rattle.nor_net.specs.declared.net.NetId.{NetId}
-use Rattle.rtl_form.specs.Entries.{IsAt}
+use Rattle.mp_base.specs.Entries.{IsAt}
 use Rattle.datapath_finish.specs.Finishing.{AreInputNets, IsPadNet}
 use Rattle.datapath_finish.proofs.PadNets.{inputs_more}
 use Rattle.datapath_finish.proofs.finishing.input_nets.Goals as goal

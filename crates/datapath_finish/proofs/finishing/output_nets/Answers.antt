@@ -1,7 +1,7 @@
 use Rattle.std.proofs.Common.{List, false, get_or, length, ap, subst, arith}
 use Rattle.rtl_form.specs.declared.rtl.Cell as cells
 use Rattle.rtl_form.specs.declared.rtl.CellKind.TheVariants.{Input}
-use Rattle.rtl_form.specs.Entries.{IsAt}
+use Rattle.mp_base.specs.Entries.{IsAt}
 use Rattle.datapath_finish.proofs.PadNets.{at_here, outputs_more, pad_in}
 use Rattle.datapath_finish.proofs.finishing.output_nets.Goals as goal
 

@@ -7,7 +7,7 @@ use Rattle.form_effects.specs.declared.jump.Jump.TheVariants.{To, Into}
 use Rattle.form_effects.specs.Linked.{landing_place, process_at}
 use Rattle.form_effects.specs.Jumps.{jump_from}
 use Rattle.form_effects.proofs.Jumping.{jump_behind, jump_here, landed}
-use Rattle.mp_program.proofs.Elements.{got}
+use Rattle.mp_base.proofs.Elements.{got}
 use Rattle.form_effects.proofs.jump.+jump.Goals as goal
 
 pub jump_first-returns-in-Some : goal.jump_first-returns-in-Some

@@ -2,7 +2,7 @@ use Rattle.std.proofs.Common.{sym, ◌∙◌, ap}
 use Rattle.std.specs.List.{list_any}
 use Rattle.mp_program.specs.Names.{is_same}
 use Rattle.mp_program.specs.Reads.{sets, kind_sets, branches_set}
-use Rattle.mp_program.proofs.Elements.{got}
+use Rattle.mp_base.proofs.Elements.{got}
 use Rattle.form_effects.proofs.links.+sets.Goals as goal
 
 pub sets-returns-in-Set : goal.sets-returns-in-Set

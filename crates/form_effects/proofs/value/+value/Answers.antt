@@ -5,7 +5,7 @@ use Rattle.mp_program.specs.declared.program.Expr.{Expr}
 use Rattle.mp_program.specs.Values.{kind_value, value_of}
 use Rattle.form_effects.specs.Linked.{named}
 use Rattle.form_effects.proofs.Entries.{made_at}
-use Rattle.mp_program.proofs.Elements.{got}
+use Rattle.mp_base.proofs.Elements.{got}
 use Rattle.form_effects.proofs.value.+value.Goals as goal
 
 pub value-returns-in-Number : goal.value-returns-in-Number

@@ -12,7 +12,7 @@ use Rattle.form_effects.specs.Written.{written_at}
 use Rattle.form_effects.proofs.Entries.{made_at}
 use Rattle.form_effects.proofs.Targets.{quiet_at, marked_inside}
 use Rattle.form_effects.proofs.Gathering.{more, set_merged}
-use Rattle.mp_program.proofs.Elements.{got}
+use Rattle.mp_base.proofs.Elements.{got}
 use Rattle.form_effects.proofs.written.+gather.Goals as goal
 
 pub gather-returns-then-is_quiet : goal.gather-returns-then-is_quiet

@@ -11,7 +11,7 @@ use Rattle.form_effects.specs.Written.{written_at}
 use Rattle.form_effects.proofs.Entries.{made_at}
 use Rattle.mp_program.proofs.Definitions.{first_inside}
 use Rattle.form_effects.proofs.Targets.{all_filter, together}
-use Rattle.mp_program.proofs.Elements.{read_of}
+use Rattle.mp_base.proofs.Elements.{read_of}
 use Rattle.form_effects.proofs.written.written_to.Goals as goal
 
 pub written_by-always-requires-clause-inside : goal.written_by-always-requires-clause-inside

@@ -1,4 +1,4 @@
-use Rattle.std.proofs.Common.{◌≡◌, ◌<◌, ◌+◌, ◌++◌, ◌∷◌, [], ℕ, List, None, length, sym, ◌∙◌, ap, map, arith}
+use Rattle.std.proofs.Common.{◌≡◌, ◌<◌, ◌++◌, ◌∷◌, [], ℕ, None, length, sym, ◌∙◌, ap, map, arith}
 use Rattle.std.proofs.Common.{slice_index, slice_index_or}
 use Rattle.std.proofs.lemmas.List.{get_or_read}
 use Rattle.mp_program.specs.declared.program.Expr.{Expr}

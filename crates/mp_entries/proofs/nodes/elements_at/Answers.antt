@@ -1,6 +1,5 @@
-use Rattle.std.proofs.Common.{◌≡◌, ◌<◌, ℕ, List, length, sym, ap, subst, drop, slice_index, arith}
+use Rattle.std.proofs.Common.{◌<◌, ℕ, List, length, sym, ap, subst, slice_index, arith}
 use Rattle.std.proofs.lemmas.List.{length-drop}
-use Rattle.form_reader.specs.Sound.{items_of, kind_at}
 use Rattle.mp_entries.proofs.InRange.{items_few, drop_inside}
 use Rattle.mp_entries.proofs.nodes.elements_at.Goals as goal
 

@@ -1,6 +1,6 @@
 use Rattle.std.proofs.Common.{◌≡◌, ◌+◌, ◌-◌, ◌<◌, ℕ, List, sym, ◌∙◌, ap, subst, refl, length, arith, get_or}
 use Rattle.mp_program.specs.declared.program.Form.{Form}
-use Rattle.mp_rules.specs.Entries.{IsAt}
+use Rattle.mp_base.specs.Entries.{IsAt}
 use Rattle.mp_order.specs.Tables.{Lifted}
 use Rattle.mp_order.specs.Demands.{Asks}
 use Rattle.mp_order.proofs.Tables.{lifted_none, lifted_as, one_entry}

@@ -1,7 +1,7 @@
 use Rattle.std.proofs.Common.{◌≡◌, inl, inr, ◌+◌, ℕ, List, ◌∙◌, subst, arith, get_or}
 use Rattle.std.specs.Prelude.{Contains}
 use Rattle.mp_order.specs.Tables.{Lifted}
-use Rattle.mp_rules.specs.Entries.{IsAt}
+use Rattle.mp_base.specs.Entries.{IsAt}
 use Rattle.mp_order.proofs.Tables.{lifted_none}
 use Rattle.mp_order.proofs.Branches.{Highest, GivesBelow, highest_none, highest_more, branches_more, branches_done}
 use Rattle.mp_order.proofs.demands.mark_branches.Goals.{then-high-guard, else-high-guard}

@@ -1,7 +1,7 @@
 use Rattle.std.proofs.Common.{◌≡◌, inl, inr, length, ℕ, List, subst, ap, arith}
 use Rattle.std.specs.Prelude.{Contains}
 use Rattle.mp_program.specs.declared.program.Process.{Process}
-use Rattle.mp_rules.specs.Entries.{IsAt}
+use Rattle.mp_base.specs.Entries.{IsAt}
 use Rattle.mp_order.specs.Tables.{Lifted}
 use Rattle.mp_order.proofs.Tables.{lifted_as}
 use Rattle.mp_order.proofs.Marks.{RootBelow, roots_more, roots_done}

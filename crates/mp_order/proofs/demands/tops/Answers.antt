@@ -8,8 +8,8 @@ use Rattle.mp_program.specs.declared.program.ExprKind.{ExprKind}
 use Rattle.mp_program.specs.declared.program.ExprKind.TheVariants.{Apply}
 use Rattle.mp_program.specs.Sound.{ArgsFit}
 use Rattle.mp_program.specs.Names.{is_same}
-use Rattle.mp_rules.specs.Entries.{IsAt}
-use Rattle.mp_rules.proofs.ListEntries.{get_at}
+use Rattle.mp_base.specs.Entries.{IsAt}
+use Rattle.mp_base.proofs.ListEntries.{get_at}
 use Rattle.mp_order.specs.Demands.{AreTops}
 use Rattle.mp_order.proofs.Mentions.{Greatest, IsTop, tops_none, tops_more, top_named, top_apply, top_zero, top_as}
 use Rattle.mp_order.proofs.Mentions.{mentions_none}

@@ -1,6 +1,6 @@
 use Rattle.std.proofs.Common.{◌≡◌, ◌+◌, List, Option, true, false, sym, ◌∙◌, ap, subst, refl, arith, get_or, length}
 use Rattle.mp_program.specs.declared.program.Form.{Form}
-use Rattle.mp_rules.specs.Entries.{IsAt}
+use Rattle.mp_base.specs.Entries.{IsAt}
 use Rattle.mp_order.specs.declared.earliest.Setting.{Setting}
 use Rattle.mp_order.proofs.Settings.{EarliestBelow, below_all, found_skip, found_set, not_before, is_before}
 use Rattle.mp_order.proofs.earliest.earliest.Goals.{then-is_set+then-read-gt0+then-precedes, else-is_set}

@@ -1,6 +1,6 @@
 use Rattle.std.proofs.Common.{◌≡◌, ◌<◌, ◌≤◌, List, ◌∙◌, subst, arith, get_or}
 use Rattle.mp_program.specs.declared.program.Def.{Def}
-use Rattle.mp_rules.specs.Entries.{IsAt}
+use Rattle.mp_base.specs.Entries.{IsAt}
 use Rattle.mp_order.proofs.Judging.{driven_more}
 use Rattle.mp_order.proofs.judge.falls.Goals as goal
 

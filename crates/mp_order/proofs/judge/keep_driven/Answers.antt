@@ -1,7 +1,7 @@
 use Rattle.std.proofs.Common.{◌≡◌, ℕ, List, sym, ◌∙◌, ap, subst, arith, length}
 use Rattle.std.proofs.lemmas.List.{length-set}
 use Rattle.mp_program.specs.declared.program.Def.{Def}
-use Rattle.mp_rules.specs.Entries.{IsAt}
+use Rattle.mp_base.specs.Entries.{IsAt}
 use Rattle.mp_order.specs.Demands.{WeighsDriven}
 use Rattle.mp_order.proofs.Judging.{kept_driven}
 use Rattle.mp_order.proofs.judge.keep_driven.Goals.{then-is_driven, else-is_driven}

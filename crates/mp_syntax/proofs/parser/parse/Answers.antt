@@ -1,11 +1,8 @@
-use Rattle.std.proofs.Common.{◌≡◌, ◌≢◌, ◌⊎◌, inl, inr, ◌<◌, ◌≤◌, ℕ, List, [], ◌∷◌, length, refl, sym, ◌∙◌, ap, subst}
+use Rattle.std.proofs.Common.{◌≡◌, ◌≢◌, inl, inr, ◌<◌, ◌≤◌, [], ◌∷◌, sym, ◌∙◌, ap}
 use Rattle.std.proofs.Common.{arith, slice_index}
-use Rattle.mp_base.specs.declared.refusal.Place.{Place}
 use Rattle.form_reader.specs.declared.forms.Node.{Node}
-use Rattle.form_reader.specs.Sound.{node, kind_at, items_of}
-use Rattle.mp_shapes.specs.Standing.{E10}
+use Rattle.form_reader.specs.Sound.{kind_at, items_of}
 use Rattle.mp_entries.specs.Entries.{number_at}
-use Rattle.mp_syntax.specs.Shape.{E11}
 use Rattle.mp_syntax.proofs.Fitting.{Known, root_inside, width_inside}
 use Rattle.mp_syntax.proofs.Widths.{some_form, root_read, width_kept, width_refused, shape_refused}
 use Rattle.mp_syntax.proofs.parser.parse.Goals as goal

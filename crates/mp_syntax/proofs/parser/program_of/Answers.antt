@@ -1,4 +1,4 @@
-use Rattle.std.proofs.Common.{◌≡◌, ℕ, List, [], drop, map, sym, ◌∙◌, ap, slice_index, length}
+use Rattle.std.proofs.Common.{◌≡◌, [], drop, map, ◌∙◌, ap, slice_index, length}
 use Rattle.std.specs.List.{filter_map, flat_map}
 use Rattle.form_reader.specs.Sound.{kind_at, items_of}
 use Rattle.mp_entries.specs.Entries.{number_at, name_at, expr_at, form_at, expr_index, form_index, is_expr, is_form}

@@ -1,7 +1,7 @@
 use Rattle.std.proofs.Common.{◌≡◌, ◌⊎◌, List, Some, length, arith, ap, subst}
 use Rattle.mp_program.specs.declared.program.Label.{Label}
 use Rattle.mp_program.specs.declared.program.Process.{Process}
-use Rattle.mp_rules.specs.Entries.{IsAt}
+use Rattle.mp_base.specs.Entries.{IsAt}
 use Rattle.mp_rules.specs.Breaking.{IsEarliest}
 use Rattle.mp_transfers.specs.Labels.{IsRepeated}
 use Rattle.mp_transfers.proofs.Earliest.{upto_then, upto_all}

@@ -2,7 +2,7 @@ use Rattle.std.proofs.Common.{◌≡◌, ◌+◌, ◌<◌, ℕ, List, length, ar
 use Rattle.std.specs.Prelude.{All}
 use Rattle.mp_program.specs.declared.program.Form.{Form}
 use Rattle.mp_program.specs.Weight.{inner}
-use Rattle.mp_rules.specs.Entries.{IsAt}
+use Rattle.mp_base.specs.Entries.{IsAt}
 use Rattle.mp_transfers.proofs.Earliest.{at_index}
 use Rattle.mp_transfers.proofs.Inside.{inner_inside}
 use Rattle.mp_transfers.proofs.Marking.{Marking, marking_start, marking_skip, marking_more, marking_all}

@@ -2,7 +2,7 @@ use Rattle.std.proofs.Common.{◌≡◌, ◌+◌, ℕ, Bool, Option, Some, get_o
 use Rattle.std.specs.Option.{is_some}
 use Rattle.std.proofs.lemmas.List.{get_or_read}
 use Rattle.mp_base.specs.declared.refusal.Place.{Place}
-use Rattle.mp_rules.specs.Entries.{IsAt}
+use Rattle.mp_base.specs.Entries.{IsAt}
 use Rattle.mp_transfers.specs.Tables.{join, entry}
 use Rattle.mp_transfers.proofs.Earliest.{at_index}
 use Rattle.mp_transfers.proofs.Entries.{Run, run_on, run_first, run_all}

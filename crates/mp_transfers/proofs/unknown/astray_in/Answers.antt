@@ -3,9 +3,9 @@ use Rattle.std.proofs.lemmas.List.{get_or_default}
 use Rattle.std.proofs.lemmas.Bool.{false≢true}
 use Rattle.mp_base.specs.declared.refusal.Place.{Place}
 use Rattle.mp_program.specs.declared.program.Form.{Form}
-use Rattle.mp_rules.specs.Entries.{IsAt}
+use Rattle.mp_base.specs.Entries.{IsAt}
 use Rattle.mp_rules.specs.Breaking.{earlier}
-use Rattle.mp_rules.proofs.ListEntries.{some_entry, one_entry}
+use Rattle.mp_base.proofs.ListEntries.{some_entry, one_entry}
 use Rattle.mp_transfers.specs.Labels.{IsAstray}
 use Rattle.mp_transfers.proofs.Earliest.{Upto, at_index, upto_join, upto_skip, earliest_one, earliest_same}
 use Rattle.mp_transfers.proofs.Astray.{StraysAt, astray_all}

@@ -4,7 +4,7 @@ use Rattle.std.specs.List.{sum_by}
 use Rattle.mp_program.specs.declared.program.Form.{Form}
 use Rattle.mp_program.specs.Weight.{inner, is_call}
 use Rattle.mp_program.proofs.Inside.{inner_behind}
-use Rattle.mp_program.proofs.Elements.{got}
+use Rattle.mp_base.proofs.Elements.{got}
 use Rattle.mp_weight.specs.Weighing.{AreCalls, calls_from}
 use Rattle.mp_weight.proofs.Calling.{no_calls, more_calls, all_calls}
 use Rattle.mp_weight.proofs.calls.calls.Goals as goal

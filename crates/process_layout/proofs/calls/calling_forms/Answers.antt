@@ -17,7 +17,7 @@ use Rattle.std.proofs.Common.{
 use Rattle.std.specs.Prelude.{slice_index_or}
 use Rattle.std.proofs.lemmas.List.{length-replicate, length-set}
 use Rattle.mp_program.specs.declared.program.Form.{Form}
-use Rattle.mp_rules.specs.Entries.{IsAt}
+use Rattle.mp_base.specs.Entries.{IsAt}
 use Rattle.process_layout.specs.Calling.{kind_calls}
 use Rattle.process_layout.proofs.Called.{AreTold, told_more}
 use Rattle.process_layout.proofs.calls.calling_forms.Goals as goal

@@ -1,5 +1,5 @@
 use Rattle.std.proofs.Common.{subst}
-use Rattle.mp_rules.specs.Entries.{IsAt}
+use Rattle.mp_base.specs.Entries.{IsAt}
 use Rattle.process_transfers.proofs.Serving.{push_found, pop_found, back_found}
 use Rattle.process_transfers.proofs.roles.role_transfer.Goals as goal
 

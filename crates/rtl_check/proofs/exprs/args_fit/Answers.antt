@@ -1,4 +1,4 @@
-use Rattle.std.proofs.Common.{sym, subst, refl, arith, slice_index, below_more}
+use Rattle.std.proofs.Common.{sym, subst, refl, slice_index, below_more}
 use Rattle.std.specs.Prelude.{IsTrue}
 use Rattle.std.proofs.lemmas.Bool.{false≢true}
 use Rattle.rtl_check.specs.Parts.{ArgFits}

@@ -1,7 +1,6 @@
-use Rattle.std.proofs.Common.{◌≡◌, ◌<◌, ℕ, List, sym, subst, refl, arith, length, slice_index}
+use Rattle.std.proofs.Common.{subst, arith}
 use Rattle.std.specs.Prelude.{IsTrue}
 use Rattle.std.proofs.lemmas.Bool.{false≢true}
-use Rattle.rtl_check.specs.Reading.{ReadsOnly, operands_of}
 use Rattle.rtl_check.proofs.ReadBy.{operand_reads_only, operands_before, reads_only_by}
 use Rattle.rtl_check.proofs.order.+reads_only.Goals as goal
 

@@ -1,4 +1,4 @@
-use Rattle.source_files.proofs.FirstFault.{Laws, one_of_source, one_of_run, one_of_headed}
+use Rattle.source_files.proofs.FirstFault.{one_of_source, one_of_run, one_of_headed}
 use Rattle.source_files.proofs.laws.one_fault.Goals as goal
 
 pub returns-clause-source : goal.returns-clause-source

@@ -1,6 +1,6 @@
 use Rattle.std.proofs.Common.{◌+◌, List, ℕ, length, subst, sym, ap, arith}
 use Rattle.rtl_form.specs.declared.rtl.RtlExpr.{RtlExpr}
-use Rattle.rtl_form.specs.Entries.{IsAt}
+use Rattle.mp_base.specs.Entries.{IsAt}
 use Rattle.task_schedule.specs.Turns.{AreExprTurns, IsExprTurn}
 use Rattle.task_schedule.proofs.Turns.{args_below, expr_turns_more}
 use Rattle.task_schedule.proofs.scheduling.expr_turns.Goals as goal

@@ -5,7 +5,7 @@ use Rattle.std.specs.Prelude.{map, slice_get, Contains, slice_index}
 use Rattle.std.specs.List.{filter, AllByRecursion}
 use Rattle.std.proofs.lemmas.Option.{slice_get_within, get_or_from_slice_get, slice_get-get_or}
 use Rattle.std.proofs.lemmas.List.{get_or_read, length-append, get_or_at, get_or_default}
-use Rattle.mp_rules.specs.Entries.{IsAt}
+use Rattle.mp_base.specs.Entries.{IsAt}
 
 pub some_entry : {X : Type 0} (xs : List X) (k : ℕ) → k < length xs → (x : X) × IsAt xs k x
 some_entry [] k lt = absurd (omega (arith, lt))
