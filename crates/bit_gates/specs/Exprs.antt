@@ -8,7 +8,8 @@ use Rattle.nor_net.specs.declared.net.NetId.{NetId}
 use Rattle.nor_net.specs.declared.net.Part.{Part}
 use Rattle.rtl_form.specs.declared.rtl.RtlExpr.{RtlExpr}
 use Rattle.rtl_form.specs.declared.rtl.RtlExpr.TheVariants.{Number, Truth, Cell, Apply}
-use Rattle.rtl_form.specs.Operands.{takes, takes_words, gives_word}
+use Rattle.rtl_form.specs.Operands.{takes_words, gives_word}
+use Rattle.mp_base.specs.Apply.{takes}
 use Rattle.bit_gates.specs.declared.rails.Rails.{Rails}
 use Rattle.bit_gates.specs.Adding.{IsEntryPair, IsExclusive, IsPair}
 use Rattle.bit_gates.specs.Rails.{BitOf, IsNamed, Named, NegationOf, swapped}

@@ -2,7 +2,8 @@
 
 ghost use Rattle.std.specs.Prelude.{◌≡◌, ◌<◌, [], false, true, if◌then◌else◌, max, All, IfOk, length};
 ghost use Rattle.rtl_form.specs.Cost.{op_cost};
-ghost use Rattle.rtl_form.specs.Operands.{takes, gives_word, takes_words};
+ghost use Rattle.rtl_form.specs.Operands.{gives_word, takes_words};
+ghost use Rattle.mp_base.specs.Apply.{takes};
 ghost use Rattle.bit_gates.specs.Adding.{HasRoom, IsPair};
 ghost use Rattle.bit_gates.specs.Exprs.{IsExprMade, IsExprReady, IsNorOfBits, IsNorOfNegations, IsOpMade};
 ghost use Rattle.bit_gates.specs.Rails.{AllBelow, IsNamed, swapped};

@@ -7,7 +7,7 @@ use Rattle.std.proofs.lemmas.List.{take_all, take_more_set}
 use Rattle.std.proofs.lemmas.List.Folds.{find_at}
 use Rattle.std.proofs.lemmas.Option.{get_or_from_slice_get, slice_get_within}
 use Rattle.mp_base.specs.declared.pad.Pad.{Pad}
-use Rattle.stimulus.specs.Bits.{bit_count}
+use Rattle.mp_base.specs.PadBits.{bit_count}
 use Rattle.board.specs.declared.link.Link.{Link}
 use Rattle.board.specs.Face.{Face}
 use Rattle.board.specs.Loop.{drives_at, given_by, inputs_from, link_to}

@@ -7,8 +7,7 @@ use Rattle.std.proofs.lemmas.Nat.{pow_pos, mod_below}
 use Rattle.mp_base.specs.declared.pad.Pad.{Pad}
 use Rattle.mp_base.specs.declared.pad.Pads.{Pads}
 use Rattle.mp_base.specs.declared.value.TritWord.{TritWord}
-use Rattle.stimulus.specs.Bits.{bit_count}
-use Rattle.stimulus.specs.Inputs.{Fit}
+use Rattle.mp_base.specs.PadBits.{bit_count, Fit}
 use Rattle.transcript.specs.declared.room.Room.{Room}
 use Rattle.board.specs.declared.link.Link.{Link}
 use Rattle.board.specs.Face.{Face}

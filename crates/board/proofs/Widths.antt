@@ -6,7 +6,8 @@ use Rattle.std.proofs.lemmas.Nat.{and_mask}
 use Rattle.std.proofs.lemmas.Nat.Bits.{ones_shr}
 use Rattle.mp_base.specs.declared.value.TritWord.{TritWord}
 use Rattle.mp_base.specs.declared.pad.Pad.{Pad}
-use Rattle.stimulus.specs.Bits.{bit_count, pad_trits, trits_of}
+use Rattle.stimulus.specs.Bits.{pad_trits, trits_of}
+use Rattle.mp_base.specs.PadBits.{bit_count}
 use Rattle.stimulus.specs.Transcript.{number_of}
 use Rattle.stimulus.proofs.Words.{number_low}
 

@@ -1,7 +1,7 @@
 -- What holds of loops.
 use Rattle.std.specs.Prelude.{◌≡◌, ℕ, suc, List, [], ◌∷◌, true, Option, Result}
 use Rattle.mp_base.specs.declared.value.Trit.{Trit}
-use Rattle.stimulus.specs.Inputs.{Fit}
+use Rattle.mp_base.specs.PadBits.{Fit}
 use Rattle.outside.specs.declared.calls.Failed.{Failed}
 use Rattle.transcript.specs.Laws.{StepsOn}
 use Rattle.mp_base.specs.declared.pad.Pads.{Pads}

@@ -87,7 +87,7 @@ pub record IsFirstBroken (parts : List (List ℕ)) (pads : Pads) (words : List (
   pub breaks : Breaks links (naming parts pads word) broken.rule
   pub spot : broken.spot ≡ Named word
 
--- want of memory, of which nothing is said, or the first broken rule
-abbrev pub Refuses : List (List ℕ) → Pads → List (List ℕ) → Refusal → Type 0
-Refuses parts pads words refusals.NoMemory = Unit {0}
-Refuses parts pads words (refusals.Broken broken) = IsFirstBroken parts pads words broken
+-- the words are links of parts with these names to these pads, or this is the first rule that they break
+abbrev pub OfWords : List (List ℕ) → Pads → List (List ℕ) → Option Broken → Type 0
+OfWords parts pads words None = (links : List Link) × AreLinks parts pads words links
+OfWords parts pads words (Some broken) = IsFirstBroken parts pads words broken

@@ -27,7 +27,7 @@ use Rattle.std.specs.Str.{bytes_eq}
 use Rattle.mp_base.specs.declared.value.Trit.{Trit}
 use Rattle.mp_base.specs.declared.pad.Pad.{Pad}
 use Rattle.mp_base.specs.declared.pad.Pads.{Pads}
-use Rattle.stimulus.specs.Bits.{bit_count}
+use Rattle.mp_base.specs.PadBits.{bit_count}
 use Rattle.stimulus.specs.Transcript.{number_of}
 use Rattle.transcript.specs.Transcript.{RunsAlong}
 use Rattle.board.specs.declared.link.Link.{Link}

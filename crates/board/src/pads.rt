@@ -2,7 +2,8 @@
 
 ghost use Rattle.std.specs.Prelude.{◌≡◌, ◌-◌, ◌%◌, ◌^◌};
 ghost use Rattle.std.specs.List.{list_any};
-ghost use Rattle.stimulus.specs.Bits.{bit_count, pad_trits};
+ghost use Rattle.stimulus.specs.Bits.{pad_trits};
+ghost use Rattle.mp_base.specs.PadBits.{bit_count};
 ghost use Rattle.stimulus.specs.Transcript.{number_of};
 ghost use Rattle.board.specs.Loop.{idle_input, is_reset};
 

@@ -5,9 +5,10 @@ ghost use Rattle.std.specs.Prelude.{length, map, string_bytes};
 ghost use Rattle.std.specs.List.{slice_split};
 ghost use Rattle.std.specs.Str.{bytes_eq};
 ghost use Rattle.mp_base.specs.declared.refusal.Spot.TheVariants.{Named};
+ghost use Rattle.mp_base.specs.Refuses.{IsJudged};
 ghost use Rattle.board.specs.declared.link.Link.{Link as LinkValue};
 ghost use Rattle.board.specs.Boarding.{AreWires};
-ghost use Rattle.board.specs.Links.{AreLinks, Breaks, BreaksB1, BreaksB2, IsThree, MayFollow, Refuses};
+ghost use Rattle.board.specs.Links.{AreLinks, Breaks, BreaksB1, BreaksB2, IsThree, MayFollow, OfWords};
 ghost use Rattle.board.specs.Links.{driven_of, naming, naming_of, pad_of, place_of, rule_b};
 
 use crate::link::{Link, Naming};
@@ -219,8 +220,8 @@ pub fn read_links(
         (AreLinks (map (λ p. string_bytes p.name) parts.now) pads.now (map string_bytes words.now)) }
     ensures wires { IfOk result (AreWires pads.now) }
     ensures parts { IfOk result (λ links. All (λ l. l.part < length parts.now) links) }
-    ensures refused { IfErr result
-        (Refuses (map (λ p. string_bytes p.name) parts.now) pads.now (map string_bytes words.now)) }
+    ensures judged { IsJudged
+        (OfWords (map (λ p. string_bytes p.name) parts.now) pads.now (map string_bytes words.now)) result }
 {
     let mut links = List::new(alloc);
     for word in words {

@@ -1,6 +1,6 @@
 -- Why reading a source and links for it ended.
 use Rattle.std.proofs.Common.{◌≡◌, ℕ, ◌<◌, ◌^◌, List, length, refl, sym, subst, Option, Some, None, Result, Ok, Err}
-use Rattle.std.proofs.Common.{IfOk, IfErr, IfSome}
+use Rattle.std.proofs.Common.{IfOk, IfSome}
 use Rattle.std.specs.Prelude.{All}
 use Rattle.outside.specs.Outside.{Files, bytes_of}
 use Rattle.mp_base.specs.declared.pad.Pads.{Pads}
@@ -8,25 +8,18 @@ use Rattle.mp_base.specs.declared.refusal.Refusal.{Refusal}
 use Rattle.mp_base.specs.declared.refusal.Refusal.TheVariants as refusals
 use Rattle.mp_program.specs.declared.program.Program.{Program}
 use Rattle.mp_program.specs.Pads.{ArePadsOf}
-use Rattle.mp_source.specs.Source.{IsSource, IsJudged}
+use Rattle.mp_source.specs.Source.{IsSource}
+use Rattle.mp_base.specs.Refuses.{IsJudged}
 use Rattle.outcome.specs.Order.{Fault, OfRule}
 use Rattle.outcome.specs.Halt.{EndsBy, halt_of}
 use Rattle.board.specs.declared.link.Link.{Link}
 use Rattle.board.specs.Boarding.{AreWires}
-use Rattle.board.specs.Links.{AreLinks, Refuses}
-use Rattle.board_command.specs.Linked.{OfWords, OfLinks, IsLinked}
+use Rattle.board.specs.Links.{AreLinks, OfWords}
+use Rattle.board_command.specs.Linked.{OfLinks, IsLinked}
 
 -- nothing is said of what wasn't made
 pub if_failed : {T E : Type 0} (P : T → Type 0) (result : Result T E) (e : E) → result ≡ Err e → IfOk result P
 if_failed {T} {E} P result e is = let Q : Result T E → Type 0 = λ r. IfOk r P in subst Q (sym is) tt
-
--- what the reader of links says
-pub judged_words : (names words : List (List ℕ)) (pads : Pads) (result : Result (List Link) Refusal)
-    → IfOk result (AreLinks names pads words) → IfErr result (Refuses names pads words)
-    → IsJudged (OfWords names pads words) result
-judged_words names words pads (Ok links) ok err = (links, ok)
-judged_words names words pads (Err (refusals.Broken b)) ok err = err
-judged_words names words pads (Err refusals.NoMemory) ok err = tt
 
 pub judged_links : (names words : List (List ℕ)) (parts : ℕ) (program : Program) (pads : Pads)
     (result : Result (List Link) Refusal) → ArePadsOf program pads → length pads.inputs < 2 ^ 32

@@ -11,8 +11,9 @@ use Rattle.source_files.specs.Faults.{SourceFault}
 use Rattle.source_files.proofs.Sources.{OneSource, one_program}
 use Rattle.board.specs.Laws.{BrokenOnce, WholeOrBroken}
 use Rattle.replay_run.specs.Laws.{OnePads}
+use Rattle.board.specs.Links.{OfWords}
 use Rattle.board_command.specs.Parts.{Lent}
-use Rattle.board_command.specs.Linked.{OfWords, OfLinks}
+use Rattle.board_command.specs.Linked.{OfLinks}
 use Rattle.board_command.specs.Work.{work}
 
 -- the laws of the crates below

@@ -1,5 +1,5 @@
 -- The rules of links for a source.
-use Rattle.std.specs.Prelude.{ℕ, ◌<◌, ◌^◌, List, All, Option, Some, None, length}
+use Rattle.std.specs.Prelude.{ℕ, ◌<◌, ◌^◌, List, All, Option, length}
 use Rattle.mp_base.specs.declared.refusal.Broken.{Broken}
 use Rattle.mp_base.specs.declared.pad.Pads.{Pads}
 use Rattle.mp_program.specs.declared.program.Program.{Program}
@@ -7,14 +7,9 @@ use Rattle.mp_program.specs.Pads.{ArePadsOf}
 use Rattle.mp_source.specs.Source.{IsSource}
 use Rattle.board.specs.declared.link.Link.{Link}
 use Rattle.board.specs.Boarding.{AreWires}
-use Rattle.board.specs.Links.{AreLinks, IsFirstBroken}
+use Rattle.board.specs.Links.{AreLinks, OfWords}
 
--- the words are links of parts with these names to these pads, or this is the first rule that they break
-abbrev pub OfWords : List (List ℕ) → Pads → List (List ℕ) → Option Broken → Type 0
-OfWords names pads words None = (links : List Link) × AreLinks names pads words links
-OfWords names pads words (Some broken) = IsFirstBroken names pads words broken
-
--- the same for the pads of a source
+-- the rules of links for the pads of a source
 pub record OfLinks (names : List (List ℕ)) (source : List ℕ) (words : List (List ℕ)) (first : Option Broken) :
     Type 0 where
   pub program : Program

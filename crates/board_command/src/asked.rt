@@ -3,11 +3,13 @@
 ghost use Rattle.std.specs.Prelude.{◌≡◌, length, map, IfOk, IfSome, string_bytes};
 ghost use Rattle.outside.specs.Outside.{Keeps, bytes_of};
 ghost use Rattle.mp_program.specs.Pads.{ArePadsOf};
-ghost use Rattle.mp_source.specs.Source.{IsJudged, IsSource};
+ghost use Rattle.mp_source.specs.Source.{IsSource};
+ghost use Rattle.mp_base.specs.Refuses.{IsJudged};
 ghost use Rattle.outcome.specs.Order.{OfRule, Then};
 ghost use Rattle.outcome.specs.Halt.{HasReason};
 ghost use Rattle.source_files.specs.Faults.{SourceFault};
-ghost use Rattle.board_command.specs.Linked.{IsLinked, OfLinks, OfWords};
+ghost use Rattle.board.specs.Links.{OfWords};
+ghost use Rattle.board_command.specs.Linked.{IsLinked, OfLinks};
 
 use board::{Link, NamedPart, read_links};
 use mp_base::{List, Refusal};

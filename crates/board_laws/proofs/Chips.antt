@@ -6,8 +6,7 @@ use Rattle.mp_base.specs.declared.value.Trit.{Trit}
 use Rattle.mp_base.specs.declared.value.Trit.TheVariants.{X}
 use Rattle.mp_program.specs.State.{zero_state}
 use Rattle.mp_program.proofs.Lengths.{length_trace}
-use Rattle.stimulus.specs.Inputs.{Fit}
-use Rattle.stimulus.specs.Bits.{value_bits}
+use Rattle.mp_base.specs.PadBits.{Fit, value_bits}
 use Rattle.headline.specs.Headline.{Follows}
 use Rattle.transcript.specs.Transcript.{RunsAlong}
 use Rattle.trace_run.specs.Transcript.{ProgramSteps}

@@ -135,9 +135,7 @@ module _ (p : Program) (unbroken : IsUnbroken p) (some : stores p ≡ true) wher
   no_reset : All (λ (d : Def). is_reset d ≡ false) p.defs → ⊥
   no_reset none = elim (one_or_none (λ (x : Def). is_stored x.what) p.defs) [
     | inl at ↦
-        let inside = slice_get_within p.defs at.0 at.1 at.2 in
-        keeps_34 p unbroken (at.1).place
-        (none, inl (at.0, at.1, (inside, sym (get_or_from_slice_get p.defs at.0 at.1 at.1 at.2)), at.3, refl))
+        keeps_34 p unbroken (at.1).place (none, inl (at.0, at.1, at.2, at.3, refl))
     | inr not ↦ process p.processes refl (ap (λ b. b || nat_lt 0 (length p.processes)) (sym not) ∙ some)
   ]
     where
@@ -146,9 +144,7 @@ module _ (p : Program) (unbroken : IsUnbroken p) (some : stores p ≡ true) wher
           let lt = ltb-true 0 (length p.processes) h in
           let n : length p.processes ≡ 0 = ap length e in omega (arith, lt, n)
       process (q ∷ qs) e h =
-          let lt = ltb-true 0 (length p.processes) h in
-          keeps_34 p unbroken q.place
-          (none, inr (0, q, (lt, sym (ap (λ (xs : List Process). get_or xs 0 q) e)), refl))
+          keeps_34 p unbroken q.place (none, inr (0, q, ap (λ (xs : List Process). slice_get xs 0) e, refl))
 
   pub reset_there : (d : ℕ) × (x : Def) × (position is_reset p.defs ≡ Some d) × (slice_get p.defs d ≡ Some x)
       × (is_reset x ≡ true)

@@ -5,7 +5,7 @@ use Rattle.mp_base.specs.declared.pad.Pads.{Pads}
 use Rattle.mp_program.specs.declared.program.Program.{Program}
 use Rattle.mp_program.specs.Pads.{ArePadsOf}
 use Rattle.switch_net.specs.declared.network.Network.{Network}
-use Rattle.stimulus.specs.Inputs.{Fit}
+use Rattle.mp_base.specs.PadBits.{Fit}
 use Rattle.mask_net.specs.Masks.{IsNetOf}
 use Rattle.mask_net.specs.Laws.{OneNetwork, SoundWithPads}
 use Rattle.headline.specs.Headline.{IsChipOf, Follows}

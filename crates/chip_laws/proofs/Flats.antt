@@ -5,7 +5,8 @@ use Rattle.std.specs.Prelude.{All, slice_get, ◌==◌, cond}
 use Rattle.std.proofs.lemmas.List.{length-map}
 use Rattle.mp_base.specs.declared.pad.Pad.{Pad}
 use Rattle.mp_base.proofs.Entries.{all_from}
-use Rattle.switch_net.specs.Pads.{bit_count, labels_of}
+use Rattle.switch_net.specs.Pads.{labels_of}
+use Rattle.mp_base.specs.PadBits.{bit_count}
 use Rattle.switch_net.proofs.Labels.{length_word_labels}
 use Rattle.nor_net.specs.declared.net.NetId.{NetId}
 use Rattle.nor_net.specs.declared.net.Part.{Part}

@@ -1,10 +1,9 @@
 -- A circuit that draws the flat net of a path that shows transfers follows them.
 use Rattle.std.proofs.Common.{◌≡◌, ◌∙◌, ℕ, zero, suc, ◌<◌, ◌^◌, List, [], ◌∷◌, length, get_or, map, refl, sym, ap}
-use Rattle.std.proofs.Common.{subst, arith, Some, cond, eqb}
+use Rattle.std.proofs.Common.{subst, arith, Some}
 use Rattle.std.specs.Prelude.{◌==◌, All, slice_get, slice_index_or}
 use Rattle.std.specs.List.{AllZip}
 use Rattle.std.specs.Int.{bit_at}
-use Rattle.std.proofs.lemmas.Bool.{cond-false, ne_eqb}
 use Rattle.std.proofs.lemmas.List.{get_or-map, length-map, ext_get_or}
 use Rattle.std.proofs.lemmas.Option.{same_Some, slice_get_within, get_or_from_slice_get}
 use Rattle.std.proofs.lemmas.Nat.Bits.{bit_at-lt}
@@ -15,9 +14,10 @@ use Rattle.mp_base.specs.declared.pad.Pads.{Pads}
 use Rattle.mp_base.proofs.Zips.{zip_at, zip_length, zip_map}
 use Rattle.mp_base.proofs.Entries.{some_entry}
 use Rattle.switch_net.specs.declared.network.Network.{Network}
-use Rattle.switch_net.specs.Pads.{bit_count, trit_of, pad_bits, Fit}
-use Rattle.switch_net.proofs.Labels.{length_bits, low_bit}
-use Rattle.headline.specs.Headline.{bits_of}
+use Rattle.mp_base.specs.PadBits.{bit_count, trit_of, pad_bits, Fit}
+use Rattle.switch_net.proofs.Labels.{low_bit}
+use Rattle.mp_base.proofs.PadBits.{length_bits, same_count}
+use Rattle.mp_base.specs.PadBits.{value_bits}
 use Rattle.nor_net.specs.declared.net.NetId.{NetId}
 use Rattle.nor_net.specs.Elements.{Spot, Nets, spot, nets_of}
 use Rattle.nor_net.specs.Clock.{IsLooseTrace}
@@ -40,11 +40,6 @@ pub trit_bit : (n : ℕ) → n < 2 → trit_of n ≡ bit (n == 1)
 trit_bit zero lt = refl
 trit_bit (suc zero) lt = refl
 trit_bit (suc (suc n)) lt = absurd (omega (arith, lt))
-
--- both count the bits of a pad
-same_count : (w : ℕ) → cond (w == 0) 1 w ≡ bit_count w
-same_count zero = refl
-same_count (suc w) = cond-false (eqb (suc w) 0) 1 (suc w) (ne_eqb (suc w) 0 (λ e. omega (arith, e)))
 
 -- ---- lists side by side
 
@@ -115,7 +110,7 @@ AreFull pads rows = (i : ℕ) (pad : Pad) (row : List NetId) → slice_get pads 
 
 pads_shown : (v : Spot → Trit) (pads : List Pad) (words : List ℕ) (rows : List (List NetId))
     → length rows ≡ length pads → length words ≡ length pads
-    → AreFull pads rows → HasBits pads rows words v → map (λ nets. map v nets) (rows_of rows) ≡ bits_of pads words
+    → AreFull pads rows → HasBits pads rows words v → map (λ nets. map v nets) (rows_of rows) ≡ value_bits pads words
 pads_shown v [] words [] l m full h = refl
 pads_shown v [] words (r ∷ rs) l m full h = absurd (omega (arith, l))
 pads_shown v (p ∷ ps) words [] l m full h = absurd (omega (arith, l))

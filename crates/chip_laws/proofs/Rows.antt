@@ -14,9 +14,10 @@ use Rattle.mp_base.specs.declared.pad.Pad.{Pad}
 use Rattle.mp_base.proofs.Entries.{get_map, some_entry, map_get}
 use Rattle.mp_base.proofs.Zips.{zip_at, zip_length, zip_map}
 use Rattle.mp_base.proofs.Ranges.{get_range}
-use Rattle.switch_net.specs.Pads.{bit_count, pad_bits}
-use Rattle.switch_net.proofs.Labels.{length_bits, low_bit}
-use Rattle.headline.specs.Headline.{bits_of}
+use Rattle.mp_base.specs.PadBits.{bit_count, pad_bits}
+use Rattle.switch_net.proofs.Labels.{low_bit}
+use Rattle.mp_base.proofs.PadBits.{length_bits}
+use Rattle.mp_base.specs.PadBits.{value_bits}
 use Rattle.nor_net.specs.declared.net.NetId.{NetId}
 use Rattle.nor_net.specs.Elements.{Spot}
 use Rattle.nor_net.specs.Laws.{bit}
@@ -76,7 +77,7 @@ pads_given v (p ∷ ps) (w ∷ ws) (r ∷ rs) z (suc i) pad row k s is_pad is_ro
 
 pads_shown : (v : Spot → Trit) (pads : List Pad) (words : List ℕ) (rows : List (List Spot))
     → length rows ≡ length pads → length words ≡ length pads
-    → AreFullRows pads rows → HasRows pads rows words v → map (λ nets. map v nets) rows ≡ bits_of pads words
+    → AreFullRows pads rows → HasRows pads rows words v → map (λ nets. map v nets) rows ≡ value_bits pads words
 pads_shown v [] words [] l m full h = refl
 pads_shown v [] words (r ∷ rs) l m full h = absurd (omega (arith, l))
 pads_shown v (p ∷ ps) words [] l m full h = absurd (omega (arith, l))

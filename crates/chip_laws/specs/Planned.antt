@@ -8,8 +8,9 @@ use Rattle.switch_net.specs.declared.network.Network.{Network}
 use Rattle.switch_net.specs.Drawn.{IsNetwork}
 use Rattle.switch_net.specs.Breaks.{BreaksAt, AreTooMany, HasPads}
 use Rattle.switch_net.specs.Clock.{IsCircuitTrace}
-use Rattle.switch_net.specs.Pads.{Fit, chip_labels}
-use Rattle.headline.specs.Headline.{bits_of}
+use Rattle.switch_net.specs.Pads.{chip_labels}
+use Rattle.mp_base.specs.PadBits.{Fit}
+use Rattle.mp_base.specs.PadBits.{value_bits}
 use Rattle.fabric.specs.declared.chip.ChipLabel.{ChipLabel}
 use Rattle.fabric.specs.Labelled.{AreLabelsOf}
 use Rattle.rtl_form.specs.declared.rtl.Rtl.{Rtl}
@@ -22,7 +23,7 @@ FollowsTransfers rtl network =
     → (charge after : ℕ → Trit) (shown : List (List (List Trit)))
     → IsCircuitTrace network rtl.pads charge inputs shown after
     → (k : ℕ) → k < length inputs → IsSettled rtl inputs k
-    → slice_index_or shown k [] ≡ bits_of (rtl.pads).outputs (slice_index_or outputs k [])
+    → slice_index_or shown k [] ≡ value_bits (rtl.pads).outputs (slice_index_or outputs k [])
 
 -- No rule of masks is broken by the squares with these labels, and each network that they draw (there is one) has the
 -- pads and follows the transfers.

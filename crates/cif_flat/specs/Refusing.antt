@@ -1,17 +1,19 @@
 -- How a file is refused whose walk stops.
-use Rattle.std.specs.Prelude.{ℕ, ◌≡◌, List}
+use Rattle.std.specs.Prelude.{ℕ, ◌≡◌, List, Option, None, Some}
 use Rattle.mp_base.specs.declared.refusal.Family.TheVariants.{F}
 use Rattle.mp_base.specs.declared.refusal.Spot.{Spot}
 use Rattle.mp_base.specs.declared.refusal.Spot.TheVariants.{Offset}
+use Rattle.mp_base.specs.declared.refusal.Broken as broken
 use Rattle.mp_base.specs.declared.refusal.Refusal.{Refusal}
 use Rattle.mp_base.specs.declared.refusal.Refusal.TheVariants as refusals
+use Rattle.mp_base.specs.Refuses.{IsRefusal}
 use Rattle.lam_geom.specs.declared.rect.Rect.{Rect}
 use Rattle.lam_geom.specs.declared.label.FlatLabel.{FlatLabel}
 use Rattle.cif_form.specs.declared.command.Item.{Item}
 use Rattle.cif_form.specs.Walk.{DrawRule, draw_rule_number, FileWalks}
 use Rattle.cif_form.specs.Walk.DrawRule.{F1 as R1, F2 as R2, F3 as R3, F4 as R4, F5 as R5, F6 as R6, F7 as R7, F8 as R8}
 use Rattle.cif_form.specs.Walk.DrawRule.{F9 as R9, F10 as R10}
-use Rattle.cif_form.specs.Walk.WalkEnd.{Broken}
+use Rattle.cif_form.specs.Walk.WalkEnd.{Whole, Broken}
 use Rattle.cif_flat.specs.declared.fault.Fault.{Fault}
 use Rattle.cif_flat.specs.declared.fault.Fault.TheVariants.{F1, F2, F3, F4, F5, F6, F7, F8, F9, F10}
 
@@ -25,10 +27,14 @@ abbrev pub OffsetIs : Spot → (ℕ → Type 0) → Type 0
 OffsetIs (Offset o) P = P o
 OffsetIs _ P = ⊥
 
--- want of memory, of which nothing is said, or the rule F at which the walk of the items stops, and its place
+-- the walk of the items comes to its end, or this is the rule F at which it stops, and its place
+abbrev pub OfWalk : List Item → Option broken.Broken → Type 0
+OfWalk items None = (shapes : List Rect) × (labels : List FlatLabel) × FileWalks items shapes labels Whole
+OfWalk items (Some b) = (b.rule.family ≡ F) × OffsetIs b.spot (StopsAt items b.rule.number)
+
+-- want of memory, or the rule at which the walk of the items stops
 abbrev pub RefusesWalk : List Item → Refusal → Type 0
-RefusesWalk items refusals.NoMemory = Unit {0}
-RefusesWalk items (refusals.Broken b) = (b.rule.family ≡ F) × OffsetIs b.spot (StopsAt items b.rule.number)
+RefusesWalk items = IsRefusal (λ b. OfWalk items (Some b))
 
 abbrev pub rule_of : Fault → DrawRule
 rule_of F1 = R1

@@ -1,10 +1,11 @@
 //! The flattening of a file.
 
-ghost use Rattle.std.specs.Prelude.{IfOk, IfErr};
+ghost use Rattle.std.specs.Prelude.{IfOk};
+ghost use Rattle.mp_base.specs.Refuses.{IsJudged};
 ghost use Rattle.cif_form.specs.Walk.{FileWalks};
 ghost use Rattle.cif_form.specs.Walk.WalkEnd.{Whole};
 ghost use Rattle.cif_flat.specs.Sound.{IsWellFormed};
-ghost use Rattle.cif_flat.specs.Refusing.{RefusesWalk};
+ghost use Rattle.cif_flat.specs.Refusing.{OfWalk};
 
 use crate::walker::Walker;
 use cif_list::Cif;
@@ -24,7 +25,7 @@ pub struct Flat {
 pub fn flatten(alloc: Global, cif: &Cif) -> Result<Flat, Refusal>
     requires { IsWellFormed cif.now }
     ensures ok { IfOk result (λ flat. FileWalks cif.now flat.shapes flat.labels Whole) }
-    ensures err { IfErr result (RefusesWalk cif.now) }
+    ensures judged { IsJudged (OfWalk cif.now) result }
 {
     let walker = Walker::walk(alloc, cif)?;
     Ok(walker.into_flat())

@@ -6,6 +6,7 @@ use Rattle.std.proofs.lemmas.List.{drop_all, append-nil}
 use Rattle.mp_base.specs.declared.refusal.Family.TheVariants.{C}
 use Rattle.mp_base.specs.declared.refusal.Spot.TheVariants.{Offset}
 use Rattle.mp_base.specs.declared.refusal.Refusal.{Refusal}
+use Rattle.mp_base.specs.Refuses.{IsRefusal}
 use Rattle.mp_base.specs.declared.refusal.Refusal.TheVariants as refusals
 use Rattle.cif_form.specs.declared.command.Command.{Command}
 use Rattle.cif_form.specs.declared.command.Item.{Item}
@@ -19,7 +20,7 @@ use Rattle.cif_form.specs.Scans.TextEnd.{Whole, Broken}
 use Rattle.cif_form.proofs.Numbers.{blank_reads}
 use Rattle.cif_form.proofs.Parts.{blanks_past}
 use Rattle.cif_form.proofs.Scanning.{blank_means}
-use Rattle.cif_reader.specs.Refusing.{RefusesBy, Refuses, RefusesAt, IsRead, IsStep}
+use Rattle.cif_reader.specs.Refusing.{IsRuleAt, Refuses, RefusesAt, IsRead, IsStep}
 use Rattle.cif_reader.proofs.Stepping.{next}
 use Rattle.cif_reader.proofs.Sound.{blanks_split}
 use Rattle.cif_reader.proofs.Cutting.{fits_small, unfit_big}
@@ -215,8 +216,8 @@ reached_break bytes items inside at start (refusals.Broken b) r skipped (rule, o
 pub refused : (P : TextRule → ℕ → Type 0) (rule : TextRule) (offset : ℕ) (e : Refusal)
     → e ≡ refusals.Broken
     (record { rule = record { family = C; number = text_rule_number rule }; spot = Offset offset }) → P rule offset
-    → RefusesBy P e
-refused P rule offset e h p = subst (RefusesBy P) (sym h) (rule, offset, refl, refl, p)
+    → IsRefusal (IsRuleAt P) e
+refused P rule offset e h p = subst (IsRefusal (IsRuleAt P)) (sym h) (rule, offset, refl, refl, p)
 
 -- the same at a place
 pub refused_at : (bytes : List ℕ) (at : ℕ) (inside : Bool) (rule : TextRule) (offset : ℕ) (e : Refusal)

@@ -1,16 +1,17 @@
 //! Files.
 
 ghost use Rattle.std.specs.Prelude.{◌≡◌, ◌≢◌, ℕ, ◌+◌, ◌-◌, ◌≤◌, ◌<◌, List, [], length, drop, slice_index, Bool, false};
-ghost use Rattle.std.specs.Prelude.{◌∷◌, OnOk, IfOk, IfErr, MatchOption, MatchResult};
+ghost use Rattle.std.specs.Prelude.{◌∷◌, OnOk, IfOk, IfErr, MatchOption};
 ghost use Rattle.mp_base.specs.declared.refusal.Family.TheVariants.{C};
 ghost use Rattle.mp_base.specs.declared.refusal.Spot.TheVariants.{Offset};
+ghost use Rattle.mp_base.specs.Refuses.{IsJudged};
 ghost use Rattle.mp_base.specs.declared.refusal.Refusal.TheVariants as refusals;
 ghost use Rattle.cif_form.specs.declared.command.Item.{Item};
 ghost use Rattle.cif_form.specs.Fits.{Fits};
 ghost use Rattle.cif_form.specs.Readers.{is_blank, past_blanks};
 ghost use Rattle.cif_form.specs.Scans.{TextEnd, IsReadable, IsLateEnd, opens, Scans, FileScans};
 ghost use Rattle.cif_form.specs.Scans.TextEnd.{Whole};
-ghost use Rattle.cif_reader.specs.Refusing.{Refuses, RefusesAt, IsRead, IsStep};
+ghost use Rattle.cif_reader.specs.Refusing.{Refuses, RefusesAt, IsRead, IsStep, OfFile};
 
 use crate::bytes::{is_blank, past_blanks};
 use crate::command::command;
@@ -199,7 +200,7 @@ fn add_commands(alloc: Global, bytes: &[u8], cif: &mut Cif) -> Result<(), Refusa
 /// C5 (more than blanks behind the `E`).
 pub fn read_cif(alloc: Global, bytes: &[u8]) -> Result<Cif, Refusal>
     ensures whole { IfOk result (λ cif. FileScans bytes.now cif Whole) }
-    ensures first { IfErr result (Refuses bytes.now) }
+    ensures judged { IsJudged (OfFile bytes.now) result }
 {
     if let Some(offset) = late_end(bytes) {
         return Err(broken(1, offset));

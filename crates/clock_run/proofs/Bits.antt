@@ -9,7 +9,7 @@ use Rattle.std.proofs.lemmas.Nat.Bits.{bit_at_and, bit_at_or, bit_at-pow_same, b
 use Rattle.std.proofs.lemmas.Nat.Bits.{same_from_bits}
 use Rattle.mp_base.specs.declared.value.Trit.{Trit}
 use Rattle.mp_base.specs.declared.value.Trit.TheVariants.{Zero, One, X}
-use Rattle.switch_net.specs.Pads.{trit_of}
+use Rattle.mp_base.specs.PadBits.{trit_of}
 use Rattle.clock_run.specs.Words.{is_known, is_one}
 
 -- a bit past a number's width

@@ -6,7 +6,7 @@ use Rattle.std.specs.List.{AllZip}
 use Rattle.mp_base.specs.declared.value.Trit.{Trit}
 use Rattle.mp_base.specs.declared.pad.Pads.{Pads}
 use Rattle.switch_net.specs.declared.network.Network.{Network}
-use Rattle.switch_net.specs.Pads.{Fit}
+use Rattle.mp_base.specs.PadBits.{Fit}
 use Rattle.switch_net.specs.Clock.{Phases, IsClock, IsCircuitTrace, SettlesTo, Shows, AreDrivers, drives}
 use Rattle.settle.specs.Values.{value_at, driver_at}
 use Rattle.clock_run.specs.Circuit.{Running}

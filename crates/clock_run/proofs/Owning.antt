@@ -1,35 +1,16 @@
 -- The first label of a driver on each node.
 use Rattle.std.proofs.Common.{◌≡◌, ◌≢◌, ◌⊎◌, inl, inr, ◌∙◌, ℕ, ◌+◌, ◌<◌, List, length, get_or, set, refl, sym, ap}
-use Rattle.std.proofs.Common.{subst, arith, Option, Some, None}
+use Rattle.std.proofs.Common.{subst, arith, Option, Some, None, Bool, true, false, not, replicate, zero, suc}
 use Rattle.std.specs.Prelude.{Contains, slice_get}
-use Rattle.std.proofs.lemmas.Bool.{cases_eq}
-use Rattle.std.proofs.lemmas.List.{get_or_default, get_or-set_same, get_or-set_other}
+use Rattle.std.proofs.lemmas.Bool.{cases_eq, false≢true}
+use Rattle.std.proofs.lemmas.Option.{slice_get_within, get_or_from_slice_get, none-some}
+use Rattle.std.proofs.lemmas.List.{get_or-set_same, get_or-set_other, length-replicate}
 use Rattle.mp_base.proofs.Numbers.{below_suc}
 use Rattle.switch_net.specs.declared.network.Tag.{Tag}
 use Rattle.switch_net.specs.declared.network.Network.{Network}
 use Rattle.switch_net.specs.Breaks.{IsDrivenTwice, MeetsDriver}
+use Rattle.clock_run.specs.Owners.{IsOwner, HasOwner, AreOwners, AreWithin}
 use Rattle.clock_run.proofs.Missing.{same_some}
-
--- the label at this place names a driver of the node
-pub record IsOwner (drivers : List (List ℕ)) (tags : List Tag) (n j : ℕ) : Type 0 where
-  pub tag : Tag
-  pub at : slice_get tags j ≡ Some tag
-  pub driver : Contains drivers tag.name
-  pub node : tag.node ≡ n
-
--- the node of a label has an owner of the same name
-pub record HasOwner (tags : List Tag) (owners : List (Option ℕ)) (t : Tag) : Type 0 where
-  pub j : ℕ
-  pub tag : Tag
-  pub held : get_or owners t.node None ≡ Some j
-  pub at : slice_get tags j ≡ Some tag
-  pub name : tag.name ≡ t.name
-
--- the labels before i have owners, and none meets another driver
-pub record Owners (drivers : List (List ℕ)) (tags : List Tag) (owners : List (Option ℕ)) (i : ℕ) : Type 0 where
-  pub held : (n j : ℕ) → get_or owners n None ≡ Some j → (j < i) × IsOwner drivers tags n j
-  pub each : (k : ℕ) (t : Tag) → k < i → slice_get tags k ≡ Some t → Contains drivers t.name → HasOwner tags owners t
-  pub none : (k : ℕ) → k < i → ¬ MeetsDriver drivers tags k
 
 module _ (drivers : List (List ℕ)) (tags : List Tag) (i : ℕ) (t : Tag) (at : slice_get tags i ≡ Some t) where
   here : (k : ℕ) (u : Tag) → k ≡ i → slice_get tags k ≡ Some u → u ≡ t
@@ -44,7 +25,7 @@ module _ (drivers : List (List ℕ)) (tags : List Tag) (i : ℕ) (t : Tag) (at :
       d.names (h d.j d.earlier d.before d.there d.another (d.node ∙ ap (λ (x : Tag). x.node) e)
       ∙ sym (ap (λ (x : Tag). x.name) e))
 
-  none_more : (owners : List (Option ℕ)) → Owners drivers tags owners i → ¬ MeetsDriver drivers tags i → (k : ℕ)
+  none_more : (owners : List (Option ℕ)) → AreOwners drivers tags owners i → ¬ MeetsDriver drivers tags i → (k : ℕ)
       → k < i + 1
       → ¬ MeetsDriver drivers tags k
   none_more owners o n k lt m = by_place (below_suc k i lt)
@@ -53,8 +34,8 @@ module _ (drivers : List (List ℕ)) (tags : List Tag) (i : ℕ) (t : Tag) (at :
       by_place (inl l) = o.none k l m
       by_place (inr e) = n (subst (λ x. MeetsDriver drivers tags x) e m)
 
-  pub owners_skip : (owners : List (Option ℕ)) → Owners drivers tags owners i → (Contains drivers t.name → ⊥)
-      → Owners drivers tags owners (i + 1)
+  pub owners_skip : (owners : List (Option ℕ)) → AreOwners drivers tags owners i → (Contains drivers t.name → ⊥)
+      → AreOwners drivers tags owners (i + 1)
   owners_skip owners o not = record {
     held = λ n j e. let h = o.held n j e in (omega (arith, h.0), h.1);
     each = λ k u lt s d. each k u s d (below_suc k i lt);
@@ -67,9 +48,9 @@ module _ (drivers : List (List ℕ)) (tags : List Tag) (i : ℕ) (t : Tag) (at :
       each k u s d (inl l) = o.each k u l s d
       each k u s d (inr e) = absurd (not (subst (λ (x : Tag). Contains drivers x.name) (here k u e s) d))
 
-  pub owners_same : (owners : List (Option ℕ)) (j : ℕ) (first : Tag) → Owners drivers tags owners i
+  pub owners_same : (owners : List (Option ℕ)) (j : ℕ) (first : Tag) → AreOwners drivers tags owners i
       → get_or owners t.node None ≡ Some j
-      → slice_get tags j ≡ Some first → first.name ≡ t.name → Owners drivers tags owners (i + 1)
+      → slice_get tags j ≡ Some first → first.name ≡ t.name → AreOwners drivers tags owners (i + 1)
   owners_same owners j first o own there name = record {
     held = λ n k e. let h = o.held n k e in (omega (arith, h.0), h.1);
     each = λ k u lt s d. each k u s d (below_suc k i lt);
@@ -91,10 +72,10 @@ module _ (drivers : List (List ℕ)) (tags : List Tag) (i : ℕ) (t : Tag) (at :
           same_some (slice_get tags j) h.tag first (subst (λ n. slice_get tags n ≡ Some h.tag) e h.at) there in
           sym h.name ∙ ap (λ (x : Tag). x.name) f ∙ name
 
-  pub owners_new : (owners : List (Option ℕ)) → Owners drivers tags owners i → t.node < length owners
+  pub owners_new : (owners : List (Option ℕ)) → AreOwners drivers tags owners i → t.node < length owners
       → Contains drivers t.name
       → get_or owners t.node None ≡ None
-      → Owners drivers tags (set owners t.node (Some i)) (i + 1)
+      → AreOwners drivers tags (set owners t.node (Some i)) (i + 1)
   owners_new owners o inside driver free = record {
     held = λ n j e. held n j e (cases_eq n t.node);
     each = λ k u lt s d. each k u s d (below_suc k i lt);
@@ -137,7 +118,7 @@ module _ (drivers : List (List ℕ)) (tags : List Tag) (i : ℕ) (t : Tag) (at :
           subst (HasOwner tags (set owners t.node (Some i))) (sym (here k u e s))
           (record { j = i; tag = t; held = here_set t.node refl; at = at; name = refl })
 
-  pub owners_meet : (owners : List (Option ℕ)) (j : ℕ) (first : Tag) → Owners drivers tags owners i
+  pub owners_meet : (owners : List (Option ℕ)) (j : ℕ) (first : Tag) → AreOwners drivers tags owners i
       → Contains drivers t.name
       → get_or owners t.node None ≡ Some j
       → slice_get tags j ≡ Some first → first.name ≢ t.name → IsDrivenTwice drivers tags i t
@@ -156,10 +137,38 @@ module _ (drivers : List (List ℕ)) (tags : List Tag) (i : ℕ) (t : Tag) (at :
         node = sym (ap (λ (x : Tag). x.node) e) ∙ h.1.node;
       }
 
--- what was read of a node's owner
-pub read_at : (owners : List (Option ℕ)) (n : ℕ) (o v : Option ℕ) → n < length owners → o ≡ get_or owners n o → o ≡ v
-    → get_or owners n None ≡ v
-read_at owners n o v lt is e = get_or_default owners n None o lt ∙ sym is ∙ e
+-- two names differed, or were alike
+pub have_differed : (same equal : Bool) → same ≡ equal → not same ≡ true → equal ≡ true → ⊥
+have_differed true equal told differ is = false≢true differ
+have_differed false equal told differ is = false≢true (told ∙ is)
 
-pub node_inside : (net : Network) (i : ℕ) (t : Tag) → i < length net.tags → t ≡ get_or net.tags i t → t.node < net.nodes
-node_inside net i t lt is = subst (λ (x : Tag). x.node < net.nodes) (sym is) (net.tags_in i t lt)
+pub were_alike : (same equal : Bool) → same ≡ equal → not same ≡ false → equal ≡ true
+were_alike true equal told alike = sym told
+were_alike false equal told alike = absurd (false≢true (sym alike))
+
+-- before the first label no node has an owner
+pub begun : (drivers : List (List ℕ)) (net : Network) (owners : List (Option ℕ)) → owners ≡ replicate net.nodes None
+    → AreWithin net.tags owners × AreOwners drivers net.tags owners 0
+begun drivers net owners is = (
+  record {
+    nodes = λ k t at. let lt = slice_get_within net.tags k t at in
+        let inside : t.node < net.nodes = subst (λ (x : Tag). x.node < net.nodes)
+        (get_or_from_slice_get net.tags k t t at) (net.tags_in k t lt) in
+        let long = ap (λ (xs : List (Option ℕ)). length xs) is ∙ length-replicate {A = Option ℕ} net.nodes None in
+        omega (arith, inside, long);
+    places = λ n j e. absurd (free n j e);
+  },
+  record {
+    held = λ n j e. absurd (free n j e);
+    each = λ k t lt. absurd (omega (arith, lt));
+    none = λ k lt. absurd (omega (arith, lt));
+  },
+)
+  where
+    none_at : (m n : ℕ) → get_or (replicate {A = Option ℕ} m None) n None ≡ None
+    none_at zero n = refl
+    none_at (suc m) zero = refl
+    none_at (suc m) (suc n) = none_at m n
+
+    free : (n j : ℕ) → get_or owners n None ≡ Some j → ⊥
+    free n j e = none-some j (sym (none_at net.nodes n) ∙ ap (λ (xs : List (Option ℕ)). get_or xs n None) (sym is) ∙ e)

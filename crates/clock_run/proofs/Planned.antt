@@ -15,9 +15,11 @@ use Rattle.mp_base.proofs.Zips.{zip_length}
 use Rattle.settle.specs.Values.{driver_at}
 use Rattle.switch_net.specs.declared.network.Tag.{Tag}
 use Rattle.switch_net.specs.declared.network.Network.{Network}
-use Rattle.switch_net.specs.Pads.{Fit, bit_count, bit_labels, low_bits, pad_bits}
+use Rattle.switch_net.specs.Pads.{bit_labels}
+use Rattle.mp_base.specs.PadBits.{Fit, bit_count, low_bits, pad_bits}
 use Rattle.switch_net.specs.Clock.{Phases, Drive, drive, bit_drives, input_drives, drives, IsLabelled, AreDrivers}
-use Rattle.switch_net.proofs.Labels.{length_bits, one_node}
+use Rattle.switch_net.proofs.Labels.{one_node}
+use Rattle.mp_base.proofs.PadBits.{length_bits}
 use Rattle.clock_run.specs.Driving.{IsDriven, AreDriven, AreSet}
 use Rattle.clock_run.specs.Settings.{levels}
 use Rattle.clock_run.specs.Plan.{AreNodesOf, IsPlan}

@@ -9,7 +9,8 @@ use Rattle.mp_base.specs.declared.value.TritWord.{TritWord}
 use Rattle.mp_base.specs.declared.pad.Pad.{Pad}
 use Rattle.mp_base.proofs.Zips.{zip_at, zip_length}
 use Rattle.switch_net.specs.declared.network.Network.{Network}
-use Rattle.switch_net.specs.Pads.{bit_count, bit_labels}
+use Rattle.switch_net.specs.Pads.{bit_labels}
+use Rattle.mp_base.specs.PadBits.{bit_count}
 use Rattle.switch_net.specs.Clock.{IsLabelled, HasValue, Shows}
 use Rattle.stimulus.specs.Bits.{low_trits, pad_trits, trits_of}
 use Rattle.clock_run.specs.Plan.{AreNodesOf}

@@ -10,7 +10,8 @@ use Rattle.std.proofs.lemmas.Slice.Zip.{all_zipped_more}
 use Rattle.mp_base.specs.declared.pad.Pad.{Pad}
 use Rattle.switch_net.specs.declared.network.Network.{Network}
 use Rattle.switch_net.specs.Clock.{IsLabelled}
-use Rattle.switch_net.specs.Pads.{bit_count, labels_of, bit_labels}
+use Rattle.switch_net.specs.Pads.{labels_of, bit_labels}
+use Rattle.mp_base.specs.PadBits.{bit_count}
 use Rattle.switch_net.proofs.Labels.{length_word_labels}
 use Rattle.clock_run.specs.Plan.{AreNodesOf}
 use Rattle.clock_run.proofs.Naming.{take_push}

@@ -3,7 +3,7 @@ use Rattle.std.specs.Prelude.{◌≡◌, ◌⊎◌, ℕ, List, Option, Some, Con
 use Rattle.std.specs.List.{AllZip}
 use Rattle.mp_base.specs.declared.value.Trit.{Trit}
 use Rattle.settle.specs.Values.{driver_at}
-use Rattle.switch_net.specs.Pads.{low_bits}
+use Rattle.mp_base.specs.PadBits.{low_bits}
 
 -- the node is driven to this value
 abbrev pub IsDriven : (ℕ → Option Trit) → ℕ → Trit → Type 0

@@ -6,12 +6,12 @@ ghost use Rattle.mp_base.specs.declared.value.Trit.TheVariants.{X};
 ghost use Rattle.mp_base.specs.declared.value.TritWord.{TritWord as TritWordValue};
 ghost use Rattle.mp_base.specs.declared.pad.Pad.{Pad as PadValue};
 ghost use Rattle.settle.specs.Values.{value_at};
-ghost use Rattle.switch_net.specs.Pads.{Fit, bit_count};
-ghost use Rattle.switch_net.specs.Breaks.{HasPads};
+ghost use Rattle.mp_base.specs.PadBits.{Fit, bit_count};
+ghost use Rattle.mp_base.specs.Refuses.{IsJudged};
 ghost use Rattle.switch_net.specs.Clock.{SettlesTo, Shows, IsClock, drives};
 ghost use Rattle.stimulus.specs.Bits.{trits_of};
 ghost use Rattle.clock_run.specs.Settings.{phases_of};
-ghost use Rattle.clock_run.specs.Refused.{IsRefused};
+ghost use Rattle.clock_run.specs.Refused.{IsRefused, OfCircuit};
 ghost use Rattle.clock_run.specs.Circuit.{IsReady};
 
 use crate::plan::Plan;
@@ -68,8 +68,7 @@ impl<'a> Circuit<'a> {
         ensures network { IfOk result (λ c. c.network ≡ network) }
         ensures pads { IfOk result (λ c. c.pads ≡ pads.now) }
         ensures unknown { IfOk result (λ c. c.values ≡ replicate network.nodes X) }
-        ensures sound { IfOk result (λ _. HasPads network pads.now) }
-        ensures refused { IfErr result (IsRefused network pads.now) }
+        ensures judged { IsJudged (OfCircuit network pads.now) result }
     {
         let ready = Ready::new(alloc, &network, pads)?;
         let settler = Settler::open(alloc, network)?;

@@ -4,7 +4,7 @@ ghost use Rattle.std.specs.Prelude.{◌≡◌, ◌<◌, ◌≤◌, ℕ, Option, 
 ghost use Rattle.std.specs.List.{AllZip};
 ghost use Rattle.std.specs.Int.{bit_at};
 ghost use Rattle.mp_base.specs.declared.value.Trit.{Trit as TritValue};
-ghost use Rattle.switch_net.specs.Pads.{trit_of};
+ghost use Rattle.mp_base.specs.PadBits.{trit_of};
 ghost use Rattle.clock_run.specs.Driving.{IsDriven, AreDriven, AreSet};
 
 use mp_base::{List, Trit};

@@ -1,11 +1,12 @@
 //! Rule N3: two drivers on one node.
 
-ghost use Rattle.std.specs.Prelude.{◌≡◌, ◌↔◌, ◌<◌, ℕ, All, IfOk, IsTrue, IsSome, Contains, MatchOption, length};
+ghost use Rattle.std.specs.Prelude.{◌≡◌, ◌<◌, ◌+◌, ℕ, List, IfOk, IsTrue, IsFalse, Contains, MatchOption, length, slice_get};
 ghost use Rattle.std.specs.Option.{is_some};
 ghost use Rattle.std.specs.Str.{bytes_eq};
-ghost use Rattle.switch_net.specs.Breaks.{MeetsDriver};
+ghost use Rattle.switch_net.specs.declared.network.Tag.{Tag as TagValue};
+ghost use Rattle.switch_net.specs.Breaks.{MeetsDriver, IsDrivenTwice};
 ghost use Rattle.clock_run.specs.Numbers.{number_of};
-ghost use Rattle.clock_run.specs.Owners.{IsFirstMeeting};
+ghost use Rattle.clock_run.specs.Owners.{IsFirstMeeting, AreWithin, AreOwners};
 
 use crate::numbers::{names_of, number_of};
 use mp_base::Name;
@@ -27,6 +28,29 @@ fn same_name(one: &Tag, other: &Tag) -> bool
     one.name.bytes() == other.name.bytes()
 }
 
+/// Whether the first label of a driver on the node of this label, which names one too, has another name. Where none
+/// came before it, it is the first.
+fn meets_another(tags: &[Tag], i: usize, owners: &mut [Option<usize>]) -> bool
+    requires inside { i < length tags.now }
+    requires nodes { AreWithin tags.now owners.old }
+    ensures sized { length owners.new ≡ length owners.old }
+    ensures within { AreWithin tags.now owners.new }
+    ensures met { IsTrue result → (drivers : List (List ℕ)) (t : TagValue) → slice_get tags.now i ≡ Some t
+        → Contains drivers t.name → AreOwners drivers tags.now owners.old i → IsDrivenTwice drivers tags.now i t }
+    ensures noted { IsFalse result → (drivers : List (List ℕ)) (t : TagValue) → slice_get tags.now i ≡ Some t
+        → Contains drivers t.name → AreOwners drivers tags.now owners.old i
+        → AreOwners drivers tags.now owners.new (i + 1) }
+{
+    let tag = &tags[i];
+    match owners[tag.node as usize] {
+        None => {
+            owners[tag.node as usize] = Some(i);
+            false
+        }
+        Some(first) => !same_name(&tags[first], tag),
+    }
+}
+
 /// The offset of the first label of a driver that is on a node of another driver.
 pub(crate) fn driven_twice(
     alloc: Global,
@@ -41,15 +65,8 @@ pub(crate) fn driven_twice(
     let mut owners: Vec<Option<usize>> = vec![in alloc; None; network.nodes as usize]?;
     for i in 0..tags.len() {
         let tag = &tags[i];
-        if is_driver(&names, tag) {
-            match owners[tag.node as usize] {
-                None => owners[tag.node as usize] = Some(i),
-                Some(first) => {
-                    if !same_name(&tags[first], tag) {
-                        return Ok(Some(tag.offset));
-                    }
-                }
-            }
+        if is_driver(&names, tag) && meets_another(tags, i, &mut owners) {
+            return Ok(Some(tag.offset));
         }
     }
     Ok(None)

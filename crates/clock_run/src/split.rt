@@ -4,7 +4,8 @@ ghost use Rattle.std.specs.Prelude.{◌≡◌, IfOk, length, flat_map};
 ghost use Rattle.std.specs.List.{AllZip};
 ghost use Rattle.switch_net.specs.declared.network.Network.{Network};
 ghost use Rattle.switch_net.specs.Clock.{IsLabelled};
-ghost use Rattle.switch_net.specs.Pads.{bit_count, bit_labels};
+ghost use Rattle.switch_net.specs.Pads.{bit_labels};
+ghost use Rattle.mp_base.specs.PadBits.{bit_count};
 ghost use Rattle.clock_run.specs.Plan.{AreNodesOf};
 
 use mp_base::{List, Pad};

@@ -5,7 +5,7 @@ use Rattle.std.specs.Prelude.{All, slice_index, slice_index_or}
 use Rattle.std.proofs.lemmas.Bool.{cond-false, ne_eqb}
 use Rattle.mp_base.specs.declared.pad.Pad.{Pad}
 use Rattle.mp_base.specs.declared.pad.Pads.{Pads}
-use Rattle.switch_net.specs.Pads.{Fit, bit_count}
+use Rattle.mp_base.specs.PadBits.{Fit, bit_count}
 use Rattle.mp_program.specs.declared.program.Program.{Program}
 use Rattle.mp_program.specs.Pads.{Face, face, ArePadsOf, pad_limit, FitsPads}
 use Rattle.mp_program.specs.Trace as source

@@ -19,7 +19,7 @@ use Rattle.rtl_form.specs.declared.rtl.CellKind.TheVariants as kinds
 use Rattle.rtl_form.specs.declared.rtl.Transfer.{Transfer}
 use Rattle.rtl_form.specs.declared.rtl.Rtl.{Rtl}
 use Rattle.mp_base.specs.Entries.{IsAt}
-use Rattle.mp_base.proofs.ListEntries.{one_entry, some_entry, get_at}
+use Rattle.mp_base.proofs.Entries.{one_entry, some_entry, within}
 use Rattle.rtl_form.specs.Environment.{is_driven, is_stored}
 use Rattle.rtl_form.specs.Sound.{CellFits, HasSort, IsReset, IsSound}
 use Rattle.task_schedule.specs.declared.task.Task.{Task}
@@ -66,7 +66,7 @@ pub has_reset : (r : Rtl) → IsSound r → (c : ℕ) (x : cells.Cell) → IsAt 
     → (reset : ℕ) × (r.reset ≡ Some reset)
 has_reset r sound c x at kind =
     by_reset r.reset refl (sound.resets (any_passes_from_place (λ (x : cells.Cell). is_stored x.kind) r.cells c x
-    (get_at r.cells c x at) (ap is_stored kind)))
+    at (ap is_stored kind)))
   where
     by_reset : (o : Option ℕ) → r.reset ≡ o → IsSome o → (reset : ℕ) × (r.reset ≡ Some reset)
     by_reset None e h = absurd (cc h)
@@ -88,7 +88,7 @@ module _ (r : Rtl) (sound : IsSound r) (old mid : List Part) (named : List (Opti
     expr_count = length-replicate (length r.exprs) None;
     below = λ task rails h. below_of task rails h;
     bits_only = λ task rails h. bit_of task rails h;
-    first = λ c x at w d. first.names.first c x at.0 at w d;
+    first = λ c x at w d. first.names.first c x (within r.cells c at) at w d;
     waiting = λ task h. wait_of_task task h;
   }
     where
@@ -103,7 +103,7 @@ module _ (r : Rtl) (sound : IsSound r) (old mid : List Part) (named : List (Opti
 
       wait_of_task : (task : Task) → IsTask r task → entry_of bits0 task ≡ Some None
       wait_of_task (Expr e) h = none_there (length r.exprs) e h
-      wait_of_task (Cell c) h = first.names.waiting c h.0 h.1.0 h.1 h.2
+      wait_of_task (Cell c) h = first.names.waiting c h.0 (within r.cells c h.1) h.1 h.2
 
   module _ (tasks : List Task) (schedule : IsSchedule r tasks) (mid2 : List Part) (bits : Bits) (ends : List ℕ)
       (done : AreDone r tasks (length tasks) mid mid2 bits0 bits ends) where
@@ -111,7 +111,7 @@ module _ (r : Rtl) (sound : IsSound r) (old mid : List Part) (named : List (Opti
     in_tasks task h = let t = schedule.all task h in (t.0, slice_get_within tasks t.0 task t.1, t.1)
 
     pub expr_named : (e : ℕ) → HasSort r e false → IsNamed bits.exprs e
-    expr_named e h = let t = in_tasks (Expr e) h.1.0 in done.progress.done t.0 (Expr e) t.1 t.2 h
+    expr_named e h = let t = in_tasks (Expr e) (within r.exprs e h.1) in done.progress.done t.0 (Expr e) t.1 t.2 h
 
     -- a cell that nothing drives has the nets that it had first
     pub first_rails : (c : ℕ) (x : cells.Cell) (rails : Rails) → IsAt r.cells c x → is_driven x.kind ≡ false
@@ -119,14 +119,15 @@ module _ (r : Rtl) (sound : IsSound r) (old mid : List Part) (named : List (Opti
     first_rails c x rails at d h =
         let b = done.progress.bits_only (Cell c) rails h in
         let word = ap (λ (x : cells.Cell). x.word) (one_entry r.cells c x b.0 at b.1) ∙ b.2 in
-        let f = first.names.first c x at.0 at word d in
+        let f = first.names.first c x (within r.cells c at) at word d in
         subst (Named named c) (same_Some f.0 rails (same_Some (Some f.0) (Some rails)
         (sym (done.progress.keeps (Cell c) f.0 f.1) ∙ h))) f.1
 
     pub cell_named : (c : ℕ) (x : cells.Cell) → IsAt r.cells c x → x.word ≡ false → IsNamed bits.cells c
     cell_named c x at word = by_test (is_driven x.kind)
         (λ d. let t = in_tasks (Cell c) (x, at, d) in done.progress.done t.0 (Cell c) t.1 t.2 (x, at, word))
-        (λ d. let f = first.names.first c x at.0 at word d in (f.0, done.progress.keeps (Cell c) f.0 f.1))
+        (λ d. let f = first.names.first c x (within r.cells c at) at word d in
+        (f.0, done.progress.keeps (Cell c) f.0 f.1))
 
     stored_first : (c : ℕ) (x : cells.Cell) (rails : Rails) → IsAt r.cells c x → is_stored_bit x ≡ true
         → Named bits.cells c rails
@@ -161,11 +162,11 @@ module _ (r : Rtl) (sound : IsSound r) (old mid : List Part) (named : List (Opti
           where
             each : (t : Transfer) → Contains r.transfers t → t.target ≡ c → IsTransferNamed bits.exprs t
             each t inside to =
-                let f = sound.transfers t inside in
-                let here = one_entry r.cells c f.1.0 x (subst (λ n. IsAt r.cells n f.1.0) to f.1.1) at in (
-                  expr_named t.guard f.0,
+                let (guard, (cell, at_cell, value, no_input)) = sound.transfers t inside in
+                let here = one_entry r.cells c cell x (subst (λ n. IsAt r.cells n cell) to at_cell) at in (
+                  expr_named t.guard guard,
                   expr_named t.value
-                      (subst (HasSort r t.value) (ap (λ (x : cells.Cell). x.word) here ∙ (stored_kind x on).0) f.1.2),
+                      (subst (HasSort r t.value) (ap (λ (x : cells.Cell). x.word) here ∙ (stored_kind x on).0) value),
                 )
 
     -- the cell that resets has nets
@@ -191,10 +192,10 @@ all_next r bits index rails old new is named h = record {
       let same : rails ≡ at = same_Some rails at (same_Some (Some rails) (Some at)
       (sym named ∙ (ap (slice_get bits.cells) (same_Some index reset (sym is ∙ e)) ∙ n))) in
       subst (λ (p : Rails). IsStoring bits.exprs (transfers_to r.transfers c) (length old) new q p.bit) same
-      (h.stored c x q on_at.0 on_at on k);
+      (h.stored c x q (within r.cells c on_at) on_at on k);
   inputs = h.inputs;
   latches = h.latches;
-  unfed = λ n p e. let u = h.unfed n p e in (u.0, λ c x q at on k z. u.1 c x q at.0 at on k z);
+  unfed = λ n p e. let u = h.unfed n p e in (u.0, λ c x q at on k z. u.1 c x q (within r.cells c at) at on k z);
 }
 
 -- where nothing resets there are none

@@ -8,7 +8,7 @@ use Rattle.std.proofs.lemmas.Bool.{cases_lt, both_ways, cases_eq}
 use Rattle.std.proofs.lemmas.List.{take_more, append-nil}
 use Rattle.std.proofs.lemmas.List.Sums.{sum_by-append, sum_by-cons}
 use Rattle.std.proofs.lemmas.Option.{none-some, same_Some, slice_get_within}
-use Rattle.mp_base.proofs.Entries.{get_kept, get_front, get_middle}
+use Rattle.mp_base.proofs.Entries.{get_kept, get_front, get_middle, one_entry, value, within}
 use Rattle.nor_net.specs.declared.net.NetId.{NetId}
 use Rattle.nor_net.specs.declared.net.Phase.TheVariants.{B, C}
 use Rattle.nor_net.specs.declared.net.Part.{Part}
@@ -19,7 +19,6 @@ use Rattle.rtl_form.specs.declared.rtl.CellKind.{CellKind}
 use Rattle.rtl_form.specs.declared.rtl.CellKind.TheVariants as kinds
 use Rattle.rtl_form.specs.declared.rtl.Rtl.{Rtl}
 use Rattle.mp_base.specs.Entries.{IsAt}
-use Rattle.mp_base.proofs.ListEntries.{one_entry}
 use Rattle.rtl_form.specs.Environment.{is_driven}
 use Rattle.rtl_form.specs.Sound.{CellFits, IsSound}
 use Rattle.bit_gates.specs.declared.rails.Rails.{Rails}
@@ -82,12 +81,12 @@ module _ (r : Rtl) (sound : IsSound r) (i : ℕ) (old new newer : List Part) (na
       fits = subst (CellFits r x) e (sound.cells i x at)
 
       inside : k < length pads
-      inside = let n = done.nets.pad_count in let l = fits.1.0 in omega (arith, n, l)
+      inside = let n = done.nets.pad_count in let l = within (r.pads).inputs k fits.1 in omega (arith, n, l)
 
       free : (q : NetId) → Stands pads k q → ⊥
       free q s =
           let p = done.nets.pads_only k q s in
-          let only = sound.input_cells k fits.1.0 in
+          let only = sound.input_cells k (within (r.pads).inputs k fits.1) in
           let a = only.2 p.0 p.1 p.3 p.4 in
           let b = only.2 i x at e in
           let l = p.2 in absurd (omega (arith, a, b, l))
@@ -258,17 +257,18 @@ module _ (r : Rtl) (sound : IsSound r) (i : ℕ) (old new newer : List Part) (na
     unfed = λ n p l e. elim (cases_lt n (length new)) [
       | inl m ↦ let q = done.nets.unfed n p l (in_old n (Latch p None) e m) in
           (q.0, q.1, q.2, q.3, q.4, get_kept named (o ∷ []) q.0 (Some q.2) q.5, q.6)
-      | inr m ↦ let q = now.unfed n p m e in (i, x, q.1.0, at, q.0, entry_last ∙ ap Some q.1.1, q.1.2)
+      | inr m ↦ let (kind, (rails, some, stands)) = now.unfed n p m e in
+          (i, x, rails, at, kind, entry_last ∙ ap Some some, stands)
     ];
   }
 
   cost_more : sum_by first_cost (take (i + 1) r.cells) ≡ sum_by first_cost (take i r.cells) + first_cost x
   cost_more =
-      let t = take_more r.cells i x at.0 in
+      let t = take_more r.cells i x (within r.cells i at) in
       let a = sum_by-append first_cost (take i r.cells) (get_or r.cells i x ∷ []) in
       let b = sum_by-cons first_cost (get_or r.cells i x) [] in
       let s = ap (sum_by first_cost) t in
-      let y = ap first_cost at.1 in omega (arith, a, b, s, y)
+      let y = ap first_cost (value r.cells i at) in omega (arith, a, b, s, y)
 
   pub first_more : AreFirstDone r (i + 1) old newer next pads_new
   first_more = record {

@@ -8,7 +8,7 @@ use Rattle.std.proofs.lemmas.List.{get_or_append_left, get_or_push}
 use Rattle.std.proofs.lemmas.List.Elements.{All-filter, Contains-get_or, filter_passes}
 use Rattle.std.proofs.lemmas.Option.{none-some, same_Some, slice_get_within}
 use Rattle.mp_base.specs.declared.value.Trit.{Trit}
-use Rattle.mp_base.proofs.Entries.{get_front}
+use Rattle.mp_base.proofs.Entries.{get_front, one_entry}
 use Rattle.nor_net.specs.declared.net.NetId.{NetId}
 use Rattle.nor_net.specs.declared.net.Part.{Part}
 use Rattle.nor_net.specs.declared.net.Part.TheVariants.{Input, Gate}
@@ -18,7 +18,6 @@ use Rattle.rtl_form.specs.declared.rtl.RtlExpr.{RtlExpr}
 use Rattle.rtl_form.specs.declared.rtl.RtlExpr.TheVariants as exprs
 use Rattle.rtl_form.specs.declared.rtl.Rtl.{Rtl}
 use Rattle.mp_base.specs.Entries.{IsAt}
-use Rattle.mp_base.proofs.ListEntries.{one_entry}
 use Rattle.rtl_form.specs.Sound.{IsSound}
 use Rattle.rtl_form.specs.Values.{value_of}
 use Rattle.task_schedule.specs.declared.task.Task.{Task}
@@ -194,11 +193,12 @@ module _ (r : Rtl) (sound : IsSound r) (tasks : List Task) (schedule : IsSchedul
             let g = driven_here task refl c same rails made.is_made (named_here (Cell c) rails same h) in
             let a : level (length old) more s ≡ length new = ap (level (length old) more) e ∙ top_level in
             let b = g.0 in (omega (arith, a, b), g.1, g.2)
-        | inr m ↦ let g = laid.driven s c rails m at (named_there s (Cell c) rails at m h) in
-            let a = same_level s (omega arith) in let b = g.0 in (
-              omega (arith, a, b),
-              keeps_parts rails.bit.0 (Gate (rails.negation ∷ [])) g.1,
-              (g.2.0, keeps_parts rails.negation.0 (Gate g.2.0) g.2.1),
+        | inr m ↦ let (behind, is_bit, (inputs, is_negation)) =
+            laid.driven s c rails m at (named_there s (Cell c) rails at m h) in
+            let a = same_level s (omega arith) in (
+              omega (arith, a, behind),
+              keeps_parts rails.bit.0 (Gate (rails.negation ∷ [])) is_bit,
+              (inputs, keeps_parts rails.negation.0 (Gate inputs) is_negation),
             )
       ];
       entries = λ s e x rails l at is_at y h. elim (at_or_below s l) [
@@ -222,8 +222,8 @@ module _ (r : Rtl) (sound : IsSound r) (tasks : List Task) (schedule : IsSchedul
             ∙ (ap (λ ps. slice_get ps n) (sym now.adds.1) ∙ e)) in
             (g.0, g.1, g.2, g.3, g.4, names_stay after made.entry task (Expr g.0) g.2 here g.5, g.6)
         by_place n l e (inr m) =
-            let g = now.inputs n m e in
-            entered task g.1.0 n g.0 (entry_same after made.entry task None here ∙ ap Some g.1.1) g.1.2
+            let (is_entry, (rails, some, stands)) = now.inputs n m e in
+            entered task rails n is_entry (entry_same after made.entry task None here ∙ ap Some some) stands
 
   -- ---- what they mean
 

@@ -67,8 +67,7 @@ use Rattle.rtl_form.specs.Values.{value_of}
 use Rattle.rtl_form.specs.Written.{written}
 use Rattle.std.proofs.lemmas.List.Elements.{All-filter, Contains-get_or, filter_passes}
 use Rattle.mp_base.proofs.Induction.{by_test}
-use Rattle.mp_base.proofs.Entries.{get_front}
-use Rattle.mp_base.proofs.ListEntries.{one_entry}
+use Rattle.mp_base.proofs.Entries.{get_front, one_entry, within}
 
 length_map : (xs : List (Option Rails)) → length (map net_of xs) ≡ length xs
 length_map [] = refl
@@ -206,11 +205,7 @@ module _ (r : Rtl) (sound : IsSound r) (old mid mid2 after : List Part) (named :
           → (entry_count x ≡ 0) ⊎ IsSort r.cells x false → entry_count x ≡ 0
       zero_of e x absent at (inl z) = z
       zero_of e x absent at (inr s) =
-          let is : IsAt r.exprs e x = (
-            slice_get_within r.exprs e x at,
-            sym (Rattle.std.proofs.lemmas.Option.get_or_from_slice_get r.exprs e x x at),
-          ) in
-          let n = expr_has e (x, is, s) in
+          let n = expr_has e (x, at, s) in
           absurd (none-some n.0 (same_Some None (Some n.0) (sym absent ∙ n.1)))
 
   size : IsWithinCost (bit_cost r) (sum_by entry_count r.exprs) old after
@@ -299,7 +294,7 @@ module _ (r : Rtl) (sound : IsSound r) (old mid mid2 after : List Part) (named :
       → (t : ℕ) × (t < length tasks) × (slice_get tasks t ≡ Some (Expr e)) × (level (length mid) ends t ≤ rails.bit.0)
       × (rails.bit.0 < level (length mid) ends (suc t)) × (slice_get mid2 rails.bit.0 ≡ Some Input)
   entry_range e x rails at y h =
-      let t = task_of (Expr e) at.0 in
+      let t = task_of (Expr e) (within r.exprs e at) in
       let a = done.laid.entries t.0 e x rails t.1 t.2 at y h in
       (t.0, t.1, t.2, a.0, done.laid.below t.0 (Expr e) rails t.1 t.2 h, a.1)
 
@@ -422,9 +417,9 @@ module _ (r : Rtl) (sound : IsSound r) (old mid mid2 after : List Part) (named :
       by_driven : (x : cells.Cell) → IsAt r.cells c x → is_driven x.kind ≡ true → ⊥
       by_driven x at d =
           let s = driven_range c x rails at d h in
-          let g = done.laid.driven s.0 c rails s.1 s.2 h in
-          let bit_is = next.keeps rails.bit.0 (Gate (rails.negation ∷ [])) g.1 tt in
-          let off_is = next.keeps rails.negation.0 (Gate g.2.0) g.2.1 tt in
+          let (behind, is_bit, (inputs, is_negation)) = done.laid.driven s.0 c rails s.1 s.2 h in
+          let bit_is = next.keeps rails.bit.0 (Gate (rails.negation ∷ [])) is_bit tt in
+          let off_is = next.keeps rails.negation.0 (Gate inputs) is_negation tt in
           let same : b.slave ≡ rails.negation = cc (b.is_bit, bit_is) in
           absurd (cc (b.is_slave, ap (λ (i : NetId). slice_get after i.0) same, off_is))
 
@@ -434,7 +429,7 @@ module _ (r : Rtl) (sound : IsSound r) (old mid mid2 after : List Part) (named :
       by_kind x at word (kinds.Output k) e = absurd (by_driven x at (ap is_driven e))
       by_kind x at word kinds.Inner e = absurd (by_driven x at (ap is_driven e))
       by_kind x at word (kinds.Input k) e =
-          let p = first.nets.pads_named c k x at.0 at e word in
+          let p = first.nets.pads_named c k x (within r.cells c at) at e word in
           let l = (first.nets.ports c k x rails p.0 at e (first_has c x rails at (ap is_driven e) h) p.1).is_latch in
           let m = keeps rails.bit.0 (Latch phases.C (Some p.0)) l refl in absurd (cc (b.is_bit, m))
 
@@ -476,15 +471,15 @@ module _ (r : Rtl) (sound : IsSound r) (old mid mid2 after : List Part) (named :
         → t.target ≡ c
         → value_of r env t.value < 2
     small c x at word t inside to =
-        let f = sound.transfers t inside in
-        let here = one_entry r.cells c f.1.0 x (subst (λ n. IsAt r.cells n f.1.0) to f.1.1) at in
+        let (guard, (cell, at_cell, value, no_input)) = sound.transfers t inside in
+        let here = one_entry r.cells c cell x (subst (λ n. IsAt r.cells n cell) to at_cell) at in
         value_small r sound env fit t.value (subst (HasSort r t.value)
-        (ap (λ (x : cells.Cell). x.word) here ∙ word) f.1.2)
+        (ap (λ (x : cells.Cell). x.word) here ∙ word) value)
 
     gives_expr : (e : ℕ) (x : RtlExpr) → IsAt r.exprs e x → Ready r names v env x → KnownExpr r names v env e
     gives_expr e x at ready id on =
         let q = stands_named bits.exprs e id on in
-        let t = task_of (Expr e) at.0 in
+        let t = task_of (Expr e) (within r.exprs e at) in
         let h = done.meant.exprs t.0 e x q.0 v env t.1 t.2 at q.1 obeys_mid2 fit (ready_known x ready) in
         subst (λ (i : NetId). HasBit v i (value_of r env e)) q.2 h.has_bit
 
@@ -664,9 +659,9 @@ module _ (r : Rtl) (sound : IsSound r) (old mid mid2 after : List Part) (named :
           subst (λ x. IsSort r.cells x false) (one_entry r.exprs e b.0 x b.1 at) b.2,
     );
     pad_names = λ k pad at. (
-      λ flat. let only = sound.input_cells k at.0 in let x = only.1 in
+      λ flat. let only = sound.input_cells k (within (r.pads).inputs k at) in let x = only.1 in
           let word = pad_width k pad at only.0 x.0 x.1 x.2 ∙ ap (λ n. not (n == 0)) flat in
-          first.nets.pads_named only.0 k x.0 x.1.0 x.1 x.2 word,
+          first.nets.pads_named only.0 k x.0 (within r.cells only.0 x.1) x.1 x.2 word,
       λ h. let p = first.nets.pads_only k h.0 h.1 in
           not_zero pad.width (sym (pad_width k pad at p.0 p.1 p.3 p.4) ∙ p.5),
     );

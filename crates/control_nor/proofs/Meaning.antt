@@ -9,7 +9,7 @@ use Rattle.std.proofs.lemmas.Option.{none-some, same_Some}
 use Rattle.mp_base.specs.declared.op.Op.{Op}
 use Rattle.mp_base.specs.declared.op.Op.TheVariants as ops
 use Rattle.mp_base.specs.declared.value.Trit.{Trit}
-use Rattle.mp_base.specs.Apply.{apply, truth}
+use Rattle.mp_base.specs.Apply.{apply, truth, takes}
 use Rattle.mp_base.proofs.Tests.{truth_small, truth_apart}
 use Rattle.nor_net.specs.declared.net.NetId.{NetId}
 use Rattle.nor_net.specs.declared.net.Part.{Part}
@@ -22,7 +22,7 @@ use Rattle.rtl_form.specs.declared.rtl.RtlExpr.{RtlExpr}
 use Rattle.rtl_form.specs.declared.rtl.RtlExpr.TheVariants as exprs
 use Rattle.rtl_form.specs.declared.rtl.Rtl.{Rtl}
 use Rattle.mp_base.specs.Entries.{IsAt}
-use Rattle.rtl_form.specs.Operands.{takes, takes_words, gives_word}
+use Rattle.rtl_form.specs.Operands.{takes_words, gives_word}
 use Rattle.rtl_form.specs.Sound.{ExprFits, HasSort, IsSort, IsSound}
 use Rattle.rtl_form.specs.Values.{value_of, expr_value}
 use Rattle.rtl_form.proofs.Values.{value_is}

@@ -4,14 +4,13 @@ use Rattle.std.proofs.Common.{refl, sym, ◌∙◌, ap, subst, arith}
 use Rattle.std.specs.Prelude.{MatchBool, ◌&&◌, not, slice_get, if◌then◌else◌}
 use Rattle.std.proofs.lemmas.Option.{none-some, same_Some, slice_get_within}
 use Rattle.std.proofs.lemmas.List.{length-set}
-use Rattle.mp_base.proofs.Entries.{get_set_same, get_set_other}
+use Rattle.mp_base.proofs.Entries.{get_set_same, get_set_other, one_entry}
 use Rattle.std.proofs.lemmas.Bool.{cases_eq}
 use Rattle.nor_net.specs.declared.net.Part.{Part}
 use Rattle.rtl_form.specs.declared.rtl.Cell as cells
 use Rattle.rtl_form.specs.declared.rtl.RtlExpr.{RtlExpr}
 use Rattle.rtl_form.specs.declared.rtl.Rtl.{Rtl}
 use Rattle.mp_base.specs.Entries.{IsAt}
-use Rattle.mp_base.proofs.ListEntries.{one_entry, get_at}
 use Rattle.rtl_form.specs.Environment.{is_driven}
 use Rattle.task_schedule.specs.declared.task.Task.{Task}
 use Rattle.task_schedule.specs.declared.task.Task.TheVariants.{Expr, Cell}
@@ -146,9 +145,9 @@ module _ (r : Rtl) (old new : List Part) (before : Bits)
       cost = bit_expr_cost x;
       entries = entry_count x;
       within = added.within;
-      cost_is = let f = left_some bit_expr_cost before.exprs r.exprs e x rails was (get_at r.exprs e x at) in
+      cost_is = let f = left_some bit_expr_cost before.exprs r.exprs e x rails was at in
           omega (arith, f);
-      entries_is = left_some entry_count before.exprs r.exprs e x rails was (get_at r.exprs e x at);
+      entries_is = left_some entry_count before.exprs r.exprs e x rails was at;
     };
   }
     where
@@ -168,8 +167,8 @@ module _ (r : Rtl) (old new : List Part) (before : Bits)
       cost = 2 + length (transfers_to r.transfers c);
       entries = 0;
       within = added.within;
-      cost_is = let f = left_some driven_cost before.cells r.cells c x rails was (get_at r.cells c x at) in
-          let g = waits_fall r.cells before.cells c x rails was (get_at r.cells c x at) driven r.transfers in
+      cost_is = let f = left_some driven_cost before.cells r.cells c x rails was at in
+          let g = waits_fall r.cells before.cells c x rails was at driven r.transfers in
           omega (arith, f, g, driven);
       entries_is = omega arith;
     };

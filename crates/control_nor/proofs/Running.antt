@@ -13,7 +13,7 @@ use Rattle.rtl_form.specs.declared.rtl.RtlExpr.{RtlExpr}
 use Rattle.rtl_form.specs.declared.rtl.RtlExpr.TheVariants as exprs
 use Rattle.rtl_form.specs.declared.rtl.Rtl.{Rtl}
 use Rattle.mp_base.specs.Entries.{IsAt}
-use Rattle.mp_base.proofs.ListEntries.{one_entry, some_entry, get_at}
+use Rattle.mp_base.proofs.Entries.{one_entry, some_entry, within}
 use Rattle.rtl_form.specs.Environment.{is_driven}
 use Rattle.rtl_form.specs.Sound.{ExprFits, HasSort, IsSort, IsSound}
 use Rattle.task_schedule.specs.declared.task.Task.{Task}
@@ -99,21 +99,21 @@ module _ (r : Rtl) (sound : IsSound r) (tasks : List Task) (schedule : IsSchedul
           λ bits. λ k d l.
               let a = slice_index_or args k d in
               let inside : Contains args a = Contains-get_or args k d l in
-              let f = fits.2 a inside in
-              read_done (Expr a) (reads (Expr a) inside) f.1.1.0 (subst (HasSort r a) bits f.1),
+              let (below, sort) = fits.2 a inside in
+              read_done (Expr a) (reads (Expr a) inside) (within r.exprs a sort.1) (subst (HasSort r a) bits sort),
         )
 
     transfer_named : (c : ℕ) → task ≡ Cell c → (x : cells.Cell) → IsAt r.cells c x → x.word ≡ false → (t : Transfer)
         → Contains r.transfers t → t.target ≡ c → IsTransferNamed after.exprs t
     transfer_named c same x at bit t inside to =
-        let f = sound.transfers t inside in
-        let here = one_entry r.cells c f.1.0 x (subst (λ n. IsAt r.cells n f.1.0) to f.1.1) at in
+        let (guard, (cell, at_cell, any_value, no_input)) = sound.transfers t inside in
+        let here = one_entry r.cells c cell x (subst (λ n. IsAt r.cells n cell) to at_cell) at in
         let value : HasSort r t.value false =
-        subst (HasSort r t.value) (ap (λ (x : cells.Cell). x.word) here ∙ bit) f.1.2 in (
+        subst (HasSort r t.value) (ap (λ (x : cells.Cell). x.word) here ∙ bit) any_value in (
           read_done (Expr t.guard) (subst (λ k. TaskReads r k (Expr t.guard)) (sym same) (t, inside, to, inl refl))
-              f.0.1.0 f.0,
+              (within r.exprs t.guard guard.1) guard,
           read_done (Expr t.value) (subst (λ k. TaskReads r k (Expr t.value)) (sym same) (t, inside, to, inr refl))
-              value.1.0 value,
+              (within r.exprs t.value value.1) value,
         )
 
     transfers_named : (c : ℕ) → task ≡ Cell c → (x : cells.Cell) → IsAt r.cells c x → x.word ≡ false
@@ -135,7 +135,7 @@ module _ (r : Rtl) (sound : IsSound r) (tasks : List Task) (schedule : IsSchedul
         by_task (Expr e) same =
             let x = some_entry r.exprs e (subst (IsTask r) same (schedule.only t task is)) in
             let waits = subst (λ k. entry_of after k ≡ Some None) same (progress.left t task (omega arith) is) in
-            let least = left_least bit_expr_cost after.exprs r.exprs e x.0 waits (get_at r.exprs e x.0 x.1) in
+            let least = left_least bit_expr_cost after.exprs r.exprs e x.0 waits x.1 in
             (x.0, x.1, exprs_ready e x.0 same x.1, room_for (bit_expr_cost x.0) room (omega (arith, least)))
         by_task (Cell c) same =
             let h = subst (IsTask r) same (schedule.only t task is) in
@@ -147,9 +147,9 @@ module _ (r : Rtl) (sound : IsSound r) (tasks : List Task) (schedule : IsSchedul
             cell_room c x at driven bit waiting =
                 let one : driven_count x ≡ 1 = ap (λ b. if b && not x.word then 1 else 0) driven
                 ∙ ap (λ b. if not b then 1 else 0) bit in
-                let least = left_least driven_cost after.cells r.cells c x waiting (get_at r.cells c x at) in
+                let least = left_least driven_cost after.cells r.cells c x waiting at in
                 let rails : Rails = record { bit = record { 0 = 0 }; negation = record { 0 = 0 } } in
-                let fall = waits_fall r.cells after.cells c x rails waiting (get_at r.cells c x at) one r.transfers in
+                let fall = waits_fall r.cells after.cells c x rails waiting at one r.transfers in
                 room_for (2 + length (transfers_to r.transfers c)) room (omega (arith, least, fall, one))
 
     -- one more task

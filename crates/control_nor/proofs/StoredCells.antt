@@ -7,7 +7,7 @@ use Rattle.std.specs.List.{sum_by}
 use Rattle.std.proofs.lemmas.Bool.{cases_lt, eq-eqb, ne_eqb, cases_eq, le-leb, lt-leb}
 use Rattle.std.proofs.lemmas.List.Sums.{sum_by-cons, sum_by-set}
 use Rattle.std.proofs.lemmas.Option.{none-some, same_Some, slice_get_within, get_or_from_slice_get}
-use Rattle.mp_base.proofs.Entries.{get_kept, get_front}
+use Rattle.mp_base.proofs.Entries.{get_kept, get_front, one_entry}
 use Rattle.nor_net.specs.Shape.{Fed, fan_in, gate_inputs}
 use Rattle.nor_net.specs.declared.net.NetId.{NetId}
 use Rattle.nor_net.specs.declared.net.Phase.TheVariants.{A, B}
@@ -17,7 +17,6 @@ use Rattle.rtl_form.specs.declared.rtl.Cell as cells
 use Rattle.rtl_form.specs.declared.rtl.Transfer.{Transfer}
 use Rattle.rtl_form.specs.declared.rtl.Rtl.{Rtl}
 use Rattle.mp_base.specs.Entries.{IsAt}
-use Rattle.mp_base.proofs.ListEntries.{one_entry, get_at}
 use Rattle.bit_gates.specs.declared.rails.Rails.{Rails}
 use Rattle.control_nor.specs.declared.names.Bits.{Bits}
 use Rattle.bit_gates.specs.Adding.{HasRoom, IsCounted}
@@ -94,16 +93,16 @@ module _ (xs : List cells.Cell) (i : ℕ) (x : cells.Cell) (is : slice_get xs i 
 left_stored : (r : Rtl) (i : ℕ) (x : cells.Cell) → IsAt r.cells i x → is_stored_bit x ≡ true
     → next_left r i ≡ 5 + length (transfers_to r.transfers i) + next_left r (i + 1)
 left_stored r i x at on =
-    let a = sum_drop next_cost r.cells i x (get_at r.cells i x at) in
+    let a = sum_drop next_cost r.cells i x at in
     let b = sum_split (stored_from r.cells i) (stored_from r.cells (i + 1)) (λ t. eqb t.target i)
-    (stored_split r.cells i x (get_at r.cells i x at) on) r.transfers in
+    (stored_split r.cells i x at on) r.transfers in
     let c : next_cost x ≡ 5 = ap (λ b. if b then 5 else 0) on in omega (arith, a, b, c)
 
 left_other : (r : Rtl) (i : ℕ) (x : cells.Cell) → IsAt r.cells i x → is_stored_bit x ≡ false
     → next_left r i ≡ next_left r (i + 1)
 left_other r i x at off =
-    let a = sum_drop next_cost r.cells i x (get_at r.cells i x at) in
-    let b = other_same r.cells i x (get_at r.cells i x at) off r.transfers in
+    let a = sum_drop next_cost r.cells i x at in
+    let b = other_same r.cells i x at off r.transfers in
     let c : next_cost x ≡ 0 = ap (λ b. if b then 5 else 0) off in omega (arith, a, b, c)
 
 -- ---- before the first cell

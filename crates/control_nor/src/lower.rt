@@ -8,6 +8,7 @@ ghost use Rattle.bit_gates.specs.Adding.{HasRoom};
 ghost use Rattle.control_nor.specs.Lowering.{IsLowered};
 ghost use Rattle.control_nor.specs.NextValues.{AreNextValues, AreWaiting, next_left};
 ghost use Rattle.bit_gates.specs.Rails.{AllBelow, IsNamed, net_of as the_net_of};
+ghost use Rattle.mp_base.specs.declared.limits.TheConstants.{WEIGHT_LIMIT};
 
 use crate::first::{First, lower_all_first, no_bits};
 use crate::names::{Bits, Names};
@@ -71,7 +72,7 @@ fn nets_of(alloc: Global, bits: &[Option<Rails>]) -> Result<List<Option<NetId>>,
 /// `NoMemory`: then some of the nets may have been added.
 pub fn lower_bits(alloc: Global, rtl: &Rtl, net: &mut Net) -> Result<Names, NoMemory>
     requires sound { IsSound rtl.now }
-    requires small { cost rtl.now ≤ 1024 }
+    requires small { cost rtl.now ≤ WEIGHT_LIMIT }
     requires room { length net.old + 2 * cost rtl.now < net_limit }
     requires inputs_room { gate_inputs net.old + 4 * cost rtl.now < net_limit }
     ensures { IfOk result (λ names. IsLowered rtl.now net.old net.new names) }

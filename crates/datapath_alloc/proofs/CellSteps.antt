@@ -10,7 +10,7 @@ use Rattle.rtl_form.specs.declared.rtl.CellKind.{CellKind}
 use Rattle.rtl_form.specs.declared.rtl.CellKind.TheVariants as kinds
 use Rattle.rtl_form.specs.declared.rtl.Rtl.{Rtl}
 use Rattle.mp_base.specs.Entries.{IsAt}
-use Rattle.mp_base.proofs.ListEntries.{one_entry}
+use Rattle.mp_base.proofs.Entries.{one_entry}
 use Rattle.rtl_form.specs.Environment.{is_driven}
 use Rattle.control_nor.specs.declared.names.Names.{Names}
 use Rattle.task_schedule.specs.declared.task.Task.TheVariants as tasks

@@ -10,8 +10,7 @@ use Rattle.std.proofs.lemmas.List.{take_all}
 use Rattle.std.proofs.lemmas.List.Sums.{sum_by-cons, sum_by-le-sum_by, sum_by-take-le, sum_by_more}
 use Rattle.std.proofs.lemmas.Map.Keys.{any_passes_from_place}
 use Rattle.mp_base.specs.declared.pad.Pad.{Pad}
-use Rattle.mp_base.proofs.Entries.{any_found}
-use Rattle.mp_base.proofs.ListEntries.{one_entry, get_at}
+use Rattle.mp_base.proofs.Entries.{any_found, one_entry, within}
 use Rattle.nor_net.specs.declared.net.Part.{Part}
 use Rattle.nor_net.specs.declared.net.Part.TheVariants as parts
 use Rattle.rtl_form.specs.declared.rtl.Cell as cells
@@ -220,7 +219,7 @@ module _ (r : Rtl) where
     code_below : (t : ℕ) (task : Task) → slice_get list t ≡ Some task
         → code task < length r.exprs + length r.cells
     code_below t (tasks.Expr e) is = let l = schedule.only t (tasks.Expr e) is in omega (arith, l)
-    code_below t (tasks.Cell c) is = let l = (schedule.only t (tasks.Cell c) is).1.0 in omega (arith, l)
+    code_below t (tasks.Cell c) is = let l = within r.cells c (schedule.only t (tasks.Cell c) is).1 in omega (arith, l)
 
     same_code : (s t : ℕ) (x y : Task) → slice_get list s ≡ Some x → slice_get list t ≡ Some y → code x ≡ code y
         → x ≡ y
@@ -356,7 +355,7 @@ module _ (r : Rtl) where
               (one_entry (r.pads).inputs h.1 fits.0 h.2 fits.1 h.5) ∙ eq-eqb h.2.width 0 h.6) in
               let less : word_cell h.0 ≡ 0 = ap (λ b. if b then cell_cost h.0.kind else 0) bit in
               let two : all_cell h.0 ≡ 2 = ap cell_cost h.4 in
-              sum_slack word_cell all_cell 1 r.cells n h.0 (get_at r.cells n h.0 h.3) word_less
+              sum_slack word_cell all_cell 1 r.cells n h.0 h.3 word_less
               (omega (arith, less, two))
 
           by_reset : (o : Option ℕ) → r.reset ≡ o → IsSome o → sum_by word_cell r.cells + 1 ≤ sum_by all_cell r.cells

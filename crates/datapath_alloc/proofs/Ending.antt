@@ -17,7 +17,7 @@ use Rattle.rtl_form.specs.declared.rtl.RtlExpr.TheVariants.{Number, Truth, Cell,
 use Rattle.rtl_form.specs.declared.rtl.Rtl.{Rtl}
 use Rattle.rtl_form.specs.Cost.{cost}
 use Rattle.mp_base.specs.Entries.{IsAt}
-use Rattle.mp_base.proofs.ListEntries.{one_entry, get_at}
+use Rattle.mp_base.proofs.Entries.{one_entry, within}
 use Rattle.rtl_form.specs.Environment.{is_driven, is_stored}
 use Rattle.rtl_form.specs.Sound.{CellFits}
 use Rattle.control_nor.specs.declared.names.Names.{Names}
@@ -39,7 +39,7 @@ module _ (r : Rtl) (bits : List Part) (names : Names) (m : Making)
   -- where something is stored there is a reset
   reset_is : (c : ℕ) → IsWordOf r c kinds.Stored → (reset : ℕ) × (r.reset ≡ Some reset)
   reset_is c w = by_reset r.reset refl (p.given.sound.resets
-      (any_passes_from_place (λ (x : cells.Cell). is_stored x.kind) r.cells c w.0 (get_at r.cells c w.0 w.1)
+      (any_passes_from_place (λ (x : cells.Cell). is_stored x.kind) r.cells c w.0 w.1
       (ap is_stored w.2)))
     where
       by_reset : (o : Option ℕ) → r.reset ≡ o → IsSome o → (reset : ℕ) × (r.reset ≡ Some reset)
@@ -52,21 +52,21 @@ module _ (r : Rtl) (bits : List Part) (names : Names) (m : Making)
       all_done r bits names p.given.sound p.given.lowered (tasks.Cell c) (x, at, driven)
 
   pub done_expr : (e : ℕ) (x : RtlExpr) → IsAt r.exprs e x → IsDone names (length names.tasks) (tasks.Expr e)
-  done_expr e x at = all_done r bits names p.given.sound p.given.lowered (tasks.Expr e) at.0
+  done_expr e x at = all_done r bits names p.given.sound p.given.lowered (tasks.Expr e) (within r.exprs e at)
 
   pub word_cell : (c : ℕ) (x : cells.Cell) → IsAt r.cells c x → x.word ≡ true
       → (id : NetId) × Stands m.cell_words c id
   word_cell c x at word = by_kind x.kind refl
     where
       by_kind : (kind : CellKind) → x.kind ≡ kind → (id : NetId) × Stands m.cell_words c id
-      by_kind (kinds.Input k) is = let h = p.cells.ports c k at.0 (x, at, is, word) in (h.0, h.2)
+      by_kind (kinds.Input k) is = let h = p.cells.ports c k (within r.cells c at) (x, at, is, word) in (h.0, h.2)
       by_kind (kinds.Output k) is =
           let d = ap is_driven is in let h = p.cells.driven c (x, at, d, word) (done_cell c x at d) in (h.0, h.1)
       by_kind kinds.Inner is =
           let d = ap is_driven is in let h = p.cells.driven c (x, at, d, word) (done_cell c x at d) in (h.0, h.1)
       by_kind kinds.Stored is =
           let n = reset_is c (x, at, is, word) in
-          let h = p.cells.stored c n.0 at.0 (x, at, is, word) n.1 in (h.0, h.1)
+          let h = p.cells.stored c n.0 (within r.cells c at) (x, at, is, word) n.1 in (h.0, h.1)
 
   pub cell_is_word : (c : ℕ) (x : cells.Cell) (id : NetId) → IsAt r.cells c x → Stands m.cell_words c id
       → x.word ≡ true
@@ -80,29 +80,28 @@ module _ (r : Rtl) (bits : List Part) (names : Names) (m : Making)
   pub cell_of : (k : ℕ) (pad : Pad) → IsAt (r.pads).inputs k pad
       → (c : ℕ) × (x : cells.Cell) × IsAt r.cells c x × (x.kind ≡ kinds.Input k) × (x.word ≡ not (pad.width == 0))
   cell_of k pad at =
-      let o = p.given.sound.input_cells k at.0 in
-      let f : CellFits r o.1.0 (kinds.Input k) = subst (CellFits r o.1.0) o.1.2
-      (p.given.sound.cells o.0 o.1.0 o.1.1) in (
-        o.0,
-        o.1.0,
-        o.1.1,
-        o.1.2,
+      let (c, (x, at_cell, kind), only) = p.given.sound.input_cells k (within (r.pads).inputs k at) in
+      let f : CellFits r x (kinds.Input k) = subst (CellFits r x) kind (p.given.sound.cells c x at_cell) in (
+        c,
+        x,
+        at_cell,
+        kind,
         f.2 ∙ ap (λ (q : Pad). not (q.width == 0))
             (one_entry (r.pads).inputs k f.0 pad f.1 at),
       )
 
   word_pad : (k : ℕ) (pad : Pad) → IsAt (r.pads).inputs k pad → pad.width ≢ 0 → (id : NetId) × Stands m.pads k id
   word_pad k pad at ne =
-      let c = cell_of k pad at in
-      let h = p.cells.ports c.0 k c.2.0 (c.1, c.2, c.3, c.4 ∙ ap not (ne_eqb pad.width 0 ne)) in
+      let (c, x, at_cell, kind, word) = cell_of k pad at in
+      let h = p.cells.ports c k (within r.cells c at_cell) (x, at_cell, kind, word ∙ ap not (ne_eqb pad.width 0 ne))
+      in
       (h.1, h.3)
 
   pad_is_word : (k : ℕ) (pad : Pad) (id : NetId) → IsAt (r.pads).inputs k pad → Stands m.pads k id → pad.width ≢ 0
   pad_is_word k pad id at s z =
-      let o = p.cells.pads k id s in
-      let f : CellFits r o.2.0 (kinds.Input k) = subst (CellFits r o.2.0) o.2.2
-      (p.given.sound.cells o.0 o.2.0 o.2.1) in
-      true≢false (sym o.2.3 ∙ (f.2 ∙ (ap (λ (q : Pad). not (q.width == 0))
+      let (c, below, (x, at_cell, kind, word)) = p.cells.pads k id s in
+      let f : CellFits r x (kinds.Input k) = subst (CellFits r x) kind (p.given.sound.cells c x at_cell) in
+      true≢false (sym word ∙ (f.2 ∙ (ap (λ (q : Pad). not (q.width == 0))
       (one_entry (r.pads).inputs k f.0 pad f.1 at) ∙ ap not (eq-eqb pad.width 0 z))))
 
   -- ---- lifts
@@ -145,7 +144,8 @@ module _ (r : Rtl) (bits : List Part) (names : Names) (m : Making)
     pads = word_pad;
     pad_count = p.begun.pad_count;
     bit_pads = pad_is_word;
-    fed = λ n u. let o = p.cells.unfed n u in let a = o.2 in let b = o.3.1.0 in omega (arith, a, b);
+    fed = λ n u. let o = p.cells.unfed n u in let a = o.2 in let w = o.3 in let b = within r.cells o.0 w.1 in
+        omega (arith, a, b);
     entries = λ e x id at h s. lift_of e x id at h (subst (λ (n : Names). Stands n.exprs e id) p.begun.names s);
     lifted = λ l c. let o = p.exprs.lifts l c in
         (o.0, o.1, o.2, o.3, subst (λ (n : Names). Stands n.exprs o.0 l.control) (sym p.begun.names) o.4);

@@ -3,7 +3,7 @@ use Rattle.std.proofs.Common.{◌≡◌, ℕ, suc, List, [], Some, true, false, 
 use Rattle.nor_net.specs.Machine.{Stores, Ports}
 use Rattle.std.specs.Prelude.{Contains, not, slice_get, slice_index_or}
 use Rattle.std.proofs.lemmas.Bool.{eq-eqb, or_left}
-use Rattle.std.proofs.lemmas.Option.{same_Some}
+use Rattle.std.proofs.lemmas.Option.{same_Some, slice_get_within}
 use Rattle.std.proofs.lemmas.Map.Keys.{any_passes_from_place}
 use Rattle.mp_base.specs.declared.op.Op.{Op}
 use Rattle.mp_base.specs.declared.op.Op.TheVariants as ops
@@ -20,7 +20,7 @@ use Rattle.rtl_form.specs.declared.rtl.RtlExpr.TheVariants.{Number, Cell, Apply}
 use Rattle.rtl_form.specs.declared.rtl.Rtl.{Rtl}
 use Rattle.rtl_form.specs.Cost.{cost}
 use Rattle.mp_base.specs.Entries.{IsAt}
-use Rattle.mp_base.proofs.ListEntries.{one_entry}
+use Rattle.mp_base.proofs.Entries.{one_entry}
 use Rattle.rtl_form.specs.Environment.{is_driven}
 use Rattle.rtl_form.specs.Operands.{takes_words}
 use Rattle.rtl_form.specs.Sound.{IsSort}
@@ -93,7 +93,8 @@ module _ (r : Rtl) (bits : List Part) (names : Names) (was : Making) (d : DataPa
       → r.reset ≡ Some reset → Stands m.cell_words c id
       → StoredWord r d.slices d.casts names m.words c reset id
   stored_words c reset x id at is res on =
-      let h = p.cells.stored c reset at.0 (x, at, is, cell_is_word r bits names m p c x id at on) res in
+      let inside = slice_get_within r.cells c x at in
+      let h = p.cells.stored c reset inside (x, at, is, cell_is_word r bits names m p c x id at on) res in
       subst (StoredWord r d.slices d.casts names m.words c reset) (one_stands m.cell_words c h.0 id h.1 on) h.2
 
   driven_words : (c : ℕ) (x : cells.Cell) (id : NetId) → IsAt r.cells c x → is_driven x.kind ≡ true
@@ -140,7 +141,8 @@ module _ (r : Rtl) (bits : List Part) (names : Names) (was : Making) (d : DataPa
       → Stands m.cell_words c id → slice_get d.inputs k ≡ Some pad
       → InputWord d.slices.net id pad
   input_words c k x id pad at is on to =
-      let h = p.cells.ports c k at.0 (x, at, is, cell_is_word r bits names m p c x id at on) in
+      let inside = slice_get_within r.cells c x at in
+      let h = p.cells.ports c k inside (x, at, is, cell_is_word r bits names m p c x id at on) in
       let same_pad = same_Some h.1 pad (sym (fin.word_inputs k h.1 h.3) ∙ to) in
       subst (λ q. InputWord d.slices.net id q) same_pad
       (subst (λ i. InputWord d.slices.net i h.1)

@@ -7,7 +7,7 @@ use Rattle.std.proofs.lemmas.Bool.{true≢false}
 use Rattle.std.proofs.lemmas.Option.{same_Some, slice_get-get_or, slice_get_within}
 use Rattle.std.proofs.lemmas.List.{length-set}
 use Rattle.mp_base.specs.declared.op.Op.{Op}
-use Rattle.mp_base.proofs.Entries.{get_set_same}
+use Rattle.mp_base.proofs.Entries.{get_set_same, one_entry, within}
 use Rattle.nor_net.specs.declared.net.NetId.{NetId}
 use Rattle.nor_net.specs.declared.net.Part.{Part}
 use Rattle.rtl_form.specs.declared.rtl.Cell as cells
@@ -17,7 +17,6 @@ use Rattle.rtl_form.specs.declared.rtl.RtlExpr.{RtlExpr}
 use Rattle.rtl_form.specs.declared.rtl.RtlExpr.TheVariants.{Truth, Cell, Apply}
 use Rattle.rtl_form.specs.declared.rtl.Rtl.{Rtl}
 use Rattle.mp_base.specs.Entries.{IsAt}
-use Rattle.mp_base.proofs.ListEntries.{one_entry}
 use Rattle.rtl_form.specs.Environment.{is_driven}
 use Rattle.rtl_form.specs.Operands.{gives_word, takes_words}
 use Rattle.control_nor.specs.declared.names.Names.{Names}
@@ -78,22 +77,23 @@ module _ (r : Rtl) (bits : List Part) (names : Names) (m : Making) (t : ℕ)
   cell_word c x at word done = by_kind x.kind refl
     where
       by_kind : (kind : CellKind) → x.kind ≡ kind → (id : NetId) × Stands m.cell_words c id
-      by_kind (kinds.Input k) is = let h = p.cells.ports c k at.0 (x, at, is, word) in (h.0, h.2)
+      by_kind (kinds.Input k) is = let h = p.cells.ports c k (within r.cells c at) (x, at, is, word) in (h.0, h.2)
       by_kind (kinds.Output k) is =
           let d = ap is_driven is in let h = p.cells.driven c (x, at, d, word) (done d) in (h.0, h.1)
       by_kind kinds.Inner is =
           let d = ap is_driven is in let h = p.cells.driven c (x, at, d, word) (done d) in (h.0, h.1)
-      by_kind kinds.Stored is = let h = p.cells.waiting c at.0 (omega arith) (x, at, is, word) in (h.0, h.1)
+      by_kind kinds.Stored is =
+          let h = p.cells.waiting c (within r.cells c at) (omega arith) (x, at, is, word) in (h.0, h.1)
 
   module _ (e c : ℕ) (is : slice_get names.tasks t ≡ Some (tasks.Expr e)) (at : IsAt r.exprs e (Cell c)) where
     abbrev entry : Option NetId
     entry = slice_index_or m.cell_words c None
 
-    within : c < length m.cell_words
-    within = let l = p.given.sound.exprs e (Cell c) at in let n = p.begun.cell_count in omega (arith, l, n)
+    inside : c < length m.cell_words
+    inside = let l = p.given.sound.exprs e (Cell c) at in let n = p.begun.cell_count in omega (arith, l, n)
 
     entry_is : slice_get m.cell_words c ≡ Some entry
-    entry_is = slice_get-get_or m.cell_words c None within
+    entry_is = slice_get-get_or m.cell_words c None inside
 
     free : IsFree m.words e
     free = free_word r bits names p.given.sound p.given.lowered m t e is p.begun p.exprs

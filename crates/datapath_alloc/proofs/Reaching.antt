@@ -5,7 +5,7 @@ use Rattle.datapath_making.proofs.Lists.{times_entry}
 use Rattle.task_schedule.specs.Schedule.{IsTask}
 use Rattle.std.specs.Prelude.{All, Contains, IfSome, MatchBool, ◌==◌, not, slice_get, slice_index_or}
 use Rattle.std.proofs.lemmas.Bool.{eq-eqb, eqb-true, true≢false, cases_eq}
-use Rattle.std.proofs.lemmas.Option.{slice_get_within, get_or_from_slice_get}
+use Rattle.std.proofs.lemmas.Option.{slice_get_within}
 use Rattle.std.proofs.lemmas.List.Elements.{All-filter, Contains-get_or, filter_passes}
 use Rattle.mp_base.specs.declared.op.Op.{Op}
 use Rattle.mp_base.specs.declared.pad.Pad.{Pad}
@@ -20,7 +20,7 @@ use Rattle.rtl_form.specs.declared.rtl.RtlExpr.TheVariants.{Number, Truth, Cell,
 use Rattle.rtl_form.specs.declared.rtl.Transfer.{Transfer}
 use Rattle.rtl_form.specs.declared.rtl.Rtl.{Rtl}
 use Rattle.mp_base.specs.Entries.{IsAt}
-use Rattle.mp_base.proofs.ListEntries.{one_entry}
+use Rattle.mp_base.proofs.Entries.{contains_from_get, one_entry, within}
 use Rattle.rtl_form.specs.Environment.{is_driven}
 use Rattle.rtl_form.specs.Operands.{takes_words}
 use Rattle.rtl_form.specs.Sound.{CellFits, HasSort, IsReset, IsSort, IsSound}
@@ -46,8 +46,8 @@ never n ids h = by_count (times n ids) refl
     by_count : (k : ℕ) → times n ids ≡ k → times n ids ≡ 0
     by_count zero e = e
     by_count (suc k) e =
-        let a = times_entry n ids (omega (arith, e)) in
-        absurd (h a.1 (a.0, slice_get_within ids a.0 a.1 a.2, get_or_from_slice_get ids a.0 a.1 a.1 a.2) a.3)
+        let (place, id, at, same) = times_entry n ids (omega (arith, e)) in
+        absurd (h id (contains_from_get ids place id at) same)
 
 -- an entry without a net is free
 pub free_or_not : (entries : List (Option NetId)) (k : ℕ) → k < length entries
@@ -94,7 +94,7 @@ module _ (r : Rtl) (bits : List Part) (names : Names) (sound : IsSound r) (low :
         → IsAt r.cells c x → is_driven x.kind ≡ true → IsBegun r bits names m → AreCellsMade r names i t j m
         → IsFree m.cell_words c
     free_cell i t j c x is at driven b h =
-        free_or_not m.cell_words c (let l = at.0 in let n = b.cell_count in omega (arith, l, n))
+        free_or_not m.cell_words c (let l = within r.cells c at in let n = b.cell_count in omega (arith, l, n))
         (λ id s. let o = h.only c id s in
         not_done t (tasks.Cell c) is (subst (λ b. MatchBool b (IsDone names t (tasks.Cell c)) (c < i))
         (ap (λ (y : cells.Cell). is_driven y.kind) (one_entry r.cells c o.0 x o.1 at) ∙ driven) o.3))
@@ -102,7 +102,7 @@ module _ (r : Rtl) (bits : List Part) (names : Names) (sound : IsSound r) (low :
     pub free_first : (i t j : ℕ) (x : cells.Cell) → IsAt r.cells i x → is_driven x.kind ≡ false
         → IsBegun r bits names m → AreCellsMade r names i t j m → IsFree m.cell_words i
     free_first i t j x at driven b h =
-        free_or_not m.cell_words i (let l = at.0 in let n = b.cell_count in omega (arith, l, n))
+        free_or_not m.cell_words i (let l = within r.cells i at in let n = b.cell_count in omega (arith, l, n))
         (λ id s. let o = h.only i id s in
         let l = subst (λ b. MatchBool b (IsDone names t (tasks.Cell i)) (i < i))
         (ap (λ (y : cells.Cell). is_driven y.kind) (one_entry r.cells i o.0 x o.1 at) ∙ driven) o.3 in
@@ -112,13 +112,13 @@ module _ (r : Rtl) (bits : List Part) (names : Names) (sound : IsSound r) (low :
         → AreCellsMade r names i t j m → IsFree m.pads k
     free_pad i t j k w b h =
         let fits = subst (CellFits r w.0) w.2 (sound.cells i w.0 w.1) in
-        let pad_in = fits.1.0 in
+        let pad_in = within (r.pads).inputs k fits.1 in
         let only = sound.input_cells k pad_in in
         free_or_not m.pads k (let n = b.pad_count in omega (arith, pad_in, n))
-        (λ pad s. let o = h.pads k pad s in
-        let a = only.2 o.0 o.2.0 o.2.1 o.2.2 in
+        (λ pad s. let (c, below, (x, at, kind, word)) = h.pads k pad s in
+        let a = only.2 c x at kind in
         let d = only.2 i w.0 w.1 w.2 in
-        let l = o.1 in omega (arith, a, d, l))
+        omega (arith, a, d, below))
 
     -- ---- what is made
 
@@ -137,7 +137,7 @@ module _ (r : Rtl) (bits : List Part) (names : Names) (sound : IsSound r) (low :
         let fits = sound.exprs e (Apply op index args) at in
         let arg = fits.2 a c in
         let reads = low.placed.schedule.after t (tasks.Expr e) (tasks.Expr a) is (Apply op index args, at, c)
-        (let l = arg.0 in let n = at.0 in omega (arith, l, n)) in
+        (let l = arg.0 in let n = within r.exprs e at in omega (arith, l, n)) in
         (reads, arg.1)
 
     module _ (t : ℕ) (made : IsWellMade m) (slices : (last_mark m).slices ≡ length m.slices.net)
@@ -147,9 +147,9 @@ module _ (r : Rtl) (bits : List Part) (names : Names) (sound : IsSound r) (low :
           → slice_get names.tasks t ≡ Some (tasks.Expr e) → IsAt r.exprs e (Apply op index args)
           → takes_words op ≡ true → Contains args a → IsReached m a
       arg_reached e a op index args is at takes c =
-          let d = arg_done t e a op index args is at c in
-          let sort = subst (IsSort r.cells d.1.0) takes d.1.2 in
-          let w = word_of a d.1.0 (h.exprs a d.1.0 d.1.1 d.0) sort in
+          let (arg_is_done, (x, at_arg, sort_of)) = arg_done t e a op index args is at c in
+          let sort = subst (IsSort r.cells x) takes sort_of in
+          let w = word_of a x (h.exprs a x at_arg arg_is_done) sort in
           (w.0, w.1, (let l = made.named.words_in a w.0 w.1 in omega (arith, l, slices)))
 
       pub args_reached : (e : ℕ) (op : Op) (index : ℕ) (args : List ℕ)
@@ -198,15 +198,15 @@ module _ (r : Rtl) (bits : List Part) (names : Names) (sound : IsSound r) (low :
       where
         one : (tr : Transfer) → Contains r.transfers tr → tr.target ≡ c → IsTransferReached m tr
         one tr in_list to =
-            let fits = sound.transfers tr in_list in
-            let both = done tr in_list to in
-            let target = subst (λ n. IsAt r.cells n fits.1.0) to fits.1.1 in
+            let (guard, (cell, at_cell, value, no_input)) = sound.transfers tr in_list in
+            let (value_done, (s, s_below, s_is)) = done tr in_list to in
+            let target = subst (λ n. IsAt r.cells n cell) to at_cell in
             let sort = subst (λ b. HasSort r tr.value b) (ap (λ (y : cells.Cell). y.word)
-            (one_entry r.cells c fits.1.0 x target at) ∙ word) fits.1.2 in
-            let w = word_of tr.value sort.0 (h.exprs tr.value sort.0 sort.1 both.0) sort.2 in
-            let on = (low.expr_names tr.guard fits.0.0 fits.0.1).0 fits.0.2 in
-            let below = low.placed.exprs both.1.0 tr.guard on.0 both.1.2 on.1 in
-            let grows = before_grows (suc both.1.0) t (let q = both.1.1 in omega (arith, q)) l in (
+            (one_entry r.cells c cell x target at) ∙ word) value in
+            let w = word_of tr.value sort.0 (h.exprs tr.value sort.0 sort.1 value_done) sort.2 in
+            let on = (low.expr_names tr.guard guard.0 guard.1).0 guard.2 in
+            let below = low.placed.exprs s tr.guard on.0 s_is on.1 in
+            let grows = before_grows (suc s) t (omega (arith, s_below)) l in (
               w,
               subst (λ (n : Names). IsBitReached m n.exprs tr.guard) (sym begun.names)
                   (on.0, on.1, omega (arith, below, grows, control)),
@@ -218,9 +218,11 @@ module _ (r : Rtl) (bits : List Part) (names : Names) (sound : IsSound r) (low :
       → Contains r.transfers tr → tr.target ≡ c
       → IsDone names t (tasks.Expr tr.value) × IsDone names t (tasks.Expr tr.guard)
   cell_reads t c is tr in_list to =
-      let fits = sound.transfers tr in_list in (
-        low.placed.schedule.after t (tasks.Cell c) (tasks.Expr tr.value) is (tr, in_list, to, inr refl) fits.1.2.1.0,
-        low.placed.schedule.after t (tasks.Cell c) (tasks.Expr tr.guard) is (tr, in_list, to, inl refl) fits.0.1.0,
+      let (guard, (cell, at_cell, value, no_input)) = sound.transfers tr in_list in (
+        low.placed.schedule.after t (tasks.Cell c) (tasks.Expr tr.value) is (tr, in_list, to, inr refl)
+            (within r.exprs tr.value value.1),
+        low.placed.schedule.after t (tasks.Cell c) (tasks.Expr tr.guard) is (tr, in_list, to, inl refl)
+            (within r.exprs tr.guard guard.1),
       )
 
   -- in the end all tasks are done
@@ -233,8 +235,10 @@ module _ (r : Rtl) (bits : List Part) (names : Names) (sound : IsSound r) (low :
       → IsDone names (length names.tasks) (tasks.Expr tr.value)
       × IsDone names (length names.tasks) (tasks.Expr tr.guard)
   all_read tr in_list =
-      let fits = sound.transfers tr in_list in
-      (all_done (tasks.Expr tr.value) fits.1.2.1.0, all_done (tasks.Expr tr.guard) fits.0.1.0)
+      let (guard, (cell, at_cell, value, no_input)) = sound.transfers tr in_list in (
+        all_done (tasks.Expr tr.value) (within r.exprs tr.value value.1),
+        all_done (tasks.Expr tr.guard) (within r.exprs tr.guard guard.1),
+      )
 
   -- the bit of reset stands before all tasks
   pub reset_reached : (m : Making) (reset : ℕ) → r.reset ≡ Some reset

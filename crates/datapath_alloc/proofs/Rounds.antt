@@ -6,7 +6,7 @@ use Rattle.std.specs.Prelude.{IsSome, ◌&&◌, ◌||◌, if◌then◌else◌, s
 use Rattle.std.specs.List.{list_any}
 use Rattle.std.specs.Option.{option_map_or}
 use Rattle.std.proofs.lemmas.Bool.{false≢true}
-use Rattle.std.proofs.lemmas.Option.{get_or_from_slice_get, none-some, same_Some, slice_get_within}
+use Rattle.std.proofs.lemmas.Option.{none-some, same_Some}
 use Rattle.std.proofs.lemmas.Map.Keys.{any_passes_from_place}
 use Rattle.nor_net.specs.declared.net.NetId.{NetId}
 use Rattle.nor_net.specs.declared.net.Part.{Part}
@@ -16,7 +16,7 @@ use Rattle.rtl_form.specs.declared.rtl.CellKind.{CellKind}
 use Rattle.rtl_form.specs.declared.rtl.CellKind.TheVariants as kinds
 use Rattle.rtl_form.specs.declared.rtl.Rtl.{Rtl}
 use Rattle.mp_base.specs.Entries.{IsAt}
-use Rattle.mp_base.proofs.ListEntries.{one_entry, get_at}
+use Rattle.mp_base.proofs.Entries.{one_entry}
 use Rattle.rtl_form.specs.Environment.{is_driven, is_stored}
 use Rattle.control_nor.specs.declared.names.Names.{Names}
 use Rattle.task_schedule.specs.declared.task.Task.{Task}
@@ -51,7 +51,7 @@ module _ (r : Rtl) (bits : List Part) (names : Names) (old new : Making) (i : �
     spends =
         let pays : first_cost r i ≡ latch_cost x.kind
         = ap (λ o. option_map_or (λ (y : cells.Cell). if y.word then latch_cost y.kind else 0) o 0)
-        (get_at r.cells i x at) ∙ ap (λ b. if b then latch_cost x.kind else 0) word in
+        at ∙ ap (λ b. if b then latch_cost x.kind else 0) word in
         spent_within _ _ _ _ new (omega (arith, pays, lc)) (omega arith)
         (spent_more _ _ c 0 old new p.spends step.spends);
     cleared = λ e. absurd (false≢true e);
@@ -116,13 +116,13 @@ stored_parts r c x at e = let p = parts x.word x.kind e in (x, at, p.1, p.0)
 module _ (r : Rtl) (j : ℕ) (w : IsWordOf r j kinds.Stored) where
   pub next_pays : next_cost r j ≡ 5 + 4 * writes r j
   next_pays = ap (λ o. option_map_or (λ (y : cells.Cell). if y.word then (if is_stored y.kind then 5 + 4 * writes r j
-      else 0) else 0) o 0) (get_at r.cells j w.0 w.1)
+      else 0) else 0) o 0) w.1
       ∙ (ap (λ b. if b then (if is_stored w.0.kind then 5 + 4 * writes r j else 0) else 0) w.3
       ∙ ap (λ k. if is_stored k then 5 + 4 * writes r j else 0) w.2)
 
   next_crosses : next_crossings r j ≡ writes r j
   next_crosses = ap (λ o. option_map_or (λ (y : cells.Cell). if y.word then (if is_stored y.kind then writes r j
-      else 0) else 0) o 0) (get_at r.cells j w.0 w.1)
+      else 0) else 0) o 0) w.1
       ∙ (ap (λ b. if b then (if is_stored w.0.kind then writes r j else 0) else 0) w.3
       ∙ ap (λ k. if is_stored k then writes r j else 0) w.2)
 
@@ -204,7 +204,7 @@ module _ (r : Rtl) (bits : List Part) (names : Names) (old new : Making) (i t j 
       clears = by_test (list_any is_stored_word (take j r.cells)) refl
         where
           now : (b : Bool) → list_any is_stored_word (take j r.cells) ≡ b → clear_cost r (suc j) ≡ 1
-          now b e = ap (λ b. if b then 1 else 0) (take_any is_stored_word r.cells j w.0 (get_at r.cells j w.0 w.1)
+          now b e = ap (λ b. if b then 1 else 0) (take_any is_stored_word r.cells j w.0 w.1
               ∙ (ap (λ c. list_any is_stored_word (take j r.cells) || c)
               (ap (λ b. b && is_stored w.0.kind) w.3 ∙ ap is_stored w.2)
               ∙ or_true (list_any is_stored_word (take j r.cells))))
@@ -244,7 +244,7 @@ no_next_done r bits names m i t j x p at none = record {
 }
   where
     any_same : list_any is_stored_word (take (suc j) r.cells) ≡ list_any is_stored_word (take j r.cells)
-    any_same = take_any is_stored_word r.cells j x (get_at r.cells j x at)
+    any_same = take_any is_stored_word r.cells j x at
         ∙ (ap (λ b. list_any is_stored_word (take j r.cells) || b) none ∙ or_false _)
       where
         or_false : (b : Bool) → (b || false) ≡ b
@@ -272,20 +272,12 @@ no_reset_done r bits names m i t none p = record {
   exprs = p.exprs;
   spends = spent_within _ _ _ _ m (omega arith) (omega arith) p.spends;
   cleared = λ e. let s = stored_word r e in
-      absurd (not_stored s.0 (
-        s.1,
-        (
-          slice_get_within r.cells s.0 s.1 s.2,
-          sym (get_or_from_slice_get r.cells s.0 s.1 s.1 s.2),
-        ),
-        s.4,
-        s.3,
-      ));
+      absurd (not_stored s.0 (s.1, s.2, s.4, s.3));
 }
   where
     not_stored : (c : ℕ) → IsWordOf r c kinds.Stored → ⊥
     not_stored c w = false≢true (subst IsSome none (p.given.sound.resets
-        (any_passes_from_place (λ (x : cells.Cell). is_stored x.kind) r.cells c w.0 (get_at r.cells c w.0 w.1)
+        (any_passes_from_place (λ (x : cells.Cell). is_stored x.kind) r.cells c w.0 w.1
         (ap is_stored w.2))))
 
 -- ---- room

@@ -9,6 +9,7 @@ use Rattle.rtl_form.specs.declared.rtl.RtlExpr.{RtlExpr}
 use Rattle.rtl_form.specs.declared.rtl.RtlExpr.TheVariants.{Number, Apply}
 use Rattle.rtl_form.specs.declared.rtl.Rtl.{Rtl}
 use Rattle.mp_base.specs.Entries.{IsAt}
+use Rattle.mp_base.proofs.Entries.{within}
 use Rattle.rtl_form.specs.Operands.{gives_word}
 use Rattle.control_nor.specs.declared.names.Names.{Names}
 use Rattle.task_schedule.specs.declared.task.Task.TheVariants as tasks
@@ -46,7 +47,8 @@ module _ (r : Rtl) (bits : List Part) (names : Names) (given : IsGiven r bits na
     (words : List (Option NetId)) (lifts : List Lift) (noted : AreNoted r names (length names.tasks) b words lifts)
   where
     noted_at : (e : ℕ) (x : RtlExpr) → IsAt r.exprs e x → IsExprNoted names b words lifts e x
-    noted_at e x at = noted e x at (all_done r bits names given.sound given.lowered (tasks.Expr e) at.0)
+    noted_at e x at =
+        noted e x at (all_done r bits names given.sound given.lowered (tasks.Expr e) (within r.exprs e at))
 
     has_args : (e : ℕ) (op : Op) (index : ℕ) (args : List ℕ) → IsAt r.exprs e (Apply op index args) → 0 < length args
     has_args e op index args at = some_taken op (length args) (given.sound.exprs e (Apply op index args) at).0

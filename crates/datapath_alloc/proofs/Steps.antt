@@ -1,11 +1,10 @@
 -- How far a path is made, when one step more is done.
 use Rattle.std.proofs.Common.{◌≡◌, ℕ, suc, ◌+◌, ◌<◌, ◌≤◌, ◌⊎◌, inl, inr, List, ◌++◌, Some, None, Bool, true, false, sym}
 use Rattle.std.proofs.Common.{◌∙◌, ap, subst, arith}
-use Rattle.std.proofs.lemmas.List.Elements.{All-contains}
-use Rattle.std.specs.Prelude.{All, Contains, MatchBool, slice_get, slice_set}
+use Rattle.std.specs.Prelude.{Contains, MatchBool, slice_get, slice_set}
 use Rattle.std.proofs.lemmas.Bool.{true≢false, cases_eq}
-use Rattle.std.proofs.lemmas.Option.{same_Some, slice_get_within, get_or_from_slice_get}
-use Rattle.mp_base.proofs.Entries.{get_kept}
+use Rattle.std.proofs.lemmas.Option.{same_Some}
+use Rattle.mp_base.proofs.Entries.{all_at, get_kept, one_entry}
 use Rattle.nor_net.specs.declared.net.NetId.{NetId}
 use Rattle.nor_net.specs.declared.net.Part.{Part}
 use Rattle.nor_net.specs.declared.net.Part.TheVariants.{Latch}
@@ -14,7 +13,6 @@ use Rattle.rtl_form.specs.declared.rtl.RtlExpr.{RtlExpr}
 use Rattle.rtl_form.specs.declared.rtl.RtlExpr.TheVariants.{Number, Truth, Cell, Apply}
 use Rattle.rtl_form.specs.declared.rtl.Rtl.{Rtl}
 use Rattle.mp_base.specs.Entries.{IsAt}
-use Rattle.mp_base.proofs.ListEntries.{one_entry}
 use Rattle.rtl_form.specs.Environment.{is_driven}
 use Rattle.rtl_form.specs.Sound.{IsSort}
 use Rattle.control_nor.specs.declared.names.Names.{Names}
@@ -60,17 +58,8 @@ pub unfed_back : (old new : List Part) → Appends old new → (n : ℕ) → IsU
 unfed_back old new a n u =
     elim (get_cases old a.0 n (Latch u.0 None) (ap (λ ps. slice_get ps n) (sym a.1) ∙ u.1)) [
       | inl h ↦ (u.0, h.1)
-      | inr h ↦ absurd (true≢false (sym (fed_at a.0 h.0 (Latch u.0 None) a.2 h.2)))
+      | inr h ↦ absurd (true≢false (sym (all_at (λ q. is_fed q ≡ true) a.0 h.0 (Latch u.0 None) a.2 h.2)))
     ]
-  where
-    fed_at : (parts : List Part) (i : ℕ) (q : Part) → All (λ q. is_fed q ≡ true) parts → slice_get parts i ≡ Some q
-        → is_fed q ≡ true
-    fed_at parts i q h e =
-        All-contains (λ q. is_fed q ≡ true) parts q h (
-          i,
-          slice_get_within parts i q e,
-          get_or_from_slice_get parts i q q e,
-        )
 
 pub waiting_kept : (old more new : List Part) (id : NetId) → new ≡ old ++ more → IsWaiting old id → IsWaiting new id
 waiting_kept old more new id e h = record {

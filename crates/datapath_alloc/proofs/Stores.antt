@@ -3,7 +3,7 @@ use Rattle.std.proofs.Common.{◌≡◌, ℕ, suc, ◌<◌, ◌≤◌, ◌⊎◌
 use Rattle.std.proofs.Common.{length, refl, sym, ◌∙◌, ap, subst, arith}
 use Rattle.std.specs.Prelude.{if◌then◌else◌, ◌&&◌, nat_lt, option_and_then, slice_get}
 use Rattle.std.proofs.lemmas.Bool.{and_parts, cases_lt, false≢true, lt-ltb, ltb-true}
-use Rattle.std.proofs.lemmas.Option.{get_or_from_slice_get, none-some, slice_get_within}
+use Rattle.std.proofs.lemmas.Option.{none-some}
 use Rattle.nor_net.specs.declared.net.NetId.{NetId}
 use Rattle.nor_net.specs.declared.net.Part.{Part}
 use Rattle.nor_net.specs.declared.net.Part.TheVariants.{Gate, Latch}
@@ -16,7 +16,7 @@ use Rattle.rtl_form.specs.declared.rtl.CellKind.{CellKind}
 use Rattle.rtl_form.specs.declared.rtl.CellKind.TheVariants as kinds
 use Rattle.rtl_form.specs.declared.rtl.Rtl.{Rtl}
 use Rattle.mp_base.specs.Entries.{IsAt}
-use Rattle.mp_base.proofs.ListEntries.{one_entry, get_at}
+use Rattle.mp_base.proofs.Entries.{one_entry, within}
 use Rattle.rtl_form.specs.Environment.{is_stored}
 use Rattle.rtl_form.specs.Sound.{CellFits, IsSound}
 use Rattle.control_nor.specs.declared.names.Names.{Names}
@@ -108,7 +108,7 @@ module _ (r : Rtl) (control : List Part) (s : SliceNet) (bits words : List (Opti
         → stores_of c k ≡ Some (if x.word then store_at (suc k) s.net (of_entry (slice_get words c))
         else store_at 0 control (of_entry (slice_get bits c)))
     found_cell k l =
-        ap (option_and_then (cell_store c k)) (get_at r.cells c x at)
+        ap (option_and_then (cell_store c k)) at
         ∙ ap (λ b. if b then Some (if x.word then store_at (suc k) s.net (of_entry (slice_get words c))
         else store_at 0 control (of_entry (slice_get bits c))) else None)
         (ap (λ b. b && nat_lt k (cell_bits r x)) (ap is_stored is) ∙ lt-ltb k (cell_bits r x) l)
@@ -145,7 +145,7 @@ module _ (r : Rtl) (control : List Part) (s : SliceNet) (bits words : List (Opti
       by_entry (Some x) q h =
           let both = and_parts (is_stored x.kind) (nat_lt k (cell_bits r x)) (admitted _ _ b h) in (
             x,
-            (slice_get_within r.cells c x q, sym (get_or_from_slice_get r.cells c x x q)),
+            q,
             stored x.kind both.0,
             ltb-true k (cell_bits r x) both.1,
           )
@@ -169,8 +169,9 @@ module _ (r : Rtl) (control : List Part) (s : SliceNet) (bits words : List (Opti
     ports_of i k = port_of i k (cases_lt i (length (r.pads).inputs))
 
     module _ (c i : ℕ) (x : cells.Cell) (at : IsAt r.cells c x) (is : x.kind ≡ kinds.Input i) where
-      within : i < length (r.pads).inputs
-      within = let f : CellFits r x (kinds.Input i) = subst (CellFits r x) is (sound.cells c x at) in f.1.0
+      inside : i < length (r.pads).inputs
+      inside = let f : CellFits r x (kinds.Input i) = subst (CellFits r x) is (sound.cells c x at) in
+          within (r.pads).inputs i f.1
 
       found_port : (k : ℕ) → ports_of i k ≡ cell_port i k c x
       found_port k = by_side (cases_lt i (length (r.pads).inputs))
@@ -178,12 +179,11 @@ module _ (r : Rtl) (control : List Part) (s : SliceNet) (bits words : List (Opti
           by_side : (o : (i < length (r.pads).inputs) ⊎ (length (r.pads).inputs ≤ i))
               → port_of i k o ≡ cell_port i k c x
           by_side (inl l) =
-              let w = sound.input_cells i l in
-              let same : c ≡ w.0 = w.2 c x at is in
-              let there = subst (λ n. IsAt r.cells n w.1.0) (sym same) w.1.1 in
-              ap (λ n. cell_port i k n w.1.0) (sym same)
-              ∙ ap (cell_port i k c) (one_entry r.cells c w.1.0 x there at)
-          by_side (inr l) = absurd (let h = within in omega (arith, l, h))
+              let (d, (y, at_cell, kind), only) = sound.input_cells i l in
+              let same : c ≡ d = only c x at is in
+              let there = subst (λ n. IsAt r.cells n y) (sym same) at_cell in
+              ap (λ n. cell_port i k n y) (sym same) ∙ ap (cell_port i k c) (one_entry r.cells c y x there at)
+          by_side (inr l) = absurd (let h = inside in omega (arith, l, h))
 
       pub word_port_at : (k : ℕ) (id pad : NetId) → x.word ≡ true → Stands words c id → slice_get inputs i ≡ Some pad
           → k < r.width → ports_of i k ≡ Some (port_at (suc k) id pad)
@@ -217,6 +217,6 @@ module _ (r : Rtl) (control : List Part) (s : SliceNet) (bits words : List (Opti
         by_side : (o : (i < length (r.pads).inputs) ⊎ (length (r.pads).inputs ≤ i)) → port_of i k o ≡ Some q
             → (c : ℕ) × (x : cells.Cell) × IsAt r.cells c x × (x.kind ≡ kinds.Input i) × (k < cell_bits r x)
         by_side (inl l) h =
-            let w = sound.input_cells i l in
-            (w.0, w.1.0, w.1.1, w.1.2, ltb-true k (cell_bits r w.1.0) (admitted _ _ q h))
+            let (c, (x, at, kind), only) = sound.input_cells i l in
+            (c, x, at, kind, ltb-true k (cell_bits r x) (admitted _ _ q h))
         by_side (inr l) h = absurd (none-some q h)

@@ -9,7 +9,7 @@ use Rattle.std.proofs.lemmas.Option.{none-some, same_Some, slice_get_within}
 use Rattle.std.proofs.lemmas.List.Elements.{Contains-push, Contains-push_cases}
 use Rattle.mp_base.specs.declared.op.Op.{Op}
 use Rattle.mp_base.specs.declared.op.Op.TheVariants as ops
-use Rattle.mp_base.proofs.Entries.{get_set_same, get_set_other}
+use Rattle.mp_base.proofs.Entries.{get_set_same, get_set_other, one_entry}
 use Rattle.nor_net.specs.declared.net.NetId.{NetId}
 use Rattle.nor_net.specs.declared.net.Part.{Part}
 use Rattle.rtl_form.specs.declared.rtl.Cell as cells
@@ -18,7 +18,6 @@ use Rattle.rtl_form.specs.declared.rtl.RtlExpr.TheVariants.{Number, Apply}
 use Rattle.rtl_form.specs.declared.rtl.Rtl.{Rtl}
 use Rattle.rtl_form.specs.Cost.{expr_cost, op_cost}
 use Rattle.mp_base.specs.Entries.{IsAt}
-use Rattle.mp_base.proofs.ListEntries.{one_entry, get_at}
 use Rattle.rtl_form.specs.Environment.{is_driven}
 use Rattle.rtl_form.specs.Operands.{gives_word, takes_words}
 use Rattle.rtl_form.specs.Sound.{IsSort}
@@ -69,13 +68,13 @@ module _ (r : Rtl) (c : ℕ) (x : cells.Cell) (at : IsAt r.cells c x) (word : x.
     (driven : is_driven x.kind ≡ true) where
   pub driven_pays : driven_cost r c ≡ 2 + 4 * writes r c
   driven_pays = ap (λ o. option_map_or (λ (y : cells.Cell). if y.word then (if is_driven y.kind then 2 + 4 * writes r c
-      else 0) else 0) o 0) (get_at r.cells c x at)
+      else 0) else 0) o 0) at
       ∙ (ap (λ b. if b then (if is_driven x.kind then 2 + 4 * writes r c else 0) else 0) word
       ∙ ap (λ b. if b then 2 + 4 * writes r c else 0) driven)
 
   driven_crosses : driven_crossings r c ≡ writes r c
   driven_crosses = ap (λ o. option_map_or (λ (y : cells.Cell). if y.word then (if is_driven y.kind then writes r c
-      else 0) else 0) o 0) (get_at r.cells c x at)
+      else 0) else 0) o 0) at
       ∙ (ap (λ b. if b then (if is_driven x.kind then writes r c else 0) else 0) word
       ∙ ap (λ b. if b then writes r c else 0) driven)
 
@@ -142,10 +141,10 @@ module _ (r : Rtl) (bits : List Part) (names : Names) (old new : Making) (t : �
 
   module _ (e : ℕ) (x : RtlExpr) (is : slice_get names.tasks t ≡ Some (tasks.Expr e)) (at : IsAt r.exprs e x) where
     cost_is : task_cost r (tasks.Expr e) ≡ expr_cost x
-    cost_is = ap (λ o. option_map_or expr_cost o 0) (get_at r.exprs e x at)
+    cost_is = ap (λ o. option_map_or expr_cost o 0) at
 
     entries_are : task_crossings r (tasks.Expr e) ≡ entry_count x
-    entries_are = ap (λ o. option_map_or entry_count o 0) (get_at r.exprs e x at)
+    entries_are = ap (λ o. option_map_or entry_count o 0) at
 
     no_cell : (c : ℕ) → slice_get names.tasks t ≡ Some (tasks.Cell c) → IsDrivenWord r c → ⊥
     no_cell c now w = let q : tasks.Expr e ≡ tasks.Cell c = same_Some _ _ (sym is ∙ now) in cc

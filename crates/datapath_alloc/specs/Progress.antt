@@ -15,6 +15,7 @@ use Rattle.rtl_form.specs.declared.rtl.RtlExpr.{RtlExpr}
 use Rattle.rtl_form.specs.declared.rtl.RtlExpr.TheVariants.{Number, Truth, Cell, Apply}
 use Rattle.rtl_form.specs.declared.rtl.Rtl.{Rtl}
 use Rattle.mp_base.specs.Entries.{IsAt}
+use Rattle.mp_base.specs.declared.limits.TheConstants.{WEIGHT_LIMIT}
 use Rattle.rtl_form.specs.Environment.{is_driven}
 use Rattle.rtl_form.specs.Operands.{gives_word, takes_words}
 use Rattle.rtl_form.specs.Sound.{IsSort, IsSound}
@@ -119,7 +120,7 @@ pub record AreSpent (cost most : ℕ) (m : Making) : Type 0 where
 -- sound transfers that aren't large, with the bits that they became
 pub record IsGiven (r : Rtl) (bits : List Part) (names : Names) : Type 0 where
   pub sound : IsSound r
-  pub light : cost r ≤ 1024
+  pub light : cost r ≤ WEIGHT_LIMIT
   pub lowered : IsLowered r [] bits names
 
 -- the first i cells have their latches, the first t tasks are done, and the first j cells have their next values

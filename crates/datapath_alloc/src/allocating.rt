@@ -8,6 +8,7 @@ ghost use Rattle.nor_net.specs.declared.net.NetId as net_id;
 ghost use Rattle.path_form.specs.Sizes.{IsNarrow, IsWithin};
 ghost use Rattle.path_values.specs.Allocated.{IsAllocated};
 ghost use Rattle.datapath_alloc.specs.Shared.{IsAllocatedOnce};
+ghost use Rattle.mp_base.specs.declared.limits.TheConstants.{WEIGHT_LIMIT};
 
 use crate::latches::add_latches;
 use crate::next_values::add_next_values;
@@ -40,7 +41,7 @@ fn reset_of(rtl: &Rtl, names: &Names) -> Option<NetId>
 /// `NoMemory`.
 pub fn allocate(alloc: Global, rtl: &Rtl) -> Result<DataPath, NoMemory>
     requires sound { IsSound rtl.now }
-    requires light { cost rtl.now ≤ 1024 }
+    requires light { cost rtl.now ≤ WEIGHT_LIMIT }
     ensures allocated { IfOk result (IsAllocated rtl.now) }
     ensures within { IfOk result (IsWithin (cost rtl.now)) }
     ensures narrow { IfOk result (IsNarrow (cost rtl.now)) }

@@ -5,14 +5,13 @@ use Rattle.std.specs.Prelude.{All, Contains, slice_get, if◌then◌else◌}
 use Rattle.std.proofs.lemmas.Bool.{false≢true, cases_eq}
 use Rattle.std.proofs.lemmas.Option.{same_Some, slice_get-get_or, slice_get_within}
 use Rattle.mp_base.specs.declared.pad.Pad.{Pad}
-use Rattle.mp_base.proofs.Entries.{contains_from_get}
+use Rattle.mp_base.proofs.Entries.{contains_from_get, one_entry, some_entry, within}
 use Rattle.nor_net.specs.declared.net.NetId.{NetId}
 use Rattle.nor_net.specs.declared.net.Part.{Part}
 use Rattle.nor_net.specs.declared.net.Part.TheVariants.{Input, Gate, Latch}
 use Rattle.nor_net.specs.Shape.{Fed}
 use Rattle.organelles.specs.Tables.{net_at}
 use Rattle.mp_base.specs.Entries.{IsAt}
-use Rattle.mp_base.proofs.ListEntries.{one_entry, some_entry, at_get}
 use Rattle.rtl_form.specs.Sound.{CellFits, IsSound}
 use Rattle.rtl_form.specs.declared.rtl.Cell as cells
 use Rattle.rtl_form.specs.declared.rtl.CellKind.TheVariants as kinds
@@ -82,11 +81,11 @@ module _ (r : Rtl) (m : Making) (sound : IsSound r) (h : IsComplete r m) (inputs
 
     pub word_in : (k : ℕ) (pad : Pad) (id : NetId) → slice_get in_pads k ≡ Some pad → slice_get inputs k ≡ Some id
         → is_word pad ≡ true → Stands m.pads k id
-    word_in k pad id a b c = (ins.each k pad id (at_get in_pads k pad a) b).1 (word_width pad c)
+    word_in k pad id a b c = (ins.each k pad id a b).1 (word_width pad c)
 
     pub bit_in : (k : ℕ) (pad : Pad) (id : NetId) → slice_get in_pads k ≡ Some pad → slice_get inputs k ≡ Some id
         → is_word pad ≡ false → Stands m.names.inputs k id
-    bit_in k pad id a b c = (ins.each k pad id (at_get in_pads k pad a) b).0 (bit_width pad c)
+    bit_in k pad id a b c = (ins.each k pad id a b).0 (bit_width pad c)
 
     -- the cell of an output pad
     output_cell : (k : ℕ) (pad : Pad) → slice_get out_pads k ≡ Some pad
@@ -95,7 +94,7 @@ module _ (r : Rtl) (m : Making) (sound : IsSound r) (h : IsComplete r m) (inputs
         let only = sound.output_cells k (slice_get_within out_pads k pad a) in
         let x = only.1.0 in
         let fits = subst (CellFits r x) only.1.2 (sound.cells only.0 x only.1.1) in
-        let same = one_entry out_pads k fits.0 pad fits.1 (at_get out_pads k pad a) in
+        let same = one_entry out_pads k fits.0 pad fits.1 a in
         (only.0, x, only.1.1, only.1.2, fits.2 ∙ ap is_word same)
 
     pub word_out : (k : ℕ) (pad : Pad) (id : NetId) → slice_get out_pads k ≡ Some pad → slice_get outputs k ≡ Some id
@@ -103,14 +102,14 @@ module _ (r : Rtl) (m : Making) (sound : IsSound r) (h : IsComplete r m) (inputs
         × Stands m.cell_words c id
     word_out k pad id a b w =
         let o = output_cell k pad a in
-        (o.0, o.1, o.2, o.3, (outs.each o.0 k o.1 id o.2.0 o.2 o.3 b).0 (o.4 ∙ w))
+        (o.0, o.1, o.2, o.3, (outs.each o.0 k o.1 id (within r.cells o.0 o.2) o.2 o.3 b).0 (o.4 ∙ w))
 
     pub bit_out : (k : ℕ) (pad : Pad) (id : NetId) → slice_get out_pads k ≡ Some pad → slice_get outputs k ≡ Some id
         → is_word pad ≡ false → (c : ℕ) × (x : cells.Cell) × IsAt r.cells c x × (x.kind ≡ kinds.Output k)
         × Stands m.names.cells c id
     bit_out k pad id a b w =
         let o = output_cell k pad a in
-        (o.0, o.1, o.2, o.3, (outs.each o.0 k o.1 id o.2.0 o.2 o.3 b).1 (o.4 ∙ w))
+        (o.0, o.1, o.2, o.3, (outs.each o.0 k o.1 id (within r.cells o.0 o.2) o.2 o.3 b).1 (o.4 ∙ w))
 
     -- the pads of the slices are those that were made
     pub words_are : entries_of true in_pads inputs ≡ present m.pads
@@ -123,7 +122,7 @@ module _ (r : Rtl) (m : Making) (sound : IsSound r) (h : IsComplete r m) (inputs
         by_kind k pad id entry a b c true q =
             same_Some entry (Some id) (sym c ∙ word_in k pad id a b q)
         by_kind k pad id (Some x) a b c false q =
-            absurd (h.bit_pads k pad x (at_get in_pads k pad a) c (bit_width pad q))
+            absurd (h.bit_pads k pad x a c (bit_width pad q))
         by_kind k pad id None a b c false q = refl
 
     abbrev words : List NetId
@@ -174,7 +173,7 @@ module _ (r : Rtl) (m : Making) (sound : IsSound r) (h : IsComplete r m) (inputs
     entry_behind : (e : ℕ) (x : RtlExpr) (id : NetId) → IsAt r.exprs e x → IsEntry x → Stands m.names.exprs e id
         → m.names.start ≤ id.0
     entry_behind e x id at is stands =
-        let t = h.lowered.placed.schedule.all (tasks.Expr e) at.0 in
+        let t = h.lowered.placed.schedule.all (tasks.Expr e) (within r.exprs e at) in
         let l = slice_get_within m.names.tasks t.0 (tasks.Expr e) t.1 in
         let a = h.lowered.placed.entries t.0 e x id t.1 at is stands in
         let b = start_below t.0 (omega (arith, l)) in
@@ -217,7 +216,7 @@ module _ (r : Rtl) (m : Making) (sound : IsSound r) (h : IsComplete r m) (inputs
         let in_l : k < length in_pads = let c = h.lowered.pad_count in omega (arith, l, c) in
         let pad = get_or in_pads k (get_or in_pads k (some_pad in_l)) in
         let at_pad = slice_get-get_or in_pads k (get_or in_pads k (some_pad in_l)) in_l in
-        let width = (h.lowered.pad_names k pad (at_get in_pads k pad at_pad)).1 (id, s) in
+        let width = (h.lowered.pad_names k pad at_pad).1 (id, s) in
         let ids_l : k < length inputs = let c = ins.count in omega (arith, in_l, c) in
         let other = get_or inputs k id in
         let at_id = slice_get-get_or inputs k id ids_l in

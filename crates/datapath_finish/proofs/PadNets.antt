@@ -1,15 +1,14 @@
 -- The nets of pads, one after another.
-use Rattle.std.proofs.Common.{◌≡◌, ℕ, zero, suc, ◌<◌, ◌+◌, ◌⊎◌, inl, inr, List, [], ◌∷◌, ◌++◌, Some, get_or, length}
+use Rattle.std.proofs.Common.{◌≡◌, ℕ, zero, suc, ◌<◌, ◌+◌, ◌⊎◌, inl, inr, List, [], ◌∷◌, ◌++◌, Some, length}
 use Rattle.std.proofs.Common.{length-append, refl, sym, ◌∙◌, ap, subst, arith}
 use Rattle.std.specs.Prelude.{slice_get, slice_set}
-use Rattle.std.proofs.lemmas.List.{get_or_default, length-set}
+use Rattle.std.proofs.lemmas.List.{length-set}
 use Rattle.std.proofs.lemmas.Option.{none-some, same_Some, slice_get_within}
 use Rattle.std.proofs.lemmas.Bool.{cases_eq}
 use Rattle.mp_base.specs.declared.pad.Pad.{Pad}
-use Rattle.mp_base.proofs.Entries.{get_set_same, get_set_other}
+use Rattle.mp_base.proofs.Entries.{get_set_same, get_set_other, one_entry, within}
 use Rattle.nor_net.specs.declared.net.NetId.{NetId}
 use Rattle.mp_base.specs.Entries.{IsAt}
-use Rattle.mp_base.proofs.ListEntries.{one_entry}
 use Rattle.rtl_form.specs.Sound.{CellFits, IsSound}
 use Rattle.rtl_form.specs.declared.rtl.Cell as cells
 use Rattle.rtl_form.specs.declared.rtl.CellKind.{CellKind}
@@ -72,9 +71,9 @@ module _ (r : Rtl) (m : Making) (sound : IsSound r) (n : ℕ) (old new : List Ne
           let kinds : Output k ≡ Output j = sym is ∙ (ap (λ (w : cells.Cell). w.kind) same ∙ kind) in
           let same_k : k ≡ j = cc in
           let inside = slice_get_within new j z e in
-          let within : k < length old =
+          let inside_old : k < length old =
           let a = count_put in let b = h.count in omega (arith, inside, a, b, same_k) in
-          let at_k = ap (λ xs. slice_get xs k) set ∙ get_set_same old k id within in
+          let at_k = ap (λ xs. slice_get xs k) set ∙ get_set_same old k id inside_old in
           let same_id = same_Some id z (sym at_k ∙ (ap (slice_get new) same_k ∙ e)) in
           subst (λ (w : NetId). IsCellNet m c y w) same_id
           (subst (λ (w : cells.Cell). IsCellNet m c w id) same (subst (λ d. IsCellNet m d x id) (sym q) net))
@@ -119,11 +118,7 @@ module _ (r : Rtl) (m : Making) (sound : IsSound r) (n : ℕ) (old new : List Ne
 
 pub pad_in : (r : Rtl) → IsSound r → (c : ℕ) (x : cells.Cell) → IsAt r.cells c x → (k : ℕ) → x.kind ≡ Output k
     → k < length (r.pads).outputs
-pad_in r sound c x at k e = (subst (CellFits r x) e (sound.cells c x at)).1.0
-
--- the element at an index, whatever stands past the end
-pub at_here : {X : Type 0} (xs : List X) (i : ℕ) (d : X) → i < length xs → IsAt xs i (get_or xs i d)
-at_here xs i d l = (l, get_or_default xs i d (get_or xs i d) l)
+pad_in r sound c x at k e = within (r.pads).outputs k (subst (CellFits r x) e (sound.cells c x at)).1
 
 pub no_outputs : (r : Rtl) (m : Making) (ids : List NetId) → length ids ≡ length (r.pads).outputs
     → AreOutputNets r m 0 ids

@@ -8,7 +8,7 @@ use Rattle.std.proofs.lemmas.Option.{slice_get-get_or, slice_get_within}
 use Rattle.std.proofs.lemmas.List.Elements.{All-contains, All-weaker}
 use Rattle.mp_base.specs.declared.pad.Pad.{Pad}
 use Rattle.mp_base.specs.declared.pad.Pads.{Pads}
-use Rattle.mp_base.proofs.Entries.{all_from, contains_from_get}
+use Rattle.mp_base.proofs.Entries.{all_from, contains_from_get, one_entry, some_entry, within}
 use Rattle.nor_net.specs.declared.net.NetId.{NetId}
 use Rattle.nor_net.specs.declared.net.Part.{Part}
 use Rattle.nor_net.specs.declared.net.Part.TheVariants.{Input, Gate, Latch}
@@ -19,7 +19,6 @@ use Rattle.organelles.specs.Computing.{ChainIn}
 use Rattle.organelles.specs.Tables.{net_at}
 use Rattle.rtl_form.specs.Cost.{cost}
 use Rattle.mp_base.specs.Entries.{IsAt}
-use Rattle.mp_base.proofs.ListEntries.{one_entry, some_entry, get_at, at_get}
 use Rattle.rtl_form.specs.Environment.{is_driven}
 use Rattle.rtl_form.specs.Sound.{IsSound}
 use Rattle.rtl_form.specs.declared.rtl.Cell as cells
@@ -204,11 +203,11 @@ module _ (r : Rtl) (m : Making) (sound : IsSound r) (light : cost r ≤ 1024) (h
 
   in_pads_fit : PadsFit m.width in_pads
   in_pads_fit = all_from (λ (p : Pad). p.width ≢ 0 → p.width ≡ m.width) in_pads
-      (λ k p e. fit p.width (sound.inputs k p (at_get in_pads k p e)))
+      (λ k p e. fit p.width (sound.inputs k p e))
 
   out_pads_fit : PadsFit m.width out_pads
   out_pads_fit = all_from (λ (p : Pad). p.width ≢ 0 → p.width ≡ m.width) out_pads
-      (λ k p e. fit p.width (sound.outputs k p (at_get out_pads k p e)))
+      (λ k p e. fit p.width (sound.outputs k p e))
 
   control_is_fed : IsFed m.control
   control_is_fed = subst (All Fed) (sym h.lowered.added.1) h.lowered.added.2
@@ -324,15 +323,14 @@ module _ (r : Rtl) (m : Making) (sound : IsSound r) (light : cost r ≤ 1024) (h
 
       by_kind : (t : Bool) → is_word pad ≡ t → slice_get inputs k ≡ Some id
       by_kind true q =
-          let w = word_in r m sound h inputs outputs ins outs k pad (get_or inputs k id) (get_at in_pads k pad at_pad)
-          there q in
+          let w = word_in r m sound h inputs outputs ins outs k pad (get_or inputs k id) at_pad there q in
           there ∙ ap Some (one_stands m.pads k (get_or inputs k id) id w s)
       by_kind false q = absurd (h.bit_pads k pad id at_pad s (bit_width pad q))
 
   bit_pad_at : (k : ℕ) (id : NetId) → Stands m.names.inputs k id → slice_get inputs k ≡ Some id
   bit_pad_at k id s =
       there ∙ ap Some (one_stands m.names.inputs k (get_or inputs k id) id
-      (bit_in r m sound h inputs outputs ins outs k pad (get_or inputs k id) (get_at in_pads k pad at_pad) there
+      (bit_in r m sound h inputs outputs ins outs k pad (get_or inputs k id) at_pad there
       (width_bit pad ((h.lowered.pad_names k pad at_pad).1 (id, s)))) s)
     where
       inside : k < length in_pads
@@ -354,7 +352,7 @@ module _ (r : Rtl) (m : Making) (sound : IsSound r) (light : cost r ≤ 1024) (h
       let e = entry_pad true in_pads inputs id c in (
         e.0,
         e.1,
-        at_get in_pads e.0 e.1 e.2,
+        e.2,
         word_width e.1 e.4,
         word_in r m sound h inputs outputs ins outs e.0 e.1 id e.2 e.3 e.4,
       )
@@ -365,7 +363,7 @@ module _ (r : Rtl) (m : Making) (sound : IsSound r) (light : cost r ≤ 1024) (h
       let e = entry_pad false in_pads inputs id c in (
         e.0,
         e.1,
-        at_get in_pads e.0 e.1 e.2,
+        e.2,
         bit_width e.1 e.4,
         bit_in r m sound h inputs outputs ins outs e.0 e.1 id e.2 e.3 e.4,
       )
@@ -386,9 +384,9 @@ module _ (r : Rtl) (m : Making) (sound : IsSound r) (light : cost r ≤ 1024) (h
         c);
     bit_pads = λ id c. bit_pad_of id (subst (λ (xs : List NetId). Contains (entries_of false in_pads xs) id) ins_are c);
     word_outputs = λ c k x id at kind word e.
-        (outs.each c k x id at.0 at kind (ap (λ xs. slice_get xs k) (sym outs_are) ∙ e)).0 word;
+        (outs.each c k x id (within r.cells c at) at kind (ap (λ xs. slice_get xs k) (sym outs_are) ∙ e)).0 word;
     bit_outputs = λ c k x id at kind bit e.
-        (outs.each c k x id at.0 at kind (ap (λ xs. slice_get xs k) (sym outs_are) ∙ e)).1 bit;
+        (outs.each c k x id (within r.cells c at) at kind (ap (λ xs. slice_get xs k) (sym outs_are) ∙ e)).1 bit;
   }
 
   pub finished_now : (now : Making) (order : List Piece) → IsOrdered m now order → (pads : Pads) → pads ≡ r.pads

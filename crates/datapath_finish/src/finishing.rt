@@ -10,6 +10,7 @@ ghost use Rattle.path_form.specs.Shape.{IsPath};
 ghost use Rattle.datapath_making.specs.WellMade.{IsWellMade};
 ghost use Rattle.datapath_finish.specs.Finishing.{AreInputNets, AreOutputNets, IsCellNet, IsComplete};
 ghost use Rattle.datapath_finish.specs.Finishing.{AreEnds, IsFinished, IsOrdered, IsOutputPut, IsPadNet, IsPathOf};
+ghost use Rattle.mp_base.specs.declared.limits.TheConstants.{WEIGHT_LIMIT};
 
 use datapath_making::{Making, entry};
 use mp_base::{List, NoMemory, Pad, Pads};
@@ -123,7 +124,7 @@ struct Ends {
 // The ends of a path in the making, which is marked at its end.
 fn ends_of(alloc: Global, rtl: &Rtl, making: &mut Making) -> Result<Ends, NoMemory>
     requires sound { IsSound rtl.now }
-    requires light { cost rtl.now ≤ 1024 }
+    requires light { cost rtl.now ≤ WEIGHT_LIMIT }
     requires complete { IsComplete rtl.now making.old }
     ensures { IfOk result (AreEnds rtl.now making.old making.new) }
 {
@@ -181,7 +182,7 @@ fn path_of(making: Making, ends: Ends) -> DataPath
 /// `NoMemory`.
 pub fn finish(alloc: Global, rtl: &Rtl, making: Making) -> Result<DataPath, NoMemory>
     requires sound { IsSound rtl.now }
-    requires light { cost rtl.now ≤ 1024 }
+    requires light { cost rtl.now ≤ WEIGHT_LIMIT }
     requires complete { IsComplete rtl.now making }
     ensures { IfOk result (IsFinished rtl.now making) }
 {

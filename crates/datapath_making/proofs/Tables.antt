@@ -21,7 +21,8 @@ use Rattle.organelles.specs.declared.slices.Organelle.TheVariants.{Zero, Equal, 
 use Rattle.organelles.specs.Tables.{chains_from, first_gate, gates_from, is_test, net_at, op_of, parts_from, place}
 use Rattle.organelles.specs.Tables.{table_of}
 use Rattle.rtl_form.specs.Cost.{op_cost}
-use Rattle.rtl_form.specs.Operands.{gives_word, takes}
+use Rattle.rtl_form.specs.Operands.{gives_word}
+use Rattle.mp_base.specs.Apply.{takes}
 use Rattle.path_form.specs.Sizes.{active}
 use Rattle.path_form.specs.Shape.{chain_to, is_fed, times}
 use Rattle.datapath_making.specs.declared.making.Making.{Making}

@@ -3,7 +3,8 @@ use Rattle.std.specs.Prelude.{◌≡◌, ◌<◌, ℕ, List, true, false, All, M
 use Rattle.mp_base.specs.declared.op.Op.{Op}
 use Rattle.mp_base.specs.declared.op.Op.TheVariants as ops
 use Rattle.rtl_form.specs.Cost.{op_cost}
-use Rattle.rtl_form.specs.Operands.{gives_word, takes, takes_words}
+use Rattle.rtl_form.specs.Operands.{gives_word, takes_words}
+use Rattle.mp_base.specs.Apply.{takes}
 use Rattle.datapath_making.specs.declared.making.Making.{Making}
 use Rattle.datapath_making.specs.Sizes.{HasRoom}
 use Rattle.datapath_making.specs.Steps.{IsBitMade, IsFree, IsOperatorMade, IsReached, IsStep, IsTestMade, IsWaited}

@@ -6,7 +6,7 @@ use Rattle.mp_base.specs.declared.value.Trit.{Trit}
 use Rattle.mp_base.specs.declared.pad.Pad.{Pad}
 use Rattle.mp_base.specs.declared.pad.Pads.{Pads}
 use Rattle.switch_net.specs.declared.network.Network.{Network}
-use Rattle.switch_net.specs.Pads.{pad_bits}
+use Rattle.mp_base.specs.PadBits.{pad_bits}
 use Rattle.nor_net.specs.declared.net.Phase.{Phase}
 use Rattle.nor_net.specs.Elements.{Spot, Given, Nor, Latched, Joined, Low, Nets}
 use Rattle.nor_net.specs.Settled as nor

@@ -5,7 +5,8 @@ use Rattle.mp_base.specs.declared.value.Trit.{Trit}
 use Rattle.mp_base.specs.declared.pad.Pad.{Pad}
 use Rattle.mp_base.specs.declared.pad.Pads.{Pads}
 use Rattle.switch_net.specs.declared.network.Network.{Network}
-use Rattle.switch_net.specs.Pads.{bit_labels, pad_bits, Fit}
+use Rattle.switch_net.specs.Pads.{bit_labels}
+use Rattle.mp_base.specs.PadBits.{pad_bits, Fit}
 use Rattle.switch_net.specs.Clock.{IsLabelled, IsCircuitTrace}
 use Rattle.nor_net.specs.declared.net.Phase.TheVariants.{A, B, C}
 use Rattle.nor_net.specs.Elements.{Spot, Given, Nets}

@@ -1,8 +1,9 @@
 -- What comes of a mask with labels.
-use Rattle.std.specs.Prelude.{ℕ, List}
+use Rattle.std.specs.Prelude.{ℕ, List, Option, None, Some}
 use Rattle.mp_base.specs.PadNames.{supplies}
 use Rattle.mp_base.specs.declared.refusal.Refusal.{Refusal}
-use Rattle.mp_base.specs.declared.refusal.Refusal.TheVariants as refusals
+use Rattle.mp_base.specs.declared.refusal.Broken.{Broken}
+use Rattle.mp_base.specs.Refuses.{IsRefusal}
 use Rattle.lam_geom.specs.declared.label.FlatLabel.{FlatLabel}
 use Rattle.lam_geom.specs.declared.rect.Rect.{Rect}
 use Rattle.lam_geom.specs.Squares.{covered}
@@ -22,7 +23,11 @@ pub record IsExtracted (shapes : List Rect) (labels : List FlatLabel) (net : Net
   pub apart : (i : ℕ) → ¬ MeetsDriver supplies net.tags i
   pub few : ¬ AreTooMany (covered shapes)
 
--- want of memory, of which nothing is said, or the first rule that is broken
+-- shapes with labels are a mask that breaks no rule, or this is the first one that is broken
+abbrev pub OfShapes : List Rect → List FlatLabel → Option Broken → Type 0
+OfShapes shapes labels None = (net : Network) × IsExtracted shapes labels net
+OfShapes shapes labels (Some b) = IsFirstOfMask (covered shapes) labels b
+
+-- want of memory, or the first rule that is broken
 abbrev pub RefusesMask : List Rect → List FlatLabel → Refusal → Type 0
-RefusesMask shapes labels refusals.NoMemory = Unit {0}
-RefusesMask shapes labels (refusals.Broken b) = IsFirstOfMask (covered shapes) labels b
+RefusesMask shapes labels = IsRefusal (λ b. OfShapes shapes labels (Some b))

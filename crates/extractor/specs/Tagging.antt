@@ -7,7 +7,7 @@ use Rattle.std.specs.Ordering.{nat_cmp}
 use Rattle.mp_base.specs.declared.refusal.Spot.TheVariants.{Offset}
 use Rattle.mp_base.specs.declared.refusal.Broken.{Broken}
 use Rattle.mp_base.specs.declared.refusal.Refusal.{Refusal}
-use Rattle.mp_base.specs.declared.refusal.Refusal.TheVariants as refusals
+use Rattle.mp_base.specs.Refuses.{IsRefusal}
 use Rattle.lam_geom.specs.declared.label.FlatLabel.{FlatLabel}
 use Rattle.switch_net.specs.declared.network.Tag.{Tag}
 use Rattle.switch_net.specs.Breaks.{broken}
@@ -40,8 +40,7 @@ pub record IsElsewhere (known : Option ℕ) (label : FlatLabel) (node : Option �
 
 -- want of memory, of which nothing is said, or what a label breaks
 abbrev pub RefusesLabel : Option ℕ → FlatLabel → Option ℕ → Refusal → Type 0
-RefusesLabel known label on refusals.NoMemory = Unit {0}
-RefusesLabel known label on (refusals.Broken b) = IsUnnamed label on b ⊎ IsElsewhere known label on b
+RefusesLabel known label on = IsRefusal (λ b. IsUnnamed label on b ⊎ IsElsewhere known label on b)
 
 -- the tags of the first `count` labels
 pub record AreTagged (labels : List FlatLabel) (nodes : List (Option ℕ)) (count : ℕ) (tags : List Tag) : Type 0 where
@@ -71,8 +70,7 @@ pub record IsFirstRefused (labels : List FlatLabel) (nodes : List (Option ℕ)) 
   pub breaks : IsUnnamed label (get_or nodes place None) b ⊎ IsTwice tags label (get_or nodes place None) b
 
 abbrev pub RefusesFirst : List FlatLabel → List (Option ℕ) → Refusal → Type 0
-RefusesFirst labels nodes refusals.NoMemory = Unit {0}
-RefusesFirst labels nodes (refusals.Broken b) = IsFirstRefused labels nodes b
+RefusesFirst labels nodes = IsRefusal (IsFirstRefused labels nodes)
 
 -- the map has the names of the tags on their nodes
 pub record AreSeen (find : List ℕ → Option ℕ) (tags : List Tag) : Type 0 where

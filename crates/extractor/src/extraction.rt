@@ -2,9 +2,10 @@
 
 ghost use Rattle.std.specs.Prelude.{◌≡◌, map, IfOk, IfErr};
 ghost use Rattle.mp_base.specs.declared.refusal.Spot.TheVariants.{Nowhere};
+ghost use Rattle.mp_base.specs.Refuses.{IsJudged};
 ghost use Rattle.switch_net.specs.Breaks.{broken};
 ghost use Rattle.extractor.specs.Naming.{point_of};
-ghost use Rattle.extractor.specs.Extracted.{IsExtracted, IsLabelled, RefusesMask};
+ghost use Rattle.extractor.specs.Extracted.{IsExtracted, IsLabelled, RefusesMask, OfShapes};
 
 use crate::drivers::first_meeting;
 use crate::over::nodes_named;
@@ -79,7 +80,7 @@ fn labelled(alloc: Global, shapes: &[Rect], labels: &[FlatLabel]) -> Result<Netw
 /// nodes and channels together are over 16,777,216. `NoMemory` is want of memory.
 pub fn extract(alloc: Global, shapes: &[Rect], labels: &[FlatLabel]) -> Result<Network, Refusal>
     ensures ok { IfOk result (IsExtracted shapes.now labels.now) }
-    ensures err { IfErr result (RefusesMask shapes.now labels.now) }
+    ensures judged { IsJudged (OfShapes shapes.now labels.now) result }
 {
     network_is_determined();
     let net = labelled(alloc, shapes, labels)?;

@@ -1,12 +1,13 @@
 -- Rules E1 to E5.
-use Rattle.std.specs.Prelude.{◌≡◌, ◌≢◌, ◌⊎◌, ℕ, ◌+◌, ◌-◌, ◌<◌, ◌≤◌, ◌^◌, List, [], ◌∷◌, Bool, true, false, cond, ◌||◌}
+use Rattle.std.specs.Prelude.{◌≡◌, ◌≢◌, ◌⊎◌, ℕ, ◌+◌, ◌-◌, ◌<◌, ◌≤◌, ◌^◌, List, [], ◌∷◌, Bool, true, false, cond, ◌||◌, Option, None, Some}
 use Rattle.std.specs.Prelude.{◌==◌, length, take, slice_index, slice_range}
 use Rattle.std.specs.List.{list_all}
 use Rattle.std.specs.Str.Parse.{digits_value}
 use Rattle.mp_base.specs.Token.{is_token, is_digit}
-use Rattle.mp_base.specs.Refuses.{RefusesAt}
+use Rattle.mp_base.specs.Refuses.{IsOfFamily, IsRefusal}
 use Rattle.mp_base.specs.declared.refusal.Family.TheVariants.{E}
 use Rattle.mp_base.specs.declared.refusal.Refusal.{Refusal}
+use Rattle.mp_base.specs.declared.refusal.Broken.{Broken}
 use Rattle.form_reader.specs.Text.{is_blank, is_mark, comment_step, comment_after, IsRun, place_at}
 
 -- how many lists are open behind a byte; a `)` that closes nothing is left out
@@ -71,6 +72,11 @@ pub record IsFirst (text : List ℕ) (k o : ℕ) : Type 0 where
   pub broken : Breaks text k o
   pub first : (l q : ℕ) → Breaks text l q → ComesBefore k o l q
 
+-- no rule is broken, or this is the first one that is, at its place
+abbrev pub OfText : List ℕ → Option Broken → Type 0
+OfText text None = (k o : ℕ) → Breaks text k o → ⊥
+OfText text (Some b) = IsOfFamily E (λ k at. (at ≡ place_at text at.offset) × IsFirst text k at.offset) b
+
 -- want of memory, or the first of the broken rules, at its place
 abbrev pub RefusesFirst : List ℕ → Refusal → Type 0
-RefusesFirst text e = RefusesAt E e (λ k at. (at ≡ place_at text at.offset) × IsFirst text k at.offset)
+RefusesFirst text = IsRefusal (λ b. OfText text (Some b))

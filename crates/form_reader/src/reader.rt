@@ -1,18 +1,18 @@
 //! Reading forms.
 
-ghost use Rattle.std.specs.Prelude.{◌≡◌, ◌≢◌, ℕ, ◌+◌, ◌<◌, ◌≤◌, ◌^◌, true, false, length, slice_index, IfOk, IfErr};
-ghost use Rattle.std.specs.Prelude.{OnOk, MatchResult};
+ghost use Rattle.std.specs.Prelude.{◌≡◌, ◌≢◌, ◌+◌, ◌<◌, ◌≤◌, ◌^◌, true, false, length, slice_index, IfOk, IfErr};
+ghost use Rattle.std.specs.Prelude.{MatchResult};
 ghost use Rattle.std.specs.List.{list_all};
 ghost use Rattle.std.specs.Str.Parse.{digits_value};
 ghost use Rattle.mp_base.specs.Token.{is_digit};
-ghost use Rattle.mp_base.specs.Refuses.{RefusesAt};
+ghost use Rattle.mp_base.specs.Refuses.{RefusesAt, IsJudged};
 ghost use Rattle.mp_base.specs.declared.refusal.Family.TheVariants.{E};
 ghost use Rattle.mp_base.specs.declared.refusal.Spot.TheVariants.{At};
 ghost use Rattle.mp_base.specs.declared.refusal.Refusal.TheVariants as refusals;
 ghost use Rattle.form_reader.specs.declared.forms.Forms as forms;
 ghost use Rattle.form_reader.specs.Sound.{HasSymbols, IsSound};
 ghost use Rattle.form_reader.specs.Spelling.{IsKindOf, Spells};
-ghost use Rattle.form_reader.specs.Rules.{Breaks, RefusesFirst};
+ghost use Rattle.form_reader.specs.Rules.{RefusesFirst, OfText};
 ghost use Rattle.form_reader.specs.Text.{fills_gap, IsByte};
 ghost use Rattle.form_reader.specs.Reading.{Reached, AddsItem, HasListed};
 
@@ -211,8 +211,7 @@ pub fn read_forms(alloc: Global, bytes: &[u8]) -> Result<Forms, Refusal>
     ensures sound { IfOk result IsSound }
     ensures symbols { IfOk result HasSymbols }
     ensures few { IfOk result (λ f. length f.nodes ≤ length bytes.now) }
-    ensures whole { OnOk result ((k o : ℕ) → Breaks bytes.now k o → ⊥) }
-    ensures first { IfErr result (RefusesFirst bytes.now) }
+    ensures judged { IsJudged (OfText bytes.now) result }
     ensures read { (f : forms.Forms) → Spells bytes.now f
         → MatchResult result (λ r. r ≡ f) (λ e. e ≡ refusals.NoMemory) }
 {

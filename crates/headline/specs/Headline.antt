@@ -1,7 +1,6 @@
 -- What it means that the masks in a file do what a program says.
-use Rattle.std.specs.Prelude.{◌≡◌, ℕ, ◌<◌, List, [], ◌∷◌, length, All, None, slice_index_or}
+use Rattle.std.specs.Prelude.{◌≡◌, ℕ, ◌<◌, List, [], length, All, None, slice_index_or}
 use Rattle.mp_base.specs.declared.value.Trit.{Trit}
-use Rattle.mp_base.specs.declared.pad.Pad.{Pad}
 use Rattle.mp_base.specs.declared.pad.Pads.{Pads}
 use Rattle.lam_geom.specs.declared.rect.Rect.{Rect}
 use Rattle.lam_geom.specs.declared.label.FlatLabel.{FlatLabel}
@@ -16,7 +15,7 @@ use Rattle.cif_form.specs.Walk.{FileWalks}
 use Rattle.switch_net.specs.declared.network.Network.{Network}
 use Rattle.switch_net.specs.Breaks.{IsSoundMask}
 use Rattle.switch_net.specs.Clock.{IsCircuitTrace}
-use Rattle.switch_net.specs.Pads.{Fit, pad_bits}
+use Rattle.mp_base.specs.PadBits.{Fit, value_bits}
 use Rattle.mp_program.specs.declared.program.Program.{Program}
 use Rattle.mp_program.specs.Pads.{ArePadsOf}
 use Rattle.mp_program.specs.Trace.{IsTrace, IsSettled}
@@ -34,11 +33,6 @@ pub record Draws (bytes : List ℕ) (pads : Pads) (network : Network) : Type 0 w
   pub drawable : FileWalks commands shapes labels walks.Whole
   pub mask : IsSoundMask (covered shapes) labels network pads
 
--- the bits of each pad at these values
-abbrev pub bits_of : List Pad → List ℕ → List (List Trit)
-bits_of (pad ∷ pads) (value ∷ values) = pad_bits pad value ∷ bits_of pads values
-bits_of _ _ = []
-
 -- Along these inputs the program has a trace. From every charge the circuit has one too, and whichever it has shows, in
 -- each
 -- settled clock, the bits of what the program shows on each output pad.
@@ -50,7 +44,7 @@ pub record Follows (p : Program) (pads : Pads) (network : Network) (inputs : Lis
   pub agrees : (charge after : ℕ → Trit) (shown : List (List (List Trit)))
       → IsCircuitTrace network pads charge inputs shown after
       → (k : ℕ) → k < length inputs → IsSettled p inputs k
-      → slice_index_or shown k [] ≡ bits_of pads.outputs (slice_index_or outputs k [])
+      → slice_index_or shown k [] ≡ value_bits pads.outputs (slice_index_or outputs k [])
 
 -- The headline: the bytes draw a network with the pads of the program, and along every list of inputs that fit the pads
 -- this

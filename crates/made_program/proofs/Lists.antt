@@ -4,24 +4,17 @@ use Rattle.std.proofs.Common.{inr, arith}
 use Rattle.std.specs.Prelude.{not, ◌&&◌, ◌||◌}
 use Rattle.std.specs.List.{list_all, list_any}
 use Rattle.std.proofs.lemmas.Bool.{and_parts, cases_Bool, not-true}
+use Rattle.std.proofs.lemmas.Option.{none-some, same_Some}
 use Rattle.mp_program.specs.Names.{is_same}
 use Rattle.mp_program.proofs.Definitions.{same_is}
 use Rattle.mp_base.specs.Entries.{IsAt}
 
--- an entry behind the first
-pub behind : {X : Type 0} (y : X) (xs : List X) (k : ℕ) (x : X) → IsAt (y ∷ xs) (suc k) x → IsAt xs k x
-behind y xs k x at = (omega (arith, at.0), at.1)
-
-pub none_at : {X : Type 0} (k : ℕ) (x : X) → IsAt [] k x → ⊥
-none_at k x at = absurd (omega (arith, at.0))
-
 -- what each entry passes
 pub passes : {X : Type 0} (test : X → Bool) (xs : List X) (k : ℕ) (x : X) → list_all test xs ≡ true → IsAt xs k x
     → test x ≡ true
-passes test [] k x all at = absurd (none_at k x at)
-passes test (y ∷ xs) zero x all at = ap test at.1 ∙ (and_parts (test y) (list_all test xs) all).0
-passes test (y ∷ xs) (suc k) x all at = passes test xs k x (and_parts (test y) (list_all test xs) all).1
-    (behind y xs k x at)
+passes test [] k x all at = absurd (none-some x at)
+passes test (y ∷ xs) zero x all at = ap test (sym (same_Some y x at)) ∙ (and_parts (test y) (list_all test xs) all).0
+passes test (y ∷ xs) (suc k) x all at = passes test xs k x (and_parts (test y) (list_all test xs) all).1 at
 
 -- what each entry passes, by another list
 pub passes_in : {X : Type 0} (test : X → Bool) (xs ys : List X) (k : ℕ) (x : X) → xs ≡ ys → list_all test ys ≡ true
@@ -43,9 +36,9 @@ pub one_passes : {X : Type 0} (test : X → Bool) (xs : List X) → list_any tes
     → (k : ℕ) × (x : X) × IsAt xs k x × (test x ≡ true)
 one_passes test [] any = absurd (cc)
 one_passes test (y ∷ xs) any = elim (cases_Bool (test y)) [
-  | inl holds ↦ (0, y, (omega arith, refl), holds)
+  | inl holds ↦ (0, y, refl, holds)
   | inr no_test ↦ let r = one_passes test xs (ap (λ b. b || list_any test xs) (sym no_test) ∙ any) in
-      (suc r.0, r.1, (omega (arith, r.2.0), r.2.1), r.3)
+      (suc r.0, r.1, r.2, r.3)
 ]
 
 -- no entry is the same as a later one, by a test
@@ -55,14 +48,15 @@ all_apart same (x ∷ xs) = list_all (λ y. not (same x y)) xs && all_apart same
 
 pub apart : {X : Type 0} (same : X → X → Bool) (xs : List X) (j k : ℕ) (a b : X) → all_apart same xs ≡ true → j < k
     → IsAt xs j a → IsAt xs k b → same a b ≡ false
-apart same [] j k a b all less at_j at_k = absurd (none_at k b at_k)
+apart same [] j k a b all less at_j at_k = absurd (none-some b at_k)
 apart same (x ∷ xs) j zero a b all less at_j at_k = absurd (omega arith)
 apart same (x ∷ xs) zero (suc k) a b all less at_j at_k =
     let p = and_parts (list_all (λ y. not (same x y)) xs) (all_apart same xs) all in
-    ap (λ z. same z b) at_j.1 ∙ not-true (same x b) (passes (λ y. not (same x y)) xs k b p.0 (behind x xs k b at_k))
+    ap (λ z. same z b) (sym (same_Some x a at_j))
+    ∙ not-true (same x b) (passes (λ y. not (same x y)) xs k b p.0 at_k)
 apart same (x ∷ xs) (suc j) (suc k) a b all less at_j at_k =
     let p = and_parts (list_all (λ y. not (same x y)) xs) (all_apart same xs) all in
-    apart same xs j k a b p.1 (omega (arith, less)) (behind x xs j a at_j) (behind x xs k b at_k)
+    apart same xs j k a b p.1 (omega (arith, less)) at_j at_k
 
 pub clash : {T : Type 0} (b : Bool) → b ≡ true → b ≡ false → T
 clash b holds fails = absurd (cc)

@@ -6,7 +6,6 @@ use Rattle.std.specs.List.{list_all, list_any}
 use Rattle.std.proofs.lemmas.Bool.{and_parts, not-true}
 use Rattle.std.proofs.Math.ListN.{get_or-eq_default}
 use Rattle.mp_base.specs.Table.{table}
-use Rattle.mp_base.proofs.Elements.{read_of}
 use Rattle.mp_program.specs.declared.program.ExprKind.{ExprKind}
 use Rattle.mp_program.specs.declared.program.ExprKind.TheVariants.{Number, Named, True, False, Apply}
 use Rattle.mp_program.specs.declared.program.FormKind.{FormKind}
@@ -84,7 +83,7 @@ is_q d = not (is_driven d.what) || is_same d.name (codes "q")
 no_reads : (p : Program) (m : IsMade p) (a b : ℕ) → Reads p a b → ⊥
 no_reads p m a b reads =
     let y : Def = reads.1 in
-    let is : is_q y ≡ true = passes_in is_q p.defs (defs_of m.at) b y m.defs refl (read_of p.defs b y reads.3) in
+    let is : is_q y ≡ true = passes_in is_q p.defs (defs_of m.at) b y m.defs refl reads.3 in
     let name : y.name ≡ codes "q" =
     same_is y.name (codes "q") (sym (ap (λ d. not d || is_same y.name (codes "q")) reads.5) ∙ is) in
     clash (list_any (form_reads p (reads.0).name y.name) (roots p)) reads.6

@@ -4,6 +4,7 @@ use Rattle.std.proofs.Common.{subst, inl, inr, length, arith, lit<}
 use Rattle.std.specs.Prelude.{not, ◌&&◌, ◌||◌, ◌==◌, slice_index_or, nat_le, Some}
 use Rattle.std.specs.List.{list_any, flat_map}
 use Rattle.std.proofs.lemmas.Bool.{cases_lt, eq-eqb, eqb-true}
+use Rattle.std.proofs.lemmas.Option.{none-some}
 use Rattle.std.proofs.lemmas.List.Sums.{count_by-le-length}
 use Rattle.mp_base.specs.declared.refusal.Place.{Place}
 use Rattle.mp_program.specs.declared.program.FormKind.{FormKind}
@@ -23,12 +24,13 @@ use Rattle.mp_base.specs.Entries.{IsAt}
 use Rattle.mp_rules.specs.Naming.{Naming, namings, is_reserved, supplies}
 use Rattle.mp_rules.specs.Rules.{pins, is_unset, namings_up_to, E20, E21, E22, E23, E24, E25, E26, E27, E28, E29, E30}
 use Rattle.mp_rules.specs.Rules.{E31, E32, E33, E34, E35, E36, E40, E41, E42, E43, E44, E45}
+use Rattle.mp_rules.specs.declared.limits.TheConstants.{PROCESS_LIMIT}
 use Rattle.mp_rules.specs.Sorts.{Sort, IsWord, operand_sort, expr_sort, name_sort, IsWanted}
 use Rattle.mp_rules.specs.Standing.{is_transfer}
 use Rattle.mp_rules.specs.Breaking.{IsUnbroken}
 use Rattle.mp_rules.proofs.Sorts.{same_sort}
 use Rattle.made_program.specs.Made.{IsMade, defs_of}
-use Rattle.made_program.proofs.Lists.{passes, passes_in, one_passes, apart, none_at, clash}
+use Rattle.made_program.proofs.Lists.{passes, passes_in, one_passes, apart, clash}
 use Rattle.made_program.proofs.Tests.{named_of, namings_are, is_word, word_only, names_one, target_named}
 use Rattle.made_program.proofs.Tests.{operands_are_words, is_no_number, is_no_bit, is_set, target_is_word}
 use Rattle.made_program.proofs.Tests.{target_is_set}
@@ -117,7 +119,7 @@ wanted_is_word p m e s (inr (inr (f, y, x, place, is, set, same))) =
     ∙ word_only (name_sort (defs_of m.at) x) (sym (ap (target_is_word (defs_of m.at)) set) ∙ ok))
 
 no_process : (p : Program) (m : IsMade p) (k : ℕ) (q : Process) → IsAt p.processes k q → ⊥
-no_process p m k q is = none_at k q (subst (λ qs. IsAt qs k q) m.processes is)
+no_process p m k q is = none-some q (subst (λ qs. IsAt qs k q) m.processes is)
 
 no_E22 : (p : Program) (m : IsMade p) (at : Place) → E22 p at → ⊥
 no_E22 p m at (inl (e, x, s, t, is, wanted, sort, other, place)) =
@@ -250,7 +252,7 @@ no_E40 p m at (k, n, is, many, place) =
     absurd (omega (arith, many, few, long))
 
 no_E41 : (p : Program) (m : IsMade p) (at : Place) → E41 p at → ⊥
-no_E41 p m at (q, is, place) = no_process p m 16 q is
+no_E41 p m at (q, is, place) = no_process p m PROCESS_LIMIT q is
 
 no_E42 : (p : Program) (m : IsMade p) (at : Place) → E42 p at → ⊥
 no_E42 p m at h = no_process p m h.0 h.1 h.4

@@ -7,7 +7,8 @@ use Rattle.std.proofs.lemmas.Nat.{and_comm, and_le_r}
 use Rattle.std.proofs.lemmas.Slice.Zip.{AllZip-long}
 use Rattle.mp_base.specs.declared.value.TritWord.{TritWord}
 use Rattle.mp_base.specs.declared.pad.Pad.{Pad}
-use Rattle.stimulus.specs.Bits.{bit_count, pad_trits, trits_of}
+use Rattle.stimulus.specs.Bits.{pad_trits, trits_of}
+use Rattle.mp_base.specs.PadBits.{bit_count}
 use Rattle.stimulus.specs.Transcript.{number_of}
 use Rattle.stimulus.proofs.Words.{number_low}
 use Rattle.settled_sum.specs.Sum.{first_number}

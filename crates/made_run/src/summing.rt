@@ -7,7 +7,8 @@ ghost use Rattle.mp_base.specs.declared.value.Trit.TheVariants.{X};
 ghost use Rattle.mp_base.specs.declared.value.TritWord.{TritWord as TritWordValue};
 ghost use Rattle.settle.specs.Values.{value_at};
 ghost use Rattle.switch_net.specs.Breaks.{HasPads};
-ghost use Rattle.stimulus.specs.Bits.{bit_count, trits_of};
+ghost use Rattle.stimulus.specs.Bits.{trits_of};
+ghost use Rattle.mp_base.specs.PadBits.{bit_count};
 ghost use Rattle.settled_sum.specs.Sum.{first_number};
 
 use clock_run::Circuit;

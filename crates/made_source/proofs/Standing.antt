@@ -8,6 +8,7 @@ use Rattle.std.proofs.lemmas.List.{ext_get_or}
 use Rattle.std.proofs.Math.ListN.{get_or-eq_default}
 use Rattle.std.proofs.lemmas.List.FromFn.{get_or-map-range_with_len, get_or-range_with_len, length-range_with_len}
 use Rattle.mp_base.specs.declared.refusal.Place.{Place}
+use Rattle.mp_base.proofs.Entries.{entry}
 use Rattle.form_reader.specs.declared.forms.Kind.TheVariants.{Number}
 use Rattle.form_reader.specs.declared.forms.Forms.{Forms}
 use Rattle.form_reader.specs.Sound.{kind_at, items_of}
@@ -68,7 +69,8 @@ class_at n = slice_index_or classes n None
 below : (test : ℕ → Bool) (n k : ℕ) → list_all test (range_with_len 0 n) ≡ true → k < n → test k ≡ true
 below test n k all less =
     passes test (range_with_len 0 n) k k all
-    (subst (λ m. k < m) (sym (length-range_with_len 0 n)) less, sym (get_or-range_with_len 0 n k k less ∙ zero-add k))
+    (entry (range_with_len 0 n) k (subst (λ m. k < m) (sym (length-range_with_len 0 n)) less)
+    (sym (get_or-range_with_len 0 n k k less ∙ zero-add k)))
 
 class_inside : (n : ℕ) (c : Class) → class_at n ≡ Some c → n < 261
 class_inside n c is =

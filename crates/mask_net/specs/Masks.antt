@@ -2,6 +2,7 @@
 use Rattle.std.specs.Prelude.{◌⊎◌, ℕ, List, [], Option, Some, None}
 use Rattle.mp_base.specs.declared.refusal.Broken.{Broken}
 use Rattle.mp_base.specs.declared.refusal.Refusal.{Refusal}
+use Rattle.mp_base.specs.Refuses.{IsRefusal}
 use Rattle.mp_base.specs.declared.refusal.Refusal.TheVariants as refusals
 use Rattle.lam_geom.specs.declared.rect.Rect.{Rect}
 use Rattle.lam_geom.specs.declared.label.FlatLabel.{FlatLabel}
@@ -53,7 +54,6 @@ abbrev pub OfMask : List ℕ → Option Broken → Type 0
 OfMask bytes None = (network : Network) × IsNetOf bytes network
 OfMask bytes (Some b) = RefusesText bytes (refusals.Broken b) ⊎ BreaksDrawing bytes b ⊎ BreaksMask bytes b
 
--- want of memory, of which nothing is said, or the first broken rule
+-- want of memory, or the first broken rule
 abbrev pub RefusesBytes : List ℕ → Refusal → Type 0
-RefusesBytes bytes refusals.NoMemory = Unit {0}
-RefusesBytes bytes (refusals.Broken b) = OfMask bytes (Some b)
+RefusesBytes bytes = IsRefusal (λ b. OfMask bytes (Some b))

@@ -1,6 +1,7 @@
 //! From the bytes of a file to its network.
 
 ghost use Rattle.std.specs.Prelude.{IfOk, IfErr, None};
+ghost use Rattle.mp_base.specs.Refuses.{IsJudged};
 ghost use Rattle.mask_net.specs.Masks.{IsCif, IsDrawing, IsNetOf, OfMask, RefusesBytes};
 
 use crate::laws::one_verdict;
@@ -63,7 +64,7 @@ pub fn drawing_of(alloc: Global, bytes: Vec<u8>) -> Result<Flat, Refusal>
 /// drawing, F1 to F10, and these before those of masks: N1 and N2, then N3, then N5. `NoMemory` is want of memory.
 pub fn network_of(alloc: Global, bytes: Vec<u8>) -> Result<Network, Refusal>
     ensures ok { IfOk result (IsNetOf bytes.items) }
-    ensures err { IfErr result (RefusesBytes bytes.items) }
+    ensures judged { IsJudged (OfMask bytes.items) result }
 {
     let flat = drawing_of(alloc, bytes)?;
     extract(alloc, flat.shapes.as_slice(), flat.labels.as_slice())

@@ -21,13 +21,14 @@ use Rattle.mask_pieces.specs.declared.piece.Piece.{Piece}
 use Rattle.piece_classes.specs.declared.numbering.Classes.{Classes}
 use Rattle.mask_pieces.specs.Pieces.{AreNumbersOf, conducts_at, over}
 use Rattle.mask_pieces.specs.Columns.{corner_point, IsPieceOver, AreOver}
-use Rattle.mask_pieces.specs.Masks.{asked, IsSwept}
+use Rattle.mask_pieces.specs.Masks.{asked}
+use Rattle.mask_tiles.specs.Sweeps.{IsSweepOf}
 use Rattle.mask_pieces.specs.CutOf.{IsReady}
 use Rattle.piece_classes.specs.Classed.{node_squares, AreClassed}
 use Rattle.mask_nodes.specs.Drawn.{IsNodeOver, AreNodesOver}
 use Rattle.mask_pieces.proofs.Covering.{found_inside, numbers_inside}
 
-pub is_ready : (shapes : List Rect) (mask : Mask) (places : List Point) (s : Swept) → IsSwept shapes mask places s
+pub is_ready : (shapes : List Rect) (mask : Mask) (places : List Point) (s : Swept) → IsSweepOf shapes mask places s
     → IsReady s
 is_ready shapes mask places s h =
     record { ascending = h.tiles.ascending; found = found_inside shapes mask s.tiles places s.found h.found }

@@ -8,10 +8,9 @@ ghost use Rattle.lam_geom.specs.declared.rect.Rect.{Rect};
 ghost use Rattle.lam_geom.specs.Squares.{covered};
 ghost use Rattle.switch_net.specs.Drawn.{IsChannelAt};
 ghost use Rattle.union_find.specs.declared.pair.Pair.{Pair};
-ghost use Rattle.mask_pieces.specs.Masks.{AreMasks};
-ghost use Rattle.mask_pieces.specs.CutOf.{IsCutOf};
-ghost use Rattle.piece_classes.specs.Classed.{AreClassed, node_squares, channel_squares};
+ghost use Rattle.piece_classes.specs.Classed.{node_squares, channel_squares};
 ghost use Rattle.mask_nodes.specs.Ends.{AreListed};
+ghost use Rattle.mask_nodes.specs.Drawn.{AreClassedMasks};
 
 use crate::ends::{all_ends, take_ends};
 use crate::gates::gates;
@@ -33,10 +32,7 @@ pub(crate) fn channels(
     classes: &Classed,
 ) -> Result<List<Channel>, NoMemory>
     ghost drawn: { List Rect × List Point }
-    requires masks { AreMasks drawn.0 drawn.1 masks.now.contacts masks.now.metal masks.now.polysilicon
-        masks.now.diffusion }
-    requires cut { IsCutOf masks.now.metal masks.now.polysilicon masks.now.diffusion cut.now }
-    requires classed { AreClassed drawn.0 cut.now.pieces classes.now.nodes classes.now.channels }
+    requires { AreClassedMasks drawn.0 drawn.1 masks.now cut.now classes.now }
     ensures { IfOk result (AllZip (IsChannelAt (covered drawn.0) (node_squares cut.now.pieces classes.now.nodes))
         (channel_squares cut.now.pieces classes.now.channels)) }
 {

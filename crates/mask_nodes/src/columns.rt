@@ -5,10 +5,8 @@ ghost use Rattle.std.specs.Option.{ForSome, option_map};
 ghost use Rattle.lam_geom.specs.declared.layer.Layer.TheVariants.{NM, NP, ND};
 ghost use Rattle.lam_geom.specs.declared.place.Point.{Point};
 ghost use Rattle.lam_geom.specs.declared.rect.Rect.{Rect};
-ghost use Rattle.mask_pieces.specs.Masks.{AreMasks};
-ghost use Rattle.mask_pieces.specs.CutOf.{IsCutOf};
-ghost use Rattle.piece_classes.specs.Classed.{AreClassed, node_squares};
-ghost use Rattle.mask_nodes.specs.Drawn.{AreNodesOver};
+ghost use Rattle.piece_classes.specs.Classed.{node_squares};
+ghost use Rattle.mask_nodes.specs.Drawn.{AreNodesOver, AreClassedMasks};
 
 use mask_pieces::{Cut, Masks};
 use mp_base::{List, NoMemory};
@@ -31,10 +29,7 @@ pub(crate) fn node_columns(
     classes: &Classed,
 ) -> Result<Columns, NoMemory>
     ghost drawn: { List Rect × List Point }
-    requires masks { AreMasks drawn.0 drawn.1 masks.now.contacts masks.now.metal masks.now.polysilicon
-        masks.now.diffusion }
-    requires cut { IsCutOf masks.now.metal masks.now.polysilicon masks.now.diffusion cut.now }
-    requires classed { AreClassed drawn.0 cut.now.pieces classes.now.nodes classes.now.channels }
+    requires classed { AreClassedMasks drawn.0 drawn.1 masks.now cut.now classes.now }
     requires count { count ≡ length drawn.1 }
     ensures metal { IfOk result
         (λ c. AreNodesOver drawn.0 (node_squares cut.now.pieces classes.now.nodes) NM drawn.1 c.metal) }

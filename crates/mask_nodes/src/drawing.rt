@@ -5,8 +5,7 @@ ghost use Rattle.lam_geom.specs.declared.place.Point.{Point};
 ghost use Rattle.lam_geom.specs.declared.rect.Rect.{Rect};
 ghost use Rattle.mask_pieces.specs.Masks.{AreMasks};
 ghost use Rattle.mask_pieces.specs.CutOf.{IsCutOf};
-ghost use Rattle.piece_classes.specs.Classed.{AreClassed};
-ghost use Rattle.mask_nodes.specs.Drawn.{IsDrawn};
+ghost use Rattle.mask_nodes.specs.Drawn.{IsDrawn, AreClassedMasks};
 
 use crate::channels::channels;
 use crate::columns::{Columns, node_columns};
@@ -82,10 +81,7 @@ fn assemble(
     classes: &Classed,
 ) -> Result<Drawing, NoMemory>
     ghost drawn: { List Rect × List Point }
-    requires masks { AreMasks drawn.0 drawn.1 masks.now.contacts masks.now.metal masks.now.polysilicon
-        masks.now.diffusion }
-    requires cut { IsCutOf masks.now.metal masks.now.polysilicon masks.now.diffusion cut.now }
-    requires classed { AreClassed drawn.0 cut.now.pieces classes.now.nodes classes.now.channels }
+    requires classed { AreClassedMasks drawn.0 drawn.1 masks.now cut.now classes.now }
     requires count { count ≡ length drawn.1 }
     ensures { IfOk result (IsDrawn drawn.0 drawn.1) }
 {

@@ -4,7 +4,8 @@ ghost use Rattle.std.specs.Prelude.{◌++◌, IfOk, map};
 ghost use Rattle.lam_geom.specs.declared.layer.Layer.TheVariants.{NM, NP};
 ghost use Rattle.mask_runs.specs.declared.mask.Mask.TheVariants.{Only, Diffusion};
 ghost use Rattle.mask_pieces.specs.Columns.{corner_point};
-ghost use Rattle.mask_pieces.specs.Masks.{AreMasks, IsSwept, asked};
+ghost use Rattle.mask_pieces.specs.Masks.{AreMasks, asked};
+ghost use Rattle.mask_tiles.specs.Sweeps.{IsSweepOf};
 
 use crate::spots::spots;
 use lam_geom::{Layer, Point, Rect};
@@ -42,16 +43,16 @@ fn sweep_both(
     first: &[Tile],
     places: &[Point],
 ) -> Result<(Swept, Swept), NoMemory>
-    ensures metal { IfOk result (λ m. IsSwept shapes.now (Only NM) (asked first.now places.now) m.0) }
-    ensures diffusion { IfOk result (λ m. IsSwept shapes.now Diffusion (asked first.now places.now) m.1) }
+    ensures metal { IfOk result (λ m. IsSweepOf shapes.now (Only NM) (asked first.now places.now) m.0) }
+    ensures diffusion { IfOk result (λ m. IsSweepOf shapes.now Diffusion (asked first.now places.now) m.1) }
 {
     let asked = spots(alloc, first, places, &[])?;
     sweep_asked(alloc, shapes, asked.as_slice())
 }
 
 fn sweep_asked(alloc: Global, shapes: &[Rect], asked: &[Point]) -> Result<(Swept, Swept), NoMemory>
-    ensures metal { IfOk result (λ m. IsSwept shapes.now (Only NM) asked.now m.0) }
-    ensures diffusion { IfOk result (λ m. IsSwept shapes.now Diffusion asked.now m.1) }
+    ensures metal { IfOk result (λ m. IsSweepOf shapes.now (Only NM) asked.now m.0) }
+    ensures diffusion { IfOk result (λ m. IsSweepOf shapes.now Diffusion asked.now m.1) }
 {
     let metal = sweep(alloc, shapes, Mask::Only(Layer::NM), asked)?;
     let diffusion = sweep(alloc, shapes, Mask::Diffusion, asked)?;
@@ -67,7 +68,7 @@ fn sweep_polysilicon(
     places: &[Point],
     last: &[Tile],
 ) -> Result<Swept, NoMemory>
-    ensures { IfOk result (IsSwept shapes.now (Only NP) (asked first.now places.now ++ map corner_point last.now)) }
+    ensures { IfOk result (IsSweepOf shapes.now (Only NP) (asked first.now places.now ++ map corner_point last.now)) }
 {
     let asked = spots(alloc, first, places, last)?;
     sweep(alloc, shapes, Mask::Only(Layer::NP), asked.as_slice())

@@ -1,23 +1,13 @@
 -- What the sweeps of the masks of contacts and conductors find.
 use Rattle.std.specs.Prelude.{◌++◌, List, [], map}
-use Rattle.std.specs.List.{AllZip}
 use Rattle.lam_geom.specs.declared.layer.Layer.TheVariants.{NM, NP}
 use Rattle.lam_geom.specs.declared.place.Point.{Point}
 use Rattle.lam_geom.specs.declared.rect.Rect.{Rect}
-use Rattle.mask_runs.specs.declared.mask.Mask.{Mask}
 use Rattle.mask_runs.specs.declared.mask.Mask.TheVariants.{Only, Diffusion, Contacts}
 use Rattle.mask_tiles.specs.declared.tile.Tile.{Tile}
 use Rattle.mask_tiles.specs.declared.swept.Swept.{Swept}
-use Rattle.mask_tiles.specs.Tiles.{AreTiles, AreWhole, IsTileOf}
-use Rattle.mask_tiles.specs.Touching.{AreTouching}
+use Rattle.mask_tiles.specs.Sweeps.{IsSweepOf}
 use Rattle.mask_pieces.specs.Columns.{corner_point}
-
--- all that a sweep finds with these places
-pub record IsSwept (shapes : List Rect) (mask : Mask) (places : List Point) (s : Swept) : Type 0 where
-  pub tiles : AreTiles shapes mask s.tiles
-  pub whole : AreWhole shapes mask s.tiles
-  pub pairs : AreTouching s.tiles s.pairs
-  pub found : AllZip (IsTileOf shapes mask s.tiles) places s.found
 
 -- the places that are asked for on metal and diffusion: the first squares of contacts, and then these
 abbrev pub asked : List Tile → List Point → List Point
@@ -25,8 +15,8 @@ asked contacts places = map corner_point contacts ++ places
 
 pub record AreMasks (shapes : List Rect) (places : List Point)
     (contacts metal polysilicon diffusion : Swept) : Type 0 where
-  pub contacts_swept : IsSwept shapes Contacts [] contacts
-  pub metal_swept : IsSwept shapes (Only NM) (asked contacts.tiles places) metal
-  pub diffusion_swept : IsSwept shapes Diffusion (asked contacts.tiles places) diffusion
-  pub polysilicon_swept : IsSwept shapes (Only NP)
+  pub contacts_swept : IsSweepOf shapes Contacts [] contacts
+  pub metal_swept : IsSweepOf shapes (Only NM) (asked contacts.tiles places) metal
+  pub diffusion_swept : IsSweepOf shapes Diffusion (asked contacts.tiles places) diffusion
+  pub polysilicon_swept : IsSweepOf shapes (Only NP)
       (asked contacts.tiles places ++ map corner_point diffusion.tiles) polysilicon

@@ -3,16 +3,17 @@ use Rattle.std.proofs.Common.{[], List, ℕ, ◌≤◌, ◌<◌, length, ◌+◌
 use Rattle.std.proofs.Common.{drop, ap, take, ◌∙◌, zero, suc, refl, slice_index, replicate, inl}
 use Rattle.std.proofs.Common.{inr, sym, ◌⊎◌, Some, map, subst, Bool, true, false}
 use Rattle.std.specs.Prelude.{slice_range, slice_index, slice_get, Some, Contains, slice_set, All}
-use Rattle.std.specs.Prelude.{◌||◌}
+use Rattle.std.specs.Prelude.{◌||◌, cond}
 use Rattle.std.proofs.lemmas.List.{length-drop, take_more, get_or-drop, get_or-replicate}
 use Rattle.std.proofs.lemmas.List.{get_or_past, length-replicate}
-use Rattle.std.specs.List.{AllByRecursion, list_any}
+use Rattle.std.specs.List.{AllByRecursion, list_any, filter}
 use Rattle.std.proofs.lemmas.Bool.{cases_lt, false≢true}
 use Rattle.std.proofs.lemmas.Option.{same_Some, slice_get-get_or, slice_get_within}
 use Rattle.std.proofs.lemmas.Option.{get_or_from_slice_get, none-some, slice_get_cases}
-use Rattle.std.proofs.lemmas.Option.{slice_get-map}
+use Rattle.std.proofs.lemmas.Option.{slice_get-map, slice_get_read}
 use Rattle.std.proofs.Math.Seq.{get_or-append_seam}
 use Rattle.std.specs.Option.{option_map}
+use Rattle.mp_base.specs.Entries.{IsAt}
 
 -- one byte more
 pub slice_range_more : (xs : List ℕ) (a i : ℕ) → a ≤ i → i < length xs
@@ -131,3 +132,42 @@ any_found {X} p (x ∷ xs) e = by_head (p x) refl (any_found p xs) e
         → (k : ℕ) × (y : X) × (slice_get (x ∷ xs) k ≡ Some y) × (p y ≡ true)
     by_head true q again h = (0, x, refl, q)
     by_head false q again h = let r = again h in (suc r.0, r.1, r.2, r.3)
+
+-- ---- one entry
+
+pub within : {X : Type 0} (xs : List X) (k : ℕ) {x : X} → IsAt xs k x → k < length xs
+within xs k {x} at = slice_get_within xs k x at
+
+pub value : {X : Type 0} (xs : List X) (k : ℕ) {x : X} → IsAt xs k x → x ≡ get_or xs k x
+value xs k {x} at = sym (get_or_from_slice_get xs k x x at)
+
+pub entry : {X : Type 0} (xs : List X) (k : ℕ) {x : X} → k < length xs → x ≡ get_or xs k x → IsAt xs k x
+entry xs k {x} lt is = slice_get_read xs (length xs) k x refl lt is
+
+pub read_of : {X : Type 0} (xs : List X) (k : ℕ) (x : X) → IsAt xs k x → (k < length xs) × (x ≡ get_or xs k x)
+read_of xs k x at = (within xs k at, value xs k at)
+
+pub one_entry : {X : Type 0} (xs : List X) (k : ℕ) (x y : X) → IsAt xs k x → IsAt xs k y → x ≡ y
+one_entry xs k x y at at' = same_Some x y (sym at ∙ at')
+
+-- ---- entries of a list that is kept in part, and what holds of all
+
+pub get_filter : {X : Type 0} (t : X → Bool) (xs : List X) (k : ℕ) (x : X) → IsAt (filter t xs) k x
+    → (j : ℕ) × IsAt xs j x
+get_filter t [] k x at = absurd (let lt = slice_get_within [] k x at in omega (arith, lt))
+get_filter {X} t (y ∷ ys) k x at = kept (λ i. get_filter t ys i x) (t y) k at
+  where
+    behind : (j : ℕ) × IsAt ys j x → (j : ℕ) × IsAt (y ∷ ys) j x
+    behind (j, at) = (suc j, at)
+
+    kept : ((i : ℕ) → IsAt (filter t ys) i x → (j : ℕ) × IsAt ys j x) → (b : Bool) (i : ℕ)
+        → IsAt (cond b (y ∷ filter t ys) (filter t ys)) i x
+        → (j : ℕ) × IsAt (y ∷ ys) j x
+    kept rest true zero at = (0, at)
+    kept rest true (suc i) at = behind (rest i at)
+    kept rest false i at = behind (rest i at)
+
+pub each_at : {X : Type 0} (P : X → Type 0) (xs : List X) (k : ℕ) (x : X) → AllByRecursion P xs → IsAt xs k x → P x
+each_at P [] k x all at = absurd (none-some x at)
+each_at P (y ∷ ys) zero x all at = subst P (same_Some y x at) all.0
+each_at P (y ∷ ys) (suc k) x all at = each_at P ys k x all.1 at

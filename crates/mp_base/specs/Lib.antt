@@ -6,4 +6,5 @@ pub mod Token
 pub mod Refuses
 pub mod Meet
 pub mod PadNames
+pub mod PadBits
 pub mod Entries

@@ -1,6 +1,7 @@
 //! What every crate shares: lists and names, places and refusals, values and pads, operators.
 #![tactic(auto)]
 
+mod limits;
 mod list;
 mod merge;
 mod name;
@@ -12,6 +13,7 @@ mod refusal;
 mod token;
 mod value;
 
+pub use limits::WEIGHT_LIMIT;
 pub use list::List;
 pub use merge::join;
 pub use name::Name;

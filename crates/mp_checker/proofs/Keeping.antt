@@ -1,6 +1,8 @@
 -- Rules that are kept, one after another.
 use Rattle.std.proofs.Common.{◌≡◌, inl, inr, ℕ, ◌+◌, ◌<◌, ◌≤◌, refl, sym, ap, subst, arith, Option, Some, None}
+use Rattle.std.proofs.Common.{MatchOption}
 use Rattle.std.proofs.lemmas.Bool.{cases_order}
+use Rattle.mp_base.specs.declared.limits.TheConstants.{WEIGHT_LIMIT}
 use Rattle.mp_base.specs.declared.refusal.Place.{Place}
 use Rattle.mp_base.specs.declared.refusal.Family.TheVariants.{E}
 use Rattle.mp_base.specs.declared.refusal.Spot.TheVariants.{At}
@@ -74,9 +76,13 @@ pub refuses_first : (p : Program) (k : ℕ) (at : Place) (e : Refusal)
     → KeepsBelow p k → IsEarliest (Breaks p k) (Some at) → RefusesFirst p e
 refuses_first p k at e is below h = subst (RefusesFirst p) (sym is) (refl, first_broken p k at below h)
 
+-- what a program weighs, or that it is too heavy
+abbrev pub IsWeighed : Program → Option ℕ → Type 0
+IsWeighed p found = MatchOption found (WEIGHT_LIMIT < weight p) (λ w. (w ≡ weight p) × (w ≤ WEIGHT_LIMIT))
+
 -- a weight within the limit
-pub light : (p : Program) → weight p ≤ 1024 → KeepsBelow p 44 → KeepsBelow p 45
+pub light : (p : Program) → weight p ≤ WEIGHT_LIMIT → KeepsBelow p 44 → KeepsBelow p 45
 light p le below = keeps_more p 44 None below refl (rule_44 p None (λ at b. omega (arith, le, b.0)))
 
-pub heavy : (p : Program) → 1024 < weight p → IsEarliest (Breaks p 44) (Some p.place)
+pub heavy : (p : Program) → WEIGHT_LIMIT < weight p → IsEarliest (Breaks p 44) (Some p.place)
 heavy p lt = rule_44 p (Some p.place) ((lt, refl), λ there b. omega (arith, ap (λ (z : Place). z.offset) b.1))

@@ -4,7 +4,8 @@ use Rattle.std.proofs.Common.{arith, length, get_or, Bool, true, false}
 use Rattle.std.specs.Prelude.{map, filter, not, ◌&&◌, ◌||◌, ◌==◌}
 use Rattle.std.specs.List.{All, AllPairs, list_all, list_any}
 use Rattle.std.specs.Str.{bytes_eq}
-use Rattle.std.proofs.lemmas.List.{map-append, get_or-map, get_or_default, length-map}
+use Rattle.std.proofs.lemmas.List.{map-append, get_or-map, length-map}
+use Rattle.std.proofs.lemmas.Option.{get_or_from_slice_get, slice_get-get_or}
 use Rattle.std.proofs.lemmas.Bool.{leb-true, false≢true, true≢false}
 use Rattle.std.proofs.lemmas.List.Elements.{All-append, All-filter, filter_passes}
 use Rattle.std.proofs.lemmas.List.Kept.{AllPairs-cons, AllPairs-filter}
@@ -25,7 +26,8 @@ use Rattle.mp_program.specs.Fits.{is_symbol, def_fits}
 use Rattle.mp_program.specs.Pads.{Face, face, pad_width}
 use Rattle.mp_program.proofs.FormKinds.{defs_fit}
 use Rattle.mp_base.specs.Entries.{IsAt}
-use Rattle.mp_rules.specs.Naming.{OwnNames, is_reserved, def_naming}
+use Rattle.mp_base.proofs.Entries.{within, same_at, get_from_contains, contains_from_get}
+use Rattle.mp_rules.specs.Naming.{OwnNames, is_reserved, namings, def_naming}
 use Rattle.mp_rules.specs.Rules.{E20}
 use Rattle.mp_limits.proofs.Namings.{def_named}
 
@@ -86,14 +88,16 @@ named p s i x at kind =
     let P : Def → Type 0 = λ v. def_fits v ≡ true in
     let other : is_supply x.what ≡ false = no_supply x.what kind in
     symbol_names x.name
-    (fit_symbol x (subst P (sym at.1) (AllPass-from_list_all def_fits p.defs (defs_fit p) i x at.0)) other)
+    (fit_symbol x (subst P (get_or_from_slice_get p.defs i x x at)
+    (AllPass-from_list_all def_fits p.defs (defs_fit p) i x (within p.defs i at))) other)
     (free (is_reserved x.name) refl other)
   where
     free : (b : Bool) → is_reserved x.name ≡ b → is_supply x.what ≡ false → is_reserved x.name ≡ false
     free false e other = e
     free true e other =
-        let n = def_named p x (i, at.0, at.1) (ap not other) in
-        absurd (s.kept x.place (inl (n.0, def_naming x, (n.1, n.2), refl, inl e)))
+        let c = def_named p x (contains_from_get p.defs i x at) (ap not other) in
+        let (k, there) = get_from_contains (namings p) (def_naming x) c in
+        absurd (s.kept x.place (inl (k, def_naming x, there, refl, inl e)))
 
 -- two pads at different indices have different names
 apart : (p : Program) → Names p → (i j : ℕ) (x y : Def) → IsAt p.defs i x → IsAt p.defs j y → IsPad x.what
@@ -128,7 +132,7 @@ IsIn defs x = (i : ℕ) × IsAt defs i x
 all_in : (kind : What → Bool) (defs : List Def) → All (IsIn defs) (filter (λ (x : Def). kind x.what) defs)
 all_in kind defs =
     All-filter (λ (x : Def). kind x.what) (IsIn defs) defs
-    (λ k d lt. (k, (lt, get_or_default defs k d (get_or defs k d) lt)))
+    (λ k d lt. (k, slice_get-get_or defs k d lt))
 
 -- both pads have different names
 abbrev Differ : Def → Def → Type 0
@@ -166,9 +170,8 @@ differing p s kind pad i j d ij jl =
     AllPairs-filter (λ (x y : Def). kind x.what ≡ true → kind y.what ≡ true → Differ x y)
     (λ (x : Def). kind x.what) p.defs
     (λ a b e ab bl ka kb. apart p s a b (get_or p.defs a e) (get_or p.defs b e)
-    (omega (arith, ab, bl), get_or_default p.defs a e (get_or p.defs a e) (omega (arith, ab, bl)))
-    (bl, get_or_default p.defs b e (get_or p.defs b e) bl) (pad (get_or p.defs a e).what ka)
-    (pad (get_or p.defs b e).what kb) (λ same. omega (arith, same, ab)))
+    (slice_get-get_or p.defs a e (omega (arith, ab, bl))) (slice_get-get_or p.defs b e bl)
+    (pad (get_or p.defs a e).what ka) (pad (get_or p.defs b e).what kb) (λ same. omega (arith, same, ab)))
     i j d ij jl (filter_passes (λ (x : Def). kind x.what) p.defs i d (omega (arith, ij, jl)))
     (filter_passes (λ (x : Def). kind x.what) p.defs j d jl)
 
@@ -197,15 +200,8 @@ pad_names p own kept inputs outputs in_faces out_faces =
         let (j, at_j) = all_in is_output p.defs m e ml in
         let input = filter_passes (λ (x : Def). is_input x.what) p.defs k d kl in
         let output = filter_passes (λ (x : Def). is_output x.what) p.defs m e ml in
-        apart p s i j (get_or (of_kind is_input p.defs) k d) (get_or (of_kind is_output p.defs) m e) at_i at_j
-        (inl input) (inr output)
-        (λ same. not_both (get_or (of_kind is_input p.defs) k d).what input
-        (let P : Def → Type 0 = λ x. is_output x.what ≡ true in subst P (sym (here i j at_i at_j same)) output))
-      where
-        here : (i j : ℕ) → IsAt p.defs i (get_or (of_kind is_input p.defs) k d)
-            → IsAt p.defs j (get_or (of_kind is_output p.defs) m e) → i ≡ j
-            → get_or (of_kind is_input p.defs) k d ≡ get_or (of_kind is_output p.defs) m e
-        here i j (il, is_i) (jl, is_j) same =
-            let x = get_or (of_kind is_input p.defs) k d in
-            let y = get_or (of_kind is_output p.defs) m e in
-            is_i ∙ ap (λ n. get_or p.defs n x) same ∙ get_or_default p.defs j x y jl ∙ sym is_j
+        let x = get_or (of_kind is_input p.defs) k d in
+        let y = get_or (of_kind is_output p.defs) m e in
+        apart p s i j x y at_i at_j (inl input) (inr output) (λ same. not_both x.what input
+        (let P : Def → Type 0 = λ z. is_output z.what ≡ true in
+        subst P (sym (same_at p.defs i j x y same at_i at_j)) output))

@@ -59,13 +59,32 @@ told p k at (inr (inr (inr (inr (inr (inr (inr (inr (inr (inr (inr (inr (inr (in
     numbered p k at 34 e (omega arith) (omega arith) h
 told p k at (inr (inr (inr (inr (inr (inr (inr (inr (inr (inr (inr (inr (inr (inr (inr (inl (e, h))))))))))))))))) =
     numbered p k at 35 e (omega arith) (omega arith) h
-told p k at (inr (inr (inr (inr (inr (inr (inr (inr (inr (inr (inr (inr (inr (inr (inr (inr (inl (e, h)))))))))))))))))) = numbered p k at 36 e (omega arith) (omega arith) h
-told p k at (inr (inr (inr (inr (inr (inr (inr (inr (inr (inr (inr (inr (inr (inr (inr (inr (inr (inl (e, h))))))))))))))))))) = numbered p k at 40 e (omega arith) (omega arith) h
-told p k at (inr (inr (inr (inr (inr (inr (inr (inr (inr (inr (inr (inr (inr (inr (inr (inr (inr (inr (inl (e, h)))))))))))))))))))) = numbered p k at 41 e (omega arith) (omega arith) h
-told p k at (inr (inr (inr (inr (inr (inr (inr (inr (inr (inr (inr (inr (inr (inr (inr (inr (inr (inr (inr (inl (e, h))))))))))))))))))))) = numbered p k at 42 e (omega arith) (omega arith) h
-told p k at (inr (inr (inr (inr (inr (inr (inr (inr (inr (inr (inr (inr (inr (inr (inr (inr (inr (inr (inr (inr (inl (e, h)))))))))))))))))))))) = numbered p k at 43 e (omega arith) (omega arith) h
-told p k at (inr (inr (inr (inr (inr (inr (inr (inr (inr (inr (inr (inr (inr (inr (inr (inr (inr (inr (inr (inr (inr (inl (e, h))))))))))))))))))))))) = numbered p k at 44 e (omega arith) (omega arith) h
-told p k at (inr (inr (inr (inr (inr (inr (inr (inr (inr (inr (inr (inr (inr (inr (inr (inr (inr (inr (inr (inr (inr (inr ((e, h)))))))))))))))))))))))) = numbered p k at 45 e (omega arith) (omega arith) h
+told p k at
+    (inr (inr (inr (inr (inr (inr (inr (inr (inr (inr (inr (inr (inr (inr (inr (inr (inl (e, h)))))))))))))))))) =
+    numbered p k at 36 e (omega arith) (omega arith) h
+told p k at
+    (inr (inr (inr (inr (inr (inr (inr (inr (inr (inr (inr (inr (inr (inr (inr (inr (inr (inl (e, h))))))))))))))))))) =
+    numbered p k at 40 e (omega arith) (omega arith) h
+told p k at
+    (inr (inr (inr (inr (inr (inr (inr (inr (inr (inr (inr (inr (inr (inr (inr (inr (inr (inr
+    (inl (e, h)))))))))))))))))))) =
+    numbered p k at 41 e (omega arith) (omega arith) h
+told p k at
+    (inr (inr (inr (inr (inr (inr (inr (inr (inr (inr (inr (inr (inr (inr (inr (inr (inr (inr (inr
+    (inl (e, h))))))))))))))))))))) =
+    numbered p k at 42 e (omega arith) (omega arith) h
+told p k at
+    (inr (inr (inr (inr (inr (inr (inr (inr (inr (inr (inr (inr (inr (inr (inr (inr (inr (inr (inr (inr
+    (inl (e, h)))))))))))))))))))))) =
+    numbered p k at 43 e (omega arith) (omega arith) h
+told p k at
+    (inr (inr (inr (inr (inr (inr (inr (inr (inr (inr (inr (inr (inr (inr (inr (inr (inr (inr (inr (inr (inr
+    (inl (e, h))))))))))))))))))))))) =
+    numbered p k at 44 e (omega arith) (omega arith) h
+told p k at
+    (inr (inr (inr (inr (inr (inr (inr (inr (inr (inr (inr (inr (inr (inr (inr (inr (inr (inr (inr (inr (inr (inr
+    ((e, h)))))))))))))))))))))))) =
+    numbered p k at 45 e (omega arith) (omega arith) h
 
 pub rule_20 : (p : Program) (found : Option Place) → IsEarliest (E20 p) found → IsEarliest (Breaks p 20) found
 rule_20 p found h =

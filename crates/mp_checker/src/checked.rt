@@ -8,10 +8,12 @@ ghost use Rattle.mp_program.specs.Pads.{ArePadsOf};
 ghost use Rattle.mp_program.specs.Reads.{IsOrder};
 ghost use Rattle.mp_program.specs.Trace.{stores};
 ghost use Rattle.mp_program.specs.Weight.{weight};
-ghost use Rattle.mp_rules.specs.Breaking.{IsUnbroken, RefusesFirst};
+ghost use Rattle.mp_rules.specs.Breaking.{IsUnbroken, RefusesFirst, OfProgram};
 ghost use Rattle.name_meanings.specs.Meaning.{AreMeanings};
 ghost use Rattle.mp_checker.specs.Checking.{AreFindings};
 ghost use Rattle.mp_checker.specs.Kept.{KeepsBelow};
+ghost use Rattle.mp_base.specs.declared.limits.TheConstants.{WEIGHT_LIMIT};
+ghost use Rattle.mp_base.specs.Refuses.{IsJudged};
 
 use crate::groups::{
     judge_counts, judge_forms, judge_names, judge_numbers, judge_order, judge_presence,
@@ -90,10 +92,10 @@ impl Checked {
     }
 }
 
-/// What a program weighs: at most 1024.
+/// What a program weighs.
 pub fn weight(checked: &Checked) -> u32
     ensures weight { result ≡ weight checked.now.program }
-    ensures light { result ≤ 1024 }
+    ensures light { result ≤ WEIGHT_LIMIT }
 {
     checked.weighed()
 }
@@ -151,8 +153,8 @@ fn findings_of(alloc: Global, program: &Program) -> Result<Findings, Refusal>
 /// Checks a program against rules E20 to E45. The error is the first rule that it breaks, by number, at the earliest
 /// place by offset, or want of memory.
 pub fn check(alloc: Global, program: Program) -> Result<Checked, Refusal>
-    ensures ok { IfOk result (λ checked. (checked.program ≡ program) × IsUnbroken program) }
-    ensures err { IfErr result (RefusesFirst program) }
+    ensures program { IfOk result (λ checked. checked.program ≡ program) }
+    ensures judged { IsJudged (OfProgram program) result }
 {
     let Findings {
         pads,

@@ -10,7 +10,7 @@ ghost use Rattle.name_meanings.specs.Table.{IsNameTable};
 ghost use Rattle.mp_checker.specs.Kept.{KeepsBelow};
 
 use crate::judge::{judge, refusal};
-use mp_base::{List, Refusal};
+use mp_base::{List, Refusal, WEIGHT_LIMIT};
 use mp_limits::{
     bit_past_word, crowded_name, deep_process, empty_process, far_process, long_process,
     many_exprs, missing_supply, repeated_pin, uneven_pins, wide_number, without_reset,
@@ -23,9 +23,6 @@ use mp_transfers::{
 };
 use mp_weight::weight_within;
 use std::alloc::Global;
-
-/// The greatest weight that a program may have.
-const WEIGHT_LIMIT: u32 = 1024;
 
 /// Rules E20 to E22.
 pub fn judge_names(program: &Program, names: &NameTable<'_>) -> Result<(), Refusal>

@@ -6,6 +6,7 @@ use Rattle.std.specs.List.{AllByRecursion, flat_map}
 use Rattle.std.proofs.lemmas.Bool.{cases_lt}
 use Rattle.std.proofs.lemmas.List.{get_or_past}
 use Rattle.std.proofs.lemmas.List.Elements.{All-from_recursion, All-contains}
+use Rattle.std.proofs.lemmas.Option.{slice_get_within}
 use Rattle.std.proofs.lemmas.Slice.Eq.{bytes_eq-Decides}
 use Rattle.mp_base.specs.Merge.{join, merged}
 use Rattle.mp_base.specs.declared.refusal.Place.{Place}
@@ -30,7 +31,7 @@ use Rattle.mp_base.specs.Entries.{IsAt}
 use Rattle.mp_rules.specs.Naming.{OwnNames}
 use Rattle.mp_rules.specs.Rules.{E22, E23}
 use Rattle.mp_rules.specs.Sorts.{Sort, IsWord, IsBit, name_sort, operand_sort, expr_sort, IsWanted}
-use Rattle.mp_base.proofs.ListEntries.{some_entry, get_at}
+use Rattle.mp_base.proofs.Entries.{some_entry}
 use Rattle.mp_fitting.specs.Fitting.{def_limit, ValuesFit}
 use Rattle.mp_fitting.proofs.Sizes.{sort_limit, limit_positive, limit_is, sort_of, or_fits}
 use Rattle.mp_fitting.proofs.Operators.{apply_fits}
@@ -166,7 +167,7 @@ module _ (p : Program) (a : Fitting p) (env : List ℕ) (f : ValuesFit p env) wh
       args_behind =
           let P : ExprKind → Type 0 = ArgsFit e (length p.exprs) in
           let h : ArgsFit e (length p.exprs) (Apply op k args) =
-          subst P same (a.sound.exprs e x (get_at p.exprs e x is)) in
+          subst P same (a.sound.exprs e x is) in
           All-from_recursion (λ b. (e < b) × (b < length p.exprs)) args h.1
 
       argument : (b : ℕ) → Contains args b → value_of p env b < sort_limit p.width (Some (operand_sort op))
@@ -176,10 +177,10 @@ module _ (p : Program) (a : Fitting p) (env : List ℕ) (f : ValuesFit p env) wh
           wanted b y (operand_sort op) at (inl (e, x, op, k, args, is, same, c, refl)) (rest b y behind at)
 
   fit_from : (m e : ℕ) (x : Expr) → length p.exprs ≤ e + m → IsAt p.exprs e x → IsFit e x
-  fit_from zero e x le is = absurd (let l : e < length p.exprs = is.0 in omega (arith, le, l))
+  fit_from zero e x le is = absurd (let l = slice_get_within p.exprs e x is in omega (arith, le, l))
   fit_from (suc m) e x le is =
       let P : ℕ → Type 0 = λ v. v < sort_limit p.width (expr_sort p.defs x.kind) in
-      subst P (sym (a.values env e x (get_at p.exprs e x is)))
+      subst P (sym (a.values env e x is))
       (kind_fit e x is (λ b y lt at. fit_from m b y (omega (arith, le, lt)) at) x.kind refl)
 
   guard_in : (g n : ℕ) (bs : List Branch) (b : Branch) → BranchesFit (length p.exprs) g n bs → Contains bs b
@@ -197,7 +198,7 @@ module _ (p : Program) (a : Fitting p) (env : List ℕ) (f : ValuesFit p env) wh
       → Contains bs b → value_of p env b.guard < 2
   guard_fit g y bs b is same among =
       let P : FormKind → Type 0 = InnerFit (length p.exprs) g (length p.forms) in
-      let fit : P (Cond bs) = subst P same (a.sound.forms g y (get_at p.forms g y is)) in
+      let fit : P (Cond bs) = subst P same (a.sound.forms g y is) in
       let (inside, guarded) = guard_in g (length p.forms) bs b fit among in
       let (x, at) = some_entry p.exprs b.guard inside in
       wanted b.guard x IsBit at (inr (inl (g, y, bs, is, same, guarded, refl)))
@@ -211,7 +212,7 @@ module _ (p : Program) (a : Fitting p) (env : List ℕ) (f : ValuesFit p env) wh
     where
       inside : e < length p.exprs
       inside = let P : FormKind → Type 0 = InnerFit (length p.exprs) g (length p.forms) in
-          subst P same (a.sound.forms g y (get_at p.forms g y is))
+          subst P same (a.sound.forms g y is)
 
       value : (s : Sort) → name_sort p.defs name ≡ Some s → value_of p env e < sort_limit p.width (Some s)
       value s sort =
@@ -221,12 +222,12 @@ module _ (p : Program) (a : Fitting p) (env : List ℕ) (f : ValuesFit p env) wh
   form_fit g y is rest (Cond bs) same =
       let P : FormKind → Type 0 = InnerFit (length p.exprs) g (length p.forms) in
       branches_fit p (value_of p env) (effects_of p env) g bs rest
-      (subst P same (a.sound.forms g y (get_at p.forms g y is)))
+      (subst P same (a.sound.forms g y is))
   form_fit g y is rest (Par fs) same =
       let P : FormKind → Type 0 = InnerFit (length p.exprs) g (length p.forms) in
       flat_fits p (effects_of p env) fs
       (all_between (λ j. WritesFit p (effects_of p env j)) g (length p.forms) fs rest
-      (subst P same (a.sound.forms g y (get_at p.forms g y is))))
+      (subst P same (a.sound.forms g y is)))
   form_fit g y is rest (Go l) same = (tt, tt)
   form_fit g y is rest (Call l) same = (tt, tt)
   form_fit g y is rest Return same = (tt, tt)
@@ -245,7 +246,7 @@ module _ (p : Program) (a : Fitting p) (env : List ℕ) (f : ValuesFit p env) wh
     | inl lt ↦ (
         let (y, is) = some_entry p.forms g lt in
         let P : List Effect → Type 0 = WritesFit p in
-        subst P (sym (a.effects env g y (get_at p.forms g y is)))
+        subst P (sym (a.effects env g y is))
         (form_fit g y is (λ j gj jl. writes_from m j (omega (arith, le, gj))) y.kind refl))
     | inr ge ↦ nothing_past g ge
   ]

@@ -1,4 +1,4 @@
--- Rule E40 by the 257th least of the offsets of all that has a name.
+-- Rule E40 by the offsets of all that has a name, in order.
 use Rattle.std.proofs.Common.{◌≡◌, ◌⊎◌, inl, inr, ℕ, zero, suc, ◌+◌, ◌<◌, ◌≤◌, List, [], ◌∷◌, ◌++◌, refl, sym, ◌∙◌, ap}
 use Rattle.std.proofs.Common.{subst, arith, length, get_or, zero-add, Bool, cond, Option}
 use Rattle.std.specs.Prelude.{map, filter, nat_le}
@@ -10,12 +10,14 @@ use Rattle.std.proofs.lemmas.List.Sorted.{sum_by-IsPermutation}
 use Rattle.std.proofs.lemmas.List.Sums.{count_by-le-length, sum_by-cons}
 use Rattle.std.proofs.lemmas.Simd.{map-map}
 use Rattle.mp_base.specs.declared.refusal.Place.{Place}
+use Rattle.mp_base.proofs.Entries.{get_from_contains, contains_from_get}
 use Rattle.mp_program.specs.declared.program.Def.{Def}
 use Rattle.mp_program.specs.declared.program.Process.{Process}
 use Rattle.mp_program.specs.declared.program.Program.{Program}
 use Rattle.mp_rules.specs.Naming.{Naming, namings, def_naming, process_naming}
 use Rattle.mp_rules.specs.Breaking.{IsEarliest}
 use Rattle.mp_rules.specs.Rules.{E40, namings_up_to}
+use Rattle.mp_rules.specs.declared.limits.TheConstants.{NAMING_LIMIT}
 use Rattle.mp_limits.specs.Finding.{place_that, is_from, named_from}
 use Rattle.mp_limits.proofs.Scans.{IsFoundIn, earliest_same, earliest_two, passes, passed}
 use Rattle.mp_limits.proofs.Namings.{has_name, def_named, process_named, named}
@@ -96,67 +98,69 @@ sorted_count o (x ∷ xs) k up lt = elim (cases_lt o x) [
         let rest = each j (omega (arith, jl)) in
         (λ c. rest.0 (omega (arith, one, c)), λ s. let more = rest.1 s in omega (arith, one, more))
 
--- at most 256 names
-pub few_names : (p : Program) → length (offsets_of p) ≤ 256 → (at : Place) → E40 p at → ⊥
+-- no more names than there may be
+pub few_names : (p : Program) → length (offsets_of p) ≤ NAMING_LIMIT → (at : Place) → E40 p at → ⊥
 few_names p few at (k, n, is, many, e) =
     omega (arith, before_is p n.place, count_by-le-length (up_to (n.place).offset) (offsets_of p), many, few)
 
 pub from_earliest : (p : Program) (s : List ℕ) (found : Option Place) → IsNonDecreasing s
-    → IsPermutation (offsets_of p) s → 257 ≤ length s
-    → found ≡ named_from p (get_or s 256 0) → IsEarliest (E40 p) found
+    → IsPermutation (offsets_of p) s → NAMING_LIMIT < length s
+    → found ≡ named_from p (get_or s NAMING_LIMIT 0) → IsEarliest (E40 p) found
 from_earliest p s found up same long e =
     rw e (earliest_same (λ at. IsFoundIn in_defs p.defs at ⊎ IsFoundIn in_processes p.processes at) (E40 p)
-    (named_from p (get_or s 256 0)) to from
+    (named_from p (get_or s NAMING_LIMIT 0)) to from
     (earliest_two in_defs in_processes p.defs p.processes))
   where
     in_defs : Def → Option Place
-    in_defs = place_that def_place (is_from (get_or s 256 0))
+    in_defs = place_that def_place (is_from (get_or s NAMING_LIMIT 0))
 
     in_processes : Process → Option Place
-    in_processes = place_that process_place (λ (q : Process). nat_le (get_or s 256 0) (q.place).offset)
+    in_processes = place_that process_place (λ (q : Process). nat_le (get_or s NAMING_LIMIT 0) (q.place).offset)
 
     counted : (o : ℕ) → count_by (up_to o) s ≡ count_by (up_to o) (offsets_of p)
     counted o = sum_by-IsPermutation (λ x. cond (up_to o x) 1 0) (offsets_of p) s same
 
-    many : (n : Naming) → get_or s 256 0 ≤ (n.place).offset → 257 ≤ namings_up_to p n.place
-    many n lt = let more = (sorted_count (n.place).offset s 256 up (omega (arith, long))).1 lt in
+    many : (n : Naming) → get_or s NAMING_LIMIT 0 ≤ (n.place).offset → NAMING_LIMIT < namings_up_to p n.place
+    many n lt = let more = (sorted_count (n.place).offset s NAMING_LIMIT up (omega (arith, long))).1 lt in
         omega (arith, more, counted (n.place).offset, before_is p n.place)
 
-    past : (n : Naming) → 257 ≤ namings_up_to p n.place → get_or s 256 0 ≤ (n.place).offset
+    past : (n : Naming) → NAMING_LIMIT < namings_up_to p n.place → get_or s NAMING_LIMIT 0 ≤ (n.place).offset
     past n le =
-        (sorted_count (n.place).offset s 256 up (omega (arith, long))).0
+        (sorted_count (n.place).offset s NAMING_LIMIT up (omega (arith, long))).0
         (omega (arith, le, counted (n.place).offset, before_is p n.place))
 
     to : (at : Place) → IsFoundIn in_defs p.defs at ⊎ IsFoundIn in_processes p.processes at → E40 p at
     to at (inl (k, x, is, f)) =
-        let h = passes def_place (is_from (get_or s 256 0)) x at f in
-        let parts = and_parts (has_name x) (nat_le (get_or s 256 0) (x.place).offset) h.0 in
-        let n = def_named p x (k, is.0, is.1) parts.0 in
-        (n.0, def_naming x, (n.1, n.2), many (def_naming x) (leb-true _ _ parts.1), h.1)
+        let h = passes def_place (is_from (get_or s NAMING_LIMIT 0)) x at f in
+        let parts = and_parts (has_name x) (nat_le (get_or s NAMING_LIMIT 0) (x.place).offset) h.0 in
+        let c = def_named p x (contains_from_get p.defs k x is) parts.0 in
+        let (m, there) = get_from_contains (namings p) (def_naming x) c in
+        (m, def_naming x, there, many (def_naming x) (leb-true _ _ parts.1), h.1)
     to at (inr (k, q, is, f)) =
-        let h = passes process_place (λ (q : Process). nat_le (get_or s 256 0) (q.place).offset) q at f in
-        let n = process_named p q (k, is.0, is.1) in
-        (n.0, process_naming q, (n.1, n.2), many (process_naming q) (leb-true _ _ h.0), h.1)
+        let h = passes process_place (λ (q : Process). nat_le (get_or s NAMING_LIMIT 0) (q.place).offset) q at f in
+        let c = process_named p q (contains_from_get p.processes k q is) in
+        let (m, there) = get_from_contains (namings p) (process_naming q) c in
+        (m, process_naming q, there, many (process_naming q) (leb-true _ _ h.0), h.1)
 
     from : (at : Place) → E40 p at → IsFoundIn in_defs p.defs at ⊎ IsFoundIn in_processes p.processes at
-    from at (k, n, is, le, e) = elim (named p n (k, is.0, is.1)) [
-      | inl (x, (j, jl, there), h, same_n) ↦ inl (
+    from at (k, n, is, le, e) = elim (named p n (contains_from_get (namings p) k n is)) [
+      | inl (x, c, h, same_n) ↦ let (j, there) = get_from_contains p.defs x c in inl (
         j,
         x,
-        (jl, there),
-        passed def_place (is_from (get_or s 256 0)) x at
-            (and_from _ _ h
-            (le-leb _ _
-            (let P : Naming → Type 0 = λ m. get_or s 256 0 ≤ (m.place).offset in subst P same_n (past n le))))
-            (e ∙ ap (λ (m : Naming). m.place) same_n),
+        there,
+        passed def_place (is_from (get_or s NAMING_LIMIT 0)) x at
+            (and_from _ _ h (le-leb _ _ (low (def_naming x) same_n)))
+            (e ∙ ap (λ (m : Naming). m.place) (sym same_n)),
       )
-      | inr (q, (j, jl, there), same_n) ↦ inr (
+      | inr (q, c, same_n) ↦ let (j, there) = get_from_contains p.processes q c in inr (
         j,
         q,
-        (jl, there),
-        passed process_place (λ (q : Process). nat_le (get_or s 256 0) (q.place).offset) q at
-            (le-leb _ _
-            (let P : Naming → Type 0 = λ m. get_or s 256 0 ≤ (m.place).offset in subst P same_n (past n le)))
-            (e ∙ ap (λ (m : Naming). m.place) same_n),
+        there,
+        passed process_place (λ (q : Process). nat_le (get_or s NAMING_LIMIT 0) (q.place).offset) q at
+            (le-leb _ _ (low (process_naming q) same_n))
+            (e ∙ ap (λ (m : Naming). m.place) (sym same_n)),
       )
     ]
+      where
+        low : (m : Naming) → m ≡ n → get_or s NAMING_LIMIT 0 ≤ (m.place).offset
+        low m same_n = past m (subst (λ (o : Naming). NAMING_LIMIT < namings_up_to p o.place) (sym same_n) le)

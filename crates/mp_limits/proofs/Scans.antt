@@ -3,6 +3,7 @@ use Rattle.std.proofs.Common.{◌≡◌, ◌⊎◌, inl, inr, ℕ, zero, suc, Li
 use Rattle.std.proofs.Common.{false, cond, Option, Some, None}
 use Rattle.std.specs.Prelude.{nat_le}
 use Rattle.std.proofs.lemmas.Bool.{leb-true, leb-false}
+use Rattle.std.proofs.lemmas.Option.{none-some, same_Some}
 use Rattle.std.specs.List.{filter_map, fold, cons_option}
 use Rattle.mp_base.specs.declared.refusal.Place.{Place}
 use Rattle.mp_base.specs.Entries.{IsAt}
@@ -44,12 +45,12 @@ IsFoundIn {X} find xs at = (k : ℕ) × (x : X) × IsAt xs k x × (find x ≡ So
 
 first_or_later : {X : Type 0} (find : X → Option Place) (x : X) (xs : List X) (at : Place) → IsFoundIn find (x ∷ xs) at
     → (find x ≡ Some at) ⊎ IsFoundIn find xs at
-first_or_later find x xs at (zero, y, (lt, is), f) = inl (ap find (sym is) ∙ f)
-first_or_later find x xs at (suc k, y, (lt, is), f) = inr (k, y, (omega (arith, lt), is), f)
+first_or_later find x xs at (zero, y, is, f) = inl (ap find (same_Some x y is) ∙ f)
+first_or_later find x xs at (suc k, y, is, f) = inr (k, y, is, f)
 
 later : {X : Type 0} (find : X → Option Place) (x : X) (xs : List X) (at : Place) → IsFoundIn find xs at
     → IsFoundIn find (x ∷ xs) at
-later find x xs at (k, y, (lt, is), f) = (suc k, y, (omega (arith, lt), is), f)
+later find x xs at (k, y, is, f) = (suc k, y, is, f)
 
 -- the earliest of what was found and of what is found in a list
 pub earliest_from : {X : Type 0} (find : X → Option Place) (xs : List X) (P : Place → Type 0) (found : Option Place)
@@ -57,7 +58,7 @@ pub earliest_from : {X : Type 0} (find : X → Option Place) (xs : List X) (P : 
     → IsEarliest (λ at. P at ⊎ IsFoundIn find xs at) (earliest_in find found xs)
 earliest_from find [] P found h =
     earliest_same P (λ at. P at ⊎ IsFoundIn find [] at) found (λ at p. inl p)
-    (λ at q. elim q [ inl p ↦ p | inr (k, x, (lt, is), f) ↦ absurd (omega (arith, lt)) ]) h
+    (λ at q. elim q [ inl p ↦ p | inr (k, x, is, f) ↦ absurd (none-some x is) ]) h
 earliest_from find (x ∷ xs) P found h = by_first (earliest_from find xs) (find x) refl
   where
     by_first : ((Q : Place → Type 0) (o : Option Place) → IsEarliest Q o
@@ -79,7 +80,7 @@ earliest_from find (x ∷ xs) P found h = by_first (earliest_from find xs) (find
         earliest_same (λ at. (P at ⊎ (at ≡ y)) ⊎ IsFoundIn find xs at) (λ at. P at ⊎ IsFoundIn find (x ∷ xs) at)
         (earliest_in find (earlier found y) xs)
         (λ at q. elim q [
-          | inl before ↦ elim before [ inl p ↦ inl p | inr s ↦ inr (0, x, (omega arith, refl), e ∙ ap Some (sym s)) ]
+          | inl before ↦ elim before [ inl p ↦ inl p | inr s ↦ inr (0, x, refl, e ∙ ap Some (sym s)) ]
           | inr f ↦ inr (later find x xs at f)
         ])
         (λ at q. elim q [

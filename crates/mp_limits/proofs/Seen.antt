@@ -12,6 +12,7 @@ use Rattle.std.specs.BTreeSet.{BTreeSet, contains}
 use Rattle.std.proofs.lemmas.Bool.{eqb-true, eqb-false, eq-eqb, and_parts, and_from, not-true, ne_eqb, or_cases}
 use Rattle.std.proofs.lemmas.Bool.{true≢false, false≢true, cases_order}
 use Rattle.std.proofs.lemmas.List.{take_more}
+use Rattle.std.proofs.lemmas.Option.{none-some, same_Some, slice_get_within}
 use Rattle.std.proofs.lemmas.List.Concat.{flat_map-append}
 use Rattle.mp_base.specs.declared.refusal.Place.{Place}
 use Rattle.mp_program.specs.declared.program.Way.TheVariants.{Input, Output}
@@ -23,16 +24,9 @@ use Rattle.mp_program.specs.declared.program.Program.{Program}
 use Rattle.mp_base.specs.Entries.{IsAt}
 use Rattle.mp_rules.specs.Breaking.{IsEarliest, earlier}
 use Rattle.mp_rules.specs.Rules.{E26}
-use Rattle.mp_base.proofs.ListEntries.{at_get, get_at, at_pushed, at_push_cases}
+use Rattle.mp_base.proofs.Entries.{get_middle, get_kept, push_cases}
 use Rattle.mp_limits.specs.Finding.{earliest_in, is_padded_port, uneven_port, IsRepeatedIn, SeenPins, pins_before}
 use Rattle.mp_limits.proofs.Scans.{IsFoundIn, earliest_same, earliest_more, earliest_one}
-
--- entries of a list with one more element
-at_push : {X : Type 0} (xs : List X) (y : X) (k : ℕ) (x : X) → IsAt xs k x → IsAt (xs ++ y ∷ []) k x
-at_push [] y k x (lt, is) = absurd (omega (arith, lt))
-at_push (z ∷ zs) y zero x (lt, is) = (omega arith, is)
-at_push (z ∷ zs) y (suc k) x (lt, is) = let h = at_push zs y k x (omega (arith, lt), is) in
-    (let below = h.0 in omega (arith, below), h.1)
 
 -- a number is among those of pins
 HasNumber : List Pin → ℕ → Type 0
@@ -42,18 +36,18 @@ has_number : (ps : List Pin) (n : ℕ) → list_any (λ (y : Pin). y.number == n
     → (j : ℕ) × (a : Pin) × IsAt ps j a × (a.number ≡ n)
 has_number [] n h = absurd (false≢true h)
 has_number (y ∷ ys) n h = elim (or_cases (y.number == n) (list_any (λ (y : Pin). y.number == n) ys) h) [
-  | inl e ↦ (0, y, (omega arith, refl), eqb-true y.number n e)
-  | inr e ↦ let f = has_number ys n e in (suc f.0, f.1, (let below = f.2.0 in omega (arith, below), f.2.1), f.3)
+  | inl e ↦ (0, y, refl, eqb-true y.number n e)
+  | inr e ↦ let f = has_number ys n e in (suc f.0, f.1, f.2, f.3)
 ]
 
 no_number : (ps : List Pin) (n j : ℕ) (a : Pin) → list_any (λ (y : Pin). y.number == n) ps ≡ false → IsAt ps j a
     → a.number ≡ n → ⊥
-no_number [] n j a h (lt, is) e = omega (arith, lt)
-no_number (y ∷ ys) n zero a h (lt, is) e =
+no_number [] n j a h is e = none-some a is
+no_number (y ∷ ys) n zero a h is e =
     true≢false
     (sym (ap (λ b. b || list_any (λ (y : Pin). y.number == n) ys)
-    (eq-eqb y.number n (ap (λ (z : Pin). z.number) (sym is) ∙ e))) ∙ h)
-no_number (y ∷ ys) n (suc j) a h (lt, is) e = no_number ys n j a (rest (y.number == n) h) (omega (arith, lt), is) e
+    (eq-eqb y.number n (ap (λ (z : Pin). z.number) (same_Some y a is) ∙ e))) ∙ h)
+no_number (y ∷ ys) n (suc j) a h is e = no_number ys n j a (rest (y.number == n) h) is e
   where
     rest : (b : Bool) → (b || list_any (λ (y : Pin). y.number == n) ys) ≡ false
         → list_any (λ (y : Pin). y.number == n) ys ≡ false
@@ -77,20 +71,21 @@ any_push (z ∷ zs) y n = ap (λ b. (z.number == n) || b) (any_push zs y n) ∙ 
 -- a repeated pin among these and one more
 repeated_push : (ps : List Pin) (y : Pin) (at : Place) → IsRepeatedIn (ps ++ y ∷ []) at
     → IsRepeatedIn ps at ⊎ ((at ≡ y.place) × (j : ℕ) × (a : Pin) × IsAt ps j a × (a.number ≡ y.number))
-repeated_push ps y at (j, k, a, b, aj, bk, jk, same, is) = elim (at_push_cases ps y k b bk) [
-  | inl late ↦ elim (at_push_cases ps y j a aj) [
-    | inl early ↦ inl (j, k, a, b, early, late, jk, same, is)
-    | inr last ↦ let kl = late.0 in absurd (omega (arith, last.0, kl, jk))
+repeated_push ps y at (j, k, a, b, aj, bk, jk, same, is) = elim (push_cases ps y k b bk) [
+  | inl (kl, late) ↦ elim (push_cases ps y j a aj) [
+    | inl (jl, early) ↦ inl (j, k, a, b, early, late, jk, same, is)
+    | inr (jl, last) ↦ absurd (omega (arith, jl, kl, jk))
   ]
-  | inr now ↦ elim (at_push_cases ps y j a aj) [
-    | inl early ↦ inr (is ∙ ap (λ (z : Pin). z.place) now.1, j, a, early, same ∙ ap (λ (z : Pin). z.number) now.1)
-    | inr last ↦ absurd (omega (arith, last.0, now.0, jk))
+  | inr (kl, now) ↦ elim (push_cases ps y j a aj) [
+    | inl (jl, early) ↦
+        inr (is ∙ ap (λ (z : Pin). z.place) (sym now), j, a, early, same ∙ ap (λ (z : Pin). z.number) (sym now))
+    | inr (jl, last) ↦ absurd (omega (arith, jl, kl, jk))
   ]
 ]
 
 repeated_kept : (ps : List Pin) (y : Pin) (at : Place) → IsRepeatedIn ps at → IsRepeatedIn (ps ++ y ∷ []) at
 repeated_kept ps y at (j, k, a, b, aj, bk, jk, same, is) =
-    (j, k, a, b, at_push ps y j a aj, at_push ps y k b bk, jk, same, is)
+    (j, k, a, b, get_kept ps (y ∷ []) j a aj, get_kept ps (y ∷ []) k b bk, jk, same, is)
 
 -- one more element of a part of a list
 pub pushed : {X : Type 0} (front xs : List X) (i : ℕ) (d : X) → i < length xs
@@ -155,12 +150,13 @@ seen_again ps y old new found s there grown = record {
   where
     repeats : (at : Place) → at ≡ y.place → IsRepeatedIn (ps ++ y ∷ []) at
     repeats at e = let f = has_number ps y.number (sym (s.numbers y.number) ∙ there) in
-        (f.0, length ps, f.1, y, at_push ps y f.0 f.1 f.2, at_pushed ps y, f.2.0, f.3, e)
+        let first = get_kept ps (y ∷ []) f.0 f.1 f.2 in
+        (f.0, length ps, f.1, y, first, get_middle ps y [], slice_get_within ps f.0 f.1 f.2, f.3, e)
 
 -- at the start
 pub seen_none : (seen : BTreeSet ℕ) → ((n : ℕ) → contains nat_cmp seen n ≡ false) → SeenPins [] seen None
 seen_none seen empty =
-    record { numbers = empty; earliest = λ at (j, k, a, b, (lt, is), rest, jk, same, e). omega (arith, lt) }
+    record { numbers = empty; earliest = λ at (j, k, a, b, first, rest, jk, same, e). none-some a first }
 
 -- the pins before an index and those of the definition there
 pub pins_more : (defs : List Def) (k : ℕ) (x : Def) → k < length defs
@@ -190,7 +186,7 @@ uneven_found w x at h = by_test (is_padded_port x.what && not (length x.pins == 
       port_ways x.what parts.0,
       eqb-false (length x.pins) w
           (not-true (length x.pins == w) parts.1),
-      at_get x.pins 0 y e,
+      e,
       (let s : y.place ≡ at = cc in sym s),
     )
 
@@ -220,5 +216,5 @@ uneven_earliest p found e =
           x,
           is,
           ap (λ b. cond b (option_map (λ (y : Pin). y.place) (slice_get x.pins 0)) None) test
-              ∙ ap (option_map (λ (y : Pin). y.place)) (get_at x.pins 0 first pin) ∙ ap Some (sym e),
+              ∙ ap (option_map (λ (y : Pin). y.place)) pin ∙ ap Some (sym e),
         )

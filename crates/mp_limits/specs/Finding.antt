@@ -20,6 +20,7 @@ use Rattle.mp_program.specs.declared.program.Program.{Program}
 use Rattle.mp_program.specs.Names.{is_stored, is_supply}
 use Rattle.mp_base.specs.Entries.{IsAt}
 use Rattle.mp_rules.specs.Breaking.{IsEarliest, earlier}
+use Rattle.mp_rules.specs.declared.limits.TheConstants.{FORM_LIMIT}
 
 -- the earliest of what was found and of the places that are found in the elements of a list
 abbrev pub earliest_in : {X : Type 0} → (X → Option Place) → Option Place → List X → Option Place
@@ -56,9 +57,10 @@ stored_in p =
     earliest_in (λ (q : Process). Some q.place)
     (earliest_in (place_that (λ (d : Def). d.place) (λ (d : Def). is_stored d.what)) None p.defs) p.processes
 
--- the 257th form of a process
+-- the first form too many of a process
 abbrev pub far_form : List Form → Process → Option Place
-far_form forms q = option_and_then (λ f. option_map (λ (y : Form). y.place) (slice_get forms f)) (slice_get q.forms 256)
+far_form forms q =
+    option_and_then (λ f. option_map (λ (y : Form). y.place) (slice_get forms f)) (slice_get q.forms FORM_LIMIT)
 
 abbrev pub is_same_supply : What → What → Bool
 is_same_supply Power Power = true

@@ -10,7 +10,7 @@ ghost use Rattle.mp_limits.specs.Finding.{named_from};
 
 use mp_base::Place;
 use mp_program::Program;
-use mp_rules::earlier;
+use mp_rules::{NAMING_LIMIT, earlier};
 use std::alloc::{AllocError, Global};
 
 // The offsets of all that has a name.
@@ -53,14 +53,14 @@ fn named_from(program: &Program, offset: u64) -> Option<Place>
         .fold(found, |found, at| earlier(found, at))
 }
 
-/// Rule E40: the earliest of all that has a name and 256 others that don't stand after it.
+/// Rule E40: the earliest of all that has a name and as many others that don't stand after it as may have one.
 pub fn crowded_name(alloc: Global, program: &Program) -> Result<Option<Place>, AllocError>
     ensures { IfOk result (IsEarliest (E40 program.now)) }
 {
     let mut offsets = offsets(alloc, program)?;
     offsets.sort_unstable();
-    if offsets.len() <= 256 {
+    if offsets.len() <= NAMING_LIMIT {
         return Ok(None);
     }
-    Ok(named_from(program, offsets[256]))
+    Ok(named_from(program, offsets[NAMING_LIMIT]))
 }

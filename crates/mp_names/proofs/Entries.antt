@@ -1,7 +1,8 @@
 -- Entries of lists of which something is true.
 use Rattle.std.proofs.Common.{◌≡◌, ◌⊎◌, ℕ, zero, suc, List, [], ◌∷◌, ◌++◌, Bool, true, false, cond, refl, subst, inl}
-use Rattle.std.proofs.Common.{inr, arith, map, filter, ◌||◌}
+use Rattle.std.proofs.Common.{inr, map, filter, sym, ◌||◌}
 use Rattle.std.specs.List.{list_any}
+use Rattle.std.proofs.lemmas.Option.{none-some, same_Some}
 use Rattle.mp_base.specs.Entries.{IsAt}
 
 -- an entry of which P is true
@@ -9,17 +10,17 @@ abbrev pub Found : {X : Type 0} → List X → (X → Type 0) → Type 0
 Found {X} xs P = (k : ℕ) × (x : X) × IsAt xs k x × P x
 
 pub nothing_in : {X : Type 0} (P : X → Type 0) → Found [] P → ⊥
-nothing_in P (k, x, (lt, is), h) = omega (arith, lt)
+nothing_in P (k, x, at, h) = none-some x at
 
 pub here : {X : Type 0} (P : X → Type 0) (x : X) (xs : List X) → P x → Found (x ∷ xs) P
-here P x xs h = (0, x, (omega arith, refl), h)
+here P x xs h = (0, x, refl, h)
 
 pub behind : {X : Type 0} (P : X → Type 0) (x : X) (xs : List X) → Found xs P → Found (x ∷ xs) P
-behind P x xs (k, y, (lt, is), h) = (suc k, y, (omega (arith, lt), is), h)
+behind P x xs (k, y, at, h) = (suc k, y, at, h)
 
 pub first_or_behind : {X : Type 0} (P : X → Type 0) (x : X) (xs : List X) → Found (x ∷ xs) P → P x ⊎ Found xs P
-first_or_behind P x xs (zero, y, (lt, is), h) = inl (subst P is h)
-first_or_behind P x xs (suc k, y, (lt, is), h) = inr (k, y, (omega (arith, lt), is), h)
+first_or_behind P x xs (zero, y, at, h) = inl (subst P (sym (same_Some x y at)) h)
+first_or_behind P x xs (suc k, y, at, h) = inr (k, y, at, h)
 
 pub weaken : {X : Type 0} (P Q : X → Type 0) → ((x : X) → P x → Q x) → (xs : List X) → Found xs P → Found xs Q
 weaken P Q f xs (k, x, at, h) = (k, x, at, f x h)

@@ -1,7 +1,8 @@
 -- What a table says of names.
 use Rattle.std.proofs.Common.{◌≡◌, ◌⊎◌, ℕ, zero, suc, ◌<◌, ◌≤◌, List, [], ◌∷◌, Bool, true, false, not, cond, leb, min}
-use Rattle.std.proofs.Common.{max, refl, subst, inl, inr, arith, Option, Some, None, is_some, map, filter}
+use Rattle.std.proofs.Common.{max, refl, subst, sym, inl, inr, arith, Option, Some, None, is_some, map, filter}
 use Rattle.std.proofs.lemmas.Bool.{leb-true, le-leb, leb-false}
+use Rattle.std.proofs.lemmas.Option.{none-some, same_Some}
 use Rattle.mp_program.specs.declared.program.Def.{Def}
 use Rattle.mp_program.specs.declared.program.Process.{Process}
 use Rattle.mp_program.specs.declared.program.Program.{Program}
@@ -20,11 +21,11 @@ pub no_offset : (ns : List Naming) (x : List ℕ) → ((k : ℕ) (n : Naming) �
     → is_some (least_offset ns x) ≡ false
 no_offset [] x none = refl
 no_offset (n ∷ ns) x none =
-    cases (is_same n.name x) refl (no_offset ns x (λ k m (lt, is). none (suc k) m (omega (arith, lt), is)))
+    cases (is_same n.name x) refl (no_offset ns x (λ k m at. none (suc k) m at))
   where
     cases : (b : Bool) → is_same n.name x ≡ b → is_some (least_offset ns x) ≡ false
         → is_some (cond b (lesser (least_offset ns x) (n.place).offset) (least_offset ns x)) ≡ false
-    cases true e rest = absurd (none 0 n (omega arith, refl) (same_is n.name x e))
+    cases true e rest = absurd (none 0 n refl (same_is n.name x e))
     cases false e rest = rest
 
 -- and has one where something has it
@@ -124,21 +125,20 @@ found_one (n ∷ ns) x at h = cases (found_one ns x at) (is_same n.name x) refl 
 
 two_here : (n : Naming) (ns : List Naming) (x : List ℕ) (at : ℕ) → UpTo x at n → Found ns (UpTo x at)
     → TwoUpTo (n ∷ ns) x at
-two_here n ns x at now (k, m, (lt, is), later) =
-    (0, suc k, n, m, (omega arith, refl), (omega (arith, lt), is), omega arith, now, later)
+two_here n ns x at now (k, m, second, later) = (0, suc k, n, m, refl, second, omega arith, now, later)
 
 two_behind : (n : Naming) (ns : List Naming) (x : List ℕ) (at : ℕ) → TwoUpTo ns x at → TwoUpTo (n ∷ ns) x at
-two_behind n ns x at (j, k, a, b, (low, first), (high, second), lt, here, there) =
-    (suc j, suc k, a, b, (omega (arith, low), first), (omega (arith, high), second), omega (arith, lt), here, there)
+two_behind n ns x at (j, k, a, b, first, second, lt, here, there) =
+    (suc j, suc k, a, b, first, second, omega (arith, lt), here, there)
 
 two_either : (n : Naming) (ns : List Naming) (x : List ℕ) (at : ℕ) → TwoUpTo (n ∷ ns) x at
     → (UpTo x at n × Found ns (UpTo x at)) ⊎ TwoUpTo ns x at
 two_either n ns x at (zero, zero, a, b, first, second, lt, now, later) = absurd (omega (arith, lt))
 two_either n ns x at (suc j, zero, a, b, first, second, lt, now, later) = absurd (omega (arith, lt))
-two_either n ns x at (zero, suc k, a, b, (low, first), (high, second), lt, now, later) =
-    inl (subst (UpTo x at) first now, (k, b, (omega (arith, high), second), later))
-two_either n ns x at (suc j, suc k, a, b, (low, first), (high, second), lt, now, later) =
-    inr (j, k, a, b, (omega (arith, low), first), (omega (arith, high), second), omega (arith, lt), now, later)
+two_either n ns x at (zero, suc k, a, b, first, second, lt, now, later) =
+    inl (subst (UpTo x at) (sym (same_Some n a first)) now, (k, b, second, later))
+two_either n ns x at (suc j, suc k, a, b, first, second, lt, now, later) =
+    inr (j, k, a, b, first, second, omega (arith, lt), now, later)
 
 -- and the second least whether there are two
 pub two_found : (ns : List Naming) (x : List ℕ) (at : ℕ) → is_up_to (second_offset ns x) at ≡ true → TwoUpTo ns x at
@@ -156,7 +156,7 @@ two_found (n ∷ ns) x at h = cases (two_found ns x at) (is_same n.name x) refl 
     cases rest false e g = two_behind n ns x at (rest g)
 
 pub found_two : (ns : List Naming) (x : List ℕ) (at : ℕ) → TwoUpTo ns x at → is_up_to (second_offset ns x) at ≡ true
-found_two [] x at (j, k, a, b, (low, first), second, lt, now, later) = absurd (omega (arith, low))
+found_two [] x at (j, k, a, b, first, second, lt, now, later) = absurd (none-some a first)
 found_two (n ∷ ns) x at h = cases (found_two ns x at) (is_same n.name x) refl (two_either n ns x at h)
   where
     cases : (TwoUpTo ns x at → is_up_to (second_offset ns x) at ≡ true) → (b : Bool) → is_same n.name x ≡ b

@@ -19,7 +19,7 @@ use Rattle.mp_program.specs.Names.{is_same}
 use Rattle.mp_base.specs.Entries.{IsAt}
 use Rattle.mp_rules.specs.Sorts.{Sort, IsWord, IsBit, what_sort, name_sort, operand_sort, expr_sort, IsWanted}
 use Rattle.mp_rules.specs.Breaking.{IsEarliest}
-use Rattle.mp_base.proofs.ListEntries.{at_get, get_at, contains_from_at}
+use Rattle.mp_base.proofs.Entries.{contains_from_get, get_from_contains}
 use Rattle.mp_rules.proofs.Sorts.{same_sort}
 use Rattle.name_meanings.specs.declared.named.Named as known_names
 use Rattle.name_meanings.specs.declared.table.NameTable.{NameTable}
@@ -87,19 +87,19 @@ misfits p t s e holds = found (slice_get p.exprs e) refl
     found : (o : Option Expr) → slice_get p.exprs e ≡ o
         → IsEarliest (Misfits p s e)
         (option_and_then (λ (x : Expr). unless_same s x.place (kind_sort p.defs t x.kind)) o)
-    found None none = λ at (x, other, there, is, differs, same). let some = get_at p.exprs e x there in cc
+    found None none = λ at (x, other, there, is, differs, same). let some = there in cc
     found (Some x) some = like (Other s x.place (kind_sort p.defs t x.kind)) (Misfits p s e)
         (λ at (other, is, differs, same). (
           x,
           other,
-          at_get p.exprs e x some,
+          some,
           sym (expr_sorts p t x.kind holds)
               ∙ is,
           differs,
           same,
         ))
         (λ at (y, other, there, is, differs, same). let one : y ≡ x =
-        same_Some y x (sym (get_at p.exprs e y there) ∙ some) in (
+        same_Some y x (sym there ∙ some) in (
           other,
           ap (λ (z : Expr). kind_sort p.defs t z.kind) (sym one) ∙ expr_sorts p t y.kind holds
               ∙ is,
@@ -193,7 +193,7 @@ Standing p at =
     Found p.exprs (λ (x : Expr). OperandMisfits p x.kind at) ⊎ Found p.forms (λ (y : Form). FormMisfits p y.kind at)
 
 contains_at : {X : Type 0} (xs : List X) (x : X) → Contains xs x → Found xs (λ y. y ≡ x)
-contains_at xs x (k, lt, is) = (k, x, (lt, sym is), refl)
+contains_at xs x has = let (k, at) = get_from_contains xs x has in (k, x, at, refl)
 
 wanted_told : (p : Program) (at : Place) (s : Sort) (e : ℕ) → IsWanted p e (Some s) → Misfits p s e at → WrongSort p at
 wanted_told p at s e wanted (x, other, there, sort, differs, is) = (e, x, s, other, there, wanted, sort, differs, is)
@@ -201,7 +201,7 @@ wanted_told p at s e wanted (x, other, there, sort, differs, is) = (e, x, s, oth
 told : (p : Program) (at : Place) → Standing p at → WrongSort p at
 told p at (inl (i, x, there, (op, k, args, is, (j, e, found, fault)))) =
     wanted_told p at (operand_sort op) e
-    (inl (i, x, op, k, args, there, is, contains_from_at args j e found, refl)) fault
+    (inl (i, x, op, k, args, there, is, contains_from_get args j e found, refl)) fault
 told p at (inr (f, y, there, inl (bs, is, (j, b, found, fault)))) =
     wanted_told p at IsBit b.guard (inr (inl (f, y, bs, there, is, guard bs b j found, refl))) fault
   where
@@ -209,7 +209,7 @@ told p at (inr (f, y, there, inl (bs, is, (j, b, found, fault)))) =
     guard bs b j found =
         let (i, e, stands, same) = in_map (λ (c : Branch). c.guard) (λ e. e ≡ b.guard) bs (j, b, found, refl) in
         subst (Contains (map (λ (c : Branch). c.guard) bs)) same
-        (contains_from_at (map (λ (c : Branch). c.guard) bs) i e stands)
+        (contains_from_get (map (λ (c : Branch). c.guard) bs) i e stands)
 told p at (inr (f, y, there, inr (x, place, v, s, is, sort, fault))) =
     wanted_told p at s v (inr (inr (f, y, x, place, there, is, sym sort))) fault
 
@@ -225,18 +225,20 @@ back p at (e, x, s, other, there, wanted, sort, differs, is) =
         (k, g, found, subst (λ g. Misfits p IsBit g at) (sym same) fault))
 
     stands : (p : Program) (at : Place) (s : Sort) (e : ℕ) → Misfits p s e at → IsWanted p e (Some s) → Standing p at
-    stands p at s e fault (inl (i, y, op, k, args, there, kind, (j, lt, has), want)) = inl (
-      i,
-      y,
-      there,
-      (
-        op,
-        k,
-        args,
-        kind,
-        (j, e, (lt, sym has), subst (λ r. Misfits p r e at) (same_sort s (operand_sort op) want) fault),
-      ),
-    )
+    stands p at s e fault (inl (i, y, op, k, args, there, kind, has, want)) = let (j, found) =
+        get_from_contains args e has in
+        inl (
+          i,
+          y,
+          there,
+          (
+            op,
+            k,
+            args,
+            kind,
+            (j, e, found, subst (λ r. Misfits p r e at) (same_sort s (operand_sort op) want) fault),
+          ),
+        )
     stands p at s e fault (inr (inl (f, y, bs, there, kind, has, want))) =
         inr (
           f,

@@ -1,47 +1,39 @@
 -- Second definitions of one kind.
-use Rattle.std.proofs.Common.{◌≡◌, ◌⊎◌, ℕ, zero, suc, ◌<◌, ◌≤◌, List, [], ◌∷◌, ◌++◌, Bool, true, false, refl, sym, ap}
+use Rattle.std.proofs.Common.{◌≡◌, ◌⊎◌, ℕ, ◌<◌, ◌≤◌, List, [], ◌∷◌, ◌++◌, Bool, true, false, refl, sym, ap}
 use Rattle.std.proofs.Common.{◌∙◌, inl, inr, arith, Option, Some, None, length, get_or, take, ◌+◌}
 use Rattle.std.proofs.lemmas.List.{take_more, take_all}
+use Rattle.std.proofs.lemmas.Option.{none-some, slice_get_within}
 use Rattle.mp_base.specs.declared.refusal.Place.{Place}
 use Rattle.mp_program.specs.declared.program.What.{What}
 use Rattle.mp_program.specs.declared.program.What.TheVariants.{Power, Ground, Phia, Phib, Phic, Constant, Register}
 use Rattle.mp_program.specs.declared.program.What.TheVariants.{Flag, Port, Signal}
 use Rattle.mp_program.specs.declared.program.Def.{Def}
 use Rattle.mp_program.specs.Names.{is_supply}
-use Rattle.mp_base.specs.Entries.{IsAt}
-use Rattle.mp_base.proofs.ListEntries.{at_push_cases, at_pushed}
+use Rattle.mp_base.proofs.Entries.{push_cases, get_middle, get_kept}
 use Rattle.mp_rules.specs.Breaking.{IsEarliest, earlier}
 use Rattle.mp_names.specs.Finding.{earlier_of}
 use Rattle.mp_names.specs.Repeats.{Defines, Repeats, RepeatsSupply}
 use Rattle.mp_names.proofs.Earliest.{like, either}
 
--- an entry of a list is one of the list with one more
-push_at : (ds : List Def) (d : Def) (k : ℕ) (b : Def) → IsAt ds k b → IsAt (ds ++ d ∷ []) k b
-push_at [] d k b (lt, is) = absurd (omega (arith, lt))
-push_at (x ∷ xs) d zero b (lt, is) = (omega arith, is)
-push_at (x ∷ xs) d (suc k) b (lt, is) = let (below, same) = push_at xs d k b (omega (arith, lt), is) in
-    (omega (arith, below), same)
-
 -- what repeats in a list with one more definition repeats in the list, or is the last and the kind was there
 repeats_push : (ds : List Def) (d : Def) (w : What) (at : Place) → Repeats (ds ++ d ∷ []) w at
     → Repeats ds w at ⊎ (Defines ds w × (d.what ≡ w) × (at ≡ d.place))
-repeats_push ds d w at (j, k, a, b, first, second, lt, kind, same, is) = elim (at_push_cases ds d j a first) [
+repeats_push ds d w at (j, k, a, b, first, second, lt, kind, same, is) = elim (push_cases ds d j a first) [
   | inr (e, _) ↦
-      absurd (let top = second.0 in let there = at_pushed ds d in
-      elim (at_push_cases ds d k b second) [
+      absurd (elim (push_cases ds d k b second) [
         | inl (below, _) ↦ omega (arith, below, lt, e)
         | inr (f, _) ↦ omega (arith, f, e, lt)
       ])
-  | inl before ↦ elim (at_push_cases ds d k b second) [
-    | inl there ↦ inl (j, k, a, b, before, there, lt, kind, same, is)
+  | inl (_, before) ↦ elim (push_cases ds d k b second) [
+    | inl (_, there) ↦ inl (j, k, a, b, before, there, lt, kind, same, is)
     | inr (f, last) ↦
-        inr ((j, a, before, kind), sym (ap (λ (x : Def). x.what) last) ∙ same, is ∙ ap (λ (x : Def). x.place) last)
+        inr ((j, a, before, kind), ap (λ (x : Def). x.what) last ∙ same, is ∙ sym (ap (λ (x : Def). x.place) last))
   ]
 ]
 
 repeats_before : (ds : List Def) (d : Def) (w : What) (at : Place) → Repeats ds w at → Repeats (ds ++ d ∷ []) w at
 repeats_before ds d w at (j, k, a, b, first, second, lt, kind, same, is) =
-    (j, k, a, b, push_at ds d j a first, push_at ds d k b second, lt, kind, same, is)
+    (j, k, a, b, get_kept ds (d ∷ []) j a first, get_kept ds (d ∷ []) k b second, lt, kind, same, is)
 
 -- a definition that isn't of the kind, or is the first of it
 no_repeat : (ds : List Def) (d : Def) (w : What) (found : Option Place) → (Defines ds w → d.what ≡ w → ⊥)
@@ -61,7 +53,9 @@ a_repeat ds d w found (j, a, before, kind) same h =
     like (λ at. Repeats ds w at ⊎ (at ≡ d.place)) (Repeats (ds ++ d ∷ []) w)
     (λ at g. elim g [
       | inl there ↦ repeats_before ds d w at there
-      | inr is ↦ (j, length ds, a, d, push_at ds d j a before, at_pushed ds d, before.0, kind, same, is)
+      | inr is ↦
+          let first = get_kept ds (d ∷ []) j a before in
+          (j, length ds, a, d, first, get_middle ds d [], slice_get_within ds j a before, kind, same, is)
     ])
     (λ at g. elim (repeats_push ds d w at g) [ inl there ↦ inl there | inr (defined, is_kind, is) ↦ inr is ])
     (earlier found d.place)
@@ -69,13 +63,13 @@ a_repeat ds d w found (j, a, before, kind) same h =
     (refl, λ at is. omega (arith, ap (λ (p : Place). p.offset) is)))
 
 defines_push : (ds : List Def) (d : Def) (w : What) → Defines ds w ⊎ (d.what ≡ w) → Defines (ds ++ d ∷ []) w
-defines_push ds d w (inl (j, a, there, kind)) = (j, a, push_at ds d j a there, kind)
-defines_push ds d w (inr kind) = (length ds, d, at_pushed ds d, kind)
+defines_push ds d w (inl (j, a, there, kind)) = (j, a, get_kept ds (d ∷ []) j a there, kind)
+defines_push ds d w (inr kind) = (length ds, d, get_middle ds d [], kind)
 
 defines_before : (ds : List Def) (d : Def) (w : What) → Defines (ds ++ d ∷ []) w → Defines ds w ⊎ (d.what ≡ w)
-defines_before ds d w (j, a, there, kind) = elim (at_push_cases ds d j a there) [
-  | inl before ↦ inl (j, a, before, kind)
-  | inr (e, last) ↦ inr (sym (ap (λ (x : Def). x.what) last) ∙ kind)
+defines_before ds d w (j, a, there, kind) = elim (push_cases ds d j a there) [
+  | inl (_, before) ↦ inl (j, a, before, kind)
+  | inr (e, last) ↦ inr (ap (λ (x : Def). x.what) last ∙ kind)
 ]
 
 -- what a pass over definitions has found, and whether it has seen the kind
@@ -86,9 +80,9 @@ pub record Watched (ds : List Def) (w : What) (found : Option Place) (seen : Boo
 
 pub nothing_watched : (w : What) → Watched [] w None false
 nothing_watched w = record {
-  repeat = λ at (j, k, a, b, first, second, lt, kind, same, is). let below = first.0 in omega (arith, below);
+  repeat = λ at (j, k, a, b, first, second, lt, kind, same, is). none-some a first;
   defined = λ e. cc;
-  absent = λ e (j, a, there, kind). let below = there.0 in omega (arith, below);
+  absent = λ e (j, a, there, kind). none-some a there;
 }
 
 one_more : (ds : List Def) (i : ℕ) (d : Def) → i < length ds → d ≡ get_or ds i d → take (i + 1) ds ≡ take i ds ++ d ∷ []

@@ -8,9 +8,10 @@ use Rattle.mp_program.specs.declared.program.Form.{Form}
 use Rattle.mp_program.specs.declared.program.Program.{Program}
 use Rattle.name_meanings.specs.declared.meaning.Meanings.{Meanings}
 use Rattle.mp_base.specs.Entries.{IsAt}
+use Rattle.mp_base.proofs.Entries.{same_at}
 use Rattle.mp_order.specs.Tables.{Lifted}
 use Rattle.mp_order.specs.Demands.{Asks}
-use Rattle.mp_order.proofs.Tables.{lifted_as, lifted_join, one_entry}
+use Rattle.mp_order.proofs.Tables.{lifted_as, lifted_join}
 
 asks_more : (p : Program) (m : Meanings) (tops marks : List ℕ) (n a k : ℕ) → Asks p m tops marks n a k
     → Asks p m tops marks (n + 1) a k
@@ -70,7 +71,7 @@ ask_set p m tops marks n y name at v target old one two new yn kind some means f
       where
         here : f ≡ n → Here a k
         here same =
-            let e : z ≡ y = one_entry p.forms f n z y same zf yn in
+            let e : z ≡ y = same_at p.forms f n z y same zf yn in
             let k' : Set other there w ≡ Set name at v = sym kind' ∙ ap (λ (x : Form). x.kind) e ∙ kind in
             let value : w ≡ v = cc in
             let P : ℕ → ℕ

@@ -5,9 +5,10 @@ use Rattle.std.proofs.lemmas.Bool.{cases_lt}
 use Rattle.mp_program.specs.declared.program.Branch.{Branch}
 use Rattle.mp_program.specs.declared.program.FormKind.TheVariants.{Cond}
 use Rattle.mp_base.specs.Entries.{IsAt}
+use Rattle.mp_base.proofs.Entries.{within, same_at}
 use Rattle.mp_order.specs.Tables.{Lifted}
 use Rattle.mp_order.specs.Demands.{Gives}
-use Rattle.mp_order.proofs.Tables.{lifted_as, lifted_join, one_entry}
+use Rattle.mp_order.proofs.Tables.{lifted_as, lifted_join}
 
 -- k is the mark around, or what a guard up to branch j makes of it
 abbrev pub Worth : List ℕ → List Branch → ℕ → ℕ → ℕ → Type 0
@@ -39,7 +40,7 @@ highest_more tops bs mark n high new b at h which le guard = record {
   guards = λ i c lt ci. elim (cases_lt i n) [
     | inl below ↦ omega (arith, h.guards i c below ci, le)
     | inr above ↦ let same : i ≡ n = omega (arith, lt, above) in
-        let e : c.guard ≡ b.guard = ap (λ (x : Branch). x.guard) (one_entry bs i n c b same ci at) in
+        let e : c.guard ≡ b.guard = ap (λ (x : Branch). x.guard) (same_at bs i n c b same ci at) in
         let P : ℕ → Type 0 = λ g. slice_index tops g + 1 ≤ new in subst P (sym e) guard
   ];
 }
@@ -63,7 +64,7 @@ branches_more tops bs mark n high b old mid new at h first second =
     (λ f k (j, d, lt, dj, inside, worth). elim (cases_lt j n) [
       | inl below ↦ inl (j, d, below, dj, inside, worth)
       | inr above ↦
-          inr (high, most j k (omega (arith, lt)) worth, (within j d f (omega (arith, lt, above)) dj inside, refl))
+          inr (high, most j k (omega (arith, lt)) worth, (held j d f (omega (arith, lt, above)) dj inside, refl))
     ])
   where
     worth : (k : ℕ) → k ≡ high
@@ -76,9 +77,9 @@ branches_more tops bs mark n high b old mid new at h first second =
     most j k lt (inl e) = omega (arith, e, h.around)
     most j k lt (inr (i, c, ci, le, e)) = omega (arith, e, h.guards i c (omega (arith, lt, le)) ci)
 
-    within : (j : ℕ) (d : Branch) (f : ℕ) → j ≡ n → IsAt bs j d → Contains d.body f → Contains b.body f
-    within j d f same dj inside = let P : Branch → Type 0 = λ x. Contains x.body f in
-        subst P (one_entry bs j n d b same dj at) inside
+    held : (j : ℕ) (d : Branch) (f : ℕ) → j ≡ n → IsAt bs j d → Contains d.body f → Contains b.body f
+    held j d f same dj inside = let P : Branch → Type 0 = λ x. Contains x.body f in
+        subst P (same_at bs j n d b same dj at) inside
 
 pub branches_done : (tops : List ℕ) (bs : List Branch) (mark n : ℕ) (old new : List ℕ) → length bs ≤ n
     → Lifted (GivesBelow tops bs mark n) old new
@@ -86,4 +87,4 @@ pub branches_done : (tops : List ℕ) (bs : List Branch) (mark n : ℕ) (old new
 branches_done tops bs mark n old new le l =
     lifted_as (GivesBelow tops bs mark n) (Gives tops (Cond bs) mark) old new l
     (λ f k (j, d, lt, dj, inside, worth). (j, d, dj, inside, worth))
-    (λ f k (j, d, dj, inside, worth). (j, d, omega (arith, dj.0, le), dj, inside, worth))
+    (λ f k (j, d, dj, inside, worth). (j, d, omega (arith, within bs j dj, le), dj, inside, worth))

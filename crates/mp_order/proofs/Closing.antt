@@ -2,7 +2,7 @@
 use Rattle.std.proofs.Common.{◌≡◌, ℕ, ◌<◌, ◌≤◌, List, [], Some, true, refl, sym, ◌∙◌, ap, length, arith}
 use Rattle.std.specs.Prelude.{slice_index}
 use Rattle.mp_base.specs.declared.refusal.Place.{Place}
-use Rattle.mp_base.proofs.Entries.{own_default}
+use Rattle.mp_base.proofs.Entries.{some_entry, one_entry}
 use Rattle.mp_program.specs.declared.program.FormKind.TheVariants.{Set}
 use Rattle.mp_program.specs.declared.program.Def.{Def}
 use Rattle.mp_program.specs.declared.program.Form.{Form}
@@ -16,21 +16,19 @@ use Rattle.name_meanings.specs.Meaning.{AreMeanings}
 use Rattle.mp_base.specs.Entries.{IsAt}
 use Rattle.mp_rules.specs.Breaking.{IsEarliest}
 use Rattle.mp_rules.specs.Rules.{E33}
-use Rattle.mp_base.proofs.ListEntries.{at_get}
 use Rattle.mp_order.specs.declared.earliest.Setting.{Setting}
 use Rattle.mp_order.specs.Demands.{IsDriven, OwnNames, root}
 use Rattle.mp_order.specs.Chains.{SetsFlagged, FlaggedSet}
-use Rattle.mp_order.proofs.Tables.{one_entry}
 use Rattle.mp_order.proofs.Mentions.{any_of}
 use Rattle.mp_order.proofs.Names.{meant}
 use Rattle.mp_order.proofs.Marks.{marked_inside}
 use Rattle.mp_order.proofs.Reading.{SetsLaw, ReadsLaw, read_down}
 
 pub reader_driven : (p : Program) (a b : ℕ) → Reads p a b → (x : Def) × IsDriven p a x
-reader_driven p a b (x, y, xa, yb, dx, dy, any) = (x, (at_get p.defs a x xa, dx))
+reader_driven p a b (x, y, xa, yb, dx, dy, any) = (x, (xa, dx))
 
 pub read_driven : (p : Program) (a b : ℕ) → Reads p a b → (y : Def) × IsDriven p b y
-read_driven p a b (x, y, xa, yb, dx, dy, any) = (y, (at_get p.defs b y yb, dy))
+read_driven p a b (x, y, xa, yb, dx, dy, any) = (y, (yb, dy))
 
 pub start_driven : (p : Program) (a b : ℕ) → Chain p a b → (x : Def) × IsDriven p a x
 start_driven p a b (link reads) = reader_driven p a b reads
@@ -51,10 +49,10 @@ pub reader_set : (p : Program) (m : Meanings) → IsSound p → SetsLaw p → Re
 reader_set p m s sl rl means own a b (x, y, xa, yb, dx, dy, any) =
     let (r, rooted, reads) = any_of (form_reads p x.name y.name) (roots p) any in
     let lt : r < length p.forms = marked_inside p s [] r 1 (root rooted) in
-    let z = own_default p.forms r lt in
+    let z = some_entry p.forms r lt in
     let (g, w, t, at, v, k, wg, kind, same, marked, why) =
     read_down p s sl rl [] x.name y.name 0 (λ e el mention. omega arith) (length p.forms) r 1 z.0 (omega arith)
-    (lt, z.1) (root rooted) reads in (
+    z.1 (root rooted) reads in (
       g,
       w,
       t,
@@ -63,7 +61,7 @@ reader_set p m s sl rl means own a b (x, y, xa, yb, dx, dy, any) =
       wg,
       kind,
       means.targets g w t at v wg kind ∙ ap (index_of p.defs) (same_is t x.name same)
-          ∙ own a x (at_get p.defs a x xa, dx),
+          ∙ own a x (xa, dx),
     )
 
 pub start_set : (p : Program) (m : Meanings) → IsSound p → SetsLaw p → ReadsLaw p → AreMeanings p m → OwnNames p
@@ -96,8 +94,7 @@ broken_flagged p m flags means own closed at (f, y, x, there, v, d, z, yf, kind,
     )
   where
     driven_as : (d : ℕ) (w z : Def) → IsAt p.defs d z → IsDriven p d w → is_driven z.what ≡ true
-    driven_as d w z zd ((lt, wd), h) =
-        ap (λ (u : Def). is_driven u.what) (one_entry p.defs d d z w refl zd (lt, wd)) ∙ h
+    driven_as d w z zd (wd, h) = ap (λ (u : Def). is_driven u.what) (one_entry p.defs d z w zd wd) ∙ h
 
 set_broken : (p : Program) (m : Meanings) (flags : List ℕ) → AreMeanings p m → (d : ℕ) (at : Place)
     → SetsFlagged p m flags d at → Chain p d d → E33 p at

@@ -6,7 +6,7 @@ use Rattle.std.specs.List.{list_any}
 use Rattle.std.proofs.lemmas.List.{length-replicate}
 use Rattle.std.proofs.lemmas.Bool.{and_from}
 use Rattle.mp_base.specs.declared.refusal.Place.{Place}
-use Rattle.mp_base.proofs.Entries.{own_default}
+use Rattle.mp_base.proofs.Entries.{within, some_entry, zeros_at}
 use Rattle.mp_program.specs.declared.program.FormKind.{FormKind}
 use Rattle.mp_program.specs.declared.program.FormKind.TheVariants.{Set}
 use Rattle.mp_program.specs.declared.program.Def.{Def}
@@ -19,19 +19,18 @@ use Rattle.mp_program.proofs.Definitions.{is_same_of, same_is}
 use Rattle.name_meanings.specs.declared.meaning.Meanings.{Meanings}
 use Rattle.name_meanings.specs.Meaning.{AreMeanings}
 use Rattle.mp_base.specs.Entries.{IsAt}
-use Rattle.mp_base.proofs.ListEntries.{at_get, get_at}
 use Rattle.mp_order.specs.Tables.{Lifted}
 use Rattle.mp_order.specs.Demands.{IsDriven, OwnNames, AreTops, Marked, root, AreMarks, Asks, AreDemands}
 use Rattle.mp_order.proofs.Mentions.{any_of}
 use Rattle.mp_order.proofs.Names.{meant}
-use Rattle.mp_order.proofs.Marks.{zero_at, marked_inside, marked_some}
+use Rattle.mp_order.proofs.Marks.{marked_inside, marked_some}
 use Rattle.mp_order.proofs.Reading.{SetsLaw, ReadsLaw, ReadMarked, ReadWeight, read_down, read_up, mark_up}
 
 value_inside : (p : Program) → IsSound p → (f : ℕ) (y : Form) (name : List ℕ) (at : Place) (v : ℕ) → IsAt p.forms f y
     → y.kind ≡ Set name at v → v < length p.exprs
 value_inside p s f y name at v yf is =
     let Q : FormKind → Type 0 = λ kind. InnerFit (length p.exprs) f (length p.forms) kind in
-    let fit : Q (Set name at v) = subst Q is (s.forms f y (get_at p.forms f y yf)) in fit
+    let fit : Q (Set name at v) = subst Q is (s.forms f y yf) in fit
 
 pub are_demands : (p : Program) (m : Meanings) (weights tops marks zeros demands : List ℕ) → IsSound p → SetsLaw p
     → ReadsLaw p → AreMeanings p m → OwnNames p
@@ -55,7 +54,7 @@ are_demands p m weights tops marks zeros demands s sl rl means own t mk none l =
         some = omega (arith, marked_some p tops g k marked, mk.bound g k marked)
 
         inside : a < length zeros
-        inside = omega (arith, size, dx.0.0)
+        inside = omega (arith, size, within p.defs a dx.0)
 
         by_why : (mentions p y.name v ≡ true) ⊎ (slice_index weights b < k)
             → slice_index weights b ≤ slice_index demands a
@@ -63,7 +62,8 @@ are_demands p m weights tops marks zeros demands s sl rl means own t mk none l =
             omega (
               arith,
               t.bound v b y (omega arith) (value_inside p s g z name at v zg kind) dy mention,
-              l.bound a (slice_index tops v) inside (g, z, name, at, v, zg.0, zg, kind, target, some, inl refl),
+              l.bound a (slice_index tops v) inside
+                  (g, z, name, at, v, within p.forms g zg, zg, kind, target, some, inl refl),
             )
         by_why (inr lt) =
             let e : (slice_index marks g - 1) + 1 ≡ slice_index marks g = omega (arith, some) in
@@ -72,23 +72,23 @@ are_demands p m weights tops marks zeros demands s sl rl means own t mk none l =
               lt,
               mk.bound g k marked,
               l.bound a (slice_index marks g - 1) inside
-                  (g, z, name, at, v, zg.0, zg, kind, target, some, inr e),
+                  (g, z, name, at, v, within p.forms g zg, zg, kind, target, some, inr e),
             )
 
     bounds : (a b : ℕ) → Reads p a b → slice_index weights b ≤ slice_index demands a
     bounds a b (x, y, xa, yb, dx, dy, reads) =
-        let driven : IsDriven p b y = (at_get p.defs b y yb, dy) in
+        let driven : IsDriven p b y = (yb, dy) in
         let (r, rooted, reads_r) = any_of (form_reads p x.name y.name) (roots p) reads in
         let lt : r < length p.forms = marked_inside p s tops r 1 (root rooted) in
-        let z = own_default p.forms r lt in
-        worth a b x y (at_get p.defs a x xa, dx) driven
+        let z = some_entry p.forms r lt in
+        worth a b x y (xa, dx) driven
         (read_down p s sl rl tops x.name y.name (slice_index weights b)
         (λ e el mention. t.bound e b y (omega arith) el driven mention)
-        (length p.forms) r 1 z.0 (omega arith) (lt, z.1) (root rooted) reads_r)
+        (length p.forms) r 1 z.0 (omega arith) z.1 (root rooted) reads_r)
 
     reads_of : (a b : ℕ) (x y : Def) → IsDriven p a x → IsDriven p b y
         → list_any (form_reads p x.name y.name) (roots p) ≡ true → Reads p a b
-    reads_of a b x y (xa, dx) (yb, dy) reads = (x, y, get_at p.defs a x xa, get_at p.defs b y yb, dx, dy, reads)
+    reads_of a b x y (xa, dx) (yb, dy) reads = (x, y, xa, yb, dx, dy, reads)
 
     from_weight : (a k : ℕ) (x : Def) → IsDriven p a x → ReadWeight p weights x.name (k + 1)
         → (b : ℕ) × Reads p a b × (slice_index weights b ≡ k)
@@ -111,13 +111,13 @@ are_demands p m weights tops marks zeros demands s sl rl means own t mk none l =
         by_why (inl e) =
             let (b, z, dz, mention, w) =
             t.met v (omega arith) (value_inside p s f y name at v yf kind) (omega (arith, some, e)) in
-            let here : form_reads p x.name z.name f ≡ true = rl x.name z.name f y (get_at p.forms f y yf)
+            let here : form_reads p x.name z.name f ≡ true = rl x.name z.name f y yf
             ∙ ap (λ k. kind_reads (mentions p z.name) (sets p x.name) x.name k (form_reads p x.name z.name)) kind
             ∙ and_from (is_same name x.name) (mentions p z.name v) same mention in
             (b, reads_of a b x z dx dz (read_up p rl tops x.name z.name f (slice_index marks f) marked here), w ∙ sym e)
         by_why (inr e) =
             let here : sets p x.name f ≡ true =
-            sl x.name f y (get_at p.forms f y yf) ∙ ap (λ k. kind_sets x.name k (sets p x.name)) kind ∙ same in
+            sl x.name f y yf ∙ ap (λ k. kind_sets x.name k (sets p x.name)) kind ∙ same in
             let P : ℕ → Type 0 = λ k. ReadWeight p weights x.name k in
             from_weight a (slice_index demands a) x dx
             (subst P (sym e)
@@ -131,4 +131,4 @@ are_demands p m weights tops marks zeros demands s sl rl means own t mk none l =
     ]
       where
         zero : (i : ℕ) → slice_index zeros i ≡ 0
-        zero i = ap (λ xs. get_or xs i 0) none ∙ zero_at (length p.defs) i
+        zero i = ap (λ xs. get_or xs i 0) none ∙ zeros_at (length p.defs) i

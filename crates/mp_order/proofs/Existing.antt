@@ -1,23 +1,21 @@
 -- Where no definition reads itself through a chain, there is an order of evaluation.
 use Rattle.std.proofs.Common.{◌≡◌, ◌⊎◌, inl, inr, ℕ, zero, suc, ◌+◌, ◌<◌, ◌≤◌, List, [], ◌∷◌, true, false, replicate}
-use Rattle.std.proofs.Common.{refl, sym, ◌∙◌, ap, subst, length, arith, get_or}
+use Rattle.std.proofs.Common.{refl, sym, ◌∙◌, ap, subst, length, arith}
 use Rattle.std.specs.Prelude.{slice_index, slice_set, slice_get, Some}
 use Rattle.std.specs.List.{insert, list_any}
 use Rattle.std.proofs.lemmas.Bool.{cases_lt, cases_Bool}
 use Rattle.std.proofs.lemmas.Option.{same_Some, slice_get_within}
 use Rattle.mp_base.specs.declared.refusal.Place.{Place}
 use Rattle.mp_base.proofs.Decisions.{Decided}
-use Rattle.mp_base.proofs.Entries.{own_default, some_entry}
+use Rattle.mp_base.proofs.Entries.{within, some_entry, one_entry}
 use Rattle.mp_program.specs.declared.program.Def.{Def}
 use Rattle.mp_program.specs.declared.program.Program.{Program}
 use Rattle.mp_program.specs.Names.{is_driven}
 use Rattle.mp_program.specs.Sound.{IsSound}
 use Rattle.mp_program.specs.Reads.{Reads, Chain, link, more, IsOrder, form_reads, roots}
 use Rattle.mp_rules.specs.Rules.{E33}
-use Rattle.mp_base.proofs.ListEntries.{at_get}
 use Rattle.mp_order.specs.Demands.{IsDriven, root}
 use Rattle.mp_order.specs.Chains.{AreReachers, Placed}
-use Rattle.mp_order.proofs.Tables.{one_entry}
 use Rattle.mp_order.proofs.Mentions.{any_of}
 use Rattle.mp_program.proofs.Definitions.{same_is}
 use Rattle.mp_order.proofs.Marks.{marked_inside}
@@ -115,7 +113,8 @@ module _ (p : Program) where
         reach,
         record {
           sound = λ a x driven some. only a some;
-          complete = λ a chain. (let (x, driven) = start_driven p a target chain in all a driven.0.0 chain);
+          complete = λ a chain. (let (x, driven) = start_driven p a target chain in
+              all a (within p.defs a driven.0) chain);
         },
       )
 
@@ -143,18 +142,18 @@ module _ (p : Program) where
   ordering_step : (n : ℕ) (closed order : List ℕ) → n < length p.defs → Ordering p n closed order
       → (more_closed longer : List ℕ) × Ordering p (n + 1) more_closed longer
   ordering_step n closed order lt o =
-      let (x, is) = own_default p.defs n lt in
+      let (x, at) = some_entry p.defs n lt in
       elim (cases_Bool (is_driven x.what)) [
         | inr still ↦ (
           closed,
           order,
           ordering_skip p n closed order o (λ y driven.
-              let e = ap (λ (u : Def). is_driven u.what) (one_entry p.defs n n x y refl (lt, is) driven.0) in let t =
+              let e = ap (λ (u : Def). is_driven u.what) (one_entry p.defs n x y at driven.0) in let t =
               driven.1 in cc),
         )
         | inl driven ↦ elim (chain_decided n n) [
           | inl chain ↦ (slice_set closed n 1, order, ordering_closed p n closed order o lt chain)
-          | inr none ↦ place x is driven none
+          | inr none ↦ place x at driven none
         ]
       ]
     where
@@ -163,7 +162,7 @@ module _ (p : Program) where
       unflagged reach x r driven none = elim (cases_lt 0 (slice_index reach n))
           [ inl some ↦ absurd (none (r.sound n x driven some)) | inr le ↦ omega (arith, le) ]
 
-      place : (x : Def) → x ≡ get_or p.defs n x → is_driven x.what ≡ true → (Chain p n n → ⊥)
+      place : (x : Def) → slice_get p.defs n ≡ Some x → is_driven x.what ≡ true → (Chain p n n → ⊥)
           → (more_closed longer : List ℕ) × Ordering p (n + 1) more_closed longer
       place x is driven none =
           let (reach, r) = reachers_exist n in
@@ -171,8 +170,8 @@ module _ (p : Program) where
           let placed : Placed reach n order (insert order at n) = (at, le, refl, before, here) in (
             closed,
             insert order at n,
-            ordering_placed p n x closed reach order (insert order at n) o ((lt, is), driven)
-                r (unflagged reach x r ((lt, is), driven) none) placed,
+            ordering_placed p n x closed reach order (insert order at n) o (is, driven)
+                r (unflagged reach x r (is, driven) none) placed,
           )
 
   ordering_to : (n : ℕ) → n ≤ length p.defs → (closed order : List ℕ) × Ordering p n closed order
@@ -195,12 +194,11 @@ module _ (p : Program) where
       by chain (c, (x, y, xd, yc, dx, dy, any)) =
           let (r, rooted, read) = any_of (form_reads p x.name y.name) (roots p) any in
           let lt : r < length p.forms = marked_inside p sound [] r 1 (root rooted) in
-          let z = own_default p.forms r lt in
+          let z = some_entry p.forms r lt in
           let (g, w, name, there, v, k, wg, kind, same, marked, why) =
           read_down p sound sets reads [] x.name y.name 0 (λ e el mention. omega arith) (length p.forms) r 1 z.0
-          (omega arith) (lt, z.1) (root rooted) read in
-          let at_d = at_get p.defs d x xd in
-          (w.place, (g, w, name, there, v, d, x, wg, kind, at_d, sym (same_is name x.name same), chain, refl))
+          (omega arith) z.1 (root rooted) read in
+          (w.place, (g, w, name, there, v, d, x, wg, kind, xd, sym (same_is name x.name same), chain, refl))
 
   pub order_exists : IsSound p → SetsLaw p → ReadsLaw p → ((at : Place) → E33 p at → ⊥) → (order : List ℕ)
       × IsOrder p order

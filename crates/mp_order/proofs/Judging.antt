@@ -9,10 +9,9 @@ use Rattle.mp_program.specs.declared.program.Program.{Program}
 use Rattle.mp_program.specs.Names.{is_driven}
 use Rattle.mp_program.specs.Reads.{Reads, Chain, link, more, IsOrder}
 use Rattle.mp_base.specs.Entries.{IsAt}
-use Rattle.mp_base.proofs.ListEntries.{at_get, get_at}
+use Rattle.mp_base.proofs.Entries.{same_at}
 use Rattle.mp_order.specs.Demands.{IsDriven, WeighsDriven, AreDemands}
 use Rattle.mp_order.specs.Ranks.{IsRanking, IsListing, Climbs}
-use Rattle.mp_order.proofs.Tables.{one_entry}
 use Rattle.mp_order.proofs.Closing.{FlagsClosed, read_driven}
 
 -- what holds of the driven definitions before n, and of the one at n if it is driven
@@ -23,7 +22,7 @@ driven_more p P n z at below here e lt x driven = elim (cases_lt e n) [
   | inl less ↦ below e less x driven
   | inr above ↦ let same : e ≡ n = omega (arith, lt, above) in
       subst P (sym same)
-      (here (ap (λ (y : Def). is_driven y.what) (one_entry p.defs n e z x (sym same) at driven.0) ∙ driven.1))
+      (here (ap (λ (y : Def). is_driven y.what) (same_at p.defs n e z x (sym same) at driven.0) ∙ driven.1))
 ]
 
 pub kept_driven : (p : Program) (xs : List ℕ) (n v : ℕ) (z : Def) → IsDriven p n z → WeighsDriven p xs
@@ -39,10 +38,10 @@ pub listing_order : (p : Program) (ranks loose order : List ℕ) → IsRanking p
     → ((a b : ℕ) → Reads p a b → slice_index loose a ≡ 0) → IsOrder p order
 listing_order p ranks loose order r l none = record {
   driven = λ k kl. (let ((x, (at, driven)), rank) = l.only k kl in
-      (x, get_at p.defs (slice_index order k) x at, driven));
+      (x, at, driven));
   once = λ j k jk kl same. omega
       (arith, (l.only j (omega (arith, jk, kl))).1, (l.only k kl).1, ap (λ i. get_or ranks i 0) same, jk);
-  all = λ d x is driven. (let (k, kl, at, rank) = l.all d x (at_get p.defs d x is, driven) in (k, kl, at));
+  all = λ d x is driven. (let (k, kl, at, rank) = l.all d x (is, driven) in (k, kl, at));
   after = λ k b kl reads.
       let (y, driven) = read_driven p (get_or order k 0) b reads in
       let (j, jl, at, rank) = l.all b y driven in (

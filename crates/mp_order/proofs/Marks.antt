@@ -10,16 +10,18 @@ use Rattle.mp_program.specs.Reads.{process_roots, roots}
 use Rattle.mp_base.specs.Entries.{IsAt}
 use Rattle.std.specs.List.{AllByRecursion}
 use Rattle.std.proofs.Common.{replicate}
-use Rattle.std.proofs.lemmas.List.{get_or-replicate, get_or_past, length-replicate}
+use Rattle.std.proofs.lemmas.List.{length-replicate}
+use Rattle.std.proofs.lemmas.Option.{same_Some, none-some}
 use Rattle.mp_program.specs.declared.program.Branch.{Branch}
 use Rattle.mp_program.specs.declared.program.Form.{Form}
 use Rattle.mp_program.specs.declared.program.FormKind.{FormKind}
 use Rattle.mp_program.specs.declared.program.FormKind.TheVariants.{Set, Cond, Par, Go, Call, Return}
 use Rattle.mp_program.specs.Sound.{IsSound, InnerFit, AllBetween}
-use Rattle.mp_base.proofs.ListEntries.{all_at, get_at}
+use Rattle.mp_base.proofs.Contents.{holds_of_contained}
+use Rattle.mp_base.proofs.Entries.{each_at, within, same_at, zeros_at}
 use Rattle.mp_order.specs.Tables.{Lifted}
 use Rattle.mp_order.specs.Demands.{Gives, Marked, root, inner, AreMarks}
-use Rattle.mp_order.proofs.Tables.{lifted_as, lifted_join, one_entry}
+use Rattle.mp_order.proofs.Tables.{lifted_as, lifted_join}
 
 -- f is a top-level form of the `always` or of a process before the one at n
 abbrev pub RootBelow : Program → ℕ → ℕ → Type 0
@@ -27,18 +29,18 @@ RootBelow p n f = Contains p.always f ⊎ ((j : ℕ) × (q : Process) × (j < n)
 
 pub process_root : (qs : List Process) (j : ℕ) (q : Process) (f : ℕ) → IsAt qs j q → Contains q.forms f
     → Contains (process_roots qs) f
-process_root [] j q f at inside = absurd (omega (arith, at.0))
+process_root [] j q f at inside = absurd (none-some q at)
 process_root (x ∷ qs) zero q f at inside = let P : Process → Type 0 = λ y. Contains y.forms f in
-    Contains-append_left x.forms (process_roots qs) f (subst P at.1 inside)
-process_root (x ∷ qs) (suc j) q f (lt, e) inside =
-    Contains-append_right x.forms (process_roots qs) f (process_root qs j q f (omega (arith, lt), e) inside)
+    Contains-append_left x.forms (process_roots qs) f (subst P (sym (same_Some x q at)) inside)
+process_root (x ∷ qs) (suc j) q f at inside =
+    Contains-append_right x.forms (process_roots qs) f (process_root qs j q f at inside)
 
 pub rooted_in : (qs : List Process) (f : ℕ) → Contains (process_roots qs) f
     → (j : ℕ) × (q : Process) × IsAt qs j q × Contains q.forms f
 rooted_in [] f (k, lt, e) = absurd (omega (arith, lt))
 rooted_in (x ∷ qs) f inside = elim (Contains-append_cases x.forms (process_roots qs) f inside) [
-  | inl here ↦ (0, x, (omega arith, refl), here)
-  | inr there ↦ let (j, q, at, h) = rooted_in qs f there in (suc j, q, (omega (arith, at.0), at.1), h)
+  | inl here ↦ (0, x, refl, here)
+  | inr there ↦ let (j, q, at, h) = rooted_in qs f there in (suc j, q, at, h)
 ]
 
 pub roots_more : (p : Program) (n : ℕ) (q : Process) (old mid new : List ℕ) → IsAt p.processes n q
@@ -67,7 +69,7 @@ roots_more p n q old mid new at first second =
                 (arith, e),
             (
               let P : Process → Type 0 = λ y. Contains y.forms f in
-                  subst P (one_entry p.processes j n x q (omega (arith, lt, above)) xj at) h,
+                  subst P (same_at p.processes j n x q (omega (arith, lt, above)) xj at) h,
               refl,
             ),
           )
@@ -89,21 +91,18 @@ roots_done p n old new le l =
     from f h = elim (Contains-append_cases p.always (process_roots p.processes) f h) [
       | inl here ↦ inl here
       | inr there ↦ let (j, q, at, inside) = rooted_in p.processes f there in
-          inr (j, q, omega (arith, at.0, le), at, inside)
+          inr (j, q, omega (arith, within p.processes j at, le), at, inside)
     ]
 
 -- ---- what stands where
 
-pub entry : {X : Type 0} (xs : List X) (x : X) (inside : Contains xs x) → IsAt xs inside.0 x
-entry xs x (k, lt, e) = (lt, sym e)
-
 pub gives_fit : (tops : List ℕ) (e i n mark g k : ℕ) (kind : FormKind) → InnerFit e i n kind → Gives tops kind mark g k
     → (i < g) × (g < n)
 gives_fit tops e i n mark g k (Cond bs) fit (j, b, at, inside, worth) =
-    let h = all_at (λ (x : Branch). (x.guard < e) × AllBetween i n x.body) bs j b fit at in
-    all_at (λ x. (i < x) × (x < n)) b.body inside.0 g h.1 (entry b.body g inside)
+    let h = each_at (λ (x : Branch). (x.guard < e) × AllBetween i n x.body) bs j b fit at in
+    holds_of_contained (λ x. (i < x) × (x < n)) b.body g h.1 inside
 gives_fit tops e i n mark g k (Par fs) fit (inside, worth) =
-    all_at (λ x. (i < x) × (x < n)) fs inside.0 g fit (entry fs g inside)
+    holds_of_contained (λ x. (i < x) × (x < n)) fs g fit inside
 gives_fit tops e i n mark g k (Set x at v) fit none = absurd none
 gives_fit tops e i n mark g k (Go l) fit none = absurd none
 gives_fit tops e i n mark g k (Call l) fit none = absurd none
@@ -112,15 +111,15 @@ gives_fit tops e i n mark g k Return fit none = absurd none
 pub given_inside : (p : Program) → IsSound p → (tops : List ℕ) (f : ℕ) (y : Form) (mark g k : ℕ) → IsAt p.forms f y
     → Gives tops y.kind mark g k → (f < g) × (g < length p.forms)
 given_inside p s tops f y mark g k at gives =
-    gives_fit tops (length p.exprs) f (length p.forms) mark g k y.kind (s.forms f y (get_at p.forms f y at)) gives
+    gives_fit tops (length p.exprs) f (length p.forms) mark g k y.kind (s.forms f y at) gives
 
 pub root_inside : (p : Program) → IsSound p → (f : ℕ) → Contains (roots p) f → f < length p.forms
 root_inside p s f h = elim (Contains-append_cases p.always (process_roots p.processes) f h) [
-  | inl here ↦ all_at (λ x. x < length p.forms) p.always here.0 f s.always (entry p.always f here)
+  | inl here ↦ holds_of_contained (λ x. x < length p.forms) p.always f s.always here
   | inr there ↦ let (j, q, at, inside) = rooted_in p.processes f there in
-      all_at (λ x. x < length p.forms) q.forms inside.0 f
-      (all_at (λ (x : Process). AllByRecursion (λ y. y < length p.forms) x.forms) p.processes j q s.processes at)
-      (entry q.forms f inside)
+      holds_of_contained (λ x. x < length p.forms) q.forms f
+      (each_at (λ (x : Process). AllByRecursion (λ y. y < length p.forms) x.forms) p.processes j q s.processes at)
+      inside
 ]
 
 pub marked_inside : (p : Program) → IsSound p → (tops : List ℕ) (f k : ℕ) → Marked p tops f k → f < length p.forms
@@ -164,12 +163,6 @@ pub record Marking (p : Program) (tops : List ℕ) (n : ℕ) (marks : List ℕ) 
   pub done : (f g k : ℕ) (y : Form) → f < n → IsAt p.forms f y → 0 < get_or marks f 0
       → Gives tops y.kind (get_or marks f 0) g k → k ≤ get_or marks g 0
 
-pub zero_at : (n i : ℕ) → get_or {A = ℕ} (replicate n 0) i 0 ≡ 0
-zero_at n i = elim (cases_lt i n) [
-  | inl lt ↦ get_or-replicate n i 0 0 lt
-  | inr ge ↦ get_or_past (replicate n 0) i 0 (omega (arith, ge, length-replicate {A = ℕ} n 0))
-]
-
 pub marking_roots : (p : Program) → IsSound p → (tops zeros marks : List ℕ) → zeros ≡ replicate (length p.forms) 0
     → Lifted (λ f k. Contains (roots p) f × (k ≡ 1)) zeros marks → Marking p tops 0 marks
 marking_roots p s tops zeros marks e l = record {
@@ -186,7 +179,7 @@ marking_roots p s tops zeros marks e l = record {
     size = ap (length {A = ℕ}) e ∙ length-replicate {A = ℕ} (length p.forms) 0
 
     none : (f : ℕ) → get_or zeros f 0 ≡ 0
-    none f = ap (λ xs. get_or xs f 0) e ∙ zero_at (length p.forms) f
+    none f = ap (λ xs. get_or xs f 0) e ∙ zeros_at (length p.forms) f
 
 -- a form that no clock can reach
 pub marking_skip : (p : Program) (tops marks : List ℕ) (n : ℕ) → Marking p tops n marks → get_or marks n 0 ≡ 0
@@ -245,7 +238,7 @@ marking_more p s tops old new n x m at some l = record {
         let P : Form → Type 0 = λ z. Gives tops z.kind (get_or new f 0) g k in
         let Q : ℕ → Type 0 = λ v. Gives tops x.kind v g k in
         let h : Gives tops x.kind (get_or old n 0) g k =
-        subst Q e (subst P (one_entry p.forms f n y x same yf at) gives) in
+        subst Q e (subst P (same_at p.forms f n y x same yf at) gives) in
         l.bound g k (omega (arith, m.size, (given_inside p s tops n x (get_or old n 0) g k at h).1)) h
 
 pub marking_done : (p : Program) (tops marks : List ℕ) (n : ℕ) → length p.forms ≤ n → Marking p tops n marks
@@ -260,6 +253,6 @@ marking_done p tops marks n le m = record { met = m.met; bound = λ f k h. reach
         omega (
           arith,
           more,
-          m.done c f l y (omega (arith, at.0, le)) at
+          m.done c f l y (omega (arith, within p.forms c at, le)) at
               (omega (arith, above, marked_some p tops c mark up)) given,
         )

@@ -19,10 +19,9 @@ use Rattle.mp_program.proofs.Definitions.{is_same_of, same_is}
 use Rattle.name_meanings.specs.declared.meaning.Meanings.{Meanings}
 use Rattle.name_meanings.specs.Meaning.{AreMeanings}
 use Rattle.mp_base.specs.Entries.{IsAt}
-use Rattle.mp_base.proofs.ListEntries.{all_at}
+use Rattle.mp_base.proofs.Contents.{holds_of_contained}
 use Rattle.mp_order.specs.Demands.{IsDriven, OwnNames, WeighsDriven, AreTops}
 use Rattle.mp_order.proofs.Names.{meant}
-use Rattle.mp_order.proofs.Marks.{entry}
 
 -- what mentions and sums of tests say
 pub any_of : {X : Type 0} (test : X → Bool) (xs : List X) → list_any test xs ≡ true
@@ -120,7 +119,7 @@ top_apply p weights tops n e args top t next fit (bound, met) = record {
 }
   where
     between : (i : ℕ) → Contains args i → (e < i) × (i < length p.exprs)
-    between i inside = all_at (λ k. (e < k) × (k < length p.exprs)) args inside.0 i fit (entry args i inside)
+    between i inside = holds_of_contained (λ k. (e < k) × (k < length p.exprs)) args i fit inside
 
 -- anything else
 pub top_zero : (p : Program) (weights : List ℕ) (top : ℕ) → top ≡ 0 → IsTop p weights (λ name. false) top

@@ -6,14 +6,13 @@ use Rattle.std.specs.List.{insert}
 use Rattle.std.proofs.lemmas.Bool.{cases_eq, cases_lt}
 use Rattle.std.proofs.lemmas.List.{get_or-set_same, get_or-set_other, length-set, length-replicate}
 use Rattle.std.proofs.lemmas.List.Edits.{get_or-insert_at, get_or-insert_below, get_or-insert_above, length-insert}
+use Rattle.mp_base.proofs.Entries.{within, zeros_at}
 use Rattle.mp_program.specs.declared.program.Def.{Def}
 use Rattle.mp_program.specs.declared.program.Program.{Program}
 use Rattle.mp_program.specs.Reads.{Reads, Chain, link, IsOrder}
-use Rattle.mp_base.proofs.ListEntries.{at_get, get_at}
 use Rattle.mp_order.specs.Demands.{IsDriven}
 use Rattle.mp_order.specs.Chains.{AreReachers, Placed}
 use Rattle.mp_order.proofs.Closing.{FlagsClosed, read_driven, start_driven, join}
-use Rattle.mp_order.proofs.Marks.{zero_at}
 
 -- what stands at an index once y is put in: an entry of the list, or y
 abbrev Source : List ℕ → ℕ → ℕ → ℕ → Type 0
@@ -51,7 +50,7 @@ pub record Ordering (p : Program) (n : ℕ) (closed order : List ℕ) : Type 0 w
 pub ordering_start : (p : Program) (zeros : List ℕ) → zeros ≡ replicate (length p.defs) 0 → Ordering p 0 zeros []
 ordering_start p zeros none = record {
   size = ap (length {A = ℕ}) none ∙ length-replicate {A = ℕ} (length p.defs) 0;
-  flagged = λ d some. let e : get_or zeros d 0 ≡ 0 = ap (λ xs. get_or xs d 0) none ∙ zero_at (length p.defs) d in
+  flagged = λ d some. let e : get_or zeros d 0 ≡ 0 = ap (λ xs. get_or xs d 0) none ∙ zeros_at (length p.defs) d in
       absurd (omega (arith, e, some));
   sorted = λ d x lt. absurd (omega (arith, lt));
   driven = λ k lt. absurd (omega (arith, lt));
@@ -190,7 +189,7 @@ ordering_flags p n closed order le o = λ d chain. flag d chain
     flag : (d : ℕ) → Chain p d d → 0 < get_or closed d 0
     flag d chain =
         let (x, driven) = start_driven p d d chain in
-        elim (o.sorted d x (omega (arith, driven.0.0, le)) driven) [
+        elim (o.sorted d x (omega (arith, within p.defs d driven.0, le)) driven) [
           | inl some ↦ some
           | inr (k, kl, e) ↦
               (let P : ℕ → Type 0 = λ i. Chain p i i in absurd (o.apart k k (omega arith) kl (subst P (sym e) chain)))
@@ -199,9 +198,9 @@ ordering_flags p n closed order le o = λ d chain. flag d chain
 pub ordering_done : (p : Program) (n : ℕ) (closed order : List ℕ) → length p.defs ≤ n → Ordering p n closed order
     → ((d : ℕ) → 0 < slice_index closed d → ⊥) → IsOrder p order
 ordering_done p n closed order le o none = record {
-  driven = λ k kl. (let (lt, (x, (at, d))) = o.driven k kl in (x, get_at p.defs (get_or order k 0) x at, d));
+  driven = λ k kl. (let (lt, (x, (at, d))) = o.driven k kl in (x, at, d));
   once = o.once;
-  all = λ d x at driven. placed d x (at_get p.defs d x at, driven);
+  all = λ d x at driven. placed d x (at, driven);
   after = λ k b kl reads.
       let (y, dy) = read_driven p (get_or order k 0) b reads in
       let (j, jl, e) = placed b y dy in
@@ -214,7 +213,7 @@ ordering_done p n closed order le o none = record {
 }
   where
     placed : (d : ℕ) (x : Def) → IsDriven p d x → (k : ℕ) × (k < length order) × (get_or order k 0 ≡ d)
-    placed d x driven = elim (o.sorted d x (omega (arith, driven.0.0, le)) driven) [
+    placed d x driven = elim (o.sorted d x (omega (arith, within p.defs d driven.0, le)) driven) [
       | inl some ↦ absurd (none d some)
       | inr found ↦ found
     ]

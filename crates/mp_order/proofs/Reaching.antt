@@ -5,13 +5,12 @@ use Rattle.std.specs.Prelude.{slice_index, slice_set}
 use Rattle.std.proofs.lemmas.Bool.{cases_eq, cases_lt}
 use Rattle.std.proofs.lemmas.List.{get_or-set_same, get_or-set_other, length-set, length-replicate}
 use Rattle.std.proofs.lemmas.List.Sums.{sum_by-set}
+use Rattle.mp_base.proofs.Entries.{within, zeros_at}
 use Rattle.mp_program.specs.declared.program.Def.{Def}
 use Rattle.mp_program.specs.declared.program.Program.{Program}
 use Rattle.mp_program.specs.Reads.{Reads, Chain, link, more}
-use Rattle.mp_base.proofs.ListEntries.{at_get}
 use Rattle.mp_order.specs.Demands.{IsDriven, WeighsDriven, AreDemands}
 use Rattle.mp_order.specs.Chains.{Widened, blanks, AreReachers}
-use Rattle.mp_order.proofs.Marks.{zero_at}
 
 pub widened_none : (p : Program) (demands xs : List ℕ) → Widened p demands 0 xs xs
 widened_none p demands xs =
@@ -89,7 +88,7 @@ reaching_start p target x zeros driven none = record {
   size = length-set zeros target 1 ∙ size;
   driven = λ d some. (x, (let P : ℕ → Type 0 = λ i. IsDriven p i x in subst P (sym (only d some)) driven));
   start = (let e : get_or (slice_set zeros target 1) target 0 ≡ 1 =
-      get_or-set_same zeros target 1 0 (omega (arith, size, driven.0.0)) in omega (arith, e));
+      get_or-set_same zeros target 1 0 (omega (arith, size, within p.defs target driven.0)) in omega (arith, e));
   sound = λ a some. inl (only a some);
 }
   where
@@ -101,7 +100,7 @@ reaching_start p target x zeros driven none = record {
       | inl same ↦ same
       | inr ne ↦
           let e : get_or (slice_set zeros target 1) d 0 ≡ 0 =
-          get_or-set_other zeros target d 1 0 ne ∙ ap (λ xs. get_or xs d 0) none ∙ zero_at (length p.defs) d in
+          get_or-set_other zeros target d 1 0 ne ∙ ap (λ xs. get_or xs d 0) none ∙ zeros_at (length p.defs) d in
           absurd (omega (arith, e, some))
     ]
 
@@ -139,8 +138,7 @@ reaching_done p target old new demands r h w still = record {
     found a (link reads) = omega (arith, h.bound a target reads, r.start)
     found a (more {b = b} reads chain) =
         let (x, y, xa, yb, dx, dy, any) = reads in
-        let at = at_get p.defs b y yb in
-        let some : 0 < slice_index new b = w.full b y at.0 (at, dy) (found b chain) in
+        let some : 0 < slice_index new b = w.full b y (within p.defs b yb) (yb, dy) (found b chain) in
         let P : List ℕ → Type 0 = λ xs. 0 < slice_index xs b in
         let was : 0 < slice_index old b = subst P still some in
         omega (arith, h.bound a b reads, was)

@@ -4,8 +4,9 @@ use Rattle.std.proofs.Common.{sym, ◌∙◌, ap, subst, length, arith}
 use Rattle.std.specs.Prelude.{◌||◌, ◌&&◌, slice_index, Contains, slice_get, Some}
 use Rattle.std.specs.List.{list_any}
 use Rattle.std.proofs.lemmas.Bool.{and_parts, or_cases, or_left, or_right, and_from}
+use Rattle.std.proofs.lemmas.Option.{same_Some, none-some}
 use Rattle.mp_base.specs.declared.refusal.Place.{Place}
-use Rattle.mp_base.proofs.Entries.{own_default}
+use Rattle.mp_base.proofs.Entries.{some_entry, within, contains_from_get, get_from_contains, each_at}
 use Rattle.mp_program.specs.declared.program.FormKind.{FormKind}
 use Rattle.mp_program.specs.declared.program.FormKind.TheVariants.{Set, Cond, Par, Go, Call, Return}
 use Rattle.mp_program.specs.declared.program.Branch.{Branch}
@@ -17,10 +18,9 @@ use Rattle.mp_program.specs.Reads.{mentions, sets, kind_sets, branches_set, form
 use Rattle.mp_program.specs.Reads.{roots}
 use Rattle.mp_program.specs.Sound.{IsSound, InnerFit, AllBetween}
 use Rattle.mp_base.specs.Entries.{IsAt}
-use Rattle.mp_base.proofs.ListEntries.{all_at, get_at}
 use Rattle.mp_order.specs.Demands.{IsDriven, AreTops, Gives, Marked, root, inner}
 use Rattle.mp_order.proofs.Mentions.{any_of, any_at}
-use Rattle.mp_order.proofs.Marks.{entry, given_inside}
+use Rattle.mp_order.proofs.Marks.{given_inside}
 
 -- ---- tests
 
@@ -43,26 +43,19 @@ read_in m s before (b ∷ bs) r h =
     by_guard : (j : ℕ) → (before ≡ true) ⊎ (m b.guard ≡ true)
         → (before ≡ true) ⊎ ((i : ℕ) × (g : Branch) × IsAt (b ∷ bs) i g × (i ≤ j) × (m g.guard ≡ true))
     by_guard j (inl e) = inl e
-    by_guard j (inr e) = inr (0, b, (omega arith, refl), omega arith, e)
+    by_guard j (inr e) = inr (0, b, refl, omega arith, e)
 
     later : ReadIn m s (before || m b.guard) bs r → ReadIn m s before (b ∷ bs) r
-    later (j, d, c, at, inside, inl reads) = (suc j, d, c, (omega (arith, at.0), at.1), inside, inl reads)
+    later (j, d, c, at, inside, inl reads) = (suc j, d, c, at, inside, inl reads)
     later (j, d, c, at, inside, inr (set, inl e)) =
-        (suc j, d, c, (omega (arith, at.0), at.1), inside, inr (set, by_guard (suc j) (or_cases before (m b.guard) e)))
-    later (j, d, c, at, inside, inr (set, inr (i, g, gi, le, e))) = (
-      suc j,
-      d,
-      c,
-      (omega (arith, at.0), at.1),
-      inside,
-      inr
-          (set, inr (suc i, g, (omega (arith, gi.0), gi.1), omega (arith, le), e)),
-    )
+        (suc j, d, c, at, inside, inr (set, by_guard (suc j) (or_cases before (m b.guard) e)))
+    later (j, d, c, at, inside, inr (set, inr (i, g, gi, le, e))) =
+        (suc j, d, c, at, inside, inr (set, inr (suc i, g, gi, omega (arith, le), e)))
 
     rest : (list_any r b.body ≡ true) ⊎ (branches_read m s (before || m b.guard) bs r ≡ true)
         → (branches_read m s (before || m b.guard) bs r ≡ true → ReadIn m s (before || m b.guard) bs r)
         → ReadIn m s before (b ∷ bs) r
-    rest (inl reads) step = let (c, inside, t) = any_of r b.body reads in (0, b, c, (omega arith, refl), inside, inl t)
+    rest (inl reads) step = let (c, inside, t) = any_of r b.body reads in (0, b, c, refl, inside, inl t)
     rest (inr t) step = later (step t)
 
     by_part : (((before || m b.guard) && list_any s b.body) ≡ true)
@@ -72,34 +65,36 @@ read_in m s before (b ∷ bs) r h =
     by_part (inl h) step =
         let (e, set) = and_parts (before || m b.guard) (list_any s b.body) h in
         let (c, inside, t) = any_of s b.body set in
-        (0, b, c, (omega arith, refl), inside, inr (t, by_guard 0 (or_cases before (m b.guard) e)))
+        (0, b, c, refl, inside, inr (t, by_guard 0 (or_cases before (m b.guard) e)))
     by_part (inr h) step = rest (or_cases (list_any r b.body) (branches_read m s (before || m b.guard) bs r) h) step
 
 in_reads : (m s : ℕ → Bool) (before : Bool) (bs : List Branch) (r : ℕ → Bool) → ReadIn m s before bs r
     → branches_read m s before bs r ≡ true
-in_reads m s before [] r (j, b, c, at, inside, why) = absurd (omega (arith, at.0))
+in_reads m s before [] r (j, b, c, at, inside, why) = absurd (none-some b at)
 in_reads m s before (x ∷ bs) r (zero, b, c, at, inside, inl reads) =
     let P : Branch → Type 0 = λ y. Contains y.body c in
     or_right ((before || m x.guard) && list_any s x.body)
     (list_any r x.body || branches_read m s (before || m x.guard) bs r)
     (or_left (list_any r x.body) (branches_read m s (before || m x.guard) bs r)
-    (any_at r x.body c (subst P at.1 inside) reads))
+    (any_at r x.body c (subst P (sym (same_Some x b at)) inside) reads))
 in_reads m s before (x ∷ bs) r (zero, b, c, at, inside, inr (set, why)) =
     let P : Branch → Type 0 = λ y. Contains y.body c in
     or_left ((before || m x.guard) && list_any s x.body)
     (list_any r x.body || branches_read m s (before || m x.guard) bs r)
-    (and_from (before || m x.guard) (list_any s x.body) (guarded why) (any_at s x.body c (subst P at.1 inside) set))
+    (and_from (before || m x.guard) (list_any s x.body) (guarded why)
+    (any_at s x.body c (subst P (sym (same_Some x b at)) inside) set))
   where
     guarded : (before ≡ true) ⊎ ((i : ℕ) × (g : Branch) × IsAt (x ∷ bs) i g × (i ≤ 0) × (m g.guard ≡ true))
         → (before || m x.guard) ≡ true
     guarded (inl e) = or_left before (m x.guard) e
-    guarded (inr (zero, g, gi, le, e)) = or_right before (m x.guard) (ap (λ (y : Branch). m y.guard) (sym gi.1) ∙ e)
+    guarded (inr (zero, g, gi, le, e)) =
+        or_right before (m x.guard) (ap (λ (y : Branch). m y.guard) (same_Some x g gi) ∙ e)
     guarded (inr (suc i, g, gi, le, e)) = absurd (omega (arith, le))
 in_reads m s before (x ∷ bs) r (suc j, b, c, at, inside, why) =
     or_right ((before || m x.guard) && list_any s x.body)
     (list_any r x.body || branches_read m s (before || m x.guard) bs r)
     (or_right (list_any r x.body) (branches_read m s (before || m x.guard) bs r)
-    (in_reads m s (before || m x.guard) bs r (j, b, c, (omega (arith, at.0), at.1), inside, earlier why)))
+    (in_reads m s (before || m x.guard) bs r (j, b, c, at, inside, earlier why)))
   where
     earlier : (r c ≡ true)
         ⊎ ((s c ≡ true)
@@ -110,21 +105,22 @@ in_reads m s before (x ∷ bs) r (suc j, b, c, at, inside, why) =
     earlier (inl reads) = inl reads
     earlier (inr (set, inl e)) = inr (set, inl (or_left before (m x.guard) e))
     earlier (inr (set, inr (zero, g, gi, le, e))) =
-        inr (set, inl (or_right before (m x.guard) (ap (λ (y : Branch). m y.guard) (sym gi.1) ∙ e)))
+        inr (set, inl (or_right before (m x.guard) (ap (λ (y : Branch). m y.guard) (same_Some x g gi) ∙ e)))
     earlier (inr (set, inr (suc i, g, gi, le, e))) =
-        inr (set, inr (i, g, (omega (arith, gi.0), gi.1), omega (arith, le), e))
+        inr (set, inr (i, g, gi, omega (arith, le), e))
 
 set_in : (bs : List Branch) (s : ℕ → Bool) → branches_set bs s ≡ true
     → (j : ℕ) × (b : Branch) × (c : ℕ) × IsAt bs j b × Contains b.body c × (s c ≡ true)
 set_in bs s h =
     let (b, inside, t) = any_of (λ (x : Branch). list_any s x.body) bs h in
-    let (c, within, u) = any_of s b.body t in
-    (inside.0, b, c, entry bs b inside, within, u)
+    let (c, held, u) = any_of s b.body t in
+    let (j, at) = get_from_contains bs b inside in
+    (j, b, c, at, held, u)
 
 in_sets : (bs : List Branch) (s : ℕ → Bool) (j : ℕ) (b : Branch) (c : ℕ) → IsAt bs j b → Contains b.body c → s c ≡ true
     → branches_set bs s ≡ true
 in_sets bs s j b c at inside t =
-    any_at (λ (x : Branch). list_any s x.body) bs b (j, at.0, sym at.1) (any_at s b.body c inside t)
+    any_at (λ (x : Branch). list_any s x.body) bs b (contains_from_get bs j b at) (any_at s b.body c inside t)
 
 -- ---- the laws of programs
 
@@ -146,11 +142,11 @@ SetMarked p tops x k = (g : ℕ) × (y : Form) × (t : List ℕ) × (at : Place)
 set_down : (p : Program) → IsSound p → SetsLaw p → (tops x : List ℕ) (m f k : ℕ) (y : Form) → length p.forms ≤ f + m
     → IsAt p.forms f y → Marked p tops f k → sets p x f ≡ true
     → SetMarked p tops x k
-set_down p s law tops x zero f k y le at marked set = absurd (omega (arith, le, at.0))
+set_down p s law tops x zero f k y le at marked set = absurd (omega (arith, le, within p.forms f at))
 set_down p s law tops x (suc m) f k y le at marked set =
-    by_kind y.kind refl (sym (law x f y (get_at p.forms f y at)) ∙ set)
-    (λ c l gives t. let b = given_inside p s tops f y k c l at gives in let z = own_default p.forms c b.1 in
-    set_down p s law tops x m c l z.0 (omega (arith, le, b.0)) (b.1, z.1) (inner y marked at gives) t)
+    by_kind y.kind refl (sym (law x f y at) ∙ set)
+    (λ c l gives t. let b = given_inside p s tops f y k c l at gives in let z = some_entry p.forms c b.1 in
+    set_down p s law tops x m c l z.0 (omega (arith, le, b.0)) z.1 (inner y marked at gives) t)
   where
     by_kind : (kind : FormKind) → y.kind ≡ kind → kind_sets x kind (sets p x) ≡ true
         → ((c l : ℕ) → Gives tops y.kind k c l → sets p x c ≡ true → SetMarked p tops x l) → SetMarked p tops x k
@@ -176,13 +172,13 @@ pub read_down : (p : Program) → IsSound p → SetsLaw p → ReadsLaw p → (to
     → ((e : ℕ) → e < length p.exprs → mentions p n e ≡ true → w ≤ slice_index tops e)
     → (m f k : ℕ) (y : Form) → length p.forms ≤ f + m → IsAt p.forms f y → Marked p tops f k
     → form_reads p x n f ≡ true → ReadMarked p tops x n w
-read_down p s sl rl tops x n w top zero f k y le at marked reads = absurd (omega (arith, le, at.0))
+read_down p s sl rl tops x n w top zero f k y le at marked reads = absurd (omega (arith, le, within p.forms f at))
 read_down p s sl rl tops x n w top (suc m) f k y le at marked reads =
-    by_kind y.kind refl (sym (rl x n f y (get_at p.forms f y at)) ∙ reads)
-    (λ c l gives t. let b = given_inside p s tops f y k c l at gives in let z = own_default p.forms c b.1 in
-    read_down p s sl rl tops x n w top m c l z.0 (omega (arith, le, b.0)) (b.1, z.1) (inner y marked at gives) t)
-    (λ c l gives t. let b = given_inside p s tops f y k c l at gives in let z = own_default p.forms c b.1 in
-    set_down p s sl tops x m c l z.0 (omega (arith, le, b.0)) (b.1, z.1) (inner y marked at gives) t)
+    by_kind y.kind refl (sym (rl x n f y at) ∙ reads)
+    (λ c l gives t. let b = given_inside p s tops f y k c l at gives in let z = some_entry p.forms c b.1 in
+    read_down p s sl rl tops x n w top m c l z.0 (omega (arith, le, b.0)) z.1 (inner y marked at gives) t)
+    (λ c l gives t. let b = given_inside p s tops f y k c l at gives in let z = some_entry p.forms c b.1 in
+    set_down p s sl tops x m c l z.0 (omega (arith, le, b.0)) z.1 (inner y marked at gives) t)
   where
     by_guard : (k : ℕ) → w < k → SetMarked p tops x k → ReadMarked p tops x n w
     by_guard k lt (g, z, t, there, v, zg, kind, same, marked) = (g, z, t, there, v, k, zg, kind, same, marked, inr lt)
@@ -197,9 +193,9 @@ read_down p s sl rl tops x n w top (suc m) f k y le at marked reads =
     by_branch bs is (j, b, c, bj, inside, inr (t, inr (i, g, gi, under, e))) step sets_step =
         let P : FormKind → Type 0 = λ kind. Gives tops kind k c (slice_index tops g.guard + 1) in
         let Q : FormKind → Type 0 = λ kind. InnerFit (length p.exprs) f (length p.forms) kind in
-        let fit : Q (Cond bs) = subst Q is (s.forms f y (get_at p.forms f y at)) in
+        let fit : Q (Cond bs) = subst Q is (s.forms f y at) in
         let inside_exprs =
-        (all_at (λ (x : Branch). (x.guard < length p.exprs) × AllBetween f (length p.forms) x.body) bs i g fit gi).0 in
+        (each_at (λ (x : Branch). (x.guard < length p.exprs) × AllBetween f (length p.forms) x.body) bs i g fit gi).0 in
         by_guard (slice_index tops g.guard + 1) (omega (arith, top g.guard inside_exprs e))
         (sets_step c (slice_index tops g.guard + 1)
         (subst P (sym is) (j, b, bj, inside, inr (i, g, gi, under, refl))) t)
@@ -235,7 +231,7 @@ pub read_up : (p : Program) → ReadsLaw p → (tops x n : List ℕ) (f k : ℕ)
 read_up p law tops x n f k (root h) t = any_at (form_reads p x n) (roots p) f h t
 read_up p law tops x n f k (inner {f = c} {mark = mark} y up at gives) t =
     read_up p law tops x n c mark up
-    (law x n c y (get_at p.forms c y at)
+    (law x n c y at
     ∙ kind_up tops x (mentions p n) (sets p x) (form_reads p x n) y.kind mark f k gives t)
 
 -- a driven definition of weight k - 1 that top-level forms read for x
@@ -249,7 +245,7 @@ pub mark_up : (p : Program) → IsSound p → SetsLaw p → ReadsLaw p → (weig
 mark_up p s sl rl weights tops x t f k (root h) more set = absurd (omega (arith, more))
 mark_up p s sl rl weights tops x t f k (inner {f = c} {mark = mark} y up at gives) more set =
     by_kind y.kind refl gives (λ some h. mark_up p s sl rl weights tops x t c mark up some
-    (sl x c y (get_at p.forms c y at) ∙ h))
+    (sl x c y at ∙ h))
   where
     same : k ≡ mark → ReadWeight p weights x mark → ReadWeight p weights x k
     same e (b, z, driven, w, reads) = (b, z, driven, w ∙ sym e, reads)
@@ -261,16 +257,16 @@ mark_up p s sl rl weights tops x t f k (inner {f = c} {mark = mark} y up at give
         (ap (λ kind. kind_sets x kind (sets p x)) is ∙ in_sets bs (sets p x) j b f bj inside set))
     by_kind (Cond bs) is (j, b, bj, inside, inr (i, g, gi, under, e)) step =
         let Q : FormKind → Type 0 = λ kind. InnerFit (length p.exprs) c (length p.forms) kind in
-        let fit : Q (Cond bs) = subst Q is (s.forms c y (get_at p.forms c y at)) in
+        let fit : Q (Cond bs) = subst Q is (s.forms c y at) in
         let lt =
-        (all_at (λ (x : Branch). (x.guard < length p.exprs) × AllBetween c (length p.forms) x.body) bs i g fit gi).0 in
+        (each_at (λ (x : Branch). (x.guard < length p.exprs) × AllBetween c (length p.forms) x.body) bs i g fit gi).0 in
         let (d, z, driven, m, w) = t.met g.guard (omega arith) lt (omega (arith, e, more)) in (
           d,
           z,
           driven,
           omega (arith, w, e),
           read_up p rl tops x z.name c mark up
-              (rl x z.name c y (get_at p.forms c y at)
+              (rl x z.name c y at
               ∙ ap (λ kind. kind_reads (mentions p z.name) (sets p x) x kind (form_reads p x z.name)) is
               ∙ in_reads (mentions p z.name) (sets p x) false bs (form_reads p x z.name)
               (j, b, f, bj, inside, inr (set, inr (i, g, gi, under, m)))),

@@ -1,5 +1,5 @@
 -- The earliest `setq` of a definition with a flag.
-use Rattle.std.proofs.Common.{◌≡◌, ◌⊎◌, inl, inr, ℕ, ◌+◌, ◌<◌, ◌≤◌, List, Option, Some, None, Bool, true, false, refl}
+use Rattle.std.proofs.Common.{◌≡◌, ◌⊎◌, inl, inr, ℕ, ◌+◌, ◌<◌, ◌≤◌, List, Option, Some, None, Bool, true, false}
 use Rattle.std.proofs.Common.{sym, ◌∙◌, ap, subst, length, arith}
 use Rattle.std.specs.Prelude.{◌↔◌, slice_index, MatchOption}
 use Rattle.std.proofs.lemmas.Bool.{cases_lt}
@@ -9,9 +9,9 @@ use Rattle.mp_program.specs.declared.program.Form.{Form}
 use Rattle.mp_program.specs.declared.program.Program.{Program}
 use Rattle.name_meanings.specs.declared.meaning.Meanings.{Meanings}
 use Rattle.mp_base.specs.Entries.{IsAt}
+use Rattle.mp_base.proofs.Entries.{one_entry, within}
 use Rattle.mp_order.specs.declared.earliest.Setting.{Setting}
 use Rattle.mp_order.specs.Chains.{IsSet, SetsFlagged, FlaggedSet}
-use Rattle.mp_order.proofs.Tables.{one_entry}
 
 -- a `setq` of a definition with a flag, at a form before n
 abbrev pub FlaggedBelow : Program → Meanings → List ℕ → ℕ → Place → Type 0
@@ -55,8 +55,7 @@ below_all p m flags n None le none = λ at h. none at (narrow at h)
       name,
       there,
       v,
-      omega
-          (arith, yf.0, le),
+      omega (arith, within p.forms f yf, le),
       yf,
       is,
       (let P : ℕ → Type 0 = λ i. 0 < slice_index flags i in subst P (sym target) flag),
@@ -71,8 +70,7 @@ below_all p m flags n (Some s) le (sets, first) = (sets, λ at h. first at (narr
       name,
       there,
       v,
-      omega
-          (arith, yf.0, le),
+      omega (arith, within p.forms f yf, le),
       yf,
       is,
       (let P : ℕ → Type 0 = λ i. 0 < slice_index flags i in subst P (sym target) flag),
@@ -87,14 +85,14 @@ pub found_skip : (p : Program) (m : Meanings) (flags : List ℕ) (n : ℕ) (x : 
 found_skip p m flags n x None xn none late = λ at h. elim (below_more p m flags n at h) [
   | inl before ↦ none at before
   | inr (y, yn, set, flag, e) ↦
-      (let P : Form → Type 0 = λ z. IsSet z.kind in late (subst P (one_entry p.forms n n y x refl yn xn) set) flag)
+      (let P : Form → Type 0 = λ z. IsSet z.kind in late (subst P (one_entry p.forms n y x yn xn) set) flag)
 ]
 found_skip p m flags n x (Some s) xn (sets, first) late = (
   sets,
   λ at h. elim (below_more p m flags n at h) [
     | inl before ↦ first at before
     | inr (y, yn, set, flag, e) ↦
-        let same : y ≡ x = one_entry p.forms n n y x refl yn xn in
+        let same : y ≡ x = one_entry p.forms n y x yn xn in
         let P : Form → Type 0 = λ z. IsSet z.kind in
         let le : (s.place).offset ≤ (x.place).offset = late (subst P same set) flag in
         let at_x : at.offset ≡ (x.place).offset =
@@ -113,7 +111,7 @@ found_set p m flags n x s found xn h (name, there, v, is) flag target placed bef
   λ at late. elim (below_more p m flags n at late) [
     | inl early ↦ older found h before at early
     | inr (y, yn, set, f, e) ↦
-        let same : y ≡ x = one_entry p.forms n n y x refl yn xn in
+        let same : y ≡ x = one_entry p.forms n y x yn xn in
         omega (
           arith,
           ap (λ (q : Place). q.offset) placed,

@@ -3,15 +3,7 @@ use Rattle.std.proofs.Common.{◌≡◌, ◌⊎◌, inl, inr, ℕ, ◌+◌, ◌<
 use Rattle.std.specs.Prelude.{Contains}
 use Rattle.std.proofs.lemmas.Grind.{get_or_default_zero}
 use Rattle.std.proofs.lemmas.Bool.{cases_lt}
-use Rattle.std.proofs.lemmas.List.{get_or_read}
-use Rattle.mp_base.specs.Entries.{IsAt}
 use Rattle.mp_order.specs.Tables.{Lifted}
-
--- a list has one entry at an index
-pub one_entry : {X : Type 0} (xs : List X) (i j : ℕ) (x y : X) → i ≡ j → IsAt xs i x → IsAt xs j y → x ≡ y
-one_entry xs i j x y same (il, e) (jl, h) =
-    let P : ℕ → Type 0 = λ k. y ≡ get_or xs k y in
-    get_or_read xs i x il e y ∙ sym (subst P (sym same) h)
 
 -- x stands in a list before index n
 abbrev pub Among : ℕ → List ℕ → ℕ → Type 0

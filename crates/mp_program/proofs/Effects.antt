@@ -3,7 +3,7 @@ use Rattle.std.proofs.Common.{◌≡◌, ℕ, ◌<◌, List, [], ◌∷◌, ◌+
 use Rattle.std.specs.Prelude.{◌||◌, ◌&&◌, ◌==◌, slice_get, Some}
 use Rattle.std.specs.List.{list_any, flat_map, AllByRecursion}
 use Rattle.mp_base.proofs.Induction.{downward, by_test}
-use Rattle.mp_base.proofs.Entries.{some_entry}
+use Rattle.mp_base.proofs.Entries.{some_entry, read_of}
 use Rattle.std.proofs.lemmas.Bool.{or_left, or_right, or_parts}
 use Rattle.mp_program.specs.declared.program.FormKind.{FormKind}
 use Rattle.mp_program.specs.declared.program.FormKind.TheVariants.{Set, Cond, Par, Go, Call, Return}
@@ -16,7 +16,6 @@ use Rattle.mp_program.specs.Values.{value_of}
 use Rattle.mp_program.specs.Effects.{Effect, Writes, Goes, Calls, Returns, branch_effects, kind_effects, effects_of}
 use Rattle.mp_program.specs.Effects.{written}
 use Rattle.mp_program.specs.Reads.{mentions, kind_sets, sets, branches_set, kind_reads, form_reads, branches_read}
-use Rattle.mp_base.proofs.Elements.{read_of}
 use Rattle.mp_program.proofs.Tables.{table_at}
 use Rattle.mp_program.proofs.Walks.{flat_map-behind, list_any-behind}
 use Rattle.mp_program.proofs.Values.{Agrees, value_agrees}

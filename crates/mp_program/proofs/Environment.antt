@@ -16,13 +16,12 @@ use Rattle.mp_program.specs.Names.{index_of, is_driven, pad_number}
 use Rattle.mp_program.specs.Effects.{effects_of, written}
 use Rattle.mp_program.specs.Environment.{clock_effects, what_value, driven_value, IsEnvironment}
 use Rattle.mp_base.specs.Merge.{merged}
-use Rattle.mp_base.proofs.Entries.{place_in, some_entry}
+use Rattle.mp_base.proofs.Entries.{place_in, some_entry, read_of}
 use Rattle.mp_base.proofs.Induction.{upward, by_test}
 use Rattle.mp_program.specs.Reads.{form_reads, process_roots, roots, Reads, IsOrder}
 use Rattle.mp_program.proofs.Definitions.{named, what_value-given}
 use Rattle.mp_program.proofs.Values.{Agrees}
 use Rattle.mp_program.proofs.Effects.{written-append, writes_agree}
-use Rattle.mp_base.proofs.Elements.{read_of}
 
 -- ---- the clock's writes
 

@@ -3,7 +3,7 @@ use Rattle.std.proofs.Common.{◌≡◌, ◌≢◌, ℕ, zero, suc, ◌+◌, ◌
 use Rattle.std.proofs.Common.{inl, inr, length, arith, get_or}
 use Rattle.std.specs.Prelude.{slice_index, slice_get, Some, slice_set as set}
 use Rattle.std.proofs.lemmas.Option.{same_Some, slice_get_within}
-use Rattle.mp_base.proofs.Entries.{same_at}
+use Rattle.mp_base.proofs.Entries.{same_at, read_of}
 use Rattle.std.proofs.lemmas.Bool.{cases_lt}
 use Rattle.std.proofs.lemmas.List.{get_or-set_same, get_or-set_other, length-set}
 use Rattle.mp_base.proofs.Induction.{by_test}
@@ -15,7 +15,6 @@ use Rattle.mp_program.specs.Environment.{what_value, driven_value, IsEnvironment
 use Rattle.mp_program.specs.Step.{next_state, outputs_of}
 use Rattle.mp_program.specs.Trace.{IsTraceFrom}
 use Rattle.mp_program.specs.Reads.{IsOrder}
-use Rattle.mp_base.proofs.Elements.{read_of}
 use Rattle.mp_program.proofs.Soundness.{sound}
 use Rattle.mp_program.proofs.Definitions.{what_value-driven, what_value-given}
 use Rattle.mp_program.proofs.Environment.{driven_agrees}

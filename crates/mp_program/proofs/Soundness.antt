@@ -13,10 +13,11 @@ use Rattle.mp_program.specs.declared.program.Form.{Form}
 use Rattle.mp_program.specs.declared.program.Label.{Label}
 use Rattle.mp_program.specs.declared.program.Process.{Process}
 use Rattle.mp_program.specs.declared.program.Program.{Program}
-use Rattle.mp_program.specs.Fits.{is_symbol, takes, all_behind, expr_fits, form_fits, exprs_fit, forms_fit, def_fits}
+use Rattle.mp_program.specs.Fits.{is_symbol, all_behind, expr_fits, form_fits, exprs_fit, forms_fit, def_fits}
+use Rattle.mp_base.specs.Apply.{takes}
 use Rattle.mp_program.specs.Fits.{process_fits}
 use Rattle.mp_program.specs.Sound.{AllBetween, ArgsFit, InnerFit, IsSound}
-use Rattle.mp_base.proofs.Elements.{read_of}
+use Rattle.mp_base.proofs.Entries.{read_of}
 
 all_by : {X : Type 0} (P : X → Type 0) (test : X → Bool) → ((x : X) → test x ≡ true → P x) → (xs : List X)
     → list_all test xs ≡ true → AllByRecursion P xs

@@ -6,7 +6,7 @@ use Rattle.std.proofs.lemmas.Slice.Eq.{bytes_eq-Decides}
 use Rattle.std.proofs.lemmas.Bool.{or_left, or_right}
 use Rattle.mp_base.specs.Apply.{apply}
 use Rattle.mp_base.proofs.Induction.{downward}
-use Rattle.mp_base.proofs.Entries.{some_entry}
+use Rattle.mp_base.proofs.Entries.{some_entry, read_of}
 use Rattle.mp_program.specs.declared.program.ExprKind.{ExprKind}
 use Rattle.mp_program.specs.declared.program.ExprKind.TheVariants.{Number, Named, True, False, Apply}
 use Rattle.mp_program.specs.declared.program.Expr.{Expr}
@@ -15,7 +15,6 @@ use Rattle.mp_program.specs.Sound.{IsSound, ArgsFit, AllBetween}
 use Rattle.mp_program.specs.Names.{index_of, is_same}
 use Rattle.mp_program.specs.Values.{kind_value, value_of}
 use Rattle.mp_program.specs.Reads.{kind_mentions, mentions}
-use Rattle.mp_base.proofs.Elements.{read_of}
 use Rattle.mp_program.proofs.Tables.{table_at}
 use Rattle.mp_program.proofs.Walks.{map-behind, list_any-behind}
 

@@ -1,8 +1,7 @@
 -- What a program's type says, over its lists.
 use Rattle.std.specs.Prelude.{ℕ, suc, List, [], ◌∷◌, Bool, true, not, ◌&&◌, ◌||◌, ◌==◌, nat_lt, nat_le, length}
 use Rattle.std.specs.List.{list_all}
-use Rattle.mp_base.specs.declared.op.Op.{Op}
-use Rattle.mp_base.specs.declared.op.Op.TheVariants.{Inc, Dec, WordNot, Left, Right, And, Or, Nor, Nand, Not, Bit, Zero}
+use Rattle.mp_base.specs.Apply.{takes}
 use Rattle.mp_base.specs.Token.{is_token, is_digit}
 use Rattle.mp_program.specs.declared.program.ExprKind.{ExprKind}
 use Rattle.mp_program.specs.declared.program.ExprKind.TheVariants.{Named, Apply}
@@ -19,22 +18,6 @@ use Rattle.mp_program.specs.Names.{is_supply}
 -- a run of token characters that is no numeral
 abbrev pub is_symbol : List ℕ → Bool
 is_symbol x = list_all is_token x && not (list_all is_digit x)
-
--- an operator takes this many operands
-abbrev pub takes : Op → ℕ → Bool
-takes And n = nat_lt 0 n
-takes Or n = nat_lt 0 n
-takes Nor n = nat_lt 0 n
-takes Nand n = nat_lt 0 n
-takes Inc n = n == 1
-takes Dec n = n == 1
-takes WordNot n = n == 1
-takes Left n = n == 1
-takes Right n = n == 1
-takes Not n = n == 1
-takes Bit n = n == 1
-takes Zero n = n == 1
-takes _ n = n == 2
 
 -- all indices are greater than i and below n
 abbrev pub all_behind : ℕ → ℕ → List ℕ → Bool

@@ -10,7 +10,7 @@ use Rattle.mp_program.specs.declared.program.Expr.{Expr}
 use Rattle.mp_program.specs.declared.program.Form.{Form}
 use Rattle.mp_program.specs.declared.program.Process.{Process}
 use Rattle.mp_program.specs.declared.program.Program.{Program}
-use Rattle.mp_program.specs.Fits.{takes}
+use Rattle.mp_base.specs.Apply.{takes}
 use Rattle.mp_program.specs.Tree.{expr_places, form_places, height_limit}
 use Rattle.mp_program.specs.Tree.{expr_heights, form_heights}
 

@@ -5,6 +5,7 @@ use Rattle.std.specs.Prelude.{◌==◌, Contains, slice_get, Some}
 use Rattle.std.specs.List.{flat_map, AllByRecursion}
 use Rattle.std.specs.List.Sorted.{IsPermutation}
 use Rattle.std.proofs.lemmas.Bool.{cases_eq}
+use Rattle.std.proofs.lemmas.Option.{slice_get_within}
 use Rattle.std.proofs.lemmas.List.Sorted.{Contains-permutation, sum_by-IsPermutation}
 use Rattle.std.proofs.lemmas.List.Sums.{sum_by-append}
 use Rattle.mp_base.specs.declared.refusal.Place.{Place}
@@ -24,7 +25,7 @@ use Rattle.mp_base.specs.Entries.{IsAt}
 use Rattle.mp_rules.specs.Moves.{is_move, moves}
 use Rattle.mp_rules.specs.Rules.{E30, E32}
 use Rattle.mp_rules.specs.Standing.{Under, itself, deeper, IsLater, is_transfer, sequences}
-use Rattle.mp_base.proofs.ListEntries.{some_entry, get_at}
+use Rattle.mp_base.proofs.Entries.{some_entry, get_from_contains, contains_from_get}
 use Rattle.mp_rules.proofs.Sequences.{in_sequence, under_more}
 
 -- ---- members of lists
@@ -87,18 +88,17 @@ one_in : (e : ℕ → List Effect) (fs : List ℕ) → ((g : ℕ) → Contains f
 one_in e [] low apart = omega arith
 one_in e (f ∷ fs) low apart = by (cases_eq (moves (e f)) 0)
     (one_in e fs (λ g m. low g (contains_behind g f fs m))
-    (λ i j g h (lt, is) (lt2, is2) ij mg mh. apart (suc i) (suc j) g h (omega (arith, lt), is)
-    (omega (arith, lt2), is2) (omega (arith, ij)) mg mh))
+    (λ i j g h at_i at_j ij mg mh. apart (suc i) (suc j) g h at_i at_j (omega (arith, ij)) mg mh))
   where
     by : (moves (e f) ≡ 0) ⊎ (moves (e f) ≡ 0 → ⊥) → moves (flat_map e fs) ≤ 1 → moves (flat_map e (f ∷ fs)) ≤ 1
     by (inl none) rest = let a = moves_append (e f) (flat_map e fs) in omega (arith, a, none, rest)
     by (inr some) rest =
         let a = moves_append (e f) (flat_map e fs) in
         let b = low f (contains_head f fs) in
-        let c = none_in e fs (λ g (j, lt, is). elim (cases_eq (moves (e g)) 0) [
+        let c = none_in e fs (λ g c. elim (cases_eq (moves (e g)) 0) [
           | inl none ↦ none
-          | inr more ↦ absurd (apart 0 (suc j) f g (omega arith, refl) (omega (arith, lt), sym is) (omega arith)
-              (omega (arith, some)) (omega (arith, more)))
+          | inr more ↦ let (j, at) = get_from_contains fs g c in
+              absurd (apart 0 (suc j) f g refl at (omega arith) (omega (arith, some)) (omega (arith, more)))
         ]) in
         omega (arith, a, b, c)
 
@@ -144,12 +144,12 @@ module _ (p : Program) (env : List ℕ) (sound : IsSound p) (law : EffectsLaw p)
   -- a transfer stands in what moves
   mover : (m f : ℕ) (y : Form) → length p.forms ≤ f + m → IsAt p.forms f y → 0 < moves (effects_of p env f) → (a : ℕ)
       × (x : Form) × Under p f a × IsAt p.forms a x × (is_transfer x.kind ≡ true)
-  mover zero f y le at some = absurd (omega (arith, le, at.0))
+  mover zero f y le at some = absurd (let lt = slice_get_within p.forms f y at in omega (arith, le, lt))
   mover (suc m) f y le at some = by (does (value_of p env) y.kind (effects_of p env))
       (λ g z lt. mover m g z (omega (arith, le, lt)))
     where
       is : moves (effects_of p env f) ≡ moves (kind_effects (value_of p env) y.kind (effects_of p env))
-      is = ap (λ es. moves es) (law env f y (get_at p.forms f y at))
+      is = ap (λ es. moves es) (law env f y at)
 
       by : Does (value_of p env) y.kind (effects_of p env)
           → ((g : ℕ) (z : Form) → f < g → IsAt p.forms g z → 0 < moves (effects_of p env g) → (a : ℕ) × (x : Form)
@@ -160,7 +160,7 @@ module _ (p : Program) (env : List ℕ) (sound : IsSound p) (law : EffectsLaw p)
       by (inr (inr (fs, seq, same))) deep =
           let (g, c, more) = some_form (effects_of p env) fs
           (let e = ap (λ es. moves es) same in omega (arith, is, e, some)) in
-          let fit = sound.forms f y (get_at p.forms f y at) in
+          let fit = sound.forms f y at in
           let (fg, gn) = behind (length p.exprs) f (length p.forms) y.kind fs g fit seq c in
           let (z, at_g) = some_entry p.forms g gn in
           let (a, x, under, at_a, own) = deep g z fg at_g more in
@@ -182,22 +182,22 @@ module _ (p : Program) (env : List ℕ) (sound : IsSound p) (law : EffectsLaw p)
   -- where no transfer stands behind another, a form moves once at most
   pub moves_once : (r : ℕ) → ((b : ℕ) (z : Form) → IsLater p r b z → ⊥) → (m f : ℕ) (y : Form) → length p.forms ≤ f + m
       → IsAt p.forms f y → Under p r f → moves (effects_of p env f) ≤ 1
-  moves_once r apart zero f y le at under = absurd (omega (arith, le, at.0))
+  moves_once r apart zero f y le at under = absurd (let lt = slice_get_within p.forms f y at in omega (arith, le, lt))
   moves_once r apart (suc m) f y le at under = by (does (value_of p env) y.kind (effects_of p env))
       (λ g z lt. moves_once r apart m g z (omega (arith, le, lt)))
     where
       is : moves (effects_of p env f) ≡ moves (kind_effects (value_of p env) y.kind (effects_of p env))
-      is = ap (λ es. moves es) (law env f y (get_at p.forms f y at))
+      is = ap (λ es. moves es) (law env f y at)
 
       within : (fs : List ℕ) (g : ℕ) → Contains (sequences y.kind) fs → Contains fs g → (f < g) × (g < length p.forms)
       within fs g seq c = behind (length p.exprs) f (length p.forms) y.kind fs g
-          (sound.forms f y (get_at p.forms f y at)) seq c
+          (sound.forms f y at) seq c
 
       parted : (fs : List ℕ) → Contains (sequences y.kind) fs → (i j g h : ℕ) → IsAt fs i g → IsAt fs j h → i < j
           → 0 < moves (effects_of p env g) → 0 < moves (effects_of p env h) → ⊥
       parted fs seq i j g h at_i at_j ij mg mh =
-          let (a, x, under_a, at_a, own_a) = mover_of g (within fs g seq (i, at_i.0, sym at_i.1)).1 mg in
-          let (b, z, under_b, at_b, own_b) = mover_of h (within fs h seq (j, at_j.0, sym at_j.1)).1 mh in
+          let (a, x, under_a, at_a, own_a) = mover_of g (within fs g seq (contains_from_get fs i g at_i)).1 mg in
+          let (b, z, under_b, at_b, own_b) = mover_of h (within fs h seq (contains_from_get fs j h at_j)).1 mh in
           apart b z (
             f,
             y,
@@ -242,7 +242,7 @@ one_move p sound law unbroken env k q f at root =
     let inside : f < length p.forms = holds_of_contained (λ i. i < length p.forms) q.forms f
     (holds_of_contained
     (λ (x : Process). AllByRecursion (λ i. i < length p.forms) x.forms) p.processes q sound.processes
-    (k, at.0, sym at.1)) root in
+    (contains_from_get p.processes k q at)) root in
     let (y, at_f) = some_entry p.forms f inside in
     moves_once p env sound law f (λ b z later. unbroken z.place (k, q, f, b, z, at, root, later, refl))
     (length p.forms) f y (omega arith) at_f itself

@@ -1,7 +1,8 @@
 -- Each rule is broken at the place of something in the program.
-use Rattle.std.proofs.Common.{◌≡◌, ◌⊎◌, ℕ, zero, suc, List, [], ◌∷◌, ◌++◌, not, refl, sym, subst, inl, inr, arith}
+use Rattle.std.proofs.Common.{◌≡◌, ◌⊎◌, ℕ, zero, suc, List, [], ◌∷◌, ◌++◌, not, refl, sym, subst, inl, inr}
 use Rattle.std.specs.Prelude.{map, filter}
 use Rattle.std.specs.List.{flat_map}
+use Rattle.std.proofs.lemmas.Option.{none-some}
 use Rattle.mp_base.specs.declared.refusal.Place.{Place}
 use Rattle.mp_program.specs.declared.program.Pin.{Pin}
 use Rattle.mp_program.specs.declared.program.Def.{Def}
@@ -12,25 +13,25 @@ use Rattle.mp_rules.specs.Naming.{Naming, namings, def_naming, process_naming, U
 use Rattle.mp_rules.specs.Rules.{pins}
 use Rattle.mp_rules.specs.Breaking.{Breaks}
 use Rattle.mp_rules.specs.Places.{HasPlace}
-use Rattle.mp_base.proofs.ListEntries.{at_map, at_filter}
+use Rattle.mp_rules.specs.declared.limits.TheConstants.{PROCESS_LIMIT}
+use Rattle.mp_base.proofs.Entries.{get_map, get_filter}
 
 -- an entry of two lists is one of either
 at_append : {X : Type 0} (xs ys : List X) (k : ℕ) (x : X) → IsAt (xs ++ ys) k x
     → ((j : ℕ) × IsAt xs j x) ⊎ ((j : ℕ) × IsAt ys j x)
 at_append [] ys k x at = inr (k, at)
-at_append (z ∷ zs) ys zero x (lt, is) = inl (0, (omega arith, is))
-at_append (z ∷ zs) ys (suc k) x (lt, is) = elim (at_append zs ys k x (omega (arith, lt), is)) [
-  | inl (j, (jlt, found)) ↦ inl (suc j, (omega (arith, jlt), found))
+at_append (z ∷ zs) ys zero x at = inl (0, at)
+at_append (z ∷ zs) ys (suc k) x at = elim (at_append zs ys k x at) [
+  | inl (j, found) ↦ inl (suc j, found)
   | inr there ↦ inr there
 ]
 
 at_flat_map : {X Y : Type 0} (f : X → List Y) (xs : List X) (k : ℕ) (y : Y) → IsAt (flat_map f xs) k y
     → (j i : ℕ) × (x : X) × IsAt xs j x × IsAt (f x) i y
-at_flat_map f [] k y (lt, is) = absurd (omega (arith, lt))
+at_flat_map f [] k y at = absurd (none-some y at)
 at_flat_map f (x ∷ xs) k y at = elim (at_append (f x) (flat_map f xs) k y at) [
-  | inl (i, there) ↦ (0, i, x, (omega arith, refl), there)
-  | inr (i, there) ↦ let found = at_flat_map f xs i y there in
-      (suc found.0, found.1, found.2, (let below = found.3.0 in omega (arith, below), found.3.1), found.4)
+  | inl (i, there) ↦ (0, i, x, refl, there)
+  | inr (i, there) ↦ let found = at_flat_map f xs i y there in (suc found.0, found.1, found.2, found.3, found.4)
 ]
 
 naming_place : (p : Program) (k : ℕ) (n : Naming) → IsAt (namings p) k n → HasPlace p n.place
@@ -38,11 +39,11 @@ naming_place p k n at =
     elim (at_append (map def_naming (filter (λ (d : Def). not (is_supply d.what)) p.defs))
     (map process_naming p.processes) k n at) [
       | inl (j, there) ↦ let found =
-          at_map def_naming (filter (λ (d : Def). not (is_supply d.what)) p.defs) j n there in
-          let kept = at_filter (λ (d : Def). not (is_supply d.what)) p.defs j found.0 found.1 in
-          subst (λ (m : Naming). HasPlace p m.place) (sym found.2) (HasPlace.definition kept.0 found.0 kept.1)
-      | inr (j, there) ↦ let found = at_map process_naming p.processes j n there in
-          subst (λ (m : Naming). HasPlace p m.place) (sym found.2) (HasPlace.process j found.0 found.1)
+          get_map def_naming (filter (λ (d : Def). not (is_supply d.what)) p.defs) j n there in
+          let kept = get_filter (λ (d : Def). not (is_supply d.what)) p.defs j found.0 found.1 in
+          subst (λ (m : Naming). HasPlace p m.place) found.2 (HasPlace.definition kept.0 found.0 kept.1)
+      | inr (j, there) ↦ let found = get_map process_naming p.processes j n there in
+          subst (λ (m : Naming). HasPlace p m.place) found.2 (HasPlace.process j found.0 found.1)
     ]
 
 pin_place : (p : Program) (k : ℕ) (x : Pin) → IsAt (pins p) k x → HasPlace p x.place
@@ -72,21 +73,71 @@ broken_place p number at (inr (inr (inr (inr (inl (rule, (e, x, k, args, there, 
     at_place p at x.place is (HasPlace.expression e x there)
 broken_place p number at (inr (inr (inr (inr (inr (inl (rule, (j, k, a, b, first, second, lt, same, is)))))))) =
     at_place p at b.place is (pin_place p k b second)
-broken_place p number at (inr (inr (inr (inr (inr (inr (inl (rule, (d, x, first, there, port, other, found, is))))))))) = at_place p at first.place is (HasPlace.pin d 0 x first there found)
-broken_place p number at (inr (inr (inr (inr (inr (inr (inr (inl (rule, (f, y, x, v, d, z, there, kind, named, same, unset)))))))))) = HasPlace.target f y x at v there kind
-broken_place p number at (inr (inr (inr (inr (inr (inr (inr (inr (inl (rule, (k, q, f, y, l, process, stands, label, none, is))))))))))) = at_place p at y.place is (HasPlace.form f y stands.3)
-broken_place p number at (inr (inr (inr (inr (inr (inr (inr (inr (inr (inl (rule, (k, q, i, j, a, b, process, first, second, lt, same, is)))))))))))) = at_place p at b.place is (HasPlace.label k j q b process second)
-broken_place p number at (inr (inr (inr (inr (inr (inr (inr (inr (inr (inr (inl (rule, (f, y, stands, transfer, is))))))))))))) = at_place p at y.place is (HasPlace.form f y stands.3)
-broken_place p number at (inr (inr (inr (inr (inr (inr (inr (inr (inr (inr (inr (inl (rule, (k, q, f, y, process, depth, stands, stack, is)))))))))))))) = at_place p at y.place is (HasPlace.form f y stands.3)
-broken_place p number at (inr (inr (inr (inr (inr (inr (inr (inr (inr (inr (inr (inr (inl (rule, (k, q, r, f, y, process, top, later, is))))))))))))))) = at_place p at y.place is (HasPlace.form f y later.18)
-broken_place p number at (inr (inr (inr (inr (inr (inr (inr (inr (inr (inr (inr (inr (inr (inl (rule, (f, y, x, set_at, v, d, z, there, kind, named, same, closed, is)))))))))))))))) = at_place p at y.place is (HasPlace.form f y there)
-broken_place p number at (inr (inr (inr (inr (inr (inr (inr (inr (inr (inr (inr (inr (inr (inr (inl (rule, (none, inl (d, x, there, stored, is)))))))))))))))))) = at_place p at x.place is (HasPlace.definition d x there)
-broken_place p number at (inr (inr (inr (inr (inr (inr (inr (inr (inr (inr (inr (inr (inr (inr (inl (rule, (none, inr (k, q, there, is)))))))))))))))))) = at_place p at q.place is (HasPlace.process k q there)
-broken_place p number at (inr (inr (inr (inr (inr (inr (inr (inr (inr (inr (inr (inr (inr (inr (inr (inl (rule, (w, supply, none, is)))))))))))))))))) = at_place p at p.place is HasPlace.program
-broken_place p number at (inr (inr (inr (inr (inr (inr (inr (inr (inr (inr (inr (inr (inr (inr (inr (inr (inl (rule, (k, q, there, none, is))))))))))))))))))) = at_place p at q.place is (HasPlace.process k q there)
-broken_place p number at (inr (inr (inr (inr (inr (inr (inr (inr (inr (inr (inr (inr (inr (inr (inr (inr (inr (inl (rule, (k, n, there, many, is)))))))))))))))))))) = at_place p at n.place is (naming_place p k n there)
-broken_place p number at (inr (inr (inr (inr (inr (inr (inr (inr (inr (inr (inr (inr (inr (inr (inr (inr (inr (inr (inl (rule, (q, there, is))))))))))))))))))))) = at_place p at q.place is (HasPlace.process 16 q there)
-broken_place p number at (inr (inr (inr (inr (inr (inr (inr (inr (inr (inr (inr (inr (inr (inr (inr (inr (inr (inr (inr (inl (rule, (k, q, f, y, process, top, there, is)))))))))))))))))))))) = at_place p at y.place is (HasPlace.form f y there)
-broken_place p number at (inr (inr (inr (inr (inr (inr (inr (inr (inr (inr (inr (inr (inr (inr (inr (inr (inr (inr (inr (inr (inl (rule, (k, q, there, deep, is))))))))))))))))))))))) = at_place p at q.depth_at is (HasPlace.depth k q there)
-broken_place p number at (inr (inr (inr (inr (inr (inr (inr (inr (inr (inr (inr (inr (inr (inr (inr (inr (inr (inr (inr (inr (inr (inl (rule, (heavy, is)))))))))))))))))))))))) = at_place p at p.place is HasPlace.program
-broken_place p number at (inr (inr (inr (inr (inr (inr (inr (inr (inr (inr (inr (inr (inr (inr (inr (inr (inr (inr (inr (inr (inr (inr (rule, (many, is)))))))))))))))))))))))) = at_place p at p.place is HasPlace.program
+broken_place p number at
+    (inr (inr (inr (inr (inr (inr (inl (rule, (d, x, first, there, port, other, found, is))))))))) =
+    at_place p at first.place is (HasPlace.pin d 0 x first there found)
+broken_place p number at
+    (inr (inr (inr (inr (inr (inr (inr (inl (rule, (f, y, x, v, d, z, there, kind, named, same, unset)))))))))) =
+    HasPlace.target f y x at v there kind
+broken_place p number at
+    (inr (inr (inr (inr (inr (inr (inr (inr (inl (rule, (k, q, f, y, l, process, stands, label, none, is))))))))))) =
+    at_place p at y.place is (HasPlace.form f y stands.3)
+broken_place p number at
+    (inr (inr (inr (inr (inr (inr (inr (inr (inr
+    (inl (rule, (k, q, i, j, a, b, process, first, second, lt, same, is)))))))))))) =
+    at_place p at b.place is (HasPlace.label k j q b process second)
+broken_place p number at
+    (inr (inr (inr (inr (inr (inr (inr (inr (inr (inr (inl (rule, (f, y, stands, transfer, is))))))))))))) =
+    at_place p at y.place is (HasPlace.form f y stands.3)
+broken_place p number at
+    (inr (inr (inr (inr (inr (inr (inr (inr (inr (inr (inr
+    (inl (rule, (k, q, f, y, process, depth, stands, stack, is)))))))))))))) =
+    at_place p at y.place is (HasPlace.form f y stands.3)
+broken_place p number at
+    (inr (inr (inr (inr (inr (inr (inr (inr (inr (inr (inr (inr
+    (inl (rule, (k, q, r, f, y, process, top, later, is))))))))))))))) =
+    at_place p at y.place is (HasPlace.form f y later.18)
+broken_place p number at
+    (inr (inr (inr (inr (inr (inr (inr (inr (inr (inr (inr (inr (inr
+    (inl (rule, (f, y, x, set_at, v, d, z, there, kind, named, same, closed, is)))))))))))))))) =
+    at_place p at y.place is (HasPlace.form f y there)
+broken_place p number at
+    (inr (inr (inr (inr (inr (inr (inr (inr (inr (inr (inr (inr (inr (inr
+    (inl (rule, (none, inl (d, x, there, stored, is)))))))))))))))))) =
+    at_place p at x.place is (HasPlace.definition d x there)
+broken_place p number at
+    (inr (inr (inr (inr (inr (inr (inr (inr (inr (inr (inr (inr (inr (inr
+    (inl (rule, (none, inr (k, q, there, is)))))))))))))))))) =
+    at_place p at q.place is (HasPlace.process k q there)
+broken_place p number at
+    (inr (inr (inr (inr (inr (inr (inr (inr (inr (inr (inr (inr (inr (inr (inr
+    (inl (rule, (w, supply, none, is)))))))))))))))))) =
+    at_place p at p.place is HasPlace.program
+broken_place p number at
+    (inr (inr (inr (inr (inr (inr (inr (inr (inr (inr (inr (inr (inr (inr (inr (inr
+    (inl (rule, (k, q, there, none, is))))))))))))))))))) =
+    at_place p at q.place is (HasPlace.process k q there)
+broken_place p number at
+    (inr (inr (inr (inr (inr (inr (inr (inr (inr (inr (inr (inr (inr (inr (inr (inr (inr
+    (inl (rule, (k, n, there, many, is)))))))))))))))))))) =
+    at_place p at n.place is (naming_place p k n there)
+broken_place p number at
+    (inr (inr (inr (inr (inr (inr (inr (inr (inr (inr (inr (inr (inr (inr (inr (inr (inr (inr
+    (inl (rule, (q, there, is))))))))))))))))))))) =
+    at_place p at q.place is (HasPlace.process PROCESS_LIMIT q there)
+broken_place p number at
+    (inr (inr (inr (inr (inr (inr (inr (inr (inr (inr (inr (inr (inr (inr (inr (inr (inr (inr (inr
+    (inl (rule, (k, q, f, y, process, top, there, is)))))))))))))))))))))) =
+    at_place p at y.place is (HasPlace.form f y there)
+broken_place p number at
+    (inr (inr (inr (inr (inr (inr (inr (inr (inr (inr (inr (inr (inr (inr (inr (inr (inr (inr (inr (inr
+    (inl (rule, (k, q, there, deep, is))))))))))))))))))))))) =
+    at_place p at q.depth_at is (HasPlace.depth k q there)
+broken_place p number at
+    (inr (inr (inr (inr (inr (inr (inr (inr (inr (inr (inr (inr (inr (inr (inr (inr (inr (inr (inr (inr (inr
+    (inl (rule, (heavy, is)))))))))))))))))))))))) =
+    at_place p at p.place is HasPlace.program
+broken_place p number at
+    (inr (inr (inr (inr (inr (inr (inr (inr (inr (inr (inr (inr (inr (inr (inr (inr (inr (inr (inr (inr (inr (inr
+    (rule, (many, is)))))))))))))))))))))))) =
+    at_place p at p.place is HasPlace.program

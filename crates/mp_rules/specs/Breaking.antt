@@ -3,7 +3,8 @@ use Rattle.std.specs.Prelude.{◌≡◌, ◌⊎◌, ℕ, ◌<◌, ◌≤◌, Opt
 use Rattle.mp_base.specs.declared.refusal.Place.{Place}
 use Rattle.mp_base.specs.declared.refusal.Family.TheVariants.{E}
 use Rattle.mp_base.specs.declared.refusal.Refusal.{Refusal}
-use Rattle.mp_base.specs.Refuses.{RefusesAt}
+use Rattle.mp_base.specs.Refuses.{IsOfFamily, IsRefusal}
+use Rattle.mp_base.specs.declared.refusal.Broken.{Broken}
 use Rattle.mp_program.specs.declared.program.Program.{Program}
 use Rattle.mp_rules.specs.Rules.{E20, E21, E22, E23, E24, E25, E26, E27, E28, E29, E30, E31, E32, E33, E34, E35, E36}
 use Rattle.mp_rules.specs.Rules.{E40, E41, E42, E43, E44, E45}
@@ -43,6 +44,11 @@ abbrev pub earlier : Option Place → Place → Option Place
 earlier None at = Some at
 earlier (Some place) at = if nat_le place.offset at.offset then Some place else Some at
 
+-- no rule is broken, or this is the first one that is, at its place
+abbrev pub OfProgram : Program → Option Broken → Type 0
+OfProgram p None = IsUnbroken p
+OfProgram p (Some b) = IsOfFamily E (IsFirst p) b
+
 -- want of memory, or the first of the broken rules, at its place
 abbrev pub RefusesFirst : Program → Refusal → Type 0
-RefusesFirst p e = RefusesAt E e (IsFirst p)
+RefusesFirst p = IsRefusal (λ b. OfProgram p (Some b))

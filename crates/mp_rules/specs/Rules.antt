@@ -20,9 +20,12 @@ use Rattle.mp_program.specs.Names.{is_input, is_stored, is_supply, is_reset}
 use Rattle.mp_program.specs.Reads.{Chain}
 use Rattle.mp_program.specs.Weight.{weight}
 use Rattle.mp_base.specs.Entries.{IsAt}
+use Rattle.mp_base.specs.declared.limits.TheConstants.{WEIGHT_LIMIT}
 use Rattle.mp_rules.specs.Naming.{Naming, namings, is_reserved, supplies, Uses}
 use Rattle.mp_rules.specs.Sorts.{Sort, expr_sort, IsWanted}
 use Rattle.mp_rules.specs.Standing.{StandsIn, is_transfer, uses_stack, label_of, IsLater}
+use Rattle.mp_rules.specs.declared.limits.TheConstants.{NAMING_LIMIT, PROCESS_LIMIT, FORM_LIMIT}
+use Rattle.mp_rules.specs.declared.limits.TheConstants.{DEPTH_LIMIT, EXPR_LIMIT}
 
 -- a name that is reserved or that another naming has which doesn't stand after it, or a second definition of the same
 -- supply
@@ -131,27 +134,27 @@ E36 p at = (k : ℕ) × (q : Process) × IsAt p.processes k q × (q.forms ≡ []
 abbrev pub namings_up_to : Program → Place → ℕ
 namings_up_to p at = count_by (λ (n : Naming). nat_le (n.place).offset at.offset) (namings p)
 
--- the 257th named definition or process, or a later one
+-- a named definition or process, with as many others that don't stand behind it as there may be
 abbrev pub E40 : Program → Place → Type 0
-E40 p at = (k : ℕ) × (n : Naming) × IsAt (namings p) k n × (257 ≤ namings_up_to p n.place) × (at ≡ n.place)
+E40 p at = (k : ℕ) × (n : Naming) × IsAt (namings p) k n × (NAMING_LIMIT < namings_up_to p n.place) × (at ≡ n.place)
 
--- the 17th process
+-- a process too many
 abbrev pub E41 : Program → Place → Type 0
-E41 p at = (q : Process) × IsAt p.processes 16 q × (at ≡ q.place)
+E41 p at = (q : Process) × IsAt p.processes PROCESS_LIMIT q × (at ≡ q.place)
 
--- the 257th form of a process
+-- the first form too many of a process
 abbrev pub E42 : Program → Place → Type 0
-E42 p at = (k : ℕ) × (q : Process) × (f : ℕ) × (y : Form) × IsAt p.processes k q × IsAt q.forms 256 f
+E42 p at = (k : ℕ) × (q : Process) × (f : ℕ) × (y : Form) × IsAt p.processes k q × IsAt q.forms FORM_LIMIT f
     × IsAt p.forms f y × (at ≡ y.place)
 
--- a process deeper than 8
+-- a process that is too deep
 abbrev pub E43 : Program → Place → Type 0
-E43 p at = (k : ℕ) × (q : Process) × IsAt p.processes k q × (8 < q.depth) × (at ≡ q.depth_at)
+E43 p at = (k : ℕ) × (q : Process) × IsAt p.processes k q × (DEPTH_LIMIT < q.depth) × (at ≡ q.depth_at)
 
--- a weight over 1024
+-- a weight over the limit
 abbrev pub E44 : Program → Place → Type 0
-E44 p at = (1024 < weight p) × (at ≡ p.place)
+E44 p at = (WEIGHT_LIMIT < weight p) × (at ≡ p.place)
 
--- more than 4096 expressions
+-- too many expressions
 abbrev pub E45 : Program → Place → Type 0
-E45 p at = (4096 < length p.exprs) × (at ≡ p.place)
+E45 p at = (EXPR_LIMIT < length p.exprs) × (at ≡ p.place)

@@ -14,6 +14,7 @@ ghost use Rattle.mp_rules.specs.Naming.{namings, OwnNames};
 ghost use Rattle.mp_rules.specs.Rules.{E20, E30, E32, E40};
 ghost use Rattle.mp_rules.specs.Breaking.{Breaks, IsFirst};
 ghost use Rattle.mp_rules.specs.Places.{HasPlace};
+ghost use Rattle.mp_rules.specs.declared.limits.TheConstants.{NAMING_LIMIT};
 
 use mp_program::Program;
 use mp_program::laws::{effects, sound};
@@ -35,9 +36,9 @@ pub fn own_names(program: &Program)
     ensures { OwnNames program.now }
 {}
 
-/// Where the 257th of them is missing, there are at most 256 named definitions and processes.
+/// Where E40 isn't broken, there aren't more named definitions and processes than there may be.
 pub fn few_namings()
-    ensures { (p : spec.Program) → ((at : Place) → E40 p at → ⊥) → length (namings p) ≤ 256 }
+    ensures { (p : spec.Program) → ((at : Place) → E40 p at → ⊥) → length (namings p) ≤ NAMING_LIMIT }
 {}
 
 /// Where rule E32 isn't broken, the active form of a process moves it once at most.

@@ -3,5 +3,7 @@
 
 mod earliest;
 pub mod laws;
+mod limits;
 
 pub use earliest::earlier;
+pub use limits::{DEPTH_LIMIT, EXPR_LIMIT, FORM_LIMIT, NAMING_LIMIT, PROCESS_LIMIT};

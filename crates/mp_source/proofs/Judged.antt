@@ -7,7 +7,7 @@ use Rattle.mp_base.specs.declared.refusal.Spot.{Spot}
 use Rattle.mp_base.specs.declared.refusal.Spot.TheVariants.{At, Offset, Named, Nowhere}
 use Rattle.mp_base.specs.declared.refusal.Refusal.{Refusal}
 use Rattle.mp_base.specs.declared.refusal.Refusal.TheVariants as refusals
-use Rattle.mp_base.specs.Refuses.{RefusesAt, SpotIs}
+use Rattle.mp_base.specs.Refuses.{RefusesAt, SpotIs, IsJudged}
 use Rattle.form_reader.specs.declared.forms.Forms.{Forms}
 use Rattle.form_reader.specs.Text.{place_at}
 use Rattle.form_reader.specs.Sound.{node, IsSound}
@@ -19,7 +19,7 @@ use Rattle.mp_program.specs.declared.program.Program.{Program}
 use Rattle.mp_syntax.specs.Shape.{IsShape, E11, IsFirst as IsFirstOfForms}
 use Rattle.mp_rules.specs.Breaking.{Breaks, IsFirst as IsFirstOfProgram, RefusesFirst as RefusesProgram}
 use Rattle.mp_rules.specs.Places.{HasPlace}
-use Rattle.mp_source.specs.Source.{IsFirstRule, OfSource, IsJudged}
+use Rattle.mp_source.specs.Source.{IsFirstRule, OfSource}
 use Rattle.mp_source.proofs.Placed.{node_placed, item_within, place_is}
 use Rattle.mp_source.proofs.Standing.{place_of_node}
 

@@ -22,13 +22,14 @@ placed_in {text = text} {nodes = nodes} {i = i} (token s e kind gap run is at re
   | inl after ↦ placed_in rest n after high
   | inr here ↦ (let same : i ≡ n = omega (arith, low, here) in subst (IsPlaced text nodes) same (s, ap Node.place at.1))
 ]
-placed_in {text = text} {nodes = nodes} {i = i} (list s e c k inner gap byte shallow at within close byte2 rest) n low high = elim (cases_lt i n) [
-  | inl after ↦ elim (cases_lt n k) [
-    | inl below ↦ placed_in within n after below
-    | inr above ↦ placed_in rest n above high
-  ]
-  | inr here ↦ (let same : i ≡ n = omega (arith, low, here) in subst (IsPlaced text nodes) same (s, ap Node.place at.1))
-]
+placed_in {text = text} {nodes = nodes} {i = i} (list s e c k inner gap byte shallow at within close byte2 rest) n low
+    high = elim (cases_lt i n) [
+      | inl after ↦ elim (cases_lt n k) [
+        | inl below ↦ placed_in within n after below
+        | inr above ↦ placed_in rest n above high
+      ]
+      | inr here ↦ (let same : i ≡ n = omega (arith, low, here) in subst (IsPlaced text nodes) same (s, ap Node.place at.1))
+    ]
 
 -- a place of the text is that of its offset
 pub IsPlaceOf : List ℕ → Place → Type 0

@@ -3,7 +3,7 @@ use Rattle.std.proofs.Common.{◌≡◌, ℕ, zero, suc, ◌+◌, ◌<◌, List,
 use Rattle.std.proofs.Common.{subst, length, arith, drop, Option, Some, None}
 use Rattle.std.specs.Prelude.{slice_index}
 use Rattle.std.specs.List.{range_with_len}
-use Rattle.std.proofs.lemmas.List.{get_or_read}
+use Rattle.std.proofs.lemmas.Option.{none-some, same_Some, get_or_from_slice_get}
 use Rattle.mp_base.specs.declared.refusal.Place.{Place}
 use Rattle.form_reader.specs.declared.forms.Forms.{Forms}
 use Rattle.form_reader.specs.Sound.{node, kind_at, items_of, IsSound}
@@ -27,7 +27,7 @@ use Rattle.mp_syntax.specs.Shape.{IsShape, pin_at, pin_nodes, def_of, def_in, de
 use Rattle.mp_syntax.specs.Shape.{process_in, process_at}
 use Rattle.mp_base.specs.Entries.{IsAt}
 use Rattle.mp_rules.specs.Places.{HasPlace}
-use Rattle.mp_base.proofs.ListEntries.{at_map, at_filter}
+use Rattle.mp_base.proofs.Entries.{get_map, get_filter, within}
 use Rattle.mp_source.proofs.Members.{at_filter_map, at_drop, at_range}
 use Rattle.mp_source.proofs.Placed.{item_within}
 
@@ -39,15 +39,17 @@ IsNodePlace f at = (n : ℕ) × (n < length f.nodes) × (at ≡ (node f n).place
 pub dropped_within : (f : Forms) (n i k m : ℕ) → IsSound f → n < length f.nodes
     → IsAt (drop i (items_of (kind_at f n))) k m → m < length f.nodes
 dropped_within f n i k m sound lt at =
-    let there = at_drop i (items_of (kind_at f n)) k m at in
-    (sound.behind n (i + k) m (lt, there.0, get_or_read (items_of (kind_at f n)) (i + k) m there.0 there.1 0)).1
+    let items = items_of (kind_at f n) in
+    let there = at_drop i items k m at in
+    let inside = within items (i + k) there in
+    (sound.behind n (i + k) m (lt, inside, sym (get_or_from_slice_get items (i + k) m 0 there))).1
 
 below_within : (test : ℕ → Bool) (n k m : ℕ) → IsAt (nodes_below test n) k m → m < n
-below_within test n k m at = let found = at_filter test (range_with_len 0 n) k m at in at_range n found.0 m found.1
+below_within test n k m at = let found = get_filter test (range_with_len 0 n) k m at in at_range n found.0 m found.1
 
 only : (a k n : ℕ) → IsAt (a ∷ []) k n → n ≡ a
-only a zero n (lt, is) = is
-only a (suc k) n (lt, is) = absurd (omega (arith, lt))
+only a zero n at = sym (same_Some a n at)
+only a (suc k) n at = absurd (none-some n at)
 
 def_found : (f : Forms) (m : ℕ) (l : Option Layout) (x : Def) → def_in f m l ≡ Some x
     → (d : Definition) × (x ≡ def_of f m (items_of (kind_at f m)) d)
@@ -131,20 +133,20 @@ pin_within f m k n definitions.PortInput sound lt at =
     dropped_within f (slice_index (items_of (kind_at f m)) 4) 0 k n sound (item_within f m 4 sound lt) at
 pin_within f m k n definitions.PortOutput sound lt at =
     dropped_within f (slice_index (items_of (kind_at f m)) 4) 0 k n sound (item_within f m 4 sound lt) at
-pin_within f m k n definitions.Constant sound lt at = absurd (let below = at.0 in omega (arith, below))
-pin_within f m k n definitions.Register sound lt at = absurd (let below = at.0 in omega (arith, below))
-pin_within f m k n definitions.Flag sound lt at = absurd (let below = at.0 in omega (arith, below))
-pin_within f m k n definitions.PortInternal sound lt at = absurd (let below = at.0 in omega (arith, below))
-pin_within f m k n definitions.SignalInternal sound lt at = absurd (let below = at.0 in omega (arith, below))
+pin_within f m k n definitions.Constant sound lt at = absurd (none-some n at)
+pin_within f m k n definitions.Register sound lt at = absurd (none-some n at)
+pin_within f m k n definitions.Flag sound lt at = absurd (none-some n at)
+pin_within f m k n definitions.PortInternal sound lt at = absurd (none-some n at)
+pin_within f m k n definitions.SignalInternal sound lt at = absurd (none-some n at)
 
 label_found : (f : Forms) (before : ℕ) (items : List ℕ) (k : ℕ) (x : Label) → IsAt (labels_from f before items) k x
     → (j i : ℕ) × IsAt items j i × (x.place ≡ (node f i).place)
-label_found f before [] k x (lt, is) = absurd (omega (arith, lt))
+label_found f before [] k x at = absurd (none-some x at)
 label_found f before (i ∷ is) k x at = kept (λ b n. label_found f b is n x) (is_symbol (kind_at f i)) k at
   where
     later : (j m : ℕ) × IsAt is j m × (x.place ≡ (node f m).place)
         → (j m : ℕ) × IsAt (i ∷ is) j m × (x.place ≡ (node f m).place)
-    later (j, m, (lt, found), e) = (suc j, m, (omega (arith, lt), found), e)
+    later (j, m, found, e) = (suc j, m, found, e)
 
     kept : ((b n : ℕ) → IsAt (labels_from f b is) n x → (j m : ℕ) × IsAt is j m × (x.place ≡ (node f m).place))
         → (t : Bool) (n : ℕ)
@@ -152,8 +154,10 @@ label_found f before (i ∷ is) k x at = kept (λ b n. label_found f b is n x) (
         (record { place = (node f i).place; name = name_at f i; before = before } ∷ labels_from f before is)
         (labels_from f (before + 1) is)) n x
         → (j m : ℕ) × IsAt (i ∷ is) j m × (x.place ≡ (node f m).place)
-    kept rest true zero (lt, found) = (0, i, (omega arith, refl), ap Label.place found)
-    kept rest true (suc n) (lt, found) = later (rest before n (omega (arith, lt), found))
+    kept rest true zero found =
+        let own : Label = record { place = (node f i).place; name = name_at f i; before = before } in
+        (0, i, refl, sym (ap Label.place (same_Some own x found)))
+    kept rest true (suc n) found = later (rest before n found)
     kept rest false n found = later (rest (before + 1) n found)
 
 -- the root is a node
@@ -175,17 +179,17 @@ expr_node : (f : Forms) (p : Program) (shape : IsShape f p) → (e : ℕ) (x : E
     → IsNodePlace f x.place
 expr_node f p shape e x there =
     let found =
-    at_map (expr_at f (expr_index f shape.classes)) (nodes_below (is_expr shape.classes) (length f.nodes)) e x
+    get_map (expr_at f (expr_index f shape.classes)) (nodes_below (is_expr shape.classes) (length f.nodes)) e x
     (subst (λ xs. IsAt xs e x) shape.exprs there) in
-    (found.0, below_within (is_expr shape.classes) (length f.nodes) e found.0 found.1, ap Expr.place found.2)
+    (found.0, below_within (is_expr shape.classes) (length f.nodes) e found.0 found.1, ap Expr.place (sym found.2))
 
 form_node : (f : Forms) (p : Program) (shape : IsShape f p) → (k : ℕ) (x : Form) → IsAt p.forms k x
     → (n : ℕ) × (n < length f.nodes) × (x ≡ form_at f (expr_index f shape.classes) (form_index f shape.classes) n)
 form_node f p shape k x there =
     let found =
-    at_map (form_at f (expr_index f shape.classes) (form_index f shape.classes))
+    get_map (form_at f (expr_index f shape.classes) (form_index f shape.classes))
     (nodes_below (is_form f shape.classes) (length f.nodes)) k x (subst (λ xs. IsAt xs k x) shape.forms there) in
-    (found.0, below_within (is_form f shape.classes) (length f.nodes) k found.0 found.1, found.2)
+    (found.0, below_within (is_form f shape.classes) (length f.nodes) k found.0 found.1, sym found.2)
 
 process_node : (f : Forms) (p : Program) → IsSound f → (shape : IsShape f p) → (k : ℕ) (q : Process)
     → IsAt p.processes k q
@@ -209,9 +213,9 @@ place_of_node f p sound shape at (HasPlace.definition d x there) = let found = d
 place_of_node f p sound shape at (HasPlace.pin d k x y there found) =
     let def = def_node f p sound shape d x there in
     let pin =
-    at_map (pin_at f) (pin_nodes f (items_of (kind_at f def.0)) def.2) k y
+    get_map (pin_at f) (pin_nodes f (items_of (kind_at f def.0)) def.2) k y
     (subst (λ (z : Def). IsAt z.pins k y) def.3 found) in
-    (pin.0, pin_within f def.0 k pin.0 def.2 sound def.1 pin.1, ap Pin.place pin.2)
+    (pin.0, pin_within f def.0 k pin.0 def.2 sound def.1 pin.1, ap Pin.place (sym pin.2))
 place_of_node f p sound shape at (HasPlace.expression e x there) = expr_node f p shape e x there
 place_of_node f p sound shape at (HasPlace.form k x there) = let found = form_node f p shape k x there in
     (found.0, found.1, ap Form.place found.2)

@@ -1,5 +1,5 @@
 -- Source texts: the programs that they spell, and the first rule that one breaks.
-use Rattle.std.specs.Prelude.{◌≡◌, ◌⊎◌, ℕ, List, Option, Some, None, Result, Ok, Err, ⊤}
+use Rattle.std.specs.Prelude.{◌≡◌, ◌⊎◌, ℕ, List, Option, Some, None}
 use Rattle.mp_base.specs.declared.refusal.Place.{Place}
 use Rattle.mp_base.specs.declared.refusal.Broken.{Broken}
 use Rattle.mp_base.specs.declared.refusal.Family.TheVariants.{E}
@@ -41,9 +41,3 @@ broken_rule k at = record { rule = record { family = E; number = k }; spot = At 
 abbrev pub OfSource : List ℕ → Option Broken → Type 0
 OfSource text None = (program : Program) × IsSource text program
 OfSource text (Some broken) = (k : ℕ) × (at : Place) × IsFirstRule text k at × (broken ≡ broken_rule k at)
-
--- a refusal names the first broken rule, and Ok comes only where none is broken
-abbrev pub IsJudged : {T : Type 0} → (Option Broken → Type 0) → Result T Refusal → Type 0
-IsJudged Rules (Ok value) = Rules None
-IsJudged Rules (Err (refusals.Broken broken)) = Rules (Some broken)
-IsJudged Rules (Err refusals.NoMemory) = ⊤

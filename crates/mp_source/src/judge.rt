@@ -1,7 +1,8 @@
 //! Judges source texts.
 
 ghost use Rattle.std.specs.Prelude.{◌≡◌, ◌+◌, ◌^◌, ◌<◌, length, IfOk};
-ghost use Rattle.mp_source.specs.Source.{IsSource, OfSource, IsJudged};
+ghost use Rattle.mp_source.specs.Source.{IsSource, OfSource};
+ghost use Rattle.mp_base.specs.Refuses.{IsJudged};
 
 use form_reader::read_forms;
 use mp_base::Refusal;

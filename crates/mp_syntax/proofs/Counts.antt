@@ -19,6 +19,7 @@ use Rattle.mp_shapes.specs.declared.table.Layout.TheVariants.{Program, Always, P
 use Rattle.mp_shapes.specs.declared.table.Layout.TheVariants.{Call, Return, Guarded, Apply, Bit}
 use Rattle.mp_shapes.specs.Layout as shapes
 use Rattle.mp_shapes.specs.Layout.{layout, when, word_of}
+use Rattle.mp_base.specs.Apply.{takes}
 use Rattle.mp_program.specs.Fits as fits
 use Rattle.mp_program.specs.Names.{is_supply}
 use Rattle.mp_syntax.specs.Shape.{what_of}
@@ -32,7 +33,7 @@ Counts n (Some Bit) = n ≡ 3
 Counts n (Some Go) = n ≡ 2
 Counts n (Some Call) = n ≡ 2
 Counts n (Some Guarded) = 0 < n
-Counts n (Some (Apply op)) = fits.takes op (n - 1) ≡ true
+Counts n (Some (Apply op)) = takes op (n - 1) ≡ true
 Counts n _ = Unit {0}
 
 pub record HasCounts (n : ℕ) (shape : Option Layout) : Type 0 where
@@ -129,7 +130,7 @@ some : (n : ℕ) → nat_le 2 n ≡ true → nat_lt 0 (n - 1) ≡ true
 some n h = lt-ltb 0 (n - 1) (omega (arith, leb-true 2 n h))
 
 -- the operands are the items behind the head
-operands : (o : Op) (n : ℕ) → NotBit (Some o) → shapes.takes o n ≡ true → fits.takes o (n - 1) ≡ true
+operands : (o : Op) (n : ℕ) → NotBit (Some o) → shapes.takes o n ≡ true → takes o (n - 1) ≡ true
 operands ops.Add n other h = two n h
 operands ops.Sub n other h = two n h
 operands ops.Inc n other h = one n h

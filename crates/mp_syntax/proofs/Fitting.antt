@@ -27,6 +27,7 @@ use Rattle.mp_program.specs.declared.program.Expr.{Expr}
 use Rattle.mp_program.specs.declared.program.Form.{Form}
 use Rattle.mp_program.specs.declared.program.Label.{Label}
 use Rattle.mp_program.specs.declared.program.Process.{Process}
+use Rattle.mp_base.specs.Apply.{takes}
 use Rattle.mp_program.specs.Fits as fits
 use Rattle.mp_entries.specs.Entries.{branch_at, expr_at, expr_index, expr_kind, form_at, form_index, form_kind, is_expr}
 use Rattle.mp_entries.specs.Entries.{is_form, list_expr, name_at, nodes_below, number_at, number_of}
@@ -190,7 +191,7 @@ expr_fits f cs k n lt is = by_kind (kind_at f n) refl
         let same : items_of (kind_at f n) ≡ items = ap items_of e in
         let size : length (map (expr_index f cs) (drop 1 items)) ≡ length (items_of (kind_at f n)) - 1 =
         omega (arith, length-map (drop 1 items) (expr_index f cs), length-drop 1 items, ap length same) in
-        and_from _ _ (ap (λ i. fits.takes op i) size ∙ counts f n classes.Value (layouts.Apply op) here)
+        and_from _ _ (ap (λ i. takes op i) size ∙ counts f n classes.Value (layouts.Apply op) here)
         (let P : List ℕ
         → Type 0 = λ xs. fits.all_behind (length (nodes_below (is_expr cs) n))
         (length (nodes_below (is_expr cs) (length f.nodes))) (map (expr_index f cs) (drop 1 xs)) ≡ true in

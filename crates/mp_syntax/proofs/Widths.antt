@@ -1,12 +1,11 @@
 -- The one form, and the word length.
 use Rattle.std.proofs.Common.{◌≡◌, ◌⊎◌, inl, inr, ℕ, ◌<◌, ◌≤◌, List, [], ◌∷◌, refl, sym, ◌∙◌, ap, subst, length}
 use Rattle.std.proofs.Common.{arith, Option, slice_index, slice_index_or}
-use Rattle.mp_base.specs.Refuses.{RefusesAt}
+use Rattle.mp_base.specs.Refuses.{RefusesAt, SpotIs}
 use Rattle.mp_base.specs.declared.refusal.Place.{Place}
 use Rattle.mp_base.specs.declared.refusal.Family.TheVariants.{E}
 use Rattle.mp_base.specs.declared.refusal.Spot.{Spot}
 use Rattle.mp_base.specs.declared.refusal.Spot.TheVariants.{At, Offset, Named, Nowhere}
-use Rattle.mp_base.specs.Refuses.{SpotIs}
 use Rattle.mp_base.specs.declared.refusal.Refusal.{Refusal}
 use Rattle.mp_base.specs.declared.refusal.Refusal.TheVariants.{NoMemory, Broken}
 use Rattle.form_reader.specs.declared.forms.Kind.TheVariants.{Number}

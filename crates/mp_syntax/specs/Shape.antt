@@ -3,6 +3,9 @@ use Rattle.std.specs.Prelude.{◌≡◌, ◌⊎◌, ℕ, ◌+◌, ◌<◌, List,
 use Rattle.std.specs.Prelude.{drop, Option, Some, None, slice_index}
 use Rattle.std.specs.List.{filter, filter_map, flat_map}
 use Rattle.mp_base.specs.declared.refusal.Place.{Place}
+use Rattle.mp_base.specs.Refuses.{IsOfFamily}
+use Rattle.mp_base.specs.declared.refusal.Broken.{Broken}
+use Rattle.mp_base.specs.declared.refusal.Family.TheVariants.{E}
 use Rattle.form_reader.specs.declared.forms.Kind.TheVariants as kinds
 use Rattle.form_reader.specs.declared.forms.Forms.{Forms}
 use Rattle.form_reader.specs.Sound.{node, kind_at, items_of}
@@ -133,3 +136,8 @@ E11 f at = (r n v : ℕ) × (rs : List ℕ) × (f.roots ≡ r ∷ rs)
 -- the first broken rule: E10, by offset, and then E11
 abbrev pub IsFirst : Forms → ℕ → Place → Type 0
 IsFirst f k at = ((k ≡ 10) × IsFirstE10 f at) ⊎ ((k ≡ 11) × E11 f at × ((there : Place) → E10 f there → ⊥))
+
+-- every form has its shape, and the word length is one; or this is the first rule that is broken
+abbrev pub OfForms : Forms → Option Broken → Type 0
+OfForms f None = (at : Place) → E10 f at ⊎ E11 f at → ⊥
+OfForms f (Some b) = IsOfFamily E (IsFirst f) b

@@ -1,14 +1,14 @@
 //! The program that forms spell, or the first broken rule.
 
-ghost use Rattle.std.specs.Prelude.{◌≡◌, ◌<◌, ◌≤◌, ◌^◌, ◌⊎◌, ℕ, [], ◌∷◌, IfErr, IfOk, length, map, slice_index};
+ghost use Rattle.std.specs.Prelude.{◌≡◌, ◌<◌, ◌≤◌, ◌^◌, ◌⊎◌, ℕ, [], ◌∷◌, IfOk, length, map, slice_index};
 ghost use Rattle.std.specs.List.{filter_map, flat_map};
 ghost use Rattle.form_reader.specs.Sound.{HasSymbols, IsSound, items_of, kind_at};
-ghost use Rattle.mp_base.specs.Refuses.{RefusesAt};
+ghost use Rattle.mp_base.specs.Refuses.{IsJudged};
 ghost use Rattle.mp_base.specs.declared.refusal.Family.TheVariants.{E};
 ghost use Rattle.mp_base.specs.declared.refusal.Place.{Place};
 ghost use Rattle.mp_shapes.specs.Standing.{AreClasses, E10};
 ghost use Rattle.mp_entries.specs.Entries.{expr_at, form_at, is_expr, is_form, name_at, nodes_below, number_at};
-ghost use Rattle.mp_syntax.specs.Shape.{E11, IsFirst, IsShape, always_at, def_at, process_at};
+ghost use Rattle.mp_syntax.specs.Shape.{E11, IsShape, always_at, def_at, process_at, OfForms};
 
 use crate::defs::defs_of;
 use crate::items::{always_of, processes_of};
@@ -147,8 +147,7 @@ pub fn parse(alloc: Global, forms: &Forms) -> Result<Program, Refusal>
     requires symbols { HasSymbols forms.now }
     requires small { length forms.now.nodes < 2 ^ 32 }
     ensures shape { IfOk result (IsShape forms.now) }
-    ensures whole { IfOk result (λ _. (at : Place) → E10 forms.now at ⊎ E11 forms.now at → ⊥) }
-    ensures err { IfErr result (λ e. RefusesAt E e (IsFirst forms.now)) }
+    ensures judged { IsJudged (OfForms forms.now) result }
 {
     let classes = match judge_shapes(alloc, forms) {
         Ok(classes) => classes,

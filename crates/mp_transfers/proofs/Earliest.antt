@@ -1,18 +1,13 @@
 -- The earliest of places: of two, and of those found one element of a list after another.
 use Rattle.std.proofs.Common.{◌≡◌, ◌⊎◌, inl, inr, ℕ, ◌+◌, ◌<◌, ◌≤◌, List, length, Option, Some, None, Bool, true, false}
-use Rattle.std.proofs.Common.{refl, sym, ap, subst, arith, get_or}
+use Rattle.std.proofs.Common.{refl, sym, ap, subst, arith}
 use Rattle.std.specs.Prelude.{nat_le}
-use Rattle.std.proofs.lemmas.List.{get_or_default}
 use Rattle.std.proofs.lemmas.Bool.{cases_lt, leb-true, leb-false}
 use Rattle.mp_base.specs.declared.refusal.Place.{Place}
 use Rattle.mp_base.specs.Entries.{IsAt}
 use Rattle.mp_rules.specs.Breaking.{IsEarliest, earlier}
-use Rattle.mp_base.proofs.ListEntries.{one_entry}
+use Rattle.mp_base.proofs.Entries.{one_entry, within}
 use Rattle.mp_transfers.specs.Tables.{join}
-
--- an entry of a list is what stands there
-pub at_index : {X : Type 0} (xs : List X) (i : ℕ) (d : X) → i < length xs → IsAt xs i (get_or xs i d)
-at_index xs i d lt = (lt, get_or_default xs i d (get_or xs i d) lt)
 
 -- the same places, but for some that aren't the earliest
 pub earliest_through : (V P : Place → Type 0) (found : Option Place) → IsEarliest V found → ((at : Place) → V at → P at)
@@ -174,7 +169,7 @@ upto_all {P = P} {xs = xs} {R = R} {i = i} {a = a} u all =
     (λ at there. elim there [ inl p ↦ inl p | inr (k, x, lt, is, r) ↦ inr (k, x, is, r) ])
     (λ at there. elim there [
       | inl p ↦ inl p
-      | inr (k, x, is, r) ↦ inr (k, x, (let l : k < length xs = is.0 in omega (arith, l, all)), is, r)
+      | inr (k, x, is, r) ↦ inr (k, x, (let l = within xs k is in omega (arith, l, all)), is, r)
     ])
 
 -- nothing was found before

@@ -13,7 +13,7 @@ use Rattle.mp_program.specs.Sound.{IsSound}
 use Rattle.mp_base.specs.Entries.{IsAt}
 use Rattle.mp_rules.specs.Standing.{itself, deeper, sequences}
 use Rattle.mp_rules.specs.Breaking.{IsEarliest, earlier}
-use Rattle.mp_base.proofs.ListEntries.{one_entry, contains_from_at}
+use Rattle.mp_base.proofs.Entries.{one_entry, contains_from_get}
 use Rattle.mp_rules.proofs.Sequences.{in_sequence}
 use Rattle.mp_transfers.specs.declared.tables.Sought.{Sought}
 use Rattle.mp_transfers.specs.declared.tables.Sought.TheVariants.{Transfer}
@@ -201,7 +201,7 @@ second_entry p f firsts table y inside found s is a d h k =
     entry_of : (forms : List ℕ) (i g : ℕ) → Contains (sequences y.kind) forms → IsAt forms i g
         → IsEarliest (IsFound p Transfer g) (entry firsts g)
     entry_of forms i g seq is_g =
-        a.entries g (inner_behind p s f y g is (in_sequence y.kind forms g seq (contains_from_at forms i g is_g))).1
+        a.entries g (inner_behind p s f y g is (in_sequence y.kind forms g seq (contains_from_get forms i g is_g))).1
 
     sound : (at : Place) → InOneOf (IsSecond p) (inner y.kind) at ⊎ IsBehindInOne firsts (sequences y.kind) at
         → IsSecond p f at
@@ -246,26 +246,33 @@ second_entry p f firsts table y inside found s is a d h k =
     cover : (at : Place) → IsSecond p f at
         → (v : Place) × (InOneOf (IsSecond p) (inner y.kind) v ⊎ IsBehindInOne firsts (sequences y.kind) v)
         × (v.offset ≤ at.offset)
-    cover at (b', z, (c, y', x, forms, i, j, b, g, g', under, is_c, seq, is_g, is_h, lt, u, v, is_b, is_z, tx, tz), ez) = elim (under_cases p f c y is under) [
-      | inl same ↦ (
-          let P : ℕ → Type 0 = λ m. IsAt p.forms m y' in
-          let Q : Form → Type 0 = λ m. Contains (sequences m.kind) forms in
-          let here : Contains (sequences y.kind) forms =
-          subst Q (one_entry p.forms f y' y (subst P (sym same) is_c) is) seq in
-          let (first, en, le) =
-          found_covers (IsFound p Transfer g) (entry firsts g) x.place (entry_of forms i g here is_g)
-          (b, x, u, is_b, tx, refl) in
-          let (w, e, le') =
-          found_covers (IsFound p Transfer g') (entry firsts g') at (entry_of forms j g' here is_h)
-          (b', z, v, is_z, tz, ez) in
-          (w, inr (forms, here, (i, j, g, g', first, is_g, is_h, lt, en, e)), le'))
-      | inr (m, in_y, under') ↦ (
-        at,
-        inl (
-          m,
-          in_y,
-          (b', z, (c, y', x, forms, i, j, b, g, g', under', is_c, seq, is_g, is_h, lt, u, v, is_b, is_z, tx, tz), ez),
-        ),
-        omega arith,
-      )
-    ]
+    cover at
+        (b', z, (c, y', x, forms, i, j, b, g, g', under, is_c, seq, is_g, is_h, lt, u, v, is_b, is_z, tx, tz), ez) =
+        elim (under_cases p f c y is under) [
+          | inl same ↦ (
+              let P : ℕ → Type 0 = λ m. IsAt p.forms m y' in
+              let Q : Form → Type 0 = λ m. Contains (sequences m.kind) forms in
+              let here : Contains (sequences y.kind) forms =
+              subst Q (one_entry p.forms f y' y (subst P (sym same) is_c) is) seq in
+              let (first, en, le) =
+              found_covers (IsFound p Transfer g) (entry firsts g) x.place (entry_of forms i g here is_g)
+              (b, x, u, is_b, tx, refl) in
+              let (w, e, le') =
+              found_covers (IsFound p Transfer g') (entry firsts g') at (entry_of forms j g' here is_h)
+              (b', z, v, is_z, tz, ez) in
+              (w, inr (forms, here, (i, j, g, g', first, is_g, is_h, lt, en, e)), le'))
+          | inr (m, in_y, under') ↦ (
+            at,
+            inl (
+              m,
+              in_y,
+              (
+                b',
+                z,
+                (c, y', x, forms, i, j, b, g, g', under', is_c, seq, is_g, is_h, lt, u, v, is_b, is_z, tx, tz),
+                ez,
+              ),
+            ),
+            omega arith,
+          )
+        ]

@@ -11,12 +11,12 @@ use Rattle.mp_program.specs.Sound.{IsSound}
 use Rattle.mp_program.proofs.Inside.{Between, kind_between}
 use Rattle.mp_base.specs.Entries.{IsAt}
 use Rattle.mp_rules.specs.Standing.{Under, itself, deeper}
-use Rattle.mp_base.proofs.ListEntries.{one_entry, contains_from_at, get_at}
+use Rattle.mp_base.proofs.Entries.{one_entry, contains_from_get}
 
 -- the forms directly in a form
 pub inner_between : (p : Program) → IsSound p → (f : ℕ) (y : Form) → IsAt p.forms f y
     → All (Between f (length p.forms)) (inner y.kind)
-inner_between p s f y is = kind_between (length p.exprs) f (length p.forms) y.kind (s.forms f y (get_at p.forms f y is))
+inner_between p s f y is = kind_between (length p.exprs) f (length p.forms) y.kind (s.forms f y is)
 
 pub inner_inside : (p : Program) → IsSound p → (f : ℕ) (y : Form) → IsAt p.forms f y
     → All (λ g. g < length p.forms) (inner y.kind)
@@ -49,4 +49,4 @@ pub process_inside : (p : Program) → IsSound p → (k : ℕ) (q : Process) →
 process_inside p s k q is =
     let P : Process → Type 0 = λ x. AllByRecursion (λ f. f < length p.forms) x.forms in
     All-from_recursion (λ f. f < length p.forms) q.forms
-    (All-contains P p.processes q (All-from_recursion P p.processes s.processes) (contains_from_at p.processes k q is))
+    (All-contains P p.processes q (All-from_recursion P p.processes s.processes) (contains_from_get p.processes k q is))

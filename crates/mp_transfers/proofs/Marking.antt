@@ -15,7 +15,7 @@ use Rattle.mp_program.specs.Weight.{inner}
 use Rattle.mp_program.specs.Sound.{IsSound}
 use Rattle.mp_base.specs.Entries.{IsAt}
 use Rattle.mp_rules.specs.Standing.{Under, itself, deeper}
-use Rattle.mp_base.proofs.ListEntries.{one_entry}
+use Rattle.mp_base.proofs.Entries.{one_entry, within, value}
 use Rattle.mp_rules.proofs.Sequences.{under_more}
 use Rattle.mp_transfers.specs.Marks.{IsMarking, IsBelowAll, AreMarked}
 use Rattle.mp_transfers.proofs.Inside.{inner_behind, under_behind}
@@ -195,11 +195,11 @@ marking_all p roots number marks f from end s m below all = record {
 -- the forms of one more branch, and of all
 pub bodies_more : (bs : List Branch) (i : ℕ) (b : Branch) → IsAt bs i b
     → flat_map (λ (x : Branch). x.body) (take (i + 1) bs) ≡ flat_map (λ (x : Branch). x.body) (take i bs) ++ b.body
-bodies_more bs i b (lt, is) =
-    ap (flat_map (λ (x : Branch). x.body)) (take_more bs i b lt)
+bodies_more bs i b at =
+    ap (flat_map (λ (x : Branch). x.body)) (take_more bs i b (within bs i at))
     ∙ flat_map-append (λ (x : Branch). x.body) (take i bs) (get_or bs i b ∷ [])
     ∙ ap (λ xs. flat_map (λ (x : Branch). x.body) (take i bs) ++ xs)
-    (append-nil ((get_or bs i b).body) ∙ ap (λ (x : Branch). x.body) (sym is))
+    (append-nil ((get_or bs i b).body) ∙ ap (λ (x : Branch). x.body) (sym (value bs i at)))
 
 pub bodies_all : (bs : List Branch) (i : ℕ) → length bs ≤ i
     → flat_map (λ (x : Branch). x.body) (take i bs) ≡ flat_map (λ (x : Branch). x.body) bs

@@ -9,6 +9,7 @@ use Rattle.std.specs.BTreeSet.{BTreeSet, UpdatesBy}
 use Rattle.std.proofs.lemmas.Map.Text.{is_eq-slice_cmp}
 use Rattle.std.proofs.lemmas.Slice.Eq.{bytes_eq-Decides}
 use Rattle.std.proofs.lemmas.Bool.{cases_lt}
+use Rattle.std.proofs.lemmas.Option.{slice_get-get_or}
 use Rattle.mp_base.specs.declared.refusal.Place.{Place}
 use Rattle.mp_base.proofs.Names.{still, not_true, not_false}
 use Rattle.mp_program.specs.declared.program.FormKind.{FormKind}
@@ -20,9 +21,9 @@ use Rattle.mp_base.specs.Entries.{IsAt}
 use Rattle.mp_rules.specs.Standing.{label_of}
 use Rattle.mp_rules.specs.Breaking.{IsEarliest, earlier}
 use Rattle.mp_rules.specs.Rules.{E29}
-use Rattle.mp_base.proofs.ListEntries.{one_entry}
+use Rattle.mp_base.proofs.Entries.{one_entry, all_at}
 use Rattle.mp_transfers.specs.Labels.{has, IsLabel, IsRepeated, IsAstray}
-use Rattle.mp_transfers.proofs.Earliest.{at_index, Upto, upto_join, upto_skip, upto_all, InAny, earliest_same}
+use Rattle.mp_transfers.proofs.Earliest.{Upto, upto_join, upto_skip, upto_all, InAny, earliest_same}
 use Rattle.mp_transfers.proofs.Earliest.{earliest_one}
 
 -- a label before i has the name x
@@ -137,7 +138,7 @@ pub astray_iff : (names : BTreeSet (Bor (List ℕ))) (labels : List Label) (l : 
     → (t ≡ true) ↔ All (λ (x : Label). x.name ≢ l) labels
 astray_iff names labels l t iff e = (
   λ on k d lt same. fore (has names l) refl (sym on ∙ e)
-      (k, get_or labels k d, at_index labels k d lt, same),
+      (k, get_or labels k d, slice_get-get_or labels k d lt, same),
   λ none. e ∙ back (has names l) refl none,
 )
   where
@@ -148,7 +149,7 @@ astray_iff names labels l t iff e = (
     back : (h : Bool) → has names l ≡ h → All (λ (x : Label). x.name ≢ l) labels → not h ≡ true
     back false is none = refl
     back true is none = let (k, a, at, same) = (iff l).0 is in
-        absurd (none k a at.0 (ap (λ (x : Label). x.name) (sym at.1) ∙ same))
+        absurd (all_at (λ (x : Label). x.name ≢ l) labels k a none at same)
 
 -- a form that names the label l goes to one that isn't there
 pub astray_kind : (names : BTreeSet (Bor (List ℕ))) (labels : List Label) (kind : FormKind) (l : List ℕ) (t : Bool)

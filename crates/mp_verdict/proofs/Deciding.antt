@@ -3,10 +3,11 @@ use Rattle.std.proofs.Common.{◌≡◌, ◌⊎◌, inl, inr, ℕ, zero, suc, �
 use Rattle.std.proofs.Common.{arith}
 use Rattle.std.specs.Prelude.{Contains}
 use Rattle.std.proofs.lemmas.Bool.{cases_lt}
+use Rattle.std.proofs.lemmas.Option.{none-some, same_Some, slice_get_within}
 use Rattle.mp_base.specs.declared.refusal.Place.{Place}
 use Rattle.mp_base.proofs.Decisions.{Decided, same_claim}
 use Rattle.mp_base.specs.Entries.{IsAt}
-use Rattle.mp_base.proofs.ListEntries.{one_entry, some_entry}
+use Rattle.mp_base.proofs.Entries.{one_entry, some_entry, get_from_contains, contains_from_get}
 
 -- ---- claims
 
@@ -18,33 +19,34 @@ Entry {X} xs R = (k : ℕ) × (x : X) × IsAt xs k x × R k x
 
 pub some_at : {X : Type 0} (xs : List X) (R : ℕ → X → Type 0) → ((k : ℕ) (x : X) → IsAt xs k x → Decided (R k x))
     → Decided (Entry xs R)
-some_at [] R known = inr (λ (k, x, (lt, is), h). omega (arith, lt))
-some_at {X} (y ∷ ys) R known = by (known 0 y (omega arith, refl))
-    (some_at ys (λ k x. R (suc k) x) (λ k x at. known (suc k) x (let lt = at.0 in omega (arith, lt), at.1)))
+some_at [] R known = inr (λ (k, x, at, h). none-some x at)
+some_at {X} (y ∷ ys) R known = by (known 0 y refl)
+    (some_at ys (λ k x. R (suc k) x) (λ k x at. known (suc k) x at))
   where
     by : Decided (R 0 y) → Decided (Entry ys (λ k x. R (suc k) x)) → Decided (Entry (y ∷ ys) R)
-    by (inl h) rest = inl (0, y, (omega arith, refl), h)
-    by (inr none) (inl (k, x, (lt, is), h)) = inl (suc k, x, (omega (arith, lt), is), h)
+    by (inl h) rest = inl (0, y, refl, h)
+    by (inr none) (inl (k, x, at, h)) = inl (suc k, x, at, h)
     by (inr none) (inr nor) = inr neither
       where
         neither : Entry (y ∷ ys) R → ⊥
-        neither (zero, x, (lt, is), h) = none (subst (λ z. R 0 z) is h)
-        neither (suc k, x, (lt, is), h) = nor (k, x, (omega (arith, lt), is), h)
+        neither (zero, x, at, h) = none (subst (λ z. R 0 z) (sym (same_Some y x at)) h)
+        neither (suc k, x, at, h) = nor (k, x, at, h)
 
 -- a member with a property
 pub some_in : {X : Type 0} (xs : List X) (R : X → Type 0) → ((x : X) → Contains xs x → Decided (R x))
     → Decided ((x : X) × Contains xs x × R x)
-some_in xs R known = same_claim (some_at xs (λ k x. R x) (λ k x (lt, is). known x (k, lt, sym is)))
-    (λ (k, x, (lt, is), h). (x, (k, lt, sym is), h)) (λ (x, (k, lt, is), h). (k, x, (lt, sym is), h))
+some_in xs R known = same_claim (some_at xs (λ k x. R x) (λ k x at. known x (contains_from_get xs k x at)))
+    (λ (k, x, at, h). (x, contains_from_get xs k x at, h))
+    (λ (x, c, h). let (k, at) = get_from_contains xs x c in (k, x, at, h))
 
 pub is_in : {X : Type 0} (xs : List X) (x : X) → ((y : X) → Decided (y ≡ x)) → Decided (Contains xs x)
 is_in {X} xs x known = same_claim (some_at xs (λ k y. y ≡ x) (λ k y at. known y)) fore back
   where
     fore : Entry xs (λ k y. y ≡ x) → Contains xs x
-    fore (k, y, (lt, is), e) = subst (λ z. Contains xs z) e (k, lt, sym is)
+    fore (k, y, at, e) = subst (λ z. Contains xs z) e (contains_from_get xs k y at)
 
     back : Contains xs x → Entry xs (λ k y. y ≡ x)
-    back (k, lt, is) = (k, x, (lt, sym is), refl)
+    back c = let (k, at) = get_from_contains xs x c in (k, x, at, refl)
 
 -- ---- places
 
@@ -91,18 +93,18 @@ Entries {X} xs R at = (k : ℕ) × (x : X) × IsAt xs k x × R k x at
 
 pub first_of_all : {X : Type 0} (xs : List X) (R : ℕ → X → Place → Type 0)
     → ((k : ℕ) (x : X) → IsAt xs k x → First (R k x)) → First (Entries xs R)
-first_of_all [] R known = nowhere (λ at (k, x, (lt, is), h). omega (arith, lt))
-first_of_all {X} (y ∷ ys) R known = same_places (either_place (known 0 y (omega arith, refl))
-    (first_of_all ys (λ k x. R (suc k) x) (λ k x at. known (suc k) x (let lt = at.0 in omega (arith, lt), at.1))))
+first_of_all [] R known = nowhere (λ at (k, x, here, h). none-some x here)
+first_of_all {X} (y ∷ ys) R known = same_places (either_place (known 0 y refl)
+    (first_of_all ys (λ k x. R (suc k) x) (λ k x here. known (suc k) x here)))
     fore back
   where
     fore : (at : Place) → R 0 y at ⊎ Entries ys (λ k x. R (suc k) x) at → Entries (y ∷ ys) R at
-    fore at (inl h) = (0, y, (omega arith, refl), h)
-    fore at (inr (k, x, (lt, is), h)) = (suc k, x, (omega (arith, lt), is), h)
+    fore at (inl h) = (0, y, refl, h)
+    fore at (inr (k, x, here, h)) = (suc k, x, here, h)
 
     back : (at : Place) → Entries (y ∷ ys) R at → R 0 y at ⊎ Entries ys (λ k x. R (suc k) x) at
-    back at (zero, x, (lt, is), h) = inl (subst (λ z. R 0 z at) is h)
-    back at (suc k, x, (lt, is), h) = inr (k, x, (omega (arith, lt), is), h)
+    back at (zero, x, here, h) = inl (subst (λ z. R 0 z at) (sym (same_Some y x here)) h)
+    back at (suc k, x, here, h) = inr (k, x, here, h)
 
 -- the same of the entry at an index, if there is one
 pub first_of_entry : {X : Type 0} (xs : List X) (k : ℕ) (R : X → Place → Type 0)
@@ -110,7 +112,7 @@ pub first_of_entry : {X : Type 0} (xs : List X) (k : ℕ) (R : X → Place → T
 first_of_entry {X} xs k R known = by (cases_lt k (length xs))
   where
     by : (k < length xs) ⊎ (length xs ≤ k) → First (λ at. (x : X) × IsAt xs k x × R x at)
-    by (inr past) = nowhere (λ at (x, (lt, is), h). omega (arith, lt, past))
+    by (inr past) = nowhere (λ at (x, here, h). let lt = slice_get_within xs k x here in omega (arith, lt, past))
     by (inl lt) = let (x, at_k) = some_entry xs k lt in
         same_places (known x at_k) (λ at h. (x, at_k, h)) (λ at (y, also, h). subst (λ z. R z at)
         (one_entry xs k y x also at_k) h)

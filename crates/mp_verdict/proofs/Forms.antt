@@ -3,6 +3,7 @@ use Rattle.std.proofs.Common.{◌≡◌, ◌⊎◌, inl, inr, ℕ, zero, suc, �
 use Rattle.std.proofs.Common.{refl, sym, subst, arith}
 use Rattle.std.specs.Prelude.{Contains}
 use Rattle.std.proofs.lemmas.Bool.{cases_lt, cases_eq}
+use Rattle.std.proofs.lemmas.Option.{slice_get_within}
 use Rattle.std.proofs.lemmas.List.Elements.{All-contains}
 use Rattle.mp_base.proofs.Decisions.{Decided, same_claim, both_of, is_true, decided_below}
 use Rattle.mp_program.specs.declared.program.FormKind.{FormKind}
@@ -13,7 +14,7 @@ use Rattle.mp_program.specs.Sound.{IsSound}
 use Rattle.mp_program.proofs.Inside.{Between, kind_between}
 use Rattle.mp_base.specs.Entries.{IsAt}
 use Rattle.mp_rules.specs.Standing.{Under, itself, deeper, StandsIn, is_transfer, label_of, sequences, IsLater}
-use Rattle.mp_base.proofs.ListEntries.{one_entry, some_entry, get_at}
+use Rattle.mp_base.proofs.Entries.{one_entry, some_entry}
 use Rattle.mp_verdict.proofs.Deciding.{some_at, some_in}
 
 module _ (p : Program) (sound : IsSound p) where
@@ -26,7 +27,8 @@ module _ (p : Program) (sound : IsSound p) where
 
   outside : (r f : ℕ) → length p.forms ≤ r → Under p r f → r ≡ f
   outside r f past itself = refl
-  outside r f past (deeper z also c rest) = absurd (let lt = also.0 in omega (arith, lt, past))
+  outside r f past (deeper z also c rest) =
+      absurd (let lt = slice_get_within p.forms r z also in omega (arith, lt, past))
 
   under_past : (r f : ℕ) → length p.forms ≤ r → (r ≡ f) ⊎ (r ≡ f → ⊥) → Decided (Under p r f)
   under_past r f past (inl same) = inl (subst (λ k. Under p r k) same itself)
@@ -41,7 +43,7 @@ module _ (p : Program) (sound : IsSound p) where
 
   within : (r g : ℕ) (y : Form) → IsAt p.forms r y → Contains (inner y.kind) g → (r < g) × (g < length p.forms)
   within r g y at c = All-contains (Between r (length p.forms)) (inner y.kind) g
-      (kind_between (length p.exprs) r (length p.forms) y.kind (sound.forms r y (get_at p.forms r y at))) c
+      (kind_between (length p.exprs) r (length p.forms) y.kind (sound.forms r y at)) c
 
   under_from : (m r f : ℕ) → length p.forms ≤ r + m → Decided (Under p r f)
   under_from zero r f le = under_past r f (omega (arith, le)) (cases_eq r f)

@@ -1,7 +1,8 @@
 -- The earliest place where a rule is broken, for each rule.
 use Rattle.std.proofs.Common.{◌≡◌, ◌≢◌, ◌⊎◌, inl, inr, ℕ, zero, suc, ◌<◌, ◌≤◌, ◌^◌, List, [], ◌∷◌, Bool, true, false}
-use Rattle.std.proofs.Common.{Some, length, refl, sym, ap, subst, arith}
+use Rattle.std.proofs.Common.{Some, length, refl, sym, ap, subst}
 use Rattle.std.specs.Prelude.{All, Contains}
+use Rattle.std.proofs.lemmas.Option.{none-some, same_Some}
 use Rattle.mp_base.specs.declared.refusal.Place.{Place}
 use Rattle.mp_base.specs.declared.op.Op.TheVariants.{Bit}
 use Rattle.mp_base.proofs.Decisions.{Decided, same_claim, both_of, one_of, not_so, is_true, is_number, decided_below}
@@ -25,9 +26,13 @@ use Rattle.mp_program.specs.Reads.{Chain}
 use Rattle.mp_program.specs.Sound.{IsSound}
 use Rattle.mp_program.specs.Weight.{weight}
 use Rattle.mp_base.specs.Entries.{IsAt}
+use Rattle.mp_base.specs.declared.limits.TheConstants.{WEIGHT_LIMIT}
+use Rattle.mp_base.proofs.Entries.{get_from_contains}
 use Rattle.mp_rules.specs.Naming.{Naming, namings, is_reserved, supplies, Uses}
 use Rattle.mp_rules.specs.Rules.{E20, E21, E22, E23, E24, E25, E26, E27, E28, E29, E30, E31, E32, E33, E34, E35, E36}
 use Rattle.mp_rules.specs.Rules.{E40, E41, E42, E43, E44, E45, pins, is_unset, namings_up_to}
+use Rattle.mp_rules.specs.declared.limits.TheConstants.{NAMING_LIMIT, PROCESS_LIMIT, FORM_LIMIT}
+use Rattle.mp_rules.specs.declared.limits.TheConstants.{DEPTH_LIMIT, EXPR_LIMIT}
 use Rattle.mp_rules.specs.Sorts.{Sort, expr_sort, IsWanted}
 use Rattle.mp_rules.specs.Standing.{StandsIn, is_transfer, uses_stack, label_of, IsLater}
 use Rattle.mp_verdict.proofs.Deciding.{some_at, some_in, First, nowhere, same_places, either_place, this_place}
@@ -244,7 +249,7 @@ module _ (p : Program) where
         (λ at (k, q, is, (f, y, at_f, ((stands, (l, label, none)), same))).
         (k, q, f, y, l, is, stands, label, none, same))
         (λ at (k, q, f, y, l, is, stands, label, none, same).
-        (k, q, is, (f, y, (stands.3.0, stands.3.1), ((stands, (l, label, none)), same))))
+        (k, q, is, (f, y, stands.3, ((stands, (l, label, none)), same))))
 
     pub rule30 : First (E30 p)
     rule30 = same_places (first_of_all p.forms (λ f y at. (StandsIn p p.always f y × (is_transfer y.kind ≡ true))
@@ -252,7 +257,7 @@ module _ (p : Program) where
         (λ f y is. this_place (StandsIn p p.always f y × (is_transfer y.kind ≡ true)) y.place
         (both_of (stands_in p sound p.always f y is) (is_true (is_transfer y.kind)))))
         (λ at (f, y, is, ((stands, moves), same)). (f, y, stands, moves, same))
-        (λ at (f, y, stands, moves, same). (f, y, (stands.3.0, stands.3.1), ((stands, moves), same)))
+        (λ at (f, y, stands, moves, same). (f, y, stands.3, ((stands, moves), same)))
 
     pub rule31 : First (E31 p)
     rule31 = same_places (first_of_all p.processes (λ k q at. (q.depth ≡ 0)
@@ -267,7 +272,7 @@ module _ (p : Program) where
           k,
           q,
           is,
-          (none, (f, y, (stands.3.0, stands.3.1), ((stands, stack), same))),
+          (none, (f, y, stands.3, ((stands, stack), same))),
         ))
 
     pub rule32 : First (E32 p)
@@ -350,17 +355,20 @@ module _ (p : Program) where
       (λ w c. holds_of_all (λ (d : Def). d.what ≢ w) (λ d. not_so (is_supply_at c d.what)) p.defs)))
       (λ at ((w, c, none), same). (w, c, none, same)) (λ at (w, c, none, same). ((w, c, none), same))
     where
+      of_supply : {v : What} (w : What) → Some v ≡ Some w → is_supply v ≡ true → is_supply w ≡ true
+      of_supply {v} w at h = subst (λ x. is_supply x ≡ true) (same_Some v w at) h
+
       all_supplies : (k : ℕ) (w : What) → IsAt supplies k w → is_supply w ≡ true
-      all_supplies zero w at = subst (λ v. is_supply v ≡ true) (sym at.1) refl
-      all_supplies (suc zero) w at = subst (λ v. is_supply v ≡ true) (sym at.1) refl
-      all_supplies (suc (suc zero)) w at = subst (λ v. is_supply v ≡ true) (sym at.1) refl
-      all_supplies (suc (suc (suc zero))) w at = subst (λ v. is_supply v ≡ true) (sym at.1) refl
-      all_supplies (suc (suc (suc (suc zero)))) w at = subst (λ v. is_supply v ≡ true) (sym at.1) refl
-      all_supplies (suc (suc (suc (suc (suc k))))) w at = absurd (let lt = at.0 in omega (arith, lt))
+      all_supplies zero w at = of_supply w at refl
+      all_supplies (suc zero) w at = of_supply w at refl
+      all_supplies (suc (suc zero)) w at = of_supply w at refl
+      all_supplies (suc (suc (suc zero))) w at = of_supply w at refl
+      all_supplies (suc (suc (suc (suc zero)))) w at = of_supply w at refl
+      all_supplies (suc (suc (suc (suc (suc k))))) w at = absurd (none-some w at)
 
       is_supply_at : {w : What} → Contains supplies w → (v : What) → Decided (v ≡ w)
-      is_supply_at {w} (k, lt, is) v = same_claim (same_supply w v) (λ h. sym h.1)
-          (λ e. (all_supplies k w (lt, sym is), sym e))
+      is_supply_at {w} c v = let (k, at) = get_from_contains supplies w c in
+          same_claim (same_supply w v) (λ h. sym h.1) (λ e. (all_supplies k w at, sym e))
 
   pub rule36 : First (E36 p)
   rule36 = same_places (first_of_all p.processes (λ k q at. (q.forms ≡ []) × (at ≡ q.place))
@@ -372,18 +380,19 @@ module _ (p : Program) where
       is_empty (x ∷ xs) = inr (λ e. absurd (cc))
 
   pub rule40 : First (E40 p)
-  rule40 = same_places (first_of_all (namings p) (λ k n at. (257 ≤ namings_up_to p n.place) × (at ≡ n.place))
-      (λ k n is. this_place (257 ≤ namings_up_to p n.place) n.place (is_within 257 (namings_up_to p n.place))))
+  rule40 = same_places (first_of_all (namings p) (λ k n at. (NAMING_LIMIT < namings_up_to p n.place) × (at ≡ n.place))
+      (λ k n is. this_place (NAMING_LIMIT < namings_up_to p n.place) n.place
+      (decided_below NAMING_LIMIT (namings_up_to p n.place))))
       (λ at (k, n, is, (many, same)). (k, n, is, many, same)) (λ at (k, n, is, many, same). (k, n, is, (many, same)))
 
   pub rule41 : First (E41 p)
-  rule41 = first_of_entry p.processes 16 (λ q at. at ≡ q.place)
+  rule41 = first_of_entry p.processes PROCESS_LIMIT (λ q at. at ≡ q.place)
       (λ q is. same_places (this_place (Unit {0}) q.place (inl tt)) (λ at (u, same). same) (λ at same. (tt, same)))
 
   pub rule42 : First (E42 p)
-  rule42 = same_places (first_of_all p.processes (λ k q at. (f : ℕ) × IsAt q.forms 256 f
+  rule42 = same_places (first_of_all p.processes (λ k q at. (f : ℕ) × IsAt q.forms FORM_LIMIT f
       × ((y : Form) × IsAt p.forms f y × (at ≡ y.place)))
-      (λ k q is. first_of_entry q.forms 256 (λ f at. (y : Form) × IsAt p.forms f y × (at ≡ y.place))
+      (λ k q is. first_of_entry q.forms FORM_LIMIT (λ f at. (y : Form) × IsAt p.forms f y × (at ≡ y.place))
       (λ f at_f. first_of_entry p.forms f (λ y at. at ≡ y.place)
       (λ y form. same_places (this_place (Unit {0}) y.place (inl tt)) (λ at (u, same). same)
       (λ at same. (tt, same))))))
@@ -391,12 +400,12 @@ module _ (p : Program) where
       (λ at (k, q, f, y, is, at_f, form, same). (k, q, is, (f, at_f, (y, form, same))))
 
   pub rule43 : First (E43 p)
-  rule43 = same_places (first_of_all p.processes (λ k q at. (8 < q.depth) × (at ≡ q.depth_at))
-      (λ k q is. this_place (8 < q.depth) q.depth_at (decided_below 8 q.depth)))
+  rule43 = same_places (first_of_all p.processes (λ k q at. (DEPTH_LIMIT < q.depth) × (at ≡ q.depth_at))
+      (λ k q is. this_place (DEPTH_LIMIT < q.depth) q.depth_at (decided_below DEPTH_LIMIT q.depth)))
       (λ at (k, q, is, (deep, same)). (k, q, is, deep, same)) (λ at (k, q, is, deep, same). (k, q, is, (deep, same)))
 
   pub rule44 : First (E44 p)
-  rule44 = this_place (1024 < weight p) p.place (decided_below 1024 (weight p))
+  rule44 = this_place (WEIGHT_LIMIT < weight p) p.place (decided_below WEIGHT_LIMIT (weight p))
 
   pub rule45 : First (E45 p)
-  rule45 = this_place (4096 < length p.exprs) p.place (decided_below 4096 (length p.exprs))
+  rule45 = this_place (EXPR_LIMIT < length p.exprs) p.place (decided_below EXPR_LIMIT (length p.exprs))

@@ -5,10 +5,10 @@ use Rattle.std.specs.List.{count_by}
 use Rattle.std.proofs.lemmas.Bool.{cases_lt, cases_eq, cases_Bool, true≢false, false≢true}
 use Rattle.std.proofs.lemmas.List.{get_or-set_same, get_or-set_other, get_or_past, length-set, length-replicate}
 use Rattle.std.proofs.lemmas.List.Sums.{count_by_more_yes, count_by_more_no}
-use Rattle.std.proofs.lemmas.Slice.Eq.{bytes_eq-Decides}
+use Rattle.std.proofs.lemmas.Option.{get_or_from_slice_get}
 use Rattle.mp_base.specs.declared.refusal.Place.{Place}
 use Rattle.mp_base.proofs.Lists.{take_whole}
-use Rattle.mp_base.proofs.Entries.{zeros_at}
+use Rattle.mp_base.proofs.Entries.{zeros_at, within, value}
 use Rattle.mp_program.specs.declared.program.FormKind.{FormKind}
 use Rattle.mp_program.specs.declared.program.FormKind.TheVariants.{Set, Cond, Par, Go, Call, Return}
 use Rattle.mp_program.specs.declared.program.What.{What}
@@ -33,19 +33,19 @@ none_counted p counts e = record {
 -- a form that is no `setq`
 other_counted : (p : Program) (n : ℕ) (y : Form) (counts : List ℕ) → AreSetCounts p n counts → IsAt p.forms n y
     → ((x : List ℕ) → is_set_of x y.kind ≡ false) → AreSetCounts p (n + 1) counts
-other_counted p n y counts h (lt, is) none = record {
+other_counted p n y counts h at_n none = record {
   size = h.size;
   bound = λ k. omega (arith, h.bound k);
   each = λ d z at named. h.each d z at named
-      ∙ sym (count_by_more_no (λ (f : Form). is_set_of z.name f.kind) p.forms n y lt
-      (ap (λ (f : Form). is_set_of z.name f.kind) (sym is) ∙ none z.name));
+      ∙ sym (count_by_more_no (λ (f : Form). is_set_of z.name f.kind) p.forms n y (within p.forms n at_n)
+      (ap (λ (f : Form). is_set_of z.name f.kind) (get_or_from_slice_get p.forms n y y at_n) ∙ none z.name));
 }
 
 -- a `setq` of the definition at t
 set_counted : (p : Program) (n t : ℕ) (y : Form) (x : List ℕ) (at : Place) (v : ℕ) (counts : List ℕ) → OwnNames p
     → AreSetCounts p n counts → IsAt p.forms n y → y.kind ≡ Set x at v
     → t ≡ index_of p.defs x → AreSetCounts p (n + 1) (slice_set counts t (slice_index counts t + 1))
-set_counted p n t y x at v counts own h (lt, is) kind target = record {
+set_counted p n t y x at v counts own h at_n kind target = record {
   size = length-set counts t (slice_index counts t + 1) ∙ h.size;
   bound = bounds;
   each = counts_each;
@@ -75,7 +75,8 @@ set_counted p n t y x at v counts own h (lt, is) kind target = record {
     ]
 
     test : (z : Def) → is_set_of z.name (get_or p.forms n y).kind ≡ is_same x z.name
-    test z = ap (λ (f : Form). is_set_of z.name f.kind) (sym is) ∙ ap (is_set_of z.name) kind
+    test z = ap (λ (f : Form). is_set_of z.name f.kind) (get_or_from_slice_get p.forms n y y at_n)
+        ∙ ap (is_set_of z.name) kind
 
     counts_each : (d : ℕ) (z : Def) → IsAt p.defs d z → is_supply z.what ≡ false
         → slice_index (slice_set counts t (slice_index counts t + 1)) d
@@ -83,22 +84,25 @@ set_counted p n t y x at v counts own h (lt, is) kind target = record {
     counts_each d z at_d named = elim (cases_Bool (is_same x z.name)) [
       | inl same ↦
           let here : t ≡ d = target ∙ ap (index_of p.defs) (same_is x z.name same) ∙ own d z at_d named in
-          let dl : d < length counts = omega (arith, at_d.0, h.size) in
+          let dl : d < length counts = omega (arith, within p.defs d at_d, h.size) in
           ap (λ i. slice_index (slice_set counts i (slice_index counts i + 1)) d) here
           ∙ get_or-set_same counts d (slice_index counts d + 1) 0 dl
           ∙ ap (λ k. k + 1) (h.each d z at_d named)
-          ∙ sym (count_by_more_yes (λ (f : Form). is_set_of z.name f.kind) p.forms n y lt (test z ∙ same))
+          ∙ sym (count_by_more_yes (λ (f : Form). is_set_of z.name f.kind) p.forms n y (within p.forms n at_n)
+          (test z ∙ same))
       | inr other ↦
           get_or-set_other counts t d (slice_index counts t + 1) 0 (λ e. apart d z at_d other (e ∙ target))
           ∙ h.each d z at_d named
-          ∙ sym (count_by_more_no (λ (f : Form). is_set_of z.name f.kind) p.forms n y lt (test z ∙ other))
+          ∙ sym (count_by_more_no (λ (f : Form). is_set_of z.name f.kind) p.forms n y (within p.forms n at_n)
+          (test z ∙ other))
     ]
       where
         apart : (d : ℕ) (z : Def) → IsAt p.defs d z → is_same x z.name ≡ false → d ≡ index_of p.defs x → ⊥
-        apart d z (dl, is_z) other e =
-            let P : ℕ → Type 0 = λ i. (i < length p.defs) × (z ≡ get_or p.defs i z) in
-            let there : P (index_of p.defs x) = subst P e (dl, is_z) in
-            true≢false (sym (is_same_of x z.name (sym (index_named p.defs x z there.0 there.1))) ∙ other)
+        apart d z at_d other e =
+            let there : IsAt p.defs (index_of p.defs x) z = subst (λ i. IsAt p.defs i z) e at_d in
+            let same = index_named p.defs x z (within p.defs (index_of p.defs x) there)
+            (value p.defs (index_of p.defs x) there) in
+            true≢false (sym (is_same_of x z.name (sym same)) ∙ other)
 
 pub form_counted : (p : Program) (n t : ℕ) (y : Form) (counts : List ℕ) → OwnNames p → AreSetCounts p n counts
     → IsAt p.forms n y

@@ -1,14 +1,16 @@
 -- What names mean, by the table of names.
-use Rattle.std.proofs.Common.{◌≡◌, ℕ, zero, suc, List, [], ◌∷◌, Bool, true, false, cond, refl, sym, ap, ◌∙◌}
-use Rattle.std.proofs.Common.{arith, Option, Some, None, unwrap_or, map, length, slice_index}
+use Rattle.std.proofs.Common.{◌≡◌, ℕ, suc, List, [], ◌∷◌, Bool, true, false, cond, refl, ap, ◌∙◌}
+use Rattle.std.proofs.Common.{Option, Some, None, unwrap_or, map, length, slice_index}
 use Rattle.std.specs.Option.{option_map}
 use Rattle.std.proofs.lemmas.List.{length-map}
+use Rattle.std.proofs.lemmas.Option.{get_or_from_slice_get}
 use Rattle.mp_program.specs.declared.program.Def.{Def}
 use Rattle.mp_program.specs.declared.program.Expr.{Expr}
 use Rattle.mp_program.specs.declared.program.Form.{Form}
 use Rattle.mp_program.specs.declared.program.Program.{Program}
 use Rattle.mp_program.specs.Names.{is_same, index_of}
 use Rattle.mp_base.specs.Entries.{IsAt}
+use Rattle.mp_base.proofs.Entries.{map_get}
 use Rattle.name_meanings.specs.declared.named.Named as known_names
 use Rattle.name_meanings.specs.declared.table.NameTable.{NameTable}
 use Rattle.name_meanings.specs.declared.meaning.Meanings.{Meanings}
@@ -18,9 +20,7 @@ use Rattle.name_meanings.specs.Meant.{expr_meaning, target_meaning}
 use Rattle.name_meanings.specs.Meaning.{AreMeanings}
 
 map_at : {X : Type 0} (f : X → ℕ) (xs : List X) (k : ℕ) (x : X) → IsAt xs k x → slice_index (map f xs) k ≡ f x
-map_at f [] k x (lt, is) = absurd (omega (arith, lt))
-map_at f (y ∷ ys) zero x (lt, is) = ap f (sym is)
-map_at f (y ∷ ys) (suc k) x (lt, is) = map_at f ys k x (omega (arith, lt), is)
+map_at f xs k x at = get_or_from_slice_get (map f xs) k (f x) 0 (map_get f xs k x at)
 
 index_first : (ds : List Def) (x : List ℕ) → unwrap_or (first_of ds x) (length ds) ≡ index_of ds x
 index_first [] x = refl

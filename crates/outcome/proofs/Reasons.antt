@@ -6,6 +6,7 @@ use Rattle.std.specs.FinMap.{get}
 use Rattle.outside.specs.Outside.{Files, Rose, Keeps, bytes_of}
 use Rattle.mp_base.specs.declared.refusal.Broken.{Broken}
 use Rattle.mp_base.specs.declared.refusal.Refusal.{Refusal}
+use Rattle.mp_base.specs.Refuses.{IsRefusal}
 use Rattle.mp_base.specs.declared.refusal.Refusal.TheVariants as refusal
 use Rattle.outcome.specs.Order.{Fault, Stray, Breaks, Then, OfFile, OfLength, OfRule, IsContent, IsStrayBy}
 use Rattle.outcome.specs.Halt.{EndsBy, HasReason, halt_of}
@@ -82,11 +83,6 @@ pub reason_err : {T : Type 0} (First : Files → Option Fault
 reason_err First held r m halt (Ok v) is e = absurd is
 reason_err First held r m halt (Err h) is e = subst (EndsBy First held r m) (sym is) e
 
--- a refusal names the first broken rule, or memory was wanted
-abbrev pub IsBrokenBy : (Option Broken → Type 0) → Refusal → Type 0
-IsBrokenBy Rules (refusal.Broken broken) = Rules (Some broken)
-IsBrokenBy Rules refusal.NoMemory = Unit {0}
-
 -- a file that was read and then judged
 module _ (limit : ℕ) (Rules : List ℕ → Option Broken
     → Type 0) (name text : List ℕ) (held : Option Files) (r m : ℕ)
@@ -98,11 +94,11 @@ module _ (limit : ℕ) (Rules : List ℕ → Option Broken
   abbrev Rest : Files → Option Fault → Type 0
   Rest files = OfRule (Rules (bytes_of files name))
 
-  judged_end : (why : Refusal) → IsBrokenBy (Rules text) why → EndsBy Rest held m m (halt_of why)
+  judged_end : (why : Refusal) → IsRefusal (λ b. Rules text (Some b)) why → EndsBy Rest held m m (halt_of why)
   judged_end (refusal.Broken broken) is = (refl, of_content limit (λ t. Rules t (Some broken)) name text held is read)
   judged_end refusal.NoMemory is = refl
 
-  pub judged_err : (why : Refusal) → IsBrokenBy (Rules text) why
+  pub judged_err : (why : Refusal) → IsRefusal (λ b. Rules text (Some b)) why
       → EndsBy (λ files. OfFile limit Rules name (get files name)) held r m (halt_of why)
   judged_err why is = ends_second Length Rest held r m m (halt_of why) fits.0 fits.1 (judged_end why is)
 

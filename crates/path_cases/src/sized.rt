@@ -3,6 +3,7 @@
 ghost use Rattle.std.specs.Prelude.{◌≤◌};
 ghost use Rattle.rtl_form.specs.Cost.{cost};
 ghost use Rattle.rtl_form.specs.Sound.{IsSound};
+ghost use Rattle.mp_base.specs.declared.limits.TheConstants.{WEIGHT_LIMIT};
 
 use crate::reading::checked_of;
 use mp_base::NoMemory;
@@ -24,7 +25,7 @@ fn show_sizes(rt: &HostRuntime, sizes: &Sizes) -> io::Result<()> {
 // The sizes of the path of transfers. How long it took to make it goes to the standard error.
 fn timed(rt: &HostRuntime, name: &str, rtl: &Rtl) -> io::Result<Result<Sizes, NoMemory>>
     requires sound { IsSound rtl.now }
-    requires light { cost rtl.now ≤ 1024 }
+    requires light { cost rtl.now ≤ WEIGHT_LIMIT }
 {
     let start = Instant::now(rt)?;
     let sizes = sizes_of(rt.alloc(), rtl);

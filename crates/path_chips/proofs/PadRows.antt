@@ -10,7 +10,7 @@ use Rattle.std.proofs.lemmas.Option.{none-some, same_Some, slice_get_within}
 use Rattle.mp_base.specs.declared.pad.Pad.{Pad}
 use Rattle.mp_base.proofs.Entries.{map_get, contains_from_get, all_from}
 use Rattle.mp_base.proofs.Ranges.{get_range}
-use Rattle.switch_net.specs.Pads.{bit_count}
+use Rattle.mp_base.specs.PadBits.{bit_count}
 use Rattle.nor_net.specs.declared.net.NetId.{NetId}
 use Rattle.nor_net.specs.Elements.{Spot, Given, spot}
 use Rattle.path_form.specs.declared.path.DataPath.{DataPath}

@@ -10,6 +10,7 @@ use Rattle.rtl_form.specs.declared.rtl.CellKind.TheVariants.{Input, Output, Inne
 use Rattle.rtl_form.specs.declared.rtl.Rtl.{Rtl}
 use Rattle.rtl_form.specs.Cost.{cell_cost, cost}
 use Rattle.mp_base.specs.Entries.{IsAt}
+use Rattle.mp_base.proofs.Entries.{value, within}
 use Rattle.rtl_form.specs.Sound.{IsSound}
 
 -- the number of the input pad of a cell, and of its output pad
@@ -55,12 +56,13 @@ numbers_counted : {X : Type 0} (number : X → Option ℕ) (xs : List X) (n : �
 numbers_counted number xs zero all = omega arith
 numbers_counted number xs (suc n) all =
     let i = numbers_counted number xs n (λ k l. all k (omega (arith, l))) in
-    let at = all n (omega arith) in
-    let here : 1 ≤ is n (number (get_or xs at.0 at.1)) =
-    (let e = is_one n (number (get_or xs at.0 at.1)) (ap number (sym at.2.1) ∙ at.3) in omega (arith, e)) in
+    let (place, x, at, numbered) = all n (omega arith) in
+    let here : 1 ≤ is n (number (get_or xs place x)) =
+    (let e = is_one n (number (get_or xs place x)) (ap number (sym (value xs place at)) ∙ numbered) in
+    omega (arith, e)) in
     let s = sum_both (λ x. below (suc n) (number x)) (λ x. below n (number x)) (λ x. is n (number x))
     (λ x. below_more n (number x)) xs in
-    let m = get_or-le-sum_by (λ x. is n (number x)) xs at.0 at.1 at.2.0 in
+    let m = get_or-le-sum_by (λ x. is n (number x)) xs place x (within xs place at) in
     omega (arith, i, here, s, m)
 
 -- a cell of a pad costs at least its pad
@@ -75,11 +77,9 @@ pub pads_cost : (r : Rtl) → IsSound r → length (r.pads).inputs + length (r.p
 pads_cost r sound =
     let ins = length (r.pads).inputs in let outs = length (r.pads).outputs in
     let i = numbers_counted (λ (x : cells.Cell). input_of x.kind) r.cells ins (λ k l.
-    let only = sound.input_cells k l in
-    (only.0, only.1.0, only.1.1, ap input_of only.1.2)) in
+    let (c, (x, at, kind), only) = sound.input_cells k l in (c, x, at, ap input_of kind)) in
     let o = numbers_counted (λ (x : cells.Cell). output_of x.kind) r.cells outs (λ k l.
-    let only = sound.output_cells k l in
-    (only.0, only.1.0, only.1.1, ap output_of only.1.2)) in
+    let (c, (x, at, kind), only) = sound.output_cells k l in (c, x, at, ap output_of kind)) in
     let s = sum_both
     (λ (x : cells.Cell). below ins (input_of x.kind) + below outs (output_of x.kind))
     (λ (x : cells.Cell). below ins (input_of x.kind)) (λ (x : cells.Cell). below outs (output_of x.kind))

@@ -1,5 +1,6 @@
 -- Paths whose chips are planned, and their fabrics.
 use Rattle.std.specs.Prelude.{◌≡◌, ◌≤◌, ℕ, List, ◌∷◌, replicate}
+use Rattle.mp_base.specs.declared.limits.TheConstants.{WEIGHT_LIMIT}
 use Rattle.switch_net.specs.declared.network.Network.{Network}
 use Rattle.switch_net.specs.Pads.{chip_labels}
 use Rattle.drawing.specs.Draws.{Point}
@@ -31,7 +32,7 @@ pub record AreLaid (p : DataPath) (f : Plan) (groups : List Tracks) : Type 0 whe
 -- a path within a cost whose chip can be written
 pub record IsLight (p : DataPath) : Type 0 where
   pub cost : ℕ
-  pub light : cost ≤ 1024
+  pub light : cost ≤ WEIGHT_LIMIT
   pub within : IsWithin cost p
   pub narrow : IsNarrow cost p
 

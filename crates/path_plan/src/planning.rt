@@ -7,6 +7,7 @@ ghost use Rattle.cif_emit.specs.Emittable.{IsEmittable, chip_rects};
 ghost use Rattle.compile_laws.specs.Laws.{IsBounded, IsSmallPlan};
 ghost use Rattle.path_plan.specs.Paths.{AreLaid, IsPathFor};
 ghost use Rattle.path_plan.specs.Plans.{IsMeasured};
+ghost use Rattle.mp_base.specs.declared.limits.TheConstants.{WEIGHT_LIMIT};
 
 use crate::chips::chip_of;
 use crate::laws::labels_are_few;
@@ -63,7 +64,7 @@ pub fn planned_of(
     groups: List<Tracks>,
 ) -> Result<Planned, NoMemory>
     requires sound { IsSound rtl.now }
-    requires light { cost rtl.now ≤ 1024 }
+    requires light { cost rtl.now ≤ WEIGHT_LIMIT }
     requires path { IsPathFor rtl.now path.now }
     requires laid { AreLaid path.now fabric groups }
     ensures planned { IfOk result (λ planned. IsSmallPlan rtl.now (chip_rects planned.chip) planned.chip.labels) }

@@ -4,6 +4,7 @@ ghost use Rattle.std.specs.Prelude.{◌≤◌, ◌+◌, ◌*◌, IfOk};
 ghost use Rattle.rtl_form.specs.Cost.{cost};
 ghost use Rattle.rtl_form.specs.Sound.{IsSound};
 ghost use Rattle.path_form.specs.Sizes.{IsWithin};
+ghost use Rattle.mp_base.specs.declared.limits.TheConstants.{WEIGHT_LIMIT};
 
 use crate::cost::cost_of;
 use datapath_alloc::allocate;
@@ -29,7 +30,7 @@ pub struct Sizes {
 // A path that is no larger than its transfers' cost lets it be.
 fn path_within(alloc: Global, rtl: &Rtl) -> Result<DataPath, NoMemory>
     requires sound { IsSound rtl.now }
-    requires light { cost rtl.now ≤ 1024 }
+    requires light { cost rtl.now ≤ WEIGHT_LIMIT }
     ensures { IfOk result (IsWithin (cost rtl.now)) }
 {
     allocate(alloc, rtl)
@@ -48,7 +49,7 @@ fn flat_size(alloc: Global, path: &DataPath) -> Result<u32, NoMemory> {
 /// `NoMemory`.
 pub fn sizes_of(alloc: Global, rtl: &Rtl) -> Result<Sizes, NoMemory>
     requires sound { IsSound rtl.now }
-    requires light { cost rtl.now ≤ 1024 }
+    requires light { cost rtl.now ≤ WEIGHT_LIMIT }
     ensures control { IfOk result (λ sizes. sizes.control ≤ 2 * cost rtl.now) }
     ensures slice { IfOk result (λ sizes. sizes.slice ≤ cost rtl.now) }
     ensures joints { IfOk result (λ sizes. sizes.chains + sizes.casts + sizes.lifts ≤ cost rtl.now) }

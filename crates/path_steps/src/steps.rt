@@ -5,6 +5,7 @@ ghost use Rattle.rtl_form.specs.Cost.{cost};
 ghost use Rattle.rtl_form.specs.Sound.{IsSound};
 ghost use Rattle.path_form.specs.Flat.{FlatShowsTransfers};
 ghost use Rattle.path_form.specs.Showing.{ShowsTransfers};
+ghost use Rattle.mp_base.specs.declared.limits.TheConstants.{WEIGHT_LIMIT};
 
 use datapath_alloc::allocate;
 use mp_base::NoMemory;
@@ -24,7 +25,7 @@ use std::alloc::Global;
 /// `NoMemory`.
 pub fn transfers_of(alloc: Global, checked: &Checked) -> Result<Rtl, NoMemory>
     ensures sound { IfOk result IsSound }
-    ensures light { IfOk result (λ rtl. cost rtl ≤ 1024) }
+    ensures light { IfOk result (λ rtl. cost rtl ≤ WEIGHT_LIMIT) }
 {
     let _light = weight(checked);
     let rtl = sequence(alloc, checked)?;
@@ -34,7 +35,7 @@ pub fn transfers_of(alloc: Global, checked: &Checked) -> Result<Rtl, NoMemory>
 // A path that shows transfers.
 fn path_of(alloc: Global, rtl: &Rtl) -> Result<DataPath, NoMemory>
     requires sound { IsSound rtl.now }
-    requires light { cost rtl.now ≤ 1024 }
+    requires light { cost rtl.now ≤ WEIGHT_LIMIT }
     ensures pads { IfOk result (λ path. path.pads ≡ rtl.now.pads) }
     ensures shown { IfOk result (ShowsTransfers rtl.now) }
 {
@@ -51,7 +52,7 @@ fn path_of(alloc: Global, rtl: &Rtl) -> Result<DataPath, NoMemory>
 /// `NoMemory`.
 pub fn flat_of(alloc: Global, rtl: &Rtl) -> Result<Flattened, NoMemory>
     requires sound { IsSound rtl.now }
-    requires light { cost rtl.now ≤ 1024 }
+    requires light { cost rtl.now ≤ WEIGHT_LIMIT }
     ensures { IfOk result (FlatShowsTransfers rtl.now) }
 {
     flat_nets_follow();

@@ -7,7 +7,7 @@ use Rattle.std.proofs.lemmas.Bool.{eqb-true, false≢true, true≢false}
 use Rattle.mp_base.specs.declared.value.Trit.{Trit}
 use Rattle.mp_base.specs.declared.op.Op.{Op}
 use Rattle.mp_base.specs.declared.op.Op.TheVariants as ops
-use Rattle.mp_base.specs.Apply.{apply}
+use Rattle.mp_base.specs.Apply.{apply, takes}
 use Rattle.nor_net.specs.declared.net.NetId.{NetId}
 use Rattle.nor_net.specs.Elements.{Spot, spot}
 use Rattle.nor_net.specs.Machine.{Solves}
@@ -15,7 +15,7 @@ use Rattle.nor_net.specs.Laws.{bit}
 use Rattle.rtl_form.specs.declared.rtl.RtlExpr.TheVariants.{Number, Apply}
 use Rattle.rtl_form.specs.declared.rtl.Rtl.{Rtl}
 use Rattle.mp_base.specs.Entries.{IsAt}
-use Rattle.rtl_form.specs.Operands.{takes, takes_words, gives_word}
+use Rattle.rtl_form.specs.Operands.{takes_words, gives_word}
 use Rattle.rtl_form.specs.Sound.{IsSound, HasSort}
 use Rattle.rtl_form.specs.Values.{value_of}
 use Rattle.organelles.specs.declared.slices.Organelle.{Organelle}

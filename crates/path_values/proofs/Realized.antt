@@ -4,7 +4,7 @@ use Rattle.std.proofs.Common.{Bool, true, false, cond, length, map, replicate, r
 use Rattle.std.specs.Prelude.{Contains, IsSome, ◌==◌, not, if◌then◌else◌, slice_get, slice_index, unwrap_or}
 use Rattle.std.specs.Int.{bit_at}
 use Rattle.std.proofs.lemmas.Bool.{false≢true, true≢false, lt-ltb, eqb-true, eq-eqb}
-use Rattle.std.proofs.lemmas.Option.{none-some, same_Some, slice_get_within, get_or_from_slice_get}
+use Rattle.std.proofs.lemmas.Option.{none-some, same_Some, slice_get_within}
 use Rattle.mp_base.specs.declared.value.Trit.{Trit}
 use Rattle.mp_base.specs.declared.value.Trit.TheVariants.{Zero, One}
 use Rattle.mp_base.specs.declared.pad.Pad.{Pad}
@@ -31,8 +31,7 @@ use Rattle.control_nor.specs.Lowering.{Stands, next_bit, BitsFit}
 use Rattle.path_form.specs.declared.path.DataPath.{DataPath}
 use Rattle.organelles.specs.declared.slices.Programmed.{Programmed}
 use Rattle.std.specs.Option.{option_or}
-use Rattle.mp_base.proofs.Entries.{some_entry}
-use Rattle.mp_base.proofs.ListEntries.{get_at as got}
+use Rattle.mp_base.proofs.Entries.{one_entry, some_entry, within, zeros_at}
 use Rattle.std.proofs.lemmas.Map.Keys.{any_passes_from_place}
 use Rattle.organelles.specs.Slices.{first_some, program_element}
 use Rattle.control_nor.proofs.Written.{digit_of}
@@ -47,12 +46,6 @@ use Rattle.path_values.specs.Allocated.{IsAllocated, IsTame, Known, KnownCells, 
 use Rattle.path_values.specs.Allocated.{cell_bits}
 use Rattle.path_values.proofs.Knowing.{all_known, gives_bits}
 use Rattle.path_values.proofs.Writing as writing
-
--- ---- lists
-
--- an entry in either spelling
-same_entry : {Y : Type 0} (xs : List Y) (k : ℕ) (x y : Y) → IsAt xs k x → slice_get xs k ≡ Some y → x ≡ y
-same_entry xs k x y at e = at.1 ∙ get_or_from_slice_get xs k y x e
 
 -- ---- the next state
 
@@ -88,16 +81,11 @@ module _ (r : Rtl) (state inputs env : List ℕ) where
           (Rattle.std.specs.Prelude.option_and_then (slice_get r.cells) o) false) res
           ∙ ap (λ o. Rattle.std.specs.Option.option_map_or
           (λ (x : cells.Cell). slice_index inputs (Rattle.rtl_form.specs.Step.input_number x.kind) == 1) o false)
-          (got r.cells reset is_reset.0 is_reset.3)
+          (is_reset.3)
           ∙ ap (λ k. slice_index inputs (Rattle.rtl_form.specs.Step.input_number k) == 1) is_reset.4
           ∙ ap (λ n. n == 1) (sym (is_env.values reset is_reset.0 is_reset.3
           ∙ ap (λ kind. Rattle.rtl_form.specs.Environment.kind_value kind inputs (slice_index state reset)
           (Rattle.rtl_form.specs.Environment.driven_value r env reset)) is_reset.4))
-
-      zero_at : (n i : ℕ) → slice_index (replicate n 0) i ≡ 0
-      zero_at zero i = refl
-      zero_at (suc n) zero = refl
-      zero_at (suc n) (suc i) = zero_at n i
 
       old : slice_index state c ≡ slice_index env c
       old = sym (is_env.values c x at ∙ ap (λ kind. Rattle.rtl_form.specs.Environment.kind_value kind inputs
@@ -105,15 +93,15 @@ module _ (r : Rtl) (state inputs env : List ℕ) where
 
       by_reset : (b : Bool) → slice_index (cond b (zero_state r) (next_cells r state env 0 r.cells)) c
           ≡ (if b then 0 else unwrap_or (merged (written (value_of r env) c r.transfers)) (slice_index env c))
-      by_reset true = zero_at (length r.cells) c
+      by_reset true = zeros_at (length r.cells) c
       by_reset false =
           let num : 0 + c ≡ c = omega arith in
-          next_at r.cells 0 c x (got r.cells c x at) is ∙ ap (next_stored r state env) num
+          next_at r.cells 0 c x at is ∙ ap (next_stored r state env) num
           ∙ ap (unwrap_or (merged (written (value_of r env) c r.transfers))) old
 
 module _ (r : Rtl) (p : DataPath) (sound : IsSound r) (tame : IsTame r) (a : IsAllocated r p) where
   stores_true : (c : ℕ) (x : cells.Cell) → IsAt r.cells c x → x.kind ≡ kinds.Stored → stores r ≡ true
-  stores_true c x at is = any_passes_from_place (λ (x : cells.Cell). is_stored x.kind) r.cells c x (got r.cells c x at)
+  stores_true c x at is = any_passes_from_place (λ (x : cells.Cell). is_stored x.kind) r.cells c x at
       (ap is_stored is)
 
   some_reset : (o : Option ℕ) → r.reset ≡ o → IsSome o → (reset : ℕ) × (r.reset ≡ Some reset)
@@ -133,7 +121,7 @@ module _ (r : Rtl) (p : DataPath) (sound : IsSound r) (tame : IsTame r) (a : IsA
       → (pad : NetId) × (slice_get p.inputs i ≡ Some pad)
   pad_of c i x at is =
       let f = cell_pad c i x at is in
-      let l = f.1.0 in
+      let l = within (r.pads).inputs i f.1 in
       let n : length p.inputs ≡ length (r.pads).inputs = p.whole.entries_fit.0.0
       ∙ ap (λ (q : Pads). length q.inputs) a.pads in
       some_entry p.inputs i (omega (arith, l, n))
@@ -150,7 +138,7 @@ module _ (r : Rtl) (p : DataPath) (sound : IsSound r) (tame : IsTame r) (a : IsA
   bit_input inputs fit c i x at is word =
       let f = cell_pad c i x at is in
       subst (λ n. slice_index inputs i < 2 ^ n) (narrow f.0 x.word f.2 word)
-      (fit i f.0 (got (r.pads).inputs i f.0 f.1))
+      (fit i f.0 f.1)
 
   -- ---- what one solution shows
   module _ (state inputs env outputs : List ℕ) (low : StateFits r state) (fit : FitPads (r.pads).inputs inputs)
@@ -170,16 +158,13 @@ module _ (r : Rtl) (p : DataPath) (sound : IsSound r) (tame : IsTame r) (a : IsA
         let c = only.0 in
         let x = only.1.0 in
         let f : IsCellOf (r.pads).outputs i x.word = subst (CellFits r x) only.1.2 (sound.cells c x only.1.1) in
-        let same : f.0 ≡ pad = same_entry (r.pads).outputs i f.0 pad f.1 is_pad in
+        let same : f.0 ≡ pad = one_entry (r.pads).outputs i f.0 pad f.1 is_pad in
         let word : only.1.0.word ≡ not (pad.width == 0) = f.2 ∙ ap (λ (q : Pad). not (q.width == 0)) same in
         let value : slice_index outputs i ≡ slice_index env only.0 = shown.each only.0 only.1.0 i only.1.1 only.1.2 in
-        let cell = known.cells only.0 only.1.1.0 in
+        let cell = known.cells only.0 (within r.cells only.0 only.1.1) in
         by_width only.0 only.1.0 only.1.1 (a.shown only.0 i only.1.0 id only.1.1 only.1.2 is_id) cell value
         (pad.width == 0) refl word
-        (λ e. sound.outputs i pad (
-          Rattle.std.proofs.lemmas.Option.slice_get_within (r.pads).outputs i pad is_pad,
-          sym (get_or_from_slice_get (r.pads).outputs i pad pad is_pad),
-        ))
+        (λ e. sound.outputs i pad is_pad)
       where
         by_width : (c : ℕ) (x : cells.Cell) → IsAt r.cells c x
             → (x.word ≡ true → Stands a.cell_words c id) × (x.word ≡ false → Stands a.names.cells c id)
@@ -217,8 +202,10 @@ module _ (r : Rtl) (p : DataPath) (sound : IsSound r) (tame : IsTame r) (a : IsA
       where
         fetched : (t : Rattle.rtl_form.specs.declared.rtl.Transfer.Transfer) → Contains r.transfers t → t.target ≡ c
             → Known r p a v env t.guard × Known r p a v env t.value
-        fetched t has to = let f = sound.transfers t has in
-            (known.exprs t.guard f.0.1.0, known.exprs t.value f.1.2.1.0)
+        fetched t has to = let f = sound.transfers t has in (
+          known.exprs t.guard (within r.exprs t.guard f.0.1),
+          known.exprs t.value (within r.exprs t.value f.1.2.1),
+        )
 
         by_word : (x : cells.Cell) → IsAt r.cells c x → x.kind ≡ kinds.Stored → k < cell_bits r x → (w : Bool)
             → x.word ≡ w → v b.source ≡ bit (bits_of (next_state r state inputs env) c k)
@@ -240,7 +227,7 @@ module _ (r : Rtl) (p : DataPath) (sound : IsSound r) (tame : IsTame r) (a : IsA
             let is_reset : Rattle.rtl_form.specs.Sound.IsReset r reset.0 = subst
             (λ o. Rattle.std.specs.Prelude.IfSome o (Rattle.rtl_form.specs.Sound.IsReset r)) reset.1 sound.reset
             in
-            let clear = (known.cells reset.0 is_reset.3.0).1 h.clear.control h.is_clear.1 in
+            let clear = (known.cells reset.0 (within r.cells reset.0 is_reset.3)).1 h.clear.control h.is_clear.1 in
             ap (λ (s : Store). v s.source) same ∙ writing.stored_word r p a v solves env k n c fetched reset.0 on.0 h
             held clear
             ∙ ap (λ m. bit (digit m k)) (sym (next_value r state inputs env is_env sound c reset.0 x at kind reset.1))
@@ -257,8 +244,9 @@ module _ (r : Rtl) (p : DataPath) (sound : IsSound r) (tame : IsTame r) (a : IsA
             let values = tame.values state inputs env low fit is_env in
             let bits = tame.bits state inputs env low fit is_env in
             let g = gives_bits r sound p a v solves state inputs env is_env values bits holds given in
-            let got = g.next c reset.0 on.0 h on.1 reset.1 (known.cells c at.0).1
-            (known.cells reset.0 is_reset.3.0).1 (λ t has to. ((fetched t has to).0.1, (fetched t has to).1.1)) in
+            let got = g.next c reset.0 on.0 h on.1 reset.1 (known.cells c (within r.cells c at)).1
+            (known.cells reset.0 (within r.cells reset.0 is_reset.3)).1
+            (λ t has to. ((fetched t has to).0.1, (fetched t has to).1.1)) in
             let is_next = next_value r state inputs env is_env sound c reset.0 x at kind reset.1 in
             let small : slice_index (next_state r state inputs env) c < 2 = subst
             (λ w. slice_index (next_state r state inputs env) c < 2 ^ cond w r.width 1) word (next_fits c x at) in
@@ -417,8 +405,7 @@ module _ (r : Rtl) (p : DataPath) (sound : IsSound r) (tame : IsTame r) (a : IsA
       × ((pad.width ≡ r.width) ⊎ (pad.width ≡ 0))
   pad_at c i x at is =
       let f = cell_pad r p sound tame a c i x at is in
-      let g = got (r.pads).inputs i f.0 f.1 in
-      (f.0, g, ap (λ (q : Pads). slice_get q.inputs i) a.pads ∙ g, f.2, sound.inputs i f.0 f.1)
+      (f.0, f.1, ap (λ (q : Pads). slice_get q.inputs i) a.pads ∙ f.1, f.2, sound.inputs i f.0 f.1)
 
   -- an input bit is that of a word or that of a bit
   by_port : (Q : ℕ → ℕ → Port → Type 0)
@@ -454,11 +441,7 @@ module _ (r : Rtl) (p : DataPath) (sound : IsSound r) (tame : IsTame r) (a : IsA
       → Rattle.control_nor.specs.Lowering.InputBit p.control id pad
   bit_pad c i x id pad at is on is_pad word =
       let q = pad_at c i x at is in
-      let named = (a.lowered.pad_names i q.0 (
-        slice_get_within (r.pads).inputs i q.0 q.1,
-        sym (get_or_from_slice_get (r.pads).inputs i q.0 q.0 q.1),
-      )).0
-      (eqb-true q.0.width 0 (turn (q.0.width == 0) (sym q.3 ∙ word))) in
+      let named = (a.lowered.pad_names i q.0 q.1).0 (eqb-true q.0.width 0 (turn (q.0.width == 0) (sym q.3 ∙ word))) in
       let same : named.0 ≡ pad = same_Some named.0 pad (sym (a.bit_ports i named.0 named.1) ∙ is_pad) in
       subst (Rattle.control_nor.specs.Lowering.InputBit p.control id) same
       (a.lowered.ports c i x id named.0 at is on named.1)
@@ -539,13 +522,8 @@ module _ (r : Rtl) (p : DataPath) (sound : IsSound r) (tame : IsTame r) (a : IsA
 
   -- ---- reset
 
-  zero_at : (n i : ℕ) → slice_index (replicate n 0) i ≡ 0
-  zero_at zero i = refl
-  zero_at (suc n) zero = refl
-  zero_at (suc n) (suc i) = zero_at n i
-
   zero_bits : BitsFit r (zero_state r)
-  zero_bits c x at word = let z = zero_at (length r.cells) c in omega (arith, z)
+  zero_bits c x at word = let z = zeros_at (length r.cells) c in omega (arith, z)
 
   zero_size : (n : ℕ) → length {A = ℕ} (replicate n 0) ≡ n
   zero_size zero = refl
@@ -590,7 +568,7 @@ module _ (r : Rtl) (p : DataPath) (sound : IsSound r) (tame : IsTame r) (a : IsA
       let x = is_reset.0 in
       let i = is_reset.1 in
       let q = pad_at o.0 is_reset.1 is_reset.0 is_reset.3 is_reset.4 in
-      let same : q.0 ≡ is_reset.2 = sym (same_entry (r.pads).inputs is_reset.1 is_reset.2 q.0 is_reset.5 q.1) in
+      let same : q.0 ≡ is_reset.2 = one_entry (r.pads).inputs is_reset.1 q.0 is_reset.2 q.1 is_reset.5 in
       let word : is_reset.0.word ≡ false = q.3 ∙ ap not (eq-eqb q.0.width 0
       (ap (λ (y : Pad). y.width) same ∙ is_reset.6)) in
       let on = (a.lowered.cell_names o.0 is_reset.0 is_reset.3).0 word in
@@ -601,7 +579,7 @@ module _ (r : Rtl) (p : DataPath) (sound : IsSound r) (tame : IsTame r) (a : IsA
       (Rattle.std.specs.Prelude.option_and_then (slice_get r.cells) o) false) o.1
       ∙ ap (λ w. Rattle.std.specs.Option.option_map_or (λ (x : cells.Cell).
       slice_index inputs (Rattle.rtl_form.specs.Step.input_number x.kind) == 1) w false)
-      (got r.cells o.0 is_reset.0 is_reset.3)
+      (is_reset.3)
       ∙ ap (λ k. slice_index inputs (Rattle.rtl_form.specs.Step.input_number k) == 1) is_reset.4) ∙ t in
       let is_one : slice_index inputs is_reset.1 ≡ 1 = eqb-true (slice_index inputs is_reset.1) 1 number in (
         port_at 0 on.0 pad.0,

@@ -11,11 +11,10 @@ use Rattle.path_form.specs.Showing.{FitPads}
 use Rattle.path_values.specs.Realizing.{StateFits}
 use Rattle.path_values.specs.Allocated.{IsTame, AllocatedRealizes}
 use Rattle.path_values.proofs.Realized.{realizes}
-use Rattle.mp_base.proofs.ListEntries.{get_at}
 
 module _ (r : Rtl) (sound : IsSound r) where
   inputs_fit : (inputs : List ℕ) → FitPads (r.pads).inputs inputs → InputsFit r inputs
-  inputs_fit inputs fit k pad at = fit k pad (get_at (r.pads).inputs k pad at)
+  inputs_fit inputs fit k pad at = fit k pad at
 
   fits : (state inputs env : List ℕ) → StateFits r state → FitPads (r.pads).inputs inputs
       → IsEnvironment r state inputs env → AllFit r state inputs env

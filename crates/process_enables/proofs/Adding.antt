@@ -3,7 +3,6 @@ use Rattle.std.proofs.Common.{
   ◌≡◌,
   inl,
   inr,
-  ◌∙◌,
   ℕ,
   ◌+◌,
   ◌<◌,
@@ -19,12 +18,12 @@ use Rattle.std.proofs.Common.{
   arith,
   length,
 }
-use Rattle.std.proofs.lemmas.List.{get_or_append_left, length-append}
+use Rattle.std.proofs.lemmas.List.{length-append}
 use Rattle.std.proofs.lemmas.List.Sums.{sum_by-cons, sum_by-append}
 use Rattle.mp_base.specs.declared.op.Op.TheVariants.{And, Not}
 use Rattle.mp_base.proofs.Contents.{only_one}
 use Rattle.mp_base.specs.Entries.{IsAt}
-use Rattle.mp_base.proofs.ListEntries.{at_pushed, at_push_cases}
+use Rattle.mp_base.proofs.Entries.{get_middle, get_kept, push_cases, within}
 use Rattle.rtl_form.specs.declared.rtl.Cell.{Cell}
 use Rattle.rtl_form.specs.declared.rtl.RtlExpr.{RtlExpr}
 use Rattle.rtl_form.specs.declared.rtl.RtlExpr.TheVariants.{Apply}
@@ -38,17 +37,13 @@ use Rattle.process_layout.proofs.Keeping.{keeps_same, keeps_more}
 use Rattle.process_enables.specs.Adding.{IsPut}
 use Rattle.process_enables.specs.Forms.{Narrows}
 
-pub append_keeps : {X : Type 0} (xs more : List X) → Keeps xs (xs ++ more)
-append_keeps xs more = λ k x (lt, is). let size = length-append xs more in
-    (omega (arith, lt, size), is ∙ sym (get_or_append_left xs more x k lt))
-
 module _ (old : List RtlExpr) (x : RtlExpr) (new : List RtlExpr) (i : ℕ) (put : IsPut old x new i) where
   pub put_at : IsAt new i x
-  put_at = subst (λ xs. IsAt xs i x) (sym put.added) (subst (λ n. IsAt (old ++ x ∷ []) n x) (sym put.index) (at_pushed
-      old x))
+  put_at = subst (λ xs. IsAt xs i x) (sym put.added)
+      (subst (λ n. IsAt (old ++ x ∷ []) n x) (sym put.index) (get_middle old x []))
 
   pub put_keeps : Keeps old new
-  put_keeps = subst (λ ys. Keeps old ys) (sym put.added) (append_keeps old (x ∷ []))
+  put_keeps = subst (λ ys. Keeps old ys) (sym put.added) (get_kept old (x ∷ []))
 
   pub put_cost : exprs_cost new ≡ exprs_cost old + expr_cost x
   put_cost =
@@ -65,12 +60,12 @@ module _ (old : List RtlExpr) (x : RtlExpr) (new : List RtlExpr) (i : ℕ) (put 
 
   -- what fits where it is added keeps all fit
   pub put_fits : (w : ℕ) (xs : List Cell) → ExprFitsIn w xs old (length old) x → ExprsFit w xs old → ExprsFit w xs new
-  put_fits w xs fit all = subst (λ ys. ExprsFit w xs ys) (sym put.added) (λ e y at. elim (at_push_cases old x e y at) as
+  put_fits w xs fit all = subst (λ ys. ExprsFit w xs ys) (sym put.added) (λ e y at. elim (push_cases old x e y at) as
       (λ _. ExprFitsIn w xs (old ++ x ∷ []) e y) [
-        | inl before ↦ fits_kept w xs xs old (old ++ x ∷ []) e y (keeps_same xs) (append_keeps old (x ∷ [])) (all e y
+        | inl (lt, before) ↦ fits_kept w xs xs old (old ++ x ∷ []) e y (keeps_same xs) (get_kept old (x ∷ [])) (all e y
             before)
-        | inr (here, is) ↦ fits_kept w xs xs old (old ++ x ∷ []) e y (keeps_same xs) (append_keeps old (x ∷ []))
-            (subst (λ z. ExprFitsIn w xs old e z) (sym is) (subst (λ n. ExprFitsIn w xs old n x) (sym here) fit))
+        | inr (here, is) ↦ fits_kept w xs xs old (old ++ x ∷ []) e y (keeps_same xs) (get_kept old (x ∷ []))
+            (subst (λ z. ExprFitsIn w xs old e z) is (subst (λ n. ExprFitsIn w xs old n x) (sym here) fit))
       ])
 
 -- what fits is kept where expressions are added
@@ -86,9 +81,10 @@ and_fits w xs exprs a b (x, at_a, is_a) (y, at_b, is_b) = (
   tt,
   λ e c. elim (cases_of e a (b ∷ []) c) as
       (λ _. (e < length exprs) × HasSortIn xs exprs e false) [
-        | inl is ↦ subst (λ n. (n < length exprs) × HasSortIn xs exprs n false) is (at_a.0, (x, at_a, is_a))
+        | inl is ↦ subst (λ n. (n < length exprs) × HasSortIn xs exprs n false) is
+            (within exprs a at_a, (x, at_a, is_a))
         | inr later ↦ subst (λ n. (n < length exprs) × HasSortIn xs exprs n false) (only_one b e later)
-            (at_b.0, (y, at_b, is_b))
+            (within exprs b at_b, (y, at_b, is_b))
       ],
 )
 
@@ -98,7 +94,8 @@ not_fits w xs exprs a (x, at_a, is_a) = (
   refl,
   tt,
   λ e c.
-      subst (λ n. (n < length exprs) × HasSortIn xs exprs n false) (only_one a e c) (at_a.0, (x, at_a, is_a)),
+      subst (λ n. (n < length exprs) × HasSortIn xs exprs n false) (only_one a e c)
+      (within exprs a at_a, (x, at_a, is_a)),
 )
 
 -- the negation of a guard, and then what is 1 where another expression is too

@@ -1,7 +1,6 @@
 -- Enables that are given one after another.
 use Rattle.std.proofs.Common.{
   ◌≡◌,
-  ◌≢◌,
   ◌⊎◌,
   inl,
   inr,
@@ -23,7 +22,9 @@ use Rattle.std.proofs.Common.{
 }
 use Rattle.std.specs.Prelude.{Contains, slice_set, slice_index_or}
 use Rattle.std.proofs.lemmas.Bool.{cases_eq}
-use Rattle.std.proofs.lemmas.List.{get_or-set_same, get_or-set_other, length-set, get_or_default}
+use Rattle.std.proofs.lemmas.List.{length-set, get_or_default}
+use Rattle.std.proofs.lemmas.Option.{get_or_from_slice_get}
+use Rattle.mp_base.proofs.Entries.{get_set_same, get_set_other}
 use Rattle.process_plan.specs.declared.enable.Origin.{Origin}
 use Rattle.process_plan.specs.declared.enable.Enable.{Enable}
 use Rattle.process_plan.specs.Enables.{HasEnable}
@@ -36,28 +37,12 @@ same_enables enables = record { size = refl; kept = λ f o a h. h }
 pub more_enables : (a b c : List (Option Enable)) → KeepsEnables a b → KeepsEnables b c → KeepsEnables a c
 more_enables a b c h g = record { size = g.size ∙ h.size; kept = λ f o x y. g.kept f o x (h.kept f o x y) }
 
--- an entry that is set
-set_here : (xs : List (Option Enable)) (f : ℕ) (x : Enable) → f < length xs
-    → HasEnable (slice_set xs f (Some x)) f x.origin x.expr
-set_here xs f x lt = let e = length-set xs f (Some x) in
-    (omega (arith, lt, e), sym (get_or-set_same xs f (Some x) (Some x) lt))
-
-set_there : (xs : List (Option Enable)) (f g : ℕ) (x : Enable) (o : Origin) (a : ℕ) → g ≢ f → HasEnable xs g o a
-    → HasEnable (slice_set xs f (Some x)) g o a
-set_there xs f g x o a ne (lt, is) = let e = length-set xs f (Some x) in
-    (omega (arith, lt, e), is ∙ sym (get_or-set_other xs f g (Some x) (Some (record { origin = o; expr = a })) ne))
-
-there_set : (xs : List (Option Enable)) (f g : ℕ) (x : Enable) (o : Origin) (a : ℕ) → g ≢ f
-    → HasEnable (slice_set xs f (Some x)) g o a → HasEnable xs g o a
-there_set xs f g x o a ne (lt, is) = let e = length-set xs f (Some x) in
-    (omega (arith, lt, e), is ∙ get_or-set_other xs f g (Some x) (Some (record { origin = o; expr = a })) ne)
-
 -- where an entry is none, no form has an enable there
 pub none_there : (xs : List (Option Enable)) (f : ℕ) (x : Enable) (o : Origin) (a : ℕ)
     → slice_index_or xs f (Some x) ≡ None → HasEnable xs f o a → ⊥
-none_there xs f x o a none (lt, is) =
+none_there xs f x o a none at =
     let y : Enable = record { origin = o; expr = a } in
-    let e : Some y ≡ None = is ∙ get_or_default xs f (Some y) (Some x) lt ∙ none in
+    let e : Some y ≡ None = sym (get_or_from_slice_get xs f (Some y) (Some x) at) ∙ none in
     absurd (cc)
 
 -- a form that had none gets the enable x
@@ -74,16 +59,16 @@ sets_is old f x inside free = record {
     size = length-set old f (Some x);
     kept = λ g o a has. elim (cases_eq g f) [
       | inl e ↦ absurd (none_there old f x o a free (subst (λ n. HasEnable old n o a) e has))
-      | inr ne ↦ set_there old f g x o a ne has
+      | inr ne ↦ get_set_other old f (Some x) g ne ∙ has
     ];
   };
-  given = set_here old f x inside;
+  given = get_set_same old f (Some x) inside;
   added = λ g u a has. elim (cases_eq g f) [
     | inl e ↦
         let (same_u, same_a) = one_enable (slice_set old f (Some x)) f u x.origin a x.expr
-        (subst (λ n. HasEnable (slice_set old f (Some x)) n u a) e has) (set_here old f x inside) in
+        (subst (λ n. HasEnable (slice_set old f (Some x)) n u a) e has) (get_set_same old f (Some x) inside) in
         inr (e, same_u, same_a)
-    | inr ne ↦ inl (there_set old f g x u a ne has)
+    | inr ne ↦ inl (sym (get_set_other old f (Some x) g ne) ∙ has)
   ];
 }
 

@@ -31,6 +31,7 @@ use Rattle.std.proofs.Common.{
 use Rattle.std.specs.Prelude.{Contains, ◌&&◌}
 use Rattle.std.specs.List.{sum_by, flat_map}
 use Rattle.std.proofs.lemmas.List.Sums.{sum_by-cons, sum_by-append}
+use Rattle.std.proofs.lemmas.Option.{none-some, same_Some}
 use Rattle.mp_base.proofs.Contents.{contains_head, contains_behind}
 use Rattle.mp_base.proofs.Induction.{upward}
 use Rattle.mp_program.specs.declared.program.FormKind.{FormKind}
@@ -44,7 +45,7 @@ use Rattle.mp_program.specs.Weight as weight
 use Rattle.mp_base.specs.Entries.{IsAt}
 use Rattle.mp_rules.specs.Standing as standing
 use Rattle.mp_rules.specs.Standing.{Under}
-use Rattle.mp_base.proofs.ListEntries.{contains_from_at, one_entry}
+use Rattle.mp_base.proofs.Entries.{contains_from_get, one_entry}
 use Rattle.mp_rules.proofs.Sequences.{under_more}
 use Rattle.rtl_form.specs.declared.rtl.RtlExpr.{RtlExpr}
 use Rattle.process_plan.specs.declared.role.Role.{Role}
@@ -77,24 +78,21 @@ inner_at (y ∷ ys) zero = inner y.kind
 inner_at (y ∷ ys) (suc f) = inner_at ys f
 
 call_is : (ys : List Form) (f : ℕ) (y : Form) → IsAt ys f y → call_at ys f ≡ weight.is_call y.kind
-call_is [] f y (lt, is) = absurd (omega (arith, lt))
-call_is (z ∷ ys) zero y (lt, is) = ap (λ (t : Form). weight.is_call t.kind) (sym is)
-call_is (z ∷ ys) (suc f) y (lt, is) = call_is ys f y (omega (arith, lt), is)
+call_is [] f y at = absurd (none-some y at)
+call_is (z ∷ ys) zero y at = ap (λ (t : Form). weight.is_call t.kind) (same_Some z y at)
+call_is (z ∷ ys) (suc f) y at = call_is ys f y at
 
 inner_is : (ys : List Form) (f : ℕ) (y : Form) → IsAt ys f y → inner_at ys f ≡ inner y.kind
-inner_is [] f y (lt, is) = absurd (omega (arith, lt))
-inner_is (z ∷ ys) zero y (lt, is) = ap (λ (t : Form). inner t.kind) (sym is)
-inner_is (z ∷ ys) (suc f) y (lt, is) = inner_is ys f y (omega (arith, lt), is)
+inner_is [] f y at = absurd (none-some y at)
+inner_is (z ∷ ys) zero y at = ap (λ (t : Form). inner t.kind) (same_Some z y at)
+inner_is (z ∷ ys) (suc f) y at = inner_is ys f y at
 
 -- a form is there, or nothing is
 some_or_none : (ys : List Form) (f : ℕ)
     → ((y : Form) × IsAt ys f y) ⊎ ((call_at ys f ≡ 0) × (inner_at ys f ≡ []))
 some_or_none [] f = inr (refl, refl)
-some_or_none (y ∷ ys) zero = inl (y, (omega arith, refl))
-some_or_none (y ∷ ys) (suc f) = elim (some_or_none ys f) [
-  | inl (z, (lt, is)) ↦ inl (z, (omega (arith, lt), is))
-  | inr none ↦ inr none
-]
+some_or_none (y ∷ ys) zero = inl (y, refl)
+some_or_none (y ∷ ys) (suc f) = some_or_none ys f
 
 -- a form and the forms in it, down to a depth
 abbrev within : Program → ℕ → ℕ → List ℕ
@@ -170,14 +168,14 @@ counted : (v : ℕ → ℕ) (k at : ℕ) (ys : List Form) (es : List (Option Ena
     → count_of is_call k ys es ≤ sum_by v (owned k at es)
 counted v k at [] es same = omega arith
 counted v k at (y ∷ ys) [] same = omega arith
-counted v k at (y ∷ ys) (None ∷ es) same = counted v k (suc at) ys es (λ j z (lt, is).
-    let e : suc at + j ≡ at + suc j = omega arith in ap v e ∙ same (suc j) z (omega (arith, lt), is))
+counted v k at (y ∷ ys) (None ∷ es) same = counted v k (suc at) ys es (λ j z at_z.
+    let e : suc at + j ≡ at + suc j = omega arith in ap v e ∙ same (suc j) z at_z)
 counted v k at (y ∷ ys) (Some e ∷ es) same =
-    pick (is_of k e.origin) (counted v k (suc at) ys es (λ j z (lt, is).
-    let e : suc at + j ≡ at + suc j = omega arith in ap v e ∙ same (suc j) z (omega (arith, lt), is)))
+    pick (is_of k e.origin) (counted v k (suc at) ys es (λ j z at_z.
+    let e : suc at + j ≡ at + suc j = omega arith in ap v e ∙ same (suc j) z at_z))
   where
     first : v at ≡ weight.is_call y.kind
-    first = let e : at ≡ at + 0 = omega arith in ap v e ∙ same 0 y (omega arith, refl)
+    first = let e : at ≡ at + 0 = omega arith in ap v e ∙ same 0 y refl
 
     pick : (b : Bool) → count_of is_call k ys es ≤ sum_by v (owned k (suc at) es)
         → cond (b && is_call y.kind) 1 0 + count_of is_call k ys es
@@ -193,8 +191,7 @@ owned_has : (k at : ℕ) (es : List (Option Enable)) (f : ℕ) → Contains (own
     → (j : ℕ) × (f ≡ at + j) × ((i a : ℕ) × HasEnable es j (At k i) a)
 owned_has k at [] f (n, lt, is) = absurd (omega (arith, lt))
 owned_has k at (None ∷ es) f c =
-    let (j, e, (i, a, (lt, is))) = owned_has k (suc at) es f c in
-    (suc j, omega (arith, e), (i, a, (omega (arith, lt), is)))
+    let (j, e, own) = owned_has k (suc at) es f c in (suc j, omega (arith, e), own)
 owned_has k at (Some x ∷ es) f c = pick (is_of k x.origin) refl c (owned_has k (suc at) es f)
   where
     pick : (b : Bool) → is_of k x.origin ≡ b → Contains (cond b (at ∷ owned k (suc at) es) (owned k (suc at) es)) f
@@ -208,25 +205,16 @@ owned_has k at (Some x ∷ es) f c = pick (is_of k x.origin) refl c (owned_has k
           (
             i,
             x.expr,
-            (
-              omega arith,
-              ap (λ (u : Origin). Some (record {
-                origin = u;
-                expr =
-                    x.expr;
-              })) (sym from),
-            ),
+            ap (λ (u : Origin). Some (Some (record { origin = u; expr = x.expr }))) from,
           ),
         )
     pick true e (suc n, lt, is) rest =
-        let (j, same, (i, a, (inside, at_j))) = rest (n, omega (arith, lt), is) in
-        (suc j, omega (arith, same), (i, a, (omega (arith, inside), at_j)))
+        let (j, same, own) = rest (n, omega (arith, lt), is) in (suc j, omega (arith, same), own)
     pick false e c rest =
-        let (j, same, (i, a, (inside, at_j))) = rest c in
-        (suc j, omega (arith, same), (i, a, (omega (arith, inside), at_j)))
+        let (j, same, own) = rest c in (suc j, omega (arith, same), own)
 
 owned_once : (k at : ℕ) (es : List (Option Enable)) → AreOnce (owned k at es)
-owned_once k at [] j i f (lt, is) at_i = absurd (omega (arith, lt))
+owned_once k at [] j i f at_j at_i = absurd (none-some f at_j)
 owned_once k at (None ∷ es) j i f at_j at_i = owned_once k (suc at) es j i f at_j at_i
 owned_once k at (Some x ∷ es) j i f at_j at_i = pick (is_of k x.origin) j i at_j at_i (owned_once k (suc at) es)
   where
@@ -234,12 +222,13 @@ owned_once k at (Some x ∷ es) j i f at_j at_i = pick (is_of k x.origin) j i at
         → IsAt (cond b (at ∷ owned k (suc at) es) (owned k (suc at) es)) i f → AreOnce (owned k (suc at) es) → j ≡ i
     pick false j i at_j at_i rest = rest j i f at_j at_i
     pick true zero zero at_j at_i rest = refl
-    pick true zero (suc i) (lt, is) (lt2, is2) rest =
-        let (n, e, has) = owned_has k (suc at) es f (i, omega (arith, lt2), sym is2) in absurd (omega (arith, is, e))
-    pick true (suc j) zero (lt, is) (lt2, is2) rest =
-        let (n, e, has) = owned_has k (suc at) es f (j, omega (arith, lt), sym is) in absurd (omega (arith, is2, e))
-    pick true (suc j) (suc i) (lt, is) (lt2, is2) rest =
-        ap suc (rest j i f (omega (arith, lt), is) (omega (arith, lt2), is2))
+    pick true zero (suc i) at_j at_i rest =
+        let (n, e, has) = owned_has k (suc at) es f (contains_from_get (owned k (suc at) es) i f at_i) in
+        let first = same_Some at f at_j in absurd (omega (arith, first, e))
+    pick true (suc j) zero at_j at_i rest =
+        let (n, e, has) = owned_has k (suc at) es f (contains_from_get (owned k (suc at) es) j f at_j) in
+        let first = same_Some at f at_i in absurd (omega (arith, first, e))
+    pick true (suc j) (suc i) at_j at_i rest = ap suc (rest j i f at_j at_i)
 
 -- a form that has an enable in a process stands in one of its forms
 rooted : (p : Program) (exprs : List RtlExpr) (roles : List Role) (enables : List (Option Enable))
@@ -250,7 +239,7 @@ rooted p exprs roles enables are k q at_q = upward
     (λ f below i a has. elim (are.reasons f (At k i) a has) [
       | inl ((z, at_z, at_f), expr) ↦ (
         f,
-        contains_from_at q.forms i f
+        contains_from_get q.forms i f
             (subst (λ (t : Process). IsAt t.forms i f) (one_entry p.processes k z q at_z at_q) at_f),
         standing.itself,
       )

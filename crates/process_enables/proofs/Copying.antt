@@ -32,6 +32,7 @@ use Rattle.std.specs.List.{sum_by}
 use Rattle.std.proofs.lemmas.Bool.{cases_lt}
 use Rattle.std.proofs.lemmas.List.{length-map}
 use Rattle.std.proofs.lemmas.List.Sums.{sum_by-cons}
+use Rattle.std.proofs.lemmas.Option.{none-some, same_Some}
 use Rattle.mp_base.specs.declared.op.Op.{Op}
 use Rattle.mp_base.specs.declared.op.Op.TheVariants.{Not}
 use Rattle.mp_base.specs.declared.refusal.Place.{Place}
@@ -47,7 +48,7 @@ use Rattle.mp_program.specs.Weight.{names_constant, is_constant}
 use Rattle.mp_rules.specs.Breaking.{IsUnbroken}
 use Rattle.mp_base.specs.Entries.{IsAt}
 use Rattle.mp_rules.specs.Rules.{E21}
-use Rattle.mp_base.proofs.ListEntries.{one_entry, get_at}
+use Rattle.mp_base.proofs.Entries.{one_entry, within}
 use Rattle.rtl_form.specs.declared.rtl.Cell as cells
 use Rattle.rtl_form.specs.declared.rtl.RtlExpr.{RtlExpr}
 use Rattle.rtl_form.specs.declared.rtl.RtlExpr.TheVariants.{Number, Truth, Apply}
@@ -81,7 +82,7 @@ sorted_of p unbroken sound = record {
 pub args_in : (p : Program) → IsSound p → (e : ℕ) (x : Expr) (op : Op) (index : ℕ) (args : List ℕ) → IsAt p.exprs e x
     → x.kind ≡ source.Apply op index args → (a : ℕ) → Contains args a → a < length p.exprs
 args_in p sound e x op index args at is a c = (between_in e (length p.exprs) args a
-    (subst (ArgsFit e (length p.exprs)) is (sound.exprs e x (get_at p.exprs e x at))).1 c).1
+    (subst (ArgsFit e (length p.exprs)) is (sound.exprs e x at)).1 c).1
 
 copy_at : (p : Program) (roles : List Role) (e : ℕ) (x : Expr) (k : ExprKind) (y : RtlExpr) → IsAt p.exprs e x
     → x.kind ≡ k → IsCopy p roles k y → expr_cost y ≤ copy_bill p k → IsCopyAt p roles e y
@@ -120,14 +121,14 @@ module _ (p : Program) (roles : List Role) (e : ℕ) (x : Expr) (y : RtlExpr) (a
     where
       constant_named : (ds : List Def) (name : List ℕ) (z : Def) → IsAt ds (index_of ds name) z
           → names_constant ds name ≡ is_constant z.what
-      constant_named [] name z (lt, is) = absurd (omega (arith, lt))
+      constant_named [] name z at = absurd (none-some z at)
       constant_named (v ∷ vs) name z at = pick (is_same v.name name) at (constant_named vs name z)
         where
           pick : (t : Bool) → IsAt (v ∷ vs) (cond t 0 (suc (index_of vs name))) z
               → (IsAt vs (index_of vs name) z → names_constant vs name ≡ is_constant z.what)
               → cond t (is_constant v.what) (names_constant vs name) ≡ is_constant z.what
-          pick true (lt, is) rest = ap (λ (u : Def). is_constant u.what) (sym is)
-          pick false (lt, is) rest = rest (omega (arith, lt), is)
+          pick true at rest = ap (λ (u : Def). is_constant u.what) (same_Some v z at)
+          pick false at rest = rest at
 
       named_cost : (name : List ℕ) → IsNamedCopy p roles (index_of p.defs name) y
           → expr_cost y ≤ copy_bill p (source.Named name)
@@ -146,9 +147,9 @@ module _ (p : Program) (roles : List Role) (e : ℕ) (x : Expr) (y : RtlExpr) (a
 pub copied_none : (p : Program) (roles : List Role) (xs : List cells.Cell) (n : ℕ) (exprs : List RtlExpr)
     → n ≡ length p.exprs → exprs ≡ Truth true ∷ Apply Not 0 (0 ∷ []) ∷ [] → AreCopiedFrom p roles xs n exprs
 copied_none p roles xs n exprs e is = subst (λ ys. AreCopiedFrom p roles xs n ys) (sym is) (record {
-  truth = ((omega arith, refl), (omega arith, refl));
+  truth = (refl, refl);
   size = omega (arith, e);
-  copies = λ k x le (lt, same). absurd (omega (arith, e, le, lt));
+  copies = λ k x le at. let lt = within p.exprs k at in absurd (omega (arith, e, le, lt));
   fits = λ k x at. both_fit k x at;
   cost = omega arith;
 })
@@ -158,22 +159,24 @@ copied_none p roles xs n exprs e is = subst (λ ys. AreCopiedFrom p roles xs n y
 
     both_fit : (k : ℕ) (x : RtlExpr) → IsAt (Truth true ∷ Apply Not 0 (0 ∷ []) ∷ []) k x
         → ExprFitsIn p.width xs (Truth true ∷ Apply Not 0 (0 ∷ []) ∷ []) k x
-    both_fit zero x (lt, same) =
-        subst (λ y. ExprFitsIn p.width xs (Truth true ∷ Apply Not 0 (0 ∷ []) ∷ []) 0 y) (sym same) tt
-    both_fit (suc zero) x (lt, same) =
-        subst (λ y. ExprFitsIn p.width xs (Truth true ∷ Apply Not 0 (0 ∷ []) ∷ []) 1 y) (sym same) (
+    both_fit zero x at =
+        subst (λ y. ExprFitsIn p.width xs (Truth true ∷ Apply Not 0 (0 ∷ []) ∷ []) 0 y) (same_Some (Truth true) x at) tt
+    both_fit (suc zero) x at =
+        subst (λ y. ExprFitsIn p.width xs (Truth true ∷ Apply Not 0 (0 ∷ []) ∷ []) 1 y)
+        (same_Some (Apply Not 0 (0 ∷ [])) x at) (
           refl,
           tt,
           λ a c. subst (λ n. (n < 1) × HasSortIn xs (Truth true ∷ Apply Not 0 (0 ∷ []) ∷ []) n false)
-              (only_one 0 a c) (omega arith, (Truth true, (omega arith, refl), refl)),
+              (only_one 0 a c) (omega arith, (Truth true, refl, refl)),
         )
-    both_fit (suc (suc k)) x (lt, same) = absurd (omega (arith, lt))
+    both_fit (suc (suc k)) x at = absurd (none-some x at)
 
 sum_drop : {X : Type 0} (f : X → ℕ) (xs : List X) (i : ℕ) (x : X) → IsAt xs i x
     → sum_by f (drop i xs) ≡ f x + sum_by f (drop (suc i) xs)
-sum_drop f [] i x (lt, is) = absurd (omega (arith, lt))
-sum_drop f (y ∷ ys) zero x (lt, is) = let a = sum_by-cons f y ys in let b : f x ≡ f y = ap f is in omega (arith, a, b)
-sum_drop f (y ∷ ys) (suc i) x (lt, is) = sum_drop f ys i x (omega (arith, lt), is)
+sum_drop f [] i x at = absurd (none-some x at)
+sum_drop f (y ∷ ys) zero x at = let a = sum_by-cons f y ys in let b : f y ≡ f x = ap f (same_Some y x at) in
+    omega (arith, a, b)
+sum_drop f (y ∷ ys) (suc i) x at = sum_drop f ys i x at
 
 -- one more
 pub copied_more : (p : Program) (roles : List Role) (xs : List cells.Cell) → AreCells p roles xs → IsSorted p

@@ -21,13 +21,13 @@ use Rattle.std.proofs.Common.{
 }
 use Rattle.std.specs.List.{sum_by}
 use Rattle.mp_base.specs.declared.op.Op.TheVariants.{Not}
-use Rattle.mp_base.proofs.Contents.{contains_behind as there, contains_map}
+use Rattle.mp_base.proofs.Contents.{contains_map}
 use Rattle.mp_base.proofs.Lists.{take_whole}
 use Rattle.mp_program.specs.declared.program.Branch.{Branch}
 use Rattle.mp_program.specs.declared.program.Process.{Process}
 use Rattle.mp_program.specs.declared.program.Program.{Program}
 use Rattle.mp_rules.specs.Breaking.{IsUnbroken}
-use Rattle.mp_base.proofs.ListEntries.{some_entry}
+use Rattle.mp_base.proofs.Entries.{some_entry, within}
 use Rattle.rtl_form.specs.declared.rtl.Cell as cells
 use Rattle.rtl_form.specs.declared.rtl.RtlExpr.{RtlExpr}
 use Rattle.rtl_form.specs.declared.rtl.RtlExpr.TheVariants.{Truth, Apply}
@@ -97,10 +97,10 @@ module _ (p : Program) (roles : List Role) (xs : List cells.Cell) (are : AreCell
   root_at Always f c = (0, refl, (below.kept).kept f Always 0 (roots.all Always f 0 tt (c, refl)))
   root_at (At k i) f (q, at_q, at_f) =
       let size = put.size in
-      let inside = at_q.0 in
+      let inside = within p.processes k at_q in
       let (es, at_es) = some_entry places k (omega (arith, size, inside)) in
       let sizes = put.sizes k q es at_q at_es in
-      let there = at_f.0 in
+      let there = within q.forms i at_f in
       let (a, at_a) = some_entry es i (omega (arith, sizes, there)) in (
         a,
         place_kept p roles mid last below.exprs_kept k i a (put.places k es at_es i a at_a).0,
@@ -111,7 +111,7 @@ module _ (p : Program) (roles : List Role) (xs : List cells.Cell) (are : AreCell
   are_enables = record {
     size = (below.kept).size ∙ roots.size;
     roots = root_at;
-    inner = λ g y o a at has. below.inner g y o a at.0 at has;
+    inner = λ g y o a at has. below.inner g y o a (within p.forms g at) at has;
     reasons = λ f o a has. elim (below.reasons f o a has) [
       | inl before ↦ inl (origin_expr o f a (roots.only o f a before))
       | inr reason ↦ inr reason

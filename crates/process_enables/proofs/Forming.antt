@@ -37,7 +37,7 @@ use Rattle.mp_program.specs.declared.program.Form.{Form}
 use Rattle.mp_program.specs.declared.program.Program.{Program}
 use Rattle.mp_program.specs.Sound.{IsSound, InnerFit, BranchesFit}
 use Rattle.mp_base.specs.Entries.{IsAt}
-use Rattle.mp_base.proofs.ListEntries.{one_entry, some_entry, get_at}
+use Rattle.mp_base.proofs.Entries.{one_entry, some_entry, entry}
 use Rattle.rtl_form.specs.declared.rtl.Cell.{Cell}
 use Rattle.rtl_form.specs.declared.rtl.RtlExpr.{RtlExpr}
 use Rattle.rtl_form.specs.declared.rtl.RtlExpr.TheVariants.{Apply}
@@ -84,7 +84,7 @@ inside_behind e i n Return f fit h = absurd h
 
 module _ (p : Program) (sound : IsSound p) (f : ℕ) (y : Form) (at : IsAt p.forms f y) where
   fits_inside : InnerFit (length p.exprs) f (length p.forms) y.kind
-  fits_inside = sound.forms f y (get_at p.forms f y at)
+  fits_inside = sound.forms f y at
 
   pub inside_later : (g : ℕ) → StandsInside y.kind g → f < g
   inside_later g inside = (inside_behind (length p.exprs) f (length p.forms) y.kind g fits_inside inside).0
@@ -110,7 +110,7 @@ module _ (p : Program) (sound : IsSound p) (f : ℕ) (y : Form) (at : IsAt p.for
 -- an entry that is there
 pub has_from : (enables : List (Option Enable)) (f : ℕ) (x : Enable) (y : Option Enable) → f < length enables
     → y ≡ slice_index_or enables f y → y ≡ Some x → HasEnable enables f x.origin x.expr
-has_from enables f x y lt is e = (lt, subst (λ z. z ≡ slice_index_or enables f z) e is)
+has_from enables f x y lt is e = subst (IsAt enables f) e (entry enables f lt is)
 
 -- a form without an enable
 pub inner_none : (p : Program) (f : ℕ) (exprs : List RtlExpr) (enables : List (Option Enable)) (y : Option Enable)
@@ -127,7 +127,7 @@ inner_none p f exprs enables y lt is none = record {
     apart : (o : Origin) (a : ℕ) → HasEnable enables f o a → ⊥
     apart o a has =
         let x : Enable = record { origin = o; expr = a } in
-        let e : Some x ≡ None = one_entry enables f (Some x) y has (lt, is) ∙ none in
+        let e : Some x ≡ None = one_entry enables f (Some x) y has (entry enables f lt is) ∙ none in
         absurd (cc)
 
 -- a form with the enable x, in which these forms get theirs

@@ -18,6 +18,7 @@ use Rattle.std.proofs.Common.{
   arith,
   take,
 }
+use Rattle.std.proofs.lemmas.Option.{none-some, same_Some}
 use Rattle.mp_program.specs.declared.program.Form.{Form}
 use Rattle.mp_base.specs.Entries.{IsAt}
 use Rattle.process_plan.specs.declared.enable.Enable.{Enable}
@@ -33,7 +34,7 @@ guards_split y ys None es = omega arith
 rest_kept : (e d : Option Enable) (es ds : List (Option Enable)) → KeepsEnables (e ∷ es) (d ∷ ds) → KeepsEnables es ds
 rest_kept e d es ds h = record {
   size = let s = h.size in omega (arith, s);
-  kept = λ f o a (lt, is). let (lt2, is2) = h.kept (suc f) o a (omega (arith, lt), is) in (omega (arith, lt2), is2);
+  kept = λ f o a at. h.kept (suc f) o a at;
 }
 
 -- forms that get enables cost no less
@@ -53,23 +54,24 @@ guards_kept (y ∷ ys) (e ∷ es) (d ∷ ds) h =
         → guards_of (y ∷ []) (e ∷ []) ≤ guards_of (y ∷ []) (d ∷ [])
     first_kept None h = omega arith
     first_kept (Some x) h =
-        let is : Some x ≡ d = (h.kept 0 x.origin x.expr (omega arith, refl)).1 in
-        let same : guards_of (y ∷ []) (Some x ∷ []) ≡ guards_of (y ∷ []) (d ∷ []) =
+        let is : d ≡ Some x = same_Some d (Some x) (h.kept 0 x.origin x.expr refl) in
+        let same : guards_of (y ∷ []) (d ∷ []) ≡ guards_of (y ∷ []) (Some x ∷ []) =
         ap (λ t. guards_of (y ∷ []) (t ∷ [])) is in
         omega (arith, same)
 
 -- the first forms and one more
 pub guards_more : (ys : List Form) (es : List (Option Enable)) (i : ℕ) (y : Form) (e : Option Enable) → IsAt ys i y
     → IsAt es i e → guards_of (take i ys) es + guards_of (y ∷ []) (e ∷ []) ≤ guards_of (take (i + 1) ys) es
-guards_more [] es i y e (lt, is) at_e = absurd (omega (arith, lt))
-guards_more (z ∷ ys) [] i y e at (lt, is) = absurd (omega (arith, lt))
-guards_more (z ∷ ys) (d ∷ es) zero y e (lt, is) (lt2, is2) =
+guards_more [] es i y e at at_e = absurd (none-some y at)
+guards_more (z ∷ ys) [] i y e at at_e = absurd (none-some e at_e)
+guards_more (z ∷ ys) (d ∷ es) zero y e at at_e =
     let split = guards_split z [] d es in
-    let same : guards_of (y ∷ []) (e ∷ []) ≡ guards_of (z ∷ []) (d ∷ []) =
-    ap (λ t. guards_of (t ∷ []) (e ∷ [])) is ∙ ap (λ t. guards_of (z ∷ []) (t ∷ [])) is2 in
+    let same : guards_of (z ∷ []) (d ∷ []) ≡ guards_of (y ∷ []) (e ∷ []) =
+    ap (λ t. guards_of (t ∷ []) (d ∷ [])) (same_Some z y at)
+    ∙ ap (λ t. guards_of (y ∷ []) (t ∷ [])) (same_Some d e at_e) in
     omega (arith, split, same)
-guards_more (z ∷ ys) (d ∷ es) (suc i) y e (lt, is) (lt2, is2) =
-    let rest = guards_more ys es i y e (omega (arith, lt), is) (omega (arith, lt2), is2) in
+guards_more (z ∷ ys) (d ∷ es) (suc i) y e at at_e =
+    let rest = guards_more ys es i y e at at_e in
     let a = guards_split z (take i ys) d es in
     let b = guards_split z (take (i + 1) ys) d es in
     let n : suc i + 1 ≡ suc (i + 1) = omega arith in

@@ -30,13 +30,14 @@ use Rattle.std.specs.Prelude.{nat_lt}
 use Rattle.std.specs.List.{sum_by}
 use Rattle.std.proofs.lemmas.Bool.{lt-ltb}
 use Rattle.std.proofs.lemmas.List.{length-append}
-use Rattle.std.proofs.lemmas.List.Sums.{sum_by-cons}
+use Rattle.std.proofs.lemmas.List.Sums.{sum_by_more}
+use Rattle.std.proofs.lemmas.Option.{none-some, same_Some, get_or_from_slice_get}
 use Rattle.mp_base.specs.declared.op.Op.TheVariants.{Nor}
 use Rattle.mp_program.specs.declared.program.Process.{Process}
 use Rattle.mp_program.specs.declared.program.Program.{Program}
 use Rattle.mp_rules.specs.Breaking.{IsUnbroken}
 use Rattle.mp_base.specs.Entries.{IsAt}
-use Rattle.mp_base.proofs.ListEntries.{contains_from_at, one_entry, some_entry, at_push_cases}
+use Rattle.mp_base.proofs.Entries.{contains_from_get, get_from_contains, one_entry, some_entry, push_cases, within}
 use Rattle.rtl_form.specs.declared.rtl.Cell as cells
 use Rattle.rtl_form.specs.declared.rtl.RtlExpr.{RtlExpr}
 use Rattle.rtl_form.specs.declared.rtl.RtlExpr.TheVariants.{Truth, Cell, Apply}
@@ -47,7 +48,6 @@ use Rattle.process_plan.specs.Bill.{first_bill}
 use Rattle.process_plan.specs.Enables.{ArePlaceExprs, IsPlaceExpr}
 use Rattle.process_plan.specs.Fits.{ExprFitsIn, HasSortIn}
 use Rattle.process_plan.proofs.Keeping.{keeps_36}
-use Rattle.process_plan.proofs.Members.{in_entry}
 use Rattle.process_layout.specs.Steps.{Keeps}
 use Rattle.process_layout.proofs.Keeping.{keeps_same, keeps_more}
 use Rattle.process_enables.specs.Adding.{IsPut}
@@ -94,7 +94,7 @@ pub cells_none : (p : Program) (roles : List Role) (xs : List cells.Cell) (k : �
 cells_none p roles xs k exprs = record {
   added = adds_none p.width xs exprs;
   size = omega arith;
-  each = λ i a (lt, is). absurd (omega (arith, lt));
+  each = λ i a at. absurd (none-some a at);
 }
 
 pub cells_more : (p : Program) (roles : List Role) (xs : List cells.Cell) → AreCells p roles xs → (k n : ℕ)
@@ -107,19 +107,19 @@ cells_more p roles xs are k n exprs now next others c e below role put =
     record {
       added = record {
         kept = keeps_more exprs now next (below.added).kept (put_keeps now (Cell c) next e put);
-        fits = λ fit. put_fits now (Cell c) next e put p.width xs at_z.0 ((below.added).fits fit);
+        fits = λ fit. put_fits now (Cell c) next e put p.width xs (within xs c at_z) ((below.added).fits fit);
         cost =
             let a = put_cost now (Cell c) next e put in let b = (below.added).cost in omega (arith, a, b);
       };
       size = let s = length-append others (e ∷ []) in omega (arith, s, size);
-      each = λ i a at. elim (at_push_cases others e i a at) [
-        | inl before ↦
+      each = λ i a at. elim (push_cases others e i a at) [
+        | inl (lt, before) ↦
             let (d, of, made) = below.each i a before in (d, of, put_keeps now (Cell c) next e put a (Cell d) made)
         | inr (last, is) ↦
             let here : n ≡ suc i = omega (arith, last, size) in (
               c,
               subst (λ j. IsAt roles c (Placed k j)) here role,
-              subst (λ b. IsAt next b (Cell c)) (sym is) (put_at now (Cell c) next e put),
+              subst (λ b. IsAt next b (Cell c)) is (put_at now (Cell c) next e put),
             )
       ];
     }
@@ -137,7 +137,9 @@ all_cells : (p : Program) (roles : List Role) (xs : List cells.Cell) → AreCell
     (exprs now : List RtlExpr) (others : List ℕ) → IsAt p.processes k q
     → CellsBelow p roles xs k (length q.forms) exprs now others → ArePlaceExprs now roles k others
 all_cells p roles xs are k q exprs now others at_q below = record {
-  each = λ e c. let (i, at) = in_entry others e c in let (d, of, made) = below.each i e at in (d, suc i, of, made);
+  each = λ e c.
+      let (i, at) = get_from_contains others e c in
+      let (d, of, made) = below.each i e at in (d, suc i, of, made);
   all = λ j c role.
       let (z, at_z, (r, at_r, some, inside, is)) = are.each c (Placed k j) role in
       let same : length r.forms ≡ length q.forms = ap (λ (t : Process). length t.forms)
@@ -147,7 +149,7 @@ all_cells p roles xs are k q exprs now others at_q below = record {
       let (d, of, made) = below.each (j - 1) a at in
       let e : suc (j - 1) ≡ j = omega (arith, some) in
       let one : d ≡ c = are.once d c (Placed k j) (subst (λ n. IsAt roles d (Placed k n)) e of) role in
-      (a, contains_from_at others (j - 1) a at, subst (λ n. IsAt now a (Cell n)) one made);
+      (a, contains_from_get others (j - 1) a at, subst (λ n. IsAt now a (Cell n)) one made);
 }
 
 pub places_are : (p : Program) (roles : List Role) (xs : List cells.Cell) → AreCells p roles xs → IsUnbroken p → (k : ℕ)
@@ -173,16 +175,17 @@ places_are p roles xs are unbroken k q exprs now more others a at_q truth below 
     }
   where
     first : ArePlaces p roles xs more k (a ∷ others)
-    first zero b (lt, here) =
-        let zero_is : b ≡ 0 = here ∙ is in
+    first zero b at =
+        let zero_is : b ≡ 0 = sym (same_Some a b at) ∙ is in
         let one : length q.forms ≡ 1 =
         (let size = below.size in let empty : length others ≡ 0 = ap length none in omega (arith, size, empty)) in
         let kept : Keeps exprs more = subst (λ ys. Keeps exprs ys) (sym same) (below.added).kept in (
           (q, at_q, inl (one, zero_is)),
           subst (λ n. HasSortIn xs more n false) (sym zero_is) (Truth true, kept 0 (Truth true) truth.0, refl),
         )
-    first (suc i) b (lt, here) =
-        let empty : length others ≡ 0 = ap length none in absurd (omega (arith, lt, empty))
+    first (suc i) b at =
+        let empty : length others ≡ 0 = ap length none in
+        let lt = within others i at in absurd (omega (arith, lt, empty))
 places_are p roles xs are unbroken k q exprs now more others a at_q truth below (inr (some, put)) =
     let size = below.size in
     record {
@@ -220,15 +223,15 @@ places_are p roles xs are unbroken k q exprs now more others a at_q truth below 
       lt-ltb 0 (length others) some,
       tt,
       λ b c.
-          let (i, at) = in_entry others b c in
+          let (i, at) = get_from_contains others b c in
           let (d, role, made) = below.each i b at in
-          (made.0, of_cell i b at),
+          (within now b made, of_cell i b at),
     )
 
     first : ArePlaces p roles xs more k (a ∷ others)
-    first zero b (lt, here) =
+    first zero b at =
         let made : IsAt more b (Apply Nor 0 others) =
-        subst (λ n. IsAt more n (Apply Nor 0 others)) (sym here) (put_at now (Apply Nor 0 others) more a put) in
+        subst (λ n. IsAt more n (Apply Nor 0 others)) (same_Some a b at) (put_at now (Apply Nor 0 others) more a put) in
         let all = all_cells p roles xs are k q exprs now others at_q below in (
           (
             q,
@@ -244,8 +247,8 @@ places_are p roles xs are unbroken k q exprs now more others a at_q truth below 
           ),
           (Apply Nor 0 others, made, refl),
         )
-    first (suc i) b (lt, here) =
-        let (c, role, made) = below.each i b (omega (arith, lt), here) in (
+    first (suc i) b at =
+        let (c, role, made) = below.each i b at in (
           (c, role, put_kept b (Cell c) made),
           bit_kept xs now more b put_kept (place_bit p roles xs are now k (suc i) c b role made),
         )
@@ -281,23 +284,14 @@ pub all_none : (p : Program) (roles : List Role) (xs : List cells.Cell) (exprs :
 all_none p roles xs exprs = record {
   added = adds_none p.width xs exprs;
   size = refl;
-  sizes = λ k q es at (lt, is). absurd (omega (arith, lt));
-  places = λ k es (lt, is). absurd (omega (arith, lt));
+  sizes = λ k q es at_q at. absurd (none-some es at);
+  places = λ k es at. absurd (none-some es at);
 }
 
 sum_more : {X : Type 0} (f : X → ℕ) (xs : List X) (n : ℕ) (x : X) → IsAt xs n x
     → sum_by f (take (n + 1) xs) ≡ sum_by f (take n xs) + f x
-sum_more f [] n x (lt, is) = absurd (omega (arith, lt))
-sum_more f (y ∷ ys) zero x (lt, is) =
-    let a = sum_by-cons f y (take 0 ys) in let b : f x ≡ f y = ap f is in omega (arith, a, b)
-sum_more f (y ∷ ys) (suc n) x (lt, is) =
-    let rest = sum_more f ys n x (omega (arith, lt), is) in
-    let a = sum_by-cons f y (take (n + 1) ys) in
-    let b = sum_by-cons f y (take n ys) in
-    let m : suc n + 1 ≡ suc (n + 1) = omega arith in
-    let c : sum_by f (take (suc n + 1) (y ∷ ys)) ≡ sum_by f (y ∷ take (n + 1) ys) =
-    ap (λ k. sum_by f (take k (y ∷ ys))) m in
-    omega (arith, rest, a, b, c)
+sum_more f xs n x at = sum_by_more f xs n x (within xs n at)
+    ∙ ap (λ y. sum_by f (take n xs) + f y) (get_or_from_slice_get xs n x x at)
 
 pub all_more : (p : Program) (roles : List Role) (xs : List cells.Cell) (n : ℕ) (exprs now more : List RtlExpr)
     (ess : List (List ℕ)) (es : List ℕ) → n < length p.processes → PutsAllPlaces p roles xs n exprs now ess
@@ -311,19 +305,19 @@ all_more p roles xs n exprs now more ess es lt done put =
           (sym (sum_more (λ (t : Process). first_bill (length t.forms)) p.processes n q at_q))
           (adds_more p.width xs _ (first_bill (length q.forms)) exprs now more done.added step);
       size = let s = length-append ess (es ∷ []) in omega (arith, s, size);
-      sizes = λ k r fs at_r at. elim (at_push_cases ess es k fs at) [
-        | inl before ↦ done.sizes k r fs at_r before
+      sizes = λ k r fs at_r at. elim (push_cases ess es k fs at) [
+        | inl (there, before) ↦ done.sizes k r fs at_r before
         | inr (last, is) ↦
             let here : k ≡ n = omega (arith, last, size) in
             let forms : length q.forms ≡ length r.forms = ap (λ (t : Process). length t.forms)
             (one_entry p.processes n q r at_q (subst (λ j. IsAt p.processes j r) here at_r)) in
-            ap length is ∙ step_size ∙ forms
+            ap length (sym is) ∙ step_size ∙ forms
       ];
-      places = λ k fs at. elim (at_push_cases ess es k fs at) as (λ _. ArePlaces p roles xs more k fs) [
-        | inl before ↦ places_kept p roles xs now more step.kept k fs (done.places k fs before)
+      places = λ k fs at. elim (push_cases ess es k fs at) as (λ _. ArePlaces p roles xs more k fs) [
+        | inl (there, before) ↦ places_kept p roles xs now more step.kept k fs (done.places k fs before)
         | inr (last, is) ↦
             let here : k ≡ n = omega (arith, last, size) in
-            subst (λ gs. ArePlaces p roles xs more k gs) (sym is)
+            subst (λ gs. ArePlaces p roles xs more k gs) is
             (subst (λ j. ArePlaces p roles xs more j es) (sym here) put.places)
       ];
     }

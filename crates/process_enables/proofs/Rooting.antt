@@ -25,12 +25,13 @@ use Rattle.std.proofs.Common.{
 use Rattle.std.specs.Prelude.{Contains}
 use Rattle.std.specs.List.{AllByRecursion}
 use Rattle.std.proofs.lemmas.Bool.{cases_lt}
+use Rattle.std.proofs.lemmas.Option.{none-some, same_Some}
 use Rattle.mp_base.proofs.Contents.{holds_of_contained}
 use Rattle.mp_program.specs.declared.program.Process.{Process}
 use Rattle.mp_program.specs.declared.program.Program.{Program}
 use Rattle.mp_program.specs.Sound.{IsSound}
 use Rattle.mp_base.specs.Entries.{IsAt}
-use Rattle.mp_base.proofs.ListEntries.{contains_from_at, one_entry}
+use Rattle.mp_base.proofs.Entries.{contains_from_get, one_entry, within}
 use Rattle.process_plan.specs.declared.enable.Origin.{Origin}
 use Rattle.process_plan.specs.declared.enable.Origin.TheVariants.{Always, At}
 use Rattle.process_plan.specs.declared.enable.Enable.{Enable}
@@ -49,7 +50,7 @@ pub process_in : (p : Program) → IsSound p → (k : ℕ) (q : Process) → IsA
 process_in p sound k q at f c = holds_of_contained (λ g. g < length p.forms) q.forms f
     (holds_of_contained
     (λ (r : Process). AllByRecursion (λ g. g < length p.forms) r.forms) p.processes q sound.processes
-    (contains_from_at p.processes k q at)) c
+    (contains_from_get p.processes k q at)) c
 
 -- ---- the forms of a process
 
@@ -96,16 +97,16 @@ pub below_all : (k : ℕ) (forms places : List ℕ) (n : ℕ) (old new : List (O
     → PlacesBelow k forms places n old new → AssignsPlaces k forms places old new
 below_all k forms places n old new e below = record {
   kept = below.kept;
-  given = λ i f a at at_a. let lt = at.0 in below.given i f a (omega (arith, e, lt)) at at_a;
+  given = λ i f a at at_a. let lt = within forms i at in below.given i f a (omega (arith, e, lt)) at at_a;
   added = below.added;
 }
 
 -- ---- all forms
 
 blank_none : (n : ℕ) (f : ℕ) (x : Option Enable) → IsAt (replicate n None) f x → x ≡ None
-blank_none zero f x (lt, is) = absurd (omega (arith, lt))
-blank_none (suc n) zero x (lt, is) = is
-blank_none (suc n) (suc f) x (lt, is) = blank_none n f x (omega (arith, lt), is)
+blank_none zero f x at = absurd (none-some x at)
+blank_none (suc n) zero x at = sym (same_Some None x at)
+blank_none (suc n) (suc f) x at = blank_none n f x at
 
 blank_size : (n : ℕ) → length (replicate {A = Option Enable} n None) ≡ n
 blank_size zero = refl

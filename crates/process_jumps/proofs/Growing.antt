@@ -5,7 +5,6 @@ use Rattle.std.proofs.Common.{
   inr,
   ◌∙◌,
   ℕ,
-  zero,
   suc,
   ◌+◌,
   ◌<◌,
@@ -35,7 +34,7 @@ use Rattle.std.proofs.lemmas.List.Sums.{sum_by_push}
 use Rattle.mp_base.specs.declared.op.Op.TheVariants.{And, Or, Not}
 use Rattle.mp_base.proofs.Contents.{contains_head, contains_behind as there, nothing_in, only_one}
 use Rattle.mp_base.specs.Entries.{IsAt}
-use Rattle.mp_base.proofs.ListEntries.{at_pushed, at_push_cases}
+use Rattle.mp_base.proofs.Entries.{get_middle, get_kept, push_cases, within}
 use Rattle.rtl_form.specs.declared.rtl.Cell as cells
 use Rattle.rtl_form.specs.declared.rtl.RtlExpr.{RtlExpr}
 use Rattle.rtl_form.specs.declared.rtl.RtlExpr.TheVariants.{Apply}
@@ -57,14 +56,6 @@ use Rattle.process_jumps.specs.Growth.{
   IsUnionMade,
 }
 
--- ---- entries
-
-pub kept_pushed : {X : Type 0} (xs : List X) (x : X) → Keeps xs (xs ++ x ∷ [])
-kept_pushed [] x k z (lt, is) = absurd (omega (arith, lt))
-kept_pushed (y ∷ ys) x zero z (lt, is) = (omega arith, is)
-kept_pushed (y ∷ ys) x (suc k) z (lt, is) =
-    let (l, e) = kept_pushed ys x k z (omega (arith, lt), is) in (omega (arith, l), e)
-
 -- ---- bits
 
 pub bits_kept : (xs : List cells.Cell) (old new : List RtlExpr) (es : List ℕ) → Keeps old new → AreBits xs old es
@@ -75,11 +66,11 @@ bits_kept xs old new es kept bits e c =
 module _ (old : List RtlExpr) (x : RtlExpr) where
   fit_pushed : (w : ℕ) (xs : List cells.Cell) → ExprsFit w xs old → ExprFitsIn w xs (old ++ x ∷ []) (length old) x
       → ExprsFit w xs (old ++ x ∷ [])
-  fit_pushed w xs fit last e y at = elim (at_push_cases old x e y at) as (λ _. ExprFitsIn w xs (old ++ x ∷ []) e y) [
-    | inl there ↦ fits_kept w xs xs old (old ++ x ∷ []) e y (λ k z h. h) (kept_pushed old x) (fit e y there)
+  fit_pushed w xs fit last e y at = elim (push_cases old x e y at) as (λ _. ExprFitsIn w xs (old ++ x ∷ []) e y) [
+    | inl (lt, there) ↦ fits_kept w xs xs old (old ++ x ∷ []) e y (λ k z h. h) (get_kept old (x ∷ [])) (fit e y there)
     | inr (same, is) ↦
         subst (λ n. ExprFitsIn w xs (old ++ x ∷ []) n y) (sym same)
-        (subst (ExprFitsIn w xs (old ++ x ∷ []) (length old)) (sym is) last)
+        (subst (ExprFitsIn w xs (old ++ x ∷ []) (length old)) is last)
   ]
 
   -- an expression that fits is added
@@ -87,7 +78,7 @@ module _ (old : List RtlExpr) (x : RtlExpr) where
       → ((w : ℕ) (xs : List cells.Cell) → AreBits xs old bits → ExprFitsIn w xs (old ++ x ∷ []) (length old) x)
       → IsGrown bits price old (old ++ x ∷ [])
   grown_pushed bits price cheap fits = record {
-    kept = kept_pushed old x;
+    kept = get_kept old (x ∷ []);
     cost = omega (arith, cheap, sum_by_push expr_cost old x);
     fits = λ w xs fit are. fit_pushed w xs fit (fits w xs are);
   }
@@ -103,8 +94,10 @@ module _ (old : List RtlExpr) (x : RtlExpr) where
   pub args_fit : (xs : List cells.Cell) (args : List ℕ) → AreBits xs old args → (a : ℕ) → Contains args a
       → (a < length old) × HasSortIn xs (old ++ x ∷ []) a false
   args_fit xs args are a c =
-      let (y, at, is) = are a c in
-      (at.0, has_sort_kept xs xs old (old ++ x ∷ []) a false (λ k z h. h) (kept_pushed old x) (y, at, is))
+      let (y, at, is) = are a c in (
+        within old a at,
+        has_sort_kept xs xs old (old ++ x ∷ []) a false (λ k z h. h) (get_kept old (x ∷ [])) (y, at, is),
+      )
 
 pub bits_within : (xs : List cells.Cell) (exprs : List RtlExpr) (es more : List ℕ)
     → ((e : ℕ) → Contains es e → Contains more e) → AreBits xs exprs more → AreBits xs exprs es
@@ -207,7 +200,7 @@ negation_put old new e n args is (added, at) =
     let put : new ≡ old ++ Apply Not 0 (e ∷ []) ∷ [] = added ∙ ap (λ xs. old ++ Apply Not 0 xs ∷ []) is in record {
       made = subst (λ es. IsAt es n (Apply Not 0 (e ∷ []))) (sym put)
           (subst (λ i. IsAt (old ++ Apply Not 0 (e ∷ []) ∷ []) i (Apply Not 0 (e ∷ []))) (sym at)
-          (at_pushed old (Apply Not 0 (e ∷ []))));
+          (get_middle old (Apply Not 0 (e ∷ [])) []));
       grown = subst (IsGrown (e ∷ []) 0 old) (sym put) (negation_grown old e);
     }
 
@@ -263,13 +256,13 @@ fall_put old mid new a e ms args other some made put = with_ns made.made
         (bits_kept xs old mid (a ∷ ms) (made.grown).kept are_bits a (contains_head a ms))
         (negations_bits xs mid ms (n ∷ ns) negated))
         (grown_within ms (a ∷ ms) 0 old mid (λ x c. there x a ms c) made.grown) (and_grown mid a n ns) in
-        let kept = kept_pushed mid (Apply And 0 (a ∷ n ∷ ns)) in
+        let kept = get_kept mid (Apply And 0 (a ∷ n ∷ ns) ∷ []) in
         subst (λ xs. IsFallMade old xs a ms e) (sym added) (record {
           made = inr (inr (
             n ∷ ns,
             negations_kept mid (mid ++ Apply And 0 (a ∷ n ∷ ns) ∷ []) ms (n ∷ ns) kept negated,
             subst (λ i. IsAt (mid ++ Apply And 0 (a ∷ n ∷ ns) ∷ []) i (Apply And 0 (a ∷ n ∷ ns))) (sym put.1)
-                (at_pushed mid (Apply And 0 (a ∷ n ∷ ns))),
+                (get_middle mid (Apply And 0 (a ∷ n ∷ ns)) []),
           ));
           grown = inr (
             other,
@@ -285,7 +278,7 @@ union_put old new (a ∷ []) u some put = absurd (omega (arith, some))
 union_put old new (a ∷ b ∷ rest) u some (added, at) = subst (λ xs. IsUnionMade old xs (a ∷ b ∷ rest) (Some u))
     (sym added) (record {
       made = inr (subst (λ i. IsAt (old ++ Apply Or 0 (a ∷ b ∷ rest) ∷ []) i (Apply Or 0 (a ∷ b ∷ rest))) (sym at)
-          (at_pushed old (Apply Or 0 (a ∷ b ∷ rest))));
+          (get_middle old (Apply Or 0 (a ∷ b ∷ rest)) []));
       grown = subst (λ n. IsGrown (a ∷ b ∷ rest) n old (old ++ Apply Or 0 (a ∷ b ∷ rest) ∷ [])) price
           (or_grown old a b rest);
     })

@@ -32,7 +32,7 @@ use Rattle.std.proofs.Common.{
 }
 use Rattle.std.specs.Prelude.{Contains, MatchOption, ◌↔◌, ◌&&◌}
 use Rattle.std.proofs.lemmas.List.Sums.{sum_by_more}
-use Rattle.std.proofs.lemmas.Option.{same_Some}
+use Rattle.std.proofs.lemmas.Option.{same_Some, none-some, get_or_from_slice_get}
 use Rattle.std.proofs.lemmas.List.{length_push}
 use Rattle.mp_base.specs.declared.op.Op.TheVariants.{And, Nor}
 use Rattle.mp_base.proofs.Contents.{nothing_in}
@@ -44,7 +44,7 @@ use Rattle.mp_program.specs.declared.program.Process.{Process}
 use Rattle.mp_program.specs.declared.program.Program.{Program}
 use Rattle.mp_base.specs.Entries.{IsAt}
 use Rattle.mp_rules.specs.Standing.{is_transfer}
-use Rattle.mp_base.proofs.ListEntries.{one_entry, some_entry, at_push_cases}
+use Rattle.mp_base.proofs.Entries.{one_entry, some_entry, push_cases, within}
 use Rattle.rtl_form.specs.declared.rtl.Cell as cells
 use Rattle.rtl_form.specs.declared.rtl.RtlExpr.{RtlExpr}
 use Rattle.rtl_form.specs.declared.rtl.RtlExpr.TheVariants.{Cell, Apply}
@@ -278,9 +278,9 @@ falls_more p enables k n f a e q inside old now next falls more at_q at_f (x, at
     let size = so_far.size in
     let long = ap length added ∙ length_push falls e in record {
       size = omega (arith, size, long);
-      each = λ i d at_d. elim (at_push_cases falls e i d (subst (λ es. IsAt es i d) added at_d)) as
+      each = λ i d at_d. elim (push_cases falls e i d (subst (λ es. IsAt es i d) added at_d)) as
           (λ _. IsFallAt p next roles enables k i d) [
-            | inl there ↦ fall_at_kept p roles enables now next grown.kept k i d (so_far.each i d there)
+            | inl (lt, there) ↦ fall_at_kept p roles enables now next grown.kept k i d (so_far.each i d there)
             | inr (last, same) ↦
                 let here : IsFallAt p next roles enables k n e = (
                   a,
@@ -290,7 +290,7 @@ falls_more p enables k n f a e q inside old now next falls more at_q at_f (x, at
                   (picked (Inside k n) (moves_in p.forms enables), moves_inside p enables k n, fell.made),
                 ) in
                 subst (λ m. IsFallAt p next roles enables k m d) (sym (last ∙ size))
-                (subst (IsFallAt p next roles enables k n) (sym same) here)
+                (subst (IsFallAt p next roles enables k n) same here)
           ];
       kept = keeps_more old now next so_far.kept grown.kept;
       extended = extended_grown p roles xs enables (a ∷ picked (Inside k n) (moves_in p.forms enables)) price now next
@@ -381,14 +381,15 @@ JumpsSoFar p enables n old now ms = (roles : List Role) (xs : List cells.Cell) �
 
 pub tally_at : (p : Program) (enables : List (Option Enable)) (j n : ℕ) (q : Process) (qs : List Process) → IsAt qs n q
     → IsAt (tallies_of p enables j qs) n (tally_of p enables (j + n) q)
-tally_at p enables j n q [] (lt, is) = absurd (omega (arith, lt))
-tally_at p enables j zero q (r ∷ qs) (lt, is) =
-    let start : j + 0 ≡ j = omega arith in
-    (omega arith, ap (tally_of p enables (j + 0)) is ∙ ap (λ m. tally_of p enables m r) start)
-tally_at p enables j (suc n) q (r ∷ qs) (lt, is) =
+tally_at p enables j n q [] at = absurd (none-some q at)
+tally_at p enables j zero q (r ∷ qs) at =
+    let start : j ≡ j + 0 = omega arith in
+    ap (λ (z : Process). Some (tally_of p enables j z)) (same_Some r q at)
+    ∙ ap (λ m. Some (tally_of p enables m q)) start
+tally_at p enables j (suc n) q (r ∷ qs) at =
     let shift : suc j + n ≡ j + suc n = omega arith in
-    let (lt2, is2) = subst (λ m. IsAt (tallies_of p enables (suc j) qs) n (tally_of p enables m q)) shift
-    (tally_at p enables (suc j) n q qs (omega (arith, lt), is)) in (omega (arith, lt2), is2)
+    subst (λ m. IsAt (tallies_of p enables (suc j) qs) n (tally_of p enables m q)) shift
+    (tally_at p enables (suc j) n q qs at)
 
 pub jumps_more : (p : Program) (enables : List (Option Enable)) (n : ℕ) (old now next : List RtlExpr)
     (ms more : List Jumps) (m : Jumps) → n < length p.processes → JumpsSoFar p enables n old now ms
@@ -398,25 +399,26 @@ jumps_more p enables n old now next ms more m lt before makes added = λ roles x
     let (q, at_q) = some_entry p.processes n lt in
     let made = makes roles xs q at_q so_far.extended in
     let ts = tallies_of p enables 0 p.processes in
-    let at_t : IsAt ts n (tally_of p enables (0 + n) q) = tally_at p enables 0 n q p.processes at_q in
+    let t = tally_of p enables (0 + n) q in
+    let at_t : IsAt ts n t = tally_at p enables 0 n q p.processes at_q in
     let zero_n : 0 + n ≡ n = omega arith in
-    let price : moves_cost (get_or ts n (tally_of p enables (0 + n) q)) ≡ moves_cost (tally_of p enables n q) =
-    ap moves_cost (sym at_t.1) ∙ ap (λ i. moves_cost (tally_of p enables i q)) zero_n in
-    let total = sum_by_more moves_cost ts n (tally_of p enables (0 + n) q) at_t.0 in
+    let price : moves_cost (get_or ts n t) ≡ moves_cost (tally_of p enables n q) =
+    ap moves_cost (get_or_from_slice_get ts n t t at_t) ∙ ap (λ i. moves_cost (tally_of p enables i q)) zero_n in
+    let total = sum_by_more moves_cost ts n t (within ts n at_t) in
     let cost = made.cost in
     let earlier = so_far.cost in
     let size = so_far.size in
     let long = ap length added ∙ length_push ms m in record {
       size = omega (arith, size, long);
-      each = λ k r z at_r at_z. elim (at_push_cases ms m k z (subst (λ ns. IsAt ns k z) added at_z)) as
+      each = λ k r z at_r at_z. elim (push_cases ms m k z (subst (λ ns. IsAt ns k z) added at_z)) as
           (λ _. IsJumps p next roles enables k r z) [
-            | inl there ↦
+            | inl (before_it, there) ↦
                 jumps_kept p roles enables now next made.kept k r z (so_far.each k r z at_r there)
             | inr (last, same) ↦
                 let at_n : IsAt p.processes n r = subst (λ i. IsAt p.processes i r) (last ∙ size) at_r in
                 let here = makes roles xs r at_n so_far.extended in
                 subst (λ i. IsJumps p next roles enables i r z) (sym (last ∙ size))
-                (subst (IsJumps p next roles enables n r) (sym same) here.jumps)
+                (subst (IsJumps p next roles enables n r) same here.jumps)
           ];
       kept = keeps_more old now next so_far.kept made.kept;
       extended = made.extended;

@@ -37,7 +37,7 @@ use Rattle.std.proofs.lemmas.List.Sums.{sum_by-cons, sum_by-append}
 use Rattle.mp_base.proofs.Contents.{contains_behind as there, nothing_in, only_one, contains_from_map}
 use Rattle.mp_base.proofs.Contents.{contains_from_filter, contains_map}
 use Rattle.mp_base.proofs.Induction.{by_test}
-use Rattle.std.proofs.lemmas.Option.{same_Some}
+use Rattle.std.proofs.lemmas.Option.{same_Some, none-some}
 use Rattle.mp_base.proofs.Tests.{and_left, and_right}
 use Rattle.mp_program.specs.declared.program.FormKind.{FormKind}
 use Rattle.mp_program.specs.declared.program.FormKind.TheVariants as forms
@@ -99,10 +99,9 @@ moves_at (y ∷ ys) (x ∷ xs) m c =
     × (move_kind z.kind ≡ Some m.kind)) [
       | inl first ↦
           let (is, kind) = moves_from y.kind x m first in
-          (0, y, (omega arith, refl), (omega arith, sym is), kind)
+          (0, y, refl, ap Some is, kind)
       | inr rest ↦
-          let (f, z, (lt, is), (lt2, is2), kind) = moves_at ys xs m rest in
-          (suc f, z, (omega (arith, lt), is), (omega (arith, lt2), is2), kind)
+          let (f, z, at_z, at_x, kind) = moves_at ys xs m rest in (suc f, z, at_z, at_x, kind)
     ]
 
 abbrev with_kind : Enable → Option MoveKind → Option Move
@@ -110,18 +109,19 @@ with_kind x o = option_map (λ (n : MoveKind). record { kind = n; enable = x }) 
 
 at_moves : (ys : List Form) (xs : List (Option Enable)) (f : ℕ) (y : Form) (x : Enable) (k : MoveKind) → IsAt ys f y
     → IsAt xs f (Some x) → move_kind y.kind ≡ Some k → Contains (moves_in ys xs) (record { kind = k; enable = x })
-at_moves [] xs f y x k (lt, is) at kind = absurd (omega (arith, lt))
-at_moves (z ∷ ys) [] f y x k at (lt, is) kind = absurd (omega (arith, lt))
-at_moves (z ∷ ys) (w ∷ xs) zero y x k (lt, is) (lt2, is2) kind =
+at_moves [] xs f y x k at_y at_x kind = absurd (none-some y at_y)
+at_moves (z ∷ ys) [] f y x k at_y at_x kind = absurd (none-some (Some x) at_x)
+at_moves (z ∷ ys) (w ∷ xs) zero y x k at_y at_x kind =
     Contains-append_left (option_to_list (move_of z.kind w)) (moves_in ys xs) (record { kind = k; enable = x })
     (subst (λ (v : Form). Contains {X = Move} (option_to_list (move_of v.kind w)) (record { kind = k; enable = x }))
-    is
-    (subst (λ o. Contains {X = Move} (option_to_list (move_of y.kind o)) (record { kind = k; enable = x })) is2
+    (sym (same_Some z y at_y))
+    (subst (λ o. Contains {X = Move} (option_to_list (move_of y.kind o)) (record { kind = k; enable = x }))
+    (sym (same_Some w (Some x) at_x))
     (subst (λ o. Contains {X = Move} (option_to_list (with_kind x o)) (record { kind = k; enable = x })) (sym kind)
     (0, omega arith, refl))))
-at_moves (z ∷ ys) (w ∷ xs) (suc f) y x k (lt, is) (lt2, is2) kind =
+at_moves (z ∷ ys) (w ∷ xs) (suc f) y x k at_y at_x kind =
     Contains-append_right (option_to_list (move_of z.kind w)) (moves_in ys xs) (record { kind = k; enable = x })
-    (at_moves ys xs f y x k (omega (arith, lt), is) (omega (arith, lt2), is2) kind)
+    (at_moves ys xs f y x k at_y at_x kind)
 
 filter_in : {X : Type 0} (t : X → Bool) (xs : List X) (x : X) → Contains xs x → t x ≡ true → Contains (filter t xs) x
 filter_in t [] x c e = absurd (nothing_in x c)
@@ -456,17 +456,18 @@ inside_counted k n ys xs =
 
 pub has_in : (t : FormKind → Bool) (k i : ℕ) (ys : List Form) (xs : List (Option Enable)) (f a : ℕ) (y : Form)
     → IsAt ys f y → HasEnable xs f (At k i) a → t y.kind ≡ true → has_at t k i ys xs ≡ true
-has_in t k i [] xs f a y (lt, is) has h = absurd (omega (arith, lt))
-has_in t k i (z ∷ ys) [] f a y at (lt, is) h = absurd (omega (arith, lt))
-has_in t k i (z ∷ ys) (None ∷ xs) zero a y (lt, is) (lt2, is2) h = absurd (cc)
-has_in t k i (z ∷ ys) (None ∷ xs) (suc f) a y (lt, is) (lt2, is2) h =
-    has_in t k i ys xs f a y (omega (arith, lt), is) (omega (arith, lt2), is2) h
-has_in t k i (z ∷ ys) (Some x ∷ xs) zero a y (lt, is) (lt2, is2) h =
-    let same : record { origin = At k i; expr = a } ≡ x = same_Some (record { origin = At k i; expr = a }) x is2 in
-    let there : is_at k i x.origin ≡ true = ap (λ (e : Enable). is_at k i e.origin) (sym same) ∙ there_at k i in
-    let passes : t z.kind ≡ true = ap (λ (v : Form). t v.kind) (sym is) ∙ h in
+has_in t k i [] xs f a y at has h = absurd (none-some y at)
+has_in t k i (z ∷ ys) [] f a y at has h = absurd (none-some _ has)
+has_in t k i (z ∷ ys) (None ∷ xs) zero a y at has h =
+    let own : Enable = record { origin = At k i; expr = a } in
+    absurd (none-some own (same_Some None (Some own) has))
+has_in t k i (z ∷ ys) (None ∷ xs) (suc f) a y at has h = has_in t k i ys xs f a y at has h
+has_in t k i (z ∷ ys) (Some x ∷ xs) zero a y at has h =
+    let own : Enable = record { origin = At k i; expr = a } in
+    let same : x ≡ own = same_Some x own (same_Some (Some x) (Some own) has) in
+    let there : is_at k i x.origin ≡ true = ap (λ (e : Enable). is_at k i e.origin) same ∙ there_at k i in
+    let passes : t z.kind ≡ true = ap (λ (v : Form). t v.kind) (same_Some z y at) ∙ h in
     or_left (is_at k i x.origin && t z.kind) (has_at t k i ys xs)
     (and_from (is_at k i x.origin) (t z.kind) there passes)
-has_in t k i (z ∷ ys) (Some x ∷ xs) (suc f) a y (lt, is) (lt2, is2) h =
-    or_right (is_at k i x.origin && t z.kind) (has_at t k i ys xs)
-    (has_in t k i ys xs f a y (omega (arith, lt), is) (omega (arith, lt2), is2) h)
+has_in t k i (z ∷ ys) (Some x ∷ xs) (suc f) a y at has h =
+    or_right (is_at k i x.origin && t z.kind) (has_at t k i ys xs) (has_in t k i ys xs f a y at has h)

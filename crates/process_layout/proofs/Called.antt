@@ -36,8 +36,8 @@ use Rattle.mp_program.specs.declared.program.Form.{Form}
 use Rattle.mp_program.specs.declared.program.Program.{Program}
 use Rattle.mp_program.specs.Sound.{AllBetween, BranchesFit, InnerFit}
 use Rattle.mp_program.specs.Weight.{inner, is_call, calls_in}
-use Rattle.mp_base.proofs.ListEntries.{get_at}
 use Rattle.mp_base.specs.Entries.{IsAt}
+use Rattle.mp_base.proofs.Entries.{within}
 use Rattle.process_plan.specs.Lawful.{Known}
 use Rattle.process_plan.proofs.Counting.{calls_is}
 use Rattle.process_layout.specs.Calling.{kind_calls}
@@ -93,8 +93,9 @@ told_more p known f x calling b at told is kept = record {
   size = kept ∙ told.size;
   each = λ g le lt. elim (below_or_same f g le) [
     | inl same ↦
+        let inside = within p.forms f at in
         let here : slice_index_or (slice_set calling f b) f false ≡ b =
-        get_or-set_same calling f b false (omega (arith, at.0, told.size)) in
+        get_or-set_same calling f b false (omega (arith, inside, told.size)) in
         subst (λ n. slice_index_or (slice_set calling f b) n false ≡ nat_lt 0 (calls_in p n)) same (here ∙ now)
     | inr above ↦
         get_or-set_other calling f g b false (λ e. omega (arith, e, above)) ∙ told.each g (omega (arith, above)) lt
@@ -112,5 +113,5 @@ told_more p known f x calling b at told is kept = record {
 
     now : b ≡ nat_lt 0 (calls_in p f)
     now = is ∙ kind_told (λ g. slice_index_or calling g false) (calls_in p) (length p.exprs) f (length p.forms) x.kind
-        (λ g above lt. told.each g (omega (arith, above)) lt) (known.sound.forms f x (get_at p.forms f x at))
+        (λ g above lt. told.each g (omega (arith, above)) lt) (known.sound.forms f x at)
         ∙ ap (nat_lt 0) (sym (calls_is p known f x at))

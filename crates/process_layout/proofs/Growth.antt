@@ -37,8 +37,9 @@ use Rattle.std.specs.Prelude.{if◌then◌else◌, nat_lt, slice_index, slice_in
 use Rattle.std.specs.List.{count_by}
 use Rattle.std.specs.Option.{option_map_or}
 use Rattle.std.proofs.Math.Seq.{take-suc}
-use Rattle.std.proofs.lemmas.List.{append-nil, get_or_default, map-append}
+use Rattle.std.proofs.lemmas.List.{append-nil, map-append}
 use Rattle.std.proofs.lemmas.List.Sums.{count_by_more_no, count_by_more_yes}
+use Rattle.std.proofs.lemmas.Option.{get_or_from_slice_get, slice_get-get_or}
 use Rattle.mp_program.specs.declared.program.What.{What}
 use Rattle.mp_program.specs.declared.program.What.TheVariants.{
   Power,
@@ -60,7 +61,7 @@ use Rattle.mp_program.specs.Names.{is_input, is_output, pad_number}
 use Rattle.mp_program.specs.Sound.{IsSound}
 use Rattle.mp_program.specs.Weight.{calls_in}
 use Rattle.mp_base.specs.Entries.{IsAt}
-use Rattle.mp_base.proofs.ListEntries.{get_at}
+use Rattle.mp_base.proofs.Entries.{within}
 use Rattle.rtl_form.specs.declared.rtl.Cell.{Cell}
 use Rattle.process_plan.specs.declared.role.Role.{Role}
 use Rattle.process_plan.specs.declared.role.Role.TheVariants.{Placed, Stacked}
@@ -144,13 +145,14 @@ own_held ds d cells now roles after o held is all there =
 
 counted_more : (test : Def → Bool) (ds : List Def) (d : ℕ) (y : Def) → IsAt ds d y
     → count_by test (take (d + 1) ds) ≡ count_by test (take d ds) + (if test y then 1 else 0)
-counted_more test ds d y (lt, is) = pick (test y) refl
+counted_more test ds d y at = pick (test y) refl
   where
     pick : (b : Bool) → test y ≡ b
         → count_by test (take (d + 1) ds) ≡ count_by test (take d ds) + (if b then 1 else 0)
-    pick true e = count_by_more_yes test ds d y lt (ap test (sym is) ∙ e)
+    pick true e = count_by_more_yes test ds d y (within ds d at) (ap test (get_or_from_slice_get ds d y y at) ∙ e)
     pick false e =
-        let same = count_by_more_no test ds d y lt (ap test (sym is) ∙ e) in omega (arith, same)
+        let same = count_by_more_no test ds d y (within ds d at) (ap test (get_or_from_slice_get ds d y y at) ∙ e) in
+        omega (arith, same)
 
 pub inputs_more : (ds : List Def) (d : ℕ) (y : Def) → IsAt ds d y
     → pad_number ds (d + 1) ≡ pad_number ds d + (if is_input y.what then 1 else 0)
@@ -208,7 +210,7 @@ pub process_more : (calling : ℕ → Bool) (qs : List Process) (k : ℕ) (q : P
     → processes_roles calling qs (k + 1) ≡ processes_roles calling qs k ++ process_roles calling k q
 process_more calling qs k q at =
     ap (processes_roles calling qs) (add-one k)
-    ∙ ap (λ o. processes_roles calling qs k ++ option_map_or (process_roles calling k) o []) (get_at qs k q at)
+    ∙ ap (λ o. processes_roles calling qs k ++ option_map_or (process_roles calling k) o []) at
 
 -- the next process
 pub process_next : (calling : ℕ → Bool) (qs : List Process) (k : ℕ) (q : Process) (before laid now : List Role)
@@ -246,7 +248,7 @@ module _ (ds : List Def) (i : ℕ) (r : Def) (lt : i < length ds) where
   this = slice_index_or ds i r
 
   pub is_this : IsAt ds i this
-  is_this = (lt, get_or_default ds i r this lt)
+  is_this = slice_get-get_or ds i r lt
 
   pub inputs_next : (n m : ℕ) (b : Bool) → n ≡ pad_number ds i → m ≡ (if b then 1 else 0) → b ≡ is_input this.what
       → n + m ≡ pad_number ds (i + 1)

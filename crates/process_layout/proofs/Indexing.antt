@@ -22,7 +22,6 @@ use Rattle.std.proofs.Common.{
   sym,
   ap,
   subst,
-  arith,
   length,
 }
 use Rattle.std.specs.Prelude.{◌&&◌}
@@ -33,10 +32,11 @@ use Rattle.mp_base.specs.Entries.{IsAt}
 use Rattle.process_plan.specs.declared.role.Role.{Role}
 use Rattle.process_plan.specs.declared.role.Role.TheVariants.{Value, Placed, Stacked}
 use Rattle.std.specs.BTreeMap.{BTreeMap, get}
-use Rattle.mp_base.proofs.ListEntries.{at_pushed}
+use Rattle.std.proofs.lemmas.Option.{same_Some, none-some}
+use Rattle.mp_base.proofs.Entries.{get_middle, get_kept}
 use Rattle.process_layout.specs.declared.index.RoleIndex.{RoleIndex}
 use Rattle.process_layout.specs.Index.{IsCellFor, IsIndexOf, pair_cmp, triple_cmp}
-use Rattle.process_layout.proofs.Listing.{at_left, at_cases}
+use Rattle.process_layout.proofs.Listing.{at_cases}
 
 -- a test that tells whether something holds
 abbrev pub Tells : Bool → Type 0 → Type 0
@@ -58,11 +58,11 @@ pair_tells x y = subst (λ b. Tells b ((x.0 ≡ y.0) × (x.1 ≡ y.1))) (tied_th
 -- a role that another role isn't has the cell that it had
 pub still_cell : (roles : List Role) (r s : Role) (o : Option ℕ) → (r ≡ s → ⊥) → IsCellFor roles s o
     → IsCellFor (roles ++ r ∷ []) s o
-still_cell roles r s (Some c) other at = at_left roles (r ∷ []) c s at
+still_cell roles r s (Some c) other at = get_kept roles (r ∷ []) c s at
 still_cell roles r s None other none = λ c at. elim (at_cases roles (r ∷ []) c s at) [
   | inl before ↦ none c before
-  | inr (zero, e, (lt, is)) ↦ other (sym is)
-  | inr (suc j, e, (lt, is)) ↦ omega (arith, lt)
+  | inr (zero, e, last) ↦ other (same_Some r s last)
+  | inr (suc j, e, past) ↦ none-some s past
 ]
 
 -- and the other is in the next cell
@@ -70,7 +70,7 @@ pub next_cell : (roles : List Role) (r s : Role) (c : ℕ) → r ≡ s → lengt
     (Some c)
 next_cell roles r s c same size =
     subst (λ n. IsAt (roles ++ r ∷ []) n s) size (subst (λ t. IsAt (roles ++ r ∷ []) (length roles) t) same
-    (at_pushed roles r))
+    (get_middle roles r []))
 
 -- whether or not these roles are one
 pub either_cell : (roles : List Role) (r s : Role) (c : ℕ) (b : Bool) (o : Option ℕ) → Tells b (r ≡ s)

@@ -27,9 +27,8 @@ use Rattle.std.proofs.Common.{
   length-append,
 }
 use Rattle.std.specs.Prelude.{MatchOption, position, slice_index, slice_index_or}
-use Rattle.std.proofs.lemmas.List.{get_or_default}
 use Rattle.std.proofs.lemmas.List.Quantifiers.{position-Some}
-use Rattle.std.proofs.lemmas.Option.{same_Some}
+use Rattle.std.proofs.lemmas.Option.{same_Some, get_or_from_slice_get, slice_get-get_or}
 use Rattle.mp_base.proofs.Tests.{and_right}
 use Rattle.mp_program.specs.declared.program.What.{What}
 use Rattle.mp_program.specs.declared.program.What.TheVariants.{
@@ -50,7 +49,7 @@ use Rattle.mp_program.specs.declared.program.Program.{Program}
 use Rattle.mp_program.specs.Names.{is_driven, is_input_signal, is_reset, pad_number}
 use Rattle.mp_program.specs.Reads.{IsOrder}
 use Rattle.mp_base.specs.Entries.{IsAt}
-use Rattle.mp_base.proofs.ListEntries.{one_entry, at_pushed, number_at, at_get}
+use Rattle.mp_base.proofs.Entries.{one_entry, get_middle, get_kept, within}
 use Rattle.rtl_form.specs.declared.rtl.Cell.{Cell}
 use Rattle.rtl_form.specs.declared.rtl.CellKind.TheVariants as kinds
 use Rattle.process_plan.specs.declared.role.Role.{Role}
@@ -59,7 +58,6 @@ use Rattle.process_plan.specs.Plan.{IsResetCell}
 use Rattle.process_plan.specs.Roles.{AreCells, def_cell}
 use Rattle.process_layout.specs.Index.{IsCellFor}
 use Rattle.process_layout.specs.Layouts.{HaveCells, IsOrderOf}
-use Rattle.process_layout.proofs.Listing.{at_left}
 
 -- ---- an order
 
@@ -93,12 +91,12 @@ more_ordered roles order cells now i c are at is =
           × IsAt roles b (Value d)) [
             | inl same ↦
                 let there : IsAt (cells ++ c ∷ []) k c =
-                subst (λ n. IsAt (cells ++ c ∷ []) n c) (size ∙ sym same) (at_pushed cells c) in
+                subst (λ n. IsAt (cells ++ c ∷ []) n c) (size ∙ sym same) (get_middle cells c []) in
                 let value : slice_index order i ≡ d =
-                number_at order i d (subst (λ n. IsAt order n d) same at_d) in
+                get_or_from_slice_get order i d 0 (subst (λ n. IsAt order n d) same at_d) in
                 (c, there, subst (λ n. IsAt roles c (Value n)) value at)
             | inr below ↦
-                let (b, at_b, role) = are.each k d below at_d in (b, at_left cells (c ∷ []) k b at_b, role)
+                let (b, at_b, role) = are.each k d below at_d in (b, get_kept cells (c ∷ []) k b at_b, role)
           ];
     })
 
@@ -106,7 +104,7 @@ pub all_ordered : (roles : List Role) (order cells : List ℕ) (i : ℕ) → i �
     → AreOrdered roles order i cells → IsOrderOf roles order cells
 all_ordered roles order cells i whole are = record {
   size = are.size ∙ whole;
-  ordered = λ k d at. let lt = at.0 in are.each k d (omega (arith, lt, whole)) at;
+  ordered = λ k d at. let lt = within order k at in are.each k d (omega (arith, lt, whole)) at;
 }
 
 driven_cell : (ds : List Def) (d : ℕ) (w : What) → is_driven w ≡ true → (x : Cell) × (def_cell ds d w ≡ Some x)
@@ -131,7 +129,7 @@ pub order_cells : (p : Program) (roles : List Role) (cells : List Cell) (order :
 order_cells p roles cells order are ordered k lt =
     let (y, there, driven) = ordered.driven k lt in
     let (x, made) = driven_cell p.defs (slice_index order k) y.what driven in
-    are.all (Value (slice_index order k)) x (y, at_get p.defs (slice_index order k) y there, made)
+    are.all (Value (slice_index order k)) x (y, there, made)
 
 -- ---- the input `reset`
 
@@ -182,5 +180,5 @@ module _ (p : Program) (roles : List Role) (cells : List Cell) (are : AreCells p
       there (z ∷ zs) e =
           let (lt, passes, first) = position-Some is_reset p.defs d z found in
           let y : Def = slice_index_or p.defs d z in
-          let at : IsAt p.defs d y = (lt, get_or_default p.defs d z y lt) in
+          let at : IsAt p.defs d y = slice_get-get_or p.defs d z lt in
           found_reset d y at (and_right _ (is_input_signal y.what) passes) o cell

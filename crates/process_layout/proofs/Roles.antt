@@ -34,7 +34,6 @@ use Rattle.mp_base.proofs.Contents.{contains_head, nothing_in, only_one, contain
 use Rattle.mp_base.proofs.Numbers.{below_or_last}
 use Rattle.mp_program.specs.declared.program.Def.{Def}
 use Rattle.mp_base.specs.Entries.{IsAt}
-use Rattle.mp_base.proofs.ListEntries.{get_at}
 use Rattle.rtl_form.specs.declared.rtl.Cell.{Cell}
 use Rattle.process_plan.specs.declared.role.Role.{Role}
 use Rattle.process_plan.specs.declared.role.Role.TheVariants.{Value, Placed, Stacked}
@@ -49,7 +48,7 @@ use Rattle.process_layout.proofs.Once.{once_none, once_one, once_both, once_mapp
 -- ---- definitions
 
 pub cell_got : (ds : List Def) (d : ℕ) (y : Def) → IsAt ds d y → cell_at ds d ≡ def_cell ds d y.what
-cell_got ds d y at = ap (λ o. option_map_or (λ (x : Def). def_cell ds d x.what) o None) (get_at ds d y at)
+cell_got ds d y at = ap (λ o. option_map_or (λ (x : Def). def_cell ds d x.what) o None) at
 
 in_own : (d : ℕ) (o : Option Cell) (s : Role) → Contains (own_role d o) s → (s ≡ Value d) × ((x : Cell) × (o ≡ Some x))
 in_own d (Some x) s c = (sym (only_one (Value d) s c), (x, refl))

@@ -12,7 +12,6 @@ use Rattle.std.proofs.Common.{
   ◌<◌,
   List,
   [],
-  ◌∷◌,
   ◌++◌,
   Bool,
   true,
@@ -33,6 +32,7 @@ use Rattle.std.specs.List.{AllByRecursion}
 use Rattle.std.specs.Option.{option_map_or}
 use Rattle.std.proofs.lemmas.Bool.{lt-ltb, ltb-true}
 use Rattle.std.proofs.lemmas.List.Elements.{Contains-append_left, Contains-append_right, Contains-append_cases}
+use Rattle.std.proofs.lemmas.Option.{slice_get-get_or}
 use Rattle.mp_base.proofs.Contents.{nothing_in}
 use Rattle.mp_base.proofs.Numbers.{below_or_last}
 use Rattle.mp_base.proofs.Lists.{length_map}
@@ -41,13 +41,12 @@ use Rattle.mp_program.specs.declared.program.Program.{Program}
 use Rattle.mp_program.specs.Sound.{IsSound}
 use Rattle.mp_program.specs.Weight.{calls_in}
 use Rattle.mp_base.specs.Entries.{IsAt}
-use Rattle.mp_base.proofs.ListEntries.{contains_from_at, some_entry, get_at, at_get, all_at}
+use Rattle.mp_base.proofs.Entries.{contains_from_get, some_entry, each_at, get_from_contains, map_get, within}
 use Rattle.rtl_form.specs.declared.rtl.Cell.{Cell}
 use Rattle.process_plan.specs.declared.role.Role.{Role}
 use Rattle.process_plan.specs.declared.role.Role.TheVariants.{Value, Placed, Stacked}
 use Rattle.process_plan.specs.Roles.{AreCells, IsCellOf, IsReturnPlace}
 use Rattle.process_plan.proofs.Census.{AreOnce}
-use Rattle.process_plan.proofs.Members.{in_entry}
 use Rattle.process_plan.proofs.Enables.{process_of}
 use Rattle.process_layout.specs.Laying.{
   all_roles,
@@ -140,7 +139,7 @@ in_processes calling qs (suc n) s c =
           let (k, q, lt, at, is) = in_processes calling qs n s left in (k, q, omega (arith, lt), at, is)
       | inr right ↦
           let (q, there, is) = in_maybe calling n (slice_get qs n) s right in
-          (n, q, omega arith, at_get qs n q there, in_process calling n q s is)
+          (n, q, omega arith, there, in_process calling n q s is)
     ]
 
 process_in : (calling : ℕ → Bool) (qs : List Process) (n k : ℕ) (q : Process) (s : Role) → k < n → IsAt qs k q
@@ -154,7 +153,7 @@ process_in calling qs (suc n) k q s lt at c =
     pick (inl same) rest =
         Contains-append_right (processes_roles calling qs n) (maybe_roles calling n (slice_get qs n)) s
         (subst (λ m. Contains (maybe_roles calling m (slice_get qs m)) s) same
-        (subst (λ o. Contains (maybe_roles calling k o) s) (sym (get_at qs k q at)) c))
+        (subst (λ o. Contains (maybe_roles calling k o) s) (sym at) c))
     pick (inr below) rest =
         Contains-append_left (processes_roles calling qs n) (maybe_roles calling n (slice_get qs n)) s (rest below)
 
@@ -179,27 +178,14 @@ not_value : (calling : ℕ → Bool) (k : ℕ) (q : Process) (s : Role) → IsOf
 not_value calling k q s (inl (j, pos, le, is)) = ap is_value is
 not_value calling k q s (inr (l, j, lt, place, is)) = ap is_value is
 
-mapped_at : {X Y : Type 0} (f : X → Y) (xs : List X) (k : ℕ) (x : X) → IsAt xs k x → IsAt (map f xs) k (f x)
-mapped_at f [] k x (lt, is) = absurd (omega (arith, lt))
-mapped_at f (y ∷ ys) zero x (lt, is) = (omega arith, ap f is)
-mapped_at f (y ∷ ys) (suc k) x (lt, is) =
-    let (lt2, is2) = mapped_at f ys k x (omega (arith, lt), is) in (omega (arith, lt2), is2)
-
 module _ (p : Program) (sound : IsSound p) (calling : ℕ → Bool)
     (calls : (f : ℕ) → f < length p.forms → calling f ≡ nat_lt 0 (calls_in p f)) where
   is_inside : (k : ℕ) (q : Process) → IsAt p.processes k q → (i : ℕ) → i < length q.forms
       → slice_index q.forms i < length p.forms
   is_inside k q at i lt =
-      let forms = all_at (λ (x : Process). AllByRecursion (λ f. f < length p.forms) x.forms) p.processes k q
+      let forms = each_at (λ (x : Process). AllByRecursion (λ f. f < length p.forms) x.forms) p.processes k q
       sound.processes at in
-      let (f, at_f) = some_entry q.forms i lt in
-      subst (λ n. n < length p.forms) (read q.forms i f at_f)
-      (all_at (λ g. g < length p.forms) q.forms i f forms at_f)
-    where
-      read : (fs : List ℕ) (i f : ℕ) → IsAt fs i f → f ≡ slice_index fs i
-      read [] i f (lt, is) = absurd (omega (arith, lt))
-      read (g ∷ gs) zero f (lt, is) = is
-      read (g ∷ gs) (suc i) f (lt, is) = read gs i f (omega (arith, lt), is)
+      each_at (λ f. f < length p.forms) q.forms i (slice_index q.forms i) forms (slice_get-get_or q.forms i 0 lt)
 
   -- each role is that of something which has this cell
   value_cell : (d : ℕ) (x : Cell) → d < length p.defs → cell_at p.defs d ≡ Some x
@@ -244,13 +230,13 @@ module _ (p : Program) (sound : IsSound p) (calling : ℕ → Bool)
   in_process_roles k q s at c =
       Contains-append_right (value_roles p.defs (length p.defs))
       (processes_roles calling p.processes (length p.processes)) s
-      (process_in calling p.processes (length p.processes) k q s at.0 at c)
+      (process_in calling p.processes (length p.processes) k q s (within p.processes k at) at c)
 
   all_cells : (s : Role) (x : Cell) → IsCellOf p s x → Contains (all_roles calling p) s
   all_cells (Value d) x (y, at, made) =
       Contains-append_left (value_roles p.defs (length p.defs))
       (processes_roles calling p.processes (length p.processes)) (Value d)
-      (value_in p.defs (length p.defs) d x at.0 (cell_got p.defs d y at ∙ made))
+      (value_in p.defs (length p.defs) d x (within p.defs d at) (cell_got p.defs d y at ∙ made))
   all_cells (Placed k j) x (q, at, pos, lt, is) =
       in_process_roles k q (Placed k j) at
       (Contains-append_left (place_roles k (length q.forms - 1))
@@ -284,9 +270,9 @@ module _ (p : Program) (sound : IsSound p) (calling : ℕ → Bool)
         size = length_map (cell_for p.defs) (all_roles calling p);
         each = λ c s at. (
           cell_for p.defs s,
-          mapped_at (cell_for p.defs) (all_roles calling p) c s at,
-          each_cell s (contains_from_at (all_roles calling p) c s at),
+          map_get (cell_for p.defs) (all_roles calling p) c s at,
+          each_cell s (contains_from_get (all_roles calling p) c s at),
         );
-        all = λ s x is. in_entry (all_roles calling p) s (all_cells s x is);
+        all = λ s x is. get_from_contains (all_roles calling p) s (all_cells s x is);
         once = λ c d s at_c at_d. once_all c d s at_c at_d;
       }))

@@ -1,8 +1,7 @@
 //! Cells while they are laid out.
 
 ghost use Rattle.std.specs.Prelude.{◌≡◌, [], ◌∷◌, ◌++◌, IfOk};
-ghost use Rattle.std.proofs.Props.{props};
-ghost use Rattle.process_layout.specs.Index.{IsCellFor, IsIndexOf};
+ghost use Rattle.process_layout.specs.Index.{IsCellFor, IsIndexOf, IsIndexOf-prop};
 
 use crate::index::RoleIndex;
 use mp_base::{List, NoMemory};
@@ -16,7 +15,7 @@ pub(crate) struct Laid {
     pub cells: List<Cell>,
     pub roles: List<Role>,
     pub index: RoleIndex,
-    pub ghost indexed: { IsIndexOf roles index } by { Prim.hlevel props },
+    pub ghost indexed: { IsIndexOf roles index } by { IsIndexOf-prop roles index },
 }
 
 impl Laid {

@@ -1,7 +1,6 @@
 //! The cells of a program.
 
-ghost use Rattle.process_layout.specs.Index.{IsCellFor, IsIndexOf};
-ghost use Rattle.std.proofs.Props.{props};
+ghost use Rattle.process_layout.specs.Index.{IsCellFor, IsIndexOf, IsIndexOf-prop};
 
 use crate::index::RoleIndex;
 use mp_base::List;
@@ -17,7 +16,7 @@ pub struct Layout {
     pub order: List<u32>,
     pub reset: Option<u32>,
     pub(crate) index: RoleIndex,
-    pub ghost indexed: { IsIndexOf roles index } by { Prim.hlevel props },
+    pub ghost indexed: { IsIndexOf roles index } by { IsIndexOf-prop roles index },
 }
 
 impl Layout {

@@ -39,13 +39,13 @@ use Rattle.std.specs.List.{sum_by}
 use Rattle.std.specs.Option.{option_map_or}
 use Rattle.std.proofs.Math.Nat.{mul-add}
 use Rattle.std.proofs.lemmas.Bool.{lt-ltb, ltb-true}
-use Rattle.std.proofs.lemmas.List.{get_or_default, take-append-drop}
+use Rattle.std.proofs.lemmas.List.{take-append-drop}
 use Rattle.std.proofs.lemmas.List.Elements.{Contains-append_left, Contains-append_right}
 use Rattle.std.proofs.lemmas.List.Sums.{sum_by-cons, sum_by-append, sum_by_push}
 use Rattle.mp_base.proofs.Numbers.{below_or_last}
 use Rattle.mp_base.proofs.Contents.{contains_map, contains_head, contains_behind, nothing_in}
 use Rattle.mp_base.proofs.Induction.{by_test}
-use Rattle.std.proofs.lemmas.Option.{same_Some}
+use Rattle.std.proofs.lemmas.Option.{same_Some, none-some, get_or_from_slice_get}
 use Rattle.mp_program.specs.declared.program.What.{What}
 use Rattle.mp_program.specs.declared.program.What.TheVariants.{
   Power,
@@ -65,12 +65,11 @@ use Rattle.mp_program.specs.declared.program.Process.{Process}
 use Rattle.mp_program.specs.declared.program.Program.{Program}
 use Rattle.mp_program.specs.Weight.{calls_in}
 use Rattle.mp_base.specs.Entries.{IsAt}
-use Rattle.mp_base.proofs.ListEntries.{one_entry, some_entry, get_at}
+use Rattle.mp_base.proofs.Entries.{one_entry, some_entry, get_from_contains, within}
 use Rattle.rtl_form.specs.declared.rtl.Cell.{Cell}
 use Rattle.rtl_form.specs.Cost.{cell_cost}
 use Rattle.process_plan.specs.Roles.{Role, Value, Placed, Stacked, AreCells, IsCellOf, def_cell}
 use Rattle.process_plan.specs.Bill.{cells_cost, def_bill, defs_bill}
-use Rattle.process_plan.proofs.Members.{in_entry}
 
 -- ---- what is in a list, each once, sums to no more than the list
 
@@ -111,17 +110,14 @@ sum_within {X} f (x ∷ xs) ys once within =
     let total = sum_removed f x k ys k_in k_is in
     let now = sum_by-cons f x xs in
     let rest = sum_within f xs (removed k ys)
-    (λ j i y (lt, is) (lt2, is2). let e = once (suc j) (suc i) y (omega (arith, lt), is) (omega (arith, lt2), is2) in
-    omega (arith, e))
+    (λ j i y at at'. let e = once (suc j) (suc i) y at at' in omega (arith, e))
     (λ y cy. still_in x y k ys k_in k_is (within y (contains_behind y x xs cy)) (λ same. apart y cy same)) in
     omega (arith, total, now, rest)
   where
-    is_x : (y : X) (k : ℕ) → k < length xs → slice_index_or xs k y ≡ y → y ≡ x → slice_index_or xs k x ≡ x
-    is_x y k lt is same = subst (λ z. slice_index_or xs k z ≡ z) same is
-
     apart : (y : X) → Contains xs y → y ≡ x → ⊥
-    apart y (k, lt, is) same =
-        let e = once 0 (suc k) x (omega arith, refl) (omega (arith, lt), sym (is_x y k lt is same)) in omega (arith, e)
+    apart y c same =
+        let (k, at) = get_from_contains xs y c in
+        let e = once 0 (suc k) x refl (at ∙ ap Some same) in omega (arith, e)
 
 up_to : (j m : ℕ) → j ≤ suc m → (j ≡ suc m) ⊎ (j ≤ m)
 up_to zero m le = inr (omega arith)
@@ -213,22 +209,22 @@ in_values d (suc n) lt = pick (below_or_last d n lt) (in_values d n)
 
 in_processes : (p : Program) (at k : ℕ) (q : Process) (qs : List Process) (s : Role) → IsAt qs k q
     → Contains (process_roles p (at + k) q) s → Contains (processes_roles p at qs) s
-in_processes p at k q [] s (lt, is) c = absurd (omega (arith, lt))
-in_processes p at zero q (x ∷ qs) s (lt, is) c =
+in_processes p at k q [] s at_q c = absurd (none-some q at_q)
+in_processes p at zero q (x ∷ qs) s at_q c =
     let e : at + 0 ≡ at = omega arith in
     Contains-append_left (process_roles p at x) (processes_roles p (suc at) qs) s
     (subst (λ n. Contains (process_roles p n x) s) e (subst
-    (λ (z : Process). Contains (process_roles p (at + 0) z) s) is c))
-in_processes p at (suc k) q (x ∷ qs) s (lt, is) c =
+    (λ (z : Process). Contains (process_roles p (at + 0) z) s) (sym (same_Some x q at_q)) c))
+in_processes p at (suc k) q (x ∷ qs) s at_q c =
     let e : at + suc k ≡ suc at + k = omega arith in
     Contains-append_right (process_roles p at x) (processes_roles p (suc at) qs) s
-    (in_processes p (suc at) k q qs s (omega (arith, lt), is) (subst (λ n. Contains (process_roles p n q) s) e c))
+    (in_processes p (suc at) k q qs s at_q (subst (λ n. Contains (process_roles p n q) s) e c))
 
 -- what has a cell is among them
 pub in_all : (p : Program) (s : Role) (x : Cell) → IsCellOf p s x → Contains (all_roles p) s
 in_all p (Value d) x (y, at, made) =
     Contains-append_left (values_below (length p.defs)) (processes_roles p 0 p.processes) (Value d)
-    (in_values d (length p.defs) at.0)
+    (in_values d (length p.defs) (within p.defs d at))
 in_all p (Placed k j) x (q, at, pos, lt, is) =
     let e : 0 + k ≡ k = omega arith in
     Contains-append_right (values_below (length p.defs)) (processes_roles p 0 p.processes) (Placed k j)
@@ -251,7 +247,7 @@ in_all p (Stacked k l j) x (q, at, lt, place, is) =
 pub roles_within : (p : Program) (roles : List Role) (xs : List Cell) (f : Role → ℕ) → AreCells p roles xs
     → sum_by f roles ≤ sum_by f (all_roles p)
 roles_within p roles xs f are = sum_within f roles (all_roles p) (λ j k s a b. are.once j k s a b) (λ s c.
-    let (k, at) = in_entry roles s c in
+    let (k, at) = get_from_contains roles s c in
     let (x, at_x, is) = are.each k s at in in_all p s x is)
 
 -- ---- prices
@@ -320,10 +316,10 @@ none_taken : (xs : List Def) → take 0 xs ≡ []
 none_taken [] = refl
 none_taken (x ∷ xs) = refl
 
-more_taken : (xs : List Def) (k : ℕ) (x : Def) → IsAt xs k x → take (suc k) xs ≡ take k xs ++ x ∷ []
-more_taken [] k x (lt, is) = absurd (omega (arith, lt))
-more_taken (y ∷ ys) zero x (lt, is) = ap (λ z. z ∷ []) (sym is)
-more_taken (y ∷ ys) (suc k) x (lt, is) = ap (λ zs. y ∷ zs) (more_taken ys k x (omega (arith, lt), is))
+more_taken : {X : Type 0} (xs : List X) (k : ℕ) (x : X) → IsAt xs k x → take (suc k) xs ≡ take k xs ++ x ∷ []
+more_taken [] k x at = absurd (none-some x at)
+more_taken (y ∷ ys) zero x at = ap (λ z. z ∷ []) (same_Some y x at)
+more_taken (y ∷ ys) (suc k) x at = ap (λ zs. y ∷ zs) (more_taken ys k x at)
 
 take_bill : (ds : List Def) (n : ℕ) → n ≤ length ds → sum_by (role_bill ds) (values_below n) ≡ defs_bill (take n ds)
 take_bill ds zero le = omega (arith, ap defs_bill (none_taken ds))
@@ -332,8 +328,7 @@ take_bill ds (suc n) le =
     let b = take_bill ds n (omega (arith, le)) in
     let (x, at) = some_entry ds n (omega (arith, le)) in
     let c : role_bill ds (Value n) ≡ def_bill x.what =
-    ap (λ o. option_map_or (λ (y : Def). def_bill y.what) o 0) (get_at ds n x at) in
-    let lt = at.0 in
+    ap (λ o. option_map_or (λ (y : Def). def_bill y.what) o 0) at in
     let e : take (suc n) ds ≡ take n ds ++ x ∷ [] = more_taken ds n x at in
     let d : defs_bill (take (suc n) ds) ≡ defs_bill (take n ds) + def_bill x.what =
     ap defs_bill e ∙ sum_by_push (λ (y : Def). def_bill y.what) (take n ds) x in
@@ -360,8 +355,7 @@ def_costs ds d (Signal Internal) x h = ap (λ (z : Cell). cell_cost z.kind) (sym
 -- a cell costs what its role's bill says
 role_costs : (p : Program) (s : Role) (x : Cell) → IsCellOf p s x → cell_cost x.kind ≡ role_bill p.defs s
 role_costs p (Value d) x (y, at, made) =
-    def_costs p.defs d y.what x made ∙ sym (ap (λ o. option_map_or (λ (z : Def). def_bill z.what) o 0)
-    (get_at p.defs d y at))
+    def_costs p.defs d y.what x made ∙ sym (ap (λ o. option_map_or (λ (z : Def). def_bill z.what) o 0) at)
 role_costs p (Placed k j) x (q, at, pos, lt, is) = ap (λ (z : Cell). cell_cost z.kind) is
 role_costs p (Stacked k l j) x (q, at, lt, place, is) = ap (λ (z : Cell). cell_cost z.kind) is
 
@@ -375,9 +369,8 @@ same_costs (x ∷ xs) [] f size same = absurd (omega (arith, size))
 same_costs (x ∷ xs) (s ∷ roles) f size same =
     let a = sum_by-cons (λ (z : Cell). cell_cost z.kind) x xs in
     let b = sum_by-cons f s roles in
-    let c = same 0 x s (omega arith, refl) (omega arith, refl) in
-    let rest = same_costs xs roles f (omega (arith, size))
-    (λ k y t (lt, is) (lt2, is2). same (suc k) y t (omega (arith, lt), is) (omega (arith, lt2), is2)) in
+    let c = same 0 x s refl refl in
+    let rest = same_costs xs roles f (omega (arith, size)) (λ k y t at at'. same (suc k) y t at at') in
     omega (arith, a, b, c, rest)
 
 all_taken : (ds : List Def) → take (length ds) ds ≡ ds
@@ -428,11 +421,6 @@ returns_few p q (suc m) = pick (nat_lt 0 (calls_in p (slice_index q.forms m))) (
     pick true le = omega (arith, le)
     pick false le = omega (arith, le)
 
-number_taken : (xs : List ℕ) (k x : ℕ) → IsAt xs k x → take (suc k) xs ≡ take k xs ++ x ∷ []
-number_taken [] k x (lt, is) = absurd (omega (arith, lt))
-number_taken (y ∷ ys) zero x (lt, is) = ap (λ z. z ∷ []) (sym is)
-number_taken (y ∷ ys) (suc k) x (lt, is) = ap (λ zs. y ∷ zs) (number_taken ys k x (omega (arith, lt), is))
-
 taken_calls : (p : Program) (q : Process) (m : ℕ) → m ≤ length q.forms
     → length (return_places p q m) ≤ sum_by (calls_in p) (take m q.forms)
 taken_calls p q zero le = omega arith
@@ -440,8 +428,8 @@ taken_calls p q (suc m) le =
     let (f, at) = some_entry q.forms m (omega (arith, le)) in
     let earlier = taken_calls p q m (omega (arith, le)) in
     let more : sum_by (calls_in p) (take (suc m) q.forms) ≡ sum_by (calls_in p) (take m q.forms) + calls_in p f =
-    ap (sum_by (calls_in p)) (number_taken q.forms m f at) ∙ sum_by_push (calls_in p) (take m q.forms) f in
-    let here_f : slice_index q.forms m ≡ f = get_or_default q.forms m 0 f at.0 ∙ sym at.1 in
+    ap (sum_by (calls_in p)) (more_taken q.forms m f at) ∙ sum_by_push (calls_in p) (take m q.forms) f in
+    let here_f : slice_index q.forms m ≡ f = get_or_from_slice_get q.forms m f 0 at in
     let calls : calls_in p (slice_index q.forms m) ≡ calls_in p f = ap (calls_in p) here_f in
     by_test (nat_lt 0 (calls_in p (slice_index q.forms m)))
     (λ some_call.

@@ -1,7 +1,7 @@
 -- The copies of a program's expressions have its values.
 use Rattle.std.proofs.Common.{◌≡◌, inl, inr, ◌∙◌, ℕ, ◌-◌, ◌<◌, List, [], ◌∷◌, true, Option, refl, sym, ap, length, map}
 use Rattle.std.specs.Prelude.{slice_index}
-use Rattle.std.proofs.lemmas.List.{get_or-map}
+use Rattle.std.proofs.lemmas.Option.{get_or_from_slice_get}
 use Rattle.mp_base.specs.Apply.{apply}
 use Rattle.mp_base.specs.declared.op.Op.TheVariants.{Not}
 use Rattle.mp_base.proofs.Induction.{downward}
@@ -14,7 +14,7 @@ use Rattle.mp_program.specs.State.{State, Seat}
 use Rattle.mp_program.specs.Environment.{IsEnvironment, what_value, driven_value}
 use Rattle.mp_program.specs.Values as from
 use Rattle.mp_base.specs.Entries.{IsAt}
-use Rattle.mp_base.proofs.ListEntries.{some_entry, get_at}
+use Rattle.mp_base.proofs.Entries.{some_entry, map_get}
 use Rattle.rtl_form.specs.declared.rtl.Rtl.{Rtl}
 use Rattle.rtl_form.specs.declared.rtl.RtlExpr.{RtlExpr}
 use Rattle.rtl_form.specs.declared.rtl.RtlExpr.TheVariants.{Truth, Cell, Apply}
@@ -32,8 +32,8 @@ Valued r = (env : List ℕ) (e : ℕ) (x : RtlExpr) → IsAt r.exprs e x
 -- the value of a cell is that of what it stands for
 pub cell_at : (roles : List Role) (vs : List ℕ) (seats : List Seat) (c : ℕ) (s : Role) → IsAt roles c s
     → slice_index (cell_values roles vs seats) c ≡ role_value vs seats s
-cell_at roles vs seats c s (lt, is) = get_or-map (role_value vs seats) roles c s 0 lt
-    ∙ ap (role_value vs seats) (sym is)
+cell_at roles vs seats c s at = get_or_from_slice_get (cell_values roles vs seats) c (role_value vs seats s) 0
+    (map_get (role_value vs seats) roles c s at)
 
 module _ {p : Program} {r : Rtl} {roles : List Role} {enables : List (Option Enable)} (known : Known p)
     (valued : Valued r)
@@ -73,7 +73,7 @@ module _ {p : Program} {r : Rtl} {roles : List Role} {enables : List (Option Ena
   kind_copied i (source.Number n) y below fit is = ap (λ z. expr_value r.width (cell_values roles env st.seats) z V) is
   kind_copied i (source.Named x) y below fit (d, at, inl (n, what, is)) =
       ap (λ z. expr_value r.width (cell_values roles env st.seats) z V) is
-      ∙ sym (clock.values (index_of p.defs x) d (get_at p.defs (index_of p.defs x) d at)
+      ∙ sym (clock.values (index_of p.defs x) d at
       ∙ ap (λ w. what_value w (slice_index st.stored (index_of p.defs x))
       (slice_index inputs (pad_number p.defs (index_of p.defs x))) (driven_value p st env d)) what)
   kind_copied i (source.Named x) y below fit (d, at, inr (c, role, is)) =
@@ -93,6 +93,5 @@ module _ {p : Program} {r : Rtl} {roles : List Role} {enables : List (Option Ena
   copied = downward CopiedAt (length p.exprs) (λ e lt below.
       let (x, at) = some_entry p.exprs e lt in
       let (y, at_y, is) = plan.copies e x at in
-      let there = get_at p.exprs e x at in
-      value_is (copy_of p e) y at_y ∙ kind_copied e x.kind y below (known.sound.exprs e x there) is
-      ∙ sym (known.values env e x there))
+      value_is (copy_of p e) y at_y ∙ kind_copied e x.kind y below (known.sound.exprs e x at) is
+      ∙ sym (known.values env e x at))

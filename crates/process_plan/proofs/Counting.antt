@@ -14,8 +14,8 @@ use Rattle.mp_program.specs.Sound.{AllBetween}
 use Rattle.mp_program.specs.Values.{value_of}
 use Rattle.mp_program.specs.Weight.{inner, is_call, calls_in}
 use Rattle.mp_program.proofs.Inside.{inner_behind}
-use Rattle.mp_base.proofs.ListEntries.{get_at}
 use Rattle.mp_base.specs.Entries.{IsAt}
+use Rattle.mp_base.proofs.Entries.{within, value}
 use Rattle.mp_rules.specs.Standing as standing
 use Rattle.mp_rules.specs.Standing.{Under}
 use Rattle.process_plan.specs.Lawful.{Known}
@@ -38,10 +38,11 @@ both_lists i n (x ∷ xs) ys (first, rest) hy = (first, both_lists i n xs ys res
 
 pub calls_is : (p : Program) → Known p → (f : ℕ) (x : Form) → IsAt p.forms f x
     → calls_in p f ≡ is_call x.kind + sum_by (calls_in p) (inner x.kind)
-calls_is p known f x (lt, is) =
-    table_at 0 (λ (y : Form) v. is_call y.kind + sum_by v (inner y.kind)) p.forms f x lt is
+calls_is p known f x at =
+    table_at 0 (λ (y : Form) v. is_call y.kind + sum_by v (inner y.kind)) p.forms f x
+    (within p.forms f at) (value p.forms f at)
     (λ g h same. ap (λ n. is_call x.kind + n) (sum_behind f (length p.forms) (inner x.kind) g h same
-    (inner_behind (length p.exprs) f (length p.forms) x.kind ((known.sound).forms f x (get_at p.forms f x (lt, is))))))
+    (inner_behind (length p.exprs) f (length p.forms) x.kind ((known.sound).forms f x at))))
 
 pub in_sum : (v : ℕ → ℕ) (fs : List ℕ) (f : ℕ) → Contains fs f → v f ≤ sum_by v fs
 in_sum v [] f c = absurd (nothing_in f c)

@@ -16,6 +16,7 @@ use Rattle.std.proofs.Common.{
   false,
   cond,
   Option,
+  Some,
   refl,
   sym,
   ap,
@@ -23,11 +24,11 @@ use Rattle.std.proofs.Common.{
   arith,
   length,
 }
-use Rattle.std.specs.Prelude.{Contains, slice_index, slice_index_or}
+use Rattle.std.specs.Prelude.{Contains, slice_index}
 use Rattle.std.specs.List.{AllByRecursion}
-use Rattle.std.proofs.lemmas.List.{get_or_default}
 use Rattle.std.proofs.lemmas.List.Elements.{Contains-append_left, Contains-append_right, Contains-append_cases}
 use Rattle.std.proofs.lemmas.Slice.Eq.{bytes_eq-Decides}
+use Rattle.std.proofs.lemmas.Option.{same_Some, none-some, get_or_from_slice_get, slice_get-get_or}
 use Rattle.mp_base.specs.Merge.{merged}
 use Rattle.mp_base.specs.declared.refusal.Place.{Place}
 use Rattle.mp_base.proofs.Contents.{contains_behind, nothing_in}
@@ -56,7 +57,7 @@ use Rattle.process_plan.specs.Enables.{Enable, copy_of}
 use Rattle.process_plan.specs.Plan.{IsPlanned, sets, falls, lands, returns, pushes, sinks, rises, empties}
 use Rattle.process_plan.proofs.Merging.{same_merge}
 use Rattle.mp_program.proofs.Definitions.{named}
-use Rattle.mp_base.proofs.ListEntries.{one_entry, get_at}
+use Rattle.mp_base.proofs.Entries.{one_entry, each_at, read_of}
 use Rattle.process_plan.proofs.Members.{cases_of, in_flat, flat_in}
 use Rattle.process_plan.proofs.Doing.{effect_source, source_effect}
 use Rattle.process_plan.proofs.Copying.{copied}
@@ -69,42 +70,37 @@ all_in n [] f fit c = absurd (nothing_in f c)
 all_in n (g ∷ fs) f fit (zero, lt, is) = subst (λ x. x < n) is fit.0
 all_in n (g ∷ fs) f fit (suc k, lt, is) = all_in n fs f fit.1 (k, omega (arith, lt), is)
 
-processes_in : (n : ℕ) (qs : List Process) (k : ℕ) (q : Process)
-    → AllByRecursion (λ (q : Process). AllByRecursion (λ f. f < n) q.forms) qs → IsAt qs k q
-    → AllByRecursion (λ f. f < n) q.forms
-processes_in n [] k q fit (lt, is) = absurd (omega (arith, lt))
-processes_in n (x ∷ qs) zero q fit (lt, is) = subst (λ (t : Process). AllByRecursion (λ f. f < n) t.forms)
-    (sym is) fit.0
-processes_in n (x ∷ qs) (suc k) q fit (lt, is) = processes_in n qs k q fit.1 (omega (arith, lt), is)
-
 pub root_in : (p : Program) → Known p → (o : Origin) (root : ℕ) → IsRoot p o root → root < length p.forms
 root_in p known Always root c = all_in (length p.forms) p.always root (known.sound).always c
 root_in p known (At k i) root (q, at, at_i) =
-    all_in (length p.forms) q.forms root (processes_in (length p.forms) p.processes k q (known.sound).processes at)
-    (i, at_i.0, sym at_i.1)
+    each_at (λ f. f < length p.forms) q.forms i root
+    (each_at (λ (t : Process). AllByRecursion (λ f. f < length p.forms) t.forms) p.processes k q
+    (known.sound).processes at) at_i
 
 in_taken : (qs : List Process) (ss : List Seat) (root : ℕ) → SeatsFit qs ss → Contains (places_taken qs ss) root
     → (k : ℕ) × (q : Process) × IsAt qs k q × IsAt q.forms (seat_at ss k).place root
 in_taken [] ss root fit c = absurd (nothing_in root c)
 in_taken (q ∷ qs) [] root fit c = absurd fit
 in_taken (q ∷ qs) (s ∷ ss) root fit (zero, lt, is) =
-    (zero, q, (omega arith, refl), (fit.0, sym is ∙ get_or_default q.forms s.place 0 root fit.0))
+    (zero, q, refl, slice_get-get_or q.forms s.place 0 fit.0 ∙ ap Some is)
 in_taken (q ∷ qs) (s ∷ ss) root fit (suc j, lt, is) =
     let (k, x, at, at_i) = in_taken qs ss root fit.3 (j, omega (arith, lt), is) in
-    let l : k < length qs = at.0 in
-    (suc k, x, (omega (arith, l), at.1), at_i)
+    (suc k, x, at, at_i)
 
 taken_in : (qs : List Process) (ss : List Seat) (k : ℕ) (q : Process) (root : ℕ) → SeatsFit qs ss → IsAt qs k q
     → IsAt q.forms (seat_at ss k).place root
     → Contains (places_taken qs ss) root
-taken_in [] ss k q root fit (lt, is) at_i = absurd (omega (arith, lt))
+taken_in [] ss k q root fit at at_i = absurd (none-some q at)
 taken_in (x ∷ qs) [] k q root fit at at_i = absurd fit
-taken_in (x ∷ qs) (s ∷ ss) zero q root fit (lt, is) (lt2, is2) =
-    let e : root ≡ slice_index q.forms s.place = is2 ∙ get_or_default q.forms s.place root 0 lt2 in
-    (zero, omega arith, ap (λ (t : Process). slice_index t.forms s.place) (sym is) ∙ sym e)
-taken_in (x ∷ qs) (s ∷ ss) (suc k) q root fit (lt, is) at_i =
+taken_in (x ∷ qs) (s ∷ ss) zero q root fit at at_i = (
+  zero,
+  omega arith,
+  ap (λ (t : Process). slice_index t.forms s.place) (same_Some x q at)
+      ∙ get_or_from_slice_get q.forms s.place root 0 at_i,
+)
+taken_in (x ∷ qs) (s ∷ ss) (suc k) q root fit at at_i =
     contains_behind root (slice_index x.forms s.place) (places_taken qs ss)
-    (taken_in qs ss k q root fit.3 (omega (arith, lt), is) at_i)
+    (taken_in qs ss k q root fit.3 at at_i)
 
 pub active_root : (p : Program) (st : State) (root : ℕ) → IsState p st → Contains (active p st) root → (o : Origin)
     × IsRoot p o root × IsOn st.seats o
@@ -215,7 +211,7 @@ module _ {p : Program} {r : Rtl} {roles : List Role} {enables : List (Option Ena
   set_value : (f : ℕ) (y : Form) (x : List ℕ) (at : Place) (e : ℕ) → IsAt p.forms f y → y.kind ≡ Set x at e
       → e < length p.exprs
   set_value f y x at e here_y is = subst (λ k. InnerFit (length p.exprs) f (length p.forms) k) is
-      (((s.known).sound).forms f y (get_at p.forms f y here_y))
+      (((s.known).sound).forms f y here_y)
 
   -- a transfer to the cell of a definition is that of an active `setq`
   planned_write : (c d : ℕ) (x : Def) (w : ℕ) → IsAt p.defs d x → IsAt roles c (Value d) → (t : Transfer)
@@ -224,8 +220,9 @@ module _ {p : Program} {r : Rtl} {roles : List Role} {enables : List (Option Ena
   planned_write c d x w at_d role t (sets f y n at e o a c2 here_y is has role2) target guard value =
       let same : index_of p.defs n ≡ d = value_role roles c (index_of p.defs n) d
       (subst (λ i. IsAt roles i (Value (index_of p.defs n))) target role2) role in
-      let lt : index_of p.defs n < length p.defs = subst (λ i. i < length p.defs) (sym same) at_d.0 in
-      let name : x.name ≡ n = named p.defs n x lt (at_d.1 ∙ ap (λ i. slice_index_or p.defs i x) (sym same)) in
+      let at_n : IsAt p.defs (index_of p.defs n) x = subst (λ i. IsAt p.defs i x) (sym same) at_d in
+      let first = read_of p.defs (index_of p.defs n) x at_n in
+      let name : x.name ≡ n = named p.defs n x first.0 first.1 in
       let (on, (root, is_root, runs)) = w_back s f o a has guard in
       let exact : from.value_of p env e ≡ w = sym (copy_value e (set_value f y n at e here_y is)) ∙ value in
       let own : Contains (own_effects (from.value_of p env) y.kind) (Writes x.name w) =

@@ -33,7 +33,7 @@ use Rattle.mp_program.specs.Sound.{InnerFit, BranchesFit}
 use Rattle.mp_program.specs.Values.{value_of}
 use Rattle.mp_program.specs.Effects.{Effect, branch_effects, kind_effects, effects_of}
 use Rattle.mp_base.specs.Entries.{IsAt}
-use Rattle.mp_base.proofs.ListEntries.{some_entry, get_at}
+use Rattle.mp_base.proofs.Entries.{some_entry}
 use Rattle.process_plan.specs.Lawful.{Known}
 use Rattle.process_plan.specs.Active.{chosen_forms, chosen, own_effects, Runs, itself, deeper}
 use Rattle.process_plan.proofs.Members.{in_flat, flat_in, between_in}
@@ -90,15 +90,14 @@ module _ (p : Program) (env : List ℕ) (known : Known p) where
   pub effect_source : (f : ℕ) → f < length p.forms → (x : Effect) → Contains (effects_of p env f) x → Source f x
   effect_source = downward HasSources (length p.forms) (λ f lt below x c.
       let (y, at) = some_entry p.forms f lt in
-      let there = get_at p.forms f y at in
       let v : ℕ → ℕ = value_of p env in
-      let parted = subst (λ es. Contains es x) (known.effects env f y there ∙ split v y.kind (effects_of p env)) c in
+      let parted = subst (λ es. Contains es x) (known.effects env f y at ∙ split v y.kind (effects_of p env)) c in
       elim (Contains-append_cases (own_effects v y.kind) (flat_map (effects_of p env) (chosen v y.kind)) x parted) [
         | inl own ↦ (f, y, at, itself, own)
         | inr inner ↦
             let (g, chosen_g, c2) = in_flat (effects_of p env) x (chosen v y.kind) inner in
             let behind = chosen_behind v (length p.exprs) f (length p.forms) y.kind g
-            (known.sound.forms f y there) chosen_g in
+            (known.sound.forms f y at) chosen_g in
             let (h, z, at2, runs, own) = below g behind.0 behind.1 x c2 in
             (h, z, at2, deeper y at chosen_g runs, own)
       ])
@@ -108,12 +107,12 @@ module _ (p : Program) (env : List ℕ) (known : Known p) where
       → Contains (own_effects (value_of p env) y.kind) x
       → Contains (effects_of p env f) x
   source_effect f g y x itself at own =
-      subst (λ es. Contains es x) (sym (known.effects env f y (get_at p.forms f y at)
+      subst (λ es. Contains es x) (sym (known.effects env f y at
       ∙ split (value_of p env) y.kind (effects_of p env)))
       (Contains-append_left (own_effects (value_of p env) y.kind)
       (flat_map (effects_of p env) (chosen (value_of p env) y.kind)) x own)
   source_effect f g y x (deeper {g = h} z at_f c runs) at own =
-      subst (λ es. Contains es x) (sym (known.effects env f z (get_at p.forms f z at_f)
+      subst (λ es. Contains es x) (sym (known.effects env f z at_f
       ∙ split (value_of p env) z.kind (effects_of p env)))
       (Contains-append_right (own_effects (value_of p env) z.kind)
       (flat_map (effects_of p env) (chosen (value_of p env) z.kind)) x

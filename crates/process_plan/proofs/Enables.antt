@@ -6,7 +6,7 @@ use Rattle.mp_program.specs.declared.program.FormKind.{FormKind}
 use Rattle.mp_program.specs.declared.program.Branch.{Branch}
 use Rattle.mp_program.specs.Weight.{inner}
 use Rattle.mp_program.specs.declared.program.FormKind.TheVariants.{Set, Cond, Par, Go, Call, Return}
-use Rattle.mp_base.proofs.ListEntries.{one_entry}
+use Rattle.mp_base.proofs.Entries.{one_entry}
 use Rattle.process_plan.specs.Active.{Origin}
 use Rattle.process_plan.specs.Enables.{Enable, HasEnable, StandsInside}
 use Rattle.process_plan.specs.Roles.{Role, Value, Placed, Stacked}

@@ -31,7 +31,7 @@ use Rattle.std.proofs.Common.{
 use Rattle.std.specs.Prelude.{Contains, ◌==◌, ◌&&◌}
 use Rattle.std.specs.List.{list_all}
 use Rattle.std.proofs.lemmas.Bool.{eqb-true, eqb-false, eq-eqb, ne_eqb, cases_eq, and_parts}
-use Rattle.std.proofs.lemmas.Option.{same_Some}
+use Rattle.std.proofs.lemmas.Option.{same_Some, none-some}
 use Rattle.mp_base.specs.Apply.{truth}
 use Rattle.mp_base.specs.declared.op.Op.TheVariants.{And, Nor, Not}
 use Rattle.mp_base.proofs.Contents.{contains_head, contains_behind, nothing_in, contains_from_map}
@@ -47,7 +47,7 @@ use Rattle.mp_program.specs.State.{State, Seat, SeatsFit, IsState}
 use Rattle.mp_program.specs.Environment.{IsEnvironment}
 use Rattle.mp_program.specs.Values as from
 use Rattle.mp_base.specs.Entries.{IsAt}
-use Rattle.mp_base.proofs.ListEntries.{one_entry, get_at}
+use Rattle.mp_base.proofs.Entries.{one_entry}
 use Rattle.rtl_form.specs.declared.rtl.Rtl.{Rtl}
 use Rattle.rtl_form.specs.declared.rtl.RtlExpr.{RtlExpr}
 use Rattle.rtl_form.specs.declared.rtl.RtlExpr.TheVariants.{Cell, Apply}
@@ -118,13 +118,13 @@ one_not x h = ne_eqb x 1 (λ e. omega (arith, e, h))
 
 seat_in : (qs : List Process) (ss : List Seat) (k : ℕ) (q : Process) → SeatsFit qs ss → IsAt qs k q
     → ((seat_at ss k).place < length q.forms) × (length (seat_at ss k).stack ≡ q.depth)
-seat_in [] ss k q fit (lt, is) = absurd (omega (arith, lt))
+seat_in [] ss k q fit at = absurd (none-some q at)
 seat_in (x ∷ qs) [] k q fit at = absurd fit
-seat_in (x ∷ qs) (s ∷ ss) zero q fit (lt, is) = (
-  subst (λ (t : Process). s.place < length t.forms) (sym is) fit.0,
-  subst (λ (t : Process). length s.stack ≡ t.depth) (sym is) fit.1,
+seat_in (x ∷ qs) (s ∷ ss) zero q fit at = (
+  subst (λ (t : Process). s.place < length t.forms) (same_Some x q at) fit.0,
+  subst (λ (t : Process). length s.stack ≡ t.depth) (same_Some x q at) fit.1,
 )
-seat_in (x ∷ qs) (s ∷ ss) (suc k) q fit (lt, is) = seat_in qs ss k q fit.3 (omega (arith, lt), is)
+seat_in (x ∷ qs) (s ∷ ss) (suc k) q fit at = seat_in qs ss k q fit.3 at
 
 pub seat_fits : (p : Program) (st : State) (k : ℕ) (q : Process) → IsState p st → IsAt p.processes k q
     → ((seat_at st.seats k).place < length q.forms) × (length (seat_at st.seats k).stack ≡ q.depth)
@@ -326,7 +326,7 @@ module _ {p : Program} {r : Rtl} {roles : List Role} {enables : List (Option Ena
   low_guards : (g : ℕ) (y : Form) (bs : List Branch) → IsAt p.forms g y → y.kind ≡ Cond bs → LowGuards bs
   low_guards g y bs at is b c = (
     branches_low g (length p.forms) bs (subst (λ t. InnerFit (length p.exprs) g (length p.forms) t) is
-        ((known.sound).forms g y (get_at p.forms g y at))) b c,
+        ((known.sound).forms g y at)) b c,
     bits g y bs at is b c,
   )
 

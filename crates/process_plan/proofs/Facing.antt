@@ -38,7 +38,7 @@ use Rattle.std.specs.List.{list_any}
 use Rattle.std.proofs.lemmas.Bool.{lt-ltb, ne_eqb, or_left, or_right}
 use Rattle.std.proofs.lemmas.List.{length-map}
 use Rattle.std.proofs.lemmas.List.Sums.{sum_by-cons}
-use Rattle.std.proofs.lemmas.Option.{same_Some}
+use Rattle.std.proofs.lemmas.Option.{same_Some, none-some}
 use Rattle.mp_base.specs.declared.pad.Pad.{Pad}
 use Rattle.mp_base.proofs.Induction.{by_test}
 use Rattle.mp_program.specs.declared.program.What.{What}
@@ -61,7 +61,7 @@ use Rattle.mp_program.specs.Names.{is_input, is_output, is_stored, pad_number}
 use Rattle.mp_program.specs.Pads.{Face, face, pad_width, ArePadsOf}
 use Rattle.mp_program.specs.Trace as source
 use Rattle.mp_base.specs.Entries.{IsAt}
-use Rattle.mp_base.proofs.ListEntries.{one_entry, some_entry}
+use Rattle.mp_base.proofs.Entries.{one_entry, some_entry, within, any_found}
 use Rattle.rtl_form.specs.declared.rtl.CellKind.{CellKind}
 use Rattle.rtl_form.specs.declared.rtl.CellKind.TheVariants as kinds
 use Rattle.rtl_form.specs.declared.rtl.Cell.{Cell}
@@ -77,84 +77,78 @@ use Rattle.process_plan.proofs.Simulating.{cell_stored}
 
 pub filter_at : {X : Type 0} (t : X → Bool) (xs : List X) (d : ℕ) (x : X) → IsAt xs d x → t x ≡ true
     → IsAt (filter t xs) (count_by t (take d xs)) x
-filter_at t [] d x (lt, is) h = absurd (omega (arith, lt))
-filter_at {X} t (y ∷ ys) zero x (lt, is) h =
-    let here : t y ≡ true = ap t (sym is) ∙ h in
-    subst (λ b. IsAt (cond b (y ∷ filter t ys) (filter t ys)) 0 x) (sym here) (omega arith, is)
-filter_at {X} t (y ∷ ys) (suc d) x (lt, is) h =
-    let rest = filter_at t ys d x (omega (arith, lt), is) h in
+filter_at t [] d x at h = absurd (none-some x at)
+filter_at {X} t (y ∷ ys) zero x at h =
+    let here : t y ≡ true = ap t (same_Some y x at) ∙ h in
+    subst (λ b. IsAt (cond b (y ∷ filter t ys) (filter t ys)) 0 x) (sym here) at
+filter_at {X} t (y ∷ ys) (suc d) x at h =
+    let rest = filter_at t ys d x at h in
     let count : count_by t (y ∷ take d ys) ≡ cond (t y) 1 0 + count_by t (take d ys) =
     sum_by-cons (λ z. cond (t z) 1 0) y (take d ys) in
     subst (λ n. IsAt (cond (t y) (y ∷ filter t ys) (filter t ys)) n x) (sym count) (pick (t y) rest)
   where
     pick : (b : Bool) → IsAt (filter t ys) (count_by t (take d ys)) x
         → IsAt (cond b (y ∷ filter t ys) (filter t ys)) (cond b 1 0 + count_by t (take d ys)) x
-    pick true (l, e) = let n : 1 + count_by t (take d ys) ≡ suc (count_by t (take d ys)) = omega arith in
-        subst (λ m. IsAt (y ∷ filter t ys) m x) (sym n) (omega (arith, l), e)
+    pick true at = let n : 1 + count_by t (take d ys) ≡ suc (count_by t (take d ys)) = omega arith in
+        subst (λ m. IsAt (y ∷ filter t ys) m x) (sym n) at
     pick false at = let n : 0 + count_by t (take d ys) ≡ count_by t (take d ys) = omega arith in
         subst (λ m. IsAt (filter t ys) m x) (sym n) at
 
 filter_back : {X : Type 0} (t : X → Bool) (xs : List X) (k : ℕ) (x : X) → IsAt (filter t xs) k x → (d : ℕ)
     × IsAt xs d x × (t x ≡ true) × (count_by t (take d xs) ≡ k)
-filter_back t [] k x (lt, is) = absurd (omega (arith, lt))
+filter_back t [] k x at = absurd (none-some x at)
 filter_back {X} t (y ∷ ys) k x at = by_test (t y)
     (λ h. first h k (subst (λ b. IsAt (cond b (y ∷ filter t ys) (filter t ys)) k x) h at)
     (λ j at_j. filter_back t ys j x at_j))
     (λ h.
     let (d, at_d, tx, count) = filter_back t ys k x (subst
     (λ b. IsAt (cond b (y ∷ filter t ys) (filter t ys)) k x) h at) in
-    let l : d < length ys = at_d.0 in
     let e = sum_by-cons (λ z. cond (t z) 1 0) y (take d ys) in
     let z : ◌≡◌ {A = ℕ} (cond (t y) 1 0) 0 = ap (λ b. cond b 1 0) h in
-    (suc d, (omega (arith, l), at_d.1), tx, omega (arith, e, z, count)))
+    (suc d, at_d, tx, omega (arith, e, z, count)))
   where
     first : t y ≡ true → (j : ℕ) → IsAt (y ∷ filter t ys) j x
         → ((i : ℕ) → IsAt (filter t ys) i x → (d : ℕ) × IsAt ys d x × (t x ≡ true) × (count_by t (take d ys) ≡ i))
         → (d : ℕ) × IsAt (y ∷ ys) d x × (t x ≡ true) × (count_by t (take d (y ∷ ys)) ≡ j)
-    first h zero (lt, is) rec = (0, (omega arith, is), ap t is ∙ h, refl)
-    first h (suc j) (lt, is) rec =
-        let (d, at_d, tx, count) = rec j (omega (arith, lt), is) in
-        let l : d < length ys = at_d.0 in
+    first h zero at rec = (0, at, ap t (sym (same_Some y x at)) ∙ h, refl)
+    first h (suc j) at rec =
+        let (d, at_d, tx, count) = rec j at in
         let e = sum_by-cons (λ z. cond (t z) 1 0) y (take d ys) in
         let z : ◌≡◌ {A = ℕ} (cond (t y) 1 0) 1 = ap (λ b. cond b 1 0) h in
-        (suc d, (omega (arith, l), at_d.1), tx, omega (arith, e, z, count))
+        (suc d, at_d, tx, omega (arith, e, z, count))
 
 one_place : {X : Type 0} (t : X → Bool) (xs : List X) (d e : ℕ) (x y : X) → IsAt xs d x → IsAt xs e y → t x ≡ true
     → t y ≡ true → count_by t (take d xs) ≡ count_by t (take e xs) → d ≡ e
-one_place t [] d e x y (lt, is) at hx hy same = absurd (omega (arith, lt))
+one_place t [] d e x y at at2 hx hy same = absurd (none-some x at)
 one_place t (z ∷ zs) zero zero x y at at2 hx hy same = refl
-one_place t (z ∷ zs) zero (suc e) x y (lt, is) at2 hx hy same =
+one_place t (z ∷ zs) zero (suc e) x y at at2 hx hy same =
     let a = sum_by-cons (λ z. cond (t z) 1 0) z (take e zs) in
-    let b : ◌≡◌ {A = ℕ} (cond (t z) 1 0) 1 = ap (λ c. cond c 1 0) (ap t (sym is) ∙ hx) in
+    let b : ◌≡◌ {A = ℕ} (cond (t z) 1 0) 1 = ap (λ c. cond c 1 0) (ap t (same_Some z x at) ∙ hx) in
     absurd (omega (arith, a, b, same))
-one_place t (z ∷ zs) (suc d) zero x y at (lt, is) hx hy same =
+one_place t (z ∷ zs) (suc d) zero x y at at2 hx hy same =
     let a = sum_by-cons (λ z. cond (t z) 1 0) z (take d zs) in
-    let b : ◌≡◌ {A = ℕ} (cond (t z) 1 0) 1 = ap (λ c. cond c 1 0) (ap t (sym is) ∙ hy) in
+    let b : ◌≡◌ {A = ℕ} (cond (t z) 1 0) 1 = ap (λ c. cond c 1 0) (ap t (same_Some z y at2) ∙ hy) in
     absurd (omega (arith, a, b, same))
-one_place t (z ∷ zs) (suc d) (suc e) x y (lt, is) (lt2, is2) hx hy same =
+one_place t (z ∷ zs) (suc d) (suc e) x y at at2 hx hy same =
     let a = sum_by-cons (λ z. cond (t z) 1 0) z (take d zs) in
     let b = sum_by-cons (λ z. cond (t z) 1 0) z (take e zs) in
-    ap suc (one_place t zs d e x y (omega (arith, lt), is) (omega (arith, lt2), is2) hx hy (omega (arith, a, b, same)))
+    ap suc (one_place t zs d e x y at at2 hx hy (omega (arith, a, b, same)))
 
 -- the pad at a number is that of a definition
 pub face_at : (pads : List Pad) (defs : List Def) (w k : ℕ) (x : Def)
     → map face pads ≡ map (λ (y : Def). (y.name, pad_width w y.what)) defs → IsAt defs k x
     → (pad : Pad) × IsAt pads k pad × (pad.name ≡ x.name) × (pad.width ≡ pad_width w x.what)
-face_at [] [] w k x same (lt, is) = absurd (omega (arith, lt))
+face_at [] [] w k x same at = absurd (none-some x at)
 face_at [] (y ∷ ys) w k x same at = let e = ap length same in absurd (omega (arith, e))
-face_at (q ∷ qs) [] w k x same (lt, is) = absurd (omega (arith, lt))
-face_at (q ∷ qs) (y ∷ ys) w zero x same (lt, is) =
+face_at (q ∷ qs) [] w k x same at = absurd (none-some x at)
+face_at (q ∷ qs) (y ∷ ys) w zero x same at =
     let one : face q ≡ (y.name, pad_width w y.what) = ap (λ zs. slice_index_or zs 0 (face q)) same in (
       q,
-      (omega arith, refl),
-      ap (λ (z : Face). z.0) one
-          ∙ ap (λ (z : Def). z.name) (sym is),
-      ap (λ (z : Face). z.1) one ∙ ap (λ (z : Def). pad_width w z.what) (sym is),
+      refl,
+      ap (λ (z : Face). z.0) one ∙ ap (λ (z : Def). z.name) (same_Some y x at),
+      ap (λ (z : Face). z.1) one ∙ ap (λ (z : Def). pad_width w z.what) (same_Some y x at),
     )
-face_at (q ∷ qs) (y ∷ ys) w (suc k) x same (lt, is) =
-    let (pad, at, name, width) = face_at qs ys w k x (ap (λ zs. tail zs) same) (omega (arith, lt), is) in
-    let l : k < length qs = at.0 in
-    (pad, (omega (arith, l), at.1), name, width)
+face_at (q ∷ qs) (y ∷ ys) w (suc k) x same at = face_at qs ys w k x (ap (λ zs. tail zs) same) at
   where
     tail : List Face → List Face
     tail [] = []
@@ -246,24 +240,13 @@ output_made ds d (Signal Output) h = (record { word = false; kind = kinds.Output
 output_made ds d (Signal Input) h = absurd (cc)
 output_made ds d (Signal Internal) h = absurd (cc)
 
-some_stored : (xs : List Cell) → list_any (λ (x : Cell). rtl.is_stored x.kind) xs ≡ true → (c : ℕ) × (x : Cell)
-    × IsAt xs c x × (rtl.is_stored x.kind ≡ true)
-some_stored [] h = absurd (cc)
-some_stored (x ∷ xs) h = by_test (rtl.is_stored x.kind)
-    (λ e. (0, x, (omega arith, refl), e))
-    (λ e.
-    let (c, y, at, is) = some_stored xs (subst (λ b. (b || list_any (λ (x : Cell). rtl.is_stored x.kind) xs)
-    ≡ true) e h) in
-    let l : c < length xs = at.0 in
-    (suc c, y, (omega (arith, l), at.1), is))
-
 pub any_at : (ds : List Def) (d : ℕ) (y : Def) → IsAt ds d y → is_stored y.what ≡ true
     → list_any (λ (z : Def). is_stored z.what) ds ≡ true
-any_at [] d y (lt, is) h = absurd (omega (arith, lt))
-any_at (z ∷ zs) zero y (lt, is) h = or_left (is_stored z.what) (list_any (λ (z : Def). is_stored z.what) zs)
-    (ap (λ (t : Def). is_stored t.what) (sym is) ∙ h)
-any_at (z ∷ zs) (suc d) y (lt, is) h = or_right (is_stored z.what) (list_any (λ (z : Def). is_stored z.what) zs)
-    (any_at zs d y (omega (arith, lt), is) h)
+any_at [] d y at h = absurd (none-some y at)
+any_at (z ∷ zs) zero y at h = or_left (is_stored z.what) (list_any (λ (z : Def). is_stored z.what) zs)
+    (ap (λ (t : Def). is_stored t.what) (same_Some z y at) ∙ h)
+any_at (z ∷ zs) (suc d) y at h = or_right (is_stored z.what) (list_any (λ (z : Def). is_stored z.what) zs)
+    (any_at zs d y at h)
 
 -- the cell of an input or output is of the sort of its pad
 sort_of : (ds : List Def) (d w : ℕ) (what : What) (x : Cell) → 1 ≤ w → def_cell ds d what ≡ Some x
@@ -297,7 +280,7 @@ widths pads defs w k pad same at =
     let a = length-map pads face in
     let b = length-map {B = Face} defs (λ (y : Def). (y.name, pad_width w y.what)) in
     let e = ap length same in
-    let lt = at.0 in
+    let lt = within pads k at in
     let (x, at_x) = some_entry defs k (omega (arith, a, b, e, lt)) in
     let (pad2, at2, name, width) = face_at pads defs w k x same at_x in
     let one : pad2 ≡ pad = one_entry pads k pad2 pad at2 at in
@@ -321,7 +304,7 @@ module _ (p : Program) (r : Rtl) (roles : List Role) (cells : AreCells p roles r
   role_at : (c : ℕ) (x : Cell) → IsAt r.cells c x → (t : Role) × IsAt roles c t × roles_of.IsCellOf p t x
   role_at c x at =
       let size = cells.size in
-      let lt : c < length r.cells = at.0 in
+      let lt : c < length r.cells = within r.cells c at in
       let (t, at_t) = some_entry roles c (subst (λ n. c < n) size lt) in
       let (z, at_z, is) = cells.each c t at_t in
       (t, at_t, subst (roles_of.IsCellOf p t) (one_entry r.cells c z x at_z at) is)
@@ -467,16 +450,16 @@ module _ (p : Program) (r : Rtl) (roles : List Role) (cells : AreCells p roles r
   stored_role x is (Value d) (y, at_y, made) =
       or_left (list_any (λ (z : Def). is_stored z.what) p.defs) (nat_lt 0 (length p.processes))
       (any_at p.defs d y at_y (sym (cell_stored p.defs d y.what x made) ∙ is))
-  stored_role x is (Placed k j) (q, (lt, is_q), pos, in_j, rest) =
+  stored_role x is (Placed k j) (q, at_q, pos, in_j, rest) =
       or_right (list_any (λ (z : Def). is_stored z.what) p.defs) (nat_lt 0 (length p.processes))
-      (lt-ltb 0 (length p.processes) (omega (arith, lt)))
-  stored_role x is (Stacked k l j) (q, (lt, is_q), in_l, is_place, rest) =
+      (lt-ltb 0 (length p.processes) (let lt = within p.processes k at_q in omega (arith, lt)))
+  stored_role x is (Stacked k l j) (q, at_q, in_l, is_place, rest) =
       or_right (list_any (λ (z : Def). is_stored z.what) p.defs) (nat_lt 0 (length p.processes))
-      (lt-ltb 0 (length p.processes) (omega (arith, lt)))
+      (lt-ltb 0 (length p.processes) (let lt = within p.processes k at_q in omega (arith, lt)))
 
   -- what stores a cell, the program stores
   pub stored : rtl_trace.stores r ≡ true → source.stores p ≡ true
   stored h =
-      let (c, x, at, is) = some_stored r.cells h in
+      let (c, x, at, is) = any_found (λ (z : Cell). rtl.is_stored z.kind) r.cells h in
       let (t, at_t, is_cell) = role_at c x at in
       stored_role x is t is_cell

@@ -55,7 +55,7 @@ use Rattle.mp_program.proofs.Definitions.{named}
 use Rattle.mp_base.specs.Entries.{IsAt}
 use Rattle.mp_rules.specs.Rules.{E27, is_unset}
 use Rattle.mp_rules.specs.Sorts.{IsWanted}
-use Rattle.mp_base.proofs.ListEntries.{some_entry, get_at}
+use Rattle.mp_base.proofs.Entries.{some_entry, within, value}
 use Rattle.rtl_form.specs.declared.rtl.CellKind.{CellKind}
 use Rattle.rtl_form.specs.declared.rtl.CellKind.TheVariants as kinds
 use Rattle.rtl_form.specs.declared.rtl.Cell as cells
@@ -242,7 +242,7 @@ module _ {p : Program} {r : Rtl} {roles : List Role} {enables : List (Option Ena
       let (z, at_z, (d, at_d, made)) = (plan.cells).each c (Value (index_of p.defs x)) role in
       let inside : e < length p.exprs =
       subst (λ k. InnerFit (length p.exprs) f (length p.forms) k) kind
-      ((sorted.sound).forms f y (get_at p.forms f y at_f)) in
+      ((sorted.sound).forms f y at_f) in
       let (w, at_w) = some_entry p.exprs e inside in
       let wanted : IsWanted p e (Some (sort_of z.word)) = inr (inr (
         f,
@@ -264,7 +264,7 @@ module _ {p : Program} {r : Rtl} {roles : List Role} {enables : List (Option Ena
         at_f,
         kind,
         at_d,
-        named p.defs x d at_d.0 at_d.1,
+        named p.defs x d (within p.defs (index_of p.defs x) at_d) (value p.defs (index_of p.defs x) at_d),
         unset_input d.what h,
       )) in (
         enable_bit f o a has,

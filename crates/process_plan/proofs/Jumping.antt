@@ -34,7 +34,7 @@ use Rattle.std.proofs.Common.{
 use Rattle.std.specs.Prelude.{Contains, ◌==◌, ◌&&◌, ◌||◌, slice_index}
 use Rattle.std.specs.List.{list_all, list_any}
 use Rattle.std.proofs.lemmas.Bool.{eqb-true, eq-eqb, and_parts}
-use Rattle.std.proofs.lemmas.List.{get_or_default}
+use Rattle.std.proofs.lemmas.Option.{slice_get-get_or}
 use Rattle.mp_base.specs.Apply.{truth}
 use Rattle.mp_base.specs.declared.op.Op.TheVariants.{And, Or, Not}
 use Rattle.mp_base.proofs.Contents.{contains_head, contains_behind, nothing_in, only_one}
@@ -50,7 +50,7 @@ use Rattle.mp_program.specs.Step.{wrapped, place_of_label, next_seat}
 use Rattle.mp_program.specs.Values as from
 use Rattle.mp_base.specs.Entries.{IsAt}
 use Rattle.mp_rules.specs.Standing.{is_transfer}
-use Rattle.mp_base.proofs.ListEntries.{one_entry}
+use Rattle.mp_base.proofs.Entries.{one_entry, contains_from_get}
 use Rattle.rtl_form.specs.declared.rtl.Rtl.{Rtl}
 use Rattle.rtl_form.specs.declared.rtl.RtlExpr.TheVariants.{Apply}
 use Rattle.process_plan.specs.Roles.{Role, seat_at}
@@ -209,12 +209,15 @@ module _ {p : Program} {r : Rtl} {roles : List Role} {enables : List (Option Ena
   inside : seat.place < length q.forms
   inside = (seat_fits p st k q s.fits at_q).0
 
+  root_here : IsAt q.forms seat.place root
+  root_here = slice_get-get_or q.forms seat.place 0 inside
+
   is_root : IsRoot p (At k seat.place) root
-  is_root = (q, at_q, (inside, get_or_default q.forms seat.place 0 root inside))
+  is_root = (q, at_q, root_here)
 
   pub one_done : moves done ≤ 1
   one_done = subst (λ n. n ≤ 1) (moves_are done)
-      (s.single env k q root at_q (seat.place, inside, get_or_default q.forms seat.place root 0 inside))
+      (s.single env k q root at_q (contains_from_get q.forms seat.place root root_here))
 
   -- a form of the process whose enable is 1 stands under this one
   pub enable_done : (f i a : ℕ) (y : Form) (m : Effect) → HasEnable enables f (At k i) a → X a ≡ 1 → IsAt p.forms f y
@@ -225,8 +228,7 @@ module _ {p : Program} {r : Rtl} {roles : List Role} {enables : List (Option Ena
       let same_q : q2 ≡ q = one_entry p.processes k q2 q at_q2 at_q in
       let at_here : IsAt q.forms seat.place root2 = subst (λ n. IsAt q.forms n root2) (sym on)
       (subst (λ (t : Process). IsAt t.forms i root2) same_q at_root) in
-      let same_root : root2 ≡ root = one_entry q.forms seat.place root2 root at_here
-      (inside, get_or_default q.forms seat.place 0 root inside) in (
+      let same_root : root2 ≡ root = one_entry q.forms seat.place root2 root at_here root_here in (
         subst (λ n. Contains (effects_of p env n) m) same_root
             (source_effect p env s.known root2 f y m runs here_y own),
         on,

@@ -23,7 +23,7 @@ use Rattle.std.proofs.Common.{
   arith,
   length,
 }
-use Rattle.std.specs.Prelude.{Contains, ◌&&◌, ◌||◌, slice_index_or}
+use Rattle.std.specs.Prelude.{Contains, ◌&&◌, ◌||◌}
 use Rattle.std.specs.List.{list_any}
 use Rattle.std.proofs.lemmas.List.Elements.{Contains-append_left, Contains-append_right}
 use Rattle.std.proofs.lemmas.Slice.Eq.{bytes_eq-Decides}
@@ -81,13 +81,14 @@ use Rattle.process_plan.proofs.Enabling.{one_enable}
 use Rattle.mp_program.proofs.Definitions.{named}
 use Rattle.process_plan.proofs.Defining.{value_role, placed_role, stacked_role}
 use Rattle.std.proofs.lemmas.Bool.{or_cases, or_left, or_right}
+use Rattle.std.proofs.lemmas.Option.{none-some, same_Some}
 use Rattle.mp_base.proofs.Contents.{
   contains_head,
   contains_behind,
   nothing_in,
   contains_from_map,
 }
-use Rattle.mp_base.proofs.ListEntries.{one_entry, some_entry, get_at}
+use Rattle.mp_base.proofs.Entries.{one_entry, some_entry, read_of, contains_from_get}
 use Rattle.mp_base.proofs.Induction.{downward, upward}
 
 -- ---- expressions and the cells that they read
@@ -231,8 +232,9 @@ module _ (p : Program) (r : Rtl) (roles : List Role) (enables : List (Option Ena
       let same : c2 ≡ c = reads_cell r.exprs c c2 (copy_of p e) h (subst (IsAt r.exprs (copy_of p e)) is at) in
       let index : index_of p.defs x ≡ b = value_role roles c (index_of p.defs x) b
       (subst (λ n. IsAt roles n (Value (index_of p.defs x))) same role2) role in
-      let name : y.name ≡ x = named p.defs x y (subst (λ n. n < length p.defs) (sym index) at_b.0)
-      (at_b.1 ∙ ap (λ n. slice_index_or p.defs n y) (sym index)) in
+      let at_x : IsAt p.defs (index_of p.defs x) y = subst (λ n. IsAt p.defs n y) (sym index) at_b in
+      let first = read_of p.defs (index_of p.defs x) y at_x in
+      let name : y.name ≡ x = named p.defs x y first.0 first.1 in
       (bytes_eq-Decides x y.name).1 (sym name)
   kind_mentioned e source.True z below fit is at h =
       let (a, ca, more) = reads_args r.exprs c (copy_of p e) z h at (ap code is) in
@@ -259,8 +261,7 @@ module _ (p : Program) (r : Rtl) (roles : List Role) (enables : List (Option Ena
   mentioned = downward MentionedAt (length p.exprs) (λ e lt below h.
       let (x, at_x) = some_entry p.exprs e lt in
       let (z, at_z, is) = plan.copies e x at_x in
-      let there = get_at p.exprs e x at_x in
-      names.mentions_is y.name e x there ∙ kind_mentioned e x.kind z below ((known.sound).exprs e x there) is at_z h)
+      names.mentions_is y.name e x at_x ∙ kind_mentioned e x.kind z below ((known.sound).exprs e x at_x) is at_z h)
 
   -- ---- enables
 
@@ -393,7 +394,7 @@ module _ (p : Program) (r : Rtl) (roles : List Role) (enables : List (Option Ena
   inner_touches x g z (Cond bs) o b2 f a at_g is enabling (d, cd, cf) has set h =
       branch_touches x o b2 bs d f a (form_reads p x y.name)
       (branches_low g (length p.forms) bs (subst (λ t. InnerFit (length p.exprs) g (length p.forms) t) is
-      ((known.sound).forms g z (get_at p.forms g z at_g))))
+      ((known.sound).forms g z (at_g))))
       enabling cd cf has set h
   inner_touches x g z (Par fs) o b2 f a at_g is enabling inside_k has set h =
       inl (subst Touches (one_enable enables f o o a b2 has (enabling f inside_k)).1 h)
@@ -412,16 +413,15 @@ module _ (p : Program) (r : Rtl) (roles : List Role) (enables : List (Option Ena
       elim ((plan.enabled).reasons f o a has) [
         | inl (is_root, is_expr) ↦ (f, is_root, λ x. (λ h. h, λ set h. absurd (origin_quiet o a is_expr h)))
         | inr (g, z, b2, at_g, lt, has_g, inside_g) ↦
-            let there = get_at p.forms g z at_g in
             let (root, is_root, rest) = below g lt o b2 has_g in (
               root,
               is_root,
               λ x. (
-                λ h. (rest x).0 (names.reads_is x y.name g z there ∙ inner_reads x z.kind f inside_g h),
+                λ h. (rest x).0 (names.reads_is x y.name g z at_g ∙ inner_reads x z.kind f inside_g h),
                 λ set h. elim (inner_touches x g z z.kind o b2 f a at_g refl
                     ((plan.enabled).inner g z o b2 at_g has_g) inside_g has set h) [
-                      | inl up ↦ (rest x).1 (names.sets_is x g z there ∙ inner_sets x z.kind f inside_g set) up
-                      | inr read ↦ (rest x).0 (names.reads_is x y.name g z there ∙ read)
+                      | inl up ↦ (rest x).1 (names.sets_is x g z at_g ∙ inner_sets x z.kind f inside_g set) up
+                      | inr read ↦ (rest x).0 (names.reads_is x y.name g z at_g ∙ read)
                     ],
               ),
             )
@@ -430,15 +430,15 @@ module _ (p : Program) (r : Rtl) (roles : List Role) (enables : List (Option Ena
   in_roots : (o : Origin) (root : ℕ) → IsRoot p o root → Contains (roots p) root
   in_roots Always root h = Contains-append_left p.always (process_roots p.processes) root h
   in_roots (At k i) root (q, at_q, at_i) = Contains-append_right p.always (process_roots p.processes) root
-      (of_process p.processes k q root at_q (i, at_i.0, sym at_i.1))
+      (of_process p.processes k q root at_q (contains_from_get q.forms i root at_i))
     where
       of_process : (qs : List Process) (k : ℕ) (q : Process) (root : ℕ) → IsAt qs k q → Contains q.forms root
           → Contains (process_roots qs) root
-      of_process [] k q root (lt, is) c = absurd (omega (arith, lt))
-      of_process (z ∷ qs) zero q root (lt, is) c = Contains-append_left z.forms (process_roots qs) root
-          (subst (λ (t : Process). Contains t.forms root) is c)
-      of_process (z ∷ qs) (suc k) q root (lt, is) c = Contains-append_right z.forms (process_roots qs) root
-          (of_process qs k q root (omega (arith, lt), is) c)
+      of_process [] k q root at c = absurd (none-some q at)
+      of_process (z ∷ qs) zero q root at c = Contains-append_left z.forms (process_roots qs) root
+          (subst (λ (t : Process). Contains t.forms root) (sym (same_Some z q at)) c)
+      of_process (z ∷ qs) (suc k) q root at c = Contains-append_right z.forms (process_roots qs) root
+          (of_process qs k q root at c)
 
   -- a transfer to the cell of definition d that reads the cell of definition b: d reads b
   pub transfer_reads : (d c2 : ℕ) (x : Def) → IsAt p.defs d x → is_driven x.what ≡ true → is_driven y.what ≡ true
@@ -448,25 +448,25 @@ module _ (p : Program) (r : Rtl) (roles : List Role) (enables : List (Option Ena
   transfer_reads d c2 x at_d dx dy role2 t (plans.sets f z n at e o a c3 at_f is has role3) target touches =
       let index : index_of p.defs n ≡ d = value_role roles c2 (index_of p.defs n) d
       (subst (λ i. IsAt roles i (Value (index_of p.defs n))) target role3) role2 in
-      let name : x.name ≡ n = named p.defs n x (subst (λ i. i < length p.defs) (sym index) at_d.0)
-      (at_d.1 ∙ ap (λ i. slice_index_or p.defs i x) (sym index)) in
+      let at_n : IsAt p.defs (index_of p.defs n) x = subst (λ i. IsAt p.defs i x) (sym index) at_d in
+      let first = read_of p.defs (index_of p.defs n) x at_n in
+      let name : x.name ≡ n = named p.defs n x first.0 first.1 in
       let same : is_same n x.name ≡ true = (bytes_eq-Decides n x.name).1 (sym name) in
-      let there = get_at p.forms f z at_f in
       let (root, is_root, up) = root_reads f o a has in
       let e_in : e < length p.exprs = subst (λ k. InnerFit (length p.exprs) f (length p.forms) k) is
-      ((known.sound).forms f z there) in
-      let set : sets p x.name f ≡ true = names.sets_is x.name f z there
+      ((known.sound).forms f z at_f) in
+      let set : sets p x.name f ≡ true = names.sets_is x.name f z at_f
       ∙ ap (λ k. kind_sets x.name k (sets p x.name)) is ∙ same in
       let root_read : form_reads p x.name y.name root ≡ true = elim touches [
         | inl guard ↦ (up x.name).1 set guard
-        | inr value ↦ (up x.name).0 (names.reads_is x.name y.name f z there
+        | inr value ↦ (up x.name).0 (names.reads_is x.name y.name f z at_f
             ∙ ap (λ k. kind_reads (mentions p y.name) (sets p x.name) x.name k (form_reads p x.name y.name)) is
             ∙ ap (λ t2. t2 && mentions p y.name e) same ∙ mentioned e e_in value)
       ] in (
         x,
         y,
-        get_at p.defs d x at_d,
-        get_at p.defs b y at_b,
+        at_d,
+        at_b,
         dx,
         dy,
         any_in (form_reads p x.name y.name) (roots p) root

@@ -5,9 +5,7 @@ use Rattle.std.proofs.Common.{
   inr,
   ◌∙◌,
   ℕ,
-  suc,
   ◌+◌,
-  ◌<◌,
   List,
   [],
   ◌∷◌,
@@ -20,23 +18,20 @@ use Rattle.std.proofs.Common.{
   None,
   refl,
   sym,
-  ap,
   subst,
-  arith,
   length,
   filter,
   MatchOption,
   position,
 }
-use Rattle.std.specs.Prelude.{All, IfSome, IsSome, ◌||◌, nat_lt, codes, slice_index_or}
+use Rattle.std.specs.Prelude.{All, IfSome, IsSome, nat_lt, codes, slice_index_or}
 use Rattle.std.specs.List.{AllByRecursion, list_any, position_from}
 use Rattle.std.proofs.lemmas.Bool.{and_parts, ltb-true, or_cases}
-use Rattle.std.proofs.lemmas.List.{get_or_default}
 use Rattle.std.proofs.lemmas.List.Elements.{All-from_recursion}
 use Rattle.std.proofs.lemmas.List.Quantifiers.{position-Some}
 use Rattle.std.proofs.lemmas.Iterator.Adapters.{position_from-zero}
+use Rattle.std.proofs.lemmas.Option.{slice_get-get_or}
 use Rattle.mp_base.specs.declared.refusal.Place.{Place}
-use Rattle.mp_base.proofs.Induction.{by_test}
 use Rattle.mp_program.specs.declared.program.What.{What}
 use Rattle.mp_program.specs.declared.program.What.TheVariants.{
   Power,
@@ -50,7 +45,6 @@ use Rattle.mp_program.specs.declared.program.What.TheVariants.{
   Port,
   Signal,
 }
-use Rattle.mp_program.specs.declared.program.Way.TheVariants.{Input}
 use Rattle.mp_program.specs.declared.program.Def.{Def}
 use Rattle.mp_program.specs.declared.program.Program.{Program}
 use Rattle.mp_program.specs.Names.{is_same, is_input, is_input_signal, is_reset, is_stored, pad_number}
@@ -60,7 +54,7 @@ use Rattle.mp_program.proofs.Definitions.{same_is}
 use Rattle.mp_program.proofs.FormKinds.{input_signal}
 use Rattle.mp_base.specs.Entries.{IsAt}
 use Rattle.mp_rules.specs.Rules.{E34}
-use Rattle.mp_base.proofs.ListEntries.{some_entry}
+use Rattle.mp_base.proofs.Entries.{some_entry, any_found}
 use Rattle.rtl_form.specs.declared.rtl.CellKind.TheVariants as kinds
 use Rattle.rtl_form.specs.declared.rtl.Cell.{Cell}
 use Rattle.rtl_form.specs.declared.rtl.Rtl.{Rtl}
@@ -97,17 +91,6 @@ none_from {X} t i (x ∷ xs) h = pick (t x) refl h (none_from t (i + 1) xs)
 none_passes : {X : Type 0} (t : X → Bool) (xs : List X) → position t xs ≡ None → All (λ x. t x ≡ false) xs
 none_passes t xs h = All-from_recursion (λ x. t x ≡ false) xs (none_from t 0 xs (sym (position_from-zero t xs) ∙ h))
 
--- an element passes where one of the list does
-found : {X : Type 0} (t : X → Bool) (xs : List X) → list_any t xs ≡ true
-    → (k : ℕ) × (k < length xs) × ((x : X) → IsAt xs k x → t x ≡ true)
-found t [] h = absurd (cc)
-found {X} t (x ∷ xs) h = by_test {A = (k : ℕ) × (k < length (x ∷ xs)) × ((y : X) → IsAt (x ∷ xs) k y → t y ≡ true)}
-    (t x)
-    (λ e. (0, omega arith, λ y at. ap t at.1 ∙ e))
-    (λ e.
-    let (k, lt, is) = found t xs (subst (λ b. (b || list_any t xs) ≡ true) e h) in
-    (suc k, omega (arith, lt), λ y at. is y (lt, at.1)))
-
 module _ (p : Program) (r : Rtl) (roles : List Role) (cells : AreCells p roles r.cells) (padded : ArePadsOf p r.pads)
     (reset : IsResetCell p r.cells r.reset) where
   reset_pad : (d c : ℕ) (x : Cell) → position is_reset p.defs ≡ Some d → IsAt r.cells c x
@@ -117,7 +100,7 @@ module _ (p : Program) (r : Rtl) (roles : List Role) (cells : AreCells p roles r
       (pad_number p.defs d) at kind in
       let (lt, passes, before) = position-Some is_reset p.defs d other found in
       let y : Def = slice_index_or p.defs d other in
-      let at_y : IsAt p.defs d y = (lt, get_or_default p.defs d other y lt) in
+      let at_y : IsAt p.defs d y = slice_get-get_or p.defs d other lt in
       let (name, signal) = and_parts (is_same y.name (codes "reset")) (is_input_signal y.what) passes in
       let is = input_signal y.what signal in
       let (pad, at_pad, pad_name, width) = face_at (r.pads).inputs
@@ -150,9 +133,8 @@ module _ (p : Program) (r : Rtl) (roles : List Role) (cells : AreCells p roles r
   stored_reset keeps none h = elim (or_cases (list_any (λ (x : Def). is_stored x.what) p.defs)
       (nat_lt 0 (length p.processes)) h) [
         | inl some ↦
-            let (d, lt, is) = found (λ (x : Def). is_stored x.what) p.defs some in
-            let (x, at) = some_entry p.defs d lt in
-            keeps x.place (none, inl (d, x, at, is x at, refl))
+            let (d, x, at, is) = any_found (λ (x : Def). is_stored x.what) p.defs some in
+            keeps x.place (none, inl (d, x, at, is, refl))
         | inr some ↦
             let (q, at) = some_entry p.processes 0 (ltb-true 0 (length p.processes) some) in
             keeps q.place (none, inr (0, q, at, refl))

@@ -21,6 +21,7 @@ use Rattle.std.proofs.Common.{
 use Rattle.std.specs.Prelude.{Bool, Contains, ◌||◌}
 use Rattle.std.specs.List.{AllByRecursion, list_any}
 use Rattle.std.proofs.lemmas.List.Elements.{recursion_from_All}
+use Rattle.std.proofs.lemmas.Option.{none-some}
 use Rattle.mp_base.proofs.Contents.{nothing_in}
 use Rattle.mp_base.proofs.Induction.{downward}
 use Rattle.mp_program.specs.declared.program.FormKind.{FormKind}
@@ -33,7 +34,7 @@ use Rattle.mp_program.specs.Sound.{AllBetween, BranchesFit, InnerFit}
 use Rattle.mp_program.specs.State.{zero_state}
 use Rattle.mp_program.specs.Trace as source
 use Rattle.mp_base.specs.Entries.{IsAt}
-use Rattle.mp_base.proofs.ListEntries.{some_entry, get_at}
+use Rattle.mp_base.proofs.Entries.{some_entry}
 use Rattle.rtl_form.specs.declared.rtl.Rtl.{Rtl}
 use Rattle.rtl_form.specs.declared.rtl.RtlExpr.{RtlExpr}
 use Rattle.rtl_form.specs.declared.rtl.Transfer.{Transfer}
@@ -177,19 +178,16 @@ module _ {p : Program} {order : List ℕ} (lawful : Lawful p order) where
   none_set : (r : Rtl) → IsIdle p order r → (name : List ℕ) (f : ℕ) → f < length p.forms → sets p name f ≡ false
   none_set r idle name = downward (λ f. sets p name f ≡ false) (length p.forms) (λ f lt below.
       let (y, at) = some_entry p.forms f lt in
-      (lawful.named).sets_is name f y (get_at p.forms f y at)
+      (lawful.named).sets_is name f y at
       ∙ none_of_kind name (length p.exprs) f (length p.forms) y.kind (sets p name) (idle.unset f y at)
-      (((lawful.known).sound).forms f y (get_at p.forms f y at)) below)
+      (((lawful.known).sound).forms f y at) below)
 
   pub idle_sound : (r : Rtl) → IsIdle p order r → IsSound r
   idle_sound r idle =
       sound_of r idle.roles idle.width idle.padded idle.reset idle.cells idle.ordered
       (idle_alike p r idle.roles idle.transfers)
-      (λ e x at. absurd (nothing e x (subst (λ xs. IsAt xs e x) idle.exprs at)))
+      (λ e x at. absurd (none-some x (subst (λ xs. IsAt xs e x) idle.exprs at)))
       (λ t c. absurd (nothing_in t (subst (λ ts. Contains ts t) idle.transfers c)))
-    where
-      nothing : (e : ℕ) (x : RtlExpr) → IsAt {X = RtlExpr} [] e x → ⊥
-      nothing e x (lt, is) = omega (arith, lt)
 
   silent : (r : Rtl) (idle : IsIdle p order r) → IsSilent p r idle.roles
   silent r idle = record {

@@ -42,13 +42,12 @@ use Rattle.std.proofs.lemmas.List.{
   length-map,
   length-replicate,
   length-take,
-  get_or_default,
 }
-use Rattle.std.proofs.lemmas.Option.{same_Some}
+use Rattle.std.proofs.lemmas.Option.{same_Some, none-some, get_or_from_slice_get, slice_get-get_or}
 use Rattle.mp_base.specs.Apply.{truth}
 use Rattle.mp_base.specs.Merge.{merged}
 use Rattle.mp_base.proofs.Induction.{by_test}
-use Rattle.mp_base.proofs.Entries.{zeros_at}
+use Rattle.mp_base.proofs.Entries.{zeros_at, one_entry, some_entry, map_get, within}
 use Rattle.mp_program.specs.declared.program.What.{What}
 use Rattle.mp_program.specs.declared.program.What.TheVariants.{
   Power,
@@ -74,7 +73,6 @@ use Rattle.mp_program.specs.Environment.{IsEnvironment, what_value, driven_value
 use Rattle.mp_program.specs.Step.{wrapped, next_stored, next_seat, next_seats}
 use Rattle.mp_program.specs.Weight.{calls_in}
 use Rattle.mp_base.specs.Entries.{IsAt}
-use Rattle.mp_base.proofs.ListEntries.{one_entry, some_entry, get_at}
 use Rattle.rtl_form.specs.declared.rtl.Cell.{Cell}
 use Rattle.rtl_form.specs.declared.rtl.Rtl.{Rtl}
 use Rattle.rtl_form.specs.Written.{written}
@@ -114,15 +112,15 @@ use Rattle.process_plan.specs.Active.{At}
 next_stored_from : (es : List Effect) (d : ℕ) (xs : List Def) (old : List ℕ) (k : ℕ) (x : Def) → IsAt xs k x
     → slice_index (next_stored es d xs old) k ≡ cond (is_stored x.what)
     (unwrap_or (merged (source.written x.name es)) (slice_index old (d + k))) 0
-next_stored_from es d [] old k x (lt, is) = absurd (omega (arith, lt))
-next_stored_from es d (y ∷ ys) old zero x (lt, is) =
+next_stored_from es d [] old k x at = absurd (none-some x at)
+next_stored_from es d (y ∷ ys) old zero x at =
     let e : d ≡ d + 0 = omega arith in
     ap (λ (z : Def). cond (is_stored z.what) (unwrap_or (merged (source.written z.name es)) (slice_index old d)) 0)
-    (sym is)
+    (same_Some y x at)
     ∙ ap (λ j. cond (is_stored x.what) (unwrap_or (merged (source.written x.name es)) (slice_index old j)) 0) e
-next_stored_from es d (y ∷ ys) old (suc k) x (lt, is) =
+next_stored_from es d (y ∷ ys) old (suc k) x at =
     let e : suc d + k ≡ d + suc k = omega arith in
-    next_stored_from es (suc d) ys old k x (omega (arith, lt), is)
+    next_stored_from es (suc d) ys old k x at
     ∙ ap (λ j. cond (is_stored x.what) (unwrap_or (merged (source.written x.name es)) (slice_index old j)) 0) e
 
 next_stored_at : (es : List Effect) (xs : List Def) (old : List ℕ) (k : ℕ) (x : Def) → IsAt xs k x
@@ -136,14 +134,14 @@ next_stored_at es xs old k x at =
 next_cells_from : (r : Rtl) (state env : List ℕ) (c : ℕ) (xs : List Cell) (k : ℕ) (x : Cell) → IsAt xs k x
     → slice_index (rtl_step.next_cells r state env c xs) k
     ≡ cond (rtl.is_stored x.kind) (rtl_step.next_stored r state env (c + k)) 0
-next_cells_from r state env c [] k x (lt, is) = absurd (omega (arith, lt))
-next_cells_from r state env c (y ∷ ys) zero x (lt, is) =
+next_cells_from r state env c [] k x at = absurd (none-some x at)
+next_cells_from r state env c (y ∷ ys) zero x at =
     let e : c ≡ c + 0 = omega arith in
-    ap (λ (z : Cell). cond (rtl.is_stored z.kind) (rtl_step.next_stored r state env c) 0) (sym is)
+    ap (λ (z : Cell). cond (rtl.is_stored z.kind) (rtl_step.next_stored r state env c) 0) (same_Some y x at)
     ∙ ap (λ j. cond (rtl.is_stored x.kind) (rtl_step.next_stored r state env j) 0) e
-next_cells_from r state env c (y ∷ ys) (suc k) x (lt, is) =
+next_cells_from r state env c (y ∷ ys) (suc k) x at =
     let e : suc c + k ≡ c + suc k = omega arith in
-    next_cells_from r state env (suc c) ys k x (omega (arith, lt), is)
+    next_cells_from r state env (suc c) ys k x at
     ∙ ap (λ j. cond (rtl.is_stored x.kind) (rtl_step.next_stored r state env j) 0) e
 
 length_next_cells : (r : Rtl) (state env : List ℕ) (c : ℕ) (xs : List Cell)
@@ -155,16 +153,14 @@ next_at : (p : Program) (env : List ℕ) (qs : List Process) (ss : List Seat) (k
     → IsAt qs k q
     → seat_at (next_seats p env qs ss) k ≡ next_seat q (seat_at ss k)
     (effects_of p env (slice_index q.forms (seat_at ss k).place))
-next_at p env [] ss k q fit (lt, is) = absurd (omega (arith, lt))
+next_at p env [] ss k q fit at = absurd (none-some q at)
 next_at p env (x ∷ qs) [] k q fit at = absurd fit
-next_at p env (x ∷ qs) (s ∷ ss) zero q fit (lt, is) = ap
-    (λ (z : Process). next_seat z s (effects_of p env (slice_index z.forms s.place))) (sym is)
-next_at p env (x ∷ qs) (s ∷ ss) (suc k) q fit (lt, is) = next_at p env qs ss k q fit.3 (omega (arith, lt), is)
+next_at p env (x ∷ qs) (s ∷ ss) zero q fit at = ap
+    (λ (z : Process). next_seat z s (effects_of p env (slice_index z.forms s.place))) (same_Some x q at)
+next_at p env (x ∷ qs) (s ∷ ss) (suc k) q fit at = next_at p env qs ss k q fit.3 at
 
 zero_seat_at : (qs : List Process) (k : ℕ) (q : Process) → IsAt qs k q → seat_at (map zero_seat qs) k ≡ zero_seat q
-zero_seat_at [] k q (lt, is) = absurd (omega (arith, lt))
-zero_seat_at (x ∷ qs) zero q (lt, is) = ap zero_seat (sym is)
-zero_seat_at (x ∷ qs) (suc k) q (lt, is) = zero_seat_at qs k q (omega (arith, lt), is)
+zero_seat_at qs k q at = get_or_from_slice_get (map zero_seat qs) k (zero_seat q) _ (map_get zero_seat qs k q at)
 
 -- ---- the cells of definitions
 
@@ -264,11 +260,12 @@ module _ {p : Program} {r : Rtl} {roles : List Role} {st : State} {inputs env : 
 
   -- each cell stands for something
   pub cell_role : (c : ℕ) (x : Cell) → IsAt r.cells c x → (t : Role) × IsAt roles c t × IsCellOf p t x
-  cell_role c x (lt, is) =
+  cell_role c x at =
       let size = (s.cells).size in
+      let lt = within r.cells c at in
       let (t, at_t) = some_entry roles c (omega (arith, lt, size)) in
       let (y, at_y, is_cell) = (s.cells).each c t at_t in
-      (t, at_t, subst (IsCellOf p t) (one_entry r.cells c y x at_y (lt, is)) is_cell)
+      (t, at_t, subst (IsCellOf p t) (one_entry r.cells c y x at_y at) is_cell)
 
   -- ---- the environment
 
@@ -278,7 +275,7 @@ module _ {p : Program} {r : Rtl} {roles : List Role} {st : State} {inputs env : 
       let driven : rtl.driven_value r envr c ≡ driven_value p st env y =
       ap (λ m. unwrap_or m 0) (s.values c d y at_y (cell_named p.defs d y.what x is) at_t) in
       cell_at roles env st.seats c (Value d) at_t
-      ∙ (s.clock).values d y (get_at p.defs d y at_y)
+      ∙ (s.clock).values d y at_y
       ∙ sym (ap (rtl.kind_value x.kind inputs (slice_index state c)) driven
       ∙ ap (λ n. rtl.kind_value x.kind inputs n (driven_value p st env y))
       (cell_at roles st.stored st.seats c (Value d) at_t)
@@ -421,7 +418,7 @@ module _ {p : Program} {r : Rtl} {roles : List Role} {enables : List (Option Ena
       let root_f = slice_index q.forms from_here.place in
       let counted : 0 < calls_in p root_f = calls_counted p env s.known root_f
       (root_in p s.known (At k from_here.place) root_f
-      (q, at_q, (range, get_or_default q.forms from_here.place 0 root_f range))) m cm in
+      (q, at_q, slice_get-get_or q.forms from_here.place 0 range)) m cm in
       (pos, omega (arith, lt, e), subst (λ n. 0 < calls_in p (slice_index q.forms n)) (sym before) counted)
   pushed_place m cm (suc l) pos = s.stacks k l q at_q pos
 

@@ -30,7 +30,7 @@ use Rattle.std.proofs.Common.{
 use Rattle.std.specs.Prelude.{Contains}
 use Rattle.std.proofs.lemmas.Bool.{cases_lt}
 use Rattle.std.proofs.lemmas.List.{length-map}
-use Rattle.std.proofs.lemmas.Option.{same_Some}
+use Rattle.std.proofs.lemmas.Option.{same_Some, none-some}
 use Rattle.mp_base.specs.declared.op.Op.{Op}
 use Rattle.mp_base.specs.declared.op.Op.TheVariants.{
   Add,
@@ -75,7 +75,6 @@ use Rattle.mp_program.specs.declared.program.Way.TheVariants.{Input, Output, Int
 use Rattle.mp_program.specs.declared.program.Def.{Def}
 use Rattle.mp_program.specs.declared.program.Expr.{Expr}
 use Rattle.mp_program.specs.declared.program.Program.{Program}
-use Rattle.mp_program.specs.Fits as source_fits
 use Rattle.mp_program.specs.Names.{index_of, is_same}
 use Rattle.mp_program.specs.Sound.{IsSound, ArgsFit}
 use Rattle.mp_base.specs.Entries.{IsAt}
@@ -91,11 +90,12 @@ use Rattle.mp_rules.specs.Sorts.{
   expr_sort,
   IsWanted,
 }
-use Rattle.mp_base.proofs.ListEntries.{some_entry, get_at}
+use Rattle.mp_base.proofs.Entries.{some_entry, within}
 use Rattle.rtl_form.specs.declared.rtl.Cell as cells
 use Rattle.rtl_form.specs.declared.rtl.RtlExpr.{RtlExpr}
 use Rattle.rtl_form.specs.declared.rtl.RtlExpr.TheVariants.{Number, Truth, Cell, Apply}
-use Rattle.rtl_form.specs.Operands.{takes, takes_words, gives_word}
+use Rattle.rtl_form.specs.Operands.{takes_words, gives_word}
+use Rattle.mp_base.specs.Apply.{takes}
 use Rattle.rtl_form.specs.Sound.{IsSort, IndexFits}
 use Rattle.process_plan.specs.Roles.{Role, Value, AreCells, def_cell}
 use Rattle.process_plan.specs.Enables.{copy_of, IsCopy}
@@ -146,14 +146,14 @@ cell_sort ds d (Signal Internal) x h = ap (λ (z : cells.Cell). Some (sort_of z.
 
 -- the sort of a name is that of its first definition
 pub name_sorted : (ds : List Def) (n : List ℕ) (x : Def) → IsAt ds (index_of ds n) x → name_sort ds n ≡ what_sort x.what
-name_sorted [] n x (lt, is) = absurd (omega (arith, lt))
+name_sorted [] n x at = absurd (none-some x at)
 name_sorted (y ∷ ys) n x at = pick (is_same y.name n) at (name_sorted ys n x)
   where
     pick : (t : Bool) → IsAt (y ∷ ys) (cond t 0 (suc (index_of ys n))) x
         → (IsAt ys (index_of ys n) x → name_sort ys n ≡ what_sort x.what)
         → cond t (what_sort y.what) (name_sort ys n) ≡ what_sort x.what
-    pick true (lt, is) rest = ap (λ (z : Def). what_sort z.what) (sym is)
-    pick false (lt, is) rest = rest (omega (arith, lt), is)
+    pick true at rest = ap (λ (z : Def). what_sort z.what) (same_Some y x at)
+    pick false at rest = rest at
 
 result_is : (op : Op) → result_sort op ≡ sort_of (gives_word op)
 result_is Add = refl
@@ -198,28 +198,6 @@ operand_is Bit = refl
 operand_is Zero = refl
 operand_is Equal = refl
 operand_is Less = refl
-
-takes_as : (op : Op) (n : ℕ) → source_fits.takes op n ≡ takes op n
-takes_as Add n = refl
-takes_as Sub n = refl
-takes_as Inc n = refl
-takes_as Dec n = refl
-takes_as WordAnd n = refl
-takes_as WordOr n = refl
-takes_as WordXor n = refl
-takes_as WordNot n = refl
-takes_as Left n = refl
-takes_as Right n = refl
-takes_as And n = refl
-takes_as Or n = refl
-takes_as Nor n = refl
-takes_as Nand n = refl
-takes_as Xor n = refl
-takes_as Not n = refl
-takes_as Bit n = refl
-takes_as Zero n = refl
-takes_as Equal n = refl
-takes_as Less n = refl
 
 -- ---- copies
 
@@ -314,7 +292,7 @@ module _ (p : Program) (roles : List Role) (xs : List cells.Cell) (are : AreCell
     bits_first : (b : ℕ) → b < 2 → HasSortIn xs exprs b false → (a : ℕ) → Contains (b ∷ []) a
         → (a < copy_of p e) × HasSortIn xs exprs a false
     bits_first b low has a c =
-        let inside : e < length p.exprs = at.0 in
+        let inside : e < length p.exprs = within p.exprs e at in
         subst (λ n. (n < copy_of p e) × HasSortIn xs exprs n false) (only_one b a c) (omega (arith, low, inside), has)
 
     arg_fits : (op : Op) (k : ℕ) (args : List ℕ) → x.kind ≡ source.Apply op k args
@@ -340,7 +318,7 @@ module _ (p : Program) (roles : List Role) (xs : List cells.Cell) (are : AreCell
         (constant_fits sorted (index_of p.defs name) d n at_d what)
     kind_fits (source.Named name) y kind fit (d, at_d, inr (c, role, is)) =
         let (z, at_z, cell) = are.each c (Value (index_of p.defs name)) role in
-        subst (ExprFitsIn p.width xs exprs (copy_of p e)) (sym is) at_z.0
+        subst (ExprFitsIn p.width xs exprs (copy_of p e)) (sym is) (within xs c at_z)
     kind_fits source.True y kind fit is =
         subst (ExprFitsIn p.width xs exprs (copy_of p e)) (sym is)
         (refl, tt, bits_first 1 (omega arith) (Apply Not 0 (0 ∷ []), truth.1, refl))
@@ -349,13 +327,13 @@ module _ (p : Program) (roles : List Role) (xs : List cells.Cell) (are : AreCell
         (refl, tt, bits_first 0 (omega arith) (Truth true, truth.0, refl))
     kind_fits (source.Apply op k args) y kind fit is =
         subst (ExprFitsIn p.width xs exprs (copy_of p e)) (sym is) (
-          ap (takes op) (length-map args (copy_of p)) ∙ sym (takes_as op (length args)) ∙ fit.0,
+          ap (takes op) (length-map args (copy_of p)) ∙ fit.0,
           index_fits sorted e x op k args at kind,
           arg_fits op k args kind fit,
         )
 
     pub copy_fits : (y : RtlExpr) → IsCopy p roles x.kind y → ExprFitsIn p.width xs exprs (copy_of p e) y
-    copy_fits y is = kind_fits x.kind y refl ((sorted.sound).exprs e x (get_at p.exprs e x at)) is
+    copy_fits y is = kind_fits x.kind y refl ((sorted.sound).exprs e x at) is
 
 -- ---- what fits still fits where lists grow
 
@@ -378,7 +356,7 @@ pub fits_kept : (w : ℕ) (xs ys : List cells.Cell) (exprs more : List RtlExpr) 
     → Keeps exprs more → ExprFitsIn w xs exprs e x → ExprFitsIn w ys more e x
 fits_kept w xs ys exprs more e (Number n) keeps grown h = h
 fits_kept w xs ys exprs more e (Truth b) keeps grown h = h
-fits_kept w xs ys exprs more e (Cell c) keeps grown h = let (x, at) = some_entry xs c h in (keeps c x at).0
+fits_kept w xs ys exprs more e (Cell c) keeps grown h = let (x, at) = some_entry xs c h in within ys c (keeps c x at)
 fits_kept w xs ys exprs more e (Apply op k args) keeps grown (takes_n, index, each) = (
   takes_n,
   index,

@@ -1,9 +1,8 @@
 -- The order of the program's definitions is one of their cells.
 use Rattle.std.proofs.Common.{◌≡◌, ◌∙◌, ℕ, ◌<◌, List, [], true, Option, Some, sym, ap, subst, arith, length}
 use Rattle.std.specs.Prelude.{Contains, slice_index}
-use Rattle.std.proofs.lemmas.List.{get_or_default}
 use Rattle.mp_base.proofs.Contents.{nothing_in}
-use Rattle.std.proofs.lemmas.Option.{same_Some}
+use Rattle.std.proofs.lemmas.Option.{same_Some, get_or_from_slice_get, slice_get-get_or}
 use Rattle.mp_program.specs.declared.program.What.{What}
 use Rattle.mp_program.specs.declared.program.What.TheVariants.{
   Power,
@@ -23,7 +22,7 @@ use Rattle.mp_program.specs.declared.program.Program.{Program}
 use Rattle.mp_program.specs.Names.{is_driven}
 use Rattle.mp_program.specs.Reads as source
 use Rattle.mp_base.specs.Entries.{IsAt}
-use Rattle.mp_base.proofs.ListEntries.{one_entry, some_entry, number_at, at_get, get_at}
+use Rattle.mp_base.proofs.Entries.{one_entry, some_entry, within}
 use Rattle.rtl_form.specs.declared.rtl.Cell.{Cell}
 use Rattle.rtl_form.specs.declared.rtl.Rtl.{Rtl}
 use Rattle.rtl_form.specs.Environment as rtl
@@ -52,9 +51,6 @@ cell_driven ds d (Signal Input) x h = ap (λ (z : Cell). rtl.is_driven z.kind) (
 cell_driven ds d (Signal Output) x h = ap (λ (z : Cell). rtl.is_driven z.kind) (sym (same_Some _ x h))
 cell_driven ds d (Signal Internal) x h = ap (λ (z : Cell). rtl.is_driven z.kind) (sym (same_Some _ x h))
 
-entry : (xs : List ℕ) (k : ℕ) → k < length xs → IsAt xs k (slice_index xs k)
-entry xs k lt = (lt, get_or_default xs k 0 (slice_index xs k) lt)
-
 -- the transfers of a driven definition read the cell of another only where the program reads that
 abbrev pub ReadAlike : Program → Rtl → List Role → Type 0
 ReadAlike p r roles = (a b c d : ℕ) (x y : Def) → IsAt p.defs a x → is_driven x.what ≡ true → IsAt roles c (Value a)
@@ -67,7 +63,7 @@ module _ {p : Program} {r : Rtl} {roles : List Role} {order : List ℕ} (cells :
       × IsAt roles c (Value d) × IsAt p.defs d y × (is_driven y.what ≡ true)
   driven_role c x at h =
       let size = cells.size in
-      let lt : c < length r.cells = at.0 in
+      let lt : c < length r.cells = within r.cells c at in
       let (t, at_t) = some_entry roles c (subst (λ n. c < n) size lt) in
       let (z, at_z, is) = cells.each c t at_t in
       by_role t at_t (subst (IsCellOf p t) (one_entry r.cells c z x at_z at) is)
@@ -87,14 +83,15 @@ module _ {p : Program} {r : Rtl} {roles : List Role} {order : List ℕ} (cells :
   follow : (k : ℕ) → k < length order → IsAt roles (slice_index r.order k) (Value (slice_index order k))
       × (k < length r.order)
   follow k lt =
-      let (c, at_c, role) = follows.each k (slice_index order k) (entry order k lt) in
-      (subst (λ n. IsAt roles n (Value (slice_index order k))) (sym (number_at r.order k c at_c)) role, at_c.0)
+      let (c, at_c, role) = follows.each k (slice_index order k) (slice_get-get_or order k 0 lt) in (
+        subst (λ n. IsAt roles n (Value (slice_index order k))) (sym (get_or_from_slice_get r.order k c 0 at_c)) role,
+        within r.order k at_c,
+      )
 
   pub order_kept : IsOrder r
   order_kept = record {
     driven = λ k lt.
-        let (y, there, h) = ordered.driven k (at_order k lt) in
-        let at_y = at_get p.defs (slice_index order k) y there in
+        let (y, at_y, h) = ordered.driven k (at_order k lt) in
         let (x, at_x, (z, at_z, is_cell)) = cells.each (slice_index r.order k) (Value (slice_index order k))
         (follow k (at_order k lt)).0 in
         let same : z ≡ y = one_entry p.defs (slice_index order k) z y at_z at_y in (
@@ -111,7 +108,7 @@ module _ {p : Program} {r : Rtl} {roles : List Role} {order : List ℕ} (cells :
         (slice_index order k) a (follow k lt_k).0);
     all = λ c x at h.
         let (d, y, role, at_y, drv) = driven_role c x at h in
-        let (k, lt, is) = ordered.all d y (get_at p.defs d y at_y) drv in
+        let (k, lt, is) = ordered.all d y at_y drv in
         let (at_c2, lt_r) = follow k lt in (
           k,
           lt_r,
@@ -122,8 +119,7 @@ module _ {p : Program} {r : Rtl} {roles : List Role} {order : List ℕ} (cells :
         let (t, z, ct, target, at, h, touches) = read in
         let lt_k = at_order k lt in
         let (b, y, role, at_y, drv) = driven_role c z at h in
-        let (x, there, drv_x) = ordered.driven k lt_k in
-        let at_x = at_get p.defs (slice_index order k) x there in
+        let (x, at_x, drv_x) = ordered.driven k lt_k in
         let reads = alike (slice_index order k) b (slice_index r.order k) c x y at_x drv_x
         (follow k lt_k).0 at_y drv role read in
         let (j, jk, is_b) = ordered.after k b lt_k reads in

@@ -34,6 +34,7 @@ use Rattle.std.specs.List.{AllByRecursion, flat_map}
 use Rattle.std.specs.Option.{option_map_or}
 use Rattle.std.proofs.lemmas.List.{length-map}
 use Rattle.std.proofs.lemmas.List.Sums.{sum_by-cons}
+use Rattle.std.proofs.lemmas.Option.{none-some, same_Some}
 use Rattle.mp_program.specs.declared.program.Def.{Def}
 use Rattle.mp_program.specs.declared.program.Program.{Program}
 use Rattle.mp_program.specs.Names.{is_same, is_output, is_reset, pad_number}
@@ -51,7 +52,6 @@ use Rattle.mp_program.proofs.Lengths.{length-outputs_of}
 use Rattle.rtl_form.specs.Values.{value_of}
 use Rattle.rtl_form.specs.Written.{written}
 use Rattle.mp_base.specs.Entries.{IsAt}
-use Rattle.mp_base.proofs.ListEntries.{get_at}
 use Rattle.mp_rules.specs.Naming.{OwnNames}
 use Rattle.mp_fitting.specs.Fitting.{StateFits}
 use Rattle.rtl_form.specs.declared.rtl.CellKind.{CellKind}
@@ -86,13 +86,13 @@ use Rattle.process_plan.proofs.Facing.{output_of}
 output_at : (ds : List Def) (vs : List ℕ) (d : ℕ) (x : Def) → IsAt ds d x → is_output x.what ≡ true
     → length vs ≡ length ds
     → slice_index (outputs_of ds vs) (output_number ds d) ≡ slice_index vs d
-output_at [] vs d x (lt, is) out size = absurd (omega (arith, lt))
+output_at [] vs d x at out size = absurd (none-some x at)
 output_at (y ∷ ys) [] d x at out size = absurd (omega (arith, size))
-output_at (y ∷ ys) (v ∷ vs) zero x (lt, is) out size =
+output_at (y ∷ ys) (v ∷ vs) zero x at out size =
     ap (λ b. slice_index (cond b (v ∷ outputs_of ys vs) (outputs_of ys vs)) 0)
-    (ap (λ (z : Def). is_output z.what) (sym is) ∙ out)
-output_at (y ∷ ys) (v ∷ vs) (suc d) x (lt, is) out size =
-    let rest = output_at ys vs d x (omega (arith, lt), is) out (omega (arith, size)) in
+    (ap (λ (z : Def). is_output z.what) (same_Some y x at) ∙ out)
+output_at (y ∷ ys) (v ∷ vs) (suc d) x at out size =
+    let rest = output_at ys vs d x at out (omega (arith, size)) in
     let count : output_number (y ∷ ys) (suc d) ≡ cond (is_output y.what) 1 0 + output_number ys d =
     sum_by-cons (λ (z : Def). cond (is_output z.what) 1 0) y (take d ys) in
     ap (slice_index (cond (is_output y.what) (v ∷ outputs_of ys vs) (outputs_of ys vs))) count
@@ -125,8 +125,7 @@ module _ (p : Program) (r : Rtl) (reset : IsResetCell p r.cells r.reset) (inputs
   reset_as (Some d) (c, x, is, at, kind) =
       ap (λ (o : Option ℕ). option_map_or (λ (x : Cell). slice_index inputs (rtl_step.input_number x.kind) == 1)
       (option_and_then (slice_get r.cells) o) false) is
-      ∙ ap (λ o. option_map_or (λ (x : Cell). slice_index inputs (rtl_step.input_number x.kind) == 1) o false)
-      (get_at r.cells c x at)
+      ∙ ap (λ o. option_map_or (λ (x : Cell). slice_index inputs (rtl_step.input_number x.kind) == 1) o false) at
       ∙ ap (λ z. slice_index inputs (rtl_step.input_number z) == 1) kind
 
   pub reset_same : rtl_step.resets r inputs ≡ resets p.defs inputs
@@ -305,7 +304,7 @@ module _ (p : Program) (r : Rtl) (roles : List Role) (known : Known p) (silent :
     (states : (st : State) (inputs env : List ℕ) → IsState p st → IsState p (next_state p st inputs env))
     (start : IsState p (zero_state p)) where
   no_process : (k : ℕ) (q : Process) → IsAt p.processes k q → ⊥
-  no_process k q at = let (lt, is) = subst (λ (qs : List Process). IsAt qs k q) silent.alone at in omega (arith, lt)
+  no_process k q at = none-some q (subst (λ (qs : List Process). IsAt qs k q) silent.alone at)
 
   nothing_of : (env x : List ℕ) (fs : List ℕ) → AllByRecursion (λ f. f < length p.forms) fs
       → source_effects.written x (flat_map (effects_of p env) fs) ≡ []

@@ -51,10 +51,9 @@ use Rattle.mp_program.proofs.Definitions.{same_is, is_same_of}
 use Rattle.mp_base.specs.Entries.{IsAt}
 use Rattle.mp_rules.specs.Naming.{Naming, namings, def_naming, process_naming, Uses, OwnNames}
 use Rattle.mp_rules.specs.Rules.{E21, E22}
-use Rattle.mp_base.proofs.ListEntries.{contains_from_at}
+use Rattle.mp_base.proofs.Entries.{contains_from_get, get_from_contains}
 use Rattle.rtl_form.specs.declared.rtl.Cell.{Cell}
 use Rattle.process_plan.specs.Roles.{Role, Value, AreCells, def_cell}
-use Rattle.process_plan.proofs.Members.{in_entry}
 
 -- a naming of the name x, or none has it
 find : (x : List ℕ) (ns : List Naming)
@@ -103,14 +102,14 @@ module _ (p : Program) (own : OwnNames p) (defined : (at : Place) → E21 p at �
             let (y, cy, is) =
             contains_from_map def_naming (filter (λ (d : Def). not (is_supply d.what)) p.defs) n of_def in
             let (c2, t) = contains_from_filter (λ (d : Def). not (is_supply d.what)) p.defs y cy in
-            let (k, at_k) = in_entry p.defs y c2 in
+            let (k, at_k) = get_from_contains p.defs y c2 in
             let plain = not-true (is_supply y.what) t in
             let name : y.name ≡ x = ap (λ (z : Naming). z.name) is ∙ e in
             let index : index_of p.defs x ≡ k = ap (index_of p.defs) (sym name) ∙ own k y at_k plain in
             (y, subst (λ i. IsAt p.defs i y) (sym index) at_k, plain)
         | inr of_process ↦
             let (q, cq, is) = contains_from_map process_naming p.processes n of_process in
-            let (k, at_k) = in_entry p.processes q cq in
+            let (k, at_k) = get_from_contains p.processes q cq in
             let name : q.name ≡ x = ap (λ (z : Naming). z.name) is ∙ e in
             absurd (sorted at (inr (k, q, at_k, subst (λ y. Uses p y at) (sym name) uses)))
       ]
@@ -120,7 +119,7 @@ module _ (p : Program) (own : OwnNames p) (defined : (at : Place) → E21 p at �
       → (d : Def) × IsAt p.defs (index_of p.defs x) d × (is_supply d.what ≡ false)
   used_def x at uses = elim (find x (namings p)) [
     | inl (n, c, e) ↦ of_naming x at uses n c e
-    | inr none ↦ absurd (defined at (x, uses, λ k n at_k. none n (contains_from_at (namings p) k n at_k)))
+    | inr none ↦ absurd (defined at (x, uses, λ k n at_k. none n (contains_from_get (namings p) k n at_k)))
   ]
 
   -- it is a constant, or has a cell

@@ -4,7 +4,8 @@ use Rattle.rtl_form.specs.declared.rtl.Cell as cells
 use Rattle.rtl_form.specs.declared.rtl.RtlExpr.{RtlExpr}
 use Rattle.rtl_form.specs.declared.rtl.RtlExpr.TheVariants.{Number, Truth, Cell, Apply}
 use Rattle.mp_base.specs.Entries.{IsAt}
-use Rattle.rtl_form.specs.Operands.{takes, takes_words}
+use Rattle.rtl_form.specs.Operands.{takes_words}
+use Rattle.mp_base.specs.Apply.{takes}
 use Rattle.rtl_form.specs.Sound.{IsSort, IndexFits}
 
 -- the expression at an index is a word, or else a bit

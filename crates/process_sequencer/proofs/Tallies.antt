@@ -42,7 +42,7 @@ use Rattle.mp_base.specs.Entries.{IsAt}
 use Rattle.mp_rules.specs.Rules.{E31}
 use Rattle.mp_rules.specs.Standing as standing
 use Rattle.mp_rules.specs.Standing.{Under, uses_stack}
-use Rattle.mp_base.proofs.ListEntries.{contains_from_at, one_entry}
+use Rattle.mp_base.proofs.Entries.{contains_from_get, one_entry}
 use Rattle.mp_rules.proofs.Sequences.{under_more}
 use Rattle.rtl_form.specs.declared.rtl.RtlExpr.{RtlExpr}
 use Rattle.process_plan.specs.declared.role.Role.{Role}
@@ -89,12 +89,11 @@ counted_first test k y ys e es of_k passes =
     let (i, is) = own_origin k e.origin of_k in
     let same : Some e ≡ Some (record { origin = At k i; expr = e.expr }) =
     ap (λ (o : Origin). Some (record { origin = o; expr = e.expr })) is in
-    (0, i, e.expr, y, (omega arith, refl), passes, (omega arith, sym same))
+    (0, i, e.expr, y, refl, passes, ap Some same)
 
 counted_later : (test : FormKind → Bool) (k : ℕ) (y : Form) (ys : List Form) (e : Option Enable)
     (es : List (Option Enable)) → IsCounted test k ys es → IsCounted test k (y ∷ ys) (e ∷ es)
-counted_later test k y ys e es (f, i, a, z, (lt, is), passes, (lt2, is2)) =
-    (suc f, i, a, z, (omega (arith, lt), is), passes, (omega (arith, lt2), is2))
+counted_later test k y ys e es (f, i, a, z, at_z, passes, has) = (suc f, i, a, z, at_z, passes, has)
 
 one_counted : (test : FormKind → Bool) (k : ℕ) (ys : List Form) (es : List (Option Enable))
     → 0 < count_of test k ys es → IsCounted test k ys es
@@ -135,7 +134,7 @@ module _ (p : Program) (unbroken : IsUnbroken p) where
         let (r, (z, at_z, at_r), under) = enabled_under p exprs roles enables are f (At k i) a has in
         let same : z ≡ q = one_entry p.processes k z q at_z at_q in
         let root : Contains q.forms r =
-        subst (λ (x : Process). Contains x.forms r) same (contains_from_at z.forms i r at_r) in
+        subst (λ (x : Process). Contains x.forms r) same (contains_from_get z.forms i r at_r) in
         elim (zero_or_more q.depth) [
           | inl none ↦ absurd (keeps_31 y.place (
             k,
@@ -183,10 +182,10 @@ module _ (p : Program) (unbroken : IsUnbroken p) where
           refl,
           refl,
           refl,
-          subst (λ k. IsTally (tally_of p enables k q)) here (each 0 q (omega arith, refl)),
-          tallies (suc at) qs (λ k x (lt, is).
+          subst (λ k. IsTally (tally_of p enables k q)) here (each 0 q refl),
+          tallies (suc at) qs (λ k x at_x.
               let next : at + suc k ≡ suc at + k = omega arith in
-              subst (λ n. IsTally (tally_of p enables n x)) next (each (suc k) x (omega (arith, lt), is))),
+              subst (λ n. IsTally (tally_of p enables n x)) next (each (suc k) x at_x)),
         )
 
     -- the tallies of all processes

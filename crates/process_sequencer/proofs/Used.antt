@@ -23,6 +23,7 @@ use Rattle.std.proofs.Common.{
 use Rattle.std.specs.Prelude.{Contains}
 use Rattle.std.specs.List.{count_by}
 use Rattle.std.proofs.lemmas.List.Sums.{sum_by-cons}
+use Rattle.std.proofs.lemmas.Option.{none-some, same_Some}
 use Rattle.mp_base.specs.declared.refusal.Place.{Place}
 use Rattle.mp_base.proofs.Induction.{by_test}
 use Rattle.mp_program.specs.declared.program.FormKind.TheVariants.{Set}
@@ -50,7 +51,7 @@ use Rattle.mp_rules.specs.Breaking.{IsUnbroken}
 use Rattle.mp_base.specs.Entries.{IsAt}
 use Rattle.mp_rules.specs.Naming.{OwnNames}
 use Rattle.mp_rules.specs.Rules.{E21, is_unset}
-use Rattle.mp_base.proofs.ListEntries.{contains_from_at}
+use Rattle.mp_base.proofs.Entries.{contains_from_get, read_of}
 use Rattle.process_plan.specs.Bill.{set_bill, IsUsed}
 use Rattle.process_plan.proofs.Keeping.{keeps_22, keeps_27}
 use Rattle.process_plan.proofs.Uses.{used_def}
@@ -61,14 +62,14 @@ bit b = cond b 1 0
 -- what passes a test is counted
 some_counted : (test : Form → Bool) (ys : List Form) (f : ℕ) (y : Form) → IsAt ys f y → test y ≡ true
     → 0 < count_by test ys
-some_counted test [] f y (lt, is) passes = absurd (omega (arith, lt))
-some_counted test (z ∷ zs) zero y (lt, is) passes =
+some_counted test [] f y at passes = absurd (none-some y at)
+some_counted test (z ∷ zs) zero y at passes =
     let more = sum_by-cons (λ (x : Form). cond (test x) 1 0) z zs in
-    let here : bit (test z) ≡ 1 = ap bit (ap test (sym is) ∙ passes) in
+    let here : bit (test z) ≡ 1 = ap bit (ap test (same_Some z y at) ∙ passes) in
     omega (arith, more, here)
-some_counted test (z ∷ zs) (suc f) y (lt, is) passes =
+some_counted test (z ∷ zs) (suc f) y at passes =
     let more = sum_by-cons (λ (x : Form). cond (test x) 1 0) z zs in
-    let rest = some_counted test zs f y (omega (arith, lt), is) passes in
+    let rest = some_counted test zs f y at passes in
     omega (arith, more, rest)
 
 set_there : (w : What) → is_supply w ≡ false → is_unset w ≡ false → 0 < set_bill w
@@ -96,7 +97,8 @@ module _ (p : Program) (unbroken : IsUnbroken p) (own : OwnNames p) where
       → (d : Def) × Contains p.defs d × IsUsed p d
   set_used f y x at value at_y kind =
       let (d, at_d, plain) = used_def p own keeps_21 (keeps_22 p unbroken) x at (inr (f, y, value, at_y, kind)) in
-      let name : d.name ≡ x = named p.defs x d at_d.0 at_d.1 in
+      let first = read_of p.defs (index_of p.defs x) d at_d in
+      let name : d.name ≡ x = named p.defs x d first.0 first.1 in
       let counted : is_set_of d.name y.kind ≡ true =
       ap (is_set_of d.name) kind ∙ is_same_of x d.name (sym name) in
       let settable : is_unset d.what ≡ false = by_test (is_unset d.what)
@@ -104,7 +106,7 @@ module _ (p : Program) (unbroken : IsUnbroken p) (own : OwnNames p) where
       (f, y, x, value, index_of p.defs x, d, at_y, kind, at_d, name, no)))
       (λ yes. yes) in (
         d,
-        contains_from_at p.defs (index_of p.defs x) d at_d,
+        contains_from_get p.defs (index_of p.defs x) d at_d,
         (
           set_there d.what plain settable,
           some_counted (λ (z : Form). is_set_of d.name z.kind) p.forms f y at_y counted,

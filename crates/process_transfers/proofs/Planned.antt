@@ -31,7 +31,7 @@ use Rattle.mp_program.specs.declared.program.Program.{Program}
 use Rattle.mp_program.specs.Names.{index_of}
 use Rattle.mp_program.specs.Step.{place_of_label}
 use Rattle.mp_base.specs.Entries.{IsAt}
-use Rattle.mp_base.proofs.ListEntries.{one_entry, some_entry}
+use Rattle.mp_base.proofs.Entries.{one_entry, some_entry, within}
 use Rattle.rtl_form.specs.declared.rtl.Cell as cells
 use Rattle.rtl_form.specs.declared.rtl.RtlExpr.{RtlExpr}
 use Rattle.rtl_form.specs.declared.rtl.RtlExpr.TheVariants.{Cell}
@@ -206,7 +206,7 @@ module _ (p : Program) (roles : List Role) (xs : List cells.Cell) (enables : Lis
   -- the jumps of a process
   jumps_at : (k : ℕ) (q : Process) → IsAt p.processes k q → (m : Jumps) × IsAt x.jumps k m
   jumps_at k q at =
-      let inside = at.0 in
+      let inside = within p.processes k at in
       let long = control.jumps in some_entry x.jumps k (omega (arith, inside, long))
 
   some_calls : (k : ℕ) (q : Process) (m : Jumps) → IsAt p.processes k q → IsAt x.jumps k m → HasMove p enables is_call k
@@ -221,7 +221,7 @@ module _ (p : Program) (roles : List Role) (xs : List cells.Cell) (enables : Lis
 
   reading_at : (c : ℕ) (s : Role) → IsAt roles c s → (v : ℕ) × IsAt x.readings c v
   reading_at c s at =
-      let inside = at.0 in
+      let inside = within roles c at in
       let long = control.readings in some_entry x.readings c (omega (arith, inside, long))
 
   role_wanted : (w : Motion) (c : ℕ) (s : Role) (t : Transfer) → IsAt roles c s → CellWants p roles x w c t
@@ -238,7 +238,7 @@ module _ (p : Program) (roles : List Role) (xs : List cells.Cell) (enables : Lis
         let (m, at_m) = jumps_at k q at_q in
         let long = control.falls k q m at_q at_m in
         let (e, at_e) = some_entry m.falls i (omega (arith, lt, long)) in
-        let (u, wanted, there) = serves.each c (record { guard = 0; target = c; value = e }) at.0
+        let (u, wanted, there) = serves.each c (record { guard = 0; target = c; value = e }) (within roles c at)
         (Placed k (suc i), at, (m, i, e, refl, at_m, at_e, refl)) in
         let (m2, i2, e2, same, at_m2, at_e2, is) = role_wanted Fall c (Placed k (suc i)) u at wanted in
         let back : i2 ≡ i = omega (arith, same) in
@@ -253,12 +253,12 @@ module _ (p : Program) (roles : List Role) (xs : List cells.Cell) (enables : Lis
         let (q, at_q, lt, pos, inside) = stacked_in c k 0 (suc i) at in
         let (m, at_m) = jumps_at k q at_q in
         let (u, some) = some_calls k q m at_q at_m moves in
-        let in_k = at_q.0 in
+        let in_k = within p.processes k at_q in
         let long = control.places in
         let (es, at_es) = some_entry x.places k (omega (arith, in_k, long)) in
         let size = control.sizes k q es at_q at_es in
         let (v, at_v) = some_entry es i (omega (arith, inside, size)) in
-        let (t, wanted, there) = serves.each c (record { guard = u; target = c; value = v }) at.0
+        let (t, wanted, there) = serves.each c (record { guard = u; target = c; value = v }) (within roles c at)
         (Stacked k 0 (suc i), at, (m, u, v, at_m, some, (es, i, at_es, refl, at_v), refl)) in
         let (m2, u2, v2, at_m2, some2, (es2, i2, at_es2, same, at_v2), is) =
         role_wanted Push c (Stacked k 0 (suc i)) t at wanted in
@@ -279,7 +279,7 @@ module _ (p : Program) (roles : List Role) (xs : List cells.Cell) (enables : Lis
         let (m, at_m) = jumps_at k q at_q in
         let (u, some) = some_calls k q m at_q at_m moves in
         let (v, at_v) = reading_at d (Stacked k l j) at_d in
-        let (t, wanted, there) = serves.each c (record { guard = u; target = c; value = v }) at.0
+        let (t, wanted, there) = serves.each c (record { guard = u; target = c; value = v }) (within roles c at)
         (Stacked k (suc l) j, at, (m, u, v, at_m, some, (d, at_d, at_v), refl)) in
         let (m2, u2, v2, at_m2, some2, (d2, at_d2, at_v2), is) =
         role_wanted Push c (Stacked k (suc l) j) t at wanted in
@@ -303,7 +303,7 @@ module _ (p : Program) (roles : List Role) (xs : List cells.Cell) (enables : Lis
         let other : (z : Process) → IsAt p.processes k z → z.depth ≡ suc l → ⊥ = λ z at_z e.
         let same : q.depth ≡ z.depth = ap (λ (r : Process). r.depth) (one_entry p.processes k q z at_q at_z) in
         absurd (omega (arith, deep, same, e)) in
-        let (t, wanted, there) = serves.each c (record { guard = u; target = c; value = v }) at.0
+        let (t, wanted, there) = serves.each c (record { guard = u; target = c; value = v }) (within roles c at)
         (Stacked k l j, at, (m, u, v, at_m, some, (q, at_q, inr (other q at_q, (d, at_d, at_v))), refl)) in
         let (m2, u2, v2, at_m2, some2, (q2, at_q2, popped), is) = role_wanted Pop c (Stacked k l j) t at wanted in
         let reads : IsAt exprs v2 (Cell d) = elim popped as (λ _. IsAt exprs v2 (Cell d)) [
@@ -320,7 +320,7 @@ module _ (p : Program) (roles : List Role) (xs : List cells.Cell) (enables : Lis
     empties_there serves k l j c q at_q depth moves at =
         let (m, at_m) = jumps_at k q at_q in
         let (u, some) = some_returns k q m at_q at_m moves in
-        let (t, wanted, there) = serves.each c (record { guard = u; target = c; value = 1 }) at.0
+        let (t, wanted, there) = serves.each c (record { guard = u; target = c; value = 1 }) (within roles c at)
         (Stacked k l j, at, (m, u, 1, at_m, some, (q, at_q, inl (depth, refl)), refl)) in
         let (m2, u2, v2, at_m2, some2, (q2, at_q2, popped), is) = role_wanted Pop c (Stacked k l j) t at wanted in
         let one : v2 ≡ 1 = elim popped as (λ _. v2 ≡ 1) [
@@ -342,7 +342,7 @@ module _ (p : Program) (roles : List Role) (xs : List cells.Cell) (enables : Lis
         let (m, at_m) = jumps_at k q at_q in
         let (u, some) = some_returns k q m at_q at_m moves in
         let (v, at_v) = reading_at d (Stacked k 0 j) at_d in
-        let (t, wanted, there) = serves.each d (record { guard = u; target = c; value = v }) at_d.0
+        let (t, wanted, there) = serves.each d (record { guard = u; target = c; value = v }) (within roles d at_d)
         (Stacked k 0 j, at_d, (m, u, v, c, at_m, some, at, at_v, refl)) in
         let (m2, u2, v2, c2, at_m2, some2, at_c2, at_v2, is) = role_wanted Back d (Stacked k 0 j) t at_d wanted in
         let same : c2 ≡ c = are.once c2 c (Placed k j) at_c2 at in (
@@ -369,7 +369,7 @@ module _ (p : Program) (roles : List Role) (xs : List cells.Cell) (enables : Lis
         let w : Transfer = record { guard = a; target = c; value = copy_of p e } in
         let wants : FormWants p roles y.kind (Some (record { origin = o; expr = a })) w =
         subst (λ z. FormWants p roles z (Some (record { origin = o; expr = a })) w) (sym kind) (c, at_c, refl) in
-        let (t, wanted, there) = serves.each f w at_y.0
+        let (t, wanted, there) = serves.each f w (within p.forms f at_y)
         (y, Some (record { origin = o; expr = a }), at_y, has, wants) in
         let (c2, at_c2, is) = subst (λ z. FormWants p roles z (Some (record { origin = o; expr = a })) t) kind
         (form_wanted f y o a t at_y has wanted) in
@@ -403,7 +403,7 @@ module _ (p : Program) (roles : List Role) (xs : List cells.Cell) (enables : Lis
         landed l label forth back =
             let wants : LandWants p roles l (record { origin = At k i; expr = a }) (landed_at c a) =
             (k, i, c, q, refl, at_q, subst (λ n. IsAt roles c (Placed k n)) label at_c, refl) in
-            let (t, wanted, there) = serves.each f (landed_at c a) at_y.0
+            let (t, wanted, there) = serves.each f (landed_at c a) (within p.forms f at_y)
             (y, Some (record { origin = At k i; expr = a }), at_y, has, forth (landed_at c a) wants) in
             subst (Contains now)
             (same_place l t label (back t (form_wanted f y (At k i) a t at_y has wanted))) there

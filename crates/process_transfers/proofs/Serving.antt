@@ -41,7 +41,7 @@ use Rattle.std.proofs.lemmas.Bool.{eq-eqb}
 use Rattle.std.proofs.lemmas.List.{at_drop_more}
 use Rattle.std.proofs.lemmas.List.Elements.{Contains-append_left, Contains-append_right, Contains-append_cases}
 use Rattle.std.proofs.lemmas.List.Sums.{sum_by-cons, sum_by_push, sum_by_more}
-use Rattle.std.proofs.lemmas.Option.{same_Some}
+use Rattle.std.proofs.lemmas.Option.{same_Some, none-some, get_or_from_slice_get}
 use Rattle.mp_base.specs.declared.refusal.Place.{Place}
 use Rattle.mp_base.proofs.Contents.{only_one}
 use Rattle.mp_base.proofs.Numbers.{below_suc}
@@ -70,7 +70,7 @@ use Rattle.mp_program.specs.Step.{place_of_label}
 use Rattle.mp_program.proofs.Definitions.{named}
 use Rattle.mp_base.specs.Entries.{IsAt}
 use Rattle.mp_rules.specs.Rules.{E27, is_unset}
-use Rattle.mp_base.proofs.ListEntries.{one_entry, get_at}
+use Rattle.mp_base.proofs.Entries.{one_entry, read_of, within}
 use Rattle.rtl_form.specs.declared.rtl.Cell.{Cell}
 use Rattle.rtl_form.specs.declared.rtl.Transfer.{Transfer}
 use Rattle.rtl_form.specs.Cost.{transfer_cost, target_cost}
@@ -166,7 +166,7 @@ cost_more xs now next (Some t) price is cheap =
 -- what a transfer to a cell costs
 pub to_cell : (xs : List Cell) (c : ℕ) (x : Cell) (g v : ℕ) → IsAt xs c x
     → transfer_cost xs (record { guard = g; target = c; value = v }) ≡ target_cost x.word
-to_cell xs c x g v at = ap (λ o. target_cost (option_map_or (λ (z : Cell). z.word) o false)) (get_at xs c x at)
+to_cell xs c x g v at = ap (λ o. target_cost (option_map_or (λ (z : Cell). z.word) o false)) at
 
 module _ (p : Program) (roles : List Role) (xs : List Cell) (are : AreCells p roles xs) where
   to_place : (c k j g v : ℕ) → IsAt roles c (Placed k j)
@@ -217,8 +217,8 @@ motions_more p roles xs x m n s old now next found are before at is added = reco
       let more = cost_more xs now next found (cond {A = ℕ} (is_moved m s) 1 0) added (cheap found is) in
       let earlier = before.cost in
       let price : cond {A = ℕ} (is_moved m (get_or roles n s)) 1 0 ≡ cond {A = ℕ} (is_moved m s) 1 0 =
-      ap (λ r. cond {A = ℕ} (is_moved m r) 1 0) (sym at.1) in
-      let total = sum_by_more (λ r. cond {A = ℕ} (is_moved m r) 1 0) roles n s at.0 in
+      ap (λ r. cond {A = ℕ} (is_moved m r) 1 0) (get_or_from_slice_get roles n s s at) in
+      let total = sum_by_more (λ r. cond {A = ℕ} (is_moved m r) 1 0) roles n s (within roles n at) in
       omega (arith, more, earlier, price, total);
 }
   where
@@ -235,14 +235,14 @@ motions_more p roles xs x m n s old now next found are before at is added = reco
 -- ---- forms
 
 bill_named : (ds : List Def) (n : List ℕ) (d : Def) → IsAt ds (index_of ds n) d → named_bill ds n ≡ set_bill d.what
-bill_named [] n d (lt, is) = absurd (omega (arith, lt))
+bill_named [] n d at = absurd (none-some d at)
 bill_named (y ∷ ys) n d at = pick (is_same y.name n) at (bill_named ys n d)
   where
     pick : (t : Bool) → IsAt (y ∷ ys) (cond t 0 (suc (index_of ys n))) d
         → (IsAt ys (index_of ys n) d → named_bill ys n ≡ set_bill d.what)
         → cond t (set_bill y.what) (named_bill ys n) ≡ set_bill d.what
-    pick true (lt, is) rest = ap (λ (z : Def). set_bill z.what) (sym is)
-    pick false (lt, is) rest = rest (omega (arith, lt), is)
+    pick true at rest = ap (λ (z : Def). set_bill z.what) (same_Some y d at)
+    pick false at rest = rest at
 
 -- a transfer to what may be set costs its bill
 target_bill : (ds : List Def) (d : ℕ) (w : What) (x : Cell) → (is_unset w ≡ true → ⊥) → def_cell ds d w ≡ Some x
@@ -315,8 +315,9 @@ module _ (p : Program) (roles : List Role) (xs : List Cell) (enables : List (Opt
       → y.kind ≡ forms.Set x at e → SetWants p roles x e a t → transfer_cost xs t ≤ named_bill p.defs x
   set_cost f y x at e a t at_f kind (c, at_c, is) =
       let (z, at_z, (d, at_d, made)) = are.each c (Value (index_of p.defs x)) at_c in
+      let first = read_of p.defs (index_of p.defs x) d at_d in
       let set = λ (unset : is_unset d.what ≡ true). no_input at
-      (f, y, x, e, index_of p.defs x, d, at_f, kind, at_d, named p.defs x d at_d.0 at_d.1, unset) in
+      (f, y, x, e, index_of p.defs x, d, at_f, kind, at_d, named p.defs x d first.0 first.1, unset) in
       let cost : transfer_cost xs t ≡ target_cost z.word =
       ap (transfer_cost xs) is ∙ to_cell xs c z a (copy_of p e) at_z in
       let target = target_bill p.defs (index_of p.defs x) d.what z set made in
@@ -326,7 +327,7 @@ module _ (p : Program) (roles : List Role) (xs : List Cell) (enables : List (Opt
       → (transfer_cost xs t ≡ 1) × ((k : ℕ) × (k < length p.processes) × (is_of k x.origin ≡ true))
   land_cost l x t (k, i, c, q, origin, at_q, at_c, is) = (
     ap (transfer_cost xs) is ∙ to_place p roles xs are c k (place_of_label q q.labels l) 0 x.expr at_c,
-    (k, at_q.0, at_place k i x.origin origin),
+    (k, within p.processes k at_q, at_place k i x.origin origin),
   )
 
   -- what a form wants costs its bill, and 1 more where it lands
@@ -389,8 +390,8 @@ module _ (p : Program) (roles : List Role) (xs : List Cell) (enables : List (Opt
   }
     where
       dropped : {X : Type 0} (zs : List X) (i : ℕ) (z : X) → IsAt zs i z → drop i zs ≡ z ∷ drop (i + 1) zs
-      dropped zs i z (lt, same) =
-          at_drop_more (λ ws. ws) zs i z lt ∙ ap (λ w. w ∷ drop (i + 1) zs) (sym same)
+      dropped zs i z at = at_drop_more (λ ws. ws) zs i z (within zs i at)
+          ∙ ap (λ w. w ∷ drop (i + 1) zs) (get_or_from_slice_get zs i z z at)
 
       of_form : (o : Option Transfer) → IsFound (FormWants p roles y.kind x) o → IsFound (WantsAt p roles enables n) o
       of_form (Some t) wanted = (y, x, at_y, at_x, wanted)

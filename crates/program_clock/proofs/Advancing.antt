@@ -4,7 +4,7 @@ use Rattle.std.proofs.Common.{true, false, length, replicate, arith, get_or}
 use Rattle.std.specs.Prelude.{slice_set as set, slice_get, Some, unwrap_or}
 use Rattle.std.proofs.lemmas.Grind.{same_number_lists}
 use Rattle.mp_base.specs.Merge.{merged}
-use Rattle.mp_base.proofs.Entries.{some_entry, zeros_at}
+use Rattle.mp_base.proofs.Entries.{some_entry, zeros_at, read_of, entry}
 use Rattle.mp_base.proofs.Induction.{by_test}
 use Rattle.mp_program.specs.declared.program.Def.{Def}
 use Rattle.mp_program.specs.declared.program.Program.{Program}
@@ -13,7 +13,6 @@ use Rattle.mp_program.specs.Effects.{Effect, written}
 use Rattle.mp_program.specs.Environment.{clock_effects}
 use Rattle.mp_program.specs.State.{State, zero_state}
 use Rattle.mp_program.specs.Step.{next_seats, next_stored, next_state, resets}
-use Rattle.mp_base.proofs.Elements.{read_of, got}
 use Rattle.mp_program.proofs.States.{length-next_stored}
 use Rattle.form_effects.specs.Linked.{indices_where}
 use Rattle.program_clock.specs.Settled.{IsBare}
@@ -83,7 +82,7 @@ advanced_more es defs old now list k place found v are lt at finds is so_far =
     ∙ ap (λ b. cond b (unwrap_or (merged (written (one.def).name es)) (get_or old place 0)) 0) one.test in
     let value : v ≡ stored_value defs next k =
     is ∙ ap (unwrap_or found) kept
-    ∙ ap (λ o. unwrap_or o (get_or old place 0)) (finds one.def (got defs place one.def one.inside one.is)) ∙ sym here
+    ∙ ap (λ o. unwrap_or o (get_or old place 0)) (finds one.def (entry defs place one.inside one.is)) ∙ sym here
     ∙ ap (λ i. get_or next i 0) place_is in
     written_more is_stored defs old (stored_value defs next) list now k place v are lt at value so_far
 

@@ -12,7 +12,7 @@ use Rattle.mp_program.specs.declared.program.Program.{Program}
 use Rattle.mp_program.specs.Names.{is_driven, is_input, is_stored, pad_number}
 use Rattle.mp_program.specs.State.{State}
 use Rattle.mp_program.specs.Environment.{what_value, IsEnvironment}
-use Rattle.mp_base.proofs.Elements.{read_of}
+use Rattle.mp_base.proofs.Entries.{read_of}
 use Rattle.form_effects.specs.Linked.{indices_where}
 use Rattle.program_clock.specs.Settled.{HasInputs, HasStored, LeavesOthers, IsSteady, IsGiven}
 use Rattle.program_clock.proofs.Placing.{WrittenTo, written_all}

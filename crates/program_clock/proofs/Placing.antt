@@ -8,7 +8,7 @@ use Rattle.std.proofs.lemmas.List.{get_or-set_same, get_or-set_other, get_or_rea
 use Rattle.std.proofs.lemmas.List.Sums.{sum_by-cons}
 use Rattle.mp_program.specs.declared.program.What.{What}
 use Rattle.mp_program.specs.declared.program.Def.{Def}
-use Rattle.mp_base.proofs.Elements.{read_of}
+use Rattle.mp_base.proofs.Entries.{read_of}
 use Rattle.form_effects.specs.Linked.{indices_where}
 use Rattle.program_clock.specs.Settled.{LeavesOthers}
 use Rattle.program_clock.proofs.Entries.{same_element}

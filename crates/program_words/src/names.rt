@@ -7,7 +7,7 @@ ghost use Rattle.mp_rules.specs.Naming.{OwnNames};
 
 use crate::syntax::program_of;
 use crate::words::{push_place, push_refusal};
-use mp_base::Place;
+use mp_base::{Place, WEIGHT_LIMIT};
 use mp_names::{
     Meanings, NameTable, meanings_of, repeated_name, set_input, undefined_name, wrong_sort,
 };
@@ -117,7 +117,7 @@ fn push_weights(
     requires meant { AreMeanings program.now meanings.now }
     requires own { OwnNames program.now }
 {
-    push_within(alloc, words, program, meanings, 1024)?;
+    push_within(alloc, words, program, meanings, WEIGHT_LIMIT)?;
     words.push_str(", ")?;
     push_within(alloc, words, program, meanings, 10)?;
     words.push_str(", ")?;

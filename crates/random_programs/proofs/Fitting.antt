@@ -1,13 +1,14 @@
 -- Values that fit their pads fit those of the program.
-use Rattle.std.proofs.Common.{◌≡◌, ◌∙◌, inl, inr, ℕ, zero, suc, ◌+◌, ◌<◌, List, [], ◌∷◌, ◌++◌, refl, sym, ap, subst}
+use Rattle.std.proofs.Common.{◌≡◌, ◌∙◌, inl, inr, ℕ, ◌+◌, ◌<◌, List, [], ◌∷◌, ◌++◌, sym, ap, subst}
 use Rattle.std.proofs.Common.{arith}
 use Rattle.std.proofs.Common.{get_or, length, map}
 use Rattle.std.specs.Prelude.{slice_index}
 use Rattle.std.proofs.lemmas.Bool.{cases_lt}
-use Rattle.std.proofs.lemmas.List.{get_or-map, get_or_append_left, length-map, length_push}
+use Rattle.std.proofs.lemmas.Option.{get_or_from_slice_get}
+use Rattle.std.proofs.lemmas.List.{get_or_append_left, length-map, length_push}
 use Rattle.mp_base.specs.declared.pad.Pad.{Pad}
 use Rattle.mp_base.specs.declared.pad.Pads.{Pads}
-use Rattle.mp_base.proofs.Entries.{get_or_pushed}
+use Rattle.mp_base.proofs.Entries.{get_or_pushed, map_get, some_entry, within}
 use Rattle.mp_program.specs.declared.program.Program.{Program}
 use Rattle.mp_program.specs.Pads.{ArePadsOf, Face, face, FitsPads, input_pads, pad_limit}
 use Rattle.mp_base.specs.Entries.{IsAt}
@@ -17,11 +18,6 @@ use Rattle.random_programs.specs.Inputs.{AreInputsOf}
 pub record AreInputsOfFirst (n : ℕ) (pads : List Pad) (values : List ℕ) : Type 0 where
   pub size : length values ≡ n
   pub fits : (k : ℕ) (pad : Pad) → k < n → IsAt pads k pad → slice_index values k < pad_limit pad.width
-
-same_pad : (pads : List Pad) (k : ℕ) (a b : Pad) → IsAt pads k a → b ≡ get_or pads k b → a ≡ b
-same_pad [] k a b (lt, is) same = absurd (omega (arith, lt))
-same_pad (p ∷ pads) zero a b (lt, is) same = is ∙ sym same
-same_pad (p ∷ pads) (suc k) a b (lt, is) same = same_pad pads k a b (omega (arith, lt), is) same
 
 pub inputs_more : (pads : List Pad) (n x : ℕ) (values more : List ℕ) (pad : Pad) → AreInputsOfFirst n pads values
     → pad ≡ get_or pads n pad → x < pad_limit pad.width → more ≡ values ++ x ∷ [] → AreInputsOfFirst (n + 1) pads more
@@ -40,7 +36,7 @@ inputs_more pads n x values more pad before is low added =
             | inr past ↦
                 let e : k ≡ n = omega (arith, lt, past) in
                 let here : IsAt pads n other = let Q : ℕ → Type 0 = λ j. IsAt pads j other in subst Q e there in
-                let one : other ≡ pad = same_pad pads n other pad here is in
+                let one : other ≡ pad = sym (is ∙ get_or_from_slice_get pads n other pad here) in
                 let Q : Pad → Type 0 = λ q. x < pad_limit q.width in
                 let R : ℕ → Type 0 = λ v. v < pad_limit other.width in
                 subst R (sym (at k ∙ get_or_pushed values x k (omega (arith, e, size)))) (subst Q (sym one) low)
@@ -52,7 +48,7 @@ pub inputs_all : (pads : List Pad) (n : ℕ) (values : List ℕ) → length pads
 inputs_all pads n values long first =
     let size = first.size in record {
       size = omega (arith, size, long);
-      fits = λ k pad at. let lt = at.0 in first.fits k pad (omega (arith, lt, long)) at;
+      fits = λ k pad at. let lt = within pads k at in first.fits k pad (omega (arith, lt, long)) at;
     }
 
 pub inputs_fit : (p : Program) (pads : Pads) (xs : List ℕ) → ArePadsOf p pads → AreInputsOf pads.inputs xs
@@ -62,21 +58,15 @@ inputs_fit p pads xs padded are =
     let count : length pads.inputs ≡ length (input_pads p) =
     sym (length-map pads.inputs face) ∙ ap length padded.inputs in record {
       size = omega (arith, size, count);
-      fits = λ k lt. at_pad k (entry_of pads.inputs k (omega (arith, lt, count)));
+      fits = λ k lt. at_pad k (some_entry pads.inputs k (omega (arith, lt, count)));
     }
   where
-    entry_of : (ps : List Pad) (k : ℕ) → k < length ps → (pad : Pad) × IsAt ps k pad
-    entry_of [] k lt = absurd (omega (arith, lt))
-    entry_of (q ∷ qs) zero lt = (q, (lt, refl))
-    entry_of (q ∷ qs) (suc k) lt = let (pad, at) = entry_of qs k (omega (arith, lt)) in (pad, (lt, at.1))
-
     width_at : (k : ℕ) (pad : Pad) → IsAt pads.inputs k pad
         → slice_index (map (λ (x : Face). x.1) (input_pads p)) k ≡ pad.width
-    width_at k pad (lt, is) =
+    width_at k pad at =
         ap (λ (faces : List Face). slice_index (map (λ (x : Face). x.1) faces) k) (sym padded.inputs)
-        ∙ get_or-map (λ (x : Face). x.1) (map face pads.inputs) k (face pad) 0
-        (let long = length-map pads.inputs face in omega (arith, lt, long))
-        ∙ ap (λ (x : Face). x.1) (get_or-map face pads.inputs k pad (face pad) lt) ∙ ap (λ (q : Pad). q.width) (sym is)
+        ∙ get_or_from_slice_get (map (λ (x : Face). x.1) (map face pads.inputs)) k pad.width 0
+        (map_get (λ (x : Face). x.1) (map face pads.inputs) k (face pad) (map_get face pads.inputs k pad at))
 
     at_pad : (k : ℕ) → (pad : Pad) × IsAt pads.inputs k pad
         → slice_index xs k < pad_limit (slice_index (map (λ (x : Face). x.1) (input_pads p)) k)

@@ -2,4 +2,3 @@ pub mod Grid
 pub mod Blocks
 pub mod Rows
 pub mod Repainting
-pub mod Sweeps

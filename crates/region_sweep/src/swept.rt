@@ -9,7 +9,7 @@ ghost use Rattle.mask_tiles.specs.Tiles.{AreTiles, AreWhole, IsTileOf};
 ghost use Rattle.mask_tiles.specs.Touching.{AreTouching};
 ghost use Rattle.region_sweep.specs.Grid.{AreDrawn, AreBlocks, AreSpots};
 ghost use Rattle.region_sweep.specs.Blocks.{AreStacked};
-ghost use Rattle.region_sweep.specs.Sweeps.{IsSweepOf};
+ghost use Rattle.mask_tiles.specs.Sweeps.{IsSweepOf};
 
 use crate::block::Block;
 use crate::grid::Grid;

@@ -11,7 +11,8 @@ use Rattle.mp_program.proofs.Lengths.{length_trace}
 use Rattle.switch_net.specs.declared.network.Network.{Network}
 use Rattle.switch_net.specs.Breaks.{HasPads}
 use Rattle.stimulus.specs.declared.given.Stimulus.{Stimulus}
-use Rattle.stimulus.specs.Inputs.{Fit, inputs_of}
+use Rattle.stimulus.specs.Inputs.{inputs_of}
+use Rattle.mp_base.specs.PadBits.{Fit}
 use Rattle.transcript.specs.Transcript.{RunsAlong}
 use Rattle.transcript.proofs.Inputs.{clocks_fit}
 use Rattle.mask_net.specs.Masks.{IsNetOf, OfMask}

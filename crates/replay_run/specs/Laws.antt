@@ -8,7 +8,7 @@ use Rattle.mp_program.specs.Trace.{IsTrace, IsSettled}
 use Rattle.switch_net.specs.declared.network.Network.{Network}
 use Rattle.switch_net.specs.Breaks.{HasPads}
 use Rattle.stimulus.specs.declared.given.Stimulus.{Stimulus}
-use Rattle.stimulus.specs.Bits.{value_bits}
+use Rattle.mp_base.specs.PadBits.{value_bits}
 use Rattle.stimulus.specs.Inputs.{inputs_of}
 use Rattle.mask_net.specs.Masks.{IsNetOf, OfMask}
 use Rattle.headline.specs.Headline.{IsChipOf}

@@ -1,8 +1,9 @@
 -- Lists with exactly one element that passes a test.
-use Rattle.std.proofs.Common.{◌≡◌, ◌∙◌, ℕ, zero, suc, ◌+◌, List, [], ◌∷◌, Bool, true, false, cond, refl, sym, ap, arith}
+use Rattle.std.proofs.Common.{◌≡◌, ◌∙◌, ℕ, zero, suc, ◌+◌, List, [], ◌∷◌, Bool, true, false, cond, refl, ap, arith}
 use Rattle.std.specs.List.{count_by}
 use Rattle.std.proofs.lemmas.Bool.{both_ways}
 use Rattle.std.proofs.lemmas.List.Sums.{sum_by-cons}
+use Rattle.std.proofs.lemmas.Option.{same_Some, none-some}
 use Rattle.mp_base.specs.Entries.{IsAt}
 
 -- exactly one element passes
@@ -22,44 +23,44 @@ module _ {X : Type 0} (p : X → Bool) where
       → IsNever p (z ∷ zs)
   never_first z zs true e later none k x at h =
       let step = counted z zs true e in absurd (omega (arith, step, none))
-  never_first z zs false e later none zero x (lt, is) h = both_ways (p z) e (sym (ap p is) ∙ h)
-  never_first z zs false e later none (suc k) x (lt, is) h = later refl k x (omega (arith, lt), is) h
+  never_first z zs false e later none zero x at h = both_ways (p z) e (ap p (same_Some z x at) ∙ h)
+  never_first z zs false e later none (suc k) x at h = later refl k x at h
 
   none_counted : (xs : List X) → count_by p xs ≡ 0 → IsNever p xs
-  none_counted [] none = λ k x (lt, is) h. absurd (omega (arith, lt))
+  none_counted [] none = λ k x at h. none-some x at
   none_counted (z ∷ zs) none =
       never_first z zs (p z) refl
       (λ f. none_counted zs (let step = counted z zs false f in omega (arith, step, none))) none
 
   count_first : (z : X) (zs : List X) (b : Bool) → p z ≡ b → IsNever p (z ∷ zs) → count_by p zs ≡ 0
       → count_by p (z ∷ zs) ≡ 0
-  count_first z zs true e none later = absurd (none 0 z (omega arith, refl) e)
+  count_first z zs true e none later = absurd (none 0 z refl e)
   count_first z zs false e none later = let step = counted z zs false e in omega (arith, step, later)
 
   counted_none : (xs : List X) → IsNever p xs → count_by p xs ≡ 0
   counted_none [] none = refl
   counted_none (z ∷ zs) none =
       count_first z zs (p z) refl none
-      (counted_none zs (λ k x (lt, is) h. none (suc k) x (omega (arith, lt), is) h))
+      (counted_none zs (λ k x at h. none (suc k) x at h))
 
   alone : (z : X) (zs : List X) → IsNever p zs → (d : ℕ) (y : X) → IsAt (z ∷ zs) d y → p y ≡ true → d ≡ 0
   alone z zs none zero y at h = refl
-  alone z zs none (suc d) y (lt, is) h = absurd (none d y (omega (arith, lt), is) h)
+  alone z zs none (suc d) y at h = absurd (none d y at h)
 
   behind : (z : X) (zs : List X) (c : ℕ) → p z ≡ false → ((d : ℕ) (y : X) → IsAt zs d y → p y ≡ true → d ≡ c)
       → (d : ℕ) (y : X) → IsAt (z ∷ zs) d y → p y ≡ true → d ≡ suc c
-  behind z zs c f only zero y (lt, is) h = absurd (both_ways (p z) f (sym (ap p is) ∙ h))
-  behind z zs c f only (suc d) y (lt, is) h =
-      let same = only d y (omega (arith, lt), is) h in omega (arith, same)
+  behind z zs c f only zero y at h = absurd (both_ways (p z) f (ap p (same_Some z y at) ∙ h))
+  behind z zs c f only (suc d) y at h =
+      let same = only d y at h in omega (arith, same)
 
   once_first : (z : X) (zs : List X) (b : Bool) → p z ≡ b → (b ≡ false → IsOnce p zs) → count_by p (z ∷ zs) ≡ 1
       → IsOnce p (z ∷ zs)
   once_first z zs true e later one =
       let step = counted z zs true e in
-      (0, (z, (omega arith, refl), e), alone z zs (none_counted zs (omega (arith, step, one))))
+      (0, (z, refl, e), alone z zs (none_counted zs (omega (arith, step, one))))
   once_first z zs false e later one =
-      let (c, (x, (lt, is), h), only) = later refl in
-      (suc c, (x, (omega (arith, lt), is), h), behind z zs c e only)
+      let (c, (x, at, h), only) = later refl in
+      (suc c, (x, at, h), behind z zs c e only)
 
   pub once_counted : (xs : List X) → count_by p xs ≡ 1 → IsOnce p xs
   once_counted [] one = absurd (omega (arith, one))
@@ -69,18 +70,18 @@ module _ {X : Type 0} (p : X → Bool) where
 
   found_behind : (z : X) (zs : List X) → p z ≡ false → (c : ℕ) (x : X) → IsAt (z ∷ zs) c x → p x ≡ true
       → ((d : ℕ) (y : X) → IsAt (z ∷ zs) d y → p y ≡ true → d ≡ c) → IsOnce p zs
-  found_behind z zs f zero x (lt, is) h only = absurd (both_ways (p z) f (sym (ap p is) ∙ h))
-  found_behind z zs f (suc c) x (lt, is) h only = (
+  found_behind z zs f zero x at h only = absurd (both_ways (p z) f (ap p (same_Some z x at) ∙ h))
+  found_behind z zs f (suc c) x at h only = (
     c,
-    (x, (omega (arith, lt), is), h),
-    λ d y (under, same) t. let e = only (suc d) y (omega (arith, under), same) t in omega (arith, e),
+    (x, at, h),
+    λ d y at' t. let e = only (suc d) y at' t in omega (arith, e),
   )
 
   never_behind : (z : X) (zs : List X) (c : ℕ) → p z ≡ true
       → ((d : ℕ) (y : X) → IsAt (z ∷ zs) d y → p y ≡ true → d ≡ c) → IsNever p zs
-  never_behind z zs c e only k y (lt, is) h =
-      let first = only 0 z (omega arith, refl) e in
-      let other = only (suc k) y (omega (arith, lt), is) h in
+  never_behind z zs c e only k y at h =
+      let first = only 0 z refl e in
+      let other = only (suc k) y at h in
       absurd (omega (arith, first, other))
 
   one_first : (z : X) (zs : List X) (b : Bool) → p z ≡ b → (b ≡ false → count_by p zs ≡ 1)
@@ -91,7 +92,7 @@ module _ {X : Type 0} (p : X → Bool) where
       let step = counted z zs false e in let rest = later refl in omega (arith, step, rest)
 
   pub counted_once : (xs : List X) → IsOnce p xs → count_by p xs ≡ 1
-  counted_once [] (c, (x, (lt, is), h), only) = absurd (omega (arith, lt))
+  counted_once [] (c, (x, at, h), only) = absurd (none-some x at)
   counted_once (z ∷ zs) (c, (x, at, h), only) =
       one_first z zs (p z) refl (λ f. counted_once zs (found_behind z zs f c x at h only))
       (λ e. counted_none zs (never_behind z zs c e only))

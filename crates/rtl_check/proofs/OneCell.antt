@@ -8,7 +8,7 @@ use Rattle.rtl_form.specs.declared.rtl.Cell.{Cell}
 use Rattle.rtl_form.specs.declared.rtl.CellKind.{CellKind}
 use Rattle.rtl_form.specs.declared.rtl.CellKind.TheVariants.{Input, Output, Inner, Stored}
 use Rattle.mp_base.specs.Entries.{IsAt}
-use Rattle.mp_base.proofs.ListEntries.{one_entry}
+use Rattle.mp_base.proofs.Entries.{one_entry}
 use Rattle.rtl_check.specs.Kinds.{is_input, is_input_kind, is_output, is_output_kind}
 use Rattle.rtl_form.specs.Sound.{IsCellOf}
 use Rattle.rtl_form.specs.Step.{input_number}

@@ -1,5 +1,5 @@
 -- What expressions read, argument by argument.
-use Rattle.std.proofs.Common.{◌≡◌, ◌∙◌, ◌⊎◌, inl, inr, ℕ, ◌<◌, ◌≤◌, List, [], Bool, sym, subst, arith, length, get_or}
+use Rattle.std.proofs.Common.{◌≡◌, ◌∙◌, ◌⊎◌, inl, inr, ℕ, ◌<◌, ◌≤◌, List, Bool, sym, subst, arith, length, get_or}
 use Rattle.std.specs.Prelude.{Contains, IsTrue, ◌↔◌, slice_index}
 use Rattle.std.proofs.lemmas.List.{get_or_default}
 use Rattle.std.proofs.lemmas.List.Elements.{Contains-get_or}
@@ -8,7 +8,7 @@ use Rattle.rtl_form.specs.declared.rtl.Rtl.{Rtl}
 use Rattle.rtl_form.specs.declared.rtl.RtlExpr.{RtlExpr}
 use Rattle.rtl_form.specs.declared.rtl.RtlExpr.TheVariants.{Number, Truth, Cell, Apply}
 use Rattle.mp_base.specs.Entries.{IsAt}
-use Rattle.mp_base.proofs.ListEntries.{one_entry}
+use Rattle.mp_base.proofs.Entries.{one_entry, within}
 use Rattle.rtl_form.specs.Sound.{ExprFits, ReadsCell, itself, inside}
 use Rattle.rtl_check.specs.Reading.{IsDriven, IsKnown, ReadsOnly, operands_of}
 
@@ -33,8 +33,9 @@ pub past_reads_only : (r : Rtl) (known : List ℕ) (e : ℕ) → length r.exprs 
 past_reads_only r known e past = record { only = λ c driven reads. absurd (nothing c reads past) }
   where
     nothing : (c : ℕ) → ReadsCell r.exprs c e → length r.exprs ≤ e → ⊥
-    nothing c (itself f at) le = let lt = at.0 in absurd (omega (arith, lt, le))
-    nothing c (inside f a op index args at has reads) le = let lt = at.0 in absurd (omega (arith, lt, le))
+    nothing c (itself f at) le = let lt = within r.exprs e at in absurd (omega (arith, lt, le))
+    nothing c (inside f a op index args at has reads) le =
+        let lt = within r.exprs e at in absurd (omega (arith, lt, le))
 
 -- arguments stand before what takes them
 before_by : (r : Rtl) (e : ℕ) (x : RtlExpr) → ExprFits r e x → (j : ℕ) → j < length (operands_of x)

@@ -1,5 +1,5 @@
 -- All conditions of soundness, from those that are tested.
-use Rattle.std.proofs.Common.{◌≡◌, ◌∙◌, ◌⊎◌, inl, inr, ℕ, ◌<◌, List, sym, subst, arith, length, All, get_or, take}
+use Rattle.std.proofs.Common.{◌≡◌, ◌∙◌, ◌⊎◌, inl, inr, ℕ, ◌<◌, List, sym, subst, arith, length, take}
 use Rattle.std.proofs.Common.{Option, Some, None}
 use Rattle.std.specs.Prelude.{Contains, IfSome, slice_index}
 use Rattle.std.proofs.lemmas.List.{get_or-take, get_or_default, length-take}
@@ -7,21 +7,16 @@ use Rattle.mp_base.specs.declared.pad.Pad.{Pad}
 use Rattle.rtl_form.specs.declared.rtl.Rtl.{Rtl}
 use Rattle.rtl_form.specs.declared.rtl.Transfer.{Transfer}
 use Rattle.mp_base.specs.Entries.{IsAt}
+use Rattle.mp_base.proofs.Entries.{all_at, all_from, contains_from_get, get_from_contains}
 use Rattle.rtl_form.specs.Sound.{IsOrder, IsReset, IsSound, Reads, ReadsCell}
 use Rattle.rtl_check.specs.Parts.{HasContents, HasPorts, IsFitting, IsResetCell}
 use Rattle.rtl_check.specs.Reading.{HasOrder, IsDriven, ReadsBefore}
 
 -- ---- each element
 
-all_at : {X : Type 0} (P : X → Type 0) (xs : List X) → All P xs → (k : ℕ) (x : X) → IsAt xs k x → P x
-all_at P xs all k x (lt, is) = subst P (sym is) (all k x lt)
-
-at_all : {X : Type 0} (P : X → Type 0) (xs : List X) → ((k : ℕ) (x : X) → IsAt xs k x → P x) → All P xs
-at_all P xs each k d lt = each k (get_or xs k d) (lt, get_or_default xs k d (get_or xs k d) lt)
-
 member_of : {X : Type 0} (P : X → Type 0) (xs : List X) → ((k : ℕ) (x : X) → IsAt xs k x → P x) → (x : X)
     → Contains xs x → P x
-member_of P xs each x (k, lt, is) = each k x (lt, sym is)
+member_of P xs each x has = let at = get_from_contains xs x has in each at.0 x at.1
 
 -- ---- the order
 
@@ -82,8 +77,8 @@ module _ (r : Rtl) where
       read_by : (n : ℕ) (t : Transfer) → IsAt r.transfers n t → (k c : ℕ) → slice_index r.order k ≡ t.target
           → IsDriven r.cells c → ReadsCell r.exprs c t.guard ⊎ ReadsCell r.exprs c t.value
           → Reads r (slice_index r.order k) c
-      read_by n t (lt, there) k c target is some =
-          (t, is.cell, (n, lt, sym there), sym target, is.at, is.driven, some)
+      read_by n t there k c target is some =
+          (t, is.cell, contains_from_get r.transfers n t there, sym target, is.at, is.driven, some)
 
       known : (k c : ℕ) → k < length r.order → (j : ℕ) × (j < k) × (slice_index r.order j ≡ c)
           → Contains (take k r.order) c
@@ -119,8 +114,8 @@ module _ (r : Rtl) where
       let pads = ports.pads in
       let W : Pad → Type 0 = λ pad. (pad.width ≡ r.width) ⊎ (pad.width ≡ 0) in record {
         width = (ports.some, ports.narrow);
-        inputs = λ k pad at. all_at W (r.pads).inputs (pads.widths).inputs k pad at;
-        outputs = λ k pad at. all_at W (r.pads).outputs (pads.widths).outputs k pad at;
+        inputs = λ k pad at. all_at W (r.pads).inputs k pad (pads.widths).inputs at;
+        outputs = λ k pad at. all_at W (r.pads).outputs k pad (pads.widths).outputs at;
         input_cells = λ k lt. (((pads.of_pads).inputs).each k lt).only;
         output_cells = λ k lt. (((pads.of_pads).outputs).each k lt).only;
         cells = (pads.fits).each;
@@ -137,8 +132,8 @@ module _ (r : Rtl) where
     narrow = sound.width.1;
     pads = record {
       widths = record {
-        inputs = at_all W (r.pads).inputs sound.inputs;
-        outputs = at_all W (r.pads).outputs sound.outputs;
+        inputs = all_from W (r.pads).inputs sound.inputs;
+        outputs = all_from W (r.pads).outputs sound.outputs;
       };
       of_pads = record {
         inputs = record { each = λ k lt. record { only = sound.input_cells k lt } };
@@ -155,6 +150,8 @@ module _ (r : Rtl) where
   pub contents_of : IsSound r → HasContents r
   contents_of sound = record {
     exprs = sound.exprs;
-    transfers = record { each = λ k t (lt, is). record { fits = sound.transfers t (k, lt, sym is) } };
+    transfers = record {
+      each = λ k t at. record { fits = sound.transfers t (contains_from_get r.transfers k t at) };
+    };
     order = order_parts sound.order;
   }

@@ -8,7 +8,8 @@ use Rattle.rtl_form.specs.declared.rtl.CellKind.TheVariants.{Input, Output}
 use Rattle.rtl_form.specs.declared.rtl.Rtl.{Rtl}
 use Rattle.rtl_form.specs.declared.rtl.Transfer.{Transfer}
 use Rattle.mp_base.specs.Entries.{IsAt}
-use Rattle.rtl_form.specs.Operands.{takes, takes_words}
+use Rattle.rtl_form.specs.Operands.{takes_words}
+use Rattle.mp_base.specs.Apply.{takes}
 use Rattle.rtl_form.specs.Sound.{CellFits, HasSort, IndexFits, IsOnly, TransferFits}
 use Rattle.rtl_form.specs.Trace.{stores}
 use Rattle.rtl_check.specs.Reading.{ExprsFit, HasOrder}

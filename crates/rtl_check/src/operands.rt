@@ -1,7 +1,8 @@
 //! What operators take and give.
 
 ghost use Rattle.std.specs.Prelude.{◌≡◌};
-ghost use Rattle.rtl_form.specs.Operands.{takes, takes_words, gives_word};
+ghost use Rattle.rtl_form.specs.Operands.{takes_words, gives_word};
+ghost use Rattle.mp_base.specs.Apply.{takes};
 
 use mp_base::Op;
 

@@ -12,7 +12,8 @@ use Rattle.rtl_form.specs.declared.rtl.Cell.{Cell}
 use Rattle.rtl_form.specs.declared.rtl.RtlExpr.TheVariants as nodes
 use Rattle.rtl_form.specs.declared.rtl.Rtl.{Rtl}
 use Rattle.mp_base.specs.Entries.{IsAt}
-use Rattle.mp_base.proofs.ListEntries.{some_entry, one_entry}
+use Rattle.std.proofs.lemmas.Option.{same_Some, none-some}
+use Rattle.mp_base.proofs.Entries.{some_entry, one_entry, within}
 use Rattle.rtl_form.specs.Values.{value_of}
 use Rattle.rtl_form.specs.Environment.{is_driven, kind_value, driven_value, IsEnvironment}
 use Rattle.rtl_form.specs.Sound.{IsSound, HasSort, ReadsCell, itself, inside}
@@ -42,7 +43,7 @@ module _ (r : Rtl) (sound : IsSound r) where
   read_in c e (inside f a op k args at ca reads) = read_in c a reads
 
   sorted_in : (e : ℕ) (word : Bool) → HasSort r e word → e < length r.exprs
-  sorted_in e word (x, at, is) = at.0
+  sorted_in e word (x, at, is) = within r.exprs e at
 
   -- what is driven to the cell at k of the order depends on what is not driven, and on the cells before it
   pub driven_agrees : (env env2 : List ℕ) (k : ℕ) → k < length r.order → SameGiven r env env2
@@ -109,14 +110,14 @@ module _ (r : Rtl) (sound : IsSound r) where
     given_at : (c : ℕ) (xs : List Cell) (i : ℕ) (x : Cell) → IsAt xs i x
         → slice_index (given_from c xs) i ≡ kind_value x.kind inputs (slice_index state (c + i)) 0
     unfolding given_from
-    given_at c [] i x (lt, is) = absurd (omega (arith, lt))
-    given_at c (y ∷ ys) zero x (lt, is) =
+    given_at c [] i x at = absurd (none-some x at)
+    given_at c (y ∷ ys) zero x at =
         let e : c ≡ c + 0 = omega arith in
-        ap (λ (z : Cell). kind_value z.kind inputs (slice_index state c) 0) (sym is)
+        ap (λ (z : Cell). kind_value z.kind inputs (slice_index state c) 0) (same_Some y x at)
         ∙ ap (λ n. kind_value x.kind inputs (slice_index state n) 0) e
-    given_at c (y ∷ ys) (suc i) x (lt, is) =
+    given_at c (y ∷ ys) (suc i) x at =
         let e : suc c + i ≡ c + suc i = omega arith in
-        given_at (suc c) ys i x (omega (arith, lt), is) ∙ ap (λ n. kind_value x.kind inputs (slice_index state n) 0) e
+        given_at (suc c) ys i x at ∙ ap (λ n. kind_value x.kind inputs (slice_index state n) 0) e
 
     -- what is not driven has its values, and so do the first k cells of the order
     record IsSettledTo (k : ℕ) (env : List ℕ) : Type 0 where
@@ -167,7 +168,7 @@ module _ (r : Rtl) (sound : IsSound r) where
                     ∙ keeps env j k v (omega (arith, below)) lt
                 | inr from ↦
                     let e : j ≡ k = omega (arith, jk, from) in
-                    let inside_c = at.0 in
+                    let inside_c = within r.cells c at in
                     ap (λ n. slice_index (set env c v) (slice_index r.order n)) e
                     ∙ get_or-set_same env c v 0 (omega (arith, inside_c, size)) ∙ keeps env k k v (omega arith) lt
                     ∙ ap (λ n. driven_value r (set env c v) (slice_index r.order n)) (sym e)

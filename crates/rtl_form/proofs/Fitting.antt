@@ -1,6 +1,6 @@
 -- Values fit their widths.
 use Rattle.std.proofs.Common.{◌≡◌, ℕ, ◌<◌, ◌+◌, ◌-◌, ◌*◌, ◌^◌, zero, suc, inl, inr, List, [], ◌∷◌, Option, Some, None}
-use Rattle.std.proofs.Common.{Bool, true, false, cond, length, map, get_or, ltb, replicate, refl, sym, ◌∙◌, ap, subst}
+use Rattle.std.proofs.Common.{Bool, true, false, cond, length, map, get_or, ltb, refl, sym, ◌∙◌, ap, subst}
 use Rattle.std.proofs.Common.{arith}
 use Rattle.std.specs.Prelude.{Contains, ◌==◌, not, if◌then◌else◌, slice_index, unwrap_or}
 use Rattle.std.proofs.Math.Nat.{div-le_self}
@@ -21,7 +21,8 @@ use Rattle.rtl_form.specs.declared.rtl.RtlExpr.TheVariants as exprs
 use Rattle.rtl_form.specs.declared.rtl.Transfer.{Transfer}
 use Rattle.rtl_form.specs.declared.rtl.Rtl.{Rtl}
 use Rattle.mp_base.specs.Entries.{IsAt}
-use Rattle.mp_base.proofs.ListEntries.{one_entry}
+use Rattle.std.proofs.lemmas.Option.{same_Some, none-some}
+use Rattle.mp_base.proofs.Entries.{one_entry, within, zeros_at}
 use Rattle.rtl_form.specs.Environment.{is_driven, is_stored, kind_value, driven_value, IsEnvironment}
 use Rattle.rtl_form.specs.Operands.{takes_words, gives_word}
 use Rattle.rtl_form.specs.Sound.{IsSound, IsSort, CellFits, IsCellOf}
@@ -193,21 +194,16 @@ module _ (r : Rtl) (sound : IsSound r) (state inputs env : List ℕ) (state_fits
   all : known.Reached r E C
   all = reached r sound E C (record { base = base; exprs = along; driven = driven })
 
-  zero_at : (n i : ℕ) → slice_index (replicate n 0) i ≡ 0
-  zero_at zero i = refl
-  zero_at (suc n) zero = refl
-  zero_at (suc n) (suc i) = zero_at n i
-
   next_at : (xs : List cells.Cell) (n i : ℕ) (x : cells.Cell) → IsAt xs i x
       → slice_index (next_cells r state env n xs) i ≡ (if is_stored x.kind then next_stored r state env (n + i) else 0)
-  next_at [] n i x at = absurd (let l = at.0 in omega (arith, l))
+  next_at [] n i x at = absurd (none-some x at)
   next_at (y ∷ ys) n zero x at =
       let num : n ≡ n + 0 = omega arith in
-      ap (λ (c : cells.Cell). if is_stored c.kind then next_stored r state env n else 0) (sym at.1)
+      ap (λ (c : cells.Cell). if is_stored c.kind then next_stored r state env n else 0) (same_Some y x at)
       ∙ ap (λ m. if is_stored x.kind then next_stored r state env m else 0) num
   next_at (y ∷ ys) n (suc i) x at =
       let num : suc n + i ≡ n + suc i = omega arith in
-      next_at ys (suc n) i x ((let l = at.0 in omega (arith, l)), at.1)
+      next_at ys (suc n) i x at
       ∙ ap (λ m. if is_stored x.kind then next_stored r state env m else 0) num
 
   next_fits : CellsFit r (next_state r state inputs env)
@@ -218,19 +214,20 @@ module _ (r : Rtl) (sound : IsSound r) (state inputs env : List ℕ) (state_fits
       stored true =
           let num : 0 + c ≡ c = omega arith in
           subst (λ m. next_stored r state env m < size_of r.width x.word) (sym num)
-          (writes_fit c x at (λ t has to. all.exprs t.value ((sound.transfers t has).1.2.1.0)) (slice_index state c)
-          (state_fits c x at))
+          (writes_fit c x at (λ t has to. all.exprs t.value (within r.exprs t.value (sound.transfers t has).1.2.1))
+          (slice_index state c) (state_fits c x at))
 
       by_reset : (b : Bool)
           → slice_index (cond b (zero_state r) (next_cells r state env 0 r.cells)) c < size_of r.width x.word
-      by_reset true = subst (λ n. n < size_of r.width x.word) (sym (zero_at (length r.cells) c))
+      by_reset true = subst (λ n. n < size_of r.width x.word) (sym (zeros_at (length r.cells) c))
           (positive r.width x.word)
       by_reset false = subst (λ n. n < size_of r.width x.word) (sym (next_at r.cells 0 c x at))
           (stored (is_stored x.kind))
 
 pub values_fit : ValuesFit
 values_fit r sound state inputs env state_fits inputs_fit is_env = record {
-  cells = λ c x at. (all r sound state inputs env state_fits inputs_fit is_env).cells c at.0 x at;
-  exprs = λ e word h. (all r sound state inputs env state_fits inputs_fit is_env).exprs e h.1.0 h.0 word h.1 h.2;
+  cells = λ c x at. (all r sound state inputs env state_fits inputs_fit is_env).cells c (within r.cells c at) x at;
+  exprs = λ e word h.
+      (all r sound state inputs env state_fits inputs_fit is_env).exprs e (within r.exprs e h.1) h.0 word h.1 h.2;
   next = next_fits r sound state inputs env state_fits inputs_fit is_env;
 }

@@ -2,6 +2,7 @@
 use Rattle.std.proofs.Common.{◌≡◌, ℕ, zero, suc, ◌+◌, ◌<◌, List, [], ◌∷◌, ◌++◌, refl, sym, ◌∙◌, ap, subst, length}
 use Rattle.std.proofs.Common.{arith, get_or}
 use Rattle.std.proofs.lemmas.List.{get_or_append_left, get_or_at, length-append}
+use Rattle.std.proofs.lemmas.Option.{same_Some, none-some}
 use Rattle.mp_base.specs.Entries.{IsAt}
 use Rattle.rtl_form.specs.Growing.{grown_from, grown}
 
@@ -33,24 +34,24 @@ length-grown_from none f ys (x ∷ xs) =
 grown_at-from : {X Y : Type 0} (none : Y) (f : X → (ℕ → Y) → Y) (ys : List Y) (xs : List X) (i : ℕ) (x : X)
     → IsAt xs i x → AsksBefore f (length ys + i) x
     → get_or (grown_from none f ys xs) (length ys + i) none ≡ f x (λ k. get_or (grown_from none f ys xs) k none)
-grown_at-from none f ys [] i x (lt, is) local = absurd (omega (arith, lt))
-grown_at-from none f ys (z ∷ xs) zero x (lt, is) local =
+grown_at-from none f ys [] i x at local = absurd (none-some x at)
+grown_at-from none f ys (z ∷ xs) zero x at local =
     let y = f z (λ j. get_or ys j none) in
     let size = longer ys y in
     let e : length ys + 0 ≡ length ys = omega arith in
     ap (λ k. get_or (grown_from none f (ys ++ y ∷ []) xs) k none) e
     ∙ kept none f (ys ++ y ∷ []) xs (length ys) (omega (arith, size))
     ∙ get_or_at ys y [] none (length ys) refl
-    ∙ ap (λ t. f t (λ j. get_or ys j none)) (sym is)
+    ∙ ap (λ t. f t (λ j. get_or ys j none)) (same_Some z x at)
     ∙ local (λ j. get_or ys j none) (λ k. get_or (grown_from none f (ys ++ y ∷ []) xs) k none)
     (λ k lt2. sym (kept none f (ys ++ y ∷ []) xs k (omega (arith, lt2, size))
     ∙ get_or_append_left ys (y ∷ []) none k (omega (arith, lt2))))
-grown_at-from {X} {Y} none f ys (z ∷ xs) (suc i) x (lt, is) local =
+grown_at-from {X} {Y} none f ys (z ∷ xs) (suc i) x at local =
     let y = f z (λ j. get_or ys j none) in
     let size = longer ys y in
     let e : length (ys ++ y ∷ []) + i ≡ length ys + suc i = omega (arith, size) in
     ap (λ k. get_or (grown_from none f (ys ++ y ∷ []) xs) k none) (sym e)
-    ∙ grown_at-from none f (ys ++ y ∷ []) xs i x (omega (arith, lt), is) (subst (λ n. AsksBefore f n x) (sym e) local)
+    ∙ grown_at-from none f (ys ++ y ∷ []) xs i x at (subst (λ n. AsksBefore f n x) (sym e) local)
 
 -- the equation of a result
 pub grown_at : {X Y : Type 0} (none : Y) (f : X → (ℕ → Y) → Y) (xs : List X) (i : ℕ) (x : X) → IsAt xs i x

@@ -8,7 +8,7 @@ use Rattle.rtl_form.specs.declared.rtl.RtlExpr.{RtlExpr}
 use Rattle.rtl_form.specs.declared.rtl.RtlExpr.TheVariants.{Number, Truth, Cell, Apply}
 use Rattle.rtl_form.specs.declared.rtl.Rtl.{Rtl}
 use Rattle.mp_base.specs.Entries.{IsAt}
-use Rattle.mp_base.proofs.ListEntries.{some_entry}
+use Rattle.mp_base.proofs.Entries.{some_entry, within}
 use Rattle.rtl_form.specs.Environment.{is_driven}
 use Rattle.rtl_form.specs.Sound.{IsSound, ExprFits, ReadsCell, itself, inside}
 use Rattle.rtl_form.specs.Known.{Passes, Reached}
@@ -34,7 +34,7 @@ module _ (r : Rtl) (sound : IsSound r) (E C : ℕ → Type 0) (passes : Passes r
           let has : Contains args (get_or args k d) =
           Contains-get_or args k d m in
           let f = fits.2 (get_or args k d) has in
-          again (get_or args k d) f.0 (f.1.1.0) (λ c q. reads c (inside e (get_or args k d) op index args is has q)))
+          again (get_or args k d) f.0 (within r.exprs (get_or args k d) f.1.1) (λ c q. reads c (inside e (get_or args k d) op index args is has q)))
 
   -- a driven cell holds where those before it in the order do
   by_order : (n k : ℕ) → k < n → k < length r.order → C (slice_index r.order k)
@@ -43,11 +43,11 @@ module _ (r : Rtl) (sound : IsSound r) (E C : ℕ → Type 0) (passes : Passes r
       let d = sound.order.driven k in' in
       passes.driven (slice_index r.order k) d.0 d.1 d.2 (λ t has is.
       let f = sound.transfers t has in (
-        by_index (suc t.guard) t.guard (omega arith) f.0.1.0
+        by_index (suc t.guard) t.guard (omega arith) (within r.exprs t.guard f.0.1)
             (λ c q. by_cell c (λ j m e. by_order n j (omega arith) e)
             (λ y at driven. sound.order.after k c in' (t, y, has, is, at, driven, inl q))
             (read_in r sound c t.guard q)),
-        by_index (suc t.value) t.value (omega arith) f.1.2.1.0
+        by_index (suc t.value) t.value (omega arith) (within r.exprs t.value f.1.2.1)
             (λ c q. by_cell c (λ j m e. by_order n j (omega arith) e)
             (λ y at driven. sound.order.after k c in' (t, y, has, is, at, driven, inr q))
             (read_in r sound c t.value q)),

@@ -8,6 +8,7 @@ use Rattle.rtl_form.specs.declared.rtl.CellKind.TheVariants.{Output}
 use Rattle.rtl_form.specs.declared.rtl.Cell.{Cell}
 use Rattle.rtl_form.specs.declared.rtl.Rtl.{Rtl}
 use Rattle.mp_base.specs.Entries.{IsAt}
+use Rattle.mp_base.proofs.Entries.{within}
 use Rattle.rtl_form.specs.Step.{next_state, Shows}
 use Rattle.rtl_form.specs.Trace.{IsTraceFrom}
 use Rattle.rtl_form.specs.Sound.{IsSound, CellFits}
@@ -21,7 +22,8 @@ module _ (r : Rtl) (sound : IsSound r) where
       one.each c x k at is ∙ sym (two.each c x k at is))
 
   fits : (c : ℕ) (x : Cell) (k : ℕ) → IsAt r.cells c x → x.kind ≡ Output k → k < length (r.pads).outputs
-  fits c x k at is = let (pad, (lt, same), word) = subst (CellFits r x) is (sound.cells c x at) in lt
+  fits c x k at is = let (pad, at_pad, word) = subst (CellFits r x) is (sound.cells c x at) in
+      within (r.pads).outputs k at_pad
 
   -- the cell of an output pad
   cell_of : ℕ → ℕ

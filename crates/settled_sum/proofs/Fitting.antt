@@ -7,7 +7,7 @@ use Rattle.mp_program.specs.Pads.{ArePadsOf, FitsPads, output_pads}
 use Rattle.mp_program.specs.State.{State, IsState}
 use Rattle.mp_program.specs.Trace.{IsTraceFrom}
 use Rattle.mp_fitting.specs.Fitting.{StateFits}
-use Rattle.stimulus.specs.Inputs.{Fit}
+use Rattle.mp_base.specs.PadBits.{Fit}
 use Rattle.trace_run.specs.Laws.{ClocksFit, StatesLast}
 use Rattle.trace_run.proofs.Inputs.{clock_fits}
 

@@ -4,15 +4,14 @@ use Rattle.std.proofs.Common.{get_or, refl, sym, ap, subst, arith}
 use Rattle.std.specs.Prelude.{slice_index}
 use Rattle.std.specs.Int.{bit_at}
 use Rattle.std.proofs.Math.Nat.{mod-eq_of_lt}
-use Rattle.std.proofs.lemmas.List.{length-append}
 use Rattle.std.proofs.lemmas.Nat.{mod-pow-add}
 use Rattle.std.proofs.lemmas.Nat.Bits.{bit_at-lt}
 use Rattle.mp_base.specs.declared.pad.Pad.{Pad}
-use Rattle.stimulus.specs.Bits.{bit_count, trit_of, low_bits, value_bits}
+use Rattle.mp_base.specs.PadBits.{bit_count, trit_of, low_bits, value_bits}
 use Rattle.stimulus.specs.Fitting.{bound_at}
 use Rattle.stimulus.specs.Transcript.{weight, number_of}
 use Rattle.stimulus.proofs.Bits.{number_more}
-use Rattle.transcript.proofs.Inputs.{same_count}
+use Rattle.mp_base.proofs.PadBits.{same_count, length_bits}
 use Rattle.settled_sum.specs.Sum.{first_number}
 
 weight_of : (b : ℕ) → b < 2 → weight (trit_of b) ≡ b
@@ -20,16 +19,11 @@ weight_of zero less = refl
 weight_of (suc zero) less = refl
 weight_of (suc (suc b)) less = absurd (omega (arith, less))
 
-many_bits : (n v : ℕ) → length (low_bits n v) ≡ n
-many_bits zero v = refl
-many_bits (suc n) v =
-    length-append (low_bits n v) (trit_of (bit_at v n) ∷ []) ∙ (let e = many_bits n v in omega (arith, e))
-
 number_low : (n v : ℕ) → number_of (low_bits n v) ≡ v % 2 ^ n
 number_low zero v = let e : v % 1 ≡ 0 = omega arith in sym e
 number_low (suc n) v =
     number_more (low_bits n v) (trit_of (bit_at v n))
-    ∙ ap (λ x. number_of (low_bits n v) + weight (trit_of (bit_at v n)) * 2 ^ x) (many_bits n v)
+    ∙ ap (λ x. number_of (low_bits n v) + weight (trit_of (bit_at v n)) * 2 ^ x) (length_bits n v)
     ∙ ap (λ x. x + weight (trit_of (bit_at v n)) * 2 ^ n) (number_low n v)
     ∙ ap (λ x. v % 2 ^ n + x * 2 ^ n) (weight_of (bit_at v n) (bit_at-lt v n))
     ∙ swap (v % 2 ^ n) (bit_at v n * 2 ^ n)

@@ -11,7 +11,8 @@ use Rattle.mp_program.specs.State.{IsState, zero_state}
 use Rattle.mp_program.specs.Trace.{IsSettled}
 use Rattle.mp_program.proofs.Lengths.{length_trace}
 use Rattle.mp_fitting.specs.Fitting.{StateFits}
-use Rattle.stimulus.specs.Inputs.{Fit, inputs_at, inputs_of}
+use Rattle.stimulus.specs.Inputs.{inputs_at, inputs_of}
+use Rattle.mp_base.specs.PadBits.{Fit}
 use Rattle.transcript.proofs.Inputs.{clocks_fit}
 use Rattle.trace_run.specs.Laws.{ClocksFit, StatesLast}
 use Rattle.trace_run.proofs.Inputs.{many_outputs, outputs_fit}

@@ -13,7 +13,8 @@ use Rattle.switch_net.specs.Clock.{IsClock, IsCircuitTrace}
 use Rattle.switch_net.specs.Laws.{TraceExists, TraceOnce}
 use Rattle.settle.specs.Values.{value_at}
 use Rattle.stimulus.specs.declared.given.Stimulus.{Stimulus}
-use Rattle.stimulus.specs.Inputs.{Fit, inputs_at, inputs_of}
+use Rattle.stimulus.specs.Inputs.{inputs_at, inputs_of}
+use Rattle.mp_base.specs.PadBits.{Fit}
 use Rattle.transcript.specs.Transcript.{RunsAlong}
 use Rattle.transcript.specs.Running.{PrintsClocks, PrintsTranscript}
 use Rattle.transcript.specs.Laws.{IsDetermined, CanStep, StepsOn}

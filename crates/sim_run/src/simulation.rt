@@ -1,11 +1,11 @@
 //! A circuit along a stimulus.
 
-ghost use Rattle.std.specs.Prelude.{◌≡◌, ◌<◌, ◌^◌, length, IfOk, IfErr};
+ghost use Rattle.std.specs.Prelude.{◌≡◌, ◌<◌, ◌^◌, length, IfOk};
 ghost use Rattle.mp_base.specs.declared.value.Trit.TheVariants.{X};
+ghost use Rattle.mp_base.specs.Refuses.{IsJudged};
 ghost use Rattle.outside.specs.Outside.{HasCause};
-ghost use Rattle.switch_net.specs.Breaks.{HasPads};
 ghost use Rattle.settle.specs.Values.{value_at};
-ghost use Rattle.clock_run.specs.Refused.{IsRefused};
+ghost use Rattle.clock_run.specs.Refused.{OfCircuit};
 ghost use Rattle.transcript.specs.Running.{PrintsTranscript};
 ghost use Rattle.sim_run.specs.Transcript.{NetworkSteps};
 
@@ -53,8 +53,7 @@ impl<'a> Simulation<'a> {
         ensures network { IfOk result (λ s. s.network ≡ network) }
         ensures given { IfOk result (λ s. s.given ≡ given.now) }
         ensures unknown { IfOk result (λ s. value_at s.values ≡ (λ node. X)) }
-        ensures has_pads { IfOk result (λ _. HasPads network given.now.pads) }
-        ensures refused { IfErr result (IsRefused network given.now.pads) }
+        ensures judged { IsJudged (OfCircuit network given.now.pads) result }
     {
         let room = Room::new(alloc, &given.pads)?;
         let circuit = Circuit::open(alloc, network, &given.pads)?;

@@ -3,7 +3,7 @@ use Rattle.std.proofs.Common.{◌≡◌, inl, inr, ℕ, zero, suc, ◌<◌, ◌�
 use Rattle.std.proofs.Common.{List, [], ◌∷◌, ◌++◌, length, refl, sym, ◌∙◌, ap, subst, arith}
 use Rattle.std.specs.Prelude.{slice_get, ◌||◌, min, max}
 use Rattle.std.specs.List.{list_any}
-use Rattle.std.proofs.lemmas.Option.{slice_get_within}
+use Rattle.std.proofs.lemmas.Option.{slice_get_within, none-some, same_Some}
 use Rattle.mp_base.proofs.Members.{Member}
 use Rattle.std.proofs.lemmas.Map.Keys.{any_passes_from_place}
 use Rattle.std.proofs.lemmas.Bool.{or_right, or_left}
@@ -71,16 +71,17 @@ lift_has test at (a ∷ cs) (suc i) c h e =
     append_right (cond (test a) (at ∷ []) []) (lift_columns_of test (suc at) cs) (at + suc i)
     (subst (Member (lift_columns_of test (suc at) cs)) z (lift_has test (suc at) cs i c h e))
 
-start_has : (at : ℕ → ℕ) (cs : List Carry) (i : ℕ) (c : Carry) → slice_get cs i ≡ Some c
-    → Member (chain_starts at c.start cs) (at c.to)
-start_has at [] i c h = absurd (cc h)
-start_has at (a ∷ cs) zero c h =
-    let same : a ≡ c = cc in
-    append_left (cond (a.start == c.start) (at a.to ∷ []) []) (chain_starts at c.start cs) (at c.to)
+pub start_has : (at : ℕ → ℕ) (cs : List Carry) (i : ℕ) (c : Carry) (n : ℕ) → slice_get cs i ≡ Some c → c.start ≡ n
+    → Member (chain_starts at n cs) (at c.to)
+start_has at [] i c n h e = absurd (none-some c h)
+start_has at (a ∷ cs) zero c n h e =
+    append_left (cond (a.start == n) (at a.to ∷ []) []) (chain_starts at n cs) (at c.to)
     (subst (λ t. Member (cond t (at a.to ∷ []) []) (at c.to))
-    (sym (same_to a.start c.start (ap (λ z. z.start) same))) (inl (ap (λ z. at z.to) same)))
-start_has at (a ∷ cs) (suc i) c h = append_right (cond (a.start == c.start) (at a.to ∷ []) [])
-    (chain_starts at c.start cs) (at c.to) (start_has at cs i c h)
+    (sym (same_to a.start n (ap (λ (z : Carry). z.start) (same_Some a c h) ∙ e)))
+    (inl (ap (λ (z : Carry). at z.to) (same_Some a c h))))
+start_has at (a ∷ cs) (suc i) c n h e =
+    append_right (cond (a.start == n) (at a.to ∷ []) []) (chain_starts at n cs) (at c.to)
+    (start_has at cs i c n h e)
 
 module _ (p : Path) where
   pub homed_end : (i : ℕ) (c : Carry) → slice_get p.chains i ≡ Some c → slice_homed p c.to ≡ true
@@ -209,7 +210,7 @@ module _ (p : Path) (path : IsPath p) (cols : ℕ → ℕ → List ℕ) (row_of 
       ++ chain_starts (home (plain_slice p)) c.start p.chains) (home (plain_slice p) c.to)
       (append_right (lift_columns_of (λ a. a.start == c.start) (4 + length p.casts) p.lifts)
       (chain_starts (home (plain_slice p)) c.start p.chains) (home (plain_slice p) c.to)
-      (start_has (home (plain_slice p)) p.chains i c h)))
+      (start_has (home (plain_slice p)) p.chains i c c.start h refl)))
 
   chain_end_col : (i : ℕ) (c : Carry) (b : ℕ) → slice_get p.chains i ≡ Some c → suc b ≤ p.width
       → Member (cols (suc b) c.to) (home (plain_slice p) c.to)

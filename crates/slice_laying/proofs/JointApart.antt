@@ -27,10 +27,11 @@ use Rattle.slice_form.specs.Slices.{base_of, cast_column, lift_column, plain_sli
 use Rattle.slice_form.specs.Slices.{lift_columns_of, chain_starts}
 use Rattle.slice_form.proofs.Joints.{pairs_map_of, range_rises}
 use Rattle.slice_form.proofs.Lists.{slice_in}
+use Rattle.slice_form.proofs.Crossing.{start_has}
 use Rattle.slice_laying.specs.Added.{slice_cols, trunk_taps, cast_taps, lift_taps, bit_tap, bit_marks, link_taps}
 use Rattle.slice_laying.specs.Added.{chain_taps, joint_marks, of_phases}
 use Rattle.slice_laying.specs.Paths.{IsPlaceable}
-use Rattle.slice_laying.proofs.SliceColumns.{IsEnd, of_chain, of_program, end_homed, start_has}
+use Rattle.slice_laying.proofs.SliceColumns.{IsEnd, of_chain, of_program, end_homed}
 
 -- where a mark of a line that joins bands stands
 pub record IsJointMark (p : Path) (m : Mark) : Type 0 where

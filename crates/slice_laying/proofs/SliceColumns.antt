@@ -4,7 +4,7 @@ use Rattle.std.proofs.Common.{cond, List, [], ◌∷◌, ◌++◌, length, refl,
 use Rattle.std.specs.Prelude.{Contains, slice_get, ◌==◌, ◌||◌, ◌&&◌}
 use Rattle.std.specs.List.{list_any}
 use Rattle.std.proofs.lemmas.Bool.{cases_Bool, true≢false, or_left, or_right, and_from}
-use Rattle.std.proofs.lemmas.Option.{none-some, same_Some, slice_get_within, slice_get_cases}
+use Rattle.std.proofs.lemmas.Option.{none-some, slice_get_within, slice_get_cases}
 use Rattle.mp_base.proofs.Members.{Member, member_contains, contains_member}
 use Rattle.mp_base.proofs.Tests.{and_left}
 use Rattle.nor_net.specs.declared.net.Part.{Part}
@@ -21,23 +21,11 @@ use Rattle.slice_form.specs.Path.{Path, Carry, Cast, Lift, Programmed, IsElement
 use Rattle.slice_form.specs.Path.{cast, lift, next, open_end, one, zero_bit}
 use Rattle.slice_form.specs.Slices.{any_below, base_of, cast_columns, lift_columns_of, chain_starts, is_input, is_some}
 use Rattle.slice_form.specs.Slices.{is_unread, plain_slice, slice_columns, slice_homed, slice_stub}
-use Rattle.slice_form.proofs.Crossing.{cast_has, lift_has, homed_end, homed_bit}
+use Rattle.slice_form.proofs.Crossing.{cast_has, lift_has, start_has, homed_end, homed_bit}
 use Rattle.slice_form.proofs.Below.{below_member}
 use Rattle.slice_laying.specs.Paths.{IsPlaceable}
 
 -- ---- the columns of casts, lifts and chains
-
-pub start_has : (at : ℕ → ℕ) (cs : List Carry) (i : ℕ) (c : Carry) (n : ℕ) → slice_get cs i ≡ Some c → c.start ≡ n
-    → Member (chain_starts at n cs) (at c.to)
-start_has at [] i c n h e = absurd (none-some c h)
-start_has at (a ∷ cs) zero c n h e =
-    append_left (cond (a.start == n) (at a.to ∷ []) []) (chain_starts at n cs) (at c.to)
-    (subst (λ t. Member (cond t (at a.to ∷ []) []) (at c.to))
-    (sym (same_to a.start n (ap (λ (z : Carry). z.start) (same_Some a c h) ∙ e)))
-    (inl (ap (λ (z : Carry). at z.to) (same_Some a c h))))
-start_has at (a ∷ cs) (suc i) c n h e =
-    append_right (cond (a.start == n) (at a.to ∷ []) []) (chain_starts at n cs) (at c.to)
-    (start_has at cs i c n h e)
 
 -- the one column, if any, of the first of some
 one_inside : (t : Bool) (at x more : ℕ) → Member (cond t (at ∷ []) []) x → (at ≤ x) × (x < at + suc more)

@@ -1,6 +1,6 @@
 -- The pins of a slice are those of the form of its columns.
-use Rattle.std.proofs.Common.{◌≡◌, inl, inr, ℕ, zero, suc, ◌+◌, ◌<◌, ◌≤◌, ◌==◌, ◌^◌, Some, Bool, false, cond}
-use Rattle.std.proofs.Common.{List, [], ◌∷◌, ◌++◌, length, map, get_or, refl, sym, ◌∙◌, ap, subst, arith}
+use Rattle.std.proofs.Common.{◌≡◌, inl, inr, ℕ, ◌+◌, ◌<◌, ◌≤◌, ◌==◌, ◌^◌, Some, Bool, false}
+use Rattle.std.proofs.Common.{List, [], ◌++◌, length, map, get_or, refl, sym, ◌∙◌, subst, arith}
 use Rattle.std.specs.Prelude.{slice_get, All, ◌&&◌}
 use Rattle.std.specs.List.{list_any, range_with_len}
 use Rattle.std.proofs.lemmas.Option.{slice_get_within}
@@ -28,7 +28,7 @@ use Rattle.band_lists.proofs.BandPins.{IsPinIn, of_part, of_home, of_more, of_be
 use Rattle.band_lists.proofs.BandPins.{to_pin, some_pin}
 use Rattle.band_lists.proofs.Banded.{column_is, columns_long}
 use Rattle.slice_form.proofs.Columned.{cast_of_column, lift_of_column, chain_of_column}
-use Rattle.slice_form.proofs.Crossing.{cast_has, lift_has}
+use Rattle.slice_form.proofs.Crossing.{cast_has, lift_has, start_has}
 use Rattle.slice_layout.specs.Pins.{slice_pins}
 use Rattle.slice_layout.proofs.Ends.{HasEnds}
 use Rattle.slice_layout.proofs.SlicePins.{IsSlicePin, of_net, of_cast, of_lift, of_end, of_start, of_program, of_phase}
@@ -36,17 +36,6 @@ use Rattle.slice_layout.proofs.SlicePins.{slice_pin_is, slice_pin_in, cast_place
 use Rattle.slice_layout.proofs.SliceStubs.{homed_part, homed_to, homed_program, homed_stub, homed_own, stub_same}
 
 -- ---- the columns of casts, lifts and chains
-start_has : (at : ℕ → ℕ) (n : ℕ) (cs : List Carry) (i : ℕ) (c : Carry) → slice_get cs i ≡ Some c → c.start ≡ n
-    → Member (chain_starts at n cs) (at c.to)
-start_has at n [] i c h s = absurd (cc h)
-start_has at n (a ∷ cs) zero c h s =
-    let same : a ≡ c = cc h in
-    append_left (cond (a.start == n) (at a.to ∷ []) []) (chain_starts at n cs) (at c.to)
-    (subst (λ t. Member (cond t (at a.to ∷ []) []) (at c.to))
-    (sym (same_to a.start n (ap (λ z. z.start) same ∙ s))) (inl (ap (λ z. at z.to) same)))
-start_has at n (a ∷ cs) (suc i) c h s =
-    append_right (cond (a.start == n) (at a.to ∷ []) []) (chain_starts at n cs) (at c.to) (start_has at n cs i c h s)
-
 module _ (p : Path) (ends : HasEnds p) (is_net : IsNet p.slice) where
   abbrev y : Columns
   y = slice_columns p
@@ -80,7 +69,7 @@ module _ (p : Path) (ends : HasEnds p) (is_net : IsNet p.slice) where
       ++ chain_starts (home (plain_slice p)) c.start p.chains) (home y c.to)
       (append_right (lift_columns_of (λ a. a.start == c.start) (4 + length p.casts) p.lifts)
       (chain_starts (home (plain_slice p)) c.start p.chains) (home y c.to)
-      (start_has (home (plain_slice p)) c.start p.chains i c h refl))
+      (start_has (home (plain_slice p)) p.chains i c c.start h refl))
 
   -- columns are small
   are_narrow : AreNarrow y p.slice

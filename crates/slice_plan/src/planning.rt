@@ -6,6 +6,7 @@ ghost use Rattle.rtl_form.specs.Sound.{IsSound};
 ghost use Rattle.cif_emit.specs.Emittable.{IsEmittable, chip_rects};
 ghost use Rattle.compile_laws.specs.Laws.{IsBounded, IsSmallPlan};
 ghost use Rattle.path_plan.specs.Plans.{IsMeasured};
+ghost use Rattle.mp_base.specs.declared.limits.TheConstants.{WEIGHT_LIMIT};
 
 use datapath_alloc::allocate;
 use mp_base::NoMemory;
@@ -25,7 +26,7 @@ use std::alloc::Global;
 /// `NoMemory`.
 pub fn plan(alloc: Global, rtl: &Rtl) -> Result<Planned, NoMemory>
     requires sound { IsSound rtl.now }
-    requires light { cost rtl.now ≤ 1024 }
+    requires light { cost rtl.now ≤ WEIGHT_LIMIT }
     ensures planned { IfOk result (λ planned. IsSmallPlan rtl.now (chip_rects planned.chip) planned.chip.labels) }
     ensures emittable { IfOk result (λ planned. IsEmittable (chip_rects planned.chip) planned.chip.labels) }
     ensures measured { IfOk result (IsMeasured rtl.now) }

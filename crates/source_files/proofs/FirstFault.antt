@@ -7,7 +7,8 @@ use Rattle.source_files.specs.declared.limits.TheConstants.{TEXT_LIMIT}
 use Rattle.mp_source.specs.Source.{OfSource}
 use Rattle.outcome.proofs.Determined.{one_of_two, one_of_file}
 use Rattle.source_files.specs.Faults.{SourceFault, StimulusFault, RunFault, PadsFault}
-use Rattle.source_files.specs.Stimulus.{OfPads, OfStimulus}
+use Rattle.source_files.specs.Stimulus.{OfStimulus}
+use Rattle.stimulus.specs.Reading.{OfPads}
 use Rattle.source_files.proofs.Sources.{OneSource, OneVerdict, one_program}
 use Rattle.source_files.proofs.StimulusRules.{OneFirst, ReadBreaksNothing, one_of_pads, one_of_stimulus}
 

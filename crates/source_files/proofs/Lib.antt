@@ -1,7 +1,6 @@
 pub mod Clocks
 pub mod FirstFault
 pub mod Headers
-pub mod Judged
 pub mod ProgramPads
 pub mod Sources
 pub mod StimulusRules

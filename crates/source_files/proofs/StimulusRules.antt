@@ -1,25 +1,23 @@
 -- A stimulus breaks at most one rule first.
 use Rattle.std.proofs.Common.{◌≡◌, ◌≤◌, ℕ, List, length, map, refl, sym, ap, subst, ◌∙◌, Option, Some, None, Result, Ok}
-use Rattle.std.proofs.Common.{Err, IfOk, IfErr, IfSome, arith}
+use Rattle.std.proofs.Common.{Err, IfOk, IfSome, arith}
 use Rattle.std.proofs.Props.{props}
 use Rattle.mp_base.specs.declared.refusal.Place.{Place}
 use Rattle.mp_base.specs.declared.refusal.Broken.{Broken}
 use Rattle.mp_base.specs.declared.refusal.Family.{Family}
-use Rattle.mp_base.specs.declared.refusal.Family.TheVariants.{S}
 use Rattle.mp_base.specs.declared.refusal.Spot.{Spot}
 use Rattle.mp_base.specs.declared.refusal.Spot.TheVariants.{At, Offset, Named, Nowhere}
 use Rattle.mp_base.specs.declared.refusal.Refusal.{Refusal}
 use Rattle.mp_base.specs.declared.refusal.Refusal.TheVariants as refusal
 use Rattle.mp_base.specs.declared.pad.Pad.{Pad}
 use Rattle.mp_base.specs.declared.pad.Pads.{Pads}
-use Rattle.mp_base.specs.Refuses.{RefusesAt, SpotIs}
+use Rattle.mp_base.specs.Refuses.{SpotIs}
 use Rattle.mp_program.specs.declared.program.Program.{Program}
 use Rattle.mp_program.specs.Pads.{ArePadsOf, face}
 use Rattle.stimulus.specs.declared.given.Stimulus.{Stimulus}
-use Rattle.stimulus.specs.Reading.{IsStimulus, IsFirst}
+use Rattle.stimulus.specs.Reading.{IsStimulus, IsFirst, OfPads}
 use Rattle.mp_source.specs.Source.{IsSource}
-use Rattle.source_files.specs.Stimulus.{OfPads, OfStimulus}
-use Rattle.mp_source.specs.Source.{IsJudged}
+use Rattle.source_files.specs.Stimulus.{OfStimulus}
 use Rattle.outcome.specs.Order.{Fault}
 use Rattle.source_files.specs.Faults.{PadsFault, StimulusFault}
 use Rattle.outside.specs.Outside.{Files, bytes_of}
@@ -86,14 +84,6 @@ one_of_stimulus one clean same source text a b x y =
     let padded : ArePadsOf x.program y.pads = subst (λ p. ArePadsOf p y.pads) program y.padded in
     one_of_pads one clean (Some x.pads) text a b x.rules
     (subst (λ pads. OfPads (Some pads) text b) (one_pads x.program y.pads x.pads padded x.padded) y.rules)
-
--- what the reader of a stimulus says
-pub judged_for : (known : Option Pads) (text : List ℕ) (result : Result Stimulus Refusal)
-    → IfOk result (IsStimulus text known) → IfErr result (λ e. RefusesAt S e (IsFirst text known))
-    → IsJudged (OfPads known text) result
-judged_for known text (Ok given) ok err = (given, ok)
-judged_for known text (Err (refusal.Broken b)) ok err = err
-judged_for known text (Err refusal.NoMemory) ok err = tt
 
 -- what was read has few clocks
 pub read_clocks : (known : Option Pads) (text : List ℕ) (result : Result Stimulus Refusal)

@@ -6,7 +6,8 @@ use Rattle.mp_base.specs.declared.pad.Pads.{Pads}
 use Rattle.source_files.specs.declared.limits.TheConstants.{TEXT_LIMIT}
 use Rattle.mp_source.specs.Source.{OfSource}
 use Rattle.outcome.specs.Order.{Fault, Then, OfFile}
-use Rattle.source_files.specs.Stimulus.{OfPads, OfStimulus}
+use Rattle.source_files.specs.Stimulus.{OfStimulus}
+use Rattle.stimulus.specs.Reading.{OfPads}
 
 -- the faults of the file that holds a source
 abbrev pub SourceFault : List ℕ → Files → Option Fault → Type 0

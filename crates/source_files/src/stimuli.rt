@@ -5,10 +5,9 @@ ghost use Rattle.outside.specs.Outside.{Keeps, bytes_of};
 ghost use Rattle.source_files.specs.declared.limits.TheConstants.{TEXT_LIMIT};
 ghost use Rattle.stimulus.specs.declared.limits.TheConstants.{CLOCK_LIMIT, PAD_LIMIT};
 ghost use Rattle.mp_program.specs.Pads.{ArePadsOf};
-ghost use Rattle.stimulus.specs.Reading.{IsStimulus};
-ghost use Rattle.mp_source.specs.Source.{IsJudged};
+ghost use Rattle.stimulus.specs.Reading.{IsStimulus, OfPads};
+ghost use Rattle.mp_base.specs.Refuses.{IsJudged};
 ghost use Rattle.outcome.specs.Halt.{HasReason};
-ghost use Rattle.source_files.specs.Stimulus.{OfPads};
 ghost use Rattle.source_files.specs.Faults.{PadsFault};
 
 use crate::limits::TEXT_LIMIT;

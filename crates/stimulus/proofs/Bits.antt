@@ -16,7 +16,8 @@ use Rattle.mp_base.specs.declared.value.Trit.TheVariants.{Zero, One, X}
 use Rattle.mp_base.specs.declared.value.TritWord.{TritWord}
 use Rattle.mp_base.specs.declared.pad.Pad.{Pad}
 use Rattle.stimulus.specs.Rules.{bound}
-use Rattle.stimulus.specs.Bits.{bit_count, trit_of, trit_at, low_trits, pad_trits}
+use Rattle.stimulus.specs.Bits.{trit_at, low_trits, pad_trits}
+use Rattle.mp_base.specs.PadBits.{bit_count, trit_of}
 use Rattle.stimulus.specs.Transcript.{is_unknown, weight, number_of, bits_text}
 
 -- the bits of a pad's width

@@ -8,7 +8,8 @@ use Rattle.std.proofs.lemmas.Nat.Bits.{bit_at-lt, bit_at_and}
 use Rattle.mp_base.specs.declared.value.Trit.TheVariants.{X}
 use Rattle.mp_base.specs.declared.value.TritWord.{TritWord}
 use Rattle.stimulus.specs.Transcript.{weight, number_of}
-use Rattle.stimulus.specs.Bits.{low_trits, trit_at, trit_of}
+use Rattle.stimulus.specs.Bits.{low_trits, trit_at}
+use Rattle.mp_base.specs.PadBits.{trit_of}
 use Rattle.stimulus.proofs.Bits.{many_trits, number_more}
 
 pub weight_both : (k b : ℕ) → k < 2 → b < 2 → weight (cond (eqb k 1) (trit_of b) X) ≡ min k b

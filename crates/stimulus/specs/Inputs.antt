@@ -1,15 +1,9 @@
 -- The inputs that a stimulus gives, clock by clock.
-use Rattle.std.specs.Prelude.{ℕ, ◌<◌, ◌^◌, List, length, map}
-use Rattle.std.specs.List.{AllZip, range_with_len}
-use Rattle.mp_base.specs.declared.pad.Pad.{Pad}
+use Rattle.std.specs.Prelude.{ℕ, List, length, map}
+use Rattle.std.specs.List.{range_with_len}
 use Rattle.stimulus.specs.declared.given.Given.{Given}
 use Rattle.stimulus.specs.declared.given.Stimulus.{Stimulus}
-use Rattle.stimulus.specs.Bits.{bit_count}
 use Rattle.stimulus.specs.Fitting.{value_given}
-
--- one value for each pad, within its width
-abbrev pub Fit : List Pad → List ℕ → Type 0
-Fit pads values = AllZip (λ (pad : Pad) (value : ℕ). value < 2 ^ bit_count pad.width) pads values
 
 -- what a clock gives n inputs
 abbrev pub inputs_at : ℕ → List Given → List ℕ

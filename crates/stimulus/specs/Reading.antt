@@ -1,8 +1,11 @@
 -- The stimulus that a text spells, and the first rule that a text breaks.
-use Rattle.std.specs.Prelude.{◌≡◌, ◌⊎◌, ℕ, List, [], ◌∷◌, Option}
+use Rattle.std.specs.Prelude.{◌≡◌, ◌⊎◌, ℕ, List, [], ◌∷◌, Option, None, Some}
 use Rattle.mp_base.specs.declared.pad.Pads.{Pads}
 use Rattle.mp_base.specs.declared.refusal.Place.{Place}
 use Rattle.mp_base.specs.Lines.{place_at}
+use Rattle.mp_base.specs.Refuses.{IsOfFamily}
+use Rattle.mp_base.specs.declared.refusal.Broken.{Broken}
+use Rattle.mp_base.specs.declared.refusal.Family.TheVariants.{S}
 use Rattle.stimulus.specs.declared.given.Stimulus.{Stimulus}
 use Rattle.stimulus_lines.specs.declared.piece.Piece.{Piece}
 use Rattle.stimulus.specs.declared.reading.Reading.{Reading}
@@ -36,3 +39,9 @@ pub record IsStimulus (text : List ℕ) (known : Option Pads) (s : Stimulus) : T
 pub record IsFirst (text : List ℕ) (known : Option Pads) (k : ℕ) (at : Place) : Type 0 where
   pub broken : FirstBroken known nothing (lines text) k at.offset
   pub place : at ≡ place_at text at.offset
+
+-- the text is a stimulus for the pads that are known, or else for those of its header, or this is the first rule that
+-- it breaks
+abbrev pub OfPads : Option Pads → List ℕ → Option Broken → Type 0
+OfPads known text None = (given : Stimulus) × IsStimulus text known given
+OfPads known text (Some b) = IsOfFamily S (IsFirst text known) b

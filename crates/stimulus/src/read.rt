@@ -4,11 +4,11 @@ ghost use Rattle.std.specs.Prelude.{◌≡◌, ◌+◌, ◌<◌, ◌^◌, [], le
 ghost use Rattle.std.specs.Option.{option_copied};
 ghost use Rattle.mp_base.specs.Lines.{place_at};
 ghost use Rattle.mp_base.specs.PadNames.{ArePadNames, names_of};
-ghost use Rattle.mp_base.specs.Refuses.{RefusesAt};
+ghost use Rattle.mp_base.specs.Refuses.{IsJudged};
 ghost use Rattle.mp_base.specs.declared.refusal.Family.TheVariants.{S};
 ghost use Rattle.stimulus_lines.specs.Words.{lines, kept_before};
 ghost use Rattle.stimulus.specs.Rules.{inputs_of, outputs_of, IsFault};
-ghost use Rattle.stimulus.specs.Reading.{nothing, Reads, FirstBroken, IsStimulus, IsFirst};
+ghost use Rattle.stimulus.specs.Reading.{nothing, Reads, FirstBroken, IsStimulus, OfPads};
 ghost use Rattle.stimulus.specs.Fitting.{are_fitting};
 
 use crate::fault::Fault;
@@ -113,7 +113,7 @@ pub fn read_stimulus(alloc: Global, bytes: &[u8], known: Option<&Pads>) -> Resul
     requires short { length bytes.now + 1 < 2 ^ 32 }
     requires few { IfSome known (λ pads. length pads.now.inputs < 2 ^ 32) }
     ensures ok { IfOk result (IsStimulus bytes.now (option_copied known.entry)) }
-    ensures err { IfErr result (λ e. RefusesAt S e (IsFirst bytes.now (option_copied known.entry))) }
+    ensures judged { IsJudged (OfPads (option_copied known.entry) bytes.now) result }
 {
     match read_lines(alloc, bytes, known) {
         Ok(reading) => Ok(stimulus_of(alloc, reading, known)?),

@@ -9,7 +9,8 @@ use Rattle.mp_base.specs.declared.value.Trit.{Trit}
 use Rattle.mp_base.specs.declared.pad.Pad.{Pad}
 use Rattle.switch_net.specs.declared.network.Tag.{Tag}
 use Rattle.switch_net.specs.declared.network.Network.{Network}
-use Rattle.switch_net.specs.Pads.{bit_labels, pad_bits, Fit, driver_labels}
+use Rattle.switch_net.specs.Pads.{bit_labels, driver_labels}
+use Rattle.mp_base.specs.PadBits.{pad_bits, Fit}
 use Rattle.switch_net.specs.Clock.{Phases, Drive, bit_drives, input_drives, drives, IsLabelled, AreDrivers}
 use Rattle.switch_net.specs.Breaks.{MeetsDriver}
 use Rattle.switch_net.proofs.Exists.{all_or_one}

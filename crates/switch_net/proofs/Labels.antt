@@ -4,18 +4,16 @@ use Rattle.std.proofs.Common.{◌⊎◌, ◌≤◌, ◌++◌, ◌∷◌, inl, in
 use Rattle.std.proofs.lemmas.List.{length-append, get_or_append_left, get_or_push}
 use Rattle.std.specs.Int.{bit_at}
 use Rattle.std.proofs.lemmas.Bool.{cases_lt}
+use Rattle.mp_base.proofs.PadBits.{length_bits}
 use Rattle.mp_base.specs.declared.value.Trit.{Trit}
-use Rattle.switch_net.specs.Pads.{word_labels, low_bits, labels_of, bit_count, trit_of}
+use Rattle.switch_net.specs.Pads.{word_labels, labels_of}
+use Rattle.mp_base.specs.PadBits.{low_bits, bit_count, trit_of}
 use Rattle.switch_net.specs.declared.network.Network.{Network}
 use Rattle.switch_net.specs.Clock.{IsLabelled}
 
 pub length_word_labels : (p : List ℕ) (n : ℕ) → length (word_labels p n) ≡ n
 length_word_labels p zero = refl
 length_word_labels p (suc n) = length-append (word_labels p n) _ ∙ (let e = length_word_labels p n in omega arith)
-
-pub length_bits : (n word : ℕ) → length (low_bits n word) ≡ n
-length_bits zero word = refl
-length_bits (suc n) word = length-append (low_bits n word) _ ∙ (let e = length_bits n word in omega arith)
 
 pub labels_of_bits : (p : List ℕ) (width word : ℕ)
     → length (labels_of p width) ≡ length (low_bits (bit_count width) word)

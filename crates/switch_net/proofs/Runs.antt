@@ -9,7 +9,8 @@ use Rattle.mp_base.specs.declared.pad.Pad.{Pad}
 use Rattle.mp_base.specs.declared.pad.Pads.{Pads}
 use Rattle.switch_net.specs.declared.network.Tag.{Tag}
 use Rattle.switch_net.specs.declared.network.Network.{Network}
-use Rattle.switch_net.specs.Pads.{bit_labels, Fit, driver_labels, chip_labels}
+use Rattle.switch_net.specs.Pads.{bit_labels, driver_labels, chip_labels}
+use Rattle.mp_base.specs.PadBits.{Fit}
 use Rattle.switch_net.specs.Clock.{Phases, drives, SettlesTo, RunsTo, HasValue, Shows, IsClock, IsCircuitTrace}
 use Rattle.switch_net.specs.Clock.{settings_until_outputs, settings_after_outputs}
 use Rattle.switch_net.specs.Breaks.{HasPads}

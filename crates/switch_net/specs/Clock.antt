@@ -8,7 +8,8 @@ use Rattle.mp_base.specs.declared.pad.Pads.{Pads}
 use Rattle.switch_net.specs.declared.network.Tag.{Tag}
 use Rattle.switch_net.specs.declared.network.Network.{Network}
 use Rattle.switch_net.specs.Settled.{IsSettled}
-use Rattle.switch_net.specs.Pads.{bit_labels, pad_bits}
+use Rattle.switch_net.specs.Pads.{bit_labels}
+use Rattle.mp_base.specs.PadBits.{pad_bits}
 
 -- the values of the phases in one setting
 pub record Phases : Type 0 where

@@ -9,7 +9,8 @@ use Rattle.lam_geom.specs.Squares.{Square, covered}
 use Rattle.switch_net.specs.declared.network.Network.{Network}
 use Rattle.switch_net.specs.Settled.{Setting, Gives, IsBelow, IsSettled}
 use Rattle.switch_net.specs.Reaching.{GivesByReach}
-use Rattle.switch_net.specs.Pads.{Fit, chip_labels}
+use Rattle.switch_net.specs.Pads.{chip_labels}
+use Rattle.mp_base.specs.PadBits.{Fit}
 use Rattle.switch_net.specs.Clock.{IsCircuitTrace}
 use Rattle.switch_net.specs.Drawn.{AreNodes, AreRegions, IsNetwork}
 use Rattle.switch_net.specs.Breaks.{HasPads, IsFirstOfMask, IsFirstOfCircuit}

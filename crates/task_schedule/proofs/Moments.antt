@@ -1,6 +1,6 @@
 -- Tasks in the order of their moments.
-use Rattle.std.proofs.Common.{◌≡◌, ℕ, zero, suc, ◌+◌, ◌-◌, ◌*◌, ◌<◌, ◌≤◌, ◌⊎◌, inl, inr, List, [], ◌∷◌, Option, Some}
-use Rattle.std.proofs.Common.{None, Bool, false, length, map, get_or, refl, sym, ◌∙◌, ap, subst, arith, eqb}
+use Rattle.std.proofs.Common.{◌≡◌, ℕ, zero, suc, ◌+◌, ◌-◌, ◌*◌, ◌<◌, ◌≤◌, ◌⊎◌, inl, inr, List, [], ◌∷◌, Some}
+use Rattle.std.proofs.Common.{Bool, false, length, map, get_or, refl, sym, ◌∙◌, ap, subst, arith, eqb}
 use Rattle.std.specs.Prelude.{All, Contains, slice_get, slice_index}
 use Rattle.std.specs.List.{IsDistinct}
 use Rattle.std.specs.List.Sorted.{IsNonDecreasingBy, IsPermutation}
@@ -8,7 +8,7 @@ use Rattle.std.proofs.lemmas.Bool.{cases_lt, eq-eqb, ne_eqb, cases_eq}
 use Rattle.std.proofs.lemmas.List.Elements.{recursion_from_All, All-from_recursion}
 use Rattle.std.proofs.lemmas.List.Sorted.{All-permutation, Contains-permutation}
 use Rattle.std.proofs.lemmas.Map.Keys.{IsDistinct-IsPermutation}
-use Rattle.std.proofs.lemmas.Option.{get_or_from_slice_get, none-some, same_Some, slice_get-get_or, slice_get-map}
+use Rattle.std.proofs.lemmas.Option.{get_or_from_slice_get, none-some, same_Some, slice_get-get_or}
 use Rattle.std.proofs.lemmas.Option.{slice_get_within}
 use Rattle.std.proofs.Math.Nat.{mul-le-mul_right}
 use Rattle.rtl_form.specs.declared.rtl.Transfer.{Transfer}
@@ -16,6 +16,7 @@ use Rattle.rtl_form.specs.declared.rtl.RtlExpr.{RtlExpr}
 use Rattle.rtl_form.specs.declared.rtl.RtlExpr.TheVariants as exprs
 use Rattle.rtl_form.specs.declared.rtl.Rtl.{Rtl}
 use Rattle.mp_base.specs.Entries.{IsAt}
+use Rattle.mp_base.proofs.Entries.{contains_from_get, get_from_contains, get_map, map_get, within}
 use Rattle.rtl_form.specs.Sound.{IsSound, ReadsCell}
 use Rattle.task_schedule.specs.declared.task.Task.{Task}
 use Rattle.task_schedule.specs.declared.task.Task.TheVariants.{Expr, Cell}
@@ -152,25 +153,16 @@ module _ (r : Rtl) (sound : IsSound r) (cells turns : List ℕ) (cell_turns : Ar
       ]
 
   find : (k : ℕ) (y : Entry) → slice_get es k ≡ Some y → (j : ℕ) × (slice_get ys j ≡ Some y)
-  find k y e =
-      let c = Contains-permutation es ys y permuted (k, slice_get_within es k y e, get_or_from_slice_get es k y y e)
-      in
-      (c.0, slice_get-get_or ys c.0 y c.1 ∙ ap Some c.2)
+  find k y e = get_from_contains ys y (Contains-permutation es ys y permuted (contains_from_get es k y e))
 
   abbrev tasks : List Task
   tasks = map (λ (e : Entry). e.task) ys
 
   task_at : (t : ℕ) (y : Entry) → slice_get ys t ≡ Some y → slice_get tasks t ≡ Some y.task
-  task_at t y e = slice_get-map (λ (e : Entry). e.task) ys t
-      ∙ ap (Rattle.std.specs.Option.option_map (λ (e : Entry). e.task)) e
+  task_at = map_get (λ (e : Entry). e.task) ys
 
   entry_of : (t : ℕ) (x : Task) → slice_get tasks t ≡ Some x → (y : Entry) × (slice_get ys t ≡ Some y) × (y.task ≡ x)
-  entry_of t x e = by_option (slice_get ys t) refl
-    where
-      by_option : (o : Option Entry) → slice_get ys t ≡ o → (y : Entry) × (slice_get ys t ≡ Some y) × (y.task ≡ x)
-      by_option None q = absurd (none-some x (sym (slice_get-map (λ (e : Entry). e.task) ys t
-          ∙ ap (Rattle.std.specs.Option.option_map (λ (e : Entry). e.task)) q) ∙ e))
-      by_option (Some y) q = (y, q, same_Some y.task x (sym (task_at t y q) ∙ e))
+  entry_of = get_map (λ (e : Entry). e.task) ys
 
   -- a place has one cell, and a cell one place
   one_place : (p q : ℕ) → p < length r.order → q < length r.order → slice_index r.order p ≡ slice_index r.order q
@@ -219,7 +211,7 @@ module _ (r : Rtl) (sound : IsSound r) (cells turns : List ℕ) (cell_turns : Ar
     | inl q ↦ absurd (cc (sym (ap (λ (z : Entry). z.task) q.2) ∙ is))
     | inr q ↦
         let place : slice_index r.order q.0 ≡ d = cc (sym (ap (λ (z : Entry). z.task) q.2) ∙ is) in
-        let turn = expr_turns.each e (exprs.Cell c) at.0 at
+        let turn = expr_turns.each e (exprs.Cell c) (within r.exprs e at) at
         ∙ (ap (slice_index cells) (h ∙ sym place) ∙ cell_turns.placed q.0 q.1) in
         let m = ap (λ (z : Entry). z.moment) q.2 in
         let n = next_turn q.0 (slice_index turns e) (length r.exprs) e (suc (length r.exprs)) (omega (arith, turn))
@@ -231,7 +223,7 @@ module _ (r : Rtl) (sound : IsSound r) (cells turns : List ℕ) (cell_turns : Ar
     | inr q ↦ absurd (cc (sym (ap (λ (z : Entry). z.task) q.2) ∙ is))
     | inl q ↦
         let same : q.0 ≡ a = cc (sym (ap (λ (z : Entry). z.task) q.2) ∙ is) in
-        let b = (expr_turns.each e (exprs.Apply op k args) at.0 at).bound a h in
+        let b = (expr_turns.each e (exprs.Apply op k args) (within r.exprs e at) at).bound a h in
         let l = ((sound.exprs e (exprs.Apply op k args) at).2 a h).0 in
         let m = ap (λ (z : Entry). z.moment) q.2 ∙ ap (expr_moment r turns) same in
         let n = same_turn (slice_index turns a) (slice_index turns e) a e (suc (length r.exprs)) b l in

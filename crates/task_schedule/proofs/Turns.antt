@@ -7,12 +7,11 @@ use Rattle.std.proofs.lemmas.List.{get_or_append_left, get_or_push, length-repli
 use Rattle.std.proofs.lemmas.List.Elements.{Contains-get_or, Contains-append_left, Contains-push, Contains-push_cases}
 use Rattle.std.proofs.lemmas.Option.{get_or_from_slice_get, slice_get-get_or}
 use Rattle.mp_base.proofs.Induction.{upward}
-use Rattle.mp_base.proofs.Entries.{get_set_same}
+use Rattle.mp_base.proofs.Entries.{get_set_same, one_entry, some_entry, within, zeros_at}
 use Rattle.rtl_form.specs.declared.rtl.RtlExpr.{RtlExpr}
 use Rattle.rtl_form.specs.declared.rtl.RtlExpr.TheVariants as exprs
 use Rattle.rtl_form.specs.declared.rtl.Rtl.{Rtl}
 use Rattle.mp_base.specs.Entries.{IsAt}
-use Rattle.mp_base.proofs.ListEntries.{one_entry, some_entry}
 use Rattle.rtl_form.specs.Sound.{ExprFits, IsSound, ReadsCell, itself, inside}
 use Rattle.task_schedule.specs.Turns.{AreCellTurns, AreExprTurns, IsExprTurn, IsLatest}
 
@@ -50,13 +49,8 @@ pub no_turns : (r : Rtl) (turns : List ℕ) → turns ≡ replicate (length r.ce
 no_turns r turns e = record {
   count = ap length e ∙ length-replicate (length r.cells) 0;
   placed = λ p l. absurd (omega arith);
-  only = λ c. inl (ap (λ xs. slice_index xs c) e ∙ zeros (length r.cells) c);
+  only = λ c. inl (ap (λ xs. slice_index xs c) e ∙ zeros_at (length r.cells) c);
 }
-  where
-    zeros : (n c : ℕ) → slice_index (replicate n 0) c ≡ 0
-    zeros zero c = refl
-    zeros (suc n) zero = refl
-    zeros (suc n) (suc c) = zeros n c
 
 read_same : (xs : List ℕ) (k x : ℕ) → k < length xs → slice_index (slice_set xs k x) k ≡ x
 read_same xs k x l = get_or_from_slice_get (slice_set xs k x) k x 0 (get_set_same xs k x l)
@@ -69,7 +63,7 @@ read_other (y ∷ xs) (suc k) x zero ne = refl
 read_other (y ∷ xs) (suc k) x (suc n) ne = read_other xs k x n (λ q. ne (omega arith))
 
 pub cell_in : (r : Rtl) → IsSound r → (p : ℕ) → p < length r.order → slice_index r.order p < length r.cells
-cell_in r sound p l = (sound.order.driven p l).1.0
+cell_in r sound p l = within r.cells (slice_index r.order p) (sound.order.driven p l).1
 
 pub cell_turns_more : (r : Rtl) → IsSound r → (p : ℕ) (turns : List ℕ) → p < length r.order → AreCellTurns r p turns
     → AreCellTurns r (p + 1) (slice_set turns (slice_index r.order p) (p + 1))
@@ -77,7 +71,7 @@ cell_turns_more r sound p turns l h = record {
   count = length-set turns (slice_index r.order p) (p + 1) ∙ h.count;
   placed = λ q m. elim (cases_eq q p) [
     | inl e ↦ ap (λ n. slice_index (slice_set turns (slice_index r.order p) (p + 1)) (slice_index r.order n)) e
-        ∙ (read_same turns (slice_index r.order p) (p + 1) within ∙ omega (arith, e))
+        ∙ (read_same turns (slice_index r.order p) (p + 1) inside_turns ∙ omega (arith, e))
     | inr ne ↦ read_other turns (slice_index r.order p) (p + 1) (slice_index r.order q)
         (λ e. sound.order.once q p (omega arith) l e) ∙ h.placed q (omega arith)
   ];
@@ -87,7 +81,7 @@ cell_turns_more r sound p turns l h = record {
       omega arith,
       sym e,
       ap (slice_index (slice_set turns (slice_index r.order p) (p + 1))) e
-          ∙ (read_same turns (slice_index r.order p) (p + 1) within ∙ omega arith),
+          ∙ (read_same turns (slice_index r.order p) (p + 1) inside_turns ∙ omega arith),
     )
     | inr ne ↦ elim (h.only c) [
       | inl z ↦ inl (read_other turns (slice_index r.order p) (p + 1) c ne ∙ z)
@@ -97,8 +91,8 @@ cell_turns_more r sound p turns l h = record {
   ];
 }
   where
-    within : slice_index r.order p < length turns
-    within = let c = cell_in r sound p l in let n = h.count in omega (arith, c, n)
+    inside_turns : slice_index r.order p < length turns
+    inside_turns = let c = cell_in r sound p l in let n = h.count in omega (arith, c, n)
 
 -- ---- turns of expressions
 
@@ -171,7 +165,7 @@ module _ (r : Rtl) (sound : IsSound r) (cells turns : List ℕ) (cell_turns : Ar
     | inl z ↦ inl z
     | inr q ↦
         let f = (sound.exprs e (exprs.Apply op k args) at).2 q.0 q.1 in
-        let l = at.0 in let b = f.0 in
+        let l = within r.exprs e at in let b = f.0 in
         elim (earlier q.0 f.0 (omega (arith, l, b))) [
           | inl z ↦ inl (sym q.2 ∙ z)
           | inr w ↦ inr (w.0, w.1, sym q.2 ∙ w.2, inside e q.0 op k args at q.1 w.3)

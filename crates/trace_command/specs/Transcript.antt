@@ -6,7 +6,7 @@ use Rattle.mp_program.specs.Pads.{ArePadsOf}
 use Rattle.mp_program.specs.Trace.{IsTrace}
 use Rattle.stimulus.specs.declared.given.Stimulus.{Stimulus}
 use Rattle.stimulus.specs.Reading.{IsStimulus}
-use Rattle.stimulus.specs.Bits.{value_bits}
+use Rattle.mp_base.specs.PadBits.{value_bits}
 use Rattle.stimulus.specs.Inputs.{inputs_of}
 use Rattle.stimulus.specs.Transcript.{lines_text}
 use Rattle.mp_source.specs.Source.{IsSource}

@@ -12,9 +12,8 @@ use Rattle.mp_program.specs.State.{State, IsState}
 use Rattle.mp_program.specs.Trace.{IsClock}
 use Rattle.mp_fitting.specs.Fitting.{StateFits}
 use Rattle.mp_program.specs.Pads.{ArePadsOf, Face, face, pad_limit, input_pads, output_pads, FitsPads}
-use Rattle.stimulus.specs.Bits.{bit_count}
+use Rattle.mp_base.specs.PadBits.{bit_count, Fit}
 use Rattle.stimulus.specs.Fitting.{bound_at}
-use Rattle.stimulus.specs.Inputs.{Fit}
 use Rattle.trace_run.specs.Laws.{ClocksFit}
 
 limit_of : (w : ℕ) → pad_limit w ≡ 2 ^ cond (w == 0) 1 w

@@ -10,10 +10,10 @@ use Rattle.mp_base.specs.declared.pad.Pad.{Pad}
 use Rattle.mp_base.specs.declared.value.TritWord.{TritWord}
 use Rattle.stimulus.specs.Rules.{bits_of, bound}
 use Rattle.stimulus.specs.Fitting.{bound_at}
-use Rattle.stimulus.specs.Bits.{bit_count, trit_of, trit_at, low_bits, low_trits, pad_bits, pad_trits, trits_of}
-use Rattle.stimulus.specs.Bits.{value_bits}
+use Rattle.stimulus.specs.Bits.{trit_at, low_trits, pad_trits, trits_of}
+use Rattle.mp_base.specs.PadBits.{bit_count, trit_of, low_bits, pad_bits, value_bits}
 use Rattle.stimulus.proofs.Values.{few_bits}
-use Rattle.transcript.proofs.Inputs.{same_count}
+use Rattle.mp_base.proofs.PadBits.{same_count}
 
 -- the ones of a pad
 pub ones : (p : Pad) (b : ℕ) → b ≡ bits_of p → (2 ^ 64 - 1) / 2 ^ (64 - b) ≡ bound p - 1

@@ -7,7 +7,7 @@ use Rattle.mp_program.specs.declared.program.Program.{Program}
 use Rattle.mp_program.specs.State.{State, IsState}
 use Rattle.mp_program.specs.Trace.{IsTraceFrom}
 use Rattle.stimulus.specs.declared.given.Stimulus.{Stimulus}
-use Rattle.stimulus.specs.Bits.{value_bits}
+use Rattle.mp_base.specs.PadBits.{value_bits}
 use Rattle.stimulus.specs.Inputs.{inputs_of}
 use Rattle.stimulus.specs.Transcript.{lines_text}
 use Rattle.transcript.specs.Transcript.{RunsAlong}

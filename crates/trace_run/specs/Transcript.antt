@@ -6,7 +6,7 @@ use Rattle.mp_program.specs.declared.program.Program.{Program}
 use Rattle.mp_program.specs.State.{State}
 use Rattle.mp_program.specs.Trace.{IsClock}
 use Rattle.stimulus.specs.declared.given.Stimulus.{Stimulus}
-use Rattle.stimulus.specs.Bits.{value_bits}
+use Rattle.mp_base.specs.PadBits.{value_bits}
 use Rattle.transcript.specs.Transcript as transcripts
 
 -- one clock of the program, in which these output pads show the bits of their values

@@ -1,7 +1,8 @@
 //! The words that show values.
 
 ghost use Rattle.std.specs.Prelude.{◌≡◌, ℕ, ◌<◌, ◌-◌, length, slice_index};
-ghost use Rattle.stimulus.specs.Bits.{pad_bits, pad_trits, trits_of, value_bits};
+ghost use Rattle.stimulus.specs.Bits.{pad_trits, trits_of};
+ghost use Rattle.mp_base.specs.PadBits.{pad_bits, value_bits};
 ghost use Rattle.stimulus.specs.Rules.{bits_of, bound};
 ghost use Rattle.stimulus.specs.Fitting.{bound_at};
 

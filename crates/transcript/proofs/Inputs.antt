@@ -1,22 +1,18 @@
 -- What a stimulus gives its input pads fits them.
-use Rattle.std.proofs.Common.{◌≡◌, ℕ, zero, suc, ◌+◌, ◌<◌, ◌^◌, List, [], ◌∷◌, true, cond, inl, inr, length, map, drop}
-use Rattle.std.proofs.Common.{get_or, refl, sym, subst, arith}
+use Rattle.std.proofs.Common.{◌≡◌, ℕ, zero, suc, ◌+◌, ◌<◌, ◌^◌, List, [], ◌∷◌, true, inl, inr, length, map, drop}
+use Rattle.std.proofs.Common.{get_or, sym, subst, arith}
 use Rattle.std.specs.Prelude.{not, ◌==◌, All}
 use Rattle.std.specs.List.{list_any, range_with_len}
 use Rattle.std.proofs.Math.Pow.{pow_mono}
 use Rattle.std.proofs.lemmas.Bool.{and_parts, ltb-true, eq-eqb, ne_eqb, cases_eq, cond-true, cond-false}
 use Rattle.std.proofs.lemmas.List.FromFn.{fill_by_all}
+use Rattle.mp_base.proofs.PadBits.{same_count}
 use Rattle.mp_base.specs.declared.pad.Pad.{Pad}
 use Rattle.stimulus.specs.declared.given.Given.{Given}
-use Rattle.stimulus.specs.Bits.{bit_count}
+use Rattle.mp_base.specs.PadBits.{Fit}
 use Rattle.stimulus.specs.Rules.{bits_of, bound}
 use Rattle.stimulus.specs.Fitting.{bound_at, is_fitting, is_fitting_clock, are_fitting, value_given}
-use Rattle.stimulus.specs.Inputs.{Fit, inputs_at}
-
--- a pad has as many bits in both definitions
-pub same_count : (w : ℕ) → cond (w == 0) 1 w ≡ bit_count w
-same_count zero = refl
-same_count (suc w) = cond-false (suc w == 0) 1 (suc w) (ne_eqb (suc w) 0 (λ e. omega (arith, e)))
+use Rattle.stimulus.specs.Inputs.{inputs_at}
 
 some_at : (pads : List Pad) (i : ℕ) → i < length pads → 0 < bound_at pads i
 some_at [] i lt = absurd (omega (arith, lt))

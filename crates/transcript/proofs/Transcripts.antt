@@ -10,7 +10,8 @@ use Rattle.outside.specs.Outside.{WhereTold, Gains}
 use Rattle.outside.specs.Piece.{TakesAll}
 use Rattle.stimulus.specs.declared.given.Given.{Given}
 use Rattle.stimulus.specs.declared.given.Stimulus.{Stimulus}
-use Rattle.stimulus.specs.Inputs.{Fit, inputs_at, inputs_of}
+use Rattle.stimulus.specs.Inputs.{inputs_at, inputs_of}
+use Rattle.mp_base.specs.PadBits.{Fit}
 use Rattle.stimulus.specs.Transcript.{line_text, lines_text}
 use Rattle.transcript.specs.Transcript.{RunsAlong, IsTranscript}
 use Rattle.transcript.specs.Running.{PrintsClock, PrintsClocks, PrintsTranscript}

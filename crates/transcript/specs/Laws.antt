@@ -2,7 +2,7 @@
 use Rattle.std.specs.Prelude.{◌≡◌, ℕ, List}
 use Rattle.mp_base.specs.declared.value.Trit.{Trit}
 use Rattle.mp_base.specs.declared.pad.Pad.{Pad}
-use Rattle.stimulus.specs.Inputs.{Fit}
+use Rattle.mp_base.specs.PadBits.{Fit}
 
 -- from a state, at given inputs, what is shown and the next state are determined
 abbrev pub IsDetermined : {S : Type 0} → (S → List ℕ → List (List Trit) → S → Type 0) → Type 0

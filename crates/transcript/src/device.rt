@@ -4,7 +4,7 @@ ghost use Rattle.std.specs.Prelude.{◌≡◌, ℕ, List, length};
 ghost use Rattle.mp_base.specs.declared.value.Trit.{Trit};
 ghost use Rattle.mp_base.specs.declared.pad.Pads.{Pads as PadsValue};
 ghost use Rattle.stimulus.specs.Bits.{trits_of};
-ghost use Rattle.stimulus.specs.Inputs.{Fit};
+ghost use Rattle.mp_base.specs.PadBits.{Fit};
 
 use mp_base::{Inputs, Pads, TritOutputs};
 

@@ -1,5 +1,5 @@
 use Rattle.board.proofs.Widths.{masked}
-use Rattle.stimulus.specs.Bits.{bit_count}
+use Rattle.mp_base.specs.PadBits.{bit_count}
 use Rattle.board.proofs.pads.within.Goals as goal
 
 pub returns : goal.returns

@@ -3,8 +3,8 @@ use Rattle.std.proofs.lemmas.List.{length-map}
 use Rattle.board.proofs.Words.{link_added, parts_of, refused_at, wires_of}
 use Rattle.board.proofs.reading.read_links.Goals as goal
 
-pub returns-in-Err-clause-refused : goal.returns-in-Err-clause-refused
-returns-in-Err-clause-refused g c =
+pub returns-in-Err-clause-judged : goal.returns-in-Err-clause-judged
+returns-in-Err-clause-judged g c =
     refused_at _ c.args.pads.now string_bytes c.args.words.now c.loop-word.word-index c.word-item.result
     c.as_str-text.result.now c.loop-word-test.true (c.as_str-text.ensures.value ∙ ap string_bytes c.word-item.is)
     c.naming.result c.naming.ensures c.loop-word.links c.in-Err.rule c.in_ok-broken-in-Err.field-0

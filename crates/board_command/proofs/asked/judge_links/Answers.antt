@@ -2,7 +2,7 @@ use Rattle.std.proofs.Common.{length, map, arith}
 use Rattle.std.specs.Prelude.{string_bytes}
 use Rattle.mp_program.specs.Pads.{ArePadsOf}
 use Rattle.source_files.proofs.ProgramPads.{few_inputs, few_outputs, keeps_40}
-use Rattle.board_command.proofs.Asking.{judged_links, judged_words}
+use Rattle.board_command.proofs.Asking.{judged_links}
 use Rattle.board_command.proofs.asked.judge_links.Goals as goal
 
 pub read_links-requires-clause-inputs : goal.read_links-requires-clause-inputs
@@ -30,10 +30,7 @@ returns-then-parts-clause-padded g c = rw c.pads-pads.ensures.same at c.pads-pad
 
 pub returns-clause-judged : goal.returns-clause-judged
 returns-clause-judged g c =
-    let same = c.pads-pads.ensures.same in
-    judged_words (map (λ p. string_bytes p.name) c.args.parts.now) (map string_bytes c.args.words.now)
-    c.args.checked.now.pads c.read_links.result (rw same at c.read_links.ensures.links)
-    (rw same at c.read_links.ensures.refused)
+    rw c.pads-pads.ensures.same at c.read_links.ensures.judged
 
 pub returns-clause-linked : goal.returns-clause-linked
 returns-clause-linked g c =

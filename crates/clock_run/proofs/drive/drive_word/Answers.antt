@@ -1,6 +1,6 @@
 use Rattle.std.proofs.Common.{◌∙◌, ◌<◌, get_or, length, sym, arith}
 use Rattle.std.proofs.lemmas.List.{get_or_default}
-use Rattle.switch_net.specs.Pads.{low_bits}
+use Rattle.mp_base.specs.PadBits.{low_bits}
 use Rattle.switch_net.proofs.Labels.{low_bit}
 use Rattle.clock_run.proofs.Driven.{set_more}
 use Rattle.clock_run.proofs.drive.drive_word.Goals as goal

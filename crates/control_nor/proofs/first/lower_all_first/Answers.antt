@@ -1,6 +1,6 @@
 use Rattle.std.proofs.Common.{◌≡◌, ◌<◌, ◌+◌, [], List, Option, None, false, length, replicate, subst, sym, ap, ◌∙◌}
 use Rattle.std.proofs.Common.{get_or, arith}
-use Rattle.std.proofs.lemmas.Option.{get_or_from_slice_get, slice_get-get_or}
+use Rattle.std.proofs.lemmas.Option.{slice_get-get_or}
 use Rattle.nor_net.specs.declared.net.NetId.{NetId}
 use Rattle.rtl_form.specs.declared.rtl.Cell as cells
 use Rattle.rtl_form.specs.declared.rtl.CellKind.TheVariants.{Input}
@@ -44,16 +44,13 @@ loop-cell-preserved c =
     c.loop-cell.pads c.lower_first.new.pads c.in_ok-rails.rails) c.as_slice-cell-items.ensures c.in_ok-rails.ensures
     in
     let x = get_or c.args.rtl.now.cells c.loop-cell.cell-index no_cell in
-    let at : x ≡ get_or c.args.rtl.now.cells c.loop-cell.cell-index x =
-    sym (get_or_from_slice_get c.args.rtl.now.cells c.loop-cell.cell-index x x
-    (slice_get-get_or c.args.rtl.now.cells c.loop-cell.cell-index no_cell inside)) in
     subst (λ (ns : List (Option Rails)). AreFirstDone c.args.rtl.now
     (c.loop-cell.cell-index + 1) c.args.net.now c.lower_first.new.net ns
     c.lower_first.new.pads) (sym c.in_ok-push.ensures.ok)
     (first_more c.args.rtl.now c.requires.sound c.loop-cell.cell-index c.args.net.now c.loop-cell.net
     c.lower_first.new.net
     c.loop-cell.cells c.loop-cell.pads c.lower_first.new.pads x c.in_ok-rails.rails
-    (inside, at) c.loop-cell.invariant made)
+    (slice_get-get_or c.args.rtl.now.cells c.loop-cell.cell-index no_cell inside) c.loop-cell.invariant made)
 
 pub returns : goal.returns
 returns c =

@@ -1,5 +1,6 @@
 use Rattle.std.proofs.Common.{ap, arith, suc}
 use Rattle.std.proofs.lemmas.Bool.{not-false}
+use Rattle.mp_base.proofs.Entries.{entry}
 use Rattle.rtl_form.specs.Environment.{is_driven}
 use Rattle.datapath_making.specs.Steps.{IsPortMade, IsSlaveMade, IsStep}
 use Rattle.datapath_alloc.specs.Progress.{IsMadeTo}
@@ -26,14 +27,16 @@ add_port-requires-clause-cell c =
     let m = c.args.making.now in
     let p = c.requires.made in
     free_first c.args.rtl.now m.control m.names p.given.sound p.given.lowered m c.args.index 0 0 c.at-cell.result.now
-    (c.requires.cell, c.at-cell.ensures) (ap is_driven c.in-Input.is) p.begun p.cells
+    (entry c.args.rtl.now.cells c.args.index c.requires.cell c.at-cell.ensures) (ap is_driven c.in-Input.is) p.begun
+    p.cells
 
 pub add_slave-requires-clause-cell : goal.add_slave-requires-clause-cell
 add_slave-requires-clause-cell c =
     let m = c.args.making.now in
     let p = c.requires.made in
     free_first c.args.rtl.now m.control m.names p.given.sound p.given.lowered m c.args.index 0 0 c.at-cell.result.now
-    (c.requires.cell, c.at-cell.ensures) (ap is_driven c.in-Stored.is) p.begun p.cells
+    (entry c.args.rtl.now.cells c.args.index c.requires.cell c.at-cell.ensures) (ap is_driven c.in-Stored.is) p.begun
+    p.cells
 
 pub add_port-requires-clause-pad : goal.add_port-requires-clause-pad
 add_port-requires-clause-pad c =
@@ -41,7 +44,7 @@ add_port-requires-clause-pad c =
     let p = c.requires.made in
     free_pad c.args.rtl.now m.control m.names p.given.sound p.given.lowered m c.args.index 0 0 c.in-Input.pad (
       c.at-cell.result.now,
-      (c.requires.cell, c.at-cell.ensures),
+      entry c.args.rtl.now.cells c.args.index c.requires.cell c.at-cell.ensures,
       c.in-Input.is,
       not-false c.at-cell.result.now.word c.if-not-cell.false,
     ) p.begun p.cells
@@ -55,7 +58,7 @@ returns-in-Input-clause-made c =
     (λ step port. rebased c.args.rtl.now m.control m.names (suc c.args.index) 0 0 new
     (port_done c.args.rtl.now m.control m.names m new c.args.index c.requires.made c.in-Input.pad (
       c.at-cell.result.now,
-      (c.requires.cell, c.at-cell.ensures),
+      entry c.args.rtl.now.cells c.args.index c.requires.cell c.at-cell.ensures,
       c.in-Input.is,
       not-false c.at-cell.result.now.word c.if-not-cell.false,
     ) step port))
@@ -70,7 +73,7 @@ returns-in-Stored-clause-made c =
     (λ step slave. rebased c.args.rtl.now m.control m.names (suc c.args.index) 0 0 new
     (slave_done c.args.rtl.now m.control m.names m new c.args.index c.requires.made (
       c.at-cell.result.now,
-      (c.requires.cell, c.at-cell.ensures),
+      entry c.args.rtl.now.cells c.args.index c.requires.cell c.at-cell.ensures,
       c.in-Stored.is,
       not-false c.at-cell.result.now.word c.if-not-cell.false,
     ) step slave))

@@ -1,4 +1,5 @@
 use Rattle.std.proofs.Common.{◌+◌, ◌*◌, ◌∙◌, suc, length, refl, sym, arith}
+use Rattle.mp_base.proofs.Entries.{entry}
 use Rattle.path_values.specs.Allocated.{transfers_to}
 use Rattle.datapath_making.specs.Sizes.{cast_cost}
 use Rattle.datapath_making.specs.Steps.{IsNextMade, IsStep}
@@ -13,7 +14,8 @@ use Rattle.datapath_alloc.proofs.next_values.add_next_of.Goals as goal
 pub add_next-requires-clause-room : goal.add_next-requires-clause-room
 add_next-requires-clause-room c =
     let m = c.args.making.now in
-    let w = stored_parts c.args.rtl.now c.args.index c.at-cell.result.now (c.requires.cell, c.at-cell.ensures)
+    let w = stored_parts c.args.rtl.now c.args.index c.at-cell.result.now
+    (entry c.args.rtl.now.cells c.args.index c.requires.cell c.at-cell.ensures)
     (sym c.is_stored.ensures ∙ c.if-is_stored.true) in
     room_next c.args.rtl.now m.control m.names m (length c.args.rtl.now.cells) (length m.names.tasks) c.args.index
     (6 + 4 * length (transfers_to c.args.rtl.now c.args.index)) (omega arith) c.requires.cell
@@ -23,7 +25,8 @@ pub add_next-requires-clause-transfers : goal.add_next-requires-clause-transfers
 add_next-requires-clause-transfers c =
     let m = c.args.making.now in
     let p = c.requires.made in
-    let w = stored_parts c.args.rtl.now c.args.index c.at-cell.result.now (c.requires.cell, c.at-cell.ensures)
+    let w = stored_parts c.args.rtl.now c.args.index c.at-cell.result.now
+    (entry c.args.rtl.now.cells c.args.index c.requires.cell c.at-cell.ensures)
     (sym c.is_stored.ensures ∙ c.if-is_stored.true) in
     transfers_reached c.args.rtl.now m.control m.names p.given.sound p.given.lowered m (length m.names.tasks)
     c.args.index w.0 (omega arith) c.requires.marks p.begun p.exprs w.1 w.3
@@ -40,7 +43,8 @@ pub returns-then-is_stored-clause-made : goal.returns-then-is_stored-clause-made
 returns-then-is_stored-clause-made c =
     let m = c.args.making.now in
     let new = c.add_next.new.making in
-    let w = stored_parts c.args.rtl.now c.args.index c.at-cell.result.now (c.requires.cell, c.at-cell.ensures)
+    let w = stored_parts c.args.rtl.now c.args.index c.at-cell.result.now
+    (entry c.args.rtl.now.cells c.args.index c.requires.cell c.at-cell.ensures)
     (sym c.is_stored.ensures ∙ c.if-is_stored.true) in
     done_two
     (IsStep (5 + 4 * length (transfers_to c.args.rtl.now c.args.index) + cast_cost m.clear)
@@ -58,7 +62,8 @@ pub returns-else-is_stored-clause-made : goal.returns-else-is_stored-clause-made
 returns-else-is_stored-clause-made c =
     let m = c.args.making.now in
     no_next_done c.args.rtl.now m.control m.names m (length c.args.rtl.now.cells) (length m.names.tasks) c.args.index
-    c.at-cell.result.now c.requires.made (c.requires.cell, c.at-cell.ensures)
+    c.at-cell.result.now c.requires.made
+    (entry c.args.rtl.now.cells c.args.index c.requires.cell c.at-cell.ensures)
     (sym c.is_stored.ensures ∙ c.if-is_stored.false)
 
 pub returns-then-is_stored-clause-words : goal.returns-then-is_stored-clause-words

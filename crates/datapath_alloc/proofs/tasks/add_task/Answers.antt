@@ -4,7 +4,7 @@ use Rattle.rtl_form.specs.declared.rtl.RtlExpr.TheVariants.{Apply, Number}
 use Rattle.rtl_form.specs.declared.rtl.RtlExpr.TheVariants as exprs
 use Rattle.rtl_form.specs.declared.rtl.Cell as cells
 use Rattle.mp_base.specs.Entries.{IsAt}
-use Rattle.mp_base.proofs.ListEntries.{one_entry}
+use Rattle.mp_base.proofs.Entries.{entry, one_entry, within}
 use Rattle.task_schedule.specs.declared.task.Task.TheVariants.{Cell, Expr}
 use Rattle.path_values.specs.Allocated.{transfers_to}
 use Rattle.datapath_making.specs.Steps.{IsDrivenMade, IsNumberMade, IsStep, read_cell}
@@ -56,7 +56,8 @@ read_cell-requires-clause-cell c =
     let is = c.task_at.ensures ∙ ap Some c.in-Expr.is in
     let l = c.requires.made.given.lowered.placed.schedule.only c.args.index (Expr c.in-Expr.expr) is in
     let at : IsAt c.args.rtl.now.exprs c.in-Expr.expr (exprs.Cell c.in-Cell-at.cell)
-    = subst (IsAt c.args.rtl.now.exprs c.in-Expr.expr) c.in-Cell-at.is (l, c.at.ensures) in
+    = subst (IsAt c.args.rtl.now.exprs c.in-Expr.expr) c.in-Cell-at.is
+    (entry c.args.rtl.now.exprs c.in-Expr.expr l c.at.ensures) in
     let fits = c.requires.made.given.sound.exprs c.in-Expr.expr (exprs.Cell c.in-Cell-at.cell) at in
     let n = c.requires.made.begun.cell_count in
     omega (arith, fits, n)
@@ -70,7 +71,8 @@ add_operator-requires-clause-asked c =
     let at : IsAt c.args.rtl.now.exprs c.in-Expr.expr
     (Apply c.in-Apply.op c.in-Apply.index c.as_slice.result.now)
     = subst (IsAt c.args.rtl.now.exprs c.in-Expr.expr)
-    (c.in-Apply.is ∙ ap (Apply c.in-Apply.op c.in-Apply.index) (sym c.as_slice.ensures)) (l, c.at.ensures) in
+    (c.in-Apply.is ∙ ap (Apply c.in-Apply.op c.in-Apply.index) (sym c.as_slice.ensures))
+    (entry c.args.rtl.now.exprs c.in-Expr.expr l c.at.ensures) in
     asked c.args.rtl.now m.control m.names m c.args.index p c.in-Expr.expr c.in-Apply.op c.in-Apply.index
     c.as_slice.result.now is at c.requires.marked.slices c.requires.marked.control
 
@@ -78,7 +80,8 @@ pub at-requires-in-Cell : goal.at-requires-in-Cell
 at-requires-in-Cell c =
     let m = c.args.making.now in
     let is = c.task_at.ensures ∙ ap Some c.in-Cell.is in
-    (c.requires.made.given.lowered.placed.schedule.only c.args.index (Cell c.in-Cell.cell) is).1.0
+    within c.args.rtl.now.cells c.in-Cell.cell
+    (c.requires.made.given.lowered.placed.schedule.only c.args.index (Cell c.in-Cell.cell) is).1
 
 pub add_driven-requires-clause-room : goal.add_driven-requires-clause-room
 add_driven-requires-clause-room c =
@@ -87,7 +90,8 @@ add_driven-requires-clause-room c =
     let is = c.task_at.ensures ∙ ap Some c.in-Cell.is in
     let d = p.given.lowered.placed.schedule.only c.args.index (Cell c.in-Cell.cell) is in
     let same = one_entry c.args.rtl.now.cells c.in-Cell.cell c.at-in-Cell.result.now d.0
-    (d.1.0, c.at-in-Cell.ensures) d.1 in
+    (entry c.args.rtl.now.cells c.in-Cell.cell
+    (within c.args.rtl.now.cells c.in-Cell.cell d.1) c.at-in-Cell.ensures) d.1 in
     let e = driven_pays c.args.rtl.now c.in-Cell.cell d.0 d.1
     (ap (λ (x : cells.Cell). x.word) (sym same) ∙ c.if-at.true) d.2 in
     room_task c.args.rtl.now m.control m.names m c.args.index
@@ -110,7 +114,8 @@ add_driven-requires-clause-transfers c =
     let d = p.given.lowered.placed.schedule.only c.args.index (Cell c.in-Cell.cell) is in
     transfers_reached c.args.rtl.now m.control m.names p.given.sound p.given.lowered m c.args.index c.in-Cell.cell
     c.at-in-Cell.result.now (let l = c.requires.task in omega (arith, l)) c.requires.marked.control p.begun p.exprs
-    (d.1.0, c.at-in-Cell.ensures) c.if-at.true
+    (entry c.args.rtl.now.cells c.in-Cell.cell
+    (within c.args.rtl.now.cells c.in-Cell.cell d.1) c.at-in-Cell.ensures) c.if-at.true
     (cell_reads c.args.rtl.now m.control m.names p.given.sound p.given.lowered c.args.index c.in-Cell.cell is)
 
 pub returns-in-Number-clause-made : goal.returns-in-Number-clause-made
@@ -121,7 +126,8 @@ returns-in-Number-clause-made c =
     let is = c.task_at.ensures ∙ ap Some c.in-Expr.is in
     let l = p.given.lowered.placed.schedule.only c.args.index (Expr c.in-Expr.expr) is in
     let at : IsAt c.args.rtl.now.exprs c.in-Expr.expr (Number c.in-Number.bits)
-    = subst (IsAt c.args.rtl.now.exprs c.in-Expr.expr) c.in-Number.is (l, c.at.ensures) in
+    = subst (IsAt c.args.rtl.now.exprs c.in-Expr.expr) c.in-Number.is
+    (entry c.args.rtl.now.exprs c.in-Expr.expr l c.at.ensures) in
     done_two (IsStep 1 0 m new) (IsNumberMade c.in-Expr.expr c.in-Number.bits m new)
     (IsMadeTo c.args.rtl.now (length c.args.rtl.now.cells) (suc c.args.index) 0 new) c.add_number.result
     (λ step made. rebased c.args.rtl.now m.control m.names (length c.args.rtl.now.cells) (suc c.args.index) 0 new
@@ -135,7 +141,8 @@ returns-in-Truth-clause-made c =
     let is = c.task_at.ensures ∙ ap Some c.in-Expr.is in
     let l = p.given.lowered.placed.schedule.only c.args.index (Expr c.in-Expr.expr) is in
     let at : IsAt c.args.rtl.now.exprs c.in-Expr.expr (exprs.Truth c.in-Truth.field-0)
-    = subst (IsAt c.args.rtl.now.exprs c.in-Expr.expr) c.in-Truth.is (l, c.at.ensures) in
+    = subst (IsAt c.args.rtl.now.exprs c.in-Expr.expr) c.in-Truth.is
+    (entry c.args.rtl.now.exprs c.in-Expr.expr l c.at.ensures) in
     truth_done c.args.rtl.now m.control m.names m c.args.index p c.in-Expr.expr c.in-Truth.field-0 is at
 
 pub returns-in-Cell-at-clause-made : goal.returns-in-Cell-at-clause-made
@@ -145,7 +152,8 @@ returns-in-Cell-at-clause-made c =
     let is = c.task_at.ensures ∙ ap Some c.in-Expr.is in
     let l = p.given.lowered.placed.schedule.only c.args.index (Expr c.in-Expr.expr) is in
     let at : IsAt c.args.rtl.now.exprs c.in-Expr.expr (exprs.Cell c.in-Cell-at.cell)
-    = subst (IsAt c.args.rtl.now.exprs c.in-Expr.expr) c.in-Cell-at.is (l, c.at.ensures) in
+    = subst (IsAt c.args.rtl.now.exprs c.in-Expr.expr) c.in-Cell-at.is
+    (entry c.args.rtl.now.exprs c.in-Expr.expr l c.at.ensures) in
     subst (IsMadeTo c.args.rtl.now (length c.args.rtl.now.cells) (suc c.args.index) 0) (sym c.read_cell.ensures.read)
     (read_done c.args.rtl.now m.control m.names m c.args.index p c.in-Expr.expr c.in-Cell-at.cell is at
     (subst IsWellMade c.read_cell.ensures.read c.read_cell.ensures.made))
@@ -160,7 +168,8 @@ returns-in-Apply-clause-made c =
     let at : IsAt c.args.rtl.now.exprs c.in-Expr.expr
     (Apply c.in-Apply.op c.in-Apply.index c.as_slice.result.now)
     = subst (IsAt c.args.rtl.now.exprs c.in-Expr.expr)
-    (c.in-Apply.is ∙ ap (Apply c.in-Apply.op c.in-Apply.index) (sym c.as_slice.ensures)) (l, c.at.ensures) in
+    (c.in-Apply.is ∙ ap (Apply c.in-Apply.op c.in-Apply.index) (sym c.as_slice.ensures))
+    (entry c.args.rtl.now.exprs c.in-Expr.expr l c.at.ensures) in
     on_ok_weaker
     c.add_operator.result
     (λ h. rebased c.args.rtl.now m.control m.names (length c.args.rtl.now.cells) (suc c.args.index) 0 new
@@ -190,7 +199,8 @@ returns-then-at-clause-made c =
     (IsMadeTo c.args.rtl.now (length c.args.rtl.now.cells) (suc c.args.index) 0 new) c.add_driven.result
     (λ step made. rebased c.args.rtl.now m.control m.names (length c.args.rtl.now.cells) (suc c.args.index) 0 new
     (driven_done c.args.rtl.now m.control m.names m new c.args.index p c.in-Cell.cell c.at-in-Cell.result.now is
-    (d.1.0, c.at-in-Cell.ensures) c.if-at.true step made))
+    (entry c.args.rtl.now.cells c.in-Cell.cell
+    (within c.args.rtl.now.cells c.in-Cell.cell d.1) c.at-in-Cell.ensures) c.if-at.true step made))
     c.add_driven.ensures.step c.add_driven.ensures.driven
 
 pub returns-else-at-clause-made : goal.returns-else-at-clause-made
@@ -200,7 +210,8 @@ returns-else-at-clause-made c =
     let is = c.task_at.ensures ∙ ap Some c.in-Cell.is in
     let d = p.given.lowered.placed.schedule.only c.args.index (Cell c.in-Cell.cell) is in
     bit_cell_done c.args.rtl.now m.control m.names m c.args.index p c.in-Cell.cell c.at-in-Cell.result.now is
-    (d.1.0, c.at-in-Cell.ensures) c.if-at.false
+    (entry c.args.rtl.now.cells c.in-Cell.cell
+    (within c.args.rtl.now.cells c.in-Cell.cell d.1) c.at-in-Cell.ensures) c.if-at.false
 
 -- ---- what is shared
 
@@ -214,7 +225,7 @@ returns-in-Number-clause-sharing c =
     let is = c.task_at.ensures ∙ ap Some c.in-Expr.is in
     let l = c.requires.made.given.lowered.placed.schedule.only c.args.index (Expr c.in-Expr.expr) is in
     let at : IsAt r.exprs c.in-Expr.expr (Number c.in-Number.bits)
-    = subst (IsAt r.exprs c.in-Expr.expr) c.in-Number.is (l, c.at.ensures) in
+    = subst (IsAt r.exprs c.in-Expr.expr) c.in-Number.is (entry r.exprs c.in-Expr.expr l c.at.ensures) in
     on_ok_weaker
     c.add_number.result
     (shared_on r c.args.index b m c.requires.sharing now new c.in-Expr.expr (Number c.in-Number.bits) is at)
@@ -227,7 +238,7 @@ returns-in-Truth-clause-sharing c =
     let is = c.task_at.ensures ∙ ap Some c.in-Expr.is in
     let l = c.requires.made.given.lowered.placed.schedule.only c.args.index (Expr c.in-Expr.expr) is in
     let at : IsAt r.exprs c.in-Expr.expr (exprs.Truth c.in-Truth.field-0)
-    = subst (IsAt r.exprs c.in-Expr.expr) c.in-Truth.is (l, c.at.ensures) in
+    = subst (IsAt r.exprs c.in-Expr.expr) c.in-Truth.is (entry r.exprs c.in-Expr.expr l c.at.ensures) in
     nothing_on r c.args.index c.args.built.now m c.requires.sharing m c.in-Expr.expr (exprs.Truth c.in-Truth.field-0)
     is at (stays_same m m refl refl refl) refl tt
 
@@ -240,7 +251,7 @@ returns-in-Cell-at-clause-sharing c =
     let is = c.task_at.ensures ∙ ap Some c.in-Expr.is in
     let l = p.given.lowered.placed.schedule.only c.args.index (Expr c.in-Expr.expr) is in
     let at : IsAt r.exprs c.in-Expr.expr (exprs.Cell c.in-Cell-at.cell)
-    = subst (IsAt r.exprs c.in-Expr.expr) c.in-Cell-at.is (l, c.at.ensures) in
+    = subst (IsAt r.exprs c.in-Expr.expr) c.in-Cell-at.is (entry r.exprs c.in-Expr.expr l c.at.ensures) in
     let free = free_word r m.control m.names p.given.sound p.given.lowered m c.args.index c.in-Expr.expr is p.begun
     p.exprs in
     subst (IsSharing r (suc c.args.index) b) (sym c.read_cell.ensures.read)
@@ -259,7 +270,8 @@ returns-in-Apply-clause-sharing c =
     let l = c.requires.made.given.lowered.placed.schedule.only c.args.index (Expr e) is in
     let at : IsAt r.exprs e (Apply c.in-Apply.op c.in-Apply.index c.as_slice.result.now)
     = subst (IsAt r.exprs e)
-    (c.in-Apply.is ∙ ap (Apply c.in-Apply.op c.in-Apply.index) (sym c.as_slice.ensures)) (l, c.at.ensures) in
+    (c.in-Apply.is ∙ ap (Apply c.in-Apply.op c.in-Apply.index) (sym c.as_slice.ensures))
+    (entry r.exprs e l c.at.ensures) in
     on_ok_weaker
     c.add_operator.result
     (shared_on r c.args.index b m c.requires.sharing now new e

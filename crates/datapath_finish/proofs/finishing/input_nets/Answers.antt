@@ -2,6 +2,7 @@ use Rattle.std.proofs.Common.{◌+◌, ◌∙◌, List, subst, sym}
 use Rattle.mp_base.specs.declared.pad.Pad.{Pad}
 use Rattle.nor_net.specs.declared.net.NetId.{NetId}
 use Rattle.mp_base.specs.Entries.{IsAt}
+use Rattle.mp_base.proofs.Entries.{entry}
 use Rattle.datapath_finish.specs.Finishing.{AreInputNets, IsPadNet}
 use Rattle.datapath_finish.proofs.PadNets.{inputs_more}
 use Rattle.datapath_finish.proofs.finishing.input_nets.Goals as goal
@@ -14,6 +15,6 @@ loop-pad-preserved c =
     (inputs_more c.args.rtl.now c.args.making.now i c.loop-pad.inputs c.pad_net-net.result c.pad-item.result
     c.loop-pad.invariant
     (subst (λ (xs : List Pad). IsAt xs i c.pad-item.result) c.as_slice-pad-items.ensures
-    (c.loop-pad-test.true, c.pad-item.is))
+    (entry c.as_slice-pad-items.result.now i c.loop-pad-test.true c.pad-item.is))
     (subst (λ k. IsPadNet c.args.making.now k c.pad-item.result c.pad_net-net.result)
     (c.len.ensures ∙ c.loop-pad.invariant.count) c.pad_net-net.ensures))

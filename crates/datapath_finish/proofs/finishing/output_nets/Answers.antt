@@ -1,8 +1,9 @@
 use Rattle.std.proofs.Common.{List, false, get_or, length, ap, subst, arith}
+use Rattle.std.proofs.lemmas.Option.{slice_get-get_or}
 use Rattle.rtl_form.specs.declared.rtl.Cell as cells
 use Rattle.rtl_form.specs.declared.rtl.CellKind.TheVariants.{Input}
 use Rattle.mp_base.specs.Entries.{IsAt}
-use Rattle.datapath_finish.proofs.PadNets.{at_here, outputs_more, pad_in}
+use Rattle.datapath_finish.proofs.PadNets.{outputs_more, pad_in}
 use Rattle.datapath_finish.proofs.finishing.output_nets.Goals as goal
 
 pub put_output-requires-clause-pad : goal.put_output-requires-clause-pad
@@ -12,7 +13,7 @@ put_output-requires-clause-pad c k e =
     let l = c.len-index-end.ensures in
     let here = subst (λ (xs : List cells.Cell). IsAt xs c.loop-index.index (get_or c.as_slice.result.now
     c.loop-index.index d)) c.as_slice.ensures
-    (at_here c.as_slice.result.now c.loop-index.index d (omega (arith, c.loop-index-test.true, n, l))) in
+    (slice_get-get_or c.as_slice.result.now c.loop-index.index d (omega (arith, c.loop-index-test.true, n, l))) in
     let p = pad_in c.args.rtl.now c.requires.sound c.loop-index.index
     (get_or c.as_slice.result.now c.loop-index.index d) here k e in
     let t = c.loop-index.invariant.count in
@@ -25,7 +26,7 @@ loop-index-preserved c =
     let l = c.len-index-end.ensures in
     let here = subst (λ (xs : List cells.Cell). IsAt xs c.loop-index.index (get_or c.as_slice.result.now
     c.loop-index.index d)) c.as_slice.ensures
-    (at_here c.as_slice.result.now c.loop-index.index d (omega (arith, c.loop-index-test.true, n, l))) in
+    (slice_get-get_or c.as_slice.result.now c.loop-index.index d (omega (arith, c.loop-index-test.true, n, l))) in
     outputs_more c.args.rtl.now c.args.making.now c.requires.sound c.loop-index.index c.loop-index.outputs
     c.put_output.new.outputs (get_or c.as_slice.result.now c.loop-index.index d) c.loop-index.invariant here
     c.put_output.ensures

@@ -13,8 +13,8 @@ found : (tags : List Tag) (p : Option ℕ) {now : List Tag} {o : Option ℕ} →
     → FindsMeeting tags p
 found tags p {o = o} a b h = subst (FindsMeeting tags) b (subst (λ ts. FindsMeeting ts o) a h)
 
-pub returns-in-Some-clause-err : goal.returns-in-Some-clause-err
-returns-in-Some-clause-err c =
+pub returns-in-Some-clause-judged : goal.returns-in-Some-clause-judged
+returns-in-Some-clause-judged c =
     let net : Network = c.in_ok-net.net in
     let offset : ℕ = c.in-Some.offset in
     let h : IsFirstMeeting net.tags offset =
@@ -22,9 +22,9 @@ returns-in-Some-clause-err c =
     subst (IsFirstOfMask (covered c.args.shapes.now) c.args.labels.now) (sym c.refused.ensures)
     (meets_driver c.args.shapes.now c.args.labels.now net c.in_ok-net.ensures.ok offset h)
 
-pub returns-then-count-gt-MOST_NODES_AND_CHANNELS-clause-err :
-    goal.returns-then-count-gt-MOST_NODES_AND_CHANNELS-clause-err
-returns-then-count-gt-MOST_NODES_AND_CHANNELS-clause-err c =
+pub returns-then-count-gt-MOST_NODES_AND_CHANNELS-clause-judged :
+    goal.returns-then-count-gt-MOST_NODES_AND_CHANNELS-clause-judged
+returns-then-count-gt-MOST_NODES_AND_CHANNELS-clause-judged c =
     let net : Network = c.in_ok-net.net in
     let apart = found net.tags None c.as_slice.ensures c.in_default.is c.in_ok-offset.ensures in
     subst (IsFirstOfMask (covered c.args.shapes.now) c.args.labels.now) (sym c.too_many.ensures)
@@ -38,3 +38,6 @@ returns-clause-ok c =
     extracted c.args.shapes.now c.args.labels.now net c.in_ok-net.ensures.ok apart
     c.network_is_determined.ensures.numbering
     (omega (arith, c.if-count-gt-MOST_NODES_AND_CHANNELS.false, c.saturating_add-count.ensures, c.len.ensures))
+
+pub returns-clause-judged : goal.returns-clause-judged
+returns-clause-judged c = (c.in_ok-net.net, returns-clause-ok c)

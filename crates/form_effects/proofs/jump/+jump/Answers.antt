@@ -7,7 +7,7 @@ use Rattle.form_effects.specs.declared.jump.Jump.TheVariants.{To, Into}
 use Rattle.form_effects.specs.Linked.{landing_place, process_at}
 use Rattle.form_effects.specs.Jumps.{jump_from}
 use Rattle.form_effects.proofs.Jumping.{jump_behind, jump_here, landed}
-use Rattle.mp_base.proofs.Elements.{got}
+use Rattle.mp_base.proofs.Entries.{entry}
 use Rattle.form_effects.proofs.jump.+jump.Goals as goal
 
 pub jump_first-returns-in-Some : goal.jump_first-returns-in-Some
@@ -30,7 +30,7 @@ jump_of-returns-in-Set t c =
     let env = c.args.env.now in
     ap (jump_from (process_at c.args.program.now c.args.index))
     (sym (c.effects.ensures env c.args.form c.at-found.result.now
-    (got p.forms c.args.form c.at-found.result.now c.requires.inside c.at-found.ensures)
+    (entry p.forms c.args.form c.requires.inside c.at-found.ensures)
     ∙ ap (λ k. kind_effects (value_of p env) k (effects_of p env)) c.in-Set.is))
 
 pub jump_of-returns-in-Cond : goal.jump_of-returns-in-Cond
@@ -42,7 +42,7 @@ jump_of-returns-in-Cond t c =
     (branch_effects (value_of p env) bs (effects_of p env))) c.as_slice.ensures
     ∙ ap (jump_from (process_at c.args.program.now c.args.index))
     (sym (c.effects.ensures env c.args.form c.at-found.result.now
-    (got p.forms c.args.form c.at-found.result.now c.requires.inside c.at-found.ensures)
+    (entry p.forms c.args.form c.requires.inside c.at-found.ensures)
     ∙ ap (λ k. kind_effects (value_of p env) k (effects_of p env)) c.in-Cond.is))
 
 pub jump_of-returns-in-Par : goal.jump_of-returns-in-Par
@@ -54,7 +54,7 @@ jump_of-returns-in-Par t c =
     c.as_slice-in-Par.ensures
     ∙ ap (jump_from (process_at c.args.program.now c.args.index))
     (sym (c.effects.ensures env c.args.form c.at-found.result.now
-    (got p.forms c.args.form c.at-found.result.now c.requires.inside c.at-found.ensures)
+    (entry p.forms c.args.form c.requires.inside c.at-found.ensures)
     ∙ ap (λ k. kind_effects (value_of p env) k (effects_of p env)) c.in-Par.is))
 
 pub jump_of-returns-in-Go : goal.jump_of-returns-in-Go
@@ -69,7 +69,7 @@ jump_of-returns-in-Go t c =
     ∙ ap (landing_place q) c.in-Go.is)
     ∙ ap (jump_from q)
     (sym (c.effects.ensures env c.args.form x
-    (got p.forms c.args.form x c.requires.inside c.at-found.ensures)
+    (entry p.forms c.args.form c.requires.inside c.at-found.ensures)
     ∙ ap (λ k. kind_effects (value_of p env) k (effects_of p env)) c.in-Go.is))
 
 pub jump_of-returns-in-Call : goal.jump_of-returns-in-Call
@@ -84,7 +84,7 @@ jump_of-returns-in-Call t c =
     ∙ ap (landing_place q) c.in-Call.is)
     ∙ ap (jump_from q)
     (sym (c.effects.ensures env c.args.form x
-    (got p.forms c.args.form x c.requires.inside c.at-found.ensures)
+    (entry p.forms c.args.form c.requires.inside c.at-found.ensures)
     ∙ ap (λ k. kind_effects (value_of p env) k (effects_of p env)) c.in-Call.is))
 
 pub jump_of-returns-in-Return : goal.jump_of-returns-in-Return
@@ -93,5 +93,5 @@ jump_of-returns-in-Return t c =
     let env = c.args.env.now in
     ap (jump_from (process_at c.args.program.now c.args.index))
     (sym (c.effects.ensures env c.args.form c.at-found.result.now
-    (got p.forms c.args.form c.at-found.result.now c.requires.inside c.at-found.ensures)
+    (entry p.forms c.args.form c.requires.inside c.at-found.ensures)
     ∙ ap (λ k. kind_effects (value_of p env) k (effects_of p env)) c.in-Return.is))

@@ -5,7 +5,7 @@ use Rattle.mp_program.specs.declared.program.Expr.{Expr}
 use Rattle.mp_program.specs.Values.{kind_value, value_of}
 use Rattle.form_effects.specs.Linked.{named}
 use Rattle.form_effects.proofs.Entries.{made_at}
-use Rattle.mp_base.proofs.Elements.{got}
+use Rattle.mp_base.proofs.Entries.{entry}
 use Rattle.form_effects.proofs.value.+value.Goals as goal
 
 pub value-returns-in-Number : goal.value-returns-in-Number
@@ -13,7 +13,7 @@ value-returns-in-Number t c =
     let p = c.args.program.now in
     let env = c.args.env.now in
     sym (c.values.ensures env c.args.expr c.at-found.result.now
-    (got p.exprs c.args.expr c.at-found.result.now c.requires.inside c.at-found.ensures)
+    (entry p.exprs c.args.expr c.requires.inside c.at-found.ensures)
     ∙ ap (λ k. kind_value p env k (value_of p env)) c.in-Number.is)
 
 pub value-returns-then-i-env : goal.value-returns-then-i-env
@@ -26,7 +26,7 @@ value-returns-then-i-env t c =
     c.requires.linked.exprs c.requires.inside c.at-found.ensures c.index-i.ensures in
     ap (λ k. get_or env k 0) (link ∙ ap (named p.defs) c.in-Named.is)
     ∙ sym (c.values.ensures env c.args.expr x
-    (got p.exprs c.args.expr x c.requires.inside c.at-found.ensures)
+    (entry p.exprs c.args.expr c.requires.inside c.at-found.ensures)
     ∙ ap (λ k. kind_value p env k (value_of p env)) c.in-Named.is)
 
 pub value-returns-else-i-env : goal.value-returns-else-i-env
@@ -41,7 +41,7 @@ value-returns-else-i-env t c =
     sym (get_or_past env c.index-i.result.now 0 past)
     ∙ ap (λ k. get_or env k 0) (link ∙ ap (named p.defs) c.in-Named.is)
     ∙ sym (c.values.ensures env c.args.expr x
-    (got p.exprs c.args.expr x c.requires.inside c.at-found.ensures)
+    (entry p.exprs c.args.expr c.requires.inside c.at-found.ensures)
     ∙ ap (λ k. kind_value p env k (value_of p env)) c.in-Named.is)
 
 pub value-returns-in-True : goal.value-returns-in-True
@@ -49,7 +49,7 @@ value-returns-in-True t c =
     let p = c.args.program.now in
     let env = c.args.env.now in
     sym (c.values.ensures env c.args.expr c.at-found.result.now
-    (got p.exprs c.args.expr c.at-found.result.now c.requires.inside c.at-found.ensures)
+    (entry p.exprs c.args.expr c.requires.inside c.at-found.ensures)
     ∙ ap (λ k. kind_value p env k (value_of p env)) c.in-True.is)
 
 pub value-returns-in-False : goal.value-returns-in-False
@@ -57,7 +57,7 @@ value-returns-in-False t c =
     let p = c.args.program.now in
     let env = c.args.env.now in
     sym (c.values.ensures env c.args.expr c.at-found.result.now
-    (got p.exprs c.args.expr c.at-found.result.now c.requires.inside c.at-found.ensures)
+    (entry p.exprs c.args.expr c.requires.inside c.at-found.ensures)
     ∙ ap (λ k. kind_value p env k (value_of p env)) c.in-False.is)
 
 pub value-returns-in-Apply : goal.value-returns-in-Apply
@@ -67,5 +67,5 @@ value-returns-in-Apply t c =
     c.applied.ensures
     ∙ ap (λ xs. apply p.width c.in-Apply.op c.in-Apply.index (map (value_of p env) xs)) c.as_slice.ensures
     ∙ sym (c.values.ensures env c.args.expr c.at-found.result.now
-    (got p.exprs c.args.expr c.at-found.result.now c.requires.inside c.at-found.ensures)
+    (entry p.exprs c.args.expr c.requires.inside c.at-found.ensures)
     ∙ ap (λ k. kind_value p env k (value_of p env)) c.in-Apply.is)

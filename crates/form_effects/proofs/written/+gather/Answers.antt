@@ -3,7 +3,7 @@ use Rattle.std.specs.Prelude.{Some}
 use Rattle.std.specs.List.{flat_map}
 use Rattle.std.proofs.lemmas.Bool.{eq-eqb, ne_eqb}
 use Rattle.mp_base.specs.Merge.{merged}
-use Rattle.mp_base.proofs.Entries.{own_default}
+use Rattle.mp_base.proofs.Entries.{own_default, entry}
 use Rattle.mp_program.specs.declared.program.Form.{Form}
 use Rattle.mp_program.specs.Values.{value_of}
 use Rattle.mp_program.specs.Effects.{kind_effects, effects_of, branch_effects}
@@ -12,7 +12,6 @@ use Rattle.form_effects.specs.Written.{written_at}
 use Rattle.form_effects.proofs.Entries.{made_at}
 use Rattle.form_effects.proofs.Targets.{quiet_at, marked_inside}
 use Rattle.form_effects.proofs.Gathering.{more, set_merged}
-use Rattle.mp_base.proofs.Elements.{got}
 use Rattle.form_effects.proofs.written.+gather.Goals as goal
 
 pub gather-returns-then-is_quiet : goal.gather-returns-then-is_quiet
@@ -26,7 +25,7 @@ gather-returns-then-is_quiet t c =
     (marked_inside marks c.args.target c.args.form marked) in
     let x = own_default p.defs c.args.target inside in
     let quiet = c.requires.linked.quiet.each c.args.target x.0
-    (got p.defs c.args.target x.0 inside x.1) c.args.form c.requires.inside marked in
+    (entry p.defs c.args.target inside x.1) c.args.form c.requires.inside marked in
     sym (ap merged (quiet_at p.defs c.args.target x.0 (effects_of p env c.args.form) inside x.1
     (c.silence.ensures env (x.0).name c.args.form c.requires.inside quiet)))
 
@@ -42,7 +41,7 @@ gather-returns-then-index-target t c =
     ap (λ v. Some v) c.value.ensures ∙ set_merged true _ _ (eq-eqb _ _ same)
     ∙ ap (λ es. merged (written_at p.defs c.args.target es))
     (sym (c.effects.ensures env c.args.form x
-    (got p.forms c.args.form x c.requires.inside c.at-found.ensures)
+    (entry p.forms c.args.form c.requires.inside c.at-found.ensures)
     ∙ ap (λ k. kind_effects (value_of p env) k (effects_of p env)) c.in-Set.is))
 
 pub gather-returns-else-index-target : goal.gather-returns-else-index-target
@@ -57,7 +56,7 @@ gather-returns-else-index-target t c =
     (ne_eqb _ _ (λ same. c.if-index-target.false (link ∙ ap (target p.defs) c.in-Set.is ∙ same)))
     ∙ ap (λ es. merged (written_at p.defs c.args.target es))
     (sym (c.effects.ensures env c.args.form x
-    (got p.forms c.args.form x c.requires.inside c.at-found.ensures)
+    (entry p.forms c.args.form c.requires.inside c.at-found.ensures)
     ∙ ap (λ k. kind_effects (value_of p env) k (effects_of p env)) c.in-Set.is))
 
 pub gather-returns-in-Cond : goal.gather-returns-in-Cond
@@ -69,7 +68,7 @@ gather-returns-in-Cond t c =
     c.as_slice.ensures
     ∙ ap (λ es. merged (written_at p.defs c.args.target es))
     (sym (c.effects.ensures env c.args.form c.at-found.result.now
-    (got p.forms c.args.form c.at-found.result.now c.requires.inside c.at-found.ensures)
+    (entry p.forms c.args.form c.requires.inside c.at-found.ensures)
     ∙ ap (λ k. kind_effects (value_of p env) k (effects_of p env)) c.in-Cond.is))
 
 pub gather-returns-in-Par : goal.gather-returns-in-Par
@@ -80,7 +79,7 @@ gather-returns-in-Par t c =
     ∙ ap (λ fs. merged (written_at p.defs c.args.target (flat_map (effects_of p env) fs))) c.as_slice-in-Par.ensures
     ∙ ap (λ es. merged (written_at p.defs c.args.target es))
     (sym (c.effects.ensures env c.args.form c.at-found.result.now
-    (got p.forms c.args.form c.at-found.result.now c.requires.inside c.at-found.ensures)
+    (entry p.forms c.args.form c.requires.inside c.at-found.ensures)
     ∙ ap (λ k. kind_effects (value_of p env) k (effects_of p env)) c.in-Par.is))
 
 pub gather-returns-in-Go : goal.gather-returns-in-Go
@@ -89,7 +88,7 @@ gather-returns-in-Go t c =
     let env = c.args.env.now in
     ap (λ es. merged (written_at p.defs c.args.target es))
     (sym (c.effects.ensures env c.args.form c.at-found.result.now
-    (got p.forms c.args.form c.at-found.result.now c.requires.inside c.at-found.ensures)
+    (entry p.forms c.args.form c.requires.inside c.at-found.ensures)
     ∙ ap (λ k. kind_effects (value_of p env) k (effects_of p env)) c.in-Go.is))
 
 pub gather-returns-in-Call : goal.gather-returns-in-Call
@@ -98,7 +97,7 @@ gather-returns-in-Call t c =
     let env = c.args.env.now in
     ap (λ es. merged (written_at p.defs c.args.target es))
     (sym (c.effects.ensures env c.args.form c.at-found.result.now
-    (got p.forms c.args.form c.at-found.result.now c.requires.inside c.at-found.ensures)
+    (entry p.forms c.args.form c.requires.inside c.at-found.ensures)
     ∙ ap (λ k. kind_effects (value_of p env) k (effects_of p env)) c.in-Call.is))
 
 pub gather-returns-in-Return : goal.gather-returns-in-Return
@@ -107,7 +106,7 @@ gather-returns-in-Return t c =
     let env = c.args.env.now in
     ap (λ es. merged (written_at p.defs c.args.target es))
     (sym (c.effects.ensures env c.args.form c.at-found.result.now
-    (got p.forms c.args.form c.at-found.result.now c.requires.inside c.at-found.ensures)
+    (entry p.forms c.args.form c.requires.inside c.at-found.ensures)
     ∙ ap (λ k. kind_effects (value_of p env) k (effects_of p env)) c.in-Return.is))
 
 pub gather_all-loop-form-preserved : goal.gather_all-loop-form-preserved

@@ -1,7 +1,7 @@
 use Rattle.std.proofs.Common.{◌<◌, sym, ◌∙◌, ap, subst, length}
 use Rattle.std.specs.List.{flat_map, AllByRecursion}
 use Rattle.mp_base.specs.Merge.{join, merged}
-use Rattle.mp_base.proofs.Entries.{own_default}
+use Rattle.mp_base.proofs.Entries.{own_default, read_of}
 use Rattle.mp_program.specs.declared.program.Def.{Def}
 use Rattle.mp_program.specs.Names.{index_of}
 use Rattle.mp_program.specs.Effects.{effects_of}
@@ -11,7 +11,6 @@ use Rattle.form_effects.specs.Written.{written_at}
 use Rattle.form_effects.proofs.Entries.{made_at}
 use Rattle.mp_program.proofs.Definitions.{first_inside}
 use Rattle.form_effects.proofs.Targets.{all_filter, together}
-use Rattle.mp_base.proofs.Elements.{read_of}
 use Rattle.form_effects.proofs.written.written_to.Goals as goal
 
 pub written_by-always-requires-clause-inside : goal.written_by-always-requires-clause-inside

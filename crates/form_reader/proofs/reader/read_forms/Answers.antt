@@ -5,8 +5,8 @@ use Rattle.form_reader.proofs.Symbols.{has_symbols}
 use Rattle.form_reader.proofs.Unique.{one_value, refused_for_memory}
 use Rattle.form_reader.proofs.reader.read_forms.Goals as goal
 
-pub returns-clause-whole : goal.returns-clause-whole
-returns-clause-whole c = (c.in_ok-items.ensures.found.ended refl).whole
+pub returns-clause-judged : goal.returns-clause-judged
+returns-clause-judged c = (c.in_ok-items.ensures.found.ended refl).whole
 
 pub returns-clause-sound : goal.returns-clause-sound
 returns-clause-sound c =

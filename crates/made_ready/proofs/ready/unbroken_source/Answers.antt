@@ -1,6 +1,7 @@
 use Rattle.std.proofs.Common.{◌≡◌, Some, None, Err, subst}
 use Rattle.mp_checker.specs.Checking.{CheckedProgram}
-use Rattle.mp_source.specs.Source.{OfSource, IsJudged}
+use Rattle.mp_source.specs.Source.{OfSource}
+use Rattle.mp_base.specs.Refuses.{IsJudged}
 use Rattle.made_ready.proofs.ready.unbroken_source.Goals as goal
 
 pub unreachable-requires : goal.unreachable-requires

@@ -1,5 +1,5 @@
-use Rattle.std.proofs.lemmas.Result.{IfOk-weaker, IfErr-weaker}
-use Rattle.mask_net.proofs.Steps.{of_text}
+use Rattle.std.proofs.lemmas.Result.{IfOk-weaker}
+use Rattle.mask_net.proofs.Steps.{of_texts}
 use Rattle.mask_net.proofs.file.commands_in.Goals as goal
 
 pub returns-clause-ok : goal.returns-clause-ok
@@ -9,4 +9,4 @@ returns-clause-ok c =
     c.read_cif.ensures.whole
 
 pub returns-clause-err : goal.returns-clause-err
-returns-clause-err c = IfErr-weaker c.read_cif.result _ _ (of_text c.args.bytes.now) c.read_cif.ensures.first
+returns-clause-err c = of_texts c.args.bytes.now c.read_cif.result c.read_cif.ensures.judged

@@ -11,7 +11,7 @@ pub overflow_sub-first : goal.overflow_sub-first
 overflow_sub-first g c =
     let k = over_length c.one_colour.ensures g.drawn.0 g.drawn.1 c.args.masks.now.contacts c.args.masks.now.metal
     c.args.masks.now.polysilicon c.args.masks.now.diffusion c.args.cut.now c.args.classes.now.nodes
-    c.args.classes.now.channels c.requires.0 c.requires.1.0 c.requires.1.1 in
+    c.args.classes.now.channels c.requires.masks c.requires.cut c.requires.classed in
     let m : length c.as_slice-over.result.now ≡ length c.args.cut.now.polysilicon.over =
     ap length c.as_slice-over.ensures in
     let n = c.len.ensures in
@@ -21,7 +21,7 @@ pub gates-requires : goal.gates-requires
 gates-requires g c =
     let k = over_length c.one_colour.ensures g.drawn.0 g.drawn.1 c.args.masks.now.contacts c.args.masks.now.metal
     c.args.masks.now.polysilicon c.args.masks.now.diffusion c.args.cut.now c.args.classes.now.nodes
-    c.args.classes.now.channels c.requires.0 c.requires.1.0 c.requires.1.1 in
+    c.args.classes.now.channels c.requires.masks c.requires.cut c.requires.classed in
     let m : length c.as_slice-over.result.now ≡ length c.args.cut.now.polysilicon.over =
     ap length c.as_slice-over.ensures in
     let n = c.len.ensures in
@@ -29,7 +29,7 @@ gates-requires g c =
     + length g.drawn.1 = omega arith in
     has_gate c.one_colour.ensures g.drawn.0 g.drawn.1 c.args.masks.now.contacts c.args.masks.now.metal
     c.args.masks.now.polysilicon c.args.masks.now.diffusion c.args.cut.now c.args.classes.now.nodes
-    c.args.classes.now.channels c.requires.0 c.requires.1.0 c.requires.1.1
+    c.args.classes.now.channels c.requires.masks c.requires.cut c.requires.classed
     (length c.as_slice-over.result.now - c.len.result) c.as_slice-over.result.now c.as_slice-pieces.result.now
     c.as_slice-nodes.result.now c.as_slice-roots.result.now e c.as_slice-over.ensures c.as_slice-pieces.ensures
     c.as_slice-nodes.ensures c.as_slice-roots.ensures
@@ -39,19 +39,19 @@ all_ends-requires-clause-tiles g c =
     subst₂ (λ (a : List ℕ) (ps : List Pair). All (λ (p : Pair). (p.a < length a) × (p.b < length a)) ps)
     (sym c.as_slice.ensures) (sym c.as_slice-touching.ensures)
     (are_inside ND c.args.masks.now.diffusion.tiles c.args.masks.now.diffusion.pairs c.args.cut.now.diffusion.numbers
-    c.args.cut.now.pieces c.requires.0.diffusion_swept.pairs c.requires.1.0.diffusion_numbers).tiles
+    c.args.cut.now.pieces c.requires.masks.diffusion_swept.pairs c.requires.cut.diffusion_numbers).tiles
 
 pub all_ends-requires-clause-pieces : goal.all_ends-requires-clause-pieces
 all_ends-requires-clause-pieces g c =
     subst₂ (λ a ps. All (λ (k : ℕ). k < length ps) a) (sym c.as_slice.ensures) (sym c.as_slice-pieces.ensures)
     (are_inside ND c.args.masks.now.diffusion.tiles c.args.masks.now.diffusion.pairs c.args.cut.now.diffusion.numbers
-    c.args.cut.now.pieces c.requires.0.diffusion_swept.pairs c.requires.1.0.diffusion_numbers).pieces_in
+    c.args.cut.now.pieces c.requires.masks.diffusion_swept.pairs c.requires.cut.diffusion_numbers).pieces_in
 
 pub mark-requires-clause-within : goal.mark-requires-clause-within
 mark-requires-clause-within g c =
     number_inside c.one_colour.ensures g.drawn.0 g.drawn.1 c.args.masks.now.contacts c.args.masks.now.metal
     c.args.masks.now.polysilicon c.args.masks.now.diffusion c.args.cut.now c.args.classes.now.nodes
-    c.args.classes.now.channels c.requires.0 c.requires.1.0 c.requires.1.1
+    c.args.classes.now.channels c.requires.masks c.requires.cut c.requires.classed
     Plain refl c.as_slice-pieces.result.now c.as_slice-numbers.result.now c.as_slice-roots.result.now
     c.as_slice-pieces.ensures c.as_slice-numbers.ensures c.as_slice-roots.ensures
 
@@ -59,7 +59,7 @@ pub mark-requires-2-clause-within : goal.mark-requires-2-clause-within
 mark-requires-2-clause-within g c =
     number_inside c.one_colour.ensures g.drawn.0 g.drawn.1 c.args.masks.now.contacts c.args.masks.now.metal
     c.args.masks.now.polysilicon c.args.masks.now.diffusion c.args.cut.now c.args.classes.now.nodes
-    c.args.classes.now.channels c.requires.0 c.requires.1.0 c.requires.1.1
+    c.args.classes.now.channels c.requires.masks c.requires.cut c.requires.classed
     Implanted refl c.as_slice-pieces.result.now c.as_slice-numbers.result.now c.as_slice-roots.result.now
     c.as_slice-pieces.ensures c.as_slice-numbers.ensures c.as_slice-roots.ensures
 
@@ -67,7 +67,7 @@ pub returns : goal.returns
 returns g c =
     let k = over_length c.one_colour.ensures g.drawn.0 g.drawn.1 c.args.masks.now.contacts c.args.masks.now.metal
     c.args.masks.now.polysilicon c.args.masks.now.diffusion c.args.cut.now c.args.classes.now.nodes
-    c.args.classes.now.channels c.requires.0 c.requires.1.0 c.requires.1.1 in
+    c.args.classes.now.channels c.requires.masks c.requires.cut c.requires.classed in
     let m : length c.as_slice-over.result.now ≡ length c.args.cut.now.polysilicon.over =
     ap length c.as_slice-over.ensures in
     let n = c.len.ensures in
@@ -75,7 +75,7 @@ returns g c =
     + length g.drawn.1 = omega arith in
     channels_then c.one_colour.ensures g.drawn.0 g.drawn.1 c.args.masks.now.contacts c.args.masks.now.metal
     c.args.masks.now.polysilicon c.args.masks.now.diffusion c.args.cut.now c.args.classes.now.nodes
-    c.args.classes.now.channels c.requires.0 c.requires.1.0 c.requires.1.1
+    c.args.classes.now.channels c.requires.masks c.requires.cut c.requires.classed
     (length c.as_slice-over.result.now - c.len.result) c.as_slice-over.result.now c.as_slice-pieces.result.now
     c.as_slice-nodes.result.now c.as_slice-numbers.result.now c.as_slice-roots.result.now c.as_slice.result.now
     c.as_slice-touching.result.now

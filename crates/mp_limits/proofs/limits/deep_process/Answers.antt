@@ -2,10 +2,8 @@ use Rattle.std.proofs.Common.{rules, tests}
 use Rattle.std.proofs.lemmas.Iterator.{YieldsList-from_slice}
 use Rattle.std.proofs.lemmas.Iterator.Consumers.{YieldsList-from_filter_map, fold_from_yields_List}
 use Rattle.mp_rules.specs.Breaking.{earlier}
-use Rattle.std.specs.Prelude.{nat_lt}
-use Rattle.mp_program.specs.declared.program.Process.{Process}
 use Rattle.mp_limits.specs.Finding.{place_that}
-use Rattle.mp_limits.proofs.Limited.{deep_earliest, depth_place}
+use Rattle.mp_limits.proofs.Limited.{deep_earliest, depth_place, is_too_deep}
 use Rattle.mp_limits.proofs.limits.deep_process.Goals as goal
 
 pub returns : goal.returns
@@ -13,6 +11,6 @@ returns c =
     let p = c.args.program.now in
     deep_earliest p c.fold.result
     (fold_from_yields_List _ earlier _ _ c.fold.ensures.ran
-    (YieldsList-from_filter_map _ (place_that depth_place (λ (q : Process). nat_lt 8 q.depth))
+    (YieldsList-from_filter_map _ (place_that depth_place is_too_deep)
     (YieldsList-from_slice p.processes cc) c.filter_map.ensures.closure (λ x r q k. search (rules, tests)))
     (λ a x b q k. search (rules, tests)))

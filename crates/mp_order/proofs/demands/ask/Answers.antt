@@ -1,9 +1,10 @@
-use Rattle.std.proofs.Common.{◌≡◌, ◌+◌, ◌-◌, ◌<◌, ℕ, List, sym, ◌∙◌, ap, subst, refl, length, arith, get_or}
+use Rattle.std.proofs.Common.{◌≡◌, ◌+◌, ◌-◌, ◌<◌, ℕ, List, sym, ◌∙◌, ap, subst, length, arith, get_or}
 use Rattle.mp_program.specs.declared.program.Form.{Form}
 use Rattle.mp_base.specs.Entries.{IsAt}
+use Rattle.mp_base.proofs.Entries.{entry, within, one_entry}
 use Rattle.mp_order.specs.Tables.{Lifted}
 use Rattle.mp_order.specs.Demands.{Asks}
-use Rattle.mp_order.proofs.Tables.{lifted_none, lifted_as, one_entry}
+use Rattle.mp_order.proofs.Tables.{lifted_none, lifted_as}
 use Rattle.mp_order.proofs.Asking.{ask_none, ask_set}
 use Rattle.mp_order.proofs.demands.ask.Goals.{in-Set+then-mark-gt0, in-Set+else-mark-gt0, in_default}
 use Rattle.mp_order.proofs.demands.ask.Goals as goal
@@ -17,7 +18,8 @@ pub loop-n-preserved : goal.loop-n-preserved
 loop-n-preserved c =
     let A : List Form → Type 0 = λ xs. IsAt xs c.loop-n.n c.form-item.result in
     let at : IsAt c.args.program.now.forms c.loop-n.n c.form-item.result =
-    subst A c.as_slice-form-items.ensures (c.loop-n-test.true, c.form-item.is) in
+    subst A c.as_slice-form-items.ensures
+    (entry c.as_slice-form-items.result.now c.loop-n.n c.loop-n-test.true c.form-item.is) in
     let P : List ℕ
     → Type 0 = λ xs. Lifted
     (Asks c.args.program.now c.args.meanings.now c.args.tops.now c.args.marks.now (c.loop-n.n + 1)) c.args.demands.now
@@ -52,7 +54,7 @@ loop-n-preserved c =
           c.args.demands.now c.loop-n.demands c.loop-n.invariant
           (λ y name there v yn kind some. w.in_default.not-Set name there v
           (ap (λ (x : Form). x.kind)
-          (one_entry c.args.program.now.forms c.loop-n.n c.loop-n.n c.form-item.result y refl at yn) ∙ kind)))
+          (one_entry c.args.program.now.forms c.loop-n.n c.form-item.result y at yn) ∙ kind)))
     ]
 
 pub returns : goal.returns
@@ -68,7 +70,7 @@ returns c =
       name,
       there,
       v,
-      at.0,
+      within c.args.program.now.forms f at,
       at,
       kind,
       target,
@@ -81,8 +83,7 @@ returns c =
       name,
       there,
       v,
-      omega
-          (arith, at.0, e, c.loop-n-test.false),
+      omega (arith, within c.args.program.now.forms f at, e, c.loop-n-test.false),
       at,
       kind,
       target,

@@ -2,6 +2,7 @@ use Rattle.std.proofs.Common.{◌≡◌, inl, inr, ◌+◌, ℕ, List, ◌∙◌
 use Rattle.std.specs.Prelude.{Contains}
 use Rattle.mp_order.specs.Tables.{Lifted}
 use Rattle.mp_base.specs.Entries.{IsAt}
+use Rattle.mp_base.proofs.Entries.{entry}
 use Rattle.mp_order.proofs.Tables.{lifted_none}
 use Rattle.mp_order.proofs.Branches.{Highest, GivesBelow, highest_none, highest_more, branches_more, branches_done}
 use Rattle.mp_order.proofs.demands.mark_branches.Goals.{then-high-guard, else-high-guard}
@@ -17,7 +18,7 @@ loop-branch-init c = (
 pub loop-branch-preserved : goal.loop-branch-preserved
 loop-branch-preserved c =
     let at : IsAt c.args.branches.now c.loop-branch.branch-index c.branch-item.result =
-    (c.loop-branch-test.true, c.branch-item.is) in
+    entry c.args.branches.now c.loop-branch.branch-index c.loop-branch-test.true c.branch-item.is in
     let guard : c.from-guard.result ≡ get_or c.args.tops.now c.branch-item.result.guard 0 =
     c.from-guard.ensures ∙ c.read.ensures in
     let h : Highest c.args.tops.now c.args.branches.now c.args.mark

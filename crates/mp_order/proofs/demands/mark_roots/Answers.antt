@@ -2,6 +2,7 @@ use Rattle.std.proofs.Common.{◌≡◌, inl, inr, length, ℕ, List, subst, ap,
 use Rattle.std.specs.Prelude.{Contains}
 use Rattle.mp_program.specs.declared.program.Process.{Process}
 use Rattle.mp_base.specs.Entries.{IsAt}
+use Rattle.mp_base.proofs.Entries.{entry}
 use Rattle.mp_order.specs.Tables.{Lifted}
 use Rattle.mp_order.proofs.Tables.{lifted_as}
 use Rattle.mp_order.proofs.Marks.{RootBelow, roots_more, roots_done}
@@ -24,7 +25,9 @@ pub loop-process-preserved : goal.loop-process-preserved
 loop-process-preserved c =
     let A : List Process → Type 0 = λ xs. IsAt xs c.loop-process.process-index c.process-item.result in
     let at : IsAt c.args.program.now.processes c.loop-process.process-index c.process-item.result =
-    subst A c.as_slice-process-items.ensures (c.loop-process-test.true, c.process-item.is) in
+    subst A c.as_slice-process-items.ensures
+    (entry c.as_slice-process-items.result.now c.loop-process.process-index c.loop-process-test.true c.process-item.is)
+    in
     let P : List ℕ
     → Type 0 = λ xs. Lifted
     (λ f k. Contains xs f × (k ≡ 1)) c.loop-process.marks c.lift_all-in-loop-process.new.numbers in

@@ -1,6 +1,7 @@
 use Rattle.std.proofs.Common.{◌≡◌, ◌+◌, ◌<◌, ℕ, List, sym, ◌∙◌, ap, subst, length, replicate, arith, get_or}
 use Rattle.mp_program.specs.declared.program.Form.{Form}
 use Rattle.mp_base.specs.Entries.{IsAt}
+use Rattle.mp_base.proofs.Entries.{entry}
 use Rattle.mp_order.specs.Tables.{Lifted}
 use Rattle.mp_order.specs.Demands.{Gives}
 use Rattle.mp_order.proofs.Marks.{Marking, marking_roots, marking_skip, marking_more, marking_done}
@@ -17,7 +18,8 @@ pub loop-n-preserved : goal.loop-n-preserved
 loop-n-preserved c =
     let A : List Form → Type 0 = λ xs. IsAt xs c.loop-n.n c.index-forms-n.result in
     let at : IsAt c.args.program.now.forms c.loop-n.n c.index-forms-n.result =
-    subst A c.as_slice-forms.ensures (c.loop-n-test.true, c.index-forms-n.is) in
+    subst A c.as_slice-forms.ensures
+    (entry c.as_slice-forms.result.now c.loop-n.n c.loop-n-test.true c.index-forms-n.is) in
     let P : List ℕ → Type 0 = λ xs. Marking c.args.program.now c.args.tops.now (c.loop-n.n + 1) xs in
     elim c.if-mark-gt0.branch [
       | then-mark-gt0 w ↦

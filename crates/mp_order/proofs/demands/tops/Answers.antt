@@ -9,7 +9,7 @@ use Rattle.mp_program.specs.declared.program.ExprKind.TheVariants.{Apply}
 use Rattle.mp_program.specs.Sound.{ArgsFit}
 use Rattle.mp_program.specs.Names.{is_same}
 use Rattle.mp_base.specs.Entries.{IsAt}
-use Rattle.mp_base.proofs.ListEntries.{get_at}
+use Rattle.mp_base.proofs.Entries.{entry, within}
 use Rattle.mp_order.specs.Demands.{AreTops}
 use Rattle.mp_order.proofs.Mentions.{Greatest, IsTop, tops_none, tops_more, top_named, top_apply, top_zero, top_as}
 use Rattle.mp_order.proofs.Mentions.{mentions_none}
@@ -33,10 +33,10 @@ loop-expr-preserved c =
     let A : List Expr → Type 0 = λ xs. IsAt xs (c.loop-expr.expr - 1) c.index-exprs-expr.result in
     let at : IsAt c.args.program.now.exprs (c.loop-expr.expr - 1) c.index-exprs-expr.result =
     subst A c.as_slice-exprs.ensures
-    (omega (arith, c.loop-expr.invariant.1, c.loop-expr-test.true), c.index-exprs-expr.is) in
-    let got = get_at c.args.program.now.exprs (c.loop-expr.expr - 1) c.index-exprs-expr.result at in
+    (entry c.as_slice-exprs.result.now (c.loop-expr.expr - 1)
+    (omega (arith, c.loop-expr.invariant.1, c.loop-expr-test.true)) c.index-exprs-expr.is) in
     let next : c.loop-expr.expr ≡ (c.loop-expr.expr - 1) + 1 = omega (arith, c.loop-expr-test.true) in
-    let same = λ (name : List ℕ). c.mentions.ensures name (c.loop-expr.expr - 1) c.index-exprs-expr.result got in
+    let same = λ (name : List ℕ). c.mentions.ensures name (c.loop-expr.expr - 1) c.index-exprs-expr.result at in
     let read = ap (λ (x : Expr). x.kind) c.index-exprs-expr.is in
     let top : IsTop c.args.program.now c.args.weights.now
     (λ name. mentions c.args.program.now name (c.loop-expr.expr - 1)) c.match-exprs-expr.top =
@@ -62,7 +62,7 @@ loop-expr-preserved c =
           (let F : ExprKind → Type 0 = λ k. ArgsFit (c.loop-expr.expr - 1) (length c.args.program.now.exprs) k in
           let f : F (Apply w.in-Apply.op w.in-Apply.index w.in-Apply.args) =
           subst F (read ∙ w.in-Apply.is)
-          (c.sound.ensures.exprs (c.loop-expr.expr - 1) c.index-exprs-expr.result got) in f.1)
+          (c.sound.ensures.exprs (c.loop-expr.expr - 1) c.index-exprs-expr.result at) in f.1)
           (let N : List ℕ → Type 0 = λ xs. Greatest xs w.in-Apply.args c.match-exprs-expr.top in
           let I : List ℕ → Type 0 = λ xs. Greatest w.as_slice-in-Apply.result.now xs c.match-exprs-expr.top in
           let R : ℕ → Type 0 = λ r. Greatest w.as_slice-in-Apply.result.now w.as_slice-in-Apply-2.result.now r in
@@ -81,6 +81,7 @@ loop-expr-preserved c =
     let P : List ℕ → Type 0 = λ xs. AreTops c.args.program.now c.args.weights.now (c.loop-expr.expr - 1) xs in (
       subst P (sym c.put.ensures)
           (tops_more c.args.program.now c.args.weights.now c.loop-expr.tops c.loop-expr.expr
-          (c.loop-expr.expr - 1) c.match-exprs-expr.top c.loop-expr.invariant.0 next at.0 top),
+          (c.loop-expr.expr - 1) c.match-exprs-expr.top c.loop-expr.invariant.0 next
+          (within c.args.program.now.exprs (c.loop-expr.expr - 1) at) top),
       omega (arith, c.loop-expr.invariant.1),
     )

@@ -1,6 +1,7 @@
 use Rattle.std.proofs.Common.{◌≡◌, ◌+◌, List, Option, true, false, sym, ◌∙◌, ap, subst, refl, arith, get_or, length}
 use Rattle.mp_program.specs.declared.program.Form.{Form}
 use Rattle.mp_base.specs.Entries.{IsAt}
+use Rattle.mp_base.proofs.Entries.{entry}
 use Rattle.mp_order.specs.declared.earliest.Setting.{Setting}
 use Rattle.mp_order.proofs.Settings.{EarliestBelow, below_all, found_skip, found_set, not_before, is_before}
 use Rattle.mp_order.proofs.earliest.earliest.Goals.{then-is_set+then-read-gt0+then-precedes, else-is_set}
@@ -13,7 +14,8 @@ pub loop-n-preserved : goal.loop-n-preserved
 loop-n-preserved c =
     let A : List Form → Type 0 = λ xs. IsAt xs c.loop-n.n c.form-item.result in
     let at : IsAt c.args.program.now.forms c.loop-n.n c.form-item.result =
-    subst A c.as_slice-form-items.ensures (c.loop-n-test.true, c.form-item.is) in
+    subst A c.as_slice-form-items.ensures
+    (entry c.as_slice-form-items.result.now c.loop-n.n c.loop-n-test.true c.form-item.is) in
     let means : c.read-target.result ≡ get_or c.args.meanings.now.targets c.loop-n.n 0 =
     c.read-target.ensures ∙ ap (λ xs. get_or xs c.loop-n.n 0) c.as_slice.ensures in
     let P : Option Setting

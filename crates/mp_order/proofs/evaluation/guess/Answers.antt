@@ -34,7 +34,8 @@ returns-then-branch c =
     c.in_ok-is_ranking.ensures c.if-not-branch.false in
     let found : SetsFlagged c.args.program.now c.args.meanings.now c.as_slice-loose.result.now c.in-Some.setting.target
     c.in-Some.setting.place
-    × ((at : Place) → FlaggedSet c.args.program.now c.args.meanings.now c.as_slice-loose.result.now at → (c.in-Some.setting.place).offset ≤ at.offset) = c.in-Some.ensures in
+    × ((at : Place) → FlaggedSet c.args.program.now c.args.meanings.now c.as_slice-loose.result.now at
+    → (c.in-Some.setting.place).offset ≤ at.offset) = c.in-Some.ensures in
     closed_earliest c.args.program.now c.args.meanings.now c.as_slice-loose.result.now c.in-Some.setting
     c.requires.meant c.requires.own
     (ranking_flags c.args.program.now c.as_slice-2.result.now c.as_slice-loose.result.now ranking) found.0 found.1

@@ -2,6 +2,7 @@ use Rattle.std.proofs.Common.{◌≡◌, ℕ, List, sym, ◌∙◌, ap, subst, a
 use Rattle.std.proofs.lemmas.List.{length-set}
 use Rattle.mp_program.specs.declared.program.Def.{Def}
 use Rattle.mp_base.specs.Entries.{IsAt}
+use Rattle.mp_base.proofs.Entries.{entry}
 use Rattle.mp_order.specs.Demands.{WeighsDriven}
 use Rattle.mp_order.proofs.Judging.{kept_driven}
 use Rattle.mp_order.proofs.judge.keep_driven.Goals.{then-is_driven, else-is_driven}
@@ -17,7 +18,8 @@ pub loop-d-preserved : goal.loop-d-preserved
 loop-d-preserved c =
     let A : List Def → Type 0 = λ xs. IsAt xs c.loop-d.d c.def-item.result in
     let at : IsAt c.args.program.now.defs c.loop-d.d c.def-item.result =
-    subst A c.as_slice-def-items.ensures (c.loop-d-test.true, c.def-item.is) in
+    subst A c.as_slice-def-items.ensures
+    (entry c.as_slice-def-items.result.now c.loop-d.d c.loop-d-test.true c.def-item.is) in
     let P : List ℕ → Type 0 = λ xs. (length xs ≡ length c.args.program.now.defs) × WeighsDriven c.args.program.now xs in
     elim c.if-is_driven.branch [
       | then-is_driven w ↦ subst P (sym (w.kept-is ∙ w.put.ensures)) (

@@ -1,7 +1,15 @@
-use Rattle.std.proofs.Common.{subst, List, ℕ}
+use Rattle.std.proofs.Common.{subst, sym, ◌∙◌, ap, replicate, List, ℕ}
 use Rattle.mp_order.specs.Demands.{AreDemands}
-use Rattle.mp_order.proofs.Reaching.{reaching_more, reaching_done}
+use Rattle.mp_order.proofs.Reaching.{Reaching, reaching_start, reaching_more, reaching_done}
 use Rattle.mp_order.proofs.search.reachers.Goals as goal
+
+pub spread-init : goal.spread-init
+spread-init c =
+    let (x, driven) = c.requires.driven in
+    let P : List ℕ → Type 0 = λ xs. Reaching c.args.program.now c.args.target xs in
+    subst P (sym c.set.ensures)
+    (reaching_start c.args.program.now c.args.target x c.in_ok-weights.weights driven
+    (c.in_ok-weights.ensures ∙ ap (λ n. replicate n 0) c.len.ensures))
 
 pub spread-preserved : goal.spread-preserved
 spread-preserved c =

@@ -1,12 +1,12 @@
-use Rattle.std.proofs.Common.{◌≡◌, ◌+◌, ◌<◌, ◌≤◌, ℕ, List, true, false, sym, ◌∙◌, ap, subst, refl, arith, get_or}
+use Rattle.std.proofs.Common.{◌≡◌, ◌+◌, ◌<◌, ◌≤◌, ℕ, List, true, false, sym, ◌∙◌, ap, subst, arith, get_or}
 use Rattle.std.proofs.Common.{length, Vec, Global}
 use Rattle.mp_base.specs.declared.refusal.Place.{Place}
+use Rattle.mp_base.proofs.Entries.{entry, one_entry}
 use Rattle.mp_program.specs.declared.program.Def.{Def}
 use Rattle.mp_program.specs.Names.{is_driven}
 use Rattle.mp_program.specs.Reads.{IsOrder}
 use Rattle.mp_order.specs.Demands.{IsDriven}
 use Rattle.mp_order.specs.Chains.{Placed, SetsFlagged, FlaggedSet}
-use Rattle.mp_order.proofs.Tables.{one_entry}
 use Rattle.mp_order.proofs.Closing.{FlagsClosed, closed_earliest, none_broken, none_flagged, start_set}
 use Rattle.mp_order.proofs.Ordering.{Ordering, ordering_skip, ordering_closed, ordering_placed, ordering_flags}
 use Rattle.mp_order.proofs.Ordering.{ordering_done}
@@ -27,8 +27,10 @@ loop-d-preserved c =
     let items = λ (v : Vec ℕ Global). v.items in
     elim c.if-is_driven.branch [
       | then-is_driven+in_ok-reach w ↦
-          let driven : IsDriven c.args.program.now c.loop-d.d c.at.result.now =
-          ((inside, c.at.ensures), sym c.is_driven.ensures ∙ w.if-is_driven.true) in
+          let driven : IsDriven c.args.program.now c.loop-d.d c.at.result.now = (
+            entry c.args.program.now.defs c.loop-d.d inside c.at.ensures,
+            sym c.is_driven.ensures ∙ w.if-is_driven.true,
+          ) in
           elim w.if-read_wide-gt0.branch [
             | then-read_wide-gt0 v ↦
                 to _ c.loop-d.order.items (w.closed-is ∙ v.closed-is ∙ v.set.ensures)
@@ -52,8 +54,8 @@ loop-d-preserved c =
           (ordering_skip c.args.program.now c.loop-d.d c.loop-d.closed c.loop-d.order.items c.loop-d.invariant
           (λ x driven. let e : false ≡ true =
           sym w.if-is_driven.false ∙ c.is_driven.ensures ∙ ap (λ (y : Def). is_driven y.what)
-          (one_entry c.args.program.now.defs c.loop-d.d c.loop-d.d c.at.result.now x refl
-          (inside, c.at.ensures) driven.0) ∙ driven.1 in cc))
+          (one_entry c.args.program.now.defs c.loop-d.d c.at.result.now x
+          (entry c.args.program.now.defs c.loop-d.d inside c.at.ensures) driven.0) ∙ driven.1 in cc))
     ]
 
 pub returns-in-Some : goal.returns-in-Some

@@ -3,9 +3,9 @@ use Rattle.std.proofs.Common.{get_or, length}
 use Rattle.mp_program.specs.declared.program.Def.{Def}
 use Rattle.mp_program.specs.Names.{is_driven}
 use Rattle.mp_base.specs.Entries.{IsAt}
+use Rattle.mp_base.proofs.Entries.{entry, within, one_entry}
 use Rattle.mp_order.specs.Demands.{IsDriven}
 use Rattle.mp_order.specs.Chains.{Widened, blanks}
-use Rattle.mp_order.proofs.Tables.{one_entry}
 use Rattle.mp_order.proofs.Reaching.{widened_skip, widened_more, blank_filled}
 use Rattle.mp_order.proofs.search.widen.Goals.{then-is_driven+then-read_wide-gt0+then-read-eq0, else-is_driven}
 use Rattle.mp_order.proofs.search.widen.Goals.{else-is_driven-via-then-is_driven+then-read_wide-gt0+else-read-eq0}
@@ -17,8 +17,10 @@ pub loop-d-preserved : goal.loop-d-preserved
 loop-d-preserved c =
     let A : List Def → Type 0 = λ xs. IsAt xs c.loop-d.d c.def-item.result in
     let at : IsAt c.args.program.now.defs c.loop-d.d c.def-item.result =
-    subst A c.as_slice-def-items.ensures (c.loop-d-test.true, c.def-item.is) in
-    let inside : c.loop-d.d < length c.loop-d.weights = omega (arith, at.0, c.loop-d.invariant.0.size, c.requires) in
+    subst A c.as_slice-def-items.ensures
+    (entry c.as_slice-def-items.result.now c.loop-d.d c.loop-d-test.true c.def-item.is) in
+    let inside : c.loop-d.d < length c.loop-d.weights =
+    omega (arith, within c.args.program.now.defs c.loop-d.d at, c.loop-d.invariant.0.size, c.requires) in
     let P : List ℕ → Bool
     → Type 0 = λ xs b. Widened c.args.program.now c.args.demands.now (c.loop-d.d + 1) c.args.weights.now xs
     × (b ≡ false → xs ≡ c.args.weights.now)
@@ -30,7 +32,7 @@ loop-d-preserved c =
     let same = λ (x : Def) (driven : IsDriven c.args.program.now c.loop-d.d x).
     c.is_driven.ensures
     ∙ ap (λ (y : Def). is_driven y.what)
-    (one_entry c.args.program.now.defs c.loop-d.d c.loop-d.d c.def-item.result x (omega arith) at driven.0)
+    (one_entry c.args.program.now.defs c.loop-d.d c.def-item.result x at driven.0)
     ∙ driven.1 in
     elim c.if-is_driven.branch [
       | then-is_driven+then-read_wide-gt0+then-read-eq0 w ↦

@@ -13,22 +13,22 @@ use Rattle.mp_source.proofs.judge.check_source.Goals as goal
 
 pub returns-in-Err-clause-judged : goal.returns-in-Err-clause-judged
 returns-in-Err-clause-judged c =
-    let first : RefusesText c.args.text.now c.in-Err.refusal = c.in-Err.ensures.first in
+    let first : RefusesText c.args.text.now c.in-Err.refusal = c.in-Err.ensures.judged in
     of_text CheckedProgram c.args.text.now c.in-Err.refusal first
 
 pub returns-in-Err-parse-clause-judged : goal.returns-in-Err-parse-clause-judged
 returns-in-Err-parse-clause-judged c =
     let spells : Spells c.args.text.now c.in-Ok.forms = c.in-Ok.ensures.spelled in
     let sound : IsSound c.in-Ok.forms = c.in-Ok.ensures.sound in
-    let first : RefusesAt E c.in-Err-parse.refusal (IsFirstOfForms c.in-Ok.forms) = c.in-Err-parse.ensures.err in
+    let first : RefusesAt E c.in-Err-parse.refusal (IsFirstOfForms c.in-Ok.forms) = c.in-Err-parse.ensures.judged in
     of_forms CheckedProgram c.args.text.now c.in-Ok.forms spells sound c.in-Err-parse.refusal first
 
 pub returns-in-Ok-check-clause-source : goal.returns-in-Ok-check-clause-source
 returns-in-Ok-check-clause-source c =
     let spells : Spells c.args.text.now c.in-Ok.forms = c.in-Ok.ensures.spelled in
     let shape : IsShape c.in-Ok.forms c.in-Ok-parse.program = c.in-Ok-parse.ensures.shape in
-    let is : c.in-Ok-check.checked.program ≡ c.in-Ok-parse.program = (c.in-Ok-check.ensures.ok).0 in
-    let unbroken : IsUnbroken c.in-Ok-parse.program = (c.in-Ok-check.ensures.ok).1 in
+    let is : c.in-Ok-check.checked.program ≡ c.in-Ok-parse.program = c.in-Ok-check.ensures.program in
+    let unbroken : IsUnbroken c.in-Ok-parse.program = c.in-Ok-check.ensures.judged in
     subst (IsSource c.args.text.now) (sym is) (record {
       spells = record { forms = c.in-Ok.forms; spelled = spells; shape = shape };
       unbroken = unbroken;
@@ -42,6 +42,6 @@ returns-clause-judged c =
     let spells : Spells c.args.text.now c.in-Ok.forms = c.in-Ok.ensures.spelled in
     let sound : IsSound c.in-Ok.forms = c.in-Ok.ensures.sound in
     let shape : IsShape c.in-Ok.forms c.in-Ok-parse.program = c.in-Ok-parse.ensures.shape in
-    let first : RefusesProgram c.in-Ok-parse.program c.in-Err-check.refusal = c.in-Err-check.ensures.err in
+    let first : RefusesProgram c.in-Ok-parse.program c.in-Err-check.refusal = c.in-Err-check.ensures.judged in
     of_program CheckedProgram c.args.text.now c.in-Ok.forms c.in-Ok-parse.program spells sound shape
     c.broken_at_a_place.ensures c.in-Err-check.refusal first

@@ -10,8 +10,8 @@ use Rattle.mp_syntax.proofs.parser.parse.Goals as goal
 pub at-root-requires : goal.at-root-requires
 at-root-requires c = some_form c.args.forms.now c.in-Ok.ensures.whole
 
-pub returns-in-Err-clause-err : goal.returns-in-Err-clause-err
-returns-in-Err-clause-err c = shape_refused c.args.forms.now c.in-Err.refusal c.in-Err.ensures.err
+pub returns-in-Err-clause-judged : goal.returns-in-Err-clause-judged
+returns-in-Err-clause-judged c = shape_refused c.args.forms.now c.in-Err.refusal c.in-Err.ensures.err
 
 pub items_at-requires-clause-inside : goal.items_at-requires-clause-inside
 items_at-requires-clause-inside c =
@@ -44,8 +44,8 @@ node_at-requires c =
           (root_read f c.in-Ok.ensures.whole c.at-root.result.now c.at-root.ensures),
     )
 
-pub returns-then-width-eq0-clause-err : goal.returns-then-width-eq0-clause-err
-returns-then-width-eq0-clause-err c =
+pub returns-then-width-eq0-clause-judged : goal.returns-then-width-eq0-clause-judged
+returns-then-width-eq0-clause-judged c =
     let f = c.args.forms.now in
     let known : Known f c.in-Ok.classes =
     record { sound = c.requires.sound; symbols = c.requires.symbols; classes = c.in-Ok.ensures.ok } in
@@ -55,8 +55,8 @@ returns-then-width-eq0-clause-err c =
     (inl (sym c.number_at-width.ensures ∙ c.if-width-eq0.true)) c.wrong_width.result c.node_at.result.now.place
     (ap (λ (n : Node). n.place) c.node_at.ensures) c.wrong_width.ensures
 
-pub returns-then-width-gt32-clause-err : goal.returns-then-width-gt32-clause-err
-returns-then-width-gt32-clause-err c =
+pub returns-then-width-gt32-clause-judged : goal.returns-then-width-gt32-clause-judged
+returns-then-width-gt32-clause-judged c =
     let f = c.args.forms.now in
     let known : Known f c.in-Ok.classes =
     record { sound = c.requires.sound; symbols = c.requires.symbols; classes = c.in-Ok.ensures.ok } in
@@ -72,8 +72,8 @@ pub program_of-requires-clause-one : goal.program_of-requires-clause-one
 program_of-requires-clause-one c =
     root_read c.args.forms.now c.in-Ok.ensures.whole c.at-root.result.now c.at-root.ensures
 
-pub returns-clause-whole : goal.returns-clause-whole
-returns-clause-whole c = λ at e.
+pub returns-clause-judged : goal.returns-clause-judged
+returns-clause-judged c = λ at e.
     let f = c.args.forms.now in
     let one : f.roots ≡ c.at-root.result.now ∷ [] =
     root_read f c.in-Ok.ensures.whole c.at-root.result.now c.at-root.ensures in

@@ -3,6 +3,7 @@ use Rattle.std.specs.Ordering.{nat_cmp}
 use Rattle.std.specs.Cmp.Lexicographic.{slice_cmp}
 use Rattle.std.specs.BTreeSet.{UpdatesBy}
 use Rattle.mp_base.specs.declared.refusal.Place.{Place}
+use Rattle.mp_base.proofs.Entries.{entry}
 use Rattle.mp_transfers.specs.Labels.{has}
 use Rattle.mp_transfers.proofs.Naming.{Told, told_again, told_new, told_all}
 use Rattle.mp_transfers.proofs.labels.repeated_in.Goals.{then-not-branch, else-not-branch}
@@ -21,12 +22,14 @@ loop-label-preserved c =
       | then-not-branch w ↦ subst P (sym (w.found-is ∙ w.earlier-found.ensures))
           (told_again
           (λ at. c.args.found ≡ Some at) c.loop-label.names c.insert.new.self c.args.labels.now i c.loop-label.found
-          c.label-item.result c.loop-label.invariant (omega arith, c.label-item.is) updates
+          c.label-item.result c.loop-label.invariant (entry c.args.labels.now i (omega arith) c.label-item.is)
+          updates
           (subst (A false) c.bytes.ensures (sym w.if-not-branch.true ∙ c.in_ok-insert.ensures.added)))
       | else-not-branch w ↦ subst P (sym w.found-is)
           (told_new
           (λ at. c.args.found ≡ Some at) c.loop-label.names c.insert.new.self c.args.labels.now i c.loop-label.found
-          c.label-item.result c.loop-label.invariant (omega arith, c.label-item.is) updates
+          c.label-item.result c.loop-label.invariant (entry c.args.labels.now i (omega arith) c.label-item.is)
+          updates
           (subst (A true) c.bytes.ensures (sym w.if-not-branch.false ∙ c.in_ok-insert.ensures.added)))
     ]
 

@@ -2,6 +2,7 @@ use Rattle.std.proofs.Common.{◌≡◌, ◌⊎◌, List, Some, length, arith, a
 use Rattle.mp_program.specs.declared.program.Label.{Label}
 use Rattle.mp_program.specs.declared.program.Process.{Process}
 use Rattle.mp_base.specs.Entries.{IsAt}
+use Rattle.mp_base.proofs.Entries.{entry}
 use Rattle.mp_rules.specs.Breaking.{IsEarliest}
 use Rattle.mp_transfers.specs.Labels.{IsRepeated}
 use Rattle.mp_transfers.proofs.Earliest.{upto_then, upto_all}
@@ -15,7 +16,9 @@ loop-process-preserved c =
     let Q : List Label
     → Type 0 = λ xs. IsEarliest (λ at. (c.loop-process.found ≡ Some at) ⊎ IsRepeated xs at) c.in_ok-found.found in
     upto_then c.loop-process.invariant q
-    (subst P c.as_slice-process-items.ensures (omega arith, c.process-item.is)) c.in_ok-found.found
+    (subst P c.as_slice-process-items.ensures
+    (entry c.as_slice-process-items.result.now c.loop-process.process-index (omega arith) c.process-item.is))
+    c.in_ok-found.found
     (subst Q c.as_slice.ensures c.in_ok-found.ensures)
 
 pub returns : goal.returns

@@ -2,8 +2,8 @@ use Rattle.std.proofs.Common.{◌≡◌, ◌+◌, ◌<◌, ℕ, List, length, ar
 use Rattle.std.specs.Prelude.{All}
 use Rattle.mp_program.specs.declared.program.Form.{Form}
 use Rattle.mp_program.specs.Weight.{inner}
+use Rattle.std.proofs.lemmas.Option.{slice_get-get_or}
 use Rattle.mp_base.specs.Entries.{IsAt}
-use Rattle.mp_transfers.proofs.Earliest.{at_index}
 use Rattle.mp_transfers.proofs.Inside.{inner_inside}
 use Rattle.mp_transfers.proofs.Marking.{Marking, marking_start, marking_skip, marking_more, marking_all}
 use Rattle.mp_transfers.proofs.marks.mark.Goals.{then-as_slice-f, else-as_slice-f}
@@ -23,7 +23,7 @@ mark_inside-end-requires c =
     let y : Form = slice_index_or c.as_slice-forms.result.now f c.index-forms-f.result in
     let P : List Form → Type 0 = λ xs. IsAt xs f y in
     let at : IsAt c.args.program.now.forms f y =
-    subst P c.as_slice-forms.ensures (at_index c.as_slice-forms.result.now f c.index-forms-f.result lt) in
+    subst P c.as_slice-forms.ensures (slice_get-get_or c.as_slice-forms.result.now f c.index-forms-f.result lt) in
     let Q : ℕ → Type 0 = λ n. All (λ g. g < n) (inner y.kind) in
     subst Q (sym c.loop-f.invariant.size) (inner_inside c.args.program.now c.sound.ensures f y at)
 
@@ -39,7 +39,7 @@ loop-f-preserved c =
           let y : Form = slice_index_or c.as_slice-forms.result.now f w.index-forms-f.result in
           let P : List Form → Type 0 = λ xs. IsAt xs f y in
           let at : IsAt c.args.program.now.forms f y =
-          subst P c.as_slice-forms.ensures (at_index c.as_slice-forms.result.now f w.index-forms-f.result lt) in
+          subst P c.as_slice-forms.ensures (slice_get-get_or c.as_slice-forms.result.now f w.index-forms-f.result lt) in
           let Q : List ℕ → Type 0 = λ ms. slice_index_or ms f 0 ≡ c.args.number in
           subst N (sym w.marks-is) (subst (M w.mark_inside-end.new.marks) (sym w.end-is)
           (marking_more c.args.program.now c.args.roots.now c.args.number c.loop-f.marks w.mark_inside-end.new.marks f

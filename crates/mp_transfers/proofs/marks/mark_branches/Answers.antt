@@ -2,6 +2,7 @@ use Rattle.std.proofs.Common.{◌<◌, ℕ, List, length, take, arith, sym, subs
 use Rattle.std.specs.Prelude.{All}
 use Rattle.std.specs.List.{flat_map}
 use Rattle.mp_program.specs.declared.program.Branch.{Branch}
+use Rattle.mp_base.proofs.Entries.{entry}
 use Rattle.mp_transfers.specs.Marks.{IsMarking}
 use Rattle.mp_transfers.proofs.Lists.{all_flat}
 use Rattle.mp_transfers.proofs.Marking.{marking_append, bodies_more, bodies_all}
@@ -14,7 +15,7 @@ mark_forms-next-requires c =
     subst P (sym c.as_slice.ensures) (subst Q (sym c.loop-branch.invariant.size)
     (all_flat (λ f. f < length c.args.marks.now)
     (λ (b : Branch). b.body) c.args.branches.now c.loop-branch.branch-index c.branch-item.result c.requires
-    (omega arith, c.branch-item.is)))
+    (entry c.args.branches.now c.loop-branch.branch-index (omega arith) c.branch-item.is)))
 
 pub loop-branch-preserved : goal.loop-branch-preserved
 loop-branch-preserved c =
@@ -25,7 +26,8 @@ loop-branch-preserved c =
     let P : List ℕ
     → Type 0 = λ xs. IsMarking xs c.args.number c.args.end c.args.marks.now c.mark_forms-next.new.marks
     c.mark_forms-next.result in
-    subst P (sym (bodies_more c.args.branches.now i c.branch-item.result (omega arith, c.branch-item.is)))
+    subst P (sym (bodies_more c.args.branches.now i c.branch-item.result
+    (entry c.args.branches.now i (omega arith) c.branch-item.is)))
     (marking_append
     (flat_map (λ (b : Branch). b.body) (take i c.args.branches.now)) c.branch-item.result.body c.args.number c.args.end
     c.args.marks.now c.loop-branch.marks c.mark_forms-next.new.marks

@@ -3,6 +3,7 @@ use Rattle.std.specs.Prelude.{All}
 use Rattle.std.specs.List.{flat_map}
 use Rattle.mp_program.specs.declared.program.Branch.{Branch}
 use Rattle.mp_rules.specs.Breaking.{IsEarliest}
+use Rattle.mp_base.proofs.Entries.{entry}
 use Rattle.mp_transfers.specs.Tables.{IsAmong}
 use Rattle.mp_transfers.proofs.Earliest.{upto_then, upto_all, InAny, earliest_same}
 use Rattle.mp_transfers.proofs.Lists.{all_flat, flat_in, flat_out}
@@ -14,14 +15,15 @@ least-found-requires c =
     subst P (sym c.as_slice.ensures)
     (all_flat (λ f. f < length c.args.table.now)
     (λ (b : Branch). b.body) c.args.branches.now c.loop-branch.branch-index c.branch-item.result c.requires
-    (omega arith, c.branch-item.is))
+    (entry c.args.branches.now c.loop-branch.branch-index (omega arith) c.branch-item.is))
 
 pub loop-branch-preserved : goal.loop-branch-preserved
 loop-branch-preserved c =
     let P : List ℕ
     → Type 0 = λ xs. IsEarliest
     (λ at. (c.loop-branch.found ≡ Some at) ⊎ IsAmong c.args.table.now xs at) c.least-found.result in
-    upto_then c.loop-branch.invariant c.branch-item.result (omega arith, c.branch-item.is) c.least-found.result
+    upto_then c.loop-branch.invariant c.branch-item.result
+    (entry c.args.branches.now c.loop-branch.branch-index (omega arith) c.branch-item.is) c.least-found.result
     (subst P c.as_slice.ensures c.least-found.ensures)
 
 pub returns : goal.returns

@@ -1,10 +1,10 @@
 use Rattle.std.proofs.Common.{◌≡◌, ◌+◌, ℕ, Bool, Option, Some, get_or, arith, sym, ◌∙◌, ap, subst}
 use Rattle.std.specs.Option.{is_some}
 use Rattle.std.proofs.lemmas.List.{get_or_read}
+use Rattle.std.proofs.lemmas.Option.{slice_get-get_or}
 use Rattle.mp_base.specs.declared.refusal.Place.{Place}
 use Rattle.mp_base.specs.Entries.{IsAt}
 use Rattle.mp_transfers.specs.Tables.{join, entry}
-use Rattle.mp_transfers.proofs.Earliest.{at_index}
 use Rattle.mp_transfers.proofs.Entries.{Run, run_on, run_first, run_all}
 use Rattle.mp_transfers.proofs.transfers.behind_first.Goals.{then-begun, else-begun}
 use Rattle.mp_transfers.proofs.transfers.behind_first.Goals as goal
@@ -13,7 +13,7 @@ pub loop-form-preserved : goal.loop-form-preserved
 loop-form-preserved c =
     let i : ℕ = c.loop-form.form-index in
     let x : ℕ = get_or c.args.forms.now i 0 in
-    let at : IsAt c.args.forms.now i x = at_index c.args.forms.now i 0 (omega arith) in
+    let at : IsAt c.args.forms.now i x = slice_get-get_or c.args.forms.now i 0 (omega arith) in
     let e : c.at.result.now ≡ entry c.args.table.now x =
     get_or_read c.args.table.now x c.at.result.now (c.requires i 0 (omega arith)) c.at.ensures _ in
     let P : Bool → Option Place

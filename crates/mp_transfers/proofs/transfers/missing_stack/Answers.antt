@@ -2,6 +2,7 @@ use Rattle.std.proofs.Common.{◌≡◌, ◌⊎◌, inl, inr, ◌+◌, List, ℕ
 use Rattle.mp_base.specs.declared.refusal.Place.{Place}
 use Rattle.mp_program.specs.declared.program.Process.{Process}
 use Rattle.mp_base.specs.Entries.{IsAt}
+use Rattle.mp_base.proofs.Entries.{entry}
 use Rattle.mp_rules.specs.Breaking.{IsEarliest}
 use Rattle.mp_transfers.specs.Tables.{IsAmong}
 use Rattle.mp_transfers.proofs.Earliest.{Upto, upto_then, upto_skip, upto_all, earliest_same}
@@ -15,7 +16,8 @@ loop-process-preserved c =
     let q : Process = c.process-item.result in
     let P : List Process → Type 0 = λ xs. IsAt xs i q in
     let at : IsAt c.args.program.now.processes i q =
-    subst P c.as_slice-process-items.ensures (omega arith, c.process-item.is) in
+    subst P c.as_slice-process-items.ensures
+    (entry c.as_slice-process-items.result.now i (omega arith) c.process-item.is) in
     let R : Option Place
     → Type 0 = Upto (λ at. ⊥) c.args.program.now.processes
     (λ k (q : Process) at. (q.depth ≡ 0) × IsAmong c.in_ok-firsts.firsts q.forms at) (i + 1) in

@@ -1,6 +1,7 @@
 use Rattle.std.proofs.Common.{◌≡◌, ◌⊎◌, List, ℕ, Some, length, arith, ap, subst}
 use Rattle.mp_program.specs.declared.program.Process.{Process}
 use Rattle.mp_base.specs.Entries.{IsAt}
+use Rattle.mp_base.proofs.Entries.{entry}
 use Rattle.mp_rules.specs.Breaking.{IsEarliest}
 use Rattle.mp_transfers.specs.Tables.{IsAmong}
 use Rattle.mp_transfers.proofs.Earliest.{upto_then, upto_all}
@@ -16,7 +17,9 @@ loop-process-preserved c =
     → Type 0 = λ xs. IsEarliest
     (λ at. (c.loop-process.found ≡ Some at) ⊎ IsAmong c.in_ok-seconds.seconds xs at) c.least-found.result in
     upto_then c.loop-process.invariant q
-    (subst P c.as_slice-process-items.ensures (omega arith, c.process-item.is)) c.least-found.result
+    (subst P c.as_slice-process-items.ensures
+    (entry c.as_slice-process-items.result.now i (omega arith) c.process-item.is))
+    c.least-found.result
     (subst Q c.as_slice.ensures c.least-found.ensures)
 
 pub returns : goal.returns

@@ -1,13 +1,14 @@
 use Rattle.std.proofs.Common.{◌≡◌, ◌∙◌, ◌+◌, ◌<◌, ℕ, List, Option, Some, length, arith, sym, ap, subst, slice_index_or}
 use Rattle.std.proofs.lemmas.List.{get_or_default}
 use Rattle.std.proofs.lemmas.Bool.{false≢true}
+use Rattle.std.proofs.lemmas.Option.{slice_get-get_or}
 use Rattle.mp_base.specs.declared.refusal.Place.{Place}
 use Rattle.mp_program.specs.declared.program.Form.{Form}
 use Rattle.mp_base.specs.Entries.{IsAt}
 use Rattle.mp_rules.specs.Breaking.{earlier}
-use Rattle.mp_base.proofs.ListEntries.{some_entry, one_entry}
+use Rattle.mp_base.proofs.Entries.{some_entry, one_entry}
 use Rattle.mp_transfers.specs.Labels.{IsAstray}
-use Rattle.mp_transfers.proofs.Earliest.{Upto, at_index, upto_join, upto_skip, earliest_one, earliest_same}
+use Rattle.mp_transfers.proofs.Earliest.{Upto, upto_join, upto_skip, earliest_one, earliest_same}
 use Rattle.mp_transfers.proofs.Astray.{StraysAt, astray_all}
 use Rattle.mp_transfers.proofs.unknown.astray_in.Goals.{then-marks-f+then-is_astray, else-marks-f}
 use Rattle.mp_transfers.proofs.unknown.astray_in.Goals.{else-marks-f-via-then-marks-f+else-is_astray}
@@ -26,7 +27,7 @@ loop-f-preserved c =
           let y : Form = slice_index_or c.as_slice-forms.result.now f w.index-forms-f.result in
           let P : List Form → Type 0 = λ xs. IsAt xs f y in
           let at : IsAt c.args.program.now.forms f y =
-          subst P c.as_slice-forms.ensures (at_index c.as_slice-forms.result.now f w.index-forms-f.result lt) in
+          subst P c.as_slice-forms.ensures (slice_get-get_or c.as_slice-forms.result.now f w.index-forms-f.result lt) in
           let astray = (w.is_astray.ensures c.args.labels.now c.requires.names).0 w.if-is_astray.true in
           subst T (sym (w.found-is ∙ w.earlier-found.ensures ∙ ap (λ (x : Form). earlier c.loop-f.found x.place)
           (get_or_default c.as_slice-forms.result.now f w.index-forms-f-then-is_astray.result w.index-forms-f.result
@@ -42,7 +43,8 @@ loop-f-preserved c =
                 → Type 0 = λ xs. IsAt xs f (slice_index_or c.as_slice-forms.result.now f v.index-forms-f.result) in
                 let same =
                 one_entry c.args.program.now.forms f y _ at
-                (subst P c.as_slice-forms.ensures (at_index c.as_slice-forms.result.now f v.index-forms-f.result lt)) in
+                (subst P c.as_slice-forms.ensures
+                (slice_get-get_or c.as_slice-forms.result.now f v.index-forms-f.result lt)) in
                 let Q : Form → Type 0 = λ x. IsAstray c.args.labels.now x.kind in
                 let yes = (v.is_astray.ensures c.args.labels.now c.requires.names).1 (subst Q same r.3) in
                 false≢true (sym v.if-is_astray.false ∙ yes)

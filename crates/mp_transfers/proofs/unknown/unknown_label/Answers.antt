@@ -3,6 +3,7 @@ use Rattle.mp_program.specs.declared.program.Form.{Form}
 use Rattle.mp_program.specs.declared.program.Label.{Label}
 use Rattle.mp_program.specs.declared.program.Process.{Process}
 use Rattle.mp_base.specs.Entries.{IsAt}
+use Rattle.mp_base.proofs.Entries.{entry}
 use Rattle.mp_rules.specs.Breaking.{IsEarliest}
 use Rattle.mp_transfers.specs.Labels.{IsAstray}
 use Rattle.mp_transfers.specs.Marks.{AreMarked}
@@ -27,7 +28,9 @@ loop-k-preserved c =
       size = c.mark-span.ensures.size;
       fresh = c.mark-span.ensures.greatest;
       upto = upto_then c.loop-k.invariant.upto q
-          (subst P c.as_slice-process-items.ensures (omega arith, c.process-item.is)) c.astray_in-found.result
+          (subst P c.as_slice-process-items.ensures
+          (entry c.as_slice-process-items.result.now k (omega arith) c.process-item.is))
+          c.astray_in-found.result
           (unknown_in c.args.program.now q c.mark-span.result c.mark-span.new.marks (k + 1)
           (λ at. c.loop-k.found ≡ Some at) c.astray_in-found.result
           (subst M c.as_slice.ensures c.mark-span.ensures)

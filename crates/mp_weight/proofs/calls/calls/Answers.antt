@@ -4,7 +4,8 @@ use Rattle.std.specs.List.{sum_by}
 use Rattle.mp_program.specs.declared.program.Form.{Form}
 use Rattle.mp_program.specs.Weight.{inner, is_call}
 use Rattle.mp_program.proofs.Inside.{inner_behind}
-use Rattle.mp_base.proofs.Elements.{got}
+use Rattle.mp_base.specs.Entries.{IsAt}
+use Rattle.mp_base.proofs.Entries.{entry}
 use Rattle.mp_weight.specs.Weighing.{AreCalls, calls_from}
 use Rattle.mp_weight.proofs.Calling.{no_calls, more_calls, all_calls}
 use Rattle.mp_weight.proofs.calls.calls.Goals as goal
@@ -25,9 +26,9 @@ loop-f-preserved c =
     let done : ℕ
     → Type 0 = λ k. AreCalls c.args.cap c.as_slice-forms.result.now k
     (calls_from k (drop k c.as_slice-forms.result.now)) c.loop-f.calls in
-    let At : List Form
-    → Type 0 = λ fs. (i < length fs) × (c.index-forms-f.result ≡ get_or fs i c.index-forms-f.result) in
-    let at : At c.args.program.now.forms = subst At c.as_slice-forms.ensures (lt, c.index-forms-f.is) in
+    let at : IsAt c.args.program.now.forms i c.index-forms-f.result =
+    subst (λ (fs : List Form). IsAt fs i c.index-forms-f.result) c.as_slice-forms.ensures
+    (entry c.as_slice-forms.result.now i lt c.index-forms-f.is) in
     let Count : Form → List ℕ
     → Type 0 = λ y cs. c.calls_of-count.result
     ≡ min c.args.cap (is_call y.kind + sum_by (slice_index cs) (inner y.kind)) in
@@ -41,8 +42,7 @@ loop-f-preserved c =
     (length c.args.program.now.forms) i c.index-forms-f.result c.loop-f.calls c.calls_of-count.result lt
     c.index-forms-f.is
     (inner_behind (length c.args.program.now.exprs) i (length c.args.program.now.forms) c.index-forms-f.result.kind
-    (c.sound.ensures.forms i c.index-forms-f.result
-    (got c.args.program.now.forms i c.index-forms-f.result at.0 at.1)))
+    (c.sound.ensures.forms i c.index-forms-f.result at))
     (subst done next c.loop-f.invariant) count)
 
 pub returns : goal.returns

@@ -1,5 +1,7 @@
-use Rattle.std.proofs.Common.{◌≡◌, ◌<◌, ℕ, List, length, get_or, take, ap, sym, ◌∙◌, subst, arith, min}
+use Rattle.std.proofs.Common.{◌≡◌, ℕ, List, length, get_or, take, ap, sym, ◌∙◌, subst, arith, min}
 use Rattle.std.specs.List.{sum_by}
+use Rattle.mp_base.specs.Entries.{IsAt}
+use Rattle.mp_base.proofs.Entries.{entry}
 use Rattle.mp_base.proofs.Lists.{take_whole}
 use Rattle.mp_program.specs.declared.program.Def.{Def}
 use Rattle.mp_program.specs.Weight.{def_weight, sets_of}
@@ -15,9 +17,9 @@ pub loop-d-preserved : goal.loop-d-preserved
 loop-d-preserved c =
     let p = c.args.program.now in
     let term : Def → ℕ = λ d. def_weight d.what (sets_of p d.name) in
-    let At : List Def
-    → Type 0 = λ ds. (c.loop-d.d < length ds) × (c.def-item.result ≡ get_or ds c.loop-d.d c.def-item.result) in
-    let at : At p.defs = subst At c.as_slice-def-items.ensures (c.loop-d-test.true, c.def-item.is) in
+    let at : IsAt p.defs c.loop-d.d c.def-item.result =
+    subst (λ (ds : List Def). IsAt ds c.loop-d.d c.def-item.result) c.as_slice-def-items.ensures
+    (entry c.as_slice-def-items.result.now c.loop-d.d c.loop-d-test.true c.def-item.is) in
     let counts = subst (AreSetCounts p (length p.forms)) (sym c.as_slice-counts.ensures) c.in_ok-counts.ensures in
     let same : c.def_weight.result
     ≡ min c.args.cap (term (get_or c.as_slice-def-items.result.now c.loop-d.d c.def-item.result)) =

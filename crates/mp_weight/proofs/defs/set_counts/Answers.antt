@@ -1,4 +1,6 @@
-use Rattle.std.proofs.Common.{◌≡◌, ◌+◌, ◌<◌, ℕ, List, length, get_or, replicate, ap, sym, ◌∙◌, subst, arith}
+use Rattle.std.proofs.Common.{◌≡◌, ◌+◌, ℕ, List, length, get_or, replicate, ap, sym, ◌∙◌, subst, arith}
+use Rattle.mp_base.specs.Entries.{IsAt}
+use Rattle.mp_base.proofs.Entries.{entry}
 use Rattle.mp_program.specs.declared.program.Form.{Form}
 use Rattle.mp_weight.specs.Weighing.{AreSetCounts}
 use Rattle.mp_weight.proofs.Counting.{none_counted, form_counted}
@@ -31,10 +33,9 @@ count_set-requires c =
 
 pub loop-f-preserved : goal.loop-f-preserved
 loop-f-preserved c =
-    let At : List Form
-    → Type 0 = λ fs. (c.loop-f.f < length fs) × (c.form-item.result ≡ get_or fs c.loop-f.f c.form-item.result) in
-    let at : At c.args.program.now.forms =
-    subst At c.as_slice-form-items.ensures (c.loop-f-test.true, c.form-item.is) in
+    let at : IsAt c.args.program.now.forms c.loop-f.f c.form-item.result =
+    subst (λ (fs : List Form). IsAt fs c.loop-f.f c.form-item.result) c.as_slice-form-items.ensures
+    (entry c.as_slice-form-items.result.now c.loop-f.f c.loop-f-test.true c.form-item.is) in
     subst (AreSetCounts c.args.program.now (c.loop-f.f + 1)) (sym c.count_set.ensures)
     (form_counted c.args.program.now c.loop-f.f
     (get_or c.as_slice-targets.result.now c.loop-f.f 0) c.form-item.result c.loop-f.counts c.requires.own

@@ -1,5 +1,7 @@
-use Rattle.std.proofs.Common.{◌≡◌, ◌<◌, ℕ, List, length, get_or, take, ap, ◌∙◌, subst, arith, min}
+use Rattle.std.proofs.Common.{◌≡◌, ℕ, List, length, get_or, take, ap, ◌∙◌, subst, arith, min}
 use Rattle.std.specs.List.{sum_by}
+use Rattle.mp_base.specs.Entries.{IsAt}
+use Rattle.mp_base.proofs.Entries.{entry}
 use Rattle.mp_base.proofs.Lists.{take_whole}
 use Rattle.mp_program.specs.declared.program.Def.{Def}
 use Rattle.mp_program.specs.declared.program.Expr.{Expr}
@@ -26,9 +28,9 @@ pub loop-e-preserved : goal.loop-e-preserved
 loop-e-preserved c =
     let p = c.args.program.now in
     let term : Expr → ℕ = λ e. expr_weight p e.kind in
-    let At : List Expr
-    → Type 0 = λ xs. (c.loop-e.e < length xs) × (c.expr-item.result ≡ get_or xs c.loop-e.e c.expr-item.result) in
-    let at : At p.exprs = subst At c.as_slice-expr-items.ensures (c.loop-e-test.true, c.expr-item.is) in
+    let at : IsAt p.exprs c.loop-e.e c.expr-item.result =
+    subst (λ (xs : List Expr). IsAt xs c.loop-e.e c.expr-item.result) c.as_slice-expr-items.ensures
+    (entry c.as_slice-expr-items.result.now c.loop-e.e c.loop-e-test.true c.expr-item.is) in
     let same : c.expr_weight.result ≡ term (get_or c.as_slice-expr-items.result.now c.loop-e.e c.expr-item.result) =
     c.expr_weight.ensures
     ∙ ap (λ (ds : List Def). expr_weight_of ds

@@ -1,4 +1,5 @@
 use Rattle.std.proofs.Common.{◌≡◌, ◌-◌, ◌<◌, ℕ, suc, length, rules, arith, subst}
+use Rattle.mp_base.proofs.Entries.{within}
 use Rattle.process_plan.proofs.Keeping.{keeps_22}
 use Rattle.process_enables.specs.Copies.{AreCopiedFrom}
 use Rattle.process_enables.proofs.Copying.{keeps_21, sorted_of, copied_none, copied_more}
@@ -24,7 +25,7 @@ loop-expr-preserved c =
     let done = c.loop-expr.invariant in
     let some = c.loop-expr-test.true in
     let size = done.size in
-    let two = done.truth.1.0 in
+    let two = within c.loop-expr.exprs 1 done.truth.1 in
     let i : ℕ = c.loop-expr.expr - 1 in
     let next : c.loop-expr.expr ≡ suc i = omega (arith, some) in
     let lt : i < length p.exprs = omega (arith, some, size, two) in

@@ -1,5 +1,6 @@
 use Rattle.std.proofs.Common.{ℕ, List, subst, arith}
 use Rattle.std.proofs.lemmas.Result.{on_ok_weaker}
+use Rattle.mp_base.proofs.Entries.{entry}
 use Rattle.mp_program.specs.declared.program.Branch.{Branch}
 use Rattle.process_enables.specs.Forms.{Assigns, EntersBranches}
 use Rattle.process_enables.proofs.Forming.{has_from, inner_cond, inner_par}
@@ -21,7 +22,7 @@ returns-in-Cond c =
     let has = has_from old f x c.at.result.now (omega (arith, form, size)) c.at.ensures c.in-Some.is in
     let P : List Branch → Type 0 = λ ys. EntersBranches p x ys exprs more old new in
     on_ok_weaker c.enter_branches.result
-    (λ entered. inner_cond p f y bs x exprs more old new (form, c.at-2.ensures) c.in-Cond.is has
+    (λ entered. inner_cond p f y bs x exprs more old new (entry p.forms f form c.at-2.ensures) c.in-Cond.is has
     (subst P c.as_slice-branches.ensures entered))
     c.enter_branches.ensures
 
@@ -40,6 +41,6 @@ returns-in-Par c =
     let has = has_from old f x c.at.result.now (omega (arith, form, size)) c.at.ensures c.in-Some.is in
     let P : List ℕ → Type 0 = λ gs. Assigns gs x old new in
     on_ok_weaker c.assign_all.result
-    (λ assigned. inner_par p f y fs x exprs old new (form, c.at-2.ensures) c.in-Par.is has
+    (λ assigned. inner_par p f y fs x exprs old new (entry p.forms f form c.at-2.ensures) c.in-Par.is has
     (subst P c.as_slice.ensures assigned))
     c.assign_all.ensures

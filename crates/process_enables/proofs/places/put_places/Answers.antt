@@ -1,5 +1,6 @@
 use Rattle.std.proofs.Common.{◌≡◌, ◌∷◌, ◌++◌, ◌+◌, [], ◌∙◌, ℕ, List, length, rules, arith, sym, ap, subst}
 use Rattle.std.specs.Prelude.{slice_set}
+use Rattle.mp_base.proofs.Entries.{entry}
 use Rattle.process_enables.specs.Places.{PutsPlaces}
 use Rattle.process_enables.proofs.Placing.{CellsBelow, cells_more, some_form, places_are}
 use Rattle.process_enables.proofs.places.put_places.Goals as goal
@@ -36,7 +37,8 @@ returns c =
     let others : List ℕ = c.loop-place.others in
     let first : ℕ = c.in_ok-first.first in
     let count : c.in-Ok.count ≡ length q.forms = search rules in
-    let some = some_form p c.requires.unbroken k q (c.requires.inside, c.at.ensures) in
+    let at_q = entry p.processes k c.requires.inside c.at.ensures in
+    let some = some_form p c.requires.unbroken k q at_q in
     let place : c.loop-place.place ≡ length q.forms =
     omega (arith, count, some, c.loop-place.auto.place, c.loop-place.auto.place-end, c.loop-place-test.false) in
     let P : ℕ → Type 0 = λ n. CellsBelow p roles xs k n exprs now others in
@@ -45,4 +47,4 @@ returns c =
     c.set.ensures ∙ ap (λ es. slice_set es 0 first) c.loop-place.invariant.1 in
     subst Q (sym set)
     (places_are p roles xs c.requires.cells c.requires.unbroken k q exprs now more others first
-    (c.requires.inside, c.at.ensures) c.requires.truth (subst P place c.loop-place.invariant.0) c.in_ok-first.ensures)
+    at_q c.requires.truth (subst P place c.loop-place.invariant.0) c.in_ok-first.ensures)

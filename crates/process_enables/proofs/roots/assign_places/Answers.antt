@@ -1,5 +1,6 @@
 use Rattle.std.proofs.Common.{◌≡◌, ◌<◌, ℕ, List, length, get_or, arith, rules, sym, subst, ap}
 use Rattle.std.proofs.lemmas.List.{get_or_default}
+use Rattle.std.proofs.lemmas.Option.{slice_get-get_or}
 use Rattle.process_plan.specs.declared.enable.Enable.{Enable}
 use Rattle.process_plan.specs.declared.enable.Origin.TheVariants.{At}
 use Rattle.process_enables.proofs.Assigning.{Sets, sets_is}
@@ -36,8 +37,7 @@ loop-index-preserved c =
     (sets_is c.loop-index.enables f x (omega (arith, inside, size)) c.in_ok-assign.ensures.free) in
     let Q : Enable → Type 0 = λ z. Sets f z c.loop-index.enables c.assign.new.enables in
     below_more c.args.process forms places i f a c.args.enables.now c.loop-index.enables c.assign.new.enables
-    c.loop-index.invariant (lt, get_or_default forms i 0 f lt) (lt_a, get_or_default places i 0 a lt_a) (subst Q same
-    sets)
+    c.loop-index.invariant (slice_get-get_or forms i 0 lt) (slice_get-get_or places i 0 lt_a) (subst Q same sets)
 
 pub returns : goal.returns
 returns c =

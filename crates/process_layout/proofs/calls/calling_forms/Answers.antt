@@ -18,6 +18,7 @@ use Rattle.std.specs.Prelude.{slice_index_or}
 use Rattle.std.proofs.lemmas.List.{length-replicate, length-set}
 use Rattle.mp_program.specs.declared.program.Form.{Form}
 use Rattle.mp_base.specs.Entries.{IsAt}
+use Rattle.mp_base.proofs.Entries.{entry}
 use Rattle.process_layout.specs.Calling.{kind_calls}
 use Rattle.process_layout.proofs.Called.{AreTold, told_more}
 use Rattle.process_layout.proofs.calls.calling_forms.Goals as goal
@@ -38,7 +39,8 @@ loop-f-preserved c =
     let next : c.loop-f.f ≡ suc i = omega arith in
     let At : List Form → Type 0 = λ fs. IsAt fs i c.index-forms-f.result in
     let inside : i < length c.as_slice-forms.result.now = omega arith in
-    let at : At c.args.program.now.forms = subst At c.as_slice-forms.ensures (inside, c.index-forms-f.is) in
+    let at : At c.args.program.now.forms = subst At c.as_slice-forms.ensures
+    (entry c.as_slice-forms.result.now i inside c.index-forms-f.is) in
     let Told : Form → List Bool → Type 0 = λ y cs.
     c.has_call.result ≡ kind_calls (λ g. slice_index_or cs g false) y.kind in
     let read = c.index-forms-f.is in

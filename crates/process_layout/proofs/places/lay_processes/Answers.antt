@@ -1,6 +1,7 @@
 use Rattle.std.proofs.Common.{◌≡◌, ◌∙◌, ◌<◌, ◌++◌, ℕ, List, Bool, false, ap, arith, length, sym}
 use Rattle.std.specs.Prelude.{slice_index_or}
 use Rattle.std.proofs.lemmas.List.{append-nil}
+use Rattle.mp_base.proofs.Entries.{entry}
 use Rattle.process_layout.specs.Laying.{processes_roles}
 use Rattle.process_layout.proofs.Growth.{process_next}
 use Rattle.process_layout.proofs.places.lay_processes.Goals as goal
@@ -21,8 +22,8 @@ loop-index-preserved c =
     record {
       roles =
           process_next (told c.args.calling.now) c.args.processes.now c.loop-index.index c.index-processes-index.result
-          c.args.before.roles c.loop-index.laid.roles c.in_ok-laid.laid.roles (inside, c.index-processes-index.is)
-          c.loop-index.invariant.roles
+          c.args.before.roles c.loop-index.laid.roles c.in_ok-laid.laid.roles
+          (entry c.args.processes.now c.loop-index.index inside c.index-processes-index.is) c.loop-index.invariant.roles
           c.in_ok-laid.ensures.roles;
       cells = λ ds held. c.in_ok-laid.ensures.cells ds (c.loop-index.invariant.cells ds held);
     }

@@ -1,5 +1,6 @@
 use Rattle.std.proofs.Common.{◌∙◌, ◌<◌, ap, arith, get_or, length}
-use Rattle.std.proofs.lemmas.List.{get_or_default}
+use Rattle.std.proofs.lemmas.Option.{slice_get-get_or}
+use Rattle.mp_base.proofs.Entries.{entry}
 use Rattle.process_plan.proofs.Keeping.{keeps_27}
 use Rattle.process_transfers.proofs.Serving.{forms_more}
 use Rattle.process_transfers.proofs.forms.form_transfers.Goals as goal
@@ -15,5 +16,5 @@ loop-index-preserved c =
     (keeps_27 p c.requires.unbroken) n y _ c.args.transfers.now c.loop-index.transfers c.add.new.list
     c.in_ok-found.found
     c.loop-index.invariant
-    (inside, c.index-as_slice-index.is ∙ ap (λ ys. get_or ys n y) c.as_slice.ensures)
-    (omega arith, get_or_default c.args.enables.now n _ _ (omega arith)) c.in_ok-found.ensures c.in_ok-add.ensures
+    (entry p.forms n inside (c.index-as_slice-index.is ∙ ap (λ ys. get_or ys n y) c.as_slice.ensures))
+    (slice_get-get_or c.args.enables.now n _ (omega arith)) c.in_ok-found.ensures c.in_ok-add.ensures

@@ -1,5 +1,5 @@
 use Rattle.std.proofs.Common.{◌≡◌, subst, arith, length}
-use Rattle.mp_base.proofs.ListEntries.{some_entry}
+use Rattle.mp_base.proofs.Entries.{some_entry}
 use Rattle.process_transfers.specs.Wants.{Serves, CellWants}
 use Rattle.process_transfers.proofs.Serving.{motions_more}
 use Rattle.process_transfers.proofs.roles.motion_transfers.Goals as goal

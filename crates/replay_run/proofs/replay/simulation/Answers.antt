@@ -15,5 +15,5 @@ returns-in-Ok-clause-unknown c = c.in-Ok.ensures.unknown
 pub unreachable-requires : goal.unreachable-requires
 unreachable-requires c =
     let pads = c.args.given.now.pads in
-    let first = subst (IsRefused c.args.network pads) c.in-Err-Broken.field-0-is c.in-Err-Broken.ensures.refused in
+    let first = subst (IsRefused c.args.network pads) c.in-Err-Broken.field-0-is c.in-Err-Broken.ensures.judged in
     breaks_nothing c.args.network pads c.in-Err-Broken.field-0-0 c.requires.has_pads first

@@ -12,7 +12,7 @@ open-requires-clause-few_clocks g c = few_clocks _ c.requires.few_clocks
 
 pub returns-in_err-simulation : goal.returns-in_err-simulation
 returns-in_err-simulation g c =
-    refused c.in_err-simulation.field-0.0 c.in_err-simulation.ensures.refused c.from_residual.ensures.1 refl refl
+    refused c.in_err-simulation.field-0.0 c.in_err-simulation.ensures.judged c.from_residual.ensures.1 refl refl
 
 pub print-result-requires-clause-unknown : goal.print-result-requires-clause-unknown
 print-result-requires-clause-unknown g c = c.in_ok-simulation.ensures.unknown
@@ -20,7 +20,7 @@ print-result-requires-clause-unknown g c = c.in_ok-simulation.ensures.unknown
 pub print-result-requires-clause-has_pads : goal.print-result-requires-clause-has_pads
 print-result-requires-clause-has_pads g c =
     let opened = c.in_ok-simulation.ensures in
-    subst₂ (λ net given. HasPads net given.pads) (sym opened.network) (sym opened.given) opened.has_pads
+    subst₂ (λ net given. HasPads net given.pads) (sym opened.network) (sym opened.given) opened.judged
 
 pub returns : goal.returns
 returns g c =

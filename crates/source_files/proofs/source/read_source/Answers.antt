@@ -3,8 +3,7 @@ use Rattle.source_files.specs.declared.limits.TheConstants.{TEXT_LIMIT}
 use Rattle.mp_checker.specs.Checking.{CheckedProgram}
 use Rattle.mp_source.specs.Source.{OfSource}
 use Rattle.source_files.specs.Faults.{SourceFault}
-use Rattle.mp_source.specs.Source.{IsJudged}
-use Rattle.source_files.proofs.Judged.{broken_by}
+use Rattle.mp_base.specs.Refuses.{IsJudged}
 use Rattle.outcome.proofs.Reasons.{judged_err, judged_ok, reason_err}
 use Rattle.source_files.proofs.source.read_source.Goals as goal
 
@@ -14,9 +13,8 @@ returns-in_err-check_source-clause-reason g c =
     c.from_residual-in_err-check_source.ensures.1
     (judged_err TEXT_LIMIT OfSource c.args.name.now c.in_ok-text.text.items _ _ _ c.in_ok-text.ensures.text
     c.in_ok-text.ensures.reason c.in_err-check_source.field-0.0
-    (broken_by CheckedProgram (OfSource c.in_ok-text.text.items) c.in_err-check_source.field-0.0
     (subst (λ text. IsJudged {T = CheckedProgram} (OfSource text) (Err c.in_err-check_source.field-0.0))
-    c.deref.ensures.value c.in_err-check_source.ensures.judged)))
+    c.deref.ensures.value c.in_err-check_source.ensures.judged))
 
 pub returns-clause-reason : goal.returns-clause-reason
 returns-clause-reason g c =

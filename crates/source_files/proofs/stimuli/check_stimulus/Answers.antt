@@ -1,6 +1,6 @@
 use Rattle.std.proofs.Common.{arith, Some}
 use Rattle.source_files.proofs.ProgramPads.{few_inputs, keeps_40}
-use Rattle.source_files.proofs.StimulusRules.{judged_for, few_pads, read_clocks}
+use Rattle.source_files.proofs.StimulusRules.{few_pads, read_clocks}
 use Rattle.source_files.proofs.stimuli.check_stimulus.Goals as goal
 
 pub read_stimulus-requires-clause-few : goal.read_stimulus-requires-clause-few
@@ -12,8 +12,7 @@ read_stimulus-requires-clause-few c =
 
 pub returns-clause-judged : goal.returns-clause-judged
 returns-clause-judged c =
-    judged_for (Some c.args.checked.now.pads) c.args.text.now c.read_stimulus.result
-    (rw c.pads.ensures.same at c.read_stimulus.ensures.ok) (rw c.pads.ensures.same at c.read_stimulus.ensures.err)
+    rw c.pads.ensures.same at c.read_stimulus.ensures.judged
 
 pub returns-clause-few_inputs : goal.returns-clause-few_inputs
 returns-clause-few_inputs c =

@@ -1,6 +1,6 @@
 use Rattle.std.proofs.Common.{None}
 use Rattle.source_files.specs.declared.limits.TheConstants.{TEXT_LIMIT}
-use Rattle.source_files.specs.Stimulus.{OfPads}
+use Rattle.stimulus.specs.Reading.{OfPads}
 use Rattle.source_files.proofs.Clocks.{few_clocks}
 use Rattle.source_files.proofs.Headers.{few_inputs}
 use Rattle.outcome.proofs.Reasons.{judged_ok}

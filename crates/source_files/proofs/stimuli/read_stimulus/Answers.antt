@@ -1,6 +1,6 @@
 use Rattle.std.proofs.Common.{Some}
 use Rattle.source_files.specs.declared.limits.TheConstants.{TEXT_LIMIT}
-use Rattle.source_files.specs.Stimulus.{OfPads}
+use Rattle.stimulus.specs.Reading.{OfPads}
 use Rattle.outcome.proofs.Reasons.{judged_ok}
 use Rattle.source_files.proofs.stimuli.read_stimulus.Goals as goal
 

@@ -1,5 +1,5 @@
 use Rattle.std.proofs.Common.{◌∙◌, map, refl, sym, ap}
-use Rattle.stimulus.specs.Bits.{value_bits}
+use Rattle.mp_base.specs.PadBits.{value_bits}
 use Rattle.stimulus.specs.Inputs.{inputs_of}
 use Rattle.stimulus.specs.Transcript.{lines_text}
 use Rattle.trace_run.proofs.Transcripts.{trace_runs, run_traces}

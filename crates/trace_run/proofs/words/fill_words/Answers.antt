@@ -1,7 +1,8 @@
 use Rattle.std.proofs.Common.{◌≡◌, ℕ, ◌+◌, ◌<◌, List, length, take, get_or, sym, ◌∙◌, ap, subst, arith}
 use Rattle.std.proofs.lemmas.List.{length-set, take_all}
 use Rattle.mp_base.specs.declared.value.TritWord.{TritWord}
-use Rattle.stimulus.specs.Bits.{trits_of, value_bits}
+use Rattle.stimulus.specs.Bits.{trits_of}
+use Rattle.mp_base.specs.PadBits.{value_bits}
 use Rattle.trace_run.proofs.Known.{bound_here, words_more}
 use Rattle.trace_run.proofs.words.fill_words.Goals as goal
 

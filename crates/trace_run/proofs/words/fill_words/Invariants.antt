@@ -1,5 +1,6 @@
 use Rattle.std.proofs.Common.{◌≡◌, length, take}
-use Rattle.stimulus.specs.Bits.{trits_of, value_bits}
+use Rattle.stimulus.specs.Bits.{trits_of}
+use Rattle.mp_base.specs.PadBits.{value_bits}
 use Rattle.trace_run.proofs.words.fill_words.Given as goal
 
 abbrev pub invariant-loop-i : goal.invariant-loop-i

@@ -1,7 +1,7 @@
 use Rattle.std.proofs.Common.{◌∙◌, ℕ, List, [], length, get_or, sym, subst}
 use Rattle.mp_base.specs.declared.pad.Pads.{Pads}
 use Rattle.stimulus.specs.Bits.{trits_of}
-use Rattle.stimulus.specs.Inputs.{Fit}
+use Rattle.mp_base.specs.PadBits.{Fit}
 use Rattle.transcript.proofs.Inputs.{given_fits, values_are}
 use Rattle.transcript.proofs.running.step.Goals as goal
 

@@ -3,8 +3,8 @@ use Rattle.switch_net.specs.declared.network.Network.{Network}
 use Rattle.clock_run.specs.Circuit.{IsReady}
 use Rattle.clock_run.proofs.circuit.Circuit.open.Goals as goal
 
-pub returns-clause-sound : goal.returns-clause-sound
-returns-clause-sound c = c.in_ok-ready.ensures.ok.planned.has_pads
+pub returns-clause-judged : goal.returns-clause-judged
+returns-clause-judged c = c.in_ok-ready.ensures.ok.planned.has_pads
 
 pub invariant_of-result : goal.invariant_of-result
 invariant_of-result c =

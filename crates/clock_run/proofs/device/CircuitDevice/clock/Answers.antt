@@ -2,7 +2,7 @@ use Rattle.std.proofs.Common.{◌<◌, ◌^◌}
 use Rattle.std.proofs.lemmas.Slice.Zip.{AllZip-long}
 use Rattle.mp_base.specs.declared.pad.Pad.{Pad}
 use Rattle.mp_base.specs.declared.value.TritWord.{TritWord}
-use Rattle.switch_net.specs.Pads.{bit_count}
+use Rattle.mp_base.specs.PadBits.{bit_count}
 use Rattle.clock_run.proofs.device.CircuitDevice.clock.Goals as goal
 
 pub returns-clause-as_many : goal.returns-clause-as_many

@@ -3,9 +3,9 @@ use Rattle.mp_base.specs.declared.pad.Pad.{Pad}
 use Rattle.mp_program.specs.declared.program.Program.{Program}
 use Rattle.mp_program.specs.Pads.{input_pads, FitsPads}
 use Rattle.mp_program.specs.Trace.{IsClock}
-use Rattle.stimulus.specs.Bits.{trits_of, value_bits}
+use Rattle.stimulus.specs.Bits.{trits_of}
+use Rattle.mp_base.specs.PadBits.{value_bits, Fit}
 use Rattle.stimulus.specs.Fitting.{bound_at}
-use Rattle.stimulus.specs.Inputs.{Fit}
 use Rattle.trace_run.specs.Source.{Sourcing, SourceSteps}
 use Rattle.trace_run.proofs.Inputs.{inputs_fit, outputs_fit, many_outputs, clock_fits}
 use Rattle.trace_run.proofs.source.SourceDevice.clock.Goals as goal

@@ -1,4 +1,4 @@
--- What a sweep finds.
+-- What a sweep of a mask finds.
 use Rattle.std.specs.Prelude.{List}
 use Rattle.std.specs.List.{AllZip}
 use Rattle.lam_geom.specs.declared.rect.Rect.{Rect}

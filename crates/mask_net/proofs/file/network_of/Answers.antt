@@ -1,0 +1,12 @@
+use Rattle.std.proofs.Common.{sym, subst₂}
+use Rattle.mask_net.specs.Masks.{IsDrawing}
+use Rattle.mask_net.proofs.Steps.{of_shapes}
+use Rattle.mask_net.proofs.file.network_of.Goals as goal
+
+pub returns-clause-judged : goal.returns-clause-judged
+returns-clause-judged c =
+    let shapes = c.as_slice.result.now in
+    let labels = c.as_slice-2.result.now in
+    let drawing = subst₂ (IsDrawing c.args.bytes.items) (sym c.as_slice.ensures) (sym c.as_slice-2.ensures)
+    c.in_ok-flat.ensures.ok in
+    of_shapes c.args.bytes.items shapes labels c.extract.result drawing c.extract.ensures.judged
