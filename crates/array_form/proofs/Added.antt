@@ -2,8 +2,9 @@
 use Rattle.std.proofs.Common.{◌≡◌, inl, inr, ℕ, zero, suc, ◌<◌, List, [], ◌∷◌, ◌++◌, length}
 use Rattle.std.proofs.Common.{get_or, take, sym, ◌∙◌, ap, subst, arith, drop, append_assoc}
 use Rattle.std.proofs.lemmas.List.{append-nil, take-append-drop}
+use Rattle.std.proofs.lemmas.List.Elements.{Contains-append_left}
 use Rattle.std.specs.Prelude.{AllPairs, All}
-use Rattle.mp_base.proofs.Members.{Member, member_contains, contains_member}
+use Rattle.mp_base.proofs.Members.{Member}
 use Rattle.tile_cells.specs.declared.tile.Tile.{Tile}
 use Rattle.tile_cells.specs.declared.tile.Tile.TheVariants.{TapL, TapR, Tran, PullUp, Under}
 use Rattle.fabric.specs.declared.thing.Side.{Side}
@@ -12,8 +13,7 @@ use Rattle.fabric.specs.declared.thing.Mark.{Mark}
 use Rattle.fabric.specs.Plan.{Plan, IsFabric, IsSegment, IsLine, IsMark, Stands, LineAt, SegmentAt, LinesApart}
 use Rattle.fabric.specs.Plan.{SegmentsApart, MarksApart}
 use Rattle.fabric.specs.Plan.{with_added}
-use Rattle.array_form.proofs.Members.{member_append, append_left}
-use Rattle.array_form.proofs.Members.{append_right}
+use Rattle.array_form.proofs.Members.{member_append, append_right}
 use Rattle.array_form.proofs.Pairs.{each_at, Pairs, pairs_all, pairs_from, pairs_append}
 use Rattle.array_form.proofs.Laid.{all_from, all_at}
 
@@ -26,50 +26,28 @@ module _ (f : Plan) (lawful : IsFabric f) (ls : List Line) (ms : List Mark) wher
 
   old_line_at : (side : Side) (b c : ℕ) → LineAt f side b c → LineAt g side b c
   old_line_at side b c h =
-      record {
-        line = h.line;
-        among =
-            member_contains (f.lines ++ ls) h.line
-            (append_left f.lines ls h.line (contains_member f.lines h.line h.among));
-        passes = h.passes;
-      }
+      record { line = h.line; among = Contains-append_left f.lines ls h.line h.among; passes = h.passes }
 
   old_segment_at : (b r c : ℕ) → SegmentAt f b r c → SegmentAt g b r c
   old_segment_at b r c h = record {
     segment = h.segment;
-    among =
-        member_contains (f.segments ++ []) h.segment
-        (append_left f.segments [] h.segment (contains_member f.segments h.segment h.among));
-    crosses =
-        h.crosses;
+    among = Contains-append_left f.segments [] h.segment h.among;
+    crosses = h.crosses;
   }
 
   old_stands : (t : Tile) (b r c : ℕ) → Stands f t b r c → Stands g t b r c
   old_stands TapL b r c s = (old_line_at _ b c s.0, elim s.1 [ inl e ↦ inl e | inr h ↦ inr (old_segment_at b r c h) ])
   old_stands TapR b r c s = (old_line_at _ b c s.0, elim s.1 [ inl e ↦ inl e | inr h ↦ inr (old_segment_at b r c h) ])
   old_stands Tran b r c s = (old_line_at _ b c s.0, old_line_at _ b c s.1, old_segment_at b r c s.2)
-  old_stands PullUp b r c s = (
-    s.0,
-    (
-      s.1.0,
-      member_contains (f.lines ++ ls) s.1.0 (append_left f.lines ls s.1.0 (contains_member f.lines s.1.0 s.1.1)),
-      s.1.2,
-      s.1.3,
-    ),
-  )
-  old_stands Under b r c s = (
-    s.0,
-    s.1,
-    elim s.2 [
+  old_stands PullUp b r c (at_top, (l, among, passes, last)) =
+      (at_top, (l, Contains-append_left f.lines ls l among, passes, last))
+  old_stands Under b r c (at_left, within, place) = (
+    at_left,
+    within,
+    elim place [
       | inl e ↦ inl e
-      | inr h ↦ inr (
-        h.0,
-        member_contains (f.segments ++ []) h.0
-            (append_left f.segments [] h.0 (contains_member f.segments h.0 h.1)),
-        h.2,
-        h.3,
-        h.4,
-      )
+      | inr (s, among, in_band, in_row, first) ↦
+          inr (s, Contains-append_left f.segments [] s among, in_band, in_row, first)
     ],
   )
 

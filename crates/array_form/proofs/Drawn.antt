@@ -256,25 +256,24 @@ module _ (W : Type 0) (In : W → Type 0) (T : Tie W → Type 0) (f : Plan) (law
     lows = λ n e. ap (λ q. number (net_of (hub q))) (roots.lows n e);
     joins = λ n m e. ap (λ q. number (net_of (hub q))) (roots.joins n m e);
     pull_downs = λ n inputs i e ci.
-        let t = switches.pull_downs n i inputs e ci in
-        let m = named.tied (tran t.0 t.1 t.2) t.3 in
-        let c = channel_at m.0 m.1 (tran_is_switch m.0 m.2.0) in
-        (c.0, c.1, down_at n i inputs e t.0 t.1 t.2 t.3 t.4 t.5 t.6 c.0 (tran_is m.0 t.0 t.1 t.2 m.2 c.0 c.2));
+        let (g, a, b, tied, rg, ra, rb) = switches.pull_downs n i inputs e ci in
+        let (m, marked, crossing) = named.tied (tran g a b) tied in
+        let (c, among, is) = channel_at m marked (tran_is_switch m crossing.0) in
+        (c, among, down_at n i inputs e g a b tied rg ra rb c (tran_is m g a b crossing c is));
     pull_ups = λ n inputs e.
-        let t = switches.pull_ups n inputs e in
-        let m = named.tied (pull t.0) t.1 in
-        let c = channel_at m.0 m.1 (pull_is_switch m.0 m.2.0) in (
-          c.0,
-          c.1,
-          up_at t.0 (node (OfNet n))
-              (own_number t.0 n (rooted.speaks (pull t.0) t.1) t.2 (nor_own n inputs e)) c.0
-              (pull_is m.0 t.0 m.2 c.0 c.2),
+        let (a, tied, ra) = switches.pull_ups n inputs e in
+        let (m, marked, crossing) = named.tied (pull a) tied in
+        let (c, among, is) = channel_at m marked (pull_is_switch m crossing.0) in (
+          c,
+          among,
+          up_at a (node (OfNet n)) (own_number a n (rooted.speaks (pull a) tied) ra (nor_own n inputs e)) c
+              (pull_is m a crossing c is),
         );
     passes = λ n p source e.
-        let t = switches.passes n source p e in
-        let m = named.tied (tran t.0 t.1 t.2) t.3 in
-        let c = channel_at m.0 m.1 (tran_is_switch m.0 m.2.0) in
-        (c.0, c.1, pass_at n source p e t.0 t.1 t.2 t.3 t.4 t.5 t.6 c.0 (tran_is m.0 t.0 t.1 t.2 m.2 c.0 c.2));
+        let (g, a, b, tied, rg, ra, rb) = switches.passes n source p e in
+        let (m, marked, crossing) = named.tied (tran g a b) tied in
+        let (c, among, is) = channel_at m marked (tran_is_switch m crossing.0) in
+        (c, among, pass_at n source p e g a b tied rg ra rb c (tran_is m g a b crossing c is));
     only = λ c i.
         let m = switch_at c i in
         let t = named.marked m.0 m.1 (under_is_no_switch m.0 m.2) in

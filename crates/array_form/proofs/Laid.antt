@@ -7,7 +7,7 @@ use Rattle.std.specs.List.{range_with_len}
 use Rattle.std.proofs.lemmas.Bool.{cases_Bool, cases_eq, cases_lt}
 use Rattle.std.proofs.lemmas.List.{get_or_default}
 use Rattle.std.proofs.lemmas.Option.{slice_get_within}
-use Rattle.std.proofs.lemmas.List.Elements.{All-contains}
+use Rattle.std.proofs.lemmas.List.Elements.{All-contains, Contains-append_left}
 use Rattle.mp_base.proofs.Members.{Member, member_contains, contains_member, member_map, map_member, member_filter}
 use Rattle.mp_base.proofs.Members.{range_members, range_has}
 use Rattle.tile_cells.specs.declared.tile.Tile.{Tile}
@@ -30,9 +30,7 @@ use Rattle.array_form.specs.Homes.{Columns, home, marks, numbers, reads, phase_m
 use Rattle.array_form.specs.Homes.{greatest}
 use Rattle.array_form.specs.Laying.{with_net, band_segment, band_segments, column_lines, band_lines, column_marks}
 use Rattle.array_form.specs.Laying.{band_marks, AreTracks, HasRoom}
-use Rattle.array_form.proofs.Members.{member_append}
-use Rattle.array_form.proofs.Members.{member_flat, flat_member, append_left}
-use Rattle.array_form.proofs.Members.{append_right}
+use Rattle.array_form.proofs.Members.{member_append, member_flat, flat_member, append_right}
 use Rattle.array_form.proofs.Listing.{distinct_from, differs_from}
 use Rattle.array_form.proofs.Homes.{home_inside, home_rises, least_below, greatest_above, least_in}
 use Rattle.array_form.proofs.Homes.{greatest_in, own_mark, input_mark, data_mark, phase_mark}
@@ -534,23 +532,17 @@ module _ (f : Plan) (lawful : IsFabric f) (b : ℕ) (y : Columns) (parts : List 
   -- what stood still stands
   old_line_at : (side : Side) (k c : ℕ) → LineAt f side k c → LineAt g side k c
   unfolding g
-  old_line_at side k c h =
-      record {
-        line = h.line;
-        among =
-            member_contains (f.lines ++ band_lines b y parts) h.line
-            (append_left f.lines (band_lines b y parts) h.line (contains_member f.lines h.line h.among));
-        passes =
-            h.passes;
-      }
+  old_line_at side k c h = record {
+    line = h.line;
+    among = Contains-append_left f.lines (band_lines b y parts) h.line h.among;
+    passes = h.passes;
+  }
 
   old_segment_at : (k r c : ℕ) → SegmentAt f k r c → SegmentAt g k r c
   unfolding g
   old_segment_at k r c h = record {
     segment = h.segment;
-    among = member_contains (f.segments ++ band_segments b cols row parts) h.segment
-        (append_left f.segments (band_segments b cols row parts) h.segment
-        (contains_member f.segments h.segment h.among));
+    among = Contains-append_left f.segments (band_segments b cols row parts) h.segment h.among;
     crosses = h.crosses;
   }
 
@@ -559,29 +551,15 @@ module _ (f : Plan) (lawful : IsFabric f) (b : ℕ) (y : Columns) (parts : List 
   old_stands TapL k r c s = (old_line_at L k c s.0, elim s.1 [ inl e ↦ inl e | inr h ↦ inr (old_segment_at k r c h) ])
   old_stands TapR k r c s = (old_line_at R k c s.0, elim s.1 [ inl e ↦ inl e | inr h ↦ inr (old_segment_at k r c h) ])
   old_stands Tran k r c s = (old_line_at L k c s.0, old_line_at R k c s.1, old_segment_at k r c s.2)
-  old_stands PullUp k r c s = (
-    s.0,
-    (
-      s.1.0,
-      member_contains (f.lines ++ band_lines b y parts) s.1.0
-          (append_left f.lines (band_lines b y parts) s.1.0 (contains_member f.lines s.1.0 s.1.1)),
-      s.1.2,
-      s.1.3,
-    ),
-  )
-  old_stands Under k r c s = (
-    s.0,
-    s.1,
-    elim s.2 [
+  old_stands PullUp k r c (at_top, (l, among, passes, last)) =
+      (at_top, (l, Contains-append_left f.lines (band_lines b y parts) l among, passes, last))
+  old_stands Under k r c (at_left, within, place) = (
+    at_left,
+    within,
+    elim place [
       | inl e ↦ inl e
-      | inr h ↦ inr (
-        h.0,
-        member_contains (f.segments ++ band_segments b cols row parts) h.0
-            (append_left f.segments (band_segments b cols row parts) h.0 (contains_member f.segments h.0 h.1)),
-        h.2,
-        h.3,
-        h.4,
-      )
+      | inr (s, among, in_band, in_row, first) ↦
+          inr (s, Contains-append_left f.segments (band_segments b cols row parts) s among, in_band, in_row, first)
     ],
   )
 

@@ -70,8 +70,8 @@ module _ (W : Type 0) (In : W → Type 0) (T : Tie W → Type 0) (f : Plan) (law
 
   tie_tap : (w v : W) (s : Side) → T (tap s w v) → Taps f (net_of w) (net_of v)
   tie_tap w v s q =
-      let m = named.tied (tap s w v) q in
-      record { mark = m.0; among = m.1; side = s; tile = m.2.0; the_line = m.2.1; other = m.2.2 }
+      let (mark, among, (tile, the_line, other)) = named.tied (tap s w v) q in
+      record { mark = mark; among = among; side = s; tile = tile; the_line = the_line; other = other }
 
   pub joined_tapped : (w v : W) → Joins W T w v → Tapped f (net_of w) (net_of v)
   joined_tapped w v (forth s q) = up (tie_tap w v s q)

@@ -131,7 +131,7 @@ module _ (p : DataPath) (f : Flattened) (flat : IsFlat p f) where
       let i = get_map (spot 0) r.0 k n (ap (λ x. slice_get x k) r.2 ∙ ek) in
       let within = slice_get_within f.inputs a r.0 r.1 in
       let l1 = flat.sizes.0 in
-      let l2 = p.whole.entries_fit.0.0 in
+      let ((l2, _, _), _) = p.whole.entries_fit in
       let pad = some_entry (p.pads).inputs a (omega (arith, within, l1)) in
       let id = some_entry p.inputs a (omega (arith, within, l1, l2)) in
       let are = flat.inputs a pad.0 id.0 r.0 pad.1 id.1 r.1 in

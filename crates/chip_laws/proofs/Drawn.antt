@@ -96,26 +96,25 @@ module _ (n m : Network) (pads : Pads) (net : Nets) (ins outs : List (List Spot)
       (out_rows_of : AreRowsOf pads.outputs outs)
       (are : All (λ nets. All (λ k. IsKind net k Given) nets) ins)
       (all : (k : Spot) → IsKind net k Given → (nets : List Spot) × Contains ins nets × Contains nets k) where
-    rest : AllZip (On n node) (flat_map bit_labels pads.inputs) (bits n node ins)
-        × AllZip (On n node) (flat_map bit_labels pads.outputs) (bits n node outs)
-    rest = zip_parts (On n node) (flat_map bit_labels pads.inputs) (flat_map bit_labels pads.outputs)
-        (bits n node ins) (bits n node outs)
-        (same_length n node pads.inputs ins in_rows_of) named.1.1.1.1.1
-
     drawn : DrawsCircuit n pads net ins outs node
-    drawn = record {
-      is_fed = is_net;
-      draws = law n m e.numbers net place e.inside e.draws;
-      ground = named.1.0;
-      power = named.0;
-      phia = named.1.1.0;
-      phib = named.1.1.1.0;
-      phic = named.1.1.1.1.0;
-      inputs = in_rows n node pads.inputs ins in_rows_of rest.0;
-      outputs = in_rows n node pads.outputs outs out_rows_of rest.1;
-      are_inputs = are;
-      all_inputs = all;
-    }
+    drawn =
+        let (power, (ground, (phia, (phib, (phic, of_pads))))) = named in
+        let (of_inputs, of_outputs) = zip_parts (On n node) (flat_map bit_labels pads.inputs)
+        (flat_map bit_labels pads.outputs) (bits n node ins) (bits n node outs)
+        (same_length n node pads.inputs ins in_rows_of) of_pads in
+        record {
+          is_fed = is_net;
+          draws = law n m e.numbers net place e.inside e.draws;
+          ground = ground;
+          power = power;
+          phia = phia;
+          phib = phib;
+          phic = phic;
+          inputs = in_rows n node pads.inputs ins in_rows_of of_inputs;
+          outputs = in_rows n node pads.outputs outs out_rows_of of_outputs;
+          are_inputs = are;
+          all_inputs = all;
+        }
 
 pub networks_draw_circuits : DrawingsCarryOver → NetworksDrawCircuits
 networks_draw_circuits law n m pads net ins outs place e is_net i o are all =

@@ -78,11 +78,11 @@ module _ (p : DataPath) (f : Flattened) (flat : IsFlat p f) where
       all_from (λ k. IsKind (nets_of f.net) k Given) xs (λ k n ek. input_at a k n (find p f flat a k n xs ea ek)))
 
 pub flats_are_drawable : FlatsAreDrawable
-flats_are_drawable p f is flat = record {
+flats_are_drawable p f is flat = let (inputs_fit, outputs_fit) = p.whole.entries_fit in record {
   is_fed = net_is f.net is;
   are_inputs = inputs_are p f flat;
   in_rows = rows_fit (p.pads).inputs f.inputs flat.sizes.0
-      (are_full (p.pads).inputs p.inputs flat.of f.inputs p.whole.entries_fit.0.0 flat.inputs);
+      (are_full (p.pads).inputs p.inputs flat.of f.inputs inputs_fit.0 flat.inputs);
   out_rows = rows_fit (p.pads).outputs f.outputs flat.sizes.1
-      (are_full (p.pads).outputs p.outputs flat.of f.outputs p.whole.entries_fit.1.0 flat.outputs);
+      (are_full (p.pads).outputs p.outputs flat.of f.outputs outputs_fit.0 flat.outputs);
 }

@@ -164,7 +164,8 @@ with_pads r p f network node pads is_p is_r law shows flat draws inputs outputs 
     let are_out : ArePadsOf (r.pads).outputs p.outputs flat.of f.outputs =
     subst (λ x. ArePadsOf x p.outputs flat.of f.outputs) outs flat.outputs in
     let size_rows : length f.outputs ≡ length (r.pads).outputs = flat.sizes.1 ∙ ap length outs in
-    let size_ids : length p.outputs ≡ length (r.pads).outputs = p.whole.entries_fit.1.0 ∙ ap length outs in
+    let (_, (as_many, _, _)) = p.whole.entries_fit in
+    let size_ids : length p.outputs ≡ length (r.pads).outputs = as_many ∙ ap length outs in
     let here = law network r.pads (nets_of f.net) (rows_of f.inputs)
     (rows_of f.outputs) node draws charge after inputs shown fit circuit in
     let givens = here.0 in

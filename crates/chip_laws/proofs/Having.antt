@@ -202,8 +202,9 @@ module _ (network : Network) (node : Point → ℕ) where
         by_side (inr h) = let w = in_pads pads.outputs outs name draws.outputs h in (node (OfNet w.0), w.2)
 
     none_missing : (i : ℕ) (name : List ℕ) → ¬ IsMissing network (chip_labels pads) i name
-    none_missing i name m = let w = is_labelled name (contains_from_get (chip_labels pads) i name m.at) in
-        m.none w.1.0 w.1.1 w.1.2
+    none_missing i name m =
+        let (_, (tag, among, is_name, _)) = is_labelled name (contains_from_get (chip_labels pads) i name m.at) in
+        m.none tag among is_name
 
 pub circuits_have_pads : CircuitsHavePads
 circuits_have_pads network pads net ins outs node draws apart = record {

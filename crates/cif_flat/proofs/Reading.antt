@@ -49,7 +49,37 @@ spelled (Start number a b) text (f, r, e, c, (f2, r2, e2, s2, (f3, r3, e3, s3, (
           (All-cons Positive b [] (omega (arith, ints, one.1)) (All-nil Positive)));
       formed = tt;
     }
-spelled (Start number a b) text (f, r, e, c, (f2, r2, e2, s2, (f3, r3, e3, s3, (f4, r4, e4, n, inr (f5, r5, e5, s5, (f6, r6, e6, ia, (f7, r7, e7, s7, ib))))))) = record {
+spelled (Start number a b) text (
+  f,
+  r,
+  e,
+  c,
+  (
+    f2,
+    r2,
+    e2,
+    s2,
+    (
+      f3,
+      r3,
+      e3,
+      s3,
+      (
+        f4,
+        r4,
+        e4,
+        n,
+        inr (
+          f5,
+          r5,
+          e5,
+          s5,
+          (f6, r6, e6, ia, (f7, r7, e7, s7, ib)),
+        ),
+      ),
+    ),
+  ),
+) = record {
   positive = All-cons Positive number (a ∷ b ∷ []) (natural number f4 n)
       (All-cons Positive a (b ∷ []) (natural a f6 ia) (All-cons Positive b [] (natural b r7 ib) (All-nil Positive)));
   formed = tt;

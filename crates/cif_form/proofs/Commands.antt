@@ -72,10 +72,10 @@ direction_reads d front rest (inr (sep, back, f, h, k)) e =
 scale_reads : (a b : ℤ) (front rest : List ℕ)
     → Either ((a ≡ pos 1) × (b ≡ pos 1)) (Separator ▹ Integer a ▹ Separator ▹ Integer b) front → Ends rest
     → Finds scale_from (a, b) front rest
-scale_reads a b front rest (inl h) e =
-    ap (λ t. scale_from (t ++ rest)) h.1
+scale_reads a b front rest (inl ((over, under), nothing)) e =
+    ap (λ t. scale_from (t ++ rest)) nothing
     ∙ tail_left (pos 1, pos 1) (then_separator (and_then integer_from scale_under)) rest (ends_follow rest e)
-    ∙ (λ i. Some ((sym h.0.0 i, sym h.0.1 i), rest))
+    ∙ (λ i. Some ((sym over i, sym under i), rest))
 scale_reads a b front rest (inr (sep, back, f, h, (fa, more, g, ha, (sep', fb, k, h', hb)))) e =
     let back_go : follows (back ++ rest) ≡ true =
     ap (λ t. follows (t ++ rest)) g ∙ ap follows (append_assoc fa more rest) ∙ integer_follows a fa (more ++ rest) ha in

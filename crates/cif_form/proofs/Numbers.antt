@@ -81,16 +81,17 @@ digits_read (b ∷ ds) n rest a s =
     ∙ ap (λ v. (digits_value_after 10 (n * 10 + v) ds, rest)) (sym d.1)
 
 natural_reads : (ds rest : List ℕ) (n : ℕ) → Digits n ds → Stops rest → Finds natural_from n ds rest
-natural_reads [] rest n h s = absurd (omega (arith, h.0.0))
-natural_reads (b ∷ ds) rest n h s =
-    let d = digit_reads b h.0.1.0 in
+natural_reads [] rest n ((some, digits), value) s = absurd (omega (arith, some))
+natural_reads (b ∷ ds) rest n ((some, digits), value) s =
+    let d = digit_reads b digits.0 in
     let e : natural_from (b ∷ (ds ++ rest)) ≡ Some (digits_from 0 (b ∷ (ds ++ rest))) = rw (d.0, natural_from) refl in
-    e ∙ ap (λ p. Some p) (digits_read (b ∷ ds) 0 rest h.0.1 s ∙ ap (λ v. (v, rest)) h.1)
+    e ∙ ap (λ p. Some p) (digits_read (b ∷ ds) 0 rest digits s ∙ ap (λ v. (v, rest)) value)
 
 -- digits end the separators in front of them
 digits_past : (ds rest : List ℕ) (n : ℕ) → Digits n ds → past (ds ++ rest) ≡ ds ++ rest
-digits_past [] rest n h = absurd (omega (arith, h.0.0))
-digits_past (b ∷ ds) rest n h = rw (digit_no_separator b (digit_reads b h.0.1.0).0, past) refl
+digits_past [] rest n ((some, digits), value) = absurd (omega (arith, some))
+digits_past (b ∷ ds) rest n ((some, digits), value) =
+    rw (digit_no_separator b (digit_reads b digits.0).0, past) refl
 
 pub separators_past : (seps rest : List ℕ) → Separators seps → past (seps ++ rest) ≡ past rest
 separators_past [] rest h = refl
@@ -114,10 +115,11 @@ digit_no_minus : (b : ℕ) → is_digit b ≡ true → eqb b 45 ≡ false
 digit_no_minus b h = grind arith
 
 unsigned_reads : (ds rest : List ℕ) (n : ℕ) → Digits n ds → Stops rest → Finds signed_digits_from (pos n) ds rest
-unsigned_reads [] rest n h s = absurd (omega (arith, h.0.0))
+unsigned_reads [] rest n ((some, digits), value) s = absurd (omega (arith, some))
 unsigned_reads (b ∷ ds) rest n h s =
+    let ((some, digits), value) = h in
     let e : signed_digits_from (b ∷ (ds ++ rest)) ≡ and_then natural_from (gives pos) (b ∷ (ds ++ rest)) =
-    rw (digit_no_minus b (digit_reads b h.0.1.0).0, signed_digits_from) refl in
+    rw (digit_no_minus b (digit_reads b digits.0).0, signed_digits_from) refl in
     e ∙ ap (goes_on (gives pos)) (natural_reads (b ∷ ds) rest n h s)
 
 negative_reads : (ds rest : List ℕ) (n : ℕ) → Digits n ds → Stops rest
@@ -161,8 +163,8 @@ point_reads p front rest (fx, more, e, hx, (sep, fy, f, hs, hy)) s =
     (ap (goes_on (gives (λ y. record { x = p.x; y = y }))) (signed_reads p.y fy rest hy s)))
 
 digits_start : (ds rest : List ℕ) (n : ℕ) → Digits n ds → starts (ds ++ rest) ≡ true
-digits_start [] rest n h = absurd (omega (arith, h.0.0))
-digits_start (b ∷ ds) rest n h = rw (digit_reads b h.0.1.0).0 refl
+digits_start [] rest n ((some, digits), value) = absurd (omega (arith, some))
+digits_start (b ∷ ds) rest n ((some, digits), value) = rw (digit_reads b digits.0).0 refl
 
 pub integer_follows : (z : ℤ) (front rest : List ℕ) → Integer z front → follows (front ++ rest) ≡ true
 integer_follows z front rest (seps, ds, e, h, (n, f, d)) =

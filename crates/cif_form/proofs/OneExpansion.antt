@@ -50,7 +50,8 @@ one_draws ds _ _ _ _ _ (Draws.call {s = s} {l = l} {is = is} {rs = rs} n ts f ms
     let t : f' ≡ f = one_definition ds n f' f a' a in
     let u = one_draws ds f.scale None f.body us vs x (subst (λ w. Draws ds w.scale None w.body vs) t x') in
     λ i. map (placed (one_motions s ts ms ms' g g' i)) (u i) ++ one_draws ds s l is rs qs d e i
-one_draws ds _ _ _ _ _ (Draws.user {s = s} {l = l} {is = is} {rs = rs} digit text d) (Draws.user {rs = qs} digit' text' e) = one_draws ds s l is rs qs d e
+one_draws ds _ _ _ _ _ (Draws.user {s = s} {l = l} {is = is} {rs = rs} digit text d)
+    (Draws.user {rs = qs} digit' text' e) = one_draws ds s l is rs qs d e
 one_draws ds _ _ _ _ _ (Draws.comment {s = s} {l = l} {is = is} {rs = rs} text d) (Draws.comment {rs = qs} text' e) =
     one_draws ds s l is rs qs d e
 one_draws ds _ _ _ _ _ (Draws.shape c rs h d) (Draws.layer n other k e) = absurd h

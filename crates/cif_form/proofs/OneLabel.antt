@@ -60,8 +60,8 @@ digits_word [] h = All-nil Word
 digits_word (b ∷ ds) h = All-cons Word b ds (digit_word b (digit_reads b h.0).0) (digits_word ds h.1)
 
 pub number_word : (z : ℤ) (text : List ℕ) → SignedDigits z text → (0 < length text) × All Word text
-number_word z text (n, inl (e, d)) = (d.0.0, digits_word text d.0.1)
-number_word z text (n, inr (e, (minus, ds, f, g, d))) =
+number_word z text (n, inl (e, ((some, digits), value))) = (some, digits_word text digits)
+number_word z text (n, inr (e, (minus, ds, f, g, ((some, digits), value)))) =
     let k : text ≡ 45 ∷ ds = f ∙ ap (λ m. m ++ ds) g in
     let no : Word 45 =
     (λ h. elim h [
@@ -70,7 +70,7 @@ number_word z text (n, inr (e, (minus, ds, f, g, d))) =
     ]) in (
       subst (λ t. 0 < length t) (sym k) (omega arith),
       subst (All Word) (sym k)
-          (All-cons Word 45 ds no (digits_word ds d.0.1)),
+          (All-cons Word 45 ds no (digits_word ds digits)),
     )
 
 number_in : Option (ℤ × List ℕ) → ℤ

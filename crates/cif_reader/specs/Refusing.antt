@@ -18,13 +18,13 @@ IsRuleAt P b =
     × (b.spot ≡ Offset offset) × P rule offset
 
 -- the file is read to its end, or this is the rule that its reading breaks first
-abbrev pub OfFile : List ℕ → Option Broken → Type 0
-OfFile text None = (items : List Item) × FileScans text items Whole
-OfFile text (Some b) = IsRuleAt (λ rule offset. (items : List Item) × FileScans text items (Breaks rule offset)) b
+abbrev pub OfCif : List ℕ → Option Broken → Type 0
+OfCif text None = (items : List Item) × FileScans text items Whole
+OfCif text (Some b) = IsRuleAt (λ rule offset. (items : List Item) × FileScans text items (Breaks rule offset)) b
 
 -- want of memory, or the rule that the reading of the file breaks first
 abbrev pub Refuses : List ℕ → Refusal → Type 0
-Refuses text = IsRefusal (λ b. OfFile text (Some b))
+Refuses text = IsRefusal (λ b. OfCif text (Some b))
 
 -- want of memory, or the rule that the text from a place on breaks there
 abbrev pub RefusesAt : Bool → List ℕ → ℕ → Refusal → Type 0

@@ -11,7 +11,7 @@ ghost use Rattle.cif_form.specs.Fits.{Fits};
 ghost use Rattle.cif_form.specs.Readers.{is_blank, past_blanks};
 ghost use Rattle.cif_form.specs.Scans.{TextEnd, IsReadable, IsLateEnd, opens, Scans, FileScans};
 ghost use Rattle.cif_form.specs.Scans.TextEnd.{Whole};
-ghost use Rattle.cif_reader.specs.Refusing.{Refuses, RefusesAt, IsRead, IsStep, OfFile};
+ghost use Rattle.cif_reader.specs.Refusing.{Refuses, RefusesAt, IsRead, IsStep, OfCif};
 
 use crate::bytes::{is_blank, past_blanks};
 use crate::command::command;
@@ -200,7 +200,7 @@ fn add_commands(alloc: Global, bytes: &[u8], cif: &mut Cif) -> Result<(), Refusa
 /// C5 (more than blanks behind the `E`).
 pub fn read_cif(alloc: Global, bytes: &[u8]) -> Result<Cif, Refusal>
     ensures whole { IfOk result (λ cif. FileScans bytes.now cif Whole) }
-    ensures judged { IsJudged (OfFile bytes.now) result }
+    ensures judged { IsJudged (OfCif bytes.now) result }
 {
     if let Some(offset) = late_end(bytes) {
         return Err(broken(1, offset));

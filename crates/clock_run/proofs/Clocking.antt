@@ -24,21 +24,16 @@ use Rattle.clock_run.proofs.Planned.{supplies_driven, inputs_driven, plan_drives
 abbrev HasDrivers : Network → Pads → List ℕ → Phases → Type 0
 HasDrivers net pads words phases = (driver : ℕ → Option Trit) × AreDrivers net (drives phases pads.inputs words) driver
 
-some : (net : Network) (pads : Pads) (words : List ℕ) (phases : Phases) (before after : ℕ → Trit)
-    → SettlesTo net (drives phases pads.inputs words) before after
-    → HasDrivers net pads words phases
-some net pads words phases before after s = (s.driver, s.drivers)
-
 in_clock : (net : Network) (pads : Pads) (words : List ℕ) (before : ℕ → Trit) (shown : List (List Trit))
     (after : ℕ → Trit)
     → IsClock net pads words before shown after
     → (setting : Setting) → HasDrivers net pads words (phases_of setting)
-in_clock net pads words before shown after k PhiC = some net pads words (phases_of PhiC) before k.until.0 k.until.1
+in_clock net pads words before shown after k PhiC = let (first, phic, more) = k.until in (phic.driver, phic.drivers)
 in_clock net pads words before shown after k Quiet =
-    some net pads words (phases_of Quiet) k.until.0 k.until.2.0 k.until.2.1
-in_clock net pads words before shown after k PhiA = some net pads words (phases_of PhiA) k.values k.rest.0 k.rest.1
+    let (first, phic, (second, quiet, more)) = k.until in (quiet.driver, quiet.drivers)
+in_clock net pads words before shown after k PhiA = let (third, phia, more) = k.rest in (phia.driver, phia.drivers)
 in_clock net pads words before shown after k PhiB =
-    some net pads words (phases_of PhiB) k.rest.2.0 k.rest.2.2.0 k.rest.2.2.1
+    let (third, phia, (fourth, quiet, (fifth, phib, more))) = k.rest in (phib.driver, phib.drivers)
 
 in_trace : (net : Network) (pads : Pads) (words : List ℕ) (before : ℕ → Trit) (outputs : List (List (List Trit)))
     (after : ℕ → Trit)

@@ -40,9 +40,9 @@ missing_here net labels i name nodes lt is h none = record {
       let l : length (take i labels) ≡ i = length-take i labels ∙ omega arith in
       let there : slice_get (take i labels ++ drop i labels) j ≡ Some other = subst (λ xs. slice_get xs j ≡ Some other)
       (sym (take-append-drop i labels)) m.at in
-      let w = partner (IsLabelled net) (take i labels) (drop i labels) nodes h j other
+      let (node, (tag, among, named, at)) = partner (IsLabelled net) (take i labels) (drop i labels) nodes h j other
       (omega (arith, l, before)) there in
-      m.none w.1.0 w.1.1 w.1.2;
+      m.none tag among named;
 }
 
 pub labelled_more : (net : Network) (labels : List (List ℕ)) (i : ℕ) (name : List ℕ) (nodes : List ℕ) (node : ℕ)

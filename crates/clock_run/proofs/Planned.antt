@@ -189,8 +189,8 @@ labelled_inside net [] [] z k d lt = absurd (omega (arith, lt))
 labelled_inside net [] (n ∷ ns) z k d lt = absurd z
 labelled_inside net (x ∷ xs) [] z k d lt = absurd z
 labelled_inside net (x ∷ xs) (n ∷ ns) z zero d lt =
-    let t = z.0 in
-    subst (λ m. m < net.nodes) (ap (λ (u : Tag). u.node) t.1.2 ∙ t.3) (net.tags_in t.1.0 t.0 t.1.1)
+    let (tag, (place, inside, is), named, at) = z.0 in
+    subst (λ m. m < net.nodes) (ap (λ (u : Tag). u.node) is ∙ at) (net.tags_in place tag inside)
 labelled_inside net (x ∷ xs) (n ∷ ns) z (suc k) d lt = labelled_inside net xs ns z.1 k d (omega (arith, lt))
 
 pub nodes_inside : (net : Network) (pads : List Pad) (own : List (List ℕ)) → AllZip (AreNodesOf net) pads own

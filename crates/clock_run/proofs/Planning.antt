@@ -28,9 +28,9 @@ use Rattle.clock_run.proofs.Zips.{zip_parts}
 none_missing : (net : Network) (labels : List (List ℕ)) (nodes : List ℕ) → AllZip (IsLabelled net) labels nodes
     → (i : ℕ) (name : List ℕ) → ¬ IsMissing net labels i name
 none_missing net labels nodes z i name m =
-    let w = partner (IsLabelled net) labels [] nodes z i name (slice_get_within labels i name m.at)
-    (subst (λ xs. slice_get xs i ≡ Some name) (sym (append-nil labels)) m.at) in
-    m.none w.1.0 w.1.1 w.1.2
+    let (node, (tag, among, named, at)) = partner (IsLabelled net) labels [] nodes z i name
+    (slice_get_within labels i name m.at) (subst (λ xs. slice_get xs i ≡ Some name) (sym (append-nil labels)) m.at) in
+    m.none tag among named
 
 pub refused_n3 : (net : Network) (pads : Pads) (offset : ℕ) → IsFirstMeeting (driver_labels pads.inputs) net.tags offset
     → IsFirstOfCircuit net pads (broken 3 (Offset offset))

@@ -74,13 +74,13 @@ module _ (r : Rtl) (names : Names) (old new : Making) (keeps : Keeps old new) wh
       only = λ c id s.
           elim (only c id s) [
             | inl before ↦ let p = h.only c id before in (p.0, p.1, p.2, later c (is_driven p.0.kind) p.3)
-            | inr now ↦ subst (λ n. (y : cells.Cell) × IsAt r.cells n y × (y.word ≡ true)
-                × MatchBool (is_driven y.kind) (IsDone names t (tasks.Cell n)) (n < suc i)) (sym now.0) (
-                  now.1.0,
-                  now.1.1,
-                  now.1.2,
+            | inr (same, (x, at, word, undriven)) ↦ subst (λ n. (y : cells.Cell) × IsAt r.cells n y × (y.word ≡ true)
+                × MatchBool (is_driven y.kind) (IsDone names t (tasks.Cell n)) (n < suc i)) (sym same) (
+                  x,
+                  at,
+                  word,
                   subst (λ b. MatchBool b (IsDone names t (tasks.Cell i)) (i < suc i))
-                      (sym now.1.3) (let q : i < suc i = omega arith in q),
+                      (sym undriven) (let q : i < suc i = omega arith in q),
                 )
           ];
       pads = λ n pad s.
@@ -91,7 +91,7 @@ module _ (r : Rtl) (names : Names) (old new : Making) (keeps : Keeps old new) wh
       unfed = λ n u.
           elim (unfed n u) [
             | inl before ↦ let p = h.unfed n before in (p.0, p.1, p.2, p.3, keeps.cells p.0 p.1 p.4, p.5)
-            | inr now ↦ (i, now.1.0, omega arith, now.0, now.1.1, now.1.2)
+            | inr (word, (id, on, next)) ↦ (i, id, omega arith, word, on, next)
           ];
     }
       where

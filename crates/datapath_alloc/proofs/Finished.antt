@@ -229,23 +229,23 @@ module _ (r : Rtl) (bits : List Part) (names : Names) (was : Making) (d : DataPa
   control_read : (id : NetId) → Contains (entries_of false (r.pads).inputs d.inputs) id
       → is_read d.control id.0 ≡ true
   control_read id c =
-      let o = fin.bit_pads id c in
-      let x = cell_of r bits names m p o.0 o.1 o.2 in
-      let bit : x.1.word ≡ false = x.4 ∙ ap not (eq-eqb o.1.width 0 o.3) in
-      let on = (lowered.cell_names x.0 x.1 x.2).0 bit in
-      let port = lowered.ports x.0 o.0 x.1 on.0 id x.2 x.3 on.1
-      (subst (λ (n : Names). Stands n.inputs o.0 id) p.begun.names o.4) in
-      latch_reads d.control on.0.0 phases.C id port.is_latch
+      let (k, pad, pad_at, is_bit, named) = fin.bit_pads id c in
+      let (cell, x, at, kind, sort) = cell_of r bits names m p k pad pad_at in
+      let bit : x.word ≡ false = sort ∙ ap not (eq-eqb pad.width 0 is_bit) in
+      let (latch, on) = (lowered.cell_names cell x at).0 bit in
+      let port = lowered.ports cell k x latch id at kind on
+      (subst (λ (n : Names). Stands n.inputs k id) p.begun.names named) in
+      latch_reads d.control latch.0 phases.C id port.is_latch
 
   slice_read : (id : NetId) → Contains (entries_of true (r.pads).inputs d.inputs) id
       → is_read d.slices.net id.0 ≡ true
   slice_read id c =
-      let o = fin.word_pads id c in
-      let w = p.cells.pads o.0 id o.4 in
-      let h = p.cells.ports w.0 o.0 w.1 w.2 in
-      latch_reads d.slices.net h.0.0 phases.C id
-      (subst (λ q. slice_get d.slices.net h.0.0 ≡ Some (Latch phases.C (Some q))) (one_stands m.pads o.0 h.1 id h.3 o.4)
-      h.4.0)
+      let (k, _, _, _, named) = fin.word_pads id c in
+      let (cell, below, word) = p.cells.pads k id named in
+      let (latch, pad, on, stands, (is_latch, _)) = p.cells.ports cell k below word in
+      latch_reads d.slices.net latch.0 phases.C id
+      (subst (λ q. slice_get d.slices.net latch.0 ≡ Some (Latch phases.C (Some q)))
+      (one_stands m.pads k pad id stands named) is_latch)
 
   pub narrow : IsNarrow (cost r) d
   narrow =

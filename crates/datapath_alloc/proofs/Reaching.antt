@@ -162,18 +162,18 @@ module _ (r : Rtl) (bits : List Part) (names : Names) (sound : IsSound r) (low :
       pub waited : (e : ℕ) (x : RtlExpr) → slice_get names.tasks t ≡ Some (tasks.Expr e) → IsAt r.exprs e x
           → IsEntry x → IsWaited m e
       waited e x is at entry =
-          let on = (low.expr_names e x at).0 (bit x entry) in
-          let low_end = low.placed.entries t e x on.0 is at entry on.1 in (
-            on.0,
-            subst (λ (n : Names). Stands n.exprs e on.0) (sym begun.names) on.1,
+          let (net, on) = (low.expr_names e x at).0 (bit x entry) in
+          let low_end = low.placed.entries t e x net is at entry on in (
+            net,
+            subst (λ (n : Names). Stands n.exprs e net) (sym begun.names) on,
             omega (arith, low_end, control),
-            never on.0.0 (map (λ (l : Lift). l.control) m.lifts) (λ id c q.
-                let f = contains_from_map (λ (l : Lift). l.control) m.lifts id c in
-                let o = h.lifts f.0 f.1 in
-                let at_id : f.0.control ≡ on.0 = same_net f.0.control on.0 (ap (λ (i : NetId). i.0) f.2 ∙ q) in
-                let e_same = low.inputs.entries_apart o.0 e o.1 x on.0 o.2 o.3
-                (subst (Stands names.exprs o.0) at_id o.4) at entry on.1 in
-                not_done t (tasks.Expr e) is (subst (λ n. IsDone names t (tasks.Expr n)) e_same o.5)),
+            never net.0 (map (λ (l : Lift). l.control) m.lifts) (λ id c q.
+                let (lift, among, same) = contains_from_map (λ (l : Lift). l.control) m.lifts id c in
+                let (a, y, at_a, lifted, stands, done) = h.lifts lift among in
+                let at_net : lift.control ≡ net = same_net lift.control net (ap (λ (i : NetId). i.0) same ∙ q) in
+                let e_same = low.inputs.entries_apart a e y x net at_a lifted
+                (subst (Stands names.exprs a) at_net stands) at entry on in
+                not_done t (tasks.Expr e) is (subst (λ n. IsDone names t (tasks.Expr n)) e_same done)),
           )
         where
           bit : (x : RtlExpr) → IsEntry x → IsSort r.cells x false

@@ -162,7 +162,7 @@ module _ (r : Rtl) (control : List Part) (s : SliceNet) (bits words : List (Opti
         else None
 
     abbrev port_of : (i k : ℕ) → (i < length (r.pads).inputs) ⊎ (length (r.pads).inputs ≤ i) → Option Port
-    port_of i k (inl l) = cell_port i k (sound.input_cells i l).0 (sound.input_cells i l).1.0
+    port_of i k (inl l) = let (c, (x, _, _), _) = sound.input_cells i l in cell_port i k c x
     port_of i k (inr l) = None
 
     abbrev pub ports_of : Ports

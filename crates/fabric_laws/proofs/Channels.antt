@@ -18,7 +18,7 @@ use Rattle.tile_cells.specs.Tiles.{Cell, cell}
 use Rattle.fabric.specs.declared.thing.Side.{Side}
 use Rattle.fabric.specs.declared.thing.Side.TheVariants.{L, R}
 use Rattle.fabric.specs.declared.thing.Mark.{Mark}
-use Rattle.fabric.specs.Plan.{Plan, bands, rows_of, IsFabric, Stands}
+use Rattle.fabric.specs.Plan.{Plan, bands, rows_of, IsFabric}
 use Rattle.fabric.specs.Shape.{base, shape}
 use Rattle.fabric.specs.Switches.{Net, LineOf, HasGate, HasEnd}
 use Rattle.fabric.specs.Switches.Net.{segment, line}
@@ -34,7 +34,7 @@ use Rattle.fabric_laws.proofs.Spots.ToRight.{inside as right_inside, across}
 use Rattle.fabric_laws.proofs.Spots.Upward.{inside as up_inside, upper, next}
 use Rattle.fabric_laws.proofs.Nets.{NetAt}
 use Rattle.fabric.proofs.Apart.{one_mark}
-use Rattle.fabric_laws.proofs.Zones.{row_at, are_together, mark_stands}
+use Rattle.fabric_laws.proofs.Zones.{row_at, are_together, mark_stands, pull_up_line}
 use Rattle.fabric_laws.proofs.Conductors.{follows, at_channel, all_things, all_rows, layer_is, they_meet}
 use Rattle.fabric_laws.proofs.Conductors.{drawn_larger, crossing_is, crossing_of}
 use Rattle.fabric_laws.proofs.Joins.{Owns, is_right_of, is_upon}
@@ -547,17 +547,13 @@ module _ (f : Plan) (w : IsFabric f) where
   -- each switch has a gate
   pub some_gate : (m : Mark) → Contains f.marks m → IsSwitchTile m.tile → (n : Net) × HasGate f m n
   some_gate m h (inl e) =
-      let s = subst (λ z. Stands f z m.band m.row m.column) e
-      (mark_stands f w m.tile m.band m.row m.column
-      (record { mark_ = m; among = h; tile = refl; band = refl; row = refl; column = refl })) in (
-        segment s.2.segment,
-        inl (e, record { the_segment = s.2.segment; among = s.2.among; crosses = s.2.crosses; is = refl }),
-      )
+      let (left, right, s) = mark_stands f w Tran m.band m.row m.column
+      (record { mark_ = m; among = h; tile = e; band = refl; row = refl; column = refl }) in
+      (segment s.segment, inl (e, record { the_segment = s.segment; among = s.among; crosses = s.crosses; is = refl }))
   some_gate m h (inr e) =
-      let s = subst (λ z. Stands f z m.band m.row m.column) e
-      (mark_stands f w m.tile m.band m.row m.column
-      (record { mark_ = m; among = h; tile = refl; band = refl; row = refl; column = refl })) in
-      (line s.1.0, inr (e, record { the_line = s.1.0; among = s.1.1; passes = s.1.2; is = refl }))
+      let l = pull_up_line f w m.band m.row m.column
+      (record { mark_ = m; among = h; tile = e; band = refl; row = refl; column = refl }) in
+      (line l.line, inr (e, record { the_line = l.line; among = l.among; passes = l.passes; is = refl }))
 
   -- ---- ends, the other way
   pub record EndSquare (m : Mark) (n : Net) : Type 0 where

@@ -32,6 +32,7 @@ use Rattle.fabric_laws.proofs.Spots.{SameTile, RightTile, UpperTile, NextBand, s
 use Rattle.fabric_laws.proofs.Spots.ToRight.{inside as right_inside, across}
 use Rattle.fabric_laws.proofs.Spots.Upward.{inside as up_inside, upper, next}
 use Rattle.fabric_laws.proofs.Zones.{IsCol, IsRow, row_at, here_col, here_row, one_col, are_together, mark_stands}
+use Rattle.fabric_laws.proofs.Zones.{pull_up_line}
 use Rattle.fabric_laws.proofs.Nets.{NetAt, near_segments, in_order}
 use Rattle.fabric.proofs.Apart.{one_line}
 use Rattle.fabric_laws.proofs.Conductors.{Owner, follows, at_part, at_cells, layer_is, they_meet, all_things, all_rows}
@@ -620,8 +621,8 @@ module _ (f : Plan) (w : IsFabric f) where
       (line s.line, s.among, (s.line, s.among, s.passes, refl))
   net_of (mark Tran) of_segment b r c h i = let s = (mark_stands f w Tran b r c i.0).2 in
       (segment s.segment, s.among, (s.segment, s.among, inl s.crosses, refl))
-  net_of (mark PullUp) (of_line L) b r c h i = let s = (mark_stands f w PullUp b r c i.0).1 in
-      (line s.0, s.1, (s.0, s.1, s.2, refl))
+  net_of (mark PullUp) (of_line L) b r c h i = let s = pull_up_line f w b r c i.0 in
+      (line s.line, s.among, (s.line, s.among, s.passes, refl))
   net_of (mark PullUp) of_power b r c h i = (the_power, tt, refl)
   net_of (mark Under) of_segment b r c h i = go (mark_stands f w Under b r c i.0)
     where

@@ -15,7 +15,7 @@ use Rattle.tile_cells.specs.declared.tile.Tile.TheVariants.{Tran, PullUp, Under}
 use Rattle.tile_cells.specs.Tiles.{Cell, cell}
 use Rattle.fabric.specs.declared.thing.Side.TheVariants.{L, R}
 use Rattle.fabric.specs.declared.thing.Segment.{Segment}
-use Rattle.fabric.specs.Plan.{Plan, bands, rows_of, Crosses, IsFabric, Stands}
+use Rattle.fabric.specs.Plan.{Plan, bands, rows_of, Crosses, LineAt, IsFabric, Stands}
 use Rattle.fabric.specs.Shape.{base, last_column, shape}
 use Rattle.fabric.specs.Switches.Net.{segment, line, power as the_power}
 use Rattle.fabric_laws.proofs.Tile.{Thing, cells_of, Here, Inside, Slot}
@@ -23,7 +23,7 @@ use Rattle.fabric_laws.proofs.Tile.Thing.{rail, seg, lin, mark, under_rail}
 use Rattle.fabric_laws.proofs.Heights.{natural}
 use Rattle.fabric.proofs.Lying.{some_rows, crossing, passing, segment_lies}
 use Rattle.fabric_laws.proofs.Back.{drawn_at}
-use Rattle.fabric_laws.proofs.Zones.{mark_stands}
+use Rattle.fabric_laws.proofs.Zones.{mark_stands, pull_up_line}
 use Rattle.fabric_laws.proofs.Owners.{owner_conducts}
 use Rattle.lam_geom.proofs.Chains.{join_chains}
 use Rattle.switch_net.proofs.Joins.{join_flip}
@@ -220,38 +220,41 @@ module _ (joined : RectanglesAreJoined) (f : Plan) (w : IsFabric f) where
 
   -- ---- PullUp
   module _ (b r c : ℕ) (h : Here f b r c (mark PullUp)) where
-    abbrev on : Stands f PullUp b r c
-    on = mark_stands f w PullUp b r c h.0
+    at_top : r ≡ rows_of f b
+    at_top = (mark_stands f w PullUp b r c h.0).0
+
+    abbrev pulled : LineAt f L b c
+    pulled = pull_up_line f w b r c h.0
 
     band_ : b < bands f
-    band_ = (passing f w on.1.0 L b c on.1.1 on.1.2).band
+    band_ = (passing f w pulled.line L b c pulled.among pulled.passes).band
 
     columns_ : (1 ≤ c) × (c < last_column f)
-    columns_ = let i = passing f w on.1.0 L b c on.1.1 on.1.2 in (i.left, i.right)
+    columns_ = let i = passing f w pulled.line L b c pulled.among pulled.passes in (i.left, i.right)
 
     slot_up : (v : ℕ) → v < 18000 → Slot f b r v
-    slot_up v g = inr (on.0, g)
+    slot_up v g = inr (at_top, g)
 
-    pub foot : (u v : ℕ) → Inside (cell ND 2 0 6 6) u v → Reached joined f w (line on.1.0) (spot f b r c ND u v)
+    pub foot : (u v : ℕ) → Inside (cell ND 2 0 6 6) u v → Reached joined f w (line pulled.line) (spot f b r c ND u v)
     foot u v i =
         let n = some_rows f w b band_ in
-        let e = on.0 in
+        let e = at_top in
         let low : Slot f b (r - 1) 5999 = inl (omega arith, omega arith) in
         let a = owner_at joined f w (lin L) (part (of_line L) ND 2 0 6 36) b (r - 1) c 1000 5999 band_ low (omega arith)
-        (on.1.0, on.1.1, on.1.2, inl (omega arith)) (inl refl)
+        (pulled.line, pulled.among, pulled.passes, inl (omega arith)) (inl refl)
         (inside _ 1000 5999 (omega arith, omega arith, omega arith, omega arith)) in
         let d = owner_at joined f w (mark PullUp) (part (of_line L) ND 2 0 6 6) b r c 1000 0 band_
         (slot_up 0 (omega arith)) (omega arith) h (inl refl)
         (inside _ 1000 0 (omega arith, omega arith, omega arith, omega arith)) in
-        join_chains (reach_line joined f w on.1.0 on.1.1 L b (r - 1) c 1000 5999 on.1.2 (inl (omega arith)) low
-        (omega arith) (omega arith))
+        join_chains (reach_line joined f w pulled.line pulled.among L b (r - 1) c 1000 5999 pulled.passes
+        (inl (omega arith)) low (omega arith) (omega arith))
         (link (to_the_top ND (pos (10000 * c + 1000)) (pos (500 * base f b + 6000 * (r - 1) + 5999))
         (pos (10000 * c + 1000)) (pos (500 * base f b + 6000 * r + 0)) refl (omega (arith, ints)) a d)
         (within (mark PullUp) (part (of_line L) ND 2 0 6 6) b r c band_ h (inl refl) (omega arith)
-        (inr (on.0, omega arith)) 1000 0 u v (inside _ 1000 0 (omega arith, omega arith, omega arith, omega arith))
+        (inr (at_top, omega arith)) 1000 0 u v (inside _ 1000 0 (omega arith, omega arith, omega arith, omega arith))
         i))
 
-    pub plate : (u v : ℕ) → Inside (cell NM 2 2 12 6) u v → Reached joined f w (line on.1.0) (spot f b r c NM u v)
+    pub plate : (u v : ℕ) → Inside (cell NM 2 2 12 6) u v → Reached joined f w (line pulled.line) (spot f b r c NM u v)
     plate u v i =
         let a = owner_at joined f w (mark PullUp) (part (of_line L) ND 2 0 6 6) b r c 1500 1500 band_
         (slot_up 1500 (omega arith)) (omega arith) h (inl refl)
@@ -264,10 +267,10 @@ module _ (joined : RectanglesAreJoined) (f : Plan) (w : IsFabric f) where
         (omega arith) h (inr (inl refl)) refl
         (inside _ 1500 1500 (omega arith, omega arith, omega arith, omega arith)) a d)
         (within (mark PullUp) (part (of_line L) NM 2 2 12 6) b r c band_ h (inr (inl refl)) (omega arith)
-        (inr (on.0, omega arith)) 1500 1500 u v
+        (inr (at_top, omega arith)) 1500 1500 u v
         (inside _ 1500 1500 (omega arith, omega arith, omega arith, omega arith)) i))
 
-    pub neck : (u v : ℕ) → Inside (cell NP 8 2 12 8) u v → Reached joined f w (line on.1.0) (spot f b r c NP u v)
+    pub neck : (u v : ℕ) → Inside (cell NP 8 2 12 8) u v → Reached joined f w (line pulled.line) (spot f b r c NP u v)
     neck u v i =
         let a = owner_at joined f w (mark PullUp) (part (of_line L) NM 2 2 12 6) b r c 4500 1500 band_
         (slot_up 1500 (omega arith)) (omega arith) h (inr (inl refl))
@@ -280,10 +283,10 @@ module _ (joined : RectanglesAreJoined) (f : Plan) (w : IsFabric f) where
         (omega arith) h (inr (inr (inr (inr (inl refl))))) refl
         (inside _ 4500 1500 (omega arith, omega arith, omega arith, omega arith)) a d)
         (within (mark PullUp) (part (of_line L) NP 8 2 12 8) b r c band_ h (inr (inr (inl refl))) (omega arith)
-        (inr (on.0, omega arith)) 4500 1500 u v
+        (inr (at_top, omega arith)) 4500 1500 u v
         (inside _ 4500 1500 (omega arith, omega arith, omega arith, omega arith)) i))
 
-    pub gate : (u v : ℕ) → Inside (cell NP 1 8 12 24) u v → Reached joined f w (line on.1.0) (spot f b r c NP u v)
+    pub gate : (u v : ℕ) → Inside (cell NP 1 8 12 24) u v → Reached joined f w (line pulled.line) (spot f b r c NP u v)
     gate u v i =
         let a = owner_at joined f w (mark PullUp) (part (of_line L) NP 8 2 12 8) b r c 4500 3999 band_
         (slot_up 3999 (omega arith)) (omega arith) h (inr (inr (inl refl)))
@@ -295,10 +298,10 @@ module _ (joined : RectanglesAreJoined) (f : Plan) (w : IsFabric f) where
         (link (to_the_top NP (pos (10000 * c + 4500)) (pos (500 * base f b + 6000 * r + 3999)) (pos (10000 * c + 4500))
         (pos (500 * base f b + 6000 * r + 4000)) refl (omega (arith, ints)) a d)
         (within (mark PullUp) (part (of_line L) NP 1 8 12 24) b r c band_ h (inr (inr (inr (inl refl)))) (omega arith)
-        (inr (on.0, omega arith)) 4500 4000 u v
+        (inr (at_top, omega arith)) 4500 4000 u v
         (inside _ 4500 4000 (omega arith, omega arith, omega arith, omega arith)) i))
 
-    pub low_end : (u v : ℕ) → Inside (cell ND 3 6 5 8) u v → Reached joined f w (line on.1.0) (spot f b r c ND u v)
+    pub low_end : (u v : ℕ) → Inside (cell ND 3 6 5 8) u v → Reached joined f w (line pulled.line) (spot f b r c ND u v)
     low_end u v i =
         let a = owner_at joined f w (mark PullUp) (part (of_line L) ND 2 0 6 6) b r c 1500 2999 band_
         (slot_up 2999 (omega arith)) (omega arith) h (inl refl)
@@ -310,25 +313,25 @@ module _ (joined : RectanglesAreJoined) (f : Plan) (w : IsFabric f) where
         (link (to_the_top ND (pos (10000 * c + 1500)) (pos (500 * base f b + 6000 * r + 2999)) (pos (10000 * c + 1500))
         (pos (500 * base f b + 6000 * r + 3000)) refl (omega (arith, ints)) a d)
         (within (mark PullUp) (part (of_line L) ND 3 6 5 8) b r c band_ h (inr (inr (inr (inr (inl refl)))))
-        (omega arith) (inr (on.0, omega arith)) 1500 3000 u v
+        (omega arith) (inr (at_top, omega arith)) 1500 3000 u v
         (inside _ 1500 3000 (omega arith, omega arith, omega arith, omega arith)) i))
 
     pub head : (u v : ℕ) → Inside (cell ND 2 27 6 31) u v → Reached joined f w (the_power) (spot f b r c ND u v)
     head u v i =
         let a = owner_at joined f w rail (part of_power NM 0 27 20 31) b r c 1500 14000 band_
-        (slot_up 14000 (omega arith)) (omega arith) (columns_.0, columns_.1, on.0) (inl refl)
+        (slot_up 14000 (omega arith)) (omega arith) (columns_.0, columns_.1, at_top) (inl refl)
         (inside _ 1500 14000 (omega arith, omega arith, omega arith, omega arith)) in
         let d = owner_at joined f w (mark PullUp) (part of_power ND 2 27 6 31) b r c 1500 14000 band_
         (slot_up 14000 (omega arith)) (omega arith) h (inr (inr (inr (inr (inr (inr (inl refl)))))))
         (inside _ 1500 14000 (omega arith, omega arith, omega arith, omega arith)) in
         let o = columns_.1 in
-        join_chains (subst (λ z. Reached joined f w the_power (spot f b z c NM 1500 14000)) (sym on.0)
+        join_chains (subst (λ z. Reached joined f w the_power (spot f b z c NM 1500 14000)) (sym at_top)
         (reach_rail joined f w b c 1500 14000 band_ columns_.0 (omega arith) (omega arith) (omega arith)))
         (link (by_cut NM ND (mark PullUp) (cell NC 3 28 5 30) b r c 1500 14000 band_ (slot_up 14000 (omega arith))
         (omega arith) h (inr (inr (inr (inr (inr (inr (inr (inr (inl refl))))))))) refl
         (inside _ 1500 14000 (omega arith, omega arith, omega arith, omega arith)) a d)
         (within (mark PullUp) (part of_power ND 2 27 6 31) b r c band_ h (inr (inr (inr (inr (inr (inr (inl refl)))))))
-        (omega arith) (inr (on.0, omega arith)) 1500 14000 u v
+        (omega arith) (inr (at_top, omega arith)) 1500 14000 u v
         (inside _ 1500 14000 (omega arith, omega arith, omega arith, omega arith)) i))
 
     pub high_end : (u v : ℕ) → Inside (cell ND 3 24 5 27) u v → Reached joined f w (the_power) (spot f b r c ND u v)
@@ -343,7 +346,7 @@ module _ (joined : RectanglesAreJoined) (f : Plan) (w : IsFabric f) where
         (link (flip (to_the_top ND (pos (10000 * c + 1500)) (pos (500 * base f b + 6000 * r + 13499))
         (pos (10000 * c + 1500)) (pos (500 * base f b + 6000 * r + 13500)) refl (omega (arith, ints)) d a))
         (within (mark PullUp) (part of_power ND 3 24 5 27) b r c band_ h (inr (inr (inr (inr (inr (inl refl))))))
-        (omega arith) (inr (on.0, omega arith)) 1500 13499 u v
+        (omega arith) (inr (at_top, omega arith)) 1500 13499 u v
         (inside _ 1500 13499 (omega arith, omega arith, omega arith, omega arith)) i))
 
   -- ---- Under, in a signal row: from the segment that begins in column 1

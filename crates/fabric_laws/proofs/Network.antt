@@ -58,8 +58,8 @@ class_at xs k s h c = (h, c)
 class_of : {S : Type 0} {Is : S → Type 0} {J B : S → S → Type 0} (xs : List S) → AreClasses Is J B xs → (s : S) → Is s
     → (k : ℕ) × IsInClass J xs k s
 class_of {J = J} xs a s i =
-    let r = a.all s i in
-    (r.1.0, (r.1.1, subst (λ z. Chain J z s) (sym (get_or_default xs r.1.0 s r.0 r.1.1 ∙ r.1.2)) r.2))
+    let (r, (k, below, at), chain) = a.all s i in
+    (k, (below, subst (λ z. Chain J z s) (sym (get_or_default xs k s r below ∙ at)) chain))
 
 -- a thing is in one class
 one_class : {S : Type 0} {Is : S → Type 0} {J B : S → S → Type 0} → ((s t : S) → J s t → J t s) → (xs : List S)
@@ -477,13 +477,14 @@ module _ (joined : RectanglesAreJoined) (f : Plan) (w : IsFabric f) (labels : Li
       kind_ : IsSwitchTile n.tile → (x y : ChannelKind) → IsKind Covers_ r x → HasKind n y → x ≡ y
       kind_ (inl g) Enhancement y h (inl q) = sym q.1
       kind_ (inl g) Depletion y h (inl q) = absurd (bare f w n r o g (h r own))
-      kind_ (inl g) Partial y h (inl q) = absurd (bare f w n h.0.0 (chain_mark f w n r h.0.0 h.0.1.chain o) g h.0.2)
+      kind_ (inl g) Partial y h (inl q) = let (s, of, implant) = h.0 in
+          absurd (bare f w n s (chain_mark f w n r s of.chain o) g implant)
       kind_ (inl g) x y h (inr q) = let z : Tran ≡ PullUp = sym g ∙ q.0 in absurd (cc (z))
       kind_ (inr g) x y h (inl q) = let z : Tran ≡ PullUp = sym q.0 ∙ g in absurd (cc (z))
       kind_ (inr g) Enhancement y h (inr q) = absurd (h r own (implanted f w n r o g))
       kind_ (inr g) Depletion y h (inr q) = sym q.1
-      kind_ (inr g) Partial y h (inr q) = absurd
-          (h.1.2 (implanted f w n h.1.0 (chain_mark f w n r h.1.0 h.1.1.chain o) g))
+      kind_ (inr g) Partial y h (inr q) = let (s, of, clear) = h.1 in
+          absurd (clear (implanted f w n s (chain_mark f w n r s of.chain o) g))
 
   abbrev renumbering : Renumbering net m
   renumbering = record {

@@ -16,7 +16,7 @@ use Rattle.fabric.specs.declared.thing.Side.TheVariants.{L, R}
 use Rattle.fabric.specs.declared.thing.Segment.{Segment}
 use Rattle.fabric.specs.declared.thing.Line.{Line}
 use Rattle.fabric.specs.declared.thing.Mark.{Mark}
-use Rattle.fabric.specs.Plan.{Plan, bands, rows_of, Passes, SegmentAt, IsFabric}
+use Rattle.fabric.specs.Plan.{Plan, bands, rows_of, Passes, SegmentAt, LineAt, IsFabric}
 use Rattle.fabric.specs.Shape.{offset, shape}
 use Rattle.fabric.specs.Switches.{Net, SegmentOf, IsTapOn, Taps, Tapped}
 use Rattle.fabric.specs.Switches.Net.{segment, line, ground, power as the_power}
@@ -25,7 +25,7 @@ use Rattle.fabric_laws.proofs.Tile.{Thing, Here, MarkAt, Inside, Slot}
 use Rattle.fabric_laws.proofs.Tile.Thing.{trunk, power, ground_start, ground_on, rail, rail_end, seg, lin, mark}
 use Rattle.fabric_laws.proofs.Tile.Thing.{under_rail}
 use Rattle.fabric.proofs.Lying.{some_rows, crossing, passing}
-use Rattle.fabric_laws.proofs.Zones.{mark_stands}
+use Rattle.fabric_laws.proofs.Zones.{mark_stands, pull_up_line}
 use Rattle.fabric_laws.proofs.Nets.{NetAt}
 use Rattle.fabric_laws.proofs.Joins.{Owns, one_net_here, square_net, join_nets, owned}
 use Rattle.lam_geom.proofs.Chains.{join_chains, turn_chain}
@@ -49,6 +49,15 @@ module _ (joined : RectanglesAreJoined) (f : Plan) (w : IsFabric f) where
   as_net : (b r c : ℕ) (k : Kind) (n m : Net) (s : Square) → NetAt f b r c k n → NetAt f b r c k m
       → Reached joined f w n s → Reached joined f w m s
   as_net b r c k n m s h g d = subst (λ z. Reached joined f w z s) (one_net_here f w b r c k n m h g) d
+
+  on_segment : (b r c : ℕ) (k : SegmentAt f b r c) (n : Net) (s : Square) → NetAt f b r c of_segment n
+      → Reached joined f w (segment k.segment) s → Reached joined f w n s
+  on_segment b r c k n s g d = as_net b r c of_segment (segment k.segment) n s
+      (k.segment, k.among, inl k.crosses, refl) g d
+
+  on_line : (z : Side) (b r c : ℕ) (l : LineAt f z b c) (n : Net) (s : Square) → NetAt f b r c (of_line z) n
+      → Reached joined f w (line l.line) s → Reached joined f w n s
+  on_line z b r c l n s g d = as_net b r c (of_line z) (line l.line) n s (l.line, l.among, l.passes, refl) g d
 
   under_good : (b r c : ℕ) (h : Here f b r c (mark Under)) (n : Net) → NetAt f b r c of_segment n → (P : Net → Type 0)
       → ((s : Segment) → Contains f.segments s → c ≡ 0 → s.band ≡ b → s.row ≡ r → s.first ≡ 1 → P (segment s)) → P n
@@ -88,8 +97,8 @@ module _ (joined : RectanglesAreJoined) (f : Plan) (w : IsFabric f) where
       (reach_rail joined f w b c u v hb (omega arith) (omega arith) (omega arith) (omega arith))))
   good rail_end p b r c hb h (inr m) = absurd m
   good seg p b r c hb h (inl e) = subst (Good b r c) e (λ u v s hu i n g. let i2 = i.bottom in let i3 = i.top in
-      as_net b r c of_segment (segment h.segment) n _ (h.segment, h.among, inl h.crosses, refl) g
-      (reach_segment joined f w h.segment h.among b r c u v h.crosses hu (omega arith) (omega arith)))
+      on_segment b r c h n _ g (reach_segment joined f w h.segment h.among b r c u v h.crosses hu
+      (omega arith) (omega arith)))
   good seg p b r c hb h (inr m) = absurd m
   good (lin z) p b r c hb (l, ml, q, k) (inl e) = subst (Good b r c) e
       (λ u v s hu i n g. as_net b r c (of_line z) (line l) n _ (l, ml, q, refl) g
@@ -98,69 +107,24 @@ module _ (joined : RectanglesAreJoined) (f : Plan) (w : IsFabric f) where
   good (mark TapL) p b r c hb h m = absurd m
   good (mark TapR) p b r c hb h m = absurd m
   good (mark Tran) p b r c hb h (inl e) = subst (Good b r c) e
-      (λ u v s hu i n g. as_net b r c (of_line L) (line (mark_stands f w Tran b r c h.0).0.line) n _ (
-        (mark_stands f w Tran b r c h.0).0.line,
-        (mark_stands f w Tran b r c h.0).0.among,
-        (mark_stands f w Tran b r c h.0).0.passes,
-        refl,
-      ) g (stub_left joined f w b r c h u v i))
+      (λ u v s hu i n g. on_line L b r c (mark_stands f w Tran b r c h.0).0 n _ g (stub_left joined f w b r c h u v i))
   good (mark Tran) p b r c hb h (inr (inl e)) = subst (Good b r c) e
-      (λ u v s hu i n g. as_net b r c (of_line R) (line (mark_stands f w Tran b r c h.0).1.line) n _ (
-        (mark_stands f w Tran b r c h.0).1.line,
-        (mark_stands f w Tran b r c h.0).1.among,
-        (mark_stands f w Tran b r c h.0).1.passes,
-        refl,
-      ) g (stub_right joined f w b r c h u v i))
+      (λ u v s hu i n g. on_line R b r c (mark_stands f w Tran b r c h.0).1 n _ g (stub_right joined f w b r c h u v i))
   good (mark Tran) p b r c hb h (inr (inr (inl e))) = subst (Good b r c) e
-      (λ u v s hu i n g. as_net b r c of_segment (segment (mark_stands f w Tran b r c h.0).2.segment) n _ (
-        (mark_stands f w Tran b r c h.0).2.segment,
-        (mark_stands f w Tran b r c h.0).2.among,
-        inl (mark_stands f w Tran b r c h.0).2.crosses,
-        refl,
-      ) g (gate_low joined f w b r c h u v i))
+      (λ u v s hu i n g. on_segment b r c (mark_stands f w Tran b r c h.0).2 n _ g (gate_low joined f w b r c h u v i))
   good (mark Tran) p b r c hb h (inr (inr (inr (inl e)))) = subst (Good b r c) e
-      (λ u v s hu i n g. as_net b r c of_segment (segment (mark_stands f w Tran b r c h.0).2.segment) n _ (
-        (mark_stands f w Tran b r c h.0).2.segment,
-        (mark_stands f w Tran b r c h.0).2.among,
-        inl (mark_stands f w Tran b r c h.0).2.crosses,
-        refl,
-      ) g (gate_high joined f w b r c h u v i))
+      (λ u v s hu i n g. on_segment b r c (mark_stands f w Tran b r c h.0).2 n _ g (gate_high joined f w b r c h u v i))
   good (mark Tran) p b r c hb h (inr (inr (inr (inr m)))) = absurd m
   good (mark PullUp) p b r c hb h (inl e) = subst (Good b r c) e
-      (λ u v s hu i n g. as_net b r c (of_line L) (line (mark_stands f w PullUp b r c h.0).1.0) n _ (
-        (mark_stands f w PullUp b r c h.0).1.0,
-        (mark_stands f w PullUp b r c h.0).1.1,
-        (mark_stands f w PullUp b r c h.0).1.2,
-        refl,
-      ) g (foot joined f w b r c h u v i))
+      (λ u v s hu i n g. on_line L b r c (pull_up_line f w b r c h.0) n _ g (foot joined f w b r c h u v i))
   good (mark PullUp) p b r c hb h (inr (inl e)) = subst (Good b r c) e
-      (λ u v s hu i n g. as_net b r c (of_line L) (line (mark_stands f w PullUp b r c h.0).1.0) n _ (
-        (mark_stands f w PullUp b r c h.0).1.0,
-        (mark_stands f w PullUp b r c h.0).1.1,
-        (mark_stands f w PullUp b r c h.0).1.2,
-        refl,
-      ) g (plate joined f w b r c h u v i))
+      (λ u v s hu i n g. on_line L b r c (pull_up_line f w b r c h.0) n _ g (plate joined f w b r c h u v i))
   good (mark PullUp) p b r c hb h (inr (inr (inl e))) = subst (Good b r c) e
-      (λ u v s hu i n g. as_net b r c (of_line L) (line (mark_stands f w PullUp b r c h.0).1.0) n _ (
-        (mark_stands f w PullUp b r c h.0).1.0,
-        (mark_stands f w PullUp b r c h.0).1.1,
-        (mark_stands f w PullUp b r c h.0).1.2,
-        refl,
-      ) g (neck joined f w b r c h u v i))
+      (λ u v s hu i n g. on_line L b r c (pull_up_line f w b r c h.0) n _ g (neck joined f w b r c h u v i))
   good (mark PullUp) p b r c hb h (inr (inr (inr (inl e)))) = subst (Good b r c) e
-      (λ u v s hu i n g. as_net b r c (of_line L) (line (mark_stands f w PullUp b r c h.0).1.0) n _ (
-        (mark_stands f w PullUp b r c h.0).1.0,
-        (mark_stands f w PullUp b r c h.0).1.1,
-        (mark_stands f w PullUp b r c h.0).1.2,
-        refl,
-      ) g (gate joined f w b r c h u v i))
+      (λ u v s hu i n g. on_line L b r c (pull_up_line f w b r c h.0) n _ g (gate joined f w b r c h u v i))
   good (mark PullUp) p b r c hb h (inr (inr (inr (inr (inl e))))) = subst (Good b r c) e
-      (λ u v s hu i n g. as_net b r c (of_line L) (line (mark_stands f w PullUp b r c h.0).1.0) n _ (
-        (mark_stands f w PullUp b r c h.0).1.0,
-        (mark_stands f w PullUp b r c h.0).1.1,
-        (mark_stands f w PullUp b r c h.0).1.2,
-        refl,
-      ) g (low_end joined f w b r c h u v i))
+      (λ u v s hu i n g. on_line L b r c (pull_up_line f w b r c h.0) n _ g (low_end joined f w b r c h u v i))
   good (mark PullUp) p b r c hb h (inr (inr (inr (inr (inr (inl e)))))) = subst (Good b r c) e
       (λ u v s hu i n g. as_net b r c of_power (the_power) n _ refl g (high_end joined f w b r c h u v i))
   good (mark PullUp) p b r c hb h (inr (inr (inr (inr (inr (inr (inl e))))))) = subst (Good b r c) e

@@ -68,7 +68,8 @@ module _ (joined : RectanglesAreJoined) (f : Plan) (w : IsFabric f) where
   sized_at m r o (inl e) =
       let k : cell NP 9 2 11 4 ≡ o.cell = elim (subst (λ z. Member (channels (mark z)) o.cell) e o.among)
       [ inl q ↦ q | inr q ↦ absurd q ] in
-      transistor (λ s h. λ n. bare f w m s (of_channel m r s o h) e n) (oblong m r o (cell NP 9 2 11 4) 2 2 (sym k) refl refl)
+      transistor (λ s h. λ n. bare f w m s (of_channel m r s o h) e n)
+      (oblong m r o (cell NP 9 2 11 4) 2 2 (sym k) refl refl)
   sized_at m r o (inr e) =
       let k : cell NP 3 8 5 24 ≡ o.cell = elim (subst (λ z. Member (channels (mark z)) o.cell) e o.among)
       [ inl q ↦ q | inr q ↦ absurd q ] in

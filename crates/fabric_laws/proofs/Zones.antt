@@ -5,7 +5,7 @@ use Rattle.std.proofs.lemmas.List.Elements.{All-contains}
 use Rattle.tile_cells.specs.declared.tile.Tile.{Tile}
 use Rattle.tile_cells.specs.declared.tile.Tile.TheVariants.{TapL, TapR, Tran, PullUp, Under}
 use Rattle.fabric.specs.declared.thing.Side.TheVariants.{L, R}
-use Rattle.fabric.specs.Plan.{Plan, bands, rows_of, IsFabric, IsMark, Stands}
+use Rattle.fabric.specs.Plan.{Plan, bands, rows_of, LineAt, IsFabric, IsMark, Stands}
 use Rattle.fabric.specs.Shape.{last_column}
 use Rattle.fabric_laws.proofs.Tile.{Thing, Here, MarkAt, Slot}
 use Rattle.fabric_laws.proofs.Tile.Thing.{trunk, power, ground_start, ground_on, rail, rail_end, seg, lin, mark}
@@ -40,6 +40,11 @@ module _ (f : Plan) (w : IsFabric f) where
       (subst (λ z. Stands f m.mark_.tile m.mark_.band z c) m.row
       (subst (λ z. Stands f m.mark_.tile m.mark_.band m.mark_.row z) m.column s)))
 
+  -- the line on the left side that ends at a pull-up
+  pub pull_up_line : (b r c : ℕ) → MarkAt f PullUp b r c → LineAt f L b c
+  pull_up_line b r c m = let (row, (line, among, passes, last)) = mark_stands PullUp b r c m in
+      record { line = line; among = among; passes = passes }
+
   pub mark_at_lies : (t : Tile) (b r c : ℕ) → MarkAt f t b r c → MarkLies f t b r c
   mark_at_lies t b r c m = lies f w t b r c (mark_stands t b r c m)
 
@@ -58,8 +63,8 @@ module _ (f : Plan) (w : IsFabric f) where
       let i = passing f w l.line R b c l.among l.passes in (i.left, i.right)
   here_col (mark Tran) b r c h = let l = (mark_stands Tran b r c h.0).0 in
       let i = passing f w l.line L b c l.among l.passes in (i.left, i.right)
-  here_col (mark PullUp) b r c h = let l = (mark_stands PullUp b r c h.0).1 in let i = passing f w l.0 L b c l.1 l.2 in
-      (i.left, i.right)
+  here_col (mark PullUp) b r c h = let l = pull_up_line b r c h.0 in
+      let i = passing f w l.line L b c l.among l.passes in (i.left, i.right)
   here_col (mark Under) b r c h = (mark_stands Under b r c h.0).0
   here_col under_rail b r c h = (mark_stands Under b r c h.0).0
 

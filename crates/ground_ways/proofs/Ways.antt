@@ -132,13 +132,16 @@ module _ (channels : List Channel) (nets : Nets) (node : Point
       → IsWay channels (node (OfNet n)) ms (node Ground) → AreOnce (node (OfNet n) ∷ ms) → length ms ≡ 1
   gate_way n inputs h [] w o = absurd (off_ground n (nor_own n inputs h) w)
   gate_way n inputs h (m ∷ []) w o = refl
-  gate_way n inputs h (m ∷ k ∷ ms) w o = elim (from_gate n inputs h w.0.0 m
-      (draws.only w.0.0 w.0.1) w.0.2 w.0.3 w.0.4 w.1) [
-        | inl g ↦ absurd (end_visited channels m (node Ground) k ms w.2 m o.1.0 g)
-        | inr l ↦ (let c = w.2.0 in
-            let back = from_latch l.0 n l.1 l.2 c.0 k (draws.only c.0 c.1) c.2 (subst (Contains c.0.ends) l.3 c.3) c.4
-            (λ e. w.2.1 (l.3 ∙ e)) in
-            absurd (o.0.1.0 (sym back)))
+  gate_way n inputs h (m ∷ k ∷ ms) w o =
+      let ((c, among, kind, from, to), far, rest) = w in
+      let ((near, (not_back, later)), (unvisited, once)) = o in
+      elim (from_gate n inputs h c m (draws.only c among) kind from to far) [
+        | inl g ↦ absurd (end_visited channels m (node Ground) k ms rest m unvisited g)
+        | inr latch ↦ (let (l, p, is, at) = latch in
+            let ((d, drawn, kind_d, from_l, to_k), apart, others) = rest in
+            let back = from_latch l n p is d k (draws.only d drawn) kind_d (subst (Contains d.ends) at from_l) to_k
+            (λ e. apart (at ∙ e)) in
+            absurd (not_back (sym back)))
       ]
 
   way : (d : Channel) (a : ℕ) (ms : List ℕ) → IsDrawn nets node d → d.kind ≡ Depletion → Contains d.ends a
@@ -156,7 +159,8 @@ module _ (channels : List Channel) (nets : Nets) (node : Point
     | inr q ↦ absurd (far q)
   ]
   way d a (m ∷ ms) (lone n e w) k ia far wy o = elim ((w.joins a).0 ia) [
-    | inl q ↦ absurd (no_ends n e wy.0.0 (draws.only wy.0.0 wy.0.1) wy.0.2 (subst (Contains wy.0.0.ends) q wy.0.3))
+    | inl q ↦ (let (c, among, kind, from, to) = wy.0 in
+        absurd (no_ends n e c (draws.only c among) kind (subst (Contains c.ends) q from)))
     | inr q ↦ absurd (far q)
   ]
 

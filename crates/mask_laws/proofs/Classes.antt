@@ -83,8 +83,8 @@ module _ {S : Type 0} (J : S → S → Type 0) (flip : (a b : S) → J a b → J
         touches_by again u =
             one_of (again u x)
             (same_claim (some_member (λ a. Near xs u a × J a x) (λ a. both_of (again u a) (joined a x)) xs)
-            (λ h. (h.0, h.1, h.2.0, h.2.1))
-            (λ h. (h.0, h.1, (h.2, h.3))))
+            (λ (a, m, (near, join)). (a, m, near, join))
+            (λ (a, m, near, join). (a, m, (near, join))))
 
     -- whether a chain of joins leads from one to another
     pub chain_told : (s t : S) → Decided (Chain J s t)

@@ -20,7 +20,7 @@ use Rattle.switch_net.specs.Pads.{driver_labels, chip_labels}
 use Rattle.switch_net.specs.Conductors.{Joined}
 use Rattle.switch_net.specs.Labels.{Names}
 use Rattle.switch_net.specs.Drawn.{IsNetwork}
-use Rattle.switch_net.specs.Breaks.{IsDrivenTwice, IsMissing, AreTooMany, BreaksAt, MeetsDriver, IsFirstOfMask}
+use Rattle.switch_net.specs.Breaks.{IsMissing, AreTooMany, BreaksAt, MeetsDriver, IsFirstOfMask}
 use Rattle.switch_net.specs.Breaks.{IsFirstOfCircuit, broken}
 use Rattle.switch_net.specs.Breaks.BreaksAt.{one, two}
 use Rattle.switch_net.specs.Laws.{OneNumbering}
@@ -32,16 +32,20 @@ use Rattle.mask_laws.proofs.Networks.{named_told, joins_told, network_exists}
 
 -- ---- numbers and lists
 
+-- the first number that is so
+record First (P : ℕ → Type 0) : Type 0 where
+  number : ℕ
+  is : P number
+  before : (j : ℕ) → j < number → ¬ P j
+
 -- the first number below n that is so, or none is
-first_below : (P : ℕ → Type 0) → ((i : ℕ) → Decided (P i)) → (n : ℕ)
-    → ((i : ℕ) × P i × ((j : ℕ) → j < i → ¬ P j)) ⊎ ((i : ℕ) → i < n → ¬ P i)
+first_below : (P : ℕ → Type 0) → ((i : ℕ) → Decided (P i)) → (n : ℕ) → First P ⊎ ((i : ℕ) → i < n → ¬ P i)
 first_below P t zero = inr (λ i lt. absurd (omega arith))
 first_below P t (suc n) = more (first_below P t n) (t n)
   where
-    more : ((i : ℕ) × P i × ((j : ℕ) → j < i → ¬ P j)) ⊎ ((i : ℕ) → i < n → ¬ P i) → Decided (P n)
-        → ((i : ℕ) × P i × ((j : ℕ) → j < i → ¬ P j)) ⊎ ((i : ℕ) → i < suc n → ¬ P i)
+    more : First P ⊎ ((i : ℕ) → i < n → ¬ P i) → Decided (P n) → First P ⊎ ((i : ℕ) → i < suc n → ¬ P i)
     more (inl f) d = inl f
-    more (inr none) (inl p) = inl (n, p, none)
+    more (inr none) (inl p) = inl (record { number = n; is = p; before = none })
     more (inr none) (inr never) = inr (λ i lt. elim (cases_lt i n) [
       | inl l ↦ none i l
       | inr ge ↦ (let e : n ≡ i = omega arith in subst (λ k. ¬ P k) e never)
@@ -110,14 +114,10 @@ module _ (drivers : List (List ℕ)) (tags : List Tag) where
       from : MeetsDriver drivers tags i → At tags i (MeetsOne i)
       from (tag, h) = (tag, h.at, (h.driver, (h.j, h.before, (h.earlier, h.there, (h.another, (h.names, h.node))))))
 
-  abbrev FirstMeeting : Type 0
-  FirstMeeting =
-      (i : ℕ) × (tag : Tag) × IsDrivenTwice drivers tags i tag × ((j : ℕ) → j < i → ¬ MeetsDriver drivers tags j)
-
   -- a first label that meets another driver, or none does
-  first_meeting : FirstMeeting ⊎ ((i : ℕ) → ¬ MeetsDriver drivers tags i)
+  first_meeting : First (MeetsDriver drivers tags) ⊎ ((i : ℕ) → ¬ MeetsDriver drivers tags i)
   first_meeting = elim (first_below (MeetsDriver drivers tags) meets_decided (length tags)) [
-    | inl f ↦ inl (f.0, f.1.0, f.1.1, f.2)
+    | inl f ↦ inl f
     | inr none ↦ inr (λ i m. none i (slice_get_within tags i m.0 m.1.at) m)
   ]
 
@@ -139,7 +139,7 @@ module _ (net : Network) (wanted : List (List ℕ)) where
       (λ h. (h.0, h.1.at, h.1.none))
 
   -- the first label that is missing, or none is
-  first_missing : ((i : ℕ) × Misses i × ((j : ℕ) → j < i → ¬ Misses j)) ⊎ ((i : ℕ) → ¬ Misses i)
+  first_missing : First Misses ⊎ ((i : ℕ) → ¬ Misses i)
   first_missing = elim (first_below Misses misses_decided (length wanted)) [
     | inl f ↦ inl f
     | inr none ↦ inr (λ i m. none i (slice_get_within wanted i m.0 m.1.at) m)
@@ -147,12 +147,13 @@ module _ (net : Network) (wanted : List (List ℕ)) where
 
 pub circuit_judged : CircuitIsJudged
 circuit_judged net pads = elim (first_meeting (driver_labels pads.inputs) net.tags) [
-  | inl f ↦ inr (broken 3 (Offset (f.1).offset), IsFirstOfCircuit.n3 f.0 f.1 f.2 f.3)
+  | inl f ↦ (let (tag, met) = f.is in
+      inr (broken 3 (Offset tag.offset), IsFirstOfCircuit.n3 f.number tag met f.before))
   | inr apart ↦ elim (first_missing net (chip_labels pads)) [
-    | inl m ↦ inr (
-      broken 4 (Named m.1.0),
-      IsFirstOfCircuit.n4 apart m.0 m.1.0 m.1.1 (λ j other lt h. m.2 j lt (other, h)),
-    )
+    | inl f ↦ (let (name, missing) = f.is in inr (
+      broken 4 (Named name),
+      IsFirstOfCircuit.n4 apart f.number name missing (λ j other lt h. f.before j lt (other, h)),
+    ))
     | inr all ↦ inl (record { apart = apart; labelled = λ i name h. all i (name, h) })
   ]
 ]
@@ -278,7 +279,8 @@ module _ (shapes : List Rect) (labels : List FlatLabel) where
 
     by_network : (net : Network) → IsNetwork (covered shapes) labels net → IsJudged
     by_network net drawn = elim (first_meeting supplies net.tags) [
-      | inl f ↦ inr (broken 3 (Offset (f.1).offset), IsFirstOfMask.n3 net drawn f.0 f.1 f.2 f.3)
+      | inl f ↦ (let (tag, met) = f.is in
+          inr (broken 3 (Offset tag.offset), IsFirstOfMask.n3 net drawn f.number tag met f.before))
       | inr apart ↦ elim (cases_lt MOST_NODES_AND_CHANNELS
           (length (nodes_exist shapes).0 + length (regions_exist shapes).0)) [
             | inl over ↦ inr (broken 5 Nowhere, IsFirstOfMask.n5 net drawn apart (many over))
@@ -292,7 +294,7 @@ module _ (shapes : List Rect) (labels : List FlatLabel) where
 pub mask_judged : OneNumbering → MaskIsJudged
 mask_judged numbering shapes labels =
     elim (first_below (BreaksAt (covered shapes) labels) (breaks_decided shapes labels) (length labels)) [
-      | inl f ↦ by_label shapes labels f.0 f.1 f.2
+      | inl f ↦ by_label shapes labels f.number f.is f.before
       | inr none ↦ (let fits : (i : ℕ)
           → ¬ BreaksAt (covered shapes) labels i = λ i b. none i (label_there shapes labels i b) b in
           let net = network_exists shapes labels fits in

@@ -124,7 +124,7 @@ module _ (rs : List Rect) (x y : ℤ) where
       | inl h ↦ inl (NP, (h, below_np n))
       | inr p ↦ elim (on_told rs ND x y) [
         | inl h ↦ inl (ND, (h, below_nd n p))
-        | inr d ↦ inr (λ f. none_on n p d f.0 f.1.0)
+        | inr d ↦ inr (λ (l, (on, before)). none_on n p d l on)
       ]
     ]
   ]
@@ -174,9 +174,8 @@ module _ (rs : List Rect) where
 
   number : (s : Square) → Conducts c s → (k : ℕ) × IsOfNode c nodes k s
   number s h =
-      let w = are_nodes.all s h in
-      let k : ℕ = w.1.0 in
-      (k, (w.1.1, subst (λ r. Chain (Joined c) r s) (sym w.1.2 ∙ get_or_default nodes k w.0 s w.1.1) w.2))
+      let (r, (k, lt, is), chain) = are_nodes.all s h in
+      (k, (lt, subst (λ q. Chain (Joined c) q s) (sym is ∙ get_or_default nodes k r s lt) chain))
 
   node_in : (k : ℕ) (s : Square) → k < length nodes → Contains nodes (get_or nodes k s)
   node_in k s lt = (k, lt, get_or_default nodes k (get_or nodes k s) s lt)
@@ -220,7 +219,8 @@ module _ (rs : List Rect) where
       same_claim (both_of (layer_same t.layer ND)
       (both_of (conducts_told rs t)
       (some_member (Beside r t) (λ s. both_of (of_channel_told r s) (share_told s t)) (channels rs))))
-      (λ h. record { square = h.1.1.0; of = h.1.1.2.0; diffusion = h.0; conducts = h.1.0; beside = h.1.1.2.1 })
+      (λ (diffusion, (conducts, (square, m, (of, beside)))).
+      record { square = square; of = of; diffusion = diffusion; conducts = conducts; beside = beside })
       (λ e. (e.diffusion, (e.conducts, (e.square, every_channel rs e.square e.of.is, (e.of, e.beside)))))
 
   abbrev EndsAt : Square → ℕ → Type 0
@@ -229,8 +229,8 @@ module _ (rs : List Rect) where
   ends_told : (r : Square) (k : ℕ) → Decided (EndsAt r k)
   ends_told r k =
       same_claim (some_member (λ t. IsEnd c r t × IsOfNode c nodes k t) (λ t. both_of (end_told r t) (of_node_told k t))
-      (conducting rs)) (λ h. (h.0, h.2.0, h.2.1))
-      (λ h. (h.0, every_conductor rs h.0 h.1.conducts, (h.1, h.2)))
+      (conducting rs)) (λ (t, m, (end, node)). (t, end, node))
+      (λ (t, end, node). (t, every_conductor rs t end.conducts, (end, node)))
 
   ends : Square → List ℕ
   ends r = keep Less (EndsAt r) (ends_told r) (count 0 (length nodes))
@@ -242,7 +242,7 @@ module _ (rs : List Rect) where
   are_ends : (r : Square) (k : ℕ) → EndsAt r k → Contains (ends r) k
   unfolding ends
   are_ends r k h =
-      let lt = h.2.0 in
+      let (_, _, (lt, _)) = h in
       member_contains (ends r) k
       (keep_has Less (EndsAt r) (ends_told r) (count 0 (length nodes)) k
       (count_has 0 (length nodes) k (omega arith) (omega (arith, lt))) h)
@@ -258,7 +258,7 @@ module _ (rs : List Rect) where
       elim (some_member (λ s. IsOfChannel c r s × c NI s.x s.y)
       (λ s. both_of (of_channel_told r s) (covered_told rs NI s.x s.y)) (channels rs)) [
         | inr none ↦ (Enhancement, λ s o i. none (s, every_channel rs s o.is, (o, i)))
-        | inl some ↦ elim (some_member (λ s. IsOfChannel c r s × (c NI s.x s.y → ⊥))
+        | inl (s, m, (in_s, has)) ↦ elim (some_member (λ s. IsOfChannel c r s × (c NI s.x s.y → ⊥))
             (λ s. both_of (of_channel_told r s) (not_so (covered_told rs NI s.x s.y))) (channels rs)) [
               | inr none ↦ (
                 Depletion,
@@ -267,7 +267,7 @@ module _ (rs : List Rect) where
                   | inr n ↦ absurd (none (s, every_channel rs s o.is, (o, n)))
                 ],
               )
-              | inl lacks ↦ (Partial, ((some.0, some.2.0, some.2.1), (lacks.0, lacks.2.0, lacks.2.1)))
+              | inl (t, n, (in_t, lacks)) ↦ (Partial, ((s, in_s, has), (t, in_t, lacks)))
             ]
       ]
 
@@ -358,8 +358,8 @@ module _ (rs : List Rect) where
           zip_all_right (IsChannelAt c nodes) (λ (x : Channel). x.gate < length nodes)
           (λ r x h. h.gate.0) regions all_channels.0 all_channels.1;
       ends_in = zip_all_right (IsChannelAt c nodes) (λ (x : Channel). All (λ e. e < length nodes) x.ends)
-          (λ r x h k d lt. ((h.ends (get_or x.ends k d)).0
-          (k, lt, get_or_default x.ends k (get_or x.ends k d) d lt)).2.0) regions all_channels.0 all_channels.1;
+          (λ r x h k d lt. (let (_, _, (below, _)) = (h.ends (get_or x.ends k d)).0
+          (k, lt, get_or_default x.ends k (get_or x.ends k d) d lt) in below)) regions all_channels.0 all_channels.1;
       tags_in =
           zip_all_right (IsTag c nodes) (λ (t : Tag). t.node < length nodes)
           (λ l t h. h.node.0) labels all_tags.0 all_tags.1;

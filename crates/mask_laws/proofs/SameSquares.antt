@@ -113,9 +113,9 @@ end c d e r t h = record {
 pub kind : (c d : Covers) → SameSquares c d → (r : Square) (k : ChannelKind) → IsKind c r k → IsKind d r k
 kind c d e r Enhancement h = λ s o i. h s (of_channel d c (turn c d e) r s o) ((e NI s.x s.y).1 i)
 kind c d e r Depletion h = λ s o. (e NI s.x s.y).0 (h s (of_channel d c (turn c d e) r s o))
-kind c d e r Partial h = (
-  (h.0.0, of_channel c d e r h.0.0 h.0.1, (e NI h.0.0.x h.0.0.y).0 h.0.2),
-  (h.1.0, of_channel c d e r h.1.0 h.1.1, λ i. h.1.2 ((e NI h.1.0.x h.1.0.y).1 i)),
+kind c d e r Partial ((s, in_s, has), (t, in_t, lacks)) = (
+  (s, of_channel c d e r s in_s, (e NI s.x s.y).0 has),
+  (t, of_channel c d e r t in_t, λ i. lacks ((e NI t.x t.y).1 i)),
 )
 
 channel_at : (c d : Covers) → SameSquares c d → (ns : List Square) (r : Square) (x : Channel) → IsChannelAt c ns r x

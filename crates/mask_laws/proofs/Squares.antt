@@ -27,7 +27,7 @@ layer_same l m = elim (cases_eq (rank l) (rank m)) [ inl e ↦ inl (of_ranks l m
 pub square_same : (s t : Square) → Decided (s ≡ t)
 square_same s t =
     same_claim (both_of (layer_same s.layer t.layer) (both_of (is_integer s.x t.x) (is_integer s.y t.y)))
-    (λ h. same_square s t h.0 h.1.0 h.1.1)
+    (λ (layer, (x, y)). same_square s t layer x y)
     (λ e. (ap (λ (q : Square). q.layer) e, (ap (λ (q : Square). q.x) e, ap (λ (q : Square). q.y) e)))
 
 -- ---- what is covered
@@ -36,7 +36,8 @@ covers_told : (r : Rect) (l : Layer) (x y : ℤ) → Decided (Covers r l x y)
 covers_told r l x y =
     same_claim (both_of (layer_same r.layer l)
     (both_of (is_at_most r.x0 x) (both_of (is_less x r.x1) (both_of (is_at_most r.y0 y) (is_less y r.y1)))))
-    (λ h. record { same = h.0; left = h.1.0; right = h.1.1.0; bottom = h.1.1.1.0; top = h.1.1.1.1 })
+    (λ (same, (left, (right, (bottom, top)))).
+    record { same = same; left = left; right = right; bottom = bottom; top = top })
     (λ c. (c.same, (c.left, (c.right, (c.bottom, c.top)))))
 
 pub covered_told : (rs : List Rect) (l : Layer) (x y : ℤ) → Decided (covered rs l x y)
@@ -51,7 +52,7 @@ share_told s t = one_of
 pub adjoin_told : (Is : Square → Type 0) → ((s : Square) → Decided (Is s)) → (s t : Square) → Decided (Adjoin Is s t)
 adjoin_told Is t a b =
     same_claim (both_of (t a) (both_of (t b) (both_of (layer_same a.layer b.layer) (share_told a b))))
-    (λ h. record { from = h.0; to = h.1.0; same = h.1.1.0; beside = h.1.1.1 })
+    (λ (from, (to, (same, edge))). record { from = from; to = to; same = same; beside = edge })
     (λ j. (j.from, (j.to, (j.same, j.beside))))
 
 module _ (rs : List Rect) where
@@ -61,7 +62,7 @@ module _ (rs : List Rect) where
   channel_told : (x y : ℤ) → Decided (IsChannel c x y)
   channel_told x y =
       same_claim (both_of (covered_told rs NP x y) (both_of (covered_told rs ND x y) (not_so (covered_told rs NB x y))))
-      (λ h. record { gate = h.0; diffusion = h.1.0; unburied = h.1.1 })
+      (λ (gate, (diffusion, unburied)). record { gate = gate; diffusion = diffusion; unburied = unburied })
       (λ k. (k.gate, (k.diffusion, k.unburied)))
 
   pub on_told : (l : Layer) (x y : ℤ) → Decided (ConductsOn c l x y)
@@ -82,9 +83,10 @@ module _ (rs : List Rect) where
       (both_of (conducts_told s) (both_of (conducts_told t) (both_of (is_integer s.x t.x) (both_of (is_integer s.y t.y)
       (one_of (covered_told rs NC s.x s.y)
       (same_claim (both_of (covered_told rs NB s.x s.y)
-      (both_of (not_so (layer_same s.layer NM)) (not_so (layer_same t.layer NM)))) (λ h. (h.0, h.1.0, h.1.1))
-      (λ h. (h.0, (h.1, h.2)))))))))
-      (λ h. record { from = h.0; to = h.1.0; x = h.1.1.0; y = h.1.1.1.0; by = h.1.1.1.1 })
+      (both_of (not_so (layer_same s.layer NM)) (not_so (layer_same t.layer NM))))
+      (λ (buried, (s_other, t_other)). (buried, s_other, t_other))
+      (λ (buried, s_other, t_other). (buried, (s_other, t_other)))))))))
+      (λ (from, (to, (x, (y, by)))). record { from = from; to = to; x = x; y = y; by = by })
       (λ k. (k.from, (k.to, (k.x, (k.y, k.by)))))
 
   pub joined_told : (s t : Square) → Decided (Joined c s t)

@@ -11,7 +11,7 @@ use Rattle.mp_base.specs.declared.refusal.Refusal.TheVariants as refusals
 use Rattle.lam_geom.specs.declared.rect.Rect.{Rect}
 use Rattle.lam_geom.specs.declared.label.FlatLabel.{FlatLabel}
 use Rattle.lam_geom.specs.Squares.{covered}
-use Rattle.cif_reader.specs.Refusing.{Refuses as RefusesText, OfFile}
+use Rattle.cif_reader.specs.Refusing.{Refuses as RefusesText, OfCif}
 use Rattle.switch_net.specs.declared.network.Network.{Network}
 use Rattle.switch_net.specs.Breaks.{IsSoundMask}
 use Rattle.switch_net.specs.Pads.{bit_labels}
@@ -21,7 +21,7 @@ pub of_text : (bytes : List ℕ) (e : Refusal) → RefusesText bytes e → Refus
 of_text bytes refusals.NoMemory h = tt
 of_text bytes (refusals.Broken b) h = inl h
 
-pub of_texts : {T : Type 0} (bytes : List ℕ) (result : Result T Refusal) → IsJudged (OfFile bytes) result
+pub of_texts : {T : Type 0} (bytes : List ℕ) (result : Result T Refusal) → IsJudged (OfCif bytes) result
     → IfErr result (RefusesBytes bytes)
 of_texts bytes (Ok value) judged = tt
 of_texts bytes (Err why) judged = of_text bytes why judged

@@ -27,9 +27,9 @@ branch_effects-behind : (v : ℕ → ℕ) (ne i n : ℕ) (bs : List Branch) (g h
     → AllByRecursion (λ (b : Branch). (b.guard < ne) × AllBetween i n b.body) bs
     → branch_effects v bs g ≡ branch_effects v bs h
 branch_effects-behind v ne i n [] g h same fit = refl
-branch_effects-behind v ne i n (b ∷ bs) g h same fit =
-    ap (λ y. cond (v b.guard == 1) y (branch_effects v bs g)) (flat_map-behind i n b.body g h same fit.0.1)
-    ∙ ap (λ y. cond (v b.guard == 1) (flat_map h b.body) y) (branch_effects-behind v ne i n bs g h same fit.1)
+branch_effects-behind v ne i n (b ∷ bs) g h same ((_, body), rest) =
+    ap (λ y. cond (v b.guard == 1) y (branch_effects v bs g)) (flat_map-behind i n b.body g h same body)
+    ∙ ap (λ y. cond (v b.guard == 1) (flat_map h b.body) y) (branch_effects-behind v ne i n bs g h same rest)
 
 kind_effects-behind : (v : ℕ → ℕ) (ne i n : ℕ) (k : FormKind) (g h : ℕ → List Effect) → ((j : ℕ) → i < j → g j ≡ h j)
     → InnerFit ne i n k → kind_effects v k g ≡ kind_effects v k h
@@ -50,9 +50,9 @@ effects_is p env f x sound at = let (lt, is) = read_of p.forms f x at in
 branches_set-behind : (ne i n : ℕ) (bs : List Branch) (g h : ℕ → Bool) → ((j : ℕ) → i < j → g j ≡ h j)
     → AllByRecursion (λ (b : Branch). (b.guard < ne) × AllBetween i n b.body) bs → branches_set bs g ≡ branches_set bs h
 branches_set-behind ne i n [] g h same fit = refl
-branches_set-behind ne i n (b ∷ bs) g h same fit =
-    ap (λ y. y || branches_set bs g) (list_any-behind i n b.body g h same fit.0.1)
-    ∙ ap (λ y. list_any h b.body || y) (branches_set-behind ne i n bs g h same fit.1)
+branches_set-behind ne i n (b ∷ bs) g h same ((_, body), rest) =
+    ap (λ y. y || branches_set bs g) (list_any-behind i n b.body g h same body)
+    ∙ ap (λ y. list_any h b.body || y) (branches_set-behind ne i n bs g h same rest)
 
 kind_sets-behind : (x : List ℕ) (ne i n : ℕ) (k : FormKind) (g h : ℕ → Bool) → ((j : ℕ) → i < j → g j ≡ h j)
     → InnerFit ne i n k → kind_sets x k g ≡ kind_sets x k h
@@ -74,11 +74,11 @@ branches_read-behind : (m s : ℕ → Bool) (before : Bool) (ne i n : ℕ) (bs :
     → AllByRecursion (λ (b : Branch). (b.guard < ne) × AllBetween i n b.body) bs
     → branches_read m s before bs g ≡ branches_read m s before bs h
 branches_read-behind m s before ne i n [] g h same fit = refl
-branches_read-behind m s before ne i n (b ∷ bs) g h same fit =
+branches_read-behind m s before ne i n (b ∷ bs) g h same ((_, body), rest) =
     ap (λ y. ((before || m b.guard) && list_any s b.body) || (y || branches_read m s (before || m b.guard) bs g))
-    (list_any-behind i n b.body g h same fit.0.1)
+    (list_any-behind i n b.body g h same body)
     ∙ ap (λ y. ((before || m b.guard) && list_any s b.body) || (list_any h b.body || y))
-    (branches_read-behind m s (before || m b.guard) ne i n bs g h same fit.1)
+    (branches_read-behind m s (before || m b.guard) ne i n bs g h same rest)
 
 kind_reads-behind : (m s : ℕ → Bool) (x : List ℕ) (ne i n : ℕ) (k : FormKind) (g h : ℕ → Bool)
     → ((j : ℕ) → i < j → g j ≡ h j) → InnerFit ne i n k → kind_reads m s x k g ≡ kind_reads m s x k h
@@ -118,11 +118,11 @@ list_silent : (p : Program) (env x : List ℕ) (i : ℕ) (fs : List ℕ)
     → list_any (sets p x) fs ≡ false → AllBetween i (length p.forms) fs
     → written x (flat_map (effects_of p env) fs) ≡ []
 list_silent p env x i [] below none fit = refl
-list_silent p env x i (f ∷ fs) below none fit =
+list_silent p env x i (f ∷ fs) below none ((behind, within), rest) =
     let here = or_parts (sets p x f) (list_any (sets p x) fs) none in
     written-append x (effects_of p env f) (flat_map (effects_of p env) fs)
-    ∙ ap (λ y. y ++ written x (flat_map (effects_of p env) fs)) (below f fit.0.0 fit.0.1 here.0)
-    ∙ list_silent p env x i fs below here.1 fit.1
+    ∙ ap (λ y. y ++ written x (flat_map (effects_of p env) fs)) (below f behind within here.0)
+    ∙ list_silent p env x i fs below here.1 rest
 
 branches_silent : (p : Program) (env x : List ℕ) (v : ℕ → ℕ) (i : ℕ) (bs : List Branch)
     → ((j : ℕ) → i < j → j < length p.forms → SilentAt p env x j)
@@ -130,10 +130,10 @@ branches_silent : (p : Program) (env x : List ℕ) (v : ℕ → ℕ) (i : ℕ) (
     → AllByRecursion (λ (b : Branch). (b.guard < length p.exprs) × AllBetween i (length p.forms) b.body) bs
     → written x (branch_effects v bs (effects_of p env)) ≡ []
 branches_silent p env x v i [] below none fit = refl
-branches_silent p env x v i (b ∷ bs) below none fit =
+branches_silent p env x v i (b ∷ bs) below none ((_, body), rest) =
     let here = or_parts (list_any (sets p x) b.body) (branches_set bs (sets p x)) none in
-    either (v b.guard == 1) _ _ (list_silent p env x i b.body below here.0 fit.0.1)
-    (branches_silent p env x v i bs below here.1 fit.1)
+    either (v b.guard == 1) _ _ (list_silent p env x i b.body below here.0 body)
+    (branches_silent p env x v i bs below here.1 rest)
   where
     either : (c : Bool) (es fs : List Effect) → written x es ≡ [] → written x fs ≡ [] → written x (cond c es fs) ≡ []
     either true es fs h k = h
@@ -169,12 +169,12 @@ list_agree : (p : Program) (env env' x : List ℕ) (i : ℕ) (fs : List ℕ)
     → ((n : List ℕ) → list_any (form_reads p x n) fs ≡ true → Agrees p env env' n) → AllBetween i (length p.forms) fs
     → written x (flat_map (effects_of p env) fs) ≡ written x (flat_map (effects_of p env') fs)
 list_agree p env env' x i [] below same fit = refl
-list_agree p env env' x i (f ∷ fs) below same fit =
+list_agree p env env' x i (f ∷ fs) below same ((behind, within), rest) =
     written-append x (effects_of p env f) (flat_map (effects_of p env) fs)
     ∙ ap (λ y. y ++ written x (flat_map (effects_of p env) fs))
-    (below f fit.0.0 fit.0.1 (λ n h. same n (or_left _ _ h)))
+    (below f behind within (λ n h. same n (or_left _ _ h)))
     ∙ ap (λ y. written x (effects_of p env' f) ++ y)
-    (list_agree p env env' x i fs below (λ n h. same n (or_right (form_reads p x n f) _ h)) fit.1)
+    (list_agree p env env' x i fs below (λ n h. same n (or_right (form_reads p x n f) _ h)) rest)
     ∙ sym (written-append x (effects_of p env' f) (flat_map (effects_of p env') fs))
 
 -- a guard is read where its branch or a later one sets x
@@ -197,14 +197,15 @@ branches_agree p env env' x i before [] sound below same fit = refl
 branches_agree p env env' x i before (b ∷ bs) sound below same fit =
     by_test (branches_set (b ∷ bs) (sets p x))
     (λ set.
+    let ((within, body), rest) = fit in
     let guard : value_of p env b.guard ≡ value_of p env' b.guard =
-    value_agrees p env env' sound b.guard fit.0.0 (λ n h. same n (guard_read n set h)) in
+    value_agrees p env env' sound b.guard within (λ n h. same n (guard_read n set h)) in
     ap (λ c. written x
     (cond (c == 1) (flat_map (effects_of p env) b.body) (branch_effects (value_of p env) bs (effects_of p env)))) guard
     ∙ chosen (value_of p env' b.guard == 1) _ _ _ _
-    (list_agree p env env' x i b.body below (λ n h. same n (or_right _ _ (or_left _ _ h))) fit.0.1)
+    (list_agree p env env' x i b.body below (λ n h. same n (or_right _ _ (or_left _ _ h))) body)
     (branches_agree p env env' x i (λ n. before n || mentions p n b.guard) bs sound below
-    (λ n h. same n (or_right _ _ (or_right _ _ h))) fit.1))
+    (λ n h. same n (or_right _ _ (or_right _ _ h))) rest))
     (λ none.
     branches_silent p env x (value_of p env) i (b ∷ bs) (λ j ij jn. silent p env x sound j jn) none fit
     ∙ sym (branches_silent p env' x (value_of p env') i (b ∷ bs) (λ j ij jn. silent p env' x sound j jn) none fit))

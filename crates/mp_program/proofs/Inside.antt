@@ -16,9 +16,9 @@ Between i n g = (i < g) × (g < n)
 pub bodies_between : (e i n : ℕ) (bs : List Branch) → BranchesFit e i n bs
     → All (Between i n) (flat_map (λ (b : Branch). b.body) bs)
 bodies_between e i n [] h = λ k d lt. absurd (omega (arith, lt))
-bodies_between e i n (b ∷ bs) h =
+bodies_between e i n (b ∷ bs) (here, rest) =
     All-append (Between i n) b.body (flat_map (λ (x : Branch). x.body) bs)
-    (All-from_recursion (Between i n) b.body h.0.1) (bodies_between e i n bs h.1)
+    (All-from_recursion (Between i n) b.body here.1) (bodies_between e i n bs rest)
 
 pub kind_between : (e i n : ℕ) (kind : FormKind) → InnerFit e i n kind → All (Between i n) (inner kind)
 kind_between e i n (Set x at v) h = λ k d lt. absurd (omega (arith, lt))

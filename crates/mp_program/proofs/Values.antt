@@ -65,10 +65,10 @@ args_agree : (p : Program) (env env' : List ℕ) (i : ℕ) (args : List ℕ)
     → ((n : List ℕ) → list_any (mentions p n) args ≡ true → Agrees p env env' n) → AllBetween i (length p.exprs) args
     → map (value_of p env) args ≡ map (value_of p env') args
 args_agree p env env' i [] below same fit = refl
-args_agree p env env' i (a ∷ more) below same fit =
-    ap (λ y. y ∷ map (value_of p env) more) (below a fit.0.0 fit.0.1 (λ n h. same n (or_left _ _ h)))
+args_agree p env env' i (a ∷ more) below same ((behind, within), rest) =
+    ap (λ y. y ∷ map (value_of p env) more) (below a behind within (λ n h. same n (or_left _ _ h)))
     ∙ ap (λ ys. value_of p env' a ∷ ys)
-    (args_agree p env env' i more below (λ n h. same n (or_right (mentions p n a) _ h)) fit.1)
+    (args_agree p env env' i more below (λ n h. same n (or_right (mentions p n a) _ h)) rest)
 
 kind_agrees : (p : Program) (env env' : List ℕ) (i : ℕ) (k : ExprKind)
     → ((j : ℕ) → i < j → j < length p.exprs → AgreesAt p env env' j)

@@ -8,20 +8,20 @@ use Rattle.mp_program.specs.Sound.{AllBetween}
 pub map-behind : {Y : Type 0} (i n : ℕ) (xs : List ℕ) (g h : ℕ → Y) → ((k : ℕ) → i < k → g k ≡ h k) → AllBetween i n xs
     → map g xs ≡ map h xs
 map-behind i n [] g h same fit = refl
-map-behind i n (x ∷ xs) g h same fit =
-    ap (λ y. y ∷ map g xs) (same x fit.0.0) ∙ ap (λ ys. h x ∷ ys) (map-behind i n xs g h same fit.1)
+map-behind i n (x ∷ xs) g h same ((behind, _), rest) =
+    ap (λ y. y ∷ map g xs) (same x behind) ∙ ap (λ ys. h x ∷ ys) (map-behind i n xs g h same rest)
 
 pub flat_map-behind : {Y : Type 0} (i n : ℕ) (xs : List ℕ) (g h : ℕ → List Y) → ((k : ℕ) → i < k → g k ≡ h k)
     → AllBetween i n xs → flat_map g xs ≡ flat_map h xs
 flat_map-behind i n [] g h same fit = refl
-flat_map-behind i n (x ∷ xs) g h same fit =
-    ap (λ y. y ++ flat_map g xs) (same x fit.0.0) ∙ ap (λ ys. h x ++ ys) (flat_map-behind i n xs g h same fit.1)
+flat_map-behind i n (x ∷ xs) g h same ((behind, _), rest) =
+    ap (λ y. y ++ flat_map g xs) (same x behind) ∙ ap (λ ys. h x ++ ys) (flat_map-behind i n xs g h same rest)
 
 pub list_any-behind : (i n : ℕ) (xs : List ℕ) (g h : ℕ → Bool) → ((k : ℕ) → i < k → g k ≡ h k) → AllBetween i n xs
     → list_any g xs ≡ list_any h xs
 list_any-behind i n [] g h same fit = refl
-list_any-behind i n (x ∷ xs) g h same fit =
-    ap (λ y. y || list_any g xs) (same x fit.0.0) ∙ ap (λ ys. h x || ys) (list_any-behind i n xs g h same fit.1)
+list_any-behind i n (x ∷ xs) g h same ((behind, _), rest) =
+    ap (λ y. y || list_any g xs) (same x behind) ∙ ap (λ ys. h x || ys) (list_any-behind i n xs g h same rest)
 
 -- what a list of indices says at a place
 pub between_at : (i n : ℕ) (xs : List ℕ) (k : ℕ) → AllBetween i n xs → k < length xs

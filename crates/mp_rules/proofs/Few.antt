@@ -66,7 +66,8 @@ few p unbroken = by_list (namings p) refl
             found.0,
             found.1,
             subst (λ ms. IsAt ms found.0 found.1) (sym is) found.2,
-            subst (λ ms. NAMING_LIMIT < count_by (λ (m : Naming). nat_le (m.place).offset (found.1.place).offset) ms) (sym is)
+            subst (λ ms. NAMING_LIMIT < count_by (λ (m : Naming). nat_le (m.place).offset (found.1.place).offset) ms)
+                (sym is)
                 (omega (arith, many, counted)),
             refl,
           ))

@@ -20,7 +20,8 @@ placed_in : {text : List ℕ} {nodes : List Node} {depth at i to j : ℕ} {items
 placed_in none n low high = absurd (omega (arith, low, high))
 placed_in {text = text} {nodes = nodes} {i = i} (token s e kind gap run is at rest) n low high = elim (cases_lt i n) [
   | inl after ↦ placed_in rest n after high
-  | inr here ↦ (let same : i ≡ n = omega (arith, low, here) in subst (IsPlaced text nodes) same (s, ap Node.place at.1))
+  | inr here ↦ (let same : i ≡ n = omega (arith, low, here) in
+      subst (IsPlaced text nodes) same (s, ap Node.place at.1))
 ]
 placed_in {text = text} {nodes = nodes} {i = i} (list s e c k inner gap byte shallow at within close byte2 rest) n low
     high = elim (cases_lt i n) [
@@ -28,7 +29,8 @@ placed_in {text = text} {nodes = nodes} {i = i} (list s e c k inner gap byte sha
         | inl below ↦ placed_in within n after below
         | inr above ↦ placed_in rest n above high
       ]
-      | inr here ↦ (let same : i ≡ n = omega (arith, low, here) in subst (IsPlaced text nodes) same (s, ap Node.place at.1))
+      | inr here ↦ (let same : i ≡ n = omega (arith, low, here) in
+          subst (IsPlaced text nodes) same (s, ap Node.place at.1))
     ]
 
 -- a place of the text is that of its offset

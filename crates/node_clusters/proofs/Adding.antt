@@ -100,20 +100,23 @@ module _ (s : Setting) (allowed : Channel → Type 0) where
     any.4,
   )
 
+  -- a channel that ends at a node stands in the node's list
+  place_of : (lists : List (List ℕ)) (node : ℕ) (c : Channel) → AreLinked s.channels (length s.channels) lists
+      → Contains s.channels c → Contains c.ends node
+      → (k : ℕ) × (k < length (listed lists node)) × (get_or s.channels (get_or (listed lists node) k 0) c ≡ c)
+  place_of lists node c linked (j, inside, same) at =
+      let (k, below, is) = index_of (listed lists node) j
+      (linked.all node j c inside (subst (λ (x : Channel). Contains x.ends node) (sym same) at)) in
+      (k, below, ap (λ i. get_or s.channels i c) is ∙ same)
+
   pub borders_none : (from : ℕ → Type 0) (lists : List (List ℕ)) (node : ℕ)
       → AreLinked s.channels (length s.channels) lists
       → ((k : ℕ) (c : Channel) → k < length (listed lists node)
       → NoBorder from (get_or s.channels (get_or (listed lists node) k 0) c))
       → Borders s allowed from node → ⊥
-  borders_none from lists node linked none b =
-      let c = b.0 in
-      let j = b.1.0 in
-      let same : get_or s.channels j c ≡ c = b.1.2 in
-      let at = linked.all node j c b.1.1 (subst (λ (x : Channel). Contains x.ends node) (sym same) b.3) in
-      let k = index_of (listed lists node) j at in
-      let is : get_or s.channels (get_or (listed lists node) k.0 0) c ≡ c =
-      ap (λ i. get_or s.channels i c) k.2 ∙ same in
-      subst (λ (x : Channel). NoBorder from x) is (none k.0 c k.1) b.2 (b.5.0, b.4, b.5.1, b.5.2, b.6)
+  borders_none from lists node linked none (c, in', ok, at, a, (e, inside, end), source) =
+      let (k, below, is) = place_of lists node c linked in' at in
+      subst (λ (x : Channel). NoBorder from x) is (none k c below) ok (e, a, inside, end, source)
 
   pub no_border_more : (from : ℕ → Type 0) (list : List ℕ) (i : ℕ) (ch : Channel)
       → ((c : Channel) → get_or s.channels (get_or list i 0) c ≡ ch) → NoBorder from ch
@@ -182,16 +185,10 @@ module _ (s : Setting) (allowed : Channel → Type 0) where
   adds_first_all lists a i old new linked le h = record { extends = h.extends; added = added; only = h.only }
     where
       added : (n : ℕ) → Adjoins s allowed a n → Contains new n
-      added n b =
-          let c = b.0 in
-          let j = b.1.0 in
-          let same : get_or s.channels j c ≡ c = b.1.2 in
-          let at = linked.all a j c b.1.1 (subst (λ (x : Channel). Contains x.ends a) (sym same) b.3) in
-          let k = index_of (listed lists a) j at in
-          let is : get_or s.channels (get_or (listed lists a) k.0 0) c ≡ c =
-          ap (λ m. get_or s.channels m c) k.2 ∙ same in
-          h.added k.0 n c (let l = k.1 in omega arith) (subst allowed (sym is) b.2)
-          (subst (λ (x : Channel). Contains x.ends n) (sym is) b.4) b.5
+      added n (c, in', ok, at_a, at_n, free) =
+          let (k, below, is) = place_of lists a c linked in' at_a in
+          h.added k n c (omega (arith, le, below)) (subst allowed (sym is) ok)
+          (subst (λ (x : Channel). Contains x.ends n) (sym is) at_n) free
 
   -- a set as it grows: the neighbours of its first nodes are in it
   pub record GrowsFirst (i : ℕ) (old new : List ℕ) : Type 0 where

@@ -76,11 +76,11 @@ module _ (s : Setting) (v : ℕ → Trit) (b : Trit) (nodes : List ℕ) (cluster
   -- a source that the cluster meets reaches each of its nodes
   pub met_reaches : (source : Source) → Meets source → (n : ℕ) → Contains nodes n
       → Reach s (MayBeOn v) (IsSource source s) n
-  met_reaches source m n in' =
-      reach_then s (MayBeOn v) (MayBeOn v) (λ k. k ≡ m.0) (IsSource source s) n (λ c ok. ok)
+  met_reaches source (m, inside, (c, at, ok, at_m, a, at_a, from)) n in' =
+      reach_then s (MayBeOn v) (MayBeOn v) (λ k. k ≡ m) (IsSource source s) n (λ d q. q)
       (λ k e. subst (λ x. Reach s (MayBeOn v) (IsSource source s) x) (sym e)
-      (over m.2.0 (here m.2.6) m.2.1 m.2.5 m.2.3 (cluster.undriven m.0 m.1) m.2.2))
-      (cluster.joined m.0 n m.1 in')
+      (over c (here from) at at_a at_m (cluster.undriven m inside) ok))
+      (cluster.joined m n inside in')
 
   foreign_from : (source : Source) (a : ℕ) → IsSource source s a → IsForeign s b a
   foreign_from source a f = inl (driven (s.driver a) refl)

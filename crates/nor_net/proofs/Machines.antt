@@ -9,123 +9,105 @@ use Rattle.nor_net.specs.Settled.{Setting, nor_value, IsSolution}
 use Rattle.nor_net.specs.Clock.{IsClockBy}
 use Rattle.nor_net.specs.Laws.{bit}
 use Rattle.nor_net.specs.Machine.{Store, IsStore, HoldsState, HoldsInputs, HasNext, ClockSteps, ResetClears}
-use Rattle.nor_net.proofs.Solving.{at}
 
 off_bit : (b : Bool) → nor_value (bit b ∷ []) ≡ bit (cond b false true)
 off_bit true = refl
 off_bit false = refl
 
-module _ (nets : Nets) (given before shown after : Spot → Trit)
-    (clock : IsClockBy IsSolution nets given before shown after) where
+-- a solution as another function with the same values
+solved_too : (s : Setting) (v w : Spot → Trit) → IsSolution s v → ((n : Spot) → w n ≡ v n) → IsSolution s w
+solved_too s v w solved same = let path : v ≡ w = λ i n. sym (same n) i in subst (IsSolution s) path solved
+
+module _ (nets : Nets) (given before shown after : Spot → Trit) where
   abbrev setting : Option Phase → (Spot → Trit) → Setting
   setting phase values = record { nets = nets; phase = phase; given = given; before = values }
 
-  abbrev v1 : Spot → Trit
-  v1 = clock.until.0
+  -- the values in the settings of a clock: `shown` is in the second, and `after` in the last
+  record Settings : Type 0 where
+    at_c : Spot → Trit
+    at_a : Spot → Trit
+    past_a : Spot → Trit
+    at_b : Spot → Trit
+    solved_c : IsSolution (setting (Some C) before) at_c
+    solved_shown : IsSolution (setting None at_c) shown
+    solved_a : IsSolution (setting (Some A) shown) at_a
+    solved_past_a : IsSolution (setting None at_a) past_a
+    solved_b : IsSolution (setting (Some B) past_a) at_b
+    solved_after : IsSolution (setting None at_b) after
 
-  abbrev v2 : Spot → Trit
-  v2 = clock.until.2.0
+  settings_of : IsClockBy IsSolution nets given before shown after → Settings
+  settings_of clock =
+      let (at_c, solved_c, (second, solved_second, is_shown)) = clock.until in
+      let (at_a, solved_a, (past_a, solved_past_a, (at_b, solved_b, (last, solved_last, is_after)))) = clock.rest in
+      record {
+        at_c = at_c;
+        at_a = at_a;
+        past_a = past_a;
+        at_b = at_b;
+        solved_c = solved_c;
+        solved_shown = solved_too (setting None at_c) second shown solved_second is_shown;
+        solved_a = solved_a;
+        solved_past_a = solved_past_a;
+        solved_b = solved_b;
+        solved_after = solved_too (setting None at_b) last after solved_last is_after;
+      }
 
-  abbrev v3 : Spot → Trit
-  v3 = clock.rest.0
-
-  abbrev v4 : Spot → Trit
-  v4 = clock.rest.2.0
-
-  abbrev v5 : Spot → Trit
-  v5 = clock.rest.2.2.0
-
-  abbrev v6 : Spot → Trit
-  v6 = clock.rest.2.2.2.0
-
-  s1 : IsSolution (setting (Some C) before) v1
-  s1 = clock.until.1
-
-  s2 : IsSolution (setting None v1) v2
-  s2 = clock.until.2.1
-
-  s3 : IsSolution (setting (Some A) shown) v3
-  s3 = clock.rest.1
-
-  s4 : IsSolution (setting None v3) v4
-  s4 = clock.rest.2.1
-
-  s5 : IsSolution (setting (Some B) v4) v5
-  s5 = clock.rest.2.2.1
-
-  s6 : IsSolution (setting None v5) v6
-  s6 = clock.rest.2.2.2.1
-
-  is_shown : shown ≡ v2
-  is_shown = λ i n. clock.until.2.2 n i
-
-  shown_solves : IsSolution (setting None v1) shown
-  shown_solves = subst (IsSolution (setting None v1)) (sym is_shown) s2
-
+module _ (nets : Nets) (given before shown after : Spot → Trit) (run : Settings nets given before shown after) where
   -- a latch of phase B keeps its value up to phase B
   slave_shown : (n m : Spot) → nets n ≡ Some (Latched B m) → shown n ≡ before n
-  slave_shown n m e = at (setting None v1) shown shown_solves n (Latched B m) e
-      ∙ at (setting (Some C) before) v1 s1 n (Latched B m) e
+  slave_shown n m e = run.solved_shown n (Latched B m) e ∙ run.solved_c n (Latched B m) e
 
-  slave_at_a : (n m : Spot) → nets n ≡ Some (Latched B m) → v3 n ≡ before n
-  slave_at_a n m e = at (setting (Some A) shown) v3 s3 n (Latched B m) e ∙ slave_shown n m e
+  slave_at_a : (n m : Spot) → nets n ≡ Some (Latched B m) → run.at_a n ≡ before n
+  slave_at_a n m e = run.solved_a n (Latched B m) e ∙ slave_shown n m e
 
   -- a latch of phase C has what its pad is given
   latch_shown : (n m : Spot) → nets n ≡ Some (Latched C m) → nets m ≡ Some Given → shown n ≡ given m
   latch_shown n m e f =
-      at (setting None v1) shown shown_solves n (Latched C m) e ∙ at (setting (Some C) before) v1 s1 n (Latched C m) e
-      ∙ at (setting (Some C) before) v1 s1 m Given f
+      run.solved_shown n (Latched C m) e ∙ run.solved_c n (Latched C m) e ∙ run.solved_c m Given f
 
-  latch_at_a : (n m : Spot) → nets n ≡ Some (Latched C m) → nets m ≡ Some Given → v3 n ≡ given m
-  latch_at_a n m e f = at (setting (Some A) shown) v3 s3 n (Latched C m) e ∙ latch_shown n m e f
+  latch_at_a : (n m : Spot) → nets n ≡ Some (Latched C m) → nets m ≡ Some Given → run.at_a n ≡ given m
+  latch_at_a n m e f = run.solved_a n (Latched C m) e ∙ latch_shown n m e f
 
   -- the slave after the clock is the negation of the data at phase A
-  slave_after : (b : Store) → IsStore nets b → (x : Bool) → v3 b.source ≡ bit x
+  slave_after : (b : Store) → IsStore nets b → (x : Bool) → run.at_a b.source ≡ bit x
       → after b.slave ≡ bit (cond x false true)
   slave_after b is x e =
-      let taken : v3 b.master ≡ bit x = at (setting (Some A) shown) v3 s3 b.master (Latched A b.source) is.master ∙ e in
-      let kept : v4 b.master ≡ bit x = at (setting None v3) v4 s4 b.master (Latched A b.source) is.master ∙ taken in
-      let still : v5 b.master ≡ bit x = at (setting (Some B) v4) v5 s5 b.master (Latched A b.source) is.master ∙ kept in
-      let turned : v5 b.negation ≡ bit (cond x false true) =
-      at (setting (Some B) v4) v5 s5 b.negation (Nor (b.master ∷ [])) is.negation ∙ ap (λ t. nor_value (t ∷ [])) still
-      ∙ off_bit x in
-      let passed : v5 b.slave ≡ bit (cond x false true) =
-      at (setting (Some B) v4) v5 s5 b.slave (Latched B b.negation) is.slave ∙ turned in
-      let held : v6 b.slave ≡ bit (cond x false true) =
-      at (setting None v5) v6 s6 b.slave (Latched B b.negation) is.slave ∙ passed in
-      clock.rest.2.2.2.2 b.slave ∙ held
+      let taken : run.at_a b.master ≡ bit x = run.solved_a b.master (Latched A b.source) is.master ∙ e in
+      let kept : run.past_a b.master ≡ bit x = run.solved_past_a b.master (Latched A b.source) is.master ∙ taken in
+      let still : run.at_b b.master ≡ bit x = run.solved_b b.master (Latched A b.source) is.master ∙ kept in
+      let turned : run.at_b b.negation ≡ bit (cond x false true) =
+      run.solved_b b.negation (Nor (b.master ∷ [])) is.negation ∙ ap (λ t. nor_value (t ∷ [])) still ∙ off_bit x in
+      let passed : run.at_b b.slave ≡ bit (cond x false true) =
+      run.solved_b b.slave (Latched B b.negation) is.slave ∙ turned in
+      run.solved_after b.slave (Latched B b.negation) is.slave ∙ passed
 
 pub clock_steps : ClockSteps
 clock_steps nets stores ports are_stores are_ports values before shown after clock state inputs next holds
     given_inputs told =
+    let run = settings_of nets values before shown after clock in
     let state_shown : HoldsState stores state shown = λ c k b e.
-    slave_shown nets values before shown after clock b.slave b.negation (are_stores c k b e).slave ∙ holds c k b e in
+    slave_shown nets values before shown after run b.slave b.negation (are_stores c k b e).slave ∙ holds c k b e in
     let inputs_shown : HoldsInputs ports inputs shown = λ c k p e.
-    latch_shown nets values before shown after clock p.latch p.pad (are_ports c k p e).latch (are_ports c k p e).pad
+    latch_shown nets values before shown after run p.latch p.pad (are_ports c k p e).latch (are_ports c k p e).pad
     ∙ given_inputs c k p e in
-    let state_a : HoldsState stores state (v3 nets values before shown after clock) = λ c k b e.
-    slave_at_a nets values before shown after clock b.slave b.negation (are_stores c k b e).slave ∙ holds c k b e in
-    let inputs_a : HoldsInputs ports inputs (v3 nets values before shown after clock) = λ c k p e.
-    latch_at_a nets values before shown after clock p.latch p.pad (are_ports c k p e).latch (are_ports c k p e).pad
+    let state_a : HoldsState stores state run.at_a = λ c k b e.
+    slave_at_a nets values before shown after run b.slave b.negation (are_stores c k b e).slave ∙ holds c k b e in
+    let inputs_a : HoldsInputs ports inputs run.at_a = λ c k p e.
+    latch_at_a nets values before shown after run p.latch p.pad (are_ports c k p e).latch (are_ports c k p e).pad
     ∙ given_inputs c k p e in
-    let fed : HasNext stores next (v3 nets values before shown after clock) =
-    told (setting nets values before shown after clock (Some A) shown) (v3 nets values before shown after clock) refl
-    (s3 nets values before shown after clock) (state_a, inputs_a) in (
-      (
-        setting nets values before shown after clock None (v1 nets values before shown after clock),
-        refl,
-        shown_solves nets values before shown after clock,
-      ),
+    let fed : HasNext stores next run.at_a =
+    told (setting nets values before shown after (Some A) shown) run.at_a refl run.solved_a (state_a, inputs_a) in (
+      (setting nets values before shown after None run.at_c, refl, run.solved_shown),
       state_shown,
       inputs_shown,
-      λ c k b e. slave_after nets values before shown after clock b (are_stores c k b e) (next c k) (fed c k b e),
+      λ c k b e. slave_after nets values before shown after run b (are_stores c k b e) (next c k) (fed c k b e),
     )
 
 pub reset_clears : ResetClears
 reset_clears nets stores reset are_stores is_port values before shown after clock high told =
-    let one : v3 nets values before shown after clock reset.latch ≡ One =
-    latch_at_a nets values before shown after clock reset.latch reset.pad is_port.latch is_port.pad ∙ high in
-    let fed : HasNext stores (λ c k. false) (v3 nets values before shown after clock) =
-    told (setting nets values before shown after clock (Some A) shown) (v3 nets values before shown after clock) refl
-    (s3 nets values before shown after clock) one in
-    λ c k b e. slave_after nets values before shown after clock b (are_stores c k b e) false (fed c k b e)
+    let run = settings_of nets values before shown after clock in
+    let one : run.at_a reset.latch ≡ One =
+    latch_at_a nets values before shown after run reset.latch reset.pad is_port.latch is_port.pad ∙ high in
+    let fed : HasNext stores (λ c k. false) run.at_a =
+    told (setting nets values before shown after (Some A) shown) run.at_a refl run.solved_a one in
+    λ c k b e. slave_after nets values before shown after run b (are_stores c k b e) false (fed c k b e)

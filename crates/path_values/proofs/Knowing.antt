@@ -97,7 +97,7 @@ module _ (r : Rtl) (sound : IsSound r) (p : DataPath) (a : IsAllocated r p) (v :
   driven c x at is fetched = (
     λ id on k l. writing.driven_word r p a v solves env k l c fetched id (a.driven c x id at is on) value,
     λ id on. gives_bits.driven c x at (bit_cell id on) is (λ t has to.
-        ((fetched t has to).0.1, (fetched t has to).1.1)) value id on,
+        let ((_, guard_bit), (_, value_bit)) = fetched t has to in (guard_bit, value_bit)) value id on,
   )
     where
       by_kind : (kind : CellKind) → is_driven kind ≡ true → (i s d : _) → kind_value kind i s d ≡ d

@@ -122,8 +122,8 @@ module _ (r : Rtl) (p : DataPath) (sound : IsSound r) (tame : IsTame r) (a : IsA
   pad_of c i x at is =
       let f = cell_pad c i x at is in
       let l = within (r.pads).inputs i f.1 in
-      let n : length p.inputs ≡ length (r.pads).inputs = p.whole.entries_fit.0.0
-      ∙ ap (λ (q : Pads). length q.inputs) a.pads in
+      let ((size, _, _), _) = p.whole.entries_fit in
+      let n : length p.inputs ≡ length (r.pads).inputs = size ∙ ap (λ (q : Pads). length q.inputs) a.pads in
       some_entry p.inputs i (omega (arith, l, n))
 
   narrow : (pad : Pad) (word : Bool) → word ≡ not (pad.width == 0) → word ≡ false → pad_bits pad ≡ 1
@@ -154,16 +154,13 @@ module _ (r : Rtl) (p : DataPath) (sound : IsSound r) (tame : IsTame r) (a : IsA
     -- the output pads
     pads_shown : HasPadValues (r.pads).outputs p.outputs outputs v
     pads_shown i pad id k is_pad is_id l =
-        let only = sound.output_cells i (slice_get_within (r.pads).outputs i pad is_pad) in
-        let c = only.0 in
-        let x = only.1.0 in
-        let f : IsCellOf (r.pads).outputs i x.word = subst (CellFits r x) only.1.2 (sound.cells c x only.1.1) in
+        let (c, (x, at, kind), only) = sound.output_cells i (slice_get_within (r.pads).outputs i pad is_pad) in
+        let f : IsCellOf (r.pads).outputs i x.word = subst (CellFits r x) kind (sound.cells c x at) in
         let same : f.0 ≡ pad = one_entry (r.pads).outputs i f.0 pad f.1 is_pad in
-        let word : only.1.0.word ≡ not (pad.width == 0) = f.2 ∙ ap (λ (q : Pad). not (q.width == 0)) same in
-        let value : slice_index outputs i ≡ slice_index env only.0 = shown.each only.0 only.1.0 i only.1.1 only.1.2 in
-        let cell = known.cells only.0 (within r.cells only.0 only.1.1) in
-        by_width only.0 only.1.0 only.1.1 (a.shown only.0 i only.1.0 id only.1.1 only.1.2 is_id) cell value
-        (pad.width == 0) refl word
+        let word : x.word ≡ not (pad.width == 0) = f.2 ∙ ap (λ (q : Pad). not (q.width == 0)) same in
+        let value : slice_index outputs i ≡ slice_index env c = shown.each c x i at kind in
+        let cell = known.cells c (within r.cells c at) in
+        by_width c x at (a.shown c i x id at kind is_id) cell value (pad.width == 0) refl word
         (λ e. sound.outputs i pad is_pad)
       where
         by_width : (c : ℕ) (x : cells.Cell) → IsAt r.cells c x
@@ -202,10 +199,9 @@ module _ (r : Rtl) (p : DataPath) (sound : IsSound r) (tame : IsTame r) (a : IsA
       where
         fetched : (t : Rattle.rtl_form.specs.declared.rtl.Transfer.Transfer) → Contains r.transfers t → t.target ≡ c
             → Known r p a v env t.guard × Known r p a v env t.value
-        fetched t has to = let f = sound.transfers t has in (
-          known.exprs t.guard (within r.exprs t.guard f.0.1),
-          known.exprs t.value (within r.exprs t.value f.1.2.1),
-        )
+        fetched t has to =
+            let ((_, guard, _), (_, _, (_, value, _), _)) = sound.transfers t has in
+            (known.exprs t.guard (within r.exprs t.guard guard), known.exprs t.value (within r.exprs t.value value))
 
         by_word : (x : cells.Cell) → IsAt r.cells c x → x.kind ≡ kinds.Stored → k < cell_bits r x → (w : Bool)
             → x.word ≡ w → v b.source ≡ bit (bits_of (next_state r state inputs env) c k)
@@ -246,7 +242,7 @@ module _ (r : Rtl) (p : DataPath) (sound : IsSound r) (tame : IsTame r) (a : IsA
             let g = gives_bits r sound p a v solves state inputs env is_env values bits holds given in
             let got = g.next c reset.0 on.0 h on.1 reset.1 (known.cells c (within r.cells c at)).1
             (known.cells reset.0 (within r.cells reset.0 is_reset.3)).1
-            (λ t has to. ((fetched t has to).0.1, (fetched t has to).1.1)) in
+            (λ t has to. let ((_, guard_bit), (_, value_bit)) = fetched t has to in (guard_bit, value_bit)) in
             let is_next = next_value r state inputs env is_env sound c reset.0 x at kind reset.1 in
             let small : slice_index (next_state r state inputs env) c < 2 = subst
             (λ w. slice_index (next_state r state inputs env) c < 2 ^ cond w r.width 1) word (next_fits c x at) in

@@ -44,13 +44,13 @@ module _ (r : Rtl) (p : DataPath) (real : Realizes r p) where
       → IsClockBy IsSolution (path_nets p) g before s between → StateFits r state → Holds state before
       → Shown o s × Holds next between
   clock state i o next before g s between fit c given l low holds =
-      let step =
+      let ((setting, same, solved), held, inputs_held, stepped) =
       clock_steps (path_nets p) real.stored real.ports real.are_stores real.are_ports g before s between l
       (bits_of state) (bits_of i)
       (bits_of (next_state r state i c.env)) holds (real.given_ports i g given)
       (λ st v e sol q. (real.computes state i c.env o low fit c.environment c.shown st v e sol q).1) in (
-        (real.computes state i c.env o low fit c.environment c.shown step.0.0 s step.0.1 step.0.2 (step.1, step.2)).0,
-        subst (λ x. Holds x between) (sym c.next) step.3,
+        (real.computes state i c.env o low fit c.environment c.shown setting s same solved (held, inputs_held)).0,
+        subst (λ x. Holds x between) (sym c.next) stepped,
       )
 
   -- from a state that is that of the transfers

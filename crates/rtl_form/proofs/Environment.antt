@@ -52,7 +52,7 @@ module _ (r : Rtl) (sound : IsSound r) where
   driven_agrees env env2 k lt given before =
       ap (λ ws. unwrap_or (merged ws) 0)
       (written_agrees (value_of r env) (value_of r env2) (slice_index r.order k) r.transfers (λ t ct target.
-      let fits = sound.transfers t ct in
+      let (guard_fits, (target_cell, _, value_fits, _)) = sound.transfers t ct in
       let reads : (c : ℕ) → ReadsCell r.exprs c t.guard ⊎ ReadsCell r.exprs c t.value → c < length r.cells
       → slice_index env c ≡ slice_index env2 c = λ c some inside_c.
       let (x, at) = some_entry r.cells c inside_c in
@@ -60,9 +60,9 @@ module _ (r : Rtl) (sound : IsSound r) where
       (λ h. let (j, jk, is) = (sound.order).after k c lt (t, x, ct, target, at, h, some) in
       ap (slice_index env) (sym is) ∙ before j jk ∙ ap (slice_index env2) is)
       (λ h. given c x at h) in (
-        value_agrees r sound env env2 t.guard (sorted_in t.guard false fits.0)
+        value_agrees r sound env env2 t.guard (sorted_in t.guard false guard_fits)
             (λ c h. reads c (inl h) (read_in c t.guard h)),
-        value_agrees r sound env env2 t.value (sorted_in t.value (fits.1.0).word fits.1.2)
+        value_agrees r sound env env2 t.value (sorted_in t.value target_cell.word value_fits)
             (λ c h. reads c (inr h) (read_in c t.value h)),
       )))
 

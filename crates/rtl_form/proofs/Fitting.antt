@@ -154,8 +154,9 @@ module _ (r : Rtl) (sound : IsSound r) (state inputs env : List ℕ) (state_fits
       by_expr (exprs.Apply op index args) at ready fits sort =
           subst (λ w. apply r.width op index (map value args) < size_of r.width w) (sym sort)
           (apply_fits r.width op index (map value args) (operand args (λ k l.
-          let a = fits.2 (get_or args k 0) (Rattle.std.proofs.lemmas.List.Elements.Contains-get_or args k 0 l) in
-          ready k 0 l a.1.0 (takes_words op) a.1.1 a.1.2)))
+          let (_, (argument, stands, sorted)) = fits.2 (get_or args k 0)
+          (Rattle.std.proofs.lemmas.List.Elements.Contains-get_or args k 0 l) in
+          ready k 0 l argument (takes_words op) stands sorted)))
         where
           operand : (args : List ℕ)
               → ((k : ℕ) → k < length args → value (get_or args k 0) < size_of r.width (takes_words op)) → (i : ℕ)
@@ -171,9 +172,9 @@ module _ (r : Rtl) (sound : IsSound r) (state inputs env : List ℕ) (state_fits
   writes_fit c x at fetched d l =
       unwrapped (if x.word then r.width else 1) (merged (written value c r.transfers)) d
       (small (if x.word then r.width else 1) value c r.transfers (λ t has to.
-      let f = sound.transfers t has in
-      let same : f.1.0 ≡ x = one_entry r.cells c f.1.0 x (subst (λ k. IsAt r.cells k f.1.0) to f.1.1) at in
-      fetched t has to f.1.2.0 x.word f.1.2.1 (subst (λ z. IsSort r.cells f.1.2.0 z.word) same f.1.2.2)))
+      let (_, (target, among, (source, stands, sorted), _)) = sound.transfers t has in
+      let same : target ≡ x = one_entry r.cells c target x (subst (λ k. IsAt r.cells k target) to among) at in
+      fetched t has to source x.word stands (subst (λ z. IsSort r.cells source z.word) same sorted)))
       l
 
   driven : (c : ℕ) (x : cells.Cell) → IsAt r.cells c x → is_driven x.kind ≡ true
@@ -214,7 +215,9 @@ module _ (r : Rtl) (sound : IsSound r) (state inputs env : List ℕ) (state_fits
       stored true =
           let num : 0 + c ≡ c = omega arith in
           subst (λ m. next_stored r state env m < size_of r.width x.word) (sym num)
-          (writes_fit c x at (λ t has to. all.exprs t.value (within r.exprs t.value (sound.transfers t has).1.2.1))
+          (writes_fit c x at (λ t has to.
+          let (_, (_, _, value_fits, _)) = sound.transfers t has in
+          all.exprs t.value (within r.exprs t.value value_fits.1))
           (slice_index state c) (state_fits c x at))
 
       by_reset : (b : Bool)

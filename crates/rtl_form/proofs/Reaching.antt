@@ -31,10 +31,9 @@ module _ (r : Rtl) (sound : IsSound r) (E C : ℕ → Type 0) (passes : Passes r
       by_expr (Apply op index args) is reads fits again =
           passes.exprs e (Apply op index args) is (λ k d m.
           let a = get_or args k d in
-          let has : Contains args (get_or args k d) =
-          Contains-get_or args k d m in
-          let f = fits.2 (get_or args k d) has in
-          again (get_or args k d) f.0 (within r.exprs (get_or args k d) f.1.1) (λ c q. reads c (inside e (get_or args k d) op index args is has q)))
+          let has : Contains args a = Contains-get_or args k d m in
+          let (before, sorted) = fits.2 a has in
+          again a before (within r.exprs a sorted.1) (λ c q. reads c (inside e a op index args is has q)))
 
   -- a driven cell holds where those before it in the order do
   by_order : (n k : ℕ) → k < n → k < length r.order → C (slice_index r.order k)
@@ -42,12 +41,12 @@ module _ (r : Rtl) (sound : IsSound r) (E C : ℕ → Type 0) (passes : Passes r
   by_order (suc n) k l in' =
       let d = sound.order.driven k in' in
       passes.driven (slice_index r.order k) d.0 d.1 d.2 (λ t has is.
-      let f = sound.transfers t has in (
-        by_index (suc t.guard) t.guard (omega arith) (within r.exprs t.guard f.0.1)
+      let (guard_fits, (_, _, value_fits, _)) = sound.transfers t has in (
+        by_index (suc t.guard) t.guard (omega arith) (within r.exprs t.guard guard_fits.1)
             (λ c q. by_cell c (λ j m e. by_order n j (omega arith) e)
             (λ y at driven. sound.order.after k c in' (t, y, has, is, at, driven, inl q))
             (read_in r sound c t.guard q)),
-        by_index (suc t.value) t.value (omega arith) (within r.exprs t.value f.1.2.1)
+        by_index (suc t.value) t.value (omega arith) (within r.exprs t.value value_fits.1)
             (λ c q. by_cell c (λ j m e. by_order n j (omega arith) e)
             (λ y at driven. sound.order.after k c in' (t, y, has, is, at, driven, inr q))
             (read_in r sound c t.value q)),

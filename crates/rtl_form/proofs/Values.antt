@@ -48,7 +48,8 @@ expr_agrees r env env2 e (Cell c) at fit below same = same c (itself e at)
 expr_agrees r env env2 e (Apply op k args) at (takes, index, fit) below same =
     ap (apply r.width op k) (map_same args (value_of r env) (value_of r env2) (λ a ca.
     let lt = (fit a ca).0 in
-    below a lt (let l = within r.exprs e at in omega (arith, lt, l)) (λ c reads. same c (inside e a op k args at ca reads))))
+    below a lt (let l = within r.exprs e at in omega (arith, lt, l))
+    (λ c reads. same c (inside e a op k args at ca reads))))
 
 pub value_agrees : (r : Rtl) → IsSound r → (env env2 : List ℕ) (e : ℕ) → AgreesAt r env env2 e
 value_agrees r sound env env2 = upward (AgreesAt r env env2) (λ e below lt same.

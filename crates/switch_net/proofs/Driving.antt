@@ -50,7 +50,7 @@ label_cases net name n =
         ⊎ ((t : Tag) × Contains net.tags t × ((t.name ≡ name) × (t.node ≡ n)))
         → (IsLabelled net name n → ⊥) ⊎ IsLabelled net name n
     found (inl h) = inl (λ l. none_of (λ t. (t.name ≡ name) × (t.node ≡ n)) net.tags l.0 h l.1 (l.2, l.3))
-    found (inr w) = inr (w.0, w.1, w.2.0, w.2.1)
+    found (inr (t, c, (e, f))) = inr (t, c, e, f)
 
 -- the first of these that is for a label of the node
 drive_cases : (net : Network) (ds : List Drive) (n : ℕ)

@@ -6,6 +6,7 @@ use Rattle.std.proofs.lemmas.Bool.{cases_lt, cases_eq, eq-eqb, ne_eqb}
 use Rattle.std.proofs.lemmas.List.Elements.{All-contains}
 use Rattle.mp_base.specs.declared.value.Trit.{Trit}
 use Rattle.mp_base.specs.declared.value.Trit.TheVariants.{Zero, One, X}
+use Rattle.mp_base.proofs.Contents.{contains_head, contains_behind}
 use Rattle.mp_base.proofs.Decisions.{Decided, both_of, not_so}
 use Rattle.mp_base.proofs.Values.{same_trit as trit_same, same_trit_or_not}
 use Rattle.switch_net.specs.declared.network.ChannelKind.{ChannelKind}
@@ -25,8 +26,8 @@ all_or_one {Y} P Q dec (x ∷ xs) = step (dec x) (all_or_one P Q dec xs)
   where
     step : P x ⊎ Q x → All P xs ⊎ ((y : Y) × Contains xs y × Q y)
         → All P (x ∷ xs) ⊎ ((y : Y) × Contains (x ∷ xs) y × Q y)
-    step (inr q) _ = inr (x, (0, omega arith, refl), q)
-    step (inl p) (inr r) = inr (r.0, (suc r.1.0, omega arith, r.1.2), r.2)
+    step (inr q) _ = inr (x, contains_head x xs, q)
+    step (inl p) (inr (y, c, q)) = inr (y, contains_behind y x xs c, q)
     step (inl p) (inl h) = inl cover
       where
         cover : All P (x ∷ xs)
@@ -103,8 +104,16 @@ module _ (s : Setting) (nodes : ℕ)
     abbrev ChannelFine : (ℕ → Bool) → Channel → Type 0
     ChannelFine m c = ok c → All (λ a. All (λ b. Fine m a b) c.ends) c.ends
 
-    abbrev ChannelOpen : (ℕ → Bool) → Channel → Type 0
-    ChannelOpen m c = ok c × ((a : ℕ) × Contains c.ends a × ((b : ℕ) × Contains c.ends b × Open m a b))
+    -- one end of the channel is reached, and the next isn't yet
+    record ChannelOpen (m : ℕ → Bool) (c : Channel) : Type 0 where
+      pub allowed : ok c
+      pub reached : ℕ
+      pub at_reached : Contains c.ends reached
+      pub next : ℕ
+      pub at_next : Contains c.ends next
+      pub free : s.driver next ≡ None
+      pub marked_reached : m reached ≡ true
+      pub unmarked_next : m next ≡ false
 
     channel_or_open : (m : ℕ → Bool) (c : Channel) → ChannelFine m c ⊎ ChannelOpen m c
     channel_or_open m c =
@@ -118,41 +127,52 @@ module _ (s : Setting) (nodes : ℕ)
             → ChannelFine m c ⊎ ChannelOpen m c
         by_ok (inr bad) _ = inl (λ okc. absurd (bad okc))
         by_ok (inl okc) (inl h) = inl (λ _. h)
-        by_ok (inl okc) (inr q) = inr (okc, q)
+        by_ok (inl okc) (inr (a, at_a, (b, at_b, (free, marked_a, unmarked_b)))) = inr (record {
+          allowed = okc;
+          reached = a;
+          at_reached = at_a;
+          next = b;
+          at_next = at_b;
+          free = free;
+          marked_reached = marked_a;
+          unmarked_next = unmarked_b;
+        })
 
     record Closure (m : ℕ → Bool) : Type 0 where
       pub sound : (n : ℕ) → m n ≡ true → Reach s ok from n
       pub begun : (n : ℕ) → from n → m n ≡ true
 
-    abbrev Closed : Type 0
-    Closed = (m : ℕ → Bool) × Closure m × All (ChannelFine m) s.channels
+    record Closed : Type 0 where
+      pub marks : ℕ → Bool
+      pub closure : Closure marks
+      pub complete : All (ChannelFine marks) s.channels
 
-    -- a channel that is open at a to b marks b
+    -- a channel that is open marks its next end
     grown : (m : ℕ → Bool) → Closure m → (c : Channel) → Contains s.channels c → (o : ChannelOpen m c)
-        → Closure (put m o.1.2.0)
+        → Closure (put m o.next)
     grown m h c in' o =
-        record { sound = λ n q. by_case n q (cases_eq n o.1.2.0); begun = λ n f. put_kept m o.1.2.0 n (h.begun n f) }
+        record { sound = λ n q. by_case n q (cases_eq n o.next); begun = λ n f. put_kept m o.next n (h.begun n f) }
       where
-        by_case : (n : ℕ) → put m o.1.2.0 n ≡ true → (n ≡ o.1.2.0) ⊎ (n ≡ o.1.2.0 → ⊥) → Reach s ok from n
+        by_case : (n : ℕ) → put m o.next n ≡ true → (n ≡ o.next) ⊎ (n ≡ o.next → ⊥) → Reach s ok from n
         by_case n q (inl e) =
-            subst (λ x. Reach s ok from x) (sym e) (over c (h.sound o.1.0 o.1.2.2.1) in' o.1.1 o.1.2.1 o.1.2.2.0 o.0)
-        by_case n q (inr ne) = h.sound n (sym (put_other m o.1.2.0 n ne) ∙ q)
+            subst (λ x. Reach s ok from x) (sym e)
+            (over c (h.sound o.reached o.marked_reached) in' o.at_reached o.at_next o.free o.allowed)
+        by_case n q (inr ne) = h.sound n (sym (put_other m o.next n ne) ∙ q)
 
     close : (k : ℕ) (m : ℕ → Bool) → missing nodes m ≤ k → Closure m → Closed
     close k m le h = by_channels k m le h (all_or_one (ChannelFine m) (ChannelOpen m) (channel_or_open m) s.channels)
       where
         by_channels : (k : ℕ) (m : ℕ → Bool) → missing nodes m ≤ k → Closure m
             → All (ChannelFine m) s.channels ⊎ ((c : Channel) × Contains s.channels c × ChannelOpen m c) → Closed
-        by_channels k m le h (inl done) = (m, h, done)
-        by_channels zero m le h (inr o) =
-            let fewer = missing_put nodes m o.2.1.2.0 (ends_in o.0 o.2.1.2.0 o.1 o.2.1.2.1) o.2.1.2.2.2 in
+        by_channels k m le h (inl done) = record { marks = m; closure = h; complete = done }
+        by_channels zero m le h (inr (c, in', o)) =
+            let fewer = missing_put nodes m o.next (ends_in c o.next in' o.at_next) o.unmarked_next in
             absurd (omega (arith, fewer))
-        by_channels (suc k) m le h (inr o) =
-            let b : ℕ = o.2.1.2.0 in
-            let fewer = missing_put nodes m o.2.1.2.0 (ends_in o.0 o.2.1.2.0 o.1 o.2.1.2.1) o.2.1.2.2.2 in
-            by_channels k (put m o.2.1.2.0) (omega (arith, fewer)) (grown m h o.0 o.1 o.2)
-            (all_or_one (ChannelFine (put m o.2.1.2.0)) (ChannelOpen (put m o.2.1.2.0))
-            (channel_or_open (put m o.2.1.2.0)) s.channels)
+        by_channels (suc k) m le h (inr (c, in', o)) =
+            let fewer = missing_put nodes m o.next (ends_in c o.next in' o.at_next) o.unmarked_next in
+            by_channels k (put m o.next) (omega (arith, fewer)) (grown m h c in' o)
+            (all_or_one (ChannelFine (put m o.next)) (ChannelOpen (put m o.next)) (channel_or_open (put m o.next))
+            s.channels)
 
     abbrev test : {P : Type 0} → Decided P → Bool
     test (inl p) = true
@@ -171,18 +191,18 @@ module _ (s : Setting) (nodes : ℕ)
         close (missing nodes (λ n. test (dec_from n))) (λ n. test (dec_from n)) (omega arith)
         (record { sound = λ n e. here (test_true (dec_from n) e); begun = λ n f. true_test (dec_from n) f })
 
-    marked : (n : ℕ) → Reach s ok from n → closed.0 n ≡ true
-    marked n (here f) = closed.1.begun n f
+    marked : (n : ℕ) → Reach s ok from n → closed.marks n ≡ true
+    marked n (here f) = closed.closure.begun n f
     marked n (over {a} c r in' at_a at_n free okc) =
-        All-contains (λ b. Fine closed.0 a b) c.ends n
-        (All-contains (λ x. All (λ b. Fine closed.0 x b) c.ends) c.ends a
-        (All-contains (ChannelFine closed.0) s.channels c closed.2 in' okc) at_a) at_n free (marked a r)
+        All-contains (λ b. Fine closed.marks a b) c.ends n
+        (All-contains (λ x. All (λ b. Fine closed.marks x b) c.ends) c.ends a
+        (All-contains (ChannelFine closed.marks) s.channels c closed.complete in' okc) at_a) at_n free (marked a r)
 
     pub reach_decided : (n : ℕ) → Decided (Reach s ok from n)
-    reach_decided n = by_mark (closed.0 n) refl
+    reach_decided n = by_mark (closed.marks n) refl
       where
-        by_mark : (b : Bool) → closed.0 n ≡ b → Decided (Reach s ok from n)
-        by_mark true e = inl (closed.1.sound n e)
+        by_mark : (b : Bool) → closed.marks n ≡ b → Decided (Reach s ok from n)
+        by_mark true e = inl (closed.closure.sound n e)
         by_mark false e = inr (λ r. let t = marked n r in cc)
 
 strong_decided : (k : ChannelKind) → Decided (k ≢ Depletion)

@@ -7,6 +7,7 @@ use Rattle.std.proofs.lemmas.Bool.{cases_lt}
 use Rattle.std.proofs.lemmas.List.{get_or_default}
 use Rattle.mp_base.specs.declared.refusal.Spot.TheVariants.{Offset, Named}
 use Rattle.mp_base.specs.PadNames.{supplies}
+use Rattle.mp_base.proofs.Contents.{contains_head, contains_behind}
 use Rattle.mp_base.proofs.Entries.{same_at}
 use Rattle.lam_geom.specs.declared.label.FlatLabel.{FlatLabel}
 use Rattle.lam_geom.specs.declared.rect.Rect.{Rect}
@@ -41,10 +42,9 @@ partner R [] [] h i x e = absurd (cc)
 partner R [] (y ∷ ys) h i x e = absurd h
 partner R (x ∷ xs) [] h i z e = absurd h
 partner R (x ∷ xs) (y ∷ ys) h zero z e =
-    (y, (0, omega arith, refl), subst (λ w. R w y) (same_at (x ∷ xs) 0 0 x z refl refl e) h.0)
+    (y, contains_head y ys, subst (λ w. R w y) (same_at (x ∷ xs) 0 0 x z refl refl e) h.0)
 partner R (x ∷ xs) (y ∷ ys) h (suc i) z e =
-    let w = partner R xs ys h.1 i z e in
-    (w.0, (suc w.1.0, omega (arith, w.1.1), w.1.2), w.2)
+    let (w, c, r) = partner R xs ys h.1 i z e in (w, contains_behind w y ys c, r)
 
 module _ (shapes : List Rect) (labels : List FlatLabel) (net : Network)
     (drawn : IsNetwork (covered shapes) labels net) where

@@ -12,6 +12,7 @@ use Rattle.std.proofs.lemmas.List.Concat.{flat_map-append}
 use Rattle.std.proofs.lemmas.List.Elements.{Contains-append_left, Contains-append_cases}
 use Rattle.std.proofs.lemmas.List.Folds.{list_any-from_Any}
 use Rattle.std.proofs.lemmas.Bool.{and_parts}
+use Rattle.mp_base.proofs.Contents.{contains_head, contains_behind}
 use Rattle.mp_base.specs.declared.pad.Pad.{Pad}
 use Rattle.mp_base.specs.declared.pad.Pads.{Pads}
 use Rattle.mp_base.specs.Token.{is_token}
@@ -134,8 +135,8 @@ flat_at (p ∷ ps) y c = at (flat_at ps y) (Contains-append_cases (bit_labels p)
     at : (Contains (flat_map bit_labels ps) y → (q : Pad) × Contains ps q × Contains (bit_labels q) y)
         → Contains (bit_labels p) y ⊎ Contains (flat_map bit_labels ps) y
         → (q : Pad) × Contains (p ∷ ps) q × Contains (bit_labels q) y
-    at again (inl k) = (p, (0, omega arith, refl), k)
-    at again (inr k) = let w = again k in (w.0, (suc w.1.0, omega (arith, w.1.1), w.1.2), w.2)
+    at again (inl k) = (p, contains_head p ps, k)
+    at again (inr k) = let (q, c, b) = again k in (q, contains_behind q p ps c, b)
 
 -- the names of these pads are runs
 abbrev AreRuns : List Pad → Type 0

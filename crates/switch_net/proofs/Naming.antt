@@ -32,4 +32,4 @@ module _ (covers : Layer → ℤ → ℤ → Type 0) where
   pub named_on : (x y : ℤ) (o : Option Layer) (l : Layer) → IsNamed covers x y o l → ConductsOn covers l x y
   named_on x y None l h = h.0
   named_on x y (Some m) l (inl h) = subst (λ k. ConductsOn covers k x y) (sym h.0) h.1
-  named_on x y (Some m) l (inr h) = h.1.0
+  named_on x y (Some m) l (inr (elsewhere, (conducts, first))) = conducts

@@ -122,11 +122,11 @@ module _ (covers : Layer → ℤ → ℤ → Type 0) (nodes : List Square) (are 
   one_kind r Depletion Depletion i a b = refl
   one_kind r Partial Partial i a b = refl
   one_kind r Enhancement Depletion i a b = absurd (a r i (b r i))
-  one_kind r Enhancement Partial i a b = absurd (a b.0.0 b.0.1 b.0.2)
+  one_kind r Enhancement Partial i a b = let (s, of, implant) = b.0 in absurd (a s of implant)
   one_kind r Depletion Enhancement i a b = absurd (b r i (a r i))
-  one_kind r Depletion Partial i a b = absurd (b.1.2 (a b.1.0 b.1.1))
-  one_kind r Partial Enhancement i a b = absurd (b a.0.0 a.0.1 a.0.2)
-  one_kind r Partial Depletion i a b = absurd (a.1.2 (b a.1.0 a.1.1))
+  one_kind r Depletion Partial i a b = let (s, of, bare) = b.1 in absurd (bare (a s of))
+  one_kind r Partial Enhancement i a b = let (s, of, implant) = a.0 in absurd (b s of implant)
+  one_kind r Partial Depletion i a b = let (s, of, bare) = a.1 in absurd (bare (b s of))
 
   one_channel : (r : Square) (c d : Channel) → IsChannelSquare covers r → IsChannelAt covers nodes r c
       → IsChannelAt covers nodes r d → c ≡ d

@@ -25,8 +25,8 @@ returns-then-meets_another c =
     let t = c.index-tags-i.result in
     let drivers = c.args.drivers.now in
     let driver = (c.in_ok-names.ensures t.name).0 (sym c.is_driver.ensures ∙ c.if-is_driver.true) in
-    let owners = subst₂ (λ ts os. AreOwners drivers ts os i) (sym c.as_slice-tags.ensures) (sym c.deref_mut.ensures.value)
-    c.loop-i.invariant.owners in
+    let owners = subst₂ (λ ts os. AreOwners drivers ts os i) (sym c.as_slice-tags.ensures)
+    (sym c.deref_mut.ensures.value) c.loop-i.invariant.owners in
     let twice = c.meets_another.ensures.met c.if-meets_another.true drivers t
     (stands_at tags i t c.loop-i-test.true c.index-tags-i.is) driver owners in
     record {
@@ -55,7 +55,8 @@ loop-i-preserved c =
           let noted = told.noted w.if-meets_another.false drivers t at driver owners in
           let old = c.loop-i.owners in
           let new = w.meets_another.new.owners in
-          let long : length new ≡ old.len = told.sized ∙ ap (λ (os : List (Option ℕ)). length os) w.deref_mut.ensures.value
+          let long : length new ≡ old.len = told.sized
+          ∙ ap (λ (os : List (Option ℕ)). length os) w.deref_mut.ensures.value
           ∙ sym old.ok.0 in
           let now = ap (λ (v : Vec (Option ℕ) Global). v.items) w.owners-is
           ∙ take_at new (drop (length new) old.items) old.len long in

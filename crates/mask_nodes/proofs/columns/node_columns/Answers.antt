@@ -33,8 +33,8 @@ nodes_over-requires-2-clause-inside g c =
     c.args.masks.now.polysilicon.found c.args.cut.now.polysilicon.over c.as_slice-2.result.now
     c.args.classes.now.nodes.numbers c.as_slice-numbers.result.now c.requires.0.cut.polysilicon_numbers
     (found_inside _ _ c.args.masks.now.polysilicon.tiles _ c.args.masks.now.polysilicon.found
-    c.requires.0.masks.polysilicon_swept.found) c.requires.0.cut.polysilicon_over c.requires.0.classed.as_many c.as_slice-2.ensures
-    c.as_slice-numbers.ensures
+    c.requires.0.masks.polysilicon_swept.found) c.requires.0.cut.polysilicon_over c.requires.0.classed.as_many
+    c.as_slice-2.ensures c.as_slice-numbers.ensures
 
 pub nodes_over-requires-3-clause-long : goal.nodes_over-requires-3-clause-long
 nodes_over-requires-3-clause-long g c =
@@ -50,8 +50,8 @@ nodes_over-requires-3-clause-inside g c =
     c.args.masks.now.diffusion.found c.args.cut.now.diffusion.over c.as_slice-3.result.now
     c.args.classes.now.nodes.numbers c.as_slice-numbers.result.now c.requires.0.cut.diffusion_numbers
     (found_inside _ _ c.args.masks.now.diffusion.tiles _ c.args.masks.now.diffusion.found
-    c.requires.0.masks.diffusion_swept.found) c.requires.0.cut.diffusion_over c.requires.0.classed.as_many c.as_slice-3.ensures
-    c.as_slice-numbers.ensures
+    c.requires.0.masks.diffusion_swept.found) c.requires.0.cut.diffusion_over c.requires.0.classed.as_many
+    c.as_slice-3.ensures c.as_slice-numbers.ensures
 
 pub returns-clause-metal : goal.returns-clause-metal
 returns-clause-metal g c =
@@ -60,8 +60,8 @@ returns-clause-metal g c =
     c.as_slice-numbers.result.now c.len-first.result c.args.count
     c.requires.0.classed
     (metal_over g.drawn.0 c.args.cut.now.pieces c.args.cut.now.metal.numbers c.args.masks.now.metal.tiles _
-    c.args.masks.now.metal.found c.args.cut.now.metal.over c.requires.0.masks.metal_swept.tiles c.requires.0.cut.metal_numbers
-    c.requires.0.masks.metal_swept.found c.requires.0.cut.metal_over)
+    c.args.masks.now.metal.found c.args.cut.now.metal.over c.requires.0.masks.metal_swept.tiles
+    c.requires.0.cut.metal_numbers c.requires.0.masks.metal_swept.found c.requires.0.cut.metal_over)
     (column_long _ _ _ c.args.masks.now.contacts.tiles g.drawn.1 c.args.masks.now.metal.found
     c.args.cut.now.metal.over _ c.requires.0.masks.metal_swept.found c.requires.0.cut.metal_over) c.as_slice.ensures
     c.as_slice-numbers.ensures c.len-first.ensures c.requires.1 c.in_ok-metal.ensures
@@ -75,8 +75,8 @@ returns-clause-polysilicon g c =
     (over_fewer _ _ NP _ _ _
     (polysilicon_over g.drawn.0 c.args.cut.now.pieces c.args.cut.now.polysilicon.numbers
     c.args.masks.now.polysilicon.tiles _ c.args.masks.now.polysilicon.found c.args.cut.now.polysilicon.over
-    c.requires.0.masks.polysilicon_swept.tiles c.requires.0.cut.polysilicon_numbers c.requires.0.masks.polysilicon_swept.found
-    c.requires.0.cut.polysilicon_over))
+    c.requires.0.masks.polysilicon_swept.tiles c.requires.0.cut.polysilicon_numbers
+    c.requires.0.masks.polysilicon_swept.found c.requires.0.cut.polysilicon_over))
     (column_longer _ _ _ c.args.masks.now.contacts.tiles g.drawn.1 _ c.args.masks.now.polysilicon.found
     c.args.cut.now.polysilicon.over _ c.requires.0.masks.polysilicon_swept.found c.requires.0.cut.polysilicon_over)
     c.as_slice-2.ensures c.as_slice-numbers.ensures c.len-first.ensures c.requires.1 c.in_ok-polysilicon.ensures

@@ -17,7 +17,8 @@ returns-in-Some-2 c =
     → Type 0 = λ o. MatchOption o (Unit {0}) (IsListing c.args.program.now c.as_slice-in-None.result.now) in
     let listed : M (Some c.in-Some-2.order) = subst M c.in-Some-2.is c.in_ok-order-in-None.ensures in
     let L : List ℕ → Type 0 = λ ranks. IsListing c.args.program.now ranks c.in-Some-2.order in
-    let listing : L c.as_slice-2.result.now = subst L (c.as_slice-in-None.ensures ∙ sym c.as_slice-2.ensures) listed in (
+    let listing : L c.as_slice-2.result.now =
+    subst L (c.as_slice-in-None.ensures ∙ sym c.as_slice-2.ensures) listed in (
       listing_order c.args.program.now c.as_slice-2.result.now c.as_slice-loose.result.now c.in-Some-2.order ranking
           listing
           (λ a b reads. zero_from (slice_index c.as_slice-loose.result.now a)

@@ -13,7 +13,8 @@ pub returns-in_default-number : goal.returns-in_default-number
 returns-in_default-number c = λ a h.
     let found : (c.in-Some.equals < length c.bytes-bytes.result.now)
     × (get_or c.bytes-bytes.result.now c.in-Some.equals 0 ≡ 61)
-    × ((k : ℕ) → c.in-Some.equals < k → k < length c.bytes-bytes.result.now → get_or c.bytes-bytes.result.now k 0 ≢ 61) = c.in-Some.ensures in
+    × ((k : ℕ) → c.in-Some.equals < k → k < length c.bytes-bytes.result.now
+    → get_or c.bytes-bytes.result.now k 0 ≢ 61) = c.in-Some.ensures in
     let bytes : List ℕ = c.bytes-bytes.result.now in
     let rest : ℕ = c.in-Some.equals + 1 in
     let none : (n : ℕ) → IsNumber (take (length bytes - rest) (drop rest bytes)) n → ⊥ = c.in_default-number.ensures in
@@ -26,7 +27,8 @@ pub returns-then-not-is_name : goal.returns-then-not-is_name
 returns-then-not-is_name c = λ a h.
     let found : (c.in-Some.equals < length c.bytes-bytes.result.now)
     × (get_or c.bytes-bytes.result.now c.in-Some.equals 0 ≡ 61)
-    × ((k : ℕ) → c.in-Some.equals < k → k < length c.bytes-bytes.result.now → get_or c.bytes-bytes.result.now k 0 ≢ 61) = c.in-Some.ensures in
+    × ((k : ℕ) → c.in-Some.equals < k → k < length c.bytes-bytes.result.now
+    → get_or c.bytes-bytes.result.now k 0 ≢ 61) = c.in-Some.ensures in
     let bad : false ≡ is_name (take c.in-Some.equals c.bytes-bytes.result.now) = c.if-not-is_name.ensures in
     both_ways _ (sym bad)
     (assigned_in c.args.word.now a c.bytes-bytes.result.now c.in-Some.equals c.bytes-bytes.ensures h found.0 found.1
