@@ -4,7 +4,7 @@ use Rattle.std.proofs.Common.{get_or, take, sym, ◌∙◌, ap, subst, arith, dr
 use Rattle.std.proofs.lemmas.List.{append-nil, take-append-drop}
 use Rattle.std.proofs.lemmas.List.Elements.{Contains-append_left}
 use Rattle.std.specs.Prelude.{AllPairs, All}
-use Rattle.mp_base.proofs.Members.{Member}
+use Rattle.mp_base.proofs.Members.{Member, member_append, append_right}
 use Rattle.tile_cells.specs.declared.tile.Tile.{Tile}
 use Rattle.tile_cells.specs.declared.tile.Tile.TheVariants.{TapL, TapR, Tran, PullUp, Under}
 use Rattle.fabric.specs.declared.thing.Side.{Side}
@@ -13,7 +13,6 @@ use Rattle.fabric.specs.declared.thing.Mark.{Mark}
 use Rattle.fabric.specs.Plan.{Plan, IsFabric, IsSegment, IsLine, IsMark, Stands, LineAt, SegmentAt, LinesApart}
 use Rattle.fabric.specs.Plan.{SegmentsApart, MarksApart}
 use Rattle.fabric.specs.Plan.{with_added}
-use Rattle.array_form.proofs.Members.{member_append, append_right}
 use Rattle.array_form.proofs.Pairs.{each_at, Pairs, pairs_all, pairs_from, pairs_append}
 use Rattle.array_form.proofs.Laid.{all_from, all_at}
 

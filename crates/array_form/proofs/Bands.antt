@@ -34,10 +34,6 @@ map_flat g h k e [] = refl
 map_flat g h k e (c ∷ cs) = map_append g (h c) (flat_map h cs)
     ∙ (ap (λ l. l ++ map g (flat_map h cs)) (e c) ∙ ap (λ l. k c ++ l) (map_flat g h k e cs))
 
-flat_same : {A B : Type 0} (h k : A → List B) → ((a : A) → h a ≡ k a) → (cs : List A) → flat_map h cs ≡ flat_map k cs
-flat_same h k e [] = refl
-flat_same h k e (c ∷ cs) = ap (λ l. l ++ flat_map h cs) (e c) ∙ ap (λ l. k c ++ l) (flat_same h k e cs)
-
 range_more : (a n : ℕ) → range_with_len a (n + 3) ≡ range_with_len a n ++ ((a + n) ∷ (a + n + 1) ∷ (a + n + 2) ∷ [])
 range_more a zero =
     let e0 : a ≡ a + 0 = omega arith in let e1 : a + 1 ≡ a + 0 + 1 = omega arith in

@@ -3,7 +3,7 @@ use Rattle.std.proofs.Common.{◌≡◌, ◌⊎◌, inl, inr, ℕ, ◌<◌, List
 use Rattle.std.proofs.Common.{Bool, true, false, filter}
 use Rattle.std.specs.Prelude.{Contains, ◌≢◌}
 use Rattle.mp_base.proofs.Tests.{false_true}
-use Rattle.mp_base.proofs.Members.{member_contains, contains_member, member_filter, filter_member}
+use Rattle.mp_base.proofs.Members.{member_contains, contains_member, member_filter, filter_member, zip_left, zip_right}
 use Rattle.tile_cells.specs.declared.tile.Tile.TheVariants.{TapL, TapR, Tran, PullUp, Under}
 use Rattle.switch_net.specs.declared.network.ChannelKind.TheVariants.{Enhancement, Depletion}
 use Rattle.switch_net.specs.declared.network.Channel.{Channel}
@@ -21,7 +21,6 @@ use Rattle.drawing.specs.Draws.{IsPullUp, IsPass, IsDrawn, pull_down, pull_up, p
 use Rattle.array_form.specs.Named.{Tie, tap, tran, pull, IsAt, IsNamed}
 use Rattle.array_form.specs.Roots.{Root, at, alone, AreRoots, AreRooted, IsSwitchOf, down_of, pass_of}
 use Rattle.array_form.specs.Roots.{up_of, lone_of, AreSwitchesOf, AreHubs}
-use Rattle.array_form.proofs.Members.{zip_left, zip_right}
 use Rattle.array_form.proofs.Once.{line_once, segment_once}
 use Rattle.array_form.proofs.Naming.{roots_from_numbers, hub_number}
 

@@ -5,7 +5,7 @@ use Rattle.std.specs.Prelude.{slice_get}
 use Rattle.std.specs.List.{range_with_len}
 use Rattle.std.proofs.lemmas.Bool.{cases_Bool}
 use Rattle.std.proofs.lemmas.Option.{slice_get_within, slice_get_cases}
-use Rattle.mp_base.proofs.Members.{Member, member_map, map_member, member_filter, range_has}
+use Rattle.mp_base.proofs.Members.{Member, member_map, map_member, member_filter, range_has, member_append, flat_member}
 use Rattle.tile_cells.specs.declared.tile.Tile.TheVariants.{TapL, TapR, Tran}
 use Rattle.fabric.specs.declared.thing.Mark.{Mark}
 use Rattle.nor_net.specs.declared.net.Phase.{Phase}
@@ -16,7 +16,6 @@ use Rattle.array_form.specs.Lists.{mark}
 use Rattle.array_form.specs.Band.{inputs_of}
 use Rattle.array_form.specs.Homes.{Columns, home, marks, numbers, reads, beats, is_of, phase_marks, phase_number}
 use Rattle.array_form.specs.Laying.{column_marks, band_marks}
-use Rattle.array_form.proofs.Members.{member_append, flat_member}
 use Rattle.array_form.proofs.Listing.{distinct_has, has_member, same_from}
 
 -- a mark stands there

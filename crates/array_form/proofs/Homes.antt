@@ -6,7 +6,8 @@ use Rattle.std.specs.Prelude.{Contains, slice_get, min, max}
 use Rattle.std.specs.List.{range_with_len}
 use Rattle.std.proofs.lemmas.Bool.{cases_Bool, cases_order, cases_lt}
 use Rattle.std.proofs.lemmas.Option.{slice_get_within}
-use Rattle.mp_base.proofs.Members.{Member, contains_member, map_member, filter_member, range_has}
+use Rattle.mp_base.proofs.Members.{Member, contains_member, map_member, filter_member, range_has, append_left}
+use Rattle.mp_base.proofs.Members.{append_right}
 use Rattle.nor_net.specs.declared.net.Phase.{Phase}
 use Rattle.nor_net.specs.declared.net.Phase.TheVariants.{A, B, C}
 use Rattle.nor_net.specs.declared.net.NetId.{NetId}
@@ -15,8 +16,6 @@ use Rattle.nor_net.specs.declared.net.Part.TheVariants.{Gate, Latch}
 use Rattle.array_form.specs.Band.{has}
 use Rattle.array_form.specs.Homes.{reads, beats, is_of, count_below, Columns, home, end_of, numbers, marks}
 use Rattle.array_form.specs.Homes.{phase_marks, least, greatest}
-use Rattle.array_form.proofs.Members.{append_left}
-use Rattle.array_form.proofs.Members.{append_right}
 use Rattle.array_form.proofs.Listing.{same_to}
 
 -- ---- counting

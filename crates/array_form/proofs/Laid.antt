@@ -9,7 +9,7 @@ use Rattle.std.proofs.lemmas.List.{get_or_default}
 use Rattle.std.proofs.lemmas.Option.{slice_get_within}
 use Rattle.std.proofs.lemmas.List.Elements.{All-contains, Contains-append_left}
 use Rattle.mp_base.proofs.Members.{Member, member_contains, contains_member, member_map, map_member, member_filter}
-use Rattle.mp_base.proofs.Members.{range_members, range_has}
+use Rattle.mp_base.proofs.Members.{range_members, range_has, member_append, member_flat, flat_member, append_right}
 use Rattle.tile_cells.specs.declared.tile.Tile.{Tile}
 use Rattle.tile_cells.specs.declared.tile.Tile.TheVariants.{TapL, TapR, Tran, PullUp, Under}
 use Rattle.fabric.specs.declared.thing.Side.{Side}
@@ -30,7 +30,6 @@ use Rattle.array_form.specs.Homes.{Columns, home, marks, numbers, reads, phase_m
 use Rattle.array_form.specs.Homes.{greatest}
 use Rattle.array_form.specs.Laying.{with_net, band_segment, band_segments, column_lines, band_lines, column_marks}
 use Rattle.array_form.specs.Laying.{band_marks, AreTracks, HasRoom}
-use Rattle.array_form.proofs.Members.{member_append, member_flat, flat_member, append_right}
 use Rattle.array_form.proofs.Listing.{distinct_from, differs_from}
 use Rattle.array_form.proofs.Homes.{home_inside, home_rises, least_below, greatest_above, least_in}
 use Rattle.array_form.proofs.Homes.{greatest_in, own_mark, input_mark, data_mark, phase_mark}

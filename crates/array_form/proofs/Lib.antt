@@ -1,4 +1,3 @@
-pub mod Members
 pub mod Once
 pub mod Naming
 pub mod Drawn

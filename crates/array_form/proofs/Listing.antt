@@ -8,7 +8,7 @@ use Rattle.std.proofs.lemmas.Bool.{cases_Bool, cases_eq}
 use Rattle.std.proofs.lemmas.Option.{slice_get_within}
 use Rattle.mp_base.proofs.Tests.{false_true}
 use Rattle.mp_base.proofs.Members.{Member, member_contains, contains_member, member_map, map_member, member_filter}
-use Rattle.mp_base.proofs.Members.{filter_member, range_has}
+use Rattle.mp_base.proofs.Members.{filter_member, range_has, member_flat, flat_member}
 use Rattle.fabric.specs.declared.thing.Side.TheVariants.{L}
 use Rattle.nor_net.specs.declared.net.NetId.{NetId}
 use Rattle.nor_net.specs.declared.net.Part.{Part}
@@ -17,8 +17,6 @@ use Rattle.array_form.specs.Named.{Tie, tap, tran}
 use Rattle.array_form.specs.Wires.{Wire, row, left, right, place, NetTie, gate_own, gate_ground}
 use Rattle.array_form.specs.Wires.{gate_pull, gate_input, latch_own, latch_data, latch_phase, stub_own}
 use Rattle.array_form.specs.Band.{has, distinct, inputs_of, net_ties, band_ties}
-use Rattle.array_form.proofs.Members.{member_flat}
-use Rattle.array_form.proofs.Members.{flat_member}
 
 pub same_from : (x a : ℕ) → (x == a) ≡ true → x ≡ a
 same_from x a e = grind arith

@@ -6,8 +6,7 @@ use Rattle.std.specs.List.{range_with_len}
 use Rattle.std.proofs.lemmas.List.{get_or_default}
 use Rattle.std.proofs.lemmas.Bool.{cases_Bool}
 use Rattle.mp_base.proofs.Members.{Member, member_contains, contains_member, member_map, member_filter, range_members}
-use Rattle.array_form.proofs.Members.{member_append}
-use Rattle.array_form.proofs.Members.{member_flat}
+use Rattle.mp_base.proofs.Members.{member_append, member_flat}
 
 -- pairs by recursion
 abbrev pub Each : {A : Type 0} → (A → Type 0) → List A → Type 0

@@ -8,7 +8,7 @@ use Rattle.std.proofs.lemmas.Bool.{cases_Bool, and_parts}
 use Rattle.std.proofs.lemmas.Option.{slice_get_within}
 use Rattle.std.proofs.lemmas.List.Elements.{All-contains}
 use Rattle.mp_base.proofs.Members.{Member, member_contains, member_map, map_member, member_filter, filter_member}
-use Rattle.mp_base.proofs.Members.{any_of}
+use Rattle.mp_base.proofs.Members.{any_of, member_append, append_left, append_right}
 use Rattle.mp_base.proofs.Tests.{same_bools}
 use Rattle.nor_net.specs.declared.net.Phase.{Phase}
 use Rattle.nor_net.specs.declared.net.NetId.{NetId}
@@ -19,7 +19,6 @@ use Rattle.nor_net.proofs.Parts.{fed_by}
 use Rattle.track_assign.specs.Density.{IsInterval}
 use Rattle.array_form.specs.Homes.{Columns, home, numbers, reads, beats, marks, phase_marks, phase_number}
 use Rattle.array_form.specs.Place.{is_input, cols_in, interval_of}
-use Rattle.array_form.proofs.Members.{member_append, append_left, append_right}
 use Rattle.array_form.proofs.Listing.{has_member, same_from, same_to}
 use Rattle.array_form.proofs.Homes.{count_most, own_mark, reader_mark, more_mark, phase_mark, least_below}
 use Rattle.array_form.proofs.Homes.{greatest_above}

@@ -4,14 +4,13 @@ use Rattle.std.proofs.Common.{◌∷◌, length, map, get_or, refl, sym, ◌∙�
 use Rattle.std.specs.Prelude.{slice_get}
 use Rattle.std.specs.List.{range_with_len}
 use Rattle.std.proofs.lemmas.Option.{slice_get_within}
-use Rattle.mp_base.proofs.Members.{Member, member_map, map_member, range_members, range_has}
+use Rattle.mp_base.proofs.Members.{Member, member_map, map_member, range_members, range_has, member_flat, flat_member}
 use Rattle.nor_net.specs.declared.net.Phase.{Phase}
 use Rattle.nor_net.specs.declared.net.NetId.{NetId}
 use Rattle.nor_net.specs.declared.net.Part.{Part}
 use Rattle.nor_net.specs.declared.net.Part.TheVariants.{Input, Gate, Latch}
 use Rattle.array_form.specs.Homes.{reads, phase_number}
 use Rattle.array_form.specs.Place.{is_input}
-use Rattle.array_form.proofs.Members.{member_flat, flat_member}
 use Rattle.array_form.proofs.Listing.{has_member, same_from, same_to}
 use Rattle.array_form.proofs.Homes.{has_of}
 use Rattle.band_lists.specs.declared.pins.Pin.{Pin}

@@ -97,11 +97,12 @@ abbrev pub IsFirstMade : cells.Cell → List Part → List Part → List (Option
 IsFirstMade x old new pads named o =
     MatchBool x.word ((o ≡ None) × (new ≡ old) × (named ≡ pads)) (IsFirstBitMade x.kind old new pads named o)
 
--- the cost of the first nets of a cell, and of its next value but for transfers
-abbrev pub first_kind_cost : CellKind → ℕ
-first_kind_cost (Input k) = 2
-first_kind_cost Stored = 2
-first_kind_cost kind = 0
+-- the cost of the latch of an input, or of the slave of what is stored
+abbrev pub latch_cost : CellKind → ℕ
+latch_cost (Input k) = 2
+latch_cost Stored = 2
+latch_cost kind = 0
 
+-- the cost of the first nets of a cell, and of its next value but for transfers
 abbrev pub first_cost : cells.Cell → ℕ
-first_cost x = if x.word then 0 else first_kind_cost x.kind
+first_cost x = if x.word then 0 else latch_cost x.kind

@@ -55,4 +55,4 @@ BrokenOnce =
 abbrev pub WholeOrBroken : Type 0
 WholeOrBroken =
     (parts words : List (List ℕ)) (pads : Pads) (links : List Link) (b : Broken) → AreLinks parts pads words links
-    → IsFirstBroken parts pads words b → ⊥
+    → ¬ IsFirstBroken parts pads words b

@@ -26,7 +26,7 @@ fn split(text: &str) -> Option<(&str, &str)>
 
 // The fields between colons, where there are three.
 fn fields(word: &str) -> Option<(&str, &str, &str)>
-    ensures { MatchOption result (IsThree (slice_split (λ c. c == 58) word.now) → ⊥)
+    ensures { MatchOption result (¬ IsThree (slice_split (λ c. c == 58) word.now))
         (λ f. slice_split (λ c. c == 58) word.now ≡ f.0.now ∷ f.1.now ∷ f.2.now ∷ []) }
 {
     match split(word) {
@@ -129,7 +129,7 @@ fn rule(number: u16) -> Rule
 // Whether a link has this part.
 fn has_part(links: &[Link], part: u32) -> bool
     ensures { MatchBool result (Any (λ (l : LinkValue). l.part ≡ part) links.now)
-        (Any (λ (l : LinkValue). l.part ≡ part) links.now → ⊥) }
+        (¬ Any (λ (l : LinkValue). l.part ≡ part) links.now) }
 {
     links.iter().any(|link| link.part == part)
 }
@@ -137,7 +137,7 @@ fn has_part(links: &[Link], part: u32) -> bool
 // Whether a link drives this input.
 fn drives(links: &[Link], input: u32) -> bool
     ensures { MatchBool result (Any (λ (l : LinkValue). l.driven ≡ input) links.now)
-        (Any (λ (l : LinkValue). l.driven ≡ input) links.now → ⊥) }
+        (¬ Any (λ (l : LinkValue). l.driven ≡ input) links.now) }
 {
     links.iter().any(|link| link.driven == input)
 }
@@ -145,7 +145,7 @@ fn drives(links: &[Link], input: u32) -> bool
 // The part, where B1 isn't broken.
 fn free_part(named: Naming, earlier: &[Link]) -> Option<u32>
     ensures { MatchOption result (BreaksB1 earlier.now named)
-        (λ part. (named.part ≡ Some part) × (BreaksB1 earlier.now named → ⊥)) }
+        (λ part. (named.part ≡ Some part) × ¬ BreaksB1 earlier.now named) }
 {
     match named.part {
         None => None,
@@ -162,7 +162,7 @@ fn free_part(named: Naming, earlier: &[Link]) -> Option<u32>
 // The output and the input, where B2 isn't broken.
 fn free_pads(named: Naming, earlier: &[Link]) -> Option<(u32, u32)>
     ensures { MatchOption result (BreaksB2 earlier.now named)
-        (λ p. (named.seen ≡ Some p.0) × (named.driven ≡ Some p.1) × (BreaksB2 earlier.now named → ⊥)) }
+        (λ p. (named.seen ≡ Some p.0) × (named.driven ≡ Some p.1) × ¬ BreaksB2 earlier.now named) }
 {
     match (named.seen, named.driven) {
         (Some(seen), Some(driven)) => {

@@ -1,38 +1,7 @@
 -- A program that stores anything is reset in clock 0.
-use Rattle.std.proofs.Common.{
-  ◌≡◌,
-  ◌∙◌,
-  ℕ,
-  zero,
-  suc,
-  ◌+◌,
-  ◌<◌,
-  List,
-  [],
-  ◌∷◌,
-  Bool,
-  true,
-  false,
-  cond,
-  eqb,
-  Option,
-  Some,
-  None,
-  length,
-  map,
-  take,
-  get_or,
-  codes,
-  refl,
-  sym,
-  ap,
-  ap₂,
-  subst,
-  inl,
-  inr,
-  arith,
-  true≢false,
-}
+use Rattle.std.proofs.Common.{◌≡◌, ◌∙◌, ℕ, zero, suc, ◌+◌, ◌<◌, List, [], ◌∷◌, Bool, true, false, cond, eqb, Option}
+use Rattle.std.proofs.Common.{Some, None, length, map, take, codes, refl, sym, ap, ap₂, subst, inl, inr, arith}
+use Rattle.std.proofs.Common.{true≢false}
 use Rattle.std.specs.Prelude.{
   ◌⊎◌,
   All,

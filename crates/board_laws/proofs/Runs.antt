@@ -9,7 +9,7 @@ use Rattle.mp_program.specs.State.{State}
 use Rattle.mp_program.specs.Trace.{IsTraceFrom}
 use Rattle.switch_net.specs.declared.network.Network.{Network}
 use Rattle.switch_net.specs.Clock.{IsClock}
-use Rattle.settle.specs.Values.{value_at}
+use Rattle.switch_net.specs.Values.{value_at}
 use Rattle.mp_base.specs.PadBits.{value_bits}
 use Rattle.clock_run.specs.Circuit.{Running}
 use Rattle.clock_run.specs.Device.{CircuitSteps}

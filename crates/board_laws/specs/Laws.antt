@@ -8,7 +8,7 @@ use Rattle.mp_program.specs.State.{State, zero_state}
 use Rattle.mp_program.specs.Trace.{stores}
 use Rattle.mp_rules.specs.Breaking.{IsUnbroken}
 use Rattle.switch_net.specs.declared.network.Network.{Network}
-use Rattle.settle.specs.Values.{value_at}
+use Rattle.switch_net.specs.Values.{value_at}
 use Rattle.mp_base.specs.PadBits.{Fit}
 use Rattle.headline.specs.Headline.{Follows}
 use Rattle.clock_run.specs.Circuit.{Running}

@@ -16,7 +16,7 @@ use Rattle.switch_net.specs.Breaks.{HasPads}
 use Rattle.board.specs.declared.link.Link.{Link}
 use Rattle.switch_net.specs.Clock.{IsClock}
 use Rattle.switch_net.specs.Laws.{TraceExists}
-use Rattle.settle.specs.Values.{value_at}
+use Rattle.switch_net.specs.Values.{value_at}
 use Rattle.mask_net.specs.SizeLine.{last_line, size_text}
 use Rattle.clock_run.specs.Circuit.{Running}
 use Rattle.clock_run.specs.Device.{CircuitSteps}

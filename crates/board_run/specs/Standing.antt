@@ -1,7 +1,7 @@
 -- What callers see of a circuit on a board, and what it holds.
 use Rattle.std.specs.Prelude.{◌≡◌, ℕ, List}
 use Rattle.mp_base.specs.declared.value.Trit.TheVariants.{X}
-use Rattle.settle.specs.Values.{value_at}
+use Rattle.switch_net.specs.Values.{value_at}
 use Rattle.switch_net.specs.declared.network.Network.{Network}
 use Rattle.switch_net.specs.Breaks.{HasPads}
 use Rattle.mask_net.specs.SizeLine.{size_text}

@@ -6,7 +6,7 @@ use board::laws::{inputs_fit, loops_agree};
 use board_laws::laws::chips_loop;
 use mask_net::laws::{one_network, sound_with_pads};
 use replay_run::laws::one_pads;
-use switch_net::circuits_run;
+use switch_net::laws::circuits_run;
 
 /// What a chip shows on a board in each settled clock is what its program shows there, and both leave the parts alike.
 pub fn boards_follow()

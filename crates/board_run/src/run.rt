@@ -4,7 +4,7 @@ ghost use Rattle.std.specs.Prelude.{◌≡◌, ◌<◌, ◌^◌, All, length, ma
 ghost use Rattle.outside.specs.Outside.{Gains, HasCause};
 ghost use Rattle.outside.specs.Piece.{TakesAll};
 ghost use Rattle.mp_base.specs.declared.value.Trit.TheVariants.{X};
-ghost use Rattle.settle.specs.Values.{value_at};
+ghost use Rattle.switch_net.specs.Values.{value_at};
 ghost use Rattle.switch_net.specs.declared.network.Network.{Network};
 ghost use Rattle.switch_net.specs.Breaks.{HasPads};
 ghost use Rattle.mask_net.specs.SizeLine.{last_line, size_text};
@@ -24,7 +24,8 @@ use outside::{Failed, Sink};
 use replay_run::write_last_line;
 use std::alloc::Global;
 use std::marker::Model;
-use switch_net::{Network, circuits_run};
+use switch_net::Network;
+use switch_net::laws::circuits_run;
 
 /// A circuit on a board that has run no clock, and all the memory that its run takes.
 #[derive(Drop)]

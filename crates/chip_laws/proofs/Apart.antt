@@ -62,7 +62,7 @@ module _ (p : DataPath) where
           slice_pad p k id (omega (arith, l, wide)) (is_one_input (slice_get p.slices.net id.0) is) c
 
 -- a net has one place among the entries of a sort
-pub tail_fewer : (word : Bool) (pad : Pad) (pads : List Pad) (id : NetId) (ids : List NetId) (n : ℕ)
+tail_fewer : (word : Bool) (pad : Pad) (pads : List Pad) (id : NetId) (ids : List NetId) (n : ℕ)
     → times n (entries_of word pads ids) ≤ times n (entries_of word (pad ∷ pads) (id ∷ ids))
 tail_fewer word pad pads id ids n = by_tests (not (pad.width == 0)) word
   where
@@ -77,7 +77,7 @@ tail_fewer word pad pads id ids n = by_tests (not (pad.width == 0)) word
 abbrev tally : Bool → ℕ
 tally b = cond b 1 0
 
-pub head_counts : (word : Bool) (pad : Pad) (pads : List Pad) (id : NetId) (ids : List NetId) (n : ℕ)
+head_counts : (word : Bool) (pad : Pad) (pads : List Pad) (id : NetId) (ids : List NetId) (n : ℕ)
     → not (pad.width == 0) ≡ word → id.0 ≡ n
     → 0 < times n (entries_of word pads ids) → times n (entries_of word (pad ∷ pads) (id ∷ ids)) ≤ 1 → ⊥
 head_counts word pad pads id ids n w e some few = by_tests (not (pad.width == 0)) word w few
@@ -114,6 +114,48 @@ one_place word (p ∷ ps) (i ∷ is) n few (suc a) (suc b) pa pb ia ib ea eb fa 
     let less = tail_fewer word p ps i is n in
     ap suc (one_place word ps is n (omega (arith, few, less)) a b pa pb ia ib ea eb fa fb wa wb na nb)
 
+module _ (p : DataPath) where
+  few_false : (n : ℕ) → times n (entries_of false (p.pads).inputs p.inputs) ≤ 1
+  few_false n =
+      let l = p.whole.apart.0 n in
+      let e = times_append n (entries_of false (p.pads).inputs p.inputs)
+      (entries_of false (p.pads).outputs p.outputs) in omega (arith, l, e)
+
+  few_true : (n : ℕ) → times n (entries_of true (p.pads).inputs p.inputs) ≤ 1
+  few_true n =
+      let l = p.whole.apart.1 n in
+      let e = times_append n (entries_of true (p.pads).inputs p.inputs) (entries_of true (p.pads).outputs p.outputs) in
+      omega (arith, l, e)
+
+  -- two bits of input pads on one net are one
+  module _ (a b k l : ℕ) (pa pb : Pad) (ia ib : NetId) (ea : slice_get (p.pads).inputs a ≡ Some pa)
+      (eb : slice_get (p.pads).inputs b ≡ Some pb) (fa : slice_get p.inputs a ≡ Some ia)
+      (fb : slice_get p.inputs b ≡ Some ib) (in_a : k < pad_bits pa) (in_b : l < pad_bits pb)
+      (same : pad_spot pa ia k ≡ pad_spot pb ib l)
+    where
+      same_net : ia.0 ≡ ib.0
+      same_net = ap (λ (s : Spot). s.net) same
+
+      same_place : (v w : Bool) → (pa.width == 0) ≡ v → (pb.width == 0) ≡ w → k < cond v 1 pa.width
+          → l < cond w 1 pb.width
+          → cond v 0 (suc k) ≡ cond w 0 (suc l) → (a ≡ b) × (k ≡ l)
+      same_place true true v w lk ll e = (
+        one_place false (p.pads).inputs p.inputs ib.0 (few_false ib.0) a b pa pb ia ib ea eb fa fb (ap not v) (ap not w)
+            same_net refl,
+        omega (arith, lk, ll),
+      )
+      same_place false false v w lk ll e = (
+        one_place true (p.pads).inputs p.inputs ib.0 (few_true ib.0) a b pa pb ia ib ea eb fa fb (ap not v) (ap not w)
+            same_net refl,
+        omega (arith, e),
+      )
+      same_place true false v w lk ll e = absurd (omega (arith, e))
+      same_place false true v w lk ll e = absurd (omega (arith, e))
+
+      pub one_pad_bit : (a ≡ b) × (k ≡ l)
+      one_pad_bit =
+          same_place (pa.width == 0) (pb.width == 0) refl refl in_a in_b (ap (λ (s : Spot). s.band) same)
+
 module _ (p : DataPath) (f : Flattened) (flat : IsFlat p f) where
   -- one bit of a pad, with its net
   pub record At (a k : ℕ) (n : Spot) : Type 0 where
@@ -147,18 +189,6 @@ module _ (p : DataPath) (f : Flattened) (flat : IsFlat p f) where
         net = ap (spot 0) (same_Some (flat.of (pad_spot pad.0 id.0 k)) i.0 (sym (are.1 k lt) ∙ i.1)) ∙ i.2;
       }
 
-  few_false : (n : ℕ) → times n (entries_of false (p.pads).inputs p.inputs) ≤ 1
-  few_false n =
-      let l = p.whole.apart.0 n in
-      let e = times_append n (entries_of false (p.pads).inputs p.inputs)
-      (entries_of false (p.pads).outputs p.outputs) in omega (arith, l, e)
-
-  few_true : (n : ℕ) → times n (entries_of true (p.pads).inputs p.inputs) ≤ 1
-  few_true n =
-      let l = p.whole.apart.1 n in
-      let e = times_append n (entries_of true (p.pads).inputs p.inputs) (entries_of true (p.pads).outputs p.outputs) in
-      omega (arith, l, e)
-
   module _ (a b k l : ℕ) (n : Spot) (x : At a k n) (y : At b l n) where
     same_spot : pad_spot x.pad x.id k ≡ pad_spot y.pad y.id l
     same_spot =
@@ -168,30 +198,9 @@ module _ (p : DataPath) (f : Flattened) (flat : IsFlat p f) where
         sym (stay (path_nets p) (pad_spot x.pad x.id k) r.0 r.1 (given p a k x.pad x.id x.is_pad x.is_id x.inside))
         ∙ stay (path_nets p) (pad_spot y.pad y.id l) r.0 r.2 (given p b l y.pad y.id y.is_pad y.is_id y.inside)
 
-    same_net : x.id.0 ≡ y.id.0
-    same_net = ap (λ (s : Spot). s.net) same_spot
-
-    same_place : (v w : Bool) → (x.pad.width == 0) ≡ v → (y.pad.width == 0) ≡ w → k < cond v 1 x.pad.width
-        → l < cond w 1 y.pad.width
-        → cond v 0 (suc k) ≡ cond w 0 (suc l) → (a ≡ b) × (k ≡ l)
-    same_place true true v w lk ll e = (
-      one_place false (p.pads).inputs p.inputs y.id.0
-          (few_false y.id.0) a b x.pad y.pad x.id y.id x.is_pad y.is_pad x.is_id y.is_id (ap not v)
-          (ap not w) same_net refl,
-      omega (arith, lk, ll),
-    )
-    same_place false false v w lk ll e = (
-      one_place true (p.pads).inputs p.inputs y.id.0
-          (few_true y.id.0) a b x.pad y.pad x.id y.id x.is_pad y.is_pad x.is_id y.is_id (ap not v)
-          (ap not w) same_net refl,
-      omega (arith, e),
-    )
-    same_place true false v w lk ll e = absurd (omega (arith, e))
-    same_place false true v w lk ll e = absurd (omega (arith, e))
-
     one_bit : (a ≡ b) × (k ≡ l)
-    one_bit = same_place (x.pad.width == 0) (y.pad.width == 0) refl refl x.inside y.inside
-        (ap (λ (s : Spot). s.band) same_spot)
+    one_bit =
+        one_pad_bit p a b k l x.pad y.pad x.id y.id x.is_pad y.is_pad x.is_id y.is_id x.inside y.inside same_spot
 
 pub inputs_are_apart : InputsAreApart
 inputs_are_apart p f flat a b k l n xs ys ea eb ek el =

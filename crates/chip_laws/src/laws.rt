@@ -12,7 +12,7 @@ use drawn_nets::laws::circuits_are_drawn;
 use fabric_laws::laws::{fabric_draws_its_switches, fabrics_are_small, labels_name_conductors};
 use mask_laws::laws::masks_draw_networks;
 use path_form::laws::flat_nets_follow;
-use switch_net::network_is_determined;
+use switch_net::laws::network_is_determined;
 
 /// A circuit that draws the flat net of a path that shows transfers follows them.
 pub fn paths_follow()

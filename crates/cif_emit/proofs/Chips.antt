@@ -1,5 +1,6 @@
 -- The commands of a chip draw it.
 use Rattle.std.proofs.Common.{ℕ, suc, ◌≡◌, ◌+◌, ◌*◌, ◌<◌, ◌≤◌, ◌⊎◌, inl, inr, refl, sym, ◌∙◌, ap, subst, arith}
+use Rattle.mp_base.proofs.Numbers.{times_suc}
 use Rattle.std.proofs.Common.{List, [], ◌∷◌, ◌++◌}
 use Rattle.std.proofs.Math.Nat.{mul-le-mul_left}
 use Rattle.std.proofs.Common.{map, length, length-append, append_assoc, lit<, lit≤, true, false, Option, None, All}
@@ -175,15 +176,12 @@ symbol_count m size most h k =
     let b : m * (8 + most) ≡ 8 * m + m * most = grind arith in
     omega (arith, a, b, h)
 
-times_more : (m most : ℕ) → most + m * most ≡ suc m * most
-times_more m most = grind arith
-
 boxes_length : (rs : List Rect) (hs : List ℤ) → length (boxes_at rs hs) ≡ length hs * length (drawn layers rs)
 boxes_length rs [] = omega arith
 boxes_length rs (h ∷ hs) =
     length-append (map (raised h) (drawn layers rs)) (boxes_at rs hs)
     ∙ (λ i. length-map (drawn layers rs) (raised h) i + boxes_length rs hs i)
-    ∙ times_more (length hs) (length (drawn layers rs))
+    ∙ times_suc (length hs) (length (drawn layers rs))
 
 few_items : (symbols : List Symbol) → All IsDrawable symbols
     → count_of symbols ≤ 512 * length symbols + length (boxes_of symbols)

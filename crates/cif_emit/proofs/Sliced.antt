@@ -6,7 +6,7 @@ use Rattle.std.proofs.lemmas.Int.{ints}
 use Rattle.std.proofs.lemmas.List.Elements.{All-contains, All-weaker}
 use Rattle.std.proofs.Math.Nat.{mul-le-mul_left}
 use Rattle.lam_geom.specs.declared.rect.Rect.{Rect}
-use Rattle.lam_geom.specs.Moves.{IsNear, IsNearRect}
+use Rattle.lam_geom.specs.Moves.{IsNear, IsNearRect, far}
 use Rattle.cif_form.specs.Fits.{IsSmall}
 use Rattle.fabric.specs.declared.chip.Chip.{Chip}
 use Rattle.fabric.specs.declared.chip.ChipLabel.{ChipLabel}
@@ -79,7 +79,7 @@ module _ (rects : List Rect) (labels : List ChipLabel) (emittable : IsEmittable 
 lowest_near : (lowest : ℕ) → lowest < 100_000 → IsNear (pos (500 * (12 * lowest + 36)))
 lowest_near lowest l = (omega (arith, ints), omega (arith, ints))
 
-far_near : IsNear (pos 1_099_511_627_776)
+far_near : IsNear (pos far)
 far_near = (omega (arith, ints), omega (arith, ints))
 
 above_are_bands : (rows : List ℕ) (lowest each : ℕ) (upper : List ℕ) → CanShare rows lowest each upper

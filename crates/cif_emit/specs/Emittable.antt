@@ -4,7 +4,7 @@ use Rattle.std.specs.Prelude.{◌<ℤ◌}
 use Rattle.lam_geom.specs.declared.layer.Layer.TheVariants.{NM, NP, ND}
 use Rattle.lam_geom.specs.declared.rect.Rect.{Rect}
 use Rattle.lam_geom.specs.Extent.{lambda}
-use Rattle.lam_geom.specs.Moves.{IsNearRect}
+use Rattle.lam_geom.specs.Moves.{IsNearRect, far}
 use Rattle.cif_form.specs.Fits.{IsSmall}
 use Rattle.cif_form.specs.Labels.{IsSpace}
 use Rattle.fabric.specs.declared.chip.Chip.{Chip}
@@ -87,7 +87,7 @@ bands_above lowest each many =
 
 -- a band so far up that nothing stands in it
 abbrev pub far_band : Bands
-far_band = record { low = pos 1_099_511_627_776; height = lambda; count = 1 }
+far_band = record { low = pos far; height = lambda; count = 1 }
 
 -- the bands that a fabric with these numbers of rows shares its symbols in: those above the lowest, if they can
 abbrev pub AreBandsAbove : List ℕ → Bands → Type 0

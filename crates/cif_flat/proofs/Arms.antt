@@ -36,7 +36,8 @@ use Rattle.cif_place.specs.Shaping.{IsBoxEdges, IsNearAt, IsFarAt, IsStraight, H
 use Rattle.cif_flat.specs.Sound.{Unsigned}
 use Rattle.cif_flat.specs.Refusing.{RefusesWalk, refusal_of}
 use Rattle.cif_flat.specs.Walking.{frame_of, onto, IsNested, IsLevel, IsWalking, IsVisit, IsAfter}
-use Rattle.cif_flat.proofs.Rules.{never, none, first3, first4, first5, first6, first7, first8, first9, first10}
+use Rattle.cif_flat.proofs.Rules.{none, first3, first4, first5, first6, first7, first8, first9, first10}
+use Rattle.cif_form.proofs.WalkExamples.{never}
 use Rattle.cif_flat.proofs.Walks.{visit_at, stops, onward, each_last, left_next, level_of, arrive, arrive_quiet}
 use Rattle.cif_place.specs.Laws.{OneBox, OneWire}
 use Rattle.cif_place.proofs.Numbers.{within_more}

@@ -9,7 +9,8 @@ use Rattle.std.proofs.lemmas.Int.{ints}
 use Rattle.std.proofs.lemmas.List.{length-append}
 use Rattle.std.proofs.lemmas.List.Elements.{Contains-append_left, Contains-append_right, Contains-append_cases}
 use Rattle.std.proofs.lemmas.List.Elements.{Contains-push, Contains-get_or}
-use Rattle.mp_base.proofs.Contents.{nothing_in}
+use Rattle.mp_base.proofs.Contents.{nothing_in, contains_one, is_only_one, contains_head}
+use Rattle.mp_base.proofs.Entries.{one_value}
 use Rattle.cif_form.specs.declared.command.Turn.{Turn}
 use Rattle.cif_form.specs.declared.command.Command.TheVariants.{Call}
 use Rattle.cif_form.specs.declared.command.Item.{Item}
@@ -17,6 +18,7 @@ use Rattle.cif_form.specs.Place.{IsScale}
 use Rattle.cif_form.specs.Expansion.{Definition, Stands, item_at}
 use Rattle.cif_form.specs.Walk.{Frame, Visit, Breaks, within}
 use Rattle.cif_form.specs.Walk.DrawRule.{F1, F2, F4}
+use Rattle.cif_form.proofs.OneExpansion.{one_definition}
 use Rattle.cif_flat.specs.declared.called.Composed.{Composed}
 use Rattle.cif_flat.specs.declared.fault.Fault.{Fault}
 use Rattle.cif_flat.specs.declared.fault.Fault.TheVariants as faults
@@ -33,14 +35,12 @@ use Rattle.cif_flat.specs.Refusing.{RefusesWalk, refusal_of}
 use Rattle.cif_flat.specs.Walking.{frame_of, symbol_of, onto, state_of, definition_of, IsNested, IsLevel, EachLevel}
 use Rattle.cif_flat.specs.Walking.{IsOpen, entered, Leads, IsWalking, IsVisit, rest, distance, IsAfter}
 use Rattle.cif_place.specs.Laws.{AfterPlaces, AfterHolds}
-use Rattle.cif_flat.proofs.Rules.{never, none, first1, first2, first3, first4, first7, first8}
+use Rattle.cif_flat.proofs.Rules.{none, first1, first2, first3, first4, first7, first8}
+use Rattle.cif_form.proofs.WalkExamples.{never}
 use Rattle.cif_flat.proofs.Walks.{visit_at, stops, onward, onto_push, each_push, level_later, level_onward, left_next}
 use Rattle.cif_flat.proofs.Walks.{stack_of, level_of, leads_step, rest_less}
 
 -- ---- composed turns
-
-some_of : {X : Type 0} {x y : X} → {o : Option X} → o ≡ Some x → o ≡ Some y → x ≡ y
-some_of {x = x} {y = y} h k = let e : Some x ≡ Some y = sym h ∙ k in cc
 
 pub call_found : (items : List Item) (calls : BTreeMap ℕ Composed) (at : ℕ) (turns : List Turn) (c : Composed)
     → AreCalls items calls → IsCallAt items at turns → get nat_cmp calls at ≡ Some c
@@ -57,8 +57,9 @@ pub calls_set : (items : List Item) (old new : BTreeMap ℕ Composed) (at : ℕ)
     → ((k : ℕ) → k ≢ at → get nat_cmp new k ≡ get nat_cmp old k) → AreCalls items new
 calls_set items old new at ratio turned turns a (o, n, e) t h here others k c g i s = elim (cases_order k at) [
   | inl same ↦
-      let d : record { ratio = ratio; turned = turned } ≡ c = some_of here (ap (get nat_cmp new) (sym same) ∙ g) in
-      let j : item_at o (Call n turns) ≡ i = some_of e (ap (slice_get items) (sym same) ∙ s) in
+      let d : record { ratio = ratio; turned = turned } ≡ c = one_value _ _ _ here
+      (ap (get nat_cmp new) (sym same) ∙ g) in
+      let j : item_at o (Call n turns) ≡ i = one_value _ _ _ e (ap (slice_get items) (sym same) ∙ s) in
       subst (IsCallOf i) d
       (λ p m us f. let ts : turns ≡ us = same_turns o p n m turns us (j ∙ f) in
       (subst (λ us. IsTurned (scale_of ratio) us turned) ts t, h))
@@ -73,16 +74,10 @@ frames_back items [] fs f h = inr h
 frames_back items (v ∷ vs) fs f h = elim (frames_back items vs (frame_of items v ∷ fs) f h) [
   | inl a ↦ inl (a.0, Contains-append_right (v ∷ []) vs a.0 a.1, a.2)
   | inr b ↦ elim (Contains-append_cases (frame_of items v ∷ []) fs f b) [
-    | inl c ↦ inl (v, Contains-append_left (v ∷ []) vs v (the_one v), only (frame_of items v) f c)
+    | inl c ↦ inl (v, Contains-append_left (v ∷ []) vs v (contains_one v), is_only_one (frame_of items v) f c)
     | inr c ↦ inr c
   ]
 ]
-  where
-    the_one : {X : Type 0} (x : X) → Contains (x ∷ []) x
-    the_one x = grind arith
-
-    only : {X : Type 0} (x y : X) → Contains (x ∷ []) y → y ≡ x
-    only x y h = grind arith
 
 frames_has : (items : List Item) (vs : List Level) (fs : List Frame) (f : Frame) → Contains fs f
     → Contains (onto items vs fs) f
@@ -92,35 +87,17 @@ frames_has items (v ∷ vs) fs f h =
 
 frames_there : (items : List Item) (vs : List Level) (fs : List Frame) (v : Level) → Contains vs v
     → Contains (onto items vs fs) (frame_of items v)
-frames_there items [] fs v h = absurd (nothing v h)
-  where
-    nothing : {X : Type 0} (x : X) → Contains [] x → ⊥
-    nothing x h = grind arith
+frames_there items [] fs v h = absurd (nothing_in v h)
 frames_there items (u ∷ vs) fs v h = elim (Contains-append_cases (u ∷ []) vs v h) [
   | inl c ↦
-      subst (λ o. Contains (onto items vs (frame_of items o ∷ fs)) (frame_of items v)) (only u v c)
-      (frames_has items vs (frame_of items v ∷ fs) (frame_of items v) (the_one (frame_of items v) fs))
+      subst (λ o. Contains (onto items vs (frame_of items o ∷ fs)) (frame_of items v)) (is_only_one u v c)
+      (frames_has items vs (frame_of items v ∷ fs) (frame_of items v) (contains_head (frame_of items v) fs))
   | inr c ↦ frames_there items vs (frame_of items u ∷ fs) v c
 ]
-  where
-    the_one : {X : Type 0} (x : X) (xs : List X) → Contains (x ∷ xs) x
-    the_one x xs = Contains-append_left (x ∷ []) xs x (single x)
-      where
-        single : {X : Type 0} (x : X) → Contains (x ∷ []) x
-        single x = grind arith
-
-    only : {X : Type 0} (x y : X) → Contains (x ∷ []) y → y ≡ x
-    only x y h = grind arith
 
 some_symbol : (o : Option ℕ) (n : ℕ) → symbol_of o ≡ Some (pos n) → o ≡ Some n
 some_symbol None n h = cc
 some_symbol (Some m) n h = let e : pos m ≡ pos n = cc in ap (λ n. Some n) (omega (arith, ints, e))
-
-one_definition : {ds : List Definition} {n : ℤ} (d e : Definition) → Stands ds n d → Stands ds n e → d ≡ e
-one_definition d e (Stands.newest h) (Stands.newest k) = refl
-one_definition d e (Stands.newest h) (Stands.older k l) = absurd (k h)
-one_definition d e (Stands.older h i) (Stands.newest k) = absurd (h k)
-one_definition d e (Stands.older h i) (Stands.older k l) = one_definition d e i l
 
 rest_deeper : (vs : List Level) (v : Level) → 0 < length vs → rest (vs ++ (v ∷ [])) ≡ rest vs
 rest_deeper [] v h = absurd (omega arith)
@@ -178,7 +155,7 @@ module _ (items : List Item) (w : Walker) (v : Level) (o : ℕ) (n : ℤ) (ts : 
 
       no_f4 : IsScale (scale_of s.ratio) → ¬ HasUneven (scale_of v.ratio) ts → ¬ Breaks call_visit F4
       no_f4 b c (inl (d, st, wrong)) =
-          wrong (subst (λ d. IsScale d.scale) (one_definition (definition_of items key s) d stands st) b)
+          wrong (subst (λ d. IsScale d.scale) (one_definition _ _ (definition_of items key s) d stands st) b)
       no_f4 b c (inr u) = c u
 
       pub call_fault : (f : Fault) → IsCalled (scale_of v.ratio) ts s.ratio w.count (Err f)

@@ -34,7 +34,8 @@ use Rattle.cif_flat.specs.Refusing.{RefusesWalk, refusal_of}
 use Rattle.cif_flat.specs.Walking.{frame_of, left_of, onto, state_of, definition_of, IsAnyRatio, IsSymbol, IsTable}
 use Rattle.cif_flat.specs.Walking.{IsBodySize, IsNested, IsLevel, Leads, IsWalking, IsVisit, rest, distance, IsAfter}
 use Rattle.cif_flat.proofs.Arms.{small_short, fits_here}
-use Rattle.cif_flat.proofs.Rules.{never, none, first7}
+use Rattle.cif_flat.proofs.Rules.{none, first7}
+use Rattle.cif_form.proofs.WalkExamples.{never}
 use Rattle.cif_flat.proofs.Walks.{visit_at, stops, onward, onto_push, each_push, each_weaker, level_later, level_onward}
 use Rattle.cif_flat.proofs.Walks.{left_next, stack_of, level_of, leads_step}
 

@@ -4,9 +4,6 @@ use Rattle.cif_form.specs.Walk.{Visit, DrawRule, draw_rule_number, Breaks, Break
 use Rattle.cif_form.specs.Walk.DrawRule.{F1, F2, F3, F4, F5, F6, F7, F8, F9, F10}
 use Rattle.cif_form.proofs.WalkExamples.{each_rule}
 
-pub never : {A : Type 0} → A → A
-never a = a
-
 module _ (v : Visit) where
   -- none is broken
   pub none : ¬ Breaks v F1 → ¬ Breaks v F2 → ¬ Breaks v F3 → ¬ Breaks v F4 → ¬ Breaks v F5 → ¬ Breaks v F6

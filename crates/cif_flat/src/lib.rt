@@ -5,7 +5,7 @@ mod called;
 mod fault;
 mod flat;
 mod label;
-mod law;
+pub mod laws;
 mod layer;
 mod level;
 mod symbol;
@@ -13,4 +13,3 @@ mod table;
 mod walker;
 
 pub use flat::{Flat, flatten};
-pub use law::read_is_well_formed;

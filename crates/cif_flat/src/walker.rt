@@ -27,9 +27,9 @@ use crate::symbol::Symbol;
 use crate::table::{Table, cut, found, set};
 use cif_form::WALK_LIMIT;
 use cif_list::{Cif, CommandView, ShortTurn};
+use cif_place::laws::{placements_compose, rectangles_are_determined};
 use cif_place::{
-    BoxFault, Extent, Placement, Ratio, Wired, are_straight, box_edges, draw_wire,
-    placements_compose, rectangles_are_determined, segment_count,
+    BoxFault, Extent, Placement, Ratio, Wired, are_straight, box_edges, draw_wire, segment_count,
 };
 use lam_geom::{FlatLabel, Layer, Point, Rect};
 use mp_base::{List, Refusal};

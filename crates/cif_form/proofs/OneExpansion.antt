@@ -1,5 +1,6 @@
 -- What commands draw is determined.
 use Rattle.std.proofs.Common.{ℕ, ◌≡◌, refl, sym, ◌∙◌, ap, subst, List, [], ◌∷◌, ◌++◌, Option, Some, None, map, All}
+use Rattle.mp_base.proofs.Lists.{head_of, tail_of}
 use Rattle.std.specs.Prelude.{ℤ, filter, int_lt}
 use Rattle.std.proofs.lemmas.List.Elements.{All-head, All-tail}
 use Rattle.lam_geom.specs.declared.layer.Layer.{Layer}
@@ -11,12 +12,6 @@ use Rattle.cif_form.specs.Place.{Scale, unit, placed}
 use Rattle.cif_form.specs.Expansion.{Definition, Stands, item_at, Draws, IsInside, Expands}
 use Rattle.cif_form.proofs.OneLabel.{one_layer, one_label}
 use Rattle.cif_form.proofs.OnePlace.{one_edges, one_motions}
-
-pub head_of : {A : Type 0} {x y : A} {xs ys : List A} → x ∷ xs ≡ y ∷ ys → x ≡ y
-head_of e = cc
-
-pub tail_of : {A : Type 0} {x y : A} {xs ys : List A} → x ∷ xs ≡ y ∷ ys → xs ≡ ys
-tail_of e = cc
 
 pub one_definition : (ds : List Definition) (n : ℤ) (d e : Definition) → Stands ds n d → Stands ds n e → d ≡ e
 one_definition _ _ _ _ (Stands.newest h) (Stands.newest k) = refl

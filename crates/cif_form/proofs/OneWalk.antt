@@ -1,8 +1,7 @@
 -- A walk is determined.
 use Rattle.std.proofs.Common.{ℕ, ◌≡◌, inl, inr, refl, sym, ◌∙◌, ap, subst, arith, List, [], ◌∷◌, ◌++◌, true, false, eqb}
-use Rattle.std.proofs.Common.{Option, Some, map}
+use Rattle.std.proofs.Common.{Some, map}
 use Rattle.std.proofs.lemmas.Bool.{cases_lt}
-use Rattle.lam_geom.specs.declared.layer.Layer.{Layer}
 use Rattle.lam_geom.specs.declared.rect.Rect.{Rect}
 use Rattle.lam_geom.specs.declared.label.FlatLabel.{FlatLabel}
 use Rattle.cif_form.specs.declared.command.Command.{Command}
@@ -17,7 +16,9 @@ use Rattle.cif_form.specs.Walk.DrawRule.{F1, F2, F3, F4, F5, F6, F7, F8, F9, F10
 use Rattle.cif_form.specs.Walk.WalkEnd.{Broken}
 use Rattle.cif_form.proofs.OneLabel.{one_layer, one_label}
 use Rattle.cif_form.proofs.OnePlace.{one_edges, one_motions}
-use Rattle.cif_form.proofs.OneExpansion.{head_of, tail_of, one_definition, one_body}
+use Rattle.cif_form.proofs.OneExpansion.{one_definition, one_body}
+use Rattle.mp_base.proofs.Lists.{head_of, tail_of}
+use Rattle.mp_base.proofs.Entries.{one_value}
 
 -- ---- rules
 
@@ -90,9 +91,6 @@ one_visit {s = s} v w h k =
 
 -- ---- steps
 
-some_layer : (l : Option Layer) (m n : Layer) → l ≡ Some m → l ≡ Some n → m ≡ n
-some_layer l m n h k = let e : Some m ≡ Some n = sym h ∙ k in cc
-
 one_user : (v : Visit) (digit : ℕ) (text : List ℕ) (ls ms : List FlatLabel) → StepsByUser v digit text ls
     → StepsByUser v digit text ms → ls ≡ ms
 one_user v digit text ls ms (inl (l, (a, b, c, d), e)) (inl (m, (f, g, h, i), k)) =
@@ -104,7 +102,7 @@ one_user v digit text ls ms (inr h) (inr k) = h.1 ∙ sym k.1
 one_shape : (v : Visit) (rs qs : List Rect) (t u : State) → StepsByShape v rs t → StepsByShape v qs u
     → (rs ≡ qs) × (t ≡ u)
 one_shape v rs qs t u (l, es, hl, hb, hrs, ht) (m, fs, kl, kb, krs, kt) =
-    let f = some_layer v.frame.layer l m hl kl in
+    let f = one_value v.frame.layer l m hl kl in
     let e = one_edges v.frame.scale m v.item.command es fs
     (subst (λ n. HasEdges v.frame.scale n v.item.command es) f hb) kb in
     (hrs ∙ ap (map v.frame.place) e ∙ sym krs, ht ∙ sym kt)

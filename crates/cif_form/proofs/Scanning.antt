@@ -3,7 +3,9 @@ use Rattle.std.proofs.Common.{ℕ, ◌≡◌, ◌+◌, ◌≤◌, ◌⊎◌, inl
 use Rattle.std.proofs.Common.{length, Bool, true, false, not, eqb, leb, ◌&&◌, ◌||◌, Option, Some, None, length-append}
 use Rattle.std.specs.Prelude.{◌≢◌}
 use Rattle.std.proofs.lemmas.List.Elements.{All-head, All-tail}
+use Rattle.std.proofs.lemmas.Bool.{false_from_ne_true}
 use Rattle.mp_base.specs.Token.{is_digit}
+use Rattle.mp_base.proofs.Lists.{tail_of}
 use Rattle.cif_form.specs.declared.command.Command.{Command}
 use Rattle.cif_form.specs.declared.command.Command.TheVariants.{Polygon, Box, Round, Wire, Layer as SetLayer, Start}
 use Rattle.cif_form.specs.declared.command.Command.TheVariants.{Finish, Delete, Call, User, Comment}
@@ -73,9 +75,6 @@ one_read text c d m n rest more r s =
     let b = sized text d n more s in
     let l = ap length k in
     (ap command_in e, omega arith, k)
-  where
-    tail_of : {x y : ℕ} {xs ys : List ℕ} → x ∷ xs ≡ y ∷ ys → xs ≡ ys
-    tail_of e = cc
 
 -- ---- kinds of what is next
 
@@ -116,14 +115,10 @@ kind_blank b rest h = rw (blank_reads b h, kind) refl
 
 kind_other : (b : ℕ) (rest : List ℕ) → ¬ IsBlank b → b ≢ 59 → b ≢ 69 → kind (b ∷ rest) ≡ Command'
 kind_other b rest h k m =
-    let p : is_blank b ≡ false = not_true (is_blank b) (λ e. h (blank_means b e)) in
+    let p : is_blank b ≡ false = false_from_ne_true (is_blank b) (λ e. h (blank_means b e)) in
     let q : eqb b 59 ≡ false = grind arith in
     let r : eqb b 69 ≡ false = grind arith in
     rw (p, q, r, kind) refl
-  where
-    not_true : (x : Bool) → (x ≡ true → ⊥) → x ≡ false
-    not_true true h = absurd (h refl)
-    not_true false h = refl
 
 kind_read : (text : List ℕ) (c : Command) (size : ℕ) (rest : List ℕ) → IsReadAs text c size rest → kind text ≡ Command'
 kind_read text c size rest r =

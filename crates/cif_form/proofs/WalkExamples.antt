@@ -31,7 +31,7 @@ each_rule P a b c d e f g h i j F8 = h
 each_rule P a b c d e f g h i j F9 = i
 each_rule P a b c d e f g h i j F10 = j
 
-never : {A : Type 0} → A → A
+pub never : {A : Type 0} → A → A
 never a = a
 
 -- DS 1; C 1; DF; C 1; E

@@ -1,5 +1,5 @@
 -- Laws of the turns of a call.
-use Rattle.std.proofs.Common.{ℕ, ◌≡◌, ◌+◌, ◌^◌, ◌≤◌, inl, inr, refl, sym, ◌∙◌, ap, subst, arith, true, false, List, []}
+use Rattle.std.proofs.Common.{ℕ, ◌≡◌, ◌+◌, ◌≤◌, inl, inr, refl, sym, ◌∙◌, ap, subst, arith, true, false, List, []}
 use Rattle.std.proofs.Common.{◌∷◌, ◌++◌, append_assoc, append-nil}
 use Rattle.std.specs.Prelude.{ℤ, pos, ◌*ℤ◌, ◌<ℤ◌, Contains}
 use Rattle.std.proofs.lemmas.Int.{ints}
@@ -7,7 +7,7 @@ use Rattle.std.proofs.lemmas.List.Elements.{Contains-append_left, Contains-appen
 use Rattle.mp_base.proofs.Contents.{is_only_one, contains_one, nothing_in}
 use Rattle.lam_geom.specs.declared.place.Point.{Point}
 use Rattle.lam_geom.specs.declared.rect.Rect.{Rect}
-use Rattle.lam_geom.specs.Moves.{IsNear}
+use Rattle.lam_geom.specs.Moves.{IsNear, far}
 use Rattle.cif_form.specs.declared.command.Turn.{Turn}
 use Rattle.cif_form.specs.declared.command.Turn.TheVariants.{Move, MirrorX, MirrorY, Rotate}
 use Rattle.cif_form.specs.Place.{Scale, IsScaled, IsOnAxis, Motion, moved, placed, IsMotion, AreMotions}
@@ -142,7 +142,7 @@ even s by h (q, c, n) = n (subst (IsWholePoint s) (sym (the_move by q c)) h)
 
 pub moved_turned : (s : Scale) (by : Point) (dx dy : ℤ) (t : Turned) → IsScaled s (pos 2 *ℤ by.x) dx
     → IsScaled s (pos 2 *ℤ by.y) dy → IsMoved dx dy t
-    → IsTurned s (Move by ∷ []) t × IsHeldTurned (2 ^ 40) t
+    → IsTurned s (Move by ∷ []) t × IsHeldTurned far t
 moved_turned s by dx dy Far hx hy (inl far) =
     ((no_rotation by, even s by ((dx, hx), (dy, hy)), (by, contains_one (Move by), (dx, inl hx, far))), tt)
 moved_turned s by dx dy Far hx hy (inr far) =
@@ -155,7 +155,7 @@ moved_turned s by dx dy (Placed p) hx hy (e, nx, ny) = (
     subst (AreTurns s (Move by ∷ [])) (sym e)
         (are_turns s (Move by) (shift dx dy) (Shift dx dy ∷ []) (dx, dy, hx, hy, refl) (shift_by dx dy)),
   ),
-  subst (IsHeld (2 ^ 40)) (sym e) (nx, ny),
+  subst (IsHeld far) (sym e) (nx, ny),
 )
   where
     near : HasFar s (Move by ∷ []) → ⊥

@@ -4,7 +4,7 @@ ghost use Rattle.std.specs.Prelude.{◌≡◌, ◌^◌, ◌↔◌, IsTrue, IfSom
 ghost use Rattle.std.specs.Bool.{OnTrue, OnFalse};
 ghost use Rattle.lam_geom.specs.declared.layer.Layer.{Layer};
 ghost use Rattle.lam_geom.specs.declared.rect.Rect.{Rect};
-ghost use Rattle.lam_geom.specs.Moves.{IsNearRect};
+ghost use Rattle.lam_geom.specs.Moves.{IsNearRect, far};
 ghost use Rattle.cif_form.specs.Place.{IsAround};
 ghost use Rattle.cif_place.specs.Placing.{IsWithin, IsShort, IsShortPoint, IsFitRatio, AreSmall, scale_of, rect_of};
 ghost use Rattle.cif_place.specs.Placing.{turned, exchanged_if};
@@ -12,7 +12,7 @@ ghost use Rattle.cif_place.specs.Placing.{turned, exchanged_if};
 use crate::ratio::{Ratio, twice_less, twice_more};
 use lam_geom::{Layer, Point, Rect};
 
-const FAR: i128 = 1_099_511_627_776;
+pub(crate) const FAR: i128 = 1_099_511_627_776;
 
 /// The edges of a rectangle, in half-units.
 #[derive(Clone, Copy, Drop)]
@@ -52,13 +52,13 @@ impl Extent {
 }
 
 fn is_near(edge: i128) -> bool
-    ensures { IsTrue result ↔ IsWithin 1_099_511_627_776 edge }
+    ensures { IsTrue result ↔ IsWithin far edge }
 {
     -FAR <= edge && edge <= FAR
 }
 
 fn narrow(edge: i128) -> i64
-    requires { IsWithin 1_099_511_627_776 edge }
+    requires { IsWithin far edge }
     ensures { result ≡ edge }
 {
     edge as i64

@@ -2,14 +2,13 @@
 #![tactic(auto)]
 
 mod edges;
-mod law;
+pub mod laws;
 mod placement;
 mod ratio;
 mod shape;
 mod turned;
 
 pub use edges::{Edges, Extent};
-pub use law::{placements_compose, rectangles_are_determined};
 pub use placement::Placement;
 pub use ratio::Ratio;
 pub use shape::{BoxFault, Wired, are_straight, box_edges, draw_wire, segment_count};

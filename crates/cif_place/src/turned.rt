@@ -1,19 +1,19 @@
 //! The turns of a call.
 
 ghost use Rattle.std.specs.Prelude.{◌≡◌, ◌^◌, [], ◌∷◌, All, map};
+ghost use Rattle.lam_geom.specs.Moves.{far};
 ghost use Rattle.cif_form.specs.declared.command.Turn.TheVariants.{Move, Rotate};
 ghost use Rattle.cif_form.specs.Place.{Scale};
 ghost use Rattle.cif_list.specs.Turning.{wide_turn};
 ghost use Rattle.cif_place.specs.Placing.{IsShortPoint, IsWithin, IsFitRatio, scale_of};
 ghost use Rattle.cif_place.specs.Turning.{IsShortTurn, IsTurned, IsHeldTurned, IsMoved, joined, turn_of};
 
+use crate::edges::FAR;
 use crate::placement::Placement;
 use crate::ratio::{Ratio, twice_more};
 use cif_form::Turn;
 use cif_list::ShortTurn;
 use lam_geom::Point;
-
-const FAR: i128 = 1_099_511_627_776;
 
 /// What some turns of a call come to at a scale: a fault, the first by its rule, or a placement.
 #[derive(Clone, Copy, Drop)]
@@ -60,7 +60,7 @@ fn shifted(ratio: Ratio, by: Point) -> Turned
     requires fit { IsFitRatio ratio }
     requires short { IsShortPoint by }
     ensures turned { IsTurned (scale_of ratio) (Move by ∷ []) result }
-    ensures held { IsHeldTurned (2 ^ 40) result }
+    ensures held { IsHeldTurned far result }
 {
     let Some(dx) = ratio.scaled(twice_more(by.x, 0)) else {
         return Turned::Uneven;
@@ -73,7 +73,7 @@ fn shifted(ratio: Ratio, by: Point) -> Turned
 
 fn rotated(to: Point) -> Turned
     ensures turned { (s : Scale) → IsTurned s (Rotate to ∷ []) result }
-    ensures held { IsHeldTurned (2 ^ 40) result }
+    ensures held { IsHeldTurned far result }
 {
     if to.y == 0 {
         if to.x > 0 {
@@ -96,7 +96,7 @@ impl Turned {
         requires fit { IsFitRatio ratio }
         requires short { IsShortTurn turned.now }
         ensures turned { IsTurned (scale_of ratio) (turned.now ∷ []) result }
-        ensures held { IsHeldTurned (2 ^ 40) result }
+        ensures held { IsHeldTurned far result }
     {
         match turned {
             Turn::Move(by) => shifted(ratio, *by),
@@ -109,7 +109,7 @@ impl Turned {
     /// These turns, and then others.
     fn and(self, others: Turned) -> Turned
         requires these { IsHeldTurned (2 ^ 104) self }
-        requires others { IsHeldTurned (2 ^ 40) others }
+        requires others { IsHeldTurned far others }
         ensures { result ≡ joined self others }
     {
         match self {

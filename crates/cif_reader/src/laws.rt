@@ -4,7 +4,7 @@ ghost use Rattle.std.specs.Prelude.{ℕ, List};
 ghost use Rattle.cif_form.specs.declared.command.Item.{Item};
 ghost use Rattle.cif_form.specs.Scans.{TextEnd, FileScans};
 
-use cif_form::command_is_found;
+use cif_form::laws::command_is_found;
 
 /// Every text has commands and an end of its reading: it is read whole, or it breaks a first rule of texts.
 pub fn text_verdict()

@@ -16,7 +16,8 @@ ghost use Rattle.cif_reader.specs.Refusing.{Refuses, RefusesAt, IsRead, IsStep, 
 use crate::bytes::{is_blank, past_blanks};
 use crate::command::command;
 use crate::found::Found;
-use cif_form::{Command, command_is_found, read_command_fits};
+use cif_form::Command;
+use cif_form::laws::{command_is_found, read_command_fits};
 use cif_list::Cif;
 use mp_base::{Broken, Family, Refusal, Rule, Spot};
 use std::alloc::{AllocError, Global};
@@ -57,7 +58,7 @@ fn whole_command(
     at: usize,
 ) -> Result<Option<Found<Command>>, AllocError>
     requires { at < length bytes.now }
-    ensures { IfOk result (λ r. MatchOption r (IsReadable (drop at bytes.now) → ⊥)
+    ensures { IfOk result (λ r. MatchOption r (¬ IsReadable (drop at bytes.now))
         (λ c. IsRead bytes.now at c.value c.end)) }
 {
     command_is_found();
@@ -156,7 +157,7 @@ fn skip(bytes: &[u8], at: usize) -> usize
 
 // The `E` of the file, where nothing but blanks stands before it, and one at least.
 fn late_end(bytes: &[u8]) -> Option<usize>
-    ensures { MatchOption result ((offset : ℕ) → IsLateEnd bytes.now offset → ⊥) (IsLateEnd bytes.now) }
+    ensures { MatchOption result ((offset : ℕ) → ¬ IsLateEnd bytes.now offset) (IsLateEnd bytes.now) }
 {
     let start = past_blanks(bytes, 0);
     if 0 < start && start < bytes.len() && bytes[start] == b'E' {
@@ -169,7 +170,7 @@ fn late_end(bytes: &[u8]) -> Option<usize>
 // Adds the commands of a file up to its end.
 fn add_commands(alloc: Global, bytes: &[u8], cif: &mut Cif) -> Result<(), Refusal>
     requires empty { cif.old ≡ [] }
-    requires early { (offset : ℕ) → IsLateEnd bytes.now offset → ⊥ }
+    requires early { (offset : ℕ) → ¬ IsLateEnd bytes.now offset }
     ensures whole { OnOk result (FileScans bytes.now cif.new Whole) }
     ensures first { IfErr result (Refuses bytes.now) }
 {

@@ -7,7 +7,7 @@ use Rattle.mp_base.proofs.Decisions.{Decided, same_claim, both_of, one_of, not_s
 use Rattle.mp_base.proofs.Decisions.{is_at_most}
 use Rattle.mp_base.proofs.Numbers.{at_most_times}
 use Rattle.lam_geom.specs.declared.place.Point.{Point}
-use Rattle.lam_geom.specs.Moves.{IsNear}
+use Rattle.lam_geom.specs.Moves.{IsNear, far}
 use Rattle.cif_form.specs.declared.command.Turn.{Turn}
 use Rattle.cif_form.specs.declared.command.Turn.TheVariants.{Move, MirrorX, MirrorY, Rotate}
 use Rattle.cif_form.specs.Place.{Scale, IsScale, IsScaled, IsOnAxis, Motion, IsMotion}
@@ -56,7 +56,7 @@ some_scaled s w = by s.b
         (λ (z, e). (z, (omega (arith, ints), e))) (λ (z, (lt, e)). (z, e))
 
 pub is_near : (z : ℤ) → Decided (IsNear z)
-is_near z = both_of (is_at_most (neg_ℤ (pos 1_099_511_627_776)) z) (is_at_most z (pos 1_099_511_627_776))
+is_near z = both_of (is_at_most (neg_ℤ (pos far)) z) (is_at_most z (pos far))
 
 pub is_scale : (s : Scale) → Decided (IsScale s)
 is_scale s = both_of (is_less (pos 0) s.a) (is_less (pos 0) s.b)

@@ -8,7 +8,7 @@ use Rattle.mp_base.specs.declared.pad.Pads.{Pads}
 use Rattle.switch_net.specs.declared.network.Network.{Network}
 use Rattle.mp_base.specs.PadBits.{Fit}
 use Rattle.switch_net.specs.Clock.{Phases, IsClock, IsCircuitTrace, SettlesTo, Shows, AreDrivers, drives}
-use Rattle.settle.specs.Values.{value_at, driver_at}
+use Rattle.switch_net.specs.Values.{value_at, driver_at}
 use Rattle.clock_run.specs.Circuit.{Running}
 use Rattle.switch_net.specs.Breaks.{HasPads}
 use Rattle.switch_net.specs.Settled.{IsSettled}

@@ -8,7 +8,7 @@ use Rattle.std.proofs.lemmas.List.{get_or-set_same, get_or-set_other}
 use Rattle.std.proofs.lemmas.List.Elements.{Contains-append_cases}
 use Rattle.std.proofs.lemmas.Grind.{flat_map-append}
 use Rattle.mp_base.specs.declared.value.Trit.{Trit}
-use Rattle.settle.specs.Values.{driver_at}
+use Rattle.switch_net.specs.Values.{driver_at}
 use Rattle.mp_base.proofs.Zips.{zip_at}
 use Rattle.clock_run.specs.Driving.{IsDriven, AreDriven, AreSet}
 use Rattle.clock_run.proofs.Naming.{take_push}

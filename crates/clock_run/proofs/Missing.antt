@@ -1,5 +1,6 @@
 -- The first label that is missing.
 use Rattle.std.proofs.Common.{◌≡◌, ◌≢◌, ◌∙◌, ℕ, zero, suc, ◌+◌, ◌<◌, List, [], ◌∷◌, ◌++◌, length, get_or, take, drop}
+use Rattle.mp_base.proofs.Entries.{one_value}
 use Rattle.std.proofs.Common.{refl, sym, ap, subst, arith, Some, length-take}
 use Rattle.std.specs.Prelude.{Contains, slice_get}
 use Rattle.std.specs.List.{AllZip}
@@ -12,9 +13,6 @@ use Rattle.switch_net.specs.Clock.{IsLabelled}
 use Rattle.clock_run.specs.Refused.{IsMissingLabel}
 use Rattle.clock_run.proofs.Naming.{take_push}
 
-pub same_some : {A : Type 0} (o : _) (x y : A) → o ≡ Some x → o ≡ Some y → x ≡ y
-same_some {A} o x y h k = let e : ◌≡◌ {A = _} (Some x) (Some y) = sym h ∙ k in cc
-
 pub stands_at : {A : Type 0} (xs : List A) (i : ℕ) (x : A) → i < length xs → x ≡ get_or xs i x → slice_get xs i ≡ Some x
 stands_at xs i x lt is = slice_get-get_or xs i x lt ∙ ap (λ z. Some z) (sym is)
 
@@ -26,7 +24,7 @@ partner R [] rest [] h j x lt e = absurd (omega (arith, lt))
 partner R [] rest (y ∷ ys) h j x lt e = absurd h
 partner R (x ∷ xs) rest [] h j z lt e = absurd h
 partner R (x ∷ xs) rest (y ∷ ys) h zero z lt e =
-    (y, subst (λ w. R w y) (same_some (slice_get (x ∷ (xs ++ rest)) 0) x z refl e) h.0)
+    (y, subst (λ w. R w y) (one_value (slice_get (x ∷ (xs ++ rest)) 0) x z refl e) h.0)
 partner R (x ∷ xs) rest (y ∷ ys) h (suc j) z lt e = partner R xs rest ys h.1 j z (omega (arith, lt)) e
 
 pub missing_here : (net : Network) (labels : List (List ℕ)) (i : ℕ) (name : List ℕ) (nodes : List ℕ) → i < length labels

@@ -9,7 +9,8 @@ use Rattle.std.proofs.lemmas.Slice.Eq.{bytes_eq-Decides}
 use Rattle.std.proofs.lemmas.List.{take_more}
 use Rattle.std.proofs.lemmas.List.Elements.{Contains-push, Contains-push_cases, Contains-append_left}
 use Rattle.switch_net.specs.declared.network.Tag.{Tag}
-use Rattle.clock_run.specs.Numbers.{number_of, IsTagged, NumberNodes}
+use Rattle.clock_run.specs.Numbers.{IsTagged, NumberNodes}
+use Rattle.switch_net.specs.Names.{number_of}
 
 abbrev pub Numbers : Type 0
 Numbers = BTreeMap (Bor (List ℕ)) ℕ

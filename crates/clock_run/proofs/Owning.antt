@@ -10,11 +10,11 @@ use Rattle.switch_net.specs.declared.network.Tag.{Tag}
 use Rattle.switch_net.specs.declared.network.Network.{Network}
 use Rattle.switch_net.specs.Breaks.{IsDrivenTwice, MeetsDriver}
 use Rattle.clock_run.specs.Owners.{IsOwner, HasOwner, AreOwners, AreWithin}
-use Rattle.clock_run.proofs.Missing.{same_some}
+use Rattle.mp_base.proofs.Entries.{one_value}
 
 module _ (drivers : List (List ℕ)) (tags : List Tag) (i : ℕ) (t : Tag) (at : slice_get tags i ≡ Some t) where
   here : (k : ℕ) (u : Tag) → k ≡ i → slice_get tags k ≡ Some u → u ≡ t
-  here k u e h = same_some (slice_get tags i) u t (subst (λ n. slice_get tags n ≡ Some u) e h) at
+  here k u e h = one_value (slice_get tags i) u t (subst (λ n. slice_get tags n ≡ Some u) e h) at
 
   -- no earlier label of a driver on the node has another name
   agree : ((k : ℕ) (u : Tag) → k < i → slice_get tags k ≡ Some u → Contains drivers u.name → u.node ≡ t.node
@@ -67,9 +67,9 @@ module _ (drivers : List (List ℕ)) (tags : List Tag) (i : ℕ) (t : Tag) (at :
       alike : (u : Tag) → u.node ≡ t.node → HasOwner tags owners u → u.name ≡ t.name
       alike u same h =
           let e : h.j ≡ j =
-          same_some (get_or owners t.node None) h.j j (subst (λ n. get_or owners n None ≡ Some h.j) same h.held) own in
+          one_value (get_or owners t.node None) h.j j (subst (λ n. get_or owners n None ≡ Some h.j) same h.held) own in
           let f : h.tag ≡ first =
-          same_some (slice_get tags j) h.tag first (subst (λ n. slice_get tags n ≡ Some h.tag) e h.at) there in
+          one_value (slice_get tags j) h.tag first (subst (λ n. slice_get tags n ≡ Some h.tag) e h.at) there in
           sym h.name ∙ ap (λ (x : Tag). x.name) f ∙ name
 
   pub owners_new : (owners : List (Option ℕ)) → AreOwners drivers tags owners i → t.node < length owners
@@ -96,7 +96,7 @@ module _ (drivers : List (List ℕ)) (tags : List Tag) (i : ℕ) (t : Tag) (at :
       held : (n j : ℕ) → get_or (set owners t.node (Some i)) n None ≡ Some j → (n ≡ t.node) ⊎ (n ≡ t.node → ⊥)
           → (j < i + 1) × IsOwner drivers tags n j
       held n j e (inl is) =
-          let f : i ≡ j = same_some (get_or (set owners t.node (Some i)) n None) i j (here_set n is) e in (
+          let f : i ≡ j = one_value (get_or (set owners t.node (Some i)) n None) i j (here_set n is) e in (
             omega (arith, f),
             subst (λ k. IsOwner drivers tags n k) f
                 (record { tag = t; at = at; driver = driver; node = sym is }),
@@ -124,7 +124,7 @@ module _ (drivers : List (List ℕ)) (tags : List Tag) (i : ℕ) (t : Tag) (at :
       → slice_get tags j ≡ Some first → first.name ≢ t.name → IsDrivenTwice drivers tags i t
   owners_meet owners j first o driver own there differ =
       let h = o.held t.node j own in
-      let e : h.1.tag ≡ first = same_some (slice_get tags j) h.1.tag first h.1.at there in
+      let e : h.1.tag ≡ first = one_value (slice_get tags j) h.1.tag first h.1.at there in
       record {
         at = at;
         driver = driver;

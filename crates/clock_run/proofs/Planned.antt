@@ -12,7 +12,7 @@ use Rattle.mp_base.specs.declared.pad.Pads.{Pads}
 use Rattle.mp_base.specs.PadNames.{supplies}
 use Rattle.mp_base.proofs.Contents.{contains_behind}
 use Rattle.mp_base.proofs.Zips.{zip_length}
-use Rattle.settle.specs.Values.{driver_at}
+use Rattle.switch_net.specs.Values.{driver_at}
 use Rattle.switch_net.specs.declared.network.Tag.{Tag}
 use Rattle.switch_net.specs.declared.network.Network.{Network}
 use Rattle.switch_net.specs.Pads.{bit_labels}

@@ -1,7 +1,7 @@
 -- The steps of a circuit.
 use Rattle.std.specs.Prelude.{◌≡◌, ℕ, List, length}
 use Rattle.mp_base.specs.declared.value.Trit.{Trit}
-use Rattle.settle.specs.Values.{value_at}
+use Rattle.switch_net.specs.Values.{value_at}
 use Rattle.switch_net.specs.Clock.{IsClock}
 use Rattle.clock_run.specs.Circuit.{Running}
 

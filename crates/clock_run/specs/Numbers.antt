@@ -1,14 +1,9 @@
 -- Numbers by name.
-use Rattle.std.specs.Prelude.{◌≡◌, ◌≢◌, ℕ, List, Option, Contains, MatchOption}
-use Rattle.std.specs.Ordering.{nat_cmp}
-use Rattle.std.specs.Cmp.Lexicographic.{slice_cmp}
-use Rattle.std.specs.BTreeMap.{BTreeMap, get_by}
+use Rattle.std.specs.Prelude.{◌≡◌, ◌≢◌, ℕ, List, Contains, MatchOption}
+use Rattle.std.specs.BTreeMap.{BTreeMap}
 use denote.Ref.{Bor}
 use Rattle.switch_net.specs.declared.network.Tag.{Tag}
-
--- the number of a name
-abbrev pub number_of : BTreeMap (Bor (List ℕ)) ℕ → List ℕ → Option ℕ
-number_of numbers x = get_by (λ k. slice_cmp nat_cmp x k.now) numbers
+use Rattle.switch_net.specs.Names.{number_of}
 
 -- one of these tags puts the name on this node
 abbrev pub IsTagged : List Tag → List ℕ → ℕ → Type 0

@@ -5,7 +5,7 @@ ghost use Rattle.std.specs.List.{AllZip};
 ghost use Rattle.mp_base.specs.declared.value.Trit.TheVariants.{X};
 ghost use Rattle.mp_base.specs.declared.value.TritWord.{TritWord as TritWordValue};
 ghost use Rattle.mp_base.specs.declared.pad.Pad.{Pad as PadValue};
-ghost use Rattle.settle.specs.Values.{value_at};
+ghost use Rattle.switch_net.specs.Values.{value_at};
 ghost use Rattle.mp_base.specs.PadBits.{Fit, bit_count};
 ghost use Rattle.mp_base.specs.Refuses.{IsJudged};
 ghost use Rattle.switch_net.specs.Clock.{SettlesTo, Shows, IsClock, drives};
@@ -21,7 +21,8 @@ use mp_base::{Inputs, Pads, Refusal, Trit, TritOutputs};
 use settle::Settler;
 use std::alloc::Global;
 use std::marker::Model;
-use switch_net::{Network, circuits_run};
+use switch_net::Network;
+use switch_net::laws::circuits_run;
 
 /// The plan of a network with pads, and room for what drives each node.
 #[derive(Drop)]

@@ -1,9 +1,9 @@
 //! Numbers by name.
 
-ghost use Rattle.std.specs.Prelude.{◌≡◌, ◌↔◌, ℕ, List, Some, IfOk, OnOk, IsSome, Contains, MatchOption, cond};
+ghost use Rattle.std.specs.Prelude.{◌≡◌, ◌↔◌, ℕ, List, Some, IfOk, OnOk, IsSome, Contains, cond};
 ghost use Rattle.std.specs.Str.{bytes_eq};
-ghost use Rattle.clock_run.specs.Numbers.{number_of, NumberNodes};
-ghost use Rattle.switch_net.specs.OneNode.{OneNodeEach};
+ghost use Rattle.clock_run.specs.Numbers.{NumberNodes};
+ghost use Rattle.switch_net.specs.Names.{number_of};
 
 use mp_base::Name;
 use std::alloc::{AllocError, Global};

@@ -6,7 +6,7 @@ ghost use Rattle.std.specs.Option.{is_some};
 ghost use Rattle.std.specs.Str.{bytes_eq};
 ghost use Rattle.switch_net.specs.declared.network.Tag.{Tag as TagValue};
 ghost use Rattle.switch_net.specs.Breaks.{MeetsDriver, IsDrivenTwice};
-ghost use Rattle.clock_run.specs.Numbers.{number_of};
+ghost use Rattle.switch_net.specs.Names.{number_of};
 ghost use Rattle.clock_run.specs.Owners.{IsFirstMeeting, AreWithin, AreOwners};
 
 use crate::numbers::{names_of, number_of};
@@ -58,7 +58,7 @@ pub(crate) fn driven_twice(
     network: &Network,
     drivers: &[Name],
 ) -> Result<Option<u64>, AllocError>
-    ensures { IfOk result (λ found. MatchOption found ((i : ℕ) → MeetsDriver drivers.now network.now.tags i → ⊥)
+    ensures { IfOk result (λ found. MatchOption found ((i : ℕ) → ¬ MeetsDriver drivers.now network.now.tags i)
         (IsFirstMeeting drivers.now network.now.tags)) }
 {
     let names = names_of(alloc, drivers)?;

@@ -1,7 +1,7 @@
 //! The words that outputs show.
 
 ghost use Rattle.std.specs.Prelude.{◌≡◌, ◌+◌, ◌<◌, ◌≤◌, ◌^◌, ℕ, length, map, if◌then◌else◌};
-ghost use Rattle.settle.specs.Values.{value_at};
+ghost use Rattle.switch_net.specs.Values.{value_at};
 ghost use Rattle.stimulus.specs.Bits.{trit_at, low_trits};
 ghost use Rattle.clock_run.specs.Words.{is_known, is_one};
 

@@ -8,7 +8,7 @@ use lam_geom::laws::extents_are_determined;
 use mask_laws::laws::{masks_draw_networks, squares_tell_masks};
 use mp_order::laws::one_trace;
 use mp_program::{Program, laws};
-use switch_net::circuits_run;
+use switch_net::laws::circuits_run;
 
 /// Of a program that breaks no rule: transfers that show what it shows, a bounded plan that follows the transfers and
 /// commands that draw the plan make a chip of the program, as small as its weight and word length say.

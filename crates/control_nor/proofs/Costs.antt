@@ -18,7 +18,7 @@ use Rattle.rtl_form.specs.Environment.{is_driven, is_stored}
 use Rattle.rtl_form.specs.Operands.{gives_word}
 use Rattle.bit_gates.specs.declared.rails.Rails.{Rails}
 use Rattle.control_nor.specs.declared.names.Bits.{Bits}
-use Rattle.bit_gates.specs.Cells.{first_cost, first_kind_cost}
+use Rattle.bit_gates.specs.Cells.{first_cost, latch_cost}
 use Rattle.control_nor.specs.NextValues.{next_cost, next_left, stored_count, stored_from}
 use Rattle.control_nor.specs.Progress.{cost_left, driven_cost, left_by, wait_of, waits}
 use Rattle.bit_gates.specs.Size.{bit_cell_cost, bit_cost, bit_expr_cost, bit_transfer_cost}
@@ -53,7 +53,7 @@ cell_parts : (x : cells.Cell) → first_cost x + driven_cost x + next_cost x ≤
 cell_parts x = by_kind x.word x.kind
   where
     by_kind : (word : Bool) (kind : CellKind)
-        → (if word then 0 else first_kind_cost kind)
+        → (if word then 0 else latch_cost kind)
         + ((if is_driven kind && not word then 1 else 0) + (if is_driven kind && not word then 1 else 0))
         + (if not word && is_stored kind then 5 else 0)
         ≤ (if word then 0 else cell_cost kind)

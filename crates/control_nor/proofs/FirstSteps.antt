@@ -20,7 +20,7 @@ use Rattle.rtl_form.specs.declared.rtl.CellKind.TheVariants as kinds
 use Rattle.rtl_form.specs.Environment.{is_driven}
 use Rattle.bit_gates.specs.declared.rails.Rails.{Rails}
 use Rattle.bit_gates.specs.Adding.{IsCounted, IsPort, IsSlave}
-use Rattle.bit_gates.specs.Cells.{first_cost, first_kind_cost}
+use Rattle.bit_gates.specs.Cells.{first_cost, latch_cost}
 use Rattle.control_nor.specs.First.{IsWaiting}
 use Rattle.control_nor.specs.Lowering.{InputBit, ObeysBehind, Stands}
 use Rattle.bit_gates.specs.Rails.{Agree, AreBelow}
@@ -136,7 +136,7 @@ module _ (x : cells.Cell) (k : ℕ) (kind : x.kind ≡ kinds.Input k) (word : x.
   })
 
   cost_is : first_cost x ≡ 2
-  cost_is = ap (λ b. if b then 0 else first_kind_cost x.kind) word ∙ ap first_kind_cost kind
+  cost_is = ap (λ b. if b then 0 else latch_cost x.kind) word ∙ ap latch_cost kind
 
   pub port_step : IsFirstStep x old new pads named (Some rails)
   port_step = record {
@@ -231,7 +231,7 @@ module _ (x : cells.Cell) (kind : x.kind ≡ kinds.Stored) (word : x.word ≡ fa
   })
 
   slave_cost : first_cost x ≡ 2
-  slave_cost = ap (λ b. if b then 0 else first_kind_cost x.kind) word ∙ ap first_kind_cost kind
+  slave_cost = ap (λ b. if b then 0 else latch_cost x.kind) word ∙ ap latch_cost kind
 
   pub slave_step : IsFirstStep x old new pads named (Some rails)
   slave_step = record {

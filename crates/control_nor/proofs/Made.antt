@@ -24,6 +24,7 @@ use Rattle.bit_gates.proofs.Adding.{counted_list, counted_on, gates_are_logic, g
 use Rattle.bit_gates.proofs.Adding.{gate_before, logic_none, two_gates}
 use Rattle.std.proofs.lemmas.List.Elements.{All-nil, All-cons}
 use Rattle.mp_base.proofs.Entries.{get_behind}
+use Rattle.mp_base.proofs.Tests.{true_false}
 use Rattle.std.proofs.lemmas.Slice.Zip.{AllZip-long}
 
 -- what follows from each way to add nets for an expression
@@ -191,9 +192,6 @@ entry_added old new rails cost entered h enters two = record {
 
 entry_is : (op : Op) (index : ℕ) (args : List ℕ) → takes_words op ≡ false → IsEntry (Apply op index args) → ⊥
 entry_is op index args bits h = true_false (sym h.0 ∙ bits)
-  where
-    true_false : true ≡ false → ⊥
-    true_false e = absurd (cc)
 
 module _ (exprs : List (Option Rails)) (index : ℕ) (args : List ℕ) (old new : List Part) (rails : Rails)
     (below : AllBelow (length old) exprs) where

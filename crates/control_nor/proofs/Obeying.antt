@@ -90,11 +90,11 @@ module _ (v : Spot → Trit) (entries : List (Option Rails)) (value : ℕ → �
   bits_known [] [] z known = refl
   bits_known [] (y ∷ ids) z known = absurd z
   bits_known (k ∷ ks) [] z known = absurd z
-  bits_known (k ∷ ks) (id ∷ ids) z known =
-      let h = known 0 k (omega arith) z.0.0 z.0.1 in
-      let here : v (spot 0 id) ≡ bit (value k == 1) = ap (λ (i : NetId). v (spot 0 i)) z.0.2 ∙ h.has_bit in
+  bits_known (k ∷ ks) (id ∷ ids) ((rails, stands, is), others) known =
+      let h = known 0 k (omega arith) rails stands in
+      let here : v (spot 0 id) ≡ bit (value k == 1) = ap (λ (i : NetId). v (spot 0 i)) is ∙ h.has_bit in
       ap (λ t. t ∷ map v (map (spot 0) ids)) here
-      ∙ ap (λ ts. bit (value k == 1) ∷ ts) (bits_known ks ids z.1 (λ i d l. known (suc i) d (omega arith)))
+      ∙ ap (λ ts. bit (value k == 1) ∷ ts) (bits_known ks ids others (λ i d l. known (suc i) d (omega arith)))
 
   pub negations_known : (ks : List ℕ) (ids : List NetId) → AllZip (NegationOf entries) ks ids
       → All (λ k. Known v entries k (value k)) ks
@@ -102,11 +102,12 @@ module _ (v : Spot → Trit) (entries : List (Option Rails)) (value : ℕ → �
   negations_known [] [] z known = refl
   negations_known [] (y ∷ ids) z known = absurd z
   negations_known (k ∷ ks) [] z known = absurd z
-  negations_known (k ∷ ks) (id ∷ ids) z known =
-      let h = known 0 k (omega arith) z.0.0 z.0.1 in
-      let here : v (spot 0 id) ≡ bit (not (value k == 1)) = ap (λ (i : NetId). v (spot 0 i)) z.0.2 ∙ h.has_negation in
+  negations_known (k ∷ ks) (id ∷ ids) ((rails, stands, is), others) known =
+      let h = known 0 k (omega arith) rails stands in
+      let here : v (spot 0 id) ≡ bit (not (value k == 1)) = ap (λ (i : NetId). v (spot 0 i)) is ∙ h.has_negation in
       ap (λ t. t ∷ map v (map (spot 0) ids)) here
-      ∙ ap (λ ts. bit (not (value k == 1)) ∷ ts) (negations_known ks ids z.1 (λ i d l. known (suc i) d (omega arith)))
+      ∙ ap (λ ts. bit (not (value k == 1)) ∷ ts)
+      (negations_known ks ids others (λ i d l. known (suc i) d (omega arith)))
 
 -- ---- what was added, in values that obey it
 

@@ -1,5 +1,6 @@
 -- Room for the three rounds, and what was done in terms of the first nets.
-use Rattle.std.proofs.Common.{◌≡◌, ℕ, ◌+◌, ◌*◌, ◌<◌, List, [], ◌∷◌, Option, None, length, take, replicate, refl, sym}
+use Rattle.std.proofs.Common.{◌≡◌, ℕ, ◌+◌, ◌*◌, ◌<◌, List, [], Option, None, length, take, replicate, refl, sym}
+use Rattle.mp_base.proofs.Lists.{take_whole}
 use Rattle.std.proofs.Common.{ap, subst, arith}
 use Rattle.std.specs.List.{sum_by}
 use Rattle.nor_net.specs.declared.net.NetId.{NetId}
@@ -38,10 +39,6 @@ as_done r tasks same mid mid2 named es bits ends e f h =
     }) bits ends) e
     (subst (λ es. AreDone r same (length same) mid mid2 (record { cells = named; exprs = es }) bits ends) f h)
 
-take_all : (xs : List cells.Cell) → take (length xs) xs ≡ xs
-take_all [] = refl
-take_all (x ∷ xs) = ap (λ ys. x ∷ ys) (take_all xs)
-
 module _ (r : Rtl) (old : List Part) (room : length old + 2 * cost r < net_limit)
     (inputs_room : gate_inputs old + 4 * cost r < net_limit) where
   pub room_first : HasRoom (sum_by first_cost r.cells) old
@@ -57,7 +54,7 @@ module _ (r : Rtl) (old : List Part) (room : length old + 2 * cost r < net_limit
     room_tasks es e =
         let k = rounds r (record { cells = named; exprs = es }) e in let m = bit_cost_most r in
         let t : sum_by first_cost (take (length r.cells) r.cells)
-        ≡ sum_by first_cost r.cells = ap (sum_by first_cost) (take_all r.cells) in
+        ≡ sum_by first_cost r.cells = ap (sum_by first_cost) (take_whole r.cells) in
         let a = first.within.nets in let b = first.within.inputs in
         record { room = omega (arith, k, m, t, a, room); inputs_room = omega (arith, k, m, t, b, inputs_room) }
 
@@ -69,7 +66,7 @@ module _ (r : Rtl) (old : List Part) (room : length old + 2 * cost r < net_limit
         let k = rounds r (record { cells = named; exprs = replicate (length r.exprs) None }) refl in
         let m = bit_cost_most r in
         let t : sum_by first_cost (take (length r.cells) r.cells)
-        ≡ sum_by first_cost r.cells = ap (sum_by first_cost) (take_all r.cells) in
+        ≡ sum_by first_cost r.cells = ap (sum_by first_cost) (take_whole r.cells) in
         let a = first.within.nets in let b = first.within.inputs in
         let s = done.progress.spent in let c = s.within.nets in let d = s.within.inputs in let x = s.cost_is in
         record {

@@ -17,7 +17,8 @@ use Rattle.cover_tree.specs.declared.node.Tops.{Tops}
 use Rattle.cover_tree.specs.declared.planes.Holders.{Holders}
 use Rattle.cover_tree.specs.declared.planes.Planes.{Planes}
 use Rattle.cover_tree.specs.Nodes.{above}
-use Rattle.cover_tree.specs.Kinds.{bit, further as further_layer, index, set_colour, union, AreOneColour, Keeps, Share}
+use Rattle.cover_tree.specs.Kinds.{further as further_layer, index, set_colour, union, AreOneColour, Keeps, Share}
+use Rattle.mp_base.specs.Apply.{truth}
 use Rattle.cover_tree.specs.Planes.{AreLayersAt, colour_at}
 use Rattle.cover_tree.proofs.Sets.{same_for_five, nd_sets, np_sets, nb_sets, further_sets, nm_sets, at_kinds}
 
@@ -41,17 +42,17 @@ pub at_nm : (n : ℕ) → bit_at nm_sets (n % 32) ≡ n / 16 % 2
 at_nm n = same_below (bit_at nm_sets) (λ i. i / 16 % 2) refl (n % 32) (omega arith) ∙ omega arith
 
 -- a known layer besides
-known_digit : (a b n k : ℕ) → a < 2 → b < 2 → n ≡ max a b → k ≡ b → (if a == 1 then 1 else k) ≡ bit (nat_lt 0 n)
-known_digit zero zero n k h l e f = f ∙ ap (λ n. bit (nat_lt 0 n)) (sym e)
-known_digit zero (suc zero) n k h l e f = f ∙ ap (λ n. bit (nat_lt 0 n)) (sym e)
-known_digit (suc zero) zero n k h l e f = ap (λ n. bit (nat_lt 0 n)) (sym e)
-known_digit (suc zero) (suc zero) n k h l e f = ap (λ n. bit (nat_lt 0 n)) (sym e)
+known_digit : (a b n k : ℕ) → a < 2 → b < 2 → n ≡ max a b → k ≡ b → (if a == 1 then 1 else k) ≡ truth (nat_lt 0 n)
+known_digit zero zero n k h l e f = f ∙ ap (λ n. truth (nat_lt 0 n)) (sym e)
+known_digit zero (suc zero) n k h l e f = f ∙ ap (λ n. truth (nat_lt 0 n)) (sym e)
+known_digit (suc zero) zero n k h l e f = ap (λ n. truth (nat_lt 0 n)) (sym e)
+known_digit (suc zero) (suc zero) n k h l e f = ap (λ n. truth (nat_lt 0 n)) (sym e)
 known_digit zero (suc (suc b)) n k h l e f = absurd (omega arith)
 known_digit (suc zero) (suc (suc b)) n k h l e f = absurd (omega arith)
 known_digit (suc (suc a)) b n k h l e f = absurd (omega arith)
 
 pub known_bit : (known s i k : ℕ) → k ≡ bit_at s i
-    → (if bit_at known i == 1 then 1 else k) ≡ bit (nat_lt 0 (bit_at (bit_or known s) i))
+    → (if bit_at known i == 1 then 1 else k) ≡ truth (nat_lt 0 (bit_at (bit_or known s) i))
 known_bit known s i k e =
     known_digit (bit_at known i) (bit_at s i) _ k (bit_at-lt known i) (bit_at-lt s i) (bit_at_or known s i) e
 
@@ -65,21 +66,21 @@ has_further Contacts t row = refl
 
 -- a number's bit at a place
 record Says (n i : ℕ) (b : Bool) : Type 0 where
-  says : bit_at n i ≡ bit b
+  says : bit_at n i ≡ truth b
 
-both_bit : (a b : Bool) → min (bit a) (bit b) ≡ bit (a && b)
+both_bit : (a b : Bool) → min (truth a) (truth b) ≡ truth (a && b)
 both_bit true true = refl
 both_bit true false = refl
 both_bit false true = refl
 both_bit false false = refl
 
-either_bit : (a b : Bool) → max (bit a) (bit b) ≡ bit (a || b)
+either_bit : (a b : Bool) → max (truth a) (truth b) ≡ truth (a || b)
 either_bit true true = refl
 either_bit true false = refl
 either_bit false true = refl
 either_bit false false = refl
 
-other_bit : (a : Bool) → 1 - bit a ≡ bit (not a)
+other_bit : (a : Bool) → 1 - truth a ≡ truth (not a)
 other_bit true = refl
 other_bit false = refl
 
@@ -94,7 +95,7 @@ says_not {n} {i} {b} small l e = record { says = bit_at_not w32 n i small l ∙ 
 
 colour_bits : (p : Planes) (i : ℕ) (low middle high : Bool) → Says p.low i low → Says p.middle i middle
     → Says p.high i high
-    → colour_at p i ≡ bit low + 2 * bit middle + 4 * bit high
+    → colour_at p i ≡ truth low + 2 * truth middle + 4 * truth high
 colour_bits p i low middle high e f g = let j = e.says in let k = f.says in let l = g.says in omega arith
 
 says_zero : (i : ℕ) → Says 0 i false
@@ -112,15 +113,15 @@ meets n p b f = (p && conducts n p b) && (f || b)
 
 diffusion_colour : (n p b f m : Bool)
     → colour_of Diffusion (record { nd = n; np = p; nc = m; nm = m; ni = f; nb = b; ng = m })
-    ≡ bit ((n && not (channels n p b)) || (channels n p b && f)) + 2 * bit (channels n p b) + 4 * bit false
+    ≡ truth ((n && not (channels n p b)) || (channels n p b && f)) + 2 * truth (channels n p b) + 4 * truth false
 diffusion_colour =
     same_for_five (λ n p b f m. colour_of Diffusion (record { nd = n; np = p; nc = m; nm = m; ni = f; nb = b; ng = m }))
-    (λ n p b f m. bit ((n && not (channels n p b)) || (channels n p b && f)) + 2 * bit (channels n p b) + 4
-    * bit false) refl
+    (λ n p b f m. truth ((n && not (channels n p b)) || (channels n p b && f)) + 2 * truth (channels n p b) + 4
+    * truth false) refl
 
 abbrev joins : Bool → Bool → Bool → Bool → Bool → ℕ
-joins n p b f m = bit ((f && m) && (p || conducts n p b)) + 2 * bit (((f && m) && p) || meets n p b f)
-    + 4 * bit (((f && m) && conducts n p b) || meets n p b f)
+joins n p b f m = truth ((f && m) && (p || conducts n p b)) + 2 * truth (((f && m) && p) || meets n p b f)
+    + 4 * truth (((f && m) && conducts n p b) || meets n p b f)
 
 contacts_colour : (n p b f m : Bool)
     → colour_of Contacts (record { nd = n; np = p; nc = f; nm = m; ni = m; nb = b; ng = m }) ≡ joins n p b f m

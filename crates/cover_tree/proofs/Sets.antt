@@ -15,7 +15,8 @@ use Rattle.cover_tree.specs.declared.kinds.Kinds.{Kinds}
 use Rattle.cover_tree.specs.declared.layer_set.LayerSet.{LayerSet}
 use Rattle.cover_tree.specs.declared.node.Tops.{Tops}
 use Rattle.cover_tree.specs.Nodes.{above, keeps, layers_of}
-use Rattle.cover_tree.specs.Kinds.{bit, both, has_bit, index, raised, union, HasKind, IsWith, IsBeside, Share}
+use Rattle.cover_tree.specs.Kinds.{both, has_bit, index, raised, union, HasKind, IsWith, IsBeside, Share}
+use Rattle.mp_base.specs.Apply.{truth}
 use Rattle.cover_tree.proofs.Looking.{joint_tests}
 
 both_bits : {n : ℕ} → n ≡ 1 → n ≡ 0 → ⊥
@@ -49,7 +50,7 @@ same_for_five f g h a b c d e = eqb-true _ _ (each_five-at (λ a b c d e. f a b 
 
 -- the number of these digits
 abbrev pub place : Bool → Bool → Bool → Bool → Bool → ℕ
-place a b c d e = bit a + 2 * bit b + 4 * bit c + 8 * bit d + 16 * bit e
+place a b c d e = truth a + 2 * truth b + 4 * truth c + 8 * truth d + 16 * truth e
 
 place_small : (a b c d e : Bool) → place a b c d e < 32
 place_small a b c d e =
@@ -431,24 +432,24 @@ layers_union f a b =
     }
 
 -- the layers of a set, by its digits
-above_digit : (b : Bool) (n : ℕ) → n ≡ bit b → nat_lt 0 n ≡ b
+above_digit : (b : Bool) (n : ℕ) → n ≡ truth b → nat_lt 0 n ≡ b
 above_digit true n e = rw e refl
 above_digit false n e = rw e refl
 
-digit_nd : (a b c d e : Bool) → place a b c d e % 2 ≡ bit a
-digit_nd = same_for_five (λ a b c d e. place a b c d e % 2) (λ a b c d e. bit a) refl
+digit_nd : (a b c d e : Bool) → place a b c d e % 2 ≡ truth a
+digit_nd = same_for_five (λ a b c d e. place a b c d e % 2) (λ a b c d e. truth a) refl
 
-digit_np : (a b c d e : Bool) → place a b c d e / 2 % 2 ≡ bit b
-digit_np = same_for_five (λ a b c d e. place a b c d e / 2 % 2) (λ a b c d e. bit b) refl
+digit_np : (a b c d e : Bool) → place a b c d e / 2 % 2 ≡ truth b
+digit_np = same_for_five (λ a b c d e. place a b c d e / 2 % 2) (λ a b c d e. truth b) refl
 
-digit_nb : (a b c d e : Bool) → place a b c d e / 4 % 2 ≡ bit c
-digit_nb = same_for_five (λ a b c d e. place a b c d e / 4 % 2) (λ a b c d e. bit c) refl
+digit_nb : (a b c d e : Bool) → place a b c d e / 4 % 2 ≡ truth c
+digit_nb = same_for_five (λ a b c d e. place a b c d e / 4 % 2) (λ a b c d e. truth c) refl
 
-digit_further : (a b c d e : Bool) → place a b c d e / 8 % 2 ≡ bit d
-digit_further = same_for_five (λ a b c d e. place a b c d e / 8 % 2) (λ a b c d e. bit d) refl
+digit_further : (a b c d e : Bool) → place a b c d e / 8 % 2 ≡ truth d
+digit_further = same_for_five (λ a b c d e. place a b c d e / 8 % 2) (λ a b c d e. truth d) refl
 
-digit_nm : (a b c d e : Bool) → place a b c d e / 16 % 2 ≡ bit e
-digit_nm = same_for_five (λ a b c d e. place a b c d e / 16 % 2) (λ a b c d e. bit e) refl
+digit_nm : (a b c d e : Bool) → place a b c d e / 16 % 2 ≡ truth e
+digit_nm = same_for_five (λ a b c d e. place a b c d e / 16 % 2) (λ a b c d e. truth e) refl
 
 pub set_layers : (f : Layer) (t : Tops) (row bits : ℕ)
     → bits

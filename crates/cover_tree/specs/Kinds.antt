@@ -30,9 +30,6 @@ both a b = record {
 abbrev pub union : LayerSet → LayerSet → LayerSet
 union a b = record { bits = bit_or a.bits b.bits }
 
-abbrev pub bit : Bool → ℕ
-bit b = if b then 1 else 0
-
 -- whether a number has the bit of a weight
 abbrev pub has_bit : ℕ → ℕ → Bool
 has_bit n weight = n / weight % 2 == 1

@@ -3,7 +3,8 @@
 ghost use Rattle.std.specs.Prelude.{◌≡◌, ◌↔◌, ◌<◌, ◌⊎◌, ℕ, IfSome, IfNone};
 ghost use Rattle.std.specs.Int.{bit_at};
 ghost use Rattle.cover_tree.specs.declared.layer_set.LayerSet.{LayerSet};
-ghost use Rattle.cover_tree.specs.Kinds.{bit, further, index, HasKind, IsWith, IsBeside, IsEffect, AreOneColour, Share};
+ghost use Rattle.cover_tree.specs.Kinds.{further, index, HasKind, IsWith, IsBeside, IsEffect, AreOneColour, Share};
+ghost use Rattle.mp_base.specs.Apply.{truth};
 
 use crate::layer_set::LayerSet;
 use crate::palette::Palette;
@@ -99,7 +100,7 @@ impl Kinds {
 
     // The bit that all these sets have in a plane, if it is the same.
     fn shared(self, plane: u32) -> Option<bool>
-        ensures some { IfSome result (λ b. Share self plane (bit b)) }
+        ensures some { IfSome result (λ b. Share self plane (truth b)) }
         ensures none { IfNone result ((b : ℕ) → ¬ Share self plane b) }
     {
         let set = self.bits & plane;

@@ -30,7 +30,8 @@ use Rattle.task_schedule.specs.Schedule.{IsSchedule}
 use Rattle.bit_gates.specs.Size.{active_count, bit_cell_cost, bit_cost, bit_expr_cost, bit_transfer_cost, entry_count}
 use Rattle.path_form.specs.Sizes.{active}
 use Rattle.datapath_alloc.specs.Spending.{clear_cost, crossed, driven_cost, driven_crossings, first_cost, for_task}
-use Rattle.datapath_alloc.specs.Spending.{for_word, is_stored_word, latch_cost, next_cost, next_crossings, spent}
+use Rattle.datapath_alloc.specs.Spending.{for_word, is_stored_word, next_cost, next_crossings, spent}
+use Rattle.bit_gates.specs.Cells.{latch_cost}
 use Rattle.datapath_alloc.specs.Spending.{task_cost, total, writes}
 use Rattle.datapath_alloc.proofs.Totals.{entry_sum, sum_distinct, total_add, total_behind, total_le, total_list}
 

@@ -1,5 +1,5 @@
 -- Marks, and a path of which nothing is made.
-use Rattle.std.proofs.Common.{◌≡◌, ℕ, zero, suc, List, [], ◌∷◌, ◌++◌, Option, Some, None, length, replicate, refl, sym}
+use Rattle.std.proofs.Common.{◌≡◌, ℕ, zero, suc, List, Option, Some, None, length, replicate, refl, sym}
 use Rattle.std.proofs.Common.{◌∙◌, ap, subst, arith}
 use Rattle.path_order.specs.Order.{start}
 use Rattle.std.proofs.lemmas.Bool.{false≢true}
@@ -15,19 +15,16 @@ use Rattle.path_order.specs.declared.order.Mark.{Mark}
 use Rattle.datapath_making.specs.declared.making.Making.{Making}
 use Rattle.datapath_making.proofs.Keeping.{grows_refl}
 use Rattle.datapath_making.specs.Growing.{Grows}
-use Rattle.datapath_making.specs.Marking.{last_from, last_mark}
+use Rattle.datapath_making.specs.Marking.{last_mark}
 use Rattle.datapath_making.specs.Steps.{begun, marked}
 use Rattle.datapath_making.specs.WellMade.{IsWellMade}
+use Rattle.datapath_making.proofs.Beginning.{last_push}
 use Rattle.datapath_alloc.specs.Progress.{IsGiven, IsMadeTo, IsProgress, KeepsMarks}
 use Rattle.datapath_alloc.proofs.Keeping.{Keeps}
 use Rattle.datapath_alloc.proofs.Steps.{begun_kept, cells_kept, exprs_kept}
 use Rattle.datapath_alloc.proofs.TaskSteps.{appends_not}
 
 -- ---- marks
-
-pub last_push : (from : Mark) (marks : List Mark) (k : Mark) → last_from from (marks ++ k ∷ []) ≡ k
-last_push from [] k = refl
-last_push from (m ∷ marks) k = last_push m marks k
 
 pub mark_done : (r : Rtl) (bits : List Part) (names : Names) (i t j c : ℕ) (m : Making)
     → IsProgress r bits names i t j m → IsWellMade (marked c m) → IsProgress r bits names i t j (marked c m)
@@ -87,7 +84,7 @@ marked_done r bits names i t j c m new p e made =
     )
   where
     last : last_mark (marked c m) ≡ (let k : Mark = record { slices = length m.slices.net; control = c } in k)
-    last = last_push start m.marks (record { slices = length m.slices.net; control = c })
+    last = last_push start (record { slices = length m.slices.net; control = c }) m.marks
 
 -- the marks after two steps
 pub keeps_twice : (a b c : Making) → KeepsMarks a b → KeepsMarks b c → KeepsMarks a c

@@ -17,6 +17,7 @@ use Rattle.rtl_form.specs.declared.rtl.CellKind.TheVariants as kinds
 use Rattle.rtl_form.specs.declared.rtl.Rtl.{Rtl}
 use Rattle.mp_base.specs.Entries.{IsAt}
 use Rattle.mp_base.proofs.Entries.{one_entry}
+use Rattle.mp_base.proofs.Tests.{or_false, or_group, or_true, if_at_most_one}
 use Rattle.rtl_form.specs.Environment.{is_driven, is_stored}
 use Rattle.control_nor.specs.declared.names.Names.{Names}
 use Rattle.task_schedule.specs.declared.task.Task.{Task}
@@ -27,7 +28,8 @@ use Rattle.datapath_making.specs.Sizes.{HasRoom, cast_cost}
 use Rattle.datapath_making.specs.Steps.{IsNextMade, IsPortMade, IsSlaveMade, IsStep, IsWaiting}
 use Rattle.datapath_making.proofs.Lists.{set_keeps}
 use Rattle.datapath_alloc.specs.Progress.{AreCellsMade, IsProgress, IsWordOf}
-use Rattle.datapath_alloc.specs.Spending.{clear_cost, first_cost, is_stored_word, latch_cost, next_cost, next_crossings}
+use Rattle.datapath_alloc.specs.Spending.{clear_cost, first_cost, is_stored_word, next_cost, next_crossings}
+use Rattle.bit_gates.specs.Cells.{latch_cost}
 use Rattle.datapath_alloc.specs.Spending.{task_cost, writes}
 use Rattle.datapath_alloc.proofs.Costs.{all_spent, spent_below, stored_word, sum_next}
 use Rattle.datapath_alloc.proofs.Keeping.{Keeps}
@@ -130,15 +132,7 @@ take_any : {X : Type 0} (f : X → Bool) (xs : List X) (j : ℕ) (x : X) → sli
     → list_any f (take (suc j) xs) ≡ (list_any f (take j xs) || f x)
 take_any f [] j x e = absurd (none-some x e)
 take_any f (y ∷ ys) zero x e = or_false (f y) ∙ ap f (same_Some y x e)
-  where
-    or_false : (b : Bool) → (b || false) ≡ b
-    or_false true = refl
-    or_false false = refl
-take_any f (y ∷ ys) (suc j) x e = ap (λ b. f y || b) (take_any f ys j x e) ∙ or_assoc (f y) _ (f x)
-  where
-    or_assoc : (a b c : Bool) → (a || (b || c)) ≡ ((a || b) || c)
-    or_assoc true b c = refl
-    or_assoc false b c = refl
+take_any f (y ∷ ys) (suc j) x e = ap (λ b. f y || b) (take_any f ys j x e) ∙ or_group (f y) _ (f x)
 
 module _ (r : Rtl) (bits : List Part) (names : Names) (old new : Making) (i t j : ℕ)
     (p : IsProgress r bits names i t j old) where
@@ -208,10 +202,6 @@ module _ (r : Rtl) (bits : List Part) (names : Names) (old new : Making) (i t j 
               ∙ (ap (λ c. list_any is_stored_word (take j r.cells) || c)
               (ap (λ b. b && is_stored w.0.kind) w.3 ∙ ap is_stored w.2)
               ∙ or_true (list_any is_stored_word (take j r.cells))))
-            where
-              or_true : (b : Bool) → (b || true) ≡ true
-              or_true true = refl
-              or_true false = refl
 
           cast_one : (o : Option NetId) → cast_cost o ≤ 1
           cast_one None = omega arith
@@ -246,10 +236,6 @@ no_next_done r bits names m i t j x p at none = record {
     any_same : list_any is_stored_word (take (suc j) r.cells) ≡ list_any is_stored_word (take j r.cells)
     any_same = take_any is_stored_word r.cells j x at
         ∙ (ap (λ b. list_any is_stored_word (take j r.cells) || b) none ∙ or_false _)
-      where
-        or_false : (b : Bool) → (b || false) ≡ b
-        or_false true = refl
-        or_false false = refl
 
     clear_same : clear_cost r (suc j) ≡ clear_cost r j
     clear_same = ap (λ b. if b then 1 else 0) any_same
@@ -315,13 +301,9 @@ module _ (r : Rtl) (bits : List Part) (names : Names) (m : Making) where
   room_next i t j c li lj lc p =
       let a = spent_below r p.given.sound names.tasks p.given.lowered.placed.schedule i t (suc j) li (omega arith) in
       let b = all_spent r p.given.sound names.tasks p.given.lowered.placed.schedule in
-      let one = one_at_most (list_any is_stored_word (take j r.cells)) in
+      let one = if_at_most_one (list_any is_stored_word (take j r.cells)) in
       let l = p.given.light in
       record {
         nets = let n = p.spends.nets in omega (arith, n, a, b, one, l, lc);
         inputs = let n = p.spends.inputs in omega (arith, n, a, b, one, l, lc);
       }
-    where
-      one_at_most : (b : Bool) → (if b then 1 else 0) ≤ 1
-      one_at_most true = omega arith
-      one_at_most false = omega arith

@@ -1,5 +1,5 @@
 -- How far a path is made.
-use Rattle.std.specs.Prelude.{◌≡◌, ◌<◌, ◌≤◌, ◌*◌, ℕ, suc, List, [], Some, true, false, Contains, IsSome, MatchBool}
+use Rattle.std.specs.Prelude.{◌≡◌, ◌<◌, ◌≤◌, ◌*◌, ℕ, suc, List, [], Some, true, false, Contains, IsSome, MatchBool, ◌≢◌}
 use Rattle.std.specs.Prelude.{length, slice_get, slice_index_or, take}
 use Rattle.std.specs.List.{list_any}
 use Rattle.mp_base.specs.declared.op.Op.{Op}
@@ -83,7 +83,7 @@ pub record AreCellsMade (r : Rtl) (names : Names) (i t j : ℕ) (m : Making) : T
 -- an operator has its nets: a word, or what is lifted into the control
 pub record IsApplied (names : Names) (m : Making) (e : ℕ) (op : Op) (index : ℕ) (args : List ℕ) : Type 0 where
   pub word : gives_word op ≡ true → (id : NetId) × Stands m.words e id × Placed m.slices m.words op args id
-  pub test : takes_words op ≡ true → gives_word op ≡ false → (op ≡ ops.Bit → ⊥)
+  pub test : takes_words op ≡ true → gives_word op ≡ false → op ≢ ops.Bit
       → (l : Lift) × Contains m.lifts l × Stands names.exprs e l.control × (suc l.slice ≡ m.width)
       × Placed m.slices m.words op args l.from
   pub bit : op ≡ ops.Bit

@@ -1,5 +1,5 @@
 -- Equal expressions share their nets.
-use Rattle.std.specs.Prelude.{◌≡◌, ◌<◌, ℕ, List, Option, true, false, Contains, length, slice_index_or}
+use Rattle.std.specs.Prelude.{◌≡◌, ◌<◌, ℕ, List, Option, true, false, Contains, length, slice_index_or, ◌≢◌}
 use Rattle.mp_base.specs.declared.op.Op.{Op}
 use Rattle.mp_base.specs.declared.op.Op.TheVariants as ops
 use Rattle.nor_net.specs.declared.net.NetId.{NetId}
@@ -29,7 +29,7 @@ pub record SharesNets (r : Rtl) (names : Names) (words : List (Option NetId)) (l
       → gives_word op ≡ true → OnSameNets words args others → Stands words e i → Stands words f j → i ≡ j
   pub tests : (e f : ℕ) (op : Op) (index other : ℕ) (args others : List ℕ)
       → IsAt r.exprs e (Apply op index args) → IsAt r.exprs f (Apply op other others)
-      → takes_words op ≡ true → gives_word op ≡ false → (op ≡ ops.Bit → ⊥) → OnSameNets words args others
+      → takes_words op ≡ true → gives_word op ≡ false → op ≢ ops.Bit → OnSameNets words args others
       → (l : Lift) × (m : Lift) × Contains lifts l × Contains lifts m × Stands names.exprs e l.control
       × Stands names.exprs f m.control × (l.from ≡ m.from)
 

@@ -4,7 +4,6 @@ use Rattle.std.specs.List.{list_any, sum_by}
 use Rattle.std.specs.Option.{option_map_or}
 use Rattle.rtl_form.specs.declared.rtl.Cell as cells
 use Rattle.rtl_form.specs.declared.rtl.CellKind.{CellKind}
-use Rattle.rtl_form.specs.declared.rtl.CellKind.TheVariants.{Input, Stored}
 use Rattle.rtl_form.specs.declared.rtl.RtlExpr.{RtlExpr}
 use Rattle.rtl_form.specs.declared.rtl.Rtl.{Rtl}
 use Rattle.rtl_form.specs.Cost.{expr_cost}
@@ -12,6 +11,7 @@ use Rattle.rtl_form.specs.Environment.{is_driven, is_stored}
 use Rattle.task_schedule.specs.declared.task.Task.{Task}
 use Rattle.task_schedule.specs.declared.task.Task.TheVariants.{Expr, Cell}
 use Rattle.bit_gates.specs.Size.{entry_count}
+use Rattle.bit_gates.specs.Cells.{latch_cost}
 use Rattle.path_values.specs.Allocated.{transfers_to}
 
 -- the sum of f over the numbers below n
@@ -26,12 +26,6 @@ writes r c = length (transfers_to r c)
 -- what f gives for cell c, if that is a word
 abbrev pub for_word : (CellKind → ℕ) → Rtl → ℕ → ℕ
 for_word f r c = option_map_or (λ (x : cells.Cell). if x.word then f x.kind else 0) (slice_get r.cells c) 0
-
--- the latch of an input, or the slave of a stored word
-abbrev pub latch_cost : CellKind → ℕ
-latch_cost (Input k) = 2
-latch_cost Stored = 2
-latch_cost kind = 0
 
 abbrev pub first_cost : Rtl → ℕ → ℕ
 first_cost r c = for_word latch_cost r c

@@ -10,6 +10,7 @@ use Rattle.nor_net.specs.declared.net.NetId.{NetId}
 use Rattle.nor_net.specs.declared.net.Part.{Part}
 use Rattle.nor_net.specs.declared.net.Part.TheVariants.{Input, Gate, Latch}
 use Rattle.nor_net.specs.Shape.{Fed}
+use Rattle.nor_net.proofs.Parts.{same_net}
 use Rattle.organelles.specs.Tables.{net_at}
 use Rattle.mp_base.specs.Entries.{IsAt}
 use Rattle.rtl_form.specs.Sound.{CellFits, IsSound}
@@ -21,7 +22,7 @@ use Rattle.task_schedule.specs.declared.task.Task.TheVariants as tasks
 use Rattle.control_nor.specs.Lowering.{IsEntry, IsEntered, Stands, nets_before}
 use Rattle.path_form.specs.declared.path.Lift.{Lift}
 use Rattle.path_form.specs.Shape.{AreInputs, control_ends, entries_of, is_fed, is_input, slice_ends, takes_pad, times}
-use Rattle.path_form.proofs.Joining.{times_append}
+use Rattle.path_form.proofs.Joining.{times_append, is_one_input}
 use Rattle.datapath_making.specs.declared.making.Making.{Making}
 use Rattle.datapath_finish.specs.Finishing.{AreInputNets, AreOutputNets, IsComplete}
 use Rattle.datapath_making.specs.WellMade.{present}
@@ -31,13 +32,7 @@ use Rattle.datapath_making.proofs.Entering.{ends_count}
 use Rattle.datapath_making.proofs.Lists.{one_else, one_here, one_stands, times_entry}
 
 pub input_some : (net : List Part) (n : ℕ) → is_input (slice_get net n) ≡ true → slice_get net n ≡ Some Input
-input_some net n e = by_part (slice_get net n) e
-  where
-    by_part : (o : Option Part) → is_input o ≡ true → o ≡ Some Input
-    by_part None e = absurd (false≢true e)
-    by_part (Some Input) e = refl
-    by_part (Some (Gate inputs)) e = absurd (false≢true e)
-    by_part (Some (Latch phase source)) e = absurd (false≢true e)
+input_some net n e = is_one_input (slice_get net n) e
 
 pub fed_test : (q : Part) → Fed q → is_fed q ≡ true
 fed_test Input h = refl
@@ -65,8 +60,8 @@ times_lifted n (x ∷ lifts) k =
     by_head (inl e) again = (x, (0, omega arith, refl), e)
     by_head (inr ne) again =
         let o = one_else n x.control ne in
-        let r = again (omega (arith, k, o)) in
-        (r.0, (suc r.1.0, (let l = r.1.1 in omega (arith, l)), r.1.2), r.2)
+        let (lift, (at, within, here), is) = again (omega (arith, k, o)) in
+        (lift, (suc at, omega (arith, within), here), is)
 
 module _ (r : Rtl) (m : Making) (sound : IsSound r) (h : IsComplete r m) (inputs outputs : List NetId)
     (ins : AreInputNets r m (length (r.pads).inputs) inputs) (outs : AreOutputNets r m (length r.cells) outputs)
@@ -91,11 +86,10 @@ module _ (r : Rtl) (m : Making) (sound : IsSound r) (h : IsComplete r m) (inputs
     output_cell : (k : ℕ) (pad : Pad) → slice_get out_pads k ≡ Some pad
         → (c : ℕ) × (x : cells.Cell) × IsAt r.cells c x × (x.kind ≡ kinds.Output k) × (x.word ≡ is_word pad)
     output_cell k pad a =
-        let only = sound.output_cells k (slice_get_within out_pads k pad a) in
-        let x = only.1.0 in
-        let fits = subst (CellFits r x) only.1.2 (sound.cells only.0 x only.1.1) in
+        let (c, (x, at, kind), _) = sound.output_cells k (slice_get_within out_pads k pad a) in
+        let fits = subst (CellFits r x) kind (sound.cells c x at) in
         let same = one_entry out_pads k fits.0 pad fits.1 a in
-        (only.0, x, only.1.1, only.1.2, fits.2 ∙ ap is_word same)
+        (c, x, at, kind, fits.2 ∙ ap is_word same)
 
     pub word_out : (k : ℕ) (pad : Pad) (id : NetId) → slice_get out_pads k ≡ Some pad → slice_get outputs k ≡ Some id
         → is_word pad ≡ true → (c : ℕ) × (x : cells.Cell) × IsAt r.cells c x × (x.kind ≡ kinds.Output k)
@@ -206,9 +200,6 @@ module _ (r : Rtl) (m : Making) (sound : IsSound r) (h : IsComplete r m) (inputs
         (λ j k p q x y a b c d e f g i.
         h.lowered.inputs.pads_apart j k x (bit_in j p x a c e)
         (subst (λ (id : NetId). Stands m.names.inputs k id) (same_net y x (i ∙ sym g)) (bit_in k q y b d f)))
-      where
-        same_net : (x y : NetId) → x.0 ≡ y.0 → x ≡ y
-        same_net x y e = ap net_at e
 
     bit_times : (k : ℕ) (id : NetId) → Stands m.names.inputs k id → 1 ≤ times id.0 bits
     bit_times k id s =

@@ -1,5 +1,5 @@
 -- When a path in the making is a path, and which.
-use Rattle.std.specs.Prelude.{◌≡◌, ◌≢◌, ◌≤◌, ◌<◌, ◌+◌, ℕ, List, [], Some, true, false, Contains, length, slice_get}
+use Rattle.std.specs.Prelude.{◌≡◌, ◌≢◌, ◌≤◌, ◌<◌, ◌+◌, ℕ, List, [], Some, true, false, Contains, length, slice_get, ◌*◌}
 use Rattle.std.specs.Prelude.{slice_set}
 use Rattle.nor_net.specs.declared.net.NetId.{NetId}
 use Rattle.nor_net.specs.Shape.{IsNet, gate_inputs}
@@ -10,6 +10,7 @@ use Rattle.rtl_form.specs.declared.rtl.CellKind.TheVariants.{Output}
 use Rattle.rtl_form.specs.declared.rtl.RtlExpr.{RtlExpr}
 use Rattle.rtl_form.specs.declared.rtl.Rtl.{Rtl}
 use Rattle.mp_base.specs.Entries.{IsAt}
+use Rattle.mp_base.specs.declared.limits.TheConstants.{WEIGHT_LIMIT}
 use Rattle.control_nor.specs.Lowering.{IsEntry, IsLowered, Stands}
 use Rattle.path_form.specs.declared.path.Lift.{Lift}
 use Rattle.path_form.specs.declared.path.DataPath.{DataPath}
@@ -34,13 +35,13 @@ pub record IsComplete (r : Rtl) (m : Making) : Type 0 where
   pub pad_count : length m.pads ≡ length (r.pads).inputs
   pub bit_pads : (k : ℕ) (pad : Pad) (id : NetId) → IsAt (r.pads).inputs k pad → Stands m.pads k id
       → pad.width ≢ 0
-  pub fed : (n : ℕ) → IsUnfed m.slices.net n → ⊥
+  pub fed : (n : ℕ) → ¬ IsUnfed m.slices.net n
   pub entries : (e : ℕ) (x : RtlExpr) (id : NetId) → IsAt r.exprs e x → IsEntry x → Stands m.names.exprs e id
       → (l : Lift) × Contains m.lifts l × (l.control ≡ id)
   pub lifted : (l : Lift) → Contains m.lifts l
       → (e : ℕ) × (x : RtlExpr) × IsAt r.exprs e x × IsEntry x × Stands m.names.exprs e l.control
-  pub nets : length m.slices.net + length m.slices.chains + length m.slices.programs ≤ 2048
-  pub inputs : gate_inputs m.slices.net + length m.slices.chains + length m.slices.programs ≤ 4096
+  pub nets : length m.slices.net + length m.slices.chains + length m.slices.programs ≤ 2 * WEIGHT_LIMIT
+  pub inputs : gate_inputs m.slices.net + length m.slices.chains + length m.slices.programs ≤ 4 * WEIGHT_LIMIT
 
 -- the path that was made, with the nets of the pads
 pub record IsFinished (r : Rtl) (m : Making) (p : DataPath) : Type 0 where

@@ -1,5 +1,6 @@
 -- What the slices have of operators and numbers, and what of it is noted.
 use Rattle.std.specs.Prelude.{◌≡◌, ◌<◌, ◌-◌, ◌==◌, ◌&&◌, ◌++◌, ◌∷◌, [], ℕ, suc, List, Option, Some, Bool, true, false}
+use Rattle.std.specs.Prelude.{◌≢◌}
 use Rattle.std.specs.Prelude.{Contains, length, nat_eq, slice_index_or, slice_set}
 use Rattle.std.specs.HashMap.{get}
 use Rattle.mp_base.specs.declared.op.Op.{Op}
@@ -116,7 +117,7 @@ IsNoted b words op args id =
 pub record IsOperatorNoted (names : Names) (b : Built) (words : List (Option NetId)) (lifts : List Lift) (e : ℕ)
     (op : Op) (args : List ℕ) : Type 0 where
   pub word : gives_word op ≡ true → (id : NetId) × Stands words e id × IsNoted b words op args id
-  pub test : takes_words op ≡ true → gives_word op ≡ false → (op ≡ ops.Bit → ⊥)
+  pub test : takes_words op ≡ true → gives_word op ≡ false → op ≢ ops.Bit
       → (l : Lift) × Contains lifts l × Stands names.exprs e l.control × IsNoted b words op args l.from
 
 abbrev pub IsExprNoted : Names → Built → List (Option NetId) → List Lift → ℕ → RtlExpr → Type 0

@@ -7,6 +7,7 @@ use Rattle.std.proofs.lemmas.Bool.{cases_Bool}
 use Rattle.std.proofs.lemmas.List.Elements.{All-cons, All-nil, All-head, All-tail}
 use Rattle.mp_base.specs.declared.value.Trit.{Trit}
 use Rattle.mp_base.specs.declared.value.Trit.TheVariants.{Zero, One, X}
+use Rattle.mp_base.proofs.Tests.{false_true}
 use Rattle.nor_net.specs.declared.net.Phase.{Phase}
 use Rattle.nor_net.specs.declared.net.Phase.TheVariants.{A, B, C}
 use Rattle.nor_net.specs.Elements.{Spot, Given, Nor, Latched, Joined, Low}
@@ -49,9 +50,6 @@ module _ (u : Spot → Trit) where
         (all_from ins (sym (ap (λ t. t && list_all is_zero (map u ins)) q) ∙ e))
     | inr q ↦ absurd (false_true (sym (ap (λ t. t && list_all is_zero (map u ins)) q) ∙ e))
   ]
-    where
-      false_true : false ≡ true → ⊥
-      false_true e = cc e
 
   pub all_to : (ins : List Spot) → All (λ i. u i ≡ Zero) ins → list_all is_zero (map u ins) ≡ true
   all_to [] h = refl

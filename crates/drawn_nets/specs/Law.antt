@@ -1,5 +1,5 @@
 -- The law of drawing: in a drawing of nets, joined ones too, the values of nodes solve the equations of the nets.
-use Rattle.std.specs.Prelude.{◌≡◌, ◌<◌, ℕ, List, Option, Some, None, ◌⊎◌, All}
+use Rattle.std.specs.Prelude.{◌≡◌, ◌<◌, ℕ, List, Option, Some, None, ◌⊎◌, All, ◌≢◌}
 use Rattle.mp_base.specs.declared.value.Trit.{Trit}
 use Rattle.mp_base.specs.declared.value.Trit.TheVariants.{Zero, One, X}
 use Rattle.switch_net.specs.Settled.{Setting, IsSolution, IsSettled}
@@ -26,7 +26,7 @@ pub record IsDriven (s : NetSetting) (node : Point → ℕ) (driver : ℕ → Op
   pub ground : driver (node Ground) ≡ Some Zero
   pub power : driver (node Power) ≡ Some One
   pub phase_on : (p : Phase) → s.phase ≡ Some p → driver (node (OfPhase p)) ≡ Some One
-  pub phase_off : (p : Phase) → (s.phase ≡ Some p → ⊥) → driver (node (OfPhase p)) ≡ Some Zero
+  pub phase_off : (p : Phase) → s.phase ≢ Some p → driver (node (OfPhase p)) ≡ Some Zero
   pub input : (k : Spot) → IsKind s.nets k Given → driver (node (OfNet k)) ≡ Some (s.given k)
   pub gate : (k : Spot) (ins : List Spot) → IsKind s.nets k (Nor ins) → driver (node (OfNet k)) ≡ None
   pub latch : (k : Spot) (p : Phase) (d : Spot) → IsKind s.nets k (Latched p d) → driver (node (OfNet k)) ≡ None

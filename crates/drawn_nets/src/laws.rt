@@ -3,7 +3,7 @@
 ghost use Rattle.drawn_nets.specs.Circuits.{CircuitsAreDrawn};
 ghost use Rattle.drawn_nets.specs.Law.{SettledValuesAreDrawn, SolutionsAreDrawn};
 
-use switch_net::nodes_are_given;
+use switch_net::laws::nodes_are_given;
 
 /// In a drawing, joined nets included, what solves the equations of the network solves those of the nets.
 pub fn solutions_are_drawn()

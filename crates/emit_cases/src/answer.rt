@@ -4,7 +4,8 @@ ghost use Rattle.cif_emit.specs.Emittable.{IsEmittable, chip_rects};
 
 use crate::pieces::{show_fault, show_pieces};
 use cif_emit::emit;
-use cif_flat::{Flat, flatten, read_is_well_formed};
+use cif_flat::laws::read_is_well_formed;
+use cif_flat::{Flat, flatten};
 use cif_reader::read_cif;
 use cif_writer::write_file;
 use fabric::Chip;

@@ -1,6 +1,7 @@
 //! What becomes of a text, in words.
 
-use cif_flat::{flatten, read_is_well_formed};
+use cif_flat::flatten;
+use cif_flat::laws::read_is_well_formed;
 use cif_reader::read_cif;
 use extractor::extract;
 use mp_base::{Refusal, Spot};

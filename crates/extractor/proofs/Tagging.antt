@@ -20,7 +20,7 @@ use Rattle.lam_geom.specs.declared.label.FlatLabel.{FlatLabel}
 use Rattle.switch_net.specs.declared.network.Tag.{Tag}
 use Rattle.switch_net.specs.OneNode.{OneNodeEach}
 use Rattle.extractor.specs.Tagging.{AreSeen, AreTagged, IsTagged, IsElsewhere, IsTwice, RefusesFirst, RefusesLabel}
-use Rattle.extractor.specs.Tagging.{found}
+use Rattle.switch_net.specs.Names.{number_of}
 
 -- a look-up after one entry is set
 at_update : (find : List ℕ → Option ℕ) (name q : List ℕ) (w o : Option ℕ) → o ≡ update bytes_eq find name w q
@@ -34,11 +34,11 @@ at_update find name q w o e = at (bytes_eq name q) refl e
 at_set : (find : List ℕ → Option ℕ) (name q : List ℕ) (w : Option ℕ) → name ≡ q → update bytes_eq find name w q ≡ w
 at_set find name q w e = ap (λ b. cond b w (find q)) ((bytes_eq-Decides name q).1 e)
 
-pub seen_none : (m : BTreeMap (Bor (List ℕ)) ℕ) → m.entries ≡ [] → AreSeen (found m) []
+pub seen_none : (m : BTreeMap (Bor (List ℕ)) ℕ) → m.entries ≡ [] → AreSeen (number_of m) []
 seen_none m e = record {
   here = λ tag c. absurd (nothing_in tag c);
   from = λ name node f.
-      let none : found m name ≡ None = ap (lookup (is_at (λ (k : Bor (List ℕ)). slice_cmp nat_cmp name k.now))) e in
+      let none : number_of m name ≡ None = ap (lookup (is_at (λ (k : Bor (List ℕ)). slice_cmp nat_cmp name k.now))) e in
       absurd (cc);
 }
 

@@ -1,9 +1,5 @@
 -- Labels on the nodes that they name.
 use Rattle.std.specs.Prelude.{◌≡◌, ◌≢◌, ◌⊎◌, ℕ, ◌<◌, List, length, get_or, Option, Some, None, Contains, slice_get}
-use Rattle.std.specs.BTreeMap.{BTreeMap, get_by}
-use Rattle.std.specs.Borrow.{Bor}
-use Rattle.std.specs.Cmp.Lexicographic.{slice_cmp}
-use Rattle.std.specs.Ordering.{nat_cmp}
 use Rattle.mp_base.specs.declared.refusal.Spot.TheVariants.{Offset}
 use Rattle.mp_base.specs.declared.refusal.Broken.{Broken}
 use Rattle.mp_base.specs.declared.refusal.Refusal.{Refusal}
@@ -12,10 +8,6 @@ use Rattle.lam_geom.specs.declared.label.FlatLabel.{FlatLabel}
 use Rattle.switch_net.specs.declared.network.Tag.{Tag}
 use Rattle.switch_net.specs.Breaks.{broken}
 use Rattle.switch_net.specs.OneNode.{OneNodeEach}
-
--- the node of a name in a map
-abbrev pub found : BTreeMap (Bor (List ℕ)) ℕ → List ℕ → Option ℕ
-found seen name = get_by (λ k. slice_cmp nat_cmp name k.now) seen
 
 -- the tag of a label on this node, where its name is known on no other
 pub record IsTagged (known : Option ℕ) (label : FlatLabel) (node : Option ℕ) (tag : Tag) : Type 0 where

@@ -14,7 +14,8 @@ use lam_geom::{FlatLabel, Point, Rect};
 use mask_nodes::{Drawing, draw};
 use mp_base::{Broken, Family, List, NoMemory, Refusal, Rule, Spot};
 use std::alloc::Global;
-use switch_net::{MOST_NODES_AND_CHANNELS, Network, network_is_determined};
+use switch_net::laws::network_is_determined;
+use switch_net::{MOST_NODES_AND_CHANNELS, Network};
 
 // The places of labels.
 fn places_of(alloc: Global, labels: &[FlatLabel]) -> Result<List<Point>, NoMemory>

@@ -5,7 +5,8 @@ ghost use Rattle.std.specs.Map.{update};
 ghost use Rattle.std.specs.Str.{bytes_eq};
 ghost use Rattle.mp_base.specs.declared.refusal.Spot.TheVariants.{Offset};
 ghost use Rattle.switch_net.specs.Breaks.{broken};
-ghost use Rattle.extractor.specs.Tagging.{AreTagged, IsTagged, RefusesFirst, RefusesLabel, found};
+ghost use Rattle.extractor.specs.Tagging.{AreTagged, IsTagged, RefusesFirst, RefusesLabel};
+ghost use Rattle.switch_net.specs.Names.{number_of};
 
 use lam_geom::FlatLabel;
 use mp_base::{Broken, Family, List, Name, Refusal, Rule, Spot};
@@ -27,15 +28,16 @@ pub(crate) fn refused(number: u16, offset: u64) -> Broken
 }
 
 // The node of a name.
-fn found(seen: &BTreeMap<&[u8], u32>, name: &[u8]) -> Option<u32>
-    ensures { result ≡ found seen.now name.now }
+fn number_of(seen: &BTreeMap<&[u8], u32>, name: &[u8]) -> Option<u32>
+    ensures { result ≡ number_of seen.now name.now }
 {
     seen.get(name).copied()
 }
 
 // Sets the node of a name.
 fn note<'a>(seen: &mut BTreeMap<&'a [u8], u32>, name: &'a [u8], node: u32) -> Result<(), AllocError>
-    ensures { OnOk result ((q : List ℕ) → found seen.new q ≡ update bytes_eq (found seen.old) name.now (Some node) q) }
+    ensures { OnOk result ((q : List ℕ)
+        → number_of seen.new q ≡ update bytes_eq (number_of seen.old) name.now (Some node) q) }
 {
     seen.insert(name, node)?;
     Ok(())
@@ -48,16 +50,16 @@ fn tag_of<'a>(
     label: &'a FlatLabel,
     node: Option<u32>,
 ) -> Result<Tag, Refusal>
-    ensures tag { IfOk result (IsTagged (found seen.old label.now.name) label.now node) }
+    ensures tag { IfOk result (IsTagged (number_of seen.old label.now.name) label.now node) }
     ensures seen { OnOk result ((k : ℕ) → node ≡ Some k → (q : List ℕ)
-        → found seen.new q ≡ update bytes_eq (found seen.old) label.now.name (Some k) q) }
-    ensures refused { IfErr result (RefusesLabel (found seen.old label.now.name) label.now node) }
+        → number_of seen.new q ≡ update bytes_eq (number_of seen.old) label.now.name (Some k) q) }
+    ensures refused { IfErr result (RefusesLabel (number_of seen.old label.now.name) label.now node) }
 {
     let Some(node) = node else {
         return Err(Refusal::Broken(refused(2, label.offset)));
     };
     let name = label.name.bytes();
-    if let Some(first) = found(seen, name) {
+    if let Some(first) = number_of(seen, name) {
         if first != node {
             return Err(Refusal::Broken(refused(1, label.offset)));
         }

@@ -80,7 +80,8 @@ module _ (f : Plan) (w : IsFabric f) where
   lies TapR b r c h = let l = passing h.0.line R b c h.0.among h.0.passes in
       record { band = l.band; row = row_or_ground b r c l.band h.1; column = l.right }
   lies Tran b r c h = let s = crossing b r c h.2 in record { band = s.band; row = s.row; column = s.right }
-  lies PullUp b r c h = let l = passing h.1.0 L b c h.1.1 h.1.2 in record { band = l.band; row = h.0; column = l.right }
+  lies PullUp b r c (row, (line, among, passes, _)) =
+      let l = passing line L b c among passes in record { band = l.band; row = row; column = l.right }
   lies Under b r c (e, h, inl k) = let i = w.columns in record { band = h; row = inr k; column = omega arith }
   lies Under b r c (e, h, inr (s, m, p, q, n)) =
       let i = segment_lies s m in

@@ -1,10 +1,11 @@
 -- How much a fabric may hold.
 use Rattle.std.specs.Prelude.{ℕ, ◌<◌, length, sum}
+use Rattle.fabric.specs.declared.limits.TheConstants.{LIMIT}
 use Rattle.fabric.specs.Plan.{Plan, IsFabric}
 
 -- a fabric holds fewer than this of each
 abbrev pub limit : ℕ
-limit = 16_777_216
+limit = LIMIT
 
 pub record IsRoomy (f : Plan) : Type 0 where
   pub columns_fit : f.columns < limit

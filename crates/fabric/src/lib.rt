@@ -4,6 +4,7 @@
 mod chip;
 mod drawing;
 mod fabric;
+mod limits;
 mod numbers;
 mod places;
 mod switches;
@@ -11,4 +12,5 @@ mod thing;
 
 pub use chip::{Chip, ChipLabel};
 pub use fabric::Fabric;
+pub use limits::LIMIT;
 pub use thing::{Line, Mark, Segment, Side};

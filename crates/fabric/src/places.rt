@@ -9,11 +9,10 @@ ghost use Rattle.fabric.specs.Places.{AreEntries, ArePlaces, IsInOrder, HasUpTo,
 
 use crate::drawing::bases;
 use crate::fabric::Fabric;
+use crate::limits::LIMIT;
 use crate::thing::{Line, Segment, Side};
 use mp_base::{List, NoMemory};
 use std::alloc::Global;
-
-const LIMIT: u64 = 16_777_216;
 
 // The number of a segment or a line in its list, and the key of the place where it begins.
 #[derive(Clone, Copy)]
@@ -53,7 +52,7 @@ pub(crate) fn row_key(plan: &Fabric, bases: &[u32], band: u32, row: u32, column:
     ensures { result ≡ key_in_row plan.now band row column }
 {
     let height = bases[band as usize] + 12 * row;
-    u64::from(height) * LIMIT + u64::from(column)
+    u64::from(height) * LIMIT as u64 + u64::from(column)
 }
 
 // The key of a place on one side of a column.
@@ -64,7 +63,7 @@ pub(crate) fn column_key(side: Side, column: u32, band: u32) -> u64
         Side::L => 0,
         Side::R => 1,
     };
-    (2 * u64::from(column) + side) * LIMIT + u64::from(band)
+    (2 * u64::from(column) + side) * LIMIT as u64 + u64::from(band)
 }
 
 fn segment_entries(

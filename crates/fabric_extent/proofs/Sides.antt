@@ -7,7 +7,7 @@ use Rattle.std.specs.List.{range_with_len}
 use Rattle.std.proofs.lemmas.Int.{ints}
 use Rattle.std.proofs.lemmas.Bool.{cases_order}
 use Rattle.std.proofs.lemmas.List.Elements.{All-contains}
-use Rattle.mp_base.proofs.Members.{Member, member_contains, member_map, range_members}
+use Rattle.mp_base.proofs.Members.{Member, member_contains, member_map, range_members, member_append, member_flat}
 use Rattle.lam_geom.specs.Extent.{Edges, HoldAll, IsAtMost}
 use Rattle.lam_geom.specs.declared.layer.Layer.{Layer}
 use Rattle.lam_geom.specs.declared.rect.Rect.{Rect}
@@ -21,7 +21,6 @@ use Rattle.fabric.specs.declared.thing.Line.{Line}
 use Rattle.fabric.specs.Plan.{Plan, bands, rows_of, IsFabric, IsSegment, IsLine, IsMark, Stands, LineAt, SegmentAt}
 use Rattle.fabric.specs.Shape.{base, shape, last_column, lambdas, ground_trunk, power_trunk, ground_row, power_rail}
 use Rattle.fabric.specs.Shape.{segment_rect, line_rect, mark_rects, placed, tile_rects, offset}
-use Rattle.array_form.proofs.Members.{member_append, member_flat}
 use Rattle.fabric_extent.specs.Bounds.{FabricsAreBetween, HasNoUnder, IsSmall, SmallFabrics}
 
 -- what stands between edges has an extent of at most their distances
@@ -235,9 +234,9 @@ module _ (f : Plan) (lawful : IsFabric f) (bare : HasNoUnder f) where
         ),
       ) q m
   tile_good PullUp b r c s u q m =
-      let l = s.1.0 in
-      let i = All-contains (IsLine f) f.lines l lawful.lines s.1.1 in
-      let p = s.1.2.column in let e = s.1.3 in let a = i.column in let d = i.right in let g = i.last in let z = s.0 in
+      let (z, (l, among, stands, e)) = s in
+      let i = All-contains (IsLine f) f.lines l lawful.lines among in
+      let p = stands.column in let a = i.column in let d = i.right in let g = i.last in
       let h : b < bands f = omega arith in
       let t = band_top b h in
       cells_good c b r 36 (omega arith) (omega arith) (omega arith) (cells PullUp) (

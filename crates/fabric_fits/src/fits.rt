@@ -6,10 +6,8 @@ ghost use Rattle.fabric.specs.Plan.{bands, rows_of, IsSegment, IsLine, IsMark, S
 ghost use Rattle.fabric.specs.Plan.{SegmentAt, LineAt, EndsAt, BeginsAt};
 ghost use Rattle.fabric.specs.Room.{limit};
 
-use fabric::{Fabric, Line, Mark, Segment, Side};
+use fabric::{Fabric, LIMIT, Line, Mark, Segment, Side};
 use tile_cells::Tile;
-
-const LIMIT: usize = 16_777_216;
 
 // Whether the rows of all bands together are few enough.
 fn are_few(rows: &[u32]) -> bool

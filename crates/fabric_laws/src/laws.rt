@@ -3,7 +3,7 @@
 ghost use Rattle.fabric_laws.specs.Theorem.{FabricDrawsSwitches, FabricIsSwitches, FabricsAreSmall, LabelsName};
 ghost use Rattle.fabric_laws.specs.Sized.{FabricsAreSized};
 
-use lam_geom::rectangles_are_joined;
+use lam_geom::laws::rectangles_are_joined;
 
 /// The squares of a fabric draw the network of its switches, up to the numbering of nodes and channels, and a label on
 /// a net is on the node of that net.

@@ -8,6 +8,7 @@ use Rattle.std.proofs.lemmas.Bool.{cases_lt, cases_Bool, and_parts, or_parts, bo
 use Rattle.std.proofs.lemmas.List.{append-nil, take_more, take_rest}
 use Rattle.std.proofs.lemmas.List.Folds.{list_all-append}
 use Rattle.mp_base.specs.Token.{is_digit, is_token}
+use Rattle.mp_base.proofs.Tests.{or_true}
 use Rattle.form_reader.specs.Text.{is_blank, is_mark, comment_step, comment_after, fills_gap, is_gap, IsGapBetween}
 use Rattle.form_reader.specs.Text.{EndsInGap, IsRun, IsByte}
 use Rattle.form_reader.specs.Rules.{IsOutside, IsOpenUpTo, depth_step, depth_after, depth_at, E1, E2, E4, Breaks}
@@ -117,9 +118,9 @@ covered text i n tail within out gap = record {
 
 -- a byte that may stand in a gap breaks no rule but E2
 harmless : (text : List ℕ) (k o : ℕ) → fills_gap false (slice_index text o) ≡ true → Breaks text k o → k ≡ 2
-harmless text k o h (inl e1) =
+harmless text k o h (inl (_, (_, unknown))) =
     absurd (silent (slice_index text o == 59) (is_blank (slice_index text o)) (slice_index text o == 40)
-    (slice_index text o == 41) (is_token (slice_index text o)) h e1.1.1)
+    (slice_index text o == 41) (is_token (slice_index text o)) h unknown)
   where
     silent : (a b c d t : Bool) → (a || b) ≡ true → ((b || ((c || d) || a)) || t) ≡ false → ⊥
     silent true true c d t h k = cc
@@ -129,21 +130,21 @@ harmless text k o h (inl e1) =
     silent false true c d t h k = cc
     silent false false c d t h k = cc
 harmless text k o h (inr (inl e2)) = e2.0
-harmless text k o h (inr (inr (inl e3))) =
-    absurd (both_ways (fills_gap false (slice_index text o)) (ap (fills_gap false) e3.1.1) h)
-harmless text k o h (inr (inr (inr (inl e4)))) =
+harmless text k o h (inr (inr (inl (_, (_, closing, _))))) =
+    absurd (both_ways (fills_gap false (slice_index text o)) (ap (fills_gap false) closing) h)
+harmless text k o h (inr (inr (inr (inl (_, (end, (_, run, _, _), _)))))) =
     absurd (both_ways (fills_gap false (slice_index text o))
-    (token_begins (slice_index text o) (run_first text o e4.1.0 e4.1.1.1)) h)
-harmless text k o h (inr (inr (inr (inr e5)))) =
-    absurd (both_ways (fills_gap false (slice_index text o)) (ap (fills_gap false) e5.1.1) h)
+    (token_begins (slice_index text o) (run_first text o end run)) h)
+harmless text k o h (inr (inr (inr (inr (_, (_, opening, _)))))) =
+    absurd (both_ways (fills_gap false (slice_index text o)) (ap (fills_gap false) opening) h)
 
 -- every rule is broken outside comments
 outside_of : (text : List ℕ) (k o : ℕ) → Breaks text k o → IsOutside text o
-outside_of text k o (inl e1) = e1.1.0
-outside_of text k o (inr (inl e2)) = e2.1.0
-outside_of text k o (inr (inr (inl e3))) = e3.1.0
-outside_of text k o (inr (inr (inr (inl e4)))) = e4.1.1.0
-outside_of text k o (inr (inr (inr (inr e5)))) = e5.1.0
+outside_of text k o (inl (_, (outside, _))) = outside
+outside_of text k o (inr (inl (_, (outside, _, _, _)))) = outside
+outside_of text k o (inr (inr (inl (_, (outside, _, _))))) = outside
+outside_of text k o (inr (inr (inr (inl (_, (_, (outside, _, _, _), _)))))) = outside
+outside_of text k o (inr (inr (inr (inr (_, (outside, _, _)))))) = outside
 
 covered_fine : (text : List ℕ) (i n k o : ℕ) → Covered text i n → i ≤ o → o < n → Breaks text k o → k ≡ 2
 covered_fine text i n k o cover le lt breaks =
@@ -208,17 +209,19 @@ known_byte text o c is known e1 =
 open_fine : (text : List ℕ) (k o : ℕ) → slice_index text o ≡ 40 → depth_at text o < 64 → Breaks text k o → k ≡ 2
 open_fine text k o is shallow (inl e1) = absurd (known_byte text o 40 is refl e1.1)
 open_fine text k o is shallow (inr (inl e2)) = e2.0
-open_fine text k o is shallow (inr (inr (inl e3))) = absurd (omega (arith, e3.1.1, is))
-open_fine text k o is shallow (inr (inr (inr (inl e4)))) = absurd (mark_no_run text o e4.1.0 40 is refl e4.1.1.1)
-open_fine text k o is shallow (inr (inr (inr (inr e5)))) = absurd (omega (arith, e5.1.2, shallow))
+open_fine text k o is shallow (inr (inr (inl (_, (_, closing, _))))) = absurd (omega (arith, closing, is))
+open_fine text k o is shallow (inr (inr (inr (inl (_, (end, (_, run, _, _), _)))))) =
+    absurd (mark_no_run text o end 40 is refl run)
+open_fine text k o is shallow (inr (inr (inr (inr (_, (_, _, deep)))))) = absurd (omega (arith, deep, shallow))
 
 -- nor does a closing one in a list
 close_fine : (text : List ℕ) (k o : ℕ) → slice_index text o ≡ 41 → 0 < depth_at text o → Breaks text k o → k ≡ 2
 close_fine text k o is deep (inl e1) = absurd (known_byte text o 41 is refl e1.1)
 close_fine text k o is deep (inr (inl e2)) = e2.0
-close_fine text k o is deep (inr (inr (inl e3))) = absurd (omega (arith, e3.1.2, deep))
-close_fine text k o is deep (inr (inr (inr (inl e4)))) = absurd (mark_no_run text o e4.1.0 41 is refl e4.1.1.1)
-close_fine text k o is deep (inr (inr (inr (inr e5)))) = absurd (omega (arith, e5.1.1, is))
+close_fine text k o is deep (inr (inr (inl (_, (_, _, top))))) = absurd (omega (arith, top, deep))
+close_fine text k o is deep (inr (inr (inr (inl (_, (end, (_, run, _, _), _)))))) =
+    absurd (mark_no_run text o end 41 is refl run)
+close_fine text k o is deep (inr (inr (inr (inr (_, (_, opening, _)))))) = absurd (omega (arith, opening, is))
 
 up_to : (text : List ℕ) (s : ℕ) → ((k o : ℕ) → o < s → Breaks text k o → k ≡ 2) → ((k : ℕ) → Breaks text k s → k ≡ 2)
     → (k o : ℕ) → o < s + 1 → Breaks text k o → k ≡ 2
@@ -318,40 +321,37 @@ tokens_stay d (x ∷ xs) h =
 run_fine : (text : List ℕ) (s e k o : ℕ) → IsRun text s e
     → (list_all is_digit (slice_range text s e) ≡ true → digits_value 10 (slice_range text s e) < 2 ^ 64)
     → s ≤ o → o < e → Breaks text k o → k ≡ 2
-run_fine text s e k o run small le lt (inl e1) =
+run_fine text s e k o run small le lt (inl (_, (_, unknown))) =
     absurd (known (is_blank (slice_index text o)) (is_mark (slice_index text o)) (is_token (slice_index text o))
-    (run_byte text s e o run le lt) e1.1.1)
+    (run_byte text s e o run le lt) unknown)
   where
     known : (a b t : Bool) → t ≡ true → ((a || b) || t) ≡ false → ⊥
-    known a b true h k = both_ways ((a || b) || true) k (orred (a || b))
-      where
-        orred : (z : Bool) → (z || true) ≡ true
-        orred true = refl
-        orred false = refl
+    known a b true h k = both_ways ((a || b) || true) k (or_true (a || b))
     known a b false h k = cc
 run_fine text s e k o run small le lt (inr (inl e2)) = e2.0
-run_fine text s e k o run small le lt (inr (inr (inl e3))) =
-    absurd (both_ways (is_token (slice_index text o)) (ap is_token e3.1.1) (run_byte text s e o run le lt))
-run_fine text s e k o run small le lt (inr (inr (inr (inl e4)))) =
+run_fine text s e k o run small le lt (inr (inr (inl (_, (_, closing, _))))) =
+    absurd (both_ways (is_token (slice_index text o)) (ap is_token closing) (run_byte text s e o run le lt))
+run_fine text s e k o run small le lt (inr (inr (inr (inl (_, number))))) =
     elim (cases_lt s o) [
       | inl later ↦
-          absurd (both_ways (is_token (slice_index text (o - 1))) (e4.1.1.3 (omega (arith, later)))
+          let (_, (_, _, _, fresh), _) = number in
+          absurd (both_ways (is_token (slice_index text (o - 1))) (fresh (omega (arith, later)))
           (run_byte text s e (o - 1) run (omega (arith, later)) (omega (arith, lt))))
       | inr here ↦
           let same : o ≡ s = omega (arith, here, le) in
-          absurd (big (subst (E4 text) same e4.1))
+          absurd (big (subst (E4 text) same number))
     ]
   where
     big : E4 text s → ⊥
-    big h =
-        let end : h.0 ≡ e = same_end text s h.0 e h.1.1 run in
-        let digits : list_all is_digit (slice_range text s e) ≡ true =
-        ap (λ z. list_all is_digit (slice_range text s z)) (sym end) ∙ h.1.2 in
+    big (end, (_, its_run, digits, _), large) =
+        let same : end ≡ e = same_end text s end e its_run run in
+        let all : list_all is_digit (slice_range text s e) ≡ true =
+        ap (λ z. list_all is_digit (slice_range text s z)) (sym same) ∙ digits in
         let value : 2 ^ 64 ≤ digits_value 10 (slice_range text s e) =
-        subst (λ z. 2 ^ 64 ≤ digits_value 10 (slice_range text s z)) end h.2 in
-        omega (arith, small digits, value)
-run_fine text s e k o run small le lt (inr (inr (inr (inr e5)))) =
-    absurd (both_ways (is_token (slice_index text o)) (ap is_token e5.1.1) (run_byte text s e o run le lt))
+        subst (λ z. 2 ^ 64 ≤ digits_value 10 (slice_range text s z)) same large in
+        omega (arith, small all, value)
+run_fine text s e k o run small le lt (inr (inr (inr (inr (_, (_, opening, _)))))) =
+    absurd (both_ways (is_token (slice_index text o)) (ap is_token opening) (run_byte text s e o run le lt))
 
 pub clean_run : (text : List ℕ) (depth outer s e : ℕ) → Clean text depth outer s → IsRun text s e
     → (list_all is_digit (slice_range text s e) ≡ true → digits_value 10 (slice_range text s e) < 2 ^ 64)
@@ -419,10 +419,10 @@ pub clean_end : (text : List ℕ) (outer i : ℕ) → Clean text 0 outer i → E
     → ⊥
 clean_end text outer i clean ends k o breaks =
     let cover = covered_end text i clean.outside ends in
-    let e2 = e2_of text k o (end_fine text 0 outer i k o clean ends breaks) breaks in
+    let ((inside, _), _, _, held) = e2_of text k o (end_fine text 0 outer i k o clean ends breaks) breaks in
     omega (
       arith,
-      e2.3 (length text) e2.0.0 (omega arith),
+      held (length text) inside (omega arith),
       cover.depths (length text) clean.within
           (omega arith),
       clean.depth_is,
@@ -433,15 +433,16 @@ pub first_open : (text : List ℕ) (depth outer i : ℕ) → 0 < depth → Clean
     → IsFirst text 2 outer
 first_open text depth outer i pos clean ends =
     let cover = covered_end text i clean.outside ends in
-    let open_now =
+    let open_now : IsOpenUpTo text (length text) outer =
     still_open text depth outer i (length text) clean pos (λ j le le'. cover.depths j le le' ∙ clean.depth_is) in
     record {
       broken = inr (inl (refl, open_now));
       first = λ l q breaks.
           let is : l ≡ 2 = end_fine text depth outer i l q clean ends breaks in
-          let e2 = e2_of text l q is breaks in
+          let (_, _, _, held) = e2_of text l q is breaks in
+          let ((inside, _), _, top, _) = open_now in
           elim (cases_lt q outer) [
-            | inl sooner ↦ absurd (omega (arith, e2.3 outer sooner (omega (arith, open_now.0.0)), open_now.2))
+            | inl sooner ↦ absurd (omega (arith, held outer sooner (omega (arith, inside)), top))
             | inr later ↦ inr (refl, is, later)
           ];
     }

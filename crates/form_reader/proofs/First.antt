@@ -12,22 +12,22 @@ abbrev rule_of : ℕ → ℕ
 rule_of b = cond (b == 40) 5 (cond (b == 41) 3 (cond (is_token b) 4 1))
 
 by_byte : (text : List ℕ) (k o : ℕ) → k ≢ 2 → Breaks text k o → k ≡ rule_of (slice_index text o)
-by_byte text k o other (inl e1) =
+by_byte text k o other (inl (is, (_, unknown))) =
     let b = slice_index text o in
-    let parts = or_parts (is_blank b || is_mark b) (is_token b) e1.1.1 in
+    let parts = or_parts (is_blank b || is_mark b) (is_token b) unknown in
     let marks = or_parts (b == 40 || b == 41) (b == 59) (or_parts (is_blank b) (is_mark b) parts.0).1 in
     let brackets = or_parts (b == 40) (b == 41) marks.0 in
-    e1.0 ∙ sym
+    is ∙ sym
     (cond-false (b == 40) 5 _ brackets.0 ∙ cond-false (b == 41) 3 _ brackets.1 ∙ cond-false (is_token b) 4 1 parts.1)
 by_byte text k o other (inr (inl e2)) = absurd (other e2.0)
-by_byte text k o other (inr (inr (inl e3))) = e3.0 ∙ ap rule_of (sym e3.1.1)
-by_byte text k o other (inr (inr (inr (inl e4)))) =
+by_byte text k o other (inr (inr (inl (is, (_, closing, _))))) = is ∙ ap rule_of (sym closing)
+by_byte text k o other (inr (inr (inr (inl (is, (end, (_, run, _, _), _)))))) =
     let b = slice_index text o in
-    let token = run_first text o e4.1.0 e4.1.1.1 in
-    e4.0 ∙ sym
+    let token = run_first text o end run in
+    is ∙ sym
     (cond-false (b == 40) 5 _ (other_byte b 40 refl token) ∙ cond-false (b == 41) 3 _ (other_byte b 41 refl token)
     ∙ cond-true (is_token b) 4 1 token)
-by_byte text k o other (inr (inr (inr (inr e5)))) = e5.0 ∙ ap rule_of (sym e5.1.1)
+by_byte text k o other (inr (inr (inr (inr (is, (_, opening, _)))))) = is ∙ ap rule_of (sym opening)
 
 -- two rules, each of which comes before the other
 meet : (k o l q : ℕ) → ComesBefore k o l q → ComesBefore l q k o → (o ≡ q) × (((k ≡ 2) × (l ≡ 2)) ⊎ (k ≢ 2 × l ≢ 2))

@@ -48,7 +48,7 @@ pub record IsClosed (text : List ℕ) (depth outer at : ℕ) (end : Place) : Typ
 pub record IsEnded (text : List ℕ) (at : ℕ) (end : Place) : Type 0 where
   pub rest : EndsInGap text at
   pub end_is : end ≡ place_at text (length text)
-  pub whole : (k o : ℕ) → Breaks text k o → ⊥
+  pub whole : (k o : ℕ) → ¬ Breaks text k o
 
 -- the items of a list were read, and what ends it
 pub record HasListed (text : List ℕ) (depth outer from : ℕ) (old new : List Node) (items : List ℕ)

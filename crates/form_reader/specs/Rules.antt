@@ -9,6 +9,7 @@ use Rattle.mp_base.specs.declared.refusal.Family.TheVariants.{E}
 use Rattle.mp_base.specs.declared.refusal.Refusal.{Refusal}
 use Rattle.mp_base.specs.declared.refusal.Broken.{Broken}
 use Rattle.form_reader.specs.Text.{is_blank, is_mark, comment_step, comment_after, IsRun, place_at}
+use Rattle.form_reader.specs.declared.limits.TheConstants.{NESTING_LIMIT}
 
 -- how many lists are open behind a byte; a `)` that closes nothing is left out
 abbrev pub depth_step : Bool → ℕ → ℕ → ℕ
@@ -57,7 +58,7 @@ E4 text o = (e : ℕ) × IsDigitRun text o e × (2 ^ 64 ≤ digits_value 10 (sli
 
 -- a list inside 64 others
 abbrev pub E5 : List ℕ → ℕ → Type 0
-E5 text o = IsOutside text o × (slice_index text o ≡ 40) × (64 ≤ depth_at text o)
+E5 text o = IsOutside text o × (slice_index text o ≡ 40) × (NESTING_LIMIT ≤ depth_at text o)
 
 -- rule E k is broken at the offset o
 abbrev pub Breaks : List ℕ → ℕ → ℕ → Type 0
@@ -74,7 +75,7 @@ pub record IsFirst (text : List ℕ) (k o : ℕ) : Type 0 where
 
 -- no rule is broken, or this is the first one that is, at its place
 abbrev pub OfText : List ℕ → Option Broken → Type 0
-OfText text None = (k o : ℕ) → Breaks text k o → ⊥
+OfText text None = (k o : ℕ) → ¬ Breaks text k o
 OfText text (Some b) = IsOfFamily E (λ k at. (at ≡ place_at text at.offset) × IsFirst text k at.offset) b
 
 -- want of memory, or the first of the broken rules, at its place

@@ -6,6 +6,7 @@ use Rattle.form_reader.specs.declared.forms.Kind.{Kind}
 use Rattle.form_reader.specs.declared.forms.Kind.TheVariants.{Number, Symbol, Group}
 use Rattle.form_reader.specs.declared.forms.Node.{Node}
 use Rattle.form_reader.specs.declared.forms.Forms.{Forms}
+use Rattle.form_reader.specs.declared.limits.TheConstants.{NESTING_LIMIT}
 
 -- what stands past the end of the nodes
 abbrev pub no_node : Node
@@ -31,13 +32,13 @@ IsItem f n j m =
 pub data NestsIn (f : Forms) : (d n : ℕ) → Type 0 where
   nests : (d n : ℕ) → ((j m : ℕ) → IsItem f n j m → NestsIn f d m) → NestsIn f (suc d) n
 
--- items stand behind their list, each node is an item once at most, lists are nested 64 deep at most, and the offsets
--- ascend
+-- items stand behind their list, each node is an item once at most, lists are nested no deeper than may be, and the
+-- offsets ascend
 pub record IsSound (f : Forms) : Type 0 where
   pub behind : (n j m : ℕ) → IsItem f n j m → (n < m) × (m < length f.nodes)
   pub one_list : (a b i j m : ℕ) → IsItem f a i m → IsItem f b j m → a ≡ b
   pub one_place : (a b i j m : ℕ) → IsItem f a i m → IsItem f b j m → i ≡ j
-  pub shallow : (n : ℕ) → n < length f.nodes → NestsIn f 65 n
+  pub shallow : (n : ℕ) → n < length f.nodes → NestsIn f (suc NESTING_LIMIT) n
   pub first : (r : ℕ) (rs : List ℕ) → f.roots ≡ r ∷ rs → r ≡ 0
   pub roots : (k : ℕ) → k < length f.roots → slice_index f.roots k < length f.nodes
   pub apart : (a b : ℕ) (rs : List ℕ) → f.roots ≡ a ∷ b ∷ rs → (a < b) × ((n j m : ℕ) → IsItem f n j m → n < b → m < b)

@@ -11,6 +11,7 @@ use Rattle.form_reader.specs.declared.forms.Node.{Node}
 use Rattle.form_reader.specs.declared.forms.Forms.{Forms}
 use Rattle.form_reader.specs.Sound.{no_node}
 use Rattle.form_reader.specs.Text.{IsGapBetween, EndsInGap, IsRun, IsByte, place_at}
+use Rattle.form_reader.specs.declared.limits.TheConstants.{NESTING_LIMIT}
 
 -- the kind that a run of token characters has
 abbrev pub IsKindOf : List ℕ → Kind → Type 0
@@ -32,7 +33,7 @@ pub data Spelled (text : List ℕ) (nodes : List Node) : (depth at i : ℕ) (ite
       → IsNode nodes i (place_at text s) kind → Spelled text nodes depth e (suc i) items to j
       → Spelled text nodes depth at i (i ∷ items) to j
   list : {depth at i to j : ℕ} {items : List ℕ} (s e c k : ℕ) (inner : List ℕ) → IsGapBetween text at s
-      → IsByte text s 40 → depth < 64
+      → IsByte text s 40 → depth < NESTING_LIMIT
       → IsNode nodes i (place_at text s) (Group inner) → Spelled text nodes (suc depth) (s + 1) (suc i) inner e k
       → IsGapBetween text e c → IsByte text c 41
       → Spelled text nodes depth (c + 1) k items to j → Spelled text nodes depth at i (i ∷ items) to j

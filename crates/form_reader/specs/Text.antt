@@ -4,6 +4,7 @@ use Rattle.std.specs.Prelude.{◌==◌, length, take, drop, slice_index, slice_r
 use Rattle.std.specs.List.{list_all, suffix_len}
 use Rattle.mp_base.specs.declared.refusal.Place.{Place}
 use Rattle.mp_base.specs.Token.{is_token}
+use Rattle.mp_base.specs.Lines.{is_feed}
 
 -- a space, tab, line feed or carriage return
 abbrev pub is_blank : ℕ → Bool
@@ -12,9 +13,6 @@ is_blank c = c == 32 || c == 9 || c == 10 || c == 13
 -- `(`, `)` and `;`
 abbrev pub is_mark : ℕ → Bool
 is_mark c = c == 40 || c == 41 || c == 59
-
-abbrev pub is_feed : ℕ → Bool
-is_feed c = c == 10
 
 -- whether one is in a comment behind the byte c
 abbrev pub comment_step : Bool → ℕ → Bool

@@ -13,7 +13,7 @@ pub fn one_spelling()
 
 /// A text that spells forms breaks none of the rules E1 to E5.
 pub fn spelled_breaks_nothing()
-    ensures { (text : List ℕ) (f : Forms) (k o : ℕ) → Spells text f → Breaks text k o → ⊥ }
+    ensures { (text : List ℕ) (f : Forms) (k o : ℕ) → Spells text f → ¬ Breaks text k o }
 {}
 
 /// A text has at most one first broken rule.

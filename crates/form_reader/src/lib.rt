@@ -2,13 +2,12 @@
 #![tactic(auto)]
 
 mod forms;
-mod laws;
+pub mod laws;
+mod limits;
 mod reader;
 mod text;
 
 pub use forms::{Forms, Kind, Node};
-pub use laws::{
-    one_first_rule, one_spelling, spelled_breaks_nothing, spelled_is_sound, text_verdict,
-};
+pub use limits::NESTING_LIMIT;
 pub use reader::read_forms;
 pub use text::find_stray;

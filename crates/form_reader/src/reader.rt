@@ -15,14 +15,13 @@ ghost use Rattle.form_reader.specs.Spelling.{IsKindOf, Spells};
 ghost use Rattle.form_reader.specs.Rules.{RefusesFirst, OfText};
 ghost use Rattle.form_reader.specs.Text.{fills_gap, IsByte};
 ghost use Rattle.form_reader.specs.Reading.{Reached, AddsItem, HasListed};
+ghost use Rattle.form_reader.specs.declared.limits.TheConstants.{NESTING_LIMIT};
 
 use crate::forms::{Forms, Kind, Node};
+use crate::limits::NESTING_LIMIT;
 use crate::text::{START, all_digits, behind, number, run_end, skip};
 use mp_base::{Broken, Family, List, Name, Place, Refusal, Rule, Spot, is_token};
 use std::alloc::Global;
-
-/// How deep lists may stand in lists.
-const MAX_DEPTH: u32 = 64;
 
 /// How many lists are open, and where the outermost of them begins.
 #[derive(Clone, Copy)]
@@ -34,7 +33,7 @@ struct Nesting {
 impl Nesting {
     /// The same inside the list that begins here.
     fn inside(self, start: Place) -> Nesting
-        requires { self.depth < 64 }
+        requires { self.depth < NESTING_LIMIT }
         ensures depth { result.depth ≡ self.depth + 1 }
         ensures first { self.depth ≡ 0 → result.outer ≡ start }
         ensures later { 0 < self.depth → result.outer ≡ self.outer }
@@ -94,7 +93,7 @@ fn list(
 ) -> Result<Listed, Refusal>
     requires short { length bytes.now + 1 < 2 ^ 32 }
     requires reached { Reached bytes.now nesting.depth nesting.outer from }
-    requires shallow { nesting.depth ≤ 64 }
+    requires shallow { nesting.depth ≤ NESTING_LIMIT }
     requires few { length nodes.old ≤ from.offset }
     ensures found { IfOk result
         (λ r. HasListed bytes.now nesting.depth nesting.outer.offset from.offset nodes.old nodes.new r.items r.end) }
@@ -137,7 +136,7 @@ fn item(
 ) -> Result<Place, Refusal>
     requires short { length bytes.now + 1 < 2 ^ 32 }
     requires reached { Reached bytes.now nesting.depth nesting.outer start }
-    requires shallow { nesting.depth ≤ 64 }
+    requires shallow { nesting.depth ≤ NESTING_LIMIT }
     requires few { length nodes.old ≤ start.offset }
     requires within { start.offset < length bytes.now }
     requires stop { fills_gap false (slice_index bytes.now start.offset) ≡ false }
@@ -149,7 +148,7 @@ fn item(
 {
     let byte = bytes[start.offset as usize];
     if byte == b'(' {
-        if nesting.depth == MAX_DEPTH {
+        if nesting.depth == NESTING_LIMIT {
             return Err(broken(5, start));
         }
         group(alloc, bytes, start, nesting, nodes)
@@ -175,7 +174,7 @@ fn group(
 ) -> Result<Place, Refusal>
     requires short { length bytes.now + 1 < 2 ^ 32 }
     requires reached { Reached bytes.now nesting.depth nesting.outer start }
-    requires shallow { nesting.depth < 64 }
+    requires shallow { nesting.depth < NESTING_LIMIT }
     requires few { length nodes.old ≤ start.offset }
     requires byte { IsByte bytes.now start.offset 40 }
     ensures found { IfOk result (λ end. AddsItem bytes.now nesting.depth start.offset nodes.old nodes.new end.offset) }

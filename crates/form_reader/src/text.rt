@@ -143,7 +143,7 @@ pub(crate) fn number(digits: &[u8]) -> Option<u64>
 /// bracket, `;` or token character.
 pub fn find_stray(bytes: &[u8]) -> Option<Place>
     requires { length bytes.now + 1 < 2 ^ 32 }
-    ensures { MatchOption result ((o : ℕ) → E1 bytes.now o → ⊥) (λ at. (at ≡ place_at bytes.now at.offset)
+    ensures { MatchOption result ((o : ℕ) → ¬ E1 bytes.now o) (λ at. (at ≡ place_at bytes.now at.offset)
         × E1 bytes.now at.offset × ((o : ℕ) → E1 bytes.now o → at.offset ≤ o)) }
 {
     let mut comment = false;

@@ -22,7 +22,8 @@ use Rattle.path_form.specs.Shape.{AreInputs, EntriesFit, IsPath, PadsFit, chain_
 use Rattle.path_form.specs.Shape.{entries_of, is_fed, is_in, is_input, pieces_of, slice_ends, stands_behind, takes_pad}
 use Rattle.path_form.specs.Shape.{times}
 use Rattle.hand_path.specs.Hand.{HasHandPads, hand_casts, hand_control, hand_inputs, hand_lifts, hand_order}
-use Rattle.hand_path.specs.Hand.{hand_outputs, hand_parts, hand_slices, net}
+use Rattle.hand_path.specs.Hand.{hand_outputs, hand_parts, hand_slices}
+use Rattle.organelles.specs.Tables.{net_at}
 
 -- ---- the order
 
@@ -189,29 +190,30 @@ module _ (a b : Pad) (signal : a.width ≡ 0) (word : b.width ≡ 2) where
 abbrev IsInput : List Part → NetId → Type 0
 IsInput parts id = is_input (slice_get parts id.0) ≡ true
 
-control_inputs : AreInputs hand_control (net 0 ∷ net 1 ∷ [])
+control_inputs : AreInputs hand_control (net_at 0 ∷ net_at 1 ∷ [])
 control_inputs = (
-  All-cons (IsInput hand_control) (net 0) (net 1 ∷ []) refl
-      (All-cons (IsInput hand_control) (net 1) [] refl (All-nil (IsInput hand_control))),
+  All-cons (IsInput hand_control) (net_at 0) (net_at 1 ∷ []) refl
+      (All-cons (IsInput hand_control) (net_at 1) [] refl (All-nil (IsInput hand_control))),
   each,
 )
   where
-    each : (n : ℕ) → is_input (slice_get hand_control n) ≡ true → times n (net 0 ∷ net 1 ∷ []) ≡ 1
+    each : (n : ℕ) → is_input (slice_get hand_control n) ≡ true → times n (net_at 0 ∷ net_at 1 ∷ []) ≡ 1
     each zero e = refl
     each (suc zero) e = refl
     each (suc (suc zero)) e = absurd (false≢true e)
     each (suc (suc (suc n))) e = absurd (false≢true e)
 
-slice_inputs : AreInputs hand_parts (net 0 ∷ net 1 ∷ net 2 ∷ net 5 ∷ [])
+slice_inputs : AreInputs hand_parts (net_at 0 ∷ net_at 1 ∷ net_at 2 ∷ net_at 5 ∷ [])
 slice_inputs = (
-  All-cons (IsInput hand_parts) (net 0) (net 1 ∷ net 2 ∷ net 5 ∷ []) refl
-      (All-cons (IsInput hand_parts) (net 1) (net 2 ∷ net 5 ∷ []) refl
-      (All-cons (IsInput hand_parts) (net 2) (net 5 ∷ []) refl
-      (All-cons (IsInput hand_parts) (net 5) [] refl (All-nil (IsInput hand_parts))))),
+  All-cons (IsInput hand_parts) (net_at 0) (net_at 1 ∷ net_at 2 ∷ net_at 5 ∷ []) refl
+      (All-cons (IsInput hand_parts) (net_at 1) (net_at 2 ∷ net_at 5 ∷ []) refl
+      (All-cons (IsInput hand_parts) (net_at 2) (net_at 5 ∷ []) refl
+      (All-cons (IsInput hand_parts) (net_at 5) [] refl (All-nil (IsInput hand_parts))))),
   each,
 )
   where
-    each : (n : ℕ) → is_input (slice_get hand_parts n) ≡ true → times n (net 0 ∷ net 1 ∷ net 2 ∷ net 5 ∷ []) ≡ 1
+    each : (n : ℕ) → is_input (slice_get hand_parts n) ≡ true → times n
+        (net_at 0 ∷ net_at 1 ∷ net_at 2 ∷ net_at 5 ∷ []) ≡ 1
     each zero e = refl
     each (suc zero) e = refl
     each (suc (suc zero)) e = refl
@@ -240,17 +242,17 @@ module _ (a b c d : Pad) (a0 : a.width ≡ 0) (b2 : b.width ≡ 2) (c0 : c.width
   abbrev outs : List Pad
   outs = c ∷ d ∷ []
 
-  in_signals : entries_of false ins hand_inputs ≡ net 0 ∷ []
-  in_signals = signals a b a0 b2 (net 0) (net 0)
+  in_signals : entries_of false ins hand_inputs ≡ net_at 0 ∷ []
+  in_signals = signals a b a0 b2 (net_at 0) (net_at 0)
 
-  in_words : entries_of true ins hand_inputs ≡ net 0 ∷ []
-  in_words = words a b a0 b2 (net 0) (net 0)
+  in_words : entries_of true ins hand_inputs ≡ net_at 0 ∷ []
+  in_words = words a b a0 b2 (net_at 0) (net_at 0)
 
-  out_signals : entries_of false outs hand_outputs ≡ net 2 ∷ []
-  out_signals = signals c d c0 d2 (net 2) (net 6)
+  out_signals : entries_of false outs hand_outputs ≡ net_at 2 ∷ []
+  out_signals = signals c d c0 d2 (net_at 2) (net_at 6)
 
-  out_words : entries_of true outs hand_outputs ≡ net 6 ∷ []
-  out_words = words c d c0 d2 (net 2) (net 6)
+  out_words : entries_of true outs hand_outputs ≡ net_at 6 ∷ []
+  out_words = words c d c0 d2 (net_at 2) (net_at 6)
 
   made : (pads : Pads) → pads.inputs ≡ ins → pads.outputs ≡ outs
       → IsPath 2 hand_control hand_slices hand_casts hand_lifts pads hand_inputs hand_outputs hand_order
@@ -259,9 +261,9 @@ module _ (a b c d : Pad) (a0 : a.width ≡ 0) (b2 : b.width ≡ 2) (c0 : c.width
     pads_fit = (subst (PadsFit 2) (sym i) (pads_fit a b a0 b2), subst (PadsFit 2) (sym o) (pads_fit c d c0 d2));
     entries_fit = (
       subst (λ (x : List Pad). EntriesFit hand_control hand_slices x hand_inputs) (sym i)
-          (entries_fit a b a0 b2 (net 0) (net 0) (omega arith) (omega arith)),
+          (entries_fit a b a0 b2 (net_at 0) (net_at 0) (omega arith) (omega arith)),
       subst (λ (x : List Pad). EntriesFit hand_control hand_slices x hand_outputs) (sym o)
-          (entries_fit c d c0 d2 (net 2) (net 6) (omega arith) (omega arith)),
+          (entries_fit c d c0 d2 (net_at 2) (net_at 6) (omega arith) (omega arith)),
     );
     chains_in =
         All-cons (λ (x : Chain). ((chain_from x).0 < 7) × ((chain_to x).0 < 7)) _ [] (omega arith, omega arith)
@@ -287,26 +289,26 @@ module _ (a b c d : Pad) (a0 : a.width ≡ 0) (b2 : b.width ≡ 2) (c0 : c.width
           hand_control)
           (sym i)
           (subst (λ ids. All (λ part. takes_pad hand_control ids part ≡ true) hand_control) (sym in_signals)
-          (tested (takes_pad hand_control (net 0 ∷ [])) hand_control refl)),
+          (tested (takes_pad hand_control (net_at 0 ∷ [])) hand_control refl)),
       subst (λ (x : List Pad). All (λ part. takes_pad hand_parts (entries_of true x hand_inputs) part ≡ true)
           hand_parts)
           (sym i)
           (subst (λ ids. All (λ part. takes_pad hand_parts ids part ≡ true) hand_parts) (sym in_words)
-          (tested (takes_pad hand_parts (net 0 ∷ [])) hand_parts refl)),
+          (tested (takes_pad hand_parts (net_at 0 ∷ [])) hand_parts refl)),
     );
     apart = (
       λ n. subst (λ (x : List NetId). times n x ≤ 1)
-          (sym (both (entries_of false pads.inputs hand_inputs) (entries_of false pads.outputs hand_outputs) (net 0)
-          (net 2)
+          (sym (both (entries_of false pads.inputs hand_inputs) (entries_of false pads.outputs hand_outputs) (net_at 0)
+          (net_at 2)
           (ap (λ (x : List Pad). entries_of false x hand_inputs) i ∙ in_signals)
           (ap (λ (x : List Pad). entries_of false x hand_outputs) o ∙ out_signals)))
-          (apart (net 0) (net 2) (λ e. absurd (omega arith)) n),
+          (apart (net_at 0) (net_at 2) (λ e. absurd (omega arith)) n),
       λ n. subst (λ (x : List NetId). times n x ≤ 1)
-          (sym (both (entries_of true pads.inputs hand_inputs) (entries_of true pads.outputs hand_outputs) (net 0)
-          (net 6)
+          (sym (both (entries_of true pads.inputs hand_inputs) (entries_of true pads.outputs hand_outputs) (net_at 0)
+          (net_at 6)
           (ap (λ (x : List Pad). entries_of true x hand_inputs) i ∙ in_words)
           (ap (λ (x : List Pad). entries_of true x hand_outputs) o ∙ out_words)))
-          (apart (net 0) (net 6) (λ e. absurd (omega arith)) n),
+          (apart (net_at 0) (net_at 6) (λ e. absurd (omega arith)) n),
     );
     once = λ n. once n.band n.net;
     ordered = λ n e is. behind_of n (nets n.band n.net) (ordered n.band n.net) e is;

@@ -1,7 +1,8 @@
 //! The path.
 
 ghost use Rattle.std.specs.Prelude.{◌≡◌, ◌≤◌, [], ◌∷◌, IfOk, IfSome};
-ghost use Rattle.hand_path.specs.Hand.{HasHandPads, hand_control, hand_order, hand_parts, hand_slices, net};
+ghost use Rattle.hand_path.specs.Hand.{HasHandPads, hand_control, hand_order, hand_parts, hand_slices};
+ghost use Rattle.organelles.specs.Tables.{net_at};
 
 use mp_base::{List, Name, NoMemory, Pad, Pads};
 use nor_net::{Net, NetId, Phase};
@@ -69,7 +70,7 @@ fn one<T: Drop>(alloc: Global, item: T) -> Result<List<T>, NoMemory>
 }
 
 fn nets(alloc: Global, signal: u32, word: u32) -> Result<List<NetId>, NoMemory>
-    ensures { IfOk result (λ list. list ≡ net signal ∷ net word ∷ []) }
+    ensures { IfOk result (λ list. list ≡ net_at signal ∷ net_at word ∷ []) }
 {
     let mut list = List::new(alloc);
     list.push(NetId(signal))?;

@@ -6,8 +6,8 @@ ghost use Rattle.mp_base.specs.declared.pad.Pads.{Pads};
 ghost use Rattle.switch_net.specs.declared.network.Network.{Network};
 ghost use Rattle.headline.specs.Headline.{Draws};
 
-use cif_form::{expansion_is_unique, reading_is_unique};
-use switch_net::network_is_determined;
+use cif_form::laws::{expansion_is_unique, reading_is_unique};
+use switch_net::laws::network_is_determined;
 
 /// A file draws at most one network: nothing is left open between its bytes and its circuit.
 pub fn a_file_draws_one_network()

@@ -1,4 +1,5 @@
 pub mod Chains
+pub mod Covered
 pub mod Adjoins
 pub mod SquareOrder
 pub mod Following

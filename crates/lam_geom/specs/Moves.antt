@@ -1,5 +1,5 @@
 -- Rectangles turned and moved.
-use Rattle.std.specs.Prelude.{ℤ, pos, neg_ℤ, ◌+ℤ◌, ◌≤ℤ◌}
+use Rattle.std.specs.Prelude.{ℤ, pos, neg_ℤ, ◌+ℤ◌, ◌≤ℤ◌, ℕ}
 use Rattle.lam_geom.specs.declared.rect.Rect.{Rect}
 use Rattle.lam_geom.specs.declared.place.Orient.{Orient}
 use Rattle.lam_geom.specs.declared.place.Orient.TheVariants.{R0, R1, R2, R3, M0, M1, M2, M3}
@@ -25,9 +25,13 @@ turned M3 r = quarter_turn (quarter_turn (quarter_turn (mirrored r)))
 unfoldable pub shifted : ℤ → ℤ → Rect → Rect
 shifted dx dy r = record { layer = r.layer; x0 = r.x0 +ℤ dx; y0 = r.y0 +ℤ dy; x1 = r.x1 +ℤ dx; y1 = r.y1 +ℤ dy }
 
+-- how far from the origin the edges of a mask may be
+abbrev pub far : ℕ
+far = 1_099_511_627_776
+
 -- at most 2^40 in size
 abbrev pub IsNear : ℤ → Type 0
-IsNear z = (neg_ℤ (pos 1_099_511_627_776) ≤ℤ z) × (z ≤ℤ pos 1_099_511_627_776)
+IsNear z = (neg_ℤ (pos far) ≤ℤ z) × (z ≤ℤ pos far)
 
 pub record IsNearRect (r : Rect) : Type 0 where
   pub x0 : IsNear r.x0

@@ -8,7 +8,6 @@ mod place;
 mod rect;
 
 pub use label::FlatLabel;
-pub use laws::rectangles_are_joined;
 pub use layer::Layer;
 pub use place::{Orient, Point};
 pub use rect::{Rect, Shape};

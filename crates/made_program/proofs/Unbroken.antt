@@ -4,7 +4,7 @@ use Rattle.std.proofs.Common.{subst, inl, inr, length, arith, lit<}
 use Rattle.std.specs.Prelude.{not, ◌&&◌, ◌||◌, ◌==◌, slice_index_or, nat_le, Some}
 use Rattle.std.specs.List.{list_any, flat_map}
 use Rattle.std.proofs.lemmas.Bool.{cases_lt, eq-eqb, eqb-true}
-use Rattle.std.proofs.lemmas.Option.{none-some}
+use Rattle.std.proofs.lemmas.Option.{none-some, same_Some}
 use Rattle.std.proofs.lemmas.List.Sums.{count_by-le-length}
 use Rattle.mp_base.specs.declared.refusal.Place.{Place}
 use Rattle.mp_program.specs.declared.program.FormKind.{FormKind}
@@ -28,7 +28,6 @@ use Rattle.mp_rules.specs.declared.limits.TheConstants.{PROCESS_LIMIT}
 use Rattle.mp_rules.specs.Sorts.{Sort, IsWord, operand_sort, expr_sort, name_sort, IsWanted}
 use Rattle.mp_rules.specs.Standing.{is_transfer}
 use Rattle.mp_rules.specs.Breaking.{IsUnbroken}
-use Rattle.mp_rules.proofs.Sorts.{same_sort}
 use Rattle.made_program.specs.Made.{IsMade, defs_of}
 use Rattle.made_program.proofs.Lists.{passes, passes_in, one_passes, apart, clash}
 use Rattle.made_program.proofs.Tests.{named_of, namings_are, is_word, word_only, names_one, target_named}
@@ -104,18 +103,18 @@ expr_is_word : (p : Program) (m : IsMade p) (e : ℕ) (x : Expr) (t : Sort) → 
     → expr_sort p.defs x.kind ≡ Some t → t ≡ IsWord
 expr_is_word p m e x t is sort =
     let ok = passes (λ (x : Expr). is_word (expr_sort (defs_of m.at) x.kind)) p.exprs e x (exprs_words p m) is in
-    same_sort t IsWord (sym sort ∙ ap (λ ds. expr_sort ds x.kind) m.defs
+    same_Some t IsWord (sym sort ∙ ap (λ ds. expr_sort ds x.kind) m.defs
     ∙ word_only (expr_sort (defs_of m.at) x.kind) ok)
 
 wanted_is_word : (p : Program) (m : IsMade p) (e : ℕ) (s : Sort) → IsWanted p e (Some s) → s ≡ IsWord
 wanted_is_word p m e s (inl (i, x, op, k, args, is, apply, contains, same)) =
     let ok = passes (λ (x : Expr). operands_are_words x.kind) p.exprs i x (exprs_operands p m) is in
-    same_sort s IsWord (same ∙ word_only (Some (operand_sort op)) (sym (ap operands_are_words apply) ∙ ok))
+    same_Some s IsWord (same ∙ word_only (Some (operand_sort op)) (sym (ap operands_are_words apply) ∙ ok))
 wanted_is_word p m e s (inr (inl (f, y, bs, is, branches, contains, same))) =
     clash (is_set y.kind) (passes (λ (y : Form). is_set y.kind) p.forms f y (forms_set p m) is) (ap is_set branches)
 wanted_is_word p m e s (inr (inr (f, y, x, place, is, set, same))) =
     let ok = passes (λ (y : Form). target_is_word (defs_of m.at) y.kind) p.forms f y (forms_words p m) is in
-    same_sort s IsWord (same ∙ ap (λ ds. name_sort ds x) m.defs
+    same_Some s IsWord (same ∙ ap (λ ds. name_sort ds x) m.defs
     ∙ word_only (name_sort (defs_of m.at) x) (sym (ap (target_is_word (defs_of m.at)) set) ∙ ok))
 
 no_process : (p : Program) (m : IsMade p) (k : ℕ) (q : Process) → IsAt p.processes k q → ⊥

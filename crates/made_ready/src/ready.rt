@@ -18,7 +18,8 @@ use mp_source::check_source;
 use mp_source::laws::{one_source, one_verdict};
 use program_maker::make;
 use std::alloc::Global;
-use stimulus::{Stimulus, one_first_rule, one_stimulus, read_stimulus};
+use stimulus::laws::{one_first_rule, one_stimulus};
+use stimulus::{Stimulus, read_stimulus};
 
 /// The checked program of a made source, and the stimulus that is made with it.
 #[derive(Drop)]

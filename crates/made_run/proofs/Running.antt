@@ -11,7 +11,7 @@ use Rattle.mp_base.specs.declared.value.Trit.TheVariants.{X}
 use Rattle.mp_base.specs.declared.pad.Pads.{Pads}
 use Rattle.switch_net.specs.declared.network.Network.{Network}
 use Rattle.switch_net.specs.Clock.{IsClock}
-use Rattle.settle.specs.Values.{value_at}
+use Rattle.switch_net.specs.Values.{value_at}
 use Rattle.stimulus.specs.declared.given.Stimulus.{Stimulus}
 use Rattle.stimulus.specs.Inputs.{inputs_at, inputs_of}
 use Rattle.stimulus.specs.Transcript.{lines_text}

@@ -1,7 +1,7 @@
 //! A circuit along a stimulus.
 
 ghost use Rattle.std.specs.Prelude.{◌≡◌, ◌<◌, ◌^◌, length, IfOk};
-ghost use Rattle.settle.specs.Values.{value_at};
+ghost use Rattle.switch_net.specs.Values.{value_at};
 ghost use Rattle.switch_net.specs.Breaks.{HasPads};
 ghost use Rattle.made_run.specs.Summary.{IsSummedRun};
 

@@ -5,7 +5,7 @@ ghost use Rattle.std.specs.List.{AllZip};
 ghost use Rattle.mp_base.specs.declared.pad.Pad.{Pad as PadValue};
 ghost use Rattle.mp_base.specs.declared.value.Trit.TheVariants.{X};
 ghost use Rattle.mp_base.specs.declared.value.TritWord.{TritWord as TritWordValue};
-ghost use Rattle.settle.specs.Values.{value_at};
+ghost use Rattle.switch_net.specs.Values.{value_at};
 ghost use Rattle.switch_net.specs.Breaks.{HasPads};
 ghost use Rattle.stimulus.specs.Bits.{trits_of};
 ghost use Rattle.mp_base.specs.PadBits.{bit_count};

@@ -1,7 +1,7 @@
 //! What is told of a run.
 
 ghost use Rattle.std.specs.Prelude.{◌≡◌, ◌++◌, ◌<◌, ◌^◌, [], length, IfOk, OnOk};
-ghost use Rattle.settle.specs.Values.{value_at};
+ghost use Rattle.switch_net.specs.Values.{value_at};
 ghost use Rattle.switch_net.specs.declared.network.Network.{Network as NetworkValue};
 ghost use Rattle.switch_net.specs.Breaks.{HasPads};
 ghost use Rattle.mask_net.specs.SizeLine.{last_line, size_text};

@@ -9,7 +9,8 @@ use Rattle.made_program.specs.Made.{Row, IsRow, AreRows}
 use Rattle.made_program.proofs.Lists.{name_passes}
 use Rattle.made_program.proofs.Tests.{drawn_cases}
 use Rattle.made_source.specs.Written.{op_word}
-use Rattle.made_source.proofs.Texts.{row_text, row_of, twelve, last, before, drawn_is, flat_same, row_of_is}
+use Rattle.made_source.proofs.Texts.{row_text, row_of, twelve, last, before, drawn_is, row_of_is}
+use Rattle.mp_base.proofs.Lists.{flat_map_same}
 
 abbrev is_short : List ℕ → Bool
 is_short x = nat_le (length x) 8
@@ -80,7 +81,7 @@ made_is_short seed =
     ) in
     let e : source_text seed ≡ before ++ (10 ∷ (lines ++ last)) =
     ap (λ t. before ++ (10 ∷ (t ++ last)))
-    (flat_same (drawn_setting seed) (λ i. row_text (row_of seed i)) (range_with_len 0 12) (drawn_is seed)) in
+    (flat_map_same (drawn_setting seed) (λ i. row_text (row_of seed i)) (range_with_len 0 12) (drawn_is seed)) in
     let few : length lines ≤ 720 = settings_short rows are refl in
     let l1 : length (lines ++ last) ≡ length lines + length last = length-append lines last in
     let l2 : length (source_text seed) ≡ length before + suc (length (lines ++ last)) = ap length e

@@ -8,6 +8,7 @@ use Rattle.mp_base.specs.Token.{is_token, is_digit}
 use Rattle.mp_base.specs.declared.op.Op.{Op}
 use Rattle.mp_base.specs.declared.op.Op.TheVariants.{Add, Sub, WordAnd, WordOr, WordXor}
 use Rattle.mp_base.proofs.Tests.{or_true}
+use Rattle.mp_base.proofs.Lists.{flat_map_same}
 use Rattle.mp_program.specs.Names.{is_same}
 use Rattle.mp_program.proofs.Definitions.{is_same_of}
 use Rattle.form_reader.specs.Text.{is_gap}
@@ -180,10 +181,6 @@ drawn_is seed i = let x : ℕ = after seed (3 * i) in
     (slice_index_or operands (draw x 2 14) []))
     (op_named (draw x 0 5) (draw_small x 0 5 (lit< tt)))
 
-pub flat_same : (f g : ℕ → List ℕ) (xs : List ℕ) → ((k : ℕ) → f k ≡ g k) → flat_map f xs ≡ flat_map g xs
-flat_same f g [] same = refl
-flat_same f g (x ∷ xs) same = ap (λ t. t ++ flat_map f xs) (same x) ∙ ap (λ t. g x ++ t) (flat_same f g xs same)
-
 abbrev pub twelve : (ℕ → Row) → List Row
 twelve r = r 0 ∷ r 1 ∷ r 2 ∷ r 3 ∷ r 4 ∷ r 5 ∷ r 6 ∷ r 7 ∷ r 8 ∷ r 9 ∷ r 10 ∷ r 11 ∷ []
 
@@ -198,7 +195,7 @@ tail_is : (seed : ℕ) → 10 ∷ (flat_map (drawn_setting seed) (range_with_len
     ≡ (text_of (settings (thirteen (row_at seed))) ++ 41 ∷ []) ++ 10 ∷ []
 tail_is seed =
     let rows : List Row = thirteen (row_at seed) in
-    ap (λ t. 10 ∷ (t ++ last)) (flat_same (drawn_setting seed) (λ i. row_text (row_of seed i)) (range_with_len 0 12)
+    ap (λ t. 10 ∷ (t ++ last)) (flat_map_same (drawn_setting seed) (λ i. row_text (row_of seed i)) (range_with_len 0 12)
     (drawn_is seed))
     ∙ lines (twelve (row_of seed)) last
     ∙ sym (ap (λ t. (t ++ 41 ∷ []) ++ 10 ∷ []) (settings_text rows)

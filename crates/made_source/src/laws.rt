@@ -6,10 +6,10 @@ ghost use Rattle.mp_source.specs.Source.{IsSource};
 ghost use Rattle.program_maker.specs.Texts.{source_text};
 ghost use Rattle.made_program.specs.Made.{IsMade};
 
-use form_reader::spelled_is_sound;
+use form_reader::laws::spelled_is_sound;
 use form_text::laws::written_forms_are_spelled;
 use made_program::laws::made_programs_are_unbroken;
-use mp_syntax::forms_verdict;
+use mp_syntax::laws::forms_verdict;
 
 /// The source of each number spells a made program, which breaks no rule.
 pub fn made_sources_are_sources()

@@ -6,7 +6,8 @@ use Rattle.std.specs.List.{list_all}
 use Rattle.std.proofs.lemmas.Bool.{and_parts, leb-true, le-leb, ne_eqb, and_from}
 use Rattle.std.proofs.lemmas.Fmt.{decimal_by_steps}
 use Rattle.mp_base.specs.Token.{is_digit}
-use Rattle.stimulus_lines.specs.Words.{is_blank, is_feed}
+use Rattle.stimulus_lines.specs.Words.{is_blank}
+use Rattle.mp_base.specs.Lines.{is_feed}
 
 pub all_append : (test : ℕ → Bool) (xs ys : List ℕ) → list_all test xs ≡ true → list_all test ys ≡ true
     → list_all test (xs ++ ys) ≡ true

@@ -7,7 +7,8 @@ use Rattle.std.specs.Str.Lines.{strip_carriage_return}
 use Rattle.std.proofs.lemmas.Bool.{and_parts, lt-ltb, not-true}
 use Rattle.std.proofs.lemmas.List.Splits.{slice_split_at, slice_split_none}
 use Rattle.stimulus_lines.specs.declared.piece.Piece.{Piece}
-use Rattle.stimulus_lines.specs.Words.{is_blank, is_feed, placed, words_of, kept_before, words_of_lines}
+use Rattle.stimulus_lines.specs.Words.{is_blank, placed, words_of, kept_before, words_of_lines}
+use Rattle.mp_base.specs.Lines.{is_feed}
 use Rattle.program_maker.specs.Texts as made
 use Rattle.made_stimulus.proofs.Digits.{is_inner, all_append, all_weaker, decimal_inner}
 

@@ -4,7 +4,7 @@ use Rattle.std.specs.Prelude.{ℤ, pos, negsuc, ◌+ℤ◌, ◌-ℤ◌, ◌≤�
 use Rattle.std.proofs.lemmas.Int.{ints, by_lt_z}
 use Rattle.std.proofs.lemmas.Bool.{cases_eq}
 use Rattle.mp_base.proofs.Decisions.{Decided, both_of, one_of, not_so, same_claim, is_integer, is_at_most, is_less}
-use Rattle.mp_base.proofs.Members.{Member}
+use Rattle.mp_base.proofs.Members.{Member, append_left, append_right}
 use Rattle.lam_geom.specs.declared.layer.Layer.{Layer}
 use Rattle.lam_geom.specs.declared.layer.Layer.TheVariants.{ND, NP, NC, NM, NI, NB, NG}
 use Rattle.lam_geom.specs.declared.rect.Rect.{Rect}
@@ -130,15 +130,6 @@ grid : List ℤ → List ℤ → List Square
 grid xs [] = []
 grid xs (y ∷ ys) = row xs y ++ grid xs ys
 
-mem_left : (xs ys : List Square) (a : Square) → Member xs a → Member (xs ++ ys) a
-mem_left [] ys a m = absurd m
-mem_left (x ∷ xs) ys a (inl e) = inl e
-mem_left (x ∷ xs) ys a (inr m) = inr (mem_left xs ys a m)
-
-mem_right : (xs ys : List Square) (a : Square) → Member ys a → Member (xs ++ ys) a
-mem_right [] ys a m = m
-mem_right (x ∷ xs) ys a m = inr (mem_right xs ys a m)
-
 -- a layer that may conduct
 abbrev Metallic : Layer → Type 0
 Metallic l = (l ≡ NM) ⊎ (l ≡ NP) ⊎ (l ≡ ND)
@@ -156,9 +147,9 @@ grid_has : (xs ys : List ℤ) (l : Layer) (x y : ℤ) → Metallic l → Member 
 unfolding grid
 grid_has xs [] l x y k m n = absurd n
 grid_has xs (z ∷ ys) l x y k m (inl e) =
-    mem_left (row xs z) (grid xs ys) (at l x y)
+    append_left (row xs z) (grid xs ys) (at l x y)
     (subst (λ w. Member (row xs w) (at l x y)) (sym e) (row_has xs l x y k m))
-grid_has xs (z ∷ ys) l x y k m (inr n) = mem_right (row xs z) (grid xs ys) (at l x y) (grid_has xs ys l x y k m n)
+grid_has xs (z ∷ ys) l x y k m (inr n) = append_right (row xs z) (grid xs ys) (at l x y) (grid_has xs ys l x y k m n)
 
 size_of : (a b z : ℤ) → a ≤ℤ z → z <ℤ b → z <ℤ (a +ℤ pos (nat_abs (b -ℤ a)))
 size_of a b z le lt = go (b -ℤ a) refl
@@ -184,8 +175,8 @@ squares (r ∷ rs) = squares_in r ++ squares rs
 in_squares : (rs : List Rect) (l m : Layer) (x y : ℤ) → covered rs m x y → Metallic l → Member (squares rs) (at l x y)
 unfolding squares
 in_squares [] l m x y h k = absurd h
-in_squares (r ∷ rs) l m x y (inl h) k = mem_left (squares_in r) (squares rs) (at l x y) (in_rect r l m x y h k)
-in_squares (r ∷ rs) l m x y (inr h) k = mem_right (squares_in r) (squares rs) (at l x y) (in_squares rs l m x y h k)
+in_squares (r ∷ rs) l m x y (inl h) k = append_left (squares_in r) (squares rs) (at l x y) (in_rect r l m x y h k)
+in_squares (r ∷ rs) l m x y (inr h) k = append_right (squares_in r) (squares rs) (at l x y) (in_squares rs l m x y h k)
 
 -- ---- nodes and regions
 

@@ -3,7 +3,7 @@
 ghost use Rattle.mask_laws.specs.Laws.{NumberingExists, NetworkExists, MaskIsJudged, CircuitIsJudged};
 ghost use Rattle.mask_laws.specs.Laws.{NetworkBySquares, FirstBySquares, SoundBySquares};
 
-use switch_net::network_is_determined;
+use switch_net::laws::network_is_determined;
 
 /// The conductors and the channel squares of finitely many rectangles have a numbering.
 pub fn masks_are_numbered()

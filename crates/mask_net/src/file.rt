@@ -5,8 +5,9 @@ ghost use Rattle.mp_base.specs.Refuses.{IsJudged};
 ghost use Rattle.mask_net.specs.Masks.{IsCif, IsDrawing, IsNetOf, OfMask, RefusesBytes};
 
 use crate::laws::one_verdict;
-use cif_flat::{Flat, flatten, read_is_well_formed};
-use cif_form::{scan_is_reading, walk_is_expansion};
+use cif_flat::laws::read_is_well_formed;
+use cif_flat::{Flat, flatten};
+use cif_form::laws::{scan_is_reading, walk_is_expansion};
 use cif_list::Cif;
 use cif_reader::read_cif;
 use extractor::extract;

@@ -2,8 +2,8 @@
 
 ghost use Rattle.mask_net.specs.Laws.{OneNetwork, OneVerdict, SoundWithPads};
 
-use cif_form::{scan_is_unique, walk_is_unique};
-use switch_net::{first_rule_is_determined, network_is_determined};
+use cif_form::laws::{scan_is_unique, walk_is_unique};
+use switch_net::laws::{first_rule_is_determined, network_is_determined};
 
 /// A file draws at most one network.
 pub fn one_network()

@@ -16,7 +16,7 @@ use crate::ends::{all_ends, take_ends};
 use crate::gates::gates;
 use crate::kinds::{kind, mark};
 use mask_pieces::{Cut, Masks, Part};
-use mask_runs::one_colour;
+use mask_runs::laws::one_colour;
 use mp_base::{List, NoMemory};
 use piece_classes::Classed;
 use std::alloc::Global;

@@ -28,7 +28,8 @@ seen : (shapes : List Rect) (l : Layer) (x y : ℤ) → (b : Bool) × ((b ≡ tr
 seen [] l x y = (false, (λ e. absurd (true≢false (sym e)), λ h. absurd h))
 seen (r ∷ rs) l x y = elim (covers_or_not r l x y) [
   | inl h ↦ (true, (λ e. inl h, λ g. refl))
-  | inr n ↦ let s = seen rs l x y in (s.0, (λ e. inr (s.1.0 e), λ g. elim g [ inl h ↦ absurd (n h) | inr h ↦ s.1.1 h ]))
+  | inr n ↦ let (b, (to, from)) = seen rs l x y in
+      (b, (λ e. inr (to e), λ g. elim g [ inl h ↦ absurd (n h) | inr h ↦ from h ]))
 ]
 
 layers_by : (Layer → Bool) → Layers

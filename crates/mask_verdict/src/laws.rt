@@ -4,7 +4,7 @@ ghost use Rattle.std.specs.Prelude.{ℕ, List, Option};
 ghost use Rattle.mp_base.specs.declared.refusal.Broken.{Broken};
 ghost use Rattle.mask_net.specs.Masks.{OfMask};
 
-use cif_form::{scan_is_reading, scanned_commands_fit, walk_is_expansion};
+use cif_form::laws::{scan_is_reading, scanned_commands_fit, walk_is_expansion};
 use cif_reader::laws::text_verdict;
 use cif_verdict::laws::walks_exist;
 use mask_laws::laws::masks_are_judged;

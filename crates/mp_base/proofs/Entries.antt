@@ -2,7 +2,7 @@
 use Rattle.std.proofs.Common.{[], List, ℕ, ◌≤◌, ◌<◌, length, ◌+◌, ◌≡◌, ◌++◌, get_or, ◌∷◌, ◌-◌, arith}
 use Rattle.std.proofs.Common.{drop, ap, take, ◌∙◌, zero, suc, refl, slice_index, replicate, inl}
 use Rattle.std.proofs.Common.{inr, sym, ◌⊎◌, Some, map, subst, Bool, true, false}
-use Rattle.std.specs.Prelude.{slice_range, slice_index, slice_get, Some, Contains, slice_set, All}
+use Rattle.std.specs.Prelude.{slice_range, slice_index, slice_get, Option, Some, None, IsSome, Contains, slice_set, All}
 use Rattle.std.specs.Prelude.{◌||◌, cond}
 use Rattle.std.proofs.lemmas.List.{length-drop, take_more, get_or-drop, get_or-replicate}
 use Rattle.std.proofs.lemmas.List.{get_or_past, length-replicate}
@@ -36,6 +36,14 @@ pub own_default : {X : Type 0} (xs : List X) (i : ℕ) → i < length xs → (x 
 own_default [] i h = absurd (omega (arith, h))
 own_default (x ∷ xs) zero h = (x, refl)
 own_default (x ∷ xs) (suc i) h = own_default xs i (omega (arith, h))
+
+pub none_or_some : {X : Type 0} (o : Option X) → (o ≡ None) ⊎ IsSome o
+none_or_some None = inl refl
+none_or_some (Some x) = inr refl
+
+-- what an option has is one thing
+pub one_value : {X : Type 0} (o : Option X) (x y : X) → o ≡ Some x → o ≡ Some y → x ≡ y
+one_value o x y h k = same_Some x y (sym h ∙ k)
 
 pub zeros_at : (n k : ℕ) → slice_index (replicate n 0) k ≡ 0
 zeros_at n k = elim (cases_lt k n) [

@@ -1,7 +1,8 @@
 -- Lists that are taken, mapped, filtered and put one behind another, for all crates above.
 use Rattle.std.proofs.Common.{[], List, ℕ, ◌≡◌, ◌-◌, arith, ap, take, drop, length, refl, ◌∷◌, suc, map}
-use Rattle.std.proofs.Common.{◌<◌, ◌++◌, ◌⊎◌, Bool, ◌≤◌, inl, subst, cond, sym, inr}
-use Rattle.std.specs.Prelude.{slice_range, filter}
+use Rattle.std.proofs.Common.{◌<◌, ◌++◌, ◌⊎◌, Bool, false, ◌≤◌, inl, subst, cond, sym, inr}
+use Rattle.std.specs.Prelude.{slice_range, filter, flat_map, ◌==◌, ◌||◌}
+use Rattle.std.specs.List.{list_any}
 use Rattle.std.proofs.lemmas.List.{take_all, length_push}
 use Rattle.std.proofs.lemmas.Bool.{cases_Bool}
 use Rattle.mp_base.specs.Table.{table}
@@ -21,11 +22,28 @@ pub length_map : {X Y : Type 0} (f : X → Y) (xs : List X) → length (map f xs
 length_map f [] = refl
 length_map f (x ∷ xs) = ap suc (length_map f xs)
 
-pub head_of : {x y : ℕ} {xs ys : List ℕ} → x ∷ xs ≡ y ∷ ys → x ≡ y
+pub any_map : {X Y : Type 0} (f : X → Y) (test : Y → Bool) (xs : List X)
+    → list_any test (map f xs) ≡ list_any (λ x. test (f x)) xs
+any_map f test [] = refl
+any_map f test (x ∷ xs) = ap (λ b. test (f x) || b) (any_map f test xs)
+
+pub head_of : {X : Type 0} {x y : X} {xs ys : List X} → x ∷ xs ≡ y ∷ ys → x ≡ y
 head_of e = cc
 
-pub tail_of : {x y : ℕ} {xs ys : List ℕ} → x ∷ xs ≡ y ∷ ys → xs ≡ ys
+pub tail_of : {X : Type 0} {x y : X} {xs ys : List X} → x ∷ xs ≡ y ∷ ys → xs ≡ ys
 tail_of e = cc
+
+pub flat_map_same : {X Y : Type 0} (f g : X → List Y) (xs : List X) → ((x : X) → f x ≡ g x)
+    → flat_map f xs ≡ flat_map g xs
+flat_map_same f g xs h = λ i. flat_map (λ x. h x i) xs
+
+pub empty_of : {X : Type 0} (xs : List X) → length xs ≡ 0 → xs ≡ []
+empty_of [] e = refl
+empty_of (x ∷ xs) e = absurd (omega (arith, e))
+
+pub some_items : {X : Type 0} (xs : List X) → (length xs == 0) ≡ false → 0 < length xs
+some_items [] h = absurd (cc)
+some_items (x ∷ xs) h = omega arith
 
 -- an index of a list with one more element
 pub below_or_pushed : {X : Type 0} (xs : List X) (x : X) (i : ℕ) → i < length (xs ++ x ∷ [])

@@ -1,9 +1,9 @@
 -- A member of a list, by recursion, for all crates above.
 use Rattle.std.proofs.Common.{[], List, ◌∷◌, ◌≡◌, ◌⊎◌, ℕ, ◌<◌, length, get_or, arith, zero, inl, refl}
 use Rattle.std.proofs.Common.{suc, inr, Contains, subst, Bool, true, ap, ◌∙◌, cond, sym, false, ◌≤◌}
-use Rattle.std.proofs.Common.{◌+◌, map}
-use Rattle.std.specs.Prelude.{AllPairs, filter, ◌||◌}
-use Rattle.std.specs.List.{range_with_len, list_any}
+use Rattle.std.proofs.Common.{◌+◌, map, ◌++◌}
+use Rattle.std.specs.Prelude.{AllPairs, filter, flat_map, ◌||◌}
+use Rattle.std.specs.List.{range_with_len, list_any, AllZip}
 use Rattle.std.proofs.lemmas.Bool.{cases_eq}
 
 abbrev pub Member : {A : Type 0} → List A → A → Type 0
@@ -88,3 +88,44 @@ any_of test (y ∷ ys) x (inr m) e = ap (λ t. test y || t) (any_of test ys x m 
     go : (t : Bool) → (t || true) ≡ true
     go true = refl
     go false = refl
+
+pub member_append : {A : Type 0} (xs ys : List A) (a : A) → Member (xs ++ ys) a → Member xs a ⊎ Member ys a
+member_append [] ys a h = inr h
+member_append (x ∷ xs) ys a (inl e) = inl (inl e)
+member_append (x ∷ xs) ys a (inr h) = elim (member_append xs ys a h) [ inl m ↦ inl (inr m) | inr m ↦ inr m ]
+
+pub append_left : {A : Type 0} (xs ys : List A) (a : A) → Member xs a → Member (xs ++ ys) a
+append_left [] ys a h = absurd h
+append_left (x ∷ xs) ys a (inl e) = inl e
+append_left (x ∷ xs) ys a (inr h) = inr (append_left xs ys a h)
+
+pub append_right : {A : Type 0} (xs ys : List A) (a : A) → Member ys a → Member (xs ++ ys) a
+append_right [] ys a h = h
+append_right (x ∷ xs) ys a h = inr (append_right xs ys a h)
+
+pub member_flat : {A B : Type 0} (g : A → List B) (xs : List A) (b : B) → Member (flat_map g xs) b
+    → (a : A) × Member xs a × Member (g a) b
+member_flat g [] b h = absurd h
+member_flat g (x ∷ xs) b h = elim (member_append (g x) (flat_map g xs) b h)
+    [ inl m ↦ (x, inl refl, m) | inr m ↦ (let w = member_flat g xs b m in (w.0, inr w.1, w.2)) ]
+
+pub flat_member : {A B : Type 0} (g : A → List B) (xs : List A) (a : A) (b : B) → Member xs a → Member (g a) b
+    → Member (flat_map g xs) b
+flat_member g [] a b m h = absurd m
+flat_member g (x ∷ xs) a b (inl e) h = append_left (g x) (flat_map g xs) b (subst (λ z. Member (g z) b) (sym e) h)
+flat_member g (x ∷ xs) a b (inr m) h = append_right (g x) (flat_map g xs) b (flat_member g xs a b m h)
+
+pub zip_left : {A B : Type 0} (R : A → B → Type 0) (xs : List A) (ys : List B) (a : A) → AllZip R xs ys
+    → Member xs a → (b : B) × Member ys b × R a b
+zip_left R [] ys a z m = absurd m
+zip_left R (x ∷ xs) [] a z m = absurd z
+zip_left R (x ∷ xs) (y ∷ ys) a z (inl e) = (y, inl refl, subst (λ t. R t y) e z.0)
+zip_left R (x ∷ xs) (y ∷ ys) a z (inr m) = let w = zip_left R xs ys a z.1 m in (w.0, inr w.1, w.2)
+
+pub zip_right : {A B : Type 0} (R : A → B → Type 0) (xs : List A) (ys : List B) (b : B) → AllZip R xs ys
+    → Member ys b → (a : A) × Member xs a × R a b
+zip_right R [] [] b z m = absurd m
+zip_right R [] (y ∷ ys) b z m = absurd z
+zip_right R (x ∷ xs) [] b z m = absurd z
+zip_right R (x ∷ xs) (y ∷ ys) b z (inl e) = (x, inl refl, subst (R x) e z.0)
+zip_right R (x ∷ xs) (y ∷ ys) b z (inr m) = let w = zip_right R xs ys b z.1 m in (w.0, inr w.1, w.2)

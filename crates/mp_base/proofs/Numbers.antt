@@ -43,6 +43,12 @@ cancel_integer_factor b (negsuc x) (pos y) h e =
 pub at_most_times : (b k : ℕ) → 0 < b → k ≤ b * k
 at_most_times b k some = grind arith
 
+pub times_suc : (n m : ℕ) → m + n * m ≡ suc n * m
+times_suc n m = grind arith
+
+pub times_next : (n m : ℕ) → (n + 1) * m ≡ n * m + m
+times_next n m = grind arith
+
 pub below_suc : (k i : ℕ) → k < i + 1 → (k < i) ⊎ (k ≡ i)
 below_suc k i h = grind arith
 

@@ -6,17 +6,30 @@ use Rattle.std.proofs.lemmas.Bool.{and_parts, both_ways}
 use Rattle.std.specs.Bool.{Decides}
 use Rattle.std.proofs.lemmas.Bool.Decides.{nat_tests}
 use mathlib.Core.Bool.{beq}
+use mir.Val.{bool_byte}
 use Rattle.mp_base.specs.Apply.{truth}
 
 pub or_true : (b : Bool) → (b || true) ≡ true
 or_true true = refl
 or_true false = refl
 
+pub or_false : (b : Bool) → (b || false) ≡ b
+or_false true = refl
+or_false false = refl
+
+pub or_group : (a b c : Bool) → (a || (b || c)) ≡ ((a || b) || c)
+or_group true b c = refl
+or_group false b c = refl
+
 pub and_left : (a b : Bool) → (a && b) ≡ true → a ≡ true
 and_left a b h = (and_parts a b h).0
 
 pub and_right : (a b : Bool) → (a && b) ≡ true → b ≡ true
 and_right a b h = (and_parts a b h).1
+
+pub same_byte : (b : Bool) → bool_byte b ≡ truth b
+same_byte true = refl
+same_byte false = refl
 
 pub truth_small : (b : Bool) → truth b < 2
 truth_small true = omega arith

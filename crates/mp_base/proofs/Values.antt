@@ -34,6 +34,12 @@ same_trit X Zero zt zf ot of = zf refl
 same_trit X One zt zf ot of = of refl
 same_trit X X zt zf ot of = refl
 
+-- each of two is X or the other
+pub same_if_below : (t u : Trit) → (t ≡ X) ⊎ (t ≡ u) → (u ≡ X) ⊎ (u ≡ t) → t ≡ u
+same_if_below t u (inr e) _ = e
+same_if_below t u (inl e) (inr g) = sym g
+same_if_below t u (inl e) (inl g) = e ∙ sym g
+
 pub same_trit_or_not : (t u : Trit) → (t ≡ u) ⊎ (t ≢ u)
 same_trit_or_not Zero Zero = inl refl
 same_trit_or_not Zero One = inr (λ e. cc)

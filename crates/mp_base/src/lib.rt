@@ -20,6 +20,7 @@ pub use name::Name;
 pub use numeral::push_number;
 pub use op::Op;
 pub use pad::{Inputs, Outputs, Pad, Pads, TritOutputs};
+pub use pad_names::is_supply;
 pub use refusal::{Broken, Family, NoMemory, Place, Refusal, Rule, Spot};
 pub use token::{is_digit, is_token};
 pub use value::{Trit, TritWord, Word};

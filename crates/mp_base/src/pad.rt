@@ -49,7 +49,7 @@ fn names_of<'a>(
 // Whether the names of these pads may stand side by side.
 fn may_stand(alloc: Global, inputs: &[Pad], outputs: &[Pad]) -> Result<bool, AllocError>
     ensures { let names = names_of inputs.now outputs.now (λ pad. pad.name) in
-        IfOk result (λ holds. MatchBool holds (ArePadNames names) (ArePadNames names → ⊥)) }
+        IfOk result (λ holds. MatchBool holds (ArePadNames names) (¬ ArePadNames names)) }
 {
     let names = names_of(alloc, inputs, outputs)?;
     are_pad_names(alloc, &names)

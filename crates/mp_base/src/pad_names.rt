@@ -24,7 +24,8 @@ fn is_run(name: &[u8]) -> bool
     }
 }
 
-fn is_supply(name: &[u8]) -> bool
+/// Whether the name labels a supply or a phase, so that no pad may have it.
+pub fn is_supply(name: &[u8]) -> bool
     ensures { result ≡ is_supply name.now }
 {
     name == b"vdd".as_slice()
@@ -43,7 +44,7 @@ fn is_pad_name(name: &[u8]) -> bool
 /// Whether each may name a pad, and all differ.
 pub(crate) fn are_pad_names(alloc: Global, names: &[&[u8]]) -> Result<bool, AllocError>
     ensures { IfOk result (λ holds. MatchBool holds (ArePadNames (map (λ name. name.now) names.now))
-        (ArePadNames (map (λ name. name.now) names.now) → ⊥)) }
+        (¬ ArePadNames (map (λ name. name.now) names.now))) }
 {
     let mut seen = BTreeSet::new(alloc);
     for name in names {

@@ -32,7 +32,7 @@ fn pad_of(alloc: Global, width: u8, def: &Def) -> Result<Pad, AllocError>
 /// The pads of a program, whose names differ and aren't reserved.
 pub fn pads_of(alloc: Global, program: &Program) -> Result<Pads, AllocError>
     requires own { OwnNames program.now }
-    requires kept { (at : Place) → E20 program.now at → ⊥ }
+    requires kept { (at : Place) → ¬ E20 program.now at }
     ensures { IfOk result (ArePadsOf program.now) }
 {
     let mut inputs = List::new(alloc);

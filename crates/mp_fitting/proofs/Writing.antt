@@ -70,16 +70,16 @@ flat_fits p e (f ∷ fs) h = joined p (e f) (flat_map e fs) h.0 (flat_fits p e f
 all_between : (P : ℕ → Type 0) (i n : ℕ) (fs : List ℕ) → ((j : ℕ) → i < j → j < n → P j) → AllBetween i n fs
     → AllByRecursion P fs
 all_between P i n [] h b = tt
-all_between P i n (f ∷ fs) h b = (h f b.0.0 b.0.1, all_between P i n fs h b.1)
+all_between P i n (f ∷ fs) h ((low, high), others) = (h f low high, all_between P i n fs h others)
 
 branches_fit : (p : Program) (v : ℕ → ℕ) (e : ℕ → List Effect) (i : ℕ) (bs : List Branch)
     → ((j : ℕ) → i < j → j < length p.forms → WritesFit p (e j))
     → BranchesFit (length p.exprs) i (length p.forms) bs → WritesFit p (branch_effects v bs e)
 branches_fit p v e i [] h b = tt
-branches_fit p v e i (x ∷ xs) h b =
+branches_fit p v e i (x ∷ xs) h ((_, body), others) =
     chosen (v x.guard == 1)
-    (flat_fits p e x.body (all_between (λ f. WritesFit p (e f)) i (length p.forms) x.body h b.0.1))
-    (branches_fit p v e i xs h b.1)
+    (flat_fits p e x.body (all_between (λ f. WritesFit p (e f)) i (length p.forms) x.body h body))
+    (branches_fit p v e i xs h others)
   where
     chosen : (t : Bool) → WritesFit p (flat_map e x.body) → WritesFit p (branch_effects v xs e)
         → WritesFit p (cond t (flat_map e x.body) (branch_effects v xs e))
@@ -186,8 +186,8 @@ module _ (p : Program) (a : Fitting p) (env : List ℕ) (f : ValuesFit p env) wh
   guard_in : (g n : ℕ) (bs : List Branch) (b : Branch) → BranchesFit (length p.exprs) g n bs → Contains bs b
       → (b.guard < length p.exprs) × Contains (map (λ (x : Branch). x.guard) bs) b.guard
   guard_in g n [] b fit (k, lt, same) = absurd (omega (arith, lt))
-  guard_in g n (x ∷ xs) b fit (zero, lt, same) =
-      let inside = subst (λ (y : Branch). y.guard < length p.exprs) same fit.0.0 in
+  guard_in g n (x ∷ xs) b ((guard, _), _) (zero, lt, same) =
+      let inside = subst (λ (y : Branch). y.guard < length p.exprs) same guard in
       (inside, (zero, omega arith, ap (λ (y : Branch). y.guard) same))
   guard_in g n (x ∷ xs) b fit (suc k, lt, same) =
       let (inside, (j, below, e)) = guard_in g n xs b fit.1 (k, omega (arith, lt), same) in

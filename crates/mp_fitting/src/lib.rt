@@ -23,7 +23,7 @@ use mp_rules::laws::own_names;
 
 /// The state of zeros is a state of a program in which each process has a form.
 pub fn zero_is_a_state(program: &Program)
-    requires { (at : Place) → E36 program.now at → ⊥ }
+    requires { (at : Place) → ¬ E36 program.now at }
     ensures { IsState program.now (zero_state program.now) }
 {}
 
@@ -35,9 +35,9 @@ pub fn zero_state_fits(program: &Program)
 /// Where the state and the inputs fit, so do all values of the clock, since there is an order of evaluation.
 pub fn environments_fit(program: &Program, order: &[u32])
     requires ordered { IsOrder program.now order.now }
-    requires names { (at : Place) → E20 program.now at → ⊥ }
-    requires sorts { (at : Place) → E22 program.now at → ⊥ }
-    requires sizes { (at : Place) → E23 program.now at → ⊥ }
+    requires names { (at : Place) → ¬ E20 program.now at }
+    requires sorts { (at : Place) → ¬ E22 program.now at }
+    requires sizes { (at : Place) → ¬ E23 program.now at }
     ensures { (st : State) (inputs env : List ℕ) → IsState program.now st → StateFits program.now st
         → FitsPads (input_pads program.now) inputs → IsEnvironment program.now st inputs env
         → ValuesFit program.now env }
@@ -51,9 +51,9 @@ pub fn environments_fit(program: &Program, order: &[u32])
 
 /// Where all values of the clock fit, the guards of branches are bits.
 pub fn guards_fit(program: &Program)
-    requires names { (at : Place) → E20 program.now at → ⊥ }
-    requires sorts { (at : Place) → E22 program.now at → ⊥ }
-    requires sizes { (at : Place) → E23 program.now at → ⊥ }
+    requires names { (at : Place) → ¬ E20 program.now at }
+    requires sorts { (at : Place) → ¬ E22 program.now at }
+    requires sizes { (at : Place) → ¬ E23 program.now at }
     ensures { (env : List ℕ) (f : ℕ) (form : Form) (branches : List Branch) (branch : Branch)
         → ValuesFit program.now env → IsAt program.now.forms f form → form.kind ≡ Cond branches
         → Contains branches branch → value_of program.now env branch.guard < 2 }
@@ -74,9 +74,9 @@ pub fn outputs_fit(program: &Program)
 
 /// Where the state and all values of the clock fit, so does the next state.
 pub fn next_states_fit(program: &Program)
-    requires names { (at : Place) → E20 program.now at → ⊥ }
-    requires sorts { (at : Place) → E22 program.now at → ⊥ }
-    requires sizes { (at : Place) → E23 program.now at → ⊥ }
+    requires names { (at : Place) → ¬ E20 program.now at }
+    requires sorts { (at : Place) → ¬ E22 program.now at }
+    requires sizes { (at : Place) → ¬ E23 program.now at }
     ensures { (st : State) (inputs env : List ℕ) → StateFits program.now st → ValuesFit program.now env
         → StateFits program.now (next_state program.now st inputs env) }
 {

@@ -19,7 +19,8 @@ use Rattle.mp_rules.specs.Breaking.{IsEarliest}
 use Rattle.mp_rules.specs.Rules.{E40, namings_up_to}
 use Rattle.mp_rules.specs.declared.limits.TheConstants.{NAMING_LIMIT}
 use Rattle.mp_limits.specs.Finding.{place_that, is_from, named_from}
-use Rattle.mp_limits.proofs.Scans.{IsFoundIn, earliest_same, earliest_two, passes, passed}
+use Rattle.mp_limits.proofs.Scans.{IsFoundIn, earliest_two, passes, passed}
+use Rattle.mp_rules.proofs.EarliestPlaces.{earliest_same}
 use Rattle.mp_limits.proofs.Namings.{has_name, def_named, process_named, named}
 use Rattle.mp_limits.proofs.Wide.{def_place}
 use Rattle.mp_limits.proofs.Present.{process_place}
@@ -108,8 +109,8 @@ pub from_earliest : (p : Program) (s : List ℕ) (found : Option Place) → IsNo
     → found ≡ named_from p (get_or s NAMING_LIMIT 0) → IsEarliest (E40 p) found
 from_earliest p s found up same long e =
     rw e (earliest_same (λ at. IsFoundIn in_defs p.defs at ⊎ IsFoundIn in_processes p.processes at) (E40 p)
-    (named_from p (get_or s NAMING_LIMIT 0)) to from
-    (earliest_two in_defs in_processes p.defs p.processes))
+    (named_from p (get_or s NAMING_LIMIT 0)) (earliest_two in_defs in_processes p.defs p.processes) to
+    from)
   where
     in_defs : Def → Option Place
     in_defs = place_that def_place (is_from (get_or s NAMING_LIMIT 0))

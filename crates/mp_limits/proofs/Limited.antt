@@ -12,7 +12,8 @@ use Rattle.mp_rules.specs.Breaking.{IsEarliest}
 use Rattle.mp_rules.specs.Rules.{E42, E43}
 use Rattle.mp_rules.specs.declared.limits.TheConstants.{FORM_LIMIT, DEPTH_LIMIT}
 use Rattle.mp_limits.specs.Finding.{earliest_in, place_that, far_form}
-use Rattle.mp_limits.proofs.Scans.{IsFoundIn, earliest_same, earliest_one, passes, passed}
+use Rattle.mp_limits.proofs.Scans.{IsFoundIn, earliest_one, passes, passed}
+use Rattle.mp_rules.proofs.EarliestPlaces.{earliest_same}
 
 abbrev pub depth_place : Process → Place
 depth_place q = q.depth_at
@@ -37,8 +38,9 @@ far_found forms q at h = by_index (slice_get q.forms FORM_LIMIT) refl h
 pub long_earliest : (p : Program) (found : Option Place) → found ≡ earliest_in (far_form p.forms) None p.processes
     → IsEarliest (E42 p) found
 long_earliest p found e =
-    rw e (earliest_same (IsFoundIn (far_form p.forms) p.processes) (E42 p) _ to from
-    (earliest_one (far_form p.forms) p.processes))
+    rw e (earliest_same (IsFoundIn (far_form p.forms) p.processes) (E42 p) _
+    (earliest_one (far_form p.forms) p.processes) to
+    from)
   where
     to : (at : Place) → IsFoundIn (far_form p.forms) p.processes at → E42 p at
     to at (k, q, is, f) = let h = far_found p.forms q at f in (k, q, h.0, h.1, is, h.2, h.3, h.4)
@@ -59,8 +61,9 @@ pub deep_earliest : (p : Program) (found : Option Place)
     → found ≡ earliest_in (place_that depth_place is_too_deep) None p.processes
     → IsEarliest (E43 p) found
 deep_earliest p found e =
-    rw e (earliest_same (IsFoundIn (place_that depth_place is_too_deep) p.processes) (E43 p) _ to from
-    (earliest_one (place_that depth_place is_too_deep) p.processes))
+    rw e (earliest_same (IsFoundIn (place_that depth_place is_too_deep) p.processes) (E43 p) _
+    (earliest_one (place_that depth_place is_too_deep) p.processes) to
+    from)
   where
     to : (at : Place) → IsFoundIn (place_that depth_place is_too_deep) p.processes at → E43 p at
     to at (k, q, is, f) = let h = passes depth_place is_too_deep q at f in

@@ -1,26 +1,13 @@
 -- The definitions and processes that have a name.
-use Rattle.std.proofs.Common.{◌≡◌, ◌⊎◌, inl, inr, zero, suc, List, [], ◌∷◌, sym, ◌∙◌, ap, subst, arith, Bool, true}
-use Rattle.std.proofs.Common.{false, cond}
+use Rattle.std.proofs.Common.{◌≡◌, ◌⊎◌, inl, inr, [], Bool, true}
 use Rattle.std.specs.Prelude.{map, filter, not, Contains}
 use Rattle.std.proofs.lemmas.List.Elements.{Contains-append_left, Contains-append_right, Contains-append_cases}
-use Rattle.mp_base.proofs.Contents.{contains_behind, contains_map, contains_from_map, contains_from_filter, nothing_in}
+use Rattle.mp_base.proofs.Contents.{contains_map, contains_from_map, contains_from_filter, contains_filter}
 use Rattle.mp_program.specs.declared.program.Def.{Def}
 use Rattle.mp_program.specs.declared.program.Process.{Process}
 use Rattle.mp_program.specs.declared.program.Program.{Program}
 use Rattle.mp_program.specs.Names.{is_supply}
 use Rattle.mp_rules.specs.Naming.{Naming, namings, def_naming, process_naming}
-
--- a member that passes a test is kept
-in_filter : {X : Type 0} (t : X → Bool) (xs : List X) (x : X) → Contains xs x → t x ≡ true → Contains (filter t xs) x
-in_filter t [] x c h = absurd (nothing_in x c)
-in_filter t (z ∷ zs) x (zero, lt, is) h =
-    let P : Bool → Type 0 = λ b. Contains (cond b (z ∷ filter t zs) (filter t zs)) x in
-    subst P (sym h ∙ ap t (sym is)) (0, omega arith, is)
-in_filter t (z ∷ zs) x (suc k, lt, is) h = kept (t z) (in_filter t zs x (k, omega (arith, lt), is) h)
-  where
-    kept : (b : Bool) → Contains (filter t zs) x → Contains (cond b (z ∷ filter t zs) (filter t zs)) x
-    kept true c = contains_behind x z (filter t zs) c
-    kept false c = c
 
 abbrev pub has_name : Def → Bool
 has_name d = not (is_supply d.what)
@@ -29,7 +16,7 @@ pub def_named : (p : Program) (x : Def) → Contains p.defs x → has_name x ≡
     → Contains (namings p) (def_naming x)
 def_named p x c h =
     Contains-append_left (map def_naming (filter has_name p.defs)) (map process_naming p.processes) (def_naming x)
-    (contains_map def_naming (filter has_name p.defs) x (in_filter has_name p.defs x c h))
+    (contains_map def_naming (filter has_name p.defs) x (contains_filter has_name p.defs x c h))
 
 pub process_named : (p : Program) (q : Process) → Contains p.processes q → Contains (namings p) (process_naming q)
 process_named p q c =

@@ -1,5 +1,5 @@
 -- Rules E34 to E36 by tests of definitions and processes.
-use Rattle.std.proofs.Common.{◌≡◌, ◌≢◌, ◌⊎◌, inl, inr, ℕ, zero, suc, List, [], ◌∷◌, refl, sym, ◌∙◌, ap, subst, arith}
+use Rattle.std.proofs.Common.{◌≡◌, ◌≢◌, ◌⊎◌, inl, inr, zero, suc, List, [], ◌∷◌, refl, sym, ◌∙◌, ap, subst, arith}
 use Rattle.std.proofs.Common.{length, get_or, Bool, true, false, Option, Some, None}
 use Rattle.std.specs.Prelude.{◌==◌, ◌||◌, Contains}
 use Rattle.std.specs.List.{All, list_all, list_any}
@@ -7,6 +7,7 @@ use Rattle.std.proofs.lemmas.Bool.{true≢false, false≢true, eqb-true, eq-eqb,
 use Rattle.std.proofs.lemmas.List.Sums.{AllPass-from_list_all}
 use Rattle.std.proofs.lemmas.List.Folds.{list_any_none}
 use Rattle.mp_base.specs.declared.refusal.Place.{Place}
+use Rattle.mp_base.proofs.Lists.{empty_of}
 use Rattle.mp_program.specs.declared.program.What.{What}
 use Rattle.mp_program.specs.declared.program.What.TheVariants.{Power, Ground, Phia, Phib, Phic}
 use Rattle.mp_program.specs.declared.program.Def.{Def}
@@ -17,7 +18,8 @@ use Rattle.mp_rules.specs.Naming.{supplies}
 use Rattle.mp_rules.specs.Breaking.{IsEarliest}
 use Rattle.mp_rules.specs.Rules.{E34, E35, E36}
 use Rattle.mp_limits.specs.Finding.{earliest_in, place_that, stored_in, is_same_supply, defines}
-use Rattle.mp_limits.proofs.Scans.{IsFoundIn, earliest_same, earliest_one, earliest_two, passes, passed}
+use Rattle.mp_limits.proofs.Scans.{IsFoundIn, earliest_one, earliest_two, passes, passed}
+use Rattle.mp_rules.proofs.EarliestPlaces.{earliest_same}
 use Rattle.mp_limits.proofs.Wide.{def_place}
 
 abbrev pub process_place : Process → Place
@@ -46,9 +48,9 @@ stored_earliest p found none e =
     rw e (earliest_same
     (λ at. IsFoundIn (place_that def_place (λ (d : Def). is_stored d.what)) p.defs at
     ⊎ IsFoundIn (λ (q : Process). Some q.place) p.processes at)
-    (E34 p) (stored_in p) to from
-    (earliest_two (place_that def_place (λ (d : Def). is_stored d.what))
-    (λ (q : Process). Some q.place) p.defs p.processes))
+    (E34 p) (stored_in p) (earliest_two (place_that def_place (λ (d : Def). is_stored d.what))
+    (λ (q : Process). Some q.place) p.defs p.processes) to
+    from)
   where
     to : (at : Place)
         → IsFoundIn (place_that def_place (λ (d : Def). is_stored d.what)) p.defs at
@@ -68,16 +70,12 @@ pub empty_earliest : (p : Program) (found : Option Place)
     → IsEarliest (E36 p) found
 empty_earliest p found e =
     rw e (earliest_same (IsFoundIn (place_that process_place (λ (q : Process). length q.forms == 0)) p.processes)
-    (E36 p) _ to from (earliest_one _ p.processes))
+    (E36 p) _ (earliest_one _ p.processes) to from)
   where
-    nothing : (xs : List ℕ) → length xs ≡ 0 → xs ≡ []
-    nothing [] h = refl
-    nothing (x ∷ xs) h = absurd (omega (arith, h))
-
     to : (at : Place) → IsFoundIn (place_that process_place (λ (q : Process). length q.forms == 0)) p.processes at
         → E36 p at
     to at (k, q, is, f) = let h = passes process_place (λ (q : Process). length q.forms == 0) q at f in
-        (k, q, is, nothing q.forms (eqb-true (length q.forms) 0 h.0), h.1)
+        (k, q, is, empty_of q.forms (eqb-true (length q.forms) 0 h.0), h.1)
 
     from : (at : Place) → E36 p at
         → IsFoundIn (place_that process_place (λ (q : Process). length q.forms == 0)) p.processes at
@@ -113,7 +111,7 @@ some_fails : {X : Type 0} (t : X → Bool) (xs : List X) → list_all t xs ≡ f
 some_fails t [] h = absurd (true≢false h)
 some_fails t (x ∷ xs) h = elim (and_cases (t x) (list_all t xs) h) [
   | inl e ↦ (x, (0, omega arith, refl), e)
-  | inr e ↦ let f = some_fails t xs e in (f.0, (suc f.1.0, (let lt = f.1.1 in omega (arith, lt)), f.1.2), f.2)
+  | inr e ↦ let (y, (k, within, there), fails) = some_fails t xs e in (y, (suc k, omega (arith, within), there), fails)
 ]
 
 pub missing : (p : Program) → list_all (defines p.defs) supplies ≡ false → IsEarliest (E35 p) (Some p.place)

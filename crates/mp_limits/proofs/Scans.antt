@@ -1,43 +1,13 @@
 -- The earliest of the places that are found in lists.
-use Rattle.std.proofs.Common.{◌≡◌, ◌⊎◌, inl, inr, ℕ, zero, suc, List, [], ◌∷◌, refl, sym, ◌∙◌, ap, arith, Bool, true}
+use Rattle.std.proofs.Common.{◌≡◌, ◌⊎◌, inl, inr, ℕ, zero, suc, List, [], ◌∷◌, refl, sym, ◌∙◌, ap, Bool, true}
 use Rattle.std.proofs.Common.{false, cond, Option, Some, None}
-use Rattle.std.specs.Prelude.{nat_le}
-use Rattle.std.proofs.lemmas.Bool.{leb-true, leb-false}
 use Rattle.std.proofs.lemmas.Option.{none-some, same_Some}
 use Rattle.std.specs.List.{filter_map, fold, cons_option}
 use Rattle.mp_base.specs.declared.refusal.Place.{Place}
 use Rattle.mp_base.specs.Entries.{IsAt}
 use Rattle.mp_rules.specs.Breaking.{IsEarliest, earlier}
+use Rattle.mp_rules.proofs.EarliestPlaces.{earliest_same, earliest_either, earliest_at}
 use Rattle.mp_limits.specs.Finding.{earliest_in, place_that}
-
--- the earliest place of one property is that of another that is true of the same places
-pub earliest_same : (P Q : Place → Type 0) (found : Option Place) → ((at : Place) → P at → Q at)
-    → ((at : Place) → Q at → P at) → IsEarliest P found → IsEarliest Q found
-earliest_same P Q None to from h = λ at q. h at (from at q)
-earliest_same P Q (Some at) to from h = (to at h.0, λ there q. h.1 there (from there q))
-
--- a further place
-pub earliest_more : (P : Place → Type 0) (found : Option Place) (x : Place) → IsEarliest P found
-    → IsEarliest (λ at. P at ⊎ (at ≡ x)) (earlier found x)
-earliest_more P None x h =
-    (inr refl, λ there q. elim q [ inl p ↦ absurd (h there p) | inr e ↦ omega (arith, ap (λ (z : Place). z.offset) e) ])
-earliest_more P (Some at) x h = by_test (nat_le at.offset x.offset) refl
-  where
-    by_test : (b : Bool) → nat_le at.offset x.offset ≡ b → IsEarliest (λ y. P y ⊎ (y ≡ x)) (cond b (Some at) (Some x))
-    by_test true e = (
-      inl h.0,
-      λ there q. elim q [
-        | inl p ↦ h.1 there p
-        | inr s ↦ omega (arith, leb-true at.offset x.offset e, ap (λ (z : Place). z.offset) s)
-      ],
-    )
-    by_test false e = (
-      inr refl,
-      λ there q. elim q [
-        | inl p ↦ omega (arith, h.1 there p, leb-false at.offset x.offset e)
-        | inr s ↦ omega (arith, ap (λ (z : Place). z.offset) s)
-      ],
-    )
 
 -- a place that is found in an element of a list
 abbrev pub IsFoundIn : {X : Type 0} → (X → Option Place) → List X → Place → Type 0
@@ -57,8 +27,8 @@ pub earliest_from : {X : Type 0} (find : X → Option Place) (xs : List X) (P : 
     → IsEarliest P found
     → IsEarliest (λ at. P at ⊎ IsFoundIn find xs at) (earliest_in find found xs)
 earliest_from find [] P found h =
-    earliest_same P (λ at. P at ⊎ IsFoundIn find [] at) found (λ at p. inl p)
-    (λ at q. elim q [ inl p ↦ p | inr (k, x, is, f) ↦ absurd (none-some x is) ]) h
+    earliest_same P (λ at. P at ⊎ IsFoundIn find [] at) found h
+    (λ at p. inl p) (λ at q. elim q [ inl p ↦ p | inr (k, x, is, f) ↦ absurd (none-some x is) ])
 earliest_from find (x ∷ xs) P found h = by_first (earliest_from find xs) (find x) refl
   where
     by_first : ((Q : Place → Type 0) (o : Option Place) → IsEarliest Q o
@@ -67,6 +37,7 @@ earliest_from find (x ∷ xs) P found h = by_first (earliest_from find xs) (find
     by_first rest None e =
         earliest_same (λ at. P at ⊎ IsFoundIn find xs at) (λ at. P at ⊎ IsFoundIn find (x ∷ xs) at)
         (earliest_in find found xs)
+        (rest P found h)
         (λ at q. elim q [ inl p ↦ inl p | inr f ↦ inr (later find x xs at f) ])
         (λ at q. elim q [
           | inl p ↦ inl p
@@ -75,10 +46,11 @@ earliest_from find (x ∷ xs) P found h = by_first (earliest_from find xs) (find
             | inr next ↦ inr next
           ]
         ])
-        (rest P found h)
     by_first rest (Some y) e =
         earliest_same (λ at. (P at ⊎ (at ≡ y)) ⊎ IsFoundIn find xs at) (λ at. P at ⊎ IsFoundIn find (x ∷ xs) at)
         (earliest_in find (earlier found y) xs)
+        (rest (λ at. P at ⊎ (at ≡ y)) (earlier found y)
+        (earliest_either P (λ at. at ≡ y) found (Some y) h (earliest_at y)))
         (λ at q. elim q [
           | inl before ↦ elim before [ inl p ↦ inl p | inr s ↦ inr (0, x, refl, e ∙ ap Some (sym s)) ]
           | inr f ↦ inr (later find x xs at f)
@@ -90,14 +62,13 @@ earliest_from find (x ∷ xs) P found h = by_first (earliest_from find xs) (find
             | inr next ↦ inr next
           ]
         ])
-        (rest (λ at. P at ⊎ (at ≡ y)) (earlier found y) (earliest_more P found y h))
 
 -- the earliest of what is found in one list
 pub earliest_one : {X : Type 0} (find : X → Option Place) (xs : List X)
     → IsEarliest (IsFoundIn find xs) (earliest_in find None xs)
 earliest_one find xs = earliest_same (λ at. ⊥ ⊎ IsFoundIn find xs at) (IsFoundIn find xs) (earliest_in find None xs)
-    (λ at q. elim q [ inl none ↦ absurd none | inr f ↦ f ]) (λ at f. inr f)
-    (earliest_from find xs (λ at. ⊥) None (λ at none. none))
+    (earliest_from find xs (λ at. ⊥) None (λ at none. none)) (λ at q. elim q [ inl none ↦ absurd none | inr f ↦ f ])
+    (λ at f. inr f)
 
 -- the earliest of what is found in two lists
 pub earliest_two : {X Y : Type 0} (f : X → Option Place) (g : Y → Option Place) (xs : List X) (ys : List Y)

@@ -25,8 +25,10 @@ use Rattle.mp_base.specs.Entries.{IsAt}
 use Rattle.mp_rules.specs.Breaking.{IsEarliest, earlier}
 use Rattle.mp_rules.specs.Rules.{E26}
 use Rattle.mp_base.proofs.Entries.{get_middle, get_kept, push_cases}
+use Rattle.mp_base.proofs.Tests.{or_false, or_group}
 use Rattle.mp_limits.specs.Finding.{earliest_in, is_padded_port, uneven_port, IsRepeatedIn, SeenPins, pins_before}
-use Rattle.mp_limits.proofs.Scans.{IsFoundIn, earliest_same, earliest_more, earliest_one}
+use Rattle.mp_limits.proofs.Scans.{IsFoundIn, earliest_one}
+use Rattle.mp_rules.proofs.EarliestPlaces.{earliest_same, earliest_either, earliest_at}
 
 -- a number is among those of pins
 HasNumber : List Pin → ℕ → Type 0
@@ -57,16 +59,8 @@ no_number (y ∷ ys) n (suc j) a h is e = no_number ys n j a (rest (y.number == 
 any_push : (ps : List Pin) (y : Pin) (n : ℕ)
     → list_any (λ (z : Pin). z.number == n) (ps ++ y ∷ [])
     ≡ (list_any (λ (z : Pin). z.number == n) ps || (y.number == n))
-any_push [] y n = last (y.number == n)
-  where
-    last : (b : Bool) → (b || false) ≡ b
-    last true = refl
-    last false = refl
-any_push (z ∷ zs) y n = ap (λ b. (z.number == n) || b) (any_push zs y n) ∙ regroup (z.number == n) _ _
-  where
-    regroup : (a b c : Bool) → (a || (b || c)) ≡ ((a || b) || c)
-    regroup true b c = refl
-    regroup false b c = refl
+any_push [] y n = or_false (y.number == n)
+any_push (z ∷ zs) y n = ap (λ b. (z.number == n) || b) (any_push zs y n) ∙ or_group (z.number == n) _ _
 
 -- a repeated pin among these and one more
 repeated_push : (ps : List Pin) (y : Pin) (at : Place) → IsRepeatedIn (ps ++ y ∷ []) at
@@ -127,11 +121,11 @@ pub seen_new : (ps : List Pin) (y : Pin) (old new : BTreeSet ℕ) (found : Optio
 seen_new ps y old new found s absent grown = record {
   numbers = λ n. grown n ∙ ap (λ b. b || (y.number == n)) (s.numbers n) ∙ sym (any_push ps y n);
   earliest =
-      earliest_same (IsRepeatedIn ps) (IsRepeatedIn (ps ++ y ∷ [])) found (λ at h. repeated_kept ps y at h)
-      (λ at h. elim (repeated_push ps y at h) [
+      earliest_same (IsRepeatedIn ps) (IsRepeatedIn (ps ++ y ∷ [])) found s.earliest
+      (λ at h. repeated_kept ps y at h) (λ at h. elim (repeated_push ps y at h) [
         | inl before ↦ before
         | inr now ↦ absurd (no_number ps y.number now.1 now.2 (sym (s.numbers y.number) ∙ absent) now.3 now.4)
-      ]) s.earliest;
+      ]);
 }
 
 -- a pin that was seen
@@ -143,9 +137,9 @@ seen_again ps y old new found s there grown = record {
   numbers = λ n. grown n ∙ ap (λ b. b || (y.number == n)) (s.numbers n) ∙ sym (any_push ps y n);
   earliest =
       earliest_same (λ at. IsRepeatedIn ps at ⊎ (at ≡ y.place)) (IsRepeatedIn (ps ++ y ∷ [])) (earlier found y.place)
+      (earliest_either (IsRepeatedIn ps) (λ at. at ≡ y.place) found (Some y.place) s.earliest (earliest_at y.place))
       (λ at h. elim h [ inl before ↦ repeated_kept ps y at before | inr now ↦ repeats at now ])
-      (λ at h. elim (repeated_push ps y at h) [ inl before ↦ inl before | inr now ↦ inr now.0 ])
-      (earliest_more (IsRepeatedIn ps) found y.place s.earliest);
+      (λ at h. elim (repeated_push ps y at h) [ inl before ↦ inl before | inr now ↦ inr now.0 ]);
 }
   where
     repeats : (at : Place) → at ≡ y.place → IsRepeatedIn (ps ++ y ∷ []) at
@@ -200,8 +194,9 @@ uneven_found w x at h = by_test (is_padded_port x.what && not (length x.pins == 
 pub uneven_earliest : (p : Program) (found : Option Place) → found ≡ earliest_in (uneven_port p.width) None p.defs
     → IsEarliest (E26 p) found
 uneven_earliest p found e =
-    rw e (earliest_same (IsFoundIn (uneven_port p.width) p.defs) (E26 p) _ to from
-    (earliest_one (uneven_port p.width) p.defs))
+    rw e (earliest_same (IsFoundIn (uneven_port p.width) p.defs) (E26 p) _ (earliest_one (uneven_port p.width) p.defs)
+    to
+    from)
   where
     to : (at : Place) → IsFoundIn (uneven_port p.width) p.defs at → E26 p at
     to at (k, x, is, f) = let h = uneven_found p.width x at f in (k, x, h.0, is, h.1, h.2, h.3, h.4)

@@ -14,7 +14,8 @@ use Rattle.mp_program.specs.declared.program.Program.{Program}
 use Rattle.mp_rules.specs.Breaking.{IsEarliest}
 use Rattle.mp_rules.specs.Rules.{E23, E24}
 use Rattle.mp_limits.specs.Finding.{earliest_in, place_that, is_wide_constant, is_wide_number, is_past_word}
-use Rattle.mp_limits.proofs.Scans.{IsFoundIn, earliest_same, earliest_one, earliest_two, passes, passed}
+use Rattle.mp_limits.proofs.Scans.{IsFoundIn, earliest_one, earliest_two, passes, passed}
+use Rattle.mp_rules.proofs.EarliestPlaces.{earliest_same}
 
 wide_constant : (w : ℕ) (x : What) → is_wide_constant w x ≡ true → (c : ℕ) × (x ≡ Constant c) × (2 ^ w ≤ c)
 wide_constant w (Constant c) h = (c, refl, leb-true (2 ^ w) c h)
@@ -43,7 +44,7 @@ wide_earliest p found e =
     rw e (earliest_same
     (λ at. IsFoundIn (place_that def_place (λ (d : Def). is_wide_constant p.width d.what)) p.defs at
     ⊎ IsFoundIn (place_that expr_place (λ (e : Expr). is_wide_number p.width e.kind)) p.exprs at)
-    (E23 p) _ to from (earliest_two _ _ p.defs p.exprs))
+    (E23 p) _ (earliest_two _ _ p.defs p.exprs) to from)
   where
     to : (at : Place)
         → IsFoundIn (place_that def_place (λ (d : Def). is_wide_constant p.width d.what)) p.defs at
@@ -78,7 +79,7 @@ pub past_earliest : (p : Program) (found : Option Place)
     → IsEarliest (E24 p) found
 past_earliest p found e =
     rw e (earliest_same (IsFoundIn (place_that expr_place (λ (e : Expr). is_past_word p.width e.kind)) p.exprs)
-    (E24 p) _ to from (earliest_one _ p.exprs))
+    (E24 p) _ (earliest_one _ p.exprs) to from)
   where
     to : (at : Place) → IsFoundIn (place_that expr_place (λ (e : Expr). is_past_word p.width e.kind)) p.exprs at
         → E24 p at

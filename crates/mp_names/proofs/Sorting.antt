@@ -20,7 +20,6 @@ use Rattle.mp_base.specs.Entries.{IsAt}
 use Rattle.mp_rules.specs.Sorts.{Sort, IsWord, IsBit, what_sort, name_sort, operand_sort, expr_sort, IsWanted}
 use Rattle.mp_rules.specs.Breaking.{IsEarliest}
 use Rattle.mp_base.proofs.Entries.{contains_from_get, get_from_contains}
-use Rattle.mp_rules.proofs.Sorts.{same_sort}
 use Rattle.name_meanings.specs.declared.named.Named as known_names
 use Rattle.name_meanings.specs.declared.table.NameTable.{NameTable}
 use Rattle.name_meanings.specs.Named.{first_of}
@@ -29,7 +28,8 @@ use Rattle.mp_names.specs.Finding.{earliest}
 use Rattle.mp_names.specs.Sorting.{sort_in, kind_sort, unless_same, misfit, operand_misfit, value_misfit, form_misfit}
 use Rattle.mp_names.specs.Sorting.{earliest_misfit}
 use Rattle.mp_names.proofs.Entries.{Found, of_map, in_map}
-use Rattle.mp_names.proofs.Earliest.{like, either, in_list}
+use Rattle.mp_names.proofs.Earliest.{in_list}
+use Rattle.mp_rules.proofs.EarliestPlaces.{earliest_same, earliest_either}
 
 -- the sort of a name, by the index of its first definition
 abbrev sort_at : List Def → Option ℕ → Option Sort
@@ -88,7 +88,9 @@ misfits p t s e holds = found (slice_get p.exprs e) refl
         → IsEarliest (Misfits p s e)
         (option_and_then (λ (x : Expr). unless_same s x.place (kind_sort p.defs t x.kind)) o)
     found None none = λ at (x, other, there, is, differs, same). let some = there in cc
-    found (Some x) some = like (Other s x.place (kind_sort p.defs t x.kind)) (Misfits p s e)
+    found (Some x) some = earliest_same (Other s x.place (kind_sort p.defs t x.kind)) (Misfits p s e)
+        (unless_same s x.place (kind_sort p.defs t x.kind))
+        (others s x.place (kind_sort p.defs t x.kind))
         (λ at (other, is, differs, same). (
           x,
           other,
@@ -97,8 +99,7 @@ misfits p t s e holds = found (slice_get p.exprs e) refl
               ∙ is,
           differs,
           same,
-        ))
-        (λ at (y, other, there, is, differs, same). let one : y ≡ x =
+        )) (λ at (y, other, there, is, differs, same). let one : y ≡ x =
         same_Some y x (sym there ∙ some) in (
           other,
           ap (λ (z : Expr). kind_sort p.defs t z.kind) (sym one) ∙ expr_sorts p t y.kind holds
@@ -106,7 +107,6 @@ misfits p t s e holds = found (slice_get p.exprs e) refl
           differs,
           same ∙ ap (λ (z : Expr). z.place) one,
         ))
-        (unless_same s x.place (kind_sort p.defs t x.kind)) (others s x.place (kind_sort p.defs t x.kind))
 
 -- an operand of an expression of this kind doesn't fit
 abbrev OperandMisfits : Program → ExprKind → Place → Type 0
@@ -120,14 +120,14 @@ operand_misfits p t (Named x) holds = λ at (op, index, args, is, found). cc
 operand_misfits p t True holds = λ at (op, index, args, is, found). cc
 operand_misfits p t False holds = λ at (op, index, args, is, found). cc
 operand_misfits p t (Apply op k args) holds =
-    like (λ at. Found args (λ e. Misfits p (operand_sort op) e at)) (OperandMisfits p (Apply op k args))
+    earliest_same (λ at. Found args (λ e. Misfits p (operand_sort op) e at)) (OperandMisfits p (Apply op k args))
+    (earliest (misfit p t (operand_sort op)) args)
+    (in_list (λ e at. Misfits p (operand_sort op) e at) (misfit p t (operand_sort op))
+    (λ e. misfits p t (operand_sort op) e holds) args)
     (λ at found. (op, k, args, refl, found))
     (λ at (other, index, list, is, found). let same : args ≡ list = cc in let one : op ≡ other = cc in
     subst (λ (o : Op). Found args (λ e. Misfits p (operand_sort o) e at)) (sym one)
     (subst (λ (l : List ℕ). Found l (λ e. Misfits p (operand_sort other) e at)) (sym same) found))
-    (earliest (misfit p t (operand_sort op)) args)
-    (in_list (λ e at. Misfits p (operand_sort op) e at) (misfit p t (operand_sort op))
-    (λ e. misfits p t (operand_sort op) e holds) args)
 
 -- a guard or the value of a form of this kind doesn't fit
 abbrev GuardMisfits : Program → FormKind → Place → Type 0
@@ -148,31 +148,31 @@ value_misfits p t x there v holds None sort = λ at h. elim h [
   | inr (y, place, w, s, is, other, fault) ↦ let same : x ≡ y = cc in
       let e : name_sort p.defs x ≡ Some s = ap (name_sort p.defs) same ∙ other in cc
 ]
-value_misfits p t x there v holds (Some s) sort = like (Misfits p s v) (FormMisfits p (Set x there v))
-    (λ at fault. inr (x, there, v, s, refl, sort, fault))
-    (λ at h. elim h [
+value_misfits p t x there v holds (Some s) sort = earliest_same (Misfits p s v) (FormMisfits p (Set x there v))
+    (misfit p t s v)
+    (misfits p t s v holds)
+    (λ at fault. inr (x, there, v, s, refl, sort, fault)) (λ at h. elim h [
       | inl (bs, is, found) ↦ cc
       | inr (y, place, w, r, is, other, fault) ↦ let same : x ≡ y = cc in let value : w ≡ v = cc in
           let e : Some r ≡ Some s = sym other ∙ ap (name_sort p.defs) (sym same) ∙ sort in
           let one : r ≡ s = cc in subst (λ r. Misfits p r v at) one (subst (λ w. Misfits p r w at) value fault)
     ])
-    (misfit p t s v) (misfits p t s v holds)
 
 form_misfits : (p : Program) (t : NameTable) (k : FormKind) → IsNameTable p t
     → IsEarliest (FormMisfits p k) (form_misfit p t k)
 form_misfits p t (Set x there v) holds =
     rw (name_sorts p t x holds) (value_misfits p t x there v holds (name_sort p.defs x) refl)
 form_misfits p t (Cond branches) holds =
-    like (λ at. Found branches (λ (b : Branch). Misfits p IsBit b.guard at)) (FormMisfits p (Cond branches))
+    earliest_same (λ at. Found branches (λ (b : Branch). Misfits p IsBit b.guard at)) (FormMisfits p (Cond branches))
+    (earliest (λ (b : Branch). misfit p t IsBit b.guard) branches)
+    (in_list (λ (b : Branch) at. Misfits p IsBit b.guard at) (λ (b : Branch). misfit p t IsBit b.guard)
+    (λ (b : Branch). misfits p t IsBit b.guard holds) branches)
     (λ at found. inl (branches, refl, found))
     (λ at h. elim h [
       | inl (bs, is, found) ↦ let same : branches ≡ bs = cc in
           subst (λ (l : List Branch). Found l (λ (b : Branch). Misfits p IsBit b.guard at)) (sym same) found
       | inr (y, place, w, r, is, other, fault) ↦ cc
     ])
-    (earliest (λ (b : Branch). misfit p t IsBit b.guard) branches)
-    (in_list (λ (b : Branch) at. Misfits p IsBit b.guard at) (λ (b : Branch). misfit p t IsBit b.guard)
-    (λ (b : Branch). misfits p t IsBit b.guard holds) branches)
 form_misfits p t (Par forms) holds =
     λ at h. elim h [ inl (bs, is, found) ↦ cc | inr (y, place, w, r, is, other, fault) ↦ cc ]
 form_misfits p t (Go l) holds =
@@ -236,7 +236,7 @@ back p at (e, x, s, other, there, wanted, sort, differs, is) =
             k,
             args,
             kind,
-            (j, e, found, subst (λ r. Misfits p r e at) (same_sort s (operand_sort op) want) fault),
+            (j, e, found, subst (λ r. Misfits p r e at) (same_Some s (operand_sort op) want) fault),
           ),
         )
     stands p at s e fault (inr (inl (f, y, bs, there, kind, has, want))) =
@@ -245,19 +245,20 @@ back p at (e, x, s, other, there, wanted, sort, differs, is) =
           y,
           there,
           inl
-              (bs, kind, guards p at e bs (subst (λ r. Misfits p r e at) (same_sort s IsBit want) fault) has),
+              (bs, kind, guards p at e bs (subst (λ r. Misfits p r e at) (same_Some s IsBit want) fault) has),
         )
     stands p at s e fault (inr (inr (f, y, name, place, there, kind, want))) =
         inr (f, y, there, inr (name, place, e, s, kind, sym want, fault))
 
 pub earliest_wrong_sort : (p : Program) (t : NameTable) → IsNameTable p t
     → IsEarliest (WrongSort p) (earliest_misfit p t)
-earliest_wrong_sort p t holds = like (Standing p) (WrongSort p) (told p) (back p) (earliest_misfit p t)
-    (either (λ at. Found p.exprs (λ (x : Expr). OperandMisfits p x.kind at))
+earliest_wrong_sort p t holds = earliest_same (Standing p) (WrongSort p) (earliest_misfit p t)
+    (earliest_either (λ at. Found p.exprs (λ (x : Expr). OperandMisfits p x.kind at))
     (λ at. Found p.forms (λ (y : Form). FormMisfits p y.kind at))
     (earliest (λ (x : Expr). operand_misfit p t x.kind) p.exprs)
     (earliest (λ (y : Form). form_misfit p t y.kind) p.forms)
     (in_list (λ (x : Expr) at. OperandMisfits p x.kind at) (λ (x : Expr). operand_misfit p t x.kind)
     (λ (x : Expr). operand_misfits p t x.kind holds) p.exprs)
     (in_list (λ (y : Form) at. FormMisfits p y.kind at) (λ (y : Form). form_misfit p t y.kind)
-    (λ (y : Form). form_misfits p t y.kind holds) p.forms))
+    (λ (y : Form). form_misfits p t y.kind holds) p.forms)) (told p)
+    (back p)

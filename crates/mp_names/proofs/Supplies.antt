@@ -10,10 +10,9 @@ use Rattle.mp_program.specs.declared.program.What.TheVariants.{Flag, Port, Signa
 use Rattle.mp_program.specs.declared.program.Def.{Def}
 use Rattle.mp_program.specs.Names.{is_supply}
 use Rattle.mp_base.proofs.Entries.{push_cases, get_middle, get_kept}
-use Rattle.mp_rules.specs.Breaking.{IsEarliest, earlier}
-use Rattle.mp_names.specs.Finding.{earlier_of}
+use Rattle.mp_rules.specs.Breaking.{IsEarliest, earlier, earlier_of}
 use Rattle.mp_names.specs.Repeats.{Defines, Repeats, RepeatsSupply}
-use Rattle.mp_names.proofs.Earliest.{like, either}
+use Rattle.mp_rules.proofs.EarliestPlaces.{earliest_same, earliest_either, earliest_at}
 
 -- what repeats in a list with one more definition repeats in the list, or is the last and the kind was there
 repeats_push : (ds : List Def) (d : Def) (w : What) (at : Place) → Repeats (ds ++ d ∷ []) w at
@@ -39,18 +38,21 @@ repeats_before ds d w at (j, k, a, b, first, second, lt, kind, same, is) =
 no_repeat : (ds : List Def) (d : Def) (w : What) (found : Option Place) → (Defines ds w → d.what ≡ w → ⊥)
     → IsEarliest (Repeats ds w) found
     → IsEarliest (Repeats (ds ++ d ∷ []) w) found
-no_repeat ds d w found other = like (Repeats ds w) (Repeats (ds ++ d ∷ []) w) (repeats_before ds d w)
+no_repeat ds d w found other earliest =
+    earliest_same (Repeats ds w) (Repeats (ds ++ d ∷ []) w) found earliest (repeats_before ds d w)
     (λ at h. elim (repeats_push ds d w at h) [
       | inl before ↦ before
       | inr (defined, same, is) ↦ absurd (other defined same)
-    ]) found
+    ])
 
 -- another definition of the kind
 a_repeat : (ds : List Def) (d : Def) (w : What) (found : Option Place) → Defines ds w → d.what ≡ w
     → IsEarliest (Repeats ds w) found
     → IsEarliest (Repeats (ds ++ d ∷ []) w) (earlier found d.place)
 a_repeat ds d w found (j, a, before, kind) same h =
-    like (λ at. Repeats ds w at ⊎ (at ≡ d.place)) (Repeats (ds ++ d ∷ []) w)
+    earliest_same (λ at. Repeats ds w at ⊎ (at ≡ d.place)) (Repeats (ds ++ d ∷ []) w)
+    (earlier found d.place)
+    (earliest_either (Repeats ds w) (λ at. at ≡ d.place) found (Some d.place) h (earliest_at d.place))
     (λ at g. elim g [
       | inl there ↦ repeats_before ds d w at there
       | inr is ↦
@@ -58,9 +60,6 @@ a_repeat ds d w found (j, a, before, kind) same h =
           (j, length ds, a, d, first, get_middle ds d [], slice_get_within ds j a before, kind, same, is)
     ])
     (λ at g. elim (repeats_push ds d w at g) [ inl there ↦ inl there | inr (defined, is_kind, is) ↦ inr is ])
-    (earlier found d.place)
-    (either (Repeats ds w) (λ at. at ≡ d.place) found (Some d.place) h
-    (refl, λ at is. omega (arith, ap (λ (p : Place). p.offset) is)))
 
 defines_push : (ds : List Def) (d : Def) (w : What) → Defines ds w ⊎ (d.what ≡ w) → Defines (ds ++ d ∷ []) w
 defines_push ds d w (inl (j, a, there, kind)) = (j, a, get_kept ds (d ∷ []) j a there, kind)
@@ -160,13 +159,14 @@ pub of_five : (ds : List Def) (a b c d e : Option Place) → IsEarliest (Repeats
     → IsEarliest (Repeats ds Ground) b → IsEarliest (Repeats ds Phia) c
     → IsEarliest (Repeats ds Phib) d → IsEarliest (Repeats ds Phic) e
     → IsEarliest (RepeatsSupply ds) (earlier_of (earlier_of (earlier_of (earlier_of a b) c) d) e)
-of_five ds a b c d e power ground phia phib phic = like (OneOfFive ds) (RepeatsSupply ds) (told ds)
+of_five ds a b c d e power ground phia phib phic = earliest_same (OneOfFive ds) (RepeatsSupply ds)
+    (earlier_of (earlier_of (earlier_of (earlier_of a b) c) d) e)
+    (earliest_either (λ at. ((Repeats ds Power at ⊎ Repeats ds Ground at) ⊎ Repeats ds Phia at) ⊎ Repeats ds Phib at)
+    (Repeats ds Phic) (earlier_of (earlier_of (earlier_of a b) c) d) e
+    (earliest_either (λ at. (Repeats ds Power at ⊎ Repeats ds Ground at) ⊎ Repeats ds Phia at) (Repeats ds Phib)
+    (earlier_of (earlier_of a b) c) d
+    (earliest_either (λ at. Repeats ds Power at ⊎ Repeats ds Ground at) (Repeats ds Phia) (earlier_of a b) c
+    (earliest_either (Repeats ds Power) (Repeats ds Ground) a b power ground) phia) phib) phic)
+    (told ds)
     (λ at (j, k, x, y, first, second, lt, supply, same, is). which ds x.what at supply
     (j, k, x, y, first, second, lt, refl, sym same, is))
-    (earlier_of (earlier_of (earlier_of (earlier_of a b) c) d) e)
-    (either (λ at. ((Repeats ds Power at ⊎ Repeats ds Ground at) ⊎ Repeats ds Phia at) ⊎ Repeats ds Phib at)
-    (Repeats ds Phic) (earlier_of (earlier_of (earlier_of a b) c) d) e
-    (either (λ at. (Repeats ds Power at ⊎ Repeats ds Ground at) ⊎ Repeats ds Phia at) (Repeats ds Phib)
-    (earlier_of (earlier_of a b) c) d
-    (either (λ at. Repeats ds Power at ⊎ Repeats ds Ground at) (Repeats ds Phia) (earlier_of a b) c
-    (either (Repeats ds Power) (Repeats ds Ground) a b power ground) phia) phib) phic)

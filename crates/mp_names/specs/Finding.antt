@@ -1,12 +1,7 @@
 -- The earliest place among those that are found in a list.
-use Rattle.std.specs.Prelude.{List, Option, Some, None, fold}
+use Rattle.std.specs.Prelude.{List, Option, None, fold}
 use Rattle.mp_base.specs.declared.refusal.Place.{Place}
-use Rattle.mp_rules.specs.Breaking.{earlier}
-
--- the earlier of two that were found
-abbrev pub earlier_of : Option Place → Option Place → Option Place
-earlier_of found None = found
-earlier_of found (Some at) = earlier found at
+use Rattle.mp_rules.specs.Breaking.{earlier_of}
 
 -- the earliest that is found in an entry of a list
 abbrev pub earliest : {X : Type 0} → (X → Option Place) → List X → Option Place

@@ -13,7 +13,8 @@ use Rattle.mp_names.specs.declared.uses.Misuse.{Misuse}
 use Rattle.mp_names.specs.declared.uses.Misuse.TheVariants.{Undefined, OfProcess, OfUnset}
 use Rattle.name_meanings.specs.declared.table.NameTable.{NameTable}
 use Rattle.name_meanings.specs.Table.{known}
-use Rattle.mp_names.specs.Finding.{earlier_of, earliest}
+use Rattle.mp_names.specs.Finding.{earliest}
+use Rattle.mp_rules.specs.Breaking.{earlier_of}
 
 -- to use a name of which this is known is such a misuse
 abbrev pub is_misuse : Misuse → Named → Bool

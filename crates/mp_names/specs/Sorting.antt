@@ -16,7 +16,8 @@ use Rattle.mp_names.specs.declared.sorts.Sort as coded
 use Rattle.mp_names.specs.declared.sorts.Sort.TheVariants as codes
 use Rattle.name_meanings.specs.declared.table.NameTable.{NameTable}
 use Rattle.name_meanings.specs.Table.{known}
-use Rattle.mp_names.specs.Finding.{earlier_of, earliest}
+use Rattle.mp_names.specs.Finding.{earliest}
+use Rattle.mp_rules.specs.Breaking.{earlier_of}
 
 -- the sort that the code means
 abbrev pub meant : coded.Sort → Sort

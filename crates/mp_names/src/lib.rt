@@ -1,7 +1,6 @@
 //! The rules of names: E20 to E22 and E27.
 #![tactic(auto)]
 
-mod find;
 pub mod laws;
 mod repeated;
 mod sorts;

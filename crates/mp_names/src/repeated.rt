@@ -8,10 +8,9 @@ ghost use Rattle.mp_names.specs.Finding.{earliest};
 ghost use Rattle.name_meanings.specs.Table.{IsNameTable};
 ghost use Rattle.mp_names.specs.Repeats.{is_repeated, repeated_def, repeated_process, Repeats, RepeatsSupply};
 
-use crate::find::earlier_of;
 use mp_base::Place;
 use mp_program::{Def, Process, Program, What};
-use mp_rules::earlier;
+use mp_rules::{earlier, earlier_of};
 use name_meanings::NameTable;
 
 // Whether nothing may have this name.

@@ -13,10 +13,10 @@ ghost use Rattle.name_meanings.specs.Table.{IsNameTable};
 ghost use Rattle.mp_names.specs.Sorting.{meant, sort_in, kind_sort, misfit, operand_misfit, form_misfit};
 ghost use Rattle.mp_names.specs.Sorting.{earliest_misfit};
 
-use crate::find::earlier_of;
 use crate::uses::Misuse;
 use mp_base::{Op, Place};
 use mp_program::{Branch, Expr, ExprKind, Form, FormKind, Program, What};
+use mp_rules::earlier_of;
 use name_meanings::NameTable;
 
 /// What an expression is.

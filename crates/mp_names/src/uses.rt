@@ -7,9 +7,9 @@ ghost use Rattle.mp_program.specs.declared.program.Expr.{Expr};
 ghost use Rattle.mp_program.specs.declared.program.Form.{Form};
 ghost use Rattle.name_meanings.specs.Table.{IsNameTable};
 
-use crate::find::earlier_of;
 use mp_base::Place;
 use mp_program::{Expr, ExprKind, Form, FormKind, Program};
+use mp_rules::earlier_of;
 use name_meanings::{NameTable, Named};
 
 /// A misuse of a name: of one that nothing has, of one of a process, or of one that no form may set.

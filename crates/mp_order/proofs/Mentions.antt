@@ -5,7 +5,6 @@ use Rattle.std.specs.Prelude.{◌||◌, slice_index, slice_set, Contains}
 use Rattle.std.specs.List.{list_any}
 use Rattle.std.proofs.lemmas.Bool.{cases_eq}
 use Rattle.std.proofs.lemmas.List.{get_or-set_same, get_or-set_other, length-set}
-use Rattle.std.proofs.lemmas.List.Folds.{list_any_at}
 use Rattle.mp_base.specs.declared.op.Op.{Op}
 use Rattle.mp_program.specs.declared.program.ExprKind.TheVariants.{Number, Named, True, False, Apply}
 use Rattle.mp_program.specs.declared.program.ExprKind.{ExprKind}
@@ -19,7 +18,7 @@ use Rattle.mp_program.proofs.Definitions.{is_same_of, same_is}
 use Rattle.name_meanings.specs.declared.meaning.Meanings.{Meanings}
 use Rattle.name_meanings.specs.Meaning.{AreMeanings}
 use Rattle.mp_base.specs.Entries.{IsAt}
-use Rattle.mp_base.proofs.Contents.{holds_of_contained}
+use Rattle.mp_base.proofs.Contents.{holds_of_contained, any_contained}
 use Rattle.mp_order.specs.Demands.{IsDriven, OwnNames, WeighsDriven, AreTops}
 use Rattle.mp_order.proofs.Names.{meant}
 
@@ -34,10 +33,6 @@ any_of {X} test (x ∷ xs) h = by_first (test x) refl h (λ r. any_of test xs r)
         → (y : X) × Contains (x ∷ xs) y × (test y ≡ true)
     by_first true e h rest = (x, (0, omega arith, refl), e)
     by_first false e h rest = let (y, (k, lt, is), t) = rest h in (y, (suc k, omega (arith, lt), is), t)
-
-pub any_at : {X : Type 0} (test : X → Bool) (xs : List X) (x : X) → Contains xs x → test x ≡ true
-    → list_any test xs ≡ true
-any_at test xs x (k, lt, is) t = list_any_at test xs k x lt (ap test is ∙ t)
 
 -- top is the greatest weight of a driven definition that passes
 pub record IsTop (p : Program) (weights : List ℕ) (passes : List ℕ → Bool) (top : ℕ) : Type 0 where
@@ -115,7 +110,7 @@ top_apply p weights tops n e args top t next fit (bound, met) = record {
   met = λ some.
       let (i, inside, is) = met some in let b = between i inside in
       let (d, x, driven, m, w) = t.met i (omega (arith, b.0, next)) b.1 (omega (arith, is, some)) in
-      (d, x, driven, any_at (mentions p x.name) args i inside m, w ∙ is);
+      (d, x, driven, any_contained (mentions p x.name) args i inside m, w ∙ is);
 }
   where
     between : (i : ℕ) → Contains args i → (e < i) × (i < length p.exprs)

@@ -19,7 +19,8 @@ use Rattle.mp_program.specs.Reads.{roots}
 use Rattle.mp_program.specs.Sound.{IsSound, InnerFit, AllBetween}
 use Rattle.mp_base.specs.Entries.{IsAt}
 use Rattle.mp_order.specs.Demands.{IsDriven, AreTops, Gives, Marked, root, inner}
-use Rattle.mp_order.proofs.Mentions.{any_of, any_at}
+use Rattle.mp_order.proofs.Mentions.{any_of}
+use Rattle.mp_base.proofs.Contents.{any_contained}
 use Rattle.mp_order.proofs.Marks.{given_inside}
 
 -- ---- tests
@@ -76,13 +77,13 @@ in_reads m s before (x ∷ bs) r (zero, b, c, at, inside, inl reads) =
     or_right ((before || m x.guard) && list_any s x.body)
     (list_any r x.body || branches_read m s (before || m x.guard) bs r)
     (or_left (list_any r x.body) (branches_read m s (before || m x.guard) bs r)
-    (any_at r x.body c (subst P (sym (same_Some x b at)) inside) reads))
+    (any_contained r x.body c (subst P (sym (same_Some x b at)) inside) reads))
 in_reads m s before (x ∷ bs) r (zero, b, c, at, inside, inr (set, why)) =
     let P : Branch → Type 0 = λ y. Contains y.body c in
     or_left ((before || m x.guard) && list_any s x.body)
     (list_any r x.body || branches_read m s (before || m x.guard) bs r)
     (and_from (before || m x.guard) (list_any s x.body) (guarded why)
-    (any_at s x.body c (subst P (sym (same_Some x b at)) inside) set))
+    (any_contained s x.body c (subst P (sym (same_Some x b at)) inside) set))
   where
     guarded : (before ≡ true) ⊎ ((i : ℕ) × (g : Branch) × IsAt (x ∷ bs) i g × (i ≤ 0) × (m g.guard ≡ true))
         → (before || m x.guard) ≡ true
@@ -120,7 +121,8 @@ set_in bs s h =
 in_sets : (bs : List Branch) (s : ℕ → Bool) (j : ℕ) (b : Branch) (c : ℕ) → IsAt bs j b → Contains b.body c → s c ≡ true
     → branches_set bs s ≡ true
 in_sets bs s j b c at inside t =
-    any_at (λ (x : Branch). list_any s x.body) bs b (contains_from_get bs j b at) (any_at s b.body c inside t)
+    any_contained (λ (x : Branch). list_any s x.body) bs b (contains_from_get bs j b at)
+    (any_contained s b.body c inside t)
 
 -- ---- the laws of programs
 
@@ -220,7 +222,7 @@ kind_up : (tops x : List ℕ) (m s r : ℕ → Bool) (kind : FormKind) (mark g k
     → kind_reads m s x kind r ≡ true
 kind_up tops x m s r (Cond bs) mark g k (j, b, at, inside, worth) t =
     in_reads m s false bs r (j, b, g, at, inside, inl t)
-kind_up tops x m s r (Par fs) mark g k (inside, e) t = any_at r fs g inside t
+kind_up tops x m s r (Par fs) mark g k (inside, e) t = any_contained r fs g inside t
 kind_up tops x m s r (Set y at v) mark g k none t = absurd none
 kind_up tops x m s r (Go l) mark g k none t = absurd none
 kind_up tops x m s r (Call l) mark g k none t = absurd none
@@ -228,7 +230,7 @@ kind_up tops x m s r Return mark g k none t = absurd none
 
 pub read_up : (p : Program) → ReadsLaw p → (tops x n : List ℕ) (f k : ℕ) → Marked p tops f k
     → form_reads p x n f ≡ true → list_any (form_reads p x n) (roots p) ≡ true
-read_up p law tops x n f k (root h) t = any_at (form_reads p x n) (roots p) f h t
+read_up p law tops x n f k (root h) t = any_contained (form_reads p x n) (roots p) f h t
 read_up p law tops x n f k (inner {f = c} {mark = mark} y up at gives) t =
     read_up p law tops x n c mark up
     (law x n c y at
@@ -273,7 +275,7 @@ mark_up p s sl rl weights tops x t f k (inner {f = c} {mark = mark} y up at give
         )
     by_kind (Par fs) is (inside, e) step =
         same e (step (omega (arith, e, more))
-        (ap (λ kind. kind_sets x kind (sets p x)) is ∙ any_at (sets p x) fs f inside set))
+        (ap (λ kind. kind_sets x kind (sets p x)) is ∙ any_contained (sets p x) fs f inside set))
     by_kind (Set y at v) is none step = absurd none
     by_kind (Go l) is none step = absurd none
     by_kind (Call l) is none step = absurd none

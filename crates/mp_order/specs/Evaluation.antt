@@ -10,5 +10,5 @@ use Rattle.mp_order.specs.declared.evaluation.Evaluation.TheVariants.{Order, Clo
 
 -- an order of evaluation, where no definition reads itself through a chain, or the earliest place where one does
 abbrev pub IsEvaluation : Program → Evaluation → Type 0
-IsEvaluation p (Order order) = IsOrder p order × ((at : Place) → E33 p at → ⊥)
+IsEvaluation p (Order order) = IsOrder p order × ((at : Place) → ¬ E33 p at)
 IsEvaluation p (Closed at) = IsEarliest (E33 p) (Some at)

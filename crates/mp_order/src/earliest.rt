@@ -35,7 +35,7 @@ fn precedes(place: Place, found: Option<Setting>) -> bool
 
 /// The earliest `setq` of a definition with a flag above 0.
 pub fn earliest(program: &Program, meanings: &Meanings, flags: &[u32]) -> Option<Setting>
-    ensures { MatchOption result ((at : Place) → FlaggedSet program.now meanings.now flags.now at → ⊥)
+    ensures { MatchOption result ((at : Place) → ¬ FlaggedSet program.now meanings.now flags.now at)
         (λ found. SetsFlagged program.now meanings.now flags.now found.target found.place
         × ((at : Place) → FlaggedSet program.now meanings.now flags.now at → found.place.offset ≤ at.offset)) }
 {

@@ -15,12 +15,12 @@ use mp_program::{Program, laws};
 
 /// A chain of reads runs from one definition to another, or none does.
 pub fn chains()
-    ensures { (p : spec.Program) (a b : ℕ) → Chain p a b ⊎ (Chain p a b → ⊥) }
+    ensures { (p : spec.Program) (a b : ℕ) → Chain p a b ⊎ ¬ Chain p a b }
 {}
 
 /// Where rule E33 isn't broken, there is an order of evaluation.
 pub fn order_exists(program: &Program)
-    requires { (at : Place) → E33 program.now at → ⊥ }
+    requires { (at : Place) → ¬ E33 program.now at }
     ensures { (order : List ℕ) × IsOrder program.now order }
 {
     laws::sound(program);
@@ -30,7 +30,7 @@ pub fn order_exists(program: &Program)
 
 /// Where rule E33 isn't broken, a state and inputs have exactly one environment.
 pub fn one_environment(program: &Program)
-    requires { (at : Place) → E33 program.now at → ⊥ }
+    requires { (at : Place) → ¬ E33 program.now at }
     ensures { (st : State) (inputs : List ℕ) → IsState program.now st
         → ExactlyOne (IsEnvironment program.now st inputs) }
 {
@@ -40,8 +40,8 @@ pub fn one_environment(program: &Program)
 
 /// Where rules E33 and E36 aren't broken, inputs have exactly one trace.
 pub fn one_trace(program: &Program)
-    requires chains { (at : Place) → E33 program.now at → ⊥ }
-    requires forms { (at : Place) → E36 program.now at → ⊥ }
+    requires chains { (at : Place) → ¬ E33 program.now at }
+    requires forms { (at : Place) → ¬ E36 program.now at }
     ensures { (inputs : List (List ℕ)) → ExactlyOne (IsTrace program.now inputs) }
 {
     order_exists(program);

@@ -1,5 +1,5 @@
 -- What ports and signals read of each other, and the orders in which they can be evaluated.
-use Rattle.std.specs.Prelude.{◌≡◌, ℕ, ◌<◌, List, [], ◌∷◌, ◌++◌, Bool, true, false, ◌||◌, ◌&&◌, length, slice_index}
+use Rattle.std.specs.Prelude.{◌≡◌, ℕ, ◌<◌, List, [], ◌∷◌, ◌++◌, Bool, true, false, ◌||◌, ◌&&◌, length, slice_index, ◌≢◌}
 use Rattle.std.specs.Prelude.{slice_index_or, slice_get, Some}
 use Rattle.std.specs.List.{list_any}
 use Rattle.mp_program.specs.declared.program.ExprKind.{ExprKind}
@@ -85,7 +85,7 @@ pub data Chain (p : Program) : ℕ → ℕ → Type 0 where
 pub record IsOrder (p : Program) (order : List ℕ) : Type 0 where
   pub driven : (k : ℕ) → k < length order
       → (x : Def) × (slice_get p.defs (slice_index order k) ≡ Some x) × (is_driven x.what ≡ true)
-  pub once : (j k : ℕ) → j < k → k < length order → slice_index order j ≡ slice_index order k → ⊥
+  pub once : (j k : ℕ) → j < k → k < length order → slice_index order j ≢ slice_index order k
   pub all : (d : ℕ) (x : Def) → slice_get p.defs d ≡ Some x → is_driven x.what ≡ true
       → (k : ℕ) × (k < length order) × (slice_index order k ≡ d)
   pub after : (k b : ℕ) → k < length order → Reads p (slice_index order k) b

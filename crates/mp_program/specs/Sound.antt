@@ -1,5 +1,5 @@
 -- What a program's type says, index by index.
-use Rattle.std.specs.Prelude.{◌≡◌, ℕ, ◌<◌, ◌≤◌, List, length, slice_index, slice_get, Some, true}
+use Rattle.std.specs.Prelude.{◌≡◌, ℕ, ◌<◌, ◌≤◌, List, length, slice_index, slice_get, Some, true, ◌≢◌}
 use Rattle.std.specs.List.{AllByRecursion}
 use Rattle.mp_program.specs.declared.program.ExprKind.{ExprKind}
 use Rattle.mp_program.specs.declared.program.ExprKind.TheVariants.{Apply}
@@ -36,7 +36,7 @@ InnerFit e i n _ = Unit {0}
 
 -- the numbers in a list differ
 abbrev pub AreApart : List ℕ → Type 0
-AreApart xs = (j k : ℕ) → j < k → k < length xs → slice_index xs j ≡ slice_index xs k → ⊥
+AreApart xs = (j k : ℕ) → j < k → k < length xs → slice_index xs j ≢ slice_index xs k
 
 -- each expression and each form stands in one place at most, and none is higher than the limit
 pub record IsTree (p : Program) : Type 0 where

@@ -1,5 +1,5 @@
+pub mod EarliestPlaces
 pub mod Sequences
-pub mod Sorts
 pub mod Unbroken
 mod Places
 mod Own

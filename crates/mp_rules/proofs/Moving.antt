@@ -33,7 +33,7 @@ use Rattle.mp_rules.proofs.Sequences.{in_sequence, under_more}
 body_fits : (e i n : ℕ) (bs : List Branch) (fs : List ℕ) → BranchesFit e i n bs
     → Contains (map (λ (b : Branch). b.body) bs) fs → AllBetween i n fs
 body_fits e i n [] fs h (k, lt, is) = absurd (omega (arith, lt))
-body_fits e i n (b ∷ bs) fs h (zero, lt, is) = subst (AllBetween i n) is h.0.1
+body_fits e i n (b ∷ bs) fs ((_, body), _) (zero, lt, is) = subst (AllBetween i n) is body
 body_fits e i n (b ∷ bs) fs h (suc k, lt, is) = body_fits e i n bs fs h.1 (k, omega (arith, lt), is)
 
 -- the forms of a sequence stand behind the form

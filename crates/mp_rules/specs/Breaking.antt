@@ -23,11 +23,11 @@ Breaks p k at =
 
 -- no rule is broken
 abbrev pub IsUnbroken : Program → Type 0
-IsUnbroken p = (k : ℕ) (at : Place) → Breaks p k at → ⊥
+IsUnbroken p = (k : ℕ) (at : Place) → ¬ Breaks p k at
 
 -- no rule below E k is broken
 abbrev pub IsUnbrokenBelow : ℕ → Program → Type 0
-IsUnbrokenBelow k p = (l : ℕ) (at : Place) → l < k → Breaks p l at → ⊥
+IsUnbrokenBelow k p = (l : ℕ) (at : Place) → l < k → ¬ Breaks p l at
 
 -- rule E k is broken at a place, no rule of a smaller number is broken, and that one at no smaller offset
 pub record IsFirst (p : Program) (k : ℕ) (at : Place) : Type 0 where
@@ -37,12 +37,17 @@ pub record IsFirst (p : Program) (k : ℕ) (at : Place) : Type 0 where
 -- the earliest place where this is true, or none where it is true nowhere
 abbrev pub IsEarliest : (Place → Type 0) → Option Place → Type 0
 IsEarliest P found =
-    MatchOption found ((at : Place) → P at → ⊥) (λ at. P at × ((there : Place) → P there → at.offset ≤ there.offset))
+    MatchOption found ((at : Place) → ¬ P at) (λ at. P at × ((there : Place) → P there → at.offset ≤ there.offset))
 
 -- the earlier of what was found and another place
 abbrev pub earlier : Option Place → Place → Option Place
 earlier None at = Some at
 earlier (Some place) at = if nat_le place.offset at.offset then Some place else Some at
+
+-- the earlier of two that were found
+abbrev pub earlier_of : Option Place → Option Place → Option Place
+earlier_of found None = found
+earlier_of found (Some at) = earlier found at
 
 -- no rule is broken, or this is the first one that is, at its place
 abbrev pub OfProgram : Program → Option Broken → Type 0

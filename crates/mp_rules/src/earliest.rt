@@ -1,7 +1,7 @@
 //! The earliest of some places.
 
 ghost use Rattle.std.specs.Prelude.{◌≡◌};
-ghost use Rattle.mp_rules.specs.Breaking.{earlier};
+ghost use Rattle.mp_rules.specs.Breaking.{earlier, earlier_of};
 
 use mp_base::Place;
 
@@ -12,5 +12,15 @@ pub fn earlier(found: Option<Place>, at: Place) -> Option<Place>
     match found {
         Some(place) if place.offset <= at.offset => found,
         _ => Some(at),
+    }
+}
+
+/// The earlier of two places that were found.
+pub fn earlier_of(found: Option<Place>, other: Option<Place>) -> Option<Place>
+    ensures { result ≡ earlier_of found other }
+{
+    match other {
+        Some(at) => earlier(found, at),
+        None => found,
     }
 }

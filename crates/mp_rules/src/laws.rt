@@ -32,18 +32,18 @@ pub fn broken_at_a_place()
 
 /// Where no name is repeated, no definition stands before one of its name.
 pub fn own_names(program: &Program)
-    requires { (at : Place) → E20 program.now at → ⊥ }
+    requires { (at : Place) → ¬ E20 program.now at }
     ensures { OwnNames program.now }
 {}
 
 /// Where E40 isn't broken, there aren't more named definitions and processes than there may be.
 pub fn few_namings()
-    ensures { (p : spec.Program) → ((at : Place) → E40 p at → ⊥) → length (namings p) ≤ NAMING_LIMIT }
+    ensures { (p : spec.Program) → ((at : Place) → ¬ E40 p at) → length (namings p) ≤ NAMING_LIMIT }
 {}
 
 /// Where rule E32 isn't broken, the active form of a process moves it once at most.
 pub fn one_move(program: &Program)
-    requires { (at : Place) → E32 program.now at → ⊥ }
+    requires { (at : Place) → ¬ E32 program.now at }
     ensures { (env : List ℕ) (k : ℕ) (q : Process) (f : ℕ) → IsAt program.now.processes k q → Contains q.forms f
         → moves (effects_of program.now env f) ≤ 1 }
 {
@@ -53,7 +53,7 @@ pub fn one_move(program: &Program)
 
 /// Where rule E30 isn't broken, no form of an `always` moves a process.
 pub fn no_move(program: &Program)
-    requires { (at : Place) → E30 program.now at → ⊥ }
+    requires { (at : Place) → ¬ E30 program.now at }
     ensures { (env : List ℕ) (f : ℕ) → Contains program.now.always f → moves (effects_of program.now env f) ≡ 0 }
 {
     sound(program);

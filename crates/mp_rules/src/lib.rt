@@ -5,5 +5,5 @@ mod earliest;
 pub mod laws;
 mod limits;
 
-pub use earliest::earlier;
+pub use earliest::{earlier, earlier_of};
 pub use limits::{DEPTH_LIMIT, EXPR_LIMIT, FORM_LIMIT, NAMING_LIMIT, PROCESS_LIMIT};

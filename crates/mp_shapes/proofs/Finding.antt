@@ -19,7 +19,6 @@ use Rattle.mp_shapes.specs.declared.table.Layout.{Layout}
 use Rattle.mp_shapes.specs.Layout.{layout, item_class}
 use Rattle.mp_shapes.specs.Standing.{StandsFor, root, item, IsDefect, IsFirstDefect, AreClasses}
 use Rattle.mp_shapes.specs.Marking.{Marked}
-use Rattle.std.specs.Prelude.{◌==◌, false}
 
 abbrev pub at : List (Option Class) → ℕ → Option Class
 at xs m = slice_index_or xs m None
@@ -295,10 +294,6 @@ all_found f s n classes h le = record {
   clean = λ m (b, st, bad). h.clean m b (omega (arith, le, inside f s m b st))
       (stands f s n classes h m b st (omega (arith, le, inside f s m b st))) bad;
 }
-
-pub some_items : (items : List ℕ) → (length items == 0) ≡ false → 0 < length items
-some_items [] h = absurd (cc)
-some_items (x ∷ xs) h = omega arith
 
 -- the refusal at a node that was read
 pub refuses10 : (f : Forms) (n : ℕ) (e : Refusal) (x : Node) → n < length f.nodes → x ≡ get_or f.nodes n x

@@ -140,10 +140,6 @@ pub rooted : (xs : List ℕ) (x : ℕ) → 0 < length xs → x ≡ get_or xs 0 x
 rooted [] x h is = absurd (omega (arith, h))
 rooted (y ∷ ys) x h is = (ys, ap (λ z. z ∷ ys) (sym is))
 
-pub no_items : (xs : List ℕ) → length xs ≡ 0 → xs ≡ []
-no_items [] h = refl
-no_items (x ∷ xs) h = absurd (omega (arith, h))
-
 pub second_root : (xs : List ℕ) (y : ℕ) → 1 < length xs → y ≡ get_or xs 1 y
     → (x : ℕ) × (rs : List ℕ) × (xs ≡ x ∷ y ∷ rs)
 second_root [] y h is = absurd (omega (arith, h))

@@ -36,4 +36,4 @@ pub record AreClasses (f : Forms) (classes : List (Option Class)) : Type 0 where
   pub size : length classes ≡ length f.nodes
   pub sound : (m : ℕ) (c : Class) → slice_index_or classes m None ≡ Some c → StandsFor f m c
   pub complete : (m : ℕ) (c : Class) → StandsFor f m c → slice_index_or classes m None ≡ Some c
-  pub clean : (m : ℕ) → IsDefect f m → ⊥
+  pub clean : (m : ℕ) → ¬ IsDefect f m

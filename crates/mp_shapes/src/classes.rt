@@ -77,7 +77,7 @@ pub fn judge_shapes(alloc: Global, forms: &Forms) -> Result<List<Option<Class>>,
     requires sound { IsSound forms.now }
     requires small { length forms.now.nodes < 2 ^ 32 }
     ensures ok { IfOk result (AreClasses forms.now) }
-    ensures whole { IfOk result (λ classes. (at : Place) → E10 forms.now at → ⊥) }
+    ensures whole { IfOk result (λ classes. (at : Place) → ¬ E10 forms.now at) }
     ensures err { IfErr result (λ e. RefusesAt E e (λ k at. (k ≡ 10) × IsFirstE10 forms.now at)) }
 {
     if forms.roots.len() == 0 {

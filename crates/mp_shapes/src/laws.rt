@@ -10,6 +10,6 @@ ghost use Rattle.mp_shapes.specs.Standing.{E10, IsFirstE10, AreClasses};
 /// Forms break rule E10 at a first place, or break it nowhere, and then what each node stands for is known.
 pub fn shapes_verdict()
     ensures { (f : Forms) → IsSound f
-        → ((classes : List (Option Class)) × AreClasses f classes × ((at : Place) → E10 f at → ⊥))
+        → ((classes : List (Option Class)) × AreClasses f classes × ((at : Place) → ¬ E10 f at))
         ⊎ ((at : Place) × IsFirstE10 f at) }
 {}

@@ -33,8 +33,8 @@ one_source spelling program text p q a b =
 
 -- the rule that forms break first is broken
 of_forms : (f : Forms) (k : ℕ) (at : Place) → IsFirstOfForms f k at → E10 f at ⊎ E11 f at
-of_forms f k at (inl first) = inl first.1.0
-of_forms f k at (inr first) = inr first.1
+of_forms f k at (inl (_, (broken, _))) = inl broken
+of_forms f k at (inr (_, broken, _)) = inr broken
 
 one_width : (f : Forms) (at there : Place) → E11 f at → E11 f there → at ≡ there
 one_width f at there (r, n, v, rs, roots, shape, width, kind, wrong, is)
@@ -46,13 +46,14 @@ one_width f at there (r, n, v, rs, roots, shape, width, kind, wrong, is)
 
 first_of_forms : (f : Forms) (k l : ℕ) (at there : Place) → IsFirstOfForms f k at → IsFirstOfForms f l there
     → (k ≡ l) × (at.offset ≡ there.offset)
-first_of_forms f k l at there (inl a) (inl b) =
-    let low = a.1.1 there b.1.0 in
-    let high = b.1.1 at a.1.0 in
-    (a.0 ∙ sym b.0, omega (arith, low, high))
-first_of_forms f k l at there (inl a) (inr b) = absurd (b.2 at a.1.0)
-first_of_forms f k l at there (inr a) (inl b) = absurd (a.2 there b.1.0)
-first_of_forms f k l at there (inr a) (inr b) = (a.0 ∙ sym b.0, ap Place.offset (one_width f at there a.1 b.1))
+first_of_forms f k l at there (inl (is_k, (here, least))) (inl (is_l, (other, first))) =
+    let low = least there other in
+    let high = first at here in
+    (is_k ∙ sym is_l, omega (arith, low, high))
+first_of_forms f k l at there (inl (_, (here, _))) (inr (_, _, none)) = absurd (none at here)
+first_of_forms f k l at there (inr (_, _, none)) (inl (_, (other, _))) = absurd (none there other)
+first_of_forms f k l at there (inr (is_k, here, _)) (inr (is_l, other, _)) =
+    (is_k ∙ sym is_l, ap Place.offset (one_width f at there here other))
 
 -- rules of texts that spell something, and of forms of a shape, are broken by none
 no_text : Laws → (text : List ℕ) (f : Forms) (k : ℕ) (at : Place) → Spells text f → IsFirstOfText text k at.offset → ⊥

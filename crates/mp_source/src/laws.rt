@@ -5,12 +5,12 @@ ghost use Rattle.mp_base.specs.declared.refusal.Broken.{Broken};
 ghost use Rattle.mp_program.specs.declared.program.Program.{Program};
 ghost use Rattle.mp_source.specs.Source.{IsSpelled, OfSource};
 
-use form_reader::{
+use form_reader::laws::{
     one_first_rule as one_first_of_text, one_spelling, spelled_breaks_nothing, spelled_is_sound,
     text_verdict,
 };
 use mp_rules::laws::{broken_at_a_place, one_first_rule as one_first_of_program};
-use mp_syntax::{forms_verdict, one_program, shaped_is_unbroken};
+use mp_syntax::laws::{forms_verdict, one_program, shaped_is_unbroken};
 use mp_verdict::laws::program_verdict;
 
 /// A text spells at most one program.

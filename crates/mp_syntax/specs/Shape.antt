@@ -135,9 +135,9 @@ E11 f at = (r n v : ℕ) × (rs : List ℕ) × (f.roots ≡ r ∷ rs)
 
 -- the first broken rule: E10, by offset, and then E11
 abbrev pub IsFirst : Forms → ℕ → Place → Type 0
-IsFirst f k at = ((k ≡ 10) × IsFirstE10 f at) ⊎ ((k ≡ 11) × E11 f at × ((there : Place) → E10 f there → ⊥))
+IsFirst f k at = ((k ≡ 10) × IsFirstE10 f at) ⊎ ((k ≡ 11) × E11 f at × ((there : Place) → ¬ E10 f there))
 
 -- every form has its shape, and the word length is 1 to 32; or this is the first rule that is broken
 abbrev pub OfForms : Forms → Option Broken → Type 0
-OfForms f None = (at : Place) → E10 f at ⊎ E11 f at → ⊥
+OfForms f None = (at : Place) → ¬ (E10 f at ⊎ E11 f at)
 OfForms f (Some b) = IsOfFamily E (IsFirst f) b

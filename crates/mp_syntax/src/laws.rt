@@ -17,7 +17,7 @@ pub fn one_program()
 
 /// Forms that are the shape of a program break neither E10 nor E11.
 pub fn shaped_is_unbroken()
-    ensures { (f : Forms) (p : Program) (at : Place) → IsShape f p → E10 f at ⊎ E11 f at → ⊥ }
+    ensures { (f : Forms) (p : Program) (at : Place) → IsShape f p → ¬ (E10 f at ⊎ E11 f at) }
 {}
 
 /// Forms have the shape of a program, or break rule E10 or E11 first, at a place.

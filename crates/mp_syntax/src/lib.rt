@@ -3,10 +3,9 @@
 
 mod defs;
 mod items;
-mod laws;
+pub mod laws;
 mod parser;
 
-pub use laws::{forms_verdict, one_program, shaped_is_unbroken};
 pub use mp_program::{
     Branch, Def, Expr, ExprKind, Form, FormKind, Label, Pin, Process, Program, Way, What,
 };

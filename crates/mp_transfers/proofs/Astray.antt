@@ -13,7 +13,8 @@ use Rattle.mp_rules.specs.Rules.{E28}
 use Rattle.mp_transfers.specs.declared.marks.Span.{Span}
 use Rattle.mp_transfers.specs.Labels.{IsAstray}
 use Rattle.mp_transfers.specs.Marks.{AreMarked}
-use Rattle.mp_transfers.proofs.Earliest.{Upto, InAny, earliest_same}
+use Rattle.mp_transfers.proofs.Earliest.{Upto, InAny}
+use Rattle.mp_rules.proofs.EarliestPlaces.{earliest_same}
 
 -- at is the place of the form f, which is y, is marked and in a span, and goes to a label that isn't among these
 abbrev pub StraysAt : Span → List ℕ → ℕ → List Label → ℕ → Form → Place → Type 0

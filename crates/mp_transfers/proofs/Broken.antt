@@ -11,7 +11,8 @@ use Rattle.mp_rules.specs.Breaking.{IsEarliest}
 use Rattle.mp_rules.specs.Rules.{E30, E31, E32}
 use Rattle.mp_transfers.specs.declared.tables.Sought.TheVariants.{Transfer, StackUse}
 use Rattle.mp_transfers.specs.Tables.{entry, IsAmong, IsFound, IsSecond, AreFirsts, AreSeconds}
-use Rattle.mp_transfers.proofs.Earliest.{earliest_through, found_is, found_covers, InAny}
+use Rattle.mp_transfers.proofs.Earliest.{found_is, found_covers, InAny}
+use Rattle.mp_rules.proofs.EarliestPlaces.{earliest_through}
 use Rattle.mp_transfers.proofs.Inside.{always_inside, process_inside}
 
 pub always_broken : (p : Program) (table : List (Option Place)) (found : Option Place) → IsSound p

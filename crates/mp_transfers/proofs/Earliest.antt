@@ -1,29 +1,12 @@
--- The earliest of places: of two, and of those found one element of a list after another.
-use Rattle.std.proofs.Common.{◌≡◌, ◌⊎◌, inl, inr, ℕ, ◌+◌, ◌<◌, ◌≤◌, List, length, Option, Some, None, Bool, true, false}
-use Rattle.std.proofs.Common.{refl, sym, ap, subst, arith}
-use Rattle.std.specs.Prelude.{nat_le}
-use Rattle.std.proofs.lemmas.Bool.{cases_lt, leb-true, leb-false}
+-- The earliest of places that are found one element of a list after another.
+use Rattle.std.proofs.Common.{◌≡◌, ◌⊎◌, inl, inr, ℕ, ◌+◌, ◌<◌, ◌≤◌, List, length, Option, Some, None}
+use Rattle.std.proofs.Common.{refl, ap, subst, arith}
+use Rattle.std.proofs.lemmas.Bool.{cases_lt}
 use Rattle.mp_base.specs.declared.refusal.Place.{Place}
 use Rattle.mp_base.specs.Entries.{IsAt}
-use Rattle.mp_rules.specs.Breaking.{IsEarliest, earlier}
+use Rattle.mp_rules.specs.Breaking.{IsEarliest, earlier_of}
+use Rattle.mp_rules.proofs.EarliestPlaces.{earliest_through, earliest_same, earliest_either}
 use Rattle.mp_base.proofs.Entries.{one_entry, within}
-use Rattle.mp_transfers.specs.Tables.{join}
-
--- the same places, but for some that aren't the earliest
-pub earliest_through : (V P : Place → Type 0) (found : Option Place) → IsEarliest V found → ((at : Place) → V at → P at)
-    → ((at : Place) → P at → (v : Place) × V v × (v.offset ≤ at.offset)) → IsEarliest P found
-earliest_through V P None none sound cover = λ at there. let (v, is, le) = cover at there in none v is
-earliest_through V P (Some b) (is_b, least) sound cover = (
-  sound b is_b,
-  λ at there. let (v, is, le) = cover at there in let l : b.offset ≤ v.offset = least v is in
-      omega (arith, l, le),
-)
-
--- the same places
-pub earliest_same : (V P : Place → Type 0) (found : Option Place) → IsEarliest V found → ((at : Place) → V at → P at)
-    → ((at : Place) → P at → V at) → IsEarliest P found
-earliest_same V P found h sound complete =
-    earliest_through V P found h sound (λ at there. (at, complete at there, omega arith))
 
 -- what was found is one of the places, and none is before it
 pub found_is : (P : Place → Type 0) (found : Option Place) (at : Place) → IsEarliest P found → found ≡ Some at → P at
@@ -42,43 +25,6 @@ earliest_itself (Some b) = (
   λ at e. let same : b ≡ at = cc in let o : b.offset ≡ at.offset = ap (λ (p : Place). p.offset) same in
       omega (arith, o),
 )
-
-pub earliest_one : (b : Place) → IsEarliest (λ at. at ≡ b) (Some b)
-earliest_one b = (refl, λ at e. let o : at.offset ≡ b.offset = ap (λ (p : Place). p.offset) e in omega (arith, o))
-
--- the earlier of two
-either : (P Q : Place → Type 0) (x y : Place) (t : Bool) → nat_le x.offset y.offset ≡ t → P x → Q y
-    → ((at : Place) → P at → x.offset ≤ at.offset) → ((at : Place) → Q at → y.offset ≤ at.offset)
-    → IsEarliest (λ at. P at ⊎ Q at) (earlier (Some x) y)
-either P Q x y true le px qy xs ys =
-    let R : Option Place → Type 0 = IsEarliest (λ at. P at ⊎ Q at) in
-    let l : x.offset ≤ y.offset = leb-true x.offset y.offset le in
-    let e : earlier (Some x) y ≡ Some x = rw le refl in
-    subst R (sym e) (
-      inl px,
-      λ at there. elim there [
-        | inl p ↦ xs at p
-        | inr q ↦ (let g : y.offset ≤ at.offset = ys at q in omega (arith, g, l))
-      ],
-    )
-either P Q x y false lt px qy xs ys =
-    let R : Option Place → Type 0 = IsEarliest (λ at. P at ⊎ Q at) in
-    let l : y.offset < x.offset = leb-false x.offset y.offset lt in
-    let e : earlier (Some x) y ≡ Some y = rw lt refl in
-    subst R (sym e) (
-      inr qy,
-      λ at there. elim there [
-        | inl p ↦ (let g : x.offset ≤ at.offset = xs at p in omega (arith, g, l))
-        | inr q ↦ ys at q
-      ],
-    )
-
-pub earliest_join : (P Q : Place → Type 0) (a b : Option Place) → IsEarliest P a → IsEarliest Q b
-    → IsEarliest (λ at. P at ⊎ Q at) (join a b)
-earliest_join P Q None None p q = λ at there. elim there [ inl h ↦ p at h | inr h ↦ q at h ]
-earliest_join P Q (Some x) None p q = (inl p.0, λ at there. elim there [ inl h ↦ p.1 at h | inr h ↦ absurd (q at h) ])
-earliest_join P Q None (Some y) p q = (inr q.0, λ at there. elim there [ inl h ↦ absurd (p at h) | inr h ↦ q.1 at h ])
-earliest_join P Q (Some x) (Some y) p q = either P Q x y (nat_le x.offset y.offset) refl p.0 q.0 p.1 q.1
 
 -- what was found, and then something else
 pub earliest_then : (P Q : Place → Type 0) (a b : Option Place) → IsEarliest P a
@@ -141,9 +87,9 @@ more {X} P xs R i x found is h =
 
 pub upto_join : {X : Type 0} {P : Place → Type 0} {xs : List X} {R : ℕ → X → Place → Type 0} {i : ℕ} {a : Option Place}
     → Upto P xs R i a → (x : X) → IsAt xs i x
-    → (b : Option Place) → IsEarliest (R i x) b → Upto P xs R (i + 1) (join a b)
+    → (b : Option Place) → IsEarliest (R i x) b → Upto P xs R (i + 1) (earlier_of a b)
 upto_join {P = P} {xs = xs} {R = R} {i = i} {a = a} u x is b h =
-    more P xs R i x (join a b) is (earliest_join (λ at. P at ⊎ Before xs R i at) (R i x) a b u.earliest h)
+    more P xs R i x (earlier_of a b) is (earliest_either (λ at. P at ⊎ Before xs R i at) (R i x) a b u.earliest h)
 
 pub upto_then : {X : Type 0} {P : Place → Type 0} {xs : List X} {R : ℕ → X → Place → Type 0} {i : ℕ} {a : Option Place}
     → Upto P xs R i a → (x : X) → IsAt xs i x

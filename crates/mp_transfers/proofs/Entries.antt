@@ -12,15 +12,16 @@ use Rattle.mp_program.specs.Weight.{inner}
 use Rattle.mp_program.specs.Sound.{IsSound}
 use Rattle.mp_base.specs.Entries.{IsAt}
 use Rattle.mp_rules.specs.Standing.{itself, deeper, sequences}
-use Rattle.mp_rules.specs.Breaking.{IsEarliest, earlier}
+use Rattle.mp_rules.specs.Breaking.{IsEarliest, earlier, earlier_of}
 use Rattle.mp_base.proofs.Entries.{one_entry, contains_from_get}
 use Rattle.mp_rules.proofs.Sequences.{in_sequence}
 use Rattle.mp_transfers.specs.declared.tables.Sought.{Sought}
 use Rattle.mp_transfers.specs.declared.tables.Sought.TheVariants.{Transfer}
-use Rattle.mp_transfers.specs.Tables.{is_sought, join, entry, IsAmong, IsBehind, IsBehindInOne, IsFound, IsSecond}
+use Rattle.mp_transfers.specs.Tables.{is_sought, entry, IsAmong, IsBehind, IsBehindInOne, IsFound, IsSecond}
 use Rattle.mp_transfers.specs.Tables.{AreFirsts}
-use Rattle.mp_transfers.proofs.Earliest.{earliest_through, earliest_same, earliest_join, earliest_then, earliest_itself}
-use Rattle.mp_transfers.proofs.Earliest.{earliest_one, found_is, found_covers, Upto, upto_join, upto_skip, upto_all}
+use Rattle.mp_transfers.proofs.Earliest.{earliest_then, earliest_itself}
+use Rattle.mp_rules.proofs.EarliestPlaces.{earliest_through, earliest_same, earliest_either, earliest_at}
+use Rattle.mp_transfers.proofs.Earliest.{found_is, found_covers, Upto, upto_join, upto_skip, upto_all}
 use Rattle.mp_transfers.proofs.Earliest.{InAny}
 use Rattle.mp_transfers.proofs.Inside.{inner_behind, under_cases}
 
@@ -76,9 +77,9 @@ pub first_own : (p : Program) (sought : Sought) (f : ℕ) (table : List (Option 
 first_own p sought f table y found s is d h t =
     earliest_same (λ at. InOneOf (IsFound p sought) (inner y.kind) at ⊎ (at ≡ y.place)) (IsFound p sought f)
     (earlier found y.place)
-    (earliest_join (InOneOf (IsFound p sought) (inner y.kind)) (λ at. at ≡ y.place) found (Some y.place)
+    (earliest_either (InOneOf (IsFound p sought) (inner y.kind)) (λ at. at ≡ y.place) found (Some y.place)
     (among (IsFound p sought) table (inner y.kind) found (inner_done p (IsFound p sought) f table y s is d) h)
-    (earliest_one y.place))
+    (earliest_at y.place))
     (λ at there. cases_found p sought f y at is (elim there [ inl a ↦ inl a | inr e ↦ inr (t, e) ]))
     (λ at there. elim (found_cases p sought f y at is there) [ inl a ↦ inl a | inr o ↦ inr o.1 ])
 
@@ -135,7 +136,7 @@ pub record Run (P : Place → Type 0) (table : List (Option Place)) (forms : Lis
 pub run_on : {P : Place
     → Type 0} {table : List (Option Place)} {forms : List ℕ} {j : ℕ} {begun : Bool} {found : Option Place}
     → Run P table forms j begun found → (h : ℕ) → IsAt forms j h → begun ≡ true
-    → Run P table forms (j + 1) begun (join found (entry table h))
+    → Run P table forms (j + 1) begun (earlier_of found (entry table h))
 run_on {P = P} {table = table} {forms = forms} {j = j} {begun = begun} {found = found} r h is on = record {
   upto = upto_join r.upto h is (entry table h)
       (earliest_same (λ at. entry table h ≡ Some at) (IsNext table forms j h) (entry table h)

@@ -23,8 +23,8 @@ use Rattle.mp_rules.specs.Breaking.{IsEarliest, earlier}
 use Rattle.mp_rules.specs.Rules.{E29}
 use Rattle.mp_base.proofs.Entries.{one_entry, all_at}
 use Rattle.mp_transfers.specs.Labels.{has, IsLabel, IsRepeated, IsAstray}
-use Rattle.mp_transfers.proofs.Earliest.{Upto, upto_join, upto_skip, upto_all, InAny, earliest_same}
-use Rattle.mp_transfers.proofs.Earliest.{earliest_one}
+use Rattle.mp_transfers.proofs.Earliest.{Upto, upto_join, upto_skip, upto_all, InAny}
+use Rattle.mp_rules.proofs.EarliestPlaces.{earliest_same, earliest_at}
 
 -- a label before i has the name x
 abbrev pub Seen : List Label → ℕ → List ℕ → Type 0
@@ -89,7 +89,7 @@ pub told_again : (P : Place → Type 0) (old new : BTreeSet (Bor (List ℕ))) (l
 told_again P old new labels i found b t is updates again = record {
   names_are = names_more old new labels i b t.names_are is updates;
   upto = upto_join t.upto b is (Some b.place)
-      (earliest_same (λ at. at ≡ b.place) (IsAgain labels i b) (Some b.place) (earliest_one b.place)
+      (earliest_same (λ at. at ≡ b.place) (IsAgain labels i b) (Some b.place) (earliest_at b.place)
       (λ at e. (t.names_are.only b.name (not_false (has old b.name) again), e)) (λ at a. a.1));
 }
 

@@ -6,18 +6,13 @@ use Rattle.mp_program.specs.declared.program.Form.{Form}
 use Rattle.mp_program.specs.declared.program.Program.{Program}
 use Rattle.mp_base.specs.Entries.{IsAt}
 use Rattle.mp_rules.specs.Standing.{Under, is_transfer, uses_stack, IsLater}
-use Rattle.mp_rules.specs.Breaking.{IsEarliest, earlier}
+use Rattle.mp_rules.specs.Breaking.{IsEarliest}
 use Rattle.mp_transfers.specs.declared.tables.Sought.{Sought}
 use Rattle.mp_transfers.specs.declared.tables.Sought.TheVariants.{Transfer, StackUse}
 
 abbrev pub is_sought : Sought → FormKind → Bool
 is_sought Transfer kind = is_transfer kind
 is_sought StackUse kind = uses_stack kind
-
--- the earlier of two places, where there are any
-abbrev pub join : Option Place → Option Place → Option Place
-join found None = found
-join found (Some at) = earlier found at
 
 -- the entry of form f
 abbrev pub entry : List (Option Place) → ℕ → Option Place

@@ -1,17 +1,17 @@
 //! Tables of the earliest places in each form, from the last form to the first: a form's entry follows from those of
 //! the forms in it, which stand behind it.
 
-ghost use Rattle.std.specs.Prelude.{◌≡◌, ◌⊎◌, ◌<◌, ℕ, List, Option, Some, None, IfOk, All, length, replicate};
+ghost use Rattle.std.specs.Prelude.{◌≡◌, ◌⊎◌, ◌<◌, List, Option, Some, None, IfOk, All, length, replicate};
 ghost use Rattle.std.specs.List.{flat_map};
 ghost use Rattle.mp_program.specs.Weight.{inner};
 ghost use Rattle.mp_program.specs.declared.program.Branch.{Branch as BranchValue};
-ghost use Rattle.mp_rules.specs.Breaking.{IsEarliest};
-ghost use Rattle.mp_transfers.specs.Tables.{is_sought, join, IsAmong, AreFirsts};
+ghost use Rattle.mp_rules.specs.Breaking.{IsEarliest, earlier_of};
+ghost use Rattle.mp_transfers.specs.Tables.{is_sought, IsAmong, AreFirsts};
 
 use mp_base::{List, Place};
 use mp_program::laws::sound;
 use mp_program::{Branch, FormKind, Program};
-use mp_rules::earlier;
+use mp_rules::{earlier, earlier_of};
 use std::alloc::{AllocError, Global};
 
 /// The kinds of forms that a table is of.
@@ -36,16 +36,6 @@ fn is_sought(sought: Sought, kind: &FormKind) -> bool
     }
 }
 
-/// The earlier of two places, where there are any.
-pub fn join(found: Option<Place>, other: Option<Place>) -> Option<Place>
-    ensures { result ≡ join found other }
-{
-    match other {
-        Some(at) => earlier(found, at),
-        None => found,
-    }
-}
-
 /// An entry for each form, with nothing in it.
 pub fn blank(alloc: Global, count: usize) -> Result<List<Option<Place>>, AllocError>
     ensures { IfOk result (λ table. table ≡ replicate count None) }
@@ -61,7 +51,7 @@ pub fn least(table: &List<Option<Place>>, forms: &[u32], found: Option<Place>) -
 {
     let mut found = found;
     for form in forms {
-        found = join(found, *table.at(*form));
+        found = earlier_of(found, *table.at(*form));
     }
     found
 }

@@ -1,19 +1,20 @@
 //! Rules E30 to E32, of `go`, `call` and `return`.
 
-ghost use Rattle.std.specs.Prelude.{◌≡◌, ◌⊎◌, ◌<◌, ℕ, List, Option, Some, None, IfOk, All, length, map};
+ghost use Rattle.std.specs.Prelude.{◌≡◌, ◌⊎◌, ◌<◌, List, Option, Some, None, IfOk, All, length, map};
 ghost use Rattle.std.specs.List.{flat_map};
 ghost use Rattle.mp_program.specs.Weight.{inner};
 ghost use Rattle.mp_program.specs.declared.program.Branch.{Branch as BranchValue};
 ghost use Rattle.mp_rules.specs.Breaking.{IsEarliest};
 ghost use Rattle.mp_rules.specs.Rules.{E30, E31, E32};
 ghost use Rattle.mp_rules.specs.Standing.{sequences};
-ghost use Rattle.mp_transfers.specs.Tables.{IsAmong, IsBehind, IsBehindInOne, AreFirsts, AreSeconds};
+ghost use Rattle.mp_transfers.specs.Tables.{IsBehind, IsBehindInOne, AreFirsts, AreSeconds};
 ghost use Rattle.mp_transfers.specs.declared.tables.Sought.TheVariants.{Transfer};
 
-use crate::tables::{Sought, blank, firsts, join, least, least_inside};
+use crate::tables::{Sought, blank, firsts, least, least_inside};
 use mp_base::{List, Place};
 use mp_program::laws::sound;
 use mp_program::{Branch, FormKind, Program};
+use mp_rules::earlier_of;
 use std::alloc::{AllocError, Global};
 
 /// The earliest of what was found and the entries of some forms behind the first that has one.
@@ -26,7 +27,7 @@ fn behind_first(table: &List<Option<Place>>, forms: &[u32], found: Option<Place>
     for form in forms {
         let first = *table.at(*form);
         if begun {
-            found = join(found, first);
+            found = earlier_of(found, first);
         } else {
             begun = first.is_some();
         }

@@ -11,7 +11,7 @@ use Rattle.std.proofs.lemmas.List.Folds.{list_any-append}
 use Rattle.std.proofs.lemmas.Map.Text.{hash_map_updates_str}
 use Rattle.indexmap.specs.IndexMap.{IndexMap, get_by, Updates}
 use denote.Ref.{Bor}
-use Rattle.mp_base.proofs.Tests.{or_true}
+use Rattle.mp_base.proofs.Tests.{or_true, or_false}
 use Rattle.mp_program.specs.declared.program.Def.{Def}
 use Rattle.mp_program.specs.declared.program.Process.{Process}
 use Rattle.mp_program.specs.Names.{is_same, is_supply}
@@ -182,10 +182,6 @@ def_second ds d x = ap (λ ns. second_offset ns x) (namings_push ds d) ∙ turn 
 -- what is known of a name, part by part
 abbrev parts : Option ℕ → Option ℕ → Option ℕ → Bool → Bool → Named
 parts f o s p u = record { first = f; least = o; second = s; process = p; unset = u }
-
-or_false : (b : Bool) → (b || false) ≡ b
-or_false true = refl
-or_false false = refl
 
 -- what is known of a name once there is a further definition
 def_push : (ds : List Def) (d : Def) (x : List ℕ)

@@ -2,8 +2,7 @@
 use Rattle.std.proofs.Common.{◌≡◌, ◌++◌, ◌∷◌, [], ℕ, List, Option, Some, None, refl, sym, ◌∙◌, ap, subst, inl, inr, ◌⊎◌}
 use Rattle.std.specs.Prelude.{Contains, ◌↔◌, ◌≢◌, IsSome}
 use Rattle.mp_base.specs.declared.value.Trit.{Trit}
-use Rattle.mp_base.specs.declared.value.Trit.TheVariants.{Zero, One, X}
-use Rattle.mp_base.proofs.Values.{is_some_trit}
+use Rattle.mp_base.proofs.Values.{is_some_trit, same_trit_or_not}
 use Rattle.mp_base.proofs.Contents.{nothing_in}
 use Rattle.switch_net.specs.declared.network.Channel.{Channel}
 use Rattle.switch_net.specs.Settled.{Setting, IsOn, MayBeOn}
@@ -169,20 +168,9 @@ module _ (s : Setting) (v : ℕ → Trit) (b : Trit) (nodes : List ℕ) (cluster
       λ _. ((copied n).1 in', λ q. nothing_in n (subst (λ (xs : List ℕ). Contains xs n) e q)),
     )
 
-    same_trit : (t u : Trit) → (t ≡ u) ⊎ (t ≢ u)
-    same_trit Zero Zero = inl refl
-    same_trit Zero One = inr (λ e. cc)
-    same_trit Zero X = inr (λ e. cc)
-    same_trit One Zero = inr (λ e. cc)
-    same_trit One One = inl refl
-    same_trit One X = inr (λ e. cc)
-    same_trit X Zero = inr (λ e. cc)
-    same_trit X One = inr (λ e. cc)
-    same_trit X X = inl refl
-
     pub given_mixed : (Meets Any → ⊥) → (((n : ℕ) → Contains nodes n → s.before n ≡ b) → ⊥) → held ≡ []
         → TellGiven s v b nodes held against
     given_mixed alone mixed e n in' = (
       λ q. absurd (nothing_in n (subst (λ (xs : List ℕ). Contains xs n) e q.0)),
-      λ g. absurd (mixed (had_from n in' (given_alone alone n in' ((law s v n b).0 g)) (λ t. same_trit t b))),
+      λ g. absurd (mixed (had_from n in' (given_alone alone n in' ((law s v n b).0 g)) (λ t. same_trit_or_not t b))),
     )

@@ -14,4 +14,4 @@ pub record IsCluster (s : Setting) (v : ℕ → Trit) (nodes : List ℕ) : Type 
 -- of these nodes, those in the one set and not in the other are given b
 abbrev pub TellGiven : Setting → (ℕ → Trit) → Trit → List ℕ → List ℕ → List ℕ → Type 0
 TellGiven s v b nodes held against = (n : ℕ) → Contains nodes n
-    → (Contains held n × (Contains against n → ⊥)) ↔ Gives s v n b
+    → (Contains held n × ¬ Contains against n) ↔ Gives s v n b

@@ -2,7 +2,7 @@
 
 ghost use Rattle.std.specs.Prelude.{◌≡◌, ◌<◌, ◌↔◌, ℕ, None, IsTrue, Contains, length};
 ghost use Rattle.switch_net.specs.Settled.{MayBeOn, Gives};
-ghost use Rattle.node_clusters.specs.Values.{value_at, driver_at};
+ghost use Rattle.switch_net.specs.Values.{value_at, driver_at};
 ghost use Rattle.node_clusters.specs.Board.{setting_of, nodes_of, IsMoment};
 ghost use Rattle.node_clusters.specs.Spread.{IsSource, Borders, Picks};
 ghost use Rattle.node_clusters.specs.Give.{IsCluster, TellGiven};
@@ -12,7 +12,7 @@ use crate::route::{Route, Source};
 use crate::spread::{borders, grow, spread};
 use mp_base::Trit;
 use node_set::NodeSet;
-use switch_net::nodes_are_given;
+use switch_net::laws::nodes_are_given;
 
 /// The undriven nodes that are possibly joined to a node, itself among them.
 pub(crate) fn gather(board: &Board<'_>, values: &[Trit], node: u32, cluster: &mut NodeSet)
@@ -64,7 +64,7 @@ fn add_unopposed(nodes: &NodeSet, held: &NodeSet, against: &NodeSet, given: &mut
     requires given { given.old.room ≡ nodes.now.room }
     ensures room { given.new.room ≡ given.old.room }
     ensures given { Picks (λ n. Contains held.now.members n
-        × (Contains against.now.members n → ⊥)) nodes.now.members given.new.members }
+        × ¬ Contains against.now.members n) nodes.now.members given.new.members }
 {
     given.clear();
     for node in nodes.as_slice() {

@@ -1,8 +1,8 @@
 //! The sorts of paths, and where they begin.
 
-ghost use Rattle.std.specs.Prelude.{◌≡◌, ◌<◌, ◌↔◌, IsTrue, Contains, length};
+ghost use Rattle.std.specs.Prelude.{◌≡◌, ◌<◌, ◌↔◌, IsTrue, length};
 ghost use Rattle.node_clusters.specs.Spread.{KindUses, Uses, IsSourceOf};
-ghost use Rattle.node_clusters.specs.Values.{value_at};
+ghost use Rattle.switch_net.specs.Values.{value_at};
 
 use mp_base::Trit;
 use switch_net::{Channel, ChannelKind};

@@ -1,7 +1,7 @@
 //! The sets that a look at a cluster fills.
 
 ghost use Rattle.std.specs.Prelude.{◌≡◌, ◌<◌, None, IfOk};
-ghost use Rattle.node_clusters.specs.Values.{value_at, driver_at};
+ghost use Rattle.switch_net.specs.Values.{value_at, driver_at};
 ghost use Rattle.node_clusters.specs.Board.{setting_of, nodes_of, IsMoment};
 ghost use Rattle.node_clusters.specs.Rooms.{HaveRoom, HoldCluster};
 

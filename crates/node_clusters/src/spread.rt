@@ -1,8 +1,7 @@
 //! Sets of nodes that spread over channels of one sort.
 
-ghost use Rattle.std.specs.Prelude.{◌≡◌, ◌<◌, ◌↔◌, ℕ, IsTrue, All, Any, Contains, length};
-ghost use Rattle.switch_net.specs.Settled.{MayBeOn};
-ghost use Rattle.node_clusters.specs.Values.{value_at, driver_at};
+ghost use Rattle.std.specs.Prelude.{◌≡◌, ◌<◌, ◌↔◌, IsTrue, All, Any, length};
+ghost use Rattle.switch_net.specs.Values.{value_at, driver_at};
 ghost use Rattle.node_clusters.specs.Board.{setting_of, nodes_of, IsMoment};
 ghost use Rattle.node_clusters.specs.Spread.{Uses, IsSource, IsSourceOf, Borders, AddsEnds, AddsAdjoining, Spreads};
 ghost use Rattle.node_clusters.specs.Spread.{Picks, HoldsReached};

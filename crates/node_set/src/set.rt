@@ -98,7 +98,7 @@ impl NodeSet {
     /// Adds a node behind the others.
     pub fn insert(&mut self, node: u32)
         requires room { node < self.old.room }
-        requires absent { Contains self.old.members node → ⊥ }
+        requires absent { ¬ Contains self.old.members node }
         ensures room { self.new.room ≡ self.old.room }
         ensures members { self.new.members ≡ self.old.members ++ node ∷ [] }
     {

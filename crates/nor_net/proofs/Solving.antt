@@ -1,21 +1,16 @@
 -- What every solution has, and that the least one is determined.
-use Rattle.std.proofs.Common.{◌≡◌, ℕ, ◌<◌, zero, suc, ◌⊎◌, inl, inr, Option, Some, None, Bool, true, false, cond, map}
+use Rattle.std.proofs.Common.{◌≡◌, ℕ, ◌<◌, zero, suc, Option, Some, None, Bool, true, false, cond, map}
 use Rattle.std.proofs.Common.{refl, sym, ◌∙◌, ap, arith}
 use Rattle.std.specs.Prelude.{MatchBool}
 use Rattle.mp_base.specs.declared.value.Trit.{Trit}
-use Rattle.mp_base.specs.declared.value.Trit.TheVariants.{X}
+use Rattle.mp_base.proofs.Values.{same_if_below}
 use Rattle.nor_net.specs.Elements.{Spot, Element, Given, Nor, Latched, Joined, Low}
 use Rattle.nor_net.specs.Settled.{Setting, gives, is_open, nor_value, IsSolution, IsSettled}
 use Rattle.nor_net.specs.Laws.{OneInputDecides, BitsAreTold, Told, Precedes, IsTold, bit}
 use Rattle.nor_net.proofs.Values.{any_one, nor_zero, nor_bits, map_same}
 
 pub settled_once : (s : Setting) (v w : Spot → Trit) → IsSettled s v → IsSettled s w → v ≡ w
-settled_once s v w f g = λ i n. same (v n) (w n) (f.least w g.solution n) (g.least v f.solution n) i
-  where
-    same : (t u : Trit) → (t ≡ X) ⊎ (t ≡ u) → (u ≡ X) ⊎ (u ≡ t) → t ≡ u
-    same t u (inr e) _ = e
-    same t u (inl e) (inr g) = sym g
-    same t u (inl e) (inl g) = e ∙ sym g
+settled_once s v w f g = λ i n. same_if_below (v n) (w n) (f.least w g.solution n) (g.least v f.solution n) i
 
 -- the value of a net by its element
 pub at : (s : Setting) (v : Spot → Trit) → IsSolution s v → (n : Spot) (e : Element) → s.nets n ≡ Some e

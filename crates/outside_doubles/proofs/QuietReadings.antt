@@ -1,5 +1,6 @@
 -- A read whose bytes come one piece after another.
-use Rattle.std.proofs.Common.{◌≡◌, ℕ, zero, suc, ◌+◌, ◌-◌, ◌≤◌, ◌<◌, min, List, [], ◌∷◌, ◌++◌, length, take, drop, refl}
+use Rattle.std.proofs.Common.{◌≡◌, ℕ, zero, suc, ◌+◌, ◌-◌, ◌≤◌, ◌<◌, min, List, [], ◌++◌, length, take, drop, refl}
+use Rattle.mp_base.proofs.Lists.{empty_of}
 use Rattle.std.proofs.Common.{sym, ap, ◌∙◌, arith, ◌⊎◌, inl, inr, subst, Option, Some, None, true, is_some, unwrap_or}
 use Rattle.std.proofs.lemmas.List.{append-nil, drop-append-le, take-append-le, take_all, length-drop, length-append}
 use Rattle.std.proofs.Math.Seq.{drop-append-add, take-append-add}
@@ -24,10 +25,6 @@ le_or a b = grind arith
 
 drop_all : (at : ℕ) (xs : List ℕ) → length xs ≤ at → drop at xs ≡ []
 drop_all at xs le = empty_of (drop at xs) (omega (arith, length-drop at xs))
-  where
-    empty_of : (ys : List ℕ) → length ys ≡ 0 → ys ≡ []
-    empty_of [] e = refl
-    empty_of (y ∷ ys) e = absurd (omega arith)
 
 -- what stands from a place on in two lists
 drop_both : (at : ℕ) (xs ys : List ℕ) → drop at (xs ++ ys) ≡ drop at xs ++ drop (at - length xs) ys

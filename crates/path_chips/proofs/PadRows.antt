@@ -1,5 +1,5 @@
 -- The rows of a data path: each has the bits of its pad, no two share a net, and the nets that are given are theirs.
-use Rattle.std.proofs.Common.{◌≡◌, ℕ, zero, suc, ◌<◌, ◌≤◌, ◌+◌, Some, Bool, true, false}
+use Rattle.std.proofs.Common.{◌≡◌, ℕ, zero, suc, ◌<◌, ◌+◌, Some, Bool, true, false}
 use Rattle.std.proofs.Common.{cond, List, [], ◌∷◌, length, map, refl, sym, ◌∙◌, ap, subst, arith, not}
 use Rattle.std.specs.Prelude.{All, Contains, slice_get, ◌==◌, ◌≢◌}
 use Rattle.std.specs.List.{range_with_len}
@@ -14,16 +14,14 @@ use Rattle.mp_base.specs.PadBits.{bit_count}
 use Rattle.nor_net.specs.declared.net.NetId.{NetId}
 use Rattle.nor_net.specs.Elements.{Spot, Given, spot}
 use Rattle.path_form.specs.declared.path.DataPath.{DataPath}
-use Rattle.path_form.specs.Shape.{entries_of, times}
+use Rattle.path_form.specs.Shape.{entries_of}
 use Rattle.path_form.specs.Showing.{path_nets, pad_bits, pad_spot}
-use Rattle.path_form.proofs.Joining.{times_append, there}
-use Rattle.path_values.proofs.Realized.{in_entries}
 use Rattle.array_form.specs.Wires.{place}
 use Rattle.slice_form.specs.Whole.{numbers_of}
 use Rattle.drawn_nets.specs.Law.{IsKind}
 use Rattle.chip_laws.specs.Laws.{AreRowsApart, AreRowsOf}
 use Rattle.chip_laws.specs.Rows.{AreFullRows, rows_at}
-use Rattle.chip_laws.proofs.Apart.{given, tail_fewer, head_counts}
+use Rattle.chip_laws.proofs.Apart.{given, one_pad_bit}
 use Rattle.chip_laws.proofs.Flats.{length_labels}
 
 -- ---- one row
@@ -165,39 +163,6 @@ entry_at word (p ∷ ps) (x ∷ xs) n c =
     by_sort false true sort again c = found_later true p ps x xs n (again c)
     by_sort false false sort again c = here false sort again c
 
-abbrev tally : Bool → ℕ
-tally b = cond b 1 0
-
-entry_counted : (word : Bool) (pads : List Pad) (ids : List NetId) (n i : ℕ) → IsEntry word pads ids n i
-    → 0 < times n (entries_of word pads ids)
-entry_counted word pads ids n i e =
-    there n (entries_of word pads ids) e.id (in_entries word pads ids i e.pad e.id e.is_pad e.is_id e.sort) e.net
-
-later_entry : (word : Bool) (p : Pad) (ps : List Pad) (x : NetId) (xs : List NetId) (n i : ℕ)
-    → IsEntry word (p ∷ ps) (x ∷ xs) n (suc i) → IsEntry word ps xs n i
-later_entry word p ps x xs n i e =
-    record { pad = e.pad; id = e.id; is_pad = e.is_pad; is_id = e.is_id; sort = e.sort; net = e.net }
-
-one_place : (word : Bool) (pads : List Pad) (ids : List NetId) (n : ℕ) → times n (entries_of word pads ids) ≤ 1
-    → (a b : ℕ) → IsEntry word pads ids n a → IsEntry word pads ids n b → a ≡ b
-one_place word [] ids n few a b x y = absurd (none-some x.pad x.is_pad)
-one_place word (p ∷ ps) [] n few a b x y = absurd (none-some x.id x.is_id)
-one_place word (p ∷ ps) (i ∷ is) n few zero zero x y = refl
-one_place word (p ∷ ps) (i ∷ is) n few zero (suc b) x y =
-    absurd
-    (head_counts word p ps i is n (ap (λ (q : Pad). not (q.width == 0)) (same_Some p x.pad x.is_pad) ∙ x.sort)
-    (ap (λ (q : NetId). q.0) (same_Some i x.id x.is_id) ∙ x.net)
-    (entry_counted word ps is n b (later_entry word p ps i is n b y)) few)
-one_place word (p ∷ ps) (i ∷ is) n few (suc a) zero x y =
-    absurd
-    (head_counts word p ps i is n (ap (λ (q : Pad). not (q.width == 0)) (same_Some p y.pad y.is_pad) ∙ y.sort)
-    (ap (λ (q : NetId). q.0) (same_Some i y.id y.is_id) ∙ y.net)
-    (entry_counted word ps is n a (later_entry word p ps i is n a x)) few)
-one_place word (p ∷ ps) (i ∷ is) n few (suc a) (suc b) x y =
-    let less = tail_fewer word p ps i is n in
-    ap suc (one_place word ps is n (omega (arith, few, less)) a b (later_entry word p ps i is n a x)
-    (later_entry word p ps i is n b y))
-
 module _ (p : DataPath) where
   abbrev pub ins : List Pad
   ins = (p.pads).inputs
@@ -259,54 +224,10 @@ module _ (p : DataPath) where
 
   -- ---- no two bits are one net
 
-  few_signals : (n : ℕ) → times n (entries_of false ins p.inputs) ≤ 1
-  few_signals n =
-      let l = p.whole.apart.0 n in
-      let e = times_append n (entries_of false ins p.inputs) (entries_of false (p.pads).outputs p.outputs) in
-      omega (arith, l, e)
-
-  few_words : (n : ℕ) → times n (entries_of true ins p.inputs) ≤ 1
-  few_words n =
-      let l = p.whole.apart.1 n in
-      let e = times_append n (entries_of true ins p.inputs) (entries_of true (p.pads).outputs p.outputs) in
-      omega (arith, l, e)
-
-  module _ (a b k l : ℕ) (s : Spot) (xs ys : List Spot) (x : IsRow ins p.inputs a xs) (y : IsRow ins p.inputs b ys)
-      (lx : k < pad_bits x.pad) (ly : l < pad_bits y.pad)
-      (same : pad_spot x.pad x.id k ≡ pad_spot y.pad y.id l)
-    where
-      same_net : x.id.0 ≡ y.id.0
-      same_net = ap (λ (s : Spot). s.net) same
-
-      entry_x : (w : Bool) → not (x.pad.width == 0) ≡ w → IsEntry w ins p.inputs y.id.0 a
-      entry_x w e =
-          record { pad = x.pad; id = x.id; is_pad = x.is_pad; is_id = x.is_id; sort = e; net = same_net }
-
-      entry_y : (w : Bool) → not (y.pad.width == 0) ≡ w → IsEntry w ins p.inputs y.id.0 b
-      entry_y w e = record { pad = y.pad; id = y.id; is_pad = y.is_pad; is_id = y.is_id; sort = e; net = refl }
-
-      by_sorts : (v w : Bool) → (x.pad.width == 0) ≡ v → (y.pad.width == 0) ≡ w → k < cond v 1 x.pad.width
-          → l < cond w 1 y.pad.width → cond v 0 (suc k) ≡ cond w 0 (suc l) → (a ≡ b) × (k ≡ l)
-      by_sorts true true v w lk ll e = (
-        one_place false ins p.inputs y.id.0 (few_signals y.id.0) a b (entry_x false (ap not v))
-            (entry_y false (ap not w)),
-        omega (arith, lk, ll),
-      )
-      by_sorts false false v w lk ll e = (
-        one_place true ins p.inputs y.id.0 (few_words y.id.0) a b (entry_x true (ap not v)) (entry_y true (ap not w)),
-        omega (arith, e),
-      )
-      by_sorts true false v w lk ll e = absurd (omega (arith, e))
-      by_sorts false true v w lk ll e = absurd (omega (arith, e))
-
-      one_bit : (a ≡ b) × (k ≡ l)
-      one_bit =
-          by_sorts (x.pad.width == 0) (y.pad.width == 0) refl refl lx ly (ap (λ (s : Spot). s.band) same)
-
   pub rows_apart : AreRowsApart rows
   rows_apart a b k l n xs ys ha hb hk hl =
       let x = row_at ins p.inputs a xs ha in
       let y = row_at ins p.inputs b ys hb in
       let u = bit_of_row x.pad x.id k n (ap (λ r. slice_get r k) x.same ∙ hk) in
       let v = bit_of_row y.pad y.id l n (ap (λ r. slice_get r l) y.same ∙ hl) in
-      one_bit a b k l n xs ys x y u.0 v.0 (u.1 ∙ sym v.1)
+      one_pad_bit p a b k l x.pad y.pad x.id y.id x.is_pad y.is_pad x.is_id y.is_id u.0 v.0 (u.1 ∙ sym v.1)

@@ -23,20 +23,20 @@ segment_there low each width k n h l =
 
 pub entry_at : (p : DataPath) (pads : List Pad) (ids : List NetId) (i : ℕ) (pad : Pad) (id : NetId)
     → AreEntriesOf p pads ids → slice_get pads i ≡ Some pad → slice_get ids i ≡ Some id → IsEntryOf p pad id
-entry_at p pads ids i pad id fit is_pad is_id = record {
+entry_at p pads ids i pad id (fits, (_, signals, words)) is_pad is_id = record {
   signal = λ w.
-      All-contains (λ (id : NetId). id.0 < length p.control) (entries_of false pads ids) id fit.1.1
+      All-contains (λ (id : NetId). id.0 < length p.control) (entries_of false pads ids) id signals
       (in_entries false pads ids i pad id is_pad is_id (ap not (eq-eqb pad.width 0 w)));
-  wide = All-contains (λ (q : Pad). q.width ≢ 0 → q.width ≡ p.width) pads pad fit.0
+  wide = All-contains (λ (q : Pad). q.width ≢ 0 → q.width ≡ p.width) pads pad fits
       (contains_from_get pads i pad is_pad);
   word = λ w.
-      All-contains (λ (id : NetId). id.0 < length p.slices.net) (entries_of true pads ids) id fit.1.2
+      All-contains (λ (id : NetId). id.0 < length p.slices.net) (entries_of true pads ids) id words
       (in_entries true pads ids i pad id is_pad is_id (ap not (ne_eqb pad.width 0 w)));
 }
 
 pub entry_of : (p : DataPath) (pads : List Pad) (ids : List NetId) (i : ℕ) (pad : Pad) (d : NetId)
     → AreEntriesOf p pads ids → i < length pads → pad ≡ get_or pads i pad → IsEntryOf p pad (get_or ids i d)
 entry_of p pads ids i pad d fit h e =
-    let long = fit.1.0 in
+    let (_, (long, _, _)) = fit in
     entry_at p pads ids i pad (get_or ids i d) fit (slice_get-get_or pads i pad h ∙ ap Some (sym e))
     (slice_get-get_or ids i d (omega (arith, h, long)))

@@ -6,7 +6,8 @@ use Rattle.std.specs.Prelude.{flat_map, slice_get, All}
 use Rattle.std.specs.List.{range_with_len}
 use Rattle.std.proofs.lemmas.List.{map-append}
 use Rattle.std.proofs.lemmas.Option.{slice_get_within}
-use Rattle.mp_base.proofs.Members.{Member}
+use Rattle.mp_base.proofs.Members.{Member, member_append, member_flat}
+use Rattle.mp_base.proofs.Lists.{flat_map_same}
 use Rattle.fabric.specs.declared.thing.Mark.{Mark}
 use Rattle.fabric.specs.Room.{limit}
 use Rattle.nor_net.specs.declared.net.Part.TheVariants.{Input}
@@ -14,7 +15,6 @@ use Rattle.array_form.specs.declared.band.Band.{Band}
 use Rattle.array_form.specs.declared.band.Tap.{Tap}
 use Rattle.array_form.specs.Place.{IsBandOf}
 use Rattle.array_form.proofs.Laid.{all_from}
-use Rattle.array_form.proofs.Members.{member_append, member_flat}
 use Rattle.slice_form.specs.Path.{Path, Cast, Lift, IsPath}
 use Rattle.slice_form.specs.Slices.{base_of}
 use Rattle.slice_joints.specs.Control.{cast_tap, lift_tap, cast_taps, lift_taps, IsControlBand}
@@ -36,9 +36,6 @@ map_flat f g [] = refl
 map_flat f g (x ∷ xs) =
     map-append f (g x) (flat_map g xs) ∙ ap (λ l. map f (g x) ++ l) (map_flat f g xs)
 
-flat_alike : {B : Type 0} (f g : ℕ → List B) (xs : List ℕ) → ((i : ℕ) → f i ≡ g i) → flat_map f xs ≡ flat_map g xs
-flat_alike f g xs h = λ i. flat_map (λ k. h k i) xs
-
 cast_marked : (row : ℕ → ℕ) (i : ℕ) (q : Option Cast) → map (mark_of row) (cast_tap i q) ≡ control_cast_taps row i q
 cast_marked row i None = refl
 cast_marked row i (Some c) = refl
@@ -55,10 +52,10 @@ taps_marked p row =
     let casts = range_with_len 0 (length p.casts) in
     let lifts = range_with_len 0 (length p.lifts) in
     let a = map_flat (mark_of row) (λ i. cast_tap i (slice_get p.casts i)) casts
-    ∙ flat_alike (λ i. map (mark_of row) (cast_tap i (slice_get p.casts i)))
+    ∙ flat_map_same (λ i. map (mark_of row) (cast_tap i (slice_get p.casts i)))
     (λ i. control_cast_taps row i (slice_get p.casts i)) casts (λ i. cast_marked row i (slice_get p.casts i)) in
     let b = map_flat (mark_of row) (λ i. lift_tap p i (slice_get p.lifts i)) lifts
-    ∙ flat_alike (λ i. map (mark_of row) (lift_tap p i (slice_get p.lifts i)))
+    ∙ flat_map_same (λ i. map (mark_of row) (lift_tap p i (slice_get p.lifts i)))
     (λ i. control_lift_taps p row i (slice_get p.lifts i)) lifts (λ i. lift_marked p row i (slice_get p.lifts i)) in
     map-append (mark_of row) (cast_taps p) (lift_taps p) ∙ (λ i. a i ++ b i)
 

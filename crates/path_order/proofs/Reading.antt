@@ -36,8 +36,8 @@ found_first {A} {Y} f (x ∷ xs) y e = by_head (f x) refl e (found_first f xs y)
         → (z : A) × Contains (x ∷ xs) z × (f z ≡ Some y)
     by_head (Some z) is e again = (x, (0, omega arith, refl), is ∙ e)
     by_head None is e again =
-        let r = again e in
-        (r.0, (suc r.1.0, (let l = r.1.1 in omega (arith, l)), r.1.2), r.2)
+        let (y, (k, within, there), same) = again e in
+        (y, (suc k, omega (arith, within), there), same)
 
 either : {Y : Type 0} (o p : Option Y) (y : Y) → option_or o p ≡ Some y → (o ≡ Some y) ⊎ (p ≡ Some y)
 either (Some x) p y e = inl e

@@ -8,7 +8,7 @@ use Rattle.std.proofs.lemmas.List.Elements.{Contains-append_left, Contains-appen
 use Rattle.std.proofs.lemmas.Option.{get_or_from_slice_get}
 use Rattle.mp_base.specs.declared.pad.Pad.{Pad}
 use Rattle.mp_base.proofs.Entries.{some_entry}
-use Rattle.mp_base.proofs.Members.{Member, member_contains, member_map, range_members}
+use Rattle.mp_base.proofs.Members.{Member, member_contains, member_map, range_members, member_append, member_flat}
 use Rattle.switch_net.specs.declared.network.Network.{Network}
 use Rattle.nor_net.specs.declared.net.NetId.{NetId}
 use Rattle.nor_net.specs.declared.net.Phase.{Phase}
@@ -23,7 +23,6 @@ use Rattle.array_form.specs.Homes.{phase_number}
 use Rattle.array_form.specs.Laying.{band_lines}
 use Rattle.array_form.specs.Lists.{upright}
 use Rattle.array_form.specs.Wires.{place}
-use Rattle.array_form.proofs.Members.{member_append, member_flat}
 use Rattle.path_form.specs.declared.path.DataPath.{DataPath}
 use Rattle.path_form.specs.Showing.{pad_bits, pad_spot}
 use Rattle.slice_form.specs.Joints.{joint_lines, trunk_line}

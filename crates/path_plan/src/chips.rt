@@ -13,7 +13,7 @@ use path_form::DataPath;
 use path_labels::labels_of;
 use slice_chip::laws::{segments_in_order, sliced_chips_draw, sliced_is_small, things_are_few};
 use std::alloc::Global;
-use switch_net::chip_labels_differ;
+use switch_net::laws::chip_labels_differ;
 
 /// The chip of a path's fabric, with a label for each supply and phase and for each bit of the pads, in the lower left
 /// corner of its net.

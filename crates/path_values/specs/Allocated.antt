@@ -1,5 +1,5 @@
 -- How a path stands for transfers: which nets stand for which words, and what they are made of.
-use Rattle.std.specs.Prelude.{◌≡◌, ◌↔◌, ◌<◌, ◌-◌, ◌^◌, ℕ, suc, List, [], ◌∷◌, ◌++◌, Option, Some, true, false}
+use Rattle.std.specs.Prelude.{◌≡◌, ◌↔◌, ◌<◌, ◌-◌, ◌^◌, ℕ, suc, List, [], ◌∷◌, ◌++◌, Option, Some, true, false, ◌≢◌}
 use Rattle.std.specs.Prelude.{if◌then◌else◌, ◌==◌, All, Contains, length, slice_get, slice_index, slice_index_or}
 use Rattle.std.specs.List.{AllZip, filter}
 use Rattle.mp_base.specs.declared.value.Trit.{Trit}
@@ -162,7 +162,7 @@ pub record IsAllocated (r : Rtl) (p : DataPath) : Type 0 where
   pub operators : (e : ℕ) (op : Op) (index : ℕ) (args : List ℕ) (id : NetId) → IsAt r.exprs e (Apply op index args)
       → Stands words e id → Placed p.slices words op args id
   pub tests : (e : ℕ) (op : Op) (index : ℕ) (args : List ℕ) (id : NetId) → IsAt r.exprs e (Apply op index args)
-      → takes_words op ≡ true → (op ≡ ops.Bit → ⊥)
+      → takes_words op ≡ true → op ≢ ops.Bit
       → Stands names.exprs e id → (l : Lift) × Contains p.lifts l × (l.control ≡ id) × (suc l.slice ≡ p.width)
       × Placed p.slices words op args l.from
   pub bits : (e index : ℕ) (args : List ℕ) (id : NetId) → IsAt r.exprs e (Apply ops.Bit index args)

@@ -9,9 +9,9 @@ ghost use Rattle.piece_classes.specs.Classed.{AreClassed};
 
 use crate::linking::link_all;
 use crate::numbering::{Classes, number};
-use lam_geom::rectangles_are_joined;
+use lam_geom::laws::rectangles_are_joined;
 use mask_pieces::{Cut, Masks};
-use mask_runs::one_colour;
+use mask_runs::laws::one_colour;
 use mp_base::NoMemory;
 use std::alloc::Global;
 use union_find::leasts;

@@ -32,7 +32,7 @@ use Rattle.std.specs.Prelude.{Contains, ◌&&◌}
 use Rattle.std.specs.List.{sum_by, flat_map}
 use Rattle.std.proofs.lemmas.List.Sums.{sum_by-cons, sum_by-append}
 use Rattle.std.proofs.lemmas.Option.{none-some, same_Some}
-use Rattle.mp_base.proofs.Contents.{contains_head, contains_behind}
+use Rattle.mp_base.proofs.Contents.{contains_head, contains_behind, contains_flat, contains_from_flat}
 use Rattle.mp_base.proofs.Induction.{upward}
 use Rattle.mp_program.specs.declared.program.FormKind.{FormKind}
 use Rattle.mp_program.specs.declared.program.FormKind.TheVariants.{Set, Cond, Par, Go, Call, Return}
@@ -57,7 +57,6 @@ use Rattle.process_plan.specs.Enables.{HasEnable, StandsInside, AreEnables}
 use Rattle.process_plan.specs.Plan.{is_call}
 use Rattle.process_plan.proofs.Counting.{calls_is}
 use Rattle.process_plan.proofs.Census.{AreOnce, sum_within}
-use Rattle.process_plan.proofs.Members.{flat_in, in_flat}
 use Rattle.process_plan.proofs.Enables.{inside_inner}
 use Rattle.process_layout.specs.Counts.{is_of, count_of}
 use Rattle.process_layout.proofs.Origins.{own_origin}
@@ -131,7 +130,7 @@ within_counted p known (suc n) f =
 
 inner_inside : (k : FormKind) (f : ℕ) → Contains (inner k) f → StandsInside k f
 inner_inside (Set x at e) f (i, lt, is) = absurd (omega (arith, lt))
-inner_inside (Cond bs) f c = in_flat (λ (t : Branch). t.body) f bs c
+inner_inside (Cond bs) f c = contains_from_flat (λ (t : Branch). t.body) bs f c
 inner_inside (Par fs) f c = c
 inner_inside (Go l) f (i, lt, is) = absurd (omega (arith, lt))
 inner_inside (Call l) f (i, lt, is) = absurd (omega (arith, lt))
@@ -145,7 +144,7 @@ under_within p known (suc n) f g lt le (standing.deeper {g = h} y at c under) =
     let (later, inside) = inside_between p known.sound f y at h (inner_inside y.kind h c) in
     let rec = under_within p known n h g inside (omega (arith, le, later)) under in
     contains_behind g f (flat_map (within p n) (inner_at p.forms f))
-    (flat_in (within p n) g h (inner_at p.forms f)
+    (contains_flat (within p n) (inner_at p.forms f) h g
     (subst (λ fs. Contains fs h) (sym (inner_is p.forms f y at)) c) rec)
 
 -- ---- the forms that have enables in a process
@@ -262,7 +261,7 @@ calls_within p known exprs roles enables are k q at_q =
     let same : j ≡ f = omega (arith, e) in
     let (r, cr, under) = rooted p exprs roles enables are k q at_q f i x
     (subst (λ m. HasEnable enables m (At k i) x) same has) in
-    flat_in (within p n) f r q.forms cr
+    contains_flat (within p n) q.forms r f cr
     (under_within p known n r f (process_in p known.sound k q at_q r cr) (omega arith) under)) in
     let d = sum_flat v (calls_in p) (within p n) q.forms (within_counted p known n) in
     omega (arith, a, b, d)

@@ -69,9 +69,9 @@ use Rattle.process_enables.proofs.Guarding.{guards_kept, guards_more}
 branch_behind : (e i n : ℕ) (bs : List Branch) (b : Branch) → BranchesFit e i n bs → Contains bs b
     → (b.guard < e) × ((f : ℕ) → Contains b.body f → (i < f) × (f < n))
 branch_behind e i n [] b fit (k, lt, is) = absurd (omega (arith, lt))
-branch_behind e i n (d ∷ bs) b fit (zero, lt, is) =
+branch_behind e i n (d ∷ bs) b ((guard, body), _) (zero, lt, is) =
     subst (λ (z : Branch). (z.guard < e) × ((f : ℕ) → Contains z.body f → (i < f) × (f < n))) is
-    (fit.0.0, λ f cf. between_in i n d.body f fit.0.1 cf)
+    (guard, λ f cf. between_in i n d.body f body cf)
 branch_behind e i n (d ∷ bs) b fit (suc k, lt, is) = branch_behind e i n bs b fit.1 (k, omega (arith, lt), is)
 
 pub inside_behind : (e i n : ℕ) (k : FormKind) (f : ℕ) → InnerFit e i n k → StandsInside k f → (i < f) × (f < n)

@@ -34,7 +34,7 @@ use Rattle.std.specs.List.{sum_by}
 use Rattle.std.proofs.lemmas.Bool.{eqb-true, eq-eqb, ne_eqb, or_left, or_right, and_from}
 use Rattle.std.proofs.lemmas.List.Elements.{Contains-append_left, Contains-append_right, Contains-append_cases}
 use Rattle.std.proofs.lemmas.List.Sums.{sum_by-cons, sum_by-append}
-use Rattle.mp_base.proofs.Contents.{contains_behind as there, nothing_in, only_one, contains_from_map}
+use Rattle.mp_base.proofs.Contents.{contains_behind as there, nothing_in, only_one, contains_from_map, contains_filter}
 use Rattle.mp_base.proofs.Contents.{contains_from_filter, contains_map}
 use Rattle.mp_base.proofs.Induction.{by_test}
 use Rattle.std.proofs.lemmas.Option.{same_Some, none-some}
@@ -123,18 +123,6 @@ at_moves (z ∷ ys) (w ∷ xs) (suc f) y x k at_y at_x kind =
     Contains-append_right (option_to_list (move_of z.kind w)) (moves_in ys xs) (record { kind = k; enable = x })
     (at_moves ys xs f y x k at_y at_x kind)
 
-filter_in : {X : Type 0} (t : X → Bool) (xs : List X) (x : X) → Contains xs x → t x ≡ true → Contains (filter t xs) x
-filter_in t [] x c e = absurd (nothing_in x c)
-filter_in {X} t (y ∷ ys) x c e = pick (t y) refl c (λ h. filter_in t ys x h e)
-  where
-    pick : (b : Bool) → t y ≡ b → Contains (y ∷ ys) x → (Contains ys x → Contains (filter t ys) x)
-        → Contains (cond b (y ∷ filter t ys) (filter t ys)) x
-    pick true same (zero, lt, is) rest = (zero, omega arith, is)
-    pick true same (suc k, lt, is) rest = there x y (filter t ys) (rest (k, omega (arith, lt), is))
-    pick false same (zero, lt, is) rest =
-        let clash : true ≡ false = sym e ∙ ap t (sym is) ∙ same in absurd (cc)
-    pick false same (suc k, lt, is) rest = rest (k, omega (arith, lt), is)
-
 enable_is : (x : Enable) (o : Origin) (a : ℕ) → x.origin ≡ o → x.expr ≡ a → x ≡ record { origin = o; expr = a }
 enable_is x o a h g =
     ap (λ (u : Origin). record { origin = u; expr = x.expr }) h
@@ -154,7 +142,8 @@ picked_in : (g : Group) (ys : List Form) (xs : List (Option Enable)) (f : ℕ) (
     → Contains (picked g (moves_in ys xs)) x.expr
 picked_in g ys xs f y x k at_y at_x kind pick =
     contains_map (λ (z : Move). (z.enable).expr) (filter (picks g) (moves_in ys xs)) (record { kind = k; enable = x })
-    (filter_in (picks g) (moves_in ys xs) (record { kind = k; enable = x }) (at_moves ys xs f y x k at_y at_x kind)
+    (contains_filter (picks g) (moves_in ys xs) (record { kind = k; enable = x })
+    (at_moves ys xs f y x k at_y at_x kind)
     pick)
 
 -- ---- kinds

@@ -56,7 +56,7 @@ pub record IsFallMade (old new : List RtlExpr) (a : ℕ) (ms : List ℕ) (e : �
   pub made : ((ms ≡ []) × (e ≡ a)) ⊎ (Contains ms a × (e ≡ 1))
       ⊎ ((ns : List ℕ) × AreNegations new ms ns × IsAt new e (Apply And 0 (a ∷ ns)))
   pub grown : IsGrown (a ∷ ms) 0 old new
-      ⊎ ((Contains ms a → ⊥) × (0 < length ms) × IsGrown (a ∷ ms) (1 + length ms) old new)
+      ⊎ ((¬ Contains ms a) × (0 < length ms) × IsGrown (a ∷ ms) (1 + length ms) old new)
 
 -- u is 1 where one of these is, if there are any
 pub record IsUnionMade (old new : List RtlExpr) (guards : List ℕ) (u : Option ℕ) : Type 0 where

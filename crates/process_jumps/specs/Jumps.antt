@@ -80,8 +80,8 @@ AllFallsMade p enables k old new falls = (roles : List Role) (xs : List cells.Ce
 -- the jumps of process k, which is q
 pub record IsJumps (p : Program) (exprs : List RtlExpr) (roles : List Role) (enables : List (Option Enable)) (k : ℕ)
     (q : Process) (m : Jumps) : Type 0 where
-  pub calls : MatchOption m.calls (HasMove p enables is_call k → ⊥) (IsUnionOf p exprs enables is_call k)
-  pub returns : MatchOption m.returns (HasMove p enables is_return k → ⊥) (IsUnionOf p exprs enables is_return k)
+  pub calls : MatchOption m.calls (¬ HasMove p enables is_call k) (IsUnionOf p exprs enables is_call k)
+  pub returns : MatchOption m.returns (¬ HasMove p enables is_return k) (IsUnionOf p exprs enables is_return k)
   pub size : length m.falls ≡ length q.forms
   pub falls : (i e : ℕ) → IsAt m.falls i e → IsFallAt p exprs roles enables k i e
 

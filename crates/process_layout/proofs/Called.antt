@@ -54,17 +54,17 @@ IsTold v c i n = (f : ℕ) → i < f → f < n → v f ≡ nat_lt 0 (c f)
 any_told : (v : ℕ → Bool) (c : ℕ → ℕ) (i n : ℕ) (fs : List ℕ) → IsTold v c i n → AllBetween i n fs
     → list_any v fs ≡ nat_lt 0 (sum_by c fs)
 any_told v c i n [] told fit = refl
-any_told v c i n (f ∷ fs) told fit =
-    ap (λ b. b || list_any v fs) (told f fit.0.0 fit.0.1)
-    ∙ ap (λ b. nat_lt 0 (c f) || b) (any_told v c i n fs told fit.1)
+any_told v c i n (f ∷ fs) told ((low, high), others) =
+    ap (λ b. b || list_any v fs) (told f low high)
+    ∙ ap (λ b. nat_lt 0 (c f) || b) (any_told v c i n fs told others)
     ∙ sym (either_more (c f) (sum_by c fs)) ∙ sym (ap (nat_lt 0) (sum_by-cons c f fs))
 
 branches_told : (v : ℕ → Bool) (c : ℕ → ℕ) (e i n : ℕ) (bs : List Branch) → IsTold v c i n → BranchesFit e i n bs
     → list_any (λ (b : Branch). list_any v b.body) bs ≡ nat_lt 0 (sum_by c (flat_map (λ (b : Branch). b.body) bs))
 branches_told v c e i n [] told fit = refl
-branches_told v c e i n (b ∷ bs) told fit =
-    ap (λ x. x || list_any (λ (z : Branch). list_any v z.body) bs) (any_told v c i n b.body told fit.0.1)
-    ∙ ap (λ x. nat_lt 0 (sum_by c b.body) || x) (branches_told v c e i n bs told fit.1)
+branches_told v c e i n (b ∷ bs) told ((_, body), others) =
+    ap (λ x. x || list_any (λ (z : Branch). list_any v z.body) bs) (any_told v c i n b.body told body)
+    ∙ ap (λ x. nat_lt 0 (sum_by c b.body) || x) (branches_told v c e i n bs told others)
     ∙ sym (either_more (sum_by c b.body) (sum_by c (flat_map (λ (z : Branch). z.body) bs)))
     ∙ sym (ap (nat_lt 0) (sum_by-append c b.body (flat_map (λ (z : Branch). z.body) bs)))
 

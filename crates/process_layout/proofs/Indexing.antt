@@ -115,7 +115,8 @@ entry_tells : (r : Role) (k l j m n o : ℕ) → r ≡ Stacked k l j
     → Tells (is_eq (triple_cmp (k, l, j) (m, n, o))) (r ≡ Stacked m n o)
 entry_tells r k l j m n o is =
     tells_too (is_eq (triple_cmp (k, l, j) (m, n, o))) (((k ≡ m) × (l ≡ n)) × (j ≡ o)) (r ≡ Stacked m n o)
-    (λ e. is ∙ ap (λ x. Stacked x l j) e.0.0 ∙ ap (λ x. Stacked m x j) e.0.1 ∙ ap (Stacked m n) e.1)
+    (λ ((first, second), third).
+    is ∙ ap (λ x. Stacked x l j) first ∙ ap (λ x. Stacked m x j) second ∙ ap (Stacked m n) third)
     (λ e. ((ap first_part (sym is ∙ e), ap second_part (sym is ∙ e)), ap third_part (sym is ∙ e)))
     (subst (λ b. Tells b (((k ≡ m) × (l ≡ n)) × (j ≡ o))) (tied_then (pair_cmp (k, l) (m, n)) (nat_cmp j o))
     (both_tell (is_eq (pair_cmp (k, l) (m, n))) (is_eq (nat_cmp j o)) ((k ≡ m) × (l ≡ n)) (j ≡ o)

@@ -11,7 +11,7 @@ use Rattle.process_layout.specs.declared.index.RoleIndex.{RoleIndex}
 
 -- the cell with this role, or that there is none
 abbrev pub IsCellFor : List Role → Role → Option ℕ → Type 0
-IsCellFor roles s found = MatchOption found ((c : ℕ) → IsAt roles c s → ⊥) (λ c. IsAt roles c s)
+IsCellFor roles s found = MatchOption found ((c : ℕ) → ¬ IsAt roles c s) (λ c. IsAt roles c s)
 
 -- the order of keys
 abbrev pub pair_cmp : ℕ × ℕ → ℕ × ℕ → Ordering

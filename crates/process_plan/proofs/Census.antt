@@ -66,6 +66,7 @@ use Rattle.mp_program.specs.declared.program.Program.{Program}
 use Rattle.mp_program.specs.Weight.{calls_in}
 use Rattle.mp_base.specs.Entries.{IsAt}
 use Rattle.mp_base.proofs.Entries.{one_entry, some_entry, get_from_contains, within}
+use Rattle.mp_base.proofs.Lists.{take_whole}
 use Rattle.rtl_form.specs.declared.rtl.Cell.{Cell}
 use Rattle.rtl_form.specs.Cost.{cell_cost}
 use Rattle.process_plan.specs.Roles.{Role, Value, Placed, Stacked, AreCells, IsCellOf, def_cell}
@@ -373,10 +374,6 @@ same_costs (x ∷ xs) (s ∷ roles) f size same =
     let rest = same_costs xs roles f (omega (arith, size)) (λ k y t at at'. same (suc k) y t at at') in
     omega (arith, a, b, c, rest)
 
-all_taken : (ds : List Def) → take (length ds) ds ≡ ds
-all_taken [] = refl
-all_taken (d ∷ ds) = ap (λ xs. d ∷ xs) (all_taken ds)
-
 -- the cells of a program cost no more than those of its definitions, places and entries
 pub cells_counted : (p : Program) (roles : List Role) (xs : List Cell) → AreCells p roles xs
     → cells_cost xs ≤ defs_bill p.defs + sum_by (λ (q : Process). 7 * (length q.forms - 1) + 7 *
@@ -388,7 +385,7 @@ cells_counted p roles xs are =
     let within = roles_within p roles xs (role_bill p.defs) are in
     let parts = sum_by-append (role_bill p.defs) (values_below (length p.defs)) (processes_roles p 0 p.processes) in
     let values = take_bill p.defs (length p.defs) (omega arith) in
-    let all : defs_bill (take (length p.defs) p.defs) ≡ defs_bill p.defs = ap defs_bill (all_taken p.defs) in
+    let all : defs_bill (take (length p.defs) p.defs) ≡ defs_bill p.defs = ap defs_bill (take_whole p.defs) in
     let rest = processes_sum p (role_bill p.defs) 7 7 0 p.processes (λ k j. refl) (λ k l j. refl) in
     omega (arith, same, within, parts, values, all, rest)
 

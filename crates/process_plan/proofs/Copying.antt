@@ -63,9 +63,9 @@ module _ {p : Program} {r : Rtl} {roles : List Role} {enables : List (Option Ena
       → AllBetween i (length p.exprs) args
       → map V (map (copy_of p) args) ≡ map (from.value_of p env) args
   args_copied i [] below fit = refl
-  args_copied i (a ∷ more) below fit =
-      ap (λ v. v ∷ map V (map (copy_of p) more)) (below a fit.0.0 fit.0.1)
-      ∙ ap (λ vs. from.value_of p env a ∷ vs) (args_copied i more below fit.1)
+  args_copied i (a ∷ more) below ((low, high), others) =
+      ap (λ v. v ∷ map V (map (copy_of p) more)) (below a low high)
+      ∙ ap (λ vs. from.value_of p env a ∷ vs) (args_copied i more below others)
 
   kind_copied : (i : ℕ) (k : ExprKind) (y : RtlExpr) → ((j : ℕ) → i < j → j < length p.exprs → CopiedAt j)
       → ArgsFit i (length p.exprs) k → IsCopy p roles k y

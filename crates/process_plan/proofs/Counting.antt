@@ -29,7 +29,8 @@ use Rattle.process_plan.proofs.Jumping.{is_calling}
 sum_behind : (i n : ℕ) (fs : List ℕ) (g h : ℕ → ℕ) → ((k : ℕ) → i < k → g k ≡ h k) → AllBetween i n fs
     → sum_by g fs ≡ sum_by h fs
 sum_behind i n [] g h same fit = refl
-sum_behind i n (f ∷ fs) g h same fit = let a = same f fit.0.0 in let b = sum_behind i n fs g h same fit.1 in
+sum_behind i n (f ∷ fs) g h same ((low, high), others) =
+    let a = same f low in let b = sum_behind i n fs g h same others in
     omega (arith, a, b, sum_by-cons g f fs, sum_by-cons h f fs)
 
 both_lists : (i n : ℕ) (xs ys : List ℕ) → AllBetween i n xs → AllBetween i n ys → AllBetween i n (xs ++ ys)

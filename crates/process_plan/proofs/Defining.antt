@@ -31,7 +31,7 @@ use Rattle.std.proofs.lemmas.Slice.Eq.{bytes_eq-Decides}
 use Rattle.std.proofs.lemmas.Option.{same_Some, none-some, get_or_from_slice_get, slice_get-get_or}
 use Rattle.mp_base.specs.Merge.{merged}
 use Rattle.mp_base.specs.declared.refusal.Place.{Place}
-use Rattle.mp_base.proofs.Contents.{contains_behind, nothing_in}
+use Rattle.mp_base.proofs.Contents.{contains_behind, nothing_in, contains_from_flat, contains_flat}
 use Rattle.mp_base.proofs.Induction.{by_test}
 use Rattle.mp_program.specs.declared.program.FormKind.{FormKind}
 use Rattle.mp_program.specs.declared.program.FormKind.TheVariants.{Set, Cond, Par, Go, Call, Return}
@@ -58,7 +58,7 @@ use Rattle.process_plan.specs.Plan.{IsPlanned, sets, falls, lands, returns, push
 use Rattle.process_plan.proofs.Merging.{same_merge}
 use Rattle.mp_program.proofs.Definitions.{named}
 use Rattle.mp_base.proofs.Entries.{one_entry, each_at, read_of}
-use Rattle.process_plan.proofs.Members.{cases_of, in_flat, flat_in}
+use Rattle.process_plan.proofs.Members.{cases_of}
 use Rattle.process_plan.proofs.Doing.{effect_source, source_effect}
 use Rattle.process_plan.proofs.Copying.{copied}
 use Rattle.process_plan.proofs.Scene.{Scene, in_written, written_in, W, w_forth, w_back}
@@ -228,7 +228,7 @@ module _ {p : Program} {r : Rtl} {roles : List Role} {enables : List (Option Ena
       let own : Contains (own_effects (from.value_of p env) y.kind) (Writes x.name w) =
       subst (λ k. Contains (own_effects (from.value_of p env) k) (Writes x.name w)) (sym is)
       (zero, omega arith, ap (λ m. Writes m (from.value_of p env e)) (sym name) ∙ ap (Writes x.name) exact) in
-      flat_in (effects_of p env) (Writes x.name w) root (active p st) (root_active p st root o s.fits is_root on)
+      contains_flat (effects_of p env) (active p st) root (Writes x.name w) (root_active p st root o s.fits is_root on)
       (source_effect p env s.known root f y (Writes x.name w) runs here_y own)
   planned_write c d x w at_d role t (falls k i a e c2 is_a is_e role2) target guard value =
       absurd (placed_role roles c d k (suc i) role (subst (λ n. IsAt roles n (Placed k (suc i))) target role2))
@@ -257,7 +257,7 @@ module _ {p : Program} {r : Rtl} {roles : List Role} {enables : List (Option Ena
       → Contains (source.written x.name (clock_effects p st env)) w → Contains (written U c r.transfers) w
   write_back c d x at_d named role w h =
       let (n, cn, same) = in_source x.name (clock_effects p st env) w h in
-      let (root, c_root, c_effect) = in_flat (effects_of p env) (Writes n w) (active p st) cn in
+      let (root, c_root, c_effect) = contains_from_flat (effects_of p env) (active p st) (Writes n w) cn in
       let (o, is_root, on) = active_root p st root s.fits c_root in
       let (f, y, here_y, runs, own) = effect_source p env s.known root (root_in p s.known o root is_root)
       (Writes n w) c_effect in

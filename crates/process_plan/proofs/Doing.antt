@@ -36,7 +36,8 @@ use Rattle.mp_base.specs.Entries.{IsAt}
 use Rattle.mp_base.proofs.Entries.{some_entry}
 use Rattle.process_plan.specs.Lawful.{Known}
 use Rattle.process_plan.specs.Active.{chosen_forms, chosen, own_effects, Runs, itself, deeper}
-use Rattle.process_plan.proofs.Members.{in_flat, flat_in, between_in}
+use Rattle.process_plan.proofs.Members.{between_in}
+use Rattle.mp_base.proofs.Contents.{contains_from_flat, contains_flat}
 
 branch_split : (v : ℕ → ℕ) (bs : List Branch) (e : ℕ → List Effect)
     → branch_effects v bs e ≡ flat_map e (chosen_forms v bs)
@@ -60,11 +61,11 @@ split v Return e = refl
 chosen_in : (v : ℕ → ℕ) (ne i n : ℕ) (bs : List Branch) (f : ℕ) → BranchesFit ne i n bs
     → Contains (chosen_forms v bs) f → (i < f) × (f < n)
 chosen_in v ne i n [] f fit (k, lt, is) = absurd (omega (arith, lt))
-chosen_in v ne i n (b ∷ bs) f fit c = pick (v b.guard == 1) c (λ d. chosen_in v ne i n bs f fit.1 d)
+chosen_in v ne i n (b ∷ bs) f ((_, body), others) c = pick (v b.guard == 1) c (λ d. chosen_in v ne i n bs f others d)
   where
     pick : (t : Bool) → Contains (cond t b.body (chosen_forms v bs)) f
         → (Contains (chosen_forms v bs) f → (i < f) × (f < n)) → (i < f) × (f < n)
-    pick true c rest = between_in i n b.body f fit.0.1 c
+    pick true c rest = between_in i n b.body f body c
     pick false c rest = rest c
 
 -- the forms that a form makes active stand behind it
@@ -95,7 +96,7 @@ module _ (p : Program) (env : List ℕ) (known : Known p) where
       elim (Contains-append_cases (own_effects v y.kind) (flat_map (effects_of p env) (chosen v y.kind)) x parted) [
         | inl own ↦ (f, y, at, itself, own)
         | inr inner ↦
-            let (g, chosen_g, c2) = in_flat (effects_of p env) x (chosen v y.kind) inner in
+            let (g, chosen_g, c2) = contains_from_flat (effects_of p env) (chosen v y.kind) x inner in
             let behind = chosen_behind v (length p.exprs) f (length p.forms) y.kind g
             (known.sound.forms f y at) chosen_g in
             let (h, z, at2, runs, own) = below g behind.0 behind.1 x c2 in
@@ -116,4 +117,4 @@ module _ (p : Program) (env : List ℕ) (known : Known p) where
       ∙ split (value_of p env) z.kind (effects_of p env)))
       (Contains-append_right (own_effects (value_of p env) z.kind)
       (flat_map (effects_of p env) (chosen (value_of p env) z.kind)) x
-      (flat_in (effects_of p env) x h (chosen (value_of p env) z.kind) c (source_effect h g y x runs at own)))
+      (contains_flat (effects_of p env) (chosen (value_of p env) z.kind) h x c (source_effect h g y x runs at own)))

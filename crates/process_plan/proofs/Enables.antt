@@ -10,7 +10,7 @@ use Rattle.mp_base.proofs.Entries.{one_entry}
 use Rattle.process_plan.specs.Active.{Origin}
 use Rattle.process_plan.specs.Enables.{Enable, HasEnable, StandsInside}
 use Rattle.process_plan.specs.Roles.{Role, Value, Placed, Stacked}
-use Rattle.process_plan.proofs.Members.{flat_in}
+use Rattle.mp_base.proofs.Contents.{contains_flat}
 
 pub one_enable : (enables : List (Option Enable)) (f : ℕ) (o u : Origin) (a b : ℕ) → HasEnable enables f o a
     → HasEnable enables f u b → (o ≡ u) × (a ≡ b)
@@ -32,7 +32,7 @@ place_of (Stacked k l j) = j
 
 pub inside_inner : (k : FormKind) (f : ℕ) → StandsInside k f → Contains (inner k) f
 inside_inner (Set x at e) f h = absurd h
-inside_inner (Cond bs) f (b, cb, cf) = flat_in (λ (t : Branch). t.body) f b bs cb cf
+inside_inner (Cond bs) f (b, cb, cf) = contains_flat (λ (t : Branch). t.body) bs b f cb cf
 inside_inner (Par fs) f h = h
 inside_inner (Go l) f h = absurd h
 inside_inner (Call l) f h = absurd h

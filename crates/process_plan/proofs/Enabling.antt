@@ -1,33 +1,6 @@
 -- The enable of a form is 1 exactly where the form is active.
-use Rattle.std.proofs.Common.{
-  ◌≡◌,
-  ◌⊎◌,
-  inl,
-  inr,
-  ◌∙◌,
-  ℕ,
-  zero,
-  suc,
-  ◌-◌,
-  ◌<◌,
-  ◌≤◌,
-  List,
-  [],
-  ◌∷◌,
-  Bool,
-  true,
-  false,
-  cond,
-  Option,
-  Some,
-  refl,
-  sym,
-  ap,
-  subst,
-  arith,
-  length,
-  map,
-}
+use Rattle.std.proofs.Common.{◌≡◌, ◌⊎◌, inl, inr, ◌∙◌, ℕ, zero, suc, ◌-◌, ◌<◌, ◌≤◌, List, [], ◌∷◌, Bool, true, false}
+use Rattle.std.proofs.Common.{cond, Option, refl, sym, ap, subst, arith, length, map}
 use Rattle.std.specs.Prelude.{Contains, ◌==◌, ◌&&◌}
 use Rattle.std.specs.List.{list_all}
 use Rattle.std.proofs.lemmas.Bool.{eqb-true, eqb-false, eq-eqb, ne_eqb, cases_eq, and_parts}
@@ -47,7 +20,6 @@ use Rattle.mp_program.specs.State.{State, Seat, SeatsFit, IsState}
 use Rattle.mp_program.specs.Environment.{IsEnvironment}
 use Rattle.mp_program.specs.Values as from
 use Rattle.mp_base.specs.Entries.{IsAt}
-use Rattle.mp_base.proofs.Entries.{one_entry}
 use Rattle.rtl_form.specs.declared.rtl.Rtl.{Rtl}
 use Rattle.rtl_form.specs.declared.rtl.RtlExpr.{RtlExpr}
 use Rattle.rtl_form.specs.declared.rtl.RtlExpr.TheVariants.{Cell, Apply}
@@ -68,6 +40,7 @@ use Rattle.process_plan.specs.Enables.{
 use Rattle.process_plan.specs.Plan.{FollowsPlan}
 use Rattle.process_plan.proofs.Members.{cases_of}
 use Rattle.process_plan.proofs.Copying.{Valued, V, value_is, value_true, value_cell, copied}
+use Rattle.process_plan.proofs.Enables.{one_enable}
 
 -- the branches of a form have bits as guards
 abbrev pub GuardsAreBits : Program → List ℕ → Type 0
@@ -129,16 +102,6 @@ seat_in (x ∷ qs) (s ∷ ss) (suc k) q fit at = seat_in qs ss k q fit.3 at
 pub seat_fits : (p : Program) (st : State) (k : ℕ) (q : Process) → IsState p st → IsAt p.processes k q
     → ((seat_at st.seats k).place < length q.forms) × (length (seat_at st.seats k).stack ≡ q.depth)
 seat_fits p st k q fits at = seat_in p.processes st.seats k q fits.seats at
-
--- ---- enables
-
-pub one_enable : (enables : List (Option Enable)) (f : ℕ) (o u : Origin) (a b : ℕ) → HasEnable enables f o a
-    → HasEnable enables f u b → (o ≡ u) × (a ≡ b)
-one_enable enables f o u a b x y =
-    let x1 : Enable = record { origin = o; expr = a } in
-    let y1 : Enable = record { origin = u; expr = b } in
-    let e = same_Some x1 y1 (one_entry enables f (Some x1) (Some y1) x y) in
-    (ap (λ (z : Enable). z.origin) e, ap (λ (z : Enable). z.expr) e)
 
 -- what runs, runs one form further
 pub runs_more : (p : Program) (env : List ℕ) (r f g : ℕ) (y : Form) → Runs p env r f → IsAt p.forms f y
@@ -320,7 +283,8 @@ module _ {p : Program} {r : Rtl} {roles : List Role} {enables : List (Option Ena
   branches_low : (i n : ℕ) (bs : List Branch) → BranchesFit (length p.exprs) i n bs → (b : Branch) → Contains bs b
       → b.guard < length p.exprs
   branches_low i n [] fit b c = absurd (nothing_in b c)
-  branches_low i n (d ∷ bs) fit b (zero, lt, is) = subst (λ (t : Branch). t.guard < length p.exprs) is fit.0.0
+  branches_low i n (d ∷ bs) ((guard, _), _) b (zero, lt, is) =
+      subst (λ (t : Branch). t.guard < length p.exprs) is guard
   branches_low i n (d ∷ bs) fit b (suc k, lt, is) = branches_low i n bs fit.1 b (k, omega (arith, lt), is)
 
   low_guards : (g : ℕ) (y : Form) (bs : List Branch) → IsAt p.forms g y → y.kind ≡ Cond bs → LowGuards bs

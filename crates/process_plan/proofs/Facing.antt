@@ -39,6 +39,7 @@ use Rattle.std.proofs.lemmas.Bool.{lt-ltb, ne_eqb, or_left, or_right}
 use Rattle.std.proofs.lemmas.List.{length-map}
 use Rattle.std.proofs.lemmas.List.Sums.{sum_by-cons}
 use Rattle.std.proofs.lemmas.Option.{same_Some, none-some}
+use Rattle.std.proofs.lemmas.Map.Keys.{any_passes_from_place}
 use Rattle.mp_base.specs.declared.pad.Pad.{Pad}
 use Rattle.mp_base.proofs.Induction.{by_test}
 use Rattle.mp_program.specs.declared.program.What.{What}
@@ -239,14 +240,6 @@ output_made ds d (Port Internal) h = absurd (cc)
 output_made ds d (Signal Output) h = (record { word = false; kind = kinds.Output (output_number ds d) }, refl, refl)
 output_made ds d (Signal Input) h = absurd (cc)
 output_made ds d (Signal Internal) h = absurd (cc)
-
-pub any_at : (ds : List Def) (d : ℕ) (y : Def) → IsAt ds d y → is_stored y.what ≡ true
-    → list_any (λ (z : Def). is_stored z.what) ds ≡ true
-any_at [] d y at h = absurd (none-some y at)
-any_at (z ∷ zs) zero y at h = or_left (is_stored z.what) (list_any (λ (z : Def). is_stored z.what) zs)
-    (ap (λ (t : Def). is_stored t.what) (same_Some z y at) ∙ h)
-any_at (z ∷ zs) (suc d) y at h = or_right (is_stored z.what) (list_any (λ (z : Def). is_stored z.what) zs)
-    (any_at zs d y at h)
 
 -- the cell of an input or output is of the sort of its pad
 sort_of : (ds : List Def) (d w : ℕ) (what : What) (x : Cell) → 1 ≤ w → def_cell ds d what ≡ Some x
@@ -449,7 +442,8 @@ module _ (p : Program) (r : Rtl) (roles : List Role) (cells : AreCells p roles r
   stored_role : (x : Cell) → rtl.is_stored x.kind ≡ true → (t : Role) → roles_of.IsCellOf p t x → source.stores p ≡ true
   stored_role x is (Value d) (y, at_y, made) =
       or_left (list_any (λ (z : Def). is_stored z.what) p.defs) (nat_lt 0 (length p.processes))
-      (any_at p.defs d y at_y (sym (cell_stored p.defs d y.what x made) ∙ is))
+      (any_passes_from_place (λ (z : Def). is_stored z.what) p.defs d y at_y
+      (sym (cell_stored p.defs d y.what x made) ∙ is))
   stored_role x is (Placed k j) (q, at_q, pos, in_j, rest) =
       or_right (list_any (λ (z : Def). is_stored z.what) p.defs) (nat_lt 0 (length p.processes))
       (lt-ltb 0 (length p.processes) (let lt = within p.processes k at_q in omega (arith, lt)))

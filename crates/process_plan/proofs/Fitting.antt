@@ -25,6 +25,7 @@ use Rattle.std.proofs.Common.{
 }
 use Rattle.std.specs.Prelude.{Contains}
 use Rattle.std.proofs.lemmas.Option.{same_Some}
+use Rattle.std.proofs.lemmas.Bool.{false_from_ne_true}
 use Rattle.mp_base.specs.declared.op.Op.TheVariants.{And, Or, Nor, Not}
 use Rattle.mp_base.specs.declared.refusal.Place.{Place}
 use Rattle.mp_base.proofs.Contents.{contains_head, nothing_in}
@@ -92,7 +93,7 @@ use Rattle.process_plan.specs.Plan.{
 }
 use Rattle.process_plan.specs.Fits.{ExprFitsIn}
 use Rattle.process_plan.proofs.Members.{cases_of}
-use Rattle.process_plan.proofs.Enabling.{one_enable}
+use Rattle.process_plan.proofs.Enables.{one_enable}
 use Rattle.process_plan.proofs.Sorts.{IsSorted, sort_of, cell_sort, name_sorted, copy_wanted}
 
 -- the same by the lists of transfers
@@ -253,7 +254,7 @@ module _ {p : Program} {r : Rtl} {roles : List Role} {enables : List (Option Ena
         kind,
         sym (name_sorted p.defs x d at_d ∙ cell_sort p.defs (index_of p.defs x) d.what z made),
       )) in
-      let given : is_input d.what ≡ false = no_input (is_input d.what) (λ h.
+      let given : is_input d.what ≡ false = false_from_ne_true (is_input d.what) (λ h.
       settable at (
         f,
         y,
@@ -276,10 +277,6 @@ module _ {p : Program} {r : Rtl} {roles : List Role} {enables : List (Option Ena
               let yes = ap input_code h in omega (arith, no, yes),
         ),
       )
-    where
-      no_input : (b : Bool) → (b ≡ true → ⊥) → b ≡ false
-      no_input true never = absurd (never refl)
-      no_input false never = refl
 
   -- each transfer fits
   pub planned_fits : IsSorted p → ((at : Place) → E27 p at → ⊥)

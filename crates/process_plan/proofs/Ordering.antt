@@ -77,19 +77,15 @@ use Rattle.process_plan.proofs.Members.{
   cases_of,
   between_in,
 }
-use Rattle.process_plan.proofs.Enabling.{one_enable}
+use Rattle.process_plan.proofs.Enables.{one_enable}
 use Rattle.mp_program.proofs.Definitions.{named}
 use Rattle.process_plan.proofs.Defining.{value_role, placed_role, stacked_role}
 use Rattle.std.proofs.lemmas.Bool.{or_cases, or_left, or_right}
 use Rattle.std.proofs.lemmas.Option.{none-some, same_Some}
-use Rattle.mp_base.proofs.Contents.{
-  contains_head,
-  contains_behind,
-  nothing_in,
-  contains_from_map,
-}
+use Rattle.mp_base.proofs.Contents.{contains_head, contains_behind, nothing_in, contains_from_map, any_contained}
 use Rattle.mp_base.proofs.Entries.{one_entry, some_entry, read_of, contains_from_get}
 use Rattle.mp_base.proofs.Induction.{downward, upward}
+use Rattle.mp_base.proofs.Tests.{and_right}
 
 -- ---- expressions and the cells that they read
 
@@ -129,16 +125,11 @@ reads_args xs c e x reads at is_apply = elim (reads_by xs c e x reads at) [
 
 -- ---- tests
 
-any_in : (t : ℕ → Bool) (xs : List ℕ) (x : ℕ) → Contains xs x → t x ≡ true → list_any t xs ≡ true
-any_in t [] x c h = absurd (nothing_in x c)
-any_in t (y ∷ ys) x (zero, lt, is) h = or_left (t y) (list_any t ys) (ap t is ∙ h)
-any_in t (y ∷ ys) x (suc k, lt, is) h = or_right (t y) (list_any t ys) (any_in t ys x (k, omega (arith, lt), is) h)
-
 branch_in : (s : ℕ → Bool) (bs : List Branch) (b : Branch) (f : ℕ) → Contains bs b → Contains b.body f → s f ≡ true
     → branches_set bs s ≡ true
 branch_in s [] b f cb cf h = absurd (nothing_in b cb)
 branch_in s (d ∷ bs) b f (zero, lt, is) cf h = or_left (list_any s d.body) (branches_set bs s)
-    (any_in s d.body f (subst (λ (z : Branch). Contains z.body f) (sym is) cf) h)
+    (any_contained s d.body f (subst (λ (z : Branch). Contains z.body f) (sym is) cf) h)
 branch_in s (d ∷ bs) b f (suc k, lt, is) cf h = or_right (list_any s d.body) (branches_set bs s)
     (branch_in s bs b f (k, omega (arith, lt), is) cf h)
 
@@ -150,7 +141,7 @@ branch_reads m s before (d ∷ bs) r b f (zero, lt, is) cf h =
     or_right ((before || m d.guard) && list_any s d.body)
     (list_any r d.body || branches_read m s (before || m d.guard) bs r)
     (or_left (list_any r d.body) (branches_read m s (before || m d.guard) bs r)
-    (any_in r d.body f (subst (λ (z : Branch). Contains z.body f) (sym is) cf) h))
+    (any_contained r d.body f (subst (λ (z : Branch). Contains z.body f) (sym is) cf) h))
 branch_reads m s before (d ∷ bs) r b f (suc k, lt, is) cf h =
     or_right ((before || m d.guard) && list_any s d.body)
     (list_any r d.body || branches_read m s (before || m d.guard) bs r)
@@ -163,7 +154,7 @@ guarded : (m s : ℕ → Bool) (bs : List Branch) (r : ℕ → Bool) (b : Branch
 guarded m s [] r b f cb cf h = absurd (nothing_in b cb)
 guarded m s (d ∷ bs) r b f (zero, lt, is) cf h = or_left (list_any s d.body)
     (list_any r d.body || branches_read m s true bs r)
-    (any_in s d.body f (subst (λ (z : Branch). Contains z.body f) (sym is) cf) h)
+    (any_contained s d.body f (subst (λ (z : Branch). Contains z.body f) (sym is) cf) h)
 guarded m s (d ∷ bs) r b f (suc k, lt, is) cf h =
     or_right (list_any s d.body) (list_any r d.body || branches_read m s true bs r)
     (or_right (list_any r d.body) (branches_read m s true bs r) (guarded m s bs r b f (k, omega (arith, lt), is) cf h))
@@ -176,7 +167,7 @@ more_before m s before (b ∷ bs) r h =
     elim (or_cases ((before || m b.guard) && list_any s b.body)
     (list_any r b.body || branches_read m s (before || m b.guard) bs r) h) [
       | inl now ↦ or_left (list_any s b.body) (list_any r b.body || branches_read m s true bs r)
-          (second (before || m b.guard) (list_any s b.body) now)
+          (and_right (before || m b.guard) (list_any s b.body) now)
       | inr later ↦ or_right (list_any s b.body) (list_any r b.body || branches_read m s true bs r)
           (elim (or_cases (list_any r b.body) (branches_read m s (before || m b.guard) bs r) later) [
             | inl reads ↦ or_left (list_any r b.body) (branches_read m s true bs r) reads
@@ -184,10 +175,6 @@ more_before m s before (b ∷ bs) r h =
                 (more_before m s (before || m b.guard) bs r rest)
           ])
     ]
-  where
-    second : (a b : Bool) → (a && b) ≡ true → b ≡ true
-    second true b h = h
-    second false b h = absurd (cc)
 
 before_too : (m s : ℕ → Bool) (t : Bool) (bs : List Branch) (r : ℕ → Bool) → branches_read m s false bs r ≡ true
     → branches_read m s t bs r ≡ true
@@ -254,7 +241,7 @@ module _ (p : Program) (r : Rtl) (roles : List Role) (enables : List (Option Ena
       let (a, ca, more) = reads_args r.exprs c (copy_of p e) z h at (ap code is) in
       let (x, cx, e2) = contains_from_map (copy_of p) args a (subst (λ (t : RtlExpr). Contains (args_of t) a) is ca) in
       let range = between_in e (length p.exprs) args x fit.1 cx in
-      any_in (mentions p y.name) args x cx (below x range.0 range.1 (subst Touches (sym e2) more))
+      any_contained (mentions p y.name) args x cx (below x range.0 range.1 (subst Touches (sym e2) more))
 
   -- a copy reads the cells of the names that stand in its expression alone
   pub mentioned : (e : ℕ) → e < length p.exprs → MentionedAt e
@@ -312,7 +299,7 @@ module _ (p : Program) (r : Rtl) (roles : List Role) (enables : List (Option Ena
             inr (or_left ((false || mentions p y.name z.guard) && list_any (sets p x) z.body)
             (list_any rd z.body || branches_read (mentions p y.name) (sets p x)
             (false || mentions p y.name z.guard) [] rd)
-            (ap (λ t. t && list_any (sets p x) z.body) m ∙ any_in (sets p x) z.body f inside_z set))
+            (ap (λ t. t && list_any (sets p x) z.body) m ∙ any_contained (sets p x) z.body f inside_z set))
       ]
   branch_touches x o rest (z ∷ w ∷ bs) d f a rd low (a2, n, m2, at, body, at_n, at_m, more) cd cf has set h =
       elim (cases_of d z (w ∷ bs) cd) [
@@ -326,7 +313,7 @@ module _ (p : Program) (r : Rtl) (roles : List Role) (enables : List (Option Ena
                   inr (or_left ((false || mentions p y.name z.guard) && list_any (sets p x) z.body)
                   (list_any rd z.body || branches_read (mentions p y.name) (sets p x)
                   (false || mentions p y.name z.guard) (w ∷ bs) rd)
-                  (ap (λ t. t && list_any (sets p x) z.body) m ∙ any_in (sets p x) z.body f inside_z set))
+                  (ap (λ t. t && list_any (sets p x) z.body) m ∙ any_contained (sets p x) z.body f inside_z set))
             ]
         | inr later ↦
             elim (branch_touches x o m2 (w ∷ bs) d f a rd
@@ -362,7 +349,8 @@ module _ (p : Program) (r : Rtl) (roles : List Role) (enables : List (Option Ena
 
   branches_low : (i n : ℕ) (bs : List Branch) → BranchesFit (length p.exprs) i n bs → GuardsIn bs
   branches_low i n [] fit d cd = absurd (nothing_in d cd)
-  branches_low i n (z ∷ bs) fit d (zero, lt, is) = subst (λ (t : Branch). t.guard < length p.exprs) is fit.0.0
+  branches_low i n (z ∷ bs) ((guard, _), _) d (zero, lt, is) =
+      subst (λ (t : Branch). t.guard < length p.exprs) is guard
   branches_low i n (z ∷ bs) fit d (suc k, lt, is) = branches_low i n bs fit.1 d (k, omega (arith, lt), is)
 
   -- what a form inside g reads, g reads
@@ -371,7 +359,7 @@ module _ (p : Program) (r : Rtl) (roles : List Role) (enables : List (Option Ena
   inner_reads x (Set z at e) f inside_k h = absurd inside_k
   inner_reads x (Cond bs) f (d, cd, cf) h = branch_reads (mentions p y.name) (sets p x) false bs
       (form_reads p x y.name) d f cd cf h
-  inner_reads x (Par fs) f inside_k h = any_in (form_reads p x y.name) fs f inside_k h
+  inner_reads x (Par fs) f inside_k h = any_contained (form_reads p x y.name) fs f inside_k h
   inner_reads x (Go l) f inside_k h = absurd inside_k
   inner_reads x (Call l) f inside_k h = absurd inside_k
   inner_reads x Return f inside_k h = absurd inside_k
@@ -380,7 +368,7 @@ module _ (p : Program) (r : Rtl) (roles : List Role) (enables : List (Option Ena
       → kind_sets x k (sets p x) ≡ true
   inner_sets x (Set z at e) f inside_k h = absurd inside_k
   inner_sets x (Cond bs) f (d, cd, cf) h = branch_in (sets p x) bs d f cd cf h
-  inner_sets x (Par fs) f inside_k h = any_in (sets p x) fs f inside_k h
+  inner_sets x (Par fs) f inside_k h = any_contained (sets p x) fs f inside_k h
   inner_sets x (Go l) f inside_k h = absurd inside_k
   inner_sets x (Call l) f inside_k h = absurd inside_k
   inner_sets x Return f inside_k h = absurd inside_k
@@ -469,7 +457,7 @@ module _ (p : Program) (r : Rtl) (roles : List Role) (enables : List (Option Ena
         at_b,
         dx,
         dy,
-        any_in (form_reads p x.name y.name) (roots p) root
+        any_contained (form_reads p x.name y.name) (roots p) root
             (in_roots o root is_root) root_read,
       )
   transfer_reads d c2 x at_d dx dy role2 t (plans.falls k i a e c3 is_a is_e role3) target touches =

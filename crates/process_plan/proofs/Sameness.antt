@@ -157,14 +157,14 @@ module _ {p : Program} {order : List ℕ} (lawful : Lawful p order) where
   none_in : (i n : ℕ) (fs : List ℕ) (s : ℕ → Bool) → AllBetween i n fs
       → ((j : ℕ) → i < j → j < n → s j ≡ false) → list_any s fs ≡ false
   none_in i n [] s fit none = refl
-  none_in i n (f ∷ fs) s fit none =
-      ap (λ b. b || list_any s fs) (none f fit.0.0 fit.0.1) ∙ none_in i n fs s fit.1 none
+  none_in i n (f ∷ fs) s ((low, high), others) none =
+      ap (λ b. b || list_any s fs) (none f low high) ∙ none_in i n fs s others none
 
   none_in_branches : (e i n : ℕ) (bs : List Branch) (s : ℕ → Bool) → BranchesFit e i n bs
       → ((j : ℕ) → i < j → j < n → s j ≡ false) → branches_set bs s ≡ false
   none_in_branches e i n [] s fit none = refl
-  none_in_branches e i n (b ∷ bs) s fit none =
-      ap (λ t. t || branches_set bs s) (none_in i n b.body s fit.0.1 none) ∙ none_in_branches e i n bs s fit.1 none
+  none_in_branches e i n (b ∷ bs) s ((_, body), others) none =
+      ap (λ t. t || branches_set bs s) (none_in i n b.body s body none) ∙ none_in_branches e i n bs s others none
 
   none_of_kind : (name : List ℕ) (e i n : ℕ) (k : FormKind) (s : ℕ → Bool) → is_set k ≡ false → InnerFit e i n k
       → ((j : ℕ) → i < j → j < n → s j ≡ false) → kind_sets name k s ≡ false

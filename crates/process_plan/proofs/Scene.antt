@@ -58,15 +58,8 @@ use Rattle.process_plan.specs.Enables.{
 use Rattle.process_plan.specs.Plan.{FollowsPlan}
 use Rattle.process_plan.proofs.Members.{cases_of, truth_low}
 use Rattle.process_plan.proofs.Copying.{Valued, value_true, value_false, value_cell}
-use Rattle.process_plan.proofs.Enabling.{
-  GuardsAreBits,
-  Tells,
-  one_enable,
-  active_forth,
-  active_back,
-  place_tells,
-  origin_tells,
-}
+use Rattle.process_plan.proofs.Enabling.{GuardsAreBits, Tells, active_forth, active_back, place_tells, origin_tells}
+use Rattle.process_plan.proofs.Enables.{one_enable}
 
 -- each entry of a stack is 0 or a place to which a call returns
 abbrev pub StacksFit : Program → List Seat → Type 0

@@ -43,6 +43,7 @@ use Rattle.mp_rules.specs.Rules.{E31}
 use Rattle.mp_rules.specs.Standing as standing
 use Rattle.mp_rules.specs.Standing.{Under, uses_stack}
 use Rattle.mp_base.proofs.Entries.{contains_from_get, one_entry}
+use Rattle.mp_base.proofs.Lists.{empty_of}
 use Rattle.mp_rules.proofs.Sequences.{under_more}
 use Rattle.rtl_form.specs.declared.rtl.RtlExpr.{RtlExpr}
 use Rattle.process_plan.specs.declared.role.Role.{Role}
@@ -154,11 +155,11 @@ module _ (p : Program) (unbroken : IsUnbroken p) where
         → count_of is_call k p.forms enables ≤ sum_by (calls_in p) q.forms → IsTally (tally_of p enables k q)
     is_tally k q at_q called = record {
       some = elim (zero_or_more (length q.forms)) [
-        | inl none ↦ absurd (keeps_36 p unbroken q.place (k, q, at_q, empty q.forms none, refl))
+        | inl none ↦ absurd (keeps_36 p unbroken q.place (k, q, at_q, empty_of q.forms none, refl))
         | inr some ↦ some
       ];
       few = elim (zero_or_more (length q.forms)) [
-        | inl none ↦ absurd (keeps_36 p unbroken q.place (k, q, at_q, empty q.forms none, refl))
+        | inl none ↦ absurd (keeps_36 p unbroken q.place (k, q, at_q, empty_of q.forms none, refl))
         | inr some ↦
             let same = returns_same p q in
             let few = census.returns_few p q (length q.forms - 1) in
@@ -168,10 +169,6 @@ module _ (p : Program) (unbroken : IsUnbroken p) where
       all = called;
       deep = λ some. stack_there k q at_q some;
     }
-      where
-        empty : (fs : List ℕ) → length fs ≡ 0 → fs ≡ []
-        empty [] none = refl
-        empty (f ∷ fs) none = absurd (omega (arith, none))
 
     tallies : (at : ℕ) (qs : List Process)
         → ((k : ℕ) (q : Process) → IsAt qs k q → IsTally (tally_of p enables (at + k) q))

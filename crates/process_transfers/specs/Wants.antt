@@ -42,7 +42,7 @@ use Rattle.process_transfers.specs.declared.roles.Motion.TheVariants.{Fall, Push
 
 -- found is one that is wanted, or none is wanted
 abbrev pub IsFound : {X : Type 0} → (X → Type 0) → Option X → Type 0
-IsFound {X} W found = MatchOption found ((t : X) → W t → ⊥) W
+IsFound {X} W found = MatchOption found ((t : X) → ¬ W t) W
 
 -- transfers are added that the first n things want, one to each that wants any
 pub record Serves (W : ℕ → Transfer → Type 0) (n : ℕ) (old new : List Transfer) : Type 0 where

@@ -17,7 +17,7 @@ use Rattle.mask_runs.specs.Laws.{BlankWithoutNeeded}
 use Rattle.mask_tiles.specs.declared.tile.Tile.{Tile}
 use Rattle.mask_tiles.specs.Tiles.{AreTiles, AreWhole, IsTileOf}
 use Rattle.mask_tiles.proofs.SeenLayers.{layers_of}
-use Rattle.region_sweep.proofs.Squares.{covered_by}
+use Rattle.lam_geom.proofs.Covered.{covered_by}
 
 -- no rectangle has a layer that the mask needs
 abbrev Lacks : Mask → List Rect → Type 0

@@ -11,10 +11,11 @@ use Rattle.lam_geom.specs.declared.layer.Layer.{Layer}
 use Rattle.lam_geom.specs.declared.layer.Layer.TheVariants.{ND, NP, NC, NM, NI, NB, NG}
 use Rattle.mask_runs.specs.declared.mask.Layers.{Layers}
 use Rattle.mask_runs.specs.declared.mask.Mask.{Mask}
-use Rattle.mask_runs.specs.declared.mask.Mask.TheVariants.{Only, Diffusion, Contacts}
+use Rattle.mask_runs.specs.declared.mask.Mask.TheVariants.{Only}
 use Rattle.mask_runs.specs.Colours.{bare, has, uses, colour_of}
 use Rattle.mask_runs.specs.Laws.{ColoursByLayers}
 use Rattle.cover_tree.specs.Covers.{Cover, layers_at, row_colour}
+use Rattle.cover_tree.proofs.Covering.{bare_colour}
 use Rattle.region_sweep.specs.declared.block.Block.{Block}
 use Rattle.region_sweep.specs.Blocks.{covers, is_covered, layers_over, painted, IsInside, AreStacked}
 use Rattle.region_sweep.specs.Rows.{block, no_block, AreRaised}
@@ -57,7 +58,7 @@ pub record CoversCell (b : Block) (l : Layer) (y c : ℕ) : Type 0 where
 
 covers_decides : (b : Block) (l : Layer) (y c : ℕ) → Decides (covers b l y c) (CoversCell b l y c)
 covers_decides b l y c = Decides-like (covers b l y c)
-    (λ h. record { same = h.0.0.0.0; left = h.0.0.0.1; right = h.0.0.1; low = h.0.1; high = h.1 })
+    (λ ((((same, left), right), low), high). record { same = same; left = left; right = right; low = low; high = high })
     (λ h. ((((h.same, h.left), h.right), h.low), h.high))
     (Decides-and _ _
     (Decides-and _ _
@@ -103,17 +104,6 @@ has_none NM = refl
 has_none NI = refl
 has_none NB = refl
 has_none NG = refl
-
-bare_colour : (mask : Mask) → colour_of mask bare ≡ 0
-bare_colour (Only ND) = refl
-bare_colour (Only NP) = refl
-bare_colour (Only NC) = refl
-bare_colour (Only NM) = refl
-bare_colour (Only NI) = refl
-bare_colour (Only NB) = refl
-bare_colour (Only NG) = refl
-bare_colour Diffusion = refl
-bare_colour Contacts = refl
 
 -- layers that the mask uses tell the colour
 pub painted_is : ColoursByLayers → (mask : Mask) (blocks : List Block) (y c : ℕ) (s : Layers)

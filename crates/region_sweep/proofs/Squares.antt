@@ -1,6 +1,6 @@
 -- The colour of a square is that of its cell.
-use Rattle.std.proofs.Common.{ℕ, zero, suc, ◌≡◌, ◌+◌, ◌<◌, ◌↔◌, List, [], ◌∷◌, true, inl}
-use Rattle.std.proofs.Common.{inr, refl, sym, ◌∙◌, subst, arith, length, get_or, add-one}
+use Rattle.std.proofs.Common.{ℕ, ◌≡◌, ◌<◌, ◌↔◌, List, [], true, inl}
+use Rattle.std.proofs.Common.{inr, sym, ◌∙◌, subst, arith}
 use Rattle.std.specs.Prelude.{ℤ, ◌<ℤ◌, Contains}
 use Rattle.std.proofs.lemmas.Int.{ints, by_lt_z}
 use Rattle.std.proofs.lemmas.Bool.{cases_lt}
@@ -10,6 +10,7 @@ use Rattle.mp_base.proofs.Tests.{same_test}
 use Rattle.lam_geom.specs.declared.layer.Layer.{Layer}
 use Rattle.lam_geom.specs.declared.rect.Rect.{Rect}
 use Rattle.lam_geom.specs.Squares.{Covers, covered}
+use Rattle.lam_geom.proofs.Covered.{covers_all, covered_by}
 use Rattle.mask_runs.specs.declared.mask.Layers.{Layers}
 use Rattle.mask_runs.specs.declared.mask.Mask.{Mask}
 use Rattle.mask_runs.specs.Colours.{has, uses, colour_of, Sees, HasColour}
@@ -28,27 +29,6 @@ pub record IsGrid (xs ys : List ℤ) (mask : Mask) (shapes : List Rect) (blocks 
   pub rows : Ascending ys
   pub drawn : AreDrawn xs ys mask shapes
   pub made : AreBlocks xs ys mask shapes blocks
-
-later : (r : Rect) (rs : List Rect) (d : Rect) (k : ℕ) → get_or (r ∷ rs) (k + 1) d ≡ get_or rs k d
-later r rs d k = rw add-one refl
-
--- a rectangle of the list
-pub covered_by : (shapes : List Rect) (l : Layer) (x y : ℤ) → covered shapes l x y
-    → (r : Rect) × Contains shapes r × Covers r l x y
-covered_by (r ∷ rs) l x y (inl h) = (r, (0, omega arith, refl), h)
-covered_by (r ∷ rs) l x y (inr h) = let g = covered_by rs l x y h in
-    (g.0, (g.1.0 + 1, omega arith, later r rs g.0 g.1.0 ∙ g.1.2), g.2)
-covered_by [] l x y h = absurd h
-
-covers_at : (shapes : List Rect) (l : Layer) (x y : ℤ) (k : ℕ) (d : Rect) → k < length shapes
-    → Covers (get_or shapes k d) l x y → covered shapes l x y
-covers_at [] l x y k d m h = absurd (omega arith)
-covers_at (r ∷ rs) l x y zero d m h = inl h
-covers_at (r ∷ rs) l x y (suc k) d m h = inr (covers_at rs l x y k d (omega arith) h)
-
-pub covers_all : (shapes : List Rect) (l : Layer) (x y : ℤ) (r : Rect) → Contains shapes r → Covers r l x y
-    → covered shapes l x y
-covers_all shapes l x y r has h = covers_at shapes l x y has.0 r has.1 (subst (λ q. Covers q l x y) (sym has.2) h)
 
 pub before_mark : (ms : List ℤ) (m z : ℤ) → Ascending ms → Contains ms m → (z <ℤ m) ↔ (cell_of ms z < cell_of ms m)
 before_mark ms m z up has =

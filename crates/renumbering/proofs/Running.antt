@@ -28,8 +28,8 @@ partner R [] ys z i d lt = absurd (omega (arith, lt))
 partner R (x ∷ xs) [] z i d lt = absurd z
 partner R (x ∷ xs) (y ∷ ys) z zero d lt = (y, (0, omega arith, refl), z.0)
 partner R (x ∷ xs) (y ∷ ys) z (suc i) d lt =
-    let w = partner R xs ys z.1 i d (omega (arith, lt)) in
-    (w.0, (suc w.1.0, omega (arith, w.1.1), w.1.2), w.2)
+    let (v, (k, within, there), related) = partner R xs ys z.1 i d (omega (arith, lt)) in
+    (v, (suc k, omega (arith, within), there), related)
 
 -- a labelled number is a node
 labelled_low : (n : Network) (name : List ℕ) (k : ℕ) → IsLabelled n name k → k < n.nodes

@@ -3,7 +3,7 @@
 ghost use Rattle.renumbering.specs.Laws.{RenumberingsTurn, RenumberingsCompose, SameTurns, SameComposes};
 ghost use Rattle.renumbering.specs.Laws.{SettlesAlike, RunsAlike};
 
-use switch_net::networks_settle;
+use switch_net::laws::networks_settle;
 
 /// Renumberings go back and compose, by their own maps; so does being the same up to numbering.
 pub fn renumberings_compose()

@@ -6,7 +6,7 @@ use Rattle.outside.specs.Outside.{Gains}
 use Rattle.outside.specs.Piece.{TakesAll}
 use Rattle.outside.proofs.Written.{written_then}
 use Rattle.outside.proofs.CutTexts.{cut_at}
-use Rattle.settle.specs.Values.{value_at}
+use Rattle.switch_net.specs.Values.{value_at}
 use Rattle.switch_net.specs.declared.network.Network.{Network}
 use Rattle.stimulus.specs.declared.given.Stimulus.{Stimulus}
 use Rattle.transcript.specs.Running.{PrintsTranscript}

@@ -4,7 +4,7 @@ use Rattle.mp_base.specs.declared.value.Trit.{Trit}
 use Rattle.mp_base.specs.declared.value.Trit.TheVariants.{X}
 use Rattle.outside.specs.Outside.{Gains}
 use Rattle.outside.specs.Piece.{TakesAll}
-use Rattle.settle.specs.Values.{value_at}
+use Rattle.switch_net.specs.Values.{value_at}
 use Rattle.switch_net.specs.declared.network.Network.{Network}
 use Rattle.stimulus.specs.declared.given.Stimulus.{Stimulus}
 use Rattle.mask_net.specs.SizeLine.{size_text, last_line}

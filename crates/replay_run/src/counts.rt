@@ -5,7 +5,7 @@ ghost use Rattle.std.specs.Fmt.{decimal};
 ghost use Rattle.mp_base.specs.declared.value.Trit.TheVariants.{One, X};
 ghost use Rattle.outside.specs.Outside.{Gains, HasCause};
 ghost use Rattle.outside.specs.Piece.{TakesAll};
-ghost use Rattle.settle.specs.Values.{value_at};
+ghost use Rattle.switch_net.specs.Values.{value_at};
 ghost use Rattle.switch_net.specs.declared.network.Network.{Network};
 ghost use Rattle.switch_net.specs.Sizes.{same_value};
 ghost use Rattle.mask_net.specs.SizeLine.{counts_text, last_line, size_text};

@@ -3,7 +3,7 @@
 ghost use Rattle.std.specs.Prelude.{◌≡◌, ◌<◌, ◌^◌, length, IfOk};
 ghost use Rattle.outside.specs.Outside.{HasCause};
 ghost use Rattle.mp_base.specs.declared.value.Trit.TheVariants.{X};
-ghost use Rattle.settle.specs.Values.{value_at};
+ghost use Rattle.switch_net.specs.Values.{value_at};
 ghost use Rattle.switch_net.specs.Breaks.{HasPads};
 ghost use Rattle.replay_run.specs.Replay.{IsReady, PrintsReplay};
 

@@ -11,7 +11,8 @@ use Rattle.switch_net.specs.Settled.{Setting, Gives}
 use Rattle.switch_net.specs.Laws.{GivesOnce}
 use Rattle.settle_laws.specs.Told.{IsGiven, IsLook}
 use Rattle.settle_laws.specs.Laws.{LooksTell}
-use Rattle.node_clusters.specs.Values.{value_at, IsMarked}
+use Rattle.node_clusters.specs.Values.{IsMarked}
+use Rattle.switch_net.specs.Values.{value_at}
 use Rattle.node_clusters.specs.Links.{AreGated}
 use Rattle.node_clusters.specs.Spread.{Picks}
 use Rattle.node_clusters.specs.Give.{IsCluster}

@@ -13,7 +13,8 @@ use Rattle.switch_net.specs.Reaching.{here}
 use Rattle.switch_net.specs.Laws.{GivesAlongReach}
 use Rattle.settle_laws.specs.Told.{IsGiven, IsTold, IsRedriven}
 use Rattle.settle_laws.specs.Laws.{RedrivenTells}
-use Rattle.node_clusters.specs.Values.{value_at, driver_at, IsMarked}
+use Rattle.node_clusters.specs.Values.{IsMarked}
+use Rattle.switch_net.specs.Values.{value_at, driver_at}
 use Rattle.node_clusters.specs.Links.{listed, AreGated}
 use Rattle.settle.specs.Wake.{Wakes, WakesBeside}
 use Rattle.settle.specs.Start.{IsReady, Redrives, RedrivesFirst}

@@ -9,7 +9,8 @@ use Rattle.mp_base.specs.declared.value.Trit.{Trit}
 use Rattle.mp_base.specs.declared.value.Trit.TheVariants.{X}
 use Rattle.mp_base.proofs.Numbers.{below_suc}
 use Rattle.mp_base.proofs.Contents.{nothing_in}
-use Rattle.node_clusters.specs.Values.{value_at, IsMarked}
+use Rattle.node_clusters.specs.Values.{IsMarked}
+use Rattle.switch_net.specs.Values.{value_at}
 use Rattle.switch_net.specs.declared.network.Channel.{Channel}
 use Rattle.node_clusters.specs.Links.{listed, AreLinked}
 use Rattle.settle.specs.Wake.{Widens, Wakes, WakesBeside, IsVerdict, Renews}

@@ -5,7 +5,7 @@ use Rattle.switch_net.specs.declared.network.Network.{Network}
 use Rattle.node_clusters.specs.declared.sets.Sets.{Sets}
 use Rattle.switch_net.specs.Settled.{IsSettled}
 use Rattle.settle_order.specs.Orders.{Orderings, AreSound}
-use Rattle.node_clusters.specs.Values.{value_at, driver_at}
+use Rattle.switch_net.specs.Values.{value_at, driver_at}
 use Rattle.node_clusters.specs.Links.{AreLinked, AreGated}
 use Rattle.node_clusters.specs.Rooms.{HaveRoom}
 

@@ -4,7 +4,8 @@ use Rattle.mp_base.specs.declared.value.Trit.{Trit}
 use Rattle.switch_net.specs.declared.network.Channel.{Channel}
 use Rattle.switch_net.specs.Settled.{Setting}
 use Rattle.settle_laws.specs.Told.{IsTold}
-use Rattle.node_clusters.specs.Values.{value_at, driver_at, IsMarked}
+use Rattle.node_clusters.specs.Values.{IsMarked}
+use Rattle.switch_net.specs.Values.{value_at, driver_at}
 use Rattle.node_clusters.specs.Links.{listed}
 use Rattle.settle.specs.Wake.{Widens, Wakes, WakesBeside}
 

@@ -3,7 +3,8 @@ use Rattle.std.specs.Prelude.{◌≡◌, ◌<◌, ◌⊎◌, ◌↔◌, ℕ, Lis
 use Rattle.mp_base.specs.declared.value.Trit.{Trit}
 use Rattle.mp_base.specs.declared.value.Trit.TheVariants.{Zero, One}
 use Rattle.switch_net.specs.declared.network.Channel.{Channel}
-use Rattle.node_clusters.specs.Values.{value_at, IsMarked}
+use Rattle.node_clusters.specs.Values.{IsMarked}
+use Rattle.switch_net.specs.Values.{value_at}
 use Rattle.node_clusters.specs.Links.{listed}
 
 -- what waited waits, and of the other nodes undriven ones at most
@@ -29,6 +30,6 @@ pub record IsVerdict (zeros ones : List ℕ) (n : ℕ) (t : Trit) : Type 0 where
 pub record Renews (driver : ℕ → Option Trit) (gated : List (List ℕ)) (zeros ones nodes : List ℕ) (old new : List Trit)
     (before after : List Bool) : Type 0 where
   pub given : (n : ℕ) → Contains nodes n → IsVerdict zeros ones n (value_at new n)
-  pub kept : (n : ℕ) → (Contains nodes n → ⊥) → value_at new n ≡ value_at old n
+  pub kept : (n : ℕ) → ¬ Contains nodes n → value_at new n ≡ value_at old n
   pub told : (g : ℕ) → (value_at new g ≡ value_at old g) ⊎ Wakes driver (listed gated g) after
   pub widens : Widens driver before after

@@ -2,7 +2,7 @@
 
 ghost use Rattle.std.specs.Prelude.{◌≡◌, IsTrue, length};
 ghost use Rattle.switch_net.specs.Settled.{IsSettled};
-ghost use Rattle.node_clusters.specs.Values.{value_at};
+ghost use Rattle.switch_net.specs.Values.{value_at};
 ghost use Rattle.node_clusters.specs.Board.{setting_of, nodes_of, IsMoment};
 ghost use Rattle.node_clusters.specs.Rooms.{HaveRoom};
 ghost use Rattle.settle_order.specs.Orders.{HasOrder};

@@ -1,7 +1,7 @@
 //! A look at a cluster that waits: its nodes get what they are given, X too.
 
 ghost use Rattle.std.specs.Prelude.{◌≡◌, ◌<◌, ◌↔◌, ℕ, None, IsTrue, Contains, length};
-ghost use Rattle.node_clusters.specs.Values.{driver_at};
+ghost use Rattle.switch_net.specs.Values.{driver_at};
 ghost use Rattle.node_clusters.specs.Board.{setting_of, nodes_of, IsMoment};
 ghost use Rattle.node_clusters.specs.Rooms.{HaveRoom};
 ghost use Rattle.settle.specs.Start.{IsReady};
@@ -12,12 +12,12 @@ use mp_base::Trit;
 use node_clusters::{Board, Sets};
 use node_set::NodeSet;
 use settle_laws::laws::ordered_settings_settle;
-use switch_net::nodes_are_given;
+use switch_net::laws::nodes_are_given;
 
 fn verdict(zeros: &NodeSet, ones: &NodeSet, node: u32) -> Trit
     requires zeros { node < zeros.now.room }
     requires ones { node < ones.now.room }
-    requires apart { Contains zeros.now.members node → Contains ones.now.members node → ⊥ }
+    requires apart { Contains zeros.now.members node → ¬ Contains ones.now.members node }
     ensures { IsVerdict zeros.now.members ones.now.members node result }
 {
     if zeros.contains(node) {
@@ -49,7 +49,7 @@ fn renew(
     requires zeros { zeros.now.room ≡ nodes_of board.now }
     requires ones { ones.now.room ≡ nodes_of board.now }
     requires waits { length waits.old ≡ nodes_of board.now }
-    requires apart { (n : ℕ) → Contains zeros.now.members n → Contains ones.now.members n → ⊥ }
+    requires apart { (n : ℕ) → Contains zeros.now.members n → ¬ Contains ones.now.members n }
     ensures { Renews (driver_at board.now.drive.now) board.now.gated.now zeros.now.members ones.now.members
         cluster.now.members values.old values.new waits.old waits.new }
 {

@@ -2,7 +2,8 @@
 
 ghost use Rattle.std.specs.Prelude.{◌≡◌, ◌<◌, ℕ, IsTrue, length};
 ghost use Rattle.switch_net.specs.Settled.{IsSettled};
-ghost use Rattle.node_clusters.specs.Values.{value_at, IsMarked};
+ghost use Rattle.node_clusters.specs.Values.{IsMarked};
+ghost use Rattle.switch_net.specs.Values.{value_at};
 ghost use Rattle.node_clusters.specs.Board.{setting_of, nodes_of, IsMoment};
 ghost use Rattle.node_clusters.specs.Rooms.{HaveRoom};
 ghost use Rattle.settle_order.specs.Orders.{HasOrder};
@@ -22,7 +23,7 @@ fn is_waiting(waits: &[bool], node: u32) -> bool
 }
 
 fn is_none_waiting(waits: &[bool]) -> bool
-    ensures { IsTrue result → (n : ℕ) → IsMarked waits.now n → ⊥ }
+    ensures { IsTrue result → (n : ℕ) → ¬ IsMarked waits.now n }
 {
     for waiting in waits {
         if *waiting {

@@ -3,7 +3,7 @@
 ghost use Rattle.std.specs.Prelude.{◌≡◌, length, IfOk, replicate};
 ghost use Rattle.mp_base.specs.declared.value.Trit.TheVariants.{X};
 ghost use Rattle.switch_net.specs.Settled.{IsSettled};
-ghost use Rattle.node_clusters.specs.Values.{value_at, driver_at};
+ghost use Rattle.switch_net.specs.Values.{value_at, driver_at};
 
 use crate::known::{Known, settle_values};
 use crate::memory::Memory;
@@ -13,7 +13,8 @@ use settle_events::Queue;
 use settle_order::Orders;
 use std::alloc::Global;
 use std::marker::Model;
-use switch_net::{Network, networks_settle};
+use switch_net::Network;
+use switch_net::laws::networks_settle;
 
 /// A network with a value at each of its nodes, and all the memory that settling takes.
 #[derive(Drop)]

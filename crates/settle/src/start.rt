@@ -2,7 +2,8 @@
 
 ghost use Rattle.std.specs.Prelude.{◌≡◌, ◌<◌, ◌↔◌, ℕ, Some, None, IsTrue, length};
 ghost use Rattle.mp_base.specs.declared.value.Trit.{Trit as TritValue};
-ghost use Rattle.node_clusters.specs.Values.{value_at, driver_at, IsMarked};
+ghost use Rattle.node_clusters.specs.Values.{IsMarked};
+ghost use Rattle.switch_net.specs.Values.{value_at, driver_at};
 ghost use Rattle.node_clusters.specs.Board.{setting_of, nodes_of, IsMoment};
 ghost use Rattle.settle.specs.Start.{IsReady, Redrives, RedrivesFirst};
 ghost use Rattle.settle.specs.Sizes.{AreAtRest};
@@ -11,7 +12,7 @@ use crate::wake::{wake, wake_beside};
 use mp_base::Trit;
 use node_clusters::Board;
 use settle_laws::laws::ordered_settings_settle;
-use switch_net::nodes_are_given;
+use switch_net::laws::nodes_are_given;
 
 /// Lets all undriven nodes wait.
 fn wake_all(drive: &[Option<Trit>], values: &mut [Trit], waits: &mut [bool])
@@ -75,7 +76,7 @@ fn change_all(board: &Board<'_>, last: &[Option<Trit>], values: &mut [Trit], wai
     requires moment { IsMoment board.now values.old }
     requires waits { length waits.old ≡ nodes_of board.now }
     requires last { length last.now ≡ nodes_of board.now }
-    requires none { (n : ℕ) → IsMarked waits.old n → ⊥ }
+    requires none { (n : ℕ) → ¬ IsMarked waits.old n }
     requires driven { (n : ℕ) (t : TritValue) → driver_at last.now n ≡ Some t → value_at values.old n ≡ t }
     ensures { RedrivesFirst board.now.network.now.channels board.now.gated.now last.now board.now.drive.now
         (nodes_of board.now) values.old values.new waits.new }
@@ -92,7 +93,7 @@ fn redrive(board: &Board<'_>, last: &[Option<Trit>], values: &mut [Trit], waits:
     requires moment { IsMoment board.now values.old }
     requires waits { length waits.old ≡ nodes_of board.now }
     requires last { length last.now ≡ nodes_of board.now }
-    requires none { (n : ℕ) → IsMarked waits.old n → ⊥ }
+    requires none { (n : ℕ) → ¬ IsMarked waits.old n }
     requires rest { AreAtRest board.now.network.now last.now values.old }
     requires before { board.now.before.now ≡ values.old }
     ensures { IsReady (setting_of board.now) values.new waits.new }

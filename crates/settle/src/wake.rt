@@ -1,7 +1,8 @@
 //! Nodes that wait for a look.
 
 ghost use Rattle.std.specs.Prelude.{◌≡◌, ◌<◌, ◌↔◌, ◌⊎◌, ℕ, None, IsTrue, Contains, length};
-ghost use Rattle.node_clusters.specs.Values.{driver_at, IsMarked};
+ghost use Rattle.node_clusters.specs.Values.{IsMarked};
+ghost use Rattle.switch_net.specs.Values.{driver_at};
 ghost use Rattle.node_clusters.specs.Links.{AreLinked};
 ghost use Rattle.settle.specs.Wake.{Widens, Wakes, WakesBeside};
 

@@ -10,7 +10,8 @@ use Rattle.mp_base.specs.declared.value.Trit.TheVariants.{Zero, One, X}
 use Rattle.mp_base.proofs.Contents.{nothing_in}
 use Rattle.switch_net.specs.Settled.{Setting, Gives, IsSolution, IsBelow, IsSettled}
 use Rattle.switch_net.specs.Laws.{GivesGrow, GivesOnce}
-use Rattle.node_clusters.specs.Values.{value_at, IsMarked}
+use Rattle.node_clusters.specs.Values.{IsMarked}
+use Rattle.switch_net.specs.Values.{value_at}
 use Rattle.node_clusters.specs.Spread.{Picks}
 use Rattle.settle_events.specs.Climb.{unknown, Climbs, Steps, IsStuck, Writes}
 use Rattle.node_clusters.proofs.Listing.{contains_more}
@@ -187,9 +188,6 @@ module _ (nodes : List ℕ) (b : Trit) (old : List Trit) where
     where
       same : take i nodes ≡ take (length nodes) nodes
       same = take_all i nodes le ∙ sym (take_all (length nodes) nodes (omega arith))
-
-pub whole : (nodes : List ℕ) → take (length nodes) nodes ≡ nodes
-whole nodes = take_all (length nodes) nodes (omega arith)
 
 -- two writes of what is given are a step
 module _ (s : Setting) (v w u : ℕ → Trit) (cluster zeros ones : List ℕ)

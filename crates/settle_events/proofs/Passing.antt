@@ -5,7 +5,8 @@ use Rattle.mp_base.specs.declared.value.Trit.{Trit}
 use Rattle.mp_base.proofs.Numbers.{below_suc}
 use Rattle.node_clusters.specs.declared.board.Board.{Board}
 use Rattle.node_clusters.specs.declared.sets.Sets.{Sets}
-use Rattle.node_clusters.specs.Values.{value_at, IsMarked}
+use Rattle.node_clusters.specs.Values.{IsMarked}
+use Rattle.switch_net.specs.Values.{value_at}
 use Rattle.node_clusters.specs.Board.{setting_of, nodes_of, IsMoment}
 use Rattle.settle_events.specs.Climb.{unknown, Climbs, IsStuck}
 use Rattle.node_clusters.specs.Rooms.{HaveRoom}

@@ -23,7 +23,7 @@ Steps s v w = (n : ℕ) → (w n ≡ v n) ⊎ ((s.driver n ≡ None) × (v n ≡
 
 -- a node at X that nothing gives a value
 abbrev pub IsStuck : Setting → (ℕ → Trit) → ℕ → Type 0
-IsStuck s v n = s.driver n ≡ None → v n ≡ X → (b : Trit) → b ≢ X → Gives s v n b → ⊥
+IsStuck s v n = s.driver n ≡ None → v n ≡ X → (b : Trit) → b ≢ X → ¬ Gives s v n b
 
 -- some of these nodes were X and are b now, and nothing else changed
 abbrev pub Writes : List ℕ → Trit → (ℕ → Trit) → (ℕ → Trit) → Type 0

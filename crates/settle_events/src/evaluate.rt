@@ -2,7 +2,8 @@
 
 ghost use Rattle.std.specs.Prelude.{◌≡◌, ◌≢◌, ◌<◌, ◌≤◌, ◌↔◌, ◌⊎◌, ℕ, None, IsTrue, IsFalse, Contains, length};
 ghost use Rattle.mp_base.specs.declared.value.Trit.TheVariants.{X};
-ghost use Rattle.node_clusters.specs.Values.{value_at, driver_at, IsMarked};
+ghost use Rattle.node_clusters.specs.Values.{IsMarked};
+ghost use Rattle.switch_net.specs.Values.{value_at, driver_at};
 ghost use Rattle.node_clusters.specs.Board.{setting_of, nodes_of, IsMoment};
 ghost use Rattle.node_clusters.specs.Rooms.{HaveRoom};
 ghost use Rattle.settle_events.specs.Climb.{unknown, Steps, IsStuck, Writes};

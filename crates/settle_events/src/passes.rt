@@ -3,7 +3,7 @@
 ghost use Rattle.std.specs.Prelude.{◌≡◌, ◌<◌, ◌≤◌, ◌↔◌, ℕ, None, IsTrue, IsFalse, length, unwrap_or};
 ghost use Rattle.mp_base.specs.declared.value.Trit.TheVariants.{X};
 ghost use Rattle.switch_net.specs.Settled.{IsSettled};
-ghost use Rattle.node_clusters.specs.Values.{value_at, driver_at, IsMarked};
+ghost use Rattle.switch_net.specs.Values.{value_at, driver_at};
 ghost use Rattle.node_clusters.specs.Board.{setting_of, nodes_of, IsMoment};
 ghost use Rattle.node_clusters.specs.Rooms.{HaveRoom};
 ghost use Rattle.settle_events.specs.Climb.{unknown, Climbs, IsStuck};
@@ -12,7 +12,7 @@ use crate::evaluate::evaluate;
 use crate::queue::Queue;
 use mp_base::Trit;
 use node_clusters::{Board, Sets};
-use switch_net::nodes_are_given;
+use switch_net::laws::nodes_are_given;
 
 /// Sets driven nodes to what drives them, and the others to X.
 fn start(drive: &[Option<Trit>], values: &mut [Trit])

@@ -1,7 +1,8 @@
 -- Nodes that reach the same in two settings are given the same.
-use Rattle.std.proofs.Common.{◌≡◌, ℕ, Option, Some, None, refl, sym, ◌∙◌, subst, inl, inr, ◌⊎◌}
+use Rattle.std.proofs.Common.{◌≡◌, ℕ, Some, None, refl, sym, ◌∙◌, subst, inl, inr, ◌⊎◌}
 use Rattle.std.specs.Prelude.{IsSome, Contains}
 use Rattle.mp_base.specs.declared.value.Trit.{Trit}
+use Rattle.mp_base.proofs.Entries.{none_or_some}
 use Rattle.switch_net.specs.declared.network.ChannelKind.{ChannelKind}
 use Rattle.switch_net.specs.declared.network.ChannelKind.TheVariants.{Enhancement, Depletion, Partial}
 use Rattle.switch_net.specs.declared.network.Channel.{Channel}
@@ -32,10 +33,6 @@ may_same Enhancement t u e h = λ z. h (sym (e refl) ∙ z)
 may_same Depletion t u e h = tt
 may_same Partial t u e h = tt
 
-driver_cases : (d : Option Trit) → (d ≡ None) ⊎ IsSome d
-driver_cases None = inl refl
-driver_cases (Some t) = inr refl
-
 module _ (s t : Setting) (v w : ℕ → Trit) (K : ℕ → Type 0) (g : Agree s t v w K) where
   -- what reaches one of these nodes reaches it in both
   pub reach_agrees : (P Q : Channel → Type 0) (F G : ℕ → Type 0) → ((c : Channel) → P c → MayBeOn v c)
@@ -44,7 +41,7 @@ module _ (s t : Setting) (v w : ℕ → Trit) (K : ℕ → Type 0) (g : Agree s 
       → (n : ℕ) → K n → Reach s P F n → Reach t Q G n
   reach_agrees P Q F G may ok in_k driven n k (here f) = here (in_k n k f)
   reach_agrees P Q F G may ok in_k driven n k (over {a} c r in' at_a at_n free okc) =
-      over c (from r (λ k_a. reach_agrees P Q F G may ok in_k driven a k_a r) (driver_cases (s.driver a)))
+      over c (from r (λ k_a. reach_agrees P Q F G may ok in_k driven a k_a r) (none_or_some (s.driver a)))
       (g.channels c in') at_a at_n (g.free n k) (ok c n in' at_n k okc)
     where
       same : t.driver a ≡ s.driver a

@@ -31,9 +31,9 @@ reach_free s ok waits free n (over c r in' at_a at_n none okc) = none
 given_from : (s t : Setting) (v w : ℕ → Trit) (n : ℕ) (x : Trit) → ((b : Trit) → Gives s v n b → Gives t w n b)
     → ((b : Trit) → Gives t w n b → Gives s v n b)
     → w n ≡ x → IsGiven s v n x → IsGiven t w n (w n)
-given_from s t v w n x to back e h = (
-  (λ z. to Zero (h.0.0 (sym e ∙ z)), λ g. e ∙ h.0.1 (back Zero g)),
-  (λ o. to One (h.1.0 (sym e ∙ o)), λ g. e ∙ h.1.1 (back One g)),
+given_from s t v w n x to back e ((zero_given, zero_is), (one_given, one_is)) = (
+  (λ z. to Zero (zero_given (sym e ∙ z)), λ g. e ∙ zero_is (back Zero g)),
+  (λ o. to One (one_given (sym e ∙ o)), λ g. e ∙ one_is (back One g)),
 )
 
 -- nodes where nothing waits beside them

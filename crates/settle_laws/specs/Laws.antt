@@ -16,7 +16,7 @@ Marked marks n = marks n ≡ true
 -- where nothing waits the values are a solution
 abbrev pub ToldSolves : Type 0
 ToldSolves =
-    (s : Setting) (v : ℕ → Trit) (waits : ℕ → Bool) → IsTold s v (Marked waits) → ((n : ℕ) → Marked waits n → ⊥)
+    (s : Setting) (v : ℕ → Trit) (waits : ℕ → Bool) → IsTold s v (Marked waits) → ((n : ℕ) → ¬ Marked waits n)
     → ((n : ℕ) (t : Trit) → s.driver n ≡ Some t → v n ≡ t) → IsSolution s v
 
 -- a solution with other drivers

@@ -13,5 +13,5 @@ IsCut s c = (c.kind ≡ Enhancement) × (s.driver c.gate ≡ Some Zero)
 pub record IsOrdered (s : Setting) (rank : ℕ → ℕ) : Type 0 where
   pub gates : (c : Channel) (e : ℕ) → Contains s.channels c → c.kind ≡ Enhancement → s.driver c.gate ≡ None
       → Contains c.ends e → s.driver e ≡ None → rank c.gate < rank e
-  pub joined : (c : Channel) (a b : ℕ) → Contains s.channels c → (IsCut s c → ⊥) → Contains c.ends a
+  pub joined : (c : Channel) (a b : ℕ) → Contains s.channels c → ¬ IsCut s c → Contains c.ends a
       → Contains c.ends b → s.driver a ≡ None → s.driver b ≡ None → rank a ≡ rank b

@@ -13,7 +13,7 @@ IsGiven s v n t = ((t ≡ Zero) ↔ Gives s v n Zero) × ((t ≡ One) ↔ Gives 
 
 -- each undriven node that isn't possibly joined to one that waits has what it is given
 abbrev pub IsTold : Setting → (ℕ → Trit) → (ℕ → Type 0) → Type 0
-IsTold s v waits = (n : ℕ) → s.driver n ≡ None → (Reach s (MayBeOn v) waits n → ⊥) → IsGiven s v n (v n)
+IsTold s v waits = (n : ℕ) → s.driver n ≡ None → ¬ Reach s (MayBeOn v) waits n → IsGiven s v n (v n)
 
 -- other drivers: v becomes w, and what may change at once waits
 pub record IsRedriven (s : Setting) (driver : ℕ → Option Trit) (v w : ℕ → Trit) (waits : ℕ → Type 0) : Type 0 where
@@ -31,8 +31,8 @@ pub record IsLook (s : Setting) (v w : ℕ → Trit) (cluster before after : ℕ
   pub waiting : (n : ℕ) → before n → after n ⊎ cluster n
   pub closed : (c : Channel) (a n : ℕ) → cluster a → Contains s.channels c → Contains c.ends a → Contains c.ends n
       → s.driver n ≡ None → MayBeOn v c → cluster n
-  pub known : (n : ℕ) → cluster n ⊎ (cluster n → ⊥)
+  pub known : (n : ℕ) → cluster n ⊎ ¬ cluster n
   pub given : (n : ℕ) → cluster n → IsGiven s v n (w n)
-  pub kept : (n : ℕ) → (cluster n → ⊥) → w n ≡ v n
+  pub kept : (n : ℕ) → ¬ cluster n → w n ≡ v n
   pub gated : (c : Channel) (e : ℕ) → Contains s.channels c → c.kind ≡ Enhancement → Contains c.ends e
       → s.driver e ≡ None → (w c.gate ≡ v c.gate) ⊎ after e

@@ -2,7 +2,7 @@
 
 ghost use Rattle.settle_laws.specs.Laws.{LooksTell, RedrivenTells, SolutionsSettle, ToldSolves};
 
-use switch_net::nodes_are_given;
+use switch_net::laws::nodes_are_given;
 
 /// In an ordered setting each solution is the settled one. Where nothing waits the values are a solution; what
 /// waits is told after other drivers, and after a look at a cluster.

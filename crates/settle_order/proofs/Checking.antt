@@ -5,6 +5,7 @@ use Rattle.std.specs.Prelude.{Contains}
 use Rattle.std.proofs.lemmas.List.{get_or_default}
 use Rattle.mp_base.specs.declared.value.Trit.{Trit}
 use Rattle.mp_base.specs.declared.value.Trit.TheVariants.{Zero}
+use Rattle.mp_base.proofs.Numbers.{below_suc}
 use Rattle.switch_net.specs.declared.network.Channel.{Channel}
 use Rattle.settle_order.specs.declared.order.Demand.{Demand}
 use Rattle.settle_order.specs.declared.order.Demand.TheVariants.{Undriven, Driven, Low}
@@ -30,9 +31,6 @@ module _ (channels : List Channel) (demands : List Demand) (ranks : List ℕ) wh
       → IsChannelOrdered demands ranks ch → OrderedFirst i → OrderedFirst (i + 1)
   ordered_more i ch inside at here h k c lt is = by_place (below_suc k i lt)
     where
-      below_suc : (k i : ℕ) → k < i + 1 → (k < i) ⊎ (k ≡ i)
-      below_suc k i l = grind arith
-
       by_place : (k < i) ⊎ (k ≡ i) → IsChannelOrdered demands ranks c
       by_place (inl below) = h k c below is
       by_place (inr e) =

@@ -4,7 +4,8 @@ use Rattle.std.specs.Prelude.{Any}
 use Rattle.mp_base.specs.declared.value.Trit.{Trit}
 use Rattle.switch_net.specs.declared.network.Channel.{Channel}
 use Rattle.settle_order.specs.declared.order.Order.{Order}
-use Rattle.settle_order.specs.Order.{IsServing, Serves, rank_at, driver_at}
+use Rattle.settle_order.specs.Order.{IsServing, Serves, rank_at}
+use Rattle.switch_net.specs.Values.{driver_at}
 use Rattle.settle_order.specs.Orders.{Orderings, IsSound, AreSound, HasOrder}
 
 pub order_from : (channels : List Channel) (orderings : Orderings) (drive : List (Option Trit))

@@ -5,6 +5,7 @@ use Rattle.mp_base.specs.declared.value.Trit.TheVariants.{Zero}
 use Rattle.switch_net.specs.declared.network.ChannelKind.TheVariants.{Enhancement}
 use Rattle.switch_net.specs.declared.network.Channel.{Channel}
 use Rattle.switch_net.specs.Settled.{Setting}
+use Rattle.switch_net.specs.Values.{driver_at}
 use Rattle.settle_laws.specs.Ordered.{IsOrdered}
 use Rattle.settle_order.specs.declared.order.Demand.{Demand}
 use Rattle.settle_order.specs.declared.order.Demand.TheVariants.{Undriven, Driven, Low}
@@ -19,9 +20,6 @@ Fits Low driver = driver ≡ Some Zero
 abbrev pub demand_at : List Demand → ℕ → Demand
 demand_at demands n = slice_index_or demands n Undriven
 
-abbrev pub driver_at : List (Option Trit) → ℕ → Option Trit
-driver_at drive n = slice_index_or drive n None
-
 abbrev pub rank_at : List ℕ → ℕ → ℕ
 rank_at ranks n = slice_index_or ranks n 0
 
@@ -33,7 +31,7 @@ FitAll demands drive = (n : ℕ) → Fits (demand_at demands n) (driver_at drive
 pub record IsChannelOrdered (demands : List Demand) (ranks : List ℕ) (c : Channel) : Type 0 where
   pub gate : (e : ℕ) → c.kind ≡ Enhancement → demand_at demands c.gate ≡ Undriven → Contains c.ends e
       → demand_at demands e ≡ Undriven → rank_at ranks c.gate < rank_at ranks e
-  pub joined : (a b : ℕ) → ((c.kind ≡ Enhancement) × (demand_at demands c.gate ≡ Low) → ⊥) → Contains c.ends a
+  pub joined : (a b : ℕ) → ¬ ((c.kind ≡ Enhancement) × (demand_at demands c.gate ≡ Low)) → Contains c.ends a
       → Contains c.ends b → demand_at demands a ≡ Undriven → demand_at demands b ≡ Undriven
       → rank_at ranks a ≡ rank_at ranks b
 

@@ -4,7 +4,8 @@ ghost use Rattle.std.specs.Prelude.{◌≡◌, ℕ, List, IfOk, IfSome, IsTrue, 
 ghost use Rattle.mp_base.specs.declared.value.Trit.{Trit as TritValue};
 ghost use Rattle.switch_net.specs.declared.network.Channel.{Channel as ChannelValue};
 ghost use Rattle.settle_order.specs.declared.order.Order.{Order as OrderValue};
-ghost use Rattle.settle_order.specs.Order.{AreRoomy, IsServing, driver_at};
+ghost use Rattle.settle_order.specs.Order.{AreRoomy, IsServing};
+ghost use Rattle.switch_net.specs.Values.{driver_at};
 ghost use Rattle.settle_order.specs.Orders.{AreSound, HasOrder};
 
 use crate::check::is_order;

@@ -1,6 +1,6 @@
 -- The bits of a value are its number again.
 use Rattle.std.proofs.Common.{◌≡◌, ◌∙◌, ℕ, zero, suc, ◌+◌, ◌*◌, ◌<◌, ◌^◌, ◌%◌, List, [], ◌∷◌, length}
-use Rattle.std.proofs.Common.{get_or, refl, sym, ap, subst, arith}
+use Rattle.std.proofs.Common.{get_or, sym, ap, subst, arith}
 use Rattle.std.specs.Prelude.{slice_index}
 use Rattle.std.specs.Int.{bit_at}
 use Rattle.std.proofs.Math.Nat.{mod-eq_of_lt}
@@ -10,14 +10,9 @@ use Rattle.mp_base.specs.declared.pad.Pad.{Pad}
 use Rattle.mp_base.specs.PadBits.{bit_count, trit_of, low_bits, value_bits}
 use Rattle.stimulus.specs.Fitting.{bound_at}
 use Rattle.stimulus.specs.Transcript.{weight, number_of}
-use Rattle.stimulus.proofs.Bits.{number_more}
+use Rattle.stimulus.proofs.Bits.{number_more, weight_of}
 use Rattle.mp_base.proofs.PadBits.{same_count, length_bits}
 use Rattle.settled_sum.specs.Sum.{first_number}
-
-weight_of : (b : ℕ) → b < 2 → weight (trit_of b) ≡ b
-weight_of zero less = refl
-weight_of (suc zero) less = refl
-weight_of (suc (suc b)) less = absurd (omega (arith, less))
 
 number_low : (n v : ℕ) → number_of (low_bits n v) ≡ v % 2 ^ n
 number_low zero v = let e : v % 1 ≡ 0 = omega arith in sym e

@@ -1,5 +1,5 @@
 -- What a run did, by its words and its status.
-use Rattle.std.specs.Prelude.{◌≡◌, ℕ, List, [], ◌∷◌, ◌++◌, ⊤, Option, Some, None, Result, codes}
+use Rattle.std.specs.Prelude.{◌≡◌, ℕ, List, [], ◌∷◌, ◌++◌, ⊤, Option, Some, None, Result, codes, ◌≢◌}
 use Rattle.outside.specs.Outside.{Files, WhereTold, Keeps, Gains}
 use Rattle.command_line.specs.Command.{Command, Make}
 use Rattle.outcome.specs.World.{DidWork, GainsPart}
@@ -28,7 +28,7 @@ IsForWords (Some command) status = ⊤
 
 -- what is made of a number is never refused, and nothing is read for it
 abbrev pub EndsMade : Option Command → Status → Type 0
-EndsMade (Some (Make number cif)) status = (status ≡ Refused → ⊥) × (status ≡ ReadFault → ⊥)
+EndsMade (Some (Make number cif)) status = status ≢ Refused × status ≢ ReadFault
 EndsMade words status = ⊤
 
 -- what a command did by its end, with the parts that were lent, which it left so

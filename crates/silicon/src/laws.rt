@@ -1,6 +1,6 @@
 //! Laws of commands: a call of one does nothing, and tells the caller's proof what it ensures.
 
-ghost use Rattle.std.specs.Prelude.{◌≡◌, ◌⊎◌, List, Option, Some, None};
+ghost use Rattle.std.specs.Prelude.{◌≡◌, ◌⊎◌, List, Option, Some, None, ◌≢◌};
 ghost use Rattle.outside.specs.Outside.{Files};
 ghost use Rattle.command_line.specs.Command.{Command};
 ghost use Rattle.outcome.specs.Order.{Fault};
@@ -39,14 +39,14 @@ pub fn one_first_fault()
 pub fn completeness()
     ensures owed { (lent : Lent) (left : List Face) (command : Command) (status : Status) (before after : World)
         (old new : Files) (fault : Option Fault) → IsRun lent left (Some command) status before after
-        → before.files ≡ Some old → after.files ≡ Some new → (AnyRose before after → ⊥)
+        → before.files ≡ Some old → after.files ≡ Some new → ¬ AnyRose before after
         → IsFirstFault lent command old fault → (status ≡ status_by fault) ⊎ (status ≡ NoMemory) }
     ensures usage { (lent : Lent) (left : List Face) (status : Status) (before after : World)
-        → IsRun lent left None status before after → (AnyRose before after → ⊥)
+        → IsRun lent left None status before after → ¬ AnyRose before after
         → (status ≡ Usage) ⊎ (status ≡ NoMemory) }
     ensures untold { (lent : Lent) (left : List Face) (words : Option Command) (status : Status) (before after : World)
-        → IsRun lent left words status before after → after.files ≡ None → (AnyRose before after → ⊥)
-        → (status ≡ ReadFault → ⊥) × (status ≡ WriteFault → ⊥) }
+        → IsRun lent left words status before after → after.files ≡ None → ¬ AnyRose before after
+        → status ≢ ReadFault × status ≢ WriteFault }
     ensures faults { (lent : Lent) (left : List Face) (words : Option Command) (status : Status) (before after : World)
         → IsRun lent left words status before after → AnyGreater before after
         → (status ≡ ReadFault) ⊎ (status ≡ WriteFault) }

@@ -8,8 +8,8 @@ ghost use Rattle.sim_command.specs.Work.{work};
 use mask_files::laws::one_mask_fault;
 use mask_net::laws::one_network;
 use source_files::laws::one_fault;
-use stimulus::one_stimulus;
-use switch_net::first_rule_is_determined;
+use stimulus::laws::one_stimulus;
+use switch_net::laws::first_rule_is_determined;
 
 /// Masks with a stimulus have one first fault at most.
 pub fn one_circuit_fault()

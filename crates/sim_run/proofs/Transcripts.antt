@@ -11,7 +11,7 @@ use Rattle.switch_net.specs.declared.network.Network.{Network}
 use Rattle.switch_net.specs.Breaks.{HasPads}
 use Rattle.switch_net.specs.Clock.{IsClock, IsCircuitTrace}
 use Rattle.switch_net.specs.Laws.{TraceExists, TraceOnce}
-use Rattle.settle.specs.Values.{value_at}
+use Rattle.switch_net.specs.Values.{value_at}
 use Rattle.stimulus.specs.declared.given.Stimulus.{Stimulus}
 use Rattle.stimulus.specs.Inputs.{inputs_at, inputs_of}
 use Rattle.mp_base.specs.PadBits.{Fit}

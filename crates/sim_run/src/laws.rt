@@ -2,7 +2,7 @@
 
 ghost use Rattle.sim_run.specs.Laws.{TranscriptExists, TranscriptOnce};
 
-use switch_net::circuits_run;
+use switch_net::laws::circuits_run;
 
 /// A network that has the pads of a stimulus has a transcript along it from any values, exactly one.
 pub fn transcripts_exist()

@@ -4,7 +4,7 @@ ghost use Rattle.std.specs.Prelude.{◌≡◌, ◌<◌, ◌^◌, length, IfOk};
 ghost use Rattle.mp_base.specs.declared.value.Trit.TheVariants.{X};
 ghost use Rattle.mp_base.specs.Refuses.{IsJudged};
 ghost use Rattle.outside.specs.Outside.{HasCause};
-ghost use Rattle.settle.specs.Values.{value_at};
+ghost use Rattle.switch_net.specs.Values.{value_at};
 ghost use Rattle.clock_run.specs.Refused.{OfCircuit};
 ghost use Rattle.transcript.specs.Running.{PrintsTranscript};
 ghost use Rattle.sim_run.specs.Transcript.{NetworkSteps};
@@ -15,7 +15,8 @@ use outside::{Failed, Sink};
 use std::alloc::Global;
 use std::marker::Model;
 use stimulus::Stimulus;
-use switch_net::{Network, circuits_run};
+use switch_net::Network;
+use switch_net::laws::circuits_run;
 use transcript::{Room, run};
 
 /// A circuit that runs along a stimulus, and all the memory that this takes.

@@ -4,7 +4,7 @@ use Rattle.std.proofs.Common.{length, sym, ap, arith}
 use Rattle.std.specs.Prelude.{slice_get, slice_index, max}
 use Rattle.std.specs.List.{range_with_len}
 use Rattle.std.proofs.lemmas.List.{get_or-replicate, length-replicate}
-use Rattle.mp_base.proofs.Members.{Member, contains_member, member_map}
+use Rattle.mp_base.proofs.Members.{Member, contains_member, member_map, member_flat}
 use Rattle.fabric.specs.declared.thing.Segment.{Segment}
 use Rattle.fabric.specs.declared.thing.Line.{Line}
 use Rattle.fabric.specs.declared.thing.Mark.{Mark}
@@ -12,7 +12,6 @@ use Rattle.fabric.specs.Plan.{bands, rows_of}
 use Rattle.track_assign.specs.declared.packing.Tracks.{Tracks}
 use Rattle.array_form.specs.Homes.{Columns, home, end_of}
 use Rattle.array_form.specs.Laying.{band_segment, band_segments, band_lines, band_marks, column_lines, column_marks}
-use Rattle.array_form.proofs.Members.{member_flat}
 use Rattle.slice_form.specs.Path.{Path, IsSlice}
 use Rattle.slice_form.specs.Slices.{base_of, columns_wanted, control_columns, slice_columns}
 use Rattle.slice_form.specs.Whole.{path_of}

@@ -6,6 +6,7 @@ use Rattle.std.specs.List.{list_any, range_with_len}
 use Rattle.std.proofs.lemmas.Bool.{cases_eq, cases_lt, true≢false, or_cases}
 use Rattle.std.proofs.lemmas.Option.{none-some, slice_get_cases}
 use Rattle.mp_base.proofs.Members.{Member, member_contains, contains_member, member_map, member_filter, range_members}
+use Rattle.mp_base.proofs.Members.{member_append, member_flat}
 use Rattle.mp_base.proofs.Entries.{some_entry, any_found}
 use Rattle.fabric.specs.declared.thing.Mark.{Mark}
 use Rattle.fabric.specs.declared.thing.Segment.{Segment}
@@ -28,8 +29,6 @@ use Rattle.array_form.specs.Wires.{latch_data, latch_phase, stub_own}
 use Rattle.array_form.proofs.Homes.{greatest_in, least_in}
 use Rattle.array_form.proofs.Laid.{all_at}
 use Rattle.array_form.proofs.Listing.{has_member, same_from}
-use Rattle.array_form.proofs.Members.{member_append}
-use Rattle.array_form.proofs.Members.{member_flat}
 use Rattle.array_form.proofs.Ends.{one_phase}
 use Rattle.slice_form.specs.Path.{Path, Carry, Cast, Lift, Programmed, IsSlice, parts}
 use Rattle.slice_form.specs.PathLists.{slices_of}
@@ -38,7 +37,8 @@ use Rattle.slice_form.specs.PathWires.{PathTie, of_net, of_phase, of_cast, of_ca
 use Rattle.slice_form.specs.PathWires.{of_lift_stub, of_below, of_above, of_one, of_zero}
 use Rattle.slice_form.specs.Slices.{cast_columns, chain_column, chain_starts, columns_of, columns_wanted}
 use Rattle.slice_form.specs.Slices.{control_columns}
-use Rattle.slice_form.specs.Slices.{control_stub, is_input, is_some, lift_column, lift_columns_of, plain_slice}
+use Rattle.slice_form.specs.Slices.{control_stub, lift_column, lift_columns_of, plain_slice}
+use Rattle.array_form.specs.Place.{is_input, part_is}
 use Rattle.slice_form.specs.Slices.{slice_columns, slice_homed, slice_stub}
 use Rattle.slice_form.specs.Whole.{path_of}
 use Rattle.slice_form.proofs.Lists.{slice_in}
@@ -188,10 +188,10 @@ module _ (p : Path) (ready : IsPlaceable p) (control slices : Tracks) (control_t
     input_tie : (k n : ℕ) → k < p.width → slice_get p.slice n ≡ Some Input → slice_homed p n ≡ true
         → HasTie (suc k) n (home (plain_slice p) n)
     input_tie k n lt h e =
-        elim (or_cases (is_some (λ q. not (is_input q)) (slice_get p.slice n))
+        elim (or_cases (part_is (λ q. not (is_input q)) (slice_get p.slice n))
         (list_any (λ (c : Carry). c.to == n) p.chains ||
         (list_any (λ (g : Programmed). g.net == n) p.programs || slice_stub p n)) e) [
-          | inl q ↦ absurd (true≢false (sym q ∙ ap (is_some (λ q. not (is_input q))) h))
+          | inl q ↦ absurd (true≢false (sym q ∙ ap (part_is (λ q. not (is_input q))) h))
           | inr q ↦ elim (or_cases (list_any (λ (c : Carry). c.to == n) p.chains)
               (list_any (λ (g : Programmed). g.net == n) p.programs || slice_stub p n) q) [
                 | inl r ↦ (let w = any_found (λ (c : Carry). c.to == n) p.chains r in
@@ -209,8 +209,8 @@ module _ (p : Path) (ready : IsPlaceable p) (control slices : Tracks) (control_t
     control_input_tie : (n : ℕ) → slice_get p.control n ≡ Some Input → (control_columns p).homed n ≡ true
         → HasTie 0 n (home (control_columns p) n)
     control_input_tie n h e =
-        elim (or_cases (is_some (λ q. not (is_input q)) (slice_get p.control n)) (control_stub p n) e) [
-          | inl q ↦ absurd (true≢false (sym q ∙ ap (is_some (λ q. not (is_input q))) h))
+        elim (or_cases (part_is (λ q. not (is_input q)) (slice_get p.control n)) (control_stub p n) e) [
+          | inl q ↦ absurd (true≢false (sym q ∙ ap (part_is (λ q. not (is_input q))) h))
           | inr q ↦ stub_tie 0 n (omega arith) h q
         ]
 

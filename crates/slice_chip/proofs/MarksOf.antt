@@ -4,7 +4,8 @@ use Rattle.std.proofs.Common.{List, ◌∷◌, ◌++◌, length, map, refl, sym,
 use Rattle.std.specs.Prelude.{Contains, slice_get, flat_map, slice_index, max, ◌==◌}
 use Rattle.std.specs.List.{range_with_len}
 use Rattle.mp_base.proofs.Members.{Member, member_contains, contains_member, member_map, map_member, member_filter}
-use Rattle.mp_base.proofs.Members.{filter_member, range_has}
+use Rattle.mp_base.proofs.Members.{filter_member, range_has, member_append, append_left, append_right, member_flat}
+use Rattle.mp_base.proofs.Members.{flat_member}
 use Rattle.tile_cells.specs.declared.tile.Tile.TheVariants.{TapL, TapR, PullUp}
 use Rattle.fabric.specs.declared.thing.Side.TheVariants.{L, R}
 use Rattle.fabric.specs.declared.thing.Mark.{Mark}
@@ -19,9 +20,6 @@ use Rattle.array_form.specs.Named.{Tie, tap, pull}
 use Rattle.array_form.specs.Wires.{Wire, row, beat, left, right, trunk, extra, to_ground, place}
 use Rattle.array_form.proofs.Bands.{marks_named}
 use Rattle.array_form.proofs.Listing.{listed_tie, tie_listed}
-use Rattle.array_form.proofs.Members.{member_append, append_left}
-use Rattle.array_form.proofs.Members.{append_right}
-use Rattle.array_form.proofs.Members.{member_flat, flat_member}
 use Rattle.slice_form.specs.Path.{Path, Carry, Cast, Lift, Programmed, IsSlice, parts}
 use Rattle.slice_form.specs.PathLists.{slices_of, others_of, path_rows, path_columns, path_ties}
 use Rattle.slice_form.specs.PathWires.{Across, cast_line, lift_line, lift_stub, chain_line, side_of, below, above}

@@ -3,7 +3,8 @@ use Rattle.std.proofs.Common.{◌≡◌, inl, inr, ℕ, zero, suc, ◌<◌, ◌�
 use Rattle.std.proofs.Common.{List, [], ◌++◌, length, refl, sym, ap, subst, arith}
 use Rattle.std.specs.Prelude.{slice_get, flat_map, slice_index}
 use Rattle.std.specs.List.{range_with_len}
-use Rattle.mp_base.proofs.Members.{Member, map_member, range_members, range_has}
+use Rattle.mp_base.proofs.Members.{Member, map_member, range_members, range_has, member_append, append_left}
+use Rattle.mp_base.proofs.Members.{append_right, member_flat}
 use Rattle.tile_cells.specs.declared.tile.Tile.TheVariants.{TapL}
 use Rattle.fabric.specs.declared.thing.Line.{Line}
 use Rattle.fabric.specs.declared.thing.Mark.{Mark}
@@ -14,7 +15,6 @@ use Rattle.array_form.specs.Homes.{phase_number}
 use Rattle.array_form.specs.Laying.{AreTracks, band_segment, band_marks}
 use Rattle.array_form.specs.Lists.{mark}
 use Rattle.array_form.proofs.Added.{added_is_fabric}
-use Rattle.array_form.proofs.Members.{member_append, append_left, append_right, member_flat}
 use Rattle.array_form.proofs.Pairs.{Pairs, pairs_append, pairs_flat_range}
 use Rattle.slice_form.specs.Joints.{joint_lines}
 use Rattle.slice_form.specs.Path.{Path, Cast, Lift, parts}

@@ -2,8 +2,7 @@
 use Rattle.std.proofs.Common.{[], Bool, ℕ, List, ◌≡◌, Some, true, ◌+◌, ◌∷◌, cond, suc, inl, refl, inr}
 use Rattle.std.proofs.Common.{arith, false, ◌==◌}
 use Rattle.std.specs.Prelude.{slice_get}
-use Rattle.mp_base.proofs.Members.{Member}
-use Rattle.array_form.proofs.Members.{member_append}
+use Rattle.mp_base.proofs.Members.{Member, member_append}
 use Rattle.array_form.proofs.Listing.{same_from}
 use Rattle.slice_form.specs.Path.{Cast, Lift, Carry}
 use Rattle.slice_form.specs.Slices.{cast_columns, lift_columns_of, chain_starts}

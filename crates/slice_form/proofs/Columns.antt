@@ -6,7 +6,8 @@ use Rattle.std.specs.List.{range_with_len}
 use Rattle.std.proofs.lemmas.Bool.{cases_Bool}
 use Rattle.std.proofs.lemmas.Option.{slice_get_within}
 use Rattle.mp_base.proofs.Members.{Member, member_contains, contains_member, member_map, map_member, member_filter}
-use Rattle.mp_base.proofs.Members.{filter_member, range_members, range_has}
+use Rattle.mp_base.proofs.Members.{filter_member, range_members, range_has, member_append, append_left, append_right}
+use Rattle.mp_base.proofs.Members.{member_flat, flat_member}
 use Rattle.mp_base.proofs.Entries.{some_entry}
 use Rattle.nor_net.specs.declared.net.Phase.{Phase}
 use Rattle.nor_net.specs.declared.net.Phase.TheVariants.{A, B, C}
@@ -16,13 +17,6 @@ use Rattle.nor_net.specs.Elements.{Spot}
 use Rattle.array_form.specs.Wires.{Wire, row, beat, left, right, trunk, extra, to_ground, to_power, place}
 use Rattle.array_form.specs.Band.{band_rows, band_columns, net_columns}
 use Rattle.array_form.specs.Lists.{InLists}
-use Rattle.array_form.proofs.Members.{
-  member_append,
-  append_left,
-  append_right,
-  member_flat,
-  flat_member,
-}
 use Rattle.slice_form.specs.Path.{Path, Lift, Programmed, parts, IsSlice}
 use Rattle.slice_form.specs.PathWires.{
   Across,

@@ -4,7 +4,7 @@ use Rattle.std.proofs.Common.{List, [], ◌∷◌, ◌++◌, length, refl, sym, 
 use Rattle.std.specs.Prelude.{slice_get, ◌||◌, min, max}
 use Rattle.std.specs.List.{list_any}
 use Rattle.std.proofs.lemmas.Option.{slice_get_within, none-some, same_Some}
-use Rattle.mp_base.proofs.Members.{Member}
+use Rattle.mp_base.proofs.Members.{Member, append_left, append_right}
 use Rattle.std.proofs.lemmas.Map.Keys.{any_passes_from_place}
 use Rattle.std.proofs.lemmas.Bool.{or_right, or_left}
 use Rattle.fabric.specs.declared.thing.Side.{Side}
@@ -18,7 +18,6 @@ use Rattle.array_form.specs.Lists.{Layout, Crossing, upright}
 use Rattle.array_form.specs.Homes.{home, marks, phase_marks, phase_number}
 use Rattle.array_form.specs.Laying.{AreTracks, band_segment}
 use Rattle.array_form.specs.BandLayout.{Bands, layout}
-use Rattle.array_form.proofs.Members.{append_left, append_right}
 use Rattle.array_form.proofs.Listing.{same_to}
 use Rattle.array_form.proofs.Homes.{least_below, greatest_above, own_mark, more_mark}
 use Rattle.array_form.proofs.Bands.{net_crossing}
@@ -26,26 +25,10 @@ use Rattle.slice_form.specs.Path.{Path, Carry, Cast, Lift, Programmed, parts, Is
 use Rattle.slice_form.specs.PathWires.{Across, side_of, below, above, open_gap, PathTie, of_net, of_phase, of_cast}
 use Rattle.slice_form.specs.PathWires.{of_cast_slice, of_lift, of_lift_slice, of_lift_stub, of_below, of_above, of_open}
 use Rattle.slice_form.specs.PathWires.{of_bit_ground, of_bit_pull, of_one, of_zero}
-use Rattle.slice_form.specs.Slices.{
-  cast_columns,
-  lift_columns_of,
-  chain_starts,
-  is_some,
-  is_input,
-  control_stub,
-  control_columns,
-  slice_stub,
-  slice_homed,
-  plain_slice,
-  slice_columns,
-  columns_of,
-  across_of,
-  ground_band,
-  cast_column,
-  lift_column,
-  chain_column,
-  lift_top,
-}
+use Rattle.slice_form.specs.Slices.{cast_columns, lift_columns_of, chain_starts, control_stub, control_columns}
+use Rattle.slice_form.specs.Slices.{slice_stub, slice_homed, plain_slice, slice_columns, columns_of, across_of}
+use Rattle.slice_form.specs.Slices.{ground_band, cast_column, lift_column, chain_column, lift_top}
+use Rattle.array_form.specs.Place.{part_is, is_input}
 
 pub cast_has : (test : Cast → Bool) (at : ℕ) (cs : List Cast) (i : ℕ) (c : Cast) → slice_get cs i ≡ Some c
     → test c ≡ true → Member (cast_columns test at cs) (at + i)
@@ -86,7 +69,7 @@ start_has at (a ∷ cs) (suc i) c n h e =
 module _ (p : Path) where
   pub homed_end : (i : ℕ) (c : Carry) → slice_get p.chains i ≡ Some c → slice_homed p c.to ≡ true
   homed_end i c h =
-      or_right (is_some (λ z. not (is_input z)) (slice_get p.slice c.to))
+      or_right (part_is (λ z. not (is_input z)) (slice_get p.slice c.to))
       (list_any (λ (a : Carry). a.to == c.to) p.chains ||
       (list_any (λ (g : Programmed). g.net == c.to) p.programs || slice_stub p c.to))
       (or_left (list_any (λ (a : Carry). a.to == c.to) p.chains)
@@ -95,7 +78,7 @@ module _ (p : Path) where
 
   pub homed_bit : (i : ℕ) (g : Programmed) → slice_get p.programs i ≡ Some g → slice_homed p g.net ≡ true
   homed_bit i g h =
-      or_right (is_some (λ z. not (is_input z)) (slice_get p.slice g.net))
+      or_right (part_is (λ z. not (is_input z)) (slice_get p.slice g.net))
       (list_any (λ (a : Carry). a.to == g.net) p.chains ||
       (list_any (λ (a : Programmed). a.net == g.net) p.programs || slice_stub p g.net))
       (or_right (list_any (λ (a : Carry). a.to == g.net) p.chains)
@@ -139,18 +122,18 @@ module _ (p : Path) (path : IsPath p) (cols : ℕ → ℕ → List ℕ) (row_of 
 
   homed_gate : (b n : ℕ) (q : Part) → is_input q ≡ false → slice_get (parts p b) n ≡ Some q
       → (columns_of p b).homed n ≡ true
-  homed_gate zero n q e h = or_left (is_some (λ z. not (is_input z)) (slice_get p.control n)) (control_stub p n)
-      (ap (is_some (λ z. not (is_input z))) h ∙ ap not e)
+  homed_gate zero n q e h = or_left (part_is (λ z. not (is_input z)) (slice_get p.control n)) (control_stub p n)
+      (ap (part_is (λ z. not (is_input z))) h ∙ ap not e)
   homed_gate (suc b) n q e h =
-      or_left (is_some (λ z. not (is_input z)) (slice_get p.slice n))
+      or_left (part_is (λ z. not (is_input z)) (slice_get p.slice n))
       (list_any (λ (c : Carry). c.to == n) p.chains ||
       (list_any (λ (g : Programmed). g.net == n) p.programs || slice_stub p n))
-      (ap (is_some (λ z. not (is_input z))) h ∙ ap not e)
+      (ap (part_is (λ z. not (is_input z))) h ∙ ap not e)
 
   homed_stub : (b n : ℕ) → (columns_of p b).stub n ≡ true → (columns_of p b).homed n ≡ true
-  homed_stub zero n e = or_right (is_some (λ z. not (is_input z)) (slice_get p.control n)) (control_stub p n) e
+  homed_stub zero n e = or_right (part_is (λ z. not (is_input z)) (slice_get p.control n)) (control_stub p n) e
   homed_stub (suc b) n e =
-      or_right (is_some (λ z. not (is_input z)) (slice_get p.slice n))
+      or_right (part_is (λ z. not (is_input z)) (slice_get p.slice n))
       (list_any (λ (c : Carry). c.to == n) p.chains ||
       (list_any (λ (g : Programmed). g.net == n) p.programs || slice_stub p n))
       (or_right (list_any (λ (c : Carry). c.to == n) p.chains)

@@ -1,33 +1,5 @@
 -- In band 0 and without taps, the closed form of a band is that of a flat net's control.
-use Rattle.std.proofs.Common.{
-  ◌≡◌,
-  ℕ,
-  zero,
-  suc,
-  ◌<◌,
-  ◌≤◌,
-  ◌+◌,
-  ◌==◌,
-  Option,
-  Some,
-  None,
-  Bool,
-  true,
-  false,
-  cond,
-  not,
-  ◌&&◌,
-  List,
-  [],
-  length,
-  get_or,
-  refl,
-  sym,
-  ◌∙◌,
-  ap,
-  subst,
-  arith,
-}
+use Rattle.std.proofs.Common.{◌≡◌, ℕ, zero, suc, ◌<◌, ◌≤◌, ◌+◌, ◌==◌, Some, Bool, true, false, cond, not, ◌&&◌, List, [], length, get_or, refl, sym, ◌∙◌, ap, subst, arith}
 use Rattle.std.specs.Prelude.{slice_get, ◌||◌, take, map, filter, max}
 use Rattle.std.specs.List.{list_any}
 use Rattle.std.proofs.lemmas.List.Folds.{list_any_more}
@@ -35,13 +7,12 @@ use Rattle.std.proofs.lemmas.Option.{slice_get-get_or}
 use Rattle.mp_base.proofs.Tests.{cond_true_is_or}
 use Rattle.mp_base.proofs.Lists.{take_whole}
 use Rattle.nor_net.specs.declared.net.Part.{Part}
-use Rattle.nor_net.specs.declared.net.Part.TheVariants.{Input, Gate, Latch}
+use Rattle.nor_net.specs.declared.net.Part.TheVariants.{Input}
 use Rattle.array_form.specs.declared.band.Band.{Band}
 use Rattle.array_form.specs.declared.band.Tap.{Tap}
 use Rattle.array_form.specs.Homes.{reads, greatest}
 use Rattle.array_form.specs.Place.{is_input, part_is, is_read, is_stub, columns_in}
-use Rattle.slice_form.specs.Slices as slices
-use Rattle.slice_form.specs.Slices.{any_below, is_some, is_unread, control_stub, control_columns}
+use Rattle.slice_form.specs.Slices.{any_below, is_unread, control_stub, control_columns}
 use Rattle.slice_form.proofs.Flat.{flat}
 
 pub below_any : (k : ℕ) (xs : List Part) (n : ℕ) → n ≤ length xs
@@ -61,19 +32,6 @@ pub read_same : (parts : List Part) (n : ℕ) → is_unread parts n ≡ not (is_
 read_same parts n = ap not (below_any n parts (length parts) (omega arith)
     ∙ ap (list_any (λ q. reads n (Some q))) (take_whole parts))
 
-pub input_same : (q : Part) → slices.is_input q ≡ is_input q
-input_same Input = refl
-input_same (Gate ins) = refl
-input_same (Latch ph s) = refl
-
-pub test_same : (o : Option Part) → is_some slices.is_input o ≡ part_is is_input o
-test_same None = refl
-test_same (Some q) = input_same q
-
-pub other_same : (o : Option Part) → is_some (λ q. not (slices.is_input q)) o ≡ part_is (λ q. not (is_input q)) o
-other_same None = refl
-other_same (Some q) = ap not (input_same q)
-
 plain : (b : Bool) → (not b && true) ≡ not (b || false)
 plain true = refl
 plain false = refl
@@ -81,16 +39,13 @@ plain false = refl
 module _ (band : Band) (parts : List Part) (first : band.first_column ≡ 1) (no_taps : band.taps ≡ []) where
   stub_same : (n : ℕ) → control_stub (flat parts) n ≡ is_stub band parts n
   stub_same n =
-      ap (λ b. b && (is_unread parts n && true)) (test_same (slice_get parts n))
-      ∙ ap (λ b. part_is is_input (slice_get parts n) && (b && true)) (read_same parts n)
+      ap (λ b. part_is is_input (slice_get parts n) && (b && true)) (read_same parts n)
       ∙ ap (λ b. part_is is_input (slice_get parts n) && b) (plain (is_read parts n))
       ∙ ap (λ ts. part_is is_input (slice_get parts n) && not
       (is_read parts n || list_any (λ (t : Tap). t.net.0 == n) ts)) (sym no_taps)
 
   homed_same : (n : ℕ) → (control_columns (flat parts)).homed n ≡ (columns_in band parts).homed n
-  homed_same n =
-      ap (λ b. b || control_stub (flat parts) n) (other_same (slice_get parts n))
-      ∙ ap (λ b. part_is (λ q. not (is_input q)) (slice_get parts n) || b) (stub_same n)
+  homed_same n = ap (λ b. part_is (λ q. not (is_input q)) (slice_get parts n) || b) (stub_same n)
 
   base_same : (control_columns (flat parts)).base ≡ (columns_in band parts).base
   base_same =

@@ -4,7 +4,7 @@ use Rattle.std.proofs.Common.{not, List, [], ◌∷◌, length, map, sym, ap, su
 use Rattle.std.specs.Prelude.{slice_get, flat_map, ◌≢◌}
 use Rattle.std.specs.List.{range_with_len}
 use Rattle.std.proofs.lemmas.Option.{slice_get_within}
-use Rattle.mp_base.proofs.Members.{Member, member_map, member_filter, range_members}
+use Rattle.mp_base.proofs.Members.{Member, member_map, member_filter, range_members, member_flat}
 use Rattle.fabric.specs.declared.thing.Mark.{Mark}
 use Rattle.fabric.specs.declared.thing.Side.TheVariants.{L, R}
 use Rattle.fabric.specs.Plan.{MarksApart}
@@ -14,7 +14,6 @@ use Rattle.array_form.specs.Named.{Tie, tap, pull}
 use Rattle.array_form.specs.Wires.{Wire, row, beat, left, right, trunk, extra, to_ground, place}
 use Rattle.array_form.specs.Lists.{Layout, mark_of}
 use Rattle.array_form.specs.Laying.{AreTracks}
-use Rattle.array_form.proofs.Members.{member_flat}
 use Rattle.array_form.proofs.Homes.{least_below, greatest_above}
 use Rattle.array_form.proofs.Pairs.{each_from, Pairs, pairs_map_range, pairs_flat_range}
 use Rattle.array_form.proofs.Pairs.{pairs_filter}

@@ -3,14 +3,13 @@ use Rattle.std.proofs.Common.{◌≡◌, inl, inr, ℕ, zero, suc, ◌<◌, ◌�
 use Rattle.std.proofs.Common.{◌∷◌, ◌++◌, length, map, refl, sym, ◌∙◌, ap, subst, arith}
 use Rattle.std.specs.Prelude.{slice_get, flat_map}
 use Rattle.std.specs.List.{range_with_len}
-use Rattle.mp_base.proofs.Members.{Member, member_map, range_members}
+use Rattle.mp_base.proofs.Members.{Member, member_map, range_members, member_append, member_flat}
 use Rattle.fabric.specs.declared.thing.Side.TheVariants.{L, R}
 use Rattle.fabric.specs.declared.thing.Line.{Line}
 use Rattle.fabric.specs.Plan.{LinesApart}
 use Rattle.nor_net.specs.declared.net.Phase.TheVariants.{A, B, C}
 use Rattle.array_form.specs.Lists.{upright}
 use Rattle.array_form.specs.Homes.{home}
-use Rattle.array_form.proofs.Members.{member_append, member_flat}
 use Rattle.array_form.proofs.Homes.{home_once}
 use Rattle.array_form.proofs.Pairs.{each_at, each_from, Pairs, pairs_append, pairs_map_range, pairs_flat_range}
 use Rattle.array_form.proofs.Pairs.{pairs_filter}

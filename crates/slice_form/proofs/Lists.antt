@@ -6,7 +6,7 @@ use Rattle.std.specs.List.{range_with_len}
 use Rattle.std.proofs.lemmas.Bool.{cases_Bool}
 use Rattle.std.proofs.lemmas.Option.{slice_get_within}
 use Rattle.mp_base.proofs.Members.{Member, member_map, map_member, member_filter, filter_member, range_members}
-use Rattle.mp_base.proofs.Members.{range_has}
+use Rattle.mp_base.proofs.Members.{range_has, member_append, append_left, append_right, member_flat, flat_member}
 use Rattle.mp_base.proofs.Tests.{false_true}
 use Rattle.fabric.specs.declared.thing.Side.TheVariants.{L, R}
 use Rattle.nor_net.specs.declared.net.Phase.{Phase}
@@ -14,13 +14,6 @@ use Rattle.nor_net.specs.declared.net.Phase.TheVariants.{A, B, C}
 use Rattle.array_form.specs.Named.{Tie, tap, pull}
 use Rattle.array_form.specs.Wires.{Wire, row, beat, left, right, trunk, extra, to_ground, place}
 use Rattle.array_form.specs.Band.{band_ties}
-use Rattle.array_form.proofs.Members.{
-  member_append,
-  append_left,
-  append_right,
-  member_flat,
-  flat_member,
-}
 use Rattle.array_form.proofs.Listing.{listed_tie, tie_listed, same_from, same_to}
 use Rattle.slice_form.specs.Path.{Path, Carry, Cast, Lift, Programmed, parts, IsSlice}
 use Rattle.slice_form.specs.PathWires.{Across, cast_line, lift_stub, PathTie, of_net, of_phase, of_cast, of_cast_slice}

@@ -10,7 +10,8 @@ use Rattle.nor_net.specs.declared.net.Part.TheVariants.{Input, Gate, Latch}
 use Rattle.array_form.specs.Homes.{count_below, end_of}
 use Rattle.array_form.proofs.Listing.{same_from}
 use Rattle.slice_form.specs.Path.{Path, Carry, Programmed}
-use Rattle.slice_form.specs.Slices.{is_some, is_input, control_stub, slice_stub, control_columns, slice_columns}
+use Rattle.slice_form.specs.Slices.{control_stub, slice_stub, control_columns, slice_columns}
+use Rattle.array_form.specs.Place.{part_is, is_input}
 use Rattle.slice_form.specs.Slices.{columns_wanted}
 use Rattle.slice_form.specs.Narrow.{active, IsNarrow}
 
@@ -64,11 +65,11 @@ shift : (test : ℕ → Bool) (n : ℕ) → count_below test (suc n) ≡ cond (t
 shift test zero = refl
 shift test (suc n) = let i = shift test n in omega arith
 
-count_parts : (parts : List Part) → count_below (λ k. is_some (λ q. not (is_input q)) (slice_get parts k))
+count_parts : (parts : List Part) → count_below (λ k. part_is (λ q. not (is_input q)) (slice_get parts k))
     (length parts) ≡ sum_by active parts
 count_parts [] = refl
 count_parts (q ∷ qs) =
-    shift (λ k. is_some (λ r. not (is_input r)) (slice_get (q ∷ qs) k)) (length qs)
+    shift (λ k. part_is (λ r. not (is_input r)) (slice_get (q ∷ qs) k)) (length qs)
     ∙ (ap (λ z. bit (not (is_input q)) + z) (count_parts qs)
     ∙ (ap (λ z. z + sum_by active qs) (head q) ∙ sym (sum_by-cons active q qs)))
   where
@@ -82,13 +83,13 @@ pub narrow : (cost : ℕ) (p : Path) → IsNarrow cost p → columns_wanted p �
 narrow cost p h =
     let a = count_parts p.control in
     let b = count_none (control_stub p) h.control_used (length p.control) in
-    let c = count_or (λ n. is_some (λ q. not (is_input q)) (slice_get p.control n)) (control_stub p)
+    let c = count_or (λ n. part_is (λ q. not (is_input q)) (slice_get p.control n)) (control_stub p)
     (length p.control) in
     let d = count_parts p.slice in
     let e = count_any (λ (x : Carry). x.to) p.chains (length p.slice) in
     let g = count_any (λ (x : Programmed). x.net) p.programs (length p.slice) in
     let k = count_none (slice_stub p) h.slice_used (length p.slice) in
-    let o1 = count_or (λ n. is_some (λ q. not (is_input q)) (slice_get p.slice n))
+    let o1 = count_or (λ n. part_is (λ q. not (is_input q)) (slice_get p.slice n))
     (λ n. list_any (λ (c : Carry). c.to == n) p.chains ||
     (list_any (λ (g : Programmed). g.net == n) p.programs || slice_stub p n)) (length p.slice) in
     let o2 = count_or (λ n. list_any (λ (c : Carry). c.to == n) p.chains)

@@ -2,7 +2,8 @@
 use Rattle.std.specs.Prelude.{◌≡◌, ◌+◌, ◌≤◌, ℕ, false, length}
 use Rattle.nor_net.specs.declared.net.Part.{Part}
 use Rattle.slice_form.specs.Path.{Path}
-use Rattle.slice_form.specs.Slices.{is_input, control_stub, slice_stub}
+use Rattle.slice_form.specs.Slices.{control_stub, slice_stub}
+use Rattle.array_form.specs.Place.{is_input}
 use Rattle.std.specs.List.{sum_by}
 use Rattle.std.specs.Prelude.{cond}
 

@@ -1,5 +1,5 @@
 -- A data path: a control net, and a slice net that stands once for each bit.
-use Rattle.std.specs.Prelude.{◌≡◌, ◌↔◌, ◌+◌, ◌<◌, ◌≤◌, ℕ, zero, suc, List, [], Some, None, Bool, true, false, All}
+use Rattle.std.specs.Prelude.{◌≡◌, ◌↔◌, ◌+◌, ◌<◌, ◌≤◌, ℕ, zero, suc, List, [], Some, None, Bool, true, false, All, ◌≢◌}
 use Rattle.std.specs.Prelude.{Contains, length, map, slice_get, cond}
 use Rattle.nor_net.specs.declared.net.Phase.{Phase}
 use Rattle.nor_net.specs.declared.net.NetId.{NetId}
@@ -91,7 +91,7 @@ pub record IsPath (p : Path) : Type 0 where
       → All (λ i. i.0 < length (parts p b)) ins
   pub latches : (b n : ℕ) (ph : Phase) (d : NetId) → slice_get (parts p b) n ≡ Some (Latch ph (Some d))
       → d.0 < length (parts p b)
-  pub fed : (b n : ℕ) (ph : Phase) → slice_get (parts p b) n ≡ Some (Latch ph None) → ⊥
+  pub fed : (b n : ℕ) (ph : Phase) → slice_get (parts p b) n ≢ Some (Latch ph None)
   pub inputs : (b n : ℕ) → b ≤ p.width → slice_get (parts p b) n ≡ Some Input → (e : Element)
       × IsElement p (place b n) e
   pub casts : (i : ℕ) (c : Cast) → slice_get p.casts i ≡ Some c → (c.control < length p.control)

@@ -5,9 +5,9 @@ use Rattle.std.specs.List.{list_any}
 use Rattle.fabric.specs.declared.thing.Side.TheVariants.{L, R}
 use Rattle.fabric.specs.declared.thing.Line.{Line}
 use Rattle.nor_net.specs.declared.net.Part.{Part}
-use Rattle.nor_net.specs.declared.net.Part.TheVariants.{Input}
 use Rattle.array_form.specs.Lists.{upright}
 use Rattle.array_form.specs.Homes.{Columns, home, end_of, reads}
+use Rattle.array_form.specs.Place.{is_input, part_is}
 use Rattle.slice_form.specs.Path.{Path, Carry, Cast, Lift, Programmed, parts}
 use Rattle.slice_form.specs.PathWires.{Across, cast_line, lift_line, lift_stub, chain_line, side_of}
 
@@ -26,14 +26,6 @@ abbrev pub any_below : (ℕ → Bool) → ℕ → Bool
 any_below test zero = false
 any_below test (suc n) = cond (test n) true (any_below test n)
 
-abbrev pub is_some : (Part → Bool) → Option Part → Bool
-is_some test None = false
-is_some test (Some q) = test q
-
-abbrev pub is_input : Part → Bool
-is_input Input = true
-is_input _ = false
-
 -- the columns of those casts, or lifts, that pass
 abbrev pub cast_columns : (Cast → Bool) → ℕ → List Cast → List ℕ
 cast_columns test at [] = []
@@ -49,14 +41,14 @@ is_unread parts n = not (any_below (λ j. reads n (slice_get parts j)) (length p
 
 -- of the control: gates and latches have columns of their own, and an input that nothing reads and that has no tap
 abbrev pub control_stub : Path → ℕ → Bool
-control_stub p n = is_some is_input (slice_get p.control n) &&
+control_stub p n = part_is is_input (slice_get p.control n) &&
     (is_unread p.control n && (not (list_any (λ (l : Lift). l.control == n) p.lifts) && not
     (list_any (λ (c : Cast). c.control == n) p.casts)))
 
 abbrev pub control_columns : Path → Columns
 control_columns p = record {
   base = base_of p;
-  homed = λ n. is_some (λ q. not (is_input q)) (slice_get p.control n) || control_stub p n;
+  homed = λ n. part_is (λ q. not (is_input q)) (slice_get p.control n) || control_stub p n;
   stub = control_stub p;
   more = λ n. cast_columns (λ c. c.control == n) 4 p.casts
       ++ lift_columns_of (λ l. l.control == n) (4 + length p.casts) p.lifts;
@@ -72,7 +64,7 @@ slice_stub p n =
 
 abbrev pub slice_homed : Path → ℕ → Bool
 slice_homed p n =
-    is_some (λ q. not (is_input q)) (slice_get p.slice n)
+    part_is (λ q. not (is_input q)) (slice_get p.slice n)
     || (list_any (λ (c : Carry). c.to == n) p.chains ||
     (list_any (λ (g : Programmed). g.net == n) p.programs || slice_stub p n))
 

@@ -1,5 +1,6 @@
 -- With taps at the columns of casts and lifts, the closed form of a band is that of a path's control.
 use Rattle.std.proofs.Common.{◌≡◌, ℕ, zero, suc, ◌+◌, ◌==◌, Option, Some, None, Bool, true, false}
+use Rattle.mp_base.proofs.Lists.{flat_map_same}
 use Rattle.std.proofs.Common.{cond, not, ◌&&◌}
 use Rattle.std.proofs.Common.{List, [], ◌∷◌, ◌++◌, length, map, filter, refl, sym, ◌∙◌, ap, arith}
 use Rattle.std.specs.Prelude.{◌||◌, flat_map, slice_get, max}
@@ -12,9 +13,9 @@ use Rattle.array_form.specs.declared.band.Tap.{Tap}
 use Rattle.array_form.specs.Homes.{greatest}
 use Rattle.array_form.specs.Place.{is_input, part_is, is_read, is_tapped, is_stub, columns_in}
 use Rattle.slice_form.specs.Path.{Path, Cast, Lift}
-use Rattle.slice_form.specs.Slices.{is_unread, control_stub, control_columns, cast_columns}
+use Rattle.slice_form.specs.Slices.{control_stub, control_columns, cast_columns}
 use Rattle.slice_form.specs.Slices.{lift_columns_of}
-use Rattle.slice_form.proofs.FlatColumns.{read_same, test_same, other_same}
+use Rattle.slice_form.proofs.FlatColumns.{read_same}
 use Rattle.slice_joints.specs.Control.{tap, cast_tap, lift_tap, cast_taps, lift_taps, IsControlBand, ControlsMatch}
 
 -- ---- what reads a net, and what is an input, in the words of both
@@ -33,10 +34,6 @@ flat_shift g a zero = refl
 flat_shift g a (suc n) =
     let e : a + 1 ≡ suc a = omega arith in
     ap (λ z. g z ++ flat_map g (range_with_len (a + 1 + 1) n)) e ∙ ap (λ l. g (suc a) ++ l) (flat_shift g (a + 1) n)
-
-flat_alike : {B : Type 0} (f g : ℕ → List B) (a n : ℕ) → ((i : ℕ) → f i ≡ g i)
-    → flat_map f (range_with_len a n) ≡ flat_map g (range_with_len a n)
-flat_alike f g a n h = λ i. flat_map (λ k. h k i) (range_with_len a n)
 
 cast_at : (at : ℕ) (i : ℕ) (q : Option Cast) → List Tap
 cast_at at i None = []
@@ -66,8 +63,8 @@ casts_same at (c ∷ cs) =
     (λ i. cast_at at i (slice_get (c ∷ cs) i)) (range_with_len (0 + 1) (length cs))) e
     ∙ ap (λ l. tap c.control at ∷ l)
     (flat_shift (λ i. cast_at at i (slice_get (c ∷ cs) i)) 0 (length cs)
-    ∙ (flat_alike (λ i. cast_at at (suc i) (slice_get cs i)) (λ i. cast_at (suc at) i (slice_get cs i)) 0 (length cs)
-    (λ i. cast_next at i (slice_get cs i))
+    ∙ (flat_map_same (λ i. cast_at at (suc i) (slice_get cs i)) (λ i. cast_at (suc at) i (slice_get cs i))
+    (range_with_len 0 (length cs)) (λ i. cast_next at i (slice_get cs i))
     ∙ casts_same (suc at) cs))
 
 lifts_same : (at : ℕ) (ls : List Lift)
@@ -80,8 +77,8 @@ lifts_same at (c ∷ cs) =
     (λ i. lift_at at i (slice_get (c ∷ cs) i)) (range_with_len (0 + 1) (length cs))) e
     ∙ ap (λ l. tap c.control at ∷ l)
     (flat_shift (λ i. lift_at at i (slice_get (c ∷ cs) i)) 0 (length cs)
-    ∙ (flat_alike (λ i. lift_at at (suc i) (slice_get cs i)) (λ i. lift_at (suc at) i (slice_get cs i)) 0 (length cs)
-    (λ i. lift_next at i (slice_get cs i))
+    ∙ (flat_map_same (λ i. lift_at at (suc i) (slice_get cs i)) (λ i. lift_at (suc at) i (slice_get cs i))
+    (range_with_len 0 (length cs)) (λ i. lift_next at i (slice_get cs i))
     ∙ lifts_same (suc at) cs))
 
 cast_same : (i : ℕ) (q : Option Cast) → cast_tap i q ≡ cast_at 4 i q
@@ -96,10 +93,10 @@ lift_same p i (Some l) = refl
 
 taps_are : (p : Path) → cast_taps p ++ lift_taps p ≡ casts_from 4 p.casts ++ lifts_from (4 + length p.casts) p.lifts
 taps_are p =
-    let a = flat_alike (λ i. cast_tap i (slice_get p.casts i)) (λ i. cast_at 4 i (slice_get p.casts i)) 0
-    (length p.casts) (λ i. cast_same i (slice_get p.casts i)) ∙ casts_same 4 p.casts in
-    let b = flat_alike (λ i. lift_tap p i (slice_get p.lifts i))
-    (λ i. lift_at (4 + length p.casts) i (slice_get p.lifts i)) 0 (length p.lifts)
+    let a = flat_map_same (λ i. cast_tap i (slice_get p.casts i)) (λ i. cast_at 4 i (slice_get p.casts i))
+    (range_with_len 0 (length p.casts)) (λ i. cast_same i (slice_get p.casts i)) ∙ casts_same 4 p.casts in
+    let b = flat_map_same (λ i. lift_tap p i (slice_get p.lifts i))
+    (λ i. lift_at (4 + length p.casts) i (slice_get p.lifts i)) (range_with_len 0 (length p.lifts))
     (λ i. lift_same p i (slice_get p.lifts i)) ∙ lifts_same (4 + length p.casts) p.lifts in
     λ i. a i ++ b i
 
@@ -193,16 +190,12 @@ module _ (p : Path) (band : Band) (is : IsControlBand p band) where
   stub_same n =
       let lifted = list_any (λ (l : Lift). l.control == n) p.lifts in
       let is_cast = list_any (λ (c : Cast). c.control == n) p.casts in
-      ap (λ b. b && (is_unread p.control n && (not lifted && not is_cast))) (test_same (slice_get p.control n))
-      ∙ (ap (λ b. part_is is_input (slice_get p.control n) && (b && (not lifted && not is_cast)))
-      (read_same p.control n)
+      ap (λ b. part_is is_input (slice_get p.control n) && (b && (not lifted && not is_cast))) (read_same p.control n)
       ∙ (ap (λ b. part_is is_input (slice_get p.control n) && b) (none_of (is_read p.control n) lifted is_cast)
-      ∙ ap (λ b. part_is is_input (slice_get p.control n) && not (is_read p.control n || b)) (sym (tapped_is n))))
+      ∙ ap (λ b. part_is is_input (slice_get p.control n) && not (is_read p.control n || b)) (sym (tapped_is n)))
 
   homed_same : (n : ℕ) → (control_columns p).homed n ≡ (columns_in band p.control).homed n
-  homed_same n =
-      ap (λ b. b || control_stub p n) (other_same (slice_get p.control n))
-      ∙ ap (λ b. part_is (λ q. not (is_input q)) (slice_get p.control n) || b) (stub_same n)
+  homed_same n = ap (λ b. part_is (λ q. not (is_input q)) (slice_get p.control n) || b) (stub_same n)
 
   base_same : (control_columns p).base ≡ (columns_in band p.control).base
   base_same =

@@ -5,7 +5,8 @@ use Rattle.std.specs.Prelude.{slice_get, flat_map, max, ◌==◌}
 use Rattle.std.specs.List.{range_with_len}
 use Rattle.std.proofs.lemmas.Bool.{true≢false}
 use Rattle.std.proofs.lemmas.Option.{slice_get_within}
-use Rattle.mp_base.proofs.Members.{Member, member_map, member_filter, range_members}
+use Rattle.mp_base.proofs.Members.{Member, member_map, member_filter, range_members, member_append, member_flat}
+use Rattle.mp_base.proofs.Members.{append_right}
 use Rattle.tile_cells.specs.declared.tile.Tile.{Tile}
 use Rattle.tile_cells.specs.declared.tile.Tile.TheVariants.{TapL, TapR, PullUp}
 use Rattle.fabric.specs.declared.thing.Mark.{Mark}
@@ -17,7 +18,6 @@ use Rattle.array_form.specs.Laying.{AreTracks}
 use Rattle.array_form.specs.Lists.{mark, tap_tile}
 use Rattle.array_form.proofs.Homes.{home_once, least_below, greatest_above, own_mark, more_mark}
 use Rattle.array_form.proofs.Listing.{same_to}
-use Rattle.array_form.proofs.Members.{member_append, member_flat, append_right}
 use Rattle.array_form.proofs.Pairs.{each_from, Pairs, pairs_append, pairs_map_range, pairs_flat_range}
 use Rattle.array_form.proofs.Pairs.{pairs_filter}
 use Rattle.slice_form.specs.Path.{Path, Carry, Cast, Lift, Programmed, IsSlice}

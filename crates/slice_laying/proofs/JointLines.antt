@@ -3,7 +3,7 @@ use Rattle.std.proofs.Common.{◌≡◌, ◌⊎◌, inl, inr, ℕ, suc, ◌<◌,
 use Rattle.std.proofs.Common.{false, List, [], ◌∷◌, ◌++◌, length, map, refl, sym, subst, arith, not}
 use Rattle.std.specs.Prelude.{slice_get, flat_map, min, max, ◌==◌}
 use Rattle.std.specs.List.{range_with_len}
-use Rattle.mp_base.proofs.Members.{Member, member_map, member_filter, range_members}
+use Rattle.mp_base.proofs.Members.{Member, member_map, member_filter, range_members, member_append, member_flat}
 use Rattle.mp_base.proofs.Entries.{some_entry}
 use Rattle.fabric.specs.declared.thing.Side.{Side}
 use Rattle.fabric.specs.declared.thing.Side.TheVariants.{L, R}
@@ -13,7 +13,6 @@ use Rattle.nor_net.specs.declared.net.Phase.{Phase}
 use Rattle.nor_net.specs.declared.net.Phase.TheVariants.{A, B, C}
 use Rattle.array_form.specs.Homes.{home, end_of, phase_number}
 use Rattle.array_form.specs.Lists.{upright}
-use Rattle.array_form.proofs.Members.{member_append, member_flat}
 use Rattle.array_form.proofs.Phases.{phase_small}
 use Rattle.slice_form.specs.Joints.{trunk_line, lift_lines, bit_lines, joint_lines}
 use Rattle.slice_form.specs.Path.{Path, Carry, Lift, Programmed, IsSlice}

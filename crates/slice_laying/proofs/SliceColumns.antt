@@ -5,7 +5,7 @@ use Rattle.std.specs.Prelude.{Contains, slice_get, ◌==◌, ◌||◌, ◌&&◌}
 use Rattle.std.specs.List.{list_any}
 use Rattle.std.proofs.lemmas.Bool.{cases_Bool, true≢false, or_left, or_right, and_from}
 use Rattle.std.proofs.lemmas.Option.{none-some, slice_get_within, slice_get_cases}
-use Rattle.mp_base.proofs.Members.{Member, member_contains, contains_member}
+use Rattle.mp_base.proofs.Members.{Member, member_contains, contains_member, member_append, append_left, append_right}
 use Rattle.mp_base.proofs.Tests.{and_left}
 use Rattle.nor_net.specs.declared.net.Part.{Part}
 use Rattle.nor_net.specs.declared.net.Part.TheVariants.{Input, Gate, Latch}
@@ -14,12 +14,11 @@ use Rattle.array_form.specs.Homes.{Columns, home, marks, reads, end_of}
 use Rattle.array_form.specs.Wires.{place}
 use Rattle.array_form.proofs.Homes.{home_once, home_inside, own_mark, reader_mark, more_mark}
 use Rattle.array_form.proofs.Listing.{same_from, same_to}
-use Rattle.array_form.proofs.Members.{member_append, append_left}
-use Rattle.array_form.proofs.Members.{append_right}
 use Rattle.array_form.proofs.Room.{any_member}
 use Rattle.slice_form.specs.Path.{Path, Carry, Cast, Lift, Programmed, IsElement, gate, store, pad}
 use Rattle.slice_form.specs.Path.{cast, lift, next, open_end, one, zero_bit}
-use Rattle.slice_form.specs.Slices.{any_below, base_of, cast_columns, lift_columns_of, chain_starts, is_input, is_some}
+use Rattle.slice_form.specs.Slices.{any_below, base_of, cast_columns, lift_columns_of, chain_starts}
+use Rattle.array_form.specs.Place.{is_input, part_is}
 use Rattle.slice_form.specs.Slices.{is_unread, plain_slice, slice_columns, slice_homed, slice_stub}
 use Rattle.slice_form.proofs.Crossing.{cast_has, lift_has, start_has, homed_end, homed_bit}
 use Rattle.slice_form.proofs.Below.{below_member}
@@ -99,14 +98,14 @@ module _ (p : Path) (ready : IsPlaceable p) where
 
   pub homed_part : (n : ℕ) (q : Part) → is_input q ≡ false → slice_get p.slice n ≡ Some q → slice_homed p n ≡ true
   homed_part n q e h =
-      or_left (is_some (λ z. not (is_input z)) (slice_get p.slice n))
+      or_left (part_is (λ z. not (is_input z)) (slice_get p.slice n))
       (list_any (λ (c : Carry). c.to == n) p.chains ||
       (list_any (λ (g : Programmed). g.net == n) p.programs || slice_stub p n))
-      (ap (is_some (λ z. not (is_input z))) h ∙ ap not e)
+      (ap (part_is (λ z. not (is_input z))) h ∙ ap not e)
 
   pub homed_stub : (n : ℕ) → slice_stub p n ≡ true → slice_homed p n ≡ true
   homed_stub n e =
-      or_right (is_some (λ z. not (is_input z)) (slice_get p.slice n))
+      or_right (part_is (λ z. not (is_input z)) (slice_get p.slice n))
       (list_any (λ (c : Carry). c.to == n) p.chains ||
       (list_any (λ (g : Programmed). g.net == n) p.programs || slice_stub p n))
       (or_right (list_any (λ (c : Carry). c.to == n) p.chains)

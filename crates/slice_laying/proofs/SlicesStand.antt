@@ -4,8 +4,8 @@ use Rattle.std.proofs.Common.{List, [], ◌∷◌, ◌++◌, length, refl, sym, 
 use Rattle.std.specs.Prelude.{slice_get, flat_map, slice_index, max, ◌==◌, ◌≢◌}
 use Rattle.std.specs.List.{range_with_len}
 use Rattle.std.proofs.lemmas.List.{append-nil}
-use Rattle.mp_base.proofs.Members.{Member, member_contains, member_map, map_member, member_filter}
-use Rattle.mp_base.proofs.Members.{range_has}
+use Rattle.mp_base.proofs.Members.{Member, member_contains, member_map, map_member, member_filter, range_has}
+use Rattle.mp_base.proofs.Members.{member_append, append_left, append_right, member_flat, flat_member}
 use Rattle.tile_cells.specs.declared.tile.Tile.TheVariants.{TapL, TapR, PullUp}
 use Rattle.fabric.specs.declared.thing.Line.{Line}
 use Rattle.fabric.specs.declared.thing.Mark.{Mark}
@@ -18,8 +18,6 @@ use Rattle.array_form.specs.Lists.{mark, tap_tile}
 use Rattle.array_form.specs.Place.{cols_in}
 use Rattle.array_form.proofs.Added.{added_is_fabric}
 use Rattle.array_form.proofs.Laid.{all_at}
-use Rattle.array_form.proofs.Members.{member_append, append_left, append_right}
-use Rattle.array_form.proofs.Members.{member_flat, flat_member}
 use Rattle.array_form.proofs.Tracking.{tracks_from}
 use Rattle.slice_form.specs.Joints.{joint_lines}
 use Rattle.slice_form.specs.Path.{Path, Carry, Cast, Lift, Programmed, IsSlice, parts}

@@ -6,7 +6,7 @@ use Rattle.std.specs.List.{range_with_len}
 use Rattle.std.proofs.lemmas.List.{append-nil}
 use Rattle.std.proofs.lemmas.List.Elements.{All-contains}
 use Rattle.std.proofs.lemmas.Option.{slice_get_within}
-use Rattle.mp_base.proofs.Members.{Member, member_contains, contains_member, member_map}
+use Rattle.mp_base.proofs.Members.{Member, member_contains, contains_member, member_map, member_append, member_flat}
 use Rattle.tile_cells.specs.declared.tile.Tile.{Tile}
 use Rattle.tile_cells.specs.declared.tile.Tile.TheVariants.{Tran}
 use Rattle.fabric.specs.declared.thing.Side.{Side}
@@ -26,7 +26,6 @@ use Rattle.array_form.specs.Laying.{AreTracks, HasRoom, with_net, band_segment, 
 use Rattle.array_form.specs.Laying.{column_lines, column_marks}
 use Rattle.array_form.specs.Lists.{mark, upright}
 use Rattle.array_form.proofs.Laid.{placed_is_fabric}
-use Rattle.array_form.proofs.Members.{member_append, member_flat}
 use Rattle.slice_form.specs.Path.{Path}
 use Rattle.slice_form.specs.Slices.{plain_slice, slice_columns, slice_stub}
 use Rattle.slice_laying.specs.Added.{slice_cols, slice_segments, slice_lines, slice_marks}

@@ -4,7 +4,8 @@ use Rattle.std.proofs.Common.{cond, List, [], ◌∷◌, ◌++◌, length, map, 
 use Rattle.std.specs.Prelude.{slice_get, flat_map, max, ◌==◌, ◌≢◌}
 use Rattle.std.specs.List.{range_with_len}
 use Rattle.std.proofs.lemmas.Option.{slice_get_within}
-use Rattle.mp_base.proofs.Members.{Member, member_contains, map_member, filter_member, range_has}
+use Rattle.mp_base.proofs.Members.{Member, member_contains, map_member, filter_member, range_has, append_left}
+use Rattle.mp_base.proofs.Members.{append_right, flat_member}
 use Rattle.tile_cells.specs.declared.tile.Tile.TheVariants.{TapL, TapR, PullUp}
 use Rattle.fabric.specs.declared.thing.Side.{Side}
 use Rattle.fabric.specs.declared.thing.Side.TheVariants.{L, R}
@@ -19,7 +20,6 @@ use Rattle.array_form.specs.Laying.{AreTracks, band_segment}
 use Rattle.array_form.specs.Lists.{mark, tap_tile, upright}
 use Rattle.array_form.specs.Named.{tap}
 use Rattle.array_form.specs.Wires.{row, beat, left, right, trunk, extra, to_ground, place}
-use Rattle.array_form.proofs.Members.{append_left, append_right, flat_member}
 use Rattle.array_form.proofs.Phases.{phase_small}
 use Rattle.slice_form.specs.Joints.{trunk_line, lift_lines, bit_lines, joint_lines}
 use Rattle.slice_form.specs.Path.{Path, Carry, Cast, Lift, Programmed, IsPath, IsSlice, parts}

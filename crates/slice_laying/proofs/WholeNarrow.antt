@@ -7,6 +7,7 @@ use Rattle.std.proofs.lemmas.Bool.{cases_Bool, true≢false, or_cases, and_parts
 use Rattle.std.proofs.lemmas.List.{length-map}
 use Rattle.std.proofs.lemmas.Option.{slice_get_within}
 use Rattle.mp_base.proofs.Members.{member_contains, contains_member, member_map}
+use Rattle.mp_base.proofs.Lists.{any_map}
 use Rattle.nor_net.specs.declared.net.NetId.{NetId}
 use Rattle.nor_net.specs.declared.net.Part.{Part}
 use Rattle.nor_net.specs.declared.net.Part.TheVariants.{Input, Gate, Latch}
@@ -22,7 +23,8 @@ use Rattle.array_form.specs.Homes.{reads}
 use Rattle.array_form.proofs.Room.{any_member}
 use Rattle.slice_form.specs.Narrow.{active, IsNarrow}
 use Rattle.slice_form.specs.Path.{Path, Carry, Cast, Lift}
-use Rattle.slice_form.specs.Slices.{control_stub, is_input, is_some, is_unread, slice_stub}
+use Rattle.slice_form.specs.Slices.{control_stub, is_unread, slice_stub}
+use Rattle.array_form.specs.Place.{is_input, part_is}
 use Rattle.slice_form.specs.Whole.{carry_of, cast_of, lift_of, programmed_of, numbers_of, path_of, StubsArePads}
 use Rattle.slice_form.specs.Whole.{WholesAreNarrow}
 use Rattle.slice_form.proofs.Below.{below_any}
@@ -35,11 +37,6 @@ or_false true b e h = absurd (true≢false e)
 or_false false b e h = h
 
 -- the tests on a path as it is placed are those on the data path
-any_through : {A B : Type 0} (test : B → Bool) (g : A → B) (xs : List A)
-    → list_any test (map g xs) ≡ list_any (λ x. test (g x)) xs
-any_through test g [] = refl
-any_through test g (x ∷ xs) = ap (λ b. test (g x) || b) (any_through test g xs)
-
 uncounted : {A : Type 0} (key : A → NetId) (n : ℕ) (xs : List A) → list_any (λ x. (key x).0 == n) xs ≡ false
     → times n (map key xs) ≡ 0
 uncounted key n [] e = refl
@@ -81,14 +78,14 @@ module _ (p : DataPath) where
 
   -- what a stub of the control says
   record IsIdle (n : ℕ) : Type 0 where
-    there : is_some is_input (slice_get p.control n) ≡ true
+    there : part_is is_input (slice_get p.control n) ≡ true
     unread : is_unread p.control n ≡ true
     lifts : list_any (λ (l : lifting.Lift). l.control.0 == n) p.lifts ≡ false
     casts : list_any (λ (c : casting.Cast). c.control.0 == n) p.casts ≡ false
 
   idle : (n : ℕ) → control_stub whole n ≡ true → IsIdle n
   idle n e =
-      let a = and_parts (is_some is_input (slice_get p.control n))
+      let a = and_parts (part_is is_input (slice_get p.control n))
       (is_unread p.control n && (not (list_any (λ (l : Lift). l.control == n) whole.lifts) && not
       (list_any (λ (c : Cast). c.control == n) whole.casts))) e in
       let b = and_parts (is_unread p.control n) (not (list_any (λ (l : Lift). l.control == n) whole.lifts) && not
@@ -98,13 +95,13 @@ module _ (p : DataPath) where
       record {
         there = a.0;
         unread = b.0;
-        lifts = sym (any_through (λ (l : Lift). l.control == n) lift_of p.lifts)
+        lifts = sym (any_map lift_of (λ (l : Lift). l.control == n) p.lifts)
             ∙ not-true (list_any (λ (l : Lift). l.control == n) whole.lifts) c.0;
-        casts = sym (any_through (λ (c : Cast). c.control == n) cast_of p.casts)
+        casts = sym (any_map cast_of (λ (c : Cast). c.control == n) p.casts)
             ∙ not-true (list_any (λ (c : Cast). c.control == n) whole.casts) c.1;
       }
 
-  input_of : (o : Option Part) → is_some is_input o ≡ true → o ≡ Some Input
+  input_of : (o : Option Part) → part_is is_input o ≡ true → o ≡ Some Input
   input_of None e = absurd (true≢false (sym e))
   input_of (Some Input) e = refl
   input_of (Some (Gate ins)) e = absurd (true≢false (sym e))
@@ -162,7 +159,7 @@ module _ (p : DataPath) where
           (list_any (λ (c : Carry). c.start == n) whole.chains)) a.1 in
           let c = and_parts (not (list_any (λ (l : Lift). l.start == n) whole.lifts)) (not
           (list_any (λ (c : Carry). c.start == n) whole.chains)) b.1 in
-          let lifts = sym (any_through (λ (l : Lift). l.start == n) lift_of p.lifts)
+          let lifts = sym (any_map lift_of (λ (l : Lift). l.start == n) p.lifts)
           ∙ not-true (list_any (λ (l : Lift). l.start == n) whole.lifts) c.0 in
           let chains = sym (start_any n p.slices.chains)
           ∙ not-true (list_any (λ (c : Carry). c.start == n) whole.chains) c.1 in

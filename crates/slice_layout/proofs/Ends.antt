@@ -7,8 +7,8 @@ use Rattle.std.specs.List.{list_any}
 use Rattle.std.proofs.lemmas.Bool.{cases_Bool, cases_lt, cases_eq}
 use Rattle.std.proofs.lemmas.List.Elements.{All-contains}
 use Rattle.std.proofs.lemmas.Option.{slice_get_within}
-use Rattle.mp_base.proofs.Lists.{length_map}
-use Rattle.mp_base.proofs.Members.{Member, member_contains, map_member}
+use Rattle.mp_base.proofs.Lists.{length_map, any_map}
+use Rattle.mp_base.proofs.Members.{Member, member_contains, map_member, append_left, append_right}
 use Rattle.mp_base.proofs.Numbers.{at_most_times}
 use Rattle.nor_net.specs.declared.net.NetId.{NetId}
 use Rattle.nor_net.specs.declared.net.Part.{Part}
@@ -21,7 +21,6 @@ use Rattle.path_form.specs.declared.path.Lift as lift
 use Rattle.path_form.specs.declared.path.DataPath.{DataPath}
 use Rattle.path_form.specs.Shape.{is_input, times, AreInputs, entries_of, chain_to, chain_from, control_ends}
 use Rattle.path_form.proofs.Joining.{times_append, is_one_input}
-use Rattle.array_form.proofs.Members.{append_left, append_right}
 use Rattle.array_form.proofs.Listing.{same_from, same_to}
 use Rattle.slice_form.specs.Path.{Path, Carry, Cast, Lift, Programmed}
 use Rattle.slice_form.specs.Whole.{path_of, carry_of, cast_of, lift_of, programmed_of}
@@ -67,11 +66,6 @@ found k (x ∷ xs) h = elim (cases_Bool (x.0 == k)) [
       let w = found k xs (sym (ap (λ t. t || list_any (λ (x : NetId). x.0 == k) xs) q) ∙ h) in
       (w.0, inr w.1, w.2))
 ]
-
-pub any_map : {A B : Type 0} (f : A → B) (test : B → Bool) (xs : List A)
-    → list_any test (map f xs) ≡ list_any (λ x. test (f x)) xs
-any_map f test [] = refl
-any_map f test (x ∷ xs) = ap (λ b. test (f x) || b) (any_map f test xs)
 
 any_alike : {A : Type 0} (f g : A → Bool) (xs : List A) → ((x : A) → f x ≡ g x) → list_any f xs ≡ list_any g xs
 any_alike f g [] h = refl

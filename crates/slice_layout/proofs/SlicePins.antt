@@ -4,9 +4,8 @@ use Rattle.std.proofs.Common.{subst, arith}
 use Rattle.std.specs.Prelude.{slice_get}
 use Rattle.std.specs.List.{range_with_len}
 use Rattle.std.proofs.lemmas.Option.{slice_get_within}
-use Rattle.mp_base.proofs.Members.{Member, member_map, map_member, range_members, range_has}
-use Rattle.array_form.proofs.Members.{member_append, append_left, append_right}
-use Rattle.array_form.proofs.Members.{member_flat, flat_member}
+use Rattle.mp_base.proofs.Members.{Member, member_map, map_member, range_members, range_has, member_append}
+use Rattle.mp_base.proofs.Members.{append_left, append_right, member_flat, flat_member}
 use Rattle.slice_form.specs.Path.{Path, Carry, Cast, Lift, Programmed}
 use Rattle.slice_form.specs.Slices.{cast_column, lift_column}
 use Rattle.band_lists.specs.declared.pins.Pin.{Pin}

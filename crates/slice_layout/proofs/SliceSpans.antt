@@ -4,14 +4,13 @@ use Rattle.std.proofs.Common.{List, [], ◌++◌, length, map, get_or, refl, sym
 use Rattle.std.specs.Prelude.{slice_get, All, ◌&&◌}
 use Rattle.std.specs.List.{list_any, range_with_len}
 use Rattle.std.proofs.lemmas.Option.{slice_get_within}
-use Rattle.mp_base.proofs.Members.{Member}
+use Rattle.mp_base.proofs.Members.{Member, member_append, append_left, append_right}
 use Rattle.std.proofs.lemmas.Map.Keys.{any_passes_from_place}
 use Rattle.nor_net.specs.declared.net.Part.TheVariants.{Input}
 use Rattle.nor_net.specs.Shape.{IsNet}
 use Rattle.track_assign.specs.Density.{IsInterval}
 use Rattle.array_form.specs.Homes.{Columns, home}
 use Rattle.array_form.specs.Place.{cols_in, interval_of}
-use Rattle.array_form.proofs.Members.{member_append, append_left, append_right}
 use Rattle.array_form.proofs.Listing.{same_from, same_to}
 use Rattle.array_form.proofs.Homes.{count_most}
 use Rattle.array_form.proofs.Laid.{all_from}

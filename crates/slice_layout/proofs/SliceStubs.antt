@@ -7,7 +7,7 @@ use Rattle.std.specs.Prelude.{◌||◌, slice_get}
 use Rattle.std.specs.List.{list_any, range_with_len}
 use Rattle.std.proofs.lemmas.Bool.{and_parts, or_left, or_right, or_cases, not-true}
 use Rattle.std.proofs.lemmas.Option.{slice_get_within, slice_get_cases}
-use Rattle.mp_base.proofs.Members.{Member, any_of}
+use Rattle.mp_base.proofs.Members.{Member, any_of, append_left, append_right}
 use Rattle.mp_base.proofs.Ranges.{map_same}
 use Rattle.mp_base.proofs.Tests.{same_bools, false_true}
 use Rattle.std.proofs.lemmas.Map.Keys.{any_passes_from_place}
@@ -15,11 +15,11 @@ use Rattle.nor_net.specs.declared.net.Part.{Part}
 use Rattle.nor_net.specs.declared.net.Part.TheVariants.{Input, Gate, Latch}
 use Rattle.array_form.specs.Homes.{reads, phase_number}
 use Rattle.array_form.specs.Place as place
-use Rattle.array_form.proofs.Members.{append_left, append_right}
 use Rattle.array_form.proofs.Listing.{same_from, same_to}
 use Rattle.array_form.proofs.Room.{any_member}
 use Rattle.slice_form.specs.Path.{Path, Carry, Cast, Lift, Programmed}
-use Rattle.slice_form.specs.Slices.{any_below, is_some, is_input, is_unread, slice_stub, slice_homed}
+use Rattle.slice_form.specs.Slices.{any_below, is_unread, slice_stub, slice_homed}
+use Rattle.array_form.specs.Place.{part_is, is_input}
 use Rattle.band_lists.specs.declared.pins.Pin.{Pin}
 use Rattle.band_lists.specs.Homed.{is_unpinned}
 use Rattle.band_lists.specs.Pins.{pin, stub_pins}
@@ -198,8 +198,8 @@ module _ (p : Path) (ends : HasEnds p) where
   pub homed_part : (n : ℕ) (q : Part) → slice_get p.slice n ≡ Some q → place.is_input q
       ≡ false → slice_homed p n ≡ true
   homed_part n q h e =
-      or_left (is_some (λ z. not (is_input z)) (slice_get p.slice n))
-      (is_end p n || (is_program p n || slice_stub p n)) (ap (is_some (λ z. not (is_input z))) h ∙ go q e)
+      or_left (part_is (λ z. not (is_input z)) (slice_get p.slice n))
+      (is_end p n || (is_program p n || slice_stub p n)) (ap (part_is (λ z. not (is_input z))) h ∙ go q e)
     where
       go : (q : Part) → place.is_input q ≡ false → not (is_input q) ≡ true
       go Input e = absurd (cc e)
@@ -208,20 +208,20 @@ module _ (p : Path) (ends : HasEnds p) where
 
   pub homed_to : (n : ℕ) → is_end p n ≡ true → slice_homed p n ≡ true
   homed_to n e =
-      or_right (is_some (λ z. not (is_input z)) (slice_get p.slice n))
+      or_right (part_is (λ z. not (is_input z)) (slice_get p.slice n))
       (is_end p n || (is_program p n || slice_stub p n))
       (or_left (is_end p n) (is_program p n || slice_stub p n) e)
 
   pub homed_program : (n : ℕ) → is_program p n ≡ true → slice_homed p n ≡ true
   homed_program n e =
-      or_right (is_some (λ z. not (is_input z)) (slice_get p.slice n))
+      or_right (part_is (λ z. not (is_input z)) (slice_get p.slice n))
       (is_end p n || (is_program p n || slice_stub p n))
       (or_right (is_end p n) (is_program p n || slice_stub p n)
       (or_left (is_program p n) (slice_stub p n) e))
 
   pub homed_stub : (n : ℕ) → slice_stub p n ≡ true → slice_homed p n ≡ true
   homed_stub n e =
-      or_right (is_some (λ z. not (is_input z)) (slice_get p.slice n))
+      or_right (part_is (λ z. not (is_input z)) (slice_get p.slice n))
       (is_end p n || (is_program p n || slice_stub p n))
       (or_right (is_end p n) (is_program p n || slice_stub p n)
       (or_right (is_program p n) (slice_stub p n) e))
@@ -244,7 +244,7 @@ module _ (p : Path) (ends : HasEnds p) where
         (slice_pin_in p (pin n n) (of_net (own n (Latch ph d) h refl refl)))
     homed_own n (Some Input) h lt e =
         elim (or_cases (is_end p n) (is_program p n || slice_stub p n)
-        (sym (ap (λ z. is_some (λ z. not (is_input z)) z || (is_end p n ||
+        (sym (ap (λ z. part_is (λ z. not (is_input z)) z || (is_end p n ||
         (is_program p n || slice_stub p n))) h) ∙ e)) [
           | inl t ↦ (
               let w = any_member (λ (c : Carry). c.to == n) p.chains t in

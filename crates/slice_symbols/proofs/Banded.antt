@@ -1,5 +1,6 @@
 -- The bands in which rectangles stand.
 use Rattle.std.proofs.Common.{ℕ, ◌≡◌, ◌+◌, ◌*◌, ◌/◌, ◌<◌, ◌≤◌, inl, inr, sym, ◌∙◌, ap, subst, arith}
+use Rattle.mp_base.proofs.Numbers.{times_next}
 use Rattle.std.specs.Prelude.{ℤ, pos, ◌+ℤ◌, ◌<ℤ◌, ◌≤ℤ◌}
 use Rattle.std.proofs.Math.Nat.{div-mul-le_self, le-div_iff_mul-le, mul-le-mul_right}
 use Rattle.std.proofs.lemmas.Bool.{cases_lt}
@@ -39,9 +40,6 @@ times_none h = omega arith
 
 times_once : (h : ℕ) → (0 + 1) * h ≡ h
 times_once h = grind arith
-
-times_next : (k h : ℕ) → (k + 1) * h ≡ k * h + h
-times_next k h = grind arith
 
 lowered_back : (h : ℤ) (r q : Rect) → raised h r ≡ raised h q → r ≡ q
 unfolding shifted

@@ -8,6 +8,8 @@ use Rattle.std.proofs.lemmas.List.{length-map}
 use Rattle.std.proofs.lemmas.Option.{get_or_from_slice_get}
 use Rattle.std.proofs.lemmas.List.Elements.{All-contains, All-cons, All-nil, Contains-get_or}
 use Rattle.mp_base.proofs.Contents.{contains_behind, contains_from_map, contains_head, contains_map}
+use Rattle.mp_base.proofs.Contents.{contains_from_flat, contains_flat}
+use Rattle.mp_base.proofs.Numbers.{times_suc}
 use Rattle.lam_geom.specs.declared.rect.Rect.{Rect}
 use Rattle.lam_geom.specs.Squares.{covered, SameSquares}
 use Rattle.slice_symbols.specs.declared.bands.Bands.{Bands}
@@ -19,7 +21,8 @@ use Rattle.slice_symbols.specs.Drawn.{AreSymbolsOf, IsHeight, IsSymbolOf, drawn_
 use Rattle.slice_symbols.specs.Drawn.{symbols_of_both}
 use Rattle.slice_symbols.proofs.Heights.{AreHeights, are_heights}
 use Rattle.slice_symbols.proofs.Lifting.{at_first}
-use Rattle.slice_symbols.proofs.Members.{all_of, covered_by, covers_all, flat_in, in_flat}
+use Rattle.slice_symbols.proofs.Members.{all_of}
+use Rattle.lam_geom.proofs.Covered.{covered_by, covers_all}
 
 -- lists of the same rectangles cover the same squares
 same_covered : (rs qs : List Rect) → ((r : Rect) → Contains rs r → Contains qs r)
@@ -47,14 +50,15 @@ module _ (b : Bands) (count : ℕ) (s : Symbol) (are : AreHeights b count s.heig
   pub drawn_at : (c : Rect) (k : ℕ) → Contains s.shapes c → k < count
       → Contains (symbol_rects s) (raised (height_of b k) c)
   drawn_at c k has h =
-      in_flat (λ z. map (raised z) s.shapes) s.heights (height_of b k) (raised (height_of b k) c) (height_there k h)
+      contains_flat (λ z. map (raised z) s.shapes) s.heights (height_of b k) (raised (height_of b k) c)
+      (height_there k h)
       (contains_map (raised (height_of b k)) s.shapes c has)
 
   -- and no other is
   pub only_drawn : (r : Rect) → Contains (symbol_rects s) r
       → (c : Rect) × (k : ℕ) × Contains s.shapes c × (k < count) × (raised (height_of b k) c ≡ r)
   only_drawn r has =
-      let w = flat_in (λ z. map (raised z) s.shapes) s.heights r has in
+      let w = contains_from_flat (λ z. map (raised z) s.shapes) s.heights r has in
       let h = is_height w.0 w.1 in
       let m = contains_from_map (raised w.0) s.shapes r w.2 in
       (m.0, h.0, m.1, h.1, ap (λ z. raised z m.0) (sym h.2) ∙ m.2)
@@ -63,14 +67,11 @@ module _ (b : Bands) (count : ℕ) (s : Symbol) (are : AreHeights b count s.heig
   all_heights most = all_of (IsHeight b) s.heights
       (λ h has. let w = is_height h has in (w.0, let l = w.1 in omega (arith, l, most), w.2))
 
-times_more : (n m : ℕ) → m + n * m ≡ suc n * m
-times_more n m = grind arith
-
 length_at : (cs : List Rect) (hs : List ℤ) → length (flat_map (λ z. map (raised z) cs) hs) ≡ length hs * length cs
 length_at cs [] = omega arith
 length_at cs (h ∷ hs) =
     length-append (map (raised h) cs) (flat_map (λ z. map (raised z) cs) hs)
-    ∙ (λ i. length-map cs (raised h) i + length_at cs hs i) ∙ times_more (length hs) (length cs)
+    ∙ (λ i. length-map cs (raised h) i + length_at cs hs i) ∙ times_suc (length hs) (length cs)
 
 -- ---- the rest, and what is common
 
@@ -104,7 +105,8 @@ module _ (rects : List Rect) (b : Bands) (common rest : List Rect) (shared : Are
       heights = all_heights b 1 t height (omega arith);
       among = all_of (λ h. All (λ r. Contains rects (raised h r)) t.shapes) t.heights
           (λ h in_heights. all_of (λ r. Contains rects (raised h r)) t.shapes
-          (λ r has. from_rest (raised h r) (in_flat (λ z. map (raised z) t.shapes) t.heights h (raised h r) in_heights
+          (λ r has. from_rest (raised h r) (contains_flat (λ z. map (raised z) t.shapes) t.heights h (raised h r)
+          in_heights
           (contains_map (raised h) t.shapes r has))));
       few = let n = height.count in omega (arith, n);
     }
@@ -115,7 +117,7 @@ module _ (rects : List Rect) (b : Bands) (common rest : List Rect) (shared : Are
       alone = t ∷ []
 
       placed : (r : Rect) → IsShared b common rest r → Contains (drawn_rects alone) r
-      placed r (inl has) = in_flat symbol_rects alone t r (contains_head t []) (draws_rest r has)
+      placed r (inl has) = contains_flat symbol_rects alone t r (contains_head t []) (draws_rest r has)
       placed r (inr (c, k, has, h, e)) = absurd (empty (subst (λ rs. Contains rs c) none has))
         where
           empty : Contains [] c → ⊥
@@ -123,7 +125,7 @@ module _ (rects : List Rect) (b : Bands) (common rest : List Rect) (shared : Are
 
       back : (r : Rect) → Contains (drawn_rects alone) r → Contains rects r
       back r has =
-          let w = flat_in symbol_rects alone r has in
+          let w = contains_from_flat symbol_rects alone r has in
           from_rest r (subst (λ u. Contains (symbol_rects u) r) (only w.0 w.1) w.2)
         where
           only : (u : Symbol) → Contains alone u → u ≡ t
@@ -157,9 +159,10 @@ module _ (rects : List Rect) (b : Bands) (common rest : List Rect) (shared : Are
         -- each rectangle is drawn
         told : (r : Rect) → IsShared b common rest r → Contains (drawn_rects two_symbols) r
         told r (inl has) =
-            in_flat symbol_rects two_symbols t r (contains_behind t s (t ∷ []) (contains_head t [])) (draws_rest r has)
+            contains_flat symbol_rects two_symbols t r (contains_behind t s (t ∷ []) (contains_head t []))
+            (draws_rest r has)
         told r (inr (c, k, has, h, e)) =
-            in_flat symbol_rects two_symbols s r (contains_head s (t ∷ [])) (subst (Contains (symbol_rects s)) e
+            contains_flat symbol_rects two_symbols s r (contains_head s (t ∷ [])) (subst (Contains (symbol_rects s)) e
             (drawn_at b b.count s heights c k (subst (λ rs. Contains rs c) (sym commons) has) h))
 
         -- and each that is drawn is one of them
@@ -172,7 +175,7 @@ module _ (rects : List Rect) (b : Bands) (common rest : List Rect) (shared : Are
 
         drawn_among : (r : Rect) → Contains (drawn_rects two_symbols) r → Contains rects r
         drawn_among r has =
-            let w = flat_in symbol_rects two_symbols r has in
+            let w = contains_from_flat symbol_rects two_symbols r has in
             elim (one_of w.0 w.1) [
               | inl e ↦ from_common r (subst (λ u. Contains (symbol_rects u) r) e w.2)
               | inr e ↦ from_rest r (subst (λ u. Contains (symbol_rects u) r) e w.2)
@@ -192,7 +195,7 @@ module _ (rects : List Rect) (b : Bands) (common rest : List Rect) (shared : Are
           heights = all_heights b b.count s heights most;
           among = all_of (λ h. All (λ r. Contains rects (raised h r)) s.shapes) s.heights
               (λ h in_heights. all_of (λ r. Contains rects (raised h r)) s.shapes
-              (λ r has. from_common (raised h r) (in_flat (λ z. map (raised z) s.shapes) s.heights h (raised h r)
+              (λ r has. from_common (raised h r) (contains_flat (λ z. map (raised z) s.shapes) s.heights h (raised h r)
               in_heights (contains_map (raised h) s.shapes r has))));
           few = let n = heights.count in omega (arith, n, most);
         }

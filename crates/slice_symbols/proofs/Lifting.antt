@@ -2,7 +2,6 @@
 use Rattle.std.proofs.Common.{ℕ, ◌≡◌, ◌*◌, sym, ◌∙◌, ap, arith, of_z, to_z, w64}
 use Rattle.std.specs.Prelude.{ℤ, pos, ◌+ℤ◌, FitsSigned}
 use Rattle.std.proofs.lemmas.Int.{fits_signed_from_abs, ints, to_z-of_z}
-use Rattle.lam_geom.specs.declared.layer.Layer.{Layer}
 use Rattle.lam_geom.specs.declared.layer.Layer.TheVariants.{ND}
 use Rattle.lam_geom.specs.declared.rect.Rect.{Rect}
 use Rattle.lam_geom.specs.Moves.{IsNear, shifted}
@@ -32,10 +31,3 @@ pub stood_again : (b : Bands) (band : ℕ) (h : ℤ) (r q : Rect) → IsNear h �
 stood_again b band h r q near e f =
     let fits : FitsSigned w64 h = fits_signed_from_abs w64 h (omega (arith, ints)) in
     ap (λ z. raised z q) (sym (to_z-of_z w64 h fits ∙ e)) ∙ f
-
--- ---- rectangles that are the same
-
-pub equal_sides : (l : Layer) (a b c d p q r s : ℤ) → a ≡ p → b ≡ q → c ≡ r → d ≡ s
-    → ◌≡◌ {A = Rect} (record { layer = l; x0 = a; y0 = b; x1 = c; y1 = d })
-    (record { layer = l; x0 = p; y0 = q; x1 = r; y1 = s })
-equal_sides l a b c d p q r s e f g h = λ i. record { layer = l; x0 = e i; y0 = f i; x1 = g i; y1 = h i }

@@ -6,7 +6,7 @@ ghost use Rattle.outcome.specs.Order.{Fault};
 ghost use Rattle.source_files.specs.Faults.{PadsFault, RunFault, SourceFault};
 
 use mp_source::laws::{one_source, one_verdict};
-use stimulus::one_first_rule;
+use stimulus::laws::one_first_rule;
 
 /// Sources, sources with a stimulus, and stimuli with pads of their own have one first fault at most.
 pub fn one_fault()

@@ -34,14 +34,14 @@ number_more (x ∷ bits) Zero = let e = number_more bits Zero in omega (arith, e
 number_more (x ∷ bits) One = let e = number_more bits One in let d = two-pow-succ (length bits) in omega (arith, e, d)
 number_more (x ∷ bits) X = let e = number_more bits X in omega (arith, e)
 
+pub weight_of : (b : ℕ) → b < 2 → weight (trit_of b) ≡ b
+weight_of zero l = refl
+weight_of (suc zero) l = refl
+weight_of (suc (suc b)) l = absurd (omega (arith, l))
+
 -- a bit that is known counts what it is
 weight_known : (k b : ℕ) → k ≡ 1 → b < 2 → weight (cond (eqb k 1) (trit_of b) X) ≡ b
-weight_known k b e l = ap (λ x. weight (cond (eqb x 1) (trit_of b) X)) e ∙ told b l
-  where
-    told : (b : ℕ) → b < 2 → weight (trit_of b) ≡ b
-    told zero l = refl
-    told (suc zero) l = refl
-    told (suc (suc b)) l = absurd (omega (arith, l))
+weight_known k b e l = ap (λ x. weight (cond (eqb x 1) (trit_of b) X)) e ∙ weight_of b l
 
 unknown_bit : (k b : ℕ) → is_unknown (cond (eqb k 1) (trit_of b) X) ≡ not (eqb k 1)
 unknown_bit k b = either (eqb k 1) b

@@ -7,7 +7,7 @@ use Rattle.std.proofs.lemmas.Bool.{and_parts, and_from, or_parts, or_from, not-t
 use Rattle.std.proofs.lemmas.List.{append-nil, map-append, map_push}
 use Rattle.std.proofs.lemmas.List.Folds.{list_any-append}
 use Rattle.std.proofs.lemmas.Slice.Eq.{bytes_eq-Decides}
-use Rattle.mp_base.specs.PadNames.{is_run, is_pad_name, names_of, ArePadNames}
+use Rattle.mp_base.specs.PadNames.{is_run, is_pad_name, names_of, ArePadNames, is_supply}
 use Rattle.mp_base.specs.declared.pad.Pad.{Pad}
 use Rattle.mp_base.specs.declared.pad.Pads.{Pads}
 use Rattle.stimulus_lines.specs.declared.piece.Piece.{Piece}
@@ -15,7 +15,7 @@ use Rattle.stimulus_lines.specs.declared.form.Form.{Form}
 use Rattle.stimulus_lines.specs.declared.form.Form.TheVariants.{Input, Output, Clock}
 use Rattle.stimulus.specs.declared.reading.Reading.{Reading}
 use Rattle.stimulus_lines.specs.Forms.{is_name, IsPad, IsForm}
-use Rattle.stimulus.specs.Rules.{has_pad, is_reserved, is_new_pad, IsInPlace, AddsForm}
+use Rattle.stimulus.specs.Rules.{has_pad, is_new_pad, IsInPlace, AddsForm}
 use Rattle.stimulus.specs.Reading.{Reads, nothing}
 
 -- an element of a list with one more is that one, or one of the others
@@ -79,7 +79,7 @@ new_name r name h =
     let c = and_parts _ _ b.1 in
     let d = and_parts _ _ c.1 in
     record {
-      good = λ run. and_from (is_run name) (not (is_reserved name)) (run_name name run) c.0;
+      good = λ run. and_from (is_run name) (not (is_supply name)) (run_name name run) c.0;
       other = list_any-append (λ (p : Pad). bytes_eq p.name name) r.inputs r.outputs
           ∙ or_from _ _ (not-true _ d.0) (not-true _ d.1);
     }

@@ -6,7 +6,7 @@ use Rattle.stimulus.specs.Rules.{bits_of}
 use Rattle.std.proofs.Math.Nat.{div-eq_of_lt, div-lt_iff_lt-mul}
 use Rattle.std.proofs.lemmas.Bool.{eqb-true}
 use Rattle.std.proofs.lemmas.Nat.{pow-add, div-mul-add}
-use Rattle.mp_base.proofs.Numbers.{power_positive}
+use Rattle.mp_base.proofs.Numbers.{power_positive, times_next}
 
 -- nothing is left of a value that is shifted by more than its bits
 pub shifted_out : (value w : ℕ)
@@ -27,12 +27,9 @@ ones b le =
     let product : n * m ≡ 2 ^ 64 = sym (pow-add 2 b (64 - b)) ∙ ap (λ k. 2 ^ k) sum in
     let some : 0 < m = power_positive (64 - b) in
     let more : 0 < n = power_positive b in
-    let parts : (n - 1) * m + m ≡ n * m = sym (mul_one_more (n - 1) m) ∙ ap (λ k. k * m) (omega arith) in
+    let parts : (n - 1) * m + m ≡ n * m = sym (times_next (n - 1) m) ∙ ap (λ k. k * m) (omega arith) in
     let split : 2 ^ 64 - 1 ≡ (n - 1) * m + (m - 1) = omega (arith, product, parts, some) in
     ap (λ k. k / m) split ∙ div-mul-add (n - 1) m (m - 1) (omega arith)
-  where
-    mul_one_more : (a c : ℕ) → (a + 1) * c ≡ a * c + c
-    mul_one_more a c = grind arith
 
 -- a pad has at most 64 bits
 pub few_bits : (p : Pad) → bits_of p ≤ 64

@@ -1,6 +1,6 @@
 -- A text spells a stimulus, or has a first broken rule.
 use Rattle.std.proofs.Common.{◌≡◌, ◌⊎◌, inl, inr, ℕ, zero, suc, ◌+◌, ◌<◌, ◌≤◌, List, [], ◌∷◌, ◌++◌, Option}
-use Rattle.std.proofs.Common.{Some, None, length, take, refl, ◌∙◌, ap, subst, arith}
+use Rattle.std.proofs.Common.{Some, None, length, take, refl, ◌∙◌, subst, arith}
 use Rattle.std.proofs.lemmas.Bool.{cases_lt, cases_Bool}
 use Rattle.std.proofs.lemmas.List.{get_or_default}
 use Rattle.mp_base.specs.Lines.{place_at}
@@ -9,6 +9,7 @@ use Rattle.mp_base.specs.declared.pad.Pads.{Pads}
 use Rattle.mp_base.specs.declared.refusal.Place.{Place}
 use Rattle.mp_base.proofs.Decisions.{Decided, both_of, is_true, is_within}
 use Rattle.mp_base.proofs.Entries.{own_default}
+use Rattle.mp_base.proofs.Lists.{take_whole}
 use Rattle.stimulus_lines.specs.declared.form.Assignment.{Assignment}
 use Rattle.stimulus_lines.specs.declared.form.Form.{Form}
 use Rattle.stimulus_lines.specs.declared.form.Form.TheVariants.{Input, Output, Clock}
@@ -44,15 +45,11 @@ apart_upto xs (suc n) le = by (apart_upto xs n (omega (arith, le)))
               (subst (λ k. AreApart (take k xs)) same (apart_more xs n x (omega (arith, le)) is apart new)))
         ]
 
-whole : (xs : List Assignment) → take (length xs) xs ≡ xs
-whole [] = refl
-whole (x ∷ xs) = ap (λ ys. x ∷ ys) (whole xs)
-
 is_in_place : (r : Reading) (f : Form) → Decided (IsInPlace r f)
 is_in_place r (Input p) = is_true (is_new_pad r p.name)
 is_in_place r (Output p) = is_true (is_new_pad r p.name)
 is_in_place r (Clock xs) = elim (apart_upto xs (length xs) (omega arith))
-    [ inl apart ↦ inl (subst (λ ys. AreApart ys) (whole xs) apart) | inr twice ↦ inr twice ]
+    [ inl apart ↦ inl (subst (λ ys. AreApart ys) (take_whole xs) apart) | inr twice ↦ inr twice ]
 
 -- ---- what a line adds, or which rule it breaks
 

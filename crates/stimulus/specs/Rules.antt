@@ -5,7 +5,7 @@ use Rattle.std.specs.List.{list_any}
 use Rattle.std.specs.Str.{bytes_eq}
 use Rattle.mp_base.specs.declared.pad.Pad.{Pad}
 use Rattle.mp_base.specs.declared.pad.Pads.{Pads}
-use Rattle.mp_base.specs.PadNames.{supplies}
+use Rattle.mp_base.specs.PadNames.{is_supply}
 use Rattle.stimulus.specs.declared.limits.TheConstants.{CLOCK_LIMIT, PAD_LIMIT}
 use Rattle.stimulus.specs.declared.given.Given.{Given}
 use Rattle.stimulus_lines.specs.declared.piece.Piece.{Piece}
@@ -17,20 +17,16 @@ use Rattle.stimulus.specs.declared.fault.Fault.{Fault}
 use Rattle.stimulus.specs.declared.fault.Fault.TheVariants.{NoMemory, Breaks}
 use Rattle.stimulus_lines.specs.Forms.{IsForm, is_clock}
 
--- the names that no pad of a header may have
-abbrev pub is_reserved : List ℕ → Bool
-is_reserved name = list_any (λ label. bytes_eq name label) supplies
-
 -- a pad has this name
 abbrev pub has_pad : List ℕ → List Pad → Bool
 has_pad name pads = list_any (λ (p : Pad). bytes_eq p.name name) pads
 
--- a header line may have this pad here: no clock line came, the name is new and not reserved, and fewer than the limit
--- came
+-- a header line may have this pad here: no clock line came, the name is new and no supply's or phase's, and fewer
+-- than the limit came
 abbrev pub is_new_pad : Reading → List ℕ → Bool
 is_new_pad r name =
     (length r.clocks == 0) && (nat_lt (length r.inputs + length r.outputs) PAD_LIMIT
-    && (not (is_reserved name) && (not (has_pad name r.inputs) && not (has_pad name r.outputs))))
+    && (not (is_supply name) && (not (has_pad name r.inputs) && not (has_pad name r.outputs))))
 
 -- the form may stand here; no name twice in a clock line
 abbrev pub IsInPlace : Reading → Form → Type 0
@@ -125,7 +121,7 @@ AddsForm known r (Clock xs) t = (gs : List Given) × AreGiven (inputs_of known r
 
 -- the line breaks no rule behind r, and then t was read
 pub record Adds (known : Option Pads) (r : Reading) (line : List Piece) (t : Reading) : Type 0 where
-  pub room : IsFull r line → ⊥
+  pub room : ¬ IsFull r line
   pub form : Form
   pub is : IsForm line form
   pub «in_place» : IsInPlace r form
@@ -134,14 +130,14 @@ pub record Adds (known : Option Pads) (r : Reading) (line : List Piece) (t : Rea
 -- the first rule that the line breaks behind r, and where: S4, then S1, then S2 and S3 word by word
 pub data FirstIn (known : Option Pads) (r : Reading) (line : List Piece) (k at : ℕ) : Type 0 where
   full : k ≡ 4 → at ≡ start_of line → IsFull r line → FirstIn known r line k at
-  formless : k ≡ 1 → at ≡ start_of line → (IsFull r line → ⊥) → ((f : Form) → IsForm line f → IsInPlace r f → ⊥)
+  formless : k ≡ 1 → at ≡ start_of line → ¬ IsFull r line → ((f : Form) → IsForm line f → ¬ IsInPlace r f)
       → FirstIn known r line k at
-  misfit : (f : Form) → (IsFull r line → ⊥) → IsForm line f → IsInPlace r f → Misfits known r line f k at
+  misfit : (f : Form) → ¬ IsFull r line → IsForm line f → IsInPlace r f → Misfits known r line f k at
       → FirstIn known r line k at
 
 -- why a form can't be added: it is out of place, or it breaks S2 or S3
 pub data FormFault (known : Option Pads) (r : Reading) (line : List Piece) (f : Form) (k at : ℕ) : Type 0 where
-  misplaced : k ≡ 1 → at ≡ start_of line → (IsInPlace r f → ⊥) → FormFault known r line f k at
+  misplaced : k ≡ 1 → at ≡ start_of line → ¬ IsInPlace r f → FormFault known r line f k at
   unfit : IsInPlace r f → Misfits known r line f k at → FormFault known r line f k at
 
 -- want of memory, of which nothing is said, or a rule's number and the offset where it is broken

@@ -3,7 +3,7 @@
 
 mod fault;
 mod given;
-mod law;
+pub mod laws;
 mod limits;
 mod lines;
 mod read;
@@ -12,7 +12,6 @@ mod rules;
 mod transcript;
 
 pub use given::{Given, Stimulus};
-pub use law::{one_first_rule, one_stimulus, stimulus_verdict};
 pub use limits::{CLOCK_LIMIT, PAD_LIMIT};
 pub use read::read_stimulus;
 pub use transcript::line;

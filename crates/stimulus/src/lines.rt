@@ -12,8 +12,8 @@ use crate::fault::Fault;
 use crate::given::Given;
 use crate::limits::{CLOCK_LIMIT, PAD_LIMIT};
 use crate::reading::Reading;
-use crate::rules::{are_apart, fits, has_pad, has_same, input_named, is_reserved};
-use mp_base::{List, Pad, Pads};
+use crate::rules::{are_apart, fits, has_pad, has_same, input_named};
+use mp_base::{List, Pad, Pads, is_supply};
 use std::alloc::Global;
 use stimulus_lines::{Assignment, Form, Piece, is_clock, read_form};
 
@@ -114,7 +114,7 @@ impl Reading {
         self.clocks.len() == 0
             && self.inputs.len() < PAD_LIMIT
             && self.outputs.len() < PAD_LIMIT - self.inputs.len()
-            && !is_reserved(name)
+            && !is_supply(name)
             && !has_pad(name, self.inputs.as_slice())
             && !has_pad(name, self.outputs.as_slice())
     }

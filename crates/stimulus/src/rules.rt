@@ -1,10 +1,10 @@
 //! What a line may say behind those before it.
 
-ghost use Rattle.std.specs.Prelude.{◌≡◌, ◌≢◌, ℕ, ◌<◌, ◌≤◌, ◌^◌, ◌↔◌, List, length, slice_index, slice_index_or};
+ghost use Rattle.std.specs.Prelude.{◌≡◌, ◌≢◌, ◌<◌, ◌≤◌, ◌^◌, ◌↔◌, List};
 ghost use Rattle.std.specs.Prelude.{IfOk, IsTrue, AllPairs};
 ghost use Rattle.std.specs.List.{list_any};
 ghost use Rattle.std.specs.Str.{bytes_eq};
-ghost use Rattle.stimulus.specs.Rules.{has_pad, is_reserved, is_same, bits_of, bound, input_named};
+ghost use Rattle.stimulus.specs.Rules.{has_pad, is_same, bits_of, bound, input_named};
 ghost use Rattle.stimulus_lines.specs.declared.form.Assignment.{Assignment as Word};
 
 use crate::given::Given;
@@ -18,16 +18,6 @@ pub(crate) fn has_pad(name: &[u8], pads: &[Pad]) -> bool
     ensures { result ≡ has_pad name.now pads.now }
 {
     pads.iter().any(|pad| pad.name.bytes() == name)
-}
-
-/// Whether no pad of a header may have this name.
-pub(crate) fn is_reserved(name: &[u8]) -> bool
-    ensures { result ≡ is_reserved name.now }
-{
-    match name {
-        b"vdd" | b"gnd" | b"phia" | b"phib" | b"phic" => true,
-        _ => false,
-    }
 }
 
 /// Whether one of these pads has the name and the width of this one.

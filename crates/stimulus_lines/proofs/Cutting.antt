@@ -7,7 +7,8 @@ use Rattle.std.specs.Str.Lines.{strip_carriage_return}
 use Rattle.std.proofs.lemmas.List.{get_or-drop, length-drop, drop-drop, take_all, length-take-le}
 use Rattle.std.proofs.lemmas.Bool.{cases_lt, lt-ltb, le-ltb}
 use Rattle.stimulus_lines.specs.declared.piece.Piece.{Piece}
-use Rattle.stimulus_lines.specs.Words.{is_blank, is_feed, placed, words_of, kept_before, words_of_lines}
+use Rattle.stimulus_lines.specs.Words.{is_blank, placed, words_of, kept_before, words_of_lines}
+use Rattle.mp_base.specs.Lines.{is_feed}
 
 -- the first part of a list ends at the first byte that parts
 cut : (p : ℕ → Bool) (xs : List ℕ) (n : ℕ) → n < length xs → ((k : ℕ) → k < n → p (get_or xs k 0) ≡ false)

@@ -2,15 +2,12 @@
 use Rattle.std.specs.Prelude.{ℕ, ◌+◌, List, [], ◌∷◌, Bool, true, cond, ◌==◌, ◌||◌, nat_lt, length, filter, slice_index}
 use Rattle.std.specs.List.{slice_split}
 use Rattle.std.specs.Str.Lines.{strip_carriage_return}
+use Rattle.mp_base.specs.Lines.{is_feed}
 use Rattle.stimulus_lines.specs.declared.piece.Piece.{Piece}
 
 -- spaces and tabs part words
 abbrev pub is_blank : ℕ → Bool
 is_blank c = c == 32 || c == 9
-
--- line feeds part lines
-abbrev pub is_feed : ℕ → Bool
-is_feed c = c == 10
 
 -- parts that one byte keeps apart, each with its place, where the first has this one
 abbrev pub placed : ℕ → List (List ℕ) → List Piece

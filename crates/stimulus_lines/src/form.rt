@@ -42,7 +42,7 @@ fn is_name(word: &[u8]) -> bool
 
 /// The number of 1 to 20 digits, if they are that and it is below 2^64.
 fn number(digits: &[u8]) -> Option<u64>
-    ensures { MatchOption result ((n : ℕ) → IsNumber digits.now n → ⊥) (IsNumber digits.now) }
+    ensures { MatchOption result ((n : ℕ) → ¬ IsNumber digits.now n) (IsNumber digits.now) }
 {
     if digits.is_empty() || digits.len() > 20 {
         return None;
@@ -59,7 +59,7 @@ fn number(digits: &[u8]) -> Option<u64>
 
 /// The number of bits that a word of a header says, from 1 to 64.
 fn width(word: &[u8]) -> Option<u8>
-    ensures { MatchOption result ((n : ℕ) → IsWidth word.now n → ⊥) (IsWidth word.now) }
+    ensures { MatchOption result ((n : ℕ) → ¬ IsWidth word.now n) (IsWidth word.now) }
 {
     let bits = number(word)?;
     let mut buffer = Buffer::new();
@@ -84,7 +84,7 @@ fn last_equals(word: &[u8]) -> Option<usize>
 }
 
 fn read_assignment<'a>(word: &Piece<'a>) -> Option<Assignment<'a>>
-    ensures { MatchOption result ((a : Assignment) → IsAssignment word.now a → ⊥) (IsAssignment word.now) }
+    ensures { MatchOption result ((a : Assignment) → ¬ IsAssignment word.now a) (IsAssignment word.now) }
 {
     let bytes = word.bytes.bytes();
     let Some(equals) = last_equals(bytes) else {
@@ -109,7 +109,7 @@ fn read_assignments<'a>(
     words: &[Piece<'a>],
 ) -> Result<Option<List<Assignment<'a>>>, AllocError>
     ensures { IfOk result (λ found.
-        MatchOption found ((xs : List Assignment) → AreAssignments words.now xs → ⊥) (AreAssignments words.now)) }
+        MatchOption found ((xs : List Assignment) → ¬ AreAssignments words.now xs) (AreAssignments words.now)) }
 {
     let mut all = List::new(alloc);
     for word in words {
@@ -123,7 +123,7 @@ fn read_assignments<'a>(
 
 /// The pad that the words behind `in` or `out` say.
 fn read_pad(alloc: Global, words: &[Piece]) -> Result<Option<Pad>, AllocError>
-    ensures { IfOk result (λ found. MatchOption found ((p : Pad) → IsPad words.now p → ⊥) (IsPad words.now)) }
+    ensures { IfOk result (λ found. MatchOption found ((p : Pad) → ¬ IsPad words.now p) (IsPad words.now)) }
 {
     let (name, width) = match words {
         [name] => (name, 0),
@@ -154,7 +154,7 @@ pub fn is_clock(words: &[Piece]) -> bool
 
 /// What a line of these words says, if it is in one of the forms.
 pub fn read_form<'a>(alloc: Global, words: &[Piece<'a>]) -> Result<Option<Form<'a>>, AllocError>
-    ensures { IfOk result (λ found. MatchOption found ((f : Form) → IsForm words.now f → ⊥) (IsForm words.now)) }
+    ensures { IfOk result (λ found. MatchOption found ((f : Form) → ¬ IsForm words.now f) (IsForm words.now)) }
 {
     let [first, rest @ ..] = words else {
         return Ok(None);

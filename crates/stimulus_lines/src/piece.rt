@@ -3,7 +3,8 @@
 ghost use Rattle.std.specs.Prelude.{◌≡◌, ℕ, ◌+◌, ◌<◌, ◌≤◌, ◌^◌, true, false, cond, nat_lt, length, slice_index};
 ghost use Rattle.std.specs.Prelude.{slice_range, OnOk};
 ghost use Rattle.std.specs.Str.Lines.{strip_carriage_return};
-ghost use Rattle.stimulus_lines.specs.Words.{is_blank, is_feed, is_skipped, words_of};
+ghost use Rattle.stimulus_lines.specs.Words.{is_blank, is_skipped, words_of};
+ghost use Rattle.mp_base.specs.Lines.{is_feed};
 
 use crate::part::Part;
 use std::alloc::AllocError;

@@ -1,9 +1,10 @@
 -- Settled values settle to themselves: the lemma for a settler by events.
-use Rattle.std.proofs.Common.{◌≡◌, ℕ, Option, Some, None, refl, sym, ◌∙◌, ap, subst, inl, inr, ◌⊎◌}
+use Rattle.std.proofs.Common.{◌≡◌, ℕ, None, refl, sym, ◌∙◌, ap, subst, inl, inr, ◌⊎◌}
 use Rattle.std.specs.Prelude.{◌≢◌, IsSome}
 use Rattle.mp_base.specs.declared.value.Trit.{Trit}
 use Rattle.mp_base.specs.declared.value.Trit.TheVariants.{Zero, One, X}
 use Rattle.mp_base.proofs.Values.{same_trit_or_not}
+use Rattle.mp_base.proofs.Entries.{none_or_some}
 use Rattle.switch_net.specs.declared.network.Channel.{Channel}
 use Rattle.switch_net.specs.Settled.{Setting, IsOn, MayBeOn, IsAgainst, Gives, IsBelow, IsSettled}
 use Rattle.switch_net.specs.Reaching.{Reach, here, over, IsStrongOn, MayBeStrongOn, IsFor, IsForeign}
@@ -39,10 +40,6 @@ of_after : (s : Setting) (v : ℕ → Trit) (ok : Channel → Type 0) (from : �
 of_after s v ok from n (here f) = here f
 of_after s v ok from n (over {a} c r in' at_a at_n free okc) = over c (of_after s v ok from a r) in' at_a at_n free okc
 
-driver_cases : (d : Option Trit) → (d ≡ None) ⊎ IsSome d
-driver_cases None = inl refl
-driver_cases (Some t) = inr refl
-
 module _ (s : Setting) (v : ℕ → Trit) (b : Trit) (has : (n : ℕ) → s.driver n ≡ None → Gives s v n b → v n ≡ b) where
   -- what is given below v is given again, after v
   again_given : (m : ℕ → Trit) → IsBelow m v → (n : ℕ) → Gives s m n b → Gives (after s v) m n b
@@ -67,7 +64,7 @@ module _ (s : Setting) (v : ℕ → Trit) (b : Trit) (has : (n : ℕ) → s.driv
       foreign none a r (inl d) =
           none (twice s (MayBeOn m) (λ x. x ≡ a) (IsForeign s b)
           (λ x e. here (subst (IsForeign s b) (sym e) (inl d))) n r)
-      foreign none a r (inr ne) = ne (held_before none a r (driver_cases (s.driver a)))
+      foreign none a r (inr ne) = ne (held_before none a r (none_or_some (s.driver a)))
 
       by_sets : GivesBySets s m n b → GivesBySets (after s v) m n b
       by_sets (by_strong r none) =

@@ -4,6 +4,7 @@ use Rattle.std.specs.Prelude.{◌≢◌}
 use Rattle.std.proofs.lemmas.List.Elements.{All-weaker}
 use Rattle.mp_base.specs.declared.value.Trit.{Trit}
 use Rattle.mp_base.specs.declared.value.Trit.TheVariants.{Zero, One, X}
+use Rattle.mp_base.proofs.Values.{same_if_below}
 use Rattle.switch_net.specs.declared.network.ChannelKind.{ChannelKind}
 use Rattle.switch_net.specs.declared.network.ChannelKind.TheVariants.{Enhancement, Depletion, Partial}
 use Rattle.switch_net.specs.declared.network.Channel.{Channel}
@@ -74,12 +75,7 @@ follows_kept s v w v' w' below f g n = follows_at s v w v' w' below f g n (s.dri
 
 -- settled values are determined
 pub settled_once : (s : Setting) (v w : ℕ → Trit) → IsSettled s v → IsSettled s w → v ≡ w
-settled_once s v w f g = λ i n. same (v n) (w n) (f.least w g.solution n) (g.least v f.solution n) i
-  where
-    same : (t u : Trit) → (t ≡ X) ⊎ (t ≡ u) → (u ≡ X) ⊎ (u ≡ t) → t ≡ u
-    same t u (inr e) _ = e
-    same t u (inl e) (inr g) = sym g
-    same t u (inl e) (inl g) = e ∙ sym g
+settled_once s v w f g = λ i n. same_if_below (v n) (w n) (f.least w g.solution n) (g.least v f.solution n) i
 
 definite_may : (v : ℕ → Trit) (cs : List Channel) → IsDefinite v cs → IsPossible v cs
 definite_may v cs h = All-weaker (IsOn v) (MayBeOn v) (λ c. on_may_be_on c.kind (v c.gate)) cs h

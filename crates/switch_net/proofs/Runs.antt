@@ -1,16 +1,16 @@
 -- A network that has its pads runs.
-use Rattle.std.proofs.Common.{◌≡◌, ℕ, zero, suc, ◌⊎◌, inl, inr, List, [], ◌∷◌, Some, refl, sym, ap, subst, ◌∙◌, arith}
+use Rattle.std.proofs.Common.{◌≡◌, ℕ, suc, ◌⊎◌, inl, inr, List, [], ◌∷◌, Some, refl, ap, subst, ◌∙◌, arith}
 use Rattle.std.specs.Prelude.{◌≢◌, All, Contains, flat_map}
 use Rattle.std.specs.List.{AllZip}
 use Rattle.std.proofs.lemmas.Option.{slice_get-get_or}
-use Rattle.std.proofs.lemmas.List.Elements.{Contains-append_left, Contains-append_right}
+use Rattle.std.proofs.lemmas.List.Elements.{Contains-append_right}
 use Rattle.mp_base.specs.declared.value.Trit.{Trit}
-use Rattle.mp_base.specs.declared.pad.Pad.{Pad}
 use Rattle.mp_base.specs.declared.pad.Pads.{Pads}
 use Rattle.switch_net.specs.declared.network.Tag.{Tag}
 use Rattle.switch_net.specs.declared.network.Network.{Network}
 use Rattle.switch_net.specs.Pads.{bit_labels, driver_labels, chip_labels}
 use Rattle.mp_base.specs.PadBits.{Fit}
+use Rattle.mp_base.proofs.Contents.{contains_flat}
 use Rattle.switch_net.specs.Clock.{Phases, drives, SettlesTo, RunsTo, HasValue, Shows, IsClock, IsCircuitTrace}
 use Rattle.switch_net.specs.Clock.{settings_until_outputs, settings_after_outputs}
 use Rattle.switch_net.specs.Breaks.{HasPads}
@@ -20,14 +20,6 @@ use Rattle.switch_net.proofs.Driving.{same_name, drivers_exist, names_of_drives}
 use Rattle.switch_net.proofs.Labelling.{labels_differ}
 
 -- ---- what is shown
-
-in_flat : (f : Pad → List (List ℕ)) (pads : List Pad) (pad : Pad) (name : List ℕ) → Contains pads pad
-    → Contains (f pad) name → Contains (flat_map f pads) name
-in_flat f [] pad name c k = absurd (omega (arith, c.1))
-in_flat f (p ∷ ps) pad name (zero, l, e) k =
-    Contains-append_left (f p) (flat_map f ps) name (subst (λ x. Contains (f x) name) (sym e) k)
-in_flat f (p ∷ ps) pad name (suc n, l, e) k =
-    Contains-append_right (f p) (flat_map f ps) name (in_flat f ps pad name (n, omega arith, e) k)
 
 -- where each item has a partner, there is a list of them
 zip_exists : {A B : Type 0} (R : A → B → Type 0) (xs : List A) → ((x : A) → Contains xs x → (y : B) × R x y)
@@ -65,7 +57,7 @@ module _ (net : Network) (pads : Pads) (has : HasPads net pads) where
       zip_exists (HasValue net values) (bit_labels pad) (λ name k.
       value_exists values name
       (Contains-append_right (driver_labels pads.inputs) (flat_map bit_labels pads.outputs) name
-      (in_flat bit_labels pads.outputs pad name c k))))
+      (contains_flat bit_labels pads.outputs pad name c k))))
 
   settles : (phases : Phases) (words : List ℕ) (before : ℕ → Trit) → Fit pads.inputs words
       → (after : ℕ → Trit) × SettlesTo net (drives phases pads.inputs words) before after

@@ -1,5 +1,6 @@
 pub mod OneNode
 pub mod Settled
+pub mod Values
 pub mod Reaching
 pub mod Pads
 pub mod Clock
@@ -7,6 +8,7 @@ pub mod Sizes
 pub mod Classes
 pub mod Conductors
 pub mod Labels
+pub mod Names
 pub mod Drawn
 pub mod Breaks
 pub mod Cutting

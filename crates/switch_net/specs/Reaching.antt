@@ -30,6 +30,6 @@ IsForeign s b a = (IsSome (s.driver a)) ⊎ (s.before a ≢ b)
 -- n is b: held by a strong path or by any, and not opposed by one of that sort, or kept
 abbrev pub GivesByReach : Setting → (ℕ → Trit) → ℕ → Trit → Type 0
 GivesByReach s v n b =
-    (Reach s (IsStrongOn v) (IsFor s b) n × (Reach s (MayBeStrongOn v) (IsAgainst s b) n → ⊥))
-    ⊎ (Reach s (IsOn v) (IsFor s b) n × (Reach s (MayBeOn v) (IsAgainst s b) n → ⊥))
-    ⊎ (Reach s (MayBeOn v) (IsForeign s b) n → ⊥)
+    (Reach s (IsStrongOn v) (IsFor s b) n × ¬ Reach s (MayBeStrongOn v) (IsAgainst s b) n)
+    ⊎ (Reach s (IsOn v) (IsFor s b) n × ¬ Reach s (MayBeOn v) (IsAgainst s b) n)
+    ⊎ ¬ Reach s (MayBeOn v) (IsForeign s b) n

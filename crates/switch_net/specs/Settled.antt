@@ -62,16 +62,16 @@ IsAgainst s b a = (t : Trit) × (s.driver a ≡ Some t) × (t ≢ b)
 -- a definite strong path from a driver of b reaches n, and no possible strong path from one of another value does
 pub record IsStronglyHeld (s : Setting) (v : ℕ → Trit) (n : ℕ) (b : Trit) : Type 0 where
   pub held : (a : ℕ) × (cs : List Channel) × (s.driver a ≡ Some b) × Path s a cs n × IsStrong cs × IsDefinite v cs
-  pub unopposed : (a : ℕ) (cs : List Channel) → IsAgainst s b a → Path s a cs n → IsStrong cs → IsPossible v cs → ⊥
+  pub unopposed : (a : ℕ) (cs : List Channel) → IsAgainst s b a → Path s a cs n → IsStrong cs → ¬ IsPossible v cs
 
 -- a definite weak path from a driver of b reaches n, and no possible path at all from one of another value does
 pub record IsWeaklyHeld (s : Setting) (v : ℕ → Trit) (n : ℕ) (b : Trit) : Type 0 where
   pub held : (a : ℕ) × (cs : List Channel) × (s.driver a ≡ Some b) × Path s a cs n × IsWeak cs × IsDefinite v cs
-  pub unopposed : (a : ℕ) (cs : List Channel) → IsAgainst s b a → Path s a cs n → IsPossible v cs → ⊥
+  pub unopposed : (a : ℕ) (cs : List Channel) → IsAgainst s b a → Path s a cs n → ¬ IsPossible v cs
 
 -- no driver possibly reaches n, and every node possibly joined to it held b before
 pub record IsKept (s : Setting) (v : ℕ → Trit) (n : ℕ) (b : Trit) : Type 0 where
-  pub alone : (a : ℕ) (cs : List Channel) → IsSome (s.driver a) → Path s a cs n → IsPossible v cs → ⊥
+  pub alone : (a : ℕ) (cs : List Channel) → IsSome (s.driver a) → Path s a cs n → ¬ IsPossible v cs
   pub charged : (a : ℕ) (cs : List Channel) → Path s a cs n → IsPossible v cs → s.before a ≡ b
 
 -- the three cases in which n is b

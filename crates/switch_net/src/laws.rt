@@ -5,7 +5,7 @@ ghost use Rattle.switch_net.specs.Laws.{ChipLabelsDiffer, GivesAlongReach, Gives
 ghost use Rattle.switch_net.specs.Laws.{OneFirstOfMask, OneNetwork, OneNumbering, SettledExists, SettledOnce};
 ghost use Rattle.switch_net.specs.Laws.{SettlesAgain, TraceExists, TraceOnce};
 
-use lam_geom::rectangles_are_joined;
+use lam_geom::laws::rectangles_are_joined;
 
 /// However conductors and channels are cut into rectangles, the rectangles tell what is joined.
 pub fn pieces_tell_nodes()

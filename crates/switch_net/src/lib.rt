@@ -5,9 +5,5 @@ pub mod laws;
 mod limits;
 mod network;
 
-pub use laws::{
-    chip_labels_differ, circuits_run, first_rule_is_determined, network_is_determined,
-    networks_settle, nodes_are_given, pieces_tell_nodes,
-};
 pub use limits::MOST_NODES_AND_CHANNELS;
 pub use network::{Channel, ChannelKind, Network, Tag};

@@ -10,17 +10,11 @@ use Rattle.union_find.specs.Roots.{IsBelow, root, moved, AreJoined}
 use Rattle.union_find.specs.Leasts.{Paired, AreLeasts}
 use Rattle.lam_geom.specs.Chains.{Chain}
 use Rattle.lam_geom.specs.Chains.Chain.{here, link}
-use Rattle.lam_geom.proofs.Chains.{join_chains, turn_chain}
+use Rattle.lam_geom.proofs.Chains.{join_chains, keep_chain, turn_chain}
 use Rattle.union_find.proofs.Roots.{root_at, root_below, moved_same, moved_kept, moved_pair}
 
 pub turn_pair : (pairs : List Pair) (i j : ℕ) → Paired pairs i j → Paired pairs j i
 turn_pair pairs i j h = record { pair = h.pair; among = h.among; ends = elim h.ends [ inl e ↦ inr e | inr e ↦ inl e ] }
-
--- what a chain keeps
-pub keep_chain : {S : Type 0} {J : S → S → Type 0} (F : S → ℕ) → ((a b : S) → J a b → F a ≡ F b) → {s t : S}
-    → Chain J s t → F s ≡ F t
-keep_chain F k here = refl
-keep_chain F k {s} (link {t} h a) = k s t h ∙ keep_chain F k a
 
 -- one more pair is joined
 pub join_more : (pairs : List Pair) (place : ℕ) (p q : List ℕ) (c : Pair) → AreJoined pairs place p

@@ -6,6 +6,7 @@ use Rattle.std.specs.List.{range_with_len}
 use Rattle.std.proofs.lemmas.Option.{slice_get_cases}
 use Rattle.std.proofs.lemmas.List.Elements.{All-contains}
 use Rattle.mp_base.proofs.Members.{Member, member_contains, member_map, map_member, member_filter, filter_member}
+use Rattle.mp_base.proofs.Members.{member_append, append_left, append_right}
 use Rattle.nor_net.specs.declared.net.Part.{Part}
 use Rattle.nor_net.specs.declared.net.Part.TheVariants.{Input, Gate, Latch}
 use Rattle.nor_net.specs.Shape.{IsNet}
@@ -15,7 +16,6 @@ use Rattle.array_form.specs.declared.band.Tap.{Tap}
 use Rattle.array_form.specs.declared.band.Band.{Band}
 use Rattle.array_form.specs.Homes.{Columns, home, end_of}
 use Rattle.array_form.specs.Place.{is_input, part_is, is_stub, columns_in, intervals_in, IsBandOf}
-use Rattle.array_form.proofs.Members.{member_append, append_left, append_right}
 use Rattle.array_form.proofs.Listing.{same_from, same_to}
 use Rattle.array_form.proofs.Homes.{count_most}
 use Rattle.array_form.proofs.Room.{part_homed, stub_homed}

@@ -1,11 +1,11 @@
 -- What the pins of a band are.
 use Rattle.std.proofs.Common.{◌≡◌, inl, inr, ℕ, ◌<◌, List, ◌++◌, length, subst, arith}
 use Rattle.std.specs.List.{range_with_len}
-use Rattle.mp_base.proofs.Members.{Member, member_map, map_member, range_members, range_has}
+use Rattle.mp_base.proofs.Members.{Member, member_map, map_member, range_members, range_has, member_append}
+use Rattle.mp_base.proofs.Members.{append_left, append_right}
 use Rattle.nor_net.specs.declared.net.Part.{Part}
 use Rattle.array_form.specs.declared.band.Tap.{Tap}
 use Rattle.array_form.specs.declared.band.Band.{Band}
-use Rattle.array_form.proofs.Members.{member_append, append_left, append_right}
 use Rattle.band_lists.specs.declared.pins.Pin.{Pin}
 use Rattle.band_lists.specs.Pins.{net_pins, phase_pin, phase_pins}
 use Rattle.band_lists.proofs.NetPins.{IsNetPin, net_pin_is, net_pin_in}

@@ -15,7 +15,8 @@ returns-in_default-clause-turned c =
     let p = c.requires.short in
     let e : to_z w64 (of_z w64 c.twice_more.result) ≡ pos 2 *ℤ c.args.by.x = omega (arith, ints) in
     uneven (scale_of c.args.ratio) c.args.by
-    (λ w. c.in_default.ensures.uneven w.0.0 (subst (λ v. IsScaled (scale_of c.args.ratio) v w.0.0) (sym e) w.0.1))
+    (λ ((x, scaled), _). c.in_default.ensures.uneven x
+    (subst (λ v. IsScaled (scale_of c.args.ratio) v x) (sym e) scaled))
 
 pub returns-in_default-scaled-clause-turned : goal.returns-in_default-scaled-clause-turned
 returns-in_default-scaled-clause-turned c =
@@ -24,8 +25,8 @@ returns-in_default-scaled-clause-turned c =
     let p = c.requires.short in
     let e : to_z w64 (of_z w64 c.twice_more-2.result) ≡ pos 2 *ℤ c.args.by.y = omega (arith, ints) in
     uneven (scale_of c.args.ratio) c.args.by
-    (λ w. c.in_default-scaled.ensures.uneven w.1.0
-    (subst (λ v. IsScaled (scale_of c.args.ratio) v w.1.0) (sym e) w.1.1))
+    (λ (_, (y, scaled)). c.in_default-scaled.ensures.uneven y
+    (subst (λ v. IsScaled (scale_of c.args.ratio) v y) (sym e) scaled))
 
 pub returns : goal.returns
 returns c =

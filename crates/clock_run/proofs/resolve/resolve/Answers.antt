@@ -4,7 +4,7 @@ use Rattle.mp_base.specs.declared.refusal.Spot.TheVariants.{Named}
 use Rattle.switch_net.specs.declared.network.Tag.{Tag}
 use Rattle.switch_net.specs.Clock.{IsLabelled}
 use Rattle.switch_net.specs.Breaks.{broken}
-use Rattle.clock_run.specs.Numbers.{number_of}
+use Rattle.switch_net.specs.Names.{number_of}
 use Rattle.clock_run.proofs.Missing.{missing_here, labelled_more}
 use Rattle.clock_run.proofs.Naming.{IsNumberOf}
 use Rattle.clock_run.proofs.resolve.resolve.Goals as goal

@@ -1,5 +1,5 @@
 use Rattle.std.proofs.Common.{◌≡◌, ◌∙◌, ◌<◌, ◌^◌, length, subst, refl, arith}
-use Rattle.settle.specs.Values.{value_at}
+use Rattle.switch_net.specs.Values.{value_at}
 use Rattle.clock_run.proofs.Trits.{word_more, word_all}
 use Rattle.clock_run.proofs.word.word_of.Goals as goal
 

@@ -1,4 +1,4 @@
-use Rattle.settle.specs.Values.{value_at}
+use Rattle.switch_net.specs.Values.{value_at}
 use Rattle.clock_run.proofs.Trits.{IsWordOf}
 use Rattle.clock_run.proofs.word.word_of.Given as goal
 

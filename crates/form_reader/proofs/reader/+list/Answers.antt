@@ -37,10 +37,11 @@ group-returns-clause-reached t c =
     c.inside.result.outer c.args.start c.in_ok-items.field-0.end c.requires.reached
     c.inside.ensures.depth c.inside.ensures.later (listed.closed (omega (arith, c.inside.ensures.depth)))
 
-pub item-returns-then-nesting-eq-MAX_DEPTH-clause-first : goal.item-returns-then-nesting-eq-MAX_DEPTH-clause-first
-item-returns-then-nesting-eq-MAX_DEPTH-clause-first t c =
+pub item-returns-then-nesting-eq-NESTING_LIMIT-clause-first :
+    goal.item-returns-then-nesting-eq-NESTING_LIMIT-clause-first
+item-returns-then-nesting-eq-NESTING_LIMIT-clause-first t c =
     refuses_e5 c.args.bytes.now c.args.nesting.depth c.args.nesting.outer c.args.start c.broken.result
-    c.requires.reached c.if-nesting-eq-MAX_DEPTH.true
+    c.requires.reached c.if-nesting-eq-NESTING_LIMIT.true
     (c.requires.within, c.if-byte-eq40.true) c.broken.ensures
 
 pub item-returns-in_err-kind-clause-first : goal.item-returns-in_err-kind-clause-first

@@ -2,7 +2,7 @@ use Rattle.std.proofs.Common.{ap, arith, take, length-take}
 use Rattle.std.specs.Prelude.{not}
 use Rattle.mp_base.specs.declared.refusal.Place.{Place}
 use Rattle.std.proofs.lemmas.List.Sums.{suffix_len-le-length}
-use Rattle.form_reader.specs.Text.{is_feed}
+use Rattle.mp_base.specs.Lines.{is_feed}
 use Rattle.form_reader.proofs.text.behind.Goals as goal
 
 pub overflow_add-result-else-bytes-offset-eq10-2 : goal.overflow_add-result-else-bytes-offset-eq10-2

@@ -1,6 +1,6 @@
 use Rattle.std.proofs.Common.{◌∙◌, ap, subst}
 use Rattle.switch_net.proofs.Circuits.{breaks_nothing}
-use Rattle.settle.specs.Values.{value_at}
+use Rattle.switch_net.specs.Values.{value_at}
 use Rattle.clock_run.specs.Refused.{IsRefused}
 use Rattle.sim_run.proofs.Transcripts.{all_unknown}
 use Rattle.made_run.proofs.summing.circuit.Goals as goal

@@ -2,7 +2,8 @@ use Rattle.std.proofs.Common.{◌≡◌, ◌<◌, ◌≤◌, length, refl, sym, 
 use Rattle.mp_base.specs.declared.refusal.Place.{Place}
 use Rattle.mp_shapes.specs.Standing.{IsFirstE10}
 use Rattle.mp_shapes.proofs.Finding.{place_read}
-use Rattle.mp_shapes.proofs.Firsts.{no_form, second_form, refuses, refused_first, none_broken, rooted, no_items}
+use Rattle.mp_shapes.proofs.Firsts.{no_form, second_form, refuses, refused_first, none_broken, rooted}
+use Rattle.mp_base.proofs.Lists.{empty_of}
 use Rattle.mp_shapes.proofs.Firsts.{second_root, second_inside}
 use Rattle.mp_shapes.proofs.classes.judge_shapes.Goals as goal
 
@@ -10,7 +11,7 @@ pub returns-then-len-eq0-clause-err : goal.returns-then-len-eq0-clause-err
 returns-then-len-eq0-clause-err c =
     refuses c.no_shape.result c.args.forms.now.end
     (λ k at. (k ≡ 10) × IsFirstE10 c.args.forms.now at) c.no_shape.ensures
-    (refl, no_form c.args.forms.now (no_items c.args.forms.now.roots (sym c.len.ensures ∙ c.if-len-eq0.true)))
+    (refl, no_form c.args.forms.now (empty_of c.args.forms.now.roots (sym c.len.ensures ∙ c.if-len-eq0.true)))
 
 pub returns-in-Err-clause-err : goal.returns-in-Err-clause-err
 returns-in-Err-clause-err c = refused_first c.args.forms.now c.requires.sound c.in-Err.refusal c.in-Err.ensures.err

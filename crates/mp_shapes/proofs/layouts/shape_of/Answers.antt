@@ -1,6 +1,7 @@
 use Rattle.std.proofs.Common.{sym, ◌∙◌, ap}
 use Rattle.form_reader.specs.Sound.{items_of}
-use Rattle.mp_shapes.proofs.Finding.{items_inside, some_items}
+use Rattle.mp_shapes.proofs.Finding.{items_inside}
+use Rattle.mp_base.proofs.Lists.{some_items}
 use Rattle.mp_shapes.proofs.layouts.shape_of.Goals as goal
 
 pub kind_at-requires-in-Group : goal.kind_at-requires-in-Group

@@ -3,8 +3,10 @@ use Rattle.std.proofs.lemmas.List.{get_or_read}
 use Rattle.std.proofs.lemmas.Option.{slice_get-get_or}
 use Rattle.mp_base.specs.declared.refusal.Place.{Place}
 use Rattle.mp_base.proofs.Entries.{contains_from_get, get_from_contains}
-use Rattle.mp_transfers.specs.Tables.{join, entry, IsAmong}
-use Rattle.mp_transfers.proofs.Earliest.{Upto, earliest_same, earliest_itself, upto_join, upto_all, InAny}
+use Rattle.mp_transfers.specs.Tables.{entry, IsAmong}
+use Rattle.mp_rules.specs.Breaking.{earlier_of}
+use Rattle.mp_transfers.proofs.Earliest.{Upto, earliest_itself, upto_join, upto_all, InAny}
+use Rattle.mp_rules.proofs.EarliestPlaces.{earliest_same}
 use Rattle.mp_transfers.proofs.tables.least.Goals as goal
 
 pub loop-form-preserved : goal.loop-form-preserved
@@ -16,7 +18,7 @@ loop-form-preserved c =
     let P : Option Place
     → Type 0 = Upto (λ at. c.args.found ≡ Some at) c.args.forms.now (λ k f at. entry c.args.table.now f ≡ Some at)
     (i + 1) in
-    subst P (sym (c.join-found.ensures ∙ ap (join c.loop-form.found) e))
+    subst P (sym (c.earlier_of-found.ensures ∙ ap (earlier_of c.loop-form.found) e))
     (upto_join c.loop-form.invariant x (slice_get-get_or c.args.forms.now i 0 (omega arith)) (entry c.args.table.now x)
     (earliest_itself (entry c.args.table.now x)))
 

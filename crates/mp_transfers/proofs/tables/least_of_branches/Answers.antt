@@ -5,7 +5,8 @@ use Rattle.mp_program.specs.declared.program.Branch.{Branch}
 use Rattle.mp_rules.specs.Breaking.{IsEarliest}
 use Rattle.mp_base.proofs.Entries.{entry}
 use Rattle.mp_transfers.specs.Tables.{IsAmong}
-use Rattle.mp_transfers.proofs.Earliest.{upto_then, upto_all, InAny, earliest_same}
+use Rattle.mp_transfers.proofs.Earliest.{upto_then, upto_all, InAny}
+use Rattle.mp_rules.proofs.EarliestPlaces.{earliest_same}
 use Rattle.mp_transfers.proofs.Lists.{all_flat, flat_in, flat_out}
 use Rattle.mp_transfers.proofs.tables.least_of_branches.Goals as goal
 

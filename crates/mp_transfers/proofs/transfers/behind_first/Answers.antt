@@ -4,7 +4,8 @@ use Rattle.std.proofs.lemmas.List.{get_or_read}
 use Rattle.std.proofs.lemmas.Option.{slice_get-get_or}
 use Rattle.mp_base.specs.declared.refusal.Place.{Place}
 use Rattle.mp_base.specs.Entries.{IsAt}
-use Rattle.mp_transfers.specs.Tables.{join, entry}
+use Rattle.mp_transfers.specs.Tables.{entry}
+use Rattle.mp_rules.specs.Breaking.{earlier_of}
 use Rattle.mp_transfers.proofs.Entries.{Run, run_on, run_first, run_all}
 use Rattle.mp_transfers.proofs.transfers.behind_first.Goals.{then-begun, else-begun}
 use Rattle.mp_transfers.proofs.transfers.behind_first.Goals as goal
@@ -23,7 +24,7 @@ loop-form-preserved c =
           let Q : Bool → Type 0 = λ b. P b c.if-begun.found in
           let R : Option Place → Type 0 = P c.loop-form.begun in
           subst Q (sym w.begun-is)
-          (subst R (sym (w.found-is ∙ w.join-found.ensures ∙ ap (join c.loop-form.found) e))
+          (subst R (sym (w.found-is ∙ w.earlier_of-found.ensures ∙ ap (earlier_of c.loop-form.found) e))
           (run_on c.loop-form.invariant x at w.if-begun.true))
       | else-begun w ↦
           let Q : Bool → Type 0 = λ b. P b c.if-begun.found in

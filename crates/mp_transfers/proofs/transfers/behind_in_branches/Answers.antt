@@ -4,7 +4,8 @@ use Rattle.mp_program.specs.declared.program.Branch.{Branch}
 use Rattle.mp_base.proofs.Entries.{entry, map_get, get_map, contains_from_get, get_from_contains}
 use Rattle.mp_rules.specs.Breaking.{IsEarliest}
 use Rattle.mp_transfers.specs.Tables.{IsBehind, IsBehindInOne}
-use Rattle.mp_transfers.proofs.Earliest.{upto_then, upto_all, InAny, earliest_same}
+use Rattle.mp_transfers.proofs.Earliest.{upto_then, upto_all, InAny}
+use Rattle.mp_rules.proofs.EarliestPlaces.{earliest_same}
 use Rattle.mp_transfers.proofs.Lists.{all_flat}
 use Rattle.mp_transfers.proofs.transfers.behind_in_branches.Goals as goal
 

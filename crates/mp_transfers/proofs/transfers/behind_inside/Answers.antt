@@ -6,7 +6,7 @@ use Rattle.mp_program.specs.declared.program.Branch.{Branch}
 use Rattle.mp_rules.specs.Breaking.{IsEarliest}
 use Rattle.mp_rules.specs.Standing.{sequences}
 use Rattle.mp_transfers.specs.Tables.{IsBehind, IsBehindInOne}
-use Rattle.mp_transfers.proofs.Earliest.{earliest_same}
+use Rattle.mp_rules.proofs.EarliestPlaces.{earliest_same}
 use Rattle.mp_transfers.proofs.transfers.behind_inside.Goals as goal
 
 only_one : (table : List (Option Place)) (forms : List ℕ) (at : Place) → IsBehindInOne table (forms ∷ []) at

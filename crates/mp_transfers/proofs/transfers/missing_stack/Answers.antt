@@ -5,7 +5,8 @@ use Rattle.mp_base.specs.Entries.{IsAt}
 use Rattle.mp_base.proofs.Entries.{entry}
 use Rattle.mp_rules.specs.Breaking.{IsEarliest}
 use Rattle.mp_transfers.specs.Tables.{IsAmong}
-use Rattle.mp_transfers.proofs.Earliest.{Upto, upto_then, upto_skip, upto_all, earliest_same}
+use Rattle.mp_transfers.proofs.Earliest.{Upto, upto_then, upto_skip, upto_all}
+use Rattle.mp_rules.proofs.EarliestPlaces.{earliest_same}
 use Rattle.mp_transfers.proofs.Broken.{stack_broken}
 use Rattle.mp_transfers.proofs.transfers.missing_stack.Goals.{then-is_stackless, else-is_stackless}
 use Rattle.mp_transfers.proofs.transfers.missing_stack.Goals as goal

@@ -8,7 +8,8 @@ use Rattle.mp_base.specs.Entries.{IsAt}
 use Rattle.mp_rules.specs.Breaking.{earlier}
 use Rattle.mp_base.proofs.Entries.{some_entry, one_entry}
 use Rattle.mp_transfers.specs.Labels.{IsAstray}
-use Rattle.mp_transfers.proofs.Earliest.{Upto, upto_join, upto_skip, earliest_one, earliest_same}
+use Rattle.mp_transfers.proofs.Earliest.{Upto, upto_join, upto_skip}
+use Rattle.mp_rules.proofs.EarliestPlaces.{earliest_at, earliest_same}
 use Rattle.mp_transfers.proofs.Astray.{StraysAt, astray_all}
 use Rattle.mp_transfers.proofs.unknown.astray_in.Goals.{then-marks-f+then-is_astray, else-marks-f}
 use Rattle.mp_transfers.proofs.unknown.astray_in.Goals.{else-marks-f-via-then-marks-f+else-is_astray}
@@ -33,7 +34,7 @@ loop-f-preserved c =
           (get_or_default c.as_slice-forms.result.now f w.index-forms-f-then-is_astray.result w.index-forms-f.result
           lt)))
           (upto_join c.loop-f.invariant y at (Some y.place)
-          (earliest_same (λ here. here ≡ y.place) (R f y) (Some y.place) (earliest_one y.place)
+          (earliest_same (λ here. here ≡ y.place) (R f y) (Some y.place) (earliest_at y.place)
           (λ here same. (c.loop-f.auto.f, c.loop-f-test.true, w.if-marks-f.true, astray, same)) (λ here r. r.4)))
       | else-marks-f w ↦
           let (y, at) = some_entry c.args.program.now.forms f (omega (arith, lt, ap length c.as_slice-forms.ensures)) in

@@ -1,7 +1,7 @@
 use Rattle.std.proofs.Common.{◌≡◌, ℕ, List, get_or, length, ap, subst, arith}
 use Rattle.std.proofs.lemmas.Bool.{iff_false}
 use Rattle.switch_net.specs.Settled.{MayBeOn}
-use Rattle.node_clusters.specs.Values.{value_at}
+use Rattle.switch_net.specs.Values.{value_at}
 use Rattle.node_clusters.specs.Board.{setting_of}
 use Rattle.node_clusters.specs.Spread.{IsSource, Borders}
 use Rattle.node_clusters.proofs.Picking.{each_more, each_all}

@@ -1,6 +1,6 @@
 use Rattle.std.proofs.Common.{◌<◌, ℕ, get_or}
 use Rattle.switch_net.specs.Settled.{MayBeOn}
-use Rattle.node_clusters.specs.Values.{value_at}
+use Rattle.switch_net.specs.Values.{value_at}
 use Rattle.node_clusters.specs.Board.{setting_of}
 use Rattle.node_clusters.specs.Spread.{IsSource, Borders}
 use Rattle.node_clusters.proofs.give.meets.Given as goal

@@ -1,5 +1,5 @@
 use Rattle.std.proofs.lemmas.Bool.{iff_false}
-use Rattle.node_clusters.specs.Values.{value_at}
+use Rattle.switch_net.specs.Values.{value_at}
 use Rattle.node_clusters.specs.Board.{setting_of}
 use Rattle.node_clusters.proofs.Giving.{given_opposed, given_held, given_kept, given_mixed}
 use Rattle.node_clusters.proofs.give.tell_given.Goals as goal

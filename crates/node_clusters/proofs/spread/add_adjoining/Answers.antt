@@ -1,7 +1,7 @@
 use Rattle.std.proofs.Common.{◌≡◌, ◌+◌, ◌∙◌, ℕ, List, length, get_or, refl, sym, ap, subst, arith}
 use Rattle.std.proofs.lemmas.Bool.{iff_false}
 use Rattle.mp_base.proofs.Entries.{contains_from_get}
-use Rattle.node_clusters.specs.Values.{value_at}
+use Rattle.switch_net.specs.Values.{value_at}
 use Rattle.node_clusters.specs.Board.{setting_of}
 use Rattle.node_clusters.specs.Links.{listed}
 use Rattle.node_set.specs.Nodes.{Nodes}

@@ -1,6 +1,6 @@
 use Rattle.std.proofs.Common.{◌∙◌, ◌+◌, ℕ, List, take, get_or, sym, ap, subst, arith}
 use Rattle.std.proofs.lemmas.List.{get_or_default}
-use Rattle.node_clusters.specs.Values.{driver_at}
+use Rattle.switch_net.specs.Values.{driver_at}
 use Rattle.node_set.specs.Nodes.{Nodes}
 use Rattle.node_clusters.specs.Spread.{AddsEnds}
 use Rattle.node_clusters.proofs.Listing.{none_from, not_none_from}

@@ -1,5 +1,5 @@
 use Rattle.std.proofs.Common.{◌≡◌, take}
-use Rattle.node_clusters.specs.Values.{driver_at}
+use Rattle.switch_net.specs.Values.{driver_at}
 use Rattle.node_clusters.specs.Spread.{AddsEnds}
 use Rattle.node_clusters.proofs.spread.add_ends.Given as goal
 

@@ -1,6 +1,6 @@
 use Rattle.std.proofs.Common.{◌<◌, ℕ, get_or}
 use Rattle.switch_net.specs.declared.network.Channel.{Channel}
-use Rattle.node_clusters.specs.Values.{value_at}
+use Rattle.switch_net.specs.Values.{value_at}
 use Rattle.node_clusters.specs.Board.{setting_of}
 use Rattle.node_clusters.specs.Links.{listed}
 use Rattle.node_clusters.specs.Spread.{Uses, IsSource}

@@ -1,4 +1,4 @@
-use Rattle.node_clusters.specs.Values.{value_at}
+use Rattle.switch_net.specs.Values.{value_at}
 use Rattle.node_clusters.specs.Board.{setting_of}
 use Rattle.node_clusters.proofs.Spreading.{holds_reached}
 use Rattle.node_clusters.proofs.spread.spread.Goals as goal

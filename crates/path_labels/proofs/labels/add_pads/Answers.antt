@@ -12,7 +12,7 @@ none = record { 0 = 0 }
 
 pub bounds-nets-index : goal.bounds-nets-index
 bounds-nets-index c =
-    let long = c.requires.entries.1.0 in let t = c.loop-index-test.true in omega (arith, long, t)
+    let (_, (long, _, _)) = c.requires.entries in let t = c.loop-index-test.true in omega (arith, long, t)
 
 pub add_pad-requires-clause-entry : goal.add_pad-requires-clause-entry
 add_pad-requires-clause-entry c =
@@ -29,7 +29,7 @@ loop-index-preserved c =
     let q = c.index-pads-index.result in
     let now = c.loop-index.labels in
     let new = c.add_pad.new.labels in
-    let long = c.requires.entries.1.0 in
+    let (_, (long, _, _)) = c.requires.entries in
     let t = c.loop-index-test.true in
     let added : Adds p f (pad_points (get_or pads i q) (get_or nets i none)) (bit_labels (get_or pads i q)) now new =
     subst (λ (pad : Pad). Adds p f (pad_points pad (get_or nets i none)) (bit_labels pad) now new)
@@ -38,7 +38,7 @@ loop-index-preserved c =
 
 pub returns : goal.returns
 returns c =
-    let long = c.requires.entries.1.0 in
+    let (_, (long, _, _)) = c.requires.entries in
     let t = c.loop-index-test.false in
     all_added c.args.path.now c.args.fabric.now c.args.pads.now c.args.nets.now c.args.labels.now c.loop-index.index
     c.loop-index.labels (omega (arith, t)) (omega (arith, long, t)) c.loop-index.invariant

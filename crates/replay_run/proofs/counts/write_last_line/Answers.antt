@@ -6,7 +6,7 @@ use Rattle.outside.specs.Outside.{Gains}
 use Rattle.outside.specs.Piece.{TakesAll}
 use Rattle.outside.proofs.Written.{written_then}
 use Rattle.outside.proofs.CutTexts.{cut_at}
-use Rattle.settle.specs.Values.{value_at}
+use Rattle.switch_net.specs.Values.{value_at}
 use Rattle.switch_net.specs.Sizes.{nodes_with}
 use Rattle.mask_net.specs.SizeLine.{counts_text, size_text}
 use Rattle.replay_run.proofs.Causes.{cause_behind, cause_passed}

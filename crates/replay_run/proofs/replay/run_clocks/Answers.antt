@@ -1,6 +1,6 @@
 use Rattle.std.proofs.Common.{◌≡◌, ◌∙◌, length, ap}
 use Rattle.std.proofs.lemmas.Result.{err_from_is_err_and}
-use Rattle.settle.specs.Values.{value_at}
+use Rattle.switch_net.specs.Values.{value_at}
 use Rattle.switch_net.specs.declared.network.Network.{Network}
 use Rattle.replay_run.proofs.Causes.{cause_behind, cause_passed}
 use Rattle.replay_run.proofs.Replaying.{cut_in_lines, line_behind}

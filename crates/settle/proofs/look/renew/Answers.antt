@@ -2,7 +2,7 @@ use Rattle.std.proofs.Common.{◌≡◌, ◌∙◌, [], ℕ, List, get_or, lengt
 use Rattle.std.proofs.lemmas.List.{get_or_default}
 use Rattle.mp_base.specs.declared.value.Trit.{Trit}
 use Rattle.mp_base.specs.declared.value.Trit.TheVariants.{X}
-use Rattle.node_clusters.specs.Values.{value_at, driver_at}
+use Rattle.switch_net.specs.Values.{value_at, driver_at}
 use Rattle.node_clusters.specs.Links.{listed}
 use Rattle.settle.specs.Wake.{IsVerdict, Wakes}
 use Rattle.settle.proofs.Waking.{renews_none, renews_same, renews_more, renews_all}

@@ -1,4 +1,4 @@
-use Rattle.node_clusters.specs.Values.{driver_at}
+use Rattle.switch_net.specs.Values.{driver_at}
 use Rattle.settle.proofs.Waking.{RenewsFirst}
 use Rattle.settle.proofs.look.renew.Given as goal
 

@@ -1,4 +1,4 @@
-use Rattle.node_clusters.specs.Values.{value_at}
+use Rattle.switch_net.specs.Values.{value_at}
 use Rattle.node_clusters.specs.Board.{setting_of}
 use Rattle.settle.proofs.Waking.{mark_at}
 use Rattle.settle.proofs.scan.settle_in_order.Goals as goal

@@ -2,7 +2,7 @@ use Rattle.std.proofs.Common.{◌≡◌, ◌<◌, ◌∙◌, [], ℕ, List, Some
 use Rattle.std.proofs.Math.ListN.{set}
 use Rattle.std.proofs.lemmas.List.{get_or_default, get_or-set_same, get_or-set_other, length-set}
 use Rattle.mp_base.specs.declared.value.Trit.TheVariants.{X}
-use Rattle.node_clusters.specs.Values.{driver_at}
+use Rattle.switch_net.specs.Values.{driver_at}
 use Rattle.settle.specs.Wake.{Wakes}
 use Rattle.settle.proofs.Waking.{marked_here, widens_mark, widens_then, wakes_wider}
 use Rattle.settle.proofs.start.change.Goals as goal

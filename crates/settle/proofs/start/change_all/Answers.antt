@@ -1,6 +1,6 @@
 use Rattle.std.proofs.Common.{◌≡◌, ◌∙◌, arith, None}
 use Rattle.std.proofs.lemmas.List.{get_or_default}
-use Rattle.node_clusters.specs.Values.{driver_at}
+use Rattle.switch_net.specs.Values.{driver_at}
 use Rattle.settle.proofs.Starting.{redrives_none, redrives_same, redrives_more}
 use Rattle.settle.proofs.start.change_all.Goals as goal
 use Rattle.settle.proofs.start.change_all.Goals.{then-not-is_same, else-not-is_same}

@@ -1,6 +1,6 @@
 use Rattle.std.proofs.Common.{List, ◌∙◌, subst, sym}
 use Rattle.mp_base.specs.declared.value.Trit.{Trit}
-use Rattle.node_clusters.specs.Values.{value_at, driver_at}
+use Rattle.switch_net.specs.Values.{value_at, driver_at}
 use Rattle.settle.specs.Start.{IsReady}
 use Rattle.settle.proofs.Starting.{redrives_ready}
 use Rattle.settle.proofs.start.redrive.Goals as goal

@@ -1,6 +1,7 @@
 use Rattle.std.proofs.Common.{◌≡◌, ◌<◌, ℕ, Some, None}
 use Rattle.mp_base.specs.declared.value.Trit.{Trit}
-use Rattle.node_clusters.specs.Values.{value_at, driver_at, IsMarked}
+use Rattle.node_clusters.specs.Values.{IsMarked}
+use Rattle.switch_net.specs.Values.{value_at, driver_at}
 use Rattle.settle.proofs.start.wake_all.Given as goal
 
 abbrev pub invariant-loop-node : goal.invariant-loop-node

@@ -1,7 +1,7 @@
 use Rattle.std.proofs.Common.{◌≡◌, get_or, arith}
 use Rattle.std.proofs.lemmas.List.{get_or_default}
 use Rattle.std.proofs.lemmas.Bool.{iff_false}
-use Rattle.node_clusters.specs.Values.{driver_at}
+use Rattle.switch_net.specs.Values.{driver_at}
 use Rattle.settle.proofs.Waking.{wakes_none, wakes_more, wakes_skip, wakes_all}
 use Rattle.settle.proofs.wake.wake.Goals as goal
 use Rattle.settle.proofs.wake.wake.Goals.{then-is_undriven, else-is_undriven}

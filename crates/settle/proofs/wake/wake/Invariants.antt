@@ -1,4 +1,4 @@
-use Rattle.node_clusters.specs.Values.{driver_at}
+use Rattle.switch_net.specs.Values.{driver_at}
 use Rattle.settle.proofs.Waking.{WakesFirst}
 use Rattle.settle.proofs.wake.wake.Given as goal
 

@@ -1,6 +1,6 @@
 use Rattle.std.proofs.Common.{◌≡◌, ◌∙◌, [], ℕ, List, length, refl, ap, arith}
 use Rattle.std.proofs.lemmas.List.{get_or_default}
-use Rattle.node_clusters.specs.Values.{driver_at}
+use Rattle.switch_net.specs.Values.{driver_at}
 use Rattle.node_clusters.specs.Links.{listed}
 use Rattle.settle.proofs.Waking.{beside_none, beside_all}
 use Rattle.settle.proofs.wake.wake_beside.Goals as goal

@@ -1,4 +1,4 @@
-use Rattle.node_clusters.specs.Values.{driver_at}
+use Rattle.switch_net.specs.Values.{driver_at}
 use Rattle.node_clusters.specs.Links.{listed}
 use Rattle.settle.proofs.Waking.{BesideFirst}
 use Rattle.settle.proofs.wake.wake_beside.Given as goal

@@ -2,7 +2,7 @@ use Rattle.std.proofs.Common.{ℕ, List, inl, inr, subst}
 use Rattle.std.specs.Prelude.{Contains, ◌≢◌}
 use Rattle.mp_base.specs.declared.value.Trit.{Trit}
 use Rattle.mp_base.specs.declared.value.Trit.TheVariants.{X}
-use Rattle.node_clusters.specs.Values.{value_at}
+use Rattle.switch_net.specs.Values.{value_at}
 use Rattle.node_clusters.specs.Board.{setting_of}
 use Rattle.settle_events.proofs.Climbing.{stuck_from}
 use Rattle.settle_events.proofs.evaluate.evaluate.Goals as goal

@@ -3,7 +3,7 @@ use Rattle.std.specs.Prelude.{Contains, ◌≢◌}
 use Rattle.std.proofs.lemmas.List.{get_or_default, take_all}
 use Rattle.std.proofs.lemmas.Bool.{iff_false}
 use Rattle.mp_base.specs.declared.value.Trit.TheVariants.{X}
-use Rattle.node_clusters.specs.Values.{value_at}
+use Rattle.switch_net.specs.Values.{value_at}
 use Rattle.settle_events.proofs.Climbing.{writes_more, writes_skip}
 use Rattle.settle_events.proofs.evaluate.write.Goals as goal
 use Rattle.settle_events.proofs.evaluate.write.Goals.{then-is_unknown, else-is_unknown}

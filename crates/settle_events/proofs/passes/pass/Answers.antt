@@ -1,6 +1,6 @@
 use Rattle.std.proofs.Common.{◌+◌, arith}
 use Rattle.std.proofs.lemmas.Bool.{iff_false}
-use Rattle.node_clusters.specs.Values.{value_at}
+use Rattle.switch_net.specs.Values.{value_at}
 use Rattle.node_clusters.specs.Board.{setting_of}
 use Rattle.settle_events.proofs.Climbing.{climbs_step}
 use Rattle.settle_events.proofs.Passing.{passes_skip, passes_more, passes_look}

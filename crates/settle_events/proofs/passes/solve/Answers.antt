@@ -2,7 +2,7 @@ use Rattle.std.proofs.Common.{inl, inr, None, arith}
 use Rattle.std.proofs.lemmas.Bool.{cases_lt}
 use Rattle.std.proofs.lemmas.List.{get_or_past}
 use Rattle.mp_base.specs.declared.value.Trit.TheVariants.{X}
-use Rattle.node_clusters.specs.Values.{value_at}
+use Rattle.switch_net.specs.Values.{value_at}
 use Rattle.node_clusters.specs.Board.{setting_of}
 use Rattle.node_clusters.proofs.Unknown.{past_nodes}
 use Rattle.settle_events.proofs.Climbing.{climbs_start, settled_from}

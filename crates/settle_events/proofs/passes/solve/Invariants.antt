@@ -1,4 +1,4 @@
-use Rattle.node_clusters.specs.Values.{value_at}
+use Rattle.switch_net.specs.Values.{value_at}
 use Rattle.node_clusters.specs.Board.{setting_of, nodes_of}
 use Rattle.settle_events.specs.Climb.{unknown, Climbs}
 use Rattle.node_clusters.specs.Rooms.{HaveRoom}

@@ -1,7 +1,7 @@
 use Rattle.std.proofs.Common.{◌≡◌, ◌<◌, ℕ}
 use Rattle.std.specs.Prelude.{unwrap_or}
 use Rattle.mp_base.specs.declared.value.Trit.TheVariants.{X}
-use Rattle.node_clusters.specs.Values.{value_at, driver_at}
+use Rattle.switch_net.specs.Values.{value_at, driver_at}
 use Rattle.settle_events.proofs.passes.start.Given as goal
 
 abbrev pub invariant-loop-n : goal.invariant-loop-n

@@ -1,5 +1,6 @@
 use Rattle.std.proofs.Common.{◌<◌, ℕ}
-use Rattle.settle_order.specs.Order.{Fits, demand_at, driver_at}
+use Rattle.settle_order.specs.Order.{Fits, demand_at}
+use Rattle.switch_net.specs.Values.{driver_at}
 use Rattle.settle_order.proofs.order.serves.Given as goal
 
 abbrev pub invariant-loop-node : goal.invariant-loop-node

@@ -1,11 +1,11 @@
 use Rattle.std.proofs.Common.{arith}
 use Rattle.std.proofs.lemmas.Int.{ints}
 use Rattle.lam_geom.specs.Moves.{shifted}
-use Rattle.slice_symbols.proofs.Lifting.{equal_sides}
+use Rattle.lam_geom.proofs.Rects.{same_rect}
 use Rattle.slice_symbols.proofs.bands.lowered.Goals as goal
 
 pub returns-clause-back : goal.returns-clause-back
 unfolding shifted
 returns-clause-back c =
-    equal_sides _ _ _ _ _ _ _ _ _ (omega (arith, ints)) (omega (arith, ints)) (omega (arith, ints))
+    same_rect _ _ _ _ _ _ _ _ _ (omega (arith, ints)) (omega (arith, ints)) (omega (arith, ints))
     (omega (arith, ints))

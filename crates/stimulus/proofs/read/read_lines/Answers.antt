@@ -9,7 +9,8 @@ use Rattle.std.proofs.lemmas.Result.{err_from_is_err_and}
 use Rattle.mp_base.specs.declared.pad.Pads.{Pads}
 use Rattle.stimulus_lines.specs.declared.piece.Piece.{Piece}
 use Rattle.stimulus.specs.declared.reading.Reading.{Reading}
-use Rattle.stimulus_lines.specs.Words.{is_feed, words_of, words_of_lines, kept_before}
+use Rattle.stimulus_lines.specs.Words.{words_of, words_of_lines, kept_before}
+use Rattle.mp_base.specs.Lines.{is_feed}
 use Rattle.stimulus.specs.Rules.{IsFault}
 use Rattle.stimulus.specs.Reading.{Reads, FirstBroken}
 use Rattle.stimulus.proofs.Adding.{fault_at}

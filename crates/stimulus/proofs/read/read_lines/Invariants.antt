@@ -2,7 +2,8 @@ use Rattle.std.proofs.Common.{ℕ, ◌≤◌, ◌-◌, length, drop}
 use Rattle.std.specs.List.{slice_split}
 use Rattle.std.specs.Option.{option_copied}
 use Rattle.stimulus.specs.declared.reading.Reading.{Reading}
-use Rattle.stimulus_lines.specs.Words.{is_feed, lines, words_of_lines}
+use Rattle.stimulus_lines.specs.Words.{lines, words_of_lines}
+use Rattle.mp_base.specs.Lines.{is_feed}
 use Rattle.stimulus.specs.Reading.{nothing, Reads, FirstBroken}
 use Rattle.stimulus.proofs.read.read_lines.Given as goal
 

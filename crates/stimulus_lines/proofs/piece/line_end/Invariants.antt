@@ -1,5 +1,5 @@
 use Rattle.std.proofs.Common.{◌≡◌, ℕ, ◌<◌, ◌≤◌, false, slice_index}
-use Rattle.stimulus_lines.specs.Words.{is_feed}
+use Rattle.mp_base.specs.Lines.{is_feed}
 use Rattle.stimulus_lines.proofs.piece.line_end.Given as goal
 
 abbrev pub invariant-loop-i : goal.invariant-loop-i

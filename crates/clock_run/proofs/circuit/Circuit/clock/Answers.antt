@@ -1,7 +1,7 @@
 use Rattle.std.proofs.Common.{◌∙◌, subst}
 use Rattle.std.specs.List.{AllZip}
 use Rattle.mp_base.specs.declared.pad.Pads.{Pads}
-use Rattle.settle.specs.Values.{value_at}
+use Rattle.switch_net.specs.Values.{value_at}
 use Rattle.switch_net.specs.Clock.{Shows}
 use Rattle.stimulus.specs.Bits.{trits_of}
 use Rattle.clock_run.proofs.Clocking.{six_settings}

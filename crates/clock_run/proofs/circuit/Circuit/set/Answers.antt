@@ -7,7 +7,7 @@ use Rattle.mp_base.specs.declared.value.Trit.{Trit}
 use Rattle.mp_base.specs.declared.pad.Pad.{Pad}
 use Rattle.mp_base.specs.PadNames.{supplies}
 use Rattle.mp_base.proofs.Zips.{zip_length}
-use Rattle.settle.specs.Values.{value_at}
+use Rattle.switch_net.specs.Values.{value_at}
 use Rattle.mp_base.specs.PadBits.{Fit, bit_count}
 use Rattle.switch_net.specs.Clock.{SettlesTo, drives}
 use Rattle.clock_run.specs.Settings.{phases_of, levels}

@@ -4,7 +4,7 @@ use Rattle.std.proofs.lemmas.List.{get_or_default, length-set}
 use Rattle.mp_base.specs.declared.value.Trit.{Trit}
 use Rattle.mp_base.specs.declared.value.TritWord.{TritWord}
 use Rattle.mp_base.proofs.Zips.{zip_length}
-use Rattle.settle.specs.Values.{value_at}
+use Rattle.switch_net.specs.Values.{value_at}
 use Rattle.clock_run.specs.Circuit.{Running}
 use Rattle.stimulus.specs.Bits.{low_trits}
 use Rattle.clock_run.specs.Plan.{AreNodesOf}

@@ -1,6 +1,6 @@
 use Rattle.std.proofs.Common.{◌≡◌, length, take}
 use Rattle.std.specs.List.{AllZip}
-use Rattle.settle.specs.Values.{value_at}
+use Rattle.switch_net.specs.Values.{value_at}
 use Rattle.clock_run.proofs.Showing.{IsShown}
 use Rattle.clock_run.proofs.circuit.Circuit.show.Given as goal
 

@@ -1,12 +1,8 @@
-use Rattle.std.proofs.Common.{◌≡◌, ◌∙◌, ◌/◌, ◌%◌, ◌<◌, ◌^◌, Bool, true, false, refl, arith}
-use mir.Val.{bool_byte}
-use Rattle.cover_tree.specs.Kinds.{bit, index}
+use Rattle.std.proofs.Common.{◌∙◌, ◌/◌, ◌%◌, ◌<◌, ◌^◌, refl, arith}
+use Rattle.cover_tree.specs.Kinds.{index}
+use Rattle.mp_base.proofs.Tests.{same_byte}
 use Rattle.cover_tree.proofs.Colours.{low_shared, middle_shared, high_shared}
 use Rattle.cover_tree.proofs.kinds.Kinds.colour.Goals as goal
-
-same_byte : (b : Bool) → bool_byte b ≡ bit b
-same_byte true = refl
-same_byte false = refl
 
 -- src/kinds.rt
 pub returns-in_err-low-clause-none : goal.returns-in_err-low-clause-none

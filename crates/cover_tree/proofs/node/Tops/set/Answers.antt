@@ -1,13 +1,8 @@
-use Rattle.std.proofs.Common.{◌≡◌, Bool, true, false, refl}
+use Rattle.std.proofs.Common.{refl}
 use Rattle.std.specs.Prelude.{nat_lt}
-use mir.Val.{bool_byte}
-use Rattle.cover_tree.specs.Kinds.{bit}
+use Rattle.mp_base.proofs.Tests.{same_byte}
 use Rattle.cover_tree.proofs.Sets.{set_layers}
 use Rattle.cover_tree.proofs.node.Tops.set.Goals as goal
-
-same_byte : (b : Bool) → bool_byte b ≡ bit b
-same_byte true = refl
-same_byte false = refl
 
 -- src/node.rt
 pub returns : goal.returns

@@ -2,7 +2,7 @@ use Rattle.std.proofs.Common.{◌≡◌, ◌∙◌, ◌++◌, ℕ, List, Option,
 use Rattle.std.proofs.lemmas.List.{take_at}
 use Rattle.mp_base.specs.declared.value.Trit.{Trit}
 use Rattle.switch_net.specs.Settled.{IsSettled}
-use Rattle.node_clusters.specs.Values.{value_at, driver_at}
+use Rattle.switch_net.specs.Values.{value_at, driver_at}
 use Rattle.node_clusters.specs.Links.{AreLinked, AreGated}
 use Rattle.settle.specs.Settler.{Settling}
 use Rattle.settle.proofs.settler.Settler.settle.Goals as goal

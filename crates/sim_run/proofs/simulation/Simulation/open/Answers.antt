@@ -1,5 +1,5 @@
 use Rattle.std.proofs.Common.{◌∙◌, ap}
-use Rattle.settle.specs.Values.{value_at}
+use Rattle.switch_net.specs.Values.{value_at}
 use Rattle.sim_run.proofs.Transcripts.{all_unknown}
 use Rattle.sim_run.proofs.simulation.Simulation.open.Goals as goal
 

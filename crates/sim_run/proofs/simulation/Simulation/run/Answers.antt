@@ -1,7 +1,7 @@
 use Rattle.std.proofs.Common.{◌≡◌, ◌∙◌, sym, subst}
 use Rattle.switch_net.specs.declared.network.Network.{Network}
 use Rattle.switch_net.specs.Breaks.{HasPads}
-use Rattle.settle.specs.Values.{value_at}
+use Rattle.switch_net.specs.Values.{value_at}
 use Rattle.transcript.specs.Running.{PrintsTranscript}
 use Rattle.sim_run.specs.Simulation.{Simulating}
 use Rattle.sim_run.specs.Transcript.{NetworkSteps}

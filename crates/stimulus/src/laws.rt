@@ -21,7 +21,7 @@ pub fn one_first_rule()
     ensures first { (text : List ℕ) (known : Option Pads) (j k : ℕ) (a b : Place) → IsFirst text known j a
         → IsFirst text known k b → (j ≡ k) × (a ≡ b) }
     ensures whole { (text : List ℕ) (known : Option Pads) (s : Stimulus) (k : ℕ) (at : Place) → IsStimulus text known s
-        → IsFirst text known k at → ⊥ }
+        → ¬ IsFirst text known k at }
 {}
 
 /// A text spells a stimulus, or breaks a rule first, at a place.

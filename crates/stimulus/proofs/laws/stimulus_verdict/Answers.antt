@@ -1,5 +1,5 @@
 use Rattle.stimulus.proofs.Verdict.{verdict}
-use Rattle.stimulus.proofs.law.stimulus_verdict.Goals as goal
+use Rattle.stimulus.proofs.laws.stimulus_verdict.Goals as goal
 
 pub returns : goal.returns
 returns c = verdict

@@ -2,7 +2,7 @@ use Rattle.std.proofs.Common.{◌∙◌, sym, ap}
 use Rattle.stimulus.specs.declared.reading.Reading.{Reading}
 use Rattle.stimulus.specs.Rules.{inputs_of, outputs_of}
 use Rattle.stimulus.proofs.Once.{same_readings}
-use Rattle.stimulus.proofs.law.one_stimulus.Goals as goal
+use Rattle.stimulus.proofs.laws.one_stimulus.Goals as goal
 
 pub returns-clause-inputs : goal.returns-clause-inputs
 returns-clause-inputs c = λ text known s t h k. h.inputs

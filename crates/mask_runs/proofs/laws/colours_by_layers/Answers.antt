@@ -1,6 +1,6 @@
-use Rattle.mask_runs.proofs.law.colours_by_layers.Goals as goal
+use Rattle.mask_runs.proofs.laws.colours_by_layers.Goals as goal
 use Rattle.mask_runs.proofs.Colouring.{by_layers}
 
--- src/law.rt
+-- src/laws.rt
 pub returns : goal.returns
 returns c = by_layers

@@ -1,6 +1,6 @@
-use Rattle.mask_runs.proofs.law.blank_without_needed.Goals as goal
+use Rattle.mask_runs.proofs.laws.blank_without_needed.Goals as goal
 use Rattle.mask_runs.proofs.Colouring.{without_needed}
 
--- src/law.rt
+-- src/laws.rt
 pub returns : goal.returns
 returns c = without_needed
