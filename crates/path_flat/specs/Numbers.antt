@@ -1,5 +1,6 @@
 -- Numbers of nets, in a row for each band.
-use Rattle.std.specs.Prelude.{◌≡◌, ◌<◌, ℕ, suc, List, [], Some, if◌then◌else◌, ◌==◌, length, slice_get, slice_index_or}
+use Rattle.std.specs.Prelude.{◌≡◌, ◌<◌, ◌+◌, ℕ, suc, List, [], Some, if◌then◌else◌, ◌==◌}
+use Rattle.std.specs.Prelude.{length, slice_get, slice_index_or}
 use Rattle.nor_net.specs.declared.net.NetId.{NetId}
 use Rattle.nor_net.specs.declared.net.Part.{Part}
 use Rattle.nor_net.specs.Elements.{Spot}
@@ -21,6 +22,12 @@ number_of rows n = slice_index_or (slice_index_or rows n.band []) n.net (record 
 -- how many numbers a row has
 abbrev pub row_size : List (List NetId) → ℕ → ℕ
 row_size rows band = length (slice_index_or rows band [])
+
+-- one more row, with so many numbers
+pub record HasRowMore (count : ℕ) (old new : List (List NetId)) : Type 0 where
+  pub size : length new ≡ length old + 1
+  pub row : row_size new (length old) ≡ count
+  pub others : (band : ℕ) → band < length old → row_size new band ≡ row_size old band
 
 -- a row for the control and one for each slice
 pub record HasShape (width control slices : ℕ) (rows : List (List NetId)) : Type 0 where

@@ -1,13 +1,13 @@
 //! The numbers that the nets of a path have in its flat net.
 
-ghost use Rattle.std.specs.Prelude.{◌≡◌, ◌≢◌, ◌<◌, ℕ, IfOk, length};
+ghost use Rattle.std.specs.Prelude.{◌≡◌, ◌≢◌, ◌<◌, ℕ, IfOk, OnOk};
 ghost use Rattle.nor_net.specs.Elements.{Spot};
-ghost use Rattle.path_flat.specs.Numbers.{HasShape, number_of, row_size, spot_of};
+ghost use Rattle.path_flat.specs.Numbers.{HasRowMore, HasShape, number_of, row_size, spot_of};
 
 use crate::places::Place;
 use mp_base::{List, NoMemory};
 use nor_net::NetId;
-use std::alloc::Global;
+use std::alloc::{AllocError, Global};
 use std::marker::Model;
 
 /// A number for each net, by its band and its number there.
@@ -25,11 +25,12 @@ impl Model for Numbers {
     ghost view = { λ s. s.rows.items };
 }
 
-// As many zeros.
-fn zeros(alloc: Global, count: u32) -> Result<List<NetId>, NoMemory>
-    ensures { IfOk result (λ row. length row ≡ count) }
+// Adds a row of as many zeros.
+fn push_zeros(alloc: Global, count: u32, rows: &mut List<List<NetId>>) -> Result<(), AllocError>
+    ensures { OnOk result (HasRowMore count rows.old rows.new) }
 {
-    Ok(List::from_vec(vec![in alloc; NetId(0); count as usize]?))
+    let row = List::from_vec(vec![in alloc; NetId(0); count as usize]?);
+    rows.push(row)
 }
 
 impl Numbers {
@@ -38,9 +39,9 @@ impl Numbers {
         ensures { IfOk result (HasShape width control slices) }
     {
         let mut rows = List::new(alloc);
-        rows.push(zeros(alloc, control)?)?;
+        push_zeros(alloc, control, &mut rows)?;
         for _slice in 0..width {
-            rows.push(zeros(alloc, slices)?)?;
+            push_zeros(alloc, slices, &mut rows)?;
         }
         Ok(Numbers {
             rows: rows.into_vec(),

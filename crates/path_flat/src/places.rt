@@ -8,7 +8,7 @@ use path_form::Piece;
 use std::alloc::Global;
 
 /// The place of a net: its band and its number there.
-#[derive(Clone, Copy, Debug)]
+#[derive(Clone, Copy)]
 pub(crate) struct Place {
     pub band: u32,
     pub net: u32,

@@ -20,7 +20,7 @@ use std::alloc::Global;
 
 /// What gives an input its value: a pad, a net of the slice below or above, a bit of its own in each slice, a net of
 /// the control, or a net of one slice.
-#[derive(Clone, Copy, Debug)]
+#[derive(Clone, Copy)]
 pub(crate) enum Source {
     Pad,
     Below(NetId),

@@ -2,7 +2,7 @@ use Rattle.std.proofs.Common.{length}
 use Rattle.path_flat.specs.Numbers.{HasShape, number_of}
 use Rattle.path_flat.specs.Numbered.{IsNumberedTo}
 use Rattle.path_flat.proofs.Room.{HasRoom}
-use Rattle.path_flat.proofs.flattening.number_all.Given as goal
+use Rattle.path_flat.proofs.flattening.number_each.Given as goal
 
 abbrev pub invariant-loop-place : goal.invariant-loop-place
 invariant-loop-place l = record {
