@@ -8,11 +8,12 @@ use Rattle.mp_base.specs.declared.pad.Pad.{Pad}
 use Rattle.mp_base.specs.declared.pad.Pads.{Pads}
 use Rattle.mp_base.specs.declared.value.TritWord.{TritWord}
 use Rattle.mp_base.specs.PadBits.{bit_count, Fit}
-use Rattle.transcript.specs.declared.room.Room.{Room}
+use Rattle.mp_base.specs.declared.value.Trit.{Trit}
+use Rattle.stimulus.specs.Bits.{trits_of}
+use Rattle.transcript.specs.Running.{HasRoom}
 use Rattle.board.specs.declared.link.Link.{Link}
 use Rattle.board.specs.Face.{Face}
-use Rattle.board.specs.Loop.{Wired, drives_at, given_by, idle_input, inputs_from, is_reset, link_to}
-use Rattle.board.specs.Boarding.{IsReady}
+use Rattle.board.specs.Loop.{drives_at, given_by, idle_input, inputs_from, is_reset, link_to}
 use Rattle.board.proofs.Given.{inputs_many}
 
 bit_small : (b : Bool) (n : ℕ) → cond b 1 0 < 2 ^ suc n
@@ -34,8 +35,8 @@ inputs_fit links faces clock input [] = tt
 inputs_fit links faces clock input (p ∷ pads) =
     (given_small (link_to links input) faces clock p, inputs_fit links faces clock (suc input) pads)
 
-module _ (w : Wired) (own : Pads) (ps : List Pad) (links : List Link) (faces : List Face) (clock : ℕ) (inputs : List ℕ)
-    (same : own ≡ w.pads) (are : ps ≡ (w.pads).inputs) (given : inputs ≡ inputs_from links faces clock 0 ps) where
+module _ (pads own : Pads) (ps : List Pad) (links : List Link) (faces : List Face) (clock : ℕ) (inputs : List ℕ)
+    (same : own ≡ pads) (are : ps ≡ pads.inputs) (given : inputs ≡ inputs_from links faces clock 0 ps) where
   pub give_fits : Fit own.inputs inputs
   give_fits =
       let P : Pads → Type 0 = λ pads. Fit pads.inputs inputs in
@@ -43,13 +44,18 @@ module _ (w : Wired) (own : Pads) (ps : List Pad) (links : List Link) (faces : L
       let R : List ℕ → Type 0 = λ values. Fit ps values in
       subst P (sym same) (subst Q are (subst R (sym given) (inputs_fit links faces clock 0 ps)))
 
-  pub ready_after : (room : Room) (outputs : List TritWord) → IsReady w room → length outputs ≡ length own.outputs
-      → IsReady w (record { inputs = inputs; outputs = outputs })
-  ready_after room outputs ready many = record {
-    few = ready.few;
-    wires = ready.wires;
-    has_room = record {
-      inputs = ap length given ∙ inputs_many links faces clock 0 ps ∙ ap length are;
-      outputs = many ∙ ap (λ (pads : Pads). length pads.outputs) same;
-    };
+  pub room_after : (outputs : List TritWord) → length outputs ≡ length own.outputs
+      → HasRoom pads (record { inputs = inputs; outputs = outputs })
+  room_after outputs many = record {
+    inputs = ap length given ∙ inputs_many links faces clock 0 ps ∙ ap length are;
+    outputs = many ∙ ap (λ (pads : Pads). length pads.outputs) same;
   }
+
+  pub stepped : {S : Type 0} (Steps : S → List ℕ → List (List Trit) → S → Type 0) (before after : S)
+      (outputs : List TritWord)
+      → Steps before inputs (trits_of own.outputs outputs) after
+      → Steps before (inputs_from links faces clock 0 pads.inputs) (trits_of pads.outputs outputs) after
+  stepped Steps before after outputs step =
+      let P : Pads → Type 0 = λ x. Steps before inputs (trits_of x.outputs outputs) after in
+      let Q : List ℕ → Type 0 = λ values. Steps before values (trits_of pads.outputs outputs) after in
+      subst Q (given ∙ ap (inputs_from links faces clock 0) are) (subst P same step)

@@ -48,16 +48,19 @@ use Rattle.std.proofs.lemmas.List.Sums.{position_or_len_is, fails_before_first}
 use Rattle.std.proofs.lemmas.Str.Pattern.{IsSplitOnceResult, split_once_first}
 use Rattle.std.specs.Option.{option_map}
 use Rattle.std.proofs.lemmas.Option.{slice_get-get_or, slice_get-map}
-use Rattle.mp_base.specs.declared.refusal.Broken.{Broken}
+use Rattle.mp_base.specs.declared.refusal.Broken as broken
 use Rattle.mp_base.specs.declared.refusal.Rule.{Rule}
 use Rattle.mp_base.specs.declared.refusal.Spot.TheVariants.{Named}
+use Rattle.mp_base.specs.declared.refusal.Refusal.{Refusal}
+use Rattle.mp_base.specs.declared.refusal.Refusal.TheVariants.{Broken, NoMemory}
+use Rattle.mp_base.specs.Refuses.{IsRefusal}
 use Rattle.mp_base.specs.declared.pad.Pad.{Pad}
 use Rattle.mp_base.specs.declared.pad.Pads.{Pads}
 use Rattle.board.specs.declared.link.Link.{Link}
 use Rattle.board.specs.declared.link.Naming.{Naming}
 use Rattle.board.specs.Boarding.{AreApart, AreWires, IsWire}
-use Rattle.board.specs.Links.{AreLinks, Breaks, IsFirstBroken, IsThree, MayFollow, driven_of, named_by, naming}
-use Rattle.board.specs.Links.{naming_of, nothing, pad_of, place_of}
+use Rattle.board.specs.Links.{AreLinks, Breaks, IsBrokenAt, IsLinkOf, IsThree, MayFollow, OfWords, driven_of, named_by}
+use Rattle.board.specs.Links.{naming, naming_of, nothing, pad_of, place_of}
 
 abbrev is_colon : ℕ → Bool
 is_colon c = eqb c 58
@@ -253,34 +256,41 @@ module _ (parts : List (List ℕ)) (pads : Pads) where
     apart = all_pairs_push AreApart links l are.apart follows;
   }
 
+-- the rule that a word breaks, of which the names are told
+pub broken_at : (earlier : List Link) (n m : Naming) (word : List ℕ) (rule : Rule) (b : broken.Broken) → n ≡ m
+    → Breaks earlier n rule → b.rule ≡ rule → b.spot ≡ Named word → IsBrokenAt m earlier word b
+broken_at earlier n m word rule b same breaks is spot =
+    let N : Naming → Type 0 = λ x. Breaks earlier x b.rule in
+    let R : Rule → Type 0 = λ r. Breaks earlier n r in
+    record { breaks = subst N same (subst R (sym is) breaks); spot = spot }
+
 -- ---- word by word
 
 module _ (parts : List (List ℕ)) (pads : Pads) {W : Type 0} (text : W → List ℕ) (words : List W)
     (i : ℕ) (d : W) (w : List ℕ)
-    (lt : i < length words) (at : w ≡ text (get_or words i d)) (n : Naming) (is : n ≡ naming parts pads w) where
-  pub link_added : (links new : List Link) (l : Link) → n ≡ naming_of l → MayFollow links l → new ≡ links ++ l ∷ []
+    (lt : i < length words) (at : w ≡ text (get_or words i d)) where
+  pub link_added : (links new : List Link) (l : Link) → IsLinkOf (naming parts pads w) links l → new ≡ links ++ l ∷ []
       → AreLinks parts pads (map text (take i words)) links → AreLinks parts pads (map text (take (i + 1) words)) new
-  link_added links new l named follows added are =
+  link_added links new l is added are =
       let P : List (List ℕ) → Type 0 = λ ws. AreLinks parts pads ws new in
       let Q : List Link → Type 0 = λ ls. AreLinks parts pads (map text (take i words) ++ w ∷ []) ls in
       let more : map text (take i words) ++ w ∷ [] ≡ map text (take (i + 1) words) =
       ap (λ x. map text (take i words) ++ x ∷ []) at ∙ sym (map_more text words i d lt) in
       subst P more
-      (subst Q (sym added) (links_more parts pads (map text (take i words)) w links l (sym is ∙ named) follows are))
+      (subst Q (sym added) (links_more parts pads (map text (take i words)) w links l is.named is.follows are))
 
-  pub refused_at : (links : List Link) (rule : Rule) (b : Broken) → Breaks links n rule → b.rule ≡ rule
-      → b.spot ≡ Named w
-      → AreLinks parts pads (map text (take i words)) links → IsFirstBroken parts pads (map text words) b
-  refused_at links rule b breaks same spot are =
+  pub refused_at : (links : List Link) (why : Refusal) → IsRefusal (IsBrokenAt (naming parts pads w) links w) why
+      → AreLinks parts pads (map text (take i words)) links
+      → IsRefusal (λ b. OfWords parts pads (map text words) (Some b)) why
+  refused_at links NoMemory h are = tt
+  refused_at links (Broken b) h are =
       let P : List (List ℕ) → Type 0 = λ ws. AreLinks parts pads ws links in
-      let R : Rule → Type 0 = λ r. Breaks links (naming parts pads w) r in
-      let N : Naming → Type 0 = λ m. Breaks links m rule in
       record {
         k = i;
         word = w;
         links = links;
         at = slice_get-map text words i ∙ ap (option_map text) (slice_get-get_or words i d lt) ∙ ap Some (sym at);
         before = subst P (sym (take-map text i words)) are;
-        breaks = subst R (sym same) (subst N is breaks);
-        spot = spot;
+        breaks = h.breaks;
+        spot = h.spot;
       }

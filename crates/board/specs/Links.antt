@@ -77,6 +77,16 @@ abbrev pub Breaks : List Link → Naming → Rule → Type 0
 Breaks earlier n rule =
     (BreaksB1 earlier n × (rule ≡ rule_b 1)) ⊎ ((¬ BreaksB1 earlier n) × BreaksB2 earlier n × (rule ≡ rule_b 2))
 
+-- a link behind some links that a word of these names stands for
+pub record IsLinkOf (n : Naming) (earlier : List Link) (link : Link) : Type 0 where
+  pub named : n ≡ naming_of link
+  pub follows : MayFollow earlier link
+
+-- the rule that a word of these names breaks behind some links, at the word
+pub record IsBrokenAt (n : Naming) (earlier : List Link) (word : List ℕ) (broken : Broken) : Type 0 where
+  pub breaks : Breaks earlier n broken.rule
+  pub spot : broken.spot ≡ Named word
+
 -- the first rule that words break, at the word behind those that are links
 pub record IsFirstBroken (parts : List (List ℕ)) (pads : Pads) (words : List (List ℕ)) (broken : Broken) : Type 0 where
   pub k : ℕ

@@ -1,15 +1,16 @@
 //! A board: a device and its parts, clock by clock.
 
 ghost use Rattle.std.specs.Prelude.{◌≡◌, ◌+◌, ◌<◌, ◌^◌, List, All, map, length, IfOk, OnOk, OnErr, string_bytes};
+ghost use Rattle.stimulus.specs.Bits.{trits_of};
 ghost use Rattle.outside.specs.Outside.{HasCause};
 ghost use Rattle.transcript.specs.Running.{HasRoom};
 ghost use Rattle.board.specs.Boarding.{AreWires};
 ghost use Rattle.board.specs.Face.{Face};
-ghost use Rattle.board.specs.Loop.{is_settled};
+ghost use Rattle.board.specs.Loop.{inputs_from, is_settled};
 ghost use Rattle.board.specs.Printing.{PrintsClock, PrintsLoop};
 
 use crate::link::Link;
-use crate::moving::{give, show};
+use crate::moving::{give, show_settled};
 use crate::pads::any_reset;
 use crate::part::{NamedPart, Part};
 use mp_base::{List, NoMemory, Pads};
@@ -18,6 +19,39 @@ use std::alloc::Global;
 use std::marker::Model;
 use stimulus::line;
 use transcript::{Device, Room};
+
+// Gives a device what the parts drive in a clock, and lets it move.
+fn step<D: Device>(
+    links: &[Link],
+    parts: &[NamedPart],
+    clock: u32,
+    pads: &Pads,
+    room: &mut Room,
+    device: &mut D,
+)
+    requires pads { D.pads_of device.old ≡ pads.now }
+    requires parts { All (λ l. l.part < length parts.now) links.now }
+    requires few { length pads.now.inputs < 2 ^ 32 }
+    requires room { HasRoom pads.now room.old }
+    ensures pads { D.pads_of device.new ≡ pads.now }
+    ensures room { HasRoom pads.now room.new }
+    ensures steps { let faces = map (λ p. let f : Face = record {
+      state = state p.part;
+      drives = (⟦<dyn Part as Part>⟧ p.part.vtable).driven_in;
+      sees = (⟦<dyn Part as Part>⟧ p.part.vtable).after_seeing;
+    } in f) parts.now in
+        D.steps device.old (inputs_from links.now faces clock 0 pads.now.inputs)
+        (trits_of pads.now.outputs room.new.outputs) device.new }
+{
+    give(
+        links,
+        parts,
+        clock,
+        pads.inputs.as_slice(),
+        &mut room.inputs,
+    );
+    device.clock(&room.inputs, &mut room.outputs);
+}
 
 /// The pads of a device with the links of its parts, and all the memory that a clock takes.
 #[derive(Drop)]
@@ -111,25 +145,23 @@ impl<'a> Board<'a> {
             (faces parts.old.items) (faces parts.new.items) (O.held out.old) (O.held out.new) result }
         ensures cause { HasCause (O.faults out.old) (O.faults out.new) result }
     {
-        let pads = self.pads;
-        let room = &mut self.room;
-        give(
+        let settled = self.is_settled();
+        step(
             self.links.as_slice(),
             parts,
             self.done,
-            pads.inputs.as_slice(),
-            &mut room.inputs,
+            self.pads,
+            &mut self.room,
+            device,
         );
-        device.clock(&room.inputs, &mut room.outputs);
-        line(self.done, pads, &room.outputs, out)?;
-        if self.is_settled() {
-            show(
-                self.links.as_slice(),
-                pads.outputs.as_slice(),
-                &self.room.outputs,
-                parts,
-            );
-        }
+        line(self.done, self.pads, &self.room.outputs, out)?;
+        show_settled(
+            settled,
+            self.links.as_slice(),
+            self.pads.outputs.as_slice(),
+            &self.room.outputs,
+            parts,
+        );
         self.done += 1;
         Ok(())
     }

@@ -1,7 +1,7 @@
 //! Links of parts to pads.
 
 /// A part that sees an output and drives an input, each by its index.
-#[derive(Clone, Copy, Debug, PartialEq, Eq)]
+#[derive(Clone, Copy)]
 pub struct Link {
     pub part: u32,
     pub seen: u32,
@@ -9,7 +9,7 @@ pub struct Link {
 }
 
 /// What a word names: a part, an output, and an input that may be driven.
-#[derive(Clone, Copy, Debug, PartialEq, Eq)]
+#[derive(Clone, Copy)]
 pub(crate) struct Naming {
     pub part: Option<u32>,
     pub seen: Option<u32>,

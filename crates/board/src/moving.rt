@@ -1,6 +1,7 @@
 //! What parts give a device in a clock, and how they move by what it shows.
 
 ghost use Rattle.std.specs.Prelude.{◌≡◌, ◌<◌, ◌^◌, All, length, map, string_bytes};
+ghost use Rattle.std.specs.Prelude.{if◌then◌else◌};
 ghost use Rattle.std.specs.List.{find};
 ghost use Rattle.board.specs.declared.link.Link.{Link as LinkValue};
 ghost use Rattle.stimulus.specs.Bits.{trits_of};
@@ -60,8 +61,8 @@ pub(crate) fn give(
     }
 }
 
-/// Shows the linked parts their outputs, in the order of the links.
-pub(crate) fn show(links: &[Link], pads: &[Pad], outputs: &TritOutputs, parts: &mut Vec<NamedPart>)
+// Shows the linked parts their outputs, in the order of the links.
+fn show(links: &[Link], pads: &[Pad], outputs: &TritOutputs, parts: &mut Vec<NamedPart>)
     requires parts { All (λ l. l.part < length parts.old.items) links.now }
     requires outputs { All (λ l. l.seen < length pads.now) links.now }
     requires as_many { length outputs.now ≡ length pads.now }
@@ -77,5 +78,30 @@ pub(crate) fn show(links: &[Link], pads: &[Pad], outputs: &TritOutputs, parts: &
         let seen = link.seen as usize;
         let shown = number(&pads[seen], outputs.as_slice()[seen]);
         see(&mut parts[link.part as usize], shown);
+    }
+}
+
+/// The same where a clock is settled, and else nothing.
+pub(crate) fn show_settled(
+    settled: bool,
+    links: &[Link],
+    pads: &[Pad],
+    outputs: &TritOutputs,
+    parts: &mut Vec<NamedPart>,
+)
+    requires parts { All (λ l. l.part < length parts.old.items) links.now }
+    requires outputs { All (λ l. l.seen < length pads.now) links.now }
+    requires as_many { length outputs.now ≡ length pads.now }
+    ensures names { map (λ p. string_bytes p.name) parts.new.items ≡ map (λ p. string_bytes p.name) parts.old.items }
+    ensures faces { let faces = map (λ p. let f : Face = record {
+      state = state p.part;
+      drives = (⟦<dyn Part as Part>⟧ p.part.vtable).driven_in;
+      sees = (⟦<dyn Part as Part>⟧ p.part.vtable).after_seeing;
+    } in f) in
+        faces parts.new.items ≡ (if settled then all_see links.now (trits_of pads.now outputs.now)
+        (faces parts.old.items) else faces parts.old.items) }
+{
+    if settled {
+        show(links, pads, outputs, parts);
     }
 }

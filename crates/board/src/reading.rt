@@ -5,11 +5,11 @@ ghost use Rattle.std.specs.Prelude.{length, map, string_bytes};
 ghost use Rattle.std.specs.List.{slice_split};
 ghost use Rattle.std.specs.Str.{bytes_eq};
 ghost use Rattle.mp_base.specs.declared.refusal.Spot.TheVariants.{Named};
-ghost use Rattle.mp_base.specs.Refuses.{IsJudged};
+ghost use Rattle.mp_base.specs.Refuses.{IsJudged, IsRefusal};
 ghost use Rattle.board.specs.declared.link.Link.{Link as LinkValue};
 ghost use Rattle.board.specs.Boarding.{AreWires};
-ghost use Rattle.board.specs.Links.{AreLinks, Breaks, BreaksB1, BreaksB2, IsThree, MayFollow, OfWords};
-ghost use Rattle.board.specs.Links.{driven_of, naming, naming_of, pad_of, place_of, rule_b};
+ghost use Rattle.board.specs.Links.{AreLinks, Breaks, BreaksB1, BreaksB2, IsBrokenAt, IsLinkOf, IsThree, OfWords};
+ghost use Rattle.board.specs.Links.{driven_of, naming, pad_of, place_of, rule_b};
 
 use crate::link::{Link, Naming};
 use crate::part::NamedPart;
@@ -178,7 +178,7 @@ fn free_pads(named: Naming, earlier: &[Link]) -> Option<(u32, u32)>
 
 // The link that a word stands for behind some links, or the rule that it breaks.
 fn judge(named: Naming, earlier: &[Link]) -> Result<Link, Rule>
-    ensures ok { IfOk result (λ link. (named ≡ naming_of link) × MayFollow earlier.now link) }
+    ensures ok { IfOk result (IsLinkOf named earlier.now) }
     ensures err { IfErr result (Breaks earlier.now named) }
 {
     match free_part(named, earlier) {
@@ -197,6 +197,28 @@ fn broken(alloc: Global, rule: Rule, word: &str) -> Result<Broken, AllocError>
         rule,
         spot: Spot::Named(Name::from_slice(alloc, word.as_bytes())?),
     })
+}
+
+// The link that a word stands for behind some links, or the rule that it breaks, at the word.
+fn read_link(
+    alloc: Global,
+    word: &str,
+    parts: &[NamedPart],
+    pads: &Pads,
+    earlier: &[Link],
+) -> Result<Link, Refusal>
+    requires parts { length parts.now < 2 ^ 32 }
+    requires inputs { length pads.now.inputs < 2 ^ 32 }
+    requires outputs { length pads.now.outputs < 2 ^ 32 }
+    ensures ok { IfOk result
+        (IsLinkOf (naming (map (λ p. string_bytes p.name) parts.now) pads.now word.now) earlier.now) }
+    ensures err { IfErr result (IsRefusal
+        (IsBrokenAt (naming (map (λ p. string_bytes p.name) parts.now) pads.now word.now) earlier.now word.now)) }
+{
+    match judge(naming(word, parts, pads), earlier) {
+        Ok(link) => Ok(link),
+        Err(rule) => Err(Refusal::Broken(broken(alloc, rule, word)?)),
+    }
 }
 
 /// The links that words stand for, each `PART:SEEN:DRIVEN`: the first part of the name PART sees the output SEEN and
@@ -225,11 +247,8 @@ pub fn read_links(
 {
     let mut links = List::new(alloc);
     for word in words {
-        let text = word.as_str();
-        match judge(naming(text, parts, pads), links.as_slice()) {
-            Ok(link) => links.push(link)?,
-            Err(rule) => return Err(Refusal::Broken(broken(alloc, rule, text)?)),
-        }
+        let link = read_link(alloc, word.as_str(), parts, pads, links.as_slice())?;
+        links.push(link)?;
     }
     Ok(links)
 }
