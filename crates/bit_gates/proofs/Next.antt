@@ -9,14 +9,14 @@ use Rattle.nor_net.specs.declared.net.NetId.{NetId}
 use Rattle.nor_net.specs.declared.net.Phase.TheVariants.{A, B}
 use Rattle.nor_net.specs.declared.net.Part.{Part}
 use Rattle.nor_net.specs.declared.net.Part.TheVariants.{Gate, Latch}
-use Rattle.nor_net.specs.Shape.{fed, IsAdded, MayTake}
+use Rattle.nor_net.specs.Shape.{fed, gate_inputs, net_limit, IsAdded, MayTake}
 use Rattle.rtl_form.specs.declared.rtl.Transfer.{Transfer}
 use Rattle.bit_gates.specs.declared.rails.Rails.{Rails}
 use Rattle.bit_gates.specs.Adding.{AddsGates, IsCounted}
 use Rattle.bit_gates.specs.Cells.{GuardOf, IsNextMade, IsSourceMade, IsTerm}
 use Rattle.bit_gates.specs.Rails.{AllBelow}
-use Rattle.bit_gates.proofs.Adding.{added_at, added_keeps, added_two, counted_list, counted_on, gates_keep, gates_on}
-use Rattle.bit_gates.proofs.Adding.{three_gates}
+use Rattle.bit_gates.proofs.Adding.{added_at, added_counted, added_keeps, added_two, counted_list, counted_on}
+use Rattle.bit_gates.proofs.Adding.{gates_keep, gates_on, three_gates}
 
 pub guards_below : (n : ℕ) (exprs : List (Option Rails)) → AllBelow n exprs → (ts : List Transfer) (ids : List NetId)
     → AllZip (GuardOf exprs) ts ids → All (λ (j : NetId). j.0 < n) ids
@@ -28,6 +28,25 @@ guards_below n exprs below ts ids h =
 pub below_later : (m n : ℕ) (ids : List NetId) → m ≤ n → All (λ (j : NetId). j.0 < m) ids
     → All (λ (j : NetId). j.0 < n) ids
 below_later m n ids l h k d inside = let b = h k d inside in omega (arith, b)
+
+-- the room for the hold term, for the NOR of all terms and for the data, behind the terms of so many transfers
+module _ (inputs count first : ℕ) (by_terms : first ≡ inputs + 2 * count)
+    (room : inputs + 4 * (5 + count) < net_limit) where
+  pub hold_room : (guards : ℕ) → guards ≡ count → first + guards + 1 < net_limit
+  hold_room guards g = omega (arith, by_terms, room, g)
+
+  pub off_room : (held terms : ℕ) → held ≡ first + (count + 1) → terms ≡ count → held + terms + 1 < net_limit
+  off_room held terms h t = omega (arith, by_terms, room, h, t)
+
+  pub data_room : (held off : ℕ) → held ≡ first + (count + 1) → off ≡ held + (count + 1) → off + 2 < net_limit
+  data_room held off h o = omega (arith, by_terms, room, h, o)
+
+-- a gate on the nets of a list, which has one for each transfer, and on one more
+pub gate_counted : (n : ℕ) (ids : List NetId) (last : NetId) (old new : List Part) (id : NetId) → length ids ≡ n
+    → IsAdded old (Gate (ids ++ last ∷ [])) new id → gate_inputs new ≡ gate_inputs old + (n + 1)
+gate_counted n ids last old new id e a =
+    let i = (added_counted old new (Gate (ids ++ last ∷ [])) id a).input_count in
+    let l = length-append ids (last ∷ []) in omega (arith, e, i, l)
 
 -- the gates of the data of a master
 pub source_gates : (exprs : List (Option Rails)) (ts : List Transfer) (slave reset source : NetId)

@@ -44,9 +44,7 @@ pub fn add_exclusive(alloc: Global, net: &mut Net, a: Rails, b: Rails) -> Result
 {
     let none = net.gate(alloc, &[a.bit, b.bit])?;
     let both = net.gate(alloc, &[a.negation, b.negation])?;
-    let bit = net.gate(alloc, &[none, both])?;
-    let negation = net.gate(alloc, &[bit])?;
-    Ok(Rails { bit, negation })
+    add_pair(alloc, net, &[none, both])
 }
 
 /// The net of an input pad, and the bit that its latch has.

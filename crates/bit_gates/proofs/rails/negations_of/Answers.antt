@@ -4,6 +4,9 @@ use Rattle.bit_gates.specs.Rails.{NegationOf}
 use Rattle.bit_gates.proofs.Zipping.{zip_more}
 use Rattle.bit_gates.proofs.rails.negations_of.Goals as goal
 
+pub named-requires : goal.named-requires
+named-requires c = c.requires c.loop-index.index-index 0 c.loop-index-test.true
+
 pub loop-index-preserved : goal.loop-index-preserved
 loop-index-preserved c =
     subst (AllZip (NegationOf c.args.entries.now) (take (c.loop-index.index-index + 1) c.args.indices.now))
