@@ -1,7 +1,7 @@
 //! The columns of nets.
 
-ghost use Rattle.std.specs.Prelude.{◌≡◌, ◌==◌, ◌<◌, ◌+◌, ◌^◌, ◌&&◌, ℕ, All, IfOk, false, length, map, slice_index_or};
-ghost use Rattle.std.specs.Prelude.{if◌then◌else◌};
+ghost use Rattle.std.specs.Prelude.{◌≡◌, ◌==◌, ◌<◌, ◌+◌, ◌^◌, ◌&&◌, ◌||◌, ℕ, All, IfOk, false, length, map};
+ghost use Rattle.std.specs.Prelude.{if◌then◌else◌, slice_index_or};
 ghost use Rattle.std.specs.List.{list_any, range_with_len};
 ghost use Rattle.band_lists.specs.Homed.{AreHomes, is_homed, is_unpinned};
 ghost use Rattle.band_lists.specs.Pins.{is_own};
@@ -52,6 +52,13 @@ fn owns(pin: &Pin) -> bool
     }
 }
 
+// Whether a segment is marked in its net's own column, as it was before or by this pin.
+fn also_owned(before: bool, pin: &Pin) -> bool
+    ensures { result ≡ (before || is_own pin.now) }
+{
+    before || owns(pin)
+}
+
 /// Which segments have a pin in the column of their own net.
 pub fn owned(alloc: Global, segments: usize, pins: &[Pin]) -> Result<Vec<bool>, AllocError>
     requires { All (λ p. p.segment < segments) pins.now }
@@ -62,7 +69,7 @@ pub fn owned(alloc: Global, segments: usize, pins: &[Pin]) -> Result<Vec<bool>, 
     let mut flags = vec![in alloc; false; segments]?;
     for pin in pins {
         let segment = pin.segment as usize;
-        flags[segment] = flags[segment] || owns(pin);
+        flags[segment] = also_owned(flags[segment], pin);
     }
     Ok(flags)
 }

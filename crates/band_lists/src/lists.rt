@@ -56,9 +56,7 @@ fn line(band: u32, column: u32, side: Side) -> Line
 fn push_pair(lines: &mut Vec<Line>, band: u32, column: u32) -> Result<(), AllocError>
     ensures { OnOk result (lines.new.items ≡ lines.old.items ++ line_pair band column) }
 {
-    lines.push(line(band, column, Side::L))?;
-    lines.push(line(band, column, Side::R))?;
-    Ok(())
+    lines.extend_from_slice(&[line(band, column, Side::L), line(band, column, Side::R)])
 }
 
 fn push_stub(lines: &mut Vec<Line>, band: u32, column: u32, stub: bool) -> Result<(), AllocError>

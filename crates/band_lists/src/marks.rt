@@ -76,19 +76,21 @@ fn push_gate(
         ≡ marks.old.items ++ marks_at tracks.now (length seen.old) column false n (Some (part.Gate inputs.now))) }
     ensures stamped { OnOk result (All (λ s. s ≤ n + 1) seen.new) }
 {
-    marks.push(mark(Tile::TapL, tracks, n, column))?;
-    marks.push(Mark {
-        tile: Tile::TapR,
-        band: column.band,
-        row: 0,
-        column: column.number,
-    })?;
-    marks.push(Mark {
-        tile: Tile::PullUp,
-        band: column.band,
-        row: tracks.rows + 1,
-        column: column.number,
-    })?;
+    marks.extend_from_slice(&[
+        mark(Tile::TapL, tracks, n, column),
+        Mark {
+            tile: Tile::TapR,
+            band: column.band,
+            row: 0,
+            column: column.number,
+        },
+        Mark {
+            tile: Tile::PullUp,
+            band: column.band,
+            row: tracks.rows + 1,
+            column: column.number,
+        },
+    ])?;
     push_transistors(marks, seen, n + 1, tracks, column, inputs)
 }
 
@@ -112,10 +114,11 @@ fn push_latch(
     let Some(data) = source else {
         return Ok(());
     };
-    marks.push(mark(Tile::TapL, tracks, n, column))?;
-    marks.push(mark(Tile::TapR, tracks, data.0, column))?;
-    marks.push(mark(Tile::Tran, tracks, nets + phase_index(phase), column))?;
-    Ok(())
+    marks.extend_from_slice(&[
+        mark(Tile::TapL, tracks, n, column),
+        mark(Tile::TapR, tracks, data.0, column),
+        mark(Tile::Tran, tracks, nets + phase_index(phase), column),
+    ])
 }
 
 fn push_stub(

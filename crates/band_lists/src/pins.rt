@@ -53,13 +53,14 @@ fn push_latch(
     requires { nets + 3 < 2 ^ 32 }
     ensures { OnOk result (pins.new.items ≡ pins.old.items ++ latch_pins nets n phase source) }
 {
-    pins.push(home_pin(n, n))?;
     let Some(data) = source else {
-        return Ok(());
+        return pins.extend_from_slice(&[home_pin(n, n)]);
     };
-    pins.push(home_pin(data.0, n))?;
-    pins.push(home_pin(nets + phase_index(phase), n))?;
-    Ok(())
+    pins.extend_from_slice(&[
+        home_pin(n, n),
+        home_pin(data.0, n),
+        home_pin(nets + phase_index(phase), n),
+    ])
 }
 
 // The pins in the column of a net.
