@@ -106,6 +106,8 @@ impl<'a> Replay<'a> {
             mut simulation,
             size,
         } = self;
-        run_clocks(&mut simulation, &size, out)
+        let printed = run_clocks(&mut simulation, &size, out);
+        drop(simulation);
+        printed
     }
 }
