@@ -1,11 +1,14 @@
 //! A program on a board: what it prints, and how its parts move.
 
+ghost use Rattle.std.specs.Prelude.{◌≡◌, ◌<◌, ◌^◌, All, IfOk, length};
+ghost use Rattle.board.specs.Boarding.{AreWires};
+
 use crate::joined::{add, told_by};
 use crate::row::Row;
 use crate::watch::Watch;
-use board::{Board, NamedPart, read_links};
+use board::{Board, Link, NamedPart, read_links};
 use board_parts::{Counter, Echo, Memory, Shifter};
-use mp_base::{Broken, List, Refusal, Spot};
+use mp_base::{Broken, List, Pads, Refusal, Spot};
 use mp_checker::Checked;
 use mp_source::check_source;
 use outside_doubles::MemSink;
@@ -50,6 +53,42 @@ fn checked(alloc: Global, source: &[u8]) -> Result<Checked, Refusal> {
     check_source(alloc, source)
 }
 
+// The links that words stand for.
+fn links_of(
+    alloc: Global,
+    words: &str,
+    parts: &[NamedPart],
+    pads: &Pads,
+) -> Result<List<Link>, Refusal>
+    requires parts { length parts.now < 2 ^ 32 }
+    requires inputs { length pads.now.inputs < 2 ^ 32 }
+    requires outputs { length pads.now.outputs < 2 ^ 32 }
+    ensures wires { IfOk result (AreWires pads.now) }
+    ensures parts { IfOk result (λ links. All (λ l. l.part < length parts.now) links) }
+{
+    let words = words_of(alloc, words)?;
+    read_links(alloc, &words, parts, pads)
+}
+
+// Runs a program on a board that has run no clock, with these parts. Whether the output failed.
+fn run_on(
+    alloc: Global,
+    checked: &Checked,
+    board: &mut Board<'_>,
+    parts: &mut Vec<NamedPart>,
+    clocks: u32,
+    out: &mut MemSink,
+) -> Result<bool, Refusal>
+    requires pads { checked.now.pads ≡ board.old.wired.pads }
+    requires parts { All (λ l. l.part < length parts.old.items) board.old.wired.links }
+    requires done { board.old.done ≡ 0 }
+{
+    let mut device = Source::open(alloc, checked, checked.pads())?;
+    let failed = board.run(&mut device, parts, clocks, out).is_err();
+    drop(device);
+    Ok(failed)
+}
+
 // Runs a program on a board with these parts. Whether the output failed.
 fn run(
     alloc: Global,
@@ -62,11 +101,25 @@ fn run(
     if pads.inputs.len() > 9 || pads.outputs.len() > 9 || parts.len() > 9 {
         return Err(Refusal::NoMemory);
     }
-    let words = words_of(alloc, row.links)?;
-    let links = read_links(alloc, &words, parts, pads)?;
+    let links = links_of(alloc, row.links, parts, pads)?;
     let mut board = Board::open(alloc, pads, links, checked.stores())?;
-    let mut device = Source::open(alloc, checked, pads)?;
-    Ok(board.run(&mut device, parts, row.clocks, out).is_err())
+    run_on(alloc, checked, &mut board, parts, row.clocks, out)
+}
+
+// What was printed, and what the parts drive then.
+fn outcome_after(
+    alloc: Global,
+    printed: &[u8],
+    failed: bool,
+    parts: &[NamedPart],
+) -> Result<Outcome, Refusal> {
+    let printed = Vec::from_slice(alloc, printed)?;
+    let told = told_by(alloc, parts)?;
+    Ok(Outcome {
+        printed,
+        failed,
+        told,
+    })
 }
 
 // Runs the program of a row with these parts, where one write fails.
@@ -79,11 +132,7 @@ fn outcome_with(
 ) -> Result<Outcome, Refusal> {
     let mut out = sink(alloc, call)?;
     let failed = run(alloc, checked, row, parts, &mut out)?;
-    Ok(Outcome {
-        printed: Vec::from_slice(alloc, out.bytes())?,
-        failed,
-        told: told_by(alloc, parts)?,
-    })
+    outcome_after(alloc, out.bytes(), failed, parts)
 }
 
 // Runs the program of a row with a counter, a shifter, an echo, a memory, a part that counts its moves, and a second
@@ -153,13 +202,13 @@ fn lines_in(text: &[u8]) -> u64 {
 
 // How many whole lines are there after a write that failed, and the parts then.
 fn show_cut(rt: &HostRuntime, outcome: &Outcome, whole: &[u8]) -> io::Result<()> {
-    let lines = lines_in(&outcome.printed);
-    if whole.starts_with(&outcome.printed) && outcome.printed.len() < whole.len() {
-        println!(rt; "    cut after {lines} lines")?;
+    let (printed, told) = (outcome.printed.as_slice(), outcome.told.as_str());
+    if whole.starts_with(printed) && printed.len() < whole.len() {
+        let lines = lines_in(printed);
+        println!(rt; "    cut after {lines} lines\n   {told}")
     } else {
-        println!(rt; "    another text")?;
+        println!(rt; "    another text\n   {told}")
     }
-    println!(rt; "   {}", outcome.told)
 }
 
 // Tells a run of which a write failed, if it printed more lines than the last that was told, and whether one failed.
@@ -227,11 +276,20 @@ fn show_run(rt: &HostRuntime, checked: &Checked, row: Row<'_>) -> io::Result<()>
     }
 }
 
+// The checked program of a file, or why there is none.
+fn program_of(rt: &HostRuntime, name: &str) -> io::Result<Result<Checked, Refusal>> {
+    let source = fs::read(rt, name)?;
+    Ok(checked(rt.alloc(), &source))
+}
+
 /// Prints the lines of the board's transcript, or the rule that its links break, and what the parts drive at the end.
 pub(crate) fn show_board(rt: &HostRuntime, row: Row<'_>) -> io::Result<()> {
-    let source = fs::read(rt, row.source)?;
-    match checked(rt.alloc(), &source) {
+    match program_of(rt, row.source)? {
+        Ok(checked) => {
+            let shown = show_run(rt, &checked, row);
+            drop(checked);
+            shown
+        }
         Err(refusal) => show_refusal(rt, &refusal),
-        Ok(checked) => show_run(rt, &checked, row),
     }
 }

@@ -19,8 +19,7 @@ pub(crate) fn add(
 pub(crate) fn told_by(alloc: Global, parts: &[NamedPart]) -> Result<String, AllocError> {
     let mut text = String::new(alloc);
     for named in parts {
-        let told = format!(in alloc; " {} {}", named.name, named.part.drives())?;
-        text.push_str(told.as_str())?;
+        write!(text, " {} {}", named.name, named.part.drives())?;
     }
     Ok(text)
 }

@@ -11,7 +11,7 @@ fn switched(alloc: Global, channel: &Channel) -> Result<String, AllocError> {
     let (kind, gate) = (channel.kind, channel.gate);
     let mut words = format!(in alloc; "; {kind:?} of {gate} between")?;
     for end in channel.ends.as_slice() {
-        words.push_str(&format!(in alloc; " {end}")?)?;
+        write!(words, " {end}")?;
     }
     Ok(words)
 }
@@ -59,14 +59,17 @@ fn networks(alloc: Global, text: &[u8]) -> Result<Option<(Network, Network)>, No
     }
 }
 
+// Both networks, each on a line.
+fn told(alloc: Global, drawn: &Network, meant: &Network) -> Result<String, AllocError> {
+    let drawn = shown(alloc, drawn)?;
+    let meant = shown(alloc, meant)?;
+    format!(in alloc; "drawn: {drawn}\n    meant: {meant}")
+}
+
 /// The network that a fabric draws, and on a second line that of its segments, lines and marks.
 pub(crate) fn answer(alloc: Global, text: &[u8]) -> Result<String, AllocError> {
     match networks(alloc, text) {
-        Ok(Some((drawn, meant))) => {
-            let drawn = shown(alloc, &drawn)?;
-            let meant = shown(alloc, &meant)?;
-            format!(in alloc; "drawn: {drawn}\n    meant: {meant}")
-        }
+        Ok(Some((drawn, meant))) => told(alloc, &drawn, &meant),
         Ok(None) => format!(in alloc; "no fabric"),
         Err(NoMemory) => format!(in alloc; "no memory"),
     }

@@ -17,17 +17,33 @@ fn add(fabric: &mut Fabric, asked: Option<Thing>) -> Result<bool, NoMemory> {
     Ok(true)
 }
 
+// Adds what a part of a line asks for, if the fabric takes it.
+fn add_part(alloc: Global, fabric: &mut Fabric, part: &[u8]) -> Result<bool, NoMemory> {
+    let asked = words_of(alloc, part)?;
+    add(fabric, thing_of(asked.first, asked.numbers.as_slice()))
+}
+
 // Adds what the parts of a line behind its first ask for, if the fabric takes all of it.
 fn fill(alloc: Global, fabric: &mut Fabric, text: &[u8]) -> Result<bool, NoMemory> {
     let mut parts = text.split(|byte| *byte == b';');
     parts.next();
     for part in parts {
-        let asked = words_of(alloc, part)?;
-        if !add(fabric, thing_of(asked.first, asked.numbers.as_slice()))? {
+        if !add_part(alloc, fabric, part)? {
             return Ok(false);
         }
     }
     Ok(true)
+}
+
+// The empty fabric that the first part of a line asks for, if there is such a fabric.
+fn empty(alloc: Global, head: &[u8]) -> Result<Option<Fabric>, NoMemory> {
+    let head = words_of(alloc, head)?;
+    let columns = number(head.first);
+    if !is_room(columns, head.numbers.as_slice()) {
+        return Ok(None);
+    }
+    let fabric = Fabric::new(alloc, columns, List::from_vec(head.numbers))?;
+    Ok(Some(fabric))
 }
 
 /// The fabric of a line, if it is one.
@@ -35,12 +51,9 @@ pub(crate) fn build(alloc: Global, text: &[u8]) -> Result<Option<Fabric>, NoMemo
     let Some(head) = text.split(|byte| *byte == b';').next() else {
         return Ok(None);
     };
-    let head = words_of(alloc, head)?;
-    let columns = number(head.first);
-    if !is_room(columns, head.numbers.as_slice()) {
+    let Some(mut fabric) = empty(alloc, head)? else {
         return Ok(None);
-    }
-    let mut fabric = Fabric::new(alloc, columns, List::from_vec(head.numbers))?;
+    };
     Ok(if fill(alloc, &mut fabric, text)? {
         Some(fabric)
     } else {
