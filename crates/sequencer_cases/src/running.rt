@@ -1,6 +1,8 @@
 //! Runs of programs beside their transfers.
 
-use mp_base::NoMemory;
+ghost use Rattle.mp_program.specs.Pads.{FitsPads, input_pads};
+
+use mp_base::{List, NoMemory};
 use mp_checker::Checked;
 use mp_source::check_source;
 use process_sequencer::sequence;
@@ -29,7 +31,35 @@ pub(crate) struct Run {
     pub same: u32,
 }
 
-// Whether the transfers show in a clock what the program shows.
+// Whether the transfers show these outputs in a clock with these inputs.
+fn shows_same(
+    alloc: Global,
+    rtl: &Rtl,
+    stored: &mut [u64],
+    inputs: &[u64],
+    outputs: &[u64],
+) -> Result<bool, NoMemory> {
+    let cells = step(alloc, rtl, stored, inputs)?;
+    Ok(shows(rtl, &cells, outputs))
+}
+
+// The same of a clock that the program runs with these inputs.
+fn agree_on(
+    alloc: Global,
+    machine: &mut Machine<'_>,
+    rtl: &Rtl,
+    stored: &mut [u64],
+    inputs: &List<u64>,
+) -> Result<bool, NoMemory>
+    requires { FitsPads (input_pads machine.old.program) inputs.now }
+{
+    let pads = machine.pads();
+    let mut outputs = zeros(alloc, &pads.outputs)?;
+    machine.clock(inputs, &mut outputs);
+    shows_same(alloc, rtl, stored, inputs.as_slice(), outputs.as_slice())
+}
+
+// The same of a clock with given inputs, or with others where none are given.
 fn agree(
     alloc: Global,
     machine: &mut Machine<'_>,
@@ -40,10 +70,7 @@ fn agree(
 ) -> Result<bool, NoMemory> {
     let pads = machine.pads();
     let inputs = inputs_of(alloc, &pads.inputs, given, dice)?;
-    let mut outputs = zeros(alloc, &pads.outputs)?;
-    machine.clock(&inputs, &mut outputs);
-    let cells = step(alloc, rtl, stored, inputs.as_slice())?;
-    Ok(shows(rtl, &cells, outputs.as_slice()))
+    agree_on(alloc, machine, rtl, stored, &inputs)
 }
 
 // In how many of so many clocks they do: first those whose inputs are given, then others.
@@ -145,9 +172,14 @@ impl Tally {
     }
 }
 
-/// The runs of random programs.
-pub(crate) fn show_random(rt: &HostRuntime, grammar: &[u8]) -> io::Result<()> {
-    let rules = rules_of(rt.alloc(), grammar)?;
+// Adds the run of a random program.
+fn add_random(alloc: Global, tally: &mut Tally, rules: &[Rule<'_>], seed: u64) {
+    if let Some(checked) = random_program(alloc, rules, seed) {
+        tally.add(run_of(alloc, &checked, "", FEW_CLOCKS, seed));
+    }
+}
+
+fn tally_of(alloc: Global, rules: &[Rule<'_>]) -> Tally {
     let mut tally = Tally {
         programs: 0,
         sound: 0,
@@ -155,18 +187,21 @@ pub(crate) fn show_random(rt: &HostRuntime, grammar: &[u8]) -> io::Result<()> {
         same: 0,
     };
     for seed in 0..2 * PROGRAMS {
-        let seed = u64::from(seed);
         if tally.programs < PROGRAMS {
-            if let Some(checked) = random_program(rt.alloc(), &rules, seed) {
-                tally.add(run_of(rt.alloc(), &checked, "", FEW_CLOCKS, seed));
-            }
+            add_random(alloc, &mut tally, rules, u64::from(seed));
         }
     }
+    tally
+}
+
+/// The runs of random programs.
+pub(crate) fn show_random(rt: &HostRuntime, grammar: &[u8]) -> io::Result<()> {
+    let rules = rules_of(rt.alloc(), grammar)?;
     let Tally {
         programs,
         sound,
         clocks,
         same,
-    } = tally;
+    } = tally_of(rt.alloc(), &rules);
     println!(rt; "{programs} random programs: {sound} sound, the same in {same} of {clocks} clocks")
 }
