@@ -29,8 +29,8 @@ fn timed(rt: &HostRuntime, name: &str, rtl: &Rtl) -> io::Result<Result<Sizes, No
 {
     let start = Instant::now(rt)?;
     let sizes = sizes_of(rt.alloc(), rtl);
-    let took = start.elapsed(rt)?;
-    eprintln!(rt; "{name}: {took:?}")?;
+    let micros = start.elapsed(rt)?.as_micros();
+    eprintln!(rt; "{name}: {micros} us")?;
     Ok(sizes)
 }
 
