@@ -1,5 +1,5 @@
 -- How a board ends that stored nothing.
-use Rattle.std.proofs.Common.{◌≡◌, ℕ, List, [], refl, sym, subst, inl, Option, Some, None, Result, Ok, Err}
+use Rattle.std.proofs.Common.{◌≡◌, ℕ, List, [], refl, sym, subst, Option, Some, None, Result, Ok, Err}
 use Rattle.std.specs.Prelude.{IsErrAnd}
 use Rattle.outside.specs.Outside.{Files, WhereTold, Keeps, Gains}
 use Rattle.outside.proofs.Told.{gains_nothing}
@@ -37,7 +37,7 @@ module _ (lent : Lent) (source cif : List ℕ) (clocks : ℕ) (words : List (Lis
   )
   halted_told ReadFault (Some a) (Some b) r r' kept ends = ((kept, refl), refl)
   halted_told WriteFault (Some a) (Some b) r r' kept ends = absurd ends
-  halted_told NoMemory (Some a) (Some b) r r' kept ends = ((refl, inl kept), refl)
+  halted_told NoMemory (Some a) (Some b) r r' kept ends = ((kept, refl), refl)
 
   -- it ended while it read and judged, or for want of memory
   pub plays_halted : (halt : Halt) (result : Result (Unit {0}) Halt) (before after : World) (r r' : ℕ)

@@ -99,7 +99,7 @@ module _ (lent : Lent) (source cif : List ℕ) (clocks : ℕ) (words : List (Lis
       moves left (Err (Refused broken)) new printed given = absurd (given.0).0
       moves left (Err ReadFault) new printed given = unmoved printed left given.1 (given.0).1
       moves left (Err WriteFault) new printed given = moved printed left given.1
-      moves left (Err NoMemory) new printed given = unmoved printed left given.1 (given.0).0
+      moves left (Err NoMemory) new printed given = unmoved printed left given.1 (given.0).1
 
     -- from the chip's part to the whole
     pub plays_on : (held : Option Files) (known : Known lent source words chip held)

@@ -13,9 +13,8 @@ use Rattle.compile_command.specs.Compiled.{IsCompiled}
 use Rattle.board_command.specs.Parts.{Lent}
 
 -- the words are links of the parts that are lent to the pads of the source; the text is the loop of the circuit that
--- the
--- chip's bytes draw with these parts, for so many clocks from all values X, every clock in full, and the size line at
--- its end
+-- the chip's bytes draw with these parts, for so many clocks from all values X, every clock in full, and the size line
+-- at its end
 pub record IsPlayed (lent : Lent) (source : List ℕ) (words : List (List ℕ)) (clocks : ℕ) (chip text : List ℕ) :
     Type 0 where
   pub program : Program

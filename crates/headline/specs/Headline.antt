@@ -20,9 +20,8 @@ use Rattle.mp_program.specs.declared.program.Program.{Program}
 use Rattle.mp_program.specs.Pads.{ArePadsOf}
 use Rattle.mp_program.specs.Trace.{IsTrace, IsSettled}
 
--- The bytes are a CIF file: they read as commands, which break no rule of texts; the commands draw shapes with labels,
--- and
--- break no rule of drawing; these draw the network, and break no rule of masks with the pads.
+-- The bytes are a CIF file: they read as commands, which break no rule of texts; the commands draw shapes with
+-- labels, and break no rule of drawing; these draw the network, and break no rule of masks with the pads.
 pub record Draws (bytes : List ℕ) (pads : Pads) (network : Network) : Type 0 where
   pub commands : List Item
   pub shapes : List Rect
@@ -33,9 +32,8 @@ pub record Draws (bytes : List ℕ) (pads : Pads) (network : Network) : Type 0 w
   pub drawable : FileWalks commands shapes labels walks.Whole
   pub mask : IsSoundMask (covered shapes) labels network pads
 
--- Along these inputs the program has a trace. From every charge the circuit has one too, and whichever it has shows, in
--- each
--- settled clock, the bits of what the program shows on each output pad.
+-- Along these inputs the program has a trace. From every charge the circuit has one too, and whichever it has shows,
+-- in each settled clock, the bits of what the program shows on each output pad.
 pub record Follows (p : Program) (pads : Pads) (network : Network) (inputs : List (List ℕ)) : Type 0 where
   pub outputs : List (List ℕ)
   pub program : IsTrace p inputs outputs

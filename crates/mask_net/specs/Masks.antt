@@ -1,8 +1,6 @@
 -- The network that a CIF file draws, and the first rule that the file breaks.
 use Rattle.std.specs.Prelude.{◌⊎◌, ℕ, List, [], Option, Some, None}
 use Rattle.mp_base.specs.declared.refusal.Broken.{Broken}
-use Rattle.mp_base.specs.declared.refusal.Refusal.{Refusal}
-use Rattle.mp_base.specs.Refuses.{IsRefusal}
 use Rattle.mp_base.specs.declared.refusal.Refusal.TheVariants as refusals
 use Rattle.lam_geom.specs.declared.rect.Rect.{Rect}
 use Rattle.lam_geom.specs.declared.label.FlatLabel.{FlatLabel}
@@ -49,11 +47,12 @@ abbrev pub BreaksMask : List ℕ → Broken → Type 0
 BreaksMask bytes b = (shapes : List Rect) × (labels : List FlatLabel) × IsDrawing bytes shapes labels
     × IsFirstOfMask (covered shapes) labels b
 
+-- no rule of texts or of drawing is broken, or this is the first that is: of the text, or else of the drawing
+abbrev pub OfDrawing : List ℕ → Option Broken → Type 0
+OfDrawing bytes None = (shapes : List Rect) × (labels : List FlatLabel) × IsDrawing bytes shapes labels
+OfDrawing bytes (Some b) = RefusesText bytes (refusals.Broken b) ⊎ BreaksDrawing bytes b
+
 -- No rule is broken; or this is the first that is: of the text, or else of the drawing, or else of the mask.
 abbrev pub OfMask : List ℕ → Option Broken → Type 0
 OfMask bytes None = (network : Network) × IsNetOf bytes network
 OfMask bytes (Some b) = RefusesText bytes (refusals.Broken b) ⊎ BreaksDrawing bytes b ⊎ BreaksMask bytes b
-
--- want of memory, or the first broken rule
-abbrev pub RefusesBytes : List ℕ → Refusal → Type 0
-RefusesBytes bytes = IsRefusal (λ b. OfMask bytes (Some b))

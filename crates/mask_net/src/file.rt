@@ -1,8 +1,9 @@
 //! From the bytes of a file to its network.
 
-ghost use Rattle.std.specs.Prelude.{IfOk, IfErr, None};
+ghost use Rattle.std.specs.Prelude.{IfOk, None};
 ghost use Rattle.mp_base.specs.Refuses.{IsJudged};
-ghost use Rattle.mask_net.specs.Masks.{IsCif, IsDrawing, IsNetOf, OfMask, RefusesBytes};
+ghost use Rattle.cif_reader.specs.Refusing.{OfCif};
+ghost use Rattle.mask_net.specs.Masks.{IsCif, IsDrawing, IsNetOf, OfDrawing, OfMask};
 
 use crate::laws::one_verdict;
 use cif_flat::laws::read_is_well_formed;
@@ -18,7 +19,7 @@ use switch_net::Network;
 // The commands.
 fn commands_in(alloc: Global, bytes: &[u8]) -> Result<Cif, Refusal>
     ensures ok { IfOk result (λ cif. IsCif bytes.now cif) }
-    ensures err { IfErr result (RefusesBytes bytes.now) }
+    ensures judged { IsJudged (OfCif bytes.now) result }
 {
     scan_is_reading();
     read_cif(alloc, bytes)
@@ -27,7 +28,7 @@ fn commands_in(alloc: Global, bytes: &[u8]) -> Result<Cif, Refusal>
 // The commands, for which the bytes are let go.
 fn commands_of(alloc: Global, bytes: Vec<u8>) -> Result<Cif, Refusal>
     ensures ok { IfOk result (λ cif. IsCif bytes.items cif) }
-    ensures err { IfErr result (RefusesBytes bytes.items) }
+    ensures judged { IsJudged (OfCif bytes.items) result }
 {
     commands_in(alloc, &bytes)
 }
@@ -35,7 +36,7 @@ fn commands_of(alloc: Global, bytes: Vec<u8>) -> Result<Cif, Refusal>
 // The shapes and labels of bytes that stay, for which the commands are let go.
 fn drawing_in(alloc: Global, bytes: &[u8]) -> Result<Flat, Refusal>
     ensures ok { IfOk result (λ flat. IsDrawing bytes.now flat.shapes flat.labels) }
-    ensures err { IfErr result (RefusesBytes bytes.now) }
+    ensures judged { IsJudged (OfDrawing bytes.now) result }
 {
     read_is_well_formed();
     walk_is_expansion();
@@ -50,7 +51,7 @@ fn drawing_in(alloc: Global, bytes: &[u8]) -> Result<Flat, Refusal>
 /// The first broken rule of texts, C1 to C5, or else of drawing, F1 to F10; want of memory.
 pub fn drawing_of(alloc: Global, bytes: Vec<u8>) -> Result<Flat, Refusal>
     ensures ok { IfOk result (λ flat. IsDrawing bytes.items flat.shapes flat.labels) }
-    ensures err { IfErr result (RefusesBytes bytes.items) }
+    ensures judged { IsJudged (OfDrawing bytes.items) result }
 {
     read_is_well_formed();
     walk_is_expansion();
@@ -74,7 +75,7 @@ pub fn network_of(alloc: Global, bytes: Vec<u8>) -> Result<Network, Refusal>
 // The network of bytes that stay.
 fn network_in(alloc: Global, bytes: &[u8]) -> Result<Network, Refusal>
     ensures ok { IfOk result (IsNetOf bytes.now) }
-    ensures err { IfErr result (RefusesBytes bytes.now) }
+    ensures judged { IsJudged (OfMask bytes.now) result }
 {
     let flat = drawing_in(alloc, bytes)?;
     extract(alloc, flat.shapes.as_slice(), flat.labels.as_slice())

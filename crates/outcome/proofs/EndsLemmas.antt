@@ -24,7 +24,7 @@ halted_told work (Refused broken) (Some a) (Some b) r r' kept e =
     (subst (λ files. work.First files (Some (Breaks broken))) kept e.1, kept, refl)
 halted_told work ReadFault (Some a) (Some b) r r' kept e = (kept, refl)
 halted_told work WriteFault (Some a) (Some b) r r' kept e = absurd e
-halted_told work NoMemory (Some a) (Some b) r r' kept e = (refl, inl kept)
+halted_told work NoMemory (Some a) (Some b) r r' kept e = (kept, refl)
 
 -- a result that is this error
 err_is : (result : Result (Unit {0}) Halt) (halt : Halt) → IsErrAnd result (λ e. e ≡ halt) → result ≡ Err halt

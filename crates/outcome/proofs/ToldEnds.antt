@@ -51,6 +51,6 @@ module _ (work : Work) (broken : Broken) where
       (λ r. Leaves (DidWork work r) before after) (sym none.0) (record {
         printed = ends.printed;
         gained = subst (λ t. WhereTold (Gains ends.printed) before.text t) (sym none.1) ends.gained;
-        told = told_map _ _ before.files after.files (λ a b r. (r.2, inl r.1))
+        told = told_map _ _ before.files after.files (λ a b r. (r.1, r.2))
             (subst (λ files. WhereTold (Refuses ends.printed) before.files files) (sym same) ends.told);
       })

@@ -55,4 +55,4 @@ Ends work (Err (Refused broken)) old new printed = work.First old (Some (Breaks 
     × (printed ≡ [])
 Ends work (Err ReadFault) old new printed = (new ≡ old) × (printed ≡ [])
 Ends work (Err WriteFault) old new printed = IsCutShort work old new printed
-Ends work (Err NoMemory) old new printed = (printed ≡ []) × ((new ≡ old) ⊎ IsCutShort work old new printed)
+Ends work (Err NoMemory) old new printed = (new ≡ old) × (printed ≡ [])

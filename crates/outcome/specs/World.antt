@@ -59,7 +59,7 @@ DidWork work Usage old new printed = ⊥
 DidWork work ReadFault old new printed = (new ≡ old) × (printed ≡ [])
 DidWork work WriteFault old new printed = IsRefused work (λ broken. IsPartOf printed (line_of broken)) old new
     ⊎ IsCutShort work old new printed
-DidWork work NoMemory old new printed = (printed ≡ []) × ((new ≡ old) ⊎ IsCutShort work old new printed)
+DidWork work NoMemory old new printed = (new ≡ old) × (printed ≡ [])
 
 -- a part of a text was gained
 abbrev pub GainsPart : List ℕ → List ℕ → List ℕ → Type 0

@@ -100,6 +100,8 @@ module _ (r : Rtl) (p : DataPath) (stands : IsPathFor r p) (control : IsNet p.co
           → rows ≡ sum f.rows
           → IsMeasured r (record { chip = chip; columns = columns; rows = rows; groups = groups })
       measured is_small grouped marked columns rows columns_are rows_are = record {
+        fabric = subst IsFabric (sym chip_for.fabric) lawful;
+        alone = chip_for.alone ∙ ap shape (sym chip_for.fabric);
         columns = columns_are ∙ ap (λ (f : Plan). f.columns) (sym chip_for.fabric);
         groups = subst (λ f. AreGroups f groups) (sym chip_for.fabric) (groups_good grouped);
         count = groups_long;

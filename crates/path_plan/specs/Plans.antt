@@ -1,16 +1,21 @@
 -- The plan of a chip in bit slices.
 use Rattle.std.specs.Prelude.{◌≡◌, ◌≤◌, ◌+◌, suc, Contains, length, sum_by}
+use Rattle.fabric.specs.Plan.{IsFabric}
+use Rattle.fabric.specs.Shape.{shape}
 use Rattle.fabric.specs.declared.thing.Segment.{Segment}
 use Rattle.track_assign.specs.declared.packing.Tracks.{Tracks}
 use Rattle.rtl_form.specs.declared.rtl.Rtl.{Rtl}
 use Rattle.rtl_form.specs.Cost.{cost}
 use Rattle.slice_chip.specs.Ends.{IsMarkedAt}
 use Rattle.slice_chip.specs.Groups.{AreGroups}
+use Rattle.cif_emit.specs.Emittable.{chip_rects}
 use Rattle.path_plan.specs.declared.planning.Planned.{Planned}
 
--- The numbers that are told are those of the chip's fabric. It has a band for the control and one for each bit, in each
--- the fewest rows, and no segment is longer than it must be.
+-- The chip draws its fabric and nothing else, and the numbers that are told are the fabric's. It has a band for the
+-- control and one for each bit, in each the fewest rows, and no segment is longer than it must be.
 pub record IsMeasured (rtl : Rtl) (planned : Planned) : Type 0 where
+  pub fabric : IsFabric (planned.chip).fabric
+  pub alone : chip_rects planned.chip ≡ shape (planned.chip).fabric
   pub columns : planned.columns ≡ (planned.chip).fabric.columns
   pub groups : AreGroups (planned.chip).fabric planned.groups
   pub count : length planned.groups ≡ suc rtl.width

@@ -19,6 +19,8 @@ plan_of : (p : Program) (r : Rtl) (planned : Planned) → MakesChips p → IsSam
 plan_of p r planned make same plan bounded emittable measured = record {
   emittable = emittable;
   makes = λ commands emitted. make r (chip_rects planned.chip) (planned.chip).labels commands same plan bounded emitted;
+  fabric = measured.fabric;
+  alone = measured.alone;
   columns = measured.columns;
   narrow = let n = measured.narrow in let c = same.cost in omega (arith, n, c);
   groups = measured.groups;

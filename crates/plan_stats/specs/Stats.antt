@@ -6,6 +6,8 @@ use Rattle.mp_program.specs.declared.program.Program.{Program}
 use Rattle.mp_program.specs.Weight.{weight}
 use Rattle.track_assign.specs.declared.packing.Tracks.{Tracks}
 use Rattle.fabric.specs.declared.thing.Segment.{Segment}
+use Rattle.fabric.specs.Plan.{IsFabric}
+use Rattle.fabric.specs.Shape.{shape}
 use Rattle.slice_chip.specs.Ends.{IsMarkedAt}
 use Rattle.slice_chip.specs.Groups.{AreGroups}
 use Rattle.cif_emit.specs.Emittable.{IsEmittable, chip_rects}
@@ -15,12 +17,14 @@ use Rattle.path_plan.specs.declared.planning.Planned.{Planned}
 use Rattle.plan_stats.specs.Text.{stats_lines}
 
 -- The plan is of a chip of the program: it can be written as commands, and those that draw it have a text that is one.
--- Its numbers are those of the chip's fabric, which has at most so many columns, a group of tracks for the control and
--- for each bit, and no segment that is longer than its marks.
+-- The chip draws its fabric and nothing else, and the plan's numbers are the fabric's, which has at most so many columns,
+-- a group of tracks for the control and for each bit, and no segment that is longer than its marks.
 pub record IsPlanOf (p : Program) (planned : Planned) : Type 0 where
   pub emittable : IsEmittable (chip_rects planned.chip) (planned.chip).labels
   pub makes : (commands : List Command) → IsEmitted (chip_rects planned.chip) (planned.chip).labels commands
       → IsSmallChipOf p (file_text commands)
+  pub fabric : IsFabric (planned.chip).fabric
+  pub alone : chip_rects planned.chip ≡ shape (planned.chip).fabric
   pub columns : planned.columns ≡ (planned.chip).fabric.columns
   pub narrow : planned.columns ≤ weight p + 8
   pub groups : AreGroups (planned.chip).fabric planned.groups

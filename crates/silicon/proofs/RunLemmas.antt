@@ -1,5 +1,5 @@
 -- A run, from what its command did.
-use Rattle.std.proofs.Common.{◌≡◌, ℕ, List, [], refl, sym, subst, inl, Option, Some, None}
+use Rattle.std.proofs.Common.{◌≡◌, ℕ, List, [], refl, sym, subst, Option, Some, None}
 use Rattle.outside.specs.Outside.{Files, WhereTold, Gains}
 use Rattle.outside.proofs.Told.{told_map, keeps_same, gains_nothing}
 use Rattle.command_line.specs.Command.{Command}
@@ -55,7 +55,7 @@ unchanged : (lent : Lent) (command : Option Command) (files : Option Files)
     → WhereTold (λ old new. Did lent lent.faces command NoMemory old new []) files files
 unchanged lent command None = tt
 unchanged lent None (Some files) = refl
-unchanged lent (Some command) (Some files) = ((refl, inl refl), refl)
+unchanged lent (Some command) (Some files) = ((refl, refl), refl)
 
 pub leaves_nothing : (lent : Lent) (command : Option Command) (world : World)
     → Leaves (Did lent lent.faces command NoMemory) world world

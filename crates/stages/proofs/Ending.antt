@@ -34,12 +34,7 @@ module _ (work : Work) (Gives : List ℕ → List ℕ → Type 0) (files new : F
   ends_as (Err (Refused broken)) ends = absurd ends.0
   ends_as (Err ReadFault) ends = ends
   ends_as (Err WriteFault) cut = cut_short cut
-  ends_as (Err NoMemory) ends = (ends.0, kept_or_cut ends.1)
-    where
-      kept_or_cut : (new ≡ files) ⊎ IsCutShort (second work.target Gives) files new printed
-          → (new ≡ files) ⊎ IsCutShort work files new printed
-      kept_or_cut (inl kept) = inl kept
-      kept_or_cut (inr cut) = inr (cut_short cut)
+  ends_as (Err NoMemory) ends = ends
 
 -- what a second stage leaves of the files in the middle is said of those at entry
 module _ (P Q : Files → Files → List ℕ → Type 0) where

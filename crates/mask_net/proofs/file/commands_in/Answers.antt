@@ -1,5 +1,4 @@
 use Rattle.std.proofs.lemmas.Result.{IfOk-weaker}
-use Rattle.mask_net.proofs.Steps.{of_texts}
 use Rattle.mask_net.proofs.file.commands_in.Goals as goal
 
 pub returns-clause-ok : goal.returns-clause-ok
@@ -7,6 +6,3 @@ returns-clause-ok c =
     IfOk-weaker c.read_cif.result _ _
     (λ cif whole. record { read = c.scan_is_reading.ensures c.args.bytes.now cif whole; well_formed = whole })
     c.read_cif.ensures.whole
-
-pub returns-clause-err : goal.returns-clause-err
-returns-clause-err c = of_texts c.args.bytes.now c.read_cif.result c.read_cif.ensures.judged
