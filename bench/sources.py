@@ -10,7 +10,7 @@ def inverter():
 
 
 def widest_signals():
-    """16 signals, 100 forms, 200 expressions: the limits of a program of signals."""
+    """16 signals, 100 forms, 200 expressions: a weight of 540."""
     signals = "".join("(def i%d signal input %d)" % (k, 6 + k) for k in range(8))
     signals += "".join("(def o%d signal output %d)" % (k, 14 + k) for k in range(8))
     forms = "".join("(setq o%d (not i%d))" % (k % 8, (3 * k) % 8) for k in range(100))
@@ -55,7 +55,7 @@ def divisor():
 
 
 def heaviest():
-    """The weight of 1024, at the word length of 32: a sum of 84 operators."""
+    """Sums of 55 operators, nested, at the word length of 32: a weight of 672."""
     total = "a"
     for _ in range(84):
         total = "(+ %s b)" % total if total.count("(") % 60 else "(+ b %s)" % total
@@ -66,7 +66,7 @@ def heaviest():
 
 
 def busiest():
-    """16 registers of 32 bits, and 8 processes of 3 forms that each set two of them: a weight near the limit."""
+    """16 registers of 32 bits, and 8 processes of 3 forms that each set two of them: a weight of 877."""
     registers = "".join("(def r%d register)" % k for k in range(16))
     forms = ["(par (setq r%d r%d)(setq r%d (1+ r%d)))" % (k % 16, (k + 5) % 16, (k + 3) % 16, (k + 3) % 16) for k in range(24)]
     processes = "".join("(process p%d 0 %s)" % (k, "".join(forms[3 * k:3 * k + 3])) for k in range(8))

@@ -1,4 +1,4 @@
--- Each path to ground from a pull-up is one transistor.
+-- Pull-ups are tied, and each path to ground from one is one transistor.
 use Rattle.std.proofs.Common.{◌≡◌, ◌⊎◌, inl, inr, ℕ, Option, Some, List, [], ◌∷◌, length, refl, sym, ◌∙◌, ap, subst}
 use Rattle.std.specs.Prelude.{Contains, ◌≢◌}
 use Rattle.switch_net.specs.declared.network.ChannelKind.TheVariants.{Enhancement, Depletion}
@@ -6,9 +6,10 @@ use Rattle.switch_net.specs.declared.network.Channel.{Channel}
 use Rattle.nor_net.specs.declared.net.Phase.{Phase}
 use Rattle.nor_net.specs.Elements.{Spot, Element, Nor, Latched, Nets}
 use Rattle.drawing.specs.Draws.{Point, OfNet, Ground, Power, IsOwn, HasOwnNode, IsDrawn, pull_down, pull_up, pass}
-use Rattle.drawing.specs.Draws.{lone, Draws}
+use Rattle.drawing.specs.Draws.{lone, Draws, HasEnds, OfPhase}
 use Rattle.drawn_nets.specs.Law.{AreFed}
-use Rattle.ground_ways.specs.Ways.{IsWay, Avoids, AreOnce, OneToGround}
+use Rattle.ground_ways.specs.Ways.{IsTied, IsWay, Avoids, AreOnce, OneToGround, PullUpsAreTied}
+use Rattle.ground_ways.specs.Ways.{TransistorsAreClocked}
 
 -- the end of a path that goes anywhere was visited
 end_visited : (channels : List Channel) (a b m : ℕ) (ms : List ℕ) → IsWay channels a (m ∷ ms) b → (z : ℕ)
@@ -18,6 +19,12 @@ end_visited channels a b m (k ∷ ms) w z h e = end_visited channels m b k ms w.
 
 not_net_ground : (n : Spot) → OfNet n ≡ Ground → ⊥
 not_net_ground n e = cc e
+
+not_net_power : (n : Spot) → OfNet n ≡ Power → ⊥
+not_net_power n e = cc e
+
+not_power_ground : Power ≡ Ground → ⊥
+not_power_ground e = cc e
 
 same_net : (n m : Spot) → OfNet n ≡ OfNet m → n ≡ m
 same_net n m e = cc e
@@ -42,6 +49,9 @@ module _ (channels : List Channel) (nets : Nets) (node : Point
 
   off_ground : (n : Spot) → IsOwn (nets n) → node (OfNet n) ≡ node Ground → ⊥
   off_ground n own e = not_net_ground n (draws.apart (OfNet n) Ground own tt e)
+
+  off_power : (n : Spot) → IsOwn (nets n) → node (OfNet n) ≡ node Power → ⊥
+  off_power n own e = not_net_power n (draws.apart (OfNet n) Power own tt e)
 
   one_net : (n m : Spot) → IsOwn (nets n) → IsOwn (nets m) → node (OfNet n) ≡ node (OfNet m) → n ≡ m
   one_net n m a b e = same_net n m (draws.apart (OfNet n) (OfNet m) a b e)
@@ -163,6 +173,50 @@ module _ (channels : List Channel) (nets : Nets) (node : Point
         absurd (no_ends n e c (draws.only c among) kind (subst (Contains c.ends) q from)))
     | inr q ↦ absurd (far q)
   ]
+
+  tied : (c : Channel) → IsDrawn nets node c → c.kind ≡ Depletion → IsTied (node Power) c
+  tied c (pull_down n ins i e ci w) k = absurd (not_enhancement c w.enhancement k)
+  tied c (pass l p s e w) k = absurd (not_enhancement c w.enhancement k)
+  tied c (pull_up n inputs e w) k = record {
+    gate = λ q. off_power n (nor_own n inputs e) (sym w.by ∙ q);
+    joins = subst (λ g. HasEnds c g (node Power)) (sym w.by) w.joins;
+  }
+  tied c (lone n e w) k = record {
+    gate = λ q. e Power tt (sym q ∙ w.by);
+    joins = subst (λ g. HasEnds c g (node Power)) (sym w.by) w.joins;
+  }
+
+  fed_by_pull_ups : (c : Channel) → IsDrawn nets node c → Contains c.ends (node Power) → c.kind ≡ Depletion
+  fed_by_pull_ups c (pull_up n inputs e w) at = w.depletion
+  fed_by_pull_ups c (lone n e w) at = w.depletion
+  fed_by_pull_ups c (pull_down n ins i e ci w) at = elim ((w.joins (node Power)).0 at) [
+    | inl q ↦ absurd (off_power n (nor_own n ins e) (sym q))
+    | inr q ↦ absurd (not_power_ground (draws.apart Power Ground tt tt q))
+  ]
+  fed_by_pull_ups c (pass l p s e w) at = elim ((w.joins (node Power)).0 at) [
+    | inl q ↦ elim (source_is l s p e) [
+      | inl o ↦ absurd (off_power s o (sym q))
+      | inr g ↦ absurd (not_power_ground (draws.apart Power Ground tt tt (q ∙ g)))
+    ]
+    | inr q ↦ absurd (off_power l (latch_own l s p e) (sym q))
+  ]
+
+-- what a transistor of a drawing is
+clocked : (nets : Nets) (node : Point → ℕ) (c : Channel) → IsDrawn nets node c → c.kind ≡ Enhancement
+    → Contains c.ends (node Ground) ⊎ ((p : Phase) × (c.gate ≡ node (OfPhase p)))
+clocked nets node c (pull_down n ins i e ci w) k = inl ((w.joins (node Ground)).1 (inr refl))
+clocked nets node c (pass l p s e w) k = inr (p, w.by)
+clocked nets node c (pull_up n inputs e w) k = absurd (not_enhancement c k w.depletion)
+clocked nets node c (lone n e w) k = absurd (not_enhancement c k w.depletion)
+
+pub transistors_are_clocked : TransistorsAreClocked
+transistors_are_clocked channels nets node draws c among = clocked nets node c (draws.only c among)
+
+pub pull_ups_are_tied : PullUpsAreTied
+pull_ups_are_tied channels nets node draws fed c among = (
+  tied channels nets node draws fed c (draws.only c among),
+  fed_by_pull_ups channels nets node draws fed c (draws.only c among),
+)
 
 pub one_to_ground : OneToGround
 one_to_ground channels nets node draws fed d a ms i k ia far w o = way channels nets node draws fed d a ms

@@ -1,4 +1,4 @@
-//! Paths of transistors from pull-ups to ground: laws.
+//! Pull-ups, and paths of transistors from them to ground: laws.
 #![tactic(auto)]
 
 pub mod laws;

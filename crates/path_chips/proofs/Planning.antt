@@ -1,21 +1,24 @@
 -- What is drawn of a data path is planned.
-use Rattle.std.proofs.Common.{◌≡◌, ◌≢◌, ℕ, List, length, subst}
-use Rattle.std.specs.Prelude.{All}
+use Rattle.std.proofs.Common.{◌≡◌, ◌≢◌, ℕ, List, inl, inr, length, subst, sym}
+use Rattle.std.specs.Prelude.{All, codes}
 use Rattle.mp_base.specs.declared.pad.Pads.{Pads}
 use Rattle.switch_net.specs.Breaks.{HasPads}
+use Rattle.switch_net.specs.Clock.{IsLabelled}
 use Rattle.switch_net.specs.declared.network.Channel.{Channel}
 use Rattle.switch_net.specs.declared.network.ChannelKind.TheVariants.{Partial}
 use Rattle.switch_net.specs.declared.network.Network.{Network}
+use Rattle.nor_net.specs.declared.net.Phase.{Phase}
+use Rattle.nor_net.specs.declared.net.Phase.TheVariants.{A, B, C}
 use Rattle.nor_net.specs.Elements.{Spot, Given}
 use Rattle.nor_net.specs.Shape.{IsNet}
-use Rattle.drawing.specs.Draws.{Ground, IsDrawn, Point, Power, lone, pass, pull_down, pull_up}
+use Rattle.drawing.specs.Draws.{Ground, IsDrawn, OfPhase, Point, Power, lone, pass, pull_down, pull_up}
 use Rattle.drawn_nets.specs.Circuits.{DrawsCircuit}
 use Rattle.drawn_nets.specs.Law.{IsKind}
 use Rattle.path_form.specs.declared.path.DataPath.{DataPath}
 use Rattle.path_form.specs.Showing.{ShowsTransfers, path_nets}
 use Rattle.rtl_form.specs.declared.rtl.Rtl.{Rtl}
-use Rattle.ground_ways.specs.Ratioed.{IsRatioed}
-use Rattle.ground_ways.specs.Ways.{OneToGround}
+use Rattle.ground_ways.specs.Ratioed.{IsPhase, IsRatioed}
+use Rattle.ground_ways.specs.Ways.{OneToGround, PullUpsAreTied, TransistorsAreClocked}
 use Rattle.chip_laws.specs.Laws.{AreRowsApart, AreRowsOf, CircuitsHavePads, IsExtracted, NetworksDrawCircuits}
 use Rattle.chip_laws.specs.Planned.{FollowsTransfers}
 use Rattle.chip_laws.specs.Rows.{PathsAreFed, PathsShowRows, RowsFollow, rows_at}
@@ -78,13 +81,24 @@ module _ (drawn : NetworksDrawCircuits) (fed : PathsAreFed) (rtl : Rtl) (p : Dat
     whole c (pass k ph source h is) u = let d = is.enhancement in cc (d, u)
     whole c (lone k none is) u = let d = is.depletion in cc (d, u)
 
-    ratioed : OneToGround → IsRatioed n
-    ratioed one = record {
+    at_phase : (phase : Phase) (gate : ℕ) → gate ≡ node (OfPhase phase) → IsPhase n gate
+    at_phase A gate is = inl (subst (IsLabelled n (codes "phia")) (sym is) circuit.phia)
+    at_phase B gate is = inr (inl (subst (IsLabelled n (codes "phib")) (sym is) circuit.phib))
+    at_phase C gate is = inr (inr (subst (IsLabelled n (codes "phic")) (sym is) circuit.phic))
+
+    ratioed : OneToGround → PullUpsAreTied → TransistorsAreClocked → IsRatioed n
+    ratioed one tied clocked = record {
       not_partial = λ c k. whole c (circuit.draws.only c k);
       ground = node Ground;
       power = node Power;
       is_ground = circuit.ground;
       is_power = circuit.power;
+      tied = λ d k. (tied n.channels (path_nets p) node circuit.draws circuit.is_fed d k).0;
+      fed = λ c k. (tied n.channels (path_nets p) node circuit.draws circuit.is_fed c k).1;
+      clocked = λ c k kind. elim (clocked n.channels (path_nets p) node circuit.draws c k kind) [
+        | inl ground ↦ inl ground
+        | inr gate ↦ inr (at_phase gate.0 c.gate gate.1)
+      ];
       one_channel = one n.channels (path_nets p) node circuit.draws circuit.is_fed;
     }
 
@@ -103,6 +117,7 @@ paths_are_planned drawn fed follow show have rtl p m place rects labels same sho
           };
     }
 
-pub paths_are_ratioed : NetworksDrawCircuits → PathsAreFed → OneToGround → PathsAreRatioed
-paths_are_ratioed drawn fed one rtl p n m place same control slices e =
-    ratioed drawn fed rtl p n m place same control slices e one
+pub paths_are_ratioed : NetworksDrawCircuits → PathsAreFed → OneToGround → PullUpsAreTied
+    → TransistorsAreClocked → PathsAreRatioed
+paths_are_ratioed drawn fed one tied clocked rtl p n m place same control slices e =
+    ratioed drawn fed rtl p n m place same control slices e one tied clocked

@@ -1,7 +1,7 @@
 -- The chip of a path that stands for transfers is a small plan of them, and bounded.
-use Rattle.std.proofs.Common.{◌≡◌, ◌+◌, ◌*◌, ◌≤◌, ℕ, suc, List, length, sym, ◌∙◌, ap, subst, arith}
-use Rattle.std.specs.Prelude.{Contains, sum, sum_by}
-use Rattle.std.proofs.lemmas.List.{length-map, length-replicate}
+use Rattle.std.proofs.Common.{◌≡◌, ◌+◌, ◌*◌, ◌≤◌, ℕ, suc, List, ◌∷◌, length, sym, ◌∙◌, ap, subst, arith}
+use Rattle.std.specs.Prelude.{Contains, replicate, sum, sum_by}
+use Rattle.std.proofs.lemmas.List.{length-map}
 use Rattle.lam_geom.specs.Extent.{IsAtMost}
 use Rattle.lam_geom.specs.Squares.{covered}
 use Rattle.switch_net.specs.Pads.{chip_labels}
@@ -48,9 +48,8 @@ module _ (r : Rtl) (p : DataPath) (stands : IsPathFor r p) (control : IsNet p.co
     groups_good : SlicedHasGroups → AreGroups f groups
     groups_good law = subst (AreGroups f) (sym laid.groups_are) (law p f laid.sliced)
 
-    groups_long : length groups ≡ suc r.width
-    groups_long =
-        ap length laid.groups_are ∙ ap suc (length-replicate p.width (laid.sliced).slices) ∙ ap suc width_is
+    groups_alike : groups ≡ (laid.sliced).control ∷ replicate r.width (laid.sliced).slices
+    groups_alike = laid.groups_are ∙ ap (λ w. (laid.sliced).control ∷ replicate w (laid.sliced).slices) width_is
 
     rows_sum : sum f.rows ≡ sum_by (λ (t : Tracks). t.rows) groups + suc r.width
     rows_sum =
@@ -104,7 +103,9 @@ module _ (r : Rtl) (p : DataPath) (stands : IsPathFor r p) (control : IsNet p.co
         alone = chip_for.alone ∙ ap shape (sym chip_for.fabric);
         columns = columns_are ∙ ap (λ (f : Plan). f.columns) (sym chip_for.fabric);
         groups = subst (λ f. AreGroups f groups) (sym chip_for.fabric) (groups_good grouped);
-        count = groups_long;
+        control = (laid.sliced).control;
+        slice = (laid.sliced).slices;
+        alike = groups_alike;
         rows = rows_are ∙ rows_sum;
         narrow = let c = columns_few is_small in omega (arith, c, columns_are);
         ends = subst

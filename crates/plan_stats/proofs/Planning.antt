@@ -1,6 +1,6 @@
 -- A plan of transfers that show what a program shows is one of a chip of the program.
-use Rattle.std.proofs.Common.{◌+◌, ◌∙◌, ap, arith, Result, Ok, Err, IfOk, suc}
-use Rattle.std.specs.Prelude.{sum_by}
+use Rattle.std.proofs.Common.{◌+◌, ◌∙◌, ◌∷◌, ap, arith, Result, Ok, Err, IfOk, suc}
+use Rattle.std.specs.Prelude.{replicate, sum_by}
 use Rattle.mp_base.specs.declared.refusal.NoMemory.{NoMemory}
 use Rattle.mp_program.specs.declared.program.Program.{Program}
 use Rattle.rtl_form.specs.declared.rtl.Rtl.{Rtl}
@@ -24,7 +24,9 @@ plan_of p r planned make same plan bounded emittable measured = record {
   columns = measured.columns;
   narrow = let n = measured.narrow in let c = same.cost in omega (arith, n, c);
   groups = measured.groups;
-  count = measured.count ∙ ap suc same.width;
+  control = measured.control;
+  slice = measured.slice;
+  alike = measured.alike ∙ ap (λ w. measured.control ∷ replicate w measured.slice) same.width;
   rows = measured.rows ∙ ap (λ w. sum_by (λ (t : Tracks). t.rows) planned.groups + suc w) same.width;
   ends = measured.ends;
 }

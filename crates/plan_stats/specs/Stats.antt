@@ -1,5 +1,5 @@
 -- What the size of a chip is told of.
-use Rattle.std.specs.Prelude.{◌≡◌, ◌≤◌, ◌+◌, ℕ, List, Contains, suc, length, sum_by}
+use Rattle.std.specs.Prelude.{◌≡◌, ◌≤◌, ◌+◌, ◌∷◌, ℕ, List, Contains, replicate, suc, sum_by}
 use Rattle.cif_form.specs.declared.command.Command.{Command}
 use Rattle.cif_writer.specs.Texts.{file_text}
 use Rattle.mp_program.specs.declared.program.Program.{Program}
@@ -18,7 +18,7 @@ use Rattle.plan_stats.specs.Text.{stats_lines}
 
 -- The plan is of a chip of the program: it can be written as commands, and those that draw it have a text that is one.
 -- The chip draws its fabric and nothing else, and the plan's numbers are the fabric's, which has at most so many columns,
--- a group of tracks for the control and for each bit, and no segment that is longer than its marks.
+-- a group of tracks for the control and the same one for each bit, and no segment that is longer than its marks.
 pub record IsPlanOf (p : Program) (planned : Planned) : Type 0 where
   pub emittable : IsEmittable (chip_rects planned.chip) (planned.chip).labels
   pub makes : (commands : List Command) → IsEmitted (chip_rects planned.chip) (planned.chip).labels commands
@@ -28,7 +28,9 @@ pub record IsPlanOf (p : Program) (planned : Planned) : Type 0 where
   pub columns : planned.columns ≡ (planned.chip).fabric.columns
   pub narrow : planned.columns ≤ weight p + 8
   pub groups : AreGroups (planned.chip).fabric planned.groups
-  pub count : length planned.groups ≡ suc p.width
+  pub control : Tracks
+  pub slice : Tracks
+  pub alike : planned.groups ≡ control ∷ replicate p.width slice
   pub rows : planned.rows ≡ sum_by (λ (t : Tracks). t.rows) planned.groups + suc p.width
   pub ends : (s : Segment) → Contains (planned.chip).fabric.segments s
       → IsMarkedAt (planned.chip).fabric s s.first × IsMarkedAt (planned.chip).fabric s s.last
