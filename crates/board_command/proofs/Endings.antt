@@ -1,5 +1,5 @@
 -- How a board ends that stored nothing.
-use Rattle.std.proofs.Common.{◌≡◌, ℕ, List, [], refl, sym, subst, Option, Some, None, Result, Ok, Err}
+use Rattle.std.proofs.Common.{◌≡◌, ℕ, List, [], refl, sym, subst, Option, Some, None, Result, Ok, Err, IfSome}
 use Rattle.std.specs.Prelude.{IsErrAnd}
 use Rattle.outside.specs.Outside.{Files, WhereTold, Keeps, Gains}
 use Rattle.outside.proofs.Told.{gains_nothing}
@@ -8,9 +8,10 @@ use Rattle.outcome.specs.World.{World, Leaves}
 use Rattle.outcome.specs.Halt.{EndsBy}
 use Rattle.outcome.specs.declared.halt.Halt.{Halt}
 use Rattle.outcome.specs.declared.halt.Halt.TheVariants.{Refused, ReadFault, WriteFault, NoMemory}
+use Rattle.stages.proofs.Ending.{leaves_on}
 use Rattle.board_command.specs.Parts.{Lent}
 use Rattle.board_command.specs.Work.{work, Rests}
-use Rattle.board_command.proofs.Known.{Boards}
+use Rattle.board_command.specs.Shown.{Boards}
 
 -- no part moves but where a write failed
 pub rests : {P : Type 0} (faces : List P) (result : Result (Unit {0}) Halt) → Rests faces faces result
@@ -24,6 +25,17 @@ pub rests_cut : {P : Type 0} (faces left : List P) (result : Result (Unit {0}) H
     → IsErrAnd result (λ e. e ≡ WriteFault) → Rests faces left result
 rests_cut faces left (Ok v) is = tt
 rests_cut faces left (Err e) is = subst (λ h. Rests {T = Unit {0}} faces left (Err h)) (sym is) tt
+
+-- what is left of files that were only read is left of those at entry
+pub leaves_since : (P : Files → Files → List ℕ → Type 0) (before middle after : World)
+    → Keeps before.files middle.files → middle.text ≡ before.text → Leaves P middle after → Leaves P before after
+leaves_since P before middle after kept same left =
+    leaves_on P P before middle after kept same (itself middle.files) left
+  where
+    itself : (held : Option Files)
+        → IfSome held (λ files. (new : Files) (printed : List ℕ) → P files new printed → P files new printed)
+    itself None = tt
+    itself (Some files) = λ new printed told. told
 
 module _ (lent : Lent) (source cif : List ℕ) (clocks : ℕ) (words : List (List ℕ)) where
   halted_told : (halt : Halt) (x y : Option Files) (r r' : ℕ) → Keeps x y

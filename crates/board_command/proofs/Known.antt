@@ -10,7 +10,6 @@ use Rattle.headline.specs.Headline.{IsChipOf}
 use Rattle.compile_laws.specs.Laws.{IsSmallChipOf}
 use Rattle.compile_command.proofs.Compiling.{compiled}
 use Rattle.source_files.proofs.Sources.{OneSource, one_program}
-use Rattle.outcome.specs.Halt.{Ends}
 use Rattle.outcome.specs.declared.halt.Halt.{Halt}
 use Rattle.outcome.specs.declared.halt.Halt.TheVariants.{Refused, ReadFault, WriteFault, NoMemory}
 use Rattle.stages.proofs.Ending.{ends_as}
@@ -22,6 +21,7 @@ use Rattle.board_run.specs.Boarded.{whole_lines}
 use Rattle.board_run.specs.Laws.{BoardsFollow}
 use Rattle.board_command.specs.Parts.{Lent, AreMoved, AreLeft}
 use Rattle.board_command.specs.Played.{PlaysFollow}
+use Rattle.board_command.specs.Shown.{Boards}
 use Rattle.board_command.specs.Work.{work, Plays, Moves}
 use Rattle.board_command.proofs.Given.{Given}
 
@@ -45,11 +45,6 @@ pub record Known (lent : Lent) (source : List ℕ) (words : List (List ℕ)) (ch
   pub drawn : IsNetOf chip network
 
 module _ (lent : Lent) (source cif : List ℕ) (clocks : ℕ) (words : List (List ℕ)) where
-  -- what a board did, and how it left the parts
-  abbrev pub Boards : List Face → Result (Unit {0}) Halt → Files → Files → List ℕ → Type 0
-  Boards left result old new printed = Ends (work lent source cif clocks words) result old new printed
-      × Moves lent (bytes_of old source) words clocks left result printed
-
   module _ (chip : List ℕ) (follow : BoardsFollow) where
     module _ (files : Files) (known : Known lent source words chip (Some files)) where
       shows_play : (bytes text : List ℕ) → Plays chip known.network known.wired clocks lent.faces bytes text
@@ -107,7 +102,7 @@ module _ (lent : Lent) (source cif : List ℕ) (clocks : ℕ) (words : List (Lis
         (result : Result (Unit {0}) Halt)
         → IfSome held (λ files. (new : Files) (printed : List ℕ)
         → Given cif chip known.network known.wired clocks lent.faces left result files new printed
-        → Boards left result files new printed)
+        → Boards lent source cif clocks words left result files new printed)
     plays_on None known sound left result = tt
     plays_on (Some files) known sound left result = λ new printed given. (
       ends_as (work lent source cif clocks words) (Plays chip known.network known.wired clocks lent.faces) files new

@@ -1,4 +1,4 @@
-pub mod Asking
+pub mod Judging
 pub mod Given
 pub mod Known
 pub mod Endings

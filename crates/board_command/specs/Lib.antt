@@ -2,3 +2,4 @@ pub mod Parts
 pub mod Linked
 pub mod Played
 pub mod Work
+pub mod Shown

@@ -1,22 +1,67 @@
 //! The masks of a source from file to file, and the circuit that they draw on a board.
 
-ghost use Rattle.std.specs.Prelude.{◌≡◌, ⊤, map, string_bytes};
+ghost use Rattle.std.specs.Prelude.{◌≡◌, ⊤, ℕ, List, None, IfSome, map, string_bytes};
 ghost use Rattle.outside.specs.Outside.{bytes_of};
+ghost use Rattle.mp_source.specs.Source.{IsSource};
 ghost use Rattle.outcome.specs.Order.{IsStrayBy};
 ghost use Rattle.outcome.specs.World.{world_of, HasCauses, Leaves};
 ghost use Rattle.outcome.specs.Halt.{Ends, IsQuiet, status_of};
+ghost use Rattle.source_files.specs.Faults.{SourceFault};
 ghost use Rattle.board.specs.Face.{Face};
 ghost use Rattle.board_command.specs.Parts.{Lent};
+ghost use Rattle.board_command.specs.Shown.{Boards};
 ghost use Rattle.board_command.specs.Work.{work, Moves, Rests};
 
-use crate::asked::{Asked, ask};
+use crate::links::judge_links;
 use crate::playing::play;
 use crate::ready::{Ready, chip_on_board};
 use board::{NamedPart, Part};
 use board_run::laws::boards_follow;
+use mp_checker::Checked;
 use outcome::Halt;
 use outside::{Depot, Sink};
+use source_files::read_source;
 use std::alloc::Global;
+
+// Judges the links for a program, stores the bytes of its chip, and runs their circuit with the linked parts.
+fn show<D: Depot, O: Sink>(
+    alloc: Global,
+    depot: &mut D,
+    out: &mut O,
+    parts: &mut Vec<NamedPart>,
+    checked: &Checked,
+    cif: &str,
+    clocks: u32,
+    words: &[String],
+) -> Result<(), Halt>
+    ensures causes { let world = world_of D.held D.read_faults D.write_faults O.held O.faults in
+        HasCauses (status_of result) ⊥ (world depot.old out.old) (world depot.new out.new) }
+
+    // For each source that the program is of, if its file has no fault.
+    ensures content { let world = world_of D.held D.read_faults D.write_faults O.held O.faults in
+        let faces = map (λ p. let f : Face = record {
+          state = (⟦<dyn Part as Part>⟧ p.part.vtable).state p.part.value;
+          drives = (⟦<dyn Part as Part>⟧ p.part.vtable).driven_in;
+          sees = (⟦<dyn Part as Part>⟧ p.part.vtable).after_seeing;
+        } in f) in
+        let lent : Lent = record {
+          names = map (λ p. string_bytes p.name) parts.old.items;
+          faces = faces parts.old.items;
+        } in
+        (source : List ℕ) → IfSome (D.held depot.old) (λ files. SourceFault source files None)
+        → IfSome (D.held depot.old) (λ files. IsSource (bytes_of files source) checked.now.program)
+        → Leaves (Boards lent source cif.now clocks (map string_bytes words.now) (faces parts.new.items) result)
+        (world depot.old out.old) (world depot.new out.new) }
+    ensures silent { IsQuiet result (O.held out.old) (O.held out.new) }
+    ensures names { map (λ p. string_bytes p.name) parts.new.items ≡ map (λ p. string_bytes p.name) parts.old.items }
+    ensures rests { Rests parts.old.items parts.new.items result }
+{
+    let links = judge_links(alloc, words, parts, checked)?;
+    let Ready { chip, circuit } = chip_on_board(alloc, checked, links)?;
+    checked.unbroken();
+    boards_follow();
+    play(depot, out, parts, circuit, &chip, cif, clocks)
+}
 
 /// Writes the CIF file of a chip for the source, and prints the transcript of the circuit that its bytes draw, for some
 /// clocks from unknown values, with the linked parts, and the size line at its end.
@@ -71,9 +116,8 @@ pub fn board<D: Depot, O: Sink>(
     // Whatever the files are, the parts are as they were but after all was done or a write failed.
     ensures rests { Rests parts.old.items parts.new.items result }
 {
-    let Asked { checked, links } = ask(alloc, depot, source, words, parts)?;
-    let Ready { chip, circuit } = chip_on_board(alloc, &checked, links)?;
-    checked.unbroken();
-    boards_follow();
-    play(depot, out, parts, circuit, &chip, cif, clocks)
+    let checked = read_source(alloc, depot, source)?;
+    let result = show(alloc, depot, out, parts, &checked, cif, clocks, words);
+    drop(checked);
+    result
 }

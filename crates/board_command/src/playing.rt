@@ -13,7 +13,7 @@ use board::{NamedPart, Part};
 use board_run::BoardRun;
 use board_run::laws::boards_run;
 use outcome::Halt;
-use outside::{Depot, Sink, store};
+use outside::{Depot, Failed, Sink, store};
 
 /// Stores the bytes of a chip, and runs their circuit with the parts of its links.
 pub(crate) fn play<'a, D: Depot, O: Sink>(
@@ -44,7 +44,11 @@ pub(crate) fn play<'a, D: Depot, O: Sink>(
     ensures rests { Rests parts.old.items parts.new.items result }
 {
     boards_run();
-    store(depot, cif, chip)?;
-    circuit.run(parts, clocks, out)?;
-    Ok(())
+    match store(depot, cif, chip) {
+        Ok(()) => Ok(circuit.run(parts, clocks, out)?),
+        Err(Failed) => {
+            drop(circuit);
+            Err(Halt::WriteFault)
+        }
+    }
 }

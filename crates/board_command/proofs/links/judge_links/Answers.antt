@@ -2,8 +2,8 @@ use Rattle.std.proofs.Common.{length, map, arith}
 use Rattle.std.specs.Prelude.{string_bytes}
 use Rattle.mp_program.specs.Pads.{ArePadsOf}
 use Rattle.source_files.proofs.ProgramPads.{few_inputs, few_outputs, keeps_40}
-use Rattle.board_command.proofs.Asking.{judged_links}
-use Rattle.board_command.proofs.asked.judge_links.Goals as goal
+use Rattle.board_command.proofs.Judging.{judged_links}
+use Rattle.board_command.proofs.links.judge_links.Goals as goal
 
 pub read_links-requires-clause-inputs : goal.read_links-requires-clause-inputs
 read_links-requires-clause-inputs g c =

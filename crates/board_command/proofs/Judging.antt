@@ -1,6 +1,5 @@
--- Why reading a source and links for it ended.
-use Rattle.std.proofs.Common.{◌≡◌, ℕ, ◌<◌, ◌^◌, List, length, refl, sym, subst, Option, Some, None, Result, Ok, Err}
-use Rattle.std.proofs.Common.{IfOk, IfSome}
+-- Links for a source, judged: why that ended, and what is known then.
+use Rattle.std.proofs.Common.{ℕ, ◌<◌, ◌^◌, List, length, refl, Option, Some, None, Result, Ok, Err, IfOk, IfSome}
 use Rattle.std.specs.Prelude.{All}
 use Rattle.outside.specs.Outside.{Files, bytes_of}
 use Rattle.mp_base.specs.declared.pad.Pads.{Pads}
@@ -16,10 +15,6 @@ use Rattle.board.specs.declared.link.Link.{Link}
 use Rattle.board.specs.Boarding.{AreWires}
 use Rattle.board.specs.Links.{AreLinks, OfWords}
 use Rattle.board_command.specs.Linked.{OfLinks, IsLinked}
-
--- nothing is said of what wasn't made
-pub if_failed : {T E : Type 0} (P : T → Type 0) (result : Result T E) (e : E) → result ≡ Err e → IfOk result P
-if_failed {T} {E} P result e is = let Q : Result T E → Type 0 = λ r. IfOk r P in subst Q (sym is) tt
 
 pub judged_links : (names words : List (List ℕ)) (parts : ℕ) (program : Program) (pads : Pads)
     (result : Result (List Link) Refusal) → ArePadsOf program pads → length pads.inputs < 2 ^ 32
