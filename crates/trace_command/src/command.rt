@@ -1,17 +1,39 @@
 //! The trace of a source along a stimulus, from files.
 
-ghost use Rattle.std.specs.Prelude.{◌≡◌};
+ghost use Rattle.std.specs.Prelude.{◌≡◌, ◌≤◌, None, length};
+ghost use Rattle.mp_program.specs.Pads.{ArePadsOf};
+ghost use Rattle.stimulus.specs.declared.limits.TheConstants.{CLOCK_LIMIT, PAD_LIMIT};
 ghost use Rattle.outside.specs.Outside.{Keeps};
 ghost use Rattle.outcome.specs.Order.{IsStrayBy};
-ghost use Rattle.outcome.specs.World.{world_of, HasCauses, Leaves};
+ghost use Rattle.outcome.specs.World.{world_of, HasCauses, Leaves, World};
 ghost use Rattle.outcome.specs.Halt.{Ends, IsQuiet, status_of};
+ghost use Rattle.stages.specs.Stages.{second};
+ghost use Rattle.trace_command.specs.Traced.{Traces, beside};
 ghost use Rattle.trace_command.specs.Work.{work};
 
 use outcome::Halt;
 use outside::{Depot, Sink};
-use source_files::prepare;
+use source_files::{Prepared, prepare};
 use std::alloc::Global;
 use trace_run::Tracer;
+
+// Prints the transcript of a program along its stimulus, whatever the rest of the world is.
+fn show<O: Sink>(alloc: Global, out: &mut O, made: &Prepared) -> Result<(), Halt>
+    requires padded { ArePadsOf made.now.checked.program made.now.stimulus.pads }
+    requires few_inputs { length made.now.stimulus.pads.inputs ≤ PAD_LIMIT }
+    requires few_clocks { length made.now.stimulus.clocks ≤ CLOCK_LIMIT }
+    ensures causes { (rest : World) → let world = beside rest O.held O.faults in
+        HasCauses (status_of result) ⊥ (world out.old) (world out.new) }
+    ensures content { (rest : World) → let world = beside rest O.held O.faults in
+        Leaves (Ends (second None (Traces made.now.checked.program made.now.stimulus)) result)
+        (world out.old) (world out.new) }
+    ensures silent { IsQuiet result (O.held out.old) (O.held out.new) }
+{
+    let mut tracer = Tracer::open(alloc, &made.checked, &made.stimulus)?;
+    let printed = tracer.run(out);
+    drop(tracer);
+    Ok(printed?)
+}
 
 /// Prints the transcript of the source's trace.
 ///
@@ -36,7 +58,7 @@ pub fn trace<D: Depot, O: Sink>(
     ensures writes { D.write_faults depot.new ≡ D.write_faults depot.old }
 {
     let made = prepare(alloc, depot, source, stimulus)?;
-    let mut tracer = Tracer::open(alloc, &made.checked, &made.stimulus)?;
-    tracer.run(out)?;
-    Ok(())
+    let shown = show(alloc, out, &made);
+    drop(made);
+    shown
 }
